@@ -1,0 +1,19 @@
+//! The ground that every crate of ruleflow stands on: spans and places, texts and lists that contracts see as what they hold, the kinds of refusals,
+//! and the traits of the outside with their stand-ins in memory.
+#![tactic(auto)]
+
+mod kind;
+mod memory;
+mod outside;
+mod place;
+mod refusal;
+mod seq;
+mod text;
+
+pub use kind::Kind;
+pub use memory::Memory;
+pub use outside::{Failed, Files, Gate, OpenGate, Sink};
+pub use place::{Place, Span};
+pub use refusal::Refusal;
+pub use seq::Seq;
+pub use text::Text;
