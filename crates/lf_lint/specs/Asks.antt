@@ -1,0 +1,10 @@
+-- What a list of words asks for.
+use Rattle.std.specs.Prelude.{◌≡◌, ℕ, Bool, true, false, List, [], ◌∷◌, ◌++◌, codes, if◌then◌else◌}
+use Rattle.std.specs.List.{starts_with}
+use Rattle.std.specs.Bool.{nat_eq}
+use Rattle.lf_lint.specs.declared.asked.Asked.{Asked}
+
+-- the word `lint`, then perhaps `--labels`, then one file, whose name doesn't begin with `-`
+pub record Asks (words : List (List ℕ)) (asked : Asked) : Type 0 where
+  pub form : words ≡ codes "lint" ∷ (if asked.labels then codes "--labels" ∷ [] else []) ++ asked.file ∷ []
+  pub named : starts_with nat_eq asked.file (codes "-") ≡ false

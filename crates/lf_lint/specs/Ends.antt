@@ -1,0 +1,52 @@
+-- What a call of `lint` did to the outside, by its status.
+use Rattle.std.specs.Prelude.{◌≡◌, ℕ, ◌<◌, ◌≤◌, Bool, List, ◌++◌, length, take, Option, Some, None, is_none}
+use Rattle.lf_lint.specs.declared.asked.Asked.{Asked}
+use Rattle.lf_lint.specs.declared.first_rule.FirstRule.{FirstRule}
+use Rattle.lf_lint.specs.declared.status.Status.{Status}
+use Rattle.lf_lint.specs.declared.status.Status.TheVariants.{Clean, Problems, Words, Refused, Read, Write, Memory, Limit}
+use Rattle.lf_lint.specs.Asks.{Asks}
+use Rattle.lf_lint.specs.FirstForm.{Bytes, Holds}
+use Rattle.lf_lint.specs.Report.{report_of}
+
+-- the most bytes that a file may have: 4 MiB
+abbrev pub most_bytes : ℕ
+most_bytes = 4194304
+
+-- the bytes are those held, where the object tells them
+abbrev pub MayBe : Option Bytes → Bytes → Type 0
+MayBe None bytes = Unit {0}
+MayBe (Some held) bytes = bytes ≡ held
+
+-- these bytes were added to those taken, where the object tells them
+abbrev pub Wrote : Option Bytes → Option Bytes → Bytes → Type 0
+Wrote None now bytes = Unit {0}
+Wrote (Some before) now bytes = now ≡ Some (before ++ bytes)
+
+-- the words ask for a file, its bytes were read whole, and this is what stands in them
+pub record Judged (words : List Bytes) (held : Bytes → Option Bytes) (asked : Asked) (found : Option FirstRule) : Type 0 where
+  pub asks : Asks words asked
+  pub bytes : Bytes
+  pub read : MayBe (held asked.file) bytes
+  pub within : length bytes ≤ most_bytes
+  pub holds : Holds bytes found
+
+-- the whole report was written, on a file that is refused or not
+abbrev pub WroteAll : List Bytes → (Bytes → Option Bytes) → Option Bytes → Option Bytes → Bool → Type 0
+WroteAll words held before now refused = (asked : Asked) × (found : Option FirstRule) × Judged words held asked found × (is_none found ≡ refused) × Wrote before now (report_of asked found)
+
+-- a front of the report was written, and not the whole
+abbrev pub WrotePart : List Bytes → (Bytes → Option Bytes) → Option Bytes → Option Bytes → Type 0
+WrotePart words held before now = (asked : Asked) × (found : Option FirstRule) × Judged words held asked found
+    × (k : ℕ) × (k < length (report_of asked found)) × Wrote before now (take k (report_of asked found))
+
+-- the words ask for a file of more bytes than a file may have
+abbrev pub IsTooLong : List Bytes → (Bytes → Option Bytes) → Type 0
+IsTooLong words held = (asked : Asked) × Asks words asked × (bytes : Bytes) × MayBe (held asked.file) bytes × (most_bytes < length bytes)
+
+-- the ends after which nothing was written
+abbrev pub IsSilent : Status → Type 0
+IsSilent Words = Unit {0}
+IsSilent (Read file) = Unit {0}
+IsSilent Memory = Unit {0}
+IsSilent (Limit quantity found) = Unit {0}
+IsSilent _ = ⊥

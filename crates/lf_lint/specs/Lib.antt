@@ -1,0 +1,5 @@
+pub mod Asks
+pub mod Ends
+pub mod FirstForm
+pub mod Report
+pub mod Statuses
