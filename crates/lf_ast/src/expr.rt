@@ -1,0 +1,161 @@
+//! Expressions of PromQL, as Prometheus' documentation on querying has them.
+
+use lf_base::{Seq, Span, Text};
+
+/// A binary operator.
+#[derive(Clone, Copy, Drop, PartialEq, Eq, Debug)]
+pub enum Op {
+    Add,
+    Subtract,
+    Multiply,
+    Divide,
+    Modulo,
+    Power,
+    Atan2,
+    Equal,
+    NotEqual,
+    LessOrEqual,
+    Less,
+    GreaterOrEqual,
+    Greater,
+    And,
+    Or,
+    Unless,
+}
+
+/// An aggregation.
+#[derive(Clone, Copy, Drop, PartialEq, Eq, Debug)]
+pub enum Agg {
+    Sum,
+    Min,
+    Max,
+    Avg,
+    Group,
+    Stddev,
+    Stdvar,
+    Count,
+    Quantile,
+    CountValues,
+    Topk,
+    Bottomk,
+}
+
+/// How a matcher compares a label's text: `=`, `!=`, `=~` or `!~`.
+#[derive(Clone, Copy, Drop, PartialEq, Eq, Debug)]
+pub enum MatchOp {
+    Equal,
+    NotEqual,
+    Matches,
+    NotMatches,
+}
+
+/// A label name in a list, with its place in the source.
+#[derive(Clone, Drop, Debug)]
+pub struct Name {
+    pub text: Text,
+    pub span: Span,
+}
+
+/// A matcher of a selector. `value` is the text or the pattern without its quotes and escapes.
+#[derive(Clone, Drop, Debug)]
+pub struct Matcher {
+    pub label: Text,
+    pub op: MatchOp,
+    pub value: Text,
+    pub label_span: Span,
+    pub value_span: Span,
+}
+
+/// How far and from where a selector or a subquery looks back.
+#[derive(Clone, Drop, Debug)]
+pub struct Sight {
+    /// The duration of the range, as it is written.
+    pub range: Option<Text>,
+    /// The step of a subquery, as it is written.
+    pub step: Option<Text>,
+    /// The offset: a `-`, if it is there, and the duration.
+    pub offset: Option<Text>,
+    /// The time behind `@`: the sign, if it is there, and the number, or `start()` or `end()`.
+    pub at: Option<Text>,
+    /// The span of the range's duration.
+    pub range_span: Span,
+}
+
+/// Which side of a vector matching has several samples for one of the other: neither, the left or the right.
+#[derive(Clone, Copy, Drop, PartialEq, Eq, Debug)]
+pub enum Group {
+    One,
+    Left,
+    Right,
+}
+
+/// The modifier of a binary operator. Its span runs from its first to its last token, and is empty at the operator's end where there is none.
+#[derive(Clone, Drop, Debug)]
+pub struct Matching {
+    pub bool_mod: bool,
+    pub on: Option<Seq<Name>>,
+    pub ignoring: Option<Seq<Name>>,
+    pub group: Group,
+    /// The labels behind `group_left` or `group_right`.
+    pub include: Seq<Name>,
+    pub span: Span,
+}
+
+/// The grouping of an aggregation.
+#[derive(Clone, Drop, Debug)]
+pub enum Grouping {
+    None,
+    By { labels: Seq<Name> },
+    Without { labels: Seq<Name> },
+}
+
+/// An expression. Spans are of the source; of a binary operator, a call and an aggregation it is the span of the operator or word.
+#[derive(Drop, Debug)]
+pub enum Expr {
+    Number {
+        text: Text,
+        span: Span,
+    },
+    Str {
+        text: Text,
+        span: Span,
+    },
+    Selector {
+        name: Option<Text>,
+        matchers: Seq<Matcher>,
+        sight: Sight,
+        span: Span,
+    },
+    Subquery {
+        of: Box<Expr>,
+        sight: Sight,
+        span: Span,
+    },
+    Paren {
+        of: Box<Expr>,
+        span: Span,
+    },
+    Unary {
+        minus: bool,
+        of: Box<Expr>,
+        span: Span,
+    },
+    Binary {
+        op: Op,
+        modifier: Matching,
+        left: Box<Expr>,
+        right: Box<Expr>,
+        span: Span,
+    },
+    Call {
+        name: Text,
+        args: Seq<Expr>,
+        span: Span,
+    },
+    Aggregate {
+        op: Agg,
+        grouping: Grouping,
+        args: Seq<Expr>,
+        span: Span,
+    },
+}

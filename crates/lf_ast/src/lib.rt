@@ -1,0 +1,12 @@
+//! What a rule file says and what is found of it: expressions, rules, label sets, worlds, verdicts and findings.
+#![tactic(auto)]
+
+mod expr;
+mod label_set;
+mod rule;
+mod verdict;
+
+pub use expr::{Agg, Expr, Group, Grouping, MatchOp, Matcher, Matching, Name, Op, Sight};
+pub use label_set::LabelSet;
+pub use rule::{Rule, RuleLabel, Template};
+pub use verdict::{Finding, RuleVerdicts, Verdict, World};
