@@ -8,13 +8,13 @@ pub enum Kind {
     BadUtf8,
     /// A control character other than tab, line feed and a carriage return before a line feed. The span is the character.
     BadChar,
-    /// An escape that the string's style doesn't have, or one that gives no character. The span begins at the backslash.
+    /// An escape that the string's style doesn't have, or one that gives no character. The span is the backslash.
     BadEscape,
     /// A quoted YAML scalar that doesn't close. The span is the quote.
     OpenQuote,
     /// The header of a block scalar has a character that can't stand there. The span is that character.
     BadHeader,
-    /// An indent that fits no open collection, or a tab as indentation. The span is the line's first character after the indent, and for a tab the line's first byte.
+    /// An indent that fits no open collection, a tab as indentation, or a continuation line of a quoted scalar that isn't indented. The span begins at the line's first character after the indent, and for a tab at the line's first byte.
     BadIndent,
     /// A form of YAML 1.2 that rule files don't need: anchors, aliases, tags, directives, second documents, document ends, nested flow collections, complex keys. The span is its first character.
     LeftOut,
@@ -32,7 +32,7 @@ pub enum Kind {
     MissingKey,
     /// A rule with both `record` and `alert`. The span is the later of the two keys.
     BothKinds,
-    /// A text that is no metric name, label name or group name where one is wanted. The span is the scalar.
+    /// A text that is no metric name or label name where one is wanted, or a label that can't be set. The span is the scalar.
     BadName,
     /// A group's `limit` that isn't 1 to 9 digits. The span is the scalar.
     BadLimit,
@@ -46,7 +46,7 @@ pub enum Kind {
     OpenString,
     /// A row of digits and letters that is neither a number nor a duration. The span is the row.
     BadNumber,
-    /// A duration whose units repeat or stand in another order than `y w d h m s ms`, or a range of zero length. The span is the row of characters or the scalar.
+    /// A text that is no duration where one is wanted, one whose units repeat or stand in another order than `y w d h m s ms`, or a range of zero length. The span is the row of characters or the scalar.
     BadDuration,
     /// The first token with which no expression goes on. The span is the token, and empty at the end of the text.
     Syntax,
@@ -56,7 +56,7 @@ pub enum Kind {
     UnknownName,
     /// A call with another number of arguments than the function or aggregation takes. The span is the word.
     WrongCount,
-    /// A modifier that the operator can't have. The span is the operator.
+    /// A modifier that the operator can't have, a comparison of two scalars without `bool`, or a label both in `on` and in the list of the group modifier. The span is the operator.
     BadModifier,
     /// A text that is no label name where one is wanted. The span is the argument.
     BadLabel,
@@ -68,7 +68,7 @@ pub enum Kind {
     OpenAction,
     /// An action of a template that can't be read. It is a finding, and refuses no file. The span is the action.
     BadAction,
-    /// A form that this version of ruleflow doesn't read yet.
+    /// A form that this version of ruleflow doesn't read yet. Of a file outside the form that is read the span is empty and stands at offset 0.
     NotBuilt,
 }
 
