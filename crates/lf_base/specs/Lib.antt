@@ -1,3 +1,5 @@
+pub mod Calls
 pub mod Kinds
 pub mod Outside
+pub mod Places
 pub mod formers

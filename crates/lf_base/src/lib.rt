@@ -2,6 +2,7 @@
 //! and the traits of the outside with their stand-ins in memory.
 #![tactic(auto)]
 
+mod calls;
 mod kind;
 mod memory;
 mod outside;
@@ -13,7 +14,7 @@ mod text;
 pub use kind::Kind;
 pub use memory::Memory;
 pub use outside::{Failed, Files, Gate, OpenGate, Sink};
-pub use place::{Place, Span};
+pub use place::{Place, Span, place_of};
 pub use refusal::Refusal;
 pub use seq::Seq;
 pub use text::Text;
