@@ -4,6 +4,7 @@
 
 mod calls;
 mod kind;
+mod mem_sink;
 mod memory;
 mod outside;
 mod place;
@@ -12,6 +13,7 @@ mod seq;
 mod text;
 
 pub use kind::Kind;
+pub use mem_sink::MemSink;
 pub use memory::Memory;
 pub use outside::{Failed, Files, Gate, OpenGate, Sink};
 pub use place::{Place, Span, place_of};
