@@ -1,11 +1,17 @@
 -- Calls that are counted, and fail where a list of numbers says so.
-use Rattle.std.specs.Prelude.{ℕ, ◌+◌, ◌-◌, ◌^◌, List, [], min, Contains}
+use Rattle.std.specs.Prelude.{ℕ, ◌+◌, ◌-◌, ◌^◌, List, [], min, Contains, refl}
+use Rattle.std.specs.Coded.{Coded, code_by, coded×, coded_ℕ, coded_list}
 
 -- how many calls there were, how many of them failed, and the numbers of those that are to fail
 pub record Calls : Type 0 where
   pub failing : List ℕ
   pub made : ℕ
   pub faults : ℕ
+
+-- counted calls are stored as the tuple of their fields
+abbrev pub calls_code : Coded Calls
+calls_code =
+    code_by (List ℕ × (ℕ × ℕ)) (coded× (coded_list coded_ℕ) (coded× coded_ℕ coded_ℕ)) (λ c. (c.failing, (c.made, c.faults))) (λ p. record { failing = p.0; made = p.1.0; faults = p.1.1 }) (λ _. refl)
 
 -- no call yet, and none is to fail
 abbrev pub no_calls : Calls

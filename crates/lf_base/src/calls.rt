@@ -2,14 +2,14 @@
 ghost use Rattle.std.specs.Prelude.{◌≡◌, ◌+◌, ◌-◌, ◌^◌, ◌⊎◌, ◌↔◌, List, ℕ, min, Contains, IsTrue, IsErr, OnOk, OnErr, false};
 ghost use Rattle.lf_base.specs.Calls.{Calls, no_calls, next_number, IsListed, answered, failed};
 
-use crate::{Failed, Memory, Seq};
+use crate::{Failed, Memory};
 use std::alloc::Global;
 use std::marker::Model;
 
 /// How many calls were made and how many of them failed, and the numbers of the calls that are to fail.
 #[derive(Debug, Drop)]
 pub struct CallCount {
-    failing: Seq<u32>,
+    failing: Vec<u32>,
     made: u64,
     faults: u64,
 }
@@ -19,7 +19,7 @@ impl Model for CallCount {
 
     ghost Value = { Calls };
 
-    ghost view = { λ c. record { failing = c.failing; made = c.made; faults = c.faults } };
+    ghost view = { λ c. record { failing = c.failing.items; made = c.made; faults = c.faults } };
 }
 
 impl CallCount {
@@ -28,7 +28,7 @@ impl CallCount {
         ensures { result ≡ no_calls }
     {
         CallCount {
-            failing: Seq::new(alloc),
+            failing: Vec::new(alloc),
             made: 0,
             faults: 0,
         }
@@ -39,7 +39,7 @@ impl CallCount {
         ensures ok { OnOk result (self.new ≡ record self.old { failing = calls.now }) }
         ensures err { OnErr result (self.new ≡ self.old) }
     {
-        self.failing = Seq::of(self.failing.allocator(), calls)?;
+        self.failing = Vec::from_slice(*self.failing.allocator(), calls)?;
         Ok(())
     }
 

@@ -4,6 +4,7 @@
 
 mod calls;
 mod kind;
+mod mem_files;
 mod mem_sink;
 mod memory;
 mod outside;
@@ -13,6 +14,7 @@ mod seq;
 mod text;
 
 pub use kind::Kind;
+pub use mem_files::MemFiles;
 pub use mem_sink::MemSink;
 pub use memory::Memory;
 pub use outside::{Failed, Files, Gate, OpenGate, Sink};
