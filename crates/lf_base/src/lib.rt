@@ -22,3 +22,6 @@ pub use place::{Place, Span, place_of};
 pub use refusal::Refusal;
 pub use seq::Seq;
 pub use text::Text;
+
+#[cfg(test)]
+mod tests;
