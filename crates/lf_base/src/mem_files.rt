@@ -59,7 +59,8 @@ impl MemFiles {
         }
     }
 
-    /// Holds these bytes under this name, in place of those that were held under it. No file is open then.
+    /// Holds these bytes under this name, in place of those that were held under it, and closes the file that is open, if one is.
+    /// After `Memory` nothing is changed.
     pub fn add(&mut self, name: &str, bytes: &[u8]) -> Result<(), Memory>
         ensures ok { OnOk result (self.new ≡ with_file self.old name.now bytes.now) }
         ensures err { OnErr result (self.new ≡ self.old) }
@@ -72,6 +73,7 @@ impl MemFiles {
     }
 
     /// Sets the numbers of the calls of `open` and `read` that are to fail, counted together from 1 over the object's life, in place of those set before.
+    /// After `Memory` nothing is changed.
     pub fn fail_calls(&mut self, calls: &[u32]) -> Result<(), Memory>
         ensures ok { OnOk result (self.new ≡ record self.old { calls = record self.old.calls { failing = calls.now } }) }
         ensures err { OnErr result (self.new ≡ self.old) }

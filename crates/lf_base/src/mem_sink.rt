@@ -30,7 +30,7 @@ impl Model for MemSink {
 }
 
 impl MemSink {
-    /// Has room for `room` bytes, and takes at most `most` of them in one write. All memory is taken here, and none by a write.
+    /// Has room for `room` bytes in all, and takes at most `most` of them in one write. The memory for them is taken here, and none by a write.
     pub fn new(alloc: Global, room: usize, most: usize) -> Result<MemSink, Memory>
         requires { 0 < most }
         ensures { IfOk result (λ sink. sink ≡ record { taken = []; most = most; room = room; calls = no_calls }) }
@@ -44,7 +44,7 @@ impl MemSink {
         })
     }
 
-    /// Sets the numbers of the writes that are to fail, counted from 1 over the object's life, in place of those set before.
+    /// Sets the numbers of the writes that are to fail, counted from 1 over the object's life, in place of those set before. After `Memory` nothing is changed.
     pub fn fail_calls(&mut self, calls: &[u32]) -> Result<(), Memory>
         ensures ok { OnOk result (self.new ≡ record self.old { calls = record self.old.calls { failing = calls.now } }) }
         ensures err { OnErr result (self.new ≡ self.old) }
@@ -74,7 +74,8 @@ impl Sink for MemSink {
         requires some { 0 < length piece.now }
         ensures fails { IsErr result ↔ (IsListed self.old.calls ⊎ (room_left self.old ≡ 0)) }
         ensures within { IfOk result (λ n. (0 < n) × (n ≤ length piece.now)) }
-        ensures ok { IfOk result (λ n. (n ≡ share self.old piece.now) × (self.new ≡ with_front self.old piece.now n)) }
+        ensures number { IfOk result (λ n. n ≡ share self.old piece.now) }
+        ensures ok { IfOk result (λ n. self.new ≡ with_front self.old piece.now n) }
         ensures err { OnErr result (self.new ≡ record self.old { calls = failed self.old.calls }) }
     {
         let left = self.room - self.taken.len();
