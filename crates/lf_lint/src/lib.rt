@@ -4,6 +4,7 @@
 mod asked;
 mod first_form;
 mod first_rule;
+mod linting;
 mod reading;
 mod report;
 mod status;
@@ -13,7 +14,8 @@ mod writing;
 pub use asked::Asked;
 pub use first_form::read_first_rule;
 pub use first_rule::{FirstMatcher, FirstRule};
-pub use reading::ReadEnd;
+pub use linting::lint;
+pub use reading::{ReadEnd, read_whole};
 pub use report::report_text;
 pub use status::Status;
 pub use words::{WordFault, read_words};

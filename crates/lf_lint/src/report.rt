@@ -7,7 +7,11 @@ use lf_base::{Memory, Text};
 use std::alloc::Global;
 
 /// The report on what stands in the file that is asked for.
-pub fn report_text(_alloc: Global, _asked: &Asked, _found: &Option<FirstRule>) -> Result<Text, Memory>
+pub fn report_text(
+    _alloc: Global,
+    _asked: &Asked,
+    _found: &Option<FirstRule>,
+) -> Result<Text, Memory>
     ensures { IfOk result (λ text. text ≡ report_of _asked.now _found.now) }
 {
     Err(Memory)

@@ -14,5 +14,5 @@ returns-in-len3-clause-some c =
     let command : c.as_str-then-words-lt4.result.now ≡ codes "lint" = search rules in
     let option : c.as_str-then-eq-2.result.now ≡ codes "--labels" = search rules in
     let items = ap (map string_bytes)
-        (three_items _ _ _ _ c.in-len3.len_at_least c.in-len3.len_below c.command-item-then-words-lt4.is c.option-item.is c.name-item-then-words-lt4.is) in
+    (three_items _ _ _ _ c.in-len3.len_at_least c.in-len3.len_below c.command-item-then-words-lt4.is c.option-item.is c.name-item-then-words-lt4.is) in
     cc

@@ -1,4 +1,4 @@
-use Rattle.std.proofs.Common.{rules, ◌≡◌, false}
+use Rattle.std.proofs.Common.{rules}
 use Rattle.lf_lint.proofs.words.read_words.Goals as goal
 
 pub returns-in_err-file-in-Some-clause-memory : goal.returns-in_err-file-in-Some-clause-memory

@@ -1,4 +1,4 @@
-use Rattle.std.proofs.Common.{length, ◌-◌, ◌≡◌, ℕ, ◌<◌, take, ◌≤◌}
+use Rattle.std.proofs.Common.{length, ◌-◌, ◌≡◌, take, ◌≤◌}
 use Rattle.lf_lint.specs.Ends.{Wrote}
 use Rattle.lf_lint.proofs.writing.write_whole.Given as goal
 
