@@ -1,3 +1,8 @@
+pub mod Calls
+pub mod FileList
 pub mod Kinds
+pub mod MemFiles
+pub mod MemSink
 pub mod Outside
+pub mod Places
 pub mod formers

@@ -2,7 +2,10 @@
 //! and the traits of the outside with their stand-ins in memory.
 #![tactic(auto)]
 
+mod calls;
 mod kind;
+mod mem_files;
+mod mem_sink;
 mod memory;
 mod outside;
 mod place;
@@ -11,9 +14,14 @@ mod seq;
 mod text;
 
 pub use kind::Kind;
+pub use mem_files::MemFiles;
+pub use mem_sink::MemSink;
 pub use memory::Memory;
 pub use outside::{Failed, Files, Gate, OpenGate, Sink};
-pub use place::{Place, Span};
+pub use place::{Place, Span, place_of};
 pub use refusal::Refusal;
 pub use seq::Seq;
 pub use text::Text;
+
+#[cfg(test)]
+mod tests;

@@ -1,0 +1,7 @@
+-- No file before `k` has the name.
+use Rattle.std.proofs.Common.{◌≢◌, ◌<◌, ℕ}
+use Rattle.lf_base.specs.FileList.{name_at}
+use Rattle.lf_base.proofs.mem_files.find_file.Given as goal
+
+abbrev pub invariant-loop-k : goal.invariant-loop-k
+invariant-loop-k l = (j : ℕ) → j < l.k → name_at l.files j ≢ l.name
