@@ -1,6 +1,6 @@
 -- Bytes that are written or read piece by piece.
 use Rattle.std.proofs.Common.{◌≡◌, ℕ, ◌+◌, ◌-◌, ◌<◌, List, [], ◌++◌, take, drop, length, Option, Some, None, Ok, arith, append_assoc, append-nil, refl, length-append}
-use Rattle.std.proofs.Math.Seq.{take-add}
+use Rattle.std.proofs.Math.Seq.{drop-append_seam, take-add}
 use Rattle.std.proofs.lemmas.List.{take-append-drop}
 use Rattle.std.proofs.lemmas.Grind.{common_steps}
 use Rattle.lf_base.specs.declared.outside.Failed.{Failed}
@@ -49,9 +49,10 @@ read_all (Some held) (Some left) later bytes buffer count h r z =
     let e : left ≡ [] = r.2.0 z in
     cc (append-nil bytes)
 
--- a file of which more than so many bytes were read has more than so many
-pub read_past : (held left : Option (List ℕ)) (bytes : List ℕ) (most : ℕ) → IsReadSoFar held left bytes → most < length bytes
-    → (whole : List ℕ) × MayBe held whole × (most < length whole)
-read_past None left bytes most h l = (bytes, tt, l)
+-- a file of which more than so many bytes were read has more than so many, and what is left is what follows them
+pub read_past : (held left : Option (List ℕ)) (bytes : List ℕ) (most : ℕ) → IsReadSoFar held left bytes → length bytes ≡ most + 1
+    → (whole : List ℕ) × MayBe held whole × (most < length whole) × MayBe left (drop (most + 1) whole)
+read_past None None bytes most h l = (bytes, tt, omega arith, tt)
+read_past None (Some left) bytes most h l = (bytes ++ left, tt, omega (arith, length-append bytes left), rw (← l, drop-append_seam) refl)
 read_past (Some held) None bytes most h l = absurd h
-read_past (Some held) (Some left) bytes most h l = (held, refl, rw h (omega (arith, length-append bytes left)))
+read_past (Some held) (Some left) bytes most h l = (held, refl, rw h (omega (arith, length-append bytes left)), rw (h, ← l, drop-append_seam) refl)

@@ -19,9 +19,9 @@ const MOST_BYTES: u32 = 4 * 1024 * 1024;
 /// The number of that limit in a status.
 const FILE_BYTES: u8 = 2;
 
-/// Lints the file that the words ask for and writes the report on it: a whole run of the program, whose words come without its own name.
+/// A whole run of the program: lints the file that the words ask for, and writes the report on it.
 ///
-/// The whole report is made before its first byte is written.
+/// The words come without the program's own name. The whole report is made before its first byte is written.
 pub fn lint<R: Threads + Sync, F: Files, O: Sink, G: Gate + Sync>(
     rt: &R,
     alloc: Global,
@@ -37,6 +37,7 @@ pub fn lint<R: Threads + Sync, F: Files, O: Sink, G: Gate + Sync>(
     // The words alone decide this end, and nothing is opened.
     ensures words { (result ≡ Status.Words) ↔ ((asked : Asked) → Asks (map string_bytes words.now) asked → ⊥) }
     ensures unread { result ≡ Status.Words → files.new ≡ files.old }
+    ensures asked { result ≢ Status.Words → (asked : Asked) × Asks (map string_bytes words.now) asked }
 
     // The whole report was written, or a call of the sink failed after a front of it.
     ensures clean { result ≡ Status.Clean → WroteAll (map string_bytes words.now) (F.held files.old) (O.taken out.old) (O.taken out.new) false }
@@ -54,6 +55,7 @@ pub fn lint<R: Threads + Sync, F: Files, O: Sink, G: Gate + Sync>(
     ensures out_calm { result ≢ Status.Write → O.faults out.new ≡ O.faults out.old }
     ensures kept { (name : List ℕ) → F.held files.new name ≡ F.held files.old name }
 {
+    // One file needs no thread.
     let _ = rt;
     let _ = gate;
     let asked = match read_words(alloc, words) {

@@ -42,7 +42,7 @@ impl From<AllocError> for ReadEnd {
 
 /// The bytes of the file of this name, from its first byte to the read that gives none.
 ///
-/// Of a file of more than `most` bytes no more than `most + 1` are read.
+/// Of a file of more than `most` bytes just `most + 1` are read.
 pub fn read_whole<F: Files>(
     alloc: Global,
     files: &mut F,
@@ -54,7 +54,7 @@ pub fn read_whole<F: Files>(
 
     ensures whole { IfOk result (λ bytes. MayBe (F.held files.old name.now) bytes × (length bytes ≤ most)) }
     ensures failed { result ≡ Err ReadEnd.Failed → F.faults files.old < F.faults files.new }
-    ensures too_long { result ≡ Err ReadEnd.TooLong → (bytes : List ℕ) × MayBe (F.held files.old name.now) bytes × (most < length bytes) }
+    ensures too_long { result ≡ Err ReadEnd.TooLong → (bytes : List ℕ) × MayBe (F.held files.old name.now) bytes × (most < length bytes) × MayBe (F.left files.new) (drop (most + 1) bytes) }
 
     // A file is opened unless memory is wanting, and the count of faults rises only where the reading failed.
     ensures opened { result ≢ Err ReadEnd.Memory → F.opens files.new ≡ F.opens files.old + 1 }
