@@ -20,3 +20,6 @@ pub use report::report_text;
 pub use status::Status;
 pub use words::{WordFault, read_words};
 pub use writing::write_whole;
+
+#[cfg(test)]
+mod tests;

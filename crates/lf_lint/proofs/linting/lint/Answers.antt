@@ -2,7 +2,7 @@ use Rattle.std.proofs.Common.{◌≡◌, ◌+◌, refl, arith}
 use Rattle.lf_lint.proofs.linting.lint.Goals as goal
 
 pub returns-in-Err-Failed-clause-files_calm : goal.returns-in-Err-Failed-clause-files_calm
-returns-in-Err-Failed-clause-files_calm g c = λ other. absurd (other 0 refl)
+returns-in-Err-Failed-clause-files_calm g c = λ other. absurd (other _ refl)
 
 pub returns-in-Err-TooLong-clause-limit : goal.returns-in-Err-TooLong-clause-limit
 returns-in-Err-TooLong-clause-limit g c = λ quantity count e.
