@@ -1,1 +1,3 @@
 pub mod Worked
+mod ShortLists
+mod Streams

@@ -3,7 +3,7 @@ use Rattle.std.specs.Prelude.{◌≡◌, ℕ, ◌<◌, ◌≤◌, Bool, List, �
 use Rattle.lf_lint.specs.declared.asked.Asked.{Asked}
 use Rattle.lf_lint.specs.declared.first_rule.FirstRule.{FirstRule}
 use Rattle.lf_lint.specs.declared.status.Status.{Status}
-use Rattle.lf_lint.specs.declared.status.Status.TheVariants.{Clean, Problems, Words, Refused, Read, Write, Memory, Limit}
+use Rattle.lf_lint.specs.declared.status.Status.TheVariants.{Words, Read, Memory, Limit}
 use Rattle.lf_lint.specs.Asks.{Asks}
 use Rattle.lf_lint.specs.FirstForm.{Bytes, Holds}
 use Rattle.lf_lint.specs.Report.{report_of}

@@ -1,0 +1,12 @@
+use Rattle.std.proofs.Common.{◌≡◌, ◌+◌, refl, arith}
+use Rattle.lf_lint.proofs.linting.lint.Goals as goal
+
+pub returns-in-Err-Failed-clause-files_calm : goal.returns-in-Err-Failed-clause-files_calm
+returns-in-Err-Failed-clause-files_calm g c = λ other. absurd (other _ refl)
+
+pub returns-in-Err-TooLong-clause-limit : goal.returns-in-Err-TooLong-clause-limit
+returns-in-Err-TooLong-clause-limit g c = λ quantity count e.
+    let long = c.in-Err-TooLong.ensures.too_long (cc) in
+    let q : quantity ≡ 2 = cc in
+    let n : count ≡ c.from.result + 1 = cc in
+    (q, omega (arith, c.from.ensures), (c.in-Ok.asked, c.in-Ok.ensures.asked, long.0, long.1, long.2))

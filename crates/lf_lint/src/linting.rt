@@ -1,0 +1,94 @@
+//! A run of the program.
+ghost use Rattle.std.specs.Prelude.{◌≡◌, ◌≢◌, ◌↔◌, ℕ, Bool, true, false, List, map, string_bytes, Option, is_none, IfOk, ◌+◌, ◌<◌, ◌≤◌, ◌^◌};
+ghost use Rattle.lf_lint.specs.declared.asked.Asked.{Asked};
+ghost use Rattle.lf_lint.specs.declared.first_rule.FirstRule.{FirstRule};
+ghost use Rattle.lf_lint.specs.Asks.{Asks};
+ghost use Rattle.lf_lint.specs.Ends.{IsSilent, IsTooLong, WroteAll, WrotePart};
+ghost use Rattle.lf_lint.specs.FirstForm.{Holds};
+ghost use Rattle.lf_lint.specs.Report.{report_of};
+
+use crate::reading::{ReadEnd, read_whole};
+use crate::{Asked, Status, WordFault, read_first_rule, read_words, report_text, write_whole};
+use lf_base::{Files, Gate, Memory, Sink, Text};
+use std::alloc::Global;
+use std::thread::Threads;
+
+/// The most bytes that a file may have: 4 MiB.
+const MOST_BYTES: u32 = 4 * 1024 * 1024;
+
+/// The number of that limit in a status.
+const FILE_BYTES: u8 = 2;
+
+/// A whole run of the program: lints the file that the words ask for, and writes the report on it.
+///
+/// The words come without the program's own name. The whole report is made before its first byte is written.
+pub fn lint<R: Threads + Sync, F: Files, O: Sink, G: Gate + Sync>(
+    rt: &R,
+    alloc: Global,
+    words: &[String],
+    files: &mut F,
+    out: &mut O,
+    gate: &G,
+) -> Status
+    requires files { F.faults files.old ≡ 0 }
+    requires out { O.faults out.old ≡ 0 }
+    requires opens { F.opens files.old ≤ 2 ^ 31 }
+
+    // The words alone decide this end, and nothing is opened.
+    ensures words { (result ≡ Status.Words) ↔ ((asked : Asked) → Asks (map string_bytes words.now) asked → ⊥) }
+    ensures unread { result ≡ Status.Words → files.new ≡ files.old }
+    ensures asked { result ≢ Status.Words → (asked : Asked) × Asks (map string_bytes words.now) asked }
+
+    // The whole report was written, or a call of the sink failed after a front of it.
+    ensures clean { result ≡ Status.Clean → WroteAll (map string_bytes words.now) (F.held files.old) (O.taken out.old) (O.taken out.new) false }
+    ensures refused { result ≡ Status.Refused → WroteAll (map string_bytes words.now) (F.held files.old) (O.taken out.old) (O.taken out.new) true }
+    ensures write { result ≡ Status.Write → (O.faults out.old < O.faults out.new) × WrotePart (map string_bytes words.now) (F.held files.old) (O.taken out.old) (O.taken out.new) }
+    ensures never { result ≢ Status.Problems }
+
+    // A file's number is that of the last call of `open`.
+    ensures read { (file : ℕ) → result ≡ Status.Read file → (F.faults files.old < F.faults files.new) × (F.opens files.new ≡ F.opens files.old + (file + 1)) }
+    ensures limit { (quantity count : ℕ) → result ≡ Status.Limit quantity count → (quantity ≡ 2) × (count ≡ 4194305) × IsTooLong (map string_bytes words.now) (F.held files.old) }
+
+    // What else is as before.
+    ensures quiet { IsSilent result → out.new ≡ out.old }
+    ensures files_calm { ((file : ℕ) → result ≢ Status.Read file) → F.faults files.new ≡ F.faults files.old }
+    ensures out_calm { result ≢ Status.Write → O.faults out.new ≡ O.faults out.old }
+    ensures kept { (name : List ℕ) → F.held files.new name ≡ F.held files.old name }
+{
+    // One file needs no thread.
+    let _ = rt;
+    let _ = gate;
+    let asked = match read_words(alloc, words) {
+        Ok(asked) => asked,
+        Err(WordFault::Refused) => return Status::Words,
+        Err(WordFault::Memory) => return Status::Memory,
+    };
+    let bytes = match read_whole(alloc, files, &asked.file, MOST_BYTES) {
+        Ok(bytes) => bytes,
+        Err(ReadEnd::Failed) => return Status::Read { file: 0 },
+        Err(ReadEnd::TooLong) => {
+            return Status::Limit {
+                quantity: FILE_BYTES,
+                found: u64::from(MOST_BYTES) + 1,
+            };
+        }
+        Err(ReadEnd::Memory) => return Status::Memory,
+    };
+    let Ok((report, refused)) = report_on(alloc, &asked, bytes.as_slice()) else {
+        return Status::Memory;
+    };
+    match write_whole(out, report.as_str().as_bytes()) {
+        Err(_) => Status::Write,
+        Ok(()) if refused => Status::Refused,
+        Ok(()) => Status::Clean,
+    }
+}
+
+/// The report on a file of these bytes, and whether the file is refused.
+fn report_on(alloc: Global, asked: &Asked, bytes: &[u8]) -> Result<(Text, bool), Memory>
+    ensures { IfOk result (λ r. (found : Option FirstRule) × Holds bytes.now found × (r.0 ≡ report_of asked.now found) × (r.1 ≡ is_none found)) }
+{
+    let found = read_first_rule(alloc, bytes)?;
+    let report = report_text(alloc, asked, &found)?;
+    Ok((report, found.is_none()))
+}

@@ -1,0 +1,65 @@
+//! The parts of a run, each on its own.
+
+use crate::{ReadEnd, read_whole, read_words, write_whole};
+use lf_base::{Failed, MemFiles, MemSink, Text};
+use std::test::Fail;
+
+#[test]
+fn words_are_read(rt: HostRuntime) -> Result<(), Fail> {
+    for (option, name) in [(false, "a.yml"), (true, "a b"), (false, ""), (true, "lint")] {
+        let mut words = vec![in rt.alloc(); String::from_str(rt.alloc(), "lint")?]?;
+        if option {
+            words.push(String::from_str(rt.alloc(), "--labels")?)?;
+        }
+        words.push(String::from_str(rt.alloc(), name)?)?;
+        let asked = read_words(rt.alloc(), words.as_slice())?;
+        assert_eq!(rt; asked.labels, option);
+        assert_eq!(rt; asked.file.as_str(), name);
+    }
+    Ok(())
+}
+
+#[test]
+fn a_file_is_read_up_to_the_most_bytes(rt: HostRuntime) -> Result<(), Fail> {
+    for len in [0, 1, 65_535, 65_536, 65_537, 70_000] {
+        let bytes = vec![in rt.alloc(); b'a'; len]?;
+        let mut files = MemFiles::new(rt.alloc());
+        files.add("a.yml", bytes.as_slice())?;
+        let name = Text::of(rt.alloc(), "a.yml")?;
+        match read_whole(rt.alloc(), &mut files, &name, 65_536) {
+            Ok(read) => assert_eq!(rt; read.as_slice(), bytes.as_slice(), "{len}"),
+            Err(end) => {
+                assert_eq!(rt; end, ReadEnd::TooLong);
+                assert!(rt; len > 65_536, "{len}");
+            }
+        }
+    }
+    Ok(())
+}
+
+#[test]
+fn each_write_fails_in_turn(rt: HostRuntime) -> Result<(), Fail> {
+    let bytes = b"a report of 27 bytes in all";
+    for call in 1..28 {
+        let mut out = MemSink::new(rt.alloc(), 1000, 1)?;
+        out.fail_calls(&[call])?;
+        assert_eq!(rt; write_whole(&mut out, bytes), Err(Failed));
+        let written = call as usize - 1;
+        assert_eq!(rt; Some(out.bytes()), bytes.get(..written), "call {call}");
+    }
+    Ok(())
+}
+
+#[test]
+fn a_sink_may_take_any_part_of_a_piece(rt: HostRuntime) -> Result<(), Fail> {
+    let bytes = b"a report of 27 bytes in all";
+    for most in [1, 2, 26, 27, 28] {
+        let mut out = MemSink::new(rt.alloc(), 27, most)?;
+        write_whole(&mut out, bytes)?;
+        assert_eq!(rt; out.bytes(), bytes.as_slice());
+        let mut small = MemSink::new(rt.alloc(), 26, most)?;
+        assert_eq!(rt; write_whole(&mut small, bytes), Err(Failed));
+        assert_eq!(rt; small.bytes().len(), 26);
+    }
+    Ok(())
+}
