@@ -1,1 +1,5 @@
+pub mod Appends
+pub mod FirstSeen
+pub mod Listings
+pub mod ShownNames
 pub mod Worked

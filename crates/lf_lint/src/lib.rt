@@ -3,8 +3,10 @@
 
 mod asked;
 mod first_rule;
+mod report;
 mod status;
 
 pub use asked::Asked;
 pub use first_rule::{FirstMatcher, FirstRule};
+pub use report::report_text;
 pub use status::Status;
