@@ -1,5 +1,5 @@
 -- The text report on one file of the first form.
-use Rattle.std.specs.Prelude.{◌≡◌, ℕ, Bool, true, false, ◌==◌, ◌||◌, ◌/◌, ◌%◌, nat_lt, not, List, [], ◌∷◌, ◌++◌, Option, Some, None, is_none, map, filter, count_by, codes, if◌then◌else◌}
+use Rattle.std.specs.Prelude.{ℕ, Bool, true, false, ◌==◌, ◌||◌, ◌/◌, ◌%◌, nat_lt, not, List, [], ◌∷◌, ◌++◌, Option, Some, None, map, filter, count_by, codes, if◌then◌else◌}
 use Rattle.std.specs.Fmt.{decimal, digit_glyph}
 use Rattle.std.specs.List.{flat_map, list_any}
 use Rattle.std.specs.Str.{bytes_eq}
@@ -7,6 +7,8 @@ use Rattle.lf_base.specs.Kinds.{name_of, text_of}
 use Rattle.lf_base.specs.declared.kind.Kind.TheVariants.{NotBuilt}
 use Rattle.lf_lint.specs.declared.asked.Asked.{Asked}
 use Rattle.lf_lint.specs.declared.first_rule.FirstRule.{FirstRule}
+use Rattle.lf_lint.specs.declared.report.verdict.Verdict.{Verdict}
+use Rattle.lf_lint.specs.declared.report.verdict.Verdict.TheVariants.{Guaranteed, Impossible, Unresolved}
 use Rattle.lf_lint.specs.FirstForm.{Bytes, lines_text}
 
 -- the text is one of these
@@ -25,12 +27,6 @@ matched_labels r = map (λ m. m.label) r.matchers
 -- the labels of which the report speaks: the metric name, then those of the expression in the order of its text, then `*` for every other
 abbrev pub universe_of : FirstRule → List Bytes
 universe_of r = codes "__name__" ∷ first_seen (r.labels ++ matched_labels r) ++ codes "*" ∷ []
-
--- what is said of a label
-pub data Verdict : Type 0 where
-  Guaranteed : Verdict
-  Impossible : Verdict
-  Unresolved : Verdict
 
 -- a label that `by` doesn't name is on no sample; one that it names is on every sample if a matcher gives it a text
 abbrev pub verdict_of : FirstRule → Bytes → Verdict
@@ -55,23 +51,28 @@ shown_byte b = if nat_lt b 32 || b == 127 then codes "\\x" ++ digit_glyph false 
 abbrev pub shown : Bytes → Bytes
 shown name = flat_map shown_byte name
 
--- the verdict in words. What stays unresolved carries no construct yet, and stands at the expression, in line 5 and column 11 of each file of the form
+-- the verdict in words, for a file whose name is shown as `name`. What stays unresolved carries no construct yet, and stands at the expression, in line 5 and
+-- column 11 of each file of the form
 abbrev pub verdict_text : Bytes → Verdict → Bytes
-verdict_text file Guaranteed = codes "guaranteed"
-verdict_text file Impossible = codes "impossible"
-verdict_text file Unresolved = codes "unresolved O0 at " ++ shown file ++ codes ":5:11"
+verdict_text name Guaranteed = codes "guaranteed"
+verdict_text name Impossible = codes "impossible"
+verdict_text name Unresolved = codes "unresolved O0 at " ++ name ++ codes ":5:11"
 
 -- `  LABEL: VERDICT`
-abbrev pub label_line : Bytes → FirstRule → Bytes → Bytes
-label_line file r label = codes "  " ++ label ++ codes ": " ++ verdict_text file (verdict_of r label)
+abbrev pub label_line : Bytes → Bytes → Verdict → Bytes
+label_line name label verdict = codes "  " ++ label ++ codes ": " ++ verdict_text name verdict
 
--- the rule's line, at its name in line 4 and column 13, and a line for each label
+-- the line of a rule, at its own name in line 4 and column 13
+abbrev pub rule_line : Bytes → Bytes → Bytes
+rule_line name rule = name ++ codes ":4:13: rule " ++ rule
+
+-- the rule's line, and a line for each label
 abbrev pub rule_lines : Bytes → FirstRule → List Bytes
-rule_lines file r = (shown file ++ codes ":4:13: rule " ++ r.name) ∷ map (label_line file r) (universe_of r)
+rule_lines name r = rule_line name r.name ∷ map (λ label. label_line name label (verdict_of r label)) (universe_of r)
 
 -- the line of a file outside the form, at its first byte
 abbrev pub refused_line : Bytes → Bytes
-refused_line file = shown file ++ codes ":1:1: refused [" ++ name_of NotBuilt ++ codes "] " ++ text_of NotBuilt
+refused_line name = name ++ codes ":1:1: refused [" ++ name_of NotBuilt ++ codes "] " ++ text_of NotBuilt
 
 -- the totals of one file: whether it is refused, and how many rules it has
 abbrev pub totals_line : ℕ → ℕ → Bytes
@@ -83,10 +84,10 @@ verdicts_line verdicts = codes "verdicts guaranteed " ++ decimal (count_by is_gu
     ++ codes ", possible 0, unresolved " ++ decimal (count_by is_unresolved verdicts) ++ codes ", empty 0"
 
 -- lines that stand only where verdicts are asked for
-abbrev pub with_labels : Asked → List Bytes → List Bytes
-with_labels asked lines = if asked.labels then lines else []
+abbrev pub with_labels : Bool → List Bytes → List Bytes
+with_labels labels lines = if labels then lines else []
 
 -- the report on what stands in the file that is asked for
 abbrev pub report_of : Asked → Option FirstRule → Bytes
-report_of asked None = lines_text (refused_line asked.file ∷ totals_line 1 0 ∷ with_labels asked (verdicts_line [] ∷ []))
-report_of asked (Some r) = lines_text (with_labels asked (rule_lines asked.file r) ++ totals_line 0 1 ∷ with_labels asked (verdicts_line (map (verdict_of r) (universe_of r)) ∷ []))
+report_of asked None = lines_text (refused_line (shown asked.file) ∷ totals_line 1 0 ∷ with_labels asked.labels (verdicts_line [] ∷ []))
+report_of asked (Some r) = lines_text (with_labels asked.labels (rule_lines (shown asked.file) r) ++ totals_line 0 1 ∷ with_labels asked.labels (verdicts_line (map (verdict_of r) (universe_of r)) ∷ []))
