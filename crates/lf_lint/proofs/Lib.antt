@@ -1,1 +1,10 @@
+pub mod Cuts
+pub mod Distinct
+pub mod Frames
+pub mod Joined
+pub mod Labels
+pub mod Marks
+pub mod Matchers
+pub mod Reserved
+pub mod Rules
 pub mod Worked

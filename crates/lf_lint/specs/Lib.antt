@@ -1,5 +1,6 @@
 pub mod Asks
 pub mod Ends
 pub mod FirstForm
+pub mod FirstPieces
 pub mod Report
 pub mod Statuses
