@@ -5,7 +5,7 @@ use Rattle.std.proofs.lemmas.Bool.{false≢true}
 use Rattle.lf_lint.specs.FirstForm.{Bytes, is_label}
 use Rattle.lf_lint.specs.FirstPieces.{Lacks, AreLabels}
 use Rattle.lf_lint.proofs.Cuts.{IsCutAt}
-use Rattle.lf_lint.proofs.Joined.{Goes, IsOne, goes_none, goes_more, goes_nowhere, goes_last, goes_astray}
+use Rattle.lf_lint.proofs.Joined.{Goes, IsOne, goes_none, goes_more, goes_nowhere, goes_last, goes_astray, joined_same}
 use Rattle.lf_lint.proofs.Marks.{label_lacks}
 
 -- these labels were read of the whole text, and this is what follows
@@ -35,3 +35,6 @@ labels_last whole rest done after go h e = subst (AreLabels whole) (sym e) (goes
 
 pub labels_astray : (whole rest : Bytes) (done : List Bytes) → LabelsGo whole done rest → IsCutAt 44 (32 ∷ []) rest None → is_label rest ≡ false → (xs : List Bytes) → AreLabels whole xs → ⊥
 labels_astray whole rest done go cut h = goes_astray (λ label. label) 44 (32 ∷ []) is_label free same whole rest done go cut (none rest h)
+
+pub labels_same : (whole : Bytes) (xs ys : List Bytes) → AreLabels whole xs → AreLabels whole ys → xs ≡ ys
+labels_same whole xs ys h k = joined_same (λ label. label) 44 (32 ∷ []) is_label free same whole xs ys h k

@@ -1,16 +1,17 @@
 pub mod Appends
-pub mod FirstSeen
-pub mod Listings
-pub mod ShownNames
 pub mod Cuts
 pub mod Distinct
+pub mod FirstSeen
 pub mod Frames
 pub mod Joined
 pub mod Labels
+pub mod Listings
 pub mod Marks
 pub mod Matchers
+pub mod OneReport
 pub mod Reserved
 pub mod Rules
-pub mod Worked
 mod ShortLists
+pub mod ShownNames
 mod Streams
+pub mod Worked

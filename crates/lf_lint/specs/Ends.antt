@@ -1,9 +1,9 @@
 -- What a call of `lint` did to the outside, by its status.
-use Rattle.std.specs.Prelude.{◌≡◌, ℕ, ◌<◌, ◌≤◌, Bool, List, ◌++◌, length, take, Option, Some, None, is_none}
+use Rattle.std.specs.Prelude.{◌≡◌, ℕ, ◌+◌, ◌<◌, ◌≤◌, Bool, List, ◌++◌, length, take, drop, Option, Some, None, is_none}
 use Rattle.lf_lint.specs.declared.asked.Asked.{Asked}
 use Rattle.lf_lint.specs.declared.first_rule.FirstRule.{FirstRule}
 use Rattle.lf_lint.specs.declared.status.Status.{Status}
-use Rattle.lf_lint.specs.declared.status.Status.TheVariants.{Words, Read, Memory, Limit}
+use Rattle.lf_lint.specs.declared.status.Status.TheVariants.{Clean, Problems, Words, Refused, Read, Write, Memory, Limit}
 use Rattle.lf_lint.specs.Asks.{Asks}
 use Rattle.lf_lint.specs.FirstForm.{Bytes, Holds}
 use Rattle.lf_lint.specs.Report.{report_of}
@@ -22,6 +22,14 @@ abbrev pub Wrote : Option Bytes → Option Bytes → Bytes → Type 0
 Wrote None now bytes = Unit {0}
 Wrote (Some before) now bytes = now ≡ Some (before ++ bytes)
 
+-- the report that the words ask for, on a file of these bytes
+pub record IsReport (words : List Bytes) (bytes report : Bytes) : Type 0 where
+  pub asked : Asked
+  pub asks : Asks words asked
+  pub found : Option FirstRule
+  pub holds : Holds bytes found
+  pub text : report ≡ report_of asked found
+
 -- the words ask for a file, its bytes were read whole, and this is what stands in them
 pub record Judged (words : List Bytes) (held : Bytes → Option Bytes) (asked : Asked) (found : Option FirstRule) : Type 0 where
   pub asks : Asks words asked
@@ -39,9 +47,9 @@ abbrev pub WrotePart : List Bytes → (Bytes → Option Bytes) → Option Bytes 
 WrotePart words held before now = (asked : Asked) × (found : Option FirstRule) × Judged words held asked found
     × (k : ℕ) × (k < length (report_of asked found)) × Wrote before now (take k (report_of asked found))
 
--- the words ask for a file of more bytes than a file may have
-abbrev pub IsTooLong : List Bytes → (Bytes → Option Bytes) → Type 0
-IsTooLong words held = (asked : Asked) × Asks words asked × (bytes : Bytes) × MayBe (held asked.file) bytes × (most_bytes < length bytes)
+-- the words ask for a file of more bytes than a file may have, and reading stopped right behind the first of them
+abbrev pub IsTooLong : List Bytes → (Bytes → Option Bytes) → Option Bytes → Type 0
+IsTooLong words held left = (asked : Asked) × Asks words asked × (bytes : Bytes) × MayBe (held asked.file) bytes × (most_bytes < length bytes) × MayBe left (drop (most_bytes + 1) bytes)
 
 -- the ends after which nothing was written
 abbrev pub IsSilent : Status → Type 0
@@ -49,4 +57,7 @@ IsSilent Words = Unit {0}
 IsSilent (Read file) = Unit {0}
 IsSilent Memory = Unit {0}
 IsSilent (Limit quantity found) = Unit {0}
-IsSilent _ = ⊥
+IsSilent Clean = ⊥
+IsSilent Problems = ⊥
+IsSilent Refused = ⊥
+IsSilent Write = ⊥

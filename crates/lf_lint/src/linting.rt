@@ -3,7 +3,7 @@ ghost use Rattle.std.specs.Prelude.{◌≡◌, ◌≢◌, ◌↔◌, ℕ, Bool, 
 ghost use Rattle.lf_lint.specs.declared.asked.Asked.{Asked};
 ghost use Rattle.lf_lint.specs.declared.first_rule.FirstRule.{FirstRule};
 ghost use Rattle.lf_lint.specs.Asks.{Asks};
-ghost use Rattle.lf_lint.specs.Ends.{IsSilent, IsTooLong, WroteAll, WrotePart};
+ghost use Rattle.lf_lint.specs.Ends.{IsReport, IsSilent, IsTooLong, WroteAll, WrotePart};
 ghost use Rattle.lf_lint.specs.FirstForm.{Holds};
 ghost use Rattle.lf_lint.specs.Report.{report_of};
 
@@ -45,12 +45,17 @@ pub fn lint<R: Threads + Sync, F: Files, O: Sink, G: Gate + Sync>(
     ensures write { result ≡ Status.Write → (O.faults out.old < O.faults out.new) × WrotePart (map string_bytes words.now) (F.held files.old) (O.taken out.old) (O.taken out.new) }
     ensures never { result ≢ Status.Problems }
 
+    // There is one report for a list of words and the bytes of a file.
+    ensures one_report { (bytes a b : List ℕ) → IsReport (map string_bytes words.now) bytes a → IsReport (map string_bytes words.now) bytes b → a ≡ b }
+
     // A file's number is that of the last call of `open`.
     ensures read { (file : ℕ) → result ≡ Status.Read file → (F.faults files.old < F.faults files.new) × (F.opens files.new ≡ F.opens files.old + (file + 1)) }
-    ensures limit { (quantity count : ℕ) → result ≡ Status.Limit quantity count → (quantity ≡ 2) × (count ≡ 4194305) × IsTooLong (map string_bytes words.now) (F.held files.old) }
+    ensures limit { (quantity count : ℕ) → result ≡ Status.Limit quantity count → (quantity ≡ 2) × (count ≡ 4194305) × IsTooLong (map string_bytes words.now) (F.held files.old) (F.left files.new) }
 
     // What else is as before.
     ensures quiet { IsSilent result → out.new ≡ out.old }
+    ensures opened { result ≢ Status.Words → result ≢ Status.Memory → F.opens files.new ≡ F.opens files.old + 1 }
+    ensures opened_once { F.opens files.new ≤ F.opens files.old + 1 }
     ensures files_calm { ((file : ℕ) → result ≢ Status.Read file) → F.faults files.new ≡ F.faults files.old }
     ensures out_calm { result ≢ Status.Write → O.faults out.new ≡ O.faults out.old }
     ensures kept { (name : List ℕ) → F.held files.new name ≡ F.held files.old name }

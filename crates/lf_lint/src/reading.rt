@@ -58,6 +58,7 @@ pub fn read_whole<F: Files>(
 
     // A file is opened unless memory is wanting, and the count of faults rises only where the reading failed.
     ensures opened { result ≢ Err ReadEnd.Memory → F.opens files.new ≡ F.opens files.old + 1 }
+    ensures opened_once { F.opens files.new ≤ F.opens files.old + 1 }
     ensures calm { result ≢ Err ReadEnd.Failed → F.faults files.new ≡ F.faults files.old }
     ensures kept { (other : List ℕ) → F.held files.new other ≡ F.held files.old other }
 {
