@@ -1,7 +1,7 @@
 //! The parts of a run, each on its own.
 
 use crate::{ReadEnd, read_whole, read_words, write_whole};
-use lf_base::{Failed, MemFiles, MemSink, Text};
+use lf_base::{Failed, Files, MemFiles, MemSink, Text};
 use std::test::Fail;
 
 #[test]
@@ -61,5 +61,46 @@ fn a_sink_may_take_any_part_of_a_piece(rt: HostRuntime) -> Result<(), Fail> {
         assert_eq!(rt; write_whole(&mut small, bytes), Err(Failed));
         assert_eq!(rt; small.bytes().len(), 26);
     }
+    Ok(())
+}
+
+/// Files in memory that give one byte at a time.
+#[derive(Drop)]
+struct DrippingFiles {
+    files: MemFiles,
+}
+
+impl Files for DrippingFiles {
+    ghost use Rattle.std.specs.Prelude.{IsSome};
+    ghost use Rattle.lf_base.specs.MemFiles.{held as held_in};
+
+    ghost held = { λ s. held_in s.files };
+
+    ghost left = { λ s. s.files.left };
+
+    ghost faults = { λ s. s.files.calls.faults };
+
+    ghost opens = { λ s. s.files.opens };
+
+    ghost is_open = { λ s. IsSome s.files.left };
+
+    fn open(&mut self, name: &str) -> Result<(), Failed> {
+        self.files.open(name)
+    }
+
+    fn read(&mut self, buf: &mut [u8]) -> Result<usize, Failed> {
+        self.files.read(&mut buf[..1])
+    }
+}
+
+#[test]
+fn a_source_may_give_one_byte_at_a_time(rt: HostRuntime) -> Result<(), Fail> {
+    let bytes = vec![in rt.alloc(); b'a'; 70_000]?;
+    let mut files = MemFiles::new(rt.alloc());
+    files.add("a.yml", bytes.as_slice())?;
+    let mut dripping = DrippingFiles { files };
+    let name = Text::of(rt.alloc(), "a.yml")?;
+    let read = read_whole(rt.alloc(), &mut dripping, &name, 70_000)?;
+    assert_eq!(rt; read.as_slice(), bytes.as_slice());
     Ok(())
 }
