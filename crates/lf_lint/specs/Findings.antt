@@ -1,8 +1,7 @@
 -- The findings on the labels of a rule, as the code collects them.
 use Rattle.std.specs.Prelude.{◌≡◌, Bool, List, ◌∷◌, map, codes}
-use Rattle.std.specs.BTreeSet.{contains_by}
-use Rattle.std.specs.Cmp.Lexicographic.{slice_cmp}
-use Rattle.std.specs.Ordering.{nat_cmp}
+use Rattle.std.specs.HashSet.{contains_by}
+use Rattle.std.specs.Str.{bytes_eq}
 use Rattle.lf_lint.specs.declared.first_rule.FirstRule.{FirstRule}
 use Rattle.lf_lint.specs.declared.report.finding.Finding.{Finding}
 use Rattle.lf_lint.specs.declared.report.finding.Listing.{Listing}
@@ -13,7 +12,7 @@ use Rattle.lf_lint.specs.Report.{first_seen, label_line, stands_in, verdict_of}
 
 -- whether the set has the label
 abbrev pub has : LabelSet → Bytes → Bool
-has set label = contains_by (λ other. slice_cmp nat_cmp label other.now) set.labels
+has set label = contains_by (λ other. bytes_eq label other.now) set.labels
 
 -- what a finding says of which label
 abbrev pub said : Finding → Bytes × Verdict

@@ -5,12 +5,12 @@ ghost use Rattle.lf_lint.specs.Findings.{has};
 
 use lf_base::Memory;
 use std::alloc::Global;
-use std::collections::BTreeSet;
+use std::collections::HashSet;
 
-/// A set of labels, told apart by their text.
+/// A set of labels, told apart by their text. It hashes them, since a file may hold a million.
 #[derive(Drop)]
 pub struct LabelSet<'a> {
-    labels: BTreeSet<&'a str>,
+    labels: HashSet<&'a str>,
 }
 
 impl<'a> LabelSet<'a> {
@@ -19,7 +19,7 @@ impl<'a> LabelSet<'a> {
         ensures { (other : List ℕ) → has result other ≡ false }
     {
         LabelSet {
-            labels: BTreeSet::new(alloc),
+            labels: HashSet::new(alloc),
         }
     }
 

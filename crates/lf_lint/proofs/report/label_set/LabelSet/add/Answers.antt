@@ -1,7 +1,6 @@
 use Rattle.std.proofs.Common.{◌≡◌, Bool, true, false, cond, ◌||◌, refl, ◌∙◌}
 use Rattle.std.specs.Str.{bytes_eq}
 use Rattle.std.proofs.lemmas.Cmp.{nat_list_eq_equiv}
-use Rattle.std.proofs.lemmas.Map.Text.{is_eq-slice_cmp}
 use Rattle.lf_lint.specs.Findings.{has}
 use Rattle.lf_lint.proofs.report.label_set.LabelSet.add.Goals as goal
 
@@ -12,4 +11,4 @@ or_from_cond false x = refl
 pub returns-clause-members : goal.returns-clause-members
 returns-clause-members c = λ other.
     c.in_ok-new.ensures.updates.0 (record { ref_ptr = (0, 0); now = other })
-    ∙ rw (is_eq-slice_cmp c.args.label.now other, nat_list_eq_equiv.symm c.args.label.now other) (or_from_cond (bytes_eq other c.args.label.now) (has c.args.self.now other))
+    ∙ rw (nat_list_eq_equiv.symm c.args.label.now other) (or_from_cond (bytes_eq other c.args.label.now) (has c.args.self.now other))
