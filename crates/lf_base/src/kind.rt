@@ -73,7 +73,7 @@ pub enum Kind {
 }
 
 impl Kind {
-    ghost use Rattle.lf_base.specs.Kinds.{name_of, text_of};
+    ghost use Rattle.lf_base.specs.Kinds.{name_of, meaning_of};
 
     /// The kind's name, as reports write it.
     pub fn name(&self) -> &'static str
@@ -118,7 +118,7 @@ impl Kind {
 
     /// What a report says of a refusal of this kind.
     pub fn text(&self) -> &'static str
-        ensures { result.now ≡ text_of self.now }
+        ensures { result.now ≡ meaning_of self.now }
     {
         match self {
             Kind::BadUtf8 => "the bytes aren't UTF-8",

@@ -11,7 +11,7 @@ use Rattle.std.proofs.lemmas.Str.{IsUtf8-from_ascii}
 use Rattle.std.proofs.lemmas.Str.Ascii.{IsAscii-nil, IsAscii-cons}
 use Rattle.lf_lint.specs.declared.first_rule.FirstRule.{FirstRule}
 use Rattle.lf_lint.specs.declared.first_rule.FirstMatcher.{FirstMatcher}
-use Rattle.lf_lint.specs.FirstForm.{Bytes, begins_with_letter, is_label, is_word, is_value, matcher_text, expr_text, lines_text, text_of, IsFirstForm}
+use Rattle.lf_lint.specs.FirstForm.{Bytes, begins_with_letter, is_label, is_word, is_value, matcher_text, expr_text, lines_text, file_text, IsFirstForm}
 use Rattle.lf_lint.specs.FirstPieces.{Lacks, is_matcher, Parts, framed, parts_of_rule, AreApart}
 use Rattle.lf_lint.proofs.Cuts.{lacks-append}
 use Rattle.lf_lint.proofs.Joined.{and_left, and_right, and_both, append_none}
@@ -88,7 +88,7 @@ lines_flat group name expr =
     ∙ ap before (close group (10 ∷ []) (between (name ++ 10 ∷ (expr ++ 10 ∷ []))))
 
 -- the five lines of a rule are the frame round its texts
-pub framed_text : (r : FirstRule) → text_of r ≡ framed (parts_of_rule r)
+pub framed_text : (r : FirstRule) → file_text r ≡ framed (parts_of_rule r)
 framed_text r = lines_flat r.group r.name (codes "    expr: " ++ expr_text r)
     ∙ ap (λ l. codes "groups:\n- name: " ++ (r.group ++ 10 ∷ (codes "  rules:\n  - record: " ++ (r.name ++ 10 ∷ l)))) (expr_flat (join_by (λ label. label) (codes ", ") r.labels) r.metric (join_by matcher_text (codes ",") r.matchers))
 

@@ -1,5 +1,5 @@
 -- A list of words and the bytes of a file have one report: the words ask for one thing, and the bytes are the text of one rule at most.
-use Rattle.std.specs.Prelude.{◌≡◌, ℕ, Bool, true, false, List, [], ◌∷◌, ◌++◌, Option, Some, None, codes}
+use Rattle.std.specs.Prelude.{◌≡◌, Bool, true, false, List, ◌∷◌, ◌++◌, Option, Some, None, codes}
 use Rattle.std.proofs.Common.{refl, sym, ap, ◌∙◌}
 use Rattle.std.proofs.lemmas.List.{append_cancel_left, append_cancel_right}
 use Rattle.lf_lint.specs.declared.asked.Asked.{Asked}
@@ -18,20 +18,20 @@ use Rattle.lf_lint.proofs.Matchers.{matchers_same}
 same_framed : (p q : Parts) → AreApart p → AreApart q → framed p ≡ framed q → p ≡ q
 same_framed p q a b e =
     let group : (p.group ≡ q.group) × (behind_group p ≡ behind_group q) =
-        cut_same 10 p.group q.group (behind_group p) (behind_group q) (append_cancel_left (codes "groups:\n- name: ") (p.group ++ 10 ∷ behind_group p) (q.group ++ 10 ∷ behind_group q) e) a.group b.group in
+    cut_same 10 p.group q.group (behind_group p) (behind_group q) (append_cancel_left (codes "groups:\n- name: ") (p.group ++ 10 ∷ behind_group p) (q.group ++ 10 ∷ behind_group q) e) a.group b.group in
     let name : (p.name ≡ q.name) × (behind_name p ≡ behind_name q) =
-        cut_same 10 p.name q.name (behind_name p) (behind_name q) (append_cancel_left (codes "  rules:\n  - record: ") (p.name ++ 10 ∷ behind_name p) (q.name ++ 10 ∷ behind_name q) group.1) a.name b.name in
+    cut_same 10 p.name q.name (behind_name p) (behind_name q) (append_cancel_left (codes "  rules:\n  - record: ") (p.name ++ 10 ∷ behind_name p) (q.name ++ 10 ∷ behind_name q) group.1) a.name b.name in
     let labels : (p.labels ≡ q.labels) × (behind_labels p ≡ behind_labels q) =
-        cut_same 41 p.labels q.labels (behind_labels p) (behind_labels q) (append_cancel_left (codes "    expr: sum by (") (p.labels ++ 41 ∷ behind_labels p) (q.labels ++ 41 ∷ behind_labels q) name.1) a.labels b.labels in
+    cut_same 41 p.labels q.labels (behind_labels p) (behind_labels q) (append_cancel_left (codes "    expr: sum by (") (p.labels ++ 41 ∷ behind_labels p) (q.labels ++ 41 ∷ behind_labels q) name.1) a.labels b.labels in
     let metric : (p.metric ≡ q.metric) × (behind_metric p ≡ behind_metric q) =
-        cut_same 123 p.metric q.metric (behind_metric p) (behind_metric q) (append_cancel_left (codes " (") (p.metric ++ 123 ∷ behind_metric p) (q.metric ++ 123 ∷ behind_metric q) labels.1) a.metric b.metric in
+    cut_same 123 p.metric q.metric (behind_metric p) (behind_metric q) (append_cancel_left (codes " (") (p.metric ++ 123 ∷ behind_metric p) (q.metric ++ 123 ∷ behind_metric q) labels.1) a.metric b.metric in
     same_parts p q group.0 name.0 labels.0 metric.0 (append_cancel_right p.matchers q.matchers (codes "})\n") metric.1)
 
 -- a file is the text of one rule at most
 one_rule : (bytes : Bytes) (r s : FirstRule) → IsFirstForm bytes r → IsFirstForm bytes s → r ≡ s
 one_rule bytes r s h k =
     let parts : parts_of_rule r ≡ parts_of_rule s =
-        same_framed (parts_of_rule r) (parts_of_rule s) (are_apart bytes r h) (are_apart bytes s k) (sym (framed_text r) ∙ (sym h.text ∙ (k.text ∙ framed_text s))) in
+    same_framed (parts_of_rule r) (parts_of_rule s) (are_apart bytes r h) (are_apart bytes s k) (sym (framed_text r) ∙ (sym h.text ∙ (k.text ∙ framed_text s))) in
     let labels_of_r : AreLabels (parts_of_rule r).labels r.labels = record { text = refl; some = h.some_label; pass = h.labels } in
     let labels_of_s : AreLabels (parts_of_rule r).labels s.labels = record { text = ap (λ p. p.labels) parts; some = k.some_label; pass = k.labels } in
     let labels = labels_same (parts_of_rule r).labels r.labels s.labels labels_of_r labels_of_s in

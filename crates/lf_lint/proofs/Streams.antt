@@ -5,7 +5,7 @@ use Rattle.std.proofs.lemmas.List.{take-append-drop}
 use Rattle.std.proofs.lemmas.Grind.{common_steps}
 use Rattle.lf_base.specs.declared.outside.Failed.{Failed}
 use Rattle.lf_base.specs.Outside.{Reads, Takes}
-use Rattle.lf_lint.specs.Ends.{MayBe, Wrote}
+use Rattle.lf_lint.specs.Ends.{AreAsTold, Wrote}
 
 -- the rest of a list from a place on
 pub rest_of : (xs : List ℕ) (k : ℕ) → take (length xs - k) (drop k xs) ≡ drop k xs
@@ -42,7 +42,7 @@ read_more (Some held) (Some left) (Some rest) old new filled count h e r =
     rw (take-add, append_assoc, e, r.0, f, g) h
 
 -- a read of no bytes is the end of the file
-pub read_all : (held left later : Option (List ℕ)) (bytes buffer : List ℕ) (count : ℕ) → IsReadSoFar held left bytes → Reads left later buffer count → count ≡ 0 → MayBe held bytes
+pub read_all : (held left later : Option (List ℕ)) (bytes buffer : List ℕ) (count : ℕ) → IsReadSoFar held left bytes → Reads left later buffer count → count ≡ 0 → AreAsTold held bytes
 read_all None left later bytes buffer count h r z = tt
 read_all (Some held) None later bytes buffer count h r z = absurd h
 read_all (Some held) (Some left) later bytes buffer count h r z =
@@ -51,7 +51,7 @@ read_all (Some held) (Some left) later bytes buffer count h r z =
 
 -- a file of which more than so many bytes were read has more than so many, and what is left is what follows them
 pub read_past : (held left : Option (List ℕ)) (bytes : List ℕ) (most : ℕ) → IsReadSoFar held left bytes → length bytes ≡ most + 1
-    → (whole : List ℕ) × MayBe held whole × (most < length whole) × MayBe left (drop (most + 1) whole)
+    → (whole : List ℕ) × AreAsTold held whole × (most < length whole) × AreAsTold left (drop (most + 1) whole)
 read_past None None bytes most h l = (bytes, tt, omega arith, tt)
 read_past None (Some left) bytes most h l = (bytes ++ left, tt, omega (arith, length-append bytes left), rw (← l, drop-append_seam) refl)
 read_past (Some held) None bytes most h l = absurd h

@@ -11,4 +11,4 @@ words_for labels file = codes "lint" ∷ (if labels then codes "--labels" ∷ []
 -- the words are these, and the file's name doesn't begin with `-`
 pub record Asks (words : List (List ℕ)) (asked : Asked) : Type 0 where
   pub form : words ≡ words_for asked.labels asked.file
-  pub named : starts_with nat_eq asked.file (codes "-") ≡ false
+  pub no_option : starts_with nat_eq asked.file (codes "-") ≡ false

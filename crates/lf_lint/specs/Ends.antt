@@ -12,10 +12,10 @@ use Rattle.lf_lint.specs.Report.{report_of}
 abbrev pub most_bytes : ℕ
 most_bytes = 4194304
 
--- the bytes are those held, where the object tells them
-abbrev pub MayBe : Option Bytes → Bytes → Type 0
-MayBe None bytes = Unit {0}
-MayBe (Some held) bytes = bytes ≡ held
+-- the bytes are as the object tells them, where it does
+abbrev pub AreAsTold : Option Bytes → Bytes → Type 0
+AreAsTold None bytes = Unit {0}
+AreAsTold (Some told) bytes = bytes ≡ told
 
 -- these bytes were added to those taken, where the object tells them
 abbrev pub Wrote : Option Bytes → Option Bytes → Bytes → Type 0
@@ -34,7 +34,7 @@ pub record IsReport (words : List Bytes) (bytes report : Bytes) : Type 0 where
 pub record Judged (words : List Bytes) (held : Bytes → Option Bytes) (asked : Asked) (found : Option FirstRule) : Type 0 where
   pub asks : Asks words asked
   pub bytes : Bytes
-  pub read : MayBe (held asked.file) bytes
+  pub read : AreAsTold (held asked.file) bytes
   pub within : length bytes ≤ most_bytes
   pub holds : Holds bytes found
 
@@ -49,7 +49,7 @@ WrotePart words held before now = (asked : Asked) × (found : Option FirstRule) 
 
 -- the words ask for a file of more bytes than a file may have, and reading stopped right behind the first of them
 abbrev pub IsTooLong : List Bytes → (Bytes → Option Bytes) → Option Bytes → Type 0
-IsTooLong words held left = (asked : Asked) × Asks words asked × (bytes : Bytes) × MayBe (held asked.file) bytes × (most_bytes < length bytes) × MayBe left (drop (most_bytes + 1) bytes)
+IsTooLong words held left = (asked : Asked) × Asks words asked × (bytes : Bytes) × AreAsTold (held asked.file) bytes × (most_bytes < length bytes) × AreAsTold left (drop (most_bytes + 1) bytes)
 
 -- the ends after which nothing was written
 abbrev pub IsSilent : Status → Type 0

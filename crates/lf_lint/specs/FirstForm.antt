@@ -1,5 +1,5 @@
 -- The first form of a rule file: one group with one recording rule, on exactly five lines.
-use Rattle.std.specs.Prelude.{◌≡◌, ◌≢◌, ℕ, Bool, true, false, not, ◌==◌, ◌&&◌, ◌||◌, List, [], ◌∷◌, ◌++◌, Option, Some, None, map, codes, All}
+use Rattle.std.specs.Prelude.{◌≡◌, ◌≢◌, ℕ, Bool, true, false, not, ◌==◌, ◌&&◌, ◌||◌, List, [], ◌∷◌, ◌++◌, Option, Some, None, map, codes}
 use Rattle.std.specs.Bool.{nat_eq}
 use Rattle.std.specs.Char.{is_ascii_alphabetic, is_ascii_alphanumeric}
 use Rattle.std.specs.List.{flat_map, join_by, list_any, list_all, ends_with, IsDistinct}
@@ -20,7 +20,8 @@ begins_with_letter (c ∷ cs) = is_ascii_alphabetic c
 abbrev pub is_label : Bytes → Bool
 is_label text = begins_with_letter text && list_all (λ c. is_ascii_alphanumeric c || c == 95) text
 
--- a metric name that begins with a letter (letters, digits, underscores and colons), doesn't end with a colon, and isn't the word that YAML reads as no value
+-- a name of a group, a record or a metric: letters, digits, underscores and colons; it begins with a letter, doesn't end with a colon, and isn't the word that
+-- YAML reads as no value
 abbrev pub is_word : Bytes → Bool
 is_word text = begins_with_letter text && list_all (λ c. is_ascii_alphanumeric c || c == 95 || c == 58) text
     && not (ends_with nat_eq text (codes ":")) && not (bytes_eq text (codes "null"))
@@ -57,19 +58,19 @@ abbrev pub lines_text : List Bytes → Bytes
 lines_text lines = flat_map (λ line. line ++ 10 ∷ []) lines
 
 -- the five lines of the rule
-abbrev pub text_of : FirstRule → Bytes
-text_of r = lines_text (codes "groups:" ∷ (codes "- name: " ++ r.group) ∷ codes "  rules:" ∷ (codes "  - record: " ++ r.name) ∷ (codes "    expr: " ++ expr_text r) ∷ [])
+abbrev pub file_text : FirstRule → Bytes
+file_text r = lines_text (codes "groups:" ∷ (codes "- name: " ++ r.group) ∷ codes "  rules:" ∷ (codes "  - record: " ++ r.name) ∷ (codes "    expr: " ++ expr_text r) ∷ [])
 
 -- the bytes are the five lines of this rule, and its names are names
 pub record IsFirstForm (bytes : Bytes) (r : FirstRule) : Type 0 where
-  pub text : bytes ≡ text_of r
+  pub text : bytes ≡ file_text r
   pub group : is_word r.group ≡ true
   pub name : is_word r.name ≡ true
   pub some_label : r.labels ≢ []
   pub labels : list_all is_label r.labels ≡ true
   pub metric : is_word r.metric ≡ true
-  pub free : is_reserved r.metric ≡ false
-  pub other : r.metric ≢ r.name
+  pub unreserved : is_reserved r.metric ≡ false
+  pub not_recorded : r.metric ≢ r.name
   pub some_matcher : r.matchers ≢ []
   pub matchers : list_all (λ m. is_label m.label && is_value m.text) r.matchers ≡ true
   pub distinct : IsDistinct bytes_eq (map (λ m. m.label) r.matchers)

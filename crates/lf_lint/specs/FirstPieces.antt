@@ -4,7 +4,7 @@ use Rattle.std.specs.List.{join_by, list_all}
 use Rattle.lf_lint.specs.declared.first_rule.FirstRule.{FirstRule}
 use Rattle.lf_lint.specs.declared.first_rule.FirstMatcher.{FirstMatcher}
 use Rattle.lf_lint.specs.declared.first_form.pieces.Pieces.{Pieces}
-use Rattle.lf_lint.specs.FirstForm.{Bytes, is_label, is_value, matcher_text, text_of, IsFirstForm}
+use Rattle.lf_lint.specs.FirstForm.{Bytes, is_label, is_value, matcher_text, file_text, IsFirstForm}
 
 -- what a reader found: a thing of which the fact holds, or none where there is no such thing
 abbrev pub Reads : {X : Type 0} → (X → Type 0) → Option X → Type 0
@@ -67,4 +67,4 @@ parts_of_rule r = record { group = r.group; name = r.name; labels = join_by (λ 
 
 -- the parts are those of this rule, and its names are names
 abbrev pub IsRuleOf : Parts → FirstRule → Type 0
-IsRuleOf parts r = (parts ≡ parts_of_rule r) × IsFirstForm (text_of r) r
+IsRuleOf parts r = (parts ≡ parts_of_rule r) × IsFirstForm (file_text r) r

@@ -3,7 +3,7 @@ use Rattle.std.specs.Prelude.{ℕ, Bool, true, false, ◌==◌, ◌||◌, ◌/�
 use Rattle.std.specs.Fmt.{decimal, digit_glyph}
 use Rattle.std.specs.List.{flat_map, list_any}
 use Rattle.std.specs.Str.{bytes_eq}
-use Rattle.lf_base.specs.Kinds.{name_of, text_of}
+use Rattle.lf_base.specs.Kinds.{name_of, meaning_of}
 use Rattle.lf_base.specs.declared.kind.Kind.TheVariants.{NotBuilt}
 use Rattle.lf_lint.specs.declared.asked.Asked.{Asked}
 use Rattle.lf_lint.specs.declared.first_rule.FirstRule.{FirstRule}
@@ -72,7 +72,7 @@ rule_lines name r = rule_line name r.name ∷ map (λ label. label_line name lab
 
 -- the line of a file outside the form, at its first byte
 abbrev pub refused_line : Bytes → Bytes
-refused_line name = name ++ codes ":1:1: refused [" ++ name_of NotBuilt ++ codes "] " ++ text_of NotBuilt
+refused_line name = name ++ codes ":1:1: refused [" ++ name_of NotBuilt ++ codes "] " ++ meaning_of NotBuilt
 
 -- the totals of one file: whether it is refused, and how many rules it has
 abbrev pub totals_line : ℕ → ℕ → Bytes

@@ -1,7 +1,7 @@
 //! The reading of a whole file.
 ghost use Rattle.std.specs.Prelude.{◌≡◌, ◌≢◌, ℕ, List, ◌+◌, ◌-◌, ◌<◌, ◌≤◌, ◌^◌, Err, length, take, drop, vec_len, IfOk, OnOk, OnErr};
 ghost use Rattle.lf_base.specs.Outside.{Faults, Reads};
-ghost use Rattle.lf_lint.specs.Ends.{MayBe};
+ghost use Rattle.lf_lint.specs.Ends.{AreAsTold};
 
 use lf_base::{Failed, Files, Seq, Text};
 use std::alloc::{AllocError, Global};
@@ -52,9 +52,9 @@ pub fn read_whole<F: Files>(
     requires calm { F.faults files.old ≡ 0 }
     requires room { F.opens files.old < 2 ^ 32 }
 
-    ensures whole { IfOk result (λ bytes. MayBe (F.held files.old name.now) bytes × (length bytes ≤ most)) }
+    ensures whole { IfOk result (λ bytes. AreAsTold (F.held files.old name.now) bytes × (length bytes ≤ most)) }
     ensures failed { result ≡ Err ReadEnd.Failed → F.faults files.old < F.faults files.new }
-    ensures too_long { result ≡ Err ReadEnd.TooLong → (bytes : List ℕ) × MayBe (F.held files.old name.now) bytes × (most < length bytes) × MayBe (F.left files.new) (drop (most + 1) bytes) }
+    ensures too_long { result ≡ Err ReadEnd.TooLong → (bytes : List ℕ) × AreAsTold (F.held files.old name.now) bytes × (most < length bytes) × AreAsTold (F.left files.new) (drop (most + 1) bytes) }
 
     // A file is opened unless memory is wanting, and the count of faults rises only where the reading failed.
     ensures opened { result ≢ Err ReadEnd.Memory → F.opens files.new ≡ F.opens files.old + 1 }
