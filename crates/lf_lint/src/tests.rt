@@ -8,6 +8,7 @@ use std::thread::Threads;
 
 mod ends;
 mod parts;
+mod reports;
 
 /// A run on the words between the spaces of a line. The empty line has no words.
 fn run<R: Threads + Sync, F: Files, O: Sink>(
