@@ -84,6 +84,19 @@ fn each_write_of_a_report_fails_in_turn(rt: HostRuntime) -> Result<(), Fail> {
 }
 
 #[test]
+fn a_report_is_offered_whole(rt: HostRuntime) -> Result<(), Fail> {
+    // The second write would fail, and none is made.
+    let mut files = MemFiles::new(rt.alloc());
+    files.add("a.yml", RULE.as_bytes())?;
+    let mut out = MemSink::new(rt.alloc(), 1000, 1000)?;
+    out.fail_calls(&[2])?;
+    let end = run(&rt, rt.alloc(), "lint a.yml", &mut files, &mut out)?;
+    assert_eq!(rt; end, Status::Clean);
+    assert_eq!(rt; out.bytes(), RULE_REPORT.as_bytes());
+    Ok(())
+}
+
+#[test]
 fn a_file_of_the_most_bytes_is_read(rt: HostRuntime) -> Result<(), Fail> {
     let bytes = vec![in rt.alloc(); b'a'; 4_194_304]?;
     let mut files = MemFiles::new(rt.alloc());
