@@ -49,6 +49,15 @@ pub enum MatchOp {
     NotMatches,
 }
 
+/// What an expression gives: a string, a scalar, an instant vector or a range vector.
+#[derive(Clone, Copy, Drop, PartialEq, Eq, Debug)]
+pub enum ExprType {
+    Str,
+    Scalar,
+    Vector,
+    Range,
+}
+
 /// A label name in a list, with its place in the source.
 #[derive(Clone, Drop, Debug)]
 pub struct Name {

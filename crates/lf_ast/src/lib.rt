@@ -6,7 +6,7 @@ mod label_set;
 mod rule;
 mod verdict;
 
-pub use expr::{Agg, Expr, Group, Grouping, MatchOp, Matcher, Matching, Name, Op, Sight};
+pub use expr::{Agg, Expr, ExprType, Group, Grouping, MatchOp, Matcher, Matching, Name, Op, Sight};
 pub use label_set::LabelSet;
 pub use rule::{Rule, RuleLabel, Template};
 pub use verdict::{Finding, RuleVerdicts, Verdict, World};
