@@ -40,8 +40,8 @@ all_either gives names R s w inside = (λ name. either_allows (value_of s name),
 
 named_in : (names : List Name) (name : Bytes) → is_named names name ≡ true → Contains (map (λ n. n.text) names) name
 named_in [] name e = cc
-named_in (n ∷ names) name e = elim (or_cases (bytes_eq n.text name) (is_named names name) e) [
-  | inl a ↦ let P : Bytes → Type 0 = λ x. Contains (map (λ m. m.text) (n ∷ names)) x in subst P (true_same n.text name a) (here n.text (map (λ m. m.text) names))
+named_in (n ∷ names) name e = elim (or_cases (bytes_eq name n.text) (is_named names name) e) [
+  | inl a ↦ let P : Bytes → Type 0 = λ x. Contains (map (λ m. m.text) (n ∷ names)) x in subst P (sym (true_same name n.text a)) (here n.text (map (λ m. m.text) names))
   | inr b ↦ behind n.text (map (λ m. m.text) names) name (named_in names name b)
 ]
 

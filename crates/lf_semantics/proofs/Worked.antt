@@ -11,7 +11,7 @@ use Rattle.lf_base.specs.declared.place.Span.{Span}
 use Rattle.lf_semantics.specs.declared.Presence.{Presence}
 use Rattle.lf_semantics.specs.Rows.{asked_of}
 use Rattle.lf_semantics.specs.Table.{either, nowhere, aggregated, known, row_of}
-use Rattle.lf_semantics.proofs.At.{known_selector, known_aggregate}
+use Rattle.lf_semantics.proofs.At.{known_selector, known_aggregate, rows_same}
 
 nothing : Span
 nothing = record { start = 0; end = 0 }
@@ -34,10 +34,6 @@ everywhere = record { may_be_present = true; may_be_absent = false }
 -- each label of the list
 four : List Bytes
 four = codes "__name__" ∷ codes "job" ∷ codes "env" ∷ codes "*" ∷ []
-
-rows_same : (e : Expr) (f : Bytes → Presence) → ((label : Bytes) → known (asked_of label) e ≡ f label) → (labels : List Bytes) → row_of labels e ≡ map f labels
-rows_same e f h [] = refl
-rows_same e f h (label ∷ labels) = ap (λ p. p ∷ row_of labels e) (h label) ∙ ap (λ l. f label ∷ l) (rows_same e f h labels)
 
 row_of_foo : row_of four foo ≡ everywhere ∷ either ∷ everywhere ∷ either ∷ []
 unfolding foo four everywhere

@@ -42,7 +42,7 @@ PassesName (Some name) s = value_of s metric ≡ name
 
 -- the list names the label
 abbrev pub is_named : List Name → Bytes → Bool
-is_named names label = list_any (λ n. bytes_eq n.text label) names
+is_named names label = list_any (λ n. bytes_eq label n.text) names
 
 -- `sum by (names)` gives one sample for each group of the operand's samples: what they have of the labels that are named. So an empty operand gives nothing
 abbrev pub aggregates : Agg → Grouping → Gives → Gives
