@@ -37,10 +37,17 @@ step_wide rules S N (first ∷ steps) run step c = elim (first_or_behind first s
   | inr d ↦ step_wide rules S (N ++ added first) steps run.2 step d
 ]
 
--- in every world each sample of a rule lies in the row of the rule's expression
-pub sample_lies : (labels : List Bytes) (rules : List Rule) (rule : Rule) → Covers labels rule.expr → (world : World rules) (s : Labels) → IsSample world rule s → Lies labels (row_of labels rule.expr) s
-sample_lies labels rules rule covers world s sample =
-    let step = sample.0 in
-    let wide = step_wide rules world.series [] world.steps world.run step sample.1 in
-    let P : Rule → Type 0 = λ r. Wide world.series wide.0 r.expr step.gives in
-    lies labels rule.expr covers world.series wide.0 step.gives s (subst P sample.2 wide.1) sample.3
+module _ (labels : List Bytes) (rules : List Rule) (rule : Rule) (covers : Covers labels rule.expr) (world : World rules) (s : Labels) (sample : IsSample world rule s) where
+  sample_wide : (M : List Labels) × Wide world.series M rule.expr sample.0.gives
+  sample_wide =
+      let wide = step_wide rules world.series [] world.steps world.run sample.0 sample.1 in
+      let P : Rule → Type 0 = λ r. Wide world.series wide.0 r.expr sample.0.gives in
+      (wide.0, subst P sample.2 wide.1)
+
+  -- in every world each sample of a rule lies in the row of the rule's expression
+  pub sample_lies : Lies labels (row_of labels rule.expr) s
+  sample_lies = lies labels rule.expr covers world.series sample_wide.0 sample.0.gives s sample_wide.1 sample.3
+
+  -- the same at one name
+  pub sample_allows : (label name : Bytes) → SpeaksOf labels label name → Allows (known (asked_of label) rule.expr) (value_of s name)
+  sample_allows label name speaks = allows labels rule.expr covers world.series sample_wide.0 sample.0.gives s sample_wide.1 sample.3 (asked_of label) name speaks
