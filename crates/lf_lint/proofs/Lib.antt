@@ -14,4 +14,5 @@ pub mod Rules
 mod ShortLists
 pub mod ShownNames
 mod Streams
+pub mod Truths
 pub mod Worked

@@ -1,7 +1,9 @@
 pub mod Asks
 pub mod Ends
+pub mod Expressions
 pub mod Findings
 pub mod FirstForm
 pub mod FirstPieces
+pub mod Headline
 pub mod Report
 pub mod Statuses

@@ -9,6 +9,10 @@ use Rattle.lf_lint.specs.declared.asked.Asked.{Asked}
 use Rattle.lf_lint.specs.declared.first_rule.FirstRule.{FirstRule}
 use Rattle.lf_lint.specs.declared.report.verdict.Verdict.{Verdict}
 use Rattle.lf_lint.specs.declared.report.verdict.Verdict.TheVariants.{Guaranteed, Impossible, Unresolved}
+use Rattle.lf_semantics.specs.declared.Presence.{Presence}
+use Rattle.lf_semantics.specs.Rows.{asked_of}
+use Rattle.lf_semantics.specs.Table.{known}
+use Rattle.lf_lint.specs.Expressions.{expr_of}
 use Rattle.lf_lint.specs.FirstForm.{Bytes, lines_text}
 
 -- the text is one of these
@@ -28,9 +32,13 @@ matched_labels r = map (λ m. m.label) r.matchers
 abbrev pub universe_of : FirstRule → List Bytes
 universe_of r = codes "__name__" ∷ first_seen (r.labels ++ matched_labels r) ++ codes "*" ∷ []
 
--- a label that `by` doesn't name is on no sample; one that it names is on every sample if a matcher gives it a text
-abbrev pub verdict_of : FirstRule → Bytes → Verdict
-verdict_of r label = if stands_in r.labels label then (if stands_in (matched_labels r) label then Guaranteed else Unresolved) else Impossible
+-- guaranteed where absence is ruled out, impossible where presence is, and unresolved where neither is
+abbrev pub verdict_from : Presence → Verdict
+verdict_from known = if known.may_be_absent then (if known.may_be_present then Unresolved else Impossible) else Guaranteed
+
+-- the verdict on a label, by the row of the rule's expression
+unfoldable pub verdict_of : FirstRule → Bytes → Verdict
+verdict_of r label = verdict_from (known (asked_of label) (expr_of r))
 
 abbrev pub is_guaranteed : Verdict → Bool
 is_guaranteed Guaranteed = true

@@ -5,6 +5,7 @@ ghost use Rattle.lf_lint.specs.declared.first_rule.FirstRule.{FirstRule};
 ghost use Rattle.lf_lint.specs.Asks.{Asks};
 ghost use Rattle.lf_lint.specs.Ends.{IsReport, IsSilent, IsTooLong, WroteAll, WrotePart};
 ghost use Rattle.lf_lint.specs.FirstForm.{Holds};
+ghost use Rattle.lf_lint.specs.Headline.{WroteTruth};
 ghost use Rattle.lf_lint.specs.Report.{report_of};
 
 use crate::reading::{ReadEnd, read_whole};
@@ -44,6 +45,9 @@ pub fn lint<R: Threads + Sync, F: Files, O: Sink, G: Gate + Sync>(
     ensures refused { result ≡ Status.Refused → WroteAll (map string_bytes words.now) (F.held files.old) (O.taken out.old) (O.taken out.new) true }
     ensures write { result ≡ Status.Write → (O.faults out.old < O.faults out.new) × WrotePart (map string_bytes words.now) (F.held files.old) (O.taken out.old) (O.taken out.new) }
     ensures never { result ≢ Status.Problems }
+
+    // What the report says of labels is true of every run.
+    ensures headline { result ≡ Status.Clean → WroteTruth (map string_bytes words.now) (F.held files.old) (O.taken out.old) (O.taken out.new) }
 
     // There is one report for a list of words and the bytes of a file.
     ensures one_report { (bytes a b : List ℕ) → IsReport (map string_bytes words.now) bytes a → IsReport (map string_bytes words.now) bytes b → a ≡ b }

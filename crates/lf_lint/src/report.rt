@@ -4,8 +4,8 @@ ghost use Rattle.lf_lint.specs.FirstForm.{lines_text};
 ghost use Rattle.lf_lint.specs.Report.{refused_line, report_of, rule_lines, totals_line, universe_of, verdict_of, verdicts_line, with_labels};
 
 mod finding;
-mod label_set;
 mod lines;
+mod listing;
 mod shown;
 mod verdict;
 
@@ -13,6 +13,7 @@ use crate::report::finding::findings;
 use crate::report::lines::{
     push_label_lines, push_refused_line, push_rule_line, push_totals_line, push_verdicts_line,
 };
+use crate::report::listing::universe;
 use crate::report::shown::shown_name;
 use crate::{Asked, FirstRule};
 use lf_base::{Memory, Text};
@@ -49,7 +50,8 @@ fn refused_report(alloc: Global, name: &str, labels: bool) -> Result<Text, Memor
 fn labels_report(alloc: Global, name: &str, rule: &FirstRule) -> Result<Text, Memory>
     ensures { IfOk result (λ text. text ≡ lines_text (rule_lines name.now rule.now ++ totals_line 0 1 ∷ verdicts_line (map (verdict_of rule.now) (universe_of rule.now)) ∷ [])) }
 {
-    let found = findings(alloc, rule)?;
+    let labels = universe(alloc, rule)?;
+    let found = findings(alloc, &labels, rule)?;
     let mut report = Text::of(alloc, "")?;
     push_rule_line(&mut report, name, rule.name.as_str())?;
     push_label_lines(&mut report, name, found.as_slice())?;

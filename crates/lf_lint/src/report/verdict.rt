@@ -13,7 +13,20 @@ pub enum Verdict {
 }
 
 impl Verdict {
-    ghost use Rattle.lf_lint.specs.Report.{is_guaranteed, is_impossible, is_unresolved};
+    ghost use Rattle.lf_lint.specs.Report.{is_guaranteed, is_impossible, is_unresolved, verdict_from};
+
+    /// What is said of a label that may be on a sample or not, and may be lacking on one or not.
+    pub fn of(may_be_present: bool, may_be_absent: bool) -> Verdict
+        ensures { result ≡ verdict_from (record { may_be_present = may_be_present; may_be_absent = may_be_absent }) }
+    {
+        if !may_be_absent {
+            return Verdict::Guaranteed;
+        }
+        if !may_be_present {
+            return Verdict::Impossible;
+        }
+        Verdict::Unresolved
+    }
 
     /// Whether the label is on every sample.
     pub fn is_guaranteed(&self) -> bool

@@ -1,5 +1,6 @@
-use Rattle.std.proofs.Common.{◌≡◌, ◌+◌, refl, arith}
+use Rattle.std.proofs.Common.{rules, ◌≡◌, ◌+◌, refl, arith}
 use Rattle.lf_lint.proofs.OneReport.{one_report}
+use Rattle.lf_lint.proofs.Truths.{wrote_truth}
 use Rattle.lf_lint.proofs.linting.lint.Goals as goal
 
 pub returns-in-Err-Failed-clause-files_calm : goal.returns-in-Err-Failed-clause-files_calm
@@ -35,3 +36,6 @@ returns-in-Ok-write_whole-clause-one_report g c = one_report _
 
 pub returns-clause-one_report : goal.returns-clause-one_report
 returns-clause-one_report g c = one_report _
+
+pub returns-clause-headline : goal.returns-clause-headline
+returns-clause-headline g c = λ e. wrote_truth _ _ _ _ (search rules)
