@@ -17,7 +17,7 @@ use Rattle.lf_ast.specs.declared.expr.Grouping.{Grouping}
 use Rattle.lf_ast.specs.declared.expr.Grouping.TheVariants.{None as Ungrouped, By, Without}
 use Rattle.lf_semantics.specs.declared.Presence.{Presence}
 use Rattle.lf_semantics.specs.Texts.{value_of, restricted}
-use Rattle.lf_semantics.specs.Wide.{Gives, gives_at, wide_layer, Wide, aggregates, is_named}
+use Rattle.lf_semantics.specs.Wide.{Gives, AnySet, gives_at, wide_layer, Wide, aggregates, is_named}
 use Rattle.lf_semantics.specs.Rows.{Allows}
 use Rattle.lf_semantics.specs.Table.{either, nowhere, selected, keeps, aggregated, known_at, known_layer, known, grouped, names_at, names_layer, names_of}
 use Rattle.lf_semantics.proofs.Layers.{wide-roll}
@@ -120,20 +120,20 @@ module _ (S N : List Labels) where
     names_first args = names_at (slice_get (map (λ (a : Expr × List Bytes). a.1) (map (λ (y : Expr). (y, names_of y)) (map whole args))) 0)
 
     good_argument : (args : List X) → AreKnown (gives_at S N Expr (Wide S N) (slice_get (map whole args) 0)) (known_first args) (names_first args)
-    good_argument [] = all_either (λ R. Unit {0}) []
+    good_argument [] = all_either AnySet []
     good_argument (x ∷ args) = h x
 
     good_at : (y : Expr-F X) → GoodAt (map-Expr X Expr whole y)
-    good_at (Number text span) = all_either (λ R. Unit {0}) []
-    good_at (Str text span) = all_either (λ R. Unit {0}) []
+    good_at (Number text span) = all_either AnySet []
+    good_at (Str text span) = all_either AnySet []
     good_at (Selector name matchers sight span) = λ R s w inside.
         let passes = w s inside in
         (λ label. selector_allows s label name matchers passes.1 passes.2, λ label other. either_allows (value_of s label))
-    good_at (Subquery of sight span) = all_either (λ R. Unit {0}) []
+    good_at (Subquery of sight span) = all_either AnySet []
     good_at (Paren of span) = h of.value
-    good_at (Unary minus of span) = all_either (λ R. Unit {0}) []
-    good_at (Binary op m left right span) = all_either (λ R. Unit {0}) []
-    good_at (Call name args span) = all_either (λ R. Unit {0}) []
+    good_at (Unary minus of span) = all_either AnySet []
+    good_at (Binary op m left right span) = all_either AnySet []
+    good_at (Call name args span) = all_either AnySet []
     good_at (Aggregate op grouping args span) = known_aggregate op grouping (gives_at S N Expr (Wide S N) (slice_get (map whole args) 0)) (known_first args) (names_first args) (good_argument args)
 
   pub sound : (e : Expr) → Good e
