@@ -4,5 +4,6 @@ pub mod Lying
 pub mod Members
 pub mod Restricted
 pub mod Selectors
+pub mod Sets
 pub mod Sound
 pub mod Worked
