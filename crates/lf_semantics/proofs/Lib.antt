@@ -1,4 +1,5 @@
 pub mod At
+pub mod Kept
 pub mod Layers
 pub mod Lying
 pub mod Members

@@ -57,8 +57,7 @@ known_sum : (listed : List Name) (gives : Gives) (of : Option Bytes → Presence
 known_sum listed gives of names h R r w inside =
     let from = w.2.1 r inside in
     let operand = h w.0 from.0 w.1 from.1 in
-    let text : (name : Bytes) → value_of r name ≡ cond (is_named listed name) (value_of from.0 name) [] = λ name. ap (λ x. value_of x name) from.2 ∙ value-restricted (is_named listed) from.0 name in
-    (
+    let text : (name : Bytes) → value_of r name ≡ cond (is_named listed name) (value_of from.0 name) [] = λ name. ap (λ x. value_of x name) from.2 ∙ value-restricted (is_named listed) from.0 name in (
       λ name.
           let P : Bytes → Type 0 = λ t. Allows (cond (is_named listed name) (of (Some name)) nowhere) t in
           subst P (sym (text name)) (kept_allows (is_named listed name) (of (Some name)) (value_of from.0 name) (operand.0 name)),
@@ -103,8 +102,7 @@ module _ (S N : List Labels) where
       let W : Gives → Type 0 = λ g. g R in
       let now = h R s (subst W (wide-roll S N z) w) inside in
       let row : (label : Option Bytes) → known label (roll-Expr z) ≡ known_here z label = λ label. para-roll-Expr Presence (known_layer label) z in
-      let names : names_of (roll-Expr z) ≡ names_here z = para-roll-Expr (List Bytes) names_layer z in
-      (
+      let names : names_of (roll-Expr z) ≡ names_here z = para-roll-Expr (List Bytes) names_layer z in (
         λ name. let P : Presence → Type 0 = λ p. Allows p (value_of s name) in subst P (sym (row (Some name))) (now.0 name),
         λ name other.
             let P : Presence → Type 0 = λ p. Allows p (value_of s name) in
