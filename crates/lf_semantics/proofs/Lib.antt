@@ -8,3 +8,4 @@ pub mod Selectors
 pub mod Sets
 pub mod Sound
 pub mod Worked
+pub mod WorkedRuns
