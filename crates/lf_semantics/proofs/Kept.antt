@@ -1,6 +1,5 @@
 -- What keeps the texts of a label set from being empty.
-use Rattle.std.proofs.Common.{◌≡◌, ◌≢◌, Bool, true, false, cond, List, [], ◌∷◌, map, Option, Some, None, refl, sym, ◌∙◌, ap, subst}
-use Rattle.std.specs.List.{Contains}
+use Rattle.std.proofs.Common.{◌≡◌, ◌≢◌, Bool, true, false, cond, List, [], ◌∷◌, Option, Some, None, refl, sym, ◌∙◌, ap, subst}
 use Rattle.std.specs.Str.{bytes_eq}
 use Rattle.std.specs.Ordering.{nat_cmp, eq_by_cmp}
 use Rattle.std.specs.Cmp.Lexicographic.{slice_cmp, nat_list_cmp_total}
@@ -10,7 +9,6 @@ use Rattle.lf_ast.specs.declared.rule.Rule.{Rule}
 use Rattle.lf_ast.specs.declared.rule.RuleLabel.{RuleLabel}
 use Rattle.lf_semantics.specs.Texts.{HasTexts, metric, restricted, with_label}
 use Rattle.lf_semantics.specs.Runs.{with_labels, stored}
-use Rattle.lf_semantics.proofs.Members.{true_same}
 
 -- an answer that isn't an empty text
 abbrev IsNoEmptyText : Option Bytes → Type 0

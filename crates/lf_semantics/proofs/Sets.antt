@@ -1,5 +1,5 @@
 -- Laws of the sets that an expression may give.
-use Rattle.std.proofs.Common.{◌≡◌, List, [], ◌∷◌, map, Option, ◌⊎◌, inl, inr, refl, sym, ◌∙◌, ap, subst}
+use Rattle.std.proofs.Common.{◌≡◌, List, [], ◌∷◌, map, Option, ◌⊎◌, inl, inr, sym, ◌∙◌, ap, subst}
 use Rattle.std.specs.List.{Contains}
 use Rattle.lf_ast.specs.Labels.{Bytes, Labels}
 use Rattle.lf_ast.specs.Layers.{by_layers}

@@ -1,9 +1,9 @@
 -- Each member of each set that an expression may give is as the row of the expression says.
-use Rattle.std.proofs.Common.{◌≡◌, ◌≢◌, ℕ, Bool, true, false, cond, ◌||◌, List, [], ◌∷◌, ◌++◌, map, Option, Some, None, ◌⊎◌, inl, inr, refl, sym, ◌∙◌, ap, subst}
+use Rattle.std.proofs.Common.{◌≡◌, Bool, true, false, cond, List, [], ◌∷◌, ◌++◌, map, Option, Some, None, inl, inr, refl, sym, ◌∙◌, ap, subst}
 use Rattle.std.specs.Prelude.{slice_get}
-use Rattle.std.specs.List.{Contains, list_any}
+use Rattle.std.specs.List.{Contains}
 use Rattle.std.specs.Str.{bytes_eq}
-use Rattle.std.proofs.lemmas.List.Elements.{Contains-append_left, Contains-append_right}
+use Rattle.std.proofs.lemmas.List.Elements.{Contains-append_left}
 use Rattle.lf_ast.specs.Labels.{Bytes, Labels}
 use Rattle.lf_ast.specs.Layers.{by_layers}
 use Rattle.lf_ast.specs.declared.expr.Expr.{Expr}
@@ -16,12 +16,12 @@ use Rattle.lf_ast.specs.declared.expr.Agg.TheVariants.{Sum, Min, Max, Avg, Group
 use Rattle.lf_ast.specs.declared.expr.Grouping.{Grouping}
 use Rattle.lf_ast.specs.declared.expr.Grouping.TheVariants.{None as Ungrouped, By, Without}
 use Rattle.lf_semantics.specs.declared.Presence.{Presence}
-use Rattle.lf_semantics.specs.Texts.{value_of, restricted}
+use Rattle.lf_semantics.specs.Texts.{value_of}
 use Rattle.lf_semantics.specs.Wide.{Gives, AnySet, gives_at, wide_layer, Wide, aggregates, is_named}
 use Rattle.lf_semantics.specs.Rows.{Allows}
-use Rattle.lf_semantics.specs.Table.{either, nowhere, selected, keeps, aggregated, known_at, known_layer, known, grouped, names_at, names_layer, names_of}
+use Rattle.lf_semantics.specs.Table.{either, nowhere, aggregated, known_at, known_layer, known, grouped, names_at, names_layer, names_of}
 use Rattle.lf_semantics.proofs.Layers.{wide-roll}
-use Rattle.lf_semantics.proofs.Members.{here, behind, same_true, true_same, not_true, or_cases}
+use Rattle.lf_semantics.proofs.Members.{here, behind, true_same, not_true, or_cases}
 use Rattle.lf_semantics.proofs.Restricted.{value-restricted}
 use Rattle.lf_semantics.proofs.Selectors.{selector_allows}
 

@@ -1,5 +1,5 @@
 -- Worked worlds: runs of `sum by (job) (foo{env="p"})`, recorded as `job:foo:sum`, and of a rule that reads it.
-use Rattle.std.proofs.Common.{◌≡◌, ◌≢◌, ℕ, Bool, true, false, not, cond, List, [], ◌∷◌, ◌++◌, map, Option, Some, None, codes, inl, inr, refl, sym, ◌∙◌, ap, subst}
+use Rattle.std.proofs.Common.{◌≡◌, ◌≢◌, Bool, true, false, not, cond, List, [], ◌∷◌, map, Option, Some, None, codes, inl, inr, refl, sym, ◌∙◌, ap, subst}
 use Rattle.std.specs.Option.{unwrap_or}
 use Rattle.std.specs.List.{Contains}
 use Rattle.std.specs.Str.{bytes_eq}
@@ -11,9 +11,7 @@ use Rattle.lf_ast.specs.Labels.{Bytes, Labels, HasNoEmptyText}
 use Rattle.lf_ast.proofs.LabelSets.{found_is_not_empty}
 use Rattle.std.specs.declared.cmp.Ordering.TheVariants.{Equal}
 use Rattle.lf_ast.specs.declared.expr.Expr.TheVariants as V
-use Rattle.lf_ast.specs.declared.expr.Expr.{Expr}
 use Rattle.lf_ast.specs.declared.rule.Rule.{Rule}
-use Rattle.lf_ast.specs.declared.rule.RuleLabel.{RuleLabel}
 use Rattle.lf_semantics.specs.Texts.{Has, HasTexts, metric, value_of, restricted}
 use Rattle.lf_semantics.specs.Wide.{is_named, Wide}
 use Rattle.lf_semantics.specs.Runs.{Step, stored, added, AreScraped, World, IsSample}
