@@ -30,7 +30,7 @@ member_map f (q ∷ Q) s c = elim (first_or_behind q Q s c) [
   | inr d ↦ behind (f q) (map f Q) (f s) (member_map f Q s d)
 ]
 
-map_member : (f : Labels → Labels) (Q : List Labels) (r : Labels) → Contains (map f Q) r → (s : Labels) × Contains Q s × (r ≡ f s)
+pub map_member : (f : Labels → Labels) (Q : List Labels) (r : Labels) → Contains (map f Q) r → (s : Labels) × Contains Q s × (r ≡ f s)
 map_member f [] r c = absurd (none_in r c)
 map_member f (q ∷ Q) r c = elim (first_or_behind (f q) (map f Q) r c) [
   | inl e ↦ (q, here q Q, sym e)
