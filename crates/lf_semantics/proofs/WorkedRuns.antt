@@ -244,3 +244,19 @@ stored_without_env = removed_entries (codes "env") ((metric, codes "a:two") ∷ 
 -- an alert records nothing
 pub alert_adds_nothing : (step : Step) → step.rule.alert ≡ true → added step ≡ []
 alert_adds_nothing step alert = ap (λ b. cond b [] (map (stored step.rule) step.gives)) alert
+
+first_counts : (b : Bool) (o p q : Option Bytes) → cond b o (cond b p q) ≡ cond b o q
+first_counts true o p q = refl
+first_counts false o p q = refl
+
+overwritten : (name new old : Bytes) (es : List (Bytes × Bytes)) → with_entries ((name, new) ∷ (name, old) ∷ es) ≡ with_entries ((name, new) ∷ es)
+overwritten name new old es = same_map nat_list_cmp_total apart_keys _ _ (λ q.
+    get-from_entries nat_list_cmp_total ((name, new) ∷ (name, old) ∷ es) q
+    ∙ first_counts (eq_by_cmp (slice_cmp nat_cmp) q name) (Some new) (Some old) (find (slice_cmp nat_cmp) q es)
+    ∙ sym (get-from_entries nat_list_cmp_total ((name, new) ∷ es) q))
+
+-- what the second rule stores of the sample that it reads has the second rule's name
+pub read_is_stored : added reading_step ≡ with_entries ((metric, codes "a:two") ∷ (codes "job", codes "v1") ∷ []) ∷ []
+read_is_stored = ap (λ s. s ∷ []) (
+    removed_entries (codes "env") ((metric, codes "a:two") ∷ recorded_sum)
+    ∙ overwritten metric (codes "a:two") (codes "job:foo:sum") only_job)
