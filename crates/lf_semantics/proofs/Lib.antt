@@ -1,8 +1,11 @@
 pub mod At
+pub mod Kept
 pub mod Layers
 pub mod Lying
 pub mod Members
 pub mod Restricted
 pub mod Selectors
+pub mod Sets
 pub mod Sound
 pub mod Worked
+pub mod WorkedRuns

@@ -1,31 +1,40 @@
 -- The table on worked expressions, by computation.
-use Rattle.std.proofs.Common.{◌≡◌, true, false, List, [], ◌∷◌, map, Some, None, codes, refl, ap, ◌∙◌}
+use Rattle.std.proofs.Common.{◌≡◌, true, false, List, [], ◌∷◌, map, Some, None, codes, ap, ◌∙◌}
 use Rattle.lf_ast.specs.Labels.{Bytes}
 use Rattle.lf_ast.specs.declared.expr.Expr.{Expr}
 use Rattle.lf_ast.specs.declared.expr.Expr.TheVariants as V
 use Rattle.lf_ast.specs.declared.expr.Agg.TheVariants.{Sum}
 use Rattle.lf_ast.specs.declared.expr.Grouping.TheVariants.{By}
+use Rattle.lf_ast.specs.declared.expr.Matcher.{Matcher}
 use Rattle.lf_ast.specs.declared.expr.MatchOp.TheVariants.{Equal}
 use Rattle.lf_ast.specs.declared.expr.Name.{Name}
+use Rattle.lf_ast.specs.declared.expr.Sight.{Sight}
 use Rattle.lf_base.specs.declared.place.Span.{Span}
 use Rattle.lf_semantics.specs.declared.Presence.{Presence}
 use Rattle.lf_semantics.specs.Rows.{asked_of}
 use Rattle.lf_semantics.specs.Table.{either, nowhere, aggregated, known, row_of}
 use Rattle.lf_semantics.proofs.At.{known_selector, known_aggregate, rows_same}
 
-nothing : Span
+unfoldable pub nothing : Span
 nothing = record { start = 0; end = 0 }
 
--- `foo{env="p"}`
-foo : Expr
-foo = V.Selector (Some (codes "foo")) (record { label = codes "env"; op = Equal; value = codes "p"; label_span = nothing; value_span = nothing } ∷ [])
-    (record { range = None; step = None; offset = None; at = None; range_span = nothing }) nothing
+-- `env="p"`
+abbrev pub asks_env : Matcher
+asks_env = record { label = codes "env"; op = Equal; value = codes "p"; label_span = nothing; value_span = nothing }
 
-named : Bytes → Name
+-- at the time of evaluation, and no range
+abbrev pub at_once : Sight
+at_once = record { range = None; step = None; offset = None; at = None; range_span = nothing }
+
+-- `foo{env="p"}`
+unfoldable pub foo : Expr
+foo = V.Selector (Some (codes "foo")) (asks_env ∷ []) at_once nothing
+
+unfoldable pub named : Bytes → Name
 named label = record { text = label; span = nothing }
 
 -- `sum by (labels) (foo{env="p"})`
-sum_of_foo : List Bytes → Expr
+unfoldable pub sum_of_foo : List Bytes → Expr
 sum_of_foo labels = V.Aggregate Sum (By (map named labels)) (foo ∷ []) nothing
 
 everywhere : Presence

@@ -1,7 +1,7 @@
 -- Which finite sets of label sets an expression may give, over the scraped series and the recorded samples. No value of a sample is computed.
 --
--- A construct that has no meaning here yet may give any set, and a matcher that has none passes any text: nothing is claimed of them.
-use Rattle.std.specs.Prelude.{◌≡◌, ℕ, Bool, ◌⊎◌, List, [], ◌∷◌, Option, Some, None, slice_get}
+-- A construct that has no meaning here yet may give any set of label sets whose texts aren't empty, and a matcher that has none passes any text: nothing else is claimed of them.
+use Rattle.std.specs.Prelude.{◌≡◌, Bool, ◌⊎◌, List, Option, Some, None, slice_get}
 use Rattle.std.specs.List.{Contains, AllByRecursion, list_any}
 use Rattle.std.specs.Str.{bytes_eq}
 use Rattle.lf_ast.specs.Labels.{Bytes, Labels}
@@ -16,11 +16,15 @@ use Rattle.lf_ast.specs.declared.expr.Grouping.{Grouping}
 use Rattle.lf_ast.specs.declared.expr.Grouping.TheVariants.{By}
 use Rattle.lf_ast.specs.declared.expr.Agg.{Agg}
 use Rattle.lf_ast.specs.declared.expr.Agg.TheVariants.{Sum}
-use Rattle.lf_semantics.specs.Texts.{metric, value_of, restricted}
+use Rattle.lf_semantics.specs.Texts.{HasTexts, metric, value_of, restricted}
 
 -- which sets may be given; a set is a list up to membership
 abbrev pub Gives : Type 1
 Gives = List Labels → Type 0
+
+-- any set, so long as no text of a member is empty: what is claimed of a construct without meaning
+abbrev pub AnySet : Gives
+AnySet R = (s : Labels) → Contains R s → HasTexts s
 
 -- R has as its members what f makes of those of Q
 abbrev pub IsImage : (Labels → Labels) → List Labels → List Labels → Type 0
@@ -47,12 +51,12 @@ is_named names label = list_any (λ n. bytes_eq label n.text) names
 -- `sum by (names)` gives one sample for each group of the operand's samples: what they have of the labels that are named. So an empty operand gives nothing
 abbrev pub aggregates : Agg → Grouping → Gives → Gives
 aggregates Sum (By names) operand R = (Q : List Labels) × operand Q × IsImage (restricted (is_named names)) Q R
-aggregates _ _ operand R = Unit {0}
+aggregates _ _ operand R = AnySet R
 
 -- One layer. `gives` says what each operand may give.
 module _ (S N : List Labels) (X : Type 0) (gives : X → Gives) where
   abbrev pub gives_at : Option X → Gives
-  gives_at None R = Unit {0}
+  gives_at None R = AnySet R
   gives_at (Some x) R = gives x R
 
   abbrev pub wide_layer : Expr-F X → Gives
@@ -61,7 +65,7 @@ module _ (S N : List Labels) (X : Type 0) (gives : X → Gives) where
       (s : Labels) → Contains R s → (Contains S s ⊎ Contains N s) × PassesName name s × PassesAll matchers s
   wide_layer (Paren of span) R = gives of.value R
   wide_layer (Aggregate op grouping args span) R = aggregates op grouping (gives_at (slice_get args 0)) R
-  wide_layer _ R = Unit {0}
+  wide_layer _ R = AnySet R
 
 -- `Wide S N e R`: over the scraped series S and the recorded samples N, the expression e may give the set R
 abbrev pub Wide : List Labels → List Labels → Expr → Gives
