@@ -1,5 +1,5 @@
 -- What is known of a label, and which labels are named, at each construct as the code builds and reads it.
-use Rattle.std.proofs.Common.{◌≡◌, zero, suc, List, [], ◌∷◌, ◌++◌, map, length, Option, Some, None, refl, sym, ◌∙◌, ap, arith}
+use Rattle.std.proofs.Common.{◌≡◌, List, [], ◌∷◌, ◌++◌, map, length, Option, Some, refl, sym, ◌∙◌, ap, arith}
 use Rattle.std.specs.Prelude.{slice_get}
 use Rattle.std.specs.declared.boxed.Box.{Box}
 use Rattle.std.specs.declared.alloc.Global.{Global}
@@ -15,7 +15,7 @@ use Rattle.lf_ast.specs.declared.expr.Grouping.{Grouping}
 use Rattle.lf_base.specs.declared.place.Span.{Span}
 use Rattle.lf_semantics.specs.declared.Presence.{Presence}
 use Rattle.lf_semantics.specs.Rows.{asked_of}
-use Rattle.lf_semantics.specs.Table.{selected, aggregated, either, known_at, known_layer, known, row_of, grouped, names_at, names_layer, names_of}
+use Rattle.lf_semantics.specs.Table.{selected, aggregated, either, known_layer, known, row_of, grouped, names_layer, names_of}
 
 module _ (label : Option Bytes) where
   pub known_selector : (name : Option Bytes) (matchers : List Matcher) (sight : Sight) (span : Span) → known label (V.Selector name matchers sight span) ≡ selected name matchers label

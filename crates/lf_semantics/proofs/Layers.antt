@@ -1,5 +1,5 @@
 -- What an expression may give, at one of its layers.
-use Rattle.std.proofs.Common.{◌≡◌, ℕ, zero, suc, List, [], ◌∷◌, map, Option, Some, None, refl, ap}
+use Rattle.std.proofs.Common.{◌≡◌, ℕ, zero, suc, List, [], ◌∷◌, map, refl, ap}
 use Rattle.std.specs.Prelude.{slice_get}
 use Rattle.lf_ast.specs.Labels.{Labels}
 use Rattle.lf_ast.specs.declared.expr.Expr.{Expr}

@@ -1,5 +1,5 @@
 -- Each member of each set that an expression may give lies in the row of the expression, and so does each sample of a run.
-use Rattle.std.proofs.Common.{◌≡◌, ◌≢◌, List, [], ◌∷◌, ◌++◌, map, Option, Some, None, ◌⊎◌, inl, inr, refl, sym, ap, subst}
+use Rattle.std.proofs.Common.{List, [], ◌∷◌, ◌++◌, map, Option, Some, None, inl, inr, sym, subst}
 use Rattle.std.specs.List.{Contains, AllZip}
 use Rattle.lf_ast.specs.Labels.{Bytes, Labels}
 use Rattle.lf_ast.specs.declared.expr.Expr.{Expr}
@@ -9,7 +9,7 @@ use Rattle.lf_semantics.specs.Texts.{value_of}
 use Rattle.lf_semantics.specs.Wide.{Wide}
 use Rattle.lf_semantics.specs.Rows.{Allows, asked_of, Speaks, SpeaksOf, Lies}
 use Rattle.lf_semantics.specs.Runs.{Step, IsRunFrom, added, World, IsSample}
-use Rattle.lf_semantics.specs.Table.{known, row_of, names_of, Covers}
+use Rattle.lf_semantics.specs.Table.{known, row_of, Covers}
 use Rattle.lf_semantics.proofs.Members.{none_in, first_or_behind}
 use Rattle.lf_semantics.proofs.Sound.{sound}
 

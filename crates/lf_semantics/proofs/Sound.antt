@@ -1,9 +1,9 @@
 -- Each member of each set that an expression may give is as the row of the expression says.
-use Rattle.std.proofs.Common.{◌≡◌, ◌≢◌, ℕ, Bool, true, false, cond, ◌||◌, List, [], ◌∷◌, ◌++◌, map, Option, Some, None, ◌⊎◌, inl, inr, refl, sym, ◌∙◌, ap, subst}
+use Rattle.std.proofs.Common.{◌≡◌, Bool, true, false, cond, List, [], ◌∷◌, ◌++◌, map, Option, Some, None, inl, inr, refl, sym, ◌∙◌, ap, subst}
 use Rattle.std.specs.Prelude.{slice_get}
-use Rattle.std.specs.List.{Contains, list_any}
+use Rattle.std.specs.List.{Contains}
 use Rattle.std.specs.Str.{bytes_eq}
-use Rattle.std.proofs.lemmas.List.Elements.{Contains-append_left, Contains-append_right}
+use Rattle.std.proofs.lemmas.List.Elements.{Contains-append_left}
 use Rattle.lf_ast.specs.Labels.{Bytes, Labels}
 use Rattle.lf_ast.specs.Layers.{by_layers}
 use Rattle.lf_ast.specs.declared.expr.Expr.{Expr}
@@ -16,12 +16,12 @@ use Rattle.lf_ast.specs.declared.expr.Agg.TheVariants.{Sum, Min, Max, Avg, Group
 use Rattle.lf_ast.specs.declared.expr.Grouping.{Grouping}
 use Rattle.lf_ast.specs.declared.expr.Grouping.TheVariants.{None as Ungrouped, By, Without}
 use Rattle.lf_semantics.specs.declared.Presence.{Presence}
-use Rattle.lf_semantics.specs.Texts.{value_of, restricted}
+use Rattle.lf_semantics.specs.Texts.{value_of}
 use Rattle.lf_semantics.specs.Wide.{Gives, gives_at, wide_layer, Wide, aggregates, is_named}
 use Rattle.lf_semantics.specs.Rows.{Allows}
-use Rattle.lf_semantics.specs.Table.{either, nowhere, selected, keeps, aggregated, known_at, known_layer, known, grouped, names_at, names_layer, names_of}
+use Rattle.lf_semantics.specs.Table.{either, nowhere, aggregated, known_at, known_layer, known, grouped, names_at, names_layer, names_of}
 use Rattle.lf_semantics.proofs.Layers.{wide-roll}
-use Rattle.lf_semantics.proofs.Members.{here, behind, same_true, true_same, not_true, or_cases}
+use Rattle.lf_semantics.proofs.Members.{here, behind, true_same, not_true, or_cases}
 use Rattle.lf_semantics.proofs.Restricted.{value-restricted}
 use Rattle.lf_semantics.proofs.Selectors.{selector_allows}
 
@@ -57,8 +57,7 @@ known_sum : (listed : List Name) (gives : Gives) (of : Option Bytes → Presence
 known_sum listed gives of names h R r w inside =
     let from = w.2.1 r inside in
     let operand = h w.0 from.0 w.1 from.1 in
-    let text : (name : Bytes) → value_of r name ≡ cond (is_named listed name) (value_of from.0 name) [] = λ name. ap (λ x. value_of x name) from.2 ∙ value-restricted (is_named listed) from.0 name in
-    (
+    let text : (name : Bytes) → value_of r name ≡ cond (is_named listed name) (value_of from.0 name) [] = λ name. ap (λ x. value_of x name) from.2 ∙ value-restricted (is_named listed) from.0 name in (
       λ name.
           let P : Bytes → Type 0 = λ t. Allows (cond (is_named listed name) (of (Some name)) nowhere) t in
           subst P (sym (text name)) (kept_allows (is_named listed name) (of (Some name)) (value_of from.0 name) (operand.0 name)),
@@ -103,8 +102,7 @@ module _ (S N : List Labels) where
       let W : Gives → Type 0 = λ g. g R in
       let now = h R s (subst W (wide-roll S N z) w) inside in
       let row : (label : Option Bytes) → known label (roll-Expr z) ≡ known_here z label = λ label. para-roll-Expr Presence (known_layer label) z in
-      let names : names_of (roll-Expr z) ≡ names_here z = para-roll-Expr (List Bytes) names_layer z in
-      (
+      let names : names_of (roll-Expr z) ≡ names_here z = para-roll-Expr (List Bytes) names_layer z in (
         λ name. let P : Presence → Type 0 = λ p. Allows p (value_of s name) in subst P (sym (row (Some name))) (now.0 name),
         λ name other.
             let P : Presence → Type 0 = λ p. Allows p (value_of s name) in

@@ -1,5 +1,5 @@
 -- Rows: for each label of a list, whether it may be present and whether it may be absent.
-use Rattle.std.specs.Prelude.{◌≡◌, ◌≢◌, Bool, true, false, List, [], ◌∷◌, Option, Some, None, codes, if◌then◌else◌}
+use Rattle.std.specs.Prelude.{◌≡◌, ◌≢◌, true, List, [], Option, Some, None, codes, if◌then◌else◌}
 use Rattle.std.specs.List.{Contains, AllZip}
 use Rattle.std.specs.Str.{bytes_eq}
 use Rattle.lf_ast.specs.Labels.{Bytes, Labels}

@@ -1,7 +1,7 @@
 -- Runs: rules evaluated one after another, in any order and any number of times.
-use Rattle.std.specs.Prelude.{◌≡◌, ◌≢◌, Bool, false, cond, List, [], ◌∷◌, ◌++◌, map}
+use Rattle.std.specs.Prelude.{◌≡◌, ◌≢◌, false, cond, List, [], ◌∷◌, ◌++◌, map}
 use Rattle.std.specs.List.{Contains}
-use Rattle.lf_ast.specs.Labels.{Bytes, Labels}
+use Rattle.lf_ast.specs.Labels.{Labels}
 use Rattle.lf_ast.specs.declared.rule.Rule.{Rule}
 use Rattle.lf_ast.specs.declared.rule.RuleLabel.{RuleLabel}
 use Rattle.lf_semantics.specs.Texts.{HasTexts, metric, value_of, with_label}

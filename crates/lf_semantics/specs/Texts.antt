@@ -1,5 +1,5 @@
 -- The texts of label sets. A label that is absent counts as the empty text.
-use Rattle.std.specs.Prelude.{◌≡◌, ◌≢◌, ℕ, Bool, List, [], ◌∷◌, Option, Some, None, cond, codes}
+use Rattle.std.specs.Prelude.{◌≡◌, ◌≢◌, Bool, [], Some, cond, codes}
 use Rattle.std.specs.Option.{unwrap_or}
 use Rattle.std.specs.Str.{bytes_eq}
 use Rattle.std.specs.FinMap.{get, insert, remove, retain_keys}
