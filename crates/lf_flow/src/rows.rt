@@ -50,7 +50,10 @@ fn row_from(alloc: Global, labels: &[Text], expr: &Expr) -> Result<Vec<Presence>
         }
         Expr::Paren { of, .. } => row_from(alloc, labels, of),
         Expr::Aggregate {
-            op, grouping, args, ..
+            op,
+            grouping,
+            args,
+            ..
         } => {
             if args.len() == 0 {
                 let row = unknown_row(alloc, labels)?;

@@ -1,5 +1,5 @@
 -- What a listing lists once one more label was put to it, and the findings on a list of labels.
-use Rattle.std.proofs.Common.{◌≡◌, ℕ, ◌+◌, ◌<◌, Bool, true, false, ◌||◌, length, get_or, take, zero, suc, subst, append_assoc, List, [], ◌∷◌, ◌++◌, map, refl, sym, ap, ◌∙◌, codes, if◌then◌else◌, Option, Some, arith}
+use Rattle.std.proofs.Common.{◌≡◌, ℕ, ◌+◌, ◌<◌, Bool, true, false, ◌||◌, length, get_or, take, zero, suc, subst, append_assoc, List, [], ◌∷◌, ◌++◌, map, refl, sym, ap, ◌∙◌, codes, if◌then◌else◌, Some, arith}
 use Rattle.std.specs.Prelude.{slice_get}
 use Rattle.std.proofs.lemmas.List.{map-append, map_more, take_more}
 use Rattle.std.specs.Str.{bytes_eq}

@@ -1,15 +1,14 @@
 -- Each claim of a report on the labels of a rule is true.
-use Rattle.std.proofs.Common.{◌≡◌, ◌≢◌, ◌↔◌, ℕ, Bool, true, false, not, ◌&&◌, ◌||◌, cond, List, [], ◌∷◌, ◌++◌, map, Option, Some, None, is_none, ◌⊎◌, inl, inr, refl, sym, ◌∙◌, ap, subst, codes, if◌then◌else◌, append_assoc}
+use Rattle.std.proofs.Common.{◌≡◌, ◌≢◌, ◌↔◌, Bool, true, false, not, ◌&&◌, cond, List, [], ◌∷◌, ◌++◌, map, Option, Some, None, is_none, inl, inr, refl, sym, ◌∙◌, ap, subst, codes, if◌then◌else◌}
 use Rattle.std.specs.List.{AllByRecursion, Contains, filter, list_all}
 use Rattle.std.specs.Str.{bytes_eq}
-use Rattle.std.proofs.lemmas.List.Elements.{Contains-append_left, Contains-append_right, Contains-append_cases}
+use Rattle.std.proofs.lemmas.List.Elements.{Contains-append_left, Contains-append_cases}
 use Rattle.lf_ast.specs.Labels.{Labels}
 use Rattle.lf_ast.specs.declared.expr.Agg.TheVariants.{Sum}
-use Rattle.lf_ast.specs.declared.expr.Expr.{Expr}
 use Rattle.lf_ast.specs.declared.expr.Grouping.TheVariants.{By}
 use Rattle.lf_semantics.specs.declared.Presence.{Presence}
-use Rattle.lf_semantics.specs.Texts.{Has, value_of}
-use Rattle.lf_semantics.specs.Rows.{Allows, SpeaksOf, asked_of, every_other}
+use Rattle.lf_semantics.specs.Texts.{value_of}
+use Rattle.lf_semantics.specs.Rows.{Allows, asked_of, every_other}
 use Rattle.lf_semantics.specs.Runs.{World, IsSample}
 use Rattle.lf_semantics.specs.Table.{Covers, either, known, names_of}
 use Rattle.lf_semantics.proofs.At.{names_selector, names_aggregate}
@@ -169,6 +168,7 @@ wrote_truth words held before now all = by all.1 all.2 all.3 all.4
   where
     asked : Asked
     asked = all.0
+
     by : (found : Option FirstRule) → Judged words held asked found → is_none found ≡ false → Wrote before now (report_of asked found) → WroteTruth words held before now
     by None judged some wrote = cc
     by (Some r) judged some wrote = (asked, r, judged, λ labels. (report_of asked (Some r), wrote, true_report asked judged.bytes r judged.holds labels))

@@ -1,5 +1,5 @@
 -- The expression and the rule of a file of the first form, as the definitions of meaning take them. No place inside a rule of the form is told, so each span is empty.
-use Rattle.std.specs.Prelude.{false, List, [], ◌∷◌, map, Option, Some, None}
+use Rattle.std.specs.Prelude.{false, [], ◌∷◌, map, Some, None}
 use Rattle.lf_base.specs.declared.place.Span.{Span}
 use Rattle.lf_ast.specs.declared.expr.Agg.TheVariants.{Sum}
 use Rattle.lf_ast.specs.declared.expr.Expr.{Expr}

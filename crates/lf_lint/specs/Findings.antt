@@ -1,5 +1,5 @@
 -- The labels of a rule and the findings on them, as the code collects them.
-use Rattle.std.specs.Prelude.{◌≡◌, Bool, List, ◌∷◌, map, codes}
+use Rattle.std.specs.Prelude.{◌≡◌, List, ◌∷◌, codes}
 use Rattle.lf_flow.specs.Names.{has}
 use Rattle.lf_lint.specs.declared.first_rule.FirstRule.{FirstRule}
 use Rattle.lf_lint.specs.declared.report.finding.Finding.{Finding}

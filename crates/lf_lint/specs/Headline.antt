@@ -1,5 +1,5 @@
 -- That what a report says of labels is true of every run.
-use Rattle.std.specs.Prelude.{◌≡◌, ◌↔◌, ℕ, Bool, true, false, List, [], ◌∷◌, ◌++◌, map, Option, Some}
+use Rattle.std.specs.Prelude.{◌≡◌, ◌↔◌, true, List, [], ◌∷◌, ◌++◌, map, Option, Some}
 use Rattle.std.specs.List.{AllByRecursion}
 use Rattle.lf_ast.specs.Labels.{Labels}
 use Rattle.lf_semantics.specs.Texts.{Has}

@@ -1,6 +1,7 @@
 -- Rows: for each label of a list, what is known of whether it may be present and whether it may be absent.
 --
--- The row of an expression, which Table.antt gives, never rules out more than is so. It is exact for a selector of a metric that no rule records, if its `=`, of which the metric's name is one, are on distinct labels. For others it may rule out less than it could.
+-- The row of an expression, which Table.antt gives, never rules out more than is so. It is exact for a selector of a metric that no rule records, if its `=`,
+-- of which the metric's name is one, are on distinct labels. For others it may rule out less than it could.
 use Rattle.std.specs.Prelude.{◌≡◌, ◌≢◌, true, List, [], Option, Some, None, codes, if◌then◌else◌}
 use Rattle.std.specs.List.{Contains, AllZip}
 use Rattle.std.specs.Str.{bytes_eq}

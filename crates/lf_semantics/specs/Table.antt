@@ -1,6 +1,8 @@
 -- The row of an expression, by the table of constructs.
 --
--- A row never rules out more than is so. It is exact for a selector of a metric that no rule records, if its `=`, of which the metric's name is one, are on distinct labels. For others it may rule out less than it could: two `=` on one label may contradict each other, a recorded sample has only the labels that its rule leaves, and a series has a metric name even where the selector names none.
+-- A row never rules out more than is so. It is exact for a selector of a metric that no rule records, if its `=`, of which the metric's name is one, are on
+-- distinct labels. For others it may rule out less than it could: two `=` on one label may contradict each other, a recorded sample has only the labels that
+-- its rule leaves, and a series has a metric name even where the selector names none.
 use Rattle.std.specs.Prelude.{◌≢◌, Bool, true, false, not, ◌&&◌, ◌||◌, cond, List, [], ◌++◌, map, Option, Some, None, slice_get}
 use Rattle.std.specs.List.{Contains, list_any}
 use Rattle.std.specs.Str.{bytes_eq}
@@ -50,7 +52,8 @@ abbrev pub name_asks_absence : Bytes → Option Bytes → Bool
 name_asks_absence label None = false
 name_asks_absence label (Some name) = bytes_eq name [] && bytes_eq label metric
 
--- a label of a selector may be absent unless an `=` asks for a text, and may be present unless one asks for the empty text. Each `=` is taken by itself, and of the metric that is selected nothing is used but its name
+-- a label of a selector may be absent unless an `=` asks for a text, and may be present unless one asks for the empty text. Each `=` is taken by itself, and
+-- of the metric that is selected nothing is used but its name
 abbrev pub selected : Option Bytes → List Matcher → Option Bytes → Presence
 selected name matchers None = either
 selected name matchers (Some label) = record {

@@ -1,6 +1,7 @@
 -- Which finite sets of label sets an expression may give, over the scraped series and the recorded samples. No value of a sample is computed.
 --
--- A construct that has no meaning here yet may give any set of label sets whose texts aren't empty, and a matcher that has none passes any text: nothing else is claimed of them.
+-- A construct that has no meaning here yet may give any set of label sets whose texts aren't empty, and a matcher that has none passes any text: nothing else
+-- is claimed of them.
 use Rattle.std.specs.Prelude.{◌≡◌, Bool, ◌⊎◌, List, Option, Some, None, slice_get}
 use Rattle.std.specs.List.{Contains, AllByRecursion, list_any}
 use Rattle.std.specs.Str.{bytes_eq}

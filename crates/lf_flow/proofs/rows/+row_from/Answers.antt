@@ -1,6 +1,5 @@
-use Rattle.std.proofs.Common.{◌≡◌, ℕ, List, IfOk, map, refl, sym, ◌∙◌, ap, subst}
+use Rattle.std.proofs.Common.{◌≡◌, List, IfOk, map, sym, ◌∙◌, ap, subst}
 use Rattle.lf_ast.specs.Labels.{Bytes}
-use Rattle.lf_ast.specs.declared.expr.Expr.{Expr}
 use Rattle.lf_semantics.specs.declared.Presence.{Presence}
 use Rattle.lf_semantics.specs.Rows.{asked_of}
 use Rattle.lf_semantics.specs.Table.{aggregated, either, known, row_of, selected}
@@ -41,7 +40,7 @@ returns-in_ok-row-in-Aggregate-2 t c =
     (c.aggregate_row-in-Aggregate.ensures f (c.as_slice-in-Aggregate.ensures.value ∙ c.in_ok-row-in-Aggregate-2.ensures))
 
 pub returns-in_default : goal.returns-in_default
-returns-in_default t c = 
+returns-in_default t c =
     let labels = c.args.labels.now in
     let P : List Presence → Type 0 = λ x. IfOk c.unknown_row-in_default.result (λ row. row.items ≡ x) in
     subst P (sym (rows_same _ (λ label. either) (λ label. unknown (asked_of label) c.args.expr.now c.in_default.not-Selector c.in_default.not-Paren c.in_default.not-Aggregate) labels)) c.unknown_row-in_default.ensures

@@ -1,6 +1,5 @@
-use Rattle.std.proofs.Common.{◌≡◌, List, sym, subst, ap, ◌∙◌}
+use Rattle.std.proofs.Common.{List, sym, subst, ap, ◌∙◌}
 use Rattle.lf_semantics.specs.Table.{row_of}
-use Rattle.lf_ast.specs.Labels.{Bytes, Labels}
 use Rattle.lf_semantics.specs.declared.Presence.{Presence}
 use Rattle.lf_semantics.specs.Rows.{Lies}
 use Rattle.lf_semantics.proofs.Lying.{lies}

@@ -1,4 +1,4 @@
-use Rattle.std.proofs.Common.{◌≡◌, get_or, sym, ap, ◌∙◌}
+use Rattle.std.proofs.Common.{get_or, sym, ap, ◌∙◌}
 use Rattle.lf_flow.proofs.Kept.{kept_more}
 use Rattle.lf_flow.proofs.rows.kept_row.Goals as goal
 
