@@ -1,0 +1,13 @@
+//! Tokens of PromQL expressions: words, numbers, durations, strings and signs, with the places in the source where they stand.
+#![tactic(auto)]
+
+mod bytes;
+mod lexing;
+mod run;
+mod sign;
+mod step;
+mod string;
+mod token;
+
+pub use lexing::lex;
+pub use token::{Sign, Token, TokenKind};
