@@ -1,5 +1,5 @@
 -- Going over a string byte by byte, to the quote that closes.
-use Rattle.std.proofs.Common.{◌≡◌, ℕ, zero, suc, ◌+◌, ◌<◌, ◌≤◌, Bool, true, false, not, ◌&&◌, cond, eqb, List, [], ◌∷◌, Option, Some, None, length, get_or, drop, refl, ap, arith, add-one, drop-cons, sym, ◌∙◌}
+use Rattle.std.proofs.Common.{◌≡◌, ℕ, suc, ◌+◌, ◌<◌, ◌≤◌, Bool, true, false, not, ◌&&◌, cond, eqb, List, [], ◌∷◌, Option, Some, None, length, get_or, drop, refl, ap, arith, add-one, drop-cons}
 use Rattle.std.specs.Prelude.{option_map}
 use Rattle.std.proofs.lemmas.List.{drop_all}
 use Rattle.lf_lex.specs.Strings.{closing}

@@ -1,5 +1,5 @@
 -- What stands at the front, by what was found there.
-use Rattle.std.proofs.Common.{◌≡◌, ℕ, zero, suc, ◌+◌, ◌<◌, ◌≤◌, Bool, true, false, not, eqb, List, [], ◌∷◌, length, get_or, take, drop, Option, Some, None, Result, Ok, Err, refl, ap, arith, sym, ◌∙◌, lt-ltb, length-drop}
+use Rattle.std.proofs.Common.{◌≡◌, ℕ, zero, suc, ◌+◌, ◌<◌, Bool, true, false, not, eqb, List, [], ◌∷◌, length, get_or, take, drop, Some, None, Ok, refl, ap, arith, sym, ◌∙◌, lt-ltb, length-drop}
 use Rattle.std.specs.List.{prefix_len}
 use Rattle.std.specs.Str.{IsUtf8, is_utf8}
 use Rattle.std.specs.Str.Lossy.{utf8_valid_len}
@@ -8,8 +8,8 @@ use Rattle.lf_base.specs.declared.kind.Kind.TheVariants.{BadByte, BadEscape}
 use Rattle.lf_lex.specs.declared.token.TokenKind.TheVariants as kinds
 use Rattle.lf_lex.specs.Bytes.{is_continuation, is_line_feed}
 use Rattle.lf_lex.specs.Signs.{sign_at}
-use Rattle.lf_lex.specs.Strings.{Given, gives, bytes_of, places_of}
-use Rattle.lf_lex.specs.Steps.{Fault, Front, in_source, breach, token, value_front, raw_front, sign_front, sign_is}
+use Rattle.lf_lex.specs.Strings.{gives, bytes_of, places_of}
+use Rattle.lf_lex.specs.Steps.{Front, breach, token, value_front, raw_front, sign_front}
 use Rattle.lf_lex.proofs.Ascii.{some_pass, first_drop}
 
 pub value_utf8 : (from : List ℕ) (at quote : ℕ) (inner text : List ℕ) → text ≡ bytes_of (gives quote 0 0 inner) → IsUtf8 text → value_front from at quote inner ≡ Ok (Some (kinds.Str text), length inner + 2)

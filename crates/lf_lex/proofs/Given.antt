@@ -1,6 +1,6 @@
 -- Going over what stands between quotes.
 use Rattle.std.proofs.Common.{◌≡◌, ℕ, zero, suc, ◌+◌, ◌-◌, ◌<◌, ◌≤◌, List, [], ◌∷◌, ◌++◌, map, length, get_or, drop, refl, ap, arith, add-one, drop-cons, append_assoc, sym, ◌∙◌}
-use Rattle.std.proofs.lemmas.List.{drop_all, map-append, append-nil}
+use Rattle.std.proofs.lemmas.List.{drop_all, map-append}
 use Rattle.lf_lex.specs.Strings.{Given, given, piece, gives, bytes_of, places_of}
 
 module _ (quote : ℕ) (inner : List ℕ) (i : ℕ) (lt : i < length inner) where

@@ -1,10 +1,9 @@
 -- A text is read in one way, and its tokens stand in order.
-use Rattle.std.proofs.Common.{◌≡◌, ℕ, zero, suc, ◌+◌, ◌-◌, ◌<◌, ◌≤◌, Bool, true, false, List, [], ◌∷◌, ◌++◌, length, get_or, take, drop, Option, Some, None, Result, Ok, Err, refl, ap, arith, append_assoc, sym, ◌∙◌, subst}
+use Rattle.std.proofs.Common.{◌≡◌, ℕ, suc, ◌+◌, ◌-◌, ◌<◌, ◌≤◌, Bool, false, List, [], ◌∷◌, ◌++◌, length, get_or, drop, Option, Some, None, Result, Ok, Err, refl, ap, arith, append_assoc, sym, ◌∙◌, subst}
 use Rattle.std.specs.Prelude.{IfOk, IfErr}
 use Rattle.std.specs.List.Sorted.{IsNonDecreasing, IsNonDecreasingBy}
 use Rattle.std.proofs.lemmas.List.{append-nil, drop_all, drop_more}
 use Rattle.std.proofs.lemmas.List.Sorted.{IsNonDecreasingBy-push}
-use Rattle.lf_base.specs.declared.place.Span.{Span}
 use Rattle.lf_base.specs.declared.refusal.Refusal.{Refusal}
 use Rattle.lf_base.specs.declared.refusal.Refusal.TheVariants.{At, Memory}
 use Rattle.lf_lex.specs.declared.token.Token.{Token}
@@ -112,3 +111,23 @@ module _ (from : List ℕ) (at n : ℕ) (tokens : List Token) (rises : IsNonDecr
   pub last_more : (found : Option TokenKind) → LastBefore (get_or from (at + n) 0) (tokens ++ tokens_at found (in_source from at (at + n)))
   last_more None = subst (LastBefore (get_or from (at + n) 0)) (sym (append-nil tokens)) (λ d p. let h = last d p in let k = step_up in omega arith)
   last_more (Some kind) = λ d p. let e = ap start_of (last_push tokens (record { kind = kind; span = in_source from at (at + n) }) d) in let k = step_up in omega arith
+
+-- ---- the laws
+
+ok_tokens : (a b : List Token) (r : Result (List Token) Fault) → r ≡ Ok a → r ≡ Ok b → a ≡ b
+ok_tokens a b r e h = cc
+
+err_faults : (a b : Fault) (r : Result (List Token) Fault) → r ≡ Err a → r ≡ Err b → a ≡ b
+err_faults a b r e h = cc
+
+ok_or_err : (a : List Token) (b : Fault) (r : Result (List Token) Fault) → r ≡ Ok a → r ≡ Err b → ⊥
+ok_or_err a b r e h = cc
+
+pub one_list : (from text : List ℕ) (tokens other : List Token) → Tokens from text tokens → Tokens from text other → tokens ≡ other
+one_list from text tokens other h k = ok_tokens tokens other (Ok tokens) refl (one_reading h k)
+
+pub one_breach : (from text : List ℕ) (fault other : Fault) → Breaks from text fault → Breaks from text other → fault ≡ other
+one_breach from text fault other h k = err_faults fault other (Err fault) refl (one_reading h k)
+
+pub not_both : (from text : List ℕ) (tokens : List Token) (fault : Fault) → Tokens from text tokens → Breaks from text fault → ⊥
+not_both from text tokens fault h k = ok_or_err tokens fault (Ok tokens) refl (one_reading h k)

@@ -1,5 +1,5 @@
 -- Rows of bytes of one class.
-use Rattle.std.specs.Prelude.{ℕ, Bool, true, false, not, ◌==◌}
+use Rattle.std.specs.Prelude.{ℕ, Bool, not, ◌==◌}
 use Rattle.lf_lex.specs.declared.bytes.Class.{Class}
 use Rattle.lf_lex.specs.declared.bytes.Class.TheVariants as classes
 use Rattle.lf_lex.specs.Bytes.{is_line_feed, is_in_word, is_in_mantissa, is_in_run, is_digit, is_continuation}

@@ -1,5 +1,5 @@
 -- Runs of digits and letters: which of them are numbers, and which are durations.
-use Rattle.std.specs.Prelude.{◌≡◌, ℕ, suc, ◌+◌, List, [], ◌∷◌, Bool, true, false, ◌==◌, ◌&&◌, ◌||◌, nat_le, take, drop, length, Option, Some, None, count_by, if◌then◌else◌}
+use Rattle.std.specs.Prelude.{ℕ, suc, ◌+◌, List, [], ◌∷◌, Bool, true, false, ◌==◌, ◌&&◌, ◌||◌, nat_le, take, drop, Option, Some, None, count_by, if◌then◌else◌}
 use Rattle.std.specs.Option.{option_map_or}
 use Rattle.std.specs.List.{prefix_len, list_all, list_any}
 use Rattle.lf_lex.specs.Bytes.{is_digit, is_hexadecimal, is_dot, is_exponent, is_plus_minus, is_in_run, is_in_mantissa}

@@ -1,6 +1,6 @@
 -- Strings in quotes: where they close, and what their escapes give.
-use Rattle.std.specs.Prelude.{◌≡◌, ℕ, zero, suc, ◌+◌, ◌*◌, ◌-◌, List, [], ◌∷◌, ◌++◌, map, slice_index, length, drop, take, Bool, true, false, ◌==◌, ◌&&◌, ◌||◌, nat_le, nat_lt, Option, Some, None, option_map, encode_utf8, if◌then◌else◌}
-use Rattle.lf_lex.specs.Bytes.{is_octal, is_hexadecimal, is_digit}
+use Rattle.std.specs.Prelude.{ℕ, zero, suc, ◌+◌, ◌*◌, ◌-◌, List, [], ◌∷◌, ◌++◌, map, slice_index, drop, Bool, ◌==◌, ◌&&◌, ◌||◌, nat_le, nat_lt, Option, Some, None, option_map, encode_utf8, if◌then◌else◌}
+use Rattle.lf_lex.specs.Bytes.{is_octal, is_digit}
 
 -- How many bytes stand before the quote that closes, where one does on the line. A backslash takes the byte behind it with it, so that this one closes nothing.
 -- `skipped` bytes at the front are behind a backslash.

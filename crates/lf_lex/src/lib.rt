@@ -2,12 +2,16 @@
 #![tactic(auto)]
 
 mod bytes;
+mod laws;
 mod lexing;
 mod run;
 mod sign;
 mod step;
 mod string;
+#[cfg(test)]
+mod tests;
 mod token;
 
+pub use laws::one_reading;
 pub use lexing::lex;
 pub use token::{Sign, Token, TokenKind};

@@ -1,4 +1,4 @@
-use Rattle.std.proofs.Common.{◌≡◌, ℕ, ◌+◌, drop}
+use Rattle.std.proofs.Common.{◌≡◌, ◌+◌, drop}
 use Rattle.std.specs.List.{prefix_len}
 use Rattle.lf_lex.specs.Rows.{is_in_class}
 use Rattle.lf_lex.proofs.bytes.row_len.Given as goal

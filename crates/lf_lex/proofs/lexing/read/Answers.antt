@@ -1,6 +1,5 @@
-use Rattle.std.proofs.Common.{◌∙◌, ap, subst, sym, arith, ◌<◌, length, get_or, ◌≤◌, [], ◌+◌}
+use Rattle.std.proofs.Common.{arith, ◌<◌, length, ◌+◌}
 use Rattle.std.proofs.lemmas.Result.{err_from_is_err_and}
-use Rattle.lf_lex.specs.declared.token.Token.{Token}
 use Rattle.lf_lex.proofs.Reading.{so_far_none, so_far_more, refusal_breaks, so_far_all, ordered_more, last_more}
 use Rattle.lf_lex.proofs.lexing.read.Goals as goal
 

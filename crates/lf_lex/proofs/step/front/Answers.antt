@@ -1,4 +1,4 @@
-use Rattle.std.proofs.Common.{◌∙◌, ap, subst, sym, arith, not, get_or, ◌≡◌, ℕ, List}
+use Rattle.std.proofs.Common.{◌∙◌, ap, sym, arith, not, get_or, ◌≡◌, ℕ, List}
 use Rattle.std.specs.List.{prefix_len}
 use Rattle.lf_lex.specs.Bytes.{is_line_feed}
 use Rattle.lf_lex.proofs.Ascii.{first_drop}

@@ -1,4 +1,4 @@
-use Rattle.std.proofs.Common.{sym, ◌∙◌, ap, drop, ℕ, List, length, arith, not, eqb, ◌≡◌}
+use Rattle.std.proofs.Common.{◌∙◌, ap, drop, ℕ, List, not, eqb, ◌≡◌}
 use Rattle.std.specs.List.{prefix_len}
 use Rattle.lf_lex.proofs.Ascii.{string_start, string_end}
 use Rattle.lf_lex.proofs.Fronts.{raw_closed}

@@ -1,5 +1,5 @@
-use Rattle.std.proofs.Common.{◌∙◌, ap, subst, sym, arith, true, ◌≡◌, ℕ, List}
-use Rattle.lf_lex.specs.Runs.{begins_run, run_len}
+use Rattle.std.proofs.Common.{◌∙◌, ap, arith}
+use Rattle.lf_lex.specs.Runs.{run_len}
 use Rattle.lf_lex.proofs.Ascii.{run_start, run_some, run_end}
 use Rattle.lf_lex.proofs.step.run.Goals as goal
 
