@@ -1,4 +1,7 @@
 pub mod Closing
+pub mod DurationLaws
+pub mod Quotes
+pub mod ValueLaws
 pub mod Units
 pub mod Given
 pub mod Ascii

@@ -109,7 +109,7 @@ order-end false least = refl
 -- ---- one part
 
 -- nothing of a row is left behind it
-row-stops : (p : ℕ → Bool) (src : List ℕ) → prefix_len p (drop (prefix_len p src) src) ≤ 0
+pub row-stops : (p : ℕ → Bool) (src : List ℕ) → prefix_len p (drop (prefix_len p src) src) ≤ 0
 row-stops p src = by (cases_lt (prefix_len p src) (length src))
   where
     by : (prefix_len p src < length src) ⊎ (length src ≤ prefix_len p src) → prefix_len p (drop (prefix_len p src) src) ≤ 0

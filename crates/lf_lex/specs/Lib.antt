@@ -6,3 +6,5 @@ pub mod Strings
 pub mod Tokens
 pub mod Rows
 pub mod Escapes
+pub mod Durations
+pub mod Quotes
