@@ -2,6 +2,7 @@ pub mod Closing
 pub mod DurationLaws
 pub mod Quotes
 pub mod ValueLaws
+pub mod PieceLaws
 pub mod Units
 pub mod Given
 pub mod Ascii

@@ -92,26 +92,26 @@ module _ (ys : List ℕ) where
 
 -- ---- pieces
 
-bytes_place : (quote p q k : ℕ) (src : List ℕ) → bytes_of (gives quote p k src) ≡ bytes_of (gives quote q k src)
+pub bytes_place : (quote p q k : ℕ) (src : List ℕ) → bytes_of (gives quote p k src) ≡ bytes_of (gives quote q k src)
 unfolding gives
 bytes_place quote p q k [] = refl
 bytes_place quote p q (suc k) (b ∷ src) = bytes_place quote (suc p) (suc q) k src
 bytes_place quote p q zero (b ∷ src) = bytes-more p (piece quote (b ∷ src)).0 _ ∙ ap (λ (x : List ℕ). (piece quote (b ∷ src)).0 ++ x) (bytes_place quote (suc p) (suc q) (piece quote (b ∷ src)).1 src) ∙ sym (bytes-more q (piece quote (b ∷ src)).0 _)
 
-bytes_past : (quote p : ℕ) (xs ys : List ℕ) → bytes_of (gives quote p (length xs) (xs ++ ys)) ≡ bytes_of (gives quote 0 0 ys)
+pub bytes_past : (quote p : ℕ) (xs ys : List ℕ) → bytes_of (gives quote p (length xs) (xs ++ ys)) ≡ bytes_of (gives quote 0 0 ys)
 unfolding gives
 bytes_past quote p [] ys = bytes_place quote p 0 0 ys
 bytes_past quote p (x ∷ xs) ys = bytes_past quote (suc p) xs ys
 
-bytes_first : (quote b : ℕ) (src xs : List ℕ) (k : ℕ) → piece quote (b ∷ src) ≡ (xs, k) → bytes_of (gives quote 0 0 (b ∷ src)) ≡ xs ++ bytes_of (gives quote 1 k src)
+pub bytes_first : (quote b : ℕ) (src xs : List ℕ) (k : ℕ) → piece quote (b ∷ src) ≡ (xs, k) → bytes_of (gives quote 0 0 (b ∷ src)) ≡ xs ++ bytes_of (gives quote 1 k src)
 unfolding gives
 bytes_first quote b src xs k e = ap (λ (p : List ℕ × ℕ). bytes_of (map (given 0) p.0 ++ gives quote 1 p.1 src)) e ∙ bytes-more 0 xs (gives quote 1 k src)
 
-piece_bare : (quote b : ℕ) (src : List ℕ) → b ≢ 92 → piece quote (b ∷ src) ≡ (b ∷ [], 0)
+pub piece_bare : (quote b : ℕ) (src : List ℕ) → b ≢ 92 → piece quote (b ∷ src) ≡ (b ∷ [], 0)
 unfolding piece
 piece_bare quote b src n = rw (ne_eqb b 92 n) refl
 
-piece_escape : (quote : ℕ) (src : List ℕ) (r : List ℕ × ℕ) → escape quote src ≡ Some r → piece quote (92 ∷ src) ≡ r
+pub piece_escape : (quote : ℕ) (src : List ℕ) (r : List ℕ × ℕ) → escape quote src ≡ Some r → piece quote (92 ∷ src) ≡ r
 unfolding piece
 piece_escape quote src r e = rw e refl
 

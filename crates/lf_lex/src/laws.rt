@@ -33,7 +33,9 @@ pub fn closes()
     ensures told { (quote : ℕ) (src : List ℕ) (n : ℕ) → quote ≢ 92 → closing quote 0 src ≡ Some n → (inner : List ℕ) × Closes quote src inner × (n ≡ length inner) }
 {}
 
-/// Where what stands between the quotes is pieces, bytes for themselves and escapes, that stand for a value of UTF-8, the string is read with this value.
+/// A string is read with a value exactly where what stands between its quotes is pieces, bytes for themselves and escapes, that stand for this value, and the value
+/// is UTF-8.
 pub fn values()
-    ensures { (from : List ℕ) (at quote : ℕ) (inner value : List ℕ) → HasValue quote inner value → IsUtf8 value → value_front from at quote inner ≡ Ok (Some (Str value), length inner + 2) }
+    ensures read { (from : List ℕ) (at quote : ℕ) (inner value : List ℕ) → HasValue quote inner value → IsUtf8 value → value_front from at quote inner ≡ Ok (Some (Str value), length inner + 2) }
+    ensures told { (from : List ℕ) (at quote : ℕ) (inner value : List ℕ) (n : ℕ) → value_front from at quote inner ≡ Ok (Some (Str value), n) → HasValue quote inner value × IsUtf8 value }
 {}
