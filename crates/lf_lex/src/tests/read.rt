@@ -85,7 +85,7 @@ fn signs_and_comments(rt: HostRuntime) -> Result<(), Fail> {
     Ok(())
 }
 
-/// A text whose source has four bytes between its second and its third line.
+/// A text whose source has more between its two words than the text has, as where YAML folds lines.
 #[test]
 fn a_folded_text(rt: HostRuntime) -> Result<(), Fail> {
     let from = Seq::of(rt.alloc(), &[10_u32, 11, 12, 17, 18, 19])?;
