@@ -1,0 +1,10 @@
+pub mod Closing
+pub mod DurationLaws
+pub mod Quotes
+pub mod ValueLaws
+pub mod PieceLaws
+pub mod Units
+pub mod Given
+pub mod Ascii
+pub mod Fronts
+pub mod Reading

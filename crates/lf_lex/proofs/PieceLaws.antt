@@ -1,0 +1,261 @@
+-- What is read as a string's value is pieces.
+use Rattle.std.proofs.Common.{◌≡◌, ◌≢◌, ℕ, zero, suc, ◌+◌, ◌/◌, ◌%◌, ◌<◌, ◌≤◌, Bool, true, false, ◌&&◌, cond, eqb, ltb, List, [], ◌∷◌, ◌++◌, take, drop, Option, Some, None, Result, Ok, Err, length, refl, ap, arith, sym, ◌∙◌, subst, inl, inr, length-drop}
+use Rattle.std.proofs.lemmas.Bool.{false≢true}
+use Rattle.std.proofs.lemmas.Bool.Decides.{eqb_tells, nat_tests}
+use Rattle.std.proofs.lemmas.List.{take-append-drop}
+use Rattle.std.proofs.lemmas.List.{length-take-le}
+use Rattle.std.proofs.lemmas.List.Concat.{flat_map-cons}
+use Rattle.std.specs.List.{AllByRecursion}
+use Rattle.std.specs.Str.{IsUtf8, is_utf8}
+use Rattle.std.proofs.lemmas.Str.{IsUtf8-from_is_utf8}
+use lib.Utf8.{encode, encodes, scalar, scalars, scalar_cases}
+use Rattle.lf_lex.specs.Bytes.{is_digit}
+use Rattle.lf_lex.specs.Quotes.{Piece, Bare, Escape, spelled, meant, IsPiece, HasValue}
+use Rattle.lf_lex.specs.Steps.{Fault, Front, value_front}
+use Rattle.lf_lex.specs.Strings.{both, two_digits, four_digits, eight_digits, octal_byte, as_byte, as_character, byte_of_letter, escape, piece, is_scalar, gives, bytes_of}
+use Rattle.lf_lex.specs.declared.token.TokenKind.TheVariants as kinds
+use Rattle.lf_lex.proofs.Quotes.{none_some, same_some}
+use Rattle.lf_lex.proofs.ValueLaws.{bytes_past, bytes_first, piece_bare, piece_escape, bytes_place}
+
+-- ---- no UTF-8 has the byte 255
+
+abbrev AreBytes : List ℕ → Type 0
+AreBytes bs = AllByRecursion (λ b. b < 255) bs
+
+both_bytes : (xs ys : List ℕ) → AreBytes xs → AreBytes ys → AreBytes (xs ++ ys)
+both_bytes [] ys a b = b
+both_bytes (x ∷ xs) ys a b = (a.0, both_bytes xs ys a.1 b)
+
+later_bytes : (xs ys : List ℕ) → AreBytes (xs ++ ys) → AreBytes ys
+later_bytes [] ys a = a
+later_bytes (x ∷ xs) ys a = later_bytes xs ys a.1
+
+below : (c n : ℕ) → ltb c n ≡ true → c < n
+below c n h = grind (arith, nat_tests)
+
+one_character : (c : ℕ) → c < 1114112 → AreBytes (encode c)
+unfolding encode
+one_character c lt = one (ltb c 128) refl
+  where
+    three : (t : Bool) → ltb c 65536 ≡ t → AreBytes (cond t ((224 + c / 4096) ∷ (128 + c / 64 % 64) ∷ (128 + c % 64) ∷ []) ((240 + c / 262144) ∷ (128 + c / 4096 % 64) ∷ (128 + c / 64 % 64) ∷ (128 + c % 64) ∷ []))
+    three true e = let l = below c 65536 e in (omega arith, (omega arith, (omega arith, tt)))
+    three false e = (omega arith, (omega arith, (omega arith, (omega arith, tt))))
+
+    two : (t : Bool) → ltb c 2048 ≡ t → AreBytes (cond t ((192 + c / 64) ∷ (128 + c % 64) ∷ []) (cond (ltb c 65536) ((224 + c / 4096) ∷ (128 + c / 64 % 64) ∷ (128 + c % 64) ∷ []) ((240 + c / 262144) ∷ (128 + c / 4096 % 64) ∷ (128 + c / 64 % 64) ∷ (128 + c % 64) ∷ [])))
+    two true e = let l = below c 2048 e in (omega arith, (omega arith, tt))
+    two false e = three (ltb c 65536) refl
+
+    one : (t : Bool) → ltb c 128 ≡ t → AreBytes (cond t (c ∷ []) (cond (ltb c 2048) ((192 + c / 64) ∷ (128 + c % 64) ∷ []) (cond (ltb c 65536) ((224 + c / 4096) ∷ (128 + c / 64 % 64) ∷ (128 + c % 64) ∷ []) ((240 + c / 262144) ∷ (128 + c / 4096 % 64) ∷ (128 + c / 64 % 64) ∷ (128 + c % 64) ∷ []))))
+    one true e = let l = below c 128 e in (omega arith, tt)
+    one false e = two (ltb c 2048) refl
+
+and_both : (x y : Bool) → (x && y) ≡ true → (x ≡ true) × (y ≡ true)
+and_both true y h = (refl, h)
+and_both false y h = absurd (false≢true h)
+
+characters : (cs : List ℕ) → scalars cs ≡ true → AreBytes (encodes cs)
+characters [] h = tt
+characters (c ∷ cs) h =
+    let b = and_both (scalar c) (scalars cs) h in
+    let small : c < 1114112 = elim (scalar_cases c b.0) [ inl l ↦ omega arith | inr l ↦ l.1 ] in
+    both_bytes (encode c) (encodes cs) (one_character c small) (characters cs b.1)
+
+utf8_bytes : (bs : List ℕ) → IsUtf8 bs → AreBytes bs
+utf8_bytes bs (cs, u) = subst AreBytes u.1 (characters cs u.0)
+
+-- ---- an escape is told by its own bytes
+
+pub record Cut (f : List ℕ → Option ℕ) (count : ℕ) (xs : List ℕ) (m : ℕ) : Type 0 where
+  pub room : count ≤ length xs
+  pub same : f (take count xs) ≡ Some m
+
+two_cut : (xs : List ℕ) (m : ℕ) → two_digits xs ≡ Some m → Cut two_digits 2 xs m
+unfolding two_digits
+two_cut [] m h = none_some m None refl h
+two_cut (a ∷ []) m h = none_some m None refl h
+two_cut (a ∷ b ∷ xs) m h = record { room = omega arith; same = h }
+
+no_low : (o : Option ℕ) (base : ℕ) → both base o None ≡ None
+no_low None base = refl
+no_low (Some m) base = refl
+
+four_cut : (xs : List ℕ) (m : ℕ) → four_digits xs ≡ Some m → Cut four_digits 4 xs m
+unfolding four_digits two_digits
+four_cut [] m h = none_some m None refl h
+four_cut (a ∷ []) m h = none_some m None refl h
+four_cut (a ∷ b ∷ []) m h = none_some m (four_digits (a ∷ b ∷ [])) (no_low (two_digits (a ∷ b ∷ [])) 256) h
+four_cut (a ∷ b ∷ c ∷ []) m h = none_some m (four_digits (a ∷ b ∷ c ∷ [])) (no_low (two_digits (a ∷ b ∷ c ∷ [])) 256) h
+four_cut (a ∷ b ∷ c ∷ d ∷ xs) m h = record { room = omega arith; same = h }
+
+eight_by : (a b c d : ℕ) (xs : List ℕ) (m : ℕ) (o q : Option ℕ) → four_digits (a ∷ b ∷ c ∷ d ∷ xs) ≡ o → four_digits xs ≡ q → both 65536 o q ≡ Some m → Cut eight_digits 8 (a ∷ b ∷ c ∷ d ∷ xs) m
+unfolding eight_digits four_digits two_digits
+eight_by a b c d xs m None q e p h = none_some m (both 65536 None q) refl h
+eight_by a b c d xs m (Some s) None e p h = none_some m None refl h
+eight_by a b c d xs m (Some s) (Some t) e p h =
+    let low = four_cut xs t p in
+    let l = low.room in
+    record { room = omega arith; same = ap (λ (o : Option ℕ). both 65536 o (four_digits (take 4 xs))) e ∙ ap (both 65536 (Some s)) low.same ∙ h }
+
+pub eight_cut : (xs : List ℕ) (m : ℕ) → eight_digits xs ≡ Some m → Cut eight_digits 8 xs m
+unfolding eight_digits
+eight_cut xs m h = by (four_digits xs) refl h
+  where
+    by : (o : Option ℕ) → four_digits xs ≡ o → both 65536 o (four_digits (drop 4 xs)) ≡ Some m → Cut eight_digits 8 xs m
+    by None e h = none_some m (both 65536 None (four_digits (drop 4 xs))) refl h
+    by (Some s) e h = split xs e h (four_cut xs s e).room
+      where
+        split : (xs : List ℕ) → four_digits xs ≡ Some s → both 65536 (Some s) (four_digits (drop 4 xs)) ≡ Some m → 4 ≤ length xs → Cut eight_digits 8 xs m
+        split [] e h l = absurd (omega arith)
+        split (a ∷ []) e h l = absurd (omega arith)
+        split (a ∷ b ∷ []) e h l = absurd (omega arith)
+        split (a ∷ b ∷ c ∷ []) e h l = absurd (omega arith)
+        split (a ∷ b ∷ c ∷ d ∷ xs) e h l = eight_by a b c d xs m (Some s) (four_digits xs) e refl h
+
+octal_cut : (xs : List ℕ) (m : ℕ) → octal_byte xs ≡ Some m → Cut octal_byte 3 xs m
+unfolding octal_byte
+octal_cut [] m h = none_some m None refl h
+octal_cut (a ∷ []) m h = none_some m None refl h
+octal_cut (a ∷ b ∷ []) m h = none_some m None refl h
+octal_cut (a ∷ b ∷ c ∷ xs) m h = record { room = omega arith; same = h }
+
+abbrev IsCut : ℕ → List ℕ → List ℕ × ℕ → Type 0
+IsCut quote src r = (r.1 ≤ length src) × (escape quote (take r.1 src) ≡ Some r)
+
+escape_cut : (quote : ℕ) (src : List ℕ) (r : List ℕ × ℕ) → escape quote src ≡ Some r → IsCut quote src r
+unfolding escape
+escape_cut quote [] r h = none_some r None refl h
+escape_cut quote (e ∷ xs) r h = first (eqb e quote) refl h
+  where
+    is_r : (x : List ℕ × ℕ) → Some x ≡ Some r → IsCut quote (e ∷ xs) x → IsCut quote (e ∷ xs) r
+    is_r x k c = subst (IsCut quote (e ∷ xs)) (same_some x r k) c
+
+    letter : eqb e quote ≡ false → eqb e 120 ≡ false → eqb e 117 ≡ false → eqb e 85 ≡ false → is_digit e ≡ false → (o : Option ℕ) → byte_of_letter e ≡ o → as_byte 1 o ≡ Some r → IsCut quote (e ∷ xs) r
+    letter p q u v d None f h = none_some r None refl h
+    letter p q u v d (Some m) f h = is_r (m ∷ [], 1) h (omega arith, rw (p, q, u, v, d, f) refl)
+
+    octal : eqb e quote ≡ false → eqb e 120 ≡ false → eqb e 117 ≡ false → eqb e 85 ≡ false → is_digit e ≡ true → (o : Option ℕ) → octal_byte (e ∷ xs) ≡ o → as_byte 3 o ≡ Some r → IsCut quote (e ∷ xs) r
+    octal p q u v d None f h = none_some r None refl h
+    octal p q u v d (Some m) f h = let c = octal_cut (e ∷ xs) m f in is_r (m ∷ [], 3) h (c.room, rw (p, q, u, v, d) (ap (as_byte 3) c.same))
+
+    digit : eqb e quote ≡ false → eqb e 120 ≡ false → eqb e 117 ≡ false → eqb e 85 ≡ false → (t : Bool) → is_digit e ≡ t → cond t (as_byte 3 (octal_byte (e ∷ xs))) (as_byte 1 (byte_of_letter e)) ≡ Some r → IsCut quote (e ∷ xs) r
+    digit p q u v true d h = octal p q u v d (octal_byte (e ∷ xs)) refl h
+    digit p q u v false d h = letter p q u v d (byte_of_letter e) refl h
+
+    eight : eqb e quote ≡ false → eqb e 120 ≡ false → eqb e 117 ≡ false → eqb e 85 ≡ true → (m : ℕ) → eight_digits xs ≡ Some m → (s : Bool) → is_scalar m ≡ s → cond s (Some (encode m, 9)) None ≡ Some r → IsCut quote (e ∷ xs) r
+    eight p q u v m f true s h = let c = eight_cut xs m f in let l = c.room in is_r (encode m, 9) h (omega arith, rw (p, q, u, v) (ap (as_character 9) c.same ∙ rw s refl))
+    eight p q u v m f false s h = none_some r None refl h
+
+    long : eqb e quote ≡ false → eqb e 120 ≡ false → eqb e 117 ≡ false → eqb e 85 ≡ true → (o : Option ℕ) → eight_digits xs ≡ o → as_character 9 o ≡ Some r → IsCut quote (e ∷ xs) r
+    long p q u v None f h = none_some r None refl h
+    long p q u v (Some m) f h = eight p q u v m f (is_scalar m) refl h
+
+    upper : eqb e quote ≡ false → eqb e 120 ≡ false → eqb e 117 ≡ false → (t : Bool) → eqb e 85 ≡ t → cond t (as_character 9 (eight_digits xs)) (cond (is_digit e) (as_byte 3 (octal_byte (e ∷ xs))) (as_byte 1 (byte_of_letter e))) ≡ Some r → IsCut quote (e ∷ xs) r
+    upper p q u true v h = long p q u v (eight_digits xs) refl h
+    upper p q u false v h = digit p q u v (is_digit e) refl h
+
+    four : eqb e quote ≡ false → eqb e 120 ≡ false → eqb e 117 ≡ true → (m : ℕ) → four_digits xs ≡ Some m → (s : Bool) → is_scalar m ≡ s → cond s (Some (encode m, 5)) None ≡ Some r → IsCut quote (e ∷ xs) r
+    four p q u m f true s h = let c = four_cut xs m f in let l = c.room in is_r (encode m, 5) h (omega arith, rw (p, q, u) (ap (as_character 5) c.same ∙ rw s refl))
+    four p q u m f false s h = none_some r None refl h
+
+    short : eqb e quote ≡ false → eqb e 120 ≡ false → eqb e 117 ≡ true → (o : Option ℕ) → four_digits xs ≡ o → as_character 5 o ≡ Some r → IsCut quote (e ∷ xs) r
+    short p q u None f h = none_some r None refl h
+    short p q u (Some m) f h = four p q u m f (is_scalar m) refl h
+
+    lower : eqb e quote ≡ false → eqb e 120 ≡ false → (t : Bool) → eqb e 117 ≡ t → cond t (as_character 5 (four_digits xs)) (cond (eqb e 85) (as_character 9 (eight_digits xs)) (cond (is_digit e) (as_byte 3 (octal_byte (e ∷ xs))) (as_byte 1 (byte_of_letter e)))) ≡ Some r → IsCut quote (e ∷ xs) r
+    lower p q true u h = short p q u (four_digits xs) refl h
+    lower p q false u h = upper p q u (eqb e 85) refl h
+
+    two : eqb e quote ≡ false → eqb e 120 ≡ true → (o : Option ℕ) → two_digits xs ≡ o → as_byte 3 o ≡ Some r → IsCut quote (e ∷ xs) r
+    two p q None f h = none_some r None refl h
+    two p q (Some m) f h = let c = two_cut xs m f in let l = c.room in is_r (m ∷ [], 3) h (omega arith, rw (p, q) (ap (as_byte 3) c.same))
+
+    byte : eqb e quote ≡ false → (t : Bool) → eqb e 120 ≡ t → cond t (as_byte 3 (two_digits xs)) (cond (eqb e 117) (as_character 5 (four_digits xs)) (cond (eqb e 85) (as_character 9 (eight_digits xs)) (cond (is_digit e) (as_byte 3 (octal_byte (e ∷ xs))) (as_byte 1 (byte_of_letter e))))) ≡ Some r → IsCut quote (e ∷ xs) r
+    byte p true q h = two p q (two_digits xs) refl h
+    byte p false q h = lower p q (eqb e 117) refl h
+
+    first : (t : Bool) → eqb e quote ≡ t → cond t (Some (quote ∷ [], 1)) (cond (eqb e 120) (as_byte 3 (two_digits xs)) (cond (eqb e 117) (as_character 5 (four_digits xs)) (cond (eqb e 85) (as_character 9 (eight_digits xs)) (cond (is_digit e) (as_byte 3 (octal_byte (e ∷ xs))) (as_byte 1 (byte_of_letter e)))))) ≡ Some r → IsCut quote (e ∷ xs) r
+    first true p h = is_r (quote ∷ [], 1) h (omega arith, rw p refl)
+    first false p h = byte p (eqb e 120) refl h
+
+-- ---- pieces
+
+module _ (quote : ℕ) where
+  abbrev value_of : List ℕ → List ℕ
+  value_of src = bytes_of (gives quote 0 0 src)
+
+  more_piece : (p : Piece) (src rest : List ℕ) → IsPiece quote p → src ≡ spelled p ++ rest → value_of src ≡ meant p ++ value_of rest → HasValue quote rest (value_of rest) → HasValue quote src (value_of src)
+  more_piece p src rest h e v a = record {
+    pieces = p ∷ a.pieces;
+    each = (h, a.each);
+    source = e ∙ ap (λ (x : List ℕ). spelled p ++ x) a.source ∙ sym (flat_map-cons spelled p a.pieces);
+    value_is = v ∙ ap (λ (x : List ℕ). meant p ++ x) a.value_is ∙ sym (flat_map-cons meant p a.pieces);
+  }
+
+  bare_value : (b : ℕ) (src : List ℕ) → b ≢ 92 → value_of (b ∷ src) ≡ b ∷ value_of src
+  bare_value b src n = bytes_first quote b src (b ∷ []) 0 (piece_bare quote b src n) ∙ ap (λ (x : List ℕ). b ∷ x) (bytes_place quote 1 0 0 src)
+
+  wrong_value : (src : List ℕ) → escape quote src ≡ None → AreBytes (value_of (92 ∷ src)) → ⊥
+  unfolding piece
+  wrong_value src e a = let b = subst AreBytes (bytes_first quote 92 src (255 ∷ []) 0 (rw e refl)) a in let c : 255 < 255 = b.0 in omega arith
+
+  escape_value : (src bytes : List ℕ) (n : ℕ) → escape quote src ≡ Some (bytes, n) → n ≤ length src → value_of (92 ∷ src) ≡ bytes ++ value_of (drop n src)
+  escape_value src bytes n e le =
+      let l : length (take n src) ≡ n = length-take-le n src le in
+      let past : bytes_of (gives quote 1 n src) ≡ bytes_of (gives quote 0 0 (drop n src)) = subst (λ (x : List ℕ). bytes_of (gives quote 1 n x) ≡ bytes_of (gives quote 0 0 (drop n src))) (take-append-drop n src) (subst (λ (k : ℕ). bytes_of (gives quote 1 k (take n src ++ drop n src)) ≡ bytes_of (gives quote 0 0 (drop n src))) l (bytes_past quote 1 (take n src) (drop n src))) in
+      bytes_first quote 92 src bytes n (piece_escape quote src (bytes, n) e) ∙ ap (λ (x : List ℕ). bytes ++ x) past
+
+  nil_value : value_of [] ≡ []
+  unfolding gives
+  nil_value = refl
+
+  pieces_of : (fuel : ℕ) (src : List ℕ) → length src < fuel → AreBytes (value_of src) → HasValue quote src (value_of src)
+  pieces_of zero src lt a = absurd (omega arith)
+  pieces_of (suc fuel) [] lt a = record { pieces = []; each = tt; source = refl; value_is = nil_value }
+  pieces_of (suc fuel) (b ∷ src) lt a =
+      elim (eqb_tells b 92) [
+        | inl s ↦ by (λ rest l c. pieces_of fuel rest l c) (escape quote src) refl s.1
+        | inr s ↦ more_piece (Bare b) (b ∷ src) src s.1 refl (bare_value b src s.1) (pieces_of fuel src (omega arith) (subst AreBytes (bare_value b src s.1) a).1)
+      ]
+    where
+      escaped : ((rest : List ℕ) → length rest < fuel → AreBytes (value_of rest) → HasValue quote rest (value_of rest)) → (bytes : List ℕ) (n : ℕ) → escape quote src ≡ Some (bytes, n) → AreBytes (value_of (92 ∷ src)) → HasValue quote (92 ∷ src) (value_of (92 ∷ src))
+      escaped again bytes n e a =
+          let c = escape_cut quote src (bytes, n) e in
+          let l : length (take n src) ≡ n = length-take-le n src c.0 in
+          let v = escape_value src bytes n e c.0 in
+          let d = length-drop n src in
+          let is : escape quote (take n src) ≡ Some (bytes, length (take n src)) = c.1 ∙ ap (λ (k : ℕ). Some (bytes, k)) (sym l) in
+          more_piece (Escape (take n src) bytes) (92 ∷ src) (drop n src) is (ap (λ (x : List ℕ). 92 ∷ x) (sym (take-append-drop n src))) v (again (drop n src) (omega arith) (later_bytes bytes (value_of (drop n src)) (subst AreBytes v a)))
+
+      at_slash : ((rest : List ℕ) → length rest < fuel → AreBytes (value_of rest) → HasValue quote rest (value_of rest)) → (o : Option (List ℕ × ℕ)) → escape quote src ≡ o → AreBytes (value_of (92 ∷ src)) → HasValue quote (92 ∷ src) (value_of (92 ∷ src))
+      at_slash again None e a = absurd (wrong_value src e a)
+      at_slash again (Some r) e a = escaped again r.0 r.1 e a
+
+      by : ((rest : List ℕ) → length rest < fuel → AreBytes (value_of rest) → HasValue quote rest (value_of rest)) → (o : Option (List ℕ × ℕ)) → escape quote src ≡ o → b ≡ 92 → HasValue quote (b ∷ src) (value_of (b ∷ src))
+      by again o e s = subst (λ (x : ℕ). HasValue quote (x ∷ src) (value_of (x ∷ src))) (sym s) (at_slash again o e (subst (λ (x : ℕ). AreBytes (value_of (x ∷ src))) s a))
+
+same_text : (v w : List ℕ) → Some (kinds.Str v) ≡ Some (kinds.Str w) → v ≡ w
+same_text v w e = cc
+
+abbrev ok_front : Front → Result Front Fault
+ok_front x = Ok x
+
+abbrev err_front : Fault → Result Front Fault
+err_front f = Err f
+
+same_front : (x y : Front) → ok_front x ≡ ok_front y → x ≡ y
+same_front x y e = cc
+
+no_front : (f : Fault) (y : Front) → err_front f ≡ ok_front y → ⊥
+no_front f y e = cc
+
+chosen : (f : Fault) (t : Bool) (x y : Front) → cond t (ok_front x) (err_front f) ≡ ok_front y → (t ≡ true) × (x ≡ y)
+chosen f true x y e = (refl, same_front x y e)
+chosen f false x y e = absurd (no_front f y e)
+
+pub value_told : (from : List ℕ) (at quote : ℕ) (inner value : List ℕ) (n : ℕ) → value_front from at quote inner ≡ Ok (Some (kinds.Str value), n) → HasValue quote inner value × IsUtf8 value
+unfolding value_front
+value_told from at quote inner value n h =
+    let c = chosen _ (is_utf8 (bytes_of (gives quote 0 0 inner))) (Some (kinds.Str (bytes_of (gives quote 0 0 inner))), length inner + 2) (Some (kinds.Str value), n) h in
+    let u : IsUtf8 (bytes_of (gives quote 0 0 inner)) = IsUtf8-from_is_utf8 (bytes_of (gives quote 0 0 inner)) c.0 in
+    let v : bytes_of (gives quote 0 0 inner) ≡ value = same_text (bytes_of (gives quote 0 0 inner)) value (ap (λ (x : Front). x.0) c.1) in
+    (subst (HasValue quote inner) v (pieces_of quote (suc (length inner)) inner (omega arith) (utf8_bytes (bytes_of (gives quote 0 0 inner)) u)), subst IsUtf8 v u)

@@ -1,0 +1,134 @@
+-- The reading of strings is the grammar of strings.
+use Rattle.std.proofs.Common.{◌≡◌, ◌≢◌, ℕ, zero, suc, ◌+◌, ◌<◌, List, [], ◌∷◌, ◌++◌, Option, Some, None, length, refl, ap, arith, append_assoc, sym, ◌∙◌, subst, inl, inr, eq-eqb}
+use Rattle.std.specs.Prelude.{option_map}
+use Rattle.std.proofs.lemmas.Bool.{ne_eqb}
+use Rattle.std.proofs.lemmas.Bool.Decides.{eqb_tells}
+use Rattle.std.proofs.lemmas.List.{length-append}
+use Rattle.std.proofs.lemmas.List.Concat.{flat_map-cons}
+use Rattle.std.specs.List.{flat_map, AllByRecursion}
+use Rattle.lf_lex.specs.Quotes.{Raw, One, Pair, raw, IsRaw, Closes}
+use Rattle.lf_lex.specs.Strings.{closing}
+
+-- ---- where a string closes
+
+ahead : ℕ → Option ℕ → Option ℕ
+ahead n o = option_map (λ k. n + k) o
+
+module _ (quote : ℕ) (not_slash : quote ≢ 92) where
+  closing_one : (r : Raw) (src : List ℕ) → IsRaw quote r → closing quote 0 (raw r ++ src) ≡ ahead (length (raw r)) (closing quote 0 src)
+  unfolding closing ahead
+  closing_one (One b) src h = rw (ne_eqb b quote h.0, ne_eqb b 10 h.1, ne_eqb b 92 h.2) (one (closing quote 0 src))
+    where
+      one : (o : Option ℕ) → option_map suc o ≡ option_map (λ k. 1 + k) o
+      one None = refl
+      one (Some n) = ap (λ (k : ℕ). Some k) (omega arith)
+  closing_one (Pair b) src h = rw (ne_eqb 92 quote (λ e. not_slash (sym e)), ne_eqb b 10 h) (two (closing quote 0 src))
+    where
+      two : (o : Option ℕ) → option_map suc (option_map suc o) ≡ option_map (λ k. 2 + k) o
+      two None = refl
+      two (Some n) = ap (λ (k : ℕ). Some k) (omega arith)
+
+  closing_all : (rs : List Raw) (rest : List ℕ) → AllByRecursion (IsRaw quote) rs → closing quote 0 (flat_map raw rs ++ quote ∷ rest) ≡ Some (length (flat_map raw rs))
+  unfolding closing ahead
+  closing_all [] rest each = rw (eq-eqb quote quote refl) refl
+  closing_all (r ∷ rs) rest each =
+      let regrouped : flat_map raw (r ∷ rs) ++ quote ∷ rest ≡ raw r ++ (flat_map raw rs ++ quote ∷ rest) = ap (λ (x : List ℕ). x ++ quote ∷ rest) (flat_map-cons raw r rs) ∙ append_assoc (raw r) (flat_map raw rs) (quote ∷ rest) in
+      ap (closing quote 0) regrouped ∙ closing_one r (flat_map raw rs ++ quote ∷ rest) each.0 ∙ ap (ahead (length (raw r))) (closing_all rs rest each.1)
+      ∙ ap (λ (n : ℕ). Some n) (sym (ap length (flat_map-cons raw r rs) ∙ length-append (raw r) (flat_map raw rs)))
+
+  pub closes_found : (src inner : List ℕ) → Closes quote src inner → closing quote 0 src ≡ Some (length inner)
+  closes_found src inner c =
+      ap (closing quote 0) (c.source ∙ ap (λ (x : List ℕ). x ++ quote ∷ c.rest) c.inner_is) ∙ closing_all c.raws c.rest c.each ∙ ap (λ (x : List ℕ). Some (length x)) (sym c.inner_is)
+
+pub same_some : {A : Type 0} (x y : A) → Some x ≡ Some y → x ≡ y
+same_some x y e = cc
+
+clash : {A : Type 0} (x : A) (o : Option A) → o ≡ None → o ≡ Some x → ⊥
+clash x o e h = cc
+
+pub none_some : {A X : Type 0} (x : A) (o : Option A) → o ≡ None → o ≡ Some x → X
+none_some x o e h = absurd (clash x o e h)
+
+closing_nil : (quote : ℕ) → closing quote 0 [] ≡ None
+unfolding closing
+closing_nil quote = refl
+
+-- a string that closes, and how many bytes it has
+pub record Closed (quote : ℕ) (src : List ℕ) (n : ℕ) : Type 0 where
+  pub inner : List ℕ
+  pub is : Closes quote src inner
+  pub len : n ≡ length inner
+
+module _ (quote : ℕ) (not_slash : quote ≢ 92) where
+  more_raw : (r : Raw) (src : List ℕ) (n m : ℕ) → IsRaw quote r → length (raw r) + m ≡ n → Closed quote src m → Closed quote (raw r ++ src) n
+  more_raw r src n m h e c = record {
+    inner = raw r ++ c.inner;
+    is = record {
+      raws = r ∷ c.is.raws;
+      each = (h, c.is.each);
+      rest = c.is.rest;
+      inner_is = ap (λ (x : List ℕ). raw r ++ x) c.is.inner_is ∙ sym (flat_map-cons raw r c.is.raws);
+      source = ap (λ (x : List ℕ). raw r ++ x) c.is.source ∙ sym (append_assoc (raw r) c.inner (quote ∷ c.is.rest));
+    };
+    len = sym e ∙ ap (λ (k : ℕ). length (raw r) + k) c.len ∙ sym (length-append (raw r) c.inner);
+  }
+
+  next_raw : (r : Raw) (src : List ℕ) (n : ℕ) → IsRaw quote r → ((m : ℕ) → closing quote 0 src ≡ Some m → Closed quote src m) → closing quote 0 (raw r ++ src) ≡ Some n → Closed quote (raw r ++ src) n
+  unfolding ahead
+  next_raw r src n h again e = by (closing quote 0 src) refl (sym (closing_one quote not_slash r src h) ∙ e)
+    where
+      by : (o : Option ℕ) → closing quote 0 src ≡ o → option_map (λ k. length (raw r) + k) o ≡ Some n → Closed quote (raw r ++ src) n
+      by None p q = none_some n None refl q
+      by (Some m) p q = more_raw r src n m h (same_some (length (raw r) + m) n q) (again m p)
+
+  found_at : (src : List ℕ) (b n : ℕ) → b ≡ quote → closing quote 0 (b ∷ src) ≡ Some n → Closed quote (b ∷ src) n
+  unfolding closing
+  found_at src b n e h = record {
+    inner = [];
+    is = record { raws = []; each = tt; rest = src; inner_is = refl; source = rw e refl };
+    len = sym (same_some 0 n (sym (rw (eq-eqb b quote e) refl) ∙ h));
+  }
+
+  no_break : (src : List ℕ) (b n : ℕ) {X : Type 0} → b ≢ quote → b ≡ 10 → closing quote 0 (b ∷ src) ≡ Some n → X
+  unfolding closing
+  no_break src b n d e h = none_some n (closing quote 0 (b ∷ src)) (rw (ne_eqb b quote d, eq-eqb b 10 e) refl) h
+
+  no_end : (b n : ℕ) {X : Type 0} → b ≢ quote → b ≢ 10 → b ≡ 92 → closing quote 0 (b ∷ []) ≡ Some n → X
+  unfolding closing
+  no_end b n d t e h = none_some n (closing quote 0 (b ∷ [])) (rw (ne_eqb b quote d, ne_eqb b 10 t) refl) h
+
+  no_pair : (src : List ℕ) (b c n : ℕ) {X : Type 0} → b ≢ quote → b ≢ 10 → b ≡ 92 → c ≡ 10 → closing quote 0 (b ∷ c ∷ src) ≡ Some n → X
+  unfolding closing
+  no_pair src b c n d t e f h = none_some n (closing quote 0 (b ∷ c ∷ src)) (rw (ne_eqb b quote d, ne_eqb b 10 t, eq-eqb b 92 e, eq-eqb c 10 f) refl) h
+
+  found_closes : (fuel : ℕ) (src : List ℕ) (n : ℕ) → length src < fuel → closing quote 0 src ≡ Some n → Closed quote src n
+  found_closes zero src n lt h = absurd (omega arith)
+  found_closes (suc fuel) [] n lt h = none_some n (closing quote 0 []) (closing_nil quote) h
+  found_closes (suc fuel) (b ∷ []) n lt h =
+      elim (eqb_tells b quote) [
+        | inl q ↦ found_at [] b n q.1 h
+        | inr q ↦ elim (eqb_tells b 10) [
+          | inl t ↦ no_break [] b n q.1 t.1 h
+          | inr t ↦ elim (eqb_tells b 92) [
+            | inl s ↦ no_end b n q.1 t.1 s.1 h
+            | inr s ↦ next_raw (One b) [] n (q.1, t.1, s.1) (λ m e. found_closes fuel [] m (omega arith) e) h
+          ]
+        ]
+      ]
+  found_closes (suc fuel) (b ∷ c ∷ src) n lt h =
+      elim (eqb_tells b quote) [
+        | inl q ↦ found_at (c ∷ src) b n q.1 h
+        | inr q ↦ elim (eqb_tells b 10) [
+          | inl t ↦ no_break (c ∷ src) b n q.1 t.1 h
+          | inr t ↦ elim (eqb_tells b 92) [
+            | inl s ↦ elim (eqb_tells c 10) [
+              | inl f ↦ no_pair src b c n q.1 t.1 s.1 f.1 h
+              | inr f ↦ subst (λ (x : ℕ). Closed quote (x ∷ c ∷ src) n) (sym s.1) (next_raw (Pair c) src n f.1 (λ m e. found_closes fuel src m (omega arith) e) (ap (λ (x : ℕ). closing quote 0 (x ∷ c ∷ src)) (sym s.1) ∙ h))
+            ]
+            | inr s ↦ next_raw (One b) (c ∷ src) n (q.1, t.1, s.1) (λ m e. found_closes fuel (c ∷ src) m (omega arith) e) h
+          ]
+        ]
+      ]
+
+  pub closes_told : (src : List ℕ) (n : ℕ) → closing quote 0 src ≡ Some n → Closed quote src n
+  closes_told src n h = found_closes (suc (length src)) src n (omega arith) h

@@ -1,0 +1,133 @@
+-- A text is read in one way, and its tokens stand in order.
+use Rattle.std.proofs.Common.{◌≡◌, ℕ, suc, ◌+◌, ◌-◌, ◌<◌, ◌≤◌, Bool, false, List, [], ◌∷◌, ◌++◌, length, get_or, drop, Option, Some, None, Result, Ok, Err, refl, ap, arith, append_assoc, sym, ◌∙◌, subst}
+use Rattle.std.specs.Prelude.{IfOk, IfErr}
+use Rattle.std.specs.List.Sorted.{IsNonDecreasing, IsNonDecreasingBy}
+use Rattle.std.proofs.lemmas.List.{append-nil, drop_all, drop_more}
+use Rattle.std.proofs.lemmas.List.Sorted.{IsNonDecreasingBy-push}
+use Rattle.lf_base.specs.declared.refusal.Refusal.{Refusal}
+use Rattle.lf_base.specs.declared.refusal.Refusal.TheVariants.{At, Memory}
+use Rattle.lf_lex.specs.declared.token.Token.{Token}
+use Rattle.lf_lex.specs.declared.token.TokenKind.{TokenKind}
+use Rattle.lf_lex.specs.Steps.{Fault, Front, Gives, Fails, in_source, front_of}
+use Rattle.lf_lex.specs.Tokens.{Reads, ends, goes_on, breaks, behind, tokens_at, with_front, Tokens, Breaks, IfAt}
+use Rattle.lf_lex.proofs.Fronts.{drop_drop}
+
+-- ---- one reading
+
+same_found : (f g : Front) (r : Result Front Fault) → r ≡ Ok f → r ≡ Ok g → g ≡ f
+same_found f g r e h = cc
+
+clash : (f : Front) (fault : Fault) (r : Result Front Fault) → r ≡ Ok f → r ≡ Err fault → ⊥
+clash f fault r e h = cc
+
+found_or_fault : {X : Type 0} (f : Front) (fault : Fault) (r : Result Front Fault) → r ≡ Ok f → r ≡ Err fault → X
+found_or_fault f fault r e h = absurd (clash f fault r e h)
+
+same_fault : (fault other : Fault) (r : Result Front Fault) → r ≡ Err fault → r ≡ Err other → fault ≡ other
+same_fault fault other r e h = cc
+
+pub one_reading : {from : List ℕ} {inside : Bool} {at : ℕ} {src : List ℕ} {answer other : Result (List Token) Fault} → Reads from inside at src answer → Reads from inside at src other → answer ≡ other
+one_reading ends ends = refl
+one_reading {from} {inside} {at} (goes_on {b = b} {src = src} {answer = answer} found n e more) (goes_on {answer = other} found' n' e' more') =
+    let p : (found', n') ≡ (found, n) = same_found (found, n) (found', n') _ e e' in
+    let moved : Reads from (behind found inside) (at + n) (drop n (b ∷ src)) other = subst (λ (f : Front). Reads from (behind f.0 inside) (at + f.1) (drop f.1 (b ∷ src)) other) p more' in
+    ap (with_front (tokens_at found (in_source from at (at + n)))) (one_reading more moved) ∙ ap (λ (f : Front). with_front (tokens_at f.0 (in_source from at (at + f.1))) other) (sym p)
+one_reading (goes_on found n e more) (breaks fault e') = found_or_fault (found, n) fault _ e e'
+one_reading (breaks fault e) (goes_on found n e' more') = found_or_fault (found, n) fault _ e' e
+one_reading (breaks fault e) (breaks fault' e') = ap (λ (f : Fault). Err f) (same_fault fault fault' _ e e')
+
+-- ---- the tokens so far
+
+pub fronts : (xs ys : List Token) (answer : Result (List Token) Fault) → with_front (xs ++ ys) answer ≡ with_front xs (with_front ys answer)
+fronts xs ys (Ok more) = ap (λ (x : List Token). Ok x) (append_assoc xs ys more)
+fronts xs ys (Err fault) = refl
+
+no_front : (answer : Result (List Token) Fault) → with_front [] answer ≡ answer
+no_front (Ok more) = refl
+no_front (Err fault) = refl
+
+-- the tokens so far, before those of what is left
+abbrev pub SoFar : List ℕ → List ℕ → Bool → ℕ → List Token → Type 0
+SoFar from text inside at tokens = (answer : Result (List Token) Fault) → Reads from inside at (drop at text) answer → Reads from false 0 text (with_front tokens answer)
+
+pub so_far_none : (from text : List ℕ) → SoFar from text false 0 []
+so_far_none from text = λ answer h. subst (Reads from false 0 text) (sym (no_front answer)) h
+
+module _ (from text : List ℕ) (inside : Bool) (at : ℕ) (tokens : List Token) (so_far : SoFar from text inside at tokens) (lt : at < length text) where
+  pub so_far_more : (found : Option TokenKind) (n : ℕ) → front_of from inside at (drop at text) ≡ Ok (found, n) → SoFar from text (behind found inside) (at + n) (tokens ++ tokens_at found (in_source from at (at + n)))
+  so_far_more found n e = λ answer h.
+      let new = tokens_at found (in_source from at (at + n)) in
+      let q : drop at text ≡ get_or text at 0 ∷ drop (at + 1) text = drop_more text at 0 lt in
+      let r : drop (at + n) text ≡ drop n (get_or text at 0 ∷ drop (at + 1) text) = sym (drop_drop n at text) ∙ ap (drop n) q in
+      let step : Reads from inside at (get_or text at 0 ∷ drop (at + 1) text) (with_front new answer) = goes_on found n (ap (front_of from inside at) (sym q) ∙ e) (subst (λ (src : List ℕ). Reads from (behind found inside) (at + n) src answer) r h) in
+      subst (Reads from false 0 text) (sym (fronts tokens new answer)) (so_far (with_front new answer) (subst (λ (src : List ℕ). Reads from inside at src (with_front new answer)) (sym q) step))
+
+  pub so_far_breaks : (fault : Fault) → front_of from inside at (drop at text) ≡ Err fault → Breaks from text fault
+  so_far_breaks fault e =
+      let q : drop at text ≡ get_or text at 0 ∷ drop (at + 1) text = drop_more text at 0 lt in
+      let step : Reads from inside at (get_or text at 0 ∷ drop (at + 1) text) (Err fault) = breaks fault (ap (front_of from inside at) (sym q) ∙ e) in
+      so_far (Err fault) (subst (λ (src : List ℕ). Reads from inside at src (Err fault)) (sym q) step)
+
+  pub refusal_breaks : (refusal : Refusal) → Fails refusal (front_of from inside at (drop at text)) → IfAt refusal (Breaks from text)
+  refusal_breaks Memory h = tt
+  refusal_breaks (At kind span) h = so_far_breaks (record { kind = kind; span = span }) h
+
+pub so_far_all : (from text : List ℕ) (inside : Bool) (at : ℕ) (tokens : List Token) → SoFar from text inside at tokens → length text ≤ at → Tokens from text tokens
+so_far_all from text inside at tokens so_far le =
+    let step : Reads from inside at (drop at text) (Ok []) = subst (λ (src : List ℕ). Reads from inside at src (Ok [])) (sym (drop_all at text le)) ends in
+    subst (λ (x : List Token). Tokens from text x) (append-nil tokens) (so_far (Ok []) step)
+
+-- ---- the four clauses
+
+pub answers_all : (from text : List ℕ) (r : Result (List Token) Refusal) → IfOk r (Tokens from text) → IfErr r (λ e. IfAt e (Breaks from text)) → (answer : Result (List Token) Fault) → Reads from false 0 text answer → Gives r answer
+answers_all from text (Ok tokens) found refused answer h = one_reading h found
+answers_all from text (Err Memory) found refused answer h = tt
+answers_all from text (Err (At kind span)) found refused answer h = one_reading h refused
+
+-- ---- the order
+
+abbrev pub start_of : Token → ℕ
+start_of token = token.span.start
+
+-- the last token so far begins at a place or before it
+abbrev pub LastBefore : ℕ → List Token → Type 0
+LastBefore place tokens = (d : Token) → 0 < length tokens → start_of (get_or tokens (length tokens - 1) d) ≤ place
+
+last_push : (tokens : List Token) (new d : Token) → get_or (tokens ++ new ∷ []) (length (tokens ++ new ∷ []) - 1) d ≡ new
+last_push [] new d = refl
+last_push (t ∷ []) new d = refl
+last_push (t ∷ u ∷ tokens) new d =
+    let e : length (t ∷ u ∷ (tokens ++ new ∷ [])) - 1 ≡ suc (length (u ∷ (tokens ++ new ∷ [])) - 1) = omega arith in
+    rw e (last_push (u ∷ tokens) new d)
+
+module _ (from : List ℕ) (at n : ℕ) (tokens : List Token) (rises : IsNonDecreasing from) (lt : at + n < length from) (ordered : IsNonDecreasingBy start_of tokens) (last : LastBefore (get_or from at 0) tokens) where
+  step_up : get_or from at 0 ≤ get_or from (at + n) 0
+  step_up = rises at (at + n) 0 (omega arith) lt
+
+  pub ordered_more : (found : Option TokenKind) → IsNonDecreasingBy start_of (tokens ++ tokens_at found (in_source from at (at + n)))
+  ordered_more None = subst (IsNonDecreasingBy start_of) (sym (append-nil tokens)) ordered
+  ordered_more (Some kind) = IsNonDecreasingBy-push start_of tokens (record { kind = kind; span = in_source from at (at + n) }) ordered last
+
+  pub last_more : (found : Option TokenKind) → LastBefore (get_or from (at + n) 0) (tokens ++ tokens_at found (in_source from at (at + n)))
+  last_more None = subst (LastBefore (get_or from (at + n) 0)) (sym (append-nil tokens)) (λ d p. let h = last d p in let k = step_up in omega arith)
+  last_more (Some kind) = λ d p. let e = ap start_of (last_push tokens (record { kind = kind; span = in_source from at (at + n) }) d) in let k = step_up in omega arith
+
+-- ---- the laws
+
+ok_tokens : (a b : List Token) (r : Result (List Token) Fault) → r ≡ Ok a → r ≡ Ok b → a ≡ b
+ok_tokens a b r e h = cc
+
+err_faults : (a b : Fault) (r : Result (List Token) Fault) → r ≡ Err a → r ≡ Err b → a ≡ b
+err_faults a b r e h = cc
+
+ok_or_err : (a : List Token) (b : Fault) (r : Result (List Token) Fault) → r ≡ Ok a → r ≡ Err b → ⊥
+ok_or_err a b r e h = cc
+
+pub one_list : (from text : List ℕ) (tokens other : List Token) → Tokens from text tokens → Tokens from text other → tokens ≡ other
+one_list from text tokens other h k = ok_tokens tokens other (Ok tokens) refl (one_reading h k)
+
+pub one_breach : (from text : List ℕ) (fault other : Fault) → Breaks from text fault → Breaks from text other → fault ≡ other
+one_breach from text fault other h k = err_faults fault other (Err fault) refl (one_reading h k)
+
+pub not_both : (from text : List ℕ) (tokens : List Token) (fault : Fault) → Tokens from text tokens → Breaks from text fault → ⊥
+not_both from text tokens fault h k = ok_or_err tokens fault (Ok tokens) refl (one_reading h k)

@@ -1,0 +1,11 @@
+use Rattle.lf_lex.proofs.Reading.{one_list, one_breach, not_both}
+use Rattle.lf_lex.proofs.laws.one_reading.Goals as goal
+
+pub returns-clause-tokens : goal.returns-clause-tokens
+returns-clause-tokens c = one_list
+
+pub returns-clause-breach : goal.returns-clause-breach
+returns-clause-breach c = one_breach
+
+pub returns-clause-one : goal.returns-clause-one
+returns-clause-one c = not_both

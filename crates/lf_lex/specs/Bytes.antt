@@ -1,0 +1,58 @@
+-- The classes of bytes that tokens are made of. Letters and digits are those of ASCII.
+use Rattle.std.specs.Prelude.{ℕ, Bool, not, ◌==◌, ◌||◌, ◌&&◌, nat_le}
+
+-- a space, a tab, a line feed, a carriage return
+unfoldable pub is_blank : ℕ → Bool
+is_blank b = b == 32 || b == 9 || b == 10 || b == 13
+
+-- a line feed
+unfoldable pub is_line_feed : ℕ → Bool
+is_line_feed b = b == 10
+
+-- 0 to 9
+unfoldable pub is_digit : ℕ → Bool
+is_digit b = nat_le 48 b && nat_le b 57
+
+-- 0 to 7
+unfoldable pub is_octal : ℕ → Bool
+is_octal b = nat_le 48 b && nat_le b 55
+
+-- A to Z and a to z
+unfoldable pub is_letter : ℕ → Bool
+is_letter b = (nat_le 65 b && nat_le b 90) || (nat_le 97 b && nat_le b 122)
+
+-- a digit, A to F, a to f
+unfoldable pub is_hexadecimal : ℕ → Bool
+is_hexadecimal b = is_digit b || (nat_le 65 b && nat_le b 70) || (nat_le 97 b && nat_le b 102)
+
+-- a dot
+unfoldable pub is_dot : ℕ → Bool
+is_dot b = b == 46
+
+-- e or E
+unfoldable pub is_exponent : ℕ → Bool
+is_exponent b = b == 101 || b == 69
+
+-- + or -
+unfoldable pub is_plus_minus : ℕ → Bool
+is_plus_minus b = b == 43 || b == 45
+
+-- A word begins with a letter, an underscore or, outside brackets, a colon.
+unfoldable pub begins_word : Bool → ℕ → Bool
+begins_word inside b = is_letter b || b == 95 || (b == 58 && not inside)
+
+-- It goes on with these and with digits.
+unfoldable pub is_in_word : Bool → ℕ → Bool
+is_in_word inside b = begins_word inside b || is_digit b
+
+-- what a run is made of but for the sign of an exponent: digits, letters, underscores and dots
+unfoldable pub is_in_run : ℕ → Bool
+is_in_run b = is_digit b || is_letter b || b == 95 || b == 46
+
+-- the part of a run in front of an exponent: digits and dots
+unfoldable pub is_in_mantissa : ℕ → Bool
+is_in_mantissa b = is_digit b || is_dot b
+
+-- a byte that continues a character of several bytes
+unfoldable pub is_continuation : ℕ → Bool
+is_continuation b = nat_le 128 b && nat_le b 191

@@ -1,0 +1,14 @@
+-- Rows of bytes of one class.
+use Rattle.std.specs.Prelude.{ℕ, Bool, not, ◌==◌}
+use Rattle.lf_lex.specs.declared.bytes.Class.{Class}
+use Rattle.lf_lex.specs.declared.bytes.Class.TheVariants as classes
+use Rattle.lf_lex.specs.Bytes.{is_line_feed, is_in_word, is_in_mantissa, is_in_run, is_digit, is_continuation}
+
+abbrev pub is_in_class : Class → ℕ → Bool
+is_in_class classes.NoLineFeed b = not (is_line_feed b)
+is_in_class classes.NoBackQuote b = not (b == 96)
+is_in_class (classes.Word inside) b = is_in_word inside b
+is_in_class classes.Mantissa b = is_in_mantissa b
+is_in_class classes.Run b = is_in_run b
+is_in_class classes.Digit b = is_digit b
+is_in_class classes.Continuation b = is_continuation b

@@ -1,0 +1,86 @@
+//! From a text to its tokens.
+ghost use Rattle.std.specs.Prelude.{◌≡◌, ◌+◌, ◌++◌, ◌≤◌, List, ℕ, length, Ok, Err, IfOk, IfErr, OnOk};
+ghost use Rattle.std.specs.List.Sorted.{IsNonDecreasing, IsNonDecreasingBy};
+ghost use Rattle.lf_lex.specs.Steps.{Fault, Gives, in_source};
+ghost use Rattle.lf_lex.specs.Tokens as told;
+ghost use Rattle.lf_lex.specs.declared.token.Token.{Token};
+
+use crate::step::front;
+use crate::token::{Sign, Token, TokenKind};
+use lf_base::{Memory, Refusal, Seq, Span, Text};
+use std::alloc::Global;
+
+/// Whether a bracket is open behind what was found.
+fn behind(found: &Option<TokenKind>, inside: bool) -> bool
+    ensures { result ≡ told.behind found.now inside }
+{
+    match found {
+        Some(
+            TokenKind::Sign {
+                sign: Sign::OpenBracket,
+            },
+        ) => true,
+        Some(
+            TokenKind::Sign {
+                sign: Sign::CloseBracket,
+            },
+        ) => false,
+        _ => inside,
+    }
+}
+
+/// Appends a token, where one was found.
+fn push(tokens: &mut Seq<Token>, found: Option<TokenKind>, span: Span) -> Result<(), Memory>
+    ensures { OnOk result (tokens.new ≡ tokens.old ++ told.tokens_at found span) }
+{
+    match found {
+        None => Ok(()),
+        Some(kind) => tokens.push(Token { kind, span }),
+    }
+}
+
+/// The tokens of a text. Entry k of `from` is the offset in the source of byte k of the text, and its last entry that of the text's end; spans are offsets of the
+/// source.
+///
+/// The first breach is refused: `BadByte` at a character that begins no token, `OpenString` at a quote that isn't closed, `BadEscape` at the backslash of an
+/// escape that strings don't have or that gives no UTF-8, `BadNumber` and `BadDuration` at a row of digits and letters that is neither.
+pub fn lex(alloc: Global, text: &Text, from: &Seq<u32>) -> Result<Seq<Token>, Refusal>
+    requires from { length from.now ≡ length text.now + 1 }
+    requires rises { IsNonDecreasing from.now }
+    // What is answered are the text's tokens.
+    ensures found { IfOk result (λ tokens. told.Tokens from.now text.now tokens) }
+    // They are answered, unless memory runs out; so no text has two lists of tokens.
+    ensures only { (tokens : List Token) → told.Tokens from.now text.now tokens → Gives result (Ok tokens) }
+    // What is refused is the breach of a text.
+    ensures refused { IfErr result (λ refusal. told.IfAt refusal (told.Breaks from.now text.now)) }
+    // It is refused, unless memory runs out; so no text has two breaches, nor one and tokens.
+    ensures breach { (fault : Fault) → told.Breaks from.now text.now fault → Gives result (Err fault) }
+    // Tokens stand in the order of the source.
+    ensures ordered { IfOk result (λ tokens. IsNonDecreasingBy (λ token. token.span.start) tokens) }
+{
+    read(alloc, text.as_str(), from.as_slice())
+}
+
+/// The same, over a plain text and list.
+fn read(alloc: Global, text: &str, from: &[u32]) -> Result<Seq<Token>, Refusal>
+    requires from { length from.now ≡ length text.now + 1 }
+    requires rises { IsNonDecreasing from.now }
+    ensures found { IfOk result (λ tokens. told.Tokens from.now text.now tokens) }
+    ensures refused { IfErr result (λ refusal. told.IfAt refusal (told.Breaks from.now text.now)) }
+    ensures ordered { IfOk result (λ tokens. IsNonDecreasingBy (λ token. token.span.start) tokens) }
+{
+    let mut tokens = Seq::new(alloc);
+    let mut inside = false;
+    let mut at = 0;
+    while at < text.len() {
+        let (found, len) = front(alloc, text, from, inside, at)?;
+        inside = behind(&found, inside);
+        let span = Span {
+            start: from[at],
+            end: from[at + len],
+        };
+        push(&mut tokens, found, span)?;
+        at += len;
+    }
+    Ok(tokens)
+}

@@ -1,0 +1,17 @@
+//! Tokens of PromQL expressions: words, numbers, durations, strings and signs, with the places in the source where they stand.
+#![tactic(auto)]
+
+mod bytes;
+mod laws;
+mod lexing;
+mod run;
+mod sign;
+mod step;
+mod string;
+#[cfg(test)]
+mod tests;
+mod token;
+
+pub use laws::{closes, durations, one_reading, values};
+pub use lexing::lex;
+pub use token::{Sign, Token, TokenKind};
