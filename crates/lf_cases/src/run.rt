@@ -1,0 +1,71 @@
+//! The loop over the cases.
+
+use crate::call::Call;
+use crate::case::Case;
+use anyhow::Result;
+use std::alloc::Global;
+use std::io::Read;
+
+/// How many cases gave the answer that they expect, and how many didn't.
+#[derive(Clone, Copy, Debug)]
+struct Counts {
+    passed: u64,
+    failed: u64,
+}
+
+impl Counts {
+    /// 0 if some case ran and none failed, else 1.
+    fn status(self) -> u8 {
+        u8::from(self.failed > 0 || self.passed == 0)
+    }
+}
+
+/// Runs the cases of standard input, one a line, over a call. It prints what is wrong, and last how many passed and how many failed, and gives the status.
+pub fn run(rt: &HostRuntime, call: Call) -> Result<u8> {
+    let mut input = Vec::new(rt.alloc());
+    rt.reader().read_to_end(&mut input)?;
+    let counts = run_lines(rt, call, input.as_slice())?;
+    let Counts { passed, failed } = counts;
+    println!(rt; "{passed} passed, {failed} failed")?;
+    Ok(counts.status())
+}
+
+/// Runs the case of each line; an empty line holds none. Lines count from 1.
+fn run_lines(rt: &HostRuntime, call: Call, lines: &[u8]) -> Result<Counts> {
+    let mut counts = Counts {
+        passed: 0,
+        failed: 0,
+    };
+    let mut number: u64 = 0;
+    for line in lines.split(|byte| *byte == b'\n') {
+        number = number.saturating_add(1);
+        if line.is_empty() {
+            continue;
+        }
+        match wrong_in(rt.alloc(), call, line) {
+            Ok(None) => counts.passed = counts.passed.saturating_add(1),
+            Ok(Some(wrong)) => {
+                counts.failed = counts.failed.saturating_add(1);
+                println!(rt; "{wrong}")?;
+            }
+            Err(error) => {
+                counts.failed = counts.failed.saturating_add(1);
+                println!(rt; "line {number}: {error}")?;
+            }
+        }
+    }
+    Ok(counts)
+}
+
+/// What is wrong with the answer to the case of a line, if anything.
+fn wrong_in(alloc: Global, call: Call, line: &[u8]) -> Result<Option<String>> {
+    let case = Case::read(alloc, line)?;
+    let answer = call.answer(alloc, &case)?;
+    if answer == *case.expect() {
+        return Ok(None);
+    }
+    let name = case.name();
+    let expect = case.expect();
+    let wrong = format!(in alloc; "{name}: {answer} in place of {expect}")?;
+    Ok(Some(wrong))
+}
