@@ -38,6 +38,9 @@ fn texts_give_what_was_put_in(rt: HostRuntime) -> Result<(), Fail> {
     assert!(rt; !text.is(&copy));
     assert_eq!(rt; copy.as_str(), "up");
     assert_eq!(rt; clone.as_str(), "up");
+    let taken = Text::from_string(String::from_str(rt.alloc(), "é")?);
+    assert_eq!(rt; taken.as_str(), "é");
+    assert_eq!(rt; taken.len(), 2);
     Ok(())
 }
 
