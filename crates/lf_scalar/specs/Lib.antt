@@ -1,0 +1,11 @@
+pub mod Cells
+pub mod Lines
+pub mod Folding
+pub mod Block
+pub mod Quoted
+pub mod QuotedReading
+pub mod Plain
+pub mod PlainReading
+pub mod BlockReading
+pub mod Reading
+pub mod Scalars

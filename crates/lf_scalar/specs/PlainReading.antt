@@ -1,0 +1,43 @@
+-- Reading a plain scalar line by line.
+use Rattle.std.specs.Prelude.{ℕ, suc, List, [], ◌∷◌, Option, Some, None, Result, Ok, Err, if◌then◌else◌}
+use Rattle.lf_base.specs.declared.kind.Kind.TheVariants.{BadIndent, NotANode}
+use Rattle.lf_scalar.specs.Cells.{Cell, Value, Fault, fault, front, ◌>>=◌}
+use Rattle.lf_scalar.specs.Lines.{Line, lines, is_blank_line}
+use Rattle.lf_scalar.specs.Folding.{fold}
+use Rattle.lf_scalar.specs.Plain.{plain_text, is_commented, key_sign, continues, has_tab, value_of}
+
+abbrev pub unless_key : List Cell → Option Cell → Result (List Cell) Fault
+unless_key text None = Ok text
+unless_key text (Some c) = Err (fault NotANode c.at)
+
+abbrev pub plain_line : Line → Result (List Cell) Fault
+plain_line l = unless_key (plain_text l) (key_sign (plain_text l))
+
+-- the offset of a line's first byte
+abbrev pub start_of : Line → List Cell → ℕ
+start_of l [] = l.break
+start_of l (c ∷ cs) = c.at
+
+-- what follows a line break at an offset with so many blank lines so far
+unfoldable pub plain_behind : ℕ → ℕ → ℕ → List Line → Result (List Cell) Fault
+plain_behind above break k [] = Ok []
+plain_behind above break k (l ∷ ls) =
+    if is_blank_line l then plain_behind above break (suc k) ls
+    else if continues above l then
+    (if has_tab l then Err (fault BadIndent (start_of l l.text))
+    else front (fold break k) (plain_line l >>= λ text. front text (if is_commented l then Ok [] else plain_behind above l.break 0 ls)))
+    else Ok []
+
+abbrev pub plain_from : ℕ → Line → List Line → Result (List Cell) Fault
+plain_from above l ls = plain_line l >>= λ text. front text (if is_commented l then Ok [] else plain_behind above l.break 0 ls)
+
+abbrev pub begun_with : Line → List Cell → Result (List Cell) Fault → Result Value Fault
+begun_with l [] read = Err (fault NotANode l.break)
+begun_with l (c ∷ cs) read = read >>= λ text. Ok (value_of c text)
+
+abbrev pub plain_lines : ℕ → ℕ → List Line → Result Value Fault
+plain_lines above end [] = Err (fault NotANode end)
+plain_lines above end (l ∷ ls) = begun_with l l.text (plain_from above l ls)
+
+unfoldable pub plain_of : ℕ → ℕ → List Cell → Result Value Fault
+plain_of above end src = plain_lines above end (lines end src)

@@ -1,0 +1,202 @@
+-- Scalars between single or double quotes, over one line or several.
+use Rattle.std.specs.Prelude.{◌≡◌, ◌≢◌, ℕ, ◌+◌, ◌*◌, ◌-◌, ◌<◌, ◌≤◌, List, [], ◌∷◌, ◌++◌, map, length, Bool, true, false, Option, Some, None, nat_lt, ◌==◌, if◌then◌else◌}
+use Rattle.std.specs.List.{flat_map, AllByRecursion}
+use Rattle.std.specs.Char.{IsScalar, encode_utf8}
+use Rattle.lf_base.specs.declared.kind.Kind.TheVariants.{BadEscape, OpenQuote, BadIndent, NotANode}
+pub use Rattle.lf_scalar.specs.declared.quotes.Quotes.{Quotes}
+pub use Rattle.lf_scalar.specs.declared.quotes.Quotes.TheVariants.{Single, Double}
+use Rattle.lf_scalar.specs.Cells.{Cell, cell, Value, made, span, Fault, fault, fault_at}
+use Rattle.lf_scalar.specs.Lines.{Line, line, lines, first_text, begins_with, is_blank, after_blanks, after_spaces, indent_of, is_blank_line, AreBlank, is_tail}
+use Rattle.lf_scalar.specs.Folding.{fold, feeds, trimmed}
+
+abbrev pub quote_of : Quotes → ℕ
+quote_of Single = 39
+quote_of Double = 34
+
+-- ---- escapes
+
+-- what a backslash and a letter stand for: \0 \a \b \t \n \v \f \r \e \" \/ \\ \N \_ \L \P, backslash and space, backslash and tab
+abbrev pub letters : List (ℕ × ℕ)
+letters =
+    (48, 0) ∷ (97, 7) ∷ (98, 8) ∷ (116, 9) ∷ (110, 10) ∷ (118, 11) ∷ (102, 12) ∷ (114, 13) ∷ (101, 27) ∷ (34, 34) ∷ (47, 47) ∷ (92, 92)
+    ∷ (78, 0x85) ∷ (95, 0xA0) ∷ (76, 0x2028) ∷ (80, 0x2029) ∷ (32, 32) ∷ (9, 9) ∷ []
+
+abbrev pub looked_up : ℕ → List (ℕ × ℕ) → Option ℕ
+looked_up byte [] = None
+looked_up byte (pair ∷ pairs) = if byte == pair.0 then Some pair.1 else looked_up byte pairs
+
+unfoldable pub letter_of : ℕ → Option ℕ
+letter_of byte = looked_up byte letters
+
+-- how many hexadecimal digits follow \x, \u and \U
+abbrev pub width_of : ℕ → Option ℕ
+width_of byte = if byte == 120 then Some 2 else if byte == 117 then Some 4 else if byte == 85 then Some 8 else None
+
+abbrev pub digit_of : ℕ → Option ℕ
+digit_of b = if nat_lt b 48 then None else if nat_lt b 58 then Some (b - 48) else if nat_lt b 65 then None else if nat_lt b 71 then Some (b - 55) else if nat_lt b 97 then None else if nat_lt b 103 then Some (b - 87) else None
+
+-- the number that digits tell, behind those that told a number before
+abbrev pub Tells : ℕ → List Cell → ℕ → Type 0
+Tells before [] n = n ≡ before
+Tells before (c ∷ cs) n = (d : ℕ) × (digit_of c.byte ≡ Some d) × Tells (16 * before + d) cs n
+
+-- ---- what stands between quotes
+
+-- a byte for itself; two single quotes; a backslash and a letter; a backslash, x, u or U, and hexadecimal digits
+pub data Piece : Type 0 where
+  Bare : Cell → Piece
+  Twice : Cell → Cell → Piece
+  Letter : Cell → Cell → ℕ → Piece
+  Number : Cell → Cell → List Cell → ℕ → Piece
+
+abbrev pub spelled : Piece → List Cell
+spelled (Bare c) = c ∷ []
+spelled (Twice c d) = c ∷ d ∷ []
+spelled (Letter b e n) = b ∷ e ∷ []
+spelled (Number b e digits n) = b ∷ e ∷ digits
+
+-- the UTF-8 of a character, each byte with one offset
+abbrev pub char_cells : ℕ → ℕ → List Cell
+char_cells at n = map (λ byte. cell byte at) (encode_utf8 n)
+
+-- two quotes give the first of them, and each byte of an escape's character has the offset of the backslash
+abbrev pub given : Piece → List Cell
+given (Bare c) = c ∷ []
+given (Twice c d) = c ∷ []
+given (Letter b e n) = char_cells b.at n
+given (Number b e digits n) = char_cells b.at n
+
+abbrev pub IsPiece : Quotes → Piece → Type 0
+IsPiece Single (Bare c) = c.byte ≢ 39
+IsPiece Single (Twice c d) = (c.byte ≡ 39) × (d.byte ≡ 39)
+IsPiece Double (Bare c) = (c.byte ≢ 34) × (c.byte ≢ 92)
+IsPiece Double (Letter b e n) = (b.byte ≡ 92) × (letter_of e.byte ≡ Some n)
+IsPiece Double (Number b e digits n) = (b.byte ≡ 92) × (width_of e.byte ≡ Some (length digits)) × Tells 0 digits n × IsScalar n
+IsPiece kind piece = ⊥
+
+-- a byte for itself that is a blank
+abbrev pub is_bare_blank : Piece → Bool
+is_bare_blank (Bare c) = is_blank c
+is_bare_blank piece = false
+
+-- ---- what closes
+
+-- Between the quotes a single quote stands only twice, and a backslash takes the byte behind it.
+pub data Raw : Type 0 where
+  One : Cell → Raw
+  Pair : Cell → Cell → Raw
+
+abbrev pub raw : Raw → List Cell
+raw (One c) = c ∷ []
+raw (Pair c d) = c ∷ d ∷ []
+
+abbrev pub IsRaw : Quotes → Raw → Type 0
+IsRaw Single (One c) = c.byte ≢ 39
+IsRaw Single (Pair c d) = (c.byte ≡ 39) × (d.byte ≡ 39)
+IsRaw Double (One c) = (c.byte ≢ 34) × (c.byte ≢ 92)
+IsRaw Double (Pair c d) = c.byte ≡ 92
+
+-- the quote that closes isn't one of two single quotes
+abbrev pub ClosesBefore : Quotes → List Cell → Type 0
+ClosesBefore Single rest = begins_with 39 rest ≡ false
+ClosesBefore Double rest = Unit {0}
+
+pub record Closes (kind : Quotes) (src : List Cell) : Type 0 where
+  pub raws : List Raw
+  pub each : AllByRecursion (IsRaw kind) raws
+  pub closing : Cell
+  pub rest : List Cell
+  pub source : src ≡ flat_map raw raws ++ closing ∷ rest
+  pub closes : closing.byte ≡ quote_of kind
+  pub alone : ClosesBefore kind rest
+
+-- the lines of what stands between the quotes, with the closing quote as the end of the last
+abbrev pub inner_lines : {kind : Quotes} {src : List Cell} → Closes kind src → List Line
+inner_lines c = lines (c.closing.at + 1) (flat_map raw c.raws ++ c.closing ∷ [])
+
+-- ---- the lines between the quotes. An indent is above the parent's where it has at least `above` spaces.
+
+-- the line break at an offset is folded, or dropped
+pub data Break : Type 0 where
+  Folds : ℕ → Break
+  Drops : ℕ → Break
+
+-- what it gives with so many blank lines behind it
+abbrev pub filled : Break → ℕ → List Cell
+filled (Folds at) k = fold at k
+filled (Drops at) k = feeds k at
+
+-- A line before the last: its text and its line break. The blanks at its end are dropped, and its line break is folded. A backslash at its end drops the line break
+-- and keeps the blanks before it.
+abbrev pub IsBroken : Quotes → Line → List Cell → Break → Type 0
+IsBroken kind l text (Folds at) = (pieces : List Piece) × AllByRecursion (IsPiece kind) pieces × (l.text ≡ flat_map spelled pieces) × (text ≡ flat_map given (trimmed is_bare_blank pieces)) × (at ≡ l.break)
+IsBroken Double l text (Drops at) =
+    (pieces : List Piece) × (backslash : Cell) × AllByRecursion (IsPiece Double) pieces × (backslash.byte ≡ 92) × (l.text ≡ flat_map spelled pieces ++ backslash ∷ []) × (text ≡ flat_map given pieces) × (at ≡ l.break)
+IsBroken Single l text (Drops at) = ⊥
+
+-- behind a line stand blank lines, and then one that isn't
+pub record Follows (blank : List Line) (next : Line) : Type 0 where
+  pub are_blank : AreBlank blank
+  pub is_full : is_blank_line next ≡ false
+
+-- without the blanks at its start
+abbrev pub unindented : Line → Line
+unindented l = line (after_blanks l.text) l.break
+
+-- `QuotedFrom kind above l ls text`: the line l and the lines ls behind it, the last of which ends with the closing quote, give this text.
+pub data QuotedFrom (kind : Quotes) (above : ℕ) : Line → List Line → List Cell → Type 0 where
+  last : {l : Line} (pieces : List Piece) (closing : Cell) → AllByRecursion (IsPiece kind) pieces → closing.byte ≡ quote_of kind → l.text ≡ flat_map spelled pieces ++ closing ∷ [] → QuotedFrom kind above l [] (flat_map given pieces)
+  more : {l next : Line} {ls : List Line} {text : List Cell} (part : List Cell) (break : Break) (blank : List Line) → IsBroken kind l part break → Follows blank next → above ≤ indent_of next.text
+      → QuotedFrom kind above (unindented next) ls text → QuotedFrom kind above l (blank ++ next ∷ ls) (part ++ (filled break (length blank) ++ text))
+
+-- A backslash in a line with which no piece begins, and pieces before it. Nor is it the line's end.
+pub record HasBadEscape (kind : Quotes) (text : List Cell) (backslash : Cell) : Type 0 where
+  pub pieces : List Piece
+  pub each : AllByRecursion (IsPiece kind) pieces
+  pub more : List Cell
+  pub source : text ≡ flat_map spelled pieces ++ backslash ∷ more
+  pub is_backslash : backslash.byte ≡ 92
+  pub inside : more ≢ []
+  pub none : (p : Piece) (rest : List Cell) → IsPiece kind p → backslash ∷ more ≡ spelled p ++ rest → ⊥
+
+-- What breaks the lines from l on: an escape that isn't one, a line that isn't blank and isn't indented, or what breaks a later line.
+pub data QuotedBreaks (kind : Quotes) (above : ℕ) : Line → List Line → Fault → Type 0 where
+  escape : {l : Line} {backslash : Cell} (ls : List Line) → HasBadEscape kind l.text backslash → QuotedBreaks kind above l ls (fault BadEscape backslash.at)
+  indent : {l next : Line} {c : Cell} {cs : List Cell} (part : List Cell) (break : Break) (blank ls : List Line) → IsBroken kind l part break → Follows blank next
+      → indent_of next.text < above → after_spaces next.text ≡ c ∷ cs → QuotedBreaks kind above l (blank ++ next ∷ ls) (fault_at BadIndent c)
+  later : {l next : Line} {ls : List Line} {f : Fault} (part : List Cell) (break : Break) (blank : List Line) → IsBroken kind l part break → Follows blank next → above ≤ indent_of next.text
+      → QuotedBreaks kind above (unindented next) ls f → QuotedBreaks kind above l (blank ++ next ∷ ls) f
+
+-- ---- the scalar
+
+-- a scalar between quotes, whatever stands behind it
+pub record IsClosed (kind : Quotes) (above : ℕ) (opening : Cell) (src : List Cell) (v : Value) : Type 0 where
+  pub between : Closes kind src
+  pub first : Line
+  pub following : List Line
+  pub source : inner_lines between ≡ first ∷ following
+  pub text : List Cell
+  pub from : QuotedFrom kind above first following text
+  pub value : v ≡ made text between.closing.at (span opening.at (between.closing.at + 1))
+
+-- what stands behind the closing quote on its line
+abbrev pub behind : {kind : Quotes} {src : List Cell} → ℕ → Closes kind src → List Cell
+behind end c = first_text (lines end c.rest)
+
+pub record IsQuoted (kind : Quotes) (above end : ℕ) (opening : Cell) (src : List Cell) (v : Value) : Type 0 where
+  pub closed : IsClosed kind above opening src v
+  pub alone : is_tail false (behind end closed.between) ≡ true
+
+-- the first character of some cells that no blanks and no comment have there
+pub record WrongBehind (cs : List Cell) (wrong : Cell) : Type 0 where
+  pub front : List Cell
+  pub more : List Cell
+  pub source : cs ≡ front ++ wrong ∷ more
+  pub before : is_tail false front ≡ true
+  pub here : is_tail false (front ++ wrong ∷ []) ≡ false
+
+-- what breaks a scalar between quotes: nothing closes it, its lines are broken, or something stands behind it
+pub data BreaksQuoted (kind : Quotes) (above end : ℕ) (opening : Cell) (src : List Cell) : Fault → Type 0 where
+  open_quote : (Closes kind src → ⊥) → BreaksQuoted kind above end opening src (fault OpenQuote opening.at)
+  inside : {first : Line} {following : List Line} {f : Fault} (c : Closes kind src) → inner_lines c ≡ first ∷ following → QuotedBreaks kind above first following f → BreaksQuoted kind above end opening src f
+  outside : {v : Value} {wrong : Cell} (closed : IsClosed kind above opening src v) → WrongBehind (behind end closed.between) wrong → BreaksQuoted kind above end opening src (fault_at NotANode wrong)

@@ -1,0 +1,112 @@
+//! A text that is being made, with the source offset of each of its bytes.
+ghost use Rattle.std.specs.Prelude.{◌≡◌, ℕ, ◌+◌, ◌<◌, ◌^◌, ◌∷◌, ◌++◌, [], length, take, OnOk};
+ghost use Rattle.lf_scalar.specs.Cells.{cell, cells};
+ghost use Rattle.lf_scalar.specs.Folding.{feeds, fold};
+ghost use Rattle.lf_scalar.specs.Quoted.{char_cells};
+
+use lf_base::Memory;
+use std::alloc::Global;
+use std::marker::Model;
+
+/// Bytes, and for each the source offset of what gave it. Contracts see it as a list of cells.
+#[derive(Debug, Drop)]
+pub struct Draft {
+    text: Vec<u8>,
+    from: Vec<u32>,
+}
+
+impl Model for Draft {
+    ghost use Rattle.std.specs.Prelude.{◌≡◌, List, length};
+    ghost use Rattle.lf_scalar.specs.Cells.{Cell, zipped};
+
+    ghost Value = { List Cell };
+
+    ghost view = { λ d. zipped d.text.items d.from.items };
+
+    ghost invariant = { λ d. length d.text.items ≡ length d.from.items };
+}
+
+impl Draft {
+    /// No byte yet.
+    pub fn new(alloc: Global) -> Draft
+        ensures { result ≡ [] }
+    {
+        Draft {
+            text: Vec::new(alloc),
+            from: Vec::new(alloc),
+        }
+    }
+
+    /// How many bytes there are.
+    pub fn len(&self) -> usize
+        ensures { result ≡ length self.now }
+    {
+        self.text.as_slice().len()
+    }
+
+    /// Appends a byte that something at an offset gave.
+    pub fn push(&mut self, byte: u8, at: u32) -> Result<(), Memory>
+        ensures { OnOk result (self.new ≡ self.old ++ cell byte at ∷ []) }
+    {
+        self.from.push(at)?;
+        match self.text.push(byte) {
+            Ok(()) => Ok(()),
+            Err(_) => {
+                self.from.pop();
+                Err(Memory)
+            }
+        }
+    }
+
+    /// Keeps the first bytes alone.
+    pub fn truncate(&mut self, len: usize)
+        ensures { self.new ≡ take len self.old }
+    {
+        self.text.truncate(len);
+        self.from.truncate(len);
+    }
+}
+
+/// Appends bytes of the source, the first of them at an offset.
+pub fn copy(draft: &mut Draft, bytes: &[u8], at: u32) -> Result<(), Memory>
+    requires { at + length bytes.now < 2 ^ 32 }
+    ensures { OnOk result (draft.new ≡ draft.old ++ cells at bytes.now) }
+{
+    for (i, byte) in bytes.iter().enumerate() {
+        draft.push(*byte, at + i as u32)?;
+    }
+    Ok(())
+}
+
+/// Appends so many line feeds, each with the offset of one line break.
+pub fn feed(draft: &mut Draft, count: usize, at: u32) -> Result<(), Memory>
+    ensures { OnOk result (draft.new ≡ draft.old ++ feeds count at) }
+{
+    for _ in 0..count {
+        draft.push(b'\n', at)?;
+    }
+    Ok(())
+}
+
+/// Appends what a line break with so many blank lines behind it becomes.
+pub fn fold_break(draft: &mut Draft, count: usize, at: u32) -> Result<(), Memory>
+    ensures { OnOk result (draft.new ≡ draft.old ++ fold at count) }
+{
+    if count == 0 {
+        draft.push(b' ', at)
+    } else {
+        feed(draft, count, at)
+    }
+}
+
+/// Appends a character that an escape at an offset gave.
+pub fn push_char(draft: &mut Draft, c: char, at: u32) -> Result<(), Memory>
+    ensures { OnOk result (draft.new ≡ draft.old ++ char_cells at c) }
+{
+    let mut buffer = [0; 4];
+    let encoded = c.encode_utf8(&mut buffer);
+    for byte in encoded.as_bytes() {
+        draft.push(*byte, at)?;
+    }
+    Ok(())
+}

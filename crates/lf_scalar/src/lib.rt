@@ -1,0 +1,23 @@
+//! Scalars of rule files in every style of the YAML profile: the text, and for each of its bytes the source offset of what gave it.
+#![tactic(auto)]
+
+mod block;
+mod draft;
+mod escapes;
+mod lines;
+mod quoted;
+mod quotes;
+mod scalar;
+
+pub use block::Chomp;
+pub use draft::{Draft, copy, feed, fold_break, push_char};
+pub use escapes::{
+    Given, digit, double_piece, escape, letter, number, numbered, piece, push_given, single_piece,
+    width,
+};
+pub use lines::{LineEnd, before, blanks, char_len, is_blank_byte, line_end, past, spaces};
+pub use quoted::{
+    AtBreak, Pending, Reach, fill, find_closing, not_indented, push_line, push_next, push_pieces,
+};
+pub use quotes::Quotes;
+pub use scalar::{Scalar, Style};

@@ -1,0 +1,206 @@
+//! Scalars between quotes.
+ghost use Rattle.std.specs.Prelude.{false, ◌≡◌, ℕ, ◌+◌, ◌<◌, ◌≤◌, ◌^◌, length, get_or, drop, cond, ◌++◌, IfSome, IfOk, OnOk, option_map};
+ghost use Rattle.lf_scalar.specs.Cells.{Fails, cells};
+ghost use Rattle.lf_scalar.specs.QuotedReading.{closing_of, split_of, IsStep, Reaches, is_blank_given, LineGives, broken, line_at, line_of, bad_indent, next_line};
+ghost use Rattle.lf_scalar.specs.Quoted.{filled};
+ghost use Rattle.lf_scalar.specs.Lines.{is_blank};
+ghost use Rattle.std.specs.List.{list_all};
+
+use crate::draft::{Draft, feed, fold_break};
+use crate::escapes::{Given, piece, push_given};
+use crate::lines::{blanks, char_len, past, spaces};
+use crate::quotes::Quotes;
+use lf_base::{Kind, Memory, Refusal, Span};
+
+/// The place of the quote that closes.
+pub fn find_closing(kind: Quotes, line: &[u8], at: u32) -> Option<usize>
+    ensures within { IfSome result (λ k. k < length line.now) }
+    ensures value { option_map (split_of at line.now) result ≡ closing_of kind 0 (cells at line.now) }
+{
+    let mut skip = false;
+    for (i, byte) in line.iter().enumerate() {
+        if skip {
+            skip = false;
+        } else {
+            match step_of(kind, line, i, *byte) {
+                Step::Closes => return Some(i),
+                Step::TakesNext => skip = true,
+                Step::Passes => {}
+            }
+        }
+    }
+    None
+}
+
+/// What a byte between quotes does.
+#[derive(Clone, Copy, PartialEq, Eq, Debug)]
+enum Step {
+    /// It is the quote that closes.
+    Closes,
+    /// It takes the byte behind it.
+    TakesNext,
+    /// It stands alone.
+    Passes,
+}
+
+/// What the byte at a place between quotes does.
+fn step_of(kind: Quotes, line: &[u8], i: usize, byte: u8) -> Step
+    requires { i < length line.now }
+    ensures { IsStep kind byte (get_or line.now (i + 1) 0) result }
+{
+    match kind {
+        Quotes::Single => {
+            if byte != b'\'' {
+                Step::Passes
+            } else if i + 1 < line.len() && line[i + 1] == b'\'' {
+                Step::TakesNext
+            } else {
+                Step::Closes
+            }
+        }
+        Quotes::Double => match byte {
+            b'"' => Step::Closes,
+            b'\\' => Step::TakesNext,
+            _ => Step::Passes,
+        },
+    }
+}
+
+/// How far the pieces at the front of a line go.
+#[derive(Clone, Copy, PartialEq, Eq, Debug)]
+pub struct Reach {
+    /// How many bytes of the line are pieces.
+    pub stop: usize,
+    /// How long the draft is without the blanks at the end of what they gave, those of escapes aside.
+    pub kept: usize,
+}
+
+/// Appends what the pieces at the front of a line between quotes give, as many as stand there.
+pub fn push_pieces(draft: &mut Draft, kind: Quotes, line: &[u8], at: u32) -> Result<Reach, Memory>
+    requires { at + length line.now < 2 ^ 32 }
+    ensures reaches { IfOk result (λ reach. Reaches kind (cells at line.now) draft.old draft.new reach.kept (cells (at + reach.stop) (drop reach.stop line.now))) }
+    ensures within { IfOk result (λ reach. reach.stop ≤ length line.now) }
+{
+    let mut stop: usize = 0;
+    let mut kept = draft.len();
+    while stop < line.len() {
+        let place = at + stop as u32;
+        let Some((given, behind)) = piece(kind, past(line, stop), place) else {
+            break;
+        };
+        push_given(draft, given, place)?;
+        kept = kept_behind(draft.len(), given, kept);
+        stop += 1 + behind;
+    }
+    Ok(Reach { stop, kept })
+}
+
+/// How long the draft is without blanks at its end, once a piece made it so long.
+fn kept_behind(len: usize, given: Given, kept: usize) -> usize
+    ensures { result ≡ cond (is_blank_given given) kept len }
+{
+    match given {
+        Given::Byte(b' ') => kept,
+        Given::Byte(b'\t') => kept,
+        Given::Byte(_) => len,
+        Given::Char(_) => len,
+    }
+}
+
+/// What becomes of a line break between quotes.
+#[derive(Clone, Copy, PartialEq, Eq, Debug)]
+pub enum AtBreak {
+    /// It is folded.
+    Fold,
+    /// A backslash before it drops it.
+    Drop,
+}
+
+/// Appends what a line between quotes gives, without the blanks before a line break that is folded. It ends at the line's end or at the quote that closes, and is refused
+/// where a backslash begins no escape.
+pub fn push_line(draft: &mut Draft, kind: Quotes, line: &[u8], at: u32) -> Result<AtBreak, Refusal>
+    requires { at + length line.now + 1 < 2 ^ 32 }
+    ensures { (break_at : ℕ) → LineGives result draft.old draft.new break_at (line_of kind (line_at at line.now break_at)) }
+{
+    let reach = match push_pieces(draft, kind, line, at) {
+        Ok(reach) => reach,
+        Err(_) => return Err(Refusal::Memory),
+    };
+    if reach.stop >= line.len() {
+        draft.truncate(reach.kept);
+        return Ok(AtBreak::Fold);
+    }
+    if line[reach.stop] != b'\\' {
+        return Ok(AtBreak::Fold);
+    }
+    if reach.stop + 1 >= line.len() {
+        return Ok(AtBreak::Drop);
+    }
+    let place = at + reach.stop as u32;
+    Err(Refusal::At {
+        kind: Kind::BadEscape,
+        span: Span {
+            start: place,
+            end: place + 1,
+        },
+    })
+}
+
+/// Appends what a line break at an offset becomes, with so many blank lines behind it.
+pub fn fill(draft: &mut Draft, at_break: AtBreak, blank: usize, at: u32) -> Result<(), Memory>
+    ensures { OnOk result (draft.new ≡ draft.old ++ filled (broken at_break at) blank) }
+{
+    match at_break {
+        AtBreak::Fold => fold_break(draft, blank, at),
+        AtBreak::Drop => feed(draft, blank, at),
+    }
+}
+
+/// The refusal of a line that isn't blank and isn't indented enough: its first character behind so many spaces.
+pub fn not_indented(line: &[u8], indent: usize, at: u32) -> Refusal
+    requires room { at + length line.now + 4 < 2 ^ 32 }
+    requires within { indent < length line.now }
+    ensures { (break_at : ℕ) → Fails result (bad_indent (line_at at line.now break_at) (cells (at + indent) (drop indent line.now))) }
+{
+    let place = at + indent as u32;
+    Refusal::At {
+        kind: Kind::BadIndent,
+        span: Span {
+            start: place,
+            end: place + char_len(line[indent]),
+        },
+    }
+}
+
+/// A line break that waits for what follows it: what becomes of it, where it stands, and how many blank lines stand behind it.
+#[derive(Clone, Copy, PartialEq, Eq, Debug)]
+pub struct Pending {
+    pub at_break: AtBreak,
+    pub at: u32,
+    pub blank: usize,
+}
+
+/// Appends what a line break becomes and what the line behind it gives, which isn't blank and has at least `above` spaces, else it is refused.
+pub fn push_next(
+    draft: &mut Draft,
+    kind: Quotes,
+    above: usize,
+    pending: Pending,
+    line: &[u8],
+    at: u32,
+) -> Result<AtBreak, Refusal>
+    requires room { at + length line.now + 4 < 2 ^ 32 }
+    requires full { list_all is_blank (cells at line.now) ≡ false }
+    ensures { (break_at : ℕ) → LineGives result draft.old draft.new break_at (next_line kind above (broken pending.at_break pending.at) pending.blank (line_at at line.now break_at)) }
+{
+    let indent = spaces(line);
+    if indent < above {
+        return Err(not_indented(line, indent, at));
+    }
+    match fill(draft, pending.at_break, pending.blank, pending.at) {
+        Ok(()) => {}
+        Err(_) => return Err(Refusal::Memory),
+    }
+    let skipped = blanks(line);
+    push_line(draft, kind, past(line, skipped), at + skipped as u32)
+}
