@@ -5,6 +5,7 @@ mod block;
 mod draft;
 mod escapes;
 mod lines;
+mod plain_line;
 mod quoted;
 mod quotes;
 mod scalar;
@@ -16,6 +17,9 @@ pub use escapes::{
     width,
 };
 pub use lines::{LineEnd, before, blanks, char_len, is_blank_byte, line_end, past, spaces};
+pub use plain_line::{
+    Part, find_comment, find_key_sign, part_of, push_bare, push_plain_line, trimmed_len,
+};
 pub use quoted::{
     AtBreak, Pending, Reach, fill, find_closing, not_indented, push_line, push_next, push_pieces,
 };
