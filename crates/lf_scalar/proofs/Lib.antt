@@ -23,3 +23,4 @@ pub mod Vectors
 pub mod QuotedLine
 pub mod IndentFault
 pub mod NextLine
+pub mod Behind
