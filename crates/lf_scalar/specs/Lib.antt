@@ -9,3 +9,4 @@ pub mod PlainReading
 pub mod BlockReading
 pub mod Reading
 pub mod Scalars
+pub mod Drafted

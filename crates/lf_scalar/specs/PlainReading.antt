@@ -1,8 +1,7 @@
 -- Reading a plain scalar line by line.
-use Rattle.std.specs.Prelude.{◌≡◌, ℕ, zero, suc, Bool, false, get_or, ◌==◌, ◌&&◌, List, [], ◌∷◌, ◌++◌, Option, Some, None, Result, Ok, Err, if◌then◌else◌}
-use Rattle.lf_base.specs.declared.refusal.Refusal.{Refusal}
+use Rattle.std.specs.Prelude.{ℕ, zero, suc, Bool, false, get_or, ◌==◌, ◌&&◌, List, [], ◌∷◌, Option, Some, None, Result, Ok, Err, if◌then◌else◌}
 use Rattle.lf_base.specs.declared.kind.Kind.TheVariants.{BadIndent, NotANode}
-use Rattle.lf_scalar.specs.Cells.{Cell, cell, cells, Value, Fault, fault, Fails, front, ◌>>=◌}
+use Rattle.lf_scalar.specs.Cells.{Cell, cell, cells, Value, Fault, fault, front, ◌>>=◌}
 use Rattle.lf_scalar.specs.Lines.{Line, lines, is_blank, is_blank_line}
 use Rattle.lf_scalar.specs.Folding.{fold}
 use Rattle.lf_scalar.specs.Plain.{plain_text, is_commented, before_blank, key_sign, continues, has_tab, value_of}
@@ -56,8 +55,3 @@ abbrev pub key_at : List ℕ → ℕ → Bool
 key_at [] n = false
 key_at (b ∷ bytes) zero = (b == 58) && before_blank (cells 0 bytes)
 key_at (b ∷ bytes) (suc n) = key_at bytes n
-
--- what a function that reads a text returned, and what it did to a draft, is what is read, unless memory ran out
-abbrev pub Appends : {X : Type 0} → Result X Refusal → List Cell → List Cell → Result (List Cell) Fault → Type 0
-Appends (Ok x) old now read = (part : List Cell) × (read ≡ Ok part) × (now ≡ old ++ part)
-Appends (Err e) old now read = Fails e read

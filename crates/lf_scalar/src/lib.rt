@@ -3,6 +3,7 @@
 
 mod block;
 mod draft;
+mod drafted;
 mod escapes;
 mod lines;
 mod plain_line;
@@ -12,11 +13,15 @@ mod scalar;
 
 pub use block::Chomp;
 pub use draft::{Draft, copy, feed, fold_break, push_char};
+pub use drafted::Drafted;
 pub use escapes::{
     Given, digit, double_piece, escape, letter, number, numbered, piece, push_given, single_piece,
     width,
 };
-pub use lines::{LineEnd, before, blanks, char_len, is_blank_byte, line_end, past, spaces};
+pub use lines::{
+    LineEnd, before, blanks, char_len, fault_at, is_blank_byte, line_end, past, spaces,
+    wrong_behind,
+};
 pub use plain_line::{
     Part, find_comment, find_key_sign, part_of, push_bare, push_plain_line, trimmed_len,
 };

@@ -1,9 +1,13 @@
 //! The lines of a source.
-ghost use Rattle.std.specs.Prelude.{◌≡◌, ℕ, ◌+◌, ◌<◌, ◌≤◌, ◌∷◌, length, take, drop, eqb};
-ghost use Rattle.lf_scalar.specs.Cells.{cell, cells};
+ghost use Rattle.std.specs.Prelude.{false, ◌≡◌, ℕ, ◌+◌, ◌<◌, ◌≤◌, ◌^◌, ◌∷◌, length, get_or, take, drop, eqb, IfSome, option_map};
+ghost use Rattle.lf_scalar.specs.Cells.{cell, cells, fault_at as at_cell};
+ghost use Rattle.lf_scalar.specs.Drafted.{refused};
+ghost use Rattle.lf_scalar.specs.QuotedReading.{wrong_behind as first_wrong};
 ghost use Rattle.std.specs.List.{list_all};
 ghost use Rattle.std.specs.Str.{continuation_len};
 ghost use Rattle.lf_scalar.specs.Lines.{line, lines_at, IsTextBefore, indent_of, is_blank, after_blanks, after_spaces};
+
+use lf_base::{Kind, Refusal, Span};
 
 /// Where the first line of some bytes ends.
 #[derive(Clone, Copy, PartialEq, Eq, Debug)]
@@ -107,5 +111,36 @@ pub fn char_len(byte: u8) -> u32
         128..=223 => 2,
         224..=239 => 3,
         _ => 4,
+    }
+}
+
+/// The place of the first byte that can't stand behind a scalar on its line, where blanks and a comment may. `line` is what stands behind the scalar.
+pub fn wrong_behind(line: &[u8]) -> Option<usize>
+    ensures within { IfSome result (λ k. k < length line.now) }
+    ensures value { (at : ℕ) → option_map (λ k. cell (get_or line.now k 0) (at + k)) result ≡ first_wrong false (cells at line.now) }
+{
+    let skipped = blanks(line);
+    if skipped >= line.len() {
+        return None;
+    }
+    if skipped > 0 && line[skipped] == b'#' {
+        return None;
+    }
+    Some(skipped)
+}
+
+/// The refusal whose span is the character at a place of a line that stands at an offset.
+pub fn fault_at(kind: Kind, line: &[u8], k: usize, at: u32) -> Refusal
+    requires within { k < length line.now }
+    requires room { at + length line.now + 4 < 2 ^ 32 }
+    ensures { result ≡ refused (at_cell kind (cell (get_or line.now k 0) (at + k))) }
+{
+    let place = at + k as u32;
+    Refusal::At {
+        kind,
+        span: Span {
+            start: place,
+            end: place + char_len(line[k]),
+        },
     }
 }

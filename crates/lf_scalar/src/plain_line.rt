@@ -5,7 +5,8 @@ ghost use Rattle.lf_scalar.specs.Lines.{is_blank};
 ghost use Rattle.lf_scalar.specs.Folding.{trimmed};
 ghost use Rattle.lf_scalar.specs.Plain.{before_comment, has_comment, key_sign, is_commented};
 ghost use Rattle.lf_scalar.specs.QuotedReading.{line_at};
-ghost use Rattle.lf_scalar.specs.PlainReading.{Appends, comment_at, key_at, unless_key, plain_line};
+ghost use Rattle.lf_scalar.specs.Drafted.{TextGives};
+ghost use Rattle.lf_scalar.specs.PlainReading.{comment_at, key_at, unless_key, plain_line};
 
 use crate::draft::{Draft, copy};
 use crate::lines::{before, blanks, is_blank_byte, past};
@@ -106,7 +107,7 @@ pub fn part_of(text: &[u8]) -> Part
 /// Appends a text of a plain scalar, which is refused where it has the sign of a key.
 pub fn push_bare(draft: &mut Draft, text: &[u8], at: u32) -> Result<(), Refusal>
     requires { at + length text.now < 2 ^ 32 }
-    ensures { Appends result draft.old draft.new (unless_key (cells at text.now) (key_sign (cells at text.now))) }
+    ensures { TextGives result draft.old draft.new (unless_key (cells at text.now) (key_sign (cells at text.now))) }
 {
     if let Some(place) = find_key_sign(text) {
         let start = at + place as u32;
@@ -127,7 +128,7 @@ pub fn push_bare(draft: &mut Draft, text: &[u8], at: u32) -> Result<(), Refusal>
 /// Appends what a line of a plain scalar gives, and tells whether it ends in a comment. It is refused where it has the sign of a key.
 pub fn push_plain_line(draft: &mut Draft, line: &[u8], at: u32) -> Result<bool, Refusal>
     requires { at + length line.now < 2 ^ 32 }
-    ensures text { (break_at : ℕ) → Appends result draft.old draft.new (plain_line (line_at at line.now break_at)) }
+    ensures text { (break_at : ℕ) → TextGives result draft.old draft.new (plain_line (line_at at line.now break_at)) }
     ensures comment { IfOk result (λ commented. (break_at : ℕ) → is_commented (line_at at line.now break_at) ≡ commented) }
 {
     let skipped = blanks(line);

@@ -1,0 +1,18 @@
+-- What the readers return: a scalar that was read as a value, a fault as a refusal, and what a reader appends.
+use Rattle.std.specs.Prelude.{◌≡◌, List, ◌++◌, Result, Ok, Err}
+use Rattle.lf_base.specs.declared.refusal.Refusal.{Refusal}
+use Rattle.lf_base.specs.declared.refusal.Refusal.TheVariants as refusal_of
+use Rattle.lf_scalar.specs.declared.drafted.Drafted.{Drafted}
+use Rattle.lf_scalar.specs.Cells.{Cell, Value, made, Fault, Fails}
+
+abbrev pub drafted : Drafted → Value
+drafted d = made d.draft d.end d.span
+
+-- the refusal that tells a fault
+abbrev pub refused : Fault → Refusal
+refused f = refusal_of.At f.kind f.span
+
+-- what a function that appends to a text returned, and what it did to the text, is what a reader gives, unless memory ran out
+abbrev pub TextGives : {X : Type 0} → Result X Refusal → List Cell → List Cell → Result (List Cell) Fault → Type 0
+TextGives (Ok x) old now read = (part : List Cell) × (read ≡ Ok part) × (now ≡ old ++ part)
+TextGives (Err e) old now read = Fails e read
