@@ -25,3 +25,6 @@ pub mod IndentFault
 pub mod NextLine
 pub mod PlainText
 pub mod Behind
+pub mod PlainCode
+pub mod LineCuts
+pub mod Parts
