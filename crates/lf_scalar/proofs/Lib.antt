@@ -28,3 +28,6 @@ pub mod Behind
 pub mod PlainCode
 pub mod LineCuts
 pub mod Parts
+pub mod Rising
+pub mod PlainOffsets
+pub mod PlainRead

@@ -1,5 +1,5 @@
 -- A source is its first line's text, the line's end, and what its other lines stand for.
-use Rattle.std.proofs.Common.{◌≡◌, ℕ, zero, suc, ◌+◌, ◌<◌, List, [], ◌∷◌, ◌++◌, length, refl, ap, arith, sym, ◌∙◌, subst, ◌⊎◌, inl, inr}
+use Rattle.std.proofs.Common.{◌≡◌, ℕ, List, [], ◌∷◌, ◌++◌, refl, ap, sym, ◌∙◌, subst, ◌⊎◌, inl, inr}
 use Rattle.lf_scalar.specs.Cells.{Cell}
 use Rattle.lf_scalar.specs.Lines.{Line, line, lengthen, lines}
 use Rattle.lf_scalar.proofs.LineSteps.{IsReturn, IsOther, line-step, lines-nil, lines-feed, lines-return, lines-other}
@@ -24,30 +24,42 @@ abbrev pub HasLine : ℕ → List Cell → Type 0
 HasLine end src = (l : Line) × (ls : List Line) × (lines end src ≡ l ∷ ls) × FirstLine end src l ls
 
 by-feed : (end : ℕ) (c : Cell) (src : List Cell) → c.byte ≡ 10 → HasLine end (c ∷ src)
-by-feed end c src e =
-    (line [] c.at, lines end src, lines-feed end c src e,
-    record { ending = c ∷ []; rest = src; source = refl; following = refl; ends = inl (record { before = []; feed = c; is_ending = refl; is_feed = e; place = refl; returns = inl refl }) })
+by-feed end c src e = (
+  line [] c.at,
+  lines end src,
+  lines-feed end c src e,
+  record { ending = c ∷ []; rest = src; source = refl; following = refl; ends = inl (record { before = []; feed = c; is_ending = refl; is_feed = e; place = refl; returns = inl refl }) },
+)
 
 by-return : (end : ℕ) (c : Cell) (src : List Cell) → IsReturn c src → HasLine end (c ∷ src)
-by-return end c src r =
-    (line [] r.feed.at, lines end r.rest, lines-return end c src r,
-    record {
-      ending = c ∷ r.feed ∷ [];
-      rest = r.rest;
-      source = ap (λ (cs : List Cell). c ∷ cs) r.source;
-      following = refl;
-      ends = inl (record { before = c ∷ []; feed = r.feed; is_ending = refl; is_feed = r.is_feed; place = refl; returns = inr (c, refl, r.return) });
-    })
+by-return end c src r = (
+  line [] r.feed.at,
+  lines end r.rest,
+  lines-return end c src r,
+  record {
+    ending = c ∷ r.feed ∷ [];
+    rest = r.rest;
+    source = ap (λ (cs : List Cell). c ∷ cs) r.source;
+    following = refl;
+    ends = inl (record { before = c ∷ []; feed = r.feed; is_ending = refl; is_feed = r.is_feed; place = refl; returns = inr (c, refl, r.return) });
+  },
+)
 
 by-other : (end : ℕ) (c : Cell) (src : List Cell) → IsOther c src → HasLine end src → HasLine end (c ∷ src)
-by-other end c src o (l, ls, e, f) =
-    (line (c ∷ l.text) l.break, ls, lines-other end c src o ∙ ap (lengthen end c) e,
-    record { ending = f.ending; rest = f.rest; source = ap (λ (cs : List Cell). c ∷ cs) f.source; following = f.following; ends = f.ends })
+by-other end c src o (l, ls, e, f) = (
+  line (c ∷ l.text) l.break,
+  ls,
+  lines-other end c src o ∙ ap (lengthen end c) e,
+  record { ending = f.ending; rest = f.rest; source = ap (λ (cs : List Cell). c ∷ cs) f.source; following = f.following; ends = f.ends },
+)
 
 by-last : (end : ℕ) (c : Cell) → IsOther c [] → HasLine end (c ∷ [])
-by-last end c o =
-    (line (c ∷ []) end, [], lines-other end c [] o ∙ ap (lengthen end c) (lines-nil end),
-    record { ending = []; rest = []; source = refl; following = sym (lines-nil end); ends = inr (refl, refl, refl) })
+by-last end c o = (
+  line (c ∷ []) end,
+  [],
+  lines-other end c [] o ∙ ap (lengthen end c) (lines-nil end),
+  record { ending = []; rest = []; source = refl; following = sym (lines-nil end); ends = inr (refl, refl, refl) },
+)
 
 -- some cells have a first line
 pub has-line : (end : ℕ) (c : Cell) (src : List Cell) → HasLine end (c ∷ src)

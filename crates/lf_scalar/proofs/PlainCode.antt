@@ -1,11 +1,11 @@
 -- The lines behind a plain scalar's first line, one by one.
-use Rattle.std.proofs.Common.{◌≡◌, ℕ, zero, suc, ◌+◌, ◌<◌, ◌≤◌, Bool, true, false, cond, List, [], ◌∷◌, ◌++◌, Option, Some, None, Result, Ok, Err, length, take, drop, refl, ap, arith, append_assoc, sym, ◌∙◌, subst}
+use Rattle.std.proofs.Common.{◌≡◌, ℕ, ◌+◌, ◌≤◌, Bool, true, false, cond, List, [], ◌∷◌, ◌++◌, Some, None, Result, Ok, Err, length, take, drop, refl, ap, arith, append_assoc, sym, ◌∙◌, subst}
 use Rattle.std.proofs.lemmas.List.{append-nil, drop-drop, drop_all}
-use Rattle.lf_base.specs.declared.kind.Kind.TheVariants.{BadIndent, NotANode}
+use Rattle.lf_base.specs.declared.kind.Kind.TheVariants.{BadIndent}
 use Rattle.lf_base.specs.declared.refusal.Refusal.{Refusal}
 use Rattle.lf_base.specs.declared.refusal.Refusal.TheVariants as refusal_of
 use Rattle.lf_scalar.specs.declared.plain.Folded.{Folded}
-use Rattle.lf_scalar.specs.Cells.{Cell, cell, cells, Fault, fault, Fails, front, ◌>>=◌}
+use Rattle.lf_scalar.specs.Cells.{Cell, cells, Fault, fault, Fails, front, ◌>>=◌}
 use Rattle.lf_scalar.specs.Lines.{Line, line, lines_at, is_blank_line}
 use Rattle.lf_scalar.specs.Folding.{fold}
 use Rattle.lf_scalar.specs.Plain.{is_commented, continues, has_tab}
@@ -19,13 +19,13 @@ use Rattle.lf_scalar.proofs.Tails.{true-false}
 abbrev pub Read : Type 0
 Read = Result (List Cell) Fault
 
-abbrev yes : List Cell → Read
+abbrev pub yes : List Cell → Read
 yes text = Ok text
 
-abbrev no : Fault → Read
+abbrev pub no : Fault → Read
 no f = Err f
 
-yes-is : (x y : List Cell) → yes x ≡ yes y → x ≡ y
+pub yes-is : (x y : List Cell) → yes x ≡ yes y → x ≡ y
 yes-is x y e = cc
 
 yes-no : (x : List Cell) (f : Fault) → yes x ≡ no f → ⊥

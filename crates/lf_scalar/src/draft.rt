@@ -56,13 +56,7 @@ impl Draft {
         ensures { result ≡ min (end_of none self.now) most }
     {
         match self.from.as_slice().last() {
-            Some(at) => {
-                if *at < most {
-                    *at + 1
-                } else {
-                    most
-                }
-            }
+            Some(at) => { if *at < most { *at + 1 } else { most } }
             None => none.min(most),
         }
     }

@@ -5,9 +5,12 @@ use Rattle.lf_scalar.proofs.plain.push_plain.Goals as goal
 pub returns-in-Ok-true : goal.returns-in-Ok-true
 returns-in-Ok-true c =
     let b = c.args.at + c.line_end-end.result.feed in
-    let t = c.in-Ok-true.ensures.text b in
-    (t.0, commented-first c.args.above c.args.at c.args.rest.now c.before-2.result.now c.line_end-end.result.text c.line_end-end.result.feed c.before-2.ensures (c.line_end-end.ensures.first c.args.at c.requires.some) t.0 t.1
-        (c.in-Ok-true.ensures.comment b ∙ c.in-Ok-true.field-0-test), t.2)
+    let t = c.in-Ok-true.ensures.text b in (
+      t.0,
+      commented-first c.args.above c.args.at c.args.rest.now c.before-2.result.now c.line_end-end.result.text c.line_end-end.result.feed c.before-2.ensures (c.line_end-end.ensures.first c.args.at c.requires.some) t.0 t.1
+          (c.in-Ok-true.ensures.comment b ∙ c.in-Ok-true.field-0-test),
+      t.2,
+    )
 
 pub returns-in-Ok-false : goal.returns-in-Ok-false
 returns-in-Ok-false c =
