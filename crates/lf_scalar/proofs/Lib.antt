@@ -24,3 +24,4 @@ pub mod QuotedLine
 pub mod IndentFault
 pub mod NextLine
 pub mod Behind
+pub mod LinesBehind

@@ -7,6 +7,7 @@ mod drafted;
 mod escapes;
 mod lines;
 mod quoted;
+mod quoted_scalar;
 mod quotes;
 mod scalar;
 
@@ -24,5 +25,6 @@ pub use lines::{
 pub use quoted::{
     AtBreak, Pending, Reach, fill, find_closing, not_indented, push_line, push_next, push_pieces,
 };
+pub use quoted_scalar::push_behind;
 pub use quotes::Quotes;
 pub use scalar::{Scalar, Style};
