@@ -25,3 +25,4 @@ pub mod IndentFault
 pub mod NextLine
 pub mod Behind
 pub mod LinesBehind
+pub mod QuotedText

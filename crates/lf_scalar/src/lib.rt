@@ -25,6 +25,6 @@ pub use lines::{
 pub use quoted::{
     AtBreak, Pending, Reach, fill, find_closing, not_indented, push_line, push_next, push_pieces,
 };
-pub use quoted_scalar::push_behind;
+pub use quoted_scalar::{first_line, push_behind, read_quoted};
 pub use quotes::Quotes;
 pub use scalar::{Scalar, Style};
