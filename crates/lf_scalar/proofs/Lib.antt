@@ -23,6 +23,7 @@ pub mod Vectors
 pub mod QuotedLine
 pub mod IndentFault
 pub mod NextLine
+pub mod PlainText
 pub mod Behind
 pub mod LinesBehind
 pub mod QuotedText

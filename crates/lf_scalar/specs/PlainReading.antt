@@ -1,10 +1,10 @@
 -- Reading a plain scalar line by line.
-use Rattle.std.specs.Prelude.{ℕ, suc, List, [], ◌∷◌, Option, Some, None, Result, Ok, Err, if◌then◌else◌}
+use Rattle.std.specs.Prelude.{ℕ, zero, suc, Bool, false, get_or, ◌==◌, ◌&&◌, List, [], ◌∷◌, Option, Some, None, Result, Ok, Err, if◌then◌else◌}
 use Rattle.lf_base.specs.declared.kind.Kind.TheVariants.{BadIndent, NotANode}
-use Rattle.lf_scalar.specs.Cells.{Cell, Value, Fault, fault, front, ◌>>=◌}
-use Rattle.lf_scalar.specs.Lines.{Line, lines, is_blank_line}
+use Rattle.lf_scalar.specs.Cells.{Cell, cell, cells, Value, Fault, fault, front, ◌>>=◌}
+use Rattle.lf_scalar.specs.Lines.{Line, lines, is_blank, is_blank_line}
 use Rattle.lf_scalar.specs.Folding.{fold}
-use Rattle.lf_scalar.specs.Plain.{plain_text, is_commented, key_sign, continues, has_tab, value_of}
+use Rattle.lf_scalar.specs.Plain.{plain_text, is_commented, before_blank, key_sign, continues, has_tab, value_of}
 
 abbrev pub unless_key : List Cell → Option Cell → Result (List Cell) Fault
 unless_key text None = Ok text
@@ -41,3 +41,17 @@ plain_lines above end (l ∷ ls) = begun_with l l.text (plain_from above l ls)
 
 unfoldable pub plain_of : ℕ → ℕ → List Cell → Result Value Fault
 plain_of above end src = plain_lines above end (lines end src)
+
+-- ---- what the code does
+
+-- a blank stands at a place and the `#` of a comment behind it
+abbrev pub comment_at : List ℕ → ℕ → Bool
+comment_at [] n = false
+comment_at (b ∷ bytes) zero = is_blank (cell b 0) && (get_or bytes 0 0 == 35)
+comment_at (b ∷ bytes) (suc n) = comment_at bytes n
+
+-- a `:` stands at a place and a blank or the text's end behind it
+abbrev pub key_at : List ℕ → ℕ → Bool
+key_at [] n = false
+key_at (b ∷ bytes) zero = (b == 58) && before_blank (cells 0 bytes)
+key_at (b ∷ bytes) (suc n) = key_at bytes n

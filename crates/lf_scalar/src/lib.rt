@@ -6,6 +6,7 @@ mod draft;
 mod drafted;
 mod escapes;
 mod lines;
+mod plain_line;
 mod quoted;
 mod quoted_scalar;
 mod quotes;
@@ -21,6 +22,9 @@ pub use escapes::{
 pub use lines::{
     LineEnd, before, blanks, char_len, fault_at, is_blank_byte, line_end, past, spaces,
     wrong_behind,
+};
+pub use plain_line::{
+    Part, find_comment, find_key_sign, part_of, push_bare, push_plain_line, trimmed_len,
 };
 pub use quoted::{
     AtBreak, Pending, Reach, fill, find_closing, not_indented, push_line, push_next, push_pieces,
