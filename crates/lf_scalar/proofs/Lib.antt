@@ -24,3 +24,6 @@ pub mod QuotedLine
 pub mod IndentFault
 pub mod NextLine
 pub mod Behind
+pub mod BodyLines
+pub mod BodyRun
+pub mod BodyIndent
