@@ -27,3 +27,6 @@ pub mod PlainText
 pub mod Behind
 pub mod LinesBehind
 pub mod QuotedText
+pub mod BodyLines
+pub mod BodyRun
+pub mod BodyIndent

@@ -2,9 +2,11 @@
 #![tactic(auto)]
 
 mod block;
+mod body;
 mod draft;
 mod drafted;
 mod escapes;
+mod folded;
 mod lines;
 mod plain_line;
 mod quoted;
@@ -12,13 +14,15 @@ mod quoted_scalar;
 mod quotes;
 mod scalar;
 
-pub use block::Chomp;
+pub use block::{Chomp, Joining};
+pub use body::{Body, Role, content_indent, find_body, first_indent, line_from, role_of};
 pub use draft::{Draft, copy, feed, fold_break, push_char};
 pub use drafted::Drafted;
 pub use escapes::{
     Given, digit, double_piece, escape, letter, number, numbered, piece, push_given, single_piece,
     width,
 };
+pub use folded::Open;
 pub use lines::{
     LineEnd, before, blanks, char_len, fault_at, is_blank_byte, line_end, past, spaces,
     wrong_behind,
