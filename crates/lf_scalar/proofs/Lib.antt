@@ -30,3 +30,4 @@ pub mod QuotedText
 pub mod BodyLines
 pub mod BodyRun
 pub mod BodyIndent
+pub mod Climbing

@@ -24,7 +24,7 @@ pub fn read_quoted(
     above: usize,
 ) -> Result<Drafted, Refusal>
     requires some { 0 < length rest.now }
-    requires room { at + length rest.now < 2 ^ 31 }
+    requires room { at + length rest.now ≤ 2 ^ 31 }
     ensures gives { Gives drafted result (quoted_at kind above (at + length rest.now) (cells at rest.now)) }
 {
     let inner = past(rest, 1);
@@ -82,7 +82,7 @@ fn push_lines(
     at: u32,
 ) -> Result<(), Refusal>
     requires some { 0 < length inner.now }
-    requires room { at + length inner.now < 2 ^ 31 }
+    requires room { at + length inner.now ≤ 2 ^ 31 }
     ensures { TextGives result draft.old draft.new (lines_of kind above (lines_at at inner.now)) }
 {
     let end = line_end(inner);
@@ -113,7 +113,7 @@ pub fn push_behind(
     rest: &[u8],
     at: u32,
 ) -> Result<(), Refusal>
-    requires room { at + length rest.now ≤ 2 ^ 31 }
+    requires room { at + length rest.now ≤ 2 ^ 31 + 1 }
     requires fresh { first.blank ≡ 0 }
     ensures { TextGives result draft.old draft.new (lines_behind kind above (broken first.at_break first.at) 0 (lines_at at rest.now)) }
 {
