@@ -31,3 +31,9 @@ pub mod Parts
 pub mod Rising
 pub mod PlainOffsets
 pub mod PlainRead
+pub mod LinesBehind
+pub mod QuotedText
+pub mod BodyLines
+pub mod BodyRun
+pub mod BodyIndent
+pub mod Climbing

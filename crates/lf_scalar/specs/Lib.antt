@@ -7,6 +7,8 @@ pub mod QuotedReading
 pub mod Plain
 pub mod PlainReading
 pub mod BlockReading
+pub mod BodyReading
 pub mod Reading
 pub mod Scalars
 pub mod Drafted
+pub mod Offsets

@@ -10,3 +10,12 @@ pub enum Chomp {
     /// The empty lines at the end have theirs too.
     Keep,
 }
+
+/// How the lines of a block scalar are joined.
+#[derive(Clone, Copy, PartialEq, Eq, Debug)]
+pub enum Joining {
+    /// By their line breaks, as in a literal scalar.
+    Literal,
+    /// Folded.
+    Folded,
+}
