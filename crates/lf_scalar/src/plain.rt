@@ -119,7 +119,7 @@ pub fn push_behind(
     at: u32,
     feed: u32,
 ) -> Result<(), Refusal>
-    requires { at + length rest.now ≤ 2 ^ 31 }
+    requires { at + length rest.now ≤ 2 ^ 31 + 1 }
     ensures { TextGives result draft.old draft.new (plain_behind above feed 0 (lines_at at rest.now)) }
 {
     let mut folded = Folded { at: feed, blank: 0 };
@@ -142,7 +142,7 @@ pub fn push_behind(
 /// Appends what the lines of a plain scalar give. `rest` begins with the scalar.
 pub fn push_plain(draft: &mut Draft, above: usize, rest: &[u8], at: u32) -> Result<(), Refusal>
     requires some { 0 < length rest.now }
-    requires room { at + length rest.now < 2 ^ 31 }
+    requires room { at + length rest.now ≤ 2 ^ 31 }
     ensures { TextGives result draft.old draft.new (plain_lines_text above (lines_at at rest.now)) }
 {
     let end = line_end(rest);
@@ -183,7 +183,7 @@ fn with_text(draft: Draft, at: u32, most: u32) -> Drafted
 /// Reads a plain scalar. `rest` begins with it and reaches to the file's end, and stands at an offset of the file. Where the scalar goes on over further lines, these have
 /// at least `above` spaces.
 pub fn read_plain(alloc: Global, rest: &[u8], at: u32, above: usize) -> Result<Drafted, Refusal>
-    requires room { at + length rest.now < 2 ^ 31 }
+    requires room { at + length rest.now ≤ 2 ^ 31 }
     requires begins { begins style.Plain (first_text (lines_at at rest.now)) ≡ true }
     ensures gives { Gives drafted result (plain_of above (at + length rest.now) (cells at rest.now)) }
 {
