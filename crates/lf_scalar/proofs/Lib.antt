@@ -37,3 +37,5 @@ pub mod BodyLines
 pub mod BodyRun
 pub mod BodyIndent
 pub mod Climbing
+pub mod Utf8Lines
+pub mod QuotedTexts
