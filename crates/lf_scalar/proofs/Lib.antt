@@ -39,3 +39,4 @@ pub mod BodyIndent
 pub mod Climbing
 pub mod Utf8Lines
 pub mod QuotedTexts
+pub mod BlockTexts
