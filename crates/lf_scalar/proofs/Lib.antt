@@ -40,3 +40,4 @@ pub mod Climbing
 pub mod Utf8Lines
 pub mod QuotedTexts
 pub mod BlockTexts
+pub mod TextLaws

@@ -1,13 +1,13 @@
 -- Reading a block scalar's body line by line, with what the code knows between two lines. A way of reading, it defines nothing: proofs tell that it gives what the definitions have.
-use Rattle.std.specs.Prelude.{◌≡◌, ℕ, suc, ◌+◌, ◌≤◌, List, [], ◌∷◌, ◌++◌, length, map, take, drop, Bool, true, false, Option, Some, None, ◌||◌, if◌then◌else◌}
+use Rattle.std.specs.Prelude.{◌≡◌, ℕ, suc, ◌+◌, ◌≤◌, List, [], ◌∷◌, ◌++◌, length, map, drop, Bool, true, false, Option, Some, None, ◌||◌, if◌then◌else◌}
 use Rattle.lf_scalar.specs.declared.body.Body.{Body}
 use Rattle.lf_scalar.specs.declared.body.Role.{Role}
 use Rattle.lf_scalar.specs.declared.body.Role.TheVariants as role
 use Rattle.lf_scalar.specs.declared.folded.Open.{Open}
 use Rattle.lf_scalar.specs.declared.block.Joining.{Joining}
 use Rattle.lf_scalar.specs.declared.block.Joining.TheVariants as joining_of
-use Rattle.lf_scalar.specs.Cells.{Cell, cell, cells}
-use Rattle.lf_scalar.specs.Lines.{Line, line, lines_at, is_spaces}
+use Rattle.lf_scalar.specs.Cells.{Cell, cell}
+use Rattle.lf_scalar.specs.Lines.{Line, lines_at, is_spaces}
 use Rattle.lf_scalar.specs.Folding.{fold, feeds, trimmed}
 use Rattle.lf_scalar.specs.Block.{joined, breaks, last_break, in_body, content, body_of, begins_blank}
 use Rattle.lf_scalar.specs.BlockReading.{is_empty, empties, stretch_of, folded_of}
