@@ -1,6 +1,6 @@
 -- A draft's bytes and offsets side by side.
 use Rattle.std.proofs.Common.{◌≡◌, ℕ, zero, suc, ◌+◌, ◌<◌, List, [], ◌∷◌, ◌++◌, length, map, take, get_or, refl, ap, arith, sym, ◌∙◌, append_assoc, add-one}
-use Rattle.lf_scalar.specs.Cells.{Cell, cell, cells, zipped}
+use Rattle.lf_scalar.specs.Cells.{Cell, cell, cells, zipped, bytes_of, offsets_of}
 use Rattle.lf_scalar.specs.Folding.{feeds}
 use Rattle.lf_scalar.proofs.Cells.{cells-take}
 
@@ -41,3 +41,14 @@ given-more old now at bytes i lt e =
     one [] i lt = absurd (omega arith)
     one (x ∷ xs) zero lt = refl
     one (x ∷ xs) (suc i) lt = ap (λ (cs : List Cell). cell x at ∷ cs) (one xs i (omega arith))
+
+pub zipped-bytes : (xs ys : List ℕ) → length xs ≡ length ys → xs ≡ bytes_of (zipped xs ys)
+zipped-bytes [] ys e = refl
+zipped-bytes (x ∷ xs) [] e = absurd (omega (arith, e))
+zipped-bytes (x ∷ xs) (y ∷ ys) e = ap (λ (bs : List ℕ). x ∷ bs) (zipped-bytes xs ys (omega (arith, e)))
+
+pub zipped-offsets : (xs ys : List ℕ) → length xs ≡ length ys → ys ≡ offsets_of (zipped xs ys)
+zipped-offsets [] [] e = refl
+zipped-offsets [] (y ∷ ys) e = absurd (omega (arith, e))
+zipped-offsets (x ∷ xs) [] e = absurd (omega (arith, e))
+zipped-offsets (x ∷ xs) (y ∷ ys) e = ap (λ (bs : List ℕ). y ∷ bs) (zipped-offsets xs ys (omega (arith, e)))

@@ -31,3 +31,4 @@ pub mod BodyLines
 pub mod BodyRun
 pub mod BodyIndent
 pub mod Climbing
+pub mod Whole

@@ -12,6 +12,7 @@ mod plain_line;
 mod quoted;
 mod quoted_scalar;
 mod quotes;
+mod reader;
 mod scalar;
 
 pub use block::{Chomp, Joining};
@@ -35,4 +36,5 @@ pub use quoted::{
 };
 pub use quoted_scalar::{first_line, push_behind, read_quoted};
 pub use quotes::Quotes;
+pub use reader::read_scalar;
 pub use scalar::{Scalar, Style};
