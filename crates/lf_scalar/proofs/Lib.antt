@@ -25,6 +25,12 @@ pub mod IndentFault
 pub mod NextLine
 pub mod PlainText
 pub mod Behind
+pub mod PlainCode
+pub mod LineCuts
+pub mod Parts
+pub mod Rising
+pub mod PlainOffsets
+pub mod PlainRead
 pub mod LinesBehind
 pub mod QuotedText
 pub mod BodyLines

@@ -1,5 +1,5 @@
 -- The bytes of a line of a plain scalar: where its comment begins, where its text ends, and where the sign of a key stands.
-use Rattle.std.proofs.Common.{◌≡◌, ℕ, zero, suc, ◌+◌, ◌<◌, ◌≤◌, true, false, Bool, eqb, ◌&&◌, List, [], ◌∷◌, Some, None, length, get_or, take, drop, refl, ap, arith, sym, ◌∙◌, ◌≢◌, eq-eqb, drop-cons}
+use Rattle.std.proofs.Common.{◌≡◌, ℕ, zero, suc, ◌+◌, ◌<◌, ◌≤◌, true, false, Bool, eqb, ◌&&◌, List, [], ◌∷◌, Some, None, length, get_or, take, drop, refl, ap, arith, ◌≢◌, eq-eqb, drop-cons}
 use Rattle.std.specs.List.{list_all}
 use Rattle.std.proofs.lemmas.List.{drop_all}
 use Rattle.std.proofs.lemmas.Bool.{ne_eqb}

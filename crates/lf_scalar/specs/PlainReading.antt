@@ -1,7 +1,11 @@
 -- Reading a plain scalar line by line.
-use Rattle.std.specs.Prelude.{ℕ, zero, suc, Bool, false, get_or, ◌==◌, ◌&&◌, List, [], ◌∷◌, Option, Some, None, Result, Ok, Err, if◌then◌else◌}
+use Rattle.std.specs.Prelude.{◌≡◌, ℕ, zero, suc, Bool, true, false, get_or, ◌==◌, ◌&&◌, List, [], ◌∷◌, ◌++◌, Option, Some, None, Result, Ok, Err, if◌then◌else◌}
 use Rattle.lf_base.specs.declared.kind.Kind.TheVariants.{BadIndent, NotANode}
-use Rattle.lf_scalar.specs.Cells.{Cell, cell, cells, Value, Fault, fault, front, ◌>>=◌}
+use Rattle.lf_base.specs.declared.refusal.Refusal.{Refusal}
+use Rattle.lf_scalar.specs.declared.plain.Folded.{Folded}
+use Rattle.lf_scalar.specs.declared.plain.Onward.{Onward}
+use Rattle.lf_scalar.specs.declared.plain.Onward.TheVariants as onward
+use Rattle.lf_scalar.specs.Cells.{Cell, cell, cells, Value, Fault, Fails, fault, front, ◌>>=◌}
 use Rattle.lf_scalar.specs.Lines.{Line, lines, is_blank, is_blank_line}
 use Rattle.lf_scalar.specs.Folding.{fold}
 use Rattle.lf_scalar.specs.Plain.{plain_text, is_commented, before_blank, key_sign, continues, has_tab, value_of}
@@ -31,6 +35,10 @@ plain_behind above break k (l ∷ ls) =
 abbrev pub plain_from : ℕ → Line → List Line → Result (List Cell) Fault
 plain_from above l ls = plain_line l >>= λ text. front text (if is_commented l then Ok [] else plain_behind above l.break 0 ls)
 
+abbrev pub plain_lines_text : ℕ → List Line → Result (List Cell) Fault
+plain_lines_text above [] = Ok []
+plain_lines_text above (l ∷ ls) = plain_from above l ls
+
 abbrev pub begun_with : Line → List Cell → Result (List Cell) Fault → Result Value Fault
 begun_with l [] read = Err (fault NotANode l.break)
 begun_with l (c ∷ cs) read = read >>= λ text. Ok (value_of c text)
@@ -55,3 +63,18 @@ abbrev pub key_at : List ℕ → ℕ → Bool
 key_at [] n = false
 key_at (b ∷ bytes) zero = (b == 58) && before_blank (cells 0 bytes)
 key_at (b ∷ bytes) (suc n) = key_at bytes n
+
+-- what the code tells of a line behind a line of the scalar
+abbrev pub IsOnward : ℕ → Line → Onward → Type 0
+IsOnward above l onward.Blank = is_blank_line l ≡ true
+IsOnward above l onward.Continues = (is_blank_line l ≡ false) × (continues above l ≡ true) × (has_tab l ≡ false)
+IsOnward above l onward.Tab = (is_blank_line l ≡ false) × (continues above l ≡ true) × (has_tab l ≡ true)
+IsOnward above l onward.Ends = (is_blank_line l ≡ false) × (continues above l ≡ false)
+
+-- What a step over the line behind a line break returned, and what it did to a text: another line break waits, the scalar has ended, or the line breaks it. What follows
+-- that line doesn't matter.
+abbrev pub Steps : ℕ → Folded → Line → Result (Option Folded) Refusal → List Cell → List Cell → Type 0
+Steps above folded l (Ok (Some next)) old now =
+    (part : List Cell) × (now ≡ old ++ part) × ((ls : List Line) → plain_behind above folded.at folded.blank (l ∷ ls) ≡ front part (plain_behind above next.at next.blank ls))
+Steps above folded l (Ok None) old now = (part : List Cell) × (now ≡ old ++ part) × ((ls : List Line) → plain_behind above folded.at folded.blank (l ∷ ls) ≡ Ok part)
+Steps above folded l (Err e) old now = (ls : List Line) → Fails e (plain_behind above folded.at folded.blank (l ∷ ls))

@@ -1,6 +1,6 @@
 //! A text that is being made, with the source offset of each of its bytes.
-ghost use Rattle.std.specs.Prelude.{◌≡◌, ℕ, ◌+◌, ◌<◌, ◌^◌, ◌∷◌, ◌++◌, [], length, take, OnOk};
-ghost use Rattle.lf_scalar.specs.Cells.{cell, cells, bytes_of, offsets_of};
+ghost use Rattle.std.specs.Prelude.{◌≡◌, ℕ, ◌+◌, ◌<◌, ◌^◌, ◌∷◌, ◌++◌, [], length, take, min, OnOk};
+ghost use Rattle.lf_scalar.specs.Cells.{cell, cells, bytes_of, offsets_of, end_of};
 ghost use Rattle.lf_scalar.specs.Folding.{feeds, fold};
 ghost use Rattle.lf_scalar.specs.Quoted.{char_cells};
 
@@ -42,6 +42,23 @@ impl Draft {
         ensures { result ≡ length self.now }
     {
         self.text.as_slice().len()
+    }
+
+    /// The bytes.
+    pub fn bytes(&self) -> &[u8]
+        ensures { result.now ≡ bytes_of self.now }
+    {
+        self.text.as_slice()
+    }
+
+    /// Where the source of the last byte ends, or an offset where there is no byte, and at most another offset.
+    pub fn end(&self, none: u32, most: u32) -> u32
+        ensures { result ≡ min (end_of none self.now) most }
+    {
+        match self.from.as_slice().last() {
+            Some(at) => { if *at < most { *at + 1 } else { most } }
+            None => none.min(most),
+        }
     }
 
     /// Appends a byte that something at an offset gave.

@@ -8,6 +8,7 @@ mod drafted;
 mod escapes;
 mod folded;
 mod lines;
+mod plain;
 mod plain_line;
 mod quoted;
 mod quoted_scalar;
@@ -28,13 +29,16 @@ pub use lines::{
     LineEnd, before, blanks, char_len, fault_at, is_blank_byte, line_end, past, spaces,
     wrong_behind,
 };
+pub use plain::{
+    Folded, Onward, onward_of, push_behind, push_continuation, push_plain, push_step, read_plain,
+};
 pub use plain_line::{
     Part, find_comment, find_key_sign, part_of, push_bare, push_plain_line, trimmed_len,
 };
 pub use quoted::{
     AtBreak, Pending, Reach, fill, find_closing, not_indented, push_line, push_next, push_pieces,
 };
-pub use quoted_scalar::{first_line, push_behind, read_quoted};
+pub use quoted_scalar::{first_line, read_quoted};
 pub use quotes::Quotes;
 pub use reader::read_scalar;
 pub use scalar::{Scalar, Style};

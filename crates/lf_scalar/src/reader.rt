@@ -10,6 +10,7 @@ ghost use Rattle.lf_scalar.specs.Reading.{reading};
 
 use crate::drafted::Drafted;
 use crate::lines::past;
+use crate::plain::read_plain;
 use crate::quoted_scalar::read_quoted;
 use crate::quotes::Quotes;
 use crate::scalar::{Scalar, Style};
@@ -80,7 +81,7 @@ fn read_style(
     ensures { Gives value_of result (reading style above (at + length rest.now) (cells at rest.now)) }
 {
     match style {
-        Style::Plain => Err(Refusal::Memory),
+        Style::Plain => read_plain(alloc, rest, at, above),
         Style::Single => read_quoted(alloc, Quotes::Single, rest, at, above),
         Style::Double => read_quoted(alloc, Quotes::Double, rest, at, above),
         Style::Literal => Err(Refusal::Memory),
