@@ -29,12 +29,7 @@ pub use lines::{
     LineEnd, before, blanks, char_len, fault_at, is_blank_byte, line_end, past, spaces,
     wrong_behind,
 };
-pub use plain::{
-    Folded, Onward, onward_of, push_behind, push_continuation, push_plain, push_step, read_plain,
-};
-pub use plain_line::{
-    Part, find_comment, find_key_sign, part_of, push_bare, push_plain_line, trimmed_len,
-};
+pub use plain::read_plain;
 pub use quoted::{
     AtBreak, Pending, Reach, fill, find_closing, not_indented, push_line, push_next, push_pieces,
 };
