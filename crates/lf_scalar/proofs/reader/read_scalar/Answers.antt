@@ -8,7 +8,7 @@ use Rattle.lf_scalar.proofs.reader.read_scalar.Goals as goal
 pub returns-clause-found : goal.returns-clause-found
 returns-clause-found c =
     found shown c.args.style (least_above c.args.indent) (length c.args.bytes.now) (source_at c.args.bytes.now c.args.at) c.read_whole.result
-    (by-indent c.args.style (length c.args.bytes.now) c.spaces_above.result c.args.indent (source_at c.args.bytes.now c.args.at) c.read_whole.result c.ranges.indent c.spaces_above.ensures.value c.read_whole.ensures) c.requires.begins
+    (by-indent c.args.style (length c.args.bytes.now) c.spaces_above.result c.args.indent (source_at c.args.bytes.now c.args.at) c.read_whole.result c.ranges.indent c.spaces_above.ensures.value c.read_whole.ensures) c.requires.begins.1
 
 pub returns-clause-only : goal.returns-clause-only
 returns-clause-only c =
@@ -18,7 +18,7 @@ returns-clause-only c =
 pub returns-clause-refused : goal.returns-clause-refused
 returns-clause-refused c =
     refused shown c.args.style (least_above c.args.indent) (length c.args.bytes.now) (source_at c.args.bytes.now c.args.at) c.read_whole.result
-    (by-indent c.args.style (length c.args.bytes.now) c.spaces_above.result c.args.indent (source_at c.args.bytes.now c.args.at) c.read_whole.result c.ranges.indent c.spaces_above.ensures.value c.read_whole.ensures) c.requires.begins
+    (by-indent c.args.style (length c.args.bytes.now) c.spaces_above.result c.args.indent (source_at c.args.bytes.now c.args.at) c.read_whole.result c.ranges.indent c.spaces_above.ensures.value c.read_whole.ensures) c.requires.begins.1
 
 pub returns-clause-breach : goal.returns-clause-breach
 returns-clause-breach c =
