@@ -38,3 +38,4 @@ pub mod BodyRun
 pub mod BodyIndent
 pub mod Climbing
 pub mod Whole
+pub mod FirstByte

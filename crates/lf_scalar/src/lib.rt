@@ -1,6 +1,7 @@
 //! Scalars of rule files in every style of the YAML profile: the text, and for each of its bytes the source offset of what gave it.
 #![tactic(auto)]
 
+mod begins;
 mod block;
 mod body;
 mod draft;
@@ -16,6 +17,7 @@ mod quotes;
 mod reader;
 mod scalar;
 
+pub use begins::begins_scalar;
 pub use block::{Chomp, Joining};
 pub use body::{Body, Role, content_indent, find_body, first_indent, line_from, role_of};
 pub use draft::copy;
