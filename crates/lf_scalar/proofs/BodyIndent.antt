@@ -9,7 +9,6 @@ use Rattle.lf_scalar.proofs.BodyLines.{are-spaces, have-text}
 module _ (at : ℕ) (bytes : List ℕ) (place text feed n : ℕ) (so_far : first_indent (lines_at at bytes) ≡ first_indent (lines_at (at + place) (drop place bytes)))
     (first : lines_at (at + place) (drop place bytes) ≡ line (cells (at + place) (take text (drop place bytes))) (at + (place + feed)) ∷ lines_at (at + (place + (feed + 1))) (drop (place + (feed + 1)) bytes))
     (within : place + text ≤ length bytes) (count : n ≡ indent_of (cells (at + place) (take text (drop place bytes)))) where
-
   long : length (take text (drop place bytes)) ≡ text
   long = omega (arith, length-take text (drop place bytes), length-drop place bytes)
 

@@ -87,7 +87,6 @@ seen-none k at bytes =
 
 module _ (k at : ℕ) (bytes : List ℕ) (b : Body) (bare : Bool) (place feed : ℕ) (l : Line) (s : Seen k at bytes b bare place)
     (first : lines_at (at + place) (drop place bytes) ≡ l ∷ lines_at (at + (feed + 1)) (drop (feed + 1) bytes)) (is_break : l.break ≡ at + feed) (inside : in_body k l ≡ true) (le : place ≤ feed) (lt : feed ≤ length bytes) where
-
   later : List Line
   later = lines_at (at + (feed + 1)) (drop (feed + 1) bytes)
 
@@ -152,7 +151,6 @@ length-there at bytes place text h = cells-length (at + place) (take text (drop 
 
 module _ (k at : ℕ) (bytes : List ℕ) (b : Body) (bare : Bool) (place text feed : ℕ) (s : Seen k at bytes b bare place)
     (first : lines_at (at + place) (drop place bytes) ≡ line_there at bytes place text feed ∷ lines_at (at + (feed + 1)) (drop (feed + 1) bytes)) (le : place + text ≤ feed) (lt : feed ≤ length bytes) where
-
   pub seen-more : in_body k (line_there at bytes place text feed) ≡ true → Seen k at bytes (body_with b (nat_lt k text) feed at) (bare && is_spaces (line_there at bytes place text feed)) (feed + 1)
   seen-more inside =
       let n = length-there at bytes place text (omega arith) in
@@ -184,7 +182,6 @@ bare_behind bare role.Text = false
 -- the same with the places as the code counts them
 module _ (k at : ℕ) (bytes : List ℕ) (b : Body) (bare : Bool) (place text feed : ℕ) (s : Seen k at bytes b bare place)
     (first : lines_at (at + place) (drop place bytes) ≡ line_there at bytes place text (place + feed) ∷ lines_at (at + (place + (feed + 1))) (drop (place + (feed + 1)) bytes)) (le : text ≤ feed) (lt : place + feed ≤ length bytes) where
-
   next-is : (place + feed) + 1 ≡ place + (feed + 1)
   next-is = omega arith
 

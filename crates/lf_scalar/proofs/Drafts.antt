@@ -1,6 +1,7 @@
 -- A draft's bytes and offsets side by side.
-use Rattle.std.proofs.Common.{◌≡◌, ℕ, zero, suc, ◌+◌, ◌<◌, List, [], ◌∷◌, ◌++◌, length, map, take, get_or, refl, ap, arith, sym, ◌∙◌, append_assoc, add-one}
-use Rattle.lf_scalar.specs.Cells.{Cell, cell, cells, zipped}
+use Rattle.std.proofs.Common.{◌≡◌, ℕ, zero, suc, ◌+◌, ◌-◌, ◌<◌, Option, Some, List, [], ◌∷◌, ◌++◌, length, map, take, get_or, refl, ap, arith, sym, ◌∙◌, append_assoc, add-one}
+use Rattle.std.specs.List.{slice_get}
+use Rattle.lf_scalar.specs.Cells.{Cell, cell, cells, zipped, end_of}
 use Rattle.lf_scalar.specs.Folding.{feeds}
 use Rattle.lf_scalar.proofs.Cells.{cells-take}
 
@@ -41,3 +42,18 @@ given-more old now at bytes i lt e =
     one [] i lt = absurd (omega arith)
     one (x ∷ xs) zero lt = refl
     one (x ∷ xs) (suc i) lt = ap (λ (cs : List Cell). cell x at ∷ cs) (one xs i (omega arith))
+
+some-is : (x y : ℕ) → ◌≡◌ {A = Option ℕ} (Some x) (Some y) → x ≡ y
+some-is x y e = cc
+
+-- where the source of the last byte ends
+pub zipped-end : (xs ys : List ℕ) (none at : ℕ) → length xs ≡ length ys → ◌≡◌ {A = Option ℕ} (Some at) (slice_get ys (length ys - 1)) → end_of none (zipped xs ys) ≡ at + 1
+zipped-end [] [] none at e h = absurd cc
+zipped-end [] (y ∷ ys) none at e h = absurd (omega (arith, e))
+zipped-end (x ∷ xs) [] none at e h = absurd cc
+zipped-end (x ∷ []) (y ∷ []) none at e h = ap suc (sym (some-is at y h)) ∙ sym (add-one at)
+zipped-end (x ∷ []) (y ∷ z ∷ ys) none at e h = absurd (omega (arith, e))
+zipped-end (x ∷ w ∷ xs) (y ∷ []) none at e h = absurd (omega (arith, e))
+zipped-end (x ∷ w ∷ xs) (y ∷ z ∷ ys) none at e h =
+    let n : length (y ∷ z ∷ ys) - 1 ≡ suc (length (z ∷ ys) - 1) = omega arith in
+    zipped-end (w ∷ xs) (z ∷ ys) (suc y) at (omega (arith, e)) (rw n at h)

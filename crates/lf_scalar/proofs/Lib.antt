@@ -27,3 +27,8 @@ pub mod Behind
 pub mod BodyLines
 pub mod BodyRun
 pub mod BodyIndent
+pub mod Walk
+pub mod JoinedRun
+pub mod FoldedRun
+pub mod HeaderRun
+pub mod BlockRun

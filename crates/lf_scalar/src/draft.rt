@@ -1,6 +1,6 @@
 //! A text that is being made, with the source offset of each of its bytes.
-ghost use Rattle.std.specs.Prelude.{◌≡◌, ℕ, ◌+◌, ◌<◌, ◌^◌, ◌∷◌, ◌++◌, [], length, take, OnOk};
-ghost use Rattle.lf_scalar.specs.Cells.{cell, cells};
+ghost use Rattle.std.specs.Prelude.{◌≡◌, ℕ, min, ◌+◌, ◌<◌, ◌^◌, ◌∷◌, ◌++◌, [], length, take, OnOk};
+ghost use Rattle.lf_scalar.specs.Cells.{cell, cells, end_of};
 ghost use Rattle.lf_scalar.specs.Folding.{feeds, fold};
 ghost use Rattle.lf_scalar.specs.Quoted.{char_cells};
 
@@ -55,6 +55,17 @@ impl Draft {
                 self.from.pop();
                 Err(Memory)
             }
+        }
+    }
+
+    /// Where the source of the last byte ends, but at most at the file's end. `none` is the offset for a text without a byte.
+    pub fn end(&self, none: u32, file: u32) -> u32
+        ensures { result ≡ min (end_of none self.now) file }
+    {
+        match self.from.last() {
+            Some(at) if *at < file => *at + 1,
+            Some(_) => file,
+            None => none.min(file),
         }
     }
 

@@ -12,7 +12,7 @@ pub loop-place-preserved : goal.loop-place-preserved
 loop-place-preserved c =
     let told = rw (c.before-in-loop-place.ensures, c.past.ensures) at (c.role_of.ensures (c.args.at + c.loop-place.place) (c.args.at + (c.loop-place.place + c.line_from-end.result.feed))) in
     let seen = seen-line c.args.indent c.args.at c.args.bytes.now c.loop-place.found c.loop-place.bare c.loop-place.place c.line_from-end.result.text c.line_from-end.result.feed c.loop-place.invariant (c.line_from-end.ensures.first c.args.at)
-        (omega (arith, c.line_from-end.ensures.within)) (omega (arith, c.line_from-end.ensures.within)) in
+    (omega (arith, c.line_from-end.ensures.within)) (omega (arith, c.line_from-end.ensures.within)) in
     elim c.match-role_of.branch [
       | in-Spaces w ↦ rw (c.with_line-found.ensures, w.bare-is) (seen role.Spaces (λ e. cc) (rw w.in-Spaces.is at told))
       | in-Text w ↦ rw (c.with_line-found.ensures, w.bare-is) (seen role.Text (λ e. cc) (rw w.in-Text.is at told))

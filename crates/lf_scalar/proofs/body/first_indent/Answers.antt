@@ -10,7 +10,7 @@ returns-then-indent-end-clause-value c = λ at.
 pub loop-place-preserved : goal.loop-place-preserved
 loop-place-preserved c = (
   λ at. indent-later at c.args.body.now c.loop-place.place c.line_from-end.result.text c.line_from-end.result.feed c.spaces-indent.result (c.loop-place.invariant.0 at) (c.line_from-end.ensures.first at) (omega (arith, c.line_from-end.ensures.within))
-    (c.spaces-indent.ensures.count (at + c.loop-place.place) ∙ rw (c.before-in-loop-place.ensures, c.past.ensures) refl) c.if-indent-end.false,
+      (c.spaces-indent.ensures.count (at + c.loop-place.place) ∙ rw (c.before-in-loop-place.ensures, c.past.ensures) refl) c.if-indent-end.false,
   omega (arith, c.line_from-end.ensures.within),
 )
 
