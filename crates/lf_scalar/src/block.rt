@@ -47,7 +47,7 @@ pub fn read_block(
     at: u32,
     above: usize,
 ) -> Result<Drafted, Refusal>
-    requires room { at + length rest.now < 2 ^ 31 }
+    requires room { at + length rest.now ≤ 2 ^ 31 }
     requires indent { above ≤ 2 ^ 31 }
     requires begins { begins (style_of joining) (first_text (lines_at at rest.now)) ≡ true }
     ensures gives { Gives drafted result (block_of (joins_of joining) above (at + length rest.now) (cells at rest.now)) }
