@@ -1,7 +1,7 @@
 -- A draft's bytes and offsets side by side.
-use Rattle.std.proofs.Common.{◌≡◌, ℕ, zero, suc, ◌+◌, ◌-◌, ◌<◌, Option, Some, List, [], ◌∷◌, ◌++◌, length, map, take, get_or, refl, ap, arith, sym, ◌∙◌, append_assoc, add-one}
-use Rattle.std.specs.List.{slice_get}
-use Rattle.lf_scalar.specs.Cells.{Cell, cell, cells, zipped, end_of}
+use Rattle.std.proofs.Common.{◌≡◌, ℕ, zero, suc, ◌+◌, ◌-◌, ◌<◌, ◌≤◌, min, Option, Some, None, List, [], ◌∷◌, ◌++◌, length, map, take, get_or, refl, ap, arith, sym, ◌∙◌, append_assoc, add-one}
+use Rattle.std.specs.Prelude.{slice_get}
+use Rattle.lf_scalar.specs.Cells.{Cell, cell, cells, bytes_of, offsets_of, end_of, zipped}
 use Rattle.lf_scalar.specs.Folding.{feeds}
 use Rattle.lf_scalar.proofs.Cells.{cells-take}
 
@@ -43,17 +43,48 @@ given-more old now at bytes i lt e =
     one (x ∷ xs) zero lt = refl
     one (x ∷ xs) (suc i) lt = ap (λ (cs : List Cell). cell x at ∷ cs) (one xs i (omega arith))
 
-some-is : (x y : ℕ) → ◌≡◌ {A = Option ℕ} (Some x) (Some y) → x ≡ y
-some-is x y e = cc
+pub zipped-bytes : (xs ys : List ℕ) → length xs ≡ length ys → xs ≡ bytes_of (zipped xs ys)
+zipped-bytes [] ys e = refl
+zipped-bytes (x ∷ xs) [] e = absurd (omega (arith, e))
+zipped-bytes (x ∷ xs) (y ∷ ys) e = ap (λ (bs : List ℕ). x ∷ bs) (zipped-bytes xs ys (omega (arith, e)))
 
--- where the source of the last byte ends
-pub zipped-end : (xs ys : List ℕ) (none at : ℕ) → length xs ≡ length ys → ◌≡◌ {A = Option ℕ} (Some at) (slice_get ys (length ys - 1)) → end_of none (zipped xs ys) ≡ at + 1
-zipped-end [] [] none at e h = absurd cc
-zipped-end [] (y ∷ ys) none at e h = absurd (omega (arith, e))
-zipped-end (x ∷ xs) [] none at e h = absurd cc
-zipped-end (x ∷ []) (y ∷ []) none at e h = ap suc (sym (some-is at y h)) ∙ sym (add-one at)
-zipped-end (x ∷ []) (y ∷ z ∷ ys) none at e h = absurd (omega (arith, e))
-zipped-end (x ∷ w ∷ xs) (y ∷ []) none at e h = absurd (omega (arith, e))
-zipped-end (x ∷ w ∷ xs) (y ∷ z ∷ ys) none at e h =
-    let n : length (y ∷ z ∷ ys) - 1 ≡ suc (length (z ∷ ys) - 1) = omega arith in
-    zipped-end (w ∷ xs) (z ∷ ys) (suc y) at (omega (arith, e)) (rw n at h)
+pub zipped-offsets : (xs ys : List ℕ) → length xs ≡ length ys → ys ≡ offsets_of (zipped xs ys)
+zipped-offsets [] [] e = refl
+zipped-offsets [] (y ∷ ys) e = absurd (omega (arith, e))
+zipped-offsets (x ∷ xs) [] e = absurd (omega (arith, e))
+zipped-offsets (x ∷ xs) (y ∷ ys) e = ap (λ (bs : List ℕ). y ∷ bs) (zipped-offsets xs ys (omega (arith, e)))
+
+pub bytes-zipped : (xs ys : List ℕ) → length xs ≡ length ys → bytes_of (zipped xs ys) ≡ xs
+bytes-zipped [] ys e = refl
+bytes-zipped (x ∷ xs) [] e = absurd (omega (arith, e))
+bytes-zipped (x ∷ xs) (y ∷ ys) e = ap (λ (bs : List ℕ). x ∷ bs) (bytes-zipped xs ys (omega (arith, e)))
+
+abbrev pub some : ℕ → Option ℕ
+some x = Some x
+
+abbrev nothing : Option ℕ
+nothing = None
+
+not-nothing : (x : ℕ) → some x ≡ nothing → ⊥
+not-nothing x e = cc
+
+same-some : (x y : ℕ) → some x ≡ some y → x ≡ y
+same-some x y e = cc
+
+pub end-zipped : (none : ℕ) (xs ys : List ℕ) (x : ℕ) → length xs ≡ length ys → some x ≡ slice_get ys (length ys - 1) → end_of none (zipped xs ys) ≡ x + 1
+end-zipped none [] [] x e h = absurd (not-nothing x h)
+end-zipped none [] (y ∷ ys) x e h = absurd (omega (arith, e))
+end-zipped none (b ∷ xs) [] x e h = absurd (omega (arith, e))
+end-zipped none (b ∷ []) (y ∷ []) x e h = rw (same-some x y h) (sym (add-one y))
+end-zipped none (b ∷ []) (y ∷ z ∷ ys) x e h = absurd (omega (arith, e))
+end-zipped none (b ∷ c ∷ xs) (y ∷ []) x e h = absurd (omega (arith, e))
+end-zipped none (b ∷ c ∷ xs) (y ∷ z ∷ ys) x e h =
+    let p : suc (suc (length ys)) - 1 ≡ suc (length ys) = omega arith in
+    let q : suc (length ys) - 1 ≡ length ys = omega arith in
+    end-zipped (suc y) (c ∷ xs) (z ∷ ys) x (omega (arith, e)) (rw q (rw p at h))
+
+pub end-within : (none : ℕ) (xs ys : List ℕ) (x most : ℕ) → length xs ≡ length ys → some x ≡ slice_get ys (length ys - 1) → x < most → x + 1 ≡ min (end_of none (zipped xs ys)) most
+end-within none xs ys x most e h lt = rw (end-zipped none xs ys x e h) (omega arith)
+
+pub end-past : (none : ℕ) (xs ys : List ℕ) (x most : ℕ) → length xs ≡ length ys → some x ≡ slice_get ys (length ys - 1) → most ≤ x → most ≡ min (end_of none (zipped xs ys)) most
+end-past none xs ys x most e h le = rw (end-zipped none xs ys x e h) (omega arith)

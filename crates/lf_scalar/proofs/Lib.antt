@@ -23,7 +23,16 @@ pub mod Vectors
 pub mod QuotedLine
 pub mod IndentFault
 pub mod NextLine
+pub mod PlainText
 pub mod Behind
+pub mod PlainCode
+pub mod LineCuts
+pub mod Parts
+pub mod Rising
+pub mod PlainOffsets
+pub mod PlainRead
+pub mod LinesBehind
+pub mod QuotedText
 pub mod BodyLines
 pub mod BodyRun
 pub mod BodyIndent
@@ -32,3 +41,5 @@ pub mod JoinedRun
 pub mod FoldedRun
 pub mod HeaderRun
 pub mod BlockRun
+pub mod Climbing
+pub mod Whole

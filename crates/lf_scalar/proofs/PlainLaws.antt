@@ -20,7 +20,7 @@ line-bad l c e = rw e refl
 
 -- ---- blank lines, and what stands behind them
 
-blanks-passed : (above break k : ℕ) (blank rest : List Line) → AreBlank blank → plain_behind above break k (blank ++ rest) ≡ plain_behind above break (k + length blank) rest
+pub blanks-passed : (above break k : ℕ) (blank rest : List Line) → AreBlank blank → plain_behind above break k (blank ++ rest) ≡ plain_behind above break (k + length blank) rest
 unfolding plain_behind
 blanks-passed above break k [] rest h = ap (λ (n : ℕ). plain_behind above break n rest) (omega arith)
 blanks-passed above break k (l ∷ ls) rest h =
@@ -32,7 +32,7 @@ behind-blanks above break blank rest h =
     let n : 0 + length blank ≡ length blank = omega arith in
     blanks-passed above break 0 blank rest h ∙ ap (λ (m : ℕ). plain_behind above break m rest) n
 
-stops : (above break k : ℕ) (ls : List Line) → StopsAt above ls → plain_behind above break k ls ≡ Ok []
+pub stops : (above break k : ℕ) (ls : List Line) → StopsAt above ls → plain_behind above break k ls ≡ Ok []
 unfolding plain_behind
 stops above break k [] h = refl
 stops above break k (l ∷ ls) h = rw (h.1, h.0) refl
@@ -45,11 +45,11 @@ content-full l above h = by (is_blank_line l) refl
     by true e = true-false (continues above l) h (rw e refl)
     by false e = e
 
-goes : (above break k : ℕ) (l : Line) (ls : List Line) → continues above l ≡ true → has_tab l ≡ false → plain_behind above break k (l ∷ ls) ≡ front (fold break k) (plain_from above l ls)
+pub goes : (above break k : ℕ) (l : Line) (ls : List Line) → continues above l ≡ true → has_tab l ≡ false → plain_behind above break k (l ∷ ls) ≡ front (fold break k) (plain_from above l ls)
 unfolding plain_behind
 goes above break k l ls c t = rw (c, t, content-full l above c) refl
 
-tabs : (above break k : ℕ) (l : Line) (ls : List Line) → continues above l ≡ true → has_tab l ≡ true → plain_behind above break k (l ∷ ls) ≡ Err (fault BadIndent (start_of l l.text))
+pub tabs : (above break k : ℕ) (l : Line) (ls : List Line) → continues above l ≡ true → has_tab l ≡ true → plain_behind above break k (l ∷ ls) ≡ Err (fault BadIndent (start_of l l.text))
 unfolding plain_behind
 tabs above break k l ls c t = rw (c, t, content-full l above c) refl
 

@@ -11,3 +11,4 @@ pub mod BodyReading
 pub mod Reading
 pub mod Scalars
 pub mod Drafted
+pub mod Offsets

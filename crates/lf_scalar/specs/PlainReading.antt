@@ -1,10 +1,14 @@
 -- Reading a plain scalar line by line.
-use Rattle.std.specs.Prelude.{ℕ, suc, List, [], ◌∷◌, Option, Some, None, Result, Ok, Err, if◌then◌else◌}
+use Rattle.std.specs.Prelude.{◌≡◌, ℕ, zero, suc, Bool, true, false, get_or, ◌==◌, ◌&&◌, List, [], ◌∷◌, ◌++◌, Option, Some, None, Result, Ok, Err, if◌then◌else◌}
 use Rattle.lf_base.specs.declared.kind.Kind.TheVariants.{BadIndent, NotANode}
-use Rattle.lf_scalar.specs.Cells.{Cell, Value, Fault, fault, front, ◌>>=◌}
-use Rattle.lf_scalar.specs.Lines.{Line, lines, is_blank_line}
+use Rattle.lf_base.specs.declared.refusal.Refusal.{Refusal}
+use Rattle.lf_scalar.specs.declared.plain.Folded.{Folded}
+use Rattle.lf_scalar.specs.declared.plain.Onward.{Onward}
+use Rattle.lf_scalar.specs.declared.plain.Onward.TheVariants as onward
+use Rattle.lf_scalar.specs.Cells.{Cell, cell, cells, Value, Fault, Fails, fault, front, ◌>>=◌}
+use Rattle.lf_scalar.specs.Lines.{Line, lines, is_blank, is_blank_line}
 use Rattle.lf_scalar.specs.Folding.{fold}
-use Rattle.lf_scalar.specs.Plain.{plain_text, is_commented, key_sign, continues, has_tab, value_of}
+use Rattle.lf_scalar.specs.Plain.{plain_text, is_commented, before_blank, key_sign, continues, has_tab, value_of}
 
 abbrev pub unless_key : List Cell → Option Cell → Result (List Cell) Fault
 unless_key text None = Ok text
@@ -31,6 +35,10 @@ plain_behind above break k (l ∷ ls) =
 abbrev pub plain_from : ℕ → Line → List Line → Result (List Cell) Fault
 plain_from above l ls = plain_line l >>= λ text. front text (if is_commented l then Ok [] else plain_behind above l.break 0 ls)
 
+abbrev pub plain_lines_text : ℕ → List Line → Result (List Cell) Fault
+plain_lines_text above [] = Ok []
+plain_lines_text above (l ∷ ls) = plain_from above l ls
+
 abbrev pub begun_with : Line → List Cell → Result (List Cell) Fault → Result Value Fault
 begun_with l [] read = Err (fault NotANode l.break)
 begun_with l (c ∷ cs) read = read >>= λ text. Ok (value_of c text)
@@ -41,3 +49,32 @@ plain_lines above end (l ∷ ls) = begun_with l l.text (plain_from above l ls)
 
 unfoldable pub plain_of : ℕ → ℕ → List Cell → Result Value Fault
 plain_of above end src = plain_lines above end (lines end src)
+
+-- ---- what the code does
+
+-- a blank stands at a place and the `#` of a comment behind it
+abbrev pub comment_at : List ℕ → ℕ → Bool
+comment_at [] n = false
+comment_at (b ∷ bytes) zero = is_blank (cell b 0) && (get_or bytes 0 0 == 35)
+comment_at (b ∷ bytes) (suc n) = comment_at bytes n
+
+-- a `:` stands at a place and a blank or the text's end behind it
+abbrev pub key_at : List ℕ → ℕ → Bool
+key_at [] n = false
+key_at (b ∷ bytes) zero = (b == 58) && before_blank (cells 0 bytes)
+key_at (b ∷ bytes) (suc n) = key_at bytes n
+
+-- what the code tells of a line behind a line of the scalar
+abbrev pub IsOnward : ℕ → Line → Onward → Type 0
+IsOnward above l onward.Blank = is_blank_line l ≡ true
+IsOnward above l onward.Continues = (is_blank_line l ≡ false) × (continues above l ≡ true) × (has_tab l ≡ false)
+IsOnward above l onward.Tab = (is_blank_line l ≡ false) × (continues above l ≡ true) × (has_tab l ≡ true)
+IsOnward above l onward.Ends = (is_blank_line l ≡ false) × (continues above l ≡ false)
+
+-- What a step over the line behind a line break returned, and what it did to a text: another line break waits, the scalar has ended, or the line breaks it. What follows
+-- that line doesn't matter.
+abbrev pub Steps : ℕ → Folded → Line → Result (Option Folded) Refusal → List Cell → List Cell → Type 0
+Steps above folded l (Ok (Some next)) old now =
+    (part : List Cell) × (now ≡ old ++ part) × ((ls : List Line) → plain_behind above folded.at folded.blank (l ∷ ls) ≡ front part (plain_behind above next.at next.blank ls))
+Steps above folded l (Ok None) old now = (part : List Cell) × (now ≡ old ++ part) × ((ls : List Line) → plain_behind above folded.at folded.blank (l ∷ ls) ≡ Ok part)
+Steps above folded l (Err e) old now = (ls : List Line) → Fails e (plain_behind above folded.at folded.blank (l ∷ ls))

@@ -1,5 +1,6 @@
 -- A scalar of each style at a place of a file, and what breaks one.
 use Rattle.std.specs.Prelude.{◌≡◌, ℕ, suc, List, [], ◌∷◌, length, drop, Bool, true, ℤ, pos, negsuc}
+use Rattle.std.specs.Str.{IsCharBoundary}
 use Rattle.lf_scalar.specs.declared.scalar.Style.{Style}
 use Rattle.lf_scalar.specs.declared.scalar.Style.TheVariants as style
 use Rattle.lf_scalar.specs.Cells.{Cell, cells, Value, Fault}
@@ -49,9 +50,10 @@ BreaksStyle style.Folded above end src f = BreaksBlock end src f
 abbrev pub source_at : List ℕ → ℕ → List Cell
 source_at bytes at = cells at (drop at bytes)
 
--- a scalar of this style begins at an offset of a file
+-- A scalar of this style begins at an offset of a file: a character begins there, and it is one that such a scalar begins with. Whoever asks for the scalar at an offset
+-- knows this.
 abbrev pub BeginsAt : List ℕ → ℕ → Style → Type 0
-BeginsAt bytes at s = begins s (first_text (lines (length bytes) (source_at bytes at))) ≡ true
+BeginsAt bytes at s = IsCharBoundary bytes at × (begins s (first_text (lines (length bytes) (source_at bytes at))) ≡ true)
 
 -- the scalar of a style at an offset of a file, as a value with a parent indent
 abbrev pub IsScalarAt : List ℕ → ℕ → ℤ → Style → Value → Type 0

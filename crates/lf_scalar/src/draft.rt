@@ -1,6 +1,6 @@
 //! A text that is being made, with the source offset of each of its bytes.
-ghost use Rattle.std.specs.Prelude.{◌≡◌, ℕ, min, ◌+◌, ◌<◌, ◌^◌, ◌∷◌, ◌++◌, [], length, take, OnOk};
-ghost use Rattle.lf_scalar.specs.Cells.{cell, cells, end_of};
+ghost use Rattle.std.specs.Prelude.{◌≡◌, ℕ, ◌+◌, ◌<◌, ◌^◌, ◌∷◌, ◌++◌, [], length, take, min, OnOk};
+ghost use Rattle.lf_scalar.specs.Cells.{cell, cells, bytes_of, offsets_of, end_of};
 ghost use Rattle.lf_scalar.specs.Folding.{feeds, fold};
 ghost use Rattle.lf_scalar.specs.Quoted.{char_cells};
 
@@ -44,6 +44,23 @@ impl Draft {
         self.text.as_slice().len()
     }
 
+    /// The bytes.
+    pub fn bytes(&self) -> &[u8]
+        ensures { result.now ≡ bytes_of self.now }
+    {
+        self.text.as_slice()
+    }
+
+    /// Where the source of the last byte ends, or an offset where there is no byte, and at most another offset.
+    pub fn end(&self, none: u32, most: u32) -> u32
+        ensures { result ≡ min (end_of none self.now) most }
+    {
+        match self.from.as_slice().last() {
+            Some(at) => { if *at < most { *at + 1 } else { most } }
+            None => none.min(most),
+        }
+    }
+
     /// Appends a byte that something at an offset gave.
     pub fn push(&mut self, byte: u8, at: u32) -> Result<(), Memory>
         ensures { OnOk result (self.new ≡ self.old ++ cell byte at ∷ []) }
@@ -58,15 +75,11 @@ impl Draft {
         }
     }
 
-    /// Where the source of the last byte ends, but at most at the file's end. `none` is the offset for a text without a byte.
-    pub fn end(&self, none: u32, file: u32) -> u32
-        ensures { result ≡ min (end_of none self.now) file }
+    /// The bytes and their offsets.
+    pub fn into_parts(self) -> (Vec<u8>, Vec<u32>)
+        ensures { (result.0.items ≡ bytes_of self) × (result.1.items ≡ offsets_of self) }
     {
-        match self.from.last() {
-            Some(at) if *at < file => *at + 1,
-            Some(_) => file,
-            None => none.min(file),
-        }
+        (self.text, self.from)
     }
 
     /// Keeps the first bytes alone.

@@ -4,17 +4,17 @@
 //!
 //! ```text
 //! read_quoted(alloc: Global, kind: Quotes, rest: &[u8], at: u32, above: usize) -> Result<Drafted, Refusal>
-//!     requires room { at + length rest.now < 2 ^ 31 }
+//!     requires room { at + length rest.now ≤ 2 ^ 31 }
 //!     requires some { 0 < length rest.now }
 //!     ensures gives { Gives drafted result (quoted_at kind above (at + length rest.now) (cells at rest.now)) }
 //!
 //! read_plain(alloc: Global, rest: &[u8], at: u32, above: usize) -> Result<Drafted, Refusal>
-//!     requires room { at + length rest.now < 2 ^ 31 }
+//!     requires room { at + length rest.now ≤ 2 ^ 31 }
 //!     requires begins { begins style.Plain (first_text (lines_at at rest.now)) ≡ true }
 //!     ensures gives { Gives drafted result (plain_of above (at + length rest.now) (cells at rest.now)) }
 //!
 //! read_block(alloc: Global, joining: Joining, rest: &[u8], at: u32, above: usize) -> Result<Drafted, Refusal>
-//!     requires room { at + length rest.now < 2 ^ 31 }
+//!     requires room { at + length rest.now ≤ 2 ^ 31 }
 //!     requires indent { above ≤ 2 ^ 31 }
 //!     requires begins { begins style.Literal (first_text (lines_at at rest.now)) ≡ true, or of style.Folded, by the joining }
 //!     ensures gives { Gives drafted result (block_of (joins_of joining) above (at + length rest.now) (cells at rest.now)) }

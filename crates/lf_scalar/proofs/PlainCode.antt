@@ -1,0 +1,164 @@
+-- The lines behind a plain scalar's first line, one by one.
+use Rattle.std.proofs.Common.{◌≡◌, ℕ, ◌+◌, ◌≤◌, Bool, true, false, cond, List, [], ◌∷◌, ◌++◌, Some, None, Result, Ok, Err, length, take, drop, refl, ap, arith, append_assoc, sym, ◌∙◌, subst}
+use Rattle.std.proofs.lemmas.List.{append-nil, drop-drop, drop_all}
+use Rattle.lf_base.specs.declared.kind.Kind.TheVariants.{BadIndent}
+use Rattle.lf_base.specs.declared.refusal.Refusal.{Refusal}
+use Rattle.lf_base.specs.declared.refusal.Refusal.TheVariants as refusal_of
+use Rattle.lf_scalar.specs.declared.plain.Folded.{Folded}
+use Rattle.lf_scalar.specs.Cells.{Cell, cells, Fault, fault, Fails, front, ◌>>=◌}
+use Rattle.lf_scalar.specs.Lines.{Line, line, lines_at, is_blank_line}
+use Rattle.lf_scalar.specs.Folding.{fold}
+use Rattle.lf_scalar.specs.Plain.{is_commented, continues, has_tab}
+use Rattle.lf_scalar.specs.Drafted.{TextGives}
+use Rattle.lf_scalar.specs.QuotedReading.{line_at}
+use Rattle.lf_scalar.specs.PlainReading.{plain_line, plain_behind, plain_from, plain_lines_text, start_of, Steps}
+use Rattle.lf_scalar.proofs.PlainLaws.{blanks-passed, stops, goes, tabs}
+use Rattle.lf_scalar.proofs.LineSteps.{lines-nil}
+use Rattle.lf_scalar.proofs.Tails.{true-false}
+
+abbrev pub Read : Type 0
+Read = Result (List Cell) Fault
+
+abbrev pub yes : List Cell → Read
+yes text = Ok text
+
+abbrev pub no : Fault → Read
+no f = Err f
+
+pub yes-is : (x y : List Cell) → yes x ≡ yes y → x ≡ y
+yes-is x y e = cc
+
+yes-no : (x : List Cell) (f : Fault) → yes x ≡ no f → ⊥
+yes-no x f e = cc
+
+-- ---- cells before what is read
+
+pub front-nil : (r : Read) → r ≡ front [] r
+front-nil (Ok x) = refl
+front-nil (Err f) = refl
+
+pub front-twice : (a b : List Cell) (r : Read) → front a (front b r) ≡ front (a ++ b) r
+front-twice a b (Ok x) = ap yes (sym (append_assoc a b x))
+front-twice a b (Err f) = refl
+
+pub front-gives : {X : Type 0} (r : Result X Refusal) (old mid new cs : List Cell) (read : Read) → mid ≡ old ++ cs → TextGives r mid new read → TextGives r old new (front cs read)
+front-gives (Ok x) old mid new cs read m (part, e, n) = (cs ++ part, rw e refl, n ∙ ap (λ (ys : List Cell). ys ++ part) m ∙ append_assoc old cs part)
+front-gives (Err refusal_of.Memory) old mid new cs read m h = tt
+front-gives (Err (refusal_of.At kind span)) old mid new cs read m h = rw h refl
+
+-- what a line gives, and what follows it
+front-line : (cs part : List Cell) (p : Read) (behind : Read) → front cs p ≡ yes part → front cs (p >>= λ text. front text behind) ≡ front part behind
+front-line cs part (Ok text) behind e = front-twice cs text behind ∙ ap (λ (x : List Cell). front x behind) (yes-is (cs ++ text) part e)
+front-line cs part (Err f) behind e = absurd (yes-no part f (sym e))
+
+front-wrong : (cs : List Cell) (p : Read) (behind : Read) (f : Fault) → front cs p ≡ no f → front cs (p >>= λ text. front text behind) ≡ no f
+front-wrong cs (Ok text) behind f e = absurd (yes-no (cs ++ text) f e)
+front-wrong cs (Err g) behind f e = e
+
+-- ---- one line
+
+module _ (above break k : ℕ) (l : Line) where
+  pub blank-step : is_blank_line l ≡ true → (ls : List Line) → plain_behind above break k (l ∷ ls) ≡ front [] (plain_behind above break (k + 1) ls)
+  blank-step h ls = blanks-passed above break k (l ∷ []) ls (h, tt) ∙ front-nil (plain_behind above break (k + 1) ls)
+
+  goes-step : (b : Bool) (part : List Cell) → continues above l ≡ true → has_tab l ≡ false → is_commented l ≡ b → front (fold break k) (plain_line l) ≡ Ok part → (ls : List Line)
+      → plain_behind above break k (l ∷ ls) ≡ front part (cond b (Ok []) (plain_behind above l.break 0 ls))
+  goes-step b part c t m e ls =
+      goes above break k l ls c t ∙ front-line (fold break k) part (plain_line l) (cond (is_commented l) (Ok []) (plain_behind above l.break 0 ls)) e
+      ∙ ap (λ (x : Bool). front part (cond x (Ok []) (plain_behind above l.break 0 ls))) m
+
+  pub last-step : (part : List Cell) → continues above l ≡ true → has_tab l ≡ false → is_commented l ≡ true → front (fold break k) (plain_line l) ≡ Ok part → (ls : List Line) → plain_behind above break k (l ∷ ls) ≡ Ok part
+  last-step part c t m e ls = goes-step true part c t m e ls ∙ ap yes (append-nil part)
+
+  pub more-step : (part : List Cell) → continues above l ≡ true → has_tab l ≡ false → is_commented l ≡ false → front (fold break k) (plain_line l) ≡ Ok part → (ls : List Line)
+      → plain_behind above break k (l ∷ ls) ≡ front part (plain_behind above l.break 0 ls)
+  more-step part c t m e ls = goes-step false part c t m e ls
+
+  pub wrong-step : (e : Refusal) → continues above l ≡ true → has_tab l ≡ false → Fails e (front (fold break k) (plain_line l)) → (ls : List Line) → Fails e (plain_behind above break k (l ∷ ls))
+  wrong-step refusal_of.Memory c t h ls = tt
+  wrong-step (refusal_of.At kind span) c t h ls =
+      goes above break k l ls c t ∙ front-wrong (fold break k) (plain_line l) (cond (is_commented l) (Ok []) (plain_behind above l.break 0 ls)) (record { kind = kind; span = span }) h
+
+  pub ends-step : is_blank_line l ≡ false → continues above l ≡ false → (ls : List Line) → plain_behind above break k (l ∷ ls) ≡ Ok []
+  ends-step b c ls = stops above break k (l ∷ ls) (b, c)
+
+start-at : (at : ℕ) (bytes : List ℕ) (break : ℕ) → is_blank_line (line_at at bytes break) ≡ false → start_of (line_at at bytes break) (cells at bytes) ≡ at
+start-at at [] break h = true-false true refl h
+start-at at (b ∷ bytes) break h = refl
+
+pub tab-step : (above break k at : ℕ) (bytes : List ℕ) (own : ℕ) → is_blank_line (line_at at bytes own) ≡ false → continues above (line_at at bytes own) ≡ true → has_tab (line_at at bytes own) ≡ true → (ls : List Line)
+    → plain_behind above break k (line_at at bytes own ∷ ls) ≡ Err (fault BadIndent at)
+tab-step above break k at bytes own b c t ls = tabs above break k (line_at at bytes own) ls c t ∙ ap (λ (n : ℕ). no (fault BadIndent n)) (start-at at bytes own b)
+
+-- ---- the lines behind a line break
+
+-- what has been read of the lines behind a line break, and what is left
+pub record Onto (above feed : ℕ) (all : List Line) (old now : List Cell) (folded : Folded) (left : List Line) : Type 0 where
+  pub part : List Cell
+  pub grown : now ≡ old ++ part
+  pub same : plain_behind above feed 0 all ≡ front part (plain_behind above folded.at folded.blank left)
+
+pub onto-start : (above feed : ℕ) (all : List Line) (old : List Cell) (folded : Folded) → folded.at ≡ feed → folded.blank ≡ 0 → Onto above feed all old old folded all
+onto-start above feed all old folded a b = record { part = []; grown = sym (append-nil old); same = front-nil (plain_behind above feed 0 all) ∙ rw (a, b) refl }
+
+module _ (above feed : ℕ) (all : List Line) (old now : List Cell) (folded : Folded) (l : Line) (left : List Line) (h : Onto above feed all old now folded (l ∷ left)) where
+  pub onto-more : (next : Folded) (new : List Cell) → Steps above folded l (Ok (Some next)) now new → Onto above feed all old new next left
+  onto-more next new (part, n, e) =
+      record {
+        part = h.part ++ part;
+        grown = n ∙ ap (λ (x : List Cell). x ++ part) h.grown ∙ append_assoc old h.part part;
+        same = h.same ∙ ap (front h.part) (e left) ∙ front-twice h.part part (plain_behind above next.at next.blank left);
+      }
+
+  pub onto-last : (new : List Cell) → Steps above folded l (Ok None) now new → (part : List Cell) × (plain_behind above feed 0 all ≡ Ok part) × (new ≡ old ++ part)
+  onto-last new (part, n, e) = (h.part ++ part, h.same ∙ ap (front h.part) (e left), n ∙ ap (λ (x : List Cell). x ++ part) h.grown ∙ append_assoc old h.part part)
+
+  pub onto-wrong : (e : Refusal) (new : List Cell) → Steps above folded l (Err e) now new → Fails e (plain_behind above feed 0 all)
+  onto-wrong refusal_of.Memory new s = tt
+  onto-wrong (refusal_of.At kind span) new s = h.same ∙ ap (front h.part) (s left)
+
+pub onto-end : (above feed : ℕ) (all : List Line) (old now : List Cell) (folded : Folded) → Onto above feed all old now folded [] → (part : List Cell) × (plain_behind above feed 0 all ≡ Ok part) × (now ≡ old ++ part)
+unfolding plain_behind
+onto-end above feed all old now folded h = (h.part, h.same ∙ ap yes (append-nil h.part), h.grown)
+
+-- ---- the bytes left behind some lines
+
+pub lines-left : (at place feed : ℕ) (rest : List ℕ) → lines_at ((at + place) + (feed + 1)) (drop (feed + 1) (drop place rest)) ≡ lines_at (at + (place + (feed + 1))) (drop (place + (feed + 1)) rest)
+lines-left at place feed rest =
+    let e : (at + place) + (feed + 1) ≡ at + (place + (feed + 1)) = omega arith in
+    ap (λ (n : ℕ). lines_at n (drop (feed + 1) (drop place rest))) e ∙ ap (λ (xs : List ℕ). lines_at (at + (place + (feed + 1))) xs) (drop-drop (feed + 1) place rest)
+
+pub lines-none : (at place : ℕ) (rest : List ℕ) → length rest ≤ place → lines_at (at + place) (drop place rest) ≡ []
+lines-none at place rest le = ap (λ (xs : List ℕ). lines_at (at + place) xs) (drop_all place rest le) ∙ lines-nil ((at + place) + 0)
+
+-- ---- the first line
+
+pub first-last : (above : ℕ) (l : Line) (ls : List Line) (part : List Cell) → plain_line l ≡ Ok part → is_commented l ≡ true → plain_from above l ls ≡ Ok part
+first-last above l ls part e c = rw (e, c) (ap yes (append-nil part))
+
+pub first-more : {X : Type 0} (r : Result X Refusal) (above : ℕ) (l : Line) (ls : List Line) (old mid new part : List Cell) → plain_line l ≡ Ok part → mid ≡ old ++ part → is_commented l ≡ false → TextGives r mid new (plain_behind above l.break 0 ls) → TextGives r old new (plain_from above l ls)
+first-more r above l ls old mid new part e m c h =
+    let same : front part (plain_behind above l.break 0 ls) ≡ plain_from above l ls = rw (e, c) refl in
+    subst (TextGives r old new) same (front-gives r old mid new part (plain_behind above l.break 0 ls) m h)
+
+pub first-wrong : (e : Refusal) (above : ℕ) (l : Line) (ls : List Line) → Fails e (plain_line l) → Fails e (plain_from above l ls)
+first-wrong refusal_of.Memory above l ls h = tt
+first-wrong (refusal_of.At kind span) above l ls h = rw h refl
+
+module _ (above at : ℕ) (rest taken : List ℕ) (text feed : ℕ) (t : taken ≡ take text rest) (first : lines_at at rest ≡ line (cells at (take text rest)) (at + feed) ∷ lines_at (at + (feed + 1)) (drop (feed + 1) rest)) where
+  whole : plain_lines_text above (lines_at at rest) ≡ plain_from above (line_at at taken (at + feed)) (lines_at (at + (feed + 1)) (drop (feed + 1) rest))
+  whole = ap (plain_lines_text above) first ∙ rw t refl
+
+  pub commented-first : (part : List Cell) → plain_line (line_at at taken (at + feed)) ≡ Ok part → is_commented (line_at at taken (at + feed)) ≡ true → plain_lines_text above (lines_at at rest) ≡ Ok part
+  commented-first part e c = whole ∙ first-last above (line_at at taken (at + feed)) (lines_at (at + (feed + 1)) (drop (feed + 1) rest)) part e c
+
+  pub bare-first : {X : Type 0} (r : Result X Refusal) (old mid new part : List Cell) (left : List ℕ) → plain_line (line_at at taken (at + feed)) ≡ Ok part → mid ≡ old ++ part → is_commented (line_at at taken (at + feed)) ≡ false → left ≡ drop (feed + 1) rest
+      → TextGives r mid new (plain_behind above (at + feed) 0 (lines_at ((at + feed) + 1) left)) → TextGives r old new (plain_lines_text above (lines_at at rest))
+  bare-first r old mid new part left e m c l h =
+      let p : (at + feed) + 1 ≡ at + (feed + 1) = omega arith in
+      let q : lines_at ((at + feed) + 1) left ≡ lines_at (at + (feed + 1)) (drop (feed + 1) rest) = ap (λ (n : ℕ). lines_at n left) p ∙ ap (λ (xs : List ℕ). lines_at (at + (feed + 1)) xs) l in
+      subst (TextGives r old new) (sym whole)
+      (first-more r above (line_at at taken (at + feed)) (lines_at (at + (feed + 1)) (drop (feed + 1) rest)) old mid new part e m c (subst (λ (ls : List Line). TextGives r mid new (plain_behind above (at + feed) 0 ls)) q h))
+
+  pub wrong-first : (e : Refusal) → Fails e (plain_line (line_at at taken (at + feed))) → Fails e (plain_lines_text above (lines_at at rest))
+  wrong-first e h = subst (Fails e) (sym whole) (first-wrong e above (line_at at taken (at + feed)) (lines_at (at + (feed + 1)) (drop (feed + 1) rest)) h)

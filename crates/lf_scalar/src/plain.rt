@@ -1,0 +1,195 @@
+//! Plain scalars, over one line or several.
+ghost use Rattle.std.specs.Prelude.{◌≡◌, ℕ, ◌+◌, ◌<◌, ◌≤◌, ◌^◌, ◌||◌, true, length, IfOk, IfSome, codes, bytes_eq};
+ghost use Rattle.lf_scalar.specs.declared.scalar.Style.TheVariants as style;
+ghost use Rattle.lf_scalar.specs.Cells.{cell, cells, front, end_of, Gives};
+ghost use Rattle.lf_scalar.specs.Lines.{lines_at, first_text};
+ghost use Rattle.lf_scalar.specs.Folding.{fold};
+ghost use Rattle.lf_scalar.specs.Plain.{is_commented, value_of};
+ghost use Rattle.lf_scalar.specs.Scalars.{begins};
+ghost use Rattle.lf_scalar.specs.Drafted.{drafted, TextGives};
+ghost use Rattle.lf_scalar.specs.QuotedReading.{line_at};
+ghost use Rattle.lf_scalar.specs.PlainReading.{IsOnward, Steps, plain_line, plain_behind, plain_lines_text, plain_of};
+
+use crate::draft::{Draft, fold_break};
+use crate::drafted::Drafted;
+use crate::lines::{before, blanks, line_end, past, spaces};
+use crate::plain_line::push_plain_line;
+use lf_base::{Kind, Refusal, Span};
+use std::alloc::Global;
+
+/// What a line behind a plain scalar's line does.
+#[derive(Clone, Copy, PartialEq, Eq, Debug)]
+pub enum Onward {
+    /// It is blank, so the next line decides.
+    Blank,
+    /// It is of the scalar.
+    Continues,
+    /// It is of the scalar, but a tab stands behind the spaces at its front.
+    Tab,
+    /// The scalar ends before it.
+    Ends,
+}
+
+/// What a line behind a plain scalar's line does, where the scalar's lines have at least `above` spaces.
+pub fn onward_of(line: &[u8], above: usize) -> Onward
+    ensures { (at break_at : ℕ) → IsOnward above (line_at at line.now break_at) result }
+{
+    let skipped = blanks(line);
+    if skipped >= line.len() {
+        return Onward::Blank;
+    }
+    if line[skipped] == b'#' {
+        return Onward::Ends;
+    }
+    let indent = spaces(line);
+    if indent < above {
+        return Onward::Ends;
+    }
+    if line[indent] == b'\t' {
+        Onward::Tab
+    } else {
+        Onward::Continues
+    }
+}
+
+/// A line break that waits for the line that goes on: where it stands, and how many blank lines stand behind it.
+#[derive(Clone, Copy, PartialEq, Eq, Debug)]
+pub struct Folded {
+    pub at: u32,
+    pub blank: usize,
+}
+
+/// Appends what a line break becomes and what the line behind it gives, and tells whether that line ends in a comment.
+pub fn push_continuation(
+    draft: &mut Draft,
+    folded: Folded,
+    line: &[u8],
+    at: u32,
+) -> Result<bool, Refusal>
+    requires { at + length line.now < 2 ^ 32 }
+    ensures text { (break_at : ℕ) → TextGives result draft.old draft.new (front (fold folded.at folded.blank) (plain_line (line_at at line.now break_at))) }
+    ensures comment { IfOk result (λ commented. (break_at : ℕ) → is_commented (line_at at line.now break_at) ≡ commented) }
+{
+    match fold_break(draft, folded.blank, folded.at) {
+        Ok(()) => push_plain_line(draft, line, at),
+        Err(_) => Err(Refusal::Memory),
+    }
+}
+
+/// Takes the line behind a line break, and tells the line break that waits then, none where the scalar has ended. `feed` is where the line's own line break stands.
+pub fn push_step(
+    draft: &mut Draft,
+    above: usize,
+    folded: Folded,
+    line: &[u8],
+    at: u32,
+    feed: u32,
+) -> Result<Option<Folded>, Refusal>
+    requires room { at + length line.now + 1 < 2 ^ 32 }
+    requires few { folded.blank < 2 ^ 32 }
+    ensures steps { Steps above folded (line_at at line.now feed) result draft.old draft.new }
+    ensures few { IfOk result (λ o. IfSome o (λ next. next.blank ≤ folded.blank + 1)) }
+{
+    match onward_of(line, above) {
+        Onward::Blank => Ok(Some(Folded {
+            at: folded.at,
+            blank: folded.blank + 1,
+        })),
+        Onward::Continues => match push_continuation(draft, folded, line, at) {
+            Ok(true) => Ok(None),
+            Ok(false) => Ok(Some(Folded { at: feed, blank: 0 })),
+            Err(refusal) => Err(refusal),
+        },
+        Onward::Tab => Err(Refusal::At {
+            kind: Kind::BadIndent,
+            span: Span {
+                start: at,
+                end: at + 1,
+            },
+        }),
+        Onward::Ends => Ok(None),
+    }
+}
+
+/// Appends what the lines behind a line break give, as far as the scalar goes on over them. `rest` is what stands behind the line break, `feed` where it stands.
+pub fn push_behind(
+    draft: &mut Draft,
+    above: usize,
+    rest: &[u8],
+    at: u32,
+    feed: u32,
+) -> Result<(), Refusal>
+    requires { at + length rest.now ≤ 2 ^ 31 + 1 }
+    ensures { TextGives result draft.old draft.new (plain_behind above feed 0 (lines_at at rest.now)) }
+{
+    let mut folded = Folded { at: feed, blank: 0 };
+    let mut place: usize = 0;
+    while place < rest.len() {
+        let left = past(rest, place);
+        let end = line_end(left);
+        let start = at + place as u32;
+        let text = before(left, end.text);
+        match push_step(draft, above, folded, text, start, start + end.feed as u32) {
+            Ok(Some(next)) => folded = next,
+            Ok(None) => return Ok(()),
+            Err(refusal) => return Err(refusal),
+        }
+        place += end.feed + 1;
+    }
+    Ok(())
+}
+
+/// Appends what the lines of a plain scalar give. `rest` begins with the scalar.
+pub fn push_plain(draft: &mut Draft, above: usize, rest: &[u8], at: u32) -> Result<(), Refusal>
+    requires some { 0 < length rest.now }
+    requires room { at + length rest.now ≤ 2 ^ 31 }
+    ensures { TextGives result draft.old draft.new (plain_lines_text above (lines_at at rest.now)) }
+{
+    let end = line_end(rest);
+    match push_plain_line(draft, before(rest, end.text), at) {
+        Ok(true) => Ok(()),
+        Ok(false) => {
+            let feed = at + end.feed as u32;
+            push_behind(draft, above, past(rest, end.feed + 1), feed + 1, feed)
+        }
+        Err(refusal) => Err(refusal),
+    }
+}
+
+/// Whether a plain scalar is `null` or `~`, which stand for the empty text.
+fn is_null_text(text: &[u8]) -> bool
+    ensures { result ≡ (bytes_eq text.now (codes "null") || bytes_eq text.now (codes "~")) }
+{
+    text == b"null".as_slice() || text == b"~".as_slice()
+}
+
+/// The scalar whose lines gave a text. It begins at an offset and ends at most at another.
+fn with_text(draft: Draft, at: u32, most: u32) -> Drafted
+    requires { end_of at draft ≤ most }
+    ensures { (byte : ℕ) → drafted result ≡ value_of (cell byte at) draft }
+{
+    let end = draft.end(at, most);
+    let mut draft = draft;
+    if is_null_text(draft.bytes()) {
+        draft.truncate(0);
+    }
+    Drafted {
+        draft,
+        end,
+        span: Span { start: at, end },
+    }
+}
+
+/// Reads a plain scalar. `rest` begins with it and reaches to the file's end, and stands at an offset of the file. Where the scalar goes on over further lines, these have
+/// at least `above` spaces.
+pub fn read_plain(alloc: Global, rest: &[u8], at: u32, above: usize) -> Result<Drafted, Refusal>
+    requires room { at + length rest.now ≤ 2 ^ 31 }
+    requires begins { begins style.Plain (first_text (lines_at at rest.now)) ≡ true }
+    ensures gives { Gives drafted result (plain_of above (at + length rest.now) (cells at rest.now)) }
+{
+    let mut draft = Draft::new(alloc);
+    match push_plain(&mut draft, above, rest, at) {
+        Ok(()) => Ok(with_text(draft, at, at + rest.len() as u32)),
+        Err(refusal) => Err(refusal),
+    }
+}
