@@ -36,6 +36,11 @@ pub mod QuotedText
 pub mod BodyLines
 pub mod BodyRun
 pub mod BodyIndent
+pub mod Walk
+pub mod JoinedRun
+pub mod FoldedRun
+pub mod HeaderRun
+pub mod BlockRun
 pub mod Climbing
 pub mod Whole
 pub mod FirstByte

@@ -8,6 +8,7 @@ ghost use Rattle.lf_scalar.specs.Scalars.{least_above, begins, source_at, Begins
 ghost use Rattle.lf_scalar.specs.Drafted.{drafted as value_of, shown};
 ghost use Rattle.lf_scalar.specs.Reading.{reading};
 
+use crate::block::{Joining, read_block};
 use crate::drafted::Drafted;
 use crate::lines::past;
 use crate::plain::read_plain;
@@ -84,8 +85,8 @@ fn read_style(
         Style::Plain => read_plain(alloc, rest, at, above),
         Style::Single => read_quoted(alloc, Quotes::Single, rest, at, above),
         Style::Double => read_quoted(alloc, Quotes::Double, rest, at, above),
-        Style::Literal => Err(Refusal::Memory),
-        Style::Folded => Err(Refusal::Memory),
+        Style::Literal => read_block(alloc, Joining::Literal, rest, at, above),
+        Style::Folded => read_block(alloc, Joining::Folded, rest, at, above),
     }
 }
 
