@@ -75,8 +75,8 @@ begins-none style.Folded second = refl
 begins-step : (s : Style) (end at x : ℕ) (xs : List ℕ) → begins s (first_text (lines end (cell x at ∷ cells (suc at) xs))) ≡ begins_by s (first_of end (cell x at ∷ cells (suc at) xs)) (first_of end (cells (suc at) xs))
 begins-step s end at x xs =
     elim (line-step (cell x at) (cells (suc at) xs)) [
-      | inl a ↦ rw (lines-feed end (cell x at) (cells (suc at) xs) a) (begins-none s _)
-      | inr (inl r) ↦ rw (lines-return end (cell x at) (cells (suc at) xs) r) (begins-none s _)
+      | inl a ↦ rw (lines-feed end (cell x at) (cells (suc at) xs) a) (begins-none s (first_of end (cells (suc at) xs)))
+      | inr (inl r) ↦ rw (lines-return end (cell x at) (cells (suc at) xs) r) (begins-none s (first_of end (cells (suc at) xs)))
       | inr (inr o) ↦ rw (lines-other end (cell x at) (cells (suc at) xs) o, lengthen-first end (cell x at) (lines end (cells (suc at) xs))) (begins-cons s (cell x at) (first_text (lines end (cells (suc at) xs))))
     ]
 
