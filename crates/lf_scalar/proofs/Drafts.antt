@@ -1,7 +1,7 @@
 -- A draft's bytes and offsets side by side.
 use Rattle.std.proofs.Common.{◌≡◌, ℕ, zero, suc, ◌+◌, ◌-◌, ◌<◌, ◌≤◌, min, Option, Some, None, List, [], ◌∷◌, ◌++◌, length, map, take, get_or, refl, ap, arith, sym, ◌∙◌, append_assoc, add-one}
 use Rattle.std.specs.Prelude.{slice_get}
-use Rattle.lf_scalar.specs.Cells.{Cell, cell, cells, bytes_of, end_of, zipped}
+use Rattle.lf_scalar.specs.Cells.{Cell, cell, cells, bytes_of, offsets_of, end_of, zipped}
 use Rattle.lf_scalar.specs.Folding.{feeds}
 use Rattle.lf_scalar.proofs.Cells.{cells-take}
 
@@ -42,6 +42,17 @@ given-more old now at bytes i lt e =
     one [] i lt = absurd (omega arith)
     one (x ∷ xs) zero lt = refl
     one (x ∷ xs) (suc i) lt = ap (λ (cs : List Cell). cell x at ∷ cs) (one xs i (omega arith))
+
+pub zipped-bytes : (xs ys : List ℕ) → length xs ≡ length ys → xs ≡ bytes_of (zipped xs ys)
+zipped-bytes [] ys e = refl
+zipped-bytes (x ∷ xs) [] e = absurd (omega (arith, e))
+zipped-bytes (x ∷ xs) (y ∷ ys) e = ap (λ (bs : List ℕ). x ∷ bs) (zipped-bytes xs ys (omega (arith, e)))
+
+pub zipped-offsets : (xs ys : List ℕ) → length xs ≡ length ys → ys ≡ offsets_of (zipped xs ys)
+zipped-offsets [] [] e = refl
+zipped-offsets [] (y ∷ ys) e = absurd (omega (arith, e))
+zipped-offsets (x ∷ xs) [] e = absurd (omega (arith, e))
+zipped-offsets (x ∷ xs) (y ∷ ys) e = ap (λ (bs : List ℕ). y ∷ bs) (zipped-offsets xs ys (omega (arith, e)))
 
 pub bytes-zipped : (xs ys : List ℕ) → length xs ≡ length ys → bytes_of (zipped xs ys) ≡ xs
 bytes-zipped [] ys e = refl

@@ -36,7 +36,14 @@ pub mod QuotedText
 pub mod BodyLines
 pub mod BodyRun
 pub mod BodyIndent
+pub mod Walk
+pub mod JoinedRun
+pub mod FoldedRun
+pub mod HeaderRun
+pub mod BlockRun
 pub mod Climbing
+pub mod Whole
+pub mod FirstByte
 pub mod Utf8Lines
 pub mod QuotedTexts
 pub mod BlockTexts

@@ -26,7 +26,7 @@ seen-is x y e = cc
 none-seen : {X : Type 0} (x : List Cell × (Bool × ℕ)) → None ≡ seen x → X
 none-seen x e = absurd cc
 
-drop-cells : (n at : ℕ) (xs : List ℕ) → drop n (cells at xs) ≡ cells (at + n) (drop n xs)
+pub drop-cells : (n at : ℕ) (xs : List ℕ) → drop n (cells at xs) ≡ cells (at + n) (drop n xs)
 drop-cells zero at xs = ap (λ (k : ℕ). cells k xs) (zero-more at)
   where
     zero-more : (k : ℕ) → k ≡ k + 0

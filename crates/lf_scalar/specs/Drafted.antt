@@ -3,10 +3,15 @@ use Rattle.std.specs.Prelude.{◌≡◌, List, ◌++◌, Result, Ok, Err}
 use Rattle.lf_base.specs.declared.refusal.Refusal.{Refusal}
 use Rattle.lf_base.specs.declared.refusal.Refusal.TheVariants as refusal_of
 use Rattle.lf_scalar.specs.declared.drafted.Drafted.{Drafted}
+use Rattle.lf_scalar.specs.declared.scalar.Scalar.{Scalar}
 use Rattle.lf_scalar.specs.Cells.{Cell, Value, made, Fault, Fails}
 
 abbrev pub drafted : Drafted → Value
 drafted d = made d.draft d.end d.span
+
+-- a scalar without where it lies in memory
+abbrev pub shown : Scalar → Value
+shown s = record { text = s.text; from = s.from; span = s.span }
 
 -- the refusal that tells a fault
 abbrev pub refused : Fault → Refusal

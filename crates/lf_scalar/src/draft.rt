@@ -1,6 +1,6 @@
 //! A text that is being made, with the source offset of each of its bytes.
 ghost use Rattle.std.specs.Prelude.{◌≡◌, ℕ, ◌+◌, ◌<◌, ◌^◌, ◌∷◌, ◌++◌, [], length, take, min, OnOk};
-ghost use Rattle.lf_scalar.specs.Cells.{cell, cells, bytes_of, end_of};
+ghost use Rattle.lf_scalar.specs.Cells.{cell, cells, bytes_of, offsets_of, end_of};
 ghost use Rattle.lf_scalar.specs.Folding.{feeds, fold};
 ghost use Rattle.lf_scalar.specs.Quoted.{char_cells};
 
@@ -73,6 +73,13 @@ impl Draft {
                 Err(Memory)
             }
         }
+    }
+
+    /// The bytes and their offsets.
+    pub fn into_parts(self) -> (Vec<u8>, Vec<u32>)
+        ensures { (result.0.items ≡ bytes_of self) × (result.1.items ≡ offsets_of self) }
+    {
+        (self.text, self.from)
     }
 
     /// Keeps the first bytes alone.

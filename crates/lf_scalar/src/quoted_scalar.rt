@@ -66,7 +66,7 @@ fn open_quote(at: u32) -> Refusal
 }
 
 /// The first line of some bytes, without its end.
-pub fn first_line(rest: &[u8]) -> &[u8]
+fn first_line(rest: &[u8]) -> &[u8]
     ensures value { (at : ℕ) → cells at result.now ≡ first_text (lines_at at rest.now) }
     ensures within { length result.now ≤ length rest.now }
 {
@@ -105,7 +105,7 @@ fn push_lines(
 }
 
 /// Appends what the lines behind a line break give. `rest` is these lines, the first of which stands at an offset.
-pub fn push_behind(
+fn push_behind(
     draft: &mut Draft,
     kind: Quotes,
     above: usize,

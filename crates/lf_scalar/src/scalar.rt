@@ -1,5 +1,5 @@
 //! What a scalar is.
-ghost use Rattle.std.specs.Prelude.{◌≤◌};
+ghost use Rattle.std.specs.Prelude.{◌≡◌, ◌≤◌, length, get_or};
 ghost use Rattle.lf_scalar.specs.Offsets.{AreOffsets};
 
 use lf_base::{Seq, Span, Text};
@@ -29,4 +29,22 @@ pub struct Scalar {
     pub from: Seq<u32>,
     pub span: Span,
     pub ghost offsets: { AreOffsets text from span },
+}
+
+impl Scalar {
+    /// Where a part of the text comes from: from the source of its first byte to the source of what follows it. `part` is in bytes of the text, from 0, and lies in it.
+    pub fn source(&self, part: Span) -> Span
+        requires order { part.start ≤ part.end }
+        requires within { part.end ≤ length self.now.text }
+        ensures start { result.start ≡ get_or self.now.from part.start 0 }
+        ensures end { result.end ≡ get_or self.now.from part.end 0 }
+        ensures order { result.start ≤ result.end }
+        ensures inside { (self.now.span.start ≤ result.start) × (result.end ≤ self.now.span.end) }
+    {
+        let from = self.from.as_slice();
+        Span {
+            start: from[part.start as usize],
+            end: from[part.end as usize],
+        }
+    }
 }

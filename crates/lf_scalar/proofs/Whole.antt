@@ -1,0 +1,69 @@
+-- Reading a scalar in a file: from what the readers of the styles return to what the file has.
+use Rattle.std.proofs.Common.{◌≡◌, true, false, ℕ, suc, SFits, to_z, of_z, w32, ◌+◌, ◌<◌, ◌≤◌, List, [], ◌∷◌, Result, Ok, Err, length, drop, refl, ap, arith, sym, ◌∙◌, subst, inl, inr}
+use Rattle.std.specs.Prelude.{ℤ, IfOk}
+use Rattle.std.proofs.lemmas.List.{drop_all, length-drop}
+use Rattle.std.proofs.lemmas.Int.{to_z-of_z}
+use Rattle.lf_base.specs.declared.refusal.Refusal.{Refusal}
+use Rattle.lf_base.specs.declared.refusal.Refusal.TheVariants as refusal_of
+use Rattle.lf_scalar.specs.declared.drafted.Drafted.{Drafted}
+use Rattle.lf_scalar.specs.declared.scalar.Scalar.{Scalar}
+use Rattle.lf_scalar.specs.declared.scalar.Style.{Style}
+use Rattle.lf_scalar.specs.declared.scalar.Style.TheVariants as style
+use Rattle.lf_scalar.specs.Cells.{Cell, cells, Value, Fault, Fails, Gives}
+use Rattle.lf_scalar.specs.Lines.{Line, lines, lines_at, first_text}
+use Rattle.lf_scalar.specs.Scalars.{least_above, begins, source_at, IsOfStyle}
+use Rattle.lf_scalar.specs.Drafted.{drafted, shown}
+use Rattle.lf_scalar.specs.Reading.{reading}
+use Rattle.lf_scalar.proofs.LineSteps.{lines-nil}
+use Rattle.lf_scalar.proofs.Tails.{true-false}
+use Rattle.lf_scalar.proofs.Laws as laws
+
+begins-nothing : (s : Style) → begins s [] ≡ false
+begins-nothing style.Plain = refl
+begins-nothing style.Single = refl
+begins-nothing style.Double = refl
+begins-nothing style.Literal = refl
+begins-nothing style.Folded = refl
+
+pub some-rest : (s : Style) (end at : ℕ) (rest : List ℕ) → begins s (first_text (lines end (cells at rest))) ≡ true → 0 < length rest
+some-rest s end at [] h = true-false _ h (ap (λ (ls : List Line). begins s (first_text ls)) (lines-nil end) ∙ begins-nothing s)
+some-rest s end at (x ∷ xs) h = omega arith
+
+module _ (s : Style) (bytes : List ℕ) (at : ℕ) (begun : begins s (first_text (lines (length bytes) (source_at bytes at))) ≡ true) where
+  -- it begins in the file
+  pub begins-within : at < length bytes
+  begins-within = omega (arith, some-rest s (length bytes) at (drop at bytes) begun, length-drop at bytes)
+
+  module _ (rest : List ℕ) (rest_is : rest ≡ drop at bytes) where
+    pub end-is : at + length rest ≡ length bytes
+    end-is = omega (arith, begins-within, ap length rest_is, length-drop at bytes)
+
+    pub begins-rest : begins s (first_text (lines_at at rest)) ≡ true
+    begins-rest = ap (λ (n : ℕ). begins s (first_text (lines n (cells at rest)))) end-is ∙ ap (λ (bs : List ℕ). begins s (first_text (lines (length bytes) (cells at bs)))) rest_is ∙ begun
+
+    module _ (above : ℕ) where
+      reading-is : reading s above (at + length rest) (cells at rest) ≡ reading s above (length bytes) (source_at bytes at)
+      reading-is = ap (λ (n : ℕ). reading s above n (cells at rest)) end-is ∙ ap (λ (bs : List ℕ). reading s above (length bytes) (cells at bs)) rest_is
+
+      pub whole-fails : (e : Refusal) → Fails e (reading s above (at + length rest) (cells at rest)) → Fails e (reading s above (length bytes) (source_at bytes at))
+      whole-fails e h = subst (Fails e) reading-is h
+
+      module _ (d : Drafted) (given : reading s above (at + length rest) (cells at rest) ≡ Ok (drafted d)) where
+        whole-is : reading s above (length bytes) (source_at bytes at) ≡ Ok (drafted d)
+        whole-is = sym reading-is ∙ given
+
+        pub whole-gives : (r : Result Scalar Refusal) → Gives shown r (Ok (drafted d)) → Gives shown r (reading s above (length bytes) (source_at bytes at))
+        whole-gives r h = subst (Gives shown r) (sym whole-is) h
+
+        pub whole-scalar : IsOfStyle s above (length bytes) (source_at bytes at) (drafted d)
+        whole-scalar = laws.found {X = Drafted} drafted s above (length bytes) (source_at bytes at) (Ok d) whole-is begun
+
+-- by the least number of spaces of an indent above a parent's
+pub by-indent : (s : Style) (end above : ℕ) (indent : ℤ) (src : List Cell) (r : Result Scalar Refusal) → SFits w32 indent → above ≡ least_above (to_z w32 (of_z w32 indent)) → Gives shown r (reading s above end src) → Gives shown r (reading s (least_above indent) end src)
+by-indent s end above indent src r fits e h =
+    subst (λ (n : ℕ). Gives shown r (reading s n end src)) (e ∙ ap least_above (to_z-of_z w32 indent fits)) h
+
+-- what holds of each value of some kind holds of the one that was found
+pub of-found : {P Q : Value → Type 0} → ((v : Value) → P v → Q v) → (r : Result Scalar Refusal) → IfOk r (λ s. P (shown s)) → IfOk r (λ s. Q (shown s))
+of-found law (Ok s) h = law (shown s) h
+of-found law (Err e) h = tt

@@ -1,0 +1,21 @@
+use Rattle.std.proofs.Common.{◌≡◌, ◌+◌, ◌++◌, ap, sym, ◌∙◌, List}
+use Rattle.lf_scalar.specs.Cells.{Cell}
+use Rattle.lf_scalar.proofs.BlockRun.{some-rest, block-wrong, block-right}
+use Rattle.lf_scalar.proofs.block.read_block.Goals as goal
+
+pub returns-in-Err : goal.returns-in-Err
+returns-in-Err c = record {
+  gives =
+      block-wrong c.args.joining c.args.above c.args.at c.args.rest.now c.line_end-first.result.text c.line_end-first.result.feed c.requires.begins
+      (c.line_end-first.ensures.first c.args.at (some-rest c.args.joining c.args.at c.args.rest.now c.requires.begins))
+      c.in-Err.wrong c.fault_at.result (rw (c.past-line.ensures, c.before-2.ensures) at (c.in-Err.ensures.value (c.args.at + 1))) (rw (c.past-line.ensures, c.before-2.ensures) at c.fault_at.ensures);
+}
+
+pub returns : goal.returns
+returns c = record {
+  gives =
+      block-right c.args.joining c.args.above c.args.at c.args.rest.now c.line_end-first.result.text c.line_end-first.result.feed c.requires.begins
+      (c.line_end-first.ensures.first c.args.at (some-rest c.args.joining c.args.at c.args.rest.now c.requires.begins))
+      c.in-Ok.header c.push_body.new.draft c.end-end.result (rw (c.past-line.ensures, c.before-2.ensures) at (c.in-Ok.ensures.value (c.args.at + 1)))
+      (rw (c.past-body.ensures, c.new-draft.ensures) at c.in-Ok-push_body.ensures) c.end-end.ensures;
+}
