@@ -1,13 +1,13 @@
 -- The text of a block scalar: it is UTF-8, and its offsets never fall.
-use Rattle.std.proofs.Common.{◌≡◌, ℕ, zero, suc, ◌+◌, ◌<◌, ◌≤◌, Bool, true, false, cond, ◌&&◌, ◌||◌, eqb, leb, List, [], ◌∷◌, ◌++◌, length, map, take, drop, take_while, refl, ap, arith, sym, ◌∙◌, subst, ◌⊎◌, inl, inr, eqb-true}
-use Rattle.std.specs.List.{flat_map, list_all, AllByRecursion}
-use Rattle.std.proofs.lemmas.List.{append-nil, take-append-drop}
+use Rattle.std.proofs.Common.{◌≡◌, ℕ, zero, suc, ◌≤◌, Bool, true, false, cond, ◌||◌, eqb, leb, List, [], ◌∷◌, ◌++◌, length, map, take, drop, take_while, refl, ap, arith, sym, ◌∙◌, subst, ◌⊎◌, inl, inr, eqb-true}
+use Rattle.std.specs.List.{flat_map, list_all}
+use Rattle.std.proofs.lemmas.List.{take-append-drop}
 use Rattle.std.proofs.lemmas.List.Sums.{take_while-cons}
 use Rattle.std.proofs.lemmas.Bool.{and_parts, or_cases, leb-true, cases_Bool}
 use Rattle.lf_scalar.specs.declared.block.Chomp.{Chomp}
 use Rattle.lf_scalar.specs.declared.block.Chomp.TheVariants.{Strip, Clip, Keep}
 use Rattle.lf_scalar.specs.Cells.{Cell, cell}
-use Rattle.lf_scalar.specs.Lines.{Line, line, indent_of, is_spaces}
+use Rattle.lf_scalar.specs.Lines.{Line, indent_of, is_spaces}
 use Rattle.lf_scalar.specs.Folding.{fold, feeds}
 use Rattle.lf_scalar.specs.Block.{in_body, content, body_of, breaks, last_break, chomped, joined, Stretch, whole, begins_blank, between, folded, IsFolded, IsJoined, IsBlockText}
 use Rattle.lf_scalar.proofs.Parts.{Utf8, Part, whole-part, low-part, part-utf8}

@@ -47,3 +47,4 @@ pub mod FirstByte
 pub mod Utf8Lines
 pub mod QuotedTexts
 pub mod BlockTexts
+pub mod TextLaws

@@ -1,5 +1,5 @@
 -- The text of a scalar between quotes: it is UTF-8, and its offsets never fall.
-use Rattle.std.proofs.Common.{◌≡◌, ℕ, zero, suc, ◌+◌, ◌*◌, ◌-◌, ◌<◌, ◌≤◌, Bool, true, false, cond, ◌&&◌, eqb, List, [], ◌∷◌, ◌++◌, Option, Some, None, length, map, refl, ap, arith, append_assoc, sym, ◌∙◌, subst, ◌⊎◌, inl, inr, eqb-true}
+use Rattle.std.proofs.Common.{◌≡◌, ℕ, suc, ◌+◌, ◌*◌, ◌<◌, ◌≤◌, true, ◌&&◌, eqb, List, [], ◌∷◌, ◌++◌, Option, Some, None, length, map, refl, ap, arith, append_assoc, sym, ◌∙◌, subst, inl, inr, eqb-true}
 use Rattle.std.specs.Str.{IsUtf8}
 use Rattle.std.specs.Char.{IsScalar, encode_utf8}
 use Rattle.std.specs.List.{flat_map, list_all, AllByRecursion}
@@ -8,12 +8,12 @@ use Rattle.std.proofs.lemmas.Bool.{and_parts, le-ltb, cases_lt, cases_Bool, true
 use Rattle.std.proofs.lemmas.Grind.{flat_map-append}
 use Rattle.std.proofs.lemmas.Str.{IsUtf8-encode}
 use Rattle.lf_scalar.specs.Cells.{Cell, cell, bytes_of}
-use Rattle.lf_scalar.specs.Lines.{Line, is_blank, after_blanks}
+use Rattle.lf_scalar.specs.Lines.{Line, after_blanks}
 use Rattle.lf_scalar.specs.Folding.{trimmed}
 use Rattle.lf_scalar.specs.Quoted.{Quotes, Single, Double, quote_of, letters, looked_up, letter_of, width_of, digit_of, Tells, Piece, Bare, Twice, Letter, Number, spelled, char_cells, given, IsPiece, is_bare_blank, Break, Folds, Drops, filled, IsBroken, unindented, QuotedFrom, last, more}
 use Rattle.lf_scalar.proofs.Parts.{Utf8, utf8-before, utf8-behind, part-utf8, after-blanks-part, blank-low, BeginsLow}
 use Rattle.lf_scalar.proofs.Utf8Lines.{utf8-nil, utf8-append, utf8-low, feeds-utf8, fold-utf8, LinesUtf8, lines-utf8-behind}
-use Rattle.lf_scalar.proofs.Rising.{Rises, Climbs, LinesRise, rises-le, rises-low, rises-front, rises-back, rises-before, rises-behind, rises-part, climbs-le, climbs-low, climbs-high, climbs-append, feeds-climb, fold-climbs, lines-behind}
+use Rattle.lf_scalar.proofs.Rising.{Rises, Climbs, LinesRise, rises-le, rises-front, rises-back, rises-before, rises-behind, rises-part, climbs-low, climbs-high, climbs-append, feeds-climb, fold-climbs, lines-behind}
 
 -- ---- escapes
 
@@ -42,9 +42,34 @@ letters-are byte n (pair ∷ pairs) h e =
 pub letter-low : (byte n : ℕ) → letter_of byte ≡ Some n → (byte < 128) × IsScalar n
 unfolding letter_of
 letter-low byte n e =
-    letters-are byte n letters
-    ((omega arith, refl), ((omega arith, refl), ((omega arith, refl), ((omega arith, refl), ((omega arith, refl), ((omega arith, refl), ((omega arith, refl), ((omega arith, refl), ((omega arith, refl),
-    ((omega arith, refl), ((omega arith, refl), ((omega arith, refl), ((omega arith, refl), ((omega arith, refl), ((omega arith, refl), ((omega arith, refl), ((omega arith, refl), ((omega arith, refl), tt))))))))))))))))))
+    letters-are byte n letters (
+      (omega arith, refl),
+      (
+        (omega arith, refl),
+        (
+          (omega arith, refl),
+          (
+            (omega arith, refl),
+            (
+              (omega arith, refl),
+              (
+                (omega arith, refl),
+                (
+                  (omega arith, refl),
+                  (
+                    (omega arith, refl),
+                    (
+                      (omega arith, refl),
+                      ((omega arith, refl), ((omega arith, refl), ((omega arith, refl), ((omega arith, refl), ((omega arith, refl), ((omega arith, refl), ((omega arith, refl), ((omega arith, refl), ((omega arith, refl), tt))))))))),
+                    ),
+                  ),
+                ),
+              ),
+            ),
+          ),
+        ),
+      ),
+    )
     e
 
 width-low : (byte n : ℕ) → width_of byte ≡ some n → byte < 128
@@ -187,7 +212,7 @@ module _ (ps : List Piece) where
 
 -- ---- lines
 
-quote-low : (kind : Quotes) (c : Cell) → c.byte ≡ quote_of kind → c.byte < 128
+pub quote-low : (kind : Quotes) (c : Cell) → c.byte ≡ quote_of kind → c.byte < 128
 quote-low Single c e = omega (arith, e)
 quote-low Double c e = omega (arith, e)
 

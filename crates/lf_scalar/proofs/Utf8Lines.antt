@@ -1,8 +1,7 @@
 -- The lines of a source that is UTF-8, and the texts that lines give.
-use Rattle.std.proofs.Common.{◌≡◌, ℕ, zero, suc, ◌+◌, ◌<◌, List, [], ◌∷◌, ◌++◌, length, map, refl, ap, arith, append_assoc, sym, ◌∙◌, subst, ◌⊎◌, inl, inr}
+use Rattle.std.proofs.Common.{◌≡◌, ℕ, zero, suc, ◌+◌, ◌<◌, List, [], ◌∷◌, ◌++◌, length, ap, arith, sym, ◌∙◌, subst, ◌⊎◌, inl, inr}
 use Rattle.std.specs.Str.{IsUtf8, IsAscii}
 use Rattle.std.specs.List.{AllByRecursion}
-use Rattle.std.specs.Prelude.{slice_index}
 use Rattle.std.proofs.lemmas.List.{append-nil, length-append, map-append}
 use Rattle.std.proofs.lemmas.Str.{IsUtf8-nil, IsUtf8-append, IsUtf8-from_ascii}
 use Rattle.lf_scalar.specs.Cells.{Cell, cell, bytes_of}
@@ -10,7 +9,7 @@ use Rattle.lf_scalar.specs.Lines.{Line, lines, after_blanks}
 use Rattle.lf_scalar.specs.Folding.{fold, feeds}
 use Rattle.lf_scalar.specs.Plain.{before_comment, plain_text, PlainFrom, last, more}
 use Rattle.lf_scalar.proofs.LineSteps.{lines-nil}
-use Rattle.lf_scalar.proofs.LineCuts.{FirstLine, EndsAt, HasLine, has-line}
+use Rattle.lf_scalar.proofs.LineCuts.{EndsAt, HasLine, has-line}
 use Rattle.lf_scalar.proofs.Parts.{Utf8, part-utf8, utf8-before, utf8-behind, after-blanks-part, before-comment-front, trimmed-front, front-part}
 use Rattle.lf_scalar.proofs.Rising.{fed, ended}
 
@@ -68,9 +67,10 @@ lines-utf8 (suc n) end (c ∷ src) lt u = by (has-line end c src) (λ rest lt u.
             let s : c ∷ src ≡ (l.text ++ a.before) ++ a.feed ∷ f.rest = f.source ∙ fed l.text a.before f.rest a.feed f.ending a.is_ending in
             let v : Utf8 ((l.text ++ a.before) ++ a.feed ∷ f.rest) = subst Utf8 s u in
             let low : a.feed.byte < 128 = omega (arith, a.is_feed) in
-            let size : suc (length src) ≡ length (l.text ++ a.before) + suc (length f.rest) = ap length s ∙ length-append (l.text ++ a.before) (a.feed ∷ f.rest) in
-            (before-return l.text a.before a.returns (utf8-before (l.text ++ a.before) a.feed f.rest v low),
-            subst LinesUtf8 (sym f.following) (below f.rest (omega (arith, lt, size)) (utf8-behind (l.text ++ a.before) a.feed f.rest v low)))
+            let size : suc (length src) ≡ length (l.text ++ a.before) + suc (length f.rest) = ap length s ∙ length-append (l.text ++ a.before) (a.feed ∷ f.rest) in (
+              before-return l.text a.before a.returns (utf8-before (l.text ++ a.before) a.feed f.rest v low),
+              subst LinesUtf8 (sym f.following) (below f.rest (omega (arith, lt, size)) (utf8-behind (l.text ++ a.before) a.feed f.rest v low)),
+            )
         cases (inr (e, r, p)) =
             let s : c ∷ src ≡ l.text = f.source ∙ ended l.text f.ending f.rest e r in
             (subst Utf8 s u, subst LinesUtf8 (sym (f.following ∙ ap (lines end) r ∙ lines-nil end)) tt)
