@@ -49,3 +49,4 @@ pub mod QuotedTexts
 pub mod BlockTexts
 pub mod TextLaws
 pub mod OneAnswer
+pub mod MoreWorked

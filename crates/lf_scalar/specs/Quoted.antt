@@ -128,7 +128,7 @@ filled (Drops at) k = feeds k at
 
 -- A line before the last, without the blanks at its start if it isn't the first: its text and its line break. The blanks at its end are dropped, and its line break is
 -- folded. A backslash at its end drops the line break and keeps the blanks before it. So where a line behind the first has only blanks and a backslash, these blanks are
--- dropped, since they stand at the line's start, and the line gives nothing (proofs/Worked, blanks_and_backslash).
+-- dropped, since they stand at the line's start, and the line gives nothing (proofs/MoreWorked, blanks_and_backslash).
 abbrev pub IsBroken : Quotes → Line → List Cell → Break → Type 0
 IsBroken kind l text (Folds at) = (pieces : List Piece) × AllByRecursion (IsPiece kind) pieces × (l.text ≡ flat_map spelled pieces) × (text ≡ flat_map given (trimmed is_bare_blank pieces)) × (at ≡ l.break)
 IsBroken Double l text (Drops at) =
