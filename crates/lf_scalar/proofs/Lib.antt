@@ -43,3 +43,4 @@ pub mod HeaderRun
 pub mod BlockRun
 pub mod Climbing
 pub mod Whole
+pub mod FirstByte

@@ -12,3 +12,4 @@ pub mod Reading
 pub mod Scalars
 pub mod Drafted
 pub mod Offsets
+pub mod BeginsReading

@@ -1,6 +1,7 @@
 //! Scalars of rule files in every style of the YAML profile: the text, and for each of its bytes the source offset of what gave it.
 #![tactic(auto)]
 
+mod begins;
 mod block;
 mod body;
 mod draft;
@@ -18,5 +19,6 @@ mod quotes;
 mod reader;
 mod scalar;
 
+pub use begins::begins_scalar;
 pub use reader::read_scalar;
 pub use scalar::{Scalar, Style};

@@ -1,0 +1,53 @@
+-- How a scalar begins, by the first two bytes of its line.
+use Rattle.std.proofs.Common.{◌≡◌, ◌≢◌, true, false, not, ℕ, suc, ◌+◌, ◌<◌, ◌≤◌, eqb, Bool, List, [], ◌∷◌, Option, Some, None, length, get_or, drop, refl, ap, arith, sym, ◌∙◌, eq-eqb, ◌⊎◌, inl, inr, ◌&&◌, ◌||◌}
+use Rattle.std.proofs.lemmas.Bool.{ne_eqb}
+use Rattle.std.proofs.lemmas.Bool.Decides.{eqb_tells}
+use Rattle.std.proofs.lemmas.List.{drop_all}
+use Rattle.lf_scalar.specs.declared.scalar.Style.{Style}
+use Rattle.lf_scalar.specs.declared.scalar.Style.TheVariants as style
+use Rattle.lf_scalar.specs.Cells.{Cell, cell, cells}
+use Rattle.lf_scalar.specs.Lines.{Line, line, lines, first_text, begins_with, lengthen, is_blank}
+use Rattle.lf_scalar.specs.Plain.{is_plain_byte, is_sign, before_blank}
+use Rattle.lf_scalar.specs.Scalars.{begins}
+use Rattle.lf_scalar.specs.BeginsReading.{first_byte_of, is_full_byte, begins_by}
+use Rattle.lf_scalar.proofs.LineSteps.{lines-nil, lines-feed, lines-other, line-step, IsOther}
+
+abbrev first_of : ℕ → List Cell → Option ℕ
+first_of end src = first_byte_of (first_text (lines end src))
+
+pub of-nothing : (at end : ℕ) (rest : List ℕ) → length rest ≤ 0 → None ≡ first_of end (cells at rest)
+of-nothing at end [] le = sym (ap (λ (ls : List Line). first_byte_of (first_text ls)) (lines-nil end))
+of-nothing at end (x ∷ xs) le = absurd (omega arith)
+
+pub of-feed : (at end : ℕ) (rest : List ℕ) → 0 < length rest → get_or rest 0 0 ≡ 10 → None ≡ first_of end (cells at rest)
+of-feed at end [] lt e = absurd (omega arith)
+of-feed at end (x ∷ xs) lt e = sym (ap (λ (ls : List Line). first_byte_of (first_text ls)) (lines-feed end (cell x at) (cells (suc at) xs) e))
+
+lengthen-first : (end : ℕ) (c : Cell) (ls : List Line) → first_text (lengthen end c ls) ≡ c ∷ first_text ls
+lengthen-first end c [] = refl
+lengthen-first end c (l ∷ ls) = refl
+
+begins-at : (at : ℕ) (xs : List ℕ) → begins_with 10 (cells at xs) ≡ eqb (get_or xs 0 0) 10
+begins-at at [] = refl
+begins-at at (x ∷ xs) = refl
+
+return-first : (end : ℕ) (c : Cell) (src : List Cell) → eqb c.byte 10 ≡ false → eqb c.byte 13 ≡ true → begins_with 10 src ≡ true → None ≡ first_of end (c ∷ src)
+unfolding lines
+return-first end c [] a b d = absurd cc
+return-first end c (e ∷ src) a b d = rw (a, b, d) refl
+
+not-feed : (b : ℕ) → b ≡ 13 → eqb b 10 ≡ false
+not-feed b e = rw e refl
+
+pub of-return : (at end : ℕ) (rest : List ℕ) → 0 < length rest → get_or rest 0 0 ≡ 13 → eqb (get_or rest 1 0) 10 ≡ true → None ≡ first_of end (cells at rest)
+of-return at end [] lt e f = absurd (omega arith)
+of-return at end (x ∷ xs) lt e f = return-first end (cell x at) (cells (suc at) xs) (not-feed x e) (eq-eqb x 13 e) (begins-at (suc at) xs ∙ f)
+
+-- neither of these
+is-other : (at x : ℕ) (xs : List ℕ) → x ≢ 10 → (x ≡ 13 → eqb (get_or xs 0 0) 10 ≡ false) → IsOther (cell x at) (cells (suc at) xs)
+is-other at x xs n r = record { no_feed = ne_eqb x 10 n; no_return = elim (eqb_tells x 13) [ inl a ↦ rw (a.0, begins-at (suc at) xs) (r a.1) | inr a ↦ rw a.0 refl ] }
+
+pub of-other : (at end : ℕ) (rest : List ℕ) → 0 < length rest → get_or rest 0 0 ≢ 10 → (get_or rest 0 0 ≡ 13 → eqb (get_or rest 1 0) 10 ≡ false) → Some (get_or rest 0 0) ≡ first_of end (cells at rest)
+of-other at end [] lt n r = absurd (omega arith)
+of-other at end (x ∷ xs) lt n r =
+    sym (ap (λ (ls : List Line). first_byte_of (first_text ls)) (lines-other end (cell x at) (cells (suc at) xs) (is-other at x xs n r)) ∙ ap first_byte_of (lengthen-first end (cell x at) (lines end (cells (suc at) xs))))
