@@ -16,9 +16,18 @@ const LONGEST: usize = 2147483648;
 
 /// What `read_scalar` answers on the text of a case, at its `at`, with its `indent` and `style`.
 pub fn answer(alloc: Global, case: &Case) -> Result<Value> {
-    let style = case.text_at("style").and_then(style_of).context("no style")?;
-    let at = case.number_at("at").and_then(|at| u32::try_from(at).ok()).context("no at")?;
-    let indent = case.number_at("indent").and_then(|indent| i32::try_from(indent).ok()).context("no indent")?;
+    let style = case
+        .text_at("style")
+        .and_then(style_of)
+        .context("no style")?;
+    let at = case
+        .number_at("at")
+        .and_then(|at| u32::try_from(at).ok())
+        .context("no at")?;
+    let indent = case
+        .number_at("indent")
+        .and_then(|indent| i32::try_from(indent).ok())
+        .context("no indent")?;
     let bytes = case.text()?.as_bytes();
     ask(bytes, at, style)?;
     match read_scalar(alloc, bytes, at, indent, style) {
