@@ -1,8 +1,8 @@
 -- The indent of the first line with a byte other than a space.
-use Rattle.std.proofs.Common.{◌≡◌, ℕ, suc, ◌+◌, ◌<◌, ◌≤◌, List, [], ◌∷◌, length, take, drop, refl, ap, arith, sym, ◌∙◌}
+use Rattle.std.proofs.Common.{◌≡◌, ℕ, ◌+◌, ◌<◌, ◌≤◌, List, ◌∷◌, length, take, drop, refl, ap, arith, sym, ◌∙◌}
 use Rattle.std.proofs.lemmas.List.{length-drop, length-take, drop_all}
 use Rattle.lf_scalar.specs.Cells.{cells}
-use Rattle.lf_scalar.specs.Lines.{Line, line, lines, lines_at, indent_of}
+use Rattle.lf_scalar.specs.Lines.{line, lines, lines_at, indent_of}
 use Rattle.lf_scalar.specs.Block.{first_indent}
 use Rattle.lf_scalar.proofs.BodyLines.{are-spaces, have-text}
 

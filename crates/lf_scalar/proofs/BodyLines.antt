@@ -1,10 +1,10 @@
 -- What a line is to a block scalar's body, by its spaces.
-use Rattle.std.proofs.Common.{◌≡◌, ◌==◌, ℕ, suc, ◌+◌, ◌<◌, ◌≤◌, eqb, leb, Bool, true, false, List, [], ◌∷◌, length, drop, refl, ap, arith, sym, ◌∙◌, inl, inr}
+use Rattle.std.proofs.Common.{◌≡◌, ◌==◌, ℕ, suc, ◌<◌, ◌≤◌, Bool, true, false, List, [], ◌∷◌, length, refl, ap, arith, inl, inr}
 use Rattle.std.specs.List.{list_all}
 use Rattle.std.proofs.lemmas.Bool.Decides.{eqb_tells, leb_tells}
-use Rattle.lf_scalar.specs.Cells.{Cell, cell, cells}
-use Rattle.lf_scalar.specs.Lines.{Line, line, lines_at, indent_of, is_spaces}
-use Rattle.lf_scalar.specs.Block.{in_body, first_indent}
+use Rattle.lf_scalar.specs.Cells.{Cell, cells}
+use Rattle.lf_scalar.specs.Lines.{line, indent_of, is_spaces}
+use Rattle.lf_scalar.specs.Block.{in_body}
 
 pub cells-length : (at : ℕ) (bytes : List ℕ) → length (cells at bytes) ≡ length bytes
 cells-length at [] = refl

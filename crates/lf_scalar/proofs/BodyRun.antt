@@ -1,5 +1,5 @@
 -- Going over the lines of a block scalar's body.
-use Rattle.std.proofs.Common.{◌≡◌, ◌≢◌, ℕ, zero, suc, ◌+◌, ◌<◌, ◌≤◌, Bool, true, false, List, [], ◌∷◌, ◌++◌, length, map, take, drop, take_while, nat_lt, Some, None, refl, ap, arith, sym, ◌∙◌, subst, append_assoc, ◌&&◌, inl, inr}
+use Rattle.std.proofs.Common.{◌≡◌, ◌≢◌, ℕ, suc, ◌+◌, ◌<◌, ◌≤◌, Bool, true, false, List, [], ◌∷◌, ◌++◌, length, map, take, drop, take_while, nat_lt, None, refl, ap, arith, sym, ◌∙◌, subst, append_assoc, ◌&&◌, inl, inr}
 use Rattle.std.specs.List.{list_all}
 use Rattle.std.proofs.lemmas.List.{append-nil, length-append, map-append, length-drop, length-take, drop_all}
 use Rattle.std.proofs.lemmas.List.Sums.{take_while-cons}

@@ -1,5 +1,5 @@
 -- Offsets that never fall, by recursion.
-use Rattle.std.proofs.Common.{◌≡◌, ℕ, zero, suc, ◌+◌, ◌<◌, ◌≤◌, List, [], ◌∷◌, ◌++◌, length, get_or, arith, refl}
+use Rattle.std.proofs.Common.{◌≡◌, ℕ, zero, suc, ◌+◌, ◌<◌, ◌≤◌, List, [], ◌∷◌, ◌++◌, length, get_or, arith}
 use Rattle.lf_base.specs.declared.place.Span.{Span}
 use Rattle.lf_scalar.specs.Offsets.{NeverFall, AreOffsets}
 

@@ -10,7 +10,7 @@ use Rattle.lf_scalar.specs.Lines.{Line, line, lines, first_text, begins_with, le
 use Rattle.lf_scalar.specs.Plain.{is_plain_byte, is_sign, before_blank}
 use Rattle.lf_scalar.specs.Scalars.{begins}
 use Rattle.lf_scalar.specs.BeginsReading.{first_byte_of, is_full_byte, begins_by}
-use Rattle.lf_scalar.proofs.LineSteps.{lines-nil, lines-feed, lines-other, line-step, IsOther}
+use Rattle.lf_scalar.proofs.LineSteps.{lines-nil, lines-feed, lines-return, lines-other, line-step, IsOther}
 
 abbrev first_of : ℕ → List Cell → Option ℕ
 first_of end src = first_byte_of (first_text (lines end src))
@@ -51,3 +51,36 @@ pub of-other : (at end : ℕ) (rest : List ℕ) → 0 < length rest → get_or r
 of-other at end [] lt n r = absurd (omega arith)
 of-other at end (x ∷ xs) lt n r =
     sym (ap (λ (ls : List Line). first_byte_of (first_text ls)) (lines-other end (cell x at) (cells (suc at) xs) (is-other at x xs n r)) ∙ ap first_byte_of (lengthen-first end (cell x at) (lines end (cells (suc at) xs))))
+
+-- ---- how a scalar begins
+
+full-is : (t : List Cell) → not (before_blank t) ≡ is_full_byte (first_byte_of t)
+full-is [] = refl
+full-is (c ∷ cs) = refl
+
+begins-cons : (s : Style) (c : Cell) (t : List Cell) → begins s (c ∷ t) ≡ begins_by s (Some c.byte) (first_byte_of t)
+begins-cons style.Plain c t = ap (λ (b : Bool). is_plain_byte c || (is_sign c && b)) (full-is t)
+begins-cons style.Single c t = refl
+begins-cons style.Double c t = refl
+begins-cons style.Literal c t = refl
+begins-cons style.Folded c t = refl
+
+begins-none : (s : Style) (second : Option ℕ) → begins s [] ≡ begins_by s None second
+begins-none style.Plain second = refl
+begins-none style.Single second = refl
+begins-none style.Double second = refl
+begins-none style.Literal second = refl
+begins-none style.Folded second = refl
+
+begins-step : (s : Style) (end at x : ℕ) (xs : List ℕ) → begins s (first_text (lines end (cell x at ∷ cells (suc at) xs))) ≡ begins_by s (first_of end (cell x at ∷ cells (suc at) xs)) (first_of end (cells (suc at) xs))
+begins-step s end at x xs =
+    elim (line-step (cell x at) (cells (suc at) xs)) [
+      | inl a ↦ rw (lines-feed end (cell x at) (cells (suc at) xs) a) (begins-none s (first_of end (cells (suc at) xs)))
+      | inr (inl r) ↦ rw (lines-return end (cell x at) (cells (suc at) xs) r) (begins-none s (first_of end (cells (suc at) xs)))
+      | inr (inr o) ↦ rw (lines-other end (cell x at) (cells (suc at) xs) o, lengthen-first end (cell x at) (lines end (cells (suc at) xs))) (begins-cons s (cell x at) (first_text (lines end (cells (suc at) xs))))
+    ]
+
+pub begins-is : (s : Style) (end at : ℕ) (rest behind : List ℕ) (first second : Option ℕ) (b : Bool) → behind ≡ drop 1 rest → first ≡ first_of end (cells at rest) → second ≡ first_of end (cells (suc at) behind) → b ≡ begins_by s first second
+    → b ≡ begins s (first_text (lines end (cells at rest)))
+begins-is s end at [] behind first second b d f g e = e ∙ rw (f, lines-nil end) (sym (begins-none s second))
+begins-is s end at (x ∷ xs) behind first second b d f g e = e ∙ rw (f, g, d) (sym (begins-step s end at x xs))

@@ -44,3 +44,7 @@ pub mod BlockRun
 pub mod Climbing
 pub mod Whole
 pub mod FirstByte
+pub mod Utf8Lines
+pub mod QuotedTexts
+pub mod BlockTexts
+pub mod TextLaws

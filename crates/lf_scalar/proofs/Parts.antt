@@ -75,7 +75,7 @@ pub whole-part : (cs : List Cell) → Part cs cs
 whole-part cs = record { front = []; back = []; source = sym (append-nil cs); ends_low = inl refl; begins_low = tt }
 
 -- one more cell below 128 at the front
-low-part : (c : Cell) (cs part : List Cell) → c.byte < 128 → Part cs part → Part (c ∷ cs) part
+pub low-part : (c : Cell) (cs part : List Cell) → c.byte < 128 → Part cs part → Part (c ∷ cs) part
 low-part c cs part lt p = record { front = c ∷ p.front; back = p.back; source = ap (λ (xs : List Cell). c ∷ xs) p.source; ends_low = longer p.ends_low; begins_low = p.begins_low }
   where
     longer : EndsLow p.front → EndsLow (c ∷ p.front)

@@ -38,7 +38,7 @@ no-cell : (c : Cell) (cs : List Cell) → [] ≡ c ∷ cs → ⊥
 no-cell c cs e = cc
 
 -- the first cell of a source stands at its offset
-first-at : (at : ℕ) (rest : List ℕ) (c : Cell) (cs : List Cell) → cells at rest ≡ c ∷ cs → c.at ≡ at
+pub first-at : (at : ℕ) (rest : List ℕ) (c : Cell) (cs : List Cell) → cells at rest ≡ c ∷ cs → c.at ≡ at
 first-at at [] c cs e = absurd (no-cell c cs e)
 first-at at (b ∷ rest) c cs e = ap (λ (d : Cell). d.at) (sym (same-cell (cell b at) c (cells (suc at) rest) cs e))
 

@@ -1,15 +1,14 @@
 -- A quoted scalar by its bytes: where it closes, what its lines give, and what stands behind it.
-use Rattle.std.proofs.Common.{◌≡◌, false, ℕ, zero, suc, ◌+◌, ◌<◌, ◌≤◌, List, [], ◌∷◌, ◌++◌, Option, Some, None, Result, Ok, Err, length, get_or, take, drop, refl, ap, arith, sym, ◌∙◌, subst}
+use Rattle.std.proofs.Common.{◌≡◌, false, ℕ, suc, ◌+◌, ◌<◌, ◌≤◌, List, [], ◌∷◌, ◌++◌, Option, Some, None, Result, Ok, Err, length, get_or, take, drop, ap, arith, sym, ◌∙◌, subst}
 use Rattle.std.proofs.lemmas.List.{length-take, length-drop, take_all}
 use Rattle.lf_base.specs.declared.kind.Kind.TheVariants.{OpenQuote, NotANode}
 use Rattle.lf_base.specs.declared.refusal.Refusal.{Refusal}
 use Rattle.lf_base.specs.declared.refusal.Refusal.TheVariants as refusal_of
-use Rattle.lf_scalar.specs.declared.quoted.AtBreak.{AtBreak}
-use Rattle.lf_scalar.specs.Cells.{Cell, cell, cells, Value, made, span, Fault, fault, fault_at, Fails, Gives, front, ◌>>=◌}
+use Rattle.lf_scalar.specs.Cells.{Cell, cell, cells, Value, made, span, Fault, fault, fault_at, Fails, ◌>>=◌}
 use Rattle.lf_scalar.specs.Lines.{Line, line as one_line, lines, lines_at, first_text}
-use Rattle.lf_scalar.specs.Quoted.{Quotes, Break}
-use Rattle.lf_scalar.specs.QuotedReading.{Closing, closing_of, split_of, LineGives, broken, line_at, line_of, lines_behind, lines_of, wrong_behind, alone, closed, quoted_of}
-use Rattle.lf_scalar.specs.Drafted.{refused, TextGives}
+use Rattle.lf_scalar.specs.Quoted.{Quotes}
+use Rattle.lf_scalar.specs.QuotedReading.{closing_of, split_of, lines_of, wrong_behind, alone, closed, quoted_of}
+use Rattle.lf_scalar.specs.Drafted.{refused}
 use Rattle.lf_scalar.specs.Reading.{quoted_at}
 use Rattle.lf_scalar.proofs.Cells.{cells-take}
 use Rattle.lf_scalar.proofs.LineSteps.{lines-nil}

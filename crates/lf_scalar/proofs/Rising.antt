@@ -104,11 +104,11 @@ lines-behind lo [] ys hi h = h
 lines-behind lo (x ∷ xs) ys hi h = let k = rises-le lo x.text x.break h.0 in lines-low (suc x.break) lo ys hi (omega (arith, k)) (lines-behind (suc x.break) xs ys hi h.2)
 
 -- a source that ends with a line's end and what stands behind it
-fed : (text before rest : List Cell) (feed : Cell) (ending : List Cell) → ending ≡ before ++ feed ∷ [] → text ++ (ending ++ rest) ≡ (text ++ before) ++ feed ∷ rest
+pub fed : (text before rest : List Cell) (feed : Cell) (ending : List Cell) → ending ≡ before ++ feed ∷ [] → text ++ (ending ++ rest) ≡ (text ++ before) ++ feed ∷ rest
 fed text before rest feed ending e =
     ap (λ (xs : List Cell). text ++ (xs ++ rest)) e ∙ ap (λ (xs : List Cell). text ++ xs) (append_assoc before (feed ∷ []) rest) ∙ sym (append_assoc text before (feed ∷ rest))
 
-ended : (text ending rest : List Cell) → ending ≡ [] → rest ≡ [] → text ++ (ending ++ rest) ≡ text
+pub ended : (text ending rest : List Cell) → ending ≡ [] → rest ≡ [] → text ++ (ending ++ rest) ≡ text
 ended text ending rest e r = rw (e, r) (append-nil text)
 
 pub lines-rise : (n end lo : ℕ) (src : List Cell) → length src < n → Rises lo src end → LinesRise lo (lines end src) end

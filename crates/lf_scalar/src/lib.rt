@@ -18,6 +18,8 @@ mod quoted_scalar;
 mod quotes;
 mod reader;
 mod scalar;
+#[cfg(test)]
+mod tests;
 
 pub use begins::begins_scalar;
 pub use reader::read_scalar;

@@ -1,4 +1,4 @@
-use Rattle.std.proofs.Common.{arith, ◌+◌, ◌≡◌, drop}
+use Rattle.std.proofs.Common.{arith, ◌+◌, drop}
 use Rattle.lf_scalar.specs.declared.body.Role.TheVariants as role
 use Rattle.lf_scalar.specs.Lines.{lines_at}
 use Rattle.lf_scalar.proofs.BodyRun.{Ends, seen-none, seen-line, found-some, found-none, ends-past, ends-there}

@@ -1,4 +1,4 @@
-use Rattle.std.proofs.Common.{arith, refl, sym, ◌∙◌, ap, ◌+◌, ℕ, length, drop}
+use Rattle.std.proofs.Common.{arith, refl, ◌∙◌, ◌+◌}
 use Rattle.lf_scalar.proofs.BodyIndent.{indent-here, indent-later, indent-none}
 use Rattle.lf_scalar.proofs.body.first_indent.Goals as goal
 

@@ -1,6 +1,5 @@
 use Rattle.std.proofs.Common.{arith, ◌+◌, length, refl}
-use Rattle.lf_scalar.specs.Lines.{lines_at}
-use Rattle.lf_scalar.specs.QuotedReading.{broken, lines_behind}
+use Rattle.lf_scalar.specs.QuotedReading.{broken}
 use Rattle.lf_scalar.proofs.LinesBehind.{step-blank, step-full, step-bad, at-end, step-room, fewer, some-bytes, no-bytes}
 use Rattle.lf_scalar.proofs.quoted_scalar.push_behind.Goals as goal
 use Rattle.lf_scalar.proofs.quoted_scalar.push_behind.Goals.{then-blanks-line, else-blanks-line+in-Ok}

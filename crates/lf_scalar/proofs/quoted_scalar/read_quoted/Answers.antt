@@ -1,5 +1,5 @@
-use Rattle.std.proofs.Common.{◌≡◌, ◌+◌, get_or}
-use Rattle.lf_scalar.specs.Cells.{cell, cells}
+use Rattle.std.proofs.Common.{◌+◌, get_or}
+use Rattle.lf_scalar.specs.Cells.{cell}
 use Rattle.lf_scalar.proofs.QuotedText.{told-open, told-lines, told-value, told-wrong}
 use Rattle.lf_scalar.proofs.quoted_scalar.read_quoted.Goals as goal
 
