@@ -1,6 +1,7 @@
 -- Reading a scalar in a file: from what the readers of the styles return to what the file has.
-use Rattle.std.proofs.Common.{◌≡◌, true, false, ℕ, suc, SFits, to_z, of_z, w32, ◌+◌, ◌<◌, ◌≤◌, List, [], ◌∷◌, Result, Ok, Err, length, drop, refl, ap, arith, sym, ◌∙◌, subst, inl, inr}
-use Rattle.std.specs.Prelude.{ℤ, IfOk}
+use Rattle.std.proofs.Common.{◌≡◌, true, false, ℕ, zero, suc, SFits, to_z, of_z, w32, ◌+◌, ◌<◌, ◌≤◌, List, [], ◌∷◌, Result, Ok, Err, length, drop, refl, ap, arith, sym, ◌∙◌, subst, inl, inr}
+use Rattle.std.specs.Prelude.{ℤ, pos, negsuc, IfOk}
+use Rattle.std.specs.Str.{IsUtf8}
 use Rattle.std.proofs.lemmas.List.{drop_all, length-drop}
 use Rattle.std.proofs.lemmas.Int.{to_z-of_z}
 use Rattle.lf_base.specs.declared.refusal.Refusal.{Refusal}
@@ -11,12 +12,14 @@ use Rattle.lf_scalar.specs.declared.scalar.Style.{Style}
 use Rattle.lf_scalar.specs.declared.scalar.Style.TheVariants as style
 use Rattle.lf_scalar.specs.Cells.{Cell, cells, Value, Fault, Fails, Gives}
 use Rattle.lf_scalar.specs.Lines.{Line, lines, lines_at, first_text}
-use Rattle.lf_scalar.specs.Scalars.{least_above, begins, source_at, IsOfStyle}
+use Rattle.lf_scalar.specs.Scalars.{least_above, begins, source_at, IsOfStyle, BeginsAt, IsScalarAt}
+use Rattle.lf_scalar.specs.Offsets.{AreOffsets}
 use Rattle.lf_scalar.specs.Drafted.{drafted, shown}
 use Rattle.lf_scalar.specs.Reading.{reading}
 use Rattle.lf_scalar.proofs.LineSteps.{lines-nil}
 use Rattle.lf_scalar.proofs.Tails.{true-false}
 use Rattle.lf_scalar.proofs.Laws as laws
+use Rattle.lf_scalar.proofs.TextLaws.{utf8-text, offsets}
 
 begins-nothing : (s : Style) → begins s [] ≡ false
 begins-nothing style.Plain = refl
@@ -67,3 +70,19 @@ by-indent s end above indent src r fits e h =
 pub of-found : {P Q : Value → Type 0} → ((v : Value) → P v → Q v) → (r : Result Scalar Refusal) → IfOk r (λ s. P (shown s)) → IfOk r (λ s. Q (shown s))
 of-found law (Ok s) h = law (shown s) h
 of-found law (Err e) h = tt
+
+-- ---- the laws of texts and offsets, by the least number of spaces of an indent above the parent's
+
+as-indent : (above : ℕ) → (z : ℤ) × (least_above z ≡ above)
+as-indent zero = (negsuc 0, refl)
+as-indent (suc n) = (pos n, refl)
+
+module _ (bytes : List ℕ) (at above : ℕ) (s : Style) (v : Value) (begun : BeginsAt bytes at s) (scalar : IsOfStyle s above (length bytes) (source_at bytes at) v) where
+  scalar-at : IsScalarAt bytes at (as-indent above).0 s v
+  scalar-at = subst (λ (n : ℕ). IsOfStyle s n (length bytes) (source_at bytes at) v) (sym (as-indent above).1) scalar
+
+  pub text-law : IsUtf8 bytes → IsUtf8 v.text
+  text-law u = utf8-text bytes at (as-indent above).0 s v u begun scalar-at
+
+  pub offsets-law : AreOffsets v.text v.from v.span × (v.span.end ≤ length bytes)
+  offsets-law = offsets bytes at (as-indent above).0 s v begun scalar-at

@@ -2,7 +2,7 @@ use Rattle.std.proofs.Common.{length}
 use Rattle.lf_scalar.specs.Drafted.{shown}
 use Rattle.lf_scalar.specs.Scalars.{least_above, source_at}
 use Rattle.lf_scalar.proofs.Laws.{found, refused, only, breach}
-use Rattle.lf_scalar.proofs.Whole.{by-indent}
+use Rattle.lf_scalar.proofs.Whole.{by-indent, of-found, offsets-law}
 use Rattle.lf_scalar.proofs.reader.read_scalar.Goals as goal
 
 pub returns-clause-found : goal.returns-clause-found
@@ -26,4 +26,5 @@ returns-clause-breach c =
     (by-indent c.args.style (length c.args.bytes.now) c.spaces_above.result c.args.indent (source_at c.args.bytes.now c.args.at) c.read_whole.result c.ranges.indent c.spaces_above.ensures.value c.read_whole.ensures)
 
 pub returns-clause-offsets : goal.returns-clause-offsets
-returns-clause-offsets c = ?
+returns-clause-offsets c =
+    of-found (λ v h. offsets-law c.args.bytes.now c.args.at (least_above c.args.indent) c.args.style v c.requires.begins h) c.read_whole.result (returns-clause-found c)
