@@ -1,7 +1,7 @@
 //! The calls that cases are run over. A further one has a variant, a word, a line in each `match` here, and a file of its own.
 
 use crate::case::Case;
-use crate::tokens;
+use crate::{scalars, tokens};
 use anyhow::Result;
 use serde_json::Value;
 use std::alloc::Global;
@@ -12,6 +12,8 @@ use std::time::Duration;
 pub enum Call {
     /// `lf_lex::lex`
     Tokens,
+    /// `lf_scalar::read_scalar`
+    Scalars,
 }
 
 impl Call {
@@ -19,6 +21,7 @@ impl Call {
     pub fn of(word: &str) -> Option<Call> {
         match word {
             "tokens" => Some(Call::Tokens),
+            "scalars" => Some(Call::Scalars),
             _ => None,
         }
     }
@@ -27,6 +30,7 @@ impl Call {
     pub fn word(self) -> &'static str {
         match self {
             Call::Tokens => "tokens",
+            Call::Scalars => "scalars",
         }
     }
 
@@ -34,6 +38,7 @@ impl Call {
     pub fn answer(self, alloc: Global, case: &Case) -> Result<Value> {
         match self {
             Call::Tokens => tokens::answer(alloc, case),
+            Call::Scalars => scalars::answer(alloc, case),
         }
     }
 
@@ -41,6 +46,7 @@ impl Call {
     pub fn time(self, rt: &HostRuntime, text: &str) -> Result<Duration> {
         match self {
             Call::Tokens => tokens::time(rt, text),
+            Call::Scalars => scalars::time(rt, text),
         }
     }
 }

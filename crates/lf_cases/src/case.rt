@@ -34,6 +34,16 @@ impl Case {
         self.object.get("expect").unwrap_or(&self.object)
     }
 
+    /// The text at a key that the call wants beside the input.
+    pub fn text_at(&self, key: &str) -> Option<&str> {
+        text_at(&self.object, key)
+    }
+
+    /// The whole number at a key that the call wants beside the input.
+    pub fn number_at(&self, key: &str) -> Option<i64> {
+        self.object.get(key).and_then(Value::as_i64)
+    }
+
     /// The input, for a call that is given a text.
     pub fn text(&self) -> Result<&str> {
         str::from_utf8(self.input.as_slice()).map_err(|_| anyhow!("the input isn't UTF-8"))

@@ -5,10 +5,12 @@
 //! - `lf_cases --time CALL FILE` says how long the call takes on the text of a file.
 #![tactic(auto)]
 
+mod answers;
 mod call;
 mod case;
 mod offsets;
 mod run;
+mod scalars;
 mod timing;
 mod tokens;
 

@@ -2,10 +2,11 @@
 ghost use Rattle.std.specs.Prelude.{◌≡◌, ◌+◌, length, IfOk};
 ghost use Rattle.std.specs.List.Sorted.{IsNonDecreasing};
 
+use crate::answers::{refusal_of, refused};
 use crate::case::Case;
 use crate::offsets::plain_offsets;
 use anyhow::{Result, anyhow, bail};
-use lf_base::{Kind, Memory, Refusal, Seq, Span, Text};
+use lf_base::{Memory, Refusal, Seq, Text};
 use lf_lex::{Sign, Token, TokenKind, lex};
 use serde_json::{Value, json};
 use std::alloc::{AllocError, Global};
@@ -29,8 +30,7 @@ pub fn time(rt: &HostRuntime, text: &str) -> Result<Duration> {
     let ended = rt.thread_cpu_time()?;
     match answer {
         Ok(_) => Ok(ended.saturating_sub(begun)),
-        Err(Refusal::At { kind, span }) => bail!("{} at {}", kind.name(), span.start),
-        Err(Refusal::Memory) => bail!("out of memory"),
+        Err(refusal) => Err(refused(refusal)),
     }
 }
 
@@ -71,11 +71,6 @@ fn token_of(alloc: Global, token: &Token) -> Result<Value, AllocError> {
     let start = token.span.start;
     let end = token.span.end;
     json!(in alloc; {"kind": kind, "text": text, "span": [start, end]})
-}
-
-/// The kind of a refusal and its span.
-fn refusal_of(alloc: Global, kind: Kind, span: Span) -> Result<Value, AllocError> {
-    json!(in alloc; {"refusal": kind.name(), "span": [span.start, span.end]})
 }
 
 /// A sign as it is written.
