@@ -1,5 +1,5 @@
 -- A block scalar as the code reads it.
-use Rattle.std.proofs.Common.{◌≡◌, ℕ, suc, ◌+◌, ◌<◌, ◌≤◌, Bool, true, false, List, [], ◌∷◌, ◌++◌, length, map, take, drop, get_or, Option, Some, None, Result, Ok, Err, refl, ap, arith, sym, ◌∙◌, append_assoc, add-one, min}
+use Rattle.std.proofs.Common.{◌≡◌, ℕ, suc, ◌+◌, ◌<◌, true, false, List, [], ◌∷◌, ◌++◌, length, take, drop, get_or, None, Result, Ok, Err, refl, ap, arith, sym, ◌∙◌, append_assoc, add-one, min}
 use Rattle.std.proofs.Math.Seq.{take-append_seam}
 use Rattle.std.specs.Prelude.{OnOk}
 use Rattle.lf_base.specs.declared.kind.Kind.TheVariants.{BadHeader}
@@ -9,16 +9,15 @@ use Rattle.lf_scalar.specs.declared.block.Chomp.TheVariants.{Strip, Clip, Keep}
 use Rattle.lf_scalar.specs.declared.block.Joining.{Joining}
 use Rattle.lf_scalar.specs.declared.block.Joining.TheVariants as joining_of
 use Rattle.lf_scalar.specs.declared.body.Body.{Body}
-use Rattle.lf_scalar.specs.declared.drafted.Drafted.{Drafted}
 use Rattle.lf_scalar.specs.declared.header.Header.{Header}
-use Rattle.lf_scalar.specs.Cells.{Cell, cell, cells, Value, Fault, Fails, made, span, end_of, fault_at}
-use Rattle.lf_scalar.specs.Lines.{Line, line, lines, lines_at, first_text, begins_with}
+use Rattle.lf_scalar.specs.Cells.{Cell, cell, cells, Value, Fails, made, span, end_of, fault_at}
+use Rattle.lf_scalar.specs.Lines.{Line, line, lines, lines_at, first_text}
 use Rattle.lf_scalar.specs.Folding.{trimmed}
-use Rattle.lf_scalar.specs.Block.{breaks, last_break, content, content_indent, body_of, chomped}
+use Rattle.lf_scalar.specs.Block.{breaks, last_break, content_indent, body_of, chomped}
 use Rattle.lf_scalar.specs.Scalars.{begins}
-use Rattle.lf_scalar.specs.BlockReading.{is_empty, empties, block_text, block_value, block_read, block_lines, block_of, header_from, Header as HeaderRead}
+use Rattle.lf_scalar.specs.BlockReading.{is_empty, empties, block_text, block_read, block_lines, block_of, header_from}
 use Rattle.lf_scalar.specs.BodyReading.{joins_of, style_of, contents, break_of, chomped_behind, header_told, IsBody}
-use Rattle.lf_scalar.specs.Drafted.{drafted, refused}
+use Rattle.lf_scalar.specs.Drafted.{refused}
 use Rattle.lf_scalar.proofs.Tails.{true-false}
 
 -- ---- the text of a body

@@ -1,12 +1,11 @@
 -- How a scalar begins, by the first two bytes of its line.
-use Rattle.std.proofs.Common.{◌≡◌, ◌≢◌, true, false, not, ℕ, suc, ◌+◌, ◌<◌, ◌≤◌, eqb, Bool, List, [], ◌∷◌, Option, Some, None, length, get_or, drop, refl, ap, arith, sym, ◌∙◌, eq-eqb, ◌⊎◌, inl, inr, ◌&&◌, ◌||◌}
+use Rattle.std.proofs.Common.{◌≡◌, ◌≢◌, true, false, not, ℕ, suc, ◌<◌, ◌≤◌, eqb, Bool, List, [], ◌∷◌, Option, Some, None, length, get_or, drop, refl, ap, arith, sym, ◌∙◌, eq-eqb, inl, inr, ◌&&◌, ◌||◌}
 use Rattle.std.proofs.lemmas.Bool.{ne_eqb}
 use Rattle.std.proofs.lemmas.Bool.Decides.{eqb_tells}
-use Rattle.std.proofs.lemmas.List.{drop_all}
 use Rattle.lf_scalar.specs.declared.scalar.Style.{Style}
 use Rattle.lf_scalar.specs.declared.scalar.Style.TheVariants as style
 use Rattle.lf_scalar.specs.Cells.{Cell, cell, cells}
-use Rattle.lf_scalar.specs.Lines.{Line, line, lines, first_text, begins_with, lengthen, is_blank}
+use Rattle.lf_scalar.specs.Lines.{Line, lines, first_text, begins_with, lengthen}
 use Rattle.lf_scalar.specs.Plain.{is_plain_byte, is_sign, before_blank}
 use Rattle.lf_scalar.specs.Scalars.{begins}
 use Rattle.lf_scalar.specs.BeginsReading.{first_byte_of, is_full_byte, begins_by}

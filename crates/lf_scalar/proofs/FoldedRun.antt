@@ -1,12 +1,12 @@
 -- Folding a body's lines one after the other.
-use Rattle.std.proofs.Common.{◌≡◌, ◌≢◌, ℕ, zero, suc, ◌+◌, ◌<◌, ◌≤◌, Bool, true, false, eqb, List, [], ◌∷◌, ◌++◌, length, take, drop, get_or, Option, Some, None, refl, ap, arith, sym, ◌∙◌, append_assoc, add-one, ◌⊎◌, inl, inr, min}
+use Rattle.std.proofs.Common.{◌≡◌, ℕ, zero, suc, ◌+◌, ◌<◌, ◌≤◌, Bool, true, false, eqb, List, [], ◌∷◌, ◌++◌, length, take, drop, get_or, Option, Some, None, refl, ap, arith, sym, ◌∙◌, append_assoc, add-one, ◌⊎◌, inl, inr, min}
 use Rattle.std.specs.Prelude.{IfSome}
 use Rattle.std.proofs.lemmas.List.{append-nil, drop_all}
 use Rattle.std.proofs.lemmas.Bool.Decides.{leb_tells}
 use Rattle.lf_scalar.specs.declared.folded.LastLine.{LastLine}
 use Rattle.lf_scalar.specs.Cells.{Cell, cell, cells}
 use Rattle.lf_scalar.specs.Lines.{Line, line, lines_at, is_blank}
-use Rattle.lf_scalar.specs.Block.{begins_blank, content}
+use Rattle.lf_scalar.specs.Block.{begins_blank}
 use Rattle.lf_scalar.specs.BlockReading.{is_empty, stretch_of, folded_of}
 use Rattle.lf_scalar.specs.BodyReading.{contents, between_last, last_behind, folded_behind, one_more, FewBehind}
 use Rattle.lf_scalar.proofs.BodyLines.{cells-length}

@@ -1,10 +1,9 @@
 -- Reading a header byte by byte.
-use Rattle.std.proofs.Common.{◌≡◌, ℕ, suc, ◌+◌, ◌<◌, ◌≤◌, Bool, true, false, List, [], ◌∷◌, length, get_or, drop, Option, Some, None, Result, Ok, Err, refl, ap, arith, sym, ◌∙◌}
+use Rattle.std.proofs.Common.{◌≡◌, ℕ, ◌+◌, ◌<◌, ◌≤◌, false, List, [], ◌∷◌, length, get_or, drop, Option, Some, None, Ok, Err, refl, ap, arith, sym, ◌∙◌}
 use Rattle.std.specs.Prelude.{option_map}
 use Rattle.std.proofs.lemmas.List.{drop_all}
 use Rattle.lf_scalar.specs.declared.block.Chomp.{Chomp}
 use Rattle.lf_scalar.specs.declared.header.Mark.TheVariants as mark
-use Rattle.lf_scalar.specs.declared.header.Header.{Header}
 use Rattle.lf_scalar.specs.Cells.{Cell, cell, cells}
 use Rattle.lf_scalar.specs.QuotedReading.{wrong_behind}
 use Rattle.lf_scalar.specs.BlockReading.{Header as HeaderRead, chomp_of, mark_digit, chomp_or, ends_header, once, header_from}

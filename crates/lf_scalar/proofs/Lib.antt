@@ -48,3 +48,5 @@ pub mod Utf8Lines
 pub mod QuotedTexts
 pub mod BlockTexts
 pub mod TextLaws
+pub mod OneAnswer
+pub mod MoreWorked

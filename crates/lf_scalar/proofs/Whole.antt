@@ -1,16 +1,15 @@
 -- Reading a scalar in a file: from what the readers of the styles return to what the file has.
-use Rattle.std.proofs.Common.{◌≡◌, true, false, ℕ, zero, suc, SFits, to_z, of_z, w32, ◌+◌, ◌<◌, ◌≤◌, List, [], ◌∷◌, Result, Ok, Err, length, drop, refl, ap, arith, sym, ◌∙◌, subst, inl, inr}
+use Rattle.std.proofs.Common.{◌≡◌, true, false, ℕ, zero, suc, SFits, to_z, of_z, w32, ◌+◌, ◌<◌, ◌≤◌, List, [], ◌∷◌, Result, Ok, Err, length, drop, refl, ap, arith, sym, ◌∙◌, subst}
 use Rattle.std.specs.Prelude.{ℤ, pos, negsuc, IfOk}
 use Rattle.std.specs.Str.{IsUtf8}
-use Rattle.std.proofs.lemmas.List.{drop_all, length-drop}
+use Rattle.std.proofs.lemmas.List.{length-drop}
 use Rattle.std.proofs.lemmas.Int.{to_z-of_z}
 use Rattle.lf_base.specs.declared.refusal.Refusal.{Refusal}
-use Rattle.lf_base.specs.declared.refusal.Refusal.TheVariants as refusal_of
 use Rattle.lf_scalar.specs.declared.drafted.Drafted.{Drafted}
 use Rattle.lf_scalar.specs.declared.scalar.Scalar.{Scalar}
 use Rattle.lf_scalar.specs.declared.scalar.Style.{Style}
 use Rattle.lf_scalar.specs.declared.scalar.Style.TheVariants as style
-use Rattle.lf_scalar.specs.Cells.{Cell, cells, Value, Fault, Fails, Gives}
+use Rattle.lf_scalar.specs.Cells.{Cell, cells, Value, Fails, Gives}
 use Rattle.lf_scalar.specs.Lines.{Line, lines, lines_at, first_text}
 use Rattle.lf_scalar.specs.Scalars.{least_above, begins, source_at, IsOfStyle, BeginsAt, IsScalarAt}
 use Rattle.lf_scalar.specs.Offsets.{AreOffsets}

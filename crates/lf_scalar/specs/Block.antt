@@ -64,7 +64,7 @@ content_indent above None following = max above (first_indent following)
 abbrev pub in_body : ℕ → Line → Bool
 in_body k l = is_spaces l || leb k (indent_of l.text)
 
--- what a line of the body gives: what follows the content indent, and nothing where no line of the body has a character other than a space
+-- what a line of the body gives: what follows the content indent, and nothing where the body is bare, that is, no line of it has a character other than a space
 abbrev pub content : ℕ → Bool → Line → Line
 content k bare l = line (if bare then [] else drop k l.text) l.break
 

@@ -1,4 +1,4 @@
--- Reading a block scalar: its header, and its body line by line.
+-- Reading a block scalar: its header, and its body line by line. A way of reading, which defines nothing: it is proved equal to what specs/Block defines.
 use Rattle.std.specs.Prelude.{ℕ, suc, ◌-◌, min, nat_lt, List, [], ◌∷◌, ◌++◌, Bool, true, false, Option, Some, None, Result, Ok, Err, ◌==◌, ◌&&◌, ◌||◌, if◌then◌else◌}
 use Rattle.std.specs.List.{list_all}
 use Rattle.lf_base.specs.declared.kind.Kind.TheVariants.{BadHeader}

@@ -13,8 +13,8 @@ use Rattle.lf_scalar.specs.declared.block.Joining.TheVariants as joining_of
 use Rattle.lf_scalar.specs.declared.block.Chomp.TheVariants.{Strip, Clip, Keep}
 use Rattle.lf_scalar.specs.declared.scalar.Style.{Style}
 use Rattle.lf_scalar.specs.declared.scalar.Style.TheVariants as style
-use Rattle.lf_scalar.specs.Cells.{Cell, cell, cells}
-use Rattle.lf_scalar.specs.Lines.{Line, line, lines_at, is_spaces}
+use Rattle.lf_scalar.specs.Cells.{Cell, cell}
+use Rattle.lf_scalar.specs.Lines.{Line, lines_at, is_spaces}
 use Rattle.lf_scalar.specs.Folding.{fold, feeds, trimmed}
 use Rattle.lf_scalar.specs.Block.{joined, breaks, last_break, in_body, content, body_of, begins_blank}
 use Rattle.lf_scalar.specs.BlockReading.{chomp_of, mark_digit, chomp_or, Header as HeaderRead, is_empty, empties, stretch_of, folded_of}

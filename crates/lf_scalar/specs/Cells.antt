@@ -31,7 +31,8 @@ zipped [] offsets = []
 zipped (b ∷ bytes) [] = []
 zipped (b ∷ bytes) (at ∷ offsets) = cell b at ∷ zipped bytes offsets
 
--- a scalar without where it lies in memory
+-- A scalar without where it lies in memory. It doesn't say which lines it took: a reader of the lines behind it finds them from its place and, for a block scalar, whose
+-- place ends with its text, from the body that specs/Block defines.
 pub record Value : Type 0 where
   pub text : List ℕ
   pub from : List ℕ
@@ -67,7 +68,7 @@ abbrev pub ◌>>=◌ : {A B : Type 0} → Result A Fault → (A → Result B Fau
 (Ok x) >>= f = f x
 (Err e) >>= f = Err e
 
--- some cells before those that are read
+-- some cells before what is read
 abbrev pub front : List Cell → Result (List Cell) Fault → Result (List Cell) Fault
 front cs read = read >>= λ more. Ok (cs ++ more)
 

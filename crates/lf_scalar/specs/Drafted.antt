@@ -1,4 +1,4 @@
--- What the readers return: a scalar that was read as a value, a fault as a refusal, and what a reader appends.
+-- What the readers of the styles return. It defines nothing of scalars: a scalar that was read as a value, a fault as a refusal, and what a reader appends.
 use Rattle.std.specs.Prelude.{◌≡◌, List, ◌++◌, Result, Ok, Err}
 use Rattle.lf_base.specs.declared.refusal.Refusal.{Refusal}
 use Rattle.lf_base.specs.declared.refusal.Refusal.TheVariants as refusal_of

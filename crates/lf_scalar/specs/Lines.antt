@@ -3,7 +3,7 @@ use Rattle.std.specs.Prelude.{◌≡◌, ◌≢◌, ℕ, suc, ◌+◌, ◌<◌, 
 use Rattle.std.specs.List.{list_all, AllByRecursion}
 use Rattle.lf_scalar.specs.Cells.{Cell, cells}
 
--- The cells of a line without its end, and the offset of the line feed that ends it. Where the last line has none, that is the end of the source.
+-- The cells of a line without its end, and its line break: the offset of the line feed that ends it. Where the last line has none, that is the end of the source.
 pub record Line : Type 0 where
   pub text : List Cell
   pub break : ℕ
@@ -76,7 +76,7 @@ is_spaces l = list_all (λ c. c.byte == 32) l.text
 abbrev pub is_content : Line → Bool
 is_content l = not (is_blank_line l) && not (begins_with 35 (after_blanks l.text))
 
--- What may stand behind a scalar on its line: blanks, or blanks and a comment, whose `#` stands behind a blank. The flag says that a blank stands before these cells.
+-- What may stand behind a scalar on its line: blanks, or blanks and a comment, whose `#` stands behind a blank. The flag says that a blank stands right before these cells.
 abbrev pub is_tail : Bool → List Cell → Bool
 is_tail behind [] = true
 is_tail behind (c ∷ cs) = if is_blank c then is_tail true cs else behind && (c.byte == 35)

@@ -52,13 +52,13 @@ StopsAt above (l ∷ ls) = (is_blank_line l ≡ false) × (continues above l ≡
 abbrev pub IsLast : ℕ → Line → List Line → Type 0
 IsLast above l ls = (is_commented l ≡ true) ⊎ ((blank : List Line) × (rest : List Line) × (ls ≡ blank ++ rest) × AreBlank blank × StopsAt above rest)
 
--- behind a line without a comment stand blank lines, and then one that goes on with the scalar
+-- behind a line without a comment (a bare one) stand blank lines, and then one that goes on with the scalar
 pub record GoesOn (above : ℕ) (l : Line) (blank : List Line) (next : Line) : Type 0 where
   pub bare : is_commented l ≡ false
   pub are_blank : AreBlank blank
   pub goes_on : continues above next ≡ true
 
--- `PlainFrom above l ls text`: a plain scalar whose line l stands before the lines ls has this text from l on.
+-- `PlainFrom above l ls text`: a plain scalar whose line l stands before the lines ls has this text from l on. `last` is its last line, `more` one before it.
 pub data PlainFrom (above : ℕ) : Line → List Line → List Cell → Type 0 where
   last : {l : Line} {ls : List Line} → key_sign (plain_text l) ≡ None → IsLast above l ls → PlainFrom above l ls (plain_text l)
   more : {l next : Line} {ls : List Line} {text : List Cell} (blank : List Line) → key_sign (plain_text l) ≡ None → GoesOn above l blank next → has_tab next ≡ false

@@ -1,4 +1,4 @@
--- Reading a plain scalar line by line.
+-- Reading a plain scalar line by line. A way of reading, which defines nothing: it is proved equal to what specs/Plain defines.
 use Rattle.std.specs.Prelude.{◌≡◌, ℕ, zero, suc, Bool, true, false, get_or, ◌==◌, ◌&&◌, List, [], ◌∷◌, ◌++◌, Option, Some, None, Result, Ok, Err, if◌then◌else◌}
 use Rattle.lf_base.specs.declared.kind.Kind.TheVariants.{BadIndent, NotANode}
 use Rattle.lf_base.specs.declared.refusal.Refusal.{Refusal}

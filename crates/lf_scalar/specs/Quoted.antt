@@ -126,8 +126,9 @@ abbrev pub filled : Break → ℕ → List Cell
 filled (Folds at) k = fold at k
 filled (Drops at) k = feeds k at
 
--- A line before the last: its text and its line break. The blanks at its end are dropped, and its line break is folded. A backslash at its end drops the line break
--- and keeps the blanks before it.
+-- A line before the last, without the blanks at its start if it isn't the first: its text and its line break. The blanks at its end are dropped, and its line break is
+-- folded. A backslash at its end drops the line break and keeps the blanks before it. So where a line behind the first has only blanks and a backslash, these blanks are
+-- dropped, since they stand at the line's start, and the line gives nothing (proofs/MoreWorked, blanks_and_backslash).
 abbrev pub IsBroken : Quotes → Line → List Cell → Break → Type 0
 IsBroken kind l text (Folds at) = (pieces : List Piece) × AllByRecursion (IsPiece kind) pieces × (l.text ≡ flat_map spelled pieces) × (text ≡ flat_map given (trimmed is_bare_blank pieces)) × (at ≡ l.break)
 IsBroken Double l text (Drops at) =
@@ -143,13 +144,14 @@ pub record Follows (blank : List Line) (next : Line) : Type 0 where
 abbrev pub unindented : Line → Line
 unindented l = line (after_blanks l.text) l.break
 
--- `QuotedFrom kind above l ls text`: the line l and the lines ls behind it, the last of which ends with the closing quote, give this text.
+-- `QuotedFrom kind above l ls text`: the line l and the lines ls behind it, the last of which ends with the closing quote, give this text. `last` is the line with the quote,
+-- `more` one before it.
 pub data QuotedFrom (kind : Quotes) (above : ℕ) : Line → List Line → List Cell → Type 0 where
   last : {l : Line} (pieces : List Piece) (closing : Cell) → AllByRecursion (IsPiece kind) pieces → closing.byte ≡ quote_of kind → l.text ≡ flat_map spelled pieces ++ closing ∷ [] → QuotedFrom kind above l [] (flat_map given pieces)
   more : {l next : Line} {ls : List Line} {text : List Cell} (part : List Cell) (break : Break) (blank : List Line) → IsBroken kind l part break → Follows blank next → above ≤ indent_of next.text
       → QuotedFrom kind above (unindented next) ls text → QuotedFrom kind above l (blank ++ next ∷ ls) (part ++ (filled break (length blank) ++ text))
 
--- A backslash in a line with which no piece begins, and pieces before it. Nor is it the line's end.
+-- A line's text is pieces, then this backslash, then more. No piece begins with the backslash there. (A backslash that ends its line is none of these.)
 pub record HasBadEscape (kind : Quotes) (text : List Cell) (backslash : Cell) : Type 0 where
   pub pieces : List Piece
   pub each : AllByRecursion (IsPiece kind) pieces
@@ -179,7 +181,7 @@ pub record IsClosed (kind : Quotes) (above : ℕ) (opening : Cell) (src : List C
   pub from : QuotedFrom kind above first following text
   pub value : v ≡ made text between.closing.at (span opening.at (between.closing.at + 1))
 
--- what stands behind the closing quote on its line
+-- what stands behind the closing quote on its line (behind, as everywhere here, is what comes later in the file)
 abbrev pub behind : {kind : Quotes} {src : List Cell} → ℕ → Closes kind src → List Cell
 behind end c = first_text (lines end c.rest)
 

@@ -1,4 +1,4 @@
--- Reading what stands between quotes, piece by piece.
+-- Reading what stands between quotes, piece by piece. A way of reading, which defines nothing: it is proved equal to what specs/Quoted defines.
 use Rattle.std.specs.Prelude.{◌≡◌, ◌≢◌, ℕ, zero, suc, ◌+◌, ◌*◌, List, [], ◌∷◌, ◌++◌, length, take, drop, get_or, leb, Bool, true, false, Option, Some, None, Result, Ok, Err, ◌==◌, ◌&&◌, if◌then◌else◌}
 use Rattle.std.specs.List.{flat_map}
 use lib.Utf8.{scalar}

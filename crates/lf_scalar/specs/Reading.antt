@@ -1,4 +1,4 @@
--- Reading a scalar of any style.
+-- Reading a scalar of any style. A way of reading, which defines nothing: it is proved equal to what specs/Scalars defines.
 use Rattle.std.specs.Prelude.{ℕ, List, [], ◌∷◌, Result, Err}
 use Rattle.lf_base.specs.declared.kind.Kind.TheVariants.{OpenQuote}
 use Rattle.lf_scalar.specs.declared.scalar.Style.{Style}

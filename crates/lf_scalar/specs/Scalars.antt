@@ -9,7 +9,7 @@ use Rattle.lf_scalar.specs.Plain.{IsPlain, BreaksPlain, begins_plain}
 use Rattle.lf_scalar.specs.Quoted.{Quotes, Single, Double, IsQuoted, BreaksQuoted}
 use Rattle.lf_scalar.specs.Block.{IsBlock, BreaksBlock, IsJoined, IsFolded}
 
--- how many spaces an indent above this one has at least; -1 is the indent above the root
+-- how many spaces an indent above this one has at least; -1 stands for the indent of what is above the root, and so does any indent below it
 abbrev pub least_above : ℤ → ℕ
 least_above (pos n) = suc n
 least_above (negsuc n) = 0
@@ -55,10 +55,12 @@ source_at bytes at = cells at (drop at bytes)
 abbrev pub BeginsAt : List ℕ → ℕ → Style → Type 0
 BeginsAt bytes at s = IsCharBoundary bytes at × (begins s (first_text (lines (length bytes) (source_at bytes at))) ≡ true)
 
--- the scalar of a style at an offset of a file, as a value with a parent indent
+-- The scalar of a style at an offset of a file, as a value with a parent indent. It means a scalar only where `BeginsAt` holds: where no scalar begins, what stands there
+-- has no meaning.
 abbrev pub IsScalarAt : List ℕ → ℕ → ℤ → Style → Value → Type 0
 IsScalarAt bytes at indent s v = IsOfStyle s (least_above indent) (length bytes) (source_at bytes at) v
 
--- what breaks a scalar of a style there
+-- What breaks a scalar of a style there, likewise. It is the first breach: each rule of the definitions below tells the same place only behind lines, marks or pieces that
+-- stand. So there is one breach or one scalar, and never both (proofs/OneAnswer).
 abbrev pub BreaksAt : List ℕ → ℕ → ℤ → Style → Fault → Type 0
 BreaksAt bytes at indent s f = BreaksStyle s (least_above indent) (length bytes) (source_at bytes at) f

@@ -87,7 +87,7 @@ fn scalars(rt: HostRuntime) -> Result<(), Fail> {
     for case in &CASES {
         reads(&rt, rt.alloc(), case)?;
     }
-    let open = b"'a".as_slice();
+    let open = "'a".as_bytes();
     assert!(&rt; begins_scalar(open, 0, Style::Single));
     match read_scalar(rt.alloc(), open, 0, -1, Style::Single) {
         Err(Refusal::At { kind, span }) => {

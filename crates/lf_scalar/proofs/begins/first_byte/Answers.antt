@@ -1,4 +1,4 @@
-use Rattle.std.proofs.Common.{length, sym, ◌∙◌, arith}
+use Rattle.std.proofs.Common.{length, sym, ◌∙◌}
 use Rattle.lf_scalar.proofs.LinesBehind.{some-bytes, no-bytes}
 use Rattle.lf_scalar.proofs.FirstByte.{of-nothing, of-feed, of-return, of-other}
 use Rattle.lf_scalar.proofs.begins.first_byte.Goals as goal

@@ -1,5 +1,4 @@
-use Rattle.std.proofs.Common.{◌≡◌, ◌+◌, ◌++◌, ap, sym, ◌∙◌, List}
-use Rattle.lf_scalar.specs.Cells.{Cell}
+use Rattle.std.proofs.Common.{◌+◌}
 use Rattle.lf_scalar.proofs.BlockRun.{some-rest, block-wrong, block-right}
 use Rattle.lf_scalar.proofs.block.read_block.Goals as goal
 

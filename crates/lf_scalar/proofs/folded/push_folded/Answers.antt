@@ -1,4 +1,4 @@
-use Rattle.std.proofs.Common.{arith, ◌+◌, ◌≡◌, ap, length, ◌∙◌, ◌<◌}
+use Rattle.std.proofs.Common.{arith, ◌+◌, length, ◌<◌}
 use Rattle.lf_scalar.proofs.Walk.{walk-start, walk-inside, walk-on, left-next}
 use Rattle.lf_scalar.proofs.FoldedRun.{folds-start, folds-next, folds-end, few-below}
 use Rattle.lf_scalar.proofs.folded.push_folded.Goals as goal

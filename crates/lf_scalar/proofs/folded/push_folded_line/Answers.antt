@@ -1,5 +1,5 @@
-use Rattle.std.proofs.Common.{eqb-true, sym, ◌∙◌, arith, ◌+◌, ◌≡◌, ◌<◌, length}
-use Rattle.lf_scalar.proofs.FoldedRun.{not-empty, empty-open, empty-first, full-open, full-first}
+use Rattle.std.proofs.Common.{eqb-true, sym, ◌∙◌, ◌<◌, length}
+use Rattle.lf_scalar.proofs.FoldedRun.{not-empty, empty-first, full-open, full-first}
 use Rattle.lf_scalar.proofs.folded.push_folded_line.Goals as goal
 use Rattle.lf_scalar.proofs.folded.push_folded_line.Goals.{in-Some-last+in_ok-push_between-in-Some-last, in-None-last}
 

@@ -1,4 +1,4 @@
-use Rattle.lf_scalar.proofs.HeaderRun.{so-far-start, sign-more, digit-more, sign-twice, digit-twice, marks-end, header-ends}
+use Rattle.lf_scalar.proofs.HeaderRun.{sign-more, digit-more, sign-twice, digit-twice, marks-end, header-ends}
 use Rattle.std.proofs.Common.{◌∙◌}
 use Rattle.lf_scalar.proofs.header.read_header.Goals as goal
 use Rattle.lf_scalar.proofs.header.read_header.Goals.{in-Sign+in-None, in-Digit+in-None-digit}

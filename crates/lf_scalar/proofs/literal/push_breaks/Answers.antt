@@ -1,6 +1,6 @@
-use Rattle.std.proofs.Common.{arith, ◌+◌, ◌≡◌}
+use Rattle.std.proofs.Common.{◌+◌}
 use Rattle.lf_scalar.proofs.Walk.{walk-start, walk-inside, walk-on, left-next}
-use Rattle.lf_scalar.proofs.JoinedRun.{breaks-start, breaks-next, breaks-end}
+use Rattle.lf_scalar.proofs.JoinedRun.{breaks-start, breaks-next}
 use Rattle.lf_scalar.proofs.literal.push_breaks.Goals as goal
 
 pub loop-init : goal.loop-init

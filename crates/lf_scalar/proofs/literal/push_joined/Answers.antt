@@ -1,6 +1,6 @@
-use Rattle.std.proofs.Common.{arith, ◌+◌, ◌≡◌}
+use Rattle.std.proofs.Common.{◌+◌}
 use Rattle.lf_scalar.proofs.Walk.{walk-start, walk-inside, walk-on, left-next}
-use Rattle.lf_scalar.proofs.JoinedRun.{joins-start, joins-next, joins-end}
+use Rattle.lf_scalar.proofs.JoinedRun.{joins-start, joins-next}
 use Rattle.lf_scalar.proofs.literal.push_joined.Goals as goal
 
 pub loop-init : goal.loop-init

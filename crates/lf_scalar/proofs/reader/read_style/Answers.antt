@@ -1,5 +1,4 @@
 use Rattle.std.proofs.Common.{◌+◌, length}
-use Rattle.lf_scalar.specs.declared.scalar.Style.TheVariants as style
 use Rattle.lf_scalar.proofs.Whole.{some-rest}
 use Rattle.lf_scalar.proofs.reader.read_style.Goals as goal
 
