@@ -12,7 +12,7 @@ use Rattle.lf_scalar.specs.Drafted.{refused}
 use Rattle.lf_scalar.proofs.Cells.{cells-drop}
 use Rattle.lf_scalar.specs.Lines.{line, is_blank, after_blanks, after_spaces, indent_of}
 use Rattle.lf_scalar.specs.Quoted.{Quotes, Break, filled, unindented}
-use Rattle.lf_scalar.specs.QuotedReading.{LineGives, line_at, line_of, prefixed, next_line, unindented_at}
+use Rattle.lf_scalar.specs.QuotedReading.{LineGives, line_at, line_of, prefixed, next_line}
 use Rattle.lf_scalar.proofs.Tails.{true-false}
 
 pub full-indent : (at : ℕ) (text : List ℕ) (n : ℕ) → list_all is_blank (cells at text) ≡ false → n ≡ indent_of (cells at text) → n < length text
