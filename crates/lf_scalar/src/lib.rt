@@ -20,7 +20,9 @@ mod reader;
 mod scalar;
 #[cfg(test)]
 mod tests;
+mod uniqueness;
 
 pub use begins::begins_scalar;
 pub use reader::read_scalar;
 pub use scalar::{Scalar, Style};
+pub use uniqueness::one_answer;
