@@ -54,11 +54,6 @@ zipped-offsets [] (y ∷ ys) e = absurd (omega (arith, e))
 zipped-offsets (x ∷ xs) [] e = absurd (omega (arith, e))
 zipped-offsets (x ∷ xs) (y ∷ ys) e = ap (λ (bs : List ℕ). y ∷ bs) (zipped-offsets xs ys (omega (arith, e)))
 
-pub bytes-zipped : (xs ys : List ℕ) → length xs ≡ length ys → bytes_of (zipped xs ys) ≡ xs
-bytes-zipped [] ys e = refl
-bytes-zipped (x ∷ xs) [] e = absurd (omega (arith, e))
-bytes-zipped (x ∷ xs) (y ∷ ys) e = ap (λ (bs : List ℕ). x ∷ bs) (bytes-zipped xs ys (omega (arith, e)))
-
 abbrev pub some : ℕ → Option ℕ
 some x = Some x
 

@@ -76,9 +76,6 @@ has-line end c (d ∷ src) =
       | inr (inr o) ↦ by-other end c (d ∷ src) o (has-line end d src)
     ]
 
-none : List Line
-none = []
-
 no-line : (l : Line) (ls : List Line) → [] ≡ l ∷ ls → ⊥
 no-line l ls e = cc
 

@@ -1,9 +1,9 @@
 -- Parts of a text that begin behind a byte below 128 and end before one.
-use Rattle.std.proofs.Common.{◌≡◌, ◌+◌, ◌<◌, Bool, true, false, ◌&&◌, eqb, List, [], ◌∷◌, ◌++◌, length, get_or, drop, refl, ap, arith, append_assoc, sym, ◌∙◌, subst, ◌⊎◌, inl, inr, eqb-true}
+use Rattle.std.proofs.Common.{◌≡◌, ◌+◌, ◌<◌, true, ◌&&◌, eqb, List, [], ◌∷◌, ◌++◌, length, get_or, drop, refl, ap, arith, append_assoc, sym, ◌∙◌, subst, ◌⊎◌, inl, inr, eqb-true}
 use Rattle.std.specs.Str.{IsUtf8, IsCharBoundary}
 use Rattle.std.specs.List.{list_all}
 use Rattle.std.proofs.lemmas.List.{append-nil, length-append, map-append, get_or_at, take_at, drop_at}
-use Rattle.std.proofs.lemmas.Bool.{and_parts, or_cases}
+use Rattle.std.proofs.lemmas.Bool.{and_parts, or_cases, cases_Bool}
 use Rattle.std.proofs.lemmas.Str.{IsUtf8-take, IsUtf8-drop, IsCharBoundary-before_ascii, IsCharBoundary-after_ascii}
 use Rattle.lf_scalar.specs.Cells.{Cell, bytes_of}
 use Rattle.lf_scalar.specs.Lines.{begins_with, is_blank, after_blanks}
@@ -82,14 +82,10 @@ low-part c cs part lt p = record { front = c ∷ p.front; back = p.back; source 
     longer (inl e) = inr ([], c, ap (λ (xs : List Cell). c ∷ xs) e, lt)
     longer (inr (xs, d, e, h)) = inr (c ∷ xs, d, ap (λ (ys : List Cell). c ∷ ys) e, h)
 
-by-test : (b : Bool) → (b ≡ true) ⊎ (b ≡ false)
-by-test true = inl refl
-by-test false = inr refl
-
 pub after-blanks-part : (cs : List Cell) → Part cs (after_blanks cs)
 after-blanks-part [] = whole-part []
 after-blanks-part (c ∷ cs) =
-    elim (by-test (is_blank c)) [
+    elim (cases_Bool (is_blank c)) [
       | inl a ↦ rw a (low-part c cs (after_blanks cs) (blank-low c a) (after-blanks-part cs))
       | inr a ↦ rw a (whole-part (c ∷ cs))
     ]
@@ -109,7 +105,7 @@ one-more c cs part f = record { back = f.back; source = ap (λ (xs : List Cell).
 pub before-comment-front : (cs : List Cell) → Front cs (before_comment cs)
 before-comment-front [] = record { back = []; source = refl; begins_low = tt }
 before-comment-front (c ∷ cs) =
-    elim (by-test (is_blank c && begins_with 35 cs)) [
+    elim (cases_Bool (is_blank c && begins_with 35 cs)) [
       | inl a ↦ rw a (record { back = c ∷ cs; source = refl; begins_low = blank-low c (and_parts (is_blank c) (begins_with 35 cs) a).0 })
       | inr a ↦ rw a (one-more c cs (before_comment cs) (before-comment-front cs))
     ]
@@ -117,7 +113,7 @@ before-comment-front (c ∷ cs) =
 pub trimmed-front : (cs : List Cell) → Front cs (trimmed is_blank cs)
 trimmed-front [] = record { back = []; source = refl; begins_low = tt }
 trimmed-front (c ∷ cs) =
-    elim (by-test (is_blank c && list_all is_blank cs)) [
+    elim (cases_Bool (is_blank c && list_all is_blank cs)) [
       | inl a ↦ rw a (record { back = c ∷ cs; source = refl; begins_low = blank-low c (and_parts (is_blank c) (list_all is_blank cs) a).0 })
       | inr a ↦ rw a (one-more c cs (trimmed is_blank cs) (trimmed-front cs))
     ]

@@ -66,9 +66,6 @@ first-cell end at rest h = by (lines end (cells at rest)) refl h
     by (l ∷ ls) e h = text l ls l.text e refl h
 
 module _ (above at : ℕ) (rest : List ℕ) (begun : begins_plain (first_text (lines_at at rest)) ≡ true) where
-  end : ℕ
-  end = at + length rest
-
   is-read : (f : FirstCell (at + length rest) at rest) → plain_of above (at + length rest) (cells at rest) ≡ plain_lines_text above (lines_at at rest) >>= λ text. Ok (value_of f.opening text)
   unfolding plain_of
   is-read f =
