@@ -21,7 +21,6 @@ pub mod PieceCode
 pub mod Reaching
 pub mod Vectors
 pub mod QuotedLine
-pub mod IndentFault
 pub mod NextLine
 pub mod PlainText
 pub mod Behind

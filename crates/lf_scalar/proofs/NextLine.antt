@@ -1,15 +1,18 @@
 -- A line break and the line behind it.
-use Rattle.std.proofs.Common.{◌≡◌, ℕ, suc, ◌+◌, ◌<◌, ◌≤◌, true, false, leb, List, [], ◌∷◌, ◌++◌, Result, Ok, Err, length, drop, refl, ap, arith, append_assoc, sym, ◌∙◌, subst, inl, inr}
+use Rattle.std.proofs.Common.{◌≡◌, ℕ, suc, ◌+◌, ◌<◌, ◌≤◌, true, false, leb, List, [], ◌∷◌, ◌++◌, Result, Ok, Err, length, get_or, drop, refl, ap, arith, append_assoc, sym, ◌∙◌, subst, inl, inr}
 use Rattle.std.specs.List.{list_all}
 use Rattle.std.proofs.lemmas.Bool.{le-leb}
 use Rattle.std.proofs.lemmas.Bool.Decides.{eqb_tells, leb_tells}
 use Rattle.lf_base.specs.declared.refusal.Refusal.{Refusal}
 use Rattle.lf_base.specs.declared.refusal.Refusal.TheVariants as refusal_of
 use Rattle.lf_scalar.specs.declared.quoted.AtBreak.{AtBreak}
-use Rattle.lf_scalar.specs.Cells.{Cell, cells, Fault, Fails}
+use Rattle.lf_scalar.specs.Cells.{Cell, cell, cells, Fault, fault_at, Fails}
+use Rattle.lf_base.specs.declared.kind.Kind.TheVariants.{BadIndent}
+use Rattle.lf_scalar.specs.Drafted.{refused}
+use Rattle.lf_scalar.proofs.Cells.{cells-drop}
 use Rattle.lf_scalar.specs.Lines.{line, is_blank, after_blanks, after_spaces, indent_of}
 use Rattle.lf_scalar.specs.Quoted.{Quotes, Break, filled, unindented}
-use Rattle.lf_scalar.specs.QuotedReading.{LineGives, line_at, line_of, prefixed, next_line, unindented_at, bad_indent}
+use Rattle.lf_scalar.specs.QuotedReading.{LineGives, line_at, line_of, prefixed, next_line}
 use Rattle.lf_scalar.proofs.Tails.{true-false}
 
 pub full-indent : (at : ℕ) (text : List ℕ) (n : ℕ) → list_all is_blank (cells at text) ≡ false → n ≡ indent_of (cells at text) → n < length text
@@ -36,21 +39,8 @@ next-gives r old mid new b kind above at skipped indent k bytes break m i le a h
     let u : line_of kind (line_at (at + skipped) (drop skipped bytes) b) ≡ line_of kind (unindented (line_at at bytes b)) = ap (λ (cs : List Cell). line_of kind (line cs b)) (sym a) in
     rw t (prefix-gives r old mid new b (filled break k) (line_of kind (unindented (line_at at bytes b))) m (subst (LineGives r mid new b) u h))
 
-abbrev no : Fault → Result (List Cell) Fault
-no f = Err f
-
-no-is : (f g : Fault) → no f ≡ no g → f ≡ g
-no-is f g e = cc
-
-low-refused : (e : Refusal) (above at indent b : ℕ) (kind : Quotes) (k : ℕ) (bytes : List ℕ) (break : Break) → leb above (indent_of (cells at bytes)) ≡ false → after_spaces (cells at bytes) ≡ cells (at + indent) (drop indent bytes) → Fails e (bad_indent (line_at at bytes b) (cells (at + indent) (drop indent bytes)))
-    → Fails e (next_line kind above break k (line_at at bytes b))
-low-refused refusal_of.Memory above at indent b kind k bytes break t s h = tt
-low-refused (refusal_of.At kd span) above at indent b kind k bytes break t s h =
-    let f = no-is (unindented_at (line_at at bytes b) (cells (at + indent) (drop indent bytes))) (record { kind = kd; span = span }) h in
-    rw (t, s) (ap (λ (x : Fault). Err x) f)
-
-pub low-gives : (e : Refusal) (above at indent b : ℕ) (kind : Quotes) (k : ℕ) (bytes : List ℕ) (break : Break) → indent ≡ indent_of (cells at bytes) → indent < above → after_spaces (cells at bytes) ≡ cells (at + indent) (drop indent bytes)
-    → Fails e (bad_indent (line_at at bytes b) (cells (at + indent) (drop indent bytes))) → Fails e (next_line kind above break k (line_at at bytes b))
-low-gives e above at indent b kind k bytes break i lt s h =
+pub low-gives : (e : Refusal) (above at indent b : ℕ) (kind : Quotes) (k : ℕ) (bytes : List ℕ) (break : Break) → indent ≡ indent_of (cells at bytes) → indent < above → indent < length bytes
+    → after_spaces (cells at bytes) ≡ cells (at + indent) (drop indent bytes) → e ≡ refused (fault_at BadIndent (cell (get_or bytes indent 0) (at + indent))) → Fails e (next_line kind above break k (line_at at bytes b))
+low-gives e above at indent b kind k bytes break i lt within s h =
     let t : leb above (indent_of (cells at bytes)) ≡ false = elim (leb_tells above (indent_of (cells at bytes))) [ inl a ↦ absurd (omega (arith, i, lt, a.1)) | inr a ↦ a.0 ] in
-    low-refused e above at indent b kind k bytes break t s h
+    subst (λ (x : Refusal). Fails x (next_line kind above break k (line_at at bytes b))) (sym h) (rw (t, s, cells-drop at bytes indent within) refl)

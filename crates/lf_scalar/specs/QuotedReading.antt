@@ -161,10 +161,6 @@ abbrev pub unindented_at : Line → List Cell → Fault
 unindented_at l [] = fault BadIndent l.break
 unindented_at l (c ∷ cs) = fault_at BadIndent c
 
--- the same as the answer of a reader
-abbrev pub bad_indent : Line → List Cell → Result (List Cell) Fault
-bad_indent l cs = Err (unindented_at l cs)
-
 -- cells before those of a line
 abbrev pub prefixed : List Cell → Result (List Cell × Break) Fault → Result (List Cell × Break) Fault
 prefixed cs read = read >>= λ x. Ok (cs ++ x.0, x.1)

@@ -1,14 +1,14 @@
 //! Scalars between quotes.
 ghost use Rattle.std.specs.Prelude.{false, ◌≡◌, ℕ, ◌+◌, ◌<◌, ◌≤◌, ◌^◌, length, get_or, drop, cond, ◌++◌, IfSome, IfOk, OnOk, option_map};
 ghost use Rattle.lf_scalar.specs.Cells.{Fails, cells};
-ghost use Rattle.lf_scalar.specs.QuotedReading.{closing_of, split_of, IsStep, Reaches, is_blank_given, LineGives, broken, line_at, line_of, bad_indent, next_line};
+ghost use Rattle.lf_scalar.specs.QuotedReading.{closing_of, split_of, IsStep, Reaches, is_blank_given, LineGives, broken, line_at, line_of, next_line};
 ghost use Rattle.lf_scalar.specs.Quoted.{filled};
 ghost use Rattle.lf_scalar.specs.Lines.{is_blank};
 ghost use Rattle.std.specs.List.{list_all};
 
 use crate::draft::{Draft, feed, fold_break};
 use crate::escapes::{Given, piece, push_given};
-use crate::lines::{blanks, char_len, past, spaces};
+use crate::lines::{blanks, fault_at, past, spaces};
 use crate::quotes::Quotes;
 use lf_base::{Kind, Memory, Refusal, Span};
 
@@ -156,22 +156,6 @@ pub fn fill(draft: &mut Draft, at_break: AtBreak, blank: usize, at: u32) -> Resu
     }
 }
 
-/// The refusal of a line that isn't blank and isn't indented enough: its first character behind so many spaces.
-pub fn not_indented(line: &[u8], indent: usize, at: u32) -> Refusal
-    requires room { at + length line.now + 4 < 2 ^ 32 }
-    requires within { indent < length line.now }
-    ensures { (break_at : ℕ) → Fails result (bad_indent (line_at at line.now break_at) (cells (at + indent) (drop indent line.now))) }
-{
-    let place = at + indent as u32;
-    Refusal::At {
-        kind: Kind::BadIndent,
-        span: Span {
-            start: place,
-            end: place + char_len(line[indent]),
-        },
-    }
-}
-
 /// A line break that waits for what follows it: what becomes of it, where it stands, and how many blank lines stand behind it.
 #[derive(Clone, Copy, PartialEq, Eq, Debug)]
 pub struct Pending {
@@ -195,7 +179,7 @@ pub fn push_next(
 {
     let indent = spaces(line);
     if indent < above {
-        return Err(not_indented(line, indent, at));
+        return Err(fault_at(Kind::BadIndent, line, indent, at));
     }
     match fill(draft, pending.at_break, pending.blank, pending.at) {
         Ok(()) => {}
