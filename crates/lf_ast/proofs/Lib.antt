@@ -1,1 +1,3 @@
 pub mod LabelSets
+pub mod Least
+pub mod TypeLayers
