@@ -8,7 +8,8 @@ use Rattle.lf_base.specs.declared.place.Span.{Span}
 use Rattle.lf_ast.specs.Layers.{by_layers}
 use Rattle.lf_ast.specs.Functions.{Signature, aggregation, function_named}
 use Rattle.lf_ast.specs.Types.{HasType, Fit, Gives, is_empty_range, is_misplaced, is_number, is_unfit, is_vector, joined, selected, takes_side, type_layer}
-use Rattle.lf_ast.specs.Breaches.{Fault, fault, span_of, told_order, Breaks, BreaksAny, HasBadArgument, IsBadCall, IsBadModifier, IsEmptyRange, IsOther, Tells, breach_layer}
+use Rattle.lf_ast.specs.declared.fault.Fault.{Fault}
+use Rattle.lf_ast.specs.Breaches.{fault, span_of, told_order, Breaks, BreaksAny, HasBadArgument, IsBadCall, IsBadModifier, IsEmptyRange, IsOther, Tells, breach_layer}
 use Rattle.lf_ast.specs.Judging.{Judged, arguments_fault, binary_judged, call_judged, called, counted, first, is_unfit_at, joined_at, judge_layer, judged, own_fault, range_fault, side_fault, unless, when}
 use Rattle.lf_ast.specs.declared.expr.Expr.{Expr}
 use Rattle.lf_ast.specs.declared.expr.Expr.TheOpen.{Expr-F, Number, Str as Text, Selector, Subquery, Paren, Unary, Binary, Call, Aggregate}
@@ -19,7 +20,7 @@ use Rattle.lf_ast.specs.declared.expr.ExprType.TheVariants.{Str, Scalar, Vector,
 use Rattle.lf_ast.specs.declared.expr.Matching.{Matching}
 use Rattle.lf_ast.specs.declared.expr.Op.{Op}
 use Rattle.lf_ast.specs.declared.expr.Sight.{Sight}
-use Rattle.lf_ast.proofs.Calls.{AllGood, counted_found, counted_stands, least_own, pairs, some_fault}
+use Rattle.lf_ast.proofs.CallsJudged.{AllGood, counted_found, counted_stands, least_own, pairs, some_fault}
 use Rattle.lf_ast.proofs.Least.{Least, least_either, least_same, least_when, none_of_first, only_one}
 use Rattle.lf_ast.proofs.Sides.{Agrees, Good, IsGiven, IsTaken, Stands, clash, least_modifier, least_side, neither, no_type, side_taken, stands_unless, the_type}
 use Rattle.lf_ast.proofs.TypeLayers.{breach-roll, type-roll}
@@ -135,10 +136,17 @@ module _ (op : Op) (m : Matching) (span : Span) (left right : Expr) (l r : Judge
       let sides = none_of_first left_fault right_fault outer.0 in
       let x = taken_type left l a (takes_side op) (side_taken (takes_side op) (span_of left) l sides.0) in
       let y = taken_type right r b (takes_side op) (side_taken (takes_side op) (span_of right) r sides.1) in
-      let fits = neither (is_misplaced op m) (is_unfit_at op m l r) (none_of_when (is_misplaced op m || is_unfit_at op m l r) (fault BadModifier span) outer.1) in
-      (x.0, y.0, x.1, y.1, x.2, y.2, fits.0,
-      ap (λ w. is_unfit_at op m w (Ok y.0)) (sym x.3) ∙ ap (λ w. is_unfit_at op m l w) (sym y.3) ∙ fits.1,
-      ap (λ w. joined_at w r) x.3 ∙ ap (λ w. joined_at (Ok x.0) w) y.3)
+      let fits = neither (is_misplaced op m) (is_unfit_at op m l r) (none_of_when (is_misplaced op m || is_unfit_at op m l r) (fault BadModifier span) outer.1) in (
+        x.0,
+        y.0,
+        x.1,
+        y.1,
+        x.2,
+        y.2,
+        fits.0,
+        ap (λ w. is_unfit_at op m w (Ok y.0)) (sym x.3) ∙ ap (λ w. is_unfit_at op m l w) (sym y.3) ∙ fits.1,
+        ap (λ w. joined_at w r) x.3 ∙ ap (λ w. joined_at (Ok x.0) w) y.3,
+      )
 
   good_binary : Agrees BinaryHas BinaryBreaks (binary_judged op m span (span_of left) l (span_of right) r)
   good_binary = record {
@@ -178,15 +186,16 @@ module _ (n : ℕ) (span : Span) (es : List Expr) (all : AllGood es) where
   call_stands (Some s) = by (call_judged (counted s n span) (pairs es)) (counted_stands s n span es all) where
     by : (v : Judged) → Stands (Gives Expr (λ y. y) HasType n (Fit Expr (λ y. y) HasType es) s) (λ f. BreaksAny Expr (λ y. y) Breaks es f ⊎ IsBadCall Expr (λ y. y) Breaks n (HasBadArgument Expr (λ y. y) Breaks es) span s f) v
         → Stands (CallHas (Some s)) (CallBreaks (Some s)) v
-    by (Ok t) h =
-        ((s, refl, h.0),
-        λ f b. elim b [
-          | inl a ↦ h.1 f (inl a)
-          | inr c ↦ elim c [
-            | inl u ↦ (let bad : Some s ≡ None = u.0 in cc)
-            | inr k ↦ h.1 f (inr (let same : k.0 ≡ s = cc in let P : Signature → Type 0 = λ z. IsBadCall Expr (λ y. y) Breaks n (HasBadArgument Expr (λ y. y) Breaks es) span z f in subst P same k.2))
-          ]
-        ])
+    by (Ok t) h = (
+      (s, refl, h.0),
+      λ f b. elim b [
+        | inl a ↦ h.1 f (inl a)
+        | inr c ↦ elim c [
+          | inl u ↦ (let bad : Some s ≡ None = u.0 in cc)
+          | inr k ↦ h.1 f (inr (let same : k.0 ≡ s = cc in let P : Signature → Type 0 = λ z. IsBadCall Expr (λ y. y) Breaks n (HasBadArgument Expr (λ y. y) Breaks es) span z f in subst P same k.2))
+        ]
+      ],
+    )
     by (Err g) h = least_same (λ f. BreaksAny Expr (λ y. y) Breaks es f ⊎ IsBadCall Expr (λ y. y) Breaks n (HasBadArgument Expr (λ y. y) Breaks es) span s f) (CallBreaks (Some s))
         (λ f b. elim b [ inl a ↦ inl a | inr c ↦ inr (inr (s, refl, c)) ])
         (λ f b. elim b [

@@ -9,7 +9,8 @@ use Rattle.std.proofs.lemmas.Cmp.{nat_cmp_total, on_total, then_total}
 use Rattle.std.proofs.lemmas.Map.Lookups.{exact_unsigned}
 use Rattle.lf_base.specs.declared.kind.Kind.{Kind}
 use Rattle.lf_base.specs.declared.kind.Kind.TheVariants.{BadUtf8, BadChar, BadEscape, OpenQuote, BadHeader, BadIndent, LeftOut, DoubleKey, NotANode, TooDeep, WrongKind, UnknownKey, MissingKey, BothKinds, BadName, BadLimit, DoubleGroup, NotForRecord, BadByte, OpenString, BadNumber, BadDuration, Syntax, WrongType, UnknownName, WrongCount, BadModifier, BadLabel, BadPattern, BadSelector, OpenAction, BadAction, NotBuilt}
-use Rattle.lf_ast.specs.Breaches.{Fault, rank, told_order}
+use Rattle.lf_ast.specs.declared.fault.Fault.{Fault}
+use Rattle.lf_ast.specs.Breaches.{rank, told_order}
 use Rattle.lf_ast.specs.Judging.{first, when}
 
 -- the table of kinds

@@ -1,6 +1,7 @@
-pub mod Calls
+pub mod CallsJudged
 pub mod Judged
 pub mod LabelSets
 pub mod Least
+pub mod Rolled
 pub mod Sides
 pub mod TypeLayers

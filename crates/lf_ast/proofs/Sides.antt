@@ -4,7 +4,8 @@ use Rattle.lf_base.specs.declared.kind.Kind.TheVariants.{WrongType, BadModifier,
 use Rattle.lf_base.specs.declared.place.Span.{Span}
 use Rattle.lf_ast.specs.Functions.{Signature}
 use Rattle.lf_ast.specs.Types.{HasType, wanted, names_a_label, is_bad_label, is_misplaced, is_unfit, string_of}
-use Rattle.lf_ast.specs.Breaches.{Fault, fault, span_of, told_order, Breaks, IsOther, IsBadModifier, IsBadArgument}
+use Rattle.lf_ast.specs.declared.fault.Fault.{Fault}
+use Rattle.lf_ast.specs.Breaches.{fault, span_of, told_order, Breaks, IsOther, IsBadModifier, IsBadArgument}
 use Rattle.lf_ast.specs.Judging.{Judged, argument_fault, is_type, is_unfit_at, is_wanted, side_fault, unless, when}
 use Rattle.lf_ast.specs.declared.expr.Expr.{Expr}
 use Rattle.lf_ast.specs.declared.expr.ExprType.{ExprType}
@@ -150,27 +151,30 @@ module _ (s : Signature) (k : ℕ) (e : Expr) where
   least_argument (Err f) good = (inl good.stands.0, λ g h. elim h [ inl b ↦ good.stands.1 g b | inr o ↦ absurd (no_type e f good o.0 o.1) ])
   least_argument (Ok t) good = by (is_wanted (wanted s k) t) refl where
     by_label : (b : Bool) → wanted s k ≡ Some t → bad ≡ b → Least (λ f. Breaks e f ⊎ IsBadArgument s k e f) (when b (fault BadLabel (span_of e)))
-    by_label true w is =
-        (inr (t, good.stands.0, inr (w, is, refl)),
-        λ g h. elim h [
-          | inl b ↦ absurd (good.stands.1 g b)
-          | inr o ↦ elim o.2 [ inl p ↦ absurd (p.0 (w ∙ ap (λ x. Some x) (sym (the_type e t good o.0 o.1)))) | inr q ↦ not_itself _ g q.2 ]
-        ])
+    by_label true w is = (
+      inr (t, good.stands.0, inr (w, is, refl)),
+      λ g h. elim h [
+        | inl b ↦ absurd (good.stands.1 g b)
+        | inr o ↦ elim o.2 [ inl p ↦ absurd (p.0 (w ∙ ap (λ x. Some x) (sym (the_type e t good o.0 o.1)))) | inr q ↦ not_itself _ g q.2 ]
+      ],
+    )
     by_label false w is = λ g h. elim h [
       | inl b ↦ good.stands.1 g b
       | inr o ↦ elim o.2 [ inl p ↦ p.0 (w ∙ ap (λ x. Some x) (sym (the_type e t good o.0 o.1))) | inr q ↦ clash bad q.1 is ]
     ]
+
     by : (b : Bool) → is_wanted (wanted s k) t ≡ b → Least (λ f. Breaks e f ⊎ IsBadArgument s k e f) (cond b (when bad (fault BadLabel (span_of e))) (Some (fault WrongType (span_of e))))
     by true w = by_label bad (wanted-is (wanted s k) t w) refl
-    by false w =
-        (inr (t, good.stands.0, inl (λ same. clash (is_wanted (wanted s k) t) (wanted-seen (wanted s k) t same) w, refl)),
-        λ g h. elim h [
-          | inl b ↦ absurd (good.stands.1 g b)
-          | inr o ↦ elim o.2 [
-            | inl p ↦ not_itself _ g p.1
-            | inr q ↦ absurd (clash (is_wanted (wanted s k) t) (wanted-seen (wanted s k) t (q.0 ∙ ap (λ x. Some x) (the_type e t good o.0 o.1))) w)
-          ]
-        ])
+    by false w = (
+      inr (t, good.stands.0, inl (λ same. clash (is_wanted (wanted s k) t) (wanted-seen (wanted s k) t same) w, refl)),
+      λ g h. elim h [
+        | inl b ↦ absurd (good.stands.1 g b)
+        | inr o ↦ elim o.2 [
+          | inl p ↦ not_itself _ g p.1
+          | inr q ↦ absurd (clash (is_wanted (wanted s k) t) (wanted-seen (wanted s k) t (q.0 ∙ ap (λ x. Some x) (the_type e t good o.0 o.1))) w)
+        ]
+      ],
+    )
 
 pub least_unjudged : (own : Fault) (k : ℕ) (e : Expr) (v : Judged) → Good e v → Least (Breaks e) (argument_fault (Err own) k (span_of e) (string_of e) v)
 least_unjudged own k e (Err f) good = good.stands

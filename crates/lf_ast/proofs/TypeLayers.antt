@@ -6,7 +6,8 @@ use Rattle.lf_base.specs.declared.place.Span.{Span}
 use Rattle.lf_ast.specs.Labels.{Bytes}
 use Rattle.lf_ast.specs.Functions.{Signature, aggregation, function_named}
 use Rattle.lf_ast.specs.Types.{HasType, Fit, Gives, type_layer, wanted, names_a_label, is_bad_label, string_of}
-use Rattle.lf_ast.specs.Breaches.{Fault, fault, Breaks, BreaksAny, HasBadArgument, IsBadArgument, IsBadCall, breach_layer}
+use Rattle.lf_ast.specs.declared.fault.Fault.{Fault}
+use Rattle.lf_ast.specs.Breaches.{fault, Breaks, BreaksAny, HasBadArgument, IsBadArgument, IsBadCall, breach_layer}
 use Rattle.lf_ast.specs.declared.expr.Expr.{Expr}
 use Rattle.lf_ast.specs.declared.expr.Expr.TheOpen.{Expr-F, Number, Str, Selector, Subquery, Paren, Unary, Binary, Call, Aggregate}
 use Rattle.lf_ast.specs.declared.expr.Expr.TheFolds.{rec-roll-Expr, map-Expr}

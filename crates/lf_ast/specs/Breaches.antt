@@ -1,11 +1,13 @@
 -- What is wrong with the types of an expression, and where; and which of several breaches is told.
-use Rattle.std.specs.Prelude.{◌≡◌, ◌≢◌, ◌⊎◌, ℕ, ◌+◌, Bool, true, false, ◌&&◌, List, [], ◌∷◌, length, Option, Some, None}
+use Rattle.std.specs.Prelude.{◌≡◌, ◌≢◌, ◌⊎◌, ℕ, ◌+◌, Bool, true, false, ◌&&◌, List, [], ◌∷◌, length, Option, Some, None, Result, Ok, Err}
 use Rattle.std.specs.Ordering.{nat_cmp, ordering_then}
 use Rattle.std.specs.declared.cmp.Ordering.{Ordering}
 use Rattle.std.specs.declared.cmp.Ordering.TheVariants.{Less}
 use Rattle.lf_base.specs.declared.kind.Kind.{Kind}
 use Rattle.lf_base.specs.declared.kind.Kind.TheVariants.{BadUtf8, BadChar, BadEscape, OpenQuote, BadHeader, BadIndent, LeftOut, DoubleKey, NotANode, TooDeep, WrongKind, UnknownKey, MissingKey, BothKinds, BadName, BadLimit, DoubleGroup, NotForRecord, BadByte, OpenString, BadNumber, BadDuration, Syntax, WrongType, UnknownName, WrongCount, BadModifier, BadLabel, BadPattern, BadSelector, OpenAction, BadAction, NotBuilt}
 use Rattle.lf_base.specs.declared.place.Span.{Span}
+use Rattle.lf_base.specs.declared.refusal.Refusal.{Refusal}
+use Rattle.lf_base.specs.declared.refusal.Refusal.TheVariants.{At, Memory}
 use Rattle.lf_ast.specs.Functions.{Signature, aggregation, function_named}
 use Rattle.lf_ast.specs.Types.{HasType, is_bad_label, is_empty_range, is_misplaced, is_number, is_unfit, is_vector, names_a_label, string_of, takes_count, takes_side, wanted}
 use Rattle.lf_ast.specs.declared.expr.Expr.{Expr}
@@ -15,12 +17,9 @@ use Rattle.lf_ast.specs.declared.expr.ExprType.{ExprType}
 use Rattle.lf_ast.specs.declared.expr.Matching.{Matching}
 use Rattle.lf_ast.specs.declared.expr.Op.{Op}
 use Rattle.lf_ast.specs.declared.expr.Sight.{Sight}
+use Rattle.lf_ast.specs.declared.fault.Fault.{Fault}
 
--- a breach: its kind, and the part of the source where it stands
-pub record Fault : Type 0 where
-  pub kind : Kind
-  pub span : Span
-
+-- the breach of a kind at a part of the source
 abbrev pub fault : Kind → Span → Fault
 fault kind span = record { kind = kind; span = span }
 
@@ -137,3 +136,13 @@ told_order f g = ordering_then (nat_cmp f.span.start g.span.start) (ordering_the
 -- the breach that is told: the expression has it, and none that comes before it
 abbrev pub Tells : Expr → Fault → Type 0
 Tells e f = Breaks e f × ((g : Fault) → Breaks e g → told_order g f ≢ Less)
+
+-- what a refusal at a place says is so; want of memory says nothing
+abbrev pub IfAt : Refusal → (Fault → Type 0) → Type 0
+IfAt Memory P = Unit {0}
+IfAt (At kind span) P = P (fault kind span)
+
+-- unless memory runs out, this is the answer
+abbrev pub Gives : Result ExprType Refusal → Result ExprType Fault → Type 0
+Gives (Ok t) answer = Ok t ≡ answer
+Gives (Err refusal) answer = IfAt refusal (λ f. Err f ≡ answer)

@@ -1,11 +1,12 @@
 -- A way of judging types in one pass over an expression. It defines nothing: what it answers is proved to be the type, or the breach that is told.
-use Rattle.std.specs.Prelude.{ℕ, ◌+◌, Bool, true, false, ◌&&◌, ◌||◌, cond, List, [], ◌∷◌, length, Option, Some, None, Result, Ok, Err}
+use Rattle.std.specs.Prelude.{ℕ, ◌+◌, Bool, true, false, ◌&&◌, ◌||◌, cond, List, [], ◌∷◌, map, length, Option, Some, None, Result, Ok, Err}
 use Rattle.std.specs.Ordering.{is_lt}
 use Rattle.lf_base.specs.declared.kind.Kind.TheVariants.{BadDuration, WrongType, UnknownName, WrongCount, BadModifier, BadLabel}
 use Rattle.lf_base.specs.declared.place.Span.{Span}
-use Rattle.lf_ast.specs.Functions.{Signature, aggregation, function_named}
+use Rattle.lf_ast.specs.Functions.{Signature, aggregation, function_named, signature_of}
 use Rattle.lf_ast.specs.Types.{is_bad_label, is_empty_range, is_misplaced, is_number, is_scalar, is_unfit, is_vector, joined, names_a_label, selected, string_of, takes_count, takes_side, wanted}
-use Rattle.lf_ast.specs.Breaches.{Fault, fault, span_of, told_order}
+use Rattle.lf_ast.specs.declared.fault.Fault.{Fault}
+use Rattle.lf_ast.specs.Breaches.{fault, span_of, told_order}
 use Rattle.lf_ast.specs.declared.expr.Expr.{Expr}
 use Rattle.lf_ast.specs.declared.expr.Expr.TheOpen.{Expr-F, Number, Str as Text, Selector, Subquery, Paren, Unary, Binary, Call, Aggregate}
 use Rattle.lf_ast.specs.declared.expr.Expr.TheFolds.{para-Expr}
@@ -14,6 +15,7 @@ use Rattle.lf_ast.specs.declared.expr.ExprType.TheVariants.{Str, Scalar, Vector,
 use Rattle.lf_ast.specs.declared.expr.Matching.{Matching}
 use Rattle.lf_ast.specs.declared.expr.Op.{Op}
 use Rattle.lf_ast.specs.declared.expr.Sight.{Sight}
+use Rattle.lf_ast.specs.declared.functions.Function.{Function}
 
 -- the type, or the breach that is told
 abbrev pub Judged : Type 0
@@ -53,6 +55,11 @@ abbrev pub binary_judged : Op → Matching → Span → Span → Judged → Span
 binary_judged op m span left_span left right_span right =
     unless (first (first (side_fault (takes_side op) left_span left) (side_fault (takes_side op) right_span right)) (when (is_misplaced op m || is_unfit_at op m left right) (fault BadModifier span)))
     (Ok (joined_at left right))
+
+-- a call of the program by its signature
+abbrev pub call_of : Result Function Fault → Result Signature Fault
+call_of (Ok function) = Ok (signature_of function)
+call_of (Err f) = Err f
 
 -- a call by its signature, or what is wrong with its name and the number of its arguments
 abbrev pub counted : Signature → ℕ → Span → Result Signature Fault
@@ -108,3 +115,7 @@ judge_layer (Aggregate op grouping args span) = call_judged (counted (aggregatio
 
 abbrev pub judged : Expr → Judged
 judged = para-Expr Judged judge_layer
+
+-- arguments, each with what is judged of it
+abbrev pub judged_arguments : List Expr → List (Expr × Judged)
+judged_arguments es = map (λ e. (e, judged e)) es

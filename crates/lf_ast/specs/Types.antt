@@ -17,6 +17,8 @@ use Rattle.lf_ast.specs.declared.expr.Name.{Name}
 use Rattle.lf_ast.specs.declared.expr.Op.{Op}
 use Rattle.lf_ast.specs.declared.expr.Op.TheVariants.{Equal, NotEqual, LessOrEqual, Less, GreaterOrEqual, Greater, And, Or, Unless}
 use Rattle.lf_ast.specs.declared.expr.Sight.{Sight}
+use Rattle.lf_ast.specs.declared.operands.Operands.{Operands}
+use Rattle.lf_ast.specs.declared.operands.Operands.TheVariants.{Vectors, Numbers}
 use Rattle.lf_ast.specs.declared.functions.Further.{Further}
 use Rattle.lf_ast.specs.declared.functions.Further.TheVariants.{None as Nothing, One, Any}
 use Rattle.lf_ast.specs.declared.functions.LabelEffect.{LabelEffect}
@@ -32,9 +34,14 @@ abbrev pub is_vector : ExprType → Bool
 is_vector Vector = true
 is_vector _ = false
 
--- what a sign takes: a scalar or a vector
+-- a scalar or a vector
 abbrev pub is_number : ExprType → Bool
 is_number t = is_scalar t || is_vector t
+
+-- what is taken as an operand: vectors, or scalars too
+abbrev pub takes : Operands → ExprType → Bool
+takes Vectors t = is_vector t
+takes Numbers t = is_number t
 
 -- ranges
 
@@ -69,9 +76,12 @@ is_comparison GreaterOrEqual = true
 is_comparison Greater = true
 is_comparison _ = false
 
--- what an operator takes on either side: a set operator a vector, and any other a scalar or a vector
+-- what an operator takes on either side: a set operator vectors, and any other scalars too
+abbrev pub operands_of : Op → Operands
+operands_of op = cond (is_set_operator op) Vectors Numbers
+
 abbrev pub takes_side : Op → ExprType → Bool
-takes_side op t = cond (is_set_operator op) (is_vector t) (is_number t)
+takes_side op t = takes (operands_of op) t
 
 -- two scalars give a scalar, and else the result is a vector
 abbrev pub joined : ExprType → ExprType → ExprType
@@ -117,7 +127,7 @@ abbrev pub is_label_name : Bytes → Bool
 is_label_name [] = false
 is_label_name (b ∷ bs) = (is_ascii_alphabetic b || b == 95) && list_all (λ c. is_ascii_alphanumeric c || c == 95) bs
 
-abbrev string_layer : Expr-F (Expr × Option Bytes) → Option Bytes
+abbrev pub string_layer : Expr-F (Expr × Option Bytes) → Option Bytes
 string_layer (Text text span) = Some text
 string_layer (Paren of span) = of.value.1
 string_layer _ = None

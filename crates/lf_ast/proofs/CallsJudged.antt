@@ -6,7 +6,8 @@ use Rattle.lf_base.specs.declared.place.Span.{Span}
 use Rattle.lf_ast.specs.Labels.{Bytes}
 use Rattle.lf_ast.specs.Functions.{Signature}
 use Rattle.lf_ast.specs.Types.{HasType, Fit, Gives, wanted, names_a_label, is_bad_label, string_of, takes_count}
-use Rattle.lf_ast.specs.Breaches.{Fault, fault, span_of, told_order, Breaks, BreaksAny, HasBadArgument, IsBadArgument, IsBadCall}
+use Rattle.lf_ast.specs.declared.fault.Fault.{Fault}
+use Rattle.lf_ast.specs.Breaches.{fault, span_of, told_order, Breaks, BreaksAny, HasBadArgument, IsBadArgument, IsBadCall}
 use Rattle.lf_ast.specs.Judging.{Judged, argument_fault, arguments_fault, call_judged, called, counted, first, given, is_wanted, judged, own_fault, unless, when}
 use Rattle.lf_ast.specs.declared.expr.Expr.{Expr}
 use Rattle.lf_ast.specs.declared.expr.ExprType.{ExprType}
