@@ -1,14 +1,13 @@
 -- What is judged of a call and its arguments.
-use Rattle.std.proofs.Common.{◌≡◌, ◌≢◌, ◌⊎◌, inl, inr, ℕ, ◌+◌, Bool, true, false, cond, ◌&&◌, List, [], ◌∷◌, map, length, Option, Some, None, Result, Ok, Err, refl, sym, ◌∙◌, ap, subst}
+use Rattle.std.proofs.Common.{◌≡◌, ◌⊎◌, inl, inr, ℕ, ◌+◌, Bool, true, false, cond, ◌&&◌, List, [], ◌∷◌, map, Option, Some, None, Result, Ok, Err, refl, sym, ◌∙◌, ap}
 use Rattle.std.specs.List.{AllByRecursion}
-use Rattle.lf_base.specs.declared.kind.Kind.TheVariants.{WrongType, UnknownName, WrongCount, BadLabel}
+use Rattle.lf_base.specs.declared.kind.Kind.TheVariants.{WrongType, WrongCount, BadLabel}
 use Rattle.lf_base.specs.declared.place.Span.{Span}
-use Rattle.lf_ast.specs.Labels.{Bytes}
 use Rattle.lf_ast.specs.Functions.{Signature}
 use Rattle.lf_ast.specs.Types.{HasType, Fit, Gives, wanted, names_a_label, is_bad_label, string_of, takes_count}
 use Rattle.lf_ast.specs.declared.fault.Fault.{Fault}
-use Rattle.lf_ast.specs.Breaches.{fault, span_of, told_order, Breaks, BreaksAny, HasBadArgument, IsBadArgument, IsBadCall}
-use Rattle.lf_ast.specs.Judging.{Judged, argument_fault, arguments_fault, call_judged, called, counted, first, given, is_wanted, judged, own_fault, unless, when}
+use Rattle.lf_ast.specs.Breaches.{fault, span_of, Breaks, BreaksAny, HasBadArgument, IsBadArgument, IsBadCall}
+use Rattle.lf_ast.specs.Judging.{Judged, argument_fault, arguments_fault, call_judged, counted, first, given, is_wanted, judged, own_fault, unless, when}
 use Rattle.lf_ast.specs.declared.expr.Expr.{Expr}
 use Rattle.lf_ast.specs.declared.expr.ExprType.{ExprType}
 use Rattle.lf_ast.proofs.Least.{Least, least_either, least_same, none_of_first, not_itself}

@@ -1,16 +1,14 @@
 -- What is judged of an expression is its type, or the breach that is told.
-use Rattle.std.proofs.Common.{◌≡◌, ◌≢◌, ◌⊎◌, inl, inr, ℕ, Bool, true, false, cond, ◌||◌, List, [], ◌∷◌, map, length, Option, Some, None, Result, Ok, Err, refl, sym, ◌∙◌, ap, subst}
-use Rattle.std.specs.List.{AllByRecursion}
+use Rattle.std.proofs.Common.{◌≡◌, ◌⊎◌, inl, inr, ℕ, Bool, true, false, cond, ◌||◌, List, [], ◌∷◌, map, length, Option, Some, None, Ok, Err, refl, sym, ◌∙◌, ap, subst}
 use Rattle.std.proofs.lemmas.List.{length-map}
-use Rattle.std.specs.declared.cmp.Ordering.TheVariants.{Less}
 use Rattle.lf_base.specs.declared.kind.Kind.TheVariants.{BadDuration, BadModifier, UnknownName}
 use Rattle.lf_base.specs.declared.place.Span.{Span}
 use Rattle.lf_ast.specs.Layers.{by_layers}
 use Rattle.lf_ast.specs.Functions.{Signature, aggregation, function_named}
 use Rattle.lf_ast.specs.Types.{HasType, Fit, Gives, is_empty_range, is_misplaced, is_number, is_unfit, is_vector, joined, selected, takes_side, type_layer}
 use Rattle.lf_ast.specs.declared.fault.Fault.{Fault}
-use Rattle.lf_ast.specs.Breaches.{fault, span_of, told_order, Breaks, BreaksAny, HasBadArgument, IsBadCall, IsBadModifier, IsEmptyRange, IsOther, Tells, breach_layer}
-use Rattle.lf_ast.specs.Judging.{Judged, arguments_fault, binary_judged, call_judged, called, counted, first, is_unfit_at, joined_at, judge_layer, judged, own_fault, range_fault, side_fault, unless, when}
+use Rattle.lf_ast.specs.Breaches.{fault, span_of, Breaks, BreaksAny, HasBadArgument, IsBadCall, IsBadModifier, IsEmptyRange, IsOther, Tells, breach_layer}
+use Rattle.lf_ast.specs.Judging.{Judged, arguments_fault, binary_judged, call_judged, called, counted, first, is_unfit_at, joined_at, judge_layer, judged, range_fault, side_fault, unless, when}
 use Rattle.lf_ast.specs.declared.expr.Expr.{Expr}
 use Rattle.lf_ast.specs.declared.expr.Expr.TheOpen.{Expr-F, Number, Str as Text, Selector, Subquery, Paren, Unary, Binary, Call, Aggregate}
 use Rattle.lf_ast.specs.declared.expr.Expr.TheFolds.{map-Expr, para-roll-Expr}
@@ -22,7 +20,7 @@ use Rattle.lf_ast.specs.declared.expr.Op.{Op}
 use Rattle.lf_ast.specs.declared.expr.Sight.{Sight}
 use Rattle.lf_ast.proofs.CallsJudged.{AllGood, counted_found, counted_stands, least_own, pairs, some_fault}
 use Rattle.lf_ast.proofs.Least.{Least, least_either, least_same, least_when, none_of_first, only_one}
-use Rattle.lf_ast.proofs.Sides.{Agrees, Good, IsGiven, IsTaken, Stands, clash, least_modifier, least_side, neither, no_type, side_taken, stands_unless, the_type}
+use Rattle.lf_ast.proofs.Sides.{Agrees, Good, IsGiven, IsTaken, Stands, least_modifier, least_side, neither, side_taken, stands_unless}
 use Rattle.lf_ast.proofs.TypeLayers.{breach-roll, type-roll}
 
 -- ranges
@@ -285,3 +283,6 @@ judged_told e f tells = by (judged e) (good e) where
   by : (v : Judged) → Good e v → v ≡ Err f
   by (Ok t) g = absurd (g.stands.1 f tells.0)
   by (Err g) good = ap (λ x. Err x) (only_one g f (tells.1 g good.stands.0) (good.stands.1 f tells.0))
+
+pub no_breach : (e : Expr) (t : ExprType) → HasType e t → (f : Fault) → Breaks e f → ⊥
+no_breach e t has = let P : Judged → Type 0 = λ v. Stands (HasType e) (Breaks e) v in let stands : Stands (HasType e) (Breaks e) (Ok t) = subst P (judged_type e t has) (good e).stands in stands.1

@@ -5,3 +5,4 @@ pub mod Least
 pub mod Rolled
 pub mod Sides
 pub mod TypeLayers
+mod Worked

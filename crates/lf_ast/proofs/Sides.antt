@@ -1,18 +1,18 @@
 -- What is judged of one operand, one modifier and one argument.
-use Rattle.std.proofs.Common.{◌≡◌, ◌≢◌, ◌⊎◌, inl, inr, ℕ, Bool, true, false, cond, ◌&&◌, ◌||◌, Option, Some, None, Ok, Err, refl, sym, ◌∙◌, ap, subst}
+use Rattle.std.proofs.Common.{◌≡◌, ◌⊎◌, inl, inr, ℕ, Bool, true, false, cond, ◌&&◌, ◌||◌, Option, Some, None, Ok, Err, refl, sym, ◌∙◌, ap}
 use Rattle.lf_base.specs.declared.kind.Kind.TheVariants.{WrongType, BadModifier, BadLabel}
 use Rattle.lf_base.specs.declared.place.Span.{Span}
 use Rattle.lf_ast.specs.Functions.{Signature}
 use Rattle.lf_ast.specs.Types.{HasType, wanted, names_a_label, is_bad_label, is_misplaced, is_unfit, string_of}
 use Rattle.lf_ast.specs.declared.fault.Fault.{Fault}
-use Rattle.lf_ast.specs.Breaches.{fault, span_of, told_order, Breaks, IsOther, IsBadModifier, IsBadArgument}
+use Rattle.lf_ast.specs.Breaches.{fault, span_of, Breaks, IsOther, IsBadModifier, IsBadArgument}
 use Rattle.lf_ast.specs.Judging.{Judged, argument_fault, is_type, is_unfit_at, is_wanted, side_fault, unless, when}
 use Rattle.lf_ast.specs.declared.expr.Expr.{Expr}
 use Rattle.lf_ast.specs.declared.expr.ExprType.{ExprType}
 use Rattle.lf_ast.specs.declared.expr.ExprType.TheVariants.{Str, Scalar, Vector, Range}
 use Rattle.lf_ast.specs.declared.expr.Matching.{Matching}
 use Rattle.lf_ast.specs.declared.expr.Op.{Op}
-use Rattle.lf_ast.proofs.Least.{Least, least_same, least_when, not_itself}
+use Rattle.lf_ast.proofs.Least.{Least, least_when, not_itself}
 
 -- what is answered is so: the type, and then there is no breach, or the least breach
 abbrev pub Stands : (ExprType → Type 0) → (Fault → Type 0) → Judged → Type 0

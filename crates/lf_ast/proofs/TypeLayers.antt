@@ -1,9 +1,8 @@
 -- Types, breaches and what is judged, at one layer of an expression.
-use Rattle.std.proofs.Common.{◌≡◌, ◌⊎◌, ℕ, ◌+◌, ◌&&◌, false, List, [], ◌∷◌, map, length, Option, Some, None, refl, sym, ◌∙◌, ap}
+use Rattle.std.proofs.Common.{◌≡◌, ◌⊎◌, ℕ, ◌+◌, ◌&&◌, false, List, [], ◌∷◌, map, length, Some, None, refl, sym, ◌∙◌, ap}
 use Rattle.std.proofs.lemmas.List.{length-map}
 use Rattle.lf_base.specs.declared.kind.Kind.TheVariants.{UnknownName}
 use Rattle.lf_base.specs.declared.place.Span.{Span}
-use Rattle.lf_ast.specs.Labels.{Bytes}
 use Rattle.lf_ast.specs.Functions.{Signature, aggregation, function_named}
 use Rattle.lf_ast.specs.Types.{HasType, Fit, Gives, type_layer, wanted, names_a_label, is_bad_label, string_of}
 use Rattle.lf_ast.specs.declared.fault.Fault.{Fault}

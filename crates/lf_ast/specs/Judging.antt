@@ -4,7 +4,7 @@ use Rattle.std.specs.Ordering.{is_lt}
 use Rattle.lf_base.specs.declared.kind.Kind.TheVariants.{BadDuration, WrongType, UnknownName, WrongCount, BadModifier, BadLabel}
 use Rattle.lf_base.specs.declared.place.Span.{Span}
 use Rattle.lf_ast.specs.Functions.{Signature, aggregation, function_named, signature_of}
-use Rattle.lf_ast.specs.Types.{is_bad_label, is_empty_range, is_misplaced, is_number, is_scalar, is_unfit, is_vector, joined, names_a_label, selected, string_of, takes_count, takes_side, wanted}
+use Rattle.lf_ast.specs.Types.{is_bad_label, is_empty_range, is_misplaced, is_number, is_unfit, is_vector, joined, names_a_label, selected, string_of, takes_count, takes_side, wanted}
 use Rattle.lf_ast.specs.declared.fault.Fault.{Fault}
 use Rattle.lf_ast.specs.Breaches.{fault, span_of, told_order}
 use Rattle.lf_ast.specs.declared.expr.Expr.{Expr}

@@ -6,6 +6,7 @@ mod expr;
 mod fault;
 mod functions;
 mod label_set;
+mod laws;
 mod modifiers;
 mod name_set;
 mod operands;
@@ -17,6 +18,10 @@ mod verdict;
 pub use expr::{Agg, Expr, ExprType, Group, Grouping, MatchOp, Matcher, Matching, Name, Op, Sight};
 pub use functions::{Function, Further, LabelEffect};
 pub use label_set::LabelSet;
+pub use laws::one_type;
 pub use rule::{Rule, RuleLabel, Template};
 pub use typing::type_of;
 pub use verdict::{Finding, RuleVerdicts, Verdict, World};
+
+#[cfg(test)]
+mod tests;

@@ -1,7 +1,4 @@
-use Rattle.std.proofs.Common.{◌≡◌, inl, inr, sym, ◌∙◌}
-use Rattle.lf_base.specs.declared.place.Span.{Span}
-use Rattle.lf_ast.specs.Breaches.{span_of, span_layer}
-use Rattle.lf_ast.specs.declared.expr.Expr.{Expr}
+use Rattle.std.proofs.Common.{inl, inr, sym, ◌∙◌}
 use Rattle.lf_ast.specs.declared.expr.Expr.TheOpen as O
 use Rattle.lf_ast.specs.declared.expr.Expr.TheOpen.{Expr-F}
 use Rattle.lf_ast.specs.declared.expr.Expr.TheVariants as V

@@ -1,9 +1,9 @@
-use Rattle.std.proofs.Common.{◌≡◌, ℕ, Bool, true, ◌||◌, List, Option, Some, None, Ok, Err, IfOk, length, refl, sym, ◌∙◌, ap, subst}
+use Rattle.std.proofs.Common.{◌≡◌, ℕ, ◌||◌, List, Option, Ok, IfOk, length, sym, ◌∙◌, ap, subst}
 use Rattle.std.proofs.lemmas.List.{length-map}
 use Rattle.lf_base.specs.declared.kind.Kind.TheVariants.{BadModifier}
 use Rattle.lf_base.specs.declared.place.Span.{Span}
-use Rattle.lf_ast.specs.Functions.{Signature, aggregation, function_named}
-use Rattle.lf_ast.specs.Types.{is_misplaced, is_number, is_vector, operands_of, selected, takes, takes_side}
+use Rattle.lf_ast.specs.Functions.{aggregation, function_named}
+use Rattle.lf_ast.specs.Types.{is_misplaced, is_number, is_vector, operands_of, takes, takes_side}
 use Rattle.lf_ast.specs.Breaches.{fault, span_of}
 use Rattle.lf_ast.specs.Judging.{Judged, call_judged, call_of, called, counted, first, is_unfit_at, joined_at, judged, judged_arguments, range_fault, side_fault, unless, when}
 use Rattle.lf_ast.specs.declared.expr.Expr.{Expr}

@@ -1,5 +1,4 @@
-use Rattle.std.proofs.Common.{◌≡◌, Ok, Err, sym, ◌∙◌}
-use Rattle.lf_ast.specs.Judging.{Judged, judged}
+use Rattle.std.proofs.Common.{sym, ◌∙◌}
 use Rattle.lf_ast.proofs.Judged.{has_judged, judged_told, judged_type, tells_judged}
 use Rattle.lf_ast.proofs.typing.type_of.Goals as goal
 
