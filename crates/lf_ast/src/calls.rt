@@ -1,0 +1,165 @@
+//! Calls: the number of their arguments, and what each is to be.
+ghost use Rattle.std.specs.Prelude.{◌≡◌, ◌==◌, ◌||◌};
+ghost use Rattle.std.specs.Char.{is_ascii_alphabetic, is_ascii_alphanumeric};
+ghost use Rattle.std.specs.List.{list_all};
+ghost use Rattle.lf_ast.specs.Functions.{function_named, signature_of};
+ghost use Rattle.lf_ast.specs.Types.{is_bad_label, is_label_name, names_a_label, string_of, takes_count, wanted};
+ghost use Rattle.lf_ast.specs.Breaches.{span_of};
+ghost use Rattle.lf_ast.specs.Judging.{argument_fault, call_of, called, counted, given, is_wanted, own_fault};
+
+use crate::fault::{Fault, when};
+use crate::operands::Judged;
+use crate::parts::{span_of, string_of};
+use crate::{Expr, ExprType, Function, Further, LabelEffect};
+use lf_base::{Kind, Span};
+
+/// What is called, or what is wrong with its name or the number of its arguments.
+pub type Called = Result<Function, Fault>;
+
+/// A call of a name with this many arguments. The span is the word's.
+pub fn called(name: &str, count: usize, span: Span) -> Called
+    ensures { call_of result ≡ called (function_named name.now) count span }
+{
+    match Function::named(name) {
+        None => Err(Fault {
+            kind: Kind::UnknownName,
+            span,
+        }),
+        Some(function) => counted(function, count, span),
+    }
+}
+
+/// A call with this many arguments.
+pub fn counted(function: Function, count: usize, span: Span) -> Called
+    ensures { call_of result ≡ counted (signature_of function) count span }
+{
+    if takes_count(&function, count) {
+        Ok(function)
+    } else {
+        Err(Fault {
+            kind: Kind::WrongCount,
+            span,
+        })
+    }
+}
+
+/// Whether that many arguments are taken.
+fn takes_count(function: &Function, count: usize) -> bool
+    ensures { result ≡ takes_count (signature_of function.now) count }
+{
+    let least = function.takes.len();
+    match function.further {
+        Further::None => count == least,
+        Further::One { .. } => count == least || (count > least && count - least == 1),
+        Further::Any { .. } => least <= count,
+    }
+}
+
+/// The breach of the call itself.
+pub fn own_fault(call: &Called) -> Option<Fault>
+    ensures { result ≡ own_fault (call_of call.now) }
+{
+    match call {
+        Ok(_) => None,
+        Err(fault) => Some(*fault),
+    }
+}
+
+/// What a call gives whose arguments have no breach.
+pub fn given(call: &Called) -> Judged
+    ensures { result ≡ given (call_of call.now) }
+{
+    match call {
+        Ok(function) => Ok(function.gives),
+        Err(fault) => Err(*fault),
+    }
+}
+
+/// The type that is wanted of argument `k`, counted from 0.
+fn wanted(function: &Function, k: usize) -> Option<ExprType>
+    ensures { result ≡ wanted (signature_of function.now) k }
+{
+    if k < function.takes.len() {
+        return Some(function.takes[k]);
+    }
+    match function.further {
+        Further::None => None,
+        Further::One { of } | Further::Any { of } => Some(of),
+    }
+}
+
+/// Whether argument `k` names a label.
+fn names_a_label(labels: LabelEffect, k: usize) -> bool
+    ensures { result ≡ names_a_label labels k }
+{
+    match labels {
+        LabelEffect::LabelReplace => k == 1,
+        LabelEffect::LabelJoin => k == 1 || k >= 3,
+        LabelEffect::CountValues => k == 0,
+        _ => false,
+    }
+}
+
+/// Whether the text is a label name: a letter or `_`, and then letters, digits and `_`.
+fn is_label_name(text: &str) -> bool
+    ensures { result ≡ is_label_name text.now }
+{
+    match text.as_bytes() {
+        [] => false,
+        [first, rest @ ..] => begins_a_label(*first) && are_of_labels(rest),
+    }
+}
+
+/// Whether a label name may begin with the byte.
+fn begins_a_label(b: u8) -> bool
+    ensures { result ≡ (is_ascii_alphabetic b || b == 95) }
+{
+    b.is_ascii_alphabetic() || b == b'_'
+}
+
+/// Whether each byte may stand in a label name.
+fn are_of_labels(bytes: &[u8]) -> bool
+    ensures { result ≡ list_all (λ c. is_ascii_alphanumeric c || c == 95) bytes.now }
+{
+    bytes
+        .iter()
+        .all(|b| b.is_ascii_alphanumeric() || *b == b'_')
+}
+
+/// Whether this is a string whose text is no label name.
+fn is_bad_label(expr: &Expr) -> bool
+    ensures { result ≡ is_bad_label (string_of expr.now) }
+{
+    match string_of(expr) {
+        None => false,
+        Some(text) => !is_label_name(text.as_str()),
+    }
+}
+
+/// Whether the type is the one that is wanted.
+fn is_wanted(wanted: Option<ExprType>, of: ExprType) -> bool
+    ensures { result ≡ is_wanted wanted of }
+{
+    match wanted {
+        None => false,
+        Some(wanted) => wanted == of,
+    }
+}
+
+/// The breach of argument `k`, counted from 0: one inside it, that it isn't of the type that is wanted, or that it is to name a label and doesn't.
+pub fn argument_fault(call: &Called, k: usize, expr: &Expr, judged: &Judged) -> Option<Fault>
+    ensures { result ≡ argument_fault (call_of call.now) k (span_of expr.now) (string_of expr.now) judged.now }
+{
+    match (judged, call) {
+        (Err(fault), _) => Some(*fault),
+        (Ok(_), Err(_)) => None,
+        (Ok(of), Ok(function)) => {
+            if is_wanted(wanted(function, k), *of) {
+                let bad = names_a_label(function.labels, k) && is_bad_label(expr);
+                when(bad, Kind::BadLabel, span_of(expr))
+            } else {
+                when(true, Kind::WrongType, span_of(expr))
+            }
+        }
+    }
+}
