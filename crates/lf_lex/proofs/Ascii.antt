@@ -26,10 +26,6 @@ run_ascii : (b : ℕ) → is_in_run b ≡ true → b < 128
 unfolding is_in_run is_letter is_digit
 run_ascii b h = grind (arith, nat_tests)
 
-mantissa_ascii : (b : ℕ) → is_in_mantissa b ≡ true → b < 128
-unfolding is_in_mantissa is_digit is_dot
-mantissa_ascii b h = grind (arith, nat_tests)
-
 begins_in_word : (inside : Bool) (b : ℕ) → begins_word inside b ≡ true → is_in_word inside b ≡ true
 unfolding is_in_word
 begins_in_word inside b h = rw h refl

@@ -10,6 +10,8 @@ use Rattle.lf_lex.specs.Bytes.{are_some, is_digit}
 use Rattle.lf_lex.specs.Durations.{Measure, Years, Weeks, Days, Hours, Minutes, Seconds, Milliseconds, letters, place, Amount, amount_text, AreAmounts, Climb, IsDuration, IsDisordered}
 use Rattle.lf_lex.specs.reading.Runs.{place_of_letter, one_letter, unit_at, before, units, rise, duration_order}
 use Rattle.lf_lex.proofs.Units.{unit_first, units-digits, units-none, units-unit, row-stops}
+use Rattle.lf_lex.proofs.Longest.{row_all}
+use Rattle.lf_lex.proofs.Options.{none_some, same_some}
 
 -- The run is amounts, none perhaps, and their units have these places.
 pub record AreParts (run places : List ℕ) : Type 0 where
@@ -88,20 +90,12 @@ parts_units run places a = ap (units false) a.source ∙ units_parts a.parts a.e
 
 -- ---- what is read is in the grammar
 
-row_all : (src : List ℕ) → list_all is_digit (take (prefix_len is_digit src) src) ≡ true
-row_all [] = refl
-row_all (b ∷ src) = by (row_all src) (is_digit b) refl
-  where
-    by : list_all is_digit (take (prefix_len is_digit src) src) ≡ true → (t : Bool) → is_digit b ≡ t → list_all is_digit (take (cond (is_digit b) (1 + prefix_len is_digit src) 0) (b ∷ src)) ≡ true
-    by again true e = let k : 1 + prefix_len is_digit src ≡ suc (prefix_len is_digit src) = omega arith in rw (e, k, e) again
-    by again false e = rw e refl
-
 row_some : (src : List ℕ) → 0 < prefix_len is_digit src → are_some is_digit (take (prefix_len is_digit src) src) ≡ true
 row_some [] p = absurd (omega arith)
 row_some (b ∷ src) p = by (is_digit b) refl p
   where
     by : (t : Bool) → is_digit b ≡ t → 0 < cond (is_digit b) (1 + prefix_len is_digit src) 0 → are_some is_digit (take (cond (is_digit b) (1 + prefix_len is_digit src) 0) (b ∷ src)) ≡ true
-    by true e p = let k : 1 + prefix_len is_digit src ≡ suc (prefix_len is_digit src) = omega arith in rw (e, k, e) (row_all src)
+    by true e p = let k : 1 + prefix_len is_digit src ≡ suc (prefix_len is_digit src) = omega arith in rw (e, k, e) (row_all is_digit src)
     by false e p = absurd (let h = rw e at p in omega arith)
 
 -- the letter of a place
@@ -110,15 +104,6 @@ pub record HasUnit (src : List ℕ) (at len : ℕ) : Type 0 where
   pub source : src ≡ letters measure ++ drop len src
   pub at_is : at ≡ place measure
   pub some : 0 < len
-
-same_some : {A : Type 0} (x y : A) → Some x ≡ Some y → x ≡ y
-same_some x y e = cc
-
-clash : {A : Type 0} (x : A) (o : Option A) → o ≡ None → o ≡ Some x → ⊥
-clash x o e h = cc
-
-none_some : {A X : Type 0} (x : A) (o : Option A) → o ≡ None → o ≡ Some x → X
-none_some x o e h = absurd (clash x o e h)
 
 pub record HasLetter (b at : ℕ) : Type 0 where
   pub measure : Measure

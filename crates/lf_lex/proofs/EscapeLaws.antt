@@ -6,15 +6,7 @@ use Rattle.std.specs.Char.{IsScalar}
 use Rattle.lf_lex.specs.Bytes.{is_octal, is_digit}
 use Rattle.lf_lex.specs.Strings.{IsQuote, byte_of_letter, hexadecimal_value, octal_value, Tell, IsEscape, a_letter, the_quote, octal_byte as octal_escape, hexadecimal_byte, short_character, long_character}
 use Rattle.lf_lex.specs.reading.Strings.{both, two_digits, four_digits, eight_digits, octal_byte, is_scalar, as_byte, as_character, escape}
-
-clash : {A : Type 0} (x : A) (o : Option A) → o ≡ None → o ≡ Some x → ⊥
-clash x o e h = cc
-
-none_some : {A X : Type 0} (x : A) (o : Option A) → o ≡ None → o ≡ Some x → X
-none_some x o e h = absurd (clash x o e h)
-
-same_some : {A : Type 0} (x y : A) → Some x ≡ Some y → x ≡ y
-same_some x y e = cc
+use Rattle.lf_lex.proofs.Options.{none_some, same_some}
 
 pub no_quote : (q k : ℕ) → IsQuote q → k ≢ 34 → k ≢ 39 → eqb k q ≡ false
 no_quote q k (inl e) a b = ne_eqb k q (λ f. a (f ∙ e))

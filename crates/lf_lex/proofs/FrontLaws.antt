@@ -26,10 +26,6 @@ found_of (Written kind text) = Some kind
 found_of _ = None
 
 module _ (from : List ℕ) (inside : Bool) (at : ℕ) where
-  at_run : (run rest : List ℕ) (answer : Result Front Fault) → begins_run run ≡ true → ((b : ℕ) (src : List ℕ) → run ++ rest ≡ b ∷ src → front_of from inside at (run ++ rest) ≡ answer) → front_of from inside at (run ++ rest) ≡ answer
-  at_run [] rest answer begins k = absurd (let l = some_run [] begins in omega arith)
-  at_run (b ∷ run) rest answer begins k = k b (run ++ rest) refl
-
   run_reads : (run rest : List ℕ) → begins_run run ≡ true → front_of from inside at (run ++ rest) ≡ Rattle.lf_lex.specs.reading.Steps.run_front from at (run ++ rest)
   run_reads [] rest begins = absurd (let l = some_run [] begins in omega arith)
   run_reads (b ∷ run) rest begins = front_run from inside at (run ++ rest) b (begins_on (b ∷ run) rest begins)
@@ -93,9 +89,6 @@ module _ (from : List ℕ) (inside : Bool) (at : ℕ) where
 -- ---- something stands there
 
 module _ (inside : Bool) (b : ℕ) (src : List ℕ) where
-  Test : ℕ → Type 0
-  Test k = ((eqb b k ≡ true) × (b ≡ k)) ⊎ ((eqb b k ≡ false) × (b ≢ k))
-
   pub something_stands : Standing inside (b ∷ src)
   something_stands = by (is_blank b) (eqb_tells b 35) (begins_word inside b) (begins_run (b ∷ src)) (eqb_tells b 34) (eqb_tells b 39) (eqb_tells b 96) refl refl refl
     where

@@ -1,3 +1,4 @@
+pub mod Options
 pub mod Closing
 pub mod DurationLaws
 pub mod Quotes
@@ -24,3 +25,5 @@ pub mod StringStands
 pub mod FrontLaws
 pub mod TokenLaws
 pub mod Worked
+pub mod Backslashes
+pub mod EscapePlaces

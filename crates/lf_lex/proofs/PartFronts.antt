@@ -70,9 +70,6 @@ module _ (from : List ℕ) (inside : Bool) (at : ℕ) where
       len : 0 < length text
       len = let a = some_sign s in let l = ap length is.0 in omega arith
 
-      colon : (t : Sign) → spelling t ≡ spelling s → t ≡ s
-      colon t e = same_sign t s e
-
       some : (t : Sign) (n : ℕ) → SignAt (text ++ rest) t n → ◌≡◌ {A = Sign × ℕ} (t, n) (s, length text)
       some t n a = split (cases_lt (length text) n)
         where

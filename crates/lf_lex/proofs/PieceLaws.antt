@@ -11,8 +11,8 @@ use Rattle.lf_lex.specs.Bytes.{is_digit}
 use Rattle.lf_lex.specs.Strings.{Piece, Bare, Escape, piece_text, meant}
 use Rattle.lf_lex.specs.reading.Strings.{both, two_digits, four_digits, eight_digits, octal_byte, as_byte, as_character, escape, piece, is_scalar, gives, bytes_of}
 use Rattle.lf_lex.specs.Strings.{byte_of_letter}
-use Rattle.lf_lex.proofs.Quotes.{none_some, same_some}
 use Rattle.lf_lex.proofs.ValueLaws.{IsRead, bytes_first, value_one}
+use Rattle.lf_lex.proofs.Options.{none_some, same_some}
 
 -- ---- no UTF-8 has the byte 255
 

@@ -8,6 +8,7 @@ use Rattle.std.proofs.lemmas.List.Concat.{flat_map-cons}
 use Rattle.std.specs.List.{flat_map, AllByRecursion}
 use Rattle.lf_lex.specs.Strings.{Raw, One, Pair, raw, IsRaw}
 use Rattle.lf_lex.specs.reading.Strings.{closing}
+use Rattle.lf_lex.proofs.Options.{none_some, same_some}
 
 -- Behind an opening quote stands `inner`, the quote that closes, and perhaps more.
 pub record Closes (quote : ℕ) (src inner : List ℕ) : Type 0 where
@@ -47,15 +48,6 @@ module _ (quote : ℕ) (not_slash : quote ≢ 92) where
   pub closes_found : (src inner : List ℕ) → Closes quote src inner → closing quote 0 src ≡ Some (length inner)
   closes_found src inner c =
       ap (closing quote 0) (c.source ∙ ap (λ (x : List ℕ). x ++ quote ∷ c.rest) c.inner_is) ∙ closing_all c.raws c.rest c.each ∙ ap (λ (x : List ℕ). Some (length x)) (sym c.inner_is)
-
-pub same_some : {A : Type 0} (x y : A) → Some x ≡ Some y → x ≡ y
-same_some x y e = cc
-
-clash : {A : Type 0} (x : A) (o : Option A) → o ≡ None → o ≡ Some x → ⊥
-clash x o e h = cc
-
-pub none_some : {A X : Type 0} (x : A) (o : Option A) → o ≡ None → o ≡ Some x → X
-none_some x o e h = absurd (clash x o e h)
 
 closing_nil : (quote : ℕ) → closing quote 0 [] ≡ None
 unfolding closing

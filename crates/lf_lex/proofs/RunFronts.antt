@@ -14,12 +14,10 @@ use Rattle.lf_lex.proofs.RunLaws.{run_greatest, begins_on, some_run}
 use Rattle.lf_lex.proofs.NumberLaws.{number_read, number_is, number_no_units}
 use Rattle.lf_lex.proofs.DurationLaws.{ordered, disordered, only_ordered, only_disordered, no_amounts, not_amounts, are_amounts}
 use Rattle.lf_lex.proofs.Standing.{Standing, stands, fails}
-
-no_both : {A : Type 0} (x : A) (o : Option A) → o ≡ None → o ≡ Some x → ⊥
-no_both x o e h = cc
+use Rattle.lf_lex.proofs.Options.{clash}
 
 no_number : (run : List ℕ) (amounts : List Amount) → AreAmounts run amounts → 0 < length run → is_number run ≡ false
-no_number run amounts a lt = false_from_ne_true (is_number run) (λ h. no_both _ (units false run) (number_no_units run (number_is run h) lt) (are_amounts run amounts a))
+no_number run amounts a lt = false_from_ne_true (is_number run) (λ h. clash _ (units false run) (number_no_units run (number_is run h) lt) (are_amounts run amounts a))
 
 module _ (from : List ℕ) (at : ℕ) where
   module _ (run rest : List ℕ) (longest : IsLongest IsRun run rest) where
@@ -47,9 +45,6 @@ module _ (from : List ℕ) (at : ℕ) where
 
 -- every run is a number, a duration or a breach
 module _ (inside : Bool) (src : List ℕ) (begins : begins_run src ≡ true) where
-  n : ℕ
-  n = run_len src
-
   longest_run : IsLongest IsRun (take (run_len src) src) (drop (run_len src) src)
   longest_run = greatest_longest IsRun src (run_len src) (run_greatest src begins)
 

@@ -93,12 +93,6 @@ module _ (front : List ℕ) (e s : ℕ) (more : List ℕ) (m : list_all is_in_ma
 -- ---- the longest row
 
 module _ (src : List ℕ) where
-  n_front : ℕ
-  n_front = prefix_len is_in_mantissa src
-
-  front_of_src : List ℕ
-  front_of_src = take (prefix_len is_in_mantissa src) src
-
   signed_src : (d : Signed (drop (prefix_len is_in_mantissa src) src)) → src ≡ take (prefix_len is_in_mantissa src) src ++ d.e ∷ d.s ∷ d.more
   signed_src d = sym (take-append-drop (prefix_len is_in_mantissa src) src) ∙ ap (λ (x : List ℕ). take (prefix_len is_in_mantissa src) src ++ x) d.source
 

@@ -5,6 +5,7 @@ use Rattle.lf_lex.specs.declared.token.Sign.{Sign}
 use Rattle.lf_lex.specs.declared.token.Sign.TheVariants as signs
 use Rattle.lf_lex.specs.Signs.{spelling}
 use Rattle.lf_lex.specs.reading.Signs.{sign_of_two, sign_of_one, one_byte, two_bytes, sign_at}
+use Rattle.lf_lex.proofs.Options.{clash, none_some, same_some}
 
 pub sign_at-spelling : (s : Sign) → sign_at (spelling s) ≡ Some (s, length (spelling s))
 unfolding sign_at sign_of_one sign_of_two
@@ -32,15 +33,6 @@ sign_at-spelling signs.Is = refl
 sign_at-spelling signs.Matches = refl
 sign_at-spelling signs.MatchesNot = refl
 sign_at-spelling signs.At = refl
-
-clash : {A : Type 0} (x : A) (o : Option A) → o ≡ None → o ≡ Some x → ⊥
-clash x o e h = cc
-
-pub none_some : {A X : Type 0} (x : A) (o : Option A) → o ≡ None → o ≡ Some x → X
-none_some x o e h = absurd (clash x o e h)
-
-same_some : {A : Type 0} (x y : A) → Some x ≡ Some y → x ≡ y
-same_some x y e = cc
 
 -- ---- what is read is spelled so
 
@@ -146,8 +138,8 @@ sign_one : (b : ℕ) (src : List ℕ) (o : Option Sign) (s : Sign) (n : ℕ) →
     → ((text left : List ℕ) (t : Sign) → b ∷ src ≡ text ++ left → text ≡ spelling t → length text ≤ 1) → SignAt (b ∷ src) s n
 sign_one b src None s n f h bound = none_some (s, n) None refl h
 sign_one b src (Some r) s n f h bound =
-    let p : (r, 1) ≡ (s, n) = same_some (r, 1) (s, n) h in
     let it : SignAt (b ∷ src) r 1 = record { is = one_is b r f; some = omega arith; within = omega arith; bound = bound } in
+    let p : (r, 1) ≡ (s, n) = same_some (r, 1) (s, n) h in
     subst (λ (x : Sign × ℕ). SignAt (b ∷ src) x.0 x.1) p it
 
 pub sign_is_at : (src : List ℕ) (s : Sign) (n : ℕ) → sign_at src ≡ Some (s, n) → SignAt src s n
@@ -167,8 +159,8 @@ sign_is_at (b ∷ c ∷ more) s n h = by (sign_of_two b c) refl h
     by : (o : Option Sign) → sign_of_two b c ≡ o → two_bytes o (one_byte (sign_of_one b)) ≡ Some (s, n) → SignAt (b ∷ c ∷ more) s n
     by None e h = sign_one b (c ∷ more) (sign_of_one b) s n refl h (λ text left t f k. no_longer b c more text left t e f k)
     by (Some r) e h =
-        let p : (r, 2) ≡ (s, n) = same_some (r, 2) (s, n) h in
         let it : SignAt (b ∷ c ∷ more) r 2 = record { is = two_is b c r e; some = omega arith; within = omega arith; bound = λ text left t f k. spelled_short text t k } in
+        let p : (r, 2) ≡ (s, n) = same_some (r, 2) (s, n) h in
         subst (λ (x : Sign × ℕ). SignAt (b ∷ c ∷ more) x.0 x.1) p it
 
 -- ---- where none is

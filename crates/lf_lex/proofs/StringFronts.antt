@@ -9,11 +9,11 @@ use Rattle.lf_base.specs.declared.kind.Kind.TheVariants.{OpenString, BadEscape}
 use Rattle.lf_lex.specs.declared.token.TokenKind.TheVariants as kinds
 use Rattle.lf_lex.specs.Strings.{IsQuote, Raw, raw, IsRaw, IsInner, IsEscape, Piece, Bare, Escape, piece_text, meant, IsPiece, HasValue}
 use Rattle.lf_lex.specs.Parts.{IsLongest, EndsLine}
-use Rattle.lf_lex.specs.Breaches.{StopsString, line_ends, backslash_first, IsWrong, ReadsUpTo, IsWrongAt, no_escape, no_utf8}
+use Rattle.lf_lex.specs.Breaches.{StopsString, line_ends, backslash_first, BeginsNoEscape, ReadsUpTo, IsWrongAt, no_escape, no_utf8}
 use Rattle.lf_lex.specs.reading.Strings.{closing, escape, Given, given, piece, gives, bytes_of, places_of}
 use Rattle.lf_lex.specs.reading.Steps.{Front, token, breach, value_front, quoted_front, front_of}
 use Rattle.lf_lex.proofs.Longest.{take_same}
-use Rattle.lf_lex.proofs.Quotes.{ahead, closing_one, closes_found, none_some}
+use Rattle.lf_lex.proofs.Quotes.{ahead, closing_one, closes_found}
 use Rattle.lf_lex.proofs.ValueLaws.{IsRead, escape_kept, piece_bare, piece_escape}
 use Rattle.lf_lex.proofs.PieceLaws.{escape_cut, IsReadWrong, value_of, wrong_value, nil_value, pieces_value}
 use Rattle.lf_lex.proofs.Utf8Fronts.{Tail, no_tail, wrong_tail, valid_len_is, not_utf8}
@@ -21,6 +21,7 @@ use Rattle.lf_lex.proofs.EscapeLaws.{escape_read, escape_is}
 use Rattle.lf_lex.proofs.Given.{places-past, places-here}
 use Rattle.lf_lex.proofs.Fronts.{value_utf8, value_wrong}
 use Rattle.lf_lex.proofs.Dispatch.{front_quoted}
+use Rattle.lf_lex.proofs.Options.{none_some}
 
 pub quote_no_slash : (q : ℕ) → IsQuote q → q ≢ 92
 quote_no_slash q (inl e) f = absurd (omega (arith, e, f))
@@ -60,14 +61,14 @@ module _ (quote : ℕ) (q : IsQuote quote) where
           let is : escape quote (take r.1 src) ≡ Some (r.0, length (take r.1 src)) = c.1 ∙ ap (λ (k : ℕ). Some (r.0, k)) (sym l) in
           absurd (none (take r.1 src) r.0 (drop r.1 src) (sym (take-append-drop r.1 src)) (escape_is quote q r.0 (take r.1 src) is))
 
-  wrong_read : (rest : List ℕ) → IsWrong quote rest → IsReadWrong quote rest
+  wrong_read : (rest : List ℕ) → BeginsNoEscape quote rest → IsReadWrong quote rest
   wrong_read [] h = absurd h
   wrong_read (b ∷ src) h = (src, ap (λ (x : ℕ). x ∷ src) h.0, no_escape_read src h.1)
 
-  pub read_wrong : (rest : List ℕ) → IsReadWrong quote rest → IsWrong quote rest
-  read_wrong rest h = subst (IsWrong quote) (sym h.1) (refl, λ tail bytes left e g. none_some (bytes, length tail) (escape quote (tail ++ left)) (ap (escape quote) (sym e) ∙ h.2) (escape_kept left quote tail (bytes, length tail) (escape_read quote q tail bytes g)))
+  pub read_wrong : (rest : List ℕ) → IsReadWrong quote rest → BeginsNoEscape quote rest
+  read_wrong rest h = subst (BeginsNoEscape quote) (sym h.1) (refl, λ tail bytes left e g. none_some (bytes, length tail) (escape quote (tail ++ left)) (ap (escape quote) (sym e) ∙ h.2) (escape_kept left quote tail (bytes, length tail) (escape_read quote q tail bytes g)))
 
-  tail_is : (rest : List ℕ) → (rest ≡ []) ⊎ IsWrong quote rest → Tail (value_of quote rest)
+  tail_is : (rest : List ℕ) → (rest ≡ []) ⊎ BeginsNoEscape quote rest → Tail (value_of quote rest)
   tail_is rest (inl e) = no_tail (ap (value_of quote) e ∙ nil_value quote)
   tail_is rest (inr h) = let w = wrong_read rest h in wrong_tail (bytes_of (gives quote 1 0 w.0)) (ap (value_of quote) w.1 ∙ wrong_value quote w.0 w.2)
 
@@ -172,7 +173,7 @@ module _ (quote : ℕ) (q : IsQuote quote) where
     place_is = place_is ∙ ap (λ (k : ℕ). get_or (places_of (gives quote 0 0 inner)) k 0) (n_is ∙ sym (ap utf8_valid_len e ∙ valid_len_is good rest tail longest is_tail some));
   }
 
-  wrong_escape : (inner : List ℕ) (pieces : List Piece) (rest : List ℕ) → ReadsUpTo quote inner pieces rest → IsWrong quote rest → IsUtf8 (flat_map meant pieces) → WrongValue inner (length (flat_map piece_text pieces))
+  wrong_escape : (inner : List ℕ) (pieces : List Piece) (rest : List ℕ) → ReadsUpTo quote inner pieces rest → BeginsNoEscape quote rest → IsUtf8 (flat_map meant pieces) → WrongValue inner (length (flat_map piece_text pieces))
   wrong_escape inner pieces rest r wrong u =
       let w = wrong_read rest wrong in
       let each = all_read pieces r.each in

@@ -11,14 +11,15 @@ use Rattle.lf_base.specs.declared.kind.Kind.TheVariants.{OpenString, BadEscape}
 use Rattle.lf_lex.specs.declared.token.TokenKind.TheVariants as kinds
 use Rattle.lf_lex.specs.Strings.{IsQuote, Raw, One, Pair, raw, IsRaw, IsInner, Piece, piece_text, meant, in_quotes}
 use Rattle.lf_lex.specs.Parts.{IsLongest, Written}
-use Rattle.lf_lex.specs.Breaches.{StopsString, line_ends, backslash_first, in_quotes as open_quotes, IsWrong, ReadsUpTo, IsWrongAt, no_escape, no_utf8}
+use Rattle.lf_lex.specs.Breaches.{StopsString, line_ends, backslash_first, in_quotes as open_quotes, BeginsNoEscape, ReadsUpTo, IsWrongAt, no_escape, no_utf8}
 use Rattle.lf_lex.specs.reading.Strings.{closing}
 use Rattle.lf_lex.proofs.Longest.{greatest_longest, take_same, drop_same}
-use Rattle.lf_lex.proofs.Quotes.{closes_told, none_some}
+use Rattle.lf_lex.proofs.Quotes.{closes_told}
 use Rattle.lf_lex.proofs.PieceLaws.{IsReadWrong, ReadTo, read_to}
 use Rattle.lf_lex.proofs.Utf8Fronts.{utf8_greatest}
 use Rattle.lf_lex.proofs.StringFronts.{quote_no_slash, flat_append, read_all, read_wrong}
 use Rattle.lf_lex.proofs.Standing.{Standing, stands, fails}
+use Rattle.lf_lex.proofs.Options.{none_some}
 
 -- ---- a string that stays open
 
@@ -153,7 +154,7 @@ module _ (quote : ℕ) (q : IsQuote quote) (inside : Bool) (src inner rest : Lis
     up_to : ReadsUpTo quote inner r.pieces r.rest
     up_to = record { each = read_all quote q r.pieces r.each; source = r.source; stops = stop r.stops }
       where
-        stop : (r.rest ≡ []) ⊎ IsReadWrong quote r.rest → (r.rest ≡ []) ⊎ IsWrong quote r.rest
+        stop : (r.rest ≡ []) ⊎ IsReadWrong quote r.rest → (r.rest ≡ []) ⊎ BeginsNoEscape quote r.rest
         stop (inl e) = inl e
         stop (inr w) = inr (read_wrong quote q r.rest w)
 

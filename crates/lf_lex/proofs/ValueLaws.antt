@@ -1,14 +1,12 @@
 -- What a string stands for, piece by piece.
 use Rattle.std.proofs.Common.{◌≡◌, ◌≢◌, ℕ, zero, suc, Bool, true, false, cond, eqb, List, [], ◌∷◌, ◌++◌, map, drop, Option, Some, None, length, refl, ap, sym, ◌∙◌}
 use Rattle.std.proofs.lemmas.Bool.{ne_eqb}
-use Rattle.std.specs.List.{flat_map, AllByRecursion}
-use Rattle.std.proofs.lemmas.List.Concat.{flat_map-cons}
 use Rattle.lf_lex.specs.Bytes.{is_digit}
 use Rattle.lf_lex.specs.Strings.{Piece, Bare, Escape, piece_text, meant}
 use Rattle.lf_lex.specs.reading.Strings.{both, two_digits, four_digits, eight_digits, octal_byte, as_byte, as_character, escape, piece, given, gives, bytes_of}
 use Rattle.lf_lex.specs.Strings.{byte_of_letter}
 use Rattle.lf_lex.proofs.Given.{bytes-more}
-use Rattle.lf_lex.proofs.Quotes.{none_some}
+use Rattle.lf_lex.proofs.Options.{none_some}
 
 -- a piece, as it is read
 abbrev pub IsRead : ℕ → Piece → Type 0
@@ -120,8 +118,3 @@ piece_escape quote src r e = rw e refl
 pub value_one : (quote : ℕ) (p : Piece) (src : List ℕ) → IsRead quote p → bytes_of (gives quote 0 0 (piece_text p ++ src)) ≡ meant p ++ bytes_of (gives quote 0 0 src)
 value_one quote (Bare b) src h = bytes_first quote b src (b ∷ []) 0 (piece_bare quote b src h) ∙ ap (λ (x : List ℕ). b ∷ x) (bytes_place quote 1 0 0 src)
 value_one quote (Escape tail bytes) src h = bytes_first quote 92 (tail ++ src) bytes (length tail) (piece_escape quote (tail ++ src) (bytes, length tail) (escape_kept src quote tail (bytes, length tail) h)) ∙ ap (λ (x : List ℕ). bytes ++ x) (bytes_past quote 1 tail src)
-
-pub value_all : (quote : ℕ) (ps : List Piece) → AllByRecursion (IsRead quote) ps → bytes_of (gives quote 0 0 (flat_map piece_text ps)) ≡ flat_map meant ps
-unfolding gives
-value_all quote [] each = refl
-value_all quote (p ∷ ps) each = ap (λ (x : List ℕ). bytes_of (gives quote 0 0 x)) (flat_map-cons piece_text p ps) ∙ value_one quote p (flat_map piece_text ps) each.0 ∙ ap (λ (x : List ℕ). meant p ++ x) (value_all quote ps each.1) ∙ sym (flat_map-cons meant p ps)

@@ -19,7 +19,7 @@ use Rattle.lf_lex.specs.Runs.{begins_run, IsRun, IsNumber, lower_x, no_dot, one_
 use Rattle.lf_lex.specs.Durations.{Hours, Minutes, Seconds, Amount, AreAmounts, IsDuration, IsDisordered}
 use Rattle.lf_lex.specs.Strings.{IsString, in_quotes, in_back_quotes, One, Pair, IsRaw, Escape, Bare, byte_of_letter, hexadecimal_value, hexadecimal_byte}
 use Rattle.lf_lex.specs.Parts.{IsLongest, IsWord, IsSomeSign, Blank, Comment, Written}
-use Rattle.lf_lex.specs.Breaches.{BeginsNothing, in_quotes as open_quotes, line_ends, IsWrong, no_escape, no_utf8}
+use Rattle.lf_lex.specs.Breaches.{BeginsNothing, in_quotes as open_quotes, line_ends, BeginsNoEscape, no_escape, no_utf8}
 use Rattle.lf_lex.specs.Tokens.{Tokens, Breaks}
 use Rattle.lf_lex.specs.reading.Strings.{escape, octal_byte}
 use Rattle.lf_lex.specs.reading.Runs.{run_len, is_number, is_hexadecimal_number, is_decimal_number, is_mantissa, is_exponent_part, units, place_of_letter}
@@ -336,7 +336,7 @@ open_string = record {
 }
 
 -- "a\400": no escape begins with that backslash, since 400 in octal is no byte
-no_byte : IsWrong 34 (codes "\\400")
+no_byte : BeginsNoEscape 34 (codes "\\400")
 unfolding escape octal_byte is_octal is_digit
 no_byte = read_wrong 34 (inl refl) (codes "\\400") (codes "400", refl, refl)
 
@@ -367,7 +367,7 @@ past_377 = record {
 }
 
 -- "\xc3b\q": the first escape gives a byte with which no character goes on, and that comes before the wrong escape behind it
-no_q : IsWrong 34 (codes "\\q")
+no_q : BeginsNoEscape 34 (codes "\\q")
 unfolding escape byte_of_letter is_digit
 no_q = read_wrong 34 (inl refl) (codes "\\q") (codes "q", refl, refl)
 

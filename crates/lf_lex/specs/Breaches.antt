@@ -29,7 +29,7 @@ abbrev pub IsCharacter : List ℕ → Type 0
 IsCharacter [] = ⊥
 IsCharacter (b ∷ more) = Each is_continuation more
 
--- The text begins with a character with which no part begins, `length` bytes long.
+-- The text begins with a character of `len` bytes, and with nothing that parts begin with.
 pub record BeginsNothing (inside : Bool) (src : List ℕ) (len : ℕ) : Type 0 where
   pub nothing : (text rest : List ℕ) → src ≡ text ++ rest → IsBeginning inside text → ⊥
   pub character : List ℕ
@@ -55,23 +55,24 @@ pub data StaysOpen (src : List ℕ) : Type 0 where
 -- ---- an escape that is wrong
 
 -- a backslash with which no escape begins
-abbrev pub IsWrong : ℕ → List ℕ → Type 0
-IsWrong quote [] = ⊥
-IsWrong quote (b ∷ src) = (b ≡ 92) × ((tail bytes rest : List ℕ) → src ≡ tail ++ rest → IsEscape quote tail bytes → ⊥)
+abbrev pub BeginsNoEscape : ℕ → List ℕ → Type 0
+BeginsNoEscape quote [] = ⊥
+BeginsNoEscape quote (b ∷ src) = (b ≡ 92) × ((tail bytes rest : List ℕ) → src ≡ tail ++ rest → IsEscape quote tail bytes → ⊥)
 
 -- Between the quotes stand pieces up to `rest`: the end, or a backslash with which no escape begins.
 pub record ReadsUpTo (quote : ℕ) (inner : List ℕ) (pieces : List Piece) (rest : List ℕ) : Type 0 where
   pub each : AllByRecursion (IsPiece quote) pieces
   pub source : inner ≡ flat_map piece_text pieces ++ rest
-  pub stops : (rest ≡ []) ⊎ IsWrong quote rest
+  pub stops : (rest ≡ []) ⊎ BeginsNoEscape quote rest
 
--- The place between the quotes of what is wrong first.
+-- The place of the first thing between the quotes that is wrong.
 pub data IsWrongAt (quote : ℕ) (inner : List ℕ) (place : ℕ) : Type 0 where
-  -- No escape begins there, and what stands before it stands for UTF-8.
+  -- A backslash with which no escape begins, where what stands before it stands for UTF-8.
   no_escape : (pieces : List Piece) (rest : List ℕ) →
-      ReadsUpTo quote inner pieces rest → IsWrong quote rest → IsUtf8 (flat_map meant pieces) → place ≡ length (flat_map piece_text pieces) →
+      ReadsUpTo quote inner pieces rest → BeginsNoEscape quote rest → IsUtf8 (flat_map meant pieces) → place ≡ length (flat_map piece_text pieces) →
       IsWrongAt quote inner place
-  -- The piece there gives the byte with which the value ceases to be UTF-8: the longest part of the value that is UTF-8 ends before `byte`.
+  -- The piece that gives the byte with which the value ceases to be UTF-8: up to `byte` it is UTF-8, and no longer beginning of it is. (In a text that is UTF-8
+  -- this piece is an escape, as the law `wrong_escapes` says.)
   no_utf8 : (before : List Piece) (piece : Piece) (later : List Piece) (rest front : List ℕ) (byte : ℕ) (back : List ℕ) →
       ReadsUpTo quote inner (before ++ piece ∷ later) rest → meant piece ≡ front ++ byte ∷ back →
       IsLongest IsUtf8 (flat_map meant before ++ front) (byte ∷ (back ++ flat_map meant later)) → place ≡ length (flat_map piece_text before) →

@@ -10,7 +10,7 @@ begins_run [] = false
 begins_run (b ∷ []) = is_digit b
 begins_run (b ∷ c ∷ more) = is_digit b || (is_dot b && is_digit c)
 
--- A row of digits, letters, underscores and dots. A + or - may be one of the row, right behind an e or E that follows digits and dots alone.
+-- A row of digits, letters, underscores and dots. One + or - may stand in it, right behind an e or E that only digits and dots precede.
 pub data IsRow (row : List ℕ) : Type 0 where
   plain_row : Each is_in_run row → IsRow row
   signed_row : (front : List ℕ) (e sign : ℕ) (more : List ℕ) →

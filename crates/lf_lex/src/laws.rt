@@ -1,6 +1,8 @@
 //! Laws of tokens, for readers and for the crates above. The functions do nothing; what they ensure is the law.
-ghost use Rattle.std.specs.Prelude.{◌≡◌, ◌⊎◌, ℕ, List};
-ghost use Rattle.lf_lex.specs.Tokens.{Tokens, Breaks, Fault};
+ghost use Rattle.std.specs.Prelude.{◌≡◌, ◌⊎◌, ◌+◌, ℕ, List, slice_index};
+ghost use Rattle.std.specs.Str.{IsUtf8};
+ghost use Rattle.lf_base.specs.declared.kind.Kind.TheVariants.{BadEscape};
+ghost use Rattle.lf_lex.specs.Tokens.{Tokens, Breaks, Fault, in_source};
 ghost use Rattle.lf_lex.specs.declared.token.Token.{Token};
 
 /// A text has one list of tokens or one breach, never two and never both.
@@ -9,4 +11,9 @@ pub fn one_reading()
     ensures breach { (from text : List ℕ) (fault other : Fault) → Breaks from text fault → Breaks from text other → fault ≡ other }
     ensures one { (from text : List ℕ) (tokens : List Token) (fault : Fault) → Tokens from text tokens → Breaks from text fault → ⊥ }
     ensures some { (from text : List ℕ) → ((tokens : List Token) × Tokens from text tokens) ⊎ ((fault : Fault) × Breaks from text fault) }
+{}
+
+/// In a text that is UTF-8, `BadEscape` is told of a backslash, and of it alone.
+pub fn wrong_escapes()
+    ensures backslash { (from text : List ℕ) (fault : Fault) → IsUtf8 text → Breaks from text fault → fault.kind ≡ BadEscape → (place : ℕ) × (slice_index text place ≡ 92) × (fault.span ≡ in_source from place (place + 1)) }
 {}

@@ -61,7 +61,7 @@ pub fn lex(alloc: Global, text: &Text, from: &Seq<u32>) -> Result<Seq<Token>, Re
     read(alloc, text.as_str(), from.as_slice())
 }
 
-/// The same, over a plain text and list.
+/// The same over a plain text and list, told in the words of the way of reading.
 fn read(alloc: Global, text: &str, from: &[u32]) -> Result<Seq<Token>, Refusal>
     requires from { length from.now ≡ length text.now + 1 }
     requires rises { IsNonDecreasing from.now }

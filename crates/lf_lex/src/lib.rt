@@ -12,6 +12,6 @@ mod string;
 mod tests;
 mod token;
 
-pub use laws::one_reading;
+pub use laws::{one_reading, wrong_escapes};
 pub use lexing::lex;
 pub use token::{Sign, Token, TokenKind};
