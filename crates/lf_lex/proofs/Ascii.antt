@@ -11,7 +11,8 @@ use Rattle.std.proofs.lemmas.Str.{IsCharBoundary-before_ascii, IsCharBoundary-af
 use Rattle.std.specs.List.{prefix_len}
 use Rattle.std.specs.Str.{IsUtf8, IsCharBoundary}
 use Rattle.lf_lex.specs.Bytes.{is_digit, is_letter, is_dot, is_exponent, is_plus_minus, begins_word, is_in_word, is_in_run, is_in_mantissa}
-use Rattle.lf_lex.specs.Runs.{begins_run, begins_signed, run_len}
+use Rattle.lf_lex.specs.reading.Runs.{begins_signed, run_len}
+use Rattle.lf_lex.specs.Runs.{begins_run}
 
 begins_ascii : (inside : Bool) (b : ℕ) → begins_word inside b ≡ true → b < 128
 unfolding begins_word is_letter
@@ -24,10 +25,6 @@ word_ascii inside b h = grind (arith, nat_tests)
 run_ascii : (b : ℕ) → is_in_run b ≡ true → b < 128
 unfolding is_in_run is_letter is_digit
 run_ascii b h = grind (arith, nat_tests)
-
-mantissa_ascii : (b : ℕ) → is_in_mantissa b ≡ true → b < 128
-unfolding is_in_mantissa is_digit is_dot
-mantissa_ascii b h = grind (arith, nat_tests)
 
 begins_in_word : (inside : Bool) (b : ℕ) → begins_word inside b ≡ true → is_in_word inside b ≡ true
 unfolding is_in_word

@@ -2,7 +2,7 @@
 use Rattle.std.proofs.Common.{◌≡◌, ℕ, suc, ◌+◌, ◌<◌, ◌≤◌, Bool, true, false, not, ◌&&◌, cond, eqb, List, [], ◌∷◌, Option, Some, None, length, get_or, drop, refl, ap, arith, add-one, drop-cons}
 use Rattle.std.specs.Prelude.{option_map}
 use Rattle.std.proofs.lemmas.List.{drop_all}
-use Rattle.lf_lex.specs.Strings.{closing}
+use Rattle.lf_lex.specs.reading.Strings.{closing}
 
 closing-step : (quote b : ℕ) (src : List ℕ) (skip : Bool) →
     closing quote (cond skip 1 0) (b ∷ src) ≡ cond (not skip && eqb b quote) (Some 0) (cond (eqb b 10) None (option_map suc (closing quote (cond (not skip && eqb b 92) 1 0) src)))

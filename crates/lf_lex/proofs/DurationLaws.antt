@@ -6,10 +6,29 @@ use Rattle.std.proofs.lemmas.List.{take-append-drop}
 use Rattle.std.proofs.lemmas.List.Concat.{flat_map-cons}
 use Rattle.std.specs.List.{prefix_len, list_all, flat_map, AllByRecursion}
 use Rattle.std.specs.Option.{option_map_or}
-use Rattle.lf_lex.specs.Bytes.{is_digit}
-use Rattle.lf_lex.specs.Durations.{Measure, Years, Weeks, Days, Hours, Minutes, Seconds, Milliseconds, letters, place, Part, spelled, AreParts, Climb, IsDuration, IsDisordered}
-use Rattle.lf_lex.specs.Runs.{are_some, place_of_letter, one_letter, unit_at, before, units, rise, duration_order}
+use Rattle.lf_lex.specs.Bytes.{are_some, is_digit}
+use Rattle.lf_lex.specs.Durations.{Measure, Years, Weeks, Days, Hours, Minutes, Seconds, Milliseconds, letters, place, Amount, amount_text, AreAmounts, Climb, IsDuration, IsDisordered}
+use Rattle.lf_lex.specs.reading.Runs.{place_of_letter, one_letter, unit_at, before, units, rise, duration_order}
 use Rattle.lf_lex.proofs.Units.{unit_first, units-digits, units-none, units-unit, row-stops}
+use Rattle.lf_lex.proofs.Longest.{row_all}
+use Rattle.lf_lex.proofs.Options.{none_some, same_some}
+
+-- The run is amounts, none perhaps, and their units have these places.
+pub record AreParts (run places : List ℕ) : Type 0 where
+  pub parts : List Amount
+  pub each : AllByRecursion (λ p. are_some is_digit p.digits ≡ true) parts
+  pub source : run ≡ flat_map amount_text parts
+  pub places_are : places ≡ map (λ p. place p.measure) parts
+
+abbrev places_of : List Amount → List ℕ
+places_of amounts = map (λ a. place a.measure) amounts
+
+parts_of : (run : List ℕ) (amounts : List Amount) → AreAmounts run amounts → AreParts run (places_of amounts)
+parts_of run amounts a = record { parts = amounts; each = a.each; source = a.source; places_are = refl }
+
+some_part : (run : List ℕ) (parts : List Amount) → run ≡ flat_map amount_text parts → 0 < length run → 0 < length parts
+some_part run [] e lt = let l = ap length e in absurd (omega arith)
+some_part run (p ∷ parts) e lt = omega arith
 
 -- ---- what the grammar has is read
 
@@ -54,37 +73,29 @@ first_digit (d ∷ ds) rest h e = by d (and_both (is_digit d) (list_all is_digit
     by : (d : ℕ) → is_digit d ≡ true → d ≡ 115 → ⊥
     by d h e = false≢true (subst (λ (n : ℕ). is_digit n ≡ true) e h)
 
-units_parts : (ps : List Part) → AllByRecursion (λ p. are_some is_digit p.digits ≡ true) ps → units false (flat_map spelled ps) ≡ Some (map (λ p. place p.measure) ps)
+units_parts : (ps : List Amount) → AllByRecursion (λ p. are_some is_digit p.digits ≡ true) ps → units false (flat_map amount_text ps) ≡ Some (map (λ p. place p.measure) ps)
 unfolding units
 units_parts [] each = refl
 units_parts (p ∷ ps) each =
-    let rest = flat_map spelled ps in
-    let regrouped : flat_map spelled (p ∷ ps) ≡ p.digits ++ (letters p.measure ++ rest) = flat_map-cons spelled p ps ∙ append_assoc p.digits (letters p.measure) rest in
+    let rest = flat_map amount_text ps in
+    let regrouped : flat_map amount_text (p ∷ ps) ≡ p.digits ++ (letters p.measure ++ rest) = flat_map-cons amount_text p ps ∙ append_assoc p.digits (letters p.measure) rest in
     ap (units false) regrouped ∙ units_some p.digits (letters p.measure ++ rest) each.0 ∙ units_letters p.measure rest (next ps each.1) ∙ ap (before (place p.measure)) (units_parts ps each.1)
   where
-    next : (ps : List Part) → AllByRecursion (λ p. are_some is_digit p.digits ≡ true) ps → get_or (flat_map spelled ps) 0 0 ≡ 115 → ⊥
+    next : (ps : List Amount) → AllByRecursion (λ p. are_some is_digit p.digits ≡ true) ps → get_or (flat_map amount_text ps) 0 0 ≡ 115 → ⊥
     next [] each e = absurd (omega arith)
-    next (q ∷ qs) each e = first_digit q.digits (letters q.measure ++ flat_map spelled qs) each.0 (ap (λ (x : List ℕ). get_or x 0 0) (sym (flat_map-cons spelled q qs ∙ append_assoc q.digits (letters q.measure) (flat_map spelled qs))) ∙ e)
+    next (q ∷ qs) each e = first_digit q.digits (letters q.measure ++ flat_map amount_text qs) each.0 (ap (λ (x : List ℕ). get_or x 0 0) (sym (flat_map-cons amount_text q qs ∙ append_assoc q.digits (letters q.measure) (flat_map amount_text qs))) ∙ e)
 
 pub parts_units : (run places : List ℕ) → AreParts run places → units false run ≡ Some places
 parts_units run places a = ap (units false) a.source ∙ units_parts a.parts a.each ∙ ap (λ (x : List ℕ). Some x) (sym a.places_are)
 
 -- ---- what is read is in the grammar
 
-row_all : (src : List ℕ) → list_all is_digit (take (prefix_len is_digit src) src) ≡ true
-row_all [] = refl
-row_all (b ∷ src) = by (row_all src) (is_digit b) refl
-  where
-    by : list_all is_digit (take (prefix_len is_digit src) src) ≡ true → (t : Bool) → is_digit b ≡ t → list_all is_digit (take (cond (is_digit b) (1 + prefix_len is_digit src) 0) (b ∷ src)) ≡ true
-    by again true e = let k : 1 + prefix_len is_digit src ≡ suc (prefix_len is_digit src) = omega arith in rw (e, k, e) again
-    by again false e = rw e refl
-
 row_some : (src : List ℕ) → 0 < prefix_len is_digit src → are_some is_digit (take (prefix_len is_digit src) src) ≡ true
 row_some [] p = absurd (omega arith)
 row_some (b ∷ src) p = by (is_digit b) refl p
   where
     by : (t : Bool) → is_digit b ≡ t → 0 < cond (is_digit b) (1 + prefix_len is_digit src) 0 → are_some is_digit (take (cond (is_digit b) (1 + prefix_len is_digit src) 0) (b ∷ src)) ≡ true
-    by true e p = let k : 1 + prefix_len is_digit src ≡ suc (prefix_len is_digit src) = omega arith in rw (e, k, e) (row_all src)
+    by true e p = let k : 1 + prefix_len is_digit src ≡ suc (prefix_len is_digit src) = omega arith in rw (e, k, e) (row_all is_digit src)
     by false e p = absurd (let h = rw e at p in omega arith)
 
 -- the letter of a place
@@ -93,15 +104,6 @@ pub record HasUnit (src : List ℕ) (at len : ℕ) : Type 0 where
   pub source : src ≡ letters measure ++ drop len src
   pub at_is : at ≡ place measure
   pub some : 0 < len
-
-same_some : {A : Type 0} (x y : A) → Some x ≡ Some y → x ≡ y
-same_some x y e = cc
-
-clash : {A : Type 0} (x : A) (o : Option A) → o ≡ None → o ≡ Some x → ⊥
-clash x o e h = cc
-
-none_some : {A X : Type 0} (x : A) (o : Option A) → o ≡ None → o ≡ Some x → X
-none_some x o e h = absurd (clash x o e h)
 
 pub record HasLetter (b at : ℕ) : Type 0 where
   pub measure : Measure
@@ -163,12 +165,12 @@ unit_is (b ∷ c ∷ more) at len h = by (eqb b 109) (eqb c 115) refl refl h
 -- a part before parts
 more_parts : (run : List ℕ) (k len at : ℕ) (places : List ℕ) → are_some is_digit (take k run) ≡ true → HasUnit (drop k run) at len → AreParts (drop len (drop k run)) places → AreParts run (at ∷ places)
 more_parts run k len at places d u a =
-    let p : Part = record { digits = take k run; measure = u.measure } in
+    let p : Amount = record { digits = take k run; measure = u.measure } in
     let rest = drop len (drop k run) in
     record {
       parts = p ∷ a.parts;
       each = (d, a.each);
-      source = sym (take-append-drop k run) ∙ ap (λ (x : List ℕ). take k run ++ x) (u.source ∙ ap (λ (x : List ℕ). letters u.measure ++ x) a.source) ∙ sym (append_assoc (take k run) (letters u.measure) (flat_map spelled a.parts)) ∙ sym (flat_map-cons spelled p a.parts);
+      source = sym (take-append-drop k run) ∙ ap (λ (x : List ℕ). take k run ++ x) (u.source ∙ ap (λ (x : List ℕ). letters u.measure ++ x) a.source) ∙ sym (append_assoc (take k run) (letters u.measure) (flat_map amount_text a.parts)) ∙ sym (flat_map-cons amount_text p a.parts);
       places_are = ap (λ (x : ℕ). x ∷ places) u.at_is ∙ ap (λ (x : List ℕ). place u.measure ∷ x) a.places_are;
     }
 
@@ -228,25 +230,46 @@ climb_rise [] h = refl
 climb_rise (p ∷ places) h = climb_from 0 p places (omega arith) h
 
 pub ordered : (run : List ℕ) → IsDuration run → duration_order run ≡ Some true
-ordered run (places, parts, climb) = rw (parts_units run places parts) (ap (λ (b : Bool). Some b) (climb_rise places climb))
+ordered run (amounts, parts, climb) = rw (parts_units run (places_of amounts) (parts_of run amounts parts)) (ap (λ (b : Bool). Some b) (climb_rise (places_of amounts) climb))
 
 pub disordered : (run : List ℕ) → IsDisordered run → duration_order run ≡ Some false
-disordered run (places, parts, not_climb) = rw (parts_units run places parts) (ap (λ (b : Bool). Some b) (by (rise 0 places) refl))
+disordered run (amounts, parts, not_climb) = rw (parts_units run (places_of amounts) (parts_of run amounts parts)) (ap (λ (b : Bool). Some b) (by (rise 0 (places_of amounts)) refl))
   where
-    by : (b : Bool) → rise 0 places ≡ b → rise 0 places ≡ false
-    by true e = absurd (not_climb (rise_climb 0 places e))
+    by : (b : Bool) → rise 0 (places_of amounts) ≡ b → rise 0 (places_of amounts) ≡ false
+    by true e = absurd (not_climb (rise_climb 0 (places_of amounts) e))
     by false e = e
 
-pub only_ordered : (run : List ℕ) → duration_order run ≡ Some true → IsDuration run
-only_ordered run h = by (units false run) refl h
-  where
-    by : (o : Option (List ℕ)) → units false run ≡ o → option_map_or (λ places. Some (rise 0 places)) o None ≡ Some true → IsDuration run
-    by None e h = none_some true None refl h
-    by (Some places) e h = (places, units_are (suc (length run)) run places (omega arith) e, rise_climb 0 places (same_some (rise 0 places) true h))
+module _ (run : List ℕ) (lt : 0 < length run) where
+  amounts_of : (places : List ℕ) (a : AreParts run places) → AreAmounts run a.parts
+  amounts_of places a = record { some = some_part run a.parts a.source lt; each = a.each; source = a.source }
 
-pub only_disordered : (run : List ℕ) → duration_order run ≡ Some false → IsDisordered run
-only_disordered run h = by (units false run) refl h
+  pub only_ordered : duration_order run ≡ Some true → IsDuration run
+  only_ordered h = by (units false run) refl h
+    where
+      by : (o : Option (List ℕ)) → units false run ≡ o → option_map_or (λ places. Some (rise 0 places)) o None ≡ Some true → IsDuration run
+      by None e h = none_some true None refl h
+      by (Some places) e h =
+          let a = units_are (suc (length run)) run places (omega arith) e in
+          (a.parts, amounts_of places a, subst Climb a.places_are (rise_climb 0 places (same_some (rise 0 places) true h)))
+
+  pub only_disordered : duration_order run ≡ Some false → IsDisordered run
+  only_disordered h = by (units false run) refl h
+    where
+      by : (o : Option (List ℕ)) → units false run ≡ o → option_map_or (λ places. Some (rise 0 places)) o None ≡ Some false → IsDisordered run
+      by None e h = none_some false None refl h
+      by (Some places) e h =
+          let a = units_are (suc (length run)) run places (omega arith) e in
+          (a.parts, amounts_of places a, λ climb. false≢true (sym (same_some (rise 0 places) false h) ∙ climb_rise places (subst Climb (sym a.places_are) climb)))
+
+pub no_amounts : (run : List ℕ) (amounts : List Amount) → duration_order run ≡ None → AreAmounts run amounts → ⊥
+no_amounts run amounts h a = none_some (rise 0 (places_of amounts)) (duration_order run) h (rw (parts_units run (places_of amounts) (parts_of run amounts a)) refl)
+
+pub are_amounts : (run : List ℕ) (amounts : List Amount) → AreAmounts run amounts → units false run ≡ Some (places_of amounts)
+are_amounts run amounts a = parts_units run (places_of amounts) (parts_of run amounts a)
+
+pub not_amounts : (run : List ℕ) → ((amounts : List Amount) → AreAmounts run amounts → ⊥) → 0 < length run → duration_order run ≡ None
+not_amounts run none lt = by (units false run) refl
   where
-    by : (o : Option (List ℕ)) → units false run ≡ o → option_map_or (λ places. Some (rise 0 places)) o None ≡ Some false → IsDisordered run
-    by None e h = none_some false None refl h
-    by (Some places) e h = (places, units_are (suc (length run)) run places (omega arith) e, λ climb. false≢true (sym (same_some (rise 0 places) false h) ∙ climb_rise places climb))
+    by : (o : Option (List ℕ)) → units false run ≡ o → option_map_or (λ places. Some (rise 0 places)) o None ≡ None
+    by None e = refl
+    by (Some places) e = let a = units_are (suc (length run)) run places (omega arith) e in absurd (none a.parts (amounts_of run lt places a))

@@ -7,9 +7,9 @@ use Rattle.std.proofs.lemmas.Str.{is_utf8-from_IsUtf8, IsUtf8-from_is_utf8}
 use Rattle.lf_base.specs.declared.kind.Kind.TheVariants.{BadByte, BadEscape}
 use Rattle.lf_lex.specs.declared.token.TokenKind.TheVariants as kinds
 use Rattle.lf_lex.specs.Bytes.{is_continuation, is_line_feed}
-use Rattle.lf_lex.specs.Signs.{sign_at}
-use Rattle.lf_lex.specs.Strings.{gives, bytes_of, places_of}
-use Rattle.lf_lex.specs.Steps.{Front, breach, token, value_front, raw_front, sign_front}
+use Rattle.lf_lex.specs.reading.Signs.{sign_at}
+use Rattle.lf_lex.specs.reading.Strings.{gives, bytes_of, places_of}
+use Rattle.lf_lex.specs.reading.Steps.{Front, breach, token, value_front, raw_front, sign_front}
 use Rattle.lf_lex.proofs.Ascii.{some_pass, first_drop}
 
 pub value_utf8 : (from : List ℕ) (at quote : ℕ) (inner text : List ℕ) → text ≡ bytes_of (gives quote 0 0 inner) → IsUtf8 text → value_front from at quote inner ≡ Ok (Some (kinds.Str text), length inner + 2)

@@ -1,7 +1,7 @@
 -- Going over what stands between quotes.
 use Rattle.std.proofs.Common.{◌≡◌, ℕ, zero, suc, ◌+◌, ◌-◌, ◌<◌, ◌≤◌, List, [], ◌∷◌, ◌++◌, map, length, get_or, drop, refl, ap, arith, add-one, drop-cons, append_assoc, sym, ◌∙◌}
 use Rattle.std.proofs.lemmas.List.{drop_all, map-append}
-use Rattle.lf_lex.specs.Strings.{Given, given, piece, gives, bytes_of, places_of}
+use Rattle.lf_lex.specs.reading.Strings.{Given, given, piece, gives, bytes_of, places_of}
 
 module _ (quote : ℕ) (inner : List ℕ) (i : ℕ) (lt : i < length inner) where
   pub gives-skip : (skip : ℕ) → 0 < skip → gives quote i skip (drop i inner) ≡ gives quote (i + 1) (skip - 1) (drop (i + 1) inner)
@@ -38,12 +38,12 @@ module _ (quote : ℕ) (inner : List ℕ) (i : ℕ) (lt : i < length inner) (byt
 
 -- ---- the place of a byte
 
-places-past : (i : ℕ) (xs : List ℕ) (gs : List Given) (left : ℕ) → length xs ≤ left → get_or (places_of (map (given i) xs ++ gs)) left 0 ≡ get_or (places_of gs) (left - length xs) 0
+pub places-past : (i : ℕ) (xs : List ℕ) (gs : List Given) (left : ℕ) → length xs ≤ left → get_or (places_of (map (given i) xs ++ gs)) left 0 ≡ get_or (places_of gs) (left - length xs) 0
 places-past i [] gs left le = let e : left - 0 ≡ left = omega arith in rw e refl
 places-past i (x ∷ xs) gs zero le = absurd (omega arith)
 places-past i (x ∷ xs) gs (suc left) le = let e : suc left - length (x ∷ xs) ≡ left - length xs = omega arith in rw e (places-past i xs gs left (omega arith))
 
-places-here : (i : ℕ) (xs : List ℕ) (gs : List Given) (left : ℕ) → left < length xs → get_or (places_of (map (given i) xs ++ gs)) left 0 ≡ i
+pub places-here : (i : ℕ) (xs : List ℕ) (gs : List Given) (left : ℕ) → left < length xs → get_or (places_of (map (given i) xs ++ gs)) left 0 ≡ i
 places-here i [] gs left lt = absurd (omega arith)
 places-here i (x ∷ xs) gs zero lt = refl
 places-here i (x ∷ xs) gs (suc left) lt = places-here i xs gs left (omega arith)

@@ -1,3 +1,4 @@
+pub mod Options
 pub mod Closing
 pub mod DurationLaws
 pub mod Quotes
@@ -8,3 +9,21 @@ pub mod Given
 pub mod Ascii
 pub mod Fronts
 pub mod Reading
+pub mod Longest
+pub mod Words
+pub mod RunLaws
+pub mod NumberLaws
+pub mod Standing
+pub mod RunFronts
+pub mod SignLaws
+pub mod Dispatch
+pub mod PartFronts
+pub mod EscapeLaws
+pub mod Utf8Fronts
+pub mod StringFronts
+pub mod StringStands
+pub mod FrontLaws
+pub mod TokenLaws
+pub mod Worked
+pub mod Backslashes
+pub mod EscapePlaces

@@ -1,32 +1,29 @@
--- What is read as a string's value is pieces.
-use Rattle.std.proofs.Common.{◌≡◌, ◌≢◌, ℕ, zero, suc, ◌+◌, ◌/◌, ◌%◌, ◌<◌, ◌≤◌, Bool, true, false, ◌&&◌, cond, eqb, ltb, List, [], ◌∷◌, ◌++◌, take, drop, Option, Some, None, Result, Ok, Err, length, refl, ap, arith, sym, ◌∙◌, subst, inl, inr, length-drop}
+-- What stands between quotes is read as pieces, as far as its escapes are right.
+use Rattle.std.proofs.Common.{◌≡◌, ℕ, zero, suc, ◌+◌, ◌/◌, ◌%◌, ◌<◌, ◌≤◌, Bool, true, false, ◌&&◌, cond, eqb, ltb, List, [], ◌∷◌, ◌++◌, take, drop, Option, Some, None, length, refl, ap, arith, append_assoc, sym, ◌∙◌, subst, ◌⊎◌, inl, inr, length-drop}
 use Rattle.std.proofs.lemmas.Bool.{false≢true}
 use Rattle.std.proofs.lemmas.Bool.Decides.{eqb_tells, nat_tests}
 use Rattle.std.proofs.lemmas.List.{take-append-drop}
 use Rattle.std.proofs.lemmas.List.{length-take-le}
-use Rattle.std.proofs.lemmas.List.Concat.{flat_map-cons}
-use Rattle.std.specs.List.{AllByRecursion}
-use Rattle.std.specs.Str.{IsUtf8, is_utf8}
-use Rattle.std.proofs.lemmas.Str.{IsUtf8-from_is_utf8}
+use Rattle.std.specs.List.{flat_map, AllByRecursion}
+use Rattle.std.specs.Str.{IsUtf8}
 use lib.Utf8.{encode, encodes, scalar, scalars, scalar_cases}
 use Rattle.lf_lex.specs.Bytes.{is_digit}
-use Rattle.lf_lex.specs.Quotes.{Piece, Bare, Escape, spelled, meant, IsPiece, HasValue}
-use Rattle.lf_lex.specs.Steps.{Fault, Front, value_front}
-use Rattle.lf_lex.specs.Strings.{both, two_digits, four_digits, eight_digits, octal_byte, as_byte, as_character, byte_of_letter, escape, piece, is_scalar, gives, bytes_of}
-use Rattle.lf_lex.specs.declared.token.TokenKind.TheVariants as kinds
-use Rattle.lf_lex.proofs.Quotes.{none_some, same_some}
-use Rattle.lf_lex.proofs.ValueLaws.{bytes_past, bytes_first, piece_bare, piece_escape, bytes_place}
+use Rattle.lf_lex.specs.Strings.{Piece, Bare, Escape, piece_text, meant}
+use Rattle.lf_lex.specs.reading.Strings.{both, two_digits, four_digits, eight_digits, octal_byte, as_byte, as_character, escape, piece, is_scalar, gives, bytes_of}
+use Rattle.lf_lex.specs.Strings.{byte_of_letter}
+use Rattle.lf_lex.proofs.ValueLaws.{IsRead, bytes_first, value_one}
+use Rattle.lf_lex.proofs.Options.{none_some, same_some}
 
 -- ---- no UTF-8 has the byte 255
 
-abbrev AreBytes : List ℕ → Type 0
+abbrev pub AreBytes : List ℕ → Type 0
 AreBytes bs = AllByRecursion (λ b. b < 255) bs
 
 both_bytes : (xs ys : List ℕ) → AreBytes xs → AreBytes ys → AreBytes (xs ++ ys)
 both_bytes [] ys a b = b
 both_bytes (x ∷ xs) ys a b = (a.0, both_bytes xs ys a.1 b)
 
-later_bytes : (xs ys : List ℕ) → AreBytes (xs ++ ys) → AreBytes ys
+pub later_bytes : (xs ys : List ℕ) → AreBytes (xs ++ ys) → AreBytes ys
 later_bytes [] ys a = a
 later_bytes (x ∷ xs) ys a = later_bytes xs ys a.1
 
@@ -60,7 +57,7 @@ characters (c ∷ cs) h =
     let small : c < 1114112 = elim (scalar_cases c b.0) [ inl l ↦ omega arith | inr l ↦ l.1 ] in
     both_bytes (encode c) (encodes cs) (one_character c small) (characters cs b.1)
 
-utf8_bytes : (bs : List ℕ) → IsUtf8 bs → AreBytes bs
+pub utf8_bytes : (bs : List ℕ) → IsUtf8 bs → AreBytes bs
 utf8_bytes bs (cs, u) = subst AreBytes u.1 (characters cs u.0)
 
 -- ---- an escape is told by its own bytes
@@ -118,10 +115,10 @@ octal_cut (a ∷ []) m h = none_some m None refl h
 octal_cut (a ∷ b ∷ []) m h = none_some m None refl h
 octal_cut (a ∷ b ∷ c ∷ xs) m h = record { room = omega arith; same = h }
 
-abbrev IsCut : ℕ → List ℕ → List ℕ × ℕ → Type 0
+abbrev pub IsCut : ℕ → List ℕ → List ℕ × ℕ → Type 0
 IsCut quote src r = (r.1 ≤ length src) × (escape quote (take r.1 src) ≡ Some r)
 
-escape_cut : (quote : ℕ) (src : List ℕ) (r : List ℕ × ℕ) → escape quote src ≡ Some r → IsCut quote src r
+pub escape_cut : (quote : ℕ) (src : List ℕ) (r : List ℕ × ℕ) → escape quote src ≡ Some r → IsCut quote src r
 unfolding escape
 escape_cut quote [] r h = none_some r None refl h
 escape_cut quote (e ∷ xs) r h = first (eqb e quote) refl h
@@ -179,83 +176,58 @@ escape_cut quote (e ∷ xs) r h = first (eqb e quote) refl h
 
 -- ---- pieces
 
+-- a backslash with which no escape begins
+abbrev pub IsReadWrong : ℕ → List ℕ → Type 0
+IsReadWrong quote rest = (tail : List ℕ) × (rest ≡ 92 ∷ tail) × (escape quote tail ≡ None)
+
+-- pieces, as far as escapes are right
+pub record ReadTo (quote : ℕ) (src : List ℕ) : Type 0 where
+  pub pieces : List Piece
+  pub rest : List ℕ
+  pub each : AllByRecursion (IsRead quote) pieces
+  pub source : src ≡ flat_map piece_text pieces ++ rest
+  pub stops : (rest ≡ []) ⊎ IsReadWrong quote rest
+
 module _ (quote : ℕ) where
-  abbrev value_of : List ℕ → List ℕ
+  abbrev pub value_of : List ℕ → List ℕ
   value_of src = bytes_of (gives quote 0 0 src)
 
-  more_piece : (p : Piece) (src rest : List ℕ) → IsPiece quote p → src ≡ spelled p ++ rest → value_of src ≡ meant p ++ value_of rest → HasValue quote rest (value_of rest) → HasValue quote src (value_of src)
-  more_piece p src rest h e v a = record {
-    pieces = p ∷ a.pieces;
-    each = (h, a.each);
-    source = e ∙ ap (λ (x : List ℕ). spelled p ++ x) a.source ∙ sym (flat_map-cons spelled p a.pieces);
-    value_is = v ∙ ap (λ (x : List ℕ). meant p ++ x) a.value_is ∙ sym (flat_map-cons meant p a.pieces);
-  }
-
-  bare_value : (b : ℕ) (src : List ℕ) → b ≢ 92 → value_of (b ∷ src) ≡ b ∷ value_of src
-  bare_value b src n = bytes_first quote b src (b ∷ []) 0 (piece_bare quote b src n) ∙ ap (λ (x : List ℕ). b ∷ x) (bytes_place quote 1 0 0 src)
-
-  wrong_value : (src : List ℕ) → escape quote src ≡ None → AreBytes (value_of (92 ∷ src)) → ⊥
+  pub wrong_value : (src : List ℕ) → escape quote src ≡ None → value_of (92 ∷ src) ≡ 255 ∷ bytes_of (gives quote 1 0 src)
   unfolding piece
-  wrong_value src e a = let b = subst AreBytes (bytes_first quote 92 src (255 ∷ []) 0 (rw e refl)) a in let c : 255 < 255 = b.0 in omega arith
+  wrong_value src e = bytes_first quote 92 src (255 ∷ []) 0 (rw e refl)
 
-  escape_value : (src bytes : List ℕ) (n : ℕ) → escape quote src ≡ Some (bytes, n) → n ≤ length src → value_of (92 ∷ src) ≡ bytes ++ value_of (drop n src)
-  escape_value src bytes n e le =
-      let l : length (take n src) ≡ n = length-take-le n src le in
-      let past : bytes_of (gives quote 1 n src) ≡ bytes_of (gives quote 0 0 (drop n src)) = subst (λ (x : List ℕ). bytes_of (gives quote 1 n x) ≡ bytes_of (gives quote 0 0 (drop n src))) (take-append-drop n src) (subst (λ (k : ℕ). bytes_of (gives quote 1 k (take n src ++ drop n src)) ≡ bytes_of (gives quote 0 0 (drop n src))) l (bytes_past quote 1 (take n src) (drop n src))) in
-      bytes_first quote 92 src bytes n (piece_escape quote src (bytes, n) e) ∙ ap (λ (x : List ℕ). bytes ++ x) past
-
-  nil_value : value_of [] ≡ []
+  pub nil_value : value_of [] ≡ []
   unfolding gives
   nil_value = refl
 
-  pieces_of : (fuel : ℕ) (src : List ℕ) → length src < fuel → AreBytes (value_of src) → HasValue quote src (value_of src)
-  pieces_of zero src lt a = absurd (omega arith)
-  pieces_of (suc fuel) [] lt a = record { pieces = []; each = tt; source = refl; value_is = nil_value }
-  pieces_of (suc fuel) (b ∷ src) lt a =
+  pub pieces_value : (ps : List Piece) (rest : List ℕ) → AllByRecursion (IsRead quote) ps → value_of (flat_map piece_text ps ++ rest) ≡ flat_map meant ps ++ value_of rest
+  pieces_value [] rest each = refl
+  pieces_value (p ∷ ps) rest each =
+      ap value_of (append_assoc (piece_text p) (flat_map piece_text ps) rest) ∙ value_one quote p (flat_map piece_text ps ++ rest) each.0 ∙ ap (λ (x : List ℕ). meant p ++ x) (pieces_value ps rest each.1) ∙ sym (append_assoc (meant p) (flat_map meant ps) (value_of rest))
+
+  more_pieces : (p : Piece) (src rest : List ℕ) → IsRead quote p → src ≡ piece_text p ++ rest → ReadTo quote rest → ReadTo quote src
+  more_pieces p src rest h e a = record {
+    pieces = p ∷ a.pieces;
+    rest = a.rest;
+    each = (h, a.each);
+    source = e ∙ ap (λ (x : List ℕ). piece_text p ++ x) a.source ∙ sym (append_assoc (piece_text p) (flat_map piece_text a.pieces) a.rest);
+    stops = a.stops;
+  }
+
+  pub read_to : (fuel : ℕ) (src : List ℕ) → length src < fuel → ReadTo quote src
+  read_to zero src lt = absurd (omega arith)
+  read_to (suc fuel) [] lt = record { pieces = []; rest = []; each = tt; source = refl; stops = inl refl }
+  read_to (suc fuel) (b ∷ src) lt =
       elim (eqb_tells b 92) [
-        | inl s ↦ by (λ rest l c. pieces_of fuel rest l c) (escape quote src) refl s.1
-        | inr s ↦ more_piece (Bare b) (b ∷ src) src s.1 refl (bare_value b src s.1) (pieces_of fuel src (omega arith) (subst AreBytes (bare_value b src s.1) a).1)
+        | inl s ↦ by (λ rest l. read_to fuel rest l) (escape quote src) refl s.1
+        | inr s ↦ more_pieces (Bare b) (b ∷ src) src s.1 refl (read_to fuel src (omega arith))
       ]
     where
-      escaped : ((rest : List ℕ) → length rest < fuel → AreBytes (value_of rest) → HasValue quote rest (value_of rest)) → (bytes : List ℕ) (n : ℕ) → escape quote src ≡ Some (bytes, n) → AreBytes (value_of (92 ∷ src)) → HasValue quote (92 ∷ src) (value_of (92 ∷ src))
-      escaped again bytes n e a =
-          let c = escape_cut quote src (bytes, n) e in
-          let l : length (take n src) ≡ n = length-take-le n src c.0 in
-          let v = escape_value src bytes n e c.0 in
-          let d = length-drop n src in
-          let is : escape quote (take n src) ≡ Some (bytes, length (take n src)) = c.1 ∙ ap (λ (k : ℕ). Some (bytes, k)) (sym l) in
-          more_piece (Escape (take n src) bytes) (92 ∷ src) (drop n src) is (ap (λ (x : List ℕ). 92 ∷ x) (sym (take-append-drop n src))) v (again (drop n src) (omega arith) (later_bytes bytes (value_of (drop n src)) (subst AreBytes v a)))
-
-      at_slash : ((rest : List ℕ) → length rest < fuel → AreBytes (value_of rest) → HasValue quote rest (value_of rest)) → (o : Option (List ℕ × ℕ)) → escape quote src ≡ o → AreBytes (value_of (92 ∷ src)) → HasValue quote (92 ∷ src) (value_of (92 ∷ src))
-      at_slash again None e a = absurd (wrong_value src e a)
-      at_slash again (Some r) e a = escaped again r.0 r.1 e a
-
-      by : ((rest : List ℕ) → length rest < fuel → AreBytes (value_of rest) → HasValue quote rest (value_of rest)) → (o : Option (List ℕ × ℕ)) → escape quote src ≡ o → b ≡ 92 → HasValue quote (b ∷ src) (value_of (b ∷ src))
-      by again o e s = subst (λ (x : ℕ). HasValue quote (x ∷ src) (value_of (x ∷ src))) (sym s) (at_slash again o e (subst (λ (x : ℕ). AreBytes (value_of (x ∷ src))) s a))
-
-same_text : (v w : List ℕ) → Some (kinds.Str v) ≡ Some (kinds.Str w) → v ≡ w
-same_text v w e = cc
-
-abbrev ok_front : Front → Result Front Fault
-ok_front x = Ok x
-
-abbrev err_front : Fault → Result Front Fault
-err_front f = Err f
-
-same_front : (x y : Front) → ok_front x ≡ ok_front y → x ≡ y
-same_front x y e = cc
-
-no_front : (f : Fault) (y : Front) → err_front f ≡ ok_front y → ⊥
-no_front f y e = cc
-
-chosen : (f : Fault) (t : Bool) (x y : Front) → cond t (ok_front x) (err_front f) ≡ ok_front y → (t ≡ true) × (x ≡ y)
-chosen f true x y e = (refl, same_front x y e)
-chosen f false x y e = absurd (no_front f y e)
-
-pub value_told : (from : List ℕ) (at quote : ℕ) (inner value : List ℕ) (n : ℕ) → value_front from at quote inner ≡ Ok (Some (kinds.Str value), n) → HasValue quote inner value × IsUtf8 value
-unfolding value_front
-value_told from at quote inner value n h =
-    let c = chosen _ (is_utf8 (bytes_of (gives quote 0 0 inner))) (Some (kinds.Str (bytes_of (gives quote 0 0 inner))), length inner + 2) (Some (kinds.Str value), n) h in
-    let u : IsUtf8 (bytes_of (gives quote 0 0 inner)) = IsUtf8-from_is_utf8 (bytes_of (gives quote 0 0 inner)) c.0 in
-    let v : bytes_of (gives quote 0 0 inner) ≡ value = same_text (bytes_of (gives quote 0 0 inner)) value (ap (λ (x : Front). x.0) c.1) in
-    (subst (HasValue quote inner) v (pieces_of quote (suc (length inner)) inner (omega arith) (utf8_bytes (bytes_of (gives quote 0 0 inner)) u)), subst IsUtf8 v u)
+      by : ((rest : List ℕ) → length rest < fuel → ReadTo quote rest) → (o : Option (List ℕ × ℕ)) → escape quote src ≡ o → b ≡ 92 → ReadTo quote (b ∷ src)
+      by again None e s = record { pieces = []; rest = b ∷ src; each = tt; source = refl; stops = inr (src, ap (λ (x : ℕ). x ∷ src) s, e) }
+      by again (Some r) e s =
+          let c = escape_cut quote src r e in
+          let l : length (take r.1 src) ≡ r.1 = length-take-le r.1 src c.0 in
+          let d = length-drop r.1 src in
+          let is : escape quote (take r.1 src) ≡ Some (r.0, length (take r.1 src)) = c.1 ∙ ap (λ (k : ℕ). Some (r.0, k)) (sym l) in
+          more_pieces (Escape (take r.1 src) r.0) (b ∷ src) (drop r.1 src) is (ap (λ (x : ℕ). x ∷ src) s ∙ ap (λ (x : List ℕ). 92 ∷ x) (sym (take-append-drop r.1 src))) (again (drop r.1 src) (omega arith))

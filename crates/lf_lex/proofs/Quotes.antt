@@ -6,17 +6,26 @@ use Rattle.std.proofs.lemmas.Bool.Decides.{eqb_tells}
 use Rattle.std.proofs.lemmas.List.{length-append}
 use Rattle.std.proofs.lemmas.List.Concat.{flat_map-cons}
 use Rattle.std.specs.List.{flat_map, AllByRecursion}
-use Rattle.lf_lex.specs.Quotes.{Raw, One, Pair, raw, IsRaw, Closes}
-use Rattle.lf_lex.specs.Strings.{closing}
+use Rattle.lf_lex.specs.Strings.{Raw, One, Pair, raw, IsRaw}
+use Rattle.lf_lex.specs.reading.Strings.{closing}
+use Rattle.lf_lex.proofs.Options.{none_some, same_some}
+
+-- Behind an opening quote stands `inner`, the quote that closes, and perhaps more.
+pub record Closes (quote : ℕ) (src inner : List ℕ) : Type 0 where
+  pub raws : List Raw
+  pub each : AllByRecursion (IsRaw quote) raws
+  pub rest : List ℕ
+  pub inner_is : inner ≡ flat_map raw raws
+  pub source : src ≡ inner ++ quote ∷ rest
 
 -- ---- where a string closes
 
-ahead : ℕ → Option ℕ → Option ℕ
+abbrev pub ahead : ℕ → Option ℕ → Option ℕ
 ahead n o = option_map (λ k. n + k) o
 
 module _ (quote : ℕ) (not_slash : quote ≢ 92) where
-  closing_one : (r : Raw) (src : List ℕ) → IsRaw quote r → closing quote 0 (raw r ++ src) ≡ ahead (length (raw r)) (closing quote 0 src)
-  unfolding closing ahead
+  pub closing_one : (r : Raw) (src : List ℕ) → IsRaw quote r → closing quote 0 (raw r ++ src) ≡ ahead (length (raw r)) (closing quote 0 src)
+  unfolding closing
   closing_one (One b) src h = rw (ne_eqb b quote h.0, ne_eqb b 10 h.1, ne_eqb b 92 h.2) (one (closing quote 0 src))
     where
       one : (o : Option ℕ) → option_map suc o ≡ option_map (λ k. 1 + k) o
@@ -29,7 +38,7 @@ module _ (quote : ℕ) (not_slash : quote ≢ 92) where
       two (Some n) = ap (λ (k : ℕ). Some k) (omega arith)
 
   closing_all : (rs : List Raw) (rest : List ℕ) → AllByRecursion (IsRaw quote) rs → closing quote 0 (flat_map raw rs ++ quote ∷ rest) ≡ Some (length (flat_map raw rs))
-  unfolding closing ahead
+  unfolding closing
   closing_all [] rest each = rw (eq-eqb quote quote refl) refl
   closing_all (r ∷ rs) rest each =
       let regrouped : flat_map raw (r ∷ rs) ++ quote ∷ rest ≡ raw r ++ (flat_map raw rs ++ quote ∷ rest) = ap (λ (x : List ℕ). x ++ quote ∷ rest) (flat_map-cons raw r rs) ∙ append_assoc (raw r) (flat_map raw rs) (quote ∷ rest) in
@@ -39,15 +48,6 @@ module _ (quote : ℕ) (not_slash : quote ≢ 92) where
   pub closes_found : (src inner : List ℕ) → Closes quote src inner → closing quote 0 src ≡ Some (length inner)
   closes_found src inner c =
       ap (closing quote 0) (c.source ∙ ap (λ (x : List ℕ). x ++ quote ∷ c.rest) c.inner_is) ∙ closing_all c.raws c.rest c.each ∙ ap (λ (x : List ℕ). Some (length x)) (sym c.inner_is)
-
-pub same_some : {A : Type 0} (x y : A) → Some x ≡ Some y → x ≡ y
-same_some x y e = cc
-
-clash : {A : Type 0} (x : A) (o : Option A) → o ≡ None → o ≡ Some x → ⊥
-clash x o e h = cc
-
-pub none_some : {A X : Type 0} (x : A) (o : Option A) → o ≡ None → o ≡ Some x → X
-none_some x o e h = absurd (clash x o e h)
 
 closing_nil : (quote : ℕ) → closing quote 0 [] ≡ None
 unfolding closing
@@ -74,7 +74,6 @@ module _ (quote : ℕ) (not_slash : quote ≢ 92) where
   }
 
   next_raw : (r : Raw) (src : List ℕ) (n : ℕ) → IsRaw quote r → ((m : ℕ) → closing quote 0 src ≡ Some m → Closed quote src m) → closing quote 0 (raw r ++ src) ≡ Some n → Closed quote (raw r ++ src) n
-  unfolding ahead
   next_raw r src n h again e = by (closing quote 0 src) refl (sym (closing_one quote not_slash r src h) ∙ e)
     where
       by : (o : Option ℕ) → closing quote 0 src ≡ o → option_map (λ k. length (raw r) + k) o ≡ Some n → Closed quote (raw r ++ src) n

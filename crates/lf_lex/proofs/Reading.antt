@@ -8,8 +8,9 @@ use Rattle.lf_base.specs.declared.refusal.Refusal.{Refusal}
 use Rattle.lf_base.specs.declared.refusal.Refusal.TheVariants.{At, Memory}
 use Rattle.lf_lex.specs.declared.token.Token.{Token}
 use Rattle.lf_lex.specs.declared.token.TokenKind.{TokenKind}
-use Rattle.lf_lex.specs.Steps.{Fault, Front, Gives, Fails, in_source, front_of}
-use Rattle.lf_lex.specs.Tokens.{Reads, ends, goes_on, breaks, behind, tokens_at, with_front, Tokens, Breaks, IfAt}
+use Rattle.lf_lex.specs.reading.Steps.{Front, front_of}
+use Rattle.lf_lex.specs.Tokens.{Fault, in_source, Answers, Refuses, IfAt}
+use Rattle.lf_lex.specs.reading.Reads.{Reads, ends, goes_on, breaks, behind, tokens_at, with_front}
 use Rattle.lf_lex.proofs.Fronts.{drop_drop}
 
 -- ---- one reading
@@ -62,24 +63,24 @@ module _ (from text : List ℕ) (inside : Bool) (at : ℕ) (tokens : List Token)
       let step : Reads from inside at (get_or text at 0 ∷ drop (at + 1) text) (with_front new answer) = goes_on found n (ap (front_of from inside at) (sym q) ∙ e) (subst (λ (src : List ℕ). Reads from (behind found inside) (at + n) src answer) r h) in
       subst (Reads from false 0 text) (sym (fronts tokens new answer)) (so_far (with_front new answer) (subst (λ (src : List ℕ). Reads from inside at src (with_front new answer)) (sym q) step))
 
-  pub so_far_breaks : (fault : Fault) → front_of from inside at (drop at text) ≡ Err fault → Breaks from text fault
+  pub so_far_breaks : (fault : Fault) → front_of from inside at (drop at text) ≡ Err fault → Reads from false 0 text (Err fault)
   so_far_breaks fault e =
       let q : drop at text ≡ get_or text at 0 ∷ drop (at + 1) text = drop_more text at 0 lt in
       let step : Reads from inside at (get_or text at 0 ∷ drop (at + 1) text) (Err fault) = breaks fault (ap (front_of from inside at) (sym q) ∙ e) in
       so_far (Err fault) (subst (λ (src : List ℕ). Reads from inside at src (Err fault)) (sym q) step)
 
-  pub refusal_breaks : (refusal : Refusal) → Fails refusal (front_of from inside at (drop at text)) → IfAt refusal (Breaks from text)
+  pub refusal_breaks : (refusal : Refusal) → Refuses refusal (front_of from inside at (drop at text)) → IfAt refusal (λ fault. Reads from false 0 text (Err fault))
   refusal_breaks Memory h = tt
   refusal_breaks (At kind span) h = so_far_breaks (record { kind = kind; span = span }) h
 
-pub so_far_all : (from text : List ℕ) (inside : Bool) (at : ℕ) (tokens : List Token) → SoFar from text inside at tokens → length text ≤ at → Tokens from text tokens
+pub so_far_all : (from text : List ℕ) (inside : Bool) (at : ℕ) (tokens : List Token) → SoFar from text inside at tokens → length text ≤ at → Reads from false 0 text (Ok tokens)
 so_far_all from text inside at tokens so_far le =
     let step : Reads from inside at (drop at text) (Ok []) = subst (λ (src : List ℕ). Reads from inside at src (Ok [])) (sym (drop_all at text le)) ends in
-    subst (λ (x : List Token). Tokens from text x) (append-nil tokens) (so_far (Ok []) step)
+    subst (λ (x : List Token). Reads from false 0 text (Ok x)) (append-nil tokens) (so_far (Ok []) step)
 
 -- ---- the four clauses
 
-pub answers_all : (from text : List ℕ) (r : Result (List Token) Refusal) → IfOk r (Tokens from text) → IfErr r (λ e. IfAt e (Breaks from text)) → (answer : Result (List Token) Fault) → Reads from false 0 text answer → Gives r answer
+pub answers_all : (from text : List ℕ) (r : Result (List Token) Refusal) → IfOk r (λ tokens. Reads from false 0 text (Ok tokens)) → IfErr r (λ e. IfAt e (λ fault. Reads from false 0 text (Err fault))) → (answer : Result (List Token) Fault) → Reads from false 0 text answer → Answers r answer
 answers_all from text (Ok tokens) found refused answer h = one_reading h found
 answers_all from text (Err Memory) found refused answer h = tt
 answers_all from text (Err (At kind span)) found refused answer h = one_reading h refused
@@ -111,23 +112,3 @@ module _ (from : List ℕ) (at n : ℕ) (tokens : List Token) (rises : IsNonDecr
   pub last_more : (found : Option TokenKind) → LastBefore (get_or from (at + n) 0) (tokens ++ tokens_at found (in_source from at (at + n)))
   last_more None = subst (LastBefore (get_or from (at + n) 0)) (sym (append-nil tokens)) (λ d p. let h = last d p in let k = step_up in omega arith)
   last_more (Some kind) = λ d p. let e = ap start_of (last_push tokens (record { kind = kind; span = in_source from at (at + n) }) d) in let k = step_up in omega arith
-
--- ---- the laws
-
-ok_tokens : (a b : List Token) (r : Result (List Token) Fault) → r ≡ Ok a → r ≡ Ok b → a ≡ b
-ok_tokens a b r e h = cc
-
-err_faults : (a b : Fault) (r : Result (List Token) Fault) → r ≡ Err a → r ≡ Err b → a ≡ b
-err_faults a b r e h = cc
-
-ok_or_err : (a : List Token) (b : Fault) (r : Result (List Token) Fault) → r ≡ Ok a → r ≡ Err b → ⊥
-ok_or_err a b r e h = cc
-
-pub one_list : (from text : List ℕ) (tokens other : List Token) → Tokens from text tokens → Tokens from text other → tokens ≡ other
-one_list from text tokens other h k = ok_tokens tokens other (Ok tokens) refl (one_reading h k)
-
-pub one_breach : (from text : List ℕ) (fault other : Fault) → Breaks from text fault → Breaks from text other → fault ≡ other
-one_breach from text fault other h k = err_faults fault other (Err fault) refl (one_reading h k)
-
-pub not_both : (from text : List ℕ) (tokens : List Token) (fault : Fault) → Tokens from text tokens → Breaks from text fault → ⊥
-not_both from text tokens fault h k = ok_or_err tokens fault (Ok tokens) refl (one_reading h k)

@@ -7,7 +7,7 @@ use Rattle.std.proofs.lemmas.List.Sums.{prefix_len-drop_no, prefix_len-drop_all,
 use Rattle.std.specs.List.{prefix_len}
 use Rattle.std.specs.Option.{option_map_or}
 use Rattle.lf_lex.specs.Bytes.{is_digit}
-use Rattle.lf_lex.specs.Runs.{place_of_letter, one_letter, unit_at, before, with_unit, units, rise, duration_order}
+use Rattle.lf_lex.specs.reading.Runs.{place_of_letter, one_letter, unit_at, before, with_unit, units, rise, duration_order}
 
 -- digits of a part are passed
 pub units-row : (src : List ℕ) → units true src ≡ units true (drop (prefix_len is_digit src) src)

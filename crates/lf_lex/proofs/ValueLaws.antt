@@ -1,17 +1,17 @@
 -- What a string stands for, piece by piece.
-use Rattle.std.proofs.Common.{◌≡◌, ◌≢◌, ℕ, zero, suc, ◌+◌, Bool, true, false, cond, eqb, List, [], ◌∷◌, ◌++◌, map, drop, Option, Some, None, Ok, length, refl, ap, sym, ◌∙◌}
+use Rattle.std.proofs.Common.{◌≡◌, ◌≢◌, ℕ, zero, suc, Bool, true, false, cond, eqb, List, [], ◌∷◌, ◌++◌, map, drop, Option, Some, None, length, refl, ap, sym, ◌∙◌}
 use Rattle.std.proofs.lemmas.Bool.{ne_eqb}
-use Rattle.std.specs.List.{flat_map, AllByRecursion}
-use Rattle.std.specs.Str.{IsUtf8}
-use Rattle.std.proofs.lemmas.List.Concat.{flat_map-cons}
 use Rattle.lf_lex.specs.Bytes.{is_digit}
-use Rattle.lf_lex.specs.Quotes.{Piece, Bare, Escape, spelled, meant, IsPiece, HasValue}
-use Rattle.lf_lex.specs.Steps.{value_front}
-use Rattle.lf_lex.specs.Strings.{both, two_digits, four_digits, eight_digits, octal_byte, as_byte, as_character, byte_of_letter, escape, piece, given, gives, bytes_of}
-use Rattle.lf_lex.specs.declared.token.TokenKind.TheVariants as kinds
-use Rattle.lf_lex.proofs.Fronts.{value_utf8}
+use Rattle.lf_lex.specs.Strings.{Piece, Bare, Escape, piece_text, meant}
+use Rattle.lf_lex.specs.reading.Strings.{both, two_digits, four_digits, eight_digits, octal_byte, as_byte, as_character, escape, piece, given, gives, bytes_of}
+use Rattle.lf_lex.specs.Strings.{byte_of_letter}
 use Rattle.lf_lex.proofs.Given.{bytes-more}
-use Rattle.lf_lex.proofs.Quotes.{none_some}
+use Rattle.lf_lex.proofs.Options.{none_some}
+
+-- a piece, as it is read
+abbrev pub IsRead : ℕ → Piece → Type 0
+IsRead quote (Bare b) = b ≢ 92
+IsRead quote (Escape tail bytes) = escape quote tail ≡ Some (bytes, length tail)
 
 -- ---- an escape is told by its own bytes alone
 
@@ -65,7 +65,7 @@ module _ (ys : List ℕ) where
   character_kept count r None q k h = none_some r None refl h
   character_kept count r (Some n) q k h = rw (k n refl) h
 
-  escape_kept : (quote : ℕ) (tail : List ℕ) (r : List ℕ × ℕ) → escape quote tail ≡ Some r → escape quote (tail ++ ys) ≡ Some r
+  pub escape_kept : (quote : ℕ) (tail : List ℕ) (r : List ℕ × ℕ) → escape quote tail ≡ Some r → escape quote (tail ++ ys) ≡ Some r
   unfolding escape
   escape_kept quote [] r h = none_some r None refl h
   escape_kept quote (e ∷ xs) r h = first (eqb e quote) h
@@ -115,14 +115,6 @@ pub piece_escape : (quote : ℕ) (src : List ℕ) (r : List ℕ × ℕ) → esca
 unfolding piece
 piece_escape quote src r e = rw e refl
 
-value_one : (quote : ℕ) (p : Piece) (src : List ℕ) → IsPiece quote p → bytes_of (gives quote 0 0 (spelled p ++ src)) ≡ meant p ++ bytes_of (gives quote 0 0 src)
+pub value_one : (quote : ℕ) (p : Piece) (src : List ℕ) → IsRead quote p → bytes_of (gives quote 0 0 (piece_text p ++ src)) ≡ meant p ++ bytes_of (gives quote 0 0 src)
 value_one quote (Bare b) src h = bytes_first quote b src (b ∷ []) 0 (piece_bare quote b src h) ∙ ap (λ (x : List ℕ). b ∷ x) (bytes_place quote 1 0 0 src)
 value_one quote (Escape tail bytes) src h = bytes_first quote 92 (tail ++ src) bytes (length tail) (piece_escape quote (tail ++ src) (bytes, length tail) (escape_kept src quote tail (bytes, length tail) h)) ∙ ap (λ (x : List ℕ). bytes ++ x) (bytes_past quote 1 tail src)
-
-value_all : (quote : ℕ) (ps : List Piece) → AllByRecursion (IsPiece quote) ps → bytes_of (gives quote 0 0 (flat_map spelled ps)) ≡ flat_map meant ps
-unfolding gives
-value_all quote [] each = refl
-value_all quote (p ∷ ps) each = ap (λ (x : List ℕ). bytes_of (gives quote 0 0 x)) (flat_map-cons spelled p ps) ∙ value_one quote p (flat_map spelled ps) each.0 ∙ ap (λ (x : List ℕ). meant p ++ x) (value_all quote ps each.1) ∙ sym (flat_map-cons meant p ps)
-
-pub value_read : (from : List ℕ) (at quote : ℕ) (inner value : List ℕ) → HasValue quote inner value → IsUtf8 value → value_front from at quote inner ≡ Ok (Some (kinds.Str value), length inner + 2)
-value_read from at quote inner value h u = value_utf8 from at quote inner value (h.value_is ∙ sym (ap (λ (x : List ℕ). bytes_of (gives quote 0 0 x)) h.source ∙ value_all quote h.pieces h.each)) u

@@ -1,5 +1,18 @@
 -- The classes of bytes that tokens are made of. Letters and digits are those of ASCII.
-use Rattle.std.specs.Prelude.{ℕ, Bool, not, ◌==◌, ◌||◌, ◌&&◌, nat_le}
+use Rattle.std.specs.Prelude.{◌≡◌, ℕ, List, [], ◌∷◌, Bool, true, false, not, ◌==◌, ◌||◌, ◌&&◌, nat_le}
+use Rattle.std.specs.List.{list_all}
+
+-- Each byte is of a class.
+abbrev pub Each : (ℕ → Bool) → List ℕ → Type 0
+Each test bs = list_all test bs ≡ true
+
+-- There is a byte, and each is of a class.
+abbrev pub are_some : (ℕ → Bool) → List ℕ → Bool
+are_some test [] = false
+are_some test (b ∷ more) = test b && list_all test more
+
+abbrev pub AreSome : (ℕ → Bool) → List ℕ → Type 0
+AreSome test bs = are_some test bs ≡ true
 
 -- a space, a tab, a line feed, a carriage return
 unfoldable pub is_blank : ℕ → Bool
@@ -8,6 +21,12 @@ is_blank b = b == 32 || b == 9 || b == 10 || b == 13
 -- a line feed
 unfoldable pub is_line_feed : ℕ → Bool
 is_line_feed b = b == 10
+
+abbrev pub is_no_line_feed : ℕ → Bool
+is_no_line_feed b = not (is_line_feed b)
+
+abbrev pub is_no_back_quote : ℕ → Bool
+is_no_back_quote b = not (b == 96)
 
 -- 0 to 9
 unfoldable pub is_digit : ℕ → Bool

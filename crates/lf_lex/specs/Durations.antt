@@ -1,8 +1,7 @@
--- Durations as a grammar: what the reading of runs is proved to be.
-use Rattle.std.specs.Prelude.{◌≡◌, ℕ, ◌<◌, List, [], ◌∷◌, ◌++◌, map, true}
+-- Durations.
+use Rattle.std.specs.Prelude.{◌≡◌, ℕ, ◌<◌, List, [], ◌∷◌, ◌++◌, map, length}
 use Rattle.std.specs.List.{flat_map, AllByRecursion}
-use Rattle.lf_lex.specs.Bytes.{is_digit}
-use Rattle.lf_lex.specs.Runs.{are_some}
+use Rattle.lf_lex.specs.Bytes.{AreSome, is_digit}
 
 -- the units
 pub data Measure : Type 0 where
@@ -34,20 +33,19 @@ place Minutes = 4
 place Seconds = 5
 place Milliseconds = 6
 
--- a part of a duration, as 5m
-pub record Part : Type 0 where
+-- an amount of one unit, as 5m
+pub record Amount : Type 0 where
   pub digits : List ℕ
   pub measure : Measure
 
-abbrev pub spelled : Part → List ℕ
-spelled p = p.digits ++ letters p.measure
+abbrev pub amount_text : Amount → List ℕ
+amount_text a = a.digits ++ letters a.measure
 
--- The run is parts, each of one or more digits and a unit, and the units have these places.
-pub record AreParts (run places : List ℕ) : Type 0 where
-  pub parts : List Part
-  pub each : AllByRecursion (λ p. are_some is_digit p.digits ≡ true) parts
-  pub source : run ≡ flat_map spelled parts
-  pub places_are : places ≡ map (λ p. place p.measure) parts
+-- The run is one or more amounts, each of one or more digits and a unit.
+pub record AreAmounts (run : List ℕ) (amounts : List Amount) : Type 0 where
+  pub some : 0 < length amounts
+  pub each : AllByRecursion (λ a. AreSome is_digit a.digits) amounts
+  pub source : run ≡ flat_map amount_text amounts
 
 -- each place is above the one before it
 abbrev pub Climb : List ℕ → Type 0
@@ -55,10 +53,13 @@ Climb [] = Unit {0}
 Climb (p ∷ []) = Unit {0}
 Climb (p ∷ q ∷ places) = (p < q) × Climb (q ∷ places)
 
--- parts whose units stand in their order, each at most once
-abbrev pub IsDuration : List ℕ → Type 0
-IsDuration run = (places : List ℕ) × AreParts run places × Climb places
+-- The units stand in their order, each at most once.
+abbrev pub InOrder : List Amount → Type 0
+InOrder amounts = Climb (map (λ a. place a.measure) amounts)
 
--- parts whose units don't
+abbrev pub IsDuration : List ℕ → Type 0
+IsDuration run = (amounts : List Amount) × AreAmounts run amounts × InOrder amounts
+
+-- amounts whose units stand in another order, or repeat
 abbrev pub IsDisordered : List ℕ → Type 0
-IsDisordered run = (places : List ℕ) × AreParts run places × (Climb places → ⊥)
+IsDisordered run = (amounts : List Amount) × AreAmounts run amounts × (InOrder amounts → ⊥)

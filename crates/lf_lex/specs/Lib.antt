@@ -1,10 +1,9 @@
 pub mod Bytes
-pub mod Runs
 pub mod Signs
-pub mod Steps
-pub mod Strings
-pub mod Tokens
-pub mod Rows
-pub mod Escapes
+pub mod Runs
 pub mod Durations
-pub mod Quotes
+pub mod Strings
+pub mod Parts
+pub mod Breaches
+pub mod Tokens
+pub mod reading

@@ -1,13 +1,35 @@
--- Strings in quotes: where they close, and what their escapes give.
-use Rattle.std.specs.Prelude.{ℕ, zero, suc, ◌+◌, ◌*◌, ◌-◌, List, [], ◌∷◌, ◌++◌, map, slice_index, drop, Bool, ◌==◌, ◌&&◌, ◌||◌, nat_le, nat_lt, Option, Some, None, option_map, encode_utf8, if◌then◌else◌}
-use Rattle.lf_lex.specs.Bytes.{is_octal, is_digit}
+-- Strings.
+use Rattle.std.specs.Prelude.{◌≡◌, ◌≢◌, ◌⊎◌, ℕ, ◌+◌, ◌*◌, ◌-◌, ◌<◌, List, [], ◌∷◌, ◌++◌, length, ◌==◌, ◌&&◌, nat_le, Option, Some, None, encode_utf8, if◌then◌else◌}
+use Rattle.std.specs.List.{flat_map, AllByRecursion}
+use Rattle.std.specs.Char.{IsScalar}
+use Rattle.std.specs.Str.{IsUtf8}
+use Rattle.lf_lex.specs.Bytes.{Each, is_no_back_quote}
 
--- How many bytes stand before the quote that closes, where one does on the line. A backslash takes the byte behind it with it, so that this one closes nothing.
--- `skipped` bytes at the front are behind a backslash.
-unfoldable pub closing : ℕ → ℕ → List ℕ → Option ℕ
-closing quote skipped [] = None
-closing quote (suc skipped) (b ∷ src) = if b == 10 then None else option_map suc (closing quote skipped src)
-closing quote zero (b ∷ src) = if b == quote then Some 0 else if b == 10 then None else option_map suc (closing quote (if b == 92 then 1 else 0) src)
+-- the quotes " and '
+abbrev pub IsQuote : ℕ → Type 0
+IsQuote quote = (quote ≡ 34) ⊎ (quote ≡ 39)
+
+-- ---- where a string in quotes closes
+
+-- what stands between the quotes: a byte for itself, or a backslash and the byte behind it
+pub data Raw : Type 0 where
+  One : ℕ → Raw
+  Pair : ℕ → Raw
+
+abbrev pub raw : Raw → List ℕ
+raw (One b) = b ∷ []
+raw (Pair b) = 92 ∷ b ∷ []
+
+-- no line feed stands there, and neither a quote nor a backslash for itself
+abbrev pub IsRaw : ℕ → Raw → Type 0
+IsRaw quote (One b) = (b ≢ quote) × (b ≢ 10) × (b ≢ 92)
+IsRaw quote (Pair b) = b ≢ 10
+
+-- `inner` can stand between quotes.
+pub record IsInner (quote : ℕ) (inner : List ℕ) : Type 0 where
+  pub raws : List Raw
+  pub each : AllByRecursion (IsRaw quote) raws
+  pub source : inner ≡ flat_map raw raws
 
 -- ---- escapes
 
@@ -16,81 +38,70 @@ unfoldable pub byte_of_letter : ℕ → Option ℕ
 byte_of_letter e =
     if e == 97 then Some 7 else if e == 98 then Some 8 else if e == 102 then Some 12 else if e == 110 then Some 10 else if e == 114 then Some 13 else if e == 116 then Some 9 else if e == 118 then Some 11 else if e == 92 then Some 92 else None
 
+-- what a digit is worth
 unfoldable pub hexadecimal_value : ℕ → Option ℕ
 hexadecimal_value b =
     if nat_le 48 b && nat_le b 57 then Some (b - 48) else if nat_le 65 b && nat_le b 70 then Some (b - 55) else if nat_le 97 b && nat_le b 102 then Some (b - 87) else None
 
-abbrev pub both : ℕ → Option ℕ → Option ℕ → Option ℕ
-both base None n = None
-both base (Some m) None = None
-both base (Some m) (Some n) = Some (base * m + n)
+unfoldable pub octal_value : ℕ → Option ℕ
+octal_value b = if nat_le 48 b && nat_le b 55 then Some (b - 48) else None
 
--- the number of the two, four or eight hexadecimal digits at the front
-unfoldable pub two_digits : List ℕ → Option ℕ
-two_digits [] = None
-two_digits (h ∷ []) = None
-two_digits (h ∷ l ∷ more) = both 16 (hexadecimal_value h) (hexadecimal_value l)
+-- the number that digits tell in a base, behind digits that tell a number
+abbrev pub Tell : ℕ → (ℕ → Option ℕ) → ℕ → List ℕ → ℕ → Type 0
+Tell base value before [] n = n ≡ before
+Tell base value before (d ∷ digits) n = (v : ℕ) × (value d ≡ Some v) × Tell base value (base * before + v) digits n
 
-unfoldable pub four_digits : List ℕ → Option ℕ
-four_digits src = both 256 (two_digits src) (two_digits (drop 2 src))
+-- `IsEscape quote tail bytes`: in a string with this quote a backslash and `tail` stand for these bytes.
+pub data IsEscape (quote : ℕ) (tail bytes : List ℕ) : Type 0 where
+  -- a letter of the table
+  a_letter : (e b : ℕ) → tail ≡ e ∷ [] → byte_of_letter e ≡ Some b → bytes ≡ b ∷ [] → IsEscape quote tail bytes
+  -- the quote that opened the string
+  the_quote : tail ≡ quote ∷ [] → bytes ≡ quote ∷ [] → IsEscape quote tail bytes
+  -- three octal digits that tell a byte, so at most 377
+  octal_byte : (n : ℕ) → length tail ≡ 3 → Tell 8 octal_value 0 tail n → n < 256 → bytes ≡ n ∷ [] → IsEscape quote tail bytes
+  -- x and two hexadecimal digits that tell a byte
+  hexadecimal_byte : (digits : List ℕ) (n : ℕ) → tail ≡ 120 ∷ digits → length digits ≡ 2 → Tell 16 hexadecimal_value 0 digits n → bytes ≡ n ∷ [] → IsEscape quote tail bytes
+  -- u and four hexadecimal digits that tell a character
+  short_character : (digits : List ℕ) (c : ℕ) →
+      tail ≡ 117 ∷ digits → length digits ≡ 4 → Tell 16 hexadecimal_value 0 digits c → IsScalar c → bytes ≡ encode_utf8 c →
+      IsEscape quote tail bytes
+  -- U and eight
+  long_character : (digits : List ℕ) (c : ℕ) →
+      tail ≡ 85 ∷ digits → length digits ≡ 8 → Tell 16 hexadecimal_value 0 digits c → IsScalar c → bytes ≡ encode_utf8 c →
+      IsEscape quote tail bytes
 
-unfoldable pub eight_digits : List ℕ → Option ℕ
-eight_digits src = both 65536 (four_digits src) (four_digits (drop 4 src))
+-- ---- what a string in quotes stands for
 
--- the number of the three octal digits at the front, which is at most 377 in octal
-unfoldable pub octal_byte : List ℕ → Option ℕ
-octal_byte [] = None
-octal_byte (a ∷ []) = None
-octal_byte (a ∷ b ∷ []) = None
-octal_byte (a ∷ b ∷ c ∷ more) = if is_octal a && is_octal b && is_octal c && nat_lt a 52 then Some (64 * (a - 48) + 8 * (b - 48) + (c - 48)) else None
+-- a byte for itself, or an escape: what stands behind the backslash, and the bytes that it stands for
+pub data Piece : Type 0 where
+  Bare : ℕ → Piece
+  Escape : List ℕ → List ℕ → Piece
 
--- A Unicode scalar value: no surrogate, and at most 10FFFF.
-unfoldable pub is_scalar : ℕ → Bool
-is_scalar n = nat_lt n 0xD800 || (nat_lt 0xDFFF n && nat_lt n 0x110000)
+abbrev pub piece_text : Piece → List ℕ
+piece_text (Bare b) = b ∷ []
+piece_text (Escape tail bytes) = 92 ∷ tail
 
--- what an escape gives, and how many bytes tell it behind the backslash
-abbrev pub as_byte : ℕ → Option ℕ → Option (List ℕ × ℕ)
-as_byte count None = None
-as_byte count (Some byte) = Some (byte ∷ [], count)
+abbrev pub meant : Piece → List ℕ
+meant (Bare b) = b ∷ []
+meant (Escape tail bytes) = bytes
 
-abbrev pub as_character : ℕ → Option ℕ → Option (List ℕ × ℕ)
-as_character count None = None
-as_character count (Some n) = if is_scalar n then Some (encode_utf8 n, count) else None
+abbrev pub IsPiece : ℕ → Piece → Type 0
+IsPiece quote (Bare b) = b ≢ 92
+IsPiece quote (Escape tail bytes) = IsEscape quote tail bytes
 
--- The escape behind a backslash in a string with this quote: a letter of those above, the quote, three octal digits, x and two, u and four, U and eight
--- hexadecimal digits.
-unfoldable pub escape : ℕ → List ℕ → Option (List ℕ × ℕ)
-escape quote [] = None
-escape quote (e ∷ src) =
-    if e == quote then Some (quote ∷ [], 1) else if e == 120 then as_byte 3 (two_digits src) else if e == 117 then as_character 5 (four_digits src) else if e == 85 then as_character 9 (eight_digits src) else if is_digit e then as_byte 3 (octal_byte (e ∷ src)) else as_byte 1 (byte_of_letter e)
+-- What stands between the quotes is pieces, and these stand for the value.
+pub record HasValue (quote : ℕ) (inner value : List ℕ) : Type 0 where
+  pub pieces : List Piece
+  pub each : AllByRecursion (IsPiece quote) pieces
+  pub source : inner ≡ flat_map piece_text pieces
+  pub value_is : value ≡ flat_map meant pieces
 
--- ---- what stands between the quotes
+-- ---- strings
 
--- a byte of the string's value, and the place of what gave it between the quotes: its own, or that of the backslash
-pub record Given : Type 0 where
-  pub byte : ℕ
-  pub place : ℕ
-
-abbrev pub given : ℕ → ℕ → Given
-given place byte = record { byte = byte; place = place }
-
--- What the front gives, and how many bytes behind the first belong to it: a byte gives itself, and an escape what it stands for. A backslash with which no
--- escape begins gives the byte 255, which stands in no UTF-8, so that no string has it.
-abbrev pub or_no_utf8 : Option (List ℕ × ℕ) → List ℕ × ℕ
-or_no_utf8 None = (255 ∷ [], 0)
-or_no_utf8 (Some e) = e
-
-unfoldable pub piece : ℕ → List ℕ → List ℕ × ℕ
-piece quote src = if slice_index src 0 == 92 then or_no_utf8 (escape quote (drop 1 src)) else (slice_index src 0 ∷ [], 0)
-
--- What the bytes between the quotes give, the first of them at a place. `skipped` bytes at the front belong to an escape.
-unfoldable pub gives : ℕ → ℕ → ℕ → List ℕ → List Given
-gives quote place skipped [] = []
-gives quote place (suc skipped) (b ∷ src) = gives quote (suc place) skipped src
-gives quote place zero (b ∷ src) = let p = piece quote (b ∷ src) in map (given place) p.0 ++ gives quote (suc place) p.1 src
-
-abbrev pub bytes_of : List Given → List ℕ
-bytes_of gs = map (λ g. g.byte) gs
-
-abbrev pub places_of : List Given → List ℕ
-places_of gs = map (λ g. g.place) gs
+pub data IsString (text value : List ℕ) : Type 0 where
+  -- in quotes, on one line, with escapes; its value is UTF-8
+  in_quotes : (quote : ℕ) (inner : List ℕ) →
+      IsQuote quote → text ≡ quote ∷ (inner ++ quote ∷ []) → IsInner quote inner → HasValue quote inner value → IsUtf8 value →
+      IsString text value
+  -- in back quotes, taken as it stands
+  in_back_quotes : text ≡ 96 ∷ (value ++ 96 ∷ []) → Each is_no_back_quote value → IsString text value

@@ -1,56 +1,59 @@
--- The tokens of a text.
-use Rattle.std.specs.Prelude.{◌≡◌, ℕ, ◌+◌, List, [], ◌∷◌, ◌++◌, drop, Bool, true, false, Option, Some, None, Result, Ok, Err}
+-- The tokens of a text, and its first breach.
+use Rattle.std.specs.Prelude.{◌≡◌, ℕ, ◌+◌, List, [], ◌∷◌, ◌++◌, length, slice_index, false, Result, Ok, Err}
+use Rattle.std.specs.List.{flat_map}
+use Rattle.lf_base.specs.declared.kind.Kind.{Kind}
 use Rattle.lf_base.specs.declared.place.Span.{Span}
 use Rattle.lf_base.specs.declared.refusal.Refusal.{Refusal}
 use Rattle.lf_base.specs.declared.refusal.Refusal.TheVariants.{At, Memory}
-use Rattle.lf_lex.specs.declared.token.Sign.{Sign}
-use Rattle.lf_lex.specs.declared.token.Sign.TheVariants.{OpenBracket, CloseBracket}
 use Rattle.lf_lex.specs.declared.token.Token.{Token}
-use Rattle.lf_lex.specs.declared.token.TokenKind.{TokenKind}
-use Rattle.lf_lex.specs.declared.token.TokenKind.TheVariants as kinds
-use Rattle.lf_lex.specs.Steps.{Fault, in_source, front_of}
+use Rattle.lf_lex.specs.Parts.{Part, Written, part_text, behind_parts, AreParts}
+use Rattle.lf_lex.specs.Breaches.{IsBreach}
 
--- whether a bracket is open behind a sign, a token, or what stands between tokens
-abbrev pub behind_sign : Sign → Bool → Bool
-behind_sign OpenBracket inside = true
-behind_sign CloseBracket inside = false
-behind_sign _ inside = inside
+-- Entry k of `from` is the offset in the source of byte k of the text. So the bytes from `start` up to `end` of the text stand there in the source:
+abbrev pub in_source : List ℕ → ℕ → ℕ → Span
+in_source from start end = record { start = slice_index from start; end = slice_index from end }
 
-abbrev pub behind_token : TokenKind → Bool → Bool
-behind_token (kinds.Sign sign) inside = behind_sign sign inside
-behind_token _ inside = inside
+-- the token that a part is, if it is one
+abbrev pub token_of : Part → Span → List Token
+token_of (Written kind text) span = record { kind = kind; span = span } ∷ []
+token_of _ span = []
 
-abbrev pub behind : Option TokenKind → Bool → Bool
-behind None inside = inside
-behind (Some kind) inside = behind_token kind inside
+-- the tokens of parts, the first of which begins at byte `at` of the text
+abbrev pub tokens_of : List ℕ → ℕ → List Part → List Token
+tokens_of from at [] = []
+tokens_of from at (part ∷ parts) = let end = at + length (part_text part) in token_of part (in_source from at end) ++ tokens_of from end parts
 
-abbrev pub tokens_at : Option TokenKind → Span → List Token
-tokens_at None span = []
-tokens_at (Some kind) span = record { kind = kind; span = span } ∷ []
+-- The text is parts, and these are its tokens.
+pub record Tokens (from text : List ℕ) (tokens : List Token) : Type 0 where
+  pub parts : List Part
+  pub source : text ≡ flat_map part_text parts
+  pub are_parts : AreParts false parts []
+  pub tokens_are : tokens ≡ tokens_of from 0 parts
 
-abbrev pub with_front : List Token → Result (List Token) Fault → Result (List Token) Fault
-with_front tokens (Ok more) = Ok (tokens ++ more)
-with_front tokens (Err fault) = Err fault
+-- A rule that is broken, and where in the source.
+pub record Fault : Type 0 where
+  pub kind : Kind
+  pub span : Span
 
--- `Reads from inside at src answer`: the bytes `src`, the first of which is byte `at` of the text, are read as these tokens, or broken by this fault, the first from
--- the left. `inside` says that the last bracket before them is open.
-pub data Reads (from : List ℕ) : Bool → ℕ → List ℕ → Result (List Token) Fault → Type 0 where
-  ends : {inside : Bool} {at : ℕ} → Reads from inside at [] (Ok [])
-  goes_on : {inside : Bool} {at b : ℕ} {src : List ℕ} {answer : Result (List Token) Fault} (found : Option TokenKind) (n : ℕ) →
-      front_of from inside at (b ∷ src) ≡ Ok (found, n) →
-      Reads from (behind found inside) (at + n) (drop n (b ∷ src)) answer →
-      Reads from inside at (b ∷ src) (with_front (tokens_at found (in_source from at (at + n))) answer)
-  breaks : {inside : Bool} {at b : ℕ} {src : List ℕ} (fault : Fault) →
-      front_of from inside at (b ∷ src) ≡ Err fault →
-      Reads from inside at (b ∷ src) (Err fault)
+-- The text is parts, and then something that breaks a rule.
+pub record Breaks (from text : List ℕ) (fault : Fault) : Type 0 where
+  pub parts : List Part
+  pub rest : List ℕ
+  pub source : text ≡ flat_map part_text parts ++ rest
+  pub are_parts : AreParts false parts rest
+  pub start : ℕ
+  pub end : ℕ
+  pub breach : IsBreach (behind_parts parts false) rest fault.kind start end
+  pub span_is : fault.span ≡ (let at = length (flat_map part_text parts) in in_source from (at + start) (at + end))
 
--- The tokens of a text whose bytes have the offsets `from` in the source.
-abbrev pub Tokens : List ℕ → List ℕ → List Token → Type 0
-Tokens from text tokens = Reads from false 0 text (Ok tokens)
+-- What was returned is this answer, unless memory ran out.
+abbrev pub Refuses : {X : Type 0} → Refusal → Result X Fault → Type 0
+Refuses Memory answer = Unit {0}
+Refuses (At kind span) answer = answer ≡ Err (record { kind = kind; span = span })
 
--- The breach of a text that has no tokens.
-abbrev pub Breaks : List ℕ → List ℕ → Fault → Type 0
-Breaks from text fault = Reads from false 0 text (Err fault)
+abbrev pub Answers : {X : Type 0} → Result X Refusal → Result X Fault → Type 0
+Answers (Ok x) answer = answer ≡ Ok x
+Answers (Err e) answer = Refuses e answer
 
 -- what holds of a refusal's fault
 abbrev pub IfAt : Refusal → (Fault → Type 0) → Type 0

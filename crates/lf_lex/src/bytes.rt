@@ -2,7 +2,7 @@
 ghost use Rattle.std.specs.Prelude.{◌≡◌, ℕ, Bool, ◌≤◌, length, drop, take, not};
 ghost use Rattle.std.specs.List.{prefix_len};
 ghost use Rattle.lf_lex.specs.Bytes as class_of;
-ghost use Rattle.lf_lex.specs.Rows.{is_in_class};
+ghost use Rattle.lf_lex.specs.reading.Rows.{is_in_class};
 
 /// What a row is made of.
 #[derive(Clone, Copy, PartialEq, Eq, Debug)]

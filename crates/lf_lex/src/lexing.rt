@@ -1,8 +1,8 @@
 //! From a text to its tokens.
-ghost use Rattle.std.specs.Prelude.{◌≡◌, ◌+◌, ◌++◌, ◌≤◌, List, ℕ, length, Ok, Err, IfOk, IfErr, OnOk};
+ghost use Rattle.std.specs.Prelude.{◌≡◌, ◌+◌, ◌++◌, ◌≤◌, List, ℕ, length, false, Ok, Err, IfOk, IfErr, OnOk};
 ghost use Rattle.std.specs.List.Sorted.{IsNonDecreasing, IsNonDecreasingBy};
-ghost use Rattle.lf_lex.specs.Steps.{Fault, Gives, in_source};
-ghost use Rattle.lf_lex.specs.Tokens as told;
+ghost use Rattle.lf_lex.specs.Tokens.{Tokens, Breaks, Fault, Answers, IfAt};
+ghost use Rattle.lf_lex.specs.reading.Reads as reading;
 ghost use Rattle.lf_lex.specs.declared.token.Token.{Token};
 
 use crate::step::front;
@@ -12,7 +12,7 @@ use std::alloc::Global;
 
 /// Whether a bracket is open behind what was found.
 fn behind(found: &Option<TokenKind>, inside: bool) -> bool
-    ensures { result ≡ told.behind found.now inside }
+    ensures { result ≡ reading.behind found.now inside }
 {
     match found {
         Some(
@@ -31,7 +31,7 @@ fn behind(found: &Option<TokenKind>, inside: bool) -> bool
 
 /// Appends a token, where one was found.
 fn push(tokens: &mut Seq<Token>, found: Option<TokenKind>, span: Span) -> Result<(), Memory>
-    ensures { OnOk result (tokens.new ≡ tokens.old ++ told.tokens_at found span) }
+    ensures { OnOk result (tokens.new ≡ tokens.old ++ reading.tokens_at found span) }
 {
     match found {
         None => Ok(()),
@@ -48,25 +48,25 @@ pub fn lex(alloc: Global, text: &Text, from: &Seq<u32>) -> Result<Seq<Token>, Re
     requires from { length from.now ≡ length text.now + 1 }
     requires rises { IsNonDecreasing from.now }
     // What is answered are the text's tokens.
-    ensures found { IfOk result (λ tokens. told.Tokens from.now text.now tokens) }
+    ensures found { IfOk result (Tokens from.now text.now) }
     // They are answered, unless memory runs out; so no text has two lists of tokens.
-    ensures only { (tokens : List Token) → told.Tokens from.now text.now tokens → Gives result (Ok tokens) }
+    ensures only { (tokens : List Token) → Tokens from.now text.now tokens → Answers result (Ok tokens) }
     // What is refused is the breach of a text.
-    ensures refused { IfErr result (λ refusal. told.IfAt refusal (told.Breaks from.now text.now)) }
+    ensures refused { IfErr result (λ refusal. IfAt refusal (Breaks from.now text.now)) }
     // It is refused, unless memory runs out; so no text has two breaches, nor one and tokens.
-    ensures breach { (fault : Fault) → told.Breaks from.now text.now fault → Gives result (Err fault) }
+    ensures breach { (fault : Fault) → Breaks from.now text.now fault → Answers result (Err fault) }
     // Tokens stand in the order of the source.
     ensures ordered { IfOk result (λ tokens. IsNonDecreasingBy (λ token. token.span.start) tokens) }
 {
     read(alloc, text.as_str(), from.as_slice())
 }
 
-/// The same, over a plain text and list.
+/// The same over a plain text and list, told in the words of the way of reading.
 fn read(alloc: Global, text: &str, from: &[u32]) -> Result<Seq<Token>, Refusal>
     requires from { length from.now ≡ length text.now + 1 }
     requires rises { IsNonDecreasing from.now }
-    ensures found { IfOk result (λ tokens. told.Tokens from.now text.now tokens) }
-    ensures refused { IfErr result (λ refusal. told.IfAt refusal (told.Breaks from.now text.now)) }
+    ensures found { IfOk result (λ tokens. reading.Reads from.now false 0 text.now (Ok tokens)) }
+    ensures refused { IfErr result (λ refusal. IfAt refusal (λ fault. reading.Reads from.now false 0 text.now (Err fault))) }
     ensures ordered { IfOk result (λ tokens. IsNonDecreasingBy (λ token. token.span.start) tokens) }
 {
     let mut tokens = Seq::new(alloc);

@@ -12,6 +12,6 @@ mod string;
 mod tests;
 mod token;
 
-pub use laws::{closes, durations, one_reading, values};
+pub use laws::{one_reading, wrong_escapes};
 pub use lexing::lex;
 pub use token::{Sign, Token, TokenKind};

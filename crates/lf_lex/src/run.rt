@@ -2,7 +2,8 @@
 ghost use Rattle.std.specs.Prelude.{◌≡◌, ◌≤◌, ◌<◌, length, Option, Some, None, IfSome, true, count_by, ◌&&◌, nat_le};
 ghost use Rattle.std.specs.List.{list_all, list_any};
 ghost use Rattle.lf_lex.specs.Bytes as bytes;
-ghost use Rattle.lf_lex.specs.Runs as runs;
+ghost use Rattle.lf_lex.specs.Runs.{begins_run};
+ghost use Rattle.lf_lex.specs.reading.Runs as runs;
 
 use crate::bytes::{
     Class, after, before, is_digit, is_dot, is_exponent, is_hexadecimal, is_plus_minus, row_len,
@@ -10,7 +11,7 @@ use crate::bytes::{
 
 /// Whether a run begins here: a digit, or a dot before a digit.
 pub fn begins_run(rest: &[u8]) -> bool
-    ensures { result ≡ runs.begins_run rest.now }
+    ensures { result ≡ begins_run rest.now }
 {
     match rest {
         [] => false,
@@ -32,7 +33,7 @@ fn begins_signed(rest: &[u8]) -> bool
 }
 
 /// How many bytes the run at the front has.
-#[tactic(auto, unfolding(crate::specs::Runs::run_len))]
+#[tactic(auto, unfolding(crate::specs::reading::Runs::run_len))]
 pub fn run_len(rest: &[u8]) -> usize
     ensures value { result ≡ runs.run_len rest.now }
     ensures within { result ≤ length rest.now }
@@ -47,7 +48,7 @@ pub fn run_len(rest: &[u8]) -> usize
 
 /// Whether there is a byte, and each is a hexadecimal digit.
 fn are_hexadecimal(digits: &[u8]) -> bool
-    ensures { result ≡ runs.are_some bytes.is_hexadecimal digits.now }
+    ensures { result ≡ bytes.are_some bytes.is_hexadecimal digits.now }
 {
     match digits {
         [] => false,
@@ -63,7 +64,7 @@ fn all_hexadecimal(digits: &[u8]) -> bool
 
 /// Whether there is a byte, and each is a digit.
 fn are_digits(digits: &[u8]) -> bool
-    ensures { result ≡ runs.are_some bytes.is_digit digits.now }
+    ensures { result ≡ bytes.are_some bytes.is_digit digits.now }
 {
     match digits {
         [] => false,
@@ -77,7 +78,7 @@ fn all_digits(digits: &[u8]) -> bool
     digits.iter().all(|byte| is_digit(*byte))
 }
 
-#[tactic(auto, unfolding(crate::specs::Runs::is_hexadecimal_number))]
+#[tactic(auto, unfolding(crate::specs::reading::Runs::is_hexadecimal_number))]
 fn is_hexadecimal_number(run: &[u8]) -> bool
     ensures { result ≡ runs.is_hexadecimal_number run.now }
 {
@@ -90,7 +91,7 @@ fn is_hexadecimal_number(run: &[u8]) -> bool
     }
 }
 
-#[tactic(auto, unfolding(crate::specs::Runs::is_mantissa))]
+#[tactic(auto, unfolding(crate::specs::reading::Runs::is_mantissa))]
 fn is_mantissa(front: &[u8]) -> bool
     ensures { result ≡ runs.is_mantissa front.now }
 {
@@ -125,7 +126,7 @@ fn are_signed(rest: &[u8]) -> bool
     }
 }
 
-#[tactic(auto, unfolding(crate::specs::Runs::is_exponent_part))]
+#[tactic(auto, unfolding(crate::specs::reading::Runs::is_exponent_part))]
 fn is_exponent_part(rest: &[u8]) -> bool
     ensures { result ≡ runs.is_exponent_part rest.now }
 {
@@ -135,7 +136,7 @@ fn is_exponent_part(rest: &[u8]) -> bool
     }
 }
 
-#[tactic(auto, unfolding(crate::specs::Runs::is_decimal_number))]
+#[tactic(auto, unfolding(crate::specs::reading::Runs::is_decimal_number))]
 fn is_decimal_number(run: &[u8]) -> bool
     ensures { result ≡ runs.is_decimal_number run.now }
 {
@@ -144,14 +145,14 @@ fn is_decimal_number(run: &[u8]) -> bool
 }
 
 /// Whether a run is a number.
-#[tactic(auto, unfolding(crate::specs::Runs::is_number))]
+#[tactic(auto, unfolding(crate::specs::reading::Runs::is_number))]
 pub fn is_number(run: &[u8]) -> bool
     ensures { result ≡ runs.is_number run.now }
 {
     is_hexadecimal_number(run) || is_decimal_number(run)
 }
 
-#[tactic(auto, unfolding(crate::specs::Runs::place_of_letter))]
+#[tactic(auto, unfolding(crate::specs::reading::Runs::place_of_letter))]
 fn place_of_letter(byte: u8) -> Option<u8>
     ensures value { result ≡ runs.place_of_letter byte }
     ensures small { IfSome result (λ place. place < 7) }
@@ -179,7 +180,7 @@ fn one_letter(place: Option<u8>) -> Option<(u8, usize)>
 }
 
 /// The unit at the front: its place in the order `y w d h m s ms`, and how many letters it has.
-#[tactic(auto, unfolding(crate::specs::Runs::unit_at))]
+#[tactic(auto, unfolding(crate::specs::reading::Runs::unit_at))]
 fn unit_at(rest: &[u8]) -> Option<(u8, usize)>
     ensures value { result ≡ runs.unit_at rest.now }
     ensures small { IfSome result (λ unit. unit.0 < 7) }

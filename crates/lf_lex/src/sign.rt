@@ -1,10 +1,10 @@
 //! The table of signs.
 ghost use Rattle.std.specs.Prelude.{◌≡◌, ◌≤◌, ◌<◌, length, IfSome, Option, Some, None};
-ghost use Rattle.lf_lex.specs.Signs.{sign_of_two, sign_of_one, sign_at, one_byte};
+ghost use Rattle.lf_lex.specs.reading.Signs.{sign_of_two, sign_of_one, sign_at, one_byte};
 
 use crate::token::Sign;
 
-#[tactic(auto, unfolding(crate::specs::Signs::sign_of_two))]
+#[tactic(auto, unfolding(crate::specs::reading::Signs::sign_of_two))]
 fn sign_of_two(byte: u8, next: u8) -> Option<Sign>
     ensures { result ≡ sign_of_two byte next }
 {
@@ -19,7 +19,7 @@ fn sign_of_two(byte: u8, next: u8) -> Option<Sign>
     }
 }
 
-#[tactic(auto, unfolding(crate::specs::Signs::sign_of_one))]
+#[tactic(auto, unfolding(crate::specs::reading::Signs::sign_of_one))]
 fn sign_of_one(byte: u8) -> Option<Sign>
     ensures { result ≡ sign_of_one byte }
 {
@@ -56,7 +56,7 @@ fn one_byte(sign: Option<Sign>) -> Option<(Sign, usize)>
 }
 
 /// The sign at the front, the longer where there are two, and how many bytes it has.
-#[tactic(auto, unfolding(crate::specs::Signs::sign_at))]
+#[tactic(auto, unfolding(crate::specs::reading::Signs::sign_at))]
 pub fn sign_at(rest: &[u8]) -> Option<(Sign, usize)>
     ensures value { result ≡ sign_at rest.now }
     ensures within { IfSome result (λ sign. (0 < sign.1) × (sign.1 ≤ length rest.now)) }

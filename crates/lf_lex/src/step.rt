@@ -4,7 +4,8 @@ ghost use Rattle.std.specs.Str.{IsCharBoundary};
 ghost use Rattle.lf_base.specs.declared.refusal.Refusal.TheVariants.{At};
 ghost use Rattle.lf_lex.specs.Bytes.{begins_word};
 ghost use Rattle.lf_lex.specs.Runs.{begins_run};
-ghost use Rattle.lf_lex.specs.Steps as steps;
+ghost use Rattle.lf_lex.specs.Tokens.{Answers, in_source};
+ghost use Rattle.lf_lex.specs.reading.Steps as steps;
 
 use crate::bytes::{self, Class, after, before, row_len};
 use crate::run::{self, duration_order, is_number, run_len};
@@ -17,7 +18,7 @@ use std::alloc::Global;
 /// The refusal of a part of the text.
 fn breach(from: &[u32], kind: Kind, start: usize, end: usize) -> Refusal
     requires { (start ≤ end) × (end < length from.now) }
-    ensures { result ≡ At kind (steps.in_source from.now start end) }
+    ensures { result ≡ At kind (in_source from.now start end) }
 {
     Refusal::At {
         kind,
@@ -47,7 +48,7 @@ fn here(text: &str, at: usize) -> &[u8]
 }
 
 /// The word at the front.
-#[tactic(auto, unfolding(crate::specs::Steps::word_front))]
+#[tactic(auto, unfolding(crate::specs::reading::Steps::word_front))]
 fn word(
     alloc: Global,
     text: &str,
@@ -56,7 +57,7 @@ fn word(
 ) -> Result<(Option<TokenKind>, usize), Refusal>
     requires within { at < length text.now }
     requires begins { begins_word inside (slice_index text.now at) ≡ true }
-    ensures told { steps.Gives result (steps.word_front inside (drop at text.now)) }
+    ensures told { Answers result (steps.word_front inside (drop at text.now)) }
     ensures within { IfOk result (λ x. (0 < x.1) × (at + x.1 ≤ length text.now)) }
 {
     let len = row_len(here(text, at), Class::Word { inside });
@@ -65,7 +66,7 @@ fn word(
 }
 
 /// The run at the front.
-#[tactic(auto, unfolding(crate::specs::Steps::run_front))]
+#[tactic(auto, unfolding(crate::specs::reading::Steps::run_front))]
 fn run(
     alloc: Global,
     text: &str,
@@ -75,7 +76,7 @@ fn run(
     requires within { at < length text.now }
     requires from { length from.now ≡ length text.now + 1 }
     requires begins { begins_run (drop at text.now) ≡ true }
-    ensures told { steps.Gives result (steps.run_front from.now at (drop at text.now)) }
+    ensures told { Answers result (steps.run_front from.now at (drop at text.now)) }
     ensures within { IfOk result (λ x. (0 < x.1) × (at + x.1 ≤ length text.now)) }
 {
     let rest = here(text, at);
@@ -96,7 +97,7 @@ fn run(
 }
 
 /// The string whose opening quote is byte `at` of the text, and between whose quotes these bytes stand.
-#[tactic(auto, unfolding(crate::specs::Steps::value_front))]
+#[tactic(auto, unfolding(crate::specs::reading::Steps::value_front))]
 fn value(
     alloc: Global,
     from: &[u32],
@@ -105,7 +106,7 @@ fn value(
     inner: &[u8],
 ) -> Result<(Option<TokenKind>, usize), Refusal>
     requires { at + 1 + length inner.now < length from.now }
-    ensures told { steps.Gives result (steps.value_front from.now at quote inner.now) }
+    ensures told { Answers result (steps.value_front from.now at quote inner.now) }
     ensures len { IfOk result (λ x. x.1 ≡ length inner.now + 2) }
 {
     let bytes = value_bytes(alloc, quote, inner)?;
@@ -122,7 +123,7 @@ fn value(
 }
 
 /// The string with escapes at the front.
-#[tactic(auto, unfolding(crate::specs::Steps::quoted_front))]
+#[tactic(auto, unfolding(crate::specs::reading::Steps::quoted_front))]
 fn quoted(
     alloc: Global,
     text: &str,
@@ -131,7 +132,7 @@ fn quoted(
 ) -> Result<(Option<TokenKind>, usize), Refusal>
     requires within { at < length text.now }
     requires from { length from.now ≡ length text.now + 1 }
-    ensures told { steps.Gives result (steps.quoted_front from.now at (drop at text.now)) }
+    ensures told { Answers result (steps.quoted_front from.now at (drop at text.now)) }
     ensures within { IfOk result (λ x. (0 < x.1) × (at + x.1 ≤ length text.now)) }
 {
     let here = here(text, at);
@@ -144,7 +145,7 @@ fn quoted(
 }
 
 /// The string in back quotes at the front.
-#[tactic(auto, unfolding(crate::specs::Steps::raw_front))]
+#[tactic(auto, unfolding(crate::specs::reading::Steps::raw_front))]
 fn raw(
     alloc: Global,
     text: &str,
@@ -154,7 +155,7 @@ fn raw(
     requires within { at < length text.now }
     requires from { length from.now ≡ length text.now + 1 }
     requires quote { slice_index text.now at ≡ 96 }
-    ensures told { steps.Gives result (steps.raw_front from.now at (drop at text.now)) }
+    ensures told { Answers result (steps.raw_front from.now at (drop at text.now)) }
     ensures within { IfOk result (λ x. (0 < x.1) × (at + x.1 ≤ length text.now)) }
 {
     let rest = after(here(text, at), 1);
@@ -168,11 +169,11 @@ fn raw(
 }
 
 /// The sign at the front.
-#[tactic(auto, unfolding(crate::specs::Steps::sign_front))]
+#[tactic(auto, unfolding(crate::specs::reading::Steps::sign_front))]
 fn sign(text: &str, from: &[u32], at: usize) -> Result<(Option<TokenKind>, usize), Refusal>
     requires within { at < length text.now }
     requires from { length from.now ≡ length text.now + 1 }
-    ensures told { steps.Gives result (steps.sign_front from.now at (drop at text.now)) }
+    ensures told { Answers result (steps.sign_front from.now at (drop at text.now)) }
     ensures within { IfOk result (λ x. (0 < x.1) × (at + x.1 ≤ length text.now)) }
 {
     let rest = here(text, at);
@@ -187,7 +188,7 @@ fn sign(text: &str, from: &[u32], at: usize) -> Result<(Option<TokenKind>, usize
 
 /// What stands at byte `at` of the text, and how many bytes it has: a token, or none for blanks and comments. `inside` says that the last bracket before it is
 /// open.
-#[tactic(auto, unfolding(crate::specs::Steps::front_of, crate::specs::Steps::comment_front))]
+#[tactic(auto, unfolding(crate::specs::reading::Steps::front_of, crate::specs::reading::Steps::comment_front))]
 pub fn front(
     alloc: Global,
     text: &str,
@@ -197,7 +198,7 @@ pub fn front(
 ) -> Result<(Option<TokenKind>, usize), Refusal>
     requires within { at < length text.now }
     requires from { length from.now ≡ length text.now + 1 }
-    ensures told { steps.Gives result (steps.front_of from.now inside at (drop at text.now)) }
+    ensures told { Answers result (steps.front_of from.now inside at (drop at text.now)) }
     ensures within { IfOk result (λ x. (0 < x.1) × (at + x.1 ≤ length text.now)) }
 {
     let rest = here(text, at);

@@ -1,7 +1,8 @@
 //! Strings in quotes: where they close, and what their escapes give.
 ghost use Rattle.std.specs.Prelude.{◌≡◌, ℕ, ◌+◌, ◌≤◌, ◌<◌, ◌^◌, ◌++◌, length, drop, take, Option, Some, None, IfSome, IfOk, OnOk, encode_utf8, slice_index, not, ◌&&◌, ◌==◌};
-ghost use Rattle.lf_lex.specs.Strings as strings;
-ghost use Rattle.lf_lex.specs.Escapes.{told_of, given_by};
+ghost use Rattle.lf_lex.specs.Strings.{byte_of_letter, hexadecimal_value};
+ghost use Rattle.lf_lex.specs.reading.Strings as strings;
+ghost use Rattle.lf_lex.specs.reading.Escapes.{told_of, given_by};
 
 use crate::bytes::{after, is_digit, is_octal};
 use lf_base::Memory;
@@ -41,7 +42,7 @@ pub enum Escaped {
 
 #[tactic(auto, unfolding(crate::specs::Strings::byte_of_letter))]
 fn byte_of_letter(letter: u8) -> Option<u8>
-    ensures { result ≡ strings.byte_of_letter letter }
+    ensures { result ≡ byte_of_letter letter }
 {
     match letter {
         b'a' => Some(7),
@@ -58,7 +59,7 @@ fn byte_of_letter(letter: u8) -> Option<u8>
 
 #[tactic(auto, unfolding(crate::specs::Strings::hexadecimal_value))]
 fn hexadecimal_value(byte: u8) -> Option<u8>
-    ensures value { result ≡ strings.hexadecimal_value byte }
+    ensures value { result ≡ hexadecimal_value byte }
     ensures small { IfSome result (λ n. n < 16) }
 {
     match byte {
@@ -70,7 +71,7 @@ fn hexadecimal_value(byte: u8) -> Option<u8>
 }
 
 /// The number of the two hexadecimal digits at the front.
-#[tactic(auto, unfolding(crate::specs::Strings::two_digits))]
+#[tactic(auto, unfolding(crate::specs::reading::Strings::two_digits))]
 fn two_digits(rest: &[u8]) -> Option<u8>
     ensures value { result ≡ strings.two_digits rest.now }
     ensures room { IfSome result (λ _. 2 ≤ length rest.now) }
@@ -87,7 +88,7 @@ fn two_digits(rest: &[u8]) -> Option<u8>
 }
 
 /// The number of the four hexadecimal digits at the front.
-#[tactic(auto, unfolding(crate::specs::Strings::four_digits))]
+#[tactic(auto, unfolding(crate::specs::reading::Strings::four_digits))]
 fn four_digits(rest: &[u8]) -> Option<u16>
     ensures value { result ≡ strings.four_digits rest.now }
     ensures room { IfSome result (λ _. 4 ≤ length rest.now) }
@@ -98,7 +99,7 @@ fn four_digits(rest: &[u8]) -> Option<u16>
 }
 
 /// The number of the eight hexadecimal digits at the front.
-#[tactic(auto, unfolding(crate::specs::Strings::eight_digits))]
+#[tactic(auto, unfolding(crate::specs::reading::Strings::eight_digits))]
 fn eight_digits(rest: &[u8]) -> Option<u32>
     ensures value { result ≡ strings.eight_digits rest.now }
     ensures room { IfSome result (λ _. 8 ≤ length rest.now) }
@@ -109,7 +110,7 @@ fn eight_digits(rest: &[u8]) -> Option<u32>
 }
 
 /// The number of the three octal digits at the front, at most 377 in octal.
-#[tactic(auto, unfolding(crate::specs::Strings::octal_byte, crate::specs::Bytes::is_octal))]
+#[tactic(auto, unfolding(crate::specs::reading::Strings::octal_byte, crate::specs::Bytes::is_octal))]
 fn octal_byte(rest: &[u8]) -> Option<u8>
     ensures { result ≡ strings.octal_byte rest.now }
 {
@@ -136,7 +137,7 @@ fn as_byte(count: usize, byte: Option<u8>) -> Option<(Escaped, usize)>
     }
 }
 
-#[tactic(auto, unfolding(crate::specs::Strings::is_scalar))]
+#[tactic(auto, unfolding(crate::specs::reading::Strings::is_scalar))]
 fn as_character(count: usize, number: Option<u32>) -> Option<(Escaped, usize)>
     ensures { told_of result ≡ strings.as_character count number }
 {
@@ -150,7 +151,7 @@ fn as_character(count: usize, number: Option<u32>) -> Option<(Escaped, usize)>
 }
 
 /// The escape behind a backslash in a string with this quote, and how many bytes tell it.
-#[tactic(auto, unfolding(crate::specs::Strings::escape))]
+#[tactic(auto, unfolding(crate::specs::reading::Strings::escape))]
 fn escape(quote: u8, rest: &[u8]) -> Option<(Escaped, usize)>
     ensures { told_of result ≡ strings.escape quote rest.now }
 {
@@ -185,7 +186,7 @@ fn widened(number: Option<u16>) -> Option<u32>
 
 /// What the front between the quotes gives, and how many bytes behind the first belong to it. A backslash with which no escape begins gives a byte that stands
 /// in no UTF-8.
-#[tactic(auto, unfolding(crate::specs::Strings::piece))]
+#[tactic(auto, unfolding(crate::specs::reading::Strings::piece))]
 fn piece(quote: u8, rest: &[u8]) -> (Escaped, usize)
     requires { 0 < length rest.now }
     ensures { (given_by result.0, result.1) ≡ strings.piece quote rest.now }

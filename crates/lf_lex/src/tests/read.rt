@@ -85,9 +85,9 @@ fn signs_and_comments(rt: HostRuntime) -> Result<(), Fail> {
     Ok(())
 }
 
-/// A text whose source has more between its two words than the text has, as where YAML folds lines.
+/// Texts whose source has more than they have: between two words, as where YAML folds lines, and where one escape of YAML gives a character's two bytes.
 #[test]
-fn a_folded_text(rt: HostRuntime) -> Result<(), Fail> {
+fn folded_texts(rt: HostRuntime) -> Result<(), Fail> {
     let from = Seq::of(rt.alloc(), &[10_u32, 11, 12, 17, 18, 19])?;
     reads(
         &rt,
@@ -95,6 +95,14 @@ fn a_folded_text(rt: HostRuntime) -> Result<(), Fail> {
         "ab cd",
         &from,
         "word ab at 10 to 12; word cd at 17 to 19; ",
+    )?;
+    let from = Seq::of(rt.alloc(), &[10_u32, 11, 12, 17, 18, 18, 24, 25])?;
+    reads(
+        &rt,
+        rt.alloc(),
+        "ab 'é'",
+        &from,
+        "word ab at 10 to 12; string é at 17 to 25; ",
     )?;
     Ok(())
 }

@@ -1,6 +1,6 @@
 use Rattle.std.proofs.Common.{◌≡◌, ◌+◌, drop}
 use Rattle.std.specs.List.{prefix_len}
-use Rattle.lf_lex.specs.Rows.{is_in_class}
+use Rattle.lf_lex.specs.reading.Rows.{is_in_class}
 use Rattle.lf_lex.proofs.bytes.row_len.Given as goal
 
 abbrev pub invariant-loop-i : goal.invariant-loop-i

@@ -1,5 +1,5 @@
 use Rattle.std.proofs.Common.{sym, ◌∙◌, ap, length, arith}
-use Rattle.lf_lex.specs.Runs.{unit_at}
+use Rattle.lf_lex.specs.reading.Runs.{unit_at}
 use Rattle.lf_lex.proofs.Units.{order-start, order-ended, part-none, part-wrong, part-read, not-empty, is-empty}
 use Rattle.lf_lex.proofs.run.duration_order.Goals as goal
 

@@ -1,5 +1,5 @@
 use Rattle.std.proofs.Common.{◌≡◌, false, length}
-use Rattle.lf_lex.specs.Runs.{units, duration_order}
+use Rattle.lf_lex.specs.reading.Runs.{units, duration_order}
 use Rattle.lf_lex.proofs.Units.{order_so_far}
 use Rattle.lf_lex.proofs.run.duration_order.Given as goal
 

@@ -1,5 +1,5 @@
 use Rattle.std.proofs.Common.{◌∙◌, ap, arith}
-use Rattle.lf_lex.specs.Runs.{run_len}
+use Rattle.lf_lex.specs.reading.Runs.{run_len}
 use Rattle.lf_lex.proofs.Ascii.{run_start, run_some, run_end}
 use Rattle.lf_lex.proofs.step.run.Goals as goal
 

@@ -1,7 +1,7 @@
 use Rattle.std.proofs.Common.{sym, ◌∙◌, ap, drop, ℕ, List}
 use Rattle.std.specs.List.{prefix_len}
 use Rattle.lf_lex.specs.Bytes.{is_continuation}
-use Rattle.lf_lex.specs.Signs.{sign_at}
+use Rattle.lf_lex.specs.reading.Signs.{sign_at}
 use Rattle.lf_lex.proofs.Fronts.{no_sign}
 use Rattle.lf_lex.proofs.step.sign.Goals as goal
 

@@ -1,6 +1,6 @@
 use Rattle.std.proofs.Common.{◌∙◌, ap, subst, sym, get_or, ℕ}
 use Rattle.std.specs.Str.{IsUtf8}
-use Rattle.lf_lex.specs.Strings.{gives, places_of}
+use Rattle.lf_lex.specs.reading.Strings.{gives, places_of}
 use Rattle.lf_lex.proofs.Fronts.{value_utf8, value_wrong}
 use Rattle.lf_lex.proofs.step.value.Goals as goal
 

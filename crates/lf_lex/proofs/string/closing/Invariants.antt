@@ -1,5 +1,5 @@
 use Rattle.std.proofs.Common.{◌≡◌}
-use Rattle.lf_lex.specs.Strings.{closing}
+use Rattle.lf_lex.specs.reading.Strings.{closing}
 use Rattle.lf_lex.proofs.Closing.{passed}
 use Rattle.lf_lex.proofs.string.closing.Given as goal
 

@@ -1,5 +1,5 @@
 use Rattle.std.proofs.Common.{◌≡◌, ◌<◌, length, drop, get_or}
-use Rattle.lf_lex.specs.Strings.{gives, places_of}
+use Rattle.lf_lex.specs.reading.Strings.{gives, places_of}
 use Rattle.lf_lex.proofs.string.place_of_byte.Given as goal
 
 abbrev pub invariant-loop-i : goal.invariant-loop-i

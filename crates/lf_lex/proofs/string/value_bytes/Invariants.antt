@@ -1,5 +1,5 @@
 use Rattle.std.proofs.Common.{◌≡◌, ◌++◌, drop}
-use Rattle.lf_lex.specs.Strings.{gives, bytes_of}
+use Rattle.lf_lex.specs.reading.Strings.{gives, bytes_of}
 use Rattle.lf_lex.proofs.string.value_bytes.Given as goal
 
 abbrev pub invariant-loop-i : goal.invariant-loop-i

@@ -1,4 +1,4 @@
--- Rows of bytes of one class.
+-- The classes that the code goes over in rows.
 use Rattle.std.specs.Prelude.{ℕ, Bool, not, ◌==◌}
 use Rattle.lf_lex.specs.declared.bytes.Class.{Class}
 use Rattle.lf_lex.specs.declared.bytes.Class.TheVariants as classes

@@ -1,29 +1,19 @@
--- What stands at the front of a text: a token, something between tokens, or a breach.
-use Rattle.std.specs.Prelude.{◌≡◌, ℕ, ◌+◌, List, length, take, drop, slice_index, Bool, true, false, not, ◌==◌, ◌||◌, nat_lt, Option, Some, None, Result, Ok, Err, if◌then◌else◌}
+-- A way of reading what stands at the front of a text, which defines nothing: a token, something between tokens, or a breach.
+use Rattle.std.specs.Prelude.{ℕ, ◌+◌, List, length, take, drop, slice_index, Bool, true, false, not, ◌==◌, ◌||◌, nat_lt, Option, Some, None, Result, Ok, Err, if◌then◌else◌}
 use Rattle.std.specs.List.{prefix_len}
 use Rattle.std.specs.Str.{is_utf8}
 use Rattle.std.specs.Str.Lossy.{utf8_valid_len}
 use Rattle.lf_base.specs.declared.kind.Kind.{Kind}
 use Rattle.lf_base.specs.declared.kind.Kind.TheVariants.{BadByte, OpenString, BadEscape, BadNumber, BadDuration}
-use Rattle.lf_base.specs.declared.place.Span.{Span}
-use Rattle.lf_base.specs.declared.refusal.Refusal.{Refusal}
-use Rattle.lf_base.specs.declared.refusal.Refusal.TheVariants.{At, Memory}
 use Rattle.lf_lex.specs.declared.token.Sign.{Sign}
 use Rattle.lf_lex.specs.declared.token.TokenKind.{TokenKind}
 use Rattle.lf_lex.specs.declared.token.TokenKind.TheVariants as kinds
 use Rattle.lf_lex.specs.Bytes.{is_blank, is_line_feed, begins_word, is_in_word, is_continuation}
-use Rattle.lf_lex.specs.Runs.{begins_run, run_len, is_number, duration_order}
-use Rattle.lf_lex.specs.Strings.{closing, gives, bytes_of, places_of}
-use Rattle.lf_lex.specs.Signs.{sign_at}
-
--- A rule that is broken, and where in the source.
-pub record Fault : Type 0 where
-  pub kind : Kind
-  pub span : Span
-
--- Entry k of `from` is the offset in the source of byte k of the text. So the bytes from `start` up to `end` of the text stand there in the source:
-abbrev pub in_source : List ℕ → ℕ → ℕ → Span
-in_source from start end = record { start = slice_index from start; end = slice_index from end }
+use Rattle.lf_lex.specs.reading.Runs.{run_len, is_number, duration_order}
+use Rattle.lf_lex.specs.Runs.{begins_run}
+use Rattle.lf_lex.specs.reading.Strings.{closing, gives, bytes_of, places_of}
+use Rattle.lf_lex.specs.reading.Signs.{sign_at}
+use Rattle.lf_lex.specs.Tokens.{Fault, in_source}
 
 abbrev pub breach : {X : Type 0} → List ℕ → Kind → ℕ → ℕ → Result X Fault
 breach from kind start end = Err (record { kind = kind; span = in_source from start end })
@@ -88,12 +78,3 @@ unfoldable pub front_of : List ℕ → Bool → ℕ → List ℕ → Result Fron
 front_of from inside at src =
     let b = slice_index src 0 in
     if is_blank b then gap 1 else if b == 35 then comment_front src else if begins_word inside b then word_front inside src else if begins_run src then run_front from at src else if b == 34 || b == 39 then quoted_front from at src else if b == 96 then raw_front from at src else sign_front from at src
-
--- What a function returned is what reading gives, unless memory ran out.
-abbrev pub Fails : {X : Type 0} → Refusal → Result X Fault → Type 0
-Fails Memory read = Unit {0}
-Fails (At kind span) read = read ≡ Err (record { kind = kind; span = span })
-
-abbrev pub Gives : {X : Type 0} → Result X Refusal → Result X Fault → Type 0
-Gives (Ok x) read = read ≡ Ok x
-Gives (Err e) read = Fails e read

@@ -1,0 +1,209 @@
+-- A text has one list of tokens or one breach, and it is read as that.
+use Rattle.std.proofs.Common.{◌≡◌, ℕ, zero, suc, ◌+◌, ◌<◌, Bool, false, List, [], ◌∷◌, ◌++◌, length, drop, Option, Result, Ok, Err, refl, ap, arith, append_assoc, append-nil, sym, ◌∙◌, subst, ◌⊎◌, inl, inr, length-append}
+use Rattle.std.specs.Prelude.{IfOk, IfErr}
+use Rattle.std.specs.List.{flat_map}
+use Rattle.lf_base.specs.declared.kind.Kind.{Kind}
+use Rattle.lf_base.specs.declared.place.Span.{Span}
+use Rattle.lf_base.specs.declared.refusal.Refusal.{Refusal}
+use Rattle.lf_base.specs.declared.refusal.Refusal.TheVariants.{At, Memory}
+use Rattle.lf_lex.specs.declared.token.Token.{Token}
+use Rattle.lf_lex.specs.declared.token.TokenKind.{TokenKind}
+use Rattle.lf_lex.specs.Parts.{Part, Blank, Comment, Written, part_text, IsPart, behind_part, behind_parts, AreParts}
+use Rattle.lf_lex.specs.Breaches.{IsBreach}
+use Rattle.lf_lex.specs.Tokens.{in_source, token_of, tokens_of, Tokens, Fault, Breaks, IfAt}
+use Rattle.lf_lex.specs.reading.Steps.{front_of}
+use Rattle.lf_lex.specs.reading.Reads.{Reads, ends, goes_on, breaks, behind, tokens_at, with_front}
+use Rattle.lf_lex.proofs.Longest.{drop_same}
+use Rattle.lf_lex.proofs.FrontLaws.{found_of, part_reads, breach_reads, something_stands, part_some, breach_some}
+use Rattle.lf_lex.proofs.Reading.{one_reading, fronts}
+use Rattle.lf_lex.proofs.Standing.{Standing, stands, fails}
+
+abbrev Answer : Type 0
+Answer = Result (List Token) Fault
+
+abbrev ok_tokens : List Token → Answer
+ok_tokens tokens = Ok tokens
+
+abbrev err_fault : Fault → Answer
+err_fault fault = Err fault
+
+-- ---- what the grammar has is read
+
+module _ (from : List ℕ) where
+  front_goes_on : (inside : Bool) (at n : ℕ) (src : List ℕ) (found : Option TokenKind) (answer : Answer) → 0 < length src → front_of from inside at src ≡ Ok (found, n)
+      → Reads from (behind found inside) (at + n) (drop n src) answer → Reads from inside at src (with_front (tokens_at found (in_source from at (at + n))) answer)
+  front_goes_on inside at n [] found answer lt e h = absurd (omega arith)
+  front_goes_on inside at n (b ∷ src) found answer lt e h = goes_on found n e h
+
+  front_breaks : (inside : Bool) (at : ℕ) (src : List ℕ) (fault : Fault) → 0 < length src → front_of from inside at src ≡ Err fault → Reads from inside at src (Err fault)
+  front_breaks inside at [] fault lt e = absurd (omega arith)
+  front_breaks inside at (b ∷ src) fault lt e = breaks fault e
+
+  same_behind : (part : Part) (inside : Bool) → behind (found_of part) inside ≡ behind_part part inside
+  same_behind (Blank b) inside = refl
+  same_behind (Comment line) inside = refl
+  same_behind (Written kind text) inside = refl
+
+  same_tokens : (part : Part) (span : Span) → tokens_at (found_of part) span ≡ token_of part span
+  same_tokens (Blank b) span = refl
+  same_tokens (Comment line) span = refl
+  same_tokens (Written kind text) span = refl
+
+  pub parts_read : (parts : List Part) (inside : Bool) (at : ℕ) (rest : List ℕ) (answer : Answer) → AreParts inside parts rest
+      → Reads from (behind_parts parts inside) (at + length (flat_map part_text parts)) rest answer → Reads from inside at (flat_map part_text parts ++ rest) (with_front (tokens_of from at parts) answer)
+  parts_read [] inside at rest answer are h =
+      let e : at + 0 ≡ at = omega arith in
+      subst (Reads from inside at rest) (sym (no_front answer)) (subst (λ (k : ℕ). Reads from inside k rest answer) e h)
+    where
+      no_front : (answer : Answer) → with_front [] answer ≡ answer
+      no_front (Ok more) = refl
+      no_front (Err fault) = refl
+  parts_read (part ∷ parts) inside at rest answer are h =
+      let text = part_text part in
+      let later = flat_map part_text parts ++ rest in
+      let whole : (text ++ flat_map part_text parts) ++ rest ≡ text ++ later = append_assoc text (flat_map part_text parts) rest in
+      let l = length-append text (flat_map part_text parts) in
+      let end : at + length (text ++ flat_map part_text parts) ≡ at + length text + length (flat_map part_text parts) = omega arith in
+      let again : Reads from (behind_part part inside) (at + length text) later (with_front (tokens_of from (at + length text) parts) answer) =
+      parts_read parts (behind_part part inside) (at + length text) rest answer are.1 (subst (λ (k : ℕ). Reads from (behind_parts parts (behind_part part inside)) k rest answer) end h) in
+      let some = part_some inside part later are.0 in
+      let m = length-append text later in
+      let front = part_reads from inside at part later are.0 in
+      let moved : Reads from (behind (found_of part) inside) (at + length text) (drop (length text) (text ++ later)) (with_front (tokens_of from (at + length text) parts) answer) =
+      subst (λ (i : Bool). Reads from i (at + length text) (drop (length text) (text ++ later)) (with_front (tokens_of from (at + length text) parts) answer)) (sym (same_behind part inside))
+      (subst (λ (x : List ℕ). Reads from (behind_part part inside) (at + length text) x (with_front (tokens_of from (at + length text) parts) answer)) (sym (drop_same (length text) text later refl)) again) in
+      let step = front_goes_on inside at (length text) (text ++ later) (found_of part) (with_front (tokens_of from (at + length text) parts) answer) (omega arith) front moved in
+      let span = in_source from at (at + length text) in
+      let joined : with_front (tokens_at (found_of part) span) (with_front (tokens_of from (at + length text) parts) answer) ≡ with_front (token_of part span ++ tokens_of from (at + length text) parts) answer =
+      ap (λ (x : List Token). with_front x (with_front (tokens_of from (at + length text) parts) answer)) (same_tokens part span) ∙ sym (fronts (token_of part span) (tokens_of from (at + length text) parts) answer) in
+      subst (λ (x : List ℕ). Reads from inside at x (with_front (token_of part span ++ tokens_of from (at + length text) parts) answer)) (sym whole)
+      (subst (Reads from inside at (text ++ later)) joined step)
+
+  pub tokens_read : (text : List ℕ) (tokens : List Token) → Tokens from text tokens → Reads from false 0 text (Ok tokens)
+  tokens_read text tokens t =
+      let read = parts_read t.parts false 0 [] (Ok []) t.are_parts ends in
+      let answer : with_front (tokens_of from 0 t.parts) (Ok []) ≡ ok_tokens tokens = ap ok_tokens (append-nil (tokens_of from 0 t.parts) ∙ sym t.tokens_are) in
+      let source : flat_map part_text t.parts ++ [] ≡ text = append-nil (flat_map part_text t.parts) ∙ sym t.source in
+      subst (λ (x : List ℕ). Reads from false 0 x (Ok tokens)) source (subst (Reads from false 0 (flat_map part_text t.parts ++ [])) answer read)
+
+  pub breach_read : (text : List ℕ) (fault : Fault) → Breaks from text fault → Reads from false 0 text (Err fault)
+  breach_read text fault b =
+      let at = length (flat_map part_text b.parts) in
+      let inside = behind_parts b.parts false in
+      let z : 0 + at ≡ at = omega arith in
+      let e : front_of from inside at b.rest ≡ Err fault = breach_reads from inside at b.rest fault.kind b.start b.end b.breach ∙ ap (λ (s : Span). Err (record { kind = fault.kind; span = s })) (sym b.span_is) in
+      let here : Reads from inside at b.rest (Err fault) = front_breaks inside at b.rest fault (breach_some inside b.rest fault.kind b.start b.end b.breach) e in
+      let read = parts_read b.parts false 0 b.rest (Err fault) b.are_parts (subst (λ (k : ℕ). Reads from inside k b.rest (Err fault)) (sym z) here) in
+      subst (λ (x : List ℕ). Reads from false 0 x (Err fault)) (sym b.source) read
+
+-- ---- each text has one of them
+
+-- a text is parts, and then nothing or a breach
+pub record Whole (inside : Bool) (src : List ℕ) : Type 0 where
+  pub parts : List Part
+  pub rest : List ℕ
+  pub source : src ≡ flat_map part_text parts ++ rest
+  pub are_parts : AreParts inside parts rest
+  pub stops : (rest ≡ []) ⊎ ((kind : Kind) × (start : ℕ) × (end : ℕ) × IsBreach (behind_parts parts inside) rest kind start end)
+
+more_whole : (inside : Bool) (part : Part) (src rest : List ℕ) → src ≡ part_text part ++ rest → IsPart inside part rest → Whole (behind_part part inside) rest → Whole inside src
+more_whole inside part src rest e is w = record {
+  parts = part ∷ w.parts;
+  rest = w.rest;
+  source = e ∙ ap (λ (x : List ℕ). part_text part ++ x) w.source ∙ sym (append_assoc (part_text part) (flat_map part_text w.parts) w.rest);
+  are_parts = (subst (IsPart inside part) w.source is, w.are_parts);
+  stops = w.stops;
+}
+
+whole : (fuel : ℕ) (inside : Bool) (src : List ℕ) → length src < fuel → Whole inside src
+whole zero inside src lt = absurd (omega arith)
+whole (suc fuel) inside [] lt = record { parts = []; rest = []; source = refl; are_parts = tt; stops = inl refl }
+whole (suc fuel) inside (b ∷ src) lt = by (λ i rest l. whole fuel i rest l) (something_stands inside b src)
+  where
+    by : ((i : Bool) (rest : List ℕ) → length rest < fuel → Whole i rest) → Standing inside (b ∷ src) → Whole inside (b ∷ src)
+    by again (stands part rest e is) =
+        let s = part_some inside part rest is in
+        let l = ap length e in
+        let m = length-append (part_text part) rest in
+        more_whole inside part (b ∷ src) rest e is (again (behind_part part inside) rest (omega arith))
+    by again (fails kind start end is) = record { parts = []; rest = b ∷ src; source = refl; are_parts = tt; stops = inr (kind, start, end, is) }
+
+module _ (from text : List ℕ) where
+  pub tokens_or_breach : ((tokens : List Token) × Tokens from text tokens) ⊎ ((fault : Fault) × Breaks from text fault)
+  tokens_or_breach = by (whole (suc (length text)) false text (omega arith))
+    where
+      by : Whole false text → ((tokens : List Token) × Tokens from text tokens) ⊎ ((fault : Fault) × Breaks from text fault)
+      by w = split w.stops
+        where
+          split : (w.rest ≡ []) ⊎ ((kind : Kind) × (start : ℕ) × (end : ℕ) × IsBreach (behind_parts w.parts false) w.rest kind start end) → ((tokens : List Token) × Tokens from text tokens) ⊎ ((fault : Fault) × Breaks from text fault)
+          split (inl e) = inl (
+            tokens_of from 0 w.parts,
+            record {
+              parts = w.parts;
+              source = w.source ∙ ap (λ (x : List ℕ). flat_map part_text w.parts ++ x) e ∙ append-nil (flat_map part_text w.parts);
+              are_parts = subst (AreParts false w.parts) e w.are_parts;
+              tokens_are = refl;
+            },
+          )
+          split (inr (kind, start, end, is)) =
+              let at = length (flat_map part_text w.parts) in
+              inr (
+                record { kind = kind; span = in_source from (at + start) (at + end) },
+                record {
+                  parts = w.parts;
+                  rest = w.rest;
+                  source = w.source;
+                  are_parts = w.are_parts;
+                  start = start;
+                  end = end;
+                  breach = is;
+                  span_is = refl;
+                },
+              )
+
+  ok_same : (a b : List Token) → ok_tokens a ≡ ok_tokens b → a ≡ b
+  ok_same a b e = cc
+
+  err_same : (a b : Fault) → err_fault a ≡ err_fault b → a ≡ b
+  err_same a b e = cc
+
+  ok_no_err : (a : List Token) (b : Fault) → ok_tokens a ≡ err_fault b → ⊥
+  ok_no_err a b e = cc
+
+  pub one_list : (tokens other : List Token) → Tokens from text tokens → Tokens from text other → tokens ≡ other
+  one_list tokens other h k = ok_same tokens other (one_reading (tokens_read from text tokens h) (tokens_read from text other k))
+
+  pub one_breach : (fault other : Fault) → Breaks from text fault → Breaks from text other → fault ≡ other
+  one_breach fault other h k = err_same fault other (one_reading (breach_read from text fault h) (breach_read from text other k))
+
+  pub not_both : (tokens : List Token) (fault : Fault) → Tokens from text tokens → Breaks from text fault → ⊥
+  not_both tokens fault h k = ok_no_err tokens fault (one_reading (tokens_read from text tokens h) (breach_read from text fault k))
+
+  -- what is read is in the grammar
+  pub read_tokens : (tokens : List Token) → Reads from false 0 text (Ok tokens) → Tokens from text tokens
+  read_tokens tokens h = by tokens_or_breach
+    where
+      by : ((other : List Token) × Tokens from text other) ⊎ ((fault : Fault) × Breaks from text fault) → Tokens from text tokens
+      by (inl (other, t)) = subst (Tokens from text) (ok_same other tokens (one_reading (tokens_read from text other t) h)) t
+      by (inr (fault, b)) = absurd (ok_no_err tokens fault (one_reading h (breach_read from text fault b)))
+
+  pub read_breach : (fault : Fault) → Reads from false 0 text (Err fault) → Breaks from text fault
+  read_breach fault h = by tokens_or_breach
+    where
+      by : ((tokens : List Token) × Tokens from text tokens) ⊎ ((other : Fault) × Breaks from text other) → Breaks from text fault
+      by (inl (tokens, t)) = absurd (ok_no_err tokens fault (one_reading (tokens_read from text tokens t) h))
+      by (inr (other, b)) = subst (Breaks from text) (err_same other fault (one_reading (breach_read from text other b) h)) b
+
+  -- ---- the clauses of `lex`
+
+  pub refusal_breach : (refusal : Refusal) → IfAt refusal (λ fault. Reads from false 0 text (Err fault)) → IfAt refusal (Breaks from text)
+  refusal_breach Memory h = tt
+  refusal_breach (At kind span) h = read_breach (record { kind = kind; span = span }) h
+
+  pub found_tokens : (r : Result (List Token) Refusal) → IfOk r (λ tokens. Reads from false 0 text (Ok tokens)) → IfOk r (Tokens from text)
+  found_tokens (Ok tokens) h = read_tokens tokens h
+  found_tokens (Err refusal) h = tt
+
+  pub refused_breach : (r : Result (List Token) Refusal) → IfErr r (λ refusal. IfAt refusal (λ fault. Reads from false 0 text (Err fault))) → IfErr r (λ refusal. IfAt refusal (Breaks from text))
+  refused_breach (Ok tokens) h = tt
+  refused_breach (Err refusal) h = refusal_breach refusal h

@@ -1,0 +1,82 @@
+-- What a text is made of: blanks, comments and tokens.
+use Rattle.std.specs.Prelude.{◌≡◌, ℕ, ◌<◌, List, [], ◌∷◌, ◌++◌, length, Bool, true, false}
+use Rattle.std.specs.List.{flat_map}
+use Rattle.lf_lex.specs.declared.token.Sign.{Sign}
+use Rattle.lf_lex.specs.declared.token.Sign.TheVariants.{OpenBracket, CloseBracket, Colon}
+use Rattle.lf_lex.specs.declared.token.TokenKind.{TokenKind}
+use Rattle.lf_lex.specs.declared.token.TokenKind.TheVariants as kinds
+use Rattle.lf_lex.specs.Bytes.{Each, is_blank, is_no_line_feed, begins_word, is_in_word}
+use Rattle.lf_lex.specs.Signs.{spelling}
+use Rattle.lf_lex.specs.Runs.{IsRun, IsNumber}
+use Rattle.lf_lex.specs.Durations.{IsDuration}
+use Rattle.lf_lex.specs.Strings.{IsString}
+
+-- `text` is of a sort, and with more of what follows it is not.
+abbrev pub IsLongest : (List ℕ → Type 0) → List ℕ → List ℕ → Type 0
+IsLongest sort text rest = sort text × ((more left : List ℕ) → rest ≡ more ++ left → 0 < length more → sort (text ++ more) → ⊥)
+
+-- A metric name: a letter, an underscore or a colon, and then these and digits. Inside brackets it has no colon.
+abbrev pub IsWord : Bool → List ℕ → Type 0
+IsWord inside [] = ⊥
+IsWord inside (b ∷ more) = (begins_word inside b ≡ true) × Each (is_in_word inside) more
+
+-- A sign, as it is written. A colon is one inside brackets alone.
+abbrev pub IsSign : Bool → Sign → List ℕ → Type 0
+IsSign inside sign text = (text ≡ spelling sign) × (sign ≡ Colon → inside ≡ true)
+
+abbrev pub IsSomeSign : Bool → List ℕ → Type 0
+IsSomeSign inside text = (sign : Sign) × IsSign inside sign text
+
+-- `text`, before `rest`, is a token of this kind. `inside` says that the last bracket before it is open.
+abbrev pub IsToken : Bool → TokenKind → List ℕ → List ℕ → Type 0
+IsToken inside (kinds.Word word) text rest = (text ≡ word) × IsLongest (IsWord inside) text rest
+IsToken inside (kinds.Number number) text rest = (text ≡ number) × IsLongest IsRun text rest × IsNumber text
+IsToken inside (kinds.Duration duration) text rest = (text ≡ duration) × IsLongest IsRun text rest × IsDuration text
+IsToken inside (kinds.Str value) text rest = IsString text value
+IsToken inside (kinds.Sign sign) text rest = IsSign inside sign text × IsLongest (IsSomeSign inside) text rest
+
+-- ---- parts
+
+-- a blank, a comment with what stands behind its #, or a token as it is written
+pub data Part : Type 0 where
+  Blank : ℕ → Part
+  Comment : List ℕ → Part
+  Written : TokenKind → List ℕ → Part
+
+abbrev pub part_text : Part → List ℕ
+part_text (Blank b) = b ∷ []
+part_text (Comment line) = 35 ∷ line
+part_text (Written kind text) = text
+
+-- the end, or a line feed
+abbrev pub EndsLine : List ℕ → Type 0
+EndsLine [] = Unit {0}
+EndsLine (b ∷ rest) = b ≡ 10
+
+abbrev pub IsPart : Bool → Part → List ℕ → Type 0
+IsPart inside (Blank b) rest = is_blank b ≡ true
+IsPart inside (Comment line) rest = Each is_no_line_feed line × EndsLine rest
+IsPart inside (Written kind text) rest = IsToken inside kind text rest
+
+-- whether the last bracket is open behind a sign, a token, a part
+abbrev pub behind_sign : Sign → Bool → Bool
+behind_sign OpenBracket inside = true
+behind_sign CloseBracket inside = false
+behind_sign _ inside = inside
+
+abbrev pub behind_token : TokenKind → Bool → Bool
+behind_token (kinds.Sign sign) inside = behind_sign sign inside
+behind_token _ inside = inside
+
+abbrev pub behind_part : Part → Bool → Bool
+behind_part (Written kind text) inside = behind_token kind inside
+behind_part _ inside = inside
+
+abbrev pub behind_parts : List Part → Bool → Bool
+behind_parts [] inside = inside
+behind_parts (part ∷ parts) inside = behind_parts parts (behind_part part inside)
+
+-- Each is what it says, before the rest of the text.
+abbrev pub AreParts : Bool → List Part → List ℕ → Type 0
+AreParts inside [] rest = Unit {0}
+AreParts inside (part ∷ parts) rest = IsPart inside part (flat_map part_text parts ++ rest) × AreParts (behind_part part inside) parts rest
