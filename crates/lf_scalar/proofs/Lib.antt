@@ -22,6 +22,7 @@ pub mod Reaching
 pub mod Vectors
 pub mod QuotedLine
 pub mod NextLine
+pub mod IndentFault
 pub mod PlainText
 pub mod Behind
 pub mod PlainCode

@@ -41,7 +41,7 @@ chosen kind above ls cs read f false = refl
 
 pub full-line : (kind : Quotes) (above : ℕ) (b : Break) (k : ℕ) (l : Line) (ls : List Line) → is_blank_line l ≡ false → lines_behind kind above b k (l ∷ ls) ≡ onward kind above ls (next_line kind above b k l)
 unfolding lines_behind
-full-line kind above b k l ls e = rw e (chosen kind above ls (filled b k) (line_of kind (unindented l)) (unindented_at l (after_spaces l.text)) (leb above (indent_of l.text)))
+full-line kind above b k l ls e = rw e (chosen kind above ls (filled b k) (line_of kind (unindented l)) (unindented_at kind l (after_spaces l.text)) (leb above (indent_of l.text)))
 
 -- what some lines give, when a text grew by what came before the lines that are left
 pub record Left (kind : Quotes) (above : ℕ) (whole : Result (List Cell) Fault) (old now : List Cell) (b : Break) (k : ℕ) (ls : List Line) : Type 0 where

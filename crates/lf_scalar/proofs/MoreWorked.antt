@@ -11,7 +11,7 @@ use Rattle.lf_base.specs.declared.place.Span.{Span}
 use Rattle.lf_scalar.specs.Cells.{Cell, cell, Value, span, fault}
 use Rattle.lf_scalar.specs.Lines.{line, lines, is_tail}
 use Rattle.lf_scalar.specs.Plain.{last, more}
-use Rattle.lf_scalar.specs.Quoted.{Quotes, Single, Double, Piece, Bare, Twice, Letter, Number, IsPiece, spelled, letter_of, width_of, Raw, One, Pair, raw, Closes, Break, Folds, Drops, HasBadEscape, open_quote, inside, outside}
+use Rattle.lf_scalar.specs.Quoted.{Quotes, Single, Double, Piece, Bare, Twice, Letter, Number, IsPiece, spelled, letter_of, width_of, Raw, One, Pair, raw, Closes, Break, Folds, Drops, IsBadEscape, HasBadEscape, open_quote, inside, outside}
 use Rattle.lf_scalar.specs.Quoted as quoted
 use Rattle.lf_scalar.specs.Block.{AreMarks, IsChomp}
 use Rattle.lf_scalar.specs.Scalars.{IsScalarAt, BreaksAt}
@@ -119,11 +119,14 @@ second-byte : (c d e f : Cell) (cs ds : List Cell) → c ∷ d ∷ cs ≡ e ∷ 
 second-byte c d e f cs ds h = cc
 
 -- no piece begins with a backslash and q
-no-piece : (p : Piece) (behind rest : List Cell) → IsPiece Double p → cell 92 5 ∷ cell 113 6 ∷ behind ≡ spelled p ++ rest → ⊥
-no-piece (Bare d) behind rest h e = h.1 (sym (first-byte (cell 92 5) d (cell 113 6 ∷ behind) rest e))
-no-piece (Twice d g) behind rest h e = h
-no-piece (Letter d g n) behind rest h e = no-letter n (ap letter_of (second-byte (cell 92 5) (cell 113 6) d g behind rest e) ∙ h.1)
-no-piece (Number d g digits n) behind rest h e = no-width (length digits) (ap width_of (second-byte (cell 92 5) (cell 113 6) d g behind (digits ++ rest) e) ∙ h.1)
+no-piece : (at : ℕ) (p : Piece) (behind rest : List Cell) → IsPiece Double p → cell 92 at ∷ cell 113 (at + 1) ∷ behind ≡ spelled p ++ rest → ⊥
+no-piece at (Bare d) behind rest h e = h.1 (sym (first-byte (cell 92 at) d (cell 113 (at + 1) ∷ behind) rest e))
+no-piece at (Twice d g) behind rest h e = h
+no-piece at (Letter d g n) behind rest h e = no-letter n (ap letter_of (second-byte (cell 92 at) (cell 113 (at + 1)) d g behind rest e) ∙ h.1)
+no-piece at (Number d g digits n) behind rest h e = no-width (length digits) (ap width_of (second-byte (cell 92 at) (cell 113 (at + 1)) d g behind (digits ++ rest) e) ∙ h.1)
+
+q-is-bad : (at : ℕ) (behind : List Cell) → IsBadEscape Double (cell 92 at) (cell 113 (at + 1) ∷ behind)
+q-is-bad at behind = record { is_backslash = refl; inside = some (cell 113 (at + 1)) behind; none = λ p rest h e. no-piece at p behind rest h e }
 
 -- `\q` is no escape, told at the backslash
 no_escape : BreaksAt (codes "a: \"b\\q\"\n") 3 (pos 0) style.Double (fault BadEscape 5)
@@ -131,7 +134,7 @@ unfolding lines
 no_escape = inside
     (record { raws = One (cell 98 4) ∷ Pair (cell 92 5) (cell 113 6) ∷ []; each = (b, (refl, tt)); closing = cell 34 7; rest = cell 10 8 ∷ []; source = refl; closes = refl; alone = tt })
     refl
-    (quoted.escape [] (record { pieces = Bare (cell 98 4) ∷ []; each = (b, tt); more = cell 113 6 ∷ cell 34 7 ∷ []; source = refl; is_backslash = refl; inside = some (cell 113 6) (cell 34 7 ∷ []); none = λ p rest h e. no-piece p (cell 34 7 ∷ []) rest h e }))
+    (quoted.escape [] (record { pieces = Bare (cell 98 4) ∷ []; each = (b, tt); more = cell 113 6 ∷ cell 34 7 ∷ []; source = refl; is_bad = q-is-bad 5 (cell 34 7 ∷ []) }))
 
 -- some cells, none of which is a single quote
 others : (cs before rest : List Cell) (d : Cell) → AllByRecursion (λ x. x.byte ≢ 39) cs → cs ≡ before ++ d ∷ rest → d.byte ≡ 39 → ⊥
@@ -174,7 +177,31 @@ not_indented = inside
       alone = tt;
     })
     refl
-    (quoted.indent (cell 98 4 ∷ []) (Folds 5) [] [] (Bare (cell 98 4) ∷ [], (b, tt), refl, refl, refl) (record { are_blank = tt; is_full = refl }) (omega arith) refl)
+    (quoted.indent (cell 98 4 ∷ []) (Folds 5) [] [] (Bare (cell 98 4) ∷ [], (b, tt), refl, refl, refl) (record { are_blank = tt; is_full = refl }) (omega arith) refl (λ h. differ 0xC3 92 (inr (omega arith)) h.is_backslash))
+
+-- a second line that isn't indented and begins with a wrong escape: both are told of the backslash, and the escape comes first
+escape_comes_first : BreaksAt (codes "a: \"b\n\\q\"\n") 3 (pos 0) style.Double (fault BadEscape 6)
+unfolding lines
+escape_comes_first = inside
+    (record { raws = One (cell 98 4) ∷ One (cell 10 5) ∷ Pair (cell 92 6) (cell 113 7) ∷ []; each = (b, (a_feed, (refl, tt))); closing = cell 34 8; rest = cell 10 9 ∷ []; source = refl; closes = refl; alone = tt })
+    refl
+    (quoted.escape_not_indented (cell 98 4 ∷ []) (Folds 5) [] [] (Bare (cell 98 4) ∷ [], (b, tt), refl, refl, refl) (record { are_blank = tt; is_full = refl }) (omega arith) refl (q-is-bad 6 (cell 34 8 ∷ [])))
+
+-- a second line that isn't indented, with a wrong escape behind its first character: the line is told of that character, which comes first
+indent_comes_first : BreaksAt (codes "a: \"b\nc\\q\"\n") 3 (pos 0) style.Double (fault BadIndent 6)
+unfolding lines
+indent_comes_first = inside
+    (record { raws = One (cell 98 4) ∷ One (cell 10 5) ∷ One (cell 99 6) ∷ Pair (cell 92 7) (cell 113 8) ∷ []; each = (b, (a_feed, (c, (refl, tt)))); closing = cell 34 9; rest = cell 10 10 ∷ []; source = refl; closes = refl; alone = tt })
+    refl
+    (quoted.indent (cell 98 4 ∷ []) (Folds 5) [] [] (Bare (cell 98 4) ∷ [], (b, tt), refl, refl, refl) (record { are_blank = tt; is_full = refl }) (omega arith) refl (λ h. c.1 h.is_backslash))
+
+-- a backslash that ends its line is no wrong escape
+backslash_ends_line : BreaksAt (codes "a: \"b\n\\\nc\"\n") 3 (pos 0) style.Double (fault BadIndent 6)
+unfolding lines
+backslash_ends_line = inside
+    (record { raws = One (cell 98 4) ∷ One (cell 10 5) ∷ Pair (cell 92 6) (cell 10 7) ∷ One (cell 99 8) ∷ []; each = (b, (a_feed, (refl, (c, tt)))); closing = cell 34 9; rest = cell 10 10 ∷ []; source = refl; closes = refl; alone = tt })
+    refl
+    (quoted.indent (cell 98 4 ∷ []) (Folds 5) [] _ (Bare (cell 98 4) ∷ [], (b, tt), refl, refl, refl) (record { are_blank = tt; is_full = refl }) (omega arith) refl (λ h. h.inside refl))
 
 -- ---- blocks
 

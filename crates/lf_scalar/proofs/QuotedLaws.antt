@@ -7,13 +7,14 @@ use Rattle.std.proofs.lemmas.Bool.Decides.{eqb_tells, leb_tells}
 use Rattle.lf_base.specs.declared.kind.Kind.TheVariants.{BadEscape, BadIndent}
 use Rattle.lf_scalar.specs.Cells.{Cell, Fault, fault, fault_at, front, ◌>>=◌}
 use Rattle.lf_scalar.specs.Lines.{Line, is_blank, after_blanks, after_spaces, indent_of, is_blank_line, AreBlank}
-use Rattle.lf_scalar.specs.Quoted.{Quotes, Single, Double, quote_of, Piece, Bare, Twice, spelled, given, IsPiece, Break, Folds, Drops, filled, IsBroken, Follows, unindented, QuotedFrom, last, more, HasBadEscape, QuotedBreaks, escape, indent, later}
+use Rattle.lf_scalar.specs.Quoted.{Quotes, Single, Double, quote_of, Piece, Bare, Twice, spelled, given, IsPiece, Break, Folds, Drops, filled, IsBroken, Follows, unindented, QuotedFrom, last, more, HasBadEscape, QuotedBreaks, escape, indent, escape_not_indented, later}
 use Rattle.lf_scalar.specs.QuotedReading.{piece_of, scan, Closing, closing_of, stopped, ended, line_of, unindented_at, lines_behind, lines_from, lines_of, wrong_behind, alone, closed, quoted_of}
 use Rattle.lf_scalar.specs.QuotedReading as reading
 use Rattle.lf_scalar.proofs.Pieces.{none-stands, none-found, scan-again, IsScan, scan-sound}
 use Rattle.lf_scalar.proofs.Closing.{ahead, closing-pieces}
 use Rattle.lf_scalar.proofs.InnerLines.{LinesOk, behind-was, behind-none, passed}
 use Rattle.lf_scalar.proofs.Tails.{true-false}
+use Rattle.lf_scalar.proofs.IndentFault.{told-escape, told-indent, bad-or-not}
 
 -- ---- what the definition has is read: one line
 
@@ -44,11 +45,11 @@ broken-again Double l part (Drops at) (ps, b, each, e, source, p, a) =
 
 escape-again : (kind : Quotes) (l : Line) (b : Cell) → HasBadEscape kind l.text b → line_of kind l ≡ Err (fault BadEscape b.at)
 escape-again kind l b h =
-    ap (λ (x : List Cell). ended l.break (scan kind 0 x)) h.source ∙ ap (ended l.break) (scan-again kind h.pieces (b ∷ h.more) h.each (none-found kind b h.more h.none)) ∙ by h.more h.inside
+    ap (λ (x : List Cell). ended l.break (scan kind 0 x)) h.source ∙ ap (ended l.break) (scan-again kind h.pieces (b ∷ h.more) h.each (none-found kind b h.more h.is_bad.none)) ∙ by h.more h.is_bad.inside
   where
     by : (left : List Cell) → left ≢ [] → ended l.break (h.pieces, b ∷ left) ≡ Err (fault BadEscape b.at)
     by [] n = absurd (n refl)
-    by (d ∷ left) n = rw (eq-eqb b.byte 92 h.is_backslash) refl
+    by (d ∷ left) n = rw (eq-eqb b.byte 92 h.is_bad.is_backslash) refl
 
 -- ---- blank lines
 
@@ -62,7 +63,7 @@ blanks-passed kind above break k (l ∷ ls) rest h =
 -- the line behind blank ones
 abbrev next_read : Quotes → ℕ → Break → ℕ → Line → List Line → Bool → Result (List Cell) Fault
 next_read kind above break k next rest true = front (filled break k) (lines_from kind above (unindented next) rest)
-next_read kind above break k next rest false = Err (unindented_at next (after_spaces next.text))
+next_read kind above break k next rest false = Err (unindented_at kind next (after_spaces next.text))
 
 next-is : (kind : Quotes) (above : ℕ) (break : Break) (k : ℕ) (next : Line) (rest : List Line) (b : Bool) → is_blank_line next ≡ false → leb above (indent_of next.text) ≡ b → lines_behind kind above break k (next ∷ rest) ≡ next_read kind above break k next rest b
 unfolding lines_behind
@@ -95,11 +96,18 @@ from-again kind above l _ _ (more {next = next} {ls = ls} {text = text} part bre
     behind-is kind above break blank next ls true follows (le-leb above (indent_of next.text) high) ∙ rw (from-again kind above (unindented next) ls text rest) refl in
     from-line kind above l (blank ++ next ∷ ls) part break _ (broken-again kind l part break broken) below
 
+-- the line behind blank ones isn't indented
+low-behind : (kind : Quotes) (above : ℕ) (break : Break) (blank : List Line) (next : Line) (rest : List Line) (c : Cell) (cs : List Cell) (f : Fault) → Follows blank next → indent_of next.text < above → after_spaces next.text ≡ c ∷ cs
+    → unindented_at kind next (c ∷ cs) ≡ f → lines_behind kind above break 0 (blank ++ next ∷ rest) ≡ Err f
+low-behind kind above break blank next rest c cs f follows low spaces told =
+    behind-is kind above break blank next rest false follows (lt-leb above (indent_of next.text) low) ∙ ap (λ (x : List Cell). Err (unindented_at kind next x)) spaces ∙ ap (λ (g : Fault). Err g) told
+
 pub breaks-again : (kind : Quotes) (above : ℕ) (l : Line) (ls : List Line) (f : Fault) → QuotedBreaks kind above l ls f → lines_from kind above l ls ≡ Err f
 breaks-again kind above l _ _ (escape {backslash = b} ls h) = rw (escape-again kind l b h) refl
-breaks-again kind above l _ _ (indent {next = next} {c = c} {cs = cs} part break blank ls broken follows low spaces) =
-    let below : lines_behind kind above break 0 (blank ++ next ∷ ls) ≡ Err (fault_at BadIndent c) = behind-is kind above break blank next ls false follows (lt-leb above (indent_of next.text) low) ∙ rw spaces refl in
-    from-line kind above l (blank ++ next ∷ ls) part break _ (broken-again kind l part break broken) below
+breaks-again kind above l _ _ (indent {next = next} {c = c} {cs = cs} part break blank ls broken follows low spaces good) =
+    from-line kind above l (blank ++ next ∷ ls) part break _ (broken-again kind l part break broken) (low-behind kind above break blank next ls c cs (fault_at BadIndent c) follows low spaces (told-indent kind next c cs good))
+breaks-again kind above l _ _ (escape_not_indented {next = next} {backslash = c} {cs = cs} part break blank ls broken follows low spaces wrong) =
+    from-line kind above l (blank ++ next ∷ ls) part break _ (broken-again kind l part break broken) (low-behind kind above break blank next ls c cs (fault BadEscape c.at) follows low spaces (told-escape kind next c cs wrong))
 breaks-again kind above l _ _ (later {next = next} {ls = ls} {f = f} part break blank broken follows high rest) =
     let below : lines_behind kind above break 0 (blank ++ next ∷ ls) ≡ Err f = behind-is kind above break blank next ls true follows (le-leb above (indent_of next.text) high) ∙ rw (breaks-again kind above (unindented next) ls f rest) refl in
     from-line kind above l (blank ++ next ∷ ls) part break _ (broken-again kind l part break broken) below
@@ -159,7 +167,7 @@ drops Single l ps c k each e source = not-single k
 drops Double l ps c k each e source = (ps, c, each, e, source, refl, refl)
 
 bad-escape : (kind : Quotes) (text : List Cell) (ps : List Piece) (c d : Cell) (left : List Cell) → IsScan kind text (ps, c ∷ d ∷ left) → c.byte ≡ 92 → HasBadEscape kind text c
-bad-escape kind text ps c d left r e = record { pieces = ps; each = r.each; more = d ∷ left; source = r.source; is_backslash = e; inside = some-left; none = none-stands kind c (d ∷ left) r.none }
+bad-escape kind text ps c d left r e = record { pieces = ps; each = r.each; more = d ∷ left; source = r.source; is_bad = record { is_backslash = e; inside = some-left; none = none-stands kind c (d ∷ left) r.none } }
   where
     some-left : d ∷ left ≢ []
     some-left e = cc
@@ -347,10 +355,13 @@ onward kind above l next rest blank part break (Ok text) broken follows high h =
 onward kind above l next rest blank part break (Err f) broken follows high h = later part break blank broken follows high h
 
 indented : (kind : Quotes) (above : ℕ) (l next : Line) (rest blank : List Line) (part : List Cell) (break : Break) → IsBroken kind l part break → Follows blank next → indent_of next.text < above
-    → Answers kind above l (blank ++ next ∷ rest) (front part (Err (unindented_at next (after_spaces next.text))))
+    → Answers kind above l (blank ++ next ∷ rest) (front part (Err (unindented_at kind next (after_spaces next.text))))
 indented kind above l next rest blank part break broken follows low =
     let s = spaces-left next.text follows.is_full in
-    subst (λ (cs : List Cell). QuotedBreaks kind above l (blank ++ next ∷ rest) (unindented_at next cs)) (sym s.2) (indent part break blank rest broken follows low s.2)
+    subst (λ (cs : List Cell). QuotedBreaks kind above l (blank ++ next ∷ rest) (unindented_at kind next cs)) (sym s.2) (elim (bad-or-not kind s.0 s.1) [
+      | inl wrong ↦ subst (QuotedBreaks kind above l (blank ++ next ∷ rest)) (sym (told-escape kind next s.0 s.1 wrong)) (escape_not_indented part break blank rest broken follows low s.2 wrong)
+      | inr good ↦ subst (QuotedBreaks kind above l (blank ++ next ∷ rest)) (sym (told-indent kind next s.0 s.1 good)) (indent part break blank rest broken follows low s.2 good)
+    ])
 
 abbrev Whole : Quotes → ℕ → Line → List Line → Type 0
 Whole kind above l ls = Answers kind above l ls (lines_from kind above l ls)

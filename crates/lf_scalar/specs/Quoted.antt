@@ -151,21 +151,28 @@ pub data QuotedFrom (kind : Quotes) (above : ℕ) : Line → List Line → List 
   more : {l next : Line} {ls : List Line} {text : List Cell} (part : List Cell) (break : Break) (blank : List Line) → IsBroken kind l part break → Follows blank next → above ≤ indent_of next.text
       → QuotedFrom kind above (unindented next) ls text → QuotedFrom kind above l (blank ++ next ∷ ls) (part ++ (filled break (length blank) ++ text))
 
--- A line's text is pieces, then this backslash, then more. No piece begins with the backslash there. (A backslash that ends its line is none of these.)
+-- A wrong escape: a backslash with which no piece begins, and the rest of its line, which isn't empty. (A backslash that ends its line is none of these.)
+pub record IsBadEscape (kind : Quotes) (backslash : Cell) (more : List Cell) : Type 0 where
+  pub is_backslash : backslash.byte ≡ 92
+  pub inside : more ≢ []
+  pub none : (p : Piece) (rest : List Cell) → IsPiece kind p → backslash ∷ more ≡ spelled p ++ rest → ⊥
+
+-- a line's text is pieces, and then a wrong escape's backslash and more
 pub record HasBadEscape (kind : Quotes) (text : List Cell) (backslash : Cell) : Type 0 where
   pub pieces : List Piece
   pub each : AllByRecursion (IsPiece kind) pieces
   pub more : List Cell
   pub source : text ≡ flat_map spelled pieces ++ backslash ∷ more
-  pub is_backslash : backslash.byte ≡ 92
-  pub inside : more ≢ []
-  pub none : (p : Piece) (rest : List Cell) → IsPiece kind p → backslash ∷ more ≡ spelled p ++ rest → ⊥
+  pub is_bad : IsBadEscape kind backslash more
 
--- What breaks the lines from l on: an escape that isn't one, a line that isn't blank and isn't indented, or what breaks a later line.
+-- What breaks the lines from l on: a wrong escape, a line that isn't blank and isn't indented, or what breaks a later line. A line that isn't indented is told of its first
+-- character behind the spaces. Where a wrong escape begins with that character too, both would be told of the same place, and then it is the escape.
 pub data QuotedBreaks (kind : Quotes) (above : ℕ) : Line → List Line → Fault → Type 0 where
   escape : {l : Line} {backslash : Cell} (ls : List Line) → HasBadEscape kind l.text backslash → QuotedBreaks kind above l ls (fault BadEscape backslash.at)
   indent : {l next : Line} {c : Cell} {cs : List Cell} (part : List Cell) (break : Break) (blank ls : List Line) → IsBroken kind l part break → Follows blank next
-      → indent_of next.text < above → after_spaces next.text ≡ c ∷ cs → QuotedBreaks kind above l (blank ++ next ∷ ls) (fault_at BadIndent c)
+      → indent_of next.text < above → after_spaces next.text ≡ c ∷ cs → (IsBadEscape kind c cs → ⊥) → QuotedBreaks kind above l (blank ++ next ∷ ls) (fault_at BadIndent c)
+  escape_not_indented : {l next : Line} {backslash : Cell} {cs : List Cell} (part : List Cell) (break : Break) (blank ls : List Line) → IsBroken kind l part break → Follows blank next
+      → indent_of next.text < above → after_spaces next.text ≡ backslash ∷ cs → IsBadEscape kind backslash cs → QuotedBreaks kind above l (blank ++ next ∷ ls) (fault BadEscape backslash.at)
   later : {l next : Line} {ls : List Line} {f : Fault} (part : List Cell) (break : Break) (blank : List Line) → IsBroken kind l part break → Follows blank next → above ≤ indent_of next.text
       → QuotedBreaks kind above (unindented next) ls f → QuotedBreaks kind above l (blank ++ next ∷ ls) f
 

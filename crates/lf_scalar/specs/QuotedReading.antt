@@ -1,5 +1,5 @@
 -- Reading what stands between quotes, piece by piece. A way of reading, which defines nothing: it is proved equal to what specs/Quoted defines.
-use Rattle.std.specs.Prelude.{◌≡◌, ◌≢◌, ℕ, zero, suc, ◌+◌, ◌*◌, List, [], ◌∷◌, ◌++◌, length, take, drop, get_or, leb, Bool, true, false, Option, Some, None, Result, Ok, Err, ◌==◌, ◌&&◌, if◌then◌else◌}
+use Rattle.std.specs.Prelude.{◌≡◌, ◌≢◌, ℕ, zero, suc, ◌+◌, ◌*◌, List, [], ◌∷◌, ◌++◌, length, take, drop, get_or, leb, Bool, true, false, not, is_some, Option, Some, None, Result, Ok, Err, ◌==◌, ◌&&◌, if◌then◌else◌}
 use Rattle.std.specs.List.{flat_map}
 use lib.Utf8.{scalar}
 use Rattle.lf_base.specs.declared.kind.Kind.TheVariants.{BadEscape, OpenQuote, BadIndent, NotANode}
@@ -156,10 +156,16 @@ abbrev pub LineGives : Result AtBreak Refusal → List Cell → List Cell → �
 LineGives (Ok b) old now break read = (part : List Cell) × (read ≡ Ok (part, broken b break)) × (now ≡ old ++ part)
 LineGives (Err e) old now break read = Fails e read
 
--- a character that isn't a space, at the front of a line
-abbrev pub unindented_at : Line → List Cell → Fault
-unindented_at l [] = fault BadIndent l.break
-unindented_at l (c ∷ cs) = fault_at BadIndent c
+-- a wrong escape stands at the front of what a line has left
+abbrev pub begins_bad_escape : Quotes → List Cell → Bool
+begins_bad_escape kind [] = false
+begins_bad_escape kind (c ∷ []) = false
+begins_bad_escape kind (c ∷ d ∷ more) = (c.byte == 92) && not (is_some (piece_of kind c (d ∷ more)))
+
+-- the fault of a line that isn't indented, by what stands behind its spaces
+abbrev pub unindented_at : Quotes → Line → List Cell → Fault
+unindented_at kind l [] = fault BadIndent l.break
+unindented_at kind l (c ∷ cs) = fault_at (if begins_bad_escape kind (c ∷ cs) then BadEscape else BadIndent) c
 
 -- cells before those of a line
 abbrev pub prefixed : List Cell → Result (List Cell × Break) Fault → Result (List Cell × Break) Fault
@@ -167,7 +173,7 @@ prefixed cs read = read >>= λ x. Ok (cs ++ x.0, x.1)
 
 -- what a line break with so many blank lines behind it and the next line give
 abbrev pub next_line : Quotes → ℕ → Break → ℕ → Line → Result (List Cell × Break) Fault
-next_line kind above break k l = if leb above (indent_of l.text) then prefixed (filled break k) (line_of kind (unindented l)) else Err (unindented_at l (after_spaces l.text))
+next_line kind above break k l = if leb above (indent_of l.text) then prefixed (filled break k) (line_of kind (unindented l)) else Err (unindented_at kind l (after_spaces l.text))
 
 -- what follows a line break with so many blank lines so far
 unfoldable pub lines_behind : Quotes → ℕ → Break → ℕ → List Line → Result (List Cell) Fault
@@ -175,7 +181,7 @@ lines_behind kind above break k [] = Ok []
 lines_behind kind above break k (l ∷ ls) =
     if is_blank_line l then lines_behind kind above break (suc k) ls
     else if leb above (indent_of l.text) then front (filled break k) (line_of kind (unindented l) >>= λ x. front x.0 (lines_behind kind above x.1 0 ls))
-    else Err (unindented_at l (after_spaces l.text))
+    else Err (unindented_at kind l (after_spaces l.text))
 
 abbrev pub lines_from : Quotes → ℕ → Line → List Line → Result (List Cell) Fault
 lines_from kind above l ls = line_of kind l >>= λ x. front x.0 (lines_behind kind above x.1 0 ls)

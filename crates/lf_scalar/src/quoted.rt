@@ -1,13 +1,14 @@
 //! Scalars between quotes.
 ghost use Rattle.std.specs.Prelude.{false, ◌≡◌, ℕ, ◌+◌, ◌<◌, ◌≤◌, ◌^◌, length, get_or, drop, cond, ◌++◌, IfSome, IfOk, OnOk, option_map};
 ghost use Rattle.lf_scalar.specs.Cells.{Fails, cells};
-ghost use Rattle.lf_scalar.specs.QuotedReading.{closing_of, split_of, IsStep, Reaches, is_blank_given, LineGives, broken, line_at, line_of, next_line};
+ghost use Rattle.lf_scalar.specs.QuotedReading.{closing_of, split_of, IsStep, Reaches, is_blank_given, LineGives, broken, line_at, line_of, next_line, begins_bad_escape as bad_escape_first};
+ghost use Rattle.lf_base.specs.declared.kind.Kind.TheVariants.{BadEscape, BadIndent};
 ghost use Rattle.lf_scalar.specs.Quoted.{filled};
 ghost use Rattle.lf_scalar.specs.Lines.{is_blank};
 ghost use Rattle.std.specs.List.{list_all};
 
 use crate::draft::{Draft, feed, fold_break};
-use crate::escapes::{Given, piece, push_given};
+use crate::escapes::{Given, begins_bad_escape, piece, push_given};
 use crate::lines::{blanks, fault_at, past, spaces};
 use crate::quotes::Quotes;
 use lf_base::{Kind, Memory, Refusal, Span};
@@ -164,6 +165,19 @@ pub struct Pending {
     pub blank: usize,
 }
 
+/// What is refused at the first character of a line that isn't indented, by what stands behind its spaces: its indent, or the wrong escape that begins there, which
+/// comes first.
+fn kind_not_indented(kind: Quotes, rest: &[u8], at: u32) -> Kind
+    requires { at + length rest.now < 2 ^ 32 }
+    ensures { result ≡ cond (bad_escape_first kind (cells at rest.now)) BadEscape BadIndent }
+{
+    if begins_bad_escape(kind, rest, at) {
+        Kind::BadEscape
+    } else {
+        Kind::BadIndent
+    }
+}
+
 /// Appends what a line break becomes and what the line behind it gives, which isn't blank and has at least `above` spaces, else it is refused.
 pub fn push_next(
     draft: &mut Draft,
@@ -179,7 +193,8 @@ pub fn push_next(
 {
     let indent = spaces(line);
     if indent < above {
-        return Err(fault_at(Kind::BadIndent, line, indent, at));
+        let wrong = kind_not_indented(kind, past(line, indent), at + indent as u32);
+        return Err(fault_at(wrong, line, indent, at));
     }
     match fill(draft, pending.at_break, pending.blank, pending.at) {
         Ok(()) => {}

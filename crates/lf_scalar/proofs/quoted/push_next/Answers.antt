@@ -8,4 +8,4 @@ fault_at-requires-clause-within c = full-indent c.args.at c.args.line.now c.spac
 pub returns-then-indent-above : goal.returns-then-indent-above
 returns-then-indent-above c = λ b.
     low-gives c.fault_at.result c.args.above c.args.at c.spaces-indent.result b c.args.kind c.args.pending.blank c.args.line.now (broken c.args.pending.at_break c.args.pending.at) (c.spaces-indent.ensures.count c.args.at) c.if-indent-above.true
-    (full-indent c.args.at c.args.line.now c.spaces-indent.result c.requires.full (c.spaces-indent.ensures.count c.args.at)) (c.spaces-indent.ensures.after c.args.at) c.fault_at.ensures
+    (full-indent c.args.at c.args.line.now c.spaces-indent.result c.requires.full (c.spaces-indent.ensures.count c.args.at)) (c.spaces-indent.ensures.after c.args.at) (rw (← c.past.ensures, ← c.kind_not_indented-wrong.ensures) c.fault_at.ensures)
