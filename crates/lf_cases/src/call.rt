@@ -1,7 +1,7 @@
 //! The calls that cases are run over. A further one has a variant, a word, a line in each `match` here, and a file of its own.
 
 use crate::case::Case;
-use crate::{scalars, tokens};
+use crate::{patterns, scalars, tokens};
 use anyhow::Result;
 use serde_json::Value;
 use std::alloc::Global;
@@ -14,6 +14,8 @@ pub enum Call {
     Tokens,
     /// `lf_scalar::read_scalar`
     Scalars,
+    /// The calls of `lf_pattern`
+    Patterns,
 }
 
 impl Call {
@@ -22,6 +24,7 @@ impl Call {
         match word {
             "tokens" => Some(Call::Tokens),
             "scalars" => Some(Call::Scalars),
+            "patterns" => Some(Call::Patterns),
             _ => None,
         }
     }
@@ -31,6 +34,7 @@ impl Call {
         match self {
             Call::Tokens => "tokens",
             Call::Scalars => "scalars",
+            Call::Patterns => "patterns",
         }
     }
 
@@ -39,6 +43,7 @@ impl Call {
         match self {
             Call::Tokens => tokens::answer(alloc, case),
             Call::Scalars => scalars::answer(alloc, case),
+            Call::Patterns => patterns::answer(alloc, case),
         }
     }
 
@@ -47,6 +52,7 @@ impl Call {
         match self {
             Call::Tokens => tokens::time(rt, text),
             Call::Scalars => scalars::time(rt, text),
+            Call::Patterns => patterns::time(rt, text),
         }
     }
 }

@@ -9,6 +9,7 @@ mod answers;
 mod call;
 mod case;
 mod offsets;
+mod patterns;
 mod run;
 mod scalars;
 mod timing;

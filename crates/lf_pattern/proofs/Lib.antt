@@ -1,0 +1,13 @@
+pub mod Capping
+pub mod ShapeFound
+pub mod ShapeGiven
+pub mod SampleLaws
+pub mod ExpandLaws
+pub mod FormLaws
+pub mod Scanning
+pub mod MatchLaws
+pub mod PieceLaws
+pub mod PlainnessLaws
+pub mod PlainLaws
+pub mod ReadLaws
+pub mod Worked

@@ -1,0 +1,70 @@
+-- The definitions on examples.
+use Rattle.std.proofs.Common.{◌≡◌, ◌≢◌, ℕ, zero, suc, [], ◌∷◌, None, refl, arith, inl, inr, All, false}
+use Rattle.std.specs.Char.{encode_utf8}
+use Rattle.lf_pattern.specs.Plain.{IsPlain, is_special, is_escapable}
+use Rattle.lf_pattern.specs.Plain as joins
+use Rattle.lf_pattern.specs.Scan.{scanned, inside}
+use Rattle.lf_pattern.specs.Shape.{Samples, same, followed, counted, class_samples, HasShape, one, next, nothing, once, often, ordinary, any, class, star, optional, greedy}
+use Rattle.lf_pattern.specs.Replacement.{Reads, IsNumber}
+use Rattle.lf_pattern.specs.Replacement as pieces
+use Rattle.lf_pattern.specs.declared.replacement.Piece.TheVariants.{Group}
+
+-- `(a|b\.c)` has the alternatives `a` and `b.c`
+two_alternatives : IsPlain (40 ∷ 97 ∷ 124 ∷ 98 ∷ 92 ∷ 46 ∷ 99 ∷ 41 ∷ []) ((97 ∷ []) ∷ (98 ∷ 46 ∷ 99 ∷ []) ∷ [])
+unfolding is_special is_escapable
+two_alternatives =
+    inr (inl (97 ∷ 124 ∷ 98 ∷ 92 ∷ 46 ∷ 99 ∷ [], refl, joins.ordinary refl (joins.bar (joins.ordinary refl (joins.escaped refl (joins.ordinary refl joins.end))))))
+
+-- `a.*` isn't plain
+dot_star : scanned [] [] false (inside (97 ∷ 46 ∷ 42 ∷ [])) ≡ None
+unfolding scanned is_special is_escapable
+dot_star = refl
+
+abbrev any_samples : Samples
+any_samples = record { low = 48 ∷ []; high = 97 ∷ [] }
+
+-- `5..` gives `500` and `5aa`
+abbrev dots_samples : Samples
+dots_samples = followed (same (encode_utf8 53)) (followed any_samples (followed any_samples (same [])))
+
+dots : HasShape (53 ∷ 46 ∷ 46 ∷ []) dots_samples
+unfolding is_special
+dots = one (next (once (ordinary refl)) (next (once any) (next (once any) nothing)))
+
+dots_are : dots_samples ≡ record { low = 53 ∷ 48 ∷ 48 ∷ []; high = 53 ∷ 97 ∷ 97 ∷ [] }
+unfolding encode_utf8
+dots_are = refl
+
+-- `.*` gives nothing and `a`
+abbrev star_samples : Samples
+star_samples = followed (counted 0 any_samples) (same [])
+
+any_star : HasShape (46 ∷ 42 ∷ []) star_samples
+any_star = one (next (often any star greedy) nothing)
+
+any_star_is : star_samples ≡ record { low = []; high = 97 ∷ [] }
+any_star_is = refl
+
+-- `[a-c]x?` gives `a` and `cx`
+abbrev class_x_samples : Samples
+class_x_samples = followed (class_samples 97 (45 ∷ 99 ∷ [])) (followed (counted 0 (same (encode_utf8 120))) (same []))
+
+no_brackets : All (λ (m : ℕ). m ≢ 93) (45 ∷ 99 ∷ [])
+no_brackets zero d lt = λ (e : 45 ≡ 93). absurd (omega arith)
+no_brackets (suc zero) d lt = λ (e : 99 ≡ 93). absurd (omega arith)
+no_brackets (suc (suc k)) d lt = absurd (omega arith)
+
+class_x : HasShape (91 ∷ 97 ∷ 45 ∷ 99 ∷ 93 ∷ 120 ∷ 63 ∷ []) class_x_samples
+unfolding is_special
+class_x = one (next (once (class 97 (45 ∷ 99 ∷ []) no_brackets)) (next (often (ordinary refl) optional greedy) nothing))
+
+class_x_is : class_x_samples ≡ record { low = 97 ∷ []; high = 99 ∷ 120 ∷ [] }
+unfolding encode_utf8
+class_x_is = refl
+
+-- `$1` is group 1
+one_is : IsNumber (49 ∷ []) 1
+one_is = ((omega arith, (omega arith, tt)), inl (λ (e : 49 ≡ 48). absurd (omega arith)), refl)
+
+group_one : Reads (36 ∷ 49 ∷ []) (Group 1 ∷ [])
+group_one = pieces.number (49 ∷ []) one_is tt pieces.end

@@ -1,0 +1,51 @@
+-- Plain replacements and what they expand to. A replacement is a list of characters.
+use Rattle.std.specs.Prelude.{◌≡◌, ◌≢◌, ℕ, Bool, false, ◌||◌, ◌==◌, List, [], ◌∷◌, ◌++◌, Option, Some, None, encode_utf8, slice_index, ◌⊎◌, if◌then◌else◌}
+use Rattle.std.specs.Char.{is_ascii_alphanumeric}
+use Rattle.std.specs.List.{flat_map}
+use Rattle.std.specs.Str.{chars}
+use Rattle.std.specs.Str.Parse.{IsNumeral, digits_value}
+use Rattle.lf_pattern.specs.Matching.{matches, group_text}
+use Rattle.lf_pattern.specs.declared.replacement.Piece.{Piece}
+use Rattle.lf_pattern.specs.declared.replacement.Piece.TheVariants.{Char, Group}
+
+-- the digits of a number: 0 alone, or digits of which the first isn't 0
+abbrev pub IsNumber : List ℕ → ℕ → Type 0
+IsNumber digits n = IsNumeral 10 digits × ((slice_index digits 0 ≢ 48) ⊎ (digits ≡ 48 ∷ [])) × (n ≡ digits_value 10 digits)
+
+-- an ASCII letter or digit, or `_`
+abbrev pub is_word : ℕ → Bool
+is_word c = is_ascii_alphanumeric c || c == 95
+
+-- the characters don't begin with one of these
+abbrev pub BeginsApart : List ℕ → Type 0
+BeginsApart [] = Unit {0}
+BeginsApart (c ∷ cs) = is_word c ≡ false
+
+-- `Reads cs pieces`: a plain replacement holds `$` only as `$$`, which stands for `$`, and as `$n` and `${n}`, which stand for a group; `$n` isn't followed by a letter,
+-- a digit or `_`. Every other character stands for itself.
+pub data Reads : List ℕ → List Piece → Type 0 where
+  end : Reads [] []
+  other : {c : ℕ} {cs : List ℕ} {ps : List Piece} → c ≢ 36 → Reads cs ps → Reads (c ∷ cs) (Char c ∷ ps)
+  dollar : {cs : List ℕ} {ps : List Piece} → Reads cs ps → Reads (36 ∷ 36 ∷ cs) (Char 36 ∷ ps)
+  number : (digits : List ℕ) {cs : List ℕ} {n : ℕ} {ps : List Piece} → IsNumber digits n → BeginsApart cs → Reads cs ps → Reads (36 ∷ digits ++ cs) (Group n ∷ ps)
+  braced : (digits : List ℕ) {cs : List ℕ} {n : ℕ} {ps : List Piece} → IsNumber digits n → Reads cs ps → Reads (36 ∷ 123 ∷ digits ++ 125 ∷ cs) (Group n ∷ ps)
+
+-- a text is a plain replacement of these pieces
+abbrev pub HasPieces : List ℕ → List Piece → Type 0
+HasPieces replacement ps = Reads (chars replacement) ps
+
+abbrev pub IsPlainReplacement : List ℕ → Type 0
+IsPlainReplacement replacement = (ps : List Piece) × HasPieces replacement ps
+
+-- what a piece stands for, by the texts of the groups
+abbrev pub piece_text : (ℕ → List ℕ) → Piece → List ℕ
+piece_text group (Char c) = encode_utf8 c
+piece_text group (Group n) = group n
+
+-- what pieces stand for where there is a match
+abbrev pub expanded : Bool → (ℕ → List ℕ) → List Piece → Option (List ℕ)
+expanded matched group ps = if matched then Some (flat_map (piece_text group) ps) else None
+
+-- the expansion of a replacement's pieces where the pattern matches the value, and None where it doesn't
+abbrev pub expansion : List ℕ → List ℕ → List Piece → Option (List ℕ)
+expansion p value ps = expanded (matches p value) (group_text p value) ps

@@ -1,0 +1,192 @@
+-- A way of reading the shape of a pattern, character by character, with a frame for each open group. It defines nothing: laws in proofs/ say that it finds exactly the
+-- samples that `HasShape` gives, each cut to None where it has more than 256 bytes.
+use Rattle.std.specs.Prelude.{ℕ, zero, suc, ◌+◌, ◌*◌, max, Bool, true, false, ◌==◌, ◌||◌, not, nat_lt, nat_le, List, [], ◌∷◌, ◌++◌, length, reverse, Option, Some, None, unwrap_or, encode_utf8, if◌then◌else◌}
+use Rattle.std.specs.Char.{digit_value}
+use Rattle.lf_pattern.specs.Plain.{is_special, is_escapable}
+use Rattle.lf_pattern.specs.declared.sample.Both.{Both}
+use Rattle.lf_pattern.specs.declared.shape.Frame.{Frame}
+use Rattle.lf_pattern.specs.declared.shape.Mode.{Mode}
+use Rattle.lf_pattern.specs.declared.shape.Mode.TheVariants.{Ready, Atom, Lazy, Escape, Open, Quiet, ClassStart, Class, Brace, Least, Comma, Most, Outside}
+use Rattle.lf_pattern.specs.declared.shape.Part.{Part}
+use Rattle.lf_pattern.specs.declared.shape.Part.TheVariants as part
+use Rattle.lf_pattern.specs.declared.shape.Reader.{Reader}
+
+-- ---- samples of at most 256 bytes
+
+abbrev pub capped : List ℕ → Option (List ℕ)
+capped text = if nat_le (length text) 256 then Some text else None
+
+abbrev pub joined : Option (List ℕ) → Option (List ℕ) → Option (List ℕ)
+joined None b = None
+joined (Some a) None = None
+joined (Some a) (Some b) = capped (a ++ b)
+
+abbrev pub times_of : ℕ → Option (List ℕ) → Option (List ℕ)
+times_of zero a = Some []
+times_of (suc n) a = joined (times_of n a) a
+
+abbrev pub pair : List ℕ → List ℕ → Both
+pair low high = record { low = Some low; high = Some high }
+
+abbrev pub nothing_read : Both
+nothing_read = pair [] []
+
+abbrev pub followed_by : Both → Both → Both
+followed_by p q = record { low = joined p.low q.low; high = joined p.high q.high }
+
+abbrev pub counted_by : ℕ → Both → Both
+counted_by least p = record { low = times_of least p.low; high = times_of (max 1 least) p.high }
+
+-- ---- frames and states
+
+-- a frame's samples as if its last row ended here
+abbrev pub value_of : Frame → Both
+value_of f = record { low = unwrap_or f.first f.row.low; high = f.row.high }
+
+abbrev pub with_row : Frame → Both → Frame
+with_row f p = record { first = f.first; row = followed_by f.row p }
+
+-- what was read: in which part, the samples of the last piece, which isn't in its row yet, the frame of the row, and the frames round it, the innermost first
+pub record State : Type 0 where
+  pub mode : Mode
+  pub piece : Both
+  pub frame : Frame
+  pub stack : List Frame
+
+abbrev pub state_of : Reader → State
+state_of r = record { mode = r.mode; piece = r.piece; frame = r.frame; stack = reverse r.stack }
+
+abbrev pub in_mode : Mode → State → State
+in_mode m s = record { mode = m; piece = s.piece; frame = s.frame; stack = s.stack }
+
+-- an atom was read, with these samples
+abbrev pub with_atom : Both → State → State
+with_atom p s = record { mode = Atom; piece = p; frame = s.frame; stack = s.stack }
+
+-- a count was read
+abbrev pub with_count : ℕ → State → State
+with_count least s = record { mode = Lazy; piece = counted_by least s.piece; frame = s.frame; stack = s.stack }
+
+-- the last piece is put into its row
+abbrev pub flushed : State → State
+flushed s = record { mode = s.mode; piece = nothing_read; frame = with_row s.frame s.piece; stack = s.stack }
+
+abbrev pub barred : State → State
+barred s = record { mode = Ready; piece = s.piece; frame = record { first = Some (unwrap_or s.frame.first s.frame.row.low); row = nothing_read }; stack = s.stack }
+
+abbrev pub opened : State → State
+opened s = record { mode = Open; piece = s.piece; frame = record { first = None; row = nothing_read }; stack = s.frame ∷ s.stack }
+
+abbrev pub closed_onto : List Frame → State → State
+closed_onto [] s = in_mode Outside s
+closed_onto (f ∷ fs) s = record { mode = Atom; piece = value_of s.frame; frame = f; stack = fs }
+
+-- what a character can be that begins something
+abbrev pub part_of : ℕ → Part
+part_of c =
+    if c == 124 then part.Bar
+    else if c == 40 then part.Open
+    else if c == 41 then part.Close
+    else if c == 91 then part.Bracket
+    else if c == 92 then part.Backslash
+    else if c == 46 then part.Dot
+    else if (c == 94) || (c == 36) then part.Anchor
+    else if is_special c then part.Odd
+    else part.Ordinary
+
+-- a character that begins something, behind a row that is flushed
+abbrev pub begun_with : Part → State → ℕ → State
+begun_with part.Bar s c = barred s
+begun_with part.Open s c = opened s
+begun_with part.Close s c = closed_onto s.stack s
+begun_with part.Bracket s c = in_mode ClassStart s
+begun_with part.Backslash s c = in_mode Escape s
+begun_with part.Dot s c = with_atom (pair (48 ∷ []) (97 ∷ [])) s
+begun_with part.Anchor s c = with_atom nothing_read s
+begun_with part.Odd s c = in_mode Outside s
+begun_with part.Ordinary s c = with_atom (pair (encode_utf8 c) (encode_utf8 c)) s
+
+abbrev pub begun : State → ℕ → State
+begun s c = begun_with (part_of c) (flushed s) c
+
+abbrev pub is_hidden : ℕ → Bool
+is_hidden c = (c == 92) || (c == 91)
+
+abbrev pub escaped_by : State → ℕ → State
+escaped_by s c =
+    if c == 100 then with_atom (pair (48 ∷ []) (48 ∷ [])) s
+    else if c == 119 then with_atom (pair (97 ∷ []) (97 ∷ [])) s
+    else if c == 115 then with_atom (pair (32 ∷ []) (32 ∷ [])) s
+    else if is_escapable c then with_atom (pair (encode_utf8 c) (encode_utf8 c)) s
+    else in_mode Outside s
+
+abbrev pub class_pair : ℕ → ℕ → Bool → Both
+class_pair first last opaque = if opaque then pair (48 ∷ []) (97 ∷ []) else pair (encode_utf8 first) (encode_utf8 last)
+
+abbrev pub in_class : ℕ → ℕ → Bool → State → ℕ → State
+in_class first last opaque s c = if c == 93 then with_atom (class_pair first last opaque) s else in_mode (Class first c (opaque || is_hidden c)) s
+
+-- a character behind an atom
+abbrev pub behind_atom : State → ℕ → State
+behind_atom s c =
+    if c == 42 then with_count 0 s
+    else if c == 43 then with_count 1 s
+    else if c == 63 then with_count 0 s
+    else if c == 123 then in_mode Brace s
+    else begun s c
+
+abbrev pub is_digit : ℕ → Bool
+is_digit c = nat_lt (digit_value c) 10
+
+-- a character behind the digits of a count's least number
+abbrev pub in_least : ℕ → State → ℕ → State
+in_least n s c =
+    if is_digit c then (if nat_le (n * 10 + digit_value c) 64 then in_mode (Least (n * 10 + digit_value c)) s else in_mode Outside s)
+    else if c == 125 then with_count n s
+    else if c == 44 then in_mode (Comma n) s
+    else in_mode Outside s
+
+abbrev pub in_most : ℕ → State → ℕ → State
+in_most n s c =
+    if is_digit c then in_mode (Most n) s
+    else if c == 125 then with_count n s
+    else in_mode Outside s
+
+abbrev pub stepped_in : Mode → State → ℕ → State
+stepped_in Ready s c = begun s c
+stepped_in Atom s c = behind_atom s c
+stepped_in Lazy s c = if c == 63 then in_mode Ready s else begun s c
+stepped_in Escape s c = escaped_by s c
+stepped_in Open s c = if c == 63 then in_mode Quiet s else begun s c
+stepped_in Quiet s c = if c == 58 then in_mode Ready s else in_mode Outside s
+stepped_in ClassStart s c = in_mode (Class c c ((c == 94) || is_hidden c)) s
+stepped_in (Class first last opaque) s c = in_class first last opaque s c
+stepped_in Brace s c = if is_digit c then in_mode (Least (digit_value c)) s else in_mode Outside s
+stepped_in (Least n) s c = in_least n s c
+stepped_in (Comma n) s c = in_most n s c
+stepped_in (Most n) s c = in_most n s c
+stepped_in Outside s c = s
+
+unfoldable pub stepped : State → ℕ → State
+stepped s c = stepped_in s.mode s c
+
+-- the state before the first character
+abbrev pub start : State
+start = record { mode = Ready; piece = nothing_read; frame = record { first = None; row = nothing_read }; stack = [] }
+
+-- the pattern may end in this mode
+abbrev pub may_end : Mode → Bool
+may_end Ready = true
+may_end Atom = true
+may_end Lazy = true
+may_end Open = true
+may_end _ = false
+
+-- the samples, where the pattern may end here
+abbrev pub ended : State → Option Both
+ended s = if nat_lt 0 (length s.stack) || not (may_end s.mode) then None else Some (value_of (flushed s).frame)
+
+-- the samples of what is left
+abbrev pub read_from : State → List ℕ → Option Both
+read_from s [] = ended s
+read_from s (c ∷ cs) = read_from (stepped s c) cs

@@ -1,0 +1,122 @@
+//! Plain replacements: texts in which `$$` stands for `$`, and `$n` and `${n}` stand for a group.
+ghost use Rattle.std.specs.Prelude.{◌≡◌, ℕ, List, ◌∷◌, ◌++◌, map, IfOk};
+ghost use Rattle.std.specs.Char.{digit_value};
+ghost use Rattle.lf_pattern.specs.Replacement.{HasPieces};
+ghost use Rattle.lf_pattern.specs.ReplacementScan.{bounded, pieces_of, with_digit};
+
+use lf_base::{Memory, Seq, Text};
+use std::alloc::Global;
+
+/// A piece of a replacement.
+#[derive(Clone, Copy, PartialEq, Eq, Debug)]
+pub enum Piece {
+    /// This character.
+    Char(char),
+    /// The text of the group with this number.
+    Group(usize),
+}
+
+/// What was read of the piece that is open.
+#[derive(Clone, Copy)]
+enum Mode {
+    /// Nothing: no piece is open.
+    Text,
+    /// A `$`.
+    Dollar,
+    /// A `$` and the digits of this number.
+    Number(usize),
+    /// A `${` and the digits of this number.
+    Braced(usize),
+}
+
+/// The pieces of a plain replacement. A number that the machine's numbers don't reach is told as the greatest of them.
+pub fn pieces(alloc: Global, replacement: &Text) -> Result<Seq<Piece>, Memory>
+    ensures { (ps : List Piece) → HasPieces replacement.now ps → IfOk result (λ found. found ≡ map bounded ps) }
+{
+    let characters: Vec<char> = replacement.as_str().chars().collect(alloc)?;
+    scan(alloc, &characters)
+}
+
+/// The pieces of the characters.
+fn scan(alloc: Global, characters: &[char]) -> Result<Seq<Piece>, Memory>
+    ensures { IfOk result (λ found. found ≡ pieces_of Mode.Text characters.now) }
+{
+    let mut pieces = Seq::new(alloc);
+    let mut mode = Mode::Text;
+    for c in characters {
+        mode = step(&mut pieces, mode, *c)?;
+    }
+    if let Mode::Number(n) = mode {
+        pieces.push(Piece::Group(n))?;
+    }
+    Ok(pieces)
+}
+
+/// Reads a character, and says what is open behind it.
+fn step(pieces: &mut Seq<Piece>, mode: Mode, c: char) -> Result<Mode, Memory>
+    ensures { (cs : List ℕ) → IfOk result (λ m. pieces.old ++ pieces_of mode (c ∷ cs) ≡ pieces.new ++ pieces_of m cs) }
+{
+    match mode {
+        Mode::Text => text(pieces, c),
+        Mode::Dollar => dollar(pieces, c),
+        Mode::Number(n) => match c.to_digit(10) {
+            Some(digit) => Ok(Mode::Number(with_digit(n, digit))),
+            None => {
+                pieces.push(Piece::Group(n))?;
+                text(pieces, c)
+            }
+        },
+        Mode::Braced(n) => braced(pieces, n, c),
+    }
+}
+
+/// Reads a character that no piece is open before.
+#[tactic(auto, unfolding(crate::specs::ReplacementScan::pieces_of))]
+fn text(pieces: &mut Seq<Piece>, c: char) -> Result<Mode, Memory>
+    ensures { (cs : List ℕ) → IfOk result (λ m. pieces.old ++ pieces_of Mode.Text (c ∷ cs) ≡ pieces.new ++ pieces_of m cs) }
+{
+    if c == '$' {
+        return Ok(Mode::Dollar);
+    }
+    pieces.push(Piece::Char(c))?;
+    Ok(Mode::Text)
+}
+
+/// Reads a character behind a `$`.
+#[tactic(auto, unfolding(crate::specs::ReplacementScan::pieces_of))]
+fn dollar(pieces: &mut Seq<Piece>, c: char) -> Result<Mode, Memory>
+    ensures { (cs : List ℕ) → IfOk result (λ m. pieces.old ++ pieces_of Mode.Dollar (c ∷ cs) ≡ pieces.new ++ pieces_of m cs) }
+{
+    if c == '$' {
+        pieces.push(Piece::Char(c))?;
+        return Ok(Mode::Text);
+    }
+    if c == '{' {
+        return Ok(Mode::Braced(0));
+    }
+    match c.to_digit(10) {
+        Some(digit) => Ok(Mode::Number(digit as usize)),
+        None => Ok(Mode::Text),
+    }
+}
+
+/// Reads a character behind a `${` and the digits of a number.
+#[tactic(auto, unfolding(crate::specs::ReplacementScan::pieces_of))]
+fn braced(pieces: &mut Seq<Piece>, n: usize, c: char) -> Result<Mode, Memory>
+    ensures { (cs : List ℕ) → IfOk result (λ m. pieces.old ++ pieces_of (Mode.Braced n) (c ∷ cs) ≡ pieces.new ++ pieces_of m cs) }
+{
+    if let Some(digit) = c.to_digit(10) {
+        return Ok(Mode::Braced(with_digit(n, digit)));
+    }
+    if c == '}' {
+        pieces.push(Piece::Group(n))?;
+    }
+    Ok(Mode::Text)
+}
+
+/// A number with one more digit, or the greatest number.
+fn with_digit(n: usize, digit: u32) -> usize
+    ensures { (c : ℕ) → digit ≡ digit_value c → result ≡ with_digit n c }
+{
+    n.saturating_mul(10).saturating_add(digit as usize)
+}

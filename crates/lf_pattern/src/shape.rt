@@ -1,0 +1,448 @@
+//! The shape of a pattern, read from left to right for its low and its high sample.
+ghost use Rattle.std.specs.Prelude.{◌≡◌, IfOk, reverse};
+ghost use Rattle.std.specs.Str.{chars};
+ghost use Rattle.lf_pattern.specs.ShapeScan.{barred, begun, begun_with, behind_atom, class_pair, closed_onto, ended, escaped_by, flushed, in_class, in_least, in_mode, in_most, is_hidden, may_end, opened, part_of, read_from, start, state_of, stepped, value_of, with_atom, with_count};
+
+use crate::plain::{is_escapable, is_special};
+use crate::sample::{Both, Sample};
+use lf_base::{Memory, Seq, Text};
+use std::alloc::Global;
+
+/// What was read last, as far as the next character depends on it.
+#[derive(Clone, Copy)]
+enum Mode {
+    /// Nothing that a count may follow.
+    Ready,
+    /// An atom.
+    Atom,
+    /// A count.
+    Lazy,
+    /// A backslash.
+    Escape,
+    /// A `(`.
+    Open,
+    /// A `(?`.
+    Quiet,
+    /// A `[`.
+    ClassStart,
+    /// A `[` and at least one member. `opaque` says that it begins with `^`, or holds a backslash or a `[`.
+    Class {
+        first: char,
+        last: char,
+        opaque: bool,
+    },
+    /// A `{`.
+    Brace,
+    /// A `{` and the digits of a least count.
+    Least(u32),
+    /// The same and a comma.
+    Comma(u32),
+    /// The same and digits behind it.
+    Most(u32),
+    /// What isn't of the shape.
+    Outside,
+}
+
+/// What a character can be that begins something.
+#[derive(Clone, Copy)]
+enum Part {
+    Bar,
+    Open,
+    Close,
+    Bracket,
+    Backslash,
+    Dot,
+    /// `^` or `$`.
+    Anchor,
+    /// A character that begins nothing.
+    Odd,
+    Ordinary,
+}
+
+/// An open group, or the whole pattern: the low sample of its first alternative where that has ended, and the samples of the row that is being read, but for its last
+/// piece.
+#[derive(Drop)]
+struct Frame {
+    first: Option<Sample>,
+    row: Both,
+}
+
+/// What was read of a pattern.
+#[derive(Drop)]
+struct Reader {
+    mode: Mode,
+    /// The samples of the last piece of the row.
+    piece: Both,
+    frame: Frame,
+    /// The frames round this one, the innermost last.
+    stack: Seq<Frame>,
+}
+
+/// The low and the high sample of a pattern, or None where it isn't of the shape.
+pub fn read_shape(alloc: Global, text: &Text) -> Result<Option<Both>, Memory>
+    ensures { IfOk result (λ r. r ≡ read_from start (chars text.now)) }
+{
+    let characters: Vec<char> = text.as_str().chars().collect(alloc)?;
+    read(alloc, &characters)
+}
+
+fn read(alloc: Global, characters: &[char]) -> Result<Option<Both>, Memory>
+    ensures { IfOk result (λ r. r ≡ read_from start characters.now) }
+{
+    let mut reader = Reader::new(alloc);
+    for c in characters {
+        reader = reader.step(alloc, *c)?;
+    }
+    reader.end(alloc)
+}
+
+impl Frame {
+    /// The samples of the group, if its last row ends here.
+    fn value(self) -> Both
+        ensures { result ≡ value_of self }
+    {
+        let Frame { first, row } = self;
+        match first {
+            None => row,
+            Some(low) => Both {
+                low,
+                high: row.high,
+            },
+        }
+    }
+}
+
+impl Reader {
+    fn new(alloc: Global) -> Reader
+        ensures { state_of result ≡ start }
+    {
+        Reader {
+            mode: Mode::Ready,
+            piece: Both::nothing(alloc),
+            frame: Frame {
+                first: None,
+                row: Both::nothing(alloc),
+            },
+            stack: Seq::new(alloc),
+        }
+    }
+
+    /// The samples, if the pattern may end here.
+    fn end(self, alloc: Global) -> Result<Option<Both>, Memory>
+        ensures { IfOk result (λ r. r ≡ ended (state_of self)) }
+    {
+        if self.stack.len() > 0 || !may_end(self.mode) {
+            return Ok(None);
+        }
+        let reader = self.flush(alloc)?;
+        Ok(Some(reader.frame.value()))
+    }
+
+    /// Reads a character.
+    #[tactic(auto, unfolding(crate::specs::ShapeScan::stepped))]
+    fn step(self, alloc: Global, c: char) -> Result<Reader, Memory>
+        ensures { IfOk result (λ r. state_of r ≡ stepped (state_of self) c) }
+    {
+        match self.mode {
+            Mode::Ready => self.begin(alloc, c),
+            Mode::Atom => self.behind_atom(alloc, c),
+            Mode::Lazy if c == '?' => Ok(self.in_mode(Mode::Ready)),
+            Mode::Lazy => self.begin(alloc, c),
+            Mode::Escape => self.escaped(alloc, c),
+            Mode::Open if c == '?' => Ok(self.in_mode(Mode::Quiet)),
+            Mode::Open => self.begin(alloc, c),
+            Mode::Quiet if c == ':' => Ok(self.in_mode(Mode::Ready)),
+            Mode::Quiet => Ok(self.in_mode(Mode::Outside)),
+            Mode::ClassStart => {
+                let opaque = c == '^' || is_hidden(c);
+                Ok(self.in_mode(Mode::Class {
+                    first: c,
+                    last: c,
+                    opaque,
+                }))
+            }
+            Mode::Class {
+                first,
+                last,
+                opaque,
+            } => self.in_class(alloc, first, last, opaque, c),
+            Mode::Brace => match c.to_digit(10) {
+                Some(digit) => Ok(self.in_mode(Mode::Least(digit))),
+                None => Ok(self.in_mode(Mode::Outside)),
+            },
+            Mode::Least(n) => self.in_least(alloc, n, c),
+            Mode::Comma(n) | Mode::Most(n) => self.in_most(alloc, n, c),
+            Mode::Outside => Ok(self),
+        }
+    }
+
+    fn in_mode(self, mode: Mode) -> Reader
+        ensures { state_of result ≡ in_mode mode (state_of self) }
+    {
+        Reader { mode, ..self }
+    }
+
+    /// An atom with these samples was read.
+    fn with_atom(self, piece: Both) -> Reader
+        ensures { state_of result ≡ with_atom piece (state_of self) }
+    {
+        Reader {
+            mode: Mode::Atom,
+            piece,
+            ..self
+        }
+    }
+
+    /// A count was read, with this least number.
+    fn with_count(self, alloc: Global, least: u32) -> Result<Reader, Memory>
+        ensures { IfOk result (λ r. state_of r ≡ with_count least (state_of self)) }
+    {
+        let piece = self.piece.counted(alloc, least)?;
+        Ok(Reader {
+            mode: Mode::Lazy,
+            piece,
+            ..self
+        })
+    }
+
+    /// Puts the last piece into its row.
+    fn flush(self, alloc: Global) -> Result<Reader, Memory>
+        ensures { IfOk result (λ r. state_of r ≡ flushed (state_of self)) }
+    {
+        let Reader {
+            mode,
+            piece,
+            frame,
+            stack,
+        } = self;
+        let row = frame.row.followed(&piece)?;
+        Ok(Reader {
+            mode,
+            piece: Both::nothing(alloc),
+            frame: Frame {
+                first: frame.first,
+                row,
+            },
+            stack,
+        })
+    }
+
+    /// Reads a character that begins something.
+    fn begin(self, alloc: Global, c: char) -> Result<Reader, Memory>
+        ensures { IfOk result (λ r. state_of r ≡ begun (state_of self) c) }
+    {
+        let reader = self.flush(alloc)?;
+        match part_of(c) {
+            Part::Bar => Ok(reader.bar(alloc)),
+            Part::Open => reader.open(alloc),
+            Part::Close => Ok(reader.close()),
+            Part::Bracket => Ok(reader.in_mode(Mode::ClassStart)),
+            Part::Backslash => Ok(reader.in_mode(Mode::Escape)),
+            Part::Dot => {
+                let piece = Both::of(alloc, '0', 'a')?;
+                Ok(reader.with_atom(piece))
+            }
+            Part::Anchor => Ok(reader.with_atom(Both::nothing(alloc))),
+            Part::Odd => Ok(reader.in_mode(Mode::Outside)),
+            Part::Ordinary => {
+                let piece = Both::of(alloc, c, c)?;
+                Ok(reader.with_atom(piece))
+            }
+        }
+    }
+
+    /// Reads a `|`.
+    fn bar(self, alloc: Global) -> Reader
+        ensures { state_of result ≡ barred (state_of self) }
+    {
+        let Reader {
+            piece,
+            frame,
+            stack,
+            ..
+        } = self;
+        let first = frame.value().low;
+        Reader {
+            mode: Mode::Ready,
+            piece,
+            frame: Frame {
+                first: Some(first),
+                row: Both::nothing(alloc),
+            },
+            stack,
+        }
+    }
+
+    /// Reads a `(`.
+    fn open(self, alloc: Global) -> Result<Reader, Memory>
+        ensures { IfOk result (λ r. state_of r ≡ opened (state_of self)) }
+    {
+        let Reader {
+            piece,
+            frame,
+            mut stack,
+            ..
+        } = self;
+        stack.push(frame)?;
+        Ok(Reader {
+            mode: Mode::Open,
+            piece,
+            frame: Frame {
+                first: None,
+                row: Both::nothing(alloc),
+            },
+            stack,
+        })
+    }
+
+    /// Reads a `)`.
+    fn close(self) -> Reader
+        ensures { state_of result ≡ closed_onto (reverse self.stack) (state_of self) }
+    {
+        let Reader {
+            piece,
+            frame,
+            mut stack,
+            ..
+        } = self;
+        match stack.pop() {
+            None => Reader {
+                mode: Mode::Outside,
+                piece,
+                frame,
+                stack,
+            },
+            Some(outer) => Reader {
+                mode: Mode::Atom,
+                piece: frame.value(),
+                frame: outer,
+                stack,
+            },
+        }
+    }
+
+    /// Reads a character behind an atom.
+    fn behind_atom(self, alloc: Global, c: char) -> Result<Reader, Memory>
+        ensures { IfOk result (λ r. state_of r ≡ behind_atom (state_of self) c) }
+    {
+        match c {
+            '*' | '?' => self.with_count(alloc, 0),
+            '+' => self.with_count(alloc, 1),
+            '{' => Ok(self.in_mode(Mode::Brace)),
+            _ => self.begin(alloc, c),
+        }
+    }
+
+    /// Reads a character behind a backslash.
+    fn escaped(self, alloc: Global, c: char) -> Result<Reader, Memory>
+        ensures { IfOk result (λ r. state_of r ≡ escaped_by (state_of self) c) }
+    {
+        let stands_for = match c {
+            'd' => '0',
+            'w' => 'a',
+            's' => ' ',
+            _ if is_escapable(c) => c,
+            _ => return Ok(self.in_mode(Mode::Outside)),
+        };
+        let piece = Both::of(alloc, stands_for, stands_for)?;
+        Ok(self.with_atom(piece))
+    }
+
+    /// Reads a character in a class behind its first member.
+    fn in_class(
+        self,
+        alloc: Global,
+        first: char,
+        last: char,
+        opaque: bool,
+        c: char,
+    ) -> Result<Reader, Memory>
+        ensures { IfOk result (λ r. state_of r ≡ in_class first last opaque (state_of self) c) }
+    {
+        if c != ']' {
+            let opaque = opaque || is_hidden(c);
+            return Ok(self.in_mode(Mode::Class {
+                first,
+                last: c,
+                opaque,
+            }));
+        }
+        let piece = class_samples(alloc, first, last, opaque)?;
+        Ok(self.with_atom(piece))
+    }
+
+    /// Reads a character behind the digits of a least count.
+    fn in_least(self, alloc: Global, n: u32, c: char) -> Result<Reader, Memory>
+        ensures { IfOk result (λ r. state_of r ≡ in_least n (state_of self) c) }
+    {
+        if let Some(digit) = c.to_digit(10) {
+            let longer = n.saturating_mul(10).saturating_add(digit);
+            let mode = if longer <= 64 {
+                Mode::Least(longer)
+            } else {
+                Mode::Outside
+            };
+            return Ok(self.in_mode(mode));
+        }
+        match c {
+            '}' => self.with_count(alloc, n),
+            ',' => Ok(self.in_mode(Mode::Comma(n))),
+            _ => Ok(self.in_mode(Mode::Outside)),
+        }
+    }
+
+    /// Reads a character behind the comma of a count.
+    fn in_most(self, alloc: Global, n: u32, c: char) -> Result<Reader, Memory>
+        ensures { IfOk result (λ r. state_of r ≡ in_most n (state_of self) c) }
+    {
+        if c.is_ascii_digit() {
+            return Ok(self.in_mode(Mode::Most(n)));
+        }
+        match c {
+            '}' => self.with_count(alloc, n),
+            _ => Ok(self.in_mode(Mode::Outside)),
+        }
+    }
+}
+
+/// Whether the pattern may end in this mode.
+fn may_end(mode: Mode) -> bool
+    ensures { result ≡ may_end mode }
+{
+    matches!(mode, Mode::Ready | Mode::Atom | Mode::Lazy | Mode::Open)
+}
+
+/// The samples of a class, by its first and its last member.
+fn class_samples(alloc: Global, first: char, last: char, opaque: bool) -> Result<Both, Memory>
+    ensures { IfOk result (λ b. b ≡ class_pair first last opaque) }
+{
+    if opaque {
+        Both::of(alloc, '0', 'a')
+    } else {
+        Both::of(alloc, first, last)
+    }
+}
+
+/// Whether it is a backslash or a `[`.
+fn is_hidden(c: char) -> bool
+    ensures { result ≡ is_hidden c }
+{
+    c == '\\' || c == '['
+}
+
+/// What a character is that begins something.
+fn part_of(c: char) -> Part
+    ensures { result ≡ part_of c }
+{
+    match c {
+        '|' => Part::Bar,
+        '(' => Part::Open,
+        ')' => Part::Close,
+        '[' => Part::Bracket,
+        '\\' => Part::Backslash,
+        '.' => Part::Dot,
+        '^' | '$' => Part::Anchor,
+        _ if is_special(c) => Part::Odd,
+        _ => Part::Ordinary,
+    }
+}
