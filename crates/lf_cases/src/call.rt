@@ -1,9 +1,9 @@
 //! The calls that cases are run over. A further one has a variant, a word, a line in each `match` here, and a file of its own.
 
+use crate::answer::Answer;
 use crate::case::Case;
-use crate::{patterns, scalars, tokens};
+use crate::{expressions, patterns, scalars, tokens, types};
 use anyhow::Result;
-use serde_json::Value;
 use std::alloc::Global;
 use std::time::Duration;
 
@@ -12,6 +12,10 @@ use std::time::Duration;
 pub enum Call {
     /// `lf_lex::lex`
     Tokens,
+    /// `lf_parse::parse`
+    Expressions,
+    /// `lf_ast::type_of`, of what `lf_parse::parse` reads
+    Types,
     /// `lf_scalar::read_scalar`
     Scalars,
     /// The calls of `lf_pattern`
@@ -23,6 +27,8 @@ impl Call {
     pub fn of(word: &str) -> Option<Call> {
         match word {
             "tokens" => Some(Call::Tokens),
+            "expressions" => Some(Call::Expressions),
+            "types" => Some(Call::Types),
             "scalars" => Some(Call::Scalars),
             "patterns" => Some(Call::Patterns),
             _ => None,
@@ -33,17 +39,21 @@ impl Call {
     pub fn word(self) -> &'static str {
         match self {
             Call::Tokens => "tokens",
+            Call::Expressions => "expressions",
+            Call::Types => "types",
             Call::Scalars => "scalars",
             Call::Patterns => "patterns",
         }
     }
 
     /// What the call answers on a case.
-    pub fn answer(self, alloc: Global, case: &Case) -> Result<Value> {
+    pub fn answer(self, alloc: Global, case: &Case) -> Result<Answer> {
         match self {
-            Call::Tokens => tokens::answer(alloc, case),
-            Call::Scalars => scalars::answer(alloc, case),
-            Call::Patterns => patterns::answer(alloc, case),
+            Call::Tokens => Ok(Answer::of(tokens::answer(alloc, case)?)),
+            Call::Expressions => expressions::answer(alloc, case),
+            Call::Types => types::answer(alloc, case),
+            Call::Scalars => Ok(Answer::of(scalars::answer(alloc, case)?)),
+            Call::Patterns => Ok(Answer::of(patterns::answer(alloc, case)?)),
         }
     }
 
@@ -51,6 +61,8 @@ impl Call {
     pub fn time(self, rt: &HostRuntime, text: &str) -> Result<Duration> {
         match self {
             Call::Tokens => tokens::time(rt, text),
+            Call::Expressions => expressions::time(rt, text),
+            Call::Types => types::time(rt, text),
             Call::Scalars => scalars::time(rt, text),
             Call::Patterns => patterns::time(rt, text),
         }

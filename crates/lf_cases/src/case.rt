@@ -10,18 +10,28 @@ use std::str;
 pub struct Case {
     /// The bytes that the call is given.
     input: Vec<u8>,
-    /// The whole object, with the keys that single calls want beside the input.
+    /// The whole object but for `spans`, with the keys that single calls want beside the input.
     object: Value,
+    /// The spans, as JSON without blanks.
+    spans: Option<String>,
 }
+
+/// What stands before the spans of a line, which come last. They nest as deep as expressions do, deeper than the reader of JSON goes, so they are kept as text.
+const SPANS: &[u8] = b", \"spans\": ";
 
 impl Case {
     /// Reads a case of a line. Its object has `name`, `expect`, and `input` or `input_hex`.
     pub fn read(alloc: Global, line: &[u8]) -> Result<Case> {
-        let object = Value::from_slice(alloc, line)?;
+        let (object, spans) = without_spans(alloc, line)?;
+        let object = Value::from_slice(alloc, object.as_slice())?;
         text_at(&object, "name").context("no name")?;
         object.get("expect").context("no expect")?;
         let input = input_of(alloc, &object)?;
-        Ok(Case { input, object })
+        Ok(Case {
+            input,
+            object,
+            spans,
+        })
     }
 
     /// What the case shows.
@@ -44,10 +54,39 @@ impl Case {
         self.object.get(key).and_then(Value::as_i64)
     }
 
+    /// The spans that the answer is to have, where the case says them.
+    pub fn spans(&self) -> Option<&str> {
+        self.spans.as_ref().map(String::as_str)
+    }
+
     /// The input, for a call that is given a text.
     pub fn text(&self) -> Result<&str> {
         str::from_utf8(self.input.as_slice()).map_err(|_| anyhow!("the input isn't UTF-8"))
     }
+}
+
+/// The object of a line without its spans, and these, if it has them.
+fn without_spans(alloc: Global, line: &[u8]) -> Result<(Vec<u8>, Option<String>)> {
+    for at in 0..line.len() {
+        if let Some(behind) = line[at..].strip_prefix(SPANS) {
+            let mut object = Vec::from_slice(alloc, &line[..at])?;
+            object.push(b'}')?;
+            return Ok((object, Some(spans_in(alloc, behind)?)));
+        }
+    }
+    Ok((Vec::from_slice(alloc, line)?, None))
+}
+
+/// The spans without blanks, of a line's end that closes the object behind them.
+fn spans_in(alloc: Global, behind: &[u8]) -> Result<String> {
+    let spans = behind.strip_suffix(b"}").context("no end")?;
+    let mut text = String::new(alloc);
+    for byte in spans {
+        if *byte != b' ' {
+            text.push(char::from(*byte))?;
+        }
+    }
+    Ok(text)
 }
 
 /// The text at a key of an object.

@@ -5,15 +5,19 @@
 //! - `lf_cases --time CALL FILE` says how long the call takes on the text of a file.
 #![tactic(auto)]
 
-mod answers;
+mod answer;
 mod call;
 mod case;
+mod expressions;
 mod offsets;
 mod patterns;
 mod run;
 mod scalars;
+mod spans;
 mod timing;
 mod tokens;
+mod tree;
+mod types;
 
 use anyhow::Result;
 use call::Call;

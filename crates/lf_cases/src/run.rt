@@ -61,11 +61,5 @@ fn run_lines(rt: &HostRuntime, call: Call, lines: &[u8]) -> Result<Counts> {
 fn wrong_in(alloc: Global, call: Call, line: &[u8]) -> Result<Option<String>> {
     let case = Case::read(alloc, line)?;
     let answer = call.answer(alloc, &case)?;
-    if answer == *case.expect() {
-        return Ok(None);
-    }
-    let name = case.name();
-    let expect = case.expect();
-    let wrong = format!(in alloc; "{name}: {answer} in place of {expect}")?;
-    Ok(Some(wrong))
+    answer.wrong(alloc, &case)
 }

@@ -2,7 +2,7 @@
 ghost use Rattle.std.specs.Prelude.{◌≤◌, ◌^◌, length, OnOk};
 ghost use Rattle.lf_scalar.specs.Scalars.{BeginsAt};
 
-use crate::answers::{refusal_of, refused};
+use crate::answer::{refusal_of, refused};
 use crate::case::Case;
 use anyhow::{Context, Result, bail};
 use lf_base::{Refusal, Seq};

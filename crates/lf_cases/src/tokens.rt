@@ -2,7 +2,7 @@
 ghost use Rattle.std.specs.Prelude.{◌≡◌, ◌+◌, length, IfOk};
 ghost use Rattle.std.specs.List.Sorted.{IsNonDecreasing};
 
-use crate::answers::{refusal_of, refused};
+use crate::answer::{refusal_of, refused};
 use crate::case::Case;
 use crate::offsets::plain_offsets;
 use anyhow::{Result, anyhow, bail};
@@ -35,7 +35,7 @@ pub fn time(rt: &HostRuntime, text: &str) -> Result<Duration> {
 }
 
 /// A text and the offsets of its bytes, as `lex` takes them.
-fn source_of(alloc: Global, text: &str) -> Result<(Text, Seq<u32>)>
+pub fn source_of(alloc: Global, text: &str) -> Result<(Text, Seq<u32>)>
     ensures text { IfOk result (λ source. source.0 ≡ text.now) }
     ensures count { IfOk result (λ source. length source.1 ≡ length source.0 + 1) }
     ensures rises { IfOk result (λ source. IsNonDecreasing source.1) }

@@ -1,0 +1,275 @@
+-- What the machine's answer says of the tokens.
+use Rattle.std.proofs.Common.{◌≡◌, ℕ, zero, suc, ◌+◌, ◌≤◌, ◌<◌, ◌⊎◌, inl, inr, List, [], ◌∷◌, ◌++◌, length, take, drop, get_or, map, Option, Some, None, MatchOption, Result, Ok, Err, IfOk, IfErr, refl, sym, ◌∙◌, ap, subst, append_assoc, add-one, arith}
+use Rattle.std.proofs.lemmas.List.{append-nil, at_drop_more, at_drop_all}
+use Rattle.std.specs.Option.{option_and_then}
+use Rattle.std.proofs.Math.Seq.{take-length}
+use Rattle.lf_base.specs.declared.kind.Kind.TheVariants.{TooDeep, Syntax}
+use Rattle.lf_base.specs.declared.refusal.Refusal.{Refusal}
+use Rattle.lf_base.specs.declared.refusal.Refusal.TheVariants.{At, Memory}
+use Rattle.lf_ast.specs.declared.expr.Expr.{Expr}
+use Rattle.lf_lex.specs.declared.token.Token.{Token}
+use Rattle.lf_lex.specs.Tokens.{Fault}
+use Rattle.lf_lex.specs.Tokens.{IfAt}
+use Rattle.lf_parse.specs.Tokens.{Tok, shown}
+use Rattle.lf_parse.specs.Tree.{Tree, tree}
+use Rattle.lf_parse.specs.Grammar.{Parses, IsViable}
+use Rattle.lf_parse.specs.Machine.{State, step, finish, start, run, accept, at_end, reading_from, reading}
+use Rattle.lf_parse.specs.Depth.{TooDeepAt, IsBounded}
+use Rattle.lf_parse.specs.Answer.{IsExpression, SyntaxAt, place, fault, Refuses, too_deep, syntax, Gives}
+use Rattle.lf_parse.specs.Reading.{placed, answer}
+use Rattle.lf_parse.proofs.Complete.{complete}
+use Rattle.lf_parse.proofs.Sound.{sound}
+use Rattle.lf_parse.proofs.Prefix.{viable_run, stuck_run}
+
+-- ---- the machine's answer
+
+-- the machine takes n tokens, and no more
+record Stuck (s : State) (ts : List Token) (n : ℕ) : Type 0 where
+  within : n ≤ length ts
+  last : State
+  runs : run s (map shown (take n ts)) ≡ Some last
+  here : n < length ts → run s (map shown (take (suc n) ts)) ≡ None
+  none : accept s (map shown ts) ≡ None
+
+abbrev Tells : ℕ → State → List Token → Result Tree ℕ → Type 0
+Tells k s ts (Ok e) = accept s (map shown ts) ≡ Some e
+Tells k s ts (Err j) = (n : ℕ) × (j ≡ k + n) × Stuck s ts n
+
+tells_end : (k : ℕ) (s : State) (o : Option Tree) → finish s ≡ o → Tells k s [] (at_end k o)
+tells_end k s (Some e) h = h
+tells_end k s None h = (0, omega arith, record { within = omega arith; last = s; runs = refl; here = λ l. absurd (omega arith); none = h })
+
+tells_more : (k : ℕ) (s s' : State) (t : Token) (ts : List Token) (r : Result Tree ℕ) → step s (shown t) ≡ Some s' → Tells (k + 1) s' ts r → Tells k s (t ∷ ts) r
+tells_more k s s' t ts (Ok e) h i = ap (option_and_then (λ x. accept x (map shown ts))) h ∙ i
+tells_more k s s' t ts (Err j) h (n, e, stuck) = (
+  suc n,
+  omega arith,
+  record {
+    within = omega (arith, stuck.within);
+    last = stuck.last;
+    runs = ap (option_and_then (λ x. run x (map shown (take n ts)))) h ∙ stuck.runs;
+    here = λ l. ap (option_and_then (λ x. run x (map shown (take (suc n) ts)))) h ∙ stuck.here (omega arith);
+    none = ap (option_and_then (λ x. accept x (map shown ts))) h ∙ stuck.none;
+  },
+)
+
+tells_step : (k : ℕ) (s : State) (t : Token) (ts : List Token) (o : Option State) → step s (shown t) ≡ o → ((s' : State) → Tells (k + 1) s' ts (reading_from (k + 1) s' (map shown ts))) → Tells k s (t ∷ ts) (elim o [ None ↦ Err k | Some s' ↦ reading_from (k + 1) s' (map shown ts) ])
+tells_step k s t ts (Some s') h i = tells_more k s s' t ts (reading_from (k + 1) s' (map shown ts)) h (i s')
+tells_step k s t ts None h i = (
+  0,
+  omega arith,
+  record {
+    within = omega arith;
+    last = s;
+    runs = refl;
+    here = λ l. ap (option_and_then (λ x. run x [])) h;
+    none = ap (option_and_then (λ x. accept x (map shown ts))) h;
+  },
+)
+
+tells : (ts : List Token) (k : ℕ) (s : State) → Tells k s ts (reading_from k s (map shown ts))
+tells [] k s = tells_end k s (finish s) refl
+tells (t ∷ ts) k s = tells_step k s t ts (step s (shown t)) refl (λ s'. tells ts (k + 1) s')
+
+-- ---- places of Syntax
+
+-- a front of tokens that are viable is viable
+viable_front : (xs ys : List Token) → IsViable (xs ++ ys) → IsViable xs
+viable_front xs ys v = (ys ++ v.0, v.1, rw append_assoc at v.2)
+
+front : (j k : ℕ) (ts : List Token) → j ≤ k → (ys : List Token) × (take j ts ++ ys ≡ take k ts)
+front zero k ts h = (take k ts, refl)
+front (suc j) zero ts h = absurd (omega arith)
+front (suc j) (suc k) [] h = ([], refl)
+front (suc j) (suc k) (t ∷ ts) h = let y = front j k ts (omega arith) in (y.0, ap (λ l. t ∷ l) y.1)
+
+viable_take : (j k : ℕ) (ts : List Token) → j ≤ k → IsViable (take k ts) → IsViable (take j ts)
+viable_take j k ts h v = let y = front j k ts h in viable_front (take j ts) y.0 (subst IsViable (sym y.1) v)
+
+viable_parse : (ts : List Token) (e : Tree) → Parses ts e → IsViable ts
+viable_parse ts e d = ([], e, rw append-nil d)
+
+abbrev read : List Token → Result Tree ℕ
+read ts = reading (map shown ts)
+
+-- a place that is told
+pub syntax_told : (ts : List Token) (k : ℕ) → read ts ≡ Err k → SyntaxAt ts k
+syntax_told ts k h = go (subst (Tells 0 start ts) h (tells ts 0 start))
+  where
+    go : Tells 0 start ts (Err k) → SyntaxAt ts k
+    go (n, e, stuck) =
+        let same : n ≡ k = omega arith in
+        subst (SyntaxAt ts) same (record {
+          within = stuck.within;
+          before = viable_run (take n ts) stuck.last stuck.runs;
+          here = λ l. stuck_run (take (n + 1) ts) (rw add-one (stuck.here l));
+          end = λ l x d. let e' = sym (complete (map shown ts) x d) ∙ stuck.none in cc;
+        })
+
+parses_told : (ts : List Token) (e : Tree) → read ts ≡ Ok e → Parses ts e
+parses_told ts e h = sound (map shown ts) e (subst (Tells 0 start ts) h (tells ts 0 start))
+
+le_split : (m n : ℕ) → m ≤ n → (m < n) ⊎ (m ≡ n)
+le_split zero zero h = inr refl
+le_split zero (suc n) h = inl (omega arith)
+le_split (suc m) zero h = absurd (omega arith)
+le_split (suc m) (suc n) h = elim (le_split m n (omega arith)) [ inl l ↦ inl (omega arith) | inr e ↦ inr (omega arith) ]
+
+apart : (m n : ℕ) → (m ≡ n) ⊎ ((m < n) ⊎ (n < m))
+apart zero zero = inl refl
+apart zero (suc n) = inr (inl (omega arith))
+apart (suc m) zero = inr (inr (omega arith))
+apart (suc m) (suc n) = elim (apart m n) [ inl e ↦ inl (omega arith) | inr u ↦ elim u [ inl l ↦ inr (inl (omega arith)) | inr l ↦ inr (inr (omega arith)) ] ]
+
+-- two places are one
+syntax_before : (ts : List Token) (j k : ℕ) → SyntaxAt ts j → SyntaxAt ts k → j < k → ⊥
+syntax_before ts j k a b l = a.here (omega (arith, b.within)) (viable_take (j + 1) k ts (omega arith) b.before)
+
+syntax_once : (ts : List Token) (j k : ℕ) → SyntaxAt ts j → SyntaxAt ts k → j ≡ k
+syntax_once ts j k a b = elim (apart j k) [ inl e ↦ e | inr u ↦ elim u [ inl l ↦ absurd (syntax_before ts j k a b l) | inr l ↦ absurd (syntax_before ts k j b a l) ] ]
+
+-- no place stands in an expression
+syntax_none : (ts : List Token) (e : Tree) (k : ℕ) → Parses ts e → SyntaxAt ts k → ⊥
+syntax_none ts e k d a =
+    let w : (k < length ts) ⊎ (k ≡ length ts) = le_split k (length ts) a.within in
+    elim w [
+      | inl l ↦ a.here l (viable_take (k + 1) (length ts) ts (omega arith) (subst IsViable (sym (take-length ts)) (viable_parse ts e d)))
+      | inr l ↦ a.end l e d
+    ]
+
+-- ---- one reading
+
+-- no list of tokens has two trees
+pub one_tree : (ts : List Token) (e f : Tree) → Parses ts e → Parses ts f → e ≡ f
+one_tree ts e f d g = let p = sym (complete (map shown ts) e d) ∙ complete (map shown ts) f g in cc
+
+deep_before : (ts : List Token) (j k : ℕ) → TooDeepAt ts j → TooDeepAt ts k → j < k → ⊥
+deep_before ts j k a b l = let p = sym a.here ∙ b.before (j + 1) (omega arith) in cc
+
+deep_once : (ts : List Token) (j k : ℕ) → TooDeepAt ts j → TooDeepAt ts k → j ≡ k
+deep_once ts j k a b = elim (apart j k) [ inl e ↦ e | inr u ↦ elim u [ inl l ↦ absurd (deep_before ts j k a b l) | inr l ↦ absurd (deep_before ts k j b a l) ] ]
+
+deep_bounded : (ts : List Token) (k : ℕ) → TooDeepAt ts k → IsBounded ts → ⊥
+deep_bounded ts k a b = let p = sym a.here ∙ b (k + 1) (omega (arith, a.within)) in cc
+
+-- tokens that are refused are no expression
+pub never_both : (ts : List Token) (end : ℕ) (e : Tree) (f : Fault) → IsExpression ts e → Refuses ts end f → ⊥
+never_both ts end e f (b, d) (too_deep k a) = deep_bounded ts k a b
+never_both ts end e f (b, d) (syntax k c a) = syntax_none ts e k d a
+
+-- and are refused for one reason
+pub one_fault : (ts : List Token) (end : ℕ) (f g : Fault) → Refuses ts end f → Refuses ts end g → f ≡ g
+one_fault ts end f g (too_deep j a) (too_deep k b) = ap (λ i. fault TooDeep (place ts end i)) (deep_once ts j k a b)
+one_fault ts end f g (too_deep j a) (syntax k c b) = absurd (deep_bounded ts j a c)
+one_fault ts end f g (syntax j c a) (too_deep k b) = absurd (deep_bounded ts k b c)
+one_fault ts end f g (syntax j c a) (syntax k d b) = ap (λ i. fault Syntax (place ts end i)) (syntax_once ts j k a b)
+
+-- ---- what the code returned
+
+-- an answer that is right
+abbrev pub IsRight : List Token → ℕ → Result Tree Fault → Type 0
+IsRight ts end (Ok e) = IsExpression ts e
+IsRight ts end (Err f) = Refuses ts end f
+
+right_read : (ts : List Token) (end : ℕ) (r : Result Tree ℕ) → read ts ≡ r → IsBounded ts → IsRight ts end (placed ts end r)
+right_read ts end (Ok e) h b = (b, parses_told ts e h)
+right_read ts end (Err k) h b = syntax k b (syntax_told ts k h)
+
+-- an answer that is right is the only one
+only_right : (ts : List Token) (end : ℕ) (r s : Result Tree Fault) → IsRight ts end r → IsRight ts end s → r ≡ s
+only_right ts end (Ok e) (Ok f) a b = ap Ok (one_tree ts e f a.1 b.1)
+only_right ts end (Ok e) (Err f) a b = absurd (never_both ts end e f a b)
+only_right ts end (Err f) (Ok e) a b = absurd (never_both ts end e f b a)
+only_right ts end (Err f) (Err g) a b = ap Err (one_fault ts end f g a b)
+
+module _ (ts : List Token) (end : ℕ) (r : Result Expr Refusal) (read : Result Tree Fault) (right : IsRight ts end read) (given : Gives r read) where
+  pub gives_right : (s : Result Tree Fault) → IsRight ts end s → Gives r s
+  gives_right s h = subst (Gives r) (only_right ts end read s right h) given
+
+right_given : (ts : List Token) (end : ℕ) (r : Result Expr Refusal) (read : Result Tree Fault) → IsRight ts end read → Gives r read → IfOk r (λ e. IsExpression ts (tree e)) × IfErr r (λ refusal. IfAt refusal (Refuses ts end))
+right_given ts end (Ok e) read h g = (subst (IsRight ts end) g h, tt)
+right_given ts end (Err Memory) read h g = (tt, tt)
+right_given ts end (Err (At kind p)) read h g = (tt, subst (IsRight ts end) g h)
+
+-- the four clauses of an answer
+pub record Answers (ts : List Token) (end : ℕ) (r : Result Expr Refusal) : Type 0 where
+  pub found : IfOk r (λ e. IsExpression ts (tree e))
+  pub only : (e : Tree) → IsExpression ts e → Gives r (Ok e)
+  pub refused : IfErr r (λ refusal. IfAt refusal (Refuses ts end))
+  pub breach : (f : Fault) → Refuses ts end f → Gives r (Err f)
+
+answers : (ts : List Token) (end : ℕ) (r : Result Expr Refusal) (read : Result Tree Fault) → IsRight ts end read → Gives r read → Answers ts end r
+answers ts end r read h g =
+    let y = right_given ts end r read h g in
+    record {
+      found = y.0;
+      only = λ e d. gives_right ts end r read h g (Ok e) d;
+      refused = y.1;
+      breach = λ f d. gives_right ts end r read h g (Err f) d;
+    }
+
+pub answers_read : (ts : List Token) (end : ℕ) (r : Result Expr Refusal) → IsBounded ts → Gives r (answer ts end) → Answers ts end r
+answers_read ts end r b g = answers ts end r (placed ts end (read ts)) (right_read ts end (read ts) refl b) g
+
+-- ---- the loop over the tokens
+
+place_at : (ts : List Token) (end k : ℕ) (t : Token) → k < length ts → place ts end k ≡ (get_or ts k t).span
+place_at [] end k t h = absurd (omega arith)
+place_at (x ∷ ts) end zero t h = refl
+place_at (x ∷ ts) end (suc k) t h = place_at ts end k t (omega arith)
+
+place_end : (ts : List Token) (end k : ℕ) → length ts ≤ k → place ts end k ≡ record { start = end; end = end }
+place_end [] end k h = refl
+place_end (x ∷ ts) end zero h = absurd (omega arith)
+place_end (x ∷ ts) end (suc k) h = place_end ts end k (omega arith)
+
+-- what is read from token k on
+abbrev pub ReadsFrom : List Token → ℕ → State → Type 0
+ReadsFrom ts k s = reading_from k s (map shown (drop k ts)) ≡ reading (map shown ts)
+
+abbrev stepped : ℕ → List Tok → Option State → Result Tree ℕ
+stepped k ts o = elim o [ None ↦ Err k | Some s' ↦ reading_from (k + 1) s' ts ]
+
+reads_step : (ts : List Token) (k : ℕ) (t : Token) (s : State) (o : Option State) → k < length ts → t ≡ get_or ts k t → ReadsFrom ts k s → o ≡ step s (shown t) → stepped k (map shown (drop (k + 1) ts)) o ≡ reading (map shown ts)
+reads_step ts k t s o h i r e =
+    let here = at_drop_more (λ l. reading_from k s (map shown l)) ts k t h in
+    let same = ap (λ x. stepped k (map shown (drop (k + 1) ts)) (step s (shown x))) i in
+    ap (stepped k (map shown (drop (k + 1) ts))) e ∙ same ∙ sym here ∙ r
+
+pub reads_more : (ts : List Token) (k : ℕ) (t : Token) (s s' : State) → k < length ts → t ≡ get_or ts k t → ReadsFrom ts k s → Some s' ≡ step s (shown t) → ReadsFrom ts (k + 1) s'
+reads_more ts k t s s' h i r e = reads_step ts k t s (Some s') h i r e
+
+pub answer_stuck : (ts : List Token) (end k : ℕ) (t : Token) (s : State) → k < length ts → t ≡ get_or ts k t → ReadsFrom ts k s → None ≡ step s (shown t) → Err (fault Syntax t.span) ≡ answer ts end
+answer_stuck ts end k t s h i r e =
+    let here = ap (placed ts end) (reads_step ts k t s None h i r e) in
+    let same = ap (λ (x : Token). x.span) i ∙ sym (place_at ts end k t h) in
+    ap (λ p. Err (fault Syntax p)) same ∙ here
+
+reads_end : (ts : List Token) (k : ℕ) (s : State) (o : Option Tree) → length ts ≤ k → ReadsFrom ts k s → o ≡ finish s → at_end k o ≡ reading (map shown ts)
+reads_end ts k s o h r e = ap (at_end k) e ∙ sym (at_drop_all (λ l. reading_from k s (map shown l)) ts k h) ∙ r
+
+pub answer_found : (ts : List Token) (end k : ℕ) (s : State) (e : Tree) → length ts ≤ k → ReadsFrom ts k s → Some e ≡ finish s → Ok e ≡ answer ts end
+answer_found ts end k s e h r i = ap (placed ts end) (reads_end ts k s (Some e) h r i)
+
+pub answer_end : (ts : List Token) (end k : ℕ) (s : State) → length ts ≤ k → ReadsFrom ts k s → None ≡ finish s → Err (fault Syntax (record { start = end; end = end })) ≡ answer ts end
+answer_end ts end k s h r i = ap (λ p. Err (fault Syntax p)) (sym (place_end ts end k h)) ∙ ap (placed ts end) (reads_end ts k s None h r i)
+
+-- ---- the two answers of the parser
+
+module _ (ts us : List Token) (end : ℕ) (same : us ≡ ts) where
+  -- a bound is passed at token k, which the code has read
+  deep_refuses : (k : ℕ) (t : Token) → TooDeepAt us k → Refuses us end (fault TooDeep (get_or us k t).span)
+  deep_refuses k t a = subst (λ p. Refuses us end (fault TooDeep p)) (place_at us end k t a.within) (too_deep k a)
+
+  pub deep_refused : (o : Option ℕ) (k : ℕ) (t : Token) → o ≡ Some k → MatchOption o (IsBounded us) (TooDeepAt us) → Refuses ts end (fault TooDeep (get_or us k t).span)
+  deep_refused o k t e a =
+      let deep = subst (λ (x : Option ℕ). MatchOption x (IsBounded us) (TooDeepAt us)) e a in
+      subst (λ (xs : List Token). Refuses xs end (fault TooDeep (get_or us k t).span)) same (deep_refuses k t deep)
+
+  pub deep_breach : (o : Option ℕ) (k : ℕ) (t : Token) → o ≡ Some k → MatchOption o (IsBounded us) (TooDeepAt us) → (f : Fault) → Refuses ts end f → f ≡ fault TooDeep (get_or us k t).span
+  deep_breach o k t e a f b = one_fault ts end f (fault TooDeep (get_or us k t).span) b (deep_refused o k t e a)
+
+  pub answers_within : (r : Result Expr Refusal) (o : Option ℕ) → o ≡ None → MatchOption o (IsBounded us) (TooDeepAt us) → Gives r (answer us end) → Answers ts end r
+  answers_within r o e a g =
+      let bounded = subst (λ (x : Option ℕ). MatchOption x (IsBounded us) (TooDeepAt us)) e a in
+      subst (λ (xs : List Token). Answers xs end r) same (answers_read us end r bounded g)

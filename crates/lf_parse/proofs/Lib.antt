@@ -1,0 +1,9 @@
+pub mod Words
+pub mod Arguments
+pub mod Nestings
+pub mod Levels
+pub mod Complete
+pub mod Sound
+pub mod Prefix
+pub mod Answering
+pub mod Worked

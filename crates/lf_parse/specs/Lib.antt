@@ -1,0 +1,8 @@
+pub mod Tree
+pub mod Tokens
+pub mod Grammar
+pub mod Machine
+pub mod Depth
+pub mod Answer
+pub mod View
+pub mod Reading

@@ -1,0 +1,208 @@
+//! Behind an operand.
+ghost use Rattle.std.specs.Prelude.{◌≡◌, [], IfOk};
+ghost use Rattle.lf_parse.specs.Tree.{tree};
+ghost use Rattle.lf_parse.specs.Machine as machine;
+ghost use Rattle.lf_parse.specs.View.{trees, tok, frames, next, seen_operand, seen_subject};
+
+use crate::braces::Braces;
+use crate::class::Class;
+use crate::names::Names;
+use crate::part::Part;
+use crate::place::{Head, Operand, Pending, Place, Subject, blank, subject_tree};
+use crate::reduce::after;
+use crate::seen::{Mark, Seen};
+use lf_ast::{Agg, Expr, Grouping, Matcher, Sight};
+use lf_base::{Memory, Seq, Span, Text};
+use lf_lex::Sign;
+use std::alloc::Global;
+
+fn whole_step(
+    alloc: Global,
+    pending: &mut Vec<Pending>,
+    operand: Expr,
+    end: u32,
+    token: Seen,
+) -> Result<Option<Place>, Memory>
+    ensures { IfOk result (λ p. next pending.new.items p ≡ machine.whole_step (frames pending.old.items) (tree operand) end (tok token.entry)) }
+{
+    match token.mark {
+        Mark::Sign(Sign::OpenBracket) => {
+            Ok(Some(Place::AfterBracket(Operand::Whole(operand, end))))
+        }
+        _ => after(alloc, pending, operand, end, token),
+    }
+}
+
+/// A selector that is a word alone, as what modifiers come to.
+pub fn of_word(alloc: Global, name: Text) -> Subject
+    ensures { seen_subject result ≡ machine.OfSelector (Some name) [] }
+{
+    Subject::Selector(Some(name), Seq::new(alloc))
+}
+
+fn bare_step(
+    alloc: Global,
+    pending: &mut Vec<Pending>,
+    name: Text,
+    span: Span,
+    token: Seen,
+) -> Result<Option<Place>, Memory>
+    ensures { IfOk result (λ p. next pending.new.items p ≡ machine.bare_step (frames pending.old.items) name span (tok token.entry)) }
+{
+    match token.mark {
+        Mark::Sign(Sign::OpenBracket) => Ok(Some(Place::AfterBracket(Operand::Bare(name, span)))),
+        Mark::Sign(Sign::OpenParen) => Ok(Some(Place::First(Head::Call(name, span)))),
+        Mark::Sign(Sign::OpenBrace) => Ok(Some(Place::InBraces(
+            Some(name),
+            span,
+            Braces::Next(Seq::new(alloc)),
+        ))),
+        Mark::Word(Class::Offset) => Ok(Some(Place::InMod(
+            of_word(alloc, name),
+            blank(span),
+            span,
+            Part::AfterOffset,
+        ))),
+        Mark::Sign(Sign::At) => Ok(Some(Place::InMod(
+            of_word(alloc, name),
+            blank(span),
+            span,
+            Part::AfterAt,
+        ))),
+        _ => {
+            let selector = Expr::Selector {
+                name: Some(name),
+                matchers: Seq::new(alloc),
+                sight: blank(span),
+                span,
+            };
+            after(alloc, pending, selector, span.end, token)
+        }
+    }
+}
+
+fn selected_step(
+    alloc: Global,
+    pending: &mut Vec<Pending>,
+    name: Option<Text>,
+    matchers: Seq<Matcher>,
+    span: Span,
+    token: Seen,
+) -> Result<Option<Place>, Memory>
+    ensures { IfOk result (λ p. next pending.new.items p ≡ machine.selected_step (frames pending.old.items) name matchers span (tok token.entry)) }
+{
+    match token.mark {
+        Mark::Sign(Sign::OpenBracket) => Ok(Some(Place::AfterBracket(Operand::Selected(
+            name, matchers, span,
+        )))),
+        Mark::Word(Class::Offset) => Ok(Some(Place::InMod(
+            Subject::Selector(name, matchers),
+            blank(span),
+            span,
+            Part::AfterOffset,
+        ))),
+        Mark::Sign(Sign::At) => Ok(Some(Place::InMod(
+            Subject::Selector(name, matchers),
+            blank(span),
+            span,
+            Part::AfterAt,
+        ))),
+        _ => {
+            let selector = Expr::Selector {
+                name,
+                matchers,
+                sight: blank(span),
+                span,
+            };
+            after(alloc, pending, selector, span.end, token)
+        }
+    }
+}
+
+fn aggregated_step(
+    alloc: Global,
+    pending: &mut Vec<Pending>,
+    op: Agg,
+    args: Seq<Expr>,
+    span: Span,
+    end: u32,
+    token: Seen,
+) -> Result<Option<Place>, Memory>
+    ensures { IfOk result (λ p. next pending.new.items p ≡ machine.aggregated_step (frames pending.old.items) op (trees args) span end (tok token.entry)) }
+{
+    match token.mark {
+        Mark::Sign(Sign::OpenBracket) => Ok(Some(Place::AfterBracket(Operand::Aggregated(
+            op, args, span, end,
+        )))),
+        Mark::Word(Class::Grouping(clause)) => Ok(Some(Place::InGroupingBehind(
+            op,
+            span,
+            args,
+            clause,
+            Names::Opening,
+        ))),
+        _ => {
+            let aggregation = Expr::Aggregate {
+                op,
+                grouping: Grouping::None,
+                args,
+                span,
+            };
+            after(alloc, pending, aggregation, end, token)
+        }
+    }
+}
+
+fn seen_step(
+    alloc: Global,
+    pending: &mut Vec<Pending>,
+    subject: Subject,
+    sight: Sight,
+    span: Span,
+    end: u32,
+    token: Seen,
+) -> Result<Option<Place>, Memory>
+    ensures { IfOk result (λ p. next pending.new.items p ≡ machine.seen_step (frames pending.old.items) (seen_subject subject) sight span end (tok token.entry)) }
+{
+    match token.mark {
+        Mark::Sign(Sign::OpenBracket) => Ok(Some(Place::AfterBracket(Operand::Seen(
+            subject, sight, span, end,
+        )))),
+        Mark::Word(Class::Offset) => match &sight.offset {
+            None => Ok(Some(Place::InMod(subject, sight, span, Part::AfterOffset))),
+            Some(_) => Ok(None),
+        },
+        Mark::Sign(Sign::At) => match &sight.at {
+            None => Ok(Some(Place::InMod(subject, sight, span, Part::AfterAt))),
+            Some(_) => Ok(None),
+        },
+        _ => {
+            let operand = subject_tree(alloc, subject, sight, span)?;
+            after(alloc, pending, operand, end, token)
+        }
+    }
+}
+
+/// Behind an operand.
+pub fn have_step(
+    alloc: Global,
+    pending: &mut Vec<Pending>,
+    operand: Operand,
+    token: Seen,
+) -> Result<Option<Place>, Memory>
+    ensures { IfOk result (λ p. next pending.new.items p ≡ machine.have_step (frames pending.old.items) (seen_operand operand) (tok token.entry)) }
+{
+    match operand {
+        Operand::Whole(operand, end) => whole_step(alloc, pending, operand, end, token),
+        Operand::Bare(name, span) => bare_step(alloc, pending, name, span, token),
+        Operand::Selected(name, matchers, span) => {
+            selected_step(alloc, pending, name, matchers, span, token)
+        }
+        Operand::Aggregated(op, args, span, end) => {
+            aggregated_step(alloc, pending, op, args, span, end, token)
+        }
+        Operand::Seen(subject, sight, span, end) => {
+            seen_step(alloc, pending, subject, sight, span, end, token)
+        }
+    }
+}

@@ -1,0 +1,109 @@
+//! The matchers of a selector.
+ghost use Rattle.std.specs.Prelude.{◌≡◌, ◌++◌, ◌∷◌, [], IfOk};
+ghost use Rattle.lf_parse.specs.Grammar as grammar;
+ghost use Rattle.lf_parse.specs.Machine as machine;
+ghost use Rattle.lf_parse.specs.View.{tok, seen_braces, seen_outcome};
+
+use crate::names::name_of;
+use crate::outcome::Outcome;
+use crate::seen::{Mark, Seen};
+use lf_ast::{MatchOp, Matcher, Name};
+use lf_base::{Memory, Seq, Span, Text};
+use lf_lex::Sign;
+use std::alloc::Global;
+
+/// Where the matchers behind a `{` are.
+#[derive(Drop)]
+pub enum Braces {
+    /// A label or the `}` comes.
+    Next(Seq<Matcher>),
+    /// A match sign comes.
+    AfterLabel(Seq<Matcher>, Name),
+    /// A string comes.
+    AfterSign(Seq<Matcher>, Name, MatchOp),
+    /// A `,` or the `}` comes.
+    AfterMatcher(Seq<Matcher>),
+}
+
+/// How a match sign compares.
+fn match_of(sign: Sign) -> Option<MatchOp>
+    ensures { result ≡ grammar.match_of sign }
+{
+    match sign {
+        Sign::Is => Some(MatchOp::Equal),
+        Sign::NotEqual => Some(MatchOp::NotEqual),
+        Sign::Matches => Some(MatchOp::Matches),
+        Sign::MatchesNot => Some(MatchOp::NotMatches),
+        _ => None,
+    }
+}
+
+/// A list with one more matcher, whose string is a token.
+fn with_matcher(
+    alloc: Global,
+    matchers: Seq<Matcher>,
+    label: Name,
+    op: MatchOp,
+    token: Seen,
+) -> Result<Seq<Matcher>, Memory>
+    ensures { IfOk result (λ all. all ≡ matchers ++ grammar.matcher label op token.entry.text.now token.entry.span ∷ []) }
+{
+    let mut matchers = matchers;
+    let value = Text::of(alloc, token.text)?;
+    let Name { text, span } = label;
+    matchers.push(Matcher {
+        label: text,
+        op,
+        value,
+        label_span: span,
+        value_span: token.span,
+    })?;
+    Ok(matchers)
+}
+
+/// Behind a label.
+fn compared(
+    matchers: Seq<Matcher>,
+    label: Name,
+    op: Option<MatchOp>,
+) -> Outcome<Braces, (Seq<Matcher>, Span)>
+    ensures { seen_outcome seen_braces (λ v. v) result ≡ machine.compared matchers label op }
+{
+    match op {
+        Some(op) => Outcome::Go(Braces::AfterSign(matchers, label, op)),
+        None => Outcome::Stop,
+    }
+}
+
+/// Takes the next token behind a `{`. At the end this gives the matchers and the span of the `}`.
+pub fn braces_step(
+    alloc: Global,
+    braces: Braces,
+    token: Seen,
+) -> Result<Outcome<Braces, (Seq<Matcher>, Span)>, Memory>
+    ensures { IfOk result (λ taken. seen_outcome seen_braces (λ v. v) taken ≡ machine.braces_step (seen_braces braces) (tok token.entry)) }
+{
+    match (braces, token.mark) {
+        (Braces::Next(list), Mark::Word(_)) => {
+            let label = name_of(alloc, token)?;
+            Ok(Outcome::Go(Braces::AfterLabel(list, label)))
+        }
+        (Braces::Next(list), Mark::Sign(Sign::CloseBrace)) => {
+            Ok(Outcome::Ends((list, token.span)))
+        }
+        (Braces::AfterLabel(list, label), Mark::Sign(sign)) => {
+            Ok(compared(list, label, match_of(sign)))
+        }
+        (Braces::AfterSign(list, label, op), Mark::Str) => {
+            let list = with_matcher(alloc, list, label, op, token)?;
+            Ok(Outcome::Go(Braces::AfterMatcher(list)))
+        }
+        (Braces::AfterMatcher(list), Mark::Sign(Sign::Comma)) => {
+            Ok(Outcome::Go(Braces::Next(list)))
+        }
+        (Braces::AfterMatcher(list), Mark::Sign(Sign::CloseBrace)) => {
+            Ok(Outcome::Ends((list, token.span)))
+        }
+        _ => Ok(Outcome::Stop),
+    }
+}

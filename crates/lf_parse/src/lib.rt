@@ -1,0 +1,28 @@
+//! Expressions of PromQL: the parser, from tokens to trees.
+#![tactic(auto)]
+
+mod behind;
+mod braces;
+mod class;
+mod grouping;
+mod laws;
+mod names;
+mod nesting;
+mod operand;
+mod operator;
+mod outcome;
+mod parsing;
+mod part;
+mod place;
+mod range;
+mod reduce;
+mod seen;
+mod span;
+mod stage;
+mod step;
+
+pub use laws::one_reading;
+pub use parsing::parse;
+
+#[cfg(test)]
+mod tests;

@@ -1,0 +1,70 @@
+//! From tokens to trees.
+ghost use Rattle.std.specs.Prelude.{◌≡◌, Ok, Err, IfOk, IfErr};
+ghost use Rattle.lf_base.specs.declared.kind.Kind.TheVariants.{Syntax};
+ghost use Rattle.lf_base.specs.declared.refusal.Refusal.TheVariants.{At};
+ghost use Rattle.lf_lex.specs.Tokens.{Fault};
+ghost use Rattle.lf_lex.specs.Tokens.{IfAt};
+ghost use Rattle.lf_parse.specs.Tree.{Tree, tree};
+ghost use Rattle.lf_parse.specs.Answer.{IsExpression, Refuses, Gives};
+ghost use Rattle.lf_parse.specs.Reading.{answer};
+
+use crate::nesting::first_too_deep;
+use crate::place::Place;
+use crate::seen::see;
+use crate::step::{finish, step};
+use lf_ast::Expr;
+use lf_base::{Kind, Refusal, Seq, Span};
+use lf_lex::Token;
+use std::alloc::Global;
+
+/// The expression that the tokens of a text are. `end` is the offset in the source of the text's end.
+///
+/// `TooDeep` is refused at the first token behind which more than 100 parentheses are open, or more than 100 operators and signs `[` stand directly inside one
+/// pair of them or outside all; this is judged first, over all tokens. `Syntax` is refused at the first token with which no expression goes on, and with an
+/// empty span at the text's end where more would have to come.
+pub fn parse(alloc: Global, tokens: &Seq<Token>, end: u32) -> Result<Expr, Refusal>
+    // What is answered is an expression within the bounds, and the tree that the grammar gives for the tokens.
+    ensures found { IfOk result (λ expr. IsExpression tokens.now (tree expr)) }
+    // It is answered, unless memory runs out; so no tokens have two trees.
+    ensures only { (expr : Tree) → IsExpression tokens.now expr → Gives result (Ok expr) }
+    // What is refused is the first token that passes a bound, or else the first with which no expression goes on.
+    ensures refused { IfErr result (λ refusal. IfAt refusal (Refuses tokens.now end)) }
+    // It is refused, unless memory runs out.
+    ensures breach { (fault : Fault) → Refuses tokens.now end fault → Gives result (Err fault) }
+{
+    let tokens = tokens.as_slice();
+    if let Some(k) = first_too_deep(alloc, tokens)? {
+        return Err(Refusal::At {
+            kind: Kind::TooDeep,
+            span: tokens[k].span,
+        });
+    }
+    read(alloc, tokens, end)
+}
+
+/// The same, where no bound is passed.
+fn read(alloc: Global, tokens: &[Token], end: u32) -> Result<Expr, Refusal>
+    ensures { Gives result (answer tokens.now end) }
+{
+    let mut pending = Vec::new(alloc);
+    let mut place = Place::Want;
+    for token in tokens {
+        match step(alloc, &mut pending, place, see(token))? {
+            Some(next) => place = next,
+            None => return Err(syntax(token.span)),
+        }
+    }
+    match finish(alloc, pending, place)? {
+        Some(expr) => Ok(expr),
+        None => Err(syntax(Span { start: end, end })),
+    }
+}
+
+fn syntax(span: Span) -> Refusal
+    ensures { result ≡ At Syntax span }
+{
+    Refusal::At {
+        kind: Kind::Syntax,
+        span,
+    }
+}

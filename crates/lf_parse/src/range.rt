@@ -1,0 +1,135 @@
+//! The brackets of ranges and subqueries.
+ghost use Rattle.std.specs.Prelude.{◌≡◌, List, IfOk};
+ghost use Rattle.lf_parse.specs.declared.place.Pending.{Pending};
+ghost use Rattle.lf_parse.specs.Tree as trees_of;
+ghost use Rattle.lf_parse.specs.Tree.{tree};
+ghost use Rattle.lf_parse.specs.Grammar as grammar;
+ghost use Rattle.lf_parse.specs.Machine as machine;
+ghost use Rattle.lf_parse.specs.View.{tok, frames, mode, next, seen_operand};
+
+use crate::behind::of_word;
+use crate::place::{Operand, Place, Subject, operand_tree, span_of};
+use crate::seen::{Mark, Seen};
+use crate::span::to;
+use lf_ast::{Expr, Sight};
+use lf_base::{Memory, Span, Text};
+use lf_lex::Sign;
+use std::alloc::Global;
+
+pub fn after_bracket(alloc: Global, operand: Operand, token: Seen) -> Result<Option<Place>, Memory>
+    ensures { IfOk result (λ p. (ps : List Pending) → next ps p ≡ machine.after_bracket (frames ps) (seen_operand operand) (tok token.entry)) }
+{
+    match token.mark {
+        Mark::Duration => {
+            let range = Text::of(alloc, token.text)?;
+            Ok(Some(Place::AfterRange(operand, range, token.span)))
+        }
+        _ => Ok(None),
+    }
+}
+
+/// What stands behind a selector or a subquery with a range and perhaps a step.
+fn ranged(range: Text, step: Option<Text>, range_span: Span) -> Sight
+    ensures { result ≡ grammar.stepped range range_span step }
+{
+    Sight {
+        range: Some(range),
+        step,
+        offset: None,
+        at: None,
+        range_span,
+    }
+}
+
+/// Behind the `]` of a range.
+fn range_of(
+    alloc: Global,
+    operand: Operand,
+    range: Text,
+    range_span: Span,
+    close: Span,
+) -> Option<Place>
+    ensures { (ps : List Pending) → next ps result ≡ machine.range_of (frames ps) (seen_operand operand) range range_span close }
+{
+    match operand {
+        Operand::Bare(name, span) => Some(Place::Have(Operand::Seen(
+            of_word(alloc, name),
+            ranged(range, None, range_span),
+            to(span, close),
+            close.end,
+        ))),
+        Operand::Selected(name, matchers, span) => Some(Place::Have(Operand::Seen(
+            Subject::Selector(name, matchers),
+            ranged(range, None, range_span),
+            to(span, close),
+            close.end,
+        ))),
+        _ => None,
+    }
+}
+
+pub fn after_range(
+    alloc: Global,
+    operand: Operand,
+    range: Text,
+    range_span: Span,
+    token: Seen,
+) -> Result<Option<Place>, Memory>
+    ensures { IfOk result (λ p. (ps : List Pending) → next ps p ≡ machine.after_range (frames ps) (seen_operand operand) range range_span (tok token.entry)) }
+{
+    match token.mark {
+        Mark::Sign(Sign::CloseBracket) => {
+            Ok(range_of(alloc, operand, range, range_span, token.span))
+        }
+        Mark::Sign(Sign::Colon) => {
+            let (of, _) = operand_tree(alloc, operand)?;
+            Ok(Some(Place::AfterColon(of, range, range_span)))
+        }
+        _ => Ok(None),
+    }
+}
+
+/// Behind the `]` of a subquery.
+fn subquery(of: Expr, range: Text, range_span: Span, step: Option<Text>, close: Span) -> Place
+    ensures { mode result ≡ machine.Have (machine.Seen (machine.OfSubquery (tree of)) (grammar.stepped range range_span step) (grammar.to (trees_of.span_of (tree of)) close) close.end) }
+{
+    let span = to(span_of(&of), close);
+    Place::Have(Operand::Seen(
+        Subject::Subquery(of),
+        ranged(range, step, range_span),
+        span,
+        close.end,
+    ))
+}
+
+pub fn after_colon(
+    alloc: Global,
+    of: Expr,
+    range: Text,
+    range_span: Span,
+    token: Seen,
+) -> Result<Option<Place>, Memory>
+    ensures { IfOk result (λ p. (ps : List Pending) → next ps p ≡ machine.after_colon (frames ps) (tree of) range range_span (tok token.entry)) }
+{
+    match token.mark {
+        Mark::Duration => {
+            let step = Text::of(alloc, token.text)?;
+            Ok(Some(Place::AfterStep(of, range, range_span, step)))
+        }
+        Mark::Sign(Sign::CloseBracket) => {
+            Ok(Some(subquery(of, range, range_span, None, token.span)))
+        }
+        _ => Ok(None),
+    }
+}
+
+pub fn after_step(of: Expr, range: Text, range_span: Span, step: Text, token: Seen) -> Option<Place>
+    ensures { (ps : List Pending) → next ps result ≡ machine.after_step (frames ps) (tree of) range range_span step (tok token.entry) }
+{
+    match token.mark {
+        Mark::Sign(Sign::CloseBracket) => {
+            Some(subquery(of, range, range_span, Some(step), token.span))
+        }
+        _ => None,
+    }
+}

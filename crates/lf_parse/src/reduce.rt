@@ -1,0 +1,207 @@
+//! From what was begun to trees.
+ghost use Rattle.std.specs.Prelude.{◌≡◌, IfOk};
+ghost use Rattle.lf_parse.specs.Tree as trees_of;
+ghost use Rattle.lf_parse.specs.Tree.{tree, Then};
+ghost use Rattle.lf_parse.specs.Machine as machine;
+ghost use Rattle.lf_parse.specs.View.{trees, tok, frames, next, seen_head, seen_operand, option_tree};
+
+use crate::operator::{UNARY, left_level, level, op_of};
+use crate::place::{Head, Operand, Pending, Place};
+use crate::seen::{Mark, Seen};
+use crate::span::{to, up_to};
+use crate::stage::Stage;
+use lf_ast::{Expr, Matching, Op};
+use lf_base::{Memory, Seq, Span};
+use lf_lex::Sign;
+use std::alloc::Global;
+
+/// Makes trees of the operators from a level on. The operand ends at an offset in the source, and so do these.
+pub fn reduce(
+    alloc: Global,
+    least: u32,
+    end: u32,
+    pending: &mut Vec<Pending>,
+    operand: Expr,
+) -> Result<Expr, Memory>
+    ensures { IfOk result (λ e. machine.held (frames pending.new.items) (tree e) ≡ machine.reduce least end (frames pending.old.items) (tree operand)) }
+{
+    let mut operand = operand;
+    loop {
+        match pending.pop() {
+            None => return Ok(operand),
+            Some(Pending::LeftOf(op, span, modifier, left)) if level(op) >= least => {
+                operand = binary(alloc, op, span, modifier, left, operand)?;
+            }
+            Some(Pending::Signed(minus, sign)) if least <= UNARY => {
+                operand = unary(alloc, minus, up_to(sign, end), operand)?;
+            }
+            Some(other) => {
+                pending.push(other)?;
+                return Ok(operand);
+            }
+        }
+    }
+}
+
+fn binary(
+    alloc: Global,
+    op: Op,
+    span: Span,
+    modifier: Matching,
+    left: Expr,
+    right: Expr,
+) -> Result<Expr, Memory>
+    ensures { IfOk result (λ e. tree e ≡ trees_of.Binary op modifier (tree left) (tree right) span) }
+{
+    Ok(Expr::Binary {
+        op,
+        modifier,
+        left: Box::new(alloc, left)?,
+        right: Box::new(alloc, right)?,
+        span,
+    })
+}
+
+fn unary(alloc: Global, minus: bool, span: Span, of: Expr) -> Result<Expr, Memory>
+    ensures { IfOk result (λ e. tree e ≡ trees_of.Unary minus (tree of) span) }
+{
+    Ok(Expr::Unary {
+        minus,
+        of: Box::new(alloc, of)?,
+        span,
+    })
+}
+
+fn paren(alloc: Global, span: Span, of: Expr) -> Result<Expr, Memory>
+    ensures { IfOk result (λ e. tree e ≡ trees_of.Paren (tree of) span) }
+{
+    Ok(Expr::Paren {
+        of: Box::new(alloc, of)?,
+        span,
+    })
+}
+
+/// Arguments with one more.
+#[tactic(auto, using(crate::proofs::Arguments::trees_last))]
+fn with_last(args: Seq<Expr>, last: Expr) -> Result<Seq<Expr>, Memory>
+    ensures { IfOk result (λ all. trees all ≡ Then (trees args) (tree last)) }
+{
+    let mut args = args;
+    args.push(last)?;
+    Ok(args)
+}
+
+/// A call or an aggregation with its arguments, whose `)` has a span.
+pub fn applied(head: Head, args: Seq<Expr>, close: Span) -> Operand
+    ensures { seen_operand result ≡ machine.applied (seen_head head) (trees args) close }
+{
+    match head {
+        Head::Call(name, span) => Operand::Whole(Expr::Call { name, args, span }, close.end),
+        Head::Aggregate(op, span) => Operand::Aggregated(op, args, span, close.end),
+        Head::Grouped(op, grouping, span) => Operand::Whole(
+            Expr::Aggregate {
+                op,
+                grouping,
+                args,
+                span,
+            },
+            close.end,
+        ),
+    }
+}
+
+fn close(
+    alloc: Global,
+    pending: &mut Vec<Pending>,
+    operand: Expr,
+    end: u32,
+    close: Span,
+) -> Result<Option<Place>, Memory>
+    ensures { IfOk result (λ p. let h = machine.reduce 1 end (frames pending.old.items) (tree operand) in next pending.new.items p ≡ machine.close close h.frames h.tree) }
+{
+    let inner = reduce(alloc, 1, end, pending, operand)?;
+    match pending.pop() {
+        Some(Pending::Paren(open)) => {
+            let whole = paren(alloc, to(open, close), inner)?;
+            Ok(Some(Place::Have(Operand::Whole(whole, close.end))))
+        }
+        Some(Pending::Args(head, args)) => {
+            let args = with_last(args, inner)?;
+            Ok(Some(Place::Have(applied(head, args, close))))
+        }
+        _ => Ok(None),
+    }
+}
+
+fn comma(
+    alloc: Global,
+    pending: &mut Vec<Pending>,
+    operand: Expr,
+    end: u32,
+) -> Result<Option<Place>, Memory>
+    ensures { IfOk result (λ p. let h = machine.reduce 1 end (frames pending.old.items) (tree operand) in next pending.new.items p ≡ machine.comma h.frames h.tree) }
+{
+    let inner = reduce(alloc, 1, end, pending, operand)?;
+    match pending.pop() {
+        Some(Pending::Args(head, args)) => {
+            let args = with_last(args, inner)?;
+            pending.push(Pending::Args(head, args))?;
+            Ok(Some(Place::Want))
+        }
+        _ => Ok(None),
+    }
+}
+
+fn joined(
+    alloc: Global,
+    pending: &mut Vec<Pending>,
+    operand: Expr,
+    end: u32,
+    span: Span,
+    op: Option<Op>,
+) -> Result<Option<Place>, Memory>
+    ensures { IfOk result (λ p. next pending.new.items p ≡ machine.joined (frames pending.old.items) (tree operand) end span op) }
+{
+    match op {
+        None => Ok(None),
+        Some(op) => {
+            let left = reduce(alloc, left_level(op), end, pending, operand)?;
+            Ok(Some(Place::Modifying(op, span, left, Stage::Begin)))
+        }
+    }
+}
+
+/// Takes the token behind an operand, which ends at an offset in the source.
+pub fn after(
+    alloc: Global,
+    pending: &mut Vec<Pending>,
+    operand: Expr,
+    end: u32,
+    token: Seen,
+) -> Result<Option<Place>, Memory>
+    ensures { IfOk result (λ p. next pending.new.items p ≡ machine.after (frames pending.old.items) (tree operand) end (tok token.entry)) }
+{
+    match token.mark {
+        Mark::Sign(Sign::CloseParen) => close(alloc, pending, operand, end, token.span),
+        Mark::Sign(Sign::Comma) => comma(alloc, pending, operand, end),
+        mark => joined(alloc, pending, operand, end, token.span, op_of(mark)),
+    }
+}
+
+/// The whole expression, if this is its end.
+pub fn ended(
+    alloc: Global,
+    pending: Vec<Pending>,
+    operand: Expr,
+    end: u32,
+) -> Result<Option<Expr>, Memory>
+    ensures { IfOk result (λ e. let h = machine.reduce 1 end (frames pending.items) (tree operand) in option_tree e ≡ machine.ended h.frames h.tree) }
+{
+    let mut pending = pending;
+    let whole = reduce(alloc, 1, end, &mut pending, operand)?;
+    if pending.is_empty() {
+        Ok(Some(whole))
+    } else {
+        Ok(None)
+    }
+}

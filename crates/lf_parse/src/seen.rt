@@ -1,0 +1,64 @@
+//! Tokens as the grammar sees them.
+ghost use Rattle.std.specs.Prelude.{◌≡◌, ◌==◌};
+ghost use Rattle.std.specs.List.{list_any};
+ghost use Rattle.lf_parse.specs.Tokens.{word_mark, shown};
+ghost use Rattle.lf_parse.specs.View.{mark_with, tok};
+
+use crate::class::{Class, class_of};
+use lf_base::Span;
+use lf_lex::{Sign, Token, TokenKind};
+
+/// What a token is.
+#[derive(Clone, Copy, Drop)]
+pub enum Mark {
+    /// A word without a colon.
+    Word(Class),
+    /// A word with a colon: no keyword, and no label.
+    Metric,
+    Number,
+    Duration,
+    Str,
+    Sign(Sign),
+}
+
+/// A token: what it is, its text, which is empty for a sign, and where it stands.
+#[derive(Clone, Copy, Drop)]
+pub struct Seen<'a> {
+    pub mark: Mark,
+    pub text: &'a str,
+    pub span: Span,
+}
+
+/// A token as the grammar sees it.
+pub fn see(token: &Token) -> Seen<'_>
+    ensures { tok result ≡ shown token.now }
+{
+    let (mark, text) = match &token.kind {
+        TokenKind::Word { text } => (word_mark(text.as_str()), text.as_str()),
+        TokenKind::Number { text } => (Mark::Number, text.as_str()),
+        TokenKind::Duration { text } => (Mark::Duration, text.as_str()),
+        TokenKind::Str { text } => (Mark::Str, text.as_str()),
+        TokenKind::Sign { sign } => (Mark::Sign(*sign), ""),
+    };
+    Seen {
+        mark,
+        text,
+        span: token.span,
+    }
+}
+
+fn word_mark(text: &str) -> Mark
+    ensures { mark_with result text.now ≡ word_mark text.now }
+{
+    if has_colon(text) {
+        Mark::Metric
+    } else {
+        Mark::Word(class_of(text))
+    }
+}
+
+fn has_colon(text: &str) -> bool
+    ensures { result ≡ list_any (λ b. b == 58) text.now }
+{
+    text.as_bytes().iter().any(|byte| *byte == b':')
+}

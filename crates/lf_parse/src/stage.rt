@@ -1,0 +1,221 @@
+//! The modifier of an operator: `bool`, `on` and `ignoring` with their labels, and the group modifiers.
+ghost use Rattle.std.specs.Prelude.{◌≡◌, IfOk};
+ghost use Rattle.lf_parse.specs.Grammar as grammar;
+ghost use Rattle.lf_parse.specs.Machine as machine;
+ghost use Rattle.lf_parse.specs.View.{tok, seen_names, seen_front, seen_stage, seen_outcome};
+
+use crate::class::{Class, Scope, Side};
+use crate::names::{Names, names_step};
+use crate::outcome::Outcome;
+use crate::seen::{Mark, Seen};
+use crate::span::{behind, to};
+use lf_ast::{Group, Matching, Name};
+use lf_base::{Memory, Seq, Span};
+use lf_lex::Sign;
+use std::alloc::Global;
+
+/// How a modifier with labels begins.
+#[derive(Clone, Copy, Drop)]
+pub struct Front {
+    pub with_bool: bool,
+    /// The span of its first token.
+    pub first: Span,
+    pub scope: Scope,
+}
+
+/// Where the modifier of an operator is.
+#[derive(Drop)]
+pub enum Stage {
+    /// Behind the operator.
+    Begin,
+    /// Behind `bool`, which has a span.
+    AfterBool(Span),
+    /// In the labels of `on` or `ignoring`.
+    InLabels(Front, Names),
+    /// Behind them. The span is that of their `)`.
+    AfterLabels(Front, Seq<Name>, Span),
+    /// Behind a group modifier, which has a span.
+    AfterGroup(Front, Seq<Name>, Side, Span),
+    /// In its labels.
+    InInclude(Front, Seq<Name>, Side, Names),
+}
+
+/// A modifier without labels.
+fn unmatched(alloc: Global, bool_mod: bool, span: Span) -> Matching
+    ensures { result ≡ grammar.unmatched bool_mod span }
+{
+    Matching {
+        bool_mod,
+        on: None,
+        ignoring: None,
+        group: Group::One,
+        include: Seq::new(alloc),
+        span,
+    }
+}
+
+/// A modifier with labels, which ends with a span.
+fn matched(
+    front: Front,
+    labels: Seq<Name>,
+    group: Group,
+    include: Seq<Name>,
+    last: Span,
+) -> Matching
+    ensures { result ≡ grammar.matched front.with_bool front.scope labels group include (grammar.to front.first last) }
+{
+    let span = to(front.first, last);
+    match front.scope {
+        Scope::On => Matching {
+            bool_mod: front.with_bool,
+            on: Some(labels),
+            ignoring: None,
+            group,
+            include,
+            span,
+        },
+        Scope::Ignoring => Matching {
+            bool_mod: front.with_bool,
+            on: None,
+            ignoring: Some(labels),
+            group,
+            include,
+            span,
+        },
+    }
+}
+
+fn many_of(side: Side) -> Group
+    ensures { result ≡ grammar.many_of side }
+{
+    match side {
+        Side::Left => Group::Left,
+        Side::Right => Group::Right,
+    }
+}
+
+fn begin(alloc: Global, operator: Span, token: Seen) -> Outcome<Stage, Matching>
+    ensures { seen_outcome seen_stage (λ m. m) result ≡ machine.stage_step operator machine.Begin (tok token.entry) }
+{
+    match token.mark {
+        Mark::Word(Class::Bool) => Outcome::Go(Stage::AfterBool(token.span)),
+        Mark::Word(Class::Matching(scope)) => {
+            let front = Front {
+                with_bool: false,
+                first: token.span,
+                scope,
+            };
+            Outcome::Go(Stage::InLabels(front, Names::Opening))
+        }
+        _ => Outcome::Pass(unmatched(alloc, false, behind(operator))),
+    }
+}
+
+fn after_bool(alloc: Global, operator: Span, first: Span, token: Seen) -> Outcome<Stage, Matching>
+    ensures { seen_outcome seen_stage (λ m. m) result ≡ machine.stage_step operator (machine.AfterBool first) (tok token.entry) }
+{
+    match token.mark {
+        Mark::Word(Class::Matching(scope)) => {
+            let front = Front {
+                with_bool: true,
+                first,
+                scope,
+            };
+            Outcome::Go(Stage::InLabels(front, Names::Opening))
+        }
+        _ => Outcome::Pass(unmatched(alloc, true, first)),
+    }
+}
+
+fn in_labels(front: Front, taken: Outcome<Names, (Seq<Name>, Span)>) -> Outcome<Stage, Matching>
+    ensures { seen_outcome seen_stage (λ m. m) result ≡ machine.in_labels (seen_front front) (seen_outcome seen_names (λ v. v) taken) }
+{
+    match taken {
+        Outcome::Go(names) => Outcome::Go(Stage::InLabels(front, names)),
+        Outcome::Ends((labels, close)) => Outcome::Go(Stage::AfterLabels(front, labels, close)),
+        Outcome::Pass(_) | Outcome::Stop => Outcome::Stop,
+    }
+}
+
+fn after_labels(
+    alloc: Global,
+    operator: Span,
+    front: Front,
+    labels: Seq<Name>,
+    close: Span,
+    token: Seen,
+) -> Outcome<Stage, Matching>
+    ensures { seen_outcome seen_stage (λ m. m) result ≡ machine.stage_step operator (machine.AfterLabels (seen_front front) labels close) (tok token.entry) }
+{
+    match token.mark {
+        Mark::Word(Class::Group(side)) => {
+            Outcome::Go(Stage::AfterGroup(front, labels, side, token.span))
+        }
+        _ => Outcome::Pass(matched(front, labels, Group::One, Seq::new(alloc), close)),
+    }
+}
+
+fn after_group(
+    alloc: Global,
+    operator: Span,
+    front: Front,
+    labels: Seq<Name>,
+    side: Side,
+    word: Span,
+    token: Seen,
+) -> Outcome<Stage, Matching>
+    ensures { seen_outcome seen_stage (λ m. m) result ≡ machine.stage_step operator (machine.AfterGroup (seen_front front) labels side word) (tok token.entry) }
+{
+    match token.mark {
+        Mark::Sign(Sign::OpenParen) => Outcome::Go(Stage::InInclude(
+            front,
+            labels,
+            side,
+            Names::Next(Seq::new(alloc)),
+        )),
+        _ => Outcome::Pass(matched(front, labels, many_of(side), Seq::new(alloc), word)),
+    }
+}
+
+fn in_include(
+    front: Front,
+    labels: Seq<Name>,
+    side: Side,
+    taken: Outcome<Names, (Seq<Name>, Span)>,
+) -> Outcome<Stage, Matching>
+    ensures { seen_outcome seen_stage (λ m. m) result ≡ machine.in_include (seen_front front) labels side (seen_outcome seen_names (λ v. v) taken) }
+{
+    match taken {
+        Outcome::Go(names) => Outcome::Go(Stage::InInclude(front, labels, side, names)),
+        Outcome::Ends((include, close)) => {
+            Outcome::Ends(matched(front, labels, many_of(side), include, close))
+        }
+        Outcome::Pass(_) | Outcome::Stop => Outcome::Stop,
+    }
+}
+
+/// Takes the next token behind an operator, which has a span.
+pub fn stage_step(
+    alloc: Global,
+    operator: Span,
+    stage: Stage,
+    token: Seen,
+) -> Result<Outcome<Stage, Matching>, Memory>
+    ensures { IfOk result (λ taken. seen_outcome seen_stage (λ m. m) taken ≡ machine.stage_step operator (seen_stage stage) (tok token.entry)) }
+{
+    match stage {
+        Stage::Begin => Ok(begin(alloc, operator, token)),
+        Stage::AfterBool(first) => Ok(after_bool(alloc, operator, first, token)),
+        Stage::InLabels(front, names) => Ok(in_labels(front, names_step(alloc, names, token)?)),
+        Stage::AfterLabels(front, labels, close) => {
+            Ok(after_labels(alloc, operator, front, labels, close, token))
+        }
+        Stage::AfterGroup(front, labels, side, word) => {
+            Ok(after_group(alloc, operator, front, labels, side, word, token))
+        }
+        Stage::InInclude(front, labels, side, names) => {
+            let taken = names_step(alloc, names, token)?;
+            Ok(in_include(front, labels, side, taken))
+        }
+    }
+}
