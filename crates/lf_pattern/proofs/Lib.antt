@@ -3,6 +3,7 @@ pub mod ShapeFound
 pub mod ShapeGiven
 pub mod SampleLaws
 pub mod ExpandLaws
+pub mod GroupLaws
 pub mod FormLaws
 pub mod Scanning
 pub mod MatchLaws

@@ -89,7 +89,7 @@ inside-quiet inner =
     let m = length-append inner (41 ∷ []) in
     inside_by (xs ++ 41 ∷ []) (length xs) (length-of xs) (omega (arith, m)) refl refl refl (last-of xs) ∙ ap (drop 3) (front-of xs)
 
-wrapped : (cs : List ℕ) → 1 < length cs → get_or cs 0 0 ≡ 40 → get_or cs (length cs - 1) 0 ≡ 41 → cs ≡ 40 ∷ drop 1 (take (length cs - 1) cs) ++ 41 ∷ []
+pub wrapped : (cs : List ℕ) → 1 < length cs → get_or cs 0 0 ≡ 40 → get_or cs (length cs - 1) 0 ≡ 41 → cs ≡ 40 ∷ drop 1 (take (length cs - 1) cs) ++ 41 ∷ []
 wrapped cs h p q = grind (arith, common_steps)
 
 wrapped_quiet : (cs : List ℕ) → 3 < length cs → get_or cs 0 0 ≡ 40 → get_or cs 1 0 ≡ 63 → get_or cs 2 0 ≡ 58 → get_or cs (length cs - 1) 0 ≡ 41 → cs ≡ 40 ∷ 63 ∷ 58 ∷ drop 3 (take (length cs - 1) cs) ++ 41 ∷ []
@@ -105,11 +105,11 @@ inside_cases cs =
     (λ _. inr (inl (wrapped cs (grind (arith, nat_tests)) (grind (arith, nat_tests)) (grind (arith, nat_tests))))))
     (λ _. inl refl)
 
-not_zero : (x : ℕ) → 0 < x → x ≡ 0 → ⊥
+pub not_zero : (x : ℕ) → 0 < x → x ≡ 0 → ⊥
 not_zero x p q = omega arith
 
 -- a list of literals has no pair round it, and begins with no `?`
-Joins-head : {cs : List ℕ} {vs : List (List ℕ)} (x : ℕ) → is_special x ≡ true → (x == 92) ≡ false → (x == 124) ≡ false → Joins cs vs → get_or cs 0 0 ≡ x → x ≡ 0
+pub Joins-head : {cs : List ℕ} {vs : List (List ℕ)} (x : ℕ) → is_special x ≡ true → (x == 92) ≡ false → (x == 124) ≡ false → Joins cs vs → get_or cs 0 0 ≡ x → x ≡ 0
 Joins-head x s p q end h = sym h
 Joins-head x s p q (bar r) h = grind (arith, nat_tests)
 Joins-head x s p q (ordinary t r) h = absurd (true≢false (sym s ∙ ap is_special (sym h) ∙ t))
@@ -125,7 +125,7 @@ inside-Joins {cs} r = elim (inside_cases cs) [
   ]
 ]
 
-Joins-inside : (cs : List ℕ) (vs : List (List ℕ)) → IsPlain cs vs → Joins (inside cs) vs
+pub Joins-inside : (cs : List ℕ) (vs : List (List ℕ)) → IsPlain cs vs → Joins (inside cs) vs
 unfolding is_special
 Joins-inside cs vs (inl r) = let P : List ℕ → Type 0 = λ l. Joins l vs in subst P (sym (inside-Joins r)) r
 Joins-inside cs vs (inr (inl (inner, e, r))) =

@@ -7,12 +7,13 @@ use Rattle.std.proofs.lemmas.Bool.Decides.{nat_tests}
 use Rattle.std.proofs.lemmas.Option.{none-some}
 use Rattle.std.proofs.lemmas.Slice.Eq.{bytes_eq-Decides}
 use Rattle.std.proofs.lemmas.List.Elements.{filter_passes}
-use Rattle.lf_pattern.specs.Matching.{matches}
+use Rattle.lf_pattern.specs.Matching.{Matches, matches}
 use Rattle.lf_pattern.specs.Samples.{is_kept, candidates, AreSamples}
 use Rattle.lf_pattern.specs.SampleScan.{added, both_added}
 use Rattle.lf_pattern.specs.ShapeScan.{capped, read_from, start}
 use Rattle.lf_pattern.specs.declared.sample.Both.{Both}
 use Rattle.lf_pattern.proofs.Capping.{fits, capped-fits, capped-long}
+use Rattle.lf_pattern.proofs.MatchLaws.{matches_is}
 use Rattle.lf_pattern.proofs.ShapeFound.{found_shape}
 use Rattle.lf_pattern.proofs.ShapeGiven.{given_shape}
 
@@ -108,7 +109,7 @@ samples_none p list h e = inr (λ s shape. none-some _ (sym h ∙ found_shape (c
 -- ---- each sample
 
 abbrev pub IsGood : List ℕ → List ℕ → Type 0
-IsGood p s = (s ≢ []) × (length s ≤ 256) × (matches p s ≡ true)
+IsGood p s = (s ≢ []) × (length s ≤ 256) × Matches p s
 
 and-both : (a b : Bool) → (a && b) ≡ true → (a ≡ true) × (b ≡ true)
 and-both true b h = (refl, h)
@@ -118,7 +119,7 @@ kept-good : (p s : List ℕ) → is_kept p s ≡ true → IsGood p s
 kept-good p s h =
     let (front, matched) = and-both (nat_lt 0 (length s) && nat_le (length s) 256) (matches p s) h in
     let (some, short) = and-both (nat_lt 0 (length s)) (nat_le (length s) 256) front in
-    (λ e. true≢false (sym some ∙ ap (λ (l : List ℕ). nat_lt 0 (length l)) e), grind (arith, nat_tests), matched)
+    (λ e. true≢false (sym some ∙ ap (λ (l : List ℕ). nat_lt 0 (length l)) e), grind (arith, nat_tests), (matches_is p s).0 matched)
 
 filter-good : (p : List ℕ) (xs : List (List ℕ)) → All (IsGood p) (filter (is_kept p) xs)
 filter-good p xs = λ k d lt. kept-good p _ (filter_passes (is_kept p) xs k d lt)

@@ -1,7 +1,9 @@
 -- The definitions on examples.
-use Rattle.std.proofs.Common.{◌≡◌, ◌≢◌, ℕ, zero, suc, [], ◌∷◌, None, refl, arith, inl, inr, All, false}
+use Rattle.std.proofs.Common.{◌≡◌, ◌≢◌, ℕ, zero, suc, List, [], ◌∷◌, None, refl, sym, arith, inl, inr, All, false, true≢false}
 use Rattle.std.specs.Char.{encode_utf8}
-use Rattle.lf_pattern.specs.Plain.{IsPlain, is_special, is_escapable}
+use Rattle.lf_pattern.specs.Plain.{HasGroup, IsInPair, IsPlain, is_special, is_escapable}
+use Rattle.lf_pattern.specs.Matching.{IsPlainGroup}
+use Rattle.lf_pattern.proofs.GroupLaws.{capture_given}
 use Rattle.lf_pattern.specs.Plain as joins
 use Rattle.lf_pattern.specs.Scan.{scanned, inside}
 use Rattle.lf_pattern.specs.Shape.{Samples, same, followed, counted, class_samples, HasShape, one, next, nothing, once, often, ordinary, any, class, star, optional, greedy}
@@ -14,6 +16,21 @@ two_alternatives : IsPlain (40 ∷ 97 ∷ 124 ∷ 98 ∷ 92 ∷ 46 ∷ 99 ∷ 41
 unfolding is_special is_escapable
 two_alternatives =
     inr (inl (97 ∷ 124 ∷ 98 ∷ 92 ∷ 46 ∷ 99 ∷ [], refl, joins.ordinary refl (joins.bar (joins.ordinary refl (joins.escaped refl (joins.ordinary refl joins.end))))))
+
+-- `(a)` stands in a pair that is a group, and `(?:a)` doesn't
+in_pair : IsInPair (40 ∷ 97 ∷ 41 ∷ []) ((97 ∷ []) ∷ [])
+unfolding is_special
+in_pair = (97 ∷ [], refl, joins.ordinary refl joins.end)
+
+in_quiet_pair : (vs : List (List ℕ)) → IsInPair (40 ∷ 63 ∷ 58 ∷ 97 ∷ 41 ∷ []) vs → ⊥
+in_quiet_pair vs pair = true≢false (sym (capture_given (40 ∷ 63 ∷ 58 ∷ 97 ∷ 41 ∷ []) vs pair))
+
+-- of a plain pattern in a pair that is a group, group 1 of a match at `a` is `a`, and group 2 is empty
+group_1_of_pair : (p : List ℕ) → HasGroup p → IsPlainGroup p (97 ∷ []) 1 (97 ∷ [])
+group_1_of_pair p pair = inl (inr (pair, refl), refl)
+
+group_2_of_pair : (p : List ℕ) → IsPlainGroup p (97 ∷ []) 2 []
+group_2_of_pair p = inr ((λ whole. elim whole [ inl e ↦ absurd (omega (arith, e)) | inr (pair, e) ↦ absurd (omega (arith, e)) ]), refl)
 
 -- `a.*` isn't plain
 dot_star : scanned [] [] false (inside (97 ∷ 46 ∷ 42 ∷ [])) ≡ None

@@ -1,4 +1,5 @@
--- The groups of a match, as `regex` lends them. It defines nothing of its own.
+-- The texts of the groups of a match, by what `regex` lends of it (`Captures`). Only private functions cite these words; what a caller has to believe of groups is
+-- `IsGroupText`.
 use Rattle.std.specs.Prelude.{◌≡◌, ◌≤◌, ◌==◌, ℕ, List, [], Option, Some, None, if◌then◌else◌}
 use Rattle.regex.specs.Replace.{bytes_of}
 use Rattle.regex.specs.Strings.{captures_span, captures_haystack}
@@ -13,7 +14,7 @@ captured_text c n = bytes_of (captures_haystack c) (captures_span c n)
 abbrev pub group_of_match : List ℕ → Captures → ℕ → List ℕ
 group_of_match value c n = if n == 0 then value else captured_text c n
 
--- where there is an answer, no group has the greatest number or a greater one
+-- where there is an answer, each group with the greatest number or a greater one is empty
 abbrev pub IsFew : Option (List ℕ) → (ℕ → List ℕ) → Type 0
 IsFew None group = Unit {0}
 IsFew (Some text) group = (n : ℕ) → greatest ≤ n → group n ≡ []

@@ -20,14 +20,26 @@ pub data Joins : List ℕ → List (List ℕ) → Type 0 where
   ordinary : {c : ℕ} {cs v : List ℕ} {vs : List (List ℕ)} → is_special c ≡ false → Joins cs (v ∷ vs) → Joins (c ∷ cs) ((c ∷ v) ∷ vs)
   escaped : {c : ℕ} {cs v : List ℕ} {vs : List (List ℕ)} → is_escapable c ≡ true → Joins cs (v ∷ vs) → Joins (92 ∷ c ∷ cs) ((c ∷ v) ∷ vs)
 
+-- such a list in one pair `( )`, which is a group
+abbrev pub IsInPair : List ℕ → List (List ℕ) → Type 0
+IsInPair cs vs = (inner : List ℕ) × (cs ≡ 40 ∷ inner ++ 41 ∷ []) × Joins inner vs
+
 -- such a list alone, or in one pair `( )` or `(?: )`
 abbrev pub IsPlain : List ℕ → List (List ℕ) → Type 0
 IsPlain cs vs =
     Joins cs vs
-    ⊎ (((inner : List ℕ) × (cs ≡ 40 ∷ inner ++ 41 ∷ []) × Joins inner vs)
+    ⊎ (IsInPair cs vs
     ⊎ ((inner : List ℕ) × (cs ≡ 40 ∷ 63 ∷ 58 ∷ inner ++ 41 ∷ []) × Joins inner vs))
 
 -- a text is a plain pattern of these alternatives, as UTF-8
 abbrev pub HasAlternatives : List ℕ → List (List ℕ) → Type 0
 HasAlternatives text alternatives =
     (vs : List (List ℕ)) × IsPlain (chars text) vs × (alternatives ≡ map encode_utf8_all vs)
+
+-- a text is a plain pattern
+abbrev pub IsPlainPattern : List ℕ → Type 0
+IsPlainPattern text = (alternatives : List (List ℕ)) × HasAlternatives text alternatives
+
+-- a text is a plain pattern with a group: it stands in one pair `( )`
+abbrev pub HasGroup : List ℕ → Type 0
+HasGroup text = (vs : List (List ℕ)) × IsInPair (chars text) vs

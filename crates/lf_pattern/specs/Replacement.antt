@@ -4,11 +4,11 @@ use Rattle.std.specs.Char.{is_ascii_alphanumeric}
 use Rattle.std.specs.List.{flat_map}
 use Rattle.std.specs.Str.{chars}
 use Rattle.std.specs.Str.Parse.{IsNumeral, digits_value}
-use Rattle.lf_pattern.specs.Matching.{matches, group_text}
+use Rattle.lf_pattern.specs.Matching.{Matches, matches, IsGroupText, group_text}
 use Rattle.lf_pattern.specs.declared.replacement.Piece.{Piece}
 use Rattle.lf_pattern.specs.declared.replacement.Piece.TheVariants.{Char, Group}
 
--- the digits of a number: 0 alone, or digits of which the first isn't 0
+-- these are the digits 0 to 9 of the number n, at least one: `0` alone, or digits of which the first isn't 0
 abbrev pub IsNumber : List ℕ → ℕ → Type 0
 IsNumber digits n = IsNumeral 10 digits × ((slice_index digits 0 ≢ 48) ⊎ (digits ≡ 48 ∷ [])) × (n ≡ digits_value 10 digits)
 
@@ -37,6 +37,25 @@ HasPieces replacement ps = Reads (chars replacement) ps
 abbrev pub IsPlainReplacement : List ℕ → Type 0
 IsPlainReplacement replacement = (ps : List Piece) × HasPieces replacement ps
 
+-- what a piece stands for where the pattern matches the value
+abbrev pub IsPieceText : List ℕ → List ℕ → Piece → List ℕ → Type 0
+IsPieceText p value (Char c) text = text ≡ encode_utf8 c
+IsPieceText p value (Group n) text = IsGroupText p value n text
+
+-- what pieces stand for, one behind the other
+abbrev pub IsTextOf : List ℕ → List ℕ → List Piece → List ℕ → Type 0
+IsTextOf p value [] text = text ≡ []
+IsTextOf p value (piece ∷ ps) text =
+    (first rest : List ℕ) × IsPieceText p value piece first × IsTextOf p value ps rest × (text ≡ first ++ rest)
+
+-- the expansion of a replacement's pieces: their text where the pattern matches the value, and None where it doesn't
+abbrev pub IsExpansion : List ℕ → List ℕ → List Piece → Option (List ℕ) → Type 0
+IsExpansion p value ps None = Matches p value → ⊥
+IsExpansion p value ps (Some text) = Matches p value × IsTextOf p value ps text
+
+-- ---- The same as functions, by the scan of plain patterns. They define nothing: a law in proofs/GroupLaws.antt says that `expansion` gives exactly the answer of
+-- `IsExpansion`.
+
 -- what a piece stands for, by the texts of the groups
 abbrev pub piece_text : (ℕ → List ℕ) → Piece → List ℕ
 piece_text group (Char c) = encode_utf8 c
@@ -46,6 +65,5 @@ piece_text group (Group n) = group n
 abbrev pub expanded : Bool → (ℕ → List ℕ) → List Piece → Option (List ℕ)
 expanded matched group ps = if matched then Some (flat_map (piece_text group) ps) else None
 
--- the expansion of a replacement's pieces where the pattern matches the value, and None where it doesn't
 abbrev pub expansion : List ℕ → List ℕ → List Piece → Option (List ℕ)
 expansion p value ps = expanded (matches p value) (group_text p value) ps

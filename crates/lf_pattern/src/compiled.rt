@@ -17,7 +17,7 @@ use std::alloc::{AllocError, Global};
 
 /// About how many bytes a compiled pattern may take: far above every pattern in use, and little enough that a hostile pattern is refused before the system ends the
 /// program.
-const SIZE_LIMIT: usize = 128 << 20;
+const SIZE_LIMIT: usize = 64 << 20;
 
 /// The text of a pattern that has to match the whole value.
 fn anchored(alloc: Global, text: &Text) -> Result<String, AllocError>

@@ -1,9 +1,9 @@
-//! Patterns that match whole values.
-ghost use Rattle.std.specs.Prelude.{◌≡◌, ◌↔◌, List, IfOk, IfErr, IsTrue, true, false, None};
+//! Patterns that are tried on values.
+ghost use Rattle.std.specs.Prelude.{◌≡◌, ◌↔◌, ℕ, List, Option, IfOk, IfErr, IsTrue, false, None};
 ghost use Rattle.std.specs.List.{list_any};
 ghost use Rattle.std.specs.Str.{bytes_eq};
-ghost use Rattle.lf_pattern.specs.Matching.{Matches, is_read, matches, plain_group};
-ghost use Rattle.lf_pattern.specs.Replacement.{HasPieces, IsPlainReplacement, expanded, expansion};
+ghost use Rattle.lf_pattern.specs.Matching.{IsRead, Matches, matches, plain_group};
+ghost use Rattle.lf_pattern.specs.Replacement.{HasPieces, IsExpansion, IsPlainReplacement, expanded, expansion};
 
 use crate::compiled::{compile, expand, finds};
 use crate::error::PatternError;
@@ -24,7 +24,7 @@ pub enum Form {
     Other(Regex),
 }
 
-/// A pattern that was read, for any number of values. It has to match a whole value. Contracts see its text.
+/// A pattern that was read, for any number of values. Contracts see its text.
 #[derive(Drop)]
 pub struct Pattern {
     text: Text,
@@ -47,8 +47,8 @@ impl Pattern {
     pub fn new(alloc: Global, text: &Text) -> Result<Pattern, PatternError>
         ensures text { IfOk result (λ p. p ≡ text.now) }
         // A pattern that is given is one, and BadPattern is given only where it is none.
-        ensures read { IfOk result (λ _. is_read text.now ≡ true) }
-        ensures bad { IfErr result (λ e. e ≡ PatternError.BadPattern → is_read text.now ≡ false) }
+        ensures read { IfOk result (λ _. IsRead text.now) }
+        ensures bad { IfErr result (λ e. e ≡ PatternError.BadPattern → IsRead text.now → ⊥) }
     {
         if let Some(alternatives) = plain_alternatives(alloc, text)? {
             let pair = in_pair(alloc, text)?;
@@ -64,7 +64,8 @@ impl Pattern {
         })
     }
 
-    /// Whether the pattern matches the whole value.
+    /// Whether the pattern matches the value: a plain one where the value is one of its alternatives, and any other where `regex` finds a match of `^(?:p)$` in it.
+    /// That is the whole value, unless the pattern breaks out of the parentheses, as `a)|(b` does.
     pub fn matches(&mut self, alloc: Global, text: &Text) -> Result<bool, Memory>
         ensures value { IfOk result (λ found. found ≡ matches self.old text.now) }
         ensures meaning { IfOk result (λ found. IsTrue found ↔ Matches self.old text.now) }
@@ -76,7 +77,7 @@ impl Pattern {
         }
     }
 
-    /// What a plain replacement expands to where the pattern matches the whole value, or None where it doesn't. `$$` gives `$`, and `$n` and `${n}` give the
+    /// What a plain replacement expands to where the pattern matches the value, or None where it doesn't. `$$` gives `$`, and `$n` and `${n}` give the
     /// text of group n, or nothing where there is no such group or it took no part; group 0 is the whole value.
     pub fn expand(
         &mut self,
@@ -86,7 +87,10 @@ impl Pattern {
     ) -> Result<Option<Text>, Memory>
         requires plain { IsPlainReplacement replacement.now }
         ensures value { (ps : List Piece) → HasPieces replacement.now ps → IfOk result (λ r. r ≡ expansion self.old value.now ps) }
-        ensures none { IfOk result (λ r. (r ≡ None) ↔ (matches self.old value.now ≡ false)) }
+        ensures meaning { (ps : List Piece) → HasPieces replacement.now ps → IfOk result (IsExpansion self.old value.now ps) }
+        // No other answer is an expansion.
+        ensures only { (ps : List Piece) (answer : Option (List ℕ)) → HasPieces replacement.now ps → IsExpansion self.old value.now ps answer → IfOk result (λ r. r ≡ answer) }
+        ensures none { IfOk result (λ r. (r ≡ None) ↔ (Matches self.old value.now → ⊥)) }
         ensures same { self.new ≡ self.old }
     {
         let pieces = pieces(alloc, replacement)?;

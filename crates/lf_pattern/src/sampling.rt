@@ -1,6 +1,6 @@
 //! The samples of a pattern.
-ghost use Rattle.std.specs.Prelude.{◌≡◌, ◌≢◌, ◌≤◌, [], true, false, All, IfOk, IfErr, OnOk, length};
-ghost use Rattle.lf_pattern.specs.Matching.{is_read, matches};
+ghost use Rattle.std.specs.Prelude.{◌≡◌, ◌≢◌, ◌≤◌, [], true, All, IfOk, IfErr, OnOk, length};
+ghost use Rattle.lf_pattern.specs.Matching.{IsRead, Matches};
 ghost use Rattle.lf_pattern.specs.Samples.{AreSamples};
 ghost use Rattle.lf_pattern.specs.SampleScan.{added, both_added};
 
@@ -15,9 +15,9 @@ use std::alloc::Global;
 /// none. `BadPattern` comes where [`Pattern::new`] answers it.
 pub fn samples(alloc: Global, text: &Text) -> Result<Seq<Text>, PatternError>
     ensures samples { IfOk result (AreSamples text.now) }
-    ensures each { IfOk result (All (λ s. (s ≢ []) × (length s ≤ 256) × (matches text.now s ≡ true))) }
-    ensures read { IfOk result (λ _. is_read text.now ≡ true) }
-    ensures bad { IfErr result (λ e. e ≡ PatternError.BadPattern → is_read text.now ≡ false) }
+    ensures each { IfOk result (All (λ s. (s ≢ []) × (length s ≤ 256) × Matches text.now s)) }
+    ensures read { IfOk result (λ _. IsRead text.now) }
+    ensures bad { IfErr result (λ e. e ≡ PatternError.BadPattern → IsRead text.now → ⊥) }
 {
     let mut pattern = Pattern::new(alloc, text)?;
     match read_shape(alloc, text)? {

@@ -1,9 +1,9 @@
-use Rattle.std.proofs.Common.{◌≡◌, ◌≤◌, ◌∙◌, sym, ap, refl, ℕ, zero, suc, List, [], Some}
+use Rattle.std.proofs.Common.{◌≡◌, ◌≤◌, ◌∙◌, sym, ap, refl, ℕ, zero, suc, [], Some}
 use Rattle.std.proofs.lemmas.Bool.{cond-true, cond-false}
 use Rattle.regex.specs.Patterns.{Re, find_str}
 use Rattle.regex.specs.Replace.{bytes_of}
 use Rattle.regex.specs.Strings.{captures_haystack}
-use Rattle.lf_pattern.specs.Groups.{captured_text, group_of_match}
+use Rattle.lf_pattern.specs.Groups.{group_of_match}
 use Rattle.lf_pattern.specs.Read.{finds, found_group}
 use Rattle.lf_pattern.specs.ReplacementScan.{greatest}
 use Rattle.lf_pattern.proofs.ReadLaws.{found_none, found_some, group_some, group_later, captured-text}

@@ -6,6 +6,7 @@ use Rattle.lf_pattern.specs.Replacement.{expansion, expanded}
 use Rattle.lf_pattern.specs.ReplacementScan.{bounded}
 use Rattle.lf_pattern.proofs.FormLaws.{form_at, plain_matches, plain_groups, other_matches, other_groups}
 use Rattle.lf_pattern.proofs.ExpandLaws.{answer_few, answer_plain}
+use Rattle.lf_pattern.proofs.GroupLaws.{meaning_of, none_of, only_of}
 use Rattle.lf_pattern.proofs.pattern.Pattern.expand.Goals as goal
 
 pub returns-in-Plain-clause-value : goal.returns-in-Plain-clause-value
@@ -37,3 +38,25 @@ returns-clause-value c = λ ps reads.
     (other_groups text value form _ c.self.invariant c.in-Other.is)
     (subst V c.as_str.ensures (c.expand.ensures.value text other.1 other.2 other.3))
     (subst F c.as_str.ensures (c.expand.ensures.few text other.1 other.2 other.3)))
+
+pub returns-in-Plain-clause-meaning : goal.returns-in-Plain-clause-meaning
+returns-in-Plain-clause-meaning c = λ ps reads. meaning_of c.expand_plain.result c.args.self.now c.args.value.now ps (returns-in-Plain-clause-value c ps reads)
+
+pub returns-in-Plain-clause-only : goal.returns-in-Plain-clause-only
+returns-in-Plain-clause-only c = λ ps answer reads is. only_of c.expand_plain.result c.args.self.now c.args.value.now ps answer (returns-in-Plain-clause-value c ps reads) is
+
+pub returns-clause-meaning : goal.returns-clause-meaning
+returns-clause-meaning c = λ ps reads. meaning_of c.expand.result c.args.self.now c.args.value.now ps (returns-clause-value c ps reads)
+
+pub returns-clause-only : goal.returns-clause-only
+returns-clause-only c = λ ps answer reads is. only_of c.expand.result c.args.self.now c.args.value.now ps answer (returns-clause-value c ps reads) is
+
+pub returns-in-Plain-clause-none : goal.returns-in-Plain-clause-none
+returns-in-Plain-clause-none c =
+    let (ps, reads) = c.requires.plain in
+    none_of c.expand_plain.result c.args.self.now c.args.value.now ps (returns-in-Plain-clause-meaning c ps reads)
+
+pub returns-clause-none : goal.returns-clause-none
+returns-clause-none c =
+    let (ps, reads) = c.requires.plain in
+    none_of c.expand.result c.args.self.now c.args.value.now ps (returns-clause-meaning c ps reads)
