@@ -1,6 +1,7 @@
 -- The samples that are chosen are those of `AreSamples`.
-use Rattle.std.proofs.Common.{◌≡◌, ◌≢◌, ℕ, ◌≤◌, Bool, true, false, cond, ◌||◌, ◌&&◌, not, nat_lt, nat_le, nat_eq, List, [], ◌∷◌, ◌++◌, length, Some, None, refl, sym, ap, ap₂, subst, ◌∙◌, arith, inl, inr, true≢false, All}
+use Rattle.std.proofs.Common.{◌≡◌, ◌≢◌, ℕ, ◌≤◌, Bool, true, false, cond, ◌||◌, ◌&&◌, not, nat_lt, nat_le, nat_eq, List, [], ◌∷◌, ◌++◌, length, Option, Some, None, refl, sym, ap, ap₂, subst, ◌∙◌, arith, inl, inr, true≢false, All}
 use Rattle.std.specs.List.{list_any, filter}
+use Rattle.std.specs.Option.{option_map_or}
 use Rattle.std.specs.Str.{bytes_eq, chars}
 use Rattle.std.proofs.lemmas.Bool.{cases_Bool, cond-true, cond-false}
 use Rattle.std.proofs.lemmas.Bool.Decides.{nat_tests}
@@ -105,6 +106,16 @@ samples_read p b list h e =
 
 pub samples_none : (p : List ℕ) (list : List (List ℕ)) → read_from start (chars p) ≡ None → list ≡ [] → AreSamples p list
 samples_none p list h e = inr (λ s shape. none-some _ (sym h ∙ found_shape (chars p) s shape), e)
+
+-- the samples of a pattern are one list, which what is read of it gives
+pub samples_only : (p : List ℕ) (list : List (List ℕ)) → AreSamples p list → list ≡ option_map_or (both_added p) (read_from start (chars p)) []
+samples_only p list (inl (s, shape, e)) =
+    e ∙ sym (both_kept p s.low s.high) ∙ sym (ap (λ (o : Option Both). option_map_or (both_added p) o []) (found_shape (chars p) s shape))
+samples_only p list (inr (outside, e)) = by (read_from start (chars p)) refl
+  where
+    by : (o : Option Both) → read_from start (chars p) ≡ o → list ≡ option_map_or (both_added p) o []
+    by None h = e
+    by (Some b) h = let (s, shape, is) = given_shape (chars p) b h in absurd (outside s shape)
 
 -- ---- each sample
 

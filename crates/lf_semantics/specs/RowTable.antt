@@ -1,0 +1,302 @@
+-- The row of an expression, by the table of constructs: for each label the classes that the evaluation allows when the labels of the operands take classes from their
+-- sets independently of one another, but for choices about 'any other text' at patterns, and at `label_replace` and `label_join`, that are told there. By these a row may
+-- hold more classes than are so, and never fewer.
+use Rattle.std.specs.Prelude.{ℕ, nat_lt, Bool, true, false, not, ◌&&◌, ◌||◌, cond, eqb, List, [], ◌∷◌, map, length, Option, Some, None, codes, is_some, option_and_then, slice_get, slice_index_or}
+use Rattle.std.specs.List.{filter, list_all, list_any}
+use Rattle.std.specs.Str.{bytes_eq}
+use Rattle.lf_ast.specs.Functions.{Signature, aggregation, function_named}
+use Rattle.lf_ast.specs.Labels.{Bytes}
+use Rattle.lf_ast.specs.Types.{is_label_name, names_at}
+use Rattle.lf_ast.specs.declared.expr.Expr.{Expr}
+use Rattle.lf_ast.specs.declared.expr.Expr.TheOpen.{Expr-F, Number, Str, Selector, Subquery, Paren, Unary, Binary, Call, Aggregate}
+use Rattle.lf_ast.specs.declared.expr.Expr.TheFolds.{para-Expr}
+use Rattle.lf_ast.specs.declared.expr.Group.{Group}
+use Rattle.lf_ast.specs.declared.expr.Group.TheVariants.{One, Left, Right}
+use Rattle.lf_ast.specs.declared.expr.Grouping.{Grouping}
+use Rattle.lf_ast.specs.declared.expr.Grouping.TheVariants.{None as Ungrouped, By, Without}
+use Rattle.lf_ast.specs.declared.expr.Matcher.{Matcher}
+use Rattle.lf_ast.specs.declared.expr.Matching.{Matching}
+use Rattle.lf_ast.specs.declared.expr.MatchOp.{MatchOp}
+use Rattle.lf_ast.specs.declared.expr.MatchOp.TheVariants.{Equal, NotEqual, Matches, NotMatches}
+use Rattle.lf_ast.specs.declared.expr.Name.{Name}
+use Rattle.lf_ast.specs.declared.expr.Op.{Op}
+use Rattle.lf_ast.specs.declared.expr.Op.TheVariants.{And, Or, Unless}
+use Rattle.lf_ast.specs.declared.functions.LabelEffect.{LabelEffect}
+use Rattle.lf_ast.specs.declared.functions.LabelEffect.TheVariants.{Maps, Keeps, Groups, CountValues, Date, Absent, LabelReplace, LabelJoin, HistogramQuantile, Bare}
+use Rattle.lf_pattern.specs.Matching.{matches}
+use Rattle.lf_pattern.specs.Scan.{alternatives_of}
+use Rattle.lf_semantics.specs.ClassRows.{Sets, full, holds, indexed_from, is_live, narrowed, nothing, only_empty, replaced, union}
+use Rattle.lf_semantics.specs.Grouped.{is_arithmetic, is_filter, may_be_lacked}
+use Rattle.lf_semantics.specs.Listing.{Listing, class_of, class_texts, label_of, other_class}
+use Rattle.lf_semantics.specs.Parts.{Sought, is_scalar_part, operand_place, sought_by, text_at, texts_of}
+use Rattle.lf_semantics.specs.Passing.{passes}
+use Rattle.lf_semantics.specs.Strings.{Joining, Replacing, absent_texts, has_dollar, is_equal, joining, replacing}
+use Rattle.lf_semantics.specs.Texts.{metric}
+
+-- the row of each recorded name
+abbrev pub Environment : Type 0
+Environment = List (Bytes × Sets)
+
+abbrev pub row_named : Environment → Bytes → Option Sets
+row_named [] name = None
+row_named (entry ∷ env) name = cond (bytes_eq entry.0 name) (Some entry.1) (row_named env name)
+
+module _ (u : Listing) where
+  -- labels by their numbers
+
+  abbrev pub is_label : Bytes → ℕ → Bool
+  is_label name label = eqb (label_of u name) label
+
+  abbrev pub is_metric_label : ℕ → Bool
+  is_metric_label label = is_label metric label
+
+  abbrev pub is_label_among : List Name → ℕ → Bool
+  is_label_among names label = list_any (λ n. is_label n.text label) names
+
+  -- a text of a class other than 'any other text'
+  abbrev pub text_of : ℕ → ℕ → Bytes
+  text_of label class = slice_index_or (class_texts u label) class []
+
+  abbrev pub is_other : ℕ → ℕ → Bool
+  is_other label class = not (nat_lt class (other_class u label))
+
+  -- the one sample without labels
+  abbrev pub bare_row : Sets
+  bare_row = only_empty (λ label. true) (full u)
+
+  abbrev pub nameless : Sets → Sets
+  nameless row = only_empty is_metric_label row
+
+  -- selectors
+
+  abbrev pub is_plain : Bytes → Bool
+  is_plain pattern = is_some (alternatives_of pattern)
+
+  -- 'any other text' fails `=` and a plain `=~`, and passes `!=`, `!~` and every pattern that isn't plain
+  abbrev pub passes_other : MatchOp → Bytes → Bool
+  passes_other Equal value = false
+  passes_other NotEqual value = true
+  passes_other Matches value = not (is_plain value)
+  passes_other NotMatches value = true
+
+  abbrev pub passes_class : MatchOp → Bytes → ℕ → ℕ → Bool
+  passes_class op value label class = cond (is_other label class) (passes_other op value) (passes op value (text_of label class))
+
+  -- a class of a label passes the matchers on this label
+  abbrev pub passes_matchers : List Matcher → ℕ → ℕ → Bool
+  passes_matchers matchers label class = list_all (λ m. not (is_label m.label label) || passes_class m.op m.value label class) matchers
+
+  -- the name before the braces, or that of the first `=` on the metric name
+  abbrev pub first_equal_name : List Matcher → Option Bytes
+  first_equal_name [] = None
+  first_equal_name (m ∷ matchers) = cond (is_equal m.op && bytes_eq m.label metric) (Some m.value) (first_equal_name matchers)
+
+  abbrev pub selected_name : Option Bytes → List Matcher → Option Bytes
+  selected_name (Some name) matchers = Some name
+  selected_name None matchers = first_equal_name matchers
+
+  -- the series of a name that no rule records: every class of each other label. No series has the empty name
+  abbrev pub series_row : Bytes → Sets
+  series_row name = cond (bytes_eq name []) (nothing u) (replaced is_metric_label (λ label class. eqb class (class_of u label name)) (full u))
+
+  abbrev pub is_recorded : Environment → ℕ → ℕ → Bool
+  is_recorded env label class = list_any (λ entry. eqb (class_of u label entry.0) class) env
+
+  -- all series: each name but the empty one and the recorded ones
+  abbrev pub scraped_row : Environment → Sets
+  scraped_row env = replaced is_metric_label (λ label class. not (eqb class 0) && not (is_recorded env label class)) (full u)
+
+  abbrev pub with_recorded : Environment → Sets → Sets
+  with_recorded [] row = row
+  with_recorded (entry ∷ env) row = union (with_recorded env row) entry.1
+
+  abbrev pub row_or_series : Option Sets → Bytes → Sets
+  row_or_series (Some row) name = row
+  row_or_series None name = series_row name
+
+  -- what a selector sees before its matchers: of a name what is recorded or else scraped, and without one all of both
+  abbrev pub seen_row : Environment → Option Bytes → Sets
+  seen_row env (Some name) = row_or_series (row_named env name) name
+  seen_row env None = with_recorded env (scraped_row env)
+
+  abbrev pub selector_row : Environment → Option Bytes → List Matcher → Sets
+  selector_row env name matchers = narrowed (passes_matchers matchers) (seen_row env (selected_name name matchers))
+
+  -- groupings
+
+  abbrev pub is_group_label : Grouping → ℕ → Bool
+  is_group_label Ungrouped label = false
+  is_group_label (By names) label = is_label_among names label
+  is_group_label (Without names) label = not (is_label_among names label || is_metric_label label)
+
+  abbrev pub grouped_row : Grouping → Sets → Sets
+  grouped_row grouping row = only_empty (λ label. not (is_group_label grouping label)) row
+
+  -- every class of the label x but the empty text, which is added where x may be lacked
+  abbrev pub counted_row : Grouping → Bytes → Sets → Sets
+  counted_row grouping x row = replaced (is_label x) (λ label class. not (eqb class 0) || may_be_lacked grouping x) (grouped_row grouping row)
+
+  -- functions of labels
+
+  -- the texts that the matchers on a label let it take; of a selector in parentheses or with an `@` also none
+  abbrev pub is_sought : Sought → ℕ → ℕ → Bool
+  is_sought sought label class =
+      (sought.may_be_bare && eqb class 0)
+      || list_any (λ text. eqb (class_of u label text) class) (cond (is_metric_label label) ([] ∷ []) (absent_texts (filter (λ m. is_label m.label label) sought.matchers)))
+
+  abbrev pub absent_row : Option Sought → Sets
+  absent_row None = bare_row
+  absent_row (Some sought) = replaced (λ label. true) (is_sought sought) (full u)
+
+  -- some class in the set passes
+  abbrev pub has_class : (ℕ → Bool) → List Bool → Bool
+  has_class test set = list_any (λ on. on) (indexed_from (λ class on. on && test class) 0 set)
+
+  abbrev pub set_at : Sets → ℕ → List Bool
+  set_at row label = slice_index_or row label []
+
+  -- 'any other text' may match a pattern that isn't plain, and may fail any
+  abbrev pub may_match : Bytes → ℕ → ℕ → Bool
+  may_match pattern label class = cond (is_other label class) (not (is_plain pattern)) (matches pattern (text_of label class))
+
+  abbrev pub may_fail : Bytes → ℕ → ℕ → Bool
+  may_fail pattern label class = cond (is_other label class) true (not (matches pattern (text_of label class)))
+
+  -- of a source that is no label name, only the empty text
+  abbrev pub source_set : Sets → Bytes → List Bool
+  source_set row source = cond (is_label_name source) (set_at row (label_of u source)) (true ∷ [])
+
+  -- a replacement with `$` counts as any text
+  abbrev pub is_expansion : Bytes → ℕ → ℕ → Bool
+  is_expansion replacement label class = has_dollar replacement || eqb class (class_of u label replacement)
+
+  -- the target has the replacement's class where a class of the source may match, and keeps its own where one may fail
+  abbrev pub replacing_row : Replacing → Sets → Sets
+  replacing_row p row =
+      let source = label_of u p.source in
+      let set = source_set row p.source in
+      replaced (is_label p.target)
+      (λ label class. (has_class (may_match p.pattern source) set && is_expansion p.replacement label class) || (has_class (may_fail p.pattern source) set && holds row label class))
+      row
+
+  -- a separator shows where there is one between two sources
+  abbrev pub shows : Joining → Bool
+  shows p = not (bytes_eq p.separator []) && nat_lt 1 (length p.sources)
+
+  abbrev pub may_be_absent : Sets → Bytes → Bool
+  may_be_absent row name = holds row (label_of u name) 0
+
+  abbrev pub may_be_present : Sets → Bytes → Bool
+  may_be_present row name = has_class (λ class. not (eqb class 0)) (set_at row (label_of u name))
+
+  -- without a separator sources that are always absent join to nothing. A separator or a source that is never absent joins to a text. Else both may be
+  abbrev pub is_join : Joining → Sets → ℕ → Bool
+  is_join p row class =
+      cond (not (shows p) && list_all (λ source. not (may_be_present row source)) p.sources) (eqb class 0)
+      (cond (shows p || list_any (λ source. not (may_be_absent row source)) p.sources) (not (eqb class 0)) true)
+
+  abbrev pub joining_row : Joining → Sets → Sets
+  joining_row p row = replaced (is_label p.target) (λ label class. is_join p row class) row
+
+  -- `histogram_quantile` sees no sample without `le`
+  abbrev pub quantile_row : Sets → Sets
+  quantile_row row = cond (may_be_present row (codes "le")) (only_empty (λ label. is_metric_label label || is_label (codes "le") label) row) (nothing u)
+
+  -- a function of dates without an argument speaks of now
+  abbrev pub date_row : List Expr → Sets → Sets
+  date_row [] row = bare_row
+  date_row (arg ∷ args) row = nameless row
+
+  abbrev pub effect_row : LabelEffect → Grouping → List Expr → Sets → Sets
+  effect_row Maps grouping args row = nameless row
+  effect_row Keeps grouping args row = row
+  effect_row Groups grouping args row = grouped_row grouping row
+  effect_row CountValues grouping args row = counted_row grouping (text_at (texts_of args) 0) row
+  effect_row Date grouping args row = date_row args row
+  effect_row Absent grouping args row = absent_row (option_and_then sought_by (slice_get args 0))
+  effect_row LabelReplace grouping args row = replacing_row (replacing (texts_of args)) row
+  effect_row LabelJoin grouping args row = joining_row (joining (texts_of args)) row
+  effect_row HistogramQuantile grouping args row = quantile_row row
+  effect_row Bare grouping args row = bare_row
+
+  -- operators
+
+  abbrev pub beside_scalar_row : Bool → Sets → Sets
+  beside_scalar_row true row = row
+  beside_scalar_row false row = nameless row
+
+  abbrev pub signs_label_by : Option (List Name) → Option (List Name) → ℕ → Bool
+  signs_label_by (Some on) ignoring label = is_label_among on label
+  signs_label_by None ignoring label = not (is_label_among (names_at ignoring) label || is_metric_label label)
+
+  abbrev pub signs_label : Matching → ℕ → Bool
+  signs_label m label = signs_label_by m.on m.ignoring label
+
+  -- a side of a match: each label of the signature has the classes that both sides have
+  abbrev pub matched_row : Matching → Sets → Sets → Sets
+  matched_row m row other = cond (is_live other) (narrowed (λ label class. not (signs_label m label) || holds other label class) row) (nothing u)
+
+  abbrev pub keeps_label_by : Option (List Name) → Option (List Name) → ℕ → Bool
+  keeps_label_by (Some on) ignoring label = is_label_among on label
+  keeps_label_by None ignoring label = not (is_label_among (names_at ignoring) label)
+
+  abbrev pub keeps_label : Op → Matching → ℕ → Bool
+  keeps_label op m label = keeps_label_by m.on m.ignoring label && not ((is_arithmetic op || m.bool_mod) && is_metric_label label)
+
+  abbrev pub nameless_if : Bool → Sets → Sets
+  nameless_if drops row = cond drops (nameless row) row
+
+  abbrev pub taken_row : Sets → List Name → Sets → Sets
+  taken_row one names row = cond (is_live one) (replaced (is_label_among names) (holds one) row) (nothing u)
+
+  abbrev pub many_to_one_row : Op → Matching → Sets → Sets → Sets
+  many_to_one_row op m many one = nameless_if m.bool_mod (taken_row one m.include (nameless_if (is_arithmetic op) many))
+
+  -- the result of a match, by its two sides
+  abbrev pub paired_row : Group → Op → Matching → Sets → Sets → Sets
+  paired_row One op m left right = only_empty (λ label. not (keeps_label op m label)) left
+  paired_row Left op m left right = many_to_one_row op m left right
+  paired_row Right op m left right = many_to_one_row op m right left
+
+  abbrev pub combined_row : Op → Matching → Sets → Sets → Sets
+  combined_row And m left right = matched_row m left right
+  combined_row Or m left right = union left right
+  combined_row Unless m left right = left
+  combined_row op m left right = paired_row m.group op m (matched_row m left right) (matched_row m right left)
+
+  -- by whether the left and the right side are scalars
+  abbrev pub binary_row : Op → Matching → Bool → Bool → Sets → Sets → Sets
+  binary_row op m true true left right = bare_row
+  binary_row op m false true left right = beside_scalar_row (is_filter op m) left
+  binary_row op m true false left right = beside_scalar_row (is_filter op m) right
+  binary_row op m false false left right = combined_row op m left right
+
+  abbrev pub sign_row : Bool → Sets → Sets
+  sign_row true row = nameless row
+  sign_row false row = row
+
+  -- expressions
+
+  abbrev pub row_at : Option (Expr × Sets) → Sets
+  row_at None = nothing u
+  row_at (Some arg) = arg.1
+
+  abbrev pub call_row : Option Signature → Grouping → List (Expr × Sets) → Sets
+  call_row None grouping args = nothing u
+  call_row (Some s) grouping args = effect_row s.labels grouping (map (λ a. a.0) args) (row_at (slice_get args (operand_place s)))
+
+  -- one layer, whose parts stand beside their rows
+  abbrev pub row_layer : Environment → Expr-F (Expr × Sets) → Sets
+  row_layer env (Number text span) = bare_row
+  row_layer env (Str text span) = nothing u
+  row_layer env (Selector name matchers sight span) = selector_row env name matchers
+  row_layer env (Subquery of sight span) = of.value.1
+  row_layer env (Paren of span) = of.value.1
+  row_layer env (Unary minus of span) = sign_row minus of.value.1
+  row_layer env (Binary op m left right span) = binary_row op m (is_scalar_part left.value.0) (is_scalar_part right.value.0) left.value.1 right.value.1
+  row_layer env (Call name args span) = call_row (function_named name) Ungrouped args
+  row_layer env (Aggregate op grouping args span) = call_row (Some (aggregation op)) grouping args
+
+  -- the row of an expression in an environment
+  abbrev pub row_of : Environment → Expr → Sets
+  row_of env = para-Expr Sets (row_layer env)

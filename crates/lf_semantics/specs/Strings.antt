@@ -1,0 +1,67 @@
+-- What functions of labels do by their strings: `absent`, `label_replace` and `label_join`.
+use Rattle.std.specs.Prelude.{◌≡◌, ◌⊎◌, ◌==◌, Bool, true, false, cond, List, [], ◌∷◌, ◌++◌, map, drop}
+use Rattle.std.specs.List.{filter, flat_map, list_any}
+use Rattle.lf_ast.specs.Labels.{Bytes}
+use Rattle.lf_ast.specs.declared.expr.Matcher.{Matcher}
+use Rattle.lf_ast.specs.declared.expr.MatchOp.{MatchOp}
+use Rattle.lf_ast.specs.declared.expr.MatchOp.TheVariants.{Equal, NotEqual, Matches, NotMatches}
+use Rattle.lf_pattern.specs.Matching.{group_text}
+use Rattle.lf_pattern.specs.Replacement.{HasPieces, IsPlainReplacement, piece_text}
+use Rattle.lf_pattern.specs.declared.replacement.Piece.{Piece}
+use Rattle.lf_semantics.specs.Parts.{text_at}
+
+-- `absent`
+
+abbrev pub is_equal : MatchOp → Bool
+is_equal Equal = true
+is_equal NotEqual = false
+is_equal Matches = false
+is_equal NotMatches = false
+
+-- the texts of the `=` matchers
+abbrev pub equal_texts : List Matcher → List Bytes
+equal_texts matchers = map (λ m. m.value) (filter (λ m. is_equal m.op) matchers)
+
+-- the texts that a label may take, by the matchers on it: of a single `=` its text, of several matchers nothing or the text of any `=`, and else nothing
+abbrev pub absent_texts : List Matcher → List Bytes
+absent_texts (m ∷ []) = cond (is_equal m.op) m.value [] ∷ []
+absent_texts matchers = [] ∷ equal_texts matchers
+
+-- `label_replace(v, TARGET, REPLACEMENT, SOURCE, PATTERN)`
+
+pub record Replacing : Type 0 where
+  pub target : Bytes
+  pub replacement : Bytes
+  pub source : Bytes
+  pub pattern : Bytes
+
+abbrev pub replacing : List Bytes → Replacing
+replacing texts = record { target = text_at texts 1; replacement = text_at texts 2; source = text_at texts 3; pattern = text_at texts 4 }
+
+abbrev pub has_dollar : Bytes → Bool
+has_dollar replacement = list_any (λ b. b == 36) replacement
+
+-- What a replacement stands for at a value that the pattern matches. Without a `$` it is itself; a plain one with `$` is what its pieces stand for; and any other is
+-- any text.
+abbrev pub Expands : Replacing → Bytes → Bytes → Type 0
+Expands r value text =
+    ((has_dollar r.replacement ≡ false) × (text ≡ r.replacement))
+    ⊎ ((has_dollar r.replacement ≡ true)
+    × (((pieces : List Piece) × HasPieces r.replacement pieces × (text ≡ flat_map (piece_text (group_text r.pattern value)) pieces))
+    ⊎ (IsPlainReplacement r.replacement → ⊥)))
+
+-- `label_join(v, TARGET, SEPARATOR, SOURCE, ..)`
+
+pub record Joining : Type 0 where
+  pub target : Bytes
+  pub separator : Bytes
+  pub sources : List Bytes
+
+abbrev pub joining : List Bytes → Joining
+joining texts = record { target = text_at texts 1; separator = text_at texts 2; sources = drop 3 texts }
+
+-- texts with a separator between each two
+abbrev pub joined_by : Bytes → List Bytes → Bytes
+joined_by separator [] = []
+joined_by separator (x ∷ []) = x
+joined_by separator (x ∷ y ∷ xs) = x ++ (separator ++ joined_by separator (y ∷ xs))
