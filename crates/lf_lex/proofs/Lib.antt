@@ -27,3 +27,4 @@ pub mod TokenLaws
 pub mod Worked
 pub mod Backslashes
 pub mod EscapePlaces
+pub mod WholeDurations

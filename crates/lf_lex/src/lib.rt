@@ -2,6 +2,7 @@
 #![tactic(auto)]
 
 mod bytes;
+mod duration;
 mod laws;
 mod lexing;
 mod run;
@@ -12,6 +13,7 @@ mod string;
 mod tests;
 mod token;
 
+pub use duration::is_duration;
 pub use laws::{one_reading, wrong_escapes};
 pub use lexing::lex;
 pub use token::{Sign, Token, TokenKind};

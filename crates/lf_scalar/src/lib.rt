@@ -4,6 +4,7 @@
 mod begins;
 mod block;
 mod body;
+mod copied;
 mod draft;
 mod drafted;
 mod escapes;

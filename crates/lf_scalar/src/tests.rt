@@ -76,6 +76,10 @@ fn reads(rt: &impl Abort, alloc: Global, case: &Case) -> Result<(), Fail> {
             let first = scalar.source(Span { start: 0, end: 1 });
             assert_eq!(rt; first.start, *scalar.from.get(0));
             assert_eq!(rt; first.end, *scalar.from.get(1));
+            let copy = scalar.copy()?;
+            assert_eq!(rt; copy.text.as_str(), case.text);
+            assert!(rt; copy.from.as_slice() == case.from);
+            assert_eq!(rt; copy.span, scalar.span);
             Ok(())
         }
         Err(_) => panic!(rt; "it was refused"),

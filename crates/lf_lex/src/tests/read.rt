@@ -1,6 +1,7 @@
 //! Texts that are read.
 
 use super::{reads, reads_plain};
+use crate::is_duration;
 use lf_base::Seq;
 use std::test::Fail;
 
@@ -105,4 +106,14 @@ fn folded_texts(rt: HostRuntime) -> Result<(), Fail> {
         "word ab at 10 to 12; string é at 17 to 25; ",
     )?;
     Ok(())
+}
+
+#[test]
+fn durations(rt: HostRuntime) {
+    for text in ["0s", "5m", "1h30m", "1y2w3d4h5m6s7ms"] {
+        assert!(rt; is_duration(text.as_bytes()), "{text}");
+    }
+    for text in ["", "0", "5", "m", "5m1h", "1m1m", "5m ", "1.5h"] {
+        assert!(rt; !is_duration(text.as_bytes()), "{text}");
+    }
 }

@@ -1,0 +1,21 @@
+//! Copies of scalars.
+ghost use Rattle.std.specs.Prelude.{◌≡◌, IfOk};
+ghost use Rattle.lf_scalar.specs.Drafted.{shown};
+
+use crate::Scalar;
+use lf_base::Memory;
+
+impl Scalar {
+    /// An equal scalar: the same text, from the same places.
+    pub fn copy(&self) -> Result<Scalar, Memory>
+        ensures { IfOk result (λ s. shown s ≡ shown self.now) }
+    {
+        let text = self.text.copy()?;
+        let from = self.from.copy()?;
+        Ok(Scalar {
+            text,
+            from,
+            span: self.span,
+        })
+    }
+}

@@ -1,0 +1,74 @@
+-- Going over the text of a plain scalar, to a `:` that can't stand in it.
+use Rattle.std.proofs.Common.{◌≡◌, ◌≢◌, ℕ, zero, suc, ◌+◌, ◌-◌, ◌<◌, ◌≤◌, Bool, true, false, eqb, List, [], ◌∷◌, ◌++◌, Option, Some, None, length, get_or, take, drop, refl, ap, arith, sym, ◌∙◌, ◌&&◌, eq-eqb, ne_eqb, take-append-drop, length-drop, length-take}
+use Rattle.lf_scalar.specs.Cells.{Cell, cell, cells}
+use Rattle.lf_scalar.specs.Plain.{before_blank}
+use Rattle.lf_scalar.proofs.Cells.{cells-append}
+use Rattle.lf_yaml.specs.Flow.{colon_in, later_colon}
+use Rattle.lf_yaml.proofs.Placed.{drops}
+
+-- from a place on
+abbrev pub colon_from : ℕ → List ℕ → ℕ → ℕ → Option Cell
+colon_from at text len i = colon_in (cells (at + i) (take (len - i) (drop i text))) (cells (at + len) (drop len text))
+
+drop-get : (i : ℕ) (xs : List ℕ) → i < length xs → drop i xs ≡ get_or xs i 0 ∷ drop (i + 1) xs
+drop-get i [] lt = absurd (omega arith)
+drop-get zero (x ∷ xs) lt = refl
+drop-get (suc i) (x ∷ xs) lt = let z : i + 1 ≡ suc i = omega arith in let w : suc i + 1 ≡ suc (i + 1) = omega arith in drop-get i xs (omega arith) ∙ ap (λ (n : ℕ). get_or xs i 0 ∷ drop n (x ∷ xs)) (sym w)
+
+-- the text from a place on
+text-at : (at len i : ℕ) (text : List ℕ) → i < len → len ≤ length text → cells (at + i) (take (len - i) (drop i text)) ≡ cell (get_or text i 0) (at + i) ∷ cells (at + (i + 1)) (take (len - (i + 1)) (drop (i + 1) text))
+text-at at len i text lt le =
+    let n : len - i ≡ suc (len - (i + 1)) = omega arith in
+    let z : suc (at + i) ≡ at + (i + 1) = omega arith in
+    ap (λ (m : ℕ). cells (at + i) (take m (drop i text))) n ∙ ap (λ (xs : List ℕ). cells (at + i) (take (suc (len - (i + 1))) xs)) (drop-get i text (omega arith))
+    ∙ ap (λ (m : ℕ). cell (get_or text i 0) (at + i) ∷ cells m (take (len - (i + 1)) (drop (i + 1) text))) z
+
+-- what follows a place, in the text and behind it
+follows : (at len i : ℕ) (text : List ℕ) → i < len → len ≤ length text → cells (at + (i + 1)) (take (len - (i + 1)) (drop (i + 1) text)) ++ cells (at + len) (drop len text) ≡ cells (at + (i + 1)) (drop (i + 1) text)
+follows at len i text lt le =
+    let ys = drop (i + 1) text in
+    let n = len - (i + 1) in
+    let whole : (i + 1) + n ≡ len = omega arith in
+    let size : length (take n ys) ≡ n = omega (arith, length-take n ys, length-drop (i + 1) text) in
+    let place : at + len ≡ (at + (i + 1)) + length (take n ys) = omega (arith, size) in
+    let rest : drop len text ≡ drop n ys = ap (λ (m : ℕ). drop m text) (sym whole) ∙ sym (drops (i + 1) n text) in
+    ap (λ (xs : List ℕ). cells (at + (i + 1)) (take n ys) ++ cells (at + len) xs) rest ∙ ap (λ (m : ℕ). cells (at + (i + 1)) (take n ys) ++ cells m (drop n ys)) place
+    ∙ sym (cells-append (at + (i + 1)) (take n ys) (drop n ys)) ∙ ap (cells (at + (i + 1))) (take-append-drop n ys)
+
+module _ (at len i : ℕ) (text : List ℕ) (lt : i < len) (le : len ≤ length text) where
+  first : colon_from at text len i ≡ colon_in (cell (get_or text i 0) (at + i) ∷ cells (at + (i + 1)) (take (len - (i + 1)) (drop (i + 1) text))) (cells (at + len) (drop len text))
+  first = ap (λ (cs : List Cell). colon_in cs (cells (at + len) (drop len text))) (text-at at len i text lt le)
+
+  -- the test at the place
+  tested : (b : Bool) → (eqb (get_or text i 0) 58 && before_blank (cells (at + (i + 1)) (drop (i + 1) text))) ≡ b
+      → (eqb (get_or text i 0) 58 && before_blank (cells (at + (i + 1)) (take (len - (i + 1)) (drop (i + 1) text)) ++ cells (at + len) (drop len text))) ≡ b
+  tested b h = ap (λ (cs : List Cell). eqb (get_or text i 0) 58 && before_blank cs) (follows at len i text lt le) ∙ h
+
+  pub colon-here : get_or text i 0 ≡ 58 → before_blank (cells (at + (i + 1)) (drop (i + 1) text)) ≡ true → colon_from at text len i ≡ Some (cell 58 (at + i))
+  colon-here e h =
+      let t : (eqb (get_or text i 0) 58 && before_blank (cells (at + (i + 1)) (drop (i + 1) text))) ≡ true = rw (eq-eqb (get_or text i 0) 58 e, h) refl in
+      first ∙ rw (tested true t) (ap (λ (b : ℕ). Some (cell b (at + i))) e)
+
+  pub colon-later : (eqb (get_or text i 0) 58 && before_blank (cells (at + (i + 1)) (drop (i + 1) text))) ≡ false → colon_from at text len i ≡ colon_from at text len (i + 1)
+  colon-later h = first ∙ rw (tested false h) refl
+
+pub colon-end : (at len i : ℕ) (text : List ℕ) → len ≤ i → colon_from at text len i ≡ None
+colon-end at len i text le = let z : len - i ≡ 0 = omega arith in ap (λ (n : ℕ). colon_in (cells (at + i) (take n (drop i text))) (cells (at + len) (drop len text))) z
+
+pub colon-start : (at len : ℕ) (text : List ℕ) → len ≤ length text → colon_from at text len 1 ≡ later_colon (cells at (take len text)) (cells (at + len) (drop len text))
+colon-start at zero text le = refl
+colon-start at (suc len) [] le = absurd (omega arith)
+colon-start at (suc len) (x ∷ xs) le =
+    let n : suc len - 1 ≡ len = omega arith in
+    let z : at + 1 ≡ suc at = omega arith in
+    ap (λ (m : ℕ). colon_in (cells (at + 1) (take m xs)) (cells (at + suc len) (drop len xs))) n ∙ ap (λ (m : ℕ). colon_in (cells m (take len xs)) (cells (at + suc len) (drop len xs))) z
+
+pub not-apart : (x : ℕ) (b : Bool) → b ≡ false → (eqb x 58 && b) ≡ false
+not-apart x b h = rw h (and-false (eqb x 58))
+  where
+    and-false : (a : Bool) → (a && false) ≡ false
+    and-false true = refl
+    and-false false = refl
+
+pub not-colon : (x : ℕ) (b : Bool) → x ≢ 58 → (eqb x 58 && b) ≡ false
+not-colon x b h = rw (ne_eqb x 58 h) refl

@@ -1,0 +1,31 @@
+-- The end of a list of rows.
+use Rattle.std.proofs.Common.{◌≡◌, ◌≤◌, List, [], ◌∷◌, ◌++◌, length, refl, ap, arith, sym, ◌∙◌, subst, append_assoc, length-append}
+use Rattle.std.specs.List.{AllByRecursion}
+use Rattle.lf_yaml.specs.Rows.{Row}
+
+-- some rows end with others
+abbrev pub IsEnd : List Row → List Row → Type 0
+IsEnd rs ss = (front : List Row) × (rs ≡ front ++ ss)
+
+pub end-all : (rs : List Row) → IsEnd rs rs
+end-all rs = ([], refl)
+
+pub end-is : (rs ss : List Row) → rs ≡ ss → IsEnd rs ss
+end-is rs ss e = ([], e)
+
+pub end-behind : (r : Row) (rs ss : List Row) → IsEnd rs ss → IsEnd (r ∷ rs) ss
+end-behind r rs ss h = (r ∷ h.0, ap (λ (xs : List Row). r ∷ xs) h.1)
+
+pub end-trans : (rs ss ts : List Row) → IsEnd rs ss → IsEnd ss ts → IsEnd rs ts
+end-trans rs ss ts h k = (h.0 ++ k.0, h.1 ∙ ap (λ (xs : List Row). h.0 ++ xs) k.1 ∙ sym (append_assoc h.0 k.0 ts))
+
+pub end-length : (rs ss : List Row) → IsEnd rs ss → length ss ≤ length rs
+end-length rs ss h = omega (arith, ap length h.1, length-append h.0 ss)
+
+back-all : (P : Row → Type 0) (front ss : List Row) → AllByRecursion P (front ++ ss) → AllByRecursion P ss
+back-all P [] ss h = h
+back-all P (r ∷ front) ss h = back-all P front ss h.1
+
+-- what holds of all rows holds of the last of them
+pub end-holds : (P : Row → Type 0) (rs ss : List Row) → IsEnd rs ss → AllByRecursion P rs → AllByRecursion P ss
+end-holds P rs ss h all = back-all P h.0 ss (subst (AllByRecursion P) h.1 all)

@@ -1,0 +1,94 @@
+-- Keys of flow mappings, as the code reads them.
+use Rattle.std.proofs.Common.{◌≡◌, ℕ, zero, suc, ◌+◌, ◌≤◌, true, false, eqb, List, [], ◌∷◌, Option, Some, None, Result, Ok, Err, length, get_or, take, drop, length-take, eq-eqb, refl, ap, arith, sym, ◌∙◌}
+use Rattle.lf_scalar.specs.Cells.{Cell, cell, cells, Value, Fault}
+use Rattle.lf_scalar.specs.Lines.{is_blank, after_blanks}
+use Rattle.lf_scalar.specs.Folding.{trimmed}
+use Rattle.lf_scalar.specs.declared.quotes.Quotes.{Quotes}
+use Rattle.lf_scalar.specs.QuotedReading.{closing_of}
+use Rattle.lf_yaml.specs.Rows.{Row}
+use Rattle.lf_yaml.specs.Heads.{Split, key_in}
+use Rattle.lf_yaml.specs.Flow.{next_part, begins_flow, flow_text, behind_text, is_flow_sign, is_empty_key, ends_key}
+use Rattle.lf_yaml.specs.Signs.{stops_of, ends_of, split_at}
+use Rattle.lf_yaml.specs.Reading.{Part, with_behind, part_by, between_of, behind_closing, sign_if, sign_behind, Signed, signed, signed_behind, no_sign, plain_key, bare_key, flow_key_by}
+use Rattle.lf_yaml.proofs.Placed.{drops}
+use Rattle.lf_yaml.proofs.PartCode.{behind-is}
+use Rattle.lf_yaml.proofs.EntryCode.{take-within}
+
+-- ---- between quotes
+
+with-ok : (behind : List Cell) (read : Result Value Fault) (x : Part) → with_behind behind read ≡ Ok x → (read ≡ Ok x.0) × (behind ≡ x.1)
+with-ok behind (Ok v) x e = let h : (v ≡ x.0) × (behind ≡ x.1) = ok-pair e in (ap (λ (w : Value). Ok w) h.0, h.1)
+  where
+    ok-pair : (let y : Result Part Fault = Ok (v, behind) in y) ≡ Ok x → (v ≡ x.0) × (behind ≡ x.1)
+    ok-pair h = (ap (λ (r : Result Part Fault). fst-of r) h, ap (λ (r : Result Part Fault). snd-of r) h)
+      where
+        fst-of : Result Part Fault → Value
+        fst-of (Ok y) = y.0
+        fst-of (Err f) = v
+
+        snd-of : Result Part Fault → List Cell
+        snd-of (Ok y) = y.1
+        snd-of (Err f) = behind
+with-ok behind (Err f) x e = absurd cc
+
+-- what stands behind a quoted scalar
+pub quoted-by : (end above : ℕ) (kind : Quotes) (c : Cell) (cs : List Cell) (rs : List Row) (v : Value) (behind : List Cell) → part_by c cs (Some kind) ≡ Ok (v, behind)
+    → flow_key_by end above c cs rs (Some kind) ≡ signed end above v behind rs (sign_behind behind)
+quoted-by end above kind c cs rs v behind e =
+    let h = with-ok (behind_closing (closing_of kind 0 cs)) (between_of kind c (closing_of kind 0 cs)) (v, behind) e in
+    ap (λ (xs : List Cell). signed_behind end above xs rs (between_of kind c (closing_of kind 0 cs))) h.1 ∙ ap (signed_behind end above behind rs) h.0
+
+pub sign-found : (n p : ℕ) (text : List ℕ) → get_or text p 0 ≡ 58 → sign_if (cells n (drop p text)) ≡ Some (cell 58 n, cells (suc n) (drop (p + 1) text))
+sign-found n zero [] e = absurd (omega (arith, e))
+sign-found n (suc p) [] e = absurd (omega (arith, e))
+sign-found n zero (x ∷ xs) e = rw (eq-eqb x 58 e) (ap (λ (b : ℕ). Some (cell b n, cells (suc n) xs)) e)
+sign-found n (suc p) (x ∷ xs) e = let z : suc p + 1 ≡ suc (p + 1) = omega arith in sign-found n p xs e ∙ ap (λ (m : ℕ). Some (cell 58 n, cells (suc n) (drop m (x ∷ xs)))) (sym z)
+
+pub sign-missing : (n p : ℕ) (text : List ℕ) → eqb (get_or text p 0) 58 ≡ false → sign_if (cells n (drop p text)) ≡ None
+sign-missing n zero [] e = refl
+sign-missing n (suc p) [] e = refl
+sign-missing n zero (x ∷ xs) e = rw e refl
+sign-missing n (suc p) (x ∷ xs) e = sign-missing n p xs e
+
+module _ (at len k : ℕ) (text : List ℕ) (after : after_blanks (cells (at + len) (drop len text)) ≡ cells (at + len + k) (drop k (drop len text))) where
+  sign-at : sign_behind (cells (at + len) (drop len text)) ≡ sign_if (cells (at + (len + k)) (drop (len + k) text))
+  sign-at =
+      let z : at + len + k ≡ at + (len + k) = omega arith in
+      ap sign_if after ∙ ap (λ (xs : List ℕ). sign_if (cells (at + len + k) xs)) (drops len k text) ∙ ap (λ (n : ℕ). sign_if (cells n (drop (len + k) text))) z
+
+  pub quoted-found : (end above : ℕ) (kind : Quotes) (c : Cell) (cs : List Cell) (rs : List Row) (v : Value) → part_by c cs (Some kind) ≡ Ok (v, cells (at + len) (drop len text)) → get_or text (len + k) 0 ≡ 58
+      → flow_key_by end above c cs rs (Some kind) ≡ Ok (v, cell 58 (at + (len + k)), cells (at + (len + k + 1)) (drop (len + k + 1) text))
+  quoted-found end above kind c cs rs v e sign =
+      let z : suc (at + (len + k)) ≡ at + (len + k + 1) = omega arith in
+      quoted-by end above kind c cs rs v (cells (at + len) (drop len text)) e
+      ∙ ap (signed end above v (cells (at + len) (drop len text)) rs) (sign-at ∙ sign-found (at + (len + k)) (len + k) text sign)
+      ∙ ap (λ (n : ℕ). let x : Signed = (v, cell 58 (at + (len + k)), cells n (drop (len + k + 1) text)) in Ok x) z
+
+  pub quoted-missing : (end above : ℕ) (kind : Quotes) (c : Cell) (cs : List Cell) (rs : List Row) (v : Value) → part_by c cs (Some kind) ≡ Ok (v, cells (at + len) (drop len text)) → eqb (get_or text (len + k) 0) 58 ≡ false
+      → flow_key_by end above c cs rs (Some kind) ≡ no_sign (next_part end above false (cells (at + len) (drop len text)) rs)
+  quoted-missing end above kind c cs rs v e sign =
+      quoted-by end above kind c cs rs v (cells (at + len) (drop len text)) e
+      ∙ ap (signed end above v (cells (at + len) (drop len text)) rs) (sign-at ∙ sign-missing (at + (len + k)) (len + k) text sign)
+
+-- ---- without quotes
+
+module _ (end above : ℕ) (c : Cell) (cs : List Cell) (rs : List Row) (at : ℕ) (text : List ℕ) (is : c ∷ cs ≡ cells at text) (begins : begins_flow c cs ≡ true) (full : is_empty_key c cs ≡ false) where
+  bare-by : (o : Option Split) → o ≡ key_in (stops_of true) (ends_of true) (cells at text) → flow_key_by end above c cs rs None ≡ plain_key end above c cs rs o
+  bare-by o e = rw (begins, full) (ap (plain_key end above c cs rs) (ap (λ (xs : List Cell). key_in is_flow_sign ends_key xs) is ∙ sym e))
+
+  pub bare-found : (k : ℕ) → Some (split_at at text k) ≡ key_in (stops_of true) (ends_of true) (cells at text) → get_or text k 0 ≡ 58
+      → flow_key_by end above c cs rs None ≡ Ok (bare_key c (trimmed is_blank (cells at (take k text))), cell 58 (at + k), cells (at + (k + 1)) (drop (k + 1) text))
+  bare-found k e sign =
+      bare-by (Some (split_at at text k)) e
+      ∙ ap (λ (b : ℕ). let x : Signed = (bare_key c (trimmed is_blank (cells at (take k text))), cell b (at + k), cells (at + (k + 1)) (drop (k + 1) text)) in Ok x) sign
+
+  pub bare-missing : (len : ℕ) → None ≡ key_in (stops_of true) (ends_of true) (cells at text) → len ≤ length text → flow_text (cells at text) ≡ cells at (take len text)
+      → flow_key_by end above c cs rs None ≡ no_sign (next_part end above false (cells (at + len) (drop len text)) rs)
+  bare-missing len e le cut =
+      bare-by None e ∙ ap (λ (xs : List Cell). no_sign (next_part end above false xs rs)) (ap behind_text is ∙ behind-is at len text le cut)
+
+-- the text of a key without the blanks before its `:`
+pub trimmed-key : (at k len : ℕ) (text front : List ℕ) → front ≡ take k text → len ≤ length front → trimmed is_blank (cells at front) ≡ cells at (take len front) → trimmed is_blank (cells at (take k text)) ≡ cells at (take len text)
+trimmed-key at k len text front e le t =
+    let n : len ≤ k = omega (arith, ap length e, length-take k text) in
+    ap (λ (xs : List ℕ). trimmed is_blank (cells at xs)) (sym e) ∙ t ∙ ap (λ (xs : List ℕ). cells at (take len xs)) e ∙ ap (cells at) (take-within len k text n)

@@ -1,0 +1,64 @@
+-- Going over bytes one by one, to the quote that closes.
+use Rattle.std.proofs.Common.{◌≡◌, ◌≢◌, ℕ, zero, suc, ◌+◌, ◌<◌, false, eqb, List, [], ◌∷◌, ◌++◌, Option, Some, None, length, get_or, take, drop, refl, ap, arith, append_assoc, sym, ◌∙◌, eq-eqb}
+use Rattle.std.proofs.lemmas.List.{append-nil}
+use Rattle.std.proofs.lemmas.Bool.{ne_eqb}
+use Rattle.lf_scalar.specs.declared.quotes.Quotes.{Quotes}
+use Rattle.lf_scalar.specs.declared.quotes.Quotes.TheVariants.{Single, Double}
+use Rattle.lf_scalar.specs.Cells.{Cell, cell, cells}
+use Rattle.lf_scalar.specs.Lines.{begins_with}
+use Rattle.lf_scalar.specs.QuotedReading.{Closing, behind, closing_of, split_of}
+use Rattle.lf_scalar.proofs.Cells.{cells-drop, cells-take}
+use Rattle.lf_scalar.proofs.Closing.{ahead}
+use Rattle.lf_scalar.proofs.Scan.{scanned}
+use Rattle.lf_yaml.specs.Quoting.{IsStep}
+use Rattle.lf_yaml.specs.declared.quotes.Step.TheVariants as step
+
+ahead-behind : (cs : List Cell) (c : Cell) (o : Option Closing) → ahead cs (behind c o) ≡ ahead (cs ++ c ∷ []) o
+ahead-behind cs c None = refl
+ahead-behind cs c (Some x) = ap (λ (xs : List Cell). Some (xs, x.1)) (sym (append_assoc cs (c ∷ []) x.0))
+
+begins-drop : (byte at : ℕ) (n : ℕ) (xs : List ℕ) → byte ≢ 0 → begins_with byte (cells at (drop n xs)) ≡ eqb (get_or xs n 0) byte
+begins-drop byte at zero [] h = sym (ne_eqb 0 byte (λ e. h (sym e)))
+begins-drop byte at zero (x ∷ xs) h = refl
+begins-drop byte at (suc n) [] h = sym (ne_eqb 0 byte (λ e. h (sym e)))
+begins-drop byte at (suc n) (x ∷ xs) h = begins-drop byte at n xs h
+
+not-zero : ◌≢◌ {A = ℕ} 39 0
+not-zero e = omega arith
+
+no-quote : (b : ℕ) → b ≡ 92 → eqb b 34 ≡ false
+no-quote b h = rw h refl
+
+takes-next : (kind : Quotes) (c : Cell) (src : List Cell) (next : ℕ) → begins_with 39 src ≡ eqb next 39 → IsStep kind c.byte next step.TakesNext → closing_of kind 0 (c ∷ src) ≡ behind c (closing_of kind 1 src)
+unfolding closing_of
+takes-next Single c src next b h = rw (eq-eqb c.byte 39 h.0, b, eq-eqb next 39 h.1) refl
+takes-next Double c src next b h = rw (no-quote c.byte h, eq-eqb c.byte 92 h) refl
+
+passes : (kind : Quotes) (c : Cell) (src : List Cell) (next : ℕ) → IsStep kind c.byte next step.Passes → closing_of kind 0 (c ∷ src) ≡ behind c (closing_of kind 0 src)
+unfolding closing_of
+passes Single c src next h = rw (ne_eqb c.byte 39 h) refl
+passes Double c src next h = rw (ne_eqb c.byte 34 h.0, ne_eqb c.byte 92 h.1) refl
+
+closes : (kind : Quotes) (c : Cell) (src : List Cell) (next : ℕ) → begins_with 39 src ≡ eqb next 39 → IsStep kind c.byte next step.Closes → closing_of kind 0 (c ∷ src) ≡ Some ([], (c, src))
+unfolding closing_of
+closes Single c src next b h = rw (eq-eqb c.byte 39 h.0, b, ne_eqb next 39 h.1) refl
+closes Double c src next b h = rw (eq-eqb c.byte 34 h) refl
+
+module _ (kind : Quotes) (at : ℕ) (line : List ℕ) (i : ℕ) (lt : i < length line) where
+  moved : (j : ℕ) → closing_of kind 0 (cell (get_or line i 0) (at + i) ∷ cells (at + (i + 1)) (drop (i + 1) line)) ≡ behind (cell (get_or line i 0) (at + i)) (closing_of kind j (cells (at + (i + 1)) (drop (i + 1) line)))
+      → scanned kind at line i 0 ≡ scanned kind at line (i + 1) j
+  moved j e = rw (cells-drop at line i lt, cells-take at line i lt) (ap (ahead (cells at (take i line))) e ∙ ahead-behind (cells at (take i line)) _ _)
+
+  next-begins : begins_with 39 (cells (at + (i + 1)) (drop (i + 1) line)) ≡ eqb (get_or line (i + 1) 0) 39
+  next-begins = begins-drop 39 (at + (i + 1)) (i + 1) line not-zero
+
+  pub scanned-takes : IsStep kind (get_or line i 0) (get_or line (i + 1) 0) step.TakesNext → scanned kind at line i 0 ≡ scanned kind at line (i + 1) 1
+  scanned-takes h = moved 1 (takes-next kind (cell (get_or line i 0) (at + i)) _ (get_or line (i + 1) 0) next-begins h)
+
+  pub scanned-passes : IsStep kind (get_or line i 0) (get_or line (i + 1) 0) step.Passes → scanned kind at line i 0 ≡ scanned kind at line (i + 1) 0
+  scanned-passes h = moved 0 (passes kind (cell (get_or line i 0) (at + i)) _ (get_or line (i + 1) 0) h)
+
+  pub scanned-closes : IsStep kind (get_or line i 0) (get_or line (i + 1) 0) step.Closes → scanned kind at line i 0 ≡ Some (split_of at line i)
+  scanned-closes h =
+      rw (cells-drop at line i lt) (ap (ahead (cells at (take i line))) (closes kind (cell (get_or line i 0) (at + i)) _ (get_or line (i + 1) 0) next-begins h)
+      ∙ ap (λ (cs : List Cell). Some (cs, (cell (get_or line i 0) (at + i), cells (at + (i + 1)) (drop (i + 1) line)))) (append-nil (cells at (take i line))))

@@ -1,0 +1,168 @@
+-- Scalars and flow collections on a row are read: what stands is read, a breach is answered, and what is answered is one of both.
+use Rattle.std.proofs.Common.{◌≡◌, ℕ, zero, suc, Bool, true, false, eqb, not, List, [], ◌∷◌, Option, Some, None, Result, Ok, Err, length, eq-eqb, refl, ap, arith, sym, ◌∙◌, subst, ◌⊎◌, inl, inr, ◌&&◌, ◌||◌}
+use Rattle.std.specs.Prelude.{nat_lt}
+use Rattle.std.proofs.lemmas.Bool.{eqb-true}
+use Rattle.lf_base.specs.declared.kind.Kind.TheVariants.{TooDeep}
+use Rattle.lf_scalar.specs.Cells.{Cell, cell, Value, Fault, fault_at, span}
+use Rattle.lf_scalar.specs.Lines.{lines, first_text}
+use Rattle.lf_scalar.specs.QuotedReading.{wrong_behind}
+use Rattle.lf_scalar.specs.Scalars.{begins, source_at}
+use Rattle.lf_scalar.proofs.Tails.{true-false, tail-told, told-tail, wrong-told, told-wrong, from-front, to-front}
+use Rattle.lf_scalar.proofs.Laws as scalars
+use Rattle.lf_yaml.specs.Rows.{Row, row, text_of, rows_from, row_fault, is_left_out}
+use Rattle.lf_yaml.specs.Heads.{style_of, begins_scalar}
+use Rattle.lf_yaml.specs.Tree.{Tree, sequence, mapping, Items, Entries}
+use Rattle.lf_yaml.specs.Flow.{is_bracket}
+use Rattle.lf_yaml.specs.Nodes.{IsScalarOn, ValueAt}
+use Rattle.lf_yaml.specs.Breaches.{ScalarBreaksOn, ValueBreaks}
+use Rattle.lf_yaml.specs.Nodes as nodes
+use Rattle.lf_yaml.specs.Breaches as breaches
+use Rattle.lf_yaml.specs.Reading.{FlowRead, sequence_in, mapping_in, turns, Read, alone, closed_list, flow_list, closed_map, flow_map, scalar_on, scalar_value, value_on}
+use Rattle.lf_yaml.proofs.Ends.{IsEnd, end-all, end-behind}
+use Rattle.lf_yaml.proofs.HeadLaws.{tells}
+use Rattle.lf_yaml.proofs.Sequences.{sequence-is, sequence-breaks, SequenceTold, sequence-tells, sequence-rows}
+use Rattle.lf_yaml.proofs.Mappings.{mapping-is, mapping-breaks, MappingTold, mapping-tells, mapping-rows}
+use Rattle.lf_yaml.proofs.Placed.{IsPlaced}
+
+-- a row that begins with a bracket begins no scalar
+no-scalar : (sign : ℕ) (r : Row) → begins_scalar (row r.begin (cell sign r.first.at) r.rest) ≡ false → r.first.byte ≡ sign → begins_scalar r ≡ false
+no-scalar sign r h e = ap (λ (b : ℕ). begins_scalar (row r.begin (cell b r.first.at) r.rest)) e ∙ h
+
+no-91 : (b : ℕ) → b ≡ 123 → eqb b 91 ≡ false
+no-91 b e = rw e refl
+
+bracket-cases : (c : Cell) → is_bracket c ≡ true → (c.byte ≡ 91) ⊎ (c.byte ≡ 123)
+bracket-cases c h = by (eqb c.byte 91) (eqb c.byte 123) refl refl h
+  where
+    by : (a b : Bool) → eqb c.byte 91 ≡ a → eqb c.byte 123 ≡ b → (a || (b || false)) ≡ true → (c.byte ≡ 91) ⊎ (c.byte ≡ 123)
+    by true b p q h = inl (eqb-true c.byte 91 p)
+    by false true p q h = inr (eqb-true c.byte 123 q)
+    by false false p q h = true-false false h refl
+
+no-bracket : (c : Cell) → is_bracket c ≡ false → (eqb c.byte 91 ≡ false) × (eqb c.byte 123 ≡ false)
+no-bracket c h = by (eqb c.byte 91) (eqb c.byte 123) refl refl h
+  where
+    by : (a b : Bool) → eqb c.byte 91 ≡ a → eqb c.byte 123 ≡ b → (a || (b || false)) ≡ false → (eqb c.byte 91 ≡ false) × (eqb c.byte 123 ≡ false)
+    by true b p q h = true-false true refl h
+    by false true p q h = true-false true refl h
+    by false false p q h = (p, q)
+
+module _ (bytes : List ℕ) (above : ℕ) where
+  abbrev end : ℕ
+  end = length bytes
+
+  list-on : (d : ℕ) (r : Row) (rs : List Row) → r.first.byte ≡ 91 → value_on bytes above d r rs ≡ flow_list end above d r rs
+  unfolding value_on
+  list-on d r rs e = rw (no-scalar 91 r refl e, eq-eqb r.first.byte 91 e) refl
+
+  map-on : (d : ℕ) (r : Row) (rs : List Row) → r.first.byte ≡ 123 → value_on bytes above d r rs ≡ flow_map end above d r rs
+  unfolding value_on
+  map-on d r rs e = rw (no-scalar 123 r refl e, no-91 r.first.byte e, eq-eqb r.first.byte 123 e) refl
+
+  pub value-is : (d : ℕ) (r : Row) (rs : List Row) (t : Tree) (rest : List Row) → ValueAt bytes above d r rs t rest → value_on bytes above d r rs ≡ Ok (t, rest)
+  unfolding value_on
+  value-is d r _ _ _ (nodes.ValueAt.scalar {v = v} rs b h) = rw b (ap (scalar_value rs) (scalars.is_read (style_of r.first) above end (source_at bytes r.first.at) v h))
+  value-is _ r rs _ rest (nodes.ValueAt.flow_sequence {d = d} {is = is} {closing = closing} {behind = behind} e h b) =
+      list-on (suc d) r rs e ∙ ap (closed_list r) (sequence-is end above (suc (turns r.rest rs)) r.rest rs is closing behind rest (omega arith) h)
+      ∙ ap (alone (λ (is : Items) (closing : Cell). sequence is (span r.first.at (suc closing.at))) (is, closing, behind, rest)) (tail-told false behind b)
+  value-is _ r rs _ rest (nodes.ValueAt.flow_mapping {d = d} {es = es} {closing = closing} {behind = behind} e h b) =
+      map-on (suc d) r rs e ∙ ap (closed_map r) (mapping-is end above (suc (turns r.rest rs)) [] r.rest rs es closing behind rest (omega arith) h)
+      ∙ ap (alone (λ (es : Entries) (closing : Cell). mapping es (span r.first.at (suc closing.at))) (es, closing, behind, rest)) (tail-told false behind b)
+
+  nothing-on : (d : ℕ) (r : Row) (rs : List Row) → begins_scalar r ≡ false → is_bracket r.first ≡ false → value_on bytes above d r rs ≡ Err (row_fault r)
+  unfolding value_on
+  nothing-on d r rs b n = let h = no-bracket r.first n in rw (b, h.0, h.1) refl
+
+  deep-on : (r : Row) (rs : List Row) → is_bracket r.first ≡ true → value_on bytes above zero r rs ≡ Err (fault_at TooDeep r.first)
+  deep-on r rs h =
+      elim (bracket-cases r.first h) [
+        | inl e ↦ list-on zero r rs e
+        | inr e ↦ map-on zero r rs e
+      ]
+
+  pub value-breaks : (d : ℕ) (r : Row) (rs : List Row) (f : Fault) → ValueBreaks bytes above d r rs f → value_on bytes above d r rs ≡ Err f
+  unfolding value_on
+  value-breaks d r rs _ (breaches.ValueBreaks.scalar {f = f} xs b h) = rw b (ap (scalar_value rs) (scalars.is_refused (style_of r.first) above end (source_at bytes r.first.at) f h))
+  value-breaks d r rs _ (breaches.ValueBreaks.no_value e xs b n) = nothing-on d r rs b n
+  value-breaks _ r rs _ (breaches.ValueBreaks.deep xs h) = deep-on r rs h
+  value-breaks _ r rs _ (breaches.ValueBreaks.flow_sequence {f = f} d e h) =
+      list-on (suc d) r rs e ∙ ap (closed_list r) (sequence-breaks end above (suc (turns r.rest rs)) r.rest rs f (omega arith) h)
+  value-breaks _ r rs _ (breaches.ValueBreaks.behind_sequence {rest = rest} {is = is} {closing = closing} {wrong = wrong} {behind = behind} d e h w) =
+      list-on (suc d) r rs e ∙ ap (closed_list r) (sequence-is end above (suc (turns r.rest rs)) r.rest rs is closing behind rest (omega arith) h)
+      ∙ ap (alone (λ (is : Items) (closing : Cell). sequence is (span r.first.at (suc closing.at))) (is, closing, behind, rest)) (wrong-told false behind wrong (from-front behind wrong w))
+  value-breaks _ r rs _ (breaches.ValueBreaks.flow_mapping {f = f} d e h) =
+      map-on (suc d) r rs e ∙ ap (closed_map r) (mapping-breaks end above (suc (turns r.rest rs)) [] r.rest rs f (omega arith) h)
+  value-breaks _ r rs _ (breaches.ValueBreaks.behind_mapping {rest = rest} {es = es} {closing = closing} {wrong = wrong} {behind = behind} d e h w) =
+      map-on (suc d) r rs e ∙ ap (closed_map r) (mapping-is end above (suc (turns r.rest rs)) [] r.rest rs es closing behind rest (omega arith) h)
+      ∙ ap (alone (λ (es : Entries) (closing : Cell). mapping es (span r.first.at (suc closing.at))) (es, closing, behind, rest)) (wrong-told false behind wrong (from-front behind wrong w))
+
+  abbrev pub ValueTold : ℕ → Row → List Row → Read Tree → Type 0
+  ValueTold d r rs (Ok x) = ValueAt bytes above d r rs x.0 x.1
+  ValueTold d r rs (Err f) = ValueBreaks bytes above d r rs f
+
+  scalar-told : (d : ℕ) (r : Row) (rs : List Row) → begins_scalar r ≡ true → (read : Result Value Fault) → scalars.Told (style_of r.first) above end (source_at bytes r.first.at) read → ValueTold d r rs (scalar_value rs read)
+  scalar-told d r rs b (Ok v) h = nodes.ValueAt.scalar rs b h
+  scalar-told d r rs b (Err f) h = breaches.ValueBreaks.scalar rs b h
+
+  and-left : (a b : Bool) → (a && b) ≡ true → a ≡ true
+  and-left true b h = refl
+  and-left false b h = h
+
+  scalar-tells : (d : ℕ) (r : Row) (rs : List Row) → IsPlaced bytes r → begins_scalar r ≡ true → ValueTold d r rs (scalar_value rs (scalar_on bytes above r))
+  scalar-tells d r rs placed b =
+      let h : begins (style_of r.first) (first_text (lines end (source_at bytes r.first.at))) ≡ true =
+      ap (begins (style_of r.first)) placed ∙ and-left (begins (style_of r.first) (text_of r)) (not (is_left_out r)) b in
+      scalar-told d r rs b (scalar_on bytes above r) (scalars.tells (style_of r.first) above end (source_at bytes r.first.at) h)
+
+  list-told : (d : ℕ) (r : Row) (rs : List Row) → r.first.byte ≡ 91 → (read : FlowRead Items) → SequenceTold end above r.rest rs read → ValueTold (suc d) r rs (closed_list r read)
+  list-told d r rs e (Ok x) h = by (wrong_behind false x.2) refl
+    where
+      by : (o : Option Cell) → wrong_behind false x.2 ≡ o → ValueTold (suc d) r rs (alone (λ (is : Items) (closing : Cell). sequence is (span r.first.at (suc closing.at))) x o)
+      by None w = nodes.ValueAt.flow_sequence e h (told-tail false x.2 w)
+      by (Some wrong) w = breaches.ValueBreaks.behind_sequence d e h (to-front x.2 wrong (told-wrong false x.2 wrong w))
+  list-told d r rs e (Err f) h = breaches.ValueBreaks.flow_sequence d e h
+
+  map-told : (d : ℕ) (r : Row) (rs : List Row) → r.first.byte ≡ 123 → (read : FlowRead Entries) → MappingTold end above [] r.rest rs read → ValueTold (suc d) r rs (closed_map r read)
+  map-told d r rs e (Ok x) h = by (wrong_behind false x.2) refl
+    where
+      by : (o : Option Cell) → wrong_behind false x.2 ≡ o → ValueTold (suc d) r rs (alone (λ (es : Entries) (closing : Cell). mapping es (span r.first.at (suc closing.at))) x o)
+      by None w = nodes.ValueAt.flow_mapping e h (told-tail false x.2 w)
+      by (Some wrong) w = breaches.ValueBreaks.behind_mapping d e h (to-front x.2 wrong (told-wrong false x.2 wrong w))
+  map-told d r rs e (Err f) h = breaches.ValueBreaks.flow_mapping d e h
+
+  list-tells : (d : ℕ) (r : Row) (rs : List Row) → r.first.byte ≡ 91 → is_bracket r.first ≡ true → ValueTold d r rs (flow_list end above d r rs)
+  list-tells zero r rs e b = breaches.ValueBreaks.deep rs b
+  list-tells (suc d) r rs e b = list-told d r rs e (sequence_in end above (suc (turns r.rest rs)) r.rest rs) (sequence-tells end above (suc (turns r.rest rs)) r.rest rs (omega arith))
+
+  map-tells : (d : ℕ) (r : Row) (rs : List Row) → r.first.byte ≡ 123 → is_bracket r.first ≡ true → ValueTold d r rs (flow_map end above d r rs)
+  map-tells zero r rs e b = breaches.ValueBreaks.deep rs b
+  map-tells (suc d) r rs e b = map-told d r rs e (mapping_in end above (suc (turns r.rest rs)) [] r.rest rs) (mapping-tells end above (suc (turns r.rest rs)) [] r.rest rs (omega arith))
+
+  pub value-tells : (d : ℕ) (r : Row) (rs : List Row) → IsPlaced bytes r → ValueTold d r rs (value_on bytes above d r rs)
+  unfolding value_on
+  value-tells d r rs placed =
+      elim (tells (begins_scalar r)) [
+        | inl b ↦ rw b (scalar-tells d r rs placed b)
+        | inr b ↦ elim (tells (is_bracket r.first)) [
+          | inl k ↦ elim (bracket-cases r.first k) [
+            | inl e ↦ subst (ValueTold d r rs) (sym (list-on d r rs e)) (list-tells d r rs e k)
+            | inr e ↦ subst (ValueTold d r rs) (sym (map-on d r rs e)) (map-tells d r rs e k)
+          ]
+          | inr k ↦ subst (ValueTold d r rs) (sym (nothing-on d r rs b k)) (breaches.ValueBreaks.no_value d rs b k)
+        ]
+      ]
+
+  -- ---- the rows left are the last of those that were there
+
+  pub from-end : (at : ℕ) (rs : List Row) → IsEnd rs (rows_from at rs)
+  from-end at [] = end-all []
+  from-end at (r ∷ rs) =
+      elim (tells (nat_lt r.begin at)) [
+        | inl h ↦ rw h (end-behind r rs (rows_from at rs) (from-end at rs))
+        | inr h ↦ rw h (end-all (r ∷ rs))
+      ]
+
+  pub value-rows : (d : ℕ) (r : Row) (rs : List Row) (t : Tree) (rest : List Row) → ValueAt bytes above d r rs t rest → IsEnd rs rest
+  value-rows d r _ _ _ (nodes.ValueAt.scalar {v = v} rs b h) = from-end v.span.end rs
+  value-rows _ r rs _ rest (nodes.ValueAt.flow_sequence {is = is} {closing = closing} {behind = behind} e h b) = sequence-rows end above r.rest rs is closing behind rest h
+  value-rows _ r rs _ rest (nodes.ValueAt.flow_mapping {es = es} {closing = closing} {behind = behind} e h b) = mapping-rows end above [] r.rest rs es closing behind rest h

@@ -1,0 +1,12 @@
+use Rattle.std.proofs.Common.{◌∙◌, ap}
+use Rattle.lf_yaml.specs.Reading.{entry_by, entry_of}
+use Rattle.lf_yaml.specs.Shown.{shown}
+use Rattle.lf_yaml.proofs.entry.find_entry.Goals as goal
+
+pub returns-in-Some-clause-head : goal.returns-in-Some-clause-head
+unfolding entry_of
+returns-in-Some-clause-head c = c.quoted_entry.ensures.head ∙ ap (entry_by (shown c.args.row)) (c.in-Some.ensures.kind c.args.row.at)
+
+pub returns-in-None-clause-head : goal.returns-in-None-clause-head
+unfolding entry_of
+returns-in-None-clause-head c = c.bare_entry.ensures.head ∙ ap (entry_by (shown c.args.row)) (c.in-None.ensures.kind c.args.row.at)

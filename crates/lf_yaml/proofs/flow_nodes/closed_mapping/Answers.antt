@@ -1,0 +1,7 @@
+use Rattle.std.proofs.Common.{arith}
+use Rattle.std.proofs.lemmas.Str.{IsCharBoundary-after_ascii}
+use Rattle.lf_yaml.proofs.flow_nodes.closed_mapping.Goals as goal
+
+pub flow_entries-requires-clause-place : goal.flow_entries-requires-clause-place
+flow_entries-requires-clause-place c =
+    c.behind.ensures.place c.args.bytes.now c.requires.row (IsCharBoundary-after_ascii c.args.row.text.now 0 c.requires.row.utf8 c.args.row.full (omega (arith, c.requires.bracket)))

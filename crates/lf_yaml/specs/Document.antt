@@ -1,0 +1,43 @@
+-- A file and its tree, and what breaks it.
+use Rattle.std.specs.Prelude.{ℕ, List, [], ◌∷◌, take, length, false, bytes_eq, if◌then◌else◌}
+use Rattle.lf_scalar.specs.Cells.{Fault}
+use Rattle.lf_scalar.specs.Lines.{lines}
+use Rattle.lf_scalar.specs.Scalars.{source_at}
+use Rattle.lf_yaml.specs.Rows.{Row, rows_of, without_opening, indent_fault, row_fault}
+use Rattle.lf_yaml.specs.Heads.{BeginsNoBlock}
+use Rattle.lf_yaml.specs.Characters.{AreCharacters, BreaksCharacters}
+use Rattle.lf_yaml.specs.Tree.{Tree}
+use Rattle.lf_yaml.specs.Spans.{empty_at}
+use Rattle.lf_yaml.specs.Nodes.{ValueAt, BlockAt, NodeAt}
+use Rattle.lf_yaml.specs.Breaches.{NodeBreaks}
+
+-- ---- the document
+
+-- how many bytes a byte order mark at the file's start has: it is skipped
+abbrev pub mark_length : List ℕ → ℕ
+mark_length bytes = if bytes_eq (take 3 bytes) (0xEF ∷ 0xBB ∷ 0xBF ∷ []) then 3 else 0
+
+abbrev pub document_rows : List ℕ → List Row
+document_rows bytes = without_opening (rows_of (lines (length bytes) (source_at bytes (mark_length bytes))))
+
+-- One node, at most 16 deep, with no row behind it. A document without a node is the empty text at offset 0.
+pub data DocumentAt (bytes : List ℕ) : List Row → Tree → Type 0 where
+  nothing : DocumentAt bytes [] (empty_at 0)
+  a_node : {r : Row} {rs : List Row} {t : Tree} → NodeAt bytes 0 16 r rs t [] → DocumentAt bytes (r ∷ rs) t
+
+-- The node breaks, or a row stands behind it. Behind a block sequence or mapping its indent fits no open collection; behind a scalar or flow collection it begins nothing that may stand there.
+pub data DocumentBreaks (bytes : List ℕ) : List Row → Fault → Type 0 where
+  broken_node : {r : Row} {rs : List Row} {f : Fault} → NodeBreaks bytes 0 16 r rs f → DocumentBreaks bytes (r ∷ rs) f
+  behind_block : {r next : Row} {rs later : List Row} {t : Tree} → BlockAt bytes 16 false r rs t (next ∷ later) → DocumentBreaks bytes (r ∷ rs) (indent_fault next)
+  behind_value : {r next : Row} {rs later : List Row} {t : Tree} → BeginsNoBlock r → ValueAt bytes 0 16 r rs t (next ∷ later) → DocumentBreaks bytes (r ∷ rs) (row_fault next)
+
+-- ---- the file
+
+pub record IsTree (bytes : List ℕ) (t : Tree) : Type 0 where
+  pub characters : AreCharacters bytes
+  pub document : DocumentAt bytes (document_rows bytes) t
+
+-- The bytes aren't UTF-8, or else hold a character that isn't allowed, or else the document breaks.
+pub data TreeBreaks (bytes : List ℕ) : Fault → Type 0 where
+  bad_characters : {f : Fault} → BreaksCharacters bytes f → TreeBreaks bytes f
+  bad_document : {f : Fault} → AreCharacters bytes → DocumentBreaks bytes (document_rows bytes) f → TreeBreaks bytes f

@@ -1,0 +1,106 @@
+-- The content lines of a file, what is left of one behind a sign, and what is told of one that can't stand where it does.
+use Rattle.std.specs.Prelude.{ℕ, ◌-◌, List, [], ◌∷◌, ◌++◌, Bool, false, Option, Some, None, nat_lt, ◌==◌, ◌&&◌, ◌||◌, codes, if◌then◌else◌}
+use Rattle.std.specs.List.{list_any}
+use Rattle.lf_base.specs.declared.kind.Kind.TheVariants.{BadIndent, LeftOut, NotANode}
+use Rattle.lf_scalar.specs.Cells.{Cell, Fault, fault, fault_at}
+use Rattle.lf_scalar.specs.Lines.{Line, is_blank, after_spaces, is_content, is_tail}
+use Rattle.lf_scalar.specs.Plain.{before_blank}
+
+-- A content line, from its first character that isn't a space, or what is left of one behind a sign, from its first character that isn't a blank: the offset of the
+-- line's first byte, that character's first cell, and the cells behind it on the line.
+pub record Row : Type 0 where
+  pub begin : ℕ
+  pub first : Cell
+  pub rest : List Cell
+
+abbrev pub row : ℕ → Cell → List Cell → Row
+row begin first rest = record { begin = begin; first = first; rest = rest }
+
+abbrev pub text_of : Row → List Cell
+text_of r = r.first ∷ r.rest
+
+-- the column of the first character: a line's indent
+abbrev pub indent : Row → ℕ
+indent r = r.first.at - r.begin
+
+-- ---- the rows of a file
+
+-- the offset of a line's first byte
+abbrev pub start_of : Line → ℕ
+start_of l = by l.text
+  where
+    by : List Cell → ℕ
+    by [] = l.break
+    by (c ∷ cs) = c.at
+
+-- some cells of a line, from a character that isn't a blank on
+abbrev pub headed : ℕ → List Cell → List Row
+headed begin [] = []
+headed begin (c ∷ cs) = row begin c cs ∷ []
+
+abbrev pub content_row : Line → List Row
+content_row l = if is_content l then headed (start_of l) (after_spaces l.text) else []
+
+-- a row for each content line: blank lines and comment lines are left out
+unfoldable pub rows_of : List Line → List Row
+rows_of [] = []
+rows_of (l ∷ ls) = content_row l ++ rows_of ls
+
+-- the rows that begin at an offset or behind it
+abbrev pub rows_from : ℕ → List Row → List Row
+rows_from at [] = []
+rows_from at (r ∷ rs) = if nat_lt r.begin at then rows_from at rs else r ∷ rs
+
+-- what is left of a line behind a sign: nothing but blanks and a comment, or a row
+abbrev pub left_of : ℕ → List Cell → Option Row
+left_of begin [] = None
+left_of begin (c ∷ cs) = if is_blank c then left_of begin cs else if c.byte == 35 then None else Some (row begin c cs)
+
+-- ---- forms that the profile leaves out
+
+abbrev pub is_one_of : List ℕ → Cell → Bool
+is_one_of signs c = list_any (λ sign. c.byte == sign) signs
+
+-- a byte three times, and then a blank or the line's end
+abbrev pub is_thrice : ℕ → List Cell → Bool
+is_thrice byte (c ∷ d ∷ e ∷ cs) = (c.byte == byte) && ((d.byte == byte) && ((e.byte == byte) && before_blank cs))
+is_thrice byte cs = false
+
+-- a line at indent 0 that begins with `---` or `...` and a blank or the line's end, or with `%`
+abbrev pub is_mark : Row → Bool
+is_mark r = (indent r == 0) && (is_thrice 45 (text_of r) || (is_thrice 46 (text_of r) || (r.first.byte == 37)))
+
+-- an anchor, an alias, a tag, or a `?` before a blank or the line's end
+abbrev pub is_property : Cell → List Cell → Bool
+is_property c cs = is_one_of (codes "&*!") c || ((c.byte == 63) && before_blank cs)
+
+abbrev pub is_left_out : Row → Bool
+is_left_out r = is_property r.first r.rest || is_mark r
+
+-- ---- what is told of a row
+
+-- its indent fits no open collection; a tab behind the spaces is told at the line's first byte
+abbrev pub indent_fault : Row → Fault
+indent_fault r = if r.first.byte == 9 then fault BadIndent r.begin else fault_at BadIndent r.first
+
+-- it begins nothing that may stand there
+abbrev pub row_fault : Row → Fault
+row_fault r =
+    if r.first.byte == 9 then fault BadIndent r.begin
+    else if is_left_out r then fault_at LeftOut r.first
+    else fault_at NotANode r.first
+
+-- ---- the edges of a document
+
+-- `---` with nothing but blanks and a comment behind it
+abbrev pub is_opening_text : List Cell → Bool
+is_opening_text (c ∷ d ∷ e ∷ cs) = (c.byte == 45) && ((d.byte == 45) && ((e.byte == 45) && is_tail false cs))
+is_opening_text cs = false
+
+abbrev pub is_opening : Row → Bool
+is_opening r = (indent r == 0) && is_opening_text (text_of r)
+
+-- the rows without a first one that only opens the document
+abbrev pub without_opening : List Row → List Row
+without_opening [] = []
+without_opening (r ∷ rs) = if is_opening r then rs else r ∷ rs

@@ -1,0 +1,98 @@
+//! What stands behind a sign: the rest of its row, and the rows below.
+ghost use Rattle.std.specs.Prelude.{◌≡◌, ℕ, suc, ◌+◌, ◌<◌, ◌≤◌, ◌^◌, ◌∷◌, [], List, length, get_or, drop, MatchOption, IfSome, option_map};
+ghost use Rattle.std.specs.Str.{IsCharBoundary, IsUtf8};
+ghost use Rattle.lf_scalar.specs.Cells.{cells};
+ghost use Rattle.lf_yaml.specs.Rows.{indent as indent_of, left_of};
+ghost use Rattle.lf_yaml.specs.Nodes.{NoneBelow, NothingBelow};
+ghost use Rattle.lf_yaml.specs.Shown.{shown};
+ghost use Rattle.lf_yaml.specs.Cursor.{rows_after, IsRowOf};
+ghost use Rattle.lf_yaml.specs.BlockTurns.{IsBehind, IsBelow};
+
+use crate::entries::{Below, EntryRow};
+use crate::head::{indent, is_item, left};
+use crate::lines::past;
+use crate::row::Row;
+use crate::rows::next_row;
+
+/// What is left of a row behind an ASCII byte at a place.
+pub fn left_behind(row: Row<'_>, sign: usize) -> Option<Row<'_>>
+    requires within { sign < length row.text.now }
+    ensures left { option_map shown result ≡ left_of row.entry.begin (cells (row.entry.at + (sign + 1)) (drop (sign + 1) row.entry.text.now)) }
+    ensures row { (bytes : List ℕ) → IsUtf8 bytes → IsRowOf bytes row.entry → get_or row.entry.text.now sign 0 < 128 → IfSome result (λ r. IsRowOf bytes r) }
+{
+    left(
+        row.begin,
+        row.at + sign as u32 + 1,
+        past(row.text, sign + 1),
+    )
+}
+
+/// The next row of a file from the start of a line on, and where the line behind it begins.
+pub fn first_row(bytes: &[u8], next: usize) -> Option<(Row<'_>, usize)>
+    requires text { IsUtf8 bytes.now }
+    requires room { length bytes.now ≤ 2 ^ 31 }
+    requires start { IsCharBoundary bytes.now next }
+    ensures rows { MatchOption result (rows_after bytes.entry.now next ≡ []) (λ x. rows_after bytes.entry.now next ≡ shown x.0 ∷ rows_after bytes.entry.now x.1) }
+    ensures row { IfSome result (λ x. IsRowOf bytes.entry.now x.0) }
+    ensures start { IfSome result (λ x. IsCharBoundary bytes.entry.now x.1) }
+    ensures further { IfSome result (λ x. next < x.1) }
+{
+    next_row(bytes, next)
+}
+
+/// The row on which the value of an item at an indent begins, where it stands below the item.
+pub fn row_below(bytes: &[u8], column: u32, next: usize) -> Option<(Row<'_>, usize)>
+    requires text { IsUtf8 bytes.now }
+    requires room { length bytes.now ≤ 2 ^ 31 }
+    requires start { IsCharBoundary bytes.now next }
+    ensures rows { MatchOption result (NoneBelow column (rows_after bytes.entry.now next)) (λ x. (column < indent_of (shown x.0)) × (rows_after bytes.entry.now next ≡ shown x.0 ∷ rows_after bytes.entry.now x.1)) }
+    ensures row { IfSome result (λ x. IsRowOf bytes.entry.now x.0) }
+    ensures start { IfSome result (λ x. IsCharBoundary bytes.entry.now x.1) }
+    ensures further { IfSome result (λ x. next < x.1) }
+{
+    match first_row(bytes, next) {
+        Some((row, behind)) => {
+            if column < indent(row) {
+                Some((row, behind))
+            } else {
+                None
+            }
+        }
+        None => None,
+    }
+}
+
+/// The row on which the value of an entry begins below the entry, where one does: with a larger indent, or an item at the same.
+pub fn row_beside(bytes: &[u8], column: u32, next: usize) -> Option<Below<'_>>
+    requires text { IsUtf8 bytes.now }
+    requires room { length bytes.now ≤ 2 ^ 31 }
+    requires start { IsCharBoundary bytes.now next }
+    ensures rows { MatchOption result (NothingBelow column (rows_after bytes.entry.now next)) (λ b. IsBelow b.own column (shown b.row) × (rows_after bytes.entry.now next ≡ shown b.row ∷ rows_after bytes.entry.now b.behind)) }
+    ensures row { IfSome result (λ b. IsRowOf bytes.entry.now b.row) }
+    ensures start { IfSome result (λ b. IsCharBoundary bytes.entry.now b.behind) }
+    ensures further { IfSome result (λ b. next < b.behind) }
+{
+    match first_row(bytes, next) {
+        Some((row, behind)) => {
+            if indent(row) > column {
+                let own = false;
+                return Some(Below { own, row, behind });
+            }
+            if indent(row) == column && is_item(row) {
+                let own = true;
+                return Some(Below { own, row, behind });
+            }
+            None
+        }
+        None => None,
+    }
+}
+
+/// What is left of an entry's row behind its `:`.
+pub fn left_of_entry(entry: EntryRow<'_>) -> Option<Row<'_>>
+    requires behind { IsBehind entry.row entry.head.colon entry.head.behind.now }
+    ensures left { option_map shown result ≡ left_of entry.entry.row.begin (cells (suc entry.entry.head.colon) entry.entry.head.behind.now) }
+    ensures row { (bytes : List ℕ) → IsUtf8 bytes → IsRowOf bytes entry.entry.row → IfSome result (λ r. IsRowOf bytes r) }
+{
+    left_behind(entry.row, (entry.head.colon - entry.row.at) as usize)
+}

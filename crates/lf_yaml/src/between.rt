@@ -1,0 +1,47 @@
+//! Scalars between quotes that close on their line.
+ghost use Rattle.std.specs.Prelude.{◌≡◌, ℕ, ◌+◌, ◌<◌, ◌≤◌, ◌^◌, ◌∷◌, length, get_or, take, drop, Some};
+ghost use Rattle.std.specs.Str.{IsUtf8};
+ghost use Rattle.lf_scalar.specs.Cells.{cell, Gives};
+ghost use Rattle.lf_scalar.specs.Quoted.{quote_of};
+ghost use Rattle.lf_scalar.specs.QuotedReading.{split_of};
+ghost use Rattle.lf_scalar.specs.Drafted.{shown};
+ghost use Rattle.lf_yaml.specs.Reading.{between_of};
+ghost use Rattle.lf_yaml.specs.Quoting.{kind_of, style_of_quotes};
+
+use crate::lines::before;
+use crate::quotes::Quote;
+use lf_base::Refusal;
+use lf_scalar::{Scalar, Style, read_scalar};
+use std::alloc::Global;
+
+/// The style of a scalar between these quotes.
+fn style_of(quote: Quote) -> Style
+    ensures { result ≡ style_of_quotes (kind_of quote) }
+{
+    match quote {
+        Quote::Single => Style::Single,
+        Quote::Double => Style::Double,
+    }
+}
+
+/// The scalar between quotes that begins at an offset of a file. `inside` is what stands behind its quote on the line, where the closing quote is at a place.
+pub fn quoted_scalar(
+    alloc: Global,
+    bytes: &[u8],
+    at: u32,
+    inside: &[u8],
+    quote: Quote,
+    closing: usize,
+) -> Result<Scalar, Refusal>
+    requires text { IsUtf8 bytes.now }
+    requires room { length bytes.now ≤ 2 ^ 31 }
+    requires quote { get_or bytes.now at 0 ≡ quote_of (kind_of quote) }
+    requires inside { get_or bytes.now at 0 ∷ inside.now ≡ take (length inside.now + 1) (drop at bytes.now) }
+    requires closing { closing < length inside.now }
+    requires closes { get_or inside.now closing 0 ≡ quote_of (kind_of quote) }
+    requires within { at + length inside.now + 1 ≤ length bytes.now }
+    ensures { Gives shown result (between_of (kind_of quote) (cell (get_or bytes.now at 0) at) (Some (split_of (at + 1) inside.now closing))) }
+{
+    let cut = before(bytes, at as usize + closing + 2);
+    read_scalar(alloc, cut, at, -1, style_of(quote))
+}

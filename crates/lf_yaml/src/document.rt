@@ -1,0 +1,135 @@
+//! A file and its tree.
+ghost use Rattle.std.specs.Prelude.{◌≡◌, ℕ, List, [], ◌∷◌, ◌≤◌, ◌^◌, length, false, MatchOption, Ok, Err, IfOk, IfErr, IfSome};
+ghost use Rattle.std.specs.Str.{IsCharBoundary, IsUtf8};
+ghost use Rattle.lf_scalar.specs.Cells.{cells, Fault, Gives, IfAt};
+ghost use Rattle.lf_scalar.specs.Drafted.{refused};
+ghost use Rattle.lf_scalar.specs.Lines.{is_tail as is_tail_of};
+ghost use Rattle.lf_yaml.specs.Rows.{is_opening_text as is_opening_text_of, is_opening as is_opening_of};
+ghost use Rattle.lf_yaml.specs.Tree.{Tree, tree};
+ghost use Rattle.lf_yaml.specs.Document.{mark_length as mark_length_of, document_rows, IsTree, TreeBreaks};
+ghost use Rattle.lf_yaml.specs.Reading.{document_of};
+ghost use Rattle.lf_yaml.specs.Shown.{shown};
+ghost use Rattle.lf_yaml.specs.Cursor.{rows_after, IsRowOf};
+ghost use Rattle.lf_yaml.specs.BlockTurns.{behind_fault};
+
+use crate::below::first_row;
+use crate::block_turns::begins_block;
+use crate::characters::check_characters;
+use crate::head::{indent, indent_fault, row_fault};
+use crate::lines::wrong_behind;
+use crate::made::empty;
+use crate::nested::node;
+use crate::node::Node;
+use crate::row::Row;
+use lf_base::Refusal;
+use std::alloc::Global;
+
+/// The tree of a rule file, by the profile of YAML 1.2 in docs/yaml-profile.md.
+///
+/// A file of more than one document, or with a form that the profile leaves out, is refused. A refusal is the first breach of the file: its kind, and its span in bytes
+/// from the file's first. A byte order mark at the file's start is skipped; spans count it. A file without a node is the empty text at offset 0.
+pub fn read_tree(alloc: Global, bytes: &[u8]) -> Result<Node, Refusal>
+    requires room { length bytes.now ≤ 2 ^ 31 }
+    // What is read is the file's tree.
+    ensures found { IfOk result (λ n. IsTree bytes.now (tree n)) }
+    // The file's tree is read, unless memory runs out.
+    ensures only { (t : Tree) → IsTree bytes.now t → Gives tree result (Ok t) }
+    // What is refused is the file's breach.
+    ensures refused { IfErr result (λ e. IfAt e (TreeBreaks bytes.now)) }
+    // A breach is refused, unless memory runs out.
+    ensures breach { (f : Fault) → TreeBreaks bytes.now f → Gives tree result (Err f) }
+{
+    match check_characters(bytes) {
+        Ok(_) => document(alloc, bytes),
+        Err(refusal) => Err(refusal),
+    }
+}
+
+/// The tree of a file whose characters are allowed.
+fn document(alloc: Global, bytes: &[u8]) -> Result<Node, Refusal>
+    requires text { IsUtf8 bytes.now }
+    requires room { length bytes.now ≤ 2 ^ 31 }
+    ensures { Gives tree result (document_of bytes.now (document_rows bytes.now)) }
+{
+    match root_row(bytes) {
+        None => empty(alloc, 0),
+        Some((row, behind)) => {
+            let (root, left) = node(alloc, bytes, 16, false, 0, row, behind)?;
+            match first_row(bytes, left) {
+                None => Ok(root),
+                Some((next, _)) => Err(behind_root(row, next)),
+            }
+        }
+    }
+}
+
+/// The row on which the root begins, and where the line behind it begins.
+fn root_row(bytes: &[u8]) -> Option<(Row<'_>, usize)>
+    requires text { IsUtf8 bytes.now }
+    requires room { length bytes.now ≤ 2 ^ 31 }
+    ensures rows { MatchOption result (document_rows bytes.entry.now ≡ []) (λ x. document_rows bytes.entry.now ≡ shown x.0 ∷ rows_after bytes.entry.now x.1) }
+    ensures row { IfSome result (λ x. IsRowOf bytes.entry.now x.0) }
+    ensures start { IfSome result (λ x. IsCharBoundary bytes.entry.now x.1) }
+{
+    match first_row(bytes, mark_length(bytes)) {
+        Some((row, behind)) => {
+            if is_opening(row) {
+                first_row(bytes, behind)
+            } else {
+                Some((row, behind))
+            }
+        }
+        None => None,
+    }
+}
+
+/// How many bytes a byte order mark at the file's start has.
+fn mark_length(bytes: &[u8]) -> usize
+    ensures { result ≡ mark_length_of bytes.now }
+{
+    if bytes.starts_with(b"\xEF\xBB\xBF") {
+        3
+    } else {
+        0
+    }
+}
+
+/// Whether nothing but blanks and a comment, whose `#` stands behind a blank, is left of a line.
+fn is_tail(text: &[u8]) -> bool
+    ensures { (at : ℕ) → result ≡ is_tail_of false (cells at text.now) }
+{
+    match wrong_behind(text) {
+        Some(_) => false,
+        None => true,
+    }
+}
+
+/// Whether a row is `---` with nothing but blanks and a comment behind it, at indent 0.
+fn is_opening(row: Row<'_>) -> bool
+    ensures { result ≡ is_opening_of (shown row.entry) }
+{
+    indent(row) == 0 && is_opening_text(row.text)
+}
+
+/// Whether a text is `---` with nothing but blanks and a comment behind it.
+fn is_opening_text(text: &[u8]) -> bool
+    ensures { (at : ℕ) → result ≡ is_opening_text_of (cells at text.now) }
+{
+    match text {
+        [] => false,
+        [_] => false,
+        [_, _] => false,
+        [a, b, c, rest @ ..] => *a == b'-' && *b == b'-' && *c == b'-' && is_tail(rest),
+    }
+}
+
+/// What is told of a row behind the root, which begins on another row.
+fn behind_root(root: Row<'_>, next: Row<'_>) -> Refusal
+    ensures { result ≡ refused (behind_fault (shown root.entry) (shown next.entry)) }
+{
+    if begins_block(root) {
+        indent_fault(next)
+    } else {
+        row_fault(next)
+    }
+}

@@ -1,0 +1,42 @@
+//! Entries of block mappings: a key, and what stands behind its `:`.
+
+use crate::quotes::Quote;
+use crate::row::Row;
+
+/// A key as it stands on its row.
+#[derive(Clone, Copy)]
+pub enum Key {
+    /// Without quotes, the row's first `len` bytes.
+    Bare { len: usize },
+    /// Between quotes, the closing one at a place behind the first.
+    Between { quote: Quote, closing: usize },
+}
+
+/// An entry's key and what stands behind its `:`.
+#[derive(Clone, Copy)]
+pub struct Head<'a> {
+    pub key: Key,
+    /// The offset of the `:`.
+    pub colon: u32,
+    /// What stands behind the `:` on its line.
+    pub behind: &'a [u8],
+}
+
+/// An entry that a row begins.
+#[derive(Clone, Copy)]
+pub struct EntryRow<'a> {
+    pub row: Row<'a>,
+    pub head: Head<'a>,
+    /// Where the line behind the row begins.
+    pub behind: usize,
+}
+
+/// The row on which the value of an entry begins below the entry.
+#[derive(Clone, Copy)]
+pub struct Below<'a> {
+    /// Whether it is an item at the indent of the entry's mapping.
+    pub own: bool,
+    pub row: Row<'a>,
+    /// Where the line behind the row begins.
+    pub behind: usize,
+}

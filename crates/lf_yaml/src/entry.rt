@@ -1,0 +1,144 @@
+//! Whether a row begins an entry.
+ghost use Rattle.std.specs.Prelude.{◌≡◌, ℕ, suc, ◌+◌, ◌<◌, ◌≤◌, ◌^◌, length, get_or, option_map, IfSome, None, Some};
+ghost use Rattle.lf_scalar.specs.Cells.{cell, cells};
+ghost use Rattle.lf_scalar.specs.Plain.{begins_plain as begins_plain_of, is_plain_byte as is_plain_byte_of, is_sign as is_sign_of};
+ghost use Rattle.lf_yaml.specs.Reading.{quotes_of, entry_by, entry_of, opens_quote as opens_quote_of, sign_behind as sign_behind_of};
+ghost use Rattle.lf_yaml.specs.Quoting.{kind_of};
+ghost use Rattle.lf_scalar.specs.Quoted.{quote_of as quote_byte};
+ghost use Rattle.lf_yaml.specs.Headed.{headed, IsKeyIn};
+ghost use Rattle.lf_yaml.specs.Shown.{shown};
+
+use crate::entries::{Head, Key};
+use crate::head::{is_apart, is_left_out};
+use crate::keys::{find_sign, trimmed_len};
+use crate::lines::{before, blanks, is_blank_byte, past};
+use crate::quotes::{Quote, find_closing};
+use crate::row::Row;
+
+/// Whether a byte begins a plain scalar whatever follows it: it is no blank, and none of the signs of the format.
+pub fn is_plain_byte(byte: u8) -> bool
+    ensures { (at : ℕ) → result ≡ is_plain_byte_of (cell byte at) }
+{
+    !is_blank_byte(byte) && !b"-?:,[]{}#&*!|>'\"%@`".contains(&byte)
+}
+
+/// Whether a byte is one of `-`, `?` and `:`, which begin a plain scalar where a character other than a blank follows.
+pub fn is_sign_byte(byte: u8) -> bool
+    ensures { (at : ℕ) → result ≡ is_sign_of (cell byte at) }
+{
+    byte == b'-' || byte == b'?' || byte == b':'
+}
+
+/// Whether a text begins as a plain scalar does.
+pub fn begins_plain(text: &[u8]) -> bool
+    ensures { (at : ℕ) → result ≡ begins_plain_of (cells at text.now) }
+{
+    match text {
+        [] => false,
+        [byte, rest @ ..] => is_plain_byte(*byte) || (is_sign_byte(*byte) && !is_apart(rest)),
+    }
+}
+
+/// The quote that a byte is.
+pub fn quote_of(byte: u8) -> Option<Quote>
+    ensures byte { IfSome result (λ quote. byte ≡ quote_byte (kind_of quote)) }
+    ensures kind { (at : ℕ) → option_map kind_of result ≡ quotes_of (cell byte at) }
+{
+    match byte {
+        b'\'' => Some(Quote::Single),
+        b'"' => Some(Quote::Double),
+        _ => None,
+    }
+}
+
+/// The entry that a row begins whose key has no quotes.
+fn bare_entry(row: Row<'_>) -> Option<Head<'_>>
+    ensures head { option_map (headed row.entry.at row.entry.text.now) result ≡ entry_by (shown row.entry) None }
+    ensures room { IfSome result (λ h. h.colon + 1 + length h.behind.now ≤ 2 ^ 31) }
+    ensures key { IfSome result (λ h. IsKeyIn row.entry.at row.entry.text.now h.key) }
+{
+    if !begins_plain(row.text) {
+        return None;
+    }
+    if is_left_out(row) {
+        return None;
+    }
+    match find_sign(false, row.text, row.at) {
+        Some(place) => Some(Head {
+            key: Key::Bare {
+                len: trimmed_len(before(row.text, place)),
+            },
+            colon: row.at + place as u32,
+            behind: past(row.text, place + 1),
+        }),
+        None => None,
+    }
+}
+
+/// The `:` behind a key between quotes, at its offset, and what stands behind it: blanks, `:`, and a blank or the line's end.
+fn sign_behind(text: &[u8], at: u32) -> Option<(u32, &[u8])>
+    requires room { at + length text.now ≤ 2 ^ 31 }
+    ensures sign { option_map (λ x. (cell 58 x.0, cells (suc x.0) x.1.now)) result ≡ sign_behind_of (cells at text.entry.now) }
+    ensures room { IfSome result (λ x. x.0 + 1 + length x.1.now ≤ 2 ^ 31) }
+{
+    let skipped = blanks(text);
+    match past(text, skipped) {
+        [b':', rest @ ..] => Some((at + skipped as u32, rest)),
+        [_, ..] => None,
+        [] => None,
+    }
+}
+
+/// The entry that a row begins whose key stands between quotes.
+fn quoted_entry(row: Row<'_>, quote: Quote) -> Option<Head<'_>>
+    requires quote { get_or row.text.now 0 0 ≡ quote_byte (kind_of quote) }
+    ensures head { option_map (headed row.entry.at row.entry.text.now) result ≡ entry_by (shown row.entry) (Some (kind_of quote)) }
+    ensures room { IfSome result (λ h. h.colon + 1 + length h.behind.now ≤ 2 ^ 31) }
+    ensures key { IfSome result (λ h. IsKeyIn row.entry.at row.entry.text.now h.key) }
+{
+    let inside = past(row.text, 1);
+    let at = row.at + 1;
+    match find_closing(quote, inside, at) {
+        Some(closing) => {
+            match sign_behind(past(inside, closing + 1), at + (closing as u32 + 1)) {
+                Some((colon, behind)) => {
+                    if is_apart(behind) {
+                        Some(Head {
+                            key: Key::Between { quote, closing },
+                            colon,
+                            behind,
+                        })
+                    } else {
+                        None
+                    }
+                }
+                None => None,
+            }
+        }
+        None => None,
+    }
+}
+
+/// The entry that a row begins: a key, blanks, `:`, and a blank or the line's end.
+#[tactic(auto, unfolding(crate::specs::Reading::entry_of))]
+pub fn find_entry(row: Row<'_>) -> Option<Head<'_>>
+    ensures head { option_map (headed row.entry.at row.entry.text.now) result ≡ entry_of (shown row.entry) }
+    ensures room { IfSome result (λ h. h.colon + 1 + length h.behind.now ≤ 2 ^ 31) }
+    ensures key { IfSome result (λ h. IsKeyIn row.entry.at row.entry.text.now h.key) }
+{
+    match quote_of(row.text[0]) {
+        Some(quote) => quoted_entry(row, quote),
+        None => bare_entry(row),
+    }
+}
+
+/// Whether a row begins with a quote that nothing on the row closes.
+#[tactic(auto, unfolding(crate::specs::Reading::opens_quote))]
+pub fn opens_quote(row: Row<'_>) -> bool
+    ensures { result ≡ opens_quote_of (shown row.entry).first (shown row.entry).rest }
+{
+    match quote_of(row.text[0]) {
+        Some(quote) => find_closing(quote, past(row.text, 1), row.at + 1).is_none(),
+        None => false,
+    }
+}

@@ -1,0 +1,232 @@
+//! Flow mappings.
+ghost use Rattle.std.specs.Prelude.{false, ◌≡◌, ℕ, suc, ◌+◌, ◌<◌, ◌≤◌, ◌^◌, List, [], ◌∷◌, ◌++◌, length, get_or, IfOk};
+ghost use Rattle.std.specs.Str.{IsUtf8};
+ghost use Rattle.lf_scalar.specs.Cells.{Gives};
+ghost use Rattle.lf_scalar.specs.Drafted.{shown as scalar_shown};
+ghost use Rattle.lf_yaml.specs.Tree.{leaf, pair};
+ghost use Rattle.lf_yaml.specs.Flow.{next_part as next_part_of};
+ghost use Rattle.lf_yaml.specs.Reading.{Later, flow_key as flow_key_of, mapping_sign, key_behind, mapping_in, turns};
+ghost use Rattle.lf_yaml.specs.Cursor.{rows_after};
+ghost use Rattle.lf_yaml.specs.KeySets.{HasKeys};
+ghost use Rattle.lf_yaml.specs.Places.{IsPartIn, IsPlaceIn, left_at, rows_at, signed};
+ghost use Rattle.lf_yaml.specs.Turns.{IsTurnIn, IsTurnBehind, HasTurned, TurnsEntries, new_key as new_key_of, entry_at, left_behind, closed_entries};
+ghost use Rattle.lf_yaml.specs.Shown.{shown};
+
+use crate::flow_items::scalar_node;
+use crate::flow_key::flow_key;
+use crate::flow_scalar::sign_fault;
+use crate::flow_value::flow_value;
+use crate::key_set::KeySet;
+use crate::node::Entry;
+use crate::parts::{behind, next_part};
+use crate::place::Place;
+use crate::row::Row;
+use crate::turn::Turn;
+use lf_base::{Kind, Refusal, Seq};
+use lf_scalar::Scalar;
+use std::alloc::Global;
+
+/// The entry of a key whose value is a scalar.
+fn scalar_entry(key: Scalar, of: Scalar) -> Entry
+    ensures { pair result ≡ (scalar_shown key, leaf (scalar_shown of)) }
+{
+    Entry {
+        key,
+        value: scalar_node(of),
+    }
+}
+
+/// The key that a part begins, and the place of its `:` in the part. It is put into the set of the keys before it, to which it is new.
+fn new_key(
+    alloc: Global,
+    bytes: &[u8],
+    above: u32,
+    keys: &mut KeySet,
+    part: Row<'_>,
+    next: usize,
+) -> Result<(Scalar, usize), Refusal>
+    requires utf8 { IsUtf8 bytes.now }
+    requires room { length bytes.now ≤ 2 ^ 31 }
+    requires part { IsPartIn bytes.now part next }
+    ensures gives { (before : List (List ℕ)) → HasKeys keys.old before → Gives (signed part.entry) result (new_key_of (length bytes.now) above before (shown part.entry).first (shown part.entry).rest (rows_after bytes.now next)) }
+    ensures keys { (before : List (List ℕ)) → HasKeys keys.old before → IfOk result (λ x. HasKeys keys.new (before ++ x.0.text ∷ [])) }
+    ensures within { IfOk result (λ x. x.1 < length part.entry.text.now) }
+    ensures sign { IfOk result (λ x. get_or part.entry.text.now x.1 0 ≡ 58) }
+{
+    match flow_key(alloc, bytes, above, part, next) {
+        Ok((key, place)) => {
+            if keys.contains(key.text.as_str()) {
+                return Err(Refusal::At {
+                    kind: Kind::DoubleKey,
+                    span: key.span,
+                });
+            }
+            match keys.add(key.text.as_str()) {
+                Ok(()) => Ok((key, place)),
+                Err(_) => Err(Refusal::Memory),
+            }
+        }
+        Err(refusal) => Err(refusal),
+    }
+}
+
+/// The entry that a part begins, and the place behind it.
+fn entry_from<'a>(
+    alloc: Global,
+    bytes: &'a [u8],
+    above: u32,
+    keys: &mut KeySet,
+    part: Row<'a>,
+    next: usize,
+) -> Result<(Entry, Place<'a>), Refusal>
+    requires utf8 { IsUtf8 bytes.now }
+    requires room { length bytes.now ≤ 2 ^ 31 }
+    requires part { IsPartIn bytes.now part next }
+    ensures gives { (before : List (List ℕ)) → HasKeys keys.old before → Gives (left_behind bytes.entry.now) result (entry_at (length bytes.entry.now) above before (shown part.entry).first (shown part.entry).rest (rows_after bytes.entry.now next)) }
+    ensures keys { (before : List (List ℕ)) → HasKeys keys.old before → IfOk result (λ x. HasKeys keys.new (before ++ (pair x.0).0.text ∷ [])) }
+    ensures place { IfOk result (λ x. IsPlaceIn bytes.entry.now x.1) }
+    ensures further { IfOk result (λ x. next ≤ x.1.next) }
+    ensures stays { IfOk result (λ x. turns (left_at x.1) (rows_at bytes.entry.now x.1) ≤ turns (shown part.entry).rest (rows_after bytes.entry.now next)) }
+{
+    match new_key(alloc, bytes, above, keys, part, next) {
+        Ok((key, colon)) => {
+            let at = part.at + colon as u32;
+            match flow_value(alloc, bytes, above, at, behind(part, colon + 1, next)) {
+                Ok((of, place)) => Ok((scalar_entry(key, of), place)),
+                Err(refusal) => Err(refusal),
+            }
+        }
+        Err(refusal) => Err(refusal),
+    }
+}
+
+/// What stands behind an entry: a comma, or the bracket that closes.
+fn entry_sign<'a>(
+    bytes: &'a [u8],
+    above: u32,
+    found: Entry,
+    place: Place<'a>,
+) -> Result<Turn<'a, Entry>, Refusal>
+    requires utf8 { IsUtf8 bytes.now }
+    requires room { length bytes.now ≤ 2 ^ 31 }
+    requires place { IsPlaceIn bytes.now place }
+    ensures gives { (later : Later) (before : List (List ℕ)) → TurnsEntries bytes.entry.now later before result
+        (mapping_sign (λ cs rs. later (before ++ (pair found).0.text ∷ []) cs rs) (pair found).0 (pair found).1 (next_part_of (length bytes.entry.now) above false (left_at place.entry) (rows_at bytes.entry.now place.entry))) }
+    ensures turn { IfOk result (λ t. IsTurnIn bytes.entry.now (turns (left_at place.entry) (rows_at bytes.entry.now place.entry)) t) }
+    ensures further { IfOk result (λ t. IsTurnBehind place.entry.next t) }
+    ensures found { (set : KeySet) (before : List (List ℕ)) → HasKeys set (before ++ (pair found).0.text ∷ []) → IfOk result (λ t. HasTurned set before t) }
+{
+    match next_part(bytes, above, place) {
+        Ok((part, next)) => match part.text[0] {
+            b',' => Ok(Turn::More {
+                found,
+                place: behind(part, 1, next),
+            }),
+            b'}' => Ok(Turn::Last {
+                found,
+                closing: part,
+                next,
+            }),
+            _ => Err(sign_fault(part)),
+        },
+        Err(refusal) => Err(refusal),
+    }
+}
+
+/// The entry that a part begins, and what stands behind it. The lines behind the part's own begin at `next`.
+fn entry_on<'a>(
+    alloc: Global,
+    bytes: &'a [u8],
+    above: u32,
+    keys: &mut KeySet,
+    part: Row<'a>,
+    next: usize,
+) -> Result<Turn<'a, Entry>, Refusal>
+    requires utf8 { IsUtf8 bytes.now }
+    requires room { length bytes.now ≤ 2 ^ 31 }
+    requires part { IsPartIn bytes.now part next }
+    ensures gives { (later : Later) (before : List (List ℕ)) → HasKeys keys.old before → TurnsEntries bytes.entry.now later before result
+        (key_behind (length bytes.entry.now) above later before (rows_after bytes.entry.now next) (flow_key_of (length bytes.entry.now) above (shown part.entry).first (shown part.entry).rest (rows_after bytes.entry.now next))) }
+    ensures keys { (before : List (List ℕ)) → HasKeys keys.old before → IfOk result (λ t. HasTurned keys.new before t) }
+    ensures turn { IfOk result (λ t. IsTurnIn bytes.entry.now (turns (shown part.entry).rest (rows_after bytes.entry.now next)) t) }
+    ensures further { IfOk result (λ t. IsTurnBehind next t) }
+{
+    match entry_from(alloc, bytes, above, keys, part, next) {
+        Ok((found, place)) => entry_sign(bytes, above, found, place),
+        Err(refusal) => Err(refusal),
+    }
+}
+
+/// What stands at a place of a flow mapping where an entry may begin.
+#[tactic(auto, unfolding(crate::specs::Reading::mapping_in))]
+fn entry_turn<'a>(
+    alloc: Global,
+    bytes: &'a [u8],
+    above: u32,
+    keys: &mut KeySet,
+    place: Place<'a>,
+) -> Result<Turn<'a, Entry>, Refusal>
+    requires utf8 { IsUtf8 bytes.now }
+    requires room { length bytes.now ≤ 2 ^ 31 }
+    requires place { IsPlaceIn bytes.now place }
+    ensures gives { (m : ℕ) (before : List (List ℕ)) → HasKeys keys.old before → TurnsEntries bytes.entry.now (λ ks cs rs. mapping_in (length bytes.entry.now) above m ks cs rs) before result
+        (mapping_in (length bytes.entry.now) above (suc m) before (left_at place.entry) (rows_at bytes.entry.now place.entry)) }
+    ensures keys { (before : List (List ℕ)) → HasKeys keys.old before → IfOk result (λ t. HasTurned keys.new before t) }
+    ensures turn { IfOk result (λ t. IsTurnIn bytes.entry.now (turns (left_at place.entry) (rows_at bytes.entry.now place.entry)) t) }
+    ensures further { IfOk result (λ t. IsTurnBehind place.entry.next t) }
+{
+    match next_part(bytes, above, place) {
+        Ok((part, next)) => {
+            if part.text[0] == b'}' {
+                return Ok(Turn::Ends {
+                    closing: part,
+                    next,
+                });
+            }
+            entry_on(alloc, bytes, above, keys, part, next)
+        }
+        Err(refusal) => Err(refusal),
+    }
+}
+
+/// The entries of a flow mapping from the place behind its opening bracket on, its closing bracket, and where the lines behind that begin.
+pub fn flow_entries<'a>(
+    alloc: Global,
+    bytes: &'a [u8],
+    above: u32,
+    place: Place<'a>,
+) -> Result<(Seq<Entry>, Row<'a>, usize), Refusal>
+    requires utf8 { IsUtf8 bytes.now }
+    requires room { length bytes.now ≤ 2 ^ 31 }
+    requires place { IsPlaceIn bytes.now place }
+    ensures gives { Gives (closed_entries bytes.entry.now) result
+        (mapping_in (length bytes.entry.now) above (suc (turns (left_at place.entry) (rows_at bytes.entry.now place.entry))) [] (left_at place.entry) (rows_at bytes.entry.now place.entry)) }
+    ensures part { IfOk result (λ x. IsPartIn bytes.entry.now x.1 x.2) }
+    ensures further { IfOk result (λ x. place.entry.next ≤ x.2) }
+{
+    let mut entries = Seq::new(alloc);
+    let mut keys = KeySet::new(alloc);
+    let mut at = place;
+    'entries: loop {
+        match entry_turn(alloc, bytes, above, &mut keys, at) {
+            Ok(Turn::Ends { closing, next }) => return Ok((entries, closing, next)),
+            Ok(
+                Turn::Last {
+                    found,
+                    closing,
+                    next,
+                },
+            ) => {
+                return match entries.push(found) {
+                    Ok(()) => Ok((entries, closing, next)),
+                    Err(_) => Err(Refusal::Memory),
+                };
+            }
+            Ok(Turn::More { found, place }) => match entries.push(found) {
+                Ok(()) => at = place,
+                Err(_) => return Err(Refusal::Memory),
+            },
+            Err(refusal) => return Err(refusal),
+        }
+    }
+}

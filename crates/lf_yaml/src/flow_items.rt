@@ -1,0 +1,156 @@
+//! Flow sequences.
+ghost use Rattle.std.specs.Prelude.{false, ◌≡◌, ℕ, suc, ◌+◌, ◌≤◌, ◌^◌, List, length, IfOk};
+ghost use Rattle.std.specs.Str.{IsUtf8};
+ghost use Rattle.lf_scalar.specs.Cells.{Cell, Gives};
+ghost use Rattle.lf_scalar.specs.Drafted.{shown as scalar_shown};
+ghost use Rattle.lf_yaml.specs.Rows.{Row as RowOf};
+ghost use Rattle.lf_yaml.specs.Tree.{leaf, tree, Items};
+ghost use Rattle.lf_yaml.specs.Flow.{next_part as next_part_of};
+ghost use Rattle.lf_yaml.specs.Reading.{FlowRead, flow_scalar, sequence_sign, sequence_behind, sequence_in, turns};
+ghost use Rattle.lf_yaml.specs.Cursor.{rows_after};
+ghost use Rattle.lf_yaml.specs.Places.{IsPartIn, IsPlaceIn, left_at, rows_at};
+ghost use Rattle.lf_yaml.specs.Turns.{IsTurnIn, IsTurnBehind, TurnsItems, closed_items};
+ghost use Rattle.lf_yaml.specs.Shown.{shown};
+
+use crate::flow_scalar::sign_fault;
+use crate::flow_value::scalar_from;
+use crate::node::Node;
+use crate::parts::{behind, next_part};
+use crate::place::Place;
+use crate::row::Row;
+use crate::turn::Turn;
+use lf_base::{Refusal, Seq};
+use lf_scalar::Scalar;
+use std::alloc::Global;
+
+/// The node of a scalar.
+pub fn scalar_node(of: Scalar) -> Node
+    ensures { tree result ≡ leaf (scalar_shown of) }
+{
+    Node::Scalar { of }
+}
+
+/// What stands behind an item: a comma, or the bracket that closes.
+fn item_sign<'a>(
+    bytes: &'a [u8],
+    above: u32,
+    item: Scalar,
+    place: Place<'a>,
+) -> Result<Turn<'a, Node>, Refusal>
+    requires utf8 { IsUtf8 bytes.now }
+    requires room { length bytes.now ≤ 2 ^ 31 }
+    requires place { IsPlaceIn bytes.now place }
+    ensures gives { (later : List Cell → List RowOf → FlowRead Items) → TurnsItems bytes.entry.now later result
+        (sequence_sign later (scalar_shown item) (next_part_of (length bytes.entry.now) above false (left_at place.entry) (rows_at bytes.entry.now place.entry))) }
+    ensures turn { IfOk result (λ t. IsTurnIn bytes.entry.now (turns (left_at place.entry) (rows_at bytes.entry.now place.entry)) t) }
+    ensures further { IfOk result (λ t. IsTurnBehind place.entry.next t) }
+{
+    match next_part(bytes, above, place) {
+        Ok((part, next)) => match part.text[0] {
+            b',' => Ok(Turn::More {
+                found: scalar_node(item),
+                place: behind(part, 1, next),
+            }),
+            b']' => Ok(Turn::Last {
+                found: scalar_node(item),
+                closing: part,
+                next,
+            }),
+            _ => Err(sign_fault(part)),
+        },
+        Err(refusal) => Err(refusal),
+    }
+}
+
+/// The item that a part begins, and what stands behind it. The lines behind the part's own begin at `next`.
+fn item_on<'a>(
+    alloc: Global,
+    bytes: &'a [u8],
+    above: u32,
+    part: Row<'a>,
+    next: usize,
+) -> Result<Turn<'a, Node>, Refusal>
+    requires utf8 { IsUtf8 bytes.now }
+    requires room { length bytes.now ≤ 2 ^ 31 }
+    requires part { IsPartIn bytes.now part next }
+    ensures gives { (later : List Cell → List RowOf → FlowRead Items) → TurnsItems bytes.entry.now later result
+        (sequence_behind (length bytes.entry.now) above later (rows_after bytes.entry.now next) (flow_scalar (shown part.entry).first (shown part.entry).rest)) }
+    ensures turn { IfOk result (λ t. IsTurnIn bytes.entry.now (turns (shown part.entry).rest (rows_after bytes.entry.now next) + 1) t) }
+    ensures further { IfOk result (λ t. IsTurnBehind next t) }
+{
+    match scalar_from(alloc, bytes, part, next) {
+        Ok((scalar, place)) => item_sign(bytes, above, scalar, place),
+        Err(refusal) => Err(refusal),
+    }
+}
+
+/// What stands at a place of a flow sequence where an item may begin.
+#[tactic(auto, unfolding(crate::specs::Reading::sequence_in))]
+fn item_turn<'a>(
+    alloc: Global,
+    bytes: &'a [u8],
+    above: u32,
+    place: Place<'a>,
+) -> Result<Turn<'a, Node>, Refusal>
+    requires utf8 { IsUtf8 bytes.now }
+    requires room { length bytes.now ≤ 2 ^ 31 }
+    requires place { IsPlaceIn bytes.now place }
+    ensures gives { (m : ℕ) → TurnsItems bytes.entry.now (λ cs rs. sequence_in (length bytes.entry.now) above m cs rs) result
+        (sequence_in (length bytes.entry.now) above (suc m) (left_at place.entry) (rows_at bytes.entry.now place.entry)) }
+    ensures turn { IfOk result (λ t. IsTurnIn bytes.entry.now (turns (left_at place.entry) (rows_at bytes.entry.now place.entry)) t) }
+    ensures further { IfOk result (λ t. IsTurnBehind place.entry.next t) }
+{
+    match next_part(bytes, above, place) {
+        Ok((part, next)) => {
+            if part.text[0] == b']' {
+                return Ok(Turn::Ends {
+                    closing: part,
+                    next,
+                });
+            }
+            item_on(alloc, bytes, above, part, next)
+        }
+        Err(refusal) => Err(refusal),
+    }
+}
+
+/// The items of a flow sequence from the place behind its opening bracket on, its closing bracket, and where the lines behind that begin.
+pub fn flow_items<'a>(
+    alloc: Global,
+    bytes: &'a [u8],
+    above: u32,
+    place: Place<'a>,
+) -> Result<(Seq<Node>, Row<'a>, usize), Refusal>
+    requires utf8 { IsUtf8 bytes.now }
+    requires room { length bytes.now ≤ 2 ^ 31 }
+    requires place { IsPlaceIn bytes.now place }
+    ensures gives { Gives (closed_items bytes.entry.now) result
+        (sequence_in (length bytes.entry.now) above (suc (turns (left_at place.entry) (rows_at bytes.entry.now place.entry))) (left_at place.entry) (rows_at bytes.entry.now place.entry)) }
+    ensures part { IfOk result (λ x. IsPartIn bytes.entry.now x.1 x.2) }
+    ensures further { IfOk result (λ x. place.entry.next ≤ x.2) }
+{
+    let mut items = Seq::new(alloc);
+    let mut at = place;
+    'items: loop {
+        match item_turn(alloc, bytes, above, at) {
+            Ok(Turn::Ends { closing, next }) => return Ok((items, closing, next)),
+            Ok(
+                Turn::Last {
+                    found,
+                    closing,
+                    next,
+                },
+            ) => {
+                return match items.push(found) {
+                    Ok(()) => Ok((items, closing, next)),
+                    Err(_) => Err(Refusal::Memory),
+                };
+            }
+            Ok(Turn::More { found, place }) => match items.push(found) {
+                Ok(()) => at = place,
+                Err(_) => return Err(Refusal::Memory),
+            },
+            Err(refusal) => return Err(refusal),
+        }
+    }
+}

@@ -1,0 +1,160 @@
+//! Keys of flow mappings.
+ghost use Rattle.std.specs.Prelude.{false, ◌≡◌, eqb, ℕ, suc, ◌+◌, ◌<◌, ◌≤◌, ◌^◌, length, get_or, take, drop, Ok, IfOk, Some, None};
+ghost use Rattle.std.specs.Str.{IsUtf8};
+ghost use Rattle.lf_scalar.specs.Cells.{cell, cells, Gives, Fails};
+ghost use Rattle.lf_scalar.specs.Lines.{is_blank};
+ghost use Rattle.lf_scalar.specs.Folding.{trimmed};
+ghost use Rattle.lf_scalar.specs.Drafted.{shown as scalar_shown};
+ghost use Rattle.lf_scalar.specs.Quoted.{quote_of as quote_byte};
+ghost use Rattle.lf_yaml.specs.Flow.{next_part as next_part_of, is_empty_key as is_empty_key_of};
+ghost use Rattle.lf_yaml.specs.Reading.{no_sign as no_sign_of, flow_key as flow_key_of, flow_key_by, bare_key as bare_key_of};
+ghost use Rattle.lf_yaml.specs.Cursor.{rows_after};
+ghost use Rattle.lf_yaml.specs.Quoting.{kind_of};
+ghost use Rattle.lf_yaml.specs.Places.{IsPartIn, IsPlaceIn, left_at, rows_at, signed};
+ghost use Rattle.lf_yaml.specs.Shown.{shown};
+
+use crate::entry::quote_of;
+use crate::flow_scalar::{begins_flow_bytes, part_fault, sign_fault};
+use crate::flow_text::flow_text_len;
+use crate::head::byte_fault;
+use crate::keys::{ends_key, find_sign, trimmed_len};
+use crate::lines::{before, blanks, past};
+use crate::part_scalar::quoted_part;
+use crate::parts::{behind, next_part};
+use crate::place::Place;
+use crate::plain::slice_scalar;
+use crate::quotes::Quote;
+use crate::row::Row;
+use lf_base::{Kind, Refusal, Span};
+use lf_scalar::Scalar;
+use std::alloc::Global;
+
+/// What is told where no `:` stands behind a key: what is broken before the next part, or this part.
+fn no_sign(bytes: &[u8], above: u32, place: Place<'_>) -> Refusal
+    requires utf8 { IsUtf8 bytes.now }
+    requires room { length bytes.now ≤ 2 ^ 31 }
+    requires place { IsPlaceIn bytes.now place }
+    ensures { Fails result (no_sign_of (next_part_of (length bytes.now) above false (left_at place.entry) (rows_at bytes.now place.entry))) }
+{
+    match next_part(bytes, above, place) {
+        Ok((part, _)) => sign_fault(part),
+        Err(refusal) => refusal,
+    }
+}
+
+/// Whether a `:` that ends a key begins a part where a key is wanted.
+fn is_empty_key(text: &[u8]) -> bool
+    requires { 0 < length text.now }
+    ensures { (at : ℕ) → result ≡ is_empty_key_of (cell (get_or text.now 0 0) at) (cells (suc at) (drop 1 text.now)) }
+{
+    text[0] == b':' && ends_key(true, past(text, 1))
+}
+
+/// The scalar of a key without quotes, whose `:` stands at a place of its part.
+fn bare_scalar(alloc: Global, part: Row<'_>, place: usize) -> Result<Scalar, Refusal>
+    requires utf8 { IsUtf8 part.text.now }
+    requires within { place < length part.text.now }
+    requires sign { get_or part.text.now place 0 ≡ 58 }
+    ensures { Gives scalar_shown result (Ok (bare_key_of (shown part.entry).first (trimmed is_blank (cells part.entry.at (take place part.entry.text.now))))) }
+{
+    let len = trimmed_len(before(part.text, place));
+    let end = part.at + len as u32;
+    slice_scalar(
+        alloc,
+        before(part.text, len),
+        part.at,
+        Span {
+            start: part.at,
+            end,
+        },
+    )
+}
+
+/// The key without quotes that a part begins, and the place of its `:` in the part. The lines behind the part's own begin at `next`.
+fn bare_key(
+    alloc: Global,
+    bytes: &[u8],
+    above: u32,
+    part: Row<'_>,
+    next: usize,
+) -> Result<(Scalar, usize), Refusal>
+    requires utf8 { IsUtf8 bytes.now }
+    requires room { length bytes.now ≤ 2 ^ 31 }
+    requires part { IsPartIn bytes.now part next }
+    ensures gives { Gives (signed part.entry) result (flow_key_by (length bytes.now) above (shown part.entry).first (shown part.entry).rest (rows_after bytes.now next) None) }
+    ensures within { IfOk result (λ x. x.1 < length part.entry.text.now) }
+    ensures sign { IfOk result (λ x. get_or part.entry.text.now x.1 0 ≡ 58) }
+{
+    if !begins_flow_bytes(part.text[0], past(part.text, 1)) {
+        return Err(part_fault(part));
+    }
+    if is_empty_key(part.text) {
+        return Err(byte_fault(Kind::NotANode, part.at));
+    }
+    match find_sign(true, part.text, part.at) {
+        Some(place) => match bare_scalar(alloc, part, place) {
+            Ok(scalar) => Ok((scalar, place)),
+            Err(refusal) => Err(refusal),
+        },
+        None => Err(no_sign(bytes, above, behind(part, flow_text_len(part.text), next))),
+    }
+}
+
+/// The key between quotes that a part begins, and the place of its `:` in the part.
+fn quoted_key(
+    alloc: Global,
+    bytes: &[u8],
+    above: u32,
+    part: Row<'_>,
+    next: usize,
+    quote: Quote,
+) -> Result<(Scalar, usize), Refusal>
+    requires utf8 { IsUtf8 bytes.now }
+    requires room { length bytes.now ≤ 2 ^ 31 }
+    requires part { IsPartIn bytes.now part next }
+    requires quote { get_or part.text.now 0 0 ≡ quote_byte (kind_of quote) }
+    ensures gives { Gives (signed part.entry) result (flow_key_by (length bytes.now) above (shown part.entry).first (shown part.entry).rest (rows_after bytes.now next) (Some (kind_of quote))) }
+    ensures within { IfOk result (λ x. x.1 < length part.entry.text.now) }
+    ensures sign { IfOk result (λ x. get_or part.entry.text.now x.1 0 ≡ 58) }
+{
+    match quoted_part(alloc, bytes, part, quote) {
+        Ok((scalar, len)) => {
+            let place = len + blanks(past(part.text, len));
+            if is_colon(part.text, place) {
+                Ok((scalar, place))
+            } else {
+                Err(no_sign(bytes, above, behind(part, len, next)))
+            }
+        }
+        Err(refusal) => Err(refusal),
+    }
+}
+
+/// Whether a `:` stands at a place.
+fn is_colon(text: &[u8], place: usize) -> bool
+    ensures { result ≡ eqb (get_or text.now place 0) 58 }
+{
+    place < text.len() && text[place] == b':'
+}
+
+/// The key that a part of a flow mapping begins, and the place of its `:` in the part. The lines behind the part's own begin at `next`.
+#[tactic(auto, unfolding(crate::specs::Reading::flow_key))]
+pub fn flow_key(
+    alloc: Global,
+    bytes: &[u8],
+    above: u32,
+    part: Row<'_>,
+    next: usize,
+) -> Result<(Scalar, usize), Refusal>
+    requires utf8 { IsUtf8 bytes.now }
+    requires room { length bytes.now ≤ 2 ^ 31 }
+    requires part { IsPartIn bytes.now part next }
+    ensures gives { Gives (signed part.entry) result (flow_key_of (length bytes.now) above (shown part.entry).first (shown part.entry).rest (rows_after bytes.now next)) }
+    ensures within { IfOk result (λ x. x.1 < length part.entry.text.now) }
+    ensures sign { IfOk result (λ x. get_or part.entry.text.now x.1 0 ≡ 58) }
+{
+    match quote_of(part.text[0]) {
+        Some(quote) => quoted_key(alloc, bytes, above, part, next, quote),
+        None => bare_key(alloc, bytes, above, part, next),
+    }
+}

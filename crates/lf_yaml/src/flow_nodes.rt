@@ -1,0 +1,153 @@
+//! Flow collections on a row, and what may stand behind them.
+ghost use Rattle.std.specs.Prelude.{false, ◌≡◌, ℕ, suc, ◌+◌, ◌<◌, ◌≤◌, ◌^◌, [], length, get_or, map, None, Some, IfOk, MatchOption};
+ghost use Rattle.std.specs.Str.{IsCharBoundary, IsUtf8};
+ghost use Rattle.lf_base.specs.declared.kind.Kind.TheVariants.{NotANode};
+ghost use Rattle.lf_scalar.specs.Cells.{Cell, Gives, fault_at as fault_at_of};
+ghost use Rattle.lf_scalar.specs.QuotedReading.{wrong_behind as wrong_behind_of};
+ghost use Rattle.lf_scalar.specs.Drafted.{refused};
+ghost use Rattle.lf_yaml.specs.Tree.{tree, pair, sequence, mapping, items_of, entries_of};
+ghost use Rattle.lf_yaml.specs.Reading.{sequence_in, mapping_in, closed_list, closed_map, flow_list as flow_list_of, flow_map as flow_map_of, turns};
+ghost use Rattle.lf_yaml.specs.Cursor.{rows_after};
+ghost use Rattle.lf_yaml.specs.Places.{IsPartIn};
+ghost use Rattle.lf_yaml.specs.Shown.{shown};
+
+use crate::flow_entries::flow_entries;
+use crate::flow_items::flow_items;
+use crate::head::first_fault;
+use crate::lines::{fault_at, past, wrong_behind};
+use crate::node::{Entry, Node};
+use crate::parts::behind;
+use crate::row::Row;
+use lf_base::{Kind, Refusal, Seq, Span};
+use std::alloc::Global;
+
+/// A sequence.
+pub fn list_node(items: Seq<Node>, span: Span) -> Node
+    ensures { tree result ≡ sequence (items_of (map tree items)) span }
+{
+    Node::List { items, span }
+}
+
+/// A mapping.
+pub fn map_node(entries: Seq<Entry>, span: Span) -> Node
+    ensures { tree result ≡ mapping (entries_of (map pair entries)) span }
+{
+    Node::Map { entries, span }
+}
+
+/// What is told of what stands behind the bracket that closes a collection, where that isn't blanks and a comment alone.
+fn wrong_after(closing: Row<'_>) -> Option<Refusal>
+    ensures { MatchOption result (wrong_behind_of false (shown closing.entry).rest ≡ None) (λ e. (c : Cell) × (wrong_behind_of false (shown closing.entry).rest ≡ Some c) × (e ≡ refused (fault_at_of NotANode c))) }
+{
+    let rest = past(closing.text, 1);
+    match wrong_behind(rest) {
+        Some(place) => Some(fault_at(Kind::NotANode, rest, place, closing.at + 1)),
+        None => None,
+    }
+}
+
+/// The span from a row's first byte to the end of the bracket that closes its collection.
+fn closed_span(row: Row<'_>, closing: Row<'_>) -> Span
+    ensures { result ≡ record { start = row.entry.at; end = suc closing.entry.at } }
+{
+    Span {
+        start: row.at,
+        end: closing.at + 1,
+    }
+}
+
+/// The flow sequence whose opening bracket a row begins with, and where the line behind it begins.
+fn closed_sequence(
+    alloc: Global,
+    bytes: &[u8],
+    above: u32,
+    row: Row<'_>,
+    next: usize,
+) -> Result<(Node, usize), Refusal>
+    requires utf8 { IsUtf8 bytes.now }
+    requires room { length bytes.now ≤ 2 ^ 31 }
+    requires row { IsPartIn bytes.now row next }
+    requires bracket { get_or row.text.now 0 0 ≡ 91 }
+    ensures gives { Gives (λ x. (tree x.0, rows_after bytes.now x.1)) result (closed_list (shown row.entry) (sequence_in (length bytes.now) above (suc (turns (shown row.entry).rest (rows_after bytes.now next))) (shown row.entry).rest (rows_after bytes.now next))) }
+    ensures start { IfOk result (λ x. IsCharBoundary bytes.now x.1) }
+    ensures further { IfOk result (λ x. next ≤ x.1) }
+{
+    match flow_items(alloc, bytes, above, behind(row, 1, next)) {
+        Ok((items, closing, next)) => match wrong_after(closing) {
+            Some(refusal) => Err(refusal),
+            None => Ok((list_node(items, closed_span(row, closing)), next)),
+        },
+        Err(refusal) => Err(refusal),
+    }
+}
+
+/// The flow mapping whose opening bracket a row begins with, and where the line behind it begins.
+fn closed_mapping(
+    alloc: Global,
+    bytes: &[u8],
+    above: u32,
+    row: Row<'_>,
+    next: usize,
+) -> Result<(Node, usize), Refusal>
+    requires utf8 { IsUtf8 bytes.now }
+    requires room { length bytes.now ≤ 2 ^ 31 }
+    requires row { IsPartIn bytes.now row next }
+    requires bracket { get_or row.text.now 0 0 ≡ 123 }
+    ensures gives { Gives (λ x. (tree x.0, rows_after bytes.now x.1)) result (closed_map (shown row.entry) (mapping_in (length bytes.now) above (suc (turns (shown row.entry).rest (rows_after bytes.now next))) [] (shown row.entry).rest (rows_after bytes.now next))) }
+    ensures start { IfOk result (λ x. IsCharBoundary bytes.now x.1) }
+    ensures further { IfOk result (λ x. next ≤ x.1) }
+{
+    match flow_entries(alloc, bytes, above, behind(row, 1, next)) {
+        Ok((entries, closing, next)) => match wrong_after(closing) {
+            Some(refusal) => Err(refusal),
+            None => Ok((map_node(entries, closed_span(row, closing)), next)),
+        },
+        Err(refusal) => Err(refusal),
+    }
+}
+
+/// The flow sequence that a row begins. It is `TooDeep` where no collection may stand any more.
+pub fn flow_list(
+    alloc: Global,
+    bytes: &[u8],
+    above: u32,
+    depth: u32,
+    row: Row<'_>,
+    next: usize,
+) -> Result<(Node, usize), Refusal>
+    requires utf8 { IsUtf8 bytes.now }
+    requires room { length bytes.now ≤ 2 ^ 31 }
+    requires row { IsPartIn bytes.now row next }
+    requires bracket { get_or row.text.now 0 0 ≡ 91 }
+    ensures gives { Gives (λ x. (tree x.0, rows_after bytes.now x.1)) result (flow_list_of (length bytes.now) above depth (shown row.entry) (rows_after bytes.now next)) }
+    ensures start { IfOk result (λ x. IsCharBoundary bytes.now x.1) }
+    ensures further { IfOk result (λ x. next ≤ x.1) }
+{
+    if depth == 0 {
+        return Err(first_fault(Kind::TooDeep, row));
+    }
+    closed_sequence(alloc, bytes, above, row, next)
+}
+
+/// The flow mapping that a row begins. It is `TooDeep` where no collection may stand any more.
+pub fn flow_map(
+    alloc: Global,
+    bytes: &[u8],
+    above: u32,
+    depth: u32,
+    row: Row<'_>,
+    next: usize,
+) -> Result<(Node, usize), Refusal>
+    requires utf8 { IsUtf8 bytes.now }
+    requires room { length bytes.now ≤ 2 ^ 31 }
+    requires row { IsPartIn bytes.now row next }
+    requires bracket { get_or row.text.now 0 0 ≡ 123 }
+    ensures gives { Gives (λ x. (tree x.0, rows_after bytes.now x.1)) result (flow_map_of (length bytes.now) above depth (shown row.entry) (rows_after bytes.now next)) }
+    ensures start { IfOk result (λ x. IsCharBoundary bytes.now x.1) }
+    ensures further { IfOk result (λ x. next ≤ x.1) }
+{
+    if depth == 0 {
+        return Err(first_fault(Kind::TooDeep, row));
+    }
+    closed_mapping(alloc, bytes, above, row, next)
+}

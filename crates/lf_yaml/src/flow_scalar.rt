@@ -1,0 +1,70 @@
+//! How a part of a flow collection begins, and what is told of one that can't stand where it does.
+ghost use Rattle.std.specs.Prelude.{◌≡◌, ◌||◌, cond, ℕ, suc, ◌+◌, ◌<◌, ◌≤◌, ◌^◌, length, get_or, drop};
+ghost use Rattle.lf_scalar.specs.Cells.{cell, cells, fault_at};
+ghost use Rattle.lf_scalar.specs.Drafted.{refused};
+ghost use Rattle.lf_yaml.specs.Flow.{is_bracket as is_bracket_of, begins_blank as begins_blank_of, begins_flow as begins_flow_of, part_fault as part_fault_of, sign_fault as sign_fault_of};
+ghost use Rattle.lf_base.specs.declared.kind.Kind.TheVariants.{LeftOut, NotANode};
+ghost use Rattle.lf_yaml.specs.Rows.{is_property as is_property_of};
+ghost use Rattle.lf_yaml.specs.Shown.{shown};
+
+use crate::entry::{is_plain_byte, is_sign_byte};
+use crate::head::{first_fault, is_property};
+use crate::lines::is_blank_byte;
+use crate::row::Row;
+use lf_base::{Kind, Refusal};
+
+/// Whether a byte is one of `[` and `{`.
+pub fn is_bracket(byte: u8) -> bool
+    ensures { (at : ℕ) → result ≡ is_bracket_of (cell byte at) }
+{
+    matches!(byte, b'[' | b'{')
+}
+
+/// Whether a text begins with a blank.
+fn begins_blank(text: &[u8]) -> bool
+    ensures { (at : ℕ) → result ≡ begins_blank_of (cells at text.now) }
+{
+    match text {
+        [] => false,
+        [byte, ..] => is_blank_byte(*byte),
+    }
+}
+
+/// Whether a part begins as a plain scalar of a flow collection does. `rest` is what stands behind its first byte.
+pub fn begins_flow_bytes(first: u8, rest: &[u8]) -> bool
+    ensures { (at : ℕ) → result ≡ begins_flow_of (cell first at) (cells (suc at) rest.now) }
+{
+    is_plain_byte(first) || (is_sign_byte(first) && !begins_blank(rest))
+}
+
+/// The kind of what is told of a part: a form that the profile leaves out, or one that can't stand there.
+fn fault_kind(left_out: bool) -> Kind
+    ensures { result ≡ cond left_out LeftOut NotANode }
+{
+    if left_out {
+        Kind::LeftOut
+    } else {
+        Kind::NotANode
+    }
+}
+
+/// Whether a part begins with a bracket, or as an anchor, an alias, a tag or a complex key.
+fn is_left_out_part(part: Row<'_>) -> bool
+    ensures { result ≡ (is_bracket_of (shown part.entry).first || is_property_of (shown part.entry).first (shown part.entry).rest) }
+{
+    is_bracket(part.text[0]) || is_property(part.text)
+}
+
+/// What is told of a part where a scalar or a key is wanted that can't begin one.
+pub fn part_fault(part: Row<'_>) -> Refusal
+    ensures { result ≡ refused (part_fault_of (shown part.entry).first (shown part.entry).rest) }
+{
+    first_fault(fault_kind(is_left_out_part(part)), part)
+}
+
+/// What is told of a part where a sign is wanted.
+pub fn sign_fault(part: Row<'_>) -> Refusal
+    ensures { result ≡ refused (sign_fault_of (shown part.entry).first) }
+{
+    first_fault(fault_kind(is_bracket(part.text[0])), part)
+}

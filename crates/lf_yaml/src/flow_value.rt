@@ -1,0 +1,88 @@
+//! Scalars and values of flow collections, and the places behind them.
+ghost use Rattle.std.specs.Prelude.{◌≡◌, ◌||◌, eqb, ℕ, suc, ◌+◌, ◌<◌, ◌≤◌, ◌^◌, length, Ok, IfOk};
+ghost use Rattle.std.specs.Str.{IsUtf8};
+ghost use Rattle.lf_scalar.specs.Cells.{cell, Gives};
+ghost use Rattle.lf_scalar.specs.Drafted.{shown as scalar_shown};
+ghost use Rattle.lf_yaml.specs.Tree.{leaf};
+ghost use Rattle.lf_yaml.specs.Spans.{empty_at};
+ghost use Rattle.lf_yaml.specs.Reading.{flow_scalar, flow_value as flow_value_of, turns};
+ghost use Rattle.lf_yaml.specs.Places.{IsPartIn, IsPlaceIn, left_at, rows_at};
+ghost use Rattle.lf_yaml.specs.Shown.{shown};
+
+use crate::part_scalar::read_part;
+use crate::parts::{behind, next_part};
+use crate::place::Place;
+use crate::plain::slice_scalar;
+use crate::row::Row;
+use lf_base::{Refusal, Span};
+use lf_scalar::Scalar;
+use std::alloc::Global;
+
+/// The scalar that a part begins, and the place behind it. The lines behind the part's own begin at `next`.
+pub fn scalar_from<'a>(
+    alloc: Global,
+    bytes: &'a [u8],
+    part: Row<'a>,
+    next: usize,
+) -> Result<(Scalar, Place<'a>), Refusal>
+    requires utf8 { IsUtf8 bytes.now }
+    requires room { length bytes.now ≤ 2 ^ 31 }
+    requires part { IsPartIn bytes.now part next }
+    ensures gives { Gives (λ x. (scalar_shown x.0, left_at x.1)) result (flow_scalar (shown part.entry).first (shown part.entry).rest) }
+    ensures place { IfOk result (λ x. IsPlaceIn bytes.entry.now x.1) }
+    ensures next { IfOk result (λ x. x.1.next ≡ next) }
+    ensures shorter { IfOk result (λ x. length (left_at x.1) ≤ length part.entry.text.now) }
+{
+    match read_part(alloc, bytes, part) {
+        Ok((scalar, len)) => Ok((scalar, behind(part, len, next))),
+        Err(refusal) => Err(refusal),
+    }
+}
+
+/// Whether a byte stands where a value is missing: a `,` or a `}`.
+fn ends_value(byte: u8) -> bool
+    ensures { result ≡ (eqb byte 44 || eqb byte 125) }
+{
+    byte == b',' || byte == b'}'
+}
+
+/// The empty text at an offset, where a value is missing.
+pub fn missing_value(alloc: Global, at: u32) -> Result<Scalar, Refusal>
+    requires { at ≤ 2 ^ 31 }
+    ensures { Gives (λ s. leaf (scalar_shown s)) result (Ok (empty_at at)) }
+{
+    slice_scalar(alloc, &[], at, Span { start: at, end: at })
+}
+
+/// The value of an entry of a flow mapping whose `:` stands at an offset, and the place behind it. A value that is missing, before a `,` or a `}`, is the empty text.
+#[tactic(auto, unfolding(crate::specs::Reading::flow_value))]
+pub fn flow_value<'a>(
+    alloc: Global,
+    bytes: &'a [u8],
+    above: u32,
+    colon: u32,
+    place: Place<'a>,
+) -> Result<(Scalar, Place<'a>), Refusal>
+    requires utf8 { IsUtf8 bytes.now }
+    requires room { length bytes.now ≤ 2 ^ 31 }
+    requires colon { colon < 2 ^ 31 }
+    requires place { IsPlaceIn bytes.now place }
+    ensures gives { Gives (λ x. (leaf (scalar_shown x.0), left_at x.1, rows_at bytes.entry.now x.1)) result (flow_value_of (length bytes.entry.now) above (cell 58 colon) (left_at place.entry) (rows_at bytes.entry.now place.entry)) }
+    ensures place { IfOk result (λ x. IsPlaceIn bytes.entry.now x.1) }
+    ensures further { IfOk result (λ x. place.entry.next ≤ x.1.next) }
+    ensures stays { IfOk result (λ x. turns (left_at x.1) (rows_at bytes.entry.now x.1) ≤ turns (left_at place.entry) (rows_at bytes.entry.now place.entry)) }
+{
+    match next_part(bytes, above, place) {
+        Ok((part, next)) => {
+            if ends_value(part.text[0]) {
+                match missing_value(alloc, colon + 1) {
+                    Ok(scalar) => Ok((scalar, place)),
+                    Err(refusal) => Err(refusal),
+                }
+            } else {
+                scalar_from(alloc, bytes, part, next)
+            }
+        }
+        Err(refusal) => Err(refusal),
+    }
+}

@@ -1,0 +1,44 @@
+//! Trees of rule files, by a profile of YAML 1.2.
+#![tactic(auto)]
+
+mod below;
+mod between;
+mod block_turns;
+mod characters;
+mod comments;
+mod document;
+mod entries;
+mod entry;
+mod flow_entries;
+mod flow_items;
+mod flow_key;
+mod flow_nodes;
+mod flow_scalar;
+mod flow_text;
+mod flow_value;
+mod head;
+mod held;
+mod key_set;
+mod keys;
+mod lines;
+mod made;
+mod nested;
+mod new_keys;
+mod node;
+mod part_scalar;
+mod parts;
+mod place;
+mod plain;
+mod quotes;
+mod row;
+mod row_value;
+mod rows;
+mod scalars;
+#[cfg(test)]
+mod tests;
+mod turn;
+mod uniqueness;
+
+pub use document::read_tree;
+pub use node::{Entry, Node};
+pub use uniqueness::one_answer;

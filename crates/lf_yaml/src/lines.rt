@@ -1,0 +1,148 @@
+//! The lines of a source.
+ghost use Rattle.std.specs.Prelude.{false, ◌≡◌, ℕ, ◌+◌, ◌<◌, ◌≤◌, ◌^◌, ◌∷◌, length, get_or, take, drop, eqb, IfSome, option_map};
+ghost use Rattle.lf_scalar.specs.Cells.{cell, cells, fault_at as at_cell};
+ghost use Rattle.lf_scalar.specs.Drafted.{refused};
+ghost use Rattle.lf_scalar.specs.QuotedReading.{wrong_behind as first_wrong};
+ghost use Rattle.std.specs.List.{list_all};
+ghost use Rattle.std.specs.Str.{continuation_len};
+ghost use Rattle.lf_scalar.specs.Lines.{line, lines_at, IsTextBefore, indent_of, is_blank, after_blanks, after_spaces};
+
+use lf_base::{Kind, Refusal, Span};
+
+/// Where the first line of some bytes ends.
+#[derive(Clone, Copy, PartialEq, Eq, Debug)]
+pub struct LineEnd {
+    /// How many bytes the line has without its end.
+    pub text: usize,
+    /// The place of its line feed, or of the end of the bytes where it has none.
+    pub feed: usize,
+}
+
+/// Where the first line ends. A carriage return before the line feed is part of the end.
+pub fn line_end(rest: &[u8]) -> LineEnd
+    ensures within { (result.text ≤ result.feed) × (result.feed ≤ length rest.now) }
+    ensures feed { result.feed < length rest.now → get_or rest.now result.feed 0 ≡ 10 }
+    ensures first { (at : ℕ) → 0 < length rest.now → lines_at at rest.now ≡ line (cells at (take result.text rest.now)) (at + result.feed) ∷ lines_at (at + (result.feed + 1)) (drop (result.feed + 1) rest.now) }
+{
+    for (i, byte) in rest.iter().enumerate() {
+        if *byte == b'\n' {
+            let text = text_before(rest, i);
+            return LineEnd { text, feed: i };
+        }
+    }
+    LineEnd {
+        text: rest.len(),
+        feed: rest.len(),
+    }
+}
+
+/// How many bytes stand before a line feed without a carriage return at their end.
+fn text_before(rest: &[u8], feed: usize) -> usize
+    requires { feed < length rest.now }
+    ensures { IsTextBefore rest.now feed result }
+{
+    if feed > 0 && rest[feed - 1] == b'\r' {
+        feed - 1
+    } else {
+        feed
+    }
+}
+
+/// How many spaces a line begins with.
+pub fn spaces(line: &[u8]) -> usize
+    ensures count { (at : ℕ) → result ≡ indent_of (cells at line.now) }
+    ensures after { (at : ℕ) → after_spaces (cells at line.now) ≡ cells (at + result) (drop result line.now) }
+    ensures within { result ≤ length line.now }
+    ensures only { (k : ℕ) → k < result → get_or line.now k 0 ≡ 32 }
+{
+    for (i, byte) in line.iter().enumerate() {
+        if *byte != b' ' {
+            return i;
+        }
+    }
+    line.len()
+}
+
+/// The bytes from a place on, none where it lies behind the end.
+pub fn past(bytes: &[u8], place: usize) -> &[u8]
+    ensures { result.now ≡ drop place bytes.now }
+{
+    if place < bytes.len() {
+        bytes.split_at(place).1
+    } else {
+        &[]
+    }
+}
+
+/// The bytes before a place.
+pub fn before(bytes: &[u8], place: usize) -> &[u8]
+    requires { place ≤ length bytes.now }
+    ensures { result.now ≡ take place bytes.now }
+{
+    bytes.split_at(place).0
+}
+
+/// Whether a byte is a space or a tab.
+pub fn is_blank_byte(byte: u8) -> bool
+    ensures { result ≡ is_blank (cell byte 0) }
+{
+    byte == b' ' || byte == b'\t'
+}
+
+/// How many blanks a line begins with. It is blank where these are all its bytes.
+pub fn blanks(line: &[u8]) -> usize
+    ensures within { result ≤ length line.now }
+    ensures after { (at : ℕ) → after_blanks (cells at line.now) ≡ cells (at + result) (drop result line.now) }
+    ensures blank { (at : ℕ) → list_all is_blank (cells at line.now) ≡ eqb result (length line.now) }
+{
+    for (i, byte) in line.iter().enumerate() {
+        if !is_blank_byte(*byte) {
+            return i;
+        }
+    }
+    line.len()
+}
+
+/// How many bytes the character takes that begins with this byte.
+pub fn char_len(byte: u8) -> u32
+    ensures value { result ≡ 1 + continuation_len byte }
+    ensures small { result ≤ 4 }
+{
+    match byte {
+        0..=127 => 1,
+        128..=223 => 2,
+        224..=239 => 3,
+        _ => 4,
+    }
+}
+
+/// The place of the first byte that can't stand behind a scalar on its line, where blanks and a comment may. `line` is what stands behind the scalar.
+pub fn wrong_behind(line: &[u8]) -> Option<usize>
+    ensures within { IfSome result (λ k. k < length line.now) }
+    ensures value { (at : ℕ) → option_map (λ k. cell (get_or line.now k 0) (at + k)) result ≡ first_wrong false (cells at line.now) }
+{
+    let skipped = blanks(line);
+    if skipped >= line.len() {
+        return None;
+    }
+    if skipped > 0 && line[skipped] == b'#' {
+        return None;
+    }
+    Some(skipped)
+}
+
+/// The refusal whose span is the character at a place of a line that stands at an offset.
+pub fn fault_at(kind: Kind, line: &[u8], k: usize, at: u32) -> Refusal
+    requires within { k < length line.now }
+    requires room { at + length line.now + 4 < 2 ^ 32 }
+    ensures { result ≡ refused (at_cell kind (cell (get_or line.now k 0) (at + k))) }
+{
+    let place = at + k as u32;
+    Refusal::At {
+        kind,
+        span: Span {
+            start: place,
+            end: place + char_len(line[k]),
+        },
+    }
+}

@@ -1,0 +1,104 @@
+//! The rows of a file, one after the other.
+ghost use Rattle.std.specs.Prelude.{◌≡◌, ℕ, ◌+◌, ◌<◌, ◌≤◌, ◌^◌, ◌∷◌, ◌-◌, [], length, get_or, take, drop, MatchOption, ◌++◌, IfSome};
+ghost use Rattle.std.specs.Str.{IsCharBoundary, IsUtf8};
+ghost use Rattle.lf_scalar.specs.Cells.{cells};
+ghost use Rattle.lf_scalar.specs.Lines.{line};
+ghost use Rattle.lf_yaml.specs.Rows.{content_row, rows_from};
+ghost use Rattle.lf_yaml.specs.Shown.{shown};
+ghost use Rattle.lf_yaml.specs.Cursor.{rows_after, IsRowOf};
+
+use crate::lines::{before, blanks, line_end, past, spaces};
+use crate::row::Row;
+
+/// The row of a line that stands at an offset, none where the line is blank or a comment line.
+pub fn line_row(text: &[u8], at: u32) -> Option<Row<'_>>
+    requires room { at + length text.now ≤ 2 ^ 31 }
+    ensures row { (feed : ℕ) → MatchOption result (content_row (line (cells at text.entry.now) feed) ≡ []) (λ r. content_row (line (cells at text.entry.now) feed) ≡ shown r ∷ []) }
+    ensures spaces { IfSome result (λ r. at < r.at → get_or text.entry.now (r.at - at - 1) 0 ≡ 32) }
+    ensures place { IfSome result (λ r. (at ≤ r.at) × (r.text.now ≡ drop (r.at - at) text.entry.now)) }
+{
+    let skipped = blanks(text);
+    match past(text, skipped) {
+        [] => None,
+        [b'#', ..] => None,
+        [_, ..] => {
+            let indent = spaces(text);
+            Some(Row {
+                begin: at,
+                at: at + indent as u32,
+                text: past(text, indent),
+            })
+        }
+    }
+}
+
+/// A line of a file, and where the line behind it begins.
+#[derive(Clone, Copy)]
+pub struct LineOf<'a> {
+    /// The line's bytes without its end.
+    pub text: &'a [u8],
+    /// The offset of the first byte of the line behind it, or the file's length.
+    pub behind: usize,
+}
+
+/// The line that begins at an offset of a file.
+pub fn line_of(bytes: &[u8], from: usize) -> LineOf<'_>
+    requires text { IsUtf8 bytes.now }
+    requires room { length bytes.now ≤ 2 ^ 31 }
+    requires within { from < length bytes.now }
+    ensures rows { (feed : ℕ) × (rows_after bytes.entry.now from ≡ content_row (line (cells from result.text.now) feed) ++ rows_after bytes.entry.now result.behind) }
+    ensures text { result.text.now ≡ take (length result.text.now) (drop from bytes.entry.now) }
+    ensures start { IsCharBoundary bytes.entry.now result.behind }
+    ensures further { from < result.behind }
+    ensures room { from + length result.text.now ≤ length bytes.entry.now }
+{
+    let rest = past(bytes, from);
+    let end = line_end(rest);
+    let behind = if end.feed < rest.len() {
+        from + end.feed + 1
+    } else {
+        bytes.len()
+    };
+    LineOf {
+        text: before(rest, end.text),
+        behind,
+    }
+}
+
+/// The next row from an offset on, at which a line begins, and where the line behind it begins. None where no row is left.
+pub fn next_row(bytes: &[u8], from: usize) -> Option<(Row<'_>, usize)>
+    requires text { IsUtf8 bytes.now }
+    requires room { length bytes.now ≤ 2 ^ 31 }
+    requires start { IsCharBoundary bytes.now from }
+    ensures rows { MatchOption result (rows_after bytes.entry.now from ≡ []) (λ x. rows_after bytes.entry.now from ≡ shown x.0 ∷ rows_after bytes.entry.now x.1) }
+    ensures boundary { IfSome result (λ x. IsCharBoundary bytes.entry.now x.0.at) }
+    ensures text { IfSome result (λ x. x.0.text.now ≡ take (length x.0.text.now) (drop x.0.at bytes.entry.now)) }
+    ensures start { IfSome result (λ x. IsCharBoundary bytes.entry.now x.1) }
+    ensures further { IfSome result (λ x. from < x.1) }
+{
+    let mut next = from;
+    while next < bytes.len() {
+        let line = line_of(bytes, next);
+        match line_row(line.text, next as u32) {
+            Some(row) => return Some((row, line.behind)),
+            None => next = line.behind,
+        }
+    }
+    None
+}
+
+/// Where the first line begins at an offset or behind it, from the start of a line on.
+pub fn lines_from(bytes: &[u8], from: usize, offset: usize) -> usize
+    requires text { IsUtf8 bytes.now }
+    requires room { length bytes.now ≤ 2 ^ 31 }
+    requires start { IsCharBoundary bytes.now from }
+    ensures rows { rows_after bytes.now result ≡ rows_from offset (rows_after bytes.now from) }
+    ensures start { IsCharBoundary bytes.now result }
+    ensures further { from ≤ result }
+{
+    let mut next = from;
+    while next < offset && next < bytes.len() {
+        next = line_of(bytes, next).behind;
+    }
+    next
+}
