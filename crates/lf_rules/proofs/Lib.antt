@@ -1,0 +1,16 @@
+pub mod Members
+pub mod Parts
+pub mod RuleParts
+pub mod FileParts
+pub mod Names
+pub mod Laws
+pub mod Stands
+pub mod Readings
+pub mod FileReadings
+pub mod Times
+pub mod Folded
+pub mod Nodes
+pub mod Readable
+pub mod Answering
+pub mod NameSets
+pub mod OneAnswer

@@ -1,0 +1,7 @@
+pub mod Texts
+pub mod Mappings
+pub mod Sources
+pub mod Rules
+pub mod Breaches
+pub mod Reading
+pub mod Names

@@ -1,0 +1,31 @@
+-- What a rule of a file says, without where it lies in memory.
+use Rattle.std.specs.Prelude.{ℕ, Bool, List, map}
+use Rattle.lf_scalar.specs.Cells.{Value}
+use Rattle.lf_yaml.specs.Tree.{value}
+use Rattle.lf_rules.specs.declared.source.Pair.{Pair}
+use Rattle.lf_rules.specs.declared.source.RuleSource.{RuleSource}
+
+-- a key and its text
+abbrev pub Setting : Type 0
+Setting = Value × Value
+
+pub record Source : Type 0 where
+  pub alert : Bool
+  pub name : Value
+  pub expr : Value
+  pub labels : List Setting
+  pub annotations : List Setting
+  pub group : ℕ
+
+abbrev pub setting : Pair → Setting
+setting p = (value p.key, value p.value)
+
+abbrev pub source : RuleSource → Source
+source r = record {
+  alert = r.alert;
+  name = value r.name;
+  expr = value r.expr;
+  labels = map setting r.labels;
+  annotations = map setting r.annotations;
+  group = r.group;
+}

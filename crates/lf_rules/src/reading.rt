@@ -1,0 +1,53 @@
+//! The rules of a file, or the first breach of what a rule file may say.
+ghost use Rattle.std.specs.Prelude.{List, map, Ok, IfOk, IfErr, IsErr};
+ghost use Rattle.lf_scalar.specs.Cells.{Fault, Gives, IfAt};
+ghost use Rattle.lf_yaml.specs.Tree.{tree};
+ghost use Rattle.lf_rules.specs.Breaches.{Breaks, FirstBreak};
+ghost use Rattle.lf_rules.specs.Reading as reading;
+ghost use Rattle.lf_rules.specs.Rules.{IsRules};
+ghost use Rattle.lf_rules.specs.Sources.{Source, source};
+
+use crate::building::all_sources;
+use crate::first::First;
+use crate::judging_groups::judge_file;
+use crate::source::RuleSource;
+use lf_base::{Refusal, Seq};
+use lf_yaml::Node;
+use std::alloc::Global;
+
+/// Reads the rules of a file's tree, in the order of its groups and of the rules in each, as Prometheus' documentation on recording and alerting rules has them.
+///
+/// Of all that breaks a file the refusal is the one that starts first, of those that start at one byte the first of this list, and of one kind the shortest:
+/// - `WrongKind`: a node of another kind than is wanted; the span is the node.
+/// - `UnknownKey`: a key that a file, a group or a rule doesn't have; the span is the key.
+/// - `MissingKey`: a mapping without a key that it needs; the span is the mapping's first character.
+/// - `BothKinds`: a rule with `record` and `alert`; the span is the later key.
+/// - `BadName`: a recorded name that is no metric name, a key of labels or annotations that is no label name, or a label `__name__`; the span is the scalar.
+/// - `BadLimit`: a `limit` that isn't one to nine digits; the span is the scalar.
+/// - `DoubleGroup`: a group with the name of one before it; the span is the later name.
+/// - `NotForRecord`: a key that only alerts have, in a rule that records; the span is the key.
+/// - `BadDuration`: a length of time that is neither a duration nor `0`; the span is the scalar.
+pub fn read_rules(alloc: Global, file: &Node) -> Result<Seq<RuleSource>, Refusal>
+    // What is answered are the rules that the tree says.
+    ensures found { IfOk result (λ rules. IsRules (tree file.now) (map source rules)) }
+    // They are answered, unless memory runs out; so no tree says two lists of rules.
+    ensures only { (rules : List Source) → IsRules (tree file.now) rules → Gives (map source) result (Ok rules) }
+    // What is refused is the first breach.
+    ensures refused { IfErr result (λ refusal. IfAt refusal (FirstBreak (tree file.now))) }
+    // A tree with a breach is refused, unless memory runs out.
+    ensures breach { (fault : Fault) → Breaks (tree file.now) fault → IsErr result }
+{
+    read(alloc, file)
+}
+
+/// The same, by the way of reading.
+fn read(alloc: Global, file: &Node) -> Result<Seq<RuleSource>, Refusal>
+    ensures { Gives (map source) result (reading.reading (tree file.now)) }
+{
+    let mut first = First::new();
+    judge_file(&mut first, alloc, file)?;
+    match first.found() {
+        Some(fault) => Err(fault),
+        None => Ok(all_sources(alloc, file)?),
+    }
+}

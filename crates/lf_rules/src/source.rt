@@ -1,0 +1,28 @@
+//! What a rule of a file says, before its expression is read.
+
+use lf_base::Seq;
+use lf_scalar::Scalar;
+
+/// A key of a mapping, and its text.
+#[derive(Debug, Drop)]
+pub struct Pair {
+    pub key: Scalar,
+    pub value: Scalar,
+}
+
+/// A rule as it stands in a file.
+#[derive(Debug, Drop)]
+pub struct RuleSource {
+    /// Whether it is an alerting rule; else it is a recording rule.
+    pub alert: bool,
+    /// The text of `alert` or `record`.
+    pub name: Scalar,
+    /// The text of `expr`.
+    pub expr: Scalar,
+    /// The labels that the rule sets, in their order.
+    pub labels: Seq<Pair>,
+    /// The annotations of an alerting rule, in their order.
+    pub annotations: Seq<Pair>,
+    /// The number of the rule's group in the file, from 0.
+    pub group: u32,
+}
