@@ -2,7 +2,7 @@
 
 use crate::answer::Answer;
 use crate::case::Case;
-use crate::{expressions, patterns, scalars, tokens, types};
+use crate::{expressions, patterns, rules, scalars, tokens, trees, types};
 use anyhow::Result;
 use std::alloc::Global;
 use std::time::Duration;
@@ -18,6 +18,10 @@ pub enum Call {
     Types,
     /// `lf_scalar::read_scalar`
     Scalars,
+    /// `lf_yaml::read_tree`
+    Trees,
+    /// `lf_rules::read_rules`, of what `lf_yaml::read_tree` reads
+    Rules,
     /// The calls of `lf_pattern`
     Patterns,
 }
@@ -30,6 +34,8 @@ impl Call {
             "expressions" => Some(Call::Expressions),
             "types" => Some(Call::Types),
             "scalars" => Some(Call::Scalars),
+            "trees" => Some(Call::Trees),
+            "rules" => Some(Call::Rules),
             "patterns" => Some(Call::Patterns),
             _ => None,
         }
@@ -42,6 +48,8 @@ impl Call {
             Call::Expressions => "expressions",
             Call::Types => "types",
             Call::Scalars => "scalars",
+            Call::Trees => "trees",
+            Call::Rules => "rules",
             Call::Patterns => "patterns",
         }
     }
@@ -53,6 +61,8 @@ impl Call {
             Call::Expressions => expressions::answer(alloc, case),
             Call::Types => types::answer(alloc, case),
             Call::Scalars => Ok(Answer::of(scalars::answer(alloc, case)?)),
+            Call::Trees => Ok(Answer::of(trees::answer(alloc, case)?)),
+            Call::Rules => Ok(Answer::of(rules::answer(alloc, case)?)),
             Call::Patterns => Ok(Answer::of(patterns::answer(alloc, case)?)),
         }
     }
@@ -64,6 +74,8 @@ impl Call {
             Call::Expressions => expressions::time(rt, text),
             Call::Types => types::time(rt, text),
             Call::Scalars => scalars::time(rt, text),
+            Call::Trees => trees::time(rt, text),
+            Call::Rules => rules::time(rt, text),
             Call::Patterns => patterns::time(rt, text),
         }
     }

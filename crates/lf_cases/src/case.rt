@@ -59,6 +59,11 @@ impl Case {
         self.spans.as_ref().map(String::as_str)
     }
 
+    /// The input, for a call that is given bytes.
+    pub fn bytes(&self) -> &[u8] {
+        self.input.as_slice()
+    }
+
     /// The input, for a call that is given a text.
     pub fn text(&self) -> Result<&str> {
         str::from_utf8(self.input.as_slice()).map_err(|_| anyhow!("the input isn't UTF-8"))

@@ -11,12 +11,14 @@ mod case;
 mod expressions;
 mod offsets;
 mod patterns;
+mod rules;
 mod run;
 mod scalars;
 mod spans;
 mod timing;
 mod tokens;
 mod tree;
+mod trees;
 mod types;
 
 use anyhow::Result;

@@ -98,7 +98,7 @@ fn value_of(alloc: Global, scalar: &Scalar) -> Result<Value, AllocError> {
 }
 
 /// A list of offsets.
-fn list_of(alloc: Global, offsets: &Seq<u32>) -> Result<Value, AllocError> {
+pub fn list_of(alloc: Global, offsets: &Seq<u32>) -> Result<Value, AllocError> {
     let mut list = Vec::new(alloc);
     for offset in offsets.as_slice() {
         list.push(Value::from(*offset))?;

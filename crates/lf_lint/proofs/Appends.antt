@@ -1,10 +1,12 @@
 -- What a text is after several pieces were appended in turn.
-use Rattle.std.proofs.Common.{◌≡◌, ℕ, true, List, [], ◌∷◌, ◌++◌, Some, map, ap, ◌∙◌, append_assoc, sym}
+use Rattle.std.proofs.Common.{◌≡◌, ℕ, true, List, [], ◌∷◌, ◌++◌, length, ap, ◌∙◌, append_assoc, sym}
 use Rattle.std.proofs.lemmas.List.Concat.{flat_map-append}
+use Rattle.lf_ast.specs.Labels.{Bytes}
+use Rattle.lf_ast.specs.declared.rule.Rule.{Rule}
 use Rattle.lf_lint.specs.declared.asked.Asked.{Asked}
-use Rattle.lf_lint.specs.declared.first_rule.FirstRule.{FirstRule}
-use Rattle.lf_lint.specs.FirstForm.{Bytes, lines_text}
-use Rattle.lf_lint.specs.Report.{report_of, rule_lines, shown, totals_line, universe_of, verdict_of, verdicts_line, with_labels}
+use Rattle.lf_lint.specs.declared.found.Found.TheVariants.{Rules}
+use Rattle.lf_lint.specs.Report.{lines_text, report_of, rules_lines, totals_line, verdicts_line, verdicts_of, with_labels}
+use Rattle.lf_lint.specs.Universe.{universe_of}
 
 -- two pieces
 pub appended_two : (start one two : List ℕ) {first second : List ℕ} → first ≡ start ++ one → second ≡ first ++ two → second ≡ start ++ (one ++ two)
@@ -15,7 +17,12 @@ pub appended_three : (start one two three : List ℕ) {first second third : List
     → third ≡ start ++ (one ++ two ++ three)
 appended_three start one two three e f g = appended_two start (one ++ two) three (appended_two start one two e f) g
 
--- a report of two groups of lines, appended in turn
+-- two groups of lines
+pub appended_lines : (start : Bytes) (one two : List Bytes) {first second : Bytes} → first ≡ start ++ lines_text one → second ≡ first ++ lines_text two → second ≡ start ++ lines_text (one ++ two)
+appended_lines start one two e f =
+    appended_two start (lines_text one) (lines_text two) e f ∙ ap (λ l. start ++ l) (sym (flat_map-append (λ line. line ++ 10 ∷ []) one two))
+
+-- the same, from no text on
 pub built_two : (one two : List Bytes) {start first second : Bytes} → start ≡ [] → first ≡ start ++ lines_text one → second ≡ first ++ lines_text two → second ≡ lines_text (one ++ two)
 built_two one two n e f = f ∙ ap (λ l. l ++ lines_text two) (e ∙ ap (λ l. l ++ lines_text one) n) ∙ sym (flat_map-append (λ line. line ++ 10 ∷ []) one two)
 
@@ -23,15 +30,14 @@ built_two one two n e f = f ∙ ap (λ l. l ++ lines_text two) (e ∙ ap (λ l. 
 pub built_more : (some more : List Bytes) {before now : Bytes} → before ≡ lines_text some → now ≡ before ++ lines_text more → now ≡ lines_text (some ++ more)
 built_more some more e f = f ∙ ap (λ l. l ++ lines_text more) e ∙ sym (flat_map-append (λ line. line ++ 10 ∷ []) some more)
 
--- a report of a rule's line, other lines and two totals
-pub built_report : (rule total verdicts : Bytes) (lines : List Bytes) {start first second third fourth : Bytes} → start ≡ [] → first ≡ start ++ lines_text (rule ∷ [])
-    → second ≡ first ++ lines_text lines → third ≡ second ++ lines_text (total ∷ []) → fourth ≡ third ++ lines_text (verdicts ∷ []) → fourth ≡ lines_text ((rule ∷ lines) ++ total ∷ verdicts ∷ [])
-built_report rule total verdicts lines n e f g h =
-    built_more ((rule ∷ lines) ++ total ∷ []) (verdicts ∷ []) (built_more (rule ∷ lines) (total ∷ []) (built_two (rule ∷ []) lines n e f) g) h
-    ∙ ap lines_text (append_assoc (rule ∷ lines) (total ∷ []) (verdicts ∷ []))
+-- a report of lines and two totals
+pub built_report : (total verdicts : Bytes) (lines : List Bytes) {start first second third : Bytes} → start ≡ [] → first ≡ start ++ lines_text lines
+    → second ≡ first ++ lines_text (total ∷ []) → third ≡ second ++ lines_text (verdicts ∷ []) → third ≡ lines_text (lines ++ total ∷ verdicts ∷ [])
+built_report total verdicts lines n e f g =
+    built_more (lines ++ total ∷ []) (verdicts ∷ []) (built_two lines (total ∷ []) n e f) g ∙ ap lines_text (append_assoc lines (total ∷ []) (verdicts ∷ []))
 
--- the report on a rule where verdicts are asked for
-pub report_with_labels : (asked : Asked) (r : FirstRule) → asked.labels ≡ true
-    → lines_text (rule_lines (shown asked.file) r ++ totals_line 0 1 ∷ verdicts_line (map (verdict_of r) (universe_of r)) ∷ []) ≡ report_of asked (Some r)
-report_with_labels asked r h =
-    ap (λ b. lines_text (with_labels b (rule_lines (shown asked.file) r) ++ totals_line 0 1 ∷ with_labels b (verdicts_line (map (verdict_of r) (universe_of r)) ∷ []))) (sym h)
+-- the report on rules where verdicts are asked for
+pub report_with_labels : (asked : Asked) (bytes : Bytes) (rules : List Rule) → asked.labels ≡ true
+    → lines_text (rules_lines asked.file bytes (universe_of rules) rules ++ totals_line 0 (length rules) ∷ verdicts_line (verdicts_of (universe_of rules) rules) ∷ []) ≡ report_of asked bytes (Rules rules)
+report_with_labels asked bytes rules h =
+    ap (λ b. lines_text (with_labels b (rules_lines asked.file bytes (universe_of rules) rules) ++ totals_line 0 (length rules) ∷ with_labels b (verdicts_line (verdicts_of (universe_of rules) rules) ∷ []))) (sym h)

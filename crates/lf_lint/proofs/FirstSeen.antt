@@ -3,8 +3,8 @@ use Rattle.std.proofs.Common.{◌≡◌, Bool, true, false, not, cond, ◌||◌,
 use Rattle.std.specs.List.{filter, list_any}
 use Rattle.std.specs.Str.{bytes_eq}
 use Rattle.std.proofs.lemmas.List.Folds.{list_any-append}
-use Rattle.lf_lint.specs.FirstForm.{Bytes}
-use Rattle.lf_lint.specs.Report.{first_seen, stands_in}
+use Rattle.lf_ast.specs.Labels.{Bytes}
+use Rattle.lf_lint.specs.Universe.{first_seen, stands_in}
 
 module _ {A B : Type 0} (p : B → Bool) (f : A → B) where
   pub list_any_map : (xs : List A) → list_any p (map f xs) ≡ list_any (λ x. p (f x)) xs

@@ -1,18 +1,26 @@
 pub mod Appends
-pub mod Cuts
-pub mod Distinct
+pub mod BuiltTrees
+pub mod Covering
+pub mod Distincts
 pub mod FirstSeen
-pub mod Frames
-pub mod Joined
-pub mod Labels
+pub mod Judged
+pub mod LabelLayers
+pub mod LabelLines
 pub mod Listings
-pub mod Marks
-pub mod Matchers
+pub mod OneExpr
+pub mod OneFile
+pub mod OneFound
 pub mod OneReport
-pub mod Reserved
-pub mod Rules
+pub mod SameReports
+pub mod Seen
 mod ShortLists
 pub mod ShownNames
+pub mod SomeFile
+pub mod Spotted
+pub mod Starless
+pub mod StarlessTrees
+pub mod Steps
 mod Streams
+pub mod TreeTypes
 pub mod Truths
 pub mod Worked

@@ -7,7 +7,7 @@ use Rattle.std.specs.Char.{IsAsciiControl, IsNotAsciiControl}
 use Rattle.std.specs.Fmt.{digit_glyph}
 use Rattle.std.specs.Str.{IsUtf8, chars}
 use lib.Utf8.{encode, encodes}
-use Rattle.lf_lint.specs.FirstForm.{Bytes}
+use Rattle.lf_ast.specs.Labels.{Bytes}
 use Rattle.lf_lint.specs.Report.{shown, shown_byte}
 
 -- a byte of a control character

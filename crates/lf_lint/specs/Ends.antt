@@ -1,16 +1,23 @@
 -- What a call of `lint` did to the outside, by its status.
-use Rattle.std.specs.Prelude.{◌≡◌, ℕ, ◌+◌, ◌<◌, ◌≤◌, Bool, List, ◌++◌, length, take, drop, Option, Some, None, is_none}
+use Rattle.std.specs.Prelude.{◌≡◌, ℕ, ◌+◌, ◌<◌, ◌≤◌, Bool, List, ◌++◌, length, take, drop, Option, Some, None, ◌⊎◌}
+use Rattle.lf_ast.specs.Labels.{Bytes}
+use Rattle.lf_ast.specs.declared.rule.Rule.{Rule}
 use Rattle.lf_lint.specs.declared.asked.Asked.{Asked}
-use Rattle.lf_lint.specs.declared.first_rule.FirstRule.{FirstRule}
+use Rattle.lf_lint.specs.declared.found.Found.{Found}
 use Rattle.lf_lint.specs.declared.status.Status.{Status}
 use Rattle.lf_lint.specs.declared.status.Status.TheVariants.{Clean, Problems, Words, Refused, Read, Write, Memory, Limit}
+use Rattle.lf_lint.specs.Accepted.{IsAccepted}
 use Rattle.lf_lint.specs.Asks.{Asks}
-use Rattle.lf_lint.specs.FirstForm.{Bytes, Holds}
+use Rattle.lf_lint.specs.Founds.{Fits, Holds, is_refused}
 use Rattle.lf_lint.specs.Report.{report_of}
 
 -- the most bytes that a file may have: 4 MiB
 abbrev pub most_bytes : ℕ
 most_bytes = 4194304
+
+-- the most rules that may be accepted
+abbrev pub most_rules : ℕ
+most_rules = 20000
 
 -- the bytes are as the object tells them, where it does
 abbrev pub AreAsTold : Option Bytes → Bytes → Type 0
@@ -26,30 +33,42 @@ Wrote (Some before) now bytes = now ≡ Some (before ++ bytes)
 pub record IsReport (words : List Bytes) (bytes report : Bytes) : Type 0 where
   pub asked : Asked
   pub asks : Asks words asked
-  pub found : Option FirstRule
+  pub found : Found
   pub holds : Holds bytes found
-  pub text : report ≡ report_of asked found
+  pub text : report ≡ report_of asked bytes found
 
--- the words ask for a file, its bytes were read whole, and this is what stands in them
-pub record Judged (words : List Bytes) (held : Bytes → Option Bytes) (asked : Asked) (found : Option FirstRule) : Type 0 where
+-- the words ask for a file, these are its bytes, and this is what stands in them
+pub record Judged (words : List Bytes) (held : Bytes → Option Bytes) (asked : Asked) (bytes : Bytes) (found : Found) : Type 0 where
   pub asks : Asks words asked
-  pub bytes : Bytes
   pub read : AreAsTold (held asked.file) bytes
   pub within : length bytes ≤ most_bytes
   pub holds : Holds bytes found
+  pub fits : Fits found
 
 -- the whole report was written, on a file that is refused or not
 abbrev pub WroteAll : List Bytes → (Bytes → Option Bytes) → Option Bytes → Option Bytes → Bool → Type 0
-WroteAll words held before now refused = (asked : Asked) × (found : Option FirstRule) × Judged words held asked found × (is_none found ≡ refused) × Wrote before now (report_of asked found)
+WroteAll words held before now refused =
+    (asked : Asked) × (bytes : Bytes) × (found : Found) × Judged words held asked bytes found × (is_refused found ≡ refused) × Wrote before now (report_of asked bytes found)
 
 -- a front of the report was written, and not the whole
 abbrev pub WrotePart : List Bytes → (Bytes → Option Bytes) → Option Bytes → Option Bytes → Type 0
-WrotePart words held before now = (asked : Asked) × (found : Option FirstRule) × Judged words held asked found
-    × (k : ℕ) × (k < length (report_of asked found)) × Wrote before now (take k (report_of asked found))
+WrotePart words held before now = (asked : Asked) × (bytes : Bytes) × (found : Found) × Judged words held asked bytes found
+    × (k : ℕ) × (k < length (report_of asked bytes found)) × Wrote before now (take k (report_of asked bytes found))
 
 -- the words ask for a file of more bytes than a file may have, and reading stopped right behind the first of them
 abbrev pub IsTooLong : List Bytes → (Bytes → Option Bytes) → Option Bytes → Type 0
 IsTooLong words held left = (asked : Asked) × Asks words asked × (bytes : Bytes) × AreAsTold (held asked.file) bytes × (most_bytes < length bytes) × AreAsTold left (drop (most_bytes + 1) bytes)
+
+-- the words ask for a file that is accepted with this number of rules, which is more than may be
+abbrev pub HasTooManyRules : List Bytes → (Bytes → Option Bytes) → ℕ → Type 0
+HasTooManyRules words held count = (asked : Asked) × Asks words asked × (bytes : Bytes) × AreAsTold (held asked.file) bytes × (length bytes ≤ most_bytes)
+    × (rules : List Rule) × IsAccepted bytes 0 rules × (count ≡ length rules) × (most_rules < count)
+
+-- which quantity passed its limit, and its count: 2 is the bytes of the file, of which one more than the limit was read, and 4 is the accepted rules
+abbrev pub Passes : List Bytes → (Bytes → Option Bytes) → Option Bytes → ℕ → ℕ → Type 0
+Passes words held left quantity count =
+    ((quantity ≡ 2) × (count ≡ 4194305) × IsTooLong words held left)
+    ⊎ ((quantity ≡ 4) × HasTooManyRules words held count)
 
 -- the ends after which nothing was written
 abbrev pub IsSilent : Status → Type 0

@@ -1,43 +1,58 @@
 -- That what a report says of labels is true of every run.
-use Rattle.std.specs.Prelude.{◌≡◌, ◌↔◌, true, List, [], ◌∷◌, ◌++◌, map, Option, Some}
-use Rattle.std.specs.List.{AllByRecursion}
-use Rattle.lf_ast.specs.Labels.{Labels}
+use Rattle.std.specs.Prelude.{◌≡◌, ◌↔◌, true, List, [], ◌∷◌, ◌++◌, map, length, Option}
+use Rattle.std.specs.List.{AllByRecursion, flat_map}
+use Rattle.lf_ast.specs.Labels.{Bytes, Labels}
+use Rattle.lf_ast.specs.declared.rule.Rule.{Rule}
 use Rattle.lf_semantics.specs.Texts.{Has}
 use Rattle.lf_semantics.specs.Rows.{SpeaksOf, asked_of}
 use Rattle.lf_semantics.specs.Runs.{World, IsSample}
 use Rattle.lf_semantics.specs.Table.{either, known}
 use Rattle.lf_lint.specs.declared.asked.Asked.{Asked}
-use Rattle.lf_lint.specs.declared.first_rule.FirstRule.{FirstRule}
+use Rattle.lf_lint.specs.declared.found.Found.TheVariants.{Rules}
 use Rattle.lf_lint.specs.declared.report.verdict.Verdict.{Verdict}
 use Rattle.lf_lint.specs.declared.report.verdict.Verdict.TheVariants.{Guaranteed, Impossible, Unresolved}
 use Rattle.lf_lint.specs.Ends.{Judged, Wrote}
-use Rattle.lf_lint.specs.Expressions.{expr_of, rule_of}
-use Rattle.lf_lint.specs.FirstForm.{Bytes, lines_text}
-use Rattle.lf_lint.specs.Report.{label_line, rule_line, shown, totals_line, universe_of, verdicts_line}
+use Rattle.lf_lint.specs.Report.{label_line, lines_text, place_text, rule_line, totals_line, verdicts_line}
+use Rattle.lf_lint.specs.Universe.{universe_of}
 
--- in every world of the file's one rule, a name called guaranteed is on each sample of the rule's expression, and one called impossible on none. Of an unresolved one
+-- in every world of the file's rules, a name called guaranteed is on each sample of the rule's expression, and one called impossible on none. Of an unresolved one
 -- nothing is claimed
-abbrev pub IsTrueOf : FirstRule → Verdict → Bytes → Type 0
-IsTrueOf r Guaranteed name = (world : World (rule_of r ∷ [])) (s : Labels) → IsSample world (rule_of r) s → Has s name
-IsTrueOf r Impossible name = (world : World (rule_of r ∷ [])) (s : Labels) → IsSample world (rule_of r) s → Has s name → ⊥
-IsTrueOf r Unresolved name = Unit {0}
+abbrev pub IsTrueOf : List Rule → Rule → Verdict → Bytes → Type 0
+IsTrueOf rules r Guaranteed name = (world : World rules) (s : Labels) → IsSample world r s → Has s name
+IsTrueOf rules r Impossible name = (world : World rules) (s : Labels) → IsSample world r s → Has s name → ⊥
+IsTrueOf rules r Unresolved name = Unit {0}
 
 -- what is said of a label is true of its name, and what is said of `*` of each name that no other line is about. It stays unresolved exactly where the row of the
 -- expression leaves both
-abbrev pub IsTrue : FirstRule → Bytes × Verdict → Type 0
-IsTrue r claim =
-    ((name : Bytes) → SpeaksOf (universe_of r) claim.0 name → IsTrueOf r claim.1 name)
-    × ((claim.1 ≡ Unresolved) ↔ (known (asked_of claim.0) (expr_of r) ≡ either))
+abbrev pub IsTrue : List Rule → Rule → Bytes × Verdict → Type 0
+IsTrue rules r claim =
+    ((name : Bytes) → SpeaksOf (universe_of rules) claim.0 name → IsTrueOf rules r claim.1 name)
+    × ((claim.1 ≡ Unresolved) ↔ (known (asked_of claim.0) r.expr ≡ either))
 
--- the report is the rule's line, a line for what it claims of each label, and the totals; and each claim is true
-pub record IsTrueReport (asked : Asked) (r : FirstRule) (report : Bytes) : Type 0 where
+-- a rule, and what a report claims of each label on the samples of its expression
+pub record Spoken : Type 0 where
+  pub rule : Rule
   pub claims : List (Bytes × Verdict)
-  pub labels : map (λ claim. claim.0) claims ≡ universe_of r
-  pub text : report ≡ lines_text ((rule_line (shown asked.file) r.name ∷ map (λ claim. label_line (shown asked.file) claim.0 claim.1) claims)
-      ++ totals_line 0 1 ∷ verdicts_line (map (λ claim. claim.1) claims) ∷ [])
-  pub all_true : AllByRecursion (IsTrue r) claims
 
--- a report was written on the rule of the file that the words ask for, and where they ask for labels it is true
+-- each label of the file's rules has a claim, and each claim is true
+abbrev pub SpeaksTruth : List Rule → Spoken → Type 0
+SpeaksTruth rules spoken = (map (λ claim. claim.0) spoken.claims ≡ universe_of rules) × AllByRecursion (IsTrue rules spoken.rule) spoken.claims
+
+-- the line of the rule, and a line for each claim
+abbrev pub spoken_lines : Bytes → Bytes → Spoken → List Bytes
+spoken_lines file bytes spoken =
+    rule_line (place_text file bytes spoken.rule.name_span.start) spoken.rule.name
+    ∷ map (λ claim. label_line (place_text file bytes spoken.rule.expr_span.start) claim.0 claim.1) spoken.claims
+
+-- the report is, for each rule of the file, its line and a line for what it claims of each label, and then the totals; and each claim is true
+pub record IsTrueReport (asked : Asked) (bytes : Bytes) (rules : List Rule) (report : Bytes) : Type 0 where
+  pub spoken : List Spoken
+  pub each_rule : map (λ s. s.rule) spoken ≡ rules
+  pub text : report ≡ lines_text (flat_map (spoken_lines asked.file bytes) spoken
+      ++ totals_line 0 (length rules) ∷ verdicts_line (flat_map (λ s. map (λ claim. claim.1) s.claims) spoken) ∷ [])
+  pub all_true : AllByRecursion (SpeaksTruth rules) spoken
+
+-- a report was written on the rules of the file that the words ask for, and where they ask for labels it is true
 abbrev pub WroteTruth : List Bytes → (Bytes → Option Bytes) → Option Bytes → Option Bytes → Type 0
-WroteTruth words held before now = (asked : Asked) × (r : FirstRule) × Judged words held asked (Some r)
-    × (asked.labels ≡ true → (report : Bytes) × Wrote before now report × IsTrueReport asked r report)
+WroteTruth words held before now = (asked : Asked) × (bytes : Bytes) × (rules : List Rule) × Judged words held asked bytes (Rules rules)
+    × (asked.labels ≡ true → (report : Bytes) × Wrote before now report × IsTrueReport asked bytes rules report)

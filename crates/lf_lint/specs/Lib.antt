@@ -1,9 +1,13 @@
+pub mod Accepted
 pub mod Asks
+pub mod Built
+pub mod Checked
 pub mod Ends
-pub mod Expressions
-pub mod Findings
-pub mod FirstForm
-pub mod FirstPieces
+pub mod Founds
 pub mod Headline
+pub mod Listed
 pub mod Report
+pub mod Spots
 pub mod Statuses
+pub mod Universe
+pub mod Verdicts

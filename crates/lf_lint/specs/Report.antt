@@ -1,56 +1,23 @@
--- The text report on one file of the first form.
-use Rattle.std.specs.Prelude.{ℕ, Bool, true, false, ◌==◌, ◌||◌, ◌/◌, ◌%◌, nat_lt, not, List, [], ◌∷◌, ◌++◌, Option, Some, None, map, filter, count_by, codes, if◌then◌else◌}
+-- The text report on one file.
+use Rattle.std.specs.Prelude.{ℕ, Bool, false, ◌==◌, ◌||◌, ◌/◌, ◌%◌, nat_lt, List, [], ◌∷◌, ◌++◌, map, length, count_by, codes, if◌then◌else◌}
 use Rattle.std.specs.Fmt.{decimal, digit_glyph}
-use Rattle.std.specs.List.{flat_map, list_any}
-use Rattle.std.specs.Str.{bytes_eq}
+use Rattle.std.specs.List.{flat_map}
+use Rattle.lf_ast.specs.Labels.{Bytes}
+use Rattle.lf_ast.specs.declared.rule.Rule.{Rule}
 use Rattle.lf_base.specs.Kinds.{name_of, meaning_of}
-use Rattle.lf_base.specs.declared.kind.Kind.TheVariants.{NotBuilt}
+use Rattle.lf_base.specs.Places.{line_at, column_at}
+use Rattle.lf_base.specs.declared.kind.Kind.{Kind}
 use Rattle.lf_lint.specs.declared.asked.Asked.{Asked}
-use Rattle.lf_lint.specs.declared.first_rule.FirstRule.{FirstRule}
+use Rattle.lf_lint.specs.declared.found.Found.{Found}
+use Rattle.lf_lint.specs.declared.found.Found.TheVariants.{Rules, Refused}
 use Rattle.lf_lint.specs.declared.report.verdict.Verdict.{Verdict}
 use Rattle.lf_lint.specs.declared.report.verdict.Verdict.TheVariants.{Guaranteed, Impossible, Unresolved}
-use Rattle.lf_semantics.specs.declared.Presence.{Presence}
-use Rattle.lf_semantics.specs.Rows.{asked_of}
-use Rattle.lf_semantics.specs.Table.{known}
-use Rattle.lf_lint.specs.Expressions.{expr_of}
-use Rattle.lf_lint.specs.FirstForm.{Bytes, lines_text}
+use Rattle.lf_lint.specs.Universe.{universe_of}
+use Rattle.lf_lint.specs.Verdicts.{is_guaranteed, is_impossible, is_unresolved, verdict_of}
 
--- the text is one of these
-abbrev pub stands_in : List Bytes → Bytes → Bool
-stands_in texts text = list_any (bytes_eq text) texts
-
--- the texts, each where it stands first
-abbrev pub first_seen : List Bytes → List Bytes
-first_seen [] = []
-first_seen (text ∷ texts) = text ∷ filter (λ other. not (bytes_eq other text)) (first_seen texts)
-
--- the labels that the matchers of the rule name
-abbrev pub matched_labels : FirstRule → List Bytes
-matched_labels r = map (λ m. m.label) r.matchers
-
--- the labels of which the report speaks: the metric name, then those of the expression in the order of its text, then `*` for every other
-abbrev pub universe_of : FirstRule → List Bytes
-universe_of r = codes "__name__" ∷ first_seen (r.labels ++ matched_labels r) ++ codes "*" ∷ []
-
--- guaranteed where absence is ruled out, impossible where presence is, and unresolved where neither is
-abbrev pub verdict_from : Presence → Verdict
-verdict_from known = if known.may_be_absent then (if known.may_be_present then Unresolved else Impossible) else Guaranteed
-
--- the verdict on a label, by the row of the rule's expression
-unfoldable pub verdict_of : FirstRule → Bytes → Verdict
-verdict_of r label = verdict_from (known (asked_of label) (expr_of r))
-
-abbrev pub is_guaranteed : Verdict → Bool
-is_guaranteed Guaranteed = true
-is_guaranteed _ = false
-
-abbrev pub is_impossible : Verdict → Bool
-is_impossible Impossible = true
-is_impossible _ = false
-
-abbrev pub is_unresolved : Verdict → Bool
-is_unresolved Unresolved = true
-is_unresolved _ = false
+-- each line ended by a line feed
+abbrev pub lines_text : List Bytes → Bytes
+lines_text lines = flat_map (λ line. line ++ 10 ∷ []) lines
 
 -- a byte of a name, as a text report writes it: control characters as `\x` and two hexadecimal digits
 abbrev pub shown_byte : ℕ → Bytes
@@ -59,43 +26,59 @@ shown_byte b = if nat_lt b 32 || b == 127 then codes "\\x" ++ digit_glyph false 
 abbrev pub shown : Bytes → Bytes
 shown name = flat_map shown_byte name
 
--- the verdict in words, for a file whose name is shown as `name`. What stays unresolved carries no construct yet, and stands at the expression, in line 5 and
--- column 11 of each file of the form
+-- `FILE:LINE:COLUMN` of an offset of the file. The place depends on nothing behind the offset, so that it is told of bytes that aren't UTF-8 too
+abbrev pub place_text : Bytes → Bytes → ℕ → Bytes
+place_text file bytes offset = shown file ++ codes ":" ++ decimal (line_at bytes offset) ++ codes ":" ++ decimal (column_at bytes offset)
+
+-- the verdict in words. What stays unresolved carries no construct yet, and stands at the place of the rule's expression
 abbrev pub verdict_text : Bytes → Verdict → Bytes
-verdict_text name Guaranteed = codes "guaranteed"
-verdict_text name Impossible = codes "impossible"
-verdict_text name Unresolved = codes "unresolved O0 at " ++ name ++ codes ":5:11"
+verdict_text place Guaranteed = codes "guaranteed"
+verdict_text place Impossible = codes "impossible"
+verdict_text place Unresolved = codes "unresolved O0 at " ++ place
 
 -- `  LABEL: VERDICT`
 abbrev pub label_line : Bytes → Bytes → Verdict → Bytes
-label_line name label verdict = codes "  " ++ label ++ codes ": " ++ verdict_text name verdict
+label_line place label verdict = codes "  " ++ shown label ++ codes ": " ++ verdict_text place verdict
 
--- the line of a rule, at its own name in line 4 and column 13
+-- the line of a rule, at its name
 abbrev pub rule_line : Bytes → Bytes → Bytes
-rule_line name rule = name ++ codes ":4:13: rule " ++ rule
+rule_line place name = place ++ codes ": rule " ++ shown name
 
 -- the rule's line, and a line for each label
-abbrev pub rule_lines : Bytes → FirstRule → List Bytes
-rule_lines name r = rule_line name r.name ∷ map (λ label. label_line name label (verdict_of r label)) (universe_of r)
+abbrev pub rule_lines : Bytes → Bytes → List Bytes → Rule → List Bytes
+rule_lines file bytes labels r =
+    rule_line (place_text file bytes r.name_span.start) r.name
+    ∷ map (λ label. label_line (place_text file bytes r.expr_span.start) label (verdict_of r label)) labels
 
--- the line of a file outside the form, at its first byte
-abbrev pub refused_line : Bytes → Bytes
-refused_line name = name ++ codes ":1:1: refused [" ++ name_of NotBuilt ++ codes "] " ++ meaning_of NotBuilt
+-- the line of a file that is refused
+abbrev pub refused_line : Bytes → Kind → Bytes
+refused_line place kind = place ++ codes ": refused [" ++ name_of kind ++ codes "] " ++ meaning_of kind
 
--- the totals of one file: whether it is refused, and how many rules it has
+-- the totals of one file: how many files are refused, and how many rules there are
 abbrev pub totals_line : ℕ → ℕ → Bytes
 totals_line refused rules = codes "files 1, refused " ++ decimal refused ++ codes ", rules " ++ decimal rules ++ codes ", problems 0, notes 0"
 
--- the totals of the verdicts on these labels
+-- the totals of these verdicts
 abbrev pub verdicts_line : List Verdict → Bytes
 verdicts_line verdicts = codes "verdicts guaranteed " ++ decimal (count_by is_guaranteed verdicts) ++ codes ", impossible " ++ decimal (count_by is_impossible verdicts)
     ++ codes ", possible 0, unresolved " ++ decimal (count_by is_unresolved verdicts) ++ codes ", empty 0"
+
+-- the verdicts on the labels of all rules
+abbrev pub verdicts_of : List Bytes → List Rule → List Verdict
+verdicts_of labels rules = flat_map (λ r. map (verdict_of r) labels) rules
+
+-- the lines of all rules
+abbrev pub rules_lines : Bytes → Bytes → List Bytes → List Rule → List Bytes
+rules_lines file bytes labels rules = flat_map (rule_lines file bytes labels) rules
 
 -- lines that stand only where verdicts are asked for
 abbrev pub with_labels : Bool → List Bytes → List Bytes
 with_labels labels lines = if labels then lines else []
 
--- the report on what stands in the file that is asked for
-abbrev pub report_of : Asked → Option FirstRule → Bytes
-report_of asked None = lines_text (refused_line (shown asked.file) ∷ totals_line 1 0 ∷ with_labels asked.labels (verdicts_line [] ∷ []))
-report_of asked (Some r) = lines_text (with_labels asked.labels (rule_lines (shown asked.file) r) ++ totals_line 0 1 ∷ with_labels asked.labels (verdicts_line (map (verdict_of r) (universe_of r)) ∷ []))
+-- the report on what was found in the file that is asked for, whose bytes these are
+abbrev pub report_of : Asked → Bytes → Found → Bytes
+report_of asked bytes (Refused kind span) =
+    lines_text (refused_line (place_text asked.file bytes span.start) kind ∷ totals_line 1 0 ∷ with_labels asked.labels (verdicts_line [] ∷ []))
+report_of asked bytes (Rules rules) =
+    lines_text (with_labels asked.labels (rules_lines asked.file bytes (universe_of rules) rules) ++ totals_line 0 (length rules)
+    ∷ with_labels asked.labels (verdicts_line (verdicts_of (universe_of rules) rules) ∷ []))

@@ -1,19 +1,22 @@
-//! What the program does: it reads the words and the file, judges the rule and writes the report.
+//! What the program does: it reads the words and the file, accepts and judges its rules, and writes the report.
 #![tactic(auto)]
 
+mod accepting;
 mod asked;
-mod first_form;
-mod first_rule;
+mod built;
+mod expression;
+mod found;
 mod linting;
 mod reading;
 mod report;
+mod rules;
 mod status;
 mod words;
 mod writing;
 
+pub use accepting::{accept, one_file};
 pub use asked::Asked;
-pub use first_form::read_first_rule;
-pub use first_rule::{FirstMatcher, FirstRule};
+pub use found::Found;
 pub use linting::lint;
 pub use reading::{ReadEnd, read_whole};
 pub use report::report_text;

@@ -1,16 +1,14 @@
 //! A run of the program.
-ghost use Rattle.std.specs.Prelude.{◌≡◌, ◌≢◌, ◌↔◌, ℕ, Bool, true, false, List, map, string_bytes, Option, is_none, IfOk, ◌+◌, ◌<◌, ◌≤◌, ◌^◌};
+ghost use Rattle.std.specs.Prelude.{◌≡◌, ◌≢◌, ◌↔◌, ℕ, Bool, true, false, List, map, string_bytes, Option, IfOk, IfSome, IfNone, ◌+◌, ◌<◌, ◌≤◌, ◌^◌, length};
 ghost use Rattle.lf_lint.specs.declared.asked.Asked.{Asked};
-ghost use Rattle.lf_lint.specs.declared.first_rule.FirstRule.{FirstRule};
 ghost use Rattle.lf_lint.specs.Asks.{Asks};
-ghost use Rattle.lf_lint.specs.Ends.{IsReport, IsSilent, IsTooLong, WroteAll, WrotePart};
-ghost use Rattle.lf_lint.specs.FirstForm.{Holds};
+ghost use Rattle.lf_lint.specs.Ends.{IsReport, IsSilent, Passes, WroteAll, WrotePart};
+ghost use Rattle.lf_lint.specs.Founds.{Fits, Holds, HasTooMany};
 ghost use Rattle.lf_lint.specs.Headline.{WroteTruth};
-ghost use Rattle.lf_lint.specs.Report.{report_of};
 
 use crate::reading::{ReadEnd, read_whole};
-use crate::{Asked, Status, WordFault, read_first_rule, read_words, report_text, write_whole};
-use lf_base::{Files, Gate, Memory, Sink, Text};
+use crate::{Found, Status, WordFault, accept, read_words, report_text, write_whole};
+use lf_base::{Files, Gate, Memory, Refusal, Sink};
 use std::alloc::Global;
 use std::thread::Threads;
 
@@ -20,7 +18,13 @@ const MOST_BYTES: u32 = 4 * 1024 * 1024;
 /// The number of that limit in a status.
 const FILE_BYTES: u8 = 2;
 
-/// A whole run of the program: lints the file that the words ask for, and writes the report on it.
+/// The most rules that may be accepted.
+const MOST_RULES: usize = 20_000;
+
+/// The number of that limit in a status.
+const ACCEPTED_RULES: u8 = 4;
+
+/// A whole run of the program: lints the file that the words ask for, and writes the report on it. A file is linted on one thread.
 ///
 /// The words come without the program's own name. The whole report is made before its first byte is written.
 pub fn lint<R: Threads + Sync, F: Files, O: Sink, G: Gate + Sync>(
@@ -54,7 +58,7 @@ pub fn lint<R: Threads + Sync, F: Files, O: Sink, G: Gate + Sync>(
 
     // A file's number is that of the last call of `open`.
     ensures read { (file : ℕ) → result ≡ Status.Read file → (F.faults files.old < F.faults files.new) × (F.opens files.new ≡ F.opens files.old + (file + 1)) }
-    ensures limit { (quantity count : ℕ) → result ≡ Status.Limit quantity count → (quantity ≡ 2) × (count ≡ 4194305) × IsTooLong (map string_bytes words.now) (F.held files.old) (F.left files.new) }
+    ensures limit { (quantity count : ℕ) → result ≡ Status.Limit quantity count → Passes (map string_bytes words.now) (F.held files.old) (F.left files.new) quantity count }
 
     // What else is as before.
     ensures quiet { IsSilent result → out.new ≡ out.old }
@@ -83,21 +87,44 @@ pub fn lint<R: Threads + Sync, F: Files, O: Sink, G: Gate + Sync>(
         }
         Err(ReadEnd::Memory) => return Status::Memory,
     };
-    let Ok((report, refused)) = report_on(alloc, &asked, bytes.as_slice()) else {
+    let Ok(found) = find(alloc, bytes.as_slice()) else {
+        return Status::Memory;
+    };
+    if let Some(count) = count_too_many(&found) {
+        return Status::Limit {
+            quantity: ACCEPTED_RULES,
+            found: count,
+        };
+    }
+    let Ok(report) = report_text(alloc, &asked, bytes.as_slice(), &found) else {
         return Status::Memory;
     };
     match write_whole(out, report.as_str().as_bytes()) {
         Err(_) => Status::Write,
-        Ok(()) if refused => Status::Refused,
+        Ok(()) if found.is_refused() => Status::Refused,
         Ok(()) => Status::Clean,
     }
 }
 
-/// The report on a file of these bytes, and whether the file is refused.
-fn report_on(alloc: Global, asked: &Asked, bytes: &[u8]) -> Result<(Text, bool), Memory>
-    ensures { IfOk result (λ r. (found : Option FirstRule) × Holds bytes.now found × (r.0 ≡ report_of asked.now found) × (r.1 ≡ is_none found)) }
+/// What stands in a file of these bytes.
+fn find(alloc: Global, bytes: &[u8]) -> Result<Found, Memory>
+    requires { length bytes.now ≤ 2 ^ 31 }
+    ensures { IfOk result (Holds bytes.now) }
 {
-    let found = read_first_rule(alloc, bytes)?;
-    let report = report_text(alloc, asked, &found)?;
-    Ok((report, found.is_none()))
+    match accept(alloc, bytes, 0) {
+        Ok(rules) => Ok(Found::Rules { rules }),
+        Err(Refusal::At { kind, span }) => Ok(Found::Refused { kind, span }),
+        Err(Refusal::Memory) => Err(Memory),
+    }
+}
+
+/// How many rules are accepted, where these are more than may be.
+fn count_too_many(found: &Found) -> Option<u64>
+    ensures some { IfSome result (HasTooMany found.now) }
+    ensures none { IfNone result (Fits found.now) }
+{
+    match found {
+        Found::Rules { rules } if rules.len() > MOST_RULES => Some(rules.len() as u64),
+        Found::Rules { .. } | Found::Refused { .. } => None,
+    }
 }

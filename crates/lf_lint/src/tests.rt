@@ -6,6 +6,7 @@ use lf_base::{Files, OpenGate, Sink};
 use std::alloc::{AllocError, Global};
 use std::thread::Threads;
 
+mod accept;
 mod ends;
 mod parts;
 mod reports;

@@ -1,27 +1,29 @@
 //! The labels of which a report speaks.
 ghost use Rattle.std.specs.Prelude.{◌≡◌, ℕ, [], List, ◌∷◌, ◌++◌, map, IfOk, OnOk};
-ghost use Rattle.lf_lint.specs.Report.{universe_of};
-ghost use Rattle.lf_lint.specs.Findings.{Lists};
+ghost use Rattle.std.specs.List.{flat_map};
+ghost use Rattle.lf_ast.specs.Breaches.{span_of};
+ghost use Rattle.lf_lint.specs.Universe.{grouping_names, is_behind, labels_of, rule_labels, universe_of, in_order};
+ghost use Rattle.lf_lint.specs.Listed.{Adds, Lists};
 
-use crate::FirstRule;
+use lf_ast::{Expr, Grouping, Matcher, Name, Rule, RuleLabel};
 use lf_base::{Memory, Seq, Text};
 use lf_flow::NameSet;
 use std::alloc::Global;
 
-/// The labels so far, and those of the expression among them.
+/// The labels so far, each once. It compares them through a set, since a file may name a million.
 #[derive(Drop)]
 pub struct Listing<'a> {
     pub labels: Seq<Text>,
     pub seen: NameSet<'a>,
 }
 
-/// The labels of which the report speaks, in their order: the metric name, those of the expression, each once, and `*`.
-pub fn universe(alloc: Global, rule: &FirstRule) -> Result<Seq<Text>, Memory>
-    ensures { IfOk result (λ labels. labels ≡ universe_of rule.now) }
+/// The labels of which the report on these rules speaks, in their order: the metric name, those of the rules, each once, and `*`.
+pub fn universe(alloc: Global, rules: &[Rule]) -> Result<Seq<Text>, Memory>
+    ensures { IfOk result (λ labels. labels ≡ universe_of rules.now) }
 {
-    let mut listing = Listing::new(alloc)?;
-    listing.add_grouped(alloc, rule.labels.as_slice())?;
-    listing.add_matched(alloc, rule)?;
+    let mut listing = Listing::new(alloc);
+    listing.add(alloc, "__name__")?;
+    listing.add_rules(alloc, rules)?;
     let Listing {
         mut labels,
         seen: _,
@@ -31,21 +33,19 @@ pub fn universe(alloc: Global, rule: &FirstRule) -> Result<Seq<Text>, Memory>
 }
 
 impl<'a> Listing<'a> {
-    /// The listing of the metric name.
-    fn new(alloc: Global) -> Result<Listing<'a>, Memory>
-        ensures { IfOk result (Lists []) }
+    /// The listing of no label.
+    fn new(alloc: Global) -> Listing<'a>
+        ensures { Lists [] result }
     {
-        let mut labels = Seq::new(alloc);
-        labels.push(Text::of(alloc, "__name__")?)?;
-        Ok(Listing {
-            labels,
+        Listing {
+            labels: Seq::new(alloc),
             seen: NameSet::new(alloc),
-        })
+        }
     }
 
-    /// Lists a label of the expression, unless it is listed.
+    /// Lists a label, unless it is listed.
     fn add(&mut self, alloc: Global, label: &'a str) -> Result<(), Memory>
-        ensures { OnOk result ((labels : List (List ℕ)) → Lists labels self.old → Lists (labels ++ label.now ∷ []) self.new) }
+        ensures { OnOk result (Adds (label.now ∷ []) self.old self.new) }
     {
         if self.seen.add(label)? {
             self.labels.push(Text::of(alloc, label)?)?;
@@ -53,25 +53,135 @@ impl<'a> Listing<'a> {
         Ok(())
     }
 
-    /// Lists the labels of `by`.
-    fn add_grouped(&mut self, alloc: Global, labels: &'a [Text]) -> Result<(), Memory>
-        requires { Lists [] self.old }
-        ensures { OnOk result (Lists labels.now self.new) }
+    /// Lists the labels of rules.
+    fn add_rules(&mut self, alloc: Global, rules: &'a [Rule]) -> Result<(), Memory>
+        ensures { OnOk result (Adds (flat_map rule_labels rules.now) self.old self.new) }
     {
-        for label in labels {
-            self.add(alloc, label.as_str())?;
+        for rule in rules {
+            self.add_rule(alloc, rule)?;
         }
         Ok(())
     }
 
-    /// Lists the labels of the matchers, behind those of `by`.
-    fn add_matched(&mut self, alloc: Global, rule: &'a FirstRule) -> Result<(), Memory>
-        requires { Lists rule.now.labels self.old }
-        ensures { OnOk result (Lists (rule.now.labels ++ map (λ m. m.label) rule.now.matchers) self.new) }
+    /// Lists the labels of a rule: those of its expression, and those that a recording rule sets.
+    fn add_rule(&mut self, alloc: Global, rule: &'a Rule) -> Result<(), Memory>
+        ensures { OnOk result (Adds (rule_labels rule.now) self.old self.new) }
     {
-        for matcher in rule.matchers.as_slice() {
+        self.add_expr(alloc, &rule.expr)?;
+        if rule.alert {
+            return Ok(());
+        }
+        self.add_keys(alloc, rule.labels.as_slice())
+    }
+
+    /// Lists the labels that an expression names, in the order of its text.
+    #[cycle(listing)]
+    fn add_expr(&mut self, alloc: Global, expr: &'a Expr) -> Result<(), Memory>
+        ensures { OnOk result (Adds (labels_of expr.now) self.old self.new) }
+    {
+        match expr {
+            Expr::Selector { matchers, .. } => self.add_matched(alloc, matchers.as_slice()),
+            Expr::Paren { of, .. } => self.add_expr(alloc, of),
+            Expr::Aggregate { grouping, args, .. } => {
+                self.add_aggregate(alloc, names_in(grouping), args.as_slice())
+            }
+            _ => Ok(()),
+        }
+    }
+
+    /// Lists the labels of a grouping and those of its arguments.
+    #[cycle(listing)]
+    fn add_aggregate(
+        &mut self,
+        alloc: Global,
+        names: &'a [Name],
+        args: &'a [Expr],
+    ) -> Result<(), Memory>
+        ensures { OnOk result (Adds (in_order (is_behind names.now args.now) (map (λ n. n.text) names.now) (flat_map labels_of args.now)) self.old self.new) }
+    {
+        if stands_behind(names, args) {
+            self.add_args(alloc, args)?;
+            return self.add_names(alloc, names);
+        }
+        self.add_names(alloc, names)?;
+        self.add_args(alloc, args)
+    }
+
+    /// Lists the labels of arguments.
+    #[cycle(listing)]
+    fn add_args(&mut self, alloc: Global, args: &'a [Expr]) -> Result<(), Memory>
+        ensures { OnOk result (Adds (flat_map labels_of args.now) self.old self.new) }
+    {
+        for arg in args {
+            self.add_expr(alloc, arg)?;
+        }
+        Ok(())
+    }
+
+    /// Lists the labels of a grouping.
+    fn add_names(&mut self, alloc: Global, names: &'a [Name]) -> Result<(), Memory>
+        ensures { OnOk result (Adds (map (λ n. n.text) names.now) self.old self.new) }
+    {
+        for name in names {
+            self.add(alloc, name.text.as_str())?;
+        }
+        Ok(())
+    }
+
+    /// Lists the labels of matchers.
+    fn add_matched(&mut self, alloc: Global, matchers: &'a [Matcher]) -> Result<(), Memory>
+        ensures { OnOk result (Adds (map (λ m. m.label) matchers.now) self.old self.new) }
+    {
+        for matcher in matchers {
             self.add(alloc, matcher.label.as_str())?;
         }
         Ok(())
+    }
+
+    /// Lists the labels that a rule sets.
+    fn add_keys(&mut self, alloc: Global, labels: &'a [RuleLabel]) -> Result<(), Memory>
+        ensures { OnOk result (Adds (map (λ l. l.key) labels.now) self.old self.new) }
+    {
+        for label in labels {
+            self.add(alloc, label.key.as_str())?;
+        }
+        Ok(())
+    }
+}
+
+/// The names behind `by` or `without`.
+fn names_in(grouping: &Grouping) -> &[Name]
+    ensures { result.now ≡ grouping_names grouping.now }
+{
+    match grouping {
+        Grouping::None => &[],
+        Grouping::By { labels } | Grouping::Without { labels } => labels.as_slice(),
+    }
+}
+
+/// Whether a grouping stands behind the arguments.
+fn stands_behind(names: &[Name], args: &[Expr]) -> bool
+    ensures { result ≡ is_behind names.now args.now }
+{
+    match (names, args) {
+        ([name, ..], [arg, ..]) => start_of(arg) < name.span.start,
+        _ => false,
+    }
+}
+
+/// Where the span begins that an expression carries.
+fn start_of(expr: &Expr) -> u32
+    ensures { result ≡ (span_of expr.now).start }
+{
+    match expr {
+        Expr::Number { span, .. }
+        | Expr::Str { span, .. }
+        | Expr::Selector { span, .. }
+        | Expr::Subquery { span, .. }
+        | Expr::Paren { span, .. }
+        | Expr::Unary { span, .. }
+        | Expr::Binary { span, .. }
+        | Expr::Call { span, .. }
+        | Expr::Aggregate { span, .. } => span.start,
     }
 }

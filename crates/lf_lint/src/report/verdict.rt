@@ -13,7 +13,7 @@ pub enum Verdict {
 }
 
 impl Verdict {
-    ghost use Rattle.lf_lint.specs.Report.{is_guaranteed, is_impossible, is_unresolved, verdict_from};
+    ghost use Rattle.lf_lint.specs.Verdicts.{is_guaranteed, is_impossible, is_unresolved, verdict_from};
 
     /// What is said of a label that may be on a sample or not, and may be lacking on one or not.
     pub fn of(may_be_present: bool, may_be_absent: bool) -> Verdict

@@ -50,20 +50,6 @@ fn each_write_fails_in_turn(rt: HostRuntime) -> Result<(), Fail> {
     Ok(())
 }
 
-#[test]
-fn a_sink_may_take_any_part_of_a_piece(rt: HostRuntime) -> Result<(), Fail> {
-    let bytes = b"a report of 27 bytes in all";
-    for most in [1, 2, 26, 27, 28] {
-        let mut out = MemSink::new(rt.alloc(), 27, most)?;
-        write_whole(&mut out, bytes)?;
-        assert_eq!(rt; out.bytes(), bytes.as_slice());
-        let mut small = MemSink::new(rt.alloc(), 26, most)?;
-        assert_eq!(rt; write_whole(&mut small, bytes), Err(Failed));
-        assert_eq!(rt; small.bytes().len(), 26);
-    }
-    Ok(())
-}
-
 /// Files in memory that give one byte at a time.
 #[derive(Drop)]
 struct DrippingFiles {

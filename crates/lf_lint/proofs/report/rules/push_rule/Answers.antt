@@ -1,0 +1,22 @@
+use Rattle.std.proofs.Common.{◌≡◌, [], ◌∷◌, ◌++◌, map, ap, ◌∙◌}
+use Rattle.std.proofs.lemmas.Result.{on_ok_weaker}
+use Rattle.lf_lint.specs.Report.{label_line, lines_text, place_text, rule_line}
+use Rattle.lf_lint.specs.Verdicts.{verdict_of}
+use Rattle.lf_lint.proofs.Appends.{appended_lines}
+use Rattle.lf_lint.proofs.Spotted.{placed}
+use Rattle.lf_lint.proofs.report.rules.push_rule.Goals as goal
+
+pub returns : goal.returns
+returns c = λ name bytes names shows at_name at_expr labels said.
+    let r = c.args.rule.now in
+    let report = c.args.report.now in
+    let name_place = place_text name bytes r.name_span.start in
+    let expr_place = place_text name bytes r.expr_span.start in
+    let one : c.as_str.result.now ≡ name_place = c.as_str.ensures ∙ c.in_ok-place.ensures ∙ placed c.args.file.now name bytes r.name_span.start c.args.name_at shows at_name in
+    let two : c.as_str-3.result.now ≡ expr_place = c.as_str-3.ensures ∙ c.in_ok-place-2.ensures ∙ placed c.args.file.now name bytes r.expr_span.start c.args.expr_at shows at_expr in
+    let first : c.push_rule_line.new.report ≡ report ++ lines_text (rule_line name_place r.name ∷ []) =
+    c.in_ok-push_rule_line.ensures ∙ ap (λ p. report ++ lines_text (rule_line p c.as_str-2.result.now ∷ [])) one ∙ ap (λ n. report ++ lines_text (rule_line name_place n ∷ [])) c.as_str-2.ensures in
+    on_ok_weaker c.push_label_lines.result
+    (λ e. appended_lines report (rule_line name_place r.name ∷ []) (map (λ label. label_line expr_place label (verdict_of r label)) names) first
+    (e ∙ ap (λ p. c.push_rule_line.new.report ++ lines_text (map (λ label. label_line p label (verdict_of r label)) names)) two))
+    (c.push_label_lines.ensures names (verdict_of r) labels said)

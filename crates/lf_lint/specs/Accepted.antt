@@ -1,0 +1,126 @@
+-- The rules that are accepted of a file, or why the file is refused.
+--
+-- A file is a tree, which says rules as they stand there. The expression of each is tokens, these are a tree within the bounds of depth, and the tree has a type.
+-- A file that breaks a rule is refused with the first breach: one of the tree; else one of the rules; else one of the first expression that has any, of its
+-- tokens, its depth and syntax, or its types, in this order. Last comes an expression that isn't built yet.
+use Rattle.std.specs.Prelude.{◌≡◌, ℕ, Bool, cond, List, [], ◌∷◌, ◌++◌, length, map, slice_index}
+use Rattle.std.specs.List.{AllByRecursion, AllZip}
+use Rattle.lf_base.specs.declared.kind.Kind.{Kind}
+use Rattle.lf_base.specs.declared.kind.Kind.TheVariants.{NotBuilt}
+use Rattle.lf_base.specs.declared.place.Span.{Span}
+use Rattle.lf_ast.specs.Breaches.{Tells}
+use Rattle.lf_ast.specs.Labels.{Bytes}
+use Rattle.lf_ast.specs.Types.{HasType}
+use Rattle.lf_ast.specs.declared.expr.Expr.{Expr}
+use Rattle.lf_ast.specs.declared.expr.ExprType.{ExprType}
+use Rattle.lf_ast.specs.declared.rule.Rule.{Rule}
+use Rattle.lf_ast.specs.declared.rule.RuleLabel.{RuleLabel}
+use Rattle.lf_ast.specs.declared.rule.Template.{Template}
+use Rattle.lf_lex.specs.Tokens.{Tokens, Breaks}
+use Rattle.lf_lex.specs.declared.token.Token.{Token}
+use Rattle.lf_parse.specs.Answer.{IsExpression, Refuses}
+use Rattle.lf_parse.specs.Tree.{Tree as ExprTree, tree}
+use Rattle.lf_rules.specs.Breaches.{FirstBreak}
+use Rattle.lf_rules.specs.Rules.{IsRules}
+use Rattle.lf_rules.specs.Sources.{Setting, Source}
+use Rattle.lf_scalar.specs.Cells.{Fault, Value}
+use Rattle.lf_yaml.specs.Document.{IsTree, TreeBreaks}
+use Rattle.lf_yaml.specs.Tree.{Tree}
+use Rattle.lf_lint.specs.Built.{IsBuilt, recorded}
+
+-- ---- expressions
+
+-- the source of what follows the text of a scalar
+abbrev pub end_of : Value → ℕ
+end_of v = slice_index v.from (length v.text)
+
+-- a scalar's text is tokens, and these are an expression within the bounds, which has a type
+pub record IsExpr (v : Value) (e : Expr) : Type 0 where
+  pub tokens : List Token
+  pub are_tokens : Tokens v.from v.text tokens
+  pub expression : IsExpression tokens (tree e)
+  pub type : ExprType
+  pub has_type : HasType e type
+
+abbrev pub at : Kind → Span → Fault
+at kind span = record { kind = kind; span = span }
+
+-- what breaks the expression that is to stand in a scalar: its tokens, its depth and syntax, its types
+pub data BreaksExpr (v : Value) : Fault → Type 0 where
+  bad_tokens : {kind : Kind} {span : Span} → Breaks v.from v.text (record { kind = kind; span = span }) → BreaksExpr v (at kind span)
+  no_expression : {tokens : List Token} {kind : Kind} {span : Span} → Tokens v.from v.text tokens → Refuses tokens (end_of v) (record { kind = kind; span = span }) → BreaksExpr v (at kind span)
+  no_type : {tokens : List Token} {kind : Kind} {span : Span} (e : Expr) → Tokens v.from v.text tokens → IsExpression tokens (tree e) → Tells e (record { kind = kind; span = span }) → BreaksExpr v (at kind span)
+
+-- ---- rules
+
+abbrev pub label_of : Setting → RuleLabel
+label_of s = record { key = s.0.text; key_span = s.0.span; value = s.1.text }
+
+abbrev pub template_of : Setting → Template
+template_of s = record { text = s.1.text; from = s.1.from }
+
+-- the templates of an alert are the texts of its labels and then of its annotations; a recording rule has none
+abbrev pub templates_of : Source → List Template
+templates_of s = cond s.alert (map template_of (s.labels ++ s.annotations)) []
+
+-- the rule of a file, as it stands there, with its expression
+abbrev pub rule_of : ℕ → Source → Expr → Rule
+rule_of file s e = record { file = file; alert = s.alert; name = s.name.text; name_span = s.name.span; expr = e; expr_span = s.expr.span; labels = map label_of s.labels; templates = templates_of s }
+
+abbrev pub IsRule : ℕ → Source → Rule → Type 0
+IsRule file s r = IsExpr s.expr r.expr × (r ≡ rule_of file s r.expr)
+
+-- ---- files
+
+-- the file's tree says these rules
+abbrev pub Says : Bytes → List Source → Type 0
+Says bytes sources = (t : Tree) × IsTree bytes t × IsRules t sources
+
+-- these are the rules of the file, in its order, and each is built
+pub record IsAccepted (bytes : Bytes) (file : ℕ) (rules : List Rule) : Type 0 where
+  pub sources : List Source
+  pub says : Says bytes sources
+  pub are_rules : AllZip (IsRule file) sources rules
+  pub built : AllByRecursion (λ r. IsBuilt (recorded sources) (tree r.expr)) rules
+
+-- the first thing of a list of which one fact holds: another holds of each before it
+pub record IsFirst {X : Type 0} (before here : X → Type 0) (xs : List X) (x : X) : Type 0 where
+  pub front : List X
+  pub back : List X
+  pub list : xs ≡ front ++ x ∷ back
+  pub all_before : AllByRecursion before front
+  pub is_here : here x
+
+-- a rule's expression is one
+abbrev pub HasExpr : Source → Type 0
+HasExpr s = (e : Expr) × IsExpr s.expr e
+
+-- it is one, and built; it is one, and isn't
+abbrev pub HasBuilt : List Bytes → Source → Type 0
+HasBuilt names s = (e : Expr) × IsExpr s.expr e × IsBuilt names (tree e)
+
+abbrev pub HasUnbuilt : List Bytes → Source → Type 0
+HasUnbuilt names s = (e : Expr) × IsExpr s.expr e × (IsBuilt names (tree e) → ⊥)
+
+-- why the file is refused
+pub data RefusesFile (bytes : Bytes) : Fault → Type 0 where
+  no_tree : {f : Fault} → TreeBreaks bytes f → RefusesFile bytes f
+  no_rules : {t : Tree} {f : Fault} → IsTree bytes t → FirstBreak t f → RefusesFile bytes f
+  bad_expression : {sources : List Source} {s : Source} {f : Fault} → Says bytes sources → IsFirst HasExpr (λ s. BreaksExpr s.expr f) sources s → RefusesFile bytes f
+  not_built : {sources : List Source} {s : Source} → Says bytes sources → AllByRecursion HasExpr sources → IsFirst (HasBuilt (recorded sources)) (HasUnbuilt (recorded sources)) sources s → RefusesFile bytes (at NotBuilt s.expr.span)
+
+-- ---- what is seen of rules
+
+-- a rule without where its expression lies in memory
+pub record Seen : Type 0 where
+  pub file : ℕ
+  pub alert : Bool
+  pub name : Bytes
+  pub name_span : Span
+  pub expr : ExprTree
+  pub expr_span : Span
+  pub labels : List RuleLabel
+  pub templates : List Template
+
+abbrev pub seen : Rule → Seen
+seen r = record { file = r.file; alert = r.alert; name = r.name; name_span = r.name_span; expr = tree r.expr; expr_span = r.expr_span; labels = r.labels; templates = r.templates }
