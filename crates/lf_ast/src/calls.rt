@@ -101,7 +101,7 @@ fn names_a_label(labels: LabelEffect, k: usize) -> bool
 }
 
 /// Whether the text is a label name: a letter or `_`, and then letters, digits and `_`.
-fn is_label_name(text: &str) -> bool
+pub fn is_label_name(text: &str) -> bool
     ensures { result ≡ is_label_name text.now }
 {
     match text.as_bytes() {

@@ -15,10 +15,13 @@ mod rule;
 mod typing;
 mod verdict;
 
+pub use calls::is_label_name;
 pub use expr::{Agg, Expr, ExprType, Group, Grouping, MatchOp, Matcher, Matching, Name, Op, Sight};
+pub use fault::{Fault, first, when};
 pub use functions::{Function, Further, LabelEffect};
 pub use label_set::LabelSet;
 pub use laws::one_type;
+pub use parts::{span_of, string_of};
 pub use rule::{Rule, RuleLabel, Template};
 pub use typing::type_of;
 pub use verdict::{Finding, RuleVerdicts, Verdict, World};

@@ -3,7 +3,7 @@ use Rattle.std.proofs.Common.{◌≡◌, ◌<◌, ◌≤◌, ℕ, ◌⊎◌, inl
 use Rattle.std.specs.Prelude.{slice_index_or}
 use Rattle.std.specs.List.{Contains}
 use Rattle.lf_base.specs.declared.kind.Kind.{Kind}
-use Rattle.lf_base.specs.declared.kind.Kind.TheVariants.{BadUtf8, BadChar, BadEscape, OpenQuote, BadHeader, BadIndent, LeftOut, DoubleKey, NotANode, TooDeep, WrongKind, UnknownKey, MissingKey, BothKinds, BadName, BadLimit, DoubleGroup, NotForRecord, BadByte, OpenString, BadNumber, BadDuration, Syntax, WrongType, UnknownName, WrongCount, BadModifier, BadLabel, BadPattern, BadSelector, OpenAction, BadAction, NotBuilt}
+use Rattle.lf_base.specs.declared.kind.Kind.TheVariants.{BadUtf8, BadChar, BadEscape, OpenQuote, BadHeader, BadIndent, LeftOut, DoubleKey, NotANode, TooDeep, WrongKind, UnknownKey, MissingKey, BothKinds, BadName, BadLimit, DoubleGroup, NotForRecord, BadByte, OpenString, BadNumber, BadDuration, Syntax, WrongType, UnknownName, WrongCount, BadModifier, BadLabel, BadPattern, BadSelector, OpenAction, BadAction}
 use Rattle.lf_scalar.specs.Cells.{Fault}
 use Rattle.lf_yaml.specs.Tree.{Tree}
 use Rattle.lf_rules.specs.Sources.{Source}
@@ -19,7 +19,7 @@ use Rattle.lf_rules.proofs.Times.{time_decides, limit_decides}
 table : List Kind
 table =
     BadUtf8 ∷ BadChar ∷ BadEscape ∷ OpenQuote ∷ BadHeader ∷ BadIndent ∷ LeftOut ∷ DoubleKey ∷ NotANode ∷ TooDeep ∷ WrongKind ∷ UnknownKey ∷ MissingKey ∷ BothKinds ∷ BadName ∷ BadLimit
-    ∷ DoubleGroup ∷ NotForRecord ∷ BadByte ∷ OpenString ∷ BadNumber ∷ BadDuration ∷ Syntax ∷ WrongType ∷ UnknownName ∷ WrongCount ∷ BadModifier ∷ BadLabel ∷ BadPattern ∷ BadSelector ∷ OpenAction ∷ BadAction ∷ NotBuilt ∷ []
+    ∷ DoubleGroup ∷ NotForRecord ∷ BadByte ∷ OpenString ∷ BadNumber ∷ BadDuration ∷ Syntax ∷ WrongType ∷ UnknownName ∷ WrongCount ∷ BadModifier ∷ BadLabel ∷ BadPattern ∷ BadSelector ∷ OpenAction ∷ BadAction ∷ []
 
 ranked : (k : Kind) → slice_index_or table (rank k) BadUtf8 ≡ k
 unfolding table
@@ -55,7 +55,6 @@ ranked BadPattern = refl
 ranked BadSelector = refl
 ranked OpenAction = refl
 ranked BadAction = refl
-ranked NotBuilt = refl
 
 same_kind : (k m : Kind) → rank k ≡ rank m → k ≡ m
 same_kind k m e = sym (ranked k) ∙ ap (λ n. slice_index_or table n BadUtf8) e ∙ ranked m

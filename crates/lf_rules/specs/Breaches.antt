@@ -2,7 +2,7 @@
 use Rattle.std.specs.Prelude.{◌≡◌, ◌≢◌, ℕ, Bool, true, false, ◌<◌, ◌≤◌, ◌+◌, min, List, [], ◌∷◌, ◌++◌, Some, None, codes, ◌⊎◌, slice_get}
 use Rattle.std.specs.List.{Contains}
 use Rattle.lf_base.specs.declared.kind.Kind.{Kind}
-use Rattle.lf_base.specs.declared.kind.Kind.TheVariants.{BadUtf8, BadChar, BadEscape, OpenQuote, BadHeader, BadIndent, LeftOut, DoubleKey, NotANode, TooDeep, WrongKind, UnknownKey, MissingKey, BothKinds, BadName, BadLimit, DoubleGroup, NotForRecord, BadByte, OpenString, BadNumber, BadDuration, Syntax, WrongType, UnknownName, WrongCount, BadModifier, BadLabel, BadPattern, BadSelector, OpenAction, BadAction, NotBuilt}
+use Rattle.lf_base.specs.declared.kind.Kind.TheVariants.{BadUtf8, BadChar, BadEscape, OpenQuote, BadHeader, BadIndent, LeftOut, DoubleKey, NotANode, TooDeep, WrongKind, UnknownKey, MissingKey, BothKinds, BadName, BadLimit, DoubleGroup, NotForRecord, BadByte, OpenString, BadNumber, BadDuration, Syntax, WrongType, UnknownName, WrongCount, BadModifier, BadLabel, BadPattern, BadSelector, OpenAction, BadAction}
 use Rattle.lf_base.specs.declared.place.Span.{Span}
 use Rattle.lf_scalar.specs.Cells.{Value, Fault, span}
 use Rattle.lf_yaml.specs.Tree.{Tree, leaf, sequence, mapping, Items, Entries}
@@ -157,7 +157,6 @@ rank BadPattern = 28
 rank BadSelector = 29
 rank OpenAction = 30
 rank BadAction = 31
-rank NotBuilt = 32
 
 -- no fault stands before this one: none starts earlier, none that starts there is of an earlier kind, and none of this kind there is shorter
 abbrev pub NotAfter : Fault → Fault → Type 0

@@ -9,7 +9,6 @@ fn kinds_are_printed(rt: HostRuntime) {
         (Kind::TooDeep, "TooDeep", "nested too deep"),
         (Kind::OpenAction, "OpenAction", "the template can't be read"),
         (Kind::BadAction, "BadAction", "the template can't be read"),
-        (Kind::NotBuilt, "NotBuilt", "this form is not built yet"),
     ];
     for (kind, name, text) in rows {
         assert_eq!(rt; kind.name(), name);
