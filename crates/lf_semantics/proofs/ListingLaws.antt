@@ -105,7 +105,7 @@ at_index [] k h = absurd (omega arith)
 at_index (x ∷ xs) zero h = here x xs
 at_index (x ∷ xs) (suc k) h = behind x xs (get_or xs k []) (at_index xs k (omega arith))
 
-apart : (xs : List Bytes) → AreDistinct xs → StandOnce xs
+pub apart : (xs : List Bytes) → AreDistinct xs → StandOnce xs
 apart [] d k l h b = absurd (omega arith)
 apart (x ∷ xs) d k zero h b = absurd (omega arith)
 apart (x ∷ xs) d zero (suc l) h b = λ e. let P : Bytes → Type 0 = λ z. Contains xs z in d.0 (subst P (sym e) (at_index xs l (omega arith)))

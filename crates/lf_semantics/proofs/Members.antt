@@ -1,5 +1,5 @@
 -- Members of lists, and texts that are told apart.
-use Rattle.std.proofs.Common.{◌≡◌, ◌≢◌, ℕ, zero, suc, ◌<◌, Bool, true, false, ◌||◌, List, [], ◌∷◌, length, get_or, ◌⊎◌, inl, inr, refl, arith}
+use Rattle.std.proofs.Common.{◌≡◌, ◌≢◌, ℕ, zero, suc, ◌<◌, Bool, true, false, ◌||◌, List, [], ◌∷◌, map, length, get_or, ◌⊎◌, inl, inr, refl, sym, arith}
 use Rattle.std.specs.List.{Contains}
 use Rattle.std.specs.Str.{bytes_eq}
 use Rattle.std.proofs.lemmas.Slice.Eq.{bytes_eq-Decides}
@@ -37,3 +37,11 @@ other_false x t h = not_true (bytes_eq x t) (λ e. h (true_same x t e))
 pub or_cases : (a b : Bool) → (a || b) ≡ true → (a ≡ true) ⊎ (b ≡ true)
 or_cases true b e = inl refl
 or_cases false b e = inr e
+
+-- what a list becomes under a function has no other members than what its members become
+pub map_member : {X Y : Type 0} (f : X → Y) (xs : List X) (y : Y) → Contains (map f xs) y → (x : X) × Contains xs x × (y ≡ f x)
+map_member f [] y c = absurd (none_in y c)
+map_member f (x ∷ xs) y c = elim (first_or_behind (f x) (map f xs) y c) [
+  | inl e ↦ (x, here x xs, sym e)
+  | inr d ↦ let from = map_member f xs y d in (from.0, behind x xs from.0 from.1, from.2)
+]

@@ -20,10 +20,9 @@ use Rattle.lf_semantics.proofs.GivenTexts.{wide_gives_texts}
 use Rattle.lf_semantics.proofs.Kept.{with_label_has_texts}
 use Rattle.lf_semantics.proofs.LabelTexts.{value-with_label}
 use Rattle.lf_semantics.proofs.ListingLaws.{of_first_seen}
-use Rattle.lf_semantics.proofs.Members.{behind, first_or_behind, here, none_in, other_false, same_true, true_same}
+use Rattle.lf_semantics.proofs.Members.{behind, first_or_behind, here, map_member, none_in, other_false, same_true, true_same}
 use Rattle.lf_semantics.proofs.Places.{eqb-same, metric_listed}
 use Rattle.lf_semantics.proofs.RowLaws.{shape_nothing, shape_replaced}
-use Rattle.lf_semantics.proofs.Sets.{map_member}
 use Rattle.lf_semantics.proofs.Soundness.{shape_of_row, sound}
 
 module _ (u : Listing) (p : IsListing u) where

@@ -84,7 +84,7 @@ any_at (x ∷ xs) zero h = rw h refl
 any_at (true ∷ xs) (suc i) h = refl
 any_at (false ∷ xs) (suc i) h = any_at xs i h
 
-live : (row : Sets) → ((l : ℕ) → l < length row → (c : ℕ) × (holds row l c ≡ true)) → is_live row ≡ true
+pub live : (row : Sets) → ((l : ℕ) → l < length row → (c : ℕ) × (holds row l c ≡ true)) → is_live row ≡ true
 live [] h = refl
 live (set ∷ row) h =
     let first = h 0 (omega arith) in

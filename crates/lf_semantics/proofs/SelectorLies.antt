@@ -14,9 +14,8 @@ use Rattle.lf_pattern.specs.Scan.{alternatives_of}
 use Rattle.lf_semantics.specs.ClassRows.{HasShape, Lies, Sets, full, nothing, replaced, union}
 use Rattle.lf_semantics.specs.Environments.{Admits, IsEnvironment, IsKnown, IsRow}
 use Rattle.lf_semantics.specs.Listing.{Listing, IsListing, class_of, label_of, other_class}
-use Rattle.lf_semantics.specs.Passing.{HasName, PassesEach, passes}
-use Rattle.lf_semantics.specs.RowTable.{Environment, first_equal_name, is_metric_label, is_plain, is_recorded, passes_class, passes_matchers, passes_other, row_named, row_or_series, scraped_row, seen_row, selected_name, selector_row, series_row, text_of, with_recorded}
-use Rattle.lf_semantics.specs.Strings.{is_equal}
+use Rattle.lf_semantics.specs.Passing.{HasName, PassesEach, first_equal_name, is_equal, is_plain, passes, passes_other, selected_name}
+use Rattle.lf_semantics.specs.RowTable.{Environment, is_metric_label, is_recorded, passes_class, passes_matchers, row_named, row_or_series, scraped_row, seen_row, selector_row, series_row, text_of, with_recorded}
 use Rattle.lf_semantics.specs.Texts.{metric, value_of}
 use Rattle.lf_semantics.specs.Walk.{alternatives_or_samples, matcher_texts, matchers_met, pattern_texts}
 use Rattle.lf_semantics.proofs.Members.{or_cases, other_false, true_same}
@@ -57,11 +56,11 @@ module _ (u : Listing) where
   not_own : (l : ℕ) (text : Bytes) → IsOther l text → class_of u l text < other_class u l → ⊥
   not_own l text other own = absurd (grind (arith, nat_tests))
 
-  pub plain_not_other : (l : ℕ) (value text : Bytes) → AreOwn l (pattern_texts value) → IsOther l text → matches value text ≡ true → not (is_plain u value) ≡ true
+  pub plain_not_other : (l : ℕ) (value text : Bytes) → AreOwn l (pattern_texts value) → IsOther l text → matches value text ≡ true → not (is_plain value) ≡ true
   plain_not_other l value text own other h =
-      not_plain (is_plain u value) (λ plain. not_own l text other (plain_within value text (alternatives_of value) refl plain h (λ t. class_of u l t < other_class u l) own))
+      not_plain (is_plain value) (λ plain. not_own l text other (plain_within value text (alternatives_of value) refl plain h (λ t. class_of u l t < other_class u l) own))
 
-  passes_any_other : (op : MatchOp) (l : ℕ) (value text : Bytes) → AreOwn l (matcher_texts op value) → IsOther l text → passes op value text ≡ true → passes_other u op value ≡ true
+  passes_any_other : (op : MatchOp) (l : ℕ) (value text : Bytes) → AreOwn l (matcher_texts op value) → IsOther l text → passes op value text ≡ true → passes_other op value ≡ true
   passes_any_other Equal l value text own other h =
       let P : Bytes → Type 0 = λ t. class_of u l t < other_class u l in
       absurd (not_own l text other (subst P (sym (true_same text value h)) own.0))
@@ -73,7 +72,7 @@ module _ (u : Listing) where
   pub class_passes : (op : MatchOp) (l : ℕ) (value text : Bytes) → AreOwn l (matcher_texts op value) → passes op value text ≡ true → passes_class u op value l (class_of u l text) ≡ true
   class_passes op l value text own h = by (nat_lt (class_of u l text) (other_class u l)) refl
     where
-      by : (b : Bool) → nat_lt (class_of u l text) (other_class u l) ≡ b → cond (not b) (passes_other u op value) (passes op value (text_of u l (class_of u l text))) ≡ true
+      by : (b : Bool) → nat_lt (class_of u l text) (other_class u l) ≡ b → cond (not b) (passes_other op value) (passes op value (text_of u l (class_of u l text))) ≡ true
       by true e = let b : class_of u l text < other_class u l = grind (arith, nat_tests) in ap (passes op value) (text_at_class u l text b) ∙ h
       by false e = passes_any_other op l value text own e h
 
@@ -110,12 +109,12 @@ first_name_by m rest s n true e h k f = says m s e h ∙ some_same m.value n f
 first_name_by m rest s n false e h k f = k f
 
 module _ (u : Listing) where
-  first_name_is : (matchers : List Matcher) (s : Labels) (n : Bytes) → PassesEach matchers s → first_equal_name u matchers ≡ Some n → value_of s metric ≡ n
+  first_name_is : (matchers : List Matcher) (s : Labels) (n : Bytes) → PassesEach matchers s → first_equal_name matchers ≡ Some n → value_of s metric ≡ n
   first_name_is [] s n h e = absurd (cc)
-  first_name_is (m ∷ matchers) s n h e = first_name_by m (first_equal_name u matchers) s n _ refl h.0 (first_name_is matchers s n h.1) e
+  first_name_is (m ∷ matchers) s n h e = first_name_by m (first_equal_name matchers) s n _ refl h.0 (first_name_is matchers s n h.1) e
 
   -- what a selector sees has the name that it says
-  selected_name_is : (name : Option Bytes) (matchers : List Matcher) (s : Labels) (n : Bytes) → HasName name s → PassesEach matchers s → selected_name u name matchers ≡ Some n → value_of s metric ≡ n
+  selected_name_is : (name : Option Bytes) (matchers : List Matcher) (s : Labels) (n : Bytes) → HasName name s → PassesEach matchers s → selected_name name matchers ≡ Some n → value_of s metric ≡ n
   selected_name_is None matchers s n h k e = first_name_is matchers s n k e
   selected_name_is (Some m) matchers s n h k e = h ∙ some_same m n e
 
@@ -137,10 +136,10 @@ module _ (u : Listing) (p : IsListing u) (env : Environment) (ok : IsEnvironment
     | false ↦ shape_replaced (is_metric_label u) (λ label class. eqb class (class_of u label name)) (full u) ∙ shape_full u
   ]
 
-  shape_scraped : HasShape u (scraped_row u env)
+  pub shape_scraped : HasShape u (scraped_row u env)
   shape_scraped = shape_replaced (is_metric_label u) (λ label class. not (eqb class 0) && not (is_recorded u env label class)) (full u) ∙ shape_full u
 
-  shape_with_recorded : (row : Sets) (later : Environment) → HasShape u row → AllByRecursion (λ entry. IsRow u entry.1) later → HasShape u (with_recorded u later row)
+  pub shape_with_recorded : (row : Sets) (later : Environment) → HasShape u row → AllByRecursion (λ entry. IsRow u entry.1) later → HasShape u (with_recorded u later row)
   shape_with_recorded row [] shape rows = shape
   shape_with_recorded row (entry ∷ later) shape rows = shape_union u (with_recorded u later row) entry.1 (shape_with_recorded row later shape rows.1) rows.0.0
 
@@ -153,12 +152,12 @@ module _ (u : Listing) (p : IsListing u) (env : Environment) (ok : IsEnvironment
       by true e rest = let P : Sets → Type 0 = λ x. HasShape u x in subst P (some_row entry.1 row e) rows.0.0
       by false e rest = rest e
 
-  shape_seen : (o : Option Bytes) → HasShape u (seen_row u env o)
+  pub shape_seen : (o : Option Bytes) → HasShape u (seen_row u env o)
   shape_seen (Some n) = shape_named env n (row_named env n) refl ok.rows
   shape_seen None = shape_with_recorded (scraped_row u env) env shape_scraped ok.rows
 
   pub shape_selector : (name : Option Bytes) (matchers : List Matcher) → HasShape u (selector_row u env name matchers)
-  shape_selector name matchers = shape_narrowed (passes_matchers u matchers) (seen_row u env (selected_name u name matchers)) ∙ shape_seen (selected_name u name matchers)
+  shape_selector name matchers = shape_narrowed (passes_matchers u matchers) (seen_row u env (selected_name name matchers)) ∙ shape_seen (selected_name name matchers)
 
   module _ (S N : List Labels) (admits : Admits u env S N) where
     -- a series in the row of its name
@@ -245,5 +244,5 @@ module _ (u : Listing) (p : IsListing u) (env : Environment) (ok : IsEnvironment
     pub lies_selector : (name : Option Bytes) (matchers : List Matcher) (s : Labels) → AllByRecursion (IsKnown u) (matchers_met matchers) → Contains S s ⊎ Contains N s → HasName name s → PassesEach matchers s
         → Lies u (selector_row u env name matchers) s
     lies_selector name matchers s known c h k =
-        lies_narrowed u p (passes_matchers u matchers) (seen_row u env (selected_name u name matchers)) s (shape_seen (selected_name u name matchers)) (λ label. each_passes u matchers s label known k)
-        (lies_seen s (selected_name u name matchers) (λ n e. selected_name_is u name matchers s n h k e) c)
+        lies_narrowed u p (passes_matchers u matchers) (seen_row u env (selected_name name matchers)) s (shape_seen (selected_name name matchers)) (λ label. each_passes u matchers s label known k)
+        (lies_seen s (selected_name name matchers) (λ n e. selected_name_is u name matchers s n h k e) c)

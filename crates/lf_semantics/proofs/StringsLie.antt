@@ -10,8 +10,9 @@ use Rattle.lf_semantics.specs.ClassRows.{HasShape, HoldsText, Lies, Sets, holds}
 use Rattle.lf_semantics.specs.Environments.{IsKnown}
 use Rattle.lf_semantics.specs.Evaluation.{IsJoined, IsReplaced, source_value}
 use Rattle.lf_semantics.specs.Listing.{Listing, IsListing, class_of, label_of, other_class}
-use Rattle.lf_semantics.specs.RowTable.{has_class, is_expansion, is_join, is_label, is_plain, joining_row, may_be_absent, may_be_present, may_fail, may_match, replacing_row, set_at, shows, source_set, text_of}
-use Rattle.lf_semantics.specs.Strings.{Expands, Joining, Replacing, joined_by}
+use Rattle.lf_semantics.specs.RowTable.{has_class, is_expansion, is_join, is_label, joining_row, may_be_absent, may_be_present, may_fail, may_match, replacing_row, set_at, source_set, text_of}
+use Rattle.lf_semantics.specs.Passing.{is_plain}
+use Rattle.lf_semantics.specs.Strings.{Expands, Joining, Replacing, joined_by, shows}
 use Rattle.lf_semantics.specs.Texts.{value_of}
 use Rattle.lf_semantics.specs.Walk.{joining_met, met, pattern_texts, replacing_met}
 use Rattle.lf_semantics.proofs.EffectLies.{has_class_at, lies_with_label}
@@ -117,14 +118,14 @@ module _ (u : Listing) (p : IsListing u) (row : Sets) (s : Labels) (shape : HasS
     abbrev joined : Bytes
     joined = joined_by j.separator (values j.sources)
 
-    shows_some : shows u j ≡ true → joined ≢ []
+    shows_some : shows j ≡ true → joined ≢ []
     shows_some e =
         let k = both_of (not (bytes_eq j.separator [])) (nat_lt 1 (length j.sources)) e in
         let some : j.separator ≢ [] = λ none. true_false (sym k.0 ∙ ap not (same_true j.separator [] none)) in
         let two : 1 < length j.sources = grind (arith, nat_tests, k.1) in
         joined_shows j.separator (values j.sources) some (omega (arith, two, length_values j.sources))
 
-    shows_none : shows u j ≡ false → (j.separator ≡ []) ⊎ (length (values j.sources) ≤ 1)
+    shows_none : shows j ≡ false → (j.separator ≡ []) ⊎ (length (values j.sources) ≤ 1)
     shows_none e = by (bytes_eq j.separator []) refl e
       where
         by : (b : Bool) → bytes_eq j.separator [] ≡ b → (not b && nat_lt 1 (length j.sources)) ≡ false → (j.separator ≡ []) ⊎ (length (values j.sources) ≤ 1)
@@ -136,25 +137,25 @@ module _ (u : Listing) (p : IsListing u) (row : Sets) (s : Labels) (shape : HasS
     not_true_is false e = refl
 
     is_join_of : is_join u j row (class_of u (label_of u j.target) joined) ≡ true
-    is_join_of = by (not (shows u j) && list_all (λ source. not (may_be_present u row source)) j.sources) refl
+    is_join_of = by (not (shows j) && list_all (λ source. not (may_be_present u row source)) j.sources) refl
       where
         class : ℕ
         class = class_of u (label_of u j.target) (joined_by j.separator (values j.sources))
 
-        second : (b : Bool) → (shows u j || list_any (λ source. not (may_be_absent u row source)) j.sources) ≡ b
+        second : (b : Bool) → (shows j || list_any (λ source. not (may_be_absent u row source)) j.sources) ≡ b
             → cond b (not (eqb (class_of u (label_of u j.target) (joined_by j.separator (values j.sources))) 0)) true ≡ true
         second false e = refl
-        second true e = ap not (class_of_some u (label_of u j.target) (joined_by j.separator (values j.sources)) (elim (or_cases (shows u j) _ e) [
+        second true e = ap not (class_of_some u (label_of u j.target) (joined_by j.separator (values j.sources)) (elim (or_cases (shows j) _ e) [
           | inl f ↦ shows_some f
           | inr f ↦ joined_some j.separator j.sources f
         ]))
 
-        by : (b : Bool) → (not (shows u j) && list_all (λ source. not (may_be_present u row source)) j.sources) ≡ b
+        by : (b : Bool) → (not (shows j) && list_all (λ source. not (may_be_present u row source)) j.sources) ≡ b
             → cond b (eqb (class_of u (label_of u j.target) (joined_by j.separator (values j.sources))) 0)
-            (cond (shows u j || list_any (λ source. not (may_be_absent u row source)) j.sources) (not (eqb (class_of u (label_of u j.target) (joined_by j.separator (values j.sources))) 0)) true) ≡ true
+            (cond (shows j || list_any (λ source. not (may_be_absent u row source)) j.sources) (not (eqb (class_of u (label_of u j.target) (joined_by j.separator (values j.sources))) 0)) true) ≡ true
         by true e =
-            let k = both_of (not (shows u j)) _ e in
-            let none : joined_by j.separator (values j.sources) ≡ [] = joined_nothing j.separator (values j.sources) (shows_none (not_true_is (shows u j) k.0)) (all_none j.sources k.1) in
+            let k = both_of (not (shows j)) _ e in
+            let none : joined_by j.separator (values j.sources) ≡ [] = joined_nothing j.separator (values j.sources) (shows_none (not_true_is (shows j) k.0)) (all_none j.sources k.1) in
             ap (λ t. eqb (class_of u (label_of u j.target) t) 0) none
         by false e = second _ refl
 
@@ -185,7 +186,7 @@ module _ (u : Listing) (p : IsListing u) (row : Sets) (s : Labels) (shape : HasS
 
     -- a class of the source may match where its text does, and may fail where it doesn't
     text_matches : (v : Bytes) (b : Bool) → nat_lt (class_of u source v) (other_class u source) ≡ b → is_label_name r.source ≡ true → matches r.pattern v ≡ true
-        → cond (not b) (not (is_plain u r.pattern)) (matches r.pattern (text_of u source (class_of u source v))) ≡ true
+        → cond (not b) (not (is_plain r.pattern)) (matches r.pattern (text_of u source (class_of u source v))) ≡ true
     text_matches v true e label h = let b : class_of u source v < other_class u source = grind (arith, nat_tests) in ap (matches r.pattern) (text_at_class u source v b) ∙ h
     text_matches v false e label h = plain_not_other u source r.pattern v (own_texts label) e h
 

@@ -18,7 +18,7 @@ use Rattle.lf_semantics.proofs.Rolls.{beside, type-roll}
 IsForm : Expr → Type 0
 IsForm e = (t : ExprType) → HasType e t → type_by_form e ≡ t
 
-gives_vector : (op : Agg) → (aggregation op).gives ≡ Vector
+pub gives_vector : (op : Agg) → (aggregation op).gives ≡ Vector
 gives_vector Sum = refl
 gives_vector Min = refl
 gives_vector Max = refl

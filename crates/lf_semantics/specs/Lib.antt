@@ -7,11 +7,7 @@ pub mod Parts
 pub mod Passing
 pub mod PatternBreaches
 pub mod RowTable
-pub mod Rows
-pub mod Runs
 pub mod Strings
-pub mod Table
 pub mod Texts
 pub mod Walk
-pub mod Wide
 pub mod Worlds

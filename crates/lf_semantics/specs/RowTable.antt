@@ -1,7 +1,7 @@
 -- The row of an expression, by the table of constructs: for each label the classes that the evaluation allows when the labels of the operands take classes from their
 -- sets independently of one another, but for choices about 'any other text' at patterns, and at `label_replace` and `label_join`, that are told there. By these a row may
 -- hold more classes than are so, and never fewer.
-use Rattle.std.specs.Prelude.{ℕ, nat_lt, Bool, true, false, not, ◌&&◌, ◌||◌, cond, eqb, List, [], ◌∷◌, map, length, Option, Some, None, codes, is_some, option_and_then, slice_get, slice_index_or}
+use Rattle.std.specs.Prelude.{ℕ, nat_lt, Bool, true, false, not, ◌&&◌, ◌||◌, cond, eqb, List, [], ◌∷◌, map, Option, Some, None, codes, option_and_then, slice_get, slice_index_or}
 use Rattle.std.specs.List.{filter, list_all, list_any}
 use Rattle.std.specs.Str.{bytes_eq}
 use Rattle.lf_ast.specs.Functions.{Signature, aggregation, function_named}
@@ -17,20 +17,18 @@ use Rattle.lf_ast.specs.declared.expr.Grouping.TheVariants.{None as Ungrouped, B
 use Rattle.lf_ast.specs.declared.expr.Matcher.{Matcher}
 use Rattle.lf_ast.specs.declared.expr.Matching.{Matching}
 use Rattle.lf_ast.specs.declared.expr.MatchOp.{MatchOp}
-use Rattle.lf_ast.specs.declared.expr.MatchOp.TheVariants.{Equal, NotEqual, Matches, NotMatches}
 use Rattle.lf_ast.specs.declared.expr.Name.{Name}
 use Rattle.lf_ast.specs.declared.expr.Op.{Op}
 use Rattle.lf_ast.specs.declared.expr.Op.TheVariants.{And, Or, Unless}
 use Rattle.lf_ast.specs.declared.functions.LabelEffect.{LabelEffect}
 use Rattle.lf_ast.specs.declared.functions.LabelEffect.TheVariants.{Maps, Keeps, Groups, CountValues, Date, Absent, LabelReplace, LabelJoin, HistogramQuantile, Bare}
 use Rattle.lf_pattern.specs.Matching.{matches}
-use Rattle.lf_pattern.specs.Scan.{alternatives_of}
 use Rattle.lf_semantics.specs.ClassRows.{Sets, full, holds, indexed_from, is_live, narrowed, nothing, only_empty, replaced, union}
 use Rattle.lf_semantics.specs.Grouped.{is_arithmetic, is_filter, may_be_lacked}
 use Rattle.lf_semantics.specs.Listing.{Listing, class_of, class_texts, label_of, other_class}
 use Rattle.lf_semantics.specs.Parts.{Sought, is_scalar_part, operand_place, sought_by, text_at, texts_of}
-use Rattle.lf_semantics.specs.Passing.{passes}
-use Rattle.lf_semantics.specs.Strings.{Joining, Replacing, absent_texts, has_dollar, is_equal, joining, replacing}
+use Rattle.lf_semantics.specs.Passing.{is_plain, passes, passes_other, selected_name}
+use Rattle.lf_semantics.specs.Strings.{Joining, Replacing, absent_texts, has_dollar, joining, replacing, shows}
 use Rattle.lf_semantics.specs.Texts.{metric}
 
 -- the row of each recorded name
@@ -69,31 +67,12 @@ module _ (u : Listing) where
 
   -- selectors
 
-  abbrev pub is_plain : Bytes → Bool
-  is_plain pattern = is_some (alternatives_of pattern)
-
-  -- 'any other text' fails `=` and a plain `=~`, and passes `!=`, `!~` and every pattern that isn't plain
-  abbrev pub passes_other : MatchOp → Bytes → Bool
-  passes_other Equal value = false
-  passes_other NotEqual value = true
-  passes_other Matches value = not (is_plain value)
-  passes_other NotMatches value = true
-
   abbrev pub passes_class : MatchOp → Bytes → ℕ → ℕ → Bool
   passes_class op value label class = cond (is_other label class) (passes_other op value) (passes op value (text_of label class))
 
   -- a class of a label passes the matchers on this label
   abbrev pub passes_matchers : List Matcher → ℕ → ℕ → Bool
   passes_matchers matchers label class = list_all (λ m. not (is_label m.label label) || passes_class m.op m.value label class) matchers
-
-  -- the name before the braces, or that of the first `=` on the metric name
-  abbrev pub first_equal_name : List Matcher → Option Bytes
-  first_equal_name [] = None
-  first_equal_name (m ∷ matchers) = cond (is_equal m.op && bytes_eq m.label metric) (Some m.value) (first_equal_name matchers)
-
-  abbrev pub selected_name : Option Bytes → List Matcher → Option Bytes
-  selected_name (Some name) matchers = Some name
-  selected_name None matchers = first_equal_name matchers
 
   -- the series of a name that no rule records: every class of each other label. No series has the empty name
   abbrev pub series_row : Bytes → Sets
@@ -178,10 +157,6 @@ module _ (u : Listing) where
       replaced (is_label p.target)
       (λ label class. (has_class (may_match p.pattern source) set && is_expansion p.replacement label class) || (has_class (may_fail p.pattern source) set && holds row label class))
       row
-
-  -- a separator shows where there is one between two sources
-  abbrev pub shows : Joining → Bool
-  shows p = not (bytes_eq p.separator []) && nat_lt 1 (length p.sources)
 
   abbrev pub may_be_absent : Sets → Bytes → Bool
   may_be_absent row name = holds row (label_of u name) 0

@@ -1,22 +1,16 @@
 -- What functions of labels do by their strings: `absent`, `label_replace` and `label_join`.
-use Rattle.std.specs.Prelude.{◌≡◌, ◌⊎◌, ◌==◌, Bool, true, false, cond, List, [], ◌∷◌, ◌++◌, map, drop}
+use Rattle.std.specs.Prelude.{◌≡◌, ◌⊎◌, ◌==◌, nat_lt, Bool, true, false, not, ◌&&◌, cond, List, [], ◌∷◌, ◌++◌, map, length, drop}
+use Rattle.std.specs.Str.{bytes_eq}
 use Rattle.std.specs.List.{filter, flat_map, list_any}
 use Rattle.lf_ast.specs.Labels.{Bytes}
 use Rattle.lf_ast.specs.declared.expr.Matcher.{Matcher}
-use Rattle.lf_ast.specs.declared.expr.MatchOp.{MatchOp}
-use Rattle.lf_ast.specs.declared.expr.MatchOp.TheVariants.{Equal, NotEqual, Matches, NotMatches}
 use Rattle.lf_pattern.specs.Matching.{group_text}
 use Rattle.lf_pattern.specs.Replacement.{HasPieces, IsPlainReplacement, piece_text}
 use Rattle.lf_pattern.specs.declared.replacement.Piece.{Piece}
 use Rattle.lf_semantics.specs.Parts.{text_at}
+use Rattle.lf_semantics.specs.Passing.{is_equal}
 
 -- `absent`
-
-abbrev pub is_equal : MatchOp → Bool
-is_equal Equal = true
-is_equal NotEqual = false
-is_equal Matches = false
-is_equal NotMatches = false
 
 -- the texts of the `=` matchers
 abbrev pub equal_texts : List Matcher → List Bytes
@@ -59,6 +53,10 @@ pub record Joining : Type 0 where
 
 abbrev pub joining : List Bytes → Joining
 joining texts = record { target = text_at texts 1; separator = text_at texts 2; sources = drop 3 texts }
+
+-- a separator shows where there is one between two sources
+abbrev pub shows : Joining → Bool
+shows p = not (bytes_eq p.separator []) && nat_lt 1 (length p.sources)
 
 -- texts with a separator between each two
 abbrev pub joined_by : Bytes → List Bytes → Bytes
