@@ -1,0 +1,15 @@
+pub mod Changes
+pub mod Covered
+pub mod Cutting
+pub mod FaultsFound
+pub mod Free
+pub mod Keys
+pub mod LabelChanges
+pub mod Listed
+pub mod Places
+pub mod Puts
+pub mod Seen
+pub mod Unread
+pub mod Walks
+pub mod WordBits
+pub mod WordLists

@@ -1,0 +1,5 @@
+pub mod Bits
+pub mod Checking
+pub mod Cut
+pub mod Limits
+pub mod Meetings

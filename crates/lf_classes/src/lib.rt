@@ -1,0 +1,31 @@
+//! The labels that rules meet, the classes of each, and rows: for each label a set of its classes.
+#![tactic(auto)]
+
+mod bits;
+mod checking;
+mod class_error;
+mod classes;
+mod laws;
+mod meetings;
+mod naming;
+mod passing;
+mod patterns;
+mod range;
+mod row;
+mod shape;
+mod strings;
+#[cfg(test)]
+mod tests;
+mod text_set;
+mod universe;
+mod walking;
+mod word;
+mod words;
+
+pub use checking::check_patterns;
+pub use class_error::ClassError;
+pub use laws::one_breach;
+pub use passing::passes;
+pub use row::Row;
+pub use text_set::TextSet;
+pub use universe::Universe;
