@@ -1,3 +1,12 @@
-pub mod Asking
-pub mod Kept
-pub mod Unknown
+pub mod Below
+pub mod ClassSets
+pub mod Entries
+pub mod Formed
+pub mod HasClass
+pub mod Layered
+pub mod MatcherSets
+pub mod Narrowed
+pub mod PatternSets
+pub mod Selected
+pub mod Sides
+pub mod SoughtSets

@@ -1,2 +1,4 @@
-pub mod Asked
-pub mod Names
+pub mod Absence
+pub mod Chosen
+pub mod ClassSets
+pub mod Raising

@@ -1,14 +1,24 @@
-//! Which labels the samples of an expression may have.
+//! The row of an expression: for each label of a universe the classes that it may have on a sample.
 #![tactic(auto)]
 
-mod asked;
-mod name_set;
-mod plain_row;
+mod absence;
+mod counting;
+mod effects;
+mod env;
+mod given;
+mod grouping;
+mod joining;
+mod labels;
+mod matching;
+mod narrowing;
+mod operating;
+mod operators;
+mod replacing;
 mod rows;
-
-pub use name_set::NameSet;
-pub use plain_row::PlainRow;
-pub use rows::flow;
-
+mod selecting;
+mod strings;
 #[cfg(test)]
 mod tests;
+
+pub use env::Env;
+pub use rows::flow;

@@ -1,0 +1,9 @@
+use Rattle.std.proofs.Common.{map, sym, ◌∙◌, ap}
+use Rattle.lf_ast.specs.Labels.{Bytes}
+use Rattle.lf_semantics.specs.ClassRows.{Sets}
+use Rattle.lf_flow.proofs.Entries.{each_row}
+use Rattle.lf_flow.proofs.env.Env.rows.Goals as goal
+
+pub returns : goal.returns
+returns c =
+    c.as_slice.ensures.value ∙ sym (each_row c.self.inside.names c.self.inside.rows.items c.self.invariant.count) ∙ ap (map (λ (entry : Bytes × Sets). entry.1)) c.self.view_is

@@ -1,0 +1,9 @@
+use Rattle.std.proofs.Common.{◌≡◌, ◌||◌, false, get_or}
+use Rattle.lf_semantics.specs.RowTable.{has_class, set_at}
+use Rattle.lf_flow.proofs.HasClass.{passes_from}
+use Rattle.lf_flow.proofs.replacing.meets.Given as goal
+
+abbrev pub invariant-loop-class : goal.invariant-loop-class
+invariant-loop-class l =
+    let set = set_at l.universe l.row l.label in
+    has_class l.universe (λ class. get_or l.on class false) set ≡ (l.found || passes_from (λ class. get_or l.on class false) set l.class)

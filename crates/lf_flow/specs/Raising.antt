@@ -1,0 +1,27 @@
+-- Environments as the program keeps them, and what joining a row to that of a name makes of one.
+use Rattle.std.specs.Prelude.{◌≡◌, List, [], ◌∷◌, cond, length, map}
+use Rattle.std.specs.Str.{bytes_eq}
+use Rattle.lf_ast.specs.Labels.{Bytes}
+use Rattle.lf_semantics.specs.ClassRows.{Sets, union}
+use Rattle.lf_semantics.specs.Listing.{StandOnce}
+use Rattle.lf_semantics.specs.RowTable.{Environment}
+
+-- each name with its row
+abbrev pub entries : List Bytes → List Sets → Environment
+entries [] rows = []
+entries (name ∷ names) [] = []
+entries (name ∷ names) (row ∷ rows) = (name, row) ∷ entries names rows
+
+-- no name stands twice, and each has a row
+pub record AreEntries (names : List Bytes) (rows : List Sets) : Type 0 where
+  pub once : StandOnce names
+  pub count : length names ≡ length rows
+
+-- the row is joined to that of the name, and the others stay
+abbrev pub joined : Bytes → Sets → Environment → Environment
+joined name row env = map (λ entry. (entry.0, cond (bytes_eq entry.0 name) (union entry.1 row) entry.1)) env
+
+-- rows that are joined to another one, the first of them last
+abbrev pub joined_each : List Sets → Sets → Sets
+joined_each [] row = row
+joined_each (first ∷ rows) row = union (joined_each rows row) first

@@ -1,0 +1,63 @@
+//! The row of `count_values`.
+ghost use Rattle.std.specs.Prelude.{◌≡◌, ◌||◌, eqb, not, IfOk, OnOk};
+ghost use Rattle.lf_semantics.specs.ClassRows.{HasShape};
+ghost use Rattle.lf_semantics.specs.Grouped.{may_be_lacked};
+ghost use Rattle.lf_semantics.specs.Parts.{text_at, texts_of};
+ghost use Rattle.lf_semantics.specs.RowTable.{counted_row};
+ghost use Rattle.lf_ast.specs.Types.{is_among};
+ghost use Rattle.lf_flow.specs.ClassSets.{IsSet};
+
+use crate::grouping::group;
+use crate::strings::text_at;
+use lf_ast::{Expr, Grouping, Name};
+use lf_base::Memory;
+use lf_classes::{Row, Universe};
+use std::alloc::Global;
+
+/// Makes the row of the operand that of `count_values`: grouped, and then the label that the first argument names has every text, and none only where it may be lacked.
+pub fn count_values(
+    alloc: Global,
+    universe: &Universe,
+    grouping: &Grouping,
+    args: &[Expr],
+    row: &mut Row,
+) -> Result<(), Memory>
+    requires shape { HasShape universe.now row.old }
+    ensures { OnOk result (row.new ≡ counted_row universe.now grouping.now (text_at (texts_of args.now) 0) row.old) }
+{
+    group(alloc, universe, grouping, row)?;
+    let name = text_at(args, 0);
+    let label = universe.label_of(name);
+    let lacked = may_be_lacked(grouping, name);
+    let on = counted(alloc, universe.classes(label), lacked)?;
+    row.set_classes(label, &on);
+    Ok(())
+}
+
+/// Every class but the empty text, which is one where the label may be lacked.
+fn counted(alloc: Global, count: u32, lacked: bool) -> Result<Vec<bool>, Memory>
+    ensures { IfOk result (λ on. IsSet count (λ class. not (eqb class 0) || lacked) on.items) }
+{
+    let mut on = Vec::new(alloc);
+    for class in 0..count {
+        on.push(class != 0 || lacked)?;
+    }
+    Ok(on)
+}
+
+/// Whether a grouping takes the label out of the group.
+fn may_be_lacked(grouping: &Grouping, label: &str) -> bool
+    ensures { result ≡ may_be_lacked grouping.now label.now }
+{
+    match grouping {
+        Grouping::Without { labels } => is_among(labels.as_slice(), label) || label == "__name__",
+        _ => false,
+    }
+}
+
+/// Whether one of the names is this text.
+fn is_among(names: &[Name], text: &str) -> bool
+    ensures { result ≡ is_among names.now text.now }
+{
+    names.iter().any(|name| text == name.text.as_str())
+}

@@ -1,0 +1,128 @@
+//! The rows of recorded names.
+ghost use Rattle.std.specs.Prelude.{◌≡◌, ◌↔◌, ◌≢◌, cond, length, map, replicate, None, Some, IfOk, IfSome, IfNone, OnOk, true, false, IsTrue, not};
+ghost use Rattle.lf_semantics.specs.ClassRows.{Sets, nothing, union};
+ghost use Rattle.lf_semantics.specs.Environments.{Under, recorded_names};
+ghost use Rattle.lf_semantics.specs.RowTable.{row_named};
+ghost use Rattle.lf_classes.specs.Meetings.{with_text};
+ghost use Rattle.lf_flow.specs.Raising.{joined};
+
+use lf_ast::Rule;
+use lf_base::{Memory, Seq};
+use lf_classes::{Row, TextSet, Universe};
+use std::alloc::Global;
+use std::marker::Model;
+
+/// A row for each recorded name, in the order in which the names come first. Where a name stands is looked up by its hash.
+#[derive(Drop)]
+pub struct Env {
+    names: TextSet,
+    rows: Vec<Row>,
+}
+
+impl Model for Env {
+    ghost use Rattle.lf_semantics.specs.RowTable.{Environment};
+    ghost use Rattle.lf_flow.specs.Raising.{AreEntries, entries};
+
+    ghost Value = { Environment };
+
+    ghost view = { λ env. entries env.names env.rows.items };
+
+    ghost invariant = { λ env. AreEntries env.names env.rows.items };
+}
+
+impl Env {
+    /// The environment of rules in which no recorded name has a sample.
+    pub fn bottom(alloc: Global, universe: &Universe, rules: &Seq<Rule>) -> Result<Env, Memory>
+        ensures { IfOk result (λ env. env ≡ map (λ name. (name, nothing universe.now)) (recorded_names rules.now)) }
+    {
+        let names = recorded(alloc, rules.as_slice())?;
+        let rows = empty_rows(alloc, universe, names.len())?;
+        Ok(Env { names, rows })
+    }
+
+    /// The row of a name, and none where no rule records it.
+    pub fn row(&self, name: &str) -> Option<&Row>
+        ensures some { IfSome result (λ row. row_named self.now name.now ≡ Some row.now) }
+        ensures none { IfNone result (row_named self.now name.now ≡ None) }
+    {
+        let place = self.names.place(name);
+        if place < self.rows.len() {
+            Some(&self.rows[place])
+        } else {
+            None
+        }
+    }
+
+    /// The recorded names.
+    pub(crate) fn names(&self) -> &TextSet
+        ensures { result.now ≡ map (λ entry. entry.0) self.now }
+    {
+        &self.names
+    }
+
+    /// The rows of the recorded names, in the order of the names.
+    pub(crate) fn rows(&self) -> &[Row]
+        ensures { result.now ≡ map (λ entry. entry.1) self.now }
+    {
+        self.rows.as_slice()
+    }
+
+    /// Joins a row of the universe to the row of a recorded name, and says whether this added a class. It takes no memory.
+    pub fn raise(&mut self, name: &str, row: &Row) -> bool
+        requires recorded { row_named self.old name.now ≢ None }
+        requires shape { (other : Sets) → row_named self.old name.now ≡ Some other → map length other ≡ map length row.now }
+        ensures joined { self.new ≡ joined name.now row.now self.old }
+        ensures added { (other : Sets) → row_named self.old name.now ≡ Some other → IsTrue (not result) ↔ Under row.now other }
+        ensures same { result ≡ false → self.new ≡ self.old }
+    {
+        let place = self.names.place(name);
+        join(&mut self.rows[place], row)
+    }
+}
+
+/// Joins a row to another, and says whether this added a class.
+fn join(own: &mut Row, row: &Row) -> bool
+    requires { map length own.old ≡ map length row.now }
+    ensures joined { own.new ≡ union own.old row.now }
+    ensures added { IsTrue (not result) ↔ Under row.now own.old }
+    ensures same { result ≡ false → own.new ≡ own.old }
+{
+    if own.covers(row) {
+        return false;
+    }
+    own.join(row);
+    true
+}
+
+/// The recorded names, each once.
+fn recorded(alloc: Global, rules: &[Rule]) -> Result<TextSet, Memory>
+    ensures { IfOk result (λ names. names ≡ recorded_names rules.now) }
+{
+    let mut names = TextSet::new(alloc);
+    for rule in rules {
+        record(alloc, rule, &mut names)?;
+    }
+    Ok(names)
+}
+
+/// Puts the name of a recording rule behind the others, unless it is there.
+fn record(alloc: Global, rule: &Rule, names: &mut TextSet) -> Result<(), Memory>
+    ensures { OnOk result (names.new ≡ cond rule.now.alert names.old (with_text names.old rule.now.name)) }
+{
+    if rule.alert {
+        return Ok(());
+    }
+    let _place = names.add(alloc, rule.name.as_str())?;
+    Ok(())
+}
+
+/// As many empty rows.
+fn empty_rows(alloc: Global, universe: &Universe, count: usize) -> Result<Vec<Row>, Memory>
+    ensures { IfOk result (λ rows. rows.items ≡ replicate count (nothing universe.now)) }
+{
+    let mut rows = Vec::new(alloc);
+    for _ in 0..count {
+        rows.push(Row::empty(alloc, universe)?)?;
+    }
+    Ok(rows)
+}

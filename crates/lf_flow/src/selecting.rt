@@ -1,0 +1,168 @@
+//! The row of a selector.
+ghost use Rattle.std.specs.Prelude.{◌≡◌, ◌<◌, ◌+◌, ◌&&◌, eqb, length, not, IfOk};
+ghost use Rattle.std.specs.List.{AllByRecursion, list_any};
+ghost use Rattle.std.specs.Option.{option_copied};
+ghost use Rattle.std.specs.Str.{bytes_eq};
+ghost use Rattle.lf_semantics.specs.ClassRows.{HasShape};
+ghost use Rattle.lf_semantics.specs.Environments.{IsEnvironment};
+ghost use Rattle.lf_semantics.specs.Listing.{IsListing, class_of, named_at};
+ghost use Rattle.lf_semantics.specs.Passing.{first_equal_name, is_equal, selected_name};
+ghost use Rattle.lf_semantics.specs.RowTable.{row_named, row_or_series, scraped_row, seen_row, selector_row, series_row, with_recorded};
+ghost use Rattle.lf_semantics.specs.Texts.{metric};
+ghost use Rattle.lf_flow.specs.ClassSets.{IsSet};
+ghost use Rattle.lf_flow.specs.Raising.{joined_each};
+
+use crate::Env;
+use crate::narrowing::narrow;
+use lf_ast::{MatchOp, Matcher};
+use lf_base::{Memory, Text};
+use lf_classes::{Row, TextSet, Universe};
+use std::alloc::Global;
+
+/// The row of what a selector sees: the row of its name in the environment, else that of the series of this name, and without a name all recorded rows and all series;
+/// of these the classes that pass its matchers.
+pub fn select(
+    alloc: Global,
+    universe: &Universe,
+    env: &Env,
+    name: &Option<Text>,
+    matchers: &[Matcher],
+) -> Result<Row, Memory>
+    requires env { IsEnvironment universe.now env.now }
+    ensures { IfOk result (λ row. row ≡ selector_row universe.now env.now name.now matchers.now) }
+{
+    let _labels = universe.labels();
+    let mut row = seen(alloc, universe, env, name, matchers)?;
+    for matcher in matchers {
+        narrow(alloc, universe, matcher, &mut row)?;
+    }
+    Ok(row)
+}
+
+/// The row of what a selector sees before its matchers.
+fn seen(
+    alloc: Global,
+    universe: &Universe,
+    env: &Env,
+    name: &Option<Text>,
+    matchers: &[Matcher],
+) -> Result<Row, Memory>
+    requires listing { IsListing universe.now }
+    requires env { IsEnvironment universe.now env.now }
+    ensures { IfOk result (λ row. row ≡ seen_row universe.now env.now (selected_name name.now matchers.now)) }
+{
+    match selected(name, matchers) {
+        Some(name) => named(alloc, universe, env, name.as_str()),
+        None => nameless(alloc, universe, env),
+    }
+}
+
+/// The name before the braces, or that of the first `=` on the metric name.
+fn selected<'a>(name: &'a Option<Text>, matchers: &'a [Matcher]) -> Option<&'a Text>
+    ensures { option_copied result ≡ selected_name name.now matchers.now }
+{
+    match name {
+        Some(name) => Some(name),
+        None => first_equal(matchers),
+    }
+}
+
+/// The name of the first `=` on the metric name.
+fn first_equal(matchers: &[Matcher]) -> Option<&Text>
+    ensures { option_copied result ≡ first_equal_name matchers.now }
+{
+    for matcher in matchers {
+        if names_metric(matcher) {
+            return Some(&matcher.value);
+        }
+    }
+    None
+}
+
+/// Whether a matcher is a `=` on the metric name.
+fn names_metric(matcher: &Matcher) -> bool
+    ensures { result ≡ (is_equal matcher.now.op && bytes_eq matcher.now.label metric) }
+{
+    match matcher.op {
+        MatchOp::Equal => matcher.label.as_str() == "__name__",
+        _ => false,
+    }
+}
+
+/// The row of a name: what is recorded of it, or else its series.
+fn named(alloc: Global, universe: &Universe, env: &Env, name: &str) -> Result<Row, Memory>
+    ensures { IfOk result (λ row. row ≡ row_or_series universe.now (row_named env.now name.now) name.now) }
+{
+    match env.row(name) {
+        Some(row) => row.copy(),
+        None => series(alloc, universe, name),
+    }
+}
+
+/// The series of a name that no rule records. No series has the empty name.
+fn series(alloc: Global, universe: &Universe, name: &str) -> Result<Row, Memory>
+    ensures { IfOk result (λ row. row ≡ series_row universe.now name.now) }
+{
+    if name == "" {
+        return Row::empty(alloc, universe);
+    }
+    let mut row = Row::full(alloc, universe)?;
+    let label = universe.label_of("__name__");
+    let class = universe.class_of(label, name);
+    row.set_class(label, class);
+    Ok(row)
+}
+
+/// All series and all recorded samples.
+fn nameless(alloc: Global, universe: &Universe, env: &Env) -> Result<Row, Memory>
+    requires listing { IsListing universe.now }
+    requires env { IsEnvironment universe.now env.now }
+    ensures { IfOk result (λ row. row ≡ with_recorded universe.now env.now (scraped_row universe.now env.now)) }
+{
+    let mut row = scraped(alloc, universe, env)?;
+    join_each(universe, env.rows(), &mut row);
+    Ok(row)
+}
+
+/// Joins rows to another one, the first of them last.
+fn join_each(universe: &Universe, rows: &[Row], row: &mut Row)
+    requires row { HasShape universe.now row.old }
+    requires each { AllByRecursion (HasShape universe.now) rows.now }
+    ensures { row.new ≡ joined_each rows.now row.old }
+{
+    let mut left = rows.len();
+    while left > 0 {
+        left -= 1;
+        row.join(&rows[left]);
+    }
+}
+
+/// All series: each name but the empty one and the recorded ones.
+fn scraped(alloc: Global, universe: &Universe, env: &Env) -> Result<Row, Memory>
+    ensures { IfOk result (λ row. row ≡ scraped_row universe.now env.now) }
+{
+    let mut row = Row::full(alloc, universe)?;
+    let label = universe.label_of("__name__");
+    let on = unrecorded(alloc, universe, label, env.names())?;
+    row.set_classes(label, &on);
+    Ok(row)
+}
+
+/// The classes of a label but the empty text and those of some names.
+fn unrecorded(
+    alloc: Global,
+    universe: &Universe,
+    label: u32,
+    names: &TextSet,
+) -> Result<Vec<bool>, Memory>
+    requires label { label < length universe.now.named }
+    ensures { IfOk result (λ on. IsSet (length (named_at universe.now label) + 2) (λ class. not (eqb class 0) && not (list_any (λ name. eqb (class_of universe.now label name) class) names.now)) on.items) }
+{
+    let mut on = vec![in alloc; true; universe.classes(label) as usize]?;
+    on[0] = false;
+    for place in 0..names.len() {
+        let class = universe.class_of(label, names.get(place).as_str());
+        on[class as usize] = false;
+    }
+    Ok(on)
+}
