@@ -1,0 +1,191 @@
+-- What an index lists.
+use Rattle.std.proofs.Common.{◌≡◌, ◌≢◌, ℕ, zero, suc, ◌+◌, ◌<◌, ◌≤◌, Bool, true, false, not, cond, nat_lt, List, [], ◌∷◌, ◌++◌, map, length, get_or, Option, Some, inl, inr, refl, sym, ◌∙◌, ap, subst, arith, length-append}
+use Rattle.std.specs.Prelude.{slice_get, slice_set}
+use Rattle.std.specs.List.{AllByRecursion, Contains, flat_map}
+use Rattle.std.specs.Str.{bytes_eq}
+use Rattle.std.proofs.lemmas.Bool.{cases_lt}
+use Rattle.std.proofs.lemmas.Bool.Decides.{nat_tests}
+use Rattle.std.proofs.lemmas.List.{get_or-set_other, get_or-set_same}
+use Rattle.std.proofs.lemmas.List.Elements.{Contains-append_left, Contains-append_right}
+use Rattle.lf_ast.specs.Labels.{Bytes}
+use Rattle.lf_ast.specs.declared.expr.Expr.{Expr}
+use Rattle.lf_ast.specs.declared.expr.Expr.TheOpen.{Expr-F}
+use Rattle.lf_ast.specs.declared.expr.Expr.TheViews.{roll-Expr}
+use Rattle.lf_classes.specs.Meetings.{with_text}
+use Rattle.lf_semantics.specs.Listing.{place}
+use Rattle.lf_semantics.proofs.Members.{here, none_in, same_true}
+use Rattle.lf_semantics.proofs.Places.{place_le}
+use Rattle.lf_semantics.proofs.Rolls.{beside}
+use Rattle.lf_fix.specs.Lookups.{lookups, lookups_layer}
+use Rattle.lf_fix.proofs.SameRows.{lookups-roll}
+use Rattle.lf_fix.proofs.Steps.{same_or_other}
+
+-- lists
+
+pub all_map : {X : Type 0} (P Q : X → Type 0) (xs : List X) → ((x : X) → P x → Q x) → AllByRecursion P xs → AllByRecursion Q xs
+all_map P Q [] h all = tt
+all_map P Q (x ∷ xs) h all = (h x all.0, all_map P Q xs h all.1)
+
+pub all_append : {X : Type 0} (P : X → Type 0) (xs ys : List X) → AllByRecursion P xs → AllByRecursion P ys → AllByRecursion P (xs ++ ys)
+all_append P [] ys h k = k
+all_append P (x ∷ xs) ys h k = (h.0, all_append P xs ys h.1 k)
+
+-- what expressions look up
+
+pub looked_up : (e : Expr) (z : Expr-F Expr) → e ≡ roll-Expr z → lookups e ≡ lookups_layer (beside lookups z)
+looked_up e z is = ap lookups is ∙ lookups-roll z
+
+pub looked_up_by : (args : List Expr) → flat_map (λ (a : Expr × List (Option Bytes)). a.1) (map (λ (e : Expr). (e, lookups e)) args) ≡ flat_map lookups args
+looked_up_by [] = refl
+looked_up_by (x ∷ args) = ap (λ (l : List (Option Bytes)). lookups x ++ l) (looked_up_by args)
+
+pub all_looked_up : (P : Option Bytes → Type 0) (args : List Expr) → ((j : ℕ) (x : Expr) → slice_get args j ≡ Some x → AllByRecursion P (lookups x)) → AllByRecursion P (flat_map lookups args)
+all_looked_up P [] h = tt
+all_looked_up P (x ∷ args) h = all_append P (lookups x) (flat_map lookups args) (h 0 x refl) (all_looked_up P args (λ j y is. h (suc j) y is))
+
+pub element_at : (args : List Expr) (k : ℕ) (x d : Expr) → slice_get args k ≡ Some x → get_or args k d ≡ x
+element_at [] k x d is = absurd (cc)
+element_at (y ∷ args) zero x d is = cc
+element_at (y ∷ args) (suc k) x d is = element_at args k x d is
+
+pub element_within : (args : List Expr) (k : ℕ) (x : Expr) → slice_get args k ≡ Some x → k < length args
+element_within [] k x is = absurd (cc)
+element_within (y ∷ args) zero x is = omega arith
+element_within (y ∷ args) (suc k) x is = let r = element_within args k x is in omega arith
+
+-- places of names
+
+place_front : (xs ys : List Bytes) (n : Bytes) → place xs n < length xs → place (xs ++ ys) n ≡ place xs n
+place_front [] ys n h = absurd (omega arith)
+place_front (x ∷ xs) ys n h = by (bytes_eq x n) h (place_front xs ys n)
+  where
+    by : (b : Bool) → cond (not b) (1 + place xs n) 0 < suc (length xs) → (place xs n < length xs → place (xs ++ ys) n ≡ place xs n) → cond (not b) (1 + place (xs ++ ys) n) 0 ≡ cond (not b) (1 + place xs n) 0
+    by true h rest = refl
+    by false h rest = ap (λ k. 1 + k) (rest (omega (arith, h)))
+
+place_last : (xs : List Bytes) (n : Bytes) → length xs ≤ place xs n → place (xs ++ n ∷ []) n ≡ length xs
+place_last [] n h = rw (same_true n n refl) refl
+place_last (x ∷ xs) n h = by (bytes_eq x n) h (place_last xs n)
+  where
+    by : (b : Bool) → suc (length xs) ≤ cond (not b) (1 + place xs n) 0 → (length xs ≤ place xs n → place (xs ++ n ∷ []) n ≡ length xs) → cond (not b) (1 + place (xs ++ n ∷ []) n) 0 ≡ suc (length xs)
+    by true h rest = absurd (omega (arith, h))
+    by false h rest = let e = rest (omega (arith, h)) in omega (arith, e)
+
+front_at : (xs : List (List ℕ)) (ys : List (List ℕ)) (k : ℕ) → k < length xs → get_or (xs ++ ys) k [] ≡ get_or xs k []
+front_at [] ys k h = absurd (omega arith)
+front_at (x ∷ xs) ys zero h = refl
+front_at (x ∷ xs) ys (suc k) h = front_at xs ys k (omega arith)
+
+pub behind_none : (xs : List (List ℕ)) (k : ℕ) → length xs ≤ k → get_or xs k [] ≡ []
+behind_none [] k h = refl
+behind_none (x ∷ xs) zero h = absurd (omega arith)
+behind_none (x ∷ xs) (suc k) h = behind_none xs k (omega arith)
+
+pub set_length : (old : List (List ℕ)) (k : ℕ) (x : List ℕ) → length (slice_set old k x) ≡ length old
+set_length [] k x = refl
+set_length (y ∷ old) zero x = refl
+set_length (y ∷ old) (suc k) x = ap suc (set_length old k x)
+
+-- A number is put behind those of a name.
+module _ (names : List Bytes) (lists : List (List ℕ)) (full : length lists ≡ length names) (name : Bytes) (number : ℕ) where
+  abbrev At : List Bytes → List (List ℕ) → Bytes → ℕ → Type 0
+  At names lists n k = Contains (get_or lists (place names n) []) k
+
+  abbrev put : List (List ℕ) → List (List ℕ)
+  put old = slice_set old (place names name) (get_or old (place names name) [] ++ number ∷ [])
+
+  put_same : (old : List (List ℕ)) → place names name < length old → get_or (put old) (place names name) [] ≡ get_or old (place names name) [] ++ number ∷ []
+  put_same old h = get_or-set_same old (place names name) (get_or old (place names name) [] ++ number ∷ []) [] h
+
+  put_other : (old : List (List ℕ)) (j : ℕ) → j ≢ place names name → get_or (put old) j [] ≡ get_or old j []
+  put_other old j h = get_or-set_other old (place names name) j (get_or old (place names name) [] ++ number ∷ []) [] h
+
+  put_keeps : (old : List (List ℕ)) → place names name < length old → (j k : ℕ) → Contains (get_or old j []) k → Contains (get_or (put old) j []) k
+  put_keeps old h j k c = elim (same_or_other j (place names name)) [
+    | inl e ↦
+        let P : List ℕ → Type 0 = λ l. Contains l k in
+        let Q : ℕ → Type 0 = λ i. Contains (get_or old i []) k in
+        let R : ℕ → Type 0 = λ i. Contains (get_or (put old) i []) k in
+        subst R (sym e) (subst P (sym (put_same old h)) (Contains-append_left (get_or old (place names name) []) (number ∷ []) k (subst Q e c)))
+    | inr n ↦ let P : List ℕ → Type 0 = λ l. Contains l k in subst P (sym (put_other old j n)) c
+  ]
+
+  put_there : (old : List (List ℕ)) → place names name < length old → Contains (get_or (put old) (place names name) []) number
+  put_there old h =
+      let P : List ℕ → Type 0 = λ l. Contains l number in
+      subst P (sym (put_same old h)) (Contains-append_right (get_or old (place names name) []) (number ∷ []) number (here number []))
+
+  -- the name was there
+  module _ (there : place names name < length names) where
+    same_names : with_text names name ≡ names
+    same_names = let e : nat_lt (place names name) (length names) ≡ true = grind (arith, nat_tests) in ap (λ b. cond b names (names ++ name ∷ [])) e
+
+    pub old_listed : At (with_text names name) (put lists) name number
+    old_listed = let P : List Bytes → Type 0 = λ xs. At xs (put lists) name number in subst P (sym same_names) (put_there lists (omega (arith, there, full)))
+
+    pub old_kept : (n : Bytes) (k : ℕ) → At names lists n k → At (with_text names name) (put lists) n k
+    old_kept n k c = let P : List Bytes → Type 0 = λ xs. At xs (put lists) n k in subst P (sym same_names) (put_keeps lists (omega (arith, there, full)) (place names n) k c)
+
+  -- the name is new
+  module _ (new : length names ≤ place names name) where
+    more : List (List ℕ)
+    more = lists ++ [] ∷ []
+
+    at_end : place names name ≡ length names
+    at_end = let r = place_le names name in omega (arith, new, r)
+
+    within : place names name < length more
+    unfolding more
+    within = let r : length (lists ++ [] ∷ []) ≡ length lists + 1 = length-append lists ([] ∷ []) in omega (arith, r, full, at_end)
+
+    new_names : with_text names name ≡ names ++ name ∷ []
+    new_names = let e : nat_lt (place names name) (length names) ≡ false = grind (arith, nat_tests) in ap (λ b. cond b names (names ++ name ∷ [])) e
+
+    pub new_listed : At (with_text names name) (put (lists ++ [] ∷ [])) name number
+    unfolding more
+    new_listed =
+        let P : List Bytes → Type 0 = λ xs. At xs (put (lists ++ [] ∷ [])) name number in
+        let Q : ℕ → Type 0 = λ i. Contains (get_or (put (lists ++ [] ∷ [])) i []) number in
+        subst P (sym new_names) (subst Q (at_end ∙ sym (place_last names name new)) (put_there (lists ++ [] ∷ []) within))
+
+    pub new_kept : (n : Bytes) (k : ℕ) → At names lists n k → At (with_text names name) (put (lists ++ [] ∷ [])) n k
+    unfolding more
+    new_kept n k c = elim (cases_lt (place names n) (length names)) [
+      | inl h ↦
+          let P : List Bytes → Type 0 = λ xs. At xs (put (lists ++ [] ∷ [])) n k in
+          let Q : ℕ → Type 0 = λ i. Contains (get_or (put (lists ++ [] ∷ [])) i []) k in
+          let R : List ℕ → Type 0 = λ l. Contains l k in
+          subst P (sym new_names) (subst Q (sym (place_front names (name ∷ []) n h)) (put_keeps (lists ++ [] ∷ []) within (place names n) k (subst R (sym (front_at lists ([] ∷ []) (place names n) (omega (arith, h, full)))) c)))
+      | inr h ↦ let R : List ℕ → Type 0 = λ l. Contains l k in absurd (none_in k (subst R (behind_none lists (place names n) (omega (arith, h, full))) c))
+    ]
+
+-- a name is put into the index, and a number behind those of the name
+module _ (names : List Bytes) (lists : List (List ℕ)) (full : length lists ≡ length names) (name : Bytes) (number at : ℕ) (after : List Bytes) (room made : List (List ℕ)) where
+  abbrev Put : List Bytes → List (List ℕ) → Type 0
+  Put ns ls =
+      Contains (get_or ls (place ns name) []) number
+      × ((n : Bytes) (k : ℕ) → Contains (get_or lists (place names n) []) k → Contains (get_or ls (place ns n) []) k)
+      × (length ls ≡ length ns)
+
+  pub put_listed : after ≡ with_text names name → at ≡ place names name → (at < length lists → room ≡ lists) → (at ≡ length lists → room ≡ lists ++ [] ∷ []) → made ≡ slice_set room at (get_or room at [] ++ number ∷ [])
+      → Put after made
+  put_listed named placed there new set = elim (cases_lt (place names name) (length names)) [
+    | inl h ↦
+        let same : room ≡ lists = there (omega (arith, h, placed, full)) in
+        let e : made ≡ put names lists full name number lists = set ∙ ap (λ (k : ℕ). slice_set room k (get_or room k [] ++ number ∷ [])) placed ∙ ap (λ (l : List (List ℕ)). put names lists full name number l) same in
+        let n : length (put names lists full name number lists) ≡ length (with_text names name) =
+        set_length lists (place names name) (get_or lists (place names name) [] ++ number ∷ []) ∙ full ∙ sym (ap length (same_names names lists full name number h)) in
+        subst (λ ns. Put ns made) (sym named) (subst (Put (with_text names name)) (sym e) (old_listed names lists full name number h, old_kept names lists full name number h, n))
+    | inr h ↦
+        let end : place names name ≡ length names = at_end names lists full name number h in
+        let same : room ≡ lists ++ [] ∷ [] = new (omega (arith, end, placed, full)) in
+        let e : made ≡ put names lists full name number (lists ++ [] ∷ []) =
+        set ∙ ap (λ (k : ℕ). slice_set room k (get_or room k [] ++ number ∷ [])) placed ∙ ap (λ (l : List (List ℕ)). put names lists full name number l) same in
+        let n : length (put names lists full name number (lists ++ [] ∷ [])) ≡ length (with_text names name) =
+        set_length (lists ++ [] ∷ []) (place names name) (get_or (lists ++ [] ∷ []) (place names name) [] ++ number ∷ [])
+        ∙ length-append lists ([] ∷ [])
+        ∙ ap (λ k. k + 1) full
+        ∙ sym (length-append names (name ∷ []))
+        ∙ sym (ap length (new_names names lists full name number h)) in
+        subst (λ ns. Put ns made) (sym named) (subst (Put (with_text names name)) (sym e) (new_listed names lists full name number h, new_kept names lists full name number h, n))
+  ]

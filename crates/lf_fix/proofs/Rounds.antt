@@ -1,0 +1,208 @@
+-- Rounds, as the code takes them.
+use Rattle.std.proofs.Common.{◌≡◌, ℕ, zero, suc, ◌+◌, ◌<◌, Bool, true, false, ◌||◌, cond, List, [], ◌∷◌, map, length, Some, inl, inr, refl, sym, ◌∙◌, ap, subst, arith}
+use Rattle.std.specs.Prelude.{slice_get, slice_index_or}
+use Rattle.std.specs.List.{AllByRecursion, Contains}
+use Rattle.std.specs.Str.{bytes_eq}
+use Rattle.std.proofs.lemmas.Bool.{cases_lt}
+use Rattle.lf_ast.specs.Labels.{Bytes}
+use Rattle.lf_ast.specs.declared.rule.Rule.{Rule}
+use Rattle.lf_flow.specs.Raising.{joined}
+use Rattle.lf_semantics.specs.ClassRows.{Sets, nothing}
+use Rattle.lf_semantics.specs.Environments.{CoversRules, IsEnvironmentOf, IsKnown, IsLeast, IsRow, Under, names_recorded, recorded_names, recorded_row}
+use Rattle.lf_semantics.specs.Listing.{IsListing, Listing, class_of, label_of, other_class}
+use Rattle.lf_semantics.specs.RowTable.{Environment, row_named}
+use Rattle.lf_semantics.specs.Texts.{metric}
+use Rattle.lf_semantics.specs.Walk.{met, rule_walk, walk}
+use Rattle.lf_semantics.proofs.Constructs.{all_back}
+use Rattle.lf_semantics.proofs.ListingLaws.{all_of, in_first_seen, of_first_seen}
+use Rattle.lf_semantics.proofs.Members.{behind, first_or_behind, here, none_in, same_true}
+use Rattle.lf_semantics.proofs.RowLaws.{shape_nothing}
+use Rattle.lf_semantics.proofs.SettledRows.{recorded_row_is, settled_nothing}
+use Rattle.lf_semantics.proofs.UnderLaws.{clash}
+use Rattle.lf_fix.specs.Rounds.{OthersHold, Rises, StepTells, Tells, TellsOf, missing, start}
+use Rattle.lf_fix.proofs.Missing.{joined_less}
+use Rattle.lf_fix.proofs.Raising.{environment_joined, names_of, step_under, under_start}
+
+-- the rules by their numbers
+
+pub at_index : (rules : List Rule) (k : ℕ) (r : Rule) → slice_get rules k ≡ Some r → Contains rules r
+at_index [] k r e = absurd (cc)
+at_index (x ∷ rules) zero r e = let q : x ≡ r = cc in let P : Rule → Type 0 = λ y. Contains (x ∷ rules) y in subst P q (here x rules)
+at_index (x ∷ rules) (suc k) r e = behind x rules r (at_index rules k r e)
+
+index_of : (rules : List Rule) (r : Rule) → Contains rules r → (k : ℕ) × (k < length rules) × (slice_get rules k ≡ Some r)
+index_of [] r c = absurd (none_in r c)
+index_of (x ∷ rules) r c = elim (first_or_behind x rules r c) [
+  | inl q ↦ (0, omega arith, ap (λ (y : Rule). Some y) q)
+  | inr d ↦ let i = index_of rules r d in (suc i.0, omega (arith, i.1), i.2)
+]
+
+pub same_rule : (rules : List Rule) (k : ℕ) (r s : Rule) → slice_get rules k ≡ Some r → slice_get rules k ≡ Some s → r ≡ s
+same_rule rules k r s e f = let a : Some r ≡ Some s = sym e ∙ f in cc
+
+pub rule_within : (rules : List Rule) (k : ℕ) (r : Rule) → slice_get rules k ≡ Some r → k < length rules
+rule_within [] k r e = absurd (cc)
+rule_within (x ∷ rules) zero r e = omega arith
+rule_within (x ∷ rules) (suc k) r e = let h = rule_within rules k r e in omega (arith, h)
+
+-- a recorded name has a row
+
+in_names : (rules : List Rule) (r : Rule) → Contains rules r → r.alert ≡ false → Contains (names_recorded rules) r.name
+in_names [] r c e = absurd (none_in r c)
+in_names (x ∷ rules) r c e = by x.alert refl (in_names rules r)
+  where
+    by : (b : Bool) → x.alert ≡ b → (Contains rules r → r.alert ≡ false → Contains (names_recorded rules) r.name) → Contains (cond b (names_recorded rules) (x.name ∷ names_recorded rules)) r.name
+    by true f rest = elim (first_or_behind x rules r c) [ inl q ↦ absurd (clash f (ap (λ (y : Rule). y.alert) q ∙ e)) | inr d ↦ rest d e ]
+    by false f rest = elim (first_or_behind x rules r c) [
+      | inl q ↦ let P : Rule → Type 0 = λ y. Contains (x.name ∷ names_recorded rules) y.name in subst P q (here x.name _)
+      | inr d ↦ behind x.name _ r.name (rest d e)
+    ]
+
+row_in : (env : Environment) (n : Bytes) → Contains (names_of env) n → (row : Sets) × (row_named env n ≡ Some row)
+row_in [] n c = absurd (none_in n c)
+row_in (e ∷ env) n c = by (bytes_eq e.0 n) refl (row_in env n)
+  where
+    by : (b : Bool) → bytes_eq e.0 n ≡ b → (Contains (names_of env) n → (row : Sets) × (row_named env n ≡ Some row)) → (row : Sets) × (cond b (Some e.1) (row_named env n) ≡ Some row)
+    by true f rest = (e.1, refl)
+    by false f rest = elim (first_or_behind e.0 (names_of env) n c) [ inl q ↦ absurd (clash (same_true e.0 n q) f) | inr d ↦ rest d ]
+
+-- of the rows of an environment
+pub one_named : (P : Sets → Type 0) (env : Environment) (n : Bytes) (row : Sets) → AllByRecursion (λ entry. P entry.1) env → row_named env n ≡ Some row → P row
+one_named P [] n row h e = absurd (cc)
+one_named P (x ∷ env) n row h e = by (bytes_eq x.0 n) e (one_named P env n row h.1)
+  where
+    by : (b : Bool) → cond b (Some x.1) (row_named env n) ≡ Some row → (row_named env n ≡ Some row → P row) → P row
+    by true e rest = let q : x.1 ≡ row = cc in subst P q h.0
+    by false e rest = rest e
+
+rises_on : (u : Listing) (rules : List Rule) (a b c : Environment) → Rises u rules a b → Rises u rules b c → Rises u rules a c
+rises_on u rules a b c h k = record { of_rules = k.of_rules; below = λ other o d e. k.below other o d (h.below other o d e) }
+
+neither : (x y : Bool) → (x || y) ≡ false → (x ≡ false) × (y ≡ false)
+neither true y e = absurd (clash refl e)
+neither false y e = (refl, e)
+
+-- a step more
+pub tells_more : (u : Listing) (rules : List Rule) (k : ℕ) (env mid later : Environment) (due after : List Bool) (again changed : Bool) → Tells u rules k env mid due again → StepTells u rules k mid later due after changed
+    → Tells u rules (k + 1) env later after (again || changed)
+tells_more u rules k env mid later due after again changed h t = record {
+  rises = rises_on u rules env mid later h.rises t.rises;
+  less = λ e. less again changed refl refl e;
+  same = λ e. let b = neither again changed e in t.same b.1 ∙ h.same b.0;
+  hold = t.hold;
+  done = λ e j l.
+      let b = neither again changed e in
+      elim (cases_lt j k) [
+        | inl m ↦ t.still b.1 j (h.done b.0 j m)
+        | inr m ↦
+            let q : j ≡ k = omega arith in
+            let P : ℕ → Type 0 = λ i. slice_index_or after i true ≡ false in
+            subst P (sym q) (t.done b.1)
+      ];
+}
+  where
+    less : (x y : Bool) → again ≡ x → changed ≡ y → (again || changed) ≡ true → missing later < missing env
+    less true true e f i = let a = h.less e in let b = t.less f in omega arith
+    less true false e f i = let P : Environment → Type 0 = λ z. missing z < missing env in subst P (sym (t.same f)) (h.less e)
+    less false true e f i = let P : Environment → Type 0 = λ z. missing later < missing z in subst P (h.same e) (t.less f)
+    less false false e f i = absurd (clash i (ap (λ b. b || changed) e ∙ f))
+
+module _ (u : Listing) (p : IsListing u) (rules : List Rule) where
+  pub rises_none : (env : Environment) → IsEnvironmentOf u rules env → Rises u rules env env
+  rises_none env h = record { of_rules = h; below = λ other o d b. b }
+
+  -- nothing is stepped yet
+  pub tells_none : (env : Environment) (due : List Bool) → IsEnvironmentOf u rules env → OthersHold u rules env due → Tells u rules 0 env env due false
+  tells_none env due of hold = record { rises = rises_none env of; less = λ e. absurd (cc); same = λ e. refl; hold = hold; done = λ e k b. absurd (omega arith) }
+
+  pub alert_tells : (env : Environment) (k : ℕ) (r : Rule) → IsEnvironmentOf u rules env → slice_get rules k ≡ Some r → r.alert ≡ true → TellsOf u rules k env env false
+  alert_tells env k r h is e = record {
+    rises = rises_none env h;
+    less = λ f. absurd (cc);
+    same = λ f. refl;
+    holds = λ f s i g. absurd (clash e (ap (λ (y : Rule). y.alert) (same_rule rules k r s is i) ∙ g));
+    joins = λ f. absurd (cc);
+  }
+
+  pub has_row : (env : Environment) (k : ℕ) (r : Rule) → IsEnvironmentOf u rules env → slice_get rules k ≡ Some r → r.alert ≡ false → (row : Sets) × (row_named env r.name ≡ Some row)
+  has_row env k r h is e =
+      let P : List Bytes → Type 0 = λ names. Contains names r.name in
+      row_in env r.name (subst P (sym h.names) (in_first_seen (names_recorded rules) r.name (in_names rules r (at_index rules k r is) e)))
+
+  -- rows of the universe have one shape
+  pub same_shape : (env : Environment) (n : Bytes) (row other : Sets) → IsEnvironmentOf u rules env → IsRow u row → row_named env n ≡ Some other → map length other ≡ map length row
+  same_shape env n row other h is e = (one_named (λ x. IsRow u x) env n other h.environment.rows e).0 ∙ sym is.0
+
+  -- a row is joined to that of its name
+  pub joined_tells : (env later : Environment) (k : ℕ) (r : Rule) (changed : Bool) → IsEnvironmentOf u rules env → slice_get rules k ≡ Some r → r.alert ≡ false → later ≡ joined r.name (recorded_row u env r) env
+      → ((top : Sets) → row_named env r.name ≡ Some top → (changed ≡ false → Under (recorded_row u env r) top) × (Under (recorded_row u env r) top → changed ≡ false)) → (changed ≡ false → later ≡ env) → TellsOf u rules k env later changed
+  joined_tells env later k r changed h is e made tells kept =
+      let at = has_row env k r h is e in
+      let own = recorded_row_is u p env h.environment r in
+      record {
+        rises =
+            let P : Environment → Type 0 = λ x. Rises u rules env x in
+            subst P (sym made) (record { of_rules = environment_joined r.name (recorded_row u env r) u own rules env h; below = λ other o d b. step_under u p rules env other r h o d (at_index rules k r is) e b });
+        less = λ f.
+            let P : Environment → Type 0 = λ x. missing x < missing env in
+            subst P (sym made) (joined_less u r.name (recorded_row u env r) own env h.environment.rows at.0 at.1 (λ under. clash f ((tells at.0 at.1).1 under)));
+        same = kept;
+        holds = λ f s i g.
+            let Q : Rule → Type 0 = λ y. (row : Sets) × (row_named env y.name ≡ Some row) × Under (recorded_row u env y) row in
+            subst Q (same_rule rules k r s is i) (at.0, at.1, (tells at.0 at.1).0 f);
+        joins = λ f s i. let Q : Rule → Type 0 = λ y. (y.alert ≡ false) × (later ≡ joined y.name (recorded_row u env y) env) in subst Q (same_rule rules k r s is i) (e, made);
+      }
+
+  -- a round that adds nothing has the least environment
+  pub least_of : (env later : Environment) (after : List Bool) (again : Bool) → Rises u rules (start u rules) env → Tells u rules (length rules) env later after again → again ≡ false → IsLeast u rules later
+  least_of env later after again h t e = record {
+    of_rules = t.rises.of_rules;
+    closed = λ r c f. let i = index_of rules r c in t.hold i.0 r i.2 (t.done e i.0 i.1) f;
+    least = λ other o d. t.rises.below other o d (h.below other o d (under_start u p rules other o));
+  }
+
+  pub rises_more : (env later : Environment) (after : List Bool) (again : Bool) → Rises u rules (start u rules) env → Tells u rules (length rules) env later after again → Rises u rules (start u rules) later
+  rises_more env later after again h t = rises_on u rules (start u rules) env later h t.rises
+
+  -- the start is an environment of the rules
+
+  start_names : (names : List Bytes) → map (λ (entry : Bytes × Sets). entry.0) (map (λ (name : Bytes). (name, nothing u)) names) ≡ names
+  start_names [] = refl
+  start_names (n ∷ names) = ap (λ (xs : List Bytes). n ∷ xs) (start_names names)
+
+  start_rows : (names : List Bytes) → AllByRecursion (λ (entry : Bytes × Sets). IsRow u entry.1) (map (λ (name : Bytes). (name, nothing u)) names)
+  start_rows [] = tt
+  start_rows (n ∷ names) = ((shape_nothing u, settled_nothing u), start_rows names)
+
+  abbrev IsClass : Bytes → Type 0
+  IsClass name = class_of u (label_of u metric) name < other_class u (label_of u metric)
+
+  start_classes : (names : List Bytes) → AllByRecursion IsClass names → AllByRecursion (λ (entry : Bytes × Sets). IsClass entry.0) (map (λ (name : Bytes). (name, nothing u)) names)
+  start_classes [] h = tt
+  start_classes (n ∷ names) h = (h.0, start_classes names h.1)
+
+  -- a recorded name is a class of its own
+  name_is_class : (r : Rule) → AllByRecursion (IsKnown u) (rule_walk r) → r.alert ≡ false → IsClass r.name
+  name_is_class r known e =
+      let P : Bool → Type 0 = λ b. AllByRecursion (IsKnown u) (cond b [] (met metric (r.name ∷ []) ∷ map (λ l. met l.key (l.value ∷ [])) r.labels)) in
+      (subst P e (all_back (IsKnown u) (walk r.expr) _ known)).0.1.0
+
+  names_are_classes : (rs : List Rule) → CoversRules u rs → (name : Bytes) → Contains (names_recorded rs) name → IsClass name
+  names_are_classes [] covers name c = absurd (none_in name c)
+  names_are_classes (r ∷ rs) covers name c = by r.alert refl c (names_are_classes rs (λ x i. covers x (behind r rs x i)) name)
+    where
+      by : (b : Bool) → r.alert ≡ b → Contains (cond b (names_recorded rs) (r.name ∷ names_recorded rs)) name → (Contains (names_recorded rs) name → IsClass name) → IsClass name
+      by true e d rest = rest d
+      by false e d rest = elim (first_or_behind r.name (names_recorded rs) name d) [ inl q ↦ subst IsClass q (name_is_class r (covers r (here r rs)) e) | inr i ↦ rest i ]
+
+  pub start_is : CoversRules u rules → IsEnvironmentOf u rules (start u rules)
+  start_is covers = record {
+    environment = record {
+      rows = start_rows (recorded_names rules);
+      classes = start_classes (recorded_names rules) (all_of IsClass (recorded_names rules) (λ name c. names_are_classes rules covers name (of_first_seen (names_recorded rules) name c)));
+    };
+    names = start_names (recorded_names rules);
+  }
+
+  pub rises_start : (env : Environment) → CoversRules u rules → env ≡ start u rules → Rises u rules (start u rules) env
+  rises_start env covers e = let P : Environment → Type 0 = λ x. Rises u rules (start u rules) x in subst P (sym e) (rises_none (start u rules) (start_is covers))

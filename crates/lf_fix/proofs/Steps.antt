@@ -1,0 +1,90 @@
+-- A step of a rule that is due, and the rules that it makes due again.
+use Rattle.std.proofs.Common.{◌≡◌, ◌≢◌, ℕ, zero, suc, ◌<◌, Bool, true, false, List, length, Some, None, ◌⊎◌, inl, inr, refl, sym, ◌∙◌, ap, subst, arith}
+use Rattle.std.specs.Prelude.{slice_get, slice_index_or, slice_set}
+use Rattle.std.proofs.lemmas.List.{get_or-set_other, get_or-set_same}
+use Rattle.lf_ast.specs.Labels.{Bytes}
+use Rattle.lf_ast.specs.declared.rule.Rule.{Rule}
+use Rattle.lf_flow.specs.Raising.{joined}
+use Rattle.lf_semantics.specs.Environments.{IsEnvironmentOf, recorded_row}
+use Rattle.lf_semantics.specs.Listing.{IsListing, Listing}
+use Rattle.lf_semantics.specs.RowTable.{Environment}
+use Rattle.lf_semantics.proofs.ListingLaws.{one_of}
+use Rattle.lf_semantics.proofs.SettledRows.{recorded_row_is}
+use Rattle.lf_semantics.proofs.UnderLaws.{clash}
+use Rattle.lf_fix.specs.Lookups.{Index, IsIndexOf, IsListed, LooksUp, lookups}
+use Rattle.lf_fix.specs.Rounds.{HoldsRule, OthersHold, StepTells, TellsOf}
+use Rattle.lf_fix.proofs.Rounds.{has_row, rises_none, same_rule}
+use Rattle.lf_fix.proofs.SameRows.{holds_own, holds_without}
+
+pub same_or_other : (j k : ℕ) → (j ≡ k) ⊎ (j ≢ k)
+same_or_other zero zero = inl refl
+same_or_other zero (suc k) = inr (λ e. omega arith)
+same_or_other (suc j) zero = inr (λ e. omega arith)
+same_or_other (suc j) (suc k) = elim (same_or_other j k) [ inl e ↦ inl (ap suc e) | inr n ↦ inr (λ e. n (omega (arith, e))) ]
+
+not_true_is : (b : Bool) → (b ≡ true → ⊥) → b ≡ false
+not_true_is true h = absurd (h refl)
+not_true_is false h = refl
+
+module _ (u : Listing) (p : IsListing u) (rules : List Rule) (k : ℕ) (env : Environment) (of : IsEnvironmentOf u rules env) (due : List Bool) (hold : OthersHold u rules env due) where
+  -- a rule that isn't due is passed over
+  pub step_over : slice_index_or due k true ≡ false → StepTells u rules k env env due due false
+  step_over e = record { rises = rises_none u p rules env of; less = λ f. absurd (cc); same = λ f. refl; hold = hold; done = λ f. e; still = λ f j g. g }
+
+  module _ (within : k < length due) (later : Environment) (added : Bool) (t : TellsOf u rules k env later added) where
+    abbrev cleared : List Bool
+    cleared = slice_set due k false
+
+    -- no class was added
+    pub step_same : added ≡ false → StepTells u rules k env later due cleared added
+    step_same e = record {
+      rises = t.rises;
+      less = t.less;
+      same = t.same;
+      hold = λ j r is free.
+          let P : Environment → Type 0 = λ x. HoldsRule u x r in
+          subst P (sym (t.same e)) (elim (same_or_other j k) [
+            | inl q ↦ let A : ℕ → Type 0 = λ i. slice_get rules i ≡ Some r in t.holds e r (subst A q is)
+            | inr n ↦ hold j r is (sym (get_or-set_other due k j false true n) ∙ free)
+          ]);
+      done = λ f. get_or-set_same due k false true within;
+      still = λ f j g. elim (same_or_other j k) [
+        | inl q ↦ let A : ℕ → Type 0 = λ i. slice_index_or (slice_set due k false) i true ≡ false in subst A (sym q) (get_or-set_same due k false true within)
+        | inr n ↦ get_or-set_other due k j false true n ∙ g
+      ];
+    }
+
+    -- A class was added: each rule that looks up the name is due again.
+    module _ (rule : Rule) (is : slice_get rules k ≡ Some rule) (after : List Bool) (kept : (j : ℕ) → slice_index_or cleared j true ≡ true → slice_index_or after j true ≡ true)
+        (marked : (j : ℕ) (r : Rule) → slice_get rules j ≡ Some r → LooksUp r.expr rule.name → slice_index_or after j true ≡ true) where
+      free_before : (j : ℕ) → slice_index_or after j true ≡ false → slice_index_or cleared j true ≡ false
+      free_before j free = not_true_is (slice_index_or cleared j true) (λ e. clash (kept j e) free)
+
+      pub step_added : added ≡ true → StepTells u rules k env later due after added
+      step_added e =
+          let j = t.joins e rule is in
+          let P : Environment → Type 0 = λ x. OthersHold u rules x after in
+          record {
+            rises = t.rises;
+            less = t.less;
+            same = t.same;
+            hold = subst P (sym j.1) (λ i r at free. elim (same_or_other i k) [
+              | inl q ↦
+                  let A : ℕ → Type 0 = λ x. slice_get rules x ≡ Some r in
+                  let same : rule ≡ r = same_rule rules k rule r is (subst A q at) in
+                  let N : Rule → Type 0 = λ x. LooksUp x.expr rule.name → ⊥ in
+                  let H : Rule → Type 0 = λ x. HoldsRule u (joined rule.name (recorded_row u env rule) env) x in
+                  let row = has_row u p rules env k rule of is j.0 in
+                  subst H same (holds_own u p rules env of rule row.0 row.1 (subst N (sym same) (λ looks. clash (marked i r at looks) free)))
+              | inr n ↦
+                  holds_without u p rules env of rule.name (recorded_row u env rule) (recorded_row_is u p env of.environment rule) r (λ looks. clash (marked i r at looks) free)
+                  (hold i r at (sym (get_or-set_other due k i false true n) ∙ free_before i free))
+            ]);
+            done = λ f. absurd (clash e f);
+            still = λ f. absurd (clash e f);
+          }
+
+-- a rule that looks up a name is listed with it, or with those that look up all
+pub listed : (rules : List Rule) (index : Index) (j : ℕ) (r : Rule) (name : Bytes) → IsIndexOf rules index → slice_get rules j ≡ Some r → LooksUp r.expr name → IsListed index j (Some name) ⊎ IsListed index j None
+listed rules index j r name is at (inl c) = inl (one_of (IsListed index j) (lookups r.expr) (Some name) (is j r at) c)
+listed rules index j r name is at (inr c) = inr (one_of (IsListed index j) (lookups r.expr) None (is j r at) c)

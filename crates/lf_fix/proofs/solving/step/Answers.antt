@@ -1,0 +1,32 @@
+use Rattle.std.proofs.Common.{Bool, false, List, Some, inl, inr, sym, subst, arith}
+use Rattle.std.specs.Prelude.{slice_set}
+use Rattle.lf_ast.specs.Labels.{Bytes}
+use Rattle.lf_fix.specs.Lookups.{IsListed}
+use Rattle.lf_fix.specs.Rounds.{StepTells}
+use Rattle.lf_fix.proofs.Steps.{listed, step_added, step_same}
+use Rattle.lf_fix.proofs.solving.step.Goals as goal
+
+pub returns-then-not-added : goal.returns-then-not-added
+returns-then-not-added c =
+    let u = c.args.universe.now in
+    let due : List Bool = c.args.due.now in
+    let P : Bool → Type 0 = λ b. StepTells u c.args.rules.now c.args.k c.args.env.now c.raise.new.env due (slice_set due c.args.k false) b in
+    subst P c.if-not-added.true
+    (step_same u c.requires.listing c.args.rules.now c.args.k c.args.env.now c.requires.of_rules due c.requires.hold (omega (arith, c.requires.rule, c.requires.marks)) c.raise.new.env c.in_ok-added.added c.in_ok-added.ensures
+    c.if-not-added.true)
+
+pub returns : goal.returns
+returns c =
+    let u = c.args.universe.now in
+    let due : List Bool = c.args.due.now in
+    let rule = c.get.result.now in
+    let index = c.args.readers.now in
+    let P : Bool → Type 0 = λ b. StepTells u c.args.rules.now c.args.k c.args.env.now c.raise.new.env due c.mark.new.due b in
+    subst P c.if-not-added.false
+    (step_added u c.requires.listing c.args.rules.now c.args.k c.args.env.now c.requires.of_rules due c.requires.hold (omega (arith, c.requires.rule, c.requires.marks)) c.raise.new.env c.in_ok-added.added c.in_ok-added.ensures
+    rule c.get.ensures.value c.mark.new.due c.mark.ensures.kept
+    (λ j r at looks. elim (listed c.args.rules.now index j r rule.name c.requires.index at looks) [
+      | inl l ↦ let Q : Bytes → Type 0 = λ n. IsListed index j (Some n) in c.mark.ensures.named j (subst Q (sym c.as_str.ensures) l)
+      | inr l ↦ c.mark.ensures.all j l
+    ])
+    c.if-not-added.false)

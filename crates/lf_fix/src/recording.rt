@@ -1,0 +1,104 @@
+//! The rows of rules, and of what they record.
+ghost use Rattle.std.specs.Prelude.{◌≡◌, IfOk};
+ghost use Rattle.lf_ast.specs.Functions.{function_named};
+ghost use Rattle.lf_semantics.specs.ClassRows.{HasShape};
+ghost use Rattle.lf_semantics.specs.Environments.{IsEnvironment, recorded_row as row_recorded, rule_row as row_of_rule, with_text, with_texts};
+ghost use Rattle.lf_semantics.specs.Listing.{IsListing};
+ghost use Rattle.lf_semantics.specs.Parts.{given_by, is_evaluated, type_by_form};
+
+use lf_ast::{Expr, ExprType, Function, Rule, RuleLabel};
+use lf_base::Memory;
+use lf_classes::{Row, Universe};
+use lf_flow::{Env, flow};
+use std::alloc::Global;
+
+/// The row of a rule in an environment: that of its expression, and the empty row for a string or a range vector, of which nothing is recorded.
+pub fn rule_row(alloc: Global, universe: &Universe, env: &Env, rule: &Rule) -> Result<Row, Memory>
+    requires env { IsEnvironment universe.now env.now }
+    ensures { IfOk result (λ row. row ≡ row_of_rule universe.now env.now rule.now) }
+{
+    if is_evaluated(&rule.expr) {
+        flow(alloc, universe, env, &rule.expr)
+    } else {
+        Row::empty(alloc, universe)
+    }
+}
+
+/// The row of what a recording rule stores: that of the rule, with its name and its labels set.
+pub(crate) fn recorded_row(
+    alloc: Global,
+    universe: &Universe,
+    env: &Env,
+    rule: &Rule,
+) -> Result<Row, Memory>
+    requires listing { IsListing universe.now }
+    requires env { IsEnvironment universe.now env.now }
+    ensures { IfOk result (λ row. row ≡ row_recorded universe.now env.now rule.now) }
+{
+    let mut row = rule_row(alloc, universe, env, rule)?;
+    set_text(universe, &mut row, "__name__", rule.name.as_str());
+    set_labels(universe, &mut row, rule.labels.as_slice());
+    Ok(row)
+}
+
+/// Whether an expression is a scalar or a vector, so that a rule of it gives samples.
+fn is_evaluated(expr: &Expr) -> bool
+    ensures { result ≡ is_evaluated (type_by_form expr.now) }
+{
+    match expr {
+        Expr::Number { .. } => true,
+        Expr::Str { .. } => false,
+        Expr::Selector { sight, .. } => sight.range.is_none(),
+        Expr::Subquery { .. } => false,
+        Expr::Paren { of, .. } => is_evaluated(of),
+        Expr::Unary { of, .. } => is_evaluated(of),
+        Expr::Binary { .. } => true,
+        Expr::Call { name, .. } => gives_samples(name.as_str()),
+        Expr::Aggregate { .. } => true,
+    }
+}
+
+/// Whether a function of this name gives a scalar or a vector.
+fn gives_samples(name: &str) -> bool
+    ensures { result ≡ is_evaluated (given_by (function_named name.now)) }
+{
+    match Function::named(name) {
+        Some(function) => is_sampled(function.gives),
+        None => true,
+    }
+}
+
+/// Whether a type is that of a scalar or a vector.
+fn is_sampled(of: ExprType) -> bool
+    ensures { result ≡ is_evaluated of }
+{
+    match of {
+        ExprType::Scalar | ExprType::Vector => true,
+        ExprType::Str | ExprType::Range => false,
+    }
+}
+
+/// Leaves a label only one text. The empty row stays empty.
+fn set_text(universe: &Universe, row: &mut Row, name: &str, text: &str)
+    requires listing { IsListing universe.now }
+    requires shape { HasShape universe.now row.old }
+    ensures { row.new ≡ with_text universe.now name.now text.now row.old }
+{
+    let label = universe.label_of(name);
+    let class = universe.class_of(label, text);
+    row.set_class(label, class);
+}
+
+/// Leaves each label of a rule only its text, the first label last.
+fn set_labels(universe: &Universe, row: &mut Row, labels: &[RuleLabel])
+    requires listing { IsListing universe.now }
+    requires shape { HasShape universe.now row.old }
+    ensures { row.new ≡ with_texts universe.now labels.now row.old }
+{
+    let mut left = labels.len();
+    while left > 0 {
+        left -= 1;
+        let label = &labels[left];
+        set_text(universe, row, label.key.as_str(), label.value.as_str());
+    }
+}

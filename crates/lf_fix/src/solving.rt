@@ -1,0 +1,135 @@
+//! The least environment, by rounds.
+ghost use Rattle.std.specs.Prelude.{◌≡◌, ◌<◌, ◌||◌, length, IfOk};
+ghost use Rattle.lf_semantics.specs.Environments.{CoversRules, IsEnvironmentOf, IsLeast};
+ghost use Rattle.lf_semantics.specs.Listing.{IsListing};
+ghost use Rattle.lf_fix.specs.Lookups.{IsIndexOf};
+ghost use Rattle.lf_fix.specs.Rounds.{OthersHold, Rises, StepTells, Tells, TellsOf, start};
+
+use crate::readers::Readers;
+use crate::recording::recorded_row;
+use lf_ast::Rule;
+use lf_base::{Memory, Seq};
+use lf_classes::Universe;
+use lf_flow::Env;
+use std::alloc::Global;
+
+/// The least environment of rules: for each recorded name the smallest row that what its rules store lies in.
+///
+/// A rule is computed again only after a row was raised that its expression looks up.
+pub fn solve(alloc: Global, universe: &Universe, rules: &Seq<Rule>) -> Result<Env, Memory>
+    requires { CoversRules universe.now rules.now }
+    ensures { IfOk result (IsLeast universe.now rules.now) }
+{
+    let _labels = universe.labels();
+    let readers = Readers::of(alloc, rules)?;
+    let mut due = vec![in alloc; true; rules.len()]?;
+    let env = Env::bottom(alloc, universe, rules)?;
+    rounds(alloc, universe, rules, &readers, env, &mut due)
+}
+
+/// Steps of all rules, round by round, until one adds no class. At first each rule is due.
+fn rounds(
+    alloc: Global,
+    universe: &Universe,
+    rules: &Seq<Rule>,
+    readers: &Readers,
+    mut env: Env,
+    due: &mut [bool],
+) -> Result<Env, Memory>
+    requires listing { IsListing universe.now }
+    requires index { IsIndexOf rules.now readers.now }
+    requires marks { length due.old ≡ length rules.now }
+    requires rises { Rises universe.now rules.now (start universe.now rules.now) env }
+    requires hold { OthersHold universe.now rules.now env due.old }
+    ensures { IfOk result (IsLeast universe.now rules.now) }
+{
+    loop {
+        let added = raise_all(alloc, universe, rules, readers, &mut env, due)?;
+        if !added {
+            return Ok(env);
+        }
+    }
+}
+
+/// A step of each rule in turn. It says whether a class was added.
+fn raise_all(
+    alloc: Global,
+    universe: &Universe,
+    rules: &Seq<Rule>,
+    readers: &Readers,
+    env: &mut Env,
+    due: &mut [bool],
+) -> Result<bool, Memory>
+    requires listing { IsListing universe.now }
+    requires of_rules { IsEnvironmentOf universe.now rules.now env.old }
+    requires index { IsIndexOf rules.now readers.now }
+    requires marks { length due.old ≡ length rules.now }
+    requires hold { OthersHold universe.now rules.now env.old due.old }
+    ensures { IfOk result (Tells universe.now rules.now (length rules.now) env.old env.new due.new) }
+{
+    let mut added = false;
+    for k in 0..rules.len() {
+        let one = step(alloc, universe, rules, readers, k, env, due)?;
+        added = either(added, one);
+    }
+    Ok(added)
+}
+
+/// Whether one of them is true.
+fn either(a: bool, b: bool) -> bool
+    ensures { result ≡ (a || b) }
+{
+    a || b
+}
+
+/// A step of a rule, where it is due: its row is joined to that of its name, and where this adds a class, each rule that looks up the name is due again. It says
+/// whether a class was added.
+fn step(
+    alloc: Global,
+    universe: &Universe,
+    rules: &Seq<Rule>,
+    readers: &Readers,
+    k: usize,
+    env: &mut Env,
+    due: &mut [bool],
+) -> Result<bool, Memory>
+    requires listing { IsListing universe.now }
+    requires of_rules { IsEnvironmentOf universe.now rules.now env.old }
+    requires rule { k < length rules.now }
+    requires index { IsIndexOf rules.now readers.now }
+    requires marks { length due.old ≡ length rules.now }
+    requires hold { OthersHold universe.now rules.now env.old due.old }
+    ensures { IfOk result (StepTells universe.now rules.now k env.old env.new due.old due.new) }
+{
+    if !due[k] {
+        return Ok(false);
+    }
+    due[k] = false;
+    let added = raise(alloc, universe, rules, k, env)?;
+    if !added {
+        return Ok(false);
+    }
+    readers.mark(rules.get(k).name.as_str(), due);
+    Ok(true)
+}
+
+/// Joins the row of what a rule stores to that of its name. It says whether a class was added.
+fn raise(
+    alloc: Global,
+    universe: &Universe,
+    rules: &Seq<Rule>,
+    k: usize,
+    env: &mut Env,
+) -> Result<bool, Memory>
+    requires listing { IsListing universe.now }
+    requires of_rules { IsEnvironmentOf universe.now rules.now env.old }
+    requires rule { k < length rules.now }
+    ensures { IfOk result (TellsOf universe.now rules.now k env.old env.new) }
+{
+    let rule = rules.get(k);
+    if rule.alert {
+        return Ok(false);
+    }
+    let row = recorded_row(alloc, universe, env, rule)?;
+    Ok(env.raise(rule.name.as_str(), &row))
+}
