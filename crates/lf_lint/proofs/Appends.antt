@@ -1,12 +1,8 @@
 -- What a text is after several pieces were appended in turn.
-use Rattle.std.proofs.Common.{◌≡◌, ℕ, true, List, [], ◌∷◌, ◌++◌, length, ap, ◌∙◌, append_assoc, sym}
+use Rattle.std.proofs.Common.{◌≡◌, ℕ, List, [], ◌∷◌, ◌++◌, length, ap, ◌∙◌, append_assoc, sym}
 use Rattle.std.proofs.lemmas.List.Concat.{flat_map-append}
 use Rattle.lf_ast.specs.Labels.{Bytes}
-use Rattle.lf_ast.specs.declared.rule.Rule.{Rule}
-use Rattle.lf_lint.specs.declared.asked.Asked.{Asked}
-use Rattle.lf_lint.specs.declared.found.Found.TheVariants.{Rules}
-use Rattle.lf_lint.specs.Report.{lines_text, report_of, rules_lines, totals_line, verdicts_line, verdicts_of, with_labels}
-use Rattle.lf_lint.specs.Universe.{universe_of}
+use Rattle.lf_lint.specs.Report.{lines_text}
 
 -- two pieces
 pub appended_two : (start one two : List ℕ) {first second : List ℕ} → first ≡ start ++ one → second ≡ first ++ two → second ≡ start ++ (one ++ two)
@@ -35,9 +31,3 @@ pub built_report : (total verdicts : Bytes) (lines : List Bytes) {start first se
     → second ≡ first ++ lines_text (total ∷ []) → third ≡ second ++ lines_text (verdicts ∷ []) → third ≡ lines_text (lines ++ total ∷ verdicts ∷ [])
 built_report total verdicts lines n e f g =
     built_more (lines ++ total ∷ []) (verdicts ∷ []) (built_two lines (total ∷ []) n e f) g ∙ ap lines_text (append_assoc lines (total ∷ []) (verdicts ∷ []))
-
--- the report on rules where verdicts are asked for
-pub report_with_labels : (asked : Asked) (bytes : Bytes) (rules : List Rule) → asked.labels ≡ true
-    → lines_text (rules_lines asked.file bytes (universe_of rules) rules ++ totals_line 0 (length rules) ∷ verdicts_line (verdicts_of (universe_of rules) rules) ∷ []) ≡ report_of asked bytes (Rules rules)
-report_with_labels asked bytes rules h =
-    ap (λ b. lines_text (with_labels b (rules_lines asked.file bytes (universe_of rules) rules) ++ totals_line 0 (length rules) ∷ with_labels b (verdicts_line (verdicts_of (universe_of rules) rules) ∷ []))) (sym h)

@@ -1,15 +1,14 @@
 -- What one more text at the end does to the texts that are seen first, and to the test whether a text is there.
-use Rattle.std.proofs.Common.{◌≡◌, Bool, true, false, not, cond, ◌||◌, List, [], ◌∷◌, ◌++◌, map, refl, ap, ◌∙◌, if◌then◌else◌, append-nil}
+use Rattle.std.proofs.Common.{◌≡◌, Bool, true, false, not, cond, ◌||◌, List, [], ◌∷◌, ◌++◌, refl, ap, ◌∙◌, if◌then◌else◌, append-nil}
 use Rattle.std.specs.List.{filter, list_any}
 use Rattle.std.specs.Str.{bytes_eq}
 use Rattle.std.proofs.lemmas.List.Folds.{list_any-append}
 use Rattle.lf_ast.specs.Labels.{Bytes}
-use Rattle.lf_lint.specs.Universe.{first_seen, stands_in}
+use Rattle.lf_semantics.specs.Listing.{first_seen}
 
-module _ {A B : Type 0} (p : B → Bool) (f : A → B) where
-  pub list_any_map : (xs : List A) → list_any p (map f xs) ≡ list_any (λ x. p (f x)) xs
-  list_any_map [] = refl
-  list_any_map (x ∷ xs) = ap (λ b. p (f x) || b) (list_any_map xs)
+-- the text is one of these
+abbrev pub stands_in : List Bytes → Bytes → Bool
+stands_in texts text = list_any (bytes_eq text) texts
 
 module _ {A : Type 0} (p : A → Bool) where
   filter_step : (y : A) (after xs end : List A) (b : Bool) → after ≡ xs ++ end → cond b (y ∷ after) after ≡ cond b (y ∷ xs) xs ++ end

@@ -1,18 +1,18 @@
+pub mod AcceptedRules
+pub mod Again
 pub mod Appends
-pub mod BuiltTrees
-pub mod Covering
-pub mod Distincts
+pub mod DistinctKeys
 pub mod FirstSeen
-pub mod Judged
-pub mod LabelLayers
 pub mod LabelLines
-pub mod Listings
 pub mod OneExpr
 pub mod OneFile
 pub mod OneFound
+pub mod OneLeast
 pub mod OneReport
+pub mod Recorded
+pub mod Reports
 pub mod SameReports
-pub mod Seen
+pub mod SameRules
 mod ShortLists
 pub mod ShownNames
 pub mod SomeFile
@@ -21,6 +21,8 @@ pub mod Starless
 pub mod StarlessTrees
 pub mod Steps
 mod Streams
+pub mod TreePatterns
 pub mod TreeTypes
 pub mod Truths
+pub mod Universes
 pub mod Worked

@@ -2,12 +2,11 @@
 use Rattle.std.proofs.Common.{◌≡◌, ◌∙◌, ℕ, List, [], ◌∷◌, ◌++◌, map, Result, Ok, Err, refl, sym, ap, subst}
 use Rattle.std.specs.Prelude.{IfOk, IfErr}
 use Rattle.std.specs.List.{AllByRecursion, AllZip}
-use Rattle.lf_base.specs.declared.kind.Kind.TheVariants.{NotBuilt}
 use Rattle.lf_base.specs.declared.refusal.Refusal.{Refusal}
 use Rattle.lf_base.specs.declared.refusal.Refusal.TheVariants.{At, Memory}
 use Rattle.lf_ast.specs.Labels.{Bytes}
 use Rattle.lf_ast.specs.declared.rule.Rule.{Rule}
-use Rattle.lf_parse.specs.Tree.{Tree as ExprTree, tree}
+use Rattle.lf_parse.specs.Tree.{Tree as ExprTree}
 use Rattle.lf_rules.specs.Breaches.{FirstBreak}
 use Rattle.lf_rules.specs.Rules.{IsRules}
 use Rattle.lf_rules.specs.Sources.{Source}
@@ -16,8 +15,7 @@ use Rattle.lf_scalar.specs.Cells.{Fault, Gives, IfAt}
 use Rattle.lf_yaml.specs.Document.{IsTree, TreeBreaks}
 use Rattle.lf_yaml.specs.Tree.{Tree}
 use Rattle.lf_yaml.proofs.Laws.{one-tree, one-breach, never-both}
-use Rattle.lf_lint.specs.Built.{IsBuilt, recorded}
-use Rattle.lf_lint.specs.Accepted.{BreaksExpr, HasBuilt, HasExpr, HasUnbuilt, IsAccepted, IsFirst, IsRule, RefusesFile, Says, Seen, at, bad_expression, label_of, no_rules, no_tree, not_built, seen, templates_of}
+use Rattle.lf_lint.specs.Accepted.{BreaksExpr, HasExpr, IsAccepted, IsFirst, IsRule, RefusesFile, Says, Seen, at, bad_expression, label_of, no_rules, no_tree, seen, templates_of}
 use Rattle.lf_lint.proofs.OneExpr.{expr_or_breach, one_breach_of, one_expr}
 
 -- ---- the first of a list
@@ -66,16 +64,8 @@ module _ (file : ℕ) where
   all_have (s ∷ ss) [] a = absurd a
   all_have (s ∷ ss) (r ∷ rs) a = ((r.expr, a.0.0), all_have ss rs a.1)
 
-  pub all_built : (names : List Bytes) (ss : List Source) (rs : List Rule) → AllZip (IsRule file) ss rs → AllByRecursion (λ r. IsBuilt names (tree r.expr)) rs → AllByRecursion (HasBuilt names) ss
-  all_built names [] rs a b = tt
-  all_built names (s ∷ ss) [] a b = absurd a
-  all_built names (s ∷ ss) (r ∷ rs) a b = ((r.expr, a.0.0, b.0), all_built names ss rs a.1 b.1)
-
 expr_or_none : (f : Fault) (s : Source) → HasExpr s → BreaksExpr s.expr f → ⊥
 expr_or_none f s h b = expr_or_breach s.expr h.0 f h.1 b
-
-built_or_unbuilt : (names : List Bytes) (s : Source) → HasBuilt names s → HasUnbuilt names s → ⊥
-built_or_unbuilt names s h k = k.2 (subst (IsBuilt names) (one_expr s.expr h.0 k.0 h.1 k.1) h.2)
 
 -- ---- files
 
@@ -101,39 +91,22 @@ module _ (bytes : Bytes) where
   accepted_or_refused file rules f a (no_tree b) = says_or_tree a.sources f a.says b
   accepted_or_refused file rules f a (no_rules {t = t} is b) = says_or_rules a.sources t f a.says is b
   accepted_or_refused file rules f a (bad_expression {sources = ts} {s = s} says first) = bad_or_all a.sources ts s f a.says says (all_have file a.sources rules a.are_rules) first
-  accepted_or_refused file rules _ a (not_built {sources = ts} {s = s} says all first) =
-      let same : a.sources ≡ ts = one_says a.sources ts a.says says in
-      let built : AllByRecursion (HasBuilt (recorded ts)) ts = subst (λ ss. AllByRecursion (HasBuilt (recorded ss)) ss) same (all_built file (recorded a.sources) a.sources rules a.are_rules a.built) in
-      built_or_unbuilt (recorded ts) s (of_first (HasBuilt (recorded ts)) (HasBuilt (recorded ts)) (HasUnbuilt (recorded ts)) ts s built first) first.is_here
 
   first_bad : (ss ts : List Source) (s t : Source) (f g : Fault) → ss ≡ ts → IsFirst HasExpr (λ s. BreaksExpr s.expr f) ss s → IsFirst HasExpr (λ s. BreaksExpr s.expr g) ts t → f ≡ g
   first_bad ss ts s t f g same a b =
       let one : s ≡ t = one_first HasExpr (λ s. BreaksExpr s.expr f) (λ s. BreaksExpr s.expr g) (expr_or_none f) (expr_or_none g) ts s t (subst (λ us. IsFirst HasExpr (λ s. BreaksExpr s.expr f) us s) same a) b in
       one_breach_of t.expr f g (subst (λ u. BreaksExpr u.expr f) one a.is_here) b.is_here
 
-  first_unbuilt : (ss ts : List Source) (s t : Source) → ss ≡ ts → IsFirst (HasBuilt (recorded ss)) (HasUnbuilt (recorded ss)) ss s → IsFirst (HasBuilt (recorded ts)) (HasUnbuilt (recorded ts)) ts t → s ≡ t
-  first_unbuilt ss ts s t same a b =
-      one_first (HasBuilt (recorded ts)) (HasUnbuilt (recorded ts)) (HasUnbuilt (recorded ts)) (built_or_unbuilt (recorded ts)) (built_or_unbuilt (recorded ts)) ts s t
-      (subst (λ us. IsFirst (HasBuilt (recorded us)) (HasUnbuilt (recorded us)) us s) same a) b
-
   pub refused_once : (f g : Fault) → RefusesFile bytes f → RefusesFile bytes g → f ≡ g
   refused_once f g (no_tree a) (no_tree b) = one-breach bytes f g a b
   refused_once f g (no_tree a) (no_rules {t = t} is b) = absurd (never-both bytes t f is a)
   refused_once f g (no_tree a) (bad_expression {sources = ts} says first) = absurd (says_or_tree ts f says a)
-  refused_once f _ (no_tree a) (not_built {sources = ts} says all first) = absurd (says_or_tree ts f says a)
   refused_once f g (no_rules {t = t} is a) (no_tree b) = absurd (never-both bytes t g is b)
   refused_once f g (no_rules {t = t} is a) (no_rules {t = u} are b) = one_fault u f g (subst (λ w. FirstBreak w f) (one-tree bytes t u is are) a) b
   refused_once f g (no_rules {t = t} is a) (bad_expression {sources = ts} says first) = absurd (says_or_rules ts t f says is a)
-  refused_once f _ (no_rules {t = t} is a) (not_built {sources = ts} says all first) = absurd (says_or_rules ts t f says is a)
   refused_once f g (bad_expression {sources = ss} says first) (no_tree b) = absurd (says_or_tree ss g says b)
   refused_once f g (bad_expression {sources = ss} says first) (no_rules {t = t} is b) = absurd (says_or_rules ss t g says is b)
   refused_once f g (bad_expression {sources = ss} {s = s} says first) (bad_expression {sources = ts} {s = t} tells other) = first_bad ss ts s t f g (one_says ss ts says tells) first other
-  refused_once f _ (bad_expression {sources = ss} {s = s} says first) (not_built {sources = ts} tells all other) = absurd (bad_or_all ts ss s f tells says all first)
-  refused_once _ g (not_built {sources = ss} says all first) (no_tree b) = absurd (says_or_tree ss g says b)
-  refused_once _ g (not_built {sources = ss} says all first) (no_rules {t = t} is b) = absurd (says_or_rules ss t g says is b)
-  refused_once _ g (not_built {sources = ss} says all first) (bad_expression {sources = ts} {s = t} tells other) = absurd (bad_or_all ss ts t g says tells all other)
-  refused_once _ _ (not_built {sources = ss} {s = s} says all first) (not_built {sources = ts} {s = t} tells every other) =
-      ap (λ (u : Source). at NotBuilt u.expr.span) (first_unbuilt ss ts s t (one_says ss ts says tells) first other)
 
   -- ---- so an answer that is right is the only one
 

@@ -1,76 +1,67 @@
 -- Rules that are the same but for where they lie in memory have one report.
-use Rattle.std.proofs.Common.{◌≡◌, ℕ, List, [], ◌∷◌, ◌++◌, map, length, refl, ◌∙◌, ap, suc, if◌then◌else◌, codes}
-use Rattle.std.specs.List.{AllZip, flat_map}
+use Rattle.std.proofs.Common.{◌≡◌, ℕ, ◌+◌, Bool, true, false, cond, not, List, [], ◌∷◌, ◌++◌, map, length, refl, sym, ◌∙◌, ap, subst, if◌then◌else◌}
+use Rattle.std.specs.List.{AllZip, count_by, flat_map}
+use Rattle.std.proofs.lemmas.List.Sums.{sum_by-cons}
 use Rattle.lf_ast.specs.Labels.{Bytes}
-use Rattle.lf_base.specs.declared.place.Span.{Span}
 use Rattle.lf_ast.specs.declared.rule.Rule.{Rule}
-use Rattle.lf_ast.specs.declared.rule.RuleLabel.{RuleLabel}
-use Rattle.lf_parse.specs.Tree.{tree}
-use Rattle.lf_semantics.specs.Rows.{asked_of}
-use Rattle.lf_lint.specs.declared.asked.Asked.{Asked}
-use Rattle.lf_lint.specs.declared.found.Found.TheVariants.{Rules}
+use Rattle.lf_base.specs.declared.place.Span.{Span}
+use Rattle.lf_semantics.specs.ClassRows.{Sets, is_live}
+use Rattle.lf_semantics.specs.Environments.{IsLeast, rule_row}
+use Rattle.lf_semantics.specs.Listing.{Listing, universe_of}
+use Rattle.lf_semantics.specs.RowTable.{Environment}
 use Rattle.lf_lint.specs.declared.report.verdict.Verdict.{Verdict}
-use Rattle.lf_lint.specs.Report.{label_line, lines_text, place_text, report_of, rule_line, rule_lines, rules_lines, totals_line, verdicts_line, verdicts_of, with_labels}
-use Rattle.lf_lint.specs.Universe.{first_seen, labels_of, rule_labels, set_labels, universe_of}
-use Rattle.lf_lint.specs.Verdicts.{verdict_from, verdict_of}
-use Rattle.lf_lint.proofs.Seen.{known_same, labels_same}
+use Rattle.lf_lint.specs.Report.{labels_of, labels_text, lines_text, place_text, rule_line, rule_lines, rules_lines, said_lines, totals_line, totals_text, verdicts_line}
+use Rattle.lf_lint.specs.Verdicts.{empty_count, is_empty_rule, verdicts_in, verdicts_of}
+use Rattle.lf_lint.proofs.OneLeast.{one_least}
+use Rattle.lf_lint.proofs.SameRules.{AreSame, flat_same, least_same, length_same, row_same, universe_same}
 
--- two rules say the same
-pub record AreSame (r s : Rule) : Type 0 where
-  pub alert : r.alert ≡ s.alert
-  pub name : r.name ≡ s.name
-  pub name_span : r.name_span ≡ s.name_span
-  pub expr : tree r.expr ≡ tree s.expr
-  pub expr_span : r.expr_span ≡ s.expr_span
-  pub labels : r.labels ≡ s.labels
+rule_lines_same : (r s : Rule) → AreSame r s → (file bytes : Bytes) (labels : List Bytes) (row : Rule → Sets) → row r ≡ row s → rule_lines file bytes labels row r ≡ rule_lines file bytes labels row s
+rule_lines_same r s same file bytes labels row e =
+    ap (λ (p : Span). rule_line (place_text file bytes p.start) r.name ∷ said_lines (place_text file bytes r.expr_span.start) labels (row r)) same.name_span
+    ∙ ap (λ (name : Bytes). rule_line (place_text file bytes s.name_span.start) name ∷ said_lines (place_text file bytes r.expr_span.start) labels (row r)) same.name
+    ∙ ap (λ (p : Span). rule_line (place_text file bytes s.name_span.start) s.name ∷ said_lines (place_text file bytes p.start) labels (row r)) same.expr_span
+    ∙ ap (λ (sets : Sets). rule_line (place_text file bytes s.name_span.start) s.name ∷ said_lines (place_text file bytes s.expr_span.start) labels sets) e
 
-module _ (r s : Rule) (same : AreSame r s) where
-  verdict_same : (label : Bytes) → verdict_of r label ≡ verdict_of s label
-  unfolding verdict_of
-  verdict_same label = ap verdict_from (known_same r.expr s.expr same.expr (asked_of label))
+count_same : (p : Rule → Bool) → ((r s : Rule) → AreSame r s → p r ≡ p s) → (rs ss : List Rule) → AllZip AreSame rs ss → count_by p rs ≡ count_by p ss
+count_same p h [] [] all = refl
+count_same p h [] (s ∷ ss) all = absurd all
+count_same p h (r ∷ rs) [] all = absurd all
+count_same p h (r ∷ rs) (s ∷ ss) all =
+    sum_by-cons (λ y. cond (p y) 1 0) r rs
+    ∙ ap (λ (b : Bool). cond b 1 0 + count_by p rs) (h r s all.0)
+    ∙ ap (λ (n : ℕ). cond (p s) 1 0 + n) (count_same p h rs ss all.1)
+    ∙ sym (sum_by-cons (λ y. cond (p y) 1 0) s ss)
 
-  verdicts_same : (labels : List Bytes) → map (verdict_of r) labels ≡ map (verdict_of s) labels
-  verdicts_same [] = refl
-  verdicts_same (label ∷ labels) = ap (λ v. v ∷ map (verdict_of r) labels) (verdict_same label) ∙ ap (λ l. verdict_of s label ∷ l) (verdicts_same labels)
+module _ (file bytes : Bytes) (rs ss : List Rule) (all : AllZip AreSame rs ss) (env : Environment) where
+  abbrev text_by : List Bytes → (Rule → Sets) → List Rule → Bytes
+  text_by labels row rules = lines_text (rules_lines file bytes labels row rules ++ totals_line 0 (length rules) ∷ verdicts_line (verdicts_of row rules) (empty_count row rules) ∷ [])
 
-  rule_labels_same : rule_labels r ≡ rule_labels s
-  rule_labels_same =
-      ap (λ l. l ++ set_labels r) (labels_same r.expr s.expr same.expr)
-      ∙ ap (λ b. labels_of s.expr ++ (if b then [] else map (λ (l : RuleLabel). l.key) r.labels)) same.alert
-      ∙ ap (λ (ls : List RuleLabel). labels_of s.expr ++ (if s.alert then [] else map (λ (l : RuleLabel). l.key) ls)) same.labels
+  abbrev text_of : List Bytes → ℕ → List Verdict → ℕ → Bytes
+  text_of lines n verdicts empty = lines_text (lines ++ totals_line 0 n ∷ verdicts_line verdicts empty ∷ [])
 
-  label_lines_same : (file bytes : Bytes) (labels : List Bytes) → map (λ label. label_line (place_text file bytes r.expr_span.start) label (verdict_of r label)) labels
-      ≡ map (λ label. label_line (place_text file bytes s.expr_span.start) label (verdict_of s label)) labels
-  label_lines_same file bytes [] = refl
-  label_lines_same file bytes (label ∷ labels) =
-      ap (λ v. label_line (place_text file bytes r.expr_span.start) label v ∷ map (λ l. label_line (place_text file bytes r.expr_span.start) l (verdict_of r l)) labels) (verdict_same label)
-      ∙ ap (λ (p : Span). label_line (place_text file bytes p.start) label (verdict_of s label) ∷ map (λ l. label_line (place_text file bytes r.expr_span.start) l (verdict_of r l)) labels) same.expr_span
-      ∙ ap (λ l. label_line (place_text file bytes s.expr_span.start) label (verdict_of s label) ∷ l) (label_lines_same file bytes labels)
+  labels_text_same : labels_text file bytes (rule_row (universe_of rs) env) rs ≡ labels_text file bytes (rule_row (universe_of ss) env) ss
+  labels_text_same =
+      let u = universe_of ss in
+      let row : Rule → Sets = rule_row u env in
+      let labels = labels_of u in
+      ap (λ (v : Listing). text_by (labels_of v) (rule_row v env) rs) (universe_same rs ss all)
+      ∙ ap (λ (lines : List Bytes). text_of lines (length rs) (verdicts_of row rs) (empty_count row rs))
+      (flat_same (rule_lines file bytes labels row) (λ r s same. rule_lines_same r s same file bytes labels row (row_same u env r s same)) rs ss all)
+      ∙ ap (λ (n : ℕ). text_of (rules_lines file bytes labels row ss) n (verdicts_of row rs) (empty_count row rs)) (length_same rs ss all)
+      ∙ ap (λ (verdicts : List Verdict). text_of (rules_lines file bytes labels row ss) (length ss) verdicts (empty_count row rs))
+      (flat_same (λ r. verdicts_in (row r)) (λ r s same. ap verdicts_in (row_same u env r s same)) rs ss all)
+      ∙ ap (λ (n : ℕ). text_of (rules_lines file bytes labels row ss) (length ss) (verdicts_of row ss) n)
+      (count_same (is_empty_rule row) (λ r s same. ap (λ (sets : Sets). not (is_live sets)) (row_same u env r s same)) rs ss all)
 
-  rule_lines_same : (file bytes : Bytes) (labels : List Bytes) → rule_lines file bytes labels r ≡ rule_lines file bytes labels s
-  rule_lines_same file bytes labels =
-      ap (λ (p : Span). rule_line (place_text file bytes p.start) r.name ∷ map (λ l. label_line (place_text file bytes r.expr_span.start) l (verdict_of r l)) labels) same.name_span
-      ∙ ap (λ name. rule_line (place_text file bytes s.name_span.start) name ∷ map (λ l. label_line (place_text file bytes r.expr_span.start) l (verdict_of r l)) labels) same.name
-      ∙ ap (λ l. rule_line (place_text file bytes s.name_span.start) s.name ∷ l) (label_lines_same file bytes labels)
+module _ (file bytes : Bytes) (rs ss : List Rule) (all : AllZip AreSame rs ss) (a b : Environment) where
+  -- the least environments are one
+  solved_same : IsLeast (universe_of rs) rs a → IsLeast (universe_of ss) ss b → labels_text file bytes (rule_row (universe_of rs) a) rs ≡ labels_text file bytes (rule_row (universe_of ss) b) ss
+  solved_same h k =
+      let P : Listing → Type 0 = λ u. IsLeast u rs a in
+      let same : a ≡ b = one_least (universe_of ss) ss a b (least_same (universe_of ss) rs ss all a (subst P (universe_same rs ss all) h)) k in
+      labels_text_same file bytes rs ss all a ∙ ap (λ (env : Environment). labels_text file bytes (rule_row (universe_of ss) env) ss) same
 
-flat_same : {X : Type 0} (f : Rule → List X) → ((r s : Rule) → AreSame r s → f r ≡ f s) → (rs ss : List Rule) → AllZip AreSame rs ss → flat_map f rs ≡ flat_map f ss
-flat_same f h [] [] all = refl
-flat_same f h [] (s ∷ ss) all = absurd all
-flat_same f h (r ∷ rs) [] all = absurd all
-flat_same f h (r ∷ rs) (s ∷ ss) all = ap (λ l. l ++ flat_map f rs) (h r s all.0) ∙ ap (λ l. f s ++ l) (flat_same f h rs ss all.1)
-
-length_same : (rs ss : List Rule) → AllZip AreSame rs ss → length rs ≡ length ss
-length_same [] [] all = refl
-length_same [] (s ∷ ss) all = absurd all
-length_same (r ∷ rs) [] all = absurd all
-length_same (r ∷ rs) (s ∷ ss) all = ap suc (length_same rs ss all.1)
-
-pub report_same : (asked : Asked) (bytes : Bytes) (rs ss : List Rule) → AllZip AreSame rs ss → report_of asked bytes (Rules rs) ≡ report_of asked bytes (Rules ss)
-report_same asked bytes rs ss all =
-    let universe : universe_of rs ≡ universe_of ss = ap (λ l. first_seen (codes "__name__" ∷ l) ++ codes "*" ∷ []) (flat_same rule_labels rule_labels_same rs ss all) in
-    let R : List Bytes → List Bytes → ℕ → List Verdict → Bytes = λ labels lines n verdicts.
-    lines_text (with_labels asked.labels lines ++ totals_line 0 n ∷ with_labels asked.labels (verdicts_line verdicts ∷ [])) in
-    ap (λ u. R u (rules_lines asked.file bytes u rs) (length rs) (verdicts_of u rs)) universe
-    ∙ ap (λ l. R (universe_of ss) l (length rs) (verdicts_of (universe_of ss) rs)) (flat_same (rule_lines asked.file bytes (universe_of ss)) (λ r s same. rule_lines_same r s same asked.file bytes (universe_of ss)) rs ss all)
-    ∙ ap (λ n. R (universe_of ss) (rules_lines asked.file bytes (universe_of ss) ss) n (verdicts_of (universe_of ss) rs)) (length_same rs ss all)
-    ∙ ap (λ v. R (universe_of ss) (rules_lines asked.file bytes (universe_of ss) ss) (length ss) v) (flat_same (λ r. map (verdict_of r) (universe_of ss)) (λ r s same. verdicts_same r s same (universe_of ss)) rs ss all)
+  pub reports_same : (labels : Bool) → (labels ≡ true → IsLeast (universe_of rs) rs a) → (labels ≡ true → IsLeast (universe_of ss) ss b)
+      → (if labels then labels_text file bytes (rule_row (universe_of rs) a) rs else totals_text rs) ≡ (if labels then labels_text file bytes (rule_row (universe_of ss) b) ss else totals_text ss)
+  reports_same true h k = solved_same (h refl) (k refl)
+  reports_same false h k = ap (λ (n : ℕ). lines_text (totals_line 0 n ∷ [])) (length_same rs ss all)

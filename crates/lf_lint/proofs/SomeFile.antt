@@ -1,34 +1,27 @@
 -- A file whose characters are allowed has rules or a refusal.
-use Rattle.std.proofs.Common.{◌≡◌, ◌≢◌, ◌⊎◌, inl, inr, ◌+◌, ◌<◌, ◌≤◌, ℕ, zero, suc, Bool, true, false, List, [], ◌∷◌, ◌++◌, map, length, take, Option, Some, None, Result, Ok, Err, refl, sym, ◌∙◌, ap, subst, arith}
-use Rattle.std.specs.List.{AllByRecursion, AllZip, IsDistinct, list_all, list_any}
-use Rattle.std.specs.Str.{bytes_eq}
+use Rattle.std.proofs.Common.{◌≡◌, ◌⊎◌, inl, inr, ◌+◌, ◌<◌, ◌≤◌, ℕ, zero, suc, Bool, true, false, List, [], ◌∷◌, ◌++◌, map, length, take, Result, Ok, Err, refl, sym, ◌∙◌, ap, subst, arith}
+use Rattle.std.specs.List.{AllByRecursion, AllZip}
 use denote.RawPtr.{null_ptr}
 use Rattle.std.specs.Global.{Box}
-use Rattle.std.proofs.lemmas.Bool.{false≢true}
 use Rattle.std.proofs.lemmas.List.{map-append}
-use Rattle.lf_base.specs.declared.kind.Kind.TheVariants.{NotBuilt, TooDeep}
-use Rattle.lf_base.specs.declared.refusal.Refusal.{Refusal}
+use Rattle.lf_base.specs.declared.kind.Kind.TheVariants.{TooDeep}
 use Rattle.lf_base.specs.declared.refusal.Refusal.TheVariants.{At}
-use Rattle.lf_ast.specs.Breaches.{Tells}
 use Rattle.lf_ast.specs.Labels.{Bytes}
 use Rattle.lf_ast.specs.Types.{HasType}
 use Rattle.lf_ast.specs.Judging.{Judged, judged}
-use Rattle.lf_ast.specs.declared.expr.Agg.{Agg}
 use Rattle.lf_ast.specs.declared.expr.Expr.{Expr}
 use Rattle.lf_ast.specs.declared.expr.Expr.TheFolds.{fold-roll-Expr}
 use Rattle.lf_ast.specs.declared.expr.Expr.TheOpen as O
 use Rattle.lf_ast.specs.declared.expr.Expr.TheVariants as V
 use Rattle.lf_ast.specs.declared.expr.ExprType.{ExprType}
-use Rattle.lf_ast.specs.declared.expr.Grouping.{Grouping}
-use Rattle.lf_ast.specs.declared.expr.Matcher.{Matcher}
-use Rattle.lf_ast.specs.declared.expr.Sight.{Sight}
 use Rattle.lf_ast.specs.declared.fault.Fault.{Fault as TypeFault}
 use Rattle.lf_ast.specs.declared.rule.Rule.{Rule}
 use Rattle.lf_ast.proofs.Judged.{has_judged, tells_judged}
+use Rattle.lf_classes.proofs.FaultsFound.{passes_or_tells}
 use Rattle.lf_lex.specs.Tokens.{Tokens, Breaks, Fault as TokenFault}
 use Rattle.lf_lex.specs.declared.token.Token.{Token}
 use Rattle.lf_lex.proofs.TokenLaws.{tokens_or_breach}
-use Rattle.lf_parse.specs.Answer.{Gives, IsExpression, Refuses, place, too_deep}
+use Rattle.lf_parse.specs.Answer.{IsExpression, Refuses, place, too_deep}
 use Rattle.lf_parse.specs.Depth.{IsBounded, TooDeepAt, is_too_deep, nesting}
 use Rattle.lf_parse.specs.Reading.{answer}
 use Rattle.lf_parse.specs.Tree.{Tree as ExprTree, Number, Str, Selector, Subquery, Paren, Unary, Binary, Call, Aggregate, Trees, Nil, Then, then_all, tree, tree_layer}
@@ -42,8 +35,8 @@ use Rattle.lf_yaml.specs.Characters.{AreCharacters}
 use Rattle.lf_yaml.specs.Document.{IsTree, TreeBreaks}
 use Rattle.lf_yaml.specs.Tree.{Tree}
 use Rattle.lf_yaml.proofs.Laws.{some-answer}
-use Rattle.lf_lint.specs.Built.{AreSelection, IsBuilt, IsPresent, IsSelection, Selects, SelectsMetric, is_plain, is_sum_by, matched_labels, recorded}
-use Rattle.lf_lint.specs.Accepted.{BreaksExpr, HasBuilt, HasExpr, HasUnbuilt, IsAccepted, IsExpr, IsFirst, IsRule, RefusesFile, Says, at, bad_expression, bad_tokens, end_of, no_expression, no_rules, no_tree, no_type, not_built, rule_of}
+use Rattle.lf_semantics.specs.PatternBreaches.{BreaksPatterns, TellsPattern}
+use Rattle.lf_lint.specs.Accepted.{BreaksExpr, HasExpr, IsAccepted, IsExpr, IsFirst, IsRule, RefusesFile, Says, at, bad_expression, bad_pattern, bad_tokens, end_of, no_expression, no_rules, no_tree, no_type, rule_of}
 
 -- ---- each tree is that of an expression
 
@@ -128,99 +121,34 @@ module _ (ts : List Token) where
   answered end (Err f) is b = inr (f, (answers_read ts end (Err (At f.kind f.span)) b is).refused)
 
 module _ (v : Value) where
-  typed_or : (ts : List Token) (e : Expr) → Tokens v.from v.text ts → IsExpression ts (tree e) → (j : Judged) → judged e ≡ j → ((d : Expr) × IsExpr v d) ⊎ ((f : Fault) × BreaksExpr v f)
-  typed_or ts e h x (Ok t) is = inl (e, record { tokens = ts; are_tokens = h; expression = x; type = t; has_type = has_judged e t is })
+  abbrev Either : Type 0
+  Either = ((d : Expr) × IsExpr v d) ⊎ ((f : Fault) × BreaksExpr v f)
+
+  unbroken_or : (ts : List Token) (e : Expr) (t : ExprType) → Tokens v.from v.text ts → IsExpression ts (tree e) → HasType e t → ((f : TypeFault) → BreaksPatterns e f → ⊥) ⊎ ((f : TypeFault) × TellsPattern e f) → Either
+  unbroken_or ts e t h x typed (inl unbroken) = inl (e, record { tokens = ts; are_tokens = h; expression = x; type = t; has_type = typed; unbroken = unbroken })
+  unbroken_or ts e t h x typed (inr f) = inr (at f.0.kind f.0.span, bad_pattern e t h x typed f.1)
+
+  typed_or : (ts : List Token) (e : Expr) → Tokens v.from v.text ts → IsExpression ts (tree e) → (j : Judged) → judged e ≡ j → Either
+  typed_or ts e h x (Ok t) is = unbroken_or ts e t h x (has_judged e t is) (passes_or_tells e)
   typed_or ts e h x (Err f) is = inr (at f.kind f.span, no_type e h x (tells_judged e f is))
 
-  tokens_or : (ts : List Token) → Tokens v.from v.text ts → ((d : Expr) × IsExpr v d) ⊎ ((f : Fault) × BreaksExpr v f)
+  tokens_or : (ts : List Token) → Tokens v.from v.text ts → Either
   tokens_or ts h = by (bounded_or ts)
     where
-      read : ((e : Expr) × IsExpression ts (tree e)) ⊎ ((f : TokenFault) × Refuses ts (end_of v) f) → ((d : Expr) × IsExpr v d) ⊎ ((f : Fault) × BreaksExpr v f)
+      read : ((e : Expr) × IsExpression ts (tree e)) ⊎ ((f : TokenFault) × Refuses ts (end_of v) f) → Either
       read (inl e) = typed_or ts e.0 h e.1 (judged e.0) refl
       read (inr f) = inr (at f.0.kind f.0.span, no_expression h f.1)
 
-      by : IsBounded ts ⊎ ((k : ℕ) × TooDeepAt ts k) → ((d : Expr) × IsExpr v d) ⊎ ((f : Fault) × BreaksExpr v f)
+      by : IsBounded ts ⊎ ((k : ℕ) × TooDeepAt ts k) → Either
       by (inl b) = read (answered ts (end_of v) (answer ts (end_of v)) refl b)
       by (inr d) = inr (at TooDeep (place ts (end_of v) d.0), no_expression h (too_deep d.0 d.1))
 
-  pub expr_or : ((d : Expr) × IsExpr v d) ⊎ ((f : Fault) × BreaksExpr v f)
+  pub expr_or : Either
   expr_or = by (tokens_or_breach v.from v.text)
     where
-      by : ((ts : List Token) × Tokens v.from v.text ts) ⊎ ((f : TokenFault) × Breaks v.from v.text f) → ((d : Expr) × IsExpr v d) ⊎ ((f : Fault) × BreaksExpr v f)
+      by : ((ts : List Token) × Tokens v.from v.text ts) ⊎ ((f : TokenFault) × Breaks v.from v.text f) → Either
       by (inl t) = tokens_or t.0 t.1
       by (inr f) = inr (at f.0.kind f.0.span, bad_tokens f.1)
-
--- ---- an expression is built or isn't
-
-true_or : (b : Bool) → (b ≡ true) ⊎ (b ≡ true → ⊥)
-true_or true = inl refl
-true_or false = inr false≢true
-
-false_or : (b : Bool) → (b ≡ false) ⊎ (b ≡ false → ⊥)
-false_or true = inr (λ h. false≢true (sym h))
-false_or false = inl refl
-
-none_or : {X : Type 0} (o : Option X) → (o ≡ None) ⊎ (o ≡ None → ⊥)
-none_or None = inl refl
-none_or (Some x) = inr (λ h. absurd (cc))
-
-both_or : {P Q : Type 0} → P ⊎ (P → ⊥) → Q ⊎ (Q → ⊥) → (P × Q) ⊎ (P × Q → ⊥)
-both_or (inl p) (inl q) = inl (p, q)
-both_or (inl p) (inr n) = inr (λ h. n h.1)
-both_or (inr n) q = inr (λ h. n h.0)
-
-others_or : (z : Bytes) (zs : List Bytes) → AllByRecursion (λ y. bytes_eq z y ≡ false) zs ⊎ (AllByRecursion (λ y. bytes_eq z y ≡ false) zs → ⊥)
-others_or z [] = inl tt
-others_or z (y ∷ zs) = both_or (false_or (bytes_eq z y)) (others_or z zs)
-
-distinct_or : (xs : List Bytes) → IsDistinct bytes_eq xs ⊎ (IsDistinct bytes_eq xs → ⊥)
-unfolding IsDistinct
-distinct_or [] = inl tt
-distinct_or (x ∷ xs) = both_or (others_or x xs) (distinct_or xs)
-
-module _ (names : List Bytes) where
-  abbrev Parts : Bytes → List Matcher → Sight → Type 0
-  Parts name matchers sight =
-      (list_any (bytes_eq name) names ≡ false) × ((list_all is_plain matchers ≡ true) × (IsDistinct bytes_eq (matched_labels matchers) × ((sight.range ≡ None) × ((sight.offset ≡ None) × (sight.at ≡ None)))))
-
-  parts_or : (name : Bytes) (matchers : List Matcher) (sight : Sight) → Parts name matchers sight ⊎ (Parts name matchers sight → ⊥)
-  parts_or name matchers sight =
-      both_or (false_or (list_any (bytes_eq name) names)) (both_or (true_or (list_all is_plain matchers)) (both_or (distinct_or (matched_labels matchers)) (both_or (none_or sight.range) (both_or (none_or sight.offset) (none_or sight.at)))))
-
-  selects_or : (name : Option Bytes) (matchers : List Matcher) (sight : Sight) → Selects names name matchers sight ⊎ (Selects names name matchers sight → ⊥)
-  selects_or None matchers sight = inr (λ h. h)
-  selects_or (Some name) matchers sight = by (parts_or name matchers sight)
-    where
-      by : Parts name matchers sight ⊎ (Parts name matchers sight → ⊥) → SelectsMetric names name matchers sight ⊎ (SelectsMetric names name matchers sight → ⊥)
-      by (inl p) = inl (record { unrecorded = p.0; plain = p.1.0; distinct = p.1.1.0; present = record { range = p.1.1.1.0; offset = p.1.1.1.1.0; at = p.1.1.1.1.1 } })
-      by (inr n) = inr (λ s. n (s.unrecorded, (s.plain, (s.distinct, (s.present.range, (s.present.offset, s.present.at))))))
-
-  selection_or : (t : ExprTree) → IsSelection names t ⊎ (IsSelection names t → ⊥)
-  selection_or (Selector name matchers sight span) = selects_or name matchers sight
-  selection_or (Paren of span) = selection_or of
-  selection_or (Number text span) = inr (λ h. h)
-  selection_or (Str text span) = inr (λ h. h)
-  selection_or (Subquery of sight span) = inr (λ h. h)
-  selection_or (Unary minus of span) = inr (λ h. h)
-  selection_or (Binary op m left right span) = inr (λ h. h)
-  selection_or (Call name args span) = inr (λ h. h)
-  selection_or (Aggregate op grouping args span) = inr (λ h. h)
-
-  argument_or : (xs : Trees) → AreSelection names xs ⊎ (AreSelection names xs → ⊥)
-  argument_or Nil = inr (λ h. h)
-  argument_or (Then Nil t) = selection_or t
-  argument_or (Then (Then xs s) t) = inr (λ h. h)
-
-  built_or : (t : ExprTree) → IsBuilt names t ⊎ (IsBuilt names t → ⊥)
-  built_or (Aggregate op grouping args span) = both_or (true_or (is_sum_by op grouping)) (argument_or args)
-  built_or (Paren of span) = built_or of
-  built_or (Number text span) = inr (λ h. h)
-  built_or (Str text span) = inr (λ h. h)
-  built_or (Selector name matchers sight span) = inr (λ h. h)
-  built_or (Subquery of sight span) = inr (λ h. h)
-  built_or (Unary minus of span) = inr (λ h. h)
-  built_or (Binary op m left right span) = inr (λ h. h)
-  built_or (Call name args span) = inr (λ h. h)
 
 -- ---- the first of a list
 
@@ -241,34 +169,19 @@ abbrev HasFault : Source → Type 0
 HasFault s = (f : Fault) × BreaksExpr s.expr f
 
 module _ (bytes : Bytes) (file : ℕ) where
-  rules_built : (names : List Bytes) (ss : List Source) → AllByRecursion (HasBuilt names) ss → (rs : List Rule) × AllZip (IsRule file) ss rs × AllByRecursion (λ r. IsBuilt names (tree r.expr)) rs
-  rules_built names [] a = ([], tt, tt)
-  rules_built names (s ∷ ss) a =
-      let later : (rs : List Rule) × AllZip (IsRule file) ss rs × AllByRecursion (λ r. IsBuilt names (tree r.expr)) rs = rules_built names ss a.1 in
-      (rule_of file s a.0.0 ∷ later.0, ((a.0.1, refl), later.1), (a.0.2, later.2))
-
-  one_built_or : (names : List Bytes) (s : Source) → HasExpr s → HasBuilt names s ⊎ HasUnbuilt names s
-  one_built_or names s h = by (built_or names (tree h.0))
-    where
-      by : IsBuilt names (tree h.0) ⊎ (IsBuilt names (tree h.0) → ⊥) → HasBuilt names s ⊎ HasUnbuilt names s
-      by (inl b) = inl (h.0, h.1, b)
-      by (inr n) = inr (h.0, h.1, n)
-
-  each_built_or : (names : List Bytes) (ss : List Source) → AllByRecursion HasExpr ss → AllByRecursion (HasBuilt names) ss ⊎ ((s : Source) × IsFirst (HasBuilt names) (HasUnbuilt names) ss s)
-  each_built_or names [] a = inl tt
-  each_built_or names (s ∷ ss) a = more_first (HasBuilt names) (HasUnbuilt names) s ss (one_built_or names s a.0) (each_built_or names ss a.1)
+  rules_read : (ss : List Source) → AllByRecursion HasExpr ss → (rs : List Rule) × AllZip (IsRule file) ss rs
+  rules_read [] a = ([], tt)
+  rules_read (s ∷ ss) a =
+      let later : (rs : List Rule) × AllZip (IsRule file) ss rs = rules_read ss a.1 in
+      (rule_of file s a.0.0 ∷ later.0, ((a.0.1, refl), later.1))
 
   abbrev Answered : Type 0
   Answered = ((rules : List Rule) × IsAccepted bytes file rules) ⊎ ((f : Fault) × RefusesFile bytes f)
 
-  built_answer : (ss : List Source) → Says bytes ss → AllByRecursion HasExpr ss → AllByRecursion (HasBuilt (recorded ss)) ss ⊎ ((s : Source) × IsFirst (HasBuilt (recorded ss)) (HasUnbuilt (recorded ss)) ss s) → Answered
-  built_answer ss says all (inl b) =
-      let found : (rs : List Rule) × AllZip (IsRule file) ss rs × AllByRecursion (λ r. IsBuilt (recorded ss) (tree r.expr)) rs = rules_built (recorded ss) ss b in
-      inl (found.0, record { sources = ss; says = says; are_rules = found.1; built = found.2 })
-  built_answer ss says all (inr i) = inr (at NotBuilt i.0.expr.span, not_built says all i.1)
-
   read_answer : (ss : List Source) → Says bytes ss → AllByRecursion HasExpr ss ⊎ ((s : Source) × IsFirst HasExpr HasFault ss s) → Answered
-  read_answer ss says (inl all) = built_answer ss says all (each_built_or (recorded ss) ss all)
+  read_answer ss says (inl all) =
+      let found : (rs : List Rule) × AllZip (IsRule file) ss rs = rules_read ss all in
+      inl (found.0, record { sources = ss; says = says; are_rules = found.1 })
   read_answer ss says (inr i) =
       inr (i.1.is_here.0, bad_expression says (record { front = i.1.front; back = i.1.back; list = i.1.list; all_before = i.1.all_before; is_here = i.1.is_here.1 }))
 

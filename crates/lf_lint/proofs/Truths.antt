@@ -1,129 +1,246 @@
--- Each claim of a report on the labels of rules is true.
-use Rattle.std.proofs.Common.{◌≡◌, ◌≢◌, ◌↔◌, Bool, true, false, List, [], ◌∷◌, ◌++◌, map, length, Option, refl, sym, ◌∙◌, ap, if◌then◌else◌}
-use Rattle.std.specs.List.{AllByRecursion, Contains, flat_map}
+-- What a report says of the labels of rules is true.
+use Rattle.std.proofs.Common.{◌≡◌, ◌≢◌, ◌↔◌, ℕ, zero, suc, ◌+◌, ◌<◌, ◌≤◌, Bool, true, false, not, cond, eqb, ◌&&◌, ◌||◌, drop, List, [], ◌∷◌, ◌++◌, map, length, get_or, length-append, Option, Some, refl, sym, ◌∙◌, ap, subst, arith, codes, if◌then◌else◌}
+use Rattle.std.specs.Prelude.{slice_get}
+use Rattle.std.specs.List.{AllByRecursion, Contains, count_by, flat_map, list_any}
+use Rattle.std.proofs.lemmas.List.Sums.{sum_by-cons}
+use Rattle.std.proofs.lemmas.Bool.Decides.{Decides-eqb}
 use Rattle.lf_ast.specs.Labels.{Bytes, Labels}
 use Rattle.lf_ast.specs.declared.rule.Rule.{Rule}
-use Rattle.lf_semantics.specs.declared.Presence.{Presence}
-use Rattle.lf_semantics.specs.Texts.{value_of}
-use Rattle.lf_semantics.specs.Rows.{Allows, asked_of}
-use Rattle.lf_semantics.specs.Runs.{World, IsSample}
-use Rattle.lf_semantics.specs.Table.{either, known}
-use Rattle.lf_semantics.proofs.Lying.{sample_allows}
+use Rattle.lf_semantics.specs.ClassRows.{Lies, Sets, indexed_from, is_live}
+use Rattle.lf_semantics.specs.Environments.{IsEnvironmentOf, IsLeast, rule_row}
+use Rattle.lf_semantics.specs.Listing.{IsListing, Listing, label_of, universe_of}
+use Rattle.lf_semantics.specs.RowTable.{Environment, has_class, may_be_absent, may_be_present}
+use Rattle.lf_semantics.specs.Worlds.{World, IsSample, SetsNoName}
+use Rattle.lf_semantics.proofs.ListingLaws.{universe_covers, universe_is_listing}
 use Rattle.lf_semantics.proofs.Members.{here, behind}
+use Rattle.lf_semantics.proofs.Places.{place_le}
+use Rattle.lf_semantics.proofs.RecordedLies.{sample_lies}
+use Rattle.lf_semantics.proofs.RowLaws.{length_row}
+use Rattle.lf_semantics.proofs.Told.{is_absent, is_present, not_empty}
 use Rattle.lf_lint.specs.declared.asked.Asked.{Asked}
 use Rattle.lf_lint.specs.declared.found.Found.{Found}
 use Rattle.lf_lint.specs.declared.found.Found.TheVariants.{Rules, Refused}
 use Rattle.lf_lint.specs.declared.report.verdict.Verdict.{Verdict}
 use Rattle.lf_lint.specs.declared.report.verdict.Verdict.TheVariants.{Guaranteed, Impossible, Unresolved}
 use Rattle.lf_lint.specs.Accepted.{IsAccepted}
-use Rattle.lf_lint.specs.Ends.{Judged, Wrote, WroteAll}
+use Rattle.lf_lint.specs.Ends.{IsReportOn, Judged, Wrote, WroteAll}
 use Rattle.lf_lint.specs.Founds.{is_refused}
-use Rattle.lf_lint.specs.Headline.{IsTrue, IsTrueOf, IsTrueReport, SpeaksTruth, Spoken, WroteTruth, spoken_lines}
-use Rattle.lf_lint.specs.Report.{label_line, lines_text, place_text, report_of, rule_line, rule_lines, rules_lines, totals_line, verdicts_line, verdicts_of, with_labels}
-use Rattle.lf_lint.specs.Universe.{universe_of}
-use Rattle.lf_lint.specs.Verdicts.{verdict_from, verdict_of}
-use Rattle.lf_lint.proofs.Covering.{covers_rule}
+use Rattle.lf_lint.specs.Headline.{IsTrue, IsTrueOf, IsTrueReport, IsTrueSaid, LeavesBoth, Said, SpeaksTruth, Spoken, WroteTruth, is_empty, said_text, spoken_lines, verdicts_said}
+use Rattle.lf_lint.specs.Report.{label_line, label_lines, labels_of, labels_text, lines_text, place_text, report_of, rule_line, rule_lines, rules_lines, said_lines, totals_line, totals_text, verdicts_line}
+use Rattle.lf_lint.specs.Verdicts.{empty_count, has_none, has_text, is_empty_rule, verdict_from, verdict_of, verdicts_in, verdicts_of}
+use Rattle.lf_lint.proofs.AcceptedRules.{sets_no_name}
 use Rattle.lf_lint.proofs.Starless.{no_star}
+use Rattle.lf_lint.proofs.Universes.{shape_rule}
 
--- ---- the claims
+two : {A B C : Type 0} (f : A → B → C) (a a' : A) (b b' : B) → a ≡ a' → b ≡ b' → f a b ≡ f a' b'
+two f a a' b b' h k = ap (λ x. f x b) h ∙ ap (f a') k
 
--- a verdict that comes from what is known is true
-true_from : (rules : List Rule) (r : Rule) (name : Bytes) (of : Presence) → ((world : World rules) (s : Labels) → IsSample world r s → Allows of (value_of s name)) → IsTrueOf rules r (verdict_from of) name
-true_from rules r name of h = by of.may_be_present of.may_be_absent h
+-- ---- the set of a label
+
+and_true : (a : Bool) → (a && true) ≡ a
+and_true true = refl
+and_true false = refl
+
+and_false : (a : Bool) → (a && false) ≡ false
+and_false true = refl
+and_false false = refl
+
+no_zero : (k : ℕ) → eqb (suc k) 0 ≡ false
+no_zero k = by (eqb (suc k) 0) refl
   where
-    by : (present absent : Bool) → ((world : World rules) (s : Labels) → IsSample world r s → (value_of s name ≢ [] → present ≡ true) × (value_of s name ≡ [] → absent ≡ true))
-        → IsTrueOf rules r (if absent then (if present then Unresolved else Impossible) else Guaranteed) name
-    by present false k = λ world s sample none. let no : false ≡ true = (k world s sample).1 none in cc
-    by false true k = λ world s sample has. let no : false ≡ true = (k world s sample).0 has in cc
-    by true true k = tt
+    by : (b : Bool) → eqb (suc k) 0 ≡ b → eqb (suc k) 0 ≡ false
+    by true e = let zero_is : suc k ≡ 0 = (Decides-eqb _ _).0 e in absurd (omega (arith, zero_is))
+    by false e = e
 
--- a verdict is unresolved exactly where both are left
-open_from : (of : Presence) → (verdict_from of ≡ Unresolved) ↔ (of ≡ either)
-open_from of = (
-  λ e. let k = by of.may_be_present of.may_be_absent e in λ i. record { may_be_present = k.0 i; may_be_absent = k.1 i },
-  λ e. ap verdict_from e,
-)
+module _ (u : Listing) where
+  -- each class but the first is that of a text
+  later_text : (k : ℕ) (set : List Bool) → list_any (λ on. on) (indexed_from (λ class on. on && not (eqb class 0)) (suc k) set) ≡ list_any (λ on. on) set
+  later_text k [] = refl
+  later_text k (on ∷ set) =
+      two (λ (a b : Bool). a || b) (on && not (eqb (suc k) 0)) on (list_any (λ on. on) (indexed_from (λ class on. on && not (eqb class 0)) (suc (suc k)) set)) (list_any (λ on. on) set)
+      (ap (λ (b : Bool). on && not b) (no_zero k) ∙ and_true on) (later_text (suc k) set)
+
+  text_same : (set : List Bool) → has_text set ≡ has_class u (λ class. not (eqb class 0)) set
+  text_same [] = refl
+  text_same (on ∷ set) =
+      sym (two (λ (a b : Bool). a || b) (on && false) false (list_any (λ on. on) (indexed_from (λ class on. on && not (eqb class 0)) 1 set)) (list_any (λ on. on) set) (and_false on) (later_text 0 set))
+
+-- ---- verdicts
+
+open_from : (present absent : Bool) → (verdict_from present absent ≡ Unresolved) ↔ ((present ≡ true) × (absent ≡ true))
+open_from present absent = (λ e. by present absent e, λ e. ap (λ b. verdict_from b absent) e.0 ∙ ap (verdict_from true) e.1)
   where
-    by : (present absent : Bool) → (if absent then (if present then Unresolved else Impossible) else Guaranteed) ≡ Unresolved → (present ≡ true) × (absent ≡ true)
+    by : (present absent : Bool) → verdict_from present absent ≡ Unresolved → (present ≡ true) × (absent ≡ true)
     by true true e = (refl, refl)
     by false true e = cc
     by true false e = cc
     by false false e = cc
 
--- what is claimed of a label
-abbrev claim_of : Rule → Bytes → Bytes × Verdict
-claim_of r label = (label, verdict_of r label)
+module _ (rules : List Rule) (r : Rule) (u : Listing) (row : Sets) (lies : (world : World rules) (s : Labels) → IsSample world r s → Lies u row s) (name : Bytes) where
+  true_from : IsTrueOf rules r (verdict_from (may_be_present u row name) (may_be_absent u row name)) name
+  true_from = by (may_be_present u row name) (may_be_absent u row name) refl refl
+    where
+      by : (present absent : Bool) → may_be_present u row name ≡ present → may_be_absent u row name ≡ absent → IsTrueOf rules r (verdict_from present absent) name
+      by present false e f = λ world s sample. is_present u row s (lies world s sample) name f
+      by false true e f = λ world s sample has. has (is_absent u row s (lies world s sample) name e)
+      by true true e f = tt
 
-true_claim : (bytes : Bytes) (rules : List Rule) → IsAccepted bytes 0 rules → (r : Rule) → Contains rules r → (label : Bytes) → IsTrue rules r (claim_of r label)
-unfolding verdict_of
-true_claim bytes rules accepted r c label = (
-  λ name speaks. true_from rules r name (known (asked_of label) r.expr)
-      (λ world s sample. sample_allows (universe_of rules) rules r (covers_rule rules r c (no_star bytes rules accepted r c)) world s sample label name speaks),
-  open_from (known (asked_of label) r.expr),
-)
+-- ---- the claims on a row
 
--- ---- the report
+claims_of : List Bytes → Sets → List (Bytes × Verdict)
+claims_of [] row = []
+claims_of (label ∷ labels) [] = []
+claims_of (label ∷ labels) (set ∷ row) = (label, verdict_of set) ∷ claims_of labels row
 
-map_map : {A B C : Type 0} (g : B → C) (f : A → B) (xs : List A) → map g (map f xs) ≡ map (λ x. g (f x)) xs
-map_map g f [] = refl
-map_map g f (x ∷ xs) = ap (λ l. g (f x) ∷ l) (map_map g f xs)
+claim_lines : (place : Bytes) (labels : List Bytes) (row : Sets) → map (λ (claim : Bytes × Verdict). label_line place claim.0 claim.1) (claims_of labels row) ≡ label_lines place labels (map verdict_of row)
+unfolding claims_of
+claim_lines place [] row = refl
+claim_lines place (label ∷ labels) [] = refl
+claim_lines place (label ∷ labels) (set ∷ row) = ap (λ (l : List Bytes). label_line place label (verdict_of set) ∷ l) (claim_lines place labels row)
 
-map_id : {A : Type 0} (xs : List A) → map (λ x. x) xs ≡ xs
-map_id [] = refl
-map_id (x ∷ xs) = ap (λ l. x ∷ l) (map_id xs)
+claim_labels : (labels : List Bytes) (row : Sets) → length labels ≡ length row → map (λ (claim : Bytes × Verdict). claim.0) (claims_of labels row) ≡ labels
+unfolding claims_of
+claim_labels [] row n = refl
+claim_labels (label ∷ labels) [] n = absurd (omega (arith, n))
+claim_labels (label ∷ labels) (set ∷ row) n = ap (λ (l : List Bytes). label ∷ l) (claim_labels labels row (omega (arith, n)))
 
-all_map : {A B : Type 0} (P : B → Type 0) (f : A → B) → ((x : A) → P (f x)) → (xs : List A) → AllByRecursion P (map f xs)
-all_map P f h [] = tt
-all_map P f h (x ∷ xs) = (h x, all_map P f h xs)
+claim_verdicts : (labels : List Bytes) (row : Sets) → length labels ≡ length row → map (λ (claim : Bytes × Verdict). claim.1) (claims_of labels row) ≡ map verdict_of row
+unfolding claims_of
+claim_verdicts [] [] n = refl
+claim_verdicts [] (set ∷ row) n = absurd (omega (arith, n))
+claim_verdicts (label ∷ labels) [] n = absurd (omega (arith, n))
+claim_verdicts (label ∷ labels) (set ∷ row) n = ap (λ (l : List Verdict). verdict_of set ∷ l) (claim_verdicts labels row (omega (arith, n)))
 
-all_within : {A B : Type 0} (P : B → Type 0) (f : A → B) (within : List A) → ((x : A) → Contains within x → P (f x)) → (xs : List A) → ((x : A) → Contains xs x → Contains within x) → AllByRecursion P (map f xs)
-all_within P f within h [] k = tt
-all_within P f within h (x ∷ xs) k = (h x (k x (here x xs)), all_within P f within h xs (λ y c. k y (behind x xs y c)))
+claim_at : (labels : List Bytes) (row : Sets) (k : ℕ) → k < length labels → length labels ≡ length row → slice_get (claims_of labels row) k ≡ Some (get_or labels k [], verdict_of (get_or row k []))
+unfolding claims_of
+claim_at [] row k h n = absurd (omega arith)
+claim_at (label ∷ labels) [] k h n = absurd (omega (arith, n))
+claim_at (label ∷ labels) (set ∷ row) zero h n = refl
+claim_at (label ∷ labels) (set ∷ row) (suc k) h n = claim_at labels row k (omega arith) (omega (arith, n))
 
-flat_map_map : {A B C : Type 0} (g : B → List C) (f : A → B) (h : A → List C) → ((x : A) → g (f x) ≡ h x) → (xs : List A) → flat_map g (map f xs) ≡ flat_map h xs
-flat_map_map g f h e [] = refl
-flat_map_map g f h e (x ∷ xs) = ap (λ l. l ++ flat_map g (map f xs)) (e x) ∙ ap (λ l. h x ++ l) (flat_map_map g f h e xs)
+-- what is said by a row
+abbrev said_by : List Bytes → Sets → Said
+said_by labels row = cond (is_live row) (Said.verdicts (claims_of labels row)) Said.empty
 
--- the claims on a rule
-abbrev speak : List Bytes → Rule → Spoken
-speak labels r = record { rule = r; claims = map (claim_of r) labels }
+said_same : (place : Bytes) (labels : List Bytes) (row : Sets) → said_text place (said_by labels row) ≡ said_lines place labels row
+said_same place labels row = by (is_live row)
+  where
+    by : (b : Bool) → said_text place (cond b (Said.verdicts (claims_of labels row)) Said.empty) ≡ cond b (label_lines place labels (map verdict_of row)) (codes "  empty" ∷ [])
+    by true = claim_lines place labels row
+    by false = refl
 
-module _ (file bytes : Bytes) (labels : List Bytes) (r : Rule) where
-  same_lines : spoken_lines file bytes (speak labels r) ≡ rule_lines file bytes labels r
-  same_lines =
-      ap (λ lines. rule_line (place_text file bytes r.name_span.start) r.name ∷ lines)
-      (map_map (λ (claim : Bytes × Verdict). label_line (place_text file bytes r.expr_span.start) claim.0 claim.1) (claim_of r) labels)
+verdicts_same : (labels : List Bytes) (row : Sets) → length labels ≡ length row → verdicts_said (said_by labels row) ≡ verdicts_in row
+verdicts_same labels row n = by (is_live row)
+  where
+    by : (b : Bool) → verdicts_said (cond b (Said.verdicts (claims_of labels row)) Said.empty) ≡ cond b (map verdict_of row) []
+    by true = claim_verdicts labels row n
+    by false = refl
 
-  same_verdicts : map (λ (claim : Bytes × Verdict). claim.1) (speak labels r).claims ≡ map (verdict_of r) labels
-  same_verdicts = map_map (λ (claim : Bytes × Verdict). claim.1) (claim_of r) labels
+empty_same : (labels : List Bytes) (row : Sets) → is_empty (said_by labels row) ≡ not (is_live row)
+empty_same labels row = by (is_live row)
+  where
+    by : (b : Bool) → is_empty (cond b (Said.verdicts (claims_of labels row)) Said.empty) ≡ not b
+    by true = refl
+    by false = refl
 
--- the report where labels are asked for is true
-true_report : (asked : Asked) (bytes : Bytes) (rules : List Rule) → IsAccepted bytes 0 rules → asked.labels ≡ true → IsTrueReport asked bytes rules (report_of asked bytes (Rules rules))
-true_report asked bytes rules accepted labels =
-    let universe = universe_of rules in
-    record {
-      spoken = map (speak universe) rules;
-      each_rule = map_map (λ (s : Spoken). s.rule) (speak universe) rules ∙ map_id rules;
-      text =
-          ap (λ b. lines_text (with_labels b (rules_lines asked.file bytes universe rules) ++ totals_line 0 (length rules) ∷ with_labels b (verdicts_line (verdicts_of universe rules) ∷ []))) labels
-          ∙ ap (λ lines. lines_text (lines ++ totals_line 0 (length rules) ∷ verdicts_line (verdicts_of universe rules) ∷ []))
-          (sym (flat_map_map (spoken_lines asked.file bytes) (speak universe) (rule_lines asked.file bytes universe) (same_lines asked.file bytes universe) rules))
-          ∙ ap (λ verdicts. lines_text (flat_map (spoken_lines asked.file bytes) (map (speak universe) rules) ++ totals_line 0 (length rules) ∷ verdicts_line verdicts ∷ []))
-          (sym (flat_map_map (λ (s : Spoken). map (λ (claim : Bytes × Verdict). claim.1) s.claims) (speak universe) (λ r. map (verdict_of r) universe) (same_verdicts asked.file bytes universe) rules));
-      all_true = all_within (SpeaksTruth rules) (speak universe) rules
-          (λ r c. (map_map (λ (claim : Bytes × Verdict). claim.0) (claim_of r) universe ∙ map_id universe, all_map (IsTrue rules r) (claim_of r) (true_claim bytes rules accepted r c) universe))
-          rules (λ r c. c);
-    }
+-- ---- the rules
+
+module _ (rules : List Rule) (named : (r : Rule) → Contains rules r → SetsNoName r) (env : Environment) (least : IsLeast (universe_of rules) rules env)
+    (starless : Contains (universe_of rules).names (codes "*") → ⊥) where
+  abbrev u : Listing
+  u = universe_of rules
+
+  abbrev row : Rule → Sets
+  row = rule_row u env
+
+  each_set : (r : Rule) → length (labels_of u) ≡ length (row r)
+  each_set r = omega (arith, length_row u (universe_is_listing rules) (row r) (shape_rule u (universe_is_listing rules) env least.of_rules.environment r), length-append u.names (codes "*" ∷ []))
+
+  lies : (r : Rule) (world : World rules) (s : Labels) → IsSample world r s → Lies u (row r) s
+  lies r world s sample = sample_lies u (universe_is_listing rules) rules (universe_covers rules) named env least.of_rules least.closed world r s sample
+
+  -- the verdict on the label of a name
+  true_at : (r : Rule) (name : Bytes) → IsTrue rules env r (verdict_of (get_or (row r) (label_of u name) [])) name
+  true_at r name =
+      let P : Bool → Type 0 = λ b. IsTrue rules env r (verdict_from b (may_be_absent u (row r) name)) name in
+      subst P (sym (text_same u (get_or (row r) (label_of u name) [])))
+      (true_from rules r u (row r) (lies r) name, open_from (may_be_present u (row r) name) (may_be_absent u (row r) name))
+
+  within : (name : Bytes) → label_of u name < length (labels_of u)
+  within name = omega (arith, place_le u.names name, length-append u.names (codes "*" ∷ []))
+
+  true_said : (r : Rule) → IsTrueSaid rules env r (said_by (labels_of u) (row r))
+  true_said r = by (is_live (row r)) refl
+    where
+      by : (b : Bool) → is_live (row r) ≡ b → IsTrueSaid rules env r (cond b (Said.verdicts (claims_of (labels_of u) (row r))) Said.empty)
+      by true e = (e, claim_labels (labels_of u) (row r) (each_set r), λ name. (_, claim_at (labels_of u) (row r) (label_of u name) (within name) (each_set r), true_at r name))
+      by false e = (e, λ world s sample. not_empty u (row r) s (lies r world s sample) e)
+
+  abbrev speak : Rule → Spoken
+  speak r = record { rule = r; said = said_by (labels_of u) (row r) }
+
+  rules_spoken : (rs : List Rule) → map (λ (s : Spoken). s.rule) (map speak rs) ≡ rs
+  rules_spoken [] = refl
+  rules_spoken (r ∷ rs) = ap (λ (l : List Rule). r ∷ l) (rules_spoken rs)
+
+  all_spoken : (rs : List Rule) → AllByRecursion (SpeaksTruth rules env) (map speak rs)
+  all_spoken [] = tt
+  all_spoken (r ∷ rs) = (true_said r, all_spoken rs)
+
+  lines_same : (file bytes : Bytes) (r : Rule) → spoken_lines file bytes (speak r) ≡ rule_lines file bytes (labels_of u) row r
+  lines_same file bytes r = ap (λ (l : List Bytes). rule_line (place_text file bytes r.name_span.start) r.name ∷ l) (said_same (place_text file bytes r.expr_span.start) (labels_of u) (row r))
+
+  all_lines : (file bytes : Bytes) (rs : List Rule) → flat_map (spoken_lines file bytes) (map speak rs) ≡ rules_lines file bytes (labels_of u) row rs
+  all_lines file bytes [] = refl
+  all_lines file bytes (r ∷ rs) = two (λ (l m : List Bytes). l ++ m) _ _ _ _ (lines_same file bytes r) (all_lines file bytes rs)
+
+  all_verdicts : (rs : List Rule) → flat_map (λ (s : Spoken). verdicts_said s.said) (map speak rs) ≡ verdicts_of row rs
+  all_verdicts [] = refl
+  all_verdicts (r ∷ rs) = two (λ (l m : List Verdict). l ++ m) _ _ _ _ (verdicts_same (labels_of u) (row r) (each_set r)) (all_verdicts rs)
+
+  all_empty : (rs : List Rule) → count_by (λ (s : Spoken). is_empty s.said) (map speak rs) ≡ empty_count row rs
+  all_empty [] = refl
+  all_empty (r ∷ rs) =
+      sum_by-cons (λ (s : Spoken). cond (is_empty s.said) 1 0) (speak r) (map speak rs)
+      ∙ two (λ (b : Bool) (n : ℕ). cond b 1 0 + n) _ _ _ _ (empty_same (labels_of u) (row r)) (all_empty rs)
+      ∙ sym (sum_by-cons (λ y. cond (is_empty_rule row y) 1 0) r rs)
+
+  true_report : (asked : Asked) (bytes : Bytes) → asked.labels ≡ true → IsTrueReport asked bytes rules (report_of asked bytes (Rules rules) env)
+  true_report asked bytes labels = record {
+    env = env;
+    least = least;
+    no_star = starless;
+    spoken = map speak rules;
+    each_rule = rules_spoken rules;
+    text =
+        ap (λ (b : Bool). if b then labels_text asked.file bytes row rules else totals_text rules) labels
+        ∙ ap (λ (lines : List Bytes). lines_text (lines ++ totals_line 0 (length rules) ∷ verdicts_line (verdicts_of row rules) (empty_count row rules) ∷ [])) (sym (all_lines asked.file bytes rules))
+        ∙ two (λ (verdicts : List Verdict) (empty : ℕ). lines_text (flat_map (spoken_lines asked.file bytes) (map speak rules) ++ totals_line 0 (length rules) ∷ verdicts_line verdicts empty ∷ []))
+        _ _ _ _ (sym (all_verdicts rules)) (sym (all_empty rules));
+    all_true = all_spoken rules;
+  }
+
+-- a report on rules where labels are asked for
+true_on : (asked : Asked) (bytes : Bytes) (rules : List Rule) → IsAccepted bytes 0 rules → (report : Bytes) → IsReportOn asked bytes (Rules rules) report → asked.labels ≡ true → IsTrueReport asked bytes rules report
+true_on asked bytes rules accepted report on labels =
+    let P : Bytes → Type 0 = λ text. IsTrueReport asked bytes rules text in
+    subst P (sym on.2) (true_report rules (sets_no_name bytes 0 rules accepted) on.0 (on.1 labels) (λ c. no_star bytes 0 rules accepted (codes "*") c refl) asked bytes labels)
+
+-- some rules were found
+wrote_on : (words : List Bytes) (held : Bytes → Option Bytes) (before now : Option Bytes) (asked : Asked) (bytes : Bytes) (rules : List Rule) → Judged words held asked bytes (Rules rules)
+    → (report : Bytes) → IsReportOn asked bytes (Rules rules) report → Wrote before now report → WroteTruth words held before now
+wrote_on words held before now asked bytes rules judged report on written = (asked, bytes, rules, judged, λ labels. (report, written, true_on asked bytes rules judged.holds report on labels))
+
+true_false : true ≡ false → ⊥
+true_false e = cc
+
+rules_in : (found : Found) → is_refused found ≡ false → (rules : List Rule) × (found ≡ Rules rules)
+rules_in (Rules rules) e = (rules, refl)
+rules_in (Refused kind span) e = absurd (true_false e)
 
 pub wrote_truth : (words : List Bytes) (held : Bytes → Option Bytes) (before now : Option Bytes) → WroteAll words held before now false → WroteTruth words held before now
-wrote_truth words held before now all = by all.2 all.3 all.4 all.5
-  where
-    asked : Asked
-    asked = all.0
-
-    bytes : Bytes
-    bytes = all.1
-
-    by : (found : Found) → Judged words held asked bytes found → is_refused found ≡ false → Wrote before now (report_of asked bytes found) → WroteTruth words held before now
-    by (Refused kind span) judged some wrote = cc
-    by (Rules rules) judged some wrote = (asked, bytes, rules, judged, λ labels. (report_of asked bytes (Rules rules), wrote, true_report asked bytes rules judged.holds labels))
+wrote_truth words held before now all =
+    let some = rules_in all.2 all.4 in
+    let P : Found → Type 0 = λ f. Judged words held all.0 all.1 f in
+    let Q : Found → Type 0 = λ f. IsReportOn all.0 all.1 f all.5 in
+    wrote_on words held before now all.0 all.1 some.0 (subst P some.1 all.3) all.5 (subst Q some.1 all.6) all.7

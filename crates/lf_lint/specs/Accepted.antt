@@ -1,18 +1,18 @@
 -- The rules that are accepted of a file, or why the file is refused.
 --
--- A file is a tree, which says rules as they stand there. The expression of each is tokens, these are a tree within the bounds of depth, and the tree has a type.
--- A file that breaks a rule is refused with the first breach: one of the tree; else one of the rules; else one of the first expression that has any, of its
--- tokens, its depth and syntax, or its types, in this order. Last comes an expression that isn't built yet.
+-- A file is a tree, which says rules as they stand there. The expression of each is tokens, these are a tree within the bounds of depth, the tree has a type, and
+-- nothing is wrong with its patterns and its selectors. A file that breaks a rule is refused with the first breach: one of the tree; else one of the rules; else one
+-- of the first expression that has any, of its tokens, its depth and syntax, its types, or its patterns and selectors, in this order.
 use Rattle.std.specs.Prelude.{◌≡◌, ℕ, Bool, cond, List, [], ◌∷◌, ◌++◌, length, map, slice_index}
 use Rattle.std.specs.List.{AllByRecursion, AllZip}
 use Rattle.lf_base.specs.declared.kind.Kind.{Kind}
-use Rattle.lf_base.specs.declared.kind.Kind.TheVariants.{NotBuilt}
 use Rattle.lf_base.specs.declared.place.Span.{Span}
 use Rattle.lf_ast.specs.Breaches.{Tells}
 use Rattle.lf_ast.specs.Labels.{Bytes}
 use Rattle.lf_ast.specs.Types.{HasType}
 use Rattle.lf_ast.specs.declared.expr.Expr.{Expr}
 use Rattle.lf_ast.specs.declared.expr.ExprType.{ExprType}
+use Rattle.lf_ast.specs.declared.fault.Fault.{Fault as ExprFault}
 use Rattle.lf_ast.specs.declared.rule.Rule.{Rule}
 use Rattle.lf_ast.specs.declared.rule.RuleLabel.{RuleLabel}
 use Rattle.lf_ast.specs.declared.rule.Template.{Template}
@@ -24,9 +24,9 @@ use Rattle.lf_rules.specs.Breaches.{FirstBreak}
 use Rattle.lf_rules.specs.Rules.{IsRules}
 use Rattle.lf_rules.specs.Sources.{Setting, Source}
 use Rattle.lf_scalar.specs.Cells.{Fault, Value}
+use Rattle.lf_semantics.specs.PatternBreaches.{BreaksPatterns, TellsPattern}
 use Rattle.lf_yaml.specs.Document.{IsTree, TreeBreaks}
 use Rattle.lf_yaml.specs.Tree.{Tree}
-use Rattle.lf_lint.specs.Built.{IsBuilt, recorded}
 
 -- ---- expressions
 
@@ -34,22 +34,24 @@ use Rattle.lf_lint.specs.Built.{IsBuilt, recorded}
 abbrev pub end_of : Value → ℕ
 end_of v = slice_index v.from (length v.text)
 
--- a scalar's text is tokens, and these are an expression within the bounds, which has a type
+-- a scalar's text is tokens, and these are an expression within the bounds, which has a type and breaks nothing by its patterns and its selectors
 pub record IsExpr (v : Value) (e : Expr) : Type 0 where
   pub tokens : List Token
   pub are_tokens : Tokens v.from v.text tokens
   pub expression : IsExpression tokens (tree e)
   pub type : ExprType
   pub has_type : HasType e type
+  pub unbroken : (f : ExprFault) → BreaksPatterns e f → ⊥
 
 abbrev pub at : Kind → Span → Fault
 at kind span = record { kind = kind; span = span }
 
--- what breaks the expression that is to stand in a scalar: its tokens, its depth and syntax, its types
+-- what breaks the expression that is to stand in a scalar: its tokens, its depth and syntax, its types, its patterns and selectors
 pub data BreaksExpr (v : Value) : Fault → Type 0 where
   bad_tokens : {kind : Kind} {span : Span} → Breaks v.from v.text (record { kind = kind; span = span }) → BreaksExpr v (at kind span)
   no_expression : {tokens : List Token} {kind : Kind} {span : Span} → Tokens v.from v.text tokens → Refuses tokens (end_of v) (record { kind = kind; span = span }) → BreaksExpr v (at kind span)
   no_type : {tokens : List Token} {kind : Kind} {span : Span} (e : Expr) → Tokens v.from v.text tokens → IsExpression tokens (tree e) → Tells e (record { kind = kind; span = span }) → BreaksExpr v (at kind span)
+  bad_pattern : {tokens : List Token} {kind : Kind} {span : Span} (e : Expr) (type : ExprType) → Tokens v.from v.text tokens → IsExpression tokens (tree e) → HasType e type → TellsPattern e (record { kind = kind; span = span }) → BreaksExpr v (at kind span)
 
 -- ---- rules
 
@@ -76,12 +78,11 @@ IsRule file s r = IsExpr s.expr r.expr × (r ≡ rule_of file s r.expr)
 abbrev pub Says : Bytes → List Source → Type 0
 Says bytes sources = (t : Tree) × IsTree bytes t × IsRules t sources
 
--- these are the rules of the file, in its order, and each is built
+-- these are the rules of the file, in its order
 pub record IsAccepted (bytes : Bytes) (file : ℕ) (rules : List Rule) : Type 0 where
   pub sources : List Source
   pub says : Says bytes sources
   pub are_rules : AllZip (IsRule file) sources rules
-  pub built : AllByRecursion (λ r. IsBuilt (recorded sources) (tree r.expr)) rules
 
 -- the first thing of a list of which one fact holds: another holds of each before it
 pub record IsFirst {X : Type 0} (before here : X → Type 0) (xs : List X) (x : X) : Type 0 where
@@ -95,19 +96,11 @@ pub record IsFirst {X : Type 0} (before here : X → Type 0) (xs : List X) (x : 
 abbrev pub HasExpr : Source → Type 0
 HasExpr s = (e : Expr) × IsExpr s.expr e
 
--- it is one, and built; it is one, and isn't
-abbrev pub HasBuilt : List Bytes → Source → Type 0
-HasBuilt names s = (e : Expr) × IsExpr s.expr e × IsBuilt names (tree e)
-
-abbrev pub HasUnbuilt : List Bytes → Source → Type 0
-HasUnbuilt names s = (e : Expr) × IsExpr s.expr e × (IsBuilt names (tree e) → ⊥)
-
 -- why the file is refused
 pub data RefusesFile (bytes : Bytes) : Fault → Type 0 where
   no_tree : {f : Fault} → TreeBreaks bytes f → RefusesFile bytes f
   no_rules : {t : Tree} {f : Fault} → IsTree bytes t → FirstBreak t f → RefusesFile bytes f
   bad_expression : {sources : List Source} {s : Source} {f : Fault} → Says bytes sources → IsFirst HasExpr (λ s. BreaksExpr s.expr f) sources s → RefusesFile bytes f
-  not_built : {sources : List Source} {s : Source} → Says bytes sources → AllByRecursion HasExpr sources → IsFirst (HasBuilt (recorded sources)) (HasUnbuilt (recorded sources)) sources s → RefusesFile bytes (at NotBuilt s.expr.span)
 
 -- ---- what is seen of rules
 

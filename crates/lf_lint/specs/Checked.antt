@@ -1,55 +1,40 @@
 -- What the steps of the code have found of rules. It defines nothing of files.
-use Rattle.std.specs.Prelude.{◌≡◌, ◌⊎◌, ℕ, not, List, map, filter}
-use Rattle.std.specs.List.{list_any}
-use Rattle.std.specs.Str.{bytes_eq}
-use Rattle.lf_base.specs.declared.kind.Kind.TheVariants.{NotBuilt}
+use Rattle.std.specs.Prelude.{◌⊎◌, ℕ, List}
 use Rattle.lf_ast.specs.Breaches.{Tells}
-use Rattle.lf_ast.specs.Labels.{Bytes}
 use Rattle.lf_ast.specs.Types.{HasType}
 use Rattle.lf_ast.specs.declared.expr.Expr.{Expr}
 use Rattle.lf_ast.specs.declared.expr.ExprType.{ExprType}
-use Rattle.lf_ast.specs.declared.rule.Rule.{Rule}
-use Rattle.lf_flow.specs.Names.{has}
-use Rattle.lf_flow.specs.declared.name_set.NameSet.{NameSet}
+use Rattle.lf_ast.specs.declared.fault.Fault.{Fault as ExprFault}
 use Rattle.lf_lex.specs.declared.token.Token.{Token}
 use Rattle.lf_parse.specs.Answer.{IsExpression, Refuses}
-use Rattle.lf_parse.specs.Tree.{Trees, Nil, then_all, tree}
+use Rattle.lf_parse.specs.Tree.{tree}
 use Rattle.lf_rules.specs.Sources.{Source}
 use Rattle.lf_scalar.specs.Cells.{Fault}
-use Rattle.lf_lint.specs.Built.{IsBuilt}
-use Rattle.lf_lint.specs.Accepted.{BreaksExpr, HasExpr, IsFirst, at}
+use Rattle.lf_semantics.specs.PatternBreaches.{BreaksPatterns, TellsPattern}
+use Rattle.lf_lint.specs.Accepted.{BreaksExpr, HasExpr, IsFirst}
 
--- the tokens are this expression within the bounds, and it has a type
-abbrev pub IsTyped : List Token → Expr → Type 0
-IsTyped tokens e = IsExpression tokens (tree e) × ((t : ExprType) × HasType e t)
+-- the breach of an expression where it stands in a file
+abbrev pub told : Fault → ExprFault
+told f = record { kind = f.kind; span = f.span }
 
--- the tokens aren't an expression within the bounds, or it has no type
-abbrev pub BreaksTyped : List Token → ℕ → Fault → Type 0
-BreaksTyped tokens end f =
-    Refuses tokens end (record { kind = f.kind; span = f.span }) ⊎ ((e : Expr) × IsExpression tokens (tree e) × Tells e (record { kind = f.kind; span = f.span }))
+-- the expression has a type, and breaks nothing by its patterns and its selectors
+pub record IsJudged (e : Expr) : Type 0 where
+  pub type : ExprType
+  pub has_type : HasType e type
+  pub unbroken : (f : ExprFault) → BreaksPatterns e f → ⊥
+
+-- it has no type, or it has one, and breaks something by its patterns and its selectors
+abbrev pub BreaksJudged : Expr → Fault → Type 0
+BreaksJudged e f = Tells e (told f) ⊎ ((t : ExprType) × HasType e t × TellsPattern e (told f))
+
+-- the tokens are this expression within the bounds, and it stands as judged
+abbrev pub AreJudged : List Token → Expr → Type 0
+AreJudged tokens e = IsExpression tokens (tree e) × IsJudged e
+
+-- the tokens aren't an expression within the bounds, or it breaks something as judged
+abbrev pub BreakJudged : List Token → ℕ → Fault → Type 0
+BreakJudged tokens end f = Refuses tokens end (record { kind = f.kind; span = f.span }) ⊎ ((e : Expr) × IsExpression tokens (tree e) × BreaksJudged e f)
 
 -- the breach is one of the first expression that has any
 abbrev pub HasBreach : List Source → Fault → Type 0
 HasBreach sources f = (s : Source) × IsFirst HasExpr (λ s. BreaksExpr s.expr f) sources s
-
--- the set has these names and no others
-abbrev pub HasNames : List Bytes → NameSet → Type 0
-HasNames names set = (other : Bytes) → has set other ≡ list_any (bytes_eq other) names
-
--- the names that rules record
-abbrev pub recorded_by : List Rule → List Bytes
-recorded_by rules = map (λ r. r.name) (filter (λ r. not r.alert) rules)
-
-abbrev pub IsBuiltRule : List Bytes → Rule → Type 0
-IsBuiltRule names r = IsBuilt names (tree r.expr)
-
-abbrev pub IsUnbuiltRule : List Bytes → Rule → Type 0
-IsUnbuiltRule names r = IsBuilt names (tree r.expr) → ⊥
-
--- the first rule whose expression isn't built is refused at it
-abbrev pub UnbuiltIn : List Bytes → List Rule → Fault → Type 0
-UnbuiltIn names rules f = (r : Rule) × IsFirst (IsBuiltRule names) (IsUnbuiltRule names) rules r × (f ≡ at NotBuilt r.expr_span)
-
--- the trees of arguments
-abbrev pub args_of : List Expr → Trees
-args_of es = then_all Nil (map tree es)

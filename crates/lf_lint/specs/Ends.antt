@@ -1,23 +1,23 @@
 -- What a call of `lint` did to the outside, by its status.
-use Rattle.std.specs.Prelude.{◌≡◌, ℕ, ◌+◌, ◌<◌, ◌≤◌, Bool, List, ◌++◌, length, take, drop, Option, Some, None, ◌⊎◌}
+use Rattle.std.specs.Prelude.{◌≡◌, ℕ, ◌+◌, ◌<◌, ◌≤◌, Bool, true, false, List, ◌++◌, length, take, drop, Option, Some, None, ◌⊎◌}
 use Rattle.lf_ast.specs.Labels.{Bytes}
 use Rattle.lf_ast.specs.declared.rule.Rule.{Rule}
 use Rattle.lf_lint.specs.declared.asked.Asked.{Asked}
+use Rattle.lf_semantics.specs.Environments.{IsLeast}
+use Rattle.lf_semantics.specs.Listing.{universe_of}
+use Rattle.lf_semantics.specs.RowTable.{Environment}
 use Rattle.lf_lint.specs.declared.found.Found.{Found}
+use Rattle.lf_lint.specs.declared.found.Found.TheVariants.{Rules, Refused}
 use Rattle.lf_lint.specs.declared.status.Status.{Status}
-use Rattle.lf_lint.specs.declared.status.Status.TheVariants.{Clean, Problems, Words, Refused, Read, Write, Memory, Limit}
+use Rattle.lf_lint.specs.declared.status.Status.TheVariants.{Clean, Problems, Words, Refused as RefusedEnd, Read, Write, Memory, Limit}
 use Rattle.lf_lint.specs.Accepted.{IsAccepted}
 use Rattle.lf_lint.specs.Asks.{Asks}
-use Rattle.lf_lint.specs.Founds.{Fits, Holds, is_refused}
+use Rattle.lf_lint.specs.Founds.{Exceeds, Fits, Holds, is_refused}
 use Rattle.lf_lint.specs.Report.{report_of}
 
 -- the most bytes that a file may have: 4 MiB
 abbrev pub most_bytes : ℕ
 most_bytes = 4194304
-
--- the most rules that may be accepted
-abbrev pub most_rules : ℕ
-most_rules = 20000
 
 -- the bytes are as the object tells them, where it does
 abbrev pub AreAsTold : Option Bytes → Bytes → Type 0
@@ -29,13 +29,22 @@ abbrev pub Wrote : Option Bytes → Option Bytes → Bytes → Type 0
 Wrote None now bytes = Unit {0}
 Wrote (Some before) now bytes = now ≡ Some (before ++ bytes)
 
+-- the environment is the least one of the rules that were found
+abbrev pub IsSolution : Found → Environment → Type 0
+IsSolution (Rules rules) env = IsLeast (universe_of rules) rules env
+IsSolution (Refused kind span) env = Unit {0}
+
+-- the report on what was found: where verdicts are asked for, by the least environment. Else it doesn't depend on any
+abbrev pub IsReportOn : Asked → Bytes → Found → Bytes → Type 0
+IsReportOn asked bytes found report = (env : Environment) × (asked.labels ≡ true → IsSolution found env) × (report ≡ report_of asked bytes found env)
+
 -- the report that the words ask for, on a file of these bytes
 pub record IsReport (words : List Bytes) (bytes report : Bytes) : Type 0 where
   pub asked : Asked
   pub asks : Asks words asked
   pub found : Found
   pub holds : Holds bytes found
-  pub text : report ≡ report_of asked bytes found
+  pub text : IsReportOn asked bytes found report
 
 -- the words ask for a file, these are its bytes, and this is what stands in them
 pub record Judged (words : List Bytes) (held : Bytes → Option Bytes) (asked : Asked) (bytes : Bytes) (found : Found) : Type 0 where
@@ -48,27 +57,29 @@ pub record Judged (words : List Bytes) (held : Bytes → Option Bytes) (asked : 
 -- the whole report was written, on a file that is refused or not
 abbrev pub WroteAll : List Bytes → (Bytes → Option Bytes) → Option Bytes → Option Bytes → Bool → Type 0
 WroteAll words held before now refused =
-    (asked : Asked) × (bytes : Bytes) × (found : Found) × Judged words held asked bytes found × (is_refused found ≡ refused) × Wrote before now (report_of asked bytes found)
+    (asked : Asked) × (bytes : Bytes) × (found : Found) × Judged words held asked bytes found × (is_refused found ≡ refused)
+    × (report : Bytes) × IsReportOn asked bytes found report × Wrote before now report
 
 -- a front of the report was written, and not the whole
 abbrev pub WrotePart : List Bytes → (Bytes → Option Bytes) → Option Bytes → Option Bytes → Type 0
 WrotePart words held before now = (asked : Asked) × (bytes : Bytes) × (found : Found) × Judged words held asked bytes found
-    × (k : ℕ) × (k < length (report_of asked bytes found)) × Wrote before now (take k (report_of asked bytes found))
+    × (report : Bytes) × IsReportOn asked bytes found report × (k : ℕ) × (k < length report) × Wrote before now (take k report)
 
 -- the words ask for a file of more bytes than a file may have, and reading stopped right behind the first of them
 abbrev pub IsTooLong : List Bytes → (Bytes → Option Bytes) → Option Bytes → Type 0
 IsTooLong words held left = (asked : Asked) × Asks words asked × (bytes : Bytes) × AreAsTold (held asked.file) bytes × (most_bytes < length bytes) × AreAsTold left (drop (most_bytes + 1) bytes)
 
--- the words ask for a file that is accepted with this number of rules, which is more than may be
-abbrev pub HasTooManyRules : List Bytes → (Bytes → Option Bytes) → ℕ → Type 0
-HasTooManyRules words held count = (asked : Asked) × Asks words asked × (bytes : Bytes) × AreAsTold (held asked.file) bytes × (length bytes ≤ most_bytes)
-    × (rules : List Rule) × IsAccepted bytes 0 rules × (count ≡ length rules) × (most_rules < count)
+-- the words ask for a file that is accepted, and its rules pass this limit
+abbrev pub HasTooMany : List Bytes → (Bytes → Option Bytes) → ℕ → ℕ → Type 0
+HasTooMany words held quantity count = (asked : Asked) × Asks words asked × (bytes : Bytes) × AreAsTold (held asked.file) bytes × (length bytes ≤ most_bytes)
+    × (rules : List Rule) × IsAccepted bytes 0 rules × Exceeds rules quantity count
 
--- which quantity passed its limit, and its count: 2 is the bytes of the file, of which one more than the limit was read, and 4 is the accepted rules
+-- which quantity passed its limit, and its count: 2 is the bytes of the file, of which one more than the limit was read, and the others are of the accepted rules. Whether
+-- the words ask for verdicts doesn't matter
 abbrev pub Passes : List Bytes → (Bytes → Option Bytes) → Option Bytes → ℕ → ℕ → Type 0
 Passes words held left quantity count =
     ((quantity ≡ 2) × (count ≡ 4194305) × IsTooLong words held left)
-    ⊎ ((quantity ≡ 4) × HasTooManyRules words held count)
+    ⊎ HasTooMany words held quantity count
 
 -- the ends after which nothing was written
 abbrev pub IsSilent : Status → Type 0
@@ -78,5 +89,5 @@ IsSilent Memory = Unit {0}
 IsSilent (Limit quantity found) = Unit {0}
 IsSilent Clean = ⊥
 IsSilent Problems = ⊥
-IsSilent Refused = ⊥
+IsSilent RefusedEnd = ⊥
 IsSilent Write = ⊥

@@ -1,56 +1,87 @@
--- That what a report says of labels is true of every run.
-use Rattle.std.specs.Prelude.{◌≡◌, ◌↔◌, true, List, [], ◌∷◌, ◌++◌, map, length, Option}
-use Rattle.std.specs.List.{AllByRecursion, flat_map}
+-- That what a report says of labels is true of every run of the rules, in any order and over any scraped series.
+use Rattle.std.specs.Prelude.{◌≡◌, ◌↔◌, Bool, true, false, List, [], ◌∷◌, ◌++◌, map, length, count_by, codes, Option, Some, slice_get}
+use Rattle.std.specs.List.{AllByRecursion, Contains, flat_map}
 use Rattle.lf_ast.specs.Labels.{Bytes, Labels}
 use Rattle.lf_ast.specs.declared.rule.Rule.{Rule}
+use Rattle.lf_semantics.specs.ClassRows.{is_live}
+use Rattle.lf_semantics.specs.Environments.{IsLeast, rule_row}
+use Rattle.lf_semantics.specs.Listing.{label_of, universe_of}
+use Rattle.lf_semantics.specs.RowTable.{Environment, may_be_absent, may_be_present}
 use Rattle.lf_semantics.specs.Texts.{Has}
-use Rattle.lf_semantics.specs.Rows.{SpeaksOf, asked_of}
-use Rattle.lf_semantics.specs.Runs.{World, IsSample}
-use Rattle.lf_semantics.specs.Table.{either, known}
+use Rattle.lf_semantics.specs.Worlds.{World, IsSample}
 use Rattle.lf_lint.specs.declared.asked.Asked.{Asked}
 use Rattle.lf_lint.specs.declared.found.Found.TheVariants.{Rules}
 use Rattle.lf_lint.specs.declared.report.verdict.Verdict.{Verdict}
 use Rattle.lf_lint.specs.declared.report.verdict.Verdict.TheVariants.{Guaranteed, Impossible, Unresolved}
 use Rattle.lf_lint.specs.Ends.{Judged, Wrote}
-use Rattle.lf_lint.specs.Report.{label_line, lines_text, place_text, rule_line, totals_line, verdicts_line}
-use Rattle.lf_lint.specs.Universe.{universe_of}
+use Rattle.lf_lint.specs.Report.{label_line, labels_of, lines_text, place_text, rule_line, totals_line, verdicts_line}
 
--- in every world of the file's rules, a name called guaranteed is on each sample of the rule's expression, and one called impossible on none. Of an unresolved one
--- nothing is claimed
+-- in every world of the file's rules, a name called guaranteed is on each sample of the rule, and one called impossible on none. Of an unresolved one nothing is claimed
 abbrev pub IsTrueOf : List Rule → Rule → Verdict → Bytes → Type 0
 IsTrueOf rules r Guaranteed name = (world : World rules) (s : Labels) → IsSample world r s → Has s name
 IsTrueOf rules r Impossible name = (world : World rules) (s : Labels) → IsSample world r s → Has s name → ⊥
 IsTrueOf rules r Unresolved name = Unit {0}
 
--- what is said of a label is true of its name, and what is said of `*` of each name that no other line is about. It stays unresolved exactly where the row of the
--- expression leaves both
-abbrev pub IsTrue : List Rule → Rule → Bytes × Verdict → Type 0
-IsTrue rules r claim =
-    ((name : Bytes) → SpeaksOf (universe_of rules) claim.0 name → IsTrueOf rules r claim.1 name)
-    × ((claim.1 ≡ Unresolved) ↔ (known (asked_of claim.0) r.expr ≡ either))
+-- the row of the rule in the environment leaves both open, that the name is there and that it isn't
+abbrev pub LeavesBoth : List Rule → Environment → Rule → Bytes → Type 0
+LeavesBoth rules env r name =
+    let u = universe_of rules in
+    (may_be_present u (rule_row u env r) name ≡ true) × (may_be_absent u (rule_row u env r) name ≡ true)
 
--- a rule, and what a report claims of each label on the samples of its expression
+-- the verdict is true of the name, and unresolved exactly where the row leaves both open
+abbrev pub IsTrue : List Rule → Environment → Rule → Verdict → Bytes → Type 0
+IsTrue rules env r verdict name = IsTrueOf rules r verdict name × ((verdict ≡ Unresolved) ↔ LeavesBoth rules env r name)
+
+-- what a report says of a rule: that it is empty, or a verdict on each label
+pub data Said : Type 0 where
+  empty : Said
+  verdicts : List (Bytes × Verdict) → Said
+
+-- An empty rule has no sample in any world. Else each label of the universe has a verdict, and so has `*`; and of each name that of its label is true, or that of `*`, which
+-- stands last, where no label is the name. A rule is called empty exactly where its row is
+abbrev pub IsTrueSaid : List Rule → Environment → Rule → Said → Type 0
+IsTrueSaid rules env r empty = (is_live (rule_row (universe_of rules) env r) ≡ false) × ((world : World rules) (s : Labels) → IsSample world r s → ⊥)
+IsTrueSaid rules env r (verdicts claims) =
+    (is_live (rule_row (universe_of rules) env r) ≡ true)
+    × (map (λ claim. claim.0) claims ≡ labels_of (universe_of rules))
+    × ((name : Bytes) → (claim : Bytes × Verdict) × (slice_get claims (label_of (universe_of rules) name) ≡ Some claim) × IsTrue rules env r claim.1 name)
+
+-- a rule, and what a report says of it
 pub record Spoken : Type 0 where
   pub rule : Rule
-  pub claims : List (Bytes × Verdict)
+  pub said : Said
 
--- each label of the file's rules has a claim, and each claim is true
-abbrev pub SpeaksTruth : List Rule → Spoken → Type 0
-SpeaksTruth rules spoken = (map (λ claim. claim.0) spoken.claims ≡ universe_of rules) × AllByRecursion (IsTrue rules spoken.rule) spoken.claims
+abbrev pub SpeaksTruth : List Rule → Environment → Spoken → Type 0
+SpeaksTruth rules env spoken = IsTrueSaid rules env spoken.rule spoken.said
 
--- the line of the rule, and a line for each claim
+-- a line for each verdict, or one that says `empty`
+abbrev pub said_text : Bytes → Said → List Bytes
+said_text place empty = codes "  empty" ∷ []
+said_text place (verdicts claims) = map (λ claim. label_line place claim.0 claim.1) claims
+
+-- the line of the rule, and those of what is said of it
 abbrev pub spoken_lines : Bytes → Bytes → Spoken → List Bytes
-spoken_lines file bytes spoken =
-    rule_line (place_text file bytes spoken.rule.name_span.start) spoken.rule.name
-    ∷ map (λ claim. label_line (place_text file bytes spoken.rule.expr_span.start) claim.0 claim.1) spoken.claims
+spoken_lines file bytes spoken = rule_line (place_text file bytes spoken.rule.name_span.start) spoken.rule.name ∷ said_text (place_text file bytes spoken.rule.expr_span.start) spoken.said
 
--- the report is, for each rule of the file, its line and a line for what it claims of each label, and then the totals; and each claim is true
+abbrev pub verdicts_said : Said → List Verdict
+verdicts_said empty = []
+verdicts_said (verdicts claims) = map (λ claim. claim.1) claims
+
+abbrev pub is_empty : Said → Bool
+is_empty empty = true
+is_empty (verdicts claims) = false
+
+-- the report is, for each rule of the file, its line and what it says of it, and then the totals; and all that it says is true
 pub record IsTrueReport (asked : Asked) (bytes : Bytes) (rules : List Rule) (report : Bytes) : Type 0 where
+  pub env : Environment
+  pub least : IsLeast (universe_of rules) rules env
+  -- no label is called as the line of all others is
+  pub no_star : Contains (universe_of rules).names (codes "*") → ⊥
   pub spoken : List Spoken
   pub each_rule : map (λ s. s.rule) spoken ≡ rules
   pub text : report ≡ lines_text (flat_map (spoken_lines asked.file bytes) spoken
-      ++ totals_line 0 (length rules) ∷ verdicts_line (flat_map (λ s. map (λ claim. claim.1) s.claims) spoken) ∷ [])
-  pub all_true : AllByRecursion (SpeaksTruth rules) spoken
+      ++ totals_line 0 (length rules) ∷ verdicts_line (flat_map (λ s. verdicts_said s.said) spoken) (count_by (λ s. is_empty s.said) spoken) ∷ [])
+  pub all_true : AllByRecursion (SpeaksTruth rules env) spoken
 
 -- a report was written on the rules of the file that the words ask for, and where they ask for labels it is true
 abbrev pub WroteTruth : List Bytes → (Bytes → Option Bytes) → Option Bytes → Option Bytes → Type 0

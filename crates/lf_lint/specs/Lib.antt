@@ -1,13 +1,11 @@
 pub mod Accepted
 pub mod Asks
-pub mod Built
 pub mod Checked
 pub mod Ends
 pub mod Founds
 pub mod Headline
-pub mod Listed
+pub mod Names
 pub mod Report
 pub mod Spots
 pub mod Statuses
-pub mod Universe
 pub mod Verdicts

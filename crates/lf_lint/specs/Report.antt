@@ -1,5 +1,5 @@
 -- The text report on one file.
-use Rattle.std.specs.Prelude.{ℕ, Bool, false, ◌==◌, ◌||◌, ◌/◌, ◌%◌, nat_lt, List, [], ◌∷◌, ◌++◌, map, length, count_by, codes, if◌then◌else◌}
+use Rattle.std.specs.Prelude.{ℕ, Bool, cond, false, ◌==◌, ◌||◌, ◌/◌, ◌%◌, nat_lt, List, [], ◌∷◌, ◌++◌, map, length, count_by, codes, if◌then◌else◌}
 use Rattle.std.specs.Fmt.{decimal, digit_glyph}
 use Rattle.std.specs.List.{flat_map}
 use Rattle.lf_ast.specs.Labels.{Bytes}
@@ -12,8 +12,11 @@ use Rattle.lf_lint.specs.declared.found.Found.{Found}
 use Rattle.lf_lint.specs.declared.found.Found.TheVariants.{Rules, Refused}
 use Rattle.lf_lint.specs.declared.report.verdict.Verdict.{Verdict}
 use Rattle.lf_lint.specs.declared.report.verdict.Verdict.TheVariants.{Guaranteed, Impossible, Unresolved}
-use Rattle.lf_lint.specs.Universe.{universe_of}
-use Rattle.lf_lint.specs.Verdicts.{is_guaranteed, is_impossible, is_unresolved, verdict_of}
+use Rattle.lf_semantics.specs.ClassRows.{Sets, is_live}
+use Rattle.lf_semantics.specs.Environments.{rule_row}
+use Rattle.lf_semantics.specs.Listing.{Listing, universe_of}
+use Rattle.lf_semantics.specs.RowTable.{Environment}
+use Rattle.lf_lint.specs.Verdicts.{empty_count, is_guaranteed, is_impossible, is_unresolved, verdict_of, verdicts_of}
 
 -- each line ended by a line feed
 abbrev pub lines_text : List Bytes → Bytes
@@ -44,11 +47,18 @@ label_line place label verdict = codes "  " ++ shown label ++ codes ": " ++ verd
 abbrev pub rule_line : Bytes → Bytes → Bytes
 rule_line place name = place ++ codes ": rule " ++ shown name
 
--- the rule's line, and a line for each label
-abbrev pub rule_lines : Bytes → Bytes → List Bytes → Rule → List Bytes
-rule_lines file bytes labels r =
-    rule_line (place_text file bytes r.name_span.start) r.name
-    ∷ map (λ label. label_line (place_text file bytes r.expr_span.start) label (verdict_of r label)) labels
+-- a line for each label, with its verdict
+abbrev pub label_lines : Bytes → List Bytes → List Verdict → List Bytes
+label_lines place (label ∷ labels) (verdict ∷ verdicts) = label_line place label verdict ∷ label_lines place labels verdicts
+label_lines place _ _ = []
+
+-- a line for each label, by its set in the row of the rule; and one line where the row is empty
+abbrev pub said_lines : Bytes → List Bytes → Sets → List Bytes
+said_lines place labels row = cond (is_live row) (label_lines place labels (map verdict_of row)) (codes "  empty" ∷ [])
+
+-- the rule's line, and what is said of it. `row` gives the row of a rule
+abbrev pub rule_lines : Bytes → Bytes → List Bytes → (Rule → Sets) → Rule → List Bytes
+rule_lines file bytes labels row r = rule_line (place_text file bytes r.name_span.start) r.name ∷ said_lines (place_text file bytes r.expr_span.start) labels (row r)
 
 -- the line of a file that is refused
 abbrev pub refused_line : Bytes → Kind → Bytes
@@ -58,27 +68,34 @@ refused_line place kind = place ++ codes ": refused [" ++ name_of kind ++ codes 
 abbrev pub totals_line : ℕ → ℕ → Bytes
 totals_line refused rules = codes "files 1, refused " ++ decimal refused ++ codes ", rules " ++ decimal rules ++ codes ", problems 0, notes 0"
 
--- the totals of these verdicts
-abbrev pub verdicts_line : List Verdict → Bytes
-verdicts_line verdicts = codes "verdicts guaranteed " ++ decimal (count_by is_guaranteed verdicts) ++ codes ", impossible " ++ decimal (count_by is_impossible verdicts)
-    ++ codes ", possible 0, unresolved " ++ decimal (count_by is_unresolved verdicts) ++ codes ", empty 0"
-
--- the verdicts on the labels of all rules
-abbrev pub verdicts_of : List Bytes → List Rule → List Verdict
-verdicts_of labels rules = flat_map (λ r. map (verdict_of r) labels) rules
+-- the totals of these verdicts, and of the rules of which `empty` is said
+abbrev pub verdicts_line : List Verdict → ℕ → Bytes
+verdicts_line verdicts empty = codes "verdicts guaranteed " ++ decimal (count_by is_guaranteed verdicts) ++ codes ", impossible " ++ decimal (count_by is_impossible verdicts)
+    ++ codes ", possible 0, unresolved " ++ decimal (count_by is_unresolved verdicts) ++ codes ", empty " ++ decimal empty
 
 -- the lines of all rules
-abbrev pub rules_lines : Bytes → Bytes → List Bytes → List Rule → List Bytes
-rules_lines file bytes labels rules = flat_map (rule_lines file bytes labels) rules
+abbrev pub rules_lines : Bytes → Bytes → List Bytes → (Rule → Sets) → List Rule → List Bytes
+rules_lines file bytes labels row rules = flat_map (rule_lines file bytes labels row) rules
+
+-- the labels of which a report speaks: those of the universe, and `*` for every other
+abbrev pub labels_of : Listing → List Bytes
+labels_of u = u.names ++ codes "*" ∷ []
 
 -- lines that stand only where verdicts are asked for
 abbrev pub with_labels : Bool → List Bytes → List Bytes
 with_labels labels lines = if labels then lines else []
 
--- the report on what was found in the file that is asked for, whose bytes these are
-abbrev pub report_of : Asked → Bytes → Found → Bytes
-report_of asked bytes (Refused kind span) =
-    lines_text (refused_line (place_text asked.file bytes span.start) kind ∷ totals_line 1 0 ∷ with_labels asked.labels (verdicts_line [] ∷ []))
-report_of asked bytes (Rules rules) =
-    lines_text (with_labels asked.labels (rules_lines asked.file bytes (universe_of rules) rules) ++ totals_line 0 (length rules)
-    ∷ with_labels asked.labels (verdicts_line (verdicts_of (universe_of rules) rules) ∷ []))
+-- the report on rules with verdicts: what is said of each rule, and the totals
+abbrev pub labels_text : Bytes → Bytes → (Rule → Sets) → List Rule → Bytes
+labels_text file bytes row rules =
+    lines_text (rules_lines file bytes (labels_of (universe_of rules)) row rules ++ totals_line 0 (length rules) ∷ verdicts_line (verdicts_of row rules) (empty_count row rules) ∷ [])
+
+-- and without: the totals alone
+abbrev pub totals_text : List Rule → Bytes
+totals_text rules = lines_text (totals_line 0 (length rules) ∷ [])
+
+-- the report on what was found in the file that is asked for, whose bytes these are, by the rows of the rules in an environment
+abbrev pub report_of : Asked → Bytes → Found → Environment → Bytes
+report_of asked bytes (Refused kind span) env =
+    lines_text (refused_line (place_text asked.file bytes span.start) kind ∷ totals_line 1 0 ∷ with_labels asked.labels (verdicts_line [] 0 ∷ []))
+report_of asked bytes (Rules rules) env = if asked.labels then labels_text asked.file bytes (rule_row (universe_of rules) env) rules else totals_text rules

@@ -6,7 +6,6 @@ ghost use Rattle.lf_scalar.specs.Cells.{Fault, Gives, IfAt};
 ghost use Rattle.lf_yaml.specs.Characters.{AreCharacters};
 ghost use Rattle.lf_lint.specs.Accepted.{IsAccepted, RefusesFile, Says, seen};
 
-use crate::built::check_built;
 use crate::rules::rules_of;
 use lf_ast::Rule;
 use lf_base::{Refusal, Seq};
@@ -17,9 +16,7 @@ use std::alloc::Global;
 /// The rules of a file, in its order. Each has the number of the file, counted from 0, and its spans are of the file, in bytes from 0.
 ///
 /// A file that breaks a rule is refused with the first breach: of its characters and its tree; else of the rules that the tree says; else of the first rule whose
-/// expression has one, by its tokens, its depth and syntax, and its types. `NotBuilt` comes last, at the first expression that is something else than a `sum by` of
-/// a selector, perhaps in parentheses, of a metric that no rule of the file records, by `=` on distinct labels other than `__name__`, and without a range, an
-/// offset or a time.
+/// expression has one, by its tokens, its depth and syntax, its types, and its patterns and selectors.
 pub fn accept(alloc: Global, bytes: &[u8], file: u32) -> Result<Seq<Rule>, Refusal>
     requires room { length bytes.now ≤ 2 ^ 31 }
     // What is answered are the rules of the file.
@@ -41,9 +38,7 @@ fn read(alloc: Global, bytes: &[u8], file: u32) -> Result<Seq<Rule>, Refusal>
     ensures refused { IfErr result (λ refusal. IfAt refusal (RefusesFile bytes.now)) }
 {
     let sources = sources_of(alloc, bytes)?;
-    let rules = rules_of(alloc, sources.as_slice(), file)?;
-    check_built(alloc, rules.as_slice())?;
-    Ok(rules)
+    rules_of(alloc, sources.as_slice(), file)
 }
 
 /// The rules as they stand in a file, their expressions unread.

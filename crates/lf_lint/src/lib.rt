@@ -3,10 +3,12 @@
 
 mod accepting;
 mod asked;
-mod built;
 mod expression;
 mod found;
+mod judge_end;
 mod linting;
+mod measuring;
+mod name_set;
 mod reading;
 mod report;
 mod rules;
@@ -17,6 +19,7 @@ mod writing;
 pub use accepting::{accept, one_file};
 pub use asked::Asked;
 pub use found::Found;
+pub use judge_end::JudgeEnd;
 pub use linting::lint;
 pub use reading::{ReadEnd, read_whole};
 pub use report::report_text;

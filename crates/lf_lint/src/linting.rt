@@ -1,13 +1,13 @@
 //! A run of the program.
-ghost use Rattle.std.specs.Prelude.{◌≡◌, ◌≢◌, ◌↔◌, ℕ, Bool, true, false, List, map, string_bytes, Option, IfOk, IfSome, IfNone, ◌+◌, ◌<◌, ◌≤◌, ◌^◌, length};
+ghost use Rattle.std.specs.Prelude.{◌≡◌, ◌≢◌, ◌↔◌, ℕ, Bool, true, false, List, map, string_bytes, Option, IfOk, ◌+◌, ◌<◌, ◌≤◌, ◌^◌, length};
 ghost use Rattle.lf_lint.specs.declared.asked.Asked.{Asked};
 ghost use Rattle.lf_lint.specs.Asks.{Asks};
 ghost use Rattle.lf_lint.specs.Ends.{IsReport, IsSilent, Passes, WroteAll, WrotePart};
-ghost use Rattle.lf_lint.specs.Founds.{Fits, Holds, HasTooMany};
+ghost use Rattle.lf_lint.specs.Founds.{Holds};
 ghost use Rattle.lf_lint.specs.Headline.{WroteTruth};
 
 use crate::reading::{ReadEnd, read_whole};
-use crate::{Found, Status, WordFault, accept, read_words, report_text, write_whole};
+use crate::{Found, JudgeEnd, Status, WordFault, accept, read_words, report_text, write_whole};
 use lf_base::{Files, Gate, Memory, Refusal, Sink};
 use std::alloc::Global;
 use std::thread::Threads;
@@ -17,12 +17,6 @@ const MOST_BYTES: u32 = 4 * 1024 * 1024;
 
 /// The number of that limit in a status.
 const FILE_BYTES: u8 = 2;
-
-/// The most rules that may be accepted.
-const MOST_RULES: usize = 20_000;
-
-/// The number of that limit in a status.
-const ACCEPTED_RULES: u8 = 4;
 
 /// A whole run of the program: lints the file that the words ask for, and writes the report on it. A file is linted on one thread.
 ///
@@ -90,14 +84,10 @@ pub fn lint<R: Threads + Sync, F: Files, O: Sink, G: Gate + Sync>(
     let Ok(found) = find(alloc, bytes.as_slice()) else {
         return Status::Memory;
     };
-    if let Some(count) = count_too_many(&found) {
-        return Status::Limit {
-            quantity: ACCEPTED_RULES,
-            found: count,
-        };
-    }
-    let Ok(report) = report_text(alloc, &asked, bytes.as_slice(), &found) else {
-        return Status::Memory;
+    let report = match report_text(alloc, &asked, bytes.as_slice(), &found) {
+        Ok(report) => report,
+        Err(JudgeEnd::Limit { quantity, found }) => return Status::Limit { quantity, found },
+        Err(JudgeEnd::Memory) => return Status::Memory,
     };
     match write_whole(out, report.as_str().as_bytes()) {
         Err(_) => Status::Write,
@@ -115,16 +105,5 @@ fn find(alloc: Global, bytes: &[u8]) -> Result<Found, Memory>
         Ok(rules) => Ok(Found::Rules { rules }),
         Err(Refusal::At { kind, span }) => Ok(Found::Refused { kind, span }),
         Err(Refusal::Memory) => Err(Memory),
-    }
-}
-
-/// How many rules are accepted, where these are more than may be.
-fn count_too_many(found: &Found) -> Option<u64>
-    ensures some { IfSome result (HasTooMany found.now) }
-    ensures none { IfNone result (Fits found.now) }
-{
-    match found {
-        Found::Rules { rules } if rules.len() > MOST_RULES => Some(rules.len() as u64),
-        Found::Rules { .. } | Found::Refused { .. } => None,
     }
 }

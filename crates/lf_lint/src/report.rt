@@ -1,46 +1,76 @@
 //! The text report on one file.
-ghost use Rattle.std.specs.Prelude.{◌≡◌, ℕ, List, [], ◌∷◌, ◌++◌, length, IfOk};
-ghost use Rattle.lf_lint.specs.Report.{lines_text, place_text, refused_line, report_of, rules_lines, shown, totals_line, verdicts_line, verdicts_of, with_labels};
-ghost use Rattle.lf_lint.specs.Universe.{universe_of};
+ghost use Rattle.std.specs.Prelude.{◌≡◌, ℕ, List, [], ◌∷◌, ◌++◌, length, IfOk, IfErr};
+ghost use Rattle.lf_semantics.specs.Environments.{IsLeast, rule_row};
+ghost use Rattle.lf_semantics.specs.Listing.{universe_of};
+ghost use Rattle.lf_semantics.specs.RowTable.{Environment};
+ghost use Rattle.lf_lint.specs.Ends.{IsReportOn};
+ghost use Rattle.lf_lint.specs.declared.asked.Asked.{Asked};
+ghost use Rattle.lf_lint.specs.declared.found.Found.TheVariants.{Rules};
+ghost use Rattle.lf_lint.specs.Founds.{AreWithin, Ends, EndsIn, Fits};
+ghost use Rattle.lf_lint.specs.Report.{labels_text, lines_text, place_text, refused_line, shown, totals_line, verdicts_line, with_labels};
 
 mod judging;
 mod labels;
 mod lines;
-mod listing;
 mod rules;
 mod shown;
 mod spot;
 mod verdict;
 
+use crate::measuring::measure;
 use crate::report::lines::{push_refused_line, push_totals_line, push_verdicts_line};
-use crate::report::listing::universe;
 use crate::report::rules::push_rules;
 use crate::report::shown::shown_name;
 use crate::report::spot::{Spot, place_in};
-use crate::{Asked, Found};
+use crate::{Asked, Found, JudgeEnd};
 use lf_ast::Rule;
-use lf_base::{Kind, Memory, Span, Text};
+use lf_base::{Kind, Memory, Seq, Span, Text};
+use lf_classes::Universe;
+use lf_fix::solve;
 use std::alloc::Global;
 
 /// The report on what was found in the file that is asked for, each line ended by a line feed. `bytes` are those of the file.
+///
+/// Rules that pass a limit have none. This doesn't depend on whether verdicts are asked for; only where they are the least environment is solved.
 pub fn report_text(
     alloc: Global,
     asked: &Asked,
     bytes: &[u8],
     found: &Found,
-) -> Result<Text, Memory>
-    ensures { IfOk result (λ text. text ≡ report_of asked.now bytes.now found.now) }
+) -> Result<Text, JudgeEnd>
+    ensures text { IfOk result (IsReportOn asked.now bytes.now found.now) }
+    ensures fits { IfOk result (λ _. Fits found.now) }
+    ensures refused { IfErr result (EndsIn found.now) }
 {
     let file = shown_name(alloc, asked.file.as_str())?;
     match found {
         Found::Refused { kind, span } => {
-            refused_report(alloc, file.as_str(), bytes, *kind, *span, asked.labels)
+            let report = refused_report(alloc, file.as_str(), bytes, *kind, *span, asked.labels)?;
+            Ok(report)
         }
-        Found::Rules { rules } if asked.labels => {
-            labels_report(alloc, file.as_str(), bytes, rules.as_slice())
-        }
-        Found::Rules { rules } => totals_report(alloc, rules.len()),
+        Found::Rules { rules } => rules_report(alloc, file.as_str(), bytes, rules, asked.labels),
     }
+}
+
+/// The report on rules, with verdicts where `labels` asks for them. `file` is the name as it is shown.
+fn rules_report(
+    alloc: Global,
+    file: &str,
+    bytes: &[u8],
+    rules: &Seq<Rule>,
+    labels: bool,
+) -> Result<Text, JudgeEnd>
+    ensures text { (asked : Asked) → file.now ≡ shown asked.file → labels ≡ asked.labels → IfOk result (IsReportOn asked bytes.now (Rules rules.now)) }
+    ensures fits { IfOk result (λ _. AreWithin rules.now) }
+    ensures refused { IfErr result (Ends rules.now) }
+{
+    let universe = measure(alloc, rules)?;
+    if labels {
+        let report = labels_report(alloc, file, bytes, &universe, rules)?;
+        return Ok(report);
+    }
+    let report = totals_report(alloc, rules.len())?;
+    Ok(report)
 }
 
 /// The report on a file that is refused, with the verdicts' totals where `labels` asks for them. `file` is the name as it is shown.
@@ -52,7 +82,7 @@ fn refused_report(
     span: Span,
     labels: bool,
 ) -> Result<Text, Memory>
-    ensures { (name : List ℕ) → file.now ≡ shown name → IfOk result (λ text. text ≡ lines_text (refused_line (place_text name bytes.now span.start) kind ∷ totals_line 1 0 ∷ with_labels labels (verdicts_line [] ∷ []))) }
+    ensures { (name : List ℕ) → file.now ≡ shown name → IfOk result (λ text. text ≡ lines_text (refused_line (place_text name bytes.now span.start) kind ∷ totals_line 1 0 ∷ with_labels labels (verdicts_line [] 0 ∷ []))) }
 {
     let place = place_in(alloc, file, bytes, span.start)?;
     let mut report = Text::of(alloc, "")?;
@@ -61,19 +91,34 @@ fn refused_report(
     if !labels {
         return Ok(report);
     }
-    push_verdicts_line(alloc, &mut report, &[])?;
+    push_verdicts_line(alloc, &mut report, &[], 0)?;
     Ok(report)
 }
 
-/// The report on rules with the verdict of every label.
-fn labels_report(alloc: Global, file: &str, bytes: &[u8], rules: &[Rule]) -> Result<Text, Memory>
-    ensures { (name : List ℕ) → file.now ≡ shown name → IfOk result (λ text. text ≡ lines_text (rules_lines name bytes.now (universe_of rules.now) rules.now ++ totals_line 0 (length rules.now) ∷ verdicts_line (verdicts_of (universe_of rules.now) rules.now) ∷ [])) }
+/// The report on rules with the verdict of every label, by the least environment. `file` is the name as it is shown.
+fn labels_report(
+    alloc: Global,
+    file: &str,
+    bytes: &[u8],
+    universe: &Universe,
+    rules: &Seq<Rule>,
+) -> Result<Text, Memory>
+    requires { universe.now ≡ universe_of rules.now }
+    ensures { (name : List ℕ) → file.now ≡ shown name → IfOk result (λ text. (env : Environment) × IsLeast universe.now rules.now env × (text ≡ labels_text name bytes.now (rule_row universe.now env) rules.now)) }
 {
-    let labels = universe(alloc, rules)?;
+    let env = solve(alloc, universe, rules)?;
     let mut report = Text::of(alloc, "")?;
-    let verdicts = push_rules(alloc, &mut report, file, bytes, &labels, rules)?;
+    let said = push_rules(
+        alloc,
+        &mut report,
+        file,
+        bytes,
+        universe,
+        &env,
+        rules.as_slice(),
+    )?;
     push_totals_line(alloc, &mut report, 0, rules.len())?;
-    push_verdicts_line(alloc, &mut report, verdicts.as_slice())?;
+    push_verdicts_line(alloc, &mut report, said.verdicts.as_slice(), said.empty)?;
     Ok(report)
 }
 

@@ -1,30 +1,48 @@
 //! The verdicts on the labels of a rule.
-ghost use Rattle.std.specs.Prelude.{◌≡◌, ◌<◌, length, map, slice_get, Some, IfOk};
-ghost use Rattle.lf_semantics.specs.declared.Presence.{Presence};
-ghost use Rattle.lf_lint.specs.Verdicts.{verdict_from, verdict_of};
+ghost use Rattle.std.specs.Prelude.{◌≡◌, ◌<◌, [], length, slice_index_or, IfOk};
+ghost use Rattle.lf_semantics.specs.ClassRows.{HasShape};
+ghost use Rattle.lf_lint.specs.Verdicts.{has_text, verdict_of, verdicts_in};
 
 use crate::report::verdict::Verdict;
-use lf_ast::Rule;
-use lf_base::{Memory, Seq, Text};
-use lf_flow::{PlainRow, flow};
+use lf_base::Memory;
+use lf_classes::{Row, Universe};
 use std::alloc::Global;
 
-/// The verdict on each of these labels, in their order, by the row of the rule's expression.
-pub fn judge(alloc: Global, labels: &Seq<Text>, rule: &Rule) -> Result<Vec<Verdict>, Memory>
-    ensures { IfOk result (λ verdicts. verdicts.items ≡ map (verdict_of rule.now) labels.now) }
+/// The verdict on each label of the universe, in its order, by the row of a rule. The empty row has none.
+pub fn judge(alloc: Global, universe: &Universe, row: &Row) -> Result<Vec<Verdict>, Memory>
+    requires { HasShape universe.now row.now }
+    ensures { IfOk result (λ verdicts. verdicts.items ≡ verdicts_in row.now) }
 {
-    let row = flow(alloc, labels, &rule.expr)?;
     let mut verdicts = Vec::new(alloc);
-    for k in 0..labels.len() {
-        verdicts.push(verdict_at(&row, k))?;
+    if row.is_empty() {
+        return Ok(verdicts);
+    }
+    for label in 0..universe.labels() {
+        verdicts.push(verdict_on(row, label, universe.classes(label)))?;
     }
     Ok(verdicts)
 }
 
-/// The verdict on the label at `k`, counted from 0, by a row.
-fn verdict_at(row: &PlainRow, k: usize) -> Verdict
-    requires { k < length row.now }
-    ensures { (of : Presence) → slice_get row.now k ≡ Some of → result ≡ verdict_from of }
+/// The verdict on a label, which has this many classes.
+fn verdict_on(row: &Row, label: u32, classes: u32) -> Verdict
+    requires label { label < length row.now }
+    requires classes { classes ≡ length (slice_index_or row.now label []) }
+    requires some { 0 < classes }
+    ensures { result ≡ verdict_of (slice_index_or row.now label []) }
 {
-    Verdict::of(row.may_be_present(k), row.may_be_absent(k))
+    Verdict::of(may_be_present(row, label, classes), row.has(label, 0))
+}
+
+/// Whether a row has some class of a text in the set of a label, which has this many classes. The first of them is that of the empty text.
+fn may_be_present(row: &Row, label: u32, classes: u32) -> bool
+    requires label { label < length row.now }
+    requires classes { classes ≡ length (slice_index_or row.now label []) }
+    ensures { result ≡ has_text (slice_index_or row.now label []) }
+{
+    for class in 1..classes {
+        if row.has(label, class) {
+            return true;
+        }
+    }
+    false
 }

@@ -54,19 +54,20 @@ pub fn push_totals_line(
     report.push(line.as_str())
 }
 
-/// The totals of these verdicts.
+/// The totals of these verdicts, and of the rules that are empty.
 pub fn push_verdicts_line(
     alloc: Global,
     report: &mut Text,
     verdicts: &[Verdict],
+    empty: usize,
 ) -> Result<(), Memory>
-    ensures { OnOk result (report.new ≡ report.old ++ lines_text (verdicts_line verdicts.now ∷ [])) }
+    ensures { OnOk result (report.new ≡ report.old ++ lines_text (verdicts_line verdicts.now empty ∷ [])) }
 {
     let guaranteed = guaranteed_count(verdicts);
     let impossible = impossible_count(verdicts);
     let unresolved = unresolved_count(verdicts);
     let line = format!(in alloc;
-        "verdicts guaranteed {guaranteed}, impossible {impossible}, possible 0, unresolved {unresolved}, empty 0\n"
+        "verdicts guaranteed {guaranteed}, impossible {impossible}, possible 0, unresolved {unresolved}, empty {empty}\n"
     )?;
     report.push(line.as_str())
 }

@@ -17,7 +17,7 @@ impl Verdict {
 
     /// What is said of a label that may be on a sample or not, and may be lacking on one or not.
     pub fn of(may_be_present: bool, may_be_absent: bool) -> Verdict
-        ensures { result ≡ verdict_from (record { may_be_present = may_be_present; may_be_absent = may_be_absent }) }
+        ensures { result ≡ verdict_from may_be_present may_be_absent }
     {
         if !may_be_absent {
             return Verdict::Guaranteed;

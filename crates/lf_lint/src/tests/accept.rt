@@ -55,6 +55,50 @@ fn rules_are_accepted(rt: HostRuntime) -> Result<(), Fail> {
     Ok(())
 }
 
+/// How many rules a file has, where it is accepted.
+fn accepted(alloc: Global, text: &str) -> Option<usize> {
+    if text.len() > 1_000_000 {
+        return None;
+    }
+    match accept(alloc, text.as_bytes(), 0) {
+        Ok(rules) => Some(rules.len()),
+        Err(_) => None,
+    }
+}
+
+#[test]
+fn each_construct_is_accepted(rt: HostRuntime) -> Result<(), Fail> {
+    let cases = [
+        "1",
+        "up",
+        "up[5m]",
+        "-up",
+        "up[5m:1m]",
+        "sum(foo)",
+        "max by (a) (foo)",
+        "sum by (a) (a:b)",
+        "sum without (a) (foo{b!=\"c\"})",
+        "sum by (a) (foo{b=\"c\",b=\"d\"})",
+        "sum by (a) ({__name__=\"foo\"})",
+        "foo offset 5m",
+        "foo @ 5",
+        "foo * on (a) group_left (b) bar",
+        "foo and bar or baz unless qux",
+        "foo > bool 1",
+        "rate(foo[5m])",
+        "absent(foo{b=~\"c.*\"})",
+        "label_replace(foo, \"a\", \"$1\", \"b\", \"(.*)\")",
+        "foo{b!~\"x|y\",c=\"\"}",
+        "({__name__!=\"\"})",
+        "({b=~\".+\"})",
+    ];
+    for expr in cases {
+        let text = file(rt.alloc(), expr, "up")?;
+        assert_eq!(rt; accepted(rt.alloc(), text.as_str()), Some(2), "{expr}");
+    }
+    Ok(())
+}
+
 #[test]
 fn the_first_breach_is_told(rt: HostRuntime) -> Result<(), Fail> {
     // The expressions, the kind, which expression is told, and where its breach begins and ends in it.
@@ -65,48 +109,50 @@ fn the_first_breach_is_told(rt: HostRuntime) -> Result<(), Fail> {
         (") $", "up", Kind::BadByte, false, 2, 3),
         // The end of a text.
         ("sum by (a) (foo)", "foo +", Kind::Syntax, true, 5, 5),
-        // What isn't built comes behind all else, at the whole expression.
-        ("up", "foo + \"x\"", Kind::WrongType, true, 6, 9),
-        ("sum by (a) (foo)", "up", Kind::NotBuilt, true, 0, 2),
-        // A recorded metric; an alert records nothing.
-        ("sum by (a) (a:b)", "up", Kind::NotBuilt, false, 0, 16),
-        ("sum by (a) (C)", "up", Kind::NotBuilt, true, 0, 2),
-        // Each form that isn't built.
-        ("sum(foo)", "1", Kind::NotBuilt, false, 0, 8),
-        ("max by (a) (foo)", "1", Kind::NotBuilt, false, 0, 16),
+        // In one rule the types before the patterns, and in an earlier rule too.
         (
-            "sum by (a) (foo{b!=\"c\"})",
-            "1",
-            Kind::NotBuilt,
+            "foo{b!~\"(\"} + \"x\"",
+            "up",
+            Kind::WrongType,
             false,
-            0,
-            24,
+            14,
+            17,
         ),
+        ("foo + \"x\"", "foo{b!~\"(\"}", Kind::WrongType, false, 6, 9),
+        // The patterns of a rule before the tokens of a later one.
+        ("foo{b!~\"(\"}", "$", Kind::BadPattern, false, 7, 10),
+        ("up", "foo{b!~\"(\"}", Kind::BadPattern, true, 7, 10),
+        // Of two patterns the first.
         (
-            "sum by (a) (foo{b=\"c\",b=\"d\"})",
-            "1",
-            Kind::NotBuilt,
+            "foo{b=~\"[\"} + foo{b!~\"(\"}",
+            "up",
+            Kind::BadPattern,
             false,
-            0,
+            7,
+            10,
+        ),
+        // The pattern of `label_replace`.
+        (
+            "label_replace(foo, \"a\", \"$1\", \"b\", \"(\")",
+            "up",
+            Kind::BadPattern,
+            false,
+            35,
+            38,
+        ),
+        // Selectors that name no metric, or name it twice.
+        ("up", "({b=\"\"})", Kind::BadSelector, true, 1, 7),
+        ("({b!~\".+\"})", "up", Kind::BadSelector, false, 1, 10),
+        (
+            "sum by (a) (foo{__name__=\"x\"})",
+            "up",
+            Kind::BadSelector,
+            false,
+            12,
             29,
         ),
-        (
-            "sum by (a) ({__name__=\"foo\"})",
-            "1",
-            Kind::NotBuilt,
-            false,
-            0,
-            29,
-        ),
-        (
-            "sum by (a) (foo offset 5m)",
-            "1",
-            Kind::NotBuilt,
-            false,
-            0,
-            26,
-        ),
-        ("sum by (a) (foo @ 5)", "1", Kind::NotBuilt, false, 0, 20),
+        // A pattern that can't be read passes nothing, so the selector isn't bad by it.
+        ("({b!~\"(\"})", "up", Kind::BadPattern, false, 5, 8),
     ];
     for (first, second, kind, is_second, start, end) in cases {
         let text = file(rt.alloc(), first, second)?;
@@ -139,15 +185,10 @@ fn the_deepest_expression_is_read_on_another_thread(rt: HostRuntime) -> Result<(
     let text = file(alloc, expr.as_str(), "up")?;
     let (here, there) = join(
         &rt,
-        || refusal(alloc, text.as_str()),
-        || refusal(alloc, text.as_str()),
+        || accepted(alloc, text.as_str()),
+        || accepted(alloc, text.as_str()),
     );
-    assert!(rt; expr.len() < 100_000);
-    let span = Span {
-        start: FIRST,
-        end: FIRST + expr.len() as u32,
-    };
-    assert_eq!(rt; here, Some((Kind::NotBuilt, span)));
-    assert_eq!(rt; there, Some((Kind::NotBuilt, span)));
+    assert_eq!(rt; here, Some(2));
+    assert_eq!(rt; there, Some(2));
     Ok(())
 }

@@ -9,5 +9,5 @@ returns c = λ name shows.
     let refused = refused_line place c.args.kind in
     let first = c.in_ok-push_refused_line.ensures ∙ ap (λ p. c.in_ok-report.report ++ lines_text (refused_line p c.args.kind ∷ [])) (c.as_str.ensures ∙ c.in_ok-place.ensures name shows) in
     let some = built_two (refused ∷ []) (totals_line 1 0 ∷ []) c.in_ok-report.ensures first c.in_ok-push_totals_line.ensures in
-    built_more (refused ∷ totals_line 1 0 ∷ []) (verdicts_line [] ∷ []) some c.in_ok-push_verdicts_line.ensures
-    ∙ ap (λ b. lines_text (refused ∷ totals_line 1 0 ∷ with_labels b (verdicts_line [] ∷ []))) (sym c.if-not-labels.false)
+    built_more (refused ∷ totals_line 1 0 ∷ []) (verdicts_line [] 0 ∷ []) some c.in_ok-push_verdicts_line.ensures
+    ∙ ap (λ b. lines_text (refused ∷ totals_line 1 0 ∷ with_labels b (verdicts_line [] 0 ∷ []))) (sym c.if-not-labels.false)

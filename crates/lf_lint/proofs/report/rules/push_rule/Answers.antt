@@ -1,13 +1,12 @@
-use Rattle.std.proofs.Common.{◌≡◌, [], ◌∷◌, ◌++◌, map, ap, ◌∙◌}
+use Rattle.std.proofs.Common.{◌≡◌, [], ◌∷◌, ◌++◌, ap, ◌∙◌}
 use Rattle.std.proofs.lemmas.Result.{on_ok_weaker}
-use Rattle.lf_lint.specs.Report.{label_line, lines_text, place_text, rule_line}
-use Rattle.lf_lint.specs.Verdicts.{verdict_of}
+use Rattle.lf_lint.specs.Report.{lines_text, place_text, rule_line, said_lines}
 use Rattle.lf_lint.proofs.Appends.{appended_lines}
 use Rattle.lf_lint.proofs.Spotted.{placed}
 use Rattle.lf_lint.proofs.report.rules.push_rule.Goals as goal
 
 pub returns : goal.returns
-returns c = λ name bytes names shows at_name at_expr labels said.
+returns c = λ name bytes names rows shows at_name at_expr labels said row_is.
     let r = c.args.rule.now in
     let report = c.args.report.now in
     let name_place = place_text name bytes r.name_span.start in
@@ -16,7 +15,7 @@ returns c = λ name bytes names shows at_name at_expr labels said.
     let two : c.as_str-3.result.now ≡ expr_place = c.as_str-3.ensures ∙ c.in_ok-place-2.ensures ∙ placed c.args.file.now name bytes r.expr_span.start c.args.expr_at shows at_expr in
     let first : c.push_rule_line.new.report ≡ report ++ lines_text (rule_line name_place r.name ∷ []) =
     c.in_ok-push_rule_line.ensures ∙ ap (λ p. report ++ lines_text (rule_line p c.as_str-2.result.now ∷ [])) one ∙ ap (λ n. report ++ lines_text (rule_line name_place n ∷ [])) c.as_str-2.ensures in
-    on_ok_weaker c.push_label_lines.result
-    (λ e. appended_lines report (rule_line name_place r.name ∷ []) (map (λ label. label_line expr_place label (verdict_of r label)) names) first
-    (e ∙ ap (λ p. c.push_rule_line.new.report ++ lines_text (map (λ label. label_line p label (verdict_of r label)) names)) two))
-    (c.push_label_lines.ensures names (verdict_of r) labels said)
+    on_ok_weaker c.push_said.result
+    (λ e. appended_lines report (rule_line name_place r.name ∷ []) (said_lines expr_place names (rows r)) first
+    (e ∙ ap (λ p. c.push_rule_line.new.report ++ lines_text (said_lines p names c.args.row.now)) two ∙ ap (λ sets. c.push_rule_line.new.report ++ lines_text (said_lines expr_place names sets)) row_is))
+    (c.push_said.ensures names labels said)

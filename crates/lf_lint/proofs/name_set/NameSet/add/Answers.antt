@@ -1,0 +1,14 @@
+use Rattle.std.proofs.Common.{◌≡◌, Bool, true, false, cond, ◌||◌, refl, ◌∙◌}
+use Rattle.std.specs.Str.{bytes_eq}
+use Rattle.std.proofs.lemmas.Cmp.{nat_list_eq_equiv}
+use Rattle.lf_lint.specs.Names.{has}
+use Rattle.lf_lint.proofs.name_set.NameSet.add.Goals as goal
+
+or_from_cond : (b x : Bool) → cond b true x ≡ (b || x)
+or_from_cond true x = refl
+or_from_cond false x = refl
+
+pub returns-clause-members : goal.returns-clause-members
+returns-clause-members c = λ other.
+    c.in_ok-new.ensures.updates.0 (record { ref_ptr = (0, 0); now = other })
+    ∙ rw (nat_list_eq_equiv.symm c.args.name.now other) (or_from_cond (bytes_eq other c.args.name.now) (has c.args.self.now other))

@@ -1,0 +1,117 @@
+//! The limits on rules.
+ghost use Rattle.std.specs.Prelude.{◌≡◌, ◌≤◌, length, IfOk, IfErr};
+ghost use Rattle.lf_semantics.specs.Environments.{recorded_names};
+ghost use Rattle.lf_semantics.specs.Listing.{class_count as class_count_of, label_count, universe_of};
+ghost use Rattle.lf_classes.specs.Limits.{most_classes, most_labels};
+ghost use Rattle.lf_lint.specs.Founds.{AreWithin, Ends, most_rules, word_count as word_count_of};
+
+use crate::JudgeEnd;
+use crate::name_set::NameSet;
+use lf_ast::Rule;
+use lf_base::{Memory, Seq};
+use lf_classes::{ClassError, Universe};
+use std::alloc::Global;
+
+/// The most rules that may be accepted.
+const MOST_RULES: usize = 20_000;
+
+/// The number of that limit in a status.
+const ACCEPTED_RULES: u8 = 4;
+
+/// The number of the limit on labels.
+const LABELS: u8 = 5;
+
+/// The number of the limit on the classes of all labels.
+const CLASSES: u8 = 6;
+
+/// The most words of 64 classes that the rows of all recorded names may have.
+const MOST_WORDS: u64 = 4_194_304;
+
+/// The number of that limit in a status.
+const WORDS: u8 = 7;
+
+/// The universe of rules, where they pass no limit. The limits are tested in this order: on the rules, the labels, the classes, and the words of the rows of
+/// recorded names.
+pub fn measure(alloc: Global, rules: &Seq<Rule>) -> Result<Universe, JudgeEnd>
+    ensures found { IfOk result (λ universe. universe ≡ universe_of rules.now) }
+    ensures within { IfOk result (λ _. AreWithin rules.now) }
+    ensures refused { IfErr result (Ends rules.now) }
+{
+    if rules.len() > MOST_RULES {
+        return Err(JudgeEnd::Limit {
+            quantity: ACCEPTED_RULES,
+            found: rules.len() as u64,
+        });
+    }
+    let universe = build(alloc, rules)?;
+    let words = word_count(alloc, &universe, rules)?;
+    if words > MOST_WORDS {
+        return Err(JudgeEnd::Limit {
+            quantity: WORDS,
+            found: words,
+        });
+    }
+    Ok(universe)
+}
+
+/// The universe of rules that aren't too many, where it passes no limit.
+fn build(alloc: Global, rules: &Seq<Rule>) -> Result<Universe, JudgeEnd>
+    requires { length rules.now ≤ most_rules }
+    ensures found { IfOk result (λ universe. universe ≡ universe_of rules.now) }
+    ensures labels { IfOk result (λ _. label_count (universe_of rules.now) ≤ most_labels) }
+    ensures classes { IfOk result (λ _. class_count_of (universe_of rules.now) ≤ most_classes) }
+    ensures refused { IfErr result (Ends rules.now) }
+{
+    match Universe::build(alloc, rules) {
+        Ok(universe) => Ok(universe),
+        Err(ClassError::Memory) => Err(JudgeEnd::Memory),
+        Err(ClassError::TooManyLabels { found }) => Err(JudgeEnd::Limit {
+            quantity: LABELS,
+            found,
+        }),
+        Err(ClassError::TooManyClasses { found }) => Err(JudgeEnd::Limit {
+            quantity: CLASSES,
+            found,
+        }),
+    }
+}
+
+/// The words that the rows of all recorded names have.
+fn word_count(alloc: Global, universe: &Universe, rules: &Seq<Rule>) -> Result<u64, Memory>
+    requires universe { universe.now ≡ universe_of rules.now }
+    requires few { length rules.now ≤ most_rules }
+    ensures { IfOk result (λ words. words ≡ word_count_of rules.now) }
+{
+    let names = recorded_count(alloc, rules.as_slice())?;
+    let classes = class_count(universe);
+    Ok(names as u64 * ((classes + 63) / 64))
+}
+
+/// How many names rules record.
+fn recorded_count(alloc: Global, rules: &[Rule]) -> Result<usize, Memory>
+    ensures count { IfOk result (λ count. count ≡ length (recorded_names rules.now)) }
+    ensures most { IfOk result (λ count. count ≤ length rules.now) }
+{
+    let mut seen = NameSet::new(alloc);
+    let mut count = 0;
+    for rule in rules {
+        if !rule.alert {
+            if seen.add(rule.name.as_str())? {
+                count += 1;
+            }
+        }
+    }
+    Ok(count)
+}
+
+/// How many classes the labels have together.
+fn class_count(universe: &Universe) -> u64
+    ensures count { result ≡ class_count_of universe.now }
+    ensures most { result ≤ most_classes }
+{
+    let mut count = 0;
+    for label in 0..universe.labels() {
+        count += u64::from(universe.classes(label));
+    }
+    count
+}
