@@ -62,6 +62,11 @@ dead_remade f row h none =
 pub settled_as : (live : Bool) (row : Sets) → is_live row ≡ live → shown live row ≡ settled row
 settled_as live row e = ap (λ b. cond b row (emptied row)) (sym e)
 
+-- each row that is seen is settled
+pub settled_shown : (live : Bool) (row : Sets) → (live ≡ true → is_live row ≡ true) → settled (shown live row) ≡ shown live row
+settled_shown true row known = ap (λ b. cond b row (emptied row)) (known refl)
+settled_shown false row known = elim (is_live (emptied row)) as (λ b. cond b (emptied row) (emptied (emptied row)) ≡ emptied row) [ true ↦ refl | false ↦ emptied_twice row ]
+
 -- an empty row stays empty
 
 pub kept_empty : (label class : ℕ) (on : Bool) (row : Sets) → 0 < length row → emptied row ≡ kept label class on (emptied row)

@@ -4,12 +4,12 @@ use Rattle.std.specs.List.{sum}
 use Rattle.std.proofs.lemmas.Bool.{cases_eq, cases_lt}
 use Rattle.std.proofs.lemmas.Bool.Decides.{Decides-eqb}
 use Rattle.std.proofs.lemmas.List.Sums.{sum_by-cons}
-use Rattle.lf_semantics.specs.ClassRows.{Sets, emptied, holds, is_live, narrowed, remade, replaced, settled}
+use Rattle.lf_semantics.specs.ClassRows.{Sets, emptied, holds, is_live, narrowed, remade, replaced, set_to, settled}
 use Rattle.lf_semantics.specs.Environments.{Under}
 use Rattle.lf_semantics.proofs.Places.{eqb-other}
 use Rattle.lf_semantics.proofs.RowLaws.{holds-remade, holds_within, shape_emptied, shape_remade}
 use Rattle.lf_classes.specs.Cut.{cut, shown, start}
-use Rattle.lf_classes.proofs.Cutting.{count_at, cut_remade, dead_when, emptied_dead, emptied_holds, emptied_remade, emptied_twice, holds-cut, label_in, length-cut, live_at, shape_cut, start_before}
+use Rattle.lf_classes.proofs.Cutting.{count_at, cut_remade, dead_when, emptied_dead, emptied_holds, emptied_remade, emptied_twice, holds-cut, label_in, length-cut, live_at, same_sets, shape_cut, start_before}
 use Rattle.lf_classes.proofs.Changes.{class_within, dead_remade, label_within, live_remade, live_view, same_counts, same_total, settled_as, shape_view}
 
 -- the bits of one label are made anew, and those of the others are as they were
@@ -301,3 +301,68 @@ module _ (left : Bool) (counts : List ℕ) (bits new : List Bool) (view : Sets) 
   listed_replaced inside =
       replaced_row left counts bits new view label from (from + length on) (λ l c. get_or on c false) is total known h p (omega (arith, p, count)) len below above some none
       (λ c i. inside c (omega (arith, i, count)))
+
+-- of the classes that a label has one alone is left
+
+same_remade : (f g : ℕ → ℕ → Bool → Bool) (row : Sets) → ((l c : ℕ) → f l c (holds row l c) ≡ g l c (holds row l c)) → remade f row ≡ remade g row
+same_remade f g row same =
+    same_sets (remade f row) (remade g row) (shape_remade f 0 row ∙ sym (shape_remade g 0 row)) (λ l c h k.
+    let b : l < length row = omega (arith, h, label_in (remade f row) (map length row) (shape_remade f 0 row), label_in row (map length row) refl) in
+    let d : c < length (get_or row l []) = omega (arith, k, count_at (remade f row) (map length row) l (shape_remade f 0 row) h, count_at row (map length row) l refl b) in
+    holds-remade f row l c b d ∙ same l c ∙ sym (holds-remade g row l c b d))
+
+and_false : (b : Bool) → (b && false) ≡ false
+and_false true = refl
+and_false false = refl
+
+module _ (row : Sets) (label class : ℕ) where
+  abbrev alone : ℕ → ℕ → Bool
+  alone l c = eqb c class
+
+  same_here : (c : ℕ) → holds row label class ≡ true → eqb c class ≡ (holds row label c && eqb c class)
+  same_here c on = elim (cases_eq c class) [
+    | inl e ↦ ap (λ b. b && eqb c class) (sym (ap (holds row label) e ∙ on))
+    | inr n ↦ (let q : eqb c class ≡ false = eqb-other c class n in q ∙ sym (ap (λ b. holds row label c && b) q ∙ and_false (holds row label c)))
+  ]
+
+  off_here : (c : ℕ) → holds row label class ≡ false → (holds row label c && eqb c class) ≡ false
+  off_here c off = elim (cases_eq c class) [
+    | inl e ↦ ap (λ b. b && eqb c class) (ap (holds row label) e ∙ off)
+    | inr n ↦ ap (λ b. holds row label c && b) (eqb-other c class n) ∙ and_false (holds row label c)
+  ]
+
+  same_class : holds row label class ≡ true → (l c : ℕ) → replacing alone label l c (holds row l c) ≡ narrowing alone label l c (holds row l c)
+  same_class on l c = elim (cases_eq label l) [
+    | inl e ↦
+        let P : ℕ → Type 0 = λ m. replacing alone label m c (holds row m c) ≡ narrowing alone label m c (holds row m c) in
+        subst P e (replacing_here alone label c (holds row label c) ∙ same_here c on ∙ sym (narrowing_here alone label c (holds row label c)))
+    | inr n ↦
+        let m : l ≢ label = λ q. n (sym q) in
+        replacing_there alone label l c (holds row l c) m ∙ sym (narrowing_there alone label l c (holds row l c) m)
+  ]
+
+  -- the class that it has
+  pub class_alone : is_live row ≡ true → holds row label class ≡ true → set_to label class row ≡ narrowed (λ l c. not (eqb label l) || eqb c class) row
+  class_alone live on = sym (replaced_live alone label row live) ∙ ap settled (same_remade (replacing alone label) (narrowing alone label) row (same_class on))
+
+  -- and one that it hasn't
+  pub class_lacked : label < length row → holds row label class ≡ false → emptied row ≡ narrowed (λ l c. not (eqb label l) || eqb c class) row
+  class_lacked h off = emptied_label (narrowing alone label) row label h (λ c. narrowing_here alone label c (holds row label c) ∙ off_here c off)
+
+-- a label has every class
+
+pub label_filled : (live : Bool) (counts : List ℕ) (bits new : List Bool) (view : Sets) (label from to : ℕ)
+    → live ≡ true → shown live (cut counts bits) ≡ view → length bits ≡ sum counts → is_live (cut counts bits) ≡ true
+    → label < length view → from ≡ start counts label → to ≡ start counts label + get_or counts label 0
+    → length new ≡ length bits
+    → ((k : ℕ) → from ≤ k → k < to → get_or new k false ≡ true)
+    → ((k : ℕ) → k < from → get_or new k false ≡ get_or bits k false)
+    → ((k : ℕ) → to ≤ k → get_or new k false ≡ get_or bits k false)
+    → (is_live (cut counts new) ≡ live) × (shown live (cut counts new) ≡ replaced (λ l. eqb label l) (λ l c. true) view)
+label_filled live counts bits new view label from to e is total known h p q len inside below above =
+    let l : label < length counts = label_within live counts bits view is total label h in
+    let r = some_bit live counts bits view is total label known l in
+    replaced_row live counts bits new view label from to (λ m c. true) (ap (λ b. shown b (cut counts bits)) (sym e) ∙ is) total known h p q len below above
+    (λ f. (r.0, holds-cut counts new label r.0 l r.1 ∙ inside (start counts label + r.0) (omega (arith, p)) (omega (arith, q, r.1))))
+    (λ f. absurd (let clash : true ≡ false = sym e ∙ f in cc))
+    (λ c i. inside (from + c) (omega arith) (omega (arith, p, q, i)))

@@ -6,9 +6,11 @@ pub mod Free
 pub mod Keys
 pub mod LabelChanges
 pub mod Listed
+pub mod PatternPlaces
 pub mod Places
 pub mod Puts
 pub mod Seen
+pub mod TextClasses
 pub mod Unread
 pub mod Walks
 pub mod WordBits

@@ -122,3 +122,15 @@ in_picked rest other mask i none on =
 pub out_picked : (word rest other mask i : ℕ) → bit rest i ≡ bit word i → bit mask i ≡ false → bit (bit_or rest (bit_and other mask)) i ≡ bit word i
 out_picked word rest other mask i same off =
     bit-or rest (bit_and other mask) i ∙ left_alone (bit rest i) (bit (bit_and other mask) i) (bit-and other mask i ∙ none_in (bit other i) (bit mask i) off) ∙ same
+
+-- bits that are filled by a mask
+
+right_on : (x y : Bool) → y ≡ true → (x || y) ≡ true
+right_on true y e = refl
+right_on false y e = e
+
+pub kept_filled : (word mask i : ℕ) → bit mask i ≡ false → bit (bit_or word mask) i ≡ bit word i
+kept_filled word mask i off = bit-or word mask i ∙ left_alone (bit word i) (bit mask i) off
+
+pub on_filled : (word mask i : ℕ) → bit mask i ≡ true → bit (bit_or word mask) i ≡ true
+on_filled word mask i on = bit-or word mask i ∙ right_on (bit word i) (bit mask i) on

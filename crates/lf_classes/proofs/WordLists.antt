@@ -274,6 +274,9 @@ module _ (old new : List ℕ) (len : ℕ) (view : List Bool) (is : bits_of old l
   pub clear_seen : (k : ℕ) → k < len → bit_of new k ≡ false → get_or (bits_of new len) k false ≡ false
   clear_seen k b off = get_bits new len k false b ∙ off
 
+  pub fill_seen : (k : ℕ) → k < len → bit_of new k ≡ true → get_or (bits_of new len) k false ≡ true
+  fill_seen k b on = get_bits new len k false b ∙ on
+
   pub both_seen : (f : Bool → Bool → Bool) (others slice : List ℕ) (n k : ℕ) (other : List Bool) → bits_of others n ≡ other → slice ≡ others → n ≡ len → k < len
       → bit_of new k ≡ f (bit_of old k) (bit_of slice k) → get_or (bits_of new len) k false ≡ f (get_or view k false) (get_or other k false)
   both_seen f others slice n k other is' read e b done =

@@ -3,3 +3,4 @@ pub mod Checking
 pub mod Cut
 pub mod Limits
 pub mod Meetings
+pub mod Remembered

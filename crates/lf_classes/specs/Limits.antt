@@ -5,6 +5,8 @@ use Rattle.lf_ast.specs.declared.rule.Rule.{Rule}
 use Rattle.lf_semantics.specs.Listing.{IsListing, Listing, class_count, class_counts, label_count, universe_of}
 use Rattle.lf_classes.specs.declared.class_error.ClassError.{ClassError}
 use Rattle.lf_classes.specs.declared.class_error.ClassError.TheVariants.{Memory, TooManyLabels, TooManyClasses}
+use Rattle.lf_classes.specs.declared.remembered.Remembered.{Remembered}
+use Rattle.lf_classes.specs.Remembered.{AreRemembered}
 
 -- the most labels, without `*`
 abbrev pub most_labels : ℕ
@@ -20,12 +22,13 @@ pub record IsWithin (u : Listing) : Type 0 where
   pub labels : label_count u ≤ most_labels
   pub classes : class_count u ≤ most_classes
 
--- a universe beside what is kept with it: the name of `*`, the empty text, and how many classes each label has
-pub record HasParts (u : Listing) (other_name no_text : Bytes) (counts : List ℕ) : Type 0 where
+-- a universe beside what is kept with it: the name of `*`, the empty text, how many classes each label has, and rows of patterns
+pub record HasParts (u : Listing) (other_name no_text : Bytes) (counts : List ℕ) (rows : Remembered) : Type 0 where
   pub within : IsWithin u
   pub star : other_name ≡ codes "*"
   pub empty : no_text ≡ []
   pub shape : counts ≡ class_counts u
+  pub remembered : AreRemembered u rows
 
 -- why a universe isn't built: it has too many labels; or no more labels than may be, and too many classes. Memory has no cause in it
 abbrev pub Exceeds : Listing → ClassError → Type 0

@@ -1,7 +1,7 @@
 //! A list of bits in words.
 ghost use Rattle.std.specs.Prelude.{◌≡◌, ℕ, ◌+◌, ◌<◌, ◌≤◌, ◌^◌, length, replicate, slice_index_or, slice_set, false, true, ◌&&◌, ◌||◌, IfOk};
 
-use crate::range::{clear_words, has_all, has_any, meet_range, take_range};
+use crate::range::{clear_words, fill_words, has_all, has_any, meet_range, take_range};
 use crate::word::{whole, with_bit};
 use crate::words::{copy_words, join_words, meet_words};
 use lf_base::Memory;
@@ -90,6 +90,17 @@ impl Bits {
         ensures above { (k : ℕ) → to ≤ k → slice_index_or self.new k false ≡ slice_index_or self.old k false }
     {
         clear_words(&mut self.words, from, to);
+    }
+
+    /// Sets the bits from `from` on and below `to`.
+    pub fn fill(&mut self, from: usize, to: usize)
+        requires { to ≤ length self.old }
+        ensures len { length self.new ≡ length self.old }
+        ensures inside { (k : ℕ) → from ≤ k → k < to → slice_index_or self.new k false ≡ true }
+        ensures below { (k : ℕ) → k < from → slice_index_or self.new k false ≡ slice_index_or self.old k false }
+        ensures above { (k : ℕ) → to ≤ k → slice_index_or self.new k false ≡ slice_index_or self.old k false }
+    {
+        fill_words(&mut self.words, from, to);
     }
 
     /// Makes the bits those of the other.

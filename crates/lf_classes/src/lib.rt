@@ -11,6 +11,7 @@ mod naming;
 mod passing;
 mod patterns;
 mod range;
+mod remembered;
 mod row;
 mod shape;
 mod strings;

@@ -2,7 +2,7 @@
 ghost use Rattle.std.specs.Prelude.{◌≡◌, ℕ, ◌*◌, ◌<◌, ◌≤◌, ◌^◌, ◌&&◌, length, true, false};
 ghost use Rattle.lf_classes.specs.Bits.{bit_of};
 
-use crate::word::{mask, meets, picked, without};
+use crate::word::{filled, mask, meets, picked, without};
 
 /// Whether a bit from `from` on and below `to` is set.
 pub fn has_any(words: &[u64], from: usize, to: usize) -> bool
@@ -30,6 +30,20 @@ pub fn clear_words(words: &mut Vec<u64>, from: usize, to: usize)
 {
     for number in from / 64..(to + 63) / 64 {
         words[number] = without(words[number], mask(number, from, to));
+    }
+}
+
+/// Sets the bits from `from` on and below `to`.
+pub fn fill_words(words: &mut Vec<u64>, from: usize, to: usize)
+    requires within { to ≤ 64 * length words.old.items }
+    requires small { to < 2 ^ 32 }
+    ensures len { length words.new.items ≡ length words.old.items }
+    ensures inside { (k : ℕ) → from ≤ k → k < to → bit_of words.new.items k ≡ true }
+    ensures below { (k : ℕ) → k < from → bit_of words.new.items k ≡ bit_of words.old.items k }
+    ensures above { (k : ℕ) → to ≤ k → bit_of words.new.items k ≡ bit_of words.old.items k }
+{
+    for number in from / 64..(to + 63) / 64 {
+        words[number] = filled(words[number], mask(number, from, to));
     }
 }
 

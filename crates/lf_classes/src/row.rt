@@ -1,7 +1,9 @@
 //! Rows.
 ghost use Rattle.std.specs.Prelude.{◌≡◌, ℕ, ◌<◌, ◌↔◌, ◌||◌, [], length, map, not, eqb, replicate, true, false, slice_index_or, IfOk, IsTrue};
-ghost use Rattle.lf_semantics.specs.ClassRows.{common, emptied, full, holds, is_live, kept, narrowed, nothing, only_empty, replaced, set_to, union};
+ghost use Rattle.lf_semantics.specs.ClassRows.{common, emptied, full, holds, is_live, kept, narrowed, nothing, only_empty, replaced, set_to, settled, union};
 ghost use Rattle.lf_semantics.specs.Environments.{Under};
+ghost use Rattle.lf_semantics.specs.Listing.{Listing};
+ghost use Rattle.lf_semantics.specs.RowTable.{has_class};
 ghost use Rattle.std.specs.List.{sum};
 ghost use Rattle.lf_classes.specs.Cut.{cut};
 
@@ -87,9 +89,22 @@ impl Row {
                 .get(self.shape.start(label as usize) + class as usize)
     }
 
-    /// Whether no label has a class.
+    /// Whether a label has a class other than the first, which is that of the empty text.
+    pub fn has_text(&self, label: u32) -> bool
+        requires { label < length self.now }
+        ensures { (universe : Listing) → result ≡ has_class universe (λ class. not (eqb class 0)) (slice_index_or self.now label []) }
+    {
+        self.live
+            && self.bits.any(
+                self.shape.start(label as usize) + 1,
+                self.shape.end(label as usize),
+            )
+    }
+
+    /// Whether no label has a class. Beside it stands what is known of every row.
     pub fn is_empty(&self) -> bool
-        ensures { result ≡ not (is_live self.now) }
+        ensures empty { result ≡ not (is_live self.now) }
+        ensures settled { settled self.now ≡ self.now }
     {
         !self.live
     }
@@ -106,6 +121,33 @@ impl Row {
             let to = self.shape.end(label as usize);
             self.bits.set(from + class as usize, on);
             self.live = self.bits.any(from, to);
+        }
+    }
+
+    /// Leaves a label, of the classes that it has, only one. A row in which the label loses its last class becomes empty.
+    pub fn keep_class(&mut self, label: u32, class: u32)
+        requires label { label < length self.old }
+        requires class { class < length (slice_index_or self.old label []) }
+        ensures { self.new ≡ narrowed (λ l c. not (eqb label l) || eqb c class) self.old }
+    {
+        if self.live {
+            if self.has(label, class) {
+                self.set_class(label, class);
+            } else {
+                self.live = false;
+            }
+        }
+    }
+
+    /// Gives a label every class. The empty row stays empty.
+    pub fn fill_label(&mut self, label: u32)
+        requires { label < length self.old }
+        ensures { self.new ≡ replaced (λ l. eqb label l) (λ l c. true) self.old }
+    {
+        if self.live {
+            let from = self.shape.start(label as usize);
+            let to = self.shape.end(label as usize);
+            self.bits.fill(from, to);
         }
     }
 

@@ -13,6 +13,7 @@ use std::test::Fail;
 
 mod changes;
 mod patterns;
+mod remembering;
 
 const NOWHERE: Span = Span { start: 0, end: 0 };
 
@@ -96,6 +97,10 @@ fn each_change_is_the_set_operation_of_its_name(rt: HostRuntime) -> Result<(), F
     row.keep(1, 0, true);
     row.meet(&copy);
     assert!(&rt; row.has(1, 1) && !row.has(1, 0));
+    assert!(&rt; row.has_text(1) && !row.has_text(0) && !empty.has_text(1));
+    row.fill_label(0);
+    row.keep_class(0, 1);
+    assert!(&rt; row.has_text(0) && !row.has(0, 0) && row.has(1, 1));
     row.keep(1, 1, false);
     assert!(&rt; row.is_empty() && !row.has(0, 0) && empty.is_empty());
     Ok(())

@@ -3,14 +3,17 @@ ghost use Rattle.std.specs.Prelude.{◌≡◌, ◌<◌, ◌≤◌, ◌+◌, ◌+
 ghost use Rattle.lf_semantics.specs.Listing.{IsCandidate, class_count, class_counts, class_of, class_texts, label_count, label_of, named_at, other_class, universe_of};
 ghost use Rattle.lf_classes.specs.Limits.{Exceeds, IsWithin, Passes, most_classes, most_labels};
 ghost use Rattle.lf_classes.specs.Meetings.{with_star};
+ghost use Rattle.lf_classes.specs.Remembered.{passing_row};
 ghost use Rattle.lf_classes.specs.declared.class_error.ClassError.TheVariants as ClassError;
 
 use crate::class_error::ClassError;
 use crate::classes::Classes;
 use crate::meetings::Meetings;
+use crate::remembered::Remembered;
+use crate::row::Row;
 use crate::shape::Shape;
 use crate::text_set::TextSet;
-use lf_ast::Rule;
+use lf_ast::{MatchOp, Rule};
 use lf_base::{Memory, Seq, Text};
 use std::alloc::Global;
 use std::marker::Model;
@@ -25,6 +28,8 @@ const MOST_CLASSES: u64 = 65536;
 ///
 /// Labels are numbered from 0 in the order in which they come first: `__name__`, those that the rules meet, and `*` for every other name. The classes of a label are
 /// numbered too: the empty text, the texts that are met with the label, in the order in which they come first, and 'any other text'.
+///
+/// It may remember which classes of a label pass a pattern, which changes nothing of what it is.
 #[derive(Drop)]
 pub struct Universe {
     names: TextSet,
@@ -32,6 +37,7 @@ pub struct Universe {
     star: Text,
     empty: Text,
     shape: Shape,
+    remembered: Remembered,
 }
 
 impl Model for Universe {
@@ -42,7 +48,7 @@ impl Model for Universe {
 
     ghost view = { λ u. record { names = u.names; named = u.named } };
 
-    ghost invariant = { λ u. HasParts (record { names = u.names; named = u.named }) u.star u.empty u.shape };
+    ghost invariant = { λ u. HasParts (record { names = u.names; named = u.named }) u.star u.empty u.shape u.remembered };
 }
 
 impl Universe {
@@ -151,6 +157,35 @@ impl Universe {
         }
     }
 
+    /// How many classes all labels have together: the bits of a row.
+    pub fn class_count(&self) -> u32
+        ensures { result ≡ class_count self.now }
+    {
+        self.shape.total() as u32
+    }
+
+    /// Remembers the row of the classes of a label that pass a `=~` or `!~`, for `remembered`. For the other operators nothing is remembered.
+    pub fn remember(
+        &mut self,
+        alloc: Global,
+        label: u32,
+        op: MatchOp,
+        pattern: &str,
+        row: Row,
+    ) -> Result<(), Memory>
+        requires { row ≡ passing_row self.old label op pattern.now }
+        ensures { self.new ≡ self.old }
+    {
+        self.remembered.add(alloc, label as usize, op, pattern, row)
+    }
+
+    /// The row of the classes of a label that pass a `=~` or `!~`, beside every class of each other label, if it is remembered.
+    pub fn remembered(&self, label: u32, op: MatchOp, pattern: &str) -> Option<&Row>
+        ensures { IfSome result (λ row. row.now ≡ passing_row self.now label op pattern.now) }
+    {
+        self.remembered.get(label as usize, op, pattern)
+    }
+
     /// The universe of what was met.
     fn of(alloc: Global, meetings: Meetings) -> Result<Universe, ClassError>
         requires { IsWithin (with_star meetings) }
@@ -168,6 +203,7 @@ impl Universe {
             star,
             empty,
             shape,
+            remembered: Remembered::new(alloc),
         })
     }
 }

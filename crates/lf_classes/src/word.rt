@@ -31,6 +31,14 @@ pub fn with_bit(word: u64, place: usize, on: bool) -> u64
     }
 }
 
+/// A word with the bits of a mask.
+pub fn filled(word: u64, mask: u64) -> u64
+    ensures kept { (i : ℕ) → i < 64 → bit mask i ≡ false → bit result i ≡ bit word i }
+    ensures on { (i : ℕ) → i < 64 → bit mask i ≡ true → bit result i ≡ true }
+{
+    word | mask
+}
+
 /// A word without the bits of a mask.
 pub fn without(word: u64, mask: u64) -> u64
     ensures kept { (i : ℕ) → i < 64 → bit mask i ≡ false → bit result i ≡ bit word i }

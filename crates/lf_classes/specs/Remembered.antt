@@ -1,0 +1,28 @@
+-- Rows of the classes that pass patterns, as they are remembered.
+use Rattle.std.specs.Prelude.{◌≡◌, ℕ, ◌||◌, not, eqb, map, Some, slice_get}
+use Rattle.lf_ast.specs.Labels.{Bytes}
+use Rattle.lf_ast.specs.declared.expr.MatchOp.{MatchOp}
+use Rattle.lf_ast.specs.declared.expr.MatchOp.TheVariants.{Matches, NotMatches}
+use Rattle.lf_semantics.specs.ClassRows.{Sets, full, narrowed}
+use Rattle.lf_semantics.specs.Listing.{Listing}
+use Rattle.lf_semantics.specs.RowTable.{passes_class}
+use Rattle.lf_classes.specs.declared.remembered.LabelRows.{LabelRows}
+use Rattle.lf_classes.specs.declared.remembered.PatternRows.{PatternRows}
+use Rattle.lf_classes.specs.declared.remembered.Remembered.{Remembered}
+
+-- the classes of a label that pass a matcher, beside every class of each other label
+abbrev pub passing_row : Listing → ℕ → MatchOp → Bytes → Sets
+passing_row u label op pattern = narrowed (λ l c. not (eqb label l) || passes_class u op pattern l c) (full u)
+
+-- the row of each pattern stands at the pattern's place
+abbrev pub AreRows : (Bytes → Sets) → PatternRows → Type 0
+AreRows row_of p = p.rows.items ≡ map row_of p.patterns
+
+-- the rows of a label's patterns, by their operators
+pub record HasRows (u : Listing) (label : ℕ) (rows : LabelRows) : Type 0 where
+  pub matching : AreRows (passing_row u label Matches) rows.matching
+  pub failing : AreRows (passing_row u label NotMatches) rows.failing
+
+-- each label has rows of its own patterns
+abbrev pub AreRemembered : Listing → Remembered → Type 0
+AreRemembered u r = (label : ℕ) (rows : LabelRows) → slice_get r.labels.items label ≡ Some rows → HasRows u label rows
