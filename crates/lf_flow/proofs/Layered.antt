@@ -23,7 +23,7 @@ same_remade f g row same =
     let d = class_in f row l c b k in
     holds-remade f row l c b d ∙ same l c b ∙ sym (holds-remade g row l c b d))
 
-twice_remade : (f g : ℕ → ℕ → Bool → Bool) (row : Sets) → remade g (remade f row) ≡ remade (λ l c on. g l c (f l c on)) row
+pub twice_remade : (f g : ℕ → ℕ → Bool → Bool) (row : Sets) → remade g (remade f row) ≡ remade (λ l c on. g l c (f l c on)) row
 twice_remade f g row =
     same_sets (remade g (remade f row)) (remade (λ l c on. g l c (f l c on)) row) (shape_remade g 0 (remade f row) ∙ shape_remade f 0 row ∙ sym (shape_remade (λ l c on. g l c (f l c on)) 0 row)) (λ l c h k.
     let m : l < length (remade f row) = omega (arith, h, length_remade g (remade f row)) in
@@ -49,7 +49,7 @@ same_row f row same =
     holds-remade f row l c b (class_in f row l c b k) ∙ same l c)
 
 -- the empty row stays empty where no class is added
-none_remade : (f : ℕ → ℕ → Bool → Bool) (row : Sets) → ((l c : ℕ) → f l c false ≡ false) → settled (remade f (emptied row)) ≡ emptied row
+pub none_remade : (f : ℕ → ℕ → Bool → Bool) (row : Sets) → ((l c : ℕ) → f l c false ≡ false) → settled (remade f (emptied row)) ≡ emptied row
 none_remade f row none = ap settled (same_row f (emptied row) (λ l c. ap (f l c) (emptied_holds row l c) ∙ none l c ∙ sym (emptied_holds row l c))) ∙ settled_emptied row
 
 -- a class that is left stands for one that is left elsewhere

@@ -1,11 +1,14 @@
 pub mod Below
 pub mod ClassSets
+pub mod Counted
 pub mod Entries
 pub mod Formed
 pub mod HasClass
 pub mod Layered
+pub mod MadeRows
 pub mod MatcherSets
 pub mod Narrowed
+pub mod PassingRows
 pub mod PatternSets
 pub mod Selected
 pub mod Sides

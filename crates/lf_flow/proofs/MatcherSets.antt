@@ -1,5 +1,5 @@
 -- Which classes of a label pass a matcher.
-use Rattle.std.proofs.Common.{◌≡◌, ◌≢◌, ℕ, zero, suc, ◌+◌, ◌<◌, Bool, true, false, not, ◌&&◌, cond, eqb, nat_lt, List, [], length, get_or, inl, inr, refl, sym, ◌∙◌, ap, subst, arith, length-set}
+use Rattle.std.proofs.Common.{◌≡◌, ◌≢◌, ℕ, zero, suc, ◌+◌, ◌<◌, Bool, true, false, not, ◌&&◌, cond, eqb, nat_lt, List, [], length, get_or, inl, inr, refl, sym, ◌∙◌, ap, subst, arith}
 use Rattle.std.proofs.Math.ListN.{set}
 use Rattle.std.specs.Prelude.{replicate}
 use Rattle.std.proofs.lemmas.Bool.{cases_eq}
@@ -37,23 +37,15 @@ not_last c k other e = elim (cases_eq c k) [
     and_false true = refl
     and_false false = refl
 
-one_own : (c k other : ℕ) → k < other → (nat_lt c other && eqb c k) ≡ eqb k c
-one_own c k other h = elim (cases_eq k c) [
-  | inl e ↦ (let q : nat_lt c other ≡ true = grind (arith, nat_tests) in let r : eqb c k ≡ true = (Decides-eqb c k).1 (sym e) in let s : eqb k c ≡ true = (Decides-eqb k c).1 e in rw (q, r, s) refl)
-  | inr d ↦ (let r : eqb c k ≡ false = eqb-other c k (λ f. d (sym f)) in let s : eqb k c ≡ false = eqb-other k c d in rw (r, s) (and_false (nat_lt c other)))
+one_own : (c k other : ℕ) → k < other → (nat_lt c other && eqb c k) ≡ eqb c k
+one_own c k other h = elim (cases_eq c k) [
+  | inl e ↦ (let q : nat_lt c other ≡ true = grind (arith, nat_tests) in rw q refl)
+  | inr d ↦ (let r : eqb c k ≡ false = eqb-other c k d in rw r (and_false (nat_lt c other)))
 ]
   where
     and_false : (b : Bool) → (b && false) ≡ false
     and_false true = refl
     and_false false = refl
-
-cond_same : (b : Bool) → cond b true false ≡ b
-cond_same true = refl
-cond_same false = refl
-
-cond_not : (b : Bool) → cond b false true ≡ not b
-cond_not true = refl
-cond_not false = refl
 
 module _ (u : Listing) (p : IsListing u) (label : ℕ) where
   apart : (k l : ℕ) → k < l → l < length (class_texts u label) → get_or (class_texts u label) k [] ≢ get_or (class_texts u label) l []
@@ -93,40 +85,28 @@ module _ (u : Listing) (p : IsListing u) (label : ℕ) where
   abbrev size : ℕ
   size = length (named_at u label) + 2
 
-  module _ (text : Bytes) (n k : ℕ) (on : List Bool) (count : n ≡ size) (class : k ≡ class_of u label text) where
+  module _ (text : Bytes) (n k : ℕ) (count : n ≡ size) (class : k ≡ class_of u label text) where
     -- a text that is no class of its own
     module _ (last : k + 1 ≡ n) where
       none_at : (c : ℕ) → (nat_lt c (other_class u label) && eqb c (class_of u label text)) ≡ false
       none_at c = ap (λ m. nat_lt c (other_class u label) && eqb c m) (sym class) ∙ not_last c k (other_class u label) (omega (arith, last, count))
 
-      pub none_equal : on ≡ replicate n false → IsSet size (passes_class u Equal text label) on
-      none_equal is = record {
-        count = ap length is ∙ length-replicate n false ∙ count;
-        each = λ c h. ap (λ xs. get_or xs c false) is ∙ get_or-replicate n c false false (omega (arith, count)) ∙ sym (equal_at text c ∙ none_at c);
-      }
+      pub none_equal : (c : ℕ) → passes_class u Equal text label c ≡ false
+      none_equal c = equal_at text c ∙ none_at c
 
-      pub all_unequal : on ≡ replicate n true → IsSet size (passes_class u NotEqual text label) on
-      all_unequal is = record {
-        count = ap length is ∙ length-replicate n true ∙ count;
-        each = λ c h. ap (λ xs. get_or xs c false) is ∙ get_or-replicate n c true false (omega (arith, count)) ∙ sym (unequal_at text c ∙ ap not (none_at c));
-      }
+      pub all_unequal : (c : ℕ) → passes_class u NotEqual text label c ≡ true
+      all_unequal c = unequal_at text c ∙ ap not (none_at c)
 
     -- and one that is
     module _ (own : k + 1 < n) where
-      one_at : (c : ℕ) → (nat_lt c (other_class u label) && eqb c (class_of u label text)) ≡ eqb k c
+      one_at : (c : ℕ) → (nat_lt c (other_class u label) && eqb c (class_of u label text)) ≡ eqb c k
       one_at c = ap (λ m. nat_lt c (other_class u label) && eqb c m) (sym class) ∙ one_own c k (other_class u label) (omega (arith, own, count))
 
-      pub one_equal : on ≡ set (replicate n false) k true → IsSet size (passes_class u Equal text label) on
-      one_equal is = record {
-        count = ap length is ∙ length-set (replicate n false) k true ∙ length-replicate n false ∙ count;
-        each = λ c h. ap (λ xs. get_or xs c false) is ∙ get_one n k c false true (omega (arith, own)) (omega (arith, count)) ∙ cond_same (eqb k c) ∙ sym (equal_at text c ∙ one_at c);
-      }
+      pub one_equal : (c : ℕ) → passes_class u Equal text label c ≡ eqb c k
+      one_equal c = equal_at text c ∙ one_at c
 
-      pub others_unequal : on ≡ set (replicate n true) k false → IsSet size (passes_class u NotEqual text label) on
-      others_unequal is = record {
-        count = ap length is ∙ length-set (replicate n true) k false ∙ length-replicate n true ∙ count;
-        each = λ c h. ap (λ xs. get_or xs c false) is ∙ get_one n k c true false (omega (arith, own)) (omega (arith, count)) ∙ cond_not (eqb k c) ∙ sym (unequal_at text c ∙ ap not (one_at c));
-      }
+      pub others_unequal : (c : ℕ) → passes_class u NotEqual text label c ≡ not (eqb c k)
+      others_unequal c = unequal_at text c ∙ ap not (one_at c)
 
 module _ (u : Listing) (label : ℕ) (pattern : Bytes) where
   -- what fails a pattern passes its `!~`

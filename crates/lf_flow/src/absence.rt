@@ -1,10 +1,10 @@
 //! The row of `absent` and `absent_over_time`.
-ghost use Rattle.std.specs.Prelude.{◌≡◌, ◌+◌, ◌<◌, ◌||◌, Some, eqb, not, is_some, length, map, IfOk, option_and_then, slice_get};
-ghost use Rattle.lf_semantics.specs.Listing.{label_of, named_at};
+ghost use Rattle.std.specs.Prelude.{◌≡◌, ◌<◌, ◌&&◌, ◌||◌, [], Some, eqb, not, true, is_some, length, IfOk, OnOk, option_and_then, slice_get, slice_index_or};
+ghost use Rattle.lf_semantics.specs.ClassRows.{full, replaced};
+ghost use Rattle.lf_semantics.specs.Listing.{Listing};
 ghost use Rattle.lf_semantics.specs.Parts.{sought_by};
-ghost use Rattle.lf_semantics.specs.RowTable.{absent_row, is_sought};
-ghost use Rattle.lf_flow.specs.Absence.{also_bare, is_class_sought, sought_text};
-ghost use Rattle.lf_flow.specs.ClassSets.{IsSet};
+ghost use Rattle.lf_semantics.specs.RowTable.{absent_row, bare_row, has_class};
+ghost use Rattle.lf_flow.specs.Absence.{AreCounts, also_bare, is_class_sought, sought_text};
 
 use crate::effects::bare;
 use lf_ast::{Expr, MatchOp, Matcher, Sight};
@@ -47,7 +47,7 @@ fn may_be_bare(outside: bool, sight: &Sight) -> bool
     outside || sight.at.is_some()
 }
 
-/// The row of what a selector with these matchers looks for.
+/// The row of what a selector with these matchers looks for. A label on which one matcher alone stands, which gives a text, is lacked only where the sample may be bare.
 fn sought(
     alloc: Global,
     universe: &Universe,
@@ -56,78 +56,51 @@ fn sought(
 ) -> Result<Row, Memory>
     ensures { IfOk result (λ row. row ≡ absent_row universe.now (Some (record { matchers = matchers.now; may_be_bare = may_be_bare }))) }
 {
-    let numbers = numbers(alloc, universe, matchers)?;
-    let mut row = Row::full(alloc, universe)?;
+    let mut row = bare(alloc, universe)?;
+    let counts = put_texts(alloc, universe, matchers, &mut row)?;
+    if may_be_bare {
+        return Ok(row);
+    }
     for label in 0..universe.labels() {
-        let on = classes(alloc, universe, label, matchers, &numbers, may_be_bare)?;
-        row.set_classes(label, &on);
+        if has_one_text(&counts, &row, label) {
+            row.keep(label, 0, false);
+        }
     }
     Ok(row)
 }
 
-/// The numbers of the labels that the matchers stand on.
-fn numbers(alloc: Global, universe: &Universe, matchers: &[Matcher]) -> Result<Vec<u32>, Memory>
-    ensures { IfOk result (λ numbers. numbers.items ≡ map (λ m. label_of universe.now m.label) matchers.now) }
+/// Puts the class of each matcher's text into the set of its label, and tells how many matchers stand on each label. Of the metric name the sample has no text, whatever
+/// the matchers on it say.
+fn put_texts(
+    alloc: Global,
+    universe: &Universe,
+    matchers: &[Matcher],
+    row: &mut Row,
+) -> Result<Vec<usize>, Memory>
+    requires bare { row.old ≡ bare_row universe.now }
+    ensures row { OnOk result (row.new ≡ replaced (λ label. true) (λ label. is_class_sought universe.now label true matchers.now) (full universe.now)) }
+    ensures counts { IfOk result (λ counts. AreCounts universe.now matchers.now counts.items) }
 {
-    let mut numbers = Vec::new(alloc);
+    let metric = universe.label_of("__name__");
+    let mut counts = vec![in alloc; 0; universe.labels() as usize]?;
     for matcher in matchers {
-        numbers.push(universe.label_of(matcher.label.as_str()))?;
-    }
-    Ok(numbers)
-}
-
-/// The classes of a label. Of the metric name the sample has no text, whatever the matchers on it say.
-fn classes(
-    alloc: Global,
-    universe: &Universe,
-    label: u32,
-    matchers: &[Matcher],
-    numbers: &[u32],
-    may_be_bare: bool,
-) -> Result<Vec<bool>, Memory>
-    requires label { label < length universe.now.named }
-    requires numbers { numbers.now ≡ map (λ m. label_of universe.now m.label) matchers.now }
-    ensures { IfOk result (λ on. IsSet (length (named_at universe.now label) + 2) (is_sought universe.now (record { matchers = matchers.now; may_be_bare = may_be_bare }) label) on.items) }
-{
-    if universe.label_of("__name__") == label {
-        return classes_by(alloc, universe, label, &[], &[], may_be_bare);
-    }
-    classes_by(alloc, universe, label, matchers, numbers, may_be_bare)
-}
-
-/// The classes that the matchers on a label have texts of. The empty text is one, unless exactly one matcher stands on the label, and wherever the sample may be bare.
-fn classes_by(
-    alloc: Global,
-    universe: &Universe,
-    label: u32,
-    matchers: &[Matcher],
-    numbers: &[u32],
-    may_be_bare: bool,
-) -> Result<Vec<bool>, Memory>
-    requires label { label < length universe.now.named }
-    requires numbers { numbers.now ≡ map (λ m. label_of universe.now m.label) matchers.now }
-    ensures { IfOk result (λ on. IsSet (length (named_at universe.now label) + 2) (is_class_sought universe.now label may_be_bare matchers.now) on.items) }
-{
-    let mut on = vec![in alloc; false; universe.classes(label) as usize]?;
-    let mut found: usize = 0;
-    for k in 0..matchers.len() {
-        let matcher = &matchers[k];
-        if numbers[k] == label {
-            let class = universe.class_of(label, sought_text(matcher));
-            on[class as usize] = true;
-            found += 1;
+        let label = universe.label_of(matcher.label.as_str());
+        if label == metric {
+            continue;
         }
+        row.keep(label, universe.class_of(label, sought_text(matcher)), true);
+        counts[label as usize] += 1;
     }
-    let given = on[0];
-    on[0] = has_empty(given, may_be_bare, found);
-    Ok(on)
+    Ok(counts)
 }
 
-/// Whether the empty text is a class: a matcher gives it, the sample may be bare, or there isn't exactly one matcher.
-fn has_empty(given: bool, may_be_bare: bool, found: usize) -> bool
-    ensures { result ≡ (given || (may_be_bare || not (eqb found 1))) }
+/// Whether one matcher alone stands on a label, and the label has a text.
+fn has_one_text(counts: &[usize], row: &Row, label: u32) -> bool
+    requires count { label < length counts.now }
+    requires label { label < length row.now }
+    ensures { (universe : Listing) → result ≡ (eqb (slice_index_or counts.now label 0) 1 && has_class universe (λ class. not (eqb class 0)) (slice_index_or row.now label [])) }
 {
-    given || may_be_bare || found != 1
+    counts[label as usize] == 1 && row.has_text(label)
 }
 
 /// The text of an `=`, and of any other matcher none.

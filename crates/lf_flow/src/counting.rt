@@ -1,11 +1,10 @@
 //! The row of `count_values`.
-ghost use Rattle.std.specs.Prelude.{◌≡◌, ◌||◌, eqb, not, IfOk, OnOk};
+ghost use Rattle.std.specs.Prelude.{◌≡◌, OnOk};
 ghost use Rattle.lf_semantics.specs.ClassRows.{HasShape};
 ghost use Rattle.lf_semantics.specs.Grouped.{may_be_lacked};
 ghost use Rattle.lf_semantics.specs.Parts.{text_at, texts_of};
 ghost use Rattle.lf_semantics.specs.RowTable.{counted_row};
 ghost use Rattle.lf_ast.specs.Types.{is_among};
-ghost use Rattle.lf_flow.specs.ClassSets.{IsSet};
 
 use crate::grouping::group;
 use crate::strings::text_at;
@@ -28,21 +27,9 @@ pub fn count_values(
     group(alloc, universe, grouping, row)?;
     let name = text_at(args, 0);
     let label = universe.label_of(name);
-    let lacked = may_be_lacked(grouping, name);
-    let on = counted(alloc, universe.classes(label), lacked)?;
-    row.set_classes(label, &on);
+    row.fill_label(label);
+    row.keep(label, 0, may_be_lacked(grouping, name));
     Ok(())
-}
-
-/// Every class but the empty text, which is one where the label may be lacked.
-fn counted(alloc: Global, count: u32, lacked: bool) -> Result<Vec<bool>, Memory>
-    ensures { IfOk result (λ on. IsSet count (λ class. not (eqb class 0) || lacked) on.items) }
-{
-    let mut on = Vec::new(alloc);
-    for class in 0..count {
-        on.push(class != 0 || lacked)?;
-    }
-    Ok(on)
 }
 
 /// Whether a grouping takes the label out of the group.

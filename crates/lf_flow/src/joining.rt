@@ -115,10 +115,5 @@ pub fn may_be_present(universe: &Universe, row: &Row, name: &str) -> bool
     requires shape { HasShape universe.now row.now }
     ensures { result ≡ may_be_present universe.now row.now name.now }
 {
-    let label = universe.label_of(name);
-    let mut found = false;
-    for class in 0..universe.classes(label) {
-        found = found || (row.has(label, class) && class != 0);
-    }
-    found
+    row.has_text(universe.label_of(name))
 }

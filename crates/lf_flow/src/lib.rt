@@ -13,6 +13,7 @@ mod matching;
 mod narrowing;
 mod operating;
 mod operators;
+mod preparing;
 mod replacing;
 mod rows;
 mod selecting;
@@ -21,4 +22,5 @@ mod strings;
 mod tests;
 
 pub use env::Env;
+pub use preparing::prepare;
 pub use rows::flow;

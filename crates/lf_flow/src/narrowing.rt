@@ -1,5 +1,5 @@
 //! What matchers leave of a row.
-ghost use Rattle.std.specs.Prelude.{◌≡◌, ◌<◌, ◌+◌, ◌||◌, length, not, true, false, IfOk, OnOk};
+ghost use Rattle.std.specs.Prelude.{◌≡◌, ◌<◌, ◌+◌, ◌||◌, eqb, length, not, IfOk, OnOk};
 ghost use Rattle.lf_ast.specs.declared.expr.MatchOp.TheVariants.{Equal, NotEqual, NotMatches};
 ghost use Rattle.lf_semantics.specs.ClassRows.{HasShape, narrowed};
 ghost use Rattle.lf_semantics.specs.Listing.{IsListing, named_at};
@@ -13,7 +13,7 @@ use lf_classes::{Row, Universe};
 use lf_pattern::{Pattern, PatternError, plain_alternatives};
 use std::alloc::Global;
 
-/// Leaves the label of a matcher the classes that pass it.
+/// Leaves the label of a matcher the classes that pass it. Those that pass a pattern are looked for only where the universe doesn't remember them.
 pub fn narrow(
     alloc: Global,
     universe: &Universe,
@@ -25,51 +25,79 @@ pub fn narrow(
     ensures { OnOk result (row.new ≡ narrowed (λ label class. not (is_label universe.now matcher.now.label label) || passes_class universe.now matcher.now.op matcher.now.value label class) row.old) }
 {
     let label = universe.label_of(matcher.label.as_str());
-    let on = passing(alloc, universe, label, matcher)?;
-    row.narrow_classes(label, &on);
-    Ok(())
+    match universe.remembered(label, matcher.op, matcher.value.as_str()) {
+        Some(passing) => {
+            row.meet_label(label, passing);
+            Ok(())
+        }
+        None => narrow_anew(alloc, universe, label, matcher, row),
+    }
 }
 
-/// The classes of a label that pass a matcher.
-fn passing(
+/// Leaves a label the classes that pass a matcher.
+fn narrow_anew(
     alloc: Global,
     universe: &Universe,
     label: u32,
     matcher: &Matcher,
-) -> Result<Vec<bool>, Memory>
+    row: &mut Row,
+) -> Result<(), Memory>
     requires listing { IsListing universe.now }
     requires label { label < length universe.now.named }
-    ensures { IfOk result (λ on. IsSet (length (named_at universe.now label) + 2) (passes_class universe.now matcher.now.op matcher.now.value label) on.items) }
+    requires shape { HasShape universe.now row.old }
+    ensures { OnOk result (row.new ≡ narrowed (λ l class. not (eqb label l) || passes_class universe.now matcher.now.op matcher.now.value l class) row.old) }
 {
     match matcher.op {
-        MatchOp::Equal => compared(alloc, universe, label, matcher.value.as_str(), true),
-        MatchOp::NotEqual => compared(alloc, universe, label, matcher.value.as_str(), false),
-        MatchOp::Matches => matched(alloc, universe, label, &matcher.value),
-        MatchOp::NotMatches => unmatched(alloc, universe, label, &matcher.value),
+        MatchOp::Equal => {
+            keep_text(universe, label, matcher.value.as_str(), row);
+            Ok(())
+        }
+        MatchOp::NotEqual => {
+            drop_text(universe, label, matcher.value.as_str(), row);
+            Ok(())
+        }
+        MatchOp::Matches => {
+            let on = matched(alloc, universe, label, &matcher.value)?;
+            row.narrow_classes(label, &on);
+            Ok(())
+        }
+        MatchOp::NotMatches => {
+            let on = unmatched(alloc, universe, label, &matcher.value)?;
+            row.narrow_classes(label, &on);
+            Ok(())
+        }
     }
 }
 
-/// The classes of a label that are that of a text, or the others. 'Any other text' is never the text.
-fn compared(
-    alloc: Global,
-    universe: &Universe,
-    label: u32,
-    text: &str,
-    equal: bool,
-) -> Result<Vec<bool>, Memory>
+/// Leaves a label the class of a text alone. 'Any other text' is never the text.
+fn keep_text(universe: &Universe, label: u32, text: &str, row: &mut Row)
     requires listing { IsListing universe.now }
     requires label { label < length universe.now.named }
-    ensures equal { equal ≡ true → IfOk result (λ on. IsSet (length (named_at universe.now label) + 2) (passes_class universe.now Equal text.now label) on.items) }
-    ensures others { equal ≡ false → IfOk result (λ on. IsSet (length (named_at universe.now label) + 2) (passes_class universe.now NotEqual text.now label) on.items) }
+    requires shape { HasShape universe.now row.old }
+    ensures { row.new ≡ narrowed (λ l class. not (eqb label l) || passes_class universe.now Equal text.now l class) row.old }
 {
     let count = universe.classes(label);
     let class = universe.class_of(label, text);
-    let mut on = vec![in alloc; !equal; count as usize]?;
     if class + 1 == count {
-        return Ok(on);
+        row.clear();
+    } else {
+        row.keep_class(label, class);
     }
-    on[class as usize] = equal;
-    Ok(on)
+}
+
+/// Takes the class of a text from a label. 'Any other text' is never the text.
+fn drop_text(universe: &Universe, label: u32, text: &str, row: &mut Row)
+    requires listing { IsListing universe.now }
+    requires label { label < length universe.now.named }
+    requires shape { HasShape universe.now row.old }
+    ensures { row.new ≡ narrowed (λ l class. not (eqb label l) || passes_class universe.now NotEqual text.now l class) row.old }
+{
+    let _empty = row.is_empty();
+    let count = universe.classes(label);
+    let class = universe.class_of(label, text);
+    if class + 1 < count {
+        row.keep(label, class, false);
+    }
 }
 
 /// The classes of a label that pass a `!~`. Of what is no pattern 'any other text' alone does.

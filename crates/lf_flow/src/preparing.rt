@@ -1,0 +1,138 @@
+//! Patterns that are matched once, before any row is computed.
+ghost use Rattle.std.specs.Prelude.{◌≡◌, IfOk};
+ghost use Rattle.lf_semantics.specs.Listing.{label_of};
+ghost use Rattle.lf_semantics.specs.PatternBreaches.{takes_pattern};
+ghost use Rattle.lf_classes.specs.Remembered.{passing_row};
+
+use crate::narrowing::narrow;
+use lf_ast::{Expr, MatchOp, Matcher, Rule};
+use lf_base::{Memory, Seq};
+use lf_classes::{Row, Universe};
+use std::alloc::Global;
+
+/// The most words that all remembered rows may have together: 32 MiB.
+const MOST_REMEMBERED_WORDS: u32 = 4_194_304;
+
+/// Finds which classes pass each `=~` and `!~` of rules, and has the universe remember them, so that `flow` needs no pattern again. It changes nothing of what the
+/// universe is.
+///
+/// The rows that are remembered have 32 MiB together at most. A pattern beyond them is matched anew wherever it stands.
+pub fn prepare(alloc: Global, universe: &mut Universe, rules: &Seq<Rule>) -> Result<(), Memory>
+    ensures { universe.new ≡ universe.old }
+{
+    let mut room = MOST_REMEMBERED_WORDS;
+    for rule in rules.as_slice() {
+        prepare_expr(alloc, universe, &mut room, &rule.expr)?;
+    }
+    Ok(())
+}
+
+/// Finds which classes pass the matchers of an expression. It only calls, since it recurs as deep as expressions nest.
+#[cycle(prepare)]
+fn prepare_expr(
+    alloc: Global,
+    universe: &mut Universe,
+    room: &mut u32,
+    expr: &Expr,
+) -> Result<(), Memory>
+    ensures { universe.new ≡ universe.old }
+{
+    match expr {
+        Expr::Number { .. } | Expr::Str { .. } => Ok(()),
+        Expr::Selector { matchers, .. } => {
+            prepare_matchers(alloc, universe, room, matchers.as_slice())
+        }
+        Expr::Subquery { of, .. } | Expr::Paren { of, .. } | Expr::Unary { of, .. } => {
+            prepare_expr(alloc, universe, room, of)
+        }
+        Expr::Binary { left, right, .. } => {
+            prepare_expr(alloc, universe, room, left)?;
+            prepare_expr(alloc, universe, room, right)
+        }
+        Expr::Call { args, .. } | Expr::Aggregate { args, .. } => {
+            prepare_args(alloc, universe, room, args.as_slice())
+        }
+    }
+}
+
+/// Finds which classes pass the matchers of arguments.
+#[cycle(prepare)]
+#[inline(never)]
+fn prepare_args(
+    alloc: Global,
+    universe: &mut Universe,
+    room: &mut u32,
+    args: &[Expr],
+) -> Result<(), Memory>
+    ensures { universe.new ≡ universe.old }
+{
+    for arg in args {
+        prepare_expr(alloc, universe, room, arg)?;
+    }
+    Ok(())
+}
+
+/// Finds which classes pass the matchers of a selector.
+#[inline(never)]
+fn prepare_matchers(
+    alloc: Global,
+    universe: &mut Universe,
+    room: &mut u32,
+    matchers: &[Matcher],
+) -> Result<(), Memory>
+    ensures { universe.new ≡ universe.old }
+{
+    for matcher in matchers {
+        prepare_matcher(alloc, universe, room, matcher)?;
+    }
+    Ok(())
+}
+
+/// Has the universe remember which classes pass a matcher with a pattern, unless it does, or a row has more words than there is room for. `room` is how many words the
+/// rows may still have.
+fn prepare_matcher(
+    alloc: Global,
+    universe: &mut Universe,
+    room: &mut u32,
+    matcher: &Matcher,
+) -> Result<(), Memory>
+    ensures { universe.new ≡ universe.old }
+{
+    let words = universe.class_count().div_ceil(64);
+    if words > *room || !takes_pattern(matcher.op) || is_remembered(universe, matcher) {
+        return Ok(());
+    }
+    let row = passing(alloc, universe, matcher)?;
+    let label = universe.label_of(matcher.label.as_str());
+    universe.remember(alloc, label, matcher.op, matcher.value.as_str(), row)?;
+    *room -= words;
+    Ok(())
+}
+
+/// Whether what stands behind an operator is a pattern.
+fn takes_pattern(op: MatchOp) -> bool
+    ensures { result ≡ takes_pattern op }
+{
+    match op {
+        MatchOp::Equal | MatchOp::NotEqual => false,
+        MatchOp::Matches | MatchOp::NotMatches => true,
+    }
+}
+
+/// Whether the classes that pass a matcher are remembered.
+fn is_remembered(universe: &Universe, matcher: &Matcher) -> bool {
+    let label = universe.label_of(matcher.label.as_str());
+    universe
+        .remembered(label, matcher.op, matcher.value.as_str())
+        .is_some()
+}
+
+/// The classes that pass a matcher, beside every class of each other label.
+fn passing(alloc: Global, universe: &Universe, matcher: &Matcher) -> Result<Row, Memory>
+    ensures { IfOk result (λ row. row ≡ passing_row universe.now (label_of universe.now matcher.now.label) matcher.now.op matcher.now.value) }
+{
+    let _labels = universe.labels();
+    let mut row = Row::full(alloc, universe)?;
+    narrow(alloc, universe, matcher, &mut row)?;
+    Ok(row)
+}
