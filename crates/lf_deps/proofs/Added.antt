@@ -1,0 +1,89 @@
+-- Numbers that are added to an ordered set.
+use Rattle.std.proofs.Common.{◌≡◌, ℕ, ◌+◌, ◌<◌, ◌⊎◌, List, [], ◌∷◌, ◌++◌, take, length, get_or, inl, inr, refl, sym, ◌∙◌, ap, subst}
+use Rattle.std.specs.BTreeSet.{insert_key}
+use Rattle.std.specs.List.{Contains, flat_map}
+use Rattle.std.specs.Ordering.{match_ordering, nat_cmp}
+use Rattle.std.specs.declared.cmp.Ordering.{Ordering}
+use Rattle.std.specs.declared.cmp.Ordering.TheVariants.{Equal, Greater, Less}
+use Rattle.std.proofs.lemmas.Grind.{flat_map-append}
+use Rattle.std.proofs.lemmas.List.{append-nil, take_more}
+use Rattle.std.proofs.lemmas.List.Elements.{Contains-append_left, Contains-append_right}
+use Rattle.std.proofs.lemmas.Map.Lookups.{exact_unsigned}
+use Rattle.lf_semantics.proofs.Members.{behind, first_or_behind, here, none_in}
+use Rattle.lf_deps.specs.Index.{Adds}
+use Rattle.lf_deps.proofs.Followed.{in_append, only_one}
+
+insert_to : (xs : List ℕ) (x k : ℕ) → Contains (insert_key nat_cmp xs x) k → Contains xs k ⊎ Contains (x ∷ []) k
+insert_to [] x k c = inr c
+insert_to (y ∷ xs) x k c = by (nat_cmp x y) c (insert_to xs x k)
+  where
+    by : (o : Ordering) → Contains (match_ordering o (x ∷ y ∷ xs) (y ∷ xs) (y ∷ insert_key nat_cmp xs x)) k → (Contains (insert_key nat_cmp xs x) k → Contains xs k ⊎ Contains (x ∷ []) k) → Contains (y ∷ xs) k ⊎ Contains (x ∷ []) k
+    by Less d rest = elim (first_or_behind x (y ∷ xs) k d) [ inl e ↦ let P : ℕ → Type 0 = λ z. Contains (x ∷ []) z in inr (subst P e (here x [])) | inr f ↦ inl f ]
+    by Equal d rest = inl d
+    by Greater d rest = elim (first_or_behind y (insert_key nat_cmp xs x) k d) [
+      | inl e ↦ let P : ℕ → Type 0 = λ z. Contains (y ∷ xs) z in inl (subst P e (here y xs))
+      | inr f ↦ elim (rest f) [ inl g ↦ inl (behind y xs k g) | inr h ↦ inr h ]
+    ]
+
+insert_old : (xs : List ℕ) (x k : ℕ) → Contains xs k → Contains (insert_key nat_cmp xs x) k
+insert_old [] x k c = absurd (none_in k c)
+insert_old (y ∷ xs) x k c = by (nat_cmp x y) (insert_old xs x k)
+  where
+    by : (o : Ordering) → (Contains xs k → Contains (insert_key nat_cmp xs x) k) → Contains (match_ordering o (x ∷ y ∷ xs) (y ∷ xs) (y ∷ insert_key nat_cmp xs x)) k
+    by Less rest = behind x (y ∷ xs) k c
+    by Equal rest = c
+    by Greater rest = elim (first_or_behind y xs k c) [
+      | inl e ↦ let P : ℕ → Type 0 = λ z. Contains (y ∷ insert_key nat_cmp xs x) z in subst P e (here y (insert_key nat_cmp xs x))
+      | inr d ↦ behind y (insert_key nat_cmp xs x) k (rest d)
+    ]
+
+insert_new : (xs : List ℕ) (x : ℕ) → Contains (insert_key nat_cmp xs x) x
+insert_new [] x = here x []
+insert_new (y ∷ xs) x = by (nat_cmp x y) refl (insert_new xs x)
+  where
+    by : (o : Ordering) → nat_cmp x y ≡ o → Contains (insert_key nat_cmp xs x) x → Contains (match_ordering o (x ∷ y ∷ xs) (y ∷ xs) (y ∷ insert_key nat_cmp xs x)) x
+    by Less e rest = here x (y ∷ xs)
+    by Equal e rest = let P : ℕ → Type 0 = λ z. Contains (y ∷ xs) z in subst P (sym (exact_unsigned x y e)) (here y xs)
+    by Greater e rest = behind y (insert_key nat_cmp xs x) x rest
+
+pub adds_one : (old new : List ℕ) (x : ℕ) → new ≡ insert_key nat_cmp old x → Adds (x ∷ []) old new
+adds_one old new x e k =
+    let P : List ℕ → Type 0 = λ l. Contains l k in
+    let Q : ℕ → Type 0 = λ z. Contains (insert_key nat_cmp old x) z in (
+      λ c. insert_to old x k (subst P e c),
+      λ h. subst P (sym e) (elim h [ inl c ↦ insert_old old x k c | inr d ↦ subst Q (only_one x k d) (insert_new old x) ]),
+    )
+
+pub adds_none : (xs : List ℕ) → Adds [] xs xs
+adds_none xs k = (λ c. inl c, λ h. elim h [ inl c ↦ c | inr d ↦ absurd (none_in k d) ])
+
+pub adds_then : (a b x y z : List ℕ) → Adds a x y → Adds b y z → Adds (a ++ b) x z
+adds_then a b x y z g h k = (
+  λ c. elim ((h k).0 c) [
+    | inl d ↦ elim ((g k).0 d) [ inl e ↦ inl e | inr e ↦ inr (Contains-append_left a b k e) ]
+    | inr d ↦ inr (Contains-append_right a b k d)
+  ],
+  λ c. elim c [
+    | inl d ↦ (h k).1 (inl ((g k).1 (inl d)))
+    | inr d ↦ elim (in_append a b k d) [ inl e ↦ (h k).1 (inl ((g k).1 (inr e))) | inr e ↦ (h k).1 (inr e) ]
+  ],
+)
+
+-- the numbers of one more element
+pub adds_more : {X : Type 0} (f : X → List ℕ) (xs : List X) (k : ℕ) (d x : X) (a b c : List ℕ) → k < length xs → x ≡ get_or xs k d → Adds (flat_map f (take k xs)) a b → Adds (f x) b c
+    → Adds (flat_map f (take (k + 1) xs)) a c
+adds_more f xs k d x a b c h is g s =
+    let P : List ℕ → Type 0 = λ l. Adds l a c in
+    let front : List ℕ = flat_map f (take k xs) in
+    let last : x ∷ [] ≡ get_or xs k d ∷ [] = ap (λ y. y ∷ []) is in
+    let more : front ++ f x ≡ flat_map f (take (k + 1) xs) =
+    ap (λ (l : List ℕ). front ++ l) (sym (append-nil (f x)))
+    ∙ sym (flat_map-append f (take k xs) (x ∷ []))
+    ∙ ap (λ l. flat_map f (take k xs ++ l)) last
+    ∙ ap (flat_map f) (sym (take_more xs k d h)) in
+    subst P more (adds_then front (f x) a b c g s)
+
+pub adds_next : (numbers : List ℕ) (k x : ℕ) (a b c : List ℕ) → k < length numbers → x ≡ get_or numbers k 0 → Adds (take k numbers) a b → Adds (x ∷ []) b c → Adds (take (k + 1) numbers) a c
+adds_next numbers k x a b c h is g s =
+    let P : List ℕ → Type 0 = λ l. Adds l a c in
+    subst P (ap (λ (y : ℕ). take k numbers ++ y ∷ []) is ∙ sym (take_more numbers k 0 h)) (adds_then (take k numbers) (x ∷ []) a b c g s)

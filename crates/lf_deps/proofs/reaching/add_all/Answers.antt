@@ -1,0 +1,19 @@
+use Rattle.std.proofs.Common.{ℕ, List, get_or, refl, subst}
+use Rattle.std.proofs.lemmas.List.{take_all}
+use Rattle.lf_deps.specs.Index.{Adds}
+use Rattle.lf_deps.proofs.Added.{adds_next, adds_none}
+use Rattle.lf_deps.proofs.reaching.add_all.Goals as goal
+
+pub loop-number-init : goal.loop-number-init
+loop-number-init c = adds_none c.args.found.now.keys
+
+pub loop-number-preserved : goal.loop-number-preserved
+loop-number-preserved c =
+    let numbers : List ℕ = c.args.numbers.now in
+    let i : ℕ = c.loop-number.number-index in
+    adds_next numbers i (get_or numbers i 0) c.args.found.now.keys c.loop-number.found.keys c.add.new.found.keys c.loop-number-test.true refl c.loop-number.invariant c.in_ok-add.ensures
+
+pub returns : goal.returns
+returns c =
+    let P : List ℕ → Type 0 = λ l. Adds l c.args.found.now.keys c.loop-number.found.keys in
+    subst P (take_all c.loop-number.number-index c.args.numbers.now c.loop-number-test.false) c.loop-number.invariant

@@ -1,0 +1,6 @@
+use Rattle.std.proofs.Common.{take}
+use Rattle.lf_deps.specs.Index.{Adds}
+use Rattle.lf_deps.proofs.reaching.add_all.Given as goal
+
+abbrev pub invariant-loop-number : goal.invariant-loop-number
+invariant-loop-number l = Adds (take l.number-index l.numbers) l.fn.found.keys l.found.keys

@@ -1,0 +1,4 @@
+use Rattle.lf_deps.proofs.reading.apart.Goals as goal
+
+pub apart_of-requires : goal.apart_of-requires
+apart_of-requires c = (c.args.rules.now, c.in_ok-sources.ensures)

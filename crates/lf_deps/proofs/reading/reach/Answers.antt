@@ -1,0 +1,12 @@
+use Rattle.std.proofs.Common.{arith}
+use Rattle.lf_deps.proofs.LookedUp.{selected_count}
+use Rattle.lf_deps.proofs.reading.reach.Goals as goal
+
+pub reach_of-requires : goal.reach_of-requires
+reach_of-requires c = record {
+  index = (c.args.rules.now, c.in_ok-sources.ensures);
+  rule = omega (arith, selected_count c.args.rules.now c.in_ok-sources.sources c.in_ok-sources.ensures);
+}
+
+pub returns-clause-members : goal.returns-clause-members
+returns-clause-members c of is k = c.reach_of.ensures.members c.args.rules.now c.in_ok-sources.ensures of is k

@@ -1,0 +1,24 @@
+-- What the index says of names and of the rules that record them.
+use Rattle.std.specs.Prelude.{◌⊎◌, ◌↔◌, ℕ, List, [], slice_index_or}
+use Rattle.std.specs.List.{Contains, flat_map}
+use Rattle.lf_ast.specs.Labels.{Bytes}
+use Rattle.lf_ast.specs.declared.rule.Rule.{Rule}
+use Rattle.lf_semantics.specs.Listing.{place}
+use Rattle.lf_deps.specs.Search.{chosen_all}
+use Rattle.lf_deps.specs.Sources.{IsSourcesOf, Sources}
+
+-- it is the index of some rules
+abbrev pub IsIndex : Sources → Type 0
+IsIndex s = (rules : List Rule) × IsSourcesOf rules s
+
+-- the numbers of the rules that record a name
+abbrev pub makers_of : Sources → Bytes → List ℕ
+makers_of s name = slice_index_or s.makers (place s.names name) []
+
+-- the names that the rules of these numbers select
+abbrev pub chosen_by : Sources → List ℕ → List Bytes
+chosen_by s makers = flat_map (λ k. chosen_all s.names (slice_index_or s.selected k [])) makers
+
+-- a list gets these numbers, beside those that it has
+abbrev pub Adds : List ℕ → List ℕ → List ℕ → Type 0
+Adds added old new = (k : ℕ) → Contains new k ↔ (Contains old k ⊎ Contains added k)

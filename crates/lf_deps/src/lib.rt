@@ -1,0 +1,16 @@
+//! What rules read, and the order in which they are judged.
+#![tactic(auto)]
+
+mod links;
+mod number_set;
+mod ordering;
+mod queue;
+mod reaching;
+mod reading;
+mod searching;
+mod selecting;
+mod sources;
+
+pub use ordering::{order, order_of};
+pub use reading::{apart, apart_of, cyclic, cyclic_of, reach, reach_of};
+pub use sources::Sources;

@@ -1,0 +1,52 @@
+//! Numbers, of which the least is taken out first.
+ghost use Rattle.std.specs.Prelude.{◌≡◌, ◌⊎◌, ◌<◌, ℕ, [], ◌∷◌, IfOk, IfNone, IfSome, OnOk};
+ghost use Rattle.std.specs.List.{Contains};
+
+use lf_base::Memory;
+use std::alloc::Global;
+use std::collections::BTreeSet;
+use std::marker::Model;
+
+/// Numbers, each once. The least is found in the logarithm of how many there are.
+#[derive(Drop)]
+pub(crate) struct NumberSet {
+    numbers: BTreeSet<usize>,
+}
+
+impl Model for NumberSet {
+    ghost use Rattle.std.specs.Prelude.{List, ℕ};
+
+    ghost Value = { List ℕ };
+
+    ghost view = { λ s. s.numbers.keys };
+}
+
+impl NumberSet {
+    /// No number.
+    pub(crate) fn new(alloc: Global) -> NumberSet
+        ensures { result ≡ [] }
+    {
+        NumberSet {
+            numbers: BTreeSet::new(alloc),
+        }
+    }
+
+    /// Adds a number, unless it is there.
+    pub(crate) fn add(&mut self, number: usize) -> Result<(), Memory>
+        ensures kept { OnOk result ((j : ℕ) → Contains self.old j → Contains self.new j) }
+        ensures added { OnOk result (Contains self.new number) }
+        ensures only { OnOk result ((j : ℕ) → Contains self.new j → (number ≡ j) ⊎ Contains self.old j) }
+    {
+        let _ = self.numbers.insert(number)?;
+        Ok(())
+    }
+
+    /// Takes out the least number.
+    pub(crate) fn take_least(&mut self) -> Option<usize>
+        ensures none { IfNone result ((self.old ≡ []) × (self.new ≡ [])) }
+        ensures some { IfSome result (λ k. self.old ≡ k ∷ self.new) }
+        ensures least { IfSome result (λ k. (j : ℕ) → Contains self.new j → k < j) }
+    {
+        self.numbers.pop_first()
+    }
+}

@@ -1,0 +1,69 @@
+//! The rules that record names, and names in common.
+ghost use Rattle.std.specs.Prelude.{◌≡◌, ◌<◌, ◌↔◌, ◌∷◌, [], ℕ, true, false, length, IfOk, OnOk, slice_index_or};
+ghost use Rattle.std.specs.List.{Contains};
+ghost use Rattle.lf_ast.specs.Labels.{Bytes};
+ghost use Rattle.lf_deps.specs.Index.{Adds, makers_of};
+
+use crate::sources::Sources;
+use lf_base::{Memory, Seq};
+use lf_classes::TextSet;
+use std::alloc::Global;
+use std::collections::BTreeSet;
+
+/// The numbers of the rules that record one of these names. Want of memory where one of them doesn't fit a `u32`.
+pub(crate) fn makers_of_all(
+    alloc: Global,
+    sources: &Sources,
+    names: &TextSet,
+) -> Result<BTreeSet<u32>, Memory>
+    ensures { IfOk result (λ found. (k : ℕ) → Contains found.keys k ↔ ((name : Bytes) × Contains names.now name × Contains (makers_of sources.now name) k)) }
+{
+    let mut found = BTreeSet::new(alloc);
+    for k in 0..names.len() {
+        add_all(&mut found, sources.makers_of(names.get(k).as_str()))?;
+    }
+    Ok(found)
+}
+
+/// Adds numbers.
+fn add_all(found: &mut BTreeSet<u32>, numbers: &[usize]) -> Result<(), Memory>
+    ensures { OnOk result (Adds numbers.now found.old.keys found.new.keys) }
+{
+    for number in numbers {
+        add(found, *number)?;
+    }
+    Ok(())
+}
+
+/// Adds a number. Want of memory where it doesn't fit a `u32`.
+fn add(found: &mut BTreeSet<u32>, number: usize) -> Result<(), Memory>
+    ensures { OnOk result (Adds (number ∷ []) found.old.keys found.new.keys) }
+{
+    let Ok(number) = u32::try_from(number) else {
+        return Err(Memory);
+    };
+    let _ = found.insert(number)?;
+    Ok(())
+}
+
+/// The numbers in ascending order.
+pub(crate) fn in_order(alloc: Global, numbers: BTreeSet<u32>) -> Result<Seq<u32>, Memory>
+    ensures members { IfOk result (λ found. found ≡ numbers.keys) }
+    ensures ascending { IfOk result (λ found. (k l : ℕ) → k < l → l < length found → slice_index_or found k 0 < slice_index_or found l 0) }
+{
+    let items: Vec<u32> = numbers.into_iter().collect(alloc)?;
+    Ok(Seq::from_vec(items))
+}
+
+/// Whether no text is in both.
+pub(crate) fn have_none_common(left: &TextSet, right: &TextSet) -> bool
+    ensures common { result ≡ false → (name : Bytes) × Contains left.now name × Contains right.now name }
+    ensures none { result ≡ true → (name : Bytes) → Contains left.now name → Contains right.now name → ⊥ }
+{
+    for k in 0..left.len() {
+        if right.place(left.get(k).as_str()) < right.len() {
+            return false;
+        }
+    }
+    true
+}

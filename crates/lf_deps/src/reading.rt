@@ -1,0 +1,76 @@
+//! Which rules and names are read.
+ghost use Rattle.std.specs.Prelude.{◌≡◌, ◌<◌, ◌↔◌, ℕ, List, length, IfOk, IsTrue, Some, slice_get, slice_index_or};
+ghost use Rattle.std.specs.List.{Contains};
+ghost use Rattle.lf_ast.specs.declared.rule.Rule.{Rule};
+ghost use Rattle.lf_deps.specs.Index.{IsIndex};
+ghost use Rattle.lf_deps.specs.Reading.{AreApart, IsCyclic, Reaches};
+ghost use Rattle.lf_deps.specs.Sources.{IsSourcesOf};
+
+use crate::reaching::{have_none_common, in_order, makers_of_all};
+use crate::searching::{names_read, names_read_in_making};
+use crate::selecting::selectors;
+use crate::sources::Sources;
+use lf_ast::{Expr, Rule};
+use lf_base::{Memory, Seq, Text};
+use std::alloc::Global;
+
+/// The numbers of the rules that record a name which rule `i` reads, directly or through others, in ascending order.
+///
+/// A number that doesn't fit a `u32` is answered as want of memory.
+pub fn reach(alloc: Global, rules: &Seq<Rule>, i: u32) -> Result<Seq<u32>, Memory>
+    requires { i < length rules.now }
+    ensures members { (of : Rule) → slice_get rules.now i ≡ Some of → (k : ℕ) → IfOk result (λ found. Contains found k ↔ ((r : Rule) × (slice_get rules.now k ≡ Some r) × Reaches rules.now of.expr r)) }
+    ensures ascending { IfOk result (λ found. (k l : ℕ) → k < l → l < length found → slice_index_or found k 0 < slice_index_or found l 0) }
+{
+    let sources = Sources::of(alloc, rules)?;
+    reach_of(alloc, &sources, i)
+}
+
+/// As `reach`, for the rules of an index, and with no pass over all of them.
+pub fn reach_of(alloc: Global, sources: &Sources, i: u32) -> Result<Seq<u32>, Memory>
+    requires index { IsIndex sources.now }
+    requires rule { i < length sources.now.selected }
+    ensures members { (rules : List Rule) → IsSourcesOf rules sources.now → (of : Rule) → slice_get rules i ≡ Some of → (k : ℕ) → IfOk result (λ found. Contains found k ↔ ((r : Rule) × (slice_get rules k ≡ Some r) × Reaches rules of.expr r)) }
+    ensures ascending { IfOk result (λ found. (k l : ℕ) → k < l → l < length found → slice_index_or found k 0 < slice_index_or found l 0) }
+{
+    let names = names_read(alloc, sources, sources.selected_by(i as usize))?;
+    let numbers = makers_of_all(alloc, sources, &names)?;
+    in_order(alloc, numbers)
+}
+
+/// Whether two expressions read no common name, directly or through the rules.
+pub fn apart(alloc: Global, rules: &Seq<Rule>, left: &Expr, right: &Expr) -> Result<bool, Memory>
+    ensures { IfOk result (λ apart. IsTrue apart ↔ AreApart rules.now left.now right.now) }
+{
+    let sources = Sources::of(alloc, rules)?;
+    apart_of(alloc, &sources, left, right)
+}
+
+/// As `apart`, for the rules of an index.
+pub fn apart_of(alloc: Global, sources: &Sources, left: &Expr, right: &Expr) -> Result<bool, Memory>
+    requires { IsIndex sources.now }
+    ensures { IfOk result (λ apart. (rules : List Rule) → IsSourcesOf rules sources.now → IsTrue apart ↔ AreApart rules left.now right.now) }
+{
+    let of_left = selectors(alloc, left)?;
+    let of_right = selectors(alloc, right)?;
+    let read_left = names_read(alloc, sources, of_left.as_slice())?;
+    let read_right = names_read(alloc, sources, of_right.as_slice())?;
+    Ok(have_none_common(&read_left, &read_right))
+}
+
+/// Whether a name is read in its own making.
+pub fn cyclic(alloc: Global, rules: &Seq<Rule>, name: &Text) -> Result<bool, Memory>
+    ensures { IfOk result (λ cyclic. IsTrue cyclic ↔ IsCyclic rules.now name.now) }
+{
+    let sources = Sources::of(alloc, rules)?;
+    cyclic_of(alloc, &sources, name)
+}
+
+/// As `cyclic`, for the rules of an index.
+pub fn cyclic_of(alloc: Global, sources: &Sources, name: &Text) -> Result<bool, Memory>
+    requires { IsIndex sources.now }
+    ensures { IfOk result (λ cyclic. (rules : List Rule) → IsSourcesOf rules sources.now → IsTrue cyclic ↔ IsCyclic rules name.now) }
+{
+    let names = names_read_in_making(alloc, sources, name)?;
+    Ok(names.place(name.as_str()) < names.len())
+}
