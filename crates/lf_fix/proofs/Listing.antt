@@ -1,23 +1,17 @@
 -- What an index lists.
-use Rattle.std.proofs.Common.{◌≡◌, ◌≢◌, ℕ, zero, suc, ◌+◌, ◌<◌, ◌≤◌, Bool, true, false, not, cond, nat_lt, List, [], ◌∷◌, ◌++◌, map, length, get_or, Option, Some, inl, inr, refl, sym, ◌∙◌, ap, subst, arith, length-append}
-use Rattle.std.specs.Prelude.{slice_get, slice_set}
-use Rattle.std.specs.List.{AllByRecursion, Contains, flat_map}
+use Rattle.std.proofs.Common.{◌≡◌, ◌≢◌, ℕ, zero, suc, ◌+◌, ◌<◌, ◌≤◌, Bool, true, false, not, cond, nat_lt, List, [], ◌∷◌, ◌++◌, length, get_or, inl, inr, refl, sym, ◌∙◌, ap, subst, arith, length-append}
+use Rattle.std.specs.Prelude.{slice_set}
+use Rattle.std.specs.List.{AllByRecursion, Contains}
 use Rattle.std.specs.Str.{bytes_eq}
 use Rattle.std.proofs.lemmas.Bool.{cases_lt}
 use Rattle.std.proofs.lemmas.Bool.Decides.{nat_tests}
 use Rattle.std.proofs.lemmas.List.{get_or-set_other, get_or-set_same}
 use Rattle.std.proofs.lemmas.List.Elements.{Contains-append_left, Contains-append_right}
 use Rattle.lf_ast.specs.Labels.{Bytes}
-use Rattle.lf_ast.specs.declared.expr.Expr.{Expr}
-use Rattle.lf_ast.specs.declared.expr.Expr.TheOpen.{Expr-F}
-use Rattle.lf_ast.specs.declared.expr.Expr.TheViews.{roll-Expr}
 use Rattle.lf_classes.specs.Meetings.{with_text}
 use Rattle.lf_semantics.specs.Listing.{place}
 use Rattle.lf_semantics.proofs.Members.{here, none_in, same_true}
 use Rattle.lf_semantics.proofs.Places.{place_le}
-use Rattle.lf_semantics.proofs.Rolls.{beside}
-use Rattle.lf_fix.specs.Lookups.{lookups, lookups_layer}
-use Rattle.lf_fix.proofs.SameRows.{lookups-roll}
 use Rattle.lf_fix.proofs.Steps.{same_or_other}
 
 -- lists
@@ -29,29 +23,6 @@ all_map P Q (x ∷ xs) h all = (h x all.0, all_map P Q xs h all.1)
 pub all_append : {X : Type 0} (P : X → Type 0) (xs ys : List X) → AllByRecursion P xs → AllByRecursion P ys → AllByRecursion P (xs ++ ys)
 all_append P [] ys h k = k
 all_append P (x ∷ xs) ys h k = (h.0, all_append P xs ys h.1 k)
-
--- what expressions look up
-
-pub looked_up : (e : Expr) (z : Expr-F Expr) → e ≡ roll-Expr z → lookups e ≡ lookups_layer (beside lookups z)
-looked_up e z is = ap lookups is ∙ lookups-roll z
-
-pub looked_up_by : (args : List Expr) → flat_map (λ (a : Expr × List (Option Bytes)). a.1) (map (λ (e : Expr). (e, lookups e)) args) ≡ flat_map lookups args
-looked_up_by [] = refl
-looked_up_by (x ∷ args) = ap (λ (l : List (Option Bytes)). lookups x ++ l) (looked_up_by args)
-
-pub all_looked_up : (P : Option Bytes → Type 0) (args : List Expr) → ((j : ℕ) (x : Expr) → slice_get args j ≡ Some x → AllByRecursion P (lookups x)) → AllByRecursion P (flat_map lookups args)
-all_looked_up P [] h = tt
-all_looked_up P (x ∷ args) h = all_append P (lookups x) (flat_map lookups args) (h 0 x refl) (all_looked_up P args (λ j y is. h (suc j) y is))
-
-pub element_at : (args : List Expr) (k : ℕ) (x d : Expr) → slice_get args k ≡ Some x → get_or args k d ≡ x
-element_at [] k x d is = absurd (cc)
-element_at (y ∷ args) zero x d is = cc
-element_at (y ∷ args) (suc k) x d is = element_at args k x d is
-
-pub element_within : (args : List Expr) (k : ℕ) (x : Expr) → slice_get args k ≡ Some x → k < length args
-element_within [] k x is = absurd (cc)
-element_within (y ∷ args) zero x is = omega arith
-element_within (y ∷ args) (suc k) x is = let r = element_within args k x is in omega arith
 
 -- places of names
 

@@ -1,9 +1,10 @@
 -- Rounds, as the code takes them.
-use Rattle.std.proofs.Common.{◌≡◌, ℕ, zero, suc, ◌+◌, ◌<◌, Bool, true, false, ◌||◌, cond, List, [], ◌∷◌, map, length, Some, inl, inr, refl, sym, ◌∙◌, ap, subst, arith}
+use Rattle.std.proofs.Common.{◌≡◌, ℕ, zero, suc, ◌+◌, ◌<◌, Bool, true, false, ◌||◌, cond, List, [], ◌∷◌, map, length, Some, inl, inr, refl, sym, ◌∙◌, ap, subst, take, ◌⊎◌, arith}
 use Rattle.std.specs.Prelude.{slice_get, slice_index_or}
 use Rattle.std.specs.List.{AllByRecursion, Contains}
 use Rattle.std.specs.Str.{bytes_eq}
-use Rattle.std.proofs.lemmas.Bool.{cases_lt}
+use Rattle.std.proofs.Math.Seq.{take-length}
+use Rattle.std.proofs.lemmas.Option.{get_or_from_slice_get, slice_get_within}
 use Rattle.lf_ast.specs.Labels.{Bytes}
 use Rattle.lf_ast.specs.declared.rule.Rule.{Rule}
 use Rattle.lf_flow.specs.Raising.{joined}
@@ -19,16 +20,17 @@ use Rattle.lf_semantics.proofs.Members.{behind, first_or_behind, here, none_in, 
 use Rattle.lf_semantics.proofs.RowLaws.{shape_nothing}
 use Rattle.lf_semantics.proofs.SettledRows.{recorded_row_is, settled_nothing}
 use Rattle.lf_semantics.proofs.UnderLaws.{clash}
+use Rattle.lf_deps.specs.Ordering.{IsOrder}
+use Rattle.lf_deps.proofs.OrderLaws.{each_ordered}
 use Rattle.lf_fix.specs.Rounds.{OthersHold, Rises, StepTells, Tells, TellsOf, missing, start}
 use Rattle.lf_fix.proofs.Missing.{joined_less}
 use Rattle.lf_fix.proofs.Raising.{environment_joined, names_of, step_under, under_start}
 
--- the rules by their numbers
+-- what a list has at a place stands in it
+pub at_index : {X : Type 0} (xs : List X) (k : ℕ) (x : X) → slice_get xs k ≡ Some x → Contains xs x
+at_index xs k x e = (k, slice_get_within xs k x e, get_or_from_slice_get xs k x x e)
 
-pub at_index : (rules : List Rule) (k : ℕ) (r : Rule) → slice_get rules k ≡ Some r → Contains rules r
-at_index [] k r e = absurd (cc)
-at_index (x ∷ rules) zero r e = let q : x ≡ r = cc in let P : Rule → Type 0 = λ y. Contains (x ∷ rules) y in subst P q (here x rules)
-at_index (x ∷ rules) (suc k) r e = behind x rules r (at_index rules k r e)
+-- the rules by their numbers
 
 index_of : (rules : List Rule) (r : Rule) → Contains rules r → (k : ℕ) × (k < length rules) × (slice_get rules k ≡ Some r)
 index_of [] r c = absurd (none_in r c)
@@ -82,22 +84,33 @@ neither : (x y : Bool) → (x || y) ≡ false → (x ≡ false) × (y ≡ false)
 neither true y e = absurd (clash refl e)
 neither false y e = (refl, e)
 
+-- what stands before the place behind one stands before that one, or there
+more_taken : (order : List ℕ) (n k j : ℕ) → slice_get order n ≡ Some k → Contains (take (suc n) order) j → Contains (take n order) j ⊎ (k ≡ j)
+more_taken [] n k j at c = absurd (cc)
+more_taken (x ∷ order) zero k j at c = elim (first_or_behind x (take 0 order) j c) [
+  | inl e ↦ let q : x ≡ k = cc in inr (sym q ∙ e)
+  | inr d ↦ absurd (none_in j d)
+]
+more_taken (x ∷ order) (suc n) k j at c = elim (first_or_behind x (take (suc n) order) j c) [
+  | inl e ↦ let P : ℕ → Type 0 = λ y. Contains (x ∷ take n order) y in inl (subst P e (here x (take n order)))
+  | inr d ↦ elim (more_taken order n k j at d) [ inl b ↦ inl (behind x (take n order) j b) | inr q ↦ inr q ]
+]
+
 -- a step more
-pub tells_more : (u : Listing) (rules : List Rule) (k : ℕ) (env mid later : Environment) (due after : List Bool) (again changed : Bool) → Tells u rules k env mid due again → StepTells u rules k mid later due after changed
-    → Tells u rules (k + 1) env later after (again || changed)
-tells_more u rules k env mid later due after again changed h t = record {
+pub tells_more : (u : Listing) (rules : List Rule) (order : List ℕ) (n k : ℕ) (env mid later : Environment) (due after : List Bool) (again changed : Bool) → slice_get order n ≡ Some k
+    → Tells u rules order n env mid due again → StepTells u rules k mid later due after changed → Tells u rules order (n + 1) env later after (again || changed)
+tells_more u rules order n k env mid later due after again changed at h t = record {
   rises = rises_on u rules env mid later h.rises t.rises;
   less = λ e. less again changed refl refl e;
   same = λ e. let b = neither again changed e in t.same b.1 ∙ h.same b.0;
   hold = t.hold;
-  done = λ e j l.
+  done = λ e j c.
       let b = neither again changed e in
-      elim (cases_lt j k) [
-        | inl m ↦ t.still b.1 j (h.done b.0 j m)
-        | inr m ↦
-            let q : j ≡ k = omega arith in
-            let P : ℕ → Type 0 = λ i. slice_index_or after i true ≡ false in
-            subst P (sym q) (t.done b.1)
+      let more : n + 1 ≡ suc n = omega arith in
+      let T : ℕ → Type 0 = λ i. Contains (take i order) j in
+      elim (more_taken order n k j at (subst T more c)) [
+        | inl d ↦ t.still b.1 j (h.done b.0 j d)
+        | inr q ↦ let P : ℕ → Type 0 = λ i. slice_index_or after i true ≡ false in subst P q (t.done b.1)
       ];
 }
   where
@@ -112,8 +125,8 @@ module _ (u : Listing) (p : IsListing u) (rules : List Rule) where
   rises_none env h = record { of_rules = h; below = λ other o d b. b }
 
   -- nothing is stepped yet
-  pub tells_none : (env : Environment) (due : List Bool) → IsEnvironmentOf u rules env → OthersHold u rules env due → Tells u rules 0 env env due false
-  tells_none env due of hold = record { rises = rises_none env of; less = λ e. absurd (cc); same = λ e. refl; hold = hold; done = λ e k b. absurd (omega arith) }
+  pub tells_none : (order : List ℕ) (env : Environment) (due : List Bool) → IsEnvironmentOf u rules env → OthersHold u rules env due → Tells u rules order 0 env env due false
+  tells_none order env due of hold = record { rises = rises_none env of; less = λ e. absurd (cc); same = λ e. refl; hold = hold; done = λ e k c. absurd (none_in k c) }
 
   pub alert_tells : (env : Environment) (k : ℕ) (r : Rule) → IsEnvironmentOf u rules env → slice_get rules k ≡ Some r → r.alert ≡ true → TellsOf u rules k env env false
   alert_tells env k r h is e = record {
@@ -153,16 +166,22 @@ module _ (u : Listing) (p : IsListing u) (rules : List Rule) where
         joins = λ f s i. let Q : Rule → Type 0 = λ y. (y.alert ≡ false) × (later ≡ joined y.name (recorded_row u env y) env) in subst Q (same_rule rules k r s is i) (e, made);
       }
 
+  -- all rules of an order have been stepped
+  all_taken : (order : List ℕ) (k : ℕ) → Contains order k → Contains (take (length order) order) k
+  all_taken order k c = let P : List ℕ → Type 0 = λ numbers. Contains numbers k in subst P (sym (take-length order)) c
+
   -- a round that adds nothing has the least environment
-  pub least_of : (env later : Environment) (after : List Bool) (again : Bool) → Rises u rules (start u rules) env → Tells u rules (length rules) env later after again → again ≡ false → IsLeast u rules later
-  least_of env later after again h t e = record {
+  pub least_of : (order : List ℕ) (env later : Environment) (after : List Bool) (again : Bool) → IsOrder rules order → Rises u rules (start u rules) env
+      → Tells u rules order (length order) env later after again → again ≡ false → IsLeast u rules later
+  least_of order env later after again is h t e = record {
     of_rules = t.rises.of_rules;
-    closed = λ r c f. let i = index_of rules r c in t.hold i.0 r i.2 (t.done e i.0 i.1) f;
+    closed = λ r c f. let i = index_of rules r c in t.hold i.0 r i.2 (t.done e i.0 (all_taken order i.0 (each_ordered rules order is i.0 i.1))) f;
     least = λ other o d. t.rises.below other o d (h.below other o d (under_start u p rules other o));
   }
 
-  pub rises_more : (env later : Environment) (after : List Bool) (again : Bool) → Rises u rules (start u rules) env → Tells u rules (length rules) env later after again → Rises u rules (start u rules) later
-  rises_more env later after again h t = rises_on u rules (start u rules) env later h t.rises
+  pub rises_more : (order : List ℕ) (env later : Environment) (after : List Bool) (again : Bool) → Rises u rules (start u rules) env → Tells u rules order (length order) env later after again
+      → Rises u rules (start u rules) later
+  rises_more order env later after again h t = rises_on u rules (start u rules) env later h t.rises
 
   -- the start is an environment of the rules
 

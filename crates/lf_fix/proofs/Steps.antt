@@ -11,7 +11,8 @@ use Rattle.lf_semantics.specs.RowTable.{Environment}
 use Rattle.lf_semantics.proofs.ListingLaws.{one_of}
 use Rattle.lf_semantics.proofs.SettledRows.{recorded_row_is}
 use Rattle.lf_semantics.proofs.UnderLaws.{clash}
-use Rattle.lf_fix.specs.Lookups.{Index, IsIndexOf, IsListed, LooksUp, lookups}
+use Rattle.lf_deps.specs.Reading.{selectors}
+use Rattle.lf_fix.specs.Readers.{Index, IsIndexOf, IsListed, SelectsRow}
 use Rattle.lf_fix.specs.Rounds.{HoldsRule, OthersHold, StepTells, TellsOf}
 use Rattle.lf_fix.proofs.Rounds.{has_row, rises_none, same_rule}
 use Rattle.lf_fix.proofs.SameRows.{holds_own, holds_without}
@@ -54,9 +55,9 @@ module _ (u : Listing) (p : IsListing u) (rules : List Rule) (k : ℕ) (env : En
       ];
     }
 
-    -- A class was added: each rule that looks up the name is due again.
+    -- A class was added: each rule that selects the name is due again.
     module _ (rule : Rule) (is : slice_get rules k ≡ Some rule) (after : List Bool) (kept : (j : ℕ) → slice_index_or cleared j true ≡ true → slice_index_or after j true ≡ true)
-        (marked : (j : ℕ) (r : Rule) → slice_get rules j ≡ Some r → LooksUp r.expr rule.name → slice_index_or after j true ≡ true) where
+        (marked : (j : ℕ) (r : Rule) → slice_get rules j ≡ Some r → SelectsRow r.expr rule.name → slice_index_or after j true ≡ true) where
       free_before : (j : ℕ) → slice_index_or after j true ≡ false → slice_index_or cleared j true ≡ false
       free_before j free = not_true_is (slice_index_or cleared j true) (λ e. clash (kept j e) free)
 
@@ -72,7 +73,7 @@ module _ (u : Listing) (p : IsListing u) (rules : List Rule) (k : ℕ) (env : En
               | inl q ↦
                   let A : ℕ → Type 0 = λ x. slice_get rules x ≡ Some r in
                   let same : rule ≡ r = same_rule rules k rule r is (subst A q at) in
-                  let N : Rule → Type 0 = λ x. LooksUp x.expr rule.name → ⊥ in
+                  let N : Rule → Type 0 = λ x. SelectsRow x.expr rule.name → ⊥ in
                   let H : Rule → Type 0 = λ x. HoldsRule u (joined rule.name (recorded_row u env rule) env) x in
                   let row = has_row u p rules env k rule of is j.0 in
                   subst H same (holds_own u p rules env of rule row.0 row.1 (subst N (sym same) (λ looks. clash (marked i r at looks) free)))
@@ -84,7 +85,7 @@ module _ (u : Listing) (p : IsListing u) (rules : List Rule) (k : ℕ) (env : En
             still = λ f. absurd (clash e f);
           }
 
--- a rule that looks up a name is listed with it, or with those that look up all
-pub listed : (rules : List Rule) (index : Index) (j : ℕ) (r : Rule) (name : Bytes) → IsIndexOf rules index → slice_get rules j ≡ Some r → LooksUp r.expr name → IsListed index j (Some name) ⊎ IsListed index j None
-listed rules index j r name is at (inl c) = inl (one_of (IsListed index j) (lookups r.expr) (Some name) (is j r at) c)
-listed rules index j r name is at (inr c) = inr (one_of (IsListed index j) (lookups r.expr) None (is j r at) c)
+-- a rule that selects a name is listed with it, or with those that select all
+pub listed : (rules : List Rule) (index : Index) (j : ℕ) (r : Rule) (name : Bytes) → IsIndexOf rules index → slice_get rules j ≡ Some r → SelectsRow r.expr name → IsListed index j (Some name) ⊎ IsListed index j None
+listed rules index j r name is at (inl c) = inl (one_of (IsListed index j) (selectors r.expr) (Some name) (is j r at) c)
+listed rules index j r name is at (inr c) = inr (one_of (IsListed index j) (selectors r.expr) None (is j r at) c)

@@ -1,5 +1,6 @@
 -- Rounds over the rules, which raise the rows of the recorded names until the environment is closed.
-use Rattle.std.specs.Prelude.{◌≡◌, ℕ, ◌+◌, ◌<◌, Bool, true, false, cond, List, [], ◌∷◌, map, Some, slice_get, slice_index_or}
+use Rattle.std.specs.Prelude.{◌≡◌, ℕ, ◌+◌, ◌<◌, Bool, true, false, cond, List, [], ◌∷◌, map, Some, slice_get, slice_index_or, take}
+use Rattle.std.specs.List.{Contains}
 use Rattle.lf_ast.specs.declared.rule.Rule.{Rule}
 use Rattle.lf_flow.specs.Raising.{joined}
 use Rattle.lf_semantics.specs.ClassRows.{Sets, nothing}
@@ -54,10 +55,10 @@ pub record StepTells (u : Listing) (rules : List Rule) (k : ℕ) (env later : En
   pub done : added ≡ false → slice_index_or after k true ≡ false
   pub still : added ≡ false → (j : ℕ) → slice_index_or due j true ≡ false → slice_index_or after j true ≡ false
 
--- Steps of the first n rules in turn: where no class is added, none of these is due any more.
-pub record Tells (u : Listing) (rules : List Rule) (n : ℕ) (env later : Environment) (after : List Bool) (added : Bool) : Type 0 where
+-- Steps of the first n rules of an order in turn: where no class is added, none of these is due any more.
+pub record Tells (u : Listing) (rules : List Rule) (order : List ℕ) (n : ℕ) (env later : Environment) (after : List Bool) (added : Bool) : Type 0 where
   pub rises : Rises u rules env later
   pub less : added ≡ true → missing later < missing env
   pub same : added ≡ false → later ≡ env
   pub hold : OthersHold u rules later after
-  pub done : added ≡ false → (k : ℕ) → k < n → slice_index_or after k true ≡ false
+  pub done : added ≡ false → (k : ℕ) → Contains (take n order) k → slice_index_or after k true ≡ false

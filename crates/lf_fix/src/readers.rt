@@ -1,18 +1,18 @@
-//! Which rules look up which names.
-ghost use Rattle.std.specs.Prelude.{◌≡◌, ◌<◌, ℕ, true, false, Option, None, Some, length, slice_index_or, slice_set, [], ◌∷◌, ◌++◌, IfOk, OnOk};
-ghost use Rattle.std.specs.List.{AllByRecursion, Contains, flat_map};
-ghost use Rattle.std.specs.Option.{option_copied};
+//! Which rules select the rows of which names.
+ghost use Rattle.std.specs.Prelude.{◌≡◌, ◌<◌, ℕ, true, List, Option, None, Some, length, slice_index_or, slice_set, [], ◌∷◌, ◌++◌, IfOk, OnOk};
+ghost use Rattle.std.specs.List.{AllByRecursion, Contains};
 ghost use Rattle.lf_ast.specs.Labels.{Bytes};
-ghost use Rattle.lf_semantics.specs.Passing.{first_equal_name, selected_name};
-ghost use Rattle.lf_fix.specs.Lookups.{IsFull, IsIndexOf, IsListed, lookups};
+ghost use Rattle.lf_ast.specs.declared.rule.Rule.{Rule};
+ghost use Rattle.lf_deps.specs.Sources.{IsSourcesOf};
+ghost use Rattle.lf_fix.specs.Readers.{IsFull, IsIndexOf, IsListed};
 
-use lf_ast::{Expr, MatchOp, Matcher, Rule};
 use lf_base::{Memory, Seq, Text};
 use lf_classes::TextSet;
+use lf_deps::Sources;
 use std::alloc::Global;
 use std::marker::Model;
 
-/// The numbers of the rules that look up the row of each name, and of those that look up all rows, by a selector that says no name.
+/// The numbers of the rules that select the row of each name, and of those that select all rows, by a selector that says no name.
 #[derive(Drop)]
 pub(crate) struct Readers {
     names: TextSet,
@@ -21,7 +21,7 @@ pub(crate) struct Readers {
 }
 
 impl Model for Readers {
-    ghost use Rattle.lf_fix.specs.Lookups.{Index};
+    ghost use Rattle.lf_fix.specs.Readers.{Index};
 
     ghost Value = { Index };
 
@@ -29,78 +29,42 @@ impl Model for Readers {
 }
 
 impl Readers {
-    /// Those of rules.
-    pub(crate) fn of(alloc: Global, rules: &Seq<Rule>) -> Result<Readers, Memory>
-        ensures { IfOk result (IsIndexOf rules.now) }
+    /// Those of the rules of an index.
+    pub(crate) fn of(alloc: Global, sources: &Sources) -> Result<Readers, Memory>
+        ensures { IfOk result (λ readers. (rules : List Rule) → IsSourcesOf rules sources.now → IsIndexOf rules readers) }
     {
         let mut readers = Readers {
             names: TextSet::new(alloc),
             of_name: Vec::new(alloc),
             of_all: Seq::new(alloc),
         };
-        for k in 0..rules.len() {
-            readers.list(alloc, k, &rules.get(k).expr)?;
+        for k in 0..sources.rule_count() {
+            readers.list_all(alloc, k, sources.selected_by(k))?;
         }
         Ok(readers)
     }
 
-    /// Lists a rule with all that an expression looks up. It only calls, since it recurs as deep as expressions nest.
-    #[cycle(list)]
-    fn list(&mut self, alloc: Global, rule: usize, expr: &Expr) -> Result<(), Memory>
+    /// Lists a rule with all its selectors.
+    fn list_all(&mut self, alloc: Global, rule: usize, found: &[Option<Text>]) -> Result<(), Memory>
         requires full { IsFull self.old }
-        ensures listed { OnOk result (AllByRecursion (IsListed self.new rule) (lookups expr.now)) }
+        ensures listed { OnOk result (AllByRecursion (IsListed self.new rule) found.now) }
         ensures kept { OnOk result ((k : ℕ) (o : Option Bytes) → IsListed self.old k o → IsListed self.new k o) }
         ensures full { OnOk result (IsFull self.new) }
     {
-        match expr {
-            Expr::Number { .. } => Ok(()),
-            Expr::Str { .. } => Ok(()),
-            Expr::Selector { name, matchers, .. } => {
-                self.list_selector(alloc, rule, name, matchers.as_slice())
-            }
-            Expr::Subquery { of, .. } => self.list(alloc, rule, of),
-            Expr::Paren { of, .. } => self.list(alloc, rule, of),
-            Expr::Unary { of, .. } => self.list(alloc, rule, of),
-            Expr::Binary { left, right, .. } => {
-                self.list(alloc, rule, left)?;
-                self.list(alloc, rule, right)?;
-                Ok(())
-            }
-            Expr::Call { args, .. } => self.list_all(alloc, rule, args.as_slice()),
-            Expr::Aggregate { args, .. } => self.list_all(alloc, rule, args.as_slice()),
-        }
-    }
-
-    /// Lists a rule with all that arguments look up.
-    #[cycle(list)]
-    #[inline(never)]
-    fn list_all(&mut self, alloc: Global, rule: usize, args: &[Expr]) -> Result<(), Memory>
-        requires full { IsFull self.old }
-        ensures listed { OnOk result (AllByRecursion (IsListed self.new rule) (flat_map lookups args.now)) }
-        ensures kept { OnOk result ((k : ℕ) (o : Option Bytes) → IsListed self.old k o → IsListed self.new k o) }
-        ensures full { OnOk result (IsFull self.new) }
-    {
-        for k in 0..args.len() {
-            self.list(alloc, rule, &args[k])?;
+        for k in 0..found.len() {
+            self.list(alloc, rule, &found[k])?;
         }
         Ok(())
     }
 
     /// Lists a rule with what a selector selects.
-    #[inline(never)]
-    fn list_selector(
-        &mut self,
-        alloc: Global,
-        rule: usize,
-        name: &Option<Text>,
-        matchers: &[Matcher],
-    ) -> Result<(), Memory>
+    fn list(&mut self, alloc: Global, rule: usize, selector: &Option<Text>) -> Result<(), Memory>
         requires full { IsFull self.old }
-        ensures listed { OnOk result (AllByRecursion (IsListed self.new rule) (selected_name name.now matchers.now ∷ [])) }
+        ensures listed { OnOk result (IsListed self.new rule selector.now) }
         ensures kept { OnOk result ((k : ℕ) (o : Option Bytes) → IsListed self.old k o → IsListed self.new k o) }
         ensures full { OnOk result (IsFull self.new) }
     {
-        match selected_name(name, matchers) {
+        match selector {
             Some(name) => self.add(alloc, name.as_str(), rule),
             None => self.of_all.push(rule),
         }
@@ -119,7 +83,7 @@ impl Readers {
         Ok(())
     }
 
-    /// Marks each rule that looks up a name, alone or among all.
+    /// Marks each rule that selects a name, alone or among all.
     pub(crate) fn mark(&self, name: &str, due: &mut [bool])
         ensures kept { (k : ℕ) → slice_index_or due.old k true ≡ true → slice_index_or due.new k true ≡ true }
         ensures named { (k : ℕ) → IsListed self.now k (Some name.now) → slice_index_or due.new k true ≡ true }
@@ -172,26 +136,4 @@ fn mark_one(number: usize, marks: &mut [bool])
     if number < marks.len() {
         marks[number] = true;
     }
-}
-
-/// The name that a selector says: the one before the braces, or that of the first `=` on the metric name.
-fn selected_name<'a>(name: &'a Option<Text>, matchers: &'a [Matcher]) -> Option<&'a Text>
-    ensures { option_copied result ≡ selected_name name.now matchers.now }
-{
-    match name {
-        Some(name) => Some(name),
-        None => first_equal_name(matchers),
-    }
-}
-
-/// The text of the first `=` on the metric name.
-fn first_equal_name(matchers: &[Matcher]) -> Option<&Text>
-    ensures { option_copied result ≡ first_equal_name matchers.now }
-{
-    for matcher in matchers {
-        if matcher.op == MatchOp::Equal && matcher.label.as_str() == "__name__" {
-            return Some(&matcher.value);
-        }
-    }
-    None
 }

@@ -2,7 +2,8 @@
 ghost use Rattle.std.specs.Prelude.{◌≡◌, ◌<◌, ◌||◌, length, IfOk};
 ghost use Rattle.lf_semantics.specs.Environments.{CoversRules, IsEnvironmentOf, IsLeast};
 ghost use Rattle.lf_semantics.specs.Listing.{IsListing};
-ghost use Rattle.lf_fix.specs.Lookups.{IsIndexOf};
+ghost use Rattle.lf_deps.specs.Ordering.{IsOrder};
+ghost use Rattle.lf_fix.specs.Readers.{IsIndexOf};
 ghost use Rattle.lf_fix.specs.Rounds.{OthersHold, Rises, StepTells, Tells, TellsOf, start};
 
 use crate::readers::Readers;
@@ -10,65 +11,74 @@ use crate::recording::recorded_row;
 use lf_ast::Rule;
 use lf_base::{Memory, Seq};
 use lf_classes::Universe;
+use lf_deps::{Sources, order_of};
 use lf_flow::Env;
 use std::alloc::Global;
 
 /// The least environment of rules: for each recorded name the smallest row that what its rules store lies in.
 ///
-/// A rule is computed again only after a row was raised that its expression looks up.
+/// Rules are computed in the order in which what a rule reads comes before it where this can be, and a rule again only after a row was raised that its expression
+/// selects. Nothing within a scalar is looked at.
 pub fn solve(alloc: Global, universe: &Universe, rules: &Seq<Rule>) -> Result<Env, Memory>
     requires { CoversRules universe.now rules.now }
     ensures { IfOk result (IsLeast universe.now rules.now) }
 {
     let _labels = universe.labels();
-    let readers = Readers::of(alloc, rules)?;
+    let sources = Sources::of(alloc, rules)?;
+    let readers = Readers::of(alloc, &sources)?;
+    let order = order_of(alloc, &sources, rules)?;
     let mut due = vec![in alloc; true; rules.len()]?;
     let env = Env::bottom(alloc, universe, rules)?;
-    rounds(alloc, universe, rules, &readers, env, &mut due)
+    rounds(alloc, universe, rules, &readers, &order, env, &mut due)
 }
 
-/// Steps of all rules, round by round, until one adds no class. At first each rule is due.
+/// Steps of all rules in their order, round by round, until one adds no class. At first each rule is due.
 fn rounds(
     alloc: Global,
     universe: &Universe,
     rules: &Seq<Rule>,
     readers: &Readers,
+    order: &Seq<u32>,
     mut env: Env,
     due: &mut [bool],
 ) -> Result<Env, Memory>
     requires listing { IsListing universe.now }
     requires index { IsIndexOf rules.now readers.now }
+    requires order { IsOrder rules.now order.now }
     requires marks { length due.old ≡ length rules.now }
     requires rises { Rises universe.now rules.now (start universe.now rules.now) env }
     requires hold { OthersHold universe.now rules.now env due.old }
     ensures { IfOk result (IsLeast universe.now rules.now) }
 {
     loop {
-        let added = raise_all(alloc, universe, rules, readers, &mut env, due)?;
+        let added = raise_all(alloc, universe, rules, readers, order, &mut env, due)?;
         if !added {
             return Ok(env);
         }
     }
 }
 
-/// A step of each rule in turn. It says whether a class was added.
+/// A step of each rule in the order. It says whether a class was added.
 fn raise_all(
     alloc: Global,
     universe: &Universe,
     rules: &Seq<Rule>,
     readers: &Readers,
+    order: &Seq<u32>,
     env: &mut Env,
     due: &mut [bool],
 ) -> Result<bool, Memory>
     requires listing { IsListing universe.now }
     requires of_rules { IsEnvironmentOf universe.now rules.now env.old }
     requires index { IsIndexOf rules.now readers.now }
+    requires order { IsOrder rules.now order.now }
     requires marks { length due.old ≡ length rules.now }
     requires hold { OthersHold universe.now rules.now env.old due.old }
-    ensures { IfOk result (Tells universe.now rules.now (length rules.now) env.old env.new due.new) }
+    ensures { IfOk result (Tells universe.now rules.now order.now (length order.now) env.old env.new due.new) }
 {
     let mut added = false;
-    for k in 0..rules.len() {
+    for place in 0..order.len() {
+        let k = *order.get(place) as usize;
         let one = step(alloc, universe, rules, readers, k, env, due)?;
         added = either(added, one);
     }
@@ -82,7 +92,7 @@ fn either(a: bool, b: bool) -> bool
     a || b
 }
 
-/// A step of a rule, where it is due: its row is joined to that of its name, and where this adds a class, each rule that looks up the name is due again. It says
+/// A step of a rule, where it is due: its row is joined to that of its name, and where this adds a class, each rule that selects the name is due again. It says
 /// whether a class was added.
 fn step(
     alloc: Global,

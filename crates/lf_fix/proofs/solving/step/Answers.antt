@@ -1,7 +1,7 @@
 use Rattle.std.proofs.Common.{Bool, false, List, Some, inl, inr, sym, subst, arith}
 use Rattle.std.specs.Prelude.{slice_set}
 use Rattle.lf_ast.specs.Labels.{Bytes}
-use Rattle.lf_fix.specs.Lookups.{IsListed}
+use Rattle.lf_fix.specs.Readers.{IsListed}
 use Rattle.lf_fix.specs.Rounds.{StepTells}
 use Rattle.lf_fix.proofs.Steps.{listed, step_added, step_same}
 use Rattle.lf_fix.proofs.solving.step.Goals as goal

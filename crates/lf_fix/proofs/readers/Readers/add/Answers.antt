@@ -1,7 +1,7 @@
 use Rattle.std.proofs.Common.{◌≡◌, ℕ, List, Option, Some, None, refl, sym, subst}
 use Rattle.std.specs.List.{Contains}
 use Rattle.lf_ast.specs.Labels.{Bytes}
-use Rattle.lf_fix.specs.Lookups.{Index, IsFull, IsListed}
+use Rattle.lf_fix.specs.Readers.{Index, IsFull, IsListed}
 use Rattle.lf_fix.proofs.Listing.{put_listed}
 use Rattle.lf_fix.proofs.readers.Readers.add.Goals as goal
 

@@ -1,7 +1,7 @@
 use Rattle.std.proofs.Common.{◌≡◌, ◌<◌, ℕ, zero, suc, List, [], ◌∷◌, length, get_or, Some, refl, sym, ◌∙◌, subst, arith}
 use Rattle.std.specs.List.{Contains}
 use Rattle.lf_semantics.proofs.Members.{none_in}
-use Rattle.lf_fix.specs.Lookups.{Index, IsListed}
+use Rattle.lf_fix.specs.Readers.{Index, IsListed}
 use Rattle.lf_fix.proofs.Listing.{behind_none}
 use Rattle.lf_fix.proofs.readers.Readers.mark.Goals as goal
 

@@ -1,0 +1,10 @@
+use Rattle.std.proofs.Common.{Option, Some, OnOk, sym, subst}
+use Rattle.lf_ast.specs.Labels.{Bytes}
+use Rattle.lf_fix.specs.Readers.{IsListed}
+use Rattle.lf_fix.proofs.readers.Readers.list.Goals as goal
+
+pub returns-in-Some-clause-listed : goal.returns-in-Some-clause-listed
+returns-in-Some-clause-listed c =
+    let P : Option Bytes → Type 0 = λ o. OnOk c.add.result (IsListed c.add.new.self c.args.rule o) in
+    let Q : Bytes → Type 0 = λ name. OnOk c.add.result (IsListed c.add.new.self c.args.rule (Some name)) in
+    subst P (sym c.in-Some.is) (subst Q c.as_str.ensures c.add.ensures.listed)

@@ -1,0 +1,28 @@
+use Rattle.std.proofs.Common.{◌≡◌, ℕ, ◌+◌, List, [], ◌∷◌, ◌++◌, Option, take, sym, ◌∙◌, ap, subst, arith}
+use Rattle.std.specs.List.{AllByRecursion}
+use Rattle.std.proofs.lemmas.List.{take_all, take_more}
+use Rattle.lf_ast.specs.Labels.{Bytes}
+use Rattle.lf_fix.specs.Readers.{Index, IsListed}
+use Rattle.lf_fix.proofs.Listing.{all_append, all_map}
+use Rattle.lf_fix.proofs.readers.Readers.list_all.Goals as goal
+
+pub loop-k-preserved : goal.loop-k-preserved
+loop-k-preserved c =
+    let found : List (Option Bytes) = c.args.found.now in
+    let k : ℕ = c.loop-k.k in
+    let one : Option Bytes = c.index-found-k.result in
+    let old : Index = c.loop-k.self in
+    let new : Index = c.list.new.self in
+    let P : Option Bytes → Type 0 = λ o. IsListed new c.args.rule o in
+    let before : AllByRecursion P (take k found) = all_map (IsListed old c.args.rule) P (take k found) (λ o. c.in_ok-list.ensures.kept c.args.rule o) c.loop-k.invariant.1 in
+    let more : take k found ++ one ∷ [] ≡ take (k + 1) found = ap (λ (o : Option Bytes). take k found ++ o ∷ []) c.index-found-k.is ∙ sym (take_more found k one (omega (arith, c.loop-k-test.true))) in
+    let Q : List (Option Bytes) → Type 0 = λ l. AllByRecursion P l in (
+      c.in_ok-list.ensures.full,
+      subst Q more (all_append P (take k found) (one ∷ []) before (c.in_ok-list.ensures.listed, tt)),
+      λ i o l. c.in_ok-list.ensures.kept i o (c.loop-k.invariant.2 i o l),
+    )
+
+pub returns-clause-listed : goal.returns-clause-listed
+returns-clause-listed c =
+    let Q : List (Option Bytes) → Type 0 = λ l. AllByRecursion (IsListed c.loop-k.self c.args.rule) l in
+    subst Q (take_all c.loop-k.k c.args.found.now (omega (arith, c.loop-k-test.false))) c.loop-k.invariant.1

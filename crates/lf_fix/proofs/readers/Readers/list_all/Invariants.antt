@@ -1,0 +1,11 @@
+use Rattle.std.proofs.Common.{ℕ, Option, take}
+use Rattle.std.specs.List.{AllByRecursion}
+use Rattle.lf_ast.specs.Labels.{Bytes}
+use Rattle.lf_fix.specs.Readers.{IsFull, IsListed}
+use Rattle.lf_fix.proofs.readers.Readers.list_all.Given as goal
+
+abbrev pub invariant-loop-k : goal.invariant-loop-k
+invariant-loop-k l =
+    IsFull l.self
+    × AllByRecursion (IsListed l.self l.rule) (take l.k l.found)
+    × ((k : ℕ) (o : Option Bytes) → IsListed l.fn.self k o → IsListed l.self k o)
