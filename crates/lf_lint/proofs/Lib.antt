@@ -4,6 +4,7 @@ pub mod Appends
 pub mod DistinctKeys
 pub mod FirstSeen
 pub mod LabelLines
+pub mod LabelTexts
 pub mod OneExpr
 pub mod OneFile
 pub mod OneFound

@@ -29,41 +29,12 @@ use Rattle.lf_lint.specs.Headline.{IsTrue, IsTrueOf, IsTrueReport, IsTrueSaid, L
 use Rattle.lf_lint.specs.Report.{label_line, label_lines, labels_of, labels_text, lines_text, place_text, report_of, rule_line, rule_lines, rules_lines, said_lines, totals_line, totals_text, verdicts_line}
 use Rattle.lf_lint.specs.Verdicts.{empty_count, has_none, has_text, is_empty_rule, verdict_from, verdict_of, verdicts_in, verdicts_of}
 use Rattle.lf_lint.proofs.AcceptedRules.{sets_no_name}
+use Rattle.lf_lint.proofs.LabelTexts.{text_same}
 use Rattle.lf_lint.proofs.Starless.{no_star}
 use Rattle.lf_lint.proofs.Universes.{shape_rule}
 
 two : {A B C : Type 0} (f : A → B → C) (a a' : A) (b b' : B) → a ≡ a' → b ≡ b' → f a b ≡ f a' b'
 two f a a' b b' h k = ap (λ x. f x b) h ∙ ap (f a') k
-
--- ---- the set of a label
-
-and_true : (a : Bool) → (a && true) ≡ a
-and_true true = refl
-and_true false = refl
-
-and_false : (a : Bool) → (a && false) ≡ false
-and_false true = refl
-and_false false = refl
-
-no_zero : (k : ℕ) → eqb (suc k) 0 ≡ false
-no_zero k = by (eqb (suc k) 0) refl
-  where
-    by : (b : Bool) → eqb (suc k) 0 ≡ b → eqb (suc k) 0 ≡ false
-    by true e = let zero_is : suc k ≡ 0 = (Decides-eqb _ _).0 e in absurd (omega (arith, zero_is))
-    by false e = e
-
-module _ (u : Listing) where
-  -- each class but the first is that of a text
-  later_text : (k : ℕ) (set : List Bool) → list_any (λ on. on) (indexed_from (λ class on. on && not (eqb class 0)) (suc k) set) ≡ list_any (λ on. on) set
-  later_text k [] = refl
-  later_text k (on ∷ set) =
-      two (λ (a b : Bool). a || b) (on && not (eqb (suc k) 0)) on (list_any (λ on. on) (indexed_from (λ class on. on && not (eqb class 0)) (suc (suc k)) set)) (list_any (λ on. on) set)
-      (ap (λ (b : Bool). on && not b) (no_zero k) ∙ and_true on) (later_text (suc k) set)
-
-  text_same : (set : List Bool) → has_text set ≡ has_class u (λ class. not (eqb class 0)) set
-  text_same [] = refl
-  text_same (on ∷ set) =
-      sym (two (λ (a b : Bool). a || b) (on && false) false (list_any (λ on. on) (indexed_from (λ class on. on && not (eqb class 0)) 1 set)) (list_any (λ on. on) set) (and_false on) (later_text 0 set))
 
 -- ---- verdicts
 

@@ -13,7 +13,7 @@ use Rattle.lf_semantics.proofs.RowLaws.{shape_nothing}
 use Rattle.lf_semantics.proofs.Soundness.{shape_of_row}
 use Rattle.lf_semantics.specs.Listing.{IsListing, Listing, class_count, class_counts, named_at}
 use Rattle.lf_lint.specs.Report.{labels_of, shown}
-use Rattle.lf_lint.specs.Verdicts.{has_text, verdict_of}
+use Rattle.lf_lint.specs.Verdicts.{verdict_of}
 use Rattle.lf_lint.specs.declared.report.verdict.Verdict.{Verdict}
 
 -- the last of a list, for each place that isn't one of the others
@@ -80,28 +80,3 @@ pub verdict_more : (row : Sets) (k : ℕ) (verdict : Verdict) (old new : List Ve
     → new ≡ map verdict_of (take (k + 1) row)
 verdict_more row k verdict old new h is before pushed =
     pushed ∙ ap (λ l. l ++ verdict ∷ []) before ∙ ap (λ v. map verdict_of (take k row) ++ v ∷ []) is ∙ sym (map_more verdict_of row k [] h)
-
--- a class of a text
-
-some_any : (set : List Bool) (c : ℕ) → get_or set c false ≡ true → list_any (λ on. on) set ≡ true
-some_any [] c e = absurd (cc)
-some_any (true ∷ set) c e = refl
-some_any (false ∷ set) zero e = absurd (cc)
-some_any (false ∷ set) (suc c) e = some_any set c e
-
-none_any : (set : List Bool) → ((c : ℕ) → c < length set → get_or set c false ≡ false) → list_any (λ on. on) set ≡ false
-none_any [] h = refl
-none_any (on ∷ set) h = by on (h 0 (omega arith)) (none_any set (λ c i. h (suc c) (omega (arith, i))))
-  where
-    by : (on : Bool) → on ≡ false → list_any (λ b. b) set ≡ false → (on || list_any (λ b. b) set) ≡ false
-    by true e f = cc
-    by false e f = f
-
-pub some_text : (set : List Bool) (c : ℕ) → 1 ≤ c → get_or set c false ≡ true → has_text set ≡ true
-some_text [] c h e = absurd (cc)
-some_text (on ∷ set) zero h e = absurd (omega arith)
-some_text (on ∷ set) (suc c) h e = some_any set c e
-
-pub no_text : (set : List Bool) → ((c : ℕ) → 1 ≤ c → c < length set → get_or set c false ≡ false) → has_text set ≡ false
-no_text [] h = refl
-no_text (on ∷ set) h = none_any set (λ c i. h (suc c) (omega arith) (omega (arith, i)))

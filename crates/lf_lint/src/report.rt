@@ -27,6 +27,7 @@ use lf_ast::Rule;
 use lf_base::{Kind, Memory, Seq, Span, Text};
 use lf_classes::Universe;
 use lf_fix::solve;
+use lf_flow::prepare;
 use std::alloc::Global;
 
 /// The report on what was found in the file that is asked for, each line ended by a line feed. `bytes` are those of the file.
@@ -64,8 +65,9 @@ fn rules_report(
     ensures fits { IfOk result (λ _. AreWithin rules.now) }
     ensures refused { IfErr result (Ends rules.now) }
 {
-    let universe = measure(alloc, rules)?;
+    let mut universe = measure(alloc, rules)?;
     if labels {
+        prepare(alloc, &mut universe, rules)?;
         let report = labels_report(alloc, file, bytes, &universe, rules)?;
         return Ok(report);
     }

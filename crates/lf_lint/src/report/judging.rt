@@ -1,7 +1,7 @@
 //! The verdicts on the labels of a rule.
 ghost use Rattle.std.specs.Prelude.{◌≡◌, ◌<◌, [], length, slice_index_or, IfOk};
 ghost use Rattle.lf_semantics.specs.ClassRows.{HasShape};
-ghost use Rattle.lf_lint.specs.Verdicts.{has_text, verdict_of, verdicts_in};
+ghost use Rattle.lf_lint.specs.Verdicts.{verdict_of, verdicts_in};
 
 use crate::report::verdict::Verdict;
 use lf_base::Memory;
@@ -18,31 +18,16 @@ pub fn judge(alloc: Global, universe: &Universe, row: &Row) -> Result<Vec<Verdic
         return Ok(verdicts);
     }
     for label in 0..universe.labels() {
-        verdicts.push(verdict_on(row, label, universe.classes(label)))?;
+        verdicts.push(verdict_on(row, label))?;
     }
     Ok(verdicts)
 }
 
-/// The verdict on a label, which has this many classes.
-fn verdict_on(row: &Row, label: u32, classes: u32) -> Verdict
+/// The verdict on a label, by its set in a row.
+fn verdict_on(row: &Row, label: u32) -> Verdict
     requires label { label < length row.now }
-    requires classes { classes ≡ length (slice_index_or row.now label []) }
-    requires some { 0 < classes }
+    requires some { 0 < length (slice_index_or row.now label []) }
     ensures { result ≡ verdict_of (slice_index_or row.now label []) }
 {
-    Verdict::of(may_be_present(row, label, classes), row.has(label, 0))
-}
-
-/// Whether a row has some class of a text in the set of a label, which has this many classes. The first of them is that of the empty text.
-fn may_be_present(row: &Row, label: u32, classes: u32) -> bool
-    requires label { label < length row.now }
-    requires classes { classes ≡ length (slice_index_or row.now label []) }
-    ensures { result ≡ has_text (slice_index_or row.now label []) }
-{
-    for class in 1..classes {
-        if row.has(label, class) {
-            return true;
-        }
-    }
-    false
+    Verdict::of(row.has_text(label), row.has(label, 0))
 }

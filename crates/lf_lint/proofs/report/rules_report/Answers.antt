@@ -4,7 +4,7 @@ use Rattle.lf_lint.proofs.report.rules_report.Goals as goal
 
 pub returns-then-labels-clause-text : goal.returns-then-labels-clause-text
 returns-then-labels-clause-text c = λ asked shows labels.
-    with_verdicts asked c.args.bytes.now c.args.rules.now c.in_ok-universe.universe c.in_ok-report.report c.in_ok-universe.ensures.found (sym labels ∙ c.if-labels.true) (c.in_ok-report.ensures asked.file shows)
+    with_verdicts asked c.args.bytes.now c.args.rules.now c.prepare.new.universe c.in_ok-report.report (c.prepare.ensures ∙ c.in_ok-universe.ensures.found) (sym labels ∙ c.if-labels.true) (c.in_ok-report.ensures asked.file shows)
 
 pub returns-clause-text : goal.returns-clause-text
 returns-clause-text c = λ asked shows labels.
