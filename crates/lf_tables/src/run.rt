@@ -1,0 +1,70 @@
+//! The tables of standard input.
+ghost use Rattle.std.specs.Prelude.{◌<◌, ◌≤◌, ◌^◌, length, OnOk};
+
+use crate::tables::tables_of;
+use anyhow::{Result, bail};
+use lf_ast::Rule;
+use lf_base::{Refusal, Seq, Span};
+use lf_lint::accept;
+use std::io::Read;
+
+/// The longest file that is read, in bytes.
+const LONGEST: usize = 2147483648;
+
+/// The most rules that have numbers.
+const MOST_RULES: usize = 4294967295;
+
+/// The status of a file that is refused.
+const REFUSED: u8 = 3;
+
+/// Writes the tables of the rule file on standard input, or why it is refused, and gives the status.
+pub fn run(rt: &HostRuntime) -> Result<u8> {
+    let mut input = Vec::new(rt.alloc());
+    rt.reader().read_to_end(&mut input)?;
+    let bytes = input.as_slice();
+    ask_length(bytes)?;
+    match accept(rt.alloc(), bytes, 0) {
+        Ok(rules) => print_tables(rt, &rules),
+        Err(refusal) => print_refusal(rt, refusal),
+    }
+}
+
+/// Writes the tables of rules.
+fn print_tables(rt: &HostRuntime, rules: &Seq<Rule>) -> Result<u8> {
+    ask_count(rules)?;
+    let tables = tables_of(rt.alloc(), rules)?;
+    print!(rt; "{tables}")?;
+    Ok(0)
+}
+
+/// Writes why a file is refused, and where.
+fn print_refusal(rt: &HostRuntime, refusal: Refusal) -> Result<u8> {
+    match refusal {
+        Refusal::At { kind, span } => {
+            let Span { start, end } = span;
+            println!(rt; "refused {} {start} {end}", kind.name())?;
+            Ok(REFUSED)
+        }
+        Refusal::Memory => bail!("out of memory"),
+    }
+}
+
+/// Asks what `accept` asks: that the file isn't too long.
+fn ask_length(bytes: &[u8]) -> Result<()>
+    ensures { OnOk result (length bytes.now ≤ 2 ^ 31) }
+{
+    if bytes.len() > LONGEST {
+        bail!("the file is too long");
+    }
+    Ok(())
+}
+
+/// Asks that each rule has a number.
+fn ask_count(rules: &Seq<Rule>) -> Result<()>
+    ensures { OnOk result (length rules.now < 2 ^ 32) }
+{
+    if rules.len() > MOST_RULES {
+        bail!("there are too many rules");
+    }
+    Ok(())
+}
