@@ -1,0 +1,105 @@
+-- Numbers that are added to an ordered set.
+use Rattle.std.proofs.Common.{◌≡◌, ℕ, ◌+◌, ◌<◌, ◌≤◌, ◌⊎◌, List, [], ◌∷◌, ◌++◌, take, length, get_or, inl, inr, refl, sym, ◌∙◌, ap, subst, arith}
+use Rattle.std.specs.BTreeSet.{insert_key}
+use Rattle.std.specs.List.{Contains}
+use Rattle.std.specs.Ordering.{match_ordering, nat_cmp}
+use Rattle.std.specs.declared.cmp.Ordering.{Ordering}
+use Rattle.std.specs.declared.cmp.Ordering.TheVariants.{Equal, Greater, Less}
+use Rattle.std.proofs.lemmas.List.{take_more}
+use Rattle.std.proofs.lemmas.List.Elements.{Contains-append_left, Contains-push, Contains-push_cases}
+use Rattle.std.proofs.lemmas.Map.Lookups.{exact_unsigned}
+use Rattle.lf_graph.specs.Listing.{Adds, AddsBelow}
+use Rattle.lf_graph.proofs.InList.{behind, first_or_behind, here, none_in, only_one}
+
+insert_to : (xs : List ℕ) (x k : ℕ) → Contains (insert_key nat_cmp xs x) k → Contains xs k ⊎ (x ≡ k)
+insert_to [] x k c = inr (only_one x k c)
+insert_to (y ∷ xs) x k c = by (nat_cmp x y) c (insert_to xs x k)
+  where
+    by : (o : Ordering) → Contains (match_ordering o (x ∷ y ∷ xs) (y ∷ xs) (y ∷ insert_key nat_cmp xs x)) k → (Contains (insert_key nat_cmp xs x) k → Contains xs k ⊎ (x ≡ k)) → Contains (y ∷ xs) k ⊎ (x ≡ k)
+    by Less d rest = elim (first_or_behind x (y ∷ xs) k d) [ inl e ↦ inr e | inr f ↦ inl f ]
+    by Equal d rest = inl d
+    by Greater d rest = elim (first_or_behind y (insert_key nat_cmp xs x) k d) [
+      | inl e ↦ let P : ℕ → Type 0 = λ z. Contains (y ∷ xs) z in inl (subst P e (here y xs))
+      | inr f ↦ elim (rest f) [ inl g ↦ inl (behind y xs k g) | inr h ↦ inr h ]
+    ]
+
+insert_old : (xs : List ℕ) (x k : ℕ) → Contains xs k → Contains (insert_key nat_cmp xs x) k
+insert_old [] x k c = absurd (none_in k c)
+insert_old (y ∷ xs) x k c = by (nat_cmp x y) (insert_old xs x k)
+  where
+    by : (o : Ordering) → (Contains xs k → Contains (insert_key nat_cmp xs x) k) → Contains (match_ordering o (x ∷ y ∷ xs) (y ∷ xs) (y ∷ insert_key nat_cmp xs x)) k
+    by Less rest = behind x (y ∷ xs) k c
+    by Equal rest = c
+    by Greater rest = elim (first_or_behind y xs k c) [
+      | inl e ↦ let P : ℕ → Type 0 = λ z. Contains (y ∷ insert_key nat_cmp xs x) z in subst P e (here y (insert_key nat_cmp xs x))
+      | inr d ↦ behind y (insert_key nat_cmp xs x) k (rest d)
+    ]
+
+insert_new : (xs : List ℕ) (x : ℕ) → Contains (insert_key nat_cmp xs x) x
+insert_new [] x = here x []
+insert_new (y ∷ xs) x = by (nat_cmp x y) refl (insert_new xs x)
+  where
+    by : (o : Ordering) → nat_cmp x y ≡ o → Contains (insert_key nat_cmp xs x) x → Contains (match_ordering o (x ∷ y ∷ xs) (y ∷ xs) (y ∷ insert_key nat_cmp xs x)) x
+    by Less e rest = here x (y ∷ xs)
+    by Equal e rest = let P : ℕ → Type 0 = λ z. Contains (y ∷ xs) z in subst P (sym (exact_unsigned x y e)) (here y xs)
+    by Greater e rest = behind y (insert_key nat_cmp xs x) x rest
+
+-- a set has what it had and what is put in
+pub put_in : (old new : List ℕ) (x k : ℕ) → new ≡ insert_key nat_cmp old x → Contains new k → Contains old k ⊎ (x ≡ k)
+put_in old new x k e c = let P : List ℕ → Type 0 = λ l. Contains l k in insert_to old x k (subst P e c)
+
+pub stays_in : (old new : List ℕ) (x k : ℕ) → new ≡ insert_key nat_cmp old x → Contains old k → Contains new k
+stays_in old new x k e c = let P : List ℕ → Type 0 = λ l. Contains l k in subst P (sym e) (insert_old old x k c)
+
+pub comes_in : (old new : List ℕ) (x k : ℕ) → new ≡ insert_key nat_cmp old x → x ≡ k → Contains new k
+comes_in old new x k e same =
+    let P : List ℕ → Type 0 = λ l. Contains l k in
+    let Q : ℕ → Type 0 = λ z. Contains (insert_key nat_cmp old x) z in
+    subst P (sym e) (subst Q same (insert_new old x))
+
+pub adds_none : (xs : List ℕ) → Adds [] xs xs
+adds_none xs k = (λ c. inl c, λ h. elim h [ inl c ↦ c | inr d ↦ absurd (none_in k d) ])
+
+-- one more number
+pub adds_one : (xs a b c : List ℕ) (x : ℕ) → Adds xs a b → c ≡ insert_key nat_cmp b x → Adds (xs ++ x ∷ []) a c
+adds_one xs a b c x g e k = (
+  λ d. elim (put_in b c x k e d) [
+    | inl f ↦ elim ((g k).0 f) [ inl h ↦ inl h | inr h ↦ inr (Contains-append_left xs (x ∷ []) k h) ]
+    | inr f ↦ let P : ℕ → Type 0 = λ z. Contains (xs ++ x ∷ []) z in inr (subst P f (Contains-push xs x))
+  ],
+  λ d. elim d [
+    | inl f ↦ stays_in b c x k e ((g k).1 (inl f))
+    | inr f ↦ elim (Contains-push_cases xs x k f) [ inl h ↦ stays_in b c x k e ((g k).1 (inr h)) | inr h ↦ comes_in b c x k e h ]
+  ],
+)
+
+pub adds_next : (numbers : List ℕ) (i x : ℕ) (a b c : List ℕ) → i < length numbers → get_or numbers i 0 ≡ x → Adds (take i numbers) a b → c ≡ insert_key nat_cmp b x → Adds (take (i + 1) numbers) a c
+adds_next numbers i x a b c h is g e =
+    let P : List ℕ → Type 0 = λ l. Adds l a c in
+    subst P (ap (λ (y : ℕ). take i numbers ++ y ∷ []) (sym is) ∙ sym (take_more numbers i 0 h)) (adds_one (take i numbers) a b c x g e)
+
+-- numbers below one
+
+pub below_none : (number : ℕ) (xs : List ℕ) → AddsBelow [] number xs xs
+below_none number xs k = (λ c. inl c, λ h. elim h [ inl c ↦ c | inr d ↦ absurd (none_in k d.0) ])
+
+pub below_one : (number : ℕ) (xs a b c : List ℕ) (x : ℕ) → x < number → AddsBelow xs number a b → c ≡ insert_key nat_cmp b x → AddsBelow (xs ++ x ∷ []) number a c
+below_one number xs a b c x less g e k = (
+  λ d. elim (put_in b c x k e d) [
+    | inl f ↦ elim ((g k).0 f) [ inl h ↦ inl h | inr h ↦ inr (Contains-append_left xs (x ∷ []) k h.0, h.1) ]
+    | inr f ↦ let P : ℕ → Type 0 = λ z. Contains (xs ++ x ∷ []) z × (z < number) in inr (subst P f (Contains-push xs x, less))
+  ],
+  λ d. elim d [
+    | inl f ↦ stays_in b c x k e ((g k).1 (inl f))
+    | inr f ↦ elim (Contains-push_cases xs x k f.0) [ inl h ↦ stays_in b c x k e ((g k).1 (inr (h, f.1))) | inr h ↦ comes_in b c x k e h ]
+  ],
+)
+
+pub below_other : (number : ℕ) (xs a b : List ℕ) (x : ℕ) → number ≤ x → AddsBelow xs number a b → AddsBelow (xs ++ x ∷ []) number a b
+below_other number xs a b x more g k = (
+  λ d. elim ((g k).0 d) [ inl h ↦ inl h | inr h ↦ inr (Contains-append_left xs (x ∷ []) k h.0, h.1) ],
+  λ d. elim d [
+    | inl f ↦ (g k).1 (inl f)
+    | inr f ↦ elim (Contains-push_cases xs x k f.0) [ inl h ↦ (g k).1 (inr (h, f.1)) | inr h ↦ absurd (omega (arith, h, more, f.1)) ]
+  ],
+)

@@ -1,0 +1,15 @@
+mod Closing
+mod Held
+mod InList
+mod Inserting
+mod Joining
+mod Leading
+mod Listed
+mod Lists
+mod Marks
+mod Meeting
+mod Nodes
+mod Numbered
+mod Paths
+mod Reaching
+mod Taking

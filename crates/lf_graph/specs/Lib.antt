@@ -1,0 +1,4 @@
+pub mod Components
+pub mod Listing
+pub mod Paths
+pub mod Search

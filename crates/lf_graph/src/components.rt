@@ -1,0 +1,193 @@
+//! The strongly connected components of a graph.
+ghost use Rattle.std.specs.Prelude.{◌≡◌, ◌<◌, ◌↔◌, ◌++◌, [], ◌∷◌, ℕ, List, length, map, replicate, IfOk, IsTrue, OnOk, slice_index_or, slice_set};
+ghost use Rattle.std.specs.List.{Contains};
+ghost use Rattle.lf_graph.specs.Components.{AreComponents, AreNumbers, number_of};
+ghost use Rattle.lf_graph.specs.Listing.{Adds, AddsBelow, AreMembers, AreNexts, numbers_of};
+ghost use Rattle.lf_graph.specs.Paths.{IsGraph, IsOnCircle, IsReached};
+
+use crate::numbering::number_all;
+use lf_base::{Memory, Seq};
+use std::alloc::Global;
+use std::collections::BTreeSet;
+use std::marker::Model;
+
+/// The strongly connected components of a graph: nodes of which each leads to each other, along edges. They are numbered from 0, so that an edge leads to the component of
+/// its node, or to one of a lesser number.
+#[derive(Drop)]
+pub struct Components {
+    /// The number of each node's component.
+    numbers: Vec<usize>,
+    /// The nodes of each component.
+    members: Vec<Seq<usize>>,
+    /// The components to which an edge leads from a node of each, perhaps its own.
+    nexts: Vec<BTreeSet<usize>>,
+}
+
+impl Model for Components {
+    ghost use Rattle.std.specs.Prelude.{map};
+    ghost use Rattle.lf_graph.specs.Components.{Components};
+
+    ghost Value = { Components };
+
+    ghost view = { λ c. record { numbers = c.numbers.items; members = c.members.items; nexts = map (λ t. t.keys) c.nexts.items } };
+}
+
+impl Components {
+    /// Those of a graph that has for each node, counted from 0, the nodes to which an edge leads from it. It takes about as long as the nodes and edges are many.
+    pub fn of(alloc: Global, edges: &Seq<Seq<usize>>) -> Result<Components, Memory>
+        requires { IsGraph edges.now }
+        ensures { IfOk result (AreComponents edges.now) }
+    {
+        let numbers = number_all(alloc, edges)?;
+        let members = list_members(alloc, numbers.of.as_slice(), numbers.count)?;
+        let nexts = list_nexts(alloc, edges, numbers.of.as_slice(), numbers.count)?;
+        Ok(Components {
+            numbers: numbers.of,
+            members,
+            nexts,
+        })
+    }
+
+    /// Whether an edge or more lead from a node to itself.
+    pub fn is_on_circle(&self, node: usize) -> bool
+        requires graph { (edges : List (List ℕ)) × AreComponents edges self.now }
+        requires node { node < length self.now.numbers }
+        ensures { (edges : List (List ℕ)) → AreComponents edges self.now → IsTrue result ↔ IsOnCircle edges node }
+    {
+        let number = self.numbers[node];
+        self.nexts[number].contains(&number)
+    }
+
+    /// The nodes to which edges, perhaps none, lead from one of these, in ascending order. Each component is gone through once.
+    pub fn reached(&self, alloc: Global, start: &[usize]) -> Result<Seq<usize>, Memory>
+        requires graph { (edges : List (List ℕ)) × AreComponents edges self.now }
+        requires start { (u : ℕ) → Contains start.now u → u < length self.now.numbers }
+        ensures members { IfOk result (λ found. (edges : List (List ℕ)) → AreComponents edges self.now → (v : ℕ) → Contains found v ↔ IsReached edges start.now v) }
+        ensures ascending { IfOk result (λ found. (k l : ℕ) → k < l → l < length found → slice_index_or found k 0 < slice_index_or found l 0) }
+    {
+        let mut found = BTreeSet::new(alloc);
+        let mut due = self.components_of(alloc, start)?;
+        while let Some(number) = due.pop_last() {
+            add_all(&mut found, self.members[number].as_slice())?;
+            add_below(&mut due, &self.nexts[number], number)?;
+        }
+        let found: Vec<usize> = found.into_iter().collect(alloc)?;
+        Ok(Seq::from_vec(found))
+    }
+
+    /// The components of nodes.
+    fn components_of(&self, alloc: Global, nodes: &[usize]) -> Result<BTreeSet<usize>, Memory>
+        requires { (u : ℕ) → Contains nodes.now u → u < length self.now.numbers }
+        ensures { IfOk result (λ found. Adds (numbers_of self.now.numbers nodes.now) [] found.keys) }
+    {
+        let mut found = BTreeSet::new(alloc);
+        add_numbers(&mut found, self.numbers.as_slice(), nodes)?;
+        Ok(found)
+    }
+}
+
+/// The nodes of each component.
+fn list_members(alloc: Global, numbers: &[usize], count: usize) -> Result<Vec<Seq<usize>>, Memory>
+    requires { (u : ℕ) → u < length numbers.now → number_of numbers.now u < count }
+    ensures { IfOk result (λ members. AreMembers numbers.now (length numbers.now) count members.items) }
+{
+    let mut members = empty_lists(alloc, count)?;
+    for (node, number) in numbers.iter().enumerate() {
+        push_at(&mut members, *number, node)?;
+    }
+    Ok(members)
+}
+
+/// The components to which an edge leads from a node of each.
+fn list_nexts(
+    alloc: Global,
+    edges: &Seq<Seq<usize>>,
+    numbers: &[usize],
+    count: usize,
+) -> Result<Vec<BTreeSet<usize>>, Memory>
+    requires graph { IsGraph edges.now }
+    requires numbers { AreNumbers edges.now numbers.now count }
+    ensures { IfOk result (λ nexts. AreNexts edges.now numbers.now (length edges.now) count (map (λ t. t.keys) nexts.items)) }
+{
+    let mut nexts = empty_sets(alloc, count)?;
+    for node in 0..edges.len() {
+        add_numbers(
+            &mut nexts[numbers[node]],
+            numbers,
+            edges.get(node).as_slice(),
+        )?;
+    }
+    Ok(nexts)
+}
+
+/// Empty lists.
+fn empty_lists(alloc: Global, count: usize) -> Result<Vec<Seq<usize>>, Memory>
+    ensures { IfOk result (λ lists. lists.items ≡ replicate count []) }
+{
+    let mut lists = Vec::new(alloc);
+    for _k in 0..count {
+        lists.push(Seq::new(alloc))?;
+    }
+    Ok(lists)
+}
+
+/// Empty sets.
+fn empty_sets(alloc: Global, count: usize) -> Result<Vec<BTreeSet<usize>>, Memory>
+    ensures { IfOk result (λ sets. map (λ t. t.keys) sets.items ≡ replicate count []) }
+{
+    let mut sets = Vec::new(alloc);
+    for _k in 0..count {
+        sets.push(BTreeSet::new(alloc))?;
+    }
+    Ok(sets)
+}
+
+/// Puts a number behind those of a place.
+fn push_at(lists: &mut Vec<Seq<usize>>, place: usize, number: usize) -> Result<(), Memory>
+    requires { place < length lists.old.items }
+    ensures { OnOk result (lists.new.items ≡ slice_set lists.old.items place (slice_index_or lists.old.items place [] ++ number ∷ [])) }
+{
+    let list = &mut lists[place];
+    list.push(number)
+}
+
+/// Adds the numbers of nodes.
+fn add_numbers(
+    found: &mut BTreeSet<usize>,
+    numbers: &[usize],
+    nodes: &[usize],
+) -> Result<(), Memory>
+    requires { (u : ℕ) → Contains nodes.now u → u < length numbers.now }
+    ensures { OnOk result (Adds (numbers_of numbers.now nodes.now) found.old.keys found.new.keys) }
+{
+    for node in nodes {
+        let _ = found.insert(numbers[*node])?;
+    }
+    Ok(())
+}
+
+/// Adds nodes.
+fn add_all(found: &mut BTreeSet<usize>, nodes: &[usize]) -> Result<(), Memory>
+    ensures { OnOk result (Adds nodes.now found.old.keys found.new.keys) }
+{
+    for node in nodes {
+        let _ = found.insert(*node)?;
+    }
+    Ok(())
+}
+
+/// Adds those of the components that come before one.
+fn add_below(
+    due: &mut BTreeSet<usize>,
+    nexts: &BTreeSet<usize>,
+    number: usize,
+) -> Result<(), Memory>
+    ensures { OnOk result (AddsBelow nexts.now.keys number due.old.keys due.new.keys) }
+{
+    for next in nexts {
+        if *next < number {
+            let _ = due.insert(*next)?;
+        }
+    }
+    Ok(())
+}
