@@ -140,7 +140,7 @@ reads_more : (rules : List Rule) (e : Expr) (m : Bytes) → Reads rules e m → 
 reads_more rules e m (selected s) r c a is n sel = through r c a (let P : Bytes → Type 0 = λ z. Selects rules e z in subst P (sym is) s) (selected sel)
 reads_more rules e m (through q d b t rest) r c a is n sel = through q d b t (reads_more rules q.expr m rest r c a is n sel)
 
-reads_on : (rules : List Rule) (start : List (Option Bytes)) (m : Bytes) → ReadsBy rules start m → (r : Rule) → Contains rules r → r.alert ≡ false → r.name ≡ m → (n : Bytes) → Selects rules r.expr n → ReadsBy rules start n
+pub reads_on : (rules : List Rule) (start : List (Option Bytes)) (m : Bytes) → ReadsBy rules start m → (r : Rule) → Contains rules r → r.alert ≡ false → r.name ≡ m → (n : Bytes) → Selects rules r.expr n → ReadsBy rules start n
 reads_on rules start m (inl s) r c a is n sel = inr (r, c, a, let P : Bytes → Type 0 = λ z. SelectsBy rules start z in subst P (sym is) s, selected sel)
 reads_on rules start m (inr q) r c a is n sel = inr (q.0, q.1, q.2, q.3, reads_more rules q.0.expr m q.4 r c a is n sel)
 

@@ -5,6 +5,7 @@ mod Followed
 mod Indexed
 mod Inserted
 pub mod LookedUp
+mod NamePaths
 mod Numbered
 pub mod OrderLaws
 mod Ordered

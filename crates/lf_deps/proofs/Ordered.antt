@@ -45,19 +45,19 @@ one_only x s c = elim (first_or_behind x [] s c) [ inl e ↦ e | inr d ↦ absur
 
 -- the source of a selector
 
-source_named : (names : List Bytes) (name : Bytes) (s : ℕ) → Contains (source_of names (Some name)) s → (place names name < length names) × (place names name ≡ s)
+pub source_named : (names : List Bytes) (name : Bytes) (s : ℕ) → Contains (source_of names (Some name)) s → (place names name < length names) × (place names name ≡ s)
 source_named names name s c = by (nat_lt (place names name) (length names)) refl c
   where
     by : (b : Bool) → nat_lt (place names name) (length names) ≡ b → Contains (cond b (place names name ∷ []) []) s → (place names name < length names) × (place names name ≡ s)
     by true e d = (ltb-true (place names name) (length names) e, one_only (place names name) s d)
     by false e d = absurd (none_in s d)
 
-named_source : (names : List Bytes) (name : Bytes) → place names name < length names → Contains (source_of names (Some name)) (place names name)
+pub named_source : (names : List Bytes) (name : Bytes) → place names name < length names → Contains (source_of names (Some name)) (place names name)
 named_source names name h =
     let P : Bool → Type 0 = λ b. Contains (cond b (place names name ∷ []) []) (place names name) in
     subst P (sym (lt-ltb (place names name) (length names) h)) (here (place names name) [])
 
-source_below : (names : List Bytes) (o : Option Bytes) (s : ℕ) → Contains (source_of names o) s → s < length names + 1
+pub source_below : (names : List Bytes) (o : Option Bytes) (s : ℕ) → Contains (source_of names o) s → s < length names + 1
 source_below names None s c = let e = one_only (length names) s c in omega (arith, e)
 source_below names (Some name) s c = let r = source_named names name s c in omega (arith, r.0, r.1)
 
@@ -73,7 +73,7 @@ recorded_source names r s c = by r.alert refl c
 source_recorded : (names : List Bytes) (r : Rule) (s : ℕ) → r.alert ≡ false → Contains (place names r.name ∷ length names ∷ []) s → Contains (recorded_at names r) s
 source_recorded names r s e c = let P : Bool → Type 0 = λ b. Contains (cond b [] (place names r.name ∷ length names ∷ [])) s in subst P (sym e) c
 
-recorded_in : (rules : List Rule) (j : ℕ) (r : Rule) → slice_get rules j ≡ Some r → r.alert ≡ false → Contains (names_recorded rules) r.name
+pub recorded_in : (rules : List Rule) (j : ℕ) (r : Rule) → slice_get rules j ≡ Some r → r.alert ≡ false → Contains (names_recorded rules) r.name
 recorded_in [] j r e a = absurd (cc)
 recorded_in (x ∷ rules) zero r e a =
     let f : x ≡ r = cc in

@@ -11,9 +11,13 @@ use Rattle.lf_deps.specs.Sources.{IsSourcesOf, Sources}
 abbrev pub IsIndex : Sources → Type 0
 IsIndex s = (rules : List Rule) × IsSourcesOf rules s
 
+-- the numbers of the rules that record the name at a place
+abbrev pub makers_at : Sources → ℕ → List ℕ
+makers_at s place = slice_index_or s.makers place []
+
 -- the numbers of the rules that record a name
 abbrev pub makers_of : Sources → Bytes → List ℕ
-makers_of s name = slice_index_or s.makers (place s.names name) []
+makers_of s name = makers_at s (place s.names name)
 
 -- the names that the rules of these numbers select
 abbrev pub chosen_by : Sources → List ℕ → List Bytes

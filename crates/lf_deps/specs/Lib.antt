@@ -1,6 +1,7 @@
 pub mod Index
 pub mod Links
 pub mod Makers
+pub mod Names
 pub mod Ordering
 pub mod Queue
 pub mod Reading

@@ -2,6 +2,7 @@
 #![tactic(auto)]
 
 mod links;
+mod name_graph;
 mod number_set;
 mod ordering;
 mod queue;
@@ -11,6 +12,7 @@ mod searching;
 mod selecting;
 mod sources;
 
+pub use name_graph::NameGraph;
 pub use ordering::{order, order_of};
 pub use reading::{apart, apart_of, cyclic, cyclic_of, reach, reach_of};
 pub use sources::Sources;

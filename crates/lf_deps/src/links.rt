@@ -53,14 +53,30 @@ fn waited_by_each(
 }
 
 /// The sources that selectors wait for.
-fn sources_of(alloc: Global, names: &TextSet, found: &[Option<Text>]) -> Result<Seq<usize>, Memory>
+pub(crate) fn sources_of(
+    alloc: Global,
+    names: &TextSet,
+    found: &[Option<Text>],
+) -> Result<Seq<usize>, Memory>
     ensures { IfOk result (λ sources. sources ≡ flat_map (source_of names.now) found.now) }
 {
     let mut sources = Seq::new(alloc);
-    for selector in found {
-        push_source(names, selector, &mut sources)?;
-    }
+    push_sources(names, found, &mut sources)?;
     Ok(sources)
+}
+
+/// Puts the sources that selectors wait for behind others.
+pub(crate) fn push_sources(
+    names: &TextSet,
+    found: &[Option<Text>],
+    sources: &mut Seq<usize>,
+) -> Result<(), Memory>
+    ensures { OnOk result (sources.new ≡ sources.old ++ flat_map (source_of names.now) found.now) }
+{
+    for selector in found {
+        push_source(names, selector, sources)?;
+    }
+    Ok(())
 }
 
 /// Puts the source that a selector waits for behind others, if there is one.

@@ -5,6 +5,7 @@ ghost use Rattle.lf_deps.specs.Queue.{Chooses, CountsDown, IsLeft, IsQueue, IsRe
 
 use crate::links::Links;
 use crate::number_set::NumberSet;
+use crate::sources::push_at;
 use lf_base::{Memory, Seq};
 use std::alloc::Global;
 
@@ -241,7 +242,7 @@ fn empty_lists(alloc: Global, count: usize) -> Result<Vec<Seq<usize>>, Memory>
 }
 
 /// The numbers below a count.
-fn numbers(alloc: Global, count: usize) -> Result<Seq<usize>, Memory>
+pub(crate) fn numbers(alloc: Global, count: usize) -> Result<Seq<usize>, Memory>
     ensures { IfOk result (λ numbers. numbers ≡ range_with_len 0 count) }
 {
     let mut numbers = Seq::new(alloc);
@@ -265,13 +266,4 @@ fn mark(marks: &mut Vec<bool>, place: usize)
     ensures { marks.new.items ≡ slice_set marks.old.items place true }
 {
     marks[place] = true;
-}
-
-/// Puts a number behind those of a place.
-fn push_at(lists: &mut Vec<Seq<usize>>, place: usize, number: usize) -> Result<(), Memory>
-    requires { place < length lists.old.items }
-    ensures { OnOk result (lists.new.items ≡ slice_set lists.old.items place (slice_index_or lists.old.items place [] ++ number ∷ [])) }
-{
-    let list = &mut lists[place];
-    list.push(number)
 }

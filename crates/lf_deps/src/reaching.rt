@@ -2,7 +2,7 @@
 ghost use Rattle.std.specs.Prelude.{◌≡◌, ◌<◌, ◌↔◌, ◌∷◌, [], ℕ, true, false, length, IfOk, OnOk, slice_index_or};
 ghost use Rattle.std.specs.List.{Contains};
 ghost use Rattle.lf_ast.specs.Labels.{Bytes};
-ghost use Rattle.lf_deps.specs.Index.{Adds, makers_of};
+ghost use Rattle.lf_deps.specs.Index.{Adds, makers_at};
 
 use crate::sources::Sources;
 use lf_base::{Memory, Seq};
@@ -10,17 +10,17 @@ use lf_classes::TextSet;
 use std::alloc::Global;
 use std::collections::BTreeSet;
 
-/// The numbers of the rules that record one of these names. Want of memory where one of them doesn't fit a `u32`.
-pub(crate) fn makers_of_all(
+/// The numbers of the rules that record the name at one of these places. Want of memory where one of them doesn't fit a `u32`.
+pub(crate) fn makers_at_all(
     alloc: Global,
     sources: &Sources,
-    names: &TextSet,
+    places: &[usize],
 ) -> Result<BTreeSet<u32>, Memory>
-    ensures { IfOk result (λ found. (k : ℕ) → Contains found.keys k ↔ ((name : Bytes) × Contains names.now name × Contains (makers_of sources.now name) k)) }
+    ensures { IfOk result (λ found. (k : ℕ) → Contains found.keys k ↔ ((place : ℕ) × Contains places.now place × Contains (makers_at sources.now place) k)) }
 {
     let mut found = BTreeSet::new(alloc);
-    for k in 0..names.len() {
-        add_all(&mut found, sources.makers_of(names.get(k).as_str()))?;
+    for place in places {
+        add_all(&mut found, sources.makers_at(*place))?;
     }
     Ok(found)
 }

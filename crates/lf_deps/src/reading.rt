@@ -3,11 +3,14 @@ ghost use Rattle.std.specs.Prelude.{◌≡◌, ◌<◌, ◌↔◌, ℕ, List, le
 ghost use Rattle.std.specs.List.{Contains};
 ghost use Rattle.lf_ast.specs.declared.rule.Rule.{Rule};
 ghost use Rattle.lf_deps.specs.Index.{IsIndex};
+ghost use Rattle.lf_deps.specs.Names.{IsNameGraphOf};
 ghost use Rattle.lf_deps.specs.Reading.{AreApart, IsCyclic, Reaches};
 ghost use Rattle.lf_deps.specs.Sources.{IsSourcesOf};
 
-use crate::reaching::{have_none_common, in_order, makers_of_all};
-use crate::searching::{names_read, names_read_in_making};
+use crate::links::sources_of;
+use crate::name_graph::NameGraph;
+use crate::reaching::{have_none_common, in_order, makers_at_all};
+use crate::searching::names_read;
 use crate::selecting::selectors;
 use crate::sources::Sources;
 use lf_ast::{Expr, Rule};
@@ -23,18 +26,26 @@ pub fn reach(alloc: Global, rules: &Seq<Rule>, i: u32) -> Result<Seq<u32>, Memor
     ensures ascending { IfOk result (λ found. (k l : ℕ) → k < l → l < length found → slice_index_or found k 0 < slice_index_or found l 0) }
 {
     let sources = Sources::of(alloc, rules)?;
-    reach_of(alloc, &sources, i)
+    let graph = NameGraph::of(alloc, &sources)?;
+    reach_of(alloc, &sources, &graph, i)
 }
 
-/// As `reach`, for the rules of an index, and with no pass over all of them.
-pub fn reach_of(alloc: Global, sources: &Sources, i: u32) -> Result<Seq<u32>, Memory>
+/// As `reach`, for the rules of an index, with the graph of its names and no pass over all rules.
+pub fn reach_of(
+    alloc: Global,
+    sources: &Sources,
+    graph: &NameGraph,
+    i: u32,
+) -> Result<Seq<u32>, Memory>
     requires index { IsIndex sources.now }
+    requires graph { IsNameGraphOf sources.now graph.now }
     requires rule { i < length sources.now.selected }
     ensures members { (rules : List Rule) → IsSourcesOf rules sources.now → (of : Rule) → slice_get rules i ≡ Some of → (k : ℕ) → IfOk result (λ found. Contains found k ↔ ((r : Rule) × (slice_get rules k ≡ Some r) × Reaches rules of.expr r)) }
     ensures ascending { IfOk result (λ found. (k l : ℕ) → k < l → l < length found → slice_index_or found k 0 < slice_index_or found l 0) }
 {
-    let names = names_read(alloc, sources, sources.selected_by(i as usize))?;
-    let numbers = makers_of_all(alloc, sources, &names)?;
+    let start = sources_of(alloc, sources.recorded(), sources.selected_by(i as usize))?;
+    let reached = graph.components().reached(alloc, start.as_slice())?;
+    let numbers = makers_at_all(alloc, sources, reached.as_slice())?;
     in_order(alloc, numbers)
 }
 
@@ -63,14 +74,17 @@ pub fn cyclic(alloc: Global, rules: &Seq<Rule>, name: &Text) -> Result<bool, Mem
     ensures { IfOk result (λ cyclic. IsTrue cyclic ↔ IsCyclic rules.now name.now) }
 {
     let sources = Sources::of(alloc, rules)?;
-    cyclic_of(alloc, &sources, name)
+    let graph = NameGraph::of(alloc, &sources)?;
+    Ok(cyclic_of(&sources, &graph, name))
 }
 
-/// As `cyclic`, for the rules of an index.
-pub fn cyclic_of(alloc: Global, sources: &Sources, name: &Text) -> Result<bool, Memory>
-    requires { IsIndex sources.now }
-    ensures { IfOk result (λ cyclic. (rules : List Rule) → IsSourcesOf rules sources.now → IsTrue cyclic ↔ IsCyclic rules name.now) }
+/// As `cyclic`, for the rules of an index, with the graph of its names. The name is looked up.
+pub fn cyclic_of(sources: &Sources, graph: &NameGraph, name: &Text) -> bool
+    requires index { IsIndex sources.now }
+    requires graph { IsNameGraphOf sources.now graph.now }
+    ensures { (rules : List Rule) → IsSourcesOf rules sources.now → IsTrue result ↔ IsCyclic rules name.now }
 {
-    let names = names_read_in_making(alloc, sources, name)?;
-    Ok(names.place(name.as_str()) < names.len())
+    let names = sources.recorded();
+    let place = names.place(name.as_str());
+    place < names.len() && graph.components().is_on_circle(place)
 }

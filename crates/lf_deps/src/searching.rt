@@ -4,7 +4,7 @@ ghost use Rattle.std.specs.List.{Contains};
 ghost use Rattle.lf_ast.specs.Labels.{Bytes};
 ghost use Rattle.lf_ast.specs.declared.rule.Rule.{Rule};
 ghost use Rattle.lf_deps.specs.Index.{IsIndex, chosen_by, makers_of};
-ghost use Rattle.lf_deps.specs.Search.{AreRead, Grows, HasAll, IsSearch, chosen, chosen_all, making};
+ghost use Rattle.lf_deps.specs.Search.{AreRead, Grows, HasAll, IsSearch, chosen, chosen_all};
 ghost use Rattle.lf_deps.specs.Sources.{IsSourcesOf};
 
 use crate::sources::Sources;
@@ -30,21 +30,6 @@ pub(crate) fn names_read(
 {
     let mut names = Names::new(alloc);
     names.add_all(alloc, sources, start)?;
-    names.follow_all(alloc, sources)?;
-    Ok(names.texts)
-}
-
-/// The names that are read in the making of a name.
-pub(crate) fn names_read_in_making(
-    alloc: Global,
-    sources: &Sources,
-    name: &Text,
-) -> Result<TextSet, Memory>
-    requires { IsIndex sources.now }
-    ensures { IfOk result (λ names. (rules : List Rule) → IsSourcesOf rules sources.now → AreRead rules (making rules name.now) names) }
-{
-    let mut names = Names::new(alloc);
-    names.add_made(alloc, sources, sources.makers_of(name.as_str()))?;
     names.follow_all(alloc, sources)?;
     Ok(names.texts)
 }

@@ -2,7 +2,7 @@
 ghost use Rattle.std.specs.Prelude.{◌≡◌, ◌<◌, ◌∷◌, ◌++◌, [], List, cond, length, slice_index_or, IfOk, OnOk};
 ghost use Rattle.lf_ast.specs.declared.rule.Rule.{Rule};
 ghost use Rattle.lf_classes.specs.Meetings.{with_text};
-ghost use Rattle.lf_deps.specs.Index.{makers_of};
+ghost use Rattle.lf_deps.specs.Index.{makers_at, makers_of};
 ghost use Rattle.lf_deps.specs.Makers.{put_at, with_maker};
 ghost use Rattle.lf_deps.specs.Sources.{IsSourcesOf};
 
@@ -74,7 +74,13 @@ impl Sources {
     pub(crate) fn makers_of(&self, name: &str) -> &[usize]
         ensures { result.now ≡ makers_of self.now name.now }
     {
-        let place = self.names.place(name);
+        self.makers_at(self.names.place(name))
+    }
+
+    /// The numbers of the rules that record the name at a place.
+    pub(crate) fn makers_at(&self, place: usize) -> &[usize]
+        ensures { result.now ≡ makers_at self.now place }
+    {
         if place < self.makers.len() {
             let makers = &self.makers[place];
             makers.as_slice()
@@ -141,10 +147,14 @@ fn make_room(alloc: Global, makers: &mut Vec<Seq<usize>>, place: usize) -> Resul
 }
 
 /// Puts a number behind those of a place.
-fn push_at(makers: &mut Vec<Seq<usize>>, place: usize, number: usize) -> Result<(), Memory>
-    requires { place < length makers.old.items }
-    ensures { OnOk result (makers.new.items ≡ put_at makers.old.items place number) }
+pub(crate) fn push_at(
+    lists: &mut Vec<Seq<usize>>,
+    place: usize,
+    number: usize,
+) -> Result<(), Memory>
+    requires { place < length lists.old.items }
+    ensures { OnOk result (lists.new.items ≡ put_at lists.old.items place number) }
 {
-    let numbers = &mut makers[place];
-    numbers.push(number)
+    let list = &mut lists[place];
+    list.push(number)
 }

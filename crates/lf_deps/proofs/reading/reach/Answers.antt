@@ -2,9 +2,13 @@ use Rattle.std.proofs.Common.{arith}
 use Rattle.lf_deps.proofs.LookedUp.{selected_count}
 use Rattle.lf_deps.proofs.reading.reach.Goals as goal
 
+pub of-requires-2 : goal.of-requires-2
+of-requires-2 c = (c.args.rules.now, c.in_ok-sources.ensures)
+
 pub reach_of-requires : goal.reach_of-requires
 reach_of-requires c = record {
   index = (c.args.rules.now, c.in_ok-sources.ensures);
+  graph = c.in_ok-graph.ensures;
   rule = omega (arith, selected_count c.args.rules.now c.in_ok-sources.sources c.in_ok-sources.ensures);
 }
 
