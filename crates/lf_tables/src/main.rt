@@ -1,8 +1,9 @@
 //! `lf_tables`: prints what the verdicts on a rule file go by.
 //!
 //! It reads the file from standard input, and writes a line for each label of its rules with the classes of the label, the row of each recorded name in the least
-//! environment, the order of the rules, which rules each of them reaches, whether two of them read a common name, and which recorded names are read in their own making.
-//! Its status is 0. Of a file that is refused it writes why and where, and its status is 3.
+//! environment, the order of the rules, which rules each of them reaches, whether two of them read a common name, which recorded names are read in their own making, and
+//! how many rules they reach together. With the word `--time` it writes only that, and how long it takes to find it. Its status is 0. Of a file that is refused it writes why
+//! and where, and its status is 3.
 #![tactic(auto)]
 
 mod classes;
@@ -11,6 +12,8 @@ mod quoting;
 mod reads;
 mod run;
 mod tables;
+mod timing;
+mod totals;
 
 use std::process::ExitCode;
 

@@ -2,10 +2,12 @@
 ghost use Rattle.std.specs.Prelude.{◌<◌, ◌≤◌, ◌^◌, length, OnOk};
 
 use crate::tables::tables_of;
+use crate::timing::print_time;
 use anyhow::{Result, bail};
 use lf_ast::Rule;
 use lf_base::{Refusal, Seq, Span};
 use lf_lint::accept;
+use std::env;
 use std::io::Read;
 
 /// The longest file that is read, in bytes.
@@ -17,23 +19,46 @@ const MOST_RULES: usize = 4294967295;
 /// The status of a file that is refused.
 const REFUSED: u8 = 3;
 
-/// Writes the tables of the rule file on standard input, or why it is refused, and gives the status.
+/// What the words ask for.
+#[derive(Clone, Copy)]
+enum Asked {
+    Tables,
+    Time,
+}
+
+/// Writes what the words ask for of the rule file on standard input, or why the file is refused, and gives the status.
 pub fn run(rt: &HostRuntime) -> Result<u8> {
+    let asked = read_words(rt)?;
     let mut input = Vec::new(rt.alloc());
     rt.reader().read_to_end(&mut input)?;
     let bytes = input.as_slice();
     ask_length(bytes)?;
     match accept(rt.alloc(), bytes, 0) {
-        Ok(rules) => print_tables(rt, &rules),
+        Ok(rules) => print(rt, asked, &rules),
         Err(refusal) => print_refusal(rt, refusal),
     }
 }
 
-/// Writes the tables of rules.
-fn print_tables(rt: &HostRuntime, rules: &Seq<Rule>) -> Result<u8> {
+/// What the words behind the program's name ask for.
+fn read_words(rt: &HostRuntime) -> Result<Asked> {
+    let words: Vec<String> = env::args(rt)?.skip(1).collect(rt.alloc())?;
+    match words.as_slice() {
+        [] => Ok(Asked::Tables),
+        [word] if word.as_str() == "--time" => Ok(Asked::Time),
+        _ => bail!("words refused"),
+    }
+}
+
+/// Writes what is asked for of rules.
+fn print(rt: &HostRuntime, asked: Asked, rules: &Seq<Rule>) -> Result<u8> {
     ask_count(rules)?;
-    let tables = tables_of(rt.alloc(), rules)?;
-    print!(rt; "{tables}")?;
+    match asked {
+        Asked::Tables => {
+            let tables = tables_of(rt.alloc(), rules)?;
+            print!(rt; "{tables}")?;
+        }
+        Asked::Time => print_time(rt, rules)?,
+    }
     Ok(0)
 }
 

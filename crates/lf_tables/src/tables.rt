@@ -5,6 +5,7 @@ ghost use Rattle.lf_semantics.specs.Listing.{universe_of};
 use crate::classes::write_labels;
 use crate::environment::write_environment;
 use crate::reads::{write_cycles, write_order, write_pairs, write_reaches};
+use crate::totals::write_totals;
 use lf_ast::Rule;
 use lf_base::{Memory, Seq};
 use lf_classes::{ClassError, TextSet, Universe};
@@ -25,7 +26,7 @@ pub fn tables_of(alloc: Global, rules: &Seq<Rule>) -> Result<String, ClassError>
 }
 
 /// The recorded names, each once, in the order in which they come first.
-fn recorded_names(alloc: Global, rules: &[Rule]) -> Result<TextSet, Memory> {
+pub fn recorded_names(alloc: Global, rules: &[Rule]) -> Result<TextSet, Memory> {
     let mut names = TextSet::new(alloc);
     for rule in rules {
         if !rule.alert {
@@ -62,5 +63,6 @@ fn write_reads(
     write_order(alloc, out, rules)?;
     write_reaches(alloc, out, rules)?;
     write_pairs(alloc, out, rules)?;
-    write_cycles(alloc, out, rules, names)
+    write_cycles(alloc, out, rules, names)?;
+    write_totals(alloc, out, rules, names)
 }
