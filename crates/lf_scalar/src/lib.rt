@@ -10,7 +10,7 @@ mod drafted;
 mod escapes;
 mod folded;
 mod header;
-mod lines;
+pub mod lines;
 mod literal;
 mod plain;
 mod plain_line;

@@ -1,4 +1,8 @@
-//! The lines of a source.
+//! The lines of a source: where they end, which blanks they begin with, and what is wrong behind a scalar. It is public for the crates of this
+//! repository that read lines beside scalars; who reads scalars alone calls `read_scalar`.
+//!
+//! Every function takes bytes as they stand in the source, and its places count bytes from 0, in what it is passed. An offset `at` is that of the
+//! first of these bytes in the source.
 ghost use Rattle.std.specs.Prelude.{false, ◌≡◌, ℕ, ◌+◌, ◌<◌, ◌≤◌, ◌^◌, ◌∷◌, length, get_or, take, drop, eqb, IfSome, option_map};
 ghost use Rattle.lf_scalar.specs.Cells.{cell, cells, fault_at as at_cell};
 ghost use Rattle.lf_scalar.specs.Drafted.{refused};
@@ -9,7 +13,7 @@ ghost use Rattle.lf_scalar.specs.Lines.{line, lines_at, IsTextBefore, indent_of,
 
 use lf_base::{Kind, Refusal, Span};
 
-/// Where the first line of some bytes ends.
+/// Where the first line of some bytes ends, in bytes from the first of them.
 #[derive(Clone, Copy, PartialEq, Eq, Debug)]
 pub struct LineEnd {
     /// How many bytes the line has without its end.
@@ -18,9 +22,10 @@ pub struct LineEnd {
     pub feed: usize,
 }
 
-/// Where the first line ends. A carriage return before the line feed is part of the end.
+/// Where the first line of `rest` ends, at a line feed or with `rest`. A carriage return before the line feed is part of the end.
 pub fn line_end(rest: &[u8]) -> LineEnd
     ensures within { (result.text ≤ result.feed) × (result.feed ≤ length rest.now) }
+    ensures feed { result.feed < length rest.now → get_or rest.now result.feed 0 ≡ 10 }
     ensures first { (at : ℕ) → 0 < length rest.now → lines_at at rest.now ≡ line (cells at (take result.text rest.now)) (at + result.feed) ∷ lines_at (at + (result.feed + 1)) (drop (result.feed + 1) rest.now) }
 {
     for (i, byte) in rest.iter().enumerate() {
@@ -47,9 +52,10 @@ fn text_before(rest: &[u8], feed: usize) -> usize
     }
 }
 
-/// How many spaces a line begins with.
+/// How many spaces a line begins with; a tab is none.
 pub fn spaces(line: &[u8]) -> usize
     ensures count { (at : ℕ) → result ≡ indent_of (cells at line.now) }
+    ensures only { (k : ℕ) → k < result → get_or line.now k 0 ≡ 32 }
     ensures after { (at : ℕ) → after_spaces (cells at line.now) ≡ cells (at + result) (drop result line.now) }
     ensures within { result ≤ length line.now }
 {
@@ -61,7 +67,7 @@ pub fn spaces(line: &[u8]) -> usize
     line.len()
 }
 
-/// The bytes from a place on, none where it lies behind the end.
+/// The bytes from a place on, none where it lies at the end or behind it.
 pub fn past(bytes: &[u8], place: usize) -> &[u8]
     ensures { result.now ≡ drop place bytes.now }
 {
@@ -87,7 +93,7 @@ pub fn is_blank_byte(byte: u8) -> bool
     byte == b' ' || byte == b'\t'
 }
 
-/// How many blanks a line begins with. It is blank where these are all its bytes.
+/// How many blanks, spaces and tabs, a line begins with. It is blank where these are all its bytes.
 pub fn blanks(line: &[u8]) -> usize
     ensures within { result ≤ length line.now }
     ensures after { (at : ℕ) → after_blanks (cells at line.now) ≡ cells (at + result) (drop result line.now) }
@@ -101,7 +107,7 @@ pub fn blanks(line: &[u8]) -> usize
     line.len()
 }
 
-/// How many bytes the character takes that begins with this byte.
+/// How many bytes the character takes, in UTF-8, that begins with this byte: 1 to 4.
 pub fn char_len(byte: u8) -> u32
     ensures value { result ≡ 1 + continuation_len byte }
     ensures small { result ≤ 4 }
@@ -114,7 +120,8 @@ pub fn char_len(byte: u8) -> u32
     }
 }
 
-/// The place of the first byte that can't stand behind a scalar on its line, where blanks and a comment may. `line` is what stands behind the scalar.
+/// The place of the first byte that can't stand behind a scalar on its line, where blanks and a comment may, none where all can. `line` is what
+/// stands behind the scalar, without the line's end.
 pub fn wrong_behind(line: &[u8]) -> Option<usize>
     ensures within { IfSome result (λ k. k < length line.now) }
     ensures value { (at : ℕ) → option_map (λ k. cell (get_or line.now k 0) (at + k)) result ≡ first_wrong false (cells at line.now) }
@@ -129,7 +136,7 @@ pub fn wrong_behind(line: &[u8]) -> Option<usize>
     Some(skipped)
 }
 
-/// The refusal whose span is the character at a place of a line that stands at an offset.
+/// The refusal whose span is the character at the place `k` of a line that stands at the offset `at` of its source.
 pub fn fault_at(kind: Kind, line: &[u8], k: usize, at: u32) -> Refusal
     requires within { k < length line.now }
     requires room { at + length line.now + 4 < 2 ^ 32 }

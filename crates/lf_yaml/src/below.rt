@@ -10,9 +10,9 @@ ghost use Rattle.lf_yaml.specs.BlockTurns.{IsBehind, IsBelow};
 
 use crate::entries::{Below, EntryRow};
 use crate::head::{indent, is_item, left};
-use crate::lines::past;
 use crate::row::Row;
 use crate::rows::next_row;
+use lf_scalar::lines::past;
 
 /// What is left of a row behind an ASCII byte at a place.
 pub fn left_behind(row: Row<'_>, sign: usize) -> Option<Row<'_>>

@@ -8,9 +8,9 @@ ghost use Rattle.lf_scalar.specs.Drafted.{shown};
 ghost use Rattle.lf_yaml.specs.Reading.{between_of};
 ghost use Rattle.lf_yaml.specs.Quoting.{kind_of, style_of_quotes};
 
-use crate::lines::before;
 use crate::quotes::Quote;
 use lf_base::Refusal;
+use lf_scalar::lines::before;
 use lf_scalar::{Scalar, Style, read_scalar};
 use std::alloc::Global;
 

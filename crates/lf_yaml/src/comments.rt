@@ -4,7 +4,7 @@ ghost use Rattle.lf_scalar.specs.Cells.{cells};
 ghost use Rattle.lf_scalar.specs.Plain.{before_comment, has_comment};
 ghost use Rattle.lf_scalar.specs.PlainReading.{comment_at};
 
-use crate::lines::is_blank_byte;
+use lf_scalar::lines::is_blank_byte;
 
 /// Whether a `#` stands at a place.
 fn is_hash(line: &[u8], place: usize) -> bool

@@ -16,12 +16,12 @@ use crate::below::first_row;
 use crate::block_turns::begins_block;
 use crate::characters::check_characters;
 use crate::head::{indent, indent_fault, row_fault};
-use crate::lines::wrong_behind;
 use crate::made::empty;
 use crate::nested::node;
 use crate::node::Node;
 use crate::row::Row;
 use lf_base::Refusal;
+use lf_scalar::lines::wrong_behind;
 use std::alloc::Global;
 
 /// The tree of a rule file, by the profile of YAML 1.2 in docs/yaml-profile.md.

@@ -18,7 +18,6 @@ use crate::flow_scalar::{begins_flow_bytes, part_fault, sign_fault};
 use crate::flow_text::flow_text_len;
 use crate::head::byte_fault;
 use crate::keys::{ends_key, find_sign, trimmed_len};
-use crate::lines::{before, blanks, past};
 use crate::part_scalar::quoted_part;
 use crate::parts::{behind, next_part};
 use crate::place::Place;
@@ -27,6 +26,7 @@ use crate::quotes::Quote;
 use crate::row::Row;
 use lf_base::{Kind, Refusal, Span};
 use lf_scalar::Scalar;
+use lf_scalar::lines::{before, blanks, past};
 use std::alloc::Global;
 
 /// What is told where no `:` stands behind a key: what is broken before the next part, or this part.

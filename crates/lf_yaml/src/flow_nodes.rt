@@ -14,11 +14,11 @@ ghost use Rattle.lf_yaml.specs.Shown.{shown};
 use crate::flow_entries::flow_entries;
 use crate::flow_items::flow_items;
 use crate::head::first_fault;
-use crate::lines::{fault_at, past, wrong_behind};
 use crate::node::{Entry, Node};
 use crate::parts::behind;
 use crate::row::Row;
 use lf_base::{Kind, Refusal, Seq, Span};
+use lf_scalar::lines::{fault_at, past, wrong_behind};
 use std::alloc::Global;
 
 /// A sequence.

@@ -9,9 +9,9 @@ ghost use Rattle.lf_yaml.specs.Shown.{shown};
 
 use crate::entry::{is_plain_byte, is_sign_byte};
 use crate::head::{first_fault, is_property};
-use crate::lines::is_blank_byte;
 use crate::row::Row;
 use lf_base::{Kind, Refusal};
+use lf_scalar::lines::is_blank_byte;
 
 /// Whether a byte is one of `[` and `{`.
 pub fn is_bracket(byte: u8) -> bool

@@ -7,7 +7,7 @@ ghost use Rattle.lf_yaml.specs.Flow.{is_flow_sign as is_flow_sign_of, flow_text,
 use crate::comments::find_comment;
 use crate::head::is_apart;
 use crate::keys::{is_flow_sign, trimmed_len};
-use crate::lines::{before, past};
+use lf_scalar::lines::{before, past};
 
 /// How many bytes stand before the first `,` `[` `]` `{` or `}` of a text.
 fn find_flow_sign(text: &[u8]) -> usize

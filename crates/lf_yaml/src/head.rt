@@ -7,9 +7,9 @@ ghost use Rattle.lf_yaml.specs.Rows.{indent as indent_of, left_of, is_thrice as 
 ghost use Rattle.lf_yaml.specs.Heads.{is_item as is_item_of};
 ghost use Rattle.lf_yaml.specs.Shown.{shown};
 
-use crate::lines::{char_len, is_blank_byte, past};
 use crate::row::Row;
 use lf_base::{Kind, Refusal, Span};
+use lf_scalar::lines::{char_len, is_blank_byte, past};
 
 /// The column of a row's first character.
 pub fn indent(row: Row<'_>) -> u32

@@ -10,11 +10,11 @@ ghost use Rattle.lf_yaml.specs.Cursor.{IsRowOf};
 
 use crate::between::quoted_scalar;
 use crate::entries::Key;
-use crate::lines::{before, past};
 use crate::plain::slice_scalar;
 use crate::row::Row;
 use lf_base::{Refusal, Span};
 use lf_scalar::Scalar;
+use lf_scalar::lines::{before, past};
 use std::alloc::Global;
 
 /// The scalar of a key that a row of a file begins with. A key without quotes is its text, `null` and `~` too.

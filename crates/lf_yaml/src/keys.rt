@@ -6,7 +6,7 @@ ghost use Rattle.lf_scalar.specs.Folding.{trimmed};
 ghost use Rattle.lf_yaml.specs.Heads.{key_in};
 ghost use Rattle.lf_yaml.specs.Signs.{stops_of, ends_of, split_at};
 
-use crate::lines::{is_blank_byte, past};
+use lf_scalar::lines::{is_blank_byte, past};
 
 /// Whether a byte is one of `,` `[` `]` `{` `}`, which end a text in a flow collection.
 pub fn is_flow_sign(byte: u8) -> bool

@@ -20,7 +20,6 @@ mod head;
 mod held;
 mod key_set;
 mod keys;
-mod lines;
 mod made;
 mod nested;
 mod new_keys;

@@ -15,12 +15,12 @@ use crate::entry::quote_of;
 use crate::flow_scalar::{begins_flow_bytes, part_fault};
 use crate::flow_text::{find_colon, flow_text_len};
 use crate::head::byte_fault;
-use crate::lines::{before, past};
 use crate::plain::slice_scalar;
 use crate::quotes::{Quote, find_closing};
 use crate::row::Row;
 use lf_base::{Kind, Refusal, Span};
 use lf_scalar::Scalar;
+use lf_scalar::lines::{before, past};
 use std::alloc::Global;
 
 /// Whether a text is `null` or `~`.

@@ -8,11 +8,11 @@ ghost use Rattle.lf_yaml.specs.Parts.{IsNext};
 ghost use Rattle.lf_yaml.specs.Places.{IsPartIn, IsPlaceIn, left_at, rows_at};
 
 use crate::head::{first_fault, indent, indent_fault, is_mark};
-use crate::lines::{blanks, past};
 use crate::place::Place;
 use crate::row::Row;
 use crate::rows::next_row;
 use lf_base::{Kind, Refusal, Span};
+use lf_scalar::lines::{blanks, past};
 
 /// The part that begins on a later line, at its first character. The line is indented, and no mark. The file doesn't end before it.
 pub fn on_line(bytes: &[u8], above: u32, next: usize) -> Result<(Row<'_>, usize), Refusal>
