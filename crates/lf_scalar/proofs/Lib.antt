@@ -50,3 +50,4 @@ pub mod BlockTexts
 pub mod TextLaws
 pub mod OneAnswer
 pub mod MoreWorked
+pub mod SmallBytes

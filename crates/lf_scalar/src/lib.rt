@@ -4,6 +4,7 @@
 mod begins;
 mod block;
 mod body;
+pub mod comments;
 mod copied;
 mod draft;
 mod drafted;

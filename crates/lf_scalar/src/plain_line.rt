@@ -1,45 +1,17 @@
 //! One line of a plain scalar.
-ghost use Rattle.std.specs.Prelude.{◌≡◌, ℕ, ◌+◌, ◌<◌, ◌≤◌, ◌^◌, length, get_or, take, eqb, IfSome, IfOk, is_some, option_map, unwrap_or};
+ghost use Rattle.std.specs.Prelude.{◌≡◌, ℕ, ◌+◌, ◌<◌, ◌≤◌, ◌^◌, length, get_or, take, IfSome, IfOk, option_map};
 ghost use Rattle.lf_scalar.specs.Cells.{cell, cells};
 ghost use Rattle.lf_scalar.specs.Lines.{is_blank};
 ghost use Rattle.lf_scalar.specs.Folding.{trimmed};
 ghost use Rattle.lf_scalar.specs.Plain.{before_comment, has_comment, key_sign, is_commented};
 ghost use Rattle.lf_scalar.specs.QuotedReading.{line_at};
 ghost use Rattle.lf_scalar.specs.Drafted.{TextGives};
-ghost use Rattle.lf_scalar.specs.PlainReading.{comment_at, key_at, unless_key, plain_line};
+ghost use Rattle.lf_scalar.specs.PlainReading.{key_at, unless_key, plain_line};
 
+use crate::comments::find_comment;
 use crate::draft::{Draft, copy};
 use crate::lines::{before, blanks, is_blank_byte, past};
 use lf_base::{Kind, Refusal, Span};
-
-/// Whether a `#` stands at a place.
-fn is_hash(line: &[u8], place: usize) -> bool
-    ensures { result ≡ eqb (get_or line.now place 0) 35 }
-{
-    place < line.len() && line[place] == b'#'
-}
-
-/// Whether a blank stands at a place and the `#` of a comment behind it.
-fn begins_comment(line: &[u8], i: usize) -> bool
-    requires { i < length line.now }
-    ensures { result ≡ comment_at line.now i }
-{
-    is_blank_byte(line[i]) && is_hash(line, i + 1)
-}
-
-/// The place of the blank before a comment, if a line has one.
-pub fn find_comment(line: &[u8]) -> Option<usize>
-    ensures within { IfSome result (λ k. k < length line.now) }
-    ensures text { (at : ℕ) → before_comment (cells at line.now) ≡ cells at (take (unwrap_or result (length line.now)) line.now) }
-    ensures comment { (at : ℕ) → has_comment (cells at line.now) ≡ is_some result }
-{
-    for i in 0..line.len() {
-        if begins_comment(line, i) {
-            return Some(i);
-        }
-    }
-    None
-}
 
 /// How many bytes a text has without the blanks at its end.
 pub fn trimmed_len(text: &[u8]) -> usize

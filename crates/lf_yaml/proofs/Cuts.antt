@@ -1,5 +1,5 @@
 -- Where a line may be cut: its parts are UTF-8.
-use Rattle.std.proofs.Common.{◌≡◌, ℕ, zero, suc, ◌+◌, ◌-◌, ◌<◌, ◌≤◌, Bool, true, false, eqb, ◌&&◌, List, [], ◌∷◌, length, get_or, take, drop, refl, ap, arith, sym, ◌∙◌, subst, inl, inr, length-drop, length-take, ◌||◌}
+use Rattle.std.proofs.Common.{◌≡◌, ℕ, zero, suc, ◌+◌, ◌-◌, ◌<◌, ◌≤◌, Bool, true, false, eqb, List, [], ◌∷◌, length, get_or, take, drop, refl, ap, arith, sym, ◌∙◌, subst, inl, inr, length-drop, length-take, ◌||◌}
 use Rattle.std.specs.Str.{IsCharBoundary, IsUtf8}
 use Rattle.std.proofs.lemmas.Bool.Decides.{eqb_tells}
 use Rattle.std.proofs.lemmas.Bool.{cases_lt}
@@ -10,9 +10,9 @@ use Rattle.lf_scalar.specs.Lines.{lines, first_text, is_blank, after_blanks}
 use Rattle.lf_scalar.specs.declared.quotes.Quotes.{Quotes}
 use Rattle.lf_scalar.specs.declared.quotes.Quotes.TheVariants.{Single, Double}
 use Rattle.lf_scalar.specs.Quoted.{quote_of}
-use Rattle.lf_scalar.specs.PlainReading.{comment_at}
 use Rattle.lf_yaml.specs.Flow.{is_flow_sign}
 use Rattle.lf_scalar.proofs.LineSteps.{line-step, lines-other}
+use Rattle.lf_scalar.proofs.SmallBytes.{small-blank}
 use Rattle.lf_yaml.specs.Shown.{shown}
 use Rattle.lf_yaml.specs.Cursor.{IsRowOf, rows_after}
 use Rattle.lf_yaml.specs.Rows.{Row}
@@ -64,19 +64,6 @@ next-utf8 bytes from r rs utf8 full e b t = row-utf8 bytes r utf8 full (record {
 
 -- ---- behind blanks
 
-pub small-blank : (x at : ℕ) → is_blank (cell x at) ≡ true → x < 128
-small-blank x at h =
-    elim (eqb_tells x 32) [
-      | inl a ↦ omega (arith, a.1)
-      | inr a ↦ elim (eqb_tells x 9) [
-        | inl b ↦ omega (arith, b.1)
-        | inr b ↦ absurd (never (rw (a.0, b.0) at h))
-      ]
-    ]
-  where
-    never : false ≡ true → ⊥
-    never e = cc
-
 pub cells-length : (at : ℕ) (xs : List ℕ) → length (cells at xs) ≡ length xs
 cells-length at [] = refl
 cells-length at (x ∷ xs) = ap suc (cells-length (suc at) xs)
@@ -113,16 +100,6 @@ small-sign b at h =
   where
     never : false ≡ true → ⊥
     never e = cc
-
-and-left : (a b : Bool) → (a && b) ≡ true → a ≡ true
-and-left true b h = refl
-and-left false b h = h
-
--- the blank before a comment
-pub small-comment : (line : List ℕ) (i : ℕ) → comment_at line i ≡ true → get_or line i 0 < 128
-small-comment [] i h = omega arith
-small-comment (b ∷ line) zero h = small-blank b 0 (and-left (is_blank (cell b 0)) (eqb (get_or line 0 0) 35) h)
-small-comment (b ∷ line) (suc i) h = small-comment line i h
 
 abbrev pub IsSmallAt : List ℕ → ℕ → Type 0
 IsSmallAt text k = k < length text → get_or text k 0 < 128

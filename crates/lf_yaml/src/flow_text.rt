@@ -4,9 +4,9 @@ ghost use Rattle.lf_scalar.specs.Cells.{cell, cells};
 ghost use Rattle.lf_scalar.specs.Plain.{before_comment};
 ghost use Rattle.lf_yaml.specs.Flow.{is_flow_sign as is_flow_sign_of, flow_text, later_colon};
 
-use crate::comments::find_comment;
 use crate::head::is_apart;
 use crate::keys::{is_flow_sign, trimmed_len};
+use lf_scalar::comments::find_comment;
 use lf_scalar::lines::{before, past};
 
 /// How many bytes stand before the first `,` `[` `]` `{` or `}` of a text.

@@ -5,7 +5,6 @@ mod below;
 mod between;
 mod block_turns;
 mod characters;
-mod comments;
 mod document;
 mod entries;
 mod entry;

@@ -1,6 +1,6 @@
 use Rattle.std.proofs.Common.{sym, ◌∙◌, ◌≡◌, ◌-◌, arith, get_or}
 use Rattle.lf_scalar.proofs.PlainText.{trimmed-is}
-use Rattle.lf_yaml.proofs.Cuts.{small-blank}
+use Rattle.lf_scalar.proofs.SmallBytes.{small-blank}
 use Rattle.lf_yaml.proofs.keys.trimmed_len.Goals as goal
 
 pub returns-after-loop-len-clause-text : goal.returns-after-loop-len-clause-text
