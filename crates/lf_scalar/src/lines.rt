@@ -1,4 +1,4 @@
-//! The lines of a source: where they end, which blanks they begin with, and what is wrong behind a scalar. It is public for the crates of this
+//! The lines of a source: where they end, which blanks they begin and end with, and what is wrong behind a scalar. It is public for the crates of this
 //! repository that read lines beside scalars; who reads scalars alone calls `read_scalar`.
 //!
 //! Every function takes bytes as they stand in the source, and its places count bytes from 0, in what it is passed. An offset `at` is that of the
@@ -7,6 +7,7 @@ ghost use Rattle.std.specs.Prelude.{false, ◌≡◌, ℕ, ◌+◌, ◌<◌, ◌
 ghost use Rattle.lf_scalar.specs.Cells.{cell, cells, fault_at as at_cell};
 ghost use Rattle.lf_scalar.specs.Drafted.{refused};
 ghost use Rattle.lf_scalar.specs.QuotedReading.{wrong_behind as first_wrong};
+ghost use Rattle.lf_scalar.specs.Folding.{trimmed};
 ghost use Rattle.std.specs.List.{list_all};
 ghost use Rattle.std.specs.Str.{continuation_len};
 ghost use Rattle.lf_scalar.specs.Lines.{line, lines_at, IsTextBefore, indent_of, is_blank, after_blanks, after_spaces};
@@ -105,6 +106,22 @@ pub fn blanks(line: &[u8]) -> usize
         }
     }
     line.len()
+}
+
+/// How many bytes a text has without the blanks, spaces and tabs, at its end.
+pub fn trimmed_len(text: &[u8]) -> usize
+    ensures within { result ≤ length text.now }
+    ensures text { (at : ℕ) → trimmed is_blank (cells at text.now) ≡ cells at (take result text.now) }
+    ensures ascii { result < length text.now → get_or text.now result 0 < 128 }
+{
+    let mut len = text.len();
+    while len > 0 {
+        if !is_blank_byte(text[len - 1]) {
+            break;
+        }
+        len -= 1;
+    }
+    len
 }
 
 /// How many bytes the character takes, in UTF-8, that begins with this byte: 1 to 4.

@@ -10,23 +10,8 @@ ghost use Rattle.lf_scalar.specs.PlainReading.{key_at, unless_key, plain_line};
 
 use crate::comments::find_comment;
 use crate::draft::{Draft, copy};
-use crate::lines::{before, blanks, is_blank_byte, past};
+use crate::lines::{before, blanks, is_blank_byte, past, trimmed_len};
 use lf_base::{Kind, Refusal, Span};
-
-/// How many bytes a text has without the blanks at its end.
-pub fn trimmed_len(text: &[u8]) -> usize
-    ensures within { result ≤ length text.now }
-    ensures text { (at : ℕ) → trimmed is_blank (cells at text.now) ≡ cells at (take result text.now) }
-{
-    let mut len = text.len();
-    while len > 0 {
-        if !is_blank_byte(text[len - 1]) {
-            break;
-        }
-        len -= 1;
-    }
-    len
-}
 
 /// Whether a `:` stands at a place and a blank or the text's end behind it.
 fn is_key_sign(text: &[u8], i: usize) -> bool

@@ -10,10 +10,10 @@ ghost use Rattle.lf_yaml.specs.Shown.{shown};
 
 use crate::entries::{Head, Key};
 use crate::head::{is_apart, is_left_out};
-use crate::keys::{find_sign, trimmed_len};
+use crate::keys::find_sign;
 use crate::quotes::{Quote, find_closing};
 use crate::row::Row;
-use lf_scalar::lines::{before, blanks, is_blank_byte, past};
+use lf_scalar::lines::{before, blanks, is_blank_byte, past, trimmed_len};
 
 /// Whether a byte begins a plain scalar whatever follows it: it is no blank, and none of the signs of the format.
 pub fn is_plain_byte(byte: u8) -> bool

@@ -17,7 +17,7 @@ use crate::entry::quote_of;
 use crate::flow_scalar::{begins_flow_bytes, part_fault, sign_fault};
 use crate::flow_text::flow_text_len;
 use crate::head::byte_fault;
-use crate::keys::{ends_key, find_sign, trimmed_len};
+use crate::keys::{ends_key, find_sign};
 use crate::part_scalar::quoted_part;
 use crate::parts::{behind, next_part};
 use crate::place::Place;
@@ -26,7 +26,7 @@ use crate::quotes::Quote;
 use crate::row::Row;
 use lf_base::{Kind, Refusal, Span};
 use lf_scalar::Scalar;
-use lf_scalar::lines::{before, blanks, past};
+use lf_scalar::lines::{before, blanks, past, trimmed_len};
 use std::alloc::Global;
 
 /// What is told where no `:` stands behind a key: what is broken before the next part, or this part.

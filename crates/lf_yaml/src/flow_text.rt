@@ -5,9 +5,9 @@ ghost use Rattle.lf_scalar.specs.Plain.{before_comment};
 ghost use Rattle.lf_yaml.specs.Flow.{is_flow_sign as is_flow_sign_of, flow_text, later_colon};
 
 use crate::head::is_apart;
-use crate::keys::{is_flow_sign, trimmed_len};
+use crate::keys::is_flow_sign;
 use lf_scalar::comments::find_comment;
-use lf_scalar::lines::{before, past};
+use lf_scalar::lines::{before, past, trimmed_len};
 
 /// How many bytes stand before the first `,` `[` `]` `{` or `}` of a text.
 fn find_flow_sign(text: &[u8]) -> usize

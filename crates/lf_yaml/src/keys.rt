@@ -1,8 +1,7 @@
 //! Keys without quotes: where their `:` stands.
-ghost use Rattle.std.specs.Prelude.{true, ◌≡◌, ◌&&◌, eqb, ℕ, ◌+◌, ◌<◌, ◌≤◌, length, get_or, take, drop, IfSome, option_map};
+ghost use Rattle.std.specs.Prelude.{true, ◌≡◌, ◌&&◌, eqb, ℕ, ◌+◌, ◌<◌, length, get_or, drop, IfSome, option_map};
 ghost use Rattle.lf_scalar.specs.Cells.{cell, cells};
 ghost use Rattle.lf_scalar.specs.Lines.{is_blank, begins_with};
-ghost use Rattle.lf_scalar.specs.Folding.{trimmed};
 ghost use Rattle.lf_yaml.specs.Heads.{key_in};
 ghost use Rattle.lf_yaml.specs.Signs.{stops_of, ends_of, split_at};
 
@@ -34,22 +33,6 @@ fn begins_hash(text: &[u8]) -> bool
         [_, ..] => false,
         [] => false,
     }
-}
-
-/// How many bytes a text has without the blanks at its end.
-pub fn trimmed_len(text: &[u8]) -> usize
-    ensures within { result ≤ length text.now }
-    ensures text { (at : ℕ) → trimmed is_blank (cells at text.now) ≡ cells at (take result text.now) }
-    ensures ascii { result < length text.now → get_or text.now result 0 < 128 }
-{
-    let mut len = text.len();
-    while len > 0 {
-        if !is_blank_byte(text[len - 1]) {
-            break;
-        }
-        len -= 1;
-    }
-    len
 }
 
 /// Whether a byte is the `:` that ends a key before this text.

@@ -1,7 +1,7 @@
 use Rattle.std.proofs.Common.{sym, ◌∙◌, ◌≡◌, ◌-◌, arith, get_or}
 use Rattle.lf_scalar.proofs.PlainText.{trimmed-is}
 use Rattle.lf_scalar.proofs.SmallBytes.{small-blank}
-use Rattle.lf_yaml.proofs.keys.trimmed_len.Goals as goal
+use Rattle.lf_scalar.proofs.lines.trimmed_len.Goals as goal
 
 pub returns-after-loop-len-clause-text : goal.returns-after-loop-len-clause-text
 returns-after-loop-len-clause-text c = λ at. trimmed-is at c.args.text.now c.loop-len.len c.loop-len.invariant.0 c.loop-len.invariant.1 (λ m e. absurd (omega arith))
