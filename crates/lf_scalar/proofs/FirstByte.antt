@@ -83,3 +83,8 @@ pub begins-is : (s : Style) (end at : ℕ) (rest behind : List ℕ) (first secon
     → b ≡ begins s (first_text (lines end (cells at rest)))
 begins-is s end at [] behind first second b d f g e = e ∙ rw (f, lines-nil end) (sym (begins-none s second))
 begins-is s end at (x ∷ xs) behind first second b d f g e = e ∙ rw (f, g, d) (sym (begins-step s end at x xs))
+
+-- by what its first two bytes are
+pub plain-begins : (byte : ℕ) (second : Option ℕ) (p s f : Bool) → is_plain_byte (cell byte 0) ≡ p → is_sign (cell byte 0) ≡ s → is_full_byte second ≡ f → begins_by style.Plain (Some byte) second ≡ (p || (s && f))
+plain-begins byte second p s f d e g =
+    ap (λ (b : Bool). b || (is_sign (cell byte 0) && is_full_byte second)) d ∙ ap (λ (b : Bool). p || (b && is_full_byte second)) e ∙ ap (λ (b : Bool). p || (s && b)) g

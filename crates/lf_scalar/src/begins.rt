@@ -1,13 +1,13 @@
 //! Whether a scalar begins somewhere.
 ghost use Rattle.std.specs.Prelude.{◌≡◌, ℕ, length, get_or, eqb, IsTrue, ◌↔◌};
 ghost use Rattle.std.specs.Str.{IsCharBoundary};
-ghost use Rattle.lf_scalar.specs.Cells.{cell, cells};
+ghost use Rattle.lf_scalar.specs.Cells.{cells};
 ghost use Rattle.lf_scalar.specs.Lines.{lines, first_text};
-ghost use Rattle.lf_scalar.specs.Plain.{is_plain_byte, is_sign};
 ghost use Rattle.lf_scalar.specs.Scalars.{BeginsAt};
 ghost use Rattle.lf_scalar.specs.BeginsReading.{first_byte_of, is_full_byte, begins_by};
 
 use crate::lines::{is_blank_byte, past};
+use crate::plain_signs::{is_plain_byte, is_sign_byte};
 use crate::scalar::Style;
 
 /// Whether a scalar of a style begins at an offset of a file, as `read_scalar` asks: a character begins there, and a scalar of the style begins with it. It takes a fixed time.
@@ -54,20 +54,6 @@ fn is_feed_at(rest: &[u8], place: usize) -> bool
     place < rest.len() && rest[place] == b'\n'
 }
 
-/// Whether a byte begins a plain scalar whatever follows it: it is no blank, and none of the signs of the format.
-fn is_plain(byte: u8) -> bool
-    ensures { result ≡ is_plain_byte (cell byte 0) }
-{
-    !is_blank_byte(byte) && !b"-?:,[]{}#&*!|>'\"%@`".contains(&byte)
-}
-
-/// Whether a byte is one of `-`, `?` and `:`, which begin a plain scalar where a character other than a blank follows.
-fn is_mark(byte: u8) -> bool
-    ensures { result ≡ is_sign (cell byte 0) }
-{
-    byte == b'-' || byte == b'?' || byte == b':'
-}
-
 /// Whether there is a byte, and it is no blank.
 fn is_full(byte: Option<u8>) -> bool
     ensures { result ≡ is_full_byte byte }
@@ -84,7 +70,7 @@ fn begins_with(style: Style, first: Option<u8>, second: Option<u8>) -> bool
 {
     match first {
         Some(byte) => match style {
-            Style::Plain => is_plain(byte) || is_mark(byte) && is_full(second),
+            Style::Plain => is_plain_byte(byte) || is_sign_byte(byte) && is_full(second),
             Style::Single => byte == b'\'',
             Style::Double => byte == b'"',
             Style::Literal => byte == b'|',

@@ -15,6 +15,7 @@ pub mod lines;
 mod literal;
 mod plain;
 mod plain_line;
+pub mod plain_signs;
 mod quoted;
 mod quoted_scalar;
 mod quotes;

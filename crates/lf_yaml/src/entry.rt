@@ -1,7 +1,7 @@
 //! Whether a row begins an entry.
 ghost use Rattle.std.specs.Prelude.{◌≡◌, ℕ, suc, ◌+◌, ◌<◌, ◌≤◌, ◌^◌, length, get_or, option_map, IfSome, None, Some};
 ghost use Rattle.lf_scalar.specs.Cells.{cell, cells};
-ghost use Rattle.lf_scalar.specs.Plain.{begins_plain as begins_plain_of, is_plain_byte as is_plain_byte_of, is_sign as is_sign_of};
+ghost use Rattle.lf_scalar.specs.Plain.{begins_plain as begins_plain_of};
 ghost use Rattle.lf_yaml.specs.Reading.{quotes_of, entry_by, entry_of, opens_quote as opens_quote_of, sign_behind as sign_behind_of};
 ghost use Rattle.lf_yaml.specs.Quoting.{kind_of};
 ghost use Rattle.lf_scalar.specs.Quoted.{quote_of as quote_byte};
@@ -13,21 +13,8 @@ use crate::head::{is_apart, is_left_out};
 use crate::keys::find_sign;
 use crate::quotes::{Quote, find_closing};
 use crate::row::Row;
-use lf_scalar::lines::{before, blanks, is_blank_byte, past, trimmed_len};
-
-/// Whether a byte begins a plain scalar whatever follows it: it is no blank, and none of the signs of the format.
-pub fn is_plain_byte(byte: u8) -> bool
-    ensures { (at : ℕ) → result ≡ is_plain_byte_of (cell byte at) }
-{
-    !is_blank_byte(byte) && !b"-?:,[]{}#&*!|>'\"%@`".contains(&byte)
-}
-
-/// Whether a byte is one of `-`, `?` and `:`, which begin a plain scalar where a character other than a blank follows.
-pub fn is_sign_byte(byte: u8) -> bool
-    ensures { (at : ℕ) → result ≡ is_sign_of (cell byte at) }
-{
-    byte == b'-' || byte == b'?' || byte == b':'
-}
+use lf_scalar::lines::{before, blanks, past, trimmed_len};
+use lf_scalar::plain_signs::{is_plain_byte, is_sign_byte};
 
 /// Whether a text begins as a plain scalar does.
 pub fn begins_plain(text: &[u8]) -> bool

@@ -7,11 +7,11 @@ ghost use Rattle.lf_base.specs.declared.kind.Kind.TheVariants.{LeftOut, NotANode
 ghost use Rattle.lf_yaml.specs.Rows.{is_property as is_property_of};
 ghost use Rattle.lf_yaml.specs.Shown.{shown};
 
-use crate::entry::{is_plain_byte, is_sign_byte};
 use crate::head::{first_fault, is_property};
 use crate::row::Row;
 use lf_base::{Kind, Refusal};
 use lf_scalar::lines::is_blank_byte;
+use lf_scalar::plain_signs::{is_plain_byte, is_sign_byte};
 
 /// Whether a byte is one of `[` and `{`.
 pub fn is_bracket(byte: u8) -> bool
