@@ -1,6 +1,6 @@
 -- Laws of cells.
 use Rattle.std.proofs.Common.{◌≡◌, ℕ, zero, suc, ◌+◌, ◌<◌, List, [], ◌∷◌, ◌++◌, length, get_or, take, drop, refl, ap, arith, add-one, drop-cons, ◌∙◌}
-use Rattle.lf_scalar.specs.Cells.{Cell, cell, cells}
+use Rattle.lf_scalar.specs.Cells.{Cell, cell, cells, bytes_of}
 
 pub cells-drop : (at : ℕ) (line : List ℕ) (i : ℕ) → i < length line → cells (at + i) (drop i line) ≡ cell (get_or line i 0) (at + i) ∷ cells (at + (i + 1)) (drop (i + 1) line)
 cells-drop at line i lt =
@@ -22,3 +22,7 @@ cells-take-suc at (x ∷ xs) (suc i) lt =
 
 pub cells-take : (at : ℕ) (line : List ℕ) (i : ℕ) → i < length line → cells at (take (i + 1) line) ≡ cells at (take i line) ++ cell (get_or line i 0) (at + i) ∷ []
 cells-take at line i lt = rw add-one (cells-take-suc at line i lt)
+
+pub cells-bytes : (at : ℕ) (bytes : List ℕ) → bytes_of (cells at bytes) ≡ bytes
+cells-bytes at [] = refl
+cells-bytes at (b ∷ bytes) = ap (λ (bs : List ℕ). b ∷ bs) (cells-bytes (suc at) bytes)

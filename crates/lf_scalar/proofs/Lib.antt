@@ -51,3 +51,4 @@ pub mod TextLaws
 pub mod OneAnswer
 pub mod MoreWorked
 pub mod SmallBytes
+pub mod NullText

@@ -16,6 +16,7 @@ use Rattle.lf_scalar.specs.Block.{IsJoined, IsFolded, IsBlock, content_indent, b
 use Rattle.std.specs.List.{flat_map}
 use Rattle.lf_scalar.specs.Scalars.{least_above, begins, source_at, BeginsAt, IsOfStyle, IsQuotedAt, IsScalarAt}
 use Rattle.lf_scalar.specs.Offsets.{AreOffsets}
+use Rattle.lf_scalar.proofs.Cells.{cells-bytes}
 use Rattle.lf_scalar.proofs.Climbing as list
 use Rattle.lf_scalar.proofs.LineCuts.{has-line, first-line-of}
 use Rattle.lf_scalar.proofs.Parts.{Utf8, utf8-before, utf8-behind}
@@ -81,10 +82,6 @@ style-utf8 style.Double above end [] v u b h = absurd h
 style-utf8 style.Double above end (c ∷ src) v u b h = quoted-text-utf8 Double above end c src v (first-byte end 34 c src b) u h
 style-utf8 style.Literal above end src v u b h = block-text-utf8 IsJoined joins-utf8 above end src v u h
 style-utf8 style.Folded above end src v u b h = block-text-utf8 IsFolded folds-utf8 above end src v u h
-
-cells-bytes : (at : ℕ) (bytes : List ℕ) → bytes_of (cells at bytes) ≡ bytes
-cells-bytes at [] = refl
-cells-bytes at (b ∷ bytes) = ap (λ (bs : List ℕ). b ∷ bs) (cells-bytes (suc at) bytes)
 
 -- the text of a scalar of a UTF-8 file is UTF-8
 pub utf8-text : (bytes : List ℕ) (at : ℕ) (indent : ℤ) (s : Style) (v : Value) → IsUtf8 bytes → BeginsAt bytes at s → IsScalarAt bytes at indent s v → IsUtf8 v.text

@@ -13,6 +13,7 @@ mod folded;
 mod header;
 pub mod lines;
 mod literal;
+pub mod null_text;
 mod plain;
 mod plain_line;
 pub mod plain_signs;

@@ -1,5 +1,5 @@
 //! Plain scalars, over one line or several.
-ghost use Rattle.std.specs.Prelude.{◌≡◌, ℕ, ◌+◌, ◌<◌, ◌≤◌, ◌^◌, ◌||◌, true, length, IfOk, IfSome, codes, bytes_eq};
+ghost use Rattle.std.specs.Prelude.{◌≡◌, ℕ, ◌+◌, ◌<◌, ◌≤◌, ◌^◌, true, length, IfOk, IfSome};
 ghost use Rattle.lf_scalar.specs.declared.scalar.Style.TheVariants as style;
 ghost use Rattle.lf_scalar.specs.Cells.{cell, cells, front, end_of, Gives};
 ghost use Rattle.lf_scalar.specs.Lines.{lines_at, first_text};
@@ -13,6 +13,7 @@ ghost use Rattle.lf_scalar.specs.PlainReading.{IsOnward, Steps, plain_line, plai
 use crate::draft::{Draft, fold_break};
 use crate::drafted::Drafted;
 use crate::lines::{before, blanks, line_end, past, spaces};
+use crate::null_text::is_null_text;
 use crate::plain_line::push_plain_line;
 use lf_base::{Kind, Refusal, Span};
 use std::alloc::Global;
@@ -154,13 +155,6 @@ pub fn push_plain(draft: &mut Draft, above: usize, rest: &[u8], at: u32) -> Resu
         }
         Err(refusal) => Err(refusal),
     }
-}
-
-/// Whether a plain scalar is `null` or `~`, which stand for the empty text.
-fn is_null_text(text: &[u8]) -> bool
-    ensures { result ≡ (bytes_eq text.now (codes "null") || bytes_eq text.now (codes "~")) }
-{
-    text == b"null".as_slice() || text == b"~".as_slice()
 }
 
 /// The scalar whose lines gave a text. It begins at an offset and ends at most at another.

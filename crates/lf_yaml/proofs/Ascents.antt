@@ -1,11 +1,11 @@
 -- Offsets one after the other, and the scalar that is a part of one line as it stands.
-use Rattle.std.proofs.Common.{◌≡◌, ℕ, zero, suc, ◌+◌, ◌<◌, ◌≤◌, List, [], ◌∷◌, ◌++◌, length, get_or, take, length-take, true, false, Bool, Result, Ok, ◌||◌, refl, ap, arith, sym, ◌∙◌}
+use Rattle.std.proofs.Common.{◌≡◌, ℕ, zero, suc, ◌+◌, ◌<◌, ◌≤◌, List, [], ◌∷◌, ◌++◌, length, get_or, take, length-take, true, false, Result, Ok, refl, ap, arith, sym, ◌∙◌}
 use Rattle.lf_base.specs.declared.place.Span.{Span}
 use Rattle.lf_scalar.specs.Cells.{Cell, cells, Value, made, bytes_of, offsets_of, span}
 use Rattle.lf_scalar.specs.Offsets.{AreOffsets}
 use Rattle.lf_scalar.specs.Cells.{end_of, Fault}
-use Rattle.std.specs.Prelude.{bytes_eq, codes}
 use Rattle.lf_scalar.specs.Plain.{is_null, value_of}
+use Rattle.lf_scalar.proofs.Cells.{cells-bytes}
 use Rattle.lf_yaml.specs.Heads.{Bare}
 use Rattle.lf_yaml.specs.Reading.{key_of}
 use Rattle.lf_yaml.specs.Ascending.{offsets_from}
@@ -13,10 +13,6 @@ use Rattle.lf_yaml.specs.Ascending.{offsets_from}
 pub offsets-push : (at n : ℕ) → offsets_from at n ++ (at + n) ∷ [] ≡ offsets_from at (suc n)
 offsets-push at zero = let z : at + 0 ≡ at = omega arith in ap (λ (m : ℕ). m ∷ []) z
 offsets-push at (suc n) = let z : at + suc n ≡ suc at + n = omega arith in ap (λ (m : ℕ). at ∷ (offsets_from (suc at) n ++ m ∷ [])) z ∙ ap (λ (xs : List ℕ). at ∷ xs) (offsets-push (suc at) n)
-
-pub cells-bytes : (at : ℕ) (xs : List ℕ) → bytes_of (cells at xs) ≡ xs
-cells-bytes at [] = refl
-cells-bytes at (x ∷ xs) = ap (λ (ys : List ℕ). x ∷ ys) (cells-bytes (suc at) xs)
 
 pub cells-offsets : (at : ℕ) (xs : List ℕ) → offsets_of (cells at xs) ≡ offsets_from at (length xs)
 cells-offsets at [] = refl
@@ -102,7 +98,3 @@ value-text first at len part text e le p h =
     ∙ rw h
     (ap (λ (m : ℕ). good (made (cells at (take len text)) m (span at (at + len)))) whole ∙ ap (λ (m : ℕ). good (made (cells at (take len text)) (end_of first.at (cells at (take len text))) (span at m))) end
     ∙ ap (λ (m : ℕ). good (made (cells at (take len text)) (end_of first.at (cells at (take len text))) (span m (end_of first.at (cells at (take len text)))))) (sym e))
-
-pub null-by : (at : ℕ) (text : List ℕ) (a b : Bool) → bytes_eq text (codes "null") ≡ a → bytes_eq text (codes "~") ≡ b → is_null (cells at text) ≡ (a || b)
-null-by at text a b e f =
-    ap (λ (xs : List ℕ). bytes_eq xs (codes "null") || bytes_eq xs (codes "~")) (cells-bytes at text) ∙ ap (λ (x : Bool). x || bytes_eq text (codes "~")) e ∙ ap (λ (x : Bool). a || x) f

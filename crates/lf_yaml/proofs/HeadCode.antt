@@ -19,7 +19,7 @@ use Rattle.lf_yaml.specs.Headed.{headed}
 use Rattle.lf_yaml.specs.BlockTurns.{IsBehind}
 use Rattle.lf_yaml.specs.declared.row.Row.{Row as CodeRow}
 use Rattle.lf_yaml.specs.declared.entries.Head.{Head as CodeHead}
-use Rattle.lf_yaml.proofs.Ascents.{cells-bytes}
+use Rattle.lf_scalar.proofs.Cells.{cells-bytes}
 use Rattle.lf_yaml.proofs.HeadLaws.{tells, entry-view}
 use Rattle.lf_yaml.proofs.Placed.{placed-left, drops}
 use Rattle.lf_yaml.proofs.RowCode.{text-shown}

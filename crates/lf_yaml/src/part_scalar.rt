@@ -2,7 +2,7 @@
 ghost use Rattle.std.specs.Prelude.{◌≡◌, ℕ, ◌+◌, ◌<◌, ◌≤◌, ◌^◌, length, get_or, take, drop, Ok, Some, None, IfOk};
 ghost use Rattle.std.specs.Str.{IsCharBoundary, IsUtf8};
 ghost use Rattle.lf_scalar.specs.Cells.{cells, Gives};
-ghost use Rattle.lf_scalar.specs.Plain.{is_null as is_null_of, value_of};
+ghost use Rattle.lf_scalar.specs.Plain.{value_of};
 ghost use Rattle.lf_scalar.specs.Drafted.{shown as scalar_shown};
 ghost use Rattle.lf_scalar.specs.Quoted.{quote_of as quote_byte};
 ghost use Rattle.lf_yaml.specs.Reading.{part_by, flow_scalar};
@@ -21,14 +21,8 @@ use crate::row::Row;
 use lf_base::{Kind, Refusal, Span};
 use lf_scalar::Scalar;
 use lf_scalar::lines::{before, past};
+use lf_scalar::null_text::is_null_text;
 use std::alloc::Global;
-
-/// Whether a text is `null` or `~`.
-pub fn is_null(text: &[u8]) -> bool
-    ensures { (at : ℕ) → result ≡ is_null_of (cells at text.now) }
-{
-    text == b"null".as_slice() || text == b"~".as_slice()
-}
 
 /// The plain scalar that a part begins, which has its first `len` bytes. `null` and `~` are the empty text.
 pub fn plain_scalar(alloc: Global, part: Row<'_>, len: usize) -> Result<Scalar, Refusal>
@@ -42,7 +36,7 @@ pub fn plain_scalar(alloc: Global, part: Row<'_>, len: usize) -> Result<Scalar, 
         start: part.at,
         end,
     };
-    if is_null(text) {
+    if is_null_text(text) {
         slice_scalar(alloc, &[], end, span)
     } else {
         slice_scalar(alloc, text, part.at, span)

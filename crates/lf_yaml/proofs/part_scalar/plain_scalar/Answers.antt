@@ -6,16 +6,16 @@ use Rattle.lf_yaml.specs.Shown.{shown}
 use Rattle.lf_yaml.proofs.Ascents.{value-null, value-text}
 use Rattle.lf_yaml.proofs.part_scalar.plain_scalar.Goals as goal
 
-pub returns-then-is_null : goal.returns-then-is_null
-returns-then-is_null c =
+pub returns-then-is_null_text : goal.returns-then-is_null_text
+returns-then-is_null_text c =
     subst (Gives scalar_shown c.slice_scalar.result)
     (value-null (shown c.args.part).first c.args.part.at c.args.len c.args.part.text.now refl c.requires.within
-    (ap (λ (xs : List ℕ). is_null (cells c.args.part.at xs)) (sym c.before-text.ensures) ∙ sym (c.is_null.ensures c.args.part.at) ∙ c.if-is_null.true))
+    (ap (λ (xs : List ℕ). is_null (cells c.args.part.at xs)) (sym c.before-text.ensures) ∙ sym (c.is_null_text.ensures.value c.args.part.at) ∙ c.if-is_null_text.true))
     c.slice_scalar.ensures
 
-pub returns-else-is_null : goal.returns-else-is_null
-returns-else-is_null c =
-    subst (Gives scalar_shown c.slice_scalar-else-is_null.result)
+pub returns-else-is_null_text : goal.returns-else-is_null_text
+returns-else-is_null_text c =
+    subst (Gives scalar_shown c.slice_scalar-else-is_null_text.result)
     (value-text (shown c.args.part).first c.args.part.at c.args.len c.before-text.result.now c.args.part.text.now refl c.requires.within c.before-text.ensures
-    (ap (λ (xs : List ℕ). is_null (cells c.args.part.at xs)) (sym c.before-text.ensures) ∙ sym (c.is_null.ensures c.args.part.at) ∙ c.if-is_null.false))
-    c.slice_scalar-else-is_null.ensures
+    (ap (λ (xs : List ℕ). is_null (cells c.args.part.at xs)) (sym c.before-text.ensures) ∙ sym (c.is_null_text.ensures.value c.args.part.at) ∙ c.if-is_null_text.false))
+    c.slice_scalar-else-is_null_text.ensures
