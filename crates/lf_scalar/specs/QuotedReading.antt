@@ -8,8 +8,8 @@ use Rattle.lf_scalar.specs.declared.escapes.Given.TheVariants as given_of
 use Rattle.lf_base.specs.declared.refusal.Refusal.{Refusal}
 use Rattle.lf_scalar.specs.declared.quoted.AtBreak.{AtBreak}
 use Rattle.lf_scalar.specs.declared.quoted.AtBreak.TheVariants as at_break
-use Rattle.lf_scalar.specs.declared.quoted.Step.{Step}
-use Rattle.lf_scalar.specs.declared.quoted.Step.TheVariants as step
+use Rattle.lf_scalar.specs.declared.quotes.Step.{Step}
+use Rattle.lf_scalar.specs.declared.quotes.Step.TheVariants as step
 use Rattle.lf_scalar.specs.Cells.{Cell, cell, cells, Value, made, span, Fault, fault, fault_at, front, Fails, ◌>>=◌}
 use Rattle.lf_scalar.specs.Lines.{Line, line, lines, first_text, begins_with, is_blank, after_spaces, indent_of, is_blank_line}
 use Rattle.lf_scalar.specs.Folding.{trimmed}

@@ -19,7 +19,7 @@ mod plain_line;
 pub mod plain_signs;
 mod quoted;
 mod quoted_scalar;
-mod quotes;
+pub mod quotes;
 mod reader;
 mod scalar;
 #[cfg(test)]

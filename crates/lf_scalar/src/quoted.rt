@@ -1,7 +1,7 @@
 //! Scalars between quotes.
-ghost use Rattle.std.specs.Prelude.{false, ◌≡◌, ℕ, ◌+◌, ◌<◌, ◌≤◌, ◌^◌, length, get_or, drop, cond, ◌++◌, IfSome, IfOk, OnOk, option_map};
+ghost use Rattle.std.specs.Prelude.{false, ◌≡◌, ℕ, ◌+◌, ◌<◌, ◌≤◌, ◌^◌, length, drop, cond, ◌++◌, IfOk, OnOk};
 ghost use Rattle.lf_scalar.specs.Cells.{Fails, cells};
-ghost use Rattle.lf_scalar.specs.QuotedReading.{closing_of, split_of, IsStep, Reaches, is_blank_given, LineGives, broken, line_at, line_of, next_line, begins_bad_escape as bad_escape_first};
+ghost use Rattle.lf_scalar.specs.QuotedReading.{Reaches, is_blank_given, LineGives, broken, line_at, line_of, next_line, begins_bad_escape as bad_escape_first};
 ghost use Rattle.lf_base.specs.declared.kind.Kind.TheVariants.{BadEscape, BadIndent};
 ghost use Rattle.lf_scalar.specs.Quoted.{filled};
 ghost use Rattle.lf_scalar.specs.Lines.{is_blank};
@@ -12,60 +12,6 @@ use crate::escapes::{Given, begins_bad_escape, piece, push_given};
 use crate::lines::{blanks, fault_at, past, spaces};
 use crate::quotes::Quotes;
 use lf_base::{Kind, Memory, Refusal, Span};
-
-/// The place of the quote that closes.
-pub fn find_closing(kind: Quotes, line: &[u8], at: u32) -> Option<usize>
-    ensures within { IfSome result (λ k. k < length line.now) }
-    ensures value { option_map (split_of at line.now) result ≡ closing_of kind 0 (cells at line.now) }
-{
-    let mut skip = false;
-    for (i, byte) in line.iter().enumerate() {
-        if skip {
-            skip = false;
-        } else {
-            match step_of(kind, line, i, *byte) {
-                Step::Closes => return Some(i),
-                Step::TakesNext => skip = true,
-                Step::Passes => {}
-            }
-        }
-    }
-    None
-}
-
-/// What a byte between quotes does.
-#[derive(Clone, Copy, PartialEq, Eq, Debug)]
-enum Step {
-    /// It is the quote that closes.
-    Closes,
-    /// It takes the byte behind it.
-    TakesNext,
-    /// It stands alone.
-    Passes,
-}
-
-/// What the byte at a place between quotes does.
-fn step_of(kind: Quotes, line: &[u8], i: usize, byte: u8) -> Step
-    requires { i < length line.now }
-    ensures { IsStep kind byte (get_or line.now (i + 1) 0) result }
-{
-    match kind {
-        Quotes::Single => {
-            if byte != b'\'' {
-                Step::Passes
-            } else if i + 1 < line.len() && line[i + 1] == b'\'' {
-                Step::TakesNext
-            } else {
-                Step::Closes
-            }
-        }
-        Quotes::Double => match byte {
-            b'"' => Step::Closes,
-            b'\\' => Step::TakesNext,
-            _ => Step::Passes,
-        },
-    }
-}
 
 /// How far the pieces at the front of a line go.
 #[derive(Clone, Copy, PartialEq, Eq, Debug)]

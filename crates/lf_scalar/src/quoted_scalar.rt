@@ -10,8 +10,8 @@ ghost use Rattle.lf_scalar.specs.Reading.{quoted_at};
 use crate::draft::Draft;
 use crate::drafted::Drafted;
 use crate::lines::{before, blanks, fault_at, line_end, past, wrong_behind};
-use crate::quoted::{Pending, find_closing, push_line, push_next};
-use crate::quotes::Quotes;
+use crate::quoted::{Pending, push_line, push_next};
+use crate::quotes::{Quotes, find_closing};
 use lf_base::{Kind, Refusal, Span};
 use std::alloc::Global;
 

@@ -16,7 +16,6 @@ pub mod Laws
 pub mod RowCode
 pub mod LineRows
 pub mod RowsAfter
-pub mod QuoteScan
 pub mod SignScan
 pub mod EntryCode
 pub mod Ascents

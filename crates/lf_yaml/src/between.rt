@@ -6,21 +6,21 @@ ghost use Rattle.lf_scalar.specs.Quoted.{quote_of};
 ghost use Rattle.lf_scalar.specs.QuotedReading.{split_of};
 ghost use Rattle.lf_scalar.specs.Drafted.{shown};
 ghost use Rattle.lf_yaml.specs.Reading.{between_of};
-ghost use Rattle.lf_yaml.specs.Quoting.{kind_of, style_of_quotes};
+ghost use Rattle.lf_yaml.specs.Quoting.{style_of_quotes};
 
-use crate::quotes::Quote;
 use lf_base::Refusal;
 use lf_scalar::lines::before;
+use lf_scalar::quotes::Quotes;
 use lf_scalar::{Scalar, Style, read_scalar};
 use std::alloc::Global;
 
 /// The style of a scalar between these quotes.
-fn style_of(quote: Quote) -> Style
-    ensures { result ≡ style_of_quotes (kind_of quote) }
+fn style_of(quote: Quotes) -> Style
+    ensures { result ≡ style_of_quotes quote }
 {
     match quote {
-        Quote::Single => Style::Single,
-        Quote::Double => Style::Double,
+        Quotes::Single => Style::Single,
+        Quotes::Double => Style::Double,
     }
 }
 
@@ -30,17 +30,17 @@ pub fn quoted_scalar(
     bytes: &[u8],
     at: u32,
     inside: &[u8],
-    quote: Quote,
+    quote: Quotes,
     closing: usize,
 ) -> Result<Scalar, Refusal>
     requires text { IsUtf8 bytes.now }
     requires room { length bytes.now ≤ 2 ^ 31 }
-    requires quote { get_or bytes.now at 0 ≡ quote_of (kind_of quote) }
+    requires quote { get_or bytes.now at 0 ≡ quote_of quote }
     requires inside { get_or bytes.now at 0 ∷ inside.now ≡ take (length inside.now + 1) (drop at bytes.now) }
     requires closing { closing < length inside.now }
-    requires closes { get_or inside.now closing 0 ≡ quote_of (kind_of quote) }
+    requires closes { get_or inside.now closing 0 ≡ quote_of quote }
     requires within { at + length inside.now + 1 ≤ length bytes.now }
-    ensures { Gives shown result (between_of (kind_of quote) (cell (get_or bytes.now at 0) at) (Some (split_of (at + 1) inside.now closing))) }
+    ensures { Gives shown result (between_of quote (cell (get_or bytes.now at 0) at) (Some (split_of (at + 1) inside.now closing))) }
 {
     let cut = before(bytes, at as usize + closing + 2);
     read_scalar(alloc, cut, at, -1, style_of(quote))

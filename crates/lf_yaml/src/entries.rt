@@ -1,7 +1,7 @@
 //! Entries of block mappings: a key, and what stands behind its `:`.
 
-use crate::quotes::Quote;
 use crate::row::Row;
+use lf_scalar::quotes::Quotes;
 
 /// A key as it stands on its row.
 #[derive(Clone, Copy)]
@@ -9,7 +9,7 @@ pub enum Key {
     /// Without quotes, the row's first `len` bytes.
     Bare { len: usize },
     /// Between quotes, the closing one at a place behind the first.
-    Between { quote: Quote, closing: usize },
+    Between { quote: Quotes, closing: usize },
 }
 
 /// An entry's key and what stands behind its `:`.

@@ -3,7 +3,6 @@ ghost use Rattle.std.specs.Prelude.{◌≡◌, ℕ, suc, ◌+◌, ◌<◌, ◌�
 ghost use Rattle.lf_scalar.specs.Cells.{cell, cells};
 ghost use Rattle.lf_scalar.specs.Plain.{begins_plain as begins_plain_of};
 ghost use Rattle.lf_yaml.specs.Reading.{quotes_of, entry_by, entry_of, opens_quote as opens_quote_of, sign_behind as sign_behind_of};
-ghost use Rattle.lf_yaml.specs.Quoting.{kind_of};
 ghost use Rattle.lf_scalar.specs.Quoted.{quote_of as quote_byte};
 ghost use Rattle.lf_yaml.specs.Headed.{headed, IsKeyIn};
 ghost use Rattle.lf_yaml.specs.Shown.{shown};
@@ -11,10 +10,10 @@ ghost use Rattle.lf_yaml.specs.Shown.{shown};
 use crate::entries::{Head, Key};
 use crate::head::{is_apart, is_left_out};
 use crate::keys::find_sign;
-use crate::quotes::{Quote, find_closing};
 use crate::row::Row;
 use lf_scalar::lines::{before, blanks, past, trimmed_len};
 use lf_scalar::plain_signs::{is_plain_byte, is_sign_byte};
+use lf_scalar::quotes::{Quotes, find_closing};
 
 /// Whether a text begins as a plain scalar does.
 pub fn begins_plain(text: &[u8]) -> bool
@@ -27,13 +26,13 @@ pub fn begins_plain(text: &[u8]) -> bool
 }
 
 /// The quote that a byte is.
-pub fn quote_of(byte: u8) -> Option<Quote>
-    ensures byte { IfSome result (λ quote. byte ≡ quote_byte (kind_of quote)) }
-    ensures kind { (at : ℕ) → option_map kind_of result ≡ quotes_of (cell byte at) }
+pub fn quote_of(byte: u8) -> Option<Quotes>
+    ensures byte { IfSome result (λ quote. byte ≡ quote_byte quote) }
+    ensures kind { (at : ℕ) → result ≡ quotes_of (cell byte at) }
 {
     match byte {
-        b'\'' => Some(Quote::Single),
-        b'"' => Some(Quote::Double),
+        b'\'' => Some(Quotes::Single),
+        b'"' => Some(Quotes::Double),
         _ => None,
     }
 }
@@ -77,9 +76,9 @@ fn sign_behind(text: &[u8], at: u32) -> Option<(u32, &[u8])>
 }
 
 /// The entry that a row begins whose key stands between quotes.
-fn quoted_entry(row: Row<'_>, quote: Quote) -> Option<Head<'_>>
-    requires quote { get_or row.text.now 0 0 ≡ quote_byte (kind_of quote) }
-    ensures head { option_map (headed row.entry.at row.entry.text.now) result ≡ entry_by (shown row.entry) (Some (kind_of quote)) }
+fn quoted_entry(row: Row<'_>, quote: Quotes) -> Option<Head<'_>>
+    requires quote { get_or row.text.now 0 0 ≡ quote_byte quote }
+    ensures head { option_map (headed row.entry.at row.entry.text.now) result ≡ entry_by (shown row.entry) (Some quote) }
     ensures room { IfSome result (λ h. h.colon + 1 + length h.behind.now ≤ 2 ^ 31) }
     ensures key { IfSome result (λ h. IsKeyIn row.entry.at row.entry.text.now h.key) }
 {

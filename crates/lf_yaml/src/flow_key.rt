@@ -9,7 +9,6 @@ ghost use Rattle.lf_scalar.specs.Quoted.{quote_of as quote_byte};
 ghost use Rattle.lf_yaml.specs.Flow.{next_part as next_part_of, is_empty_key as is_empty_key_of};
 ghost use Rattle.lf_yaml.specs.Reading.{no_sign as no_sign_of, flow_key as flow_key_of, flow_key_by, bare_key as bare_key_of};
 ghost use Rattle.lf_yaml.specs.Cursor.{rows_after};
-ghost use Rattle.lf_yaml.specs.Quoting.{kind_of};
 ghost use Rattle.lf_yaml.specs.Places.{IsPartIn, IsPlaceIn, left_at, rows_at, signed};
 ghost use Rattle.lf_yaml.specs.Shown.{shown};
 
@@ -22,11 +21,11 @@ use crate::part_scalar::quoted_part;
 use crate::parts::{behind, next_part};
 use crate::place::Place;
 use crate::plain::slice_scalar;
-use crate::quotes::Quote;
 use crate::row::Row;
 use lf_base::{Kind, Refusal, Span};
 use lf_scalar::Scalar;
 use lf_scalar::lines::{before, blanks, past, trimmed_len};
+use lf_scalar::quotes::Quotes;
 use std::alloc::Global;
 
 /// What is told where no `:` stands behind a key: what is broken before the next part, or this part.
@@ -107,13 +106,13 @@ fn quoted_key(
     above: u32,
     part: Row<'_>,
     next: usize,
-    quote: Quote,
+    quote: Quotes,
 ) -> Result<(Scalar, usize), Refusal>
     requires utf8 { IsUtf8 bytes.now }
     requires room { length bytes.now ≤ 2 ^ 31 }
     requires part { IsPartIn bytes.now part next }
-    requires quote { get_or part.text.now 0 0 ≡ quote_byte (kind_of quote) }
-    ensures gives { Gives (signed part.entry) result (flow_key_by (length bytes.now) above (shown part.entry).first (shown part.entry).rest (rows_after bytes.now next) (Some (kind_of quote))) }
+    requires quote { get_or part.text.now 0 0 ≡ quote_byte quote }
+    ensures gives { Gives (signed part.entry) result (flow_key_by (length bytes.now) above (shown part.entry).first (shown part.entry).rest (rows_after bytes.now next) (Some quote)) }
     ensures within { IfOk result (λ x. x.1 < length part.entry.text.now) }
     ensures sign { IfOk result (λ x. get_or part.entry.text.now x.1 0 ≡ 58) }
 {

@@ -27,7 +27,6 @@ mod part_scalar;
 mod parts;
 mod place;
 mod plain;
-mod quotes;
 mod row;
 mod row_value;
 mod rows;

@@ -6,7 +6,6 @@ ghost use Rattle.lf_scalar.specs.Plain.{value_of};
 ghost use Rattle.lf_scalar.specs.Drafted.{shown as scalar_shown};
 ghost use Rattle.lf_scalar.specs.Quoted.{quote_of as quote_byte};
 ghost use Rattle.lf_yaml.specs.Reading.{part_by, flow_scalar};
-ghost use Rattle.lf_yaml.specs.Quoting.{kind_of};
 ghost use Rattle.lf_yaml.specs.Parts.{IsTextOf};
 ghost use Rattle.lf_yaml.specs.Shown.{shown};
 
@@ -16,12 +15,12 @@ use crate::flow_scalar::{begins_flow_bytes, part_fault};
 use crate::flow_text::{find_colon, flow_text_len};
 use crate::head::byte_fault;
 use crate::plain::slice_scalar;
-use crate::quotes::{Quote, find_closing};
 use crate::row::Row;
 use lf_base::{Kind, Refusal, Span};
 use lf_scalar::Scalar;
 use lf_scalar::lines::{before, past};
 use lf_scalar::null_text::is_null_text;
+use lf_scalar::quotes::{Quotes, find_closing};
 use std::alloc::Global;
 
 /// The plain scalar that a part begins, which has its first `len` bytes. `null` and `~` are the empty text.
@@ -48,13 +47,13 @@ pub fn quoted_part(
     alloc: Global,
     bytes: &[u8],
     part: Row<'_>,
-    quote: Quote,
+    quote: Quotes,
 ) -> Result<(Scalar, usize), Refusal>
     requires text { IsUtf8 bytes.now }
     requires room { length bytes.now ≤ 2 ^ 31 }
     requires part { IsTextOf bytes.now part }
-    requires quote { get_or part.text.now 0 0 ≡ quote_byte (kind_of quote) }
-    ensures gives { Gives (λ x. (scalar_shown x.0, cells (part.entry.at + x.1) (drop x.1 part.entry.text.now))) result (part_by (shown part.entry).first (shown part.entry).rest (Some (kind_of quote))) }
+    requires quote { get_or part.text.now 0 0 ≡ quote_byte quote }
+    ensures gives { Gives (λ x. (scalar_shown x.0, cells (part.entry.at + x.1) (drop x.1 part.entry.text.now))) result (part_by (shown part.entry).first (shown part.entry).rest (Some quote)) }
     ensures cut { IsUtf8 part.entry.text.now → IfOk result (λ x. IsCharBoundary part.entry.text.now x.1) }
 {
     let inside = past(part.text, 1);

@@ -5,7 +5,6 @@ use Rattle.lf_scalar.specs.Lines.{after_blanks}
 use Rattle.lf_scalar.specs.Drafted.{shown as scalar_shown}
 use Rattle.lf_yaml.specs.Flow.{next_part}
 use Rattle.lf_yaml.specs.Reading.{no_sign}
-use Rattle.lf_yaml.specs.Quoting.{kind_of}
 use Rattle.lf_yaml.specs.Cursor.{rows_after}
 use Rattle.lf_yaml.specs.Shown.{shown}
 use Rattle.lf_yaml.proofs.KeyCode.{quoted-found, quoted-missing}
@@ -18,7 +17,7 @@ pub returns-then-is_colon-clause-gives : goal.returns-then-is_colon-clause-gives
 returns-then-is_colon-clause-gives c =
     let after : after_blanks (cells (c.args.part.at + c.in-Ok.len) (drop c.in-Ok.len c.args.part.text.now)) ≡ cells (c.args.part.at + c.in-Ok.len + c.blanks.result) (drop c.blanks.result (drop c.in-Ok.len c.args.part.text.now)) =
     subst (λ (xs : List ℕ). after_blanks (cells (c.args.part.at + c.in-Ok.len) xs) ≡ cells (c.args.part.at + c.in-Ok.len + c.blanks.result) (drop c.blanks.result xs)) c.past.ensures (c.blanks.ensures.after (c.args.part.at + c.in-Ok.len)) in
-    quoted-found c.args.part.at c.in-Ok.len c.blanks.result c.args.part.text.now after (length c.args.bytes.now) c.args.above (kind_of c.args.quote) (shown c.args.part).first (shown c.args.part).rest (rows_after c.args.bytes.now c.args.next)
+    quoted-found c.args.part.at c.in-Ok.len c.blanks.result c.args.part.text.now after (length c.args.bytes.now) c.args.above c.args.quote (shown c.args.part).first (shown c.args.part).rest (rows_after c.args.bytes.now c.args.next)
     (scalar_shown c.in-Ok.scalar) c.in-Ok.ensures.gives (eqb-true _ 58 (sym c.is_colon.ensures ∙ c.if-is_colon.true))
 
 pub returns-else-is_colon-clause-gives : goal.returns-else-is_colon-clause-gives
@@ -28,6 +27,6 @@ returns-else-is_colon-clause-gives c =
     subst (Fails c.no_sign.result)
     (ap (λ (xs : List Cell). no_sign (next_part (length c.args.bytes.now) c.args.above false xs (rows_after c.args.bytes.now c.behind.result.next))) c.behind.ensures.left
     ∙ ap (λ (n : ℕ). no_sign (next_part (length c.args.bytes.now) c.args.above false (cells (c.args.part.at + c.in-Ok.len) (drop c.in-Ok.len c.args.part.text.now)) (rows_after c.args.bytes.now n))) c.behind.ensures.next
-    ∙ sym (quoted-missing c.args.part.at c.in-Ok.len c.blanks.result c.args.part.text.now after (length c.args.bytes.now) c.args.above (kind_of c.args.quote) (shown c.args.part).first (shown c.args.part).rest
+    ∙ sym (quoted-missing c.args.part.at c.in-Ok.len c.blanks.result c.args.part.text.now after (length c.args.bytes.now) c.args.above c.args.quote (shown c.args.part).first (shown c.args.part).rest
     (rows_after c.args.bytes.now c.args.next) (scalar_shown c.in-Ok.scalar) c.in-Ok.ensures.gives (sym c.is_colon.ensures ∙ c.if-is_colon.false)))
     c.no_sign.ensures

@@ -1,7 +1,7 @@
 use Rattle.std.proofs.Common.{sym, ◌∙◌, cond}
 use Rattle.lf_scalar.proofs.Scan.{scanned-skip, scanned-takes, scanned-passes, scanned-closes, scanned-end}
-use Rattle.lf_scalar.proofs.quoted.find_closing.Goals as goal
-use Rattle.lf_scalar.proofs.quoted.find_closing.Goals.{then-skip, else-skip+in-TakesNext, else-skip+in-Passes}
+use Rattle.lf_scalar.proofs.quotes.find_closing.Goals as goal
+use Rattle.lf_scalar.proofs.quotes.find_closing.Goals.{then-skip, else-skip+in-TakesNext, else-skip+in-Passes}
 
 pub returns-in-Closes-clause-value : goal.returns-in-Closes-clause-value
 returns-in-Closes-clause-value c = sym (scanned-closes c.args.kind c.args.at c.args.line.now c.loop-i.i c.loop-i-test.true c.in-Closes.ensures) ∙ rw c.if-skip.false at c.loop-i.invariant
