@@ -1,4 +1,7 @@
 //! Scalars of rule files in every style of the YAML profile: the text, and for each of its bytes the source offset of what gave it.
+//!
+//! The public modules, `lines` and those like it, are how this crate reads a line. They are for the crates of this repository that read what stands round
+//! scalars, and who only wants a scalar needs `begins_scalar` and `read_scalar` alone.
 #![tactic(auto)]
 
 mod begins;
