@@ -1,4 +1,4 @@
--- The order of rules, in which what a rule reads comes before it where this can be.
+-- The order of rules, in which a rule that reads no cyclic name comes behind all that it reads.
 use Rattle.std.specs.Prelude.{◌≡◌, ◌⊎◌, ◌≤◌, ℕ, false, not, eqb, List, [], ◌∷◌, length, Option, Some, slice_get}
 use Rattle.std.specs.List.{Contains, filter, range_with_len}
 use Rattle.lf_ast.specs.Labels.{Bytes}

@@ -1,4 +1,4 @@
--- The rules left to be ordered, and which of them wait.
+-- The rules left to be ordered, and which of them wait: how contracts see the code. It defines nothing.
 use Rattle.std.specs.Prelude.{◌≡◌, ◌⊎◌, ◌<◌, ◌≤◌, ◌+◌, ℕ, Bool, true, false, cond, eqb, List, [], ◌∷◌, length, replicate, slice_index_or, slice_set}
 use Rattle.std.specs.List.{Contains}
 use Rattle.lf_deps.specs.Links.{recorded_by, waited_by}

@@ -10,7 +10,7 @@ use lf_ast::Rule;
 use lf_base::{Memory, Seq};
 use std::alloc::Global;
 
-/// The numbers of all rules, each once, so that what a rule reads comes before it where this can be. Numbers that don't fit are answered like want of memory.
+/// The numbers of all rules, each once, so that a rule that reads no cyclic name comes behind all that it reads. Numbers that don't fit are answered like want of memory.
 ///
 /// Each place takes the least number left whose rule selects no name that a rule left records, and where every rule left selects one, the least number left. Nothing
 /// within a scalar is looked at, and a selector of no name selects every recorded name. It takes about as long as the selectors are many: each rule is looked at again

@@ -1,17 +1,17 @@
 -- What an index lists.
-use Rattle.std.proofs.Common.{◌≡◌, ◌≢◌, ℕ, zero, suc, ◌+◌, ◌<◌, ◌≤◌, Bool, true, false, not, cond, nat_lt, List, [], ◌∷◌, ◌++◌, length, get_or, inl, inr, refl, sym, ◌∙◌, ap, subst, arith, length-append}
+use Rattle.std.proofs.Common.{◌≡◌, ◌≢◌, ℕ, zero, suc, ◌+◌, ◌<◌, ◌≤◌, Bool, true, false, not, cond, nat_lt, List, [], ◌∷◌, ◌++◌, length, get_or, ◌⊎◌, inl, inr, refl, sym, ◌∙◌, ap, subst, arith, length-append}
 use Rattle.std.specs.Prelude.{slice_set}
 use Rattle.std.specs.List.{AllByRecursion, Contains}
 use Rattle.std.specs.Str.{bytes_eq}
 use Rattle.std.proofs.lemmas.Bool.{cases_lt}
 use Rattle.std.proofs.lemmas.Bool.Decides.{nat_tests}
 use Rattle.std.proofs.lemmas.List.{get_or-set_other, get_or-set_same}
-use Rattle.std.proofs.lemmas.List.Elements.{Contains-append_left, Contains-append_right}
+use Rattle.std.proofs.lemmas.List.Elements.{Contains-append_cases, Contains-append_left, Contains-append_right}
 use Rattle.lf_ast.specs.Labels.{Bytes}
 use Rattle.lf_classes.specs.Meetings.{with_text}
 use Rattle.lf_semantics.specs.Listing.{place}
-use Rattle.lf_semantics.proofs.Members.{here, none_in, same_true}
-use Rattle.lf_semantics.proofs.Places.{place_le}
+use Rattle.lf_semantics.proofs.Members.{first_or_behind, here, none_in, same_true}
+use Rattle.lf_semantics.proofs.Places.{place_le, same_text}
 use Rattle.lf_fix.proofs.Steps.{same_or_other}
 
 -- lists
@@ -52,6 +52,24 @@ behind_none [] k h = refl
 behind_none (x ∷ xs) zero h = absurd (omega arith)
 behind_none (x ∷ xs) (suc k) h = behind_none xs k (omega arith)
 
+-- an empty list behind others has no member
+end_none : (xs : List (List ℕ)) (k : ℕ) → length xs ≤ k → get_or (xs ++ [] ∷ []) k [] ≡ []
+end_none [] zero h = refl
+end_none [] (suc k) h = refl
+end_none (x ∷ xs) zero h = absurd (omega arith)
+end_none (x ∷ xs) (suc k) h = end_none xs k (omega arith)
+
+place_behind : (xs ys : List Bytes) (n : Bytes) → length xs ≤ place xs n → length xs ≤ place (xs ++ ys) n
+place_behind [] ys n h = omega arith
+place_behind (x ∷ xs) ys n h = by (bytes_eq x n) h (place_behind xs ys n)
+  where
+    by : (b : Bool) → suc (length xs) ≤ cond (not b) (1 + place xs n) 0 → (length xs ≤ place xs n → length xs ≤ place (xs ++ ys) n) → suc (length xs) ≤ cond (not b) (1 + place (xs ++ ys) n) 0
+    by true h rest = absurd (omega (arith, h))
+    by false h rest = let e = rest (omega (arith, h)) in omega (arith, e)
+
+pub one_in : {X : Type 0} (x y : X) → Contains (x ∷ []) y → y ≡ x
+one_in x y c = elim (first_or_behind x [] y c) [ inl e ↦ sym e | inr d ↦ absurd (none_in y d) ]
+
 pub set_length : (old : List (List ℕ)) (k : ℕ) (x : List ℕ) → length (slice_set old k x) ≡ length old
 set_length [] k x = refl
 set_length (y ∷ old) zero x = refl
@@ -86,6 +104,19 @@ module _ (names : List Bytes) (lists : List (List ℕ)) (full : length lists ≡
       let P : List ℕ → Type 0 = λ l. Contains l number in
       subst P (sym (put_same old h)) (Contains-append_right (get_or old (place names name) []) (number ∷ []) number (here number []))
 
+  put_only : (old : List (List ℕ)) → place names name < length old → (j k : ℕ) → Contains (get_or (put old) j []) k → Contains (get_or old j []) k ⊎ ((j ≡ place names name) × (k ≡ number))
+  put_only old h j k c = elim (same_or_other j (place names name)) [
+    | inl e ↦
+        let P : List ℕ → Type 0 = λ l. Contains l k in
+        let Q : ℕ → Type 0 = λ i. Contains (get_or (put old) i []) k in
+        let R : ℕ → Type 0 = λ i. Contains (get_or old i []) k in
+        elim (Contains-append_cases (get_or old (place names name) []) (number ∷ []) k (subst P (put_same old h) (subst Q e c))) [
+          | inl l ↦ inl (subst R (sym e) l)
+          | inr l ↦ inr (e, one_in number k l)
+        ]
+    | inr n ↦ let P : List ℕ → Type 0 = λ l. Contains l k in inl (subst P (put_other old j n) c)
+  ]
+
   -- the name was there
   module _ (there : place names name < length names) where
     same_names : with_text names name ≡ names
@@ -96,6 +127,14 @@ module _ (names : List Bytes) (lists : List (List ℕ)) (full : length lists ≡
 
     pub old_kept : (n : Bytes) (k : ℕ) → At names lists n k → At (with_text names name) (put lists) n k
     old_kept n k c = let P : List Bytes → Type 0 = λ xs. At xs (put lists) n k in subst P (sym same_names) (put_keeps lists (omega (arith, there, full)) (place names n) k c)
+
+    pub old_only : (n : Bytes) (k : ℕ) → At (with_text names name) (put lists) n k → At names lists n k ⊎ ((k ≡ number) × (n ≡ name))
+    old_only n k c =
+        let P : List Bytes → Type 0 = λ xs. At xs (put lists) n k in
+        elim (put_only lists (omega (arith, there, full)) (place names n) k (subst P same_names c)) [
+          | inl l ↦ inl l
+          | inr l ↦ inr (l.1, sym (same_text names name n there (sym l.0)))
+        ]
 
   -- the name is new
   module _ (new : length names ≤ place names name) where
@@ -130,6 +169,35 @@ module _ (names : List Bytes) (lists : List (List ℕ)) (full : length lists ≡
       | inr h ↦ let R : List ℕ → Type 0 = λ l. Contains l k in absurd (none_in k (subst R (behind_none lists (place names n) (omega (arith, h, full))) c))
     ]
 
+    new_at_end : place (names ++ name ∷ []) name ≡ length names
+    new_at_end = place_last names name new
+
+    new_place : (n : Bytes) → place (names ++ name ∷ []) n ≡ place names name → n ≡ name
+    new_place n e =
+        let more_names : length (names ++ name ∷ []) ≡ length names + 1 = length-append names (name ∷ []) in
+        sym (same_text (names ++ name ∷ []) name n (omega (arith, new_at_end, more_names)) (new_at_end ∙ sym at_end ∙ sym e))
+
+    before_only : (n : Bytes) (k : ℕ) → Contains (get_or (lists ++ [] ∷ []) (place (names ++ name ∷ []) n) []) k → At names lists n k
+    before_only n k c = elim (cases_lt (place names n) (length names)) [
+      | inl h ↦
+          let Q : ℕ → Type 0 = λ i. Contains (get_or (lists ++ [] ∷ []) i []) k in
+          let R : List ℕ → Type 0 = λ l. Contains l k in
+          subst R (front_at lists ([] ∷ []) (place names n) (omega (arith, h, full))) (subst Q (place_front names (name ∷ []) n h) c)
+      | inr h ↦
+          let R : List ℕ → Type 0 = λ l. Contains l k in
+          let b = place_behind names (name ∷ []) n (omega (arith, h)) in
+          absurd (none_in k (subst R (end_none lists (place (names ++ name ∷ []) n) (omega (arith, b, full))) c))
+    ]
+
+    pub new_only : (n : Bytes) (k : ℕ) → At (with_text names name) (put (lists ++ [] ∷ [])) n k → At names lists n k ⊎ ((k ≡ number) × (n ≡ name))
+    unfolding more
+    new_only n k c =
+        let P : List Bytes → Type 0 = λ xs. At xs (put (lists ++ [] ∷ [])) n k in
+        elim (put_only (lists ++ [] ∷ []) within (place (names ++ name ∷ []) n) k (subst P new_names c)) [
+          | inl l ↦ inl (before_only n k l)
+          | inr l ↦ inr (l.1, new_place n l.0)
+        ]
+
 -- a name is put into the index, and a number behind those of the name
 module _ (names : List Bytes) (lists : List (List ℕ)) (full : length lists ≡ length names) (name : Bytes) (number at : ℕ) (after : List Bytes) (room made : List (List ℕ)) where
   abbrev Put : List Bytes → List (List ℕ) → Type 0
@@ -137,6 +205,7 @@ module _ (names : List Bytes) (lists : List (List ℕ)) (full : length lists ≡
       Contains (get_or ls (place ns name) []) number
       × ((n : Bytes) (k : ℕ) → Contains (get_or lists (place names n) []) k → Contains (get_or ls (place ns n) []) k)
       × (length ls ≡ length ns)
+      × ((n : Bytes) (k : ℕ) → Contains (get_or ls (place ns n) []) k → Contains (get_or lists (place names n) []) k ⊎ ((k ≡ number) × (n ≡ name)))
 
   pub put_listed : after ≡ with_text names name → at ≡ place names name → (at < length lists → room ≡ lists) → (at ≡ length lists → room ≡ lists ++ [] ∷ []) → made ≡ slice_set room at (get_or room at [] ++ number ∷ [])
       → Put after made
@@ -146,7 +215,7 @@ module _ (names : List Bytes) (lists : List (List ℕ)) (full : length lists ≡
         let e : made ≡ put names lists full name number lists = set ∙ ap (λ (k : ℕ). slice_set room k (get_or room k [] ++ number ∷ [])) placed ∙ ap (λ (l : List (List ℕ)). put names lists full name number l) same in
         let n : length (put names lists full name number lists) ≡ length (with_text names name) =
         set_length lists (place names name) (get_or lists (place names name) [] ++ number ∷ []) ∙ full ∙ sym (ap length (same_names names lists full name number h)) in
-        subst (λ ns. Put ns made) (sym named) (subst (Put (with_text names name)) (sym e) (old_listed names lists full name number h, old_kept names lists full name number h, n))
+        subst (λ ns. Put ns made) (sym named) (subst (Put (with_text names name)) (sym e) (old_listed names lists full name number h, old_kept names lists full name number h, n, old_only names lists full name number h))
     | inr h ↦
         let end : place names name ≡ length names = at_end names lists full name number h in
         let same : room ≡ lists ++ [] ∷ [] = new (omega (arith, end, placed, full)) in
@@ -158,5 +227,5 @@ module _ (names : List Bytes) (lists : List (List ℕ)) (full : length lists ≡
         ∙ ap (λ k. k + 1) full
         ∙ sym (length-append names (name ∷ []))
         ∙ sym (ap length (new_names names lists full name number h)) in
-        subst (λ ns. Put ns made) (sym named) (subst (Put (with_text names name)) (sym e) (new_listed names lists full name number h, new_kept names lists full name number h, n))
+        subst (λ ns. Put ns made) (sym named) (subst (Put (with_text names name)) (sym e) (new_listed names lists full name number h, new_kept names lists full name number h, n, new_only names lists full name number h))
   ]

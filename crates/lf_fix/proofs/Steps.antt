@@ -1,6 +1,7 @@
 -- A step of a rule that is due, and the rules that it makes due again.
 use Rattle.std.proofs.Common.{◌≡◌, ◌≢◌, ℕ, zero, suc, ◌<◌, Bool, true, false, List, length, Some, None, ◌⊎◌, inl, inr, refl, sym, ◌∙◌, ap, subst, arith}
 use Rattle.std.specs.Prelude.{slice_get, slice_index_or, slice_set}
+use Rattle.std.specs.List.{Contains}
 use Rattle.std.proofs.lemmas.List.{get_or-set_other, get_or-set_same}
 use Rattle.lf_ast.specs.Labels.{Bytes}
 use Rattle.lf_ast.specs.declared.rule.Rule.{Rule}
@@ -30,7 +31,18 @@ not_true_is false h = refl
 module _ (u : Listing) (p : IsListing u) (rules : List Rule) (k : ℕ) (env : Environment) (of : IsEnvironmentOf u rules env) (due : List Bool) (hold : OthersHold u rules env due) where
   -- a rule that isn't due is passed over
   pub step_over : slice_index_or due k true ≡ false → StepTells u rules k env env due due false
-  step_over e = record { rises = rises_none u p rules env of; less = λ f. absurd (cc); same = λ f. refl; hold = hold; done = λ f. e; still = λ f j g. g }
+  step_over e = record {
+    rises = rises_none u p rules env of;
+    less = λ f. absurd (cc);
+    same = λ f. refl;
+    hold = hold;
+    done = λ f. e;
+    still = λ f j g. g;
+    again = λ j r rule at is c a. elim (same_or_other j k) [
+      | inl q ↦ let A : ℕ → Type 0 = λ i. slice_index_or due i true ≡ true in absurd (clash (subst A q a) e)
+      | inr n ↦ absurd (clash a (sym (get_or-set_other due k j false true n) ∙ c))
+    ];
+  }
 
   module _ (within : k < length due) (later : Environment) (added : Bool) (t : TellsOf u rules k env later added) where
     abbrev cleared : List Bool
@@ -53,11 +65,13 @@ module _ (u : Listing) (p : IsListing u) (rules : List Rule) (k : ℕ) (env : En
         | inl q ↦ let A : ℕ → Type 0 = λ i. slice_index_or (slice_set due k false) i true ≡ false in subst A (sym q) (get_or-set_same due k false true within)
         | inr n ↦ get_or-set_other due k j false true n ∙ g
       ];
+      again = λ j r rule at is c a. absurd (clash a c);
     }
 
-    -- A class was added: each rule that selects the name is due again.
+    -- A class was added: each rule that selects the name is due again, and no other.
     module _ (rule : Rule) (is : slice_get rules k ≡ Some rule) (after : List Bool) (kept : (j : ℕ) → slice_index_or cleared j true ≡ true → slice_index_or after j true ≡ true)
-        (marked : (j : ℕ) (r : Rule) → slice_get rules j ≡ Some r → SelectsRow r.expr rule.name → slice_index_or after j true ≡ true) where
+        (marked : (j : ℕ) (r : Rule) → slice_get rules j ≡ Some r → SelectsRow r.expr rule.name → slice_index_or after j true ≡ true)
+        (only : (j : ℕ) (r : Rule) → slice_get rules j ≡ Some r → slice_index_or after j true ≡ true → (slice_index_or cleared j true ≡ true) ⊎ SelectsRow r.expr rule.name) where
       free_before : (j : ℕ) → slice_index_or after j true ≡ false → slice_index_or cleared j true ≡ false
       free_before j free = not_true_is (slice_index_or cleared j true) (λ e. clash (kept j e) free)
 
@@ -83,9 +97,24 @@ module _ (u : Listing) (p : IsListing u) (rules : List Rule) (k : ℕ) (env : En
             ]);
             done = λ f. absurd (clash e f);
             still = λ f. absurd (clash e f);
+            again = λ j r other at same c a. elim (only j r at a) [
+              | inl t ↦ absurd (clash t c)
+              | inr s ↦ let N : Rule → Type 0 = λ x. SelectsRow r.expr x.name in (e, subst N (same_rule rules k rule other is same) s)
+            ];
           }
 
 -- a rule that selects a name is listed with it, or with those that select all
 pub listed : (rules : List Rule) (index : Index) (j : ℕ) (r : Rule) (name : Bytes) → IsIndexOf rules index → slice_get rules j ≡ Some r → SelectsRow r.expr name → IsListed index j (Some name) ⊎ IsListed index j None
-listed rules index j r name is at (inl c) = inl (one_of (IsListed index j) (selectors r.expr) (Some name) (is j r at) c)
-listed rules index j r name is at (inr c) = inr (one_of (IsListed index j) (selectors r.expr) None (is j r at) c)
+listed rules index j r name is at (inl c) = inl (one_of (IsListed index j) (selectors r.expr) (Some name) (is.all j r at) c)
+listed rules index j r name is at (inr c) = inr (one_of (IsListed index j) (selectors r.expr) None (is.all j r at) c)
+
+-- and one that is listed so selects it
+pub selects : (rules : List Rule) (index : Index) (j : ℕ) (r : Rule) (name : Bytes) → IsIndexOf rules index → slice_get rules j ≡ Some r → IsListed index j (Some name) ⊎ IsListed index j None → SelectsRow r.expr name
+selects rules index j r name is at (inl l) =
+    let o = is.only j (Some name) l in
+    let P : Rule → Type 0 = λ x. Contains (selectors x.expr) (Some name) in
+    inl (subst P (same_rule rules j o.0 r o.1 at) o.2)
+selects rules index j r name is at (inr l) =
+    let o = is.only j None l in
+    let P : Rule → Type 0 = λ x. Contains (selectors x.expr) None in
+    inr (subst P (same_rule rules j o.0 r o.1 at) o.2)

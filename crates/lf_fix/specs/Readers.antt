@@ -1,4 +1,4 @@
--- Which rules select the row of each name.
+-- Which rules select the row of each name: how contracts see the code. It defines nothing but `SelectsRow`.
 use Rattle.std.specs.Prelude.{◌≡◌, ◌⊎◌, ℕ, List, [], length, Option, Some, None, slice_get, slice_index_or}
 use Rattle.std.specs.List.{AllByRecursion, Contains}
 use Rattle.lf_ast.specs.Labels.{Bytes}
@@ -26,6 +26,7 @@ abbrev pub IsListed : Index → ℕ → Option Bytes → Type 0
 IsListed index k None = Contains index.of_all k
 IsListed index k (Some name) = Contains (slice_index_or index.of_name (place index.names name) []) k
 
--- each rule is listed with all its selectors
-abbrev pub IsIndexOf : List Rule → Index → Type 0
-IsIndexOf rules index = (k : ℕ) (r : Rule) → slice_get rules k ≡ Some r → AllByRecursion (IsListed index k) (selectors r.expr)
+-- each rule is listed with all its selectors, and nothing else is listed
+pub record IsIndexOf (rules : List Rule) (index : Index) : Type 0 where
+  pub all : (k : ℕ) (r : Rule) → slice_get rules k ≡ Some r → AllByRecursion (IsListed index k) (selectors r.expr)
+  pub only : (k : ℕ) (o : Option Bytes) → IsListed index k o → (r : Rule) × (slice_get rules k ≡ Some r) × Contains (selectors r.expr) o

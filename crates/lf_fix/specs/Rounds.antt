@@ -1,5 +1,5 @@
--- Rounds over the rules, which raise the rows of the recorded names until the environment is closed.
-use Rattle.std.specs.Prelude.{◌≡◌, ℕ, ◌+◌, ◌<◌, Bool, true, false, cond, List, [], ◌∷◌, map, Some, slice_get, slice_index_or, take}
+-- Rounds over the rules, which raise the rows of the recorded names until the environment is closed: how contracts see the code. It defines nothing.
+use Rattle.std.specs.Prelude.{◌≡◌, ℕ, ◌+◌, ◌<◌, Bool, true, false, cond, List, [], ◌∷◌, map, Some, slice_get, slice_index_or, slice_set, take}
 use Rattle.std.specs.List.{Contains}
 use Rattle.lf_ast.specs.declared.rule.Rule.{Rule}
 use Rattle.lf_flow.specs.Raising.{joined}
@@ -7,6 +7,7 @@ use Rattle.lf_semantics.specs.ClassRows.{Sets, nothing}
 use Rattle.lf_semantics.specs.Environments.{EnvironmentUnder, IsClosed, IsEnvironmentOf, Under, recorded_names, recorded_row}
 use Rattle.lf_semantics.specs.Listing.{Listing}
 use Rattle.lf_semantics.specs.RowTable.{Environment, row_named}
+use Rattle.lf_fix.specs.Readers.{SelectsRow}
 
 -- no recorded name has a sample
 abbrev pub start : Listing → List Rule → Environment
@@ -46,7 +47,8 @@ pub record TellsOf (u : Listing) (rules : List Rule) (k : ℕ) (env later : Envi
   pub holds : added ≡ false → (r : Rule) → slice_get rules k ≡ Some r → HoldsRule u env r
   pub joins : added ≡ true → (r : Rule) → slice_get rules k ≡ Some r → (r.alert ≡ false) × (later ≡ joined r.name (recorded_row u env r) env)
 
--- A step of the rule at k does so where the rule is due. Where no class is added, the rule isn't due any more, and no other becomes due.
+-- A step of the rule at k does so where the rule is due, and then the rule isn't due any more. Rules become due, it or others, only where a class is added, and only
+-- those that select the row of its name.
 pub record StepTells (u : Listing) (rules : List Rule) (k : ℕ) (env later : Environment) (due after : List Bool) (added : Bool) : Type 0 where
   pub rises : Rises u rules env later
   pub less : added ≡ true → missing later < missing env
@@ -54,6 +56,7 @@ pub record StepTells (u : Listing) (rules : List Rule) (k : ℕ) (env later : En
   pub hold : OthersHold u rules later after
   pub done : added ≡ false → slice_index_or after k true ≡ false
   pub still : added ≡ false → (j : ℕ) → slice_index_or due j true ≡ false → slice_index_or after j true ≡ false
+  pub again : (j : ℕ) (r rule : Rule) → slice_get rules j ≡ Some r → slice_get rules k ≡ Some rule → slice_index_or (slice_set due k false) j true ≡ false → slice_index_or after j true ≡ true → (added ≡ true) × SelectsRow r.expr rule.name
 
 -- Steps of the first n rules of an order in turn: where no class is added, none of these is due any more.
 pub record Tells (u : Listing) (rules : List Rule) (order : List ℕ) (n : ℕ) (env later : Environment) (after : List Bool) (added : Bool) : Type 0 where

@@ -1,5 +1,5 @@
 //! Which rules select the rows of which names.
-ghost use Rattle.std.specs.Prelude.{◌≡◌, ◌<◌, ℕ, true, List, Option, None, Some, length, slice_index_or, slice_set, [], ◌∷◌, ◌++◌, IfOk, OnOk};
+ghost use Rattle.std.specs.Prelude.{◌≡◌, ◌<◌, ◌⊎◌, ℕ, true, List, Option, None, Some, length, slice_index_or, slice_set, [], ◌∷◌, ◌++◌, IfOk, OnOk};
 ghost use Rattle.std.specs.List.{AllByRecursion, Contains};
 ghost use Rattle.lf_ast.specs.Labels.{Bytes};
 ghost use Rattle.lf_ast.specs.declared.rule.Rule.{Rule};
@@ -48,6 +48,7 @@ impl Readers {
     fn list_all(&mut self, alloc: Global, rule: usize, found: &[Option<Text>]) -> Result<(), Memory>
         requires full { IsFull self.old }
         ensures listed { OnOk result (AllByRecursion (IsListed self.new rule) found.now) }
+        ensures only { OnOk result ((k : ℕ) (o : Option Bytes) → IsListed self.new k o → IsListed self.old k o ⊎ ((k ≡ rule) × Contains found.now o)) }
         ensures kept { OnOk result ((k : ℕ) (o : Option Bytes) → IsListed self.old k o → IsListed self.new k o) }
         ensures full { OnOk result (IsFull self.new) }
     {
@@ -61,6 +62,7 @@ impl Readers {
     fn list(&mut self, alloc: Global, rule: usize, selector: &Option<Text>) -> Result<(), Memory>
         requires full { IsFull self.old }
         ensures listed { OnOk result (IsListed self.new rule selector.now) }
+        ensures only { OnOk result ((k : ℕ) (o : Option Bytes) → IsListed self.new k o → IsListed self.old k o ⊎ ((k ≡ rule) × (o ≡ selector.now))) }
         ensures kept { OnOk result ((k : ℕ) (o : Option Bytes) → IsListed self.old k o → IsListed self.new k o) }
         ensures full { OnOk result (IsFull self.new) }
     {
@@ -74,6 +76,7 @@ impl Readers {
     fn add(&mut self, alloc: Global, name: &str, rule: usize) -> Result<(), Memory>
         requires full { IsFull self.old }
         ensures listed { OnOk result (IsListed self.new rule (Some name.now)) }
+        ensures only { OnOk result ((k : ℕ) (o : Option Bytes) → IsListed self.new k o → IsListed self.old k o ⊎ ((k ≡ rule) × (o ≡ Some name.now))) }
         ensures kept { OnOk result ((k : ℕ) (o : Option Bytes) → IsListed self.old k o → IsListed self.new k o) }
         ensures full { OnOk result (IsFull self.new) }
     {
@@ -83,11 +86,12 @@ impl Readers {
         Ok(())
     }
 
-    /// Marks each rule that selects a name, alone or among all.
+    /// Marks each rule that selects a name, alone or among all, and no other.
     pub(crate) fn mark(&self, name: &str, due: &mut [bool])
         ensures kept { (k : ℕ) → slice_index_or due.old k true ≡ true → slice_index_or due.new k true ≡ true }
         ensures named { (k : ℕ) → IsListed self.now k (Some name.now) → slice_index_or due.new k true ≡ true }
         ensures all { (k : ℕ) → IsListed self.now k None → slice_index_or due.new k true ≡ true }
+        ensures only { (k : ℕ) → slice_index_or due.new k true ≡ true → (slice_index_or due.old k true ≡ true) ⊎ (IsListed self.now k (Some name.now) ⊎ IsListed self.now k None) }
     {
         mark_all(self.of_all.as_slice(), due);
         let place = self.names.place(name);
@@ -122,6 +126,7 @@ fn push_at(lists: &mut Vec<Seq<usize>>, place: usize, number: usize) -> Result<(
 fn mark_all(numbers: &[usize], marks: &mut [bool])
     ensures kept { (k : ℕ) → slice_index_or marks.old k true ≡ true → slice_index_or marks.new k true ≡ true }
     ensures marked { (k : ℕ) → Contains numbers.now k → slice_index_or marks.new k true ≡ true }
+    ensures only { (k : ℕ) → slice_index_or marks.new k true ≡ true → (slice_index_or marks.old k true ≡ true) ⊎ Contains numbers.now k }
 {
     for number in numbers {
         mark_one(*number, marks);
@@ -132,6 +137,7 @@ fn mark_all(numbers: &[usize], marks: &mut [bool])
 fn mark_one(number: usize, marks: &mut [bool])
     ensures kept { (k : ℕ) → slice_index_or marks.old k true ≡ true → slice_index_or marks.new k true ≡ true }
     ensures marked { slice_index_or marks.new number true ≡ true }
+    ensures only { (k : ℕ) → slice_index_or marks.new k true ≡ true → (slice_index_or marks.old k true ≡ true) ⊎ (k ≡ number) }
 {
     if number < marks.len() {
         marks[number] = true;

@@ -17,12 +17,13 @@ use std::alloc::Global;
 
 /// The least environment of rules: for each recorded name the smallest row that what its rules store lies in.
 ///
-/// Rules are computed in the order in which what a rule reads comes before it where this can be, and a rule again only after a row was raised that its expression
-/// selects. Nothing within a scalar is looked at.
+/// Rules are computed in their order, in which a rule that reads no cyclic name comes behind all that it reads, and a rule again only after a row was raised that its
+/// expression selects. Nothing within a scalar is looked at.
 pub fn solve(alloc: Global, universe: &Universe, rules: &Seq<Rule>) -> Result<Env, Memory>
     requires { CoversRules universe.now rules.now }
     ensures { IfOk result (IsLeast universe.now rules.now) }
 {
+    // For what its contract says of the universe.
     let _labels = universe.labels();
     let sources = Sources::of(alloc, rules)?;
     let readers = Readers::of(alloc, &sources)?;
@@ -92,8 +93,8 @@ fn either(a: bool, b: bool) -> bool
     a || b
 }
 
-/// A step of a rule, where it is due: its row is joined to that of its name, and where this adds a class, each rule that selects the name is due again. It says
-/// whether a class was added.
+/// A step of a rule, where it is due: its row is joined to that of its name, and where this adds a class, each rule that selects the name becomes due, and no other. It
+/// says whether a class was added.
 fn step(
     alloc: Global,
     universe: &Universe,

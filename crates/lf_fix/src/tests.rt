@@ -1,3 +1,3 @@
-//! That environments are solved. The cases of whole rule files in `tests/cases` of the repository have their rows.
+//! That environments are solved. Rows of whole rule files are worked by hand in `tests/tables` of the repository.
 
 mod least;

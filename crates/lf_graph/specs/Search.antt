@@ -1,4 +1,4 @@
--- What a search along edges has met, and which edges it has to follow yet.
+-- What a search along edges has met, and which edges it has to follow yet: how contracts see the code. It defines nothing.
 use Rattle.std.specs.Prelude.{◌≡◌, ◌⊎◌, ℕ, ◌<◌, ◌≤◌, ◌+◌, ◌-◌, List, [], ◌∷◌, length, map, slice_index_or, take}
 use Rattle.std.specs.List.{Contains}
 use Rattle.lf_graph.specs.Paths.{Leads, after}

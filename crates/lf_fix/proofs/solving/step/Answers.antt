@@ -1,9 +1,9 @@
-use Rattle.std.proofs.Common.{Bool, false, List, Some, inl, inr, sym, subst, arith}
+use Rattle.std.proofs.Common.{Bool, false, List, Some, None, ◌⊎◌, inl, inr, sym, subst, arith}
 use Rattle.std.specs.Prelude.{slice_set}
 use Rattle.lf_ast.specs.Labels.{Bytes}
 use Rattle.lf_fix.specs.Readers.{IsListed}
 use Rattle.lf_fix.specs.Rounds.{StepTells}
-use Rattle.lf_fix.proofs.Steps.{listed, step_added, step_same}
+use Rattle.lf_fix.proofs.Steps.{listed, selects, step_added, step_same}
 use Rattle.lf_fix.proofs.solving.step.Goals as goal
 
 pub returns-then-not-added : goal.returns-then-not-added
@@ -28,5 +28,9 @@ returns c =
     (λ j r at looks. elim (listed c.args.rules.now index j r rule.name c.requires.index at looks) [
       | inl l ↦ let Q : Bytes → Type 0 = λ n. IsListed index j (Some n) in c.mark.ensures.named j (subst Q (sym c.as_str.ensures) l)
       | inr l ↦ c.mark.ensures.all j l
+    ])
+    (λ j r at marked. elim (c.mark.ensures.only j marked) [
+      | inl before ↦ inl before
+      | inr l ↦ let L : Bytes → Type 0 = λ n. IsListed index j (Some n) ⊎ IsListed index j None in inr (selects c.args.rules.now index j r rule.name c.requires.index at (subst L c.as_str.ensures l))
     ])
     c.if-not-added.false)

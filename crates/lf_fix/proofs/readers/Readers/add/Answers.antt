@@ -1,4 +1,4 @@
-use Rattle.std.proofs.Common.{◌≡◌, ℕ, List, Option, Some, None, refl, sym, subst}
+use Rattle.std.proofs.Common.{◌≡◌, ℕ, List, Option, Some, None, ◌⊎◌, inl, inr, refl, sym, ap, subst}
 use Rattle.std.specs.List.{Contains}
 use Rattle.lf_ast.specs.Labels.{Bytes}
 use Rattle.lf_fix.specs.Readers.{Index, IsFull, IsListed}
@@ -26,3 +26,19 @@ returns-clause-kept c k o l =
     let after : Index = record { names = c.add.new.self; of_name = c.push_at.new.lists.items; of_all = c.self.inside.of_all } in
     let P : Index → Type 0 = λ i. IsListed i k o in
     keeps before after refl put.1 k o (subst P (sym c.self.view_is) l)
+
+back : (old new : Index) (rule : ℕ) (name : Bytes) → old.of_all ≡ new.of_all → ((n : Bytes) (k : ℕ) → IsListed new k (Some n) → IsListed old k (Some n) ⊎ ((k ≡ rule) × (n ≡ name))) → (k : ℕ) (o : Option Bytes) → IsListed new k o
+    → IsListed old k o ⊎ ((k ≡ rule) × (o ≡ Some name))
+back old new rule name e h k None l = let P : List ℕ → Type 0 = λ xs. Contains xs k in inl (subst P (sym e) l)
+back old new rule name e h k (Some n) l = elim (h n k l) [ inl m ↦ inl m | inr m ↦ inr (m.0, ap Some m.1) ]
+
+pub returns-clause-only : goal.returns-clause-only
+returns-clause-only c k o l =
+    let F : Index → Type 0 = λ i. IsFull i in
+    let full = subst F (sym c.self.view_is) c.requires.full in
+    let put = put_listed c.self.inside.names c.self.inside.of_name.items full c.args.name.now c.args.rule c.in_ok-place.place c.add.new.self c.make_room.new.lists.items c.push_at.new.lists.items c.in_ok-place.ensures.ok
+    c.in_ok-place.ensures.place c.in_ok-make_room.ensures.there c.in_ok-make_room.ensures.made c.in_ok-push_at.ensures in
+    let before : Index = record { names = c.self.inside.names; of_name = c.self.inside.of_name.items; of_all = c.self.inside.of_all } in
+    let after : Index = record { names = c.add.new.self; of_name = c.push_at.new.lists.items; of_all = c.self.inside.of_all } in
+    let P : Index → Type 0 = λ i. IsListed i k o in
+    elim (back before after c.args.rule c.args.name.now refl put.3 k o l) [ inl m ↦ inl (subst P c.self.view_is m) | inr m ↦ inr m ]

@@ -1,5 +1,5 @@
-use Rattle.std.proofs.Common.{ℕ, Option, take}
-use Rattle.std.specs.List.{AllByRecursion}
+use Rattle.std.proofs.Common.{◌≡◌, ℕ, Option, ◌⊎◌, take}
+use Rattle.std.specs.List.{AllByRecursion, Contains}
 use Rattle.lf_ast.specs.Labels.{Bytes}
 use Rattle.lf_fix.specs.Readers.{IsFull, IsListed}
 use Rattle.lf_fix.proofs.readers.Readers.list_all.Given as goal
@@ -9,3 +9,4 @@ invariant-loop-k l =
     IsFull l.self
     × AllByRecursion (IsListed l.self l.rule) (take l.k l.found)
     × ((k : ℕ) (o : Option Bytes) → IsListed l.fn.self k o → IsListed l.self k o)
+    × ((k : ℕ) (o : Option Bytes) → IsListed l.self k o → IsListed l.fn.self k o ⊎ ((k ≡ l.rule) × Contains (take l.k l.found) o))
