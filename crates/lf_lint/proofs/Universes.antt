@@ -1,8 +1,6 @@
 -- The labels of a universe and the sets of a row, at their numbers.
 use Rattle.std.proofs.Common.{◌≡◌, ℕ, zero, suc, ◌+◌, ◌<◌, ◌≤◌, Bool, true, false, ◌||◌, cond, drop, List, [], ◌∷◌, ◌++◌, map, length, get_or, take, refl, sym, ◌∙◌, ap, arith, codes, length-append}
-use Rattle.std.specs.List.{list_any, sum, sum_by}
 use Rattle.std.proofs.lemmas.List.{get_or-map, length-map, map_more, take_all}
-use Rattle.std.proofs.lemmas.List.Sums.{sum_by_more, sum_by_more_le}
 use Rattle.lf_ast.specs.Labels.{Bytes}
 use Rattle.lf_ast.specs.declared.rule.Rule.{Rule}
 use Rattle.lf_semantics.specs.ClassRows.{HasShape, Sets, nothing}
@@ -11,7 +9,7 @@ use Rattle.lf_semantics.specs.Parts.{is_evaluated, type_by_form}
 use Rattle.lf_semantics.specs.RowTable.{Environment, row_of}
 use Rattle.lf_semantics.proofs.RowLaws.{shape_nothing}
 use Rattle.lf_semantics.proofs.Soundness.{shape_of_row}
-use Rattle.lf_semantics.specs.Listing.{IsListing, Listing, class_count, class_counts, named_at}
+use Rattle.lf_semantics.specs.Listing.{IsListing, Listing, class_counts, named_at}
 use Rattle.lf_lint.specs.Report.{labels_of, shown}
 use Rattle.lf_lint.specs.Verdicts.{verdict_of}
 use Rattle.lf_lint.specs.declared.report.verdict.Verdict.{Verdict}
@@ -44,23 +42,6 @@ counts_length u = length-map u.named (λ named. length named + 2)
 
 counts_at : (u : Listing) (k : ℕ) → k < length u.named → get_or (class_counts u) k 0 ≡ length (named_at u k) + 2
 counts_at u k h = get_or-map (λ (named : List Bytes). length named + 2) u.named k [] 0 h
-
-module _ (u : Listing) (k : ℕ) (h : k < length u.named) (classes : ℕ) (is : classes ≡ length (named_at u k) + 2) (count : ℕ) (before : count ≡ sum (take k (class_counts u))) where
-  inside : k < length (class_counts u)
-  inside = omega (arith, h, counts_length u)
-
-  here : classes ≡ get_or (class_counts u) k 0
-  here = is ∙ sym (counts_at u k h)
-
-  -- the classes of one more label are within those of all
-  pub count_within : count + classes ≤ class_count u
-  count_within = omega (arith, sum_by_more_le (λ (n : ℕ). n) (class_counts u) k 0 inside, here, before)
-
-  pub count_more : count + classes ≡ sum (take (k + 1) (class_counts u))
-  count_more = omega (arith, sum_by_more (λ (n : ℕ). n) (class_counts u) k 0 inside, here, before)
-
-pub count_all : (u : Listing) (k count : ℕ) → length u.named ≤ k → count ≡ sum (take k (class_counts u)) → count ≡ class_count u
-count_all u k count h before = before ∙ ap sum (take_all k (class_counts u) (omega (arith, h, counts_length u)))
 
 -- sets
 

@@ -4,7 +4,6 @@ pub mod Checked
 pub mod Ends
 pub mod Founds
 pub mod Headline
-pub mod Names
 pub mod Report
 pub mod Spots
 pub mod Statuses

@@ -8,7 +8,6 @@ mod found;
 mod judge_end;
 mod linting;
 mod measuring;
-mod name_set;
 mod reading;
 mod report;
 mod rules;

@@ -1,15 +1,15 @@
 //! The limits on rules.
-ghost use Rattle.std.specs.Prelude.{◌≡◌, ◌≤◌, length, IfOk, IfErr};
+ghost use Rattle.std.specs.Prelude.{◌≡◌, ◌≤◌, cond, length, IfOk, IfErr, OnOk};
 ghost use Rattle.lf_semantics.specs.Environments.{recorded_names};
 ghost use Rattle.lf_semantics.specs.Listing.{class_count as class_count_of, label_count, universe_of};
 ghost use Rattle.lf_classes.specs.Limits.{most_classes, most_labels};
+ghost use Rattle.lf_classes.specs.Meetings.{with_text};
 ghost use Rattle.lf_lint.specs.Founds.{AreWithin, Ends, most_rules, word_count as word_count_of};
 
 use crate::JudgeEnd;
-use crate::name_set::NameSet;
 use lf_ast::Rule;
 use lf_base::{Memory, Seq};
-use lf_classes::{ClassError, Universe};
+use lf_classes::{ClassError, TextSet, Universe};
 use std::alloc::Global;
 
 /// The most rules that may be accepted.
@@ -83,7 +83,7 @@ fn word_count(alloc: Global, universe: &Universe, rules: &Seq<Rule>) -> Result<u
     ensures { IfOk result (λ words. words ≡ word_count_of rules.now) }
 {
     let names = recorded_count(alloc, rules.as_slice())?;
-    let classes = class_count(universe);
+    let classes = u64::from(universe.class_count());
     Ok(names as u64 * ((classes + 63) / 64))
 }
 
@@ -92,26 +92,20 @@ fn recorded_count(alloc: Global, rules: &[Rule]) -> Result<usize, Memory>
     ensures count { IfOk result (λ count. count ≡ length (recorded_names rules.now)) }
     ensures most { IfOk result (λ count. count ≤ length rules.now) }
 {
-    let mut seen = NameSet::new(alloc);
-    let mut count = 0;
+    let mut names = TextSet::new(alloc);
     for rule in rules {
-        if !rule.alert {
-            if seen.add(rule.name.as_str())? {
-                count += 1;
-            }
-        }
+        add_recorded(alloc, &mut names, rule)?;
     }
-    Ok(count)
+    Ok(names.len())
 }
 
-/// How many classes the labels have together.
-fn class_count(universe: &Universe) -> u64
-    ensures count { result ≡ class_count_of universe.now }
-    ensures most { result ≤ most_classes }
+/// Puts the name that a rule records behind others, unless it is among them. An alert records none.
+fn add_recorded(alloc: Global, names: &mut TextSet, rule: &Rule) -> Result<(), Memory>
+    ensures { OnOk result (names.new ≡ cond rule.now.alert names.old (with_text names.old rule.now.name)) }
 {
-    let mut count = 0;
-    for label in 0..universe.labels() {
-        count += u64::from(universe.classes(label));
+    if rule.alert {
+        return Ok(());
     }
-    count
+    let _place = names.add(alloc, rule.name.as_str())?;
+    Ok(())
 }

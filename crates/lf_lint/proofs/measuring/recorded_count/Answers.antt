@@ -1,30 +1,21 @@
-use Rattle.std.proofs.Common.{◌≡◌, ◌+◌, ◌||◌, false, true, take, refl, sym, ap, ◌∙◌}
-use Rattle.std.specs.Str.{bytes_eq}
-use Rattle.lf_lint.specs.Names.{has}
-use Rattle.lf_lint.proofs.Recorded.{counted_again, counted_alert, counted_as, counted_new, was_absent, was_present}
+use Rattle.std.proofs.Common.{[], List, length, take, ◌∙◌, ◌≤◌, ap, subst, arith}
+use Rattle.std.proofs.lemmas.List.{take_all}
+use Rattle.lf_ast.specs.declared.rule.Rule.{Rule}
+use Rattle.lf_semantics.specs.Environments.{recorded_names}
+use Rattle.lf_lint.proofs.Recorded.{recorded_next}
 use Rattle.lf_lint.proofs.measuring.recorded_count.Goals as goal
-use Rattle.lf_lint.proofs.measuring.recorded_count.Goals.{then-not-rule+in_ok-add+then-branch, then-not-rule+in_ok-add+else-branch, else-not-rule}
+
+pub loop-rule-init : goal.loop-rule-init
+loop-rule-init c = record { are = c.new-names.ensures; few = omega (arith, ap length c.new-names.ensures) }
 
 pub loop-rule-preserved : goal.loop-rule-preserved
 loop-rule-preserved c =
-    let rules = c.args.rules.now in
-    let i = c.loop-rule.rule-index in
-    let r = c.rule-item.result in
-    let seen = c.loop-rule.seen in
-    let end = c.if-not-rule.seen in
-    let n = c.if-not-rule.count in
-    elim c.if-not-rule.branch [
-      | then-not-rule+in_ok-add+then-branch w ↦
-          counted_as end w.add.new.self n (c.loop-rule.count + 1) (take (i + 1) rules) w.seen-is w.count-is
-          (counted_new seen c.loop-rule.count rules i r c.loop-rule-test.true c.rule-item.is c.loop-rule.invariant w.add.new.self w.if-not-rule.true
-          (λ other. w.in_ok-add.ensures.members other ∙ ap (λ t. bytes_eq other t || has seen other) w.as_str.ensures)
-          (ap (has seen) (sym w.as_str.ensures) ∙ was_absent (has seen w.as_str.result.now) _ w.in_ok-add.ensures.new w.if-branch.true))
-      | then-not-rule+in_ok-add+else-branch w ↦
-          counted_as end w.add.new.self n c.loop-rule.count (take (i + 1) rules) w.seen-is w.count-is
-          (counted_again seen c.loop-rule.count rules i r c.loop-rule-test.true c.rule-item.is c.loop-rule.invariant w.add.new.self w.if-not-rule.true
-          (λ other. w.in_ok-add.ensures.members other ∙ ap (λ t. bytes_eq other t || has seen other) w.as_str.ensures)
-          (ap (has seen) (sym w.as_str.ensures) ∙ was_present (has seen w.as_str.result.now) _ w.in_ok-add.ensures.new w.if-branch.false))
-      | else-not-rule w ↦
-          counted_as end seen n c.loop-rule.count (take (i + 1) rules) w.seen-is w.count-is
-          (counted_alert seen c.loop-rule.count rules i r c.loop-rule-test.true c.rule-item.is c.loop-rule.invariant w.if-not-rule.false)
-    ]
+    recorded_next c.loop-rule.names c.add_recorded.new.names c.args.rules.now c.loop-rule.rule-index c.rule-item.result c.loop-rule-test.true c.rule-item.is c.in_ok-add_recorded.ensures c.loop-rule.invariant
+
+pub returns-clause-count : goal.returns-clause-count
+returns-clause-count c = c.len.ensures.count ∙ ap length (c.loop-rule.invariant.are ∙ ap recorded_names (take_all c.loop-rule.rule-index c.args.rules.now (omega (arith, c.loop-rule-test.false))))
+
+pub returns-clause-most : goal.returns-clause-most
+returns-clause-most c =
+    let all = ap (λ (l : List Rule). length l) (take_all c.loop-rule.rule-index c.args.rules.now (omega (arith, c.loop-rule-test.false))) in
+    omega (arith, c.len.ensures.count, c.loop-rule.invariant.few, all)
