@@ -1,22 +1,27 @@
-//! The ground that every crate of ruleflow stands on: spans and places, texts and lists that contracts see as what they hold, the kinds of refusals,
-//! and the traits of the outside with their stand-ins in memory.
+//! The ground that every crate of ruleflow stands on: spans and places, texts and lists that contracts see as what they hold, names and sets of them, the kinds of
+//! refusals, breaches and what a reader answers, and the traits of the outside with their stand-ins in memory.
 #![tactic(auto)]
 
 mod calls;
+mod fault;
 mod kind;
 mod mem_files;
 mod mem_sink;
 mod memory;
+mod name_set;
+pub mod names;
 mod outside;
 mod place;
 mod refusal;
 mod seq;
 mod text;
 
+pub use fault::Fault;
 pub use kind::Kind;
 pub use mem_files::MemFiles;
 pub use mem_sink::MemSink;
 pub use memory::Memory;
+pub use name_set::NameSet;
 pub use outside::{Failed, Files, Gate, OpenGate, Sink};
 pub use place::{Place, Span, place_of};
 pub use refusal::Refusal;

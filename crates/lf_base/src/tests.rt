@@ -2,6 +2,7 @@
 
 mod kinds;
 mod lists;
+mod names;
 mod places;
 mod stand_ins;
 mod threads;

@@ -1,0 +1,41 @@
+//! Sets of names.
+ghost use Rattle.std.specs.Prelude.{◌≡◌, ℕ, List, false, not, ◌||◌, IfOk, OnOk};
+ghost use Rattle.std.specs.Str.{bytes_eq};
+ghost use Rattle.lf_base.specs.NameSets.{has};
+
+use crate::Memory;
+use std::alloc::Global;
+use std::collections::HashSet;
+
+/// A set of names, which it borrows. It hashes them, since a file may have a hundred thousand groups or keys, and a list of labels a million names.
+#[derive(Drop)]
+pub struct NameSet<'a> {
+    names: HashSet<&'a str>,
+}
+
+impl<'a> NameSet<'a> {
+    /// The set with no name.
+    pub fn new(alloc: Global) -> NameSet<'a>
+        ensures { (other : List ℕ) → has result other ≡ false }
+    {
+        NameSet {
+            names: HashSet::new(alloc),
+        }
+    }
+
+    /// Whether the name is in the set.
+    pub fn contains(&self, name: &str) -> bool
+        ensures { result ≡ has self.now name.now }
+    {
+        self.names.contains(name)
+    }
+
+    /// Puts a name into the set, and says whether it is new there.
+    pub fn add(&mut self, name: &'a str) -> Result<bool, Memory>
+        ensures new { IfOk result (λ new. new ≡ not (has self.old name.now)) }
+        ensures members { OnOk result ((other : List ℕ) → has self.new other ≡ (bytes_eq other name.now || has self.old other)) }
+    {
+        let new = self.names.insert(name)?;
+        Ok(new)
+    }
+}

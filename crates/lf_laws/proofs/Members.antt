@@ -1,0 +1,103 @@
+-- Members of lists, and texts that are told apart.
+use Rattle.std.proofs.Common.{◌≡◌, ◌≢◌, ℕ, zero, suc, ◌<◌, Bool, true, false, ◌||◌, List, [], ◌∷◌, map, length, get_or, ◌⊎◌, inl, inr, refl, sym, ◌∙◌, ap, subst, true≢false, arith}
+use Rattle.std.specs.List.{Contains, flat_map, list_any, AllByRecursion}
+use Rattle.std.specs.Str.{bytes_eq}
+use Rattle.std.proofs.lemmas.Slice.Eq.{bytes_eq-Decides}
+use Rattle.std.proofs.lemmas.List.Elements.{Contains-append_left, Contains-append_right, Contains-append_cases}
+use Rattle.lf_laws.proofs.Booleans.{not_true, or_cases, or_right}
+
+pub here : {X : Type 0} (x : X) (xs : List X) → Contains (x ∷ xs) x
+here x xs = (0, omega arith, refl)
+
+pub behind : {X : Type 0} (x : X) (xs : List X) (y : X) → Contains xs y → Contains (x ∷ xs) y
+behind x xs y c = (suc c.0, omega (arith, c.1), c.2)
+
+pub none_in : {X : Type 0} (y : X) → Contains [] y → ⊥
+none_in y c = omega (arith, c.1)
+
+pub first_or_behind : {X : Type 0} (x : X) (xs : List X) (y : X) → Contains (x ∷ xs) y → (x ≡ y) ⊎ Contains xs y
+first_or_behind x xs y c = by c.0 c.1 c.2
+  where
+    by : (k : ℕ) → k < length (x ∷ xs) → get_or (x ∷ xs) k y ≡ y → (x ≡ y) ⊎ Contains xs y
+    by zero b e = inl e
+    by (suc k) b e = inr (k, omega arith, e)
+
+-- a list of one element has no other
+pub only_one : {X : Type 0} (x y : X) → Contains (x ∷ []) y → x ≡ y
+only_one {X = X} x y c = by (first_or_behind x [] y c)
+  where
+    by : (x ≡ y) ⊎ Contains [] y → x ≡ y
+    by (inl e) = e
+    by (inr m) = absurd (none_in y m)
+
+-- what holds of each element holds of a member
+pub each_member : {X : Type 0} (P : X → Type 0) (xs : List X) (x : X) → AllByRecursion P xs → Contains xs x → P x
+each_member P [] x all c = absurd (none_in x c)
+each_member {X = X} P (z ∷ xs) x all c = by (first_or_behind z xs x c) (each_member P xs x all.1)
+  where
+    by : (z ≡ x) ⊎ Contains xs x → (Contains xs x → P x) → P x
+    by (inl e) later = subst P e all.0
+    by (inr m) later = later m
+
+-- ---- lists made of others
+
+pub in_map : {X Y : Type 0} (f : X → Y) (xs : List X) (x : X) → Contains xs x → Contains (map f xs) (f x)
+in_map f [] x c = absurd (none_in x c)
+in_map {X} {Y} f (x ∷ xs) y c = elim (first_or_behind x xs y c) [
+  | inl e ↦ let P : Y → Type 0 = λ z. Contains (f x ∷ map f xs) z in subst P (ap f e) (here (f x) (map f xs))
+  | inr d ↦ behind (f x) (map f xs) (f y) (in_map f xs y d)
+]
+
+-- what a list becomes under a function has no other members than what its members become
+pub map_member : {X Y : Type 0} (f : X → Y) (xs : List X) (y : Y) → Contains (map f xs) y → (x : X) × Contains xs x × (y ≡ f x)
+map_member f [] y c = absurd (none_in y c)
+map_member f (x ∷ xs) y c = elim (first_or_behind (f x) (map f xs) y c) [
+  | inl e ↦ (x, here x xs, sym e)
+  | inr d ↦ let from = map_member f xs y d in (from.0, behind x xs from.0 from.1, from.2)
+]
+
+pub in_flat_map : {X Y : Type 0} (f : X → List Y) (xs : List X) (x : X) (y : Y) → Contains xs x → Contains (f x) y → Contains (flat_map f xs) y
+in_flat_map f [] x y c d = absurd (none_in x c)
+in_flat_map {X = X} {Y = Y} f (z ∷ xs) x y c d = by (first_or_behind z xs x c) (λ m. in_flat_map f xs x y m d)
+  where
+    by : (z ≡ x) ⊎ Contains xs x → (Contains xs x → Contains (flat_map f xs) y) → Contains (flat_map f (z ∷ xs)) y
+    by (inl e) later = Contains-append_left (f z) (flat_map f xs) y (subst (λ w. Contains (f w) y) (sym e) d)
+    by (inr m) later = Contains-append_right (f z) (flat_map f xs) y (later m)
+
+pub of_flat_map : {X Y : Type 0} (f : X → List Y) (xs : List X) (y : Y) → Contains (flat_map f xs) y → (x : X) × Contains xs x × Contains (f x) y
+of_flat_map f [] y c = absurd (none_in y c)
+of_flat_map {X = X} {Y = Y} f (z ∷ xs) y c = by (Contains-append_cases (f z) (flat_map f xs) y c) (of_flat_map f xs y)
+  where
+    past : (x : X) × Contains xs x × Contains (f x) y → (x : X) × Contains (z ∷ xs) x × Contains (f x) y
+    past m = (m.0, behind z xs m.0 m.1, m.2)
+
+    by : Contains (f z) y ⊎ Contains (flat_map f xs) y → (Contains (flat_map f xs) y → (x : X) × Contains xs x × Contains (f x) y) → (x : X) × Contains (z ∷ xs) x × Contains (f x) y
+    by (inl d) later = (z, here z xs, d)
+    by (inr m) later = past (later m)
+
+-- ---- texts
+
+pub same_true : (x t : List ℕ) → x ≡ t → bytes_eq x t ≡ true
+same_true x t e = (bytes_eq-Decides x t).1 e
+
+pub true_same : (x t : List ℕ) → bytes_eq x t ≡ true → x ≡ t
+true_same x t e = (bytes_eq-Decides x t).0 e
+
+pub other_false : (x t : List ℕ) → x ≢ t → bytes_eq x t ≡ false
+other_false x t h = not_true (bytes_eq x t) (λ e. h (true_same x t e))
+
+pub any_out : (k : List ℕ) (keys : List (List ℕ)) → list_any (bytes_eq k) keys ≡ true → Contains keys k
+any_out k [] e = absurd (true≢false (sym e))
+any_out k (key ∷ keys) e = by (or_cases (bytes_eq k key) (list_any (bytes_eq k) keys) e) (any_out k keys)
+  where
+    by : (bytes_eq k key ≡ true) ⊎ (list_any (bytes_eq k) keys ≡ true) → (list_any (bytes_eq k) keys ≡ true → Contains keys k) → Contains (key ∷ keys) k
+    by (inl h) later = subst (λ w. Contains (w ∷ keys) k) (true_same k key h) (here k keys)
+    by (inr h) later = behind key keys k (later h)
+
+pub any_in : (k : List ℕ) (keys : List (List ℕ)) → Contains keys k → list_any (bytes_eq k) keys ≡ true
+any_in k [] c = absurd (none_in k c)
+any_in k (key ∷ keys) c = by (first_or_behind key keys k c) (any_in k keys)
+  where
+    by : (key ≡ k) ⊎ Contains keys k → (Contains keys k → list_any (bytes_eq k) keys ≡ true) → list_any (bytes_eq k) (key ∷ keys) ≡ true
+    by (inl e) later = rw (same_true k key (sym e)) refl
+    by (inr m) later = or_right (bytes_eq k key) (list_any (bytes_eq k) keys) (later m)
