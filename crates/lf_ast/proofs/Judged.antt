@@ -1,27 +1,23 @@
 -- What is judged of an expression is its type, or the breach that is told.
-use Rattle.std.proofs.Common.{◌≡◌, ◌⊎◌, inl, inr, ℕ, Bool, true, false, cond, ◌||◌, List, [], ◌∷◌, map, length, Option, Some, None, Ok, Err, refl, sym, ◌∙◌, ap, subst}
-use Rattle.std.proofs.lemmas.List.{length-map}
+use Rattle.std.proofs.Common.{◌≡◌, ◌⊎◌, inl, inr, Bool, true, false, cond, ◌||◌, Option, Some, None, Ok, Err, refl, sym, ◌∙◌, ap, subst}
 use Rattle.lf_base.specs.declared.kind.Kind.TheVariants.{BadDuration, BadModifier, UnknownName}
 use Rattle.lf_base.specs.declared.place.Span.{Span}
-use Rattle.lf_ast.specs.Layers.{by_layers}
+use Rattle.lf_ast.specs.Tree.{Tree, Trees, Number, Str as Text, Selector, Subquery, Paren, Unary, Binary, Call, Aggregate, Nil, Next, count, span_of}
 use Rattle.lf_ast.specs.Functions.{Signature, aggregation, function_named}
-use Rattle.lf_ast.specs.Types.{HasType, Fit, Gives, is_empty_range, is_misplaced, is_number, is_unfit, is_vector, joined, selected, takes_side, type_layer}
-use Rattle.lf_ast.specs.declared.fault.Fault.{Fault}
-use Rattle.lf_ast.specs.Breaches.{fault, span_of, Breaks, BreaksAny, HasBadArgument, IsBadCall, IsBadModifier, IsEmptyRange, IsOther, Tells, breach_layer}
-use Rattle.lf_ast.specs.Judging.{Judged, arguments_fault, binary_judged, call_judged, called, counted, first, is_unfit_at, joined_at, judge_layer, judged, range_fault, side_fault, unless, when}
-use Rattle.lf_ast.specs.declared.expr.Expr.{Expr}
-use Rattle.lf_ast.specs.declared.expr.Expr.TheOpen.{Expr-F, Number, Str as Text, Selector, Subquery, Paren, Unary, Binary, Call, Aggregate}
-use Rattle.lf_ast.specs.declared.expr.Expr.TheFolds.{map-Expr, para-roll-Expr}
-use Rattle.lf_ast.specs.declared.expr.Expr.TheViews.{roll-Expr}
+use Rattle.lf_ast.specs.Types.{HasType, Fit, Gives, is_empty_range, is_misplaced, is_number, is_unfit, is_vector, joined, selected, takes_side}
+use Rattle.lf_base.specs.declared.fault.Fault.{Fault}
+use Rattle.lf_base.specs.Answers.{Decides}
+use Rattle.lf_base.specs.Faults.{fault, first, when}
+use Rattle.lf_ast.specs.Breaches.{Breaks, BreaksAny, IsBadCall, IsBadModifier, IsEmptyRange, IsOther, Tells}
+use Rattle.lf_ast.specs.Judging.{Judged, arguments_fault, binary_judged, call_judged, called, counted, is_unfit_at, joined_at, judged, range_fault, side_fault, unless}
 use Rattle.lf_ast.specs.declared.expr.ExprType.{ExprType}
 use Rattle.lf_ast.specs.declared.expr.ExprType.TheVariants.{Str, Scalar, Vector, Range}
 use Rattle.lf_ast.specs.declared.expr.Matching.{Matching}
 use Rattle.lf_ast.specs.declared.expr.Op.{Op}
 use Rattle.lf_ast.specs.declared.expr.Sight.{Sight}
-use Rattle.lf_ast.proofs.CallsJudged.{AllGood, counted_found, counted_stands, least_own, pairs, some_fault}
-use Rattle.lf_ast.proofs.Least.{Least, least_either, least_same, least_when, none_of_first, only_one}
+use Rattle.lf_ast.proofs.CallsJudged.{AllGood, counted_found, counted_stands, least_own, some_fault}
+use Rattle.lf_base.proofs.Least.{Least, least_either, least_same, least_when, none_of_first, only_one}
 use Rattle.lf_ast.proofs.Sides.{Agrees, Good, IsGiven, IsTaken, Stands, least_modifier, least_side, neither, side_taken, stands_unless}
-use Rattle.lf_ast.proofs.TypeLayers.{breach-roll, type-roll}
 
 -- ranges
 
@@ -40,7 +36,7 @@ good_selector sight = record {
 
 -- operands
 
-module _ (e : Expr) (v : Judged) (good : Good e v) where
+module _ (e : Tree) (v : Judged) (good : Good e v) where
   taken_type : (takes : ExprType → Bool) → IsTaken takes v → (t : ExprType) × HasType e t × (takes t ≡ true) × (v ≡ Ok t)
   taken_type takes taken = by v good taken where
     by : (w : Judged) → Good e w → IsTaken takes w → (t : ExprType) × HasType e t × (takes t ≡ true) × (w ≡ Ok t)
@@ -56,7 +52,7 @@ is_vector-is Str e = absurd (cc)
 is_vector-is Scalar e = absurd (cc)
 is_vector-is Range e = absurd (cc)
 
-good_subquery : (e : Expr) (v : Judged) → Good e v → (sight : Sight)
+good_subquery : (e : Tree) (v : Judged) → Good e v → (sight : Sight)
     → Agrees (λ t. HasType e Vector × (is_empty_range sight.range ≡ false) × (t ≡ Range)) (λ f. Breaks e f ⊎ (IsOther is_vector e f ⊎ IsEmptyRange sight f))
     (unless (first (side_fault is_vector (span_of e) v) (range_fault sight)) (Ok Range))
 good_subquery e v good sight =
@@ -77,7 +73,7 @@ good_subquery e v good sight =
           ∙ ap (λ b. unless (when b (fault BadDuration sight.range_span)) (Ok Range)) h.1 ∙ ap (λ u. Ok u) (sym h.2);
     }
 
-good_unary : (e : Expr) (v : Judged) → Good e v → Agrees (λ t. HasType e t × (is_number t ≡ true)) (λ f. Breaks e f ⊎ IsOther is_number e f) (unless (side_fault is_number (span_of e) v) v)
+good_unary : (e : Tree) (v : Judged) → Good e v → Agrees (λ t. HasType e t × (is_number t ≡ true)) (λ f. Breaks e f ⊎ IsOther is_number e f) (unless (side_fault is_number (span_of e) v) v)
 good_unary e v good =
     let H : ExprType → Type 0 = λ t. HasType e t × (is_number t ≡ true) in
     let side = side_fault is_number (span_of e) v in
@@ -90,7 +86,7 @@ good_unary e v good =
 
 -- operators
 
-module _ (op : Op) (m : Matching) (span : Span) (left right : Expr) (l r : Judged) (a : Good left l) (b : Good right r) where
+module _ (op : Op) (m : Matching) (span : Span) (left right : Tree) (l r : Judged) (a : Good left l) (b : Good right r) where
   abbrev BinaryHas : ExprType → Type 0
   BinaryHas t =
       (x y : ExprType) × HasType left x × HasType right y × (takes_side op x ≡ true) × (takes_side op y ≡ true)
@@ -161,128 +157,89 @@ module _ (op : Op) (m : Matching) (span : Span) (left right : Expr) (l r : Judge
 
 -- calls, of a name that has this signature or none
 
-module _ (n : ℕ) (span : Span) (es : List Expr) (all : AllGood es) where
+module _ (span : Span) (es : Trees) (all : AllGood es) where
   abbrev CallHas : Option Signature → ExprType → Type 0
-  CallHas o t = (s : Signature) × (o ≡ Some s) × Gives Expr (λ y. y) HasType n (Fit Expr (λ y. y) HasType es) s t
+  CallHas o t = (s : Signature) × (o ≡ Some s) × Gives (count es) (Fit es) s t
 
   abbrev CallBreaks : Option Signature → Fault → Type 0
-  CallBreaks o f =
-      BreaksAny Expr (λ y. y) Breaks es f
-      ⊎ (((o ≡ None) × (f ≡ fault UnknownName span))
-      ⊎ ((s : Signature) × (o ≡ Some s) × IsBadCall Expr (λ y. y) Breaks n (HasBadArgument Expr (λ y. y) Breaks es) span s f))
+  CallBreaks o f = BreaksAny es f ⊎ (((o ≡ None) × (f ≡ fault UnknownName span)) ⊎ ((s : Signature) × (o ≡ Some s) × IsBadCall es span s f))
 
-  unknown_fault : Fault
-  unknown_fault = fault UnknownName span
-
-  call_stands : (o : Option Signature) → Stands (CallHas o) (CallBreaks o) (call_judged (called o n span) (pairs es))
+  call_stands : (o : Option Signature) → Stands (CallHas o) (CallBreaks o) (call_judged (called o (count es) span) es)
   call_stands None =
       let own : Fault = fault UnknownName span in
-      let least = least_same (λ f. (f ≡ own) ⊎ BreaksAny Expr (λ y. y) Breaks es f) (CallBreaks None)
+      let least = least_same (λ f. (f ≡ own) ⊎ BreaksAny es f) (CallBreaks None)
       (λ f h. elim h [ inl w ↦ inr (inl (refl, w)) | inr a ↦ inl a ])
       (λ f h. elim h [ inl a ↦ inr a | inr h ↦ elim h [ inl u ↦ inl u.1 | inr s ↦ absurd (let bad : None ≡ Some s.0 = s.1 in cc) ] ]) _ (least_own own es all) in
-      stands_unless (CallHas None) (CallBreaks None) (arguments_fault (Err own) (Some own) 0 (pairs es)) (Err own) least (some_fault own es own 0)
-  call_stands (Some s) = by (call_judged (counted s n span) (pairs es)) (counted_stands s n span es all) where
-    by : (v : Judged) → Stands (Gives Expr (λ y. y) HasType n (Fit Expr (λ y. y) HasType es) s) (λ f. BreaksAny Expr (λ y. y) Breaks es f ⊎ IsBadCall Expr (λ y. y) Breaks n (HasBadArgument Expr (λ y. y) Breaks es) span s f) v
-        → Stands (CallHas (Some s)) (CallBreaks (Some s)) v
+      stands_unless (CallHas None) (CallBreaks None) (arguments_fault es (Err own) (Some own) 0) (Err own) least (some_fault own es own 0)
+  call_stands (Some s) = by (call_judged (counted s (count es) span) es) (counted_stands s span es all) where
+    by : (v : Judged) → Stands (Gives (count es) (Fit es) s) (λ f. BreaksAny es f ⊎ IsBadCall es span s f) v → Stands (CallHas (Some s)) (CallBreaks (Some s)) v
     by (Ok t) h = (
       (s, refl, h.0),
       λ f b. elim b [
         | inl a ↦ h.1 f (inl a)
         | inr c ↦ elim c [
           | inl u ↦ (let bad : Some s ≡ None = u.0 in cc)
-          | inr k ↦ h.1 f (inr (let same : k.0 ≡ s = cc in let P : Signature → Type 0 = λ z. IsBadCall Expr (λ y. y) Breaks n (HasBadArgument Expr (λ y. y) Breaks es) span z f in subst P same k.2))
+          | inr k ↦ h.1 f (inr (let same : k.0 ≡ s = cc in let P : Signature → Type 0 = λ z. IsBadCall es span z f in subst P same k.2))
         ]
       ],
     )
-    by (Err g) h = least_same (λ f. BreaksAny Expr (λ y. y) Breaks es f ⊎ IsBadCall Expr (λ y. y) Breaks n (HasBadArgument Expr (λ y. y) Breaks es) span s f) (CallBreaks (Some s))
+    by (Err g) h = least_same (λ f. BreaksAny es f ⊎ IsBadCall es span s f) (CallBreaks (Some s))
         (λ f b. elim b [ inl a ↦ inl a | inr c ↦ inr (inr (s, refl, c)) ])
         (λ f b. elim b [
           | inl a ↦ inl a
           | inr c ↦ elim c [
             | inl u ↦ absurd (let bad : Some s ≡ None = u.0 in cc)
-            | inr k ↦ inr (let same : k.0 ≡ s = cc in let P : Signature → Type 0 = λ z. IsBadCall Expr (λ y. y) Breaks n (HasBadArgument Expr (λ y. y) Breaks es) span z f in subst P same k.2)
+            | inr k ↦ inr (let same : k.0 ≡ s = cc in let P : Signature → Type 0 = λ z. IsBadCall es span z f in subst P same k.2)
           ]
         ]) (Some g) h
 
-  good_call : (o : Option Signature) → Agrees (CallHas o) (CallBreaks o) (call_judged (called o n span) (pairs es))
+  good_call : (o : Option Signature) → Agrees (CallHas o) (CallBreaks o) (call_judged (called o (count es) span) es)
   good_call o = record {
     stands = call_stands o;
-    found = λ t h. ap (λ x. call_judged (called x n span) (pairs es)) h.1 ∙ counted_found h.0 n span es all t h.2;
+    found = λ t h. ap (λ x. call_judged (called x (count es) span) es) h.1 ∙ counted_found h.0 span es all t h.2;
   }
 
 -- the whole
 
-abbrev GoodExpr : Expr → Type 0
-GoodExpr e = Good e (judged e)
+abbrev GoodTree : Tree → Type 0
+GoodTree e = Good e (judged e)
 
-abbrev here : Expr-F Expr → Judged
-here z = judge_layer (map-Expr Expr (Expr × Judged) (λ y. (y, judged y)) z)
+mutual
+  pub good : (e : Tree) → GoodTree e
+  good (Number text span) = record { stands = (refl, λ f b. b); found = λ t e. ap (λ u. Ok u) (sym e) }
+  good (Text text span) = record { stands = (refl, λ f b. b); found = λ t e. ap (λ u. Ok u) (sym e) }
+  good (Selector name matchers sight span) = good_selector sight
+  good (Subquery of sight span) = good_subquery of _ (good of) sight
+  good (Paren of span) = good of
+  good (Unary minus of span) = good_unary of _ (good of)
+  good (Binary op m left right span) = good_binary op m span left right _ _ (good left) (good right)
+  good (Call name args span) = good_call span args (all_good args) (function_named name)
+  good (Aggregate op grouping args span) = record { stands = counted_stands (aggregation op) span args (all_good args); found = counted_found (aggregation op) span args (all_good args) }
 
-abbrev GoodAt : Expr-F Expr → Type 0
-GoodAt z = Agrees (type_layer Expr (λ y. y) HasType z) (breach_layer Expr (λ y. y) Breaks z) (here z)
-
-good_rolled : (z : Expr-F Expr) → GoodAt z → GoodExpr (roll-Expr z)
-good_rolled z h =
-    let is : judged (roll-Expr z) ≡ here z = para-roll-Expr Judged judge_layer z in
-    let V : Judged → Type 0 = λ v. Agrees (type_layer Expr (λ y. y) HasType z) (breach_layer Expr (λ y. y) Breaks z) v in
-    let H : (ExprType → Type 0) → Type 0 = λ has. Agrees has (breach_layer Expr (λ y. y) Breaks z) (judged (roll-Expr z)) in
-    let B : (Fault → Type 0) → Type 0 = λ breaks. Agrees (HasType (roll-Expr z)) breaks (judged (roll-Expr z)) in
-    subst B (sym (breach-roll z)) (subst H (sym (type-roll z)) (subst V (sym is) h))
-
-module _ (X : Type 0) (whole : X → Expr) (h : (x : X) → GoodExpr (whole x)) where
-  all_good : (args : List X) → AllGood (map whole args)
-  all_good [] = tt
-  all_good (x ∷ args) = (h x, all_good args)
-
-  good_arguments : (args : List X) (name : List ℕ) (span : Span) (o : Option Signature)
-      → Agrees (CallHas (length (map whole args)) span (map whole args) (all_good args) o) (CallBreaks (length (map whole args)) span (map whole args) (all_good args) o)
-      (call_judged (called o (length (pairs (map whole args))) span) (pairs (map whole args)))
-  good_arguments args name span o =
-      let es = map whole args in
-      let P : ℕ → Type 0 = λ n. Agrees (CallHas (length es) span es (all_good args) o) (CallBreaks (length es) span es (all_good args) o) (call_judged (called o n span) (pairs es)) in
-      subst P (sym (length-map es (λ e. (e, judged e)))) (good_call (length es) span es (all_good args) o)
-
-  good_counted : (args : List X) (span : Span) (s : Signature)
-      → Agrees (Gives Expr (λ y. y) HasType (length (map whole args)) (Fit Expr (λ y. y) HasType (map whole args)) s)
-      (λ f. BreaksAny Expr (λ y. y) Breaks (map whole args) f ⊎ IsBadCall Expr (λ y. y) Breaks (length (map whole args)) (HasBadArgument Expr (λ y. y) Breaks (map whole args)) span s f)
-      (call_judged (counted s (length (pairs (map whole args))) span) (pairs (map whole args)))
-  good_counted args span s =
-      let es = map whole args in
-      let H : ExprType → Type 0 = Gives Expr (λ y. y) HasType (length es) (Fit Expr (λ y. y) HasType es) s in
-      let B : Fault → Type 0 = λ f. BreaksAny Expr (λ y. y) Breaks es f ⊎ IsBadCall Expr (λ y. y) Breaks (length es) (HasBadArgument Expr (λ y. y) Breaks es) span s f in
-      let P : ℕ → Type 0 = λ n. Agrees H B (call_judged (counted s n span) (pairs es)) in
-      subst P (sym (length-map es (λ e. (e, judged e)))) (record { stands = counted_stands s (length es) span es (all_good args); found = counted_found s (length es) span es (all_good args) })
-
-  good_at : (y : Expr-F X) → GoodAt (map-Expr X Expr whole y)
-  good_at (Number text span) = record { stands = (refl, λ f b. b); found = λ t e. ap (λ u. Ok u) (sym e) }
-  good_at (Text text span) = record { stands = (refl, λ f b. b); found = λ t e. ap (λ u. Ok u) (sym e) }
-  good_at (Selector name matchers sight span) = good_selector sight
-  good_at (Subquery of sight span) = good_subquery (whole of.value) _ (h of.value) sight
-  good_at (Paren of span) = h of.value
-  good_at (Unary minus of span) = good_unary (whole of.value) _ (h of.value)
-  good_at (Binary op m left right span) = good_binary op m span (whole left.value) (whole right.value) _ _ (h left.value) (h right.value)
-  good_at (Call name args span) = good_arguments args name span (function_named name)
-  good_at (Aggregate op grouping args span) = good_counted args span (aggregation op)
-
-pub good : (e : Expr) → GoodExpr e
-good = by_layers GoodExpr (λ X whole h y. good_rolled (map-Expr X Expr whole y) (good_at X whole h y))
+  all_good : (args : Trees) → AllGood args
+  all_good Nil = tt
+  all_good (Next x xs) = (good x, all_good xs)
 
 -- the answers
 
-pub has_judged : (e : Expr) (t : ExprType) → judged e ≡ Ok t → HasType e t
+pub has_judged : (e : Tree) (t : ExprType) → judged e ≡ Ok t → HasType e t
 has_judged e t is = let P : Judged → Type 0 = λ v. Stands (HasType e) (Breaks e) v in let stands : Stands (HasType e) (Breaks e) (Ok t) = subst P is (good e).stands in stands.0
 
-pub tells_judged : (e : Expr) (f : Fault) → judged e ≡ Err f → Tells e f
+pub tells_judged : (e : Tree) (f : Fault) → judged e ≡ Err f → Tells e f
 tells_judged e f is = let P : Judged → Type 0 = λ v. Stands (HasType e) (Breaks e) v in let stands : Stands (HasType e) (Breaks e) (Err f) = subst P is (good e).stands in stands
 
-pub judged_type : (e : Expr) (t : ExprType) → HasType e t → judged e ≡ Ok t
+judged_type : (e : Tree) (t : ExprType) → HasType e t → judged e ≡ Ok t
 judged_type e t has = (good e).found t has
 
-pub judged_told : (e : Expr) (f : Fault) → Tells e f → judged e ≡ Err f
+judged_told : (e : Tree) (f : Fault) → Tells e f → judged e ≡ Err f
 judged_told e f tells = by (judged e) (good e) where
   by : (v : Judged) → Good e v → v ≡ Err f
   by (Ok t) g = absurd (g.stands.1 f tells.0)
   by (Err g) good = ap (λ x. Err x) (only_one g f (tells.1 g good.stands.0) (good.stands.1 f tells.0))
 
-pub no_breach : (e : Expr) (t : ExprType) → HasType e t → (f : Fault) → Breaks e f → ⊥
+pub no_breach : (e : Tree) (t : ExprType) → HasType e t → (f : Fault) → Breaks e f → ⊥
 no_breach e t has = let P : Judged → Type 0 = λ v. Stands (HasType e) (Breaks e) v in let stands : Stands (HasType e) (Breaks e) (Ok t) = subst P (judged_type e t has) (good e).stands in stands.1
+
+-- judging decides
+pub decides : (e : Tree) → Decides (HasType e) (Tells e) (judged e)
+decides e = record { stands = has_judged e; read = judged_type e; breaks = tells_judged e; told = judged_told e }

@@ -1,8 +1,8 @@
+pub mod BreachesInside
 pub mod CallsJudged
 pub mod Judged
 pub mod LabelSets
-pub mod Least
-pub mod Rolled
 pub mod Sides
-pub mod TypeLayers
+pub mod TreeOf
+pub mod UpToSpans
 mod Worked

@@ -3,16 +3,17 @@ use Rattle.std.proofs.Common.{◌≡◌, ◌⊎◌, inl, inr, ℕ, Bool, true, f
 use Rattle.lf_base.specs.declared.kind.Kind.TheVariants.{WrongType, BadModifier, BadLabel}
 use Rattle.lf_base.specs.declared.place.Span.{Span}
 use Rattle.lf_ast.specs.Functions.{Signature}
+use Rattle.lf_ast.specs.Tree.{Tree, span_of}
 use Rattle.lf_ast.specs.Types.{HasType, wanted, names_a_label, is_bad_label, is_misplaced, is_unfit, string_of}
-use Rattle.lf_ast.specs.declared.fault.Fault.{Fault}
-use Rattle.lf_ast.specs.Breaches.{fault, span_of, Breaks, IsOther, IsBadModifier, IsBadArgument}
-use Rattle.lf_ast.specs.Judging.{Judged, argument_fault, is_type, is_unfit_at, is_wanted, side_fault, unless, when}
-use Rattle.lf_ast.specs.declared.expr.Expr.{Expr}
+use Rattle.lf_base.specs.declared.fault.Fault.{Fault}
+use Rattle.lf_base.specs.Faults.{fault, when}
+use Rattle.lf_ast.specs.Breaches.{Breaks, IsOther, IsBadModifier, IsBadArgument}
+use Rattle.lf_ast.specs.Judging.{Judged, argument_fault, is_type, is_unfit_at, is_wanted, side_fault, unless}
 use Rattle.lf_ast.specs.declared.expr.ExprType.{ExprType}
 use Rattle.lf_ast.specs.declared.expr.ExprType.TheVariants.{Str, Scalar, Vector, Range}
 use Rattle.lf_ast.specs.declared.expr.Matching.{Matching}
 use Rattle.lf_ast.specs.declared.expr.Op.{Op}
-use Rattle.lf_ast.proofs.Least.{Least, least_when, not_itself}
+use Rattle.lf_base.proofs.Least.{Least, least_when, not_itself}
 
 -- what is answered is so: the type, and then there is no breach, or the least breach
 abbrev pub Stands : (ExprType → Type 0) → (Fault → Type 0) → Judged → Type 0
@@ -34,15 +35,15 @@ stands_unless H B None (Ok t) least given = (given refl, least)
 stands_unless H B None (Err f) least given = absurd (given refl)
 stands_unless H B (Some f) v least given = least
 
-abbrev pub Good : Expr → Judged → Type 0
+abbrev pub Good : Tree → Judged → Type 0
 Good e v = Agrees (HasType e) (Breaks e) v
 
 -- the type that is answered is the only one
-pub the_type : (e : Expr) (t : ExprType) → Good e (Ok t) → (u : ExprType) → HasType e u → u ≡ t
+pub the_type : (e : Tree) (t : ExprType) → Good e (Ok t) → (u : ExprType) → HasType e u → u ≡ t
 the_type e t good u has = let same : Ok t ≡ Ok u = good.found u has in cc
 
 -- where a breach is answered there is no type
-pub no_type : (e : Expr) (f : Fault) → Good e (Err f) → (u : ExprType) → HasType e u → ⊥
+pub no_type : (e : Tree) (f : Fault) → Good e (Err f) → (u : ExprType) → HasType e u → ⊥
 no_type e f good u has = let same : Err f ≡ Ok u = good.found u has in cc
 
 pub clash : (b : Bool) → b ≡ true → b ≡ false → ⊥
@@ -50,7 +51,7 @@ clash b t f = cc
 
 -- an operand
 
-pub least_side : (takes : ExprType → Bool) (e : Expr) (v : Judged) → Good e v → Least (λ f. Breaks e f ⊎ IsOther takes e f) (side_fault takes (span_of e) v)
+pub least_side : (takes : ExprType → Bool) (e : Tree) (v : Judged) → Good e v → Least (λ f. Breaks e f ⊎ IsOther takes e f) (side_fault takes (span_of e) v)
 least_side takes e (Err f) good = (inl good.stands.0, λ g h. elim h [ inl b ↦ good.stands.1 g b | inr o ↦ absurd (no_type e f good o.0 o.1) ])
 least_side takes e (Ok t) good = by (takes t) refl where
   by : (b : Bool) → takes t ≡ b → Least (λ f. Breaks e f ⊎ IsOther takes e f) (cond b None (Some (fault WrongType (span_of e))))
@@ -87,7 +88,7 @@ pub neither : (a b : Bool) → (a || b) ≡ false → (a ≡ false) × (b ≡ fa
 neither true b e = absurd (cc)
 neither false b e = (refl, e)
 
-module _ (op : Op) (m : Matching) (left right : Expr) where
+module _ (op : Op) (m : Matching) (left right : Tree) where
   abbrev Unfit : Type 0
   Unfit = (l r : ExprType) × HasType left l × HasType right r × (is_unfit op m l r ≡ true)
 
@@ -143,7 +144,7 @@ wanted-is (Some u) t e = ap (λ x. Some x) (is_type-same u t e)
 pub wanted-seen : (o : Option ExprType) (t : ExprType) → o ≡ Some t → is_wanted o t ≡ true
 wanted-seen o t e = ap (λ x. is_wanted x t) e ∙ is_type-itself t
 
-module _ (s : Signature) (k : ℕ) (e : Expr) where
+module _ (s : Signature) (k : ℕ) (e : Tree) where
   abbrev bad : Bool
   bad = names_a_label s.labels k && is_bad_label (string_of e)
 
@@ -176,6 +177,6 @@ module _ (s : Signature) (k : ℕ) (e : Expr) where
       ],
     )
 
-pub least_unjudged : (own : Fault) (k : ℕ) (e : Expr) (v : Judged) → Good e v → Least (Breaks e) (argument_fault (Err own) k (span_of e) (string_of e) v)
+pub least_unjudged : (own : Fault) (k : ℕ) (e : Tree) (v : Judged) → Good e v → Least (Breaks e) (argument_fault (Err own) k (span_of e) (string_of e) v)
 least_unjudged own k e (Err f) good = good.stands
 least_unjudged own k e (Ok t) good = good.stands.1

@@ -1,13 +1,10 @@
 -- Label sets: finite maps from label names to texts.
-use Rattle.std.specs.Prelude.{◌≢◌, ℕ, List, []}
+use Rattle.std.specs.Prelude.{◌≢◌, List, []}
 use Rattle.std.specs.Ordering.{nat_cmp}
 use Rattle.std.specs.Cmp.Lexicographic.{slice_cmp}
 use Rattle.std.specs.List.{AllByRecursion}
 use Rattle.std.specs.FinMap.{FinMap}
-
--- the bytes of a text
-abbrev pub Bytes : Type 0
-Bytes = List ℕ
+pub use Rattle.lf_base.specs.Names.{Bytes}
 
 -- a text for each of finitely many names
 abbrev pub Labels : Type 0

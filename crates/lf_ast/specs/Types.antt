@@ -1,13 +1,12 @@
 -- Which type an expression has.
 use Rattle.std.specs.Prelude.{◌≡◌, ℕ, ◌+◌, ◌==◌, nat_le, Bool, true, false, not, ◌&&◌, ◌||◌, cond, List, [], ◌∷◌, length, Option, Some, None, slice_get}
-use Rattle.std.specs.Char.{is_ascii_alphabetic, is_ascii_alphanumeric, is_ascii_digit}
+use Rattle.std.specs.Char.{is_ascii_digit}
 use Rattle.std.specs.List.{list_all, list_any}
 use Rattle.std.specs.Str.{bytes_eq}
+use Rattle.lf_base.specs.Names.{is_label_name}
 use Rattle.lf_ast.specs.Labels.{Bytes}
 use Rattle.lf_ast.specs.Functions.{Signature, aggregation, function_named}
-use Rattle.lf_ast.specs.declared.expr.Expr.{Expr}
-use Rattle.lf_ast.specs.declared.expr.Expr.TheOpen.{Expr-F, Number, Str as Text, Selector, Subquery, Paren, Unary, Binary, Call, Aggregate}
-use Rattle.lf_ast.specs.declared.expr.Expr.TheFolds.{rec-Expr, para-Expr}
+use Rattle.lf_ast.specs.Tree.{Tree, Trees, Number, Str as Text, Selector, Subquery, Paren, Unary, Binary, Call, Aggregate, Nil, Next, count}
 use Rattle.lf_ast.specs.declared.expr.ExprType.{ExprType}
 use Rattle.lf_ast.specs.declared.expr.ExprType.TheVariants.{Str, Scalar, Vector, Range}
 use Rattle.lf_ast.specs.declared.expr.Group.{Group}
@@ -121,19 +120,11 @@ is_unfit op m left right =
 
 -- labels in strings
 
--- a letter or `_`, and then letters, digits and `_`
-abbrev pub is_label_name : Bytes → Bool
-is_label_name [] = false
-is_label_name (b ∷ bs) = (is_ascii_alphabetic b || b == 95) && list_all (λ c. is_ascii_alphanumeric c || c == 95) bs
-
-abbrev pub string_layer : Expr-F (Expr × Option Bytes) → Option Bytes
-string_layer (Text text span) = Some text
-string_layer (Paren of span) = of.value.1
-string_layer _ = None
-
 -- the text of a string, which may stand in parentheses; none of any other expression
-abbrev pub string_of : Expr → Option Bytes
-string_of = para-Expr (Option Bytes) string_layer
+abbrev pub string_of : Tree → Option Bytes
+string_of (Text text span) = Some text
+string_of (Paren of span) = string_of of
+string_of _ = None
 
 -- it is a string, and its text is no label name
 abbrev pub is_bad_label : Option Bytes → Bool
@@ -173,29 +164,26 @@ takes_count s n = takes_further s.further (length s.takes) n
 
 -- the relation
 
-module _ (X : Type 0) (whole : X → Expr) (has : X → ExprType → Type 0) where
-  -- each argument, of which the first is argument k, has the type that is wanted of it, and names a label where one is wanted
-  abbrev pub Fit : List X → Signature → ℕ → Type 0
-  Fit [] = λ s k. Unit {0}
-  Fit (x ∷ xs) = λ s k. ((t : ExprType) × (wanted s k ≡ Some t) × has x t × ((names_a_label s.labels k && is_bad_label (string_of (whole x))) ≡ false)) × Fit xs s (k + 1)
+-- a call of n arguments, which fit, by a signature
+abbrev pub Gives : ℕ → (Signature → ℕ → Type 0) → Signature → ExprType → Type 0
+Gives n fit s t = (takes_count s n ≡ true) × fit s 0 × (t ≡ s.gives)
 
-  -- a call of this signature
-  abbrev pub Gives : ℕ → (Signature → ℕ → Type 0) → Signature → ExprType → Type 0
-  Gives n fit s t = (takes_count s n ≡ true) × fit s 0 × (t ≡ s.gives)
-
-  abbrev pub type_layer : Expr-F X → ExprType → Type 0
-  type_layer (Number text span) t = t ≡ Scalar
-  type_layer (Text text span) t = t ≡ Str
-  type_layer (Selector name matchers sight span) t = (is_empty_range sight.range ≡ false) × (t ≡ selected sight.range)
-  type_layer (Subquery of sight span) t = has of.value Vector × (is_empty_range sight.range ≡ false) × (t ≡ Range)
-  type_layer (Paren of span) t = has of.value t
-  type_layer (Unary minus of span) t = has of.value t × (is_number t ≡ true)
-  type_layer (Binary op m left right span) t =
-      (l r : ExprType) × has left.value l × has right.value r × (takes_side op l ≡ true) × (takes_side op r ≡ true)
+abbrev mutual
+  -- the expression has this type
+  pub HasType : Tree → ExprType → Type 0
+  HasType (Number text span) t = t ≡ Scalar
+  HasType (Text text span) t = t ≡ Str
+  HasType (Selector name matchers sight span) t = (is_empty_range sight.range ≡ false) × (t ≡ selected sight.range)
+  HasType (Subquery of sight span) t = HasType of Vector × (is_empty_range sight.range ≡ false) × (t ≡ Range)
+  HasType (Paren of span) t = HasType of t
+  HasType (Unary minus of span) t = HasType of t × (is_number t ≡ true)
+  HasType (Binary op m left right span) t =
+      (l r : ExprType) × HasType left l × HasType right r × (takes_side op l ≡ true) × (takes_side op r ≡ true)
       × (is_misplaced op m ≡ false) × (is_unfit op m l r ≡ false) × (t ≡ joined l r)
-  type_layer (Call name args span) t = (s : Signature) × (function_named name ≡ Some s) × Gives (length args) (Fit args) s t
-  type_layer (Aggregate op grouping args span) t = Gives (length args) (Fit args) (aggregation op) t
+  HasType (Call name args span) t = (s : Signature) × (function_named name ≡ Some s) × Gives (count args) (Fit args) s t
+  HasType (Aggregate op grouping args span) t = Gives (count args) (Fit args) (aggregation op) t
 
--- the expression has this type
-abbrev pub HasType : Expr → ExprType → Type 0
-HasType = rec-Expr (ExprType → Type 0) type_layer
+  -- each argument, of which the first is argument k, has the type that is wanted of it, and names a label where one is wanted
+  pub Fit : Trees → Signature → ℕ → Type 0
+  Fit Nil s k = Unit {0}
+  Fit (Next x xs) s k = ((t : ExprType) × (wanted s k ≡ Some t) × HasType x t × ((names_a_label s.labels k && is_bad_label (string_of x)) ≡ false)) × Fit xs s (k + 1)

@@ -1,17 +1,15 @@
 //! Calls: the number of their arguments, and what each is to be.
 ghost use Rattle.std.specs.Prelude.{◌≡◌, ◌==◌, ◌||◌};
-ghost use Rattle.std.specs.Char.{is_ascii_alphabetic, is_ascii_alphanumeric};
-ghost use Rattle.std.specs.List.{list_all};
 ghost use Rattle.lf_ast.specs.Functions.{function_named, signature_of};
-ghost use Rattle.lf_ast.specs.Types.{is_bad_label, is_label_name, names_a_label, string_of, takes_count, wanted};
-ghost use Rattle.lf_ast.specs.Breaches.{span_of};
+ghost use Rattle.lf_ast.specs.Types.{is_bad_label, names_a_label, string_of, takes_count, wanted};
+ghost use Rattle.lf_ast.specs.Tree.{span_of, tree};
 ghost use Rattle.lf_ast.specs.Judging.{argument_fault, call_of, called, counted, given, is_wanted, own_fault};
 
-use crate::fault::{Fault, when};
 use crate::operands::Judged;
 use crate::parts::{span_of, string_of};
 use crate::{Expr, ExprType, Function, Further, LabelEffect};
-use lf_base::{Kind, Span};
+use lf_base::names::is_label_name;
+use lf_base::{Fault, Kind, Span};
 
 /// What is called, or what is wrong with its name or the number of its arguments.
 pub type Called = Result<Function, Fault>;
@@ -100,39 +98,13 @@ fn names_a_label(labels: LabelEffect, k: usize) -> bool
     }
 }
 
-/// Whether the text is a label name: a letter or `_`, and then letters, digits and `_`.
-pub fn is_label_name(text: &str) -> bool
-    ensures { result ≡ is_label_name text.now }
-{
-    match text.as_bytes() {
-        [] => false,
-        [first, rest @ ..] => begins_a_label(*first) && are_of_labels(rest),
-    }
-}
-
-/// Whether a label name may begin with the byte.
-fn begins_a_label(b: u8) -> bool
-    ensures { result ≡ (is_ascii_alphabetic b || b == 95) }
-{
-    b.is_ascii_alphabetic() || b == b'_'
-}
-
-/// Whether each byte may stand in a label name.
-fn are_of_labels(bytes: &[u8]) -> bool
-    ensures { result ≡ list_all (λ c. is_ascii_alphanumeric c || c == 95) bytes.now }
-{
-    bytes
-        .iter()
-        .all(|b| b.is_ascii_alphanumeric() || *b == b'_')
-}
-
 /// Whether this is a string whose text is no label name.
 fn is_bad_label(expr: &Expr) -> bool
-    ensures { result ≡ is_bad_label (string_of expr.now) }
+    ensures { result ≡ is_bad_label (string_of (tree expr.now)) }
 {
     match string_of(expr) {
         None => false,
-        Some(text) => !is_label_name(text.as_str()),
+        Some(text) => !is_label_name(text.as_str().as_bytes()),
     }
 }
 
@@ -148,7 +120,7 @@ fn is_wanted(wanted: Option<ExprType>, of: ExprType) -> bool
 
 /// The breach of argument `k`, counted from 0: one inside it, that it isn't of the type that is wanted, or that it is to name a label and doesn't.
 pub fn argument_fault(call: &Called, k: usize, expr: &Expr, judged: &Judged) -> Option<Fault>
-    ensures { result ≡ argument_fault (call_of call.now) k (span_of expr.now) (string_of expr.now) judged.now }
+    ensures { result ≡ argument_fault (call_of call.now) k (span_of (tree expr.now)) (string_of (tree expr.now)) judged.now }
 {
     match (judged, call) {
         (Err(fault), _) => Some(*fault),
@@ -156,9 +128,9 @@ pub fn argument_fault(call: &Called, k: usize, expr: &Expr, judged: &Judged) -> 
         (Ok(of), Ok(function)) => {
             if is_wanted(wanted(function, k), *of) {
                 let bad = names_a_label(function.labels, k) && is_bad_label(expr);
-                when(bad, Kind::BadLabel, span_of(expr))
+                Fault::when(bad, Kind::BadLabel, span_of(expr))
             } else {
-                when(true, Kind::WrongType, span_of(expr))
+                Fault::when(true, Kind::WrongType, span_of(expr))
             }
         }
     }

@@ -1,15 +1,20 @@
-//! Laws of types, for readers and for the crates above. The function does nothing; what it ensures is the law.
-ghost use Rattle.std.specs.Prelude.{◌≡◌, ◌⊎◌};
+//! Laws of expressions, for readers and for the crates above. The functions do nothing; what they ensure is the law.
+ghost use Rattle.std.specs.Prelude.{◌≡◌, ◌↔◌, IsTrue};
+ghost use Rattle.lf_base.specs.Answers.{OneAnswer};
 ghost use Rattle.lf_ast.specs.Types.{HasType};
 ghost use Rattle.lf_ast.specs.Breaches.{Breaks, Tells};
-ghost use Rattle.lf_ast.specs.declared.expr.Expr.{Expr};
+ghost use Rattle.lf_ast.specs.Spanless.{same, spanless};
+ghost use Rattle.lf_ast.specs.Tree.{Tree};
 ghost use Rattle.lf_ast.specs.declared.expr.ExprType.{ExprType};
-ghost use Rattle.lf_ast.specs.declared.fault.Fault.{Fault};
+ghost use Rattle.lf_base.specs.declared.fault.Fault.{Fault};
 
 /// An expression has one type and no breach, or it has none and tells one breach.
 pub fn one_type()
-    ensures types { (e : Expr) (t u : ExprType) → HasType e t → HasType e u → t ≡ u }
-    ensures breach { (e : Expr) (f g : Fault) → Tells e f → Tells e g → f ≡ g }
-    ensures one { (e : Expr) (t : ExprType) (f : Fault) → HasType e t → Breaks e f → ⊥ }
-    ensures some { (e : Expr) → ((t : ExprType) × HasType e t) ⊎ ((f : Fault) × Tells e f) }
+    ensures answer { (e : Tree) → OneAnswer (HasType e) (Tells e) }
+    ensures none { (e : Tree) (t : ExprType) (f : Fault) → HasType e t → Breaks e f → ⊥ }
+{}
+
+/// Two expressions are the same exactly where they are equal with each span left out.
+pub fn same_without_spans()
+    ensures { (x y : Tree) → IsTrue (same x y) ↔ (spanless x ≡ spanless y) }
 {}

@@ -1,20 +1,21 @@
 //! The type of an expression.
-ghost use Rattle.std.specs.Prelude.{◌≡◌, Ok, Err, Option, IfOk, IfErr};
-ghost use Rattle.lf_ast.specs.Types.{HasType};
-ghost use Rattle.lf_ast.specs.Breaches.{Gives, IfAt, Tells};
-ghost use Rattle.lf_ast.specs.Judging.{arguments_fault, call_judged, call_of, judged, judged_arguments};
-ghost use Rattle.lf_ast.specs.declared.expr.ExprType.{ExprType};
-ghost use Rattle.lf_ast.specs.declared.fault.Fault.{Fault};
+ghost use Rattle.std.specs.Prelude.{◌≡◌, ℕ, IfOk};
+ghost use Rattle.lf_ast.specs.Tree.{tree, trees};
+ghost use Rattle.lf_ast.specs.Types.{HasType, takes_side};
+ghost use Rattle.lf_base.specs.Answers.{Answers, Breach, Found, Only, Refused, RefusedIn};
+ghost use Rattle.lf_ast.specs.Breaches.{Tells};
+ghost use Rattle.lf_ast.specs.Inside.{Inside};
+ghost use Rattle.lf_base.specs.Faults.{first};
+ghost use Rattle.lf_ast.specs.Judging.{call_judged, call_of, judged, side_fault};
 
 use crate::calls::{Called, argument_fault, called, counted, given, own_fault};
-use crate::fault::first;
 use crate::modifiers::modifier_fault;
 use crate::operands::{
     Judged, Operands, joined_at, operands_of, range_fault, selected, side_fault, unless,
 };
 use crate::parts::span_of;
-use crate::{Expr, ExprType, Function};
-use lf_base::{Memory, Refusal};
+use crate::{Expr, ExprType, Function, Op};
+use lf_base::{Fault, Memory, Refusal, Span};
 use std::alloc::Global;
 
 /// The type of an expression.
@@ -24,27 +25,30 @@ use std::alloc::Global;
 /// argument that is to name a label.
 pub fn type_of(alloc: Global, expr: &Expr) -> Result<ExprType, Refusal>
     // What is answered is the type.
-    ensures found { IfOk result (λ t. HasType expr.now t) }
+    ensures found { Found (λ t. t) (HasType (tree expr.now)) result }
     // It is answered, unless memory runs out; so no expression has two types.
-    ensures only { (t : ExprType) → HasType expr.now t → Gives result (Ok t) }
+    ensures only { Only (λ t. t) (HasType (tree expr.now)) result }
     // What is refused is the breach that is told.
-    ensures refused { IfErr result (λ refusal. IfAt refusal (Tells expr.now)) }
+    ensures refused { Refused (Tells (tree expr.now)) result }
     // It is refused, unless memory runs out; so no expression tells two breaches, nor has one that does a type.
-    ensures breach { (f : Fault) → Tells expr.now f → Gives result (Err f) }
+    ensures breach { Breach (λ t. t) (Tells (tree expr.now)) result }
+    // In a source that each span of the expression lies in lies what is refused, too.
+    ensures inside { (n : ℕ) → Inside n (tree expr.now) → RefusedIn n result }
 {
-    match judge(alloc, expr)? {
-        Ok(of) => Ok(of),
-        Err(fault) => Err(Refusal::At {
-            kind: fault.kind,
-            span: fault.span,
-        }),
-    }
+    read_type(alloc, expr)
+}
+
+/// The same, by one pass over the expression.
+fn read_type(alloc: Global, expr: &Expr) -> Result<ExprType, Refusal>
+    ensures { Answers result (judged (tree expr.now)) }
+{
+    Ok(judge(alloc, expr)??)
 }
 
 /// The type of an expression, or the breach that is told.
 #[cycle(judge)]
 fn judge(alloc: Global, expr: &Expr) -> Result<Judged, Memory>
-    ensures { IfOk result (λ found. found ≡ judged expr.now) }
+    ensures { IfOk result (λ found. found ≡ judged (tree expr.now)) }
 {
     match expr {
         Expr::Number { .. } => Ok(Ok(ExprType::Scalar)),
@@ -53,7 +57,7 @@ fn judge(alloc: Global, expr: &Expr) -> Result<Judged, Memory>
         Expr::Subquery { of, sight, .. } => {
             let operand = judge(alloc, of)?;
             let fault = side_fault(Operands::Vectors, span_of(of), &operand);
-            Ok(unless(first(fault, range_fault(sight)), Ok(ExprType::Range)))
+            Ok(unless(Fault::first(fault, range_fault(sight)), Ok(ExprType::Range)))
         }
         Expr::Paren { of, .. } => judge(alloc, of),
         Expr::Unary { of, .. } => {
@@ -72,11 +76,10 @@ fn judge(alloc: Global, expr: &Expr) -> Result<Judged, Memory>
         } => {
             let left_side = judge(alloc, left)?;
             let right_side = judge(alloc, right)?;
-            let left_fault = side_fault(operands_of(*op), span_of(left), &left_side);
-            let right_fault = side_fault(operands_of(*op), span_of(right), &right_side);
+            let fault = sides_fault(*op, span_of(left), &left_side, span_of(right), &right_side);
             let own = modifier_fault(alloc, *op, modifier, *span, &left_side, &right_side)?;
             Ok(unless(
-                first(first(left_fault, right_fault), own),
+                Fault::first(fault, own),
                 Ok(joined_at(&left_side, &right_side)),
             ))
         }
@@ -91,15 +94,32 @@ fn judge(alloc: Global, expr: &Expr) -> Result<Judged, Memory>
     }
 }
 
+/// The breach of two sides of an operator that is told.
+fn sides_fault(
+    op: Op,
+    left_span: Span,
+    left: &Judged,
+    right_span: Span,
+    right: &Judged,
+) -> Option<Fault>
+    ensures { result ≡ first (side_fault (takes_side op) left_span left.now) (side_fault (takes_side op) right_span right.now) }
+{
+    let operands = operands_of(op);
+    Fault::first(
+        side_fault(operands, left_span, left),
+        side_fault(operands, right_span, right),
+    )
+}
+
 /// The type of a call, or the breach that is told.
 #[cycle(judge)]
 fn judge_call(alloc: Global, call: &Called, args: &[Expr]) -> Result<Judged, Memory>
-    ensures { IfOk result (λ found. found ≡ call_judged (call_of call.now) (judged_arguments args.now)) }
+    ensures { IfOk result (λ found. found ≡ call_judged (call_of call.now) (trees args.now)) }
 {
     let mut fault = own_fault(call);
     for k in 0..args.len() {
         let argument = judge(alloc, &args[k])?;
-        fault = first(fault, argument_fault(call, k, &args[k], &argument));
+        fault = Fault::first(fault, argument_fault(call, k, &args[k], &argument));
     }
     Ok(unless(fault, given(call)))
 }

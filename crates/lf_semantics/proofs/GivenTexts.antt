@@ -1,17 +1,12 @@
 -- Over series and recorded samples without an empty text, no expression gives an empty text.
-use Rattle.std.proofs.Common.{◌≡◌, ℕ, zero, suc, Bool, true, false, List, [], ◌∷◌, map, Option, Some, None, inl, inr, sym, ◌∙◌, subst}
-use Rattle.std.specs.Prelude.{slice_get}
-use Rattle.std.specs.List.{AllByRecursion, Contains}
+use Rattle.std.proofs.Common.{◌≡◌, ℕ, zero, suc, Bool, true, false, List, [], ◌∷◌, Option, Some, None, inl, inr, sym, ◌∙◌, subst}
+use Rattle.std.specs.List.{Contains}
 use Rattle.std.specs.Cmp.Lexicographic.{slice_cmp}
 use Rattle.std.specs.Ordering.{nat_cmp}
 use Rattle.std.specs.FinMap.{get-empty}
 use Rattle.lf_ast.specs.Functions.{Signature, aggregation, function_named}
 use Rattle.lf_ast.specs.Labels.{Labels}
-use Rattle.lf_ast.specs.Layers.{by_layers}
-use Rattle.lf_ast.specs.declared.expr.Expr.{Expr}
-use Rattle.lf_ast.specs.declared.expr.Expr.TheOpen.{Expr-F, Number, Str, Selector, Subquery, Paren, Unary, Binary, Call, Aggregate}
-use Rattle.lf_ast.specs.declared.expr.Expr.TheFolds.{map-Expr}
-use Rattle.lf_ast.specs.declared.expr.Expr.TheViews.{roll-Expr}
+use Rattle.lf_ast.specs.Tree.{Tree, Trees, Number, Str, Selector, Subquery, Paren, Unary, Binary, Call, Aggregate, Nil, Next}
 use Rattle.lf_ast.specs.declared.expr.Group.{Group}
 use Rattle.lf_ast.specs.declared.expr.Group.TheVariants.{One, Left, Right}
 use Rattle.lf_ast.specs.declared.expr.Grouping.{Grouping}
@@ -22,13 +17,13 @@ use Rattle.lf_ast.specs.declared.expr.Op.{Op}
 use Rattle.lf_ast.specs.declared.expr.Op.TheVariants.{Add, Subtract, Multiply, Divide, Modulo, Power, Atan2, Equal, NotEqual, LessOrEqual, Less, GreaterOrEqual, Greater, And, Or, Unless}
 use Rattle.lf_ast.specs.declared.functions.LabelEffect.{LabelEffect}
 use Rattle.lf_ast.specs.declared.functions.LabelEffect.TheVariants.{Maps, Keeps, Groups, CountValues, Date, Absent, LabelReplace, LabelJoin, HistogramQuantile, Bare}
-use Rattle.lf_semantics.specs.Evaluation.{ArePairs, IsCounted, IsGrouped, IsJoined, IsQuantile, IsReplaced, Stays, BesideScalar, BinaryGives, Combines, EffectGives, Gives, IsAbsent, IsBare, LosesName, Made, PairsGive, SignGives, SomeMade, Wide, bare, call_gives, gives_at, wide_layer}
+use Rattle.lf_ast.specs.Arguments.{text_at, texts_of}
+use Rattle.lf_semantics.specs.Evaluation.{ArePairs, ArgumentEvaluates, BesideScalar, BinaryGives, CallGives, Combines, EffectGives, Evaluates, Gives, IsAbsent, IsBare, IsCounted, IsGrouped, IsJoined, IsQuantile, IsReplaced, LosesName, Made, PairsGive, SignGives, SomeMade, Stays, bare}
 use Rattle.lf_semantics.specs.Grouped.{group_of, is_arithmetic, is_filter, paired, taken_from, without_name_if}
-use Rattle.lf_semantics.specs.Parts.{Sought, is_scalar_part, operand_place, text_at, texts_of}
+use Rattle.lf_semantics.specs.Parts.{Sought, is_scalar_part, operand_place}
 use Rattle.lf_semantics.specs.Strings.{joining, replacing}
 use Rattle.lf_semantics.specs.Texts.{HasTexts, value_of}
 use Rattle.lf_semantics.proofs.Kept.{restricted_has_texts, with_label_has_texts}
-use Rattle.lf_semantics.proofs.Rolls.{wide-roll}
 
 -- no text of a member is empty
 abbrev pub HaveTexts : List Labels → Type 0
@@ -74,14 +69,14 @@ absent_has_texts None r is = subst HasTexts (sym is) bare_has_texts
 absent_has_texts (Some sought) r (inl has) = has.0
 absent_has_texts (Some sought) r (inr none) = subst HasTexts (sym none.1) bare_has_texts
 
-effect_texts : (effect : LabelEffect) (grouping : Grouping) (args : List Expr) (W : Gives) → GivesTexts W → GivesTexts (EffectGives effect grouping args W)
+effect_texts : (effect : LabelEffect) (grouping : Grouping) (args : Trees) (W : Gives) → GivesTexts W → GivesTexts (EffectGives effect grouping args W)
 effect_texts Maps grouping args W h = some_made LosesName W loses_name h
 effect_texts Keeps grouping args W h = some_made Stays W (λ s r e k. subst HasTexts (sym e) k) h
 effect_texts Groups grouping args W h = all_made (IsGrouped grouping) W (λ s r e k. subst HasTexts (sym e) (restricted_has_texts _ s k)) h
 effect_texts CountValues grouping args W h =
     some_made (IsCounted grouping (text_at (texts_of args) 0)) W (λ s r e k. subst HasTexts (sym e.2) (with_label_has_texts (text_at (texts_of args) 0) e.0 (group_of grouping s) (restricted_has_texts _ s k))) h
-effect_texts Date grouping [] W h = bare_texts
-effect_texts Date grouping (arg ∷ args) W h = some_made LosesName W loses_name h
+effect_texts Date grouping Nil W h = bare_texts
+effect_texts Date grouping (Next x xs) W h = some_made LosesName W loses_name h
 effect_texts Absent grouping args W h = λ R w r c. subst HasTexts (sym (w.2 r c)) (absent_has_texts _ w.0 w.1)
 effect_texts LabelReplace grouping args W h = all_made (IsReplaced (replacing (texts_of args))) W replaced h
   where
@@ -134,38 +129,24 @@ sign_texts true W h = all_made LosesName W loses_name h
 sign_texts false W h = h
 
 module _ (S N : List Labels) (scraped : HaveTexts S) (recorded : HaveTexts N) where
-  abbrev Good : Expr → Type 0
-  Good e = GivesTexts (Wide S N e)
+  call_texts : (s : Option Signature) (grouping : Grouping) (args : Trees) → ((k : ℕ) → GivesTexts (ArgumentEvaluates S N args k)) → GivesTexts (CallGives s grouping args (ArgumentEvaluates S N args))
+  call_texts None grouping args each = λ R w. absurd w
+  call_texts (Some s) grouping args each = λ R w. effect_texts s.labels grouping args (ArgumentEvaluates S N args (operand_place s)) (each (operand_place s)) R w
 
-  argument_texts : (args : List Expr) (k : ℕ) → AllByRecursion Good args → GivesTexts (gives_at S N Expr (λ y. y) (Wide S N) (slice_get args k))
-  argument_texts [] k good = λ R w. absurd w
-  argument_texts (x ∷ args) zero good = good.0
-  argument_texts (x ∷ args) (suc k) good = argument_texts args k good.1
+  mutual
+    pub evaluates_gives_texts : (e : Tree) → GivesTexts (Evaluates S N e)
+    evaluates_gives_texts (Number text span) = λ R w r c. bare_texts R w r c
+    evaluates_gives_texts (Str text span) = λ R w. absurd w
+    evaluates_gives_texts (Selector name matchers sight span) = λ R w r c. elim ((w r c).0) [ inl a ↦ scraped r a | inr b ↦ recorded r b ]
+    evaluates_gives_texts (Subquery of sight span) = λ R w r c. let e = w r c in evaluates_gives_texts of e.0 e.1 r e.2
+    evaluates_gives_texts (Paren of span) = λ R w r c. evaluates_gives_texts of R w r c
+    evaluates_gives_texts (Unary minus of span) = λ R w r c. sign_texts minus (Evaluates S N of) (evaluates_gives_texts of) R w r c
+    evaluates_gives_texts (Binary op m left right span) = λ R w r c.
+        binary_texts op m (is_scalar_part left) (is_scalar_part right) (Evaluates S N left) (Evaluates S N right) (evaluates_gives_texts left) (evaluates_gives_texts right) R w r c
+    evaluates_gives_texts (Call name args span) = λ R w r c. call_texts (function_named name) Ungrouped args (argument_gives_texts args) R w r c
+    evaluates_gives_texts (Aggregate op grouping args span) = λ R w r c. call_texts (Some (aggregation op)) grouping args (argument_gives_texts args) R w r c
 
-  call_texts : (s : Option Signature) (grouping : Grouping) (args : List Expr) → AllByRecursion Good args → GivesTexts (call_gives S N Expr (λ y. y) (Wide S N) s grouping args)
-  call_texts None grouping args good = λ R w. absurd w
-  call_texts (Some s) grouping args good = λ R w.
-      effect_texts s.labels grouping (map (λ (y : Expr). y) args) (gives_at S N Expr (λ y. y) (Wide S N) (slice_get args (operand_place s))) (argument_texts args (operand_place s) good) R w
-
-  texts_rolled : (z : Expr-F Expr) → GivesTexts (wide_layer S N Expr (λ y. y) (Wide S N) z) → Good (roll-Expr z)
-  texts_rolled z h R w = h R (let W : Gives → Type 0 = λ g. g R in subst W (wide-roll S N z) w)
-
-  module _ (X : Type 0) (whole : X → Expr) (h : (x : X) → Good (whole x)) where
-    each_good : (args : List X) → AllByRecursion Good (map whole args)
-    each_good [] = tt
-    each_good (x ∷ args) = (h x, each_good args)
-
-    texts_at : (y : Expr-F X) → GivesTexts (wide_layer S N Expr (λ y. y) (Wide S N) (map-Expr X Expr whole y))
-    texts_at (Number text span) = λ R w r c. bare_texts R w r c
-    texts_at (Str text span) = λ R w. absurd w
-    texts_at (Selector name matchers sight span) = λ R w r c. elim ((w r c).0) [ inl a ↦ scraped r a | inr b ↦ recorded r b ]
-    texts_at (Subquery of sight span) = λ R w r c. let e = w r c in h of.value e.0 e.1 r e.2
-    texts_at (Paren of span) = h of.value
-    texts_at (Unary minus of span) = λ R w r c. sign_texts minus (Wide S N (whole of.value)) (h of.value) R w r c
-    texts_at (Binary op m left right span) = λ R w r c.
-        binary_texts op m (is_scalar_part (whole left.value)) (is_scalar_part (whole right.value)) (Wide S N (whole left.value)) (Wide S N (whole right.value)) (h left.value) (h right.value) R w r c
-    texts_at (Call name args span) = λ R w r c. call_texts (function_named name) Ungrouped (map whole args) (each_good args) R w r c
-    texts_at (Aggregate op grouping args span) = λ R w r c. call_texts (Some (aggregation op)) grouping (map whole args) (each_good args) R w r c
-
-  pub wide_gives_texts : (e : Expr) → GivesTexts (Wide S N e)
-  wide_gives_texts = by_layers Good (λ X whole h y. texts_rolled (map-Expr X Expr whole y) (texts_at X whole h y))
+    argument_gives_texts : (args : Trees) (k : ℕ) → GivesTexts (ArgumentEvaluates S N args k)
+    argument_gives_texts Nil k = λ R w. absurd w
+    argument_gives_texts (Next x xs) zero = λ R w r c. evaluates_gives_texts x R w r c
+    argument_gives_texts (Next x xs) (suc k) = λ R w r c. argument_gives_texts xs k R w r c

@@ -1,62 +1,16 @@
--- The universe of rules: its labels are distinct, and it has all that the rules meet.
-use Rattle.std.proofs.Common.{◌≡◌, ◌≢◌, ℕ, zero, suc, ◌+◌, ◌<◌, Bool, true, false, not, cond, List, [], ◌∷◌, ◌++◌, map, length, get_or, ◌⊎◌, inl, inr, refl, sym, ◌∙◌, ap, subst, arith, length-append}
-use Rattle.std.specs.List.{AllByRecursion, Contains, filter, flat_map}
+-- The universe of rules: its labels are distinct, and it has all that the rules name.
+use Rattle.std.proofs.Common.{◌≡◌, ◌≢◌, ℕ, zero, suc, ◌+◌, ◌<◌, Bool, true, false, not, cond, List, [], ◌∷◌, ◌++◌, map, length, get_or, inl, inr, refl, sym, ◌∙◌, ap, subst, arith, length-append}
+use Rattle.std.specs.List.{Contains, filter, flat_map}
 use Rattle.std.specs.Str.{bytes_eq}
 use Rattle.std.proofs.lemmas.List.{get_or-map, length-map}
-use Rattle.std.proofs.lemmas.List.Elements.{Contains-append_left, Contains-append_right}
 use Rattle.lf_ast.specs.Labels.{Bytes}
-use Rattle.lf_ast.specs.declared.rule.Rule.{Rule}
+use Rattle.lf_ast.specs.Rules.{RuleTree}
+use Rattle.lf_ast.specs.Selectors.{metric}
 use Rattle.lf_semantics.specs.Environments.{CoversRules, IsKnown}
-use Rattle.lf_semantics.specs.Listing.{IsListing, Listing, StandOnce, class_of, first_seen, label_of, labels_met, listing_of, named_at, other_class, place, texts_met, universe_of}
-use Rattle.lf_semantics.specs.Texts.{metric}
-use Rattle.lf_semantics.specs.Walk.{Met, rule_walk, rules_walk}
-use Rattle.lf_semantics.proofs.Members.{behind, first_or_behind, here, none_in, same_true, true_same}
+use Rattle.lf_semantics.specs.Listing.{IsListing, Listing, StandOnce, class_of, first_seen, label_of, labels_mentioned, listing_of, named_at, other_class, place, texts_mentioned, universe_of}
+use Rattle.lf_semantics.specs.Mentions.{Mention, rule_mentions, rules_mentions}
+use Rattle.lf_semantics.proofs.Members.{all_of, behind, first_or_behind, here, in_filter, in_flat_map, in_map, none_in, of_filter, same_true, true_same}
 use Rattle.lf_semantics.proofs.Places.{at_place}
-
--- lists
-
-pub all_of : {X : Type 0} (P : X → Type 0) (xs : List X) → ((x : X) → Contains xs x → P x) → AllByRecursion P xs
-all_of P [] h = tt
-all_of P (x ∷ xs) h = (h x (here x xs), all_of P xs (λ y c. h y (behind x xs y c)))
-
-pub one_of : {X : Type 0} (P : X → Type 0) (xs : List X) (x : X) → AllByRecursion P xs → Contains xs x → P x
-one_of P [] x all c = absurd (none_in x c)
-one_of P (y ∷ xs) x all c = elim (first_or_behind y xs x c) [ inl e ↦ subst P e all.0 | inr d ↦ one_of P xs x all.1 d ]
-
-pub in_map : {X Y : Type 0} (f : X → Y) (xs : List X) (x : X) → Contains xs x → Contains (map f xs) (f x)
-in_map f [] x c = absurd (none_in x c)
-in_map f (y ∷ xs) x c = elim (first_or_behind y xs x c) [
-  | inl e ↦ let P : _ → Type 0 = λ z. Contains (f y ∷ map f xs) (f z) in subst P e (here (f y) (map f xs))
-  | inr d ↦ behind (f y) (map f xs) (f x) (in_map f xs x d)
-]
-
-pub in_flat_map : {X Y : Type 0} (f : X → List Y) (xs : List X) (x : X) (y : Y) → Contains xs x → Contains (f x) y → Contains (flat_map f xs) y
-in_flat_map f [] x y c d = absurd (none_in x c)
-in_flat_map f (z ∷ xs) x y c d = elim (first_or_behind z xs x c) [
-  | inl e ↦ let P : _ → Type 0 = λ w. Contains (f w) y in Contains-append_left (f z) (flat_map f xs) y (subst P (sym e) d)
-  | inr g ↦ Contains-append_right (f z) (flat_map f xs) y (in_flat_map f xs x y g d)
-]
-
-pub in_filter : {X : Type 0} (test : X → Bool) (xs : List X) (x : X) → Contains xs x → test x ≡ true → Contains (filter test xs) x
-in_filter test [] x c h = absurd (none_in x c)
-in_filter test (y ∷ xs) x c h = by (test y) refl (first_or_behind y xs x c) (λ d. in_filter test xs x d h)
-  where
-    by : (b : Bool) → test y ≡ b → (y ≡ x) ⊎ Contains xs x → (Contains xs x → Contains (filter test xs) x) → Contains (cond b (y ∷ filter test xs) (filter test xs)) x
-    by true e (inl f) rest = let P : _ → Type 0 = λ z. Contains (y ∷ filter test xs) z in subst P f (here y (filter test xs))
-    by true e (inr d) rest = behind y (filter test xs) x (rest d)
-    by false e (inl f) rest = let g : false ≡ true = sym e ∙ ap test f ∙ h in absurd (cc)
-    by false e (inr d) rest = rest d
-
-pub of_filter : {X : Type 0} (test : X → Bool) (xs : List X) (x : X) → Contains (filter test xs) x → Contains xs x × (test x ≡ true)
-of_filter test [] x c = absurd (none_in x c)
-of_filter test (y ∷ xs) x c = by (test y) refl c (of_filter test xs x)
-  where
-    by : (b : Bool) → test y ≡ b → Contains (cond b (y ∷ filter test xs) (filter test xs)) x → (Contains (filter test xs) x → Contains xs x × (test x ≡ true)) → Contains (y ∷ xs) x × (test x ≡ true)
-    by true e d rest = elim (first_or_behind y (filter test xs) x d) [
-      | inl f ↦ let P : _ → Type 0 = λ z. Contains (y ∷ xs) z × (test z ≡ true) in subst P f (here y xs, e)
-      | inr g ↦ let k = rest g in (behind y xs x k.0, k.1)
-    ]
-    by false e d rest = let k = rest d in (behind y xs x k.0, k.1)
 
 -- texts in first-seen order
 
@@ -123,9 +77,9 @@ place_within (x ∷ xs) t c = by (bytes_eq x t) refl (place_within xs t)
       | inr d ↦ omega (arith, rest d)
     ]
 
--- the universe of what is met
+-- the universe of what is named
 
-module _ (items : List Met) where
+module _ (items : List Mention) where
   abbrev u : Listing
   u = listing_of items
 
@@ -138,9 +92,9 @@ module _ (items : List Met) where
   abbrev AreGood : List Bytes → Type 0
   AreGood texts = AreDistinct texts × ((text : Bytes) → Contains texts text → text ≢ [])
 
-  good_texts : (label : Bytes) → AreGood (texts_met items label)
+  good_texts : (label : Bytes) → AreGood (texts_mentioned items label)
   good_texts label =
-      let all : List Bytes = flat_map (λ (m : Met). m.texts) (filter (λ (m : Met). bytes_eq m.label label) items) in (
+      let all : List Bytes = flat_map (λ (m : Mention). m.texts) (filter (λ (m : Mention). bytes_eq m.label label) items) in (
         first_seen_distinct (filter (λ t. not (bytes_eq t [])) all),
         λ text c e.
             let k = of_filter (λ t. not (bytes_eq t [])) all text (of_first_seen (filter (λ t. not (bytes_eq t [])) all) text c) in
@@ -151,13 +105,13 @@ module _ (items : List Met) where
   none_good : AreGood []
   none_good = (tt, λ text c. absurd (none_in text c))
 
-  good_at : (names : List Bytes) (k : ℕ) → AreGood (get_or (map (texts_met items) names ++ [] ∷ []) k [])
+  good_at : (names : List Bytes) (k : ℕ) → AreGood (get_or (map (texts_mentioned items) names ++ [] ∷ []) k [])
   good_at [] zero = none_good
   good_at [] (suc k) = none_good
   good_at (name ∷ names) zero = good_texts name
   good_at (name ∷ names) (suc k) = good_at names k
 
-  other_at : (names : List Bytes) → get_or (map (texts_met items) names ++ [] ∷ []) (length names) [] ≡ []
+  other_at : (names : List Bytes) → get_or (map (texts_mentioned items) names ++ [] ∷ []) (length names) [] ≡ []
   other_at [] = refl
   other_at (name ∷ names) = other_at names
 
@@ -165,24 +119,24 @@ module _ (items : List Met) where
   is_listing = record {
     some = omega arith;
     first = refl;
-    distinct = apart (labels_met items) (first_seen_distinct (metric ∷ map (λ m. m.label) items));
-    count = length-append (map (texts_met items) (labels_met items)) ([] ∷ []) ∙ ap (λ n. n + 1) (length-map (labels_met items) (texts_met items));
-    texts_distinct = λ label. apart (named_at (listing_of items) label) (good_at (labels_met items) label).0;
-    texts_some = λ label text c. (good_at (labels_met items) label).1 text c;
-    other_none = other_at (labels_met items);
+    distinct = apart (labels_mentioned items) (first_seen_distinct (metric ∷ map (λ m. m.label) items));
+    count = length-append (map (texts_mentioned items) (labels_mentioned items)) ([] ∷ []) ∙ ap (λ n. n + 1) (length-map (labels_mentioned items) (texts_mentioned items));
+    texts_distinct = λ label. apart (named_at (listing_of items) label) (good_at (labels_mentioned items) label).0;
+    texts_some = λ label text c. (good_at (labels_mentioned items) label).1 text c;
+    other_none = other_at (labels_mentioned items);
   }
 
-  -- the texts of a label that is met are those that are met with it
-  pub texts_at : (label : Bytes) → label_of (listing_of items) label < length (labels_met items) → named_at (listing_of items) (label_of (listing_of items) label) ≡ texts_met items label
+  -- the texts of a label that is named are those that are named with it
+  pub texts_at : (label : Bytes) → label_of (listing_of items) label < length (labels_mentioned items) → named_at (listing_of items) (label_of (listing_of items) label) ≡ texts_mentioned items label
   texts_at label h =
       let k = label_of u label in
-      front_at (map (texts_met items) (labels_met items)) ([] ∷ []) k (omega (arith, h, length-map (labels_met items) (texts_met items)))
-      ∙ get_or-map (texts_met items) (labels_met items) k [] [] h ∙ ap (texts_met items) (at_place (labels_met items) label h)
+      front_at (map (texts_mentioned items) (labels_mentioned items)) ([] ∷ []) k (omega (arith, h, length-map (labels_mentioned items) (texts_mentioned items)))
+      ∙ get_or-map (texts_mentioned items) (labels_mentioned items) k [] [] h ∙ ap (texts_mentioned items) (at_place (labels_mentioned items) label h)
 
-  label_known : (m : Met) → Contains items m → label_of (listing_of items) m.label < length (labels_met items)
-  label_known m c = place_within (labels_met items) m.label (in_first_seen (metric ∷ map (λ m. m.label) items) m.label (behind metric _ m.label (in_map (λ (x : Met). x.label) items m c)))
+  label_known : (m : Mention) → Contains items m → label_of (listing_of items) m.label < length (labels_mentioned items)
+  label_known m c = place_within (labels_mentioned items) m.label (in_first_seen (metric ∷ map (λ m. m.label) items) m.label (behind metric _ m.label (in_map (λ (x : Mention). x.label) items m c)))
 
-  text_known : (m : Met) → Contains items m → (text : Bytes) → Contains m.texts text → class_of (listing_of items) (label_of (listing_of items) m.label) text < other_class (listing_of items) (label_of (listing_of items) m.label)
+  text_known : (m : Mention) → Contains items m → (text : Bytes) → Contains m.texts text → class_of (listing_of items) (label_of (listing_of items) m.label) text < other_class (listing_of items) (label_of (listing_of items) m.label)
   text_known m c text d = by (bytes_eq text []) refl
     where
       l : ℕ
@@ -193,17 +147,17 @@ module _ (items : List Met) where
           let P : Bytes → Type 0 = λ t. class_of (listing_of items) (label_of (listing_of items) m.label) t < other_class (listing_of items) (label_of (listing_of items) m.label) in
           subst P (sym (true_same text [] e)) (omega arith)
       by false e =
-          let seen : Contains (texts_met items m.label) text =
-          in_first_seen _ text (in_filter (λ t. not (bytes_eq t [])) _ text (in_flat_map (λ (x : Met). x.texts) _ m text (in_filter (λ (x : Met). bytes_eq x.label m.label) items m c (same_true m.label m.label refl)) d) (ap not e)) in
+          let seen : Contains (texts_mentioned items m.label) text =
+          in_first_seen _ text (in_filter (λ t. not (bytes_eq t [])) _ text (in_flat_map (λ (x : Mention). x.texts) _ m text (in_filter (λ (x : Mention). bytes_eq x.label m.label) items m c (same_true m.label m.label refl)) d) (ap not e)) in
           let P : List Bytes → Type 0 = λ named. place ([] ∷ named) text < length named + 1 in
-          subst P (sym (texts_at m.label (label_known m c))) (let w = place_within ([] ∷ texts_met items m.label) text (behind [] _ text seen) in omega (arith, w))
+          subst P (sym (texts_at m.label (label_known m c))) (let w = place_within ([] ∷ texts_mentioned items m.label) text (behind [] _ text seen) in omega (arith, w))
 
-  pub all_known : (m : Met) → Contains items m → IsKnown (listing_of items) m
+  pub all_known : (m : Mention) → Contains items m → IsKnown (listing_of items) m
   all_known m c = (label_known m c, all_of _ m.texts (text_known m c))
 
--- the universe of rules has all that they meet
-pub universe_is_listing : (rules : List Rule) → IsListing (universe_of rules)
-universe_is_listing rules = is_listing (rules_walk rules)
+-- the universe of rules has all that they name
+pub universe_is_listing : (rules : List RuleTree) → IsListing (universe_of rules)
+universe_is_listing rules = is_listing (rules_mentions rules)
 
-pub universe_covers : (rules : List Rule) → CoversRules (universe_of rules) rules
-universe_covers rules r c = all_of _ (rule_walk r) (λ m d. all_known (rules_walk rules) m (in_flat_map rule_walk rules r m c d))
+pub universe_covers : (rules : List RuleTree) → CoversRules (universe_of rules) rules
+universe_covers rules r c = all_of _ (rule_mentions r) (λ m d. all_known (rules_mentions rules) m (in_flat_map rule_mentions rules r m c d))

@@ -1,47 +1,41 @@
--- Members of lists, and texts that are told apart.
-use Rattle.std.proofs.Common.{◌≡◌, ◌≢◌, ℕ, zero, suc, ◌<◌, Bool, true, false, ◌||◌, List, [], ◌∷◌, map, length, get_or, ◌⊎◌, inl, inr, refl, sym, arith}
-use Rattle.std.specs.List.{Contains}
-use Rattle.std.specs.Str.{bytes_eq}
-use Rattle.std.proofs.lemmas.Slice.Eq.{bytes_eq-Decides}
-use Rattle.lf_ast.specs.Labels.{Bytes}
+-- Members of lists. Those of lf_laws go by this file too.
+use Rattle.std.proofs.Common.{◌≡◌, Bool, true, false, cond, List, [], ◌∷◌, ◌++◌, ◌⊎◌, inl, inr, refl, sym, ◌∙◌, ap, subst}
+use Rattle.std.specs.List.{AllByRecursion, Contains, filter}
+pub use Rattle.lf_laws.proofs.Booleans.{not_true, or_cases}
+pub use Rattle.lf_laws.proofs.Members.{behind, each_member as one_of, first_or_behind, here, in_flat_map, in_map, map_member, none_in, other_false, same_true, true_same}
 
-pub here : {X : Type 0} (x : X) (xs : List X) → Contains (x ∷ xs) x
-here x xs = (0, omega arith, refl)
+pub clash : {b : Bool} → b ≡ true → b ≡ false → ⊥
+clash e f = cc
 
-pub behind : {X : Type 0} (x : X) (xs : List X) (y : X) → Contains xs y → Contains (x ∷ xs) y
-behind x xs y c = (suc c.0, omega (arith, c.1), c.2)
+pub all_of : {X : Type 0} (P : X → Type 0) (xs : List X) → ((x : X) → Contains xs x → P x) → AllByRecursion P xs
+all_of P [] h = tt
+all_of P (x ∷ xs) h = (h x (here x xs), all_of P xs (λ y c. h y (behind x xs y c)))
 
-pub none_in : {X : Type 0} (y : X) → Contains [] y → ⊥
-none_in y c = omega (arith, c.1)
-
-pub first_or_behind : {X : Type 0} (x : X) (xs : List X) (y : X) → Contains (x ∷ xs) y → (x ≡ y) ⊎ Contains xs y
-first_or_behind x xs y c = by c.0 c.1 c.2
+pub in_filter : {X : Type 0} (test : X → Bool) (xs : List X) (x : X) → Contains xs x → test x ≡ true → Contains (filter test xs) x
+in_filter test [] x c h = absurd (none_in x c)
+in_filter test (y ∷ xs) x c h = by (test y) refl (first_or_behind y xs x c) (λ d. in_filter test xs x d h)
   where
-    by : (k : ℕ) → k < length (x ∷ xs) → get_or (x ∷ xs) k y ≡ y → (x ≡ y) ⊎ Contains xs y
-    by zero b e = inl e
-    by (suc k) b e = inr (k, omega arith, e)
+    by : (b : Bool) → test y ≡ b → (y ≡ x) ⊎ Contains xs x → (Contains xs x → Contains (filter test xs) x) → Contains (cond b (y ∷ filter test xs) (filter test xs)) x
+    by true e (inl f) rest = let P : _ → Type 0 = λ z. Contains (y ∷ filter test xs) z in subst P f (here y (filter test xs))
+    by true e (inr d) rest = behind y (filter test xs) x (rest d)
+    by false e (inl f) rest = let g : false ≡ true = sym e ∙ ap test f ∙ h in absurd (cc)
+    by false e (inr d) rest = rest d
 
-pub same_true : (x t : Bytes) → x ≡ t → bytes_eq x t ≡ true
-same_true x t e = (bytes_eq-Decides x t).1 e
+pub of_filter : {X : Type 0} (test : X → Bool) (xs : List X) (x : X) → Contains (filter test xs) x → Contains xs x × (test x ≡ true)
+of_filter test [] x c = absurd (none_in x c)
+of_filter test (y ∷ xs) x c = by (test y) refl c (of_filter test xs x)
+  where
+    by : (b : Bool) → test y ≡ b → Contains (cond b (y ∷ filter test xs) (filter test xs)) x → (Contains (filter test xs) x → Contains xs x × (test x ≡ true)) → Contains (y ∷ xs) x × (test x ≡ true)
+    by true e d rest = elim (first_or_behind y (filter test xs) x d) [
+      | inl f ↦ let P : _ → Type 0 = λ z. Contains (y ∷ xs) z × (test z ≡ true) in subst P f (here y xs, e)
+      | inr g ↦ let k = rest g in (behind y xs x k.0, k.1)
+    ]
+    by false e d rest = let k = rest d in (behind y xs x k.0, k.1)
 
-pub true_same : (x t : Bytes) → bytes_eq x t ≡ true → x ≡ t
-true_same x t e = (bytes_eq-Decides x t).0 e
+pub all_front : {X : Type 0} (P : X → Type 0) (xs ys : List X) → AllByRecursion P (xs ++ ys) → AllByRecursion P xs
+all_front P [] ys all = tt
+all_front P (x ∷ xs) ys all = (all.0, all_front P xs ys all.1)
 
-pub not_true : (b : Bool) → (b ≡ true → ⊥) → b ≡ false
-not_true true h = absurd (h refl)
-not_true false h = refl
-
-pub other_false : (x t : Bytes) → x ≢ t → bytes_eq x t ≡ false
-other_false x t h = not_true (bytes_eq x t) (λ e. h (true_same x t e))
-
-pub or_cases : (a b : Bool) → (a || b) ≡ true → (a ≡ true) ⊎ (b ≡ true)
-or_cases true b e = inl refl
-or_cases false b e = inr e
-
--- what a list becomes under a function has no other members than what its members become
-pub map_member : {X Y : Type 0} (f : X → Y) (xs : List X) (y : Y) → Contains (map f xs) y → (x : X) × Contains xs x × (y ≡ f x)
-map_member f [] y c = absurd (none_in y c)
-map_member f (x ∷ xs) y c = elim (first_or_behind (f x) (map f xs) y c) [
-  | inl e ↦ (x, here x xs, sym e)
-  | inr d ↦ let from = map_member f xs y d in (from.0, behind x xs from.0 from.1, from.2)
-]
+pub all_back : {X : Type 0} (P : X → Type 0) (xs ys : List X) → AllByRecursion P (xs ++ ys) → AllByRecursion P ys
+all_back P [] ys all = all
+all_back P (x ∷ xs) ys all = all_back P xs ys all.1

@@ -8,17 +8,17 @@ use Rattle.lf_ast.specs.declared.expr.Grouping.TheVariants.{None as Ungrouped, B
 use Rattle.lf_ast.specs.declared.expr.Matching.{Matching}
 use Rattle.lf_ast.specs.declared.expr.Name.{Name}
 use Rattle.lf_ast.specs.declared.expr.Op.{Op}
+use Rattle.lf_ast.specs.Selectors.{metric}
 use Rattle.lf_semantics.specs.Environments.{IsKnown}
 use Rattle.lf_semantics.specs.Grouped.{is_grouped_by, is_metric, keeps, keeps_by, signs, signs_by}
-use Rattle.lf_semantics.specs.Listing.{Listing, IsListing, label_of}
+use Rattle.lf_semantics.specs.Listing.{IsListing, Listing, label_of}
 use Rattle.lf_semantics.specs.RowTable.{is_group_label, is_label_among, is_metric_label, keeps_label, keeps_label_by, signs_label, signs_label_by}
-use Rattle.lf_semantics.specs.Texts.{metric}
-use Rattle.lf_semantics.specs.Walk.{group_names, names_met}
+use Rattle.lf_semantics.specs.Mentions.{group_names, names_mentions}
 use Rattle.lf_semantics.proofs.Places.{label_test, metric_listed, symmetric}
 
 -- the names of a list are labels of the universe
 abbrev pub AreKnown : Listing → List Name → Type 0
-AreKnown u names = AllByRecursion (IsKnown u) (names_met names)
+AreKnown u names = AllByRecursion (IsKnown u) (names_mentions names)
 
 module _ (u : Listing) where
   pub among_label : (names : List Name) → AreKnown u names → (name : Bytes) → is_label_among u names (label_of u name) ≡ is_among names name

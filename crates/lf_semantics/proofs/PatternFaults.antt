@@ -1,45 +1,45 @@
--- What is wrong with patterns and selectors, layer by layer; and of several breaches one is told.
-use Rattle.std.proofs.Common.{◌≡◌, List, [], ◌∷◌, map, Option, refl, ap, ◌∙◌, ◌⊎◌}
-use Rattle.lf_ast.specs.Breaches.{BreaksAny}
-use Rattle.lf_ast.specs.Functions.{function_named}
-use Rattle.lf_ast.specs.declared.expr.Expr.{Expr}
-use Rattle.lf_ast.specs.declared.expr.Expr.TheOpen.{Expr-F, Number, Str, Selector, Subquery, Paren, Unary, Binary, Call, Aggregate}
-use Rattle.lf_ast.specs.declared.expr.Expr.TheFolds.{para-roll-Expr, rec-roll-Expr, map-Expr}
-use Rattle.lf_ast.specs.declared.expr.Expr.TheViews.{roll-Expr}
-use Rattle.lf_ast.specs.declared.fault.Fault.{Fault}
-use Rattle.lf_ast.proofs.Least.{only_one}
-use Rattle.lf_semantics.specs.PatternBreaches.{BreaksPatterns, IsUnreadString, Placed, TellsPattern, called_with, pattern_layer, placed_layer, placed_string}
-use Rattle.lf_semantics.proofs.Rolls.{beside}
+-- Breaches of patterns and selectors: the functions that find them agree with the relations, and of several breaches one is told.
+use Rattle.std.proofs.Common.{◌≡◌, ◌↔◌, ◌⊎◌, inl, inr, true, false, ◌||◌, List, [], ◌∷◌, Option, refl}
+use Rattle.std.specs.List.{AllByRecursion, list_all}
+use Rattle.std.proofs.lemmas.Bool.{and_from, and_parts, false_from_ne_true, or_cases, or_left, or_right}
+use Rattle.lf_ast.specs.Labels.{Bytes}
+use Rattle.lf_ast.specs.Tree.{Tree}
+use Rattle.lf_ast.specs.declared.expr.Matcher.{Matcher}
+use Rattle.lf_base.specs.declared.fault.Fault.{Fault}
+use Rattle.lf_base.proofs.Least.{only_one}
+use Rattle.lf_pattern.specs.Matching.{IsRead, is_read}
+use Rattle.lf_pattern.proofs.GroupLaws.{read_is}
+use Rattle.lf_semantics.specs.Passing.{Passes, passes}
+use Rattle.lf_semantics.specs.PatternBreaches.{NamesNoMetric, TellsPattern, is_empty_name, names_twice, passes_empty}
+use Rattle.lf_semantics.proofs.Members.{clash}
+use Rattle.lf_semantics.proofs.PatternTexts.{passes_is}
 
-pub placed-roll : (z : Expr-F Expr) → placed_string (roll-Expr z) ≡ placed_layer (beside placed_string z)
-placed-roll z = para-roll-Expr (Option Placed) placed_layer z
+pub unread_is : (pattern : Bytes) → (is_read pattern ≡ false) ↔ (IsRead pattern → ⊥)
+unread_is pattern = (λ e read. clash ((read_is pattern).1 read) e, λ none. false_from_ne_true (is_read pattern) (λ e. none ((read_is pattern).0 e)))
 
-module _ (X : Type 0) (v : X → Expr) (k : Expr → Fault → Type 0) where
-  any_natural : (args : List X) → BreaksAny X v (λ x. k (v x)) args ≡ BreaksAny Expr (λ y. y) k (map v args)
-  any_natural [] = refl
-  any_natural (x ∷ args) = ap (λ (B : Fault → Type 0). λ f. k (v x) f ⊎ B f) (any_natural args)
+each_passes_empty : (matchers : List Matcher) → (list_all (λ (m : Matcher). passes m.op m.value []) matchers ≡ true) ↔ AllByRecursion (λ (m : Matcher). Passes m.op m.value []) matchers
+each_passes_empty [] = (λ e. tt, λ all. refl)
+each_passes_empty (m ∷ matchers) = (
+  λ e. let both = and_parts _ _ e in ((passes_is m.op m.value []).0 both.0, (each_passes_empty matchers).0 both.1),
+  λ all. and_from _ _ ((passes_is m.op m.value []).1 all.0) ((each_passes_empty matchers).1 all.1),
+)
 
-  same_exprs : (args : List X) → map v args ≡ map (λ (y : Expr). y) (map v args)
-  same_exprs [] = refl
-  same_exprs (x ∷ args) = ap (λ (l : List Expr). v x ∷ l) (same_exprs args)
+pub passes_empty_is : (name : Option Bytes) (matchers : List Matcher) → (passes_empty name matchers ≡ true) ↔ NamesNoMetric name matchers
+passes_empty_is name matchers = (
+  λ e. let both = and_parts (is_empty_name name) _ e in (both.0, (each_passes_empty matchers).0 both.1),
+  λ none. and_from (is_empty_name name) _ none.0 ((each_passes_empty matchers).1 none.1),
+)
 
-  pattern_natural : (x : Expr-F X) → pattern_layer X v (λ p. k (v p)) x ≡ pattern_layer Expr (λ y. y) k (map-Expr X Expr v x)
-  pattern_natural (Number text span) = refl
-  pattern_natural (Str text span) = refl
-  pattern_natural (Selector name matchers sight span) = refl
-  pattern_natural (Subquery of sight span) = refl
-  pattern_natural (Paren of span) = refl
-  pattern_natural (Unary minus of span) = refl
-  pattern_natural (Binary op m left right span) = refl
-  pattern_natural (Call name args span) =
-      ap (λ (B : Fault → Type 0). λ f. B f ⊎ IsUnreadString (called_with (function_named name) (map v args)) f) (any_natural args)
-      ∙ ap (λ (l : List Expr). λ f. BreaksAny Expr (λ y. y) k (map v args) f ⊎ IsUnreadString (called_with (function_named name) l) f) (same_exprs args)
-  pattern_natural (Aggregate op grouping args span) = ap (λ (B : Fault → Type 0). λ f. B f) (any_natural args)
-
--- what is wrong with an expression is what its first layer says over its parts
-pub breaks-roll : (z : Expr-F Expr) → BreaksPatterns (roll-Expr z) ≡ pattern_layer Expr (λ y. y) BreaksPatterns z
-breaks-roll = rec-roll-Expr (Fault → Type 0) pattern_layer pattern_natural
+-- a selector names no metric, or names it twice
+pub bad_selector_is : (name : Option Bytes) (matchers : List Matcher) → ((names_twice name matchers || passes_empty name matchers) ≡ true) ↔ (NamesNoMetric name matchers ⊎ (names_twice name matchers ≡ true))
+bad_selector_is name matchers = (
+  λ e. elim (or_cases (names_twice name matchers) (passes_empty name matchers) e) [ inl twice ↦ inr twice | inr none ↦ inl ((passes_empty_is name matchers).0 none) ],
+  λ bad. elim bad [
+    | inl none ↦ or_right (names_twice name matchers) (passes_empty name matchers) ((passes_empty_is name matchers).1 none)
+    | inr twice ↦ or_left (names_twice name matchers) (passes_empty name matchers) twice
+  ],
+)
 
 -- an expression tells one breach at most
-pub tells_one : (e : Expr) (f g : Fault) → TellsPattern e f → TellsPattern e g → f ≡ g
+pub tells_one : (e : Tree) (f g : Fault) → TellsPattern e f → TellsPattern e g → f ≡ g
 tells_one e f g a b = only_one f g (b.1 f a.0) (a.1 g b.0)

@@ -6,10 +6,11 @@ use Rattle.std.proofs.lemmas.List.{get_or-map}
 use Rattle.std.proofs.lemmas.List.Sums.{position_or_len_is, passes_at_first}
 use Rattle.std.proofs.lemmas.Bool.{cases_lt}
 use Rattle.std.proofs.lemmas.Bool.Decides.{same_from_decides, Decides-eqb}
+use Rattle.std.proofs.lemmas.Bool.{false_from_ne_true}
 use Rattle.lf_ast.specs.Labels.{Bytes}
-use Rattle.lf_semantics.specs.Listing.{Listing, IsListing, class_counts, class_of, class_texts, label_of, named_at, other_class, place}
-use Rattle.lf_semantics.specs.Texts.{metric}
-use Rattle.lf_semantics.proofs.Members.{not_true, other_false, same_true, true_same}
+use Rattle.lf_ast.specs.Selectors.{metric}
+use Rattle.lf_semantics.specs.Listing.{IsListing, Listing, class_counts, class_of, class_texts, label_of, named_at, other_class, place}
+use Rattle.lf_semantics.proofs.Members.{other_false, same_true, true_same}
 
 pub eqb-same : (n : ℕ) → eqb n n ≡ true
 eqb-same n = (Decides-eqb n n).1 refl
@@ -49,7 +50,7 @@ pub text_at_class : (u : Listing) (l : ℕ) (t : Bytes) → class_of u l t < oth
 text_at_class u l t h = at_place (class_texts u l) t (omega (arith, h))
 
 pub eqb-other : (m n : ℕ) → m ≢ n → eqb m n ≡ false
-eqb-other m n h = not_true (eqb m n) (λ e. h ((Decides-eqb m n).0 e))
+eqb-other m n h = false_from_ne_true (eqb m n) (λ e. h ((Decides-eqb m n).0 e))
 
 -- class 0 is that of the empty text alone
 pub class_of_some : (u : Listing) (l : ℕ) (t : Bytes) → t ≢ [] → eqb (class_of u l t) 0 ≡ false

@@ -3,7 +3,7 @@ use Rattle.std.proofs.Common.{◌≡◌, Bool, true, false, cond, [], Option, No
 use Rattle.std.specs.Option.{unwrap_or}
 use Rattle.std.specs.FinMap.{get, get-retain_keys, slice_cmp-IsAntisymmetric, nat_cmp-IsAntisymmetric}
 use Rattle.lf_ast.specs.Labels.{Bytes, Labels}
-use Rattle.lf_semantics.specs.Texts.{value_of, restricted}
+use Rattle.lf_semantics.specs.Texts.{restricted, value_of}
 
 after_cond : (b : Bool) (o : Option Bytes) → unwrap_or (cond b o None) [] ≡ cond b (unwrap_or o []) []
 after_cond true o = refl

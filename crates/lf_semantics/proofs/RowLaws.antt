@@ -1,12 +1,13 @@
--- What lies in the rows that are made of rows.
+-- What the rows that are made of rows represent.
 use Rattle.std.proofs.Common.{◌≡◌, ℕ, zero, suc, ◌+◌, ◌<◌, Bool, true, false, ◌&&◌, ◌||◌, cond, eqb, List, [], ◌∷◌, map, length, get_or, refl, sym, ◌∙◌, ap, subst, arith}
 use Rattle.std.specs.Prelude.{replicate}
 use Rattle.std.specs.List.{list_any}
 use Rattle.std.proofs.lemmas.List.{get_or-map, length-map, length-replicate}
 use Rattle.std.proofs.lemmas.List.{get_or-replicate}
+use Rattle.std.proofs.lemmas.Bool.{or_right}
 use Rattle.lf_ast.specs.Labels.{Bytes, Labels}
-use Rattle.lf_semantics.specs.ClassRows.{HasShape, HoldsText, Lies, Sets, emptied, full, holds, indexed_from, is_live, narrowed, nothing, only_empty, remade, replaced, settled, union}
-use Rattle.lf_semantics.specs.Listing.{Listing, IsListing, class_counts, class_of, class_texts, label_of, named_at}
+use Rattle.lf_semantics.specs.ClassRows.{HasShape, HoldsText, Represents, Sets, bottom, emptied, holds, indexed_from, is_live, join, narrowed, normalized, only_empty, remade, replaced, top}
+use Rattle.lf_semantics.specs.Listing.{IsListing, Listing, class_counts, class_of, class_texts, label_of, named_at}
 use Rattle.lf_semantics.specs.Texts.{value_of}
 use Rattle.lf_semantics.proofs.Places.{count_at, name_of, place_le}
 
@@ -21,7 +22,7 @@ pub length-indexed : {A B : Type 0} (f : ℕ → A → B) (k : ℕ) (xs : List A
 length-indexed f k [] = refl
 length-indexed f k (x ∷ xs) = ap suc (length-indexed f (suc k) xs)
 
-true_within : (xs : List Bool) (i : ℕ) → get_or xs i false ≡ true → i < length xs
+pub true_within : (xs : List Bool) (i : ℕ) → get_or xs i false ≡ true → i < length xs
 true_within [] i h = absurd (cc)
 true_within (x ∷ xs) zero h = omega arith
 true_within (x ∷ xs) (suc i) h = let r = true_within xs i h in omega arith
@@ -48,29 +49,29 @@ pub shape_emptied : (row : Sets) → map length (emptied row) ≡ map length row
 shape_emptied [] = refl
 shape_emptied (set ∷ row) = rw (length-map set (λ on. false), shape_emptied row) refl
 
-pub shape_settled : (row : Sets) → map length (settled row) ≡ map length row
-shape_settled row = elim (is_live row) as (λ b. map length (cond b row (emptied row)) ≡ map length row) [ true ↦ refl | false ↦ shape_emptied row ]
+pub shape_normalized : (row : Sets) → map length (normalized row) ≡ map length row
+shape_normalized row = elim (is_live row) as (λ b. map length (cond b row (emptied row)) ≡ map length row) [ true ↦ refl | false ↦ shape_emptied row ]
 
 pub shape_narrowed : (test : ℕ → ℕ → Bool) (row : Sets) → map length (narrowed test row) ≡ map length row
-shape_narrowed test row = shape_settled (remade (λ l c on. on && test l c) row) ∙ shape_remade _ 0 row
+shape_narrowed test row = shape_normalized (remade (λ l c on. on && test l c) row) ∙ shape_remade _ 0 row
 
 pub shape_replaced : (chosen : ℕ → Bool) (test : ℕ → ℕ → Bool) (row : Sets) → map length (replaced chosen test row) ≡ map length row
 shape_replaced chosen test row =
     let new : Sets = remade (λ l c on. cond (chosen l) (test l c) on) row in
-    elim (is_live row) as (λ b. map length (cond b (settled new) row) ≡ map length row) [ true ↦ shape_settled new ∙ shape_remade _ 0 row | false ↦ refl ]
+    elim (is_live row) as (λ b. map length (cond b (normalized new) row) ≡ map length row) [ true ↦ shape_normalized new ∙ shape_remade _ 0 row | false ↦ refl ]
 
-full_counts : (counts : List ℕ) → map length (map (λ count. replicate count true) counts) ≡ counts
-full_counts [] = refl
-full_counts (n ∷ counts) = rw (length-replicate n true, full_counts counts) refl
+top_counts : (counts : List ℕ) → map length (map (λ count. replicate count true) counts) ≡ counts
+top_counts [] = refl
+top_counts (n ∷ counts) = rw (length-replicate n true, top_counts counts) refl
 
-pub shape_full : (u : Listing) → HasShape u (full u)
-shape_full u = full_counts (class_counts u)
+pub shape_top : (u : Listing) → HasShape u (top u)
+shape_top u = top_counts (class_counts u)
 
-pub shape_nothing : (u : Listing) → HasShape u (nothing u)
-shape_nothing u = shape_emptied (full u) ∙ shape_full u
+pub shape_bottom : (u : Listing) → HasShape u (bottom u)
+shape_bottom u = shape_emptied (top u) ∙ shape_top u
 
-pub shape_union : (u : Listing) (row other : Sets) → HasShape u row → HasShape u other → HasShape u (union row other)
-shape_union u row other h k =
+pub shape_join : (u : Listing) (row other : Sets) → HasShape u row → HasShape u other → HasShape u (join row other)
+shape_join u row other h k =
     elim (is_live row) as (λ b. HasShape u (cond b (cond (is_live other) (remade (λ l c on. on || holds other l c) row) row) other)) [
       | true ↦ elim (is_live other) as (λ b. HasShape u (cond b (remade (λ l c on. on || holds other l c) row) row)) [ true ↦ shape_remade _ 0 row ∙ h | false ↦ h ]
       | false ↦ k
@@ -115,84 +116,80 @@ module _ (u : Listing) (p : IsListing u) where
       let n : length (get_or row l []) ≡ length (named_at u l) + 2 = sym (get_or-map length row l [] 0 b) ∙ ap (λ counts. get_or counts l 0) shape ∙ count_at u p name in
       (b, omega (arith, n, place_le (class_texts u l) text))
 
-  pub lies_settled : (row : Sets) (s : Labels) → HasShape u row → HoldsEach row s → Lies u (settled row) s
-  lies_settled row s shape each = let e = live_of_holds row s shape each in rw e (e, each)
+  pub represents_normalized : (row : Sets) (s : Labels) → HasShape u row → HoldsEach row s → Represents u (normalized row) s
+  represents_normalized row s shape each = let e = live_of_holds row s shape each in rw e (e, each)
 
   -- in a row whose classes are made anew
-  pub lies_remade : (f : ℕ → ℕ → Bool → Bool) (row : Sets) (s : Labels) → HasShape u row
+  pub represents_remade : (f : ℕ → ℕ → Bool → Bool) (row : Sets) (s : Labels) → HasShape u row
       → ((name : Bytes) → f (label_of u name) (class_of u (label_of u name) (value_of s name)) (holds row (label_of u name) (class_of u (label_of u name) (value_of s name))) ≡ true)
-      → Lies u (settled (remade f row)) s
-  lies_remade f row s shape pass =
-      lies_settled (remade f row) s (shape_remade f 0 row ∙ shape) (λ name.
+      → Represents u (normalized (remade f row)) s
+  represents_remade f row s shape pass =
+      represents_normalized (remade f row) s (shape_remade f 0 row ∙ shape) (λ name.
       let w = in_range row name (value_of s name) shape in
       holds-remade f row _ _ w.0 w.1 ∙ pass name)
 
-  pub lies_narrowed : (test : ℕ → ℕ → Bool) (row : Sets) (s : Labels) → HasShape u row
-      → ((name : Bytes) → test (label_of u name) (class_of u (label_of u name) (value_of s name)) ≡ true) → Lies u row s → Lies u (narrowed test row) s
-  lies_narrowed test row s shape pass lies = lies_remade (λ l c on. on && test l c) row s shape (λ name. rw (lies.1 name, pass name) refl)
+  pub represents_narrowed : (test : ℕ → ℕ → Bool) (row : Sets) (s : Labels) → HasShape u row
+      → ((name : Bytes) → test (label_of u name) (class_of u (label_of u name) (value_of s name)) ≡ true) → Represents u row s → Represents u (narrowed test row) s
+  represents_narrowed test row s shape pass represents = represents_remade (λ l c on. on && test l c) row s shape (λ name. rw (represents.1 name, pass name) refl)
 
   by_choice : (chosen test on : Bool) → (chosen ≡ true → test ≡ true) → (chosen ≡ false → on ≡ true) → cond chosen test on ≡ true
   by_choice true test on h k = h refl
   by_choice false test on h k = k refl
 
   -- in a row of which some labels are replaced: their classes pass, and the others' are held as before
-  pub lies_replaced : (chosen : ℕ → Bool) (test : ℕ → ℕ → Bool) (row : Sets) (s : Labels) → HasShape u row → is_live row ≡ true
+  pub represents_replaced : (chosen : ℕ → Bool) (test : ℕ → ℕ → Bool) (row : Sets) (s : Labels) → HasShape u row → is_live row ≡ true
       → ((name : Bytes) → chosen (label_of u name) ≡ true → test (label_of u name) (class_of u (label_of u name) (value_of s name)) ≡ true)
       → ((name : Bytes) → chosen (label_of u name) ≡ false → HoldsText u row name (value_of s name))
-      → Lies u (replaced chosen test row) s
-  lies_replaced chosen test row s shape is pass same =
-      let P : Bool → Type 0 = λ b. Lies u (cond b (settled (remade (λ l c on. cond (chosen l) (test l c) on) row)) row) s in
-      subst P (sym is) (lies_remade (λ l c on. cond (chosen l) (test l c) on) row s shape (λ name. by_choice _ _ _ (pass name) (same name)))
+      → Represents u (replaced chosen test row) s
+  represents_replaced chosen test row s shape is pass same =
+      let P : Bool → Type 0 = λ b. Represents u (cond b (normalized (remade (λ l c on. cond (chosen l) (test l c) on) row)) row) s in
+      subst P (sym is) (represents_remade (λ l c on. cond (chosen l) (test l c) on) row s shape (λ name. by_choice _ _ _ (pass name) (same name)))
 
   -- in a row of which some labels are only absent
-  pub lies_only_empty : (chosen : ℕ → Bool) (row : Sets) (s r : Labels) → HasShape u row → Lies u row s
+  pub represents_only_empty : (chosen : ℕ → Bool) (row : Sets) (s r : Labels) → HasShape u row → Represents u row s
       → ((name : Bytes) → chosen (label_of u name) ≡ true → value_of r name ≡ [])
       → ((name : Bytes) → chosen (label_of u name) ≡ false → value_of r name ≡ value_of s name)
-      → Lies u (only_empty chosen row) r
-  lies_only_empty chosen row s r shape lies none same =
-      lies_replaced chosen (λ l c. eqb c 0) row r shape lies.0
+      → Represents u (only_empty chosen row) r
+  represents_only_empty chosen row s r shape represents none same =
+      represents_replaced chosen (λ l c. eqb c 0) row r shape represents.0
       (λ name e. ap (λ t. eqb (class_of u (label_of u name) t) 0) (none name e))
-      (λ name e. let P : Bytes → Type 0 = λ t. HoldsText u row name t in subst P (sym (same name e)) (lies.1 name))
+      (λ name e. let P : Bytes → Type 0 = λ t. HoldsText u row name t in subst P (sym (same name e)) (represents.1 name))
 
   counts_hold : (counts : List ℕ) (l c : ℕ) → l < length counts → c < get_or counts l 0 → holds (map (λ count. replicate count true) counts) l c ≡ true
   counts_hold counts l c h k = ap (λ set. get_or set c false) (get_or-map (λ count. replicate count true) counts l 0 [] h) ∙ get_or-replicate (get_or counts l 0) c true false k
 
-  -- every class is in the full row
-  pub full_holds : (name text : Bytes) → HoldsText u (full u) name text
-  full_holds name text =
+  -- every class is in the greatest row
+  pub top_holds : (name text : Bytes) → HoldsText u (top u) name text
+  top_holds name text =
       let l = label_of u name in
       counts_hold (class_counts u) l (class_of u l text) (omega (arith, place_le u.names name, p.count, length-map u.named (λ named. length named + 2)))
       (omega (arith, place_le (class_texts u l) text, count_at u p name))
 
-  pub lies_full : (s : Labels) → Lies u (full u) s
-  lies_full s = (live_of_holds (full u) s (shape_full u) (λ name. full_holds name (value_of s name)), λ name. full_holds name (value_of s name))
+  pub represents_top : (s : Labels) → Represents u (top u) s
+  represents_top s = (live_of_holds (top u) s (shape_top u) (λ name. top_holds name (value_of s name)), λ name. top_holds name (value_of s name))
 
-  or_right : (a b : Bool) → b ≡ true → (a || b) ≡ true
-  or_right true b h = refl
-  or_right false b h = h
-
-  -- in a union by one of its rows
+  -- a join represents what one of its rows does
   module _ (row other : Sets) (s : Labels) (shape : HasShape u row) where
     abbrev both : Sets
     both = remade (λ l c on. on || holds other l c) row
 
-    in_both : ((name : Bytes) → (holds row (label_of u name) (class_of u (label_of u name) (value_of s name)) || holds other (label_of u name) (class_of u (label_of u name) (value_of s name))) ≡ true) → Lies u both s
+    in_both : ((name : Bytes) → (holds row (label_of u name) (class_of u (label_of u name) (value_of s name)) || holds other (label_of u name) (class_of u (label_of u name) (value_of s name))) ≡ true) → Represents u both s
     in_both pass =
         let each : HoldsEach both s = λ name. let w = in_range row name (value_of s name) shape in holds-remade _ row _ _ w.0 w.1 ∙ pass name in
         (live_of_holds both s (shape_remade _ 0 row ∙ shape) each, each)
 
-    union_left : (b : Bool) → is_live other ≡ b → Lies u row s → Lies u (cond b both row) s
-    union_left false e lies = lies
-    union_left true e lies = in_both (λ name. rw (lies.1 name) refl)
+    join_left : (b : Bool) → is_live other ≡ b → Represents u row s → Represents u (cond b both row) s
+    join_left false e represents = represents
+    join_left true e represents = in_both (λ name. rw (represents.1 name) refl)
 
-    pub lies_union_left : Lies u row s → Lies u (union row other) s
-    lies_union_left lies = rw lies.0 (union_left (is_live other) refl lies)
+    pub represents_join_left : Represents u row s → Represents u (join row other) s
+    represents_join_left represents = rw represents.0 (join_left (is_live other) refl represents)
 
-    union_right : (b : Bool) → is_live row ≡ b → Lies u other s → Lies u (cond b both other) s
-    union_right false e lies = lies
-    union_right true e lies = in_both (λ name. or_right _ _ (lies.1 name))
+    join_right : (b : Bool) → is_live row ≡ b → Represents u other s → Represents u (cond b both other) s
+    join_right false e represents = represents
+    join_right true e represents = in_both (λ name. or_right _ _ (represents.1 name))
 
-    pub lies_union_right : Lies u other s → Lies u (union row other) s
-    lies_union_right lies =
-        let P : Bool → Type 0 = λ b. Lies u (cond (is_live row) (cond b both row) other) s in
-        subst P (sym lies.0) (union_right (is_live row) refl lies)
+    pub represents_join_right : Represents u other s → Represents u (join row other) s
+    represents_join_right represents =
+        let P : Bool → Type 0 = λ b. Represents u (cond (is_live row) (cond b both row) other) s in
+        subst P (sym represents.0) (join_right (is_live row) refl represents)

@@ -1,25 +1,22 @@
 -- What is wrong with the patterns and selectors of worked expressions.
-use Rattle.std.proofs.Common.{◌≡◌, true, false, [], ◌∷◌, Some, None, codes, inl, inr, refl, sym, ◌∙◌, ap, subst}
+use Rattle.std.proofs.Common.{◌≡◌, true, false, [], ◌∷◌, Some, None, codes, inl, inr, refl, sym, ◌∙◌, ap}
 use Rattle.std.specs.Char.{encode_utf8}
 use Rattle.std.specs.Str.{chars}
-use Rattle.std.specs.declared.alloc.Global.{Global}
-use Rattle.std.specs.declared.boxed.Box.{Box}
 use Rattle.lf_base.specs.declared.kind.Kind.TheVariants.{BadPattern, BadSelector}
-use Rattle.lf_ast.specs.Breaches.{fault, told_order}
+use Rattle.lf_base.specs.Faults.{fault, told_order}
 use Rattle.lf_ast.specs.Functions.{function_named, functions}
 use Rattle.lf_ast.specs.Labels.{Bytes}
-use Rattle.lf_ast.specs.declared.expr.Expr.{Expr}
+use Rattle.lf_ast.specs.Tree.{Tree}
 use Rattle.lf_ast.specs.declared.expr.Matcher.{Matcher}
 use Rattle.lf_ast.specs.declared.expr.MatchOp.TheVariants.{Equal, NotEqual, Matches, NotMatches}
-use Rattle.lf_ast.specs.declared.fault.Fault.{Fault}
-use Rattle.lf_ast.proofs.Least.{not_itself}
+use Rattle.lf_base.proofs.Least.{not_itself}
+use Rattle.lf_ast.specs.Selectors.{metric}
 use Rattle.lf_pattern.specs.Matching.{is_read, matches}
 use Rattle.lf_pattern.specs.Plain.{is_escapable, is_special}
 use Rattle.lf_pattern.specs.Scan.{scanned}
 use Rattle.lf_semantics.specs.PatternBreaches.{BreaksPatterns, TellsPattern, names_twice, passes_empty}
-use Rattle.lf_semantics.specs.Texts.{metric}
 use Rattle.lf_semantics.proofs.Members.{first_or_behind, here, none_in}
-use Rattle.lf_semantics.proofs.PatternFaults.{breaks-roll, placed-roll}
+use Rattle.lf_semantics.proofs.PatternFaults.{unread_is}
 use Rattle.lf_semantics.proofs.Written.{asks, call, paren, place_at, selector, selects, sight, text}
 
 -- which selectors name no metric
@@ -75,15 +72,15 @@ once = refl
 false_true : false ≡ true → ⊥
 false_true e = cc
 
-abbrev everything : Expr
+abbrev everything : Tree
 everything = selects None [] (sight None None)
 
 -- `{}` is refused at the selector
 everything_is_told : TellsPattern everything (fault BadSelector (place_at 20))
 unfolding told_order
 everything_is_told = (
-  let P : (Fault → Type 0) → Type 0 = λ B. B (fault BadSelector (place_at 20)) in subst P (sym (breaks-roll _)) (inr (refl, refl)),
-  λ g b. let P : (Fault → Type 0) → Type 0 = λ B. B g in elim (subst P (breaks-roll _) b) [
+  inr (inl (refl, tt), refl),
+  λ g b. elim b [
     | inl u ↦ absurd (none_in u.0 u.1)
     | inr s ↦ not_itself (fault BadSelector (place_at 20)) g s.1
   ],
@@ -96,25 +93,25 @@ asks_pattern pattern = asks (codes "a") Matches pattern
 unread_is_told : (pattern : Bytes) → is_read pattern ≡ false → TellsPattern (selector (codes "foo") (asks_pattern pattern ∷ [])) (fault BadPattern (place_at 0))
 unfolding told_order
 unread_is_told pattern e = (
-  let P : (Fault → Type 0) → Type 0 = λ B. B (fault BadPattern (place_at 0)) in subst P (sym (breaks-roll _)) (inl (asks_pattern pattern, here (asks_pattern pattern) [], refl, (e, refl))),
-  λ g b. let P : (Fault → Type 0) → Type 0 = λ B. B g in elim (subst P (breaks-roll _) b) [
+  inl (asks_pattern pattern, here (asks_pattern pattern) [], refl, ((unread_is pattern).0 e, refl)),
+  λ g b. elim b [
     | inl u ↦ elim (first_or_behind (asks_pattern pattern) [] u.0 u.1) [
       | inl same ↦ not_itself (fault BadPattern (place_at 0)) g (u.3.1 ∙ ap (λ (m : Matcher). fault BadPattern m.value_span) (sym same))
       | inr d ↦ absurd (none_in u.0 d)
     ]
-    | inr s ↦ absurd (false_true s.0)
+    | inr s ↦ elim s.0 [ inl none ↦ absurd (false_true none.0) | inr named ↦ absurd (false_true named) ]
   ],
 )
 
 -- the pattern of `label_replace` is its fifth argument, also in parentheses
 
-abbrev replace : Expr → Expr
+abbrev replace : Tree → Tree
 replace pattern = call (codes "label_replace") (selector (codes "foo") [] ∷ text (codes "a") ∷ text (codes "x") ∷ text (codes "b") ∷ pattern ∷ [])
 
 unread_is_broken : (pattern : Bytes) → is_read pattern ≡ false → BreaksPatterns (replace (text pattern)) (fault BadPattern (place_at 20))
 unfolding function_named functions
-unread_is_broken pattern e = let P : (Fault → Type 0) → Type 0 = λ B. B (fault BadPattern (place_at 20)) in subst P (sym (breaks-roll _)) (inr (simp (placed-roll) (e, refl)))
+unread_is_broken pattern e = inr ((unread_is pattern).0 e, refl)
 
-unread_within : (some : Box Expr Global) (pattern : Bytes) → is_read pattern ≡ false → BreaksPatterns (replace (paren some (text pattern))) (fault BadPattern (place_at 20))
+unread_within : (pattern : Bytes) → is_read pattern ≡ false → BreaksPatterns (replace (paren (text pattern))) (fault BadPattern (place_at 20))
 unfolding function_named functions
-unread_within some pattern e = let P : (Fault → Type 0) → Type 0 = λ B. B (fault BadPattern (place_at 20)) in subst P (sym (breaks-roll _)) (inr (simp (placed-roll) (e, refl)))
+unread_within pattern e = inr ((unread_is pattern).0 e, refl)

@@ -1,12 +1,10 @@
 -- Words to write expressions and rules with, and to read rows by, for the worked ones.
 use Rattle.std.proofs.Common.{ℕ, Bool, true, false, cond, List, [], ◌∷◌, map, Option, Some, None, codes}
 use Rattle.std.specs.List.{list_any}
-use Rattle.std.specs.declared.alloc.Global.{Global}
-use Rattle.std.specs.declared.boxed.Box.{Box}
+use Rattle.lf_base.specs.declared.place.Span.{Span}
 use Rattle.lf_ast.specs.Labels.{Bytes}
-use Rattle.lf_ast.specs.declared.expr.Expr.{Expr}
-use Rattle.lf_ast.specs.declared.expr.Expr.TheOpen as O
-use Rattle.lf_ast.specs.declared.expr.Expr.TheViews.{roll-Expr}
+use Rattle.lf_ast.specs.Rules.{RuleTree}
+use Rattle.lf_ast.specs.Tree.{Tree, Trees, Number, Str, Selector, Paren, Unary, Binary, Call, Aggregate, Nil, Next}
 use Rattle.lf_ast.specs.declared.expr.Agg.{Agg}
 use Rattle.lf_ast.specs.declared.expr.Agg.TheVariants.{Sum}
 use Rattle.lf_ast.specs.declared.expr.Group.{Group}
@@ -19,8 +17,7 @@ use Rattle.lf_ast.specs.declared.expr.MatchOp.{MatchOp}
 use Rattle.lf_ast.specs.declared.expr.Name.{Name}
 use Rattle.lf_ast.specs.declared.expr.Op.{Op}
 use Rattle.lf_ast.specs.declared.expr.Sight.{Sight}
-use Rattle.lf_ast.specs.declared.rule.Rule.{Rule}
-use Rattle.lf_base.specs.declared.place.Span.{Span}
+use Rattle.lf_ast.specs.Rules.{RuleTree}
 use Rattle.lf_semantics.specs.ClassRows.{Sets, is_live}
 use Rattle.lf_semantics.specs.Environments.{rule_row}
 use Rattle.lf_semantics.specs.Listing.{universe_of}
@@ -56,38 +53,42 @@ abbrev pub sight : Option Bytes → Option Bytes → Sight
 sight range at = record { range = range; step = None; offset = None; at = at; range_span = place_at 0 }
 
 -- any selector
-abbrev pub selects : Option Bytes → List Matcher → Sight → Expr
-selects name matchers sight = roll-Expr (O.Selector name matchers sight (place_at 20))
+abbrev pub selects : Option Bytes → List Matcher → Sight → Tree
+selects name matchers sight = Selector name matchers sight (place_at 20)
 
-abbrev pub selector : Bytes → List Matcher → Expr
+abbrev pub selector : Bytes → List Matcher → Tree
 selector name matchers = selects (Some name) matchers (sight None None)
 
 -- with the range `[5m]`
-abbrev pub over_time : Bytes → List Matcher → Expr
+abbrev pub over_time : Bytes → List Matcher → Tree
 over_time name matchers = selects (Some name) matchers (sight (Some (codes "5m")) None)
 
-abbrev pub number : Expr
-number = roll-Expr (O.Number (codes "1") (place_at 20))
+abbrev pub number : Tree
+number = Number (codes "1") (place_at 20)
 
-abbrev pub text : Bytes → Expr
-text t = roll-Expr (O.Str t (place_at 20))
+abbrev pub text : Bytes → Tree
+text t = Str t (place_at 20)
 
-abbrev pub call : Bytes → List Expr → Expr
-call name args = roll-Expr (O.Call name args (place_at 0))
+abbrev pub arguments : List Tree → Trees
+arguments [] = Nil
+arguments (x ∷ xs) = Next x (arguments xs)
 
-abbrev pub aggregate : Agg → Grouping → List Expr → Expr
-aggregate op grouping args = roll-Expr (O.Aggregate op grouping args (place_at 0))
+abbrev pub call : Bytes → List Tree → Tree
+call name args = Call name (arguments args) (place_at 0)
+
+abbrev pub aggregate : Agg → Grouping → List Tree → Tree
+aggregate op grouping args = Aggregate op grouping (arguments args) (place_at 0)
 
 -- `sum by (labels) (of)`
-abbrev pub sum_by : List Bytes → Expr → Expr
+abbrev pub sum_by : List Bytes → Tree → Tree
 sum_by labels of = aggregate Sum (By (names 8 labels)) (of ∷ [])
 
 -- `sum (of) by (labels)`
-abbrev pub sum_of_by : Expr → List Bytes → Expr
+abbrev pub sum_of_by : Tree → List Bytes → Tree
 sum_of_by of labels = aggregate Sum (By (names 28 labels)) (of ∷ [])
 
 -- `sum without (labels) (of)`
-abbrev pub sum_without : List Bytes → Expr → Expr
+abbrev pub sum_without : List Bytes → Tree → Tree
 sum_without labels of = aggregate Sum (Without (names 8 labels)) (of ∷ [])
 
 abbrev pub some_names : Option (List Bytes) → Option (List Name)
@@ -108,23 +109,18 @@ matching bool_mod on ignoring group include = record {
 abbrev pub unmodified : Matching
 unmodified = matching false None None One []
 
--- parts that stand in boxes: some box is given, and holds the part
-module _ (some : Box Expr Global) where
-  abbrev pub boxed : Expr → Box Expr Global
-  boxed e = record some { value = e }
+abbrev pub between : Op → Matching → Tree → Tree → Tree
+between op m left right = Binary op m left right (place_at 20)
 
-  abbrev pub between : Op → Matching → Expr → Expr → Expr
-  between op m left right = roll-Expr (O.Binary op m (boxed left) (boxed right) (place_at 20))
+abbrev pub paren : Tree → Tree
+paren e = Paren e (place_at 20)
 
-  abbrev pub paren : Expr → Expr
-  paren e = roll-Expr (O.Paren (boxed e) (place_at 20))
-
-  abbrev pub minus : Expr → Expr
-  minus e = roll-Expr (O.Unary true (boxed e) (place_at 20))
+abbrev pub minus : Tree → Tree
+minus e = Unary true e (place_at 20)
 
 -- rules
 
-abbrev pub record_rule : Bytes → List (Bytes × Bytes) → Expr → Rule
+abbrev pub record_rule : Bytes → List (Bytes × Bytes) → Tree → RuleTree
 record_rule name labels expr = record {
   file = 0;
   alert = false;
@@ -136,9 +132,9 @@ record_rule name labels expr = record {
   templates = [];
 }
 
-abbrev pub alone : Expr → Rule
+abbrev pub alone : Tree → RuleTree
 alone e = record_rule (codes "r:r") [] e
 
 -- what is said of the labels of an expression that is recorded as `r:r` and reads no recorded name
-abbrev pub verdicts_of : Expr → List Said
+abbrev pub verdicts_of : Tree → List Said
 verdicts_of e = verdicts (rule_row (universe_of (alone e ∷ [])) [] (alone e))

@@ -30,26 +30,26 @@ abbrev pub emptied : Sets → Sets
 emptied row = map (λ set. map (λ on. false) set) row
 
 -- the empty row where some label has no class
-abbrev pub settled : Sets → Sets
-settled row = cond (is_live row) row (emptied row)
+abbrev pub normalized : Sets → Sets
+normalized row = cond (is_live row) row (emptied row)
 
--- every class of each label of a universe
-abbrev pub full : Listing → Sets
-full u = map (λ count. replicate count true) (class_counts u)
+-- the greatest row of a universe: every class of each label
+abbrev pub top : Listing → Sets
+top u = map (λ count. replicate count true) (class_counts u)
 
--- the empty row of a universe
-abbrev pub nothing : Listing → Sets
-nothing u = emptied (full u)
+-- the least row of a universe: the empty one
+abbrev pub bottom : Listing → Sets
+bottom u = emptied (top u)
 
 -- Changes of a row. The empty row stays empty.
 
 -- the classes that pass
 abbrev pub narrowed : (ℕ → ℕ → Bool) → Sets → Sets
-narrowed test row = settled (remade (λ label class on. on && test label class) row)
+narrowed test row = normalized (remade (λ label class on. on && test label class) row)
 
 -- at the labels that are chosen, the classes that pass and no others
 abbrev pub replaced : (ℕ → Bool) → (ℕ → ℕ → Bool) → Sets → Sets
-replaced chosen test row = cond (is_live row) (settled (remade (λ label class on. cond (chosen label) (test label class) on) row)) row
+replaced chosen test row = cond (is_live row) (normalized (remade (λ label class on. cond (chosen label) (test label class) on) row)) row
 
 -- at the labels that are chosen, only the empty text
 abbrev pub only_empty : (ℕ → Bool) → Sets → Sets
@@ -61,15 +61,15 @@ set_to label class row = replaced (λ l. eqb label l) (λ l c. eqb c class) row
 
 -- with a class put into the set of a label, or taken out of it
 abbrev pub kept : ℕ → ℕ → Bool → Sets → Sets
-kept label class on row = cond (is_live row) (settled (remade (λ l c before. cond (eqb l label && eqb c class) on before) row)) row
+kept label class on row = cond (is_live row) (normalized (remade (λ l c before. cond (eqb l label && eqb c class) on before) row)) row
 
--- the classes that one of them has; an empty row adds nothing
-abbrev pub union : Sets → Sets → Sets
-union row other = cond (is_live row) (cond (is_live other) (remade (λ label class on. on || holds other label class) row) row) other
+-- the least upper bound of two rows: the classes that one of them has; an empty row adds nothing
+abbrev pub join : Sets → Sets → Sets
+join row other = cond (is_live row) (cond (is_live other) (remade (λ label class on. on || holds other label class) row) row) other
 
--- the classes that both have
-abbrev pub common : Sets → Sets → Sets
-common row other = narrowed (holds other) row
+-- the greatest lower bound of two rows: the classes that both have
+abbrev pub meet : Sets → Sets → Sets
+meet row other = narrowed (holds other) row
 
 -- a set for each label, with a place for each class
 abbrev pub HasShape : Listing → Sets → Type 0
@@ -79,6 +79,6 @@ HasShape u row = map length row ≡ class_counts u
 abbrev pub HoldsText : Listing → Sets → Bytes → Bytes → Type 0
 HoldsText u row name text = holds row (label_of u name) (class_of u (label_of u name) text) ≡ true
 
--- A label set lies in a row: the row isn't empty, and holds its text of every name.
-abbrev pub Lies : Listing → Sets → Labels → Type 0
-Lies u row s = (is_live row ≡ true) × ((name : Bytes) → HoldsText u row name (value_of s name))
+-- A row represents a label set, which is a member of its concretization: the row isn't empty, and holds the label set's text of every name.
+abbrev pub Represents : Listing → Sets → Labels → Type 0
+Represents u row s = (is_live row ≡ true) × ((name : Bytes) → HoldsText u row name (value_of s name))

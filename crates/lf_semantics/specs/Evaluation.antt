@@ -1,15 +1,13 @@
 -- Which finite sets of label sets an expression may give, over the scraped series and the recorded samples. No value of a sample is computed: which samples a selector
 -- sees, which a comparison lets through, and when a function gives one, is free. A set is a list up to membership.
-use Rattle.std.specs.Prelude.{◌≡◌, ◌≢◌, ◌⊎◌, Bool, true, false, not, ◌&&◌, cond, List, [], ◌∷◌, map, Option, Some, None, codes, slice_get, option_and_then}
+use Rattle.std.specs.Prelude.{◌≡◌, ◌≢◌, ◌⊎◌, ℕ, zero, suc, Bool, true, false, not, ◌&&◌, cond, List, [], map, Option, Some, None, codes}
 use Rattle.std.specs.List.{Contains, filter}
 use Rattle.std.specs.Str.{bytes_eq}
 use Rattle.std.specs.FinMap as map
 use Rattle.lf_ast.specs.Functions.{Signature, aggregation, function_named}
 use Rattle.lf_ast.specs.Labels.{Bytes, Labels}
-use Rattle.lf_ast.specs.Types.{is_label_name}
-use Rattle.lf_ast.specs.declared.expr.Expr.{Expr}
-use Rattle.lf_ast.specs.declared.expr.Expr.TheOpen.{Expr-F, Number, Str, Selector, Subquery, Paren, Unary, Binary, Call, Aggregate}
-use Rattle.lf_ast.specs.declared.expr.Expr.TheFolds.{rec-Expr}
+use Rattle.lf_ast.specs.Tree.{Tree, Trees, Number, Str, Selector, Subquery, Paren, Unary, Binary, Call, Aggregate, Nil, Next}
+use Rattle.lf_base.specs.Names.{is_label_name}
 use Rattle.lf_ast.specs.declared.expr.Grouping.{Grouping}
 use Rattle.lf_ast.specs.declared.expr.Grouping.TheVariants.{None as Ungrouped}
 use Rattle.lf_ast.specs.declared.expr.Matcher.{Matcher}
@@ -18,9 +16,10 @@ use Rattle.lf_ast.specs.declared.expr.Op.{Op}
 use Rattle.lf_ast.specs.declared.expr.Op.TheVariants.{And, Or, Unless}
 use Rattle.lf_ast.specs.declared.functions.LabelEffect.{LabelEffect}
 use Rattle.lf_ast.specs.declared.functions.LabelEffect.TheVariants.{Maps, Keeps, Groups, CountValues, Date, Absent, LabelReplace, LabelJoin, HistogramQuantile, Bare}
-use Rattle.lf_pattern.specs.Matching.{matches}
-use Rattle.lf_semantics.specs.Grouped.{is_metric, without_name, is_filter, group_of, may_be_lacked, SameSignature, out}
-use Rattle.lf_semantics.specs.Parts.{Sought, is_scalar_part, operand_place, sought_by, text_at, texts_of}
+use Rattle.lf_ast.specs.Arguments.{text_at, texts_of}
+use Rattle.lf_pattern.specs.Matching.{Matches}
+use Rattle.lf_semantics.specs.Grouped.{SameSignature, group_of, is_filter, is_metric, may_be_lacked, out, without_name}
+use Rattle.lf_semantics.specs.Parts.{Sought, is_scalar_part, operand_place, sought_in}
 use Rattle.lf_semantics.specs.Passing.{HasName, PassesEach}
 use Rattle.lf_semantics.specs.Strings.{Expands, Joining, Replacing, absent_texts, joined_by, joining, replacing}
 use Rattle.lf_semantics.specs.Texts.{HasTexts, restricted, value_of, with_label}
@@ -71,8 +70,8 @@ source_value p s = cond (is_label_name p.source) (value_of s p.source) []
 -- where the pattern matches the source, the target becomes the expanded replacement, which removes it if empty
 abbrev pub IsReplaced : Replacing → Labels → Labels → Type 0
 IsReplaced p s r =
-    ((matches p.pattern (source_value p s) ≡ false) × (r ≡ s))
-    ⊎ ((matches p.pattern (source_value p s) ≡ true) × (text : Bytes) × Expands p (source_value p s) text × (r ≡ with_label p.target text s))
+    ((Matches p.pattern (source_value p s) → ⊥) × (r ≡ s))
+    ⊎ (Matches p.pattern (source_value p s) × (text : Bytes) × Expands p (source_value p s) text × (r ≡ with_label p.target text s))
 
 -- the target becomes the texts of the sources, joined; an empty one removes it
 abbrev pub IsJoined : Joining → Labels → Labels → Type 0
@@ -108,17 +107,17 @@ abbrev pub SomeMade : (Labels → Labels → Type 0) → Gives → Gives
 SomeMade becomes operand R = (Q : List Labels) × operand Q × AreSomeMade becomes Q R
 
 -- a function of dates maps its argument, or speaks of now
-abbrev pub DateGives : List Expr → Gives → Gives
-DateGives [] operand = IsBare
-DateGives (arg ∷ args) operand = SomeMade LosesName operand
+abbrev pub DateGives : Trees → Gives → Gives
+DateGives Nil operand = IsBare
+DateGives (Next x xs) operand = SomeMade LosesName operand
 
-abbrev pub EffectGives : LabelEffect → Grouping → List Expr → Gives → Gives
+abbrev pub EffectGives : LabelEffect → Grouping → Trees → Gives → Gives
 EffectGives Maps grouping args operand = SomeMade LosesName operand
 EffectGives Keeps grouping args operand = SomeMade Stays operand
 EffectGives Groups grouping args operand = Made (IsGrouped grouping) operand
 EffectGives CountValues grouping args operand = SomeMade (IsCounted grouping (text_at (texts_of args) 0)) operand
 EffectGives Date grouping args operand = DateGives args operand
-EffectGives Absent grouping args operand = AbsentGives (option_and_then sought_by (slice_get args 0))
+EffectGives Absent grouping args operand = AbsentGives (sought_in args)
 EffectGives LabelReplace grouping args operand = Made (IsReplaced (replacing (texts_of args))) operand
 EffectGives LabelJoin grouping args operand = Made (IsJoined (joining (texts_of args))) operand
 EffectGives HistogramQuantile grouping args operand = SomeMade IsQuantile operand
@@ -183,30 +182,31 @@ abbrev pub SignGives : Bool → Gives → Gives
 SignGives true operand = Made LosesName operand
 SignGives false operand = operand
 
--- one layer of an expression: `gives` says what each part may give, and `whole` is the part itself
-module _ (S N : List Labels) (X : Type 0) (whole : X → Expr) (gives : X → Gives) where
-  abbrev pub gives_at : Option X → Gives
-  gives_at None R = ⊥
-  gives_at (Some x) R = gives x R
+-- a call by its signature: `argument` says what each argument may give
+abbrev pub CallGives : Option Signature → Grouping → Trees → (ℕ → Gives) → Gives
+CallGives None grouping args argument R = ⊥
+CallGives (Some s) grouping args argument R = EffectGives s.labels grouping args (argument (operand_place s)) R
 
-  abbrev pub call_gives : Option Signature → Grouping → List X → Gives
-  call_gives None grouping args R = ⊥
-  call_gives (Some s) grouping args R = EffectGives s.labels grouping (map whole args) (gives_at (slice_get args (operand_place s))) R
+-- expressions
 
-  abbrev pub wide_layer : Expr-F X → Gives
-  wide_layer (Number text span) R = IsBare R
-  wide_layer (Str text span) R = ⊥
-  -- any set of scraped series and recorded samples that pass the matchers
-  wide_layer (Selector name matchers sight span) R = (s : Labels) → Contains R s → (Contains S s ⊎ Contains N s) × HasName name s × PassesEach matchers s
-  -- any set of samples of several evaluations
-  wide_layer (Subquery of sight span) R = (s : Labels) → Contains R s → (Q : List Labels) × gives of.value Q × Contains Q s
-  wide_layer (Paren of span) R = gives of.value R
-  wide_layer (Unary minus of span) R = SignGives minus (gives of.value) R
-  wide_layer (Binary op m left right span) R =
-      BinaryGives op m (is_scalar_part (whole left.value)) (is_scalar_part (whole right.value)) (gives left.value) (gives right.value) R
-  wide_layer (Call name args span) R = call_gives (function_named name) Ungrouped args R
-  wide_layer (Aggregate op grouping args span) R = call_gives (Some (aggregation op)) grouping args R
+module _ (S N : List Labels) where
+  abbrev mutual
+    -- `Evaluates S N e R`: over the scraped series S and the recorded samples N, the expression e may give the set R
+    pub Evaluates : Tree → Gives
+    Evaluates (Number text span) R = IsBare R
+    Evaluates (Str text span) R = ⊥
+    -- any set of scraped series and recorded samples that pass the matchers
+    Evaluates (Selector name matchers sight span) R = (s : Labels) → Contains R s → (Contains S s ⊎ Contains N s) × HasName name s × PassesEach matchers s
+    -- any set of samples of several evaluations
+    Evaluates (Subquery of sight span) R = (s : Labels) → Contains R s → (Q : List Labels) × Evaluates of Q × Contains Q s
+    Evaluates (Paren of span) R = Evaluates of R
+    Evaluates (Unary minus of span) R = SignGives minus (Evaluates of) R
+    Evaluates (Binary op m left right span) R = BinaryGives op m (is_scalar_part left) (is_scalar_part right) (Evaluates left) (Evaluates right) R
+    Evaluates (Call name args span) R = CallGives (function_named name) Ungrouped args (ArgumentEvaluates args) R
+    Evaluates (Aggregate op grouping args span) R = CallGives (Some (aggregation op)) grouping args (ArgumentEvaluates args) R
 
--- `Wide S N e R`: over the scraped series S and the recorded samples N, the expression e may give the set R
-abbrev pub Wide : List Labels → List Labels → Expr → Gives
-Wide S N = rec-Expr Gives (wide_layer S N)
+    -- argument k, counted from 0, may give the set R
+    pub ArgumentEvaluates : Trees → ℕ → Gives
+    ArgumentEvaluates Nil k R = ⊥
+    ArgumentEvaluates (Next x xs) zero R = Evaluates x R
+    ArgumentEvaluates (Next x xs) (suc k) R = ArgumentEvaluates xs k R

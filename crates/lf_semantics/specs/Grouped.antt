@@ -10,7 +10,8 @@ use Rattle.lf_ast.specs.declared.expr.Grouping.TheVariants.{None as Ungrouped, B
 use Rattle.lf_ast.specs.declared.expr.Matching.{Matching}
 use Rattle.lf_ast.specs.declared.expr.Name.{Name}
 use Rattle.lf_ast.specs.declared.expr.Op.{Op}
-use Rattle.lf_semantics.specs.Texts.{metric, restricted, value_of, with_label}
+use Rattle.lf_ast.specs.Selectors.{metric}
+use Rattle.lf_semantics.specs.Texts.{restricted, value_of, with_label}
 
 abbrev pub is_metric : Bytes → Bool
 is_metric label = bytes_eq label metric

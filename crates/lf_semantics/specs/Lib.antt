@@ -2,6 +2,7 @@ pub mod ClassRows
 pub mod Environments
 pub mod Evaluation
 pub mod Grouped
+pub mod Laws
 pub mod Listing
 pub mod Parts
 pub mod Passing
@@ -9,5 +10,5 @@ pub mod PatternBreaches
 pub mod RowTable
 pub mod Strings
 pub mod Texts
-pub mod Walk
+pub mod Mentions
 pub mod Worlds

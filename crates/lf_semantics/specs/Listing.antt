@@ -3,9 +3,9 @@ use Rattle.std.specs.Prelude.{◌≡◌, ◌≢◌, ℕ, ◌+◌, ◌<◌, not, 
 use Rattle.std.specs.List.{Contains, filter, flat_map, position_or_len, sum}
 use Rattle.std.specs.Str.{bytes_eq}
 use Rattle.lf_ast.specs.Labels.{Bytes}
-use Rattle.lf_ast.specs.declared.rule.Rule.{Rule}
-use Rattle.lf_semantics.specs.Texts.{metric}
-use Rattle.lf_semantics.specs.Walk.{Met, rules_walk}
+use Rattle.lf_ast.specs.Rules.{RuleTree}
+use Rattle.lf_ast.specs.Selectors.{metric}
+use Rattle.lf_semantics.specs.Mentions.{Mention, rules_mentions}
 
 -- the names of the labels but `*`, and for each of them, and behind these for `*`, the texts that are classes of their own. `*` has none
 pub record Listing : Type 0 where
@@ -17,21 +17,21 @@ abbrev pub first_seen : List Bytes → List Bytes
 first_seen [] = []
 first_seen (x ∷ xs) = x ∷ filter (λ y. not (bytes_eq y x)) (first_seen xs)
 
--- `__name__`, and then the labels that are met
-abbrev pub labels_met : List Met → List Bytes
-labels_met items = first_seen (metric ∷ map (λ m. m.label) items)
+-- `__name__`, and then the labels that are named
+abbrev pub labels_mentioned : List Mention → List Bytes
+labels_mentioned items = first_seen (metric ∷ map (λ m. m.label) items)
 
--- the texts that are met with a label, but for the empty one
-abbrev pub texts_met : List Met → Bytes → List Bytes
-texts_met items label = first_seen (filter (λ t. not (bytes_eq t [])) (flat_map (λ m. m.texts) (filter (λ m. bytes_eq m.label label) items)))
+-- the texts that are named with a label, but for the empty one
+abbrev pub texts_mentioned : List Mention → Bytes → List Bytes
+texts_mentioned items label = first_seen (filter (λ t. not (bytes_eq t [])) (flat_map (λ m. m.texts) (filter (λ m. bytes_eq m.label label) items)))
 
 -- `*` has no text that is a class of its own
-abbrev pub listing_of : List Met → Listing
-listing_of items = record { names = labels_met items; named = map (texts_met items) (labels_met items) ++ [] ∷ [] }
+abbrev pub listing_of : List Mention → Listing
+listing_of items = record { names = labels_mentioned items; named = map (texts_mentioned items) (labels_mentioned items) ++ [] ∷ [] }
 
 -- the universe of rules
-abbrev pub universe_of : List Rule → Listing
-universe_of rules = listing_of (rules_walk rules)
+abbrev pub universe_of : List RuleTree → Listing
+universe_of rules = listing_of (rules_mentions rules)
 
 -- labels and classes by their numbers
 

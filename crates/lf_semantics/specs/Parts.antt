@@ -1,12 +1,9 @@
--- What is read off an expression: its type, the texts of its strings, which argument is the operand, and the selector that `absent` looks for.
-use Rattle.std.specs.Prelude.{ℕ, Bool, true, false, List, [], map, Option, Some, None, is_some, option_map, slice_index_or, unwrap_or}
+-- What is read off an expression: its type, which argument is the operand, and the selector that `absent` looks for.
+use Rattle.std.specs.Prelude.{ℕ, zero, suc, Bool, true, false, List, Option, Some, None, is_some, option_and_then, option_map}
 use Rattle.std.specs.List.{position_or_len}
-use Rattle.lf_ast.specs.Labels.{Bytes}
 use Rattle.lf_ast.specs.Functions.{Signature, function_named}
-use Rattle.lf_ast.specs.Types.{is_scalar, joined, selected, string_of}
-use Rattle.lf_ast.specs.declared.expr.Expr.{Expr}
-use Rattle.lf_ast.specs.declared.expr.Expr.TheOpen.{Expr-F, Number, Str as Text, Selector, Subquery, Paren, Unary, Binary, Call, Aggregate}
-use Rattle.lf_ast.specs.declared.expr.Expr.TheFolds.{para-Expr}
+use Rattle.lf_ast.specs.Tree.{Tree, Trees, Number, Str as Text, Selector, Subquery, Paren, Unary, Binary, Call, Aggregate, Nil, Next}
+use Rattle.lf_ast.specs.Types.{is_scalar, joined, selected}
 use Rattle.lf_ast.specs.declared.expr.ExprType.{ExprType}
 use Rattle.lf_ast.specs.declared.expr.ExprType.TheVariants.{Str, Scalar, Vector, Range}
 use Rattle.lf_ast.specs.declared.expr.Matcher.{Matcher}
@@ -17,23 +14,20 @@ abbrev pub given_by : Option Signature → ExprType
 given_by None = Vector
 given_by (Some s) = s.gives
 
-abbrev pub form_layer : Expr-F (Expr × ExprType) → ExprType
-form_layer (Number text span) = Scalar
-form_layer (Text text span) = Str
-form_layer (Selector name matchers sight span) = selected sight.range
-form_layer (Subquery of sight span) = Range
-form_layer (Paren of span) = of.value.1
-form_layer (Unary minus of span) = of.value.1
-form_layer (Binary op m left right span) = joined left.value.1 right.value.1
-form_layer (Call name args span) = given_by (function_named name)
-form_layer (Aggregate op grouping args span) = Vector
-
 -- the type of an expression that has one; of what has none nothing is claimed
-abbrev pub type_by_form : Expr → ExprType
-type_by_form = para-Expr ExprType form_layer
+abbrev pub type_by_form : Tree → ExprType
+type_by_form (Number text span) = Scalar
+type_by_form (Text text span) = Str
+type_by_form (Selector name matchers sight span) = selected sight.range
+type_by_form (Subquery of sight span) = Range
+type_by_form (Paren of span) = type_by_form of
+type_by_form (Unary minus of span) = type_by_form of
+type_by_form (Binary op m left right span) = joined (type_by_form left) (type_by_form right)
+type_by_form (Call name args span) = given_by (function_named name)
+type_by_form (Aggregate op grouping args span) = Vector
 
 -- the expression is a scalar
-abbrev pub is_scalar_part : Expr → Bool
+abbrev pub is_scalar_part : Tree → Bool
 is_scalar_part e = is_scalar (type_by_form e)
 
 -- a rule of the type can be evaluated: of a scalar or a vector, and not of a string or a range vector
@@ -45,12 +39,11 @@ is_evaluated Range = false
 
 -- arguments
 
--- the texts of arguments that are strings
-abbrev pub texts_of : List Expr → List Bytes
-texts_of args = map (λ e. unwrap_or (string_of e) []) args
-
-abbrev pub text_at : List Bytes → ℕ → Bytes
-text_at texts k = slice_index_or texts k []
+-- argument k, counted from 0
+abbrev pub argument_at : Trees → ℕ → Option Tree
+argument_at Nil k = None
+argument_at (Next x xs) zero = Some x
+argument_at (Next x xs) (suc k) = argument_at xs k
 
 abbrev pub takes_samples : ExprType → Bool
 takes_samples Vector = true
@@ -69,11 +62,12 @@ pub record Sought : Type 0 where
   pub matchers : List Matcher
   pub may_be_bare : Bool
 
-abbrev pub sought_layer : Expr-F (Expr × Option Sought) → Option Sought
-sought_layer (Selector name matchers sight span) = Some (record { matchers = matchers; may_be_bare = is_some sight.at })
-sought_layer (Paren of span) = option_map (λ sought. record { matchers = sought.matchers; may_be_bare = true }) of.value.1
-sought_layer _ = None
-
 -- the selector that an `absent` function looks for; none where its argument is no selector
-abbrev pub sought_by : Expr → Option Sought
-sought_by = para-Expr (Option Sought) sought_layer
+abbrev pub sought_by : Tree → Option Sought
+sought_by (Selector name matchers sight span) = Some (record { matchers = matchers; may_be_bare = is_some sight.at })
+sought_by (Paren of span) = option_map (λ sought. record { matchers = sought.matchers; may_be_bare = true }) (sought_by of)
+sought_by _ = None
+
+-- the same of its arguments, of which it takes one
+abbrev pub sought_in : Trees → Option Sought
+sought_in args = option_and_then sought_by (argument_at args 0)

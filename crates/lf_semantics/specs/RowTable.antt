@@ -1,15 +1,14 @@
 -- The row of an expression, by the table of constructs: for each label the classes that the evaluation allows when the labels of the operands take classes from their
 -- sets independently of one another, but for choices about 'any other text' at patterns, and at `label_replace` and `label_join`, that are told there. By these a row may
 -- hold more classes than are so, and never fewer.
-use Rattle.std.specs.Prelude.{ℕ, nat_lt, Bool, true, false, not, ◌&&◌, ◌||◌, cond, eqb, List, [], ◌∷◌, map, Option, Some, None, codes, option_and_then, slice_get, slice_index_or}
+use Rattle.std.specs.Prelude.{ℕ, zero, suc, nat_lt, Bool, true, false, not, ◌&&◌, ◌||◌, cond, eqb, List, [], ◌∷◌, Option, Some, None, codes, slice_index_or}
 use Rattle.std.specs.List.{filter, list_all, list_any}
 use Rattle.std.specs.Str.{bytes_eq}
 use Rattle.lf_ast.specs.Functions.{Signature, aggregation, function_named}
 use Rattle.lf_ast.specs.Labels.{Bytes}
-use Rattle.lf_ast.specs.Types.{is_label_name, names_at}
-use Rattle.lf_ast.specs.declared.expr.Expr.{Expr}
-use Rattle.lf_ast.specs.declared.expr.Expr.TheOpen.{Expr-F, Number, Str, Selector, Subquery, Paren, Unary, Binary, Call, Aggregate}
-use Rattle.lf_ast.specs.declared.expr.Expr.TheFolds.{para-Expr}
+use Rattle.lf_ast.specs.Tree.{Tree, Trees, Number, Str, Selector, Subquery, Paren, Unary, Binary, Call, Aggregate, Nil, Next}
+use Rattle.lf_ast.specs.Types.{names_at}
+use Rattle.lf_base.specs.Names.{is_label_name}
 use Rattle.lf_ast.specs.declared.expr.Group.{Group}
 use Rattle.lf_ast.specs.declared.expr.Group.TheVariants.{One, Left, Right}
 use Rattle.lf_ast.specs.declared.expr.Grouping.{Grouping}
@@ -22,14 +21,15 @@ use Rattle.lf_ast.specs.declared.expr.Op.{Op}
 use Rattle.lf_ast.specs.declared.expr.Op.TheVariants.{And, Or, Unless}
 use Rattle.lf_ast.specs.declared.functions.LabelEffect.{LabelEffect}
 use Rattle.lf_ast.specs.declared.functions.LabelEffect.TheVariants.{Maps, Keeps, Groups, CountValues, Date, Absent, LabelReplace, LabelJoin, HistogramQuantile, Bare}
+use Rattle.lf_ast.specs.Arguments.{text_at, texts_of, has_dollar}
+use Rattle.lf_ast.specs.Selectors.{selected_name, metric}
 use Rattle.lf_pattern.specs.Matching.{matches}
-use Rattle.lf_semantics.specs.ClassRows.{Sets, full, holds, indexed_from, is_live, narrowed, nothing, only_empty, replaced, union}
+use Rattle.lf_semantics.specs.ClassRows.{Sets, bottom, holds, indexed_from, is_live, join, narrowed, only_empty, replaced, top}
 use Rattle.lf_semantics.specs.Grouped.{is_arithmetic, is_filter, may_be_lacked}
 use Rattle.lf_semantics.specs.Listing.{Listing, class_of, class_texts, label_of, other_class}
-use Rattle.lf_semantics.specs.Parts.{Sought, is_scalar_part, operand_place, sought_by, text_at, texts_of}
-use Rattle.lf_semantics.specs.Passing.{is_plain, passes, passes_other, selected_name}
-use Rattle.lf_semantics.specs.Strings.{Joining, Replacing, absent_texts, has_dollar, joining, replacing, shows}
-use Rattle.lf_semantics.specs.Texts.{metric}
+use Rattle.lf_semantics.specs.Parts.{Sought, is_scalar_part, operand_place, sought_in}
+use Rattle.lf_semantics.specs.Passing.{is_plain, passes, passes_other}
+use Rattle.lf_semantics.specs.Strings.{Joining, Replacing, absent_texts, joining, replacing, shows}
 
 -- the row of each recorded name
 abbrev pub Environment : Type 0
@@ -60,7 +60,7 @@ module _ (u : Listing) where
 
   -- the one sample without labels
   abbrev pub bare_row : Sets
-  bare_row = only_empty (λ label. true) (full u)
+  bare_row = only_empty (λ label. true) (top u)
 
   abbrev pub nameless : Sets → Sets
   nameless row = only_empty is_metric_label row
@@ -76,18 +76,18 @@ module _ (u : Listing) where
 
   -- the series of a name that no rule records: every class of each other label. No series has the empty name
   abbrev pub series_row : Bytes → Sets
-  series_row name = cond (bytes_eq name []) (nothing u) (replaced is_metric_label (λ label class. eqb class (class_of u label name)) (full u))
+  series_row name = cond (bytes_eq name []) (bottom u) (replaced is_metric_label (λ label class. eqb class (class_of u label name)) (top u))
 
   abbrev pub is_recorded : Environment → ℕ → ℕ → Bool
   is_recorded env label class = list_any (λ entry. eqb (class_of u label entry.0) class) env
 
   -- all series: each name but the empty one and the recorded ones
   abbrev pub scraped_row : Environment → Sets
-  scraped_row env = replaced is_metric_label (λ label class. not (eqb class 0) && not (is_recorded env label class)) (full u)
+  scraped_row env = replaced is_metric_label (λ label class. not (eqb class 0) && not (is_recorded env label class)) (top u)
 
   abbrev pub with_recorded : Environment → Sets → Sets
   with_recorded [] row = row
-  with_recorded (entry ∷ env) row = union (with_recorded env row) entry.1
+  with_recorded (entry ∷ env) row = join (with_recorded env row) entry.1
 
   abbrev pub row_or_series : Option Sets → Bytes → Sets
   row_or_series (Some row) name = row
@@ -125,7 +125,7 @@ module _ (u : Listing) where
 
   abbrev pub absent_row : Option Sought → Sets
   absent_row None = bare_row
-  absent_row (Some sought) = replaced (λ label. true) (is_sought sought) (full u)
+  absent_row (Some sought) = replaced (λ label. true) (is_sought sought) (top u)
 
   -- some class in the set passes
   abbrev pub has_class : (ℕ → Bool) → List Bool → Bool
@@ -175,20 +175,20 @@ module _ (u : Listing) where
 
   -- `histogram_quantile` sees no sample without `le`
   abbrev pub quantile_row : Sets → Sets
-  quantile_row row = cond (may_be_present row (codes "le")) (only_empty (λ label. is_metric_label label || is_label (codes "le") label) row) (nothing u)
+  quantile_row row = cond (may_be_present row (codes "le")) (only_empty (λ label. is_metric_label label || is_label (codes "le") label) row) (bottom u)
 
   -- a function of dates without an argument speaks of now
-  abbrev pub date_row : List Expr → Sets → Sets
-  date_row [] row = bare_row
-  date_row (arg ∷ args) row = nameless row
+  abbrev pub date_row : Trees → Sets → Sets
+  date_row Nil row = bare_row
+  date_row (Next x xs) row = nameless row
 
-  abbrev pub effect_row : LabelEffect → Grouping → List Expr → Sets → Sets
+  abbrev pub effect_row : LabelEffect → Grouping → Trees → Sets → Sets
   effect_row Maps grouping args row = nameless row
   effect_row Keeps grouping args row = row
   effect_row Groups grouping args row = grouped_row grouping row
   effect_row CountValues grouping args row = counted_row grouping (text_at (texts_of args) 0) row
   effect_row Date grouping args row = date_row args row
-  effect_row Absent grouping args row = absent_row (option_and_then sought_by (slice_get args 0))
+  effect_row Absent grouping args row = absent_row (sought_in args)
   effect_row LabelReplace grouping args row = replacing_row (replacing (texts_of args)) row
   effect_row LabelJoin grouping args row = joining_row (joining (texts_of args)) row
   effect_row HistogramQuantile grouping args row = quantile_row row
@@ -209,7 +209,7 @@ module _ (u : Listing) where
 
   -- a side of a match: each label of the signature has the classes that both sides have
   abbrev pub matched_row : Matching → Sets → Sets → Sets
-  matched_row m row other = cond (is_live other) (narrowed (λ label class. not (signs_label m label) || holds other label class) row) (nothing u)
+  matched_row m row other = cond (is_live other) (narrowed (λ label class. not (signs_label m label) || holds other label class) row) (bottom u)
 
   abbrev pub keeps_label_by : Option (List Name) → Option (List Name) → ℕ → Bool
   keeps_label_by (Some on) ignoring label = is_label_among on label
@@ -222,7 +222,7 @@ module _ (u : Listing) where
   nameless_if drops row = cond drops (nameless row) row
 
   abbrev pub taken_row : Sets → List Name → Sets → Sets
-  taken_row one names row = cond (is_live one) (replaced (is_label_among names) (holds one) row) (nothing u)
+  taken_row one names row = cond (is_live one) (replaced (is_label_among names) (holds one) row) (bottom u)
 
   abbrev pub many_to_one_row : Op → Matching → Sets → Sets → Sets
   many_to_one_row op m many one = nameless_if m.bool_mod (taken_row one m.include (nameless_if (is_arithmetic op) many))
@@ -235,7 +235,7 @@ module _ (u : Listing) where
 
   abbrev pub combined_row : Op → Matching → Sets → Sets → Sets
   combined_row And m left right = matched_row m left right
-  combined_row Or m left right = union left right
+  combined_row Or m left right = join left right
   combined_row Unless m left right = left
   combined_row op m left right = paired_row m.group op m (matched_row m left right) (matched_row m right left)
 
@@ -250,28 +250,29 @@ module _ (u : Listing) where
   sign_row true row = nameless row
   sign_row false row = row
 
+  -- a call by its signature: `argument` has the row of each argument
+  abbrev pub call_row : Option Signature → Grouping → Trees → (ℕ → Sets) → Sets
+  call_row None grouping args argument = bottom u
+  call_row (Some s) grouping args argument = effect_row s.labels grouping args (argument (operand_place s))
+
   -- expressions
 
-  abbrev pub row_at : Option (Expr × Sets) → Sets
-  row_at None = nothing u
-  row_at (Some arg) = arg.1
+  module _ (env : Environment) where
+    abbrev mutual
+      -- the row of an expression in an environment
+      pub row_of : Tree → Sets
+      row_of (Number text span) = bare_row
+      row_of (Str text span) = bottom u
+      row_of (Selector name matchers sight span) = selector_row env name matchers
+      row_of (Subquery of sight span) = row_of of
+      row_of (Paren of span) = row_of of
+      row_of (Unary minus of span) = sign_row minus (row_of of)
+      row_of (Binary op m left right span) = binary_row op m (is_scalar_part left) (is_scalar_part right) (row_of left) (row_of right)
+      row_of (Call name args span) = call_row (function_named name) Ungrouped args (row_at args)
+      row_of (Aggregate op grouping args span) = call_row (Some (aggregation op)) grouping args (row_at args)
 
-  abbrev pub call_row : Option Signature → Grouping → List (Expr × Sets) → Sets
-  call_row None grouping args = nothing u
-  call_row (Some s) grouping args = effect_row s.labels grouping (map (λ a. a.0) args) (row_at (slice_get args (operand_place s)))
-
-  -- one layer, whose parts stand beside their rows
-  abbrev pub row_layer : Environment → Expr-F (Expr × Sets) → Sets
-  row_layer env (Number text span) = bare_row
-  row_layer env (Str text span) = nothing u
-  row_layer env (Selector name matchers sight span) = selector_row env name matchers
-  row_layer env (Subquery of sight span) = of.value.1
-  row_layer env (Paren of span) = of.value.1
-  row_layer env (Unary minus of span) = sign_row minus of.value.1
-  row_layer env (Binary op m left right span) = binary_row op m (is_scalar_part left.value.0) (is_scalar_part right.value.0) left.value.1 right.value.1
-  row_layer env (Call name args span) = call_row (function_named name) Ungrouped args
-  row_layer env (Aggregate op grouping args span) = call_row (Some (aggregation op)) grouping args
-
-  -- the row of an expression in an environment
-  abbrev pub row_of : Environment → Expr → Sets
-  row_of env = para-Expr Sets (row_layer env)
+      -- the row of argument k, counted from 0, and the empty row where there is none
+      pub row_at : Trees → ℕ → Sets
+      row_at Nil k = bottom u
+      row_at (Next x xs) zero = row_of x
+      row_at (Next x xs) (suc k) = row_at xs k

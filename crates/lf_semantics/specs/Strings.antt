@@ -1,14 +1,13 @@
 -- What functions of labels do by their strings: `absent`, `label_replace` and `label_join`.
-use Rattle.std.specs.Prelude.{◌≡◌, ◌⊎◌, ◌==◌, nat_lt, Bool, true, false, not, ◌&&◌, cond, List, [], ◌∷◌, ◌++◌, map, length, drop}
+use Rattle.std.specs.Prelude.{◌≡◌, ◌⊎◌, nat_lt, Bool, true, false, not, ◌&&◌, cond, List, [], ◌∷◌, ◌++◌, map, length, drop}
 use Rattle.std.specs.Str.{bytes_eq}
-use Rattle.std.specs.List.{filter, flat_map, list_any}
+use Rattle.std.specs.List.{filter}
 use Rattle.lf_ast.specs.Labels.{Bytes}
 use Rattle.lf_ast.specs.declared.expr.Matcher.{Matcher}
-use Rattle.lf_pattern.specs.Matching.{group_text}
-use Rattle.lf_pattern.specs.Replacement.{HasPieces, IsPlainReplacement, piece_text}
+use Rattle.lf_ast.specs.Arguments.{has_dollar, text_at}
+use Rattle.lf_ast.specs.Selectors.{is_equal}
+use Rattle.lf_pattern.specs.Replacement.{HasPieces, IsPlainReplacement, IsTextOf}
 use Rattle.lf_pattern.specs.declared.replacement.Piece.{Piece}
-use Rattle.lf_semantics.specs.Parts.{text_at}
-use Rattle.lf_semantics.specs.Passing.{is_equal}
 
 -- `absent`
 
@@ -32,16 +31,13 @@ pub record Replacing : Type 0 where
 abbrev pub replacing : List Bytes → Replacing
 replacing texts = record { target = text_at texts 1; replacement = text_at texts 2; source = text_at texts 3; pattern = text_at texts 4 }
 
-abbrev pub has_dollar : Bytes → Bool
-has_dollar replacement = list_any (λ b. b == 36) replacement
-
 -- What a replacement stands for at a value that the pattern matches. Without a `$` it is itself; a plain one with `$` is what its pieces stand for; and any other is
 -- any text.
 abbrev pub Expands : Replacing → Bytes → Bytes → Type 0
 Expands r value text =
     ((has_dollar r.replacement ≡ false) × (text ≡ r.replacement))
     ⊎ ((has_dollar r.replacement ≡ true)
-    × (((pieces : List Piece) × HasPieces r.replacement pieces × (text ≡ flat_map (piece_text (group_text r.pattern value)) pieces))
+    × (((pieces : List Piece) × HasPieces r.replacement pieces × IsTextOf r.pattern value pieces text)
     ⊎ (IsPlainReplacement r.replacement → ⊥)))
 
 -- `label_join(v, TARGET, SEPARATOR, SOURCE, ..)`

@@ -1,13 +1,9 @@
 -- The texts of label sets. A label that is absent counts as the empty text.
-use Rattle.std.specs.Prelude.{◌≡◌, ◌≢◌, Bool, [], Some, cond, codes}
+use Rattle.std.specs.Prelude.{◌≡◌, ◌≢◌, Bool, [], Some, cond}
 use Rattle.std.specs.Option.{unwrap_or}
 use Rattle.std.specs.Str.{bytes_eq}
 use Rattle.std.specs.FinMap.{get, insert, remove, retain_keys}
 use Rattle.lf_ast.specs.Labels.{Bytes, Labels}
-
--- the label that holds the metric name
-abbrev pub metric : Bytes
-metric = codes "__name__"
 
 -- the text of a label, or the empty text where it is absent
 abbrev pub value_of : Labels → Bytes → Bytes

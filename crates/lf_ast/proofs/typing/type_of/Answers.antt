@@ -1,21 +1,22 @@
-use Rattle.std.proofs.Common.{sym, ◌∙◌}
-use Rattle.lf_ast.proofs.Judged.{has_judged, judged_told, judged_type, tells_judged}
+use Rattle.lf_base.proofs.Answering.{breach, found, only, refused, refused_in}
+use Rattle.lf_ast.specs.Breaches.{Tells}
+use Rattle.lf_ast.specs.Judging.{judged}
+use Rattle.lf_ast.specs.Tree.{tree}
+use Rattle.lf_ast.specs.Types.{HasType}
+use Rattle.lf_ast.proofs.BreachesInside.{breach_lies}
+use Rattle.lf_ast.proofs.Judged.{decides}
 use Rattle.lf_ast.proofs.typing.type_of.Goals as goal
 
-pub returns-in-Ok-clause-found : goal.returns-in-Ok-clause-found
-returns-in-Ok-clause-found c = has_judged c.args.expr.now c.in-Ok.of (sym c.in_ok-of.ensures ∙ c.in-Ok.is)
-
-pub returns-in-Ok-clause-only : goal.returns-in-Ok-clause-only
-returns-in-Ok-clause-only c = λ t has. sym c.in-Ok.is ∙ c.in_ok-of.ensures ∙ judged_type c.args.expr.now t has
-
-pub returns-in-Ok-clause-breach : goal.returns-in-Ok-clause-breach
-returns-in-Ok-clause-breach c = λ f tells. sym c.in-Ok.is ∙ c.in_ok-of.ensures ∙ judged_told c.args.expr.now f tells
-
-pub returns-in-Err-clause-only : goal.returns-in-Err-clause-only
-returns-in-Err-clause-only c = λ t has. sym c.in-Err.is ∙ c.in_ok-of.ensures ∙ judged_type c.args.expr.now t has
-
-pub returns-in-Err-clause-refused : goal.returns-in-Err-clause-refused
-returns-in-Err-clause-refused c = tells_judged c.args.expr.now c.in-Err.fault (sym c.in_ok-of.ensures ∙ c.in-Err.is)
-
-pub returns-in-Err-clause-breach : goal.returns-in-Err-clause-breach
-returns-in-Err-clause-breach c = λ f tells. sym c.in-Err.is ∙ c.in_ok-of.ensures ∙ judged_told c.args.expr.now f tells
+pub returns : goal.returns
+returns c =
+    let e = tree c.args.expr.now in
+    let r = c.read_type.result in
+    let given = c.read_type.ensures in
+    let told = refused (λ t. t) (HasType e) (Tells e) (judged e) (decides e) r given in
+    record {
+      found = found (λ t. t) (HasType e) (Tells e) (judged e) (decides e) r given;
+      only = only (λ t. t) (HasType e) (Tells e) (judged e) (decides e) r given;
+      refused = told;
+      breach = breach (λ t. t) (HasType e) (Tells e) (judged e) (decides e) r given;
+      inside = λ n inside. refused_in n (Tells e) (λ f tells. breach_lies n e f inside tells.0) r told;
+    }
