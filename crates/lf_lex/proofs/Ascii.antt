@@ -10,25 +10,24 @@ use Rattle.std.proofs.lemmas.List.Sums.{prefix_len_passes, prefix_len_stops}
 use Rattle.std.proofs.lemmas.Str.{IsCharBoundary-before_ascii, IsCharBoundary-after_ascii}
 use Rattle.std.specs.List.{prefix_len}
 use Rattle.std.specs.Str.{IsUtf8, IsCharBoundary}
-use Rattle.lf_lex.specs.Bytes.{is_digit, is_letter, is_dot, is_exponent, is_plus_minus, begins_word, is_in_word, is_in_run, is_in_mantissa}
+use Rattle.lf_lex.specs.Bytes.{is_dot, is_exponent, is_plus_minus, begins_word, is_in_word, is_in_run, is_in_mantissa}
+use Rattle.lf_base.specs.Names.{is_digit, is_letter, begins_label}
 use Rattle.lf_lex.specs.reading.Runs.{begins_signed, run_len}
 use Rattle.lf_lex.specs.Runs.{begins_run}
+use Rattle.lf_lex.proofs.Words.{begins_in_word}
+use Rattle.lf_lex.proofs.RunLaws.{digit_in_run, dot_in_run}
 
 begins_ascii : (inside : Bool) (b : ℕ) → begins_word inside b ≡ true → b < 128
-unfolding begins_word is_letter
+unfolding begins_word begins_label is_letter
 begins_ascii inside b h = grind (arith, nat_tests)
 
 word_ascii : (inside : Bool) (b : ℕ) → is_in_word inside b ≡ true → b < 128
-unfolding is_in_word begins_word is_letter is_digit
+unfolding is_in_word begins_word begins_label is_letter is_digit
 word_ascii inside b h = grind (arith, nat_tests)
 
 run_ascii : (b : ℕ) → is_in_run b ≡ true → b < 128
 unfolding is_in_run is_letter is_digit
 run_ascii b h = grind (arith, nat_tests)
-
-begins_in_word : (inside : Bool) (b : ℕ) → begins_word inside b ≡ true → is_in_word inside b ≡ true
-unfolding is_in_word
-begins_in_word inside b h = rw h refl
 
 -- ---- the first byte and the last
 
@@ -84,14 +83,6 @@ module _ (bs : List ℕ) (at : ℕ) (u : IsUtf8 bs) (lt : at < length bs) where
       is_96 b h = grind (arith, nat_tests)
 
 -- ---- runs
-
-digit_in_run : (b : ℕ) → is_digit b ≡ true → is_in_run b ≡ true
-unfolding is_in_run
-digit_in_run b h = rw h refl
-
-dot_in_run : (b : ℕ) → is_dot b ≡ true → is_in_run b ≡ true
-unfolding is_in_run is_dot is_digit is_letter
-dot_in_run b h = grind (arith, nat_tests)
 
 first_in_run : (src : List ℕ) → begins_run src ≡ true → (0 < length src) × (is_in_run (get_or src 0 0) ≡ true)
 first_in_run [] h = cc

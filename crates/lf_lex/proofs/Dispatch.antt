@@ -4,18 +4,19 @@ use Rattle.std.proofs.lemmas.Bool.{and_parts, or_cases, or_left, or_right}
 use Rattle.std.proofs.lemmas.Bool.Decides.{nat_tests}
 use Rattle.lf_lex.specs.declared.token.Sign.{Sign}
 use Rattle.lf_lex.specs.declared.token.Sign.TheVariants as signs
-use Rattle.lf_lex.specs.Bytes.{is_blank, is_letter, is_digit, is_dot, is_in_mantissa, begins_word}
+use Rattle.lf_lex.specs.Bytes.{is_blank, is_dot, is_in_mantissa, begins_word}
+use Rattle.lf_base.specs.Names.{is_letter, is_digit, begins_label}
 use Rattle.lf_lex.specs.Signs.{spelling}
 use Rattle.lf_lex.specs.Runs.{begins_run}
 use Rattle.lf_lex.specs.Strings.{IsQuote}
-use Rattle.lf_lex.specs.reading.Steps.{gap, comment_front, word_front, run_front, quoted_front, raw_front, sign_front, front_of}
+use Rattle.lf_lex.specs.reading.Steps.{gap, comment_front, word_front, run_front, quoted_front, raw_front, sign_front, next_token}
 
 word_no_blank : (inside : Bool) (b : ℕ) → begins_word inside b ≡ true → is_blank b ≡ false
-unfolding begins_word is_letter is_blank
+unfolding begins_word begins_label is_letter is_blank
 word_no_blank inside b h = grind (arith, nat_tests)
 
 word_no_hash : (inside : Bool) (b : ℕ) → begins_word inside b ≡ true → eqb b 35 ≡ false
-unfolding begins_word is_letter
+unfolding begins_word begins_label is_letter
 word_no_hash inside b h = grind (arith, nat_tests)
 
 run_head : (b : ℕ) (src : List ℕ) → begins_run (b ∷ src) ≡ true → is_in_mantissa b ≡ true
@@ -35,7 +36,7 @@ unfolding is_in_mantissa is_digit is_dot
 run_no_hash b h = grind (arith, nat_tests)
 
 run_no_word : (inside : Bool) (b : ℕ) → is_in_mantissa b ≡ true → begins_word inside b ≡ false
-unfolding is_in_mantissa is_digit is_dot begins_word is_letter
+unfolding is_in_mantissa is_digit is_dot begins_word begins_label is_letter
 run_no_word inside b h = grind (arith, nat_tests)
 
 pub begins_no_run : (b : ℕ) (src : List ℕ) → is_digit b ≡ false → is_dot b ≡ false → begins_run (b ∷ src) ≡ false
@@ -43,40 +44,40 @@ begins_no_run b [] d e = d
 begins_no_run b (c ∷ src) d e = rw (d, e) refl
 
 module _ (from : List ℕ) (inside : Bool) (at : ℕ) (src : List ℕ) where
-  pub front_blank : (b : ℕ) → is_blank b ≡ true → front_of from inside at (b ∷ src) ≡ gap 1
-  unfolding front_of
+  pub front_blank : (b : ℕ) → is_blank b ≡ true → next_token from inside at (b ∷ src) ≡ gap 1
+  unfolding next_token
   front_blank b h = rw h refl
 
-  pub front_comment : front_of from inside at (35 ∷ src) ≡ comment_front (35 ∷ src)
-  unfolding front_of is_blank
+  pub front_comment : next_token from inside at (35 ∷ src) ≡ comment_front (35 ∷ src)
+  unfolding next_token is_blank
   front_comment = refl
 
-  pub front_word : (b : ℕ) → begins_word inside b ≡ true → front_of from inside at (b ∷ src) ≡ word_front inside (b ∷ src)
-  unfolding front_of
+  pub front_word : (b : ℕ) → begins_word inside b ≡ true → next_token from inside at (b ∷ src) ≡ word_front inside (b ∷ src)
+  unfolding next_token
   front_word b h = rw (word_no_blank inside b h, word_no_hash inside b h, h) refl
 
-  pub front_run : (b : ℕ) → begins_run (b ∷ src) ≡ true → front_of from inside at (b ∷ src) ≡ run_front from at (b ∷ src)
-  unfolding front_of
+  pub front_run : (b : ℕ) → begins_run (b ∷ src) ≡ true → next_token from inside at (b ∷ src) ≡ run_front from at (b ∷ src)
+  unfolding next_token
   front_run b h = let m = run_head b src h in rw (run_no_blank b m, run_no_hash b m, run_no_word inside b m, h) refl
 
-  front_double : front_of from inside at (34 ∷ src) ≡ quoted_front from at (34 ∷ src)
-  unfolding front_of is_blank begins_word is_letter is_digit is_dot
+  front_double : next_token from inside at (34 ∷ src) ≡ quoted_front from at (34 ∷ src)
+  unfolding next_token is_blank begins_word begins_label is_letter is_digit is_dot
   front_double = rw (begins_no_run 34 src refl refl) refl
 
-  front_single : front_of from inside at (39 ∷ src) ≡ quoted_front from at (39 ∷ src)
-  unfolding front_of is_blank begins_word is_letter is_digit is_dot
+  front_single : next_token from inside at (39 ∷ src) ≡ quoted_front from at (39 ∷ src)
+  unfolding next_token is_blank begins_word begins_label is_letter is_digit is_dot
   front_single = rw (begins_no_run 39 src refl refl) refl
 
-  pub front_quoted : (q : ℕ) → IsQuote q → front_of from inside at (q ∷ src) ≡ quoted_front from at (q ∷ src)
-  front_quoted q (inl e) = subst (λ (x : ℕ). front_of from inside at (x ∷ src) ≡ quoted_front from at (x ∷ src)) (sym e) front_double
-  front_quoted q (inr e) = subst (λ (x : ℕ). front_of from inside at (x ∷ src) ≡ quoted_front from at (x ∷ src)) (sym e) front_single
+  pub front_quoted : (q : ℕ) → IsQuote q → next_token from inside at (q ∷ src) ≡ quoted_front from at (q ∷ src)
+  front_quoted q (inl e) = subst (λ (x : ℕ). next_token from inside at (x ∷ src) ≡ quoted_front from at (x ∷ src)) (sym e) front_double
+  front_quoted q (inr e) = subst (λ (x : ℕ). next_token from inside at (x ∷ src) ≡ quoted_front from at (x ∷ src)) (sym e) front_single
 
-  pub front_raw : front_of from inside at (96 ∷ src) ≡ raw_front from at (96 ∷ src)
-  unfolding front_of is_blank begins_word is_letter is_digit is_dot
+  pub front_raw : next_token from inside at (96 ∷ src) ≡ raw_front from at (96 ∷ src)
+  unfolding next_token is_blank begins_word begins_label is_letter is_digit is_dot
   front_raw = rw (begins_no_run 96 src refl refl) refl
 
-  pub front_sign : (b : ℕ) → is_blank b ≡ false → eqb b 35 ≡ false → begins_word inside b ≡ false → begins_run (b ∷ src) ≡ false → (eqb b 34 || eqb b 39) ≡ false → eqb b 96 ≡ false → front_of from inside at (b ∷ src) ≡ sign_front from at (b ∷ src)
-  unfolding front_of
+  pub front_sign : (b : ℕ) → is_blank b ≡ false → eqb b 35 ≡ false → begins_word inside b ≡ false → begins_run (b ∷ src) ≡ false → (eqb b 34 || eqb b 39) ≡ false → eqb b 96 ≡ false → next_token from inside at (b ∷ src) ≡ sign_front from at (b ∷ src)
+  unfolding next_token
   front_sign b h i w r q t = rw (h, i, w, r, q, t) refl
 
 -- no sign begins as another part does
@@ -93,7 +94,7 @@ pub record IsOther (inside : Bool) (s : Sign) : Type 0 where
   pub back : eqb b 96 ≡ false
 
 pub other : (inside : Bool) (s : Sign) → (s ≡ signs.Colon → inside ≡ true) → IsOther inside s
-unfolding is_blank begins_word is_letter is_digit is_dot
+unfolding is_blank begins_word begins_label is_letter is_digit is_dot
 other inside signs.OpenParen c = record { b = 40; more = []; source = refl; blank = refl; hash = refl; word = refl; digit = refl; dot = refl; quote = refl; back = refl }
 other inside signs.CloseParen c = record { b = 41; more = []; source = refl; blank = refl; hash = refl; word = refl; digit = refl; dot = refl; quote = refl; back = refl }
 other inside signs.OpenBrace c = record { b = 123; more = []; source = refl; blank = refl; hash = refl; word = refl; digit = refl; dot = refl; quote = refl; back = refl }

@@ -1,17 +1,19 @@
 -- The reading of runs is the grammar of durations.
 use Rattle.std.proofs.Common.{◌≡◌, ℕ, zero, suc, ◌+◌, ◌<◌, ◌≤◌, Bool, true, false, ◌&&◌, cond, eqb, leb, List, [], ◌∷◌, ◌++◌, map, Option, Some, None, length, get_or, take, drop, refl, ap, arith, append_assoc, sym, ◌∙◌, subst, ◌⊎◌, inl, inr, length-drop}
-use Rattle.std.proofs.lemmas.Bool.{ne_eqb, cases_lt, false≢true}
+use Rattle.std.proofs.lemmas.Option.{same_Some}
+use Rattle.std.proofs.lemmas.Bool.{ne_eqb, cases_lt, false≢true, and_parts}
 use Rattle.std.proofs.lemmas.Bool.Decides.{eqb_tells, nat_tests}
 use Rattle.std.proofs.lemmas.List.{take-append-drop}
 use Rattle.std.proofs.lemmas.List.Concat.{flat_map-cons}
 use Rattle.std.specs.List.{prefix_len, list_all, flat_map, AllByRecursion}
 use Rattle.std.specs.Option.{option_map_or}
-use Rattle.lf_lex.specs.Bytes.{are_some, is_digit}
+use Rattle.lf_lex.specs.Bytes.{are_some}
+use Rattle.lf_base.specs.Names.{is_digit}
 use Rattle.lf_lex.specs.Durations.{Measure, Years, Weeks, Days, Hours, Minutes, Seconds, Milliseconds, letters, place, Amount, amount_text, AreAmounts, Climb, IsDuration, IsDisordered}
 use Rattle.lf_lex.specs.reading.Runs.{place_of_letter, one_letter, unit_at, before, units, rise, duration_order}
 use Rattle.lf_lex.proofs.Units.{unit_first, units-digits, units-none, units-unit, row-stops}
 use Rattle.lf_lex.proofs.Longest.{row_all}
-use Rattle.lf_lex.proofs.Options.{none_some, same_some}
+use Rattle.lf_lex.proofs.Options.{none_some}
 
 -- The run is amounts, none perhaps, and their units have these places.
 pub record AreParts (run places : List ℕ) : Type 0 where
@@ -37,17 +39,13 @@ unfolding units
 units_digit begun b [] e = rw e refl
 units_digit begun b (c ∷ more) e = rw e refl
 
-and_both : (x y : Bool) → (x && y) ≡ true → (x ≡ true) × (y ≡ true)
-and_both true y h = (refl, h)
-and_both false y h = absurd (false≢true h)
-
 units_row : (ds src : List ℕ) → list_all is_digit ds ≡ true → units true (ds ++ src) ≡ units true src
 units_row [] src h = refl
-units_row (d ∷ ds) src h = let b = and_both (is_digit d) (list_all is_digit ds) h in units_digit true d (ds ++ src) b.0 ∙ units_row ds src b.1
+units_row (d ∷ ds) src h = let b = and_parts (is_digit d) (list_all is_digit ds) h in units_digit true d (ds ++ src) b.0 ∙ units_row ds src b.1
 
 units_some : (ds src : List ℕ) → are_some is_digit ds ≡ true → units false (ds ++ src) ≡ units true src
 units_some [] src h = absurd (false≢true h)
-units_some (d ∷ ds) src h = let b = and_both (is_digit d) (list_all is_digit ds) h in units_digit false d (ds ++ src) b.0 ∙ units_row ds src b.1
+units_some (d ∷ ds) src h = let b = and_parts (is_digit d) (list_all is_digit ds) h in units_digit false d (ds ++ src) b.0 ∙ units_row ds src b.1
 
 units_letters : (m : Measure) (rest : List ℕ) → (get_or rest 0 0 ≡ 115 → ⊥) → units true (letters m ++ rest) ≡ before (place m) (units false rest)
 unfolding units is_digit place_of_letter
@@ -68,7 +66,7 @@ units_letters Milliseconds rest n = refl
 first_digit : (ds rest : List ℕ) → are_some is_digit ds ≡ true → get_or (ds ++ rest) 0 0 ≡ 115 → ⊥
 unfolding is_digit
 first_digit [] rest h e = false≢true h
-first_digit (d ∷ ds) rest h e = by d (and_both (is_digit d) (list_all is_digit ds) h).0 e
+first_digit (d ∷ ds) rest h e = by d (and_parts (is_digit d) (list_all is_digit ds) h).0 e
   where
     by : (d : ℕ) → is_digit d ≡ true → d ≡ 115 → ⊥
     by d h e = false≢true (subst (λ (n : ℕ). is_digit n ≡ true) e h)
@@ -114,17 +112,17 @@ letter_unit : (b at : ℕ) → place_of_letter b ≡ Some at → HasLetter b at
 unfolding place_of_letter
 letter_unit b at h =
     elim (eqb_tells b 121) [
-      | inl a ↦ record { measure = Years; is = rw a.1 refl; at_is = same_some at 0 (sym h ∙ rw a.0 refl) }
+      | inl a ↦ record { measure = Years; is = rw a.1 refl; at_is = same_Some at 0 (sym h ∙ rw a.0 refl) }
       | inr n1 ↦ elim (eqb_tells b 119) [
-        | inl a ↦ record { measure = Weeks; is = rw a.1 refl; at_is = same_some at 1 (sym h ∙ rw (n1.0, a.0) refl) }
+        | inl a ↦ record { measure = Weeks; is = rw a.1 refl; at_is = same_Some at 1 (sym h ∙ rw (n1.0, a.0) refl) }
         | inr n2 ↦ elim (eqb_tells b 100) [
-          | inl a ↦ record { measure = Days; is = rw a.1 refl; at_is = same_some at 2 (sym h ∙ rw (n1.0, n2.0, a.0) refl) }
+          | inl a ↦ record { measure = Days; is = rw a.1 refl; at_is = same_Some at 2 (sym h ∙ rw (n1.0, n2.0, a.0) refl) }
           | inr n3 ↦ elim (eqb_tells b 104) [
-            | inl a ↦ record { measure = Hours; is = rw a.1 refl; at_is = same_some at 3 (sym h ∙ rw (n1.0, n2.0, n3.0, a.0) refl) }
+            | inl a ↦ record { measure = Hours; is = rw a.1 refl; at_is = same_Some at 3 (sym h ∙ rw (n1.0, n2.0, n3.0, a.0) refl) }
             | inr n4 ↦ elim (eqb_tells b 109) [
-              | inl a ↦ record { measure = Minutes; is = rw a.1 refl; at_is = same_some at 4 (sym h ∙ rw (n1.0, n2.0, n3.0, n4.0, a.0) refl) }
+              | inl a ↦ record { measure = Minutes; is = rw a.1 refl; at_is = same_Some at 4 (sym h ∙ rw (n1.0, n2.0, n3.0, n4.0, a.0) refl) }
               | inr n5 ↦ elim (eqb_tells b 115) [
-                | inl a ↦ record { measure = Seconds; is = rw a.1 refl; at_is = same_some at 5 (sym h ∙ rw (n1.0, n2.0, n3.0, n4.0, n5.0, a.0) refl) }
+                | inl a ↦ record { measure = Seconds; is = rw a.1 refl; at_is = same_Some at 5 (sym h ∙ rw (n1.0, n2.0, n3.0, n4.0, n5.0, a.0) refl) }
                 | inr n6 ↦ none_some at (place_of_letter b) (rw (n1.0, n2.0, n3.0, n4.0, n5.0, n6.0) refl) h
               ]
             ]
@@ -136,7 +134,7 @@ letter_unit b at h =
 one_unit : (b : ℕ) (more : List ℕ) (at len : ℕ) (o : Option ℕ) → place_of_letter b ≡ o → one_letter o ≡ Some (at, len) → HasUnit (b ∷ more) at len
 one_unit b more at len None e h = none_some (at, len) (one_letter None) refl h
 one_unit b more at len (Some q) e h =
-    let k : (q, 1) ≡ (at, len) = same_some (q, 1) (at, len) h in
+    let k : (q, 1) ≡ (at, len) = same_Some (q, 1) (at, len) h in
     let l : 1 ≡ len = ap (λ (x : ℕ × ℕ). x.1) k in
     let u = letter_unit b q e in
     subst (HasUnit (b ∷ more) at) l (record {
@@ -154,7 +152,7 @@ unit_is (b ∷ c ∷ more) at len h = by (eqb b 109) (eqb c 115) refl refl h
   where
     by : (s t : Bool) → eqb b 109 ≡ s → eqb c 115 ≡ t → cond (s && t) (Some (6, 2)) (one_letter (place_of_letter b)) ≡ Some (at, len) → HasUnit (b ∷ c ∷ more) at len
     by true true p q h =
-        let k : (6, 2) ≡ (at, len) = same_some (6, 2) (at, len) h in
+        let k : (6, 2) ≡ (at, len) = same_Some (6, 2) (at, len) h in
         let l : 2 ≡ len = ap (λ (x : ℕ × ℕ). x.1) k in
         let eb : b ≡ 109 = grind (arith, nat_tests) in
         let ec : c ≡ 115 = grind (arith, nat_tests) in
@@ -177,7 +175,7 @@ more_parts run k len at places d u a =
 pub units_are : (n : ℕ) (run places : List ℕ) → length run < n → units false run ≡ Some places → AreParts run places
 unfolding units
 units_are zero run places lt h = absurd (omega arith)
-units_are (suc n) [] places lt h = record { parts = []; each = tt; source = refl; places_are = sym (same_some [] places h) }
+units_are (suc n) [] places lt h = record { parts = []; each = tt; source = refl; places_are = sym (same_Some [] places h) }
 units_are (suc n) (b ∷ src) places lt h = by (λ rest ps l e. units_are n rest ps l e) (cases_lt 0 (prefix_len is_digit (b ∷ src)))
   where
     Again : Type 0
@@ -195,7 +193,7 @@ units_are (suc n) (b ∷ src) places lt h = by (λ rest ps l e. units_are n rest
         let l = length-drop len (drop k run) in
         let m = length-drop k run in
         let s = u.some in
-        subst (AreParts run) (same_some (at ∷ ps) places h) (more_parts run k len at ps (row_some run p) u (again (drop len (drop k run)) ps (omega arith) e))
+        subst (AreParts run) (same_Some (at ∷ ps) places h) (more_parts run k len at ps (row_some run p) u (again (drop len (drop k run)) ps (omega arith) e))
 
     after_digits : Again → (o : Option (ℕ × ℕ)) → 0 < k → unit_at (drop k run) ≡ o → unit_first (drop k run) o ≡ Some places → AreParts run places
     after_digits again None p e h = none_some places None refl h
@@ -211,8 +209,8 @@ rise_climb : (least : ℕ) (places : List ℕ) → rise least places ≡ true �
 rise_climb least [] h = tt
 rise_climb least (p ∷ []) h = tt
 rise_climb least (p ∷ q ∷ places) h =
-    let a = and_both (leb least p) (rise (suc p) (q ∷ places)) h in
-    let b = and_both (leb (suc p) q) (rise (suc q) places) a.1 in
+    let a = and_parts (leb least p) (rise (suc p) (q ∷ places)) h in
+    let b = and_parts (leb (suc p) q) (rise (suc q) places) a.1 in
     (below p q b.0, rise_climb (suc p) (q ∷ places) a.1)
   where
     below : (p q : ℕ) → leb (suc p) q ≡ true → p < q
@@ -250,7 +248,7 @@ module _ (run : List ℕ) (lt : 0 < length run) where
       by None e h = none_some true None refl h
       by (Some places) e h =
           let a = units_are (suc (length run)) run places (omega arith) e in
-          (a.parts, amounts_of places a, subst Climb a.places_are (rise_climb 0 places (same_some (rise 0 places) true h)))
+          (a.parts, amounts_of places a, subst Climb a.places_are (rise_climb 0 places (same_Some (rise 0 places) true h)))
 
   pub only_disordered : duration_order run ≡ Some false → IsDisordered run
   only_disordered h = by (units false run) refl h
@@ -259,7 +257,7 @@ module _ (run : List ℕ) (lt : 0 < length run) where
       by None e h = none_some false None refl h
       by (Some places) e h =
           let a = units_are (suc (length run)) run places (omega arith) e in
-          (a.parts, amounts_of places a, λ climb. false≢true (sym (same_some (rise 0 places) false h) ∙ climb_rise places (subst Climb (sym a.places_are) climb)))
+          (a.parts, amounts_of places a, λ climb. false≢true (sym (same_Some (rise 0 places) false h) ∙ climb_rise places (subst Climb (sym a.places_are) climb)))
 
 pub no_amounts : (run : List ℕ) (amounts : List Amount) → duration_order run ≡ None → AreAmounts run amounts → ⊥
 no_amounts run amounts h a = none_some (rise 0 (places_of amounts)) (duration_order run) h (rw (parts_units run (places_of amounts) (parts_of run amounts a)) refl)

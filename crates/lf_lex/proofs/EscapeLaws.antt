@@ -1,12 +1,14 @@
 -- The reading of an escape is the grammar of escapes.
 use Rattle.std.proofs.Common.{◌≡◌, ◌≢◌, ℕ, ◌+◌, ◌*◌, ◌-◌, ◌<◌, ◌≤◌, Bool, true, false, ◌&&◌, ◌||◌, cond, eqb, leb, ltb, List, [], ◌∷◌, length, Option, Some, None, refl, ap, arith, sym, ◌∙◌, subst, ◌⊎◌, inl, inr, encode_utf8}
+use Rattle.std.proofs.lemmas.Option.{same_Some}
 use Rattle.std.proofs.lemmas.Bool.{false≢true, ne_eqb, eq-eqb, ltb-true, lt-ltb}
 use Rattle.std.proofs.lemmas.Bool.Decides.{eqb_tells, nat_tests}
 use Rattle.std.specs.Char.{IsScalar}
-use Rattle.lf_lex.specs.Bytes.{is_octal, is_digit}
+use Rattle.lf_lex.specs.Bytes.{is_octal}
+use Rattle.lf_base.specs.Names.{is_digit}
 use Rattle.lf_lex.specs.Strings.{IsQuote, byte_of_letter, hexadecimal_value, octal_value, Tell, IsEscape, a_letter, the_quote, octal_byte as octal_escape, hexadecimal_byte, short_character, long_character}
 use Rattle.lf_lex.specs.reading.Strings.{both, two_digits, four_digits, eight_digits, octal_byte, is_scalar, as_byte, as_character, escape}
-use Rattle.lf_lex.proofs.Options.{none_some, same_some}
+use Rattle.lf_lex.proofs.Options.{none_some}
 
 pub no_quote : (q k : ℕ) → IsQuote q → k ≢ 34 → k ≢ 39 → eqb k q ≡ false
 no_quote q k (inl e) a b = ne_eqb k q (λ f. a (f ∙ e))
@@ -37,7 +39,7 @@ two_tell a b before m rest n h t = by (hexadecimal_value a) (hexadecimal_value b
     by None p e f h = none_some m None refl h
     by (Some x) None e f h = none_some m None refl h
     by (Some x) (Some y) e f h =
-        let k : 256 * before + m ≡ 16 * (16 * before + x) + y = let j : 16 * x + y ≡ m = same_some (16 * x + y) m h in omega arith in
+        let k : 256 * before + m ≡ 16 * (16 * before + x) + y = let j : 16 * x + y ≡ m = same_Some (16 * x + y) m h in omega arith in
         (x, e, (y, f, subst (λ (z : ℕ). Hex z rest n) k t))
 
 pub record Four (a b c d before : ℕ) (rest : List ℕ) (n : ℕ) : Type 0 where
@@ -61,7 +63,7 @@ four_tell a b c d before m rest n h t = by (both 16 (hexadecimal_value a) (hexad
     by None p e f h = none_some m None refl h
     by (Some x) None e f h = none_some m None refl h
     by (Some x) (Some y) e f h =
-        let k : 65536 * before + m ≡ 256 * (256 * before + x) + y = let j : 256 * x + y ≡ m = same_some (256 * x + y) m h in omega arith in
+        let k : 65536 * before + m ≡ 256 * (256 * before + x) + y = let j : 256 * x + y ≡ m = same_Some (256 * x + y) m h in omega arith in
         two_tell a b before x (c ∷ d ∷ rest) n e (two_tell c d (256 * before + x) y rest n f (subst (λ (z : ℕ). Hex z rest n) k t))
 
 eight_told : (a b c d e f g h n : ℕ) → Hex 0 (a ∷ b ∷ c ∷ d ∷ e ∷ f ∷ g ∷ h ∷ []) n → eight_digits (a ∷ b ∷ c ∷ d ∷ e ∷ f ∷ g ∷ h ∷ []) ≡ Some n
@@ -82,7 +84,7 @@ eight_tell a b c d e f g h n t = by (both 256 (both 16 (hexadecimal_value a) (he
     by None p i j k = none_some n None refl k
     by (Some x) None i j k = none_some n None refl k
     by (Some x) (Some y) i j k =
-        let l : n ≡ 65536 * (65536 * 0 + x) + y = let z : 65536 * x + y ≡ n = same_some (65536 * x + y) n k in omega arith in
+        let l : n ≡ 65536 * (65536 * 0 + x) + y = let z : 65536 * x + y ≡ n = same_Some (65536 * x + y) n k in omega arith in
         four_tell a b c d 0 x (e ∷ f ∷ g ∷ h ∷ []) n i (four_tell e f g h (65536 * 0 + x) y [] n j l)
 
 -- ---- scalars
@@ -123,7 +125,7 @@ unfolding octal_value is_octal
 octal_is a v h = by (leb 48 a && leb a 55) h
   where
     by : (t : Bool) → cond t (Some (a - 48)) None ≡ Some v → (t ≡ true) × (v ≡ a - 48)
-    by true h = (refl, sym (same_some (a - 48) v h))
+    by true h = (refl, sym (same_Some (a - 48) v h))
     by false h = none_some v None refl h
 
 octal_other : (a : ℕ) → is_octal a ≡ true → (a ≢ 34) × (a ≢ 39) × (a ≢ 120) × (a ≢ 117) × (a ≢ 85) × (is_digit a ≡ true)
@@ -248,7 +250,7 @@ abbrev told : List ℕ → ℕ → Option (List ℕ × ℕ)
 told bs n = Some (bs, n)
 
 bytes_same : (bs cs : List ℕ) (m n : ℕ) → told bs m ≡ told cs n → (bs ≡ cs) × (m ≡ n)
-bytes_same bs cs m n e = (ap (λ (x : List ℕ × ℕ). x.0) (same_some (bs, m) (cs, n) e), ap (λ (x : List ℕ × ℕ). x.1) (same_some (bs, m) (cs, n) e))
+bytes_same bs cs m n e = (ap (λ (x : List ℕ × ℕ). x.0) (same_Some (bs, m) (cs, n) e), ap (λ (x : List ℕ × ℕ). x.1) (same_Some (bs, m) (cs, n) e))
 
 octal_value_is : (a : ℕ) → is_octal a ≡ true → octal_value a ≡ Some (a - 48)
 unfolding octal_value is_octal
@@ -264,7 +266,7 @@ octal_tell a b c n h = by (is_octal a) (is_octal b) (is_octal c) (ltb a 52) refl
   where
     by : (s t u w : Bool) → is_octal a ≡ s → is_octal b ≡ t → is_octal c ≡ u → ltb a 52 ≡ w → cond (s && t && u && w) (Some (64 * (a - 48) + 8 * (b - 48) + (c - 48))) None ≡ Some n → Tell 8 octal_value 0 (a ∷ b ∷ c ∷ []) n × (n < 256)
     by true true true true i j k l h =
-        let e : 64 * (a - 48) + 8 * (b - 48) + (c - 48) ≡ n = same_some _ n h in
+        let e : 64 * (a - 48) + 8 * (b - 48) + (c - 48) ≡ n = same_Some _ n h in
         let la = low_octal a i in
         let lb = low_octal b j in
         let lc = low_octal c k in

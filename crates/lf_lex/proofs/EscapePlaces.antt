@@ -1,5 +1,6 @@
 -- A wrong escape is told of its backslash.
 use Rattle.std.proofs.Common.{◌≡◌, ℕ, zero, suc, ◌+◌, ◌<◌, false, List, [], ◌∷◌, ◌++◌, length, get_or, refl, ap, arith, append_assoc, append-nil, sym, ◌∙◌, subst, length-append}
+use Rattle.std.proofs.lemmas.List.{take_at, drop_at}
 use Rattle.std.proofs.lemmas.Str.{IsUtf8-drop, IsUtf8-take, IsCharBoundary-before_ascii, IsCharBoundary-after_ascii}
 use Rattle.std.specs.List.{flat_map}
 use Rattle.std.specs.Str.{IsUtf8}
@@ -8,9 +9,9 @@ use Rattle.lf_base.specs.declared.kind.Kind.TheVariants.{BadEscape}
 use Rattle.lf_lex.specs.Strings.{IsQuote, Piece, Bare, Escape, piece_text, meant}
 use Rattle.lf_lex.specs.Parts.{IsLongest, part_text, behind_parts}
 use Rattle.lf_lex.specs.Breaches.{BeginsNoEscape, ReadsUpTo, IsWrongAt, no_escape, no_utf8, IsBreach}
-use Rattle.lf_lex.specs.Tokens.{in_source, Fault, Breaks}
+use Rattle.lf_lex.specs.Tokens.{in_source, Breaks}
+use Rattle.lf_base.specs.declared.fault.Fault.{Fault}
 use Rattle.lf_lex.proofs.Backslashes.{quote_low, no_bare}
-use Rattle.lf_lex.proofs.Longest.{take_same, drop_same}
 
 get_behind : (xs ys : List ℕ) (k : ℕ) → get_or (xs ++ ys) (length xs + k) 0 ≡ get_or ys k 0
 get_behind [] ys k = let e : 0 + k ≡ k = omega arith in ap (λ (n : ℕ). get_or ys n 0) e
@@ -73,7 +74,7 @@ utf8_from xs b ys low u =
     let z : length xs ≡ length xs + 0 = omega arith in
     let here : get_or (xs ++ b ∷ ys) (length xs) 0 ≡ b = ap (λ (n : ℕ). get_or (xs ++ b ∷ ys) n 0) z ∙ get_behind xs (b ∷ ys) 0 in
     let l = length-append xs (b ∷ ys) in
-    subst IsUtf8 (drop_same (length xs) xs (b ∷ ys) refl) (IsUtf8-drop (xs ++ b ∷ ys) (length xs) u (IsCharBoundary-before_ascii (xs ++ b ∷ ys) (length xs) (omega arith) (omega arith)))
+    subst IsUtf8 (drop_at xs (b ∷ ys) (length xs) refl) (IsUtf8-drop (xs ++ b ∷ ys) (length xs) u (IsCharBoundary-before_ascii (xs ++ b ∷ ys) (length xs) (omega arith) (omega arith)))
 
 utf8_past : (b : ℕ) (ys : List ℕ) → b < 128 → IsUtf8 (b ∷ ys) → IsUtf8 ys
 utf8_past b ys low u = IsUtf8-drop (b ∷ ys) 1 u (IsCharBoundary-after_ascii (b ∷ ys) 0 u (omega arith) low)
@@ -83,7 +84,7 @@ utf8_up_to xs b ys low u =
     let z : length xs ≡ length xs + 0 = omega arith in
     let here : get_or (xs ++ b ∷ ys) (length xs) 0 ≡ b = ap (λ (n : ℕ). get_or (xs ++ b ∷ ys) n 0) z ∙ get_behind xs (b ∷ ys) 0 in
     let l = length-append xs (b ∷ ys) in
-    subst IsUtf8 (take_same (length xs) xs (b ∷ ys) refl) (IsUtf8-take (xs ++ b ∷ ys) (length xs) u (IsCharBoundary-before_ascii (xs ++ b ∷ ys) (length xs) (omega arith) (omega arith)))
+    subst IsUtf8 (take_at xs (b ∷ ys) (length xs) refl) (IsUtf8-take (xs ++ b ∷ ys) (length xs) u (IsCharBoundary-before_ascii (xs ++ b ∷ ys) (length xs) (omega arith) (omega arith)))
 
 pub backslash : (from text : List ℕ) (fault : Fault) → IsUtf8 text → Breaks from text fault → fault.kind ≡ BadEscape → (place : ℕ) × (get_or text place 0 ≡ 92) × (fault.span ≡ in_source from place (place + 1))
 backslash from text fault u b k =

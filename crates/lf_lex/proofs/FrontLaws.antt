@@ -10,8 +10,8 @@ use Rattle.lf_lex.specs.Runs.{begins_run}
 use Rattle.lf_lex.specs.Strings.{IsString, in_quotes, in_back_quotes}
 use Rattle.lf_lex.specs.Parts.{IsToken, Part, Blank, Comment, Written, part_text, IsPart}
 use Rattle.lf_lex.specs.Breaches.{StaysOpen, in_quotes as open_quotes, in_back_quotes as open_back_quotes, IsCharacter, HasWrongEscape, BeginsRun, HasBadNumber, HasBadDuration, IsBreach}
-use Rattle.lf_lex.specs.Tokens.{Fault}
-use Rattle.lf_lex.specs.reading.Steps.{Front, breach, token, front_of}
+use Rattle.lf_base.specs.declared.fault.Fault.{Fault}
+use Rattle.lf_lex.specs.reading.Steps.{Front, breach, token, next_token}
 use Rattle.lf_lex.proofs.Dispatch.{front_run}
 use Rattle.lf_lex.proofs.RunLaws.{begins_on, some_run}
 use Rattle.lf_lex.proofs.RunFronts.{number_front, duration_front, bad_number_front, bad_duration_front, run_stands}
@@ -26,26 +26,26 @@ found_of (Written kind text) = Some kind
 found_of _ = None
 
 module _ (from : List ℕ) (inside : Bool) (at : ℕ) where
-  run_reads : (run rest : List ℕ) → begins_run run ≡ true → front_of from inside at (run ++ rest) ≡ Rattle.lf_lex.specs.reading.Steps.run_front from at (run ++ rest)
+  run_reads : (run rest : List ℕ) → begins_run run ≡ true → next_token from inside at (run ++ rest) ≡ Rattle.lf_lex.specs.reading.Steps.run_front from at (run ++ rest)
   run_reads [] rest begins = absurd (let l = some_run [] begins in omega arith)
   run_reads (b ∷ run) rest begins = front_run from inside at (run ++ rest) b (begins_on (b ∷ run) rest begins)
 
-  string_token : (text value rest : List ℕ) → IsString text value → front_of from inside at (text ++ rest) ≡ token (kinds.Str value) (length text)
+  string_token : (text value rest : List ℕ) → IsString text value → next_token from inside at (text ++ rest) ≡ token (kinds.Str value) (length text)
   string_token text value rest (in_quotes quote inner q e is_inner h u) =
       let l : length inner + 2 ≡ length text = let a = ap length e in let b = length-append inner (quote ∷ []) in omega arith in
-      ap (λ (x : List ℕ). front_of from inside at (x ++ rest)) e ∙ ap (λ (x : List ℕ). front_of from inside at (quote ∷ x)) (append_assoc inner (quote ∷ []) rest) ∙ string_reads quote q from inside at inner rest is_inner value h u ∙ ap (token (kinds.Str value)) l
+      ap (λ (x : List ℕ). next_token from inside at (x ++ rest)) e ∙ ap (λ (x : List ℕ). next_token from inside at (quote ∷ x)) (append_assoc inner (quote ∷ []) rest) ∙ string_reads quote q from inside at inner rest is_inner value h u ∙ ap (token (kinds.Str value)) l
   string_token text value rest (in_back_quotes e h) =
       let l : length value + 2 ≡ length text = let a = ap length e in let b = length-append value (96 ∷ []) in omega arith in
-      ap (λ (x : List ℕ). front_of from inside at (x ++ rest)) e ∙ ap (λ (x : List ℕ). front_of from inside at (96 ∷ x)) (append_assoc value (96 ∷ []) rest) ∙ raw_reads from inside at value rest h ∙ ap (token (kinds.Str value)) l
+      ap (λ (x : List ℕ). next_token from inside at (x ++ rest)) e ∙ ap (λ (x : List ℕ). next_token from inside at (96 ∷ x)) (append_assoc value (96 ∷ []) rest) ∙ raw_reads from inside at value rest h ∙ ap (token (kinds.Str value)) l
 
-  token_reads : (kind : TokenKind) (text rest : List ℕ) → IsToken inside kind text rest → front_of from inside at (text ++ rest) ≡ token kind (length text)
+  token_reads : (kind : TokenKind) (text rest : List ℕ) → IsToken inside kind text rest → next_token from inside at (text ++ rest) ≡ token kind (length text)
   token_reads (kinds.Word word) text rest h = word_reads from inside at text rest h.1 ∙ ap (λ (x : List ℕ). token (kinds.Word x) (length text)) h.0
   token_reads (kinds.Number number) text rest h = run_reads text rest h.1.0.0 ∙ number_front from at text rest h.1 h.2 ∙ ap (λ (x : List ℕ). token (kinds.Number x) (length text)) h.0
   token_reads (kinds.Duration duration) text rest h = run_reads text rest h.1.0.0 ∙ duration_front from at text rest h.1 h.2 ∙ ap (λ (x : List ℕ). token (kinds.Duration x) (length text)) h.0
   token_reads (kinds.Str value) text rest h = string_token text value rest h
   token_reads (kinds.Sign sign) text rest h = sign_reads from inside at sign text rest h.0 h.1
 
-  pub part_reads : (part : Part) (rest : List ℕ) → IsPart inside part rest → front_of from inside at (part_text part ++ rest) ≡ Ok (found_of part, length (part_text part))
+  pub part_reads : (part : Part) (rest : List ℕ) → IsPart inside part rest → next_token from inside at (part_text part ++ rest) ≡ Ok (found_of part, length (part_text part))
   part_reads (Blank b) rest h = blank_reads from inside at b rest h
   part_reads (Comment line) rest h = comment_reads from inside at line rest h.0 h.1
   part_reads (Written kind text) rest h = token_reads kind text rest h
@@ -58,27 +58,27 @@ module _ (from : List ℕ) (inside : Bool) (at : ℕ) where
   breach_at : (kind : Kind) (end : ℕ) → breach {X = Front} from kind at (at + end) ≡ Breach kind 0 end
   breach_at kind end = let e : at ≡ at + 0 = omega arith in ap (λ (k : ℕ). breach {X = Front} from kind k (at + end)) e
 
-  open_breach : (src : List ℕ) → StaysOpen src → front_of from inside at src ≡ breach {X = Front} from OpenString at (at + 1)
-  open_breach src (open_quotes quote raws rest q e each stops) = ap (front_of from inside at) e ∙ open_reads quote q from inside at raws rest each stops
-  open_breach src (open_back_quotes rest e h) = ap (front_of from inside at) e ∙ open_raw_reads from inside at rest h
+  open_breach : (src : List ℕ) → StaysOpen src → next_token from inside at src ≡ breach {X = Front} from OpenString at (at + 1)
+  open_breach src (open_quotes quote raws rest q e each stops) = ap (next_token from inside at) e ∙ open_reads quote q from inside at raws rest each stops
+  open_breach src (open_back_quotes rest e h) = ap (next_token from inside at) e ∙ open_raw_reads from inside at rest h
 
-  escape_breach : (src : List ℕ) (place : ℕ) → HasWrongEscape src place → front_of from inside at src ≡ Breach BadEscape place (place + 1)
+  escape_breach : (src : List ℕ) (place : ℕ) → HasWrongEscape src place → next_token from inside at src ≡ Breach BadEscape place (place + 1)
   escape_breach src place h =
       let start : at + 1 + h.between ≡ at + place = let e = h.place_is in omega arith in
       let end : at + 1 + h.between + 1 ≡ at + (place + 1) = let e = h.place_is in omega arith in
-      ap (front_of from inside at) h.source ∙ wrong_reads h.quote h.is_quote from inside at h.inner h.rest h.between h.closes h.wrong
+      ap (next_token from inside at) h.source ∙ wrong_reads h.quote h.is_quote from inside at h.inner h.rest h.between h.closes h.wrong
       ∙ ap (λ (k : ℕ). breach {X = Front} from BadEscape k (at + 1 + h.between + 1)) start ∙ ap (λ (k : ℕ). breach {X = Front} from BadEscape (at + place) k) end
 
-  number_breach : (src : List ℕ) (len : ℕ) → HasBadNumber src len → front_of from inside at src ≡ breach {X = Front} from BadNumber at (at + len)
-  number_breach src len (run, r, e, n, a) = ap (front_of from inside at) r.source ∙ run_reads run r.rest r.longest.0.0 ∙ bad_number_front from at run r.rest r.longest n a ∙ ap (λ (k : ℕ). breach {X = Front} from BadNumber at (at + k)) (sym e)
+  number_breach : (src : List ℕ) (len : ℕ) → HasBadNumber src len → next_token from inside at src ≡ breach {X = Front} from BadNumber at (at + len)
+  number_breach src len (run, r, e, n, a) = ap (next_token from inside at) r.source ∙ run_reads run r.rest r.longest.0.0 ∙ bad_number_front from at run r.rest r.longest n a ∙ ap (λ (k : ℕ). breach {X = Front} from BadNumber at (at + k)) (sym e)
 
-  duration_breach : (src : List ℕ) (len : ℕ) → HasBadDuration src len → front_of from inside at src ≡ breach {X = Front} from BadDuration at (at + len)
-  duration_breach src len (run, r, e, d) = ap (front_of from inside at) r.source ∙ run_reads run r.rest r.longest.0.0 ∙ bad_duration_front from at run r.rest r.longest d ∙ ap (λ (k : ℕ). breach {X = Front} from BadDuration at (at + k)) (sym e)
+  duration_breach : (src : List ℕ) (len : ℕ) → HasBadDuration src len → next_token from inside at src ≡ breach {X = Front} from BadDuration at (at + len)
+  duration_breach src len (run, r, e, d) = ap (next_token from inside at) r.source ∙ run_reads run r.rest r.longest.0.0 ∙ bad_duration_front from at run r.rest r.longest d ∙ ap (λ (k : ℕ). breach {X = Front} from BadDuration at (at + k)) (sym e)
 
-  at_start : (kind : Kind) (src : List ℕ) (start end : ℕ) → start ≡ 0 → front_of from inside at src ≡ breach {X = Front} from kind at (at + end) → front_of from inside at src ≡ Breach kind start end
+  at_start : (kind : Kind) (src : List ℕ) (start end : ℕ) → start ≡ 0 → next_token from inside at src ≡ breach {X = Front} from kind at (at + end) → next_token from inside at src ≡ Breach kind start end
   at_start kind src start end z h = h ∙ breach_at kind end ∙ ap (λ (k : ℕ). Breach kind k end) (sym z)
 
-  pub breach_reads : (src : List ℕ) (kind : Kind) (start end : ℕ) → IsBreach inside src kind start end → front_of from inside at src ≡ breach {X = Front} from kind (at + start) (at + end)
+  pub breach_reads : (src : List ℕ) (kind : Kind) (start end : ℕ) → IsBreach inside src kind start end → next_token from inside at src ≡ breach {X = Front} from kind (at + start) (at + end)
   breach_reads src BadByte start end h = at_start BadByte src start end h.0 (unknown_reads from inside at src end h.1)
   breach_reads src OpenString start end h = at_start OpenString src start end h.0 (open_breach src h.2 ∙ ap (λ (k : ℕ). breach {X = Front} from OpenString at (at + k)) (sym h.1))
   breach_reads src BadEscape start end h = escape_breach src start h.1 ∙ ap (λ (k : ℕ). breach {X = Front} from BadEscape (at + start) (at + k)) (sym h.0)

@@ -1,5 +1,6 @@
 -- What stands at the front, by what was found there.
-use Rattle.std.proofs.Common.{◌≡◌, ℕ, zero, suc, ◌+◌, ◌<◌, Bool, true, false, not, eqb, List, [], ◌∷◌, length, get_or, take, drop, Some, None, Ok, refl, ap, arith, sym, ◌∙◌, lt-ltb, length-drop}
+use Rattle.std.proofs.Common.{◌≡◌, ℕ, ◌+◌, ◌<◌, Bool, true, false, not, eqb, List, length, get_or, take, drop, Some, None, Ok, refl, ap, arith, sym, ◌∙◌, lt-ltb, length-drop}
+use Rattle.std.proofs.lemmas.List.{drop-drop}
 use Rattle.std.specs.List.{prefix_len}
 use Rattle.std.specs.Str.{IsUtf8, is_utf8}
 use Rattle.std.specs.Str.Lossy.{utf8_valid_len}
@@ -25,19 +26,10 @@ value_wrong from at quote inner bytes place e n p = by (is_utf8 (bytes_of (gives
     by true t = absurd (n (rw e (IsUtf8-from_is_utf8 _ t)))
     by false t = rw (t, p, e) refl
 
-drop_nil : (n : ℕ) → drop {A = ℕ} n [] ≡ []
-drop_nil zero = refl
-drop_nil (suc n) = refl
-
-pub drop_drop : (n at : ℕ) (bs : List ℕ) → drop n (drop at bs) ≡ drop (at + n) bs
-drop_drop n zero bs = let e : 0 + n ≡ n = omega arith in rw e refl
-drop_drop n (suc at) [] = rw (drop_nil n, drop_nil (suc at + n)) refl
-drop_drop n (suc at) (b ∷ bs) = let e : suc at + n ≡ suc (at + n) = omega arith in rw e (drop_drop n at bs)
-
 pub raw_closed : (from : List ℕ) (at n : ℕ) (bs text : List ℕ) → n ≡ prefix_len (λ b. not (eqb b 96)) (drop 1 (drop at bs)) → n < length (drop 1 (drop at bs)) → text ≡ take n (drop (at + 1) bs) → raw_front from at (drop at bs) ≡ Ok (Some (kinds.Str text), n + 2)
 unfolding raw_front
 raw_closed from at n bs text e lt t =
-    let q : drop 1 (drop at bs) ≡ drop (at + 1) bs = drop_drop 1 at bs in
+    let q : drop 1 (drop at bs) ≡ drop (at + 1) bs = drop-drop 1 at bs in
     let w : take n (drop 1 (drop at bs)) ≡ text = ap (take n) q ∙ sym t in
     rw (← e, lt-ltb n (length (drop 1 (drop at bs))) lt) (ap (λ (x : List ℕ). token (kinds.Str x) (n + 2)) w)
 

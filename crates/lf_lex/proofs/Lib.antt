@@ -24,6 +24,7 @@ pub mod StringFronts
 pub mod StringStands
 pub mod FrontLaws
 pub mod TokenLaws
+pub mod Spans
 pub mod Worked
 pub mod Backslashes
 pub mod EscapePlaces

@@ -1,5 +1,5 @@
 -- The longest beginning of a sort, told by its length.
-use Rattle.std.proofs.Common.{◌≡◌, ℕ, suc, ◌+◌, ◌-◌, ◌<◌, ◌≤◌, Bool, true, false, cond, List, [], ◌∷◌, ◌++◌, length, take, drop, refl, ap, arith, append_assoc, append-nil, sym, ◌∙◌, subst, ◌⊎◌, inl, inr, length-append, length-take-le, take-append-drop}
+use Rattle.std.proofs.Common.{◌≡◌, ℕ, suc, ◌+◌, ◌-◌, ◌<◌, ◌≤◌, Bool, true, false, cond, List, [], ◌∷◌, ◌++◌, length, take, drop, refl, ap, arith, append_assoc, sym, ◌∙◌, subst, ◌⊎◌, inl, inr, length-append, length-take-le, take-append-drop}
 use Rattle.std.proofs.lemmas.Bool.{cases_lt, and_parts}
 use Rattle.std.specs.List.{prefix_len, list_all}
 use Rattle.lf_lex.specs.Parts.{IsLongest}
@@ -10,9 +10,10 @@ pub record Greatest (sort : List ℕ → Type 0) (src : List ℕ) (n : ℕ) : Ty
   pub is : sort (take n src)
   pub bound : (text left : List ℕ) → src ≡ text ++ left → sort text → length text ≤ n
 
-take_on : (xs ys : List ℕ) (k : ℕ) → take (length xs + k) (xs ++ ys) ≡ xs ++ take k ys
-take_on [] ys k = let e : 0 + k ≡ k = omega arith in rw e refl
-take_on (x ∷ xs) ys k = let e : length (x ∷ xs) + k ≡ suc (length xs + k) = omega arith in rw e (ap (λ (zs : List ℕ). x ∷ zs) (take_on xs ys k))
+-- a beginning that goes on behind a text
+pub take_on : (xs ys : List ℕ) (k n : ℕ) → n ≡ length xs + k → take n (xs ++ ys) ≡ xs ++ take k ys
+take_on [] ys k n e = ap (λ (m : ℕ). take m ys) (e ∙ omega arith)
+take_on (x ∷ xs) ys k n e = let f : n ≡ suc (length xs + k) = e ∙ omega arith in ap (λ (m : ℕ). take m (x ∷ (xs ++ ys))) f ∙ ap (λ (zs : List ℕ). x ∷ zs) (take_on xs ys k (length xs + k) refl)
 
 module _ (sort : List ℕ → Type 0) (src : List ℕ) (n : ℕ) (g : Greatest sort src n) where
   pub greatest_longest : IsLongest sort (take n src) (drop n src)
@@ -38,19 +39,8 @@ module _ (sort : List ℕ → Type 0) (src : List ℕ) (n : ℕ) (g : Greatest s
           let le : k ≤ length rest = omega arith in
           let some : 0 < length (take k rest) = let l = length-take-le k rest le in omega arith in
           let n_is : n ≡ length text + k = omega arith in
-          let front : take n src ≡ text ++ take k rest = ap (λ (x : List ℕ). take n x) e ∙ ap (λ (x : ℕ). take x (text ++ rest)) n_is ∙ take_on text rest k in
+          let front : take n src ≡ text ++ take k rest = ap (λ (x : List ℕ). take n x) e ∙ take_on text rest k n n_is in
           absurd (h.1 (take k rest) (drop k rest) (sym (take-append-drop k rest)) some (subst sort front g.is))
-
--- the same beginning
-pub take_same : (n : ℕ) (text rest : List ℕ) → length text ≡ n → take n (text ++ rest) ≡ text
-take_same n text rest e = let f : n ≡ length text + 0 = omega arith in ap (λ (k : ℕ). take k (text ++ rest)) f ∙ take_on text rest 0 ∙ append-nil text
-
-pub drop_same : (n : ℕ) (text rest : List ℕ) → length text ≡ n → drop n (text ++ rest) ≡ rest
-drop_same n text rest e = subst (λ (k : ℕ). drop k (text ++ rest) ≡ rest) e (past text)
-  where
-    past : (text : List ℕ) → drop (length text) (text ++ rest) ≡ rest
-    past [] = refl
-    past (b ∷ text) = past text
 
 -- ---- rows of one class
 
@@ -61,14 +51,6 @@ row_all p (b ∷ src) = by (row_all p src) (p b) refl
     by : list_all p (take (prefix_len p src) src) ≡ true → (t : Bool) → p b ≡ t → list_all p (take (cond (p b) (1 + prefix_len p src) 0) (b ∷ src)) ≡ true
     by again true e = let k : 1 + prefix_len p src ≡ suc (prefix_len p src) = omega arith in rw (e, k, e) again
     by again false e = rw e refl
-
-pub row_le : (p : ℕ → Bool) (src : List ℕ) → prefix_len p src ≤ length src
-row_le p [] = omega arith
-row_le p (b ∷ src) = by (row_le p src) (p b)
-  where
-    by : prefix_len p src ≤ length src → (t : Bool) → cond t (1 + prefix_len p src) 0 ≤ length (b ∷ src)
-    by le true = omega arith
-    by le false = omega arith
 
 -- a row goes on at least as far as what is known to be of the class
 pub row_past : (p : ℕ → Bool) (text left : List ℕ) → list_all p text ≡ true → prefix_len p (text ++ left) ≡ length text + prefix_len p left

@@ -1,15 +1,17 @@
 -- The reading of numbers is the grammar of numbers.
 use Rattle.std.proofs.Common.{◌≡◌, ℕ, ◌+◌, ◌<◌, ◌≤◌, Bool, true, false, ◌&&◌, ◌||◌, cond, eqb, List, [], ◌∷◌, ◌++◌, length, take, drop, Some, None, refl, ap, arith, sym, ◌∙◌, inl, inr, take-append-drop}
+use Rattle.std.proofs.lemmas.List.{take_at, drop_at}
 use Rattle.std.specs.Prelude.{count_by}
 use Rattle.std.proofs.lemmas.Bool.{and_parts, and_from, or_cases, or_left, or_right, false≢true, ne_eqb, eqb-true, leb-true}
 use Rattle.std.proofs.lemmas.Bool.Decides.{nat_tests}
 use Rattle.std.proofs.lemmas.List.Sums.{sum_by-cons}
 use Rattle.std.proofs.lemmas.List.Folds.{list_all-append}
 use Rattle.std.specs.List.{prefix_len, list_all, list_any}
-use Rattle.lf_lex.specs.Bytes.{are_some, is_digit, is_hexadecimal, is_dot, is_exponent, is_plus_minus, is_in_mantissa}
+use Rattle.lf_lex.specs.Bytes.{are_some, is_dot, is_exponent, is_plus_minus, is_in_mantissa}
+use Rattle.lf_base.specs.Names.{is_digit, is_hexadecimal}
 use Rattle.lf_lex.specs.Runs.{IsHexadecimal, lower_x, upper_x, IsMantissa, no_dot, one_dot, IsExponent, no_exponent, unsigned_exponent, signed_exponent, IsNumber, hexadecimal_number, decimal_number}
 use Rattle.lf_lex.specs.reading.Runs.{is_hexadecimal_number, is_mantissa, are_signed, is_exponent_part, is_decimal_number, is_number, place_of_letter, before, with_unit, units}
-use Rattle.lf_lex.proofs.Longest.{Stops, take_same, drop_same, row_all, row_is}
+use Rattle.lf_lex.proofs.Longest.{Stops, row_all, row_is}
 use Rattle.lf_lex.proofs.RunLaws.{all_are, exponent_ends_mantissa}
 
 digit_in_mantissa : (b : ℕ) → is_digit b ≡ true → is_in_mantissa b ≡ true
@@ -170,7 +172,7 @@ decimal_read : (front back : List ℕ) → IsMantissa front → IsExponent back 
 unfolding is_decimal_number
 decimal_read front back m e =
     let n : prefix_len is_in_mantissa (front ++ back) ≡ length front = row_is is_in_mantissa front back (mantissa_all front m) (exponent_stops back e) in
-    rw (n, take_same (length front) front back refl, drop_same (length front) front back refl, mantissa_read front m, exponent_read back e) refl
+    rw (n, take_at front back (length front) refl, drop_at front back (length front) refl, mantissa_read front m, exponent_read back e) refl
 
 hexadecimal_read : (run : List ℕ) → IsHexadecimal run → is_hexadecimal_number run ≡ true
 unfolding is_hexadecimal_number

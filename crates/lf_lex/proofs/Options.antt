@@ -1,9 +1,6 @@
 -- An option has one value.
 use Rattle.std.proofs.Common.{◌≡◌, Option, Some, None}
 
-pub same_some : {A : Type 0} (x y : A) → Some x ≡ Some y → x ≡ y
-same_some x y e = cc
-
 pub clash : {A : Type 0} (x : A) (o : Option A) → o ≡ None → o ≡ Some x → ⊥
 clash x o e h = cc
 

@@ -1,20 +1,22 @@
 -- Blanks, comments, words, signs, strings in back quotes and unknown characters at the front of a text.
 use Rattle.std.proofs.Common.{◌≡◌, ◌≢◌, ℕ, zero, suc, ◌+◌, ◌-◌, ◌<◌, ◌≤◌, Bool, true, false, not, eqb, ltb, List, [], ◌∷◌, ◌++◌, length, take, drop, Option, Some, None, refl, ap, arith, append_assoc, append-nil, sym, ◌∙◌, subst, ◌⊎◌, inl, inr, length-append, length-take-le, take-append-drop}
+use Rattle.std.proofs.lemmas.List.{take_at}
 use Rattle.std.proofs.lemmas.Bool.{cases_lt, and_parts, or_from, false≢true, false_from_ne_true, ne_eqb, eqb-true, eq-eqb, lt-ltb, le-ltb}
 use Rattle.std.specs.List.{prefix_len, list_all}
 use Rattle.lf_base.specs.declared.kind.Kind.TheVariants.{BadByte, OpenString}
 use Rattle.lf_lex.specs.declared.token.Sign.{Sign}
 use Rattle.lf_lex.specs.declared.token.Sign.TheVariants.{Colon}
 use Rattle.lf_lex.specs.declared.token.TokenKind.TheVariants as kinds
-use Rattle.lf_lex.specs.Bytes.{Each, is_blank, is_line_feed, is_no_line_feed, is_no_back_quote, is_letter, is_continuation, begins_word, is_in_word}
+use Rattle.lf_lex.specs.Bytes.{Each, is_blank, is_line_feed, is_no_line_feed, is_no_back_quote, is_continuation, begins_word, is_in_word}
+use Rattle.lf_base.specs.Names.{is_letter, begins_label}
 use Rattle.lf_lex.specs.Signs.{spelling}
 use Rattle.lf_lex.specs.Runs.{begins_run}
 use Rattle.lf_lex.specs.Strings.{IsQuote, in_back_quotes}
 use Rattle.lf_lex.specs.Parts.{IsLongest, IsWord, IsSign, IsSomeSign, Blank, Comment, Written, EndsLine}
 use Rattle.lf_lex.specs.Breaches.{IsBeginning, a_blank, a_comment, a_word, a_run, a_quote, a_back_quote, a_sign, IsCharacter, BeginsNothing, in_back_quotes as open_back_quotes}
 use Rattle.lf_lex.specs.reading.Signs.{sign_at}
-use Rattle.lf_lex.specs.reading.Steps.{Front, gap, token, breach, comment_front, word_front, raw_front, sign_front, front_of}
-use Rattle.lf_lex.proofs.Longest.{Greatest, Stops, greatest_longest, longest_length, take_same, row_all, row_is, row_then}
+use Rattle.lf_lex.specs.reading.Steps.{Front, gap, token, breach, comment_front, word_front, raw_front, sign_front, next_token}
+use Rattle.lf_lex.proofs.Longest.{Greatest, Stops, greatest_longest, longest_length, row_all, row_is, row_then, take_on}
 use Rattle.lf_lex.proofs.Words.{word_greatest, no_word, character_greatest}
 use Rattle.lf_lex.proofs.RunLaws.{no_run, run_greatest}
 use Rattle.lf_lex.proofs.SignLaws.{SignAt, sign_is_at, no_sign_there, same_sign, some_sign}
@@ -45,22 +47,22 @@ hash_and : (line : List ℕ) → Each is_no_line_feed line → Each is_no_line_f
 hash_and line h = rw hash_no_feed h
 
 module _ (from : List ℕ) (inside : Bool) (at : ℕ) where
-  pub blank_reads : (b : ℕ) (rest : List ℕ) → is_blank b ≡ true → front_of from inside at (b ∷ rest) ≡ gap 1
+  pub blank_reads : (b : ℕ) (rest : List ℕ) → is_blank b ≡ true → next_token from inside at (b ∷ rest) ≡ gap 1
   blank_reads b rest h = front_blank from inside at rest b h
 
-  pub comment_reads : (line rest : List ℕ) → Each is_no_line_feed line → EndsLine rest → front_of from inside at (35 ∷ (line ++ rest)) ≡ gap (length (35 ∷ line))
+  pub comment_reads : (line rest : List ℕ) → Each is_no_line_feed line → EndsLine rest → next_token from inside at (35 ∷ (line ++ rest)) ≡ gap (length (35 ∷ line))
   unfolding comment_front
   comment_reads line rest h e = front_comment from inside at (line ++ rest) ∙ ap gap (row_is is_no_line_feed (35 ∷ line) rest (hash_and line h) (line_stops rest e))
 
   -- ---- words
 
-  pub word_reads : (word rest : List ℕ) → IsLongest (IsWord inside) word rest → front_of from inside at (word ++ rest) ≡ token (kinds.Word word) (length word)
+  pub word_reads : (word rest : List ℕ) → IsLongest (IsWord inside) word rest → next_token from inside at (word ++ rest) ≡ token (kinds.Word word) (length word)
   unfolding word_front
   word_reads [] rest longest = absurd longest.0
   word_reads (b ∷ word) rest longest =
       let begins : begins_word inside b ≡ true = longest.0.0 in
       let n : prefix_len (is_in_word inside) ((b ∷ word) ++ rest) ≡ length (b ∷ word) = sym (longest_length (IsWord inside) (b ∷ (word ++ rest)) (prefix_len (is_in_word inside) (b ∷ (word ++ rest))) (word_greatest inside b (word ++ rest) begins) (b ∷ word) rest refl longest) in
-      front_word from inside at (word ++ rest) b begins ∙ rw (n, take_same (length (b ∷ word)) (b ∷ word) rest refl) refl
+      front_word from inside at (word ++ rest) b begins ∙ rw (n, take_at (b ∷ word) rest (length (b ∷ word)) refl) refl
 
   -- ---- signs
 
@@ -84,10 +86,6 @@ module _ (from : List ℕ) (inside : Bool) (at : ℕ) where
               let spelled : text ++ take k rest ≡ spelling t = sym front ∙ a.is in
               longest.1 (take k rest) (drop k rest) (sym (take-append-drop k rest)) (omega arith) (t, (spelled, λ e. absurd (not_colon t n e a lt)))
             where
-              take_on : (xs ys : List ℕ) (k n : ℕ) → n ≡ length xs + k → take n (xs ++ ys) ≡ xs ++ take k ys
-              take_on [] ys k n e = ap (λ (m : ℕ). take m ys) (e ∙ omega arith)
-              take_on (x ∷ xs) ys k n e = let f : n ≡ suc (length xs + k) = e ∙ omega arith in ap (λ (m : ℕ). take m (x ∷ (xs ++ ys))) f ∙ ap (λ (zs : List ℕ). x ∷ zs) (take_on xs ys k (length xs + k) refl)
-
               not_colon : (t : Sign) (n : ℕ) → t ≡ Colon → SignAt (text ++ rest) t n → length text < n → ⊥
               not_colon t n e a lt =
                   let z = len in
@@ -101,33 +99,33 @@ module _ (from : List ℕ) (inside : Bool) (at : ℕ) where
           split (inr le) =
               let b = a.bound text rest s refl is.0 in
               let n_is : n ≡ length text = omega arith in
-              let same : spelling t ≡ spelling s = sym a.is ∙ take_same n text rest (sym n_is) ∙ is.0 in
+              let same : spelling t ≡ spelling s = sym a.is ∙ take_at text rest n (sym n_is) ∙ is.0 in
               ap (λ (x : Sign). (x, n)) (same_sign t s same) ∙ ap (λ (x : ℕ). (s, x)) n_is
 
       by : (o : Option (Sign × ℕ)) → sign_at (text ++ rest) ≡ o → sign_at (text ++ rest) ≡ Some (s, length text)
       by None e = absurd (no_sign_there (text ++ rest) rest s e (ap (λ (x : List ℕ). x ++ rest) is.0))
       by (Some r) e = e ∙ ap (λ (x : Sign × ℕ). Some x) (some r.0 r.1 (sign_is_at (text ++ rest) r.0 r.1 e))
 
-  pub sign_reads : (s : Sign) (text rest : List ℕ) → IsSign inside s text → IsLongest (IsSomeSign inside) text rest → front_of from inside at (text ++ rest) ≡ token (kinds.Sign s) (length text)
+  pub sign_reads : (s : Sign) (text rest : List ℕ) → IsSign inside s text → IsLongest (IsSomeSign inside) text rest → next_token from inside at (text ++ rest) ≡ token (kinds.Sign s) (length text)
   unfolding sign_front
   sign_reads s text rest is longest =
       let o = other inside s is.1 in
       let source : text ++ rest ≡ o.b ∷ (o.more ++ rest) = ap (λ (x : List ℕ). x ++ rest) (is.0 ∙ o.source) in
-      let dispatch : front_of from inside at (o.b ∷ (o.more ++ rest)) ≡ sign_front from at (o.b ∷ (o.more ++ rest)) = front_sign from inside at (o.more ++ rest) o.b o.blank o.hash o.word (begins_no_run o.b (o.more ++ rest) o.digit o.dot) o.quote o.back in
-      let here : front_of from inside at (text ++ rest) ≡ sign_front from at (text ++ rest) = subst (λ (x : List ℕ). front_of from inside at x ≡ sign_front from at x) (sym source) dispatch in
+      let dispatch : next_token from inside at (o.b ∷ (o.more ++ rest)) ≡ sign_front from at (o.b ∷ (o.more ++ rest)) = front_sign from inside at (o.more ++ rest) o.b o.blank o.hash o.word (begins_no_run o.b (o.more ++ rest) o.digit o.dot) o.quote o.back in
+      let here : next_token from inside at (text ++ rest) ≡ sign_front from at (text ++ rest) = subst (λ (x : List ℕ). next_token from inside at x ≡ sign_front from at x) (sym source) dispatch in
       here ∙ rw (sign_at_is s text rest is longest) refl
 
   -- ---- strings in back quotes
 
-  pub raw_reads : (value rest : List ℕ) → Each is_no_back_quote value → front_of from inside at (96 ∷ (value ++ 96 ∷ rest)) ≡ token (kinds.Str value) (length value + 2)
+  pub raw_reads : (value rest : List ℕ) → Each is_no_back_quote value → next_token from inside at (96 ∷ (value ++ 96 ∷ rest)) ≡ token (kinds.Str value) (length value + 2)
   unfolding raw_front
   raw_reads value rest h =
       let n : prefix_len is_no_back_quote (value ++ 96 ∷ rest) ≡ length value = row_is is_no_back_quote value (96 ∷ rest) h refl in
       let l = length-append value (96 ∷ rest) in
       let lt : ltb (length value) (length (value ++ 96 ∷ rest)) ≡ true = lt-ltb (length value) (length (value ++ 96 ∷ rest)) (omega arith) in
-      front_raw from inside at (value ++ 96 ∷ rest) ∙ rw (n, lt, take_same (length value) value (96 ∷ rest) refl) refl
+      front_raw from inside at (value ++ 96 ∷ rest) ∙ rw (n, lt, take_at value (96 ∷ rest) (length value) refl) refl
 
-  pub open_raw_reads : (rest : List ℕ) → Each is_no_back_quote rest → front_of from inside at (96 ∷ rest) ≡ breach {X = Front} from OpenString at (at + 1)
+  pub open_raw_reads : (rest : List ℕ) → Each is_no_back_quote rest → next_token from inside at (96 ∷ rest) ≡ breach {X = Front} from OpenString at (at + 1)
   unfolding raw_front
   open_raw_reads rest h =
       let n : prefix_len is_no_back_quote rest ≡ length rest = all_row rest h in
@@ -140,7 +138,7 @@ module _ (from : List ℕ) (inside : Bool) (at : ℕ) where
 
   -- ---- characters that begin nothing
 
-  unknown_cons : (b : ℕ) (src : List ℕ) (len : ℕ) → BeginsNothing inside (b ∷ src) len → front_of from inside at (b ∷ src) ≡ breach {X = Front} from BadByte at (at + len)
+  unknown_cons : (b : ℕ) (src : List ℕ) (len : ℕ) → BeginsNothing inside (b ∷ src) len → next_token from inside at (b ∷ src) ≡ breach {X = Front} from BadByte at (at + len)
   unfolding sign_front
   unknown_cons b src len u =
       let blank : is_blank b ≡ false = false_from_ne_true (is_blank b) (λ h. u.nothing (b ∷ []) src refl (a_blank b refl h)) in
@@ -158,7 +156,7 @@ module _ (from : List ℕ) (inside : Bool) (at : ℕ) where
       unread None e = e
       unread (Some r) e = let a = sign_is_at (b ∷ src) r.0 r.1 e in absurd (u.nothing (take r.1 (b ∷ src)) (drop r.1 (b ∷ src)) (sym (take-append-drop r.1 (b ∷ src))) (a_sign r.0 a.is))
 
-  pub unknown_reads : (src : List ℕ) (len : ℕ) → BeginsNothing inside src len → front_of from inside at src ≡ breach {X = Front} from BadByte at (at + len)
+  pub unknown_reads : (src : List ℕ) (len : ℕ) → BeginsNothing inside src len → next_token from inside at src ≡ breach {X = Front} from BadByte at (at + len)
   unknown_reads [] len u = absurd (nil u.character u.whole.0 u.source)
     where
       nil : (character : List ℕ) → IsCharacter character → [] ≡ character ++ u.rest → ⊥
@@ -204,7 +202,7 @@ module _ (inside : Bool) where
 
   module _ (b : ℕ) (src : List ℕ) (blank : is_blank b ≡ false) (hash : b ≢ 35) (word : begins_word inside b ≡ false) (run : begins_run (b ∷ src) ≡ false) (double : b ≢ 34) (single : b ≢ 39) (back : b ≢ 96) where
     colon_inside : (t : Bool) → inside ≡ t → b ≡ 58 → t ≡ true
-    unfolding begins_word is_letter
+    unfolding begins_word begins_label is_letter
     colon_inside true e h = refl
     colon_inside false e h = let k = rw (e, h) at word in absurd (false≢true (sym k))
 

@@ -1,18 +1,19 @@
 -- What stands between quotes is read as pieces, as far as its escapes are right.
-use Rattle.std.proofs.Common.{◌≡◌, ℕ, zero, suc, ◌+◌, ◌/◌, ◌%◌, ◌<◌, ◌≤◌, Bool, true, false, ◌&&◌, cond, eqb, ltb, List, [], ◌∷◌, ◌++◌, take, drop, Option, Some, None, length, refl, ap, arith, append_assoc, sym, ◌∙◌, subst, ◌⊎◌, inl, inr, length-drop}
-use Rattle.std.proofs.lemmas.Bool.{false≢true}
+use Rattle.std.proofs.Common.{◌≡◌, ℕ, zero, suc, ◌+◌, ◌/◌, ◌%◌, ◌<◌, ◌≤◌, Bool, true, false, cond, eqb, ltb, List, [], ◌∷◌, ◌++◌, take, drop, Option, Some, None, length, refl, ap, arith, append_assoc, sym, ◌∙◌, subst, ◌⊎◌, inl, inr, length-drop}
+use Rattle.std.proofs.lemmas.Option.{same_Some}
+use Rattle.std.proofs.lemmas.Bool.{and_parts}
 use Rattle.std.proofs.lemmas.Bool.Decides.{eqb_tells, nat_tests}
 use Rattle.std.proofs.lemmas.List.{take-append-drop}
 use Rattle.std.proofs.lemmas.List.{length-take-le}
 use Rattle.std.specs.List.{flat_map, AllByRecursion}
 use Rattle.std.specs.Str.{IsUtf8}
 use lib.Utf8.{encode, encodes, scalar, scalars, scalar_cases}
-use Rattle.lf_lex.specs.Bytes.{is_digit}
+use Rattle.lf_base.specs.Names.{is_digit}
 use Rattle.lf_lex.specs.Strings.{Piece, Bare, Escape, piece_text, meant}
 use Rattle.lf_lex.specs.reading.Strings.{both, two_digits, four_digits, eight_digits, octal_byte, as_byte, as_character, escape, piece, is_scalar, gives, bytes_of}
 use Rattle.lf_lex.specs.Strings.{byte_of_letter}
 use Rattle.lf_lex.proofs.ValueLaws.{IsRead, bytes_first, value_one}
-use Rattle.lf_lex.proofs.Options.{none_some, same_some}
+use Rattle.lf_lex.proofs.Options.{none_some}
 
 -- ---- no UTF-8 has the byte 255
 
@@ -46,14 +47,10 @@ one_character c lt = one (ltb c 128) refl
     one true e = let l = below c 128 e in (omega arith, tt)
     one false e = two (ltb c 2048) refl
 
-and_both : (x y : Bool) → (x && y) ≡ true → (x ≡ true) × (y ≡ true)
-and_both true y h = (refl, h)
-and_both false y h = absurd (false≢true h)
-
 characters : (cs : List ℕ) → scalars cs ≡ true → AreBytes (encodes cs)
 characters [] h = tt
 characters (c ∷ cs) h =
-    let b = and_both (scalar c) (scalars cs) h in
+    let b = and_parts (scalar c) (scalars cs) h in
     let small : c < 1114112 = elim (scalar_cases c b.0) [ inl l ↦ omega arith | inr l ↦ l.1 ] in
     both_bytes (encode c) (encodes cs) (one_character c small) (characters cs b.1)
 
@@ -124,7 +121,7 @@ escape_cut quote [] r h = none_some r None refl h
 escape_cut quote (e ∷ xs) r h = first (eqb e quote) refl h
   where
     is_r : (x : List ℕ × ℕ) → Some x ≡ Some r → IsCut quote (e ∷ xs) x → IsCut quote (e ∷ xs) r
-    is_r x k c = subst (IsCut quote (e ∷ xs)) (same_some x r k) c
+    is_r x k c = subst (IsCut quote (e ∷ xs)) (same_Some x r k) c
 
     letter : eqb e quote ≡ false → eqb e 120 ≡ false → eqb e 117 ≡ false → eqb e 85 ≡ false → is_digit e ≡ false → (o : Option ℕ) → byte_of_letter e ≡ o → as_byte 1 o ≡ Some r → IsCut quote (e ∷ xs) r
     letter p q u v d None f h = none_some r None refl h

@@ -1,5 +1,6 @@
 -- The reading of strings is the grammar of strings.
 use Rattle.std.proofs.Common.{◌≡◌, ◌≢◌, ℕ, zero, suc, ◌+◌, ◌<◌, List, [], ◌∷◌, ◌++◌, Option, Some, None, length, refl, ap, arith, append_assoc, sym, ◌∙◌, subst, inl, inr, eq-eqb}
+use Rattle.std.proofs.lemmas.Option.{same_Some}
 use Rattle.std.specs.Prelude.{option_map}
 use Rattle.std.proofs.lemmas.Bool.{ne_eqb}
 use Rattle.std.proofs.lemmas.Bool.Decides.{eqb_tells}
@@ -8,7 +9,7 @@ use Rattle.std.proofs.lemmas.List.Concat.{flat_map-cons}
 use Rattle.std.specs.List.{flat_map, AllByRecursion}
 use Rattle.lf_lex.specs.Strings.{Raw, One, Pair, raw, IsRaw}
 use Rattle.lf_lex.specs.reading.Strings.{closing}
-use Rattle.lf_lex.proofs.Options.{none_some, same_some}
+use Rattle.lf_lex.proofs.Options.{none_some}
 
 -- Behind an opening quote stands `inner`, the quote that closes, and perhaps more.
 pub record Closes (quote : ℕ) (src inner : List ℕ) : Type 0 where
@@ -78,14 +79,14 @@ module _ (quote : ℕ) (not_slash : quote ≢ 92) where
     where
       by : (o : Option ℕ) → closing quote 0 src ≡ o → option_map (λ k. length (raw r) + k) o ≡ Some n → Closed quote (raw r ++ src) n
       by None p q = none_some n None refl q
-      by (Some m) p q = more_raw r src n m h (same_some (length (raw r) + m) n q) (again m p)
+      by (Some m) p q = more_raw r src n m h (same_Some (length (raw r) + m) n q) (again m p)
 
   found_at : (src : List ℕ) (b n : ℕ) → b ≡ quote → closing quote 0 (b ∷ src) ≡ Some n → Closed quote (b ∷ src) n
   unfolding closing
   found_at src b n e h = record {
     inner = [];
     is = record { raws = []; each = tt; rest = src; inner_is = refl; source = rw e refl };
-    len = sym (same_some 0 n (sym (rw (eq-eqb b quote e) refl) ∙ h));
+    len = sym (same_Some 0 n (sym (rw (eq-eqb b quote e) refl) ∙ h));
   }
 
   no_break : (src : List ℕ) (b n : ℕ) {X : Type 0} → b ≢ quote → b ≡ 10 → closing quote 0 (b ∷ src) ≡ Some n → X

@@ -1,17 +1,19 @@
 -- A text is read in one way, and its tokens stand in order.
 use Rattle.std.proofs.Common.{◌≡◌, ℕ, suc, ◌+◌, ◌-◌, ◌<◌, ◌≤◌, Bool, false, List, [], ◌∷◌, ◌++◌, length, get_or, drop, Option, Some, None, Result, Ok, Err, refl, ap, arith, append_assoc, sym, ◌∙◌, subst}
-use Rattle.std.specs.Prelude.{IfOk, IfErr}
+use Rattle.std.specs.Prelude.{IfOk}
 use Rattle.std.specs.List.Sorted.{IsNonDecreasing, IsNonDecreasingBy}
-use Rattle.std.proofs.lemmas.List.{append-nil, drop_all, drop_more}
+use Rattle.std.proofs.lemmas.List.{append-nil, drop_all, drop_more, drop-drop}
 use Rattle.std.proofs.lemmas.List.Sorted.{IsNonDecreasingBy-push}
 use Rattle.lf_base.specs.declared.refusal.Refusal.{Refusal}
 use Rattle.lf_base.specs.declared.refusal.Refusal.TheVariants.{At, Memory}
 use Rattle.lf_lex.specs.declared.token.Token.{Token}
 use Rattle.lf_lex.specs.declared.token.TokenKind.{TokenKind}
-use Rattle.lf_lex.specs.reading.Steps.{Front, front_of}
-use Rattle.lf_lex.specs.Tokens.{Fault, in_source, Answers, Refuses, IfAt}
+use Rattle.lf_lex.specs.reading.Steps.{Front, next_token}
+use Rattle.lf_lex.specs.Tokens.{in_source}
+use Rattle.lf_base.specs.declared.fault.Fault.{Fault}
+use Rattle.lf_base.specs.Faults.{fault}
+use Rattle.lf_base.specs.Answers.{Answers, IfAt, Refused}
 use Rattle.lf_lex.specs.reading.Reads.{Reads, ends, goes_on, breaks, behind, tokens_at, with_front}
-use Rattle.lf_lex.proofs.Fronts.{drop_drop}
 
 -- ---- one reading
 
@@ -55,32 +57,32 @@ pub so_far_none : (from text : List ℕ) → SoFar from text false 0 []
 so_far_none from text = λ answer h. subst (Reads from false 0 text) (sym (no_front answer)) h
 
 module _ (from text : List ℕ) (inside : Bool) (at : ℕ) (tokens : List Token) (so_far : SoFar from text inside at tokens) (lt : at < length text) where
-  pub so_far_more : (found : Option TokenKind) (n : ℕ) → front_of from inside at (drop at text) ≡ Ok (found, n) → SoFar from text (behind found inside) (at + n) (tokens ++ tokens_at found (in_source from at (at + n)))
+  pub so_far_more : (found : Option TokenKind) (n : ℕ) → next_token from inside at (drop at text) ≡ Ok (found, n) → SoFar from text (behind found inside) (at + n) (tokens ++ tokens_at found (in_source from at (at + n)))
   so_far_more found n e = λ answer h.
       let new = tokens_at found (in_source from at (at + n)) in
       let q : drop at text ≡ get_or text at 0 ∷ drop (at + 1) text = drop_more text at 0 lt in
-      let r : drop (at + n) text ≡ drop n (get_or text at 0 ∷ drop (at + 1) text) = sym (drop_drop n at text) ∙ ap (drop n) q in
-      let step : Reads from inside at (get_or text at 0 ∷ drop (at + 1) text) (with_front new answer) = goes_on found n (ap (front_of from inside at) (sym q) ∙ e) (subst (λ (src : List ℕ). Reads from (behind found inside) (at + n) src answer) r h) in
+      let r : drop (at + n) text ≡ drop n (get_or text at 0 ∷ drop (at + 1) text) = sym (drop-drop n at text) ∙ ap (drop n) q in
+      let step : Reads from inside at (get_or text at 0 ∷ drop (at + 1) text) (with_front new answer) = goes_on found n (ap (next_token from inside at) (sym q) ∙ e) (subst (λ (src : List ℕ). Reads from (behind found inside) (at + n) src answer) r h) in
       subst (Reads from false 0 text) (sym (fronts tokens new answer)) (so_far (with_front new answer) (subst (λ (src : List ℕ). Reads from inside at src (with_front new answer)) (sym q) step))
 
-  pub so_far_breaks : (fault : Fault) → front_of from inside at (drop at text) ≡ Err fault → Reads from false 0 text (Err fault)
+  pub so_far_breaks : (fault : Fault) → next_token from inside at (drop at text) ≡ Err fault → Reads from false 0 text (Err fault)
   so_far_breaks fault e =
       let q : drop at text ≡ get_or text at 0 ∷ drop (at + 1) text = drop_more text at 0 lt in
-      let step : Reads from inside at (get_or text at 0 ∷ drop (at + 1) text) (Err fault) = breaks fault (ap (front_of from inside at) (sym q) ∙ e) in
+      let step : Reads from inside at (get_or text at 0 ∷ drop (at + 1) text) (Err fault) = breaks fault (ap (next_token from inside at) (sym q) ∙ e) in
       so_far (Err fault) (subst (λ (src : List ℕ). Reads from inside at src (Err fault)) (sym q) step)
 
-  pub refusal_breaks : (refusal : Refusal) → Refuses refusal (front_of from inside at (drop at text)) → IfAt refusal (λ fault. Reads from false 0 text (Err fault))
+  pub refusal_breaks : (refusal : Refusal) → IfAt refusal (λ f. next_token from inside at (drop at text) ≡ Err f) → IfAt refusal (λ fault. Reads from false 0 text (Err fault))
   refusal_breaks Memory h = tt
-  refusal_breaks (At kind span) h = so_far_breaks (record { kind = kind; span = span }) h
+  refusal_breaks (At kind span) h = so_far_breaks (fault kind span) h
 
 pub so_far_all : (from text : List ℕ) (inside : Bool) (at : ℕ) (tokens : List Token) → SoFar from text inside at tokens → length text ≤ at → Reads from false 0 text (Ok tokens)
 so_far_all from text inside at tokens so_far le =
     let step : Reads from inside at (drop at text) (Ok []) = subst (λ (src : List ℕ). Reads from inside at src (Ok [])) (sym (drop_all at text le)) ends in
     subst (λ (x : List Token). Reads from false 0 text (Ok x)) (append-nil tokens) (so_far (Ok []) step)
 
--- ---- the four clauses
+-- ---- the answer
 
-pub answers_all : (from text : List ℕ) (r : Result (List Token) Refusal) → IfOk r (λ tokens. Reads from false 0 text (Ok tokens)) → IfErr r (λ e. IfAt e (λ fault. Reads from false 0 text (Err fault))) → (answer : Result (List Token) Fault) → Reads from false 0 text answer → Answers r answer
+pub answers_all : (from text : List ℕ) (r : Result (List Token) Refusal) → IfOk r (λ tokens. Reads from false 0 text (Ok tokens)) → Refused (λ fault. Reads from false 0 text (Err fault)) r → (answer : Result (List Token) Fault) → Reads from false 0 text answer → Answers r answer
 answers_all from text (Ok tokens) found refused answer h = one_reading h found
 answers_all from text (Err Memory) found refused answer h = tt
 answers_all from text (Err (At kind span)) found refused answer h = one_reading h refused

@@ -1,5 +1,6 @@
 -- Runs at the front of a text.
 use Rattle.std.proofs.Common.{◌≡◌, ℕ, ◌+◌, ◌<◌, Bool, true, false, List, ◌++◌, length, take, drop, Option, Some, None, refl, sym, ◌∙◌, take-append-drop}
+use Rattle.std.proofs.lemmas.List.{take_at}
 use Rattle.std.proofs.lemmas.Bool.{false≢true, false_from_ne_true}
 use Rattle.lf_base.specs.declared.kind.Kind.TheVariants.{BadNumber, BadDuration}
 use Rattle.lf_lex.specs.declared.token.TokenKind.TheVariants as kinds
@@ -9,7 +10,7 @@ use Rattle.lf_lex.specs.Parts.{IsLongest, Written}
 use Rattle.lf_lex.specs.Breaches.{BeginsRun}
 use Rattle.lf_lex.specs.reading.Runs.{run_len, is_number, units, duration_order}
 use Rattle.lf_lex.specs.reading.Steps.{Front, breach, token, run_is, run_front}
-use Rattle.lf_lex.proofs.Longest.{greatest_longest, longest_length, take_same}
+use Rattle.lf_lex.proofs.Longest.{greatest_longest, longest_length}
 use Rattle.lf_lex.proofs.RunLaws.{run_greatest, begins_on, some_run}
 use Rattle.lf_lex.proofs.NumberLaws.{number_read, number_is, number_no_units}
 use Rattle.lf_lex.proofs.DurationLaws.{ordered, disordered, only_ordered, only_disordered, no_amounts, not_amounts, are_amounts}
@@ -29,7 +30,7 @@ module _ (from : List ℕ) (at : ℕ) where
 
     run_front_is : run_front from at (run ++ rest) ≡ run_is from at run (length run) (is_number run) (duration_order run)
     unfolding run_front
-    run_front_is = rw (run_len_is, take_same (length run) run rest refl) refl
+    run_front_is = rw (run_len_is, take_at run rest (length run) refl) refl
 
     pub number_front : IsNumber run → run_front from at (run ++ rest) ≡ token (kinds.Number run) (length run)
     number_front h = run_front_is ∙ rw (number_read run h) refl

@@ -1,12 +1,15 @@
 -- The length of a run is that of the longest.
 use Rattle.std.proofs.Common.{◌≡◌, ℕ, zero, suc, ◌+◌, ◌<◌, ◌≤◌, Bool, true, false, ◌&&◌, cond, List, [], ◌∷◌, ◌++◌, length, take, drop, refl, ap, arith, append_assoc, sym, ◌∙◌, subst, inl, inr, length-append, take-append-drop}
+use Rattle.std.proofs.lemmas.List.Sums.{prefix_len-le-length}
+use Rattle.std.proofs.lemmas.List.{drop_at}
 use Rattle.std.proofs.lemmas.Bool.{and_parts, and_from, or_cases, false≢true}
 use Rattle.std.proofs.lemmas.Bool.Decides.{nat_tests}
 use Rattle.std.specs.List.{prefix_len, list_all}
-use Rattle.lf_lex.specs.Bytes.{is_digit, is_letter, is_dot, is_exponent, is_plus_minus, is_in_run, is_in_mantissa}
+use Rattle.lf_lex.specs.Bytes.{is_dot, is_exponent, is_plus_minus, is_in_run, is_in_mantissa}
+use Rattle.lf_base.specs.Names.{is_digit, is_letter}
 use Rattle.lf_lex.specs.Runs.{begins_run, IsRow, plain_row, signed_row, IsRun}
 use Rattle.lf_lex.specs.reading.Runs.{begins_signed, run_len}
-use Rattle.lf_lex.proofs.Longest.{Greatest, drop_same, row_all, row_le, row_past, row_is, row_bound}
+use Rattle.lf_lex.proofs.Longest.{Greatest, row_all, row_past, row_is, row_bound}
 
 -- ---- classes
 
@@ -26,11 +29,11 @@ mantissa_in_run : (b : ℕ) → is_in_mantissa b ≡ true → is_in_run b ≡ tr
 unfolding is_in_mantissa is_in_run is_digit is_letter is_dot
 mantissa_in_run b h = grind (arith, nat_tests)
 
-digit_in_run : (b : ℕ) → is_digit b ≡ true → is_in_run b ≡ true
+pub digit_in_run : (b : ℕ) → is_digit b ≡ true → is_in_run b ≡ true
 unfolding is_in_run
 digit_in_run b h = rw h refl
 
-dot_in_run : (b : ℕ) → is_dot b ≡ true → is_in_run b ≡ true
+pub dot_in_run : (b : ℕ) → is_dot b ≡ true → is_in_run b ≡ true
 unfolding is_in_run is_dot is_digit is_letter
 dot_in_run b h = grind (arith, nat_tests)
 
@@ -68,7 +71,7 @@ module _ (front : List ℕ) (e s : ℕ) (more : List ℕ) (m : list_all is_in_ma
   pub signed_len : run_len (front ++ e ∷ s ∷ more) ≡ length front + 2 + prefix_len is_in_run more
   unfolding run_len
   signed_len =
-      let behind : drop (length front) (front ++ e ∷ s ∷ more) ≡ e ∷ s ∷ more = drop_same (length front) front (e ∷ s ∷ more) refl in
+      let behind : drop (length front) (front ++ e ∷ s ∷ more) ≡ e ∷ s ∷ more = drop_at front (e ∷ s ∷ more) (length front) refl in
       let past : drop (length front + 2) (front ++ e ∷ s ∷ more) ≡ more = drop_on front (e ∷ s ∷ more) 2 in
       rw (front_len, behind, past, is_e, is_s) refl
 
@@ -88,7 +91,7 @@ module _ (front : List ℕ) (e s : ℕ) (more : List ℕ) (m : list_all is_in_ma
       ap (λ (x : ℕ). take x (front ++ e ∷ s ∷ more)) n ∙ take_on front (e ∷ s ∷ more) (suc (suc k))
 
   pub signed_within : run_len (front ++ e ∷ s ∷ more) ≤ length (front ++ e ∷ s ∷ more)
-  signed_within = let a = signed_len in let b = row_le is_in_run more in let l = length-append front (e ∷ s ∷ more) in omega arith
+  signed_within = let a = signed_len in let b = prefix_len-le-length is_in_run more in let l = length-append front (e ∷ s ∷ more) in omega arith
 
 -- ---- the longest row
 
@@ -107,7 +110,7 @@ module _ (src : List ℕ) where
       by false e k = rw e no_sign
 
   pub run_within : run_len src ≤ length src
-  run_within = by_sign (λ n. n ≤ length src) (λ d. let e = signed_src d in subst (λ (x : List ℕ). run_len x ≤ length x) (sym e) (signed_within (take (prefix_len is_in_mantissa src) src) d.e d.s d.more (row_all is_in_mantissa src) d.is_e d.is_s)) (row_le is_in_run src)
+  run_within = by_sign (λ n. n ≤ length src) (λ d. let e = signed_src d in subst (λ (x : List ℕ). run_len x ≤ length x) (sym e) (signed_within (take (prefix_len is_in_mantissa src) src) d.e d.s d.more (row_all is_in_mantissa src) d.is_e d.is_s)) (prefix_len-le-length is_in_run src)
 
   pub run_row : IsRow (take (run_len src) src)
   run_row = by_sign (λ n. IsRow (take n src)) (λ d. subst (λ (x : List ℕ). IsRow (take (run_len x) x)) (sym (signed_src d)) (signed_row (take (prefix_len is_in_mantissa src) src) d.e d.s (take (prefix_len is_in_run d.more) d.more) (signed_take (take (prefix_len is_in_mantissa src) src) d.e d.s d.more (row_all is_in_mantissa src) d.is_e d.is_s) (row_all is_in_mantissa src) d.is_e d.is_s (row_all is_in_run d.more))) (plain_row (row_all is_in_run src))

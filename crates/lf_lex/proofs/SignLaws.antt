@@ -1,11 +1,12 @@
 -- The table of signs is read as it is written.
 use Rattle.std.proofs.Common.{◌≡◌, ◌≢◌, ℕ, ◌<◌, ◌≤◌, true, false, cond, eqb, List, [], ◌∷◌, ◌++◌, length, take, Option, Some, None, refl, ap, arith, sym, ◌∙◌, subst, ◌⊎◌, inl, inr}
+use Rattle.std.proofs.lemmas.Option.{same_Some}
 use Rattle.std.proofs.lemmas.Bool.Decides.{eqb_tells}
 use Rattle.lf_lex.specs.declared.token.Sign.{Sign}
 use Rattle.lf_lex.specs.declared.token.Sign.TheVariants as signs
 use Rattle.lf_lex.specs.Signs.{spelling}
 use Rattle.lf_lex.specs.reading.Signs.{sign_of_two, sign_of_one, one_byte, two_bytes, sign_at}
-use Rattle.lf_lex.proofs.Options.{clash, none_some, same_some}
+use Rattle.lf_lex.proofs.Options.{clash, none_some}
 
 pub sign_at-spelling : (s : Sign) → sign_at (spelling s) ≡ Some (s, length (spelling s))
 unfolding sign_at sign_of_one sign_of_two
@@ -47,7 +48,7 @@ pick : (b k : ℕ) (before behind : List ℕ) (s : Sign) (o : Option Sign) → b
 pick b k before behind s o e more t h = by (eqb_tells b k)
   where
     by : ((eqb b k ≡ true) × (b ≡ k)) ⊎ ((eqb b k ≡ false) × (b ≢ k)) → before ++ b ∷ behind ≡ spelling t
-    by (inl y) = ap (λ (x : ℕ). before ++ x ∷ behind) y.1 ∙ e ∙ ap spelling (same_some s t (sym (rw y.0 refl) ∙ h))
+    by (inl y) = ap (λ (x : ℕ). before ++ x ∷ behind) y.1 ∙ e ∙ ap spelling (same_Some s t (sym (rw y.0 refl) ∙ h))
     by (inr n) = more t (sym (rw n.0 refl) ∙ h)
 
 one_is : (b : ℕ) → IsSpelled (b ∷ []) (sign_of_one b)
@@ -97,13 +98,13 @@ at_most_two (b ∷ []) s n h = one (sign_of_one b) h
   where
     one : (o : Option Sign) → one_byte o ≡ Some (s, n) → n ≤ 2
     one None h = none_some (s, n) None refl h
-    one (Some t) h = let e = ap (λ (x : Sign × ℕ). x.1) (same_some (t, 1) (s, n) h) in omega arith
+    one (Some t) h = let e = ap (λ (x : Sign × ℕ). x.1) (same_Some (t, 1) (s, n) h) in omega arith
 at_most_two (b ∷ c ∷ more) s n h = two (sign_of_two b c) (sign_of_one b) h
   where
     two : (o q : Option Sign) → two_bytes o (one_byte q) ≡ Some (s, n) → n ≤ 2
     two None None h = none_some (s, n) None refl h
-    two None (Some t) h = let e = ap (λ (x : Sign × ℕ). x.1) (same_some (t, 1) (s, n) h) in omega arith
-    two (Some t) q h = let e = ap (λ (x : Sign × ℕ). x.1) (same_some (t, 2) (s, n) h) in omega arith
+    two None (Some t) h = let e = ap (λ (x : Sign × ℕ). x.1) (same_Some (t, 1) (s, n) h) in omega arith
+    two (Some t) q h = let e = ap (λ (x : Sign × ℕ). x.1) (same_Some (t, 2) (s, n) h) in omega arith
 
 spelled_short : (text : List ℕ) (t : Sign) → text ≡ spelling t → length text ≤ 2
 spelled_short text t e = let k = at_most_two (spelling t) t (length (spelling t)) (sign_at-spelling t) in let l = ap length e in omega arith
@@ -131,7 +132,7 @@ no_longer b c more (x ∷ y ∷ []) left t n e h =
   where
     one : (o : Option Sign) (n : ℕ) → 2 ≡ n → one_byte o ≡ Some (t, n) → 2 ≤ 1
     one None n l h = none_some (t, n) None refl h
-    one (Some s) n l h = let e = ap (λ (x : Sign × ℕ). x.1) (same_some (s, 1) (t, n) h) in absurd (omega arith)
+    one (Some s) n l h = let e = ap (λ (x : Sign × ℕ). x.1) (same_Some (s, 1) (t, n) h) in absurd (omega arith)
 no_longer b c more (x ∷ y ∷ z ∷ text) left t n e h = let k = spelled_short (x ∷ y ∷ z ∷ text) t h in absurd (omega arith)
 
 sign_one : (b : ℕ) (src : List ℕ) (o : Option Sign) (s : Sign) (n : ℕ) → sign_of_one b ≡ o → one_byte o ≡ Some (s, n)
@@ -139,7 +140,7 @@ sign_one : (b : ℕ) (src : List ℕ) (o : Option Sign) (s : Sign) (n : ℕ) →
 sign_one b src None s n f h bound = none_some (s, n) None refl h
 sign_one b src (Some r) s n f h bound =
     let it : SignAt (b ∷ src) r 1 = record { is = one_is b r f; some = omega arith; within = omega arith; bound = bound } in
-    let p : (r, 1) ≡ (s, n) = same_some (r, 1) (s, n) h in
+    let p : (r, 1) ≡ (s, n) = same_Some (r, 1) (s, n) h in
     subst (λ (x : Sign × ℕ). SignAt (b ∷ src) x.0 x.1) p it
 
 pub sign_is_at : (src : List ℕ) (s : Sign) (n : ℕ) → sign_at src ≡ Some (s, n) → SignAt src s n
@@ -160,7 +161,7 @@ sign_is_at (b ∷ c ∷ more) s n h = by (sign_of_two b c) refl h
     by None e h = sign_one b (c ∷ more) (sign_of_one b) s n refl h (λ text left t f k. no_longer b c more text left t e f k)
     by (Some r) e h =
         let it : SignAt (b ∷ c ∷ more) r 2 = record { is = two_is b c r e; some = omega arith; within = omega arith; bound = λ text left t f k. spelled_short text t k } in
-        let p : (r, 2) ≡ (s, n) = same_some (r, 2) (s, n) h in
+        let p : (r, 2) ≡ (s, n) = same_Some (r, 2) (s, n) h in
         subst (λ (x : Sign × ℕ). SignAt (b ∷ c ∷ more) x.0 x.1) p it
 
 -- ---- where none is
@@ -185,7 +186,7 @@ no_sign_there src left t n e = sign_stays (spelling t) left (t, length (spelling
 
 -- two signs are not spelled alike
 pub same_sign : (s t : Sign) → spelling s ≡ spelling t → s ≡ t
-same_sign s t e = ap (λ (x : Sign × ℕ). x.0) (same_some (s, length (spelling s)) (t, length (spelling t)) (sym (sign_at-spelling s) ∙ ap sign_at e ∙ sign_at-spelling t))
+same_sign s t e = ap (λ (x : Sign × ℕ). x.0) (same_Some (s, length (spelling s)) (t, length (spelling t)) (sym (sign_at-spelling s) ∙ ap sign_at e ∙ sign_at-spelling t))
 
 pub some_sign : (s : Sign) → 0 < length (spelling s)
 some_sign s = let a = sign_is_at (spelling s) s (length (spelling s)) (sign_at-spelling s) in a.some

@@ -1,5 +1,6 @@
 -- Strings in quotes at the front of a text.
 use Rattle.std.proofs.Common.{◌≡◌, ◌≢◌, ℕ, suc, ◌+◌, ◌-◌, ◌<◌, Bool, List, [], ◌∷◌, ◌++◌, map, length, get_or, take, drop, Option, Some, None, refl, ap, arith, append_assoc, append-nil, sym, ◌∙◌, subst, ◌⊎◌, inl, inr, length-append, length-take-le, take-append-drop}
+use Rattle.std.proofs.lemmas.List.{take_at}
 use Rattle.std.specs.Prelude.{option_map}
 use Rattle.std.proofs.lemmas.Bool.{ne_eqb, eq-eqb}
 use Rattle.std.specs.List.{flat_map, AllByRecursion}
@@ -11,8 +12,7 @@ use Rattle.lf_lex.specs.Strings.{IsQuote, Raw, raw, IsRaw, IsInner, IsEscape, Pi
 use Rattle.lf_lex.specs.Parts.{IsLongest, EndsLine}
 use Rattle.lf_lex.specs.Breaches.{StopsString, line_ends, backslash_first, BeginsNoEscape, ReadsUpTo, IsWrongAt, no_escape, no_utf8}
 use Rattle.lf_lex.specs.reading.Strings.{closing, escape, Given, given, piece, gives, bytes_of, places_of}
-use Rattle.lf_lex.specs.reading.Steps.{Front, token, breach, value_front, quoted_front, front_of}
-use Rattle.lf_lex.proofs.Longest.{take_same}
+use Rattle.lf_lex.specs.reading.Steps.{Front, token, breach, value_front, quoted_front, next_token}
 use Rattle.lf_lex.proofs.Quotes.{ahead, closing_one, closes_found}
 use Rattle.lf_lex.proofs.ValueLaws.{IsRead, escape_kept, piece_bare, piece_escape}
 use Rattle.lf_lex.proofs.PieceLaws.{escape_cut, IsReadWrong, value_of, wrong_value, nil_value, pieces_value}
@@ -84,11 +84,11 @@ module _ (quote : ℕ) (q : IsQuote quote) where
     closes_there : closing quote 0 (inner ++ quote ∷ rest) ≡ Some (length inner)
     closes_there = closes_found quote (quote_no_slash quote q) (inner ++ quote ∷ rest) inner (record { raws = is_inner.raws; each = is_inner.each; rest = rest; inner_is = is_inner.source; source = refl })
 
-    front_value : front_of from inside at (quote ∷ (inner ++ quote ∷ rest)) ≡ value_front from at quote inner
+    front_value : next_token from inside at (quote ∷ (inner ++ quote ∷ rest)) ≡ value_front from at quote inner
     unfolding quoted_front
-    front_value = front_quoted from inside at (inner ++ quote ∷ rest) quote q ∙ rw (closes_there, take_same (length inner) inner (quote ∷ rest) refl) refl
+    front_value = front_quoted from inside at (inner ++ quote ∷ rest) quote q ∙ rw (closes_there, take_at inner (quote ∷ rest) (length inner) refl) refl
 
-    pub string_reads : (value : List ℕ) → HasValue quote inner value → IsUtf8 value → front_of from inside at (quote ∷ (inner ++ quote ∷ rest)) ≡ token (kinds.Str value) (length inner + 2)
+    pub string_reads : (value : List ℕ) → HasValue quote inner value → IsUtf8 value → next_token from inside at (quote ∷ (inner ++ quote ∷ rest)) ≡ token (kinds.Str value) (length inner + 2)
     string_reads value h u = front_value ∙ value_utf8 from at quote inner value (value_is_of inner value h) u
 
   -- ---- the place of what gave a byte
@@ -215,7 +215,7 @@ module _ (quote : ℕ) (q : IsQuote quote) where
   wrong_at inner place (no_utf8 before p later rest front byte back r m longest e) = subst (WrongValue inner) (sym e) (wrong_byte inner before p later rest front byte back r m longest)
 
   module _ (from : List ℕ) (inside : Bool) (at : ℕ) where
-    pub wrong_reads : (inner rest : List ℕ) (place : ℕ) → IsInner quote inner → IsWrongAt quote inner place → front_of from inside at (quote ∷ (inner ++ quote ∷ rest)) ≡ breach {X = Front} from BadEscape (at + 1 + place) (at + 1 + place + 1)
+    pub wrong_reads : (inner rest : List ℕ) (place : ℕ) → IsInner quote inner → IsWrongAt quote inner place → next_token from inside at (quote ∷ (inner ++ quote ∷ rest)) ≡ breach {X = Front} from BadEscape (at + 1 + place) (at + 1 + place + 1)
     wrong_reads inner rest place is_inner w =
         let v = wrong_at inner place w in
         front_value from inside at inner rest is_inner ∙ value_wrong from at quote inner (value_of quote inner) place refl v.not_utf v.place_is
@@ -237,6 +237,6 @@ module _ (quote : ℕ) (q : IsQuote quote) where
     raws_open (r ∷ rs) rest each h =
         ap (closing quote 0) (append_assoc (raw r) (flat_map raw rs) rest) ∙ closing_one quote (quote_no_slash quote q) r (flat_map raw rs ++ rest) each.0 ∙ ap (ahead (length (raw r))) (raws_open rs rest each.1 h)
 
-    pub open_reads : (raws : List Raw) (rest : List ℕ) → AllByRecursion (IsRaw quote) raws → StopsString rest → front_of from inside at (quote ∷ (flat_map raw raws ++ rest)) ≡ breach {X = Front} from OpenString at (at + 1)
+    pub open_reads : (raws : List Raw) (rest : List ℕ) → AllByRecursion (IsRaw quote) raws → StopsString rest → next_token from inside at (quote ∷ (flat_map raw raws ++ rest)) ≡ breach {X = Front} from OpenString at (at + 1)
     unfolding quoted_front
     open_reads raws rest each stops = front_quoted from inside at (flat_map raw raws ++ rest) quote q ∙ rw (raws_open raws rest each (stops_there rest stops)) refl

@@ -3,7 +3,7 @@ use Rattle.std.proofs.Common.{◌≡◌, ◌≢◌, ℕ, zero, suc, ◌+◌, ◌
 use Rattle.std.specs.Prelude.{option_map}
 use Rattle.std.proofs.lemmas.Bool.{cases_lt}
 use Rattle.std.proofs.lemmas.Bool.Decides.{eqb_tells}
-use Rattle.std.proofs.lemmas.List.{drop_more}
+use Rattle.std.proofs.lemmas.List.{drop_more, take_at, drop_at}
 use Rattle.std.specs.List.{flat_map, AllByRecursion}
 use Rattle.std.specs.Str.{IsUtf8}
 use Rattle.std.specs.Str.Lossy.{utf8_valid_len}
@@ -13,7 +13,7 @@ use Rattle.lf_lex.specs.Strings.{IsQuote, Raw, One, Pair, raw, IsRaw, IsInner, P
 use Rattle.lf_lex.specs.Parts.{IsLongest, Written}
 use Rattle.lf_lex.specs.Breaches.{StopsString, line_ends, backslash_first, in_quotes as open_quotes, BeginsNoEscape, ReadsUpTo, IsWrongAt, no_escape, no_utf8}
 use Rattle.lf_lex.specs.reading.Strings.{closing}
-use Rattle.lf_lex.proofs.Longest.{greatest_longest, take_same, drop_same}
+use Rattle.lf_lex.proofs.Longest.{greatest_longest}
 use Rattle.lf_lex.proofs.Quotes.{closes_told}
 use Rattle.lf_lex.proofs.PieceLaws.{IsReadWrong, ReadTo, read_to}
 use Rattle.lf_lex.proofs.Utf8Fronts.{utf8_greatest}
@@ -175,8 +175,8 @@ module _ (quote : ℕ) (q : IsQuote quote) (inside : Bool) (src inner rest : Lis
         ap (flat_map meant) f.split ∙ flat_append quote q meant f.before (f.piece ∷ f.later) ∙ ap (λ (x : List ℕ). flat_map meant f.before ++ (x ++ flat_map meant f.later)) f.gave
         ∙ ap (λ (x : List ℕ). flat_map meant f.before ++ x) (append_assoc f.front (f.byte ∷ f.back) (flat_map meant f.later)) ∙ sym (append_assoc (flat_map meant f.before) f.front more) in
         let len : length good ≡ n = length-append (flat_map meant f.before) f.front ∙ sym f.n_is in
-        let front : take n v ≡ good = ap (take n) all ∙ take_same n good more len in
-        let back : drop n v ≡ more = ap (drop n) all ∙ drop_same n good more len in
+        let front : take n v ≡ good = ap (take n) all ∙ take_at good more n len in
+        let back : drop n v ≡ more = ap (drop n) all ∙ drop_at good more n len in
         let longest : IsLongest IsUtf8 good more = subst (λ (x : List ℕ). IsLongest IsUtf8 good x) back (subst (λ (x : List ℕ). IsLongest IsUtf8 x (drop n v)) front (greatest_longest IsUtf8 v n (utf8_greatest v))) in
         bad_at (length (flat_map piece_text f.before)) (no_utf8 f.before f.piece f.later r.rest f.front f.byte f.back (subst (λ (x : List Piece). ReadsUpTo quote inner x r.rest) f.split up_to) f.gave longest refl)
 

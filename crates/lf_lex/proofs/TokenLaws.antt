@@ -1,21 +1,22 @@
 -- A text has one list of tokens or one breach, and it is read as that.
 use Rattle.std.proofs.Common.{◌≡◌, ℕ, zero, suc, ◌+◌, ◌<◌, Bool, false, List, [], ◌∷◌, ◌++◌, length, drop, Option, Result, Ok, Err, refl, ap, arith, append_assoc, append-nil, sym, ◌∙◌, subst, ◌⊎◌, inl, inr, length-append}
-use Rattle.std.specs.Prelude.{IfOk, IfErr}
+use Rattle.std.proofs.lemmas.List.{drop_at}
+use Rattle.std.specs.Prelude.{IfOk}
 use Rattle.std.specs.List.{flat_map}
 use Rattle.lf_base.specs.declared.kind.Kind.{Kind}
 use Rattle.lf_base.specs.declared.place.Span.{Span}
 use Rattle.lf_base.specs.declared.refusal.Refusal.{Refusal}
-use Rattle.lf_base.specs.declared.refusal.Refusal.TheVariants.{At, Memory}
 use Rattle.lf_lex.specs.declared.token.Token.{Token}
 use Rattle.lf_lex.specs.declared.token.TokenKind.{TokenKind}
 use Rattle.lf_lex.specs.Parts.{Part, Blank, Comment, Written, part_text, IsPart, behind_part, behind_parts, AreParts}
 use Rattle.lf_lex.specs.Breaches.{IsBreach}
-use Rattle.lf_lex.specs.Tokens.{in_source, token_of, tokens_of, Tokens, Fault, Breaks, IfAt}
-use Rattle.lf_lex.specs.reading.Steps.{front_of}
+use Rattle.lf_lex.specs.Tokens.{in_source, token_of, tokens_of, Tokens, Breaks}
+use Rattle.lf_base.specs.declared.fault.Fault.{Fault}
+use Rattle.lf_base.specs.Answers.{Answers, Refused, Decides, OneAnswer}
+use Rattle.lf_lex.specs.reading.Steps.{next_token}
 use Rattle.lf_lex.specs.reading.Reads.{Reads, ends, goes_on, breaks, behind, tokens_at, with_front}
-use Rattle.lf_lex.proofs.Longest.{drop_same}
 use Rattle.lf_lex.proofs.FrontLaws.{found_of, part_reads, breach_reads, something_stands, part_some, breach_some}
-use Rattle.lf_lex.proofs.Reading.{one_reading, fronts}
+use Rattle.lf_lex.proofs.Reading.{one_reading, fronts, answers_all}
 use Rattle.lf_lex.proofs.Standing.{Standing, stands, fails}
 
 abbrev Answer : Type 0
@@ -30,12 +31,12 @@ err_fault fault = Err fault
 -- ---- what the grammar has is read
 
 module _ (from : List ℕ) where
-  front_goes_on : (inside : Bool) (at n : ℕ) (src : List ℕ) (found : Option TokenKind) (answer : Answer) → 0 < length src → front_of from inside at src ≡ Ok (found, n)
+  front_goes_on : (inside : Bool) (at n : ℕ) (src : List ℕ) (found : Option TokenKind) (answer : Answer) → 0 < length src → next_token from inside at src ≡ Ok (found, n)
       → Reads from (behind found inside) (at + n) (drop n src) answer → Reads from inside at src (with_front (tokens_at found (in_source from at (at + n))) answer)
   front_goes_on inside at n [] found answer lt e h = absurd (omega arith)
   front_goes_on inside at n (b ∷ src) found answer lt e h = goes_on found n e h
 
-  front_breaks : (inside : Bool) (at : ℕ) (src : List ℕ) (fault : Fault) → 0 < length src → front_of from inside at src ≡ Err fault → Reads from inside at src (Err fault)
+  front_breaks : (inside : Bool) (at : ℕ) (src : List ℕ) (fault : Fault) → 0 < length src → next_token from inside at src ≡ Err fault → Reads from inside at src (Err fault)
   front_breaks inside at [] fault lt e = absurd (omega arith)
   front_breaks inside at (b ∷ src) fault lt e = breaks fault e
 
@@ -71,7 +72,7 @@ module _ (from : List ℕ) where
       let front = part_reads from inside at part later are.0 in
       let moved : Reads from (behind (found_of part) inside) (at + length text) (drop (length text) (text ++ later)) (with_front (tokens_of from (at + length text) parts) answer) =
       subst (λ (i : Bool). Reads from i (at + length text) (drop (length text) (text ++ later)) (with_front (tokens_of from (at + length text) parts) answer)) (sym (same_behind part inside))
-      (subst (λ (x : List ℕ). Reads from (behind_part part inside) (at + length text) x (with_front (tokens_of from (at + length text) parts) answer)) (sym (drop_same (length text) text later refl)) again) in
+      (subst (λ (x : List ℕ). Reads from (behind_part part inside) (at + length text) x (with_front (tokens_of from (at + length text) parts) answer)) (sym (drop_at text later (length text) refl)) again) in
       let step = front_goes_on inside at (length text) (text ++ later) (found_of part) (with_front (tokens_of from (at + length text) parts) answer) (omega arith) front moved in
       let span = in_source from at (at + length text) in
       let joined : with_front (tokens_at (found_of part) span) (with_front (tokens_of from (at + length text) parts) answer) ≡ with_front (token_of part span ++ tokens_of from (at + length text) parts) answer =
@@ -91,7 +92,7 @@ module _ (from : List ℕ) where
       let at = length (flat_map part_text b.parts) in
       let inside = behind_parts b.parts false in
       let z : 0 + at ≡ at = omega arith in
-      let e : front_of from inside at b.rest ≡ Err fault = breach_reads from inside at b.rest fault.kind b.start b.end b.breach ∙ ap (λ (s : Span). Err (record { kind = fault.kind; span = s })) (sym b.span_is) in
+      let e : next_token from inside at b.rest ≡ Err fault = breach_reads from inside at b.rest fault.kind b.start b.end b.breach ∙ ap (λ (s : Span). Err (record { kind = fault.kind; span = s })) (sym b.span_is) in
       let here : Reads from inside at b.rest (Err fault) = front_breaks inside at b.rest fault (breach_some inside b.rest fault.kind b.start b.end b.breach) e in
       let read = parts_read b.parts false 0 b.rest (Err fault) b.are_parts (subst (λ (k : ℕ). Reads from inside k b.rest (Err fault)) (sym z) here) in
       subst (λ (x : List ℕ). Reads from false 0 x (Err fault)) (sym b.source) read
@@ -129,7 +130,7 @@ whole (suc fuel) inside (b ∷ src) lt = by (λ i rest l. whole fuel i rest l) (
     by again (fails kind start end is) = record { parts = []; rest = b ∷ src; source = refl; are_parts = tt; stops = inr (kind, start, end, is) }
 
 module _ (from text : List ℕ) where
-  pub tokens_or_breach : ((tokens : List Token) × Tokens from text tokens) ⊎ ((fault : Fault) × Breaks from text fault)
+  tokens_or_breach : ((tokens : List Token) × Tokens from text tokens) ⊎ ((fault : Fault) × Breaks from text fault)
   tokens_or_breach = by (whole (suc (length text)) false text (omega arith))
     where
       by : Whole false text → ((tokens : List Token) × Tokens from text tokens) ⊎ ((fault : Fault) × Breaks from text fault)
@@ -170,40 +171,43 @@ module _ (from text : List ℕ) where
   ok_no_err : (a : List Token) (b : Fault) → ok_tokens a ≡ err_fault b → ⊥
   ok_no_err a b e = cc
 
-  pub one_list : (tokens other : List Token) → Tokens from text tokens → Tokens from text other → tokens ≡ other
-  one_list tokens other h k = ok_same tokens other (one_reading (tokens_read from text tokens h) (tokens_read from text other k))
-
-  pub one_breach : (fault other : Fault) → Breaks from text fault → Breaks from text other → fault ≡ other
-  one_breach fault other h k = err_same fault other (one_reading (breach_read from text fault h) (breach_read from text other k))
-
-  pub not_both : (tokens : List Token) (fault : Fault) → Tokens from text tokens → Breaks from text fault → ⊥
-  not_both tokens fault h k = ok_no_err tokens fault (one_reading (tokens_read from text tokens h) (breach_read from text fault k))
-
   -- what is read is in the grammar
-  pub read_tokens : (tokens : List Token) → Reads from false 0 text (Ok tokens) → Tokens from text tokens
+  read_tokens : (tokens : List Token) → Reads from false 0 text (Ok tokens) → Tokens from text tokens
   read_tokens tokens h = by tokens_or_breach
     where
       by : ((other : List Token) × Tokens from text other) ⊎ ((fault : Fault) × Breaks from text fault) → Tokens from text tokens
       by (inl (other, t)) = subst (Tokens from text) (ok_same other tokens (one_reading (tokens_read from text other t) h)) t
       by (inr (fault, b)) = absurd (ok_no_err tokens fault (one_reading h (breach_read from text fault b)))
 
-  pub read_breach : (fault : Fault) → Reads from false 0 text (Err fault) → Breaks from text fault
+  read_breach : (fault : Fault) → Reads from false 0 text (Err fault) → Breaks from text fault
   read_breach fault h = by tokens_or_breach
     where
       by : ((tokens : List Token) × Tokens from text tokens) ⊎ ((other : Fault) × Breaks from text other) → Breaks from text fault
       by (inl (tokens, t)) = absurd (ok_no_err tokens fault (one_reading (tokens_read from text tokens t) h))
       by (inr (other, b)) = subst (Breaks from text) (err_same other fault (one_reading (breach_read from text other b) h)) b
 
-  -- ---- the clauses of `lex`
+  -- each text is read, and its reading decides
+  pub reading : (answer : Answer) × Reads from false 0 text answer
+  reading = by tokens_or_breach
+    where
+      by : ((tokens : List Token) × Tokens from text tokens) ⊎ ((fault : Fault) × Breaks from text fault) → (answer : Answer) × Reads from false 0 text answer
+      by (inl (tokens, t)) = (Ok tokens, tokens_read from text tokens t)
+      by (inr (fault, b)) = (Err fault, breach_read from text fault b)
 
-  pub refusal_breach : (refusal : Refusal) → IfAt refusal (λ fault. Reads from false 0 text (Err fault)) → IfAt refusal (Breaks from text)
-  refusal_breach Memory h = tt
-  refusal_breach (At kind span) h = read_breach (record { kind = kind; span = span }) h
+  decided : (answer : Answer) → Reads from false 0 text answer → Decides (Tokens from text) (Breaks from text) answer
+  decided answer h = record {
+    stands = λ tokens e. read_tokens tokens (subst (Reads from false 0 text) e h);
+    read = λ tokens t. one_reading h (tokens_read from text tokens t);
+    breaks = λ fault e. read_breach fault (subst (Reads from false 0 text) e h);
+    told = λ fault b. one_reading h (breach_read from text fault b);
+  }
 
-  pub found_tokens : (r : Result (List Token) Refusal) → IfOk r (λ tokens. Reads from false 0 text (Ok tokens)) → IfOk r (Tokens from text)
-  found_tokens (Ok tokens) h = read_tokens tokens h
-  found_tokens (Err refusal) h = tt
+  pub decides : Decides (Tokens from text) (Breaks from text) reading.0
+  decides = decided reading.0 reading.1
 
-  pub refused_breach : (r : Result (List Token) Refusal) → IfErr r (λ refusal. IfAt refusal (λ fault. Reads from false 0 text (Err fault))) → IfErr r (λ refusal. IfAt refusal (Breaks from text))
-  refused_breach (Ok tokens) h = tt
-  refused_breach (Err refusal) h = refusal_breach refusal h
+  pub one_answer : OneAnswer (Tokens from text) (Breaks from text)
+  one_answer = Rattle.lf_base.proofs.Answering.one_answer (Tokens from text) (Breaks from text) reading.0 decides
+
+  -- so what the loop answers is what the reading says
+  pub gives : (r : Result (List Token) Refusal) → IfOk r (λ tokens. Reads from false 0 text (Ok tokens)) → Refused (λ fault. Reads from false 0 text (Err fault)) r → Answers r reading.0
+  gives r found refused = answers_all from text r found refused reading.0 reading.1

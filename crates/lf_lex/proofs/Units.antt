@@ -6,7 +6,7 @@ use Rattle.std.proofs.lemmas.Bool.Decides.{nat_tests}
 use Rattle.std.proofs.lemmas.List.Sums.{prefix_len-drop_no, prefix_len-drop_all, prefix_len_stops}
 use Rattle.std.specs.List.{prefix_len}
 use Rattle.std.specs.Option.{option_map_or}
-use Rattle.lf_lex.specs.Bytes.{is_digit}
+use Rattle.lf_base.specs.Names.{is_digit}
 use Rattle.lf_lex.specs.reading.Runs.{place_of_letter, one_letter, unit_at, before, with_unit, units, rise, duration_order}
 
 -- digits of a part are passed

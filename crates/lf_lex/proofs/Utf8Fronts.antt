@@ -1,12 +1,12 @@
 -- The longest part of a value that is UTF-8.
 use Rattle.std.proofs.Common.{◌≡◌, ℕ, zero, suc, ◌+◌, ◌-◌, ◌<◌, ◌≤◌, Bool, true, false, cond, List, [], ◌∷◌, ◌++◌, length, take, drop, refl, ap, arith, append_assoc, append-nil, sym, ◌∙◌, subst, ◌⊎◌, inl, inr, length-append, length-take-le, take-append-drop}
 use Rattle.std.proofs.lemmas.Bool.{cases_lt, false≢true}
-use Rattle.std.proofs.lemmas.List.{take-append-le, take_all}
+use Rattle.std.proofs.lemmas.List.{take-append-le, take_all, take_at}
 use Rattle.std.proofs.lemmas.Str.{IsUtf8-nil, IsUtf8-from_is_utf8, is_utf8-from_IsUtf8, utf8_valid_len_le, utf8_valid_len-IsValidUpTo}
 use Rattle.std.specs.Str.{IsUtf8, is_utf8, IsValidUpTo}
 use Rattle.std.specs.Str.Lossy.{utf8_valid_len, valid_len_up_to}
 use Rattle.lf_lex.specs.Parts.{IsLongest}
-use Rattle.lf_lex.proofs.Longest.{Greatest, take_same}
+use Rattle.lf_lex.proofs.Longest.{Greatest, take_on}
 use Rattle.lf_lex.proofs.PieceLaws.{utf8_bytes, later_bytes}
 
 -- ---- the length of the longest front
@@ -39,7 +39,7 @@ utf8_greatest bs = record {
   bound = λ text left e h.
       let l = ap length e in
       let m = length-append text left in
-      up_bound bs (length bs) (length text) (omega arith) (subst IsUtf8 (sym (ap (take (length text)) e ∙ take_same (length text) text left refl)) h);
+      up_bound bs (length bs) (length text) (omega arith) (subst IsUtf8 (sym (ap (take (length text)) e ∙ take_at text left (length text) refl)) h);
 }
 
 -- ---- where a value ceases to be UTF-8
@@ -48,10 +48,6 @@ utf8_greatest bs = record {
 pub data Tail (tail : List ℕ) : Type 0 where
   no_tail : tail ≡ [] → Tail tail
   wrong_tail : (more : List ℕ) → tail ≡ 255 ∷ more → Tail tail
-
-take_on : (xs ys : List ℕ) (k n : ℕ) → n ≡ length xs + k → take n (xs ++ ys) ≡ xs ++ take k ys
-take_on [] ys k n e = ap (λ (m : ℕ). take m ys) (e ∙ omega arith)
-take_on (x ∷ xs) ys k n e = let f : n ≡ suc (length xs + k) = e ∙ omega arith in ap (λ (m : ℕ). take m (x ∷ (xs ++ ys))) f ∙ ap (λ (zs : List ℕ). x ∷ zs) (take_on xs ys k (length xs + k) refl)
 
 no_255 : (xs more : List ℕ) → IsUtf8 (xs ++ 255 ∷ more) → ⊥
 no_255 xs more u = let a = later_bytes xs (255 ∷ more) (utf8_bytes (xs ++ 255 ∷ more) u) in let c : 255 < 255 = a.0 in omega arith
@@ -81,7 +77,7 @@ module _ (good rest tail : List ℕ) (longest : IsLongest IsUtf8 good rest) (is_
       let m = length-append rest tail in
       record {
         short = omega arith;
-        front = subst IsUtf8 (sym (take_same (length good) good (rest ++ tail) refl)) longest.0;
+        front = subst IsUtf8 (sym (take_at good (rest ++ tail) (length good) refl)) longest.0;
         longest = λ m lt u. past m (m - length good) (omega arith) (omega arith) (sides (m - length good)) u;
       }
     where

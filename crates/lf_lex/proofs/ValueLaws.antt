@@ -1,7 +1,7 @@
 -- What a string stands for, piece by piece.
 use Rattle.std.proofs.Common.{◌≡◌, ◌≢◌, ℕ, zero, suc, Bool, true, false, cond, eqb, List, [], ◌∷◌, ◌++◌, map, drop, Option, Some, None, length, refl, ap, sym, ◌∙◌}
 use Rattle.std.proofs.lemmas.Bool.{ne_eqb}
-use Rattle.lf_lex.specs.Bytes.{is_digit}
+use Rattle.lf_base.specs.Names.{is_digit}
 use Rattle.lf_lex.specs.Strings.{Piece, Bare, Escape, piece_text, meant}
 use Rattle.lf_lex.specs.reading.Strings.{both, two_digits, four_digits, eight_digits, octal_byte, as_byte, as_character, escape, piece, given, gives, bytes_of}
 use Rattle.lf_lex.specs.Strings.{byte_of_letter}

@@ -3,7 +3,8 @@ use Rattle.std.proofs.Common.{◌≡◌, ℕ, ◌<◌, ◌≤◌, ◌↔◌, Boo
 use Rattle.std.proofs.lemmas.Bool.{false≢true}
 use Rattle.std.proofs.lemmas.List.Concat.{flat_map-cons}
 use Rattle.std.specs.List.{flat_map, AllByRecursion}
-use Rattle.lf_lex.specs.Bytes.{are_some, is_digit}
+use Rattle.lf_lex.specs.Bytes.{are_some}
+use Rattle.lf_base.specs.Names.{is_digit}
 use Rattle.lf_lex.specs.Durations.{letters, Amount, amount_text, IsDuration}
 use Rattle.lf_lex.specs.reading.Runs.{duration_order}
 use Rattle.lf_lex.proofs.DurationLaws.{ordered, only_ordered}

@@ -1,10 +1,11 @@
 -- Words and characters, as rows.
 use Rattle.std.proofs.Common.{◌≡◌, ℕ, suc, ◌+◌, ◌≤◌, Bool, true, false, List, [], ◌∷◌, ◌++◌, length, take, refl, ap, arith, sym, subst}
+use Rattle.std.proofs.lemmas.List.Sums.{prefix_len-le-length}
 use Rattle.std.specs.List.{prefix_len, list_all}
 use Rattle.lf_lex.specs.Bytes.{begins_word, is_in_word, is_continuation}
 use Rattle.lf_lex.specs.Parts.{IsWord}
 use Rattle.lf_lex.specs.Breaches.{IsCharacter}
-use Rattle.lf_lex.proofs.Longest.{Greatest, row_all, row_le, row_bound}
+use Rattle.lf_lex.proofs.Longest.{Greatest, row_all, row_bound}
 
 pub begins_in_word : (inside : Bool) (b : ℕ) → begins_word inside b ≡ true → is_in_word inside b ≡ true
 unfolding is_in_word
@@ -25,7 +26,7 @@ pub word_greatest : (inside : Bool) (b : ℕ) (src : List ℕ) → begins_word i
 word_greatest inside b src h =
     let e : prefix_len (is_in_word inside) (b ∷ src) ≡ suc (prefix_len (is_in_word inside) src) = rw (begins_in_word inside b h) (omega arith) in
     record {
-      within = row_le (is_in_word inside) (b ∷ src);
+      within = prefix_len-le-length (is_in_word inside) (b ∷ src);
       is = subst (λ (n : ℕ). IsWord inside (take n (b ∷ src))) (sym e) (h, row_all (is_in_word inside) src);
       bound = λ text left f w. row_bound (is_in_word inside) (b ∷ src) text left f (word_all inside text w);
     }
@@ -40,7 +41,7 @@ no_word inside b src (c ∷ text) left n e h = let f = head_of b src text left c
 pub character_greatest : (b : ℕ) (src : List ℕ) → Greatest IsCharacter (b ∷ src) (1 + prefix_len is_continuation src)
 character_greatest b src =
     let e : 1 + prefix_len is_continuation src ≡ suc (prefix_len is_continuation src) = omega arith in
-    let l = row_le is_continuation src in
+    let l = prefix_len-le-length is_continuation src in
     record {
       within = omega arith;
       is = subst (λ (n : ℕ). IsCharacter (take n (b ∷ src))) (sym e) (row_all is_continuation src);

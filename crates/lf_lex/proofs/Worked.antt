@@ -13,7 +13,8 @@ use Rattle.lf_lex.specs.declared.token.Sign.TheVariants as signs
 use Rattle.lf_lex.specs.declared.token.Token.{Token}
 use Rattle.lf_lex.specs.declared.token.TokenKind.{TokenKind}
 use Rattle.lf_lex.specs.declared.token.TokenKind.TheVariants as kinds
-use Rattle.lf_lex.specs.Bytes.{is_letter, is_digit, is_dot, is_hexadecimal, is_exponent, is_plus_minus, is_in_run, is_in_mantissa, is_blank, is_octal, begins_word, is_in_word, is_line_feed}
+use Rattle.lf_lex.specs.Bytes.{is_dot, is_exponent, is_plus_minus, is_in_run, is_in_mantissa, is_blank, is_octal, begins_word, is_in_word, is_line_feed}
+use Rattle.lf_base.specs.Names.{is_letter, is_digit, is_hexadecimal, begins_label}
 use Rattle.lf_lex.specs.Signs.{spelling}
 use Rattle.lf_lex.specs.Runs.{begins_run, IsRun, IsNumber, lower_x, no_dot, one_dot, no_exponent, unsigned_exponent, signed_exponent, hexadecimal_number, decimal_number}
 use Rattle.lf_lex.specs.Durations.{Hours, Minutes, Seconds, Amount, AreAmounts, IsDuration, IsDisordered}
@@ -69,7 +70,7 @@ duration text start end = at (kinds.Duration (codes text)) start end
 -- ---- foo[5m], ten bytes into its source
 
 foo_longest : IsLongest (IsWord false) (codes "foo") (codes "[5m]")
-unfolding is_in_word begins_word is_letter is_digit
+unfolding is_in_word begins_word begins_label is_letter is_digit
 foo_longest = word_ends false 102 (codes "oo[5m]") refl
 
 bracket_longest : IsLongest (IsSomeSign false) (codes "[") (codes "5m]")
@@ -103,7 +104,7 @@ unfolding sign_at sign_of_one sign_of_two
 open_first = sign_ends false (codes "[a:b]") signs.OpenBracket 1 refl (no_colon false signs.OpenBracket refl)
 
 a_inside : IsLongest (IsWord true) (codes "a") (codes ":b]")
-unfolding is_in_word begins_word is_letter is_digit
+unfolding is_in_word begins_word begins_label is_letter is_digit
 a_inside = word_ends true 97 (codes ":b]") refl
 
 colon_inside : IsLongest (IsSomeSign true) (codes ":") (codes "b]")
@@ -111,7 +112,7 @@ unfolding sign_at sign_of_one sign_of_two
 colon_inside = sign_ends true (codes ":b]") signs.Colon 1 refl (λ e. refl)
 
 b_inside : IsLongest (IsWord true) (codes "b") (codes "]")
-unfolding is_in_word begins_word is_letter is_digit
+unfolding is_in_word begins_word begins_label is_letter is_digit
 b_inside = word_ends true 98 (codes "]") refl
 
 in_brackets : Tokens (0 ∷ 1 ∷ 2 ∷ 3 ∷ 4 ∷ 5 ∷ []) (codes "[a:b]") (sign signs.OpenBracket 0 1 ∷ word "a" 1 2 ∷ sign signs.Colon 2 3 ∷ word "b" 3 4 ∷ sign signs.CloseBracket 4 5 ∷ [])
@@ -123,7 +124,7 @@ in_brackets = record {
 }
 
 a_b_longest : IsLongest (IsWord false) (codes "a:b") []
-unfolding is_in_word begins_word is_letter is_digit
+unfolding is_in_word begins_word begins_label is_letter is_digit
 a_b_longest = word_ends false 97 (codes ":b") refl
 
 outside_brackets : Tokens (0 ∷ 1 ∷ 2 ∷ 3 ∷ []) (codes "a:b") (word "a:b" 0 3 ∷ [])
@@ -137,7 +138,7 @@ outside_brackets = record {
 -- ---- a:b[5m:30s]
 
 a_b_range : IsLongest (IsWord false) (codes "a:b") (codes "[5m:30s]")
-unfolding is_in_word begins_word is_letter is_digit
+unfolding is_in_word begins_word begins_label is_letter is_digit
 a_b_range = word_ends false 97 (codes ":b[5m:30s]") refl
 
 range_opens : IsLongest (IsSomeSign false) (codes "[") (codes "5m:30s]")
@@ -269,7 +270,7 @@ a_unit_behind_an_exponent = record {
 -- ---- a=~b= c # d
 
 a_matches : IsLongest (IsWord false) (codes "a") (codes "=~b= c # d")
-unfolding is_in_word begins_word is_letter is_digit
+unfolding is_in_word begins_word begins_label is_letter is_digit
 a_matches = word_ends false 97 (codes "=~b= c # d") refl
 
 matches_longest : IsLongest (IsSomeSign false) (codes "=~") (codes "b= c # d")
@@ -277,7 +278,7 @@ unfolding sign_at sign_of_one sign_of_two
 matches_longest = sign_ends false (codes "=~b= c # d") signs.Matches 2 refl (no_colon false signs.Matches refl)
 
 b_longest : IsLongest (IsWord false) (codes "b") (codes "= c # d")
-unfolding is_in_word begins_word is_letter is_digit
+unfolding is_in_word begins_word begins_label is_letter is_digit
 b_longest = word_ends false 98 (codes "= c # d") refl
 
 is_longest : IsLongest (IsSomeSign false) (codes "=") (codes " c # d")
@@ -285,7 +286,7 @@ unfolding sign_at sign_of_one sign_of_two
 is_longest = sign_ends false (codes "= c # d") signs.Is 1 refl (no_colon false signs.Is refl)
 
 c_longest : IsLongest (IsWord false) (codes "c") (codes " # d")
-unfolding is_in_word begins_word is_letter is_digit
+unfolding is_in_word begins_word begins_label is_letter is_digit
 c_longest = word_ends false 99 (codes " # d") refl
 
 two_signs : Tokens (0 ∷ 1 ∷ 2 ∷ 3 ∷ 4 ∷ 5 ∷ 6 ∷ 7 ∷ 8 ∷ 9 ∷ 10 ∷ 11 ∷ []) (codes "a=~b= c # d") (word "a" 0 1 ∷ sign signs.Matches 1 3 ∷ word "b" 3 4 ∷ sign signs.Is 4 5 ∷ word "c" 6 7 ∷ [])
@@ -406,11 +407,11 @@ ill_formed_first = record {
 -- ---- a ! b: the sign of inequality without its second half begins nothing
 
 a_longest : IsLongest (IsWord false) (codes "a") (codes " !")
-unfolding is_in_word begins_word is_letter is_digit
+unfolding is_in_word begins_word begins_label is_letter is_digit
 a_longest = word_ends false 97 (codes " !") refl
 
 lone_mark : BeginsNothing false (codes "!") 1
-unfolding is_blank begins_word is_letter is_digit is_dot sign_at sign_of_one sign_of_two
+unfolding is_blank begins_word begins_label is_letter is_digit is_dot sign_at sign_of_one sign_of_two
 lone_mark = begins_nothing false 33 [] refl (eqb-false 33 35 refl) refl refl (eqb-false 33 34 refl) (eqb-false 33 39 refl) (eqb-false 33 96 refl) refl
 
 unknown_character : Breaks (0 ∷ 1 ∷ 2 ∷ 3 ∷ []) (codes "a !") (record { kind = BadByte; span = record { start = 2; end = 3 } })

@@ -1,6 +1,7 @@
--- The classes of bytes that tokens are made of. Letters and digits are those of ASCII.
+-- The classes of bytes that tokens are made of. Letters and digits are those of names.
 use Rattle.std.specs.Prelude.{◌≡◌, ℕ, List, [], ◌∷◌, Bool, true, false, not, ◌==◌, ◌||◌, ◌&&◌, nat_le}
 use Rattle.std.specs.List.{list_all}
+use Rattle.lf_base.specs.Names.{is_digit, is_letter, begins_label}
 
 -- Each byte is of a class.
 abbrev pub Each : (ℕ → Bool) → List ℕ → Type 0
@@ -28,21 +29,9 @@ is_no_line_feed b = not (is_line_feed b)
 abbrev pub is_no_back_quote : ℕ → Bool
 is_no_back_quote b = not (b == 96)
 
--- 0 to 9
-unfoldable pub is_digit : ℕ → Bool
-is_digit b = nat_le 48 b && nat_le b 57
-
 -- 0 to 7
 unfoldable pub is_octal : ℕ → Bool
 is_octal b = nat_le 48 b && nat_le b 55
-
--- A to Z and a to z
-unfoldable pub is_letter : ℕ → Bool
-is_letter b = (nat_le 65 b && nat_le b 90) || (nat_le 97 b && nat_le b 122)
-
--- a digit, A to F, a to f
-unfoldable pub is_hexadecimal : ℕ → Bool
-is_hexadecimal b = is_digit b || (nat_le 65 b && nat_le b 70) || (nat_le 97 b && nat_le b 102)
 
 -- a dot
 unfoldable pub is_dot : ℕ → Bool
@@ -56,9 +45,9 @@ is_exponent b = b == 101 || b == 69
 unfoldable pub is_plus_minus : ℕ → Bool
 is_plus_minus b = b == 43 || b == 45
 
--- A word begins with a letter, an underscore or, outside brackets, a colon.
+-- A word begins as a label name does or, outside brackets, with a colon.
 unfoldable pub begins_word : Bool → ℕ → Bool
-begins_word inside b = is_letter b || b == 95 || (b == 58 && not inside)
+begins_word inside b = begins_label b || (b == 58 && not inside)
 
 -- It goes on with these and with digits.
 unfoldable pub is_in_word : Bool → ℕ → Bool

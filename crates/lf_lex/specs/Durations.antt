@@ -1,7 +1,8 @@
 -- Durations.
 use Rattle.std.specs.Prelude.{◌≡◌, ℕ, ◌<◌, List, [], ◌∷◌, ◌++◌, map, length}
 use Rattle.std.specs.List.{flat_map, AllByRecursion}
-use Rattle.lf_lex.specs.Bytes.{AreSome, is_digit}
+use Rattle.lf_lex.specs.Bytes.{AreSome}
+use Rattle.lf_base.specs.Names.{is_digit}
 
 -- the units
 pub data Measure : Type 0 where

@@ -2,15 +2,14 @@
 ghost use Rattle.std.specs.Prelude.{◌≡◌, ◌⊎◌, ◌+◌, ℕ, List, slice_index};
 ghost use Rattle.std.specs.Str.{IsUtf8};
 ghost use Rattle.lf_base.specs.declared.kind.Kind.TheVariants.{BadEscape};
-ghost use Rattle.lf_lex.specs.Tokens.{Tokens, Breaks, Fault, in_source};
+ghost use Rattle.lf_base.specs.Answers.{OneAnswer};
+ghost use Rattle.lf_lex.specs.Tokens.{Tokens, Breaks, in_source};
+ghost use Rattle.lf_base.specs.declared.fault.Fault.{Fault};
 ghost use Rattle.lf_lex.specs.declared.token.Token.{Token};
 
 /// A text has one list of tokens or one breach, never two and never both.
 pub fn one_reading()
-    ensures tokens { (from text : List ℕ) (tokens other : List Token) → Tokens from text tokens → Tokens from text other → tokens ≡ other }
-    ensures breach { (from text : List ℕ) (fault other : Fault) → Breaks from text fault → Breaks from text other → fault ≡ other }
-    ensures one { (from text : List ℕ) (tokens : List Token) (fault : Fault) → Tokens from text tokens → Breaks from text fault → ⊥ }
-    ensures some { (from text : List ℕ) → ((tokens : List Token) × Tokens from text tokens) ⊎ ((fault : Fault) × Breaks from text fault) }
+    ensures { (from text : List ℕ) → OneAnswer (Tokens from text) (Breaks from text) }
 {}
 
 /// In a text that is UTF-8, `BadEscape` is told of a backslash, and of it alone.

@@ -1,11 +1,12 @@
 //! From a text to its tokens.
-ghost use Rattle.std.specs.Prelude.{◌≡◌, ◌+◌, ◌++◌, ◌≤◌, List, ℕ, length, false, Ok, Err, IfOk, IfErr, OnOk};
+ghost use Rattle.std.specs.Prelude.{◌≡◌, ◌+◌, ◌++◌, ◌≤◌, List, ℕ, length, slice_index, false, Ok, Err, IfOk, OnOk};
 ghost use Rattle.std.specs.List.Sorted.{IsNonDecreasing, IsNonDecreasingBy};
-ghost use Rattle.lf_lex.specs.Tokens.{Tokens, Breaks, Fault, Answers, IfAt};
+ghost use Rattle.lf_base.specs.Answers.{Found, Only, Refused, Breach, RefusedIn};
+ghost use Rattle.lf_lex.specs.Tokens.{Tokens, Breaks, LieIn};
 ghost use Rattle.lf_lex.specs.reading.Reads as reading;
 ghost use Rattle.lf_lex.specs.declared.token.Token.{Token};
 
-use crate::step::front;
+use crate::step::next_token;
 use crate::token::{Sign, Token, TokenKind};
 use lf_base::{Memory, Refusal, Seq, Span, Text};
 use std::alloc::Global;
@@ -48,13 +49,15 @@ pub fn lex(alloc: Global, text: &Text, from: &Seq<u32>) -> Result<Seq<Token>, Re
     requires from { length from.now ≡ length text.now + 1 }
     requires rises { IsNonDecreasing from.now }
     // What is answered are the text's tokens.
-    ensures found { IfOk result (Tokens from.now text.now) }
+    ensures found { Found (λ tokens. tokens) (Tokens from.now text.now) result }
     // They are answered, unless memory runs out; so no text has two lists of tokens.
-    ensures only { (tokens : List Token) → Tokens from.now text.now tokens → Answers result (Ok tokens) }
+    ensures only { Only (λ tokens. tokens) (Tokens from.now text.now) result }
     // What is refused is the breach of a text.
-    ensures refused { IfErr result (λ refusal. IfAt refusal (Breaks from.now text.now)) }
+    ensures refused { Refused (Breaks from.now text.now) result }
     // It is refused, unless memory runs out; so no text has two breaches, nor one and tokens.
-    ensures breach { (fault : Fault) → Breaks from.now text.now fault → Answers result (Err fault) }
+    ensures breach { Breach (λ tokens. tokens) (Breaks from.now text.now) result }
+    // Spans lie in the source: those of the tokens, and that of a refusal.
+    ensures spans { (n : ℕ) → slice_index from.now (length text.now) ≤ n → IfOk result (LieIn n) × RefusedIn n result }
     // Tokens stand in the order of the source.
     ensures ordered { IfOk result (λ tokens. IsNonDecreasingBy (λ token. token.span.start) tokens) }
 {
@@ -66,14 +69,14 @@ fn read(alloc: Global, text: &str, from: &[u32]) -> Result<Seq<Token>, Refusal>
     requires from { length from.now ≡ length text.now + 1 }
     requires rises { IsNonDecreasing from.now }
     ensures found { IfOk result (λ tokens. reading.Reads from.now false 0 text.now (Ok tokens)) }
-    ensures refused { IfErr result (λ refusal. IfAt refusal (λ fault. reading.Reads from.now false 0 text.now (Err fault))) }
+    ensures refused { Refused (λ fault. reading.Reads from.now false 0 text.now (Err fault)) result }
     ensures ordered { IfOk result (λ tokens. IsNonDecreasingBy (λ token. token.span.start) tokens) }
 {
     let mut tokens = Seq::new(alloc);
     let mut inside = false;
     let mut at = 0;
     while at < text.len() {
-        let (found, len) = front(alloc, text, from, inside, at)?;
+        let (found, len) = next_token(alloc, text, from, inside, at)?;
         inside = behind(&found, inside);
         let span = Span {
             start: from[at],

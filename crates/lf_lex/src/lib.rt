@@ -2,6 +2,7 @@
 #![tactic(auto)]
 
 mod bytes;
+mod class;
 mod duration;
 mod laws;
 mod lexing;

@@ -1,13 +1,14 @@
 //! Rows of digits and letters: numbers, durations, and what is neither.
 ghost use Rattle.std.specs.Prelude.{◌≡◌, ◌≤◌, ◌<◌, length, Option, Some, None, IfSome, true, count_by, ◌&&◌, nat_le};
 ghost use Rattle.std.specs.List.{list_all, list_any};
+ghost use Rattle.lf_base.specs.Names as names;
 ghost use Rattle.lf_lex.specs.Bytes as bytes;
 ghost use Rattle.lf_lex.specs.Runs.{begins_run};
 ghost use Rattle.lf_lex.specs.reading.Runs as runs;
 
-use crate::bytes::{
-    Class, after, before, is_digit, is_dot, is_exponent, is_hexadecimal, is_plus_minus, row_len,
-};
+use crate::bytes::{is_dot, is_exponent, is_plus_minus};
+use crate::class::{Class, after, before, prefix_len};
+use lf_base::names::{is_digit, is_hexadecimal};
 
 /// Whether a run begins here: a digit, or a dot before a digit.
 pub fn begins_run(rest: &[u8]) -> bool
@@ -38,17 +39,17 @@ pub fn run_len(rest: &[u8]) -> usize
     ensures value { result ≡ runs.run_len rest.now }
     ensures within { result ≤ length rest.now }
 {
-    let front = row_len(rest, Class::Mantissa);
+    let front = prefix_len(rest, Class::Mantissa);
     if begins_signed(after(rest, front)) {
-        front + 2 + row_len(after(rest, front + 2), Class::Run)
+        front + 2 + prefix_len(after(rest, front + 2), Class::Run)
     } else {
-        row_len(rest, Class::Run)
+        prefix_len(rest, Class::Run)
     }
 }
 
 /// Whether there is a byte, and each is a hexadecimal digit.
 fn are_hexadecimal(digits: &[u8]) -> bool
-    ensures { result ≡ bytes.are_some bytes.is_hexadecimal digits.now }
+    ensures { result ≡ bytes.are_some names.is_hexadecimal digits.now }
 {
     match digits {
         [] => false,
@@ -57,14 +58,14 @@ fn are_hexadecimal(digits: &[u8]) -> bool
 }
 
 fn all_hexadecimal(digits: &[u8]) -> bool
-    ensures { result ≡ list_all bytes.is_hexadecimal digits.now }
+    ensures { result ≡ list_all names.is_hexadecimal digits.now }
 {
     digits.iter().all(|byte| is_hexadecimal(*byte))
 }
 
 /// Whether there is a byte, and each is a digit.
 fn are_digits(digits: &[u8]) -> bool
-    ensures { result ≡ bytes.are_some bytes.is_digit digits.now }
+    ensures { result ≡ bytes.are_some names.is_digit digits.now }
 {
     match digits {
         [] => false,
@@ -73,7 +74,7 @@ fn are_digits(digits: &[u8]) -> bool
 }
 
 fn all_digits(digits: &[u8]) -> bool
-    ensures { result ≡ list_all bytes.is_digit digits.now }
+    ensures { result ≡ list_all names.is_digit digits.now }
 {
     digits.iter().all(|byte| is_digit(*byte))
 }
@@ -99,7 +100,7 @@ fn is_mantissa(front: &[u8]) -> bool
 }
 
 fn has_digit(front: &[u8]) -> bool
-    ensures { result ≡ list_any bytes.is_digit front.now }
+    ensures { result ≡ list_any names.is_digit front.now }
 {
     front.iter().any(|byte| is_digit(*byte))
 }
@@ -140,7 +141,7 @@ fn is_exponent_part(rest: &[u8]) -> bool
 fn is_decimal_number(run: &[u8]) -> bool
     ensures { result ≡ runs.is_decimal_number run.now }
 {
-    let front = row_len(run, Class::Mantissa);
+    let front = prefix_len(run, Class::Mantissa);
     is_mantissa(before(run, front)) && is_exponent_part(after(run, front))
 }
 
@@ -214,7 +215,7 @@ pub fn duration_order(run: &[u8]) -> Option<bool>
     let mut least = 0;
     let mut rest = run;
     while !rest.is_empty() {
-        let digits = row_len(rest, Class::Digit);
+        let digits = prefix_len(rest, Class::Digit);
         if digits == 0 {
             return None;
         }

@@ -4,10 +4,12 @@ ghost use Rattle.std.specs.Str.{IsCharBoundary};
 ghost use Rattle.lf_base.specs.declared.refusal.Refusal.TheVariants.{At};
 ghost use Rattle.lf_lex.specs.Bytes.{begins_word};
 ghost use Rattle.lf_lex.specs.Runs.{begins_run};
-ghost use Rattle.lf_lex.specs.Tokens.{Answers, in_source};
+ghost use Rattle.lf_lex.specs.Tokens.{in_source};
+ghost use Rattle.lf_base.specs.Answers.{Answers};
 ghost use Rattle.lf_lex.specs.reading.Steps as steps;
 
-use crate::bytes::{self, Class, after, before, row_len};
+use crate::bytes;
+use crate::class::{Class, after, before, prefix_len};
 use crate::run::{self, duration_order, is_number, run_len};
 use crate::sign::sign_at;
 use crate::string::{closing, place_of_byte, value_bytes};
@@ -60,7 +62,7 @@ fn word(
     ensures told { Answers result (steps.word_front inside (drop at text.now)) }
     ensures within { IfOk result (λ x. (0 < x.1) × (at + x.1 ≤ length text.now)) }
 {
-    let len = row_len(here(text, at), Class::Word { inside });
+    let len = prefix_len(here(text, at), Class::Word { inside });
     let text = part(alloc, text, at, len)?;
     Ok((Some(TokenKind::Word { text }), len))
 }
@@ -159,7 +161,7 @@ fn raw(
     ensures within { IfOk result (λ x. (0 < x.1) × (at + x.1 ≤ length text.now)) }
 {
     let rest = after(here(text, at), 1);
-    let len = row_len(rest, Class::NoBackQuote);
+    let len = prefix_len(rest, Class::NoBackQuote);
     if len < rest.len() {
         let text = part(alloc, text, at + 1, len)?;
         Ok((Some(TokenKind::Str { text }), len + 2))
@@ -180,7 +182,7 @@ fn sign(text: &str, from: &[u32], at: usize) -> Result<(Option<TokenKind>, usize
     match sign_at(rest) {
         Some((sign, len)) => Ok((Some(TokenKind::Sign { sign }), len)),
         None => {
-            let more = row_len(after(rest, 1), Class::Continuation);
+            let more = prefix_len(after(rest, 1), Class::Continuation);
             Err(breach(from, Kind::BadByte, at, at + 1 + more))
         }
     }
@@ -188,8 +190,8 @@ fn sign(text: &str, from: &[u32], at: usize) -> Result<(Option<TokenKind>, usize
 
 /// What stands at byte `at` of the text, and how many bytes it has: a token, or none for blanks and comments. `inside` says that the last bracket before it is
 /// open.
-#[tactic(auto, unfolding(crate::specs::reading::Steps::front_of, crate::specs::reading::Steps::comment_front))]
-pub fn front(
+#[tactic(auto, unfolding(crate::specs::reading::Steps::next_token, crate::specs::reading::Steps::comment_front))]
+pub fn next_token(
     alloc: Global,
     text: &str,
     from: &[u32],
@@ -198,7 +200,7 @@ pub fn front(
 ) -> Result<(Option<TokenKind>, usize), Refusal>
     requires within { at < length text.now }
     requires from { length from.now ≡ length text.now + 1 }
-    ensures told { Answers result (steps.front_of from.now inside at (drop at text.now)) }
+    ensures told { Answers result (steps.next_token from.now inside at (drop at text.now)) }
     ensures within { IfOk result (λ x. (0 < x.1) × (at + x.1 ≤ length text.now)) }
 {
     let rest = here(text, at);
@@ -206,7 +208,7 @@ pub fn front(
     if bytes::is_blank(first) {
         Ok((None, 1))
     } else if first == b'#' {
-        Ok((None, row_len(rest, Class::NoLineFeed)))
+        Ok((None, prefix_len(rest, Class::NoLineFeed)))
     } else if bytes::begins_word(inside, first) {
         word(alloc, text, inside, at)
     } else if run::begins_run(rest) {

@@ -4,8 +4,10 @@ ghost use Rattle.lf_lex.specs.Strings.{byte_of_letter, hexadecimal_value};
 ghost use Rattle.lf_lex.specs.reading.Strings as strings;
 ghost use Rattle.lf_lex.specs.reading.Escapes.{told_of, given_by};
 
-use crate::bytes::{after, is_digit, is_octal};
+use crate::bytes::is_octal;
+use crate::class::after;
 use lf_base::Memory;
+use lf_base::names::is_digit;
 use std::alloc::Global;
 
 /// How many bytes stand before the quote that closes, where one does on the line.

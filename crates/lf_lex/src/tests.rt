@@ -1,83 +1,12 @@
-//! What no contract says: that calls succeed, and how tokens look that the project's words give.
+//! What no contract says: that calls succeed. Each sort of token and of refusal stands among the cases of the repository's own tests.
 ghost use Rattle.std.specs.Prelude.{◌≡◌, IsTrue};
 ghost use Rattle.std.specs.List.Sorted.{IsNonDecreasing};
 
-use crate::{Sign, Token, TokenKind, lex};
-use lf_base::{Memory, Refusal, Seq, Text};
-use std::alloc::{AllocError, Global};
+use crate::{Token, TokenKind, is_duration, lex};
+use lf_base::{Kind, Memory, Refusal, Seq, Span, Text};
+use std::alloc::Global;
 use std::process::Abort;
 use std::test::Fail;
-
-mod breaches;
-mod read;
-
-/// A sign as it is written.
-fn spelling(sign: Sign) -> &'static str {
-    match sign {
-        Sign::OpenParen => "(",
-        Sign::CloseParen => ")",
-        Sign::OpenBrace => "{",
-        Sign::CloseBrace => "}",
-        Sign::OpenBracket => "[",
-        Sign::CloseBracket => "]",
-        Sign::Comma => ",",
-        Sign::Colon => ":",
-        Sign::Plus => "+",
-        Sign::Minus => "-",
-        Sign::Times => "*",
-        Sign::Over => "/",
-        Sign::Modulo => "%",
-        Sign::Power => "^",
-        Sign::Equal => "==",
-        Sign::NotEqual => "!=",
-        Sign::LessOrEqual => "<=",
-        Sign::Less => "<",
-        Sign::GreaterOrEqual => ">=",
-        Sign::Greater => ">",
-        Sign::Is => "=",
-        Sign::Matches => "=~",
-        Sign::MatchesNot => "!~",
-        Sign::At => "@",
-    }
-}
-
-/// A token in words, as `number 5. at 3 to 5`.
-fn shown(alloc: Global, token: &Token) -> Result<String, AllocError> {
-    let (kind, text) = match &token.kind {
-        TokenKind::Word { text } => ("word", text.as_str()),
-        TokenKind::Number { text } => ("number", text.as_str()),
-        TokenKind::Duration { text } => ("duration", text.as_str()),
-        TokenKind::Str { text } => ("string", text.as_str()),
-        TokenKind::Sign { sign } => ("sign", spelling(*sign)),
-    };
-    let start = token.span.start;
-    let end = token.span.end;
-    format!(in alloc; "{kind} {text} at {start} to {end}; ")
-}
-
-/// What a text is read as, in words.
-fn told(alloc: Global, answer: &Result<Seq<Token>, Refusal>) -> Result<String, AllocError> {
-    let mut all = String::new(alloc);
-    match answer {
-        Ok(tokens) => {
-            for token in tokens.as_slice() {
-                let each = shown(alloc, token)?;
-                all.push_str(each.as_str())?;
-            }
-        }
-        Err(Refusal::At { kind, span }) => {
-            let name = kind.name();
-            let start = span.start;
-            let end = span.end;
-            let refusal = format!(in alloc; "{name} at {start} to {end}")?;
-            all.push_str(refusal.as_str())?;
-        }
-        Err(Refusal::Memory) => {
-            all.push_str("no memory")?;
-        }
-    }
-    Ok(all)
-}
 
 /// Whether no number is below the one before it.
 fn rises(from: &[u32]) -> bool
@@ -91,37 +20,53 @@ fn rises(from: &[u32]) -> bool
     true
 }
 
-/// The offsets of a text that stands in its source as it is.
-fn plain(alloc: Global, len: usize) -> Result<Seq<u32>, Memory> {
-    let mut from = Seq::new(alloc);
-    let mut offset: u32 = 0;
-    for _ in 0..len {
-        from.push(offset)?;
-        offset = offset.saturating_add(1);
-    }
-    from.push(offset)?;
-    Ok(from)
-}
-
-/// A text with these offsets in its source is read as the words say.
-fn reads(
+/// The tokens of a text whose bytes stand at these offsets.
+fn read(
     rt: &impl Abort,
     alloc: Global,
     text: &str,
-    from: &Seq<u32>,
-    wanted: &str,
-) -> Result<(), Fail> {
+    from: &[u32],
+) -> Result<Result<Seq<Token>, Refusal>, Memory> {
     let text = Text::of(alloc, text)?;
+    let from = Seq::of(alloc, from)?;
     assert_eq!(rt; from.len(), text.len().saturating_add(1));
     assert!(rt; rises(from.as_slice()));
-    let answer = lex(alloc, &text, from);
-    let words = told(alloc, &answer)?;
-    assert_eq!(rt; words.as_str(), wanted);
+    Ok(lex(alloc, &text, &from))
+}
+
+/// The source has more than the text between the two words, as where YAML folds lines.
+#[test]
+fn tokens(rt: HostRuntime) -> Result<(), Fail> {
+    match read(&rt, rt.alloc(), "ab cd", &[10, 11, 12, 17, 18, 19])? {
+        Ok(tokens) => {
+            assert_eq!(rt; tokens.len(), 2);
+            let word = tokens.get(1);
+            assert_eq!(rt; word.span, Span { start: 17, end: 19 });
+            match &word.kind {
+                TokenKind::Word { text } => assert_eq!(rt; text.as_str(), "cd"),
+                _ => assert!(rt; false, "no word"),
+            }
+        }
+        Err(_) => assert!(rt; false, "refused"),
+    }
     Ok(())
 }
 
-/// The same of a text that stands in its source as it is.
-fn reads_plain(rt: &impl Abort, alloc: Global, text: &str, wanted: &str) -> Result<(), Fail> {
-    let from = plain(alloc, text.len())?;
-    reads(rt, alloc, text, &from, wanted)
+#[test]
+fn refusals(rt: HostRuntime) -> Result<(), Fail> {
+    match read(&rt, rt.alloc(), "a \"b", &[3, 4, 5, 6, 7])? {
+        Ok(_) => assert!(rt; false, "read"),
+        Err(refusal) => {
+            let span = Span { start: 5, end: 6 };
+            let kind = Kind::OpenString;
+            assert_eq!(rt; refusal, Refusal::At { kind, span });
+        }
+    }
+    Ok(())
+}
+
+#[test]
+fn durations(rt: HostRuntime) {
+    assert!(rt; is_duration(b"1h30m"));
+    assert!(rt; !is_duration(b"30m1h"));
 }

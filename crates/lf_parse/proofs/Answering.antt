@@ -1,6 +1,7 @@
 -- What the machine's answer says of the tokens.
 use Rattle.std.proofs.Common.{◌≡◌, ℕ, zero, suc, ◌+◌, ◌≤◌, ◌<◌, ◌⊎◌, inl, inr, List, [], ◌∷◌, ◌++◌, length, take, drop, get_or, map, Option, Some, None, MatchOption, Result, Ok, Err, IfOk, IfErr, refl, sym, ◌∙◌, ap, subst, append_assoc, add-one, arith}
 use Rattle.std.proofs.lemmas.List.{append-nil, at_drop_more, at_drop_all}
+use Rattle.std.specs.List.Sorted.{IsNonDecreasingBy}
 use Rattle.std.specs.Option.{option_and_then}
 use Rattle.std.proofs.Math.Seq.{take-length}
 use Rattle.lf_base.specs.declared.kind.Kind.TheVariants.{TooDeep, Syntax}
@@ -8,16 +9,22 @@ use Rattle.lf_base.specs.declared.refusal.Refusal.{Refusal}
 use Rattle.lf_base.specs.declared.refusal.Refusal.TheVariants.{At, Memory}
 use Rattle.lf_ast.specs.declared.expr.Expr.{Expr}
 use Rattle.lf_lex.specs.declared.token.Token.{Token}
-use Rattle.lf_lex.specs.Tokens.{Fault}
-use Rattle.lf_lex.specs.Tokens.{IfAt}
+use Rattle.lf_lex.specs.Tokens.{LieIn}
+use Rattle.lf_base.specs.declared.fault.Fault.{Fault}
+use Rattle.lf_base.specs.Answers.{Breach, Decides, Found, Gives, OneAnswer, Only, Refused, RefusedIn}
+use Rattle.lf_base.specs.Faults.{fault}
+use Rattle.lf_base.proofs.Answering.{breach, found, one_answer, only, refused, refused_in}
+use Rattle.lf_ast.specs.Inside.{Inside}
 use Rattle.lf_parse.specs.Tokens.{Tok, shown}
-use Rattle.lf_parse.specs.Tree.{Tree, tree}
+use Rattle.lf_ast.specs.Tree.{Tree, tree}
 use Rattle.lf_parse.specs.Grammar.{Parses, IsViable}
 use Rattle.lf_parse.specs.Machine.{State, step, finish, start, run, accept, at_end, reading_from, reading}
 use Rattle.lf_parse.specs.Depth.{TooDeepAt, IsBounded}
-use Rattle.lf_parse.specs.Answer.{IsExpression, SyntaxAt, place, fault, Refuses, too_deep, syntax, Gives}
+use Rattle.lf_parse.specs.Answer.{IsExpression, SyntaxAt, place, Refuses, too_deep, syntax}
 use Rattle.lf_parse.specs.Reading.{placed, answer}
 use Rattle.lf_parse.proofs.Complete.{complete}
+use Rattle.lf_parse.proofs.Nestings.{deep_or_bounded}
+use Rattle.lf_parse.proofs.SpansInside.{refusal_lies, tree_inside}
 use Rattle.lf_parse.proofs.Sound.{sound}
 use Rattle.lf_parse.proofs.Prefix.{viable_run, stuck_run}
 
@@ -182,34 +189,48 @@ only_right ts end (Ok e) (Err f) a b = absurd (never_both ts end e f a b)
 only_right ts end (Err f) (Ok e) a b = absurd (never_both ts end e f b a)
 only_right ts end (Err f) (Err g) a b = ap Err (one_fault ts end f g a b)
 
-module _ (ts : List Token) (end : ℕ) (r : Result Expr Refusal) (read : Result Tree Fault) (right : IsRight ts end read) (given : Gives r read) where
-  pub gives_right : (s : Result Tree Fault) → IsRight ts end s → Gives r s
-  gives_right s h = subst (Gives r) (only_right ts end read s right h) given
+-- so a right answer decides
+decides : (ts : List Token) (end : ℕ) (read : Result Tree Fault) → IsRight ts end read → Decides (IsExpression ts) (Refuses ts end) read
+decides ts end read right = record {
+  stands = λ e is. subst (IsRight ts end) is right;
+  read = λ e stands. only_right ts end read (Ok e) right stands;
+  breaks = λ f is. subst (IsRight ts end) is right;
+  told = λ f breaks. only_right ts end read (Err f) right breaks;
+}
 
-right_given : (ts : List Token) (end : ℕ) (r : Result Expr Refusal) (read : Result Tree Fault) → IsRight ts end read → Gives r read → IfOk r (λ e. IsExpression ts (tree e)) × IfErr r (λ refusal. IfAt refusal (Refuses ts end))
-right_given ts end (Ok e) read h g = (subst (IsRight ts end) g h, tt)
-right_given ts end (Err Memory) read h g = (tt, tt)
-right_given ts end (Err (At kind p)) read h g = (tt, subst (IsRight ts end) g h)
+-- there is one for all tokens
+right : (ts : List Token) (end : ℕ) → (read : Result Tree Fault) × IsRight ts end read
+right ts end = elim (deep_or_bounded ts) [ inl deep ↦ (Err (fault TooDeep (place ts end deep.0)), too_deep deep.0 deep.1) | inr bounded ↦ (answer ts end, right_read ts end (read ts) refl bounded) ]
 
--- the four clauses of an answer
-pub record Answers (ts : List Token) (end : ℕ) (r : Result Expr Refusal) : Type 0 where
-  pub found : IfOk r (λ e. IsExpression ts (tree e))
-  pub only : (e : Tree) → IsExpression ts e → Gives r (Ok e)
-  pub refused : IfErr r (λ refusal. IfAt refusal (Refuses ts end))
-  pub breach : (f : Fault) → Refuses ts end f → Gives r (Err f)
+pub one_reading : (ts : List Token) (end : ℕ) → OneAnswer (IsExpression ts) (Refuses ts end)
+one_reading ts end = let y = right ts end in one_answer (IsExpression ts) (Refuses ts end) y.0 (decides ts end y.0 y.1)
 
-answers : (ts : List Token) (end : ℕ) (r : Result Expr Refusal) (read : Result Tree Fault) → IsRight ts end read → Gives r read → Answers ts end r
-answers ts end r read h g =
-    let y = right_given ts end r read h g in
+-- the clauses of the parser
+pub record Clauses (ts : List Token) (end : ℕ) (r : Result Expr Refusal) : Type 0 where
+  pub found : Found tree (IsExpression ts) r
+  pub only : Only tree (IsExpression ts) r
+  pub refused : Refused (Refuses ts end) r
+  pub breach : Breach tree (Refuses ts end) r
+  pub inside : (n : ℕ) → LieIn n ts → IsNonDecreasingBy (λ t. t.span.start) ts → IfOk r (λ e. Inside n (tree e))
+  pub refused_inside : (n : ℕ) → LieIn n ts → end ≤ n → RefusedIn n r
+
+inside_given : (ts : List Token) (n : ℕ) → LieIn n ts → IsNonDecreasingBy (λ t. t.span.start) ts → (r : Result Expr Refusal) → Found tree (IsExpression ts) r → IfOk r (λ e. Inside n (tree e))
+inside_given ts n lie order (Ok e) h = tree_inside n ts (tree e) lie order h.1
+inside_given ts n lie order (Err refusal) h = tt
+
+clauses : (ts : List Token) (end : ℕ) (r : Result Expr Refusal) (read : Result Tree Fault) → IsRight ts end read → Gives tree r read → Clauses ts end r
+clauses ts end r read right given =
+    let d = decides ts end read right in
+    let stands = found tree (IsExpression ts) (Refuses ts end) read d r given in
+    let told = refused tree (IsExpression ts) (Refuses ts end) read d r given in
     record {
-      found = y.0;
-      only = λ e d. gives_right ts end r read h g (Ok e) d;
-      refused = y.1;
-      breach = λ f d. gives_right ts end r read h g (Err f) d;
+      found = stands;
+      only = only tree (IsExpression ts) (Refuses ts end) read d r given;
+      refused = told;
+      breach = breach tree (IsExpression ts) (Refuses ts end) read d r given;
+      inside = λ n lie order. inside_given ts n lie order r stands;
+      refused_inside = λ n lie within. refused_in n (Refuses ts end) (refusal_lies n ts end lie within) r told;
     }
-
-pub answers_read : (ts : List Token) (end : ℕ) (r : Result Expr Refusal) → IsBounded ts → Gives r (answer ts end) → Answers ts end r
-answers_read ts end r b g = answers ts end r (placed ts end (read ts)) (right_read ts end (read ts) refl b) g
 
 -- ---- the loop over the tokens
 
@@ -239,20 +260,20 @@ reads_step ts k t s o h i r e =
 pub reads_more : (ts : List Token) (k : ℕ) (t : Token) (s s' : State) → k < length ts → t ≡ get_or ts k t → ReadsFrom ts k s → Some s' ≡ step s (shown t) → ReadsFrom ts (k + 1) s'
 reads_more ts k t s s' h i r e = reads_step ts k t s (Some s') h i r e
 
-pub answer_stuck : (ts : List Token) (end k : ℕ) (t : Token) (s : State) → k < length ts → t ≡ get_or ts k t → ReadsFrom ts k s → None ≡ step s (shown t) → Err (fault Syntax t.span) ≡ answer ts end
+pub answer_stuck : (ts : List Token) (end k : ℕ) (t : Token) (s : State) → k < length ts → t ≡ get_or ts k t → ReadsFrom ts k s → None ≡ step s (shown t) → answer ts end ≡ Err (fault Syntax t.span)
 answer_stuck ts end k t s h i r e =
     let here = ap (placed ts end) (reads_step ts k t s None h i r e) in
     let same = ap (λ (x : Token). x.span) i ∙ sym (place_at ts end k t h) in
-    ap (λ p. Err (fault Syntax p)) same ∙ here
+    sym (ap (λ p. Err (fault Syntax p)) same ∙ here)
 
 reads_end : (ts : List Token) (k : ℕ) (s : State) (o : Option Tree) → length ts ≤ k → ReadsFrom ts k s → o ≡ finish s → at_end k o ≡ reading (map shown ts)
 reads_end ts k s o h r e = ap (at_end k) e ∙ sym (at_drop_all (λ l. reading_from k s (map shown l)) ts k h) ∙ r
 
-pub answer_found : (ts : List Token) (end k : ℕ) (s : State) (e : Tree) → length ts ≤ k → ReadsFrom ts k s → Some e ≡ finish s → Ok e ≡ answer ts end
-answer_found ts end k s e h r i = ap (placed ts end) (reads_end ts k s (Some e) h r i)
+pub answer_found : (ts : List Token) (end k : ℕ) (s : State) (e : Tree) → length ts ≤ k → ReadsFrom ts k s → Some e ≡ finish s → answer ts end ≡ Ok e
+answer_found ts end k s e h r i = sym (ap (placed ts end) (reads_end ts k s (Some e) h r i))
 
-pub answer_end : (ts : List Token) (end k : ℕ) (s : State) → length ts ≤ k → ReadsFrom ts k s → None ≡ finish s → Err (fault Syntax (record { start = end; end = end })) ≡ answer ts end
-answer_end ts end k s h r i = ap (λ p. Err (fault Syntax p)) (sym (place_end ts end k h)) ∙ ap (placed ts end) (reads_end ts k s None h r i)
+pub answer_end : (ts : List Token) (end k : ℕ) (s : State) → length ts ≤ k → ReadsFrom ts k s → None ≡ finish s → answer ts end ≡ Err (fault Syntax (record { start = end; end = end }))
+answer_end ts end k s h r i = sym (ap (λ p. Err (fault Syntax p)) (sym (place_end ts end k h)) ∙ ap (placed ts end) (reads_end ts k s None h r i))
 
 -- ---- the two answers of the parser
 
@@ -261,15 +282,13 @@ module _ (ts us : List Token) (end : ℕ) (same : us ≡ ts) where
   deep_refuses : (k : ℕ) (t : Token) → TooDeepAt us k → Refuses us end (fault TooDeep (get_or us k t).span)
   deep_refuses k t a = subst (λ p. Refuses us end (fault TooDeep p)) (place_at us end k t a.within) (too_deep k a)
 
-  pub deep_refused : (o : Option ℕ) (k : ℕ) (t : Token) → o ≡ Some k → MatchOption o (IsBounded us) (TooDeepAt us) → Refuses ts end (fault TooDeep (get_or us k t).span)
-  deep_refused o k t e a =
+  pub clauses_deep : (o : Option ℕ) (k : ℕ) (t : Token) → o ≡ Some k → MatchOption o (IsBounded us) (TooDeepAt us) → Clauses ts end (Err (At TooDeep (get_or us k t).span))
+  clauses_deep o k t e a =
       let deep = subst (λ (x : Option ℕ). MatchOption x (IsBounded us) (TooDeepAt us)) e a in
-      subst (λ (xs : List Token). Refuses xs end (fault TooDeep (get_or us k t).span)) same (deep_refuses k t deep)
+      let f = fault TooDeep (get_or us k t).span in
+      subst (λ (xs : List Token). Clauses xs end (Err (At TooDeep (get_or us k t).span))) same (clauses us end (Err (At TooDeep (get_or us k t).span)) (Err f) (deep_refuses k t deep) refl)
 
-  pub deep_breach : (o : Option ℕ) (k : ℕ) (t : Token) → o ≡ Some k → MatchOption o (IsBounded us) (TooDeepAt us) → (f : Fault) → Refuses ts end f → f ≡ fault TooDeep (get_or us k t).span
-  deep_breach o k t e a f b = one_fault ts end f (fault TooDeep (get_or us k t).span) b (deep_refused o k t e a)
-
-  pub answers_within : (r : Result Expr Refusal) (o : Option ℕ) → o ≡ None → MatchOption o (IsBounded us) (TooDeepAt us) → Gives r (answer us end) → Answers ts end r
-  answers_within r o e a g =
+  pub clauses_read : (r : Result Expr Refusal) (o : Option ℕ) → o ≡ None → MatchOption o (IsBounded us) (TooDeepAt us) → Gives tree r (answer us end) → Clauses ts end r
+  clauses_read r o e a g =
       let bounded = subst (λ (x : Option ℕ). MatchOption x (IsBounded us) (TooDeepAt us)) e a in
-      subst (λ (xs : List Token). Answers xs end r) same (answers_read us end r bounded g)
+      subst (λ (xs : List Token). Clauses xs end r) same (clauses us end r (answer us end) (right_read us end (read us) refl bounded) g)

@@ -20,7 +20,7 @@ use Rattle.lf_parse.specs.declared.class.Clause.{Clause}
 use Rattle.lf_parse.specs.declared.class.Scope.{Scope}
 use Rattle.lf_parse.specs.declared.class.Side.{Side}
 use Rattle.lf_parse.specs.Tokens.{Mark, Word, Metric, Num, Dur, Quoted, Sign, Tok, ◌at◌, op_of}
-use Rattle.lf_parse.specs.Tree.{Tree, Number, Str, Selector, Paren, Unary, Binary, Call, Aggregate, Trees, Nil, span_of}
+use Rattle.lf_ast.specs.Tree.{Tree, Number, Str, Selector, Paren, Unary, Binary, Call, Aggregate, Trees, Nil, span_of}
 use Rattle.lf_parse.specs.Grammar.{to, up_to, behind, name, LabelsAt, one_label, next_label, NamesAt, no_names, names, names_comma, unmatched, NotOpen, ScopedAt, alone, group, group_names, ModifierAt, no_modifier, bool, scoped, bool_scoped, match_of, MatchersAt, one_matcher, next_matcher, BracesAt, no_matchers, matchers, matchers_comma, IsMetric, plain, edge, with_colon, SelectAt, word, word_braces, braces, blank, ranged, stepped, Mod, ModAt, offset, offset_minus, time, time_plus, time_minus, time_edge, HasRoom, with_mod, ModsAt, no_mods, mods, StepAt, no_step, step as step_dur, grouping, level, left_level, right_level, At, number, numeric, string, paren, selector, range, subquery, call, aggregate, aggregate_by, aggregate_args_by, plus, minus, binary, SomeAt, one, also, ArgsAt, no_args, args, Derives}
 use Rattle.lf_parse.specs.Machine.{Outcome, Go, Ends, Pass, Stop, Names, Opening, NextName, AfterName, names_step, Braces, NextMatcher, AfterLabel, AfterSign, AfterMatcher, compared, Front, front, Stage, Begin, AfterBool, InLabels, AfterLabels, AfterGroup, InInclude, modifier, group_modifier, in_labels, in_include, AfterOffset, AfterAt, Head, OfCall, OfAggregate, OfGrouped, Frame, LeftOf, Signed, InParen, InArgs, Subject, OfSelector, OfSubquery, Operand, Whole, Bare, Selected, Aggregated, Seen, operand_tree, operand_end, Want, First, Have, Modifying, InBraces, InMod, AfterBracket, AfterColon, AfterAggregation, InGrouping, AfterGrouping, InGroupingBehind, State, Held, state, held, reduce, applied, close, comma, ended, operator, joined, after, room, have_step, modified, in_braces, in_grouping, in_grouping_behind, step, finish, start, accept}
 use Rattle.lf_parse.proofs.Levels.{level-le, level-le_right, level-le_left, right_tighter, sign_tighter}

@@ -1,9 +1,10 @@
 pub mod Words
-pub mod Arguments
+pub mod Frames
 pub mod Nestings
 pub mod Levels
 pub mod Complete
 pub mod Sound
 pub mod Prefix
+pub mod SpansInside
 pub mod Answering
 pub mod Worked

@@ -19,7 +19,7 @@ use Rattle.lf_lex.specs.declared.token.TokenKind.TheVariants as kinds
 use Rattle.lf_parse.specs.declared.class.Edge.{Edge as EdgeOf}
 use Rattle.lf_parse.specs.declared.class.Clause.{Clause}
 use Rattle.lf_parse.specs.Tokens.{Sign, Tok, ◌at◌, shown}
-use Rattle.lf_parse.specs.Tree.{Tree, Number, Paren, Unary, Binary, Aggregate, Trees, Nil, Then, span_of}
+use Rattle.lf_ast.specs.Tree.{Tree, Number, Paren, Unary, Binary, Aggregate, Trees, Nil, span_of, with_last}
 use Rattle.lf_parse.specs.Grammar.{to, up_to, behind, unmatched, matcher, stepped, edge_text, OffsetBy, AtTime, with_mod, grouping, IsViable}
 use Rattle.lf_parse.specs.Machine.{Names, Opening, NextName, AfterName, names_step, Braces, NextMatcher, AfterLabel, AfterSign, AfterMatcher, Stage, Begin, AfterBool, InLabels, AfterLabels, AfterGroup, InInclude, modifier, group_modifier, Part, AfterOffset, AfterOffsetMinus, AfterAt, AfterAtSign, AfterEdge, InEdge, Head, OfAggregate, OfGrouped, Frame, LeftOf, Signed, InParen, InArgs, Subject, OfSubquery, Operand, Whole, Selected, Seen, operand_tree, operand_end, Mode, Want, First, Have, Modifying, InBraces, InMod, AfterBracket, AfterRange, AfterColon, AfterStep, AfterAggregation, InGrouping, AfterGrouping, InGroupingBehind, State, Held, state, reduce, applied, close, ended, run, step, start, accept}
 use Rattle.lf_parse.proofs.Levels.{level-ge}
@@ -82,7 +82,7 @@ ends_settle [] n e = (e, refl)
 ends_settle (LeftOf o p m a ∷ fs) n e = let y = ends_settle fs n (Binary o m a e p) in (y.0, ap (λ h. settle h (map shown (closers fs))) (reduce_left 1 n o p m a fs e (level-ge o)) ∙ y.1)
 ends_settle (Signed neg p ∷ fs) n e = let y = ends_settle fs n (Unary neg e (up_to p n)) in (y.0, ap (λ h. settle h (map shown (closers fs))) (reduce_sign 1 n neg p fs e (omega arith)) ∙ y.1)
 ends_settle (InParen p ∷ fs) n e = let x = Paren e (to p z) in let y = ends_settle fs 0 x in (y.0, accept_closers fs (Whole x 0) fs ∙ y.1)
-ends_settle (InArgs h xs ∷ fs) n e = let x = applied h (Then xs e) z in let y = ends_settle fs (operand_end x) (operand_tree x) in (y.0, accept_closers fs x fs ∙ y.1)
+ends_settle (InArgs h xs ∷ fs) n e = let x = applied h (with_last xs e) z in let y = ends_settle fs (operand_end x) (operand_tree x) in (y.0, accept_closers fs x fs ∙ y.1)
 
 ends_have : (fs : List Frame) (x : Operand) → Ends (state fs (Have x))
 ends_have fs x = let y = ends_settle fs (operand_end x) (operand_tree x) in (closers fs, y.0, accept_closers fs x fs ∙ y.1)

@@ -21,7 +21,7 @@ use Rattle.lf_parse.specs.declared.class.Clause.{Clause}
 use Rattle.lf_parse.specs.declared.class.Scope.{Scope}
 use Rattle.lf_parse.specs.declared.class.Side.{Side}
 use Rattle.lf_parse.specs.Tokens.{Mark, Word, Metric, Num, Dur, Quoted, Sign, Tok, ◌at◌, op_of}
-use Rattle.lf_parse.specs.Tree.{Tree, Selector, Unary, Binary, Aggregate, Trees, Nil, Then}
+use Rattle.lf_ast.specs.Tree.{Tree, Selector, Unary, Binary, Aggregate, Trees, Nil, with_last}
 use Rattle.lf_parse.specs.Grammar.{to, up_to, name, LabelsAt, one_label, next_label, NamesAt, no_names, names, names_comma, ScopedAt, alone, group, group_names, ModifierAt, no_modifier, bool, scoped, bool_scoped, match_of, MatchersAt, one_matcher, next_matcher, BracesAt, no_matchers, matchers, matchers_comma, IsMetric, plain, edge, with_colon, SelectAt, word, word_braces, braces, blank, Mod, AtTime, ModAt, offset, offset_minus, time, time_plus, time_minus, time_edge, HasRoom, with_mod, ModsAt, no_mods, mods, no_step, step as step_dur, grouping, level, left_level, right_level, At, number, numeric, string, paren, selector, range, subquery, call, aggregate, aggregate_by, aggregate_args_by, plus, minus, binary, SomeAt, one, also, ArgsAt, no_args, args, Derives}
 use Rattle.lf_parse.specs.Machine.{Outcome, Go, Ends, Pass, Stop, Names, Opening, NextName, AfterName, names_step, Braces, NextMatcher, AfterLabel, AfterSign, AfterMatcher, compared, braces_step, Front, front, Stage, Begin, AfterBool, InLabels, AfterLabels, AfterGroup, InInclude, in_labels, in_include, stage_step, Part, AfterOffset, AfterOffsetMinus, AfterAt, AfterAtSign, AfterEdge, InEdge, part_step, Head, OfCall, OfAggregate, OfGrouped, Frame, LeftOf, Signed, InParen, InArgs, Subject, OfSelector, Operand, Whole, Bare, Selected, Aggregated, Seen, subject_tree, operand_tree, operand_end, Mode, Want, First, Have, Modifying, InBraces, InMod, AfterBracket, AfterRange, AfterColon, AfterStep, AfterAggregation, InGrouping, AfterGrouping, InGroupingBehind, State, Held, state, reduce, applied, close, comma, ended, operator, joined, after, want, room, have_step, first, modified, in_braces, in_mod, range_of, in_grouping, in_grouping_behind, step_in, finish_in, start, accept}
 use Rattle.lf_parse.proofs.Levels.{level-ge, left-le, right-le, left_cases, sign_under}
@@ -225,7 +225,7 @@ data Before : Trees → List Tok → List Tok → Type 0 where
   nothing : {ts : List Tok} → Before Nil ts ts
   some : {xs : Trees} {p : Span} {ts us : List Tok} → SomeAt xs ts ((Sign Comma at p) ∷ us) → Before xs ts us
 
-last_arg : {xs : Trees} {e : Tree} {n : ℕ} {ts us rest : List Tok} → Before xs ts us → At 1 e n us rest → SomeAt (Then xs e) ts rest
+last_arg : {xs : Trees} {e : Tree} {n : ℕ} {ts us rest : List Tok} → Before xs ts us → At 1 e n us rest → SomeAt (with_last xs e) ts rest
 last_arg nothing d = one d
 last_arg (some s) d = also s d
 

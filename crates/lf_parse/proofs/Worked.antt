@@ -12,7 +12,7 @@ use Rattle.lf_lex.specs.declared.token.TokenKind.{TokenKind}
 use Rattle.lf_lex.specs.declared.token.TokenKind.TheVariants as kinds
 use Rattle.lf_parse.specs.declared.class.Clause.TheVariants.{By}
 use Rattle.lf_parse.specs.Tokens.{class_of}
-use Rattle.lf_parse.specs.Tree.{Tree, Number, Selector, Subquery, Unary, Binary, Aggregate, Nil, Then}
+use Rattle.lf_ast.specs.Tree.{Tree, Number, Selector, Subquery, Unary, Binary, Aggregate, Nil, Next}
 use Rattle.lf_parse.specs.Grammar.{to, behind, name, names, one_label, unmatched, matcher, one_matcher, matchers_comma, plain, word, word_braces, blank, ranged, stepped, with_mod, OffsetBy, no_mods, mods, offset, no_step, scoped, group_names, no_modifier, grouping, number, selector, range, subquery, aggregate_by, minus, binary, one, args, Parses, IsViable}
 use Rattle.lf_parse.specs.Answer.{SyntaxAt}
 use Rattle.lf_parse.proofs.Answering.{syntax_told}
@@ -67,7 +67,7 @@ unfolding class_of
 power_of_sign = (6, binary (omega arith) refl (binary (omega arith) refl (selector (word plain) no_mods) no_modifier (minus (omega arith) (selector (word plain) no_mods))) no_modifier (selector (word plain) no_mods))
 
 -- sum by (a) (b{c="",}), with a comma behind the last matcher
-grouped : Parses (token (kinds.Word (codes "sum")) 0 ∷ token (kinds.Word (codes "by")) 1 ∷ sign signs.OpenParen 2 ∷ token (kinds.Word a) 3 ∷ sign signs.CloseParen 4 ∷ sign signs.OpenParen 5 ∷ token (kinds.Word b) 6 ∷ sign signs.OpenBrace 7 ∷ token (kinds.Word c) 8 ∷ sign signs.Is 9 ∷ token (kinds.Str []) 10 ∷ sign signs.Comma 11 ∷ sign signs.CloseBrace 12 ∷ sign signs.CloseParen 13 ∷ []) (Aggregate Sum (grouping By (name a (at 3) ∷ [])) (Then Nil (Selector (Some b) (matcher (name c (at 8)) match_op.Equal [] (at 10) ∷ []) (blank (to (at 6) (at 12))) (to (at 6) (at 12)))) (at 0))
+grouped : Parses (token (kinds.Word (codes "sum")) 0 ∷ token (kinds.Word (codes "by")) 1 ∷ sign signs.OpenParen 2 ∷ token (kinds.Word a) 3 ∷ sign signs.CloseParen 4 ∷ sign signs.OpenParen 5 ∷ token (kinds.Word b) 6 ∷ sign signs.OpenBrace 7 ∷ token (kinds.Word c) 8 ∷ sign signs.Is 9 ∷ token (kinds.Str []) 10 ∷ sign signs.Comma 11 ∷ sign signs.CloseBrace 12 ∷ sign signs.CloseParen 13 ∷ []) (Aggregate Sum (grouping By (name a (at 3) ∷ [])) (Next (Selector (Some b) (matcher (name c (at 8)) match_op.Equal [] (at 10) ∷ []) (blank (to (at 6) (at 12))) (to (at 6) (at 12))) Nil) (at 0))
 unfolding class_of
 grouped = (14, aggregate_by (names one_label) (args (one (selector (word_braces plain (matchers_comma (one_matcher refl))) no_mods))))
 

@@ -1,14 +1,11 @@
--- What the parser answers.
-use Rattle.std.specs.Prelude.{◌≡◌, ℕ, zero, suc, ◌+◌, ◌<◌, ◌≤◌, List, [], ◌∷◌, length, take, Result, Ok, Err}
+-- Which tokens are an expression, and why others are refused.
+use Rattle.std.specs.Prelude.{◌≡◌, ℕ, zero, suc, ◌+◌, ◌<◌, ◌≤◌, List, [], ◌∷◌, length, take}
 use Rattle.lf_base.specs.declared.kind.Kind.TheVariants.{TooDeep, Syntax}
-use Rattle.lf_base.specs.declared.kind.Kind.{Kind}
 use Rattle.lf_base.specs.declared.place.Span.{Span}
-use Rattle.lf_base.specs.declared.refusal.Refusal.{Refusal}
-use Rattle.lf_base.specs.declared.refusal.Refusal.TheVariants.{At, Memory}
-use Rattle.lf_ast.specs.declared.expr.Expr.{Expr}
+use Rattle.lf_base.specs.Faults.{fault}
 use Rattle.lf_lex.specs.declared.token.Token.{Token}
-use Rattle.lf_lex.specs.Tokens.{Fault}
-use Rattle.lf_parse.specs.Tree.{Tree, tree}
+use Rattle.lf_base.specs.declared.fault.Fault.{Fault}
+use Rattle.lf_ast.specs.Tree.{Tree}
 use Rattle.lf_parse.specs.Grammar.{Parses, IsViable}
 use Rattle.lf_parse.specs.Depth.{TooDeepAt, IsBounded}
 
@@ -29,19 +26,7 @@ place [] end k = record { start = end; end = end }
 place (t ∷ ts) end zero = t.span
 place (t ∷ ts) end (suc k) = place ts end k
 
-abbrev pub fault : Kind → Span → Fault
-fault kind p = record { kind = kind; span = p }
-
 -- why tokens of a text that ends at an offset are no expression within the bounds: the depth is judged first
 pub data Refuses (ts : List Token) (end : ℕ) : Fault → Type 0 where
   too_deep : (k : ℕ) → TooDeepAt ts k → Refuses ts end (fault TooDeep (place ts end k))
   syntax : (k : ℕ) → IsBounded ts → SyntaxAt ts k → Refuses ts end (fault Syntax (place ts end k))
-
--- What the parser returned is this answer, unless memory ran out.
-abbrev pub Fails : Refusal → Result Tree Fault → Type 0
-Fails Memory read = Unit {0}
-Fails (At kind p) read = read ≡ Err (fault kind p)
-
-abbrev pub Gives : Result Expr Refusal → Result Tree Fault → Type 0
-Gives (Ok e) read = read ≡ Ok (tree e)
-Gives (Err refusal) read = Fails refusal read

@@ -30,7 +30,7 @@ use Rattle.lf_parse.specs.declared.class.Scope.TheVariants.{On, Ignoring}
 use Rattle.lf_parse.specs.declared.class.Side.{Side}
 use Rattle.lf_parse.specs.declared.class.Side.TheVariants.{Left, Right}
 use Rattle.lf_parse.specs.Tokens.{Mark, Word, Metric, Num, Dur, Quoted, Sign, Tok, ◌at◌, op_of, shown}
-use Rattle.lf_parse.specs.Tree.{Tree, Number, Str, Selector, Subquery, Paren, Unary, Binary, Call, Aggregate, Trees, Nil, Then, span_of}
+use Rattle.lf_ast.specs.Tree.{Tree, Number, Str, Selector, Subquery, Paren, Unary, Binary, Call, Aggregate, Trees, Nil, Next, span_of, with_last}
 
 -- ---- spans
 
@@ -300,9 +300,9 @@ mutual
   -- Expr {',' Expr}
   pub data SomeAt : Trees → List Tok → List Tok → Type 0 where
     one : {n : ℕ} {e : Tree} {ts rest : List Tok} →
-        At 1 e n ts rest → SomeAt (Then Nil e) ts rest
+        At 1 e n ts rest → SomeAt (Next e Nil) ts rest
     also : {n : ℕ} {xs : Trees} {e : Tree} {q : Span} {ts us rest : List Tok} →
-        SomeAt xs ts ((Sign Comma at q) ∷ us) → At 1 e n us rest → SomeAt (Then xs e) ts rest
+        SomeAt xs ts ((Sign Comma at q) ∷ us) → At 1 e n us rest → SomeAt (with_last xs e) ts rest
 
   -- Args = '(' [Expr {',' Expr}] ')'. The span is that of the `)`.
   pub data ArgsAt : Trees → Span → List Tok → List Tok → Type 0 where

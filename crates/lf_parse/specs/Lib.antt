@@ -1,4 +1,3 @@
-pub mod Tree
 pub mod Tokens
 pub mod Grammar
 pub mod Machine

@@ -19,7 +19,7 @@ use Rattle.lf_parse.specs.declared.class.Clause.{Clause}
 use Rattle.lf_parse.specs.declared.class.Scope.{Scope}
 use Rattle.lf_parse.specs.declared.class.Side.{Side}
 use Rattle.lf_parse.specs.Tokens.{Word, Metric, Num, Dur, Quoted, Sign, Tok, ◌at◌, op_of}
-use Rattle.lf_parse.specs.Tree.{Tree, Number, Str, Selector, Subquery, Paren, Unary, Binary, Call, Aggregate, Trees, Nil, Then, span_of}
+use Rattle.lf_ast.specs.Tree.{Tree, Number, Str, Selector, Subquery, Paren, Unary, Binary, Call, Aggregate, Trees, Nil, span_of, with_last}
 use Rattle.lf_parse.specs.Grammar.{to, up_to, behind, name, matched, unmatched, many_of, matcher, match_of, blank, ranged, stepped, edge_text, Mod, OffsetBy, AtTime, with_mod, grouping, level, left_level}
 
 -- what a part does with a token: it goes on, ends with it, ended before it, or can't take it
@@ -271,11 +271,11 @@ applied (OfGrouped a g p) xs c = Whole (Aggregate a g xs p) c.end
 
 abbrev pub close : Span → List Frame → Tree → Option State
 close c (InParen o ∷ fs) e = have fs (Whole (Paren e (to o c)) c.end)
-close c (InArgs h xs ∷ fs) e = have fs (applied h (Then xs e) c)
+close c (InArgs h xs ∷ fs) e = have fs (applied h (with_last xs e) c)
 close c _ e = None
 
 abbrev pub comma : List Frame → Tree → Option State
-comma (InArgs h xs ∷ fs) e = Some (state (InArgs h (Then xs e) ∷ fs) Want)
+comma (InArgs h xs ∷ fs) e = Some (state (InArgs h (with_last xs e) ∷ fs) Want)
 comma _ e = None
 
 abbrev pub ended : List Frame → Tree → Option Tree

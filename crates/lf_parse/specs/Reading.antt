@@ -1,12 +1,13 @@
 -- What the machine answers on tokens within the bounds. It is a way of reading, and defines nothing.
 use Rattle.std.specs.Prelude.{ℕ, List, map, Result, Ok, Err}
 use Rattle.lf_base.specs.declared.kind.Kind.TheVariants.{Syntax}
+use Rattle.lf_base.specs.Faults.{fault}
 use Rattle.lf_lex.specs.declared.token.Token.{Token}
-use Rattle.lf_lex.specs.Tokens.{Fault}
+use Rattle.lf_base.specs.declared.fault.Fault.{Fault}
 use Rattle.lf_parse.specs.Tokens.{shown}
-use Rattle.lf_parse.specs.Tree.{Tree}
+use Rattle.lf_ast.specs.Tree.{Tree}
 use Rattle.lf_parse.specs.Machine.{reading}
-use Rattle.lf_parse.specs.Answer.{place, fault}
+use Rattle.lf_parse.specs.Answer.{place}
 
 abbrev pub placed : List Token → ℕ → Result Tree ℕ → Result Tree Fault
 placed ts end (Ok e) = Ok e

@@ -33,7 +33,7 @@ use Rattle.lf_parse.specs.declared.place.Operand.TheVariants as operands
 use Rattle.lf_parse.specs.declared.place.Place.{Place}
 use Rattle.lf_parse.specs.declared.place.Place.TheVariants as places
 use Rattle.lf_ast.specs.declared.expr.Expr.{Expr}
-use Rattle.lf_parse.specs.Tree.{Tree, Trees, Nil, then_all, tree}
+use Rattle.lf_ast.specs.Tree.{Tree, tree, trees}
 use Rattle.lf_parse.specs.Depth.{Nesting}
 use Rattle.lf_parse.specs.Grammar.{Mod, OffsetBy, AtTime}
 use Rattle.lf_parse.specs.Machine.{Outcome, Go, Ends, Pass, Stop, Names, Opening, NextName, AfterName, Braces, NextMatcher, AfterLabel, AfterSign, AfterMatcher, Front, front, Stage, Begin, AfterBool, InLabels, AfterLabels, AfterGroup, InInclude, Part, AfterOffset, AfterOffsetMinus, AfterAt, AfterAtSign, AfterEdge, InEdge, Head, OfCall, OfAggregate, OfGrouped, Frame, LeftOf, Signed, InParen, InArgs, Subject, OfSelector, OfSubquery, Operand, Whole, Bare, Selected, Aggregated, Seen as SeenOperand, Mode, Want, First, Have, Modifying, InBraces, InMod, AfterBracket, AfterRange, AfterColon, AfterStep, AfterAggregation, InGrouping, AfterGrouping, InGroupingBehind, State, state}
@@ -112,9 +112,6 @@ abbrev pub seen_mod : ModOf × ℕ → Mod × ℕ
 seen_mod m = (mod_of m.0, m.1)
 
 -- ---- the machine
-
-abbrev pub trees : List Expr → Trees
-trees es = then_all Nil (map tree es)
 
 abbrev pub seen_head : HeadOf → Head
 seen_head (heads.Call w p) = OfCall w p

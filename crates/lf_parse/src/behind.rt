@@ -1,10 +1,11 @@
 //! Behind an operand.
 ghost use Rattle.std.specs.Prelude.{◌≡◌, [], IfOk};
-ghost use Rattle.lf_parse.specs.Tree.{tree};
+ghost use Rattle.lf_ast.specs.Tree.{tree, trees};
 ghost use Rattle.lf_parse.specs.Machine as machine;
-ghost use Rattle.lf_parse.specs.View.{trees, tok, frames, next, seen_operand, seen_subject};
+ghost use Rattle.lf_parse.specs.View.{tok, frames, next, seen_operand, seen_subject};
 
 use crate::braces::Braces;
+use crate::calls::aggregation;
 use crate::class::Class;
 use crate::names::Names;
 use crate::part::Part;
@@ -16,6 +17,7 @@ use lf_base::{Memory, Seq, Span, Text};
 use lf_lex::Sign;
 use std::alloc::Global;
 
+/// Takes the token behind an operand to which only a bracket comes.
 fn whole_step(
     alloc: Global,
     pending: &mut Vec<Pending>,
@@ -40,6 +42,7 @@ pub fn of_word(alloc: Global, name: Text) -> Subject
     Subject::Selector(Some(name), Seq::new(alloc))
 }
 
+/// Takes the token behind a word alone, which is a function where `(` follows and else names a metric.
 fn bare_step(
     alloc: Global,
     pending: &mut Vec<Pending>,
@@ -81,6 +84,7 @@ fn bare_step(
     }
 }
 
+/// Takes the token behind a selector with braces.
 fn selected_step(
     alloc: Global,
     pending: &mut Vec<Pending>,
@@ -119,6 +123,7 @@ fn selected_step(
     }
 }
 
+/// Takes the token behind an aggregation whose arguments are there and whose grouping may still come.
 fn aggregated_step(
     alloc: Global,
     pending: &mut Vec<Pending>,
@@ -142,17 +147,13 @@ fn aggregated_step(
             Names::Opening,
         ))),
         _ => {
-            let aggregation = Expr::Aggregate {
-                op,
-                grouping: Grouping::None,
-                args,
-                span,
-            };
-            after(alloc, pending, aggregation, end, token)
+            let whole = aggregation(op, Grouping::None, args, span);
+            after(alloc, pending, whole, end, token)
         }
     }
 }
 
+/// Takes the token behind a selector or a subquery with a range or modifiers. A second offset or a second time is no expression.
 fn seen_step(
     alloc: Global,
     pending: &mut Vec<Pending>,

@@ -1,10 +1,12 @@
 //! The groupings of aggregations.
 ghost use Rattle.std.specs.Prelude.{◌≡◌, List};
 ghost use Rattle.lf_parse.specs.declared.place.Pending.{Pending};
+ghost use Rattle.lf_ast.specs.Tree.{trees};
 ghost use Rattle.lf_parse.specs.Grammar as grammar;
 ghost use Rattle.lf_parse.specs.Machine as machine;
-ghost use Rattle.lf_parse.specs.View.{trees, tok, frames, next, seen_names, seen_outcome};
+ghost use Rattle.lf_parse.specs.View.{tok, frames, next, seen_names, seen_outcome};
 
+use crate::calls::aggregation;
 use crate::class::{Class, Clause};
 use crate::names::Names;
 use crate::outcome::Outcome;
@@ -14,6 +16,7 @@ use lf_ast::{Agg, Expr, Grouping, Name};
 use lf_base::{Seq, Span};
 use lf_lex::Sign;
 
+/// Takes the token behind the name of an aggregation, which has a span: its arguments or its grouping begin. Any other token gives no place.
 pub fn after_aggregation(op: Agg, span: Span, token: Seen) -> Option<Place>
     ensures { (ps : List Pending) → next ps result ≡ machine.after_aggregation (frames ps) op span (tok token.entry) }
 {
@@ -26,6 +29,7 @@ pub fn after_aggregation(op: Agg, span: Span, token: Seen) -> Option<Place>
     }
 }
 
+/// The grouping that a clause and its labels are.
 fn grouping(clause: Clause, labels: Seq<Name>) -> Grouping
     ensures { result ≡ grammar.grouping clause labels }
 {
@@ -35,6 +39,7 @@ fn grouping(clause: Clause, labels: Seq<Name>) -> Grouping
     }
 }
 
+/// Goes on inside the labels of a grouping before the arguments, by what they did with a token.
 pub fn in_grouping(
     op: Agg,
     span: Span,
@@ -54,6 +59,7 @@ pub fn in_grouping(
     }
 }
 
+/// Takes the token behind a grouping before the arguments, which begin with `(`. Any other token gives no place.
 pub fn after_grouping(op: Agg, span: Span, grouping: Grouping, token: Seen) -> Option<Place>
     ensures { (ps : List Pending) → next ps result ≡ machine.after_grouping (frames ps) op span grouping (tok token.entry) }
 {
@@ -63,6 +69,7 @@ pub fn after_grouping(op: Agg, span: Span, grouping: Grouping, token: Seen) -> O
     }
 }
 
+/// Goes on inside the labels of a grouping behind the arguments, by what they did with a token.
 pub fn in_grouping_behind(
     op: Agg,
     span: Span,
@@ -75,13 +82,8 @@ pub fn in_grouping_behind(
     match taken {
         Outcome::Go(names) => Some(Place::InGroupingBehind(op, span, args, clause, names)),
         Outcome::Ends((labels, close)) => {
-            let aggregation = Expr::Aggregate {
-                op,
-                grouping: grouping(clause, labels),
-                args,
-                span,
-            };
-            Some(Place::Have(Operand::Whole(aggregation, close.end)))
+            let whole = aggregation(op, grouping(clause, labels), args, span);
+            Some(Place::Have(Operand::Whole(whole, close.end)))
         }
         Outcome::Pass(_) | Outcome::Stop => None,
     }

@@ -3,6 +3,7 @@
 
 mod behind;
 mod braces;
+mod calls;
 mod class;
 mod grouping;
 mod laws;

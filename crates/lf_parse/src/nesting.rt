@@ -45,6 +45,7 @@ pub fn first_too_deep(alloc: Global, tokens: &[Token]) -> Result<Option<usize>, 
     Ok(None)
 }
 
+/// Whether more parentheses are open, or more operators stand inside one pair, than may.
 fn is_too_deep(nesting: &Nesting) -> bool
     ensures { result ≡ depth.is_too_deep (nesting_of nesting.now) }
 {
@@ -81,6 +82,7 @@ fn nested(nesting: Nesting, token: Seen) -> Result<Nesting, Memory>
     }
 }
 
+/// The nesting behind a `(`.
 fn open_paren(nesting: Nesting) -> Result<Nesting, Memory>
     ensures { IfOk result (λ n. nesting_of n ≡ depth.opened (nesting_of nesting)) }
 {
@@ -99,6 +101,7 @@ fn open_paren(nesting: Nesting) -> Result<Nesting, Memory>
     })
 }
 
+/// The nesting behind a `)`. One without its `(` is passed over.
 fn close_paren(nesting: Nesting) -> Nesting
     ensures { nesting_of result ≡ depth.closed (reverse nesting.around.items) (nesting_of nesting) }
 {
@@ -124,6 +127,7 @@ fn close_paren(nesting: Nesting) -> Nesting
     }
 }
 
+/// The nesting behind a token that is no bracket, which counts as an operator or doesn't. Inside braces none counts.
 fn counted(counts: bool, nesting: Nesting) -> Nesting
     requires here { nesting.here + 1 < 2 ^ 32 }
     ensures { nesting_of result ≡ depth.counted counts (nesting_of nesting) }

@@ -1,6 +1,6 @@
 //! Where an operand comes.
 ghost use Rattle.std.specs.Prelude.{◌≡◌, ◌∷◌, IfOk};
-ghost use Rattle.lf_parse.specs.Tree as trees_of;
+ghost use Rattle.lf_ast.specs.Tree as trees_of;
 ghost use Rattle.lf_parse.specs.Machine as machine;
 ghost use Rattle.lf_parse.specs.View.{tok, frame, frames, next, seen_head, seen_operand};
 
@@ -25,6 +25,7 @@ fn number(alloc: Global, token: Seen) -> Result<Operand, Memory>
     Ok(Operand::Whole(number, token.span.end))
 }
 
+/// A string, without its quotes and escapes.
 fn string(alloc: Global, token: Seen) -> Result<Operand, Memory>
     ensures { IfOk result (λ x. seen_operand x ≡ machine.Whole (trees_of.Str token.entry.text.now token.entry.span) token.entry.span.end) }
 {

@@ -1,11 +1,13 @@
 //! From tokens to trees.
-ghost use Rattle.std.specs.Prelude.{◌≡◌, Ok, Err, IfOk, IfErr};
+ghost use Rattle.std.specs.Prelude.{◌≡◌, ◌≤◌, ℕ, IfOk};
+ghost use Rattle.std.specs.List.Sorted.{IsNonDecreasingBy};
 ghost use Rattle.lf_base.specs.declared.kind.Kind.TheVariants.{Syntax};
 ghost use Rattle.lf_base.specs.declared.refusal.Refusal.TheVariants.{At};
-ghost use Rattle.lf_lex.specs.Tokens.{Fault};
-ghost use Rattle.lf_lex.specs.Tokens.{IfAt};
-ghost use Rattle.lf_parse.specs.Tree.{Tree, tree};
-ghost use Rattle.lf_parse.specs.Answer.{IsExpression, Refuses, Gives};
+ghost use Rattle.lf_base.specs.Answers.{Breach, Found, Gives, Only, Refused, RefusedIn};
+ghost use Rattle.lf_ast.specs.Inside.{Inside};
+ghost use Rattle.lf_ast.specs.Tree.{tree};
+ghost use Rattle.lf_lex.specs.Tokens.{LieIn};
+ghost use Rattle.lf_parse.specs.Answer.{IsExpression, Refuses};
 ghost use Rattle.lf_parse.specs.Reading.{answer};
 
 use crate::nesting::first_too_deep;
@@ -24,13 +26,17 @@ use std::alloc::Global;
 /// empty span at the text's end where more would have to come.
 pub fn parse(alloc: Global, tokens: &Seq<Token>, end: u32) -> Result<Expr, Refusal>
     // What is answered is an expression within the bounds, and the tree that the grammar gives for the tokens.
-    ensures found { IfOk result (λ expr. IsExpression tokens.now (tree expr)) }
+    ensures found { Found tree (IsExpression tokens.now) result }
     // It is answered, unless memory runs out; so no tokens have two trees.
-    ensures only { (expr : Tree) → IsExpression tokens.now expr → Gives result (Ok expr) }
+    ensures only { Only tree (IsExpression tokens.now) result }
     // What is refused is the first token that passes a bound, or else the first with which no expression goes on.
-    ensures refused { IfErr result (λ refusal. IfAt refusal (Refuses tokens.now end)) }
+    ensures refused { Refused (Refuses tokens.now end) result }
     // It is refused, unless memory runs out.
-    ensures breach { (fault : Fault) → Refuses tokens.now end fault → Gives result (Err fault) }
+    ensures breach { Breach tree (Refuses tokens.now end) result }
+    // Where the tokens lie in a source, in its order, so does each span of the expression.
+    ensures inside { (n : ℕ) → LieIn n tokens.now → IsNonDecreasingBy (λ token. token.span.start) tokens.now → IfOk result (λ expr. Inside n (tree expr)) }
+    // So does what is refused, where the text's end does too.
+    ensures refused_inside { (n : ℕ) → LieIn n tokens.now → end ≤ n → RefusedIn n result }
 {
     let tokens = tokens.as_slice();
     if let Some(k) = first_too_deep(alloc, tokens)? {
@@ -44,7 +50,7 @@ pub fn parse(alloc: Global, tokens: &Seq<Token>, end: u32) -> Result<Expr, Refus
 
 /// The same, where no bound is passed.
 fn read(alloc: Global, tokens: &[Token], end: u32) -> Result<Expr, Refusal>
-    ensures { Gives result (answer tokens.now end) }
+    ensures { Gives tree result (answer tokens.now end) }
 {
     let mut pending = Vec::new(alloc);
     let mut place = Place::Want;
@@ -60,6 +66,7 @@ fn read(alloc: Global, tokens: &[Token], end: u32) -> Result<Expr, Refusal>
     }
 }
 
+/// The refusal of a token, or of the end, with which no expression goes on.
 fn syntax(span: Span) -> Refusal
     ensures { result ≡ At Syntax span }
 {

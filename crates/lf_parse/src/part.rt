@@ -47,6 +47,7 @@ fn signed(alloc: Global, sign: &str, text: &str) -> Result<Text, Memory>
     Ok(signed)
 }
 
+/// `start()` or `end()`, as the tree has them.
 fn edge_text(edge: Edge) -> &'static str
     ensures { result.now ≡ grammar.edge_text edge }
 {
@@ -56,6 +57,7 @@ fn edge_text(edge: Edge) -> &'static str
     }
 }
 
+/// The sign as it is written.
 fn sign_text(sign: TimeSign) -> &'static str
     ensures { result.now ≡ sign_byte sign ∷ [] }
 {

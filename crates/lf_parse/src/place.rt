@@ -1,11 +1,12 @@
 //! Where the parser is: what was begun, and what was read last.
 ghost use Rattle.std.specs.Prelude.{◌≡◌, IfOk};
-ghost use Rattle.lf_parse.specs.Tree as trees;
+ghost use Rattle.lf_ast.specs.Tree as trees;
 ghost use Rattle.lf_parse.specs.Grammar as grammar;
 ghost use Rattle.lf_parse.specs.Machine as machine;
 ghost use Rattle.lf_parse.specs.View.{seen_subject, seen_operand};
 
 use crate::braces::Braces;
+use crate::calls::aggregation;
 use crate::class::Clause;
 use crate::names::Names;
 use crate::part::Part;
@@ -105,23 +106,6 @@ pub fn blank(span: Span) -> Sight
     }
 }
 
-/// The span that an expression has.
-pub fn span_of(expr: &Expr) -> Span
-    ensures { result ≡ trees.span_of (trees.tree expr.now) }
-{
-    match expr {
-        Expr::Number { span, .. } => *span,
-        Expr::Str { span, .. } => *span,
-        Expr::Selector { span, .. } => *span,
-        Expr::Subquery { span, .. } => *span,
-        Expr::Paren { span, .. } => *span,
-        Expr::Unary { span, .. } => *span,
-        Expr::Binary { span, .. } => *span,
-        Expr::Call { span, .. } => *span,
-        Expr::Aggregate { span, .. } => *span,
-    }
-}
-
 /// A selector or a subquery with what stands behind it.
 pub fn subject_tree(
     alloc: Global,
@@ -171,15 +155,9 @@ pub fn operand_tree(alloc: Global, operand: Operand) -> Result<(Expr, u32), Memo
             },
             span.end,
         )),
-        Operand::Aggregated(op, args, span, end) => Ok((
-            Expr::Aggregate {
-                op,
-                grouping: Grouping::None,
-                args,
-                span,
-            },
-            end,
-        )),
+        Operand::Aggregated(op, args, span, end) => {
+            Ok((aggregation(op, Grouping::None, args, span), end))
+        }
         Operand::Seen(subject, sight, span, end) => {
             Ok((subject_tree(alloc, subject, sight, span)?, end))
         }

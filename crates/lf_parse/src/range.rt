@@ -1,21 +1,22 @@
 //! The brackets of ranges and subqueries.
 ghost use Rattle.std.specs.Prelude.{◌≡◌, List, IfOk};
 ghost use Rattle.lf_parse.specs.declared.place.Pending.{Pending};
-ghost use Rattle.lf_parse.specs.Tree as trees_of;
-ghost use Rattle.lf_parse.specs.Tree.{tree};
+ghost use Rattle.lf_ast.specs.Tree as trees_of;
+ghost use Rattle.lf_ast.specs.Tree.{tree};
 ghost use Rattle.lf_parse.specs.Grammar as grammar;
 ghost use Rattle.lf_parse.specs.Machine as machine;
 ghost use Rattle.lf_parse.specs.View.{tok, frames, mode, next, seen_operand};
 
 use crate::behind::of_word;
-use crate::place::{Operand, Place, Subject, operand_tree, span_of};
+use crate::place::{Operand, Place, Subject, operand_tree};
 use crate::seen::{Mark, Seen};
 use crate::span::to;
-use lf_ast::{Expr, Sight};
+use lf_ast::{Expr, Sight, span_of};
 use lf_base::{Memory, Span, Text};
 use lf_lex::Sign;
 use std::alloc::Global;
 
+/// Takes the token behind the `[` that follows an operand: the duration of a range. Any other token gives no place.
 pub fn after_bracket(alloc: Global, operand: Operand, token: Seen) -> Result<Option<Place>, Memory>
     ensures { IfOk result (λ p. (ps : List Pending) → next ps p ≡ machine.after_bracket (frames ps) (seen_operand operand) (tok token.entry)) }
 {
@@ -68,6 +69,7 @@ fn range_of(
     }
 }
 
+/// Takes the token behind the duration of a range, which has a span: a `]`, which ends the range of a selector, or a `:`, which begins the step of a subquery. Any other token gives no place.
 pub fn after_range(
     alloc: Global,
     operand: Operand,
@@ -102,6 +104,7 @@ fn subquery(of: Expr, range: Text, range_span: Span, step: Option<Text>, close: 
     ))
 }
 
+/// Takes the token behind the `:` of a subquery: its step, or the `]`. Any other token gives no place.
 pub fn after_colon(
     alloc: Global,
     of: Expr,
@@ -123,6 +126,7 @@ pub fn after_colon(
     }
 }
 
+/// Takes the token behind the step of a subquery, which is the `]`. Any other token gives no place.
 pub fn after_step(of: Expr, range: Text, range_span: Span, step: Text, token: Seen) -> Option<Place>
     ensures { (ps : List Pending) → next ps result ≡ machine.after_step (frames ps) (tree of) range range_span step (tok token.entry) }
 {

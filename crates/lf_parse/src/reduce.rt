@@ -1,10 +1,11 @@
 //! From what was begun to trees.
 ghost use Rattle.std.specs.Prelude.{◌≡◌, IfOk};
-ghost use Rattle.lf_parse.specs.Tree as trees_of;
-ghost use Rattle.lf_parse.specs.Tree.{tree, Then};
+ghost use Rattle.lf_ast.specs.Tree as trees_of;
+ghost use Rattle.lf_ast.specs.Tree.{tree, trees, with_last};
 ghost use Rattle.lf_parse.specs.Machine as machine;
-ghost use Rattle.lf_parse.specs.View.{trees, tok, frames, next, seen_head, seen_operand, option_tree};
+ghost use Rattle.lf_parse.specs.View.{tok, frames, next, seen_head, seen_operand, option_tree};
 
+use crate::calls::{aggregation, call};
 use crate::operator::{UNARY, left_level, level, op_of};
 use crate::place::{Head, Operand, Pending, Place};
 use crate::seen::{Mark, Seen};
@@ -43,6 +44,7 @@ pub fn reduce(
     }
 }
 
+/// An operator with its modifier and its two sides.
 fn binary(
     alloc: Global,
     op: Op,
@@ -62,6 +64,7 @@ fn binary(
     })
 }
 
+/// A sign, minus or plus, before an operand.
 fn unary(alloc: Global, minus: bool, span: Span, of: Expr) -> Result<Expr, Memory>
     ensures { IfOk result (λ e. tree e ≡ trees_of.Unary minus (tree of) span) }
 {
@@ -72,6 +75,7 @@ fn unary(alloc: Global, minus: bool, span: Span, of: Expr) -> Result<Expr, Memor
     })
 }
 
+/// An expression in parentheses.
 fn paren(alloc: Global, span: Span, of: Expr) -> Result<Expr, Memory>
     ensures { IfOk result (λ e. tree e ≡ trees_of.Paren (tree of) span) }
 {
@@ -82,9 +86,9 @@ fn paren(alloc: Global, span: Span, of: Expr) -> Result<Expr, Memory>
 }
 
 /// Arguments with one more.
-#[tactic(auto, using(crate::proofs::Arguments::trees_last))]
+#[tactic(auto, using(lf_ast::proofs::TreeOf::trees_last))]
 fn with_last(args: Seq<Expr>, last: Expr) -> Result<Seq<Expr>, Memory>
-    ensures { IfOk result (λ all. trees all ≡ Then (trees args) (tree last)) }
+    ensures { IfOk result (λ all. trees all ≡ with_last (trees args) (tree last)) }
 {
     let mut args = args;
     args.push(last)?;
@@ -96,20 +100,15 @@ pub fn applied(head: Head, args: Seq<Expr>, close: Span) -> Operand
     ensures { seen_operand result ≡ machine.applied (seen_head head) (trees args) close }
 {
     match head {
-        Head::Call(name, span) => Operand::Whole(Expr::Call { name, args, span }, close.end),
+        Head::Call(name, span) => Operand::Whole(call(name, args, span), close.end),
         Head::Aggregate(op, span) => Operand::Aggregated(op, args, span, close.end),
-        Head::Grouped(op, grouping, span) => Operand::Whole(
-            Expr::Aggregate {
-                op,
-                grouping,
-                args,
-                span,
-            },
-            close.end,
-        ),
+        Head::Grouped(op, grouping, span) => {
+            Operand::Whole(aggregation(op, grouping, args, span), close.end)
+        }
     }
 }
 
+/// Takes a `)` behind an operand, which ends at an offset: it closes a parenthesis or arguments.
 fn close(
     alloc: Global,
     pending: &mut Vec<Pending>,
@@ -133,6 +132,7 @@ fn close(
     }
 }
 
+/// Takes a `,` behind an operand, which ends at an offset: the next argument comes.
 fn comma(
     alloc: Global,
     pending: &mut Vec<Pending>,
@@ -152,6 +152,7 @@ fn comma(
     }
 }
 
+/// Takes an operator behind an operand, which ends at an offset. What binds tighter to the left of it is one tree from here on.
 fn joined(
     alloc: Global,
     pending: &mut Vec<Pending>,

@@ -47,6 +47,7 @@ pub fn see(token: &Token) -> Seen<'_>
     }
 }
 
+/// What a word is.
 fn word_mark(text: &str) -> Mark
     ensures { mark_with result text.now ≡ word_mark text.now }
 {
@@ -57,6 +58,7 @@ fn word_mark(text: &str) -> Mark
     }
 }
 
+/// Whether a word has a colon, so that it can only name a metric.
 fn has_colon(text: &str) -> bool
     ensures { result ≡ list_any (λ b. b == 58) text.now }
 {

@@ -85,6 +85,7 @@ fn matched(
     }
 }
 
+/// The side of a group modifier.
 fn many_of(side: Side) -> Group
     ensures { result ≡ grammar.many_of side }
 {
@@ -94,6 +95,7 @@ fn many_of(side: Side) -> Group
     }
 }
 
+/// Takes the token right behind an operator.
 fn begin(alloc: Global, operator: Span, token: Seen) -> Outcome<Stage, Matching>
     ensures { seen_outcome seen_stage (λ m. m) result ≡ machine.stage_step operator machine.Begin (tok token.entry) }
 {
@@ -111,6 +113,7 @@ fn begin(alloc: Global, operator: Span, token: Seen) -> Outcome<Stage, Matching>
     }
 }
 
+/// Takes the token behind `bool`.
 fn after_bool(alloc: Global, operator: Span, first: Span, token: Seen) -> Outcome<Stage, Matching>
     ensures { seen_outcome seen_stage (λ m. m) result ≡ machine.stage_step operator (machine.AfterBool first) (tok token.entry) }
 {
@@ -127,6 +130,7 @@ fn after_bool(alloc: Global, operator: Span, first: Span, token: Seen) -> Outcom
     }
 }
 
+/// Goes on inside the labels of `on` or `ignoring`, by what they did with a token.
 fn in_labels(front: Front, taken: Outcome<Names, (Seq<Name>, Span)>) -> Outcome<Stage, Matching>
     ensures { seen_outcome seen_stage (λ m. m) result ≡ machine.in_labels (seen_front front) (seen_outcome seen_names (λ v. v) taken) }
 {
@@ -137,6 +141,7 @@ fn in_labels(front: Front, taken: Outcome<Names, (Seq<Name>, Span)>) -> Outcome<
     }
 }
 
+/// Takes the token behind the labels of `on` or `ignoring`.
 fn after_labels(
     alloc: Global,
     operator: Span,
@@ -155,6 +160,7 @@ fn after_labels(
     }
 }
 
+/// Takes the token behind a group modifier. A `(` there opens its labels.
 fn after_group(
     alloc: Global,
     operator: Span,
@@ -177,6 +183,7 @@ fn after_group(
     }
 }
 
+/// Goes on inside the labels of a group modifier, by what they did with a token.
 fn in_include(
     front: Front,
     labels: Seq<Name>,

@@ -1,7 +1,7 @@
 //! The parser as a machine that takes one token at a time.
 ghost use Rattle.std.specs.Prelude.{◌≡◌, List, IfOk};
 ghost use Rattle.lf_parse.specs.declared.place.Pending.{Pending};
-ghost use Rattle.lf_parse.specs.Tree.{tree};
+ghost use Rattle.lf_ast.specs.Tree.{tree};
 ghost use Rattle.lf_parse.specs.Grammar as grammar;
 ghost use Rattle.lf_parse.specs.Machine as machine;
 ghost use Rattle.lf_parse.specs.View.{tok, frames, mode, next, option_tree, option_operand, seen_subject, seen_stage, seen_braces, seen_part, seen_mod, mod_of, seen_outcome};
@@ -49,6 +49,7 @@ fn modified(
     }
 }
 
+/// Goes on inside the braces of a selector, by what they did with a token.
 fn in_braces(
     name: Option<Text>,
     span: Span,
@@ -83,6 +84,7 @@ fn with_mod(sight: Sight, modifier: Mod) -> Sight
     }
 }
 
+/// Goes on inside an offset or a time, by what it did with a token.
 fn in_mod(
     subject: Subject,
     sight: Sight,

@@ -4,8 +4,9 @@ use Rattle.lf_base.specs.declared.place.Span.{Span}
 use Rattle.lf_lex.specs.declared.token.Token.{Token}
 use Rattle.lf_lex.specs.declared.token.TokenKind.{TokenKind}
 use Rattle.lf_lex.specs.Parts.{behind_token}
-use Rattle.lf_lex.specs.Tokens.{Fault, in_source}
-use Rattle.lf_lex.specs.reading.Steps.{front_of}
+use Rattle.lf_lex.specs.Tokens.{in_source}
+use Rattle.lf_base.specs.declared.fault.Fault.{Fault}
+use Rattle.lf_lex.specs.reading.Steps.{next_token}
 
 -- whether a bracket is open behind a token, or behind what stands between tokens
 abbrev pub behind : Option TokenKind → Bool → Bool
@@ -25,9 +26,9 @@ with_front tokens (Err fault) = Err fault
 pub data Reads (from : List ℕ) : Bool → ℕ → List ℕ → Result (List Token) Fault → Type 0 where
   ends : {inside : Bool} {at : ℕ} → Reads from inside at [] (Ok [])
   goes_on : {inside : Bool} {at b : ℕ} {src : List ℕ} {answer : Result (List Token) Fault} (found : Option TokenKind) (n : ℕ) →
-      front_of from inside at (b ∷ src) ≡ Ok (found, n) →
+      next_token from inside at (b ∷ src) ≡ Ok (found, n) →
       Reads from (behind found inside) (at + n) (drop n (b ∷ src)) answer →
       Reads from inside at (b ∷ src) (with_front (tokens_at found (in_source from at (at + n))) answer)
   breaks : {inside : Bool} {at b : ℕ} {src : List ℕ} (fault : Fault) →
-      front_of from inside at (b ∷ src) ≡ Err fault →
+      next_token from inside at (b ∷ src) ≡ Err fault →
       Reads from inside at (b ∷ src) (Err fault)

@@ -2,7 +2,8 @@
 use Rattle.std.specs.Prelude.{ℕ, suc, ◌+◌, List, [], ◌∷◌, Bool, true, false, ◌==◌, ◌&&◌, ◌||◌, nat_le, take, drop, Option, Some, None, count_by, if◌then◌else◌}
 use Rattle.std.specs.Option.{option_map_or}
 use Rattle.std.specs.List.{prefix_len, list_any}
-use Rattle.lf_lex.specs.Bytes.{are_some, is_digit, is_hexadecimal, is_dot, is_exponent, is_plus_minus, is_in_run, is_in_mantissa}
+use Rattle.lf_lex.specs.Bytes.{are_some, is_dot, is_exponent, is_plus_minus, is_in_run, is_in_mantissa}
+use Rattle.lf_base.specs.Names.{is_digit, is_hexadecimal}
 
 -- e or E, and a sign
 abbrev pub begins_signed : List ℕ → Bool

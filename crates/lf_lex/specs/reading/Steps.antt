@@ -13,10 +13,12 @@ use Rattle.lf_lex.specs.reading.Runs.{run_len, is_number, duration_order}
 use Rattle.lf_lex.specs.Runs.{begins_run}
 use Rattle.lf_lex.specs.reading.Strings.{closing, gives, bytes_of, places_of}
 use Rattle.lf_lex.specs.reading.Signs.{sign_at}
-use Rattle.lf_lex.specs.Tokens.{Fault, in_source}
+use Rattle.lf_lex.specs.Tokens.{in_source}
+use Rattle.lf_base.specs.declared.fault.Fault.{Fault}
+use Rattle.lf_base.specs.Faults.{fault}
 
 abbrev pub breach : {X : Type 0} → List ℕ → Kind → ℕ → ℕ → Result X Fault
-breach from kind start end = Err (record { kind = kind; span = in_source from start end })
+breach from kind start end = Err (fault kind (in_source from start end))
 
 -- a token, or none for what stands between tokens, and how many bytes it has
 abbrev pub Front : Type 0
@@ -74,7 +76,7 @@ unfoldable pub sign_front : List ℕ → ℕ → List ℕ → Result Front Fault
 sign_front from at src = sign_is from at src (sign_at src)
 
 -- What stands at the front of a text that isn't empty, whose first byte is byte `at` of the whole. `inside` says that the last bracket before it is open.
-unfoldable pub front_of : List ℕ → Bool → ℕ → List ℕ → Result Front Fault
-front_of from inside at src =
+unfoldable pub next_token : List ℕ → Bool → ℕ → List ℕ → Result Front Fault
+next_token from inside at src =
     let b = slice_index src 0 in
     if is_blank b then gap 1 else if b == 35 then comment_front src else if begins_word inside b then word_front inside src else if begins_run src then run_front from at src else if b == 34 || b == 39 then quoted_front from at src else if b == 96 then raw_front from at src else sign_front from at src

@@ -9,10 +9,10 @@ part-requires-clause-start c = word_start c.args.text.now c.args.at c.utf8.text 
 
 pub part-requires-clause-end : goal.part-requires-clause-end
 part-requires-clause-end c =
-    word_end c.args.text.now c.args.at c.utf8.text c.requires.within c.args.inside c.requires.begins c.row_len-len.result (c.row_len-len.ensures.row ∙ ap (prefix_len (is_in_word c.args.inside)) c.here.ensures.value) (omega arith)
+    word_end c.args.text.now c.args.at c.utf8.text c.requires.within c.args.inside c.requires.begins c.prefix_len-len.result (c.prefix_len-len.ensures.value ∙ ap (prefix_len (is_in_word c.args.inside)) c.here.ensures.value) (omega arith)
 
 pub returns-clause-within : goal.returns-clause-within
 returns-clause-within c =
-    let e = c.row_len-len.ensures.row ∙ ap (prefix_len (is_in_word c.args.inside)) c.here.ensures.value in
+    let e = c.prefix_len-len.ensures.value ∙ ap (prefix_len (is_in_word c.args.inside)) c.here.ensures.value in
     let some = word_some c.args.text.now c.args.at c.utf8.text c.requires.within c.args.inside c.requires.begins in
     (omega arith, omega arith)

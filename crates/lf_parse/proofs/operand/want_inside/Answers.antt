@@ -1,7 +1,7 @@
 use Rattle.std.proofs.Common.{◌≡◌, List, ◌∷◌, ◌∙◌, ap, subst, IfOk}
 use Rattle.lf_parse.specs.Machine.{Frame, want}
 use Rattle.lf_parse.specs.View.{tok, frame, frames, next}
-use Rattle.lf_parse.proofs.Arguments.{frames_push}
+use Rattle.lf_parse.proofs.Frames.{frames_push}
 use Rattle.lf_parse.proofs.operand.want_inside.Goals as goal
 
 pub returns : goal.returns

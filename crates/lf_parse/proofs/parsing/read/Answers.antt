@@ -9,10 +9,10 @@ pub returns-in-None : goal.returns-in-None
 returns-in-None c =
     let s : State = state (frames c.loop-token.pending.items) (mode c.loop-token.place) in
     let stuck : None ≡ step s (shown c.token-item.result) = sym (ap (next c.step.new.pending.items) c.in-None.is) ∙ c.in_ok-next.ensures ∙ ap (step_in s.frames s.mode) c.see.ensures in
-    rw c.syntax.ensures (sym (answer_stuck c.args.tokens.now c.args.end c.loop-token.token-index c.token-item.result s c.loop-token-test.true c.token-item.is c.loop-token.invariant stuck))
+    rw c.syntax.ensures (answer_stuck c.args.tokens.now c.args.end c.loop-token.token-index c.token-item.result s c.loop-token-test.true c.token-item.is c.loop-token.invariant stuck)
 
 pub returns-in-None-2 : goal.returns-in-None-2
 returns-in-None-2 c =
     let s : State = state (frames c.loop-token.pending.items) (mode c.loop-token.place) in
     let stuck : None ≡ finish s = sym (ap option_tree c.in-None-2.is) ∙ c.in_ok-expr.ensures in
-    rw c.syntax-in-None-2.ensures (sym (answer_end c.args.tokens.now c.args.end c.loop-token.token-index s c.loop-token-test.false c.loop-token.invariant stuck))
+    rw c.syntax-in-None-2.ensures (answer_end c.args.tokens.now c.args.end c.loop-token.token-index s c.loop-token-test.false c.loop-token.invariant stuck)

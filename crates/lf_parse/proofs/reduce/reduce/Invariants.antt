@@ -1,6 +1,6 @@
 use Rattle.std.proofs.Common.{◌≡◌, vec_len}
 use Rattle.lf_parse.specs.Machine.{reduce}
-use Rattle.lf_parse.specs.Tree.{tree}
+use Rattle.lf_ast.specs.Tree.{tree}
 use Rattle.lf_parse.specs.View.{frames}
 use Rattle.lf_parse.proofs.reduce.reduce.Given as goal
 

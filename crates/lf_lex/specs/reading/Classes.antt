@@ -1,8 +1,9 @@
 -- The classes that the code goes over in rows.
 use Rattle.std.specs.Prelude.{ℕ, Bool, not, ◌==◌}
-use Rattle.lf_lex.specs.declared.bytes.Class.{Class}
-use Rattle.lf_lex.specs.declared.bytes.Class.TheVariants as classes
-use Rattle.lf_lex.specs.Bytes.{is_line_feed, is_in_word, is_in_mantissa, is_in_run, is_digit, is_continuation}
+use Rattle.lf_lex.specs.declared.class.Class.{Class}
+use Rattle.lf_lex.specs.declared.class.Class.TheVariants as classes
+use Rattle.lf_lex.specs.Bytes.{is_line_feed, is_in_word, is_in_mantissa, is_in_run, is_continuation}
+use Rattle.lf_base.specs.Names.{is_digit}
 
 abbrev pub is_in_class : Class → ℕ → Bool
 is_in_class classes.NoLineFeed b = not (is_line_feed b)

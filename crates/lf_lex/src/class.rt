@@ -1,0 +1,71 @@
+//! What tokens are read by: as many bytes of a class as stand at the front.
+ghost use Rattle.std.specs.Prelude.{◌≡◌, ◌≤◌, length, drop, take};
+ghost use Rattle.std.specs.List.{prefix_len};
+ghost use Rattle.lf_lex.specs.reading.Classes.{is_in_class};
+
+use crate::bytes::{is_continuation, is_in_mantissa, is_in_run, is_in_word};
+use lf_base::names::is_digit;
+
+/// A class of bytes.
+#[derive(Clone, Copy, PartialEq, Eq, Debug)]
+pub enum Class {
+    /// All but a line feed.
+    NoLineFeed,
+    /// All but a back quote.
+    NoBackQuote,
+    /// What a word goes on with, between brackets or elsewhere.
+    Word { inside: bool },
+    /// Digits and dots.
+    Mantissa,
+    /// What a run is made of but for the sign of an exponent.
+    Run,
+    /// Digits.
+    Digit,
+    /// What continues a character of several bytes.
+    Continuation,
+}
+
+/// Whether a byte is of a class.
+#[tactic(auto, unfolding(crate::specs::Bytes::is_line_feed))]
+fn is_in_class(class: Class, byte: u8) -> bool
+    ensures { result ≡ is_in_class class byte }
+{
+    match class {
+        Class::NoLineFeed => byte != b'\n',
+        Class::NoBackQuote => byte != b'`',
+        Class::Word { inside } => is_in_word(inside, byte),
+        Class::Mantissa => is_in_mantissa(byte),
+        Class::Run => is_in_run(byte),
+        Class::Digit => is_digit(byte),
+        Class::Continuation => is_continuation(byte),
+    }
+}
+
+/// The part of the bytes that begins at a place.
+pub fn after(bytes: &[u8], place: usize) -> &[u8]
+    requires { place ≤ length bytes.now }
+    ensures { result.now ≡ drop place bytes.now }
+{
+    bytes.split_at(place).1
+}
+
+/// The part of the bytes that ends at a place.
+pub fn before(bytes: &[u8], place: usize) -> &[u8]
+    requires { place ≤ length bytes.now }
+    ensures { result.now ≡ take place bytes.now }
+{
+    bytes.split_at(place).0
+}
+
+/// How many bytes at the front are of a class, before the first that isn't.
+pub fn prefix_len(bytes: &[u8], class: Class) -> usize
+    ensures within { result ≤ length bytes.now }
+    ensures value { result ≡ prefix_len (is_in_class class) bytes.now }
+{
+    for (i, byte) in bytes.iter().enumerate() {
+        if !is_in_class(class, *byte) {
+            return i;
+        }
+    }
+    bytes.len()
+}
