@@ -1,53 +1,45 @@
--- The way of reading answers with the rules of the definition, or with the first breach.
-use Rattle.std.proofs.Common.{◌≡◌, List, [], Option, Some, None, option_map, Result, Ok, Err, ◌⊎◌, inl, inr, refl, sym, subst, ap, ◌∙◌}
-use Rattle.std.specs.Prelude.{IfOk, IfErr, IsErr}
+-- The way of reading answers with the rules of the definition, or with the breach that is told.
+use Rattle.std.proofs.Common.{◌≡◌, List, [], ◌∷◌, Option, Some, None, Result, Ok, Err, refl, sym, subst, ap, ◌∙◌}
+use Rattle.std.specs.Prelude.{IsErr}
 use Rattle.std.specs.List.{Contains}
+use Rattle.lf_base.specs.declared.fault.Fault.{Fault}
 use Rattle.lf_base.specs.declared.refusal.Refusal.{Refusal}
-use Rattle.lf_base.specs.declared.refusal.Refusal.TheVariants as refusal_of
-use Rattle.lf_scalar.specs.Cells.{Fault, Gives, IfAt}
-use Rattle.lf_scalar.specs.Drafted.{refused}
+use Rattle.lf_base.specs.Answers.{Gives, Decides, OneAnswer}
+use Rattle.lf_base.proofs.Least.{Least, only_one}
+use Rattle.lf_base.proofs.Answering as answering
+use Rattle.lf_laws.proofs.Members.{here, none_in}
 use Rattle.lf_yaml.specs.Tree.{Tree}
 use Rattle.lf_rules.specs.Rules.{IsRules}
 use Rattle.lf_rules.specs.Sources.{Source}
 use Rattle.lf_rules.specs.Breaches.{Breaks, FirstBreak}
 use Rattle.lf_rules.specs.Reading.{faults, sources, least_from, reading_from, reading}
-use Rattle.lf_rules.proofs.OneAnswer.{rules_or_fault}
-use Rattle.lf_rules.proofs.Laws.{least_none, least_some, breaks_out, breaks_in, IsFirst}
+use Rattle.lf_rules.proofs.Laws.{told_is, breaks_in, breaks_out}
 use Rattle.lf_rules.proofs.FileReadings.{file_stands, file_clean}
 use Rattle.lf_rules.proofs.Times.{time_decides, limit_decides}
 
+-- nothing that is told, no faults
 pub no_faults : (t : Tree) → least_from None (faults t) ≡ None → faults t ≡ []
-no_faults t e = (least_none None (faults t) e).1
+no_faults t e = by (faults t) (λ f c. none f (breaks_out time_decides limit_decides t f c))
+  where
+    none : (f : Fault) → Breaks t f → ⊥
+    none = subst (Least (Breaks t)) e (told_is time_decides limit_decides t)
+
+    by : (fs : List Fault) → ((f : Fault) → Contains fs f → ⊥) → fs ≡ []
+    by [] h = refl
+    by (f ∷ fs) h = absurd (h f (here f fs))
+
+same_rules : (a b : List Source) → ◌≡◌ {A = Result (List Source) Fault} (Ok a) (Ok b) → a ≡ b
+same_rules a b h = cc
+
+same_fault : (a b : Fault) → ◌≡◌ {A = Result (List Source) Fault} (Err a) (Err b) → a ≡ b
+same_fault a b h = cc
 
 reading_stands : (t : Tree) (rs : List Source) → reading t ≡ Ok rs → IsRules t rs
 reading_stands t rs e = by (least_from None (faults t)) refl e
   where
-    same : (a b : List Source) → ◌≡◌ {A = Result (List Source) Fault} (Ok a) (Ok b) → a ≡ b
-    same a b h = cc
-
     by : (first : Option Fault) → least_from None (faults t) ≡ first → reading_from t first ≡ Ok rs → IsRules t rs
-    by None is h = subst (IsRules t) (same (sources t) rs h) (file_stands time_decides limit_decides t (no_faults t is))
+    by None is h = subst (IsRules t) (same_rules (sources t) rs h) (file_stands time_decides limit_decides t (no_faults t is))
     by (Some f) is h = absurd (cc)
-
-first_breaks : (t : Tree) (f : Fault) → least_from None (faults t) ≡ Some f → FirstBreak t f
-first_breaks t f e = by (least_some None (faults t) f e)
-  where
-    there : (None ≡ Some f) ⊎ Contains (faults t) f → Breaks t f
-    there (inl h) = absurd (cc)
-    there (inr c) = breaks_out time_decides limit_decides t f c
-
-    by : IsFirst None (faults t) f → FirstBreak t f
-    by i = (there i.0, (λ g b. i.2 g (breaks_in time_decides limit_decides t g b)))
-
-reading_breaks : (t : Tree) (f : Fault) → reading t ≡ Err f → FirstBreak t f
-reading_breaks t f e = by (least_from None (faults t)) refl e
-  where
-    same : (a b : Fault) → ◌≡◌ {A = Result (List Source) Fault} (Err a) (Err b) → a ≡ b
-    same a b h = cc
-
-    by : (first : Option Fault) → least_from None (faults t) ≡ first → reading_from t first ≡ Err f → FirstBreak t f
-    by None is h = absurd (cc)
-    by (Some g) is h = subst (FirstBreak t) (same g f h) (first_breaks t g is)
 
 reading_rules : (t : Tree) (rs : List Source) → IsRules t rs → reading t ≡ Ok rs
 unfolding least_from
@@ -56,43 +48,33 @@ reading_rules t rs i = by (file_clean time_decides limit_decides t rs i)
     by : (faults t ≡ []) × (rs ≡ sources t) → reading t ≡ Ok rs
     by c = ap (λ fs. reading_from t (least_from None fs)) c.0 ∙ ap (λ x. Ok x) (sym c.1)
 
-pub some_answer : (t : Tree) → ((rs : List Source) × IsRules t rs) ⊎ ((f : Fault) × FirstBreak t f)
-some_answer t = by (reading t) refl
+reading_breaks : (t : Tree) (f : Fault) → reading t ≡ Err f → FirstBreak t f
+reading_breaks t f e = by (least_from None (faults t)) (told_is time_decides limit_decides t) e
   where
-    by : (r : Result (List Source) Fault) → reading t ≡ r → ((rs : List Source) × IsRules t rs) ⊎ ((f : Fault) × FirstBreak t f)
-    by (Ok rs) e = inl (rs, reading_stands t rs e)
-    by (Err f) e = inr (f, reading_breaks t f e)
+    by : (first : Option Fault) → Least (Breaks t) first → reading_from t first ≡ Err f → FirstBreak t f
+    by None is h = absurd (cc)
+    by (Some g) is h = subst (FirstBreak t) (same_fault g f h) is
+
+reading_told : (t : Tree) (f : Fault) → FirstBreak t f → reading t ≡ Err f
+reading_told t f b = by (least_from None (faults t)) (told_is time_decides limit_decides t)
+  where
+    by : (first : Option Fault) → Least (Breaks t) first → reading_from t first ≡ Err f
+    by None none = absurd (none f b.0)
+    by (Some g) is = ap (λ x. Err x) (only_one g f (b.1 g is.0) (is.1 f b.0))
+
+pub decides : (t : Tree) → Decides (IsRules t) (FirstBreak t) (reading t)
+decides t = record { stands = reading_stands t; read = reading_rules t; breaks = reading_breaks t; told = reading_told t }
+
+pub one_answer : (t : Tree) → OneAnswer (IsRules t) (FirstBreak t)
+one_answer t = answering.one_answer (IsRules t) (FirstBreak t) (reading t) (decides t)
+
+-- rules, and no breach at all
+pub rules_or_fault : (t : Tree) (rs : List Source) (f : Fault) → IsRules t rs → Breaks t f → ⊥
+rules_or_fault t rs f a b = none_in f (subst (λ fs. Contains fs f) (file_clean time_decides limit_decides t rs a).0 (breaks_in time_decides limit_decides t f b))
 
 -- ---- what a function that answers so ensures
 
 module _ {X : Type 0} (view : X → List Source) (t : Tree) where
-  pub found : (r : Result X Refusal) → Gives view r (reading t) → IfOk r (λ x. IsRules t (view x))
-  found (Ok x) g = reading_stands t (view x) g
-  found (Err e) g = tt
-
-  pub only : (r : Result X Refusal) → Gives view r (reading t) → (rs : List Source) → IsRules t rs → Gives view r (Ok rs)
-  only r g rs i = subst (Gives view r) (reading_rules t rs i) g
-
-  pub refuses : (r : Result X Refusal) → Gives view r (reading t) → IfErr r (λ e. IfAt e (FirstBreak t))
-  refuses (Ok x) g = tt
-  refuses (Err refusal_of.Memory) g = tt
-  refuses (Err (refusal_of.At kind span)) g = reading_breaks t (record { kind = kind; span = span }) g
-
-  pub breach : (r : Result X Refusal) → Gives view r (reading t) → (f : Fault) → Breaks t f → IsErr r
-  breach (Ok x) g f b = absurd (rules_or_fault t (view x) f (reading_stands t (view x) g) b)
-  breach (Err e) g f b = refl
-
-  pub gives_fault : (e : Refusal) (first : Option Fault) → Some e ≡ option_map refused first → first ≡ least_from None (faults t) → Gives view (Err e) (reading t)
-  gives_fault e None h is = absurd (cc)
-  gives_fault e (Some f) h is = subst (λ x. Gives view (Err x) (reading t)) (same (refused f) e (sym h)) (ap (reading_from t) (sym is))
-    where
-      same : (a b : Refusal) → Some a ≡ Some b → a ≡ b
-      same a b h = cc
-
-  pub gives_rules : (x : X) (first : Option Fault) → None ≡ option_map refused first → first ≡ least_from None (faults t) → view x ≡ sources t → Gives view (Ok x) (reading t)
-  gives_rules x None h is v = ap (reading_from t) (sym is) ∙ ap (λ rs. Ok rs) (sym v)
-  gives_rules x (Some f) h is v = absurd (cc)
-
-  pub none_found : (first : Option Fault) → None ≡ option_map refused first → first ≡ least_from None (faults t) → faults t ≡ []
-  none_found None h is = no_faults t (sym is)
-  none_found (Some f) h is = absurd (cc)
+  pub broken : (r : Result X Refusal) → Gives view r (reading t) → (f : Fault) → Breaks t f → IsErr r
+  broken (Ok x) g f b = absurd (rules_or_fault t (view x) f (reading_stands t (view x) g) b)
+  broken (Err e) g f b = refl

@@ -4,15 +4,18 @@ use Rattle.std.specs.List.{Contains, flat_map, list_any, AllZip, AllByRecursion,
 use Rattle.std.specs.Str.{bytes_eq}
 use Rattle.lf_base.specs.declared.kind.Kind.TheVariants.{WrongKind, BadLimit, BadDuration, DoubleGroup}
 use Rattle.lf_base.specs.declared.place.Span.{Span}
-use Rattle.lf_scalar.specs.Cells.{Value, Fault}
+use Rattle.lf_scalar.specs.Cells.{Value}
+use Rattle.lf_base.specs.declared.fault.Fault.{Fault}
 use Rattle.lf_yaml.specs.Tree.{Tree, leaf, sequence, mapping}
-use Rattle.lf_rules.specs.Texts.{Bytes, IsTime, IsLimit}
+use Rattle.lf_rules.specs.Texts.{IsTime, IsLimit}
+use Rattle.lf_base.specs.Names.{Bytes}
 use Rattle.lf_rules.specs.Mappings.{Pairing, pairs, trees, given, given_entry, entry_at}
 use Rattle.lf_rules.specs.Sources.{Source}
 use Rattle.lf_rules.specs.Rules.{IsRuleTree, AreRules, IsGroup, IsGroupTree, AreGroups, AreFileGroups, IsRules, group_keys, file_keys}
-use Rattle.lf_rules.specs.Breaches.{at}
+use Rattle.lf_base.specs.Faults.{fault}
 use Rattle.lf_rules.specs.Reading.{is_time, is_limit, text_faults, scalar_faults, unknown_faults, missing_faults, rule_tree_faults, rules_faults, group_parts, group_faults, group_tree_faults, scalar_of, name_of, again_faults, with_name, names_faults, groups_faults, file_parts, faults, text_of, rule_source, entries_of, items_of, group_sources, groups_sources, sources}
-use Rattle.lf_rules.proofs.Members.{same_true, true_same, or_first, or_second, not_true}
+use Rattle.lf_laws.proofs.Members.{same_true, true_same}
+use Rattle.lf_laws.proofs.Booleans.{or_none, not_true}
 use Rattle.lf_rules.proofs.Parts.{Decides}
 use Rattle.lf_rules.proofs.Stands.{both_empty, empty_both, part_is_empty, parts_are_empty, text_stands, text_clean, scalar_stands, scalar_clean, keys_stand, keys_clean}
 use Rattle.lf_rules.proofs.Readings.{rule_stands, rule_clean, not_missing, leaf_there}
@@ -28,14 +31,14 @@ abbrev pub AreNew : List Bytes → List Bytes → Type 0
 AreNew seen ns = AllByRecursion (λ n. list_any (bytes_eq n) seen ≡ false) ns
 
 not_any_both : (n m : Bytes) (seen : List Bytes) → list_any (bytes_eq n) (seen ++ m ∷ []) ≡ false → (list_any (bytes_eq n) seen ≡ false) × (bytes_eq m n ≡ false)
-not_any_both n m [] e = (refl, not_true (bytes_eq m n) (λ h. true≢false (sym (same_true n m (sym (true_same m n h))) ∙ or_first (bytes_eq n m) false e)))
+not_any_both n m [] e = (refl, not_true (bytes_eq m n) (λ h. true≢false (sym (same_true n m (sym (true_same m n h))) ∙ (or_none (bytes_eq n m) false e).0)))
 not_any_both n m (s ∷ seen) e =
-    let later : (list_any (bytes_eq n) seen ≡ false) × (bytes_eq m n ≡ false) = not_any_both n m seen (or_second (bytes_eq n s) (list_any (bytes_eq n) (seen ++ m ∷ [])) e) in
-    (rw (or_first (bytes_eq n s) (list_any (bytes_eq n) (seen ++ m ∷ [])) e, later.0) refl, later.1)
+    let later : (list_any (bytes_eq n) seen ≡ false) × (bytes_eq m n ≡ false) = not_any_both n m seen ((or_none (bytes_eq n s) (list_any (bytes_eq n) (seen ++ m ∷ [])) e).1) in
+    (rw ((or_none (bytes_eq n s) (list_any (bytes_eq n) (seen ++ m ∷ [])) e).0, later.0) refl, later.1)
 
 any_both : (n m : Bytes) (seen : List Bytes) → list_any (bytes_eq n) seen ≡ false → bytes_eq m n ≡ false → list_any (bytes_eq n) (seen ++ m ∷ []) ≡ false
 any_both n m [] e h = rw (not_true (bytes_eq n m) (λ t. true≢false (sym (same_true m n (sym (true_same n m t))) ∙ h))) refl
-any_both n m (s ∷ seen) e h = rw (or_first (bytes_eq n s) (list_any (bytes_eq n) seen) e, any_both n m seen (or_second (bytes_eq n s) (list_any (bytes_eq n) seen) e) h) refl
+any_both n m (s ∷ seen) e h = rw ((or_none (bytes_eq n s) (list_any (bytes_eq n) seen) e).0, any_both n m seen ((or_none (bytes_eq n s) (list_any (bytes_eq n) seen) e).1) h) refl
 
 new_both : (m : Bytes) (seen ns : List Bytes) → AreNew (seen ++ m ∷ []) ns → AreNew seen ns × AllByRecursion (λ y. bytes_eq m y ≡ false) ns
 new_both m seen [] a = (tt, tt)
@@ -48,7 +51,7 @@ both_new : (m : Bytes) (seen ns : List Bytes) → AreNew seen ns → AllByRecurs
 both_new m seen [] a d = tt
 both_new m seen (n ∷ ns) a d = (any_both n m seen a.0 d.0, both_new m seen ns a.1 d.1)
 
-again_stands : (seen : List Bytes) (v : Value) (n : Bytes) (b : Bool) → list_any (bytes_eq v.text) seen ≡ b → v.text ≡ n → cond b (at DoubleGroup v.span ∷ []) [] ≡ [] → list_any (bytes_eq n) seen ≡ false
+again_stands : (seen : List Bytes) (v : Value) (n : Bytes) (b : Bool) → list_any (bytes_eq v.text) seen ≡ b → v.text ≡ n → cond b (fault DoubleGroup v.span ∷ []) [] ≡ [] → list_any (bytes_eq n) seen ≡ false
 again_stands seen v n true e h f = absurd (cc)
 again_stands seen v n false e h f = subst (λ x. list_any (bytes_eq x) seen ≡ false) h e
 
@@ -74,7 +77,7 @@ names_clean seen [] (n ∷ ns) z a d = absurd z
 names_clean seen (t ∷ ts) [] z a d = absurd z
 names_clean seen (t ∷ ts) (n ∷ ns) z a d =
     subst (λ found. (again_faults seen found ++ names_faults (with_name seen found) ts) ≡ []) (sym z.0.1)
-    (empty_both (again_faults seen (Some z.0.0)) (names_faults (seen ++ z.0.0.text ∷ []) ts) (subst (λ b. cond b (at DoubleGroup z.0.0.span ∷ []) [] ≡ []) (sym (subst (λ x. list_any (bytes_eq x) seen ≡ false) (sym z.0.2) a.0)) refl)
+    (empty_both (again_faults seen (Some z.0.0)) (names_faults (seen ++ z.0.0.text ∷ []) ts) (subst (λ b. cond b (fault DoubleGroup z.0.0.span ∷ []) [] ≡ []) (sym (subst (λ x. list_any (bytes_eq x) seen ≡ false) (sym z.0.2) a.0)) refl)
     (names_clean (seen ++ z.0.0.text ∷ []) ts ns z.1 (both_new z.0.0.text seen ns a.1 (subst (λ x. AllByRecursion (λ y. bytes_eq x y ≡ false) ns) (sym z.0.2) d.0)) d.1))
 
 -- no name is among none
@@ -226,7 +229,7 @@ module _ (time : Decides is_time IsTime) (limit : Decides is_limit IsLimit) wher
   unfolding groups_sources entry_at
   file_stands (leaf v) e = (by (bytes_eq v.text []) refl e, refl)
     where
-      by : (b : Bool) → bytes_eq v.text [] ≡ b → cond b [] (at WrongKind v.span ∷ []) ≡ [] → v.text ≡ []
+      by : (b : Bool) → bytes_eq v.text [] ≡ b → cond b [] (fault WrongKind v.span ∷ []) ≡ [] → v.text ≡ []
       by true h f = true_same v.text [] h
       by false h f = absurd (cc)
   file_stands (sequence items s) e = absurd (cc)

@@ -1,7 +1,7 @@
 -- The first fault of lists put together.
 use Rattle.std.proofs.Common.{◌≡◌, List, [], ◌∷◌, ◌++◌, Option, refl, sym, ◌∙◌, ap}
 use Rattle.std.specs.List.{flat_map}
-use Rattle.lf_scalar.specs.Cells.{Fault}
+use Rattle.lf_base.specs.declared.fault.Fault.{Fault}
 use Rattle.lf_base.specs.declared.place.Span.{Span}
 use Rattle.lf_rules.specs.Reading.{lesser, least_from, least_each, joined, rule_parts, rule_faults, group_parts, group_faults, file_parts, file_faults}
 use Rattle.lf_rules.specs.Mappings.{Pairing, pairs, trees}

@@ -1,4 +1,3 @@
-pub mod Members
 pub mod Parts
 pub mod RuleParts
 pub mod FileParts
@@ -12,5 +11,5 @@ pub mod Folded
 pub mod Nodes
 pub mod Readable
 pub mod Answering
+pub mod Spans
 pub mod NameSets
-pub mod OneAnswer

@@ -3,11 +3,12 @@ use Rattle.std.proofs.Common.{◌≡◌, ℕ, Bool, true, false, not, ◌||◌, 
 use Rattle.std.specs.List.{list_any}
 use Rattle.std.specs.Str.{bytes_eq}
 use Rattle.lf_base.specs.declared.kind.Kind.TheVariants.{DoubleGroup}
-use Rattle.lf_scalar.specs.Cells.{Value, Fault}
-use Rattle.lf_rules.specs.declared.name_set.NameSet.{NameSet}
-use Rattle.lf_rules.specs.Texts.{Bytes}
-use Rattle.lf_rules.specs.Breaches.{at}
-use Rattle.lf_rules.specs.Names.{has, Holds}
+use Rattle.lf_scalar.specs.Cells.{Value}
+use Rattle.lf_base.specs.declared.fault.Fault.{Fault}
+use Rattle.lf_base.specs.declared.name_set.NameSet.{NameSet}
+use Rattle.lf_base.specs.Names.{Bytes}
+use Rattle.lf_base.specs.Faults.{fault}
+use Rattle.lf_base.specs.NameSets.{has, HasNames}
 use Rattle.lf_yaml.specs.Tree.{Tree}
 use Rattle.lf_rules.specs.Reading.{name_of, with_name, names_faults, again_faults, least_from, lesser}
 use Rattle.lf_rules.proofs.Folded.{least_both}
@@ -21,24 +22,24 @@ any_more : (p : Bytes → Bool) (names : List Bytes) (x : Bytes) → list_any p 
 any_more p [] x = refl
 any_more p (n ∷ names) x = ap (λ b. p n || b) (any_more p names x) ∙ swapped (p n) (p x) (list_any p names)
 
-pub holds_more : (old now : NameSet) (names : List Bytes) (name : Bytes) → Holds old names → ((other : List ℕ) → has now other ≡ (bytes_eq other name || has old other)) → Holds now (names ++ name ∷ [])
+pub holds_more : (old now : NameSet) (names : List Bytes) (name : Bytes) → HasNames old names → ((other : List ℕ) → has now other ≡ (bytes_eq other name || has old other)) → HasNames now (names ++ name ∷ [])
 holds_more old now names name h m = λ other. m other ∙ ap (λ b. bytes_eq other name || b) (h other) ∙ sym (any_more (bytes_eq other) names name)
 
 -- the fault of a name that was added, by whether it was new
-again_if : (old : NameSet) (names : List Bytes) (v : Value) (b : Bool) → Holds old names → b ≡ not (has old v.text) → again_faults names (Some v) ≡ cond b [] (at DoubleGroup v.span ∷ [])
+again_if : (old : NameSet) (names : List Bytes) (v : Value) (b : Bool) → HasNames old names → b ≡ not (has old v.text) → again_faults names (Some v) ≡ cond b [] (fault DoubleGroup v.span ∷ [])
 again_if old names v b h e = by (list_any (bytes_eq v.text) names) (e ∙ ap not (h v.text))
   where
-    by : (a : Bool) → b ≡ not a → cond a (at DoubleGroup v.span ∷ []) [] ≡ cond b [] (at DoubleGroup v.span ∷ [])
-    by true e = ap (λ x. cond x [] (at DoubleGroup v.span ∷ [])) (sym e)
-    by false e = ap (λ x. cond x [] (at DoubleGroup v.span ∷ [])) (sym e)
+    by : (a : Bool) → b ≡ not a → cond a (fault DoubleGroup v.span ∷ []) [] ≡ cond b [] (fault DoubleGroup v.span ∷ [])
+    by true e = ap (λ x. cond x [] (fault DoubleGroup v.span ∷ [])) (sym e)
+    by false e = ap (λ x. cond x [] (fault DoubleGroup v.span ∷ [])) (sym e)
 
-pub again_noted : (old : NameSet) (names : List Bytes) (v : Value) (g : Option Value) (b : Bool) (first now : Option Fault) → Some v ≡ g → Holds old names → b ≡ not (has old v.text) → b ≡ false → now ≡ lesser first (at DoubleGroup v.span) → now ≡ least_from first (again_faults names g)
+pub again_noted : (old : NameSet) (names : List Bytes) (v : Value) (g : Option Value) (b : Bool) (first now : Option Fault) → Some v ≡ g → HasNames old names → b ≡ not (has old v.text) → b ≡ false → now ≡ lesser first (fault DoubleGroup v.span) → now ≡ least_from first (again_faults names g)
 unfolding least_from
-again_noted old names v g b first now i h e f n = n ∙ ap (λ x. least_from first (cond x [] (at DoubleGroup v.span ∷ []))) (sym f) ∙ ap (least_from first) (sym (again_if old names v b h e)) ∙ ap (λ x. least_from first (again_faults names x)) i
+again_noted old names v g b first now i h e f n = n ∙ ap (λ x. least_from first (cond x [] (fault DoubleGroup v.span ∷ []))) (sym f) ∙ ap (least_from first) (sym (again_if old names v b h e)) ∙ ap (λ x. least_from first (again_faults names x)) i
 
-pub again_new : (old : NameSet) (names : List Bytes) (v : Value) (g : Option Value) (b : Bool) (first : Option Fault) → Some v ≡ g → Holds old names → b ≡ not (has old v.text) → b ≡ true → first ≡ least_from first (again_faults names g)
+pub again_new : (old : NameSet) (names : List Bytes) (v : Value) (g : Option Value) (b : Bool) (first : Option Fault) → Some v ≡ g → HasNames old names → b ≡ not (has old v.text) → b ≡ true → first ≡ least_from first (again_faults names g)
 unfolding least_from
-again_new old names v g b first i h e f = ap (λ x. least_from first (cond x [] (at DoubleGroup v.span ∷ []))) (sym f) ∙ ap (least_from first) (sym (again_if old names v b h e)) ∙ ap (λ x. least_from first (again_faults names x)) i
+again_new old names v g b first i h e f = ap (λ x. least_from first (cond x [] (fault DoubleGroup v.span ∷ []))) (sym f) ∙ ap (least_from first) (sym (again_if old names v b h e)) ∙ ap (λ x. least_from first (again_faults names x)) i
 
 pub again_none : (names : List Bytes) (g : Option Value) (first : Option Fault) → None ≡ g → first ≡ least_from first (again_faults names g)
 unfolding least_from

@@ -4,13 +4,15 @@ use Rattle.std.specs.List.{Contains, list_any}
 use Rattle.std.specs.Str.{bytes_eq}
 use Rattle.std.proofs.lemmas.List.Elements.{Contains-append_left, Contains-append_right, Contains-append_cases}
 use Rattle.lf_base.specs.declared.kind.Kind.TheVariants.{DoubleGroup}
-use Rattle.lf_scalar.specs.Cells.{Value, Fault}
+use Rattle.lf_scalar.specs.Cells.{Value}
+use Rattle.lf_base.specs.declared.fault.Fault.{Fault}
 use Rattle.lf_yaml.specs.Tree.{Tree, leaf, sequence, mapping}
-use Rattle.lf_rules.specs.Texts.{Bytes}
+use Rattle.lf_base.specs.Names.{Bytes}
 use Rattle.lf_rules.specs.Mappings.{pairs, given}
-use Rattle.lf_rules.specs.Breaches.{at, GroupNamed, SecondName}
+use Rattle.lf_rules.specs.Breaches.{GroupNamed, SecondName}
+use Rattle.lf_base.specs.Faults.{fault}
 use Rattle.lf_rules.specs.Reading.{scalar_of, name_of, again_faults, with_name, names_faults}
-use Rattle.lf_rules.proofs.Members.{here, none_in, only_one, any_out, any_in}
+use Rattle.lf_laws.proofs.Members.{here, none_in, only_one, any_out, any_in}
 
 named_out : (t : Tree) (v : Value) → name_of t ≡ Some v → GroupNamed t v
 named_out (leaf w) v e = absurd (cc)
@@ -33,14 +35,14 @@ named_in t v n = subst (λ u. name_of u ≡ Some v) (sym n.2) (ap scalar_of n.3)
 abbrev pub Again : List Bytes → List Tree → Fault → Type 0
 Again names ts f =
     (j : ℕ) × (u : Tree) × (w : Value) × (slice_get ts j ≡ Some u) × GroupNamed u w
-    × (Contains names w.text ⊎ ((i : ℕ) × (t : Tree) × (v : Value) × (i < j) × (slice_get ts i ≡ Some t) × GroupNamed t v × (v.text ≡ w.text))) × (f ≡ at DoubleGroup w.span)
+    × (Contains names w.text ⊎ ((i : ℕ) × (t : Tree) × (v : Value) × (i < j) × (slice_get ts i ≡ Some t) × GroupNamed t v × (v.text ≡ w.text))) × (f ≡ fault DoubleGroup w.span)
 
 first_again : (names : List Bytes) (t : Tree) (ts : List Tree) (f : Fault) (found : Option Value) → name_of t ≡ found → Contains (again_faults names found) f → Again names (t ∷ ts) f
 first_again names t ts f None e c = absurd (none_in f c)
 first_again names t ts f (Some v) e c = by (list_any (bytes_eq v.text) names) refl c
   where
-    by : (b : Bool) → list_any (bytes_eq v.text) names ≡ b → Contains (cond b (at DoubleGroup v.span ∷ []) []) f → Again names (t ∷ ts) f
-    by true is d = (0, t, v, refl, named_out t v e, inl (any_out v.text names is), only_one (at DoubleGroup v.span) f d)
+    by : (b : Bool) → list_any (bytes_eq v.text) names ≡ b → Contains (cond b (fault DoubleGroup v.span ∷ []) []) f → Again names (t ∷ ts) f
+    by true is d = (0, t, v, refl, named_out t v e, inl (any_out v.text names is), sym (only_one (fault DoubleGroup v.span) f d))
     by false is d = absurd (none_in f d)
 
 later_again : (names : List Bytes) (t : Tree) (ts : List Tree) (f : Fault) (found : Option Value) → name_of t ≡ found → Again (with_name names found) ts f → Again names (t ∷ ts) f
@@ -55,7 +57,7 @@ later_again names t ts f found e a = (suc a.0, a.1, a.2, a.3, a.4, by found e a.
       where
         pick : Contains names a.2.text ⊎ Contains (v.text ∷ []) a.2.text → Contains names a.2.text ⊎ ((i : ℕ) × (u : Tree) × (x : Value) × (i < suc a.0) × (slice_get (t ∷ ts) i ≡ Some u) × GroupNamed u x × (x.text ≡ a.2.text))
         pick (inl d) = inl d
-        pick (inr d) = inr (0, t, v, omega arith, refl, named_out t v e, sym (only_one v.text a.2.text d))
+        pick (inr d) = inr (0, t, v, omega arith, refl, named_out t v e, only_one v.text a.2.text d)
 
 pub names_out : (names : List Bytes) (ts : List Tree) (f : Fault) → Contains (names_faults names ts) f → Again names ts f
 unfolding names_faults
@@ -69,8 +71,8 @@ names_out names (t ∷ ts) f c = by (Contains-append_cases (again_faults names (
 same_node : (t u : Tree) → Some t ≡ Some u → t ≡ u
 same_node t u e = cc
 
-told_here : (names : List Bytes) (found : Option Value) (w : Value) → found ≡ Some w → Contains names w.text → Contains (again_faults names found) (at DoubleGroup w.span)
-told_here names found w e c = subst (λ x. Contains (again_faults names x) (at DoubleGroup w.span)) (sym e) (rw (any_in w.text names c) (here (at DoubleGroup w.span) []))
+told_here : (names : List Bytes) (found : Option Value) (w : Value) → found ≡ Some w → Contains names w.text → Contains (again_faults names found) (fault DoubleGroup w.span)
+told_here names found w e c = subst (λ x. Contains (again_faults names x) (fault DoubleGroup w.span)) (sym e) (rw (any_in w.text names c) (here (fault DoubleGroup w.span) []))
 
 kept_names : (names : List Bytes) (found : Option Value) (name : Bytes) → Contains names name → Contains (with_name names found) name
 kept_names names None name c = c
@@ -84,8 +86,8 @@ unfolding names_faults
 names_in names [] f a = absurd (cc (a.3))
 names_in names (t ∷ ts) f a = by a.0 a.3 a.5 (names_in (with_name names (name_of t)) ts f)
   where
-    found : Contains (again_faults names (name_of t)) (at DoubleGroup a.2.span) → Contains (names_faults names (t ∷ ts)) f
-    found c = subst (Contains (names_faults names (t ∷ ts))) (sym a.6) (Contains-append_left (again_faults names (name_of t)) (names_faults (with_name names (name_of t)) ts) (at DoubleGroup a.2.span) c)
+    found : Contains (again_faults names (name_of t)) (fault DoubleGroup a.2.span) → Contains (names_faults names (t ∷ ts)) f
+    found c = subst (Contains (names_faults names (t ∷ ts))) (sym a.6) (Contains-append_left (again_faults names (name_of t)) (names_faults (with_name names (name_of t)) ts) (fault DoubleGroup a.2.span) c)
 
     later : Contains (names_faults (with_name names (name_of t)) ts) f → Contains (names_faults names (t ∷ ts)) f
     later c = Contains-append_right (again_faults names (name_of t)) (names_faults (with_name names (name_of t)) ts) f c

@@ -3,7 +3,7 @@ use Rattle.std.proofs.Common.{◌≡◌, ℕ, suc, List, [], ◌∷◌, Option, 
 use Rattle.std.specs.List.{AllZip}
 use Rattle.lf_scalar.specs.Cells.{Value}
 use Rattle.lf_yaml.specs.Tree.{Tree, leaf, sequence, mapping}
-use Rattle.lf_rules.specs.Texts.{Bytes}
+use Rattle.lf_base.specs.Names.{Bytes}
 use Rattle.lf_rules.specs.Mappings.{Pairing, pairs, trees, given, entry_at}
 use Rattle.lf_rules.specs.Sources.{Source, Setting}
 use Rattle.lf_rules.specs.Rules.{Sets, AreSettings, IsRecord, IsAlert, IsRule, IsRuleTree, AreRules, IsGroupTree, AreGroups, AreFileGroups, IsRules}

@@ -3,9 +3,11 @@ use Rattle.std.proofs.Common.{◌≡◌, ◌≢◌, ℕ, Bool, true, false, List
 use Rattle.std.specs.List.{Contains, flat_map}
 use Rattle.lf_base.specs.declared.kind.Kind.TheVariants.{BadName, BadDuration}
 use Rattle.lf_base.specs.declared.place.Span.{Span}
-use Rattle.lf_scalar.specs.Cells.{Value, Fault}
+use Rattle.lf_scalar.specs.Cells.{Value}
+use Rattle.lf_base.specs.declared.fault.Fault.{Fault}
 use Rattle.lf_yaml.specs.Tree.{Tree, leaf}
-use Rattle.lf_rules.specs.Texts.{Bytes, is_metric_name, IsTime}
+use Rattle.lf_rules.specs.Texts.{IsTime}
+use Rattle.lf_base.specs.Names.{Bytes, is_metric_name}
 use Rattle.lf_rules.specs.Mappings.{Pairing, given, given_entry}
 use Rattle.lf_rules.specs.Sources.{Source, Setting}
 use Rattle.lf_rules.specs.Rules.{IsText, AreSettings, SetsNoName, IsRecord, IsAlert, IsRule, rule_keys}

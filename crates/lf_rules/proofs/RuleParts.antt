@@ -4,15 +4,18 @@ use Rattle.std.specs.List.{Contains, flat_map}
 use Rattle.std.specs.Str.{bytes_eq}
 use Rattle.lf_base.specs.declared.kind.Kind.TheVariants.{WrongKind, MissingKey, BothKinds, BadName, NotForRecord, BadDuration}
 use Rattle.lf_base.specs.declared.place.Span.{Span}
-use Rattle.lf_scalar.specs.Cells.{Fault}
+use Rattle.lf_base.specs.declared.fault.Fault.{Fault}
 use Rattle.lf_yaml.specs.Tree.{Tree, leaf, sequence, mapping}
-use Rattle.lf_rules.specs.Texts.{Bytes, IsTime, is_metric_name}
+use Rattle.lf_rules.specs.Texts.{IsTime}
+use Rattle.lf_base.specs.Names.{Bytes, is_metric_name}
 use Rattle.lf_rules.specs.Mappings.{Pairing, pairs, place, given, given_entry, entry_at, unless_empty, is_empty}
 use Rattle.lf_rules.specs.Rules.{rule_keys, alert_keys}
 use Rattle.lf_rules.specs.Breaches as breach
-use Rattle.lf_rules.specs.Breaches.{at, at_start, scalar_keys, time_keys, StandsBefore, RuleBreaks, RuleTreeBreaks, Records}
+use Rattle.lf_rules.specs.Breaches.{at_start, scalar_keys, time_keys, StandsBefore, RuleBreaks, RuleTreeBreaks, Records}
+use Rattle.lf_base.specs.Faults.{fault}
 use Rattle.lf_rules.specs.Reading.{is_time, records_first, kind_faults, misplaced, alert_faults, rule_parts, rule_faults, rule_tree_faults, text_faults, scalar_faults, missing_faults, unknown_faults, settings_faults}
-use Rattle.lf_rules.proofs.Members.{here, behind, none_in, only_one, first_or_behind, true_same, same_true, other_false, or_behind, any_out, flat_in, flat_out, each_member}
+use Rattle.lf_laws.proofs.Members.{here, behind, none_in, only_one, first_or_behind, true_same, same_true, other_false, any_out, in_flat_map, of_flat_map, each_member}
+use Rattle.lf_laws.proofs.Booleans.{or_right}
 use Rattle.lf_rules.proofs.Parts.{Decides, either, scalar_out, scalar_in, text_out, text_in_kind, text_in_text, unknown_out, unknown_in, settings_out, settings_in, scalar_is_no_mapping, list_is_no_mapping}
 use Rattle.std.proofs.lemmas.List.Elements.{Contains-append_left, Contains-append_right}
 
@@ -72,7 +75,7 @@ unfolding records_first
 scan_record [] back e is none = rw (same_true e.0.text record_key is) refl
 scan_record (x ∷ front) back e is none =
     let later : records_first (front ++ e ∷ back) ≡ true = scan_record front back e is (λ y c. none y (behind x front y c)) in
-    rw (other_false x.0.text alert_key (none x (here x front)), later) (or_behind (bytes_eq x.0.text record_key) true refl)
+    rw (other_false x.0.text alert_key (none x (here x front)), later) (or_right (bytes_eq x.0.text record_key) true refl)
 
 pub scan_first_record : (es : List Pairing) → StandsBefore record_key alert_key es → records_first es ≡ true
 scan_first_record es s = subst (λ l. records_first l ≡ true) (sym s.3) (scan_record s.0 s.1 s.2 s.4 s.5)
@@ -94,7 +97,7 @@ scan_first_alert es s = subst (λ l. records_first l ≡ false) (sym s.3) (scan_
 -- ---- from the list of faults to the definition
 
 pub missing_out : (s : Span) (found : Option Pairing) (f : Fault) → Contains (missing_faults s found) f → (found ≡ None) × (f ≡ at_start MissingKey s)
-missing_out s None f c = (refl, only_one (at_start MissingKey s) f c)
+missing_out s None f c = (refl, sym (only_one (at_start MissingKey s) f c))
 missing_out s (Some e) f c = absurd (none_in f c)
 
 pub not_given : (key : Bytes) (es : List Pairing) → given_entry key es ≡ None → given key es ≡ None
@@ -108,17 +111,17 @@ is_given key es e g none = by (sym (ap (option_map (λ x. x.1)) g) ∙ none)
 
 kind_out : (s : Span) (es : List Pairing) (f : Fault) (recorded alerted : Option Pairing) (first : Bool) → records_first es ≡ first → given_entry record_key es ≡ recorded → given_entry alert_key es ≡ alerted
     → Contains (kind_faults s first recorded alerted) f → RuleBreaks s es f
-kind_out s es f None None first r g h c = subst (RuleBreaks s es) (sym (only_one (at_start MissingKey s) f c)) (breach.rule_has_no_name (not_given record_key es g) (not_given alert_key es h))
+kind_out s es f None None first r g h c = subst (RuleBreaks s es) (only_one (at_start MissingKey s) f c) (breach.rule_has_no_name (not_given record_key es g) (not_given alert_key es h))
 kind_out s es f None (Some a) first r g h c = absurd (none_in f c)
 kind_out s es f (Some e) None first r g h c = absurd (none_in f c)
 kind_out s es f (Some e) (Some a) true r g h c =
-    subst (RuleBreaks s es) (sym (only_one (at BothKinds a.0.span) f c)) (breach.alert_behind_record g h (record_stands_first es e (given_is_there (entry_at record_key es) e g) r))
+    subst (RuleBreaks s es) (only_one (fault BothKinds a.0.span) f c) (breach.alert_behind_record g h (record_stands_first es e (given_is_there (entry_at record_key es) e g) r))
 kind_out s es f (Some e) (Some a) false r g h c =
-    subst (RuleBreaks s es) (sym (only_one (at BothKinds e.0.span) f c)) (breach.record_behind_alert g h (alert_stands_first es a (given_is_there (entry_at alert_key es) a h) r))
+    subst (RuleBreaks s es) (only_one (fault BothKinds e.0.span) f c) (breach.record_behind_alert g h (alert_stands_first es a (given_is_there (entry_at alert_key es) a h) r))
 
 misplaced_out : (s : Span) (es : List Pairing) (f : Fault) (key : Bytes) (found : Option Pairing) → Records es → Contains alert_keys key → given_entry key es ≡ found → Contains (misplaced found) f → RuleBreaks s es f
 misplaced_out s es f key None r k g c = absurd (none_in f c)
-misplaced_out s es f key (Some e) r k g c = subst (RuleBreaks s es) (sym (only_one (at NotForRecord e.0.span) f c)) (breach.only_for_alerts r k g)
+misplaced_out s es f key (Some e) r k g c = subst (RuleBreaks s es) (only_one (fault NotForRecord e.0.span) f c) (breach.only_for_alerts r k g)
 
 for_key : Contains alert_keys (codes "for")
 for_key = any_out (codes "for") alert_keys refl
@@ -166,7 +169,7 @@ module _ (time : Decides is_time IsTime) where
 
   pub rule_out : (s : Span) (es : List Pairing) (f : Fault) → Contains (rule_faults s es) f → RuleBreaks s es f
   rule_out s es f c =
-      let found : (part : List Fault) × Contains (rule_parts s es) part × Contains part f = flat_out (λ part. part) (rule_parts s es) f c in
+      let found : (part : List Fault) × Contains (rule_parts s es) part × Contains part f = of_flat_map (λ part. part) (rule_parts s es) f c in
       each_member (λ part. Contains part f → RuleBreaks s es f) (rule_parts s es) found.0 (
         (λ d. breach.rule_has_unknown_key (unknown_out rule_keys es f d)),
         ((
@@ -214,7 +217,7 @@ some_given (Some x) e = (x, refl)
 
 -- a fault of one part is one of the rule
 of_part : (s : Span) (es : List Pairing) (f : Fault) (part : List Fault) → Contains (rule_parts s es) part → Contains part f → Contains (rule_faults s es) f
-of_part s es f part m c = flat_in (λ p. p) (rule_parts s es) part f m c
+of_part s es f part m c = in_flat_map (λ p. p) (rule_parts s es) part f m c
 
 scalar_place : (s : Span) (es : List Pairing) (key : Bytes) (f : Fault) → Contains scalar_keys key → breach.NoScalarAt key es f → Contains (rule_faults s es) f
 scalar_place s es key f k n =
@@ -235,11 +238,11 @@ scalar_place s es key f k n =
       )),
     ) k n
 
-both_told : (s : Span) (first way : Bool) (recorded alerted : Option Pairing) (e a : Pairing) → recorded ≡ Some e → alerted ≡ Some a → first ≡ way → Contains (kind_faults s first recorded alerted) (at BothKinds (cond way a e).0.span)
+both_told : (s : Span) (first way : Bool) (recorded alerted : Option Pairing) (e a : Pairing) → recorded ≡ Some e → alerted ≡ Some a → first ≡ way → Contains (kind_faults s first recorded alerted) (fault BothKinds (cond way a e).0.span)
 both_told s first way recorded alerted e a g h r =
-    subst (λ x. Contains (kind_faults s first x alerted) (at BothKinds (cond way a e).0.span)) (sym g)
-    (subst (λ y. Contains (kind_faults s first (Some e) y) (at BothKinds (cond way a e).0.span)) (sym h)
-    (subst (λ b. Contains (kind_faults s b (Some e) (Some a)) (at BothKinds (cond way a e).0.span)) (sym r) (here (at BothKinds (cond way a e).0.span) [])))
+    subst (λ x. Contains (kind_faults s first x alerted) (fault BothKinds (cond way a e).0.span)) (sym g)
+    (subst (λ y. Contains (kind_faults s first (Some e) y) (fault BothKinds (cond way a e).0.span)) (sym h)
+    (subst (λ b. Contains (kind_faults s b (Some e) (Some a)) (fault BothKinds (cond way a e).0.span)) (sym r) (here (fault BothKinds (cond way a e).0.span) [])))
 
 module _ (time : Decides is_time IsTime) where
   time_place : (s : Span) (es : List Pairing) (key : Bytes) (f : Fault) → Contains time_keys key → breach.WrongTextAt key IsTime BadDuration es f → Contains (rule_faults s es) f
@@ -252,8 +255,8 @@ module _ (time : Decides is_time IsTime) where
         )),
       ) k w
 
-  misplaced_in : (es : List Pairing) (key : Bytes) (e : Pairing) → given_entry key es ≡ Some e → Contains (misplaced (given_entry key es)) (at NotForRecord e.0.span)
-  misplaced_in es key e g = rw g (here (at NotForRecord e.0.span) [])
+  misplaced_in : (es : List Pairing) (key : Bytes) (e : Pairing) → given_entry key es ≡ Some e → Contains (misplaced (given_entry key es)) (fault NotForRecord e.0.span)
+  misplaced_in es key e g = rw g (here (fault NotForRecord e.0.span) [])
 
   alert_key_place : (es : List Pairing) (f : Fault) (key : Bytes) → Contains alert_keys key → Contains (misplaced (given_entry key es)) f
       → Contains (misplaced (given_entry (codes "for") es) ++ (misplaced (given_entry (codes "keep_firing_for") es) ++ misplaced (given_entry (codes "annotations") es))) f
@@ -269,10 +272,10 @@ module _ (time : Decides is_time IsTime) where
         ),
       ) k c
 
-  alert_keys_in : (es : List Pairing) (key : Bytes) (e : Pairing) → Records es → Contains alert_keys key → given_entry key es ≡ Some e → Contains (alert_faults (given_entry record_key es) (given_entry alert_key es) es) (at NotForRecord e.0.span)
+  alert_keys_in : (es : List Pairing) (key : Bytes) (e : Pairing) → Records es → Contains alert_keys key → given_entry key es ≡ Some e → Contains (alert_faults (given_entry record_key es) (given_entry alert_key es) es) (fault NotForRecord e.0.span)
   alert_keys_in es key e r k g =
       let recorded : (x : Pairing) × (given_entry record_key es ≡ Some x) = some_given (given_entry record_key es) r.0 in
-      rw (recorded.1, none_given (given_entry alert_key es) r.1) (alert_key_place es (at NotForRecord e.0.span) key k (misplaced_in es key e g))
+      rw (recorded.1, none_given (given_entry alert_key es) r.1) (alert_key_place es (fault NotForRecord e.0.span) key k (misplaced_in es key e g))
 
   settings_place : (is_labels : Bool) (key : Bytes) (es : List Pairing) (t : Tree) (f : Fault) → given key es ≡ Some t → breach.SettingsBreak is_labels t f → Contains (settings_faults is_labels (given key es)) f
   settings_place is_labels key es t f g b = subst (λ found. Contains (settings_faults is_labels found) f) (sym g) (settings_in is_labels t f b)
@@ -285,28 +288,28 @@ module _ (time : Decides is_time IsTime) where
   rule_in s es f (breach.rule_has_no_expression n) =
       of_part s es (at_start MissingKey s) (missing_faults s (given_entry (codes "expr") es)) (5, omega arith, refl) (rw (none_given (given_entry (codes "expr") es) n) (here (at_start MissingKey s) []))
   rule_in s es f (breach.alert_behind_record {alerted = a} g h b) =
-      of_part s es (at BothKinds a.0.span) (kind_faults s (records_first es) (given_entry record_key es) (given_entry alert_key es)) (1, omega arith, refl)
+      of_part s es (fault BothKinds a.0.span) (kind_faults s (records_first es) (given_entry record_key es) (given_entry alert_key es)) (1, omega arith, refl)
       (both_told s (records_first es) true (given_entry record_key es) (given_entry alert_key es) _ a g h (scan_first_record es b))
   rule_in s es f (breach.record_behind_alert {recorded = e} g h b) =
-      of_part s es (at BothKinds e.0.span) (kind_faults s (records_first es) (given_entry record_key es) (given_entry alert_key es)) (1, omega arith, refl)
+      of_part s es (fault BothKinds e.0.span) (kind_faults s (records_first es) (given_entry record_key es) (given_entry alert_key es)) (1, omega arith, refl)
       (both_told s (records_first es) false (given_entry record_key es) (given_entry alert_key es) e _ g h (scan_first_alert es b))
   rule_in s es f (breach.record_is_no_metric w) =
       of_part s es f (text_faults is_metric_name BadName (given record_key es)) (3, omega arith, refl) (text_in_text is_metric_name (λ t. is_metric_name t ≡ true) BadName record_key es f metric_decides w)
   rule_in s es f (breach.only_for_alerts {key = key} {e = e} r k g) =
-      of_part s es (at NotForRecord e.0.span) (alert_faults (given_entry record_key es) (given_entry alert_key es) es) (2, omega arith, refl) (alert_keys_in es key e r k g)
+      of_part s es (fault NotForRecord e.0.span) (alert_faults (given_entry record_key es) (given_entry alert_key es) es) (2, omega arith, refl) (alert_keys_in es key e r k g)
   rule_in s es f (breach.rule_wants_a_scalar {key = key} k n) = scalar_place s es key f k n
   rule_in s es f (breach.rule_wants_a_time {key = key} k w) = time_place s es key f k w
   rule_in s es f (breach.labels_break {t = t} g b) = of_part s es f (settings_faults true (given (codes "labels") es)) (9, omega arith, refl) (settings_place true (codes "labels") es t f g b)
   rule_in s es f (breach.annotations_break {t = t} g b) = of_part s es f (settings_faults false (given (codes "annotations") es)) (10, omega arith, refl) (settings_place false (codes "annotations") es t f g b)
 
   pub rule_tree_out : (t : Tree) (f : Fault) → Contains (rule_tree_faults t) f → RuleTreeBreaks t f
-  rule_tree_out (leaf v) f c = subst (RuleTreeBreaks (leaf v)) (sym (only_one (at WrongKind v.span) f c)) (breach.rule_is_no_mapping (scalar_is_no_mapping v))
-  rule_tree_out (sequence items s) f c = subst (RuleTreeBreaks (sequence items s)) (sym (only_one (at WrongKind s) f c)) (breach.rule_is_no_mapping (list_is_no_mapping items s))
+  rule_tree_out (leaf v) f c = subst (RuleTreeBreaks (leaf v)) (only_one (fault WrongKind v.span) f c) (breach.rule_is_no_mapping (scalar_is_no_mapping v))
+  rule_tree_out (sequence items s) f c = subst (RuleTreeBreaks (sequence items s)) (only_one (fault WrongKind s) f c) (breach.rule_is_no_mapping (list_is_no_mapping items s))
   rule_tree_out (mapping es s) f c = breach.rule_breaks (rule_out time s (pairs es) f c)
 
-  no_mapping_in : (t : Tree) → breach.IsNoMapping t → Contains (rule_tree_faults t) (at WrongKind (place t))
-  no_mapping_in (leaf v) bare = here (at WrongKind v.span) []
-  no_mapping_in (sequence items s) bare = here (at WrongKind s) []
+  no_mapping_in : (t : Tree) → breach.IsNoMapping t → Contains (rule_tree_faults t) (fault WrongKind (place t))
+  no_mapping_in (leaf v) bare = here (fault WrongKind v.span) []
+  no_mapping_in (sequence items s) bare = here (fault WrongKind s) []
   no_mapping_in (mapping es s) bare = absurd (bare es s refl)
 
   pub rule_tree_in : (t : Tree) (f : Fault) → RuleTreeBreaks t f → Contains (rule_tree_faults t) f

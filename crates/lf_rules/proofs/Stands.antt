@@ -4,15 +4,17 @@ use Rattle.std.specs.List.{Contains, flat_map, list_any, AllZip, AllByRecursion}
 use Rattle.std.specs.Str.{bytes_eq}
 use Rattle.lf_base.specs.declared.kind.Kind.{Kind}
 use Rattle.lf_base.specs.declared.kind.Kind.TheVariants.{UnknownKey, BadName}
-use Rattle.lf_scalar.specs.Cells.{Value, Fault}
+use Rattle.lf_scalar.specs.Cells.{Value}
+use Rattle.lf_base.specs.declared.fault.Fault.{Fault}
 use Rattle.lf_yaml.specs.Tree.{Tree, leaf, sequence, mapping}
-use Rattle.lf_rules.specs.Texts.{Bytes, is_label_name, metric}
+use Rattle.lf_base.specs.Names.{Bytes, is_label_name, metric}
 use Rattle.lf_rules.specs.Mappings.{Pairing, pairs}
 use Rattle.lf_rules.specs.Sources.{Setting}
 use Rattle.lf_rules.specs.Rules.{HasOnly, IsText, Sets, AreSettings, SetsNoName}
-use Rattle.lf_rules.specs.Breaches.{at}
+use Rattle.lf_base.specs.Faults.{fault}
 use Rattle.lf_rules.specs.Reading.{joined, text_faults, scalar_faults, unknown_faults, value_faults, is_setting_name, setting_faults, settings_faults, settings_of, leaf_of, text_of}
-use Rattle.lf_rules.proofs.Members.{here, behind, none_in, first_or_behind, any_in, any_out, same_true, true_same, and_first, and_second}
+use Rattle.lf_laws.proofs.Members.{here, behind, none_in, first_or_behind, any_in, any_out, same_true, true_same}
+use Rattle.lf_laws.proofs.Booleans.{and_left, and_right}
 use Rattle.lf_rules.proofs.Parts.{Decides}
 
 -- ---- lists
@@ -42,7 +44,7 @@ pub text_stands : (is : Bytes → Bool) (P : Bytes → Type 0) (kind : Kind) (g 
 text_stands is P kind None d e = tt
 text_stands is P kind (Some (leaf v)) d e = by (is v.text) refl e
   where
-    by : (b : Bool) → is v.text ≡ b → cond b [] (at kind v.span ∷ []) ≡ [] → P v.text
+    by : (b : Bool) → is v.text ≡ b → cond b [] (fault kind v.span ∷ []) ≡ [] → P v.text
     by true h f = d.0 v.text h
     by false h f = absurd (cc)
 text_stands is P kind (Some (sequence items s)) d e = absurd (cc)
@@ -78,7 +80,7 @@ pub keys_stand : (keys : List Bytes) (es : List Pairing) → flat_map (unknown_f
 keys_stand keys [] e x c = absurd (none_in x c)
 keys_stand keys (y ∷ es) e x c = by (both_empty (unknown_faults keys y) (flat_map (unknown_faults keys) es) e) (first_or_behind y es x c) (keys_stand keys es)
   where
-    known : (b : Bool) → list_any (bytes_eq y.0.text) keys ≡ b → cond b [] (at UnknownKey y.0.span ∷ []) ≡ [] → Contains keys y.0.text
+    known : (b : Bool) → list_any (bytes_eq y.0.text) keys ≡ b → cond b [] (fault UnknownKey y.0.span ∷ []) ≡ [] → Contains keys y.0.text
     known true h f = any_out y.0.text keys h
     known false h f = absurd (cc)
 
@@ -98,16 +100,16 @@ value_stands (leaf v) e = refl
 value_stands (sequence items s) e = absurd (cc)
 value_stands (mapping es s) e = absurd (cc)
 
-name_stands : (e : Pairing) (b : Bool) → cond b [] (at BadName e.0.span ∷ []) ≡ [] → b ≡ true
+name_stands : (e : Pairing) (b : Bool) → cond b [] (fault BadName e.0.span ∷ []) ≡ [] → b ≡ true
 name_stands e true h = refl
 name_stands e false h = absurd (cc)
 
 one_stands : (is_labels : Bool) (e : Pairing) → setting_faults is_labels e ≡ [] → Sets e (e.0, leaf_of e.1) × (is_labels ≡ true → e.0.text ≢ metric)
 one_stands is_labels e h =
-    let parts : (cond (is_setting_name is_labels e.0.text) [] (at BadName e.0.span ∷ []) ≡ []) × (value_faults e.1 ≡ []) = both_empty (cond (is_setting_name is_labels e.0.text) [] (at BadName e.0.span ∷ [])) (value_faults e.1) h in
+    let parts : (cond (is_setting_name is_labels e.0.text) [] (fault BadName e.0.span ∷ []) ≡ []) × (value_faults e.1 ≡ []) = both_empty (cond (is_setting_name is_labels e.0.text) [] (fault BadName e.0.span ∷ [])) (value_faults e.1) h in
     let named : is_setting_name is_labels e.0.text ≡ true = name_stands e (is_setting_name is_labels e.0.text) parts.0 in (
-      (refl, value_stands e.1 parts.1, and_first (is_label_name e.0.text) (not (is_labels && bytes_eq e.0.text metric)) named),
-      (λ l m. by is_labels (bytes_eq e.0.text metric) l (same_true e.0.text metric m) (and_second (is_label_name e.0.text) (not (is_labels && bytes_eq e.0.text metric)) named)),
+      (refl, value_stands e.1 parts.1, and_left (is_label_name e.0.text) (not (is_labels && bytes_eq e.0.text metric)) named),
+      (λ l m. by is_labels (bytes_eq e.0.text metric) l (same_true e.0.text metric m) (and_right (is_label_name e.0.text) (not (is_labels && bytes_eq e.0.text metric)) named)),
     )
   where
     by : (a b : Bool) → a ≡ true → b ≡ true → not (a && b) ≡ true → ⊥
@@ -129,7 +131,7 @@ list_stands is_labels (e ∷ es) h =
 
 one_clean : (is_labels : Bool) (e : Pairing) (s : Setting) → Sets e s → (is_labels ≡ true → s.0.text ≢ metric) → (setting_faults is_labels e ≡ []) × (s ≡ (e.0, leaf_of e.1))
 one_clean is_labels e s sets n = (
-  empty_both (cond (is_setting_name is_labels e.0.text) [] (at BadName e.0.span ∷ [])) (value_faults e.1) (rw (name is_labels (bytes_eq e.0.text metric) refl (λ l m. n l (ap (λ v. v.text) sets.0 ∙ true_same e.0.text metric m)) sets.2) refl) (subst (λ t. value_faults t ≡ []) (sym sets.1) refl),
+  empty_both (cond (is_setting_name is_labels e.0.text) [] (fault BadName e.0.span ∷ [])) (value_faults e.1) (rw (name is_labels (bytes_eq e.0.text metric) refl (λ l m. n l (ap (λ v. v.text) sets.0 ∙ true_same e.0.text metric m)) sets.2) refl) (subst (λ t. value_faults t ≡ []) (sym sets.1) refl),
   by s sets.0 (sym (ap leaf_of sets.1)),
 )
   where

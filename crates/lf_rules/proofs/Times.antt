@@ -7,9 +7,11 @@ use Rattle.lf_lex.specs.Durations.{IsDuration}
 use Rattle.lf_lex.specs.reading.Runs.{duration_order}
 use Rattle.lf_lex.proofs.DurationLaws.{ordered, only_ordered}
 use Rattle.lf_lex.proofs.WholeDurations.{duration_some}
-use Rattle.lf_rules.specs.Texts.{Bytes, is_digit, IsTime, IsLimit}
+use Rattle.lf_rules.specs.Texts.{IsTime, IsLimit}
+use Rattle.lf_base.specs.Names.{Bytes, is_digit}
 use Rattle.lf_rules.specs.Reading.{is_in_order, is_duration, is_time, is_limit}
-use Rattle.lf_rules.proofs.Members.{or_cases, or_behind, same_true, true_same, and_first, and_second}
+use Rattle.lf_laws.proofs.Booleans.{or_cases, or_right, and_left, and_right}
+use Rattle.lf_laws.proofs.Members.{same_true, true_same}
 use Rattle.lf_rules.proofs.Parts.{Decides}
 
 order_says : (o : Option Bool) → is_in_order o ≡ true → o ≡ Some true
@@ -37,15 +39,15 @@ time_decides = ((λ t e. by t (or_cases (is_duration t) (bytes_eq t (codes "0"))
 
     back : (t : Bytes) → IsTime t → is_time t ≡ true
     back t (inl d) = rw (duration_in t d) refl
-    back t (inr h) = or_behind (is_duration t) (bytes_eq t (codes "0")) (same_true t (codes "0") h)
+    back t (inr h) = or_right (is_duration t) (bytes_eq t (codes "0")) (same_true t (codes "0") h)
 
 pub limit_decides : Decides is_limit IsLimit
 limit_decides = (out, back)
   where
     out : (t : Bytes) → is_limit t ≡ true → IsLimit t
     out t e =
-        let more : (nat_le 1 (length t) && nat_le (length t) 9) ≡ true = and_second (list_all is_digit t) (nat_le 1 (length t) && nat_le (length t) 9) e in
-        (and_first (list_all is_digit t) (nat_le 1 (length t) && nat_le (length t) 9) e, grind (arith, nat_tests, and_first (nat_le 1 (length t)) (nat_le (length t) 9) more), grind (arith, nat_tests, and_second (nat_le 1 (length t)) (nat_le (length t) 9) more))
+        let more : (nat_le 1 (length t) && nat_le (length t) 9) ≡ true = and_right (list_all is_digit t) (nat_le 1 (length t) && nat_le (length t) 9) e in
+        (and_left (list_all is_digit t) (nat_le 1 (length t) && nat_le (length t) 9) e, grind (arith, nat_tests, and_left (nat_le 1 (length t)) (nat_le (length t) 9) more), grind (arith, nat_tests, and_right (nat_le 1 (length t)) (nat_le (length t) 9) more))
 
     both : (t : Bytes) (a b : Bool) → nat_le 1 (length t) ≡ a → nat_le (length t) 9 ≡ b → 1 ≤ length t → length t ≤ 9 → (a && b) ≡ true
     both t true true e f l m = refl

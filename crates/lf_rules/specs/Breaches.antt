@@ -1,22 +1,22 @@
 -- What breaks a rule file, and where. Nothing below an unknown key is judged, and nothing below a node of a wrong kind.
-use Rattle.std.specs.Prelude.{◌≡◌, ◌≢◌, ℕ, Bool, true, false, ◌<◌, ◌≤◌, ◌+◌, min, List, [], ◌∷◌, ◌++◌, Some, None, codes, ◌⊎◌, slice_get}
+use Rattle.std.specs.Prelude.{◌≡◌, ◌≢◌, ℕ, Bool, true, false, ◌<◌, ◌+◌, min, List, [], ◌∷◌, ◌++◌, Some, None, codes, slice_get}
 use Rattle.std.specs.List.{Contains}
 use Rattle.lf_base.specs.declared.kind.Kind.{Kind}
-use Rattle.lf_base.specs.declared.kind.Kind.TheVariants.{BadUtf8, BadChar, BadEscape, OpenQuote, BadHeader, BadIndent, LeftOut, DoubleKey, NotANode, TooDeep, WrongKind, UnknownKey, MissingKey, BothKinds, BadName, BadLimit, DoubleGroup, NotForRecord, BadByte, OpenString, BadNumber, BadDuration, Syntax, WrongType, UnknownName, WrongCount, BadModifier, BadLabel, BadPattern, BadSelector, OpenAction, BadAction}
+use Rattle.lf_base.specs.declared.kind.Kind.TheVariants.{WrongKind, UnknownKey, MissingKey, BothKinds, BadName, BadLimit, DoubleGroup, NotForRecord, BadDuration}
 use Rattle.lf_base.specs.declared.place.Span.{Span}
-use Rattle.lf_scalar.specs.Cells.{Value, Fault, span}
+use Rattle.lf_scalar.specs.Cells.{Value}
+use Rattle.lf_base.specs.declared.fault.Fault.{Fault}
+use Rattle.lf_base.specs.Faults.{fault, span, IsTold}
 use Rattle.lf_yaml.specs.Tree.{Tree, leaf, sequence, mapping, Items, Entries}
-use Rattle.lf_rules.specs.Texts.{Bytes, is_label_name, is_metric_name, metric, IsTime, IsLimit}
+use Rattle.lf_rules.specs.Texts.{IsTime, IsLimit}
+use Rattle.lf_base.specs.Names.{Bytes, is_label_name, is_metric_name, metric}
 use Rattle.lf_rules.specs.Mappings.{Pairing, pairs, trees, entry_at, given_entry, given, place, is_empty}
 use Rattle.lf_rules.specs.Rules.{rule_keys, alert_keys, group_keys, file_keys}
-
-abbrev pub at : Kind → Span → Fault
-at kind where_is = record { kind = kind; span = where_is }
 
 -- a fault at the first character of a mapping: a bracket, a quote, or the first letter of a key that is known. Before a key that isn't known stands nothing
 -- else that is told, since that key is a fault at the same start and comes first. An offset is below 2 ^ 32
 abbrev pub at_start : Kind → Span → Fault
-at_start kind where_is = at kind (span where_is.start (min (where_is.start + 1) 4294967295))
+at_start kind where_is = fault kind (span where_is.start (min (where_is.start + 1) 4294967295))
 
 -- a node that is no scalar
 abbrev pub IsNoScalar : Tree → Type 0
@@ -37,21 +37,21 @@ StandsBefore key other es =
 
 -- what breaks a mapping of labels or annotations
 pub data SettingsBreak : Bool → Tree → Fault → Type 0 where
-  settings_are_no_mapping : {is_labels : Bool} {t : Tree} → IsNoMapping t → SettingsBreak is_labels t (at WrongKind (place t))
-  key_is_no_label : {is_labels : Bool} {es : Entries} {s : Span} {k : Value} {t : Tree} → Contains (pairs es) (k, t) → is_label_name k.text ≡ false → SettingsBreak is_labels (mapping es s) (at BadName k.span)
-  label_sets_the_name : {es : Entries} {s : Span} {k : Value} {t : Tree} → Contains (pairs es) (k, t) → k.text ≡ metric → SettingsBreak true (mapping es s) (at BadName k.span)
-  setting_is_no_scalar : {is_labels : Bool} {es : Entries} {s : Span} {k : Value} {t : Tree} → Contains (pairs es) (k, t) → IsNoScalar t → SettingsBreak is_labels (mapping es s) (at WrongKind (place t))
+  settings_are_no_mapping : {is_labels : Bool} {t : Tree} → IsNoMapping t → SettingsBreak is_labels t (fault WrongKind (place t))
+  key_is_no_label : {is_labels : Bool} {es : Entries} {s : Span} {k : Value} {t : Tree} → Contains (pairs es) (k, t) → is_label_name k.text ≡ false → SettingsBreak is_labels (mapping es s) (fault BadName k.span)
+  label_sets_the_name : {es : Entries} {s : Span} {k : Value} {t : Tree} → Contains (pairs es) (k, t) → k.text ≡ metric → SettingsBreak true (mapping es s) (fault BadName k.span)
+  setting_is_no_scalar : {is_labels : Bool} {es : Entries} {s : Span} {k : Value} {t : Tree} → Contains (pairs es) (k, t) → IsNoScalar t → SettingsBreak is_labels (mapping es s) (fault WrongKind (place t))
 
 -- what breaks the value of a key that takes a scalar
 abbrev pub NoScalarAt : Bytes → List Pairing → Fault → Type 0
-NoScalarAt key es f = (t : Tree) × (given key es ≡ Some t) × IsNoScalar t × (f ≡ at WrongKind (place t))
+NoScalarAt key es f = (t : Tree) × (given key es ≡ Some t) × IsNoScalar t × (f ≡ fault WrongKind (place t))
 
 -- what breaks the value of a key that takes such a text
 abbrev pub WrongTextAt : Bytes → (Bytes → Type 0) → Kind → List Pairing → Fault → Type 0
-WrongTextAt key is kind es f = (v : Value) × (given key es ≡ Some (leaf v)) × (is v.text → ⊥) × (f ≡ at kind v.span)
+WrongTextAt key is kind es f = (v : Value) × (given key es ≡ Some (leaf v)) × (is v.text → ⊥) × (f ≡ fault kind v.span)
 
 abbrev pub UnknownIn : List Bytes → List Pairing → Fault → Type 0
-UnknownIn keys es f = (k : Value) × (t : Tree) × Contains es (k, t) × (Contains keys k.text → ⊥) × (f ≡ at UnknownKey k.span)
+UnknownIn keys es f = (k : Value) × (t : Tree) × Contains es (k, t) × (Contains keys k.text → ⊥) × (f ≡ fault UnknownKey k.span)
 
 -- a rule that records, and isn't an alert too
 abbrev pub Records : List Pairing → Type 0
@@ -69,10 +69,10 @@ pub data RuleBreaks : Span → List Pairing → Fault → Type 0 where
   rule_has_unknown_key : {s : Span} {es : List Pairing} {f : Fault} → UnknownIn rule_keys es f → RuleBreaks s es f
   rule_has_no_name : {s : Span} {es : List Pairing} → given (codes "record") es ≡ None → given (codes "alert") es ≡ None → RuleBreaks s es (at_start MissingKey s)
   rule_has_no_expression : {s : Span} {es : List Pairing} → given (codes "expr") es ≡ None → RuleBreaks s es (at_start MissingKey s)
-  alert_behind_record : {s : Span} {es : List Pairing} {recorded alerted : Pairing} → given_entry (codes "record") es ≡ Some recorded → given_entry (codes "alert") es ≡ Some alerted → StandsBefore (codes "record") (codes "alert") es → RuleBreaks s es (at BothKinds alerted.0.span)
-  record_behind_alert : {s : Span} {es : List Pairing} {recorded alerted : Pairing} → given_entry (codes "record") es ≡ Some recorded → given_entry (codes "alert") es ≡ Some alerted → StandsBefore (codes "alert") (codes "record") es → RuleBreaks s es (at BothKinds recorded.0.span)
+  alert_behind_record : {s : Span} {es : List Pairing} {recorded alerted : Pairing} → given_entry (codes "record") es ≡ Some recorded → given_entry (codes "alert") es ≡ Some alerted → StandsBefore (codes "record") (codes "alert") es → RuleBreaks s es (fault BothKinds alerted.0.span)
+  record_behind_alert : {s : Span} {es : List Pairing} {recorded alerted : Pairing} → given_entry (codes "record") es ≡ Some recorded → given_entry (codes "alert") es ≡ Some alerted → StandsBefore (codes "alert") (codes "record") es → RuleBreaks s es (fault BothKinds recorded.0.span)
   record_is_no_metric : {s : Span} {es : List Pairing} {f : Fault} → WrongTextAt (codes "record") (λ t. is_metric_name t ≡ true) BadName es f → RuleBreaks s es f
-  only_for_alerts : {s : Span} {es : List Pairing} {key : Bytes} {e : Pairing} → Records es → Contains alert_keys key → given_entry key es ≡ Some e → RuleBreaks s es (at NotForRecord e.0.span)
+  only_for_alerts : {s : Span} {es : List Pairing} {key : Bytes} {e : Pairing} → Records es → Contains alert_keys key → given_entry key es ≡ Some e → RuleBreaks s es (fault NotForRecord e.0.span)
   rule_wants_a_scalar : {s : Span} {es : List Pairing} {key : Bytes} {f : Fault} → Contains scalar_keys key → NoScalarAt key es f → RuleBreaks s es f
   rule_wants_a_time : {s : Span} {es : List Pairing} {key : Bytes} {f : Fault} → Contains time_keys key → WrongTextAt key IsTime BadDuration es f → RuleBreaks s es f
   labels_break : {s : Span} {es : List Pairing} {t : Tree} {f : Fault} → given (codes "labels") es ≡ Some t → SettingsBreak true t f → RuleBreaks s es f
@@ -80,7 +80,7 @@ pub data RuleBreaks : Span → List Pairing → Fault → Type 0 where
 
 -- what breaks a rule of a group
 pub data RuleTreeBreaks : Tree → Fault → Type 0 where
-  rule_is_no_mapping : {t : Tree} → IsNoMapping t → RuleTreeBreaks t (at WrongKind (place t))
+  rule_is_no_mapping : {t : Tree} → IsNoMapping t → RuleTreeBreaks t (fault WrongKind (place t))
   rule_breaks : {es : Entries} {s : Span} {f : Fault} → RuleBreaks s (pairs es) f → RuleTreeBreaks (mapping es s) f
 
 -- the keys of a group that take a scalar, and those of them that take a length of time
@@ -97,11 +97,11 @@ pub data GroupBreaks : Span → List Pairing → Fault → Type 0 where
   group_wants_a_scalar : {s : Span} {es : List Pairing} {key : Bytes} {f : Fault} → Contains group_scalar_keys key → NoScalarAt key es f → GroupBreaks s es f
   group_wants_a_time : {s : Span} {es : List Pairing} {key : Bytes} {f : Fault} → Contains group_time_keys key → WrongTextAt key IsTime BadDuration es f → GroupBreaks s es f
   group_wants_a_limit : {s : Span} {es : List Pairing} {f : Fault} → WrongTextAt (codes "limit") IsLimit BadLimit es f → GroupBreaks s es f
-  rules_are_no_list : {s : Span} {es : List Pairing} {t : Tree} → given (codes "rules") es ≡ Some t → IsNoList t → GroupBreaks s es (at WrongKind (place t))
+  rules_are_no_list : {s : Span} {es : List Pairing} {t : Tree} → given (codes "rules") es ≡ Some t → IsNoList t → GroupBreaks s es (fault WrongKind (place t))
   some_rule_breaks : {s : Span} {es : List Pairing} {items : Items} {p : Span} {t : Tree} {f : Fault} → given (codes "rules") es ≡ Some (sequence items p) → Contains (trees items) t → RuleTreeBreaks t f → GroupBreaks s es f
 
 pub data GroupTreeBreaks : Tree → Fault → Type 0 where
-  group_is_no_mapping : {t : Tree} → IsNoMapping t → GroupTreeBreaks t (at WrongKind (place t))
+  group_is_no_mapping : {t : Tree} → IsNoMapping t → GroupTreeBreaks t (fault WrongKind (place t))
   group_breaks : {es : Entries} {s : Span} {f : Fault} → GroupBreaks s (pairs es) f → GroupTreeBreaks (mapping es s) f
 
 -- the name of a group, where it has one
@@ -112,58 +112,17 @@ GroupNamed t v = (es : Entries) × (s : Span) × (t ≡ mapping es s) × (given 
 abbrev pub SecondName : List Tree → Fault → Type 0
 SecondName ts f =
     (i j : ℕ) × (i < j) × (t u : Tree) × (v w : Value)
-    × (slice_get ts i ≡ Some t) × (slice_get ts j ≡ Some u) × GroupNamed t v × GroupNamed u w × (v.text ≡ w.text) × (f ≡ at DoubleGroup w.span)
+    × (slice_get ts i ≡ Some t) × (slice_get ts j ≡ Some u) × GroupNamed t v × GroupNamed u w × (v.text ≡ w.text) × (f ≡ fault DoubleGroup w.span)
 
 -- what breaks the rules of a file
 pub data Breaks : Tree → Fault → Type 0 where
-  file_is_no_mapping : {t : Tree} → IsNoMapping t → is_empty t ≡ false → Breaks t (at WrongKind (place t))
+  file_is_no_mapping : {t : Tree} → IsNoMapping t → is_empty t ≡ false → Breaks t (fault WrongKind (place t))
   file_has_unknown_key : {es : Entries} {s : Span} {f : Fault} → UnknownIn file_keys (pairs es) f → Breaks (mapping es s) f
   file_has_no_groups : {es : Entries} {s : Span} → entry_at (codes "groups") (pairs es) ≡ None → Breaks (mapping es s) (at_start MissingKey s)
-  groups_are_no_list : {es : Entries} {s : Span} {t : Tree} → given (codes "groups") (pairs es) ≡ Some t → IsNoList t → Breaks (mapping es s) (at WrongKind (place t))
+  groups_are_no_list : {es : Entries} {s : Span} {t : Tree} → given (codes "groups") (pairs es) ≡ Some t → IsNoList t → Breaks (mapping es s) (fault WrongKind (place t))
   some_group_breaks : {es : Entries} {s p : Span} {items : Items} {t : Tree} {f : Fault} → given (codes "groups") (pairs es) ≡ Some (sequence items p) → Contains (trees items) t → GroupTreeBreaks t f → Breaks (mapping es s) f
   second_name : {es : Entries} {s p : Span} {items : Items} {f : Fault} → given (codes "groups") (pairs es) ≡ Some (sequence items p) → SecondName (trees items) f → Breaks (mapping es s) f
 
--- the place of a kind in the table of kinds
-abbrev pub rank : Kind → ℕ
-rank BadUtf8 = 0
-rank BadChar = 1
-rank BadEscape = 2
-rank OpenQuote = 3
-rank BadHeader = 4
-rank BadIndent = 5
-rank LeftOut = 6
-rank DoubleKey = 7
-rank NotANode = 8
-rank TooDeep = 9
-rank WrongKind = 10
-rank UnknownKey = 11
-rank MissingKey = 12
-rank BothKinds = 13
-rank BadName = 14
-rank BadLimit = 15
-rank DoubleGroup = 16
-rank NotForRecord = 17
-rank BadByte = 18
-rank OpenString = 19
-rank BadNumber = 20
-rank BadDuration = 21
-rank Syntax = 22
-rank WrongType = 23
-rank UnknownName = 24
-rank WrongCount = 25
-rank BadModifier = 26
-rank BadLabel = 27
-rank BadPattern = 28
-rank BadSelector = 29
-rank OpenAction = 30
-rank BadAction = 31
-
--- no fault stands before this one: none starts earlier, none that starts there is of an earlier kind, and none of this kind there is shorter
-abbrev pub NotAfter : Fault → Fault → Type 0
-NotAfter f g =
-    (f.span.start < g.span.start)
-    ⊎ ((f.span.start ≡ g.span.start) × ((rank f.kind < rank g.kind) ⊎ ((rank f.kind ≡ rank g.kind) × (f.span.end ≤ g.span.end))))
-
--- the fault that is told of a tree: the first
+-- the breach that is told of a tree
 abbrev pub FirstBreak : Tree → Fault → Type 0
-FirstBreak t f = Breaks t f × ((g : Fault) → Breaks t g → NotAfter f g)
+FirstBreak t = IsTold (Breaks t)

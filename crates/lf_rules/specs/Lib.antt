@@ -4,4 +4,3 @@ pub mod Sources
 pub mod Rules
 pub mod Breaches
 pub mod Reading
-pub mod Names

@@ -4,7 +4,7 @@ use Rattle.std.specs.Str.{bytes_eq}
 use Rattle.lf_base.specs.declared.place.Span.{Span}
 use Rattle.lf_scalar.specs.Cells.{Value}
 use Rattle.lf_yaml.specs.Tree.{Tree, leaf, sequence, mapping, Items, no_items, item, Entries, no_entries, entry}
-use Rattle.lf_rules.specs.Texts.{Bytes}
+use Rattle.lf_base.specs.Names.{Bytes}
 
 -- a key and its value
 abbrev pub Pairing : Type 0

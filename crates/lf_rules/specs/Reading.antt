@@ -1,22 +1,24 @@
 -- A way of reading the tree of a rule file, for the code. It defines nothing: proofs/ show that `faults` has exactly the faults of Breaches, and that `sources` are
 -- the rules of Rules where there is no fault.
-use Rattle.std.specs.Prelude.{ℕ, suc, Bool, true, false, not, cond, ◌&&◌, ◌||◌, ◌==◌, nat_lt, nat_le, List, [], ◌∷◌, ◌++◌, map, length, Option, Some, None, codes, Result, Ok, Err}
+use Rattle.std.specs.Prelude.{ℕ, suc, Bool, true, false, not, cond, ◌&&◌, ◌||◌, nat_le, List, [], ◌∷◌, ◌++◌, map, length, Option, Some, None, codes, Result, Ok, Err}
 use Rattle.std.specs.List.{list_all, list_any, flat_map, AllByRecursion}
 use Rattle.std.specs.Str.{bytes_eq}
 use Rattle.lf_base.specs.declared.kind.Kind.{Kind}
 use Rattle.lf_base.specs.declared.kind.Kind.TheVariants.{WrongKind, UnknownKey, MissingKey, BothKinds, BadName, BadLimit, DoubleGroup, NotForRecord, BadDuration}
 use Rattle.lf_base.specs.declared.place.Span.{Span}
-use Rattle.lf_scalar.specs.Cells.{Value, Fault}
+use Rattle.lf_scalar.specs.Cells.{Value}
+use Rattle.lf_base.specs.declared.fault.Fault.{Fault}
 use Rattle.lf_yaml.specs.Tree.{Tree, leaf, sequence, mapping}
 use Rattle.lf_rules.specs.declared.judging.Level.{Level}
 use Rattle.lf_rules.specs.declared.judging.Level.TheVariants.{File, Group, Rule}
 use Rattle.lf_rules.specs.declared.judging.Wanted.{Wanted}
 use Rattle.lf_rules.specs.declared.judging.Wanted.TheVariants.{Metric, Time, Limit}
 use Rattle.lf_lex.specs.reading.Runs.{duration_order}
-use Rattle.lf_rules.specs.Texts.{Bytes, is_digit, is_label_name, is_metric_name, metric}
+use Rattle.lf_base.specs.Names.{Bytes, is_digit, is_label_name, is_metric_name, metric}
 use Rattle.lf_rules.specs.Mappings.{Pairing, pairs, trees, entry_at, given_entry, given}
 use Rattle.lf_rules.specs.Rules.{rule_keys, group_keys, file_keys}
-use Rattle.lf_rules.specs.Breaches.{at, at_start, rank}
+use Rattle.lf_rules.specs.Breaches.{at_start}
+use Rattle.lf_base.specs.Faults.{fault, first as told}
 use Rattle.lf_rules.specs.Sources.{Source, Setting}
 
 abbrev pub is_in_order : Option Bool → Bool
@@ -39,17 +41,17 @@ is_limit t = list_all is_digit t && (nat_le 1 (length t) && nat_le (length t) 9)
 abbrev pub scalar_faults : Option Tree → List Fault
 scalar_faults None = []
 scalar_faults (Some (leaf v)) = []
-scalar_faults (Some (sequence items s)) = at WrongKind s ∷ []
-scalar_faults (Some (mapping es s)) = at WrongKind s ∷ []
+scalar_faults (Some (sequence items s)) = fault WrongKind s ∷ []
+scalar_faults (Some (mapping es s)) = fault WrongKind s ∷ []
 
 abbrev pub text_faults : (Bytes → Bool) → Kind → Option Tree → List Fault
 text_faults is kind None = []
-text_faults is kind (Some (leaf v)) = cond (is v.text) [] (at kind v.span ∷ [])
-text_faults is kind (Some (sequence items s)) = at WrongKind s ∷ []
-text_faults is kind (Some (mapping es s)) = at WrongKind s ∷ []
+text_faults is kind (Some (leaf v)) = cond (is v.text) [] (fault kind v.span ∷ [])
+text_faults is kind (Some (sequence items s)) = fault WrongKind s ∷ []
+text_faults is kind (Some (mapping es s)) = fault WrongKind s ∷ []
 
 abbrev pub unknown_faults : List Bytes → Pairing → List Fault
-unknown_faults keys e = cond (list_any (bytes_eq e.0.text) keys) [] (at UnknownKey e.0.span ∷ [])
+unknown_faults keys e = cond (list_any (bytes_eq e.0.text) keys) [] (fault UnknownKey e.0.span ∷ [])
 
 abbrev pub missing_faults : Span → Option Pairing → List Fault
 missing_faults s None = at_start MissingKey s ∷ []
@@ -57,19 +59,19 @@ missing_faults s (Some e) = []
 
 abbrev pub value_faults : Tree → List Fault
 value_faults (leaf v) = []
-value_faults (sequence items s) = at WrongKind s ∷ []
-value_faults (mapping es s) = at WrongKind s ∷ []
+value_faults (sequence items s) = fault WrongKind s ∷ []
+value_faults (mapping es s) = fault WrongKind s ∷ []
 
 abbrev pub is_setting_name : Bool → Bytes → Bool
 is_setting_name is_labels key = is_label_name key && not (is_labels && bytes_eq key metric)
 
 abbrev pub setting_faults : Bool → Pairing → List Fault
-setting_faults is_labels e = cond (is_setting_name is_labels e.0.text) [] (at BadName e.0.span ∷ []) ++ value_faults e.1
+setting_faults is_labels e = cond (is_setting_name is_labels e.0.text) [] (fault BadName e.0.span ∷ []) ++ value_faults e.1
 
 abbrev pub settings_faults : Bool → Option Tree → List Fault
 settings_faults is_labels None = []
-settings_faults is_labels (Some (leaf v)) = at WrongKind v.span ∷ []
-settings_faults is_labels (Some (sequence items s)) = at WrongKind s ∷ []
+settings_faults is_labels (Some (leaf v)) = fault WrongKind v.span ∷ []
+settings_faults is_labels (Some (sequence items s)) = fault WrongKind s ∷ []
 settings_faults is_labels (Some (mapping es s)) = flat_map (setting_faults is_labels) (pairs es)
 
 -- the texts that are tested, and the kinds of their faults
@@ -101,11 +103,11 @@ abbrev pub kind_faults : Span → Bool → Option Pairing → Option Pairing →
 kind_faults s first None None = at_start MissingKey s ∷ []
 kind_faults s first None (Some alerted) = []
 kind_faults s first (Some recorded) None = []
-kind_faults s first (Some recorded) (Some alerted) = at BothKinds (cond first alerted recorded).0.span ∷ []
+kind_faults s first (Some recorded) (Some alerted) = fault BothKinds (cond first alerted recorded).0.span ∷ []
 
 abbrev pub misplaced : Option Pairing → List Fault
 misplaced None = []
-misplaced (Some e) = at NotForRecord e.0.span ∷ []
+misplaced (Some e) = fault NotForRecord e.0.span ∷ []
 
 -- what a rule that only records must not have
 abbrev pub alert_faults : Option Pairing → Option Pairing → List Pairing → List Fault
@@ -147,17 +149,17 @@ abbrev pub rule_faults : Span → List Pairing → List Fault
 rule_faults s es = joined (rule_parts s es)
 
 abbrev pub rule_tree_faults : Tree → List Fault
-rule_tree_faults (leaf v) = at WrongKind v.span ∷ []
-rule_tree_faults (sequence items s) = at WrongKind s ∷ []
+rule_tree_faults (leaf v) = fault WrongKind v.span ∷ []
+rule_tree_faults (sequence items s) = fault WrongKind s ∷ []
 rule_tree_faults (mapping es s) = rule_faults s (pairs es)
 
 -- ---- a group
 
 abbrev pub rules_faults : Option Tree → List Fault
 rules_faults None = []
-rules_faults (Some (leaf v)) = at WrongKind v.span ∷ []
+rules_faults (Some (leaf v)) = fault WrongKind v.span ∷ []
 rules_faults (Some (sequence items s)) = flat_map rule_tree_faults (trees items)
-rules_faults (Some (mapping es s)) = at WrongKind s ∷ []
+rules_faults (Some (mapping es s)) = fault WrongKind s ∷ []
 
 abbrev pub group_name_parts : Span → List Pairing → List (List Fault)
 group_name_parts s es =
@@ -181,8 +183,8 @@ abbrev pub group_faults : Span → List Pairing → List Fault
 group_faults s es = joined (group_parts s es)
 
 abbrev pub group_tree_faults : Tree → List Fault
-group_tree_faults (leaf v) = at WrongKind v.span ∷ []
-group_tree_faults (sequence items s) = at WrongKind s ∷ []
+group_tree_faults (leaf v) = fault WrongKind v.span ∷ []
+group_tree_faults (sequence items s) = fault WrongKind s ∷ []
 group_tree_faults (mapping es s) = group_faults s (pairs es)
 
 -- ---- a file
@@ -202,7 +204,7 @@ name_of (mapping es s) = scalar_of (given (codes "name") (pairs es))
 -- by the texts of the names before
 abbrev pub again_faults : List Bytes → Option Value → List Fault
 again_faults names None = []
-again_faults names (Some v) = cond (list_any (bytes_eq v.text) names) (at DoubleGroup v.span ∷ []) []
+again_faults names (Some v) = cond (list_any (bytes_eq v.text) names) (fault DoubleGroup v.span ∷ []) []
 
 abbrev pub with_name : List Bytes → Option Value → List Bytes
 with_name names None = names
@@ -214,13 +216,13 @@ names_faults names (t ∷ ts) = again_faults names (name_of t) ++ names_faults (
 
 abbrev pub groups_faults : Option Tree → List Fault
 groups_faults None = []
-groups_faults (Some (leaf v)) = at WrongKind v.span ∷ []
+groups_faults (Some (leaf v)) = fault WrongKind v.span ∷ []
 groups_faults (Some (sequence items s)) = flat_map group_tree_faults (trees items) ++ names_faults [] (trees items)
-groups_faults (Some (mapping es s)) = at WrongKind s ∷ []
+groups_faults (Some (mapping es s)) = fault WrongKind s ∷ []
 
 -- a scalar as a whole file
 abbrev pub root_faults : Value → List Fault
-root_faults v = cond (bytes_eq v.text []) [] (at WrongKind v.span ∷ [])
+root_faults v = cond (bytes_eq v.text []) [] (fault WrongKind v.span ∷ [])
 
 abbrev pub file_parts : Span → List Pairing → List (List Fault)
 file_parts s es = flat_map (unknown_faults file_keys) es ∷ missing_faults s (entry_at (codes "groups") es) ∷ groups_faults (given (codes "groups") es) ∷ []
@@ -230,20 +232,14 @@ file_faults s es = joined (file_parts s es)
 
 abbrev pub faults : Tree → List Fault
 faults (leaf v) = root_faults v
-faults (sequence items s) = at WrongKind s ∷ []
+faults (sequence items s) = fault WrongKind s ∷ []
 faults (mapping es s) = file_faults s (pairs es)
 
--- ---- the first fault
+-- ---- the fault that is told
 
-abbrev pub stands_before : Fault → Fault → Bool
-stands_before f g =
-    nat_lt f.span.start g.span.start
-    || (f.span.start == g.span.start && (nat_lt (rank f.kind) (rank g.kind) || (rank f.kind == rank g.kind && nat_lt f.span.end g.span.end)))
-
--- the first so far, and one more
+-- the one that is told so far, and one more
 abbrev pub lesser : Option Fault → Fault → Option Fault
-lesser None f = Some f
-lesser (Some g) f = Some (cond (stands_before f g) f g)
+lesser first f = told first (Some f)
 
 unfoldable pub least_from : Option Fault → List Fault → Option Fault
 least_from first [] = first

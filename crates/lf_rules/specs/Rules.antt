@@ -4,7 +4,8 @@ use Rattle.std.specs.List.{Contains, AllZip, IsDistinct}
 use Rattle.std.specs.Str.{bytes_eq}
 use Rattle.lf_scalar.specs.Cells.{Value}
 use Rattle.lf_yaml.specs.Tree.{Tree, leaf, sequence, mapping}
-use Rattle.lf_rules.specs.Texts.{Bytes, is_label_name, is_metric_name, metric, IsTime, IsLimit}
+use Rattle.lf_rules.specs.Texts.{IsTime, IsLimit}
+use Rattle.lf_base.specs.Names.{Bytes, is_label_name, is_metric_name, metric}
 use Rattle.lf_rules.specs.Mappings.{Pairing, pairs, trees, entry_at, given}
 use Rattle.lf_rules.specs.Sources.{Setting, Source}
 

@@ -1,7 +1,9 @@
 -- What a rule of a file says, without where it lies in memory.
 use Rattle.std.specs.Prelude.{ℕ, Bool, List, map}
+use Rattle.std.specs.List.{AllByRecursion}
 use Rattle.lf_scalar.specs.Cells.{Value}
 use Rattle.lf_yaml.specs.Tree.{value}
+use Rattle.lf_yaml.specs.Insides.{ScalarInside}
 use Rattle.lf_rules.specs.declared.source.Pair.{Pair}
 use Rattle.lf_rules.specs.declared.source.RuleSource.{RuleSource}
 
@@ -29,3 +31,16 @@ source r = record {
   annotations = map setting r.annotations;
   group = r.group;
 }
+
+-- the scalars of a rule lie in a file of n bytes
+abbrev pub SettingInside : ℕ → Setting → Type 0
+SettingInside n s = ScalarInside n s.0 × ScalarInside n s.1
+
+pub record SourceInside (n : ℕ) (r : Source) : Type 0 where
+  pub name : ScalarInside n r.name
+  pub expr : ScalarInside n r.expr
+  pub labels : AllByRecursion (SettingInside n) r.labels
+  pub annotations : AllByRecursion (SettingInside n) r.annotations
+
+abbrev pub SourcesInside : ℕ → List Source → Type 0
+SourcesInside n rs = AllByRecursion (SourceInside n) rs

@@ -3,22 +3,20 @@ ghost use Rattle.std.specs.Prelude.{◌≡◌, ◌++◌, ℕ, List, [], Some, ma
 ghost use Rattle.std.specs.List.{flat_map};
 ghost use Rattle.std.specs.Str.{bytes_eq};
 ghost use Rattle.lf_yaml.specs.Tree.{tree, pair, value};
-ghost use Rattle.lf_rules.specs.Names.{Holds};
+ghost use Rattle.lf_base.specs.NameSets.{HasNames};
 ghost use Rattle.lf_rules.specs.Reading as reading;
 ghost use Rattle.lf_rules.specs.Reading.{least_from, least_each};
 
 use crate::entries::{entries_of, entry_at, given, given_entry, scalar_of};
-use crate::first::First;
-use crate::judging::{Level, Wanted, judge_keys, judge_missing, judge_scalar, judge_text};
+use crate::judging::{Level, Wanted, judge_keys, judge_missing, judge_scalar, judge_text, note};
 use crate::judging_rules::judge_rules;
-use crate::name_set::NameSet;
-use lf_base::{Kind, Memory, Span};
+use lf_base::{Fault, Kind, Memory, NameSet, Span};
 use lf_scalar::Scalar;
 use lf_yaml::{Entry, Node};
 use std::alloc::Global;
 
 /// The keys of a group, and its name.
-fn judge_group_name(first: &mut First, span: Span, entries: &[Entry])
+fn judge_group_name(first: &mut Option<Fault>, span: Span, entries: &[Entry])
     ensures { first.new ≡ least_each first.old (reading.group_name_parts span (map pair entries.now)) }
 {
     judge_keys(first, Level::Group, entries);
@@ -27,7 +25,7 @@ fn judge_group_name(first: &mut First, span: Span, entries: &[Entry])
 }
 
 /// The lengths of time, the limit and the rules of a group.
-fn judge_group_values(first: &mut First, entries: &[Entry])
+fn judge_group_values(first: &mut Option<Fault>, entries: &[Entry])
     ensures { first.new ≡ least_each first.old (reading.group_value_parts (map pair entries.now)) }
 {
     judge_text(first, Wanted::Time, given(entries, "interval"));
@@ -37,7 +35,7 @@ fn judge_group_values(first: &mut First, entries: &[Entry])
 }
 
 /// A group's entries.
-fn judge_group(first: &mut First, span: Span, entries: &[Entry])
+fn judge_group(first: &mut Option<Fault>, span: Span, entries: &[Entry])
     ensures { first.new ≡ least_from first.old (reading.group_faults span (map pair entries.now)) }
 {
     judge_group_name(first, span, entries);
@@ -46,19 +44,19 @@ fn judge_group(first: &mut First, span: Span, entries: &[Entry])
 
 /// A group is a mapping.
 #[tactic(auto, unfolding(crate::specs::Reading::least_from), using(crate::proofs::Nodes::group_map))]
-fn judge_group_node(first: &mut First, node: &Node)
+fn judge_group_node(first: &mut Option<Fault>, node: &Node)
     ensures { first.new ≡ least_from first.old (reading.group_tree_faults (tree node.now)) }
 {
     match node {
-        Node::Scalar { of } => first.note(Kind::WrongKind, of.span),
+        Node::Scalar { of } => note(first, Kind::WrongKind, of.span),
         Node::Map { entries, span } => judge_group(first, *span, entries.as_slice()),
-        Node::List { span, .. } => first.note(Kind::WrongKind, *span),
+        Node::List { span, .. } => note(first, Kind::WrongKind, *span),
     }
 }
 
 /// The groups of a list, one by one.
 #[tactic(auto, unfolding(crate::specs::Reading::least_from), using(crate::proofs::Folded::least_flat))]
-fn judge_each_group(first: &mut First, groups: &[Node])
+fn judge_each_group(first: &mut Option<Fault>, groups: &[Node])
     ensures { first.new ≡ least_from first.old (flat_map reading.group_tree_faults (map tree groups.now)) }
 {
     let mut rest = groups;
@@ -80,20 +78,24 @@ fn name_of(node: &Node) -> Option<&Scalar>
 }
 
 /// The name of one more group, which none of those before it may have.
-fn judge_name<'a>(first: &mut First, seen: &mut NameSet<'a>, group: &'a Node) -> Result<(), Memory>
-    ensures first { OnOk result ((names : List (List ℕ)) → Holds seen.old names → first.new ≡ least_from first.old (reading.again_faults names (reading.name_of (tree group.now)))) }
-    ensures seen { OnOk result ((names : List (List ℕ)) → Holds seen.old names → Holds seen.new (reading.with_name names (reading.name_of (tree group.now)))) }
+fn judge_name<'a>(
+    first: &mut Option<Fault>,
+    seen: &mut NameSet<'a>,
+    group: &'a Node,
+) -> Result<(), Memory>
+    ensures first { OnOk result ((names : List (List ℕ)) → HasNames seen.old names → first.new ≡ least_from first.old (reading.again_faults names (reading.name_of (tree group.now)))) }
+    ensures seen { OnOk result ((names : List (List ℕ)) → HasNames seen.old names → HasNames seen.new (reading.with_name names (reading.name_of (tree group.now)))) }
 {
     if let Some(name) = name_of(group) {
         if !seen.add(name.text.as_str())? {
-            first.note(Kind::DoubleGroup, name.span);
+            note(first, Kind::DoubleGroup, name.span);
         }
     }
     Ok(())
 }
 
 /// A name may stand once among the groups of a file.
-fn judge_names(first: &mut First, alloc: Global, groups: &[Node]) -> Result<(), Memory>
+fn judge_names(first: &mut Option<Fault>, alloc: Global, groups: &[Node]) -> Result<(), Memory>
     ensures { OnOk result (first.new ≡ least_from first.old (reading.names_faults [] (map tree groups.now))) }
 {
     let mut seen = NameSet::new(alloc);
@@ -107,7 +109,7 @@ fn judge_names(first: &mut First, alloc: Global, groups: &[Node]) -> Result<(), 
 
 /// The groups of a file, whose names differ.
 #[tactic(auto, using(crate::proofs::Folded::least_both))]
-fn judge_group_list(first: &mut First, alloc: Global, groups: &[Node]) -> Result<(), Memory>
+fn judge_group_list(first: &mut Option<Fault>, alloc: Global, groups: &[Node]) -> Result<(), Memory>
     ensures { OnOk result (first.new ≡ least_from first.old (flat_map reading.group_tree_faults (map tree groups.now) ++ reading.names_faults [] (map tree groups.now))) }
 {
     judge_each_group(first, groups);
@@ -116,16 +118,16 @@ fn judge_group_list(first: &mut First, alloc: Global, groups: &[Node]) -> Result
 
 /// The value of `groups`: a list of groups.
 #[tactic(auto, unfolding(crate::specs::Reading::least_from), using(crate::proofs::Nodes::groups_list))]
-fn judge_groups_node(first: &mut First, alloc: Global, node: &Node) -> Result<(), Memory>
+fn judge_groups_node(first: &mut Option<Fault>, alloc: Global, node: &Node) -> Result<(), Memory>
     ensures { OnOk result (first.new ≡ least_from first.old (reading.groups_faults (Some (tree node.now)))) }
 {
     match node {
         Node::Scalar { of } => {
-            first.note(Kind::WrongKind, of.span);
+            note(first, Kind::WrongKind, of.span);
             Ok(())
         }
         Node::Map { span, .. } => {
-            first.note(Kind::WrongKind, *span);
+            note(first, Kind::WrongKind, *span);
             Ok(())
         }
         Node::List { items, .. } => judge_group_list(first, alloc, items.as_slice()),
@@ -134,7 +136,7 @@ fn judge_groups_node(first: &mut First, alloc: Global, node: &Node) -> Result<()
 
 /// The same, where it is there.
 #[tactic(auto, unfolding(crate::specs::Reading::least_from))]
-fn judge_groups(first: &mut First, alloc: Global, node: Option<&Node>) -> Result<(), Memory>
+fn judge_groups(first: &mut Option<Fault>, alloc: Global, node: Option<&Node>) -> Result<(), Memory>
     ensures { OnOk result (first.new ≡ least_from first.old (reading.groups_faults (option_map (λ t. tree t.now) node.entry))) }
 {
     match node {
@@ -152,17 +154,17 @@ fn is_nothing(of: &Scalar) -> bool
 
 /// A scalar as a whole file: it has no text.
 #[tactic(auto, unfolding(crate::specs::Reading::least_from))]
-fn judge_root(first: &mut First, of: &Scalar)
+fn judge_root(first: &mut Option<Fault>, of: &Scalar)
     ensures { first.new ≡ least_from first.old (reading.root_faults (value of.now)) }
 {
     if !is_nothing(of) {
-        first.note(Kind::WrongKind, of.span);
+        note(first, Kind::WrongKind, of.span);
     }
 }
 
 /// The entries of a file: `groups` alone.
 fn judge_file_entries(
-    first: &mut First,
+    first: &mut Option<Fault>,
     alloc: Global,
     span: Span,
     entries: &[Entry],
@@ -177,7 +179,7 @@ fn judge_file_entries(
 
 /// A file: nothing, or a mapping.
 #[tactic(auto, unfolding(crate::specs::Reading::least_from), using(crate::proofs::Nodes::file_map))]
-pub fn judge_file(first: &mut First, alloc: Global, node: &Node) -> Result<(), Memory>
+pub fn judge_file(first: &mut Option<Fault>, alloc: Global, node: &Node) -> Result<(), Memory>
     ensures { OnOk result (first.new ≡ least_from first.old (reading.faults (tree node.now))) }
 {
     match node {
@@ -187,7 +189,7 @@ pub fn judge_file(first: &mut First, alloc: Global, node: &Node) -> Result<(), M
         }
         Node::Map { entries, span } => judge_file_entries(first, alloc, *span, entries.as_slice()),
         Node::List { span, .. } => {
-            first.note(Kind::WrongKind, *span);
+            note(first, Kind::WrongKind, *span);
             Ok(())
         }
     }

@@ -7,12 +7,11 @@ ghost use Rattle.lf_rules.specs.Reading as reading;
 ghost use Rattle.lf_rules.specs.Reading.{least_from, least_each};
 
 use crate::entries::{given, given_entry};
-use crate::first::First;
 use crate::judging::{
-    Level, Wanted, judge_keys, judge_missing, judge_scalar, judge_settings, judge_text,
+    Level, Wanted, judge_keys, judge_missing, judge_scalar, judge_settings, judge_text, note,
     note_at_start,
 };
-use lf_base::{Kind, Span};
+use lf_base::{Fault, Kind, Span};
 use lf_yaml::{Entry, Node};
 
 /// Whether of the keys `record` and `alert` the first entry is `record`.
@@ -37,7 +36,7 @@ fn records_first(entries: &[Entry]) -> bool
 /// A rule has one of `record` and `alert`.
 #[tactic(auto, unfolding(crate::specs::Reading::least_from))]
 fn judge_kind(
-    first: &mut First,
+    first: &mut Option<Fault>,
     span: Span,
     is_record_first: bool,
     recorded: Option<&Entry>,
@@ -54,7 +53,7 @@ fn judge_kind(
         Some(recorded) => {
             if let Some(alerted) = alerted {
                 let later = if is_record_first { alerted } else { recorded };
-                first.note(Kind::BothKinds, later.key.span);
+                note(first, Kind::BothKinds, later.key.span);
             }
         }
     }
@@ -62,16 +61,16 @@ fn judge_kind(
 
 /// A key that only alerts have.
 #[tactic(auto, unfolding(crate::specs::Reading::least_from))]
-fn judge_misplaced(first: &mut First, found: Option<&Entry>)
+fn judge_misplaced(first: &mut Option<Fault>, found: Option<&Entry>)
     ensures { first.new ≡ least_from first.old (reading.misplaced (option_map (λ e. pair e.now) found.entry)) }
 {
     if let Some(entry) = found {
-        first.note(Kind::NotForRecord, entry.key.span);
+        note(first, Kind::NotForRecord, entry.key.span);
     }
 }
 
 /// None of an alert's keys may stand.
-fn judge_all_misplaced(first: &mut First, entries: &[Entry])
+fn judge_all_misplaced(first: &mut Option<Fault>, entries: &[Entry])
     ensures { first.new ≡ least_from first.old (reading.misplaced (given_at (codes "for") (map pair entries.now)) ++ (reading.misplaced (given_at (codes "keep_firing_for") (map pair entries.now)) ++ reading.misplaced (given_at (codes "annotations") (map pair entries.now)))) }
 {
     judge_misplaced(first, given_entry(entries, "for"));
@@ -82,7 +81,7 @@ fn judge_all_misplaced(first: &mut First, entries: &[Entry])
 /// A rule that records, and isn't an alert too, has none of an alert's keys.
 #[tactic(auto, unfolding(crate::specs::Reading::least_from))]
 fn judge_alert_keys(
-    first: &mut First,
+    first: &mut Option<Fault>,
     recorded: Option<&Entry>,
     alerted: Option<&Entry>,
     entries: &[Entry],
@@ -99,7 +98,7 @@ fn judge_alert_keys(
 }
 
 /// The keys of a rule, and whether it records or alerts.
-fn judge_rule_keys(first: &mut First, span: Span, entries: &[Entry])
+fn judge_rule_keys(first: &mut Option<Fault>, span: Span, entries: &[Entry])
     ensures { first.new ≡ least_each first.old (reading.rule_key_parts span (map pair entries.now)) }
 {
     let recorded = given_entry(entries, "record");
@@ -110,7 +109,7 @@ fn judge_rule_keys(first: &mut First, span: Span, entries: &[Entry])
 }
 
 /// The name and the expression of a rule.
-fn judge_rule_texts(first: &mut First, span: Span, entries: &[Entry])
+fn judge_rule_texts(first: &mut Option<Fault>, span: Span, entries: &[Entry])
     ensures { first.new ≡ least_each first.old (reading.rule_text_parts span (map pair entries.now)) }
 {
     judge_text(first, Wanted::Metric, given(entries, "record"));
@@ -120,7 +119,7 @@ fn judge_rule_texts(first: &mut First, span: Span, entries: &[Entry])
 }
 
 /// The lengths of time, labels and annotations of a rule.
-fn judge_rule_settings(first: &mut First, entries: &[Entry])
+fn judge_rule_settings(first: &mut Option<Fault>, entries: &[Entry])
     ensures { first.new ≡ least_each first.old (reading.rule_setting_parts (map pair entries.now)) }
 {
     judge_text(first, Wanted::Time, given(entries, "for"));
@@ -130,7 +129,7 @@ fn judge_rule_settings(first: &mut First, entries: &[Entry])
 }
 
 /// A rule's entries.
-fn judge_rule(first: &mut First, span: Span, entries: &[Entry])
+fn judge_rule(first: &mut Option<Fault>, span: Span, entries: &[Entry])
     ensures { first.new ≡ least_from first.old (reading.rule_faults span (map pair entries.now)) }
 {
     judge_rule_keys(first, span, entries);
@@ -140,19 +139,19 @@ fn judge_rule(first: &mut First, span: Span, entries: &[Entry])
 
 /// A rule is a mapping.
 #[tactic(auto, unfolding(crate::specs::Reading::least_from), using(crate::proofs::Nodes::rule_map))]
-fn judge_rule_node(first: &mut First, node: &Node)
+fn judge_rule_node(first: &mut Option<Fault>, node: &Node)
     ensures { first.new ≡ least_from first.old (reading.rule_tree_faults (tree node.now)) }
 {
     match node {
-        Node::Scalar { of } => first.note(Kind::WrongKind, of.span),
+        Node::Scalar { of } => note(first, Kind::WrongKind, of.span),
         Node::Map { entries, span } => judge_rule(first, *span, entries.as_slice()),
-        Node::List { span, .. } => first.note(Kind::WrongKind, *span),
+        Node::List { span, .. } => note(first, Kind::WrongKind, *span),
     }
 }
 
 /// The rules of a list, one by one.
 #[tactic(auto, unfolding(crate::specs::Reading::least_from), using(crate::proofs::Folded::least_flat))]
-fn judge_each_rule(first: &mut First, nodes: &[Node])
+fn judge_each_rule(first: &mut Option<Fault>, nodes: &[Node])
     ensures { first.new ≡ least_from first.old (flat_map reading.rule_tree_faults (map tree nodes.now)) }
 {
     let mut rest = nodes;
@@ -163,19 +162,19 @@ fn judge_each_rule(first: &mut First, nodes: &[Node])
 }
 
 #[tactic(auto, unfolding(crate::specs::Reading::least_from), using(crate::proofs::Nodes::rules_list))]
-fn judge_rules_node(first: &mut First, node: &Node)
+fn judge_rules_node(first: &mut Option<Fault>, node: &Node)
     ensures { first.new ≡ least_from first.old (reading.rules_faults (Some (tree node.now))) }
 {
     match node {
-        Node::Scalar { of } => first.note(Kind::WrongKind, of.span),
-        Node::Map { span, .. } => first.note(Kind::WrongKind, *span),
+        Node::Scalar { of } => note(first, Kind::WrongKind, of.span),
+        Node::Map { span, .. } => note(first, Kind::WrongKind, *span),
         Node::List { items, .. } => judge_each_rule(first, items.as_slice()),
     }
 }
 
 /// The rules of a group, where they are there: a list of rules.
 #[tactic(auto, unfolding(crate::specs::Reading::least_from))]
-pub fn judge_rules(first: &mut First, node: Option<&Node>)
+pub fn judge_rules(first: &mut Option<Fault>, node: Option<&Node>)
     ensures { first.new ≡ least_from first.old (reading.rules_faults (option_map (λ t. tree t.now) node.entry)) }
 {
     match node {

@@ -3,11 +3,9 @@
 
 mod building;
 mod entries;
-mod first;
 mod judging;
 mod judging_groups;
 mod judging_rules;
-mod name_set;
 mod reading;
 mod source;
 #[cfg(test)]

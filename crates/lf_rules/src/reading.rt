@@ -1,17 +1,18 @@
 //! The rules of a file, or the first breach of what a rule file may say.
-ghost use Rattle.std.specs.Prelude.{List, map, Ok, IfOk, IfErr, IsErr};
-ghost use Rattle.lf_scalar.specs.Cells.{Fault, Gives, IfAt};
+ghost use Rattle.std.specs.Prelude.{ℕ, ◌<◌, ◌^◌, map, IfOk, IsErr};
+ghost use Rattle.lf_base.specs.declared.fault.Fault.{Fault};
+ghost use Rattle.lf_base.specs.Answers.{Found, Only, Refused, Breach, RefusedIn, Gives};
 ghost use Rattle.lf_yaml.specs.Tree.{tree};
+ghost use Rattle.lf_yaml.specs.Insides.{Inside};
 ghost use Rattle.lf_rules.specs.Breaches.{Breaks, FirstBreak};
 ghost use Rattle.lf_rules.specs.Reading as reading;
 ghost use Rattle.lf_rules.specs.Rules.{IsRules};
-ghost use Rattle.lf_rules.specs.Sources.{Source, source};
+ghost use Rattle.lf_rules.specs.Sources.{source, SourcesInside};
 
 use crate::building::all_sources;
-use crate::first::First;
 use crate::judging_groups::judge_file;
 use crate::source::RuleSource;
-use lf_base::{Refusal, Seq};
+use lf_base::{Fault, Refusal, Seq};
 use lf_yaml::Node;
 use std::alloc::Global;
 
@@ -29,13 +30,17 @@ use std::alloc::Global;
 /// - `BadDuration`: a length of time that is neither a duration nor `0`; the span is the scalar.
 pub fn read_rules(alloc: Global, file: &Node) -> Result<Seq<RuleSource>, Refusal>
     // What is answered are the rules that the tree says.
-    ensures found { IfOk result (λ rules. IsRules (tree file.now) (map source rules)) }
+    ensures found { Found (map source) (IsRules (tree file.now)) result }
     // They are answered, unless memory runs out; so no tree says two lists of rules.
-    ensures only { (rules : List Source) → IsRules (tree file.now) rules → Gives (map source) result (Ok rules) }
-    // What is refused is the first breach.
-    ensures refused { IfErr result (λ refusal. IfAt refusal (FirstBreak (tree file.now))) }
+    ensures only { Only (map source) (IsRules (tree file.now)) result }
+    // What is refused is the breach that is told.
+    ensures refused { Refused (FirstBreak (tree file.now)) result }
+    // It is refused, unless memory runs out; so there is one at most, and none where the tree says rules.
+    ensures told { Breach (map source) (FirstBreak (tree file.now)) result }
     // A tree with a breach is refused, unless memory runs out.
     ensures breach { (fault : Fault) → Breaks (tree file.now) fault → IsErr result }
+    // Where the tree lies in a file of n bytes, so do the scalars of the rules, and the span of a refusal.
+    ensures inside { (n : ℕ) → n < 2 ^ 32 → Inside n (tree file.now) → IfOk result (λ rules. SourcesInside n (map source rules)) × RefusedIn n result }
 {
     read(alloc, file)
 }
@@ -44,10 +49,10 @@ pub fn read_rules(alloc: Global, file: &Node) -> Result<Seq<RuleSource>, Refusal
 fn read(alloc: Global, file: &Node) -> Result<Seq<RuleSource>, Refusal>
     ensures { Gives (map source) result (reading.reading (tree file.now)) }
 {
-    let mut first = First::new();
+    let mut first = None;
     judge_file(&mut first, alloc, file)?;
-    match first.found() {
-        Some(fault) => Err(fault),
+    match first {
+        Some(Fault { kind, span }) => Err(Refusal::At { kind, span }),
         None => Ok(all_sources(alloc, file)?),
     }
 }

@@ -43,7 +43,7 @@ pub data Mark (c : Cell) : Type 0 where
   numeral : (d : ℕ) → IsDigit c d → Mark c
   neither : chomp_of c.byte ≡ None → mark_digit c.byte ≡ None → Mark c
 
-mark : (c : Cell) → Mark c
+pub mark : (c : Cell) → Mark c
 mark c =
     elim (eqb_tells c.byte 45) [
       | inl a ↦ sign Strip a.1
@@ -61,15 +61,15 @@ mark c =
 
 -- ---- one step of reading
 
-step-sign : (s : Option Chomp) (d : Option ℕ) (c : Cell) (cs : List Cell) (chomp : Chomp) → IsChomp c chomp → header_from s d (c ∷ cs) ≡ once c s (header_from (Some chomp) d cs)
+pub step-sign : (s : Option Chomp) (d : Option ℕ) (c : Cell) (cs : List Cell) (chomp : Chomp) → IsChomp c chomp → header_from s d (c ∷ cs) ≡ once c s (header_from (Some chomp) d cs)
 unfolding header_from
 step-sign s d c cs chomp h = rw (sign-told c chomp h) refl
 
-step-digit : (s : Option Chomp) (d : Option ℕ) (c : Cell) (cs : List Cell) (n : ℕ) → IsDigit c n → header_from s d (c ∷ cs) ≡ once c d (header_from s (Some n) cs)
+pub step-digit : (s : Option Chomp) (d : Option ℕ) (c : Cell) (cs : List Cell) (n : ℕ) → IsDigit c n → header_from s d (c ∷ cs) ≡ once c d (header_from s (Some n) cs)
 unfolding header_from
 step-digit s d c cs n h = let t = digit-told c n h in rw (t.0, t.1) refl
 
-step-end : (s : Option Chomp) (d : Option ℕ) (c : Cell) (cs : List Cell) → chomp_of c.byte ≡ None → mark_digit c.byte ≡ None → header_from s d (c ∷ cs) ≡ ends_header s d (wrong_behind false (c ∷ cs))
+pub step-end : (s : Option Chomp) (d : Option ℕ) (c : Cell) (cs : List Cell) → chomp_of c.byte ≡ None → mark_digit c.byte ≡ None → header_from s d (c ∷ cs) ≡ ends_header s d (wrong_behind false (c ∷ cs))
 unfolding header_from
 step-end s d c cs p q = rw (p, q) refl
 

@@ -1,7 +1,9 @@
 -- Reading a block scalar is the definition, in both directions, and its fault is the breach.
 use Rattle.std.proofs.Common.{◌≡◌, ℕ, suc, List, None, Result, Ok, Err, refl, ap, sym, ◌∙◌, subst}
 use Rattle.std.specs.Prelude.{min}
-use Rattle.lf_scalar.specs.Cells.{Cell, Value, made, span, end_of, Fault}
+use Rattle.lf_base.specs.declared.fault.Fault.{Fault}
+use Rattle.lf_base.specs.Faults.{span}
+use Rattle.lf_scalar.specs.Cells.{Cell, Value, made, end_of}
 use Rattle.lf_scalar.specs.Lines.{Line}
 use Rattle.lf_scalar.specs.Block.{content_indent, body_of, Headed, IsBlock, BreaksBlock}
 use Rattle.lf_scalar.specs.BlockReading.{Header, header_from, block_text, block_value, block_read, block_lines, block_of}

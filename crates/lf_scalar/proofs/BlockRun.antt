@@ -10,7 +10,8 @@ use Rattle.lf_scalar.specs.declared.block.Joining.{Joining}
 use Rattle.lf_scalar.specs.declared.block.Joining.TheVariants as joining_of
 use Rattle.lf_scalar.specs.declared.body.Body.{Body}
 use Rattle.lf_scalar.specs.declared.header.Header.{Header}
-use Rattle.lf_scalar.specs.Cells.{Cell, cell, cells, Value, Fails, made, span, end_of, fault_at}
+use Rattle.lf_base.specs.Faults.{span}
+use Rattle.lf_scalar.specs.Cells.{Cell, cell, cells, Value, Fails, made, end_of, character_fault}
 use Rattle.lf_scalar.specs.Lines.{Line, line, lines, lines_at, first_text}
 use Rattle.lf_scalar.specs.Folding.{trimmed}
 use Rattle.lf_scalar.specs.Block.{breaks, last_break, content_indent, body_of, chomped}
@@ -89,7 +90,7 @@ module _ (joining : Joining) (above at : ℕ) (rest : List ℕ) (text feed : ℕ
       ∙ begun-by (joins_of joining) above (at + length rest) at (at + feed) (take text rest) (lines_at (at + (feed + 1)) (drop (feed + 1) rest)) (some-text joining at (take text rest) (rw first at begun))
 
   pub block-wrong : (wrong : ℕ) (refusal : Refusal) → header_told (at + 1) (drop 1 (take text rest)) (Err wrong) ≡ header_from None None (cells (at + 1) (drop 1 (take text rest)))
-      → refusal ≡ refused (fault_at BadHeader (cell (get_or (drop 1 (take text rest)) wrong 0) (at + 1 + wrong))) → Fails refusal (block_of (joins_of joining) above (at + length rest) (cells at rest))
+      → refusal ≡ refused (character_fault BadHeader (cell (get_or (drop 1 (take text rest)) wrong 0) (at + 1 + wrong))) → Fails refusal (block_of (joins_of joining) above (at + length rest) (cells at rest))
   block-wrong wrong refusal told e =
       rw e (block-is ∙ ap (block_read (joins_of joining) above (at + length rest) (cell (get_or (take text rest) 0 0) at) (lines_at (at + (feed + 1)) (drop (feed + 1) rest))) (sym told))
 

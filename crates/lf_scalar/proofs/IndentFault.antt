@@ -5,7 +5,7 @@ use Rattle.std.proofs.lemmas.Bool.{ne_eqb, cases_Bool}
 use Rattle.std.proofs.lemmas.Bool.Decides.{eqb_tells}
 use Rattle.lf_base.specs.declared.kind.Kind.TheVariants.{BadEscape, BadIndent}
 use Rattle.lf_scalar.specs.declared.escapes.Given.{Given}
-use Rattle.lf_scalar.specs.Cells.{Cell, cells, fault, fault_at}
+use Rattle.lf_scalar.specs.Cells.{Cell, cells, byte_fault, character_fault}
 use Rattle.lf_scalar.specs.Lines.{Line}
 use Rattle.lf_scalar.specs.Quoted.{Quotes, Piece, IsBadEscape}
 use Rattle.lf_scalar.specs.QuotedReading.{piece_of, piece_at, as_piece, shown, begins_bad_escape, unindented_at}
@@ -41,15 +41,15 @@ bad-or-not kind c cs =
     ]
 
 -- a backslash is one byte
-backslash-fault : (c : Cell) → c.byte ≡ 92 → fault_at BadEscape c ≡ fault BadEscape c.at
+backslash-fault : (c : Cell) → c.byte ≡ 92 → character_fault BadEscape c ≡ byte_fault BadEscape c.at
 backslash-fault c e =
     let n : c.at + 1 + 0 ≡ c.at + 1 = omega arith in
     rw (e, n) refl
 
-pub told-escape : (kind : Quotes) (l : Line) (c : Cell) (cs : List Cell) → IsBadEscape kind c cs → unindented_at kind l (c ∷ cs) ≡ fault BadEscape c.at
+pub told-escape : (kind : Quotes) (l : Line) (c : Cell) (cs : List Cell) → IsBadEscape kind c cs → unindented_at kind l (c ∷ cs) ≡ byte_fault BadEscape c.at
 told-escape kind l c cs h = rw (bad-found kind c cs h) (backslash-fault c h.is_backslash)
 
-pub told-indent : (kind : Quotes) (l : Line) (c : Cell) (cs : List Cell) → (IsBadEscape kind c cs → ⊥) → unindented_at kind l (c ∷ cs) ≡ fault_at BadIndent c
+pub told-indent : (kind : Quotes) (l : Line) (c : Cell) (cs : List Cell) → (IsBadEscape kind c cs → ⊥) → unindented_at kind l (c ∷ cs) ≡ character_fault BadIndent c
 told-indent kind l c cs n =
     elim (cases_Bool (begins_bad_escape kind (c ∷ cs))) [
       | inl a ↦ absurd (n (bad-told kind c cs a))

@@ -1,11 +1,10 @@
 -- Reading a scalar of any style is the definition, in both directions, and its fault is the breach.
 use Rattle.std.proofs.Common.{◌≡◌, ℕ, true, false, List, [], ◌∷◌, Result, Ok, Err, refl, ap, ◌∙◌, subst}
-use Rattle.std.specs.Prelude.{IfOk, IfErr}
-use Rattle.lf_base.specs.declared.refusal.Refusal.{Refusal}
-use Rattle.lf_base.specs.declared.refusal.Refusal.TheVariants as refusal_of
 use Rattle.lf_scalar.specs.declared.scalar.Style.{Style}
 use Rattle.lf_scalar.specs.declared.scalar.Style.TheVariants as style
-use Rattle.lf_scalar.specs.Cells.{Cell, Value, Fault, Gives, IfAt}
+use Rattle.lf_base.specs.declared.fault.Fault.{Fault}
+use Rattle.lf_base.specs.Answers.{Decides}
+use Rattle.lf_scalar.specs.Cells.{Cell, Value}
 use Rattle.lf_scalar.specs.Lines.{Line, lines, first_text}
 use Rattle.lf_scalar.specs.Plain.{Begun}
 use Rattle.lf_scalar.specs.Quoted.{Quotes, Single, Double}
@@ -101,25 +100,11 @@ tells style.Double above end (c ∷ src) h = quoted-told Double style.Double abo
 tells style.Literal above end src h = joined-told above end src (reading style.Literal above end src) (block.block-told IsJoined joined joining above end src (headed end src (begun style.Literal end src h)))
 tells style.Folded above end src h = folded-told above end src (reading style.Folded above end src) (block.block-told IsFolded folded_of folding above end src (headed end src (begun style.Folded end src h)))
 
--- ---- the same of what a function returned: the four clauses from one
-module _ {X : Type 0} (view : X → Value) (s : Style) (above end : ℕ) (src : List Cell) (r : Result X Refusal) (gives : Gives view r (reading s above end src)) where
-  pub found : begins s (first_text (lines end src)) ≡ true → IfOk r (λ x. IsOfStyle s above end src (view x))
-  found h = by r gives
-    where
-      by : (r : Result X Refusal) → Gives view r (reading s above end src) → IfOk r (λ x. IsOfStyle s above end src (view x))
-      by (Err e) g = tt
-      by (Ok x) g = subst (Told s above end src) g (tells s above end src h)
-
-  pub refused : begins s (first_text (lines end src)) ≡ true → IfErr r (λ e. IfAt e (BreaksStyle s above end src))
-  refused h = by r gives
-    where
-      by : (r : Result X Refusal) → Gives view r (reading s above end src) → IfErr r (λ e. IfAt e (BreaksStyle s above end src))
-      by (Ok x) g = tt
-      by (Err refusal_of.Memory) g = tt
-      by (Err (refusal_of.At kind span)) g = subst (Told s above end src) g (tells s above end src h)
-
-  pub only : (v : Value) → IsOfStyle s above end src v → Gives view r (Ok v)
-  only v h = subst (Gives view r) (is_read s above end src v h) gives
-
-  pub breach : (f : Fault) → BreaksStyle s above end src f → Gives view r (Err f)
-  breach f h = subst (Gives view r) (is_refused s above end src f h) gives
+-- so it decides what stands where a scalar begins
+pub decides : (s : Style) (above end : ℕ) (src : List Cell) → begins s (first_text (lines end src)) ≡ true → Decides (IsOfStyle s above end src) (BreaksStyle s above end src) (reading s above end src)
+decides s above end src h = record {
+  stands = λ v e. subst (Told s above end src) e (tells s above end src h);
+  read = λ v h. is_read s above end src v h;
+  breaks = λ f e. subst (Told s above end src) e (tells s above end src h);
+  told = λ f h. is_refused s above end src f h;
+}

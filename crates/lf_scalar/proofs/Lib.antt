@@ -14,12 +14,12 @@ pub mod Laws
 pub mod LineLaws
 pub mod Drafts
 pub mod Cells
+pub mod Characters
 pub mod Scan
 pub mod Numbers
 pub mod EscapeLaws
 pub mod PieceCode
 pub mod Reaching
-pub mod Vectors
 pub mod QuotedLine
 pub mod NextLine
 pub mod IndentFault
@@ -43,6 +43,7 @@ pub mod HeaderRun
 pub mod BlockRun
 pub mod Climbing
 pub mod Whole
+pub mod Within
 pub mod FirstByte
 pub mod Utf8Lines
 pub mod QuotedTexts

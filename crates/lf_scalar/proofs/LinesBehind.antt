@@ -7,7 +7,8 @@ use Rattle.std.proofs.lemmas.Bool.Decides.{eqb_tells}
 use Rattle.lf_base.specs.declared.refusal.Refusal.{Refusal}
 use Rattle.lf_base.specs.declared.refusal.Refusal.TheVariants as refusal_of
 use Rattle.lf_scalar.specs.declared.quoted.AtBreak.{AtBreak}
-use Rattle.lf_scalar.specs.Cells.{Cell, cells, Fault, Fails, front, ◌>>=◌}
+use Rattle.lf_base.specs.declared.fault.Fault.{Fault}
+use Rattle.lf_scalar.specs.Cells.{Cell, cells, Fails, front, ◌>>=◌}
 use Rattle.lf_scalar.specs.Lines.{Line, line as one_line, lines_at, is_blank, is_blank_line, indent_of, after_spaces}
 use Rattle.lf_scalar.specs.Quoted.{Quotes, Break, filled, unindented}
 use Rattle.lf_scalar.specs.QuotedReading.{LineGives, broken, line_at, line_of, prefixed, next_line, lines_behind, unindented_at}

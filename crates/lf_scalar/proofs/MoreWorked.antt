@@ -8,7 +8,8 @@ use Rattle.lf_scalar.specs.declared.scalar.Style.TheVariants as style
 use Rattle.lf_scalar.specs.declared.block.Chomp.{Chomp}
 use Rattle.lf_scalar.specs.declared.block.Chomp.TheVariants.{Strip, Clip, Keep}
 use Rattle.lf_base.specs.declared.place.Span.{Span}
-use Rattle.lf_scalar.specs.Cells.{Cell, cell, Value, span, fault}
+use Rattle.lf_base.specs.Faults.{span}
+use Rattle.lf_scalar.specs.Cells.{Cell, cell, Value, byte_fault}
 use Rattle.lf_scalar.specs.Lines.{line, lines, is_tail}
 use Rattle.lf_scalar.specs.Plain.{last, more}
 use Rattle.lf_scalar.specs.Quoted.{Quotes, Single, Double, Piece, Bare, Twice, Letter, Number, IsPiece, spelled, letter_of, width_of, Raw, One, Pair, raw, Closes, Break, Folds, Drops, IsBadEscape, HasBadEscape, open_quote, inside, outside}
@@ -129,7 +130,7 @@ q-is-bad : (at : ℕ) (behind : List Cell) → IsBadEscape Double (cell 92 at) (
 q-is-bad at behind = record { is_backslash = refl; inside = some (cell 113 (at + 1)) behind; none = λ p rest h e. no-piece at p behind rest h e }
 
 -- `\q` is no escape, told at the backslash
-no_escape : BreaksAt (codes "a: \"b\\q\"\n") 3 (pos 0) style.Double (fault BadEscape 5)
+no_escape : BreaksAt (codes "a: \"b\\q\"\n") 3 (pos 0) style.Double (byte_fault BadEscape 5)
 unfolding lines
 no_escape = inside
     (record { raws = One (cell 98 4) ∷ Pair (cell 92 5) (cell 113 6) ∷ []; each = (b, (refl, tt)); closing = cell 34 7; rest = cell 10 8 ∷ []; source = refl; closes = refl; alone = tt })
@@ -144,12 +145,12 @@ others (c ∷ cs) [] rest d h e q = h.0 (first-byte c d cs rest e ∙ q)
 others (c ∷ cs) (x ∷ before) rest d h e q = others cs before rest d h.1 (tails c x cs (before ++ d ∷ rest) e) q
 
 -- a quote that doesn't close, told at it
-no_quote : BreaksAt (codes "a: 'b\n") 3 (pos 0) style.Single (fault OpenQuote 3)
+no_quote : BreaksAt (codes "a: 'b\n") 3 (pos 0) style.Single (byte_fault OpenQuote 3)
 unfolding lines
 no_quote = open_quote (λ k. others (cell 98 4 ∷ cell 10 5 ∷ []) (flat_map raw k.raws) k.rest k.closing (differ 98 39 (inr (omega arith)), (differ 10 39 (inl (omega arith)), tt)) k.source k.closes)
 
 -- something behind the quote that closes, told at its first character
-behind_quote : BreaksAt (codes "a: \"b\" c\n") 3 (pos 0) style.Double (fault NotANode 7)
+behind_quote : BreaksAt (codes "a: \"b\" c\n") 3 (pos 0) style.Double (byte_fault NotANode 7)
 unfolding lines
 behind_quote = outside
     (record {
@@ -180,7 +181,7 @@ not_indented = inside
     (quoted.indent (cell 98 4 ∷ []) (Folds 5) [] [] (Bare (cell 98 4) ∷ [], (b, tt), refl, refl, refl) (record { are_blank = tt; is_full = refl }) (omega arith) refl (λ h. differ 0xC3 92 (inr (omega arith)) h.is_backslash))
 
 -- a second line that isn't indented and begins with a wrong escape: both are told of the backslash, and the escape comes first
-escape_comes_first : BreaksAt (codes "a: \"b\n\\q\"\n") 3 (pos 0) style.Double (fault BadEscape 6)
+escape_comes_first : BreaksAt (codes "a: \"b\n\\q\"\n") 3 (pos 0) style.Double (byte_fault BadEscape 6)
 unfolding lines
 escape_comes_first = inside
     (record { raws = One (cell 98 4) ∷ One (cell 10 5) ∷ Pair (cell 92 6) (cell 113 7) ∷ []; each = (b, (a_feed, (refl, tt))); closing = cell 34 8; rest = cell 10 9 ∷ []; source = refl; closes = refl; alone = tt })
@@ -188,7 +189,7 @@ escape_comes_first = inside
     (quoted.escape_not_indented (cell 98 4 ∷ []) (Folds 5) [] [] (Bare (cell 98 4) ∷ [], (b, tt), refl, refl, refl) (record { are_blank = tt; is_full = refl }) (omega arith) refl (q-is-bad 6 (cell 34 8 ∷ [])))
 
 -- a second line that isn't indented, with a wrong escape behind its first character: the line is told of that character, which comes first
-indent_comes_first : BreaksAt (codes "a: \"b\nc\\q\"\n") 3 (pos 0) style.Double (fault BadIndent 6)
+indent_comes_first : BreaksAt (codes "a: \"b\nc\\q\"\n") 3 (pos 0) style.Double (byte_fault BadIndent 6)
 unfolding lines
 indent_comes_first = inside
     (record { raws = One (cell 98 4) ∷ One (cell 10 5) ∷ One (cell 99 6) ∷ Pair (cell 92 7) (cell 113 8) ∷ []; each = (b, (a_feed, (c, (refl, tt)))); closing = cell 34 9; rest = cell 10 10 ∷ []; source = refl; closes = refl; alone = tt })
@@ -196,7 +197,7 @@ indent_comes_first = inside
     (quoted.indent (cell 98 4 ∷ []) (Folds 5) [] [] (Bare (cell 98 4) ∷ [], (b, tt), refl, refl, refl) (record { are_blank = tt; is_full = refl }) (omega arith) refl (λ h. c.1 h.is_backslash))
 
 -- a backslash that ends its line is no wrong escape
-backslash_ends_line : BreaksAt (codes "a: \"b\n\\\nc\"\n") 3 (pos 0) style.Double (fault BadIndent 6)
+backslash_ends_line : BreaksAt (codes "a: \"b\n\\\nc\"\n") 3 (pos 0) style.Double (byte_fault BadIndent 6)
 unfolding lines
 backslash_ends_line = inside
     (record { raws = One (cell 98 4) ∷ One (cell 10 5) ∷ Pair (cell 92 6) (cell 10 7) ∷ One (cell 99 8) ∷ []; each = (b, (a_feed, (refl, (c, tt)))); closing = cell 34 9; rest = cell 10 10 ∷ []; source = refl; closes = refl; alone = tt })
@@ -223,7 +224,7 @@ not-marks (m ∷ []) tail Keep (Some d) e h t = h
 not-marks (m ∷ n ∷ marks) tail chomp digit e h t = nil-cons n (marks ++ tail) (tails (cell 120 4) m [] (n ∷ (marks ++ tail)) e)
 
 -- a header with another character, told at it
-no_header : BreaksAt (codes "a: |x\n") 3 (pos 0) style.Literal (fault BadHeader 4)
+no_header : BreaksAt (codes "a: |x\n") 3 (pos 0) style.Literal (byte_fault BadHeader 4)
 unfolding lines
 no_header = record {
   headed = record { sign = _; header = _; break = _; following = _; source = refl };

@@ -6,7 +6,8 @@ use Rattle.std.proofs.lemmas.Bool.Decides.{eqb_tells, leb_tells}
 use Rattle.lf_base.specs.declared.refusal.Refusal.{Refusal}
 use Rattle.lf_base.specs.declared.refusal.Refusal.TheVariants as refusal_of
 use Rattle.lf_scalar.specs.declared.quoted.AtBreak.{AtBreak}
-use Rattle.lf_scalar.specs.Cells.{Cell, cell, cells, Fault, fault_at, Fails}
+use Rattle.lf_base.specs.declared.fault.Fault.{Fault}
+use Rattle.lf_scalar.specs.Cells.{Cell, cell, cells, character_fault, Fails}
 use Rattle.lf_base.specs.declared.kind.Kind.TheVariants.{BadEscape, BadIndent}
 use Rattle.lf_scalar.specs.Drafted.{refused}
 use Rattle.lf_scalar.proofs.Cells.{cells-drop}
@@ -40,10 +41,10 @@ next-gives r old mid new b kind above at skipped indent k bytes break m i le a h
     rw t (prefix-gives r old mid new b (filled break k) (line_of kind (unindented (line_at at bytes b))) m (subst (LineGives r mid new b) u h))
 
 pub low-gives : (e : Refusal) (above at indent b : ℕ) (kind : Quotes) (k : ℕ) (bytes : List ℕ) (break : Break) → indent ≡ indent_of (cells at bytes) → indent < above → indent < length bytes
-    → after_spaces (cells at bytes) ≡ cells (at + indent) (drop indent bytes) → e ≡ refused (fault_at (if begins_bad_escape kind (cells (at + indent) (drop indent bytes)) then BadEscape else BadIndent) (cell (get_or bytes indent 0) (at + indent))) → Fails e (next_line kind above break k (line_at at bytes b))
+    → after_spaces (cells at bytes) ≡ cells (at + indent) (drop indent bytes) → e ≡ refused (character_fault (if begins_bad_escape kind (cells (at + indent) (drop indent bytes)) then BadEscape else BadIndent) (cell (get_or bytes indent 0) (at + indent))) → Fails e (next_line kind above break k (line_at at bytes b))
 low-gives e above at indent b kind k bytes break i lt within s h =
     let front : cells (at + indent) (drop indent bytes) ≡ cell (get_or bytes indent 0) (at + indent) ∷ cells (at + (indent + 1)) (drop (indent + 1) bytes) = cells-drop at bytes indent within in
-    let told : unindented_at kind (line_at at bytes b) (after_spaces (cells at bytes)) ≡ fault_at (if begins_bad_escape kind (cells (at + indent) (drop indent bytes)) then BadEscape else BadIndent) (cell (get_or bytes indent 0) (at + indent)) =
+    let told : unindented_at kind (line_at at bytes b) (after_spaces (cells at bytes)) ≡ character_fault (if begins_bad_escape kind (cells (at + indent) (drop indent bytes)) then BadEscape else BadIndent) (cell (get_or bytes indent 0) (at + indent)) =
     rw (s, front) refl in
     let t : leb above (indent_of (cells at bytes)) ≡ false = elim (leb_tells above (indent_of (cells at bytes))) [ inl a ↦ absurd (omega (arith, i, lt, a.1)) | inr a ↦ a.0 ] in
     subst (λ (x : Refusal). Fails x (next_line kind above break k (line_at at bytes b))) (sym h) (rw (t, told) refl)

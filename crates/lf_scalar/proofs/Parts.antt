@@ -6,7 +6,7 @@ use Rattle.std.proofs.lemmas.List.{append-nil, length-append, map-append, get_or
 use Rattle.std.proofs.lemmas.Bool.{and_parts, or_cases, cases_Bool}
 use Rattle.std.proofs.lemmas.Str.{IsUtf8-take, IsUtf8-drop, IsCharBoundary-before_ascii, IsCharBoundary-after_ascii}
 use Rattle.lf_scalar.specs.Cells.{Cell, bytes_of}
-use Rattle.lf_scalar.specs.Lines.{begins_with, is_blank, after_blanks}
+use Rattle.lf_scalar.specs.Lines.{begins_with, is_blank, after_blanks, after_spaces}
 use Rattle.lf_scalar.specs.Folding.{trimmed}
 use Rattle.lf_scalar.specs.Plain.{before_comment}
 
@@ -87,6 +87,14 @@ after-blanks-part [] = whole-part []
 after-blanks-part (c ∷ cs) =
     elim (cases_Bool (is_blank c)) [
       | inl a ↦ rw a (low-part c cs (after_blanks cs) (blank-low c a) (after-blanks-part cs))
+      | inr a ↦ rw a (whole-part (c ∷ cs))
+    ]
+
+pub after-spaces-part : (cs : List Cell) → Part cs (after_spaces cs)
+after-spaces-part [] = whole-part []
+after-spaces-part (c ∷ cs) =
+    elim (cases_Bool (eqb c.byte 32)) [
+      | inl a ↦ rw a (low-part c cs (after_spaces cs) (omega (arith, eqb-true c.byte 32 a)) (after-spaces-part cs))
       | inr a ↦ rw a (whole-part (c ∷ cs))
     ]
 

@@ -5,7 +5,8 @@ use Rattle.lf_base.specs.declared.kind.Kind.TheVariants.{BadIndent}
 use Rattle.lf_base.specs.declared.refusal.Refusal.{Refusal}
 use Rattle.lf_base.specs.declared.refusal.Refusal.TheVariants as refusal_of
 use Rattle.lf_scalar.specs.declared.plain.Folded.{Folded}
-use Rattle.lf_scalar.specs.Cells.{Cell, cells, Fault, fault, Fails, front, ◌>>=◌}
+use Rattle.lf_base.specs.declared.fault.Fault.{Fault}
+use Rattle.lf_scalar.specs.Cells.{Cell, cells, byte_fault, Fails, front, ◌>>=◌}
 use Rattle.lf_scalar.specs.Lines.{Line, line, lines_at, is_blank_line}
 use Rattle.lf_scalar.specs.Folding.{fold}
 use Rattle.lf_scalar.specs.Plain.{is_commented, continues, has_tab}
@@ -87,8 +88,8 @@ start-at at [] break h = true-false true refl h
 start-at at (b ∷ bytes) break h = refl
 
 pub tab-step : (above break k at : ℕ) (bytes : List ℕ) (own : ℕ) → is_blank_line (line_at at bytes own) ≡ false → continues above (line_at at bytes own) ≡ true → has_tab (line_at at bytes own) ≡ true → (ls : List Line)
-    → plain_behind above break k (line_at at bytes own ∷ ls) ≡ Err (fault BadIndent at)
-tab-step above break k at bytes own b c t ls = tabs above break k (line_at at bytes own) ls c t ∙ ap (λ (n : ℕ). no (fault BadIndent n)) (start-at at bytes own b)
+    → plain_behind above break k (line_at at bytes own ∷ ls) ≡ Err (byte_fault BadIndent at)
+tab-step above break k at bytes own b c t ls = tabs above break k (line_at at bytes own) ls c t ∙ ap (λ (n : ℕ). no (byte_fault BadIndent n)) (start-at at bytes own b)
 
 -- ---- the lines behind a line break
 

@@ -2,7 +2,8 @@
 use Rattle.std.proofs.Common.{◌≡◌, ℕ, zero, suc, ◌+◌, ◌<◌, Bool, true, false, cond, List, [], ◌∷◌, ◌++◌, Option, Some, None, Result, Ok, Err, length, refl, ap, arith, sym, ◌∙◌, subst, ◌⊎◌, inl, inr}
 use Rattle.std.proofs.lemmas.List.{append-nil, length-append}
 use Rattle.lf_base.specs.declared.kind.Kind.TheVariants.{BadIndent, NotANode}
-use Rattle.lf_scalar.specs.Cells.{Cell, Value, Fault, fault, front, ◌>>=◌}
+use Rattle.lf_base.specs.declared.fault.Fault.{Fault}
+use Rattle.lf_scalar.specs.Cells.{Cell, Value, byte_fault, front, ◌>>=◌}
 use Rattle.lf_scalar.specs.Lines.{Line, begins_with, after_spaces, is_blank_line, AreBlank}
 use Rattle.lf_scalar.specs.Folding.{fold}
 use Rattle.lf_scalar.specs.Plain.{plain_text, is_commented, key_sign, continues, has_tab, StopsAt, IsLast, GoesOn, PlainFrom, last, more, PlainBreaks, key, tab, later, value_of, Begun, IsPlain, BreaksPlain}
@@ -15,7 +16,7 @@ Read = Result (List Cell) Fault
 line-good : (l : Line) → key_sign (plain_text l) ≡ None → plain_line l ≡ Ok (plain_text l)
 line-good l e = rw e refl
 
-line-bad : (l : Line) (c : Cell) → key_sign (plain_text l) ≡ Some c → plain_line l ≡ Err (fault NotANode c.at)
+line-bad : (l : Line) (c : Cell) → key_sign (plain_text l) ≡ Some c → plain_line l ≡ Err (byte_fault NotANode c.at)
 line-bad l c e = rw e refl
 
 -- ---- blank lines, and what stands behind them
@@ -49,7 +50,7 @@ pub goes : (above break k : ℕ) (l : Line) (ls : List Line) → continues above
 unfolding plain_behind
 goes above break k l ls c t = rw (c, t, content-full l above c) refl
 
-pub tabs : (above break k : ℕ) (l : Line) (ls : List Line) → continues above l ≡ true → has_tab l ≡ true → plain_behind above break k (l ∷ ls) ≡ Err (fault BadIndent (start_of l l.text))
+pub tabs : (above break k : ℕ) (l : Line) (ls : List Line) → continues above l ≡ true → has_tab l ≡ true → plain_behind above break k (l ∷ ls) ≡ Err (byte_fault BadIndent (start_of l l.text))
 unfolding plain_behind
 tabs above break k l ls c t = rw (c, t, content-full l above c) refl
 
@@ -79,8 +80,8 @@ plain-again above l _ _ (more {next = next} {ls = ls} {text = text} blank e g t 
 pub plain-breaks : (above : ℕ) (l : Line) (ls : List Line) (f : Fault) → PlainBreaks above l ls f → plain_from above l ls ≡ Err f
 plain-breaks above l _ _ (key {c = c} ls e) = rw e refl
 plain-breaks above l _ _ (tab {next = next} {c = c} {cs = cs} blank ls e g source t) =
-    from-line above l (blank ++ next ∷ ls) (Err (fault BadIndent c.at)) e g.bare
-    (behind-blanks above l.break blank (next ∷ ls) g.are_blank ∙ tabs above l.break (length blank) next ls g.goes_on t ∙ ap (λ (x : List Cell). Err (fault BadIndent (start_of next x))) source)
+    from-line above l (blank ++ next ∷ ls) (Err (byte_fault BadIndent c.at)) e g.bare
+    (behind-blanks above l.break blank (next ∷ ls) g.are_blank ∙ tabs above l.break (length blank) next ls g.goes_on t ∙ ap (λ (x : List Cell). Err (byte_fault BadIndent (start_of next x))) source)
 plain-breaks above l _ _ (later {next = next} {ls = ls} {f = f} blank e g t rest) =
     from-line above l (blank ++ next ∷ ls) (Err f) e g.bare
     (behind-blanks above l.break blank (next ∷ ls) g.are_blank ∙ goes above l.break (length blank) next ls g.goes_on t ∙ ap (front (fold l.break (length blank))) (plain-breaks above next ls f rest))
@@ -148,8 +149,8 @@ bare-line above l ls e c below =
           subst (λ (x : List Line). Answers above l x (plain_from above l x)) (sym g.source) (elim (by-test (has_tab g.next)) [
             | inl t ↦
                 let f = tab-first g.next t in
-                let h : PlainBreaks above l (g.blank ++ g.next ∷ g.rest) (fault BadIndent f.0.at) = tab g.blank g.rest e on f.2 t in
-                subst (Answers above l (g.blank ++ g.next ∷ g.rest)) (sym (plain-breaks above l (g.blank ++ g.next ∷ g.rest) (fault BadIndent f.0.at) h)) h
+                let h : PlainBreaks above l (g.blank ++ g.next ∷ g.rest) (byte_fault BadIndent f.0.at) = tab g.blank g.rest e on f.2 t in
+                subst (Answers above l (g.blank ++ g.next ∷ g.rest)) (sym (plain-breaks above l (g.blank ++ g.next ∷ g.rest) (byte_fault BadIndent f.0.at) h)) h
             | inr t ↦
                 subst (Answers above l (g.blank ++ g.next ∷ g.rest))
                 (sym (from-line above l (g.blank ++ g.next ∷ g.rest) (front (fold l.break (length g.blank)) (plain_from above g.next g.rest)) e c
@@ -166,7 +167,7 @@ plain-tells above (suc n) l ls lt = by (key_sign (plain_text l)) refl (λ g t. p
     size g = let e : length ls ≡ length g.blank + suc (length g.rest) = ap length g.source ∙ length-append g.blank (g.next ∷ g.rest) in omega (arith, e)
 
     by : (o : Option Cell) → key_sign (plain_text l) ≡ o → ((g : Go above ls) → has_tab g.next ≡ false → Answers above g.next g.rest (plain_from above g.next g.rest)) → Answers above l ls (plain_from above l ls)
-    by (Some c) e below = subst (Answers above l ls) (sym (plain-breaks above l ls (fault NotANode c.at) (key ls e))) (key ls e)
+    by (Some c) e below = subst (Answers above l ls) (sym (plain-breaks above l ls (byte_fault NotANode c.at) (key ls e))) (key ls e)
     by None e below =
         elim (by-test (is_commented l)) [
           | inl c ↦ subst (Answers above l ls) (sym (plain-again above l ls (plain_text l) (last e (inl c)))) (last e (inl c))

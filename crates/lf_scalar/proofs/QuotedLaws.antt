@@ -5,7 +5,8 @@ use Rattle.std.proofs.lemmas.List.{append-nil, length-append}
 use Rattle.std.proofs.lemmas.Bool.{le-leb}
 use Rattle.std.proofs.lemmas.Bool.Decides.{eqb_tells, leb_tells}
 use Rattle.lf_base.specs.declared.kind.Kind.TheVariants.{BadEscape, BadIndent}
-use Rattle.lf_scalar.specs.Cells.{Cell, Fault, fault, fault_at, front, ◌>>=◌}
+use Rattle.lf_base.specs.declared.fault.Fault.{Fault}
+use Rattle.lf_scalar.specs.Cells.{Cell, byte_fault, character_fault, front, ◌>>=◌}
 use Rattle.lf_scalar.specs.Lines.{Line, is_blank, after_blanks, after_spaces, indent_of, is_blank_line, AreBlank}
 use Rattle.lf_scalar.specs.Quoted.{Quotes, Single, Double, quote_of, Piece, Bare, Twice, spelled, given, IsPiece, Break, Folds, Drops, filled, IsBroken, Follows, unindented, QuotedFrom, last, more, HasBadEscape, QuotedBreaks, escape, indent, escape_not_indented, later}
 use Rattle.lf_scalar.specs.QuotedReading.{piece_of, scan, Closing, closing_of, stopped, ended, line_of, unindented_at, lines_behind, lines_from, lines_of, wrong_behind, alone, closed, quoted_of}
@@ -43,11 +44,11 @@ broken-again Double l part (Drops at) (ps, b, each, e, source, p, a) =
     let n : piece_of Double b [] ≡ None = rw (eq-eqb b.byte 92 e) refl in
     ap (λ (x : List Cell). ended l.break (scan Double 0 x)) source ∙ ap (ended l.break) (scan-again Double ps (b ∷ []) each n) ∙ rw (eq-eqb b.byte 92 e, p, a) refl
 
-escape-again : (kind : Quotes) (l : Line) (b : Cell) → HasBadEscape kind l.text b → line_of kind l ≡ Err (fault BadEscape b.at)
+escape-again : (kind : Quotes) (l : Line) (b : Cell) → HasBadEscape kind l.text b → line_of kind l ≡ Err (byte_fault BadEscape b.at)
 escape-again kind l b h =
     ap (λ (x : List Cell). ended l.break (scan kind 0 x)) h.source ∙ ap (ended l.break) (scan-again kind h.pieces (b ∷ h.more) h.each (none-found kind b h.more h.is_bad.none)) ∙ by h.more h.is_bad.inside
   where
-    by : (left : List Cell) → left ≢ [] → ended l.break (h.pieces, b ∷ left) ≡ Err (fault BadEscape b.at)
+    by : (left : List Cell) → left ≢ [] → ended l.break (h.pieces, b ∷ left) ≡ Err (byte_fault BadEscape b.at)
     by [] n = absurd (n refl)
     by (d ∷ left) n = rw (eq-eqb b.byte 92 h.is_bad.is_backslash) refl
 
@@ -105,9 +106,9 @@ low-behind kind above break blank next rest c cs f follows low spaces told =
 pub breaks-again : (kind : Quotes) (above : ℕ) (l : Line) (ls : List Line) (f : Fault) → QuotedBreaks kind above l ls f → lines_from kind above l ls ≡ Err f
 breaks-again kind above l _ _ (escape {backslash = b} ls h) = rw (escape-again kind l b h) refl
 breaks-again kind above l _ _ (indent {next = next} {c = c} {cs = cs} part break blank ls broken follows low spaces good) =
-    from-line kind above l (blank ++ next ∷ ls) part break _ (broken-again kind l part break broken) (low-behind kind above break blank next ls c cs (fault_at BadIndent c) follows low spaces (told-indent kind next c cs good))
+    from-line kind above l (blank ++ next ∷ ls) part break _ (broken-again kind l part break broken) (low-behind kind above break blank next ls c cs (character_fault BadIndent c) follows low spaces (told-indent kind next c cs good))
 breaks-again kind above l _ _ (escape_not_indented {next = next} {backslash = c} {cs = cs} part break blank ls broken follows low spaces wrong) =
-    from-line kind above l (blank ++ next ∷ ls) part break _ (broken-again kind l part break broken) (low-behind kind above break blank next ls c cs (fault BadEscape c.at) follows low spaces (told-escape kind next c cs wrong))
+    from-line kind above l (blank ++ next ∷ ls) part break _ (broken-again kind l part break broken) (low-behind kind above break blank next ls c cs (byte_fault BadEscape c.at) follows low spaces (told-escape kind next c cs wrong))
 breaks-again kind above l _ _ (later {next = next} {ls = ls} {f = f} part break blank broken follows high rest) =
     let below : lines_behind kind above break 0 (blank ++ next ∷ ls) ≡ Err f = behind-is kind above break blank next ls true follows (le-leb above (indent_of next.text) high) ∙ rw (breaks-again kind above (unindented next) ls f rest) refl in
     from-line kind above l (blank ++ next ∷ ls) part break _ (broken-again kind l part break broken) below
@@ -179,12 +180,12 @@ quote-is Double b e = rw e refl
 -- a line before the last
 abbrev Middle : Quotes → Line → Result Read Fault → Type 0
 Middle kind l (Ok x) = IsBroken kind l x.0 x.1
-Middle kind l (Err f) = (b : Cell) × HasBadEscape kind l.text b × (f ≡ fault BadEscape b.at)
+Middle kind l (Err f) = (b : Cell) × HasBadEscape kind l.text b × (f ≡ byte_fault BadEscape b.at)
 
 ended-drops : (break : ℕ) (ps : List Piece) (c : Cell) → c.byte ≡ 92 → ended break (ps, c ∷ []) ≡ good (flat_map given ps) (Drops break)
 ended-drops break ps c e = rw (eq-eqb c.byte 92 e) refl
 
-ended-bad : (break : ℕ) (ps : List Piece) (c d : Cell) (left : List Cell) → c.byte ≡ 92 → ended break (ps, c ∷ d ∷ left) ≡ bad (fault BadEscape c.at)
+ended-bad : (break : ℕ) (ps : List Piece) (c d : Cell) (left : List Cell) → c.byte ≡ 92 → ended break (ps, c ∷ d ∷ left) ≡ bad (byte_fault BadEscape c.at)
 ended-bad break ps c d left e = rw (eq-eqb c.byte 92 e) refl
 
 ended-closes : (kind : Quotes) (break : ℕ) (ps : List Piece) (c : Cell) (src : List Cell) → c.byte ≡ quote_of kind → ended break (ps, c ∷ src) ≡ good (flat_map given ps) (Folds break)
@@ -207,7 +208,7 @@ middle-tells kind l none = middle-by kind l (scan kind 0 l.text).0 (scan kind 0 
 -- the last line
 abbrev Last : Quotes → ℕ → Line → Result Read Fault → Type 0
 Last kind above l (Ok x) = QuotedFrom kind above l [] x.0
-Last kind above l (Err f) = (b : Cell) × HasBadEscape kind l.text b × (f ≡ fault BadEscape b.at)
+Last kind above l (Err f) = (b : Cell) × HasBadEscape kind l.text b × (f ≡ byte_fault BadEscape b.at)
 
 closing-is : (x y : Closing) → some-closing x ≡ some-closing y → x ≡ y
 closing-is x y e = cc

@@ -6,7 +6,8 @@ use Rattle.std.proofs.lemmas.Bool.{ne_eqb}
 use Rattle.std.proofs.lemmas.Grind.{flat_map-append}
 use Rattle.std.proofs.Math.Seq.{take-append_seam}
 use Rattle.lf_base.specs.declared.kind.Kind.TheVariants.{BadEscape}
-use Rattle.lf_scalar.specs.Cells.{Cell, cell, cells, Fault, fault}
+use Rattle.lf_base.specs.declared.fault.Fault.{Fault}
+use Rattle.lf_scalar.specs.Cells.{Cell, cell, cells, byte_fault}
 use Rattle.lf_scalar.specs.Folding.{trimmed}
 use Rattle.lf_scalar.specs.Quoted.{Quotes, Piece, given, is_bare_blank, Break, Folds, Drops}
 use Rattle.lf_scalar.specs.QuotedReading.{scan, Reaches, ended, line_of, line_at}
@@ -52,7 +53,7 @@ module _ (kind : Quotes) (at : ℕ) (line : List ℕ) (old now : List Cell) (kep
       let left : cells (at + stop) (drop stop line) ≡ cell (get_or line stop 0) (at + stop) ∷ [] = cells-drop at line stop lt ∙ rw (drop_all (stop + 1) line le) refl in
       (flat_map given (scan kind 0 (cells at line)).0, line-is (cell (get_or line stop 0) (at + stop) ∷ []) left ∙ rw (eq-eqb (get_or line stop 0) 92 e) refl, r.text)
 
-  pub ends-bad : stop + 1 < length line → get_or line stop 0 ≡ 92 → line_of kind (line_at at line break) ≡ Err (fault BadEscape (at + stop))
+  pub ends-bad : stop + 1 < length line → get_or line stop 0 ≡ 92 → line_of kind (line_at at line break) ≡ Err (byte_fault BadEscape (at + stop))
   ends-bad lt e =
       let left : cells (at + stop) (drop stop line) ≡ cell (get_or line stop 0) (at + stop) ∷ cell (get_or line (stop + 1) 0) (at + (stop + 1)) ∷ cells (at + (stop + 1 + 1)) (drop (stop + 1 + 1) line) =
       cells-drop at line stop (omega arith) ∙ ap (λ (cs : List Cell). cell (get_or line stop 0) (at + stop) ∷ cs) (cells-drop at line (stop + 1) lt) in

@@ -4,7 +4,9 @@ use Rattle.std.proofs.lemmas.List.{length-take, length-drop, take_all}
 use Rattle.lf_base.specs.declared.kind.Kind.TheVariants.{OpenQuote, NotANode}
 use Rattle.lf_base.specs.declared.refusal.Refusal.{Refusal}
 use Rattle.lf_base.specs.declared.refusal.Refusal.TheVariants as refusal_of
-use Rattle.lf_scalar.specs.Cells.{Cell, cell, cells, Value, made, span, Fault, fault, fault_at, Fails, ◌>>=◌}
+use Rattle.lf_base.specs.declared.fault.Fault.{Fault}
+use Rattle.lf_base.specs.Faults.{span}
+use Rattle.lf_scalar.specs.Cells.{Cell, cell, cells, Value, made, byte_fault, character_fault, Fails, ◌>>=◌}
 use Rattle.lf_scalar.specs.Lines.{Line, line as one_line, lines, lines_at, first_text}
 use Rattle.lf_scalar.specs.Quoted.{Quotes}
 use Rattle.lf_scalar.specs.QuotedReading.{closing_of, split_of, lines_of, wrong_behind, alone, closed, quoted_of}
@@ -26,7 +28,7 @@ opened kind above end at [] inner lt e = absurd (omega arith)
 opened kind above end at (x ∷ xs) inner lt e = let p : suc at ≡ at + 1 = omega arith in ap (λ (n : ℕ). quoted_of kind above end (cell x at) (cells n xs)) p ∙ ap (λ (bytes : List ℕ). quoted_of kind above end (cell x at) (cells (at + 1) bytes)) (sym e)
 
 module _ (kind : Quotes) (above end at : ℕ) (opening : Cell) (inner : List ℕ) where
-  pub nothing-closes : closing_of kind 0 (cells at inner) ≡ None → quoted_of kind above end opening (cells at inner) ≡ Err (fault OpenQuote opening.at)
+  pub nothing-closes : closing_of kind 0 (cells at inner) ≡ None → quoted_of kind above end opening (cells at inner) ≡ Err (byte_fault OpenQuote opening.at)
   unfolding quoted_of
   nothing-closes e = ap (closed kind above end opening) e
 
@@ -70,7 +72,7 @@ module _ (kind : Quotes) (above at : ℕ) (rest inner : List ℕ) (lt : 0 < leng
   whole-is : whole ≡ quoted_of kind above (at + length rest) (cell (get_or rest 0 0) at) (cells (at + 1) inner)
   whole-is = opened kind above (at + length rest) at rest inner lt inner_is
 
-  pub told-open : (e : Refusal) → e ≡ refused (fault OpenQuote at) → None ≡ closing_of kind 0 (cells (at + 1) inner) → Fails e whole
+  pub told-open : (e : Refusal) → e ≡ refused (byte_fault OpenQuote at) → None ≡ closing_of kind 0 (cells (at + 1) inner) → Fails e whole
   told-open e e_is none = subst (λ (x : Refusal). Fails x whole) (sym e_is) (whole-is ∙ nothing-closes kind above (at + length rest) (at + 1) (cell (get_or rest 0 0) at) inner (sym none))
 
   module _ (k : ℕ) (within : k < length inner) (found : Some (split_of (at + 1) inner k) ≡ closing_of kind 0 (cells (at + 1) inner)) (taken : List ℕ) (taken_is : taken ≡ take (k + 1) inner) where
@@ -94,5 +96,5 @@ module _ (kind : Quotes) (above at : ℕ) (rest inner : List ℕ) (lt : 0 < leng
       pub told-value : None ≡ wrong_behind false (cells (at + 1 + k + 1) line) → whole ≡ Ok (made now (at + 1 + k) (span at (at + 1 + k + 1)))
       told-value w = judges None w
 
-      pub told-wrong : (e : Refusal) (c : Cell) → e ≡ refused (fault_at NotANode c) → Some c ≡ wrong_behind false (cells (at + 1 + k + 1) line) → Fails e whole
+      pub told-wrong : (e : Refusal) (c : Cell) → e ≡ refused (character_fault NotANode c) → Some c ≡ wrong_behind false (cells (at + 1 + k + 1) line) → Fails e whole
       told-wrong e c e_is w = subst (λ (x : Refusal). Fails x whole) (sym e_is) (judges (Some c) w)

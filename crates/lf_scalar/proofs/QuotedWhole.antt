@@ -1,7 +1,9 @@
 -- Reading a quoted scalar is the definition, in both directions, and its fault is the breach.
 use Rattle.std.proofs.Common.{◌≡◌, ℕ, suc, ◌+◌, false, List, [], ◌∷◌, ◌++◌, Option, Some, None, Result, Ok, Err, length, refl, ap, arith, sym, ◌∙◌, subst, inl, inr}
 use Rattle.std.specs.List.{flat_map}
-use Rattle.lf_scalar.specs.Cells.{Cell, Value, made, span, Fault, ◌>>=◌}
+use Rattle.lf_base.specs.declared.fault.Fault.{Fault}
+use Rattle.lf_base.specs.Faults.{span}
+use Rattle.lf_scalar.specs.Cells.{Cell, Value, made, ◌>>=◌}
 use Rattle.lf_scalar.specs.Lines.{Line}
 use Rattle.lf_scalar.specs.Quoted.{Quotes, raw, Closes, inner_lines, IsClosed, behind, IsQuoted, BreaksQuoted, open_quote, inside, outside}
 use Rattle.lf_scalar.specs.QuotedReading.{Closing, lines_of, lines_from, wrong_behind, alone, closed, quoted_of}

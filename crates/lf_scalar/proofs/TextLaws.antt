@@ -8,7 +8,8 @@ use Rattle.std.proofs.lemmas.Str.{IsUtf8-drop}
 use Rattle.lf_base.specs.declared.place.Span.{Span}
 use Rattle.lf_scalar.specs.declared.scalar.Style.{Style}
 use Rattle.lf_scalar.specs.declared.scalar.Style.TheVariants as style
-use Rattle.lf_scalar.specs.Cells.{Cell, cell, cells, bytes_of, offsets_of, Value, made, span, end_of}
+use Rattle.lf_base.specs.Faults.{span}
+use Rattle.lf_scalar.specs.Cells.{Cell, cell, cells, bytes_of, offsets_of, Value, made, end_of}
 use Rattle.lf_scalar.specs.Lines.{Line, lines, first_text, begins_with}
 use Rattle.lf_scalar.specs.Plain.{is_null, IsPlain}
 use Rattle.lf_scalar.specs.Quoted.{Quotes, Single, Double, quote_of, raw, IsQuoted}
@@ -34,7 +35,7 @@ same-cell : (c d : Cell) (cs ds : List Cell) → c ∷ cs ≡ d ∷ ds → c ≡
 same-cell c d cs ds e = cc
 
 -- a source whose first line begins with a byte
-first-byte : (end b : ℕ) (c : Cell) (src : List Cell) → begins_with b (first_text (lines end (c ∷ src))) ≡ true → c.byte ≡ b
+pub first-byte : (end b : ℕ) (c : Cell) (src : List Cell) → begins_with b (first_text (lines end (c ∷ src))) ≡ true → c.byte ≡ b
 first-byte end b c src h =
     let x = has-line end c src in
     by x.0.text (x.3.ending ++ x.3.rest) x.3.source (ap (λ (ls : List Line). begins_with b (first_text ls)) (sym x.2) ∙ h)
@@ -102,17 +103,17 @@ pub record IsPlaced (v : Value) (at end : ℕ) : Type 0 where
   pub start : v.span.start ≡ at
   pub within : v.span.end ≤ end
 
-made-placed : (v : Value) (text : List Cell) (last at end start stop : ℕ) → v ≡ made text last (span start stop) → start ≡ at → Mounts start text last → last ≤ stop → stop ≤ end → IsPlaced v at end
+pub made-placed : (v : Value) (text : List Cell) (last at end start stop : ℕ) → v ≡ made text last (span start stop) → start ≡ at → Mounts start text last → last ≤ stop → stop ≤ end → IsPlaced v at end
 made-placed v text last at end start stop e s m le w =
     subst (λ (x : Value). IsPlaced x at end) (sym e)
     (record { offsets = list.are-offsets (bytes_of text) (offsets_of text ++ last ∷ []) (span start stop) (made-length text last) (mounts-climb start text last stop m le); start = s; within = w })
 
-climbs-mount : (lo : ℕ) (text : List Cell) (hi : ℕ) → Climbs lo text hi → Mounts lo text hi
+pub climbs-mount : (lo : ℕ) (text : List Cell) (hi : ℕ) → Climbs lo text hi → Mounts lo text hi
 climbs-mount lo [] hi h = h
 climbs-mount lo (c ∷ cs) hi h = (h.0, climbs-mount c.at cs hi h.2)
 
 -- up to the end of the source of the last cell
-end-mounts : (none lo : ℕ) (text : List Cell) (hi : ℕ) → lo ≤ none → Mounts lo text hi → Mounts lo text (end_of none text)
+pub end-mounts : (none lo : ℕ) (text : List Cell) (hi : ℕ) → lo ≤ none → Mounts lo text hi → Mounts lo text (end_of none text)
 end-mounts none lo [] hi le h = le
 end-mounts none lo (c ∷ cs) hi le h = (h.0, end-mounts (suc c.at) c.at cs hi (omega arith) h.1)
 
@@ -120,7 +121,7 @@ least-mounts : (lo : ℕ) (text : List Cell) (a b : ℕ) → Mounts lo text a �
 least-mounts lo [] a b h k = omega (arith, h, k)
 least-mounts lo (c ∷ cs) a b h k = (h.0, least-mounts c.at cs a b h.1 k.1)
 
-null-mounts : (b : Bool) (lo : ℕ) (text : List Cell) (hi : ℕ) → Mounts lo text hi → Mounts lo (cond b [] text) hi
+pub null-mounts : (b : Bool) (lo : ℕ) (text : List Cell) (hi : ℕ) → Mounts lo text hi → Mounts lo (cond b [] text) hi
 null-mounts true lo text hi h = mounts-le lo text hi h
 null-mounts false lo text hi h = h
 
@@ -161,7 +162,11 @@ module _ (at end : ℕ) (rest : List ℕ) (rises : Rises at (cells at rest) end)
       subst (Mounts h.sign.at b.text) (sym b.last_is) (least-mounts h.sign.at b.text (end_of (suc h.sign.at) b.text) end (end-mounts (suc h.sign.at) h.sign.at b.text end (omega arith) m) m) in
       made-placed v b.text b.last at end h.sign.at b.last b.value (line-at at end rest (record { text = h.sign ∷ h.header; break = h.break }) h.following h.sign h.header h.source refl) both (omega arith) (omega (arith, b.last_is))
 
-quoted-placed : (kind : Quotes) (above at end : ℕ) (opening : Cell) (src : List Cell) (v : Value) → opening.at ≡ at → Rises at (opening ∷ src) end → IsQuoted kind above end opening src v → IsPlaced v at end
+pub rises-push : (lo : ℕ) (xs : List Cell) (c : Cell) → Rises lo xs c.at → Rises lo (xs ++ c ∷ []) (c.at + 1)
+rises-push lo [] c h = (h, omega arith)
+rises-push lo (x ∷ xs) c h = (h.0, rises-push (suc x.at) xs c h.1)
+
+pub quoted-placed : (kind : Quotes) (above at end : ℕ) (opening : Cell) (src : List Cell) (v : Value) → opening.at ≡ at → Rises at (opening ∷ src) end → IsQuoted kind above end opening src v → IsPlaced v at end
 quoted-placed kind above at end opening src v o r q =
     let c = q.closed.between in
     let s : Rises (suc opening.at) (flat_map raw c.raws ++ c.closing ∷ c.rest) end = subst (λ (cs : List Cell). Rises (suc opening.at) cs end) c.source r.1 in
@@ -174,16 +179,12 @@ quoted-placed kind above at end opening src v o r q =
     let m : Climbs opening.at q.closed.text c.closing.at =
     quoted-climbs kind above q.closed.first q.closed.following q.closed.text q.closed.from opening.at c.closing.at (lines-low (suc opening.at) opening.at (q.closed.first ∷ q.closed.following) (suc c.closing.at) (omega arith) ls) in
     made-placed v q.closed.text c.closing.at at end opening.at (c.closing.at + 1) q.closed.value o (climbs-mount opening.at q.closed.text c.closing.at m) (omega arith) (omega (arith, stop))
-  where
-    rises-push : (lo : ℕ) (xs : List Cell) (c : Cell) → Rises lo xs c.at → Rises lo (xs ++ c ∷ []) (c.at + 1)
-    rises-push lo [] c h = (h, omega arith)
-    rises-push lo (x ∷ xs) c h = (h.0, rises-push (suc x.at) xs c h.1)
 
 quoted-at-placed : (kind : Quotes) (above at end : ℕ) (rest : List ℕ) (v : Value) → Rises at (cells at rest) end → IsQuotedAt kind above end (cells at rest) v → IsPlaced v at end
 quoted-at-placed kind above at end [] v r h = absurd h
 quoted-at-placed kind above at end (b ∷ rest) v r h = quoted-placed kind above at end (cell b at) (cells (suc at) rest) v refl r h
 
-style-placed : (s : Style) (above at end : ℕ) (rest : List ℕ) (v : Value) → Rises at (cells at rest) end → IsOfStyle s above end (cells at rest) v → IsPlaced v at end
+pub style-placed : (s : Style) (above at end : ℕ) (rest : List ℕ) (v : Value) → Rises at (cells at rest) end → IsOfStyle s above end (cells at rest) v → IsPlaced v at end
 style-placed style.Plain above at end rest v r h = plain-placed at end rest r above v h
 style-placed style.Single above at end rest v r h = quoted-at-placed Single above at end rest v r h
 style-placed style.Double above at end rest v r h = quoted-at-placed Double above at end rest v r h

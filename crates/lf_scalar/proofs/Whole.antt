@@ -9,15 +9,17 @@ use Rattle.lf_scalar.specs.declared.drafted.Drafted.{Drafted}
 use Rattle.lf_scalar.specs.declared.scalar.Scalar.{Scalar}
 use Rattle.lf_scalar.specs.declared.scalar.Style.{Style}
 use Rattle.lf_scalar.specs.declared.scalar.Style.TheVariants as style
-use Rattle.lf_scalar.specs.Cells.{Cell, cells, Value, Fails, Gives}
+use Rattle.lf_base.specs.Answers.{Gives, Found, Only, Refused, Breach, Decides}
+use Rattle.lf_base.proofs.Answering as answering
+use Rattle.lf_scalar.specs.Cells.{Cell, cells, Value, Fails}
 use Rattle.lf_scalar.specs.Lines.{Line, lines, lines_at, first_text}
-use Rattle.lf_scalar.specs.Scalars.{least_above, begins, source_at, IsOfStyle, BeginsAt, IsScalarAt}
+use Rattle.lf_scalar.specs.Scalars.{least_above, begins, source_at, IsOfStyle, BeginsAt, IsScalarAt, BreaksAt}
 use Rattle.lf_scalar.specs.Offsets.{AreOffsets}
 use Rattle.lf_scalar.specs.Drafted.{drafted, shown}
 use Rattle.lf_scalar.specs.Reading.{reading}
 use Rattle.lf_scalar.proofs.LineSteps.{lines-nil}
 use Rattle.lf_scalar.proofs.Tails.{true-false}
-use Rattle.lf_scalar.proofs.Laws as laws
+use Rattle.lf_scalar.proofs.Laws.{decides}
 use Rattle.lf_scalar.proofs.TextLaws.{utf8-text, offsets}
 
 begins-nothing : (s : Style) → begins s [] ≡ false
@@ -58,12 +60,34 @@ module _ (s : Style) (bytes : List ℕ) (at : ℕ) (begun : begins s (first_text
         whole-gives r h = subst (Gives shown r) (sym whole-is) h
 
         pub whole-scalar : IsOfStyle s above (length bytes) (source_at bytes at) (drafted d)
-        whole-scalar = laws.found {X = Drafted} drafted s above (length bytes) (source_at bytes at) (Ok d) whole-is begun
+        whole-scalar = (decides s above (length bytes) (source_at bytes at) begun).stands (drafted d) whole-is
 
 -- by the least number of spaces of an indent above a parent's
 pub by-indent : (s : Style) (end above : ℕ) (indent : ℤ) (src : List Cell) (r : Result Scalar Refusal) → SFits w32 indent → above ≡ least_above (to_z w32 (of_z w32 indent)) → Gives shown r (reading s above end src) → Gives shown r (reading s (least_above indent) end src)
 by-indent s end above indent src r fits e h =
     subst (λ (n : ℕ). Gives shown r (reading s n end src)) (e ∙ ap least_above (to_z-of_z w32 indent fits)) h
+
+-- ---- the four clauses
+
+module _ (bytes : List ℕ) (at : ℕ) (indent : ℤ) (s : Style) (begun : BeginsAt bytes at s) (above : ℕ) (r : Result Scalar Refusal) (fits : SFits w32 indent) (above_is : above ≡ least_above (to_z w32 (of_z w32 indent)))
+    (given : Gives shown r (reading s above (length bytes) (source_at bytes at))) where
+  decided : Decides (IsScalarAt bytes at indent s) (BreaksAt bytes at indent s) (reading s (least_above indent) (length bytes) (source_at bytes at))
+  decided = decides s (least_above indent) (length bytes) (source_at bytes at) begun.1
+
+  gives : Gives shown r (reading s (least_above indent) (length bytes) (source_at bytes at))
+  gives = by-indent s (length bytes) above indent (source_at bytes at) r fits above_is given
+
+  pub is-found : Found shown (IsScalarAt bytes at indent s) r
+  is-found = answering.found shown (IsScalarAt bytes at indent s) (BreaksAt bytes at indent s) (reading s (least_above indent) (length bytes) (source_at bytes at)) decided r gives
+
+  pub is-only : Only shown (IsScalarAt bytes at indent s) r
+  is-only = answering.only shown (IsScalarAt bytes at indent s) (BreaksAt bytes at indent s) (reading s (least_above indent) (length bytes) (source_at bytes at)) decided r gives
+
+  pub is-refused : Refused (BreaksAt bytes at indent s) r
+  is-refused = answering.refused shown (IsScalarAt bytes at indent s) (BreaksAt bytes at indent s) (reading s (least_above indent) (length bytes) (source_at bytes at)) decided r gives
+
+  pub is-breach : Breach shown (BreaksAt bytes at indent s) r
+  is-breach = answering.breach shown (IsScalarAt bytes at indent s) (BreaksAt bytes at indent s) (reading s (least_above indent) (length bytes) (source_at bytes at)) decided r gives
 
 -- what holds of each value of some kind holds of the one that was found
 pub of-found : {P Q : Value → Type 0} → ((v : Value) → P v → Q v) → (r : Result Scalar Refusal) → IfOk r (λ s. P (shown s)) → IfOk r (λ s. Q (shown s))

@@ -5,7 +5,8 @@ use Rattle.lf_base.specs.declared.kind.Kind.TheVariants.{BadIndent, NotANode}
 use Rattle.lf_scalar.specs.declared.scalar.Style.TheVariants as style
 use Rattle.lf_scalar.specs.declared.block.Chomp.TheVariants.{Clip, Keep}
 use Rattle.lf_base.specs.declared.place.Span.{Span}
-use Rattle.lf_scalar.specs.Cells.{Cell, cell, Value, span, fault}
+use Rattle.lf_base.specs.Faults.{span}
+use Rattle.lf_scalar.specs.Cells.{Cell, cell, Value, byte_fault}
 use Rattle.lf_scalar.specs.Lines.{line, lines}
 use Rattle.lf_scalar.specs.Plain.{last, more, key, tab, later}
 use Rattle.lf_scalar.specs.Quoted.{Quotes, Single, Double, Piece, Bare, Twice, Letter, Raw, One, Pair, letter_of, Closes, QuotedFrom, Break, Folds, Drops, IsQuoted, IsClosed, BreaksQuoted}
@@ -26,7 +27,7 @@ two_lines = record {
 }
 
 -- a `:` before a blank in the second line
-second_key : BreaksAt (codes "a: b\n  c: d\n") 3 (pos 0) style.Plain (fault NotANode 8)
+second_key : BreaksAt (codes "a: b\n  c: d\n") 3 (pos 0) style.Plain (byte_fault NotANode 8)
 unfolding lines
 second_key = (
   record { first = _; following = _; opening = _; rest = _; source = refl; text = refl },
@@ -34,7 +35,7 @@ second_key = (
 )
 
 -- a tab behind the spaces of the second line, told at that line's first byte
-second_tab : BreaksAt (codes "a: b\n\n  \tc\n") 3 (pos 0) style.Plain (fault BadIndent 6)
+second_tab : BreaksAt (codes "a: b\n\n  \tc\n") 3 (pos 0) style.Plain (byte_fault BadIndent 6)
 unfolding lines
 second_tab = (
   record { first = _; following = _; opening = _; rest = _; source = refl; text = refl },

@@ -4,7 +4,9 @@ use Rattle.std.specs.List.{flat_map, list_all, AllByRecursion}
 use Rattle.lf_base.specs.declared.kind.Kind.TheVariants.{BadHeader}
 use Rattle.lf_scalar.specs.declared.block.Chomp.{Chomp}
 use Rattle.lf_scalar.specs.declared.block.Chomp.TheVariants.{Strip, Clip, Keep}
-use Rattle.lf_scalar.specs.Cells.{Cell, cell, Value, made, span, end_of, Fault, fault_at}
+use Rattle.lf_base.specs.declared.fault.Fault.{Fault}
+use Rattle.lf_base.specs.Faults.{span}
+use Rattle.lf_scalar.specs.Cells.{Cell, cell, Value, made, end_of, character_fault}
 use Rattle.lf_scalar.specs.Lines.{Line, line, lines, is_blank, indent_of, is_spaces, is_tail}
 use Rattle.lf_scalar.specs.Folding.{fold, feeds}
 
@@ -182,4 +184,4 @@ pub record BreaksBlock (end : ℕ) (src : List Cell) (f : Fault) : Type 0 where
   pub headed : Headed end src
   pub wrong : Cell
   pub wrong_in : WrongIn headed.header wrong
-  pub fault_is : f ≡ fault_at BadHeader wrong
+  pub fault_is : f ≡ character_fault BadHeader wrong

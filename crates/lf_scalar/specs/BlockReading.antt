@@ -4,7 +4,9 @@ use Rattle.std.specs.List.{list_all}
 use Rattle.lf_base.specs.declared.kind.Kind.TheVariants.{BadHeader}
 use Rattle.lf_scalar.specs.declared.block.Chomp.{Chomp}
 use Rattle.lf_scalar.specs.declared.block.Chomp.TheVariants.{Strip, Clip, Keep}
-use Rattle.lf_scalar.specs.Cells.{Cell, cell, Value, made, span, end_of, Fault, fault_at}
+use Rattle.lf_base.specs.declared.fault.Fault.{Fault}
+use Rattle.lf_base.specs.Faults.{span, fault}
+use Rattle.lf_scalar.specs.Cells.{Cell, cell, Value, made, end_of, character_fault}
 use Rattle.lf_scalar.specs.Lines.{Line, lines}
 use Rattle.lf_scalar.specs.Folding.{fold, feeds, trimmed}
 use Rattle.lf_scalar.specs.Block.{content_indent, body_of, chomped, begins_blank}
@@ -85,14 +87,14 @@ block_value joins above end sign following header =
 
 abbrev pub block_read : (List Line → List Cell) → ℕ → ℕ → Cell → List Line → Header → Result Value Fault
 block_read joins above end sign following (Ok header) = Ok (block_value joins above end sign following header)
-block_read joins above end sign following (Err wrong) = Err (fault_at BadHeader wrong)
+block_read joins above end sign following (Err wrong) = Err (character_fault BadHeader wrong)
 
 abbrev pub block_begun : (List Line → List Cell) → ℕ → ℕ → ℕ → List Cell → List Line → Result Value Fault
-block_begun joins above end break [] following = Err (record { kind = BadHeader; span = span break break })
+block_begun joins above end break [] following = Err (fault BadHeader (span break break))
 block_begun joins above end break (sign ∷ header) following = block_read joins above end sign following (header_from None None header)
 
 abbrev pub block_lines : (List Line → List Cell) → ℕ → ℕ → List Line → Result Value Fault
-block_lines joins above end [] = Err (record { kind = BadHeader; span = span end end })
+block_lines joins above end [] = Err (fault BadHeader (span end end))
 block_lines joins above end (l ∷ ls) = block_begun joins above end l.break l.text ls
 
 unfoldable pub block_of : (List Line → List Cell) → ℕ → ℕ → List Cell → Result Value Fault

@@ -4,7 +4,9 @@ use Rattle.std.specs.Str.{continuation_len}
 use Rattle.lf_base.specs.declared.kind.Kind.{Kind}
 use Rattle.lf_base.specs.declared.place.Span.{Span}
 use Rattle.lf_base.specs.declared.refusal.Refusal.{Refusal}
-use Rattle.lf_base.specs.declared.refusal.Refusal.TheVariants as refusal_of
+use Rattle.lf_base.specs.declared.fault.Fault.{Fault}
+use Rattle.lf_base.specs.Answers.{IfAt}
+use Rattle.lf_base.specs.Faults.{span, fault}
 
 -- a byte, and the source offset of what gave it
 pub record Cell : Type 0 where
@@ -38,9 +40,6 @@ pub record Value : Type 0 where
   pub from : List ℕ
   pub span : Span
 
-abbrev pub span : ℕ → ℕ → Span
-span start end = record { start = start; end = end }
-
 -- the scalar whose text has these cells, its end given by what stands at an offset: text and offsets come from one list
 abbrev pub made : List Cell → ℕ → Span → Value
 made text end place = record { text = bytes_of text; from = offsets_of text ++ end ∷ []; span = place }
@@ -50,18 +49,13 @@ abbrev pub end_of : ℕ → List Cell → ℕ
 end_of none [] = none
 end_of none (c ∷ cs) = end_of (suc c.at) cs
 
--- what is wrong, and where
-pub record Fault : Type 0 where
-  pub kind : Kind
-  pub span : Span
+-- the breach of a kind whose span is one byte
+abbrev pub byte_fault : Kind → ℕ → Fault
+byte_fault kind at = fault kind (span at (at + 1))
 
--- a fault whose span is one byte
-abbrev pub fault : Kind → ℕ → Fault
-fault kind at = record { kind = kind; span = span at (at + 1) }
-
--- a fault whose span is the character that begins with a cell
-abbrev pub fault_at : Kind → Cell → Fault
-fault_at kind c = record { kind = kind; span = span c.at (c.at + 1 + continuation_len c.byte) }
+-- the breach of a kind whose span is the character that begins with a cell
+abbrev pub character_fault : Kind → Cell → Fault
+character_fault kind c = fault kind (span c.at (c.at + 1 + continuation_len c.byte))
 
 infixl 10 ◌>>=◌
 abbrev pub ◌>>=◌ : {A B : Type 0} → Result A Fault → (A → Result B Fault) → Result B Fault
@@ -72,16 +66,6 @@ abbrev pub ◌>>=◌ : {A B : Type 0} → Result A Fault → (A → Result B Fau
 abbrev pub front : List Cell → Result (List Cell) Fault → Result (List Cell) Fault
 front cs read = read >>= λ more. Ok (cs ++ more)
 
--- what a function returned, seen by view, is what reading gives, unless memory ran out
+-- unless memory ran out, what was refused is the breach that is answered
 abbrev pub Fails : {Y : Type 0} → Refusal → Result Y Fault → Type 0
-Fails refusal_of.Memory read = Unit {0}
-Fails (refusal_of.At kind span) read = read ≡ Err (record { kind = kind; span = span })
-
-abbrev pub Gives : {X Y : Type 0} → (X → Y) → Result X Refusal → Result Y Fault → Type 0
-Gives view (Ok x) read = read ≡ Ok (view x)
-Gives view (Err e) read = Fails e read
-
--- what holds of a refusal's fault
-abbrev pub IfAt : Refusal → (Fault → Type 0) → Type 0
-IfAt refusal_of.Memory p = Unit {0}
-IfAt (refusal_of.At kind span) p = p (record { kind = kind; span = span })
+Fails refusal answer = IfAt refusal (λ f. answer ≡ Err f)

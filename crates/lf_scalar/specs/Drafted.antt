@@ -4,7 +4,8 @@ use Rattle.lf_base.specs.declared.refusal.Refusal.{Refusal}
 use Rattle.lf_base.specs.declared.refusal.Refusal.TheVariants as refusal_of
 use Rattle.lf_scalar.specs.declared.drafted.Drafted.{Drafted}
 use Rattle.lf_scalar.specs.declared.scalar.Scalar.{Scalar}
-use Rattle.lf_scalar.specs.Cells.{Cell, Value, made, Fault, Fails}
+use Rattle.lf_base.specs.declared.fault.Fault.{Fault}
+use Rattle.lf_scalar.specs.Cells.{Cell, Value, made, Fails}
 
 abbrev pub drafted : Drafted → Value
 drafted d = made d.draft d.end d.span

@@ -2,7 +2,9 @@
 use Rattle.std.specs.Prelude.{◌≡◌, ℕ, leb, List, [], ◌∷◌, ◌++◌, length, Bool, true, false, not, Option, Some, None, ◌⊎◌, ◌==◌, ◌&&◌, ◌||◌, bytes_eq, codes, if◌then◌else◌}
 use Rattle.std.specs.List.{list_any}
 use Rattle.lf_base.specs.declared.kind.Kind.TheVariants.{BadIndent, NotANode}
-use Rattle.lf_scalar.specs.Cells.{Cell, Value, made, span, bytes_of, end_of, Fault, fault}
+use Rattle.lf_base.specs.declared.fault.Fault.{Fault}
+use Rattle.lf_base.specs.Faults.{span}
+use Rattle.lf_scalar.specs.Cells.{Cell, Value, made, bytes_of, end_of, byte_fault}
 use Rattle.lf_scalar.specs.Lines.{Line, lines, begins_with, is_blank, after_blanks, after_spaces, indent_of, is_blank_line, AreBlank, is_content}
 use Rattle.lf_scalar.specs.Folding.{fold, trimmed}
 
@@ -66,9 +68,9 @@ pub data PlainFrom (above : ℕ) : Line → List Line → List Cell → Type 0 w
 
 -- What breaks such a scalar from l on: a `:` before a blank or the line's end, a tab behind the spaces of a line that goes on, or what breaks a later line.
 pub data PlainBreaks (above : ℕ) : Line → List Line → Fault → Type 0 where
-  key : {l : Line} {c : Cell} (ls : List Line) → key_sign (plain_text l) ≡ Some c → PlainBreaks above l ls (fault NotANode c.at)
+  key : {l : Line} {c : Cell} (ls : List Line) → key_sign (plain_text l) ≡ Some c → PlainBreaks above l ls (byte_fault NotANode c.at)
   tab : {l next : Line} {c : Cell} {cs : List Cell} (blank ls : List Line) → key_sign (plain_text l) ≡ None → GoesOn above l blank next → next.text ≡ c ∷ cs → has_tab next ≡ true
-      → PlainBreaks above l (blank ++ next ∷ ls) (fault BadIndent c.at)
+      → PlainBreaks above l (blank ++ next ∷ ls) (byte_fault BadIndent c.at)
   later : {l next : Line} {ls : List Line} {f : Fault} (blank : List Line) → key_sign (plain_text l) ≡ None → GoesOn above l blank next → has_tab next ≡ false
       → PlainBreaks above next ls f → PlainBreaks above l (blank ++ next ∷ ls) f
 

@@ -5,14 +5,15 @@ use Rattle.lf_base.specs.declared.refusal.Refusal.{Refusal}
 use Rattle.lf_scalar.specs.declared.plain.Folded.{Folded}
 use Rattle.lf_scalar.specs.declared.plain.Onward.{Onward}
 use Rattle.lf_scalar.specs.declared.plain.Onward.TheVariants as onward
-use Rattle.lf_scalar.specs.Cells.{Cell, cell, cells, Value, Fault, Fails, fault, front, ◌>>=◌}
+use Rattle.lf_base.specs.declared.fault.Fault.{Fault}
+use Rattle.lf_scalar.specs.Cells.{Cell, cell, cells, Value, Fails, byte_fault, front, ◌>>=◌}
 use Rattle.lf_scalar.specs.Lines.{Line, lines, is_blank, is_blank_line}
 use Rattle.lf_scalar.specs.Folding.{fold}
 use Rattle.lf_scalar.specs.Plain.{plain_text, is_commented, before_blank, key_sign, continues, has_tab, value_of}
 
 abbrev pub unless_key : List Cell → Option Cell → Result (List Cell) Fault
 unless_key text None = Ok text
-unless_key text (Some c) = Err (fault NotANode c.at)
+unless_key text (Some c) = Err (byte_fault NotANode c.at)
 
 abbrev pub plain_line : Line → Result (List Cell) Fault
 plain_line l = unless_key (plain_text l) (key_sign (plain_text l))
@@ -28,7 +29,7 @@ plain_behind above break k [] = Ok []
 plain_behind above break k (l ∷ ls) =
     if is_blank_line l then plain_behind above break (suc k) ls
     else if continues above l then
-    (if has_tab l then Err (fault BadIndent (start_of l l.text))
+    (if has_tab l then Err (byte_fault BadIndent (start_of l l.text))
     else front (fold break k) (plain_line l >>= λ text. front text (if is_commented l then Ok [] else plain_behind above l.break 0 ls)))
     else Ok []
 
@@ -40,11 +41,11 @@ plain_lines_text above [] = Ok []
 plain_lines_text above (l ∷ ls) = plain_from above l ls
 
 abbrev pub begun_with : Line → List Cell → Result (List Cell) Fault → Result Value Fault
-begun_with l [] read = Err (fault NotANode l.break)
+begun_with l [] read = Err (byte_fault NotANode l.break)
 begun_with l (c ∷ cs) read = read >>= λ text. Ok (value_of c text)
 
 abbrev pub plain_lines : ℕ → ℕ → List Line → Result Value Fault
-plain_lines above end [] = Err (fault NotANode end)
+plain_lines above end [] = Err (byte_fault NotANode end)
 plain_lines above end (l ∷ ls) = begun_with l l.text (plain_from above l ls)
 
 unfoldable pub plain_of : ℕ → ℕ → List Cell → Result Value Fault

@@ -5,7 +5,9 @@ use Rattle.std.specs.Char.{IsScalar, encode_utf8}
 use Rattle.lf_base.specs.declared.kind.Kind.TheVariants.{BadEscape, OpenQuote, BadIndent, NotANode}
 pub use Rattle.lf_scalar.specs.declared.quotes.Quotes.{Quotes}
 pub use Rattle.lf_scalar.specs.declared.quotes.Quotes.TheVariants.{Single, Double}
-use Rattle.lf_scalar.specs.Cells.{Cell, cell, Value, made, span, Fault, fault, fault_at}
+use Rattle.lf_base.specs.declared.fault.Fault.{Fault}
+use Rattle.lf_base.specs.Faults.{span}
+use Rattle.lf_scalar.specs.Cells.{Cell, cell, Value, made, byte_fault, character_fault}
 use Rattle.lf_scalar.specs.Lines.{Line, line, lines, first_text, begins_with, is_blank, after_blanks, after_spaces, indent_of, is_blank_line, AreBlank, is_tail}
 use Rattle.lf_scalar.specs.Folding.{fold, feeds, trimmed}
 
@@ -168,11 +170,11 @@ pub record HasBadEscape (kind : Quotes) (text : List Cell) (backslash : Cell) : 
 -- What breaks the lines from l on: a wrong escape, a line that isn't blank and isn't indented, or what breaks a later line. A line that isn't indented is told of its first
 -- character behind the spaces. Where a wrong escape begins with that character too, both would be told of the same place, and then it is the escape.
 pub data QuotedBreaks (kind : Quotes) (above : ℕ) : Line → List Line → Fault → Type 0 where
-  escape : {l : Line} {backslash : Cell} (ls : List Line) → HasBadEscape kind l.text backslash → QuotedBreaks kind above l ls (fault BadEscape backslash.at)
+  escape : {l : Line} {backslash : Cell} (ls : List Line) → HasBadEscape kind l.text backslash → QuotedBreaks kind above l ls (byte_fault BadEscape backslash.at)
   indent : {l next : Line} {c : Cell} {cs : List Cell} (part : List Cell) (break : Break) (blank ls : List Line) → IsBroken kind l part break → Follows blank next
-      → indent_of next.text < above → after_spaces next.text ≡ c ∷ cs → (IsBadEscape kind c cs → ⊥) → QuotedBreaks kind above l (blank ++ next ∷ ls) (fault_at BadIndent c)
+      → indent_of next.text < above → after_spaces next.text ≡ c ∷ cs → (IsBadEscape kind c cs → ⊥) → QuotedBreaks kind above l (blank ++ next ∷ ls) (character_fault BadIndent c)
   escape_not_indented : {l next : Line} {backslash : Cell} {cs : List Cell} (part : List Cell) (break : Break) (blank ls : List Line) → IsBroken kind l part break → Follows blank next
-      → indent_of next.text < above → after_spaces next.text ≡ backslash ∷ cs → IsBadEscape kind backslash cs → QuotedBreaks kind above l (blank ++ next ∷ ls) (fault BadEscape backslash.at)
+      → indent_of next.text < above → after_spaces next.text ≡ backslash ∷ cs → IsBadEscape kind backslash cs → QuotedBreaks kind above l (blank ++ next ∷ ls) (byte_fault BadEscape backslash.at)
   later : {l next : Line} {ls : List Line} {f : Fault} (part : List Cell) (break : Break) (blank : List Line) → IsBroken kind l part break → Follows blank next → above ≤ indent_of next.text
       → QuotedBreaks kind above (unindented next) ls f → QuotedBreaks kind above l (blank ++ next ∷ ls) f
 
@@ -206,6 +208,6 @@ pub record WrongBehind (cs : List Cell) (wrong : Cell) : Type 0 where
 
 -- what breaks a scalar between quotes: nothing closes it, its lines are broken, or something stands behind it
 pub data BreaksQuoted (kind : Quotes) (above end : ℕ) (opening : Cell) (src : List Cell) : Fault → Type 0 where
-  open_quote : (Closes kind src → ⊥) → BreaksQuoted kind above end opening src (fault OpenQuote opening.at)
+  open_quote : (Closes kind src → ⊥) → BreaksQuoted kind above end opening src (byte_fault OpenQuote opening.at)
   inside : {first : Line} {following : List Line} {f : Fault} (c : Closes kind src) → inner_lines c ≡ first ∷ following → QuotedBreaks kind above first following f → BreaksQuoted kind above end opening src f
-  outside : {v : Value} {wrong : Cell} (closed : IsClosed kind above opening src v) → WrongBehind (behind end closed.between) wrong → BreaksQuoted kind above end opening src (fault_at NotANode wrong)
+  outside : {v : Value} {wrong : Cell} (closed : IsClosed kind above opening src v) → WrongBehind (behind end closed.between) wrong → BreaksQuoted kind above end opening src (character_fault NotANode wrong)

@@ -10,7 +10,9 @@ use Rattle.lf_scalar.specs.declared.quoted.AtBreak.{AtBreak}
 use Rattle.lf_scalar.specs.declared.quoted.AtBreak.TheVariants as at_break
 use Rattle.lf_scalar.specs.declared.quotes.Step.{Step}
 use Rattle.lf_scalar.specs.declared.quotes.Step.TheVariants as step
-use Rattle.lf_scalar.specs.Cells.{Cell, cell, cells, Value, made, span, Fault, fault, fault_at, front, Fails, ◌>>=◌}
+use Rattle.lf_base.specs.declared.fault.Fault.{Fault}
+use Rattle.lf_base.specs.Faults.{span}
+use Rattle.lf_scalar.specs.Cells.{Cell, cell, cells, Value, made, byte_fault, character_fault, front, Fails, ◌>>=◌}
 use Rattle.lf_scalar.specs.Lines.{Line, line, lines, first_text, begins_with, is_blank, after_spaces, indent_of, is_blank_line}
 use Rattle.lf_scalar.specs.Folding.{trimmed}
 use Rattle.lf_scalar.specs.Quoted.{Quotes, Single, Double, Piece, Bare, Twice, Letter, Number, given, char_cells, letter_of, width_of, digit_of, is_bare_blank, Break, Folds, Drops, filled, unindented}
@@ -133,7 +135,7 @@ IsStep Double byte next step.Passes = (byte ≢ 34) × (byte ≢ 92)
 -- what the pieces of a line and the cells left of it make: its text and its line break
 abbrev pub stopped : ℕ → List Piece → Cell → List Cell → Result (List Cell × Break) Fault
 stopped break pieces c [] = Ok (flat_map given pieces, Drops break)
-stopped break pieces c (d ∷ more) = Err (fault BadEscape c.at)
+stopped break pieces c (d ∷ more) = Err (byte_fault BadEscape c.at)
 
 abbrev pub ended : ℕ → List Piece × List Cell → Result (List Cell × Break) Fault
 ended break (pieces, []) = Ok (flat_map given (trimmed is_bare_blank pieces), Folds break)
@@ -164,8 +166,8 @@ begins_bad_escape kind (c ∷ d ∷ more) = (c.byte == 92) && not (is_some (piec
 
 -- the fault of a line that isn't indented, by what stands behind its spaces
 abbrev pub unindented_at : Quotes → Line → List Cell → Fault
-unindented_at kind l [] = fault BadIndent l.break
-unindented_at kind l (c ∷ cs) = fault_at (if begins_bad_escape kind (c ∷ cs) then BadEscape else BadIndent) c
+unindented_at kind l [] = byte_fault BadIndent l.break
+unindented_at kind l (c ∷ cs) = character_fault (if begins_bad_escape kind (c ∷ cs) then BadEscape else BadIndent) c
 
 -- cells before those of a line
 abbrev pub prefixed : List Cell → Result (List Cell × Break) Fault → Result (List Cell × Break) Fault
@@ -199,10 +201,10 @@ wrong_behind blank (c ∷ cs) = if is_blank c then wrong_behind true cs else if 
 
 abbrev pub alone : Value → Option Cell → Result Value Fault
 alone v None = Ok v
-alone v (Some c) = Err (fault_at NotANode c)
+alone v (Some c) = Err (character_fault NotANode c)
 
 abbrev pub closed : Quotes → ℕ → ℕ → Cell → Option Closing → Result Value Fault
-closed kind above end opening None = Err (fault OpenQuote opening.at)
+closed kind above end opening None = Err (byte_fault OpenQuote opening.at)
 closed kind above end opening (Some x) =
     lines_of kind above (lines (x.1.0.at + 1) (x.0 ++ x.1.0 ∷ [])) >>= λ text. alone (made text x.1.0.at (span opening.at (x.1.0.at + 1))) (wrong_behind false (first_text (lines end x.1.1)))
 

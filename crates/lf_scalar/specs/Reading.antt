@@ -3,7 +3,9 @@ use Rattle.std.specs.Prelude.{ℕ, List, [], ◌∷◌, Result, Err}
 use Rattle.lf_base.specs.declared.kind.Kind.TheVariants.{OpenQuote}
 use Rattle.lf_scalar.specs.declared.scalar.Style.{Style}
 use Rattle.lf_scalar.specs.declared.scalar.Style.TheVariants as style
-use Rattle.lf_scalar.specs.Cells.{Cell, Value, Fault, span}
+use Rattle.lf_base.specs.declared.fault.Fault.{Fault}
+use Rattle.lf_base.specs.Faults.{span, fault}
+use Rattle.lf_scalar.specs.Cells.{Cell, Value}
 use Rattle.lf_scalar.specs.Quoted.{Quotes, Single, Double}
 use Rattle.lf_scalar.specs.QuotedReading.{quoted_of}
 use Rattle.lf_scalar.specs.PlainReading.{plain_of}
@@ -11,7 +13,7 @@ use Rattle.lf_scalar.specs.Block.{joined}
 use Rattle.lf_scalar.specs.BlockReading.{block_of, folded_of}
 
 abbrev pub quoted_at : Quotes → ℕ → ℕ → List Cell → Result Value Fault
-quoted_at kind above end [] = Err (record { kind = OpenQuote; span = span end end })
+quoted_at kind above end [] = Err (fault OpenQuote (span end end))
 quoted_at kind above end (opening ∷ src) = quoted_of kind above end opening src
 
 abbrev pub reading : Style → ℕ → ℕ → List Cell → Result Value Fault

@@ -3,7 +3,8 @@ use Rattle.std.specs.Prelude.{◌≡◌, ℕ, suc, List, [], ◌∷◌, length, 
 use Rattle.std.specs.Str.{IsCharBoundary}
 use Rattle.lf_scalar.specs.declared.scalar.Style.{Style}
 use Rattle.lf_scalar.specs.declared.scalar.Style.TheVariants as style
-use Rattle.lf_scalar.specs.Cells.{Cell, cells, Value, Fault}
+use Rattle.lf_base.specs.declared.fault.Fault.{Fault}
+use Rattle.lf_scalar.specs.Cells.{Cell, cells, Value}
 use Rattle.lf_scalar.specs.Lines.{lines, first_text, begins_with}
 use Rattle.lf_scalar.specs.Plain.{IsPlain, BreaksPlain, begins_plain}
 use Rattle.lf_scalar.specs.Quoted.{Quotes, Single, Double, IsQuoted, BreaksQuoted}

@@ -1,7 +1,8 @@
 //! Block scalars: a header, and a body of lines.
 ghost use Rattle.std.specs.Prelude.{true, ◌≡◌, ◌+◌, ◌<◌, ◌≤◌, ◌^◌, ◌++◌, length, drop, OnOk};
 ghost use Rattle.lf_scalar.specs.declared.scalar.Style.TheVariants as style;
-ghost use Rattle.lf_scalar.specs.Cells.{Gives, cells};
+ghost use Rattle.lf_base.specs.Answers.{Gives};
+ghost use Rattle.lf_scalar.specs.Cells.{cells};
 ghost use Rattle.lf_scalar.specs.Lines.{lines_at, first_text};
 ghost use Rattle.lf_scalar.specs.Block.{content_indent as indent_of_content, body_of};
 ghost use Rattle.lf_scalar.specs.Scalars.{begins};

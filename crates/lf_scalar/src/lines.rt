@@ -4,7 +4,7 @@
 //! Every function takes bytes as they stand in the source, and its places count bytes from 0, in what it is passed. An offset `at` is that of the
 //! first of these bytes in the source.
 ghost use Rattle.std.specs.Prelude.{false, ◌≡◌, ℕ, ◌+◌, ◌<◌, ◌≤◌, ◌^◌, ◌∷◌, length, get_or, take, drop, eqb, IfSome, option_map};
-ghost use Rattle.lf_scalar.specs.Cells.{cell, cells, fault_at as at_cell};
+ghost use Rattle.lf_scalar.specs.Cells.{cell, cells, character_fault as at_cell};
 ghost use Rattle.lf_scalar.specs.Drafted.{refused};
 ghost use Rattle.lf_scalar.specs.QuotedReading.{wrong_behind as first_wrong};
 ghost use Rattle.lf_scalar.specs.Folding.{trimmed};

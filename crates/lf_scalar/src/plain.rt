@@ -1,7 +1,8 @@
 //! Plain scalars, over one line or several.
 ghost use Rattle.std.specs.Prelude.{◌≡◌, ℕ, ◌+◌, ◌<◌, ◌≤◌, ◌^◌, true, length, IfOk, IfSome};
 ghost use Rattle.lf_scalar.specs.declared.scalar.Style.TheVariants as style;
-ghost use Rattle.lf_scalar.specs.Cells.{cell, cells, front, end_of, Gives};
+ghost use Rattle.lf_base.specs.Answers.{Gives};
+ghost use Rattle.lf_scalar.specs.Cells.{cell, cells, front, end_of};
 ghost use Rattle.lf_scalar.specs.Lines.{lines_at, first_text};
 ghost use Rattle.lf_scalar.specs.Folding.{fold};
 ghost use Rattle.lf_scalar.specs.Plain.{is_commented, value_of};

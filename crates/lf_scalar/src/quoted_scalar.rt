@@ -1,7 +1,8 @@
 //! A scalar between quotes, line by line.
 ghost use Rattle.std.specs.Prelude.{◌≡◌, ℕ, ◌+◌, ◌<◌, ◌≤◌, ◌^◌, length};
 ghost use Rattle.lf_base.specs.declared.kind.Kind.TheVariants.{OpenQuote};
-ghost use Rattle.lf_scalar.specs.Cells.{cells, fault, Gives};
+ghost use Rattle.lf_base.specs.Answers.{Gives};
+ghost use Rattle.lf_scalar.specs.Cells.{cells, byte_fault};
 ghost use Rattle.lf_scalar.specs.Lines.{lines_at, first_text};
 ghost use Rattle.lf_scalar.specs.QuotedReading.{broken, lines_behind, lines_of};
 ghost use Rattle.lf_scalar.specs.Drafted.{drafted, refused, TextGives};
@@ -54,7 +55,7 @@ pub fn read_quoted(
 /// The refusal of a quote that nothing closes.
 fn open_quote(at: u32) -> Refusal
     requires { at < 2 ^ 31 }
-    ensures { result ≡ refused (fault OpenQuote at) }
+    ensures { result ≡ refused (byte_fault OpenQuote at) }
 {
     Refusal::At {
         kind: Kind::OpenQuote,

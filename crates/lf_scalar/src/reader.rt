@@ -1,7 +1,8 @@
 //! Reading a scalar of any style.
-ghost use Rattle.std.specs.Prelude.{true, ◌≡◌, ℕ, ◌+◌, ◌≤◌, ◌^◌, length, Ok, Err, IfOk, IfErr};
+ghost use Rattle.std.specs.Prelude.{true, ◌≡◌, ◌+◌, ◌≤◌, ◌^◌, length, Ok, IfOk};
 ghost use Rattle.std.specs.Str.{IsUtf8};
-ghost use Rattle.lf_scalar.specs.Cells.{Value, Fault, Gives, IfAt, bytes_of, cells};
+ghost use Rattle.lf_base.specs.Answers.{Gives, Found, Only, Refused, Breach, RefusedIn};
+ghost use Rattle.lf_scalar.specs.Cells.{bytes_of, cells};
 ghost use Rattle.lf_scalar.specs.Lines.{lines_at, first_text};
 ghost use Rattle.lf_scalar.specs.Offsets.{AreOffsets};
 ghost use Rattle.lf_scalar.specs.Scalars.{least_above, begins, source_at, BeginsAt, IsScalarAt, BreaksAt};
@@ -31,10 +32,11 @@ pub fn read_scalar(
     requires text { IsUtf8 bytes.now }
     requires room { length bytes.now ≤ 2 ^ 31 }
     requires begins { BeginsAt bytes.now at style }
-    ensures found { IfOk result (λ s. IsScalarAt bytes.now at indent style (shown s)) }
-    ensures only { (v : Value) → IsScalarAt bytes.now at indent style v → Gives shown result (Ok v) }
-    ensures refused { IfErr result (λ e. IfAt e (BreaksAt bytes.now at indent style)) }
-    ensures breach { (f : Fault) → BreaksAt bytes.now at indent style f → Gives shown result (Err f) }
+    ensures found { Found shown (IsScalarAt bytes.now at indent style) result }
+    ensures only { Only shown (IsScalarAt bytes.now at indent style) result }
+    ensures refused { Refused (BreaksAt bytes.now at indent style) result }
+    ensures breach { Breach shown (BreaksAt bytes.now at indent style) result }
+    ensures in_file { RefusedIn (length bytes.now) result }
     ensures offsets { IfOk result (λ s. AreOffsets s.text s.from s.span × (s.span.end ≤ length bytes.now)) }
 {
     read_whole(alloc, bytes, at, spaces_above(indent), style)

@@ -1,7 +1,8 @@
 //! Laws of scalars, for readers and for the crates above. The function does nothing; what it ensures is the law.
 ghost use Rattle.std.specs.Prelude.{◌≡◌, ◌⊎◌, ℕ, ℤ, List};
 ghost use Rattle.lf_scalar.specs.declared.scalar.Style.{Style};
-ghost use Rattle.lf_scalar.specs.Cells.{Value, Fault};
+ghost use Rattle.lf_base.specs.declared.fault.Fault.{Fault};
+ghost use Rattle.lf_scalar.specs.Cells.{Value};
 ghost use Rattle.lf_scalar.specs.Scalars.{BeginsAt, IsScalarAt, BreaksAt};
 
 /// Where a scalar of a style begins, there is one scalar of that style or one breach, and never both.

@@ -1,9 +1,11 @@
 -- Offsets one after the other, and the scalar that is a part of one line as it stands.
 use Rattle.std.proofs.Common.{◌≡◌, ℕ, zero, suc, ◌+◌, ◌<◌, ◌≤◌, List, [], ◌∷◌, ◌++◌, length, get_or, take, length-take, true, false, Result, Ok, refl, ap, arith, sym, ◌∙◌}
 use Rattle.lf_base.specs.declared.place.Span.{Span}
-use Rattle.lf_scalar.specs.Cells.{Cell, cells, Value, made, bytes_of, offsets_of, span}
+use Rattle.lf_base.specs.Faults.{span}
+use Rattle.lf_scalar.specs.Cells.{Cell, cells, Value, made, bytes_of, offsets_of}
 use Rattle.lf_scalar.specs.Offsets.{AreOffsets}
-use Rattle.lf_scalar.specs.Cells.{end_of, Fault}
+use Rattle.lf_base.specs.declared.fault.Fault.{Fault}
+use Rattle.lf_scalar.specs.Cells.{end_of}
 use Rattle.lf_scalar.specs.Plain.{is_null, value_of}
 use Rattle.lf_scalar.proofs.Cells.{cells-bytes}
 use Rattle.lf_yaml.specs.Heads.{Bare}

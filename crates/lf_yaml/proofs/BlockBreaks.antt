@@ -2,7 +2,8 @@
 use Rattle.std.proofs.Common.{◌≡◌, ℕ, zero, suc, ◌<◌, Bool, true, false, List, [], ◌∷◌, ◌++◌, None, Err, length, refl, ap, arith, ◌∙◌, inl, inr}
 use Rattle.std.specs.Prelude.{Contains}
 use Rattle.lf_base.specs.declared.kind.Kind.TheVariants.{DoubleKey}
-use Rattle.lf_scalar.specs.Cells.{Cell, Value, Fault}
+use Rattle.lf_base.specs.declared.fault.Fault.{Fault}
+use Rattle.lf_scalar.specs.Cells.{Cell, Value}
 use Rattle.lf_yaml.specs.Rows.{Row, indent}
 use Rattle.lf_yaml.specs.Heads.{NoEntry, OpensQuote}
 use Rattle.lf_yaml.specs.Tree.{no_items, no_entries}

@@ -4,7 +4,8 @@ use Rattle.std.proofs.lemmas.List.{map_push}
 use Rattle.lf_base.specs.declared.kind.Kind.TheVariants.{TooDeep}
 use Rattle.lf_base.specs.declared.refusal.Refusal.{Refusal}
 use Rattle.lf_base.specs.declared.refusal.Refusal.TheVariants as refusal_of
-use Rattle.lf_scalar.specs.Cells.{Value, Fault, fault_at, Fails, ◌>>=◌}
+use Rattle.lf_base.specs.declared.fault.Fault.{Fault}
+use Rattle.lf_scalar.specs.Cells.{Value, character_fault, Fails, ◌>>=◌}
 use Rattle.lf_yaml.specs.Rows.{Row, indent}
 use Rattle.lf_yaml.specs.Heads.{is_item}
 use Rattle.lf_yaml.specs.Tree.{Tree, Items, Entries, pair, value}
@@ -25,7 +26,7 @@ module _ (bytes : List ℕ) (own : Bool) (above : ℕ) (r : Row) (rs : List Row)
       let e : suc d - 1 ≡ d = omega arith in
       sequence-node bytes d own above r rs i ∙ ap (λ (n : ℕ). as_sequence r (run_items bytes n own (indent r) r rs)) (sym e)
 
-  pub item-deep : (d : ℕ) → is_item r ≡ true → d ≡ 0 → node_at bytes d own above r rs ≡ Err (fault_at TooDeep r.first)
+  pub item-deep : (d : ℕ) → is_item r ≡ true → d ≡ 0 → node_at bytes d own above r rs ≡ Err (character_fault TooDeep r.first)
   item-deep d i e = ap (λ (n : ℕ). node_at bytes n own above r rs) e ∙ deep-node bytes own above r rs (inl i)
 
   pub entry-node : (d : ℕ) (h : Head) → is_item r ≡ false → entry_of r ≡ Some h → 0 < d → node_at bytes d own above r rs ≡ as_mapping r (run_entries bytes (d - 1) (indent r) r rs)
@@ -34,7 +35,7 @@ module _ (bytes : List ℕ) (own : Bool) (above : ℕ) (r : Row) (rs : List Row)
       let n : suc d - 1 ≡ d = omega arith in
       mapping-node bytes d own above r rs i (rw (i, e) refl) ∙ ap (λ (n : ℕ). as_mapping r (run_entries bytes n (indent r) r rs)) (sym n)
 
-  pub entry-deep : (d : ℕ) (h : Head) → is_item r ≡ false → entry_of r ≡ Some h → d ≡ 0 → node_at bytes d own above r rs ≡ Err (fault_at TooDeep r.first)
+  pub entry-deep : (d : ℕ) (h : Head) → is_item r ≡ false → entry_of r ≡ Some h → d ≡ 0 → node_at bytes d own above r rs ≡ Err (character_fault TooDeep r.first)
   unfolding node_at
   entry-deep d h i e z = ap (λ (n : ℕ). node_at bytes n own above r rs) z ∙ rw (i, e) refl
 

@@ -3,7 +3,8 @@ use Rattle.std.proofs.Common.{◌≡◌, ℕ, zero, suc, ◌<◌, Bool, true, fa
 use Rattle.std.specs.Prelude.{Contains}
 use Rattle.std.specs.List.{flat_map}
 use Rattle.std.proofs.lemmas.Bool.{ltb-true, ltb-false, eqb-true}
-use Rattle.lf_scalar.specs.Cells.{Cell, Value, Fault}
+use Rattle.lf_base.specs.declared.fault.Fault.{Fault}
+use Rattle.lf_scalar.specs.Cells.{Cell, Value}
 use Rattle.lf_scalar.specs.Lines.{is_blank, after_blanks, begins_with}
 use Rattle.lf_scalar.specs.Quoted.{raw}
 use Rattle.lf_yaml.specs.Rows.{Row, text_of, indent, left_of, indent_fault, row_fault}

@@ -2,16 +2,16 @@
 use Rattle.std.proofs.Common.{◌≡◌, Bool, true, false, cond, not, List, refl, ap, ◌∙◌, ◌&&◌, ◌||◌}
 use Rattle.lf_base.specs.declared.kind.Kind.{Kind}
 use Rattle.lf_base.specs.declared.kind.Kind.TheVariants.{LeftOut, NotANode}
-use Rattle.lf_scalar.specs.Cells.{Cell, fault_at}
+use Rattle.lf_scalar.specs.Cells.{Cell, character_fault}
 use Rattle.lf_scalar.specs.Drafted.{refused}
 use Rattle.lf_scalar.specs.Plain.{is_plain_byte, is_sign}
 use Rattle.lf_scalar.proofs.Tails.{true-false}
 use Rattle.lf_yaml.specs.Flow.{begins_blank, begins_flow}
 
-pub fault-is : (c : Cell) (b v : Bool) (k : Kind) → k ≡ cond b LeftOut NotANode → b ≡ v → refused (fault_at k c) ≡ refused (cond v (fault_at LeftOut c) (fault_at NotANode c))
-fault-is c b v k e h = ap (λ (x : Kind). refused (fault_at x c)) e ∙ by b ∙ ap (λ (x : Bool). refused (cond x (fault_at LeftOut c) (fault_at NotANode c))) h
+pub fault-is : (c : Cell) (b v : Bool) (k : Kind) → k ≡ cond b LeftOut NotANode → b ≡ v → refused (character_fault k c) ≡ refused (cond v (character_fault LeftOut c) (character_fault NotANode c))
+fault-is c b v k e h = ap (λ (x : Kind). refused (character_fault x c)) e ∙ by b ∙ ap (λ (x : Bool). refused (cond x (character_fault LeftOut c) (character_fault NotANode c))) h
   where
-    by : (b : Bool) → refused (fault_at (cond b LeftOut NotANode) c) ≡ refused (cond b (fault_at LeftOut c) (fault_at NotANode c))
+    by : (b : Bool) → refused (character_fault (cond b LeftOut NotANode) c) ≡ refused (cond b (character_fault LeftOut c) (character_fault NotANode c))
     by true = refl
     by false = refl
 

@@ -3,7 +3,8 @@ use Rattle.std.proofs.Common.{◌≡◌, ℕ, suc, ◌+◌, ◌<◌, ◌≤◌, 
 use Rattle.std.proofs.lemmas.Bool.{eqb-true}
 use Rattle.lf_base.specs.declared.kind.Kind.TheVariants.{OpenQuote, LeftOut, NotANode}
 use Rattle.lf_scalar.specs.declared.quotes.Quotes.{Quotes}
-use Rattle.lf_scalar.specs.Cells.{Cell, cell, Value, Fault, fault, fault_at}
+use Rattle.lf_base.specs.declared.fault.Fault.{Fault}
+use Rattle.lf_scalar.specs.Cells.{Cell, cell, Value, byte_fault, character_fault}
 use Rattle.lf_scalar.specs.Lines.{is_blank, after_blanks, begins_with}
 use Rattle.lf_scalar.specs.Folding.{trimmed}
 use Rattle.lf_scalar.specs.Quoted.{quote_of, Closes}
@@ -119,7 +120,7 @@ module _ (end above : ℕ) where
       ]
   nosign-is c cs rs _ (flow.NoSign.bare p e) = plain-key c cs rs None p (none-full c cs e) e
 
-  open-key : (c : Cell) (cs : List Cell) (rs : List Row) (h : OpensQuote c cs) → flow_key end above c cs rs ≡ Err (fault OpenQuote c.at)
+  open-key : (c : Cell) (cs : List Cell) (rs : List Row) (h : OpensQuote c cs) → flow_key end above c cs rs ≡ Err (byte_fault OpenQuote c.at)
   unfolding flow_key
   open-key c cs rs h =
       elim (between-view h.kind cs) [
@@ -138,15 +139,15 @@ module _ (end above : ℕ) where
   colon-quotes : (c : Cell) → c.byte ≡ 58 → quotes_of c ≡ None
   colon-quotes c e = ap (λ (b : ℕ). quotes_of (cell b c.at)) e
 
-  empty-key : (c : Cell) (cs : List Cell) (rs : List Row) → is_empty_key c cs ≡ true → flow_key end above c cs rs ≡ Err (fault_at NotANode c)
+  empty-key : (c : Cell) (cs : List Cell) (rs : List Row) → is_empty_key c cs ≡ true → flow_key end above c cs rs ≡ Err (character_fault NotANode c)
   unfolding flow_key
   empty-key c cs rs h =
       let colon : c.byte ≡ 58 = eqb-true c.byte 58 (and-left (eqb c.byte 58) (ends_key cs) h) in
       let kept : (is_bracket c || is_property c cs) ≡ false = ap (λ (b : ℕ). is_bracket (cell b c.at) || is_property (cell b c.at) cs) colon in
-      let faults : part_fault c cs ≡ fault_at NotANode c = ap (λ (b : Bool). cond b (fault_at LeftOut c) (fault_at NotANode c)) kept in
+      let faults : part_fault c cs ≡ character_fault NotANode c = ap (λ (b : Bool). cond b (character_fault LeftOut c) (character_fault NotANode c)) kept in
       ap (flow_key_by end above c cs rs) (colon-quotes c colon) ∙ by (begins_flow c cs) refl faults
     where
-      by : (b : Bool) → begins_flow c cs ≡ b → part_fault c cs ≡ fault_at NotANode c → flow_key_by end above c cs rs None ≡ Err (fault_at NotANode c)
+      by : (b : Bool) → begins_flow c cs ≡ b → part_fault c cs ≡ character_fault NotANode c → flow_key_by end above c cs rs None ≡ Err (character_fault NotANode c)
       by true p faults = rw (p, h) refl
       by false p faults = rw p (ap (λ (f : Fault). Err f) faults)
 

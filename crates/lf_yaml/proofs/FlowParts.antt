@@ -6,7 +6,8 @@ use Rattle.std.proofs.lemmas.Bool.Decides.{eqb_tells}
 use Rattle.lf_base.specs.declared.kind.Kind.TheVariants.{OpenQuote}
 use Rattle.lf_scalar.specs.declared.quotes.Quotes.{Quotes}
 use Rattle.lf_scalar.specs.declared.quotes.Quotes.TheVariants.{Single, Double}
-use Rattle.lf_scalar.specs.Cells.{Cell, cell, Value, Fault, fault}
+use Rattle.lf_base.specs.declared.fault.Fault.{Fault}
+use Rattle.lf_scalar.specs.Cells.{Cell, cell, Value, byte_fault}
 use Rattle.lf_scalar.specs.Lines.{is_blank}
 use Rattle.lf_scalar.specs.Quoted.{quote_of, raw, Closes}
 use Rattle.lf_scalar.specs.QuotedReading.{closing_of}
@@ -132,7 +133,7 @@ part-flow c cs n h =
     by : (a b d : Bool) → a ≡ false → b ≡ false → d ≡ false → (a || (b || d)) ≡ false
     by a b d p q r = rw (p, q, r) refl
 
-open-part : (c : Cell) (cs : List Cell) (h : OpensQuote c cs) → flow_scalar c cs ≡ Err (fault OpenQuote c.at)
+open-part : (c : Cell) (cs : List Cell) (h : OpensQuote c cs) → flow_scalar c cs ≡ Err (byte_fault OpenQuote c.at)
 unfolding flow_scalar
 open-part c cs h =
     elim (between-view h.kind cs) [

@@ -7,7 +7,8 @@ use Rattle.std.proofs.lemmas.Slice.Eq.{bytes_eq-Decides}
 use Rattle.std.proofs.lemmas.List.Elements.{Contains-append_left, Contains-append_right, Contains-append_cases}
 use Rattle.lf_scalar.specs.declared.quotes.Quotes.{Quotes}
 use Rattle.lf_scalar.specs.declared.quotes.Quotes.TheVariants.{Single, Double}
-use Rattle.lf_scalar.specs.Cells.{Cell, cell, Value, Fault}
+use Rattle.lf_base.specs.declared.fault.Fault.{Fault}
+use Rattle.lf_scalar.specs.Cells.{Cell, cell, Value}
 use Rattle.lf_scalar.specs.Lines.{is_blank, after_blanks}
 use Rattle.lf_scalar.specs.Folding.{trimmed}
 use Rattle.lf_scalar.specs.Plain.{before_blank, begins_plain}

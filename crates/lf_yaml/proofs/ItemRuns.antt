@@ -3,7 +3,8 @@ use Rattle.std.proofs.Common.{◌≡◌, ℕ, zero, suc, ◌<◌, ◌≤◌, Boo
 use Rattle.std.proofs.lemmas.Bool.{ltb-true, ltb-false}
 use Rattle.lf_base.specs.declared.refusal.Refusal.{Refusal}
 use Rattle.lf_base.specs.declared.refusal.Refusal.TheVariants as refusal_of
-use Rattle.lf_scalar.specs.Cells.{Fault, Fails}
+use Rattle.lf_base.specs.declared.fault.Fault.{Fault}
+use Rattle.lf_scalar.specs.Cells.{Fails}
 use Rattle.lf_yaml.specs.Rows.{Row, indent, indent_fault, row_fault}
 use Rattle.lf_yaml.specs.Heads.{is_item}
 use Rattle.lf_yaml.specs.Tree.{Tree, Items, no_items, items_of}

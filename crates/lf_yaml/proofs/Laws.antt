@@ -1,11 +1,12 @@
 -- Reading a file is the definition, both ways: there is one tree or one breach, and never both.
-use Rattle.std.proofs.Common.{◌≡◌, ℕ, ◌<◌, Bool, true, false, cond, List, [], ◌∷◌, Result, Ok, Err, length, refl, ap, arith, sym, ◌∙◌, subst, ◌⊎◌, inl, inr}
+use Rattle.std.proofs.Common.{◌≡◌, ℕ, ◌<◌, Bool, true, false, cond, List, [], ◌∷◌, Result, Ok, Err, length, refl, ap, arith, sym, ◌∙◌, subst, inl, inr}
 use Rattle.std.specs.Prelude.{IsUtf8, drop}
 use Rattle.std.specs.Str.{IsValidUpTo}
 use Rattle.std.proofs.lemmas.List.{take_all}
 use Rattle.std.proofs.lemmas.Bool.{cases_lt}
 use Rattle.lf_base.specs.declared.kind.Kind.TheVariants.{BadUtf8, BadChar}
-use Rattle.lf_scalar.specs.Cells.{Fault, fault, ◌>>=◌}
+use Rattle.lf_base.specs.declared.fault.Fault.{Fault}
+use Rattle.lf_scalar.specs.Cells.{byte_fault, ◌>>=◌}
 use Rattle.lf_scalar.specs.Lines.{lines}
 use Rattle.lf_scalar.specs.Scalars.{source_at}
 use Rattle.lf_scalar.proofs.Tails.{true-false}
@@ -14,7 +15,7 @@ use Rattle.lf_yaml.specs.Rows.{Row, rows_of, is_opening, without_opening}
 use Rattle.lf_yaml.specs.Tree.{Tree}
 use Rattle.lf_yaml.specs.Nodes.{NodeAt, BlockAt, ValueAt}
 use Rattle.lf_yaml.specs.Nodes as nodes
-use Rattle.lf_yaml.specs.Document.{mark_length, document_rows, DocumentAt, nothing, a_node, DocumentBreaks, broken_node, behind_block, behind_value, IsTree, TreeBreaks, bad_characters, bad_document}
+use Rattle.lf_yaml.specs.Document.{mark_length, document_rows, DocumentAt, nothing, a_node, DocumentBreaks, broken_node, behind_block, behind_value}
 use Rattle.lf_yaml.specs.Reading.{Read, begins_block, node_at, behind_root, document_of}
 use Rattle.lf_yaml.proofs.HeadLaws.{begins-no-block}
 use Rattle.lf_yaml.proofs.Placed.{ArePlaced, file-placed}
@@ -73,9 +74,11 @@ opening-placed bytes (r ∷ rs) h = by (is_opening r)
     by true = h.1
     by false = h
 
+pub rows-of-document : (bytes : List ℕ) → ArePlaced bytes (document_rows bytes)
+rows-of-document bytes = opening-placed bytes (rows_of (lines (length bytes) (source_at bytes (mark_length bytes)))) (file-placed bytes (mark_length bytes))
+
 pub document-tells : (bytes : List ℕ) → DocumentTold bytes (document_rows bytes) (document_of bytes (document_rows bytes))
-document-tells bytes =
-    rows-told bytes (document_rows bytes) (opening-placed bytes (rows_of (lines (length bytes) (source_at bytes (mark_length bytes)))) (file-placed bytes (mark_length bytes)))
+document-tells bytes = rows-told bytes (document_rows bytes) (rows-of-document bytes)
 
 -- ---- the characters
 
@@ -109,51 +112,11 @@ first-one bytes k j h g =
     ]
 
 pub characters-one : (bytes : List ℕ) (f g : Fault) → BreaksCharacters bytes f → BreaksCharacters bytes g → f ≡ g
-characters-one bytes f g (inl (m, h, e)) (inl (n, k, q)) = e ∙ ap (λ (x : ℕ). fault BadUtf8 x) (valid-one bytes m n h k) ∙ sym q
+characters-one bytes f g (inl (m, h, e)) (inl (n, k, q)) = e ∙ ap (λ (x : ℕ). byte_fault BadUtf8 x) (valid-one bytes m n h k) ∙ sym q
 characters-one bytes f g (inl (m, h, e)) (inr (utf8, k)) = absurd (not-valid bytes m h utf8)
 characters-one bytes f g (inr (utf8, h)) (inl (n, k, q)) = absurd (not-valid bytes n k utf8)
-characters-one bytes f g (inr (utf8, (k, h, e))) (inr (utf8b, (j, i, q))) = e ∙ ap (λ (x : ℕ). fault BadChar x) (first-one bytes k j h i) ∙ sym q
+characters-one bytes f g (inr (utf8, (k, h, e))) (inr (utf8b, (j, i, q))) = e ∙ ap (λ (x : ℕ). byte_fault BadChar x) (first-one bytes k j h i) ∙ sym q
 
 pub characters-never : (bytes : List ℕ) (f : Fault) → BreaksCharacters bytes f → AreCharacters bytes → ⊥
 characters-never bytes f (inl (m, h, e)) (utf8, none) = not-valid bytes m h utf8
 characters-never bytes f (inr (utf8, (k, h, e))) (utf8b, none) = true-false (is_wrong (drop k bytes)) h.0 (none k)
-
--- ---- the file: one tree or one breach
-
-abbrev good : Tree → Result Tree Fault
-good t = Ok t
-
-abbrev bad : Fault → Result Tree Fault
-bad f = Err f
-
-pub one-tree : (bytes : List ℕ) (t u : Tree) → IsTree bytes t → IsTree bytes u → t ≡ u
-one-tree bytes t u h k = same t u (sym (document-is bytes (document_rows bytes) t h.document) ∙ document-is bytes (document_rows bytes) u k.document)
-  where
-    same : (t u : Tree) → good t ≡ good u → t ≡ u
-    same t u e = cc
-
-pub one-breach : (bytes : List ℕ) (f g : Fault) → TreeBreaks bytes f → TreeBreaks bytes g → f ≡ g
-one-breach bytes f g (bad_characters h) (bad_characters k) = characters-one bytes f g h k
-one-breach bytes f g (bad_characters h) (bad_document are k) = absurd (characters-never bytes f h are)
-one-breach bytes f g (bad_document are h) (bad_characters k) = absurd (characters-never bytes g k are)
-one-breach bytes f g (bad_document are h) (bad_document are2 k) = same f g (sym (document-breaks bytes (document_rows bytes) f h) ∙ document-breaks bytes (document_rows bytes) g k)
-  where
-    same : (f g : Fault) → bad f ≡ bad g → f ≡ g
-    same f g e = cc
-
-pub never-both : (bytes : List ℕ) (t : Tree) (f : Fault) → IsTree bytes t → TreeBreaks bytes f → ⊥
-never-both bytes t f h (bad_characters k) = characters-never bytes f k h.characters
-never-both bytes t f h (bad_document are k) = differ (sym (document-is bytes (document_rows bytes) t h.document) ∙ document-breaks bytes (document_rows bytes) f k)
-  where
-    differ : good t ≡ bad f → ⊥
-    differ e = cc
-
-abbrev Answer : List ℕ → Type 0
-Answer bytes = ((t : Tree) × IsTree bytes t) ⊎ ((f : Fault) × TreeBreaks bytes f)
-
-told-answer : (bytes : List ℕ) → AreCharacters bytes → (r : Result Tree Fault) → DocumentTold bytes (document_rows bytes) r → Answer bytes
-told-answer bytes are (Ok t) h = inl (t, record { characters = are; document = h })
-told-answer bytes are (Err f) h = inr (f, bad_document are h)
-
-pub some-answer : (bytes : List ℕ) → AreCharacters bytes → Answer bytes
-some-answer bytes are = told-answer bytes are (document_of bytes (document_rows bytes)) (document-tells bytes)

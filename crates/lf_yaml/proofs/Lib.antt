@@ -1,4 +1,3 @@
-pub mod Vectors
 pub mod HeadLaws
 pub mod Ends
 pub mod FlowParts
@@ -33,6 +32,7 @@ pub mod BlockCode
 pub mod Lasts
 pub mod Edges
 pub mod Whole
+pub mod FileCharacters
 pub mod FileRows
 pub mod Cuts
 pub mod PartCode
@@ -40,3 +40,8 @@ pub mod KeyCode
 pub mod PlaceCode
 pub mod ItemCode
 pub mod EntryTurns
+pub mod InsideRows
+pub mod InsideScalars
+pub mod InsideFlow
+pub mod InsideTrees
+pub mod InsideBreaches

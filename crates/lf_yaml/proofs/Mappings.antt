@@ -3,7 +3,8 @@ use Rattle.std.proofs.Common.{◌≡◌, ◌≢◌, ℕ, zero, suc, ◌+◌, ◌
 use Rattle.std.specs.Prelude.{Contains}
 use Rattle.std.proofs.lemmas.Bool.{ne_eqb, eqb-true}
 use Rattle.lf_base.specs.declared.kind.Kind.TheVariants.{DoubleKey}
-use Rattle.lf_scalar.specs.Cells.{Cell, Value, Fault}
+use Rattle.lf_base.specs.declared.fault.Fault.{Fault}
+use Rattle.lf_scalar.specs.Cells.{Cell, Value}
 use Rattle.lf_yaml.specs.Rows.{Row}
 use Rattle.lf_yaml.specs.Heads.{Key, IsKey}
 use Rattle.lf_yaml.specs.Tree.{Tree, Entries, no_entries, entry}

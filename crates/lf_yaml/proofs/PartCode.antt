@@ -1,7 +1,9 @@
 -- Plain scalars of flow collections, as the code reads them.
 use Rattle.std.proofs.Common.{◌≡◌, ℕ, zero, suc, ◌+◌, ◌≤◌, true, List, [], ◌∷◌, Option, Some, None, Ok, Err, length, take, drop, length-take, refl, ap, arith, sym, ◌∙◌}
 use Rattle.lf_base.specs.declared.kind.Kind.TheVariants.{NotANode}
-use Rattle.lf_scalar.specs.Cells.{Cell, cell, cells, span, Fault, fault}
+use Rattle.lf_base.specs.declared.fault.Fault.{Fault}
+use Rattle.lf_base.specs.Faults.{span}
+use Rattle.lf_scalar.specs.Cells.{Cell, cell, cells, byte_fault}
 use Rattle.lf_scalar.specs.Plain.{value_of}
 use Rattle.lf_yaml.specs.Flow.{begins_flow, flow_text, behind_text, later_colon}
 use Rattle.lf_yaml.specs.Reading.{Part, plain_part, part_by}
@@ -39,7 +41,7 @@ module _ (first : Cell) (rest : List Cell) (at len : ℕ) (text : List ℕ) (is 
       by-colon None b e ∙ ap (λ (cs : List Cell). let x : Part = (value_of first cs, behind_text (first ∷ rest)) in Ok x) text-is
       ∙ ap (λ (cs : List Cell). let x : Part = (value_of first (cells at (take len text)), cs) in Ok x) left-is
 
-  pub plain-refused : (k : ℕ) → begins_flow first rest ≡ true → Some (cell 58 k) ≡ colon_at → part_by first rest None ≡ Err (fault NotANode k)
+  pub plain-refused : (k : ℕ) → begins_flow first rest ≡ true → Some (cell 58 k) ≡ colon_at → part_by first rest None ≡ Err (byte_fault NotANode k)
   plain-refused k b e =
       let z : k + 1 + 0 ≡ k + 1 = omega arith in
       by-colon (Some (cell 58 k)) b e ∙ ap (λ (n : ℕ). let f : Fault = record { kind = NotANode; span = span k n } in Err f) z

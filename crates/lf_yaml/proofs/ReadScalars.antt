@@ -6,7 +6,9 @@ use Rattle.lf_base.specs.declared.refusal.Refusal.{Refusal}
 use Rattle.lf_scalar.specs.declared.quotes.Quotes.{Quotes}
 use Rattle.lf_scalar.specs.declared.quotes.Quotes.TheVariants.{Single, Double}
 use Rattle.lf_scalar.specs.declared.scalar.Style.{Style}
-use Rattle.lf_scalar.specs.Cells.{Cell, cell, cells, Value, Fault, Gives}
+use Rattle.lf_base.specs.declared.fault.Fault.{Fault}
+use Rattle.lf_base.specs.Answers.{Gives}
+use Rattle.lf_scalar.specs.Cells.{Cell, cell, cells, Value}
 use Rattle.lf_scalar.specs.Lines.{Line, lines, first_text, lengthen}
 use Rattle.lf_scalar.specs.Quoted.{quote_of}
 use Rattle.lf_scalar.specs.QuotedReading.{split_of, quoted_of}

@@ -1,7 +1,8 @@
 -- Flow sequences are read: what stands is read, a breach is answered, and what is answered is one of both.
 use Rattle.std.proofs.Common.{◌≡◌, ◌≢◌, ℕ, zero, suc, ◌+◌, ◌<◌, ◌≤◌, Bool, true, false, cond, eqb, List, Result, Ok, Err, eq-eqb, refl, ap, arith, ◌∙◌}
 use Rattle.std.proofs.lemmas.Bool.{ne_eqb, eqb-true}
-use Rattle.lf_scalar.specs.Cells.{Cell, Value, Fault}
+use Rattle.lf_base.specs.declared.fault.Fault.{Fault}
+use Rattle.lf_scalar.specs.Cells.{Cell, Value}
 use Rattle.lf_scalar.proofs.Tails.{true-false}
 use Rattle.lf_yaml.specs.Rows.{Row}
 use Rattle.lf_yaml.specs.Tree.{leaf, Items, no_items, item}

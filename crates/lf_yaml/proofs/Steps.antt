@@ -2,7 +2,7 @@
 use Rattle.std.proofs.Common.{◌≡◌, ℕ, zero, suc, ◌<◌, Bool, true, false, eqb, List, [], ◌∷◌, Ok, Err, length, eq-eqb, refl, arith, ◌∙◌, inl, inr, ◌&&◌}
 use Rattle.std.proofs.lemmas.Bool.{le-ltb, lt-ltb}
 use Rattle.lf_base.specs.declared.kind.Kind.TheVariants.{TooDeep}
-use Rattle.lf_scalar.specs.Cells.{fault_at}
+use Rattle.lf_scalar.specs.Cells.{character_fault}
 use Rattle.lf_yaml.specs.Rows.{Row, indent, indent_fault}
 use Rattle.lf_yaml.specs.Heads.{is_item, BeginsBlock, BeginsNoBlock}
 use Rattle.lf_yaml.specs.Tree.{no_items, no_entries}
@@ -27,7 +27,7 @@ pub mapping-node : (bytes : List ℕ) (d : ℕ) (own : Bool) (above : ℕ) (r : 
 unfolding node_at
 mapping-node bytes d own above r rs i b = rw (b, i) refl
 
-pub deep-node : (bytes : List ℕ) (own : Bool) (above : ℕ) (r : Row) (rs : List Row) → BeginsBlock r → node_at bytes zero own above r rs ≡ Err (fault_at TooDeep r.first)
+pub deep-node : (bytes : List ℕ) (own : Bool) (above : ℕ) (r : Row) (rs : List Row) → BeginsBlock r → node_at bytes zero own above r rs ≡ Err (character_fault TooDeep r.first)
 unfolding node_at
 deep-node bytes own above r rs h = rw (begins-block r h) refl
 

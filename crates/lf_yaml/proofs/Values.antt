@@ -3,7 +3,9 @@ use Rattle.std.proofs.Common.{◌≡◌, ℕ, zero, suc, Bool, true, false, eqb,
 use Rattle.std.specs.Prelude.{nat_lt}
 use Rattle.std.proofs.lemmas.Bool.{eqb-true}
 use Rattle.lf_base.specs.declared.kind.Kind.TheVariants.{TooDeep}
-use Rattle.lf_scalar.specs.Cells.{Cell, cell, Value, Fault, fault_at, span}
+use Rattle.lf_base.specs.declared.fault.Fault.{Fault}
+use Rattle.lf_base.specs.Faults.{span}
+use Rattle.lf_scalar.specs.Cells.{Cell, cell, Value, character_fault}
 use Rattle.lf_scalar.specs.Lines.{lines, first_text}
 use Rattle.lf_scalar.specs.QuotedReading.{wrong_behind}
 use Rattle.lf_scalar.specs.Scalars.{begins, source_at}
@@ -73,7 +75,7 @@ module _ (bytes : List ℕ) (above : ℕ) where
   unfolding value_on
   nothing-on d r rs b n = let h = no-bracket r.first n in rw (b, h.0, h.1) refl
 
-  deep-on : (r : Row) (rs : List Row) → is_bracket r.first ≡ true → value_on bytes above zero r rs ≡ Err (fault_at TooDeep r.first)
+  deep-on : (r : Row) (rs : List Row) → is_bracket r.first ≡ true → value_on bytes above zero r rs ≡ Err (character_fault TooDeep r.first)
   deep-on r rs h =
       elim (bracket-cases r.first h) [
         | inl e ↦ list-on zero r rs e

@@ -2,7 +2,9 @@
 use Rattle.std.specs.Prelude.{◌≡◌, ℕ, suc, ◌-◌, ◌≤◌, ◌<◌, List, [], ◌∷◌, length, drop, get_or, Bool, true, false, Option, Some, None, Result, Ok, Err, nat_lt, if◌then◌else◌}
 use Rattle.std.specs.Str.{IsCharBoundary}
 use Rattle.lf_base.specs.declared.kind.Kind.TheVariants.{OpenQuote, DoubleKey}
-use Rattle.lf_scalar.specs.Cells.{Value, Fault, fault, ◌>>=◌}
+use Rattle.lf_base.specs.declared.fault.Fault.{Fault}
+use Rattle.lf_base.specs.Faults.{fault}
+use Rattle.lf_scalar.specs.Cells.{Value, byte_fault, ◌>>=◌}
 use Rattle.lf_yaml.specs.Rows.{Row, indent, indent_fault, row_fault}
 use Rattle.lf_yaml.specs.Heads.{is_item}
 use Rattle.lf_yaml.specs.Tree.{Tree, Items, Entries}
@@ -27,7 +29,7 @@ item_turn own m (r ∷ rs) = turn m r (item_here own r rs)
 
 -- what is told of a row at m that begins no entry
 abbrev pub no_entry_fault : Row → Fault
-no_entry_fault r = if opens_quote r.first r.rest then fault OpenQuote r.first.at else row_fault r
+no_entry_fault r = if opens_quote r.first r.rest then byte_fault OpenQuote r.first.at else row_fault r
 
 abbrev pub head_here : Row → List Row → Option Head → Result (Option (Row × Head × List Row)) Fault
 head_here r rs None = Err (no_entry_fault r)
@@ -40,7 +42,7 @@ entry_turn m (r ∷ rs) = turn m r (head_here r rs (entry_of r))
 
 -- a key that is new
 abbrev pub if_new : List (List ℕ) → Value → Result Value Fault
-if_new keys v = if has keys v.text then Err (record { kind = DoubleKey; span = v.span }) else Ok v
+if_new keys v = if has keys v.text then Err (fault DoubleKey v.span) else Ok v
 
 unfoldable pub new_key : List (List ℕ) → Row → Head → Result Value Fault
 new_key keys r h = key_of r.first r.rest h.0 >>= λ v. if_new keys v

@@ -1,7 +1,9 @@
 -- What breaks a document: up to there it stands for a tree that is cut off, and there a row, a key or a value breaks. So nothing behind the first breach is one.
 use Rattle.std.specs.Prelude.{◌≡◌, ℕ, zero, suc, ◌<◌, List, [], ◌∷◌, ◌++◌, length, Bool, true, false, Some, None, Contains}
 use Rattle.lf_base.specs.declared.kind.Kind.TheVariants.{OpenQuote, DoubleKey, NotANode, TooDeep}
-use Rattle.lf_scalar.specs.Cells.{Cell, Value, Fault, fault, fault_at}
+use Rattle.lf_base.specs.declared.fault.Fault.{Fault}
+use Rattle.lf_base.specs.Faults.{fault}
+use Rattle.lf_scalar.specs.Cells.{Cell, Value, byte_fault, character_fault}
 use Rattle.lf_scalar.specs.Quoted.{WrongBehind}
 use Rattle.lf_scalar.specs.Scalars.{BreaksStyle, source_at}
 use Rattle.lf_yaml.specs.Rows.{Row, indent, left_of, indent_fault, row_fault}
@@ -17,13 +19,13 @@ ScalarBreaksOn bytes above r f = BreaksStyle (style_of r.first) above (length by
 pub data ValueBreaks (bytes : List ℕ) (above : ℕ) : ℕ → Row → List Row → Fault → Type 0 where
   scalar : {d : ℕ} {r : Row} {f : Fault} (rs : List Row) → begins_scalar r ≡ true → ScalarBreaksOn bytes above r f → ValueBreaks bytes above d r rs f
   no_value : {r : Row} (d : ℕ) (rs : List Row) → begins_scalar r ≡ false → is_bracket r.first ≡ false → ValueBreaks bytes above d r rs (row_fault r)
-  deep : {r : Row} (rs : List Row) → is_bracket r.first ≡ true → ValueBreaks bytes above zero r rs (fault_at TooDeep r.first)
+  deep : {r : Row} (rs : List Row) → is_bracket r.first ≡ true → ValueBreaks bytes above zero r rs (character_fault TooDeep r.first)
   flow_sequence : {r : Row} {rs : List Row} {f : Fault} (d : ℕ) → r.first.byte ≡ 91 → SequenceBreaks (length bytes) above r.rest rs f → ValueBreaks bytes above (suc d) r rs f
   behind_sequence : {r : Row} {rs rest : List Row} {is : Items} {closing wrong : Cell} {behind : List Cell} (d : ℕ) → r.first.byte ≡ 91 → SequenceIn (length bytes) above r.rest rs is closing behind rest → WrongBehind behind wrong
-      → ValueBreaks bytes above (suc d) r rs (fault_at NotANode wrong)
+      → ValueBreaks bytes above (suc d) r rs (character_fault NotANode wrong)
   flow_mapping : {r : Row} {rs : List Row} {f : Fault} (d : ℕ) → r.first.byte ≡ 123 → MappingBreaks (length bytes) above [] r.rest rs f → ValueBreaks bytes above (suc d) r rs f
   behind_mapping : {r : Row} {rs rest : List Row} {es : Entries} {closing wrong : Cell} {behind : List Cell} (d : ℕ) → r.first.byte ≡ 123 → MappingIn (length bytes) above [] r.rest rs es closing behind rest → WrongBehind behind wrong
-      → ValueBreaks bytes above (suc d) r rs (fault_at NotANode wrong)
+      → ValueBreaks bytes above (suc d) r rs (character_fault NotANode wrong)
 
 mutual
   pub data NodeBreaks (bytes : List ℕ) : ℕ → ℕ → Row → List Row → Fault → Type 0 where
@@ -31,7 +33,7 @@ mutual
     block : {d : ℕ} {r : Row} {rs : List Row} {f : Fault} (above : ℕ) → BlockBreaks bytes d false r rs f → NodeBreaks bytes above d r rs f
 
   pub data BlockBreaks (bytes : List ℕ) : ℕ → Bool → Row → List Row → Fault → Type 0 where
-    too_deep : {r : Row} (own : Bool) (rs : List Row) → BeginsBlock r → BlockBreaks bytes zero own r rs (fault_at TooDeep r.first)
+    too_deep : {r : Row} (own : Bool) (rs : List Row) → BeginsBlock r → BlockBreaks bytes zero own r rs (character_fault TooDeep r.first)
     block_sequence : {d : ℕ} {own : Bool} {r : Row} {rs : List Row} {f : Fault} → is_item r ≡ true → ItemsBreak bytes d own (indent r) r rs f → BlockBreaks bytes (suc d) own r rs f
     block_mapping : {d : ℕ} {r : Row} {rs : List Row} {k : Key} {colon : Cell} {behind : List Cell} {f : Fault} → BeginsEntry r k colon behind → EntriesBreak bytes d (indent r) [] r rs f → BlockBreaks bytes (suc d) false r rs f
 
@@ -50,12 +52,12 @@ mutual
   -- A row behind some entries is deeper, or one at m is no entry, its key is broken or stands a second time, its value breaks, or what stands behind the entry.
   pub data EntriesBreak (bytes : List ℕ) : ℕ → ℕ → List (List ℕ) → Row → List Row → Fault → Type 0 where
     deeper_entry : {m : ℕ} {r : Row} (d : ℕ) (keys : List (List ℕ)) (rs : List Row) → m < indent r → EntriesBreak bytes d m keys r rs (indent_fault r)
-    open_key : {m : ℕ} {r : Row} (d : ℕ) (keys : List (List ℕ)) (rs : List Row) → indent r ≡ m → OpensQuote r.first r.rest → EntriesBreak bytes d m keys r rs (fault OpenQuote r.first.at)
+    open_key : {m : ℕ} {r : Row} (d : ℕ) (keys : List (List ℕ)) (rs : List Row) → indent r ≡ m → OpensQuote r.first r.rest → EntriesBreak bytes d m keys r rs (byte_fault OpenQuote r.first.at)
     no_entry : {m : ℕ} {r : Row} (d : ℕ) (keys : List (List ℕ)) (rs : List Row) → indent r ≡ m → NoEntry r → (OpensQuote r.first r.rest → ⊥) → EntriesBreak bytes d m keys r rs (row_fault r)
     broken_key : {m : ℕ} {r : Row} {k : Key} {colon : Cell} {behind : List Cell} {f : Fault} (d : ℕ) (keys : List (List ℕ)) (rs : List Row) → indent r ≡ m → BeginsEntry r k colon behind → KeyBreaks r.first r.rest k f
         → EntriesBreak bytes d m keys r rs f
     second_key : {m : ℕ} {keys : List (List ℕ)} {r : Row} {k : Key} {colon : Cell} {behind : List Cell} (v : Value) (d : ℕ) (rs : List Row) → indent r ≡ m → BeginsEntry r k colon behind → IsKey r.first r.rest k v
-        → Contains keys v.text → EntriesBreak bytes d m keys r rs (record { kind = DoubleKey; span = v.span })
+        → Contains keys v.text → EntriesBreak bytes d m keys r rs (fault DoubleKey v.span)
     entry_value : {d m : ℕ} {keys : List (List ℕ)} {r : Row} {rs : List Row} {k : Key} {colon : Cell} {behind : List Cell} {f : Fault} (v : Value) → indent r ≡ m → BeginsEntry r k colon behind → IsKey r.first r.rest k v
         → (Contains keys v.text → ⊥) → EntryValueBreaks bytes d m r.begin behind rs f → EntriesBreak bytes d m keys r rs f
     later_entry : {d m : ℕ} {keys : List (List ℕ)} {r next : Row} {rs later : List Row} {v : Value} {t : Tree} {f : Fault} → EntryAt bytes d m keys r rs v t (next ∷ later) → EntriesBreak bytes d m (keys ++ v.text ∷ []) next later f
@@ -63,7 +65,7 @@ mutual
 
   -- an item or an entry on the key's own line, or what breaks the value there or on the rows below
   pub data EntryValueBreaks (bytes : List ℕ) : ℕ → ℕ → ℕ → List Cell → List Row → Fault → Type 0 where
-    block_here : {m begin : ℕ} {behind : List Cell} {left : Row} (d : ℕ) (rs : List Row) → left_of begin behind ≡ Some left → BeginsBlock left → EntryValueBreaks bytes d m begin behind rs (fault_at NotANode left.first)
+    block_here : {m begin : ℕ} {behind : List Cell} {left : Row} (d : ℕ) (rs : List Row) → left_of begin behind ≡ Some left → BeginsBlock left → EntryValueBreaks bytes d m begin behind rs (character_fault NotANode left.first)
     value_here : {d m begin : ℕ} {behind : List Cell} {left : Row} {rs : List Row} {f : Fault} → left_of begin behind ≡ Some left → BeginsNoBlock left → ValueBreaks bytes (suc m) d left rs f → EntryValueBreaks bytes d m begin behind rs f
     value_below : {d m begin : ℕ} {behind : List Cell} {next : Row} {rs : List Row} {f : Fault} → left_of begin behind ≡ None → m < indent next → NodeBreaks bytes (suc m) d next rs f → EntryValueBreaks bytes d m begin behind (next ∷ rs) f
     value_beside : {d m begin : ℕ} {behind : List Cell} {next : Row} {rs : List Row} {f : Fault} → left_of begin behind ≡ None → indent next ≡ m → is_item next ≡ true → BlockBreaks bytes d true next rs f

@@ -2,7 +2,8 @@
 use Rattle.std.specs.Prelude.{◌≡◌, ◌<◌, ℕ, Bool, true, false, not, ◌&&◌, ◌||◌, eqb, nat_lt, List, [], ◌∷◌, drop, ◌⊎◌, IsUtf8}
 use Rattle.std.specs.Str.{IsValidUpTo}
 use Rattle.lf_base.specs.declared.kind.Kind.TheVariants.{BadUtf8, BadChar}
-use Rattle.lf_scalar.specs.Cells.{Fault, fault}
+use Rattle.lf_base.specs.declared.fault.Fault.{Fault}
+use Rattle.lf_scalar.specs.Cells.{byte_fault}
 
 -- U+0000 to U+001F, and U+007F
 abbrev pub is_control : ℕ → Bool
@@ -30,5 +31,5 @@ AreCharacters bytes = IsUtf8 bytes × NoneWrong bytes
 -- the bytes are UTF-8 up to an offset and no further; or they are UTF-8, and a character isn't allowed
 abbrev pub BreaksCharacters : List ℕ → Fault → Type 0
 BreaksCharacters bytes f =
-    ((n : ℕ) × IsValidUpTo bytes n × (f ≡ fault BadUtf8 n))
-    ⊎ (IsUtf8 bytes × ((k : ℕ) × FirstWrong bytes k × (f ≡ fault BadChar k)))
+    ((n : ℕ) × IsValidUpTo bytes n × (f ≡ byte_fault BadUtf8 n))
+    ⊎ (IsUtf8 bytes × ((k : ℕ) × FirstWrong bytes k × (f ≡ byte_fault BadChar k)))

@@ -1,6 +1,6 @@
 -- A file and its tree, and what breaks it.
 use Rattle.std.specs.Prelude.{ℕ, List, [], ◌∷◌, take, length, false, bytes_eq, if◌then◌else◌}
-use Rattle.lf_scalar.specs.Cells.{Fault}
+use Rattle.lf_base.specs.declared.fault.Fault.{Fault}
 use Rattle.lf_scalar.specs.Lines.{lines}
 use Rattle.lf_scalar.specs.Scalars.{source_at}
 use Rattle.lf_yaml.specs.Rows.{Row, rows_of, without_opening, indent_fault, row_fault}

@@ -1,7 +1,9 @@
 -- Flow collections: `[` scalars `]` and `{` entries `}`, on one line or over several.
 use Rattle.std.specs.Prelude.{◌≡◌, ◌≢◌, ℕ, suc, List, [], ◌∷◌, ◌++◌, length, drop, take_while, Bool, true, false, not, Option, Some, None, ◌⊎◌, nat_lt, ◌==◌, ◌&&◌, ◌||◌, codes, if◌then◌else◌, Contains}
 use Rattle.lf_base.specs.declared.kind.Kind.TheVariants.{OpenQuote, LeftOut, DoubleKey, NotANode}
-use Rattle.lf_scalar.specs.Cells.{Cell, Value, Fault, fault, fault_at, span}
+use Rattle.lf_base.specs.declared.fault.Fault.{Fault}
+use Rattle.lf_base.specs.Faults.{span, fault}
+use Rattle.lf_scalar.specs.Cells.{Cell, Value, byte_fault, character_fault}
 use Rattle.lf_scalar.specs.Lines.{is_blank}
 use Rattle.lf_scalar.specs.Folding.{trimmed}
 use Rattle.lf_scalar.specs.Plain.{before_blank, before_comment, is_plain_byte, is_sign, value_of}
@@ -21,10 +23,10 @@ pub data Next : Type 0 where
 
 -- On a later line it begins at the first character, if the line is indented, and is no mark where an indent of 0 is. The file doesn't end before it.
 abbrev pub on_line : ℕ → ℕ → List Row → Next
-on_line end above [] = broken (record { kind = NotANode; span = span end end })
+on_line end above [] = broken (fault NotANode (span end end))
 on_line end above (r ∷ rs) =
     if (r.first.byte == 9) || nat_lt (indent r) above then broken (indent_fault r)
-    else if is_mark r then broken (fault_at LeftOut r.first)
+    else if is_mark r then broken (character_fault LeftOut r.first)
     else at_part r.first r.rest rs
 
 -- Behind some cells of a line: blanks are skipped, and a comment, whose `#` stands behind a blank. The flag says that a blank stands before these cells.
@@ -80,18 +82,18 @@ begins_part c cs = (c.byte == 39) || ((c.byte == 34) || begins_flow c cs)
 
 -- what is told of a part where a scalar or a key is wanted that can't begin one
 abbrev pub part_fault : Cell → List Cell → Fault
-part_fault c cs = if is_bracket c || is_property c cs then fault_at LeftOut c else fault_at NotANode c
+part_fault c cs = if is_bracket c || is_property c cs then character_fault LeftOut c else character_fault NotANode c
 
 -- what is told of a part where a sign is wanted
 abbrev pub sign_fault : Cell → Fault
-sign_fault c = if is_bracket c then fault_at LeftOut c else fault_at NotANode c
+sign_fault c = if is_bracket c then character_fault LeftOut c else character_fault NotANode c
 
 -- what breaks a scalar that begins with a cell
 pub data FlowScalarBreaks (c : Cell) (cs : List Cell) : Fault → Type 0 where
   no_scalar : begins_part c cs ≡ false → FlowScalarBreaks c cs (part_fault c cs)
-  open_quote : OpensQuote c cs → FlowScalarBreaks c cs (fault OpenQuote c.at)
+  open_quote : OpensQuote c cs → FlowScalarBreaks c cs (byte_fault OpenQuote c.at)
   escape : {f : Fault} (kind : Quotes) → c.byte ≡ quote_of kind → BetweenBreaks kind c cs f → FlowScalarBreaks c cs f
-  colon : {wrong : Cell} → begins_flow c cs ≡ true → later_colon (flow_text (c ∷ cs)) (behind_text (c ∷ cs)) ≡ Some wrong → FlowScalarBreaks c cs (fault_at NotANode wrong)
+  colon : {wrong : Cell} → begins_flow c cs ≡ true → later_colon (flow_text (c ∷ cs)) (behind_text (c ∷ cs)) ≡ Some wrong → FlowScalarBreaks c cs (character_fault NotANode wrong)
 
 -- ---- sequences
 
@@ -139,8 +141,8 @@ pub data NoSign (c : Cell) (cs : List Cell) : List Cell → Type 0 where
 -- What breaks a key that begins with a cell, behind whose line these rows stand. Where no `:` follows, that is told at the next part.
 pub data FlowKeyBreaks (end above : ℕ) (c : Cell) (cs : List Cell) (rs : List Row) : Fault → Type 0 where
   no_key : begins_part c cs ≡ false → FlowKeyBreaks end above c cs rs (part_fault c cs)
-  empty_key : is_empty_key c cs ≡ true → FlowKeyBreaks end above c cs rs (fault_at NotANode c)
-  open_quote : OpensQuote c cs → FlowKeyBreaks end above c cs rs (fault OpenQuote c.at)
+  empty_key : is_empty_key c cs ≡ true → FlowKeyBreaks end above c cs rs (character_fault NotANode c)
+  open_quote : OpensQuote c cs → FlowKeyBreaks end above c cs rs (byte_fault OpenQuote c.at)
   escape : {f : Fault} (kind : Quotes) → c.byte ≡ quote_of kind → BetweenBreaks kind c cs f → FlowKeyBreaks end above c cs rs f
   no_part : {behind : List Cell} {f : Fault} → NoSign c cs behind → next_part end above false behind rs ≡ broken f → FlowKeyBreaks end above c cs rs f
   no_sign : {behind left : List Cell} {ss : List Row} {wrong : Cell} → NoSign c cs behind → next_part end above false behind rs ≡ at_part wrong left ss → FlowKeyBreaks end above c cs rs (sign_fault wrong)
@@ -186,7 +188,7 @@ pub data MappingBreaks (end above : ℕ) : List (List ℕ) → List Cell → Lis
   key : {cs more : List Cell} {rs ss : List Row} {c : Cell} {f : Fault} (keys : List (List ℕ)) → next_part end above false cs rs ≡ at_part c more ss → c.byte ≢ 125 → FlowKeyBreaks end above c more ss f
       → MappingBreaks end above keys cs rs f
   twice : {cs more behind : List Cell} {rs ss : List Row} {c colon : Cell} {k : Key} {keys : List (List ℕ)} (v : Value) → next_part end above false cs rs ≡ at_part c more ss → FlowKey c more k colon behind → IsKey c more k v
-      → Contains keys v.text → MappingBreaks end above keys cs rs (record { kind = DoubleKey; span = v.span })
+      → Contains keys v.text → MappingBreaks end above keys cs rs (fault DoubleKey v.span)
   value : {cs more behind : List Cell} {rs ss : List Row} {c colon : Cell} {k : Key} {f : Fault} {keys : List (List ℕ)} (v : Value) → next_part end above false cs rs ≡ at_part c more ss → FlowKey c more k colon behind → IsKey c more k v
       → (Contains keys v.text → ⊥) → FlowValueBreaks end above behind ss f → MappingBreaks end above keys cs rs f
   no_sign : {cs left : List Cell} {rs ss : List Row} {v : Value} {t : Tree} {f : Fault} {keys : List (List ℕ)} → FlowEntry end above keys cs rs v t left ss → next_part end above false left ss ≡ broken f → MappingBreaks end above keys cs rs f

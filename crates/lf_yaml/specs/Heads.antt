@@ -3,7 +3,9 @@ use Rattle.std.specs.Prelude.{◌≡◌, ◌+◌, List, [], ◌∷◌, ◌++◌,
 use Rattle.lf_scalar.specs.declared.scalar.Style.{Style}
 use Rattle.lf_scalar.specs.declared.scalar.Style.TheVariants as style
 use Rattle.std.specs.List.{flat_map}
-use Rattle.lf_scalar.specs.Cells.{Cell, Value, made, span, end_of, Fault}
+use Rattle.lf_base.specs.declared.fault.Fault.{Fault}
+use Rattle.lf_base.specs.Faults.{span}
+use Rattle.lf_scalar.specs.Cells.{Cell, Value, made, end_of}
 use Rattle.lf_scalar.specs.Lines.{is_blank, after_blanks, begins_with}
 use Rattle.lf_scalar.specs.Folding.{trimmed}
 use Rattle.lf_scalar.specs.Plain.{before_blank, begins_plain}

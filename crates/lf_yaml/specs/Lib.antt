@@ -19,3 +19,4 @@ pub mod BlockTurns
 pub mod KeySets
 pub mod Places
 pub mod Turns
+pub mod Insides

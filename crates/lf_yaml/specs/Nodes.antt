@@ -1,6 +1,7 @@
 -- The nodes of a document by its rows: scalars, flow collections, block sequences and block mappings.
 use Rattle.std.specs.Prelude.{◌≡◌, ℕ, suc, ◌<◌, ◌≤◌, List, [], ◌∷◌, ◌++◌, length, Bool, true, false, Some, None, ◌⊎◌, Contains}
-use Rattle.lf_scalar.specs.Cells.{Cell, Value, span}
+use Rattle.lf_base.specs.Faults.{span}
+use Rattle.lf_scalar.specs.Cells.{Cell, Value}
 use Rattle.lf_scalar.specs.Lines.{is_tail}
 use Rattle.lf_scalar.specs.Scalars.{IsOfStyle, source_at}
 use Rattle.lf_yaml.specs.Rows.{Row, indent, rows_from, left_of}

@@ -4,7 +4,9 @@ use Rattle.std.specs.List.{list_any}
 use Rattle.lf_base.specs.declared.kind.Kind.TheVariants.{OpenQuote, DoubleKey, NotANode, TooDeep}
 use Rattle.lf_scalar.specs.declared.quotes.Quotes.{Quotes}
 use Rattle.lf_scalar.specs.declared.quotes.Quotes.TheVariants.{Single, Double}
-use Rattle.lf_scalar.specs.Cells.{Cell, Value, made, span, end_of, Fault, fault, fault_at, ◌>>=◌}
+use Rattle.lf_base.specs.declared.fault.Fault.{Fault}
+use Rattle.lf_base.specs.Faults.{span, fault}
+use Rattle.lf_scalar.specs.Cells.{Cell, Value, made, end_of, byte_fault, character_fault, ◌>>=◌}
 use Rattle.lf_scalar.specs.Lines.{is_blank, after_blanks}
 use Rattle.lf_scalar.specs.Folding.{trimmed}
 use Rattle.lf_scalar.specs.Plain.{before_blank, begins_plain, value_of}
@@ -55,7 +57,7 @@ entry_of r = entry_by r (quotes_of r.first)
 
 -- a scalar between quotes that closes on its line
 abbrev pub between_of : Quotes → Cell → Option Closing → Result Value Fault
-between_of kind c None = Err (fault OpenQuote c.at)
+between_of kind c None = Err (byte_fault OpenQuote c.at)
 between_of kind c (Some x) = quoted_of kind 0 (x.1.0.at + 1) c (x.0 ++ x.1.0 ∷ [])
 
 unfoldable pub key_of : Cell → List Cell → Key → Result Value Fault
@@ -90,7 +92,7 @@ with_behind behind read = read >>= λ v. Ok (v, behind)
 
 abbrev pub plain_part : Cell → List Cell → Option Cell → Result Part Fault
 plain_part c cs None = Ok (value_of c (flow_text (c ∷ cs)), behind_text (c ∷ cs))
-plain_part c cs (Some wrong) = Err (fault_at NotANode wrong)
+plain_part c cs (Some wrong) = Err (character_fault NotANode wrong)
 
 abbrev pub part_by : Cell → List Cell → Option Quotes → Result Part Fault
 part_by c cs None = if begins_flow c cs then plain_part c cs (later_colon (flow_text (c ∷ cs)) (behind_text (c ∷ cs))) else Err (part_fault c cs)
@@ -122,7 +124,7 @@ sequence_part end above later (at_part c cs rs) = if c.byte == 93 then Ok (no_it
 
 -- The number bounds the turns. The count of the cells and rows and one is always enough.
 unfoldable pub sequence_in : ℕ → ℕ → ℕ → List Cell → List Row → FlowRead Items
-sequence_in end above zero cs rs = Err (fault NotANode 0)
+sequence_in end above zero cs rs = Err (byte_fault NotANode 0)
 sequence_in end above (suc n) cs rs = sequence_part end above (λ cs rs. sequence_in end above n cs rs) (next_part end above false cs rs)
 
 -- a key, its `:` and what stands behind it on its line
@@ -149,7 +151,7 @@ plain_key end above c cs rs (Some x) = Ok (bare_key c (trimmed is_blank x.0), x.
 
 abbrev pub flow_key_by : ℕ → ℕ → Cell → List Cell → List Row → Option Quotes → Result Signed Fault
 flow_key_by end above c cs rs None =
-    if begins_flow c cs then (if is_empty_key c cs then Err (fault_at NotANode c) else plain_key end above c cs rs (key_in is_flow_sign ends_key (c ∷ cs)))
+    if begins_flow c cs then (if is_empty_key c cs then Err (character_fault NotANode c) else plain_key end above c cs rs (key_in is_flow_sign ends_key (c ∷ cs)))
     else Err (part_fault c cs)
 flow_key_by end above c cs rs (Some kind) = signed_behind end above (behind_closing (closing_of kind 0 cs)) rs (between_of kind c (closing_of kind 0 cs))
 
@@ -188,7 +190,7 @@ value_behind end above later v read = read >>= λ x. mapping_sign later v x.0 (n
 
 abbrev pub new_entry : ℕ → ℕ → Later → List (List ℕ) → List Row → Signed → FlowRead Entries
 new_entry end above later keys rs k =
-    if has keys k.0.text then Err (record { kind = DoubleKey; span = k.0.span })
+    if has keys k.0.text then Err (fault DoubleKey k.0.span)
     else value_behind end above (λ cs rs. later (keys ++ k.0.text ∷ []) cs rs) k.0 (flow_value end above k.1 k.2 rs)
 
 abbrev pub key_behind : ℕ → ℕ → Later → List (List ℕ) → List Row → Result Signed Fault → FlowRead Entries
@@ -199,7 +201,7 @@ mapping_part end above later keys (broken f) = Err f
 mapping_part end above later keys (at_part c cs rs) = if c.byte == 125 then Ok (no_entries, c, cs, rs) else key_behind end above later keys rs (flow_key end above c cs rs)
 
 unfoldable pub mapping_in : ℕ → ℕ → ℕ → List (List ℕ) → List Cell → List Row → FlowRead Entries
-mapping_in end above zero keys cs rs = Err (fault NotANode 0)
+mapping_in end above zero keys cs rs = Err (byte_fault NotANode 0)
 mapping_in end above (suc n) keys cs rs = mapping_part end above (λ ks cs rs. mapping_in end above n ks cs rs) keys (next_part end above false cs rs)
 
 -- how many turns some cells and rows need at most
@@ -215,20 +217,20 @@ Read A = Result (A × List Row) Fault
 -- Nothing but blanks and a comment stands behind a closing bracket.
 abbrev pub alone : {A : Type 0} → (A → Cell → Tree) → A × Cell × List Cell × List Row → Option Cell → Read Tree
 alone node x None = Ok (node x.0 x.1, x.3)
-alone node x (Some wrong) = Err (fault_at NotANode wrong)
+alone node x (Some wrong) = Err (character_fault NotANode wrong)
 
 abbrev pub closed_list : Row → FlowRead Items → Read Tree
 closed_list r read = read >>= λ x. alone (λ is closing. sequence is (span r.first.at (suc closing.at))) x (wrong_behind false x.2)
 
 abbrev pub flow_list : ℕ → ℕ → ℕ → Row → List Row → Read Tree
-flow_list end above zero r rs = Err (fault_at TooDeep r.first)
+flow_list end above zero r rs = Err (character_fault TooDeep r.first)
 flow_list end above (suc d) r rs = closed_list r (sequence_in end above (suc (turns r.rest rs)) r.rest rs)
 
 abbrev pub closed_map : Row → FlowRead Entries → Read Tree
 closed_map r read = read >>= λ x. alone (λ es closing. mapping es (span r.first.at (suc closing.at))) x (wrong_behind false x.2)
 
 abbrev pub flow_map : ℕ → ℕ → ℕ → Row → List Row → Read Tree
-flow_map end above zero r rs = Err (fault_at TooDeep r.first)
+flow_map end above zero r rs = Err (character_fault TooDeep r.first)
 flow_map end above (suc d) r rs = closed_map r (mapping_in end above (suc (turns r.rest rs)) [] r.rest rs)
 
 abbrev pub scalar_on : List ℕ → ℕ → Row → Result Value Fault
@@ -279,7 +281,7 @@ at_indent m r rs none read = if nat_lt m (indent r) then Err (indent_fault r) el
 
 -- The number bounds the turns. The count of the rows and one is always enough.
 unfoldable pub items : Reader → ℕ → Bool → ℕ → List Row → Read Items
-items node zero own m rs = Err (fault NotANode 0)
+items node zero own m rs = Err (byte_fault NotANode 0)
 items node (suc n) own m [] = Ok (no_items, [])
 items node (suc n) own m (r ∷ rs) = at_indent m r rs no_items (items_on node (λ rows. items node n own m rows) own m r rs)
 
@@ -294,7 +296,7 @@ entry_next node m at (r ∷ rs) =
     else Ok (empty_at at, r ∷ rs)
 
 abbrev pub entry_at : List ℕ → ℕ → (Bool → Reader) → ℕ → ℕ → List Row → Option Row → Read Tree
-entry_at bytes d node m at rs (Some left) = if begins_block left then Err (fault_at NotANode left.first) else value_on bytes (suc m) d left rs
+entry_at bytes d node m at rs (Some left) = if begins_block left then Err (character_fault NotANode left.first) else value_on bytes (suc m) d left rs
 entry_at bytes d node m at rs None = entry_next node m at rs
 
 abbrev pub entry_value : List ℕ → ℕ → (Bool → Reader) → ℕ → ℕ → Cell → List Cell → List Row → Read Tree
@@ -311,18 +313,18 @@ entries_behind v later read = read >>= λ x. with_entry v x.0 (later x.1)
 
 abbrev pub keyed : EntryValues → (List (List ℕ) → List Row → Read Entries) → List (List ℕ) → Row → List Row → Cell → List Cell → Value → Read Entries
 keyed value later keys r rs colon behind v =
-    if has keys v.text then Err (record { kind = DoubleKey; span = v.span })
+    if has keys v.text then Err (fault DoubleKey v.span)
     else entries_behind v (λ rows. later (keys ++ v.text ∷ []) rows) (value r.begin colon behind rs)
 
 abbrev pub key_read : EntryValues → (List (List ℕ) → List Row → Read Entries) → List (List ℕ) → Row → List Row → Cell → List Cell → Result Value Fault → Read Entries
 key_read value later keys r rs colon behind read = read >>= λ v. keyed value later keys r rs colon behind v
 
 abbrev pub entries_on : EntryValues → (List (List ℕ) → List Row → Read Entries) → List (List ℕ) → Row → List Row → Option Head → Read Entries
-entries_on value later keys r rs None = if opens_quote r.first r.rest then Err (fault OpenQuote r.first.at) else Err (row_fault r)
+entries_on value later keys r rs None = if opens_quote r.first r.rest then Err (byte_fault OpenQuote r.first.at) else Err (row_fault r)
 entries_on value later keys r rs (Some h) = key_read value later keys r rs h.1 h.2 (key_of r.first r.rest h.0)
 
 unfoldable pub entries : EntryValues → ℕ → ℕ → List (List ℕ) → List Row → Read Entries
-entries value zero m keys rs = Err (fault NotANode 0)
+entries value zero m keys rs = Err (byte_fault NotANode 0)
 entries value (suc n) m keys [] = Ok (no_entries, [])
 entries value (suc n) m keys (r ∷ rs) = at_indent m r rs no_entries (entries_on value (λ ks rows. entries value n m ks rows) keys r rs (entry_of r))
 
@@ -334,7 +336,7 @@ as_mapping r read = read >>= λ x. Ok (mapping x.0 (span r.first.at (entries_end
 
 -- One node. With true it is a sequence at the indent of the mapping around it.
 unfoldable pub node_at : List ℕ → ℕ → Bool → Reader
-node_at bytes zero own above r rs = if begins_block r then Err (fault_at TooDeep r.first) else value_on bytes above zero r rs
+node_at bytes zero own above r rs = if begins_block r then Err (character_fault TooDeep r.first) else value_on bytes above zero r rs
 node_at bytes (suc d) own above r rs =
     if is_item r then as_sequence r (items (λ a x xs. node_at bytes d false a x xs) (suc (length (r ∷ rs))) own (indent r) (r ∷ rs))
     else if begins_block r then as_mapping r (entries (λ begin colon behind xs. entry_value bytes d (λ o a x ys. node_at bytes d o a x ys) (indent r) begin colon behind xs) (suc (length (r ∷ rs))) (indent r) [] (r ∷ rs))

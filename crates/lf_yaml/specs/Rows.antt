@@ -2,7 +2,8 @@
 use Rattle.std.specs.Prelude.{ℕ, ◌-◌, List, [], ◌∷◌, ◌++◌, Bool, false, Option, Some, None, nat_lt, ◌==◌, ◌&&◌, ◌||◌, codes, if◌then◌else◌}
 use Rattle.std.specs.List.{list_any}
 use Rattle.lf_base.specs.declared.kind.Kind.TheVariants.{BadIndent, LeftOut, NotANode}
-use Rattle.lf_scalar.specs.Cells.{Cell, Fault, fault, fault_at}
+use Rattle.lf_base.specs.declared.fault.Fault.{Fault}
+use Rattle.lf_scalar.specs.Cells.{Cell, byte_fault, character_fault}
 use Rattle.lf_scalar.specs.Lines.{Line, is_blank, after_spaces, is_content, is_tail}
 use Rattle.lf_scalar.specs.Plain.{before_blank}
 
@@ -81,14 +82,14 @@ is_left_out r = is_property r.first r.rest || is_mark r
 
 -- its indent fits no open collection; a tab behind the spaces is told at the line's first byte
 abbrev pub indent_fault : Row → Fault
-indent_fault r = if r.first.byte == 9 then fault BadIndent r.begin else fault_at BadIndent r.first
+indent_fault r = if r.first.byte == 9 then byte_fault BadIndent r.begin else character_fault BadIndent r.first
 
 -- it begins nothing that may stand there
 abbrev pub row_fault : Row → Fault
 row_fault r =
-    if r.first.byte == 9 then fault BadIndent r.begin
-    else if is_left_out r then fault_at LeftOut r.first
-    else fault_at NotANode r.first
+    if r.first.byte == 9 then byte_fault BadIndent r.begin
+    else if is_left_out r then character_fault LeftOut r.first
+    else character_fault NotANode r.first
 
 -- ---- the edges of a document
 

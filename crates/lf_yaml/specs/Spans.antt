@@ -1,7 +1,8 @@
 -- The spans of trees.
 use Rattle.std.specs.Prelude.{ℕ, []}
 use Rattle.lf_base.specs.declared.place.Span.{Span}
-use Rattle.lf_scalar.specs.Cells.{made, span}
+use Rattle.lf_base.specs.Faults.{span}
+use Rattle.lf_scalar.specs.Cells.{made}
 use Rattle.lf_yaml.specs.Tree.{Tree, leaf, sequence, mapping, Items, no_items, item, Entries, no_entries, entry}
 
 abbrev pub span_of : Tree → Span

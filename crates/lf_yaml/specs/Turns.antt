@@ -2,7 +2,9 @@
 use Rattle.std.specs.Prelude.{◌≡◌, ℕ, ◌<◌, ◌≤◌, List, [], ◌∷◌, ◌++◌, Result, Ok, Err, map, if◌then◌else◌}
 use Rattle.lf_base.specs.declared.refusal.Refusal.{Refusal}
 use Rattle.lf_base.specs.declared.kind.Kind.TheVariants.{DoubleKey}
-use Rattle.lf_scalar.specs.Cells.{Cell, Value, Fault, Fails, ◌>>=◌}
+use Rattle.lf_base.specs.declared.fault.Fault.{Fault}
+use Rattle.lf_base.specs.Faults.{fault}
+use Rattle.lf_scalar.specs.Cells.{Cell, Value, Fails, ◌>>=◌}
 use Rattle.lf_yaml.specs.Tree.{Tree, Items, no_items, item, Entries, no_entries, entry, tree, pair, items_of, entries_of}
 use Rattle.lf_yaml.specs.Rows.{Row}
 use Rattle.lf_yaml.specs.Shown.{shown}
@@ -65,7 +67,7 @@ TurnsEntries bytes later keys (Err e) read = Fails e read
 
 -- a key that is new to those before it, its `:` and what stands behind it on its line
 abbrev pub new_key : ℕ → ℕ → List (List ℕ) → Cell → List Cell → List Row → Result Signed Fault
-new_key end above keys c cs rs = flow_key end above c cs rs >>= λ k. if has keys k.0.text then Err (record { kind = DoubleKey; span = k.0.span }) else Ok k
+new_key end above keys c cs rs = flow_key end above c cs rs >>= λ k. if has keys k.0.text then Err (fault DoubleKey k.0.span) else Ok k
 
 -- such a key, its value, and what is left
 abbrev pub entry_at : ℕ → ℕ → List (List ℕ) → Cell → List Cell → List Row → Result (Value × Tree × List Cell × List Row) Fault

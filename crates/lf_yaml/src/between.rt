@@ -1,7 +1,8 @@
 //! Scalars between quotes that close on their line.
 ghost use Rattle.std.specs.Prelude.{◌≡◌, ℕ, ◌+◌, ◌<◌, ◌≤◌, ◌^◌, ◌∷◌, length, get_or, take, drop, Some};
 ghost use Rattle.std.specs.Str.{IsUtf8};
-ghost use Rattle.lf_scalar.specs.Cells.{cell, Gives};
+ghost use Rattle.lf_base.specs.Answers.{Gives};
+ghost use Rattle.lf_scalar.specs.Cells.{cell};
 ghost use Rattle.lf_scalar.specs.Quoted.{quote_of};
 ghost use Rattle.lf_scalar.specs.QuotedReading.{split_of};
 ghost use Rattle.lf_scalar.specs.Drafted.{shown};

@@ -1,7 +1,7 @@
 //! What the rows behind a part of a block collection are: its next part, its end, or what breaks it.
 ghost use Rattle.std.specs.Prelude.{◌≡◌, ℕ, ◌<◌, ◌≤◌, ◌^◌, List, length, MatchOption, None, Some, IfOk, IfSome, option_map};
 ghost use Rattle.std.specs.Str.{IsCharBoundary, IsUtf8};
-ghost use Rattle.lf_scalar.specs.Cells.{Gives};
+ghost use Rattle.lf_base.specs.Answers.{Gives};
 ghost use Rattle.lf_scalar.specs.Drafted.{refused};
 ghost use Rattle.lf_yaml.specs.Reading.{entry_of, begins_block as begins_block_of};
 ghost use Rattle.lf_yaml.specs.Shown.{shown};

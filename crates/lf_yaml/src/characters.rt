@@ -2,7 +2,7 @@
 ghost use Rattle.std.specs.Prelude.{◌≡◌, ◌<◌, ◌≤◌, ◌^◌, ◌+◌, ◌-◌, ℕ, length, drop, Ok, Err, IfOk, IfErr, MatchOption};
 ghost use Rattle.lf_base.specs.declared.refusal.Refusal.{Refusal};
 ghost use Rattle.lf_base.specs.declared.refusal.Refusal.TheVariants as refusal_of;
-ghost use Rattle.lf_scalar.specs.Cells.{Fault};
+ghost use Rattle.lf_base.specs.declared.fault.Fault.{Fault};
 ghost use Rattle.lf_yaml.specs.Characters.{is_wrong, FirstWrong, NoneWrong, AreCharacters, BreaksCharacters};
 
 use lf_base::{Kind, Refusal, Span};

@@ -1,12 +1,14 @@
 //! A file and its tree.
-ghost use Rattle.std.specs.Prelude.{◌≡◌, ℕ, List, [], ◌∷◌, ◌≤◌, ◌^◌, length, false, MatchOption, Ok, Err, IfOk, IfErr, IfSome};
+ghost use Rattle.std.specs.Prelude.{◌≡◌, ℕ, [], ◌∷◌, ◌≤◌, ◌^◌, length, false, MatchOption, IfOk, IfSome};
 ghost use Rattle.std.specs.Str.{IsCharBoundary, IsUtf8};
-ghost use Rattle.lf_scalar.specs.Cells.{cells, Fault, Gives, IfAt};
+ghost use Rattle.lf_base.specs.Answers.{Gives, Found, Only, Refused, Breach, RefusedIn};
+ghost use Rattle.lf_scalar.specs.Cells.{cells};
 ghost use Rattle.lf_scalar.specs.Drafted.{refused};
 ghost use Rattle.lf_scalar.specs.Lines.{is_tail as is_tail_of};
 ghost use Rattle.lf_yaml.specs.Rows.{is_opening_text as is_opening_text_of, is_opening as is_opening_of};
-ghost use Rattle.lf_yaml.specs.Tree.{Tree, tree};
+ghost use Rattle.lf_yaml.specs.Tree.{tree};
 ghost use Rattle.lf_yaml.specs.Document.{mark_length as mark_length_of, document_rows, IsTree, TreeBreaks};
+ghost use Rattle.lf_yaml.specs.Insides.{Inside};
 ghost use Rattle.lf_yaml.specs.Reading.{document_of};
 ghost use Rattle.lf_yaml.specs.Shown.{shown};
 ghost use Rattle.lf_yaml.specs.Cursor.{rows_after, IsRowOf};
@@ -31,13 +33,17 @@ use std::alloc::Global;
 pub fn read_tree(alloc: Global, bytes: &[u8]) -> Result<Node, Refusal>
     requires room { length bytes.now ≤ 2 ^ 31 }
     // What is read is the file's tree.
-    ensures found { IfOk result (λ n. IsTree bytes.now (tree n)) }
+    ensures found { Found tree (IsTree bytes.now) result }
     // The file's tree is read, unless memory runs out.
-    ensures only { (t : Tree) → IsTree bytes.now t → Gives tree result (Ok t) }
+    ensures only { Only tree (IsTree bytes.now) result }
     // What is refused is the file's breach.
-    ensures refused { IfErr result (λ e. IfAt e (TreeBreaks bytes.now)) }
+    ensures refused { Refused (TreeBreaks bytes.now) result }
     // A breach is refused, unless memory runs out.
-    ensures breach { (f : Fault) → TreeBreaks bytes.now f → Gives tree result (Err f) }
+    ensures breach { Breach tree (TreeBreaks bytes.now) result }
+    // The span of a refusal lies in the file.
+    ensures in_file { RefusedIn (length bytes.now) result }
+    // So do the spans of the tree, and the offsets of a scalar never fall and lie in its span.
+    ensures inside { IfOk result (λ n. Inside (length bytes.now) (tree n)) }
 {
     match check_characters(bytes) {
         Ok(_) => document(alloc, bytes),

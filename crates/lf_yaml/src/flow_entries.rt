@@ -1,7 +1,7 @@
 //! Flow mappings.
 ghost use Rattle.std.specs.Prelude.{false, ◌≡◌, ℕ, suc, ◌+◌, ◌<◌, ◌≤◌, ◌^◌, List, [], ◌∷◌, ◌++◌, length, get_or, IfOk};
 ghost use Rattle.std.specs.Str.{IsUtf8};
-ghost use Rattle.lf_scalar.specs.Cells.{Gives};
+ghost use Rattle.lf_base.specs.Answers.{Gives};
 ghost use Rattle.lf_scalar.specs.Drafted.{shown as scalar_shown};
 ghost use Rattle.lf_yaml.specs.Tree.{leaf, pair};
 ghost use Rattle.lf_yaml.specs.Flow.{next_part as next_part_of};

@@ -1,7 +1,8 @@
 //! Flow sequences.
 ghost use Rattle.std.specs.Prelude.{false, ◌≡◌, ℕ, suc, ◌+◌, ◌≤◌, ◌^◌, List, length, IfOk};
 ghost use Rattle.std.specs.Str.{IsUtf8};
-ghost use Rattle.lf_scalar.specs.Cells.{Cell, Gives};
+ghost use Rattle.lf_base.specs.Answers.{Gives};
+ghost use Rattle.lf_scalar.specs.Cells.{Cell};
 ghost use Rattle.lf_scalar.specs.Drafted.{shown as scalar_shown};
 ghost use Rattle.lf_yaml.specs.Rows.{Row as RowOf};
 ghost use Rattle.lf_yaml.specs.Tree.{leaf, tree, Items};

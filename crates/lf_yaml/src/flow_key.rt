@@ -1,7 +1,8 @@
 //! Keys of flow mappings.
 ghost use Rattle.std.specs.Prelude.{false, ◌≡◌, eqb, ℕ, suc, ◌+◌, ◌<◌, ◌≤◌, ◌^◌, length, get_or, take, drop, Ok, IfOk, Some, None};
 ghost use Rattle.std.specs.Str.{IsUtf8};
-ghost use Rattle.lf_scalar.specs.Cells.{cell, cells, Gives, Fails};
+ghost use Rattle.lf_base.specs.Answers.{Gives};
+ghost use Rattle.lf_scalar.specs.Cells.{cell, cells, Fails};
 ghost use Rattle.lf_scalar.specs.Lines.{is_blank};
 ghost use Rattle.lf_scalar.specs.Folding.{trimmed};
 ghost use Rattle.lf_scalar.specs.Drafted.{shown as scalar_shown};

@@ -2,7 +2,8 @@
 ghost use Rattle.std.specs.Prelude.{false, ◌≡◌, ℕ, suc, ◌+◌, ◌<◌, ◌≤◌, ◌^◌, [], length, get_or, map, None, Some, IfOk, MatchOption};
 ghost use Rattle.std.specs.Str.{IsCharBoundary, IsUtf8};
 ghost use Rattle.lf_base.specs.declared.kind.Kind.TheVariants.{NotANode};
-ghost use Rattle.lf_scalar.specs.Cells.{Cell, Gives, fault_at as fault_at_of};
+ghost use Rattle.lf_base.specs.Answers.{Gives};
+ghost use Rattle.lf_scalar.specs.Cells.{Cell, character_fault as fault_at_of};
 ghost use Rattle.lf_scalar.specs.QuotedReading.{wrong_behind as wrong_behind_of};
 ghost use Rattle.lf_scalar.specs.Drafted.{refused};
 ghost use Rattle.lf_yaml.specs.Tree.{tree, pair, sequence, mapping, items_of, entries_of};

@@ -1,7 +1,8 @@
 //! Scalars and values of flow collections, and the places behind them.
 ghost use Rattle.std.specs.Prelude.{◌≡◌, ◌||◌, eqb, ℕ, suc, ◌+◌, ◌<◌, ◌≤◌, ◌^◌, length, Ok, IfOk};
 ghost use Rattle.std.specs.Str.{IsUtf8};
-ghost use Rattle.lf_scalar.specs.Cells.{cell, Gives};
+ghost use Rattle.lf_base.specs.Answers.{Gives};
+ghost use Rattle.lf_scalar.specs.Cells.{cell};
 ghost use Rattle.lf_scalar.specs.Drafted.{shown as scalar_shown};
 ghost use Rattle.lf_yaml.specs.Tree.{leaf};
 ghost use Rattle.lf_yaml.specs.Spans.{empty_at};

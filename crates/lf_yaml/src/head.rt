@@ -1,6 +1,6 @@
 //! How a row begins.
 ghost use Rattle.std.specs.Prelude.{◌≡◌, ℕ, suc, ◌+◌, ◌-◌, ◌<◌, ◌≤◌, ◌^◌, length, get_or, drop, option_map};
-ghost use Rattle.lf_scalar.specs.Cells.{cell, cells, fault, fault_at};
+ghost use Rattle.lf_scalar.specs.Cells.{cell, cells, byte_fault as at_byte, character_fault};
 ghost use Rattle.lf_scalar.specs.Plain.{before_blank};
 ghost use Rattle.lf_scalar.specs.Drafted.{refused};
 ghost use Rattle.lf_yaml.specs.Rows.{indent as indent_of, left_of, is_thrice as is_thrice_of, is_mark as is_mark_of, is_property as is_property_of, is_left_out as is_left_out_of, indent_fault as indent_fault_of, row_fault as row_fault_of};
@@ -111,7 +111,7 @@ pub fn is_left_out(row: Row<'_>) -> bool
 /// The refusal of a kind whose span is one byte.
 pub fn byte_fault(kind: Kind, at: u32) -> Refusal
     requires { at < 2 ^ 32 - 1 }
-    ensures { result ≡ refused (fault kind at) }
+    ensures { result ≡ refused (at_byte kind at) }
 {
     Refusal::At {
         kind,
@@ -124,7 +124,7 @@ pub fn byte_fault(kind: Kind, at: u32) -> Refusal
 
 /// The refusal of a kind whose span is a row's first character.
 pub fn first_fault(kind: Kind, row: Row<'_>) -> Refusal
-    ensures { result ≡ refused (fault_at kind (shown row.entry).first) }
+    ensures { result ≡ refused (character_fault kind (shown row.entry).first) }
 {
     Refusal::At {
         kind,

@@ -1,7 +1,7 @@
 //! The scalars of keys.
 ghost use Rattle.std.specs.Prelude.{◌≡◌, ℕ, ◌+◌, ◌≤◌, ◌^◌, length};
 ghost use Rattle.std.specs.Str.{IsUtf8};
-ghost use Rattle.lf_scalar.specs.Cells.{Gives};
+ghost use Rattle.lf_base.specs.Answers.{Gives};
 ghost use Rattle.lf_scalar.specs.Drafted.{shown as scalar_shown};
 ghost use Rattle.lf_yaml.specs.Reading.{key_of};
 ghost use Rattle.lf_yaml.specs.Headed.{key_of_code, IsKeyIn};

@@ -1,6 +1,7 @@
 //! Nodes of block collections, made of their parts.
 ghost use Rattle.std.specs.Prelude.{◌≡◌, ℕ, ◌+◌, ◌≤◌, ◌^◌, length, map, Ok, IfOk};
-ghost use Rattle.lf_scalar.specs.Cells.{Gives, span as span_at};
+ghost use Rattle.lf_base.specs.Answers.{Gives};
+ghost use Rattle.lf_base.specs.Faults.{span as span_at};
 ghost use Rattle.lf_scalar.specs.Drafted.{shown as scalar_shown};
 ghost use Rattle.lf_yaml.specs.Tree.{tree, pair, sequence, mapping, items_of, entries_of};
 ghost use Rattle.lf_yaml.specs.Spans.{span_of, items_end, entries_end, empty_at};

@@ -1,7 +1,8 @@
 //! Nodes by their rows: block sequences and block mappings, one in another.
 ghost use Rattle.std.specs.Prelude.{◌≡◌, ℕ, suc, ◌+◌, ◌<◌, ◌≤◌, ◌^◌, List, length, map, true, Some, IfOk};
 ghost use Rattle.std.specs.Str.{IsCharBoundary, IsUtf8};
-ghost use Rattle.lf_scalar.specs.Cells.{cell, cells, Gives};
+ghost use Rattle.lf_base.specs.Answers.{Gives};
+ghost use Rattle.lf_scalar.specs.Cells.{cell, cells};
 ghost use Rattle.lf_yaml.specs.Rows.{indent as indent_of};
 ghost use Rattle.lf_yaml.specs.Heads.{is_item as is_item_of};
 ghost use Rattle.lf_yaml.specs.Tree.{tree, pair, items_of, entries_of};

@@ -1,7 +1,7 @@
 //! Keys that stand once in their mapping.
 ghost use Rattle.std.specs.Prelude.{◌≡◌, ℕ, List, ◌+◌, ◌≤◌, ◌^◌, length};
 ghost use Rattle.std.specs.Str.{IsUtf8};
-ghost use Rattle.lf_scalar.specs.Cells.{Gives};
+ghost use Rattle.lf_base.specs.Answers.{Gives};
 ghost use Rattle.lf_scalar.specs.Drafted.{shown as scalar_shown};
 ghost use Rattle.lf_yaml.specs.Shown.{shown};
 ghost use Rattle.lf_yaml.specs.Headed.{headed};

@@ -1,7 +1,9 @@
 //! Scalars that are a part of one line as it stands.
 ghost use Rattle.std.specs.Prelude.{◌≡◌, ℕ, ◌+◌, ◌<◌, ◌≤◌, ◌^◌, ◌∷◌, [], ◌++◌, length, map, take, Ok, IfOk, IfErr};
 ghost use Rattle.std.specs.Str.{IsUtf8};
-ghost use Rattle.lf_scalar.specs.Cells.{cells, made, span as span_of, Gives};
+ghost use Rattle.lf_base.specs.Answers.{Gives};
+ghost use Rattle.lf_base.specs.Faults.{span as span_of};
+ghost use Rattle.lf_scalar.specs.Cells.{cells, made};
 ghost use Rattle.lf_scalar.specs.Drafted.{shown};
 ghost use Rattle.lf_base.specs.declared.refusal.Refusal.TheVariants as refusal_of;
 ghost use Rattle.lf_yaml.specs.Ascending.{offsets_from};

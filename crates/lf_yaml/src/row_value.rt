@@ -1,7 +1,7 @@
 //! Values on a row: scalars and flow collections.
 ghost use Rattle.std.specs.Prelude.{true, ◌≡◌, ℕ, ◌+◌, ◌≤◌, ◌^◌, length, IfOk};
 ghost use Rattle.std.specs.Str.{IsCharBoundary, IsUtf8};
-ghost use Rattle.lf_scalar.specs.Cells.{Gives};
+ghost use Rattle.lf_base.specs.Answers.{Gives};
 ghost use Rattle.lf_scalar.specs.Scalars.{least_above};
 ghost use Rattle.lf_yaml.specs.Heads.{begins_scalar as begins_scalar_of};
 ghost use Rattle.lf_yaml.specs.Tree.{tree};

@@ -1,7 +1,8 @@
 //! Scalars on a row.
 ghost use Rattle.std.specs.Prelude.{true, ◌≡◌, ℕ, ◌+◌, ◌≤◌, ◌^◌, length};
 ghost use Rattle.std.specs.Str.{IsUtf8};
-ghost use Rattle.lf_scalar.specs.Cells.{cell, Gives};
+ghost use Rattle.lf_base.specs.Answers.{Gives};
+ghost use Rattle.lf_scalar.specs.Cells.{cell};
 ghost use Rattle.lf_scalar.specs.Scalars.{least_above, begins};
 ghost use Rattle.lf_yaml.specs.Rows.{text_of};
 ghost use Rattle.lf_scalar.specs.Drafted.{shown as scalar_shown};

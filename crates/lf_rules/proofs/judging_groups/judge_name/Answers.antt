@@ -1,5 +1,5 @@
 use Rattle.std.proofs.Common.{not, ap, ◌∙◌}
-use Rattle.lf_rules.specs.Names.{has}
+use Rattle.lf_base.specs.NameSets.{has}
 use Rattle.lf_yaml.specs.Tree.{tree, value}
 use Rattle.lf_rules.specs.Reading.{name_of}
 use Rattle.lf_rules.proofs.NameSets.{again_noted, again_new, again_none}

@@ -1,17 +1,26 @@
 use Rattle.std.proofs.Common.{map}
+use Rattle.lf_base.proofs.Answering.{found, only, refused, breach}
 use Rattle.lf_yaml.specs.Tree.{tree}
 use Rattle.lf_rules.specs.Sources.{source}
-use Rattle.lf_rules.proofs.Answering.{found, only, refuses, breach}
+use Rattle.lf_rules.specs.Rules.{IsRules}
+use Rattle.lf_rules.specs.Breaches.{FirstBreak}
+use Rattle.lf_rules.specs.Reading.{reading}
+use Rattle.lf_rules.proofs.Answering.{decides, broken}
+use Rattle.lf_rules.proofs.Spans.{all_inside}
 use Rattle.lf_rules.proofs.reading.read_rules.Goals as goal
 
-pub returns-clause-found : goal.returns-clause-found
-returns-clause-found c = found (map source) (tree c.args.file.now) c.read.result c.read.ensures
-
-pub returns-clause-only : goal.returns-clause-only
-returns-clause-only c = only (map source) (tree c.args.file.now) c.read.result c.read.ensures
-
-pub returns-clause-refused : goal.returns-clause-refused
-returns-clause-refused c = refuses (map source) (tree c.args.file.now) c.read.result c.read.ensures
-
-pub returns-clause-breach : goal.returns-clause-breach
-returns-clause-breach c = breach (map source) (tree c.args.file.now) c.read.result c.read.ensures
+pub returns : goal.returns
+returns c =
+    let t = tree c.args.file.now in
+    let answer = c.read.result in
+    let g = c.read.ensures in
+    let f = found (map source) (IsRules t) (FirstBreak t) (reading t) (decides t) answer g in
+    let r = refused (map source) (IsRules t) (FirstBreak t) (reading t) (decides t) answer g in
+    record {
+      found = f;
+      only = only (map source) (IsRules t) (FirstBreak t) (reading t) (decides t) answer g;
+      refused = r;
+      told = breach (map source) (IsRules t) (FirstBreak t) (reading t) (decides t) answer g;
+      breach = broken (map source) t answer g;
+      inside = all_inside (map source) t answer f r;
+    }

@@ -1,7 +1,7 @@
 use Rattle.std.proofs.Common.{◌∙◌, ◌+◌, ap, sym, List, ℕ, length, subst, take, get_or, arith}
 use Rattle.std.specs.Str.{IsUtf8}
 use Rattle.lf_scalar.specs.declared.scalar.Style.{Style}
-use Rattle.lf_scalar.specs.Cells.{Gives}
+use Rattle.lf_base.specs.Answers.{Gives}
 use Rattle.lf_scalar.specs.Scalars.{source_at, BeginsAt}
 use Rattle.lf_scalar.specs.Reading.{reading}
 use Rattle.lf_scalar.specs.Drafted.{shown}

@@ -1,13 +1,13 @@
 use Rattle.std.proofs.Common.{rules, refl, sym, subst, inl, inr}
 use Rattle.std.specs.Str.{IsValidUpTo}
 use Rattle.lf_base.specs.declared.kind.Kind.TheVariants.{BadUtf8, BadChar}
-use Rattle.lf_scalar.specs.Cells.{fault}
+use Rattle.lf_scalar.specs.Cells.{byte_fault}
 use Rattle.lf_yaml.proofs.characters.check_characters.Goals as goal
 
 pub returns-in-Err-clause-refused : goal.returns-in-Err-clause-refused
 returns-in-Err-clause-refused c =
-    (fault BadUtf8 c.valid_up_to.result, inl (c.valid_up_to.result, subst (IsValidUpTo c.args.bytes.now) (sym c.valid_up_to.ensures) c.in-Err.ensures.cases.1, refl), search rules)
+    (byte_fault BadUtf8 c.valid_up_to.result, inl (c.valid_up_to.result, subst (IsValidUpTo c.args.bytes.now) (sym c.valid_up_to.ensures) c.in-Err.ensures.cases.1, refl), search rules)
 
 pub returns-in-Some-clause-refused : goal.returns-in-Some-clause-refused
 returns-in-Some-clause-refused c =
-    (fault BadChar c.in-Some.offset, inr (c.in-Ok.ensures.cases.1, (c.in-Some.offset, c.in-Some.ensures, refl)), search rules)
+    (byte_fault BadChar c.in-Some.offset, inr (c.in-Ok.ensures.cases.1, (c.in-Some.offset, c.in-Some.ensures, refl)), search rules)

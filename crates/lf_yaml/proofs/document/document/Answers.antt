@@ -1,6 +1,6 @@
 use Rattle.std.proofs.Common.{subst}
 use Rattle.std.proofs.lemmas.Result.{err_from_is_err_and}
-use Rattle.lf_scalar.specs.Cells.{Gives}
+use Rattle.lf_base.specs.Answers.{Gives}
 use Rattle.lf_yaml.specs.Tree.{tree}
 use Rattle.lf_yaml.specs.Reading.{document_of}
 use Rattle.lf_yaml.specs.Shown.{shown}

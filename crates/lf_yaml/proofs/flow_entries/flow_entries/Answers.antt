@@ -1,5 +1,6 @@
 use Rattle.std.proofs.Common.{◌≤◌, ◌<◌, ◌∙◌, ◌∷◌, ◌++◌, [], ℕ, List, length, map, ap, sym, subst, arith}
-use Rattle.lf_scalar.specs.Cells.{Cell, Gives}
+use Rattle.lf_base.specs.Answers.{Gives}
+use Rattle.lf_scalar.specs.Cells.{Cell}
 use Rattle.lf_yaml.specs.Rows.{Row}
 use Rattle.lf_yaml.specs.Tree.{pair}
 use Rattle.lf_yaml.specs.Reading.{mapping_in, turns}

@@ -1,5 +1,6 @@
 use Rattle.std.proofs.Common.{◌≤◌, ◌<◌, ◌∙◌, List, length, ap, sym, subst, arith}
-use Rattle.lf_scalar.specs.Cells.{Cell, Gives}
+use Rattle.lf_base.specs.Answers.{Gives}
+use Rattle.lf_scalar.specs.Cells.{Cell}
 use Rattle.lf_yaml.specs.Rows.{Row}
 use Rattle.lf_yaml.specs.Reading.{sequence_in, turns}
 use Rattle.lf_yaml.specs.Places.{IsPlaceIn, left_at, rows_at}

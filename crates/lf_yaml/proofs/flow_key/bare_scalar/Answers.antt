@@ -1,7 +1,8 @@
 use Rattle.std.proofs.Common.{◌≡◌, ◌≤◌, List, length, take, length-take, refl, ap, sym, subst, arith, ◌∙◌}
 use Rattle.std.specs.Str.{IsCharBoundary, IsUtf8}
 use Rattle.std.proofs.lemmas.Str.{IsUtf8-take}
-use Rattle.lf_scalar.specs.Cells.{Cell, cells, Gives}
+use Rattle.lf_base.specs.Answers.{Gives}
+use Rattle.lf_scalar.specs.Cells.{Cell, cells}
 use Rattle.lf_scalar.specs.Lines.{is_blank}
 use Rattle.lf_scalar.specs.Folding.{trimmed}
 use Rattle.lf_scalar.specs.Drafted.{shown as scalar_shown}

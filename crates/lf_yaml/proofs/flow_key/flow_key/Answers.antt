@@ -1,6 +1,6 @@
 use Rattle.std.proofs.Common.{Option, length, subst}
 use Rattle.lf_scalar.specs.declared.quotes.Quotes.{Quotes}
-use Rattle.lf_scalar.specs.Cells.{Gives}
+use Rattle.lf_base.specs.Answers.{Gives}
 use Rattle.lf_yaml.specs.Reading.{flow_key, flow_key_by}
 use Rattle.lf_yaml.specs.Cursor.{rows_after}
 use Rattle.lf_yaml.specs.Places.{signed}

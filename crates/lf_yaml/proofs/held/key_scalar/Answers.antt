@@ -1,7 +1,7 @@
 use Rattle.std.proofs.Common.{sym, refl, subst, length, ◌≤◌}
 use Rattle.std.specs.Str.{IsCharBoundary, IsUtf8}
 use Rattle.std.proofs.lemmas.Str.{IsUtf8-take}
-use Rattle.lf_scalar.specs.Cells.{Gives}
+use Rattle.lf_base.specs.Answers.{Gives}
 use Rattle.lf_scalar.specs.Drafted.{shown as scalar_shown}
 use Rattle.lf_yaml.specs.Reading.{key_of}
 use Rattle.lf_yaml.specs.Headed.{key_of_code, IsKeyIn}

@@ -1,5 +1,6 @@
 use Rattle.std.proofs.Common.{sym, ◌∙◌, refl, subst, ap, List, ℕ}
-use Rattle.lf_scalar.specs.Cells.{Gives, cells}
+use Rattle.lf_base.specs.Answers.{Gives}
+use Rattle.lf_scalar.specs.Cells.{cells}
 use Rattle.lf_scalar.specs.Plain.{is_null}
 use Rattle.lf_scalar.specs.Drafted.{shown as scalar_shown}
 use Rattle.lf_yaml.specs.Shown.{shown}

@@ -1,7 +1,8 @@
 use Rattle.std.proofs.Common.{Option, subst}
 use Rattle.lf_scalar.specs.declared.quotes.Quotes.{Quotes}
 use Rattle.std.proofs.Common.{◌+◌, drop}
-use Rattle.lf_scalar.specs.Cells.{cells, Gives}
+use Rattle.lf_base.specs.Answers.{Gives}
+use Rattle.lf_scalar.specs.Cells.{cells}
 use Rattle.lf_scalar.specs.Drafted.{shown as scalar_shown}
 use Rattle.lf_yaml.specs.Reading.{part_by}
 use Rattle.lf_yaml.specs.Shown.{shown}

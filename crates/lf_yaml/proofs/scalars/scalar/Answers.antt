@@ -2,7 +2,7 @@ use Rattle.std.proofs.Common.{◌∙◌, ◌≡◌, ap, length, subst, not, true
 use Rattle.std.specs.Prelude.{ℤ}
 use Rattle.std.proofs.Math.Facts.{to_z-of_z}
 use Rattle.lf_scalar.specs.declared.scalar.Style.{Style}
-use Rattle.lf_scalar.specs.Cells.{Gives}
+use Rattle.lf_base.specs.Answers.{Gives}
 use Rattle.lf_scalar.specs.Lines.{lines, first_text}
 use Rattle.lf_scalar.specs.Scalars.{source_at, begins, least_above}
 use Rattle.lf_scalar.specs.Reading.{reading}
