@@ -5,12 +5,13 @@ use Rattle.std.specs.Prelude.{replicate}
 use Rattle.std.specs.List.{sum}
 use Rattle.std.proofs.lemmas.Bool.{cases_eq, cases_lt}
 use Rattle.std.proofs.lemmas.Bool.Decides.{Decides-eqb}
-use Rattle.std.proofs.lemmas.List.{get_or-set_same, get_or-set_other, length-replicate}
-use Rattle.lf_semantics.specs.ClassRows.{Sets, common, emptied, holds, is_live, kept, remade, set_to, settled, union}
+use Rattle.std.proofs.lemmas.List.{ext_get_or, get_or-set_same, get_or-set_other, length-replicate}
+use Rattle.lf_semantics.specs.ClassRows.{Sets, meet, emptied, holds, is_live, kept, remade, set_to, normalized, join}
 use Rattle.lf_semantics.proofs.Places.{eqb-other}
 use Rattle.lf_semantics.proofs.RowLaws.{holds-remade, shape_emptied, shape_remade}
 use Rattle.lf_classes.specs.Cut.{cut, shown, start}
 use Rattle.lf_classes.proofs.Cutting.{count_at, cut_remade, dead_when, emptied_dead, emptied_holds, emptied_remade, emptied_same, emptied_twice, empty_cut, found_class, full_cut, full_live, holds-cut, label_in, length-cut, live_at, live_when, no_class, shape_cut, start_before, start_within}
+use Rattle.lf_laws.proofs.Booleans.{and_false}
 
 pub shape_shown : (live : Bool) (counts : List ℕ) (bits : List Bool) → sum counts ≤ length bits → map length (shown live (cut counts bits)) ≡ counts
 shape_shown true counts bits h = shape_cut counts bits h
@@ -50,7 +51,7 @@ live_more f row e same =
 
 -- rows that are empty
 
-pub dead_remade : (f : ℕ → ℕ → Bool → Bool) (row : Sets) → 0 < length row → ((l c : ℕ) → f l c (holds row l c) ≡ false) → settled (remade f row) ≡ emptied row
+pub dead_remade : (f : ℕ → ℕ → Bool → Bool) (row : Sets) → 0 < length row → ((l c : ℕ) → f l c (holds row l c) ≡ false) → normalized (remade f row) ≡ emptied row
 dead_remade f row h none =
     let first : length (get_or (remade f row) 0 []) ≡ length (get_or row 0 []) =
     count_at (remade f row) (map length row) 0 (shape_remade f 0 row) (omega (arith, length_remade f row)) ∙ sym (count_at row (map length row) 0 refl h) in
@@ -59,11 +60,11 @@ dead_remade f row h none =
     rw dead (emptied_remade f row)
 
 -- a row of which it is known whether it is live
-pub settled_as : (live : Bool) (row : Sets) → is_live row ≡ live → shown live row ≡ settled row
+pub settled_as : (live : Bool) (row : Sets) → is_live row ≡ live → shown live row ≡ normalized row
 settled_as live row e = ap (λ b. cond b row (emptied row)) (sym e)
 
 -- each row that is seen is settled
-pub settled_shown : (live : Bool) (row : Sets) → (live ≡ true → is_live row ≡ true) → settled (shown live row) ≡ shown live row
+pub settled_shown : (live : Bool) (row : Sets) → (live ≡ true → is_live row ≡ true) → normalized (shown live row) ≡ shown live row
 settled_shown true row known = ap (λ b. cond b row (emptied row)) (known refl)
 settled_shown false row known = elim (is_live (emptied row)) as (λ b. cond b (emptied row) (emptied (emptied row)) ≡ emptied row) [ true ↦ refl | false ↦ emptied_twice row ]
 
@@ -112,8 +113,8 @@ module _ (counts : List ℕ) (old : List Bool) (total : length old ≡ sum count
     pub kept_is : (live : Bool) → is_live (cut counts old) ≡ true → is_live (cut counts (set old (start counts label + class) on)) ≡ live
         → shown live (cut counts (set old (start counts label + class) on)) ≡ kept label class on (cut counts old)
     kept_is live e f =
-        settled_as live (cut counts (set old (start counts label + class) on)) f ∙ ap settled kept_cut
-        ∙ sym (ap (λ b. cond b (settled (remade (λ l c b. cond (eqb l label && eqb c class) on b) (cut counts old))) (cut counts old)) e)
+        settled_as live (cut counts (set old (start counts label + class) on)) f ∙ ap normalized kept_cut
+        ∙ sym (ap (λ b. cond b (normalized (remade (λ l c b. cond (eqb l label && eqb c class) on b) (cut counts old))) (cut counts old)) e)
 
   -- one class of a label alone
 
@@ -158,8 +159,8 @@ module _ (counts : List ℕ) (old : List Bool) (total : length old ≡ sum count
 
     pub set_is : is_live (cut counts old) ≡ true → cut counts (set cleared (start counts label + class) true) ≡ set_to label class (cut counts old)
     set_is e =
-        settled_as true (cut counts (set cleared (start counts label + class) true)) (set_live e) ∙ ap settled set_cut
-        ∙ sym (ap (λ b. cond b (settled (remade (λ l c b. cond (eqb label l) (eqb c class) b) (cut counts old))) (cut counts old)) e)
+        settled_as true (cut counts (set cleared (start counts label + class) true)) (set_live e) ∙ ap normalized set_cut
+        ∙ sym (ap (λ b. cond b (normalized (remade (λ l c b. cond (eqb label l) (eqb c class) b) (cut counts old))) (cut counts old)) e)
 
   -- with another row
 
@@ -174,7 +175,7 @@ module _ (counts : List ℕ) (old : List Bool) (total : length old ≡ sum count
       pub joined_live : is_live (cut counts old) ≡ true → is_live (cut counts new) ≡ true
       joined_live e = ap is_live joined_cut ∙ live_more (λ l c b. b || holds (cut counts other) l c) (cut counts old) e (λ l c. refl)
 
-      pub joined_is : is_live (cut counts old) ≡ true → is_live (cut counts other) ≡ true → cut counts new ≡ union (cut counts old) (cut counts other)
+      pub joined_is : is_live (cut counts old) ≡ true → is_live (cut counts other) ≡ true → cut counts new ≡ join (cut counts old) (cut counts other)
       joined_is e f = rw (e, f) joined_cut
 
     module _ (bits : (k : ℕ) → k < length old → get_or new k false ≡ (get_or old k false && get_or other k false)) where
@@ -184,32 +185,33 @@ module _ (counts : List ℕ) (old : List Bool) (total : length old ≡ sum count
           bits (start counts l + c) (omega (arith, total, start_within counts l h))
           ∙ ap (λ b. get_or old (start counts l + c) false && b) (sym (holds-cut counts other l c h k)))
 
-      pub met_is : (live : Bool) → is_live (cut counts new) ≡ live → shown live (cut counts new) ≡ common (cut counts old) (cut counts other)
-      met_is live e = settled_as live (cut counts new) e ∙ ap settled met_cut
+      pub met_is : (live : Bool) → is_live (cut counts new) ≡ live → shown live (cut counts new) ≡ meet (cut counts old) (cut counts other)
+      met_is live e = settled_as live (cut counts new) e ∙ ap normalized met_cut
 
 -- with an empty row
 
-pub union_right : (row other : Sets) → 0 < length row → other ≡ union (emptied row) other
+pub union_right : (row other : Sets) → 0 < length row → other ≡ join (emptied row) other
 union_right row other h = rw (emptied_dead row h) refl
 
-pub union_left : (row other : Sets) → is_live row ≡ true → 0 < length other → row ≡ union row (emptied other)
+pub union_left : (row other : Sets) → is_live row ≡ true → 0 < length other → row ≡ join row (emptied other)
 union_left row other e h = rw (e, emptied_dead other h) refl
 
-pub union_none : (row other : Sets) → 0 < length row → map length row ≡ map length other → emptied row ≡ union (emptied row) (emptied other)
+pub union_none : (row other : Sets) → 0 < length row → map length row ≡ map length other → emptied row ≡ join (emptied row) (emptied other)
 union_none row other h e = rw (emptied_dead row h) (emptied_same row other e)
 
-none_and : (b : Bool) → (b && false) ≡ false
-none_and true = refl
-none_and false = refl
-
-pub common_right : (row other : Sets) → 0 < length row → emptied row ≡ common row (emptied other)
+pub common_right : (row other : Sets) → 0 < length row → emptied row ≡ meet row (emptied other)
 common_right row other h =
-    sym (dead_remade (λ l c b. b && holds (emptied other) l c) row h (λ l c. ap (λ b. holds row l c && b) (emptied_holds other l c) ∙ none_and (holds row l c)))
+    sym (dead_remade (λ l c b. b && holds (emptied other) l c) row h (λ l c. ap (λ b. holds row l c && b) (emptied_holds other l c) ∙ and_false (holds row l c)))
 
-pub common_left : (row other : Sets) → 0 < length row → emptied row ≡ common (emptied row) other
+pub common_left : (row other : Sets) → 0 < length row → emptied row ≡ meet (emptied row) other
 common_left row other h =
     let n : 0 < length (emptied row) = omega (arith, label_in (emptied row) (map length row) (shape_emptied row), label_in row (map length row) refl) in
     sym (dead_remade (λ l c b. b && holds other l c) (emptied row) n (λ l c. ap (λ b. b && holds other l c) (emptied_holds row l c)) ∙ emptied_twice row)
+
+-- bits that all become those of another list
+pub all_taken : (old new other : List Bool) (to : ℕ) → to ≡ length old → length new ≡ length old → length old ≡ length other
+    → ((k : ℕ) → 0 ≤ k → k < to → get_or new k false ≡ get_or other k false) → new ≡ other
+all_taken old new other to e len same taken = ext_get_or false new other (len ∙ same) (λ k h. taken k (omega arith) (omega (arith, h, len, same, e)))
 
 -- what a row is seen as
 
@@ -313,58 +315,58 @@ module _ (live live' : Bool) (counts counts' : List ℕ) (bits bits' : List Bool
 
     pub joined_row : is_live (cut counts bits) ≡ true → is_live (cut counts' bits') ≡ true → (new : List Bool) → length new ≡ length bits
         → ((k : ℕ) → k < length bits → get_or new k false ≡ (get_or bits k false || get_or bits' k false))
-        → (is_live (cut counts new) ≡ true) × (cut counts new ≡ union view other)
+        → (is_live (cut counts new) ≡ true) × (cut counts new ≡ join view other)
     joined_row known known' new len done =
         let t : length bits' ≡ sum counts = sym same_total ∙ total in (
           joined_live counts bits total bits' new t len done known,
-          joined_is counts bits total bits' new t len done known (ap is_live other_cut ∙ known') ∙ ap (λ x. union x (cut counts bits')) mine ∙ ap (union view) theirs,
+          joined_is counts bits total bits' new t len done known (ap is_live other_cut ∙ known') ∙ ap (λ x. join x (cut counts bits')) mine ∙ ap (join view) theirs,
         )
 
     pub met_row : (found : Bool) (new : List Bool) → length new ≡ length bits
         → ((k : ℕ) → k < length bits → get_or new k false ≡ (get_or bits k false && get_or bits' k false))
-        → is_live (cut counts new) ≡ found → shown found (cut counts new) ≡ common view other
+        → is_live (cut counts new) ≡ found → shown found (cut counts new) ≡ meet view other
     met_row found new len done f =
         let t : length bits' ≡ sum counts = sym same_total ∙ total in
-        met_is counts bits total bits' new t len done found f ∙ ap (λ x. common x (cut counts bits')) mine ∙ ap (common view) theirs
+        met_is counts bits total bits' new t len done found f ∙ ap (λ x. meet x (cut counts bits')) mine ∙ ap (meet view) theirs
 
   -- one of them is empty
 
-  pub joined_left : live ≡ true → live' ≡ false → 0 < length counts → is_live (cut counts bits) ≡ true → view ≡ union view other
+  pub joined_left : live ≡ true → live' ≡ false → 0 < length counts → is_live (cut counts bits) ≡ true → view ≡ join view other
   joined_left e f h known =
       let mine : cut counts bits ≡ view = ap (λ b. shown b (cut counts bits)) (sym e) ∙ is in
       let theirs : emptied (cut counts' bits') ≡ other = ap (λ b. shown b (cut counts' bits')) (sym f) ∙ is' in
-      sym mine ∙ union_left (cut counts bits) (cut counts' bits') known (omega (arith, h, ap length same_counts, length-cut counts' bits')) ∙ ap (λ x. union x (emptied (cut counts' bits'))) mine ∙ ap (union view) theirs
+      sym mine ∙ union_left (cut counts bits) (cut counts' bits') known (omega (arith, h, ap length same_counts, length-cut counts' bits')) ∙ ap (λ x. join x (emptied (cut counts' bits'))) mine ∙ ap (join view) theirs
 
-  pub joined_none : live ≡ false → live' ≡ false → 0 < length counts → view ≡ union view other
+  pub joined_none : live ≡ false → live' ≡ false → 0 < length counts → view ≡ join view other
   joined_none e f h =
       let mine : emptied (cut counts bits) ≡ view = ap (λ b. shown b (cut counts bits)) (sym e) ∙ is in
       let theirs : emptied (cut counts' bits') ≡ other = ap (λ b. shown b (cut counts' bits')) (sym f) ∙ is' in
       let shapes : map length (cut counts bits) ≡ map length (cut counts' bits') = shape_cut counts bits (omega (arith, total)) ∙ same_counts ∙ sym (shape_cut counts' bits' (omega (arith, total'))) in
-      sym mine ∙ union_none (cut counts bits) (cut counts' bits') (first_cut h) shapes ∙ ap (λ x. union x (emptied (cut counts' bits'))) mine ∙ ap (union view) theirs
+      sym mine ∙ union_none (cut counts bits) (cut counts' bits') (first_cut h) shapes ∙ ap (λ x. join x (emptied (cut counts' bits'))) mine ∙ ap (join view) theirs
 
-  pub joined_right : live ≡ false → live' ≡ true → 0 < length counts → is_live (cut counts' bits') ≡ true → (is_live (cut counts bits') ≡ true) × (cut counts bits' ≡ union view other)
+  pub joined_right : live ≡ false → live' ≡ true → 0 < length counts → is_live (cut counts' bits') ≡ true → (is_live (cut counts bits') ≡ true) × (cut counts bits' ≡ join view other)
   joined_right e f h known =
       let mine : emptied (cut counts bits) ≡ view = ap (λ b. shown b (cut counts bits)) (sym e) ∙ is in
       let theirs : cut counts bits' ≡ other = other_cut ∙ ap (λ b. shown b (cut counts' bits')) (sym f) ∙ is' in (
         ap is_live other_cut ∙ known,
-        theirs ∙ union_right (cut counts bits) other (first_cut h) ∙ ap (λ x. union x other) mine,
+        theirs ∙ union_right (cut counts bits) other (first_cut h) ∙ ap (λ x. join x other) mine,
       )
 
-  pub met_right : live ≡ true → live' ≡ false → 0 < length counts → emptied (cut counts bits) ≡ common view other
+  pub met_right : live ≡ true → live' ≡ false → 0 < length counts → emptied (cut counts bits) ≡ meet view other
   met_right e f h =
       let mine : cut counts bits ≡ view = ap (λ b. shown b (cut counts bits)) (sym e) ∙ is in
       let theirs : emptied (cut counts' bits') ≡ other = ap (λ b. shown b (cut counts' bits')) (sym f) ∙ is' in
-      common_right (cut counts bits) (cut counts' bits') (first_cut h) ∙ ap (λ x. common x (emptied (cut counts' bits'))) mine ∙ ap (common view) theirs
+      common_right (cut counts bits) (cut counts' bits') (first_cut h) ∙ ap (λ x. meet x (emptied (cut counts' bits'))) mine ∙ ap (meet view) theirs
 
-  pub met_left : live ≡ false → 0 < length counts → view ≡ common view other
+  pub met_left : live ≡ false → 0 < length counts → view ≡ meet view other
   met_left e h =
       let mine : emptied (cut counts bits) ≡ view = ap (λ b. shown b (cut counts bits)) (sym e) ∙ is in
-      sym mine ∙ common_left (cut counts bits) other (first_cut h) ∙ ap (λ x. common x other) mine
+      sym mine ∙ common_left (cut counts bits) other (first_cut h) ∙ ap (λ x. meet x other) mine
 
-  pub joined_empty : live' ≡ false → 0 < length counts → (live ≡ true → is_live (cut counts bits) ≡ true) → view ≡ union view other
+  pub joined_empty : live' ≡ false → 0 < length counts → (live ≡ true → is_live (cut counts bits) ≡ true) → view ≡ join view other
   joined_empty f h known = by live refl
     where
-      by : (b : Bool) → live ≡ b → view ≡ union view other
+      by : (b : Bool) → live ≡ b → view ≡ join view other
       by true e = joined_left e f h (known e)
       by false e = joined_none e f h
 

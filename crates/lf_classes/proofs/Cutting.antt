@@ -7,6 +7,7 @@ use Rattle.std.proofs.lemmas.List.Sums.{sum_by-cons, sum_by_more_le}
 use Rattle.lf_semantics.specs.ClassRows.{Sets, emptied, holds, is_live, remade}
 use Rattle.lf_semantics.proofs.RowLaws.{any_at, holds-remade, shape_remade}
 use Rattle.lf_classes.specs.Cut.{cut, start}
+use Rattle.lf_laws.proofs.Booleans.{and_both, and_false}
 
 sum_cons : (n : ℕ) (ns : List ℕ) → sum (n ∷ ns) ≡ n + sum ns
 sum_cons n ns = sum_by-cons (λ x. x) n ns
@@ -86,11 +87,6 @@ cut_remade f counts old new h k same =
 
 -- rows that are empty, and rows that aren't
 
-both_true : (x y : Bool) → (x && y) ≡ true → (x ≡ true) × (y ≡ true)
-both_true true true e = (refl, refl)
-both_true true false e = absurd (cc)
-both_true false y e = absurd (cc)
-
 some_on : (xs : List Bool) → list_any (λ on. on) xs ≡ true → (c : ℕ) × (c < length xs) × (get_or xs c false ≡ true)
 some_on [] e = absurd (cc)
 some_on (true ∷ xs) e = (0, omega arith, refl)
@@ -102,8 +98,8 @@ none_on (x ∷ xs) h = rw (h 0 (omega arith)) (none_on xs (λ c b. h (suc c) (om
 
 pub live_at : (row : Sets) (l : ℕ) → is_live row ≡ true → l < length row → (c : ℕ) × (c < length (get_or row l [])) × (holds row l c ≡ true)
 live_at [] l e h = absurd (omega arith)
-live_at (set ∷ row) zero e h = some_on set (both_true (list_any (λ on. on) set) (is_live row) e).0
-live_at (set ∷ row) (suc l) e h = live_at row l (both_true (list_any (λ on. on) set) (is_live row) e).1 (omega arith)
+live_at (set ∷ row) zero e h = some_on set (and_both (list_any (λ on. on) set) (is_live row) e).0
+live_at (set ∷ row) (suc l) e h = live_at row l (and_both (list_any (λ on. on) set) (is_live row) e).1 (omega arith)
 
 pub live_when : (row : Sets) → ((l : ℕ) → l < length row → (c : ℕ) × (holds row l c ≡ true)) → is_live row ≡ true
 live_when [] h = refl
@@ -111,10 +107,6 @@ live_when (set ∷ row) h =
     let first = h 0 (omega arith) in
     let rest : is_live row ≡ true = live_when row (λ l b. h (suc l) (omega arith)) in
     rw (any_at set first.0 first.1, rest) refl
-
-and_false : (b : Bool) → (b && false) ≡ false
-and_false true = refl
-and_false false = refl
 
 pub dead_when : (row : Sets) (l : ℕ) → l < length row → ((c : ℕ) → c < length (get_or row l []) → holds row l c ≡ false) → is_live row ≡ false
 dead_when [] l h none = absurd (omega arith)

@@ -4,13 +4,14 @@ use Rattle.std.specs.List.{sum}
 use Rattle.std.proofs.lemmas.Bool.{cases_eq, cases_lt}
 use Rattle.std.proofs.lemmas.Bool.Decides.{Decides-eqb}
 use Rattle.std.proofs.lemmas.List.Sums.{sum_by-cons}
-use Rattle.lf_semantics.specs.ClassRows.{Sets, emptied, holds, is_live, narrowed, remade, replaced, set_to, settled}
-use Rattle.lf_semantics.specs.Environments.{Under}
+use Rattle.lf_semantics.specs.ClassRows.{Sets, emptied, holds, is_live, narrowed, remade, replaced, set_to, normalized}
+use Rattle.lf_semantics.specs.Environments.{Leq}
 use Rattle.lf_semantics.proofs.Places.{eqb-other}
 use Rattle.lf_semantics.proofs.RowLaws.{holds-remade, holds_within, shape_emptied, shape_remade}
 use Rattle.lf_classes.specs.Cut.{cut, shown, start}
 use Rattle.lf_classes.proofs.Cutting.{count_at, cut_remade, dead_when, emptied_dead, emptied_holds, emptied_remade, emptied_twice, holds-cut, label_in, length-cut, live_at, same_sets, shape_cut, start_before}
 use Rattle.lf_classes.proofs.Changes.{class_within, dead_remade, label_within, live_remade, live_view, same_counts, same_total, settled_as, shape_view}
+use Rattle.lf_laws.proofs.Booleans.{and_false, and_true, clash}
 
 -- the bits of one label are made anew, and those of the others are as they were
 module _ (counts : List ℕ) (old new : List Bool) (label : ℕ) (f : ℕ → ℕ → Bool → Bool) (total : length old ≡ sum counts) (h : label < length counts) (len : length new ≡ length old)
@@ -42,8 +43,8 @@ module _ (counts : List ℕ) (old new : List Bool) (label : ℕ) (f : ℕ → �
       ap is_live changed_cut ∙ live_remade f (cut counts old) label e (λ l c n. others l c true n) r.0 (sym (ap (λ x. holds x label r.0) changed_cut) ∙ r.1)
   changed_live false e some none = none refl
 
-  pub changed_is : (live : Bool) → is_live (cut counts new) ≡ live → shown live (cut counts new) ≡ settled (remade f (cut counts old))
-  changed_is live e = settled_as live (cut counts new) e ∙ ap settled changed_cut
+  pub changed_is : (live : Bool) → is_live (cut counts new) ≡ live → shown live (cut counts new) ≡ normalized (remade f (cut counts old))
+  changed_is live e = settled_as live (cut counts new) e ∙ ap normalized changed_cut
 
 -- the row after a change, by whether the label has a class left
 pub changed_row : (live left : Bool) (counts : List ℕ) (bits new : List Bool) (view : Sets) (label from to : ℕ) (f : ℕ → ℕ → Bool → Bool)
@@ -56,7 +57,7 @@ pub changed_row : (live left : Bool) (counts : List ℕ) (bits new : List Bool) 
     → ((l c : ℕ) (on : Bool) → l ≢ label → f l c on ≡ on)
     → (left ≡ true → (c : ℕ) × (holds (cut counts new) label c ≡ true))
     → (left ≡ false → is_live (cut counts new) ≡ false)
-    → (is_live (cut counts new) ≡ left) × (shown left (cut counts new) ≡ settled (remade f view))
+    → (is_live (cut counts new) ≡ left) × (shown left (cut counts new) ≡ normalized (remade f view))
 changed_row live left counts bits new view label from to f is total e known h p q len inside below above others some none =
     let l = label_within live counts bits view is total label h in
     let old : cut counts bits ≡ view = ap (λ b. shown b (cut counts bits)) (sym e) ∙ is in
@@ -65,7 +66,7 @@ changed_row live left counts bits new view label from to f is total e known h p 
     let below' : (k : ℕ) → k < start counts label → get_or new k false ≡ get_or bits k false = λ k i. below k (omega (arith, i, p)) in
     let above' : (k : ℕ) → start counts label + get_or counts label 0 ≤ k → get_or new k false ≡ get_or bits k false = λ k i. above k (omega (arith, i, q)) in
     let found : is_live (cut counts new) ≡ left = changed_live counts bits new label f total l len inside' below' above' others left known some none in
-    (found, changed_is counts bits new label f total l len inside' below' above' others left found ∙ ap (λ x. settled (remade f x)) old)
+    (found, changed_is counts bits new label f total l len inside' below' above' others left found ∙ ap (λ x. normalized (remade f x)) old)
 
 -- the four ways in which classes are made anew, at the label itself and at the others
 
@@ -77,10 +78,6 @@ replacing test label l c on = cond (eqb label l) (test l c) on
 
 itself : (label : ℕ) → eqb label label ≡ true
 itself label = (Decides-eqb label label).1 refl
-
-and_true : (b : Bool) → (b && true) ≡ b
-and_true true = refl
-and_true false = refl
 
 pub narrowing_here : (test : ℕ → ℕ → Bool) (label c : ℕ) (on : Bool) → narrowing test label label c on ≡ (on && test label c)
 narrowing_here test label c on = ap (λ b. on && (not b || test label c)) (itself label)
@@ -111,7 +108,7 @@ emptied_view true row = refl
 emptied_view false row = sym (emptied_twice row)
 
 -- a label loses its last class
-pub emptied_label : (f : ℕ → ℕ → Bool → Bool) (row : Sets) (label : ℕ) → label < length row → ((c : ℕ) → f label c (holds row label c) ≡ false) → emptied row ≡ settled (remade f row)
+pub emptied_label : (f : ℕ → ℕ → Bool → Bool) (row : Sets) (label : ℕ) → label < length row → ((c : ℕ) → f label c (holds row label c) ≡ false) → emptied row ≡ normalized (remade f row)
 emptied_label f row label h none =
     let i : label < length (remade f row) = omega (arith, h, label_in (remade f row) (map length row) (shape_remade f 0 row), label_in row (map length row) refl) in
     let same : length (get_or (remade f row) label []) ≡ length (get_or row label []) =
@@ -119,8 +116,8 @@ emptied_label f row label h none =
     let dead : is_live (remade f row) ≡ false = dead_when (remade f row) label i (λ c k. holds-remade f row label c h (omega (arith, same)) ∙ none c) in
     sym (rw dead (emptied_remade f row))
 
-pub replaced_live : (test : ℕ → ℕ → Bool) (label : ℕ) (row : Sets) → is_live row ≡ true → settled (remade (replacing test label) row) ≡ replaced (λ l. eqb label l) test row
-replaced_live test label row e = sym (ap (λ b. cond b (settled (remade (replacing test label) row)) row) e)
+pub replaced_live : (test : ℕ → ℕ → Bool) (label : ℕ) (row : Sets) → is_live row ≡ true → normalized (remade (replacing test label) row) ≡ replaced (λ l. eqb label l) test row
+replaced_live test label row e = sym (ap (λ b. cond b (normalized (remade (replacing test label) row)) row) e)
 
 -- with a row of the same shape
 
@@ -150,16 +147,13 @@ class_of_place (n ∷ counts) k h = elim (cases_lt k n) [
 
 module _ (live live' : Bool) (counts counts' : List ℕ) (bits bits' : List Bool) (view other : Sets) (is : shown live (cut counts bits) ≡ view) (is' : shown live' (cut counts' bits') ≡ other)
     (total : length bits ≡ sum counts) (total' : length bits' ≡ sum counts') (same : counts ≡ counts') (e : live ≡ true) (e' : live' ≡ true) where
-  differ : (b : Bool) → b ≡ true → b ≡ false → ⊥
-  differ b f g = let q : true ≡ false = sym f ∙ g in cc
-
   theirs : shown live' (cut counts bits') ≡ other
   theirs = ap (λ ns. shown live' (cut ns bits')) same ∙ is'
 
   theirs_total : length bits' ≡ sum counts
   theirs_total = total' ∙ ap sum (sym same)
 
-  pub under_bits : 0 < length counts → is_live (cut counts bits) ≡ true → ((k : ℕ) → get_or bits' k false ≡ true → get_or bits k false ≡ true) → Under other view
+  pub under_bits : 0 < length counts → is_live (cut counts bits) ≡ true → ((k : ℕ) → get_or bits' k false ≡ true → get_or bits k false ≡ true) → Leq other view
   under_bits some known all live_other = (
     live_view live counts bits view is total some (λ f. known) ∙ e,
     λ l c on.
@@ -169,12 +163,12 @@ module _ (live live' : Bool) (counts counts' : List ℕ) (bits bits' : List Bool
         sym (class_bit live counts bits view is total l c e h k) ∙ all (start counts l + c) (class_bit live' counts bits' other theirs theirs_total l c e' h k ∙ on),
   )
 
-  pub not_under : (k : ℕ) × (k < length bits') × (get_or bits' k false ≡ true) × (get_or bits k false ≡ false) → is_live other ≡ true → Under other view → ⊥
+  pub not_under : (k : ℕ) × (k < length bits') × (get_or bits' k false ≡ true) × (get_or bits k false ≡ false) → is_live other ≡ true → Leq other view → ⊥
   not_under r live_other under =
       let p = class_of_place counts r.0 (omega (arith, r.1, theirs_total)) in
       let on : holds other p.0 p.1 ≡ true = sym (class_bit live' counts bits' other theirs theirs_total p.0 p.1 e' p.2 p.3) ∙ ap (λ k. get_or bits' k false) p.4 ∙ r.2 in
       let off : holds view p.0 p.1 ≡ false = sym (class_bit live counts bits view is total p.0 p.1 e p.2 p.3) ∙ ap (λ k. get_or bits k false) p.4 ∙ r.3 in
-      differ (holds view p.0 p.1) ((under live_other).1 p.0 p.1 on) off
+      clash (holds view p.0 p.1) ((under live_other).1 p.0 p.1 on) off
 
 -- the row after a label's classes are narrowed or replaced, as it is seen
 
@@ -311,10 +305,6 @@ same_remade f g row same =
     let d : c < length (get_or row l []) = omega (arith, k, count_at (remade f row) (map length row) l (shape_remade f 0 row) h, count_at row (map length row) l refl b) in
     holds-remade f row l c b d ∙ same l c ∙ sym (holds-remade g row l c b d))
 
-and_false : (b : Bool) → (b && false) ≡ false
-and_false true = refl
-and_false false = refl
-
 module _ (row : Sets) (label class : ℕ) where
   abbrev alone : ℕ → ℕ → Bool
   alone l c = eqb c class
@@ -343,7 +333,7 @@ module _ (row : Sets) (label class : ℕ) where
 
   -- the class that it has
   pub class_alone : is_live row ≡ true → holds row label class ≡ true → set_to label class row ≡ narrowed (λ l c. not (eqb label l) || eqb c class) row
-  class_alone live on = sym (replaced_live alone label row live) ∙ ap settled (same_remade (replacing alone label) (narrowing alone label) row (same_class on))
+  class_alone live on = sym (replaced_live alone label row live) ∙ ap normalized (same_remade (replacing alone label) (narrowing alone label) row (same_class on))
 
   -- and one that it hasn't
   pub class_lacked : label < length row → holds row label class ≡ false → emptied row ≡ narrowed (λ l c. not (eqb label l) || eqb c class) row

@@ -8,9 +8,9 @@ use Rattle.std.proofs.lemmas.List.{ext_get_or, get_or-append-add, get_or_append_
 use Rattle.std.proofs.lemmas.List.Elements.{filter-append}
 use Rattle.std.proofs.lemmas.List.Folds.{position_or_len_push}
 use Rattle.lf_ast.specs.Labels.{Bytes}
-use Rattle.lf_semantics.specs.Listing.{Listing, first_seen, label_of, labels_met, listing_of, named_at, place, texts_met}
-use Rattle.lf_semantics.specs.Texts.{metric}
-use Rattle.lf_semantics.specs.Walk.{Met}
+use Rattle.lf_semantics.specs.Listing.{Listing, first_seen, label_of, labels_mentioned, listing_of, named_at, place, texts_mentioned}
+use Rattle.lf_ast.specs.Selectors.{metric}
+use Rattle.lf_semantics.specs.Mentions.{Mention}
 use Rattle.lf_semantics.proofs.ListingLaws.{is_listing}
 use Rattle.lf_semantics.proofs.Members.{same_true, true_same}
 use Rattle.lf_semantics.proofs.Places.{place_at, place_le, same_text}
@@ -18,10 +18,10 @@ use Rattle.lf_classes.specs.Meetings.{met_all, nothing_met, with_label, with_met
 use Rattle.lf_classes.proofs.Seen.{first_seen-more, first_seen-push, some_texts, with_some}
 
 -- the listing has what these items meet
-record Lists (items : List Met) (seen : Listing) : Type 0 where
-  pub names : seen.names ≡ labels_met items
+record Lists (items : List Mention) (seen : Listing) : Type 0 where
+  pub names : seen.names ≡ labels_mentioned items
   pub count : length seen.named ≡ length seen.names
-  pub texts : (label : Bytes) → named_at seen (label_of seen label) ≡ texts_met items label
+  pub texts : (label : Bytes) → named_at seen (label_of seen label) ≡ texts_mentioned items label
 
 -- texts of a label
 
@@ -119,27 +119,27 @@ module _ (s : Listing) (label : Bytes) (count : length s.named ≡ length s.name
 
 -- one more item
 
-module _ (items : List Met) (m : Met) where
+module _ (items : List Mention) (m : Mention) where
   abbrev before : Bytes → List Bytes
-  before label = some_texts (flat_map (λ (x : Met). x.texts) (filter (λ (x : Met). bytes_eq x.label label) items))
+  before label = some_texts (flat_map (λ (x : Mention). x.texts) (filter (λ (x : Mention). bytes_eq x.label label) items))
 
   -- a single label and its texts
   abbrev own : Bool → List Bytes
-  own same = flat_map (λ (x : Met). x.texts) (cond same (m ∷ []) [])
+  own same = flat_map (λ (x : Mention). x.texts) (cond same (m ∷ []) [])
 
-  texts_more : (label : Bytes) → texts_met (items ++ m ∷ []) label ≡ first_seen (before label ++ some_texts (own (bytes_eq m.label label)))
+  texts_more : (label : Bytes) → texts_mentioned (items ++ m ∷ []) label ≡ first_seen (before label ++ some_texts (own (bytes_eq m.label label)))
   texts_more label =
-      let test : Met → Bool = λ x. bytes_eq x.label label in
-      ap (λ ms. first_seen (some_texts (flat_map (λ (x : Met). x.texts) ms))) (filter-append test items (m ∷ []))
-      ∙ ap (λ ts. first_seen (some_texts ts)) (flat_map-append (λ (x : Met). x.texts) (filter test items) (cond (bytes_eq m.label label) (m ∷ []) []))
-      ∙ ap first_seen (filter-append (λ t. not (bytes_eq t [])) (flat_map (λ (x : Met). x.texts) (filter test items)) (own (bytes_eq m.label label)))
+      let test : Mention → Bool = λ x. bytes_eq x.label label in
+      ap (λ ms. first_seen (some_texts (flat_map (λ (x : Mention). x.texts) ms))) (filter-append test items (m ∷ []))
+      ∙ ap (λ ts. first_seen (some_texts ts)) (flat_map-append (λ (x : Mention). x.texts) (filter test items) (cond (bytes_eq m.label label) (m ∷ []) []))
+      ∙ ap first_seen (filter-append (λ t. not (bytes_eq t [])) (flat_map (λ (x : Mention). x.texts) (filter test items)) (own (bytes_eq m.label label)))
 
-  texts_of_own : (label : Bytes) → bytes_eq m.label label ≡ true → texts_met (items ++ m ∷ []) label ≡ fold with_some (texts_met items label) m.texts
+  texts_of_own : (label : Bytes) → bytes_eq m.label label ≡ true → texts_mentioned (items ++ m ∷ []) label ≡ fold with_some (texts_mentioned items label) m.texts
   texts_of_own label e =
       texts_more label ∙ ap (λ b. first_seen (before label ++ some_texts (own b))) e ∙ ap (λ ts. first_seen (before label ++ some_texts ts)) (append-nil m.texts)
       ∙ first_seen-more (before label) m.texts
 
-  texts_of_other : (label : Bytes) → bytes_eq m.label label ≡ false → texts_met (items ++ m ∷ []) label ≡ texts_met items label
+  texts_of_other : (label : Bytes) → bytes_eq m.label label ≡ false → texts_mentioned (items ++ m ∷ []) label ≡ texts_mentioned items label
   texts_of_other label e = texts_more label ∙ ap (λ b. first_seen (before label ++ some_texts (own b))) e ∙ ap first_seen (append-nil (before label))
 
   module _ (s : Listing) (lists : Lists items s) where
@@ -155,12 +155,12 @@ module _ (items : List Met) (m : Met) where
     within : k < length s1.named
     within = let a = label_within s m.label lists.count in let b = label_length s m.label lists.count in omega (arith, a, b)
 
-    texts_by : (label : Bytes) (b : Bool) → bytes_eq m.label label ≡ b → named_at (with_met s m) (place s1.names label) ≡ texts_met (items ++ m ∷ []) label
+    texts_by : (label : Bytes) (b : Bool) → bytes_eq m.label label ≡ b → named_at (with_met s m) (place s1.names label) ≡ texts_mentioned (items ++ m ∷ []) label
     texts_by label true e =
         let is : m.label ≡ label = true_same m.label label e in
         let at : place s1.names label ≡ k = ap (place s1.names) (sym is) ∙ label_same s m.label lists.count in
-        let had : named_at s1 k ≡ texts_met items label =
-        ap (named_at s1) (sym (label_same s m.label lists.count)) ∙ label_texts s m.label lists.count m.label ∙ lists.texts m.label ∙ ap (texts_met items) is in
+        let had : named_at s1 k ≡ texts_mentioned items label =
+        ap (named_at s1) (sym (label_same s m.label lists.count)) ∙ label_texts s m.label lists.count m.label ∙ lists.texts m.label ∙ ap (texts_mentioned items) is in
         ap (named_at (with_met s m)) at ∙ texts_same k s1 m.texts within ∙ ap (λ ts. fold with_some ts m.texts) had ∙ sym (texts_of_own label e)
     texts_by label false e =
         let apart : place s1.names label ≢ k = λ same.
@@ -171,8 +171,8 @@ module _ (items : List Met) (m : Met) where
     lists_more : Lists (items ++ m ∷ []) (with_met s m)
     lists_more = record {
       names =
-          names_of ∙ ap (λ names. with_text names m.label) lists.names ∙ sym (first_seen-push (metric ∷ map (λ (x : Met). x.label) items) m.label)
-          ∙ ap (λ labels. first_seen (metric ∷ labels)) (sym (map-append (λ (x : Met). x.label) items (m ∷ [])));
+          names_of ∙ ap (λ names. with_text names m.label) lists.names ∙ sym (first_seen-push (metric ∷ map (λ (x : Mention). x.label) items) m.label)
+          ∙ ap (λ labels. first_seen (metric ∷ labels)) (sym (map-append (λ (x : Mention). x.label) items (m ∷ [])));
       count = texts_length k s1 m.texts ∙ label_length s m.label lists.count ∙ ap length (sym names_of);
       texts = λ label. ap (λ names. named_at (with_met s m) (place names label)) names_of ∙ texts_by label (bytes_eq m.label label) refl;
     }
@@ -184,13 +184,13 @@ lists_none = record {
   texts = λ label. elim (bytes_eq metric label) as (λ b. get_or {A = List Bytes} ([] ∷ []) (cond (not b) 1 0) [] ≡ []) [ true ↦ refl | false ↦ refl ];
 }
 
-lists_behind : (front items : List Met) (s : Listing) → Lists front s → Lists (front ++ items) (met_all s items)
-lists_behind front [] s lists = let P : List Met → Type 0 = λ ms. Lists ms s in subst P (sym (append-nil front)) lists
+lists_behind : (front items : List Mention) (s : Listing) → Lists front s → Lists (front ++ items) (met_all s items)
+lists_behind front [] s lists = let P : List Mention → Type 0 = λ ms. Lists ms s in subst P (sym (append-nil front)) lists
 lists_behind front (m ∷ items) s lists =
-    let P : List Met → Type 0 = λ ms. Lists ms (met_all s (m ∷ items)) in
+    let P : List Mention → Type 0 = λ ms. Lists ms (met_all s (m ∷ items)) in
     subst P (append_assoc front (m ∷ []) items) (lists_behind (front ++ m ∷ []) items (with_met s m) (lists_more front m s lists))
 
-lists_all : (items : List Met) → Lists items (met_all nothing_met items)
+lists_all : (items : List Mention) → Lists items (met_all nothing_met items)
 lists_all items = lists_behind [] items nothing_met lists_none
 
 same_listing : (names names' : List Bytes) (named named' : List (List Bytes)) → names ≡ names' → named ≡ named' → ◌≡◌ {A = Listing} (record { names = names; named = named }) (record { names = names'; named = named' })
@@ -200,13 +200,13 @@ same_listing names names' named named' e f =
     ap by_names e ∙ ap by_named f
 
 -- all that was met, and `*`
-pub met_listing : (items : List Met) → with_star (met_all nothing_met items) ≡ listing_of items
+pub met_listing : (items : List Mention) → with_star (met_all nothing_met items) ≡ listing_of items
 met_listing items =
     let s : Listing = met_all nothing_met items in
     let lists : Lists items s = lists_all items in
-    let long : length s.named ≡ length (map (texts_met items) (labels_met items)) = lists.count ∙ ap length lists.names ∙ sym (length-map (labels_met items) (texts_met items)) in
-    let each : (k : ℕ) → k < length s.named → get_or s.named k [] ≡ get_or (map (texts_met items) (labels_met items)) k [] = λ k h.
-    let under : k < length (labels_met items) = omega (arith, h, lists.count, ap length lists.names) in
-    let at : label_of s (get_or (labels_met items) k []) ≡ k = ap (λ names. place names (get_or (labels_met items) k [])) lists.names ∙ place_at (labels_met items) k under (λ j below. (is_listing items).distinct j k below under) in
-    ap (named_at s) (sym at) ∙ lists.texts (get_or (labels_met items) k []) ∙ sym (get_or-map (texts_met items) (labels_met items) k [] [] under) in
-    same_listing s.names (labels_met items) (s.named ++ [] ∷ []) (map (texts_met items) (labels_met items) ++ [] ∷ []) lists.names (ap (λ ts. ts ++ [] ∷ []) (ext_get_or [] s.named (map (texts_met items) (labels_met items)) long each))
+    let long : length s.named ≡ length (map (texts_mentioned items) (labels_mentioned items)) = lists.count ∙ ap length lists.names ∙ sym (length-map (labels_mentioned items) (texts_mentioned items)) in
+    let each : (k : ℕ) → k < length s.named → get_or s.named k [] ≡ get_or (map (texts_mentioned items) (labels_mentioned items)) k [] = λ k h.
+    let under : k < length (labels_mentioned items) = omega (arith, h, lists.count, ap length lists.names) in
+    let at : label_of s (get_or (labels_mentioned items) k []) ≡ k = ap (λ names. place names (get_or (labels_mentioned items) k [])) lists.names ∙ place_at (labels_mentioned items) k under (λ j below. (is_listing items).distinct j k below under) in
+    ap (named_at s) (sym at) ∙ lists.texts (get_or (labels_mentioned items) k []) ∙ sym (get_or-map (texts_mentioned items) (labels_mentioned items) k [] [] under) in
+    same_listing s.names (labels_mentioned items) (s.named ++ [] ∷ []) (map (texts_mentioned items) (labels_mentioned items) ++ [] ∷ []) lists.names (ap (λ ts. ts ++ [] ∷ []) (ext_get_or [] s.named (map (texts_mentioned items) (labels_mentioned items)) long each))

@@ -6,18 +6,15 @@ use Rattle.std.proofs.lemmas.Bool.Decides.{Decides-eqb}
 use Rattle.lf_semantics.specs.ClassRows.{Sets, indexed_from}
 use Rattle.lf_semantics.specs.Listing.{Listing}
 use Rattle.lf_semantics.specs.RowTable.{has_class}
-use Rattle.lf_semantics.proofs.EffectLies.{has_class_at}
+use Rattle.lf_semantics.proofs.EffectsRepresent.{has_class_at}
 use Rattle.lf_semantics.proofs.Places.{eqb-other}
 use Rattle.lf_classes.specs.Cut.{cut, shown, start}
 use Rattle.lf_classes.proofs.Changes.{class_within, label_within}
 use Rattle.lf_classes.proofs.LabelChanges.{class_bit, empty_holds}
+use Rattle.lf_laws.proofs.Booleans.{not_true}
 
 abbrev pub is_text : ℕ → Bool
 is_text class = not (eqb class 0)
-
-not_on : (b : Bool) → (b ≡ true → ⊥) → b ≡ false
-not_on true n = absurd (n refl)
-not_on false n = refl
 
 pub none_set : (test : ℕ → Bool) (set : List Bool) (k : ℕ) → ((c : ℕ) → c < length set → test (k + c) ≡ true → get_or set c false ≡ false)
     → list_any (λ on. on) (indexed_from (λ class on. on && test class) k set) ≡ false
@@ -30,7 +27,7 @@ none_set test (on ∷ set) k none =
 
     by : (b : Bool) → on ≡ b → list_any (λ on. on) (indexed_from (λ class on. on && test class) (suc k) set) ≡ false
         → ((b && test k) || list_any (λ on. on) (indexed_from (λ class on. on && test class) (suc k) set)) ≡ false
-    by true e rest = rw (not_on (test k) (first e)) rest
+    by true e rest = rw (not_true (test k) (first e)) rest
     by false e rest = rest
 
 some_text : (c : ℕ) → 0 < c → is_text c ≡ true

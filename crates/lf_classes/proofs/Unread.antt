@@ -1,24 +1,17 @@
 -- What a pattern that can be read passes, and one that can't.
-use Rattle.std.proofs.Common.{◌≡◌, Bool, true, false, not, ◌&&◌, ◌||◌, List, ℕ, Option, Some, None, is_some, refl, sym, ◌∙◌, ap}
+use Rattle.std.proofs.Common.{◌≡◌, Bool, true, false, not, ◌&&◌, ◌||◌, List, ℕ, Option, Some, None, is_some, refl, sym, ap}
 use Rattle.std.specs.Option.{option_map_or}
 use Rattle.std.specs.List.{list_any}
 use Rattle.std.specs.Str.{bytes_eq}
 use Rattle.lf_base.specs.declared.kind.Kind.TheVariants.{BadPattern}
 use Rattle.lf_base.specs.declared.place.Span.{Span}
-use Rattle.lf_ast.specs.Breaches.{fault}
-use Rattle.lf_ast.specs.Judging.{when}
+use Rattle.lf_base.specs.Faults.{fault, when}
 use Rattle.lf_classes.specs.Checking.{unread_fault}
 use Rattle.lf_pattern.specs.Matching.{IsRead, is_read, matches}
 use Rattle.lf_pattern.specs.Read.{reading}
 use Rattle.lf_pattern.specs.Scan.{alternatives_of}
 use Rattle.lf_pattern.proofs.GroupLaws.{read_is}
-
-clash : (b : Bool) → b ≡ true → b ≡ false → ⊥
-clash b e f = let q : true ≡ false = sym e ∙ f in cc
-
-is_false : (b : Bool) → (b ≡ true → ⊥) → b ≡ false
-is_false true n = absurd (n refl)
-is_false false n = refl
+use Rattle.lf_laws.proofs.Booleans.{clash, not_true}
 
 neither : {A B : Type 0} (f : A → Bool) (g : B → Bool) (a : Option A) (b : Option B) → (is_some a || is_some b) ≡ false → option_map_or f a (option_map_or g b false) ≡ false
 neither f g None None e = refl
@@ -27,7 +20,7 @@ neither f g (Some x) b e = absurd (clash true refl e)
 
 -- a pattern that can't be read
 pub unread : (p : List ℕ) → (IsRead p → ⊥) → is_read p ≡ false
-unread p n = is_false (is_read p) (λ e. n ((read_is p).0 e))
+unread p n = not_true (is_read p) (λ e. n ((read_is p).0 e))
 
 -- it matches nothing
 pub unread_matches : (p value : List ℕ) → is_read p ≡ false → matches p value ≡ false

@@ -5,6 +5,7 @@ use Rattle.std.specs.Int.{bit_at, bit_not}
 use Rattle.std.specs.Prelude.{bit_and, bit_or}
 use Rattle.std.proofs.lemmas.Nat.Bits.{bit_at_and, bit_at_or, bit_at_not, bit_at-lt, bit_at-zero, same_from_bits_below}
 use Rattle.lf_classes.specs.Bits.{bit}
+use Rattle.lf_laws.proofs.Booleans.{and_both}
 
 both_on : (x y : ℕ) → x < 2 → y < 2 → eqb (min x y) 1 ≡ (eqb x 1 && eqb y 1)
 both_on zero zero h k = refl
@@ -64,11 +65,6 @@ look f (suc n) = by (f n) refl (look f n)
     by false e (inl r) = inl (r.0, omega (arith, r.1), r.2)
     by false e (inr r) = inr (last e r)
 
-both_true : (x y : Bool) → (x && y) ≡ true → (x ≡ true) × (y ≡ true)
-both_true true true e = (refl, refl)
-both_true true false e = absurd (cc)
-both_true false y e = absurd (cc)
-
 not_both : (x y : Bool) → (x && y) ≡ false → y ≡ true → x ≡ false
 not_both true true e h = absurd (cc)
 not_both true false e h = absurd (cc)
@@ -77,7 +73,7 @@ not_both false y e h = refl
 -- what a word that isn't 0 under a mask has
 pub some_met : (word mask : ℕ) → bit_and word mask < 2 ^ 64 → bit_and word mask ≢ 0 → (i : ℕ) × (i < 64) × (bit word i ≡ true) × (bit mask i ≡ true)
 some_met word mask h n = elim (look (bit (bit_and word mask)) 64) [
-  | inl r ↦ (let both = both_true (bit word r.0) (bit mask r.0) (sym (bit-and word mask r.0) ∙ r.2) in (r.0, r.1, both.0, both.1))
+  | inl r ↦ (let both = and_both (bit word r.0) (bit mask r.0) (sym (bit-and word mask r.0) ∙ r.2) in (r.0, r.1, both.0, both.1))
   | inr r ↦ absurd (n (all_off (bit_and word mask) h r))
 ]
 
@@ -122,15 +118,3 @@ in_picked rest other mask i none on =
 pub out_picked : (word rest other mask i : ℕ) → bit rest i ≡ bit word i → bit mask i ≡ false → bit (bit_or rest (bit_and other mask)) i ≡ bit word i
 out_picked word rest other mask i same off =
     bit-or rest (bit_and other mask) i ∙ left_alone (bit rest i) (bit (bit_and other mask) i) (bit-and other mask i ∙ none_in (bit other i) (bit mask i) off) ∙ same
-
--- bits that are filled by a mask
-
-right_on : (x y : Bool) → y ≡ true → (x || y) ≡ true
-right_on true y e = refl
-right_on false y e = e
-
-pub kept_filled : (word mask i : ℕ) → bit mask i ≡ false → bit (bit_or word mask) i ≡ bit word i
-kept_filled word mask i off = bit-or word mask i ∙ left_alone (bit word i) (bit mask i) off
-
-pub on_filled : (word mask i : ℕ) → bit mask i ≡ true → bit (bit_or word mask) i ≡ true
-on_filled word mask i on = bit-or word mask i ∙ right_on (bit word i) (bit mask i) on

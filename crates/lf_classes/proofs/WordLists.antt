@@ -1,13 +1,12 @@
 -- Bits in lists of words.
-use Rattle.std.proofs.Common.{◌≡◌, ◌≢◌, ℕ, zero, suc, ◌+◌, ◌*◌, ◌/◌, ◌%◌, ◌<◌, ◌≤◌, Bool, true, false, ◌&&◌, ◌||◌, List, [], ◌∷◌, length, replicate, get_or, inl, inr, refl, sym, ◌∙◌, ap, arith, length-set}
-use Rattle.std.specs.Prelude.{bit_and, bit_or}
+use Rattle.std.proofs.Common.{◌≡◌, ◌≢◌, ℕ, zero, suc, ◌+◌, ◌*◌, ◌/◌, ◌%◌, ◌<◌, ◌≤◌, Bool, true, false, List, [], ◌∷◌, length, replicate, get_or, inl, inr, refl, sym, ◌∙◌, ap, arith, length-set}
 use Rattle.std.proofs.Math.ListN.{set}
 use Rattle.std.proofs.Math.Nat.{div-add-mod}
 use Rattle.std.proofs.lemmas.Bool.{cases_eq, cases_lt}
-use Rattle.std.proofs.lemmas.List.{same_lists, get_or-replicate, get_or-set_same, get_or-set_other, length-replicate, ext_get_or}
+use Rattle.std.proofs.lemmas.List.{same_lists, get_or-replicate, get_or-set_same, get_or-set_other, length-replicate}
 use Rattle.std.proofs.lemmas.List.FromFn.{get_or-map-range_with_len, length-map-range_with_len}
 use Rattle.lf_classes.specs.Bits.{bit, bit_of, bits_of}
-use Rattle.lf_classes.proofs.WordBits.{bit-and, bit-or}
+use Rattle.lf_laws.proofs.Booleans.{clash}
 
 pub length_bits : (words : List ℕ) (len : ℕ) → length (bits_of words len) ≡ len
 length_bits words len = length-map-range_with_len (bit_of words) 0 len
@@ -121,15 +120,12 @@ at_place words number i h =
     let m : (64 * number + i) % 64 ≡ i = omega (arith, div-add-mod (64 * number + i) 64) in
     bit_alone words number (64 * number + i) d ∙ ap (bit (get_or words number 0)) m
 
--- the bit that a word gets from another, and the one that it keeps with it
-pub taken_here : (others : List ℕ) (number i w : ℕ) → i < 64 → bit w i ≡ bit (get_or others number 0) i → bit w i ≡ bit_of others (64 * number + i)
-taken_here others number i w h e = e ∙ sym (at_place others number i h)
-
-pub met_here : (old words others : List ℕ) (number i word w : ℕ) → i < 64 → word ≡ get_or words number 0 → get_or words number 0 ≡ get_or old number 0
-    → bit w i ≡ bit (bit_and word (get_or others number 0)) i → bit w i ≡ (bit_of old (64 * number + i) && bit_of others (64 * number + i))
-met_here old words others number i word w h read same e =
-    e ∙ bit-and word (get_or others number 0) i ∙ ap (λ x. bit x i && bit (get_or others number 0) i) (read ∙ same)
-    ∙ sym (ap (λ b. b && bit_of others (64 * number + i)) (at_place old number i h) ∙ ap (λ b. bit (get_or old number 0) i && b) (at_place others number i h))
+-- the bit that a word gets from itself and another
+pub changed_here : (f : Bool → Bool → Bool) (old words others : List ℕ) (number i word : ℕ) → i < 64 → word ≡ get_or words number 0 → get_or words number 0 ≡ get_or old number 0
+    → f (bit word i) (bit (get_or others number 0) i) ≡ f (bit_of old (64 * number + i)) (bit_of others (64 * number + i))
+changed_here f old words others number i word h read same =
+    ap (λ x. f (bit x i) (bit (get_or others number 0) i)) (read ∙ same)
+    ∙ sym (ap (λ b. f b (bit_of others (64 * number + i))) (at_place old number i h) ∙ ap (f (bit (get_or old number 0) i)) (at_place others number i h))
 
 -- a range is looked through word by word
 
@@ -137,9 +133,6 @@ module _ (words : List ℕ) (from to number word mask : ℕ) (read : word ≡ ge
     (within : (i : ℕ) → i < 64 → from ≤ 64 * number + i → 64 * number + i < to → bit mask i ≡ true)
     (under : (i : ℕ) → i < 64 → 64 * number + i < from → bit mask i ≡ false)
     (over : (i : ℕ) → i < 64 → to ≤ 64 * number + i → bit mask i ≡ false) where
-  clash : (b : Bool) → b ≡ true → b ≡ false → ⊥
-  clash b e f = let q : true ≡ false = sym e ∙ f in cc
-
   place_div : (i : ℕ) → i < 64 → (64 * number + i) / 64 ≡ number
   place_div i h = omega (arith, div-add-mod (64 * number + i) 64)
 
@@ -172,17 +165,14 @@ module _ (words others : List ℕ) (to number mask rest : ℕ)
     (cleared : (i : ℕ) → i < 64 → bit (get_or others number 0) i ≡ true → bit rest i ≡ false)
     (within : (i : ℕ) → i < 64 → 0 ≤ 64 * number + i → 64 * number + i < to → bit mask i ≡ true)
     (over : (i : ℕ) → i < 64 → to ≤ 64 * number + i → bit mask i ≡ false) where
-  differ : (b : Bool) → b ≡ true → b ≡ false → ⊥
-  differ b e f = let q : true ≡ false = sym e ∙ f in cc
-
   pub lacked_here : (i : ℕ) × (i < 64) × (bit rest i ≡ true) × (bit mask i ≡ true) → (k : ℕ) × (k < to) × (bit_of words k ≡ true) × (bit_of others k ≡ false)
   lacked_here r = by (bit (get_or others number 0) r.0) refl
     where
       by : (b : Bool) → bit (get_or others number 0) r.0 ≡ b → (k : ℕ) × (k < to) × (bit_of words k ≡ true) × (bit_of others k ≡ false)
-      by true e = absurd (differ (bit rest r.0) r.2 (cleared r.0 r.1 e))
+      by true e = absurd (clash (bit rest r.0) r.2 (cleared r.0 r.1 e))
       by false e = (
         64 * number + r.0,
-        (elim (cases_lt (64 * number + r.0) to) [ inl b ↦ b | inr b ↦ absurd (differ (bit mask r.0) r.3 (over r.0 r.1 b)) ]),
+        (elim (cases_lt (64 * number + r.0) to) [ inl b ↦ b | inr b ↦ absurd (clash (bit mask r.0) r.3 (over r.0 r.1 b)) ]),
         at_place words number r.0 r.1 ∙ sym (kept r.0 r.1 e) ∙ r.2,
         at_place others number r.0 r.1 ∙ e,
       )
@@ -198,42 +188,7 @@ module _ (words others : List ℕ) (to number mask rest : ℕ)
       here e true f = f
       here e false f =
           let q : 64 * number + k % 64 ≡ k = omega (arith, div-add-mod k 64) in
-          absurd (differ (bit rest (k % 64)) (kept (k % 64) (omega arith) f ∙ sym (bit_alone words number k e) ∙ on) (none (k % 64) (omega arith) (within (k % 64) (omega arith) (omega arith) (omega (arith, q)))))
-
--- two lists of words, word by word
-
-pub record AreBoth (f : ℕ → ℕ → ℕ) (old words others : List ℕ) (number : ℕ) : Type 0 where
-  pub len : length words ≡ length old
-  pub done : (n : ℕ) → n < number → get_or words n 0 ≡ f (get_or old n 0) (get_or others n 0)
-  pub left : (n : ℕ) → number ≤ n → get_or words n 0 ≡ get_or old n 0
-
-pub both_none : (f : ℕ → ℕ → ℕ) (words others : List ℕ) (number : ℕ) → number ≡ 0 → AreBoth f words words others number
-both_none f words others number e = record { len = refl; done = λ n h. absurd (omega arith); left = λ n h. refl }
-
-pub both_more : (f : ℕ → ℕ → ℕ) (old words others : List ℕ) (number word other : ℕ) → number < length words → AreBoth f old words others number
-    → word ≡ get_or words number 0 → other ≡ get_or others number 0 → AreBoth f old (set words number (f word other)) others (number + 1)
-both_more f old words others number word other h before read read' = record {
-  len = length-set words number (f word other) ∙ before.len;
-  done = λ n l. elim (cases_eq n number) [
-    | inl e ↦ ap (λ m. get_or (set words number (f word other)) m 0) e ∙ get_or-set_same words number (f word other) 0 h
-        ∙ ap (λ x. f x other) (read ∙ before.left number (omega arith)) ∙ ap (f (get_or old number 0)) read'
-        ∙ sym (ap (λ m. f (get_or old m 0) (get_or others m 0)) e)
-    | inr d ↦ get_or-set_other words number n (f word other) 0 d ∙ before.done n (omega arith)
-  ];
-  left = λ n l. get_or-set_other words number n (f word other) 0 (λ e. absurd (omega (arith, l, e))) ∙ before.left n (omega arith);
-}
-
-pub joined_bits : (old words others : List ℕ) (number k : ℕ) → AreBoth bit_or old words others number → k < 64 * number → bit_of words k ≡ (bit_of old k || bit_of others k)
-joined_bits old words others number k all h =
-    ap (λ x. bit x (k % 64)) (all.done (k / 64) (omega (arith, div-add-mod k 64))) ∙ bit-or (get_or old (k / 64) 0) (get_or others (k / 64) 0) (k % 64)
-
-pub met_bits : (old words others : List ℕ) (number k : ℕ) → AreBoth bit_and old words others number → k < 64 * number → bit_of words k ≡ (bit_of old k && bit_of others k)
-met_bits old words others number k all h =
-    ap (λ x. bit x (k % 64)) (all.done (k / 64) (omega (arith, div-add-mod k 64))) ∙ bit-and (get_or old (k / 64) 0) (get_or others (k / 64) 0) (k % 64)
-
-pub copied_words : (old words others : List ℕ) → length old ≡ length others → AreBoth (λ x y. y) old words others (length others) → words ≡ others
-copied_words old words others e all =
-    ext_get_or 0 words others (all.len ∙ e) (λ n h. all.done n (omega (arith, all.len, e)))
+          absurd (clash (bit rest (k % 64)) (kept (k % 64) (omega arith) f ∙ sym (bit_alone words number k e) ∙ on) (none (k % 64) (omega arith) (within (k % 64) (omega arith) (omega arith) (omega (arith, q)))))
 
 -- words of one kind
 
@@ -271,11 +226,8 @@ module _ (old new : List ℕ) (len : ℕ) (view : List Bool) (is : bits_of old l
   pub same_seen : (k : ℕ) → bit_of new k ≡ bit_of old k → get_or (bits_of new len) k false ≡ get_or view k false
   same_seen k same = same_bit old new len k (λ b. same) ∙ ap (λ xs. get_or xs k false) is
 
-  pub clear_seen : (k : ℕ) → k < len → bit_of new k ≡ false → get_or (bits_of new len) k false ≡ false
-  clear_seen k b off = get_bits new len k false b ∙ off
-
-  pub fill_seen : (k : ℕ) → k < len → bit_of new k ≡ true → get_or (bits_of new len) k false ≡ true
-  fill_seen k b on = get_bits new len k false b ∙ on
+  pub fill_seen : (on : Bool) (k : ℕ) → k < len → bit_of new k ≡ on → get_or (bits_of new len) k false ≡ on
+  fill_seen on k b is = get_bits new len k false b ∙ is
 
   pub both_seen : (f : Bool → Bool → Bool) (others slice : List ℕ) (n k : ℕ) (other : List Bool) → bits_of others n ≡ other → slice ≡ others → n ≡ len → k < len
       → bit_of new k ≡ f (bit_of old k) (bit_of slice k) → get_or (bits_of new len) k false ≡ f (get_or view k false) (get_or other k false)

@@ -1,7 +1,9 @@
 -- Bits in words of 64, the lowest bit of a word first.
-use Rattle.std.specs.Prelude.{◌≡◌, ℕ, ◌+◌, ◌/◌, ◌%◌, ◌<◌, ◌^◌, Bool, eqb, List, map, length, slice_index}
+use Rattle.std.specs.Prelude.{◌≡◌, ℕ, ◌+◌, ◌/◌, ◌%◌, ◌<◌, ◌^◌, Bool, ◌&&◌, ◌||◌, eqb, List, map, length, slice_index}
 use Rattle.std.specs.List.{range_with_len}
 use Rattle.std.specs.Int.{bit_at}
+use Rattle.lf_classes.specs.declared.word.Change.{Change}
+use Rattle.lf_classes.specs.declared.word.Change.TheVariants.{Take, Meet, Join}
 
 -- the bit of a word at a place
 abbrev pub bit : ℕ → ℕ → Bool
@@ -19,3 +21,9 @@ bits_of words len = map (bit_of words) (range_with_len 0 len)
 pub record IsBits (words : List ℕ) (len : ℕ) : Type 0 where
   pub filled : length words ≡ len / 64 + 1
   pub small : len < 2 ^ 32
+
+-- a bit after a change, from itself and the bit of the other at its place
+abbrev pub changed : Change → Bool → Bool → Bool
+changed Take on other = other
+changed Meet on other = on && other
+changed Join on other = on || other

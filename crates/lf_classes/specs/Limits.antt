@@ -1,12 +1,9 @@
 -- How many labels and classes a universe may have.
-use Rattle.std.specs.Prelude.{◌≡◌, ◌<◌, ◌≤◌, ℕ, List, [], codes}
-use Rattle.lf_ast.specs.Labels.{Bytes}
-use Rattle.lf_ast.specs.declared.rule.Rule.{Rule}
-use Rattle.lf_semantics.specs.Listing.{IsListing, Listing, class_count, class_counts, label_count, universe_of}
+use Rattle.std.specs.Prelude.{◌≡◌, ◌<◌, ◌≤◌, ℕ, List}
+use Rattle.lf_ast.specs.Rules.{RuleTree}
+use Rattle.lf_semantics.specs.Listing.{IsListing, Listing, class_count, label_count, universe_of}
 use Rattle.lf_classes.specs.declared.class_error.ClassError.{ClassError}
 use Rattle.lf_classes.specs.declared.class_error.ClassError.TheVariants.{Memory, TooManyLabels, TooManyClasses}
-use Rattle.lf_classes.specs.declared.remembered.Remembered.{Remembered}
-use Rattle.lf_classes.specs.Remembered.{AreRemembered}
 
 -- the most labels, without `*`
 abbrev pub most_labels : ℕ
@@ -22,14 +19,6 @@ pub record IsWithin (u : Listing) : Type 0 where
   pub labels : label_count u ≤ most_labels
   pub classes : class_count u ≤ most_classes
 
--- a universe beside what is kept with it: the name of `*`, the empty text, how many classes each label has, and rows of patterns
-pub record HasParts (u : Listing) (other_name no_text : Bytes) (counts : List ℕ) (rows : Remembered) : Type 0 where
-  pub within : IsWithin u
-  pub star : other_name ≡ codes "*"
-  pub empty : no_text ≡ []
-  pub shape : counts ≡ class_counts u
-  pub remembered : AreRemembered u rows
-
 -- why a universe isn't built: it has too many labels; or no more labels than may be, and too many classes. Memory has no cause in it
 abbrev pub Exceeds : Listing → ClassError → Type 0
 Exceeds u Memory = Unit {0}
@@ -37,5 +26,5 @@ Exceeds u (TooManyLabels found) = (found ≡ label_count u) × (most_labels < fo
 Exceeds u (TooManyClasses found) = (label_count u ≤ most_labels) × (found ≡ class_count u) × (most_classes < found)
 
 -- why rules have no universe
-abbrev pub Passes : List Rule → ClassError → Type 0
+abbrev pub Passes : List RuleTree → ClassError → Type 0
 Passes rules = Exceeds (universe_of rules)

@@ -7,10 +7,10 @@ use Rattle.lf_ast.specs.Labels.{Bytes}
 use Rattle.lf_ast.specs.declared.functions.LabelEffect.{LabelEffect}
 use Rattle.lf_ast.specs.declared.functions.LabelEffect.TheVariants.{CountValues, LabelReplace, LabelJoin, HistogramQuantile}
 use Rattle.lf_semantics.specs.Listing.{Listing, label_of, named_at, place}
-use Rattle.lf_semantics.specs.Parts.{text_at}
+use Rattle.lf_ast.specs.Arguments.{text_at}
 use Rattle.lf_semantics.specs.Strings.{joining, replacing}
-use Rattle.lf_semantics.specs.Texts.{metric}
-use Rattle.lf_semantics.specs.Walk.{Met, joining_met, met, replacing_met}
+use Rattle.lf_ast.specs.Selectors.{metric}
+use Rattle.lf_semantics.specs.Mentions.{Mention, joining_mentions, mention, replacing_mentions}
 
 -- the keys of a set are these texts
 abbrev pub AreKeys : {A S : Type 0} → IndexSet (String A) S → List Bytes → Type 0
@@ -33,11 +33,11 @@ abbrev pub with_text_of : ℕ → Listing → Bytes → Listing
 with_text_of label seen text = record { names = seen.names; named = cond (bytes_eq text []) seen.named (slice_set seen.named label (with_text (named_at seen label) text)) }
 
 -- a label is met with its texts
-abbrev pub with_met : Listing → Met → Listing
+abbrev pub with_met : Listing → Mention → Listing
 with_met seen m = fold (with_text_of (label_of seen m.label)) (with_label seen m.label) m.texts
 
 -- one label after the other
-abbrev pub met_all : Listing → List Met → Listing
+abbrev pub met_all : Listing → List Mention → Listing
 met_all seen items = fold with_met seen items
 
 -- a universe has `*` behind the labels, with no text
@@ -45,12 +45,12 @@ abbrev pub with_star : Listing → Listing
 with_star seen = record { names = seen.names; named = seen.named ++ [] ∷ [] }
 
 -- what a function meets at its own strings before its operand, and behind it
-abbrev pub before_met : LabelEffect → List Bytes → List Met
-before_met HistogramQuantile texts = met (codes "le") (codes "+Inf" ∷ []) ∷ []
-before_met CountValues texts = met (text_at texts 0) [] ∷ []
+abbrev pub before_met : LabelEffect → List Bytes → List Mention
+before_met HistogramQuantile texts = mention (codes "le") (codes "+Inf" ∷ []) ∷ []
+before_met CountValues texts = mention (text_at texts 0) [] ∷ []
 before_met _ texts = []
 
-abbrev pub behind_met : LabelEffect → List Bytes → List Met
-behind_met LabelReplace texts = replacing_met (replacing texts)
-behind_met LabelJoin texts = joining_met (joining texts)
+abbrev pub behind_met : LabelEffect → List Bytes → List Mention
+behind_met LabelReplace texts = replacing_mentions (replacing texts)
+behind_met LabelJoin texts = joining_mentions (joining texts)
 behind_met _ texts = []

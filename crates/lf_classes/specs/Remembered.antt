@@ -3,7 +3,7 @@ use Rattle.std.specs.Prelude.{◌≡◌, ℕ, ◌||◌, not, eqb, map, Some, sli
 use Rattle.lf_ast.specs.Labels.{Bytes}
 use Rattle.lf_ast.specs.declared.expr.MatchOp.{MatchOp}
 use Rattle.lf_ast.specs.declared.expr.MatchOp.TheVariants.{Matches, NotMatches}
-use Rattle.lf_semantics.specs.ClassRows.{Sets, full, narrowed}
+use Rattle.lf_semantics.specs.ClassRows.{Sets, top, narrowed}
 use Rattle.lf_semantics.specs.Listing.{Listing}
 use Rattle.lf_semantics.specs.RowTable.{passes_class}
 use Rattle.lf_classes.specs.declared.remembered.LabelRows.{LabelRows}
@@ -12,7 +12,7 @@ use Rattle.lf_classes.specs.declared.remembered.Remembered.{Remembered}
 
 -- the classes of a label that pass a matcher, beside every class of each other label
 abbrev pub passing_row : Listing → ℕ → MatchOp → Bytes → Sets
-passing_row u label op pattern = narrowed (λ l c. not (eqb label l) || passes_class u op pattern l c) (full u)
+passing_row u label op pattern = narrowed (λ l c. not (eqb label l) || passes_class u op pattern l c) (top u)
 
 -- the row of each pattern stands at the pattern's place
 abbrev pub AreRows : (Bytes → Sets) → PatternRows → Type 0

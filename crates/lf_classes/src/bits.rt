@@ -1,9 +1,9 @@
 //! A list of bits in words.
-ghost use Rattle.std.specs.Prelude.{◌≡◌, ℕ, ◌+◌, ◌<◌, ◌≤◌, ◌^◌, length, replicate, slice_index_or, slice_set, false, true, ◌&&◌, ◌||◌, IfOk};
+ghost use Rattle.std.specs.Prelude.{◌≡◌, ℕ, ◌+◌, ◌<◌, ◌≤◌, ◌^◌, length, replicate, slice_index_or, slice_set, false, true, ◌&&◌, IfOk};
+ghost use Rattle.lf_classes.specs.Bits.{changed};
 
-use crate::range::{clear_words, fill_words, has_all, has_any, meet_range, take_range};
-use crate::word::{whole, with_bit};
-use crate::words::{copy_words, join_words, meet_words};
+use crate::range::{change_words, fill_words, has_all, has_any};
+use crate::word::{Change, whole, with_bit};
 use lf_base::Memory;
 use std::alloc::Global;
 use std::marker::Model;
@@ -81,76 +81,27 @@ impl Bits {
         has_any(self.words.as_slice(), from, to)
     }
 
-    /// Clears the bits from `from` on and below `to`.
-    pub fn clear(&mut self, from: usize, to: usize)
+    /// Sets the bits from `from` on and below `to`, or clears them.
+    pub fn fill(&mut self, on: bool, from: usize, to: usize)
         requires { to ≤ length self.old }
         ensures len { length self.new ≡ length self.old }
-        ensures inside { (k : ℕ) → from ≤ k → k < to → slice_index_or self.new k false ≡ false }
+        ensures inside { (k : ℕ) → from ≤ k → k < to → slice_index_or self.new k false ≡ on }
         ensures below { (k : ℕ) → k < from → slice_index_or self.new k false ≡ slice_index_or self.old k false }
         ensures above { (k : ℕ) → to ≤ k → slice_index_or self.new k false ≡ slice_index_or self.old k false }
     {
-        clear_words(&mut self.words, from, to);
+        fill_words(&mut self.words, on, from, to);
     }
 
-    /// Sets the bits from `from` on and below `to`.
-    pub fn fill(&mut self, from: usize, to: usize)
-        requires { to ≤ length self.old }
-        ensures len { length self.new ≡ length self.old }
-        ensures inside { (k : ℕ) → from ≤ k → k < to → slice_index_or self.new k false ≡ true }
-        ensures below { (k : ℕ) → k < from → slice_index_or self.new k false ≡ slice_index_or self.old k false }
-        ensures above { (k : ℕ) → to ≤ k → slice_index_or self.new k false ≡ slice_index_or self.old k false }
-    {
-        fill_words(&mut self.words, from, to);
-    }
-
-    /// Makes the bits those of the other.
-    pub fn take(&mut self, other: &Bits)
-        requires { length self.old ≡ length other.now }
-        ensures { self.new ≡ other.now }
-    {
-        copy_words(&mut self.words, other.words.as_slice());
-    }
-
-    /// Sets the bits that the other has.
-    pub fn join(&mut self, other: &Bits)
-        requires { length self.old ≡ length other.now }
-        ensures len { length self.new ≡ length self.old }
-        ensures bits { (k : ℕ) → k < length self.old → slice_index_or self.new k false ≡ (slice_index_or self.old k false || slice_index_or other.now k false) }
-    {
-        join_words(&mut self.words, other.words.as_slice());
-    }
-
-    /// Clears the bits that the other lacks.
-    pub fn meet(&mut self, other: &Bits)
-        requires { length self.old ≡ length other.now }
-        ensures len { length self.new ≡ length self.old }
-        ensures bits { (k : ℕ) → k < length self.old → slice_index_or self.new k false ≡ (slice_index_or self.old k false && slice_index_or other.now k false) }
-    {
-        meet_words(&mut self.words, other.words.as_slice());
-    }
-
-    /// Makes the bits from `from` on and below `to` those of the other.
-    pub fn take_range(&mut self, other: &Bits, from: usize, to: usize)
+    /// Changes the bits from `from` on and below `to` by those of the other.
+    pub fn change(&mut self, other: &Bits, change: Change, from: usize, to: usize)
         requires same { length self.old ≡ length other.now }
         requires within { to ≤ length self.old }
         ensures len { length self.new ≡ length self.old }
-        ensures inside { (k : ℕ) → from ≤ k → k < to → slice_index_or self.new k false ≡ slice_index_or other.now k false }
+        ensures inside { (k : ℕ) → from ≤ k → k < to → slice_index_or self.new k false ≡ changed change (slice_index_or self.old k false) (slice_index_or other.now k false) }
         ensures below { (k : ℕ) → k < from → slice_index_or self.new k false ≡ slice_index_or self.old k false }
         ensures above { (k : ℕ) → to ≤ k → slice_index_or self.new k false ≡ slice_index_or self.old k false }
     {
-        take_range(&mut self.words, other.words.as_slice(), from, to);
-    }
-
-    /// Clears the bits from `from` on and below `to` that the other lacks.
-    pub fn meet_range(&mut self, other: &Bits, from: usize, to: usize)
-        requires same { length self.old ≡ length other.now }
-        requires within { to ≤ length self.old }
-        ensures len { length self.new ≡ length self.old }
-        ensures inside { (k : ℕ) → from ≤ k → k < to → slice_index_or self.new k false ≡ (slice_index_or self.old k false && slice_index_or other.now k false) }
-        ensures below { (k : ℕ) → k < from → slice_index_or self.new k false ≡ slice_index_or self.old k false }
-        ensures above { (k : ℕ) → to ≤ k → slice_index_or self.new k false ≡ slice_index_or self.old k false }
-    {
-        meet_range(&mut self.words, other.words.as_slice(), from, to);
+        change_words(&mut self.words, other.words.as_slice(), change, from, to);
     }
 
     /// Whether the other has each of the bits.

@@ -1,6 +1,6 @@
 //! The classes of a label.
-ghost use Rattle.std.specs.Prelude.{◌≡◌, ◌<◌, ◌≤◌, ◌^◌, [], ◌++◌, codes, decimal, length, slice_index_or, IfOk};
-ghost use Rattle.lf_semantics.specs.Listing.{IsFirstFree, place};
+ghost use Rattle.std.specs.Prelude.{◌≡◌, ◌++◌, codes, decimal, IfOk};
+ghost use Rattle.lf_semantics.specs.Listing.{IsFirstFree};
 
 use crate::text_set::TextSet;
 use lf_base::{Memory, Text};
@@ -34,28 +34,11 @@ impl Classes {
         Ok(Classes { texts, other })
     }
 
-    /// How many texts are classes of their own.
-    pub fn len(&self) -> usize
-        ensures count { result ≡ length self.now }
-        ensures small { result < 2 ^ 63 }
+    /// The texts that are classes of their own.
+    pub fn texts(&self) -> &TextSet
+        ensures { result.now ≡ self.now }
     {
-        self.texts.len()
-    }
-
-    /// The text at a place.
-    pub fn get(&self, place: usize) -> &Text
-        requires { place < length self.now }
-        ensures { result.now ≡ slice_index_or self.now place [] }
-    {
-        self.texts.get(place)
-    }
-
-    /// The place of a text, and behind the last one where it is no class of its own.
-    pub fn place(&self, text: &str) -> usize
-        ensures place { result ≡ place self.now text.now }
-        ensures within { result ≤ length self.now }
-    {
-        self.texts.place(text)
+        &self.texts
     }
 
     /// A text that is no class of its own: the first of `v1`, `v2`, ..

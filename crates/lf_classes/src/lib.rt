@@ -21,7 +21,6 @@ mod text_set;
 mod universe;
 mod walking;
 mod word;
-mod words;
 
 pub use checking::check_patterns;
 pub use class_error::ClassError;

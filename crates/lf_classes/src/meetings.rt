@@ -1,7 +1,7 @@
 //! What rules meet: labels, and texts with each.
 ghost use Rattle.std.specs.Prelude.{◌≡◌, ◌<◌, ◌∷◌, [], length, IfOk, OnOk};
 ghost use Rattle.lf_semantics.specs.Listing.{class_count, label_count, label_of};
-ghost use Rattle.lf_semantics.specs.Walk.{met};
+ghost use Rattle.lf_semantics.specs.Mentions.{mention};
 ghost use Rattle.lf_classes.specs.Meetings.{nothing_met, with_label, with_met, with_star, with_text_of};
 
 use crate::text_set::TextSet;
@@ -71,7 +71,7 @@ impl Meetings {
 
     /// A label is met, with no text.
     pub fn meet_label(&mut self, alloc: Global, label: &str) -> Result<(), Memory>
-        ensures { OnOk result (self.new ≡ with_met self.old (met label.now [])) }
+        ensures { OnOk result (self.new ≡ with_met self.old (mention label.now [])) }
     {
         let _ = self.add_label(alloc, label)?;
         Ok(())
@@ -79,7 +79,7 @@ impl Meetings {
 
     /// A label is met, with one text.
     pub fn meet_text(&mut self, alloc: Global, label: &str, text: &str) -> Result<(), Memory>
-        ensures { OnOk result (self.new ≡ with_met self.old (met label.now (text.now ∷ []))) }
+        ensures { OnOk result (self.new ≡ with_met self.old (mention label.now (text.now ∷ []))) }
     {
         let place = self.add_label(alloc, label)?;
         self.add_text(alloc, place, text)
@@ -87,7 +87,7 @@ impl Meetings {
 
     /// A label is met, with texts.
     pub fn meet(&mut self, alloc: Global, label: &str, texts: &[Text]) -> Result<(), Memory>
-        ensures { OnOk result (self.new ≡ with_met self.old (met label.now texts.now)) }
+        ensures { OnOk result (self.new ≡ with_met self.old (mention label.now texts.now)) }
     {
         let place = self.add_label(alloc, label)?;
         for text in texts {

@@ -1,7 +1,7 @@
 //! What names, modifiers, matchers and a rule's own labels meet.
 ghost use Rattle.std.specs.Prelude.{◌≡◌, ◌∷◌, [], map, IfOk, OnOk};
 ghost use Rattle.lf_ast.specs.Types.{names_at};
-ghost use Rattle.lf_semantics.specs.Walk.{matcher_texts, matchers_met, met, modifier_met, name_met, names_met, pattern_texts};
+ghost use Rattle.lf_semantics.specs.Mentions.{matcher_texts, matchers_mentions, mention, modifier_mentions, name_mentions, names_mentions, pattern_texts};
 ghost use Rattle.lf_classes.specs.Meetings.{met_all, with_met};
 
 use crate::meetings::{METRIC, Meetings};
@@ -14,7 +14,7 @@ impl Meetings {
     /// The name of a selector is met with the metric name's label.
     #[inline(never)]
     pub fn meet_name(&mut self, alloc: Global, name: &Option<Text>) -> Result<(), Memory>
-        ensures { OnOk result (self.new ≡ met_all self.old (name_met name.now)) }
+        ensures { OnOk result (self.new ≡ met_all self.old (name_mentions name.now)) }
     {
         match name {
             Some(name) => self.meet_text(alloc, METRIC, name.as_str()),
@@ -24,7 +24,7 @@ impl Meetings {
 
     /// Labels are met in their order.
     pub fn meet_names(&mut self, alloc: Global, names: &[Name]) -> Result<(), Memory>
-        ensures { OnOk result (self.new ≡ met_all self.old (names_met names.now)) }
+        ensures { OnOk result (self.new ≡ met_all self.old (names_mentions names.now)) }
     {
         for name in names {
             self.meet_label(alloc, name.text.as_str())?;
@@ -34,7 +34,7 @@ impl Meetings {
 
     /// The labels of `on` or `ignoring` are met, if it is there.
     fn meet_listed(&mut self, alloc: Global, names: &Option<Seq<Name>>) -> Result<(), Memory>
-        ensures { OnOk result (self.new ≡ met_all self.old (names_met (names_at names.now))) }
+        ensures { OnOk result (self.new ≡ met_all self.old (names_mentions (names_at names.now))) }
     {
         match names {
             Some(names) => self.meet_names(alloc, names.as_slice()),
@@ -45,7 +45,7 @@ impl Meetings {
     /// The labels of a modifier are met: those of `on` or `ignoring`, and then those behind `group_left` or `group_right`.
     #[inline(never)]
     pub fn meet_modifier(&mut self, alloc: Global, modifier: &Matching) -> Result<(), Memory>
-        ensures { OnOk result (self.new ≡ met_all self.old (modifier_met modifier.now)) }
+        ensures { OnOk result (self.new ≡ met_all self.old (modifier_mentions modifier.now)) }
     {
         self.meet_listed(alloc, &modifier.on)?;
         self.meet_listed(alloc, &modifier.ignoring)?;
@@ -55,7 +55,7 @@ impl Meetings {
     /// The labels of matchers are met, with the texts of each.
     #[inline(never)]
     pub fn meet_matchers(&mut self, alloc: Global, matchers: &[Matcher]) -> Result<(), Memory>
-        ensures { OnOk result (self.new ≡ met_all self.old (matchers_met matchers.now)) }
+        ensures { OnOk result (self.new ≡ met_all self.old (matchers_mentions matchers.now)) }
     {
         for matcher in matchers {
             self.meet_matcher(alloc, matcher)?;
@@ -65,7 +65,7 @@ impl Meetings {
 
     /// The label of a matcher is met, with its text or with those of its pattern.
     fn meet_matcher(&mut self, alloc: Global, matcher: &Matcher) -> Result<(), Memory>
-        ensures { OnOk result (self.new ≡ with_met self.old (met matcher.now.label (matcher_texts matcher.now.op matcher.now.value))) }
+        ensures { OnOk result (self.new ≡ with_met self.old (mention matcher.now.label (matcher_texts matcher.now.op matcher.now.value))) }
     {
         let label = matcher.label.as_str();
         match matcher.op {
@@ -80,7 +80,7 @@ impl Meetings {
 
     /// A label is met, with the texts of a pattern.
     pub fn meet_pattern(&mut self, alloc: Global, label: &str, pattern: &Text) -> Result<(), Memory>
-        ensures { OnOk result (self.new ≡ with_met self.old (met label.now (pattern_texts pattern.now))) }
+        ensures { OnOk result (self.new ≡ with_met self.old (mention label.now (pattern_texts pattern.now))) }
     {
         let texts = texts_of_pattern(alloc, pattern)?;
         self.meet(alloc, label, texts.as_slice())
@@ -88,7 +88,7 @@ impl Meetings {
 
     /// The labels that a recording rule sets are met, with their texts.
     pub fn meet_set(&mut self, alloc: Global, labels: &[RuleLabel]) -> Result<(), Memory>
-        ensures { OnOk result (self.new ≡ met_all self.old (map (λ l. met l.key (l.value ∷ [])) labels.now)) }
+        ensures { OnOk result (self.new ≡ met_all self.old (map (λ l. mention l.key (l.value ∷ [])) labels.now)) }
     {
         for label in labels {
             self.meet_text(alloc, label.key.as_str(), label.value.as_str())?;

@@ -1,16 +1,18 @@
 //! What is wrong with one selector, or with the pattern of one call.
-ghost use Rattle.std.specs.Prelude.{◌≡◌, ◌||◌, [], None, IfOk};
+ghost use Rattle.std.specs.Prelude.{◌≡◌, ◌||◌, [], None, IfOk, option_and_then};
 ghost use Rattle.std.specs.List.{list_all, list_any};
 ghost use Rattle.std.specs.Str.{bytes_eq};
 ghost use Rattle.lf_ast.specs.Functions.{function_named};
+ghost use Rattle.lf_ast.specs.Tree.{tree, trees};
 ghost use Rattle.lf_classes.specs.Checking.{matcher_fault, matchers_fault, selector_fault, string_fault, unread_fault};
+ghost use Rattle.lf_semantics.specs.Parts.{argument_at};
 ghost use Rattle.lf_semantics.specs.Passing.{passes};
-ghost use Rattle.lf_semantics.specs.Texts.{metric};
+ghost use Rattle.lf_ast.specs.Selectors.{metric};
 ghost use Rattle.lf_semantics.specs.PatternBreaches.{called_with, is_empty_name, names_twice, passes_empty, pattern_argument, placed_string};
 
 use crate::passes;
-use lf_ast::{Expr, Fault, Function, LabelEffect, MatchOp, Matcher, first, when};
-use lf_base::{Kind, Memory, Span, Text};
+use lf_ast::{Expr, Function, LabelEffect, MatchOp, Matcher};
+use lf_base::{Fault, Kind, Memory, Span, Text};
 use lf_pattern::{Pattern, PatternError};
 use std::alloc::Global;
 
@@ -47,7 +49,7 @@ fn matchers_fault(alloc: Global, matchers: &[Matcher]) -> Result<Option<Fault>, 
     let mut fault = None;
     for matcher in matchers {
         let found = matcher_fault(alloc, matcher)?;
-        fault = first(fault, found);
+        fault = Fault::first(fault, found);
     }
     Ok(fault)
 }
@@ -121,17 +123,27 @@ pub fn selector_fault(
 {
     let unread = matchers_fault(alloc, matchers)?;
     let bad = is_bad_selector(alloc, name, matchers)?;
-    Ok(first(unread, when(bad, Kind::BadSelector, span)))
+    Ok(Fault::first(unread, Fault::when(bad, Kind::BadSelector, span)))
 }
 
 /// The breach of a string that is a pattern, which may stand in parentheses.
 fn string_fault(alloc: Global, expr: &Expr) -> Result<Option<Fault>, Memory>
-    ensures { IfOk result (λ found. found ≡ string_fault (placed_string expr.now)) }
+    ensures { IfOk result (λ found. found ≡ string_fault (placed_string (tree expr.now))) }
 {
     match expr {
         Expr::Str { text, span } => unread_fault(alloc, text, *span),
         Expr::Paren { of, .. } => string_fault(alloc, of),
         _ => Ok(None),
+    }
+}
+
+/// The breach of the fifth argument, if that is a string.
+fn fifth_fault(alloc: Global, args: &[Expr]) -> Result<Option<Fault>, Memory>
+    ensures { IfOk result (λ found. found ≡ string_fault (option_and_then placed_string (argument_at (trees args.now) 4))) }
+{
+    match args.get(4) {
+        Some(pattern) => string_fault(alloc, pattern),
+        None => Ok(None),
     }
 }
 
@@ -141,10 +153,10 @@ fn argument_fault(
     labels: LabelEffect,
     args: &[Expr],
 ) -> Result<Option<Fault>, Memory>
-    ensures { IfOk result (λ found. found ≡ string_fault (pattern_argument labels args.now)) }
+    ensures { IfOk result (λ found. found ≡ string_fault (pattern_argument labels (trees args.now))) }
 {
-    match (labels, args.get(4)) {
-        (LabelEffect::LabelReplace, Some(pattern)) => string_fault(alloc, pattern),
+    match labels {
+        LabelEffect::LabelReplace => fifth_fault(alloc, args),
         _ => Ok(None),
     }
 }
@@ -152,7 +164,7 @@ fn argument_fault(
 /// The breach of the pattern that a call takes.
 #[inline(never)]
 pub fn call_fault(alloc: Global, name: &str, args: &[Expr]) -> Result<Option<Fault>, Memory>
-    ensures { IfOk result (λ found. found ≡ string_fault (called_with (function_named name.now) args.now)) }
+    ensures { IfOk result (λ found. found ≡ string_fault (called_with (function_named name.now) (trees args.now))) }
 {
     match Function::named(name) {
         Some(function) => argument_fault(alloc, function.labels, args),

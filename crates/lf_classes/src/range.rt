@@ -1,8 +1,8 @@
 //! The bits of words from one place on and below another.
-ghost use Rattle.std.specs.Prelude.{◌≡◌, ℕ, ◌*◌, ◌<◌, ◌≤◌, ◌^◌, ◌&&◌, length, true, false};
-ghost use Rattle.lf_classes.specs.Bits.{bit_of};
+ghost use Rattle.std.specs.Prelude.{◌≡◌, ℕ, ◌*◌, ◌<◌, ◌≤◌, ◌^◌, length, true, false};
+ghost use Rattle.lf_classes.specs.Bits.{bit_of, changed};
 
-use crate::word::{filled, mask, meets, picked, without};
+use crate::word::{Change, changed, mask, meets, picked, whole, without};
 
 /// Whether a bit from `from` on and below `to` is set.
 pub fn has_any(words: &[u64], from: usize, to: usize) -> bool
@@ -19,62 +19,34 @@ pub fn has_any(words: &[u64], from: usize, to: usize) -> bool
     false
 }
 
-/// Clears the bits from `from` on and below `to`.
-pub fn clear_words(words: &mut Vec<u64>, from: usize, to: usize)
+/// Sets the bits from `from` on and below `to`, or clears them.
+pub fn fill_words(words: &mut Vec<u64>, on: bool, from: usize, to: usize)
     requires within { to ≤ 64 * length words.old.items }
     requires small { to < 2 ^ 32 }
     ensures len { length words.new.items ≡ length words.old.items }
-    ensures inside { (k : ℕ) → from ≤ k → k < to → bit_of words.new.items k ≡ false }
+    ensures inside { (k : ℕ) → from ≤ k → k < to → bit_of words.new.items k ≡ on }
     ensures below { (k : ℕ) → k < from → bit_of words.new.items k ≡ bit_of words.old.items k }
     ensures above { (k : ℕ) → to ≤ k → bit_of words.new.items k ≡ bit_of words.old.items k }
 {
     for number in from / 64..(to + 63) / 64 {
-        words[number] = without(words[number], mask(number, from, to));
+        words[number] = picked(words[number], whole(on), mask(number, from, to));
     }
 }
 
-/// Sets the bits from `from` on and below `to`.
-pub fn fill_words(words: &mut Vec<u64>, from: usize, to: usize)
-    requires within { to ≤ 64 * length words.old.items }
-    requires small { to < 2 ^ 32 }
-    ensures len { length words.new.items ≡ length words.old.items }
-    ensures inside { (k : ℕ) → from ≤ k → k < to → bit_of words.new.items k ≡ true }
-    ensures below { (k : ℕ) → k < from → bit_of words.new.items k ≡ bit_of words.old.items k }
-    ensures above { (k : ℕ) → to ≤ k → bit_of words.new.items k ≡ bit_of words.old.items k }
-{
-    for number in from / 64..(to + 63) / 64 {
-        words[number] = filled(words[number], mask(number, from, to));
-    }
-}
-
-/// Makes the bits from `from` on and below `to` those of the others.
-pub fn take_range(words: &mut Vec<u64>, others: &[u64], from: usize, to: usize)
+/// Changes the bits from `from` on and below `to` by the others.
+pub fn change_words(words: &mut Vec<u64>, others: &[u64], change: Change, from: usize, to: usize)
     requires same { length words.old.items ≡ length others.now }
     requires within { to ≤ 64 * length others.now }
     requires small { to < 2 ^ 32 }
     ensures len { length words.new.items ≡ length words.old.items }
-    ensures inside { (k : ℕ) → from ≤ k → k < to → bit_of words.new.items k ≡ bit_of others.now k }
-    ensures below { (k : ℕ) → k < from → bit_of words.new.items k ≡ bit_of words.old.items k }
-    ensures above { (k : ℕ) → to ≤ k → bit_of words.new.items k ≡ bit_of words.old.items k }
-{
-    for number in from / 64..(to + 63) / 64 {
-        words[number] = picked(words[number], others[number], mask(number, from, to));
-    }
-}
-
-/// Clears the bits from `from` on and below `to` that the others lack.
-pub fn meet_range(words: &mut Vec<u64>, others: &[u64], from: usize, to: usize)
-    requires same { length words.old.items ≡ length others.now }
-    requires within { to ≤ 64 * length others.now }
-    requires small { to < 2 ^ 32 }
-    ensures len { length words.new.items ≡ length words.old.items }
-    ensures inside { (k : ℕ) → from ≤ k → k < to → bit_of words.new.items k ≡ (bit_of words.old.items k && bit_of others.now k) }
+    ensures inside { (k : ℕ) → from ≤ k → k < to → bit_of words.new.items k ≡ changed change (bit_of words.old.items k) (bit_of others.now k) }
     ensures below { (k : ℕ) → k < from → bit_of words.new.items k ≡ bit_of words.old.items k }
     ensures above { (k : ℕ) → to ≤ k → bit_of words.new.items k ≡ bit_of words.old.items k }
 {
     for number in from / 64..(to + 63) / 64 {
         let word = words[number];
-        words[number] = picked(word, word & others[number], mask(number, from, to));
+        let other = changed(word, others[number], change);
+        words[number] = picked(word, other, mask(number, from, to));
     }
 }
 

@@ -1,7 +1,7 @@
 //! Rows.
 ghost use Rattle.std.specs.Prelude.{◌≡◌, ℕ, ◌<◌, ◌↔◌, ◌||◌, [], length, map, not, eqb, replicate, true, false, slice_index_or, IfOk, IsTrue};
-ghost use Rattle.lf_semantics.specs.ClassRows.{common, emptied, full, holds, is_live, kept, narrowed, nothing, only_empty, replaced, set_to, settled, union};
-ghost use Rattle.lf_semantics.specs.Environments.{Under};
+ghost use Rattle.lf_semantics.specs.ClassRows.{meet, emptied, top, holds, is_live, kept, narrowed, bottom, only_empty, replaced, set_to, normalized, join};
+ghost use Rattle.lf_semantics.specs.Environments.{Leq};
 ghost use Rattle.lf_semantics.specs.Listing.{Listing};
 ghost use Rattle.lf_semantics.specs.RowTable.{has_class};
 ghost use Rattle.std.specs.List.{sum};
@@ -10,6 +10,7 @@ ghost use Rattle.lf_classes.specs.Cut.{cut};
 use crate::bits::{Bits, narrow, put};
 use crate::shape::Shape;
 use crate::universe::Universe;
+use crate::word::Change;
 use lf_base::Memory;
 use std::alloc::Global;
 use std::marker::Model;
@@ -38,14 +39,14 @@ impl Model for Row {
 impl Row {
     /// The row of a universe with no class of any label.
     pub fn empty(alloc: Global, universe: &Universe) -> Result<Row, Memory>
-        ensures { IfOk result (λ row. row ≡ nothing universe.now) }
+        ensures { IfOk result (λ row. row ≡ bottom universe.now) }
     {
         Row::of(alloc, universe.shape(), false)
     }
 
     /// The row of a universe with every class of each label.
     pub fn full(alloc: Global, universe: &Universe) -> Result<Row, Memory>
-        ensures { IfOk result (λ row. row ≡ full universe.now) }
+        ensures { IfOk result (λ row. row ≡ top universe.now) }
     {
         Row::of(alloc, universe.shape(), true)
     }
@@ -104,7 +105,7 @@ impl Row {
     /// Whether no label has a class. Beside it stands what is known of every row.
     pub fn is_empty(&self) -> bool
         ensures empty { result ≡ not (is_live self.now) }
-        ensures settled { settled self.now ≡ self.now }
+        ensures settled { normalized self.now ≡ self.now }
     {
         !self.live
     }
@@ -147,7 +148,7 @@ impl Row {
         if self.live {
             let from = self.shape.start(label as usize);
             let to = self.shape.end(label as usize);
-            self.bits.fill(from, to);
+            self.bits.fill(true, from, to);
         }
     }
 
@@ -160,7 +161,7 @@ impl Row {
         if self.live {
             let from = self.shape.start(label as usize);
             let to = self.shape.end(label as usize);
-            self.bits.clear(from, to);
+            self.bits.fill(false, from, to);
             self.bits.set(from + class as usize, true);
         }
     }
@@ -177,13 +178,14 @@ impl Row {
     /// Adds the classes of another row of the universe. An empty row adds nothing.
     pub fn join(&mut self, other: &Row)
         requires { map length self.old ≡ map length other.now }
-        ensures { self.new ≡ union self.old other.now }
+        ensures { self.new ≡ join self.old other.now }
     {
+        let end = self.bits.len();
         if other.live {
             if self.live {
-                self.bits.join(&other.bits);
+                self.bits.change(&other.bits, Change::Join, 0, end);
             } else {
-                self.bits.take(&other.bits);
+                self.bits.change(&other.bits, Change::Take, 0, end);
                 self.live = true;
             }
         }
@@ -192,11 +194,12 @@ impl Row {
     /// Leaves each label the classes that another row of the universe has too. A row in which a label loses its last class becomes empty.
     pub fn meet(&mut self, other: &Row)
         requires { map length self.old ≡ map length other.now }
-        ensures { self.new ≡ common self.old other.now }
+        ensures { self.new ≡ meet self.old other.now }
     {
         if self.live {
             if other.live {
-                self.bits.meet(&other.bits);
+                let end = self.bits.len();
+                self.bits.change(&other.bits, Change::Meet, 0, end);
                 self.live = all_live(&self.shape, &self.bits);
             } else {
                 self.live = false;
@@ -221,7 +224,7 @@ impl Row {
             if other.live {
                 let from = self.shape.start(label as usize);
                 let to = self.shape.end(label as usize);
-                self.bits.meet_range(&other.bits, from, to);
+                self.bits.change(&other.bits, Change::Meet, from, to);
                 self.live = has_class(&self.shape, &self.bits, label as usize);
             } else {
                 self.live = false;
@@ -239,7 +242,7 @@ impl Row {
             if other.live {
                 let from = self.shape.start(label as usize);
                 let to = self.shape.end(label as usize);
-                self.bits.take_range(&other.bits, from, to);
+                self.bits.change(&other.bits, Change::Take, from, to);
             } else {
                 self.live = false;
             }
@@ -275,8 +278,8 @@ impl Row {
     /// Whether another row of the universe lies under this one: it is empty, or this one has each of its classes. Then it adds nothing where it is joined.
     pub fn covers(&self, other: &Row) -> bool
         requires { map length self.now ≡ map length other.now }
-        ensures under { IsTrue result ↔ Under other.now self.now }
-        ensures same { result ≡ true → union self.now other.now ≡ self.now }
+        ensures under { IsTrue result ↔ Leq other.now self.now }
+        ensures same { result ≡ true → join self.now other.now ≡ self.now }
     {
         !other.live || (self.live && other.bits.lies_in(&self.bits))
     }

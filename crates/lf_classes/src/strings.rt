@@ -1,13 +1,14 @@
 //! What functions of labels read off their strings.
-ghost use Rattle.std.specs.Prelude.{◌≡◌, [], ◌∷◌, drop, map, unwrap_or, OnOk};
-ghost use Rattle.lf_ast.specs.Types.{string_of};
-ghost use Rattle.lf_semantics.specs.Parts.{text_at, texts_of};
-ghost use Rattle.lf_semantics.specs.Strings.{has_dollar, joining, replacing};
-ghost use Rattle.lf_semantics.specs.Walk.{joining_met, met, replacement_texts, replacing_met, source_met};
+ghost use Rattle.std.specs.Prelude.{◌≡◌, [], drop, map, OnOk};
+ghost use Rattle.lf_ast.specs.Arguments.{text_of, texts_of};
+ghost use Rattle.lf_ast.specs.Tree.{tree, trees};
+ghost use Rattle.lf_semantics.specs.Strings.{joining, replacing};
+ghost use Rattle.lf_semantics.specs.Mentions.{joining_mentions, mention, replacement_texts, replacing_mentions, source_mentions};
 ghost use Rattle.lf_classes.specs.Meetings.{before_met, behind_met, met_all, with_met};
 
 use crate::meetings::Meetings;
-use lf_ast::{Expr, LabelEffect, is_label_name, string_of};
+use lf_ast::{Expr, LabelEffect, has_dollar, text_at, text_of};
+use lf_base::names::is_label_name;
 use lf_base::{Memory, Text};
 use std::alloc::Global;
 
@@ -20,7 +21,7 @@ impl Meetings {
         effect: LabelEffect,
         args: &[Expr],
     ) -> Result<(), Memory>
-        ensures { OnOk result (self.new ≡ met_all self.old (before_met effect (texts_of args.now))) }
+        ensures { OnOk result (self.new ≡ met_all self.old (before_met effect (texts_of (trees args.now)))) }
     {
         match effect {
             LabelEffect::HistogramQuantile => self.meet_text(alloc, "le", "+Inf"),
@@ -37,7 +38,7 @@ impl Meetings {
         effect: LabelEffect,
         args: &[Expr],
     ) -> Result<(), Memory>
-        ensures { OnOk result (self.new ≡ met_all self.old (behind_met effect (texts_of args.now))) }
+        ensures { OnOk result (self.new ≡ met_all self.old (behind_met effect (texts_of (trees args.now)))) }
     {
         match effect {
             LabelEffect::LabelReplace => self.meet_replacing(alloc, args),
@@ -48,7 +49,7 @@ impl Meetings {
 
     /// `label_replace` meets its target with its replacement, and its source with the texts of its pattern.
     fn meet_replacing(&mut self, alloc: Global, args: &[Expr]) -> Result<(), Memory>
-        ensures { OnOk result (self.new ≡ met_all self.old (replacing_met (replacing (texts_of args.now)))) }
+        ensures { OnOk result (self.new ≡ met_all self.old (replacing_mentions (replacing (texts_of (trees args.now))))) }
     {
         self.meet_target(alloc, text_at(args, 1), text_at(args, 2))?;
         self.meet_source(alloc, text_at(args, 3), text_at(args, 4))
@@ -56,7 +57,7 @@ impl Meetings {
 
     /// The target of a replacement is met with its text, if that has no `$`.
     fn meet_target(&mut self, alloc: Global, target: &str, replacement: &str) -> Result<(), Memory>
-        ensures { OnOk result (self.new ≡ with_met self.old (met target.now (replacement_texts replacement.now))) }
+        ensures { OnOk result (self.new ≡ with_met self.old (mention target.now (replacement_texts replacement.now))) }
     {
         if has_dollar(replacement) {
             self.meet_label(alloc, target)
@@ -67,9 +68,9 @@ impl Meetings {
 
     /// The source of a replacement is met with the texts of the pattern, if it is a label name.
     fn meet_source(&mut self, alloc: Global, source: &str, pattern: &str) -> Result<(), Memory>
-        ensures { OnOk result (self.new ≡ met_all self.old (source_met source.now pattern.now)) }
+        ensures { OnOk result (self.new ≡ met_all self.old (source_mentions source.now pattern.now)) }
     {
-        if !is_label_name(source) {
+        if !is_label_name(source.as_bytes()) {
             return Ok(());
         }
         let pattern = Text::of(alloc, pattern)?;
@@ -78,7 +79,7 @@ impl Meetings {
 
     /// `label_join` meets its target and then its sources.
     fn meet_joining(&mut self, alloc: Global, args: &[Expr]) -> Result<(), Memory>
-        ensures { OnOk result (self.new ≡ met_all self.old (joining_met (joining (texts_of args.now)))) }
+        ensures { OnOk result (self.new ≡ met_all self.old (joining_mentions (joining (texts_of (trees args.now))))) }
     {
         self.meet_label(alloc, text_at(args, 1))?;
         self.meet_sources(alloc, behind(args, 3))
@@ -86,32 +87,12 @@ impl Meetings {
 
     /// Each argument names a label, which is met.
     fn meet_sources(&mut self, alloc: Global, sources: &[Expr]) -> Result<(), Memory>
-        ensures { OnOk result (self.new ≡ met_all self.old (map (λ source. met source []) (texts_of sources.now))) }
+        ensures { OnOk result (self.new ≡ met_all self.old (map (λ source. mention (text_of (tree source)) []) sources.now)) }
     {
         for source in sources {
             self.meet_label(alloc, text_of(source))?;
         }
         Ok(())
-    }
-}
-
-/// The text of a string, and no text of anything else.
-fn text_of(arg: &Expr) -> &str
-    ensures { result.now ≡ unwrap_or (string_of arg.now) [] }
-{
-    match string_of(arg) {
-        Some(text) => text.as_str(),
-        None => "",
-    }
-}
-
-/// The text of the argument at a place.
-fn text_at(args: &[Expr], place: usize) -> &str
-    ensures { result.now ≡ text_at (texts_of args.now) place }
-{
-    match args.get(place) {
-        Some(arg) => text_of(arg),
-        None => "",
     }
 }
 
@@ -124,11 +105,4 @@ fn behind(args: &[Expr], first: usize) -> &[Expr]
     } else {
         &[]
     }
-}
-
-/// Whether a replacement has a `$`.
-fn has_dollar(replacement: &str) -> bool
-    ensures { result ≡ has_dollar replacement.now }
-{
-    replacement.as_bytes().iter().any(|byte| *byte == b'$')
 }

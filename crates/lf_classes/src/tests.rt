@@ -1,23 +1,32 @@
-//! That calls succeed, on the examples of the rules.
+//! That calls succeed which no file that is linted reaches.
 
 ghost use Rattle.std.specs.Prelude.{◌≡◌, ◌∷◌, [], true, false, IfOk};
 
-use crate::passes;
 use crate::row::Row;
 use crate::shape::Shape;
-use lf_ast::{MatchOp, Matcher};
-use lf_base::{Memory, Span, Text};
+use crate::{check_patterns, passes};
+use lf_ast::{Expr, MatchOp, Matcher, Sight};
+use lf_base::{Kind, Memory, Refusal, Seq, Span, Text};
 use std::alloc::Global;
 use std::process::Abort;
 use std::test::Fail;
 
-mod changes;
-mod patterns;
-mod remembering;
-
 const NOWHERE: Span = Span { start: 0, end: 0 };
 
-/// A matcher on a label passes a text, or doesn't.
+const SOMEWHERE: Span = Span { start: 7, end: 9 };
+
+/// A matcher on a label, with its text at the same place each time.
+fn matcher(alloc: Global, op: MatchOp, value: &str) -> Result<Matcher, Memory> {
+    Ok(Matcher {
+        label: Text::of(alloc, "env")?,
+        op,
+        value: Text::of(alloc, value)?,
+        label_span: NOWHERE,
+        value_span: SOMEWHERE,
+    })
+}
+
+/// A matcher passes a text, or doesn't.
 fn judges(
     rt: &impl Abort,
     alloc: Global,
@@ -26,48 +35,43 @@ fn judges(
     text: &str,
     wanted: bool,
 ) -> Result<(), Fail> {
-    let matcher = Matcher {
-        label: Text::of(alloc, "env")?,
-        op,
-        value: Text::of(alloc, value)?,
-        label_span: NOWHERE,
-        value_span: NOWHERE,
-    };
     let text = Text::of(alloc, text)?;
-    let found = passes(alloc, &matcher, &text)?;
+    let found = passes(alloc, &matcher(alloc, op, value)?, &text)?;
     assert_eq!(rt; found, wanted);
     Ok(())
 }
 
 #[test]
-fn equal_and_not_equal_compare_texts(rt: HostRuntime) -> Result<(), Fail> {
-    judges(&rt, rt.alloc(), MatchOp::Equal, "p", "p", true)?;
-    judges(&rt, rt.alloc(), MatchOp::Equal, "p", "", false)?;
-    judges(&rt, rt.alloc(), MatchOp::NotEqual, "p", "p", false)?;
-    judges(&rt, rt.alloc(), MatchOp::NotEqual, "", "p", true)
-}
-
-#[test]
-fn a_pattern_matches_the_whole_text(rt: HostRuntime) -> Result<(), Fail> {
-    judges(&rt, rt.alloc(), MatchOp::Matches, "a|b", "b", true)?;
-    judges(&rt, rt.alloc(), MatchOp::Matches, "a", "ba", false)?;
-    judges(&rt, rt.alloc(), MatchOp::NotMatches, "a", "ba", true)?;
-    judges(&rt, rt.alloc(), MatchOp::NotMatches, "a", "a", false)
-}
-
-#[test]
-fn a_pattern_that_isnt_plain_matches_the_whole_text(rt: HostRuntime) -> Result<(), Fail> {
-    judges(&rt, rt.alloc(), MatchOp::Matches, "x.*", "xyz", true)?;
-    judges(&rt, rt.alloc(), MatchOp::Matches, "x.*", "yx", false)?;
-    judges(&rt, rt.alloc(), MatchOp::Matches, ".*", "", true)?;
-    judges(&rt, rt.alloc(), MatchOp::NotMatches, ".+", "", true)?;
-    judges(&rt, rt.alloc(), MatchOp::NotMatches, "[a-c]", "b", false)
-}
-
-#[test]
-fn what_is_no_pattern_passes_nothing(rt: HostRuntime) -> Result<(), Fail> {
-    judges(&rt, rt.alloc(), MatchOp::Matches, "(", "(", false)?;
-    judges(&rt, rt.alloc(), MatchOp::NotMatches, "(", "a", false)
+fn a_pattern_matches_the_whole_text_and_is_refused_where_it_stands(
+    rt: HostRuntime,
+) -> Result<(), Fail> {
+    let alloc = rt.alloc();
+    judges(&rt, alloc, MatchOp::Equal, "p", "p", true)?;
+    judges(&rt, alloc, MatchOp::NotEqual, "p", "p", false)?;
+    judges(&rt, alloc, MatchOp::Matches, "a|b", "b", true)?;
+    judges(&rt, alloc, MatchOp::Matches, "x.*", "yx", false)?;
+    judges(&rt, alloc, MatchOp::NotMatches, "a", "ba", true)?;
+    judges(&rt, alloc, MatchOp::NotMatches, "(", "a", false)?;
+    let mut matchers = Seq::new(alloc);
+    matchers.push(matcher(alloc, MatchOp::Matches, "(")?)?;
+    let expr = Expr::Selector {
+        name: Some(Text::of(alloc, "up")?),
+        matchers,
+        sight: Sight {
+            range: None,
+            step: None,
+            offset: None,
+            at: None,
+            range_span: NOWHERE,
+        },
+        span: NOWHERE,
+    };
+    let refusal = Refusal::At {
+        kind: Kind::BadPattern,
+        span: SOMEWHERE,
+    };
+    assert_eq!(&rt; check_patterns(alloc, &expr), Err(refusal));
+    Ok(())
 }
 
 /// Rows of two labels, with two and with three classes: the full row and the empty one.
@@ -83,25 +87,19 @@ fn rows(alloc: Global) -> Result<(Row, Row), Memory>
 }
 
 #[test]
-fn each_change_is_the_set_operation_of_its_name(rt: HostRuntime) -> Result<(), Fail> {
+fn a_row_follows_its_label(rt: HostRuntime) -> Result<(), Fail> {
     let (mut row, empty) = rows(rt.alloc())?;
-    row.keep(1, 2, false);
-    assert!(&rt; row.has(1, 1) && !row.has(1, 2) && row.has(0, 0));
-    row.set_class(1, 1);
-    assert!(&rt; row.has(1, 1) && !row.has(1, 0) && row.has(0, 1));
-    row.drop_label(0);
-    assert!(&rt; row.has(0, 0) && !row.has(0, 1) && row.has(1, 1));
-    row.join(&empty);
-    assert!(&rt; !row.is_empty() && row.has(0, 0) && row.has(1, 1));
-    let copy = row.copy()?;
-    row.keep(1, 0, true);
-    row.meet(&copy);
-    assert!(&rt; row.has(1, 1) && !row.has(1, 0));
-    assert!(&rt; row.has_text(1) && !row.has_text(0) && !empty.has_text(1));
+    row.narrow_classes(1, &[false, true, true]);
+    row.set_class(0, 1);
+    let mut other = row.copy()?;
     row.fill_label(0);
-    row.keep_class(0, 1);
-    assert!(&rt; row.has_text(0) && !row.has(0, 0) && row.has(1, 1));
-    row.keep(1, 1, false);
-    assert!(&rt; row.is_empty() && !row.has(0, 0) && empty.is_empty());
+    row.keep(1, 2, false);
+    assert!(&rt; row.has(0, 0) && row.has(1, 1) && !row.has(1, 0) && !row.has(1, 2));
+    assert!(&rt; other.has(0, 1) && !other.has(0, 0) && other.has(1, 2) && row.covers(&empty));
+    other.take_label(1, &row);
+    other.join(&empty);
+    assert!(&rt; row.covers(&other) && !other.covers(&row) && !other.has(1, 2));
+    other.meet_label(1, &empty);
+    assert!(&rt; other.is_empty() && empty.is_empty() && !row.is_empty());
     Ok(())
 }

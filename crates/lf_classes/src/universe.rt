@@ -1,5 +1,6 @@
 //! The universe of rules.
 ghost use Rattle.std.specs.Prelude.{◌≡◌, ◌<◌, ◌≤◌, ◌+◌, ◌++◌, ◌∷◌, [], length, map, codes, slice_index_or, Some, IfOk, IfErr, IfSome, IfNone, OnOk};
+ghost use Rattle.lf_ast.specs.Rules.{rule_trees};
 ghost use Rattle.lf_semantics.specs.Listing.{IsCandidate, class_count, class_counts, class_of, class_texts, label_count, label_of, named_at, other_class, universe_of};
 ghost use Rattle.lf_classes.specs.Limits.{Exceeds, IsWithin, Passes, most_classes, most_labels};
 ghost use Rattle.lf_classes.specs.Meetings.{with_star};
@@ -42,7 +43,7 @@ pub struct Universe {
 
 impl Model for Universe {
     ghost use Rattle.lf_semantics.specs.Listing.{Listing};
-    ghost use Rattle.lf_classes.specs.Limits.{HasParts};
+    ghost use Rattle.lf_classes.specs.UniverseParts.{HasParts};
 
     ghost Value = { Listing };
 
@@ -57,11 +58,11 @@ impl Universe {
     /// `TooManyLabels` is answered where the rules meet more than 4,096 labels, and else `TooManyClasses` where these have more than 65,536 classes together.
     pub fn build(alloc: Global, rules: &Seq<Rule>) -> Result<Universe, ClassError>
         // What is answered is the universe.
-        ensures found { IfOk result (λ universe. universe ≡ universe_of rules.now) }
+        ensures found { IfOk result (λ universe. universe ≡ universe_of (rule_trees rules.now)) }
         // It is within the limits.
         ensures within { IfOk result IsWithin }
         // What is refused passes a limit, and the count is that of the rules.
-        ensures refused { IfErr result (Passes rules.now) }
+        ensures refused { IfErr result (Passes (rule_trees rules.now)) }
     {
         let mut meetings = Meetings::new(alloc)?;
         meetings.meet_rules(alloc, rules.as_slice())?;
@@ -123,10 +124,10 @@ impl Universe {
         if class == 0 {
             return Some(&self.empty);
         }
-        let classes = self.named.get(label as usize);
+        let texts = self.named.get(label as usize).texts();
         let place = class as usize - 1;
-        if place < classes.len() {
-            Some(classes.get(place))
+        if place < texts.len() {
+            Some(texts.get(place))
         } else {
             None
         }
@@ -142,7 +143,7 @@ impl Universe {
             return 0;
         }
         let _classes = self.classes(label);
-        self.named.get(label as usize).place(text) as u32 + 1
+        self.named.get(label as usize).texts().place(text) as u32 + 1
     }
 
     /// A text that stands for a class: its own, and for 'any other text' the first of `v1`, `v2`, .. that is no class of the label.
@@ -245,7 +246,7 @@ fn counts(alloc: Global, named: &[Classes]) -> Result<Vec<usize>, Memory>
 {
     let mut counts = Vec::new(alloc);
     for classes in named {
-        counts.push(classes.len() + 2)?;
+        counts.push(classes.texts().len() + 2)?;
     }
     Ok(counts)
 }

@@ -1,9 +1,10 @@
 //! What rules and their expressions meet, in the order of their text.
 ghost use Rattle.std.specs.Prelude.{◌≡◌, OnOk};
-ghost use Rattle.std.specs.List.{flat_map};
+ghost use Rattle.lf_ast.specs.Arguments.{texts_of};
 ghost use Rattle.lf_ast.specs.Functions.{aggregation, function_named};
-ghost use Rattle.lf_semantics.specs.Parts.{texts_of};
-ghost use Rattle.lf_semantics.specs.Walk.{call_met, effect_met, group_names, grouped_met, names_met, rule_walk, rules_walk, stands_first, walk};
+ghost use Rattle.lf_ast.specs.Rules.{rule_tree, rule_trees};
+ghost use Rattle.lf_ast.specs.Tree.{tree, trees};
+ghost use Rattle.lf_semantics.specs.Mentions.{arguments_mentions, call_mentions, effect_mentions, group_names, grouped_mentions, mentions, names_mentions, rule_mentions, rules_mentions, stands_first};
 ghost use Rattle.lf_classes.specs.Meetings.{met_all};
 
 use crate::meetings::{METRIC, Meetings};
@@ -14,7 +15,7 @@ use std::alloc::Global;
 impl Meetings {
     /// Meets what rules name.
     pub fn meet_rules(&mut self, alloc: Global, rules: &[Rule]) -> Result<(), Memory>
-        ensures { OnOk result (self.new ≡ met_all self.old (rules_walk rules.now)) }
+        ensures { OnOk result (self.new ≡ met_all self.old (rules_mentions (rule_trees rules.now))) }
     {
         for rule in rules {
             self.meet_rule(alloc, rule)?;
@@ -24,7 +25,7 @@ impl Meetings {
 
     /// Meets what a rule names: its expression's labels, and then the name that it records and the labels that it sets. An alert records nothing.
     fn meet_rule(&mut self, alloc: Global, rule: &Rule) -> Result<(), Memory>
-        ensures { OnOk result (self.new ≡ met_all self.old (rule_walk rule.now)) }
+        ensures { OnOk result (self.new ≡ met_all self.old (rule_mentions (rule_tree rule.now))) }
     {
         self.meet_expr(alloc, &rule.expr)?;
         if rule.alert {
@@ -37,7 +38,7 @@ impl Meetings {
     /// Meets what an expression names.
     #[cycle(walk)]
     fn meet_expr(&mut self, alloc: Global, expr: &Expr) -> Result<(), Memory>
-        ensures { OnOk result (self.new ≡ met_all self.old (walk expr.now)) }
+        ensures { OnOk result (self.new ≡ met_all self.old (mentions (tree expr.now))) }
     {
         match expr {
             Expr::Number { .. } | Expr::Str { .. } => Ok(()),
@@ -72,7 +73,7 @@ impl Meetings {
     #[cycle(walk)]
     #[inline(never)]
     fn meet_call(&mut self, alloc: Global, name: &str, args: &[Expr]) -> Result<(), Memory>
-        ensures { OnOk result (self.new ≡ met_all self.old (call_met (function_named name.now) (texts_of args.now) (flat_map walk args.now))) }
+        ensures { OnOk result (self.new ≡ met_all self.old (call_mentions (function_named name.now) (texts_of (trees args.now)) (arguments_mentions (trees args.now)))) }
     {
         match Function::named(name) {
             Some(function) => self.meet_operands(alloc, function.labels, args),
@@ -90,7 +91,7 @@ impl Meetings {
         grouping: &Grouping,
         args: &[Expr],
     ) -> Result<(), Memory>
-        ensures { OnOk result (self.new ≡ met_all self.old (grouped_met (stands_first (group_names grouping.now) args.now) (names_met (group_names grouping.now)) (effect_met (aggregation op).labels (texts_of args.now) (flat_map walk args.now)))) }
+        ensures { OnOk result (self.new ≡ met_all self.old (grouped_mentions (stands_first (group_names grouping.now) (trees args.now)) (names_mentions (group_names grouping.now)) (effect_mentions (aggregation op).labels (texts_of (trees args.now)) (arguments_mentions (trees args.now))))) }
     {
         let effect = Function::of_aggregation(op).labels;
         let names = names_in(grouping);
@@ -111,7 +112,7 @@ impl Meetings {
         effect: LabelEffect,
         args: &[Expr],
     ) -> Result<(), Memory>
-        ensures { OnOk result (self.new ≡ met_all self.old (effect_met effect (texts_of args.now) (flat_map walk args.now))) }
+        ensures { OnOk result (self.new ≡ met_all self.old (effect_mentions effect (texts_of (trees args.now)) (arguments_mentions (trees args.now)))) }
     {
         self.meet_before(alloc, effect, args)?;
         self.meet_args(alloc, args)?;
@@ -122,7 +123,7 @@ impl Meetings {
     #[cycle(walk)]
     #[inline(never)]
     fn meet_args(&mut self, alloc: Global, args: &[Expr]) -> Result<(), Memory>
-        ensures { OnOk result (self.new ≡ met_all self.old (flat_map walk args.now)) }
+        ensures { OnOk result (self.new ≡ met_all self.old (arguments_mentions (trees args.now))) }
     {
         for arg in args {
             self.meet_expr(alloc, arg)?;
@@ -143,7 +144,7 @@ fn names_in(grouping: &Grouping) -> &[Name]
 
 /// Whether a grouping stands before the arguments.
 fn stands_first(names: &[Name], args: &[Expr]) -> bool
-    ensures { result ≡ stands_first names.now args.now }
+    ensures { result ≡ stands_first names.now (trees args.now) }
 {
     match (names, args) {
         ([name, ..], [arg, ..]) => name.span.start < span_of(arg).start,

@@ -1,6 +1,17 @@
 //! Bits of one word.
 ghost use Rattle.std.specs.Prelude.{◌≡◌, ◌≢◌, ℕ, ◌+◌, ◌*◌, ◌<◌, ◌≤◌, ◌^◌, true, false};
-ghost use Rattle.lf_classes.specs.Bits.{bit};
+ghost use Rattle.lf_classes.specs.Bits.{bit, changed};
+
+/// How bits are changed by those of another list.
+#[derive(Clone, Copy)]
+pub enum Change {
+    /// They become those of the other.
+    Take,
+    /// Those are cleared that the other lacks.
+    Meet,
+    /// Those are set that the other has.
+    Join,
+}
 
 /// The word whose bits are set from a place on.
 pub fn from_place(place: usize) -> u64
@@ -18,6 +29,17 @@ pub fn whole(on: bool) -> u64
     if on { u64::MAX } else { 0 }
 }
 
+/// A word changed by another.
+pub fn changed(word: u64, other: u64, change: Change) -> u64
+    ensures { (i : ℕ) → bit result i ≡ changed change (bit word i) (bit other i) }
+{
+    match change {
+        Change::Take => other,
+        Change::Meet => word & other,
+        Change::Join => word | other,
+    }
+}
+
 /// A word with one bit set or cleared.
 pub fn with_bit(word: u64, place: usize, on: bool) -> u64
     requires { place < 64 }
@@ -29,14 +51,6 @@ pub fn with_bit(word: u64, place: usize, on: bool) -> u64
     } else {
         word & !(1 << place)
     }
-}
-
-/// A word with the bits of a mask.
-pub fn filled(word: u64, mask: u64) -> u64
-    ensures kept { (i : ℕ) → i < 64 → bit mask i ≡ false → bit result i ≡ bit word i }
-    ensures on { (i : ℕ) → i < 64 → bit mask i ≡ true → bit result i ≡ true }
-{
-    word | mask
 }
 
 /// A word without the bits of a mask.

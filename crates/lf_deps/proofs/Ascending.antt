@@ -3,8 +3,8 @@ use Rattle.std.proofs.Common.{◌≡◌, ◌≢◌, ℕ, zero, suc, ◌+◌, ◌
 use Rattle.std.proofs.lemmas.Bool.{both_ways, cases_eq, eq-eqb, not-true}
 use Rattle.std.proofs.lemmas.List.FromFn.{get_or-range_with_len, length-range_with_len}
 use Rattle.std.specs.List.{Contains, filter, range_with_len}
-use Rattle.lf_semantics.proofs.ListingLaws.{in_filter, of_filter}
-use Rattle.lf_semantics.proofs.Members.{first_or_behind, none_in}
+use Rattle.lf_laws.proofs.Members.{first_or_behind, none_in}
+use Rattle.lf_semantics.proofs.Members.{in_filter, of_filter}
 use Rattle.lf_semantics.proofs.Places.{eqb-other}
 use Rattle.lf_deps.specs.Ordering.{without}
 

@@ -5,7 +5,7 @@ use Rattle.std.specs.List.{Contains}
 use Rattle.std.proofs.lemmas.Bool.{cases_eq, cases_lt, eq-eqb, eqb-true}
 use Rattle.std.proofs.lemmas.List.{drop_more, get_or-set_other, get_or-set_same, take-append-drop, take_more}
 use Rattle.std.proofs.lemmas.List.Elements.{Contains-append_cases, Contains-append_left, Contains-append_right}
-use Rattle.lf_semantics.proofs.Members.{behind, first_or_behind, here, none_in}
+use Rattle.lf_laws.proofs.Members.{behind, first_or_behind, here, none_in}
 use Rattle.lf_semantics.proofs.Places.{eqb-other, eqb-same}
 use Rattle.lf_deps.specs.Queue.{CountsDown, IsLeft, count_left, occurs, occurs_in}
 

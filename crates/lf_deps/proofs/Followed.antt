@@ -1,42 +1,24 @@
 -- What a search from selectors meets is what they read.
-use Rattle.std.proofs.Common.{◌≡◌, ℕ, zero, suc, ◌+◌, ◌<◌, ◌≤◌, ◌⊎◌, Bool, true, false, not, ◌&&◌, cond, nat_lt, List, [], ◌∷◌, ◌++◌, take, length, get_or, Option, Some, None, inl, inr, refl, sym, ◌∙◌, ap, subst, arith}
+use Rattle.std.proofs.Common.{◌≡◌, ℕ, zero, suc, ◌+◌, ◌<◌, ◌≤◌, Bool, true, false, not, ◌&&◌, cond, nat_lt, List, [], ◌∷◌, ◌++◌, take, length, get_or, Option, Some, None, inl, inr, refl, sym, ◌∙◌, ap, subst, arith}
 use Rattle.std.specs.List.{Contains, flat_map}
 use Rattle.std.specs.Str.{bytes_eq}
 use Rattle.std.proofs.lemmas.Bool.{cases_lt}
 use Rattle.std.proofs.lemmas.Bool.Decides.{nat_tests}
 use Rattle.std.proofs.lemmas.Grind.{flat_map-append}
 use Rattle.std.proofs.lemmas.List.{append-nil, append_assoc, take_all, take_more}
-use Rattle.std.proofs.lemmas.List.Elements.{Contains-append_left, Contains-append_right}
+use Rattle.std.proofs.lemmas.List.Elements.{Contains-append_left, Contains-append_right, Contains-append_cases}
 use Rattle.lf_ast.specs.Labels.{Bytes}
-use Rattle.lf_ast.specs.declared.expr.Expr.{Expr}
-use Rattle.lf_ast.specs.declared.rule.Rule.{Rule}
+use Rattle.lf_ast.specs.Tree.{Tree}
+use Rattle.lf_ast.specs.Rules.{RuleTree}
 use Rattle.lf_classes.specs.Meetings.{with_text}
 use Rattle.lf_semantics.specs.Listing.{place}
-use Rattle.lf_semantics.proofs.ListingLaws.{in_flat_map}
-use Rattle.lf_semantics.proofs.Members.{behind, first_or_behind, here, none_in, same_true, true_same}
+use Rattle.lf_laws.proofs.Members.{in_flat_map, behind, here, none_in, same_true, true_same, of_flat_map, only_one}
 use Rattle.lf_semantics.proofs.Places.{at_place}
 use Rattle.lf_deps.specs.Reading.{Reads, Selects, SelectsBy, selectors}
 use Rattle.lf_deps.specs.Reading.Reads.{selected, through}
 use Rattle.lf_deps.specs.Search.{AreRead, Grows, IsSearch, ReadsBy, made_by, making}
 
 -- lists
-
-pub in_append : {X : Type 0} (xs ys : List X) (y : X) → Contains (xs ++ ys) y → Contains xs y ⊎ Contains ys y
-in_append [] ys y c = inr c
-in_append (x ∷ xs) ys y c = elim (first_or_behind x (xs ++ ys) y c) [
-  | inl e ↦ let P : _ → Type 0 = λ z. Contains (x ∷ xs) z in inl (subst P e (here x xs))
-  | inr d ↦ elim (in_append xs ys y d) [ inl a ↦ inl (behind x xs y a) | inr b ↦ inr b ]
-]
-
-pub from_flat_map : {X Y : Type 0} (f : X → List Y) (xs : List X) (y : Y) → Contains (flat_map f xs) y → (x : X) × Contains xs x × Contains (f x) y
-from_flat_map f [] y c = absurd (none_in y c)
-from_flat_map f (x ∷ xs) y c = elim (in_append (f x) (flat_map f xs) y c) [
-  | inl d ↦ (x, here x xs, d)
-  | inr d ↦ let r = from_flat_map f xs y d in (r.0, behind x xs r.0 r.1, r.2)
-]
-
-pub only_one : {X : Type 0} (x y : X) → Contains (x ∷ []) y → x ≡ y
-only_one x y c = elim (first_or_behind x [] y c) [ inl e ↦ e | inr d ↦ absurd (none_in y d) ]
 
 pub text_at : (xs : List Bytes) (k : ℕ) → k < length xs → Contains xs (get_or xs k [])
 text_at [] k h = absurd (omega arith)
@@ -70,8 +52,8 @@ pub grows_then : (a b x y z : List Bytes) → Grows a x y → Grows b y z → Gr
 grows_then a b x y z g h = (
   g.0 ++ h.0,
   h.1 ∙ ap (λ (l : List Bytes). l ++ h.0) g.1 ∙ append_assoc x g.0 h.0,
-  λ n c. elim (in_append g.0 h.0 n c) [ inl d ↦ Contains-append_left a b n (g.2 n d) | inr d ↦ Contains-append_right a b n (h.2 n d) ],
-  λ n c. elim (in_append a b n c) [ inl d ↦ kept_in b y z h n (g.3 n d) | inr d ↦ h.3 n d ],
+  λ n c. elim (Contains-append_cases g.0 h.0 n c) [ inl d ↦ Contains-append_left a b n (g.2 n d) | inr d ↦ Contains-append_right a b n (h.2 n d) ],
+  λ n c. elim (Contains-append_cases a b n c) [ inl d ↦ kept_in b y z h n (g.3 n d) | inr d ↦ h.3 n d ],
 )
 
 pub grows_text : (xs : List Bytes) (t : Bytes) → Grows (t ∷ []) xs (with_text xs t)
@@ -112,7 +94,7 @@ grows_whole f xs k a b h g = let P : List Bytes → Type 0 = λ l. Grows l a b i
 
 -- what is selected in the making of a name
 
-made_in : (name : Bytes) (r : Rule) (s : Option Bytes) → Contains (made_by name r) s → (r.alert ≡ false) × (r.name ≡ name) × Contains (selectors r.expr) s
+made_in : (name : Bytes) (r : RuleTree) (s : Option Bytes) → Contains (made_by name r) s → (r.alert ≡ false) × (r.name ≡ name) × Contains (selectors r.expr) s
 made_in name r s c = by r.alert refl (bytes_eq r.name name) refl c
   where
     by : (a : Bool) → r.alert ≡ a → (b : Bool) → bytes_eq r.name name ≡ b → Contains (cond (not a && b) (selectors r.expr) []) s → (r.alert ≡ false) × (r.name ≡ name) × Contains (selectors r.expr) s
@@ -120,36 +102,36 @@ made_in name r s c = by r.alert refl (bytes_eq r.name name) refl c
     by false f true e d = (f, true_same r.name name e, d)
     by false f false e d = absurd (none_in s d)
 
-made_of : (name : Bytes) (r : Rule) (s : Option Bytes) → r.alert ≡ false → r.name ≡ name → Contains (selectors r.expr) s → Contains (made_by name r) s
+made_of : (name : Bytes) (r : RuleTree) (s : Option Bytes) → r.alert ≡ false → r.name ≡ name → Contains (selectors r.expr) s → Contains (made_by name r) s
 made_of name r s a e c =
     let P : Bool → Type 0 = λ b. Contains (cond (not b && bytes_eq r.name name) (selectors r.expr) []) s in
     let Q : Bool → Type 0 = λ b. Contains (cond b (selectors r.expr) []) s in
     subst P (sym a) (subst Q (sym (same_true r.name name e)) c)
 
-pub making_to : (rules : List Rule) (name n : Bytes) → SelectsBy rules (making rules name) n → (r : Rule) × Contains rules r × (r.alert ≡ false) × (r.name ≡ name) × Selects rules r.expr n
-making_to rules name n (inl c) = let f = from_flat_map (made_by name) rules (Some n) c in let m = made_in name f.0 (Some n) f.2 in (f.0, f.1, m.0, m.1, inl m.2)
-making_to rules name n (inr c) = let f = from_flat_map (made_by name) rules None c.0 in let m = made_in name f.0 None f.2 in (f.0, f.1, m.0, m.1, inr (m.2, c.1))
+pub making_to : (rules : List RuleTree) (name n : Bytes) → SelectsBy rules (making rules name) n → (r : RuleTree) × Contains rules r × (r.alert ≡ false) × (r.name ≡ name) × Selects rules r.expr n
+making_to rules name n (inl c) = let f = of_flat_map (made_by name) rules (Some n) c in let m = made_in name f.0 (Some n) f.2 in (f.0, f.1, m.0, m.1, inl m.2)
+making_to rules name n (inr c) = let f = of_flat_map (made_by name) rules None c.0 in let m = made_in name f.0 None f.2 in (f.0, f.1, m.0, m.1, inr (m.2, c.1))
 
-pub making_from : (rules : List Rule) (name n : Bytes) (r : Rule) → Contains rules r → r.alert ≡ false → r.name ≡ name → Selects rules r.expr n → SelectsBy rules (making rules name) n
+pub making_from : (rules : List RuleTree) (name n : Bytes) (r : RuleTree) → Contains rules r → r.alert ≡ false → r.name ≡ name → Selects rules r.expr n → SelectsBy rules (making rules name) n
 making_from rules name n r c a e (inl d) = inl (in_flat_map (made_by name) rules r (Some n) c (made_of name r (Some n) a e d))
 making_from rules name n r c a e (inr d) = inr (in_flat_map (made_by name) rules r None c (made_of name r None a e d.0), d.1)
 
 -- what is read
 
-reads_more : (rules : List Rule) (e : Expr) (m : Bytes) → Reads rules e m → (r : Rule) → Contains rules r → r.alert ≡ false → r.name ≡ m → (n : Bytes) → Selects rules r.expr n → Reads rules e n
+reads_more : (rules : List RuleTree) (e : Tree) (m : Bytes) → Reads rules e m → (r : RuleTree) → Contains rules r → r.alert ≡ false → r.name ≡ m → (n : Bytes) → Selects rules r.expr n → Reads rules e n
 reads_more rules e m (selected s) r c a is n sel = through r c a (let P : Bytes → Type 0 = λ z. Selects rules e z in subst P (sym is) s) (selected sel)
 reads_more rules e m (through q d b t rest) r c a is n sel = through q d b t (reads_more rules q.expr m rest r c a is n sel)
 
-pub reads_on : (rules : List Rule) (start : List (Option Bytes)) (m : Bytes) → ReadsBy rules start m → (r : Rule) → Contains rules r → r.alert ≡ false → r.name ≡ m → (n : Bytes) → Selects rules r.expr n → ReadsBy rules start n
+pub reads_on : (rules : List RuleTree) (start : List (Option Bytes)) (m : Bytes) → ReadsBy rules start m → (r : RuleTree) → Contains rules r → r.alert ≡ false → r.name ≡ m → (n : Bytes) → Selects rules r.expr n → ReadsBy rules start n
 reads_on rules start m (inl s) r c a is n sel = inr (r, c, a, let P : Bytes → Type 0 = λ z. SelectsBy rules start z in subst P (sym is) s, selected sel)
 reads_on rules start m (inr q) r c a is n sel = inr (q.0, q.1, q.2, q.3, reads_more rules q.0.expr m q.4 r c a is n sel)
 
 -- a list that has what is selected in the making of each of its names has what is read by an expression of which it has what is selected
-module _ (rules : List Rule) (texts : List Bytes) (closed : (name : Bytes) → Contains texts name → (n : Bytes) → SelectsBy rules (making rules name) n → Contains texts n) where
-  of_rule : (r : Rule) → Contains rules r → r.alert ≡ false → Contains texts r.name → (n : Bytes) → Selects rules r.expr n → Contains texts n
+module _ (rules : List RuleTree) (texts : List Bytes) (closed : (name : Bytes) → Contains texts name → (n : Bytes) → SelectsBy rules (making rules name) n → Contains texts n) where
+  of_rule : (r : RuleTree) → Contains rules r → r.alert ≡ false → Contains texts r.name → (n : Bytes) → Selects rules r.expr n → Contains texts n
   of_rule r c a there n sel = closed r.name there n (making_from rules r.name n r c a refl sel)
 
-  pub covered : (e : Expr) → ((n : Bytes) → Selects rules e n → Contains texts n) → (name : Bytes) → Reads rules e name → Contains texts name
+  pub covered : (e : Tree) → ((n : Bytes) → Selects rules e n → Contains texts n) → (name : Bytes) → Reads rules e name → Contains texts name
   covered e h name (selected s) = h name s
   covered e h name (through r c a s rest) = covered r.expr (of_rule r c a (h r.name s)) name rest
 
@@ -159,7 +141,7 @@ module _ (rules : List Rule) (texts : List Bytes) (closed : (name : Bytes) → C
 
 -- the search
 
-pub search_begins : (rules : List Rule) (start : List (Option Bytes)) (added texts : List Bytes) → Grows added [] texts
+pub search_begins : (rules : List RuleTree) (start : List (Option Bytes)) (added texts : List Bytes) → Grows added [] texts
     → ((n : Bytes) → Contains added n → SelectsBy rules start n) → ((n : Bytes) → SelectsBy rules start n → Contains added n) → IsSearch rules start texts 0
 search_begins rules start added texts g to from = record {
   read = λ n c. let P : List Bytes → Type 0 = λ l. Contains l n in inl (to n (g.2 n (subst P g.1 c)));
@@ -167,7 +149,7 @@ search_begins rules start added texts g to from = record {
   followed = λ name c n d. let P : List Bytes → Type 0 = λ l. Contains l name in absurd (none_in name (subst P (take_none texts) c));
 }
 
-module _ (rules : List Rule) (start : List (Option Bytes)) (texts : List Bytes) (next : ℕ) (s : IsSearch rules start texts next) where
+module _ (rules : List RuleTree) (start : List (Option Bytes)) (texts : List Bytes) (next : ℕ) (s : IsSearch rules start texts next) where
   pub search_ends : length texts ≤ next → AreRead rules start texts
   search_ends h name = (s.read name, covered_by rules texts closed start s.begun name)
     where
@@ -176,7 +158,7 @@ module _ (rules : List Rule) (start : List (Option Bytes)) (texts : List Bytes) 
 
   module _ (within : next < length texts) (added new : List Bytes) (g : Grows added texts new) (to : (n : Bytes) → Contains added n → SelectsBy rules (making rules (get_or texts next [])) n) (from : (n : Bytes) → SelectsBy rules (making rules (get_or texts next [])) n → Contains added n) where
     read_still : (n : Bytes) → Contains new n → ReadsBy rules start n
-    read_still n c = let P : List Bytes → Type 0 = λ l. Contains l n in elim (in_append texts g.0 n (subst P g.1 c)) [
+    read_still n c = let P : List Bytes → Type 0 = λ l. Contains l n in elim (Contains-append_cases texts g.0 n (subst P g.1 c)) [
       | inl d ↦ s.read n d
       | inr d ↦
           let name : Bytes = get_or texts next [] in
@@ -188,7 +170,7 @@ module _ (rules : List Rule) (start : List (Option Bytes)) (texts : List Bytes) 
     followed_still name c n d =
         let P : List Bytes → Type 0 = λ l. Contains (take (next + 1) l) name in
         let Q : List Bytes → Type 0 = λ l. Contains l name in
-        elim (in_append (take next texts) (get_or texts next [] ∷ []) name (subst Q (take_next texts g.0 next within) (subst P g.1 c))) [
+        elim (Contains-append_cases (take next texts) (get_or texts next [] ∷ []) name (subst Q (take_next texts g.0 next within) (subst P g.1 c))) [
           | inl b ↦ kept_in added texts new g n (s.followed name b n d)
           | inr b ↦ let R : Bytes → Type 0 = λ z. SelectsBy rules (making rules z) n in g.3 n (from n (subst R (sym (only_one (get_or texts next []) name b)) d))
         ]

@@ -7,22 +7,23 @@ use Rattle.std.proofs.lemmas.Bool.{cases_lt}
 use Rattle.std.proofs.lemmas.Bool.Decides.{nat_tests}
 use Rattle.std.proofs.lemmas.List.{append-nil, length-map, map-append}
 use Rattle.lf_ast.specs.Labels.{Bytes}
-use Rattle.lf_ast.specs.declared.rule.Rule.{Rule}
+use Rattle.lf_ast.specs.Rules.{RuleTree}
 use Rattle.lf_classes.specs.Meetings.{with_text}
 use Rattle.lf_classes.proofs.Seen.{first_seen-push}
 use Rattle.lf_semantics.specs.Environments.{names_recorded, recorded_names}
 use Rattle.lf_semantics.specs.Listing.{first_seen, place}
 use Rattle.lf_semantics.proofs.ListingLaws.{AreDistinct, first_seen_distinct, in_first_seen, place_within}
-use Rattle.lf_semantics.proofs.Members.{behind, here, other_false, same_true, true_same}
+use Rattle.lf_laws.proofs.Members.{behind, here, other_false, same_true, true_same}
 use Rattle.lf_semantics.proofs.Places.{place_le}
-use Rattle.lf_deps.specs.Makers.{put_at, with_maker, with_room}
+use Rattle.lf_graph.specs.Buckets.{put_at}
+use Rattle.lf_deps.specs.Makers.{with_maker, with_room}
 use Rattle.lf_deps.specs.Reading.{selectors}
 use Rattle.lf_deps.specs.Search.{numbers_of}
 use Rattle.lf_deps.specs.Sources.{IsSourcesOf, Sources, records}
 
 -- recorded names
 
-names_more : (rules : List Rule) (r : Rule) → names_recorded (rules ++ r ∷ []) ≡ cond r.alert (names_recorded rules) (names_recorded rules ++ r.name ∷ [])
+names_more : (rules : List RuleTree) (r : RuleTree) → names_recorded (rules ++ r ∷ []) ≡ cond r.alert (names_recorded rules) (names_recorded rules ++ r.name ∷ [])
 names_more [] r = refl
 names_more (x ∷ rules) r = by x.alert r.alert (names_more rules r)
   where
@@ -34,7 +35,7 @@ names_more (x ∷ rules) r = by x.alert r.alert (names_more rules r)
     by false true e = ap (λ (xs : List Bytes). x.name ∷ xs) e
     by false false e = ap (λ (xs : List Bytes). x.name ∷ xs) e
 
-recorded_more : (rules : List Rule) (r : Rule) → recorded_names (rules ++ r ∷ []) ≡ cond r.alert (recorded_names rules) (with_text (recorded_names rules) r.name)
+recorded_more : (rules : List RuleTree) (r : RuleTree) → recorded_names (rules ++ r ∷ []) ≡ cond r.alert (recorded_names rules) (with_text (recorded_names rules) r.name)
 recorded_more rules r = ap first_seen (names_more rules r) ∙ by r.alert
   where
     by : (b : Bool) → first_seen (cond b (names_recorded rules) (names_recorded rules ++ r.name ∷ [])) ≡ cond b (first_seen (names_recorded rules)) (with_text (first_seen (names_recorded rules)) r.name)
@@ -43,7 +44,7 @@ recorded_more rules r = ap first_seen (names_more rules r) ∙ by r.alert
 
 -- numbers of rules
 
-numbers_more : (test : Rule → Bool) (rules : List Rule) (j k : ℕ) (r : Rule) → k ≡ j + length rules → numbers_of test j (rules ++ r ∷ []) ≡ numbers_of test j rules ++ cond (test r) (k ∷ []) []
+numbers_more : (test : RuleTree → Bool) (rules : List RuleTree) (j k : ℕ) (r : RuleTree) → k ≡ j + length rules → numbers_of test j (rules ++ r ∷ []) ≡ numbers_of test j rules ++ cond (test r) (k ∷ []) []
 numbers_more test [] j k r e = let f : j ≡ k = omega (arith, e) in ap (λ i. cond (test r) (i ∷ []) []) f
 numbers_more test (x ∷ rules) j k r e = by (test x) (numbers_more test rules (j + 1) k r (omega (arith, e)))
   where
@@ -53,16 +54,16 @@ numbers_more test (x ∷ rules) j k r e = by (test x) (numbers_more test rules (
     by false h = h
 
 -- a rule that doesn't pass adds no number
-numbers_same : (test : Rule → Bool) (rules : List Rule) (r : Rule) → test r ≡ false → numbers_of test 0 (rules ++ r ∷ []) ≡ numbers_of test 0 rules
+numbers_same : (test : RuleTree → Bool) (rules : List RuleTree) (r : RuleTree) → test r ≡ false → numbers_of test 0 (rules ++ r ∷ []) ≡ numbers_of test 0 rules
 numbers_same test rules r f =
     numbers_more test rules 0 (length rules) r (omega arith) ∙ ap (λ b. numbers_of test 0 rules ++ cond b (length rules ∷ []) []) f ∙ append-nil (numbers_of test 0 rules)
 
 -- a rule that passes adds its own
-numbers_own : (test : Rule → Bool) (rules : List Rule) (r : Rule) → test r ≡ true → numbers_of test 0 (rules ++ r ∷ []) ≡ numbers_of test 0 rules ++ length rules ∷ []
+numbers_own : (test : RuleTree → Bool) (rules : List RuleTree) (r : RuleTree) → test r ≡ true → numbers_of test 0 (rules ++ r ∷ []) ≡ numbers_of test 0 rules ++ length rules ∷ []
 numbers_own test rules r f = numbers_more test rules 0 (length rules) r (omega arith) ∙ ap (λ b. numbers_of test 0 rules ++ cond b (length rules ∷ []) []) f
 
 -- no rule records a name that isn't recorded
-pub none_record : (name : Bytes) (rules : List Rule) (j : ℕ) → (Contains (names_recorded rules) name → ⊥) → numbers_of (records name) j rules ≡ []
+pub none_record : (name : Bytes) (rules : List RuleTree) (j : ℕ) → (Contains (names_recorded rules) name → ⊥) → numbers_of (records name) j rules ≡ []
 none_record name [] j h = refl
 none_record name (x ∷ rules) j h = by x.alert h (none_record name rules (j + 1))
   where
@@ -74,13 +75,13 @@ none_record name (x ∷ rules) j h = by x.alert h (none_record name rules (j + 1
         let f : bytes_eq x.name name ≡ false = other_false x.name name (λ e. g (subst P e (here x.name (names_recorded rules)))) in
         ap (λ b. cond b (j ∷ numbers_of (records name) (j + 1) rules) (numbers_of (records name) (j + 1) rules)) f ∙ rest (λ c. g (behind x.name (names_recorded rules) name c))
 
-records_alert : (name : Bytes) (r : Rule) → r.alert ≡ true → records name r ≡ false
+records_alert : (name : Bytes) (r : RuleTree) → r.alert ≡ true → records name r ≡ false
 records_alert name r a = ap (λ b. not b && bytes_eq r.name name) a
 
-records_own : (r : Rule) → r.alert ≡ false → records r.name r ≡ true
+records_own : (r : RuleTree) → r.alert ≡ false → records r.name r ≡ true
 records_own r a = ap (λ b. not b && bytes_eq r.name r.name) a ∙ same_true r.name r.name refl
 
-records_other : (name : Bytes) (r : Rule) → r.alert ≡ false → name ≢ r.name → records name r ≡ false
+records_other : (name : Bytes) (r : RuleTree) → r.alert ≡ false → name ≢ r.name → records name r ≡ false
 records_other name r a h = ap (λ b. not b && bytes_eq r.name name) a ∙ other_false r.name name (λ e. h (sym e))
 
 -- lists that stand beside names
@@ -160,15 +161,15 @@ module _ (names : List Bytes) (name : Bytes) where
   ]
 
 -- the index of one more rule
-module _ (rules : List Rule) (s : Sources) (is : IsSourcesOf rules s) (r : Rule) where
+module _ (rules : List RuleTree) (s : Sources) (is : IsSourcesOf rules s) (r : RuleTree) where
   abbrev Old : Bytes → List ℕ
   Old name = numbers_of (records name) 0 rules
 
   abbrev New : Bytes → List ℕ
   New name = numbers_of (records name) 0 (rules ++ r ∷ [])
 
-  selected_more : s.selected ++ selectors r.expr ∷ [] ≡ map (λ (x : Rule). selectors x.expr) (rules ++ r ∷ [])
-  selected_more = ap (λ (l : List (List (Option Bytes))). l ++ selectors r.expr ∷ []) is.selected ∙ sym (map-append (λ (x : Rule). selectors x.expr) rules (r ∷ []))
+  selected_more : s.selected ++ selectors r.expr ∷ [] ≡ map (λ (x : RuleTree). selectors x.expr) (rules ++ r ∷ [])
+  selected_more = ap (λ (l : List (List (Option Bytes))). l ++ selectors r.expr ∷ []) is.selected ∙ sym (map-append (λ (x : RuleTree). selectors x.expr) rules (r ∷ []))
 
   distinct : AreDistinct (recorded_names (rules ++ r ∷ []))
   distinct = first_seen_distinct (names_recorded (rules ++ r ∷ []))
@@ -220,5 +221,5 @@ pub no_sources : (selected : List (List (Option Bytes))) (names : List Bytes) (m
 no_sources selected names makers e f g = record { selected = e; names = f; makers = g ∙ sym (ap (map (λ name. numbers_of (records name) 0 [])) f) }
 
 -- there are numbers for each name
-pub sources_full : (rules : List Rule) (s : Sources) → IsSourcesOf rules s → length s.makers ≡ length s.names
+pub sources_full : (rules : List RuleTree) (s : Sources) → IsSourcesOf rules s → length s.makers ≡ length s.names
 sources_full rules s is = ap length is.makers ∙ length-map s.names (λ name. numbers_of (records name) 0 rules)

@@ -4,29 +4,24 @@ use Rattle.std.specs.Prelude.{slice_get}
 use Rattle.std.specs.List.{Contains}
 use Rattle.std.specs.Str.{bytes_eq}
 use Rattle.std.proofs.lemmas.Bool.{cases_lt}
-use Rattle.std.proofs.lemmas.List.{length-map}
+use Rattle.std.proofs.lemmas.List.{length-map, get_or_past}
 use Rattle.lf_ast.specs.Labels.{Bytes}
-use Rattle.lf_ast.specs.declared.rule.Rule.{Rule}
+use Rattle.lf_ast.specs.Rules.{RuleTree}
 use Rattle.lf_semantics.specs.Environments.{names_recorded, recorded_names}
 use Rattle.lf_semantics.specs.Listing.{place}
-use Rattle.lf_semantics.proofs.ListingLaws.{in_first_seen, in_flat_map, of_first_seen, place_within}
-use Rattle.lf_semantics.proofs.Members.{here, same_true, true_same}
+use Rattle.lf_semantics.proofs.ListingLaws.{in_first_seen, of_first_seen, place_within}
+use Rattle.lf_laws.proofs.Members.{in_flat_map, here, same_true, true_same, of_flat_map, only_one}
 use Rattle.lf_deps.specs.Index.{IsIndex, chosen_by, makers_of}
 use Rattle.lf_deps.specs.Reading.{SelectsBy, selectors}
 use Rattle.lf_deps.specs.Search.{chosen, chosen_all, making, numbers_of}
 use Rattle.lf_deps.specs.Sources.{IsSourcesOf, Sources, records}
-use Rattle.lf_deps.proofs.Followed.{from_flat_map, making_from, making_to, only_one}
+use Rattle.lf_deps.proofs.Followed.{making_from, making_to}
 use Rattle.lf_deps.proofs.Indexed.{none_record, numbers_at, sources_full}
 use Rattle.lf_deps.proofs.Numbered.{in_numbers, in_rules, number_of, number_within, of_numbers}
 
-pub behind_none : (xs : List (List ℕ)) (k : ℕ) → length xs ≤ k → get_or xs k [] ≡ []
-behind_none [] k h = refl
-behind_none (x ∷ xs) zero h = absurd (omega arith)
-behind_none (x ∷ xs) (suc k) h = behind_none xs k (omega arith)
-
-selected_in : (rules : List Rule) (k : ℕ) (r : Rule) → slice_get rules k ≡ Some r → get_or (map (λ (x : Rule). selectors x.expr) rules) k [] ≡ selectors r.expr
+selected_in : (rules : List RuleTree) (k : ℕ) (r : RuleTree) → slice_get rules k ≡ Some r → get_or (map (λ (x : RuleTree). selectors x.expr) rules) k [] ≡ selectors r.expr
 selected_in [] k r e = absurd (cc)
-selected_in (x ∷ rules) zero r e = let f : x ≡ r = cc in ap (λ (z : Rule). selectors z.expr) f
+selected_in (x ∷ rules) zero r e = let f : x ≡ r = cc in ap (λ (z : RuleTree). selectors z.expr) f
 selected_in (x ∷ rules) (suc k) r e = selected_in rules k r e
 
 is_recorded : (a b : Bool) → (not a && b) ≡ true → (a ≡ false) × (b ≡ true)
@@ -37,7 +32,7 @@ of_recorded : (a b : Bool) → a ≡ false → b ≡ true → (not a && b) ≡ t
 of_recorded true b f g = absurd (cc)
 of_recorded false b f g = g
 
-module _ (rules : List Rule) (s : Sources) (is : IsSourcesOf rules s) where
+module _ (rules : List RuleTree) (s : Sources) (is : IsSourcesOf rules s) where
   no_place : (name : Bytes) → length s.names ≤ place s.names name → Contains (names_recorded rules) name → ⊥
   no_place name h c =
       let P : List Bytes → Type 0 = λ l. place l name < length l in
@@ -47,10 +42,10 @@ module _ (rules : List Rule) (s : Sources) (is : IsSourcesOf rules s) where
   makers_is : (name : Bytes) → makers_of s name ≡ numbers_of (records name) 0 rules
   makers_is name = elim (cases_lt (place s.names name) (length s.names)) [
     | inl h ↦ ap (λ (l : List (List ℕ)). get_or l (place s.names name) []) is.makers ∙ numbers_at (λ n. numbers_of (records n) 0 rules) s.names name h
-    | inr h ↦ let n = sources_full rules s is in behind_none s.makers (place s.names name) (omega (arith, h, n)) ∙ sym (none_record name rules 0 (no_place name h))
+    | inr h ↦ let n = sources_full rules s is in get_or_past s.makers (place s.names name) [] (omega (arith, h, n)) ∙ sym (none_record name rules 0 (no_place name h))
   ]
 
-  pub recorded_to : (name : Bytes) (k : ℕ) → Contains (makers_of s name) k → (r : Rule) × (slice_get rules k ≡ Some r) × (r.alert ≡ false) × (r.name ≡ name)
+  pub recorded_to : (name : Bytes) (k : ℕ) → Contains (makers_of s name) k → (r : RuleTree) × (slice_get rules k ≡ Some r) × (r.alert ≡ false) × (r.name ≡ name)
   recorded_to name k c =
       let P : List ℕ → Type 0 = λ l. Contains l k in
       let f = of_numbers (records name) rules 0 k (subst P (makers_is name) c) in
@@ -59,22 +54,22 @@ module _ (rules : List Rule) (s : Sources) (is : IsSourcesOf rules s) where
       let b = is_recorded f.2.alert (bytes_eq f.2.name name) f.4 in
       (f.2, subst Q e f.3, b.0, true_same f.2.name name b.1)
 
-  pub recorded_from : (r : Rule) (k : ℕ) → slice_get rules k ≡ Some r → r.alert ≡ false → Contains (makers_of s r.name) k
+  pub recorded_from : (r : RuleTree) (k : ℕ) → slice_get rules k ≡ Some r → r.alert ≡ false → Contains (makers_of s r.name) k
   recorded_from r k e a =
       let P : List ℕ → Type 0 = λ l. Contains l k in
       subst P (sym (makers_is r.name)) (in_numbers (records r.name) rules 0 k k r (omega arith) e (of_recorded r.alert (bytes_eq r.name r.name) a (same_true r.name r.name refl)))
 
   -- what the rule of a number selects
-  pub selected_is : (k : ℕ) (r : Rule) → slice_get rules k ≡ Some r → get_or s.selected k [] ≡ selectors r.expr
+  pub selected_is : (k : ℕ) (r : RuleTree) → slice_get rules k ≡ Some r → get_or s.selected k [] ≡ selectors r.expr
   selected_is k r e = ap (λ (l : List (List (Option Bytes))). get_or l k []) is.selected ∙ selected_in rules k r e
 
   pub selected_count : length s.selected ≡ length rules
-  selected_count = ap length is.selected ∙ length-map rules (λ (x : Rule). selectors x.expr)
+  selected_count = ap length is.selected ∙ length-map rules (λ (x : RuleTree). selectors x.expr)
 
   -- what selectors select
 
   pub chosen_to : (found : List (Option Bytes)) (n : Bytes) → Contains (chosen_all s.names found) n → SelectsBy rules found n
-  chosen_to found n c = let f = from_flat_map (chosen s.names) found n c in by f.0 f.1 f.2
+  chosen_to found n c = let f = of_flat_map (chosen s.names) found n c in by f.0 f.1 f.2
     where
       by : (o : Option Bytes) → Contains found o → Contains (chosen s.names o) n → SelectsBy rules found n
       by (Some m) d g = let P : Bytes → Type 0 = λ z. Contains found (Some z) in inl (subst P (only_one m n g) d)
@@ -93,7 +88,7 @@ module _ (rules : List Rule) (s : Sources) (is : IsSourcesOf rules s) where
 
   pub made_to : (name n : Bytes) → Contains (chosen_by s (makers_of s name)) n → SelectsBy rules (making rules name) n
   made_to name n c =
-      let f = from_flat_map chosen_at (makers_of s name) n c in
+      let f = of_flat_map chosen_at (makers_of s name) n c in
       let m = recorded_to name f.0 f.1 in
       let P : List (Option Bytes) → Type 0 = λ l. Contains (chosen_all s.names l) n in
       making_from rules name n m.0 (in_rules rules f.0 m.0 m.1) m.2 m.3 (chosen_to (selectors m.0.expr) n (subst P (selected_is f.0 m.0 m.1) f.2))

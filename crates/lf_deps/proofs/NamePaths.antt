@@ -3,18 +3,19 @@ use Rattle.std.proofs.Common.{◌≡◌, ℕ, ◌+◌, ◌<◌, ◌⊎◌, ◌�
 use Rattle.std.specs.Prelude.{slice_get}
 use Rattle.std.specs.List.{Contains, flat_map, range_with_len}
 use Rattle.std.proofs.lemmas.Bool.{cases_lt}
-use Rattle.std.proofs.lemmas.List.{get_or-map, get_or_append_left, length-map}
+use Rattle.std.proofs.lemmas.List.{get_or-map, get_or_append_left, length-map, get_or_past}
 use Rattle.std.proofs.Math.Seq.{get_or-append_seam}
 use Rattle.lf_ast.specs.Labels.{Bytes}
-use Rattle.lf_ast.specs.declared.expr.Expr.{Expr}
-use Rattle.lf_ast.specs.declared.rule.Rule.{Rule}
+use Rattle.lf_ast.specs.Tree.{Tree}
+use Rattle.lf_ast.specs.Rules.{RuleTree}
 use Rattle.lf_graph.specs.Components.{Components}
 use Rattle.lf_graph.specs.Paths.{IsGraph, IsOnCircle, IsReached, Leads, after}
 use Rattle.lf_graph.specs.Paths.Leads.{along, nowhere}
+use Rattle.lf_graph.proofs.Paths.{onwards}
 use Rattle.lf_semantics.specs.Environments.{names_recorded, recorded_names}
 use Rattle.lf_semantics.specs.Listing.{StandOnce, place}
-use Rattle.lf_semantics.proofs.ListingLaws.{apart, first_seen_distinct, in_first_seen, in_flat_map, of_first_seen, place_within}
-use Rattle.lf_semantics.proofs.Members.{here, none_in}
+use Rattle.lf_semantics.proofs.ListingLaws.{apart, first_seen_distinct, in_first_seen, of_first_seen, place_within}
+use Rattle.lf_laws.proofs.Members.{in_flat_map, here, none_in, of_flat_map}
 use Rattle.lf_semantics.proofs.Places.{place_at, same_text}
 use Rattle.lf_deps.specs.Index.{IsIndex, makers_at, makers_of}
 use Rattle.lf_deps.specs.Links.{source_of}
@@ -24,9 +25,9 @@ use Rattle.lf_deps.specs.Reading.Reads.{selected, through}
 use Rattle.lf_deps.specs.Search.{ReadsBy}
 use Rattle.lf_deps.specs.Sources.{IsSourcesOf, Sources}
 use Rattle.lf_deps.proofs.Ascending.{in_range, of_range}
-use Rattle.lf_deps.proofs.Followed.{from_flat_map, reads_on}
+use Rattle.lf_deps.proofs.Followed.{reads_on}
 use Rattle.lf_deps.proofs.Indexed.{sources_full}
-use Rattle.lf_deps.proofs.LookedUp.{behind_none, recorded_from, recorded_to, selected_count, selected_is}
+use Rattle.lf_deps.proofs.LookedUp.{recorded_from, recorded_to, selected_count, selected_is}
 use Rattle.lf_deps.proofs.Numbered.{in_rules, number_of, number_within}
 use Rattle.lf_deps.proofs.Ordered.{named_source, recorded_in, source_below, source_named}
 use Rattle.lf_deps.proofs.Reached.{in_at, reads_to}
@@ -39,12 +40,7 @@ Means names u n = (u ≡ place names n) ⊎ (u ≡ length names)
 abbrev pub nodes : List Bytes → List (Option Bytes) → List ℕ
 nodes names found = flat_map (source_of names) found
 
--- paths go on
-leads_then : (edges : List (List ℕ)) (u v w : ℕ) → Leads edges u v → Leads edges v w → Leads edges u w
-leads_then edges u v w nowhere rest = rest
-leads_then edges u v w (along x c first) rest = along x c (leads_then edges x v w first rest)
-
-module _ (rules : List Rule) (s : Sources) (is : IsSourcesOf rules s) where
+module _ (rules : List RuleTree) (s : Sources) (is : IsSourcesOf rules s) where
   abbrev IsPlaced : Bytes → Type 0
   IsPlaced n = place s.names n < length s.names
 
@@ -53,7 +49,7 @@ module _ (rules : List Rule) (s : Sources) (is : IsSourcesOf rules s) where
 
   -- recorded names and their places
 
-  placed : (r : Rule) → Contains rules r → r.alert ≡ false → IsPlaced r.name
+  placed : (r : RuleTree) → Contains rules r → r.alert ≡ false → IsPlaced r.name
   placed r c a =
       let k = number_of rules r c in
       let P : List Bytes → Type 0 = λ l. place l r.name < length l in
@@ -75,7 +71,7 @@ module _ (rules : List Rule) (s : Sources) (is : IsSourcesOf rules s) where
   selects_node found n h (inr c) = (length s.names, in_flat_map (source_of s.names) found None (length s.names) c.0 (here (length s.names) []), inr refl)
 
   node_selects : (found : List (Option Bytes)) (u : ℕ) (n : Bytes) → IsPlaced n → Contains (nodes s.names found) u → Means s.names u n → SelectsBy rules found n
-  node_selects found u n h c m = let o = from_flat_map (source_of s.names) found u c in by o.0 o.1 o.2 m
+  node_selects found u n h c m = let o = of_flat_map (source_of s.names) found u c in by o.0 o.1 o.2 m
     where
       by : (o : Option Bytes) → Contains found o → Contains (source_of s.names o) u → Means s.names u n → SelectsBy rules found n
       by None d g m = inr (d, known n h)
@@ -106,10 +102,10 @@ module _ (rules : List Rule) (s : Sources) (is : IsSourcesOf rules s) where
   makers_is u h = ap (makers_at s) (sym (own_place u h))
 
   -- a rule that records the name at a place
-  abbrev IsMakerAt : ℕ → Rule → Type 0
+  abbrev IsMakerAt : ℕ → RuleTree → Type 0
   IsMakerAt u r = Contains rules r × (r.alert ≡ false) × (place s.names r.name ≡ u)
 
-  maker_at : (u k : ℕ) → Contains (makers_at s u) k → (r : Rule) × (slice_get rules k ≡ Some r) × IsMakerAt u r
+  maker_at : (u k : ℕ) → Contains (makers_at s u) k → (r : RuleTree) × (slice_get rules k ≡ Some r) × IsMakerAt u r
   maker_at u k c = elim (cases_lt u (length s.names)) [
     | inl h ↦
         let P : List ℕ → Type 0 = λ l. Contains l k in
@@ -118,7 +114,7 @@ module _ (rules : List Rule) (s : Sources) (is : IsSourcesOf rules s) where
     | inr h ↦
         let P : List ℕ → Type 0 = λ l. Contains l k in
         let full = sources_full rules s is in
-        absurd (none_in k (subst P (behind_none s.makers u (omega (arith, h, full))) c))
+        absurd (none_in k (subst P (get_or_past s.makers u [] (omega (arith, h, full))) c))
   ]
 
   maker_within : (u k : ℕ) → Contains (makers_at s u) k → k < length s.selected
@@ -128,20 +124,20 @@ module _ (rules : List Rule) (s : Sources) (is : IsSourcesOf rules s) where
       omega (arith, w, selected_count rules s is)
 
   abbrev IsEdge : ℕ → ℕ → Type 0
-  IsEdge u v = ((r : Rule) × IsMakerAt u r × Contains (nodes s.names (selectors r.expr)) v) ⊎ ((u ≡ length s.names) × (v < length s.names))
+  IsEdge u v = ((r : RuleTree) × IsMakerAt u r × Contains (nodes s.names (selectors r.expr)) v) ⊎ ((u ≡ length s.names) × (v < length s.names))
 
   edge_is : (u v : ℕ) → Contains (after (edges_of s) u) v → IsEdge u v
   edge_is u v c = elim (cases_lt u (length s.names)) [
     | inl h ↦
         let P : List ℕ → Type 0 = λ l. Contains l v in
         let Q : List (Option Bytes) → Type 0 = λ l. Contains (nodes s.names l) v in
-        let k = from_flat_map (nodes_of s) (makers_at s u) v (subst P (after_name u h) c) in
+        let k = of_flat_map (nodes_of s) (makers_at s u) v (subst P (after_name u h) c) in
         let r = maker_at u k.0 k.1 in
         inl (r.0, r.2, subst Q (selected_is rules s is k.0 r.0 r.1) k.2)
     | inr h ↦ elim (cases_lt (length s.names) u) [
       | inl b ↦
           let P : List ℕ → Type 0 = λ l. Contains l v in
-          absurd (none_in v (subst P (behind_none (edges_of s) u (omega (arith, b, edges_size))) c))
+          absurd (none_in v (subst P (get_or_past (edges_of s) u [] (omega (arith, b, edges_size))) c))
       | inr b ↦
           let e : u ≡ length s.names = omega (arith, h, b) in
           let P : List ℕ → Type 0 = λ l. Contains l v in
@@ -149,7 +145,7 @@ module _ (rules : List Rule) (s : Sources) (is : IsSourcesOf rules s) where
     ]
   ]
 
-  edge_from : (r : Rule) → Contains rules r → r.alert ≡ false → (v : ℕ) → Contains (nodes s.names (selectors r.expr)) v → Contains (after (edges_of s) (place s.names r.name)) v
+  edge_from : (r : RuleTree) → Contains rules r → r.alert ≡ false → (v : ℕ) → Contains (nodes s.names (selectors r.expr)) v → Contains (after (edges_of s) (place s.names r.name)) v
   edge_from r c a v d =
       let k = number_of rules r c in
       let P : List ℕ → Type 0 = λ l. Contains l v in
@@ -163,7 +159,7 @@ module _ (rules : List Rule) (s : Sources) (is : IsSourcesOf rules s) where
 
   pub nodes_below : (found : List (Option Bytes)) (v : ℕ) → Contains (nodes s.names found) v → v < length (edges_of s)
   nodes_below found v c =
-      let o = from_flat_map (source_of s.names) found v c in
+      let o = of_flat_map (source_of s.names) found v c in
       let b = source_below s.names o.0 v o.2 in
       omega (arith, b, edges_size)
 
@@ -178,12 +174,12 @@ module _ (rules : List Rule) (s : Sources) (is : IsSourcesOf rules s) where
   selects_led : (found : List (Option Bytes)) (n : Bytes) → IsPlaced n → SelectsBy rules found n → IsLedTo found (place s.names n)
   selects_led found n h sel = let u = selects_node found n h sel in (u.0, u.1, means_leads u.0 n h u.2)
 
-  led_on : (found : List (Option Bytes)) (r : Rule) → Contains rules r → r.alert ≡ false → SelectsBy rules found r.name → (v : ℕ) → IsLedTo (selectors r.expr) v → IsLedTo found v
+  led_on : (found : List (Option Bytes)) (r : RuleTree) → Contains rules r → r.alert ≡ false → SelectsBy rules found r.name → (v : ℕ) → IsLedTo (selectors r.expr) v → IsLedTo found v
   led_on found r c a sel v q =
       let p = selects_led found r.name (placed r c a) sel in
-      (p.0, p.1, leads_then (edges_of s) p.0 (place s.names r.name) v p.2 (along q.0 (edge_from r c a q.0 q.1) q.2))
+      (p.0, p.1, onwards (edges_of s) p.0 (place s.names r.name) v p.2 (along q.0 (edge_from r c a q.0 q.1) q.2))
 
-  reads_led : (e : Expr) (n : Bytes) → IsPlaced n → Reads rules e n → IsLedTo (selectors e) (place s.names n)
+  reads_led : (e : Tree) (n : Bytes) → IsPlaced n → Reads rules e n → IsLedTo (selectors e) (place s.names n)
   reads_led e n h (selected sel) = selects_led (selectors e) n h sel
   reads_led e n h (through r c a sel rest) = led_on (selectors e) r c a sel (place s.names n) (reads_led r.expr n h rest)
 
@@ -194,7 +190,7 @@ module _ (rules : List Rule) (s : Sources) (is : IsSourcesOf rules s) where
 
   read_on : (start : List (Option Bytes)) (u v : ℕ) → IsEdge u v → IsRead start u → IsRead start v
   read_on start u v (inl e) read n h m =
-      let r : Rule = e.0 in
+      let r : RuleTree = e.0 in
       reads_on rules start r.name (read r.name (placed r e.1.0 e.1.1) (inl (sym e.1.2))) r e.1.0 e.1.1 refl n (node_selects (selectors r.expr) v n h e.2 m)
   read_on start u v (inr e) read n h m = read n h (inr e.0)
 
@@ -224,12 +220,12 @@ module _ (rules : List Rule) (s : Sources) (is : IsSourcesOf rules s) where
   ]
 
   -- the rules that record what an expression reads
-  module _ (e : Expr) (met : List ℕ) (led : (v : ℕ) → Contains met v ↔ IsLedTo (selectors e) v) where
+  module _ (e : Tree) (met : List ℕ) (led : (v : ℕ) → Contains met v ↔ IsLedTo (selectors e) v) where
     abbrev pub IsMaker : ℕ → Type 0
     IsMaker k = (u : ℕ) × Contains met u × Contains (makers_at s u) k
 
     abbrev pub IsRule : ℕ → Type 0
-    IsRule k = (r : Rule) × (slice_get rules k ≡ Some r) × Reaches rules e r
+    IsRule k = (r : RuleTree) × (slice_get rules k ≡ Some r) × Reaches rules e r
 
     pub reached_to : (k : ℕ) → IsMaker k → IsRule k
     reached_to k m =

@@ -2,12 +2,12 @@
 use Rattle.std.proofs.Common.{◌≡◌, ℕ, zero, suc, ◌+◌, ◌<◌, Bool, true, false, cond, List, [], ◌∷◌, length, Some, inl, inr, refl, sym, ◌∙◌, ap, subst, arith}
 use Rattle.std.specs.Prelude.{slice_get}
 use Rattle.std.specs.List.{Contains}
-use Rattle.lf_ast.specs.declared.rule.Rule.{Rule}
-use Rattle.lf_semantics.proofs.Members.{behind, first_or_behind, here, none_in}
+use Rattle.lf_ast.specs.Rules.{RuleTree}
+use Rattle.lf_laws.proofs.Members.{behind, first_or_behind, here, none_in}
 use Rattle.lf_deps.specs.Search.{numbers_of}
 
-module _ (test : Rule → Bool) where
-  pub in_numbers : (rules : List Rule) (j i k : ℕ) (r : Rule) → k ≡ j + i → slice_get rules i ≡ Some r → test r ≡ true → Contains (numbers_of test j rules) k
+module _ (test : RuleTree → Bool) where
+  pub in_numbers : (rules : List RuleTree) (j i k : ℕ) (r : RuleTree) → k ≡ j + i → slice_get rules i ≡ Some r → test r ≡ true → Contains (numbers_of test j rules) k
   in_numbers [] j i k r e is t = absurd (cc)
   in_numbers (x ∷ rules) j zero k r e is t =
       let f : x ≡ r = cc in
@@ -22,31 +22,31 @@ module _ (test : Rule → Bool) where
       by true c = behind j (numbers_of test (j + 1) rules) k c
       by false c = c
 
-  pub of_numbers : (rules : List Rule) (j k : ℕ) → Contains (numbers_of test j rules) k → (i : ℕ) × (k ≡ j + i) × (r : Rule) × (slice_get rules i ≡ Some r) × (test r ≡ true)
+  pub of_numbers : (rules : List RuleTree) (j k : ℕ) → Contains (numbers_of test j rules) k → (i : ℕ) × (k ≡ j + i) × (r : RuleTree) × (slice_get rules i ≡ Some r) × (test r ≡ true)
   of_numbers [] j k c = absurd (none_in k c)
   of_numbers (x ∷ rules) j k c = by (test x) refl c (of_numbers rules (j + 1) k)
     where
-      later : (i : ℕ) × (k ≡ (j + 1) + i) × (r : Rule) × (slice_get rules i ≡ Some r) × (test r ≡ true) → (i : ℕ) × (k ≡ j + i) × (r : Rule) × (slice_get (x ∷ rules) i ≡ Some r) × (test r ≡ true)
+      later : (i : ℕ) × (k ≡ (j + 1) + i) × (r : RuleTree) × (slice_get rules i ≡ Some r) × (test r ≡ true) → (i : ℕ) × (k ≡ j + i) × (r : RuleTree) × (slice_get (x ∷ rules) i ≡ Some r) × (test r ≡ true)
       later f = (suc f.0, omega (arith, f.1), f.2, f.3, f.4)
 
       by : (b : Bool) → test x ≡ b → Contains (cond b (j ∷ numbers_of test (j + 1) rules) (numbers_of test (j + 1) rules)) k
-          → (Contains (numbers_of test (j + 1) rules) k → (i : ℕ) × (k ≡ (j + 1) + i) × (r : Rule) × (slice_get rules i ≡ Some r) × (test r ≡ true))
-          → (i : ℕ) × (k ≡ j + i) × (r : Rule) × (slice_get (x ∷ rules) i ≡ Some r) × (test r ≡ true)
+          → (Contains (numbers_of test (j + 1) rules) k → (i : ℕ) × (k ≡ (j + 1) + i) × (r : RuleTree) × (slice_get rules i ≡ Some r) × (test r ≡ true))
+          → (i : ℕ) × (k ≡ j + i) × (r : RuleTree) × (slice_get (x ∷ rules) i ≡ Some r) × (test r ≡ true)
       by true t d rest = elim (first_or_behind j (numbers_of test (j + 1) rules) k d) [ inl e ↦ (0, omega (arith, e), x, refl, t) | inr g ↦ later (rest g) ]
       by false t d rest = later (rest d)
 
 -- rules and their numbers
 
-pub in_rules : (rules : List Rule) (k : ℕ) (r : Rule) → slice_get rules k ≡ Some r → Contains rules r
+pub in_rules : (rules : List RuleTree) (k : ℕ) (r : RuleTree) → slice_get rules k ≡ Some r → Contains rules r
 in_rules [] k r e = absurd (cc)
-in_rules (x ∷ rules) zero r e = let f : x ≡ r = cc in let P : Rule → Type 0 = λ z. Contains (x ∷ rules) z in subst P f (here x rules)
+in_rules (x ∷ rules) zero r e = let f : x ≡ r = cc in let P : RuleTree → Type 0 = λ z. Contains (x ∷ rules) z in subst P f (here x rules)
 in_rules (x ∷ rules) (suc k) r e = behind x rules r (in_rules rules k r e)
 
-pub number_of : (rules : List Rule) (r : Rule) → Contains rules r → (k : ℕ) × (slice_get rules k ≡ Some r)
+pub number_of : (rules : List RuleTree) (r : RuleTree) → Contains rules r → (k : ℕ) × (slice_get rules k ≡ Some r)
 number_of [] r c = absurd (none_in r c)
-number_of (x ∷ rules) r c = elim (first_or_behind x rules r c) [ inl e ↦ (0, ap (λ (z : Rule). Some z) e) | inr d ↦ let n = number_of rules r d in (suc n.0, n.1) ]
+number_of (x ∷ rules) r c = elim (first_or_behind x rules r c) [ inl e ↦ (0, ap (λ (z : RuleTree). Some z) e) | inr d ↦ let n = number_of rules r d in (suc n.0, n.1) ]
 
-pub number_within : (rules : List Rule) (k : ℕ) (r : Rule) → slice_get rules k ≡ Some r → k < length rules
+pub number_within : (rules : List RuleTree) (k : ℕ) (r : RuleTree) → slice_get rules k ≡ Some r → k < length rules
 number_within [] k r e = absurd (cc)
 number_within (x ∷ rules) zero r e = omega arith
 number_within (x ∷ rules) (suc k) r e = let h = number_within rules k r e in omega arith

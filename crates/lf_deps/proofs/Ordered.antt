@@ -4,13 +4,14 @@ use Rattle.std.specs.Prelude.{slice_get, slice_set}
 use Rattle.std.specs.List.{Contains, filter, flat_map, range_with_len}
 use Rattle.std.proofs.lemmas.Bool.{and_right, cases_eq, eq-eqb, lt-ltb, ltb-true, not-true}
 use Rattle.std.proofs.lemmas.List.{get_or-replicate, get_or-set_other, get_or-set_same, length-map}
-use Rattle.std.proofs.lemmas.List.Elements.{Contains-append_cases, Contains-get_or}
+use Rattle.std.proofs.lemmas.List.Elements.{Contains-get_or}
 use Rattle.lf_ast.specs.Labels.{Bytes}
-use Rattle.lf_ast.specs.declared.rule.Rule.{Rule}
+use Rattle.lf_ast.specs.Rules.{RuleTree}
 use Rattle.lf_semantics.specs.Environments.{names_recorded, recorded_names}
 use Rattle.lf_semantics.specs.Listing.{place}
-use Rattle.lf_semantics.proofs.ListingLaws.{in_filter, in_first_seen, in_flat_map, of_filter, place_within}
-use Rattle.lf_semantics.proofs.Members.{behind, first_or_behind, here, none_in}
+use Rattle.lf_laws.proofs.Members.{in_flat_map, behind, first_or_behind, here, none_in, of_flat_map, only_one}
+use Rattle.lf_semantics.proofs.Members.{in_filter, of_filter}
+use Rattle.lf_semantics.proofs.ListingLaws.{in_first_seen, place_within}
 use Rattle.lf_semantics.proofs.Places.{eqb-other, place_le, same_text}
 use Rattle.lf_deps.specs.Links.{IsLinksOf, recorded_at, recorded_by, source_of, waited_by}
 use Rattle.lf_deps.specs.Ordering.{IsNext, IsOrderOf, Waits, without}
@@ -23,25 +24,15 @@ use Rattle.lf_deps.proofs.Taking.{left_within}
 
 -- a list made from rules, at a place
 
-made_at : (f : Rule → List ℕ) (rules : List Rule) (k s : ℕ) → Contains (get_or (map f rules) k []) s → (r : Rule) × (slice_get rules k ≡ Some r) × Contains (f r) s
+made_at : (f : RuleTree → List ℕ) (rules : List RuleTree) (k s : ℕ) → Contains (get_or (map f rules) k []) s → (r : RuleTree) × (slice_get rules k ≡ Some r) × Contains (f r) s
 made_at f [] k s c = absurd (none_in s c)
 made_at f (r ∷ rules) zero s c = (r, refl, c)
 made_at f (r ∷ rules) (suc k) s c = made_at f rules k s c
 
-at_made : (f : Rule → List ℕ) (rules : List Rule) (k : ℕ) (r : Rule) → slice_get rules k ≡ Some r → get_or (map f rules) k [] ≡ f r
+at_made : (f : RuleTree → List ℕ) (rules : List RuleTree) (k : ℕ) (r : RuleTree) → slice_get rules k ≡ Some r → get_or (map f rules) k [] ≡ f r
 at_made f [] k r e = absurd (cc)
 at_made f (x ∷ rules) zero r e = let g : x ≡ r = cc in ap f g
 at_made f (x ∷ rules) (suc k) r e = at_made f rules k r e
-
-of_flat_map : {X Y : Type 0} (f : X → List Y) (xs : List X) (y : Y) → Contains (flat_map f xs) y → (x : X) × Contains xs x × Contains (f x) y
-of_flat_map f [] y c = absurd (none_in y c)
-of_flat_map f (x ∷ xs) y c = elim (Contains-append_cases (f x) (flat_map f xs) y c) [
-  | inl d ↦ (x, here x xs, d)
-  | inr d ↦ let r = of_flat_map f xs y d in (r.0, behind x xs r.0 r.1, r.2)
-]
-
-one_only : (x s : ℕ) → Contains (x ∷ []) s → x ≡ s
-one_only x s c = elim (first_or_behind x [] s c) [ inl e ↦ e | inr d ↦ absurd (none_in s d) ]
 
 -- the source of a selector
 
@@ -49,7 +40,7 @@ pub source_named : (names : List Bytes) (name : Bytes) (s : ℕ) → Contains (s
 source_named names name s c = by (nat_lt (place names name) (length names)) refl c
   where
     by : (b : Bool) → nat_lt (place names name) (length names) ≡ b → Contains (cond b (place names name ∷ []) []) s → (place names name < length names) × (place names name ≡ s)
-    by true e d = (ltb-true (place names name) (length names) e, one_only (place names name) s d)
+    by true e d = (ltb-true (place names name) (length names) e, only_one (place names name) s d)
     by false e d = absurd (none_in s d)
 
 pub named_source : (names : List Bytes) (name : Bytes) → place names name < length names → Contains (source_of names (Some name)) (place names name)
@@ -58,28 +49,28 @@ named_source names name h =
     subst P (sym (lt-ltb (place names name) (length names) h)) (here (place names name) [])
 
 pub source_below : (names : List Bytes) (o : Option Bytes) (s : ℕ) → Contains (source_of names o) s → s < length names + 1
-source_below names None s c = let e = one_only (length names) s c in omega (arith, e)
+source_below names None s c = let e = only_one (length names) s c in omega (arith, e)
 source_below names (Some name) s c = let r = source_named names name s c in omega (arith, r.0, r.1)
 
 -- the sources that a rule records
 
-recorded_source : (names : List Bytes) (r : Rule) (s : ℕ) → Contains (recorded_at names r) s → (r.alert ≡ false) × ((place names r.name ≡ s) ⊎ (length names ≡ s))
+recorded_source : (names : List Bytes) (r : RuleTree) (s : ℕ) → Contains (recorded_at names r) s → (r.alert ≡ false) × ((place names r.name ≡ s) ⊎ (length names ≡ s))
 recorded_source names r s c = by r.alert refl c
   where
     by : (b : Bool) → r.alert ≡ b → Contains (cond b [] (place names r.name ∷ length names ∷ [])) s → (r.alert ≡ false) × ((place names r.name ≡ s) ⊎ (length names ≡ s))
     by true e d = absurd (none_in s d)
-    by false e d = (e, elim (first_or_behind (place names r.name) (length names ∷ []) s d) [ inl f ↦ inl f | inr f ↦ inr (one_only (length names) s f) ])
+    by false e d = (e, elim (first_or_behind (place names r.name) (length names ∷ []) s d) [ inl f ↦ inl f | inr f ↦ inr (only_one (length names) s f) ])
 
-source_recorded : (names : List Bytes) (r : Rule) (s : ℕ) → r.alert ≡ false → Contains (place names r.name ∷ length names ∷ []) s → Contains (recorded_at names r) s
+source_recorded : (names : List Bytes) (r : RuleTree) (s : ℕ) → r.alert ≡ false → Contains (place names r.name ∷ length names ∷ []) s → Contains (recorded_at names r) s
 source_recorded names r s e c = let P : Bool → Type 0 = λ b. Contains (cond b [] (place names r.name ∷ length names ∷ [])) s in subst P (sym e) c
 
-pub recorded_in : (rules : List Rule) (j : ℕ) (r : Rule) → slice_get rules j ≡ Some r → r.alert ≡ false → Contains (names_recorded rules) r.name
+pub recorded_in : (rules : List RuleTree) (j : ℕ) (r : RuleTree) → slice_get rules j ≡ Some r → r.alert ≡ false → Contains (names_recorded rules) r.name
 recorded_in [] j r e a = absurd (cc)
 recorded_in (x ∷ rules) zero r e a =
     let f : x ≡ r = cc in
-    let g : x.alert ≡ false = ap (λ (y : Rule). y.alert) f ∙ a in
+    let g : x.alert ≡ false = ap (λ (y : RuleTree). y.alert) f ∙ a in
     let P : Bool → Type 0 = λ b. Contains (cond b (names_recorded rules) (x.name ∷ names_recorded rules)) r.name in
-    let Q : Rule → Type 0 = λ y. Contains (x.name ∷ names_recorded rules) y.name in
+    let Q : RuleTree → Type 0 = λ y. Contains (x.name ∷ names_recorded rules) y.name in
     subst P (sym g) (subst Q f (here x.name (names_recorded rules)))
 recorded_in (x ∷ rules) (suc j) r e a = by x.alert (recorded_in rules j r e a)
   where
@@ -87,17 +78,17 @@ recorded_in (x ∷ rules) (suc j) r e a = by x.alert (recorded_in rules j r e a)
     by true c = c
     by false c = behind x.name (names_recorded rules) r.name c
 
-module _ (rules : List Rule) (links : Links) (is : IsLinksOf rules links) where
+module _ (rules : List RuleTree) (links : Links) (is : IsLinksOf rules links) where
   abbrev names : List Bytes
   names = recorded_names rules
 
-  abbrev sources_at : Rule → List ℕ
+  abbrev sources_at : RuleTree → List ℕ
   sources_at r = flat_map (source_of names) (selectors r.expr)
 
-  waited_at : (k s : ℕ) → Contains (waited_by links k) s → (r : Rule) × (slice_get rules k ≡ Some r) × Contains (sources_at r) s
+  waited_at : (k s : ℕ) → Contains (waited_by links k) s → (r : RuleTree) × (slice_get rules k ≡ Some r) × Contains (sources_at r) s
   waited_at k s c = let P : List (List ℕ) → Type 0 = λ l. Contains (get_or l k []) s in made_at sources_at rules k s (subst P is.waited c)
 
-  recorded_for : (k s : ℕ) → Contains (recorded_by links k) s → (r : Rule) × (slice_get rules k ≡ Some r) × Contains (recorded_at names r) s
+  recorded_for : (k s : ℕ) → Contains (recorded_by links k) s → (r : RuleTree) × (slice_get rules k ≡ Some r) × Contains (recorded_at names r) s
   recorded_for k s c = let P : List (List ℕ) → Type 0 = λ l. Contains (get_or l k []) s in made_at (recorded_at names) rules k s (subst P is.recorded c)
 
   pub rules_size : length links.waited ≡ length rules
@@ -121,7 +112,7 @@ module _ (rules : List Rule) (links : Links) (is : IsLinksOf rules links) where
     -- a rule that waits for a rule left is held
     pub waits_held : ((j : ℕ) → Contains left j → IsLeft taken j) → Waits rules left k → IsHeld links taken k
     waits_held still w =
-        let other : Rule = w.2.2 in
+        let other : RuleTree = w.2.2 in
         let j : ℕ = w.2.0 in
         let known : Contains names other.name = in_first_seen (names_recorded rules) other.name (recorded_in rules j other w.2.3 w.2.4) in
         let h = place_within names other.name known in
@@ -159,7 +150,7 @@ module _ (rules : List Rule) (links : Links) (is : IsLinksOf rules links) where
         let at = recorded_source names r.0 h.0 r.2 in
         (w.0, w.1, (h.2, still h.2 h.3, r.0, r.1, at.0, selects (selectors w.0.expr) o.0 o.1 h.0 o.2 r.0 (recorded_in rules h.2 r.0 r.1 at.0) at.1))
       where
-        selects : (found : List (Option Bytes)) (o : Option Bytes) → Contains found o → (s : ℕ) → Contains (source_of names o) s → (other : Rule) → Contains (names_recorded rules) other.name → (place names other.name ≡ s) ⊎ (length names ≡ s)
+        selects : (found : List (Option Bytes)) (o : Option Bytes) → Contains found o → (s : ℕ) → Contains (source_of names o) s → (other : RuleTree) → Contains (names_recorded rules) other.name → (place names other.name ≡ s) ⊎ (length names ≡ s)
             → SelectsBy rules found other.name
         selects found None c s d other known at = inr (c, known)
         selects found (Some name) c s d other known (inl e) =
@@ -224,7 +215,7 @@ pub all_left : (n : ℕ) → left_of (replicate n false) n ≡ range_with_len 0 
 all_left n = filter_all (λ j. not (get_or (replicate n false) j true)) (range_with_len 0 n) (λ x c. ap not (get_or-replicate n x false true (of_range n x c)))
 
 -- what is left is ordered as the rest of all
-abbrev pub OrderGoesOn : List Rule → List ℕ → List ℕ → List ℕ → Type 0
+abbrev pub OrderGoesOn : List RuleTree → List ℕ → List ℕ → List ℕ → Type 0
 OrderGoesOn rules all order left = (rest : List ℕ) → IsOrderOf rules left rest → IsOrderOf rules all (order ++ rest)
 
 one_behind : (order rest : List ℕ) (k : ℕ) → order ++ k ∷ rest ≡ (order ++ k ∷ []) ++ rest
@@ -235,15 +226,15 @@ none_behind : (order : List ℕ) → order ++ [] ≡ order
 none_behind [] = refl
 none_behind (x ∷ order) = ap (λ (l : List ℕ). x ∷ l) (none_behind order)
 
-pub order_goes_on : (rules : List Rule) (all order left : List ℕ) (k : ℕ) → OrderGoesOn rules all order left → IsNext rules left k → OrderGoesOn rules all (order ++ k ∷ []) (without k left)
+pub order_goes_on : (rules : List RuleTree) (all order left : List ℕ) (k : ℕ) → OrderGoesOn rules all order left → IsNext rules left k → OrderGoesOn rules all (order ++ k ∷ []) (without k left)
 order_goes_on rules all order left k g next rest is = let P : List ℕ → Type 0 = λ l. IsOrderOf rules all l in subst P (one_behind order rest k) (g (k ∷ rest) (next, is))
 
-pub order_ends : (rules : List Rule) (all order : List ℕ) → OrderGoesOn rules all order [] → IsOrderOf rules all order
+pub order_ends : (rules : List RuleTree) (all order : List ℕ) → OrderGoesOn rules all order [] → IsOrderOf rules all order
 order_ends rules all order g = let P : List ℕ → Type 0 = λ l. IsOrderOf rules all l in subst P (none_behind order) (g [] refl)
 
 -- one rule more
 
-module _ (rules : List Rule) (links : Links) (is : IsLinksOf rules links) (q : Queue) (ready : IsReady links q) where
+module _ (rules : List RuleTree) (links : Links) (is : IsLinksOf rules links) (q : Queue) (ready : IsReady links q) where
   abbrev left : List ℕ
   left = left_of q.taken.items (length rules)
 

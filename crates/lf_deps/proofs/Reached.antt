@@ -2,10 +2,10 @@
 use Rattle.std.proofs.Common.{◌≡◌, ℕ, suc, ◌<◌, List, [], ◌∷◌, length, get_or, inl, inr, subst, arith}
 use Rattle.std.specs.List.{Contains}
 use Rattle.lf_ast.specs.Labels.{Bytes}
-use Rattle.lf_ast.specs.declared.expr.Expr.{Expr}
-use Rattle.lf_ast.specs.declared.rule.Rule.{Rule}
+use Rattle.lf_ast.specs.Tree.{Tree}
+use Rattle.lf_ast.specs.Rules.{RuleTree}
 use Rattle.lf_semantics.specs.Listing.{place}
-use Rattle.lf_semantics.proofs.Members.{first_or_behind, none_in}
+use Rattle.lf_laws.proofs.Members.{first_or_behind, none_in}
 use Rattle.lf_semantics.proofs.Places.{at_place}
 use Rattle.lf_deps.specs.Reading.{AreApart, Reads, selectors}
 use Rattle.lf_deps.specs.Reading.Reads.{selected, through}
@@ -18,19 +18,19 @@ in_at texts n h = let P : Bytes → Type 0 = λ z. Contains texts z in subst P (
 
 -- what an expression reads is what its selectors read
 
-pub reads_to : (rules : List Rule) (e : Expr) (n : Bytes) → ReadsBy rules (selectors e) n → Reads rules e n
+pub reads_to : (rules : List RuleTree) (e : Tree) (n : Bytes) → ReadsBy rules (selectors e) n → Reads rules e n
 reads_to rules e n (inl s) = selected s
 reads_to rules e n (inr q) = through q.0 q.1 q.2 q.3 q.4
 
-pub reads_from : (rules : List Rule) (e : Expr) (n : Bytes) → Reads rules e n → ReadsBy rules (selectors e) n
+pub reads_from : (rules : List RuleTree) (e : Tree) (n : Bytes) → Reads rules e n → ReadsBy rules (selectors e) n
 reads_from rules e n (selected s) = inl s
 reads_from rules e n (through r c a s rest) = inr (r, c, a, s, rest)
 
 -- the names that two expressions read
-pub common_read : (rules : List Rule) (e f : Expr) (l r : List Bytes) → AreRead rules (selectors e) l → AreRead rules (selectors f) r → ((n : Bytes) → Contains l n → Contains r n → ⊥) → AreApart rules e f
+pub common_read : (rules : List RuleTree) (e f : Tree) (l r : List Bytes) → AreRead rules (selectors e) l → AreRead rules (selectors f) r → ((n : Bytes) → Contains l n → Contains r n → ⊥) → AreApart rules e f
 common_read rules e f l r left right none name a b = none name ((left name).1 (reads_from rules e name a)) ((right name).1 (reads_from rules f name b))
 
-pub none_read : (rules : List Rule) (e f : Expr) (l r : List Bytes) → AreRead rules (selectors e) l → AreRead rules (selectors f) r → AreApart rules e f → (n : Bytes) → Contains l n → Contains r n → ⊥
+pub none_read : (rules : List RuleTree) (e f : Tree) (l r : List Bytes) → AreRead rules (selectors e) l → AreRead rules (selectors f) r → AreApart rules e f → (n : Bytes) → Contains l n → Contains r n → ⊥
 none_read rules e f l r left right apart n a b = apart n (reads_to rules e n ((left n).0 a)) (reads_to rules f n ((right n).0 b))
 
 -- where a text stands

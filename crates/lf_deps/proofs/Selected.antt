@@ -1,33 +1,16 @@
 -- The selectors of an expression, by those of its parts.
-use Rattle.std.proofs.Common.{◌≡◌, Bool, true, false, ◌&&◌, cond, List, [], ◌∷◌, ◌++◌, map, Option, Some, None, refl, ◌∙◌, ap}
+use Rattle.std.proofs.Common.{◌≡◌, Bool, true, false, ◌&&◌, cond, List, [], ◌∷◌, ◌++◌, Option, Some, None, refl, ap}
 use Rattle.std.specs.List.{flat_map}
 use Rattle.lf_ast.specs.Labels.{Bytes}
+use Rattle.lf_ast.specs.Tree.{tree, trees}
 use Rattle.lf_ast.specs.Types.{is_scalar, joined, selected}
 use Rattle.lf_ast.specs.declared.expr.Expr.{Expr}
-use Rattle.lf_ast.specs.declared.expr.Expr.TheOpen.{Expr-F}
-use Rattle.lf_ast.specs.declared.expr.Expr.TheFolds.{para-roll-Expr}
-use Rattle.lf_ast.specs.declared.expr.Expr.TheViews.{roll-Expr}
 use Rattle.lf_ast.specs.declared.expr.ExprType.{ExprType}
 use Rattle.lf_ast.specs.declared.expr.ExprType.TheVariants.{Scalar, Vector}
-use Rattle.lf_semantics.specs.Parts.{form_layer, type_by_form}
-use Rattle.lf_semantics.proofs.Rolls.{beside, type-roll}
-use Rattle.lf_deps.specs.Reading.{outside_scalars, selectors, selectors_in, selectors_layer}
+use Rattle.lf_deps.specs.Reading.{arguments_selectors, selectors}
 
 abbrev pub Found : Type 0
 Found = List (Option Bytes)
-
-pub selectors_in-roll : (z : Expr-F Expr) → selectors_in (roll-Expr z) ≡ selectors_layer (beside selectors_in z)
-selectors_in-roll z = para-roll-Expr Found selectors_layer z
-
--- the selectors by the first layer
-abbrev pub own : Expr-F Expr → Found
-own z = cond (is_scalar (form_layer (beside type_by_form z))) [] (selectors_layer (beside selectors_in z))
-
-pub selected_by : (e : Expr) (z : Expr-F Expr) → e ≡ roll-Expr z → selectors e ≡ own z
-selected_by e z is =
-    ap selectors is
-    ∙ ap (λ (t : ExprType). cond (is_scalar t) [] (selectors_in (roll-Expr z))) (type-roll z)
-    ∙ ap (λ (l : Found). cond (is_scalar (form_layer (beside type_by_form z))) [] l) (selectors_in-roll z)
 
 -- a selector is no scalar
 pub of_selector : (range : Option Bytes) (x : Found) → cond (is_scalar (selected range)) [] x ≡ x
@@ -49,18 +32,10 @@ of_sides l r x y = by (is_scalar l) (is_scalar r)
     by false true = refl
     by false false = refl
 
-pub of_args : (args : List Expr) → flat_map outside_scalars (map (λ (e : Expr). (e, selectors_in e)) args) ≡ flat_map selectors args
-of_args [] = refl
-of_args (x ∷ args) = ap (λ (l : Found). selectors x ++ l) (of_args args)
+pub of_arguments : (args : List Expr) → arguments_selectors (trees args) ≡ flat_map (λ (e : Expr). selectors (tree e)) args
+of_arguments [] = refl
+of_arguments (x ∷ args) = ap (λ (l : Found). selectors (tree x) ++ l) (of_arguments args)
 
 pub regroup_found : (xs ys zs : Found) → (xs ++ ys) ++ zs ≡ xs ++ (ys ++ zs)
 regroup_found [] ys zs = refl
 regroup_found (x ∷ xs) ys zs = ap (λ (l : Found). x ∷ l) (regroup_found xs ys zs)
-
-pub not_within_scalar : (scalar : Bool) (x : Found) → scalar ≡ true → cond scalar [] x ≡ []
-not_within_scalar true x e = refl
-not_within_scalar false x e = absurd (cc)
-
-pub outside_scalar : (scalar : Bool) (x : Found) → scalar ≡ false → cond scalar [] x ≡ x
-outside_scalar true x e = absurd (cc)
-outside_scalar false x e = refl

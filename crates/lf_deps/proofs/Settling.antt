@@ -5,7 +5,7 @@ use Rattle.std.specs.List.{Contains}
 use Rattle.std.proofs.lemmas.Bool.{cases_eq, cases_lt}
 use Rattle.std.proofs.lemmas.List.{get_or-set_other, get_or-set_same, get_or_default, length-set}
 use Rattle.std.proofs.lemmas.List.Elements.{Contains-append_left, Contains-get_or, Contains-push, Contains-push_cases}
-use Rattle.lf_semantics.proofs.Members.{first_or_behind, here, none_in}
+use Rattle.lf_laws.proofs.Members.{first_or_behind, here, none_in}
 use Rattle.lf_deps.specs.Links.{waited_by}
 use Rattle.lf_deps.specs.Queue.{IsFree, IsLeft, IsQueue, IsWhole, Settles}
 use Rattle.lf_deps.specs.declared.links.Links.{Links}
@@ -85,32 +85,32 @@ module _ (links : Links) (whole : IsWhole links) (q : Queue) (k : ℕ) (a : IsQu
   -- the rule is listed at a source that a rule left records
   pub listed_on : at < length (waited_by links k)
       → 0 < get_or q.counts.items (get_or (waited_by links k) at 0) 0
-      → later.listed.items ≡ slice_set q.listed.items (get_or (waited_by links k) at 0) (get_or q.listed.items (get_or (waited_by links k) at 0) [] ++ k ∷ [])
+      → later.listed ≡ slice_set q.listed (get_or (waited_by links k) at 0) (get_or q.listed (get_or (waited_by links k) at 0) [] ++ k ∷ [])
       → later ≡ record q { seen = later.seen; listed = later.listed }
       → Settles links q later
   listed_on h some lists same =
       let s : ℕ = get_or (waited_by links k) at 0 in
       let own : Contains (waited_by links k) s = Contains-get_or (waited_by links k) at 0 h in
       let size = a.sizes.listed in
-      let in_lists : s < length q.listed.items = omega (arith, whole.waited k s own, size) in
-      let old : List ℕ = get_or q.listed.items s [] in
-      let new : List (List ℕ) = slice_set q.listed.items s (old ++ k ∷ []) in
-      let at_s : get_or new s [] ≡ old ++ k ∷ [] = get_or-set_same q.listed.items s (old ++ k ∷ []) [] in_lists in
+      let in_lists : s < length q.listed = omega (arith, whole.waited k s own, size) in
+      let old : List ℕ = get_or q.listed s [] in
+      let new : List (List ℕ) = slice_set q.listed s (old ++ k ∷ []) in
+      let at_s : get_or new s [] ≡ old ++ k ∷ [] = get_or-set_same q.listed s (old ++ k ∷ []) [] in_lists in
       let L : ℕ → ℕ → List (List ℕ) → Type 0 = λ x j l. Contains (get_or l x []) j in
       let C : ℕ → List ℕ → Type 0 = λ j l. Contains l j in
-      let kept : (x j : ℕ) → Contains (get_or q.listed.items x []) j → Contains (get_or new x []) j = λ x j c. elim (cases_eq x s) [
+      let kept : (x j : ℕ) → Contains (get_or q.listed x []) j → Contains (get_or new x []) j = λ x j c. elim (cases_eq x s) [
         | inl e ↦
-            let X : ℕ → Type 0 = λ y. Contains (get_or q.listed.items y []) j in
+            let X : ℕ → Type 0 = λ y. Contains (get_or q.listed y []) j in
             let Y : ℕ → Type 0 = λ y. Contains (get_or new y []) j in
             subst Y (sym e) (subst (C j) (sym at_s) (Contains-append_left old (k ∷ []) j (subst X e c)))
-        | inr n ↦ subst (C j) (sym (get_or-set_other q.listed.items s x (old ++ k ∷ []) [] n)) c
+        | inr n ↦ subst (C j) (sym (get_or-set_other q.listed s x (old ++ k ∷ []) [] n)) c
       ] in
       let Z : Queue → Type 0 = λ z. IsQueue links z [] in
       record {
         queue = subst Z (sym same) record {
           sizes = record {
             counts = a.sizes.counts;
-            listed = ap length lists ∙ length-set q.listed.items s (old ++ k ∷ []) ∙ size;
+            listed = ap length lists ∙ length-set q.listed s (old ++ k ∷ []) ∙ size;
             seen = seen_size;
             taken = a.sizes.taken;
             listed_rules = λ x j c. elim (cases_eq x s) [
@@ -121,7 +121,7 @@ module _ (links : Links) (whole : IsWhole links) (q : Queue) (k : ℕ) (a : IsQu
                     | inl f ↦ a.sizes.listed_rules s j f
                     | inr f ↦ let B : ℕ → Type 0 = λ y. y < length links.waited in subst B f within
                   ]
-              | inr n ↦ a.sizes.listed_rules x j (subst (C j) (get_or-set_other q.listed.items s x (old ++ k ∷ []) [] n) (subst (L x j) lists c))
+              | inr n ↦ a.sizes.listed_rules x j (subst (C j) (get_or-set_other q.listed s x (old ++ k ∷ []) [] n) (subst (L x j) lists c))
             ];
             due_rules = a.sizes.due_rules;
           };
@@ -129,8 +129,8 @@ module _ (links : Links) (whole : IsWhole links) (q : Queue) (k : ℕ) (a : IsQu
           free = a.free;
           settled = λ j l. elim (a.settled j l) [
             | inl c ↦
-                let J : ℕ → Type 0 = λ y. (x : ℕ) × Contains (waited_by links y) x × (0 < get_or q.counts.items x 0) × Contains (get_or later.listed.items x []) y in
-                let there : Contains (get_or later.listed.items s []) k = subst (L s k) (sym lists) (subst (C k) (sym at_s) (Contains-push old k)) in
+                let J : ℕ → Type 0 = λ y. (x : ℕ) × Contains (waited_by links y) x × (0 < get_or q.counts.items x 0) × Contains (get_or later.listed x []) y in
+                let there : Contains (get_or later.listed s []) k = subst (L s k) (sym lists) (subst (C k) (sym at_s) (Contains-push old k)) in
                 inr (inr (inr (subst J (only_here k j c) (s, own, some, there))))
             | inr r ↦ elim r [
               | inl d ↦ inr (inl d)

@@ -4,7 +4,7 @@ use Rattle.std.specs.Prelude.{slice_set}
 use Rattle.std.specs.List.{Contains, range_with_len}
 use Rattle.std.proofs.lemmas.Bool.{both_ways, cases_eq, cases_lt}
 use Rattle.std.proofs.lemmas.List.{get_or-replicate, get_or-set_other, get_or-set_same, get_or_past, get_or_read, length-replicate, length-set}
-use Rattle.lf_semantics.proofs.Members.{behind, first_or_behind, here, none_in}
+use Rattle.lf_laws.proofs.Members.{behind, first_or_behind, here, none_in}
 use Rattle.lf_deps.specs.Links.{recorded_by, waited_by}
 use Rattle.lf_deps.specs.Queue.{AreCounts, CountsDown, IsHeld, IsLeft, IsNextOf, IsQueue, IsReady, IsWhole, count_left, occurs, occurs_in}
 use Rattle.lf_deps.specs.declared.links.Links.{Links}
@@ -113,7 +113,7 @@ module _ (links : Links) (whole : IsWhole links) (q : Queue) (ready : IsReady li
         )
 
     module _ (low : (j : ℕ) → j < later.least → get_or q.taken.items j true ≡ true) (marked : later.taken.items ≡ slice_set q.taken.items k true)
-        (down : CountsDown q.listed.items (recorded_by links k) q.counts.items later.counts.items q.due later.due) (size : length later.counts.items ≡ length q.counts.items)
+        (down : CountsDown q.listed (recorded_by links k) q.counts.items later.counts.items q.due later.due) (size : length later.counts.items ≡ length q.counts.items)
         (same : later ≡ record q { counts = later.counts; due = later.due; free = later.free; taken = later.taken; least = later.least }) where
       pub taken_counts : AreCounts links later.taken.items later.counts.items
       taken_counts s b =
@@ -188,7 +188,7 @@ zero_at n k = elim (cases_lt k n) [
 
 pub start_queue : (links : Links) (q : Queue)
     → length q.counts.items ≡ links.sources
-    → q.listed.items ≡ replicate links.sources []
+    → q.listed ≡ replicate links.sources []
     → q.seen.items ≡ replicate (length links.waited) 0
     → q.due ≡ range_with_len 0 (length links.waited)
     → q.free ≡ []

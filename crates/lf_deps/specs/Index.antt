@@ -1,15 +1,15 @@
 -- What the index says of names and of the rules that record them.
-use Rattle.std.specs.Prelude.{◌⊎◌, ◌↔◌, ℕ, List, [], slice_index_or}
-use Rattle.std.specs.List.{Contains, flat_map}
+use Rattle.std.specs.Prelude.{ℕ, List, [], slice_index_or}
+use Rattle.std.specs.List.{flat_map}
 use Rattle.lf_ast.specs.Labels.{Bytes}
-use Rattle.lf_ast.specs.declared.rule.Rule.{Rule}
+use Rattle.lf_ast.specs.Rules.{RuleTree}
 use Rattle.lf_semantics.specs.Listing.{place}
 use Rattle.lf_deps.specs.Search.{chosen_all}
 use Rattle.lf_deps.specs.Sources.{IsSourcesOf, Sources}
 
 -- it is the index of some rules
 abbrev pub IsIndex : Sources → Type 0
-IsIndex s = (rules : List Rule) × IsSourcesOf rules s
+IsIndex s = (rules : List RuleTree) × IsSourcesOf rules s
 
 -- the numbers of the rules that record the name at a place
 abbrev pub makers_at : Sources → ℕ → List ℕ
@@ -22,7 +22,3 @@ makers_of s name = makers_at s (place s.names name)
 -- the names that the rules of these numbers select
 abbrev pub chosen_by : Sources → List ℕ → List Bytes
 chosen_by s makers = flat_map (λ k. chosen_all s.names (slice_index_or s.selected k [])) makers
-
--- a list gets these numbers, beside those that it has
-abbrev pub Adds : List ℕ → List ℕ → List ℕ → Type 0
-Adds added old new = (k : ℕ) → Contains new k ↔ (Contains old k ⊎ Contains added k)

@@ -2,7 +2,7 @@
 use Rattle.std.specs.Prelude.{◌≡◌, ℕ, ◌+◌, cond, nat_lt, List, [], ◌∷◌, length, map, Option, Some, None, slice_index_or}
 use Rattle.std.specs.List.{flat_map}
 use Rattle.lf_ast.specs.Labels.{Bytes}
-use Rattle.lf_ast.specs.declared.rule.Rule.{Rule}
+use Rattle.lf_ast.specs.Rules.{RuleTree}
 use Rattle.lf_semantics.specs.Environments.{recorded_names}
 use Rattle.lf_semantics.specs.Listing.{place}
 use Rattle.lf_deps.specs.Reading.{selectors}
@@ -14,13 +14,13 @@ source_of names None = length names ∷ []
 source_of names (Some name) = cond (nat_lt (place names name) (length names)) (place names name ∷ []) []
 
 -- the sources that a rule records
-abbrev pub recorded_at : List Bytes → Rule → List ℕ
+abbrev pub recorded_at : List Bytes → RuleTree → List ℕ
 recorded_at names r = cond r.alert [] (place names r.name ∷ length names ∷ [])
 
 -- the sources that each rule waits for and that each records
-pub record IsLinksOf (rules : List Rule) (links : Links) : Type 0 where
+pub record IsLinksOf (rules : List RuleTree) (links : Links) : Type 0 where
   pub count : links.sources ≡ length (recorded_names rules) + 1
-  pub waited : links.waited ≡ map (λ (r : Rule). flat_map (source_of (recorded_names rules)) (selectors r.expr)) rules
+  pub waited : links.waited ≡ map (λ (r : RuleTree). flat_map (source_of (recorded_names rules)) (selectors r.expr)) rules
   pub recorded : links.recorded ≡ map (recorded_at (recorded_names rules)) rules
 
 -- those of the rule at a number

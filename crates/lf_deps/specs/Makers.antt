@@ -1,15 +1,12 @@
 -- The numbers of the rules that record a name, one rule after another.
-use Rattle.std.specs.Prelude.{ℕ, cond, List, [], ◌∷◌, ◌++◌, length, nat_lt, slice_index_or, slice_set}
+use Rattle.std.specs.Prelude.{ℕ, cond, List, [], ◌∷◌, ◌++◌, length, nat_lt}
 use Rattle.lf_ast.specs.Labels.{Bytes}
+use Rattle.lf_graph.specs.Buckets.{put_at}
 use Rattle.lf_semantics.specs.Listing.{place}
 
 -- the numbers for each name, with an empty list behind them where a name is new
 abbrev pub with_room : List Bytes → List (List ℕ) → Bytes → List (List ℕ)
 with_room names makers name = cond (nat_lt (place names name) (length names)) makers (makers ++ [] ∷ [])
-
--- a number at a place goes behind those that are there
-abbrev pub put_at : List (List ℕ) → ℕ → ℕ → List (List ℕ)
-put_at makers place number = slice_set makers place (slice_index_or makers place [] ++ number ∷ [])
 
 -- a number goes behind those of a name
 abbrev pub with_maker : List Bytes → List (List ℕ) → Bytes → ℕ → List (List ℕ)

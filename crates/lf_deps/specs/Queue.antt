@@ -46,10 +46,10 @@ AreCounts links taken counts = (s : ℕ) → s < links.sources → slice_index_o
 
 pub record HasSizes (links : Links) (q : Queue) : Type 0 where
   pub counts : length q.counts.items ≡ links.sources
-  pub listed : length q.listed.items ≡ links.sources
+  pub listed : length q.listed ≡ links.sources
   pub seen : length q.seen.items ≡ length links.waited
   pub taken : length q.taken.items ≡ length links.waited
-  pub listed_rules : (s k : ℕ) → Contains (slice_index_or q.listed.items s []) k → k < length links.waited
+  pub listed_rules : (s k : ℕ) → Contains (slice_index_or q.listed s []) k → k < length links.waited
   pub due_rules : (k : ℕ) → Contains q.due k → k < length links.waited
 
 -- no source of the rule has a rule left
@@ -58,7 +58,7 @@ IsFree links counts k = (s : ℕ) → Contains (waited_by links k) s → slice_i
 
 -- the rule is listed at a source of its own that has a rule left
 abbrev pub IsListed : Links → Queue → ℕ → Type 0
-IsListed links q k = (s : ℕ) × Contains (waited_by links k) s × (0 < slice_index_or q.counts.items s 0) × Contains (slice_index_or q.listed.items s []) k
+IsListed links q k = (s : ℕ) × Contains (waited_by links k) s × (0 < slice_index_or q.counts.items s 0) × Contains (slice_index_or q.listed s []) k
 
 -- Each rule left is due to be looked at, or free, or listed, but for those set aside.
 pub record IsQueue (links : Links) (q : Queue) (aside : List ℕ) : Type 0 where

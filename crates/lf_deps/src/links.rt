@@ -1,6 +1,7 @@
 //! What rules wait for, by numbers.
 ghost use Rattle.std.specs.Prelude.{◌≡◌, ◌++◌, map, IfOk, OnOk};
 ghost use Rattle.std.specs.List.{flat_map};
+ghost use Rattle.lf_ast.specs.Rules.{rule_tree, rule_trees};
 ghost use Rattle.lf_deps.specs.Links.{IsLinksOf, recorded_at, source_of};
 ghost use Rattle.lf_deps.specs.Sources.{IsSourcesOf};
 
@@ -24,8 +25,8 @@ pub(crate) struct Links {
 impl Links {
     /// Those of rules, by the index of the same rules. One pass over the rules.
     pub(crate) fn of(alloc: Global, index: &Sources, rules: &Seq<Rule>) -> Result<Links, Memory>
-        requires { IsSourcesOf rules.now index.now }
-        ensures { IfOk result (IsLinksOf rules.now) }
+        requires { IsSourcesOf (rule_trees rules.now) index.now }
+        ensures { IfOk result (IsLinksOf (rule_trees rules.now)) }
     {
         let waited = waited_by_each(alloc, &index.names, index.selected.as_slice())?;
         let recorded = recorded_by_each(alloc, &index.names, rules)?;
@@ -106,7 +107,7 @@ fn recorded_by_each(
     names: &TextSet,
     rules: &Seq<Rule>,
 ) -> Result<Seq<Seq<usize>>, Memory>
-    ensures { IfOk result (λ all. all ≡ map (recorded_at names.now) rules.now) }
+    ensures { IfOk result (λ all. all ≡ map (λ r. recorded_at names.now (rule_tree r)) rules.now) }
 {
     let mut all = Seq::new(alloc);
     for k in 0..rules.len() {
@@ -117,7 +118,7 @@ fn recorded_by_each(
 
 /// The sources that a rule records.
 fn recorded_by(alloc: Global, names: &TextSet, rule: &Rule) -> Result<Seq<usize>, Memory>
-    ensures { IfOk result (λ sources. sources ≡ recorded_at names.now rule.now) }
+    ensures { IfOk result (λ sources. sources ≡ recorded_at names.now (rule_tree rule.now)) }
 {
     let mut sources = Seq::new(alloc);
     if !rule.alert {

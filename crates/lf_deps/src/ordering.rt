@@ -1,5 +1,6 @@
 //! The order of rules.
 ghost use Rattle.std.specs.Prelude.{◌≡◌, IfOk};
+ghost use Rattle.lf_ast.specs.Rules.{rule_trees};
 ghost use Rattle.lf_deps.specs.Ordering.{IsOrder};
 ghost use Rattle.lf_deps.specs.Sources.{IsSourcesOf};
 
@@ -16,7 +17,7 @@ use std::alloc::Global;
 /// within a scalar is looked at, and a selector of no name selects every recorded name. It takes about as long as the selectors are many: each rule is looked at again
 /// only once no rule left records a name that it selects, and each name of its selectors is passed once.
 pub fn order(alloc: Global, rules: &Seq<Rule>) -> Result<Seq<u32>, Memory>
-    ensures { IfOk result (IsOrder rules.now) }
+    ensures { IfOk result (IsOrder (rule_trees rules.now)) }
 {
     let sources = Sources::of(alloc, rules)?;
     order_of(alloc, &sources, rules)
@@ -24,8 +25,8 @@ pub fn order(alloc: Global, rules: &Seq<Rule>) -> Result<Seq<u32>, Memory>
 
 /// As `order`, by the index of the same rules.
 pub fn order_of(alloc: Global, sources: &Sources, rules: &Seq<Rule>) -> Result<Seq<u32>, Memory>
-    requires { IsSourcesOf rules.now sources.now }
-    ensures { IfOk result (IsOrder rules.now) }
+    requires { IsSourcesOf (rule_trees rules.now) sources.now }
+    ensures { IfOk result (IsOrder (rule_trees rules.now)) }
 {
     let links = Links::of(alloc, sources, rules)?;
     let mut queue = Queue::of(alloc, &links)?;

@@ -5,8 +5,8 @@ ghost use Rattle.lf_deps.specs.Queue.{Chooses, CountsDown, IsLeft, IsQueue, IsRe
 
 use crate::links::Links;
 use crate::number_set::NumberSet;
-use crate::sources::push_at;
 use lf_base::{Memory, Seq};
+use lf_graph::{Buckets, one_more};
 use std::alloc::Global;
 
 /// The rules left to be ordered. A rule waits while a rule left records one of its sources: it is listed at one such source, and looked at again once no rule left
@@ -16,7 +16,7 @@ pub(crate) struct Queue {
     /// How many of the rules left record each source.
     counts: Vec<usize>,
     /// The rules that are looked at again once no rule left records a source.
-    listed: Vec<Seq<usize>>,
+    listed: Buckets,
     /// How many of its sources each rule has behind it, since no rule left records them.
     seen: Vec<usize>,
     /// The rules to be looked at.
@@ -38,7 +38,7 @@ impl Queue {
         let rules = links.waited.len();
         let mut queue = Queue {
             counts: count_all(alloc, links)?,
-            listed: empty_lists(alloc, links.sources)?,
+            listed: Buckets::empty(alloc, links.sources)?,
             seen: vec![in alloc; 0; rules]?,
             due: numbers(alloc, rules)?,
             free: NumberSet::new(alloc),
@@ -60,7 +60,7 @@ impl Queue {
         mark(&mut self.taken, rule);
         count_down_all(
             &mut self.counts,
-            self.listed.as_slice(),
+            &self.listed,
             &mut self.due,
             links.recorded.get(rule).as_slice(),
         )?;
@@ -112,7 +112,7 @@ impl Queue {
         let place = first_recorded(sources, self.seen[rule], self.counts.as_slice());
         put(&mut self.seen, rule, place);
         if place < sources.len() {
-            push_at(&mut self.listed, sources[place], rule)?;
+            self.listed.push(sources[place], rule)?;
             return Ok(());
         }
         self.free.add(rule)?;
@@ -144,20 +144,10 @@ fn count_up_all(counts: &mut [usize], sources: &[usize]) -> Result<(), Memory>
     Ok(())
 }
 
-/// One more. A count that is too large for the memory is answered like want of it.
-fn one_more(count: usize) -> Result<usize, Memory>
-    ensures { IfOk result (λ more. more ≡ count + 1) }
-{
-    if count == usize::MAX {
-        return Err(Memory);
-    }
-    Ok(count + 1)
-}
-
 /// Counts each of the sources down, and puts what is listed at those that come to none behind what is due.
 fn count_down_all(
     counts: &mut [usize],
-    listed: &[Seq<usize>],
+    listed: &Buckets,
     due: &mut Seq<usize>,
     sources: &[usize],
 ) -> Result<(), Memory>
@@ -175,7 +165,7 @@ fn count_down_all(
 /// Counts a source down, and where it comes to none puts what is listed there behind what is due.
 fn count_down(
     counts: &mut [usize],
-    listed: &[Seq<usize>],
+    listed: &Buckets,
     due: &mut Seq<usize>,
     source: usize,
 ) -> Result<(), Memory>
@@ -186,7 +176,7 @@ fn count_down(
 {
     counts[source] -= 1;
     if counts[source] == 0 {
-        append(due, listed[source].as_slice())?;
+        append(due, listed.at(source))?;
     }
     Ok(())
 }
@@ -228,17 +218,6 @@ fn first_left(taken: &[bool], from: usize) -> usize
         place += 1;
     }
     place
-}
-
-/// Empty lists.
-fn empty_lists(alloc: Global, count: usize) -> Result<Vec<Seq<usize>>, Memory>
-    ensures { IfOk result (λ lists. lists.items ≡ replicate count []) }
-{
-    let mut lists = Vec::new(alloc);
-    for _k in 0..count {
-        lists.push(Seq::new(alloc))?;
-    }
-    Ok(lists)
 }
 
 /// The numbers below a count.

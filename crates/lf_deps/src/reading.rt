@@ -1,7 +1,8 @@
 //! Which rules and names are read.
 ghost use Rattle.std.specs.Prelude.{◌≡◌, ◌<◌, ◌↔◌, ℕ, List, length, IfOk, IsTrue, Some, slice_get, slice_index_or};
 ghost use Rattle.std.specs.List.{Contains};
-ghost use Rattle.lf_ast.specs.declared.rule.Rule.{Rule};
+ghost use Rattle.lf_ast.specs.Rules.{RuleTree, rule_trees};
+ghost use Rattle.lf_ast.specs.Tree.{tree};
 ghost use Rattle.lf_deps.specs.Index.{IsIndex};
 ghost use Rattle.lf_deps.specs.Names.{IsNameGraphOf};
 ghost use Rattle.lf_deps.specs.Reading.{AreApart, IsCyclic, Reaches};
@@ -22,7 +23,7 @@ use std::alloc::Global;
 /// A number that doesn't fit a `u32` is answered as want of memory.
 pub fn reach(alloc: Global, rules: &Seq<Rule>, i: u32) -> Result<Seq<u32>, Memory>
     requires { i < length rules.now }
-    ensures members { (of : Rule) → slice_get rules.now i ≡ Some of → (k : ℕ) → IfOk result (λ found. Contains found k ↔ ((r : Rule) × (slice_get rules.now k ≡ Some r) × Reaches rules.now of.expr r)) }
+    ensures members { (of : RuleTree) → slice_get (rule_trees rules.now) i ≡ Some of → (k : ℕ) → IfOk result (λ found. Contains found k ↔ ((r : RuleTree) × (slice_get (rule_trees rules.now) k ≡ Some r) × Reaches (rule_trees rules.now) of.expr r)) }
     ensures ascending { IfOk result (λ found. (k l : ℕ) → k < l → l < length found → slice_index_or found k 0 < slice_index_or found l 0) }
 {
     let sources = Sources::of(alloc, rules)?;
@@ -40,7 +41,7 @@ pub fn reach_of(
     requires index { IsIndex sources.now }
     requires graph { IsNameGraphOf sources.now graph.now }
     requires rule { i < length sources.now.selected }
-    ensures members { (rules : List Rule) → IsSourcesOf rules sources.now → (of : Rule) → slice_get rules i ≡ Some of → (k : ℕ) → IfOk result (λ found. Contains found k ↔ ((r : Rule) × (slice_get rules k ≡ Some r) × Reaches rules of.expr r)) }
+    ensures members { (rules : List RuleTree) → IsSourcesOf rules sources.now → (of : RuleTree) → slice_get rules i ≡ Some of → (k : ℕ) → IfOk result (λ found. Contains found k ↔ ((r : RuleTree) × (slice_get rules k ≡ Some r) × Reaches rules of.expr r)) }
     ensures ascending { IfOk result (λ found. (k l : ℕ) → k < l → l < length found → slice_index_or found k 0 < slice_index_or found l 0) }
 {
     let start = sources_of(alloc, sources.recorded(), sources.selected_by(i as usize))?;
@@ -51,7 +52,7 @@ pub fn reach_of(
 
 /// Whether two expressions read no common name, directly or through the rules.
 pub fn apart(alloc: Global, rules: &Seq<Rule>, left: &Expr, right: &Expr) -> Result<bool, Memory>
-    ensures { IfOk result (λ apart. IsTrue apart ↔ AreApart rules.now left.now right.now) }
+    ensures { IfOk result (λ apart. IsTrue apart ↔ AreApart (rule_trees rules.now) (tree left.now) (tree right.now)) }
 {
     let sources = Sources::of(alloc, rules)?;
     apart_of(alloc, &sources, left, right)
@@ -60,7 +61,7 @@ pub fn apart(alloc: Global, rules: &Seq<Rule>, left: &Expr, right: &Expr) -> Res
 /// As `apart`, for the rules of an index.
 pub fn apart_of(alloc: Global, sources: &Sources, left: &Expr, right: &Expr) -> Result<bool, Memory>
     requires { IsIndex sources.now }
-    ensures { IfOk result (λ apart. (rules : List Rule) → IsSourcesOf rules sources.now → IsTrue apart ↔ AreApart rules left.now right.now) }
+    ensures { IfOk result (λ apart. (rules : List RuleTree) → IsSourcesOf rules sources.now → IsTrue apart ↔ AreApart rules (tree left.now) (tree right.now)) }
 {
     let of_left = selectors(alloc, left)?;
     let of_right = selectors(alloc, right)?;
@@ -71,7 +72,7 @@ pub fn apart_of(alloc: Global, sources: &Sources, left: &Expr, right: &Expr) -> 
 
 /// Whether a name is read in its own making.
 pub fn cyclic(alloc: Global, rules: &Seq<Rule>, name: &Text) -> Result<bool, Memory>
-    ensures { IfOk result (λ cyclic. IsTrue cyclic ↔ IsCyclic rules.now name.now) }
+    ensures { IfOk result (λ cyclic. IsTrue cyclic ↔ IsCyclic (rule_trees rules.now) name.now) }
 {
     let sources = Sources::of(alloc, rules)?;
     let graph = NameGraph::of(alloc, &sources)?;
@@ -82,7 +83,7 @@ pub fn cyclic(alloc: Global, rules: &Seq<Rule>, name: &Text) -> Result<bool, Mem
 pub fn cyclic_of(sources: &Sources, graph: &NameGraph, name: &Text) -> bool
     requires index { IsIndex sources.now }
     requires graph { IsNameGraphOf sources.now graph.now }
-    ensures { (rules : List Rule) → IsSourcesOf rules sources.now → IsTrue result ↔ IsCyclic rules name.now }
+    ensures { (rules : List RuleTree) → IsSourcesOf rules sources.now → IsTrue result ↔ IsCyclic rules name.now }
 {
     let names = sources.recorded();
     let place = names.place(name.as_str());

@@ -2,7 +2,7 @@
 ghost use Rattle.std.specs.Prelude.{◌≡◌, ◌<◌, ◌∷◌, [], ℕ, List, Option, false, length, slice_index_or, IfOk, OnOk};
 ghost use Rattle.std.specs.List.{Contains};
 ghost use Rattle.lf_ast.specs.Labels.{Bytes};
-ghost use Rattle.lf_ast.specs.declared.rule.Rule.{Rule};
+ghost use Rattle.lf_ast.specs.Rules.{RuleTree};
 ghost use Rattle.lf_deps.specs.Index.{IsIndex, chosen_by, makers_of};
 ghost use Rattle.lf_deps.specs.Search.{AreRead, Grows, HasAll, IsSearch, chosen, chosen_all};
 ghost use Rattle.lf_deps.specs.Sources.{IsSourcesOf};
@@ -26,7 +26,7 @@ pub(crate) fn names_read(
     start: &[Option<Text>],
 ) -> Result<TextSet, Memory>
     requires { IsIndex sources.now }
-    ensures { IfOk result (λ names. (rules : List Rule) → IsSourcesOf rules sources.now → AreRead rules start.now names) }
+    ensures { IfOk result (λ names. (rules : List RuleTree) → IsSourcesOf rules sources.now → AreRead rules start.now names) }
 {
     let mut names = Names::new(alloc);
     names.add_all(alloc, sources, start)?;
@@ -50,7 +50,7 @@ impl Names {
     fn follow_all(&mut self, alloc: Global, sources: &Sources) -> Result<(), Memory>
         requires index { IsIndex sources.now }
         requires all { HasAll sources.now.names self.old.all self.old.texts }
-        ensures { OnOk result ((rules : List Rule) (start : List (Option Bytes)) → IsSourcesOf rules sources.now → IsSearch rules start self.old.texts 0 → AreRead rules start self.new.texts) }
+        ensures { OnOk result ((rules : List RuleTree) (start : List (Option Bytes)) → IsSourcesOf rules sources.now → IsSearch rules start self.old.texts 0 → AreRead rules start self.new.texts) }
     {
         let mut next = 0;
         while next < self.texts.len() {

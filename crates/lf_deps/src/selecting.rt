@@ -3,9 +3,10 @@ ghost use Rattle.std.specs.Prelude.{◌≡◌, ◌∷◌, ◌++◌, [], IfOk, On
 ghost use Rattle.std.specs.List.{flat_map};
 ghost use Rattle.std.specs.Option.{option_copied};
 ghost use Rattle.lf_ast.specs.Functions.{function_named};
+ghost use Rattle.lf_ast.specs.Selectors.{first_equal_name, selected_name};
+ghost use Rattle.lf_ast.specs.Tree.{tree};
 ghost use Rattle.lf_ast.specs.Types.{is_scalar};
 ghost use Rattle.lf_semantics.specs.Parts.{given_by};
-ghost use Rattle.lf_semantics.specs.Passing.{first_equal_name, selected_name};
 ghost use Rattle.lf_deps.specs.Reading.{selectors};
 
 use lf_ast::{Expr, ExprType, Function, MatchOp, Matcher};
@@ -14,7 +15,7 @@ use std::alloc::Global;
 
 /// The selectors of an expression: the name that each selects, or none where it says no name. Nothing within a scalar is looked at.
 pub(crate) fn selectors(alloc: Global, expr: &Expr) -> Result<Seq<Option<Text>>, Memory>
-    ensures { IfOk result (λ found. found ≡ selectors expr.now) }
+    ensures { IfOk result (λ found. found ≡ selectors (tree expr.now)) }
 {
     let mut found = Seq::new(alloc);
     select(expr, &mut found)?;
@@ -26,7 +27,7 @@ pub(crate) fn selectors(alloc: Global, expr: &Expr) -> Result<Seq<Option<Text>>,
 /// Only a call can be a scalar that has selectors: an operator is a scalar where both its sides are.
 #[cycle(select)]
 pub(crate) fn select(expr: &Expr, found: &mut Seq<Option<Text>>) -> Result<(), Memory>
-    ensures { OnOk result (found.new ≡ found.old ++ selectors expr.now) }
+    ensures { OnOk result (found.new ≡ found.old ++ selectors (tree expr.now)) }
 {
     match expr {
         Expr::Number { .. } => Ok(()),
@@ -55,7 +56,7 @@ pub(crate) fn select(expr: &Expr, found: &mut Seq<Option<Text>>) -> Result<(), M
 #[cycle(select)]
 #[inline(never)]
 fn select_all(args: &[Expr], found: &mut Seq<Option<Text>>) -> Result<(), Memory>
-    ensures { OnOk result (found.new ≡ found.old ++ flat_map selectors args.now) }
+    ensures { OnOk result (found.new ≡ found.old ++ flat_map (λ e. selectors (tree e)) args.now) }
 {
     for k in 0..args.len() {
         select(&args[k], found)?;

@@ -3,16 +3,15 @@ use Rattle.std.proofs.Common.{◌≡◌, ◌≢◌, ℕ, zero, suc, ◌+◌, ◌
 use Rattle.std.specs.Prelude.{slice_set}
 use Rattle.std.specs.List.{AllByRecursion, Contains}
 use Rattle.std.specs.Str.{bytes_eq}
-use Rattle.std.proofs.lemmas.Bool.{cases_lt}
+use Rattle.std.proofs.lemmas.Bool.{cases_lt, cases_eq}
 use Rattle.std.proofs.lemmas.Bool.Decides.{nat_tests}
-use Rattle.std.proofs.lemmas.List.{get_or-set_other, get_or-set_same}
+use Rattle.std.proofs.lemmas.List.{get_or-set_other, get_or-set_same, get_or_append_left, get_or_past, length-set}
 use Rattle.std.proofs.lemmas.List.Elements.{Contains-append_cases, Contains-append_left, Contains-append_right}
 use Rattle.lf_ast.specs.Labels.{Bytes}
 use Rattle.lf_classes.specs.Meetings.{with_text}
 use Rattle.lf_semantics.specs.Listing.{place}
-use Rattle.lf_semantics.proofs.Members.{first_or_behind, here, none_in, same_true}
+use Rattle.lf_laws.proofs.Members.{first_or_behind, here, none_in, same_true, only_one}
 use Rattle.lf_semantics.proofs.Places.{place_le, same_text}
-use Rattle.lf_fix.proofs.Steps.{same_or_other}
 
 -- lists
 
@@ -42,16 +41,6 @@ place_last (x ∷ xs) n h = by (bytes_eq x n) h (place_last xs n)
     by true h rest = absurd (omega (arith, h))
     by false h rest = let e = rest (omega (arith, h)) in omega (arith, e)
 
-front_at : (xs : List (List ℕ)) (ys : List (List ℕ)) (k : ℕ) → k < length xs → get_or (xs ++ ys) k [] ≡ get_or xs k []
-front_at [] ys k h = absurd (omega arith)
-front_at (x ∷ xs) ys zero h = refl
-front_at (x ∷ xs) ys (suc k) h = front_at xs ys k (omega arith)
-
-pub behind_none : (xs : List (List ℕ)) (k : ℕ) → length xs ≤ k → get_or xs k [] ≡ []
-behind_none [] k h = refl
-behind_none (x ∷ xs) zero h = absurd (omega arith)
-behind_none (x ∷ xs) (suc k) h = behind_none xs k (omega arith)
-
 -- an empty list behind others has no member
 end_none : (xs : List (List ℕ)) (k : ℕ) → length xs ≤ k → get_or (xs ++ [] ∷ []) k [] ≡ []
 end_none [] zero h = refl
@@ -66,14 +55,6 @@ place_behind (x ∷ xs) ys n h = by (bytes_eq x n) h (place_behind xs ys n)
     by : (b : Bool) → suc (length xs) ≤ cond (not b) (1 + place xs n) 0 → (length xs ≤ place xs n → length xs ≤ place (xs ++ ys) n) → suc (length xs) ≤ cond (not b) (1 + place (xs ++ ys) n) 0
     by true h rest = absurd (omega (arith, h))
     by false h rest = let e = rest (omega (arith, h)) in omega (arith, e)
-
-pub one_in : {X : Type 0} (x y : X) → Contains (x ∷ []) y → y ≡ x
-one_in x y c = elim (first_or_behind x [] y c) [ inl e ↦ sym e | inr d ↦ absurd (none_in y d) ]
-
-pub set_length : (old : List (List ℕ)) (k : ℕ) (x : List ℕ) → length (slice_set old k x) ≡ length old
-set_length [] k x = refl
-set_length (y ∷ old) zero x = refl
-set_length (y ∷ old) (suc k) x = ap suc (set_length old k x)
 
 -- A number is put behind those of a name.
 module _ (names : List Bytes) (lists : List (List ℕ)) (full : length lists ≡ length names) (name : Bytes) (number : ℕ) where
@@ -90,7 +71,7 @@ module _ (names : List Bytes) (lists : List (List ℕ)) (full : length lists ≡
   put_other old j h = get_or-set_other old (place names name) j (get_or old (place names name) [] ++ number ∷ []) [] h
 
   put_keeps : (old : List (List ℕ)) → place names name < length old → (j k : ℕ) → Contains (get_or old j []) k → Contains (get_or (put old) j []) k
-  put_keeps old h j k c = elim (same_or_other j (place names name)) [
+  put_keeps old h j k c = elim (cases_eq j (place names name)) [
     | inl e ↦
         let P : List ℕ → Type 0 = λ l. Contains l k in
         let Q : ℕ → Type 0 = λ i. Contains (get_or old i []) k in
@@ -105,14 +86,14 @@ module _ (names : List Bytes) (lists : List (List ℕ)) (full : length lists ≡
       subst P (sym (put_same old h)) (Contains-append_right (get_or old (place names name) []) (number ∷ []) number (here number []))
 
   put_only : (old : List (List ℕ)) → place names name < length old → (j k : ℕ) → Contains (get_or (put old) j []) k → Contains (get_or old j []) k ⊎ ((j ≡ place names name) × (k ≡ number))
-  put_only old h j k c = elim (same_or_other j (place names name)) [
+  put_only old h j k c = elim (cases_eq j (place names name)) [
     | inl e ↦
         let P : List ℕ → Type 0 = λ l. Contains l k in
         let Q : ℕ → Type 0 = λ i. Contains (get_or (put old) i []) k in
         let R : ℕ → Type 0 = λ i. Contains (get_or old i []) k in
         elim (Contains-append_cases (get_or old (place names name) []) (number ∷ []) k (subst P (put_same old h) (subst Q e c))) [
           | inl l ↦ inl (subst R (sym e) l)
-          | inr l ↦ inr (e, one_in number k l)
+          | inr l ↦ inr (e, sym (only_one number k l))
         ]
     | inr n ↦ let P : List ℕ → Type 0 = λ l. Contains l k in inl (subst P (put_other old j n) c)
   ]
@@ -165,8 +146,8 @@ module _ (names : List Bytes) (lists : List (List ℕ)) (full : length lists ≡
           let P : List Bytes → Type 0 = λ xs. At xs (put (lists ++ [] ∷ [])) n k in
           let Q : ℕ → Type 0 = λ i. Contains (get_or (put (lists ++ [] ∷ [])) i []) k in
           let R : List ℕ → Type 0 = λ l. Contains l k in
-          subst P (sym new_names) (subst Q (sym (place_front names (name ∷ []) n h)) (put_keeps (lists ++ [] ∷ []) within (place names n) k (subst R (sym (front_at lists ([] ∷ []) (place names n) (omega (arith, h, full)))) c)))
-      | inr h ↦ let R : List ℕ → Type 0 = λ l. Contains l k in absurd (none_in k (subst R (behind_none lists (place names n) (omega (arith, h, full))) c))
+          subst P (sym new_names) (subst Q (sym (place_front names (name ∷ []) n h)) (put_keeps (lists ++ [] ∷ []) within (place names n) k (subst R (sym (get_or_append_left lists ([] ∷ []) [] (place names n) (omega (arith, h, full)))) c)))
+      | inr h ↦ let R : List ℕ → Type 0 = λ l. Contains l k in absurd (none_in k (subst R (get_or_past lists (place names n) [] (omega (arith, h, full))) c))
     ]
 
     new_at_end : place (names ++ name ∷ []) name ≡ length names
@@ -182,7 +163,7 @@ module _ (names : List Bytes) (lists : List (List ℕ)) (full : length lists ≡
       | inl h ↦
           let Q : ℕ → Type 0 = λ i. Contains (get_or (lists ++ [] ∷ []) i []) k in
           let R : List ℕ → Type 0 = λ l. Contains l k in
-          subst R (front_at lists ([] ∷ []) (place names n) (omega (arith, h, full))) (subst Q (place_front names (name ∷ []) n h) c)
+          subst R (get_or_append_left lists ([] ∷ []) [] (place names n) (omega (arith, h, full))) (subst Q (place_front names (name ∷ []) n h) c)
       | inr h ↦
           let R : List ℕ → Type 0 = λ l. Contains l k in
           let b = place_behind names (name ∷ []) n (omega (arith, h)) in
@@ -214,7 +195,7 @@ module _ (names : List Bytes) (lists : List (List ℕ)) (full : length lists ≡
         let same : room ≡ lists = there (omega (arith, h, placed, full)) in
         let e : made ≡ put names lists full name number lists = set ∙ ap (λ (k : ℕ). slice_set room k (get_or room k [] ++ number ∷ [])) placed ∙ ap (λ (l : List (List ℕ)). put names lists full name number l) same in
         let n : length (put names lists full name number lists) ≡ length (with_text names name) =
-        set_length lists (place names name) (get_or lists (place names name) [] ++ number ∷ []) ∙ full ∙ sym (ap length (same_names names lists full name number h)) in
+        length-set lists (place names name) (get_or lists (place names name) [] ++ number ∷ []) ∙ full ∙ sym (ap length (same_names names lists full name number h)) in
         subst (λ ns. Put ns made) (sym named) (subst (Put (with_text names name)) (sym e) (old_listed names lists full name number h, old_kept names lists full name number h, n, old_only names lists full name number h))
     | inr h ↦
         let end : place names name ≡ length names = at_end names lists full name number h in
@@ -222,7 +203,7 @@ module _ (names : List Bytes) (lists : List (List ℕ)) (full : length lists ≡
         let e : made ≡ put names lists full name number (lists ++ [] ∷ []) =
         set ∙ ap (λ (k : ℕ). slice_set room k (get_or room k [] ++ number ∷ [])) placed ∙ ap (λ (l : List (List ℕ)). put names lists full name number l) same in
         let n : length (put names lists full name number (lists ++ [] ∷ [])) ≡ length (with_text names name) =
-        set_length (lists ++ [] ∷ []) (place names name) (get_or (lists ++ [] ∷ []) (place names name) [] ++ number ∷ [])
+        length-set (lists ++ [] ∷ []) (place names name) (get_or (lists ++ [] ∷ []) (place names name) [] ++ number ∷ [])
         ∙ length-append lists ([] ∷ [])
         ∙ ap (λ k. k + 1) full
         ∙ sym (length-append names (name ∷ []))

@@ -5,13 +5,14 @@ use Rattle.std.specs.Str.{bytes_eq}
 use Rattle.std.proofs.lemmas.Bool.{cases_lt}
 use Rattle.lf_ast.specs.Labels.{Bytes}
 use Rattle.lf_flow.specs.Raising.{joined}
-use Rattle.lf_semantics.specs.ClassRows.{Sets, emptied, holds, is_live, settled, union}
-use Rattle.lf_semantics.specs.Environments.{IsRow, Under}
+use Rattle.lf_semantics.specs.ClassRows.{Sets, emptied, holds, is_live, normalized, join}
+use Rattle.lf_semantics.specs.Environments.{IsRow, Leq}
 use Rattle.lf_semantics.specs.Listing.{Listing}
 use Rattle.lf_semantics.specs.RowTable.{Environment, row_named}
-use Rattle.lf_semantics.proofs.RowLaws.{shape_union}
-use Rattle.lf_semantics.proofs.SettledRows.{settled_union}
-use Rattle.lf_semantics.proofs.UnderLaws.{clash, live_more, same_length, under_trans, under_union_left, under_union_right}
+use Rattle.lf_semantics.proofs.RowLaws.{shape_join}
+use Rattle.lf_semantics.proofs.NormalizedRows.{normalized_join}
+use Rattle.lf_semantics.proofs.Members.{clash}
+use Rattle.lf_semantics.proofs.LeqLaws.{live_more, same_length, leq_trans, leq_join_left, leq_join_right}
 use Rattle.lf_fix.specs.Rounds.{missing, missing_in, missing_of}
 use Rattle.lf_fix.proofs.Raising.{none_some, some_row}
 
@@ -76,7 +77,7 @@ emptied_holds (set ∷ row) zero c = none_on set c
 emptied_holds (set ∷ row) (suc l) c = emptied_holds row l c
 
 -- a row of the universe that holds a class isn't empty
-live_if : (row : Sets) → settled row ≡ row → (l c : ℕ) → holds row l c ≡ true → is_live row ≡ true
+live_if : (row : Sets) → normalized row ≡ row → (l c : ℕ) → holds row l c ≡ true → is_live row ≡ true
 live_if row is l c h = by (is_live row) refl
   where
     by : (b : Bool) → is_live row ≡ b → is_live row ≡ true
@@ -86,7 +87,7 @@ live_if row is l c h = by (is_live row) refl
         let P : Sets → Type 0 = λ x. holds x l c ≡ true in
         absurd (clash (subst P empty h) (emptied_holds row l c))
 
-module _ (u : Listing) (row other : Sets) (is : IsRow u row) (is' : IsRow u other) (under : Under row other) where
+module _ (u : Listing) (row other : Sets) (is : IsRow u row) (is' : IsRow u other) (under : Leq row other) where
   same_shape : map length row ≡ map length other
   same_shape = is.0 ∙ sym is'.0
 
@@ -96,7 +97,7 @@ module _ (u : Listing) (row other : Sets) (is : IsRow u row) (is' : IsRow u othe
   under_le : missing_of other ≤ missing_of row
   under_le = row_le row other same_shape each
 
-  under_less : (Under other row → ⊥) → missing_of other < missing_of row
+  under_less : (Leq other row → ⊥) → missing_of other < missing_of row
   under_less new = elim (cases_lt (missing_of other) (missing_of row)) [
     | inl b ↦ b
     | inr b ↦
@@ -107,11 +108,11 @@ module _ (u : Listing) (row other : Sets) (is : IsRow u row) (is' : IsRow u othe
 -- environments
 
 module _ (u : Listing) (name : Bytes) (row : Sets) (is : IsRow u row) where
-  union_is : (old : Sets) → IsRow u old → IsRow u (union old row)
-  union_is old h = (shape_union u old row h.0 is.0, settled_union u old row h.0 is.0 is.1)
+  union_is : (old : Sets) → IsRow u old → IsRow u (join old row)
+  union_is old h = (shape_join u old row h.0 is.0, normalized_join u old row h.0 is.0 is.1)
 
-  entry_le : (b : Bool) (old : Sets) → IsRow u old → missing_of (cond b (union old row) old) ≤ missing_of old
-  entry_le true old h = under_le u old (union old row) h (union_is old h) (under_union_left u old row h.0 is.0)
+  entry_le : (b : Bool) (old : Sets) → IsRow u old → missing_of (cond b (join old row) old) ≤ missing_of old
+  entry_le true old h = under_le u old (join old row) h (union_is old h) (leq_join_left u old row h.0 is.0)
   entry_le false old h = omega arith
 
   joined_le : (env : Environment) → AllByRecursion (λ entry. IsRow u entry.1) env → missing (joined name row env) ≤ missing env
@@ -122,15 +123,15 @@ module _ (u : Listing) (name : Bytes) (row : Sets) (is : IsRow u row) where
       omega arith
 
   -- a row is joined that doesn't lie there
-  pub joined_less : (env : Environment) → AllByRecursion (λ entry. IsRow u entry.1) env → (old : Sets) → row_named env name ≡ Some old → (Under row old → ⊥) → missing (joined name row env) < missing env
+  pub joined_less : (env : Environment) → AllByRecursion (λ entry. IsRow u entry.1) env → (old : Sets) → row_named env name ≡ Some old → (Leq row old → ⊥) → missing (joined name row env) < missing env
   joined_less [] h old found new = absurd (none_some old found)
   joined_less (e ∷ env) h old found new = by (bytes_eq e.0 name) found (joined_le env h.1) (λ f. joined_less env h.1 old f new)
     where
       by : (b : Bool) → cond b (Some e.1) (row_named env name) ≡ Some old → missing (joined name row env) ≤ missing env → (row_named env name ≡ Some old → missing (joined name row env) < missing env)
-          → missing_of (cond b (union e.1 row) e.1) + missing (joined name row env) < missing_of e.1 + missing env
+          → missing_of (cond b (join e.1 row) e.1) + missing (joined name row env) < missing_of e.1 + missing env
       by true f le rest =
-          let P : Sets → Type 0 = λ x. Under row x in
-          let less = under_less u e.1 (union e.1 row) h.0 (union_is e.1 h.0) (under_union_left u e.1 row h.0.0 is.0)
-          (λ k. new (subst P (some_row e.1 old f) (under_trans row (union e.1 row) e.1 (under_union_right u e.1 row h.0.0 is.0) k))) in
+          let P : Sets → Type 0 = λ x. Leq row x in
+          let less = under_less u e.1 (join e.1 row) h.0 (union_is e.1 h.0) (leq_join_left u e.1 row h.0.0 is.0)
+          (λ k. new (subst P (some_row e.1 old f) (leq_trans row (join e.1 row) e.1 (leq_join_right u e.1 row h.0.0 is.0) k))) in
           omega arith
       by false f le rest = let less = rest f in omega arith

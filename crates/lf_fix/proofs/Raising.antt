@@ -3,19 +3,20 @@ use Rattle.std.proofs.Common.{◌≡◌, ◌<◌, Bool, true, false, cond, List,
 use Rattle.std.specs.List.{AllByRecursion, Contains}
 use Rattle.std.specs.Str.{bytes_eq}
 use Rattle.lf_ast.specs.Labels.{Bytes}
-use Rattle.lf_ast.specs.declared.rule.Rule.{Rule}
+use Rattle.lf_ast.specs.Rules.{RuleTree}
 use Rattle.lf_flow.specs.Raising.{joined}
-use Rattle.lf_semantics.specs.ClassRows.{Sets, nothing, union}
-use Rattle.lf_semantics.specs.Environments.{EnvironmentUnder, IsClosed, IsEnvironmentOf, IsRow, Under, names_recorded, recorded_names, recorded_row}
+use Rattle.lf_semantics.specs.ClassRows.{Sets, bottom, join}
+use Rattle.lf_semantics.specs.Environments.{EnvironmentLeq, IsPostFixedPoint, IsEnvironmentOf, IsRow, Leq, names_recorded, recorded_names, recorded_row}
 use Rattle.lf_semantics.specs.Listing.{IsListing, Listing, class_of, label_of, other_class}
 use Rattle.lf_semantics.specs.RowTable.{Environment, row_named}
-use Rattle.lf_semantics.specs.Texts.{metric}
+use Rattle.lf_ast.specs.Selectors.{metric}
 use Rattle.lf_semantics.proofs.ListingLaws.{AreDistinct, first_seen_distinct}
-use Rattle.lf_semantics.proofs.Members.{behind, here, true_same}
-use Rattle.lf_semantics.proofs.RowLaws.{shape_union}
+use Rattle.lf_laws.proofs.Members.{behind, here, true_same}
+use Rattle.lf_semantics.proofs.Members.{clash}
+use Rattle.lf_semantics.proofs.RowLaws.{shape_join}
 use Rattle.lf_semantics.proofs.RowsGrow.{recorded_grows}
-use Rattle.lf_semantics.proofs.SettledRows.{settled_union}
-use Rattle.lf_semantics.proofs.UnderLaws.{clash, nothing_dead, under_dead, under_refl, under_trans, under_union_left, union_least}
+use Rattle.lf_semantics.proofs.NormalizedRows.{normalized_join}
+use Rattle.lf_semantics.proofs.LeqLaws.{bottom_dead, leq_dead, leq_refl, leq_trans, leq_join_left, join_least}
 use Rattle.lf_fix.specs.Rounds.{start}
 
 pub some_row : (a b : Sets) → Some a ≡ Some b → a ≡ b
@@ -24,9 +25,9 @@ some_row a b e = cc
 pub none_some : (row : Sets) → None ≡ Some row → ⊥
 none_some row e = cc
 
-pub environment_refl : (env : Environment) → EnvironmentUnder env env
+pub environment_refl : (env : Environment) → EnvironmentLeq env env
 environment_refl [] = tt
-environment_refl (e ∷ env) = (refl, under_refl e.1, environment_refl env)
+environment_refl (e ∷ env) = (refl, leq_refl e.1, environment_refl env)
 
 abbrev pub names_of : Environment → List Bytes
 names_of env = map (λ entry. entry.0) env
@@ -62,17 +63,17 @@ module _ (name : Bytes) (row : Sets) where
   classes_joined P (e ∷ env) h = (h.0, classes_joined P env h.1)
 
   abbrev joined_row : Bytes → Sets → Sets
-  joined_row n old = cond (bytes_eq n name) (union old row) old
+  joined_row n old = cond (bytes_eq n name) (join old row) old
 
   -- the rows of the name are joined, and the others stay
-  pub named_joined : (env : Environment) (n : Bytes) (old : Sets) → row_named env n ≡ Some old → row_named (joined name row env) n ≡ Some (cond (bytes_eq n name) (union old row) old)
+  pub named_joined : (env : Environment) (n : Bytes) (old : Sets) → row_named env n ≡ Some old → row_named (joined name row env) n ≡ Some (cond (bytes_eq n name) (join old row) old)
   named_joined [] n old is = absurd (none_some old is)
   named_joined (e ∷ env) n old is = by (bytes_eq e.0 n) refl is (named_joined env n old)
     where
-      by : (b : Bool) → bytes_eq e.0 n ≡ b → cond b (Some e.1) (row_named env n) ≡ Some old → (row_named env n ≡ Some old → row_named (joined name row env) n ≡ Some (cond (bytes_eq n name) (union old row) old))
-          → cond b (Some (cond (bytes_eq e.0 name) (union e.1 row) e.1)) (row_named (joined name row env) n) ≡ Some (cond (bytes_eq n name) (union old row) old)
+      by : (b : Bool) → bytes_eq e.0 n ≡ b → cond b (Some e.1) (row_named env n) ≡ Some old → (row_named env n ≡ Some old → row_named (joined name row env) n ≡ Some (cond (bytes_eq n name) (join old row) old))
+          → cond b (Some (cond (bytes_eq e.0 name) (join e.1 row) e.1)) (row_named (joined name row env) n) ≡ Some (cond (bytes_eq n name) (join old row) old)
       by true f g rest =
-          ap (λ (x : Bytes). Some (cond (bytes_eq x name) (union e.1 row) e.1)) (true_same e.0 n f) ∙ ap (λ (x : Sets). Some (cond (bytes_eq n name) (union x row) x)) (some_row e.1 old g)
+          ap (λ (x : Bytes). Some (cond (bytes_eq x name) (join e.1 row) e.1)) (true_same e.0 n f) ∙ ap (λ (x : Sets). Some (cond (bytes_eq n name) (join x row) x)) (some_row e.1 old g)
       by false f g rest = rest g
 
   unnamed_joined : (env : Environment) (n : Bytes) → row_named env n ≡ None → row_named (joined name row env) n ≡ None
@@ -80,12 +81,12 @@ module _ (name : Bytes) (row : Sets) where
   unnamed_joined (e ∷ env) n is = by (bytes_eq e.0 n) is (unnamed_joined env n)
     where
       by : (b : Bool) → cond b (Some e.1) (row_named env n) ≡ None → (row_named env n ≡ None → row_named (joined name row env) n ≡ None)
-          → cond b (Some (cond (bytes_eq e.0 name) (union e.1 row) e.1)) (row_named (joined name row env) n) ≡ None
+          → cond b (Some (cond (bytes_eq e.0 name) (join e.1 row) e.1)) (row_named (joined name row env) n) ≡ None
       by true g rest = absurd (none_some e.1 (sym g))
       by false g rest = rest g
 
-  other_row : (old : Sets) (b : Bool) → b ≡ false → cond b (union old row) old ≡ old
-  other_row old b e = ap (λ c. cond c (union old row) old) e
+  other_row : (old : Sets) (b : Bool) → b ≡ false → cond b (join old row) old ≡ old
+  other_row old b e = ap (λ c. cond c (join old row) old) e
 
   -- another name has the row that it had
   pub others_joined : (env : Environment) (n : Bytes) → bytes_eq n name ≡ false → row_named (joined name row env) n ≡ row_named env n
@@ -100,20 +101,20 @@ module _ (name : Bytes) (row : Sets) where
     rows_joined [] h = tt
     rows_joined (e ∷ env) h = (by (bytes_eq e.0 name), rows_joined env h.1)
       where
-        by : (b : Bool) → IsRow u (cond b (union e.1 row) e.1)
-        by true = (shape_union u e.1 row h.0.0 is.0, settled_union u e.1 row h.0.0 is.0 is.1)
+        by : (b : Bool) → IsRow u (cond b (join e.1 row) e.1)
+        by true = (shape_join u e.1 row h.0.0 is.0, normalized_join u e.1 row h.0.0 is.0 is.1)
         by false = h.0
 
     -- it lies in what is made of it
-    pub under_joined : (env : Environment) → AllByRecursion (λ entry. IsRow u entry.1) env → EnvironmentUnder env (joined name row env)
+    pub under_joined : (env : Environment) → AllByRecursion (λ entry. IsRow u entry.1) env → EnvironmentLeq env (joined name row env)
     under_joined [] h = tt
     under_joined (e ∷ env) h = (refl, by (bytes_eq e.0 name), under_joined env h.1)
       where
-        by : (b : Bool) → Under e.1 (cond b (union e.1 row) e.1)
-        by true = under_union_left u e.1 row h.0.0 is.0
-        by false = under_refl e.1
+        by : (b : Bool) → Leq e.1 (cond b (join e.1 row) e.1)
+        by true = leq_join_left u e.1 row h.0.0 is.0
+        by false = leq_refl e.1
 
-    pub environment_joined : (rules : List Rule) (env : Environment) → IsEnvironmentOf u rules env → IsEnvironmentOf u rules (joined name row env)
+    pub environment_joined : (rules : List RuleTree) (env : Environment) → IsEnvironmentOf u rules env → IsEnvironmentOf u rules (joined name row env)
     environment_joined rules env h = record {
       environment = record {
         rows = rows_joined env h.environment.rows;
@@ -123,34 +124,34 @@ module _ (name : Bytes) (row : Sets) where
     }
 
   -- and in what it lies in, if the row lies in the rows of the name there
-  pub joined_under : (env other : Environment) → EnvironmentUnder env other → EachNamed name (λ top. Under row top) other → EnvironmentUnder (joined name row env) other
+  pub joined_under : (env other : Environment) → EnvironmentLeq env other → EachNamed name (λ top. Leq row top) other → EnvironmentLeq (joined name row env) other
   joined_under [] [] h each = tt
   joined_under [] (o ∷ other) h each = absurd h
   joined_under (e ∷ env) [] h each = absurd h
   joined_under (e ∷ env) (o ∷ other) h each = (h.0, by (bytes_eq e.0 name) refl, joined_under env other h.2 each.1)
     where
-      by : (b : Bool) → bytes_eq e.0 name ≡ b → Under (cond b (union e.1 row) e.1) o.1
-      by true f = union_least e.1 row o.1 h.1 (each.0 (sym (ap (λ (x : Bytes). bytes_eq x name) h.0) ∙ f))
+      by : (b : Bool) → bytes_eq e.0 name ≡ b → Leq (cond b (join e.1 row) e.1) o.1
+      by true f = join_least e.1 row o.1 h.1 (each.0 (sym (ap (λ (x : Bytes). bytes_eq x name) h.0) ∙ f))
       by false f = h.1
 
-distinct_names : (rules : List Rule) (names : List Bytes) → names ≡ recorded_names rules → AreDistinct names
+distinct_names : (rules : List RuleTree) (names : List Bytes) → names ≡ recorded_names rules → AreDistinct names
 distinct_names rules names e = let P : List Bytes → Type 0 = λ xs. AreDistinct xs in subst P (sym e) (first_seen_distinct (names_recorded rules))
 
-module _ (u : Listing) (p : IsListing u) (rules : List Rule) where
+module _ (u : Listing) (p : IsListing u) (rules : List RuleTree) where
   -- a step of a rule from below a closed environment stays below it
-  pub step_under : (env other : Environment) (r : Rule) → IsEnvironmentOf u rules env → IsEnvironmentOf u rules other → IsClosed u rules other → Contains rules r → r.alert ≡ false → EnvironmentUnder env other
-      → EnvironmentUnder (joined r.name (recorded_row u env r) env) other
+  pub step_under : (env other : Environment) (r : RuleTree) → IsEnvironmentOf u rules env → IsEnvironmentOf u rules other → IsPostFixedPoint u rules other → Contains rules r → r.alert ≡ false → EnvironmentLeq env other
+      → EnvironmentLeq (joined r.name (recorded_row u env r) env) other
   step_under env other r h k closed c e below =
       let top = closed r c e in
-      let lies : Under (recorded_row u env r) top.0 = under_trans (recorded_row u env r) (recorded_row u other r) top.0 (recorded_grows u p env other h.environment k.environment below r) top.2 in
-      joined_under r.name (recorded_row u env r) env other below (each_named r.name (λ x. Under (recorded_row u env r) x) other top.0 (distinct_names rules (names_of other) k.names) top.1 lies)
+      let lies : Leq (recorded_row u env r) top.0 = leq_trans (recorded_row u env r) (recorded_row u other r) top.0 (recorded_grows u p env other h.environment k.environment below r) top.2 in
+      joined_under r.name (recorded_row u env r) env other below (each_named r.name (λ x. Leq (recorded_row u env r) x) other top.0 (distinct_names rules (names_of other) k.names) top.1 lies)
 
-  start_under : (names : List Bytes) (other : Environment) → names_of other ≡ names → EnvironmentUnder (map (λ name. (name, nothing u)) names) other
+  start_under : (names : List Bytes) (other : Environment) → names_of other ≡ names → EnvironmentLeq (map (λ name. (name, bottom u)) names) other
   start_under [] [] e = tt
   start_under (n ∷ names) [] e = absurd (cc)
   start_under [] (o ∷ other) e = absurd (cc)
-  start_under (n ∷ names) (o ∷ other) e = (cc, under_dead (nothing u) o.1 (nothing_dead u p), start_under names other (cc))
+  start_under (n ∷ names) (o ∷ other) e = (cc, leq_dead (bottom u) o.1 (bottom_dead u p), start_under names other (cc))
 
   -- the start lies in each environment of the rules
-  pub under_start : (other : Environment) → IsEnvironmentOf u rules other → EnvironmentUnder (start u rules) other
+  pub under_start : (other : Environment) → IsEnvironmentOf u rules other → EnvironmentLeq (start u rules) other
   under_start other h = start_under (recorded_names rules) other h.names

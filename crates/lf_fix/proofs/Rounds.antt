@@ -6,20 +6,19 @@ use Rattle.std.specs.Str.{bytes_eq}
 use Rattle.std.proofs.Math.Seq.{take-length}
 use Rattle.std.proofs.lemmas.Option.{get_or_from_slice_get, slice_get_within}
 use Rattle.lf_ast.specs.Labels.{Bytes}
-use Rattle.lf_ast.specs.declared.rule.Rule.{Rule}
+use Rattle.lf_ast.specs.Rules.{RuleTree}
 use Rattle.lf_flow.specs.Raising.{joined}
-use Rattle.lf_semantics.specs.ClassRows.{Sets, nothing}
-use Rattle.lf_semantics.specs.Environments.{CoversRules, IsEnvironmentOf, IsKnown, IsLeast, IsRow, Under, names_recorded, recorded_names, recorded_row}
+use Rattle.lf_semantics.specs.ClassRows.{Sets, bottom}
+use Rattle.lf_semantics.specs.Environments.{CoversRules, IsEnvironmentOf, IsKnown, IsLeast, IsRow, Leq, names_recorded, recorded_names, recorded_row}
 use Rattle.lf_semantics.specs.Listing.{IsListing, Listing, class_of, label_of, other_class}
 use Rattle.lf_semantics.specs.RowTable.{Environment, row_named}
-use Rattle.lf_semantics.specs.Texts.{metric}
-use Rattle.lf_semantics.specs.Walk.{met, rule_walk, walk}
-use Rattle.lf_semantics.proofs.Constructs.{all_back}
-use Rattle.lf_semantics.proofs.ListingLaws.{all_of, in_first_seen, of_first_seen}
-use Rattle.lf_semantics.proofs.Members.{behind, first_or_behind, here, none_in, same_true}
-use Rattle.lf_semantics.proofs.RowLaws.{shape_nothing}
-use Rattle.lf_semantics.proofs.SettledRows.{recorded_row_is, settled_nothing}
-use Rattle.lf_semantics.proofs.UnderLaws.{clash}
+use Rattle.lf_ast.specs.Selectors.{metric}
+use Rattle.lf_semantics.specs.Mentions.{mention, rule_mentions, mentions}
+use Rattle.lf_laws.proofs.Members.{behind, first_or_behind, here, none_in, same_true}
+use Rattle.lf_semantics.proofs.Members.{all_back, all_of, clash}
+use Rattle.lf_semantics.proofs.ListingLaws.{in_first_seen, of_first_seen}
+use Rattle.lf_semantics.proofs.RowLaws.{shape_bottom}
+use Rattle.lf_semantics.proofs.NormalizedRows.{recorded_row_is, normalized_bottom}
 use Rattle.lf_deps.specs.Ordering.{IsOrder}
 use Rattle.lf_deps.proofs.OrderLaws.{each_ordered}
 use Rattle.lf_fix.specs.Rounds.{OthersHold, Rises, StepTells, Tells, TellsOf, missing, start}
@@ -32,31 +31,31 @@ at_index xs k x e = (k, slice_get_within xs k x e, get_or_from_slice_get xs k x 
 
 -- the rules by their numbers
 
-index_of : (rules : List Rule) (r : Rule) → Contains rules r → (k : ℕ) × (k < length rules) × (slice_get rules k ≡ Some r)
+index_of : (rules : List RuleTree) (r : RuleTree) → Contains rules r → (k : ℕ) × (k < length rules) × (slice_get rules k ≡ Some r)
 index_of [] r c = absurd (none_in r c)
 index_of (x ∷ rules) r c = elim (first_or_behind x rules r c) [
-  | inl q ↦ (0, omega arith, ap (λ (y : Rule). Some y) q)
+  | inl q ↦ (0, omega arith, ap (λ (y : RuleTree). Some y) q)
   | inr d ↦ let i = index_of rules r d in (suc i.0, omega (arith, i.1), i.2)
 ]
 
-pub same_rule : (rules : List Rule) (k : ℕ) (r s : Rule) → slice_get rules k ≡ Some r → slice_get rules k ≡ Some s → r ≡ s
+pub same_rule : (rules : List RuleTree) (k : ℕ) (r s : RuleTree) → slice_get rules k ≡ Some r → slice_get rules k ≡ Some s → r ≡ s
 same_rule rules k r s e f = let a : Some r ≡ Some s = sym e ∙ f in cc
 
-pub rule_within : (rules : List Rule) (k : ℕ) (r : Rule) → slice_get rules k ≡ Some r → k < length rules
+pub rule_within : (rules : List RuleTree) (k : ℕ) (r : RuleTree) → slice_get rules k ≡ Some r → k < length rules
 rule_within [] k r e = absurd (cc)
 rule_within (x ∷ rules) zero r e = omega arith
 rule_within (x ∷ rules) (suc k) r e = let h = rule_within rules k r e in omega (arith, h)
 
 -- a recorded name has a row
 
-in_names : (rules : List Rule) (r : Rule) → Contains rules r → r.alert ≡ false → Contains (names_recorded rules) r.name
+in_names : (rules : List RuleTree) (r : RuleTree) → Contains rules r → r.alert ≡ false → Contains (names_recorded rules) r.name
 in_names [] r c e = absurd (none_in r c)
 in_names (x ∷ rules) r c e = by x.alert refl (in_names rules r)
   where
     by : (b : Bool) → x.alert ≡ b → (Contains rules r → r.alert ≡ false → Contains (names_recorded rules) r.name) → Contains (cond b (names_recorded rules) (x.name ∷ names_recorded rules)) r.name
-    by true f rest = elim (first_or_behind x rules r c) [ inl q ↦ absurd (clash f (ap (λ (y : Rule). y.alert) q ∙ e)) | inr d ↦ rest d e ]
+    by true f rest = elim (first_or_behind x rules r c) [ inl q ↦ absurd (clash f (ap (λ (y : RuleTree). y.alert) q ∙ e)) | inr d ↦ rest d e ]
     by false f rest = elim (first_or_behind x rules r c) [
-      | inl q ↦ let P : Rule → Type 0 = λ y. Contains (x.name ∷ names_recorded rules) y.name in subst P q (here x.name _)
+      | inl q ↦ let P : RuleTree → Type 0 = λ y. Contains (x.name ∷ names_recorded rules) y.name in subst P q (here x.name _)
       | inr d ↦ behind x.name _ r.name (rest d e)
     ]
 
@@ -77,7 +76,7 @@ one_named P (x ∷ env) n row h e = by (bytes_eq x.0 n) e (one_named P env n row
     by true e rest = let q : x.1 ≡ row = cc in subst P q h.0
     by false e rest = rest e
 
-rises_on : (u : Listing) (rules : List Rule) (a b c : Environment) → Rises u rules a b → Rises u rules b c → Rises u rules a c
+rises_on : (u : Listing) (rules : List RuleTree) (a b c : Environment) → Rises u rules a b → Rises u rules b c → Rises u rules a c
 rises_on u rules a b c h k = record { of_rules = k.of_rules; below = λ other o d e. k.below other o d (h.below other o d e) }
 
 neither : (x y : Bool) → (x || y) ≡ false → (x ≡ false) × (y ≡ false)
@@ -97,7 +96,7 @@ more_taken (x ∷ order) (suc n) k j at c = elim (first_or_behind x (take (suc n
 ]
 
 -- a step more
-pub tells_more : (u : Listing) (rules : List Rule) (order : List ℕ) (n k : ℕ) (env mid later : Environment) (due after : List Bool) (again changed : Bool) → slice_get order n ≡ Some k
+pub tells_more : (u : Listing) (rules : List RuleTree) (order : List ℕ) (n k : ℕ) (env mid later : Environment) (due after : List Bool) (again changed : Bool) → slice_get order n ≡ Some k
     → Tells u rules order n env mid due again → StepTells u rules k mid later due after changed → Tells u rules order (n + 1) env later after (again || changed)
 tells_more u rules order n k env mid later due after again changed at h t = record {
   rises = rises_on u rules env mid later h.rises t.rises;
@@ -120,7 +119,7 @@ tells_more u rules order n k env mid later due after again changed at h t = reco
     less false true e f i = let P : Environment → Type 0 = λ z. missing later < missing z in subst P (h.same e) (t.less f)
     less false false e f i = absurd (clash i (ap (λ b. b || changed) e ∙ f))
 
-module _ (u : Listing) (p : IsListing u) (rules : List Rule) where
+module _ (u : Listing) (p : IsListing u) (rules : List RuleTree) where
   pub rises_none : (env : Environment) → IsEnvironmentOf u rules env → Rises u rules env env
   rises_none env h = record { of_rules = h; below = λ other o d b. b }
 
@@ -128,16 +127,16 @@ module _ (u : Listing) (p : IsListing u) (rules : List Rule) where
   pub tells_none : (order : List ℕ) (env : Environment) (due : List Bool) → IsEnvironmentOf u rules env → OthersHold u rules env due → Tells u rules order 0 env env due false
   tells_none order env due of hold = record { rises = rises_none env of; less = λ e. absurd (cc); same = λ e. refl; hold = hold; done = λ e k c. absurd (none_in k c) }
 
-  pub alert_tells : (env : Environment) (k : ℕ) (r : Rule) → IsEnvironmentOf u rules env → slice_get rules k ≡ Some r → r.alert ≡ true → TellsOf u rules k env env false
+  pub alert_tells : (env : Environment) (k : ℕ) (r : RuleTree) → IsEnvironmentOf u rules env → slice_get rules k ≡ Some r → r.alert ≡ true → TellsOf u rules k env env false
   alert_tells env k r h is e = record {
     rises = rises_none env h;
     less = λ f. absurd (cc);
     same = λ f. refl;
-    holds = λ f s i g. absurd (clash e (ap (λ (y : Rule). y.alert) (same_rule rules k r s is i) ∙ g));
+    holds = λ f s i g. absurd (clash e (ap (λ (y : RuleTree). y.alert) (same_rule rules k r s is i) ∙ g));
     joins = λ f. absurd (cc);
   }
 
-  pub has_row : (env : Environment) (k : ℕ) (r : Rule) → IsEnvironmentOf u rules env → slice_get rules k ≡ Some r → r.alert ≡ false → (row : Sets) × (row_named env r.name ≡ Some row)
+  pub has_row : (env : Environment) (k : ℕ) (r : RuleTree) → IsEnvironmentOf u rules env → slice_get rules k ≡ Some r → r.alert ≡ false → (row : Sets) × (row_named env r.name ≡ Some row)
   has_row env k r h is e =
       let P : List Bytes → Type 0 = λ names. Contains names r.name in
       row_in env r.name (subst P (sym h.names) (in_first_seen (names_recorded rules) r.name (in_names rules r (at_index rules k r is) e)))
@@ -147,8 +146,8 @@ module _ (u : Listing) (p : IsListing u) (rules : List Rule) where
   same_shape env n row other h is e = (one_named (λ x. IsRow u x) env n other h.environment.rows e).0 ∙ sym is.0
 
   -- a row is joined to that of its name
-  pub joined_tells : (env later : Environment) (k : ℕ) (r : Rule) (changed : Bool) → IsEnvironmentOf u rules env → slice_get rules k ≡ Some r → r.alert ≡ false → later ≡ joined r.name (recorded_row u env r) env
-      → ((top : Sets) → row_named env r.name ≡ Some top → (changed ≡ false → Under (recorded_row u env r) top) × (Under (recorded_row u env r) top → changed ≡ false)) → (changed ≡ false → later ≡ env) → TellsOf u rules k env later changed
+  pub joined_tells : (env later : Environment) (k : ℕ) (r : RuleTree) (changed : Bool) → IsEnvironmentOf u rules env → slice_get rules k ≡ Some r → r.alert ≡ false → later ≡ joined r.name (recorded_row u env r) env
+      → ((top : Sets) → row_named env r.name ≡ Some top → (changed ≡ false → Leq (recorded_row u env r) top) × (Leq (recorded_row u env r) top → changed ≡ false)) → (changed ≡ false → later ≡ env) → TellsOf u rules k env later changed
   joined_tells env later k r changed h is e made tells kept =
       let at = has_row env k r h is e in
       let own = recorded_row_is u p env h.environment r in
@@ -161,9 +160,9 @@ module _ (u : Listing) (p : IsListing u) (rules : List Rule) where
             subst P (sym made) (joined_less u r.name (recorded_row u env r) own env h.environment.rows at.0 at.1 (λ under. clash f ((tells at.0 at.1).1 under)));
         same = kept;
         holds = λ f s i g.
-            let Q : Rule → Type 0 = λ y. (row : Sets) × (row_named env y.name ≡ Some row) × Under (recorded_row u env y) row in
+            let Q : RuleTree → Type 0 = λ y. (row : Sets) × (row_named env y.name ≡ Some row) × Leq (recorded_row u env y) row in
             subst Q (same_rule rules k r s is i) (at.0, at.1, (tells at.0 at.1).0 f);
-        joins = λ f s i. let Q : Rule → Type 0 = λ y. (y.alert ≡ false) × (later ≡ joined y.name (recorded_row u env y) env) in subst Q (same_rule rules k r s is i) (e, made);
+        joins = λ f s i. let Q : RuleTree → Type 0 = λ y. (y.alert ≡ false) × (later ≡ joined y.name (recorded_row u env y) env) in subst Q (same_rule rules k r s is i) (e, made);
       }
 
   -- all rules of an order have been stepped
@@ -185,28 +184,28 @@ module _ (u : Listing) (p : IsListing u) (rules : List Rule) where
 
   -- the start is an environment of the rules
 
-  start_names : (names : List Bytes) → map (λ (entry : Bytes × Sets). entry.0) (map (λ (name : Bytes). (name, nothing u)) names) ≡ names
+  start_names : (names : List Bytes) → map (λ (entry : Bytes × Sets). entry.0) (map (λ (name : Bytes). (name, bottom u)) names) ≡ names
   start_names [] = refl
   start_names (n ∷ names) = ap (λ (xs : List Bytes). n ∷ xs) (start_names names)
 
-  start_rows : (names : List Bytes) → AllByRecursion (λ (entry : Bytes × Sets). IsRow u entry.1) (map (λ (name : Bytes). (name, nothing u)) names)
+  start_rows : (names : List Bytes) → AllByRecursion (λ (entry : Bytes × Sets). IsRow u entry.1) (map (λ (name : Bytes). (name, bottom u)) names)
   start_rows [] = tt
-  start_rows (n ∷ names) = ((shape_nothing u, settled_nothing u), start_rows names)
+  start_rows (n ∷ names) = ((shape_bottom u, normalized_bottom u), start_rows names)
 
   abbrev IsClass : Bytes → Type 0
   IsClass name = class_of u (label_of u metric) name < other_class u (label_of u metric)
 
-  start_classes : (names : List Bytes) → AllByRecursion IsClass names → AllByRecursion (λ (entry : Bytes × Sets). IsClass entry.0) (map (λ (name : Bytes). (name, nothing u)) names)
+  start_classes : (names : List Bytes) → AllByRecursion IsClass names → AllByRecursion (λ (entry : Bytes × Sets). IsClass entry.0) (map (λ (name : Bytes). (name, bottom u)) names)
   start_classes [] h = tt
   start_classes (n ∷ names) h = (h.0, start_classes names h.1)
 
   -- a recorded name is a class of its own
-  name_is_class : (r : Rule) → AllByRecursion (IsKnown u) (rule_walk r) → r.alert ≡ false → IsClass r.name
+  name_is_class : (r : RuleTree) → AllByRecursion (IsKnown u) (rule_mentions r) → r.alert ≡ false → IsClass r.name
   name_is_class r known e =
-      let P : Bool → Type 0 = λ b. AllByRecursion (IsKnown u) (cond b [] (met metric (r.name ∷ []) ∷ map (λ l. met l.key (l.value ∷ [])) r.labels)) in
-      (subst P e (all_back (IsKnown u) (walk r.expr) _ known)).0.1.0
+      let P : Bool → Type 0 = λ b. AllByRecursion (IsKnown u) (cond b [] (mention metric (r.name ∷ []) ∷ map (λ l. mention l.key (l.value ∷ [])) r.labels)) in
+      (subst P e (all_back (IsKnown u) (mentions r.expr) _ known)).0.1.0
 
-  names_are_classes : (rs : List Rule) → CoversRules u rs → (name : Bytes) → Contains (names_recorded rs) name → IsClass name
+  names_are_classes : (rs : List RuleTree) → CoversRules u rs → (name : Bytes) → Contains (names_recorded rs) name → IsClass name
   names_are_classes [] covers name c = absurd (none_in name c)
   names_are_classes (r ∷ rs) covers name c = by r.alert refl c (names_are_classes rs (λ x i. covers x (behind r rs x i)) name)
     where

@@ -1,15 +1,12 @@
 -- The row of a scalar is the same in every environment.
-use Rattle.std.proofs.Common.{◌≡◌, Bool, true, false, not, ◌&&◌, ◌||◌, cond, List, [], ◌∷◌, Option, Some, None, refl, sym, ◌∙◌, ap}
+use Rattle.std.proofs.Common.{◌≡◌, ℕ, Bool, true, false, not, ◌&&◌, ◌||◌, cond, List, [], ◌∷◌, Option, Some, None, refl, sym, ◌∙◌, ap}
 use Rattle.std.specs.List.{list_all, list_any}
 use Rattle.std.specs.Str.{bytes_eq}
+use Rattle.lf_laws.proofs.Booleans.{and_both}
 use Rattle.lf_ast.specs.Functions.{Row, Signature, function_named, functions, looked_up}
 use Rattle.lf_ast.specs.Labels.{Bytes}
-use Rattle.lf_ast.specs.Layers.{by_layers}
+use Rattle.lf_ast.specs.Tree.{Tree, Trees, Number, Str, Selector, Subquery, Paren, Unary, Binary, Call, Aggregate}
 use Rattle.lf_ast.specs.Types.{is_scalar, selected}
-use Rattle.lf_ast.specs.declared.expr.Expr.{Expr}
-use Rattle.lf_ast.specs.declared.expr.Expr.TheOpen.{Expr-F, Number, Str, Selector, Subquery, Paren, Unary, Binary, Call, Aggregate}
-use Rattle.lf_ast.specs.declared.expr.Expr.TheFolds.{map-Expr}
-use Rattle.lf_ast.specs.declared.expr.Expr.TheViews.{roll-Expr}
 use Rattle.lf_ast.specs.declared.expr.ExprType.TheVariants.{Scalar, Vector}
 use Rattle.lf_ast.specs.declared.expr.Grouping.{Grouping}
 use Rattle.lf_ast.specs.declared.expr.Grouping.TheVariants.{None as Ungrouped}
@@ -19,9 +16,8 @@ use Rattle.lf_ast.specs.declared.functions.LabelEffect.{LabelEffect}
 use Rattle.lf_ast.specs.declared.functions.LabelEffect.TheVariants.{Maps, Keeps, Groups, CountValues, Date, Absent, LabelReplace, LabelJoin, HistogramQuantile, Bare}
 use Rattle.lf_semantics.specs.ClassRows.{Sets}
 use Rattle.lf_semantics.specs.Listing.{Listing}
-use Rattle.lf_semantics.specs.Parts.{form_layer, given_by, is_scalar_part, type_by_form}
-use Rattle.lf_semantics.specs.RowTable.{Environment, bare_row, binary_row, call_row, effect_row, row_layer, row_of, sign_row}
-use Rattle.lf_semantics.proofs.Rolls.{beside, row-roll, type-roll}
+use Rattle.lf_semantics.specs.Parts.{given_by, is_scalar_part}
+use Rattle.lf_semantics.specs.RowTable.{Environment, bare_row, binary_row, call_row, effect_row, row_at, row_of, sign_row}
 
 -- what gives a scalar
 
@@ -37,15 +33,11 @@ each_function : list_all (λ (row : Row). is_bare_if_scalar row.signature) funct
 unfolding functions
 each_function = refl
 
-both : (a b : Bool) → (a && b) ≡ true → (a ≡ true) × (b ≡ true)
-both true b e = (refl, e)
-both false b e = absurd (cc)
-
 -- what is looked up in a table passes the test that each row passes
 found_passes : (test : Signature → Bool) (name : Bytes) (rows : List Row) → list_all (λ (row : Row). test row.signature) rows ≡ true → (s : Signature) → looked_up name rows ≡ Some s → test s ≡ true
 found_passes test name [] all s found = absurd (cc)
 found_passes test name (row ∷ rows) all s found =
-    let b = both (test row.signature) (list_all (λ (row : Row). test row.signature) rows) all in
+    let b = and_both (test row.signature) (list_all (λ (row : Row). test row.signature) rows) all in
     by (list_any (bytes_eq name) row.names) found b.0 (found_passes test name rows b.1 s)
   where
     by : (here : Bool) → cond here (Some row.signature) (looked_up name rows) ≡ Some s → test row.signature ≡ true → (looked_up name rows ≡ Some s → test s ≡ true) → test s ≡ true
@@ -61,7 +53,7 @@ no_selector None e = absurd (cc)
 no_selector (Some duration) e = absurd (cc)
 
 module _ (u : Listing) where
-  bare_effect : (effect : LabelEffect) (grouping : Grouping) (args : List Expr) (row : Sets) → is_bare effect ≡ true → effect_row u effect grouping args row ≡ bare_row u
+  bare_effect : (effect : LabelEffect) (grouping : Grouping) (args : Trees) (row : Sets) → is_bare effect ≡ true → effect_row u effect grouping args row ≡ bare_row u
   bare_effect Bare grouping args row e = refl
   bare_effect Maps grouping args row e = absurd (cc)
   bare_effect Keeps grouping args row e = absurd (cc)
@@ -78,12 +70,12 @@ module _ (u : Listing) where
   holds_second false b e f = absurd (cc)
 
   -- a call that gives a scalar
-  call_fixed : (o : Option Signature) → ((s : Signature) → o ≡ Some s → is_bare_if_scalar s ≡ true) → is_scalar (given_by o) ≡ true → (grouping : Grouping) (args others : List (Expr × Sets))
-      → call_row u o grouping args ≡ call_row u o grouping others
-  call_fixed None passes e grouping args others = absurd (cc)
-  call_fixed (Some s) passes e grouping args others =
+  call_fixed : (o : Option Signature) → ((s : Signature) → o ≡ Some s → is_bare_if_scalar s ≡ true) → is_scalar (given_by o) ≡ true → (grouping : Grouping) (args : Trees) (rows others : ℕ → Sets)
+      → call_row u o grouping args rows ≡ call_row u o grouping args others
+  call_fixed None passes e grouping args rows others = absurd (cc)
+  call_fixed (Some s) passes e grouping args rows others =
       let bare = holds_second (is_scalar s.gives) (is_bare s.labels) (passes s refl) e in
-      bare_effect s.labels grouping _ _ bare ∙ sym (bare_effect s.labels grouping _ _ bare)
+      bare_effect s.labels grouping args _ bare ∙ sym (bare_effect s.labels grouping args _ bare)
 
   -- an operator is a scalar only between scalars
   sides_fixed : (op : Op) (m : Matching) (p q : Bool) (a b c d : Sets) → is_scalar (cond (p && q) Scalar Vector) ≡ true → binary_row u op m p q a b ≡ binary_row u op m p q c d
@@ -92,35 +84,15 @@ module _ (u : Listing) where
   sides_fixed op m false true a b c d e = absurd (cc)
   sides_fixed op m false false a b c d e = absurd (cc)
 
-module _ (u : Listing) (env other : Environment) where
-  IsFixed : Expr → Type 0
-  IsFixed e = is_scalar_part e ≡ true → row_of u env e ≡ row_of u other e
-
-  -- the row of the first layer
-  abbrev row_in : Environment → Expr-F Expr → Sets
-  row_in env z = row_layer u env (beside (row_of u env) z)
-
-  fixed_rolled : (z : Expr-F Expr) → (is_scalar (form_layer (beside type_by_form z)) ≡ true → row_in env z ≡ row_in other z) → IsFixed (roll-Expr z)
-  unfolding IsFixed
-  fixed_rolled z h e = row-roll u env z ∙ h (sym (ap is_scalar (type-roll z)) ∙ e) ∙ sym (row-roll u other z)
-
-  module _ (X : Type 0) (whole : X → Expr) (k : (x : X) → IsFixed (whole x)) where
-    fixed_at : (y : Expr-F X) → is_scalar (form_layer (beside type_by_form (map-Expr X Expr whole y))) ≡ true → row_in env (map-Expr X Expr whole y) ≡ row_in other (map-Expr X Expr whole y)
-    unfolding IsFixed
-    fixed_at (Number text span) e = refl
-    fixed_at (Str text span) e = refl
-    fixed_at (Selector name matchers sight span) e = absurd (no_selector sight.range e)
-    fixed_at (Subquery of sight span) e = absurd (cc)
-    fixed_at (Paren of span) e = k of.value e
-    fixed_at (Unary minus of span) e = ap (λ (x : Sets). sign_row u minus x) (k of.value e)
-    fixed_at (Binary op m left right span) e =
-        let l = whole left.value in
-        let r = whole right.value in
-        sides_fixed u op m (is_scalar_part l) (is_scalar_part r) (row_of u env l) (row_of u env r) (row_of u other l) (row_of u other r) e
-    fixed_at (Call name args span) e = call_fixed u (function_named name) (named_passes name) e Ungrouped _ _
-    fixed_at (Aggregate op grouping args span) e = absurd (cc)
-
-  -- the row of a scalar is the same in both
-  pub scalar_same : (e : Expr) → is_scalar_part e ≡ true → row_of u env e ≡ row_of u other e
-  unfolding IsFixed
-  scalar_same = by_layers IsFixed (λ X whole k y. fixed_rolled (map-Expr X Expr whole y) (fixed_at X whole k y))
+-- the row of a scalar is the same in both
+pub scalar_same : (u : Listing) (env other : Environment) (e : Tree) → is_scalar_part e ≡ true → row_of u env e ≡ row_of u other e
+scalar_same u env other (Number text span) e = refl
+scalar_same u env other (Str text span) e = refl
+scalar_same u env other (Selector name matchers sight span) e = absurd (no_selector sight.range e)
+scalar_same u env other (Subquery of sight span) e = absurd (cc)
+scalar_same u env other (Paren of span) e = scalar_same u env other of e
+scalar_same u env other (Unary minus of span) e = ap (λ (x : Sets). sign_row u minus x) (scalar_same u env other of e)
+scalar_same u env other (Binary op m left right span) e =
+    sides_fixed u op m (is_scalar_part left) (is_scalar_part right) (row_of u env left) (row_of u env right) (row_of u other left) (row_of u other right) e
+scalar_same u env other (Call name args span) e = call_fixed u (function_named name) (named_passes name) e Ungrouped args (row_at u env args) (row_at u other args)
+scalar_same u env other (Aggregate op grouping args span) e = absurd (cc)

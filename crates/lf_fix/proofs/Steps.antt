@@ -3,32 +3,23 @@ use Rattle.std.proofs.Common.{◌≡◌, ◌≢◌, ℕ, zero, suc, ◌<◌, Boo
 use Rattle.std.specs.Prelude.{slice_get, slice_index_or, slice_set}
 use Rattle.std.specs.List.{Contains}
 use Rattle.std.proofs.lemmas.List.{get_or-set_other, get_or-set_same}
+use Rattle.std.proofs.lemmas.Bool.{cases_eq}
+use Rattle.lf_laws.proofs.Booleans.{not_true}
 use Rattle.lf_ast.specs.Labels.{Bytes}
-use Rattle.lf_ast.specs.declared.rule.Rule.{Rule}
+use Rattle.lf_ast.specs.Rules.{RuleTree}
 use Rattle.lf_flow.specs.Raising.{joined}
 use Rattle.lf_semantics.specs.Environments.{IsEnvironmentOf, recorded_row}
 use Rattle.lf_semantics.specs.Listing.{IsListing, Listing}
 use Rattle.lf_semantics.specs.RowTable.{Environment}
-use Rattle.lf_semantics.proofs.ListingLaws.{one_of}
-use Rattle.lf_semantics.proofs.SettledRows.{recorded_row_is}
-use Rattle.lf_semantics.proofs.UnderLaws.{clash}
+use Rattle.lf_semantics.proofs.Members.{one_of, clash}
+use Rattle.lf_semantics.proofs.NormalizedRows.{recorded_row_is}
 use Rattle.lf_deps.specs.Reading.{selectors}
 use Rattle.lf_fix.specs.Readers.{Index, IsIndexOf, IsListed, SelectsRow}
 use Rattle.lf_fix.specs.Rounds.{HoldsRule, OthersHold, StepTells, TellsOf}
 use Rattle.lf_fix.proofs.Rounds.{has_row, rises_none, same_rule}
 use Rattle.lf_fix.proofs.SameRows.{holds_own, holds_without}
 
-pub same_or_other : (j k : ℕ) → (j ≡ k) ⊎ (j ≢ k)
-same_or_other zero zero = inl refl
-same_or_other zero (suc k) = inr (λ e. omega arith)
-same_or_other (suc j) zero = inr (λ e. omega arith)
-same_or_other (suc j) (suc k) = elim (same_or_other j k) [ inl e ↦ inl (ap suc e) | inr n ↦ inr (λ e. n (omega (arith, e))) ]
-
-not_true_is : (b : Bool) → (b ≡ true → ⊥) → b ≡ false
-not_true_is true h = absurd (h refl)
-not_true_is false h = refl
-
-module _ (u : Listing) (p : IsListing u) (rules : List Rule) (k : ℕ) (env : Environment) (of : IsEnvironmentOf u rules env) (due : List Bool) (hold : OthersHold u rules env due) where
+module _ (u : Listing) (p : IsListing u) (rules : List RuleTree) (k : ℕ) (env : Environment) (of : IsEnvironmentOf u rules env) (due : List Bool) (hold : OthersHold u rules env due) where
   -- a rule that isn't due is passed over
   pub step_over : slice_index_or due k true ≡ false → StepTells u rules k env env due due false
   step_over e = record {
@@ -38,7 +29,7 @@ module _ (u : Listing) (p : IsListing u) (rules : List Rule) (k : ℕ) (env : En
     hold = hold;
     done = λ f. e;
     still = λ f j g. g;
-    again = λ j r rule at is c a. elim (same_or_other j k) [
+    again = λ j r rule at is c a. elim (cases_eq j k) [
       | inl q ↦ let A : ℕ → Type 0 = λ i. slice_index_or due i true ≡ true in absurd (clash (subst A q a) e)
       | inr n ↦ absurd (clash a (sym (get_or-set_other due k j false true n) ∙ c))
     ];
@@ -56,12 +47,12 @@ module _ (u : Listing) (p : IsListing u) (rules : List Rule) (k : ℕ) (env : En
       same = t.same;
       hold = λ j r is free.
           let P : Environment → Type 0 = λ x. HoldsRule u x r in
-          subst P (sym (t.same e)) (elim (same_or_other j k) [
+          subst P (sym (t.same e)) (elim (cases_eq j k) [
             | inl q ↦ let A : ℕ → Type 0 = λ i. slice_get rules i ≡ Some r in t.holds e r (subst A q is)
             | inr n ↦ hold j r is (sym (get_or-set_other due k j false true n) ∙ free)
           ]);
       done = λ f. get_or-set_same due k false true within;
-      still = λ f j g. elim (same_or_other j k) [
+      still = λ f j g. elim (cases_eq j k) [
         | inl q ↦ let A : ℕ → Type 0 = λ i. slice_index_or (slice_set due k false) i true ≡ false in subst A (sym q) (get_or-set_same due k false true within)
         | inr n ↦ get_or-set_other due k j false true n ∙ g
       ];
@@ -69,11 +60,11 @@ module _ (u : Listing) (p : IsListing u) (rules : List Rule) (k : ℕ) (env : En
     }
 
     -- A class was added: each rule that selects the name is due again, and no other.
-    module _ (rule : Rule) (is : slice_get rules k ≡ Some rule) (after : List Bool) (kept : (j : ℕ) → slice_index_or cleared j true ≡ true → slice_index_or after j true ≡ true)
-        (marked : (j : ℕ) (r : Rule) → slice_get rules j ≡ Some r → SelectsRow r.expr rule.name → slice_index_or after j true ≡ true)
-        (only : (j : ℕ) (r : Rule) → slice_get rules j ≡ Some r → slice_index_or after j true ≡ true → (slice_index_or cleared j true ≡ true) ⊎ SelectsRow r.expr rule.name) where
+    module _ (rule : RuleTree) (is : slice_get rules k ≡ Some rule) (after : List Bool) (kept : (j : ℕ) → slice_index_or cleared j true ≡ true → slice_index_or after j true ≡ true)
+        (marked : (j : ℕ) (r : RuleTree) → slice_get rules j ≡ Some r → SelectsRow r.expr rule.name → slice_index_or after j true ≡ true)
+        (only : (j : ℕ) (r : RuleTree) → slice_get rules j ≡ Some r → slice_index_or after j true ≡ true → (slice_index_or cleared j true ≡ true) ⊎ SelectsRow r.expr rule.name) where
       free_before : (j : ℕ) → slice_index_or after j true ≡ false → slice_index_or cleared j true ≡ false
-      free_before j free = not_true_is (slice_index_or cleared j true) (λ e. clash (kept j e) free)
+      free_before j free = not_true (slice_index_or cleared j true) (λ e. clash (kept j e) free)
 
       pub step_added : added ≡ true → StepTells u rules k env later due after added
       step_added e =
@@ -83,12 +74,12 @@ module _ (u : Listing) (p : IsListing u) (rules : List Rule) (k : ℕ) (env : En
             rises = t.rises;
             less = t.less;
             same = t.same;
-            hold = subst P (sym j.1) (λ i r at free. elim (same_or_other i k) [
+            hold = subst P (sym j.1) (λ i r at free. elim (cases_eq i k) [
               | inl q ↦
                   let A : ℕ → Type 0 = λ x. slice_get rules x ≡ Some r in
                   let same : rule ≡ r = same_rule rules k rule r is (subst A q at) in
-                  let N : Rule → Type 0 = λ x. SelectsRow x.expr rule.name → ⊥ in
-                  let H : Rule → Type 0 = λ x. HoldsRule u (joined rule.name (recorded_row u env rule) env) x in
+                  let N : RuleTree → Type 0 = λ x. SelectsRow x.expr rule.name → ⊥ in
+                  let H : RuleTree → Type 0 = λ x. HoldsRule u (joined rule.name (recorded_row u env rule) env) x in
                   let row = has_row u p rules env k rule of is j.0 in
                   subst H same (holds_own u p rules env of rule row.0 row.1 (subst N (sym same) (λ looks. clash (marked i r at looks) free)))
               | inr n ↦
@@ -99,22 +90,22 @@ module _ (u : Listing) (p : IsListing u) (rules : List Rule) (k : ℕ) (env : En
             still = λ f. absurd (clash e f);
             again = λ j r other at same c a. elim (only j r at a) [
               | inl t ↦ absurd (clash t c)
-              | inr s ↦ let N : Rule → Type 0 = λ x. SelectsRow r.expr x.name in (e, subst N (same_rule rules k rule other is same) s)
+              | inr s ↦ let N : RuleTree → Type 0 = λ x. SelectsRow r.expr x.name in (e, subst N (same_rule rules k rule other is same) s)
             ];
           }
 
 -- a rule that selects a name is listed with it, or with those that select all
-pub listed : (rules : List Rule) (index : Index) (j : ℕ) (r : Rule) (name : Bytes) → IsIndexOf rules index → slice_get rules j ≡ Some r → SelectsRow r.expr name → IsListed index j (Some name) ⊎ IsListed index j None
+pub listed : (rules : List RuleTree) (index : Index) (j : ℕ) (r : RuleTree) (name : Bytes) → IsIndexOf rules index → slice_get rules j ≡ Some r → SelectsRow r.expr name → IsListed index j (Some name) ⊎ IsListed index j None
 listed rules index j r name is at (inl c) = inl (one_of (IsListed index j) (selectors r.expr) (Some name) (is.all j r at) c)
 listed rules index j r name is at (inr c) = inr (one_of (IsListed index j) (selectors r.expr) None (is.all j r at) c)
 
 -- and one that is listed so selects it
-pub selects : (rules : List Rule) (index : Index) (j : ℕ) (r : Rule) (name : Bytes) → IsIndexOf rules index → slice_get rules j ≡ Some r → IsListed index j (Some name) ⊎ IsListed index j None → SelectsRow r.expr name
+pub selects : (rules : List RuleTree) (index : Index) (j : ℕ) (r : RuleTree) (name : Bytes) → IsIndexOf rules index → slice_get rules j ≡ Some r → IsListed index j (Some name) ⊎ IsListed index j None → SelectsRow r.expr name
 selects rules index j r name is at (inl l) =
     let o = is.only j (Some name) l in
-    let P : Rule → Type 0 = λ x. Contains (selectors x.expr) (Some name) in
+    let P : RuleTree → Type 0 = λ x. Contains (selectors x.expr) (Some name) in
     inl (subst P (same_rule rules j o.0 r o.1 at) o.2)
 selects rules index j r name is at (inr l) =
     let o = is.only j None l in
-    let P : Rule → Type 0 = λ x. Contains (selectors x.expr) None in
+    let P : RuleTree → Type 0 = λ x. Contains (selectors x.expr) None in
     inr (subst P (same_rule rules j o.0 r o.1 at) o.2)

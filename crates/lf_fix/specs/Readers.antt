@@ -2,13 +2,13 @@
 use Rattle.std.specs.Prelude.{◌≡◌, ◌⊎◌, ℕ, List, [], length, Option, Some, None, slice_get, slice_index_or}
 use Rattle.std.specs.List.{AllByRecursion, Contains}
 use Rattle.lf_ast.specs.Labels.{Bytes}
-use Rattle.lf_ast.specs.declared.expr.Expr.{Expr}
-use Rattle.lf_ast.specs.declared.rule.Rule.{Rule}
+use Rattle.lf_ast.specs.Tree.{Tree}
+use Rattle.lf_ast.specs.Rules.{RuleTree}
 use Rattle.lf_semantics.specs.Listing.{place}
 use Rattle.lf_deps.specs.Reading.{selectors}
 
 -- the row of a name is selected, alone or among all
-abbrev pub SelectsRow : Expr → Bytes → Type 0
+abbrev pub SelectsRow : Tree → Bytes → Type 0
 SelectsRow e name = Contains (selectors e) (Some name) ⊎ Contains (selectors e) None
 
 -- Names that are selected, the numbers of the rules that select each, and those of the rules that select all.
@@ -27,6 +27,6 @@ IsListed index k None = Contains index.of_all k
 IsListed index k (Some name) = Contains (slice_index_or index.of_name (place index.names name) []) k
 
 -- each rule is listed with all its selectors, and nothing else is listed
-pub record IsIndexOf (rules : List Rule) (index : Index) : Type 0 where
-  pub all : (k : ℕ) (r : Rule) → slice_get rules k ≡ Some r → AllByRecursion (IsListed index k) (selectors r.expr)
-  pub only : (k : ℕ) (o : Option Bytes) → IsListed index k o → (r : Rule) × (slice_get rules k ≡ Some r) × Contains (selectors r.expr) o
+pub record IsIndexOf (rules : List RuleTree) (index : Index) : Type 0 where
+  pub all : (k : ℕ) (r : RuleTree) → slice_get rules k ≡ Some r → AllByRecursion (IsListed index k) (selectors r.expr)
+  pub only : (k : ℕ) (o : Option Bytes) → IsListed index k o → (r : RuleTree) × (slice_get rules k ≡ Some r) × Contains (selectors r.expr) o

@@ -1,14 +1,15 @@
 //! Which rules select the rows of which names.
-ghost use Rattle.std.specs.Prelude.{◌≡◌, ◌<◌, ◌⊎◌, ℕ, true, List, Option, None, Some, length, slice_index_or, slice_set, [], ◌∷◌, ◌++◌, IfOk, OnOk};
+ghost use Rattle.std.specs.Prelude.{◌≡◌, ◌⊎◌, ℕ, true, List, Option, None, Some, slice_index_or, IfOk, OnOk};
 ghost use Rattle.std.specs.List.{AllByRecursion, Contains};
 ghost use Rattle.lf_ast.specs.Labels.{Bytes};
-ghost use Rattle.lf_ast.specs.declared.rule.Rule.{Rule};
+ghost use Rattle.lf_ast.specs.Rules.{RuleTree};
 ghost use Rattle.lf_deps.specs.Sources.{IsSourcesOf};
 ghost use Rattle.lf_fix.specs.Readers.{IsFull, IsIndexOf, IsListed};
 
 use lf_base::{Memory, Seq, Text};
 use lf_classes::TextSet;
 use lf_deps::Sources;
+use lf_graph::Buckets;
 use std::alloc::Global;
 use std::marker::Model;
 
@@ -16,7 +17,7 @@ use std::marker::Model;
 #[derive(Drop)]
 pub(crate) struct Readers {
     names: TextSet,
-    of_name: Vec<Seq<usize>>,
+    of_name: Buckets,
     of_all: Seq<usize>,
 }
 
@@ -25,17 +26,17 @@ impl Model for Readers {
 
     ghost Value = { Index };
 
-    ghost view = { λ r. record { names = r.names; of_name = r.of_name.items; of_all = r.of_all } };
+    ghost view = { λ r. record { names = r.names; of_name = r.of_name; of_all = r.of_all } };
 }
 
 impl Readers {
     /// Those of the rules of an index.
     pub(crate) fn of(alloc: Global, sources: &Sources) -> Result<Readers, Memory>
-        ensures { IfOk result (λ readers. (rules : List Rule) → IsSourcesOf rules sources.now → IsIndexOf rules readers) }
+        ensures { IfOk result (λ readers. (rules : List RuleTree) → IsSourcesOf rules sources.now → IsIndexOf rules readers) }
     {
         let mut readers = Readers {
             names: TextSet::new(alloc),
-            of_name: Vec::new(alloc),
+            of_name: Buckets::new(alloc),
             of_all: Seq::new(alloc),
         };
         for k in 0..sources.rule_count() {
@@ -81,8 +82,8 @@ impl Readers {
         ensures full { OnOk result (IsFull self.new) }
     {
         let place = self.names.add(alloc, name)?;
-        make_room(alloc, &mut self.of_name, place)?;
-        push_at(&mut self.of_name, place, rule)?;
+        self.of_name.make_room(alloc, place)?;
+        self.of_name.push(place, rule)?;
         Ok(())
     }
 
@@ -95,31 +96,8 @@ impl Readers {
     {
         mark_all(self.of_all.as_slice(), due);
         let place = self.names.place(name);
-        if place < self.of_name.len() {
-            let numbers = &self.of_name[place];
-            mark_all(numbers.as_slice(), due);
-        }
+        mark_all(self.of_name.at(place), due);
     }
-}
-
-/// Makes an empty list where a place is the one behind the last.
-fn make_room(alloc: Global, lists: &mut Vec<Seq<usize>>, place: usize) -> Result<(), Memory>
-    ensures there { place < length lists.old.items → OnOk result (lists.new.items ≡ lists.old.items) }
-    ensures made { place ≡ length lists.old.items → OnOk result (lists.new.items ≡ lists.old.items ++ [] ∷ []) }
-{
-    if place == lists.len() {
-        lists.push(Seq::new(alloc))?;
-    }
-    Ok(())
-}
-
-/// Puts a number behind those of a place.
-fn push_at(lists: &mut Vec<Seq<usize>>, place: usize, number: usize) -> Result<(), Memory>
-    requires { place < length lists.old.items }
-    ensures { OnOk result (lists.new.items ≡ slice_set lists.old.items place (slice_index_or lists.old.items place [] ++ number ∷ [])) }
-{
-    let list = &mut lists[place];
-    list.push(number)
 }
 
 /// Marks the places of these numbers.

@@ -1,8 +1,11 @@
 //! The rows of rules, and of what they record.
-ghost use Rattle.std.specs.Prelude.{◌≡◌, IfOk};
+ghost use Rattle.std.specs.Prelude.{◌≡◌, List, IfOk};
 ghost use Rattle.lf_ast.specs.Functions.{function_named};
+ghost use Rattle.lf_ast.specs.Rules.{RuleTree, rule_tree};
+ghost use Rattle.lf_ast.specs.Tree.{tree};
 ghost use Rattle.lf_semantics.specs.ClassRows.{HasShape};
-ghost use Rattle.lf_semantics.specs.Environments.{IsEnvironment, recorded_row as row_recorded, rule_row as row_of_rule, with_text, with_texts};
+ghost use Rattle.lf_semantics.specs.Environments.{CoversRules, IsEnvironment, IsLeast, recorded_row as row_recorded, rule_row as row_of_rule, with_text, with_texts};
+ghost use Rattle.lf_semantics.specs.Laws.{RepresentsRule, SetNoNames};
 ghost use Rattle.lf_semantics.specs.Listing.{IsListing};
 ghost use Rattle.lf_semantics.specs.Parts.{given_by, is_evaluated, type_by_form};
 
@@ -13,9 +16,22 @@ use lf_flow::{Env, flow};
 use std::alloc::Global;
 
 /// The row of a rule in an environment: that of its expression, and the empty row for a string or a range vector, of which nothing is recorded.
+///
+/// In the least environment of rules it represents, over every world of these rules, each sample of the rule.
 pub fn rule_row(alloc: Global, universe: &Universe, env: &Env, rule: &Rule) -> Result<Row, Memory>
     requires env { IsEnvironment universe.now env.now }
-    ensures { IfOk result (λ row. row ≡ row_of_rule universe.now env.now rule.now) }
+    ensures row { IfOk result (λ row. row ≡ row_of_rule universe.now env.now (rule_tree rule.now)) }
+    ensures represents { (rules : List RuleTree) → CoversRules universe.now rules → SetNoNames rules → IsLeast universe.now rules env.now → IfOk result (RepresentsRule universe.now rules (rule_tree rule.now)) }
+{
+    // For what its contract says of the universe.
+    let _labels = universe.labels();
+    row_in(alloc, universe, env, rule)
+}
+
+/// The row of a rule in an environment.
+fn row_in(alloc: Global, universe: &Universe, env: &Env, rule: &Rule) -> Result<Row, Memory>
+    requires env { IsEnvironment universe.now env.now }
+    ensures { IfOk result (λ row. row ≡ row_of_rule universe.now env.now (rule_tree rule.now)) }
 {
     if is_evaluated(&rule.expr) {
         flow(alloc, universe, env, &rule.expr)
@@ -33,9 +49,9 @@ pub(crate) fn recorded_row(
 ) -> Result<Row, Memory>
     requires listing { IsListing universe.now }
     requires env { IsEnvironment universe.now env.now }
-    ensures { IfOk result (λ row. row ≡ row_recorded universe.now env.now rule.now) }
+    ensures { IfOk result (λ row. row ≡ row_recorded universe.now env.now (rule_tree rule.now)) }
 {
-    let mut row = rule_row(alloc, universe, env, rule)?;
+    let mut row = row_in(alloc, universe, env, rule)?;
     set_text(universe, &mut row, "__name__", rule.name.as_str());
     set_labels(universe, &mut row, rule.labels.as_slice());
     Ok(row)
@@ -43,7 +59,7 @@ pub(crate) fn recorded_row(
 
 /// Whether an expression is a scalar or a vector, so that a rule of it gives samples.
 fn is_evaluated(expr: &Expr) -> bool
-    ensures { result ≡ is_evaluated (type_by_form expr.now) }
+    ensures { result ≡ is_evaluated (type_by_form (tree expr.now)) }
 {
     match expr {
         Expr::Number { .. } => true,

@@ -1,5 +1,6 @@
 //! The least environment, by rounds.
 ghost use Rattle.std.specs.Prelude.{◌≡◌, ◌<◌, ◌||◌, length, IfOk};
+ghost use Rattle.lf_ast.specs.Rules.{rule_trees};
 ghost use Rattle.lf_semantics.specs.Environments.{CoversRules, IsEnvironmentOf, IsLeast};
 ghost use Rattle.lf_semantics.specs.Listing.{IsListing};
 ghost use Rattle.lf_deps.specs.Ordering.{IsOrder};
@@ -20,8 +21,8 @@ use std::alloc::Global;
 /// Rules are computed in their order, in which a rule that reads no cyclic name comes behind all that it reads, and a rule again only after a row was raised that its
 /// expression selects. Nothing within a scalar is looked at.
 pub fn solve(alloc: Global, universe: &Universe, rules: &Seq<Rule>) -> Result<Env, Memory>
-    requires { CoversRules universe.now rules.now }
-    ensures { IfOk result (IsLeast universe.now rules.now) }
+    requires { CoversRules universe.now (rule_trees rules.now) }
+    ensures { IfOk result (IsLeast universe.now (rule_trees rules.now)) }
 {
     // For what its contract says of the universe.
     let _labels = universe.labels();
@@ -44,12 +45,12 @@ fn rounds(
     due: &mut [bool],
 ) -> Result<Env, Memory>
     requires listing { IsListing universe.now }
-    requires index { IsIndexOf rules.now readers.now }
-    requires order { IsOrder rules.now order.now }
+    requires index { IsIndexOf (rule_trees rules.now) readers.now }
+    requires order { IsOrder (rule_trees rules.now) order.now }
     requires marks { length due.old ≡ length rules.now }
-    requires rises { Rises universe.now rules.now (start universe.now rules.now) env }
-    requires hold { OthersHold universe.now rules.now env due.old }
-    ensures { IfOk result (IsLeast universe.now rules.now) }
+    requires rises { Rises universe.now (rule_trees rules.now) (start universe.now (rule_trees rules.now)) env }
+    requires hold { OthersHold universe.now (rule_trees rules.now) env due.old }
+    ensures { IfOk result (IsLeast universe.now (rule_trees rules.now)) }
 {
     loop {
         let added = raise_all(alloc, universe, rules, readers, order, &mut env, due)?;
@@ -70,12 +71,12 @@ fn raise_all(
     due: &mut [bool],
 ) -> Result<bool, Memory>
     requires listing { IsListing universe.now }
-    requires of_rules { IsEnvironmentOf universe.now rules.now env.old }
-    requires index { IsIndexOf rules.now readers.now }
-    requires order { IsOrder rules.now order.now }
+    requires of_rules { IsEnvironmentOf universe.now (rule_trees rules.now) env.old }
+    requires index { IsIndexOf (rule_trees rules.now) readers.now }
+    requires order { IsOrder (rule_trees rules.now) order.now }
     requires marks { length due.old ≡ length rules.now }
-    requires hold { OthersHold universe.now rules.now env.old due.old }
-    ensures { IfOk result (Tells universe.now rules.now order.now (length order.now) env.old env.new due.new) }
+    requires hold { OthersHold universe.now (rule_trees rules.now) env.old due.old }
+    ensures { IfOk result (Tells universe.now (rule_trees rules.now) order.now (length order.now) env.old env.new due.new) }
 {
     let mut added = false;
     for place in 0..order.len() {
@@ -105,12 +106,12 @@ fn step(
     due: &mut [bool],
 ) -> Result<bool, Memory>
     requires listing { IsListing universe.now }
-    requires of_rules { IsEnvironmentOf universe.now rules.now env.old }
+    requires of_rules { IsEnvironmentOf universe.now (rule_trees rules.now) env.old }
     requires rule { k < length rules.now }
-    requires index { IsIndexOf rules.now readers.now }
+    requires index { IsIndexOf (rule_trees rules.now) readers.now }
     requires marks { length due.old ≡ length rules.now }
-    requires hold { OthersHold universe.now rules.now env.old due.old }
-    ensures { IfOk result (StepTells universe.now rules.now k env.old env.new due.old due.new) }
+    requires hold { OthersHold universe.now (rule_trees rules.now) env.old due.old }
+    ensures { IfOk result (StepTells universe.now (rule_trees rules.now) k env.old env.new due.old due.new) }
 {
     if !due[k] {
         return Ok(false);
@@ -133,9 +134,9 @@ fn raise(
     env: &mut Env,
 ) -> Result<bool, Memory>
     requires listing { IsListing universe.now }
-    requires of_rules { IsEnvironmentOf universe.now rules.now env.old }
+    requires of_rules { IsEnvironmentOf universe.now (rule_trees rules.now) env.old }
     requires rule { k < length rules.now }
-    ensures { IfOk result (TellsOf universe.now rules.now k env.old env.new) }
+    ensures { IfOk result (TellsOf universe.now (rule_trees rules.now) k env.old env.new) }
 {
     let rule = rules.get(k);
     if rule.alert {

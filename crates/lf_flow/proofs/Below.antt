@@ -3,8 +3,10 @@ use Rattle.std.proofs.Common.{◌≡◌, ℕ, ◌+◌, ◌<◌, Bool, true, fals
 use Rattle.std.specs.Prelude.{nat_lt}
 use Rattle.std.proofs.lemmas.Bool.{cases_eq}
 use Rattle.std.proofs.lemmas.Bool.Decides.{nat_tests}
-use Rattle.lf_semantics.specs.ClassRows.{Sets, holds, is_live, narrowed, replaced, settled}
-use Rattle.lf_flow.proofs.Layered.{narrowed_twice, replaced_dead, replaced_live, replaced_twice, same_narrowed, same_replaced, same_row, settled_live}
+use Rattle.lf_laws.proofs.Booleans.{and_true}
+use Rattle.lf_semantics.specs.ClassRows.{Sets, holds, is_live, narrowed, replaced, normalized}
+use Rattle.lf_semantics.proofs.LeqLaws.{normalized_live}
+use Rattle.lf_flow.proofs.Layered.{narrowed_twice, replaced_dead, replaced_live, replaced_twice, same_narrowed, same_replaced, same_row}
 
 -- the chosen labels below a number
 abbrev pub below : (ℕ → Bool) → ℕ → ℕ → Bool
@@ -34,8 +36,8 @@ module _ (chosen : ℕ → Bool) (test : ℕ → ℕ → Bool) (row : Sets) wher
   nothing_replaced : (b : Bool) → is_live row ≡ b → replaced (below chosen 0) test row ≡ row
   nothing_replaced true e =
       replaced_live (below chosen 0) test row e
-      ∙ ap settled (same_row (λ l c on. cond (below chosen 0 l) (test l c) on) row (λ l c. ap (λ b. cond b (test l c) (holds row l c)) (below_none chosen l)))
-      ∙ settled_live row e
+      ∙ ap normalized (same_row (λ l c on. cond (below chosen 0 l) (test l c) on) row (λ l c. ap (λ b. cond b (test l c) (holds row l c)) (below_none chosen l)))
+      ∙ normalized_live row e
   nothing_replaced false e = replaced_dead (below chosen 0) test row e
 
   pub replaced_first : replaced (below chosen 0) test row ≡ row
@@ -58,12 +60,8 @@ module _ (chosen : ℕ → Bool) (test : ℕ → ℕ → Bool) (row : Sets) wher
 
   pub narrowed_first : is_live row ≡ true → narrowed (passing 0) row ≡ row
   narrowed_first e =
-      ap settled (same_row (λ l c on. on && passing 0 l c) row (λ l c. ap (λ b. holds row l c && (not b || test l c)) (below_none chosen l) ∙ and_true (holds row l c)))
-      ∙ settled_live row e
-    where
-      and_true : (b : Bool) → (b && true) ≡ b
-      and_true true = refl
-      and_true false = refl
+      ap normalized (same_row (λ l c on. on && passing 0 l c) row (λ l c. ap (λ b. holds row l c && (not b || test l c)) (below_none chosen l) ∙ and_true (holds row l c)))
+      ∙ normalized_live row e
 
   or_both : (a b t : Bool) → ((not a || t) && (not b || t)) ≡ (not (a || b) || t)
   or_both true true true = refl

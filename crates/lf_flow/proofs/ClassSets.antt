@@ -2,14 +2,17 @@
 use Rattle.std.proofs.Common.{◌≡◌, ℕ, suc, ◌+◌, ◌<◌, Bool, true, false, cond, eqb, not, List, [], ◌∷◌, ◌++◌, map, length, get_or, refl, sym, ◌∙◌, ap, subst, arith, below_more}
 use Rattle.std.proofs.lemmas.Grind.{common_steps}
 use Rattle.std.proofs.lemmas.List.{get_or-map, length-map}
-use Rattle.std.proofs.lemmas.Bool.Decides.{Decides-eqb}
-use Rattle.lf_semantics.specs.ClassRows.{HasShape, Sets, holds, indexed_from, is_live, remade, replaced, settled}
+use Rattle.std.proofs.lemmas.Bool.Decides.{Decides-eqb, nat_tests}
+use Rattle.lf_semantics.specs.ClassRows.{HasShape, Sets, holds, indexed_from, is_live, remade, replaced, normalized}
 use Rattle.lf_ast.specs.Labels.{Bytes}
 use Rattle.lf_ast.specs.declared.expr.Grouping.{Grouping}
 use Rattle.lf_semantics.specs.Listing.{Listing, label_of, named_at}
 use Rattle.lf_semantics.specs.RowTable.{grouped_row, is_group_label, is_label}
 use Rattle.lf_semantics.proofs.RowLaws.{shape_replaced}
 use Rattle.lf_flow.specs.ClassSets.{IsSet}
+
+pub eqb-turn : (m n : ℕ) → eqb m n ≡ eqb n m
+eqb-turn m n = grind (arith, nat_tests)
 
 pub none : (test : ℕ → Bool) → IsSet 0 test []
 none test = record { count = refl; each = λ class h. absurd (omega arith) }
@@ -46,7 +49,7 @@ by_chosen false true f g on e h = absurd (cc)
 pub replaced_same : (chosen other : ℕ → Bool) (f g : ℕ → ℕ → Bool) (row : Sets) → ((l : ℕ) → l < length row → chosen l ≡ other l)
     → ((l c : ℕ) → l < length row → c < length (get_or row l []) → chosen l ≡ true → f l c ≡ g l c) → replaced chosen f row ≡ replaced other g row
 replaced_same chosen other f g row e h =
-    ap (λ r. cond (is_live row) (settled r) row)
+    ap (λ r. cond (is_live row) (normalized r) row)
     (remade_same (λ l c on. cond (chosen l) (f l c) on) (λ l c on. cond (other l) (g l c) on) row (λ l c b k. by_chosen _ _ _ _ _ (e l b) (h l c b k)))
 
 -- a label whose classes are set to those that pass

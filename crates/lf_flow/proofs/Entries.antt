@@ -1,16 +1,18 @@
 -- Names and their rows.
-use Rattle.std.proofs.Common.{◌≡◌, ◌≢◌, ℕ, zero, suc, ◌+◌, ◌<◌, ◌≤◌, Bool, true, false, not, cond, List, [], ◌∷◌, ◌++◌, length, map, get_or, Option, Some, None, inl, inr, refl, sym, ◌∙◌, ap, arith}
+use Rattle.std.proofs.Common.{◌≡◌, ◌≢◌, ℕ, zero, suc, ◌+◌, ◌<◌, ◌≤◌, Bool, true, false, not, cond, List, [], ◌∷◌, ◌++◌, length, map, take, get_or, Option, Some, None, inl, inr, refl, sym, ◌∙◌, ap, arith}
 use Rattle.std.proofs.Math.ListN.{set}
 use Rattle.std.specs.Prelude.{replicate}
 use Rattle.std.proofs.lemmas.Bool.{cases_lt}
+use Rattle.std.proofs.lemmas.List.{map-append, take_more}
 use Rattle.std.specs.Str.{bytes_eq}
 use Rattle.lf_ast.specs.Labels.{Bytes}
+use Rattle.lf_ast.specs.Rules.{RuleTree, rule_tree, rule_trees}
 use Rattle.lf_ast.specs.declared.rule.Rule.{Rule}
-use Rattle.lf_semantics.specs.ClassRows.{Sets, union}
+use Rattle.lf_semantics.specs.ClassRows.{Sets, join}
 use Rattle.lf_semantics.specs.Environments.{names_recorded}
 use Rattle.lf_semantics.specs.Listing.{StandOnce, first_seen, place}
 use Rattle.lf_semantics.specs.RowTable.{Environment, row_named}
-use Rattle.lf_semantics.proofs.Members.{other_false, true_same}
+use Rattle.lf_laws.proofs.Members.{other_false, true_same}
 use Rattle.lf_classes.specs.Meetings.{with_text}
 use Rattle.lf_classes.proofs.Seen.{first_seen-push}
 use Rattle.lf_flow.specs.Raising.{entries, joined}
@@ -54,26 +56,26 @@ others_stay : (names : List Bytes) (rows : List Sets) (name : Bytes) (row : Sets
 others_stay [] rows name row h = refl
 others_stay (x ∷ names) [] name row h = refl
 others_stay (x ∷ names) (r ∷ rows) name row h =
-    ap (λ (b : Bool). (x, cond b (union r row) r) ∷ entries names rows) (sym (other_false x name (h 0 (omega arith))))
-    ∙ ap (λ (env : Environment). (x, cond (bytes_eq x name) (union r row) r) ∷ env) (others_stay names rows name row (λ k l. h (suc k) (omega arith)))
+    ap (λ (b : Bool). (x, cond b (join r row) r) ∷ entries names rows) (sym (other_false x name (h 0 (omega arith))))
+    ∙ ap (λ (env : Environment). (x, cond (bytes_eq x name) (join r row) r) ∷ env) (others_stay names rows name row (λ k l. h (suc k) (omega arith)))
 
 joined_at : (names : List Bytes) (rows : List Sets) (name : Bytes) (row : Sets) (k : ℕ) (d : Sets) → StandOnce names → length names ≡ length rows → k ≡ place names name → k < length rows
-    → entries names (set rows k (union (get_or rows k d) row)) ≡ joined name row (entries names rows)
+    → entries names (set rows k (join (get_or rows k d) row)) ≡ joined name row (entries names rows)
 joined_at names [] name row k d once n e h = absurd (omega arith)
 joined_at [] (r ∷ rows) name row k d once n e h = absurd (omega arith)
 joined_at (x ∷ names) (r ∷ rows) name row zero d once n e h =
     let f : bytes_eq x name ≡ true = first_is (bytes_eq x name) (place names name) e in
     let same : x ≡ name = true_same x name f in
-    ap (λ (b : Bool). (x, cond b (union r row) r) ∷ entries names rows) (sym f)
-    ∙ ap (λ (env : Environment). (x, cond (bytes_eq x name) (union r row) r) ∷ env) (others_stay names rows name row (λ k l q. once 0 (suc k) (omega arith) (omega arith) (same ∙ sym q)))
+    ap (λ (b : Bool). (x, cond b (join r row) r) ∷ entries names rows) (sym f)
+    ∙ ap (λ (env : Environment). (x, cond (bytes_eq x name) (join r row) r) ∷ env) (others_stay names rows name row (λ k l q. once 0 (suc k) (omega arith) (omega arith) (same ∙ sym q)))
 joined_at (x ∷ names) (r ∷ rows) name row (suc k) d once n e h =
     let l = later_is (bytes_eq x name) (place names name) k e in
-    ap (λ (b : Bool). (x, cond b (union r row) r) ∷ entries names (set rows k (union (get_or rows k d) row))) (sym l.0)
-    ∙ ap (λ (env : Environment). (x, cond (bytes_eq x name) (union r row) r) ∷ env)
+    ap (λ (b : Bool). (x, cond b (join r row) r) ∷ entries names (set rows k (join (get_or rows k d) row))) (sym l.0)
+    ∙ ap (λ (env : Environment). (x, cond (bytes_eq x name) (join r row) r) ∷ env)
     (joined_at names rows name row k d (λ i j a b. once (suc i) (suc j) (omega arith) (omega arith)) (omega (arith, n)) l.1 (omega (arith, h)))
 
 pub joined_row : (names : List Bytes) (rows : List Sets) (name : Bytes) (row d : Sets) → StandOnce names → length names ≡ length rows → place names name < length rows
-    → entries names (set rows (place names name) (union (get_or rows (place names name) d) row)) ≡ joined name row (entries names rows)
+    → entries names (set rows (place names name) (join (get_or rows (place names name) d) row)) ≡ joined name row (entries names rows)
 joined_row names rows name row d once n h = joined_at names rows name row (place names name) d once n refl h
 
 -- rows that are all the same
@@ -84,7 +86,7 @@ entries_same (x ∷ names) (suc n) row e = ap (λ (env : Environment). (x, row) 
 
 -- recorded names
 
-names_more : (rules : List Rule) (r : Rule) → names_recorded (rules ++ r ∷ []) ≡ cond r.alert (names_recorded rules) (names_recorded rules ++ r.name ∷ [])
+names_more : (rules : List RuleTree) (r : RuleTree) → names_recorded (rules ++ r ∷ []) ≡ cond r.alert (names_recorded rules) (names_recorded rules ++ r.name ∷ [])
 names_more [] r = refl
 names_more (x ∷ rules) r = by x.alert r.alert (names_more rules r)
   where
@@ -96,12 +98,16 @@ names_more (x ∷ rules) r = by x.alert r.alert (names_more rules r)
     by false true e = ap (λ (xs : List Bytes). x.name ∷ xs) e
     by false false e = ap (λ (xs : List Bytes). x.name ∷ xs) e
 
-pub recorded_more : (rules : List Rule) (r : Rule) → first_seen (names_recorded (rules ++ r ∷ [])) ≡ cond r.alert (first_seen (names_recorded rules)) (with_text (first_seen (names_recorded rules)) r.name)
+pub recorded_more : (rules : List RuleTree) (r : RuleTree) → first_seen (names_recorded (rules ++ r ∷ [])) ≡ cond r.alert (first_seen (names_recorded rules)) (with_text (first_seen (names_recorded rules)) r.name)
 recorded_more rules r = ap first_seen (names_more rules r) ∙ by r.alert
   where
     by : (b : Bool) → first_seen (cond b (names_recorded rules) (names_recorded rules ++ r.name ∷ [])) ≡ cond b (first_seen (names_recorded rules)) (with_text (first_seen (names_recorded rules)) r.name)
     by true = refl
     by false = first_seen-push (names_recorded rules) r.name
+
+-- one more rule
+pub trees_more : (rules : List Rule) (i : ℕ) (r : Rule) → i < length rules → r ≡ get_or rules i r → rule_trees (take (i + 1) rules) ≡ rule_trees (take i rules) ++ rule_tree r ∷ []
+trees_more rules i r h is = ap rule_trees (take_more rules i r h) ∙ map-append rule_tree (take i rules) (get_or rules i r ∷ []) ∙ ap (λ x. rule_trees (take i rules) ++ rule_tree x ∷ []) (sym is)
 
 pub recorded_within : (names : List Bytes) (rows : List Sets) (name : Bytes) → length names ≡ length rows → row_named (entries names rows) name ≢ None → place names name < length rows
 recorded_within names rows name n h = elim (cases_lt (place names name) (length rows)) [

@@ -1,6 +1,8 @@
 -- Whether some class in a set passes a test, from one class on.
-use Rattle.std.proofs.Common.{◌≡◌, ℕ, zero, suc, ◌+◌, ◌<◌, ◌≤◌, Bool, true, false, ◌&&◌, ◌||◌, List, [], ◌∷◌, length, get_or, drop, refl, ◌∙◌, ap, arith, drop-cons, add-one}
+use Rattle.std.proofs.Common.{◌≡◌, ℕ, suc, ◌+◌, ◌<◌, ◌≤◌, Bool, true, false, ◌&&◌, ◌||◌, List, length, get_or, drop, refl, ◌∙◌, ap, drop-cons, add-one}
 use Rattle.std.specs.List.{list_any}
+use Rattle.std.proofs.lemmas.List.{drop_all}
+use Rattle.lf_laws.proofs.Booleans.{or_false}
 use Rattle.lf_semantics.specs.ClassRows.{indexed_from}
 use Rattle.lf_semantics.specs.Listing.{Listing}
 use Rattle.lf_semantics.specs.RowTable.{has_class}
@@ -13,21 +15,11 @@ or_assoc : (a b c : Bool) → (a || (b || c)) ≡ ((a || b) || c)
 or_assoc true b c = refl
 or_assoc false b c = refl
 
-or_false : (a : Bool) → (a || false) ≡ a
-or_false true = refl
-or_false false = refl
-
 step : (test : ℕ → Bool) (set : List Bool) (k : ℕ) → k < length set → passes_from test set k ≡ ((get_or set k false && test k) || passes_from test set (suc k))
 step test set k h = rw (drop-cons set k false h) refl
 
-drop_all : (xs : List Bool) (k : ℕ) → length xs ≤ k → drop k xs ≡ []
-drop_all [] zero h = refl
-drop_all [] (suc k) h = refl
-drop_all (x ∷ xs) zero h = absurd (omega arith)
-drop_all (x ∷ xs) (suc k) h = drop_all xs k (omega arith)
-
 none_left : (test : ℕ → Bool) (set : List Bool) (k : ℕ) → length set ≤ k → passes_from test set k ≡ false
-none_left test set k h = rw (drop_all set k h) refl
+none_left test set k h = rw (drop_all k set h) refl
 
 module _ (u : Listing) (test : ℕ → Bool) (set : List Bool) where
   pub found_none : has_class u test set ≡ (false || passes_from test set 0)

@@ -1,9 +1,11 @@
 -- Changes of a row at one label after another.
 use Rattle.std.proofs.Common.{◌≡◌, ℕ, ◌<◌, Bool, true, false, ◌&&◌, ◌||◌, cond, [], ◌∷◌, map, length, get_or, refl, sym, ◌∙◌, ap, arith}
 use Rattle.std.proofs.lemmas.List.{length-map}
-use Rattle.lf_semantics.specs.ClassRows.{Sets, emptied, holds, is_live, narrowed, remade, replaced, settled}
+use Rattle.lf_laws.proofs.Booleans.{and_left, clash}
+use Rattle.lf_semantics.specs.ClassRows.{Sets, emptied, holds, is_live, narrowed, remade, replaced, normalized}
+use Rattle.lf_semantics.proofs.LeqLaws.{normalized_live}
 use Rattle.lf_semantics.proofs.RowLaws.{holds-remade, length-indexed, shape_narrowed, shape_remade, shape_replaced}
-use Rattle.lf_semantics.proofs.UnderLaws.{clash}
+use Rattle.lf_flow.proofs.ClassSets.{remade_same}
 use Rattle.lf_classes.proofs.Cutting.{count_at, emptied_dead, emptied_holds, emptied_remade, emptied_twice, live_at, live_when, same_sets}
 
 -- rows made anew
@@ -17,11 +19,7 @@ class_in f row l c h k =
     omega (arith, k, count_at (remade f row) (map length row) l (shape_remade f 0 row) m, count_at row (map length row) l refl h)
 
 pub same_remade : (f g : ℕ → ℕ → Bool → Bool) (row : Sets) → ((l c : ℕ) → l < length row → f l c (holds row l c) ≡ g l c (holds row l c)) → remade f row ≡ remade g row
-same_remade f g row same =
-    same_sets (remade f row) (remade g row) (shape_remade f 0 row ∙ sym (shape_remade g 0 row)) (λ l c h k.
-    let b : l < length row = omega (arith, h, length_remade f row) in
-    let d = class_in f row l c b k in
-    holds-remade f row l c b d ∙ same l c b ∙ sym (holds-remade g row l c b d))
+same_remade f g row same = remade_same f g row (λ l c h k. same l c h)
 
 pub twice_remade : (f g : ℕ → ℕ → Bool → Bool) (row : Sets) → remade g (remade f row) ≡ remade (λ l c on. g l c (f l c on)) row
 twice_remade f g row =
@@ -32,14 +30,11 @@ twice_remade f g row =
     let d = class_in f row l c b n in
     holds-remade g (remade f row) l c m n ∙ ap (g l c) (holds-remade f row l c b d) ∙ sym (holds-remade (λ l c on. g l c (f l c on)) row l c b d))
 
-pub settled_live : (row : Sets) → is_live row ≡ true → settled row ≡ row
-settled_live row e = ap (λ b. cond b row (emptied row)) e
+pub normalized_dead : (row : Sets) → is_live row ≡ false → normalized row ≡ emptied row
+normalized_dead row e = ap (λ b. cond b row (emptied row)) e
 
-pub settled_dead : (row : Sets) → is_live row ≡ false → settled row ≡ emptied row
-settled_dead row e = ap (λ b. cond b row (emptied row)) e
-
-settled_emptied : (row : Sets) → settled (emptied row) ≡ emptied row
-settled_emptied row = elim (is_live (emptied row)) as (λ b. cond b (emptied row) (emptied (emptied row)) ≡ emptied row) [ true ↦ refl | false ↦ emptied_twice row ]
+normalized_emptied : (row : Sets) → normalized (emptied row) ≡ emptied row
+normalized_emptied row = elim (is_live (emptied row)) as (λ b. cond b (emptied row) (emptied (emptied row)) ≡ emptied row) [ true ↦ refl | false ↦ emptied_twice row ]
 
 -- a row of which each class stays
 pub same_row : (f : ℕ → ℕ → Bool → Bool) (row : Sets) → ((l c : ℕ) → f l c (holds row l c) ≡ holds row l c) → remade f row ≡ row
@@ -49,8 +44,8 @@ same_row f row same =
     holds-remade f row l c b (class_in f row l c b k) ∙ same l c)
 
 -- the empty row stays empty where no class is added
-pub none_remade : (f : ℕ → ℕ → Bool → Bool) (row : Sets) → ((l c : ℕ) → f l c false ≡ false) → settled (remade f (emptied row)) ≡ emptied row
-none_remade f row none = ap settled (same_row f (emptied row) (λ l c. ap (f l c) (emptied_holds row l c) ∙ none l c ∙ sym (emptied_holds row l c))) ∙ settled_emptied row
+pub none_remade : (f : ℕ → ℕ → Bool → Bool) (row : Sets) → ((l c : ℕ) → f l c false ≡ false) → normalized (remade f (emptied row)) ≡ emptied row
+none_remade f row none = ap normalized (same_row f (emptied row) (λ l c. ap (f l c) (emptied_holds row l c) ∙ none l c ∙ sym (emptied_holds row l c))) ∙ normalized_emptied row
 
 -- a class that is left stands for one that is left elsewhere
 abbrev pub LeavesMore : (ℕ → ℕ → Bool → Bool) → (ℕ → ℕ → Bool → Bool) → Sets → Type 0
@@ -73,13 +68,9 @@ fewer_dead f g row more e = by (is_live (remade g row)) refl
 
     by : (b : Bool) → is_live (remade g row) ≡ b → is_live (remade g row) ≡ false
     by false q = q
-    by true q = absurd (clash (live_too q) e)
+    by true q = absurd (clash (is_live (remade f row)) (live_too q) e)
 
 -- narrowing
-
-and_front : (a b : Bool) → (a && b) ≡ true → a ≡ true
-and_front true b e = refl
-and_front false b e = absurd (clash e refl)
 
 and_assoc : (a b c : Bool) → ((a && b) && c) ≡ (a && (b && c))
 and_assoc true b c = refl
@@ -93,32 +84,32 @@ module _ (s t : ℕ → ℕ → Bool) (row : Sets) where
   both = remade (λ l c on. on && (s l c && t l c)) row
 
   both_left : LeavesMore (λ l c on. on && (s l c && t l c)) (λ l c on. on && s l c) row
-  both_left l c h d q = (c, d, and_front (holds row l c && s l c) (t l c) (and_assoc (holds row l c) (s l c) (t l c) ∙ q))
+  both_left l c h d q = (c, d, and_left (holds row l c && s l c) (t l c) (and_assoc (holds row l c) (s l c) (t l c) ∙ q))
 
-  both_dead : is_live first ≡ false → settled both ≡ emptied row
-  both_dead e = settled_dead both (fewer_dead _ _ row both_left e) ∙ emptied_remade (λ l c on. on && (s l c && t l c)) row
+  both_dead : is_live first ≡ false → normalized both ≡ emptied row
+  both_dead e = normalized_dead both (fewer_dead _ _ row both_left e) ∙ emptied_remade (λ l c on. on && (s l c && t l c)) row
 
-  narrowed_by : (b : Bool) → is_live first ≡ b → narrowed t (settled first) ≡ settled both
+  narrowed_by : (b : Bool) → is_live first ≡ b → narrowed t (normalized first) ≡ normalized both
   narrowed_by true e =
       let same : remade (λ l c on. on && t l c) first ≡ both = twice_remade (λ l c on. on && s l c) (λ l c on. on && t l c) row ∙ same_remade _ _ row (λ l c h. and_assoc (holds row l c) (s l c) (t l c)) in
-      ap (narrowed t) (settled_live first e) ∙ ap settled same
+      ap (narrowed t) (normalized_live first e) ∙ ap normalized same
   narrowed_by false e =
       let none : narrowed t (emptied first) ≡ emptied first = none_remade (λ l c on. on && t l c) first (λ l c. refl) in
-      ap (narrowed t) (settled_dead first e) ∙ none ∙ emptied_remade (λ l c on. on && s l c) row ∙ sym (both_dead e)
+      ap (narrowed t) (normalized_dead first e) ∙ none ∙ emptied_remade (λ l c on. on && s l c) row ∙ sym (both_dead e)
 
   pub narrowed_twice : narrowed t (narrowed s row) ≡ narrowed (λ l c. s l c && t l c) row
   narrowed_twice = narrowed_by (is_live first) refl
 
 pub same_narrowed : (s t : ℕ → ℕ → Bool) (row : Sets) → ((l c : ℕ) → l < length row → s l c ≡ t l c) → narrowed s row ≡ narrowed t row
-same_narrowed s t row same = ap settled (same_remade _ _ row (λ l c h. ap (λ b. holds row l c && b) (same l c h)))
+same_narrowed s t row same = ap normalized (same_remade _ _ row (λ l c h. ap (λ b. holds row l c && b) (same l c h)))
 
 -- replacing
 
-pub replaced_live : (chosen : ℕ → Bool) (test : ℕ → ℕ → Bool) (row : Sets) → is_live row ≡ true → replaced chosen test row ≡ settled (remade (λ l c on. cond (chosen l) (test l c) on) row)
-replaced_live chosen test row e = ap (λ b. cond b (settled (remade (λ l c on. cond (chosen l) (test l c) on) row)) row) e
+pub replaced_live : (chosen : ℕ → Bool) (test : ℕ → ℕ → Bool) (row : Sets) → is_live row ≡ true → replaced chosen test row ≡ normalized (remade (λ l c on. cond (chosen l) (test l c) on) row)
+replaced_live chosen test row e = ap (λ b. cond b (normalized (remade (λ l c on. cond (chosen l) (test l c) on) row)) row) e
 
 pub replaced_dead : (chosen : ℕ → Bool) (test : ℕ → ℕ → Bool) (row : Sets) → is_live row ≡ false → replaced chosen test row ≡ row
-replaced_dead chosen test row e = ap (λ b. cond b (settled (remade (λ l c on. cond (chosen l) (test l c) on) row)) row) e
+replaced_dead chosen test row e = ap (λ b. cond b (normalized (remade (λ l c on. cond (chosen l) (test l c) on) row)) row) e
 
 cond_or : (a b x y : Bool) → cond b x (cond a x y) ≡ cond (a || b) x y
 cond_or true true x y = refl
@@ -143,15 +134,15 @@ module _ (a b : ℕ → Bool) (test : ℕ → ℕ → Bool) (row : Sets) where
       by true f = (c, d, ap (λ x. cond x (test l c) (holds row l c)) f ∙ (sym (ap (λ x. cond (x || b l) (test l c) (holds row l c)) f) ∙ q))
       by false f = let r = live_at row l e h in (r.0, r.1, ap (λ x. cond x (test l r.0) (holds row l r.0)) f ∙ r.2)
 
-  two_dead : is_live row ≡ true → is_live one ≡ false → settled two ≡ emptied row
-  two_dead e f = settled_dead two (fewer_dead _ _ row (two_left e) f) ∙ emptied_remade (λ l c on. cond (a l || b l) (test l c) on) row
+  two_dead : is_live row ≡ true → is_live one ≡ false → normalized two ≡ emptied row
+  two_dead e f = normalized_dead two (fewer_dead _ _ row (two_left e) f) ∙ emptied_remade (λ l c on. cond (a l || b l) (test l c) on) row
 
-  live_twice : (x : Bool) → is_live one ≡ x → is_live row ≡ true → replaced b test (settled one) ≡ settled two
+  live_twice : (x : Bool) → is_live one ≡ x → is_live row ≡ true → replaced b test (normalized one) ≡ normalized two
   live_twice true f e =
       let same : remade (λ l c on. cond (b l) (test l c) on) one ≡ two = twice_remade (λ l c on. cond (a l) (test l c) on) (λ l c on. cond (b l) (test l c) on) row ∙ same_remade _ _ row (λ l c h. cond_or (a l) (b l) (test l c) (holds row l c)) in
-      ap (replaced b test) (settled_live one f) ∙ replaced_live b test one f ∙ ap settled same
+      ap (replaced b test) (normalized_live one f) ∙ replaced_live b test one f ∙ ap normalized same
   live_twice false f e =
-      ap (replaced b test) (settled_dead one f) ∙ replaced_dead b test (emptied one) (emptied_none one f) ∙ emptied_remade (λ l c on. cond (a l) (test l c) on) row ∙ sym (two_dead e f)
+      ap (replaced b test) (normalized_dead one f) ∙ replaced_dead b test (emptied one) (emptied_none one f) ∙ emptied_remade (λ l c on. cond (a l) (test l c) on) row ∙ sym (two_dead e f)
 
   twice_by : (x : Bool) → is_live row ≡ x → replaced b test (replaced a test row) ≡ replaced (λ l. a l || b l) test row
   twice_by true e = ap (replaced b test) (replaced_live a test row e) ∙ live_twice (is_live one) refl e ∙ sym (replaced_live (λ l. a l || b l) test row e)
@@ -162,7 +153,7 @@ module _ (a b : ℕ → Bool) (test : ℕ → ℕ → Bool) (row : Sets) where
 
 pub same_replaced : (a b : ℕ → Bool) (test : ℕ → ℕ → Bool) (row : Sets) → ((l : ℕ) → l < length row → a l ≡ b l) → replaced a test row ≡ replaced b test row
 same_replaced a b test row same =
-    ap (λ new. cond (is_live row) (settled new) row) (same_remade (λ l c on. cond (a l) (test l c) on) (λ l c on. cond (b l) (test l c) on) row (λ l c h. ap (λ x. cond x (test l c) (holds row l c)) (same l h)))
+    ap (λ new. cond (is_live row) (normalized new) row) (same_remade (λ l c on. cond (a l) (test l c) on) (λ l c on. cond (b l) (test l c) on) row (λ l c h. ap (λ x. cond x (test l c) (holds row l c)) (same l h)))
 
 -- lengths
 

@@ -1,8 +1,8 @@
+pub mod ArgumentTexts
 pub mod Below
 pub mod ClassSets
 pub mod Counted
 pub mod Entries
-pub mod Formed
 pub mod HasClass
 pub mod Layered
 pub mod MadeRows

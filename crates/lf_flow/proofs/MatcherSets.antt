@@ -12,7 +12,8 @@ use Rattle.lf_ast.specs.declared.expr.MatchOp.TheVariants.{Equal, NotEqual, NotM
 use Rattle.lf_pattern.specs.Matching.{IsRead, is_read, matches}
 use Rattle.lf_semantics.specs.Listing.{IsListing, Listing, class_of, class_texts, named_at, other_class}
 use Rattle.lf_semantics.specs.RowTable.{may_fail, passes_class, text_of}
-use Rattle.lf_semantics.proofs.Members.{other_false, same_true}
+use Rattle.lf_laws.proofs.Booleans.{and_false}
+use Rattle.lf_laws.proofs.Members.{other_false, same_true}
 use Rattle.lf_semantics.proofs.Places.{class_test, eqb-other}
 use Rattle.lf_classes.proofs.Unread.{read_passes, unread, unread_passes}
 use Rattle.lf_flow.specs.ClassSets.{IsSet}
@@ -32,20 +33,12 @@ not_last c k other e = elim (cases_eq c k) [
   | inl f ↦ (let q : nat_lt c other ≡ false = grind (arith, nat_tests) in rw q refl)
   | inr d ↦ (let q : eqb c k ≡ false = eqb-other c k d in rw q (and_false (nat_lt c other)))
 ]
-  where
-    and_false : (b : Bool) → (b && false) ≡ false
-    and_false true = refl
-    and_false false = refl
 
 one_own : (c k other : ℕ) → k < other → (nat_lt c other && eqb c k) ≡ eqb c k
 one_own c k other h = elim (cases_eq c k) [
   | inl e ↦ (let q : nat_lt c other ≡ true = grind (arith, nat_tests) in rw q refl)
   | inr d ↦ (let r : eqb c k ≡ false = eqb-other c k d in rw r (and_false (nat_lt c other)))
 ]
-  where
-    and_false : (b : Bool) → (b && false) ≡ false
-    and_false true = refl
-    and_false false = refl
 
 module _ (u : Listing) (p : IsListing u) (label : ℕ) where
   apart : (k l : ℕ) → k < l → l < length (class_texts u label) → get_or (class_texts u label) k [] ≢ get_or (class_texts u label) l []

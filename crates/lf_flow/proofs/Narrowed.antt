@@ -2,25 +2,18 @@
 use Rattle.std.proofs.Common.{◌≡◌, ◌≢◌, ℕ, ◌<◌, Bool, true, false, not, ◌&&◌, ◌||◌, cond, eqb, List, [], length, get_or, inl, inr, refl, sym, ◌∙◌, ap, subst, arith}
 use Rattle.std.proofs.lemmas.Bool.{cases_eq}
 use Rattle.std.proofs.lemmas.Bool.Decides.{Decides-eqb}
-use Rattle.lf_semantics.specs.ClassRows.{Sets, emptied, holds, is_live, kept, narrowed, remade, settled}
+use Rattle.lf_laws.proofs.Booleans.{and_false, and_true}
+use Rattle.lf_semantics.specs.ClassRows.{Sets, emptied, holds, is_live, kept, narrowed, remade, normalized}
 use Rattle.lf_semantics.proofs.Places.{eqb-other}
 use Rattle.lf_classes.proofs.LabelChanges.{emptied_label, narrowing, narrowing_here, narrowing_there}
 use Rattle.lf_flow.specs.ClassSets.{IsSet}
 use Rattle.lf_flow.proofs.ClassSets.{remade_same}
 use Rattle.lf_flow.proofs.Layered.{none_remade, same_narrowed, same_remade, same_row}
 
-and_true : (b : Bool) → (b && true) ≡ b
-and_true true = refl
-and_true false = refl
-
-and_false : (b : Bool) → (b && false) ≡ false
-and_false true = refl
-and_false false = refl
-
 -- a label of which the classes in a set stay
 pub narrowed_at : (label n : ℕ) (on : List Bool) (test : ℕ → ℕ → Bool) (row : Sets) → IsSet n (test label) on → length (get_or row label []) ≡ n
     → narrowed (λ l c. not (eqb label l) || get_or on c false) row ≡ narrowed (λ l c. not (eqb label l) || test l c) row
-narrowed_at label n on test row set e = ap settled (remade_same _ _ row (λ l c b k. by l c k (eqb label l) refl))
+narrowed_at label n on test row set e = ap normalized (remade_same _ _ row (λ l c b k. by l c k (eqb label l) refl))
   where
     by : (l c : ℕ) → c < length (get_or row l []) → (b : Bool) → eqb label l ≡ b → (holds row l c && (not b || get_or on c false)) ≡ (holds row l c && (not b || test l c))
     by l c k false f = refl
@@ -30,8 +23,8 @@ narrowed_at label n on test row set e = ap settled (remade_same _ _ row (λ l c 
         ap (λ b. holds row l c && b) (subst P same (λ j. set.each c (omega (arith, e))) k)
 
 -- a row that every class passes stays as it is
-pub narrowed_none : (row : Sets) → settled row ≡ row → narrowed (λ l c. true) row ≡ row
-narrowed_none row is = ap settled (same_row (λ l c on. on && true) row (λ l c. and_true (holds row l c))) ∙ is
+pub narrowed_none : (row : Sets) → normalized row ≡ row → narrowed (λ l c. true) row ≡ row
+narrowed_none row is = ap normalized (same_row (λ l c on. on && true) row (λ l c. and_true (holds row l c))) ∙ is
 
 -- a label that is narrowed by another test that says the same
 pub narrowed_as : (label : ℕ) (s t : ℕ → ℕ → Bool) (row : Sets) → ((c : ℕ) → s label c ≡ t label c)
@@ -47,8 +40,8 @@ narrowed_off label t row h off =
     emptied_label (narrowing t label) row label h (λ c. narrowing_here t label c (holds row label c) ∙ ap (λ b. holds row label c && b) (off c) ∙ and_false (holds row label c))
 
 -- a label each of whose classes passes
-pub narrowed_on : (label : ℕ) (t : ℕ → ℕ → Bool) (row : Sets) → settled row ≡ row → ((c : ℕ) → t label c ≡ true) → row ≡ narrowed (λ l c. not (eqb label l) || t l c) row
-narrowed_on label t row is on = sym (ap settled (same_row (narrowing t label) row each) ∙ is)
+pub narrowed_on : (label : ℕ) (t : ℕ → ℕ → Bool) (row : Sets) → normalized row ≡ row → ((c : ℕ) → t label c ≡ true) → row ≡ narrowed (λ l c. not (eqb label l) || t l c) row
+narrowed_on label t row is on = sym (ap normalized (same_row (narrowing t label) row each) ∙ is)
   where
     each : (l c : ℕ) → narrowing t label l c (holds row l c) ≡ holds row l c
     each l c = elim (cases_eq label l) [
@@ -57,7 +50,7 @@ narrowed_on label t row is on = sym (ap settled (same_row (narrowing t label) ro
     ]
 
 -- a class that is taken out of a label
-pub narrowed_but : (label class : ℕ) (t : ℕ → ℕ → Bool) (row : Sets) → settled row ≡ row → ((c : ℕ) → t label c ≡ not (eqb c class))
+pub narrowed_but : (label class : ℕ) (t : ℕ → ℕ → Bool) (row : Sets) → normalized row ≡ row → ((c : ℕ) → t label c ≡ not (eqb c class))
     → kept label class false row ≡ narrowed (λ l c. not (eqb label l) || t l c) row
 narrowed_but label class t row is but = by (is_live row) refl
   where
@@ -82,9 +75,9 @@ narrowed_but label class t row is but = by (is_live row) refl
 
     by : (b : Bool) → is_live row ≡ b → kept label class false row ≡ narrowed (λ l c. not (eqb label l) || t l c) row
     by true e =
-        ap (λ b. cond b (settled (remade (λ l c before. cond (eqb l label && eqb c class) false before) row)) row) e
-        ∙ ap settled (same_remade (λ l c before. cond (eqb l label && eqb c class) false before) (narrowing t label) row (λ l c h. each l c))
+        ap (λ b. cond b (normalized (remade (λ l c before. cond (eqb l label && eqb c class) false before) row)) row) e
+        ∙ ap normalized (same_remade (λ l c before. cond (eqb l label && eqb c class) false before) (narrowing t label) row (λ l c h. each l c))
     by false e =
         let empty : row ≡ emptied row = sym is ∙ ap (λ b. cond b row (emptied row)) e in
-        ap (λ b. cond b (settled (remade (λ l c before. cond (eqb l label && eqb c class) false before) row)) row) e
-        ∙ empty ∙ sym (ap settled (ap (remade (narrowing t label)) empty) ∙ none_remade (narrowing t label) row (λ l c. refl))
+        ap (λ b. cond b (normalized (remade (λ l c before. cond (eqb l label && eqb c class) false before) row)) row) e
+        ∙ empty ∙ sym (ap normalized (ap (remade (narrowing t label)) empty) ∙ none_remade (narrowing t label) row (λ l c. refl))

@@ -5,25 +5,22 @@ use Rattle.std.proofs.lemmas.Bool.Decides.{Decides-eqb}
 use Rattle.std.proofs.lemmas.List.{get_or-map, get_or-replicate, length-map}
 use Rattle.lf_ast.specs.Labels.{Bytes}
 use Rattle.lf_ast.specs.declared.expr.MatchOp.{MatchOp}
-use Rattle.lf_semantics.specs.ClassRows.{HasShape, Sets, emptied, full, holds, is_live, narrowed, remade, settled}
+use Rattle.lf_laws.proofs.Booleans.{clash, not_true}
+use Rattle.lf_semantics.specs.ClassRows.{HasShape, Sets, emptied, top, holds, is_live, narrowed, remade, normalized}
 use Rattle.lf_semantics.specs.Listing.{Listing, class_counts, named_at}
 use Rattle.lf_semantics.specs.RowTable.{passes_class}
-use Rattle.lf_semantics.proofs.Members.{not_true}
-use Rattle.lf_semantics.proofs.RowLaws.{holds-remade, live, shape_full, shape_narrowed, shape_remade}
+use Rattle.lf_semantics.proofs.RowLaws.{holds-remade, live, shape_top, shape_narrowed, shape_remade}
 use Rattle.lf_classes.specs.Remembered.{passing_row}
 use Rattle.lf_classes.proofs.Cutting.{emptied_holds}
 use Rattle.lf_flow.proofs.ClassSets.{remade_same, row_length, set_length}
 
 -- every class is in the full row
-full_at : (u : Listing) (l c : ℕ) → l < length u.named → c < length (named_at u l) + 2 → holds (full u) l c ≡ true
+full_at : (u : Listing) (l c : ℕ) → l < length u.named → c < length (named_at u l) + 2 → holds (top u) l c ≡ true
 full_at u l c h k =
     let counts = class_counts u in
     let count = get_or-map (λ named. length named + 2) u.named l [] 0 h in
     ap (λ set. get_or set c false) (get_or-map (λ count. replicate count true) counts l 0 [] (omega (arith, h, length-map u.named (λ named. length named + 2))))
     ∙ get_or-replicate (get_or counts l 0) c true false (omega (arith, k, count))
-
-clash : (b : Bool) → b ≡ true → b ≡ false → ⊥
-clash b e f = let q : true ≡ false = sym e ∙ f in cc
 
 -- the full row of which one label has the classes that pass
 module _ (u : Listing) (label : ℕ) (pass : ℕ → ℕ → Bool) (within : label < length u.named) where
@@ -31,11 +28,11 @@ module _ (u : Listing) (label : ℕ) (pass : ℕ → ℕ → Bool) (within : lab
   test l c = not (eqb label l) || pass l c
 
   abbrev made : Sets
-  made = remade (λ l c on. on && test l c) (full u)
+  made = remade (λ l c on. on && test l c) (top u)
 
   at : (l c : ℕ) → l < length u.named → c < length (named_at u l) + 2 → holds made l c ≡ test l c
   at l c h k =
-      holds-remade (λ l c on. on && test l c) (full u) l c (omega (arith, h, row_length u (full u) (shape_full u))) (omega (arith, k, set_length u (full u) (shape_full u) l h))
+      holds-remade (λ l c on. on && test l c) (top u) l c (omega (arith, h, row_length u (top u) (shape_top u))) (omega (arith, k, set_length u (top u) (shape_top u) l h))
       ∙ ap (λ on. on && test l c) (full_at u l c h k)
 
   own : (c : ℕ) → c < length (named_at u label) + 2 → holds made label c ≡ pass label c
@@ -46,14 +43,14 @@ module _ (u : Listing) (label : ℕ) (pass : ℕ → ℕ → Bool) (within : lab
   each c k p l h = by (eqb label l) refl
     where
       inside : l < length u.named
-      inside = omega (arith, h, row_length u made (shape_remade (λ l c on. on && test l c) 0 (full u) ∙ shape_full u))
+      inside = omega (arith, h, row_length u made (shape_remade (λ l c on. on && test l c) 0 (top u) ∙ shape_top u))
 
       by : (b : Bool) → eqb label l ≡ b → (d : ℕ) × (holds made l d ≡ true)
       by true e = let P : ℕ → Type 0 = λ m. (d : ℕ) × (holds made m d ≡ true) in subst P ((Decides-eqb label l).0 e) (c, own c k ∙ p)
       by false e = (0, at l 0 inside (omega arith) ∙ ap (λ b. not b || pass l 0) e)
 
   -- a label has the classes that pass, also where none does, and the row is empty
-  pub holds_own : (c : ℕ) → c < length (named_at u label) + 2 → holds (settled made) label c ≡ pass label c
+  pub holds_own : (c : ℕ) → c < length (named_at u label) + 2 → holds (normalized made) label c ≡ pass label c
   holds_own c k = by (is_live made) refl
     where
       by : (b : Bool) → is_live made ≡ b → holds (cond b made (emptied made)) label c ≡ pass label c
@@ -63,7 +60,7 @@ module _ (u : Listing) (label : ℕ) (pass : ℕ → ℕ → Bool) (within : lab
 -- a row that meets the row of a pattern keeps the classes that pass
 pub met_passing : (u : Listing) (label : ℕ) (op : MatchOp) (pattern : Bytes) (passing row : Sets) → label < length u.named → HasShape u row → passing ≡ passing_row u label op pattern
     → narrowed (λ l c. not (eqb label l) || holds passing l c) row ≡ narrowed (λ l c. not (eqb label l) || passes_class u op pattern l c) row
-met_passing u label op pattern passing row within shape is = ap settled (remade_same _ _ row (λ l c b k. by l c k (eqb label l) refl))
+met_passing u label op pattern passing row within shape is = ap normalized (remade_same _ _ row (λ l c b k. by l c k (eqb label l) refl))
   where
     by : (l c : ℕ) → c < length (get_or row l []) → (b : Bool) → eqb label l ≡ b → (holds row l c && (not b || holds passing l c)) ≡ (holds row l c && (not b || passes_class u op pattern l c))
     by l c k false e = refl
@@ -75,4 +72,4 @@ met_passing u label op pattern passing row within shape is = ap settled (remade_
 
 pub shape_passing : (u : Listing) (label : ℕ) (op : MatchOp) (pattern : Bytes) (passing row : Sets) → HasShape u row → passing ≡ passing_row u label op pattern → map length row ≡ map length passing
 shape_passing u label op pattern passing row shape is =
-    shape ∙ sym (ap (map length) is ∙ shape_narrowed (λ l c. not (eqb label l) || passes_class u op pattern l c) (full u) ∙ shape_full u)
+    shape ∙ sym (ap (map length) is ∙ shape_narrowed (λ l c. not (eqb label l) || passes_class u op pattern l c) (top u) ∙ shape_top u)

@@ -4,7 +4,7 @@ use Rattle.std.specs.List.{list_any}
 use Rattle.std.proofs.lemmas.Bool.Decides.{Decides-eqb, Decides-ltb, nat_tests}
 use Rattle.lf_ast.specs.Labels.{Bytes}
 use Rattle.lf_pattern.specs.Matching.{IsRead, matches}
-use Rattle.lf_ast.specs.Types.{is_label_name}
+use Rattle.lf_base.specs.Names.{is_label_name}
 use Rattle.lf_semantics.specs.ClassRows.{HasShape, Sets}
 use Rattle.lf_semantics.specs.Listing.{Listing, class_texts, label_of, named_at, other_class}
 use Rattle.lf_semantics.specs.Passing.{is_plain}

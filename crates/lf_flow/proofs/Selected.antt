@@ -10,43 +10,25 @@ use Rattle.std.proofs.lemmas.List.{get_or-set_other, get_or-set_same, length-rep
 use Rattle.std.proofs.lemmas.List.Folds.{list_all_more, list_any_more}
 use Rattle.lf_ast.specs.Labels.{Bytes}
 use Rattle.lf_ast.specs.declared.expr.Matcher.{Matcher}
-use Rattle.lf_semantics.specs.ClassRows.{HasShape, Sets, full, narrowed, nothing, replaced, set_to, union}
+use Rattle.lf_laws.proofs.Booleans.{and_false, and_true}
+use Rattle.lf_semantics.specs.ClassRows.{HasShape, Sets, top, narrowed, bottom, replaced, set_to, join}
 use Rattle.lf_semantics.specs.Environments.{IsEnvironment, IsRow}
 use Rattle.lf_semantics.specs.Listing.{IsListing, Listing, class_of, label_of}
-use Rattle.lf_semantics.specs.Passing.{first_equal_name, is_equal}
+use Rattle.lf_ast.specs.Selectors.{metric}
 use Rattle.lf_semantics.specs.RowTable.{Environment, is_label, is_metric_label, is_recorded, passes_class, passes_matchers, row_named, row_or_series, scraped_row, seen_row, series_row, with_recorded}
-use Rattle.lf_semantics.specs.Texts.{metric}
 use Rattle.lf_semantics.proofs.Places.{eqb-other}
-use Rattle.lf_semantics.proofs.RowLaws.{shape_union}
-use Rattle.lf_semantics.proofs.SettledRows.{IsSettled, settled_full, settled_nothing, settled_replaced, settled_union}
-use Rattle.lf_semantics.proofs.SelectorLies.{shape_scraped, shape_with_recorded}
+use Rattle.lf_semantics.proofs.RowLaws.{shape_join}
+use Rattle.lf_semantics.proofs.NormalizedRows.{IsNormalized, normalized_top, normalized_bottom, normalized_replaced, normalized_join}
+use Rattle.lf_semantics.proofs.SelectorsRepresent.{shape_scraped, shape_with_recorded}
 use Rattle.lf_flow.specs.ClassSets.{IsSet}
 use Rattle.lf_flow.specs.Raising.{joined_each}
 use Rattle.lf_flow.proofs.ClassSets.{replaced_same}
+use Rattle.lf_flow.proofs.Entries.{some_same}
 use Rattle.lf_flow.proofs.Layered.{narrowed_twice, same_narrowed}
 use Rattle.lf_flow.proofs.MatcherSets.{get_one}
 use Rattle.lf_flow.proofs.PatternSets.{retested}
 
--- the name
-
-name_from : (matchers : List Matcher) (k : ℕ) (d : Matcher) → k < length matchers
-    → first_equal_name (drop k matchers) ≡ cond (is_equal (get_or matchers k d).op && bytes_eq (get_or matchers k d).label metric) (Some (get_or matchers k d).value) (first_equal_name (drop (k + 1) matchers))
-name_from matchers k d h = rw add-one (ap first_equal_name (drop-cons matchers k d h))
-
-pub name_here : (matchers : List Matcher) (k : ℕ) (d : Matcher) → k < length matchers → (is_equal (get_or matchers k d).op && bytes_eq (get_or matchers k d).label metric) ≡ true
-    → first_equal_name (drop k matchers) ≡ Some (get_or matchers k d).value
-name_here matchers k d h e = name_from matchers k d h ∙ ap (λ b. cond b (Some (get_or matchers k d).value) (first_equal_name (drop (k + 1) matchers))) e
-
-pub name_later : (matchers : List Matcher) (k : ℕ) (d : Matcher) → k < length matchers → (is_equal (get_or matchers k d).op && bytes_eq (get_or matchers k d).label metric) ≡ false
-    → first_equal_name (drop k matchers) ≡ first_equal_name (drop (k + 1) matchers)
-name_later matchers k d h e = name_from matchers k d h ∙ ap (λ b. cond b (Some (get_or matchers k d).value) (first_equal_name (drop (k + 1) matchers))) e
-
 -- a list of which an end is left
-
-pub all_at : {X : Type 0} (P : X → Type 0) (xs : List X) (k : ℕ) (d : X) → AllByRecursion P xs → k < length xs → P (get_or xs k d)
-all_at P [] k d all h = absurd (omega arith)
-all_at P (x ∷ xs) zero d all h = all.0
-all_at P (x ∷ xs) (suc k) d all h = all_at P xs k d all.1 (omega arith)
 
 all_drop : {X : Type 0} (P : X → Type 0) (xs : List X) (k : ℕ) → AllByRecursion P xs → AllByRecursion P (drop k xs)
 all_drop P [] zero all = tt
@@ -60,7 +42,7 @@ pub joined_none : (rows : List Sets) (row : Sets) → joined_each (drop (length 
 joined_none [] row = refl
 joined_none (first ∷ rows) row = joined_none rows row
 
-pub joined_more : (rows : List Sets) (k : ℕ) (d row : Sets) → k < length rows → joined_each (drop k rows) row ≡ union (joined_each (drop (k + 1) rows) row) (get_or rows k d)
+pub joined_more : (rows : List Sets) (k : ℕ) (d row : Sets) → k < length rows → joined_each (drop k rows) row ≡ join (joined_each (drop (k + 1) rows) row) (get_or rows k d)
 joined_more rows k d row h = rw add-one (ap (λ xs. joined_each xs row) (drop-cons rows k d h))
 
 pub joined_all : (rows : List Sets) (row : Sets) → joined_each (drop 0 rows) row ≡ joined_each rows row
@@ -69,7 +51,7 @@ joined_all (first ∷ rows) row = refl
 
 shape_each : (u : Listing) (rows : List Sets) (row : Sets) → HasShape u row → AllByRecursion (HasShape u) rows → HasShape u (joined_each rows row)
 shape_each u [] row shape all = shape
-shape_each u (first ∷ rows) row shape all = shape_union u (joined_each rows row) first (shape_each u rows row shape all.1) all.0
+shape_each u (first ∷ rows) row shape all = shape_join u (joined_each rows row) first (shape_each u rows row shape all.1) all.0
 
 pub shape_joined : (u : Listing) (rows : List Sets) (k : ℕ) (row : Sets) → HasShape u row → AllByRecursion (HasShape u) rows → HasShape u (joined_each (drop k rows) row)
 shape_joined u rows k row shape all = shape_each u (drop k rows) row shape (all_drop (HasShape u) rows k all)
@@ -81,16 +63,16 @@ module _ (u : Listing) where
 
   pub each_joined : (env : Environment) (row : Sets) → joined_each (map (λ (entry : Bytes × Sets). entry.1) env) row ≡ with_recorded u env row
   each_joined [] row = refl
-  each_joined (entry ∷ env) row = ap (λ r. union r entry.1) (each_joined env row)
+  each_joined (entry ∷ env) row = ap (λ r. join r entry.1) (each_joined env row)
 
   pub recorded_test : (env : Environment) (label class : ℕ) → list_any (λ (name : Bytes). eqb (class_of u label name) class) (map (λ (entry : Bytes × Sets). entry.0) env) ≡ is_recorded u env label class
   recorded_test [] label class = refl
   recorded_test (entry ∷ env) label class = ap (λ b. eqb (class_of u label entry.0) class || b) (recorded_test env label class)
 
   -- the series of a name
-  pub series_is : (name : Bytes) (label class : ℕ) → label ≡ label_of u metric → class ≡ class_of u label name → set_to label class (full u) ≡ replaced (is_metric_label u) (λ l c. eqb c (class_of u l name)) (full u)
+  pub series_is : (name : Bytes) (label class : ℕ) → label ≡ label_of u metric → class ≡ class_of u label name → set_to label class (top u) ≡ replaced (is_metric_label u) (λ l c. eqb c (class_of u l name)) (top u)
   series_is name label class e f =
-      replaced_same (λ l. eqb label l) (is_metric_label u) (λ l c. eqb c class) (λ l c. eqb c (class_of u l name)) (full u) (λ l b. ap (λ k. eqb k l) e)
+      replaced_same (λ l. eqb label l) (is_metric_label u) (λ l c. eqb c class) (λ l c. eqb c (class_of u l name)) (top u) (λ l b. ap (λ k. eqb k l) e)
       (λ l c b k chosen. ap (eqb c) (f ∙ ap (λ m. class_of u m name) ((Decides-eqb label l).0 chosen)))
 
 -- classes that are taken out of a set
@@ -101,18 +83,10 @@ put_off n k test on h s = record {
   each = λ c b. by c b (cases_eq k c);
 }
   where
-    and_true : (b : Bool) → b ≡ (b && true)
-    and_true true = refl
-    and_true false = refl
-
-    and_false : (b : Bool) → false ≡ (b && false)
-    and_false true = refl
-    and_false false = refl
-
     by : (c : ℕ) → c < n → (k ≡ c) ⊎ (k ≢ c) → get_or (set on k false) c false ≡ (test c && not (eqb k c))
     by c b (inl e) =
-        ap (λ m. get_or (set on k false) m false) (sym e) ∙ get_or-set_same on k false false (omega (arith, s.count)) ∙ and_false (test c) ∙ ap (λ x. test c && not x) (sym ((Decides-eqb k c).1 e))
-    by c b (inr d) = get_or-set_other on k c false false (λ e. d (sym e)) ∙ s.each c b ∙ and_true (test c) ∙ ap (λ x. test c && not x) (sym (eqb-other k c d))
+        ap (λ m. get_or (set on k false) m false) (sym e) ∙ get_or-set_same on k false false (omega (arith, s.count)) ∙ sym (and_false (test c)) ∙ ap (λ x. test c && not x) (sym ((Decides-eqb k c).1 e))
+    by c b (inr d) = get_or-set_other on k c false false (λ e. d (sym e)) ∙ s.each c b ∙ sym (and_true (test c)) ∙ ap (λ x. test c && not x) (sym (eqb-other k c d))
 
 one_less : (a b k : Bool) → ((a && not b) && not k) ≡ (a && not (b || k))
 one_less true true k = refl
@@ -141,39 +115,36 @@ off_more u label n k i names on h e b s =
     ∙ ap (λ x. not (eqb c 0) && not x) (sym (list_any_more (λ (name : Bytes). eqb (class_of u label name) c) names i [] h)))
     (put_off n k _ on b s)
 
--- the rows that are seen are settled
+-- the rows that are seen are normalized
 
 module _ (u : Listing) (p : IsListing u) (env : Environment) (ok : IsEnvironment u env) where
-  settled_series : (name : Bytes) → IsSettled (series_row u name)
-  settled_series name = elim (bytes_eq name []) as (λ b. IsSettled (cond b (nothing u) (replaced (is_metric_label u) (λ label class. eqb class (class_of u label name)) (full u)))) [
-    | true ↦ settled_nothing u
-    | false ↦ settled_replaced (is_metric_label u) (λ label class. eqb class (class_of u label name)) (full u) (settled_full u p)
+  normalized_series : (name : Bytes) → IsNormalized (series_row u name)
+  normalized_series name = elim (bytes_eq name []) as (λ b. IsNormalized (cond b (bottom u) (replaced (is_metric_label u) (λ label class. eqb class (class_of u label name)) (top u)))) [
+    | true ↦ normalized_bottom u
+    | false ↦ normalized_replaced (is_metric_label u) (λ label class. eqb class (class_of u label name)) (top u) (normalized_top u p)
   ]
-
-  some_is : (a b : Sets) → Some a ≡ Some b → a ≡ b
-  some_is a b e = cc
 
   none_is : (a : Sets) → None ≡ Some a → ⊥
   none_is a e = cc
 
-  settled_named : (later : Environment) (n : Bytes) (o : Option Sets) → row_named later n ≡ o → AllByRecursion (λ entry. IsRow u entry.1) later → IsSettled (row_or_series u o n)
-  settled_named later n None e rows = settled_series n
-  settled_named [] n (Some row) e rows = absurd (none_is row e)
-  settled_named (entry ∷ later) n (Some row) e rows = by (bytes_eq entry.0 n) e (λ f. settled_named later n (Some row) f rows.1)
+  normalized_named : (later : Environment) (n : Bytes) (o : Option Sets) → row_named later n ≡ o → AllByRecursion (λ entry. IsRow u entry.1) later → IsNormalized (row_or_series u o n)
+  normalized_named later n None e rows = normalized_series n
+  normalized_named [] n (Some row) e rows = absurd (none_is row e)
+  normalized_named (entry ∷ later) n (Some row) e rows = by (bytes_eq entry.0 n) e (λ f. normalized_named later n (Some row) f rows.1)
     where
-      by : (b : Bool) → cond b (Some entry.1) (row_named later n) ≡ Some row → (row_named later n ≡ Some row → IsSettled row) → IsSettled row
-      by true e rest = subst IsSettled (some_is entry.1 row e) rows.0.1
+      by : (b : Bool) → cond b (Some entry.1) (row_named later n) ≡ Some row → (row_named later n ≡ Some row → IsNormalized row) → IsNormalized row
+      by true e rest = subst IsNormalized (some_same entry.1 row e) rows.0.1
       by false e rest = rest e
 
-  settled_recorded : (later : Environment) (row : Sets) → HasShape u row → IsSettled row → AllByRecursion (λ entry. IsRow u entry.1) later → IsSettled (with_recorded u later row)
-  settled_recorded [] row shape is rows = is
-  settled_recorded (entry ∷ later) row shape is rows = settled_union u (with_recorded u later row) entry.1 (shape_with_recorded u p env ok row later shape rows.1) rows.0.0 rows.0.1
+  normalized_recorded : (later : Environment) (row : Sets) → HasShape u row → IsNormalized row → AllByRecursion (λ entry. IsRow u entry.1) later → IsNormalized (with_recorded u later row)
+  normalized_recorded [] row shape is rows = is
+  normalized_recorded (entry ∷ later) row shape is rows = normalized_join u (with_recorded u later row) entry.1 (shape_with_recorded u p env ok row later shape rows.1) rows.0.0 rows.0.1
 
-  pub settled_seen : (o : Option Bytes) → IsSettled (seen_row u env o)
-  settled_seen (Some n) = settled_named env n (row_named env n) refl ok.rows
-  settled_seen None =
-      settled_recorded env (scraped_row u env) (shape_scraped u p env ok)
-      (settled_replaced (is_metric_label u) (λ label class. not (eqb class 0) && not (is_recorded u env label class)) (full u) (settled_full u p)) ok.rows
+  pub normalized_seen : (o : Option Bytes) → IsNormalized (seen_row u env o)
+  normalized_seen (Some n) = normalized_named env n (row_named env n) refl ok.rows
+  normalized_seen None =
+      normalized_recorded env (scraped_row u env) (shape_scraped u p env ok)
+      (normalized_replaced (is_metric_label u) (λ label class. not (eqb class 0) && not (is_recorded u env label class)) (top u) (normalized_top u p)) ok.rows
 
 -- one more matcher
 pub matcher_more : (u : Listing) (matchers : List Matcher) (i : ℕ) (m : Matcher) (seen row : Sets) → i < length matchers → m ≡ get_or matchers i m → row ≡ narrowed (passes_matchers u (take i matchers)) seen

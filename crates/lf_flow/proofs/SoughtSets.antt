@@ -10,22 +10,19 @@ use Rattle.std.proofs.lemmas.List.Folds.{list_any_more}
 use Rattle.std.proofs.lemmas.List.Sums.{count_by_more_no, count_by_more_yes, length-filter}
 use Rattle.lf_ast.specs.Labels.{Bytes}
 use Rattle.lf_ast.specs.declared.expr.Matcher.{Matcher}
+use Rattle.lf_laws.proofs.Booleans.{and_false, and_true, not_true_is, or_false}
 use Rattle.lf_semantics.specs.ClassRows.{holds, kept}
 use Rattle.lf_semantics.specs.Listing.{Listing, class_of, class_texts, label_of, named_at}
-use Rattle.lf_semantics.specs.Passing.{is_equal}
+use Rattle.lf_ast.specs.Selectors.{is_equal, metric}
 use Rattle.lf_semantics.specs.RowTable.{absent_row, bare_row, has_class, is_label, is_metric_label, is_sought}
 use Rattle.lf_semantics.specs.Strings.{absent_texts, equal_texts}
-use Rattle.lf_semantics.specs.Texts.{metric}
-use Rattle.lf_semantics.proofs.EffectLies.{has_class_at}
+use Rattle.lf_semantics.proofs.EffectsRepresent.{has_class_at}
 use Rattle.lf_semantics.proofs.Places.{eqb-other, place_le}
 use Rattle.lf_semantics.specs.Parts.{Sought}
 use Rattle.lf_classes.proofs.TextClasses.{none_set}
 use Rattle.lf_flow.specs.Absence.{AreCounts, also_bare, gives_class, is_class_sought, is_on_label, sought_text}
-use Rattle.lf_flow.proofs.ClassSets.{set_length}
+use Rattle.lf_flow.proofs.ClassSets.{eqb-turn, set_length}
 use Rattle.lf_flow.proofs.MadeRows.{HasSome, made, made_holds, made_kept, made_same, shape_made}
-
-eqb-turn : (m n : ℕ) → eqb m n ≡ eqb n m
-eqb-turn m n = grind (arith, nat_tests)
 
 filtered_any : {X : Type 0} (p q : X → Bool) (xs : List X) → list_any q (filter p xs) ≡ list_any (λ x. p x && q x) xs
 filtered_any p q [] = refl
@@ -38,10 +35,6 @@ filtered_any p q (x ∷ xs) = by (p x) refl (filtered_any p q xs)
 or_true : (a : Bool) → (a || true) ≡ true
 or_true true = refl
 or_true false = refl
-
-or_false : (a : Bool) → (a || false) ≡ a
-or_false true = refl
-or_false false = refl
 
 no_matcher : (t z : Bool) → t ≡ z → (t || false) ≡ (z && true)
 no_matcher true true e = refl
@@ -157,10 +150,6 @@ sought_row u bare ms =
 -- before any matcher each label has the empty text alone
 pub sought_none : (u : Listing) → bare_row u ≡ made u (λ label. is_class_sought u label true [])
 sought_none u = made_same u (λ l c. eqb c 0) (λ label. is_class_sought u label true []) (λ l c h. sym (and_true (eqb c 0)))
-  where
-    and_true : (b : Bool) → (b && true) ≡ b
-    and_true true = refl
-    and_true false = refl
 
 pub counts_none : (u : Listing) (counts : List ℕ) → counts ≡ replicate (length u.named) 0 → AreCounts u [] counts
 counts_none u counts is = record {
@@ -200,11 +189,7 @@ module _ (u : Listing) (label : ℕ) where
 
 module _ (u : Listing) (label : ℕ) (m : Matcher) (is_of : label ≡ label_of u m.label) where
   on_other : (l : ℕ) → l ≢ label → is_on_label u l m ≡ false
-  on_other l n = ap (λ b. not (is_metric_label u l) && b) (eqb-other (label_of u m.label) l (λ e. n (sym e ∙ sym is_of))) ∙ none (not (is_metric_label u l))
-    where
-      none : (b : Bool) → (b && false) ≡ false
-      none true = refl
-      none false = refl
+  on_other l n = ap (λ b. not (is_metric_label u l) && b) (eqb-other (label_of u m.label) l (λ e. n (sym e ∙ sym is_of))) ∙ and_false (not (is_metric_label u l))
 
   on_metric : label ≡ label_of u metric → (l : ℕ) → is_on_label u l m ≡ false
   on_metric q l = elim (cases_eq l label) [
@@ -313,7 +298,7 @@ module _ (u : Listing) (ms : List Matcher) where
         (elim (cases_eq r.0 0) [
           | inl z ↦
               none_set (λ class. not (eqb class 0)) (get_or row k []) 0 (λ c b t.
-              let some : eqb c 0 ≡ false = not_false (eqb c 0) (ap (λ n. not (eqb n 0)) (let q : c ≡ 0 + c = omega arith in q) ∙ t) in
+              let some : eqb c 0 ≡ false = not_true_is (eqb c 0) (ap (λ n. not (eqb n 0)) (let q : c ≡ 0 + c = omega arith in q) ∙ t) in
               held c (omega (arith, b, size))
               ∙ ap (λ n. eqb n c || (eqb c 0 && (not (nat_lt k k) || not (eqb count 1)))) z
               ∙ ap (λ b. b || (eqb c 0 && (not (nat_lt k k) || not (eqb count 1)))) (eqb-turn 0 c ∙ some)
@@ -325,10 +310,6 @@ module _ (u : Listing) (ms : List Matcher) where
               (ap not (eqb-other r.0 0 d))
               ∙ sym (ap not (r.2 0 ∙ eqb-other r.0 0 d))
         ])
-      where
-        not_false : (b : Bool) → not b ≡ true → b ≡ false
-        not_false true e = absurd (cc)
-        not_false false e = refl
 
     -- what is asked of the label
     asked : (eqb count 1 && has_class u (λ class. not (eqb class 0)) (get_or (made u (certain_below k)) k [])) ≡ (eqb count 1 && not none_given)

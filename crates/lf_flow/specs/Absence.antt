@@ -5,7 +5,7 @@ use Rattle.lf_ast.specs.Labels.{Bytes}
 use Rattle.lf_ast.specs.declared.expr.Matcher.{Matcher}
 use Rattle.lf_semantics.specs.Listing.{Listing, class_of}
 use Rattle.lf_semantics.specs.Parts.{Sought}
-use Rattle.lf_semantics.specs.Passing.{is_equal}
+use Rattle.lf_ast.specs.Selectors.{is_equal}
 use Rattle.lf_semantics.specs.RowTable.{is_label, is_metric_label}
 
 -- the sample may also have no label where it is said

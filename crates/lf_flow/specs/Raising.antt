@@ -2,7 +2,7 @@
 use Rattle.std.specs.Prelude.{◌≡◌, List, [], ◌∷◌, cond, length, map}
 use Rattle.std.specs.Str.{bytes_eq}
 use Rattle.lf_ast.specs.Labels.{Bytes}
-use Rattle.lf_semantics.specs.ClassRows.{Sets, union}
+use Rattle.lf_semantics.specs.ClassRows.{Sets, join}
 use Rattle.lf_semantics.specs.Listing.{StandOnce}
 use Rattle.lf_semantics.specs.RowTable.{Environment}
 
@@ -19,9 +19,9 @@ pub record AreEntries (names : List Bytes) (rows : List Sets) : Type 0 where
 
 -- the row is joined to that of the name, and the others stay
 abbrev pub joined : Bytes → Sets → Environment → Environment
-joined name row env = map (λ entry. (entry.0, cond (bytes_eq entry.0 name) (union entry.1 row) entry.1)) env
+joined name row env = map (λ entry. (entry.0, cond (bytes_eq entry.0 name) (join entry.1 row) entry.1)) env
 
 -- rows that are joined to another one, the first of them last
 abbrev pub joined_each : List Sets → Sets → Sets
 joined_each [] row = row
-joined_each (first ∷ rows) row = union (joined_each rows row) first
+joined_each (first ∷ rows) row = join (joined_each rows row) first

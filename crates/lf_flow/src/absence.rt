@@ -1,8 +1,9 @@
 //! The row of `absent` and `absent_over_time`.
-ghost use Rattle.std.specs.Prelude.{◌≡◌, ◌<◌, ◌&&◌, ◌||◌, [], Some, eqb, not, true, is_some, length, IfOk, OnOk, option_and_then, slice_get, slice_index_or};
-ghost use Rattle.lf_semantics.specs.ClassRows.{full, replaced};
+ghost use Rattle.std.specs.Prelude.{◌≡◌, ◌<◌, ◌&&◌, ◌||◌, [], Some, eqb, not, true, is_some, length, IfOk, OnOk, slice_index_or};
+ghost use Rattle.lf_ast.specs.Tree.{tree, trees};
+ghost use Rattle.lf_semantics.specs.ClassRows.{top, replaced};
 ghost use Rattle.lf_semantics.specs.Listing.{Listing};
-ghost use Rattle.lf_semantics.specs.Parts.{sought_by};
+ghost use Rattle.lf_semantics.specs.Parts.{sought_by, sought_in};
 ghost use Rattle.lf_semantics.specs.RowTable.{absent_row, bare_row, has_class};
 ghost use Rattle.lf_flow.specs.Absence.{AreCounts, also_bare, is_class_sought, sought_text};
 
@@ -14,7 +15,7 @@ use std::alloc::Global;
 
 /// The row of the sample that is given where nothing was found: of a selector the texts that its matchers let each label take, and of any other argument no label.
 pub fn absent(alloc: Global, universe: &Universe, args: &[Expr]) -> Result<Row, Memory>
-    ensures { IfOk result (λ row. row ≡ absent_row universe.now (option_and_then sought_by (slice_get args.now 0))) }
+    ensures { IfOk result (λ row. row ≡ absent_row universe.now (sought_in (trees args.now))) }
 {
     match args.get(0) {
         Some(expr) => absent_of(alloc, universe, expr, false),
@@ -24,7 +25,7 @@ pub fn absent(alloc: Global, universe: &Universe, args: &[Expr]) -> Result<Row, 
 
 /// The row by one argument, where the sample may also have no label if `outside` says so. It may where the selector stands in parentheses or has an `@`.
 fn absent_of(alloc: Global, universe: &Universe, expr: &Expr, outside: bool) -> Result<Row, Memory>
-    ensures { IfOk result (λ row. row ≡ absent_row universe.now (also_bare outside (sought_by expr.now))) }
+    ensures { IfOk result (λ row. row ≡ absent_row universe.now (also_bare outside (sought_by (tree expr.now)))) }
 {
     match expr {
         Expr::Selector {
@@ -78,7 +79,7 @@ fn put_texts(
     row: &mut Row,
 ) -> Result<Vec<usize>, Memory>
     requires bare { row.old ≡ bare_row universe.now }
-    ensures row { OnOk result (row.new ≡ replaced (λ label. true) (λ label. is_class_sought universe.now label true matchers.now) (full universe.now)) }
+    ensures row { OnOk result (row.new ≡ replaced (λ label. true) (λ label. is_class_sought universe.now label true matchers.now) (top universe.now)) }
     ensures counts { IfOk result (λ counts. AreCounts universe.now matchers.now counts.items) }
 {
     let metric = universe.label_of("__name__");

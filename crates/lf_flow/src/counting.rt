@@ -2,13 +2,13 @@
 ghost use Rattle.std.specs.Prelude.{◌≡◌, OnOk};
 ghost use Rattle.lf_semantics.specs.ClassRows.{HasShape};
 ghost use Rattle.lf_semantics.specs.Grouped.{may_be_lacked};
-ghost use Rattle.lf_semantics.specs.Parts.{text_at, texts_of};
+ghost use Rattle.lf_ast.specs.Tree.{trees};
+ghost use Rattle.lf_ast.specs.Arguments.{text_at, texts_of};
 ghost use Rattle.lf_semantics.specs.RowTable.{counted_row};
 ghost use Rattle.lf_ast.specs.Types.{is_among};
 
 use crate::grouping::group;
-use crate::strings::text_at;
-use lf_ast::{Expr, Grouping, Name};
+use lf_ast::{Expr, Grouping, Name, text_at};
 use lf_base::Memory;
 use lf_classes::{Row, Universe};
 use std::alloc::Global;
@@ -22,7 +22,7 @@ pub fn count_values(
     row: &mut Row,
 ) -> Result<(), Memory>
     requires shape { HasShape universe.now row.old }
-    ensures { OnOk result (row.new ≡ counted_row universe.now grouping.now (text_at (texts_of args.now) 0) row.old) }
+    ensures { OnOk result (row.new ≡ counted_row universe.now grouping.now (text_at (texts_of (trees args.now)) 0) row.old) }
 {
     group(alloc, universe, grouping, row)?;
     let name = text_at(args, 0);

@@ -1,5 +1,6 @@
 //! The rows of functions and aggregations, by what they do to labels.
 ghost use Rattle.std.specs.Prelude.{◌≡◌, IfOk};
+ghost use Rattle.lf_ast.specs.Tree.{trees};
 ghost use Rattle.lf_semantics.specs.ClassRows.{HasShape};
 ghost use Rattle.lf_semantics.specs.Listing.{IsListing};
 ghost use Rattle.lf_semantics.specs.RowTable.{bare_row, date_row, effect_row, nameless, quantile_row};
@@ -43,7 +44,7 @@ pub fn effect(
 ) -> Result<Row, Memory>
     requires listing { IsListing universe.now }
     requires shape { HasShape universe.now row }
-    ensures { IfOk result (λ made. made ≡ effect_row universe.now effect grouping.now args.now row) }
+    ensures { IfOk result (λ made. made ≡ effect_row universe.now effect grouping.now (trees args.now) row) }
 {
     match effect {
         LabelEffect::Maps => Ok(nameless(universe, row)),
@@ -74,7 +75,7 @@ pub fn effect(
 /// The row of a function of dates: without an argument it speaks of now.
 fn date(alloc: Global, universe: &Universe, args: &[Expr], row: Row) -> Result<Row, Memory>
     requires shape { HasShape universe.now row }
-    ensures { IfOk result (λ made. made ≡ date_row universe.now args.now row) }
+    ensures { IfOk result (λ made. made ≡ date_row universe.now (trees args.now) row) }
 {
     match args {
         [] => bare(alloc, universe),

@@ -1,7 +1,8 @@
 //! The rows of recorded names.
 ghost use Rattle.std.specs.Prelude.{◌≡◌, ◌↔◌, ◌≢◌, cond, length, map, replicate, None, Some, IfOk, IfSome, IfNone, OnOk, true, false, IsTrue, not};
-ghost use Rattle.lf_semantics.specs.ClassRows.{Sets, nothing, union};
-ghost use Rattle.lf_semantics.specs.Environments.{Under, recorded_names};
+ghost use Rattle.lf_ast.specs.Rules.{rule_trees};
+ghost use Rattle.lf_semantics.specs.ClassRows.{Sets, bottom, join};
+ghost use Rattle.lf_semantics.specs.Environments.{Leq, recorded_names};
 ghost use Rattle.lf_semantics.specs.RowTable.{row_named};
 ghost use Rattle.lf_classes.specs.Meetings.{with_text};
 ghost use Rattle.lf_flow.specs.Raising.{joined};
@@ -33,7 +34,7 @@ impl Model for Env {
 impl Env {
     /// The environment of rules in which no recorded name has a sample.
     pub fn bottom(alloc: Global, universe: &Universe, rules: &Seq<Rule>) -> Result<Env, Memory>
-        ensures { IfOk result (λ env. env ≡ map (λ name. (name, nothing universe.now)) (recorded_names rules.now)) }
+        ensures { IfOk result (λ env. env ≡ map (λ name. (name, bottom universe.now)) (recorded_names (rule_trees rules.now))) }
     {
         let names = recorded(alloc, rules.as_slice())?;
         let rows = empty_rows(alloc, universe, names.len())?;
@@ -72,7 +73,7 @@ impl Env {
         requires recorded { row_named self.old name.now ≢ None }
         requires shape { (other : Sets) → row_named self.old name.now ≡ Some other → map length other ≡ map length row.now }
         ensures joined { self.new ≡ joined name.now row.now self.old }
-        ensures added { (other : Sets) → row_named self.old name.now ≡ Some other → IsTrue (not result) ↔ Under row.now other }
+        ensures added { (other : Sets) → row_named self.old name.now ≡ Some other → IsTrue (not result) ↔ Leq row.now other }
         ensures same { result ≡ false → self.new ≡ self.old }
     {
         let place = self.names.place(name);
@@ -83,8 +84,8 @@ impl Env {
 /// Joins a row to another, and says whether this added a class.
 fn join(own: &mut Row, row: &Row) -> bool
     requires { map length own.old ≡ map length row.now }
-    ensures joined { own.new ≡ union own.old row.now }
-    ensures added { IsTrue (not result) ↔ Under row.now own.old }
+    ensures joined { own.new ≡ join own.old row.now }
+    ensures added { IsTrue (not result) ↔ Leq row.now own.old }
     ensures same { result ≡ false → own.new ≡ own.old }
 {
     if own.covers(row) {
@@ -96,7 +97,7 @@ fn join(own: &mut Row, row: &Row) -> bool
 
 /// The recorded names, each once.
 fn recorded(alloc: Global, rules: &[Rule]) -> Result<TextSet, Memory>
-    ensures { IfOk result (λ names. names ≡ recorded_names rules.now) }
+    ensures { IfOk result (λ names. names ≡ recorded_names (rule_trees rules.now)) }
 {
     let mut names = TextSet::new(alloc);
     for rule in rules {
@@ -118,7 +119,7 @@ fn record(alloc: Global, rule: &Rule, names: &mut TextSet) -> Result<(), Memory>
 
 /// As many empty rows.
 fn empty_rows(alloc: Global, universe: &Universe, count: usize) -> Result<Vec<Row>, Memory>
-    ensures { IfOk result (λ rows. rows.items ≡ replicate count (nothing universe.now)) }
+    ensures { IfOk result (λ rows. rows.items ≡ replicate count (bottom universe.now)) }
 {
     let mut rows = Vec::new(alloc);
     for _ in 0..count {

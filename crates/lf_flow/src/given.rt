@@ -1,8 +1,9 @@
 //! What is told of an expression at once: its row and its type.
 ghost use Rattle.std.specs.Prelude.{◌≡◌, IfOk};
 ghost use Rattle.std.specs.List.{position_or_len};
+ghost use Rattle.lf_ast.specs.Tree.{trees};
 ghost use Rattle.lf_ast.specs.Types.{is_scalar, joined, selected};
-ghost use Rattle.lf_semantics.specs.ClassRows.{HasShape, nothing};
+ghost use Rattle.lf_semantics.specs.ClassRows.{HasShape, bottom};
 ghost use Rattle.lf_semantics.specs.Environments.{IsEnvironment};
 ghost use Rattle.lf_semantics.specs.Listing.{IsListing};
 ghost use Rattle.lf_semantics.specs.Parts.{takes_samples};
@@ -10,9 +11,11 @@ ghost use Rattle.lf_semantics.specs.RowTable.{bare_row, binary_row, effect_row, 
 
 use crate::Env;
 use crate::effects::{bare, effect, nameless};
-use crate::operating::{is_scalar, operate};
+use crate::operating::operate;
 use crate::selecting::select;
-use lf_ast::{Expr, ExprType, Function, Grouping, Matcher, Matching, Op};
+use lf_ast::{
+    Expr, ExprType, Function, Grouping, Matcher, Matching, Op, is_scalar, joined, selected,
+};
 use lf_base::{Memory, Text};
 use lf_classes::{Row, Universe};
 use std::alloc::Global;
@@ -40,7 +43,7 @@ pub fn number(alloc: Global, universe: &Universe) -> Result<Given, Memory>
 /// What gives no sample, and is of this type.
 #[inline(never)]
 pub fn empty(alloc: Global, universe: &Universe, form: ExprType) -> Result<Given, Memory>
-    ensures row { IfOk result (λ given. given.row ≡ nothing universe.now) }
+    ensures row { IfOk result (λ given. given.row ≡ bottom universe.now) }
     ensures form { IfOk result (λ given. given.form ≡ form) }
 {
     let row = Row::empty(alloc, universe)?;
@@ -66,16 +69,6 @@ pub fn selector(
         row,
         form: selected(range),
     })
-}
-
-/// The type of a selector: a vector, and with a range a range vector.
-fn selected(range: &Option<Text>) -> ExprType
-    ensures { result ≡ selected range.now }
-{
-    match range {
-        None => ExprType::Vector,
-        Some(_) => ExprType::Range,
-    }
 }
 
 /// A subquery of this operand.
@@ -135,17 +128,6 @@ pub fn binary(
     Ok(Given { row, form })
 }
 
-/// The type of an operator between operands of these types: of two scalars a scalar, and else a vector.
-fn joined(left: ExprType, right: ExprType) -> ExprType
-    ensures { result ≡ joined left right }
-{
-    if is_scalar(left) && is_scalar(right) {
-        ExprType::Scalar
-    } else {
-        ExprType::Vector
-    }
-}
-
 /// Which argument is the operand of a function that always takes these: the first that has samples, or else the first further one.
 pub fn operand_place(takes: &[ExprType]) -> usize
     ensures { result ≡ position_or_len takes_samples takes.now }
@@ -180,7 +162,7 @@ pub fn finished(
 ) -> Result<Given, Memory>
     requires listing { IsListing universe.now }
     requires shape { HasShape universe.now operand }
-    ensures row { IfOk result (λ given. given.row ≡ effect_row universe.now function.now.labels grouping.now args.now operand) }
+    ensures row { IfOk result (λ given. given.row ≡ effect_row universe.now function.now.labels grouping.now (trees args.now) operand) }
     ensures form { IfOk result (λ given. given.form ≡ function.now.gives) }
 {
     let row = effect(alloc, universe, function.labels, grouping, args, operand)?;

@@ -2,13 +2,13 @@
 ghost use Rattle.std.specs.Prelude.{◌≡◌, ◌<◌, eqb, not, true, cond, length, map, drop, IfOk, OnOk};
 ghost use Rattle.std.specs.List.{list_all, list_any};
 ghost use Rattle.lf_semantics.specs.ClassRows.{HasShape};
-ghost use Rattle.lf_semantics.specs.Parts.{texts_of};
+ghost use Rattle.lf_ast.specs.Tree.{trees};
+ghost use Rattle.lf_ast.specs.Arguments.{texts_of};
 ghost use Rattle.lf_semantics.specs.RowTable.{is_join, joining_row, may_be_absent, may_be_present};
 ghost use Rattle.lf_semantics.specs.Strings.{joining, shows};
 ghost use Rattle.lf_flow.specs.ClassSets.{IsSet};
 
-use crate::strings::text_at;
-use lf_ast::Expr;
+use lf_ast::{Expr, text_at, text_of};
 use lf_base::Memory;
 use lf_classes::{Row, Universe};
 use std::alloc::Global;
@@ -21,7 +21,7 @@ pub fn join_labels(
     row: &mut Row,
 ) -> Result<(), Memory>
     requires shape { HasShape universe.now row.old }
-    ensures { OnOk result (row.new ≡ joining_row universe.now (joining (texts_of args.now)) row.old) }
+    ensures { OnOk result (row.new ≡ joining_row universe.now (joining (texts_of (trees args.now))) row.old) }
 {
     let label = universe.label_of(text_at(args, 1));
     let count = universe.classes(label);
@@ -31,6 +31,7 @@ pub fn join_labels(
 }
 
 /// The classes that the joined text may have.
+#[tactic(auto, using(crate::proofs::ArgumentTexts::texts_behind))]
 fn joined(
     alloc: Global,
     universe: &Universe,
@@ -39,7 +40,7 @@ fn joined(
     count: u32,
 ) -> Result<Vec<bool>, Memory>
     requires shape { HasShape universe.now row.now }
-    ensures { IfOk result (λ on. IsSet count (is_join universe.now (joining (texts_of args.now)) row.now) on.items) }
+    ensures { IfOk result (λ on. IsSet count (is_join universe.now (joining (texts_of (trees args.now))) row.now) on.items) }
 {
     let sources = sources(args);
     if shows(args) {
@@ -70,8 +71,9 @@ fn sources(args: &[Expr]) -> &[Expr]
 }
 
 /// Whether there is a separator between two sources.
+#[tactic(auto, using(crate::proofs::ArgumentTexts::length_texts))]
 fn shows(args: &[Expr]) -> bool
-    ensures { result ≡ shows (joining (texts_of args.now)) }
+    ensures { result ≡ shows (joining (texts_of (trees args.now))) }
 {
     text_at(args, 2) != "" && args.len() > 4
 }
@@ -79,10 +81,10 @@ fn shows(args: &[Expr]) -> bool
 /// Whether each source is always absent.
 fn are_absent(universe: &Universe, row: &Row, sources: &[Expr]) -> bool
     requires shape { HasShape universe.now row.now }
-    ensures { result ≡ list_all (λ source. not (may_be_present universe.now row.now source)) (texts_of sources.now) }
+    ensures { result ≡ list_all (λ source. not (may_be_present universe.now row.now source)) (texts_of (trees sources.now)) }
 {
-    for k in 0..sources.len() {
-        if may_be_present(universe, row, text_at(sources, k)) {
+    for source in sources {
+        if may_be_present(universe, row, text_of(source)) {
             return false;
         }
     }
@@ -92,10 +94,10 @@ fn are_absent(universe: &Universe, row: &Row, sources: &[Expr]) -> bool
 /// Whether one of the sources is never absent.
 fn is_one_present(universe: &Universe, row: &Row, sources: &[Expr]) -> bool
     requires shape { HasShape universe.now row.now }
-    ensures { result ≡ list_any (λ source. not (may_be_absent universe.now row.now source)) (texts_of sources.now) }
+    ensures { result ≡ list_any (λ source. not (may_be_absent universe.now row.now source)) (texts_of (trees sources.now)) }
 {
-    for k in 0..sources.len() {
-        if !may_be_absent(universe, row, text_at(sources, k)) {
+    for source in sources {
+        if !may_be_absent(universe, row, text_of(source)) {
             return true;
         }
     }

@@ -17,7 +17,6 @@ mod preparing;
 mod replacing;
 mod rows;
 mod selecting;
-mod strings;
 #[cfg(test)]
 mod tests;
 

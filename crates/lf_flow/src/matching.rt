@@ -1,6 +1,6 @@
 //! The row of an operator between two vectors.
 ghost use Rattle.std.specs.Prelude.{◌≡◌, ◌||◌, cond, length, map, not, false, slice_index_or, IfOk, OnOk};
-ghost use Rattle.lf_semantics.specs.ClassRows.{HasShape, holds, is_live, narrowed, nothing, only_empty, union};
+ghost use Rattle.lf_semantics.specs.ClassRows.{HasShape, holds, is_live, narrowed, bottom, only_empty, join};
 ghost use Rattle.lf_semantics.specs.RowTable.{combined_row, keeps_label, keeps_label_by, many_to_one_row, matched_row, nameless_if, paired_row, signs_label, taken_row};
 ghost use Rattle.lf_flow.specs.Chosen.{Chooses};
 
@@ -52,7 +52,7 @@ fn meet_sides(
 /// The row of `or`: of the samples of both sides.
 fn join_sides(mut left: Row, right: &Row) -> Result<Row, Memory>
     requires { map length left ≡ map length right.now }
-    ensures { IfOk result (λ row. row ≡ union left right.now) }
+    ensures { IfOk result (λ row. row ≡ join left right.now) }
 {
     left.join(right);
     Ok(left)
@@ -125,7 +125,7 @@ fn match_side(universe: &Universe, signature: &Labels, row: &mut Row, other: &Ro
     requires signature { length signature.now ≡ length universe.now.named }
     requires row { HasShape universe.now row.old }
     requires other { HasShape universe.now other.now }
-    ensures { row.new ≡ cond (is_live other.now) (narrowed (λ label class. not (slice_index_or signature.now label false) || holds other.now label class) row.old) (nothing universe.now) }
+    ensures { row.new ≡ cond (is_live other.now) (narrowed (λ label class. not (slice_index_or signature.now label false) || holds other.now label class) row.old) (bottom universe.now) }
 {
     if row.is_empty() || other.is_empty() {
         row.clear();

@@ -1,6 +1,5 @@
 //! The row of an operator.
 ghost use Rattle.std.specs.Prelude.{◌≡◌, IfOk};
-ghost use Rattle.lf_ast.specs.Types.{is_scalar};
 ghost use Rattle.lf_semantics.specs.ClassRows.{HasShape};
 ghost use Rattle.lf_semantics.specs.Grouped.{is_filter};
 ghost use Rattle.lf_semantics.specs.RowTable.{beside_scalar_row, binary_row};
@@ -8,7 +7,7 @@ ghost use Rattle.lf_semantics.specs.RowTable.{beside_scalar_row, binary_row};
 use crate::effects::{bare, nameless};
 use crate::matching::combine;
 use crate::operators::is_filter;
-use lf_ast::{ExprType, Matching, Op};
+use lf_ast::{Matching, Op};
 use lf_base::Memory;
 use lf_classes::{Row, Universe};
 use std::alloc::Global;
@@ -43,15 +42,5 @@ fn beside_scalar(universe: &Universe, op: Op, matching: &Matching, row: Row) -> 
         row
     } else {
         nameless(universe, row)
-    }
-}
-
-/// Whether the type is that of a scalar.
-pub fn is_scalar(of: ExprType) -> bool
-    ensures { result ≡ is_scalar of }
-{
-    match of {
-        ExprType::Scalar => true,
-        _ => false,
     }
 }

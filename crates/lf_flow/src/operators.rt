@@ -1,20 +1,8 @@
 //! What kind of operator one is.
 ghost use Rattle.std.specs.Prelude.{◌≡◌};
-ghost use Rattle.lf_ast.specs.Types.{is_comparison};
 ghost use Rattle.lf_semantics.specs.Grouped.{is_arithmetic, is_filter};
 
-use lf_ast::{Matching, Op};
-
-/// Whether the operator compares.
-pub fn is_comparison(op: Op) -> bool
-    ensures { result ≡ is_comparison op }
-{
-    match op {
-        Op::Equal | Op::NotEqual | Op::LessOrEqual | Op::Less | Op::GreaterOrEqual | Op::Greater =>
-            true,
-        _ => false,
-    }
-}
+use lf_ast::{Matching, Op, is_comparison};
 
 /// Whether the operator is arithmetic, `atan2` included.
 pub fn is_arithmetic(op: Op) -> bool

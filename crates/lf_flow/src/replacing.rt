@@ -4,14 +4,15 @@ ghost use Rattle.std.specs.List.{list_any};
 ghost use Rattle.lf_pattern.specs.Matching.{matches};
 ghost use Rattle.lf_semantics.specs.ClassRows.{HasShape, holds};
 ghost use Rattle.lf_semantics.specs.Listing.{label_of, named_at};
-ghost use Rattle.lf_semantics.specs.Parts.{texts_of};
+ghost use Rattle.lf_ast.specs.Tree.{trees};
+ghost use Rattle.lf_ast.specs.Arguments.{texts_of};
 ghost use Rattle.lf_semantics.specs.Passing.{is_plain};
 ghost use Rattle.lf_semantics.specs.RowTable.{has_class, is_expansion, is_other, may_fail, may_match, replacing_row, set_at, source_set};
-ghost use Rattle.lf_semantics.specs.Strings.{has_dollar, replacing};
+ghost use Rattle.lf_semantics.specs.Strings.{replacing};
 ghost use Rattle.lf_flow.specs.ClassSets.{IsSet};
 
-use crate::strings::text_at;
-use lf_ast::{Expr, is_label_name};
+use lf_ast::{Expr, has_dollar, text_at};
+use lf_base::names::is_label_name;
 use lf_base::{Memory, Text};
 use lf_classes::{Row, Universe};
 use lf_pattern::{Pattern, PatternError, plain_alternatives};
@@ -32,7 +33,7 @@ pub fn replace_label(
     row: &mut Row,
 ) -> Result<(), Memory>
     requires shape { HasShape universe.now row.old }
-    ensures { OnOk result (row.new ≡ replacing_row universe.now (replacing (texts_of args.now)) row.old) }
+    ensures { OnOk result (row.new ≡ replacing_row universe.now (replacing (texts_of (trees args.now))) row.old) }
 {
     let pattern = Text::of(alloc, text_at(args, 4))?;
     let outcomes = outcomes_of(alloc, universe, row, text_at(args, 3), &pattern)?;
@@ -65,13 +66,6 @@ fn replaced(
     Ok(on)
 }
 
-/// Whether a replacement has a `$`.
-fn has_dollar(replacement: &str) -> bool
-    ensures { result ≡ has_dollar replacement.now }
-{
-    replacement.as_bytes().iter().any(|b| *b == b'$')
-}
-
 /// What may come of a pattern at the texts that the source has in a row. A source that is no label name has only the empty text.
 fn outcomes_of(
     alloc: Global,
@@ -87,7 +81,7 @@ fn outcomes_of(
     let label = universe.label_of(source);
     let matched = matched(alloc, universe, label, pattern)?;
     let failed = failed(alloc, &matched)?;
-    if is_label_name(source) {
+    if is_label_name(source.as_bytes()) {
         let may_match = meets(universe, row, label, &matched);
         let may_fail = meets(universe, row, label, &failed);
         return Ok(Outcomes {

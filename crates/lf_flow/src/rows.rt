@@ -1,15 +1,16 @@
 //! The row of an expression.
-ghost use Rattle.std.specs.Prelude.{◌≡◌, List, Some, IfOk, map};
+ghost use Rattle.std.specs.Prelude.{◌≡◌, List, Some, IfOk};
 ghost use Rattle.std.specs.List.{Contains};
 ghost use Rattle.lf_ast.specs.Functions.{signature_of};
 ghost use Rattle.lf_ast.specs.Labels.{Labels};
-ghost use Rattle.lf_ast.specs.declared.expr.Expr.{Expr};
-ghost use Rattle.lf_semantics.specs.ClassRows.{Lies};
+ghost use Rattle.lf_ast.specs.Tree.{tree, trees};
+ghost use Rattle.lf_semantics.specs.ClassRows.{Represents};
 ghost use Rattle.lf_semantics.specs.Environments.{Admits, Covers, IsEnvironment};
-ghost use Rattle.lf_semantics.specs.Evaluation.{Wide};
+ghost use Rattle.lf_semantics.specs.Evaluation.{Evaluates};
+ghost use Rattle.lf_semantics.specs.Laws.{GrowsFrom};
 ghost use Rattle.lf_semantics.specs.Listing.{IsListing};
 ghost use Rattle.lf_semantics.specs.Parts.{type_by_form};
-ghost use Rattle.lf_semantics.specs.RowTable.{call_row, row_of};
+ghost use Rattle.lf_semantics.specs.RowTable.{call_row, row_at, row_of};
 
 use crate::Env;
 use crate::given::{
@@ -23,12 +24,13 @@ use std::alloc::Global;
 /// The row of an expression in an environment, by the table of constructs. A range vector has the row of its selector or subquery, a scalar that of the one sample
 /// without labels, and a string the empty row.
 ///
-/// Each sample that the expression may give lies in the row, over any scraped series and recorded samples that the environment admits, if the universe covers the
-/// expression.
+/// The row represents each sample that the expression may give, over any scraped series and recorded samples that the environment admits, if the universe covers the
+/// expression. It grows with the environment.
 pub fn flow(alloc: Global, universe: &Universe, env: &Env, expr: &Expr) -> Result<Row, Memory>
     requires env { IsEnvironment universe.now env.now }
-    ensures table { IfOk result (λ row. row ≡ row_of universe.now env.now expr.now) }
-    ensures sound { (S N R : List Labels) (s : Labels) → Covers universe.now expr.now → Admits universe.now env.now S N → Wide S N expr.now R → Contains R s → IfOk result (λ row. Lies universe.now row s) }
+    ensures table { IfOk result (λ row. row ≡ row_of universe.now env.now (tree expr.now)) }
+    ensures sound { (S N R : List Labels) (s : Labels) → Covers universe.now (tree expr.now) → Admits universe.now env.now S N → Evaluates S N (tree expr.now) R → Contains R s → IfOk result (λ row. Represents universe.now row s) }
+    ensures grows { IfOk result (GrowsFrom universe.now env.now (tree expr.now)) }
 {
     let _labels = universe.labels();
     let told = given(alloc, universe, env, expr)?;
@@ -40,8 +42,8 @@ pub fn flow(alloc: Global, universe: &Universe, env: &Env, expr: &Expr) -> Resul
 fn given(alloc: Global, universe: &Universe, env: &Env, expr: &Expr) -> Result<Given, Memory>
     requires listing { IsListing universe.now }
     requires env { IsEnvironment universe.now env.now }
-    ensures row { IfOk result (λ given. given.row ≡ row_of universe.now env.now expr.now) }
-    ensures form { IfOk result (λ given. given.form ≡ type_by_form expr.now) }
+    ensures row { IfOk result (λ given. given.row ≡ row_of universe.now env.now (tree expr.now)) }
+    ensures form { IfOk result (λ given. given.form ≡ type_by_form (tree expr.now)) }
 {
     match expr {
         Expr::Number { .. } => number(alloc, universe),
@@ -119,15 +121,17 @@ fn called(
 ) -> Result<Given, Memory>
     requires listing { IsListing universe.now }
     requires env { IsEnvironment universe.now env.now }
-    ensures row { IfOk result (λ given. given.row ≡ call_row universe.now (Some (signature_of function.now)) grouping.now (map (λ (e : Expr). (e, row_of universe.now env.now e)) args.now)) }
+    ensures row { IfOk result (λ given. given.row ≡ call_row universe.now (Some (signature_of function.now)) grouping.now (trees args.now) (row_at universe.now env.now (trees args.now))) }
     ensures form { IfOk result (λ given. given.form ≡ function.now.gives) }
 {
-    let place = operand_place(function.takes);
-    if place < args.len() {
-        let operand = given(alloc, universe, env, &args[place])?;
-        finished(alloc, universe, function, grouping, args, operand.row)
-    } else {
-        let operand = Row::empty(alloc, universe)?;
-        finished(alloc, universe, function, grouping, args, operand)
+    match args.get(operand_place(function.takes)) {
+        Some(arg) => {
+            let operand = given(alloc, universe, env, arg)?;
+            finished(alloc, universe, function, grouping, args, operand.row)
+        }
+        None => {
+            let operand = Row::empty(alloc, universe)?;
+            finished(alloc, universe, function, grouping, args, operand)
+        }
     }
 }

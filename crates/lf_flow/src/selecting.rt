@@ -1,20 +1,17 @@
 //! The row of a selector.
 ghost use Rattle.std.specs.Prelude.{◌≡◌, ◌<◌, ◌+◌, ◌&&◌, eqb, length, not, IfOk};
 ghost use Rattle.std.specs.List.{AllByRecursion, list_any};
-ghost use Rattle.std.specs.Option.{option_copied};
-ghost use Rattle.std.specs.Str.{bytes_eq};
 ghost use Rattle.lf_semantics.specs.ClassRows.{HasShape};
 ghost use Rattle.lf_semantics.specs.Environments.{IsEnvironment};
 ghost use Rattle.lf_semantics.specs.Listing.{IsListing, class_of, named_at};
-ghost use Rattle.lf_semantics.specs.Passing.{first_equal_name, is_equal, selected_name};
+ghost use Rattle.lf_ast.specs.Selectors.{selected_name};
 ghost use Rattle.lf_semantics.specs.RowTable.{row_named, row_or_series, scraped_row, seen_row, selector_row, series_row, with_recorded};
-ghost use Rattle.lf_semantics.specs.Texts.{metric};
 ghost use Rattle.lf_flow.specs.ClassSets.{IsSet};
 ghost use Rattle.lf_flow.specs.Raising.{joined_each};
 
 use crate::Env;
 use crate::narrowing::narrow;
-use lf_ast::{MatchOp, Matcher};
+use lf_ast::{Matcher, selected_name};
 use lf_base::{Memory, Text};
 use lf_classes::{Row, TextSet, Universe};
 use std::alloc::Global;
@@ -51,41 +48,9 @@ fn seen(
     requires env { IsEnvironment universe.now env.now }
     ensures { IfOk result (λ row. row ≡ seen_row universe.now env.now (selected_name name.now matchers.now)) }
 {
-    match selected(name, matchers) {
+    match selected_name(name, matchers) {
         Some(name) => named(alloc, universe, env, name.as_str()),
         None => nameless(alloc, universe, env),
-    }
-}
-
-/// The name before the braces, or that of the first `=` on the metric name.
-fn selected<'a>(name: &'a Option<Text>, matchers: &'a [Matcher]) -> Option<&'a Text>
-    ensures { option_copied result ≡ selected_name name.now matchers.now }
-{
-    match name {
-        Some(name) => Some(name),
-        None => first_equal(matchers),
-    }
-}
-
-/// The name of the first `=` on the metric name.
-fn first_equal(matchers: &[Matcher]) -> Option<&Text>
-    ensures { option_copied result ≡ first_equal_name matchers.now }
-{
-    for matcher in matchers {
-        if names_metric(matcher) {
-            return Some(&matcher.value);
-        }
-    }
-    None
-}
-
-/// Whether a matcher is a `=` on the metric name.
-fn names_metric(matcher: &Matcher) -> bool
-    ensures { result ≡ (is_equal matcher.now.op && bytes_eq matcher.now.label metric) }
-{
-    match matcher.op {
-        MatchOp::Equal => matcher.label.as_str() == "__name__",
-        _ => false,
     }
 }
 

@@ -7,7 +7,7 @@ use Rattle.lf_graph.specs.Paths.{Leads, after}
 use Rattle.lf_graph.specs.Search.{AreClosed, AreDue, AreOpen, AreParts, IsClosing, IsFollowed, IsMet, IsSearch, NoneDue, from_at, last_part, open_at, state_of, to_at, weight, work}
 use Rattle.lf_graph.specs.declared.search.Node.TheVariants.{Unmet, Open, Closed}
 use Rattle.lf_graph.specs.declared.search.Search.{Search}
-use Rattle.lf_graph.proofs.InList.{none_in}
+use Rattle.lf_laws.proofs.Members.{none_in}
 use Rattle.lf_graph.proofs.Lists.{before_last, fewer_rise, from_place, in_front, not_last, there, to_place, up_to_last}
 use Rattle.lf_graph.proofs.Nodes.{closed_met, come_same, open_closed, open_met, same_number, same_place, same_weight, states, unmet_closed, unmet_open}
 

@@ -8,7 +8,7 @@ use Rattle.std.specs.declared.cmp.Ordering.TheVariants.{Less, Equal, Greater}
 use Rattle.std.proofs.lemmas.Bool.{eqb-true}
 use Rattle.std.proofs.lemmas.Cmp.{ranked}
 use Rattle.std.proofs.lemmas.List.Folds.{list_any_at}
-use Rattle.lf_graph.proofs.InList.{behind, here}
+use Rattle.lf_laws.proofs.Members.{behind, here}
 
 abbrev compared : Bool → Bool → Ordering
 compared less same = cond less Less (cond same Equal Greater)

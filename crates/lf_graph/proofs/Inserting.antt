@@ -1,15 +1,16 @@
 -- Numbers that are added to an ordered set.
 use Rattle.std.proofs.Common.{◌≡◌, ℕ, ◌+◌, ◌<◌, ◌≤◌, ◌⊎◌, List, [], ◌∷◌, ◌++◌, take, length, get_or, inl, inr, refl, sym, ◌∙◌, ap, subst, arith}
 use Rattle.std.specs.BTreeSet.{insert_key}
-use Rattle.std.specs.List.{Contains}
+use Rattle.std.specs.List.{Contains, flat_map}
 use Rattle.std.specs.Ordering.{match_ordering, nat_cmp}
 use Rattle.std.specs.declared.cmp.Ordering.{Ordering}
 use Rattle.std.specs.declared.cmp.Ordering.TheVariants.{Equal, Greater, Less}
-use Rattle.std.proofs.lemmas.List.{take_more}
-use Rattle.std.proofs.lemmas.List.Elements.{Contains-append_left, Contains-push, Contains-push_cases}
+use Rattle.std.proofs.lemmas.Grind.{flat_map-append}
+use Rattle.std.proofs.lemmas.List.{append-nil, take_more}
+use Rattle.std.proofs.lemmas.List.Elements.{Contains-append_cases, Contains-append_left, Contains-append_right, Contains-push, Contains-push_cases}
 use Rattle.std.proofs.lemmas.Map.Lookups.{exact_unsigned}
 use Rattle.lf_graph.specs.Listing.{Adds, AddsBelow}
-use Rattle.lf_graph.proofs.InList.{behind, first_or_behind, here, none_in, only_one}
+use Rattle.lf_laws.proofs.Members.{behind, first_or_behind, here, none_in, only_one}
 
 insert_to : (xs : List ℕ) (x k : ℕ) → Contains (insert_key nat_cmp xs x) k → Contains xs k ⊎ (x ≡ k)
 insert_to [] x k c = inr (only_one x k c)
@@ -57,26 +58,46 @@ comes_in old new x k e same =
     let Q : ℕ → Type 0 = λ z. Contains (insert_key nat_cmp old x) z in
     subst P (sym e) (subst Q same (insert_new old x))
 
+-- one more number is added
+pub adds_one : (old new : List ℕ) (x : ℕ) → new ≡ insert_key nat_cmp old x → Adds (x ∷ []) old new
+adds_one old new x e k = (
+  λ c. elim (put_in old new x k e c) [ inl d ↦ inl d | inr f ↦ let P : ℕ → Type 0 = λ z. Contains (x ∷ []) z in inr (subst P f (here x [])) ],
+  λ c. elim c [ inl d ↦ stays_in old new x k e d | inr d ↦ comes_in old new x k e (only_one x k d) ],
+)
+
 pub adds_none : (xs : List ℕ) → Adds [] xs xs
 adds_none xs k = (λ c. inl c, λ h. elim h [ inl c ↦ c | inr d ↦ absurd (none_in k d) ])
 
--- one more number
-pub adds_one : (xs a b c : List ℕ) (x : ℕ) → Adds xs a b → c ≡ insert_key nat_cmp b x → Adds (xs ++ x ∷ []) a c
-adds_one xs a b c x g e k = (
-  λ d. elim (put_in b c x k e d) [
-    | inl f ↦ elim ((g k).0 f) [ inl h ↦ inl h | inr h ↦ inr (Contains-append_left xs (x ∷ []) k h) ]
-    | inr f ↦ let P : ℕ → Type 0 = λ z. Contains (xs ++ x ∷ []) z in inr (subst P f (Contains-push xs x))
+pub adds_then : (a b x y z : List ℕ) → Adds a x y → Adds b y z → Adds (a ++ b) x z
+adds_then a b x y z g h k = (
+  λ c. elim ((h k).0 c) [
+    | inl d ↦ elim ((g k).0 d) [ inl e ↦ inl e | inr e ↦ inr (Contains-append_left a b k e) ]
+    | inr d ↦ inr (Contains-append_right a b k d)
   ],
-  λ d. elim d [
-    | inl f ↦ stays_in b c x k e ((g k).1 (inl f))
-    | inr f ↦ elim (Contains-push_cases xs x k f) [ inl h ↦ stays_in b c x k e ((g k).1 (inr h)) | inr h ↦ comes_in b c x k e h ]
+  λ c. elim c [
+    | inl d ↦ (h k).1 (inl ((g k).1 (inl d)))
+    | inr d ↦ elim (Contains-append_cases a b k d) [ inl e ↦ (h k).1 (inl ((g k).1 (inr e))) | inr e ↦ (h k).1 (inr e) ]
   ],
 )
 
-pub adds_next : (numbers : List ℕ) (i x : ℕ) (a b c : List ℕ) → i < length numbers → get_or numbers i 0 ≡ x → Adds (take i numbers) a b → c ≡ insert_key nat_cmp b x → Adds (take (i + 1) numbers) a c
-adds_next numbers i x a b c h is g e =
+-- the numbers of one more element
+pub adds_more : {X : Type 0} (f : X → List ℕ) (xs : List X) (k : ℕ) (d x : X) (a b c : List ℕ) → k < length xs → x ≡ get_or xs k d → Adds (flat_map f (take k xs)) a b → Adds (f x) b c
+    → Adds (flat_map f (take (k + 1) xs)) a c
+adds_more f xs k d x a b c h is g s =
     let P : List ℕ → Type 0 = λ l. Adds l a c in
-    subst P (ap (λ (y : ℕ). take i numbers ++ y ∷ []) (sym is) ∙ sym (take_more numbers i 0 h)) (adds_one (take i numbers) a b c x g e)
+    let front : List ℕ = flat_map f (take k xs) in
+    let last : x ∷ [] ≡ get_or xs k d ∷ [] = ap (λ y. y ∷ []) is in
+    let more : front ++ f x ≡ flat_map f (take (k + 1) xs) =
+    ap (λ (l : List ℕ). front ++ l) (sym (append-nil (f x)))
+    ∙ sym (flat_map-append f (take k xs) (x ∷ []))
+    ∙ ap (λ l. flat_map f (take k xs ++ l)) last
+    ∙ ap (flat_map f) (sym (take_more xs k d h)) in
+    subst P more (adds_then front (f x) a b c g s)
+
+pub adds_next : (numbers : List ℕ) (k x : ℕ) (a b c : List ℕ) → k < length numbers → x ≡ get_or numbers k 0 → Adds (take k numbers) a b → Adds (x ∷ []) b c → Adds (take (k + 1) numbers) a c
+adds_next numbers k x a b c h is g s =
+    let P : List ℕ → Type 0 = λ l. Adds l a c in
+    subst P (ap (λ (y : ℕ). take k numbers ++ y ∷ []) is ∙ sym (take_more numbers k 0 h)) (adds_then (take k numbers) (x ∷ []) a b c g s)
 
 -- numbers below one
 

@@ -6,7 +6,7 @@ use Rattle.lf_graph.specs.Paths.{Leads}
 use Rattle.lf_graph.specs.Search.{AllLead, IsLater, IsSearch, Rise, open_at, state_of}
 use Rattle.lf_graph.specs.declared.search.Node.TheVariants.{Open, Closed}
 use Rattle.lf_graph.specs.declared.search.Search.{Search}
-use Rattle.lf_graph.proofs.InList.{only_one}
+use Rattle.lf_laws.proofs.Members.{only_one}
 use Rattle.lf_graph.proofs.Paths.{onwards}
 
 -- the node is closed already

@@ -1,7 +1,6 @@
 mod Closing
 mod Held
-mod InList
-mod Inserting
+pub mod Inserting
 mod Joining
 mod Leading
 mod Listed
@@ -10,6 +9,6 @@ mod Marks
 mod Meeting
 mod Nodes
 mod Numbered
-mod Paths
+pub mod Paths
 mod Reaching
 mod Taking

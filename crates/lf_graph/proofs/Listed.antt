@@ -1,5 +1,5 @@
 -- What one more node adds to the lists of components.
-use Rattle.std.proofs.Common.{◌≡◌, ℕ, ◌+◌, ◌<◌, ◌⊎◌, List, [], ◌∷◌, ◌++◌, length, get_or, set, replicate, inl, inr, refl, sym, ◌∙◌, ap, subst, arith}
+use Rattle.std.proofs.Common.{◌≡◌, ℕ, zero, suc, ◌+◌, ◌<◌, ◌⊎◌, List, [], ◌∷◌, ◌++◌, length, get_or, set, replicate, inl, inr, refl, sym, ◌∙◌, ap, subst, arith}
 use Rattle.std.specs.List.{Contains}
 use Rattle.std.proofs.lemmas.Bool.{cases_eq, cases_lt}
 use Rattle.std.proofs.lemmas.List.{get_or-set_other, get_or-set_same, length-replicate, length-set}
@@ -7,7 +7,13 @@ use Rattle.std.proofs.lemmas.List.Elements.{Contains-append_left, Contains-push,
 use Rattle.lf_graph.specs.Components.{AreComponents, AreNumbers, Components, number_of}
 use Rattle.lf_graph.specs.Listing.{Adds, AreMembers, AreNexts, IsMember, IsNext, numbers_of}
 use Rattle.lf_graph.specs.Paths.{IsGraph, after}
-use Rattle.lf_graph.proofs.InList.{in_map, map_member, none_in_empty}
+use Rattle.lf_laws.proofs.Members.{in_map, map_member, none_in}
+
+-- an empty bucket has no element, and where there is no bucket there is none
+none_in_empty : (n k u : ℕ) → Contains (get_or (replicate n []) k []) u → ⊥
+none_in_empty zero k u c = none_in u c
+none_in_empty (suc n) zero u c = none_in u c
+none_in_empty (suc n) (suc k) u c = none_in_empty n k u c
 
 pub no_members : (numbers : List ℕ) (count : ℕ) → AreMembers numbers 0 count (replicate count [])
 no_members numbers count = record {
@@ -72,7 +78,7 @@ next_to edges numbers n k l m = (m.0, m.1, omega (arith, m.2), m.3, m.4, m.5)
 next_by_last : (edges : List (List ℕ)) (numbers : List ℕ) (n l : ℕ) → Contains (numbers_of numbers (after edges n)) l → IsNext edges numbers (n + 1) (number_of numbers n) l
 next_by_last edges numbers n l c =
     let v = map_member (number_of numbers) (after edges n) l c in
-    (n, v.0, omega arith, refl, v.1, v.2)
+    (n, v.0, omega arith, refl, v.1, sym v.2)
 
 -- an edge leads from one of the nodes before a node, or from the last
 next_from : (edges : List (List ℕ)) (numbers : List ℕ) (n k l : ℕ) → IsNext edges numbers (n + 1) k l

@@ -10,7 +10,7 @@ use Rattle.lf_graph.specs.Search.{AllLead, AreClosed, AreDue, AreOpen, AreParts,
 use Rattle.lf_graph.specs.declared.search.Edge.{Edge}
 use Rattle.lf_graph.specs.declared.search.Node.TheVariants.{Unmet, Open, Closed}
 use Rattle.lf_graph.specs.declared.search.Search.{Search}
-use Rattle.lf_graph.proofs.InList.{only_one}
+use Rattle.lf_laws.proofs.Members.{only_one}
 use Rattle.lf_graph.proofs.Lists.{more_rise, place_of, there}
 use Rattle.lf_graph.proofs.Nodes.{come_less, open_closed, open_met, same_place, same_weight, unmet_closed, unmet_open}
 

@@ -8,7 +8,7 @@ use Rattle.lf_graph.specs.Paths.{IsGraph, after}
 use Rattle.lf_graph.specs.Search.{IsMet, IsSearch, number_in, state_of}
 use Rattle.lf_graph.specs.declared.search.Node.TheVariants.{Unmet, Closed}
 use Rattle.lf_graph.specs.declared.search.Search.{Search}
-use Rattle.lf_graph.proofs.InList.{none_in}
+use Rattle.lf_laws.proofs.Members.{none_in}
 use Rattle.lf_graph.proofs.Nodes.{states, unmet_not}
 
 module _ (edges : List (List ℕ)) (s : Search) (graph : IsGraph edges) (a : IsSearch edges s []) (parts : s.parts.items ≡ []) (met : (u : ℕ) → u < length edges → IsMet s u)

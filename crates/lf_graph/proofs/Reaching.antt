@@ -10,7 +10,7 @@ use Rattle.lf_graph.specs.Components.{AreComponents, Components, number_of}
 use Rattle.lf_graph.specs.Listing.{Adds, AddsBelow, numbers_of}
 use Rattle.lf_graph.specs.Paths.{IsReached, Leads}
 use Rattle.lf_graph.specs.Paths.Leads.{nowhere, along}
-use Rattle.lf_graph.proofs.InList.{behind, first_or_behind, in_map, map_member, none_in}
+use Rattle.lf_laws.proofs.Members.{behind, first_or_behind, in_map, map_member, none_in}
 use Rattle.lf_graph.proofs.Leading.{walk}
 use Rattle.lf_graph.proofs.Paths.{onwards}
 
@@ -79,7 +79,7 @@ module _ (edges : List (List ℕ)) (c : Components) (are : AreComponents edges c
   is_node u there = let h = within u there in omega (arith, h, are.numbered.nodes)
 
   from_start : (k : ℕ) → Contains due k → (u : ℕ) × Contains start u × (number c u ≡ k)
-  from_start k there = elim ((adds k).0 there) [ inl d ↦ absurd (none_in k d) | inr d ↦ map_member (number_of c.numbers) start k d ]
+  from_start k there = elim ((adds k).0 there) [ inl d ↦ absurd (none_in k d) | inr d ↦ let u = map_member (number_of c.numbers) start k d in (u.0, u.1, sym u.2) ]
 
   pub starts_within : (k : ℕ) → Contains due k → k < length c.members
   starts_within k there =

@@ -7,7 +7,7 @@ use Rattle.lf_graph.specs.Paths.{IsGraph, Leads, after}
 use Rattle.lf_graph.specs.Search.{AllLead, IsFollowed, IsSearch, TakesDue, from_at, open_at, to_at, work}
 use Rattle.lf_graph.specs.declared.search.Edge.{Edge}
 use Rattle.lf_graph.specs.declared.search.Search.{Search}
-use Rattle.lf_graph.proofs.InList.{none_in}
+use Rattle.lf_laws.proofs.Members.{none_in}
 use Rattle.lf_graph.proofs.Lists.{up_to_last}
 use Rattle.lf_graph.proofs.Paths.{by_edge}
 

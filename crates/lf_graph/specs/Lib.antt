@@ -1,3 +1,4 @@
+pub mod Buckets
 pub mod Components
 pub mod Listing
 pub mod Paths

@@ -5,6 +5,7 @@ ghost use Rattle.lf_graph.specs.Components.{AreComponents, AreNumbers, number_of
 ghost use Rattle.lf_graph.specs.Listing.{Adds, AddsBelow, AreMembers, AreNexts, numbers_of};
 ghost use Rattle.lf_graph.specs.Paths.{IsGraph, IsOnCircle, IsReached};
 
+use crate::buckets::Buckets;
 use crate::numbering::number_all;
 use lf_base::{Memory, Seq};
 use std::alloc::Global;
@@ -18,7 +19,7 @@ pub struct Components {
     /// The number of each node's component.
     numbers: Vec<usize>,
     /// The nodes of each component.
-    members: Vec<Seq<usize>>,
+    members: Buckets,
     /// The components to which an edge leads from a node of each, perhaps its own.
     nexts: Vec<BTreeSet<usize>>,
 }
@@ -29,7 +30,7 @@ impl Model for Components {
 
     ghost Value = { Components };
 
-    ghost view = { λ c. record { numbers = c.numbers.items; members = c.members.items; nexts = map (λ t. t.keys) c.nexts.items } };
+    ghost view = { λ c. record { numbers = c.numbers.items; members = c.members; nexts = map (λ t. t.keys) c.nexts.items } };
 }
 
 impl Components {
@@ -68,7 +69,7 @@ impl Components {
         let mut found = BTreeSet::new(alloc);
         let mut due = self.components_of(alloc, start)?;
         while let Some(number) = due.pop_last() {
-            add_all(&mut found, self.members[number].as_slice())?;
+            add_all(&mut found, self.members.at(number))?;
             add_below(&mut due, &self.nexts[number], number)?;
         }
         let found: Vec<usize> = found.into_iter().collect(alloc)?;
@@ -87,13 +88,13 @@ impl Components {
 }
 
 /// The nodes of each component.
-fn list_members(alloc: Global, numbers: &[usize], count: usize) -> Result<Vec<Seq<usize>>, Memory>
+fn list_members(alloc: Global, numbers: &[usize], count: usize) -> Result<Buckets, Memory>
     requires { (u : ℕ) → u < length numbers.now → number_of numbers.now u < count }
-    ensures { IfOk result (λ members. AreMembers numbers.now (length numbers.now) count members.items) }
+    ensures { IfOk result (λ members. AreMembers numbers.now (length numbers.now) count members) }
 {
-    let mut members = empty_lists(alloc, count)?;
+    let mut members = Buckets::empty(alloc, count)?;
     for (node, number) in numbers.iter().enumerate() {
-        push_at(&mut members, *number, node)?;
+        members.push(*number, node)?;
     }
     Ok(members)
 }
@@ -120,17 +121,6 @@ fn list_nexts(
     Ok(nexts)
 }
 
-/// Empty lists.
-fn empty_lists(alloc: Global, count: usize) -> Result<Vec<Seq<usize>>, Memory>
-    ensures { IfOk result (λ lists. lists.items ≡ replicate count []) }
-{
-    let mut lists = Vec::new(alloc);
-    for _k in 0..count {
-        lists.push(Seq::new(alloc))?;
-    }
-    Ok(lists)
-}
-
 /// Empty sets.
 fn empty_sets(alloc: Global, count: usize) -> Result<Vec<BTreeSet<usize>>, Memory>
     ensures { IfOk result (λ sets. map (λ t. t.keys) sets.items ≡ replicate count []) }
@@ -140,15 +130,6 @@ fn empty_sets(alloc: Global, count: usize) -> Result<Vec<BTreeSet<usize>>, Memor
         sets.push(BTreeSet::new(alloc))?;
     }
     Ok(sets)
-}
-
-/// Puts a number behind those of a place.
-fn push_at(lists: &mut Vec<Seq<usize>>, place: usize, number: usize) -> Result<(), Memory>
-    requires { place < length lists.old.items }
-    ensures { OnOk result (lists.new.items ≡ slice_set lists.old.items place (slice_index_or lists.old.items place [] ++ number ∷ [])) }
-{
-    let list = &mut lists[place];
-    list.push(number)
 }
 
 /// Adds the numbers of nodes.

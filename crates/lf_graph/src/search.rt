@@ -5,6 +5,7 @@ ghost use Rattle.lf_graph.specs.Paths.{IsGraph};
 ghost use Rattle.lf_graph.specs.Search.{AllLead, IsClosing, IsMet, IsSearch, NoneDue, Rise, TakesDue, edges_from, from_at, state_of, work};
 ghost use Rattle.lf_graph.specs.declared.search.Node.TheVariants.{Unmet};
 
+use crate::counting::one_more;
 use lf_base::{Memory, Seq};
 use std::alloc::Global;
 
@@ -266,14 +267,4 @@ fn put(nodes: &mut Vec<Node>, node: usize, known: Node)
     ensures { nodes.new.items ≡ slice_set nodes.old.items node known }
 {
     nodes[node] = known;
-}
-
-/// One more. A count that is too large for the memory is answered like want of it.
-fn one_more(count: usize) -> Result<usize, Memory>
-    ensures { IfOk result (λ more. more ≡ count + 1) }
-{
-    if count == usize::MAX {
-        return Err(Memory);
-    }
-    Ok(count + 1)
 }

@@ -1,5 +1,6 @@
 //! The rows of recorded names.
 ghost use Rattle.std.specs.Prelude.{◌≡◌, IfOk};
+ghost use Rattle.lf_ast.specs.Rules.{rule_trees};
 ghost use Rattle.lf_semantics.specs.Environments.{IsEnvironment};
 ghost use Rattle.lf_semantics.specs.Listing.{universe_of};
 
@@ -16,7 +17,7 @@ const NOWHERE: Span = Span { start: 0, end: 0 };
 
 /// The least environment over the universe of the rules.
 fn solved(alloc: Global, universe: &Universe, rules: &Seq<Rule>) -> Result<Env, Memory>
-    requires { universe.now ≡ universe_of rules.now }
+    requires { universe.now ≡ universe_of (rule_trees rules.now) }
     ensures { IfOk result (IsEnvironment universe.now) }
 {
     let env = solve(alloc, universe, rules)?;

@@ -1,6 +1,7 @@
 use Rattle.std.proofs.Common.{◌≡◌, drop}
-use Rattle.lf_classes.specs.Checking.{faulted, parts_fault}
+use Rattle.lf_ast.specs.Tree.{trees}
+use Rattle.lf_classes.specs.Checking.{arguments_fault}
 use Rattle.lf_classes.proofs.checking.+checked.Given as goal
 
-abbrev pub invariant-checked_parts-loop-k : goal.invariant-checked_parts-loop-k
-invariant-checked_parts-loop-k l = parts_fault l.fault (faulted (drop l.k l.parts)) ≡ parts_fault l.fn.own (faulted l.parts)
+abbrev pub invariant-checked_arguments-loop-k : goal.invariant-checked_arguments-loop-k
+invariant-checked_arguments-loop-k l = arguments_fault (trees (drop l.k l.args)) l.fault ≡ arguments_fault (trees l.args) l.fn.own

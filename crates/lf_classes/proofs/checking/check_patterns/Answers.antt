@@ -1,20 +1,22 @@
-use Rattle.std.proofs.Common.{◌≡◌, Some, sym, ◌∙◌}
-use Rattle.lf_classes.proofs.FaultsFound.{found_told, none_broken, tells_found}
+use Rattle.lf_base.proofs.Answering.{breach, found, only, refused, refused_in}
+use Rattle.lf_ast.specs.Tree.{tree}
+use Rattle.lf_semantics.specs.PatternBreaches.{TellsPattern}
+use Rattle.lf_semantics.proofs.PatternsInside.{pattern_within}
+use Rattle.lf_classes.specs.Checked.{HasNoBreach}
+use Rattle.lf_classes.specs.Checking.{patterns_checked}
+use Rattle.lf_classes.proofs.FaultsFound.{decides}
 use Rattle.lf_classes.proofs.checking.check_patterns.Goals as goal
 
-pub returns-in-None-clause-passed : goal.returns-in-None-clause-passed
-returns-in-None-clause-passed c = none_broken c.args.expr.now (sym c.in_ok-checked.ensures ∙ c.in-None.is)
-
-pub returns-in-None-clause-breach : goal.returns-in-None-clause-breach
-returns-in-None-clause-breach c = λ f tells. absurd (none_broken c.args.expr.now (sym c.in_ok-checked.ensures ∙ c.in-None.is) f tells.0)
-
-pub returns-in-Some-clause-only : goal.returns-in-Some-clause-only
-returns-in-Some-clause-only c = λ none. absurd (none c.in-Some.fault (tells_found c.args.expr.now c.in-Some.fault (sym c.in_ok-checked.ensures ∙ c.in-Some.is)).0)
-
-pub returns-in-Some-clause-refused : goal.returns-in-Some-clause-refused
-returns-in-Some-clause-refused c = tells_found c.args.expr.now c.in-Some.fault (sym c.in_ok-checked.ensures ∙ c.in-Some.is)
-
-pub returns-in-Some-clause-breach : goal.returns-in-Some-clause-breach
-returns-in-Some-clause-breach c = λ f tells.
-    let same : Some c.in-Some.fault ≡ Some f = sym c.in-Some.is ∙ c.in_ok-checked.ensures ∙ found_told c.args.expr.now f tells in
-    cc
+pub returns : goal.returns
+returns c =
+    let e = tree c.args.expr.now in
+    let r = c.check.result in
+    let given = c.check.ensures in
+    let told = refused (λ t. t) (HasNoBreach e) (TellsPattern e) (patterns_checked e) (decides e) r given in
+    record {
+      found = found (λ t. t) (HasNoBreach e) (TellsPattern e) (patterns_checked e) (decides e) r given;
+      only = only (λ t. t) (HasNoBreach e) (TellsPattern e) (patterns_checked e) (decides e) r given;
+      refused = told;
+      breach = breach (λ t. t) (HasNoBreach e) (TellsPattern e) (patterns_checked e) (decides e) r given;
+      inside = λ n inside. refused_in n (TellsPattern e) (λ f tells. pattern_within n e f inside tells.0) r told;
+    }

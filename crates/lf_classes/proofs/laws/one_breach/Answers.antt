@@ -1,12 +1,9 @@
-use Rattle.lf_semantics.proofs.PatternFaults.{tells_one}
-use Rattle.lf_classes.proofs.FaultsFound.{never_both, passes_or_tells}
+use Rattle.lf_base.proofs.Answering.{one_answer}
+use Rattle.lf_semantics.specs.PatternBreaches.{TellsPattern}
+use Rattle.lf_classes.specs.Checked.{HasNoBreach}
+use Rattle.lf_classes.specs.Checking.{patterns_checked}
+use Rattle.lf_classes.proofs.FaultsFound.{decides}
 use Rattle.lf_classes.proofs.laws.one_breach.Goals as goal
 
-pub returns-clause-breach : goal.returns-clause-breach
-returns-clause-breach c = tells_one
-
-pub returns-clause-one : goal.returns-clause-one
-returns-clause-one c = never_both
-
-pub returns-clause-some : goal.returns-clause-some
-returns-clause-some c = passes_or_tells
+pub returns : goal.returns
+returns c = λ e. one_answer (HasNoBreach e) (TellsPattern e) (patterns_checked e) (decides e)

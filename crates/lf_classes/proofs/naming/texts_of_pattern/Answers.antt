@@ -1,6 +1,6 @@
 use Rattle.std.proofs.Common.{sym, ap, ◌∙◌}
 use Rattle.lf_semantics.proofs.PatternTexts.{samples_are_only}
-use Rattle.lf_semantics.specs.Walk.{alternatives_or_samples}
+use Rattle.lf_semantics.specs.Mentions.{alternatives_or_samples}
 use Rattle.lf_classes.proofs.naming.texts_of_pattern.Goals as goal
 
 pub returns-in-Ok : goal.returns-in-Ok

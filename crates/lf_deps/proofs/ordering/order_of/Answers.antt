@@ -2,16 +2,17 @@ use Rattle.std.proofs.Common.{◌≡◌, ◌++◌, ℕ, false, Bool, List, [], �
 use Rattle.std.specs.List.{range_with_len}
 use Rattle.std.proofs.lemmas.List.{nil_from_length}
 use Rattle.std.proofs.lemmas.List.FromFn.{length-range_with_len}
-use Rattle.lf_ast.specs.declared.rule.Rule.{Rule}
+use Rattle.lf_ast.specs.Rules.{RuleTree, rule_trees}
 use Rattle.lf_deps.proofs.Ordered.{OrderGoesOn, all_left, fewer_left, goes_on, left_of, links_whole, one_left, order_ends, rules_size}
+use Rattle.lf_deps.proofs.RuleTrees.{trees_count}
 use Rattle.lf_deps.proofs.ordering.order_of.Goals as goal
 
 pub of-requires-2 : goal.of-requires-2
-of-requires-2 c = links_whole c.args.rules.now c.in_ok-links.links c.in_ok-links.ensures
+of-requires-2 c = links_whole (rule_trees c.args.rules.now) c.in_ok-links.links c.in_ok-links.ensures
 
 pub loop-place-init : goal.loop-place-init
 loop-place-init c =
-    let rules : List Rule = c.args.rules.now in
+    let rules : List RuleTree = rule_trees c.args.rules.now in
     let n : ℕ = length rules in
     let is = c.in_ok-links.ensures in
     let size : length c.in_ok-links.links.waited ≡ n = rules_size rules c.in_ok-links.links is in
@@ -28,16 +29,17 @@ loop-place-init c =
     }
 
 pub next-requires-clause-whole : goal.next-requires-clause-whole
-next-requires-clause-whole c = links_whole c.args.rules.now c.in_ok-links.links c.in_ok-links.ensures
+next-requires-clause-whole c = links_whole (rule_trees c.args.rules.now) c.in_ok-links.links c.in_ok-links.ensures
 
 pub next-requires-clause-some : goal.next-requires-clause-some
 next-requires-clause-some c =
     let inv = c.loop-place.invariant in
-    one_left c.args.rules.now c.in_ok-links.links c.in_ok-links.ensures c.loop-place.queue inv.ready (omega (arith, inv.count, c.loop-place-test.true, c.len-place-end.ensures))
+    let size = trees_count c.args.rules.now in
+    one_left (rule_trees c.args.rules.now) c.in_ok-links.links c.in_ok-links.ensures c.loop-place.queue inv.ready (omega (arith, inv.count, size, c.loop-place-test.true, c.len-place-end.ensures))
 
 pub loop-place-preserved : goal.loop-place-preserved
 loop-place-preserved c =
-    let rules : List Rule = c.args.rules.now in
+    let rules : List RuleTree = rule_trees c.args.rules.now in
     let inv = c.loop-place.invariant in
     let takes = c.in_ok-next.ensures in
     let on = goes_on rules c.in_ok-links.links c.in_ok-links.ensures c.loop-place.queue inv.ready c.in_ok-next.next c.next.new.self takes c.loop-place.order inv.goes_on in
@@ -51,9 +53,10 @@ loop-place-preserved c =
 
 pub returns : goal.returns
 returns c =
-    let rules : List Rule = c.args.rules.now in
+    let rules : List RuleTree = rule_trees c.args.rules.now in
     let inv = c.loop-place.invariant in
     let left : List ℕ = left_of c.loop-place.queue.taken.items (length rules) in
-    let none : left ≡ [] = nil_from_length left (omega (arith, inv.count, c.loop-place-test.false, c.len-place-end.ensures)) in
+    let size = trees_count c.args.rules.now in
+    let none : left ≡ [] = nil_from_length left (omega (arith, inv.count, size, c.loop-place-test.false, c.len-place-end.ensures)) in
     let P : List ℕ → Type 0 = λ l. OrderGoesOn rules (range_with_len 0 (length rules)) c.loop-place.order l in
     order_ends rules (range_with_len 0 (length rules)) c.loop-place.order (subst P none inv.goes_on)

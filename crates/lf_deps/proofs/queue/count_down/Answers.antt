@@ -1,6 +1,5 @@
-use Rattle.std.proofs.Common.{◌++◌, ◌-◌, [], ◌∷◌, List, ℕ, get_or, ◌∙◌, ap, sym, subst, arith}
+use Rattle.std.proofs.Common.{◌++◌, ◌-◌, [], ◌∷◌, List, ℕ, get_or, ◌∙◌, ap, sym, subst}
 use Rattle.std.specs.Prelude.{slice_set}
-use Rattle.std.proofs.lemmas.List.{get_or_read}
 use Rattle.lf_deps.specs.Queue.{CountsDown}
 use Rattle.lf_deps.proofs.Counting.{down_one}
 use Rattle.lf_deps.proofs.queue.count_down.Goals as goal
@@ -11,6 +10,5 @@ returns-in_ok-append c =
     let x : ℕ = c.args.source in
     let counts : List ℕ = c.args.counts.now in
     let due : List ℕ = c.args.due.now in
-    let at = get_or_read listed x c.index-listed-source.result (omega (arith, c.requires.within, c.requires.lists)) c.index-listed-source.is [] in
     let P : List ℕ → Type 0 = λ l. CountsDown listed (x ∷ []) counts (slice_set counts x (get_or counts x 0 - 1)) due l in
-    subst P (sym (c.in_ok-append.ensures ∙ ap (λ (l : List ℕ). due ++ l) (c.as_slice.ensures ∙ at))) (down_one listed counts due x c.requires.within c.requires.enough)
+    subst P (sym (c.in_ok-append.ensures ∙ ap (λ (l : List ℕ). due ++ l) c.at.ensures)) (down_one listed counts due x c.requires.within c.requires.enough)

@@ -1,12 +1,11 @@
 use Rattle.std.proofs.Common.{ℕ, List, [], get_or, inl, inr, refl, sym, subst}
 use Rattle.std.specs.List.{flat_map}
 use Rattle.std.proofs.lemmas.List.{take_all}
-use Rattle.lf_semantics.proofs.ListingLaws.{in_flat_map}
-use Rattle.lf_semantics.proofs.Members.{none_in}
-use Rattle.lf_deps.specs.Index.{Adds, makers_at}
+use Rattle.lf_laws.proofs.Members.{in_flat_map, none_in, of_flat_map}
+use Rattle.lf_graph.specs.Listing.{Adds}
+use Rattle.lf_deps.specs.Index.{makers_at}
 use Rattle.lf_deps.specs.Sources.{Sources}
-use Rattle.lf_deps.proofs.Added.{adds_more, adds_none}
-use Rattle.lf_deps.proofs.Followed.{from_flat_map}
+use Rattle.lf_graph.proofs.Inserting.{adds_more, adds_none}
 use Rattle.lf_deps.proofs.reaching.makers_at_all.Goals as goal
 
 pub loop-place-init : goal.loop-place-init
@@ -29,6 +28,6 @@ returns c k =
     let places : List ℕ = c.args.places.now in
     let P : List ℕ → Type 0 = λ l. Adds (flat_map (makers_at s) l) [] c.loop-place.found.keys in
     let all = subst P (take_all c.loop-place.place-index places c.loop-place-test.false) c.loop-place.invariant in (
-      λ h. elim ((all k).0 h) [ inl d ↦ absurd (none_in k d) | inr d ↦ from_flat_map (makers_at s) places k d ],
+      λ h. elim ((all k).0 h) [ inl d ↦ absurd (none_in k d) | inr d ↦ of_flat_map (makers_at s) places k d ],
       λ m. (all k).1 (inr (in_flat_map (makers_at s) places m.0 k m.1 m.2)),
     )

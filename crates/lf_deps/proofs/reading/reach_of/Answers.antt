@@ -1,7 +1,7 @@
 use Rattle.std.proofs.Common.{◌≡◌, ◌<◌, ◌↔◌, ℕ, List, Some, length, sym, ◌∙◌, ap, subst}
 use Rattle.std.specs.Prelude.{IfOk, Result, slice_get, Ok, Err}
 use Rattle.std.specs.List.{Contains}
-use Rattle.lf_ast.specs.declared.rule.Rule.{Rule}
+use Rattle.lf_ast.specs.Rules.{RuleTree}
 use Rattle.lf_graph.specs.Components.{Components}
 use Rattle.lf_graph.specs.Paths.{IsReached}
 use Rattle.lf_deps.specs.Index.{makers_at}
@@ -38,6 +38,6 @@ returns-clause-members c rules is of here k =
     let led : A start = subst A begun (c.in_ok-reached.ensures.members (edges_of s) (subst P (sym c.components.ensures) c.requires.graph)) in
     let B : List ℕ → Type 0 = λ l. (j : ℕ) → Contains numbers j ↔ ((u : ℕ) × Contains l u × Contains (makers_at s u) j) in
     let all : B met = subst B c.as_slice-2.ensures c.in_ok-numbers.ensures in
-    let Q : List ℕ → Type 0 = λ found. Contains found k ↔ ((r : Rule) × (slice_get rules k ≡ Some r) × Reaches rules of.expr r) in
+    let Q : List ℕ → Type 0 = λ found. Contains found k ↔ ((r : RuleTree) × (slice_get rules k ≡ Some r) × Reaches rules of.expr r) in
     let reached : Q numbers = (λ m. reached_to rules s is of.expr met led k ((all k).0 m), λ r. (all k).1 (reached_from rules s is of.expr met led k r)) in
     if_ok (λ found. found ≡ numbers) Q c.in_order.result (λ l e. subst Q (sym e) reached) c.in_order.ensures.members

@@ -1,5 +1,5 @@
 use Rattle.std.proofs.Common.{◌≡◌, drop}
-use Rattle.lf_semantics.specs.Passing.{first_equal_name}
+use Rattle.lf_ast.specs.Selectors.{first_equal_name}
 use Rattle.lf_deps.proofs.selecting.first_equal_name.Given as goal
 
 abbrev pub invariant-loop-matcher : goal.invariant-loop-matcher

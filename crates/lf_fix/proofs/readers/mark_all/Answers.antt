@@ -3,7 +3,7 @@ use Rattle.std.specs.List.{Contains}
 use Rattle.std.proofs.lemmas.Bool.{cases_lt}
 use Rattle.std.proofs.lemmas.List.{take_all, take_more}
 use Rattle.std.proofs.lemmas.List.Elements.{Contains-append_left, Contains-append_right}
-use Rattle.lf_semantics.proofs.Members.{here}
+use Rattle.lf_laws.proofs.Members.{here}
 use Rattle.lf_fix.proofs.readers.mark_all.Goals as goal
 
 number_at : (xs : List ℕ) (i k : ℕ) → i < length xs → get_or xs i k ≡ k → k ≡ get_or xs i 0

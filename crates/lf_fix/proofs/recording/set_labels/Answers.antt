@@ -4,7 +4,7 @@ use Rattle.lf_ast.specs.declared.rule.RuleLabel.{RuleLabel}
 use Rattle.lf_semantics.specs.ClassRows.{HasShape, Sets}
 use Rattle.lf_semantics.specs.Environments.{with_text, with_texts}
 use Rattle.lf_semantics.specs.Listing.{Listing}
-use Rattle.lf_semantics.proofs.RecordedLies.{shape_with_texts}
+use Rattle.lf_semantics.proofs.SamplesRepresented.{shape_with_texts}
 use Rattle.lf_fix.proofs.recording.set_labels.Goals as goal
 
 pub set_text-requires-clause-shape : goal.set_text-requires-clause-shape

@@ -1,6 +1,7 @@
 use Rattle.std.proofs.Common.{◌≡◌, ℕ, zero, suc, Bool, true, false, List, get_or, refl, ◌∙◌, subst}
 use Rattle.std.specs.Prelude.{replicate}
-use Rattle.lf_semantics.proofs.UnderLaws.{clash}
+use Rattle.lf_ast.specs.Rules.{rule_trees}
+use Rattle.lf_semantics.proofs.Members.{clash}
 use Rattle.lf_fix.proofs.Rounds.{rises_start}
 use Rattle.lf_fix.proofs.solving.solve.Goals as goal
 
@@ -16,4 +17,4 @@ rounds-requires-clause-hold c k r is free =
     absurd (clash (all_due c.len.result k) (subst P (c.deref_mut.ensures.value ∙ c.in_ok-due.ensures.items_if_clones_equal (λ y e. e)) free))
 
 pub rounds-requires-clause-rises : goal.rounds-requires-clause-rises
-rounds-requires-clause-rises c = rises_start c.args.universe.now c.labels-labels.ensures.within.listing c.args.rules.now c.in_ok-env.env c.requires c.in_ok-env.ensures
+rounds-requires-clause-rises c = rises_start c.args.universe.now c.labels-labels.ensures.within.listing (rule_trees c.args.rules.now) c.in_ok-env.env c.requires c.in_ok-env.ensures

@@ -6,7 +6,7 @@ use Rattle.std.proofs.lemmas.List.Sums.{count_by-le-length}
 use Rattle.lf_ast.specs.declared.expr.Matcher.{Matcher}
 use Rattle.lf_semantics.specs.ClassRows.{HasShape, kept}
 use Rattle.lf_semantics.specs.Listing.{class_of, label_of}
-use Rattle.lf_semantics.specs.Texts.{metric}
+use Rattle.lf_ast.specs.Selectors.{metric}
 use Rattle.lf_flow.specs.Absence.{AreCounts, is_class_sought, is_on_label}
 use Rattle.lf_flow.proofs.ClassSets.{row_length, set_length}
 use Rattle.lf_flow.proofs.MadeRows.{made, made_kept, made_same, shape_made}

@@ -2,7 +2,8 @@ use Rattle.std.proofs.Common.{ℕ, Bool, true, ◌||◌, eqb, not, map, length, 
 use Rattle.lf_semantics.specs.ClassRows.{HasShape, kept, replaced}
 use Rattle.lf_semantics.specs.Grouped.{may_be_lacked}
 use Rattle.lf_semantics.specs.Listing.{label_of}
-use Rattle.lf_semantics.specs.Parts.{text_at, texts_of}
+use Rattle.lf_ast.specs.Arguments.{text_at, texts_of}
+use Rattle.lf_ast.specs.Tree.{trees}
 use Rattle.lf_semantics.specs.RowTable.{is_label}
 use Rattle.lf_semantics.proofs.RowLaws.{shape_replaced}
 use Rattle.lf_flow.proofs.ClassSets.{row_length, set_length, shape_grouped}
@@ -34,7 +35,7 @@ keep-requires-clause-class c =
 pub returns : goal.returns
 returns c =
     let u = c.args.universe.now in
-    let x = text_at (texts_of c.args.args.now) 0 in
+    let x = text_at (texts_of (trees c.args.args.now)) 0 in
     let label = c.label_of-label.result in
     let row = c.group.new.row in
     let test : Bool → ℕ → ℕ → Bool = λ lacked l class. not (eqb class 0) || lacked in

@@ -1,8 +1,8 @@
 use Rattle.std.proofs.Common.{◌≡◌, ◌+◌, ℕ, Bool, cond, eqb, length, ◌||◌, sym, ◌∙◌, ap, arith}
 use Rattle.std.specs.Prelude.{codes}
-use Rattle.lf_semantics.specs.ClassRows.{nothing, only_empty}
+use Rattle.lf_semantics.specs.ClassRows.{bottom, only_empty}
 use Rattle.lf_semantics.specs.RowTable.{is_label, is_metric_label, nameless}
-use Rattle.lf_semantics.proofs.EffectLies.{shape_nameless}
+use Rattle.lf_semantics.proofs.EffectsRepresent.{shape_nameless}
 use Rattle.lf_semantics.proofs.RowLaws.{length_row}
 use Rattle.lf_flow.proofs.Layered.{replaced_twice}
 use Rattle.lf_flow.proofs.effects.quantile.Goals as goal
@@ -22,4 +22,4 @@ returns-then-may_be_present c =
     ∙ ap (only_empty (λ l. eqb c.label_of.result l)) c.nameless-row.ensures
     ∙ ap (λ label. only_empty (λ l. eqb label l) (nameless u row)) c.label_of.ensures.number
     ∙ replaced_twice (is_metric_label u) (is_label u (codes "le")) test row
-    ∙ ap (λ b. cond b (only_empty (λ label. is_metric_label u label || is_label u (codes "le") label) row) (nothing u)) (sym c.if-may_be_present.true ∙ c.may_be_present.ensures)
+    ∙ ap (λ b. cond b (only_empty (λ label. is_metric_label u label || is_label u (codes "le") label) row) (bottom u)) (sym c.if-may_be_present.true ∙ c.may_be_present.ensures)

@@ -1,6 +1,7 @@
 use Rattle.std.proofs.Common.{length, sym, ◌∙◌, ap}
 use Rattle.lf_semantics.specs.Listing.{label_of}
-use Rattle.lf_semantics.specs.Parts.{text_at, texts_of}
+use Rattle.lf_ast.specs.Arguments.{text_at, texts_of}
+use Rattle.lf_ast.specs.Tree.{trees}
 use Rattle.lf_semantics.specs.RowTable.{is_join}
 use Rattle.lf_semantics.specs.Strings.{joining}
 use Rattle.lf_flow.proofs.ClassSets.{set_length, set_named}
@@ -14,7 +15,7 @@ set_classes-requires-clause-classes c =
 pub returns : goal.returns
 returns c =
     let u = c.args.universe.now in
-    let texts = texts_of c.args.args.now in
+    let texts = texts_of (trees c.args.args.now) in
     let size = set_length u c.args.row.now c.requires.shape c.label_of-label.result c.label_of-label.ensures.within in
     let label = c.label_of-label.ensures.number ∙ ap (label_of u) c.text_at.ensures in
     c.set_classes.ensures

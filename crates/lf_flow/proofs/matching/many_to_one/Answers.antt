@@ -1,5 +1,5 @@
 use Rattle.std.proofs.Common.{◌≡◌, false, not, ◌||◌, cond, map, length, get_or, ◌∙◌, ap}
-use Rattle.lf_semantics.specs.ClassRows.{HasShape, Sets, holds, is_live, narrowed, nothing}
+use Rattle.lf_semantics.specs.ClassRows.{HasShape, Sets, holds, is_live, narrowed, bottom}
 use Rattle.lf_semantics.specs.Grouped.{is_arithmetic}
 use Rattle.lf_semantics.specs.RowTable.{matched_row, nameless_if, signs_label, taken_row}
 use Rattle.lf_flow.proofs.Sides.{shape_nameless_if, shape_side, shape_taken, side_met}
@@ -35,7 +35,7 @@ returns c =
     let u = c.args.universe.now in
     let m = c.args.matching.now in
     let set = c.in_ok-signature.signature in
-    let side : Sets → Sets → Sets = λ row other. cond (is_live other) (narrowed (λ l x. not (get_or set l false) || holds other l x) row) (nothing u) in
+    let side : Sets → Sets → Sets = λ row other. cond (is_live other) (narrowed (λ l x. not (get_or set l false) || holds other l x) row) (bottom u) in
     let many : c.match_side.new.row ≡ matched_row u m c.args.many c.args.one =
     c.match_side.ensures ∙ side_met u c.args.many c.requires.many (signs_label u m) set c.in_ok-signature.ensures c.args.one in
     let one : c.match_side-2.new.row ≡ matched_row u m c.args.one c.args.many =

@@ -1,6 +1,6 @@
 use Rattle.std.proofs.Common.{List, sym, ◌∙◌, subst}
 use Rattle.lf_ast.specs.declared.expr.Name.{Name}
-use Rattle.lf_semantics.specs.ClassRows.{holds, nothing}
+use Rattle.lf_semantics.specs.ClassRows.{holds, bottom}
 use Rattle.lf_semantics.specs.RowTable.{is_label_among}
 use Rattle.lf_flow.specs.Chosen.{Chooses}
 use Rattle.lf_flow.proofs.Sides.{chosen_taken, none_there, some_there}
@@ -15,4 +15,4 @@ returns-in_ok-taken c =
     let P : List Name → Type 0 = λ names. Chooses u (is_label_among u names) c.in_ok-taken.taken in
     c.take.ensures
     ∙ chosen_taken u c.args.row.now c.requires.row (is_label_among u c.args.names.now) _ (subst P c.as_slice.ensures c.in_ok-taken.ensures) (holds c.args.one.now)
-    ∙ some_there c.args.one.now _ (nothing u) (sym c.is_empty.ensures.empty ∙ c.if-is_empty.false)
+    ∙ some_there c.args.one.now _ (bottom u) (sym c.is_empty.ensures.empty ∙ c.if-is_empty.false)

@@ -2,7 +2,8 @@ use Rattle.std.proofs.Common.{◌+◌, ◌&&◌, ◌||◌, ℕ, Bool, length, sy
 use Rattle.lf_ast.specs.Labels.{Bytes}
 use Rattle.lf_semantics.specs.ClassRows.{holds, replaced}
 use Rattle.lf_semantics.specs.Listing.{label_of, named_at}
-use Rattle.lf_semantics.specs.Parts.{text_at, texts_of}
+use Rattle.lf_ast.specs.Arguments.{text_at, texts_of}
+use Rattle.lf_ast.specs.Tree.{trees}
 use Rattle.lf_semantics.specs.RowTable.{has_class, is_expansion, is_label, may_fail, may_match, source_set}
 use Rattle.lf_flow.proofs.ClassSets.{set_length, set_named}
 use Rattle.lf_flow.proofs.replacing.replace_label.Goals as goal
@@ -16,7 +17,7 @@ pub returns : goal.returns
 returns c =
     let u = c.args.universe.now in
     let row = c.args.row.now in
-    let texts = texts_of c.args.args.now in
+    let texts = texts_of (trees c.args.args.now) in
     let target = text_at texts 1 in
     let test : Bool → Bool → Bytes → ℕ → ℕ → Bool = λ m f r label class. (m && is_expansion u r label class) || (f && holds row label class) in
     let matching : Bytes → Bytes → Bool = λ p s. has_class u (may_match u p (label_of u s)) (source_set u row s) in

@@ -1,7 +1,9 @@
-use Rattle.std.proofs.Common.{◌≡◌, ◌+◌, ◌-◌, drop, sym, ◌∙◌, ap, subst, arith}
-use Rattle.lf_semantics.specs.ClassRows.{HasShape, Sets, union}
+use Rattle.std.proofs.Common.{◌≡◌, ◌+◌, ◌-◌, drop, get_or, sym, ◌∙◌, ap, subst, arith}
+use Rattle.std.proofs.lemmas.List.Elements.{Contains-get_or}
+use Rattle.lf_laws.proofs.Members.{each_member}
+use Rattle.lf_semantics.specs.ClassRows.{HasShape, Sets, join}
 use Rattle.lf_flow.specs.Raising.{joined_each}
-use Rattle.lf_flow.proofs.Selected.{all_at, joined_all, joined_more, joined_none, shape_joined}
+use Rattle.lf_flow.proofs.Selected.{joined_all, joined_more, joined_none, shape_joined}
 use Rattle.lf_flow.proofs.selecting.join_each.Goals as goal
 
 pub loop-left-init : goal.loop-left-init
@@ -14,7 +16,7 @@ join-requires c =
     let left = c.loop-left.left in
     let P : Sets → Type 0 = λ row. HasShape u row in
     subst P (sym c.loop-left.invariant.row) (shape_joined u rows left c.args.row.now c.requires.row c.requires.each)
-    ∙ sym (subst P (sym c.index-rows-left.is) (all_at (HasShape u) rows (left - 1) c.index-rows-left.result c.requires.each (omega (arith, c.loop-left.invariant.within, c.loop-left-test.true))))
+    ∙ sym (subst P (sym c.index-rows-left.is) (each_member (HasShape u) rows (get_or rows (left - 1) c.index-rows-left.result) c.requires.each (Contains-get_or rows (left - 1) c.index-rows-left.result (omega (arith, c.loop-left.invariant.within, c.loop-left-test.true)))))
 
 pub loop-left-preserved : goal.loop-left-preserved
 loop-left-preserved c =
@@ -27,9 +29,9 @@ loop-left-preserved c =
       within = omega (arith, c.loop-left.invariant.within);
       row =
           c.join.ensures
-          ∙ ap (λ x. union x row) c.loop-left.invariant.row
-          ∙ ap (λ m. union (joined_each (drop m rows) first) row) e
-          ∙ ap (union (joined_each (drop ((left - 1) + 1) rows) first)) c.index-rows-left.is
+          ∙ ap (λ x. join x row) c.loop-left.invariant.row
+          ∙ ap (λ m. join (joined_each (drop m rows) first) row) e
+          ∙ ap (join (joined_each (drop ((left - 1) + 1) rows) first)) c.index-rows-left.is
           ∙ sym (joined_more rows (left - 1) row first (omega (arith, c.loop-left.invariant.within, c.loop-left-test.true)));
     }
 

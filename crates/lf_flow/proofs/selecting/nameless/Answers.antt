@@ -2,7 +2,7 @@ use Rattle.std.proofs.Common.{List, sym, ◌∙◌, ap, subst}
 use Rattle.std.specs.List.{AllByRecursion}
 use Rattle.lf_semantics.specs.ClassRows.{HasShape, Sets}
 use Rattle.lf_semantics.specs.RowTable.{with_recorded}
-use Rattle.lf_semantics.proofs.SelectorLies.{shape_scraped}
+use Rattle.lf_semantics.proofs.SelectorsRepresent.{shape_scraped}
 use Rattle.lf_flow.specs.Raising.{joined_each}
 use Rattle.lf_flow.proofs.Selected.{each_joined, each_shape}
 use Rattle.lf_flow.proofs.selecting.nameless.Goals as goal

@@ -1,19 +1,19 @@
 use Rattle.std.proofs.Common.{sym, ◌∙◌, ap, subst, take}
 use Rattle.std.proofs.lemmas.List.{take_all}
 use Rattle.lf_semantics.specs.ClassRows.{HasShape, Sets, narrowed}
-use Rattle.lf_semantics.specs.Passing.{selected_name}
+use Rattle.lf_ast.specs.Selectors.{selected_name}
 use Rattle.lf_semantics.specs.RowTable.{passes_matchers}
 use Rattle.lf_semantics.proofs.RowLaws.{shape_narrowed}
-use Rattle.lf_semantics.proofs.SelectorLies.{shape_seen}
-use Rattle.lf_semantics.proofs.SettledRows.{IsSettled}
+use Rattle.lf_semantics.proofs.SelectorsRepresent.{shape_seen}
+use Rattle.lf_semantics.proofs.NormalizedRows.{IsNormalized}
 use Rattle.lf_flow.proofs.Narrowed.{narrowed_none}
-use Rattle.lf_flow.proofs.Selected.{matcher_more, settled_seen}
+use Rattle.lf_flow.proofs.Selected.{matcher_more, normalized_seen}
 use Rattle.lf_flow.proofs.selecting.select.Goals as goal
 
 pub loop-matcher-init : goal.loop-matcher-init
 loop-matcher-init c =
     let o = selected_name c.args.name.now c.args.matchers.now in
-    sym (narrowed_none c.in_ok-row.row (subst IsSettled (sym c.in_ok-row.ensures) (settled_seen c.args.universe.now c.labels-labels.ensures.within.listing c.args.env.now c.requires.env o)))
+    sym (narrowed_none c.in_ok-row.row (subst IsNormalized (sym c.in_ok-row.ensures) (normalized_seen c.args.universe.now c.labels-labels.ensures.within.listing c.args.env.now c.requires.env o)))
 
 pub narrow-requires-clause-shape : goal.narrow-requires-clause-shape
 narrow-requires-clause-shape c =

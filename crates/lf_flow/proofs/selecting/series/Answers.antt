@@ -1,8 +1,8 @@
 use Rattle.std.proofs.Common.{[], cond, eqb, length, get_or, ◌∙◌, ap, arith}
-use Rattle.lf_semantics.specs.ClassRows.{full, nothing, replaced, set_to}
+use Rattle.lf_semantics.specs.ClassRows.{top, bottom, replaced, set_to}
 use Rattle.lf_semantics.specs.Listing.{class_of}
 use Rattle.lf_semantics.specs.RowTable.{is_metric_label}
-use Rattle.lf_semantics.proofs.RowLaws.{shape_full}
+use Rattle.lf_semantics.proofs.RowLaws.{shape_top}
 use Rattle.lf_flow.proofs.ClassSets.{set_length}
 use Rattle.lf_flow.proofs.Selected.{series_is}
 use Rattle.lf_flow.proofs.selecting.series.Goals as goal
@@ -11,7 +11,7 @@ pub set_class-requires-clause-class : goal.set_class-requires-clause-class
 set_class-requires-clause-class c =
     let u = c.args.universe.now in
     let label = c.label_of-label.result in
-    omega (arith, c.class_of-class.ensures.within, ap (λ row. length (get_or row label [])) c.in_ok-row.ensures, set_length u (full u) (shape_full u) label c.label_of-label.ensures.within)
+    omega (arith, c.class_of-class.ensures.within, ap (λ row. length (get_or row label [])) c.in_ok-row.ensures, set_length u (top u) (shape_top u) label c.label_of-label.ensures.within)
 
 pub returns : goal.returns
 returns c =
@@ -21,4 +21,4 @@ returns c =
     c.set_class.ensures
     ∙ ap (set_to label c.class_of-class.result) c.in_ok-row.ensures
     ∙ series_is u name label c.class_of-class.result c.label_of-label.ensures.number c.class_of-class.ensures.number
-    ∙ ap (λ b. cond b (nothing u) (replaced (is_metric_label u) (λ l k. eqb k (class_of u l name)) (full u))) c.if-eq.ensures
+    ∙ ap (λ b. cond b (bottom u) (replaced (is_metric_label u) (λ l k. eqb k (class_of u l name)) (top u))) c.if-eq.ensures

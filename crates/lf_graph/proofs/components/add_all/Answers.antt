@@ -1,14 +1,14 @@
 use Rattle.std.proofs.Common.{ℕ, List, get_or, refl, subst}
 use Rattle.std.proofs.lemmas.List.{take_all}
 use Rattle.lf_graph.specs.Listing.{Adds}
-use Rattle.lf_graph.proofs.Inserting.{adds_next}
+use Rattle.lf_graph.proofs.Inserting.{adds_next, adds_one}
 use Rattle.lf_graph.proofs.components.add_all.Goals as goal
 
 pub loop-node-preserved : goal.loop-node-preserved
 loop-node-preserved c =
     let nodes : List ℕ = c.args.nodes.now in
     let i : ℕ = c.loop-node.node-index in
-    adds_next nodes i (get_or nodes i 0) c.args.found.now.keys c.loop-node.found.keys c.insert.new.self.keys c.loop-node-test.true refl c.loop-node.invariant c.in_ok-insert.ensures.keys
+    adds_next nodes i (get_or nodes i 0) c.args.found.now.keys c.loop-node.found.keys c.insert.new.self.keys c.loop-node-test.true refl c.loop-node.invariant (adds_one c.loop-node.found.keys c.insert.new.self.keys (get_or nodes i 0) c.in_ok-insert.ensures.keys)
 
 pub returns : goal.returns
 returns c =

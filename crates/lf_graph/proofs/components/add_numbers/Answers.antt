@@ -1,9 +1,9 @@
-use Rattle.std.proofs.Common.{◌<◌, ℕ, List, get_or, length, subst, arith, rules}
+use Rattle.std.proofs.Common.{◌<◌, ℕ, List, get_or, length, sym, subst, arith, rules}
 use Rattle.std.proofs.lemmas.List.{get_or-map, length-map, take_all}
 use Rattle.std.proofs.lemmas.List.Elements.{Contains-get_or}
 use Rattle.lf_graph.specs.Components.{number_of}
 use Rattle.lf_graph.specs.Listing.{Adds, numbers_of}
-use Rattle.lf_graph.proofs.Inserting.{adds_next}
+use Rattle.lf_graph.proofs.Inserting.{adds_next, adds_one}
 use Rattle.lf_graph.proofs.components.add_numbers.Goals as goal
 
 pub offset_bounds-numbers-node : goal.offset_bounds-numbers-node
@@ -26,7 +26,7 @@ loop-node-preserved c =
     let i : ℕ = c.loop-node.node-index in
     let n = length-map nodes (number_of numbers) in
     let is = get_or-map (number_of numbers) nodes i 0 0 c.loop-node-test.true in
-    adds_next (numbers_of numbers nodes) i (number_of numbers (get_or nodes i 0)) c.args.found.now.keys c.loop-node.found.keys c.insert.new.self.keys (omega (arith, n, c.loop-node-test.true)) is c.loop-node.invariant c.in_ok-insert.ensures.keys
+    adds_next (numbers_of numbers nodes) i (number_of numbers (get_or nodes i 0)) c.args.found.now.keys c.loop-node.found.keys c.insert.new.self.keys (omega (arith, n, c.loop-node-test.true)) (sym is) c.loop-node.invariant (adds_one c.loop-node.found.keys c.insert.new.self.keys (number_of numbers (get_or nodes i 0)) c.in_ok-insert.ensures.keys)
 
 pub returns : goal.returns
 returns c =

@@ -25,7 +25,7 @@ returns c =
     let fit : c.args.to ≤ b.len = omega (arith, ap length c.self.view_is, length_bits b.words.items b.len) in
     record {
       len = same_length b.words.items new b.len _ c.self.view_is;
-      inside = λ k l u. fill_seen b.words.items new b.len _ c.self.view_is k (omega arith) (c.fill_words.ensures.inside k l u);
+      inside = λ k l u. fill_seen b.words.items new b.len _ c.self.view_is c.args.on k (omega arith) (c.fill_words.ensures.inside k l u);
       below = λ k l. same_seen b.words.items new b.len _ c.self.view_is k (c.fill_words.ensures.below k l);
       above = λ k u. same_seen b.words.items new b.len _ c.self.view_is k (c.fill_words.ensures.above k u);
     }

@@ -1,6 +1,6 @@
 use Rattle.std.proofs.Common.{◌≡◌, [], ◌∷◌, inl, inr, sym, ap, ◌∙◌}
 use Rattle.std.proofs.lemmas.Result.{on_ok_weaker}
-use Rattle.lf_semantics.specs.Walk.{matcher_texts, met, pattern_texts}
+use Rattle.lf_semantics.specs.Mentions.{matcher_texts, mention, pattern_texts}
 use Rattle.lf_classes.specs.Meetings.{with_met}
 use Rattle.lf_classes.proofs.meetings.Meetings.meet_matcher.Goals as goal
 
@@ -9,8 +9,8 @@ returns-in-Equal c =
     let m = c.args.matcher.now in
     let texts : m.value ∷ [] ≡ matcher_texts m.op m.value = elim c.in-Equal.is [ inl e ↦ sym (ap (λ op. matcher_texts op m.value) e) | inr e ↦ sym (ap (λ op. matcher_texts op m.value) e) ] in
     on_ok_weaker c.meet_text.result
-    (λ e. e ∙ ap (λ label. with_met c.args.self.now (met label (c.as_str.result.now ∷ []))) c.as_str-label.ensures ∙ ap (λ text. with_met c.args.self.now (met m.label (text ∷ []))) c.as_str.ensures
-    ∙ ap (λ ts. with_met c.args.self.now (met m.label ts)) texts)
+    (λ e. e ∙ ap (λ label. with_met c.args.self.now (mention label (c.as_str.result.now ∷ []))) c.as_str-label.ensures ∙ ap (λ text. with_met c.args.self.now (mention m.label (text ∷ []))) c.as_str.ensures
+    ∙ ap (λ ts. with_met c.args.self.now (mention m.label ts)) texts)
     c.meet_text.ensures
 
 pub returns-in-Matches : goal.returns-in-Matches
@@ -18,5 +18,5 @@ returns-in-Matches c =
     let m = c.args.matcher.now in
     let texts : pattern_texts m.value ≡ matcher_texts m.op m.value = elim c.in-Matches.is [ inl e ↦ sym (ap (λ op. matcher_texts op m.value) e) | inr e ↦ sym (ap (λ op. matcher_texts op m.value) e) ] in
     on_ok_weaker c.meet_pattern.result
-    (λ e. e ∙ ap (λ label. with_met c.args.self.now (met label (pattern_texts m.value))) c.as_str-label.ensures ∙ ap (λ ts. with_met c.args.self.now (met m.label ts)) texts)
+    (λ e. e ∙ ap (λ label. with_met c.args.self.now (mention label (pattern_texts m.value))) c.as_str-label.ensures ∙ ap (λ ts. with_met c.args.self.now (mention m.label ts)) texts)
     c.meet_pattern.ensures

@@ -1,19 +1,20 @@
 use Rattle.std.proofs.Common.{◌≡◌, ap, ◌∙◌}
 use Rattle.std.proofs.lemmas.Result.{on_ok_weaker}
-use Rattle.lf_semantics.specs.Walk.{met, replacement_texts, source_met}
-use Rattle.lf_semantics.specs.Parts.{text_at, texts_of}
+use Rattle.lf_semantics.specs.Mentions.{mention, replacement_texts, source_mentions}
+use Rattle.lf_ast.specs.Arguments.{text_at, texts_of}
+use Rattle.lf_ast.specs.Tree.{trees}
 use Rattle.lf_classes.specs.Meetings.{met_all, with_met}
 use Rattle.lf_classes.proofs.meetings.Meetings.meet_replacing.Goals as goal
 
 pub returns : goal.returns
 returns c =
-    let texts = texts_of c.args.args.now in
+    let texts = texts_of (trees c.args.args.now) in
     let self = c.args.self.now in
-    let target : c.meet_target.new.self ≡ with_met self (met (text_at texts 1) (replacement_texts (text_at texts 2))) =
-    c.in_ok-meet_target.ensures ∙ ap (λ label. with_met self (met label (replacement_texts c.text_at-2.result.now))) c.text_at.ensures
-    ∙ ap (λ text. with_met self (met (text_at texts 1) (replacement_texts text))) c.text_at-2.ensures in
+    let target : c.meet_target.new.self ≡ with_met self (mention (text_at texts 1) (replacement_texts (text_at texts 2))) =
+    c.in_ok-meet_target.ensures ∙ ap (λ label. with_met self (mention label (replacement_texts c.text_at-2.result.now))) c.text_at.ensures
+    ∙ ap (λ text. with_met self (mention (text_at texts 1) (replacement_texts text))) c.text_at-2.ensures in
     on_ok_weaker c.meet_source.result
-    (λ e. e ∙ ap (λ seen. met_all seen (source_met c.text_at-3.result.now c.text_at-4.result.now)) target
-    ∙ ap (λ source. met_all (with_met self (met (text_at texts 1) (replacement_texts (text_at texts 2)))) (source_met source c.text_at-4.result.now)) c.text_at-3.ensures
-    ∙ ap (λ pattern. met_all (with_met self (met (text_at texts 1) (replacement_texts (text_at texts 2)))) (source_met (text_at texts 3) pattern)) c.text_at-4.ensures)
+    (λ e. e ∙ ap (λ seen. met_all seen (source_mentions c.text_at-3.result.now c.text_at-4.result.now)) target
+    ∙ ap (λ source. met_all (with_met self (mention (text_at texts 1) (replacement_texts (text_at texts 2)))) (source_mentions source c.text_at-4.result.now)) c.text_at-3.ensures
+    ∙ ap (λ pattern. met_all (with_met self (mention (text_at texts 1) (replacement_texts (text_at texts 2)))) (source_mentions (text_at texts 3) pattern)) c.text_at-4.ensures)
     c.meet_source.ensures

@@ -1,11 +1,9 @@
-use Rattle.std.proofs.Common.{◌≡◌, Bool, true, false, not, refl, sym, ◌∙◌, ap}
+use Rattle.std.proofs.Common.{◌≡◌, true, false, not, refl, sym, ◌∙◌, ap}
 use Rattle.lf_classes.proofs.Changes.{joined_empty, live_view, same_counts, same_total}
 use Rattle.lf_classes.proofs.Covered.{union_same}
 use Rattle.lf_classes.proofs.LabelChanges.{not_under, under_bits}
 use Rattle.lf_classes.proofs.row.Row.covers.Goals as goal
-
-clash : (b : Bool) → b ≡ true → b ≡ false → ⊥
-clash b e f = let q : true ≡ false = sym e ∙ f in cc
+use Rattle.lf_laws.proofs.Booleans.{clash}
 
 pub lies_in-requires : goal.lies_in-requires
 lies_in-requires c =

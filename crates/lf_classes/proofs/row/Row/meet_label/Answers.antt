@@ -11,8 +11,8 @@ start-from-requires c = let r = c.self.inside in label_within r.live r.shape r.b
 pub end-to-requires : goal.end-to-requires
 end-to-requires c = let r = c.self.inside in label_within r.live r.shape r.bits _ c.self.view_is c.self.invariant.total c.args.label c.requires.label
 
-pub meet_range-requires-clause-same : goal.meet_range-requires-clause-same
-meet_range-requires-clause-same c =
+pub change-requires-clause-same : goal.change-requires-clause-same
+change-requires-clause-same c =
     let r = c.self.inside in
     let o = c.other.inside in
     same_total r.live o.live r.shape o.shape r.bits o.bits _ _ c.self.view_is c.other.view_is c.self.invariant.total c.other.invariant.total c.requires.shape
@@ -25,11 +25,11 @@ invariant_of-self c =
     let r = c.self.inside in
     let o = c.other.inside in
     let now = met_label r.live o.live r.shape o.shape r.bits o.bits _ _ c.self.view_is c.other.view_is c.self.invariant.total c.other.invariant.total c.requires.shape c.args.label c.start-from.result c.end-to.result c.requires.label c.start-from.ensures c.end-to.ensures c.if-self.true
-    c.if-other.true c.has_class-self-inside.result c.meet_range.new.self (c.self.invariant.known c.if-self.true) c.meet_range.ensures.len c.meet_range.ensures.below c.meet_range.ensures.above
-    c.meet_range.ensures.inside c.has_class-self-inside.ensures.some c.has_class-self-inside.ensures.none in
+    c.if-other.true c.has_class-self-inside.result c.change.new.self (c.self.invariant.known c.if-self.true) c.change.ensures.len c.change.ensures.below c.change.ensures.above
+    c.change.ensures.inside c.has_class-self-inside.ensures.some c.has_class-self-inside.ensures.none in
     record {
       some = c.self.invariant.some;
-      total = c.meet_range.ensures.len ∙ c.self.invariant.total;
+      total = c.change.ensures.len ∙ c.self.invariant.total;
       known = λ e. now.0 ∙ e;
       small = c.self.invariant.small;
     }
@@ -39,8 +39,8 @@ returns-then-other c =
     let r = c.self.inside in
     let o = c.other.inside in
     let now = met_label r.live o.live r.shape o.shape r.bits o.bits _ _ c.self.view_is c.other.view_is c.self.invariant.total c.other.invariant.total c.requires.shape c.args.label c.start-from.result c.end-to.result c.requires.label c.start-from.ensures c.end-to.ensures c.if-self.true
-    c.if-other.true c.has_class-self-inside.result c.meet_range.new.self (c.self.invariant.known c.if-self.true) c.meet_range.ensures.len c.meet_range.ensures.below c.meet_range.ensures.above
-    c.meet_range.ensures.inside c.has_class-self-inside.ensures.some c.has_class-self-inside.ensures.none in
+    c.if-other.true c.has_class-self-inside.result c.change.new.self (c.self.invariant.known c.if-self.true) c.change.ensures.len c.change.ensures.below c.change.ensures.above
+    c.change.ensures.inside c.has_class-self-inside.ensures.some c.has_class-self-inside.ensures.none in
     now.1
 
 pub returns-else-other : goal.returns-else-other

@@ -11,8 +11,8 @@ start-from-requires c = let r = c.self.inside in label_within r.live r.shape r.b
 pub end-to-requires : goal.end-to-requires
 end-to-requires c = let r = c.self.inside in label_within r.live r.shape r.bits _ c.self.view_is c.self.invariant.total c.args.label c.requires.label
 
-pub clear-requires : goal.clear-requires
-clear-requires c =
+pub fill-requires : goal.fill-requires
+fill-requires c =
     let r = c.self.inside in
     let l = label_within r.live r.shape r.bits _ c.self.view_is c.self.invariant.total c.args.label c.requires.label in
     omega (arith, c.end-to.ensures, start_within r.shape c.args.label l, c.self.invariant.total)
@@ -20,17 +20,17 @@ clear-requires c =
 pub set-requires : goal.set-requires
 set-requires c =
     let r = c.self.inside in
-    omega (arith, c.clear.ensures.len, c.start-from.ensures, place_within r.live r.shape r.bits _ c.self.view_is c.self.invariant.total c.args.label c.args.class c.requires.label c.requires.class)
+    omega (arith, c.fill.ensures.len, c.start-from.ensures, place_within r.live r.shape r.bits _ c.self.view_is c.self.invariant.total c.args.label c.args.class c.requires.label c.requires.class)
 
 pub invariant_of-self : goal.invariant_of-self
 invariant_of-self c =
     let r = c.self.inside in
-    let now = set_row r.live r.shape r.bits c.clear.new.self c.set.new.self _ c.args.label c.args.class c.start-from.result c.end-to.result
+    let now = set_row r.live r.shape r.bits c.fill.new.self c.set.new.self _ c.args.label c.args.class c.start-from.result c.end-to.result
     c.self.view_is c.self.invariant.total c.if-self.true (c.self.invariant.known c.if-self.true) c.requires.label c.requires.class c.start-from.ensures c.end-to.ensures
-    c.clear.ensures.len c.clear.ensures.inside c.clear.ensures.below c.clear.ensures.above c.set.ensures in
+    c.fill.ensures.len c.fill.ensures.inside c.fill.ensures.below c.fill.ensures.above c.set.ensures in
     record {
       some = c.self.invariant.some;
-      total = ap length c.set.ensures ∙ length-set c.clear.new.self (c.start-from.result + c.args.class) true ∙ c.clear.ensures.len ∙ c.self.invariant.total;
+      total = ap length c.set.ensures ∙ length-set c.fill.new.self (c.start-from.result + c.args.class) true ∙ c.fill.ensures.len ∙ c.self.invariant.total;
       known = λ e. now.0;
       small = c.self.invariant.small;
     }
@@ -38,9 +38,9 @@ invariant_of-self c =
 pub returns-then-self : goal.returns-then-self
 returns-then-self c =
     let r = c.self.inside in
-    let now = set_row r.live r.shape r.bits c.clear.new.self c.set.new.self _ c.args.label c.args.class c.start-from.result c.end-to.result
+    let now = set_row r.live r.shape r.bits c.fill.new.self c.set.new.self _ c.args.label c.args.class c.start-from.result c.end-to.result
     c.self.view_is c.self.invariant.total c.if-self.true (c.self.invariant.known c.if-self.true) c.requires.label c.requires.class c.start-from.ensures c.end-to.ensures
-    c.clear.ensures.len c.clear.ensures.inside c.clear.ensures.below c.clear.ensures.above c.set.ensures in
+    c.fill.ensures.len c.fill.ensures.inside c.fill.ensures.below c.fill.ensures.above c.set.ensures in
     ap (λ b. shown b (cut r.shape c.set.new.self)) c.if-self.true ∙ now.1
 
 pub returns-else-self : goal.returns-else-self

@@ -11,8 +11,8 @@ start-from-requires c = let r = c.self.inside in label_within r.live r.shape r.b
 pub end-to-requires : goal.end-to-requires
 end-to-requires c = let r = c.self.inside in label_within r.live r.shape r.bits _ c.self.view_is c.self.invariant.total c.args.label c.requires.label
 
-pub take_range-requires-clause-same : goal.take_range-requires-clause-same
-take_range-requires-clause-same c =
+pub change-requires-clause-same : goal.change-requires-clause-same
+change-requires-clause-same c =
     let r = c.self.inside in
     let o = c.other.inside in
     same_total r.live o.live r.shape o.shape r.bits o.bits _ _ c.self.view_is c.other.view_is c.self.invariant.total c.other.invariant.total c.requires.shape
@@ -22,11 +22,11 @@ invariant_of-self c =
     let r = c.self.inside in
     let o = c.other.inside in
     let now = taken_label r.live o.live r.shape o.shape r.bits o.bits _ _ c.self.view_is c.other.view_is c.self.invariant.total c.other.invariant.total c.requires.shape c.args.label c.start-from.result c.end-to.result c.requires.label c.start-from.ensures c.end-to.ensures c.if-self.true
-    c.if-other.true r.live c.take_range.new.self (c.self.invariant.known c.if-self.true) c.take_range.ensures.len c.take_range.ensures.below c.take_range.ensures.above
-    (c.other.invariant.known c.if-other.true) c.if-self.true c.take_range.ensures.inside in
+    c.if-other.true r.live c.change.new.self (c.self.invariant.known c.if-self.true) c.change.ensures.len c.change.ensures.below c.change.ensures.above
+    (c.other.invariant.known c.if-other.true) c.if-self.true c.change.ensures.inside in
     record {
       some = c.self.invariant.some;
-      total = c.take_range.ensures.len ∙ c.self.invariant.total;
+      total = c.change.ensures.len ∙ c.self.invariant.total;
       known = λ e. now.0 ∙ e;
       small = c.self.invariant.small;
     }
@@ -36,8 +36,8 @@ returns-then-other c =
     let r = c.self.inside in
     let o = c.other.inside in
     let now = taken_label r.live o.live r.shape o.shape r.bits o.bits _ _ c.self.view_is c.other.view_is c.self.invariant.total c.other.invariant.total c.requires.shape c.args.label c.start-from.result c.end-to.result c.requires.label c.start-from.ensures c.end-to.ensures c.if-self.true
-    c.if-other.true r.live c.take_range.new.self (c.self.invariant.known c.if-self.true) c.take_range.ensures.len c.take_range.ensures.below c.take_range.ensures.above
-    (c.other.invariant.known c.if-other.true) c.if-self.true c.take_range.ensures.inside in
+    c.if-other.true r.live c.change.new.self (c.self.invariant.known c.if-self.true) c.change.ensures.len c.change.ensures.below c.change.ensures.above
+    (c.other.invariant.known c.if-other.true) c.if-self.true c.change.ensures.inside in
     now.1
 
 pub returns-else-other : goal.returns-else-other

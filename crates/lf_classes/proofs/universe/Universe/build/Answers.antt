@@ -1,9 +1,10 @@
 use Rattle.std.proofs.Common.{◌≡◌, List, sym, ap, ◌∙◌, subst}
 use Rattle.std.specs.Prelude.{IfOk}
 use Rattle.std.proofs.lemmas.Result.{err_from_is_err_and}
+use Rattle.lf_ast.specs.Rules.{rule_trees}
 use Rattle.lf_ast.specs.declared.rule.Rule.{Rule}
 use Rattle.lf_semantics.specs.Listing.{IsListing, Listing, universe_of}
-use Rattle.lf_semantics.specs.Walk.{rules_walk}
+use Rattle.lf_semantics.specs.Mentions.{rules_mentions}
 use Rattle.lf_semantics.proofs.ListingLaws.{universe_is_listing}
 use Rattle.lf_classes.specs.Limits.{Exceeds}
 use Rattle.lf_classes.specs.Meetings.{met_all, nothing_met, with_star}
@@ -11,9 +12,9 @@ use Rattle.lf_classes.proofs.Listed.{met_listing}
 use Rattle.lf_classes.proofs.universe.Universe.build.Goals as goal
 
 -- what was met from nothing on is the universe
-is_universe : (rules seen : List Rule) (start met : Listing) → start ≡ nothing_met → seen ≡ rules → met ≡ met_all start (rules_walk seen) → with_star met ≡ universe_of rules
+is_universe : (rules seen : List Rule) (start met : Listing) → start ≡ nothing_met → seen ≡ rules → met ≡ met_all start (rules_mentions (rule_trees seen)) → with_star met ≡ universe_of (rule_trees rules)
 is_universe rules seen start met none same all =
-    ap with_star (all ∙ ap (λ s. met_all s (rules_walk seen)) none ∙ ap (λ rs. met_all nothing_met (rules_walk rs)) same) ∙ met_listing (rules_walk rules)
+    ap with_star (all ∙ ap (λ s. met_all s (rules_mentions (rule_trees seen))) none ∙ ap (λ rs. met_all nothing_met (rules_mentions (rule_trees rs))) same) ∙ met_listing (rules_mentions (rule_trees rules))
 
 pub returns-in_err-check_limits-clause-refused : goal.returns-in_err-check_limits-clause-refused
 returns-in_err-check_limits-clause-refused c =
@@ -25,7 +26,7 @@ pub of-requires : goal.of-requires
 of-requires c =
     let same = is_universe c.args.rules.now c.as_slice.result.now c.in_ok-meetings.meetings c.meet_rules.new.self c.in_ok-meetings.ensures c.as_slice.ensures c.in_ok-meet_rules.ensures in
     record {
-      listing = subst IsListing (sym same) (universe_is_listing c.args.rules.now);
+      listing = subst IsListing (sym same) (universe_is_listing (rule_trees c.args.rules.now));
       labels = c.in_ok-check_limits.ensures.labels;
       classes = c.in_ok-check_limits.ensures.classes;
     }

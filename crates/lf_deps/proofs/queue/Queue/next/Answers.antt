@@ -14,7 +14,7 @@ pub count_down_all-requires-clause-within : goal.count_down_all-requires-clause-
 count_down_all-requires-clause-within c s there =
     let within = left_within c.args.self.now.taken.items c.choose-rule.result c.choose-rule.ensures.left in
     let recorded =
-    read_at c.args.links.now.recorded c.choose-rule.result c.get.result.now c.as_slice-2.result.now (omega (arith, within, c.requires.ready.queue.sizes.taken, c.requires.whole.rules)) c.get.ensures.read c.as_slice-2.ensures in
+    read_at c.args.links.now.recorded c.choose-rule.result c.get.result.now c.as_slice.result.now (omega (arith, within, c.requires.ready.queue.sizes.taken, c.requires.whole.rules)) c.get.ensures.read c.as_slice.ensures in
     let P : List ℕ → Type 0 = λ l. Contains l s in
     let b = c.requires.whole.recorded c.choose-rule.result s (subst P recorded there) in
     let size = ap length (c.deref_mut.ensures.value ∙ ap (λ (z : Queue). z.counts.items) c.choose-rule.ensures.same) in
@@ -24,7 +24,7 @@ pub count_down_all-requires-clause-enough : goal.count_down_all-requires-clause-
 count_down_all-requires-clause-enough c s =
     let within = left_within c.args.self.now.taken.items c.choose-rule.result c.choose-rule.ensures.left in
     let recorded =
-    read_at c.args.links.now.recorded c.choose-rule.result c.get.result.now c.as_slice-2.result.now (omega (arith, within, c.requires.ready.queue.sizes.taken, c.requires.whole.rules)) c.get.ensures.read c.as_slice-2.ensures in
+    read_at c.args.links.now.recorded c.choose-rule.result c.get.result.now c.as_slice.result.now (omega (arith, within, c.requires.ready.queue.sizes.taken, c.requires.whole.rules)) c.get.ensures.read c.as_slice.ensures in
     let e = enough c.args.links.now c.requires.whole c.args.self.now c.requires.ready c.choose-rule.result c.choose-rule.ensures.left s in
     let f = ap (occurs s) recorded in
     let g = ap (λ (l : List ℕ). get_or l s 0) (c.deref_mut.ensures.value ∙ ap (λ (z : Queue). z.counts.items) c.choose-rule.ensures.same) in
@@ -34,10 +34,10 @@ module _ (c : In_ok-count_down_all) where
   abbrev later : Queue
   later = record c.choose-rule.new.self { counts = with_items c.choose-rule.new.self.counts c.count_down_all.new.counts; due = c.count_down_all.new.due; taken = c.mark.new.marks }
 
-  recorded : c.as_slice-2.result.now ≡ recorded_by c.args.links.now c.choose-rule.result
+  recorded : c.as_slice.result.now ≡ recorded_by c.args.links.now c.choose-rule.result
   recorded =
       let within = left_within c.args.self.now.taken.items c.choose-rule.result c.choose-rule.ensures.left in
-      read_at c.args.links.now.recorded c.choose-rule.result c.get.result.now c.as_slice-2.result.now (omega (arith, within, c.requires.ready.queue.sizes.taken, c.requires.whole.rules)) c.get.ensures.read c.as_slice-2.ensures
+      read_at c.args.links.now.recorded c.choose-rule.result c.get.result.now c.as_slice.result.now (omega (arith, within, c.requires.ready.queue.sizes.taken, c.requires.whole.rules)) c.get.ensures.read c.as_slice.ensures
 
   counted : c.deref_mut.result.now ≡ c.args.self.now.counts.items
   counted = c.deref_mut.ensures.value ∙ ap (λ (z : Queue). z.counts.items) c.choose-rule.ensures.same
@@ -51,11 +51,11 @@ module _ (c : In_ok-count_down_all) where
   marked : later.taken.items ≡ slice_set c.args.self.now.taken.items c.choose-rule.result true
   marked = c.mark.ensures ∙ ap (λ (z : Queue). slice_set z.taken.items c.choose-rule.result true) c.choose-rule.ensures.same
 
-  down : CountsDown c.args.self.now.listed.items (recorded_by c.args.links.now c.choose-rule.result) c.args.self.now.counts.items later.counts.items c.args.self.now.due later.due
+  down : CountsDown c.args.self.now.listed (recorded_by c.args.links.now c.choose-rule.result) c.args.self.now.counts.items later.counts.items c.args.self.now.due later.due
   down =
-      same_down c.as_slice.result.now c.args.self.now.listed.items c.as_slice-2.result.now (recorded_by c.args.links.now c.choose-rule.result) c.deref_mut.result.now c.args.self.now.counts.items c.count_down_all.new.counts
+      same_down c.choose-rule.new.self.listed c.args.self.now.listed c.as_slice.result.now (recorded_by c.args.links.now c.choose-rule.result) c.deref_mut.result.now c.args.self.now.counts.items c.count_down_all.new.counts
       later.counts.items c.choose-rule.new.self.due c.args.self.now.due c.count_down_all.new.due
-      (c.as_slice.ensures.value ∙ ap (λ (z : Queue). z.listed.items) c.choose-rule.ensures.same)
+      (ap (λ (z : Queue). z.listed) c.choose-rule.ensures.same)
       recorded
       counted
       (sym items)

@@ -9,14 +9,14 @@ pub settle_due-requires-clause-queue : goal.settle_due-requires-clause-queue
 settle_due-requires-clause-queue c =
     let q : Queue = record {
       counts = c.in_ok-count_all.field-0;
-      listed = c.in_ok-empty_lists.field-0;
+      listed = c.in_ok-empty.field-0;
       seen = c.in_ok-vec.field-0;
       due = c.in_ok-numbers.field-0;
       free = c.new.result;
       taken = c.in_ok-vec-2.field-0;
       least = 0;
     } in
-    start_queue c.args.links.now q c.in_ok-count_all.ensures.count c.in_ok-empty_lists.ensures
+    start_queue c.args.links.now q c.in_ok-count_all.ensures.count c.in_ok-empty.ensures
     (c.in_ok-vec.ensures.items_if_clones_equal (λ y e. e) ∙ ap (λ (n : ℕ). replicate n 0) c.len-rules.ensures)
     (c.in_ok-numbers.ensures ∙ ap (range_with_len 0) c.len-rules.ensures)
     c.new.ensures

@@ -26,16 +26,16 @@ returns-then-place-sources-clause-settled c =
     let seen = get_or_read q.seen.items k c.index-2.result.now (omega (arith, c.requires.rule, c.requires.queue.sizes.seen)) c.index-2.ensures 0 in
     let taken = get_or_read q.taken.items k c.index.result.now (omega (arith, c.requires.rule, c.requires.queue.sizes.taken)) c.index.ensures true in
     let none = same_none c.as_slice.result.now c.as_slice-sources.result.now q.counts.items waited c.index-2.result.now (get_or q.seen.items k 0) at c.as_slice.ensures.value source seen c.first_recorded-place.ensures.none in
-    let later : Queue = record q { seen = c.put.new.numbers; listed = c.push_at.new.lists } in
+    let later : Queue = record q { seen = c.put.new.numbers; listed = c.push.new.self } in
     let A : List ℕ → Type 0 = λ l. 0 < get_or l (get_or c.as_slice-sources.result.now at 0) 0 in
     let B : List ℕ → Type 0 = λ l. 0 < get_or q.counts.items (get_or l at 0) 0 in
-    let C : List ℕ → Type 0 = λ l. c.push_at.new.lists.items ≡ slice_set q.listed.items (get_or l at 0) (get_or q.listed.items (get_or l at 0) [] ++ k ∷ []) in
+    let C : List ℕ → Type 0 = λ l. c.push.new.self ≡ slice_set q.listed (get_or l at 0) (get_or q.listed (get_or l at 0) [] ++ k ∷ []) in
     let L : List ℕ → Type 0 = λ l. at < length l in
     let h : at < length c.as_slice-sources.result.now = c.if-place-sources.true in
     listed_on c.args.links.now c.requires.whole q k c.requires.queue c.requires.rule (sym taken ∙ c.if-index.false) at none later c.put.ensures
     (subst L source h)
     (subst B source (subst A c.as_slice.ensures.value (c.first_recorded-place.ensures.some h)))
-    (subst C source c.in_ok-push_at.ensures)
+    (subst C source c.in_ok-push.ensures)
     refl
 
 pub returns-clause-settled : goal.returns-clause-settled

@@ -1,7 +1,7 @@
 use Rattle.std.proofs.Common.{◌≡◌, ◌∷◌, ◌++◌, [], ℕ, List, Option, cond, length, sym, ◌∙◌, ap, subst}
 use Rattle.std.specs.Prelude.{OnOk, Result, Ok, Err}
 use Rattle.lf_ast.specs.Labels.{Bytes}
-use Rattle.lf_ast.specs.declared.rule.Rule.{Rule}
+use Rattle.lf_ast.specs.Rules.{RuleTree, rule_tree}
 use Rattle.lf_classes.specs.Meetings.{with_text}
 use Rattle.lf_deps.specs.Makers.{with_maker}
 use Rattle.lf_deps.specs.Sources.{IsSourcesOf, Sources}
@@ -18,16 +18,16 @@ sources_as e f g = cc
 
 pub returns : goal.returns
 returns c =
-    let r : Rule = c.args.rule.now in
+    let r : RuleTree = rule_tree c.args.rule.now in
     let had : List (List (Option Bytes)) = c.self.inside.selected.items in
     let names : List Bytes = c.self.inside.names in
-    let makers : List (List ℕ) = c.self.inside.makers.items in
+    let makers : List (List ℕ) = c.self.inside.makers in
     let old : Sources = record { selected = had; names = names; makers = makers } in
     let pushed = c.in_ok-push.ensures.items ∙ ap (λ (x : List (Option Bytes)). had ++ x ∷ []) c.in_ok-selected.ensures in
     let A : Type 0 = c.list_rule.new.names ≡ cond r.alert names (with_text names r.name) in
-    let B : Type 0 = c.list_rule.new.makers.items ≡ cond r.alert makers (with_maker names makers r.name c.args.count) in
-    let R : Type 0 = (rules : List Rule) → length rules ≡ c.args.count → IsSourcesOf rules c.args.self.now
-    → IsSourcesOf (rules ++ r ∷ []) (record { selected = c.push.new.self.items; names = c.list_rule.new.names; makers = c.list_rule.new.makers.items }) in
+    let B : Type 0 = c.list_rule.new.makers ≡ cond r.alert makers (with_maker names makers r.name c.args.count) in
+    let R : Type 0 = (rules : List RuleTree) → length rules ≡ c.args.count → IsSourcesOf rules c.args.self.now
+    → IsSourcesOf (rules ++ r ∷ []) (record { selected = c.push.new.self.items; names = c.list_rule.new.names; makers = c.list_rule.new.makers }) in
     on_both A B R c.list_rule.result
     (λ a b rules count is.
     let P : Sources → Type 0 = λ s. IsSourcesOf rules s in

@@ -13,17 +13,17 @@ pub returns-clause-listed : goal.returns-clause-listed
 returns-clause-listed c =
     let F : Index → Type 0 = λ i. IsFull i in
     let full = subst F (sym c.self.view_is) c.requires.full in
-    (put_listed c.self.inside.names c.self.inside.of_name.items full c.args.name.now c.args.rule c.in_ok-place.place c.add.new.self c.make_room.new.lists.items c.push_at.new.lists.items c.in_ok-place.ensures.ok
-    c.in_ok-place.ensures.place c.in_ok-make_room.ensures.there c.in_ok-make_room.ensures.made c.in_ok-push_at.ensures).0
+    (put_listed c.self.inside.names c.self.inside.of_name full c.args.name.now c.args.rule c.in_ok-place.place c.add.new.self c.make_room.new.self c.push.new.self c.in_ok-place.ensures.ok
+    c.in_ok-place.ensures.place c.in_ok-make_room.ensures.there c.in_ok-make_room.ensures.made c.in_ok-push.ensures).0
 
 pub returns-clause-kept : goal.returns-clause-kept
 returns-clause-kept c k o l =
     let F : Index → Type 0 = λ i. IsFull i in
     let full = subst F (sym c.self.view_is) c.requires.full in
-    let put = put_listed c.self.inside.names c.self.inside.of_name.items full c.args.name.now c.args.rule c.in_ok-place.place c.add.new.self c.make_room.new.lists.items c.push_at.new.lists.items c.in_ok-place.ensures.ok
-    c.in_ok-place.ensures.place c.in_ok-make_room.ensures.there c.in_ok-make_room.ensures.made c.in_ok-push_at.ensures in
-    let before : Index = record { names = c.self.inside.names; of_name = c.self.inside.of_name.items; of_all = c.self.inside.of_all } in
-    let after : Index = record { names = c.add.new.self; of_name = c.push_at.new.lists.items; of_all = c.self.inside.of_all } in
+    let put = put_listed c.self.inside.names c.self.inside.of_name full c.args.name.now c.args.rule c.in_ok-place.place c.add.new.self c.make_room.new.self c.push.new.self c.in_ok-place.ensures.ok
+    c.in_ok-place.ensures.place c.in_ok-make_room.ensures.there c.in_ok-make_room.ensures.made c.in_ok-push.ensures in
+    let before : Index = record { names = c.self.inside.names; of_name = c.self.inside.of_name; of_all = c.self.inside.of_all } in
+    let after : Index = record { names = c.add.new.self; of_name = c.push.new.self; of_all = c.self.inside.of_all } in
     let P : Index → Type 0 = λ i. IsListed i k o in
     keeps before after refl put.1 k o (subst P (sym c.self.view_is) l)
 
@@ -36,9 +36,9 @@ pub returns-clause-only : goal.returns-clause-only
 returns-clause-only c k o l =
     let F : Index → Type 0 = λ i. IsFull i in
     let full = subst F (sym c.self.view_is) c.requires.full in
-    let put = put_listed c.self.inside.names c.self.inside.of_name.items full c.args.name.now c.args.rule c.in_ok-place.place c.add.new.self c.make_room.new.lists.items c.push_at.new.lists.items c.in_ok-place.ensures.ok
-    c.in_ok-place.ensures.place c.in_ok-make_room.ensures.there c.in_ok-make_room.ensures.made c.in_ok-push_at.ensures in
-    let before : Index = record { names = c.self.inside.names; of_name = c.self.inside.of_name.items; of_all = c.self.inside.of_all } in
-    let after : Index = record { names = c.add.new.self; of_name = c.push_at.new.lists.items; of_all = c.self.inside.of_all } in
+    let put = put_listed c.self.inside.names c.self.inside.of_name full c.args.name.now c.args.rule c.in_ok-place.place c.add.new.self c.make_room.new.self c.push.new.self c.in_ok-place.ensures.ok
+    c.in_ok-place.ensures.place c.in_ok-make_room.ensures.there c.in_ok-make_room.ensures.made c.in_ok-push.ensures in
+    let before : Index = record { names = c.self.inside.names; of_name = c.self.inside.of_name; of_all = c.self.inside.of_all } in
+    let after : Index = record { names = c.add.new.self; of_name = c.push.new.self; of_all = c.self.inside.of_all } in
     let P : Index → Type 0 = λ i. IsListed i k o in
     elim (back before after c.args.rule c.args.name.now refl put.3 k o l) [ inl m ↦ inl (subst P c.self.view_is m) | inr m ↦ inr m ]

@@ -4,7 +4,7 @@ use Rattle.std.proofs.lemmas.List.Elements.{Contains-append_left, Contains-appen
 use Rattle.std.proofs.lemmas.List.{take_all, take_more}
 use Rattle.lf_ast.specs.Labels.{Bytes}
 use Rattle.lf_fix.specs.Readers.{Index, IsListed}
-use Rattle.lf_semantics.proofs.Members.{here}
+use Rattle.lf_laws.proofs.Members.{here}
 use Rattle.lf_fix.proofs.Listing.{all_append, all_map}
 use Rattle.lf_fix.proofs.readers.Readers.list_all.Goals as goal
 

@@ -3,8 +3,8 @@ use Rattle.std.specs.Prelude.{slice_get}
 use Rattle.std.specs.List.{AllByRecursion, Contains}
 use Rattle.std.proofs.lemmas.Bool.{cases_lt}
 use Rattle.lf_ast.specs.Labels.{Bytes}
-use Rattle.lf_ast.specs.declared.rule.Rule.{Rule}
-use Rattle.lf_semantics.proofs.Members.{none_in}
+use Rattle.lf_ast.specs.Rules.{RuleTree}
+use Rattle.lf_laws.proofs.Members.{none_in}
 use Rattle.lf_deps.specs.Sources.{Sources}
 use Rattle.lf_deps.proofs.LookedUp.{selected_count, selected_is}
 use Rattle.lf_fix.specs.Readers.{Index, IsListed}
@@ -44,7 +44,7 @@ selected_within [] j o c = absurd (none_in o c)
 selected_within (x ∷ xs) zero o c = omega arith
 selected_within (x ∷ xs) (suc j) o c = let h = selected_within xs j o c in omega (arith, h)
 
-rule_at : (rules : List Rule) (k : ℕ) → k < length rules → (r : Rule) × (slice_get rules k ≡ Some r)
+rule_at : (rules : List RuleTree) (k : ℕ) → k < length rules → (r : RuleTree) × (slice_get rules k ≡ Some r)
 rule_at [] k h = absurd (omega arith)
 rule_at (r ∷ rules) zero h = (r, refl)
 rule_at (r ∷ rules) (suc k) h = rule_at rules k (omega arith)

@@ -1,7 +1,8 @@
 use Rattle.std.proofs.Common.{length, map, sym, ◌∙◌, ap, subst}
 use Rattle.std.proofs.lemmas.List.{length-replicate}
 use Rattle.lf_ast.specs.Labels.{Bytes}
-use Rattle.lf_semantics.specs.ClassRows.{nothing}
+use Rattle.lf_ast.specs.Rules.{rule_trees}
+use Rattle.lf_semantics.specs.ClassRows.{bottom}
 use Rattle.lf_semantics.specs.Environments.{names_recorded, recorded_names}
 use Rattle.lf_semantics.specs.Listing.{StandOnce}
 use Rattle.lf_semantics.proofs.ListingLaws.{apart, first_seen_distinct}
@@ -11,13 +12,13 @@ use Rattle.lf_flow.proofs.env.Env.bottom.Goals as goal
 
 pub invariant_of-result : goal.invariant_of-result
 invariant_of-result c = record {
-  once = subst StandOnce (sym c.in_ok-names.ensures) (apart _ (first_seen_distinct (names_recorded c.as_slice.result.now)));
-  count = sym c.len.ensures.count ∙ sym (length-replicate c.len.result (nothing c.args.universe.now)) ∙ ap length (sym c.in_ok-rows.ensures);
+  once = subst StandOnce (sym c.in_ok-names.ensures) (apart _ (first_seen_distinct (names_recorded (rule_trees c.as_slice.result.now))));
+  count = sym c.len.ensures.count ∙ sym (length-replicate c.len.result (bottom c.args.universe.now)) ∙ ap length (sym c.in_ok-rows.ensures);
 }
 
 pub returns : goal.returns
 returns c =
-    let row = nothing c.args.universe.now in
+    let row = bottom c.args.universe.now in
     ap (entries c.in_ok-names.names) c.in_ok-rows.ensures
     ∙ entries_same c.in_ok-names.names c.len.result row c.len.ensures.count
-    ∙ ap (map (λ (name : Bytes). (name, row))) (c.in_ok-names.ensures ∙ ap recorded_names c.as_slice.ensures)
+    ∙ ap (map (λ (name : Bytes). (name, row))) (c.in_ok-names.ensures ∙ ap (λ rules. recorded_names (rule_trees rules)) c.as_slice.ensures)

@@ -1,7 +1,7 @@
 use Rattle.std.proofs.Common.{◌↔◌, IsTrue, not, Some, sym, subst, ◌∙◌, ap, arith, get_or}
 use Rattle.std.proofs.Math.ListN.{set}
-use Rattle.lf_semantics.specs.ClassRows.{Sets, union}
-use Rattle.lf_semantics.specs.Environments.{Under}
+use Rattle.lf_semantics.specs.ClassRows.{Sets, join}
+use Rattle.lf_semantics.specs.Environments.{Leq}
 use Rattle.lf_semantics.specs.RowTable.{row_named}
 use Rattle.lf_flow.specs.Raising.{entries, joined}
 use Rattle.lf_flow.proofs.Entries.{joined_row, named_row, recorded_within, some_same}
@@ -34,8 +34,8 @@ returns-clause-joined c =
     let row = c.args.row.now in
     let within = recorded_within names rows name c.self.invariant.count (λ none. c.requires.recorded (ap (λ env. row_named env name) (sym c.self.view_is) ∙ none)) in
     ap (λ x. entries names (set rows c.place-place.result x)) c.join.ensures.joined
-    ∙ ap (λ x. entries names (set rows c.place-place.result (union x row))) c.index_mut.ensures.value
-    ∙ ap (λ k. entries names (set rows k (union (get_or rows k own) row))) c.place-place.ensures.place
+    ∙ ap (λ x. entries names (set rows c.place-place.result (join x row))) c.index_mut.ensures.value
+    ∙ ap (λ k. entries names (set rows k (join (get_or rows k own) row))) c.place-place.ensures.place
     ∙ joined_row names rows name row own c.self.invariant.once c.self.invariant.count within
     ∙ ap (joined name row) c.self.view_is
 
@@ -50,5 +50,5 @@ returns-clause-added c = λ other e.
     ∙ named_row names rows name own c.self.invariant.count within
     ∙ ap (λ k. Some (get_or rows k own)) (sym c.place-place.ensures.place)
     ∙ ap Some (sym c.index_mut.ensures.value) in
-    let P : Sets → Type 0 = λ x. IsTrue (not c.join.result) ↔ Under c.args.row.now x in
+    let P : Sets → Type 0 = λ x. IsTrue (not c.join.result) ↔ Leq c.args.row.now x in
     subst P (some_same own other (sym named ∙ e)) c.join.ensures.added

@@ -24,7 +24,7 @@ returns c =
     let edges : List (List ℕ) = c.args.edges.now in
     let count : ℕ = c.in_ok-numbers.numbers.count in
     let numbers : List ℕ = c.in_ok-numbers.numbers.of.items in
-    let members : List (List ℕ) = c.in_ok-members.members.items in
+    let members : List (List ℕ) = c.in_ok-members.members in
     let nexts : List (List ℕ) = map (λ (t : BTreeSet ℕ). t.keys) c.in_ok-nexts.nexts.items in
     let parts : Components = record { numbers = numbers; members = members; nexts = nexts } in
     let M : List ℕ → Type 0 = λ l. AreMembers l (length l) count members in

@@ -1,6 +1,6 @@
 use Rattle.std.proofs.Common.{◌≡◌, ◌↔◌, ◌<◌, ℕ, List, [], BTreeSet, get_or, length, map, sym, ◌∙◌, ap, subst, arith, rules}
 use Rattle.std.specs.List.{Contains}
-use Rattle.std.proofs.lemmas.List.{get_or-map, get_or_read, length-map, nil_from_length}
+use Rattle.std.proofs.lemmas.List.{get_or-map, length-map, nil_from_length}
 use Rattle.std.proofs.lemmas.Map.Keys.{below_from_sorted}
 use Rattle.lf_graph.specs.Components.{Components}
 use Rattle.lf_graph.specs.Listing.{Adds, AddsBelow}
@@ -19,12 +19,6 @@ loop-number-init c =
 
 pub index-requires : goal.index-requires
 index-requires c =
-    let same = ap (λ (s : Components). length s.members) c.self.view_is in
-    let h = c.loop-number.invariant.0 c.in-Some.number (was_due c.loop-number.due.keys c.pop_last.new.self.keys c.in-Some.number c.in-Some.ensures.removal) in
-    omega (arith, h, same, c.self.inside.members.ok.0)
-
-pub index-requires-in-Some : goal.index-requires-in-Some
-index-requires-in-Some c =
     let same = ap (λ (s : Components). length s.nexts) c.self.view_is in
     let size = length-map c.self.inside.nexts.items (λ (t : BTreeSet ℕ). t.keys) in
     let each = c.requires.graph.1.count in
@@ -33,7 +27,7 @@ index-requires-in-Some c =
 
 pub loop-number-smaller : goal.loop-number-smaller
 loop-number-smaller c =
-    lower c.loop-number.due.keys c.pop_last.new.self.keys c.add_below.new.due.keys c.index-in-Some.result.now.keys c.in-Some.number c.in-Some.ensures.removal c.in-Some.ensures.all_below c.in_ok-add_below.ensures
+    lower c.loop-number.due.keys c.pop_last.new.self.keys c.add_below.new.due.keys c.index.result.now.keys c.in-Some.number c.in-Some.ensures.removal c.in-Some.ensures.all_below c.in_ok-add_below.ensures
 
 pub returns-clause-members : goal.returns-clause-members
 returns-clause-members c edges are v =
@@ -62,18 +56,16 @@ loop-number-preserved c =
     let found : List ℕ = c.loop-number.found.keys in
     let more : List ℕ = c.add_all.new.found.keys in
     let nexts : List (BTreeSet ℕ) = c.self.inside.nexts.items in
-    let set : BTreeSet ℕ = c.index-in-Some.result.now in
+    let set : BTreeSet ℕ = c.index.result.now in
     let top = c.loop-number.invariant.0 k (was_due due rest k c.in-Some.ensures.removal) in
     let lists : map (λ (t : BTreeSet ℕ). t.keys) nexts ≡ parts.nexts = ap (λ (s : Components). s.nexts) c.self.view_is in
-    let members : c.self.inside.members.items ≡ parts.members = ap (λ (s : Components). s.members) c.self.view_is in
+    let members : c.self.inside.members ≡ parts.members = ap (λ (s : Components). s.members) c.self.view_is in
     let count = ap length lists in
     let sets = length-map nexts (λ (t : BTreeSet ℕ). t.keys) in
     let each = c.requires.graph.1.count in
-    let size = ap length members in
     let keys : get_or parts.nexts k [] ≡ set.keys =
-    ap (λ (l : List (List ℕ)). get_or l k []) (sym lists) ∙ get_or-map (λ (t : BTreeSet ℕ). t.keys) nexts k set [] (omega (arith, top, count, sets, each)) ∙ ap (λ (t : BTreeSet ℕ). t.keys) (sym c.index-in-Some.ensures) in
-    let nodes : c.as_slice.result.now ≡ get_or parts.members k [] =
-    c.as_slice.ensures ∙ get_or_read c.self.inside.members.items k c.index.result.now (omega (arith, top, size)) c.index.ensures [] ∙ ap (λ (l : List (List ℕ)). get_or l k []) members in
+    ap (λ (l : List (List ℕ)). get_or l k []) (sym lists) ∙ get_or-map (λ (t : BTreeSet ℕ). t.keys) nexts k set [] (omega (arith, top, count, sets, each)) ∙ ap (λ (t : BTreeSet ℕ). t.keys) (sym c.index.ensures) in
+    let nodes : c.at.result.now ≡ get_or parts.members k [] = c.at.ensures ∙ ap (λ (l : List (List ℕ)). get_or l k []) members in
     let P : List ℕ → Type 0 = λ l. Adds l found more in
     let Q : List ℕ → Type 0 = λ l. AddsBelow l k rest later in (
       due_within due rest later set.keys k c.in-Some.ensures.removal c.in-Some.ensures.all_below c.in_ok-add_below.ensures (length parts.members) c.loop-number.invariant.0,

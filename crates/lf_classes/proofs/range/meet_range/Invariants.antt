@@ -1,7 +1,0 @@
-use Rattle.std.proofs.Common.{◌&&◌}
-use Rattle.lf_classes.specs.Bits.{bit_of}
-use Rattle.lf_classes.proofs.WordLists.{IsChanged}
-use Rattle.lf_classes.proofs.range.meet_range.Given as goal
-
-abbrev pub invariant-loop-number : goal.invariant-loop-number
-invariant-loop-number l = IsChanged (λ k. bit_of l.initial.words.items k && bit_of l.others k) l.initial.words.items l.words.items l.from l.to l.number

@@ -1,6 +1,0 @@
-use Rattle.std.proofs.Common.{◌≡◌, drop}
-use Rattle.lf_semantics.specs.Passing.{first_equal_name}
-use Rattle.lf_flow.proofs.selecting.first_equal.Given as goal
-
-abbrev pub invariant-loop-matcher : goal.invariant-loop-matcher
-invariant-loop-matcher l = first_equal_name l.matchers ≡ first_equal_name (drop l.matcher-index l.matchers)
