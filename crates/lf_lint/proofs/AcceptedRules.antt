@@ -6,17 +6,16 @@ use Rattle.std.specs.Str.{bytes_eq}
 use Rattle.lf_ast.specs.Labels.{Bytes}
 use Rattle.lf_ast.specs.Types.{HasType}
 use Rattle.lf_ast.specs.declared.expr.ExprType.{ExprType}
-use Rattle.lf_ast.specs.declared.fault.Fault.{Fault}
-use Rattle.lf_ast.specs.declared.rule.Rule.{Rule}
+use Rattle.lf_base.specs.declared.fault.Fault.{Fault}
+use Rattle.lf_ast.specs.Rules.{RuleTree}
 use Rattle.lf_ast.specs.declared.rule.RuleLabel.{RuleLabel}
 use Rattle.lf_rules.specs.Mappings.{Pairing, pairs, trees}
 use Rattle.lf_rules.specs.Rules.{AreFileGroups, AreGroups, AreRules, AreSettings, IsAlert, IsGroupTree, IsRecord, IsRule as IsSource, IsRuleTree, IsRules, Sets}
 use Rattle.lf_rules.specs.Sources.{Setting, Source}
-use Rattle.lf_rules.specs.Texts.{is_label_name, is_metric_name, metric}
+use Rattle.lf_base.specs.Names.{is_label_name, is_metric_name, metric}
 use Rattle.lf_semantics.specs.PatternBreaches.{BreaksPatterns}
 use Rattle.lf_semantics.specs.Worlds.{SetsNoName}
-use Rattle.lf_semantics.proofs.ListingLaws.{all_of}
-use Rattle.lf_semantics.proofs.Members.{first_or_behind, none_in}
+use Rattle.lf_semantics.proofs.Members.{all_of, first_or_behind, none_in}
 use Rattle.lf_yaml.specs.Tree.{Tree, leaf, sequence, mapping, Entries}
 use Rattle.lf_lint.specs.Accepted.{IsAccepted, IsRule, label_of}
 use Rattle.lf_lint.proofs.DistinctKeys.{EntriesDiffer, GivenDiffers, KeysDiffer, given_differs, key_of, keys_differ, keys_distinct, trees_differ}
@@ -128,7 +127,7 @@ all_named (mapping es span) ss d h = of_file _ ss (given_differs (codes "groups"
 
 -- what holds of an accepted rule: its expression has a type and breaks nothing by its patterns and its selectors, a recorded name is a metric name, and its labels are
 -- label names other than the metric's name, each once
-pub record IsJudgedRule (r : Rule) : Type 0 where
+pub record IsJudgedRule (r : RuleTree) : Type 0 where
   pub type : ExprType
   pub has_type : HasType r.expr type
   pub unbroken : (f : Fault) → BreaksPatterns r.expr f → ⊥
@@ -146,7 +145,7 @@ same_set [] = refl
 same_set (s ∷ ss) = ap (λ xs. set_by s ∷ xs) (same_set ss)
 
 module _ (file : ℕ) where
-  judged_rule : (s : Source) (r : Rule) → IsNamed s → IsRule file s r → IsJudgedRule r
+  judged_rule : (s : Source) (r : RuleTree) → IsNamed s → IsRule file s r → IsJudgedRule r
   judged_rule s r named is =
       let labels : r.labels ≡ map label_of s.labels = ap (λ x. x.labels) is.1 in
       let alert : r.alert ≡ s.alert = ap (λ x. x.alert) is.1 in
@@ -161,7 +160,7 @@ module _ (file : ℕ) where
         distinct = subst (λ (ls : List RuleLabel). IsDistinct bytes_eq (map (λ l. l.key) ls)) (sym labels) (subst (IsDistinct bytes_eq) (same_set s.labels) named.distinct);
       }
 
-  judged_rules : (ss : List Source) (rs : List Rule) → AllByRecursion IsNamed ss → AllZip (IsRule file) ss rs → (r : Rule) → Contains rs r → IsJudgedRule r
+  judged_rules : (ss : List Source) (rs : List RuleTree) → AllByRecursion IsNamed ss → AllZip (IsRule file) ss rs → (r : RuleTree) → Contains rs r → IsJudgedRule r
   judged_rules [] [] named are r c = absurd (none_in r c)
   judged_rules [] (x ∷ rs) named are r c = absurd are
   judged_rules (s ∷ ss) [] named are r c = absurd are
@@ -171,9 +170,9 @@ module _ (file : ℕ) where
   ]
 
 -- each accepted rule is so
-pub accepted_rule : (bytes : Bytes) (file : ℕ) (rules : List Rule) → IsAccepted bytes file rules → (r : Rule) → Contains rules r → IsJudgedRule r
+pub accepted_rule : (bytes : Bytes) (file : ℕ) (rules : List RuleTree) → IsAccepted bytes file rules → (r : RuleTree) → Contains rules r → IsJudgedRule r
 accepted_rule bytes file rules a = judged_rules file a.sources rules (all_named a.says.0 a.sources (keys_differ bytes a.says.0 a.says.1) a.says.2) a.are_rules
 
 -- and so sets no metric name
-pub sets_no_name : (bytes : Bytes) (file : ℕ) (rules : List Rule) → IsAccepted bytes file rules → (r : Rule) → Contains rules r → SetsNoName r
+pub sets_no_name : (bytes : Bytes) (file : ℕ) (rules : List RuleTree) → IsAccepted bytes file rules → (r : RuleTree) → Contains rules r → SetsNoName r
 sets_no_name bytes file rules a r c = (accepted_rule bytes file rules a r c).no_name

@@ -15,7 +15,7 @@ use Rattle.lf_yaml.specs.Nodes.{BlockAt, EntriesAt, EntryAt, EntryValue, ItemVal
 use Rattle.lf_yaml.specs.Rows.{Row}
 use Rattle.lf_yaml.specs.Tree.{Tree, leaf, sequence, mapping, Items, no_items, item, Entries, no_entries, entry}
 use Rattle.lf_rules.specs.Mappings.{Pairing, entry_at, given, given_entry, is_empty, pairs, trees, unless_empty}
-use Rattle.lf_rules.specs.Texts.{Bytes}
+use Rattle.lf_base.specs.Names.{Bytes}
 
 -- ---- trees
 

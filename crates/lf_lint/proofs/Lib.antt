@@ -1,8 +1,7 @@
 pub mod AcceptedRules
-pub mod Again
 pub mod Appends
+pub mod Chained
 pub mod DistinctKeys
-pub mod FirstSeen
 pub mod LabelLines
 pub mod LabelTexts
 pub mod OneExpr
@@ -12,18 +11,14 @@ pub mod OneLeast
 pub mod OneReport
 pub mod Recorded
 pub mod Reports
-pub mod SameReports
-pub mod SameRules
+pub mod SeenRules
 mod ShortLists
 pub mod ShownNames
-pub mod SomeFile
 pub mod Spotted
 pub mod Starless
 pub mod StarlessTrees
 pub mod Steps
 mod Streams
-pub mod TreePatterns
-pub mod TreeTypes
 pub mod Truths
 pub mod Universes
 pub mod Worked

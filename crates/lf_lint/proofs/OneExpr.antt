@@ -1,91 +1,100 @@
 -- A scalar's text is one expression or breaks with one breach, and never both.
-use Rattle.std.proofs.Common.{◌≡◌, ◌∙◌, List, Err, sym, ap, subst}
-use Rattle.lf_base.specs.declared.kind.Kind.{Kind}
-use Rattle.lf_base.specs.declared.place.Span.{Span}
+use Rattle.std.proofs.Common.{◌≡◌, ◌⊎◌, inl, inr, ◌∙◌, ℕ, List, refl, sym, subst}
+use Rattle.lf_base.specs.declared.fault.Fault.{Fault}
+use Rattle.lf_base.specs.Answers.{OneAnswer}
 use Rattle.lf_ast.specs.Breaches.{Tells}
+use Rattle.lf_ast.specs.Tree.{Tree}
 use Rattle.lf_ast.specs.Types.{HasType}
-use Rattle.lf_ast.specs.declared.expr.Expr.{Expr}
 use Rattle.lf_ast.specs.declared.expr.ExprType.{ExprType}
-use Rattle.lf_ast.specs.declared.fault.Fault.{Fault as TypeFault}
-use Rattle.lf_ast.proofs.Judged.{judged_told, no_breach}
+use Rattle.lf_base.proofs.Answering.{one_answer}
 use Rattle.lf_ast.specs.Judging.{judged}
-use Rattle.lf_lex.specs.Tokens.{Tokens, Breaks, Fault as TokenFault}
+use Rattle.lf_ast.proofs.Judged.{decides}
+use Rattle.lf_classes.proofs.FaultsFound.{passes_or_tells}
+use Rattle.lf_lex.specs.Tokens.{Tokens, Breaks}
 use Rattle.lf_lex.specs.declared.token.Token.{Token}
-use Rattle.lf_lex.proofs.TokenLaws.{one_breach, one_list, not_both}
+use Rattle.lf_lex.proofs.TokenLaws.{one_answer as one_lexing}
 use Rattle.lf_parse.specs.Answer.{IsExpression, Refuses}
-use Rattle.lf_parse.specs.Tree.{tree}
-use Rattle.lf_parse.proofs.Answering.{one_fault, one_tree, never_both}
-use Rattle.lf_scalar.specs.Cells.{Fault, Value}
-use Rattle.lf_semantics.specs.PatternBreaches.{TellsPattern}
+use Rattle.lf_parse.proofs.Answering.{one_reading as one_parsing}
+use Rattle.lf_scalar.specs.Cells.{Value}
+use Rattle.lf_semantics.specs.PatternBreaches.{BreaksPatterns, TellsPattern}
 use Rattle.lf_semantics.proofs.PatternFaults.{tells_one}
-use Rattle.lf_lint.specs.Accepted.{BreaksExpr, IsExpr, at, bad_pattern, bad_tokens, end_of, no_expression, no_type}
-use Rattle.lf_lint.proofs.TreePatterns.{same_pattern_told}
-use Rattle.lf_lint.proofs.TreeTypes.{same_told}
+use Rattle.lf_lint.specs.Accepted.{BreaksExpr, IsExpr, bad_pattern, bad_tokens, end_of, no_expression, no_type}
+use Rattle.lf_lint.specs.Checked.{BreaksJudged, IsJudged}
+use Rattle.lf_lint.proofs.Chained.{Both, BreaksEither, chained, in_other_words}
+
+-- ---- an expression stands as judged, or breaks something
+
+one_type : (e : Tree) → OneAnswer (HasType e) (Tells e)
+one_type e = one_answer (HasType e) (Tells e) (judged e) (decides e)
+
+-- it is this one, and it stands
+abbrev Stands : Tree → Tree → Type 0
+Stands e d = (d ≡ e) × IsJudged e
+
+one_breach : (e : Tree) (f g : Fault) → BreaksJudged e f → BreaksJudged e g → f ≡ g
+one_breach e f g (inl h) (inl k) = (one_type e).breach f g h k
+one_breach e f g (inl h) (inr k) = absurd ((one_type e).one k.0 f k.1 h)
+one_breach e f g (inr h) (inl k) = absurd ((one_type e).one h.0 g h.1 k)
+one_breach e f g (inr h) (inr k) = tells_one e f g h.2 k.2
+
+stands_or : (e : Tree) (f : Fault) → IsJudged e → BreaksJudged e f → ⊥
+stands_or e f h (inl k) = (one_type e).one h.type f h.has_type k
+stands_or e f h (inr k) = h.unbroken f k.2.0
+
+some_judged : (e : Tree) → ((d : Tree) × Stands e d) ⊎ ((f : Fault) × BreaksJudged e f)
+some_judged e = by (one_type e).some
+  where
+    typed : (t : ExprType) → HasType e t → ((f : Fault) → BreaksPatterns e f → ⊥) ⊎ ((f : Fault) × TellsPattern e f) → ((d : Tree) × Stands e d) ⊎ ((f : Fault) × BreaksJudged e f)
+    typed t h (inl unbroken) = inl (e, (refl, record { type = t; has_type = h; unbroken = unbroken }))
+    typed t h (inr f) = inr (f.0, inr (t, h, f.1))
+
+    by : ((t : ExprType) × HasType e t) ⊎ ((f : Fault) × Tells e f) → ((d : Tree) × Stands e d) ⊎ ((f : Fault) × BreaksJudged e f)
+    by (inl t) = typed t.0 t.1 (passes_or_tells e)
+    by (inr f) = inr (f.0, inl f.1)
+
+one_judged : (e : Tree) → OneAnswer (Stands e) (BreaksJudged e)
+one_judged e = record { value = λ x y h k. h.0 ∙ sym k.0; breach = one_breach e; one = λ x f h k. stands_or e f h.1 k; some = some_judged e }
+
+-- ---- so a scalar has one expression or one breach
 
 module _ (v : Value) where
-  same_tokens : (ts us : List Token) → Tokens v.from v.text ts → Tokens v.from v.text us → ts ≡ us
-  same_tokens ts us a b = one_list v.from v.text ts us a b
+  abbrev end : ℕ
+  end = end_of v
 
-  same_trees : (ts us : List Token) (e d : Expr) → Tokens v.from v.text ts → Tokens v.from v.text us → IsExpression ts (tree e) → IsExpression us (tree d) → tree e ≡ tree d
-  same_trees ts us e d a b x y = one_tree us (tree e) (tree d) (subst (λ ws. IsExpression ws (tree e)) (same_tokens ts us a b) x).1 y.1
+  abbrev Read : List Token → Tree → Type 0
+  Read ts = Both (IsExpression ts) (Refuses ts end) Stands BreaksJudged
 
-  pub one_expr : (e d : Expr) → IsExpr v e → IsExpr v d → tree e ≡ tree d
-  one_expr e d a b = same_trees a.tokens b.tokens e d a.are_tokens b.are_tokens a.expression b.expression
+  abbrev BreaksRead : List Token → Fault → Type 0
+  BreaksRead ts = BreaksEither (IsExpression ts) (Refuses ts end) Stands BreaksJudged
 
-  read_or_refused : (ts us : List Token) (e : Expr) (f : TokenFault) → Tokens v.from v.text ts → Tokens v.from v.text us → IsExpression ts (tree e) → Refuses us (end_of v) f → ⊥
-  read_or_refused ts us e f a b x r = never_both us (end_of v) (tree e) f (subst (λ ws. IsExpression ws (tree e)) (same_tokens ts us a b) x) r
+  abbrev Reads : Tree → Type 0
+  Reads = Both (Tokens v.from v.text) (Breaks v.from v.text) Read BreaksRead
 
-  -- an expression that has a type tells no breach of types, however it lies in memory
-  typed_or_told : (e d : Expr) (t : ExprType) (f : TypeFault) → tree d ≡ tree e → HasType e t → Tells d f → ⊥
-  typed_or_told e d t f same typed told = no_breach e t typed f (same_told d e same f told).0
+  abbrev BreaksReads : Fault → Type 0
+  BreaksReads = BreaksEither (Tokens v.from v.text) (Breaks v.from v.text) Read BreaksRead
 
-  pub expr_or_breach : (e : Expr) (f : Fault) → IsExpr v e → BreaksExpr v f → ⊥
-  expr_or_breach e _ a (bad_tokens {kind = kind} {span = span} b) = not_both v.from v.text a.tokens (record { kind = kind; span = span }) a.are_tokens b
-  expr_or_breach e _ a (no_expression {tokens = us} {kind = kind} {span = span} b r) = read_or_refused a.tokens us e (record { kind = kind; span = span }) a.are_tokens b a.expression r
-  expr_or_breach e _ a (no_type {tokens = us} {kind = kind} {span = span} d b y t) =
-      typed_or_told e d a.type (record { kind = kind; span = span }) (same_trees us a.tokens d e b a.are_tokens y a.expression) a.has_type t
-  expr_or_breach e _ a (bad_pattern {tokens = us} {kind = kind} {span = span} d type b y h t) =
-      a.unbroken (record { kind = kind; span = span }) (same_pattern_told d e (same_trees us a.tokens d e b a.are_tokens y a.expression) (record { kind = kind; span = span }) t).0
+  to : (e : Tree) → Reads e → IsExpr v e
+  to e h =
+      let is : e ≡ h.2.0 = h.2.2.0 in
+      subst (IsExpr v) (sym is) (record { tokens = h.0; are_tokens = h.1; expression = h.2.1; type = h.2.2.1.type; has_type = h.2.2.1.has_type; unbroken = h.2.2.1.unbroken })
 
-  one_told : (d e : Expr) (f g : TypeFault) → tree d ≡ tree e → Tells d f → Tells e g → f ≡ g
-  one_told d e f g same a b = by (judged_told e f (same_told d e same f a)) (judged_told e g b)
-    where
-      by : judged e ≡ Err f → judged e ≡ Err g → f ≡ g
-      by x y = let z : Err f ≡ Err g = sym x ∙ y in cc
+  from : (e : Tree) → IsExpr v e → Reads e
+  from e h = (h.tokens, h.are_tokens, (e, h.expression, (refl, record { type = h.type; has_type = h.has_type; unbroken = h.unbroken })))
 
-  one_pattern_told : (d e : Expr) (f g : TypeFault) → tree d ≡ tree e → TellsPattern d f → TellsPattern e g → f ≡ g
-  one_pattern_told d e f g same a b = tells_one e f g (same_pattern_told d e same f a) b
+  breaks : (f : Fault) → BreaksReads f → BreaksExpr v f
+  breaks f (inl h) = bad_tokens h
+  breaks f (inr (ts, h, inl r)) = no_expression h r
+  breaks f (inr (ts, h, inr (e, x, inl t))) = no_type e h x t
+  breaks f (inr (ts, h, inr (e, x, inr t))) = bad_pattern e t.0 h x t.1 t.2
 
-  abbrev type_fault : Kind → Span → TypeFault
-  type_fault kind span = record { kind = kind; span = span }
+  back : (f : Fault) → BreaksExpr v f → BreaksReads f
+  back f (bad_tokens h) = inl h
+  back f (no_expression {tokens = ts} h r) = inr (ts, h, inl r)
+  back f (no_type {tokens = ts} e h x t) = inr (ts, h, inr (e, x, inl t))
+  back f (bad_pattern {tokens = ts} e t h x typed told) = inr (ts, h, inr (e, x, inr (t, typed, told)))
 
-  abbrev token_fault : Kind → Span → TokenFault
-  token_fault kind span = record { kind = kind; span = span }
-
-  -- tokens that break nothing, and tokens that do
-  tokens_or_breach : {us : List Token} {k : Kind} {s : Span} → Tokens v.from v.text us → Breaks v.from v.text (token_fault k s) → ⊥
-  tokens_or_breach {us} {k} {s} b a = not_both v.from v.text us (token_fault k s) b a
-
-  pub one_breach_of : (f g : Fault) → BreaksExpr v f → BreaksExpr v g → f ≡ g
-  one_breach_of _ _ (bad_tokens {kind = k} {span = s} a) (bad_tokens {kind = l} {span = p} b) =
-      ap (λ (f : TokenFault). at f.kind f.span) (one_breach v.from v.text (token_fault k s) (token_fault l p) a b)
-  one_breach_of _ _ (bad_tokens a) (no_expression b r) = absurd (tokens_or_breach b a)
-  one_breach_of _ _ (bad_tokens a) (no_type e b y t) = absurd (tokens_or_breach b a)
-  one_breach_of _ _ (bad_tokens a) (bad_pattern e type b y h t) = absurd (tokens_or_breach b a)
-  one_breach_of _ _ (no_expression b r) (bad_tokens a) = absurd (tokens_or_breach b a)
-  one_breach_of _ _ (no_expression {tokens = ts} {kind = k} {span = s} a q) (no_expression {tokens = us} {kind = l} {span = p} b r) =
-      ap (λ (f : TokenFault). at f.kind f.span) (one_fault us (end_of v) (token_fault k s) (token_fault l p) (subst (λ ws. Refuses ws (end_of v) (token_fault k s)) (same_tokens ts us a b) q) r)
-  one_breach_of _ _ (no_expression {tokens = us} {kind = k} {span = s} b r) (no_type {tokens = ts} e a x t) = absurd (read_or_refused ts us e (token_fault k s) a b x r)
-  one_breach_of _ _ (no_expression {tokens = us} {kind = k} {span = s} b r) (bad_pattern {tokens = ts} e type a x h t) = absurd (read_or_refused ts us e (token_fault k s) a b x r)
-  one_breach_of _ _ (no_type e b y t) (bad_tokens a) = absurd (tokens_or_breach b a)
-  one_breach_of _ _ (no_type {tokens = ts} e a x t) (no_expression {tokens = us} {kind = k} {span = s} b r) = absurd (read_or_refused ts us e (token_fault k s) a b x r)
-  one_breach_of _ _ (no_type {tokens = ts} {kind = k} {span = s} d a x t) (no_type {tokens = us} {kind = l} {span = p} e b y u) =
-      ap (λ (f : TypeFault). at f.kind f.span) (one_told d e (type_fault k s) (type_fault l p) (same_trees ts us d e a b x y) t u)
-  one_breach_of _ _ (no_type {tokens = ts} {kind = k} {span = s} d a x t) (bad_pattern {tokens = us} e type b y h u) =
-      absurd (typed_or_told e d type (type_fault k s) (same_trees ts us d e a b x y) h t)
-  one_breach_of _ _ (bad_pattern e type b y h t) (bad_tokens a) = absurd (tokens_or_breach b a)
-  one_breach_of _ _ (bad_pattern {tokens = ts} e type a x h t) (no_expression {tokens = us} {kind = k} {span = s} b r) = absurd (read_or_refused ts us e (token_fault k s) a b x r)
-  one_breach_of _ _ (bad_pattern {tokens = ts} d type a x h t) (no_type {tokens = us} {kind = l} {span = p} e b y u) =
-      absurd (typed_or_told d e type (type_fault l p) (same_trees us ts e d b a y x) h u)
-  one_breach_of _ _ (bad_pattern {tokens = ts} {kind = k} {span = s} d type a x h t) (bad_pattern {tokens = us} {kind = l} {span = p} e other b y i u) =
-      ap (λ (f : TypeFault). at f.kind f.span) (one_pattern_told d e (type_fault k s) (type_fault l p) (same_trees ts us d e a b x y) t u)
+  pub one_expr : OneAnswer (IsExpr v) (BreaksExpr v)
+  one_expr =
+      in_other_words Reads (IsExpr v) BreaksReads (BreaksExpr v) to from breaks back
+      (chained (Tokens v.from v.text) (Breaks v.from v.text) Read BreaksRead (one_lexing v.from v.text)
+      (λ ts. chained (IsExpression ts) (Refuses ts end) Stands BreaksJudged (one_parsing ts end) one_judged))

@@ -1,10 +1,10 @@
 -- Rules have one least environment: two that lie in each other are equal, since their rows have no class where some label has none.
-use Rattle.std.proofs.Common.{◌≡◌, ℕ, zero, suc, Bool, true, false, cond, List, [], ◌∷◌, map, length, get_or, refl, sym, ◌∙◌, ap}
+use Rattle.std.proofs.Common.{◌≡◌, ℕ, suc, Bool, true, false, cond, List, [], ◌∷◌, map, length, get_or, refl, sym, ◌∙◌, ap}
 use Rattle.std.specs.List.{AllByRecursion}
 use Rattle.lf_ast.specs.Labels.{Bytes}
-use Rattle.lf_ast.specs.declared.rule.Rule.{Rule}
-use Rattle.lf_semantics.specs.ClassRows.{Sets, emptied, holds, is_live, settled}
-use Rattle.lf_semantics.specs.Environments.{EnvironmentUnder, IsLeast, IsRow, Under}
+use Rattle.lf_ast.specs.Rules.{RuleTree}
+use Rattle.lf_semantics.specs.ClassRows.{Sets, emptied, holds, is_live, normalized}
+use Rattle.lf_semantics.specs.Environments.{EnvironmentLeq, IsLeast, IsRow, Leq}
 use Rattle.lf_semantics.specs.Listing.{Listing}
 use Rattle.lf_semantics.specs.RowTable.{Environment}
 
@@ -52,11 +52,11 @@ emptied_same (s ∷ row) (t ∷ other) n =
     two (λ (z : List Bool) (zs : Sets). z ∷ zs) _ _ _ _ (none_same s t one) (emptied_same row other others)
 
 -- the empty row has no class
-is_emptied : (row : Sets) → settled row ≡ row → is_live row ≡ false → row ≡ emptied row
+is_emptied : (row : Sets) → normalized row ≡ row → is_live row ≡ false → row ≡ emptied row
 is_emptied row settles dead = sym settles ∙ ap (λ b. cond b row (emptied row)) dead
 
 module _ (u : Listing) where
-  same_row : (row other : Sets) → IsRow u row → IsRow u other → Under row other → Under other row → row ≡ other
+  same_row : (row other : Sets) → IsRow u row → IsRow u other → Leq row other → Leq other row → row ≡ other
   same_row row other p q h k = by (is_live row) refl
     where
       shape : map length row ≡ map length other
@@ -73,7 +73,7 @@ module _ (u : Listing) where
           other_dead true f = absurd (clash (k f).0 e)
           other_dead false f = f
 
-  same_environment : (env other : Environment) → AllByRecursion (λ entry. IsRow u entry.1) env → AllByRecursion (λ entry. IsRow u entry.1) other → EnvironmentUnder env other → EnvironmentUnder other env → env ≡ other
+  same_environment : (env other : Environment) → AllByRecursion (λ entry. IsRow u entry.1) env → AllByRecursion (λ entry. IsRow u entry.1) other → EnvironmentLeq env other → EnvironmentLeq other env → env ≡ other
   same_environment [] [] p q h k = refl
   same_environment [] (b ∷ other) p q h k = absurd h
   same_environment (a ∷ env) [] p q h k = absurd h
@@ -81,5 +81,5 @@ module _ (u : Listing) where
       two (λ (x : Bytes × Sets) (xs : Environment). x ∷ xs) a b env other (two (λ (n : Bytes) (row : Sets). (n, row)) a.0 b.0 a.1 b.1 h.0 (same_row a.1 b.1 p.0 q.0 h.1 k.1))
       (same_environment env other p.1 q.1 h.2 k.2)
 
-  pub one_least : (rules : List Rule) (a b : Environment) → IsLeast u rules a → IsLeast u rules b → a ≡ b
+  pub one_least : (rules : List RuleTree) (a b : Environment) → IsLeast u rules a → IsLeast u rules b → a ≡ b
   one_least rules a b h k = same_environment a b h.of_rules.environment.rows k.of_rules.environment.rows (h.least b k.of_rules k.closed) (k.least a h.of_rules h.closed)

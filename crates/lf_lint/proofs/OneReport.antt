@@ -1,7 +1,6 @@
 -- A list of words and the bytes of a file have one report: the words ask for one thing, and one thing stands in the bytes.
 use Rattle.std.specs.Prelude.{◌≡◌, Bool, true, false, List}
 use Rattle.std.proofs.Common.{refl, sym, subst, ◌∙◌}
-use Rattle.std.specs.declared.alloc.Global.{Global}
 use Rattle.lf_ast.specs.Labels.{Bytes}
 use Rattle.lf_lint.specs.declared.asked.Asked.{Asked}
 use Rattle.lf_lint.specs.Asks.{Asks, words_for}
@@ -19,7 +18,7 @@ one_asked words a b h k =
     let same = same_words a.labels b.labels a.file b.file (sym h.form ∙ k.form) in
     λ i. record { labels = same.0 i; file = same.1 i }
 
-pub one_report : (some : Global) (words : List Bytes) (bytes a b : Bytes) → IsReport words bytes a → IsReport words bytes b → a ≡ b
-one_report some words bytes a b h k =
+pub one_report : (words : List Bytes) (bytes a b : Bytes) → IsReport words bytes a → IsReport words bytes b → a ≡ b
+one_report words bytes a b h k =
     let P : Asked → Type 0 = λ asked. IsReportOn asked bytes h.found a in
-    one_found some k.asked bytes h.found k.found h.holds k.holds a b (subst P (one_asked words h.asked k.asked h.asks k.asks) h.text) k.text
+    one_found k.asked bytes h.found k.found h.holds k.holds a b (subst P (one_asked words h.asked k.asked h.asks k.asks) h.text) k.text

@@ -1,7 +1,8 @@
 -- The names that rules record, one rule after another.
-use Rattle.std.proofs.Common.{◌≡◌, ℕ, ◌+◌, ◌<◌, ◌≤◌, Bool, true, false, cond, nat_lt, List, [], ◌∷◌, ◌++◌, length, take, get_or, ◌∙◌, ap, sym, subst, arith, length-append}
-use Rattle.std.proofs.lemmas.List.{take_more}
+use Rattle.std.proofs.Common.{◌≡◌, ℕ, ◌+◌, ◌<◌, ◌≤◌, Bool, true, false, cond, nat_lt, List, [], ◌∷◌, ◌++◌, length, take, get_or, ◌∙◌, ap, sym, arith, length-append}
+use Rattle.std.proofs.lemmas.List.{map-append, take_more}
 use Rattle.lf_ast.specs.Labels.{Bytes}
+use Rattle.lf_ast.specs.Rules.{RuleTree, rule_tree, rule_trees}
 use Rattle.lf_ast.specs.declared.rule.Rule.{Rule}
 use Rattle.lf_classes.specs.Meetings.{with_text}
 use Rattle.lf_semantics.specs.Environments.{recorded_names}
@@ -9,7 +10,7 @@ use Rattle.lf_semantics.specs.Listing.{place}
 use Rattle.lf_flow.proofs.Entries.{recorded_more}
 
 -- the names are those that rules record, and no more than the rules
-pub record AreRecorded (names : List Bytes) (rules : List Rule) : Type 0 where
+pub record AreRecorded (names : List Bytes) (rules : List RuleTree) : Type 0 where
   pub are : names ≡ recorded_names rules
   pub few : length names ≤ length rules
 
@@ -21,13 +22,15 @@ few_more names false name =
       | false ↦ omega (arith, length-append names (name ∷ []))
     ]
 
-pub recorded_next : (names after : List Bytes) (rules : List Rule) (i : ℕ) (r : Rule) → i < length rules → r ≡ get_or rules i r → after ≡ cond r.alert names (with_text names r.name) → AreRecorded names (take i rules)
-    → AreRecorded after (take (i + 1) rules)
+pub recorded_next : (names after : List Bytes) (rules : List Rule) (i : ℕ) (r : Rule) → i < length rules → r ≡ get_or rules i r → after ≡ cond r.alert names (with_text names r.name) → AreRecorded names (rule_trees (take i rules))
+    → AreRecorded after (rule_trees (take (i + 1) rules))
 recorded_next names after rules i r h is put before =
-    let more : take i rules ++ r ∷ [] ≡ take (i + 1) rules = ap (λ (x : Rule). take i rules ++ x ∷ []) is ∙ sym (take_more rules i r h) in
-    let long : length (take (i + 1) rules) ≡ length (take i rules) + 1 = sym (ap length more) ∙ length-append (take i rules) (r ∷ []) in
+    let before_all = rule_trees (take i rules) in
+    let more : before_all ++ rule_tree r ∷ [] ≡ rule_trees (take (i + 1) rules) =
+    sym (map-append rule_tree (take i rules) (r ∷ [])) ∙ ap (λ (x : Rule). rule_trees (take i rules ++ x ∷ [])) is ∙ ap rule_trees (sym (take_more rules i r h)) in
+    let long : length (rule_trees (take (i + 1) rules)) ≡ length before_all + 1 = sym (ap length more) ∙ length-append before_all (rule_tree r ∷ []) in
     let size = ap length put in
     record {
-      are = put ∙ ap (λ (l : List Bytes). cond r.alert l (with_text l r.name)) before.are ∙ sym (recorded_more (take i rules) r) ∙ ap recorded_names more;
+      are = put ∙ ap (λ (l : List Bytes). cond r.alert l (with_text l r.name)) before.are ∙ sym (recorded_more before_all (rule_tree r)) ∙ ap recorded_names more;
       few = omega (arith, size, few_more names r.alert r.name, before.few, long);
     }

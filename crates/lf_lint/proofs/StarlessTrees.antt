@@ -1,18 +1,15 @@
 -- No label that an expression names is `*`: each is a word of the expression's text, or a string that is a label name.
-use Rattle.std.proofs.Common.{◌≡◌, ◌≢◌, ◌+◌, ℕ, zero, suc, Bool, length, true, false, not, List, [], ◌∷◌, ◌++◌, map, Option, Some, None, ◌==◌, codes, drop, refl, sym, ◌∙◌, ap, subst, arith, if◌then◌else◌}
+use Rattle.std.proofs.Common.{◌≡◌, ◌≢◌, ◌+◌, ℕ, zero, suc, Bool, length, true, false, List, [], ◌∷◌, ◌++◌, map, Option, Some, None, ◌==◌, codes, drop, refl, sym, ◌∙◌, ap, subst, arith, if◌then◌else◌}
 use Rattle.std.specs.Prelude.{◌&&◌, cond, unwrap_or}
 use Rattle.std.specs.List.{AllByRecursion, list_any}
 use Rattle.std.proofs.lemmas.Bool.Decides.{nat_tests}
 use Rattle.lf_base.specs.declared.place.Span.{Span}
 use Rattle.lf_ast.specs.Functions.{Signature, aggregation, function_named}
 use Rattle.lf_ast.specs.Labels.{Bytes}
-use Rattle.lf_ast.specs.Layers.{by_layers}
-use Rattle.lf_ast.specs.Types.{Fit, HasType, is_bad_label, is_label_name, names_a_label, names_at, string_of, type_layer}
-use Rattle.lf_ast.specs.declared.expr.Expr.{Expr}
-use Rattle.lf_ast.specs.declared.expr.Expr.TheOpen as O
-use Rattle.lf_ast.specs.declared.expr.Expr.TheOpen.{Expr-F}
-use Rattle.lf_ast.specs.declared.expr.Expr.TheViews.{roll-Expr}
-use Rattle.lf_ast.specs.declared.expr.Expr.TheFolds.{fold-roll-Expr, map-Expr}
+use Rattle.lf_ast.specs.Tree.{Tree, Number, Str, Selector, Subquery, Paren, Unary, Binary, Call, Aggregate, Trees, Nil, Next, with_last}
+use Rattle.lf_ast.specs.Types.{Fit, HasType, is_bad_label, names_a_label, names_at, string_of}
+use Rattle.lf_base.specs.Names.{begins_label, is_label_name, is_letter}
+use Rattle.lf_laws.proofs.Booleans.{not_false}
 use Rattle.lf_ast.specs.declared.expr.ExprType.{ExprType}
 use Rattle.lf_ast.specs.declared.expr.ExprType.TheVariants.{Vector}
 use Rattle.lf_ast.specs.declared.expr.Matcher.{Matcher}
@@ -21,9 +18,8 @@ use Rattle.lf_ast.specs.declared.expr.Sight.{Sight}
 use Rattle.lf_ast.specs.declared.expr.Name.{Name}
 use Rattle.lf_ast.specs.declared.functions.LabelEffect.{LabelEffect}
 use Rattle.lf_ast.specs.declared.functions.LabelEffect.TheVariants.{CountValues, LabelReplace, LabelJoin, HistogramQuantile}
-use Rattle.lf_ast.proofs.TypeLayers.{type-roll}
 use Rattle.lf_lex.specs.Parts.{Part, Blank, Comment, Written, AreParts, IsToken, IsWord, behind_part, part_text}
-use Rattle.lf_lex.specs.Bytes.{begins_word, is_letter}
+use Rattle.lf_lex.specs.Bytes.{begins_word}
 use Rattle.lf_lex.specs.Tokens.{Tokens, tokens_of}
 use Rattle.lf_lex.specs.declared.token.Token.{Token}
 use Rattle.lf_lex.specs.declared.token.TokenKind.{TokenKind}
@@ -33,14 +29,12 @@ use Rattle.lf_parse.specs.declared.class.Clause.TheVariants.{By, Without}
 use Rattle.lf_parse.specs.declared.class.Scope.{Scope}
 use Rattle.lf_parse.specs.declared.class.Scope.TheVariants.{On, Ignoring}
 use Rattle.lf_parse.specs.Tokens.{Word, Metric, Tok, ◌at◌, class_of, shown, word_mark}
-use Rattle.lf_parse.specs.Tree.{Tree, Number, Str, Selector, Subquery, Paren, Unary, Binary, Call, Aggregate, Trees, Nil, Then, then_all, tree, tree_layer}
 use Rattle.lf_parse.specs.Grammar as G
 use Rattle.lf_parse.specs.Grammar.{At, ArgsAt, BracesAt, LabelsAt, MatchersAt, ModAt, ModifierAt, ModsAt, NamesAt, ScopedAt, SelectAt, SomeAt, StepAt, Parses}
-use Rattle.lf_semantics.specs.Parts.{text_at, texts_of}
+use Rattle.lf_ast.specs.Arguments.{text_at, texts_of}
 use Rattle.lf_semantics.specs.Strings.{replacing}
-use Rattle.lf_semantics.specs.Texts.{metric}
-use Rattle.lf_semantics.specs.Walk.{Met, call_met, each_expr, each_met, effect_met, group_names, grouped_met, matchers_met, met, modifier_met, name_met, names_met, pattern_texts, stands_first, walk, walk_layer}
-use Rattle.lf_semantics.proofs.Rolls.{beside, walk-roll}
+use Rattle.lf_ast.specs.Selectors.{metric}
+use Rattle.lf_semantics.specs.Mentions.{Mention, arguments_mentions, call_mentions, effect_mentions, group_names, grouped_mentions, matchers_mentions, mention, modifier_mentions, name_mentions, names_mentions, pattern_texts, stands_first, mentions}
 
 -- ---- the label that stands for every other in a report
 
@@ -83,7 +77,11 @@ abbrev mutual
 
   pub TreesFree : Trees → Type 0
   TreesFree Nil = Unit {0}
-  TreesFree (Then xs e) = TreesFree xs × TreeFree e
+  TreesFree (Next e es) = TreeFree e × TreesFree es
+
+last_free : (xs : Trees) (e : Tree) → TreesFree xs → TreeFree e → TreesFree (with_last xs e)
+last_free Nil e h k = (k, tt)
+last_free (Next x xs) e h k = (h.0, last_free xs e h.1 k)
 
 all_push : {A : Type 0} (P : A → Type 0) (xs : List A) (x : A) → AllByRecursion P xs → P x → AllByRecursion P (xs ++ x ∷ [])
 all_push P [] x h k = (k, tt)
@@ -186,11 +184,11 @@ mutual
       ((j.0, i.0, k.0), k.1)
 
   some_free : {xs : Trees} {ts rest : List Tok} → SomeAt xs ts rest → AreFree ts → TreesFree xs × AreFree rest
-  some_free (G.one a) f = let k = at_free a f in ((tt, k.0), k.1)
-  some_free (G.also s a) f =
+  some_free (G.one a) f = let k = at_free a f in ((k.0, tt), k.1)
+  some_free (G.also {xs = xs} {e = e} s a) f =
       let i = some_free s f in
       let k = at_free a i.1.1 in
-      ((i.0, k.0), k.1)
+      (last_free xs e i.0 k.0, k.1)
 
   args_free : {xs : Trees} {p : Span} {ts rest : List Tok} → ArgsAt xs p ts rest → AreFree ts → TreesFree xs × AreFree rest
   args_free G.no_args f = (tt, f.1.1)
@@ -199,7 +197,7 @@ mutual
 -- ---- the tokens of a text are free
 
 star_begins_none : (inside : Bool) → begins_word inside 42 ≡ true → ⊥
-unfolding begins_word is_letter
+unfolding begins_word begins_label is_letter
 star_begins_none inside e = cc
 
 word_free : (w : Bytes) (p : Span) → w ≢ star → IsFree (word_mark w at p)
@@ -228,27 +226,23 @@ parts_free from start inside (Written kind text ∷ parts) rest are = (token_fre
 pub tokens_free : (from text : Bytes) (tokens : List Token) → Tokens from text tokens → AreFree (map shown tokens)
 tokens_free from text tokens is = subst (λ ts. AreFree (map shown ts)) (sym is.tokens_are) (parts_free from 0 false is.parts [] is.are_parts)
 
--- ---- from trees to expressions
+-- ---- what expressions name
 
-then_all_free : (xs : Trees) (ys : List Tree) → TreesFree (then_all xs ys) → TreesFree xs × AllByRecursion TreeFree ys
-then_all_free xs [] h = (h, tt)
-then_all_free xs (y ∷ ys) h = let k = then_all_free (Then xs y) ys h in (k.0.0, (k.0.1, k.1))
+-- none of what is named is `*`
+abbrev pub NoneStar : List Mention → Type 0
+NoneStar = AllByRecursion (λ m. m.label ≢ star)
 
--- none of what is met is met with `*`
-abbrev pub MetFree : List Met → Type 0
-MetFree = AllByRecursion (λ m. m.label ≢ star)
+pub none_star_append : (xs ys : List Mention) → NoneStar xs → NoneStar ys → NoneStar (xs ++ ys)
+none_star_append [] ys h k = k
+none_star_append (x ∷ xs) ys h k = (h.0, none_star_append xs ys h.1 k)
 
-pub met_append : (xs ys : List Met) → MetFree xs → MetFree ys → MetFree (xs ++ ys)
-met_append [] ys h k = k
-met_append (x ∷ xs) ys h k = (h.0, met_append xs ys h.1 k)
+names_starless : (xs : List Name) → NamesFree xs → NoneStar (names_mentions xs)
+names_starless [] f = tt
+names_starless (x ∷ xs) f = (f.0, names_starless xs f.1)
 
-names_met_free : (xs : List Name) → NamesFree xs → MetFree (names_met xs)
-names_met_free [] f = tt
-names_met_free (x ∷ xs) f = (f.0, names_met_free xs f.1)
-
-matchers_met_free : (xs : List Matcher) → MatchersFree xs → MetFree (matchers_met xs)
-matchers_met_free [] f = tt
-matchers_met_free (x ∷ xs) f = (f.0, matchers_met_free xs f.1)
+matchers_starless : (xs : List Matcher) → MatchersFree xs → NoneStar (matchers_mentions xs)
+matchers_starless [] f = tt
+matchers_starless (x ∷ xs) f = (f.0, matchers_starless xs f.1)
 
 begins_star : Bytes → Bool
 begins_star [] = false
@@ -266,63 +260,57 @@ none_differs : [] ≢ star
 unfolding begins_star
 none_differs e = let h : false ≡ true = ap begins_star e in cc
 
-name_met_free : (name : Option Bytes) → MetFree (name_met name)
-name_met_free None = tt
-name_met_free (Some name) = (metric_differs, tt)
+name_starless : (name : Option Bytes) → NoneStar (name_mentions name)
+name_starless None = tt
+name_starless (Some name) = (metric_differs, tt)
 
-modifier_met_free : (m : MatchingOf) → MatchingFree m → MetFree (modifier_met m)
-modifier_met_free m f =
-    met_append (names_met (names_at m.on)) _ (names_met_free (names_at m.on) f.0)
-    (met_append (names_met (names_at m.ignoring)) (names_met m.include) (names_met_free (names_at m.ignoring) f.1) (names_met_free m.include f.2))
+modifier_starless : (m : MatchingOf) → MatchingFree m → NoneStar (modifier_mentions m)
+modifier_starless m f =
+    none_star_append (names_mentions (names_at m.on)) _ (names_starless (names_at m.on) f.0)
+    (none_star_append (names_mentions (names_at m.ignoring)) (names_mentions m.include) (names_starless (names_at m.ignoring) f.1) (names_starless m.include f.2))
 
 -- ---- strings that name labels
 
 star_is_none : is_label_name star ≡ true → ⊥
+unfolding is_label_name begins_label is_letter
 star_is_none e = cc
 
 label_name_differs : (text : Bytes) → is_label_name text ≡ true → text ≢ star
 label_name_differs text h e = star_is_none (subst (λ t. is_label_name t ≡ true) e h)
-
-not_false : (b : Bool) → not b ≡ false → b ≡ true
-not_false true e = refl
-not_false false e = cc
 
 -- a string where a label is wanted
 string_differs : (string : Option Bytes) → is_bad_label string ≡ false → unwrap_or string [] ≢ star
 string_differs None e = none_differs
 string_differs (Some text) e = label_name_differs text (not_false (is_label_name text) e)
 
-abbrev Fits : List Expr → Signature → ℕ → Type 0
-Fits es s k = Fit Expr (λ y. y) HasType es s k
-
 wanted_differs : (wants bad : Bool) → wants ≡ true → (wants && bad) ≡ false → bad ≡ false
 wanted_differs true bad e f = f
 wanted_differs false bad e f = cc
 
 -- the texts of the arguments that name labels
-text_differs : (s : Signature) (k : ℕ) (es : List Expr) → Fits es s k → (j : ℕ) → names_a_label s.labels (k + j) ≡ true → text_at (texts_of es) j ≢ star
-text_differs s k [] fit j wants = none_differs
-text_differs s k (e ∷ es) fit zero wants =
+text_differs : (s : Signature) (k : ℕ) (args : Trees) → Fit args s k → (j : ℕ) → names_a_label s.labels (k + j) ≡ true → text_at (texts_of args) j ≢ star
+text_differs s k Nil fit j wants = none_differs
+text_differs s k (Next e es) fit zero wants =
     let same : k + 0 ≡ k = omega arith in
     string_differs (string_of e) (wanted_differs (names_a_label s.labels k) (is_bad_label (string_of e)) (subst (λ n. names_a_label s.labels n ≡ true) same wants) fit.0.3)
-text_differs s k (e ∷ es) fit (suc j) wants =
+text_differs s k (Next e es) fit (suc j) wants =
     let same : k + suc j ≡ (k + 1) + j = omega arith in
     text_differs s (k + 1) es fit.1 j (subst (λ n. names_a_label s.labels n ≡ true) same wants)
 
-sources_free : (texts : List Bytes) → ((j : ℕ) → text_at texts j ≢ star) → MetFree (map (λ source. met source []) texts)
+sources_free : (texts : List Bytes) → ((j : ℕ) → text_at texts j ≢ star) → NoneStar (map (λ source. mention source []) texts)
 sources_free [] h = tt
 sources_free (x ∷ texts) h = (h 0, sources_free texts (λ j. h (suc j)))
 
 none_at : (j : ℕ) → text_at [] j ≢ star
 none_at j = none_differs
 
-behind_three : (texts : List Bytes) → ((j : ℕ) → text_at texts (suc (suc (suc j))) ≢ star) → MetFree (map (λ source. met source []) (drop 3 texts))
+behind_three : (texts : List Bytes) → ((j : ℕ) → text_at texts (suc (suc (suc j))) ≢ star) → NoneStar (map (λ source. mention source []) (drop 3 texts))
 behind_three [] h = tt
 behind_three (a ∷ []) h = tt
 behind_three (a ∷ b ∷ []) h = tt
 behind_three (a ∷ b ∷ c ∷ texts) h = sources_free texts h
 
-source_free : (source pattern : Bytes) (b : Bool) → is_label_name source ≡ b → MetFree (cond b (met source (pattern_texts pattern) ∷ []) [])
+source_free : (source pattern : Bytes) (b : Bool) → is_label_name source ≡ b → NoneStar (cond b (mention source (pattern_texts pattern) ∷ []) [])
 source_free source pattern true e = (label_name_differs source e, tt)
 source_free source pattern false e = tt
 
@@ -331,86 +319,53 @@ source_free source pattern false e = tt
 is_source : (j : ℕ) → names_a_label LabelJoin (suc (suc (suc j))) ≡ true
 is_source j = grind (arith, nat_tests)
 
-module _ (es : List Expr) (operands : List Met) (free : MetFree operands) where
+module _ (es : Trees) (operands : List Mention) (free : NoneStar operands) where
   abbrev Named : LabelEffect → Type 0
   Named effect = (j : ℕ) → names_a_label effect j ≡ true → text_at (texts_of es) j ≢ star
 
-  effect_free : (effect : LabelEffect) → Named effect → MetFree (effect_met effect (texts_of es) operands)
+  effect_free : (effect : LabelEffect) → Named effect → NoneStar (effect_mentions effect (texts_of es) operands)
   effect_free HistogramQuantile named = (bound_differs, free)
   effect_free CountValues named = (named 0 refl, free)
   effect_free LabelReplace named =
       let p = replacing (texts_of es) in
-      met_append operands _ free (named 1 refl, source_free p.source p.pattern (is_label_name p.source) refl)
-  effect_free LabelJoin named = met_append operands _ free (named 1 refl, behind_three (texts_of es) (λ j. named (suc (suc (suc j))) (is_source j)))
+      none_star_append operands _ free (named 1 refl, source_free p.source p.pattern (is_label_name p.source) refl)
+  effect_free LabelJoin named = none_star_append operands _ free (named 1 refl, behind_three (texts_of es) (λ j. named (suc (suc (suc j))) (is_source j)))
   effect_free _ named = free
 
--- ---- layers
+-- ---- expressions
 
-abbrev NoStar : Expr → Type 0
-NoStar e = TreeFree (tree e) → (t : ExprType) → HasType e t → MetFree (walk e)
+grouped_free : (b : Bool) (grouping arguments : List Mention) → NoneStar grouping → NoneStar arguments → NoneStar (grouped_mentions b grouping arguments)
+grouped_free true grouping arguments h k = none_star_append grouping arguments h k
+grouped_free false grouping arguments h k = none_star_append arguments grouping k h
 
-module _ (z : Expr-F Expr) where
-  by_layer : (TreeFree (tree_layer (map-Expr Expr Tree tree z)) → (t : ExprType) → type_layer Expr (λ y. y) HasType z t → MetFree (walk_layer (beside walk z))) → NoStar (roll-Expr z)
-  by_layer h free t has =
-      let Q : (ExprType → Type 0) → Type 0 = λ H. H t in
-      subst MetFree (sym (walk-roll z)) (h (subst TreeFree (fold-roll-Expr Tree tree_layer z) free) t (subst Q (type-roll z) has))
+fits_named : (s : Signature) (args : Trees) → Fit args s 0 → (j : ℕ) → names_a_label s.labels j ≡ true → text_at (texts_of args) j ≢ star
+fits_named s args fit = λ j wants. text_differs s 0 args fit j (let same : j ≡ 0 + j = omega arith in subst (λ n. names_a_label s.labels n ≡ true) same wants)
 
-abbrev with_walk : List Expr → List (Expr × List Met)
-with_walk es = map (λ e. (e, walk e)) es
+called_free : (args : Trees) (o : Option Signature) (s : Signature) → o ≡ Some s → Fit args s 0 → NoneStar (arguments_mentions args) → NoneStar (call_mentions o (texts_of args) (arguments_mentions args))
+called_free args o s is fit operands =
+    let P : Option Signature → Type 0 = λ x. NoneStar (call_mentions x (texts_of args) (arguments_mentions args)) in
+    subst P (sym is) (effect_free args (arguments_mentions args) operands s.labels (fits_named s args fit))
 
-same_exprs : (es : List Expr) → each_expr (with_walk es) ≡ es
-same_exprs [] = refl
-same_exprs (e ∷ es) = ap (λ (l : List Expr). e ∷ l) (same_exprs es)
+mutual
+  starless_tree : (e : Tree) (t : ExprType) → TreeFree e → HasType e t → NoneStar (mentions e)
+  starless_tree (Number text span) t free has = tt
+  starless_tree (Str text span) t free has = tt
+  starless_tree (Selector name matchers sight span) t free has = none_star_append (name_mentions name) (matchers_mentions matchers) (name_starless name) (matchers_starless matchers free)
+  starless_tree (Subquery of sight span) t free has = starless_tree of Vector free has.0
+  starless_tree (Paren of span) t free has = starless_tree of t free has
+  starless_tree (Unary minus of span) t free has = starless_tree of t free has.0
+  starless_tree (Binary op m left right span) t free has =
+      none_star_append (mentions left) _ (starless_tree left has.0 free.1 has.2)
+      (none_star_append (modifier_mentions m) (mentions right) (modifier_starless m free.0) (starless_tree right has.1 free.2 has.3))
+  starless_tree (Call name args span) t free has = called_free args (function_named name) has.0 has.1 has.2.1 (starless_trees args has.0 0 free has.2.1)
+  starless_tree (Aggregate op g args span) t free has =
+      grouped_free (stands_first (group_names g) args) (names_mentions (group_names g)) _ (names_starless (group_names g) free.0)
+      (called_free args (Some (aggregation op)) (aggregation op) refl has.1 (starless_trees args (aggregation op) 0 free.1 has.1))
 
-grouped_free : (b : Bool) (grouping arguments : List Met) → MetFree grouping → MetFree arguments → MetFree (grouped_met b grouping arguments)
-grouped_free true grouping arguments h k = met_append grouping arguments h k
-grouped_free false grouping arguments h k = met_append arguments grouping k h
-
-module _ (es : List Expr) (each : AllByRecursion NoStar es) (free : AllByRecursion TreeFree (map tree es)) where
-  abbrev here : List (Expr × List Met)
-  here = with_walk es
-
-  effect_here : (s : Signature) → Fits es s 0 → MetFree (each_met here) → MetFree (effect_met s.labels (texts_of (each_expr here)) (each_met here))
-  effect_here s fit operands =
-      let P : List Expr → Type 0 = λ l. MetFree (effect_met s.labels (texts_of l) (each_met here)) in
-      subst P (sym (same_exprs es)) (effect_free es (each_met here) operands s.labels (λ j wants. text_differs s 0 es fit j (let same : j ≡ 0 + j = omega arith in subst (λ n. names_a_label s.labels n ≡ true) same wants)))
-
-each_free : (s : Signature) (k : ℕ) (es : List Expr) → AllByRecursion NoStar es → AllByRecursion TreeFree (map tree es) → Fits es s k → MetFree (each_met (with_walk es))
-each_free s k [] each free fit = tt
-each_free s k (e ∷ es) each free fit = met_append (walk e) (each_met (with_walk es)) (each.0 free.0 fit.0.0 fit.0.2) (each_free s (k + 1) es each.1 free.1 fit.1)
-
-called_free : (es : List Expr) → AllByRecursion NoStar es → AllByRecursion TreeFree (map tree es) → (o : Option Signature) (s : Signature) → o ≡ Some s → Fits es s 0
-    → MetFree (call_met o (texts_of (each_expr (with_walk es))) (each_met (with_walk es)))
-called_free es each free o s is fit =
-    let P : Option Signature → Type 0 = λ x. MetFree (call_met x (texts_of (each_expr (with_walk es))) (each_met (with_walk es))) in
-    subst P (sym is) (effect_here es each free s fit (each_free s 0 es each free fit))
-
-module _ (X : Type 0) (whole : X → Expr) (h : (x : X) → NoStar (whole x)) where
-  all_apart : (args : List X) → AllByRecursion NoStar (map whole args)
-  all_apart [] = tt
-  all_apart (x ∷ args) = (h x, all_apart args)
-
-  apart_at : (y : Expr-F X) → NoStar (roll-Expr (map-Expr X Expr whole y))
-  apart_at (O.Number text span) = by_layer (map-Expr X Expr whole (O.Number text span)) (λ free t has. tt)
-  apart_at (O.Str text span) = by_layer (map-Expr X Expr whole (O.Str text span)) (λ free t has. tt)
-  apart_at (O.Selector name matchers sight span) =
-      by_layer (map-Expr X Expr whole (O.Selector name matchers sight span)) (λ free t has. met_append (name_met name) (matchers_met matchers) (name_met_free name) (matchers_met_free matchers free))
-  apart_at (O.Subquery of sight span) = by_layer (map-Expr X Expr whole (O.Subquery of sight span)) (λ free t has. h of.value free Vector has.0)
-  apart_at (O.Paren of span) = by_layer (map-Expr X Expr whole (O.Paren of span)) (λ free t has. h of.value free t has)
-  apart_at (O.Unary minus of span) = by_layer (map-Expr X Expr whole (O.Unary minus of span)) (λ free t has. h of.value free t has.0)
-  apart_at (O.Binary op m left right span) = by_layer (map-Expr X Expr whole (O.Binary op m left right span)) (λ free t has.
-      met_append (walk (whole left.value)) _ (h left.value free.1 has.0 has.2)
-      (met_append (modifier_met m) (walk (whole right.value)) (modifier_met_free m free.0) (h right.value free.2 has.1 has.3)))
-  apart_at (O.Call name args span) = by_layer (map-Expr X Expr whole (O.Call name args span)) (λ free t has.
-      called_free (map whole args) (all_apart args) (then_all_free Nil (map tree (map whole args)) free).1 (function_named name) has.0 has.1 has.2.1)
-  apart_at (O.Aggregate op g args span) = by_layer (map-Expr X Expr whole (O.Aggregate op g args span)) (λ free t has.
-      let es = map whole args in
-      grouped_free (stands_first (group_names g) (each_expr (with_walk es))) (names_met (group_names g)) _ (names_met_free (group_names g) free.0)
-      (called_free es (all_apart args) (then_all_free Nil (map tree es) free.1).1 (Some (aggregation op)) (aggregation op) refl has.1))
-
-no_star_of : (e : Expr) → NoStar e
-no_star_of = by_layers NoStar apart_at
+  starless_trees : (args : Trees) (s : Signature) (k : ℕ) → TreesFree args → Fit args s k → NoneStar (arguments_mentions args)
+  starless_trees Nil s k free fit = tt
+  starless_trees (Next e es) s k free fit = none_star_append (mentions e) (arguments_mentions es) (starless_tree e fit.0.0 free.0 fit.0.2) (starless_trees es s (k + 1) free.1 fit.1)
 
 -- no label of an expression that was read of a text and has a type is `*`
-pub starless : (from text : Bytes) (tokens : List Token) (e : Expr) (t : ExprType) → Tokens from text tokens → Parses tokens (tree e) → HasType e t → MetFree (walk e)
-starless from text tokens e t are parses has = no_star_of e (at_free parses.1 (tokens_free from text tokens are)).0 t has
+pub starless : (from text : Bytes) (tokens : List Token) (e : Tree) (t : ExprType) → Tokens from text tokens → Parses tokens e → HasType e t → NoneStar (mentions e)
+starless from text tokens e t are parses has = starless_tree e t (at_free parses.1 (tokens_free from text tokens are)).0 has

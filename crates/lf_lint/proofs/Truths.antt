@@ -1,33 +1,29 @@
 -- What a report says of the labels of rules is true.
-use Rattle.std.proofs.Common.{◌≡◌, ◌≢◌, ◌↔◌, ℕ, zero, suc, ◌+◌, ◌<◌, ◌≤◌, Bool, true, false, not, cond, eqb, ◌&&◌, ◌||◌, drop, List, [], ◌∷◌, ◌++◌, map, length, get_or, length-append, Option, Some, refl, sym, ◌∙◌, ap, subst, arith, codes, if◌then◌else◌}
+use Rattle.std.proofs.Common.{◌≡◌, ◌↔◌, ℕ, zero, suc, ◌+◌, ◌<◌, Bool, true, false, not, cond, List, [], ◌∷◌, ◌++◌, map, length, get_or, length-append, Option, Some, refl, sym, ◌∙◌, ap, subst, arith, codes, if◌then◌else◌}
 use Rattle.std.specs.Prelude.{slice_get}
-use Rattle.std.specs.List.{AllByRecursion, Contains, count_by, flat_map, list_any}
+use Rattle.std.specs.List.{AllByRecursion, Contains, count_by, flat_map}
 use Rattle.std.proofs.lemmas.List.Sums.{sum_by-cons}
-use Rattle.std.proofs.lemmas.Bool.Decides.{Decides-eqb}
 use Rattle.lf_ast.specs.Labels.{Bytes, Labels}
-use Rattle.lf_ast.specs.declared.rule.Rule.{Rule}
-use Rattle.lf_semantics.specs.ClassRows.{Lies, Sets, indexed_from, is_live}
-use Rattle.lf_semantics.specs.Environments.{IsEnvironmentOf, IsLeast, rule_row}
-use Rattle.lf_semantics.specs.Listing.{IsListing, Listing, label_of, universe_of}
-use Rattle.lf_semantics.specs.RowTable.{Environment, has_class, may_be_absent, may_be_present}
+use Rattle.lf_ast.specs.Rules.{RuleTree}
+use Rattle.lf_semantics.specs.ClassRows.{Represents, Sets, is_live}
+use Rattle.lf_semantics.specs.Environments.{IsLeast, rule_row}
+use Rattle.lf_semantics.specs.Listing.{Listing, label_of, universe_of}
+use Rattle.lf_semantics.specs.RowTable.{Environment, may_be_absent, may_be_present}
 use Rattle.lf_semantics.specs.Worlds.{World, IsSample, SetsNoName}
 use Rattle.lf_semantics.proofs.ListingLaws.{universe_covers, universe_is_listing}
-use Rattle.lf_semantics.proofs.Members.{here, behind}
 use Rattle.lf_semantics.proofs.Places.{place_le}
-use Rattle.lf_semantics.proofs.RecordedLies.{sample_lies}
+use Rattle.lf_semantics.proofs.SamplesRepresented.{sample_represented}
 use Rattle.lf_semantics.proofs.RowLaws.{length_row}
 use Rattle.lf_semantics.proofs.Told.{is_absent, is_present, not_empty}
 use Rattle.lf_lint.specs.declared.asked.Asked.{Asked}
-use Rattle.lf_lint.specs.declared.found.Found.{Found}
-use Rattle.lf_lint.specs.declared.found.Found.TheVariants.{Rules, Refused}
 use Rattle.lf_lint.specs.declared.report.verdict.Verdict.{Verdict}
-use Rattle.lf_lint.specs.declared.report.verdict.Verdict.TheVariants.{Guaranteed, Impossible, Unresolved}
+use Rattle.lf_lint.specs.declared.report.verdict.Verdict.TheVariants.{Unresolved}
 use Rattle.lf_lint.specs.Accepted.{IsAccepted}
 use Rattle.lf_lint.specs.Ends.{IsReportOn, Judged, Wrote, WroteAll}
-use Rattle.lf_lint.specs.Founds.{is_refused}
-use Rattle.lf_lint.specs.Headline.{IsTrue, IsTrueOf, IsTrueReport, IsTrueSaid, LeavesBoth, Said, SpeaksTruth, Spoken, WroteTruth, is_empty, said_text, spoken_lines, verdicts_said}
+use Rattle.lf_lint.specs.Founds.{Content, Refused, Rules, is_refused}
+use Rattle.lf_lint.specs.Headline.{IsTrue, IsTrueOf, IsTrueReport, IsTrueSaid, Said, SpeaksTruth, Spoken, WroteTruth, is_empty, said_text, spoken_lines, verdicts_said}
 use Rattle.lf_lint.specs.Report.{label_line, label_lines, labels_of, labels_text, lines_text, place_text, report_of, rule_line, rule_lines, rules_lines, said_lines, totals_line, totals_text, verdicts_line}
-use Rattle.lf_lint.specs.Verdicts.{empty_count, has_none, has_text, is_empty_rule, verdict_from, verdict_of, verdicts_in, verdicts_of}
+use Rattle.lf_lint.specs.Verdicts.{empty_count, is_empty_rule, verdict_from, verdict_of, verdicts_in, verdicts_of}
 use Rattle.lf_lint.proofs.AcceptedRules.{sets_no_name}
 use Rattle.lf_lint.proofs.LabelTexts.{text_same}
 use Rattle.lf_lint.proofs.Starless.{no_star}
@@ -47,7 +43,7 @@ open_from present absent = (λ e. by present absent e, λ e. ap (λ b. verdict_f
     by true false e = cc
     by false false e = cc
 
-module _ (rules : List Rule) (r : Rule) (u : Listing) (row : Sets) (lies : (world : World rules) (s : Labels) → IsSample world r s → Lies u row s) (name : Bytes) where
+module _ (rules : List RuleTree) (r : RuleTree) (u : Listing) (row : Sets) (lies : (world : World rules) (s : Labels) → IsSample world r s → Represents u row s) (name : Bytes) where
   true_from : IsTrueOf rules r (verdict_from (may_be_present u row name) (may_be_absent u row name)) name
   true_from = by (may_be_present u row name) (may_be_absent u row name) refl refl
     where
@@ -116,22 +112,22 @@ empty_same labels row = by (is_live row)
 
 -- ---- the rules
 
-module _ (rules : List Rule) (named : (r : Rule) → Contains rules r → SetsNoName r) (env : Environment) (least : IsLeast (universe_of rules) rules env)
+module _ (rules : List RuleTree) (named : (r : RuleTree) → Contains rules r → SetsNoName r) (env : Environment) (least : IsLeast (universe_of rules) rules env)
     (starless : Contains (universe_of rules).names (codes "*") → ⊥) where
   abbrev u : Listing
   u = universe_of rules
 
-  abbrev row : Rule → Sets
+  abbrev row : RuleTree → Sets
   row = rule_row u env
 
-  each_set : (r : Rule) → length (labels_of u) ≡ length (row r)
+  each_set : (r : RuleTree) → length (labels_of u) ≡ length (row r)
   each_set r = omega (arith, length_row u (universe_is_listing rules) (row r) (shape_rule u (universe_is_listing rules) env least.of_rules.environment r), length-append u.names (codes "*" ∷ []))
 
-  lies : (r : Rule) (world : World rules) (s : Labels) → IsSample world r s → Lies u (row r) s
-  lies r world s sample = sample_lies u (universe_is_listing rules) rules (universe_covers rules) named env least.of_rules least.closed world r s sample
+  lies : (r : RuleTree) (world : World rules) (s : Labels) → IsSample world r s → Represents u (row r) s
+  lies r world s sample = sample_represented u (universe_is_listing rules) rules (universe_covers rules) named env least.of_rules least.closed world r s sample
 
   -- the verdict on the label of a name
-  true_at : (r : Rule) (name : Bytes) → IsTrue rules env r (verdict_of (get_or (row r) (label_of u name) [])) name
+  true_at : (r : RuleTree) (name : Bytes) → IsTrue rules env r (verdict_of (get_or (row r) (label_of u name) [])) name
   true_at r name =
       let P : Bool → Type 0 = λ b. IsTrue rules env r (verdict_from b (may_be_absent u (row r) name)) name in
       subst P (sym (text_same u (get_or (row r) (label_of u name) [])))
@@ -140,36 +136,36 @@ module _ (rules : List Rule) (named : (r : Rule) → Contains rules r → SetsNo
   within : (name : Bytes) → label_of u name < length (labels_of u)
   within name = omega (arith, place_le u.names name, length-append u.names (codes "*" ∷ []))
 
-  true_said : (r : Rule) → IsTrueSaid rules env r (said_by (labels_of u) (row r))
+  true_said : (r : RuleTree) → IsTrueSaid rules env r (said_by (labels_of u) (row r))
   true_said r = by (is_live (row r)) refl
     where
       by : (b : Bool) → is_live (row r) ≡ b → IsTrueSaid rules env r (cond b (Said.verdicts (claims_of (labels_of u) (row r))) Said.empty)
       by true e = (e, claim_labels (labels_of u) (row r) (each_set r), λ name. (_, claim_at (labels_of u) (row r) (label_of u name) (within name) (each_set r), true_at r name))
       by false e = (e, λ world s sample. not_empty u (row r) s (lies r world s sample) e)
 
-  abbrev speak : Rule → Spoken
+  abbrev speak : RuleTree → Spoken
   speak r = record { rule = r; said = said_by (labels_of u) (row r) }
 
-  rules_spoken : (rs : List Rule) → map (λ (s : Spoken). s.rule) (map speak rs) ≡ rs
+  rules_spoken : (rs : List RuleTree) → map (λ (s : Spoken). s.rule) (map speak rs) ≡ rs
   rules_spoken [] = refl
-  rules_spoken (r ∷ rs) = ap (λ (l : List Rule). r ∷ l) (rules_spoken rs)
+  rules_spoken (r ∷ rs) = ap (λ (l : List RuleTree). r ∷ l) (rules_spoken rs)
 
-  all_spoken : (rs : List Rule) → AllByRecursion (SpeaksTruth rules env) (map speak rs)
+  all_spoken : (rs : List RuleTree) → AllByRecursion (SpeaksTruth rules env) (map speak rs)
   all_spoken [] = tt
   all_spoken (r ∷ rs) = (true_said r, all_spoken rs)
 
-  lines_same : (file bytes : Bytes) (r : Rule) → spoken_lines file bytes (speak r) ≡ rule_lines file bytes (labels_of u) row r
+  lines_same : (file bytes : Bytes) (r : RuleTree) → spoken_lines file bytes (speak r) ≡ rule_lines file bytes (labels_of u) row r
   lines_same file bytes r = ap (λ (l : List Bytes). rule_line (place_text file bytes r.name_span.start) r.name ∷ l) (said_same (place_text file bytes r.expr_span.start) (labels_of u) (row r))
 
-  all_lines : (file bytes : Bytes) (rs : List Rule) → flat_map (spoken_lines file bytes) (map speak rs) ≡ rules_lines file bytes (labels_of u) row rs
+  all_lines : (file bytes : Bytes) (rs : List RuleTree) → flat_map (spoken_lines file bytes) (map speak rs) ≡ rules_lines file bytes (labels_of u) row rs
   all_lines file bytes [] = refl
   all_lines file bytes (r ∷ rs) = two (λ (l m : List Bytes). l ++ m) _ _ _ _ (lines_same file bytes r) (all_lines file bytes rs)
 
-  all_verdicts : (rs : List Rule) → flat_map (λ (s : Spoken). verdicts_said s.said) (map speak rs) ≡ verdicts_of row rs
+  all_verdicts : (rs : List RuleTree) → flat_map (λ (s : Spoken). verdicts_said s.said) (map speak rs) ≡ verdicts_of row rs
   all_verdicts [] = refl
   all_verdicts (r ∷ rs) = two (λ (l m : List Verdict). l ++ m) _ _ _ _ (verdicts_same (labels_of u) (row r) (each_set r)) (all_verdicts rs)
 
-  all_empty : (rs : List Rule) → count_by (λ (s : Spoken). is_empty s.said) (map speak rs) ≡ empty_count row rs
+  all_empty : (rs : List RuleTree) → count_by (λ (s : Spoken). is_empty s.said) (map speak rs) ≡ empty_count row rs
   all_empty [] = refl
   all_empty (r ∷ rs) =
       sum_by-cons (λ (s : Spoken). cond (is_empty s.said) 1 0) (speak r) (map speak rs)
@@ -192,26 +188,26 @@ module _ (rules : List Rule) (named : (r : Rule) → Contains rules r → SetsNo
   }
 
 -- a report on rules where labels are asked for
-true_on : (asked : Asked) (bytes : Bytes) (rules : List Rule) → IsAccepted bytes 0 rules → (report : Bytes) → IsReportOn asked bytes (Rules rules) report → asked.labels ≡ true → IsTrueReport asked bytes rules report
+true_on : (asked : Asked) (bytes : Bytes) (rules : List RuleTree) → IsAccepted bytes 0 rules → (report : Bytes) → IsReportOn asked bytes (Rules rules) report → asked.labels ≡ true → IsTrueReport asked bytes rules report
 true_on asked bytes rules accepted report on labels =
     let P : Bytes → Type 0 = λ text. IsTrueReport asked bytes rules text in
     subst P (sym on.2) (true_report rules (sets_no_name bytes 0 rules accepted) on.0 (on.1 labels) (λ c. no_star bytes 0 rules accepted (codes "*") c refl) asked bytes labels)
 
 -- some rules were found
-wrote_on : (words : List Bytes) (held : Bytes → Option Bytes) (before now : Option Bytes) (asked : Asked) (bytes : Bytes) (rules : List Rule) → Judged words held asked bytes (Rules rules)
+wrote_on : (words : List Bytes) (held : Bytes → Option Bytes) (before now : Option Bytes) (asked : Asked) (bytes : Bytes) (rules : List RuleTree) → Judged words held asked bytes (Rules rules)
     → (report : Bytes) → IsReportOn asked bytes (Rules rules) report → Wrote before now report → WroteTruth words held before now
 wrote_on words held before now asked bytes rules judged report on written = (asked, bytes, rules, judged, λ labels. (report, written, true_on asked bytes rules judged.holds report on labels))
 
 true_false : true ≡ false → ⊥
 true_false e = cc
 
-rules_in : (found : Found) → is_refused found ≡ false → (rules : List Rule) × (found ≡ Rules rules)
+rules_in : (found : Content) → is_refused found ≡ false → (rules : List RuleTree) × (found ≡ Rules rules)
 rules_in (Rules rules) e = (rules, refl)
 rules_in (Refused kind span) e = absurd (true_false e)
 
 pub wrote_truth : (words : List Bytes) (held : Bytes → Option Bytes) (before now : Option Bytes) → WroteAll words held before now false → WroteTruth words held before now
 wrote_truth words held before now all =
     let some = rules_in all.2 all.4 in
-    let P : Found → Type 0 = λ f. Judged words held all.0 all.1 f in
-    let Q : Found → Type 0 = λ f. IsReportOn all.0 all.1 f all.5 in
+    let P : Content → Type 0 = λ f. Judged words held all.0 all.1 f in
+    let Q : Content → Type 0 = λ f. IsReportOn all.0 all.1 f all.5 in
     wrote_on words held before now all.0 all.1 some.0 (subst P some.1 all.3) all.5 (subst Q some.1 all.6) all.7

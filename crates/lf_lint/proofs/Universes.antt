@@ -1,13 +1,13 @@
 -- The labels of a universe and the sets of a row, at their numbers.
-use Rattle.std.proofs.Common.{◌≡◌, ℕ, zero, suc, ◌+◌, ◌<◌, ◌≤◌, Bool, true, false, ◌||◌, cond, drop, List, [], ◌∷◌, ◌++◌, map, length, get_or, take, refl, sym, ◌∙◌, ap, arith, codes, length-append}
+use Rattle.std.proofs.Common.{◌≡◌, ℕ, zero, suc, ◌+◌, ◌<◌, ◌≤◌, Bool, true, false, cond, List, [], ◌∷◌, ◌++◌, map, length, get_or, take, refl, sym, ◌∙◌, ap, arith, codes, length-append}
 use Rattle.std.proofs.lemmas.List.{get_or-map, length-map, map_more, take_all}
 use Rattle.lf_ast.specs.Labels.{Bytes}
-use Rattle.lf_ast.specs.declared.rule.Rule.{Rule}
-use Rattle.lf_semantics.specs.ClassRows.{HasShape, Sets, nothing}
+use Rattle.lf_ast.specs.Rules.{RuleTree}
+use Rattle.lf_semantics.specs.ClassRows.{HasShape, Sets, bottom}
 use Rattle.lf_semantics.specs.Environments.{IsEnvironment, rule_row}
 use Rattle.lf_semantics.specs.Parts.{is_evaluated, type_by_form}
 use Rattle.lf_semantics.specs.RowTable.{Environment, row_of}
-use Rattle.lf_semantics.proofs.RowLaws.{shape_nothing}
+use Rattle.lf_semantics.proofs.RowLaws.{shape_bottom}
 use Rattle.lf_semantics.proofs.Soundness.{shape_of_row}
 use Rattle.lf_semantics.specs.Listing.{IsListing, Listing, class_counts, named_at}
 use Rattle.lf_lint.specs.Report.{labels_of, shown}
@@ -53,8 +53,8 @@ module _ (u : Listing) (row : Sets) (shape : HasShape u row) where
   set_length k h = sym (get_or-map (λ (set : List Bool). length set) row k [] 0 (omega (arith, h, set_count))) ∙ ap (λ l. get_or l k 0) shape ∙ counts_at u k h
 
 -- the row of a rule has a set for each label
-pub shape_rule : (u : Listing) → IsListing u → (env : Environment) → IsEnvironment u env → (r : Rule) → HasShape u (rule_row u env r)
-shape_rule u p env of r = elim (is_evaluated (type_by_form r.expr)) as (λ b. HasShape u (cond b (row_of u env r.expr) (nothing u))) [ true ↦ shape_of_row u p env of r.expr | false ↦ shape_nothing u ]
+pub shape_rule : (u : Listing) → IsListing u → (env : Environment) → IsEnvironment u env → (r : RuleTree) → HasShape u (rule_row u env r)
+shape_rule u p env of r = elim (is_evaluated (type_by_form r.expr)) as (λ b. HasShape u (cond b (row_of u env r.expr) (bottom u))) [ true ↦ shape_of_row u p env of r.expr | false ↦ shape_bottom u ]
 
 -- one more verdict
 pub verdict_more : (row : Sets) (k : ℕ) (verdict : Verdict) (old new : List Verdict) → k < length row → verdict ≡ verdict_of (get_or row k []) → old ≡ map verdict_of (take k row) → new ≡ old ++ verdict ∷ []

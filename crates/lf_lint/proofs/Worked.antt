@@ -4,12 +4,11 @@ use Rattle.std.specs.Fmt.{digits}
 use Rattle.lf_base.specs.declared.kind.Kind.TheVariants.{LeftOut, BadUtf8}
 use Rattle.lf_base.specs.declared.place.Span.{Span}
 use Rattle.lf_ast.specs.Labels.{Bytes}
-use Rattle.lf_ast.specs.declared.expr.Expr.{Expr}
-use Rattle.lf_ast.specs.declared.rule.Rule.{Rule}
+use Rattle.lf_ast.specs.Tree.{Tree}
+use Rattle.lf_ast.specs.Rules.{RuleTree}
 use Rattle.lf_semantics.specs.ClassRows.{Sets}
 use Rattle.lf_semantics.specs.RowTable.{Environment}
-use Rattle.lf_lint.specs.declared.asked.Asked.{Asked}
-use Rattle.lf_lint.specs.declared.found.Found.TheVariants.{Refused, Rules}
+use Rattle.lf_lint.specs.Founds.{Refused, Rules}
 use Rattle.lf_lint.specs.Report.{lines_text, report_of, rules_lines, totals_line, verdicts_line}
 use Rattle.lf_lint.specs.Verdicts.{empty_count, verdicts_of}
 
@@ -17,14 +16,14 @@ abbrev at : ℕ → Span
 at start = record { start = start; end = start }
 
 -- the lines of rules whose rows are given
-abbrev text_by : Bytes → Bytes → List Bytes → (Rule → Sets) → List Rule → Bytes
+abbrev text_by : Bytes → Bytes → List Bytes → (RuleTree → Sets) → List RuleTree → Bytes
 text_by file bytes labels row rules = lines_text (rules_lines file bytes labels row rules ++ totals_line 0 (length rules) ∷ verdicts_line (verdicts_of row rules) (empty_count row rules) ∷ [])
 
 job_file : Bytes
 job_file = lines_text (codes "groups:" ∷ codes "- name: g" ∷ codes "  rules:" ∷ codes "  - record: job:foo:sum" ∷ codes "    expr: sum by (job) (foo{env=\"p\"})" ∷ [])
 
-module _ (expr : Expr) where
-  job_rule : Rule
+module _ (expr : Tree) where
+  job_rule : RuleTree
   job_rule = record { file = 0; alert = false; name = codes "job:foo:sum"; name_span = at 39; expr = expr; expr_span = at 61; labels = []; templates = [] }
 
   -- `job` may be there and may be lacking, and the others are lacking. The class of the empty text is the first
@@ -44,7 +43,7 @@ module _ (expr : Expr) where
   alert_file : Bytes
   alert_file = codes "groups: [{name: g, rules: []}]\n"
 
-  alert_rule : Rule
+  alert_rule : RuleTree
   alert_rule = record { file = 0; alert = true; name = codes "a\tb"; name_span = at 3; expr = expr; expr_span = at 31; labels = []; templates = [] }
 
   -- a set without the class of the empty text

@@ -3,30 +3,27 @@
 -- A file is a tree, which says rules as they stand there. The expression of each is tokens, these are a tree within the bounds of depth, the tree has a type, and
 -- nothing is wrong with its patterns and its selectors. A file that breaks a rule is refused with the first breach: one of the tree; else one of the rules; else one
 -- of the first expression that has any, of its tokens, its depth and syntax, its types, or its patterns and selectors, in this order.
-use Rattle.std.specs.Prelude.{◌≡◌, ℕ, Bool, cond, List, [], ◌∷◌, ◌++◌, length, map, slice_index}
+use Rattle.std.specs.Prelude.{◌≡◌, ℕ, cond, List, [], ◌∷◌, ◌++◌, length, map, slice_index}
 use Rattle.std.specs.List.{AllByRecursion, AllZip}
-use Rattle.lf_base.specs.declared.kind.Kind.{Kind}
-use Rattle.lf_base.specs.declared.place.Span.{Span}
+use Rattle.lf_base.specs.declared.fault.Fault.{Fault}
 use Rattle.lf_ast.specs.Breaches.{Tells}
 use Rattle.lf_ast.specs.Labels.{Bytes}
+use Rattle.lf_ast.specs.Rules.{RuleTree}
+use Rattle.lf_ast.specs.Tree.{Tree}
 use Rattle.lf_ast.specs.Types.{HasType}
-use Rattle.lf_ast.specs.declared.expr.Expr.{Expr}
 use Rattle.lf_ast.specs.declared.expr.ExprType.{ExprType}
-use Rattle.lf_ast.specs.declared.fault.Fault.{Fault as ExprFault}
-use Rattle.lf_ast.specs.declared.rule.Rule.{Rule}
 use Rattle.lf_ast.specs.declared.rule.RuleLabel.{RuleLabel}
 use Rattle.lf_ast.specs.declared.rule.Template.{Template}
 use Rattle.lf_lex.specs.Tokens.{Tokens, Breaks}
 use Rattle.lf_lex.specs.declared.token.Token.{Token}
 use Rattle.lf_parse.specs.Answer.{IsExpression, Refuses}
-use Rattle.lf_parse.specs.Tree.{Tree as ExprTree, tree}
 use Rattle.lf_rules.specs.Breaches.{FirstBreak}
 use Rattle.lf_rules.specs.Rules.{IsRules}
 use Rattle.lf_rules.specs.Sources.{Setting, Source}
-use Rattle.lf_scalar.specs.Cells.{Fault, Value}
+use Rattle.lf_scalar.specs.Cells.{Value}
 use Rattle.lf_semantics.specs.PatternBreaches.{BreaksPatterns, TellsPattern}
 use Rattle.lf_yaml.specs.Document.{IsTree, TreeBreaks}
-use Rattle.lf_yaml.specs.Tree.{Tree}
+use Rattle.lf_yaml.specs.Tree.{Tree as FileTree}
 
 -- ---- expressions
 
@@ -35,23 +32,20 @@ abbrev pub end_of : Value → ℕ
 end_of v = slice_index v.from (length v.text)
 
 -- a scalar's text is tokens, and these are an expression within the bounds, which has a type and breaks nothing by its patterns and its selectors
-pub record IsExpr (v : Value) (e : Expr) : Type 0 where
+pub record IsExpr (v : Value) (e : Tree) : Type 0 where
   pub tokens : List Token
   pub are_tokens : Tokens v.from v.text tokens
-  pub expression : IsExpression tokens (tree e)
+  pub expression : IsExpression tokens e
   pub type : ExprType
   pub has_type : HasType e type
-  pub unbroken : (f : ExprFault) → BreaksPatterns e f → ⊥
-
-abbrev pub at : Kind → Span → Fault
-at kind span = record { kind = kind; span = span }
+  pub unbroken : (f : Fault) → BreaksPatterns e f → ⊥
 
 -- what breaks the expression that is to stand in a scalar: its tokens, its depth and syntax, its types, its patterns and selectors
 pub data BreaksExpr (v : Value) : Fault → Type 0 where
-  bad_tokens : {kind : Kind} {span : Span} → Breaks v.from v.text (record { kind = kind; span = span }) → BreaksExpr v (at kind span)
-  no_expression : {tokens : List Token} {kind : Kind} {span : Span} → Tokens v.from v.text tokens → Refuses tokens (end_of v) (record { kind = kind; span = span }) → BreaksExpr v (at kind span)
-  no_type : {tokens : List Token} {kind : Kind} {span : Span} (e : Expr) → Tokens v.from v.text tokens → IsExpression tokens (tree e) → Tells e (record { kind = kind; span = span }) → BreaksExpr v (at kind span)
-  bad_pattern : {tokens : List Token} {kind : Kind} {span : Span} (e : Expr) (type : ExprType) → Tokens v.from v.text tokens → IsExpression tokens (tree e) → HasType e type → TellsPattern e (record { kind = kind; span = span }) → BreaksExpr v (at kind span)
+  bad_tokens : {f : Fault} → Breaks v.from v.text f → BreaksExpr v f
+  no_expression : {f : Fault} {tokens : List Token} → Tokens v.from v.text tokens → Refuses tokens (end_of v) f → BreaksExpr v f
+  no_type : {f : Fault} {tokens : List Token} (e : Tree) → Tokens v.from v.text tokens → IsExpression tokens e → Tells e f → BreaksExpr v f
+  bad_pattern : {f : Fault} {tokens : List Token} (e : Tree) (type : ExprType) → Tokens v.from v.text tokens → IsExpression tokens e → HasType e type → TellsPattern e f → BreaksExpr v f
 
 -- ---- rules
 
@@ -66,20 +60,20 @@ abbrev pub templates_of : Source → List Template
 templates_of s = cond s.alert (map template_of (s.labels ++ s.annotations)) []
 
 -- the rule of a file, as it stands there, with its expression
-abbrev pub rule_of : ℕ → Source → Expr → Rule
+abbrev pub rule_of : ℕ → Source → Tree → RuleTree
 rule_of file s e = record { file = file; alert = s.alert; name = s.name.text; name_span = s.name.span; expr = e; expr_span = s.expr.span; labels = map label_of s.labels; templates = templates_of s }
 
-abbrev pub IsRule : ℕ → Source → Rule → Type 0
+abbrev pub IsRule : ℕ → Source → RuleTree → Type 0
 IsRule file s r = IsExpr s.expr r.expr × (r ≡ rule_of file s r.expr)
 
 -- ---- files
 
 -- the file's tree says these rules
 abbrev pub Says : Bytes → List Source → Type 0
-Says bytes sources = (t : Tree) × IsTree bytes t × IsRules t sources
+Says bytes sources = (t : FileTree) × IsTree bytes t × IsRules t sources
 
 -- these are the rules of the file, in its order
-pub record IsAccepted (bytes : Bytes) (file : ℕ) (rules : List Rule) : Type 0 where
+pub record IsAccepted (bytes : Bytes) (file : ℕ) (rules : List RuleTree) : Type 0 where
   pub sources : List Source
   pub says : Says bytes sources
   pub are_rules : AllZip (IsRule file) sources rules
@@ -94,26 +88,10 @@ pub record IsFirst {X : Type 0} (before here : X → Type 0) (xs : List X) (x : 
 
 -- a rule's expression is one
 abbrev pub HasExpr : Source → Type 0
-HasExpr s = (e : Expr) × IsExpr s.expr e
+HasExpr s = (e : Tree) × IsExpr s.expr e
 
 -- why the file is refused
 pub data RefusesFile (bytes : Bytes) : Fault → Type 0 where
   no_tree : {f : Fault} → TreeBreaks bytes f → RefusesFile bytes f
-  no_rules : {t : Tree} {f : Fault} → IsTree bytes t → FirstBreak t f → RefusesFile bytes f
+  no_rules : {t : FileTree} {f : Fault} → IsTree bytes t → FirstBreak t f → RefusesFile bytes f
   bad_expression : {sources : List Source} {s : Source} {f : Fault} → Says bytes sources → IsFirst HasExpr (λ s. BreaksExpr s.expr f) sources s → RefusesFile bytes f
-
--- ---- what is seen of rules
-
--- a rule without where its expression lies in memory
-pub record Seen : Type 0 where
-  pub file : ℕ
-  pub alert : Bool
-  pub name : Bytes
-  pub name_span : Span
-  pub expr : ExprTree
-  pub expr_span : Span
-  pub labels : List RuleLabel
-  pub templates : List Template
-
-abbrev pub seen : Rule → Seen
-seen r = record { file = r.file; alert = r.alert; name = r.name; name_span = r.name_span; expr = tree r.expr; expr_span = r.expr_span; labels = r.labels; templates = r.templates }

@@ -1,18 +1,16 @@
 -- What a call of `lint` did to the outside, by its status.
-use Rattle.std.specs.Prelude.{◌≡◌, ℕ, ◌+◌, ◌<◌, ◌≤◌, Bool, true, false, List, ◌++◌, length, take, drop, Option, Some, None, ◌⊎◌}
+use Rattle.std.specs.Prelude.{◌≡◌, ℕ, ◌+◌, ◌<◌, ◌≤◌, Bool, true, List, ◌++◌, length, take, drop, Option, Some, None, ◌⊎◌}
 use Rattle.lf_ast.specs.Labels.{Bytes}
-use Rattle.lf_ast.specs.declared.rule.Rule.{Rule}
+use Rattle.lf_ast.specs.Rules.{RuleTree}
 use Rattle.lf_lint.specs.declared.asked.Asked.{Asked}
 use Rattle.lf_semantics.specs.Environments.{IsLeast}
 use Rattle.lf_semantics.specs.Listing.{universe_of}
 use Rattle.lf_semantics.specs.RowTable.{Environment}
-use Rattle.lf_lint.specs.declared.found.Found.{Found}
-use Rattle.lf_lint.specs.declared.found.Found.TheVariants.{Rules, Refused}
 use Rattle.lf_lint.specs.declared.status.Status.{Status}
 use Rattle.lf_lint.specs.declared.status.Status.TheVariants.{Clean, Problems, Words, Refused as RefusedEnd, Read, Write, Memory, Limit}
 use Rattle.lf_lint.specs.Accepted.{IsAccepted}
 use Rattle.lf_lint.specs.Asks.{Asks}
-use Rattle.lf_lint.specs.Founds.{Exceeds, Fits, Holds, is_refused}
+use Rattle.lf_lint.specs.Founds.{Content, Rules, Refused, Exceeds, Fits, Holds, is_refused}
 use Rattle.lf_lint.specs.Report.{report_of}
 
 -- the most bytes that a file may have: 4 MiB
@@ -30,24 +28,24 @@ Wrote None now bytes = Unit {0}
 Wrote (Some before) now bytes = now ≡ Some (before ++ bytes)
 
 -- the environment is the least one of the rules that were found
-abbrev pub IsSolution : Found → Environment → Type 0
+abbrev pub IsSolution : Content → Environment → Type 0
 IsSolution (Rules rules) env = IsLeast (universe_of rules) rules env
 IsSolution (Refused kind span) env = Unit {0}
 
 -- the report on what was found: where verdicts are asked for, by the least environment. Else it doesn't depend on any
-abbrev pub IsReportOn : Asked → Bytes → Found → Bytes → Type 0
+abbrev pub IsReportOn : Asked → Bytes → Content → Bytes → Type 0
 IsReportOn asked bytes found report = (env : Environment) × (asked.labels ≡ true → IsSolution found env) × (report ≡ report_of asked bytes found env)
 
 -- the report that the words ask for, on a file of these bytes
 pub record IsReport (words : List Bytes) (bytes report : Bytes) : Type 0 where
   pub asked : Asked
   pub asks : Asks words asked
-  pub found : Found
+  pub found : Content
   pub holds : Holds bytes found
   pub text : IsReportOn asked bytes found report
 
 -- the words ask for a file, these are its bytes, and this is what stands in them
-pub record Judged (words : List Bytes) (held : Bytes → Option Bytes) (asked : Asked) (bytes : Bytes) (found : Found) : Type 0 where
+pub record Judged (words : List Bytes) (held : Bytes → Option Bytes) (asked : Asked) (bytes : Bytes) (found : Content) : Type 0 where
   pub asks : Asks words asked
   pub read : AreAsTold (held asked.file) bytes
   pub within : length bytes ≤ most_bytes
@@ -57,12 +55,12 @@ pub record Judged (words : List Bytes) (held : Bytes → Option Bytes) (asked : 
 -- the whole report was written, on a file that is refused or not
 abbrev pub WroteAll : List Bytes → (Bytes → Option Bytes) → Option Bytes → Option Bytes → Bool → Type 0
 WroteAll words held before now refused =
-    (asked : Asked) × (bytes : Bytes) × (found : Found) × Judged words held asked bytes found × (is_refused found ≡ refused)
+    (asked : Asked) × (bytes : Bytes) × (found : Content) × Judged words held asked bytes found × (is_refused found ≡ refused)
     × (report : Bytes) × IsReportOn asked bytes found report × Wrote before now report
 
 -- a front of the report was written, and not the whole
 abbrev pub WrotePart : List Bytes → (Bytes → Option Bytes) → Option Bytes → Option Bytes → Type 0
-WrotePart words held before now = (asked : Asked) × (bytes : Bytes) × (found : Found) × Judged words held asked bytes found
+WrotePart words held before now = (asked : Asked) × (bytes : Bytes) × (found : Content) × Judged words held asked bytes found
     × (report : Bytes) × IsReportOn asked bytes found report × (k : ℕ) × (k < length report) × Wrote before now (take k report)
 
 -- the words ask for a file of more bytes than a file may have, and reading stopped right behind the first of them
@@ -72,7 +70,7 @@ IsTooLong words held left = (asked : Asked) × Asks words asked × (bytes : Byte
 -- the words ask for a file that is accepted, and its rules pass this limit
 abbrev pub HasTooMany : List Bytes → (Bytes → Option Bytes) → ℕ → ℕ → Type 0
 HasTooMany words held quantity count = (asked : Asked) × Asks words asked × (bytes : Bytes) × AreAsTold (held asked.file) bytes × (length bytes ≤ most_bytes)
-    × (rules : List Rule) × IsAccepted bytes 0 rules × Exceeds rules quantity count
+    × (rules : List RuleTree) × IsAccepted bytes 0 rules × Exceeds rules quantity count
 
 -- which quantity passed its limit, and its count: 2 is the bytes of the file, of which one more than the limit was read, and the others are of the accepted rules. Whether
 -- the words ask for verdicts doesn't matter

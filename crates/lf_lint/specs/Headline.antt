@@ -2,7 +2,7 @@
 use Rattle.std.specs.Prelude.{◌≡◌, ◌↔◌, Bool, true, false, List, [], ◌∷◌, ◌++◌, map, length, count_by, codes, Option, Some, slice_get}
 use Rattle.std.specs.List.{AllByRecursion, Contains, flat_map}
 use Rattle.lf_ast.specs.Labels.{Bytes, Labels}
-use Rattle.lf_ast.specs.declared.rule.Rule.{Rule}
+use Rattle.lf_ast.specs.Rules.{RuleTree}
 use Rattle.lf_semantics.specs.ClassRows.{is_live}
 use Rattle.lf_semantics.specs.Environments.{IsLeast, rule_row}
 use Rattle.lf_semantics.specs.Listing.{label_of, universe_of}
@@ -10,26 +10,26 @@ use Rattle.lf_semantics.specs.RowTable.{Environment, may_be_absent, may_be_prese
 use Rattle.lf_semantics.specs.Texts.{Has}
 use Rattle.lf_semantics.specs.Worlds.{World, IsSample}
 use Rattle.lf_lint.specs.declared.asked.Asked.{Asked}
-use Rattle.lf_lint.specs.declared.found.Found.TheVariants.{Rules}
 use Rattle.lf_lint.specs.declared.report.verdict.Verdict.{Verdict}
 use Rattle.lf_lint.specs.declared.report.verdict.Verdict.TheVariants.{Guaranteed, Impossible, Unresolved}
 use Rattle.lf_lint.specs.Ends.{Judged, Wrote}
+use Rattle.lf_lint.specs.Founds.{Rules}
 use Rattle.lf_lint.specs.Report.{label_line, labels_of, lines_text, place_text, rule_line, totals_line, verdicts_line}
 
 -- in every world of the file's rules, a name called guaranteed is on each sample of the rule, and one called impossible on none. Of an unresolved one nothing is claimed
-abbrev pub IsTrueOf : List Rule → Rule → Verdict → Bytes → Type 0
+abbrev pub IsTrueOf : List RuleTree → RuleTree → Verdict → Bytes → Type 0
 IsTrueOf rules r Guaranteed name = (world : World rules) (s : Labels) → IsSample world r s → Has s name
 IsTrueOf rules r Impossible name = (world : World rules) (s : Labels) → IsSample world r s → Has s name → ⊥
 IsTrueOf rules r Unresolved name = Unit {0}
 
 -- the row of the rule in the environment leaves both open, that the name is there and that it isn't
-abbrev pub LeavesBoth : List Rule → Environment → Rule → Bytes → Type 0
+abbrev pub LeavesBoth : List RuleTree → Environment → RuleTree → Bytes → Type 0
 LeavesBoth rules env r name =
     let u = universe_of rules in
     (may_be_present u (rule_row u env r) name ≡ true) × (may_be_absent u (rule_row u env r) name ≡ true)
 
 -- the verdict is true of the name, and unresolved exactly where the row leaves both open
-abbrev pub IsTrue : List Rule → Environment → Rule → Verdict → Bytes → Type 0
+abbrev pub IsTrue : List RuleTree → Environment → RuleTree → Verdict → Bytes → Type 0
 IsTrue rules env r verdict name = IsTrueOf rules r verdict name × ((verdict ≡ Unresolved) ↔ LeavesBoth rules env r name)
 
 -- what a report says of a rule: that it is empty, or a verdict on each label
@@ -39,7 +39,7 @@ pub data Said : Type 0 where
 
 -- An empty rule has no sample in any world. Else each label of the universe has a verdict, and so has `*`; and of each name that of its label is true, or that of `*`, which
 -- stands last, where no label is the name. A rule is called empty exactly where its row is
-abbrev pub IsTrueSaid : List Rule → Environment → Rule → Said → Type 0
+abbrev pub IsTrueSaid : List RuleTree → Environment → RuleTree → Said → Type 0
 IsTrueSaid rules env r empty = (is_live (rule_row (universe_of rules) env r) ≡ false) × ((world : World rules) (s : Labels) → IsSample world r s → ⊥)
 IsTrueSaid rules env r (verdicts claims) =
     (is_live (rule_row (universe_of rules) env r) ≡ true)
@@ -48,10 +48,10 @@ IsTrueSaid rules env r (verdicts claims) =
 
 -- a rule, and what a report says of it
 pub record Spoken : Type 0 where
-  pub rule : Rule
+  pub rule : RuleTree
   pub said : Said
 
-abbrev pub SpeaksTruth : List Rule → Environment → Spoken → Type 0
+abbrev pub SpeaksTruth : List RuleTree → Environment → Spoken → Type 0
 SpeaksTruth rules env spoken = IsTrueSaid rules env spoken.rule spoken.said
 
 -- a line for each verdict, or one that says `empty`
@@ -72,7 +72,7 @@ is_empty empty = true
 is_empty (verdicts claims) = false
 
 -- the report is, for each rule of the file, its line and what it says of it, and then the totals; and all that it says is true
-pub record IsTrueReport (asked : Asked) (bytes : Bytes) (rules : List Rule) (report : Bytes) : Type 0 where
+pub record IsTrueReport (asked : Asked) (bytes : Bytes) (rules : List RuleTree) (report : Bytes) : Type 0 where
   pub env : Environment
   pub least : IsLeast (universe_of rules) rules env
   -- no label is called as the line of all others is
@@ -85,5 +85,5 @@ pub record IsTrueReport (asked : Asked) (bytes : Bytes) (rules : List Rule) (rep
 
 -- a report was written on the rules of the file that the words ask for, and where they ask for labels it is true
 abbrev pub WroteTruth : List Bytes → (Bytes → Option Bytes) → Option Bytes → Option Bytes → Type 0
-WroteTruth words held before now = (asked : Asked) × (bytes : Bytes) × (rules : List Rule) × Judged words held asked bytes (Rules rules)
+WroteTruth words held before now = (asked : Asked) × (bytes : Bytes) × (rules : List RuleTree) × Judged words held asked bytes (Rules rules)
     × (asked.labels ≡ true → (report : Bytes) × Wrote before now report × IsTrueReport asked bytes rules report)

@@ -3,19 +3,18 @@ use Rattle.std.specs.Prelude.{ℕ, Bool, cond, false, ◌==◌, ◌||◌, ◌/�
 use Rattle.std.specs.Fmt.{decimal, digit_glyph}
 use Rattle.std.specs.List.{flat_map}
 use Rattle.lf_ast.specs.Labels.{Bytes}
-use Rattle.lf_ast.specs.declared.rule.Rule.{Rule}
+use Rattle.lf_ast.specs.Rules.{RuleTree}
 use Rattle.lf_base.specs.Kinds.{name_of, meaning_of}
 use Rattle.lf_base.specs.Places.{line_at, column_at}
 use Rattle.lf_base.specs.declared.kind.Kind.{Kind}
 use Rattle.lf_lint.specs.declared.asked.Asked.{Asked}
-use Rattle.lf_lint.specs.declared.found.Found.{Found}
-use Rattle.lf_lint.specs.declared.found.Found.TheVariants.{Rules, Refused}
 use Rattle.lf_lint.specs.declared.report.verdict.Verdict.{Verdict}
 use Rattle.lf_lint.specs.declared.report.verdict.Verdict.TheVariants.{Guaranteed, Impossible, Unresolved}
 use Rattle.lf_semantics.specs.ClassRows.{Sets, is_live}
 use Rattle.lf_semantics.specs.Environments.{rule_row}
 use Rattle.lf_semantics.specs.Listing.{Listing, universe_of}
 use Rattle.lf_semantics.specs.RowTable.{Environment}
+use Rattle.lf_lint.specs.Founds.{Content, Rules, Refused}
 use Rattle.lf_lint.specs.Verdicts.{empty_count, is_guaranteed, is_impossible, is_unresolved, verdict_of, verdicts_of}
 
 -- each line ended by a line feed
@@ -57,7 +56,7 @@ abbrev pub said_lines : Bytes → List Bytes → Sets → List Bytes
 said_lines place labels row = cond (is_live row) (label_lines place labels (map verdict_of row)) (codes "  empty" ∷ [])
 
 -- the rule's line, and what is said of it. `row` gives the row of a rule
-abbrev pub rule_lines : Bytes → Bytes → List Bytes → (Rule → Sets) → Rule → List Bytes
+abbrev pub rule_lines : Bytes → Bytes → List Bytes → (RuleTree → Sets) → RuleTree → List Bytes
 rule_lines file bytes labels row r = rule_line (place_text file bytes r.name_span.start) r.name ∷ said_lines (place_text file bytes r.expr_span.start) labels (row r)
 
 -- the line of a file that is refused
@@ -74,7 +73,7 @@ verdicts_line verdicts empty = codes "verdicts guaranteed " ++ decimal (count_by
     ++ codes ", possible 0, unresolved " ++ decimal (count_by is_unresolved verdicts) ++ codes ", empty " ++ decimal empty
 
 -- the lines of all rules
-abbrev pub rules_lines : Bytes → Bytes → List Bytes → (Rule → Sets) → List Rule → List Bytes
+abbrev pub rules_lines : Bytes → Bytes → List Bytes → (RuleTree → Sets) → List RuleTree → List Bytes
 rules_lines file bytes labels row rules = flat_map (rule_lines file bytes labels row) rules
 
 -- the labels of which a report speaks: those of the universe, and `*` for every other
@@ -86,16 +85,16 @@ abbrev pub with_labels : Bool → List Bytes → List Bytes
 with_labels labels lines = if labels then lines else []
 
 -- the report on rules with verdicts: what is said of each rule, and the totals
-abbrev pub labels_text : Bytes → Bytes → (Rule → Sets) → List Rule → Bytes
+abbrev pub labels_text : Bytes → Bytes → (RuleTree → Sets) → List RuleTree → Bytes
 labels_text file bytes row rules =
     lines_text (rules_lines file bytes (labels_of (universe_of rules)) row rules ++ totals_line 0 (length rules) ∷ verdicts_line (verdicts_of row rules) (empty_count row rules) ∷ [])
 
 -- and without: the totals alone
-abbrev pub totals_text : List Rule → Bytes
+abbrev pub totals_text : List RuleTree → Bytes
 totals_text rules = lines_text (totals_line 0 (length rules) ∷ [])
 
 -- the report on what was found in the file that is asked for, whose bytes these are, by the rows of the rules in an environment
-abbrev pub report_of : Asked → Bytes → Found → Environment → Bytes
+abbrev pub report_of : Asked → Bytes → Content → Environment → Bytes
 report_of asked bytes (Refused kind span) env =
     lines_text (refused_line (place_text asked.file bytes span.start) kind ∷ totals_line 1 0 ∷ with_labels asked.labels (verdicts_line [] 0 ∷ []))
 report_of asked bytes (Rules rules) env = if asked.labels then labels_text asked.file bytes (rule_row (universe_of rules) env) rules else totals_text rules

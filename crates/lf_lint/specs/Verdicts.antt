@@ -1,7 +1,7 @@
 -- What a report says of the labels on the samples of a rule.
 use Rattle.std.specs.Prelude.{ℕ, Bool, true, false, not, cond, drop, List, [], map, count_by, slice_index_or, if◌then◌else◌}
 use Rattle.std.specs.List.{flat_map, list_any}
-use Rattle.lf_ast.specs.declared.rule.Rule.{Rule}
+use Rattle.lf_ast.specs.Rules.{RuleTree}
 use Rattle.lf_semantics.specs.ClassRows.{Sets, is_live}
 use Rattle.lf_lint.specs.declared.report.verdict.Verdict.{Verdict}
 use Rattle.lf_lint.specs.declared.report.verdict.Verdict.TheVariants.{Guaranteed, Impossible, Unresolved}
@@ -29,14 +29,14 @@ abbrev pub verdicts_in : Sets → List Verdict
 verdicts_in row = cond (is_live row) (map verdict_of row) []
 
 -- the verdicts on the labels of all rules, each by the row of its rule
-abbrev pub verdicts_of : (Rule → Sets) → List Rule → List Verdict
+abbrev pub verdicts_of : (RuleTree → Sets) → List RuleTree → List Verdict
 verdicts_of row rules = flat_map (λ r. verdicts_in (row r)) rules
 
 -- how many rules have the empty row
-abbrev pub is_empty_rule : (Rule → Sets) → Rule → Bool
+abbrev pub is_empty_rule : (RuleTree → Sets) → RuleTree → Bool
 is_empty_rule row r = not (is_live (row r))
 
-abbrev pub empty_count : (Rule → Sets) → List Rule → ℕ
+abbrev pub empty_count : (RuleTree → Sets) → List RuleTree → ℕ
 empty_count row rules = count_by (is_empty_rule row) rules
 
 abbrev pub is_guaranteed : Verdict → Bool

@@ -1,10 +1,9 @@
 //! The rules of a file, or its refusal.
-ghost use Rattle.std.specs.Prelude.{◌≡◌, ◌≤◌, ◌^◌, ◌⊎◌, ℕ, length, map, List, Ok, Err, IfOk, IfErr};
-ghost use Rattle.lf_ast.specs.declared.rule.Rule.{Rule};
-ghost use Rattle.lf_rules.specs.Sources.{source};
-ghost use Rattle.lf_scalar.specs.Cells.{Fault, Gives, IfAt};
-ghost use Rattle.lf_yaml.specs.Characters.{AreCharacters};
-ghost use Rattle.lf_lint.specs.Accepted.{IsAccepted, RefusesFile, Says, seen};
+ghost use Rattle.std.specs.Prelude.{◌≤◌, ◌^◌, ℕ, length, map, List, IfOk};
+ghost use Rattle.lf_base.specs.Answers.{Breach, Found, OneAnswer, Only, Refused, RefusedIn};
+ghost use Rattle.lf_ast.specs.Rules.{rule_trees};
+ghost use Rattle.lf_rules.specs.Sources.{SourcesInside, source};
+ghost use Rattle.lf_lint.specs.Accepted.{IsAccepted, RefusesFile, Says};
 
 use crate::rules::rules_of;
 use lf_ast::Rule;
@@ -20,13 +19,15 @@ use std::alloc::Global;
 pub fn accept(alloc: Global, bytes: &[u8], file: u32) -> Result<Seq<Rule>, Refusal>
     requires room { length bytes.now ≤ 2 ^ 31 }
     // What is answered are the rules of the file.
-    ensures found { IfOk result (IsAccepted bytes.now file) }
+    ensures found { Found rule_trees (IsAccepted bytes.now file) result }
     // They are answered, unless memory runs out; so no file has two lists of rules.
-    ensures only { (rules : List Rule) → IsAccepted bytes.now file rules → Gives (map seen) result (Ok (map seen rules)) }
+    ensures only { Only rule_trees (IsAccepted bytes.now file) result }
     // What is refused is why the file is.
-    ensures refused { IfErr result (λ refusal. IfAt refusal (RefusesFile bytes.now)) }
+    ensures refused { Refused (RefusesFile bytes.now) result }
     // It is refused, unless memory runs out; so no file has two refusals, nor one and rules.
-    ensures breach { (f : Fault) → RefusesFile bytes.now f → Gives (map seen) result (Err f) }
+    ensures breach { Breach rule_trees (RefusesFile bytes.now) result }
+    // The span of a refusal lies in the file.
+    ensures lies { RefusedIn (length bytes.now) result }
 {
     read(alloc, bytes, file)
 }
@@ -34,8 +35,9 @@ pub fn accept(alloc: Global, bytes: &[u8], file: u32) -> Result<Seq<Rule>, Refus
 /// The same, as it is read.
 fn read(alloc: Global, bytes: &[u8], file: u32) -> Result<Seq<Rule>, Refusal>
     requires room { length bytes.now ≤ 2 ^ 31 }
-    ensures found { IfOk result (IsAccepted bytes.now file) }
-    ensures refused { IfErr result (λ refusal. IfAt refusal (RefusesFile bytes.now)) }
+    ensures found { Found rule_trees (IsAccepted bytes.now file) result }
+    ensures refused { Refused (RefusesFile bytes.now) result }
+    ensures lies { RefusedIn (length bytes.now) result }
 {
     let sources = sources_of(alloc, bytes)?;
     rules_of(alloc, sources.as_slice(), file)
@@ -44,18 +46,16 @@ fn read(alloc: Global, bytes: &[u8], file: u32) -> Result<Seq<Rule>, Refusal>
 /// The rules as they stand in a file, their expressions unread.
 fn sources_of(alloc: Global, bytes: &[u8]) -> Result<Seq<RuleSource>, Refusal>
     requires room { length bytes.now ≤ 2 ^ 31 }
-    ensures found { IfOk result (λ sources. Says bytes.now (map source sources)) }
-    ensures refused { IfErr result (λ refusal. IfAt refusal (RefusesFile bytes.now)) }
+    ensures found { Found (map source) (Says bytes.now) result }
+    ensures inside { IfOk result (λ sources. SourcesInside (length bytes.now) (map source sources)) }
+    ensures refused { Refused (RefusesFile bytes.now) result }
+    ensures lies { RefusedIn (length bytes.now) result }
 {
     let tree = read_tree(alloc, bytes)?;
     read_rules(alloc, &tree)
 }
 
-/// A file has one list of rules, seen without where expressions lie in memory, or one refusal, and never both; and where its characters are allowed it has one of the
-/// two.
+/// A file of any bytes has one list of rules or one refusal, and never both.
 pub fn one_file()
-    ensures rules { (bytes : List ℕ) (file : ℕ) (rules others : List Rule) → IsAccepted bytes file rules → IsAccepted bytes file others → map seen rules ≡ map seen others }
-    ensures refusal { (bytes : List ℕ) (f g : Fault) → RefusesFile bytes f → RefusesFile bytes g → f ≡ g }
-    ensures one { (bytes : List ℕ) (file : ℕ) (rules : List Rule) (f : Fault) → IsAccepted bytes file rules → RefusesFile bytes f → ⊥ }
-    ensures some { (bytes : List ℕ) (file : ℕ) → AreCharacters bytes → ((rules : List Rule) × IsAccepted bytes file rules) ⊎ ((f : Fault) × RefusesFile bytes f) }
+    ensures { (bytes : List ℕ) (file : ℕ) → OneAnswer (IsAccepted bytes file) (RefusesFile bytes) }
 {}

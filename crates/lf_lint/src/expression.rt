@@ -1,6 +1,10 @@
 //! The expression of a rule.
-ghost use Rattle.std.specs.Prelude.{IfOk, IfErr, OnOk};
-ghost use Rattle.lf_scalar.specs.Cells.{IfAt};
+ghost use Rattle.std.specs.Prelude.{◌≤◌, ℕ, OnOk};
+ghost use Rattle.std.specs.List.Sorted.{IsNonDecreasingBy};
+ghost use Rattle.lf_base.specs.Answers.{Found, Refused, RefusedIn};
+ghost use Rattle.lf_ast.specs.Inside.{Inside};
+ghost use Rattle.lf_ast.specs.Tree.{tree};
+ghost use Rattle.lf_lex.specs.Tokens.{LieIn};
 ghost use Rattle.lf_yaml.specs.Tree.{value};
 ghost use Rattle.lf_lint.specs.Accepted.{BreaksExpr, IsExpr};
 ghost use Rattle.lf_lint.specs.Checked.{AreJudged, BreakJudged, BreaksJudged, IsJudged};
@@ -17,8 +21,10 @@ use std::alloc::Global;
 ///
 /// What is refused is the first breach of its tokens, else of its depth and its syntax, else of its types, else of its patterns and selectors.
 pub fn read_expr(alloc: Global, scalar: &Scalar) -> Result<Expr, Refusal>
-    ensures found { IfOk result (IsExpr (value scalar.now)) }
-    ensures refused { IfErr result (λ refusal. IfAt refusal (BreaksExpr (value scalar.now))) }
+    ensures found { Found tree (IsExpr (value scalar.now)) result }
+    ensures refused { Refused (BreaksExpr (value scalar.now)) result }
+    // Where the scalar ends in a file of n bytes, what is refused lies there.
+    ensures lies { (n : ℕ) → scalar.now.span.end ≤ n → RefusedIn n result }
 {
     let tokens = lex(alloc, &scalar.text, &scalar.from)?;
     let end = scalar.from.as_slice()[scalar.text.len()];
@@ -27,8 +33,9 @@ pub fn read_expr(alloc: Global, scalar: &Scalar) -> Result<Expr, Refusal>
 
 /// The expression that tokens are, which was judged. `end` is the offset of the text's end.
 fn read_tokens(alloc: Global, tokens: &Seq<Token>, end: u32) -> Result<Expr, Refusal>
-    ensures found { IfOk result (AreJudged tokens.now) }
-    ensures refused { IfErr result (λ refusal. IfAt refusal (BreakJudged tokens.now end)) }
+    ensures found { Found tree (AreJudged tokens.now) result }
+    ensures refused { Refused (BreakJudged tokens.now end) result }
+    ensures lies { (n : ℕ) → LieIn n tokens.now → IsNonDecreasingBy (λ token. token.span.start) tokens.now → end ≤ n → RefusedIn n result }
 {
     let expr = parse(alloc, tokens, end)?;
     match judge(alloc, &expr) {
@@ -39,8 +46,9 @@ fn read_tokens(alloc: Global, tokens: &Seq<Token>, end: u32) -> Result<Expr, Ref
 
 /// Judges an expression: its types, and then its patterns and selectors.
 fn judge(alloc: Global, expr: &Expr) -> Result<(), Refusal>
-    ensures found { OnOk result (IsJudged expr.now) }
-    ensures refused { IfErr result (λ refusal. IfAt refusal (BreaksJudged expr.now)) }
+    ensures found { OnOk result (IsJudged (tree expr.now)) }
+    ensures refused { Refused (BreaksJudged (tree expr.now)) result }
+    ensures lies { (n : ℕ) → Inside n (tree expr.now) → RefusedIn n result }
 {
     let _ = type_of(alloc, expr)?;
     check_patterns(alloc, expr)

@@ -14,11 +14,11 @@ pub enum Found {
 }
 
 impl Found {
-    ghost use Rattle.lf_lint.specs.Founds.{is_refused};
+    ghost use Rattle.lf_lint.specs.Founds.{content, is_refused};
 
     /// Whether the file is refused.
     pub fn is_refused(&self) -> bool
-        ensures { result ≡ is_refused self.now }
+        ensures { result ≡ is_refused (content self.now) }
     {
         match self {
             Found::Rules { .. } => false,

@@ -3,7 +3,7 @@ ghost use Rattle.std.specs.Prelude.{◌≡◌, ◌≢◌, ◌↔◌, ℕ, Bool, 
 ghost use Rattle.lf_lint.specs.declared.asked.Asked.{Asked};
 ghost use Rattle.lf_lint.specs.Asks.{Asks};
 ghost use Rattle.lf_lint.specs.Ends.{IsReport, IsSilent, Passes, WroteAll, WrotePart};
-ghost use Rattle.lf_lint.specs.Founds.{Holds};
+ghost use Rattle.lf_lint.specs.Founds.{Holds, content};
 ghost use Rattle.lf_lint.specs.Headline.{WroteTruth};
 
 use crate::reading::{ReadEnd, read_whole};
@@ -99,7 +99,7 @@ pub fn lint<R: Threads + Sync, F: Files, O: Sink, G: Gate + Sync>(
 /// What stands in a file of these bytes.
 fn find(alloc: Global, bytes: &[u8]) -> Result<Found, Memory>
     requires { length bytes.now ≤ 2 ^ 31 }
-    ensures { IfOk result (Holds bytes.now) }
+    ensures { IfOk result (λ found. Holds bytes.now (content found)) }
 {
     match accept(alloc, bytes, 0) {
         Ok(rules) => Ok(Found::Rules { rules }),

@@ -1,5 +1,6 @@
 //! The limits on rules.
 ghost use Rattle.std.specs.Prelude.{◌≡◌, ◌≤◌, cond, length, IfOk, IfErr, OnOk};
+ghost use Rattle.lf_ast.specs.Rules.{rule_trees};
 ghost use Rattle.lf_semantics.specs.Environments.{recorded_names};
 ghost use Rattle.lf_semantics.specs.Listing.{class_count as class_count_of, label_count, universe_of};
 ghost use Rattle.lf_classes.specs.Limits.{most_classes, most_labels};
@@ -33,9 +34,9 @@ const WORDS: u8 = 7;
 /// The universe of rules, where they pass no limit. The limits are tested in this order: on the rules, the labels, the classes, and the words of the rows of
 /// recorded names.
 pub fn measure(alloc: Global, rules: &Seq<Rule>) -> Result<Universe, JudgeEnd>
-    ensures found { IfOk result (λ universe. universe ≡ universe_of rules.now) }
-    ensures within { IfOk result (λ _. AreWithin rules.now) }
-    ensures refused { IfErr result (Ends rules.now) }
+    ensures found { IfOk result (λ universe. universe ≡ universe_of (rule_trees rules.now)) }
+    ensures within { IfOk result (λ _. AreWithin (rule_trees rules.now)) }
+    ensures refused { IfErr result (Ends (rule_trees rules.now)) }
 {
     if rules.len() > MOST_RULES {
         return Err(JudgeEnd::Limit {
@@ -57,10 +58,10 @@ pub fn measure(alloc: Global, rules: &Seq<Rule>) -> Result<Universe, JudgeEnd>
 /// The universe of rules that aren't too many, where it passes no limit.
 fn build(alloc: Global, rules: &Seq<Rule>) -> Result<Universe, JudgeEnd>
     requires { length rules.now ≤ most_rules }
-    ensures found { IfOk result (λ universe. universe ≡ universe_of rules.now) }
-    ensures labels { IfOk result (λ _. label_count (universe_of rules.now) ≤ most_labels) }
-    ensures classes { IfOk result (λ _. class_count_of (universe_of rules.now) ≤ most_classes) }
-    ensures refused { IfErr result (Ends rules.now) }
+    ensures found { IfOk result (λ universe. universe ≡ universe_of (rule_trees rules.now)) }
+    ensures labels { IfOk result (λ _. label_count (universe_of (rule_trees rules.now)) ≤ most_labels) }
+    ensures classes { IfOk result (λ _. class_count_of (universe_of (rule_trees rules.now)) ≤ most_classes) }
+    ensures refused { IfErr result (Ends (rule_trees rules.now)) }
 {
     match Universe::build(alloc, rules) {
         Ok(universe) => Ok(universe),
@@ -78,9 +79,9 @@ fn build(alloc: Global, rules: &Seq<Rule>) -> Result<Universe, JudgeEnd>
 
 /// The words that the rows of all recorded names have.
 fn word_count(alloc: Global, universe: &Universe, rules: &Seq<Rule>) -> Result<u64, Memory>
-    requires universe { universe.now ≡ universe_of rules.now }
+    requires universe { universe.now ≡ universe_of (rule_trees rules.now) }
     requires few { length rules.now ≤ most_rules }
-    ensures { IfOk result (λ words. words ≡ word_count_of rules.now) }
+    ensures { IfOk result (λ words. words ≡ word_count_of (rule_trees rules.now)) }
 {
     let names = recorded_count(alloc, rules.as_slice())?;
     let classes = u64::from(universe.class_count());
@@ -89,7 +90,7 @@ fn word_count(alloc: Global, universe: &Universe, rules: &Seq<Rule>) -> Result<u
 
 /// How many names rules record.
 fn recorded_count(alloc: Global, rules: &[Rule]) -> Result<usize, Memory>
-    ensures count { IfOk result (λ count. count ≡ length (recorded_names rules.now)) }
+    ensures count { IfOk result (λ count. count ≡ length (recorded_names (rule_trees rules.now))) }
     ensures most { IfOk result (λ count. count ≤ length rules.now) }
 {
     let mut names = TextSet::new(alloc);

@@ -1,12 +1,12 @@
 //! The text report on one file.
 ghost use Rattle.std.specs.Prelude.{◌≡◌, ℕ, List, [], ◌∷◌, ◌++◌, length, IfOk, IfErr};
+ghost use Rattle.lf_ast.specs.Rules.{rule_trees};
 ghost use Rattle.lf_semantics.specs.Environments.{IsLeast, rule_row};
 ghost use Rattle.lf_semantics.specs.Listing.{universe_of};
 ghost use Rattle.lf_semantics.specs.RowTable.{Environment};
 ghost use Rattle.lf_lint.specs.Ends.{IsReportOn};
 ghost use Rattle.lf_lint.specs.declared.asked.Asked.{Asked};
-ghost use Rattle.lf_lint.specs.declared.found.Found.TheVariants.{Rules};
-ghost use Rattle.lf_lint.specs.Founds.{AreWithin, Ends, EndsIn, Fits};
+ghost use Rattle.lf_lint.specs.Founds.{AreWithin, Ends, EndsIn, Fits, Rules, content};
 ghost use Rattle.lf_lint.specs.Report.{labels_text, lines_text, place_text, refused_line, shown, totals_line, verdicts_line, with_labels};
 
 mod judging;
@@ -39,9 +39,9 @@ pub fn report_text(
     bytes: &[u8],
     found: &Found,
 ) -> Result<Text, JudgeEnd>
-    ensures text { IfOk result (IsReportOn asked.now bytes.now found.now) }
-    ensures fits { IfOk result (λ _. Fits found.now) }
-    ensures refused { IfErr result (EndsIn found.now) }
+    ensures text { IfOk result (IsReportOn asked.now bytes.now (content found.now)) }
+    ensures fits { IfOk result (λ _. Fits (content found.now)) }
+    ensures refused { IfErr result (EndsIn (content found.now)) }
 {
     let file = shown_name(alloc, asked.file.as_str())?;
     match found {
@@ -61,9 +61,9 @@ fn rules_report(
     rules: &Seq<Rule>,
     labels: bool,
 ) -> Result<Text, JudgeEnd>
-    ensures text { (asked : Asked) → file.now ≡ shown asked.file → labels ≡ asked.labels → IfOk result (IsReportOn asked bytes.now (Rules rules.now)) }
-    ensures fits { IfOk result (λ _. AreWithin rules.now) }
-    ensures refused { IfErr result (Ends rules.now) }
+    ensures text { (asked : Asked) → file.now ≡ shown asked.file → labels ≡ asked.labels → IfOk result (IsReportOn asked bytes.now (Rules (rule_trees rules.now))) }
+    ensures fits { IfOk result (λ _. AreWithin (rule_trees rules.now)) }
+    ensures refused { IfErr result (Ends (rule_trees rules.now)) }
 {
     let mut universe = measure(alloc, rules)?;
     if labels {
@@ -105,8 +105,8 @@ fn labels_report(
     universe: &Universe,
     rules: &Seq<Rule>,
 ) -> Result<Text, Memory>
-    requires { universe.now ≡ universe_of rules.now }
-    ensures { (name : List ℕ) → file.now ≡ shown name → IfOk result (λ text. (env : Environment) × IsLeast universe.now rules.now env × (text ≡ labels_text name bytes.now (rule_row universe.now env) rules.now)) }
+    requires { universe.now ≡ universe_of (rule_trees rules.now) }
+    ensures { (name : List ℕ) → file.now ≡ shown name → IfOk result (λ text. (env : Environment) × IsLeast universe.now (rule_trees rules.now) env × (text ≡ labels_text name bytes.now (rule_row universe.now env) (rule_trees rules.now))) }
 {
     let env = solve(alloc, universe, rules)?;
     let mut report = Text::of(alloc, "")?;

@@ -1,9 +1,10 @@
 //! The rules of a file, each with its expression.
-ghost use Rattle.std.specs.Prelude.{◌≡◌, ◌++◌, map, IfOk, IfErr, OnOk};
+ghost use Rattle.std.specs.Prelude.{◌≡◌, ◌++◌, ◌≤◌, ℕ, map, IfOk, OnOk};
 ghost use Rattle.std.specs.List.{AllZip};
 ghost use Rattle.lf_ast.specs.declared.rule.RuleLabel.{RuleLabel};
-ghost use Rattle.lf_rules.specs.Sources.{setting, source as source_of};
-ghost use Rattle.lf_scalar.specs.Cells.{IfAt};
+ghost use Rattle.lf_rules.specs.Sources.{SourcesInside, setting, source as source_of};
+ghost use Rattle.lf_base.specs.Answers.{Found, Refused, RefusedIn};
+ghost use Rattle.lf_ast.specs.Rules.{rule_tree, rule_trees};
 ghost use Rattle.lf_lint.specs.Accepted.{BreaksExpr, IsRule, label_of, template_of, templates_of as templates_in};
 ghost use Rattle.lf_lint.specs.Checked.{HasBreach};
 ghost use Rattle.lf_yaml.specs.Tree.{value};
@@ -16,8 +17,9 @@ use std::alloc::Global;
 
 /// The rules as they stand in a file, each with its expression.
 pub fn rules_of(alloc: Global, sources: &[RuleSource], file: u32) -> Result<Seq<Rule>, Refusal>
-    ensures found { IfOk result (AllZip (IsRule file) (map source_of sources.now)) }
-    ensures refused { IfErr result (λ refusal. IfAt refusal (HasBreach (map source_of sources.now))) }
+    ensures found { Found rule_trees (AllZip (IsRule file) (map source_of sources.now)) result }
+    ensures refused { Refused (HasBreach (map source_of sources.now)) result }
+    ensures lies { (n : ℕ) → SourcesInside n (map source_of sources.now) → RefusedIn n result }
 {
     let mut rules = Seq::new(alloc);
     for source in sources {
@@ -29,8 +31,9 @@ pub fn rules_of(alloc: Global, sources: &[RuleSource], file: u32) -> Result<Seq<
 
 /// A rule as it stands in a file, with its expression.
 fn rule_of(alloc: Global, source: &RuleSource, file: u32) -> Result<Rule, Refusal>
-    ensures found { IfOk result (IsRule file (source_of source.now)) }
-    ensures refused { IfErr result (λ refusal. IfAt refusal (BreaksExpr (value source.now.expr))) }
+    ensures found { Found rule_tree (IsRule file (source_of source.now)) result }
+    ensures refused { Refused (BreaksExpr (value source.now.expr)) result }
+    ensures lies { (n : ℕ) → source.now.expr.span.end ≤ n → RefusedIn n result }
 {
     let name = source.name.text.copy()?;
     let labels = labels_of(alloc, source.labels.as_slice())?;

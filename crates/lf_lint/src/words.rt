@@ -10,11 +10,13 @@ use lf_base::{Memory, Text};
 use std::alloc::Global;
 
 /// Why words aren't read.
-#[derive(Clone, Copy, PartialEq, Eq, Debug)]
+#[derive(Clone, Copy, PartialEq, Eq, Debug, thiserror::Error)]
 pub enum WordFault {
     /// They aren't `lint`, then perhaps `--labels`, then a file name that doesn't begin with `-`.
+    #[error("the words must be: lint [--labels] FILE")]
     Refused,
     /// They are, and there was not enough memory to copy the name.
+    #[error("not enough memory")]
     Memory,
 }
 

@@ -1,5 +1,6 @@
 //! All tables of rules.
 ghost use Rattle.std.specs.Prelude.{◌≡◌, ◌<◌, ◌^◌, length};
+ghost use Rattle.lf_ast.specs.Rules.{rule_trees};
 ghost use Rattle.lf_semantics.specs.Listing.{universe_of};
 
 use crate::classes::write_labels;
@@ -44,7 +45,7 @@ fn write_least(
     rules: &Seq<Rule>,
     names: &TextSet,
 ) -> Result<(), Memory>
-    requires { universe.now ≡ universe_of rules.now }
+    requires { universe.now ≡ universe_of (rule_trees rules.now) }
 {
     let env = solve(alloc, universe, rules)?;
     write_environment(out, universe, &env, names)?;

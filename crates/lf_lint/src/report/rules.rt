@@ -1,5 +1,6 @@
 //! The part of a report that speaks of rules.
 ghost use Rattle.std.specs.Prelude.{◌≡◌, ◌≤◌, ℕ, cond, not, List, ◌∷◌, [], ◌++◌, map, OnOk, IfOk};
+ghost use Rattle.lf_ast.specs.Rules.{RuleTree, rule_tree, rule_trees};
 ghost use Rattle.lf_semantics.specs.ClassRows.{Sets, is_live};
 ghost use Rattle.lf_semantics.specs.Environments.{IsEnvironment, rule_row as row_of_rule};
 ghost use Rattle.lf_semantics.specs.Listing.{IsListing};
@@ -40,9 +41,9 @@ pub fn push_rules(
 ) -> Result<Said, Memory>
     requires listing { IsListing universe.now }
     requires env { IsEnvironment universe.now env.now }
-    ensures text { (name : List ℕ) → file.now ≡ shown name → OnOk result (report.new ≡ report.old ++ lines_text (rules_lines name bytes.now (labels_of universe.now) (row_of_rule universe.now env.now) rules.now)) }
-    ensures verdicts { IfOk result (λ said. said.verdicts.items ≡ verdicts_of (row_of_rule universe.now env.now) rules.now) }
-    ensures empty { IfOk result (λ said. said.empty ≡ empty_count (row_of_rule universe.now env.now) rules.now) }
+    ensures text { (name : List ℕ) → file.now ≡ shown name → OnOk result (report.new ≡ report.old ++ lines_text (rules_lines name bytes.now (labels_of universe.now) (row_of_rule universe.now env.now) (rule_trees rules.now))) }
+    ensures verdicts { IfOk result (λ said. said.verdicts.items ≡ verdicts_of (row_of_rule universe.now env.now) (rule_trees rules.now)) }
+    ensures empty { IfOk result (λ said. said.empty ≡ empty_count (row_of_rule universe.now env.now) (rule_trees rules.now)) }
 {
     let shown = shown_labels(alloc, universe)?;
     let mut verdicts = Vec::new(alloc);
@@ -91,7 +92,7 @@ fn push_rule(
     row: &Row,
     said: &[Verdict],
 ) -> Result<(), Memory>
-    ensures { (name bytes : List ℕ) (names : List (List ℕ)) (rows : Rule → Sets) → file.now ≡ shown name → IsSpotOf bytes rule.now.name_span.start name_at → IsSpotOf bytes rule.now.expr_span.start expr_at → labels.now ≡ map shown names → said.now ≡ verdicts_in row.now → row.now ≡ rows rule.now → OnOk result (report.new ≡ report.old ++ lines_text (rule_lines name bytes names rows rule.now)) }
+    ensures { (name bytes : List ℕ) (names : List (List ℕ)) (rows : RuleTree → Sets) → file.now ≡ shown name → IsSpotOf bytes rule.now.name_span.start name_at → IsSpotOf bytes rule.now.expr_span.start expr_at → labels.now ≡ map shown names → said.now ≡ verdicts_in row.now → row.now ≡ rows (rule_tree rule.now) → OnOk result (report.new ≡ report.old ++ lines_text (rule_lines name bytes names rows (rule_tree rule.now))) }
 {
     let place = place_at(alloc, file, name_at)?;
     push_rule_line(alloc, report, place.as_str(), rule.name.as_str())?;

@@ -2,6 +2,7 @@ use Rattle.std.proofs.Common.{rules, ◌≡◌, ◌+◌, ℕ, Err, inl, refl, sy
 use Rattle.lf_ast.specs.Labels.{Bytes}
 use Rattle.lf_lint.specs.declared.status.Status.TheVariants.{Limit}
 use Rattle.lf_lint.specs.Ends.{IsReportOn}
+use Rattle.lf_lint.specs.Founds.{content}
 use Rattle.lf_lint.proofs.OneReport.{one_report}
 use Rattle.lf_lint.proofs.Reports.{wrote_front}
 use Rattle.lf_lint.proofs.Truths.{wrote_truth}
@@ -14,37 +15,37 @@ pub returns-in-Err-Failed-clause-files_calm : goal.returns-in-Err-Failed-clause-
 returns-in-Err-Failed-clause-files_calm g c = λ other. absurd (other _ refl)
 
 pub returns-in-Err-Memory-clause-one_report : goal.returns-in-Err-Memory-clause-one_report
-returns-in-Err-Memory-clause-one_report g c = one_report c.args.alloc _
+returns-in-Err-Memory-clause-one_report g c = one_report _
 
 pub returns-in-Err-Failed-clause-one_report : goal.returns-in-Err-Failed-clause-one_report
-returns-in-Err-Failed-clause-one_report g c = one_report c.args.alloc _
+returns-in-Err-Failed-clause-one_report g c = one_report _
 
 pub returns-in-Err-TooLong-clause-one_report : goal.returns-in-Err-TooLong-clause-one_report
-returns-in-Err-TooLong-clause-one_report g c = one_report c.args.alloc _
+returns-in-Err-TooLong-clause-one_report g c = one_report _
 
 pub returns-in-Err-Memory-read_whole-clause-one_report : goal.returns-in-Err-Memory-read_whole-clause-one_report
-returns-in-Err-Memory-read_whole-clause-one_report g c = one_report c.args.alloc _
+returns-in-Err-Memory-read_whole-clause-one_report g c = one_report _
 
 pub returns-in_default-clause-one_report : goal.returns-in_default-clause-one_report
-returns-in_default-clause-one_report g c = one_report c.args.alloc _
+returns-in_default-clause-one_report g c = one_report _
 
 pub returns-in-Err-clause-one_report : goal.returns-in-Err-clause-one_report
-returns-in-Err-clause-one_report g c = one_report c.args.alloc _
+returns-in-Err-clause-one_report g c = one_report _
 
 pub returns-in-Ok-write_whole-clause-one_report : goal.returns-in-Ok-write_whole-clause-one_report
-returns-in-Ok-write_whole-clause-one_report g c = one_report c.args.alloc _
+returns-in-Ok-write_whole-clause-one_report g c = one_report _
 
 pub returns-clause-one_report : goal.returns-clause-one_report
-returns-clause-one_report g c = one_report c.args.alloc _
+returns-clause-one_report g c = one_report _
 
 pub returns-clause-headline : goal.returns-clause-headline
 returns-clause-headline g c = λ e. wrote_truth _ _ _ _ (search rules)
 
 pub returns-in-Err-Limit-clause-one_report : goal.returns-in-Err-Limit-clause-one_report
-returns-in-Err-Limit-clause-one_report g c = one_report c.args.alloc _
+returns-in-Err-Limit-clause-one_report g c = one_report _
 
 pub returns-in-Err-Memory-report_text-clause-one_report : goal.returns-in-Err-Memory-report_text-clause-one_report
-returns-in-Err-Memory-report_text-clause-one_report g c = one_report c.args.alloc _
+returns-in-Err-Memory-report_text-clause-one_report g c = one_report _
 
 pub returns-in-Err-TooLong-clause-limit : goal.returns-in-Err-TooLong-clause-limit
 returns-in-Err-TooLong-clause-limit g c = λ quantity count e.
@@ -54,8 +55,8 @@ returns-in-Err-TooLong-clause-limit g c = λ quantity count e.
 
 pub returns-in-Err-clause-write : goal.returns-in-Err-clause-write
 returns-in-Err-clause-write g c = λ e.
-    let P : Bytes → Type 0 = λ bytes. IsReportOn c.in-Ok.asked bytes c.in-Ok-find.found c.in-Ok-report_text.report in (
+    let P : Bytes → Type 0 = λ bytes. IsReportOn c.in-Ok.asked bytes (content c.in-Ok-find.found) c.in-Ok-report_text.report in (
       search rules,
-      wrote_front _ _ _ _ c.in-Ok.asked c.in-Ok-read_whole.bytes c.in-Ok-find.found c.in-Ok-report_text.report c.as_bytes.result.now (search rules) (subst P c.as_slice-2.ensures c.in-Ok-report_text.ensures.text)
+      wrote_front _ _ _ _ c.in-Ok.asked c.in-Ok-read_whole.bytes (content c.in-Ok-find.found) c.in-Ok-report_text.report c.as_bytes.result.now (search rules) (subst P c.as_slice-2.ensures c.in-Ok-report_text.ensures.text)
           (c.as_bytes.ensures.value ∙ c.as_str.ensures) c.in-Err.ensures.part,
     )

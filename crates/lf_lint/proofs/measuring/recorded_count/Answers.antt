@@ -1,5 +1,7 @@
-use Rattle.std.proofs.Common.{[], List, length, take, ◌∙◌, ◌≤◌, ap, subst, arith}
+use Rattle.std.proofs.Common.{List, length, take, ◌∙◌, ap, arith}
 use Rattle.std.proofs.lemmas.List.{take_all}
+use Rattle.std.proofs.lemmas.List.{length-map}
+use Rattle.lf_ast.specs.Rules.{rule_tree, rule_trees}
 use Rattle.lf_ast.specs.declared.rule.Rule.{Rule}
 use Rattle.lf_semantics.specs.Environments.{recorded_names}
 use Rattle.lf_lint.proofs.Recorded.{recorded_next}
@@ -13,9 +15,9 @@ loop-rule-preserved c =
     recorded_next c.loop-rule.names c.add_recorded.new.names c.args.rules.now c.loop-rule.rule-index c.rule-item.result c.loop-rule-test.true c.rule-item.is c.in_ok-add_recorded.ensures c.loop-rule.invariant
 
 pub returns-clause-count : goal.returns-clause-count
-returns-clause-count c = c.len.ensures.count ∙ ap length (c.loop-rule.invariant.are ∙ ap recorded_names (take_all c.loop-rule.rule-index c.args.rules.now (omega (arith, c.loop-rule-test.false))))
+returns-clause-count c = c.len.ensures.count ∙ ap length (c.loop-rule.invariant.are ∙ ap (λ (rs : List Rule). recorded_names (rule_trees rs)) (take_all c.loop-rule.rule-index c.args.rules.now (omega (arith, c.loop-rule-test.false))))
 
 pub returns-clause-most : goal.returns-clause-most
 returns-clause-most c =
     let all = ap (λ (l : List Rule). length l) (take_all c.loop-rule.rule-index c.args.rules.now (omega (arith, c.loop-rule-test.false))) in
-    omega (arith, c.len.ensures.count, c.loop-rule.invariant.few, all)
+    omega (arith, c.len.ensures.count, c.loop-rule.invariant.few, length-map (take c.loop-rule.rule-index c.args.rules.now) rule_tree, all)

@@ -1,5 +1,5 @@
 use Rattle.std.proofs.lemmas.Result.{err_from_is_err_and}
-use Rattle.lf_lint.proofs.Steps.{first_breach, rules_more}
+use Rattle.lf_lint.proofs.Steps.{ends_inside, first_breach, rules_more}
 use Rattle.lf_lint.proofs.rules.rules_of.Goals as goal
 
 pub returns-in_err-rule-clause-refused : goal.returns-in_err-rule-clause-refused
@@ -10,3 +10,8 @@ returns-in_err-rule-clause-refused c =
 pub loop-source-preserved : goal.loop-source-preserved
 loop-source-preserved c =
     rw c.in_ok-push.ensures.ok (rules_more c.args.file c.args.sources.now c.loop-source.source-index c.source-item.result c.loop-source-test.true c.source-item.is c.loop-source.rules c.loop-source.invariant c.in_ok-rule.rule c.in_ok-rule.ensures.found)
+
+pub returns-in_err-rule-clause-lies : goal.returns-in_err-rule-clause-lies
+returns-in_err-rule-clause-lies c = λ n inside.
+    let p = err_from_is_err_and c.from_residual.result c.from_residual.ensures.1 in
+    rw (p.1, p.2) (c.in_err-rule.ensures.lies n (ends_inside n c.args.sources.now c.loop-source.source-index c.source-item.result c.loop-source-test.true c.source-item.is inside))

@@ -1,5 +1,6 @@
 use Rattle.std.proofs.Common.{◌≡◌, [], ◌∷◌, ◌++◌, ap, ◌∙◌}
 use Rattle.std.proofs.lemmas.Result.{on_ok_weaker}
+use Rattle.lf_ast.specs.Rules.{rule_tree}
 use Rattle.lf_lint.specs.Report.{lines_text, place_text, rule_line, said_lines}
 use Rattle.lf_lint.proofs.Appends.{appended_lines}
 use Rattle.lf_lint.proofs.Spotted.{placed}
@@ -16,6 +17,6 @@ returns c = λ name bytes names rows shows at_name at_expr labels said row_is.
     let first : c.push_rule_line.new.report ≡ report ++ lines_text (rule_line name_place r.name ∷ []) =
     c.in_ok-push_rule_line.ensures ∙ ap (λ p. report ++ lines_text (rule_line p c.as_str-2.result.now ∷ [])) one ∙ ap (λ n. report ++ lines_text (rule_line name_place n ∷ [])) c.as_str-2.ensures in
     on_ok_weaker c.push_said.result
-    (λ e. appended_lines report (rule_line name_place r.name ∷ []) (said_lines expr_place names (rows r)) first
+    (λ e. appended_lines report (rule_line name_place r.name ∷ []) (said_lines expr_place names (rows (rule_tree r))) first
     (e ∙ ap (λ p. c.push_rule_line.new.report ++ lines_text (said_lines p names c.args.row.now)) two ∙ ap (λ sets. c.push_rule_line.new.report ++ lines_text (said_lines expr_place names sets)) row_is))
     (c.push_said.ensures names labels said)
