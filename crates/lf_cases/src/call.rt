@@ -2,7 +2,7 @@
 
 use crate::answer::Answer;
 use crate::case::Case;
-use crate::{expressions, patterns, rules, scalars, tokens, trees, types};
+use crate::{expressions, patterns, rules, scalars, templates, tokens, trees, types};
 use anyhow::Result;
 use std::alloc::Global;
 use std::time::Duration;
@@ -24,6 +24,8 @@ pub enum Call {
     Rules,
     /// The calls of `lf_pattern`
     Patterns,
+    /// `lf_templates::references`
+    Templates,
 }
 
 impl Call {
@@ -37,6 +39,7 @@ impl Call {
             "trees" => Some(Call::Trees),
             "rules" => Some(Call::Rules),
             "patterns" => Some(Call::Patterns),
+            "templates" => Some(Call::Templates),
             _ => None,
         }
     }
@@ -51,6 +54,7 @@ impl Call {
             Call::Trees => "trees",
             Call::Rules => "rules",
             Call::Patterns => "patterns",
+            Call::Templates => "templates",
         }
     }
 
@@ -64,6 +68,7 @@ impl Call {
             Call::Trees => Ok(Answer::of(trees::answer(alloc, case)?)),
             Call::Rules => Ok(Answer::of(rules::answer(alloc, case)?)),
             Call::Patterns => Ok(Answer::of(patterns::answer(alloc, case)?)),
+            Call::Templates => Ok(Answer::of(templates::answer(alloc, case)?)),
         }
     }
 
@@ -77,6 +82,7 @@ impl Call {
             Call::Trees => trees::time(rt, text),
             Call::Rules => rules::time(rt, text),
             Call::Patterns => patterns::time(rt, text),
+            Call::Templates => templates::time(rt, text),
         }
     }
 }

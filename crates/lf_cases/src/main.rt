@@ -15,6 +15,7 @@ mod rules;
 mod run;
 mod scalars;
 mod spans;
+mod templates;
 mod timing;
 mod tokens;
 mod tree;

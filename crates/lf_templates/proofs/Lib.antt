@@ -1,0 +1,17 @@
+pub mod Passing
+pub mod TokenLoops
+pub mod Lists
+pub mod Quotes
+pub mod Stacks
+pub mod Fronts
+pub mod Standing
+pub mod Braces
+pub mod RowLaws
+pub mod Stepping
+pub mod Acts
+pub mod Outcomes
+pub mod Advancing
+pub mod Pieces
+pub mod Deciding
+pub mod Inside
+pub mod Worked

@@ -1,0 +1,72 @@
+-- Parts of lists, and rows of bytes of a class.
+use Rattle.std.proofs.Common.{◌≡◌, ℕ, zero, suc, ◌+◌, ◌≤◌, Bool, true, false, cond, List, [], ◌∷◌, ◌++◌, length, take, drop, refl, ap, arith, append-nil, sym, ◌∙◌, subst, length-take-le, take-append-drop}
+use Rattle.std.proofs.lemmas.Bool.{and_parts}
+use Rattle.std.specs.List.{prefix_len, list_all}
+use Rattle.lf_templates.specs.Bytes.{Stops}
+
+take_on : (xs ys : List ℕ) (k : ℕ) → take (length xs + k) (xs ++ ys) ≡ xs ++ take k ys
+take_on [] ys k = let e : 0 + k ≡ k = omega arith in rw e refl
+take_on (x ∷ xs) ys k = let e : length (x ∷ xs) + k ≡ suc (length xs + k) = omega arith in rw e (ap (λ (zs : List ℕ). x ∷ zs) (take_on xs ys k))
+
+pub take_same : (n : ℕ) (text rest : List ℕ) → length text ≡ n → take n (text ++ rest) ≡ text
+take_same n text rest e = let f : n ≡ length text + 0 = omega arith in ap (λ (k : ℕ). take k (text ++ rest)) f ∙ take_on text rest 0 ∙ append-nil text
+
+pub drop_same : (n : ℕ) (text rest : List ℕ) → length text ≡ n → drop n (text ++ rest) ≡ rest
+drop_same n text rest e = subst (λ (k : ℕ). drop k (text ++ rest) ≡ rest) e (past text)
+  where
+    past : (text : List ℕ) → drop (length text) (text ++ rest) ≡ rest
+    past [] = refl
+    past (b ∷ text) = past text
+
+drop_nil : (n : ℕ) → drop {A = ℕ} n [] ≡ []
+drop_nil zero = refl
+drop_nil (suc n) = refl
+
+pub drop_drop : (n at : ℕ) (bs : List ℕ) → drop n (drop at bs) ≡ drop (at + n) bs
+drop_drop n zero bs = let e : 0 + n ≡ n = omega arith in rw e refl
+drop_drop n (suc at) [] = rw (drop_nil n, drop_nil (suc at + n)) refl
+drop_drop n (suc at) (b ∷ bs) = let e : suc at + n ≡ suc (at + n) = omega arith in rw e (drop_drop n at bs)
+
+-- ---- rows of one class
+
+pub row_all : (p : ℕ → Bool) (src : List ℕ) → list_all p (take (prefix_len p src) src) ≡ true
+row_all p [] = refl
+row_all p (b ∷ src) = by (row_all p src) (p b) refl
+  where
+    by : list_all p (take (prefix_len p src) src) ≡ true → (t : Bool) → p b ≡ t → list_all p (take (cond (p b) (1 + prefix_len p src) 0) (b ∷ src)) ≡ true
+    by again true e = let k : 1 + prefix_len p src ≡ suc (prefix_len p src) = omega arith in rw (e, k, e) again
+    by again false e = rw e refl
+
+pub row_le : (p : ℕ → Bool) (src : List ℕ) → prefix_len p src ≤ length src
+row_le p [] = omega arith
+row_le p (b ∷ src) = by (row_le p src) (p b)
+  where
+    by : prefix_len p src ≤ length src → (t : Bool) → cond t (1 + prefix_len p src) 0 ≤ length (b ∷ src)
+    by le true = omega arith
+    by le false = omega arith
+
+row_stops : (p : ℕ → Bool) (rest : List ℕ) → Stops p rest → prefix_len p rest ≡ 0
+row_stops p [] h = refl
+row_stops p (b ∷ rest) h = rw h refl
+
+pub row_is : (p : ℕ → Bool) (text rest : List ℕ) → list_all p text ≡ true → Stops p rest → prefix_len p (text ++ rest) ≡ length text
+row_is p [] rest h s = row_stops p rest s
+row_is p (b ∷ text) rest h s =
+    let a = and_parts (p b) (list_all p text) h in
+    let e = row_is p text rest a.1 s in
+    rw a.0 (omega arith)
+
+pub row_then : (p : ℕ → Bool) (src : List ℕ) → Stops p (drop (prefix_len p src) src)
+row_then p [] = refl
+row_then p (b ∷ src) = by (row_then p src) (p b) refl
+  where
+    by : Stops p (drop (prefix_len p src) src) → (t : Bool) → p b ≡ t → Stops p (drop (cond (p b) (1 + prefix_len p src) 0) (b ∷ src))
+    by again true e = let k : 1 + prefix_len p src ≡ suc (prefix_len p src) = omega arith in rw (e, k) again
+    by again false e = rw e e
+
+-- the front of a text and what follows it
+pub front_length : (n : ℕ) (src : List ℕ) → n ≤ length src → length (take n src) ≡ n
+front_length n src le = length-take-le n src le
+
+pub front_split : (n : ℕ) (src : List ℕ) → src ≡ take n src ++ drop n src
+front_split n src = sym (take-append-drop n src)

@@ -1,0 +1,84 @@
+-- Going over a string and a comment byte by byte, to what closes it.
+use Rattle.std.proofs.Common.{◌≡◌, ℕ, suc, ◌+◌, ◌<◌, ◌≤◌, Bool, true, false, not, ◌&&◌, cond, eqb, List, [], ◌∷◌, Option, Some, None, length, get_or, drop, refl, ap, arith, add-one, drop-cons, length-drop}
+use Rattle.std.specs.Prelude.{option_map}
+use Rattle.std.proofs.lemmas.List.{drop_all}
+use Rattle.lf_templates.specs.Bytes.{starts_with}
+use Rattle.lf_templates.specs.Tokens.{ends_comment}
+use Rattle.lf_templates.specs.Reading.{closing, comment_len}
+
+one_more : (i : ℕ) (o : Option ℕ) → option_map (λ n. i + n) (option_map suc o) ≡ option_map (λ n. i + 1 + n) o
+one_more i None = refl
+one_more i (Some n) = ap (λ (k : ℕ). Some k) (omega arith)
+
+none_more : (o : Option ℕ) → option_map (λ n. 0 + n) o ≡ o
+none_more None = refl
+none_more (Some n) = ap (λ (k : ℕ). Some k) (omega arith)
+
+-- ---- strings
+
+closing-step : (quote b : ℕ) (src : List ℕ) (skip : Bool) → closing quote skip (b ∷ src) ≡ cond (not skip && eqb b quote) (Some 0) (option_map suc (closing quote (not skip && eqb b 92) src))
+unfolding closing
+closing-step quote b src true = refl
+closing-step quote b src false = refl
+
+-- what closes, where the first bytes are passed
+abbrev pub passed : ℕ → List ℕ → ℕ → Bool → Option ℕ
+passed quote rest i skip = option_map (λ n. i + n) (closing quote skip (drop i rest))
+
+module _ (quote : ℕ) (rest : List ℕ) (i : ℕ) (lt : i < length rest) where
+  here : (skip : Bool) → closing quote skip (drop i rest) ≡ cond (not skip && eqb (get_or rest i 0) quote) (Some 0) (option_map suc (closing quote (not skip && eqb (get_or rest i 0) 92) (drop (i + 1) rest)))
+  here skip = rw (add-one, drop-cons rest i 0) (closing-step quote (get_or rest i 0) (drop (suc i) rest) skip)
+
+  pub passed-closes : (skip : Bool) → (not skip && eqb (get_or rest i 0) quote) ≡ true → passed quote rest i skip ≡ Some i
+  passed-closes skip e = rw (here skip, e) (ap (λ (k : ℕ). Some k) (omega arith))
+
+  pub passed-moves : (skip : Bool) → (not skip && eqb (get_or rest i 0) quote) ≡ false → passed quote rest i skip ≡ passed quote rest (i + 1) (not skip && eqb (get_or rest i 0) 92)
+  passed-moves skip e = rw (here skip, e) (one_more i _)
+
+pub passed-ends : (quote : ℕ) (rest : List ℕ) (i : ℕ) (skip : Bool) → length rest ≤ i → passed quote rest i skip ≡ None
+unfolding closing
+passed-ends quote rest i skip le = rw (drop_all i rest le) (nothing skip)
+  where
+    nothing : (skip : Bool) → option_map (λ n. i + n) (closing quote skip []) ≡ None
+    nothing true = refl
+    nothing false = refl
+
+pub passed-start : (quote : ℕ) (rest : List ℕ) → passed quote rest 0 false ≡ closing quote false rest
+passed-start quote rest = none_more (closing quote false rest)
+
+-- ---- comments
+
+abbrev pub searched : List ℕ → ℕ → Option ℕ
+searched rest i = option_map (λ n. i + n) (comment_len (drop i rest))
+
+comment-step : (b : ℕ) (src : List ℕ) → comment_len (b ∷ src) ≡ cond (ends_comment (b ∷ src)) (Some 0) (option_map suc (comment_len src))
+unfolding comment_len
+comment-step b src = refl
+
+module _ (rest : List ℕ) (i : ℕ) (lt : i < length rest) where
+  split : drop i rest ≡ get_or rest i 0 ∷ drop (i + 1) rest
+  split = rw (add-one, drop-cons rest i 0) refl
+
+  there : comment_len (drop i rest) ≡ cond (ends_comment (drop i rest)) (Some 0) (option_map suc (comment_len (drop (i + 1) rest)))
+  there = rw split (comment-step (get_or rest i 0) (drop (i + 1) rest))
+
+  pub searched-ends : ends_comment (drop i rest) ≡ true → searched rest i ≡ Some i
+  searched-ends e = rw (there, e) (ap (λ (k : ℕ). Some k) (omega arith))
+
+  pub searched-moves : ends_comment (drop i rest) ≡ false → searched rest i ≡ searched rest (i + 1)
+  searched-moves e = rw (there, e) (one_more i _)
+
+pub searched-none : (rest : List ℕ) (i : ℕ) → length rest ≤ i → searched rest i ≡ None
+unfolding comment_len
+searched-none rest i le = rw (drop_all i rest le) refl
+
+pub searched-start : (rest : List ℕ) → searched rest 0 ≡ comment_len rest
+searched-start rest = none_more (comment_len rest)
+
+two_bytes : (b c : ℕ) (src : List ℕ) → starts_with b c src ≡ true → 2 ≤ length src
+two_bytes b c [] e = cc
+two_bytes b c (x ∷ []) e = cc
+two_bytes b c (x ∷ y ∷ src) e = omega arith
+
+pub searched-within : (rest : List ℕ) (i : ℕ) → ends_comment (drop i rest) ≡ true → i + 2 ≤ length rest
+searched-within rest i e = let h = two_bytes 42 47 (drop i rest) e in omega (arith, length-drop i rest)

@@ -1,0 +1,21 @@
+-- Going over the tokens of an action one by one.
+use Rattle.std.proofs.Common.{◌≡◌, ℕ, ◌+◌, ◌<◌, Bool, false, not, ◌&&◌, ◌||◌, List, [], ◌∷◌, length, get_or, drop, refl, add-one, drop-cons}
+use Rattle.std.specs.Prelude.{filter}
+use Rattle.lf_templates.specs.declared.token.Token.{Token}
+use Rattle.lf_templates.specs.declared.token.Lexeme.{Lexeme}
+use Rattle.lf_templates.specs.Actions.{is_blank, is_setting, sets_labels}
+
+pub split : (ls : List Lexeme) (i : ℕ) (l : Lexeme) → i < length ls → drop i ls ≡ get_or ls i l ∷ drop (i + 1) ls
+split ls i l lt = rw (add-one, drop-cons ls i l) refl
+
+-- ---- whether $labels is set anew, behind a token that is perhaps $labels
+
+abbrev pub starts_setting : List Token → Bool
+starts_setting [] = false
+starts_setting (t ∷ ts) = is_setting t
+
+abbrev pub no_blanks : List Token → List Token
+no_blanks ts = filter (λ t. not (is_blank t)) ts
+
+abbrev pub sets_from : Bool → List Token → Bool
+sets_from behind ts = (behind && starts_setting (no_blanks ts)) || sets_labels ts

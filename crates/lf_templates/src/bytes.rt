@@ -1,0 +1,129 @@
+//! The classes of bytes that tokens are made of, and rows of them.
+ghost use Rattle.std.specs.Prelude.{◌≡◌, ◌≤◌, length, drop, take};
+ghost use Rattle.std.specs.List.{prefix_len};
+ghost use Rattle.lf_templates.specs.Bytes as class_of;
+ghost use Rattle.lf_templates.specs.Reading.{is_in_class};
+
+use crate::token::{Beginning, Token};
+use lf_base::names::{begins_label, is_digit, is_in_label};
+
+/// What a row is made of.
+#[derive(Clone, Copy, PartialEq, Eq, Debug)]
+pub enum Class {
+    /// What a word goes on with.
+    Word,
+    /// What a number goes on with.
+    Number,
+    NoBackQuote,
+}
+
+#[tactic(auto, unfolding(crate::specs::Bytes::is_in_number))]
+fn is_in_number(byte: u8) -> bool
+    ensures { result ≡ class_of.is_in_number byte }
+{
+    is_in_label(byte) || byte == b'.'
+}
+
+#[tactic(auto, unfolding(crate::specs::Bytes::is_no_back_quote))]
+fn is_in_class(class: Class, byte: u8) -> bool
+    ensures { result ≡ is_in_class class byte }
+{
+    match class {
+        Class::Word => is_in_label(byte),
+        Class::Number => is_in_number(byte),
+        Class::NoBackQuote => byte != b'`',
+    }
+}
+
+/// What a byte begins.
+#[tactic(auto, unfolding(crate::specs::Bytes::beginning))]
+pub fn beginning(byte: u8) -> Beginning
+    ensures { result ≡ class_of.beginning byte }
+{
+    if begins_label(byte) {
+        Beginning::Letter
+    } else if is_digit(byte) {
+        Beginning::Digit
+    } else {
+        sign(byte)
+    }
+}
+
+/// What a byte begins that is no letter, underscore or digit.
+#[tactic(auto, unfolding(crate::specs::Bytes::sign_begins))]
+fn sign(byte: u8) -> Beginning
+    ensures { result ≡ class_of.sign_begins byte }
+{
+    let token = match byte {
+        b'"' => return Beginning::Quote,
+        b'\'' => return Beginning::Quote,
+        b'`' => return Beginning::BackQuote,
+        b'$' => return Beginning::Dollar,
+        b'.' => return Beginning::Dot,
+        b':' => return Beginning::Colon,
+        b'/' => return Beginning::Slash,
+        b'-' => return Beginning::Minus,
+        b' ' => Token::Blank { inline: true },
+        b'\t' => Token::Blank { inline: true },
+        b'\n' => Token::Blank { inline: false },
+        b'\r' => Token::Blank { inline: false },
+        b'(' => Token::Open,
+        b')' => Token::Close,
+        b',' => Token::Setting,
+        b'=' => Token::Setting,
+        b'|' => Token::Plain,
+        b'+' => Token::Plain,
+        _ => Token::Wrong,
+    };
+    Beginning::Alone { token }
+}
+
+/// Whether a text begins with two bytes.
+pub fn starts_with(first: u8, second: u8, text: &[u8]) -> bool
+    ensures { result ≡ class_of.starts_with first second text.now }
+{
+    match text {
+        [] => false,
+        [_only] => false,
+        [a, b, ..] => *a == first && *b == second,
+    }
+}
+
+/// Whether a text begins with a byte.
+pub fn starts(first: u8, text: &[u8]) -> bool
+    ensures { result ≡ class_of.starts (λ b. class_of.is b first) text.now }
+{
+    match text {
+        [] => false,
+        [a, ..] => *a == first,
+    }
+}
+
+/// The part of the bytes that begins at a place.
+pub fn after(bytes: &[u8], place: usize) -> &[u8]
+    requires { place ≤ length bytes.now }
+    ensures { result.now ≡ drop place bytes.now }
+{
+    bytes.split_at(place).1
+}
+
+/// The part of the bytes that ends at a place.
+pub fn before(bytes: &[u8], place: usize) -> &[u8]
+    requires { place ≤ length bytes.now }
+    ensures { result.now ≡ take place bytes.now }
+{
+    bytes.split_at(place).0
+}
+
+/// How many bytes the longest row of a class at the front has.
+pub fn row_len(bytes: &[u8], class: Class) -> usize
+    ensures within { result ≤ length bytes.now }
+    ensures row { result ≡ prefix_len (is_in_class class) bytes.now }
+{
+    for (i, byte) in bytes.iter().enumerate() {
+        if !is_in_class(class, *byte) {
+            return i;
+        }
+    }
+    bytes.len()
+}

@@ -1,0 +1,40 @@
+//! How far strings and comments go.
+ghost use Rattle.std.specs.Prelude.{◌≡◌, ◌≤◌, ◌<◌, ◌+◌, length, not, false, ◌&&◌, ◌==◌, IfSome};
+ghost use Rattle.lf_templates.specs.Reading as reading;
+
+use crate::bytes::{after, starts_with};
+
+/// Whether a byte is the one that is looked for, and stands behind no backslash.
+fn is_bare(skip: bool, byte: u8, wanted: u8) -> bool
+    ensures { result ≡ (not skip && byte == wanted) }
+{
+    !skip && byte == wanted
+}
+
+/// How many bytes stand before the quote that closes, where one does.
+pub fn closing(quote: u8, rest: &[u8]) -> Option<usize>
+    ensures value { result ≡ reading.closing quote false rest.now }
+    ensures within { IfSome result (λ n. n < length rest.now) }
+{
+    let mut skip = false;
+    for (i, byte) in rest.iter().enumerate() {
+        if is_bare(skip, *byte, quote) {
+            return Some(i);
+        }
+        skip = is_bare(skip, *byte, b'\\');
+    }
+    None
+}
+
+/// How many bytes stand before the first `*/`, where one does.
+pub fn comment_len(rest: &[u8]) -> Option<usize>
+    ensures value { result ≡ reading.comment_len rest.now }
+    ensures within { IfSome result (λ n. n + 2 ≤ length rest.now) }
+{
+    for i in 0..rest.len() {
+        if starts_with(b'*', b'/', after(rest, i)) {
+            return Some(i);
+        }
+    }
+    None
+}
