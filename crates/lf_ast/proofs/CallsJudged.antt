@@ -4,11 +4,11 @@ use Rattle.lf_base.specs.declared.kind.Kind.TheVariants.{WrongType, WrongCount, 
 use Rattle.lf_base.specs.declared.place.Span.{Span}
 use Rattle.lf_ast.specs.Functions.{Signature}
 use Rattle.lf_ast.specs.Tree.{Tree, Trees, Nil, Next, count, span_of}
-use Rattle.lf_ast.specs.Types.{HasType, Fit, Gives, wanted, names_a_label, is_bad_label, string_of, takes_count}
+use Rattle.lf_ast.specs.Types.{HasType, Fit, CallHasType, wanted, names_a_label, is_bad_label, string_of, takes_count}
 use Rattle.lf_base.specs.declared.fault.Fault.{Fault}
 use Rattle.lf_base.specs.Faults.{fault, first, when}
 use Rattle.lf_ast.specs.Breaches.{Breaks, BreaksAny, HasBadArgument, IsBadArgument, IsBadCall}
-use Rattle.lf_ast.specs.Judging.{Judged, argument_fault, arguments_fault, call_judged, counted, given, is_wanted, judged, own_fault, unless}
+use Rattle.lf_ast.specs.reading.Judging.{Judged, argument_fault, arguments_fault, call_judged, counted, given, is_wanted, judged, own_fault, unless}
 use Rattle.lf_ast.specs.declared.expr.ExprType.{ExprType}
 use Rattle.lf_base.proofs.Least.{Least, least_either, least_same, none_of_first, not_itself}
 use Rattle.lf_ast.proofs.Sides.{Good, IsGiven, Stands, clash, least_argument, least_unjudged, stands_unless, wanted-is, wanted-seen}
@@ -102,8 +102,8 @@ module _ (s : Signature) (span : Span) (es : Trees) (all : AllGood es) where
   abbrev CallBreaks : Fault → Type 0
   CallBreaks f = BreaksAny es f ⊎ IsBadCall es span s f
 
-  abbrev CallGives : ExprType → Type 0
-  CallGives t = Gives n (Fit es) s t
+  abbrev CallHasIt : ExprType → Type 0
+  CallHasIt t = CallHasType n (Fit es) s t
 
   abbrev fault_by : Bool → Option Fault
   fault_by b = let call : Result Signature Fault = cond b (Ok s) (Err (fault WrongCount span)) in arguments_fault es call (own_fault call) 0
@@ -121,16 +121,16 @@ module _ (s : Signature) (span : Span) (es : Trees) (all : AllGood es) where
   abbrev judged_by : Bool → Judged
   judged_by b = let call : Result Signature Fault = cond b (Ok s) (Err (fault WrongCount span)) in call_judged call es
 
-  given_by : (b : Bool) → takes_count s n ≡ b → fault_by b ≡ None → IsGiven CallGives (given (cond b (Ok s) (Err (fault WrongCount span))))
+  given_by : (b : Bool) → takes_count s n ≡ b → fault_by b ≡ None → IsGiven CallHasIt (given (cond b (Ok s) (Err (fault WrongCount span))))
   given_by true is none = (is, (passed_fit s es all None 0 none).1, refl)
   given_by false is none = absurd (some_fault (fault WrongCount span) es (fault WrongCount span) 0 none)
 
-  stands_by : (b : Bool) → takes_count s n ≡ b → Stands CallGives CallBreaks (judged_by b)
-  stands_by b is = stands_unless CallGives CallBreaks (fault_by b) (given (cond b (Ok s) (Err (fault WrongCount span)))) (least_by b is) (given_by b is)
+  stands_by : (b : Bool) → takes_count s n ≡ b → Stands CallHasIt CallBreaks (judged_by b)
+  stands_by b is = stands_unless CallHasIt CallBreaks (fault_by b) (given (cond b (Ok s) (Err (fault WrongCount span)))) (least_by b is) (given_by b is)
 
-  pub counted_stands : Stands CallGives CallBreaks (call_judged (counted s (count es) span) es)
+  pub counted_stands : Stands CallHasIt CallBreaks (call_judged (counted s (count es) span) es)
   counted_stands = stands_by (takes_count s n) refl
 
-  pub counted_found : (t : ExprType) → CallGives t → call_judged (counted s (count es) span) es ≡ Ok t
+  pub counted_found : (t : ExprType) → CallHasIt t → call_judged (counted s (count es) span) es ≡ Ok t
   counted_found t h =
       ap (λ b. judged_by b) h.0 ∙ ap (λ o. unless o (Ok s.gives)) (fits_pass s es all 0 h.1) ∙ ap (λ u. Ok u) (sym h.2)

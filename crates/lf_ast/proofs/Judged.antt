@@ -4,12 +4,12 @@ use Rattle.lf_base.specs.declared.kind.Kind.TheVariants.{BadDuration, BadModifie
 use Rattle.lf_base.specs.declared.place.Span.{Span}
 use Rattle.lf_ast.specs.Tree.{Tree, Trees, Number, Str as Text, Selector, Subquery, Paren, Unary, Binary, Call, Aggregate, Nil, Next, count, span_of}
 use Rattle.lf_ast.specs.Functions.{Signature, aggregation, function_named}
-use Rattle.lf_ast.specs.Types.{HasType, Fit, Gives, is_empty_range, is_misplaced, is_number, is_unfit, is_vector, joined, selected, takes_side}
+use Rattle.lf_ast.specs.Types.{HasType, Fit, CallHasType, is_empty_range, is_misplaced, is_number, is_unfit, is_vector, joined, selected, takes_side}
 use Rattle.lf_base.specs.declared.fault.Fault.{Fault}
-use Rattle.lf_base.specs.Answers.{Decides}
+use Rattle.lf_base.proofs.Answering.{Decides}
 use Rattle.lf_base.specs.Faults.{fault, first, when}
 use Rattle.lf_ast.specs.Breaches.{Breaks, BreaksAny, IsBadCall, IsBadModifier, IsEmptyRange, IsOther, Tells}
-use Rattle.lf_ast.specs.Judging.{Judged, arguments_fault, binary_judged, call_judged, called, counted, is_unfit_at, joined_at, judged, range_fault, side_fault, unless}
+use Rattle.lf_ast.specs.reading.Judging.{Judged, arguments_fault, binary_judged, call_judged, called, counted, is_unfit_at, joined_at, judged, range_fault, side_fault, unless}
 use Rattle.lf_ast.specs.declared.expr.ExprType.{ExprType}
 use Rattle.lf_ast.specs.declared.expr.ExprType.TheVariants.{Str, Scalar, Vector, Range}
 use Rattle.lf_ast.specs.declared.expr.Matching.{Matching}
@@ -159,7 +159,7 @@ module _ (op : Op) (m : Matching) (span : Span) (left right : Tree) (l r : Judge
 
 module _ (span : Span) (es : Trees) (all : AllGood es) where
   abbrev CallHas : Option Signature → ExprType → Type 0
-  CallHas o t = (s : Signature) × (o ≡ Some s) × Gives (count es) (Fit es) s t
+  CallHas o t = (s : Signature) × (o ≡ Some s) × CallHasType (count es) (Fit es) s t
 
   abbrev CallBreaks : Option Signature → Fault → Type 0
   CallBreaks o f = BreaksAny es f ⊎ (((o ≡ None) × (f ≡ fault UnknownName span)) ⊎ ((s : Signature) × (o ≡ Some s) × IsBadCall es span s f))
@@ -172,7 +172,7 @@ module _ (span : Span) (es : Trees) (all : AllGood es) where
       (λ f h. elim h [ inl a ↦ inr a | inr h ↦ elim h [ inl u ↦ inl u.1 | inr s ↦ absurd (let bad : None ≡ Some s.0 = s.1 in cc) ] ]) _ (least_own own es all) in
       stands_unless (CallHas None) (CallBreaks None) (arguments_fault es (Err own) (Some own) 0) (Err own) least (some_fault own es own 0)
   call_stands (Some s) = by (call_judged (counted s (count es) span) es) (counted_stands s span es all) where
-    by : (v : Judged) → Stands (Gives (count es) (Fit es) s) (λ f. BreaksAny es f ⊎ IsBadCall es span s f) v → Stands (CallHas (Some s)) (CallBreaks (Some s)) v
+    by : (v : Judged) → Stands (CallHasType (count es) (Fit es) s) (λ f. BreaksAny es f ⊎ IsBadCall es span s f) v → Stands (CallHas (Some s)) (CallBreaks (Some s)) v
     by (Ok t) h = (
       (s, refl, h.0),
       λ f b. elim b [

@@ -1,8 +1,13 @@
 pub mod BreachesInside
 pub mod CallsJudged
+pub mod Folding
 pub mod Judged
 pub mod LabelSets
+pub mod Listing
 pub mod Sides
 pub mod TreeOf
+pub mod Turning
 pub mod UpToSpans
+pub mod Visiting
+pub mod Walks
 mod Worked

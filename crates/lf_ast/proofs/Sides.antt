@@ -8,7 +8,7 @@ use Rattle.lf_ast.specs.Types.{HasType, wanted, names_a_label, is_bad_label, is_
 use Rattle.lf_base.specs.declared.fault.Fault.{Fault}
 use Rattle.lf_base.specs.Faults.{fault, when}
 use Rattle.lf_ast.specs.Breaches.{Breaks, IsOther, IsBadModifier, IsBadArgument}
-use Rattle.lf_ast.specs.Judging.{Judged, argument_fault, is_type, is_unfit_at, is_wanted, side_fault, unless}
+use Rattle.lf_ast.specs.reading.Judging.{Judged, argument_fault, is_type, is_unfit_at, is_wanted, side_fault, unless}
 use Rattle.lf_ast.specs.declared.expr.ExprType.{ExprType}
 use Rattle.lf_ast.specs.declared.expr.ExprType.TheVariants.{Str, Scalar, Vector, Range}
 use Rattle.lf_ast.specs.declared.expr.Matching.{Matching}

@@ -70,7 +70,7 @@ abbrev mutual
   spanless_each Nil = Nil
   spanless_each (Next x xs) = Next (spanless x) (spanless_each xs)
 
--- which expressions say the same: a test, which defines nothing. The law `same_without_spans` ties it to `spanless`
+-- which expressions are the same but for their spans, as a test: the law `same_without_spans` says that it is true exactly where `spanless` gives equal trees
 
 abbrev pub same_op : Op → Op → Bool
 same_op O.Add O.Add = true

@@ -51,6 +51,23 @@ abbrev pub with_last : Trees → Tree → Trees
 with_last Nil y = Next y Nil
 with_last (Next x xs) y = Next x (with_last xs y)
 
+-- arguments as a list
+abbrev pub list : Trees → List Tree
+list Nil = []
+list (Next x xs) = x ∷ list xs
+
+-- the parts of an expression, in their order
+abbrev pub parts_of : Tree → List Tree
+parts_of (Number text span) = []
+parts_of (Str text span) = []
+parts_of (Selector name matchers sight span) = []
+parts_of (Subquery of sight span) = of ∷ []
+parts_of (Paren of span) = of ∷ []
+parts_of (Unary minus of span) = of ∷ []
+parts_of (Binary op m left right span) = left ∷ right ∷ []
+parts_of (Call name args span) = list args
+parts_of (Aggregate op grouping args span) = list args
+
 -- ---- what the code's expressions stand for: the addresses of boxes, and the form that lists of arguments have in memory, are left out
 
 abbrev mutual

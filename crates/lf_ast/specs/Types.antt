@@ -165,8 +165,8 @@ takes_count s n = takes_further s.further (length s.takes) n
 -- the relation
 
 -- a call of n arguments, which fit, by a signature
-abbrev pub Gives : ℕ → (Signature → ℕ → Type 0) → Signature → ExprType → Type 0
-Gives n fit s t = (takes_count s n ≡ true) × fit s 0 × (t ≡ s.gives)
+abbrev pub CallHasType : ℕ → (Signature → ℕ → Type 0) → Signature → ExprType → Type 0
+CallHasType n fit s t = (takes_count s n ≡ true) × fit s 0 × (t ≡ s.gives)
 
 abbrev mutual
   -- the expression has this type
@@ -180,8 +180,8 @@ abbrev mutual
   HasType (Binary op m left right span) t =
       (l r : ExprType) × HasType left l × HasType right r × (takes_side op l ≡ true) × (takes_side op r ≡ true)
       × (is_misplaced op m ≡ false) × (is_unfit op m l r ≡ false) × (t ≡ joined l r)
-  HasType (Call name args span) t = (s : Signature) × (function_named name ≡ Some s) × Gives (count args) (Fit args) s t
-  HasType (Aggregate op grouping args span) t = Gives (count args) (Fit args) (aggregation op) t
+  HasType (Call name args span) t = (s : Signature) × (function_named name ≡ Some s) × CallHasType (count args) (Fit args) s t
+  HasType (Aggregate op grouping args span) t = CallHasType (count args) (Fit args) (aggregation op) t
 
   -- each argument, of which the first is argument k, has the type that is wanted of it, and names a label where one is wanted
   pub Fit : Trees → Signature → ℕ → Type 0

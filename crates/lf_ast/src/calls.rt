@@ -3,7 +3,7 @@ ghost use Rattle.std.specs.Prelude.{◌≡◌, ◌==◌, ◌||◌};
 ghost use Rattle.lf_ast.specs.Functions.{function_named, signature_of};
 ghost use Rattle.lf_ast.specs.Types.{is_bad_label, names_a_label, string_of, takes_count, wanted};
 ghost use Rattle.lf_ast.specs.Tree.{span_of, tree};
-ghost use Rattle.lf_ast.specs.Judging.{argument_fault, call_of, called, counted, given, is_wanted, own_fault};
+ghost use Rattle.lf_ast.specs.reading.Judging.{argument_fault, call_of, called, counted, given, is_wanted, own_fault};
 
 use crate::operands::Judged;
 use crate::parts::{span_of, string_of};

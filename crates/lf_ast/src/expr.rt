@@ -1,6 +1,11 @@
 //! Expressions of PromQL, as Prometheus' documentation on querying has them.
 
+ghost use Rattle.std.specs.Prelude.{◌≡◌, ◌≤◌, ◌+◌, ℕ, IsTrue, IsFalse};
+ghost use Rattle.lf_ast.specs.views.Turning.{Within, weight};
+ghost use Rattle.lf_ast.specs.declared.expr.Expr.{size-Expr};
+
 use lf_base::{Seq, Span, Text};
+use std::mem;
 
 /// A binary operator.
 #[derive(Clone, Copy, Drop, PartialEq, Eq, Debug)]
@@ -119,7 +124,7 @@ pub enum Grouping {
 }
 
 /// An expression. Spans are of the source; of a binary operator, a call and an aggregation it is the span of the operator or word.
-#[derive(Drop, Debug)]
+#[derive(Debug)]
 pub enum Expr {
     Number {
         text: Text,
@@ -167,4 +172,105 @@ pub enum Expr {
         args: Seq<Expr>,
         span: Span,
     },
+}
+
+// A loop that turns a binary operator about until its left side is single, and then lets that go and goes on with the right one. So operators and parentheses need no
+// stack, however they nest, and no memory. Arguments call.
+impl Drop for Expr {
+    #[cycle(dropping)]
+    fn drop(mut self) {
+        loop {
+            match self {
+                Expr::Number { text: _, span: _ } => return,
+                Expr::Str { text: _, span: _ } => return,
+                Expr::Selector {
+                    name: _,
+                    matchers: _,
+                    sight: _,
+                    span: _,
+                } => return,
+                Expr::Subquery {
+                    of,
+                    sight: _,
+                    span: _,
+                } => self = Box::into_inner(of),
+                Expr::Paren { of, span: _ } => self = Box::into_inner(of),
+                Expr::Unary {
+                    minus: _,
+                    of,
+                    span: _,
+                } => self = Box::into_inner(of),
+                Expr::Binary {
+                    op,
+                    modifier,
+                    mut left,
+                    mut right,
+                    span,
+                } => {
+                    if turn(&mut left, &mut right) {
+                        self = Expr::Binary {
+                            op,
+                            modifier,
+                            left: right,
+                            right: left,
+                            span,
+                        };
+                    } else {
+                        self = Box::into_inner(right);
+                    }
+                }
+                Expr::Call {
+                    name: _,
+                    args,
+                    span: _,
+                } => return release(args),
+                Expr::Aggregate {
+                    op: _,
+                    grouping: _,
+                    args,
+                    span: _,
+                } => return release(args),
+            }
+        }
+    }
+}
+
+/// Lets expressions go.
+#[cycle(dropping)]
+fn release(args: Seq<Expr>) {
+    drop(args)
+}
+
+/// Puts the right side of a binary operator in the place of the left side's first part, which becomes the right side, and says so. What is single, with no part or with
+/// arguments, stays.
+fn turn(left: &mut Expr, right: &mut Box<Expr>) -> bool
+    ensures lighter { IsTrue result → weight right.new.value + weight right.new.value + weight left.new + 1 ≤ weight left.old + weight left.old + weight right.old.value }
+    ensures inside { (n : ℕ) → Within n left.old → Within n right.old.value → Within n left.new × Within n right.new.value }
+    ensures single { IsFalse result → (n : ℕ) → Within n left.old → size-Expr left.new + 1 ≤ n }
+    ensures other { IsFalse result → right.new ≡ right.old }
+{
+    match left {
+        Expr::Subquery { of, .. } => {
+            mem::swap(of, right);
+            true
+        }
+        Expr::Paren { of, .. } => {
+            mem::swap(of, right);
+            true
+        }
+        Expr::Unary { of, .. } => {
+            mem::swap(of, right);
+            true
+        }
+        Expr::Binary {
+            left: first,
+            right: second,
+            ..
+        } => {
+            mem::swap(first, second);
+            mem::swap(second, right);
+            true
+        }
+        _ => false,
+    }
 }

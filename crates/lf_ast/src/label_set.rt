@@ -60,19 +60,3 @@ fn find_in<'a>(entries: &'a [(Text, Text)], name: &str) -> Option<&'a Text>
     }
     None
 }
-
-#[cfg(test)]
-mod tests {
-    use super::*;
-    use std::test::Fail;
-
-    #[test]
-    fn finds_what_was_put_in(rt: HostRuntime) -> Result<(), Fail> {
-        let mut entries = Seq::new(rt.alloc());
-        entries.push((Text::of(rt.alloc(), "job")?, Text::of(rt.alloc(), "node")?))?;
-        let found = find_in(entries.as_slice(), "job").map(|text| text.as_str());
-        assert_eq!(rt; found, Some("node"));
-        assert!(rt; LabelSet::new(rt.alloc()).get("job").is_none());
-        Ok(())
-    }
-}

@@ -14,6 +14,7 @@ mod rule;
 mod selectors;
 mod typing;
 mod verdict;
+pub mod walk;
 
 pub use arguments::{has_dollar, text_at, text_of};
 pub use expr::{Agg, Expr, ExprType, Group, Grouping, MatchOp, Matcher, Matching, Name, Op, Sight};
@@ -23,9 +24,6 @@ pub use laws::{one_type, same_without_spans};
 pub use operands::{is_comparison, is_scalar, is_set_operator, is_vector, joined, selected};
 pub use parts::{span_of, string_of};
 pub use rule::{Rule, RuleLabel, Template};
-pub use selectors::selected_name;
+pub use selectors::{first_equal_name, selected_name};
 pub use typing::type_of;
 pub use verdict::{Finding, RuleVerdicts, Verdict, World};
-
-#[cfg(test)]
-mod tests;

@@ -17,7 +17,7 @@ pub fn selected_name<'a>(name: &'a Option<Text>, matchers: &'a [Matcher]) -> Opt
 }
 
 /// The text of the first `=` on the metric name.
-fn first_equal_name(matchers: &[Matcher]) -> Option<&Text>
+pub fn first_equal_name(matchers: &[Matcher]) -> Option<&Text>
     ensures { option_copied result ≡ first_equal_name matchers.now }
 {
     for matcher in matchers {

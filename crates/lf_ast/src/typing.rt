@@ -1,12 +1,12 @@
 //! The type of an expression.
-ghost use Rattle.std.specs.Prelude.{◌≡◌, ℕ, IfOk};
-ghost use Rattle.lf_ast.specs.Tree.{tree, trees};
-ghost use Rattle.lf_ast.specs.Types.{HasType, takes_side};
+ghost use Rattle.std.specs.Prelude.{◌≡◌, ℕ, map, IfOk};
+ghost use Rattle.lf_ast.specs.Tree.{parts_of, tree, trees};
+ghost use Rattle.lf_ast.specs.Types.{HasType, is_vector, takes_side};
 ghost use Rattle.lf_base.specs.Answers.{Answers, Breach, Found, Only, Refused, RefusedIn};
 ghost use Rattle.lf_ast.specs.Breaches.{Tells};
 ghost use Rattle.lf_ast.specs.Inside.{Inside};
 ghost use Rattle.lf_base.specs.Faults.{first};
-ghost use Rattle.lf_ast.specs.Judging.{call_judged, call_of, judged, side_fault};
+ghost use Rattle.lf_ast.specs.reading.Judging.{call_judged, call_of, judged, range_fault, side_fault, unless};
 
 use crate::calls::{Called, argument_fault, called, counted, given, own_fault};
 use crate::modifiers::modifier_fault;
@@ -14,7 +14,8 @@ use crate::operands::{
     Judged, Operands, joined_at, operands_of, range_fault, selected, side_fault, unless,
 };
 use crate::parts::span_of;
-use crate::{Expr, ExprType, Function, Op};
+use crate::walk::{Fold, Parts, fold_up};
+use crate::{Expr, ExprType, Function, Op, Sight};
 use lf_base::{Fault, Memory, Refusal, Span};
 use std::alloc::Global;
 
@@ -33,7 +34,7 @@ pub fn type_of(alloc: Global, expr: &Expr) -> Result<ExprType, Refusal>
     // It is refused, unless memory runs out; so no expression tells two breaches, nor has one that does a type.
     ensures breach { Breach (λ t. t) (Tells (tree expr.now)) result }
     // In a source that each span of the expression lies in lies what is refused, too.
-    ensures inside { (n : ℕ) → Inside n (tree expr.now) → RefusedIn n result }
+    ensures refused_inside { (n : ℕ) → Inside n (tree expr.now) → RefusedIn n result }
 {
     read_type(alloc, expr)
 }
@@ -42,12 +43,37 @@ pub fn type_of(alloc: Global, expr: &Expr) -> Result<ExprType, Refusal>
 fn read_type(alloc: Global, expr: &Expr) -> Result<ExprType, Refusal>
     ensures { Answers result (judged (tree expr.now)) }
 {
-    Ok(judge(alloc, expr)??)
+    Ok(fold_up(alloc, &Judging, expr)??)
 }
 
-/// The type of an expression, or the breach that is told.
-#[cycle(judge)]
-fn judge(alloc: Global, expr: &Expr) -> Result<Judged, Memory>
+/// What is judged of an expression, from what was judged of its parts.
+struct Judging;
+
+impl Fold for Judging {
+    type Value = Judged;
+
+    ghost use Rattle.lf_ast.specs.reading.Judging.{judged};
+    ghost use Rattle.lf_ast.specs.declared.walk.choosing.Parts.TheVariants.{All};
+
+    ghost value = { λ judging e. judged e };
+
+    ghost needed = { λ judging e. All };
+
+    fn needed(&self, _expr: &Expr) -> Parts {
+        Parts::All
+    }
+
+    fn step(&self, alloc: Global, expr: &Expr, values: Vec<Judged>) -> Result<Judged, Memory>
+        requires { values.items ≡ map judged (parts_of (tree expr.now)) }
+        ensures { IfOk result (λ found. found ≡ judged (tree expr.now)) }
+    {
+        judge(alloc, expr, values.as_slice())
+    }
+}
+
+/// The type of an expression, or the breach that is told, from those of its parts.
+fn judge(alloc: Global, expr: &Expr, parts: &[Judged]) -> Result<Judged, Memory>
+    requires { parts.now ≡ map judged (parts_of (tree expr.now)) }
     ensures { IfOk result (λ found. found ≡ judged (tree expr.now)) }
 {
     match expr {
@@ -55,17 +81,14 @@ fn judge(alloc: Global, expr: &Expr) -> Result<Judged, Memory>
         Expr::Str { .. } => Ok(Ok(ExprType::Str)),
         Expr::Selector { sight, .. } => Ok(unless(range_fault(sight), Ok(selected(&sight.range)))),
         Expr::Subquery { of, sight, .. } => {
-            let operand = judge(alloc, of)?;
-            let fault = side_fault(Operands::Vectors, span_of(of), &operand);
-            Ok(unless(Fault::first(fault, range_fault(sight)), Ok(ExprType::Range)))
+            let operand = parts[0];
+            Ok(judge_subquery(span_of(of), &operand, sight))
         }
-        Expr::Paren { of, .. } => judge(alloc, of),
+        Expr::Paren { .. } => Ok(parts[0]),
         Expr::Unary { of, .. } => {
-            let operand = judge(alloc, of)?;
-            Ok(unless(
-                side_fault(Operands::Numbers, span_of(of), &operand),
-                operand,
-            ))
+            let operand = parts[0];
+            let fault = side_fault(Operands::Numbers, span_of(of), &operand);
+            Ok(unless(fault, operand))
         }
         Expr::Binary {
             op,
@@ -74,8 +97,7 @@ fn judge(alloc: Global, expr: &Expr) -> Result<Judged, Memory>
             right,
             span,
         } => {
-            let left_side = judge(alloc, left)?;
-            let right_side = judge(alloc, right)?;
+            let (left_side, right_side) = (parts[0], parts[1]);
             let fault = sides_fault(*op, span_of(left), &left_side, span_of(right), &right_side);
             let own = modifier_fault(alloc, *op, modifier, *span, &left_side, &right_side)?;
             Ok(unless(
@@ -85,13 +107,21 @@ fn judge(alloc: Global, expr: &Expr) -> Result<Judged, Memory>
         }
         Expr::Call { name, args, span } => {
             let call = called(name.as_str(), args.len(), *span);
-            judge_call(alloc, &call, args.as_slice())
+            Ok(judge_call(&call, args.as_slice(), parts))
         }
         Expr::Aggregate { op, args, span, .. } => {
             let call = counted(Function::of_aggregation(*op), args.len(), *span);
-            judge_call(alloc, &call, args.as_slice())
+            Ok(judge_call(&call, args.as_slice(), parts))
         }
     }
+}
+
+/// The type of a subquery, or the breach that is told, from that of its operand.
+fn judge_subquery(span: Span, operand: &Judged, sight: &Sight) -> Judged
+    ensures { result ≡ unless (first (side_fault is_vector span operand.now) (range_fault sight.now)) (Ok ExprType.Range) }
+{
+    let fault = side_fault(Operands::Vectors, span, operand);
+    unless(Fault::first(fault, range_fault(sight)), Ok(ExprType::Range))
 }
 
 /// The breach of two sides of an operator that is told.
@@ -111,15 +141,14 @@ fn sides_fault(
     )
 }
 
-/// The type of a call, or the breach that is told.
-#[cycle(judge)]
-fn judge_call(alloc: Global, call: &Called, args: &[Expr]) -> Result<Judged, Memory>
-    ensures { IfOk result (λ found. found ≡ call_judged (call_of call.now) (trees args.now)) }
+/// The type of a call, or the breach that is told, from those of its arguments.
+fn judge_call(call: &Called, args: &[Expr], judged_args: &[Judged]) -> Judged
+    requires { judged_args.now ≡ map (λ e. judged (tree e)) args.now }
+    ensures { result ≡ call_judged (call_of call.now) (trees args.now) }
 {
     let mut fault = own_fault(call);
     for k in 0..args.len() {
-        let argument = judge(alloc, &args[k])?;
-        fault = Fault::first(fault, argument_fault(call, k, &args[k], &argument));
+        fault = Fault::first(fault, argument_fault(call, k, &args[k], &judged_args[k]));
     }
-    Ok(unless(fault, given(call)))
+    unless(fault, given(call))
 }

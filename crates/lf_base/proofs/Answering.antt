@@ -4,7 +4,14 @@ use Rattle.lf_base.specs.declared.fault.Fault.{Fault}
 use Rattle.lf_base.specs.declared.refusal.Refusal.{Refusal}
 use Rattle.lf_base.specs.declared.refusal.Refusal.TheVariants.{At, Memory}
 use Rattle.lf_base.specs.Faults.{fault, LiesIn}
-use Rattle.lf_base.specs.Answers.{Gives, Found, Only, Refused, Breach, RefusedIn, Decides, OneAnswer}
+use Rattle.lf_base.specs.Answers.{AnswersAs, Found, Only, Refused, Breach, RefusedIn, OneAnswer}
+
+-- a way of reading that finds what the text stands for, or the breach that is told, in both directions
+pub record Decides {Y : Type 0} (Stands : Y → Type 0) (Breaks : Fault → Type 0) (reading : Result Y Fault) : Type 0 where
+  pub stands : (y : Y) → reading ≡ Ok y → Stands y
+  pub read : (y : Y) → Stands y → reading ≡ Ok y
+  pub breaks : (f : Fault) → reading ≡ Err f → Breaks f
+  pub told : (f : Fault) → Breaks f → reading ≡ Err f
 
 same_value : {Y : Type 0} (x y : Y) → ◌≡◌ {A = Result Y Fault} (Ok x) (Ok y) → x ≡ y
 same_value x y e = cc
@@ -16,20 +23,20 @@ never_both : {Y : Type 0} (y : Y) (f : Fault) → ◌≡◌ {A = Result Y Fault}
 never_both y f e = cc
 
 module _ {X Y : Type 0} (view : X → Y) (Stands : Y → Type 0) (Breaks : Fault → Type 0) (reading : Result Y Fault) (decides : Decides Stands Breaks reading) where
-  pub found : (r : Result X Refusal) → Gives view r reading → Found view Stands r
+  pub found : (r : Result X Refusal) → AnswersAs view r reading → Found view Stands r
   found (Ok x) g = decides.stands (view x) g
   found (Err e) g = tt
 
-  pub only : (r : Result X Refusal) → Gives view r reading → Only view Stands r
-  only r g y stands = subst (Gives view r) (decides.read y stands) g
+  pub only : (r : Result X Refusal) → AnswersAs view r reading → Only view Stands r
+  only r g y stands = subst (AnswersAs view r) (decides.read y stands) g
 
-  pub refused : (r : Result X Refusal) → Gives view r reading → Refused Breaks r
+  pub refused : (r : Result X Refusal) → AnswersAs view r reading → Refused Breaks r
   refused (Ok x) g = tt
   refused (Err Memory) g = tt
   refused (Err (At kind span)) g = decides.breaks (fault kind span) g
 
-  pub breach : (r : Result X Refusal) → Gives view r reading → Breach view Breaks r
-  breach r g f breaks = subst (Gives view r) (decides.told f breaks) g
+  pub breach : (r : Result X Refusal) → AnswersAs view r reading → Breach view Breaks r
+  breach r g f breaks = subst (AnswersAs view r) (decides.told f breaks) g
 
 -- where each breach lies in the source, so does the span of a refusal
 pub refused_in : {X : Type 0} (n : ℕ) (Breaks : Fault → Type 0) → ((f : Fault) → Breaks f → LiesIn n f.span) → (r : Result X Refusal) → Refused Breaks r → RefusedIn n r

@@ -7,7 +7,7 @@ use Rattle.std.specs.FinMap as map
 use Rattle.std.specs.FinMap.{find, get-from_entries, get-insert, same_map, from_entries_push, slice_cmp-IsAntisymmetric, nat_cmp-IsAntisymmetric}
 use Rattle.std.proofs.lemmas.Map.Text.{is_eq-slice_cmp}
 use Rattle.std.proofs.lemmas.Slice.Eq.{bytes_eq-Decides}
-use Rattle.lf_base.specs.FileList.{File, name_at, bytes_at, IsPlaceOf}
+use Rattle.lf_base.specs.views.FileList.{File, name_at, bytes_at, IsPlaceOf}
 
 -- the order of the names
 abbrev Names : List ℕ → List ℕ → Ordering

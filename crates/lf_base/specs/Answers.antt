@@ -13,13 +13,13 @@ IfAt Memory P = Unit {0}
 IfAt (At kind span) P = P (fault kind span)
 
 -- unless memory ran out, what was returned is this answer
-abbrev pub Gives : {X Y : Type 0} → (X → Y) → Result X Refusal → Result Y Fault → Type 0
-Gives view (Ok x) answer = answer ≡ Ok (view x)
-Gives view (Err refusal) answer = IfAt refusal (λ f. answer ≡ Err f)
+abbrev pub AnswersAs : {X Y : Type 0} → (X → Y) → Result X Refusal → Result Y Fault → Type 0
+AnswersAs view (Ok x) answer = answer ≡ Ok (view x)
+AnswersAs view (Err refusal) answer = IfAt refusal (λ f. answer ≡ Err f)
 
 -- the same of a reader whose result is seen as it is
 abbrev pub Answers : {X : Type 0} → Result X Refusal → Result X Fault → Type 0
-Answers = Gives (λ x. x)
+Answers = AnswersAs (λ x. x)
 
 -- ---- the clauses of a reader
 
@@ -29,7 +29,7 @@ Found view Stands result = IfOk result (λ x. Stands (view x))
 
 -- what the text stands for is answered, unless memory runs out; so it stands for one thing at most
 abbrev pub Only : {X Y : Type 0} → (X → Y) → (Y → Type 0) → Result X Refusal → Type 0
-Only view Stands result = (y : _) → Stands y → Gives view result (Ok y)
+Only view Stands result = (y : _) → Stands y → AnswersAs view result (Ok y)
 
 -- what is refused is the breach that is told
 abbrev pub Refused : {X : Type 0} → (Fault → Type 0) → Result X Refusal → Type 0
@@ -37,20 +37,13 @@ Refused Breaks result = IfErr result (λ refusal. IfAt refusal Breaks)
 
 -- the breach that is told is refused, unless memory runs out; so there is one at most, and none where the text stands for something
 abbrev pub Breach : {X Y : Type 0} → (X → Y) → (Fault → Type 0) → Result X Refusal → Type 0
-Breach view Breaks result = (f : Fault) → Breaks f → Gives view result (Err f)
+Breach view Breaks result = (f : Fault) → Breaks f → AnswersAs view result (Err f)
 
 -- the span of a refusal lies in a source of n bytes
 abbrev pub RefusedIn : {X : Type 0} → ℕ → Result X Refusal → Type 0
 RefusedIn n result = IfErr result (λ refusal. IfAt refusal (λ f. LiesIn n f.span))
 
 -- ---- laws of what a text stands for
-
--- a way of reading that finds what the text stands for, or the breach that is told, in both directions
-pub record Decides {Y : Type 0} (Stands : Y → Type 0) (Breaks : Fault → Type 0) (reading : Result Y Fault) : Type 0 where
-  pub stands : (y : Y) → reading ≡ Ok y → Stands y
-  pub read : (y : Y) → Stands y → reading ≡ Ok y
-  pub breaks : (f : Fault) → reading ≡ Err f → Breaks f
-  pub told : (f : Fault) → Breaks f → reading ≡ Err f
 
 -- a text stands for one thing or has one breach that is told, and never both
 pub record OneAnswer {Y : Type 0} (Stands : Y → Type 0) (Breaks : Fault → Type 0) : Type 0 where

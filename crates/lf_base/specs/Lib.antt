@@ -1,12 +1,11 @@
 pub mod Answers
 pub mod Calls
 pub mod Faults
-pub mod FileList
 pub mod Kinds
 pub mod MemFiles
 pub mod MemSink
-pub mod NameSets
 pub mod Names
 pub mod Outside
 pub mod Places
 pub mod formers
+pub mod views

@@ -2,6 +2,7 @@
 //! refusals, breaches and what a reader answers, and the traits of the outside with their stand-ins in memory.
 #![tactic(auto)]
 
+pub mod bytes;
 mod calls;
 mod fault;
 mod kind;
@@ -27,6 +28,3 @@ pub use place::{Place, Span, place_of};
 pub use refusal::Refusal;
 pub use seq::Seq;
 pub use text::Text;
-
-#[cfg(test)]
-mod tests;

@@ -6,7 +6,7 @@ ghost use Rattle.std.specs.Cmp.Lexicographic.{slice_cmp};
 ghost use Rattle.lf_base.specs.Calls.{no_calls, IsListed, failed};
 ghost use Rattle.lf_base.specs.MemFiles.{held, with_file, opened, not_opened, read_on, rest};
 ghost use Rattle.lf_base.specs.Outside.{Reads};
-ghost use Rattle.lf_base.specs.FileList.{bytes_at, IsPlaceOf};
+ghost use Rattle.lf_base.specs.views.FileList.{bytes_at, IsPlaceOf};
 ghost use Rattle.std.specs.Option.{option_map};
 
 use crate::calls::CallCount;
@@ -39,7 +39,7 @@ impl Model for MemFiles {
 
     ghost coded = { state_code };
 
-    ghost use Rattle.lf_base.specs.FileList.{left_of, IsWithin};
+    ghost use Rattle.lf_base.specs.views.FileList.{left_of, IsWithin};
 
     ghost view = { λ s. record { files = map.from_entries s.files.items; left = left_of s.files.items s.reading; opens = s.opens; calls = s.calls } };
 

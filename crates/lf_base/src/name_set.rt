@@ -1,7 +1,7 @@
 //! Sets of names.
 ghost use Rattle.std.specs.Prelude.{◌≡◌, ℕ, List, false, not, ◌||◌, IfOk, OnOk};
 ghost use Rattle.std.specs.Str.{bytes_eq};
-ghost use Rattle.lf_base.specs.NameSets.{has};
+ghost use Rattle.lf_base.specs.views.NameSets.{has};
 
 use crate::Memory;
 use std::alloc::Global;

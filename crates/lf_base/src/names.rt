@@ -92,3 +92,10 @@ fn are_in_metric(bytes: &[u8]) -> bool
 {
     bytes.iter().all(|byte| is_in_metric(*byte))
 }
+
+/// Whether each byte is a digit.
+pub fn are_digits(bytes: &[u8]) -> bool
+    ensures { result ≡ list_all names.is_digit bytes.now }
+{
+    bytes.iter().all(|byte| is_digit(*byte))
+}

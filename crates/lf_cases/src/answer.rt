@@ -1,57 +1,67 @@
 //! What a call answers on a case.
 
 use crate::case::Case;
+use crate::writer::Writer;
 use anyhow::{Result, anyhow};
-use lf_base::{Kind, Refusal, Span};
-use serde_json::{Value, json};
-use std::alloc::{AllocError, Global};
+use lf_base::{Memory, Refusal};
+use serde_json::Value;
+use std::alloc::Global;
 
 /// The answer of a call, as the case's keys hold it.
 #[derive(Drop)]
 pub struct Answer {
-    /// What `expect` is to be.
-    pub expect: Value,
-    /// What `spans` is to be, as JSON without blanks, of a call that tells the places apart from the rest.
-    pub spans: Option<String>,
+    /// What `expect` is to be, as JSON.
+    pub expect: Writer,
+    /// What `spans` is to be, as JSON; empty, of a call that doesn't tell the places apart from the rest.
+    pub spans: Writer,
 }
 
 impl Answer {
-    /// An answer without spans.
-    pub fn of(expect: Value) -> Answer {
+    /// An answer of which nothing is written.
+    pub fn new(alloc: Global) -> Answer {
         Answer {
-            expect,
-            spans: None,
+            expect: Writer::new(alloc),
+            spans: Writer::new(alloc),
         }
     }
 
-    /// What is wrong with the answer to a case, if anything. A case without `spans` lets them be any.
+    /// What is wrong with the answer to a case, if anything.
     pub fn wrong(&self, alloc: Global, case: &Case) -> Result<Option<String>> {
-        let name = case.name();
+        let found = Value::from_str(alloc, self.expect.text()?)?;
         let expect = case.expect();
-        if self.expect != *expect {
-            let found = &self.expect;
-            return Ok(Some(format!(in alloc; "{name}: {found} in place of {expect}")?));
+        if found == *expect {
+            return self.wrong_spans(alloc, case);
         }
+        let name = case.name();
+        Ok(Some(format!(in alloc; "{name}: {found} in place of {expect}")?))
+    }
+
+    /// What is wrong with the spans, if anything. A case without `spans` lets them be any.
+    fn wrong_spans(&self, alloc: Global, case: &Case) -> Result<Option<String>> {
         let Some(expect) = case.spans() else {
             return Ok(None);
         };
-        let found = self.spans.as_ref().map_or("no spans", String::as_str);
+        let found = match self.spans.text()? {
+            "" => "no spans",
+            spans => spans,
+        };
         if found == expect {
             return Ok(None);
         }
+        let name = case.name();
         Ok(Some(format!(in alloc; "{name}: {found} in place of {expect}")?))
     }
-}
-
-/// The kind of a refusal and its span, as JSON.
-pub fn refusal_of(alloc: Global, kind: Kind, span: Span) -> Result<Value, AllocError> {
-    json!(in alloc; {"refusal": kind.name(), "span": [span.start, span.end]})
 }
 
 /// A refusal, where it is no answer that is looked for.
 pub fn refused(refusal: Refusal) -> anyhow::Error {
     match refusal {
         Refusal::At { kind, span } => anyhow!("{} at {}", kind.name(), span.start),
-        Refusal::Memory => anyhow!("out of memory"),
+        Refusal::Memory => no_memory(Memory),
     }
+}
+
+/// Want of memory.
+pub fn no_memory(_: Memory) -> anyhow::Error {
+    anyhow!("out of memory")
 }

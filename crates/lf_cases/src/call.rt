@@ -58,17 +58,17 @@ impl Call {
         }
     }
 
-    /// What the call answers on a case.
-    pub fn answer(self, alloc: Global, case: &Case) -> Result<Answer> {
+    /// Writes what the call answers on a case.
+    pub fn answer(self, alloc: Global, case: &Case, answer: &mut Answer) -> Result<()> {
         match self {
-            Call::Tokens => Ok(Answer::of(tokens::answer(alloc, case)?)),
-            Call::Expressions => expressions::answer(alloc, case),
-            Call::Types => types::answer(alloc, case),
-            Call::Scalars => Ok(Answer::of(scalars::answer(alloc, case)?)),
-            Call::Trees => Ok(Answer::of(trees::answer(alloc, case)?)),
-            Call::Rules => Ok(Answer::of(rules::answer(alloc, case)?)),
-            Call::Patterns => Ok(Answer::of(patterns::answer(alloc, case)?)),
-            Call::Templates => Ok(Answer::of(templates::answer(alloc, case)?)),
+            Call::Tokens => tokens::answer(alloc, case, &mut answer.expect),
+            Call::Expressions => expressions::answer(alloc, case, answer),
+            Call::Types => types::answer(alloc, case, &mut answer.expect),
+            Call::Scalars => scalars::answer(alloc, case, &mut answer.expect),
+            Call::Trees => trees::answer(alloc, case, &mut answer.expect),
+            Call::Rules => rules::answer(alloc, case, &mut answer.expect),
+            Call::Patterns => patterns::answer(alloc, case, &mut answer.expect),
+            Call::Templates => templates::answer(alloc, case, &mut answer.expect),
         }
     }
 

@@ -22,11 +22,10 @@ const SPANS: &[u8] = b", \"spans\": ";
 impl Case {
     /// Reads a case of a line. Its object has `name`, `expect`, and `input` or `input_hex`.
     pub fn read(alloc: Global, line: &[u8]) -> Result<Case> {
-        let (object, spans) = without_spans(alloc, line)?;
-        let object = Value::from_slice(alloc, object.as_slice())?;
-        text_at(&object, "name").context("no name")?;
-        object.get("expect").context("no expect")?;
+        let (object, spans) = parts_of(line);
+        let object = object_of(alloc, object, spans.is_some())?;
         let input = input_of(alloc, &object)?;
+        let spans = spans.map(|spans| spans_in(alloc, spans)).transpose()?;
         Ok(Case {
             input,
             object,
@@ -70,21 +69,33 @@ impl Case {
     }
 }
 
-/// The object of a line without its spans, and these, if it has them.
-fn without_spans(alloc: Global, line: &[u8]) -> Result<(Vec<u8>, Option<String>)> {
+/// What stands before the spans of a line, or the whole line where it has none, and what stands behind the key of the spans.
+fn parts_of(line: &[u8]) -> (&[u8], Option<&[u8]>) {
     for at in 0..line.len() {
-        if let Some(behind) = line[at..].strip_prefix(SPANS) {
-            let mut object = Vec::from_slice(alloc, &line[..at])?;
-            object.push(b'}')?;
-            return Ok((object, Some(spans_in(alloc, behind)?)));
+        if let Some(spans) = line[at..].strip_prefix(SPANS) {
+            return (&line[..at], Some(spans));
         }
     }
-    Ok((Vec::from_slice(alloc, line)?, None))
+    (line, None)
+}
+
+/// The object of a line, from which its end was cut with its spans, or none. It has a name and an answer.
+fn object_of(alloc: Global, text: &[u8], is_cut: bool) -> Result<Value> {
+    let object = if is_cut {
+        let mut text = Vec::from_slice(alloc, text)?;
+        text.push(b'}')?;
+        Value::from_slice(alloc, text.as_slice())?
+    } else {
+        Value::from_slice(alloc, text)?
+    };
+    text_at(&object, "name").context("no name")?;
+    object.get("expect").context("no expect")?;
+    Ok(object)
 }
 
 /// The spans without blanks, of a line's end that closes the object behind them.
-fn spans_in(alloc: Global, behind: &[u8]) -> Result<String> {
-    let spans = behind.strip_suffix(b"}").context("no end")?;
+fn spans_in(alloc: Global, end: &[u8]) -> Result<String> {
+    let spans = end.strip_suffix(b"}").context("no end")?;
     let mut text = String::new(alloc);
     for byte in spans {
         if *byte != b' ' {

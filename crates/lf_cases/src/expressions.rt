@@ -1,65 +1,49 @@
 //! The call `expressions`: the tree of a text as an S-expression and its spans, or its refusal, as JSON.
+ghost use Rattle.std.specs.Prelude.{◌≡◌, ◌+◌, length};
+ghost use Rattle.std.specs.List.Sorted.{IsNonDecreasing};
 
-use crate::answer::{Answer, refusal_of, refused};
+use crate::answer::{Answer, refused};
 use crate::case::Case;
-use crate::spans::spans_of;
+use crate::spans::write_spans;
+use crate::timing::Stopwatch;
 use crate::tokens::source_of;
 use crate::tree::tree_of;
-use anyhow::{Result, anyhow, bail};
+use anyhow::Result;
 use lf_ast::Expr;
-use lf_base::{Refusal, Seq};
-use lf_lex::{Token, lex};
+use lf_base::{Refusal, Seq, Text};
+use lf_lex::lex;
 use lf_parse::parse;
-use serde_json::Value;
 use std::alloc::Global;
-use std::time::{CpuClock, Duration};
+use std::time::Duration;
 
-/// What `parse` answers on the tokens of a case's text.
-pub fn answer(alloc: Global, case: &Case) -> Result<Answer> {
-    match read(alloc, case.text()?)? {
-        Ok(expr) => Ok(Answer {
-            expect: Value::String(tree_of(alloc, &expr)?),
-            spans: Some(spans_of(alloc, &expr)?),
-        }),
-        Err(refusal) => Ok(Answer::of(refusal)),
+/// Writes what `parse` answers on the tokens of a case's text.
+pub fn answer(alloc: Global, case: &Case, answer: &mut Answer) -> Result<()> {
+    let (text, from) = source_of(alloc, case.text()?)?;
+    match read(alloc, &text, &from) {
+        Ok(expr) => {
+            write_spans(&mut answer.spans, &expr);
+            answer.expect.string(tree_of(alloc, &expr).text()?);
+        }
+        Err(refusal) => answer.expect.refusal(refusal),
     }
+    Ok(())
 }
 
 /// The processor time of `parse` on the tokens of a text.
 pub fn time(rt: &HostRuntime, text: &str) -> Result<Duration> {
-    let (tokens, end) = match tokens_of(rt.alloc(), text)? {
-        Ok(tokens) => tokens,
-        Err(refusal) => bail!("{refusal}"),
-    };
-    let begun = rt.thread_cpu_time()?;
-    let answer = parse(rt.alloc(), &tokens, end);
-    let ended = rt.thread_cpu_time()?;
-    match answer {
-        Ok(_) => Ok(ended.saturating_sub(begun)),
-        Err(refusal) => Err(refused(refusal)),
-    }
+    let (text, from) = source_of(rt.alloc(), text)?;
+    let tokens = lex(rt.alloc(), &text, &from).map_err(refused)?;
+    let end = *from.get(text.len());
+    let watch = Stopwatch::start(rt);
+    let expr = parse(rt.alloc(), &tokens, end);
+    watch.taken(rt, expr.map_err(refused))
 }
 
-/// The tokens of a text and the offset of its end, or its refusal as JSON.
-fn tokens_of(alloc: Global, text: &str) -> Result<Result<(Seq<Token>, u32), Value>> {
-    let end = u32::try_from(text.len()).map_err(|_| anyhow!("the text is too long"))?;
-    let (text, from) = source_of(alloc, text)?;
-    match lex(alloc, &text, &from) {
-        Ok(tokens) => Ok(Ok((tokens, end))),
-        Err(Refusal::At { kind, span }) => Ok(Err(refusal_of(alloc, kind, span)?)),
-        Err(Refusal::Memory) => bail!("out of memory"),
-    }
-}
-
-/// The expression that a text is, or its refusal as JSON.
-pub fn read(alloc: Global, text: &str) -> Result<Result<Expr, Value>> {
-    let (tokens, end) = match tokens_of(alloc, text)? {
-        Ok(tokens) => tokens,
-        Err(refusal) => return Ok(Err(refusal)),
-    };
-    match parse(alloc, &tokens, end) {
-        Ok(expr) => Ok(Ok(expr)),
-        Err(Refusal::At { kind, span }) => Ok(Err(refusal_of(alloc, kind, span)?)),
-        Err(Refusal::Memory) => bail!("out of memory"),
-    }
+/// The expression that a text is, or its refusal.
+pub fn read(alloc: Global, text: &Text, from: &Seq<u32>) -> Result<Expr, Refusal>
+    requires count { length from.now ≡ length text.now + 1 }
+    requires rises { IsNonDecreasing from.now }
+{
+    let tokens = lex(alloc, text, from)?;
+    parse(alloc, &tokens, *from.get(text.len()))
 }

@@ -9,6 +9,7 @@ mod answer;
 mod call;
 mod case;
 mod expressions;
+mod lengths;
 mod offsets;
 mod patterns;
 mod rules;
@@ -21,6 +22,7 @@ mod tokens;
 mod tree;
 mod trees;
 mod types;
+mod writer;
 
 use anyhow::Result;
 use call::Call;

@@ -3,60 +3,85 @@
 //! A case tells in `expect` on which values the pattern is matched, and which replacements are expanded at which values; the answer repeats them with the answers of
 //! the calls. A replacement that isn't plain is answered by `false`.
 
+use crate::answer::no_memory;
 use crate::case::Case;
+use crate::timing::Stopwatch;
+use crate::writer::Writer;
 use anyhow::{Context, Result, anyhow};
-use lf_base::{Memory, Seq, Text};
+use lf_base::{Seq, Text};
 use lf_pattern::{Pattern, PatternError, is_plain_replacement, plain_alternatives, samples};
-use serde_json::{Value, json};
-use std::alloc::{AllocError, Global};
-use std::time::{CpuClock, Duration};
+use serde_json::Value;
+use std::alloc::Global;
+use std::time::Duration;
 
-/// What the calls of `lf_pattern` answer on the pattern of a case.
-pub fn answer(alloc: Global, case: &Case) -> Result<Value> {
+/// Writes what the calls of `lf_pattern` answer on the pattern of a case.
+pub fn answer(alloc: Global, case: &Case, out: &mut Writer) -> Result<()> {
     let text = Text::of(alloc, case.text()?).map_err(no_memory)?;
-    let plain = plain_alternatives(alloc, &text).map_err(no_memory)?;
-    let plain = optional_list(alloc, &plain)?;
+    out.open("{");
+    write_plain(alloc, out, &text);
     match Pattern::new(alloc, &text) {
-        Ok(pattern) => answer_of(alloc, pattern, &text, plain, case),
-        Err(PatternError::BadPattern) => Ok(
-            json!(in alloc; {"refusal": "BadPattern", "plain": plain})?,
-        ),
-        Err(PatternError::Memory) => Ok(json!(in alloc; {"refusal": "Memory", "plain": plain})?),
+        Ok(pattern) => write_answers(alloc, out, pattern, &text, case)?,
+        Err(error) => write_error(out, error),
+    }
+    out.close("}");
+    Ok(())
+}
+
+/// Why a pattern isn't read.
+fn write_error(out: &mut Writer, error: PatternError) {
+    out.key("refusal");
+    out.string(match error {
+        PatternError::BadPattern => "BadPattern",
+        PatternError::Memory => "Memory",
+    });
+}
+
+/// The alternatives of a plain pattern, or null.
+fn write_plain(alloc: Global, out: &mut Writer, text: &Text) {
+    out.key("plain");
+    match plain_alternatives(alloc, text) {
+        Ok(Some(alternatives)) => write_texts(out, alternatives.as_slice()),
+        Ok(None) => out.word("null"),
+        Err(_) => out.fail(),
     }
 }
 
-/// The same, of a pattern that was read.
-fn answer_of(
+/// What else is asked of a pattern that was read.
+fn write_answers(
     alloc: Global,
+    out: &mut Writer,
     mut pattern: Pattern,
     text: &Text,
-    plain: Value,
     case: &Case,
-) -> Result<Value> {
+) -> Result<()> {
     let samples = samples(alloc, text).map_err(not_read)?;
-    let samples = list_of(alloc, samples.as_slice())?;
-    let matches = matches_of(alloc, &mut pattern, entries_of(case, "matches"))?;
-    let expansions = expansions_of(alloc, &mut pattern, entries_of(case, "expansions"))?;
-    Ok(
-        json!(in alloc; {"plain": plain, "samples": samples, "matches": matches, "expansions": expansions})?,
-    )
+    out.key("samples");
+    write_texts(out, samples.as_slice());
+    out.key("matches");
+    write_matches(alloc, out, &mut pattern, entries_of(case, "matches"))?;
+    out.key("expansions");
+    write_expansions(alloc, out, &mut pattern, entries_of(case, "expansions"))
 }
 
 /// The processor time of building patterns and matching each on values. The text holds the values, a line each, then an empty line, and then the patterns, a line each.
 pub fn time(rt: &HostRuntime, text: &str) -> Result<Duration> {
-    let alloc = rt.alloc();
     let (values, patterns) = text.split_once("\n\n").context("no empty line")?;
-    let values = texts_of(alloc, values)?;
-    let patterns = texts_of(alloc, patterns)?;
-    let begun = rt.thread_cpu_time()?;
-    for text in patterns.as_slice() {
+    let values = texts_of(rt.alloc(), values)?;
+    let patterns = texts_of(rt.alloc(), patterns)?;
+    let watch = Stopwatch::start(rt);
+    let matched = match_all(rt.alloc(), patterns.as_slice(), values.as_slice());
+    watch.taken(rt, matched)
+}
+
+/// Builds each pattern, and matches it on each value.
+fn match_all(alloc: Global, patterns: &[Text], values: &[Text]) -> Result<()> {
+    for text in patterns {
         let mut pattern = Pattern::new(alloc, text).map_err(not_read)?;
-        for value in values.as_slice() {
+        for value in values {
             pattern.matches(alloc, value).map_err(no_memory)?;
         }
     }
-    let ended = rt.thread_cpu_time()?;
-    Ok(ended.saturating_sub(begun))
+    Ok(())
 }
 
 /// The lines of a text that aren't empty.
@@ -89,74 +114,81 @@ fn text_in(alloc: Global, entry: &Value, place: usize) -> Result<Text> {
 }
 
 /// On each value of the entries, whether the pattern matches it.
-fn matches_of(alloc: Global, pattern: &mut Pattern, entries: &[Value]) -> Result<Value> {
-    let mut list = Vec::new(alloc);
+fn write_matches(
+    alloc: Global,
+    out: &mut Writer,
+    pattern: &mut Pattern,
+    entries: &[Value],
+) -> Result<()> {
+    out.open("[");
     for entry in entries {
         let value = text_in(alloc, entry, 0)?;
-        let found = pattern.matches(alloc, &value).map_err(no_memory)?;
-        let value = value.as_str();
-        list.push(json!(in alloc; [value, found])?)?;
+        write_match(alloc, out, pattern, &value);
     }
-    Ok(Value::Array(list))
+    out.close("]");
+    Ok(())
+}
+
+/// A value, and whether the pattern matches it.
+fn write_match(alloc: Global, out: &mut Writer, pattern: &mut Pattern, value: &Text) {
+    out.open("[");
+    out.string(value.as_str());
+    match pattern.matches(alloc, value) {
+        Ok(found) => out.truth(found),
+        Err(_) => out.fail(),
+    }
+    out.close("]");
 }
 
 /// At each value of the entries, the expansion of the replacement beside it.
-fn expansions_of(alloc: Global, pattern: &mut Pattern, entries: &[Value]) -> Result<Value> {
-    let mut list = Vec::new(alloc);
+fn write_expansions(
+    alloc: Global,
+    out: &mut Writer,
+    pattern: &mut Pattern,
+    entries: &[Value],
+) -> Result<()> {
+    out.open("[");
     for entry in entries {
         let value = text_in(alloc, entry, 0)?;
         let replacement = text_in(alloc, entry, 1)?;
-        let expanded = expansion_of(alloc, pattern, &value, &replacement)?;
-        let value = value.as_str();
-        let replacement = replacement.as_str();
-        list.push(json!(in alloc; [value, replacement, expanded])?)?;
+        out.open("[");
+        out.string(value.as_str());
+        out.string(replacement.as_str());
+        write_expansion(alloc, out, pattern, &value, &replacement);
+        out.close("]");
     }
-    Ok(Value::Array(list))
+    out.close("]");
+    Ok(())
 }
 
 /// The expansion of a replacement at a value, or null where the pattern doesn't match it; false where the replacement isn't plain.
-fn expansion_of(
+fn write_expansion(
     alloc: Global,
+    out: &mut Writer,
     pattern: &mut Pattern,
     value: &Text,
     replacement: &Text,
-) -> Result<Value> {
-    if !is_plain_replacement(alloc, replacement).map_err(no_memory)? {
-        return Ok(Value::Bool(false));
-    }
-    match pattern
-        .expand(alloc, value, replacement)
-        .map_err(no_memory)?
-    {
-        Some(text) => Ok(text_value(alloc, &text)?),
-        None => Ok(Value::Null),
-    }
-}
-
-/// A list of texts, or null.
-fn optional_list(alloc: Global, texts: &Option<Seq<Text>>) -> Result<Value, AllocError> {
-    match texts {
-        Some(texts) => list_of(alloc, texts.as_slice()),
-        None => Ok(Value::Null),
+) {
+    match is_plain_replacement(alloc, replacement) {
+        Ok(true) => match pattern.expand(alloc, value, replacement) {
+            Ok(Some(text)) => out.string(text.as_str()),
+            Ok(None) => out.word("null"),
+            Err(_) => out.fail(),
+        },
+        Ok(false) => out.truth(false),
+        Err(_) => out.fail(),
     }
 }
 
-fn list_of(alloc: Global, texts: &[Text]) -> Result<Value, AllocError> {
-    let mut list = Vec::new(alloc);
+/// A list of texts.
+fn write_texts(out: &mut Writer, texts: &[Text]) {
+    out.open("[");
     for text in texts {
-        list.push(text_value(alloc, text)?)?;
+        out.string(text.as_str());
     }
-    Ok(Value::Array(list))
-}
-
-fn text_value(alloc: Global, text: &Text) -> Result<Value, AllocError> {
-    Ok(Value::String(String::from_str(alloc, text.as_str())?))
+    out.close("]");
 }
 
 fn not_read(_: PatternError) -> anyhow::Error {
     anyhow!("a pattern isn't read")
-}
-
-fn no_memory(_: Memory) -> anyhow::Error {
-    anyhow!("out of memory")
 }

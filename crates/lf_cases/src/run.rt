@@ -1,5 +1,6 @@
 //! The loop over the cases.
 
+use crate::answer::Answer;
 use crate::call::Call;
 use crate::case::Case;
 use anyhow::Result;
@@ -14,6 +15,15 @@ struct Counts {
 }
 
 impl Counts {
+    /// Counts a case that passed, or one that failed.
+    fn count(&mut self, passed: bool) {
+        if passed {
+            self.passed = self.passed.saturating_add(1);
+        } else {
+            self.failed = self.failed.saturating_add(1);
+        }
+    }
+
     /// 0 if some case ran and none failed, else 1.
     fn status(self) -> u8 {
         u8::from(self.failed > 0 || self.passed == 0)
@@ -39,27 +49,27 @@ fn run_lines(rt: &HostRuntime, call: Call, lines: &[u8]) -> Result<Counts> {
     let mut number: u64 = 0;
     for line in lines.split(|byte| *byte == b'\n') {
         number = number.saturating_add(1);
-        if line.is_empty() {
-            continue;
-        }
-        match wrong_in(rt.alloc(), call, line) {
-            Ok(None) => counts.passed = counts.passed.saturating_add(1),
-            Ok(Some(wrong)) => {
-                counts.failed = counts.failed.saturating_add(1);
-                println!(rt; "{wrong}")?;
-            }
-            Err(error) => {
-                counts.failed = counts.failed.saturating_add(1);
-                println!(rt; "line {number}: {error}")?;
-            }
+        if !line.is_empty() {
+            counts.count(run_line(rt, call, number, line)?);
         }
     }
     Ok(counts)
 }
 
+/// Runs the case of a line, prints what is wrong, and says whether nothing is.
+fn run_line(rt: &HostRuntime, call: Call, number: u64, line: &[u8]) -> Result<bool> {
+    match wrong_in(rt.alloc(), call, line) {
+        Ok(None) => return Ok(true),
+        Ok(Some(wrong)) => println!(rt; "{wrong}")?,
+        Err(error) => println!(rt; "line {number}: {error}")?,
+    }
+    Ok(false)
+}
+
 /// What is wrong with the answer to the case of a line, if anything.
 fn wrong_in(alloc: Global, call: Call, line: &[u8]) -> Result<Option<String>> {
     let case = Case::read(alloc, line)?;
-    let answer = call.answer(alloc, &case)?;
+    let mut answer = Answer::new(alloc);
+    call.answer(alloc, &case, &mut answer)?;
     answer.wrong(alloc, &case)
 }

@@ -2,20 +2,18 @@
 ghost use Rattle.std.specs.Prelude.{◌≤◌, ◌^◌, length, OnOk};
 ghost use Rattle.lf_scalar.specs.Scalars.{BeginsAt};
 
-use crate::answer::{refusal_of, refused};
+use crate::answer::refused;
 use crate::case::Case;
+use crate::lengths::ask_length;
+use crate::timing::Stopwatch;
+use crate::writer::Writer;
 use anyhow::{Context, Result, bail};
-use lf_base::{Refusal, Seq};
 use lf_scalar::{Scalar, Style, begins_scalar, read_scalar};
-use serde_json::{Value, json};
-use std::alloc::{AllocError, Global};
-use std::time::{CpuClock, Duration};
+use std::alloc::Global;
+use std::time::Duration;
 
-/// The longest text that is read, in bytes.
-const LONGEST: usize = 2147483648;
-
-/// What `read_scalar` answers on the text of a case, at its `at`, with its `indent` and `style`.
-pub fn answer(alloc: Global, case: &Case) -> Result<Value> {
+/// Writes what `read_scalar` answers on the text of a case, at its `at`, with its `indent` and `style`.
+pub fn answer(alloc: Global, case: &Case, out: &mut Writer) -> Result<()> {
     let style = case
         .text_at("style")
         .and_then(style_of)
@@ -31,10 +29,10 @@ pub fn answer(alloc: Global, case: &Case) -> Result<Value> {
     let bytes = case.text()?.as_bytes();
     ask(bytes, at, style)?;
     match read_scalar(alloc, bytes, at, indent, style) {
-        Ok(scalar) => Ok(value_of(alloc, &scalar)?),
-        Err(Refusal::At { kind, span }) => Ok(refusal_of(alloc, kind, span)?),
-        Err(Refusal::Memory) => bail!("out of memory"),
+        Ok(scalar) => write_scalar(out, "text", &scalar),
+        Err(refusal) => out.refusal(refusal),
     }
+    Ok(())
 }
 
 /// The processor time of `read_scalar` on the scalar that a text begins with, as a value at the root. Its first byte tells the style.
@@ -42,13 +40,9 @@ pub fn time(rt: &HostRuntime, text: &str) -> Result<Duration> {
     let bytes = text.as_bytes();
     let style = first_style(bytes);
     ask(bytes, 0, style)?;
-    let begun = rt.thread_cpu_time()?;
-    let answer = read_scalar(rt.alloc(), bytes, 0, -1, style);
-    let ended = rt.thread_cpu_time()?;
-    match answer {
-        Ok(_) => Ok(ended.saturating_sub(begun)),
-        Err(refusal) => Err(refused(refusal)),
-    }
+    let watch = Stopwatch::start(rt);
+    let scalar = read_scalar(rt.alloc(), bytes, 0, -1, style);
+    watch.taken(rt, scalar.map_err(refused))
 }
 
 /// Asks what `read_scalar` asks: that a scalar of the style begins there, in a text that isn't too long.
@@ -56,9 +50,7 @@ fn ask(bytes: &[u8], at: u32, style: Style) -> Result<()>
     ensures room { OnOk result (length bytes.now ≤ 2 ^ 31) }
     ensures begins { OnOk result (BeginsAt bytes.now at style) }
 {
-    if bytes.len() > LONGEST {
-        bail!("the text is too long");
-    }
+    ask_length(bytes)?;
     if !begins_scalar(bytes, at, style) {
         bail!("no scalar of the style begins there");
     }
@@ -88,20 +80,21 @@ fn first_style(bytes: &[u8]) -> Style {
     }
 }
 
-/// A scalar's text, offsets and span.
-fn value_of(alloc: Global, scalar: &Scalar) -> Result<Value, AllocError> {
-    let from = list_of(alloc, &scalar.from)?;
-    let text = scalar.text.as_str();
-    let start = scalar.span.start;
-    let end = scalar.span.end;
-    json!(in alloc; {"text": text, "from": from, "span": [start, end]})
+/// A scalar's text at a key, its offsets and its span.
+pub fn write_scalar(out: &mut Writer, key: &str, scalar: &Scalar) {
+    out.open("{");
+    out.member(key, scalar.text.as_str());
+    out.key("from");
+    write_offsets(out, scalar.from.as_slice());
+    out.span_member(scalar.span);
+    out.close("}");
 }
 
 /// A list of offsets.
-pub fn list_of(alloc: Global, offsets: &Seq<u32>) -> Result<Value, AllocError> {
-    let mut list = Vec::new(alloc);
-    for offset in offsets.as_slice() {
-        list.push(Value::from(*offset))?;
+fn write_offsets(out: &mut Writer, offsets: &[u32]) {
+    out.open("[");
+    for offset in offsets {
+        out.number(*offset);
     }
-    Ok(Value::Array(list))
+    out.close("]");
 }

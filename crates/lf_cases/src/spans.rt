@@ -1,41 +1,31 @@
 //! The spans of an expression: a list for each node, its own span first and its parts behind it.
 
-use anyhow::Result;
+use crate::writer::Writer;
 use lf_ast::{Expr, Grouping, Matcher, Matching, Name, Sight};
-use lf_base::{Seq, Span};
-use std::alloc::Global;
 
-/// The spans of an expression as JSON, without blanks.
-pub fn spans_of(alloc: Global, expr: &Expr) -> Result<String> {
-    let mut out = String::new(alloc);
-    write_spans(alloc, &mut out, expr)?;
-    Ok(out)
-}
-
-fn write_spans(alloc: Global, out: &mut String, expr: &Expr) -> Result<()> {
-    out.push('[')?;
+/// The spans of an expression as JSON.
+pub fn write_spans(out: &mut Writer, expr: &Expr) {
+    out.open("[");
     match expr {
-        Expr::Number { span, .. } | Expr::Str { span, .. } => write_span(alloc, out, *span)?,
+        Expr::Number { span, .. } | Expr::Str { span, .. } => out.span(*span),
         Expr::Selector {
             matchers,
             sight,
             span,
             ..
         } => {
-            write_span(alloc, out, *span)?;
-            write_matchers(alloc, out, matchers.as_slice())?;
-            write_range(alloc, out, sight)?;
+            out.span(*span);
+            write_matchers(out, matchers.as_slice());
+            write_range(out, sight);
         }
         Expr::Subquery { of, sight, span } => {
-            write_span(alloc, out, *span)?;
-            out.push(',')?;
-            write_spans(alloc, out, of)?;
-            write_range(alloc, out, sight)?;
+            out.span(*span);
+            write_spans(out, of);
+            write_range(out, sight);
         }
         Expr::Paren { of, span } | Expr::Unary { of, span, .. } => {
-            write_span(alloc, out, *span)?;
-            out.push(',')?;
-            write_spans(alloc, out, of)?;
+            out.span(*span);
+            write_spans(out, of);
         }
         Expr::Binary {
             modifier,
@@ -44,18 +34,15 @@ fn write_spans(alloc: Global, out: &mut String, expr: &Expr) -> Result<()> {
             span,
             ..
         } => {
-            write_span(alloc, out, *span)?;
-            write_modifier(alloc, out, modifier)?;
-            out.push(',')?;
-            write_spans(alloc, out, left)?;
-            out.push(',')?;
-            write_spans(alloc, out, right)?;
+            out.span(*span);
+            write_modifier(out, modifier);
+            write_spans(out, left);
+            write_spans(out, right);
         }
         Expr::Call { args, span, .. } => {
-            write_span(alloc, out, *span)?;
+            out.span(*span);
             for arg in args.as_slice() {
-                out.push(',')?;
-                write_spans(alloc, out, arg)?;
+                write_spans(out, arg);
             }
         }
         Expr::Aggregate {
@@ -64,88 +51,57 @@ fn write_spans(alloc: Global, out: &mut String, expr: &Expr) -> Result<()> {
             span,
             ..
         } => {
-            write_span(alloc, out, *span)?;
-            write_grouping(alloc, out, grouping)?;
+            out.span(*span);
+            write_labels(out, labels_of(grouping));
             for arg in args.as_slice() {
-                out.push(',')?;
-                write_spans(alloc, out, arg)?;
+                write_spans(out, arg);
             }
         }
     }
-    out.push(']')?;
-    Ok(())
+    out.close("]");
 }
 
-fn write_span(alloc: Global, out: &mut String, span: Span) -> Result<()> {
-    let start = span.start;
-    let end = span.end;
-    out.push_str(format!(in alloc; "[{start},{end}]")?.as_str())?;
-    Ok(())
-}
-
-/// Behind a comma, the spans of each matcher's label and value.
-fn write_matchers(alloc: Global, out: &mut String, matchers: &[Matcher]) -> Result<()> {
+/// The spans of each matcher's label and value.
+fn write_matchers(out: &mut Writer, matchers: &[Matcher]) {
     for matcher in matchers {
-        out.push_str(",[")?;
-        write_span(alloc, out, matcher.label_span)?;
-        out.push(',')?;
-        write_span(alloc, out, matcher.value_span)?;
-        out.push(']')?;
+        out.open("[");
+        out.span(matcher.label_span);
+        out.span(matcher.value_span);
+        out.close("]");
     }
-    Ok(())
 }
 
-/// Behind a comma, the span of a range's duration, where there is a range.
-fn write_range(alloc: Global, out: &mut String, sight: &Sight) -> Result<()> {
+/// The span of a range's duration, where there is a range.
+fn write_range(out: &mut Writer, sight: &Sight) {
     if sight.range.is_some() {
-        out.push(',')?;
-        write_span(alloc, out, sight.range_span)?;
-    }
-    Ok(())
-}
-
-fn write_labels(alloc: Global, out: &mut String, labels: &[Name]) -> Result<()> {
-    out.push('[')?;
-    for (k, label) in labels.iter().enumerate() {
-        if k > 0 {
-            out.push(',')?;
-        }
-        write_span(alloc, out, label.span)?;
-    }
-    out.push(']')?;
-    Ok(())
-}
-
-fn write_list(alloc: Global, out: &mut String, labels: Option<&Seq<Name>>) -> Result<()> {
-    match labels {
-        Some(labels) => write_labels(alloc, out, labels.as_slice()),
-        None => write_labels(alloc, out, &[]),
+        out.span(sight.range_span);
     }
 }
 
-/// Behind a comma, the span of a modifier and those of its labels.
-fn write_modifier(alloc: Global, out: &mut String, modifier: &Matching) -> Result<()> {
-    out.push_str(",[")?;
-    write_span(alloc, out, modifier.span)?;
-    out.push(',')?;
-    write_list(
-        alloc,
-        out,
-        modifier.on.as_ref().or(modifier.ignoring.as_ref()),
-    )?;
-    out.push(',')?;
-    write_list(alloc, out, Some(&modifier.include))?;
-    out.push(']')?;
-    Ok(())
+fn write_labels(out: &mut Writer, labels: &[Name]) {
+    out.open("[");
+    for label in labels {
+        out.span(label.span);
+    }
+    out.close("]");
 }
 
-/// Behind a comma, the spans of a grouping's labels.
-fn write_grouping(alloc: Global, out: &mut String, grouping: &Grouping) -> Result<()> {
-    out.push(',')?;
+/// The span of a modifier and those of its labels.
+fn write_modifier(out: &mut Writer, modifier: &Matching) {
+    out.open("[");
+    out.span(modifier.span);
+    match modifier.on.as_ref().or(modifier.ignoring.as_ref()) {
+        Some(labels) => write_labels(out, labels.as_slice()),
+        None => write_labels(out, &[]),
+    }
+    write_labels(out, modifier.include.as_slice());
+    out.close("]");
+}
+
+/// The labels that an aggregation groups by, or without.
+fn labels_of(grouping: &Grouping) -> &[Name] {
     match grouping {
-        Grouping::None => write_list(alloc, out, None),
-        Grouping::By { labels } | Grouping::Without { labels } => {
-            write_list(alloc, out, Some(labels))
-        }
+        Grouping::None => &[],
+        Grouping::By { labels } | Grouping::Without { labels } => labels.as_slice(),
     }
 }

@@ -2,36 +2,33 @@
 ghost use Rattle.std.specs.Prelude.{◌≡◌, ◌+◌, length, IfOk};
 ghost use Rattle.std.specs.List.Sorted.{IsNonDecreasing};
 
-use crate::answer::{refusal_of, refused};
+use crate::answer::{no_memory, refused};
 use crate::case::Case;
 use crate::offsets::plain_offsets;
-use anyhow::{Result, anyhow, bail};
-use lf_base::{Memory, Refusal, Seq, Text};
+use crate::timing::Stopwatch;
+use crate::writer::Writer;
+use anyhow::{Result, anyhow};
+use lf_base::{Seq, Text};
 use lf_lex::{Sign, Token, TokenKind, lex};
-use serde_json::{Value, json};
-use std::alloc::{AllocError, Global};
-use std::time::{CpuClock, Duration};
+use std::alloc::Global;
+use std::time::Duration;
 
-/// What `lex` answers on the text of a case.
-pub fn answer(alloc: Global, case: &Case) -> Result<Value> {
+/// Writes what `lex` answers on the text of a case.
+pub fn answer(alloc: Global, case: &Case, out: &mut Writer) -> Result<()> {
     let (text, from) = source_of(alloc, case.text()?)?;
     match lex(alloc, &text, &from) {
-        Ok(tokens) => Ok(list_of(alloc, tokens.as_slice())?),
-        Err(Refusal::At { kind, span }) => Ok(refusal_of(alloc, kind, span)?),
-        Err(Refusal::Memory) => bail!("out of memory"),
+        Ok(tokens) => write_tokens(out, tokens.as_slice()),
+        Err(refusal) => out.refusal(refusal),
     }
+    Ok(())
 }
 
 /// The processor time of `lex` on a text.
 pub fn time(rt: &HostRuntime, text: &str) -> Result<Duration> {
     let (text, from) = source_of(rt.alloc(), text)?;
-    let begun = rt.thread_cpu_time()?;
-    let answer = lex(rt.alloc(), &text, &from);
-    let ended = rt.thread_cpu_time()?;
-    match answer {
-        Ok(_) => Ok(ended.saturating_sub(begun)),
-        Err(refusal) => Err(refused(refusal)),
-    }
+    let watch = Stopwatch::start(rt);
+    let tokens = lex(rt.alloc(), &text, &from);
+    watch.taken(rt, tokens.map_err(refused))
 }
 
 /// A text and the offsets of its bytes, as `lex` takes them.
@@ -46,21 +43,16 @@ pub fn source_of(alloc: Global, text: &str) -> Result<(Text, Seq<u32>)>
     Ok((text, from))
 }
 
-fn no_memory(_: Memory) -> anyhow::Error {
-    anyhow!("out of memory")
-}
-
-/// The list of the tokens.
-fn list_of(alloc: Global, tokens: &[Token]) -> Result<Value, AllocError> {
-    let mut list = Vec::new(alloc);
+fn write_tokens(out: &mut Writer, tokens: &[Token]) {
+    out.open("[");
     for token in tokens {
-        list.push(token_of(alloc, token)?)?;
+        write_token(out, token);
     }
-    Ok(Value::Array(list))
+    out.close("]");
 }
 
 /// A token's kind, text and span.
-fn token_of(alloc: Global, token: &Token) -> Result<Value, AllocError> {
+fn write_token(out: &mut Writer, token: &Token) {
     let (kind, text) = match &token.kind {
         TokenKind::Word { text } => ("word", text.as_str()),
         TokenKind::Number { text } => ("number", text.as_str()),
@@ -68,9 +60,11 @@ fn token_of(alloc: Global, token: &Token) -> Result<Value, AllocError> {
         TokenKind::Str { text } => ("str", text.as_str()),
         TokenKind::Sign { sign } => ("sign", spelling(*sign)),
     };
-    let start = token.span.start;
-    let end = token.span.end;
-    json!(in alloc; {"kind": kind, "text": text, "span": [start, end]})
+    out.open("{");
+    out.member("kind", kind);
+    out.member("text", text);
+    out.span_member(token.span);
+    out.close("}");
 }
 
 /// A sign as it is written.

@@ -1,28 +1,27 @@
 //! Expressions as S-expressions.
 
-use anyhow::Result;
+use crate::writer::Writer;
 use lf_ast::{Agg, Expr, Group, Grouping, MatchOp, Matcher, Matching, Name, Op, Sight};
 use lf_base::Text;
-use serde_json::Value;
 use std::alloc::Global;
 
 /// An expression as an S-expression, without its spans.
-pub fn tree_of(alloc: Global, expr: &Expr) -> Result<String> {
-    let mut out = String::new(alloc);
-    write_expr(alloc, &mut out, expr)?;
-    Ok(out)
+pub fn tree_of(alloc: Global, expr: &Expr) -> Writer {
+    let mut out = Writer::new(alloc);
+    write_expr(&mut out, expr);
+    out
 }
 
-fn write_expr(alloc: Global, out: &mut String, expr: &Expr) -> Result<()> {
-    out.push('(')?;
+fn write_expr(out: &mut Writer, expr: &Expr) {
+    out.put("(");
     match expr {
         Expr::Number { text, .. } => {
-            out.push_str("num ")?;
-            out.push_str(text.as_str())?;
+            out.put("num ");
+            out.put(text.as_str());
         }
         Expr::Str { text, .. } => {
-            out.push_str("str ")?;
-            write_string(alloc, out, text)?;
+            out.put("str ");
+            out.quote(text.as_str());
         }
         Expr::Selector {
             name,
@@ -30,25 +29,23 @@ fn write_expr(alloc: Global, out: &mut String, expr: &Expr) -> Result<()> {
             sight,
             ..
         } => {
-            out.push_str("sel ")?;
-            out.push_str(name.as_ref().map_or("-", Text::as_str))?;
-            for matcher in matchers.as_slice() {
-                write_matcher(alloc, out, matcher)?;
-            }
-            write_sight(out, sight)?;
+            out.put("sel ");
+            out.put(name.as_ref().map_or("-", Text::as_str));
+            write_matchers(out, matchers.as_slice());
+            write_sight(out, sight);
         }
         Expr::Subquery { of, sight, .. } => {
-            out.push_str("sub ")?;
-            write_expr(alloc, out, of)?;
-            write_sight(out, sight)?;
+            out.put("sub ");
+            write_expr(out, of);
+            write_sight(out, sight);
         }
         Expr::Paren { of, .. } => {
-            out.push_str("paren ")?;
-            write_expr(alloc, out, of)?;
+            out.put("paren ");
+            write_expr(out, of);
         }
         Expr::Unary { minus, of, .. } => {
-            out.push_str(if *minus { "neg " } else { "pos " })?;
-            write_expr(alloc, out, of)?;
+            out.put(if *minus { "neg " } else { "pos " });
+            write_expr(out, of);
         }
         Expr::Binary {
             op,
@@ -57,19 +54,19 @@ fn write_expr(alloc: Global, out: &mut String, expr: &Expr) -> Result<()> {
             right,
             ..
         } => {
-            out.push_str(op_text(*op))?;
-            write_modifier(out, modifier)?;
-            out.push(' ')?;
-            write_expr(alloc, out, left)?;
-            out.push(' ')?;
-            write_expr(alloc, out, right)?;
+            out.put(op_text(*op));
+            write_modifier(out, modifier);
+            out.put(" ");
+            write_expr(out, left);
+            out.put(" ");
+            write_expr(out, right);
         }
         Expr::Call { name, args, .. } => {
-            out.push_str("call ")?;
-            out.push_str(name.as_str())?;
+            out.put("call ");
+            out.put(name.as_str());
             for arg in args.as_slice() {
-                out.push(' ')?;
-                write_expr(alloc, out, arg)?;
+                out.put(" ");
+                write_expr(out, arg);
             }
         }
         Expr::Aggregate {
@@ -78,95 +75,90 @@ fn write_expr(alloc: Global, out: &mut String, expr: &Expr) -> Result<()> {
             args,
             ..
         } => {
-            out.push_str("agg ")?;
-            out.push_str(agg_text(*op))?;
-            write_grouping(out, grouping)?;
+            out.put("agg ");
+            out.put(agg_text(*op));
+            write_grouping(out, grouping);
             for arg in args.as_slice() {
-                out.push(' ')?;
-                write_expr(alloc, out, arg)?;
+                out.put(" ");
+                write_expr(out, arg);
             }
         }
     }
-    out.push(')')?;
-    Ok(())
+    out.put(")");
 }
 
-/// A text as a JSON string.
-fn write_string(alloc: Global, out: &mut String, text: &Text) -> Result<()> {
-    let string = Value::String(String::from_str(alloc, text.as_str())?);
-    let written = string.to_string(alloc)?;
-    out.push_str(written.as_str())?;
-    Ok(())
-}
-
-fn write_matcher(alloc: Global, out: &mut String, matcher: &Matcher) -> Result<()> {
-    out.push_str(" (")?;
-    out.push_str(match_text(matcher.op))?;
-    out.push(' ')?;
-    out.push_str(matcher.label.as_str())?;
-    out.push(' ')?;
-    write_string(alloc, out, &matcher.value)?;
-    out.push(')')?;
-    Ok(())
-}
-
-fn write_sight(out: &mut String, sight: &Sight) -> Result<()> {
-    write_part(out, "range", &sight.range)?;
-    write_part(out, "step", &sight.step)?;
-    write_part(out, "offset", &sight.offset)?;
-    write_part(out, "at", &sight.at)
-}
-
-fn write_part(out: &mut String, word: &str, part: &Option<Text>) -> Result<()> {
-    if let Some(text) = part {
-        out.push_str(" (")?;
-        out.push_str(word)?;
-        out.push(' ')?;
-        out.push_str(text.as_str())?;
-        out.push(')')?;
+fn write_matchers(out: &mut Writer, matchers: &[Matcher]) {
+    for matcher in matchers {
+        out.put(" (");
+        out.put(match_text(matcher.op));
+        out.put(" ");
+        out.put(matcher.label.as_str());
+        out.put(" ");
+        out.quote(matcher.value.as_str());
+        out.put(")");
     }
-    Ok(())
+}
+
+fn write_sight(out: &mut Writer, sight: &Sight) {
+    write_part(out, "range", &sight.range);
+    write_part(out, "step", &sight.step);
+    write_part(out, "offset", &sight.offset);
+    write_part(out, "at", &sight.at);
+}
+
+fn write_part(out: &mut Writer, word: &str, part: &Option<Text>) {
+    if let Some(text) = part {
+        out.put(" (");
+        out.put(word);
+        out.put(" ");
+        out.put(text.as_str());
+        out.put(")");
+    }
 }
 
 /// A word and labels, in parentheses.
-fn write_labels(out: &mut String, word: &str, labels: &[Name]) -> Result<()> {
-    out.push_str(" (")?;
-    out.push_str(word)?;
+fn write_labels(out: &mut Writer, word: &str, labels: &[Name]) {
+    out.put(" (");
+    out.put(word);
     for label in labels {
-        out.push(' ')?;
-        out.push_str(label.text.as_str())?;
+        out.put(" ");
+        out.put(label.text.as_str());
     }
-    out.push(')')?;
-    Ok(())
+    out.put(")");
 }
 
 /// The modifier of an operator, where there is one.
-fn write_modifier(out: &mut String, modifier: &Matching) -> Result<()> {
+fn write_modifier(out: &mut Writer, modifier: &Matching) {
     if !modifier.bool_mod && modifier.on.is_none() && modifier.ignoring.is_none() {
-        return Ok(());
+        return;
     }
-    out.push_str(" (mod")?;
-    if modifier.bool_mod {
-        out.push_str(" bool")?;
-    }
+    out.put(if modifier.bool_mod {
+        " (mod bool"
+    } else {
+        " (mod"
+    });
     if let Some(labels) = &modifier.on {
-        write_labels(out, "on", labels.as_slice())?;
+        write_labels(out, "on", labels.as_slice());
     }
     if let Some(labels) = &modifier.ignoring {
-        write_labels(out, "ignoring", labels.as_slice())?;
+        write_labels(out, "ignoring", labels.as_slice());
     }
-    match modifier.group {
-        Group::One => {}
-        Group::Left => write_labels(out, "left", modifier.include.as_slice())?,
-        Group::Right => write_labels(out, "right", modifier.include.as_slice())?,
-    }
-    out.push(')')?;
-    Ok(())
+    write_group(out, modifier.group, modifier.include.as_slice());
+    out.put(")");
 }
 
-fn write_grouping(out: &mut String, grouping: &Grouping) -> Result<()> {
+/// The side that has several samples, and the labels behind its word.
+fn write_group(out: &mut Writer, group: Group, include: &[Name]) {
+    match group {
+        Group::One => {}
+        Group::Left => write_labels(out, "left", include),
+        Group::Right => write_labels(out, "right", include),
+    }
+}
+
+fn write_grouping(out: &mut Writer, grouping: &Grouping) {
     match grouping {
-        Grouping::None => Ok(()),
+        Grouping::None => {}
         Grouping::By { labels } => write_labels(out, "by", labels.as_slice()),
         Grouping::Without { labels } => write_labels(out, "without", labels.as_slice()),
     }

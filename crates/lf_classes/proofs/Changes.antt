@@ -9,7 +9,7 @@ use Rattle.std.proofs.lemmas.List.{ext_get_or, get_or-set_same, get_or-set_other
 use Rattle.lf_semantics.specs.ClassRows.{Sets, meet, emptied, holds, is_live, kept, remade, set_to, normalized, join}
 use Rattle.lf_semantics.proofs.Places.{eqb-other}
 use Rattle.lf_semantics.proofs.RowLaws.{holds-remade, shape_emptied, shape_remade}
-use Rattle.lf_classes.specs.Cut.{cut, shown, start}
+use Rattle.lf_classes.specs.views.Cut.{cut, shown, start}
 use Rattle.lf_classes.proofs.Cutting.{count_at, cut_remade, dead_when, emptied_dead, emptied_holds, emptied_remade, emptied_same, emptied_twice, empty_cut, found_class, full_cut, full_live, holds-cut, label_in, length-cut, live_at, live_when, no_class, shape_cut, start_before, start_within}
 use Rattle.lf_laws.proofs.Booleans.{and_false}
 

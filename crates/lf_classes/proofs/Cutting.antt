@@ -6,8 +6,9 @@ use Rattle.std.proofs.lemmas.List.{length-take-le, get_or-take, get_or-drop, get
 use Rattle.std.proofs.lemmas.List.Sums.{sum_by-cons, sum_by_more_le}
 use Rattle.lf_semantics.specs.ClassRows.{Sets, emptied, holds, is_live, remade}
 use Rattle.lf_semantics.proofs.RowLaws.{any_at, holds-remade, shape_remade}
-use Rattle.lf_classes.specs.Cut.{cut, start}
-use Rattle.lf_laws.proofs.Booleans.{and_both, and_false}
+use Rattle.lf_classes.specs.views.Cut.{cut, start}
+use Rattle.std.proofs.lemmas.Bool.{and_parts}
+use Rattle.lf_laws.proofs.Booleans.{and_false}
 
 sum_cons : (n : ℕ) (ns : List ℕ) → sum (n ∷ ns) ≡ n + sum ns
 sum_cons n ns = sum_by-cons (λ x. x) n ns
@@ -98,8 +99,8 @@ none_on (x ∷ xs) h = rw (h 0 (omega arith)) (none_on xs (λ c b. h (suc c) (om
 
 pub live_at : (row : Sets) (l : ℕ) → is_live row ≡ true → l < length row → (c : ℕ) × (c < length (get_or row l [])) × (holds row l c ≡ true)
 live_at [] l e h = absurd (omega arith)
-live_at (set ∷ row) zero e h = some_on set (and_both (list_any (λ on. on) set) (is_live row) e).0
-live_at (set ∷ row) (suc l) e h = live_at row l (and_both (list_any (λ on. on) set) (is_live row) e).1 (omega arith)
+live_at (set ∷ row) zero e h = some_on set (and_parts (list_any (λ on. on) set) (is_live row) e).0
+live_at (set ∷ row) (suc l) e h = live_at row l (and_parts (list_any (λ on. on) set) (is_live row) e).1 (omega arith)
 
 pub live_when : (row : Sets) → ((l : ℕ) → l < length row → (c : ℕ) × (holds row l c ≡ true)) → is_live row ≡ true
 live_when [] h = refl

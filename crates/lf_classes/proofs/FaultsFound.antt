@@ -1,27 +1,28 @@
 -- What is found in one pass over an expression is the breach that is told.
-use Rattle.std.proofs.Common.{◌≡◌, ◌⊎◌, inl, inr, Bool, true, false, not, cond, ◌||◌, List, [], ◌∷◌, Option, Some, None, Err, refl, sym, ap, subst}
-use Rattle.lf_base.specs.Answers.{Decides}
+use Rattle.std.proofs.Common.{◌≡◌, ◌⊎◌, inl, inr, Bool, true, false, not, cond, ◌||◌, List, [], ◌∷◌, Option, Some, None, Err, fold, map, refl, sym, ap, subst}
+use Rattle.lf_base.proofs.Answering.{Decides}
 use Rattle.lf_base.specs.Faults.{fault, first}
 use Rattle.lf_base.specs.declared.fault.Fault.{Fault}
 use Rattle.lf_base.specs.declared.kind.Kind.TheVariants.{BadPattern, BadSelector}
 use Rattle.lf_base.specs.declared.place.Span.{Span}
 use Rattle.lf_ast.specs.Functions.{function_named}
 use Rattle.lf_ast.specs.Labels.{Bytes}
-use Rattle.lf_ast.specs.Tree.{Tree, Trees, Number, Str, Selector, Subquery, Paren, Unary, Binary, Call, Aggregate, Nil, Next}
+use Rattle.lf_ast.specs.Tree.{Tree, Trees, Number, Str, Selector, Subquery, Paren, Unary, Binary, Call, Aggregate, Nil, Next, list}
 use Rattle.lf_ast.specs.declared.expr.Matcher.{Matcher}
 use Rattle.lf_base.proofs.Least.{Least, least_either, least_same, least_when, only_one}
-use Rattle.lf_laws.proofs.Booleans.{not_true_is}
+use Rattle.std.proofs.lemmas.Bool.{not-true}
 use Rattle.lf_laws.proofs.Members.{behind, first_or_behind, here, none_in}
 use Rattle.lf_pattern.specs.Matching.{IsRead, is_read}
-use Rattle.lf_semantics.specs.PatternBreaches.{AnyBreaksPatterns, BreaksPatterns, HasUnread, IsUnread, IsUnreadString, NamesNoMetric, Placed, TellsPattern, called_with, names_twice, passes_empty, takes_pattern}
+use Rattle.lf_semantics.specs.PatternBreaches.{AnyBreaksPatterns, BreaksPatterns, HasUnread, IsUnread, IsUnreadString, NamesNoMetric, Placed, TellsPattern, called_with, names_twice, takes_pattern}
+use Rattle.lf_semantics.specs.reading.Selectors.{passes_empty}
 use Rattle.lf_semantics.proofs.PatternFaults.{bad_selector_is, unread_is}
 use Rattle.lf_classes.specs.Checked.{HasNoBreach}
-use Rattle.lf_classes.specs.Checking.{arguments_fault, matcher_fault, matchers_fault, pattern_fault, patterns_checked, selector_fault, string_fault, unless_found, unread_fault}
+use Rattle.lf_classes.specs.reading.Checking.{arguments_fault, matcher_fault, matchers_fault, pattern_fault, patterns_checked, selector_fault, string_fault, unless_found, unread_fault}
 
 -- patterns
 
 least_unread : (pattern : Bytes) (span : Span) → Least (IsUnread pattern span) (unread_fault pattern span)
-least_unread pattern span = least_when (IsRead pattern → ⊥) (not (is_read pattern)) (fault BadPattern span) (λ e. (unread_is pattern).0 (not_true_is (is_read pattern) e)) (λ none. ap not ((unread_is pattern).1 none))
+least_unread pattern span = least_when (IsRead pattern → ⊥) (not (is_read pattern)) (fault BadPattern span) (λ e. (unread_is pattern).0 (not-true (is_read pattern) e)) (λ none. ap not ((unread_is pattern).1 none))
 
 least_string : (string : Option Placed) → Least (IsUnreadString string) (string_fault string)
 least_string None = λ f b. b
@@ -114,6 +115,11 @@ mutual
   all_good : (args : Trees) → AllGood args
   all_good Nil = tt
   all_good (Next x xs) = (good x, all_good xs)
+
+-- the breaches of arguments, one after the other
+pub arguments_folded : (args : Trees) (own : Option Fault) → fold first own (map pattern_fault (list args)) ≡ arguments_fault args own
+arguments_folded Nil own = refl
+arguments_folded (Next x xs) own = arguments_folded xs (first own (pattern_fault x))
 
 -- the answer
 

@@ -8,7 +8,7 @@ use Rattle.lf_semantics.specs.ClassRows.{Sets, emptied, holds, is_live, narrowed
 use Rattle.lf_semantics.specs.Environments.{Leq}
 use Rattle.lf_semantics.proofs.Places.{eqb-other}
 use Rattle.lf_semantics.proofs.RowLaws.{holds-remade, holds_within, shape_emptied, shape_remade}
-use Rattle.lf_classes.specs.Cut.{cut, shown, start}
+use Rattle.lf_classes.specs.views.Cut.{cut, shown, start}
 use Rattle.lf_classes.proofs.Cutting.{count_at, cut_remade, dead_when, emptied_dead, emptied_holds, emptied_remade, emptied_twice, holds-cut, label_in, length-cut, live_at, same_sets, shape_cut, start_before}
 use Rattle.lf_classes.proofs.Changes.{class_within, dead_remade, label_within, live_remade, live_view, same_counts, same_total, settled_as, shape_view}
 use Rattle.lf_laws.proofs.Booleans.{and_false, and_true, clash}

@@ -10,6 +10,7 @@ pub mod Listed
 pub mod PatternPlaces
 pub mod Places
 pub mod Puts
+pub mod RecordedNames
 pub mod Seen
 pub mod TextClasses
 pub mod Unread

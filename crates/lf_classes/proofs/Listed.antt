@@ -1,4 +1,4 @@
--- What was met, label by label, is the universe of what is met.
+-- What was mentioned, label by label, is the universe of what is mentioned.
 use Rattle.std.proofs.Common.{◌≡◌, ◌≢◌, ◌<◌, ◌≤◌, ℕ, ◌+◌, ltb, eqb, Bool, true, false, not, cond, List, [], ◌∷◌, ◌++◌, get_or, set, map, length, refl, sym, ap, subst, ◌∙◌, append-nil, append_assoc, length-append, arith}
 use Rattle.std.specs.Prelude.{fold}
 use Rattle.std.specs.List.{filter, flat_map}
@@ -14,10 +14,11 @@ use Rattle.lf_semantics.specs.Mentions.{Mention}
 use Rattle.lf_semantics.proofs.ListingLaws.{is_listing}
 use Rattle.lf_semantics.proofs.Members.{same_true, true_same}
 use Rattle.lf_semantics.proofs.Places.{place_at, place_le, same_text}
-use Rattle.lf_classes.specs.Meetings.{met_all, nothing_met, with_label, with_met, with_star, with_text, with_text_of}
+use Rattle.lf_classes.specs.views.Mentioned.{mentioned_all, nothing_mentioned, with_label, with_mentioned, with_star, with_text_of}
+use Rattle.lf_classes.specs.views.TextSets.{with_text}
 use Rattle.lf_classes.proofs.Seen.{first_seen-more, first_seen-push, some_texts, with_some}
 
--- the listing has what these items meet
+-- the listing has what these items mention
 record Lists (items : List Mention) (seen : Listing) : Type 0 where
   pub names : seen.names ≡ labels_mentioned items
   pub count : length seen.named ≡ length seen.names
@@ -149,49 +150,49 @@ module _ (items : List Mention) (m : Mention) where
     abbrev s1 : Listing
     s1 = with_label s m.label
 
-    names_of : (with_met s m).names ≡ s1.names
+    names_of : (with_mentioned s m).names ≡ s1.names
     names_of = texts_names k s1 m.texts
 
     within : k < length s1.named
     within = let a = label_within s m.label lists.count in let b = label_length s m.label lists.count in omega (arith, a, b)
 
-    texts_by : (label : Bytes) (b : Bool) → bytes_eq m.label label ≡ b → named_at (with_met s m) (place s1.names label) ≡ texts_mentioned (items ++ m ∷ []) label
+    texts_by : (label : Bytes) (b : Bool) → bytes_eq m.label label ≡ b → named_at (with_mentioned s m) (place s1.names label) ≡ texts_mentioned (items ++ m ∷ []) label
     texts_by label true e =
         let is : m.label ≡ label = true_same m.label label e in
         let at : place s1.names label ≡ k = ap (place s1.names) (sym is) ∙ label_same s m.label lists.count in
         let had : named_at s1 k ≡ texts_mentioned items label =
         ap (named_at s1) (sym (label_same s m.label lists.count)) ∙ label_texts s m.label lists.count m.label ∙ lists.texts m.label ∙ ap (texts_mentioned items) is in
-        ap (named_at (with_met s m)) at ∙ texts_same k s1 m.texts within ∙ ap (λ ts. fold with_some ts m.texts) had ∙ sym (texts_of_own label e)
+        ap (named_at (with_mentioned s m)) at ∙ texts_same k s1 m.texts within ∙ ap (λ ts. fold with_some ts m.texts) had ∙ sym (texts_of_own label e)
     texts_by label false e =
         let apart : place s1.names label ≢ k = λ same.
         let there : place s1.names m.label < length s1.names = let a = label_within s m.label lists.count in let b = label_same s m.label lists.count in omega (arith, a, b) in
         let f : true ≡ false = sym (same_true m.label label (same_text s1.names m.label label there (label_same s m.label lists.count ∙ sym same))) ∙ e in absurd (cc) in
         texts_other k s1 m.texts (place s1.names label) apart ∙ label_texts s m.label lists.count label ∙ lists.texts label ∙ sym (texts_of_other label e)
 
-    lists_more : Lists (items ++ m ∷ []) (with_met s m)
+    lists_more : Lists (items ++ m ∷ []) (with_mentioned s m)
     lists_more = record {
       names =
           names_of ∙ ap (λ names. with_text names m.label) lists.names ∙ sym (first_seen-push (metric ∷ map (λ (x : Mention). x.label) items) m.label)
           ∙ ap (λ labels. first_seen (metric ∷ labels)) (sym (map-append (λ (x : Mention). x.label) items (m ∷ [])));
       count = texts_length k s1 m.texts ∙ label_length s m.label lists.count ∙ ap length (sym names_of);
-      texts = λ label. ap (λ names. named_at (with_met s m) (place names label)) names_of ∙ texts_by label (bytes_eq m.label label) refl;
+      texts = λ label. ap (λ names. named_at (with_mentioned s m) (place names label)) names_of ∙ texts_by label (bytes_eq m.label label) refl;
     }
 
-lists_none : Lists [] nothing_met
+lists_none : Lists [] nothing_mentioned
 lists_none = record {
   names = refl;
   count = refl;
   texts = λ label. elim (bytes_eq metric label) as (λ b. get_or {A = List Bytes} ([] ∷ []) (cond (not b) 1 0) [] ≡ []) [ true ↦ refl | false ↦ refl ];
 }
 
-lists_behind : (front items : List Mention) (s : Listing) → Lists front s → Lists (front ++ items) (met_all s items)
+lists_behind : (front items : List Mention) (s : Listing) → Lists front s → Lists (front ++ items) (mentioned_all s items)
 lists_behind front [] s lists = let P : List Mention → Type 0 = λ ms. Lists ms s in subst P (sym (append-nil front)) lists
 lists_behind front (m ∷ items) s lists =
-    let P : List Mention → Type 0 = λ ms. Lists ms (met_all s (m ∷ items)) in
-    subst P (append_assoc front (m ∷ []) items) (lists_behind (front ++ m ∷ []) items (with_met s m) (lists_more front m s lists))
+    let P : List Mention → Type 0 = λ ms. Lists ms (mentioned_all s (m ∷ items)) in
+    subst P (append_assoc front (m ∷ []) items) (lists_behind (front ++ m ∷ []) items (with_mentioned s m) (lists_more front m s lists))
 
-lists_all : (items : List Mention) → Lists items (met_all nothing_met items)
-lists_all items = lists_behind [] items nothing_met lists_none
+lists_all : (items : List Mention) → Lists items (mentioned_all nothing_mentioned items)
+lists_all items = lists_behind [] items nothing_mentioned lists_none
 
 same_listing : (names names' : List Bytes) (named named' : List (List Bytes)) → names ≡ names' → named ≡ named' → ◌≡◌ {A = Listing} (record { names = names; named = named }) (record { names = names'; named = named' })
 same_listing names names' named named' e f =
@@ -199,10 +200,10 @@ same_listing names names' named named' e f =
     let by_named : List (List Bytes) → Listing = λ ts. record { names = names'; named = ts } in
     ap by_names e ∙ ap by_named f
 
--- all that was met, and `*`
-pub met_listing : (items : List Mention) → with_star (met_all nothing_met items) ≡ listing_of items
+-- all that was mentioned, and `*`
+pub met_listing : (items : List Mention) → with_star (mentioned_all nothing_mentioned items) ≡ listing_of items
 met_listing items =
-    let s : Listing = met_all nothing_met items in
+    let s : Listing = mentioned_all nothing_mentioned items in
     let lists : Lists items s = lists_all items in
     let long : length s.named ≡ length (map (texts_mentioned items) (labels_mentioned items)) = lists.count ∙ ap length lists.names ∙ sym (length-map (labels_mentioned items) (texts_mentioned items)) in
     let each : (k : ℕ) → k < length s.named → get_or s.named k [] ≡ get_or (map (texts_mentioned items) (labels_mentioned items)) k [] = λ k h.

@@ -3,7 +3,7 @@ use Rattle.std.proofs.Common.{◌≡◌, ℕ, ◌+◌, ◌<◌, ◌≤◌, List,
 use Rattle.std.proofs.lemmas.Bool.{cases_lt}
 use Rattle.std.proofs.lemmas.List.{get_or_append_left, get_or_push, length_push}
 use Rattle.std.proofs.lemmas.List.Sums.{sum_by_more}
-use Rattle.lf_classes.specs.Cut.{start}
+use Rattle.lf_classes.specs.views.Cut.{start}
 
 -- the places of the labels before one, and that of this one
 pub record ArePlaces (counts starts : List ℕ) (place label : ℕ) : Type 0 where

@@ -13,7 +13,7 @@ use Rattle.lf_semantics.specs.Listing.{first_seen, place}
 use Rattle.lf_semantics.proofs.ListingLaws.{in_first_seen, of_first_seen, place_within}
 use Rattle.lf_semantics.proofs.Members.{same_true, true_same}
 use Rattle.lf_semantics.proofs.Places.{at_place}
-use Rattle.lf_classes.specs.Meetings.{with_text}
+use Rattle.lf_classes.specs.views.TextSets.{with_text}
 
 abbrev among : List Bytes → Bytes → Bool
 among xs t = list_any (bytes_eq t) xs

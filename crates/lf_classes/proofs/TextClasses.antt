@@ -8,7 +8,7 @@ use Rattle.lf_semantics.specs.Listing.{Listing}
 use Rattle.lf_semantics.specs.RowTable.{has_class}
 use Rattle.lf_semantics.proofs.EffectsRepresent.{has_class_at}
 use Rattle.lf_semantics.proofs.Places.{eqb-other}
-use Rattle.lf_classes.specs.Cut.{cut, shown, start}
+use Rattle.lf_classes.specs.views.Cut.{cut, shown, start}
 use Rattle.lf_classes.proofs.Changes.{class_within, label_within}
 use Rattle.lf_classes.proofs.LabelChanges.{class_bit, empty_holds}
 use Rattle.lf_laws.proofs.Booleans.{not_true}

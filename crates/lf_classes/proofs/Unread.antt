@@ -6,7 +6,7 @@ use Rattle.std.specs.Str.{bytes_eq}
 use Rattle.lf_base.specs.declared.kind.Kind.TheVariants.{BadPattern}
 use Rattle.lf_base.specs.declared.place.Span.{Span}
 use Rattle.lf_base.specs.Faults.{fault, when}
-use Rattle.lf_classes.specs.Checking.{unread_fault}
+use Rattle.lf_classes.specs.reading.Checking.{unread_fault}
 use Rattle.lf_pattern.specs.Matching.{IsRead, is_read, matches}
 use Rattle.lf_pattern.specs.Read.{reading}
 use Rattle.lf_pattern.specs.Scan.{alternatives_of}

@@ -4,8 +4,8 @@ use Rattle.std.proofs.lemmas.Bool.{cases_lt}
 use Rattle.std.specs.Int.{bit_at, bit_not}
 use Rattle.std.specs.Prelude.{bit_and, bit_or}
 use Rattle.std.proofs.lemmas.Nat.Bits.{bit_at_and, bit_at_or, bit_at_not, bit_at-lt, bit_at-zero, same_from_bits_below}
-use Rattle.lf_classes.specs.Bits.{bit}
-use Rattle.lf_laws.proofs.Booleans.{and_both}
+use Rattle.lf_classes.specs.views.Bits.{bit}
+use Rattle.std.proofs.lemmas.Bool.{and_parts}
 
 both_on : (x y : ℕ) → x < 2 → y < 2 → eqb (min x y) 1 ≡ (eqb x 1 && eqb y 1)
 both_on zero zero h k = refl
@@ -73,7 +73,7 @@ not_both false y e h = refl
 -- what a word that isn't 0 under a mask has
 pub some_met : (word mask : ℕ) → bit_and word mask < 2 ^ 64 → bit_and word mask ≢ 0 → (i : ℕ) × (i < 64) × (bit word i ≡ true) × (bit mask i ≡ true)
 some_met word mask h n = elim (look (bit (bit_and word mask)) 64) [
-  | inl r ↦ (let both = and_both (bit word r.0) (bit mask r.0) (sym (bit-and word mask r.0) ∙ r.2) in (r.0, r.1, both.0, both.1))
+  | inl r ↦ (let both = and_parts (bit word r.0) (bit mask r.0) (sym (bit-and word mask r.0) ∙ r.2) in (r.0, r.1, both.0, both.1))
   | inr r ↦ absurd (n (all_off (bit_and word mask) h r))
 ]
 

@@ -5,7 +5,7 @@ use Rattle.std.proofs.Math.Nat.{div-add-mod}
 use Rattle.std.proofs.lemmas.Bool.{cases_eq, cases_lt}
 use Rattle.std.proofs.lemmas.List.{same_lists, get_or-replicate, get_or-set_same, get_or-set_other, length-replicate}
 use Rattle.std.proofs.lemmas.List.FromFn.{get_or-map-range_with_len, length-map-range_with_len}
-use Rattle.lf_classes.specs.Bits.{bit, bit_of, bits_of}
+use Rattle.lf_classes.specs.views.Bits.{bit, bit_of, bits_of}
 use Rattle.lf_laws.proofs.Booleans.{clash}
 
 pub length_bits : (words : List ℕ) (len : ℕ) → length (bits_of words len) ≡ len

@@ -1,6 +1,6 @@
 //! A list of bits in words.
 ghost use Rattle.std.specs.Prelude.{◌≡◌, ℕ, ◌+◌, ◌<◌, ◌≤◌, ◌^◌, length, replicate, slice_index_or, slice_set, false, true, ◌&&◌, IfOk};
-ghost use Rattle.lf_classes.specs.Bits.{changed};
+ghost use Rattle.lf_classes.specs.views.Bits.{changed};
 
 use crate::range::{change_words, fill_words, has_all, has_any};
 use crate::word::{Change, whole, with_bit};
@@ -17,7 +17,7 @@ pub struct Bits {
 
 impl Model for Bits {
     ghost use Rattle.std.specs.Prelude.{List, Bool};
-    ghost use Rattle.lf_classes.specs.Bits.{bits_of, IsBits};
+    ghost use Rattle.lf_classes.specs.views.Bits.{bits_of, IsBits};
 
     ghost Value = { List Bool };
 

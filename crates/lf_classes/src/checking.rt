@@ -1,14 +1,16 @@
 //! Whether an expression's patterns can be read, and its selectors name a metric.
-ghost use Rattle.std.specs.Prelude.{◌≡◌, ℕ, IfOk};
+ghost use Rattle.std.specs.Prelude.{◌≡◌, ℕ, fold, map, IfOk};
 ghost use Rattle.lf_base.specs.Answers.{Answers, Breach, Found, Only, Refused, RefusedIn};
+ghost use Rattle.lf_base.specs.Faults.{first};
 ghost use Rattle.lf_ast.specs.Inside.{Inside};
-ghost use Rattle.lf_ast.specs.Tree.{tree, trees};
+ghost use Rattle.lf_ast.specs.Tree.{parts_of, tree};
 ghost use Rattle.lf_classes.specs.Checked.{HasNoBreach};
-ghost use Rattle.lf_classes.specs.Checking.{arguments_fault, pattern_fault, patterns_checked};
+ghost use Rattle.lf_classes.specs.reading.Checking.{pattern_fault, patterns_checked};
 ghost use Rattle.lf_semantics.specs.PatternBreaches.{TellsPattern};
 
 use crate::patterns::{call_fault, selector_fault};
 use lf_ast::Expr;
+use lf_ast::walk::{Fold, Parts, fold_up};
 use lf_base::{Fault, Memory, Refusal};
 use std::alloc::Global;
 
@@ -26,7 +28,7 @@ pub fn check_patterns(alloc: Global, expr: &Expr) -> Result<(), Refusal>
     // It is refused, unless memory runs out; so no expression tells two breaches.
     ensures breach { Breach (λ t. t) (TellsPattern (tree expr.now)) result }
     // In a source that each span of the expression lies in lies what is refused, too.
-    ensures inside { (n : ℕ) → Inside n (tree expr.now) → RefusedIn n result }
+    ensures refused_inside { (n : ℕ) → Inside n (tree expr.now) → RefusedIn n result }
 {
     check(alloc, expr)
 }
@@ -35,7 +37,7 @@ pub fn check_patterns(alloc: Global, expr: &Expr) -> Result<(), Refusal>
 fn check(alloc: Global, expr: &Expr) -> Result<(), Refusal>
     ensures { Answers result (patterns_checked (tree expr.now)) }
 {
-    match checked(alloc, expr)? {
+    match fold_up(alloc, &PatternCheck, expr)? {
         None => Ok(()),
         Some(fault) => Err(Refusal::At {
             kind: fault.kind,
@@ -44,9 +46,39 @@ fn check(alloc: Global, expr: &Expr) -> Result<(), Refusal>
     }
 }
 
-/// The breach that is told, if there is one.
-#[cycle(checked)]
-fn checked(alloc: Global, expr: &Expr) -> Result<Option<Fault>, Memory>
+/// The breach of an expression that is told, from those of its parts.
+struct PatternCheck;
+
+impl Fold for PatternCheck {
+    type Value = Option<Fault>;
+
+    ghost use Rattle.lf_classes.specs.reading.Checking.{pattern_fault};
+    ghost use Rattle.lf_ast.specs.declared.walk.choosing.Parts.TheVariants.{All};
+
+    ghost value = { λ check e. pattern_fault e };
+
+    ghost needed = { λ check e. All };
+
+    fn needed(&self, _expr: &Expr) -> Parts {
+        Parts::All
+    }
+
+    fn step(
+        &self,
+        alloc: Global,
+        expr: &Expr,
+        values: Vec<Option<Fault>>,
+    ) -> Result<Option<Fault>, Memory>
+        requires { values.items ≡ map pattern_fault (parts_of (tree expr.now)) }
+        ensures { IfOk result (λ found. found ≡ pattern_fault (tree expr.now)) }
+    {
+        told(alloc, expr, values.as_slice())
+    }
+}
+
+/// The breach that is told, if there is one, from those of the parts.
+fn told(alloc: Global, expr: &Expr, parts: &[Option<Fault>]) -> Result<Option<Fault>, Memory>
+    requires { parts.now ≡ map pattern_fault (parts_of (tree expr.now)) }
     ensures { IfOk result (λ found. found ≡ pattern_fault (tree expr.now)) }
 {
     match expr {
@@ -58,36 +90,25 @@ fn checked(alloc: Global, expr: &Expr) -> Result<Option<Fault>, Memory>
             span,
             ..
         } => selector_fault(alloc, name, matchers.as_slice(), *span),
-        Expr::Subquery { of, .. } => checked(alloc, of),
-        Expr::Paren { of, .. } => checked(alloc, of),
-        Expr::Unary { of, .. } => checked(alloc, of),
-        Expr::Binary { left, right, .. } => {
-            let of_left = checked(alloc, left)?;
-            let of_right = checked(alloc, right)?;
-            Ok(Fault::first(of_left, of_right))
-        }
+        Expr::Subquery { .. } => Ok(parts[0]),
+        Expr::Paren { .. } => Ok(parts[0]),
+        Expr::Unary { .. } => Ok(parts[0]),
+        Expr::Binary { .. } => Ok(Fault::first(parts[0], parts[1])),
         Expr::Call { name, args, .. } => {
             let own = call_fault(alloc, name.as_str(), args.as_slice())?;
-            checked_arguments(alloc, own, args.as_slice())
+            Ok(first_of(own, parts))
         }
-        Expr::Aggregate { args, .. } => checked_arguments(alloc, None, args.as_slice()),
+        Expr::Aggregate { .. } => Ok(first_of(None, parts)),
     }
 }
 
 /// Of a breach, if there is one, and those of arguments the one that is told.
-#[cycle(checked)]
-#[inline(never)]
-fn checked_arguments(
-    alloc: Global,
-    own: Option<Fault>,
-    args: &[Expr],
-) -> Result<Option<Fault>, Memory>
-    ensures { IfOk result (λ found. found ≡ arguments_fault (trees args.now) own) }
+fn first_of(own: Option<Fault>, arguments: &[Option<Fault>]) -> Option<Fault>
+    ensures { result ≡ fold first own arguments.now }
 {
     let mut fault = own;
-    for k in 0..args.len() {
-        let found = checked(alloc, &args[k])?;
-        fault = Fault::first(fault, found);
+    for found in arguments {
+        fault = Fault::first(fault, *found);
     }
-    Ok(fault)
+    fault
 }

@@ -1,4 +1,4 @@
-//! The labels that rules meet, the classes of each, and rows: for each label a set of its classes.
+//! The labels that rules mention, the classes of each, and rows: for each label a set of its classes.
 #![tactic(auto)]
 
 mod bits;
@@ -6,17 +6,16 @@ mod checking;
 mod class_error;
 mod classes;
 mod laws;
-mod meetings;
+mod mentions;
 mod naming;
 mod passing;
 mod patterns;
 mod range;
+mod recorded;
 mod remembered;
 mod row;
 mod shape;
 mod strings;
-#[cfg(test)]
-mod tests;
 mod text_set;
 mod universe;
 mod walking;
@@ -26,6 +25,7 @@ pub use checking::check_patterns;
 pub use class_error::ClassError;
 pub use laws::one_breach;
 pub use passing::passes;
+pub use recorded::recorded_names;
 pub use row::Row;
 pub use text_set::TextSet;
 pub use universe::Universe;

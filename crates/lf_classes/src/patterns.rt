@@ -4,11 +4,12 @@ ghost use Rattle.std.specs.List.{list_all, list_any};
 ghost use Rattle.std.specs.Str.{bytes_eq};
 ghost use Rattle.lf_ast.specs.Functions.{function_named};
 ghost use Rattle.lf_ast.specs.Tree.{tree, trees};
-ghost use Rattle.lf_classes.specs.Checking.{matcher_fault, matchers_fault, selector_fault, string_fault, unread_fault};
+ghost use Rattle.lf_classes.specs.reading.Checking.{matcher_fault, matchers_fault, selector_fault, string_fault, unread_fault};
 ghost use Rattle.lf_semantics.specs.Parts.{argument_at};
 ghost use Rattle.lf_semantics.specs.Passing.{passes};
 ghost use Rattle.lf_ast.specs.Selectors.{metric};
-ghost use Rattle.lf_semantics.specs.PatternBreaches.{called_with, is_empty_name, names_twice, passes_empty, pattern_argument, placed_string};
+ghost use Rattle.lf_semantics.specs.PatternBreaches.{called_with, is_empty_name, names_twice, pattern_argument, placed_string};
+ghost use Rattle.lf_semantics.specs.reading.Selectors.{passes_empty};
 
 use crate::passes;
 use lf_ast::{Expr, Function, LabelEffect, MatchOp, Matcher};

@@ -1,6 +1,6 @@
 //! The bits of words from one place on and below another.
 ghost use Rattle.std.specs.Prelude.{◌≡◌, ℕ, ◌*◌, ◌<◌, ◌≤◌, ◌^◌, length, true, false};
-ghost use Rattle.lf_classes.specs.Bits.{bit_of, changed};
+ghost use Rattle.lf_classes.specs.views.Bits.{bit_of, changed};
 
 use crate::word::{Change, changed, mask, meets, picked, whole, without};
 

@@ -3,7 +3,7 @@ ghost use Rattle.std.specs.Prelude.{◌≡◌, ℕ, ◌<◌, ◌^◌, length, If
 ghost use Rattle.lf_ast.specs.Labels.{Bytes};
 ghost use Rattle.lf_semantics.specs.ClassRows.{Sets};
 ghost use Rattle.lf_semantics.specs.Listing.{Listing};
-ghost use Rattle.lf_classes.specs.Remembered.{AreRemembered, AreRows, HasRows, passing_row};
+ghost use Rattle.lf_classes.specs.views.Remembered.{AreRemembered, AreRows, HasRows, passing_row};
 
 use crate::row::Row;
 use crate::text_set::TextSet;

@@ -5,7 +5,7 @@ ghost use Rattle.lf_semantics.specs.Environments.{Leq};
 ghost use Rattle.lf_semantics.specs.Listing.{Listing};
 ghost use Rattle.lf_semantics.specs.RowTable.{has_class};
 ghost use Rattle.std.specs.List.{sum};
-ghost use Rattle.lf_classes.specs.Cut.{cut};
+ghost use Rattle.lf_classes.specs.views.Cut.{cut};
 
 use crate::bits::{Bits, narrow, put};
 use crate::shape::Shape;
@@ -27,7 +27,7 @@ pub struct Row {
 
 impl Model for Row {
     ghost use Rattle.lf_semantics.specs.ClassRows.{Sets};
-    ghost use Rattle.lf_classes.specs.Cut.{IsRow, cut, shown};
+    ghost use Rattle.lf_classes.specs.views.Cut.{IsRow, cut, shown};
 
     ghost Value = { Sets };
 

@@ -1,7 +1,7 @@
 //! How many classes each label has, and where they stand in the bits of a row.
 ghost use Rattle.std.specs.Prelude.{◌≡◌, ℕ, ◌+◌, ◌<◌, ◌≤◌, ◌^◌, length, slice_index, IfOk};
 ghost use Rattle.std.specs.List.{sum};
-ghost use Rattle.lf_classes.specs.Cut.{start};
+ghost use Rattle.lf_classes.specs.views.Cut.{start};
 
 use lf_base::Memory;
 use std::alloc::Global;
@@ -24,7 +24,7 @@ pub struct Shape {
 impl Model for Shape {
     ghost use Rattle.std.specs.Prelude.{List, ℕ};
     ghost use Rattle.std.specs.Arc.{arc_value};
-    ghost use Rattle.lf_classes.specs.Cut.{IsShape};
+    ghost use Rattle.lf_classes.specs.views.Cut.{IsShape};
 
     ghost Value = { List ℕ };
 

@@ -1,7 +1,7 @@
 //! Texts, each once.
 ghost use Rattle.std.specs.Prelude.{◌≡◌, ◌<◌, ◌≤◌, ◌^◌, [], length, slice_index_or, IfOk, OnOk, OnErr};
 ghost use Rattle.lf_semantics.specs.Listing.{place};
-ghost use Rattle.lf_classes.specs.Meetings.{with_text};
+ghost use Rattle.lf_classes.specs.views.TextSets.{with_text};
 
 use indexmap::IndexSet;
 use lf_base::{Memory, Seq, Text};
@@ -17,7 +17,7 @@ pub struct TextSet {
 
 impl Model for TextSet {
     ghost use Rattle.std.specs.Prelude.{List, ℕ};
-    ghost use Rattle.lf_classes.specs.Meetings.{AreKeys};
+    ghost use Rattle.lf_classes.specs.views.TextSets.{AreKeys};
 
     ghost Value = { List (List ℕ) };
 

@@ -3,13 +3,13 @@ ghost use Rattle.std.specs.Prelude.{◌≡◌, ◌<◌, ◌≤◌, ◌+◌, ◌+
 ghost use Rattle.lf_ast.specs.Rules.{rule_trees};
 ghost use Rattle.lf_semantics.specs.Listing.{IsCandidate, class_count, class_counts, class_of, class_texts, label_count, label_of, named_at, other_class, universe_of};
 ghost use Rattle.lf_classes.specs.Limits.{Exceeds, IsWithin, Passes, most_classes, most_labels};
-ghost use Rattle.lf_classes.specs.Meetings.{with_star};
-ghost use Rattle.lf_classes.specs.Remembered.{passing_row};
+ghost use Rattle.lf_classes.specs.views.Mentioned.{with_star};
+ghost use Rattle.lf_classes.specs.views.Remembered.{passing_row};
 ghost use Rattle.lf_classes.specs.declared.class_error.ClassError.TheVariants as ClassError;
 
 use crate::class_error::ClassError;
 use crate::classes::Classes;
-use crate::meetings::Meetings;
+use crate::mentions::Mentions;
 use crate::remembered::Remembered;
 use crate::row::Row;
 use crate::shape::Shape;
@@ -19,16 +19,16 @@ use lf_base::{Memory, Seq, Text};
 use std::alloc::Global;
 use std::marker::Model;
 
-/// The most labels that rules may meet.
+/// The most labels that rules may mention.
 const MOST_LABELS: usize = 4096;
 
 /// The most classes that their labels and `*` may have together.
 const MOST_CLASSES: u64 = 65536;
 
-/// The labels that rules meet, and the classes of each label.
+/// The labels that rules mention, and the classes of each label.
 ///
-/// Labels are numbered from 0 in the order in which they come first: `__name__`, those that the rules meet, and `*` for every other name. The classes of a label are
-/// numbered too: the empty text, the texts that are met with the label, in the order in which they come first, and 'any other text'.
+/// Labels are numbered from 0 in the order in which they come first: `__name__`, those that the rules mention, and `*` for every other name. The classes of a label are
+/// numbered too: the empty text, the texts that are mentioned with the label, in the order in which they come first, and 'any other text'.
 ///
 /// It may remember which classes of a label pass a pattern, which changes nothing of what it is.
 #[derive(Drop)]
@@ -43,7 +43,7 @@ pub struct Universe {
 
 impl Model for Universe {
     ghost use Rattle.lf_semantics.specs.Listing.{Listing};
-    ghost use Rattle.lf_classes.specs.UniverseParts.{HasParts};
+    ghost use Rattle.lf_classes.specs.views.UniverseParts.{HasParts};
 
     ghost Value = { Listing };
 
@@ -55,7 +55,7 @@ impl Model for Universe {
 impl Universe {
     /// The universe of rules.
     ///
-    /// `TooManyLabels` is answered where the rules meet more than 4,096 labels, and else `TooManyClasses` where these have more than 65,536 classes together.
+    /// `TooManyLabels` is answered where the rules mention more than 4,096 labels, and else `TooManyClasses` where these have more than 65,536 classes together.
     pub fn build(alloc: Global, rules: &Seq<Rule>) -> Result<Universe, ClassError>
         // What is answered is the universe.
         ensures found { IfOk result (λ universe. universe ≡ universe_of (rule_trees rules.now)) }
@@ -64,10 +64,10 @@ impl Universe {
         // What is refused passes a limit, and the count is that of the rules.
         ensures refused { IfErr result (Passes (rule_trees rules.now)) }
     {
-        let mut meetings = Meetings::new(alloc)?;
-        meetings.meet_rules(alloc, rules.as_slice())?;
-        check_limits(&meetings)?;
-        Universe::of(alloc, meetings)
+        let mut mentions = Mentions::new(alloc)?;
+        mentions.mention_rules(alloc, rules.as_slice())?;
+        check_limits(&mentions)?;
+        Universe::of(alloc, mentions)
     }
 
     /// How many labels there are, `*` among them. Beside it stands what is known of every universe.
@@ -187,13 +187,13 @@ impl Universe {
         self.remembered.get(label as usize, op, pattern)
     }
 
-    /// The universe of what was met.
-    fn of(alloc: Global, meetings: Meetings) -> Result<Universe, ClassError>
-        requires { IsWithin (with_star meetings) }
-        ensures found { IfOk result (λ universe. universe ≡ with_star meetings) }
+    /// The universe of what was mentioned.
+    fn of(alloc: Global, mentions: Mentions) -> Result<Universe, ClassError>
+        requires { IsWithin (with_star mentions) }
+        ensures found { IfOk result (λ universe. universe ≡ with_star mentions) }
         ensures memory { IfErr result (λ e. e ≡ ClassError.Memory) }
     {
-        let (names, texts) = meetings.into_parts();
+        let (names, texts) = mentions.into_parts();
         let named = classes_of(alloc, texts)?;
         let shape = Shape::of(alloc, counts(alloc, named.as_slice())?)?;
         let star = Text::of(alloc, "*")?;
@@ -210,18 +210,18 @@ impl Universe {
 }
 
 /// Refuses what passes a limit: the labels first, and then the classes.
-fn check_limits(meetings: &Meetings) -> Result<(), ClassError>
-    ensures labels { OnOk result (label_count meetings.now ≤ most_labels) }
-    ensures classes { OnOk result (class_count (with_star meetings.now) ≤ most_classes) }
-    ensures refused { IfErr result (Exceeds (with_star meetings.now)) }
+fn check_limits(mentions: &Mentions) -> Result<(), ClassError>
+    ensures labels { OnOk result (label_count mentions.now ≤ most_labels) }
+    ensures classes { OnOk result (class_count (with_star mentions.now) ≤ most_classes) }
+    ensures refused { IfErr result (Exceeds (with_star mentions.now)) }
 {
-    let labels = meetings.labels();
+    let labels = mentions.labels();
     if labels > MOST_LABELS {
         return Err(ClassError::TooManyLabels {
             found: labels as u64,
         });
     }
-    let classes = meetings.classes()?;
+    let classes = mentions.classes()?;
     if classes > MOST_CLASSES {
         return Err(ClassError::TooManyClasses { found: classes });
     }

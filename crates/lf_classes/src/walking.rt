@@ -1,134 +1,189 @@
-//! What rules and their expressions meet, in the order of their text.
-ghost use Rattle.std.specs.Prelude.{◌≡◌, OnOk};
+//! What rules and their expressions mention, in the order of their text.
+ghost use Rattle.std.specs.Prelude.{◌≡◌, ◌++◌, [], cond, OnOk};
 ghost use Rattle.lf_ast.specs.Arguments.{texts_of};
 ghost use Rattle.lf_ast.specs.Functions.{aggregation, function_named};
 ghost use Rattle.lf_ast.specs.Rules.{rule_tree, rule_trees};
-ghost use Rattle.lf_ast.specs.Tree.{tree, trees};
-ghost use Rattle.lf_semantics.specs.Mentions.{arguments_mentions, call_mentions, effect_mentions, group_names, grouped_mentions, mentions, names_mentions, rule_mentions, rules_mentions, stands_first};
-ghost use Rattle.lf_classes.specs.Meetings.{met_all};
+ghost use Rattle.lf_ast.specs.Tree.{trees};
+ghost use Rattle.lf_semantics.specs.Mentions.{group_names, matchers_mentions, name_mentions, names_mentions, rule_mentions, rules_mentions, stands_first};
+ghost use Rattle.lf_classes.specs.views.Mentioned.{called_before, called_behind, mentioned_all, mentioned_before, mentioned_behind};
 
-use crate::meetings::{METRIC, Meetings};
-use lf_ast::{Agg, Expr, Function, Grouping, LabelEffect, Name, Rule, span_of};
-use lf_base::Memory;
+use crate::mentions::{METRIC, Mentions};
+use lf_ast::walk::{Parts, Visitor, visit};
+use lf_ast::{Agg, Expr, Function, Grouping, Matcher, Name, Rule, span_of};
+use lf_base::{Memory, Text};
 use std::alloc::Global;
 
-impl Meetings {
-    /// Meets what rules name.
-    pub fn meet_rules(&mut self, alloc: Global, rules: &[Rule]) -> Result<(), Memory>
-        ensures { OnOk result (self.new ≡ met_all self.old (rules_mentions (rule_trees rules.now))) }
+impl Mentions {
+    /// Mentions what rules name.
+    pub fn mention_rules(&mut self, alloc: Global, rules: &[Rule]) -> Result<(), Memory>
+        ensures { OnOk result (self.new ≡ mentioned_all self.old (rules_mentions (rule_trees rules.now))) }
     {
         for rule in rules {
-            self.meet_rule(alloc, rule)?;
+            self.mention_rule(alloc, rule)?;
         }
         Ok(())
     }
 
-    /// Meets what a rule names: its expression's labels, and then the name that it records and the labels that it sets. An alert records nothing.
-    fn meet_rule(&mut self, alloc: Global, rule: &Rule) -> Result<(), Memory>
-        ensures { OnOk result (self.new ≡ met_all self.old (rule_mentions (rule_tree rule.now))) }
+    /// Mentions what a rule names: its expression's labels, and then the name that it records and the labels that it sets. An alert records nothing.
+    fn mention_rule(&mut self, alloc: Global, rule: &Rule) -> Result<(), Memory>
+        ensures { OnOk result (self.new ≡ mentioned_all self.old (rule_mentions (rule_tree rule.now))) }
     {
-        self.meet_expr(alloc, &rule.expr)?;
+        visit(alloc, self, &rule.expr)?;
         if rule.alert {
             return Ok(());
         }
-        self.meet_text(alloc, METRIC, rule.name.as_str())?;
-        self.meet_set(alloc, rule.labels.as_slice())
+        self.mention_text(alloc, METRIC, rule.name.as_str())?;
+        self.mention_set(alloc, rule.labels.as_slice())
+    }
+}
+
+// Each expression is gone into for what it names itself, so that the deepest need no deep stack.
+impl Visitor for Mentions {
+    ghost use Rattle.lf_semantics.specs.Mentions.{mentions};
+    ghost use Rattle.lf_ast.specs.declared.walk.choosing.Parts.TheVariants.{All};
+    ghost use Rattle.lf_classes.specs.views.Mentioned.{mentioned_all, own_before, own_behind, own_between};
+    ghost use Rattle.lf_classes.specs.views.MentionedAlong.{mentioned_along};
+
+    ghost visited = { λ seen e. mentioned_all seen (mentions e) };
+
+    ghost before = { λ seen e. mentioned_all seen (own_before e) };
+
+    ghost between = { λ seen e. mentioned_all seen (own_between e) };
+
+    ghost behind = { λ seen e. mentioned_all seen (own_behind e) };
+
+    ghost needed = { λ e. All };
+
+    ghost steps = { mentioned_along };
+
+    fn needed(&self, _expr: &Expr) -> Parts {
+        Parts::All
     }
 
-    /// Meets what an expression names.
-    #[cycle(walk)]
-    fn meet_expr(&mut self, alloc: Global, expr: &Expr) -> Result<(), Memory>
-        ensures { OnOk result (self.new ≡ met_all self.old (mentions (tree expr.now))) }
-    {
+    fn before(&mut self, alloc: Global, expr: &Expr) -> Result<(), Memory> {
         match expr {
-            Expr::Number { .. } | Expr::Str { .. } => Ok(()),
             Expr::Selector { name, matchers, .. } => {
-                self.meet_name(alloc, name)?;
-                self.meet_matchers(alloc, matchers.as_slice())
+                self.mention_selector(alloc, name, matchers.as_slice())
             }
-            Expr::Subquery { of, .. } | Expr::Paren { of, .. } | Expr::Unary { of, .. } => {
-                self.meet_expr(alloc, of)
+            Expr::Call { name, args, .. } => {
+                self.mention_call(alloc, name.as_str(), args.as_slice())
             }
-            Expr::Binary {
-                modifier,
-                left,
-                right,
-                ..
-            } => {
-                self.meet_expr(alloc, left)?;
-                self.meet_modifier(alloc, modifier)?;
-                self.meet_expr(alloc, right)
-            }
-            Expr::Call { name, args, .. } => self.meet_call(alloc, name.as_str(), args.as_slice()),
             Expr::Aggregate {
                 op,
                 grouping,
                 args,
                 ..
-            } => self.meet_aggregate(alloc, *op, grouping, args.as_slice()),
+            } => self.mention_aggregate(alloc, *op, grouping, args.as_slice()),
+            Expr::Number { .. }
+            | Expr::Str { .. }
+            | Expr::Subquery { .. }
+            | Expr::Paren { .. }
+            | Expr::Unary { .. }
+            | Expr::Binary { .. } => Ok(()),
         }
     }
 
-    /// Meets what a call names.
-    #[cycle(walk)]
-    #[inline(never)]
-    fn meet_call(&mut self, alloc: Global, name: &str, args: &[Expr]) -> Result<(), Memory>
-        ensures { OnOk result (self.new ≡ met_all self.old (call_mentions (function_named name.now) (texts_of (trees args.now)) (arguments_mentions (trees args.now)))) }
+    fn between(&mut self, alloc: Global, expr: &Expr) -> Result<(), Memory> {
+        match expr {
+            Expr::Binary { modifier, .. } => self.mention_modifier(alloc, modifier),
+            _ => Ok(()),
+        }
+    }
+
+    fn behind(&mut self, alloc: Global, expr: &Expr) -> Result<(), Memory> {
+        match expr {
+            Expr::Call { name, args, .. } => {
+                self.mention_behind_call(alloc, name.as_str(), args.as_slice())
+            }
+            Expr::Aggregate {
+                op,
+                grouping,
+                args,
+                ..
+            } => self.mention_behind_aggregate(alloc, *op, grouping, args.as_slice()),
+            _ => Ok(()),
+        }
+    }
+}
+
+impl Mentions {
+    /// Mentions what a selector names.
+    fn mention_selector(
+        &mut self,
+        alloc: Global,
+        name: &Option<Text>,
+        matchers: &[Matcher],
+    ) -> Result<(), Memory>
+        ensures { OnOk result (self.new ≡ mentioned_all self.old (name_mentions name.now ++ matchers_mentions matchers.now)) }
+    {
+        self.mention_name(alloc, name)?;
+        self.mention_matchers(alloc, matchers)
+    }
+
+    /// Mentions what a call names before its arguments.
+    fn mention_call(&mut self, alloc: Global, name: &str, args: &[Expr]) -> Result<(), Memory>
+        ensures { OnOk result (self.new ≡ mentioned_all self.old (called_before (function_named name.now) (texts_of (trees args.now)))) }
     {
         match Function::named(name) {
-            Some(function) => self.meet_operands(alloc, function.labels, args),
-            None => self.meet_args(alloc, args),
+            Some(function) => self.mention_before(alloc, function.labels, args),
+            None => Ok(()),
         }
     }
 
-    /// Meets what an aggregation names: its grouping before its arguments, or behind them.
-    #[cycle(walk)]
-    #[inline(never)]
-    fn meet_aggregate(
+    /// Mentions what a call names behind its arguments.
+    fn mention_behind_call(
+        &mut self,
+        alloc: Global,
+        name: &str,
+        args: &[Expr],
+    ) -> Result<(), Memory>
+        ensures { OnOk result (self.new ≡ mentioned_all self.old (called_behind (function_named name.now) (texts_of (trees args.now)))) }
+    {
+        match Function::named(name) {
+            Some(function) => self.mention_behind(alloc, function.labels, args),
+            None => Ok(()),
+        }
+    }
+
+    /// Mentions what an aggregation names before its arguments: its grouping, if that stands there, and what it reads off its strings.
+    fn mention_aggregate(
         &mut self,
         alloc: Global,
         op: Agg,
         grouping: &Grouping,
         args: &[Expr],
     ) -> Result<(), Memory>
-        ensures { OnOk result (self.new ≡ met_all self.old (grouped_mentions (stands_first (group_names grouping.now) (trees args.now)) (names_mentions (group_names grouping.now)) (effect_mentions (aggregation op).labels (texts_of (trees args.now)) (arguments_mentions (trees args.now))))) }
+        ensures { OnOk result (self.new ≡ mentioned_all self.old (cond (stands_first (group_names grouping.now) (trees args.now)) (names_mentions (group_names grouping.now)) [] ++ mentioned_before (aggregation op).labels (texts_of (trees args.now)))) }
     {
-        let effect = Function::of_aggregation(op).labels;
         let names = names_in(grouping);
-        if stands_first(names, args) {
-            self.meet_names(alloc, names)?;
-            return self.meet_operands(alloc, effect, args);
-        }
-        self.meet_operands(alloc, effect, args)?;
-        self.meet_names(alloc, names)
+        self.mention_names_if(alloc, stands_first(names, args), names)?;
+        self.mention_before(alloc, Function::of_aggregation(op).labels, args)
     }
 
-    /// Meets what arguments name, and what a function with this effect on labels reads off its own strings.
-    #[cycle(walk)]
-    #[inline(never)]
-    fn meet_operands(
+    /// Mentions what an aggregation names behind its arguments: what it reads off its strings, and its grouping, if that doesn't stand before them.
+    fn mention_behind_aggregate(
         &mut self,
         alloc: Global,
-        effect: LabelEffect,
+        op: Agg,
+        grouping: &Grouping,
         args: &[Expr],
     ) -> Result<(), Memory>
-        ensures { OnOk result (self.new ≡ met_all self.old (effect_mentions effect (texts_of (trees args.now)) (arguments_mentions (trees args.now)))) }
+        ensures { OnOk result (self.new ≡ mentioned_all self.old (mentioned_behind (aggregation op).labels (texts_of (trees args.now)) ++ cond (stands_first (group_names grouping.now) (trees args.now)) [] (names_mentions (group_names grouping.now)))) }
     {
-        self.meet_before(alloc, effect, args)?;
-        self.meet_args(alloc, args)?;
-        self.meet_behind(alloc, effect, args)
+        let names = names_in(grouping);
+        self.mention_behind(alloc, Function::of_aggregation(op).labels, args)?;
+        self.mention_names_if(alloc, !stands_first(names, args), names)
     }
 
-    /// Meets what arguments name.
-    #[cycle(walk)]
-    #[inline(never)]
-    fn meet_args(&mut self, alloc: Global, args: &[Expr]) -> Result<(), Memory>
-        ensures { OnOk result (self.new ≡ met_all self.old (arguments_mentions (trees args.now))) }
+    /// Mentions labels where they stand here.
+    fn mention_names_if(&mut self, alloc: Global, here: bool, names: &[Name]) -> Result<(), Memory>
+        ensures { OnOk result (self.new ≡ mentioned_all self.old (cond here (names_mentions names.now) [])) }
     {
-        for arg in args {
-            self.meet_expr(alloc, arg)?;
+        if here {
+            self.mention_names(alloc, names)
+        } else {
+            Ok(())
         }
-        Ok(())
     }
 }
 

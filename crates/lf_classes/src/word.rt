@@ -1,6 +1,6 @@
 //! Bits of one word.
 ghost use Rattle.std.specs.Prelude.{◌≡◌, ◌≢◌, ℕ, ◌+◌, ◌*◌, ◌<◌, ◌≤◌, ◌^◌, true, false};
-ghost use Rattle.lf_classes.specs.Bits.{bit, changed};
+ghost use Rattle.lf_classes.specs.views.Bits.{bit, changed};
 
 /// How bits are changed by those of another list.
 #[derive(Clone, Copy)]

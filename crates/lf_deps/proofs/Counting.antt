@@ -7,7 +7,7 @@ use Rattle.std.proofs.lemmas.List.{drop_more, get_or-set_other, get_or-set_same,
 use Rattle.std.proofs.lemmas.List.Elements.{Contains-append_cases, Contains-append_left, Contains-append_right}
 use Rattle.lf_laws.proofs.Members.{behind, first_or_behind, here, none_in}
 use Rattle.lf_semantics.proofs.Places.{eqb-other, eqb-same}
-use Rattle.lf_deps.specs.Queue.{CountsDown, IsLeft, count_left, occurs, occurs_in}
+use Rattle.lf_deps.specs.views.Queue.{CountsDown, IsLeft, count_left, occurs, occurs_in}
 
 pub occurs-append : (s : ℕ) (xs ys : List ℕ) → occurs s (xs ++ ys) ≡ occurs s xs + occurs s ys
 occurs-append s [] ys = omega arith

@@ -4,38 +4,28 @@ use Rattle.std.specs.List.{Contains, flat_map}
 use Rattle.std.specs.Str.{bytes_eq}
 use Rattle.std.proofs.lemmas.Bool.{cases_lt}
 use Rattle.std.proofs.lemmas.Bool.Decides.{nat_tests}
-use Rattle.std.proofs.lemmas.Grind.{flat_map-append}
-use Rattle.std.proofs.lemmas.List.{append-nil, append_assoc, take_all, take_more}
-use Rattle.std.proofs.lemmas.List.Elements.{Contains-append_left, Contains-append_right, Contains-append_cases}
+use Rattle.std.proofs.lemmas.List.{append-nil, append_assoc, take-append-le, take_all, take_more}
+use Rattle.std.proofs.lemmas.List.Elements.{Contains-append_left, Contains-append_right, Contains-append_cases, Contains-get_or}
 use Rattle.lf_ast.specs.Labels.{Bytes}
 use Rattle.lf_ast.specs.Tree.{Tree}
 use Rattle.lf_ast.specs.Rules.{RuleTree}
-use Rattle.lf_classes.specs.Meetings.{with_text}
+use Rattle.lf_classes.specs.views.TextSets.{with_text}
 use Rattle.lf_semantics.specs.Listing.{place}
 use Rattle.lf_laws.proofs.Members.{in_flat_map, behind, here, none_in, same_true, true_same, of_flat_map, only_one}
 use Rattle.lf_semantics.proofs.Places.{at_place}
+use Rattle.lf_graph.proofs.Prefixes.{flat_map_next, prefix_next}
 use Rattle.lf_deps.specs.Reading.{Reads, Selects, SelectsBy, selectors}
 use Rattle.lf_deps.specs.Reading.Reads.{selected, through}
-use Rattle.lf_deps.specs.Search.{AreRead, Grows, IsSearch, ReadsBy, made_by, making}
+use Rattle.lf_deps.specs.views.Search.{AreRead, Grows, IsSearch, ReadsBy, made_by, making}
 
 -- lists
-
-pub text_at : (xs : List Bytes) (k : ℕ) → k < length xs → Contains xs (get_or xs k [])
-text_at [] k h = absurd (omega arith)
-text_at (x ∷ xs) zero h = here x xs
-text_at (x ∷ xs) (suc k) h = behind x xs (get_or xs k []) (text_at xs k (omega arith))
 
 take_none : (xs : List Bytes) → take 0 xs ≡ []
 take_none [] = refl
 take_none (x ∷ xs) = refl
 
-take_suc : (xs more : List Bytes) (k : ℕ) → k < length xs → take (suc k) (xs ++ more) ≡ take k xs ++ get_or xs k [] ∷ []
-take_suc [] more k h = absurd (omega arith)
-take_suc (x ∷ xs) more zero h = ap (λ (l : List Bytes). x ∷ l) (take_none (xs ++ more))
-take_suc (x ∷ xs) more (suc k) h = ap (λ (l : List Bytes). x ∷ l) (take_suc xs more k (omega arith))
-
 take_next : (xs more : List Bytes) (k : ℕ) → k < length xs → take (k + 1) (xs ++ more) ≡ take k xs ++ get_or xs k [] ∷ []
-take_next xs more k h = let e : k + 1 ≡ suc k = omega arith in ap (λ i. take i (xs ++ more)) e ∙ take_suc xs more k h
+take_next xs more k h = take-append-le (k + 1) xs more (omega arith) ∙ take_more xs k [] h
 
 -- lists of names that go on
 
@@ -63,7 +53,7 @@ grows_text xs t = elim (cases_lt (place xs t) (length xs)) [
       let P : Bool → Type 0 = λ b. Grows (t ∷ []) xs (cond b xs (xs ++ t ∷ [])) in
       subst P (sym e) (grows_old (t ∷ []) xs (λ n c.
       let Q : Bytes → Type 0 = λ z. Contains xs z in
-      subst Q (at_place xs t h ∙ only_one t n c) (text_at xs (place xs t) h)))
+      subst Q (at_place xs t h ∙ only_one t n c) (Contains-get_or xs (place xs t) [] h)))
   | inr h ↦
       let e : nat_lt (place xs t) (length xs) ≡ false = grind (arith, nat_tests) in
       let P : Bool → Type 0 = λ b. Grows (t ∷ []) xs (cond b xs (xs ++ t ∷ [])) in
@@ -73,21 +63,14 @@ grows_text xs t = elim (cases_lt (place xs t) (length xs)) [
 pub grows_next : (names : List Bytes) (k : ℕ) (x : Bytes) (a b c : List Bytes) → k < length names → x ≡ get_or names k [] → Grows (take k names) a b → Grows (x ∷ []) b c → Grows (take (k + 1) names) a c
 grows_next names k x a b c h is g s =
     let P : List Bytes → Type 0 = λ l. Grows l a c in
-    subst P (ap (λ (y : Bytes). take k names ++ y ∷ []) is ∙ sym (take_more names k [] h)) (grows_then (take k names) (x ∷ []) a b c g s)
+    subst P (sym (prefix_next names k [] x h is)) (grows_then (take k names) (x ∷ []) a b c g s)
 
 -- one more element's names
 pub grows_more : {X : Type 0} (f : X → List Bytes) (xs : List X) (k : ℕ) (d x : X) (a b c : List Bytes) → k < length xs → x ≡ get_or xs k d → Grows (flat_map f (take k xs)) a b → Grows (f x) b c
     → Grows (flat_map f (take (k + 1) xs)) a c
 grows_more f xs k d x a b c h is g s =
     let P : List Bytes → Type 0 = λ l. Grows l a c in
-    let front : List Bytes = flat_map f (take k xs) in
-    let last : x ∷ [] ≡ get_or xs k d ∷ [] = ap (λ y. y ∷ []) is in
-    let more : front ++ f x ≡ flat_map f (take (k + 1) xs) =
-    ap (λ (l : List Bytes). front ++ l) (sym (append-nil (f x)))
-    ∙ sym (flat_map-append f (take k xs) (x ∷ []))
-    ∙ ap (λ l. flat_map f (take k xs ++ l)) last
-    ∙ ap (flat_map f) (sym (take_more xs k d h)) in
-    subst P more (grows_then front (f x) a b c g s)
+    subst P (sym (flat_map_next f xs k d x h is)) (grows_then (flat_map f (take k xs)) (f x) a b c g s)
 
 pub grows_whole : {X : Type 0} (f : X → List Bytes) (xs : List X) (k : ℕ) (a b : List Bytes) → length xs ≤ k → Grows (flat_map f (take k xs)) a b → Grows (flat_map f xs) a b
 grows_whole f xs k a b h g = let P : List Bytes → Type 0 = λ l. Grows l a b in subst P (ap (flat_map f) (take_all k xs h)) g
@@ -163,7 +146,7 @@ module _ (rules : List RuleTree) (start : List (Option Bytes)) (texts : List Byt
       | inr d ↦
           let name : Bytes = get_or texts next [] in
           let m = making_to rules name n (to n (g.2 n d)) in
-          reads_on rules start name (s.read name (text_at texts next within)) m.0 m.1 m.2 m.3 n m.4
+          reads_on rules start name (s.read name (Contains-get_or texts next [] within)) m.0 m.1 m.2 m.3 n m.4
     ]
 
     followed_still : (name : Bytes) → Contains (take (next + 1) new) name → (n : Bytes) → SelectsBy rules (making rules name) n → Contains new n

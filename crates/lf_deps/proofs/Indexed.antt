@@ -5,42 +5,21 @@ use Rattle.std.specs.List.{Contains}
 use Rattle.std.specs.Str.{bytes_eq}
 use Rattle.std.proofs.lemmas.Bool.{cases_lt}
 use Rattle.std.proofs.lemmas.Bool.Decides.{nat_tests}
-use Rattle.std.proofs.lemmas.List.{append-nil, length-map, map-append}
+use Rattle.std.proofs.lemmas.List.{append-nil, get_or-map, length-map, map-append}
 use Rattle.lf_ast.specs.Labels.{Bytes}
 use Rattle.lf_ast.specs.Rules.{RuleTree}
-use Rattle.lf_classes.specs.Meetings.{with_text}
-use Rattle.lf_classes.proofs.Seen.{first_seen-push}
+use Rattle.lf_classes.specs.views.TextSets.{with_text}
+use Rattle.lf_classes.proofs.RecordedNames.{recorded_more}
 use Rattle.lf_semantics.specs.Environments.{names_recorded, recorded_names}
-use Rattle.lf_semantics.specs.Listing.{first_seen, place}
+use Rattle.lf_semantics.specs.Listing.{place}
 use Rattle.lf_semantics.proofs.ListingLaws.{AreDistinct, first_seen_distinct, in_first_seen, place_within}
 use Rattle.lf_laws.proofs.Members.{behind, here, other_false, same_true, true_same}
-use Rattle.lf_semantics.proofs.Places.{place_le}
-use Rattle.lf_graph.specs.Buckets.{put_at}
-use Rattle.lf_deps.specs.Makers.{with_maker, with_room}
+use Rattle.lf_semantics.proofs.Places.{at_place, first_is, later_is, place_last, place_le}
+use Rattle.lf_graph.specs.views.Buckets.{put_at}
+use Rattle.lf_deps.specs.views.Makers.{with_maker, with_room}
 use Rattle.lf_deps.specs.Reading.{selectors}
-use Rattle.lf_deps.specs.Search.{numbers_of}
-use Rattle.lf_deps.specs.Sources.{IsSourcesOf, Sources, records}
-
--- recorded names
-
-names_more : (rules : List RuleTree) (r : RuleTree) → names_recorded (rules ++ r ∷ []) ≡ cond r.alert (names_recorded rules) (names_recorded rules ++ r.name ∷ [])
-names_more [] r = refl
-names_more (x ∷ rules) r = by x.alert r.alert (names_more rules r)
-  where
-    by : (a b : Bool) → names_recorded (rules ++ r ∷ []) ≡ cond b (names_recorded rules) (names_recorded rules ++ r.name ∷ [])
-        → cond a (names_recorded (rules ++ r ∷ [])) (x.name ∷ names_recorded (rules ++ r ∷ []))
-        ≡ cond b (cond a (names_recorded rules) (x.name ∷ names_recorded rules)) (cond a (names_recorded rules) (x.name ∷ names_recorded rules) ++ r.name ∷ [])
-    by true true e = e
-    by true false e = e
-    by false true e = ap (λ (xs : List Bytes). x.name ∷ xs) e
-    by false false e = ap (λ (xs : List Bytes). x.name ∷ xs) e
-
-recorded_more : (rules : List RuleTree) (r : RuleTree) → recorded_names (rules ++ r ∷ []) ≡ cond r.alert (recorded_names rules) (with_text (recorded_names rules) r.name)
-recorded_more rules r = ap first_seen (names_more rules r) ∙ by r.alert
-  where
-    by : (b : Bool) → first_seen (cond b (names_recorded rules) (names_recorded rules ++ r.name ∷ [])) ≡ cond b (first_seen (names_recorded rules)) (with_text (first_seen (names_recorded rules)) r.name)
-    by true = refl
-    by false = first_seen-push (names_recorded rules) r.name
+use Rattle.lf_deps.specs.views.Search.{numbers_of}
+use Rattle.lf_deps.specs.views.Sources.{IsSourcesOf, Sources, records}
 
 -- numbers of rules
 
@@ -90,14 +69,6 @@ map_same : (f g : Bytes → List ℕ) (names : List Bytes) → ((x : Bytes) → 
 map_same f g [] h = refl
 map_same f g (x ∷ names) h = ap (λ (l : List ℕ). l ∷ map f names) (h x (here x names)) ∙ ap (λ (l : List (List ℕ)). g x ∷ l) (map_same f g names (λ y c. h y (behind x names y c)))
 
-first_is : (b : Bool) (p : ℕ) → 0 ≡ cond (not b) (1 + p) 0 → b ≡ true
-first_is true p e = refl
-first_is false p e = absurd (omega (arith, e))
-
-later_is : (b : Bool) (p k : ℕ) → suc k ≡ cond (not b) (1 + p) 0 → (b ≡ false) × (k ≡ p)
-later_is true p k e = absurd (omega (arith, e))
-later_is false p k e = (refl, omega (arith, e))
-
 -- only the list of one name changes
 set_one : (f g : Bytes → List ℕ) (names : List Bytes) (name : Bytes) (v : List ℕ) (k : ℕ) → k ≡ place names name → k < length names → AreDistinct names → v ≡ g name → ((x : Bytes) → x ≢ name → f x ≡ g x)
     → slice_set (map f names) k v ≡ map g names
@@ -113,21 +84,13 @@ set_one f g (x ∷ names) name v (suc k) e h d is other =
     ∙ ap (λ (l : List (List ℕ)). g x ∷ l) (set_one f g names name v k l.1 (omega arith) d.1 is other)
 
 at_one : (f : Bytes → List ℕ) (names : List Bytes) (name : Bytes) (k : ℕ) → k ≡ place names name → k < length names → get_or (map f names) k [] ≡ f name
-at_one f [] name k e h = absurd (omega arith)
-at_one f (x ∷ names) name zero e h = ap f (true_same x name (first_is (bytes_eq x name) (place names name) e))
-at_one f (x ∷ names) name (suc k) e h = at_one f names name k (later_is (bytes_eq x name) (place names name) k e).1 (omega arith)
+at_one f names name k e h =
+    let P : ℕ → Type 0 = λ i. i < length names in
+    get_or-map f names k [] [] h ∙ ap (λ i. f (get_or names i [])) e ∙ ap f (at_place names name (subst P e h))
 
 -- the numbers of a name that has a place
 pub numbers_at : (f : Bytes → List ℕ) (names : List Bytes) (name : Bytes) → place names name < length names → get_or (map f names) (place names name) [] ≡ f name
 numbers_at f names name h = at_one f names name (place names name) refl h
-
-place_last : (xs : List Bytes) (n : Bytes) → length xs ≤ place xs n → place (xs ++ n ∷ []) n ≡ length xs
-place_last [] n h = rw (same_true n n refl) refl
-place_last (x ∷ xs) n h = by (bytes_eq x n) h (place_last xs n)
-  where
-    by : (b : Bool) → suc (length xs) ≤ cond (not b) (1 + place xs n) 0 → (length xs ≤ place xs n → place (xs ++ n ∷ []) n ≡ length xs) → cond (not b) (1 + place (xs ++ n ∷ []) n) 0 ≡ suc (length xs)
-    by true h rest = absurd (omega (arith, h))
-    by false h rest = let e = rest (omega (arith, h)) in omega (arith, e)
 
 -- a name that is there, or goes behind the others, has a place
 module _ (names : List Bytes) (name : Bytes) where

@@ -4,11 +4,10 @@ mod Followed
 mod Indexed
 pub mod LookedUp
 mod NamePaths
-mod Numbered
+pub mod Numbered
 pub mod OrderLaws
 mod Ordered
 mod Reached
 pub mod RuleTrees
-pub mod Selected
 mod Settling
 mod Taking

@@ -11,13 +11,14 @@ use Rattle.lf_semantics.specs.Environments.{names_recorded, recorded_names}
 use Rattle.lf_semantics.specs.Listing.{place}
 use Rattle.lf_semantics.proofs.ListingLaws.{in_first_seen, of_first_seen, place_within}
 use Rattle.lf_laws.proofs.Members.{in_flat_map, here, same_true, true_same, of_flat_map, only_one}
-use Rattle.lf_deps.specs.Index.{IsIndex, chosen_by, makers_of}
+use Rattle.lf_deps.specs.views.Index.{IsIndex, chosen_by, makers_of}
 use Rattle.lf_deps.specs.Reading.{SelectsBy, selectors}
-use Rattle.lf_deps.specs.Search.{chosen, chosen_all, making, numbers_of}
-use Rattle.lf_deps.specs.Sources.{IsSourcesOf, Sources, records}
+use Rattle.lf_deps.specs.views.Search.{chosen, chosen_all, making, numbers_of}
+use Rattle.lf_deps.specs.views.Sources.{IsSourcesOf, Sources, records}
 use Rattle.lf_deps.proofs.Followed.{making_from, making_to}
 use Rattle.lf_deps.proofs.Indexed.{none_record, numbers_at, sources_full}
-use Rattle.lf_deps.proofs.Numbered.{in_numbers, in_rules, number_of, number_within, of_numbers}
+use Rattle.lf_deps.proofs.Numbered.{at_number, in_numbers, number_of, of_numbers}
+use Rattle.std.proofs.lemmas.Option.{slice_get_within}
 
 selected_in : (rules : List RuleTree) (k : ℕ) (r : RuleTree) → slice_get rules k ≡ Some r → get_or (map (λ (x : RuleTree). selectors x.expr) rules) k [] ≡ selectors r.expr
 selected_in [] k r e = absurd (cc)
@@ -91,7 +92,7 @@ module _ (rules : List RuleTree) (s : Sources) (is : IsSourcesOf rules s) where
       let f = of_flat_map chosen_at (makers_of s name) n c in
       let m = recorded_to name f.0 f.1 in
       let P : List (Option Bytes) → Type 0 = λ l. Contains (chosen_all s.names l) n in
-      making_from rules name n m.0 (in_rules rules f.0 m.0 m.1) m.2 m.3 (chosen_to (selectors m.0.expr) n (subst P (selected_is f.0 m.0 m.1) f.2))
+      making_from rules name n m.0 (at_number rules f.0 m.0 m.1) m.2 m.3 (chosen_to (selectors m.0.expr) n (subst P (selected_is f.0 m.0 m.1) f.2))
 
   pub made_from : (name n : Bytes) → SelectsBy rules (making rules name) n → Contains (chosen_by s (makers_of s name)) n
   made_from name n h =
@@ -102,7 +103,7 @@ module _ (rules : List RuleTree) (s : Sources) (is : IsSourcesOf rules s) where
       in_flat_map chosen_at (makers_of s name) k.0 n (subst Q m.3 (recorded_from m.0 k.0 k.1 m.2)) (subst P (sym (selected_is k.0 m.0 k.1)) (chosen_from (selectors m.0.expr) n m.4))
 
   makers_in : (name : Bytes) (k : ℕ) → Contains (makers_of s name) k → k < length s.selected
-  makers_in name k c = let r = recorded_to name k c in let w = number_within rules k r.0 r.1 in omega (arith, w, selected_count)
+  makers_in name k c = let r = recorded_to name k c in let w = slice_get_within rules k r.0 r.1 in omega (arith, w, selected_count)
 
 -- each number is that of a rule
 pub makers_within : (s : Sources) → IsIndex s → (name : Bytes) (k : ℕ) → Contains (makers_of s name) k → k < length s.selected

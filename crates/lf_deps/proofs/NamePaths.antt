@@ -17,18 +17,19 @@ use Rattle.lf_semantics.specs.Listing.{StandOnce, place}
 use Rattle.lf_semantics.proofs.ListingLaws.{apart, first_seen_distinct, in_first_seen, of_first_seen, place_within}
 use Rattle.lf_laws.proofs.Members.{in_flat_map, here, none_in, of_flat_map}
 use Rattle.lf_semantics.proofs.Places.{place_at, same_text}
-use Rattle.lf_deps.specs.Index.{IsIndex, makers_at, makers_of}
-use Rattle.lf_deps.specs.Links.{source_of}
-use Rattle.lf_deps.specs.Names.{IsNameGraphOf, edges_of, nodes_by, nodes_of}
+use Rattle.lf_deps.specs.views.Index.{IsIndex, makers_at, makers_of}
+use Rattle.lf_deps.specs.views.Links.{source_of}
+use Rattle.lf_deps.specs.views.Names.{IsNameGraphOf, edges_of, nodes_by, nodes_of}
 use Rattle.lf_deps.specs.Reading.{IsCyclic, Reaches, Reads, SelectsBy, selectors}
 use Rattle.lf_deps.specs.Reading.Reads.{selected, through}
-use Rattle.lf_deps.specs.Search.{ReadsBy}
-use Rattle.lf_deps.specs.Sources.{IsSourcesOf, Sources}
+use Rattle.lf_deps.specs.views.Search.{ReadsBy}
+use Rattle.lf_deps.specs.views.Sources.{IsSourcesOf, Sources}
 use Rattle.lf_deps.proofs.Ascending.{in_range, of_range}
 use Rattle.lf_deps.proofs.Followed.{reads_on}
 use Rattle.lf_deps.proofs.Indexed.{sources_full}
 use Rattle.lf_deps.proofs.LookedUp.{recorded_from, recorded_to, selected_count, selected_is}
-use Rattle.lf_deps.proofs.Numbered.{in_rules, number_of, number_within}
+use Rattle.lf_deps.proofs.Numbered.{at_number, number_of}
+use Rattle.std.proofs.lemmas.Option.{slice_get_within}
 use Rattle.lf_deps.proofs.Ordered.{named_source, recorded_in, source_below, source_named}
 use Rattle.lf_deps.proofs.Reached.{in_at, reads_to}
 
@@ -110,7 +111,7 @@ module _ (rules : List RuleTree) (s : Sources) (is : IsSourcesOf rules s) where
     | inl h ↦
         let P : List ℕ → Type 0 = λ l. Contains l k in
         let r = recorded_to rules s is (get_or s.names u []) k (subst P (makers_is u h) c) in
-        (r.0, r.1, (in_rules rules k r.0 r.1, r.2, ap (place s.names) r.3 ∙ own_place u h))
+        (r.0, r.1, (at_number rules k r.0 r.1, r.2, ap (place s.names) r.3 ∙ own_place u h))
     | inr h ↦
         let P : List ℕ → Type 0 = λ l. Contains l k in
         let full = sources_full rules s is in
@@ -120,7 +121,7 @@ module _ (rules : List RuleTree) (s : Sources) (is : IsSourcesOf rules s) where
   maker_within : (u k : ℕ) → Contains (makers_at s u) k → k < length s.selected
   maker_within u k c =
       let r = maker_at u k c in
-      let w = number_within rules k r.0 r.1 in
+      let w = slice_get_within rules k r.0 r.1 in
       omega (arith, w, selected_count rules s is)
 
   abbrev IsEdge : ℕ → ℕ → Type 0
@@ -235,7 +236,7 @@ module _ (rules : List RuleTree) (s : Sources) (is : IsSourcesOf rules s) where
     pub reached_from : (k : ℕ) → IsRule k → IsMaker k
     reached_from k h =
         let u : ℕ = place s.names h.0.name in
-        (u, (led u).1 (reads_led e h.0.name (placed h.0 (in_rules rules k h.0 h.1) h.2.0) h.2.1), recorded_from rules s is h.0 k h.1 h.2.0)
+        (u, (led u).1 (reads_led e h.0.name (placed h.0 (at_number rules k h.0 h.1) h.2.0) h.2.1), recorded_from rules s is h.0 k h.1 h.2.0)
 
 -- the graph of an index
 module _ (s : Sources) (index : IsIndex s) where

@@ -2,9 +2,10 @@
 use Rattle.std.proofs.Common.{◌≡◌, ℕ, zero, suc, ◌+◌, ◌<◌, Bool, true, false, cond, List, [], ◌∷◌, length, Some, inl, inr, refl, sym, ◌∙◌, ap, subst, arith}
 use Rattle.std.specs.Prelude.{slice_get}
 use Rattle.std.specs.List.{Contains}
+use Rattle.std.proofs.lemmas.Option.{get_or_from_slice_get, slice_get_within}
 use Rattle.lf_ast.specs.Rules.{RuleTree}
 use Rattle.lf_laws.proofs.Members.{behind, first_or_behind, here, none_in}
-use Rattle.lf_deps.specs.Search.{numbers_of}
+use Rattle.lf_deps.specs.views.Search.{numbers_of}
 
 module _ (test : RuleTree → Bool) where
   pub in_numbers : (rules : List RuleTree) (j i k : ℕ) (r : RuleTree) → k ≡ j + i → slice_get rules i ≡ Some r → test r ≡ true → Contains (numbers_of test j rules) k
@@ -37,16 +38,10 @@ module _ (test : RuleTree → Bool) where
 
 -- rules and their numbers
 
-pub in_rules : (rules : List RuleTree) (k : ℕ) (r : RuleTree) → slice_get rules k ≡ Some r → Contains rules r
-in_rules [] k r e = absurd (cc)
-in_rules (x ∷ rules) zero r e = let f : x ≡ r = cc in let P : RuleTree → Type 0 = λ z. Contains (x ∷ rules) z in subst P f (here x rules)
-in_rules (x ∷ rules) (suc k) r e = behind x rules r (in_rules rules k r e)
+-- what a list has at a place stands in it
+pub at_number : {X : Type 0} (xs : List X) (k : ℕ) (x : X) → slice_get xs k ≡ Some x → Contains xs x
+at_number xs k x e = (k, slice_get_within xs k x e, get_or_from_slice_get xs k x x e)
 
 pub number_of : (rules : List RuleTree) (r : RuleTree) → Contains rules r → (k : ℕ) × (slice_get rules k ≡ Some r)
 number_of [] r c = absurd (none_in r c)
 number_of (x ∷ rules) r c = elim (first_or_behind x rules r c) [ inl e ↦ (0, ap (λ (z : RuleTree). Some z) e) | inr d ↦ let n = number_of rules r d in (suc n.0, n.1) ]
-
-pub number_within : (rules : List RuleTree) (k : ℕ) (r : RuleTree) → slice_get rules k ≡ Some r → k < length rules
-number_within [] k r e = absurd (cc)
-number_within (x ∷ rules) zero r e = omega arith
-number_within (x ∷ rules) (suc k) r e = let h = number_within rules k r e in omega arith

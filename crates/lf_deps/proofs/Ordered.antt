@@ -13,9 +13,9 @@ use Rattle.lf_laws.proofs.Members.{in_flat_map, behind, first_or_behind, here, n
 use Rattle.lf_semantics.proofs.Members.{in_filter, of_filter}
 use Rattle.lf_semantics.proofs.ListingLaws.{in_first_seen, place_within}
 use Rattle.lf_semantics.proofs.Places.{eqb-other, place_le, same_text}
-use Rattle.lf_deps.specs.Links.{IsLinksOf, recorded_at, recorded_by, source_of, waited_by}
+use Rattle.lf_deps.specs.views.Links.{IsLinksOf, recorded_at, recorded_by, source_of, waited_by}
 use Rattle.lf_deps.specs.Ordering.{IsNext, IsOrderOf, Waits, without}
-use Rattle.lf_deps.specs.Queue.{IsHeld, IsLeft, IsNextOf, IsReady, IsWhole, TakesNext}
+use Rattle.lf_deps.specs.views.Queue.{IsHeld, IsLeft, IsNextOf, IsReady, IsWhole, TakesNext}
 use Rattle.lf_deps.specs.Reading.{SelectsBy, selectors}
 use Rattle.lf_deps.specs.declared.links.Links.{Links}
 use Rattle.lf_deps.specs.declared.queue.Queue.{Queue}

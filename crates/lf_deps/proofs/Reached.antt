@@ -9,12 +9,12 @@ use Rattle.lf_laws.proofs.Members.{first_or_behind, none_in}
 use Rattle.lf_semantics.proofs.Places.{at_place}
 use Rattle.lf_deps.specs.Reading.{AreApart, Reads, selectors}
 use Rattle.lf_deps.specs.Reading.Reads.{selected, through}
-use Rattle.lf_deps.specs.Search.{AreRead, ReadsBy}
-use Rattle.lf_deps.proofs.Followed.{text_at}
+use Rattle.lf_deps.specs.views.Search.{AreRead, ReadsBy}
+use Rattle.std.proofs.lemmas.List.Elements.{Contains-get_or}
 
 -- a text has a place among texts if it is one of them
 pub in_at : (texts : List Bytes) (n : Bytes) → place texts n < length texts → Contains texts n
-in_at texts n h = let P : Bytes → Type 0 = λ z. Contains texts z in subst P (at_place texts n h) (text_at texts (place texts n) h)
+in_at texts n h = let P : Bytes → Type 0 = λ z. Contains texts z in subst P (at_place texts n h) (Contains-get_or texts (place texts n) [] h)
 
 -- what an expression reads is what its selectors read
 

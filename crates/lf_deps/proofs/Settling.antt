@@ -6,8 +6,8 @@ use Rattle.std.proofs.lemmas.Bool.{cases_eq, cases_lt}
 use Rattle.std.proofs.lemmas.List.{get_or-set_other, get_or-set_same, get_or_default, length-set}
 use Rattle.std.proofs.lemmas.List.Elements.{Contains-append_left, Contains-get_or, Contains-push, Contains-push_cases}
 use Rattle.lf_laws.proofs.Members.{first_or_behind, here, none_in}
-use Rattle.lf_deps.specs.Links.{waited_by}
-use Rattle.lf_deps.specs.Queue.{IsFree, IsLeft, IsQueue, IsWhole, Settles}
+use Rattle.lf_deps.specs.views.Links.{waited_by}
+use Rattle.lf_deps.specs.views.Queue.{IsFree, IsLeft, IsQueue, IsWhole, Settles}
 use Rattle.lf_deps.specs.declared.links.Links.{Links}
 use Rattle.lf_deps.specs.declared.queue.Queue.{Queue}
 

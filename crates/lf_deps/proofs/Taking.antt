@@ -5,8 +5,8 @@ use Rattle.std.specs.List.{Contains, range_with_len}
 use Rattle.std.proofs.lemmas.Bool.{both_ways, cases_eq, cases_lt}
 use Rattle.std.proofs.lemmas.List.{get_or-replicate, get_or-set_other, get_or-set_same, get_or_past, get_or_read, length-replicate, length-set}
 use Rattle.lf_laws.proofs.Members.{behind, first_or_behind, here, none_in}
-use Rattle.lf_deps.specs.Links.{recorded_by, waited_by}
-use Rattle.lf_deps.specs.Queue.{AreCounts, CountsDown, IsHeld, IsLeft, IsNextOf, IsQueue, IsReady, IsWhole, count_left, occurs, occurs_in}
+use Rattle.lf_deps.specs.views.Links.{recorded_by, waited_by}
+use Rattle.lf_deps.specs.views.Queue.{AreCounts, CountsDown, IsHeld, IsLeft, IsNextOf, IsQueue, IsReady, IsWhole, count_left, occurs, occurs_in}
 use Rattle.lf_deps.specs.declared.links.Links.{Links}
 use Rattle.lf_deps.specs.declared.queue.Queue.{Queue}
 use Rattle.lf_deps.proofs.Ascending.{in_range, of_range}

@@ -1,9 +1,3 @@
-pub mod Index
-pub mod Links
-pub mod Makers
-pub mod Names
 pub mod Ordering
-pub mod Queue
 pub mod Reading
-pub mod Search
-pub mod Sources
+pub mod views

@@ -2,8 +2,8 @@
 ghost use Rattle.std.specs.Prelude.{◌≡◌, ◌++◌, map, IfOk, OnOk};
 ghost use Rattle.std.specs.List.{flat_map};
 ghost use Rattle.lf_ast.specs.Rules.{rule_tree, rule_trees};
-ghost use Rattle.lf_deps.specs.Links.{IsLinksOf, recorded_at, source_of};
-ghost use Rattle.lf_deps.specs.Sources.{IsSourcesOf};
+ghost use Rattle.lf_deps.specs.views.Links.{IsLinksOf, recorded_at, source_of};
+ghost use Rattle.lf_deps.specs.views.Sources.{IsSourcesOf};
 
 use crate::sources::Sources;
 use lf_ast::Rule;

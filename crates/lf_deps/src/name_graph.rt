@@ -1,8 +1,8 @@
 //! The graph of recorded names.
 ghost use Rattle.std.specs.Prelude.{◌≡◌, ◌<◌, ℕ, length, IfOk};
 ghost use Rattle.std.specs.List.{Contains};
-ghost use Rattle.lf_deps.specs.Index.{IsIndex};
-ghost use Rattle.lf_deps.specs.Names.{IsNameGraphOf, edges_of, nodes_by};
+ghost use Rattle.lf_deps.specs.views.Index.{IsIndex};
+ghost use Rattle.lf_deps.specs.views.Names.{IsNameGraphOf, edges_of, nodes_by};
 
 use crate::links::push_sources;
 use crate::queue::numbers;

@@ -2,7 +2,7 @@
 ghost use Rattle.std.specs.Prelude.{◌≡◌, IfOk};
 ghost use Rattle.lf_ast.specs.Rules.{rule_trees};
 ghost use Rattle.lf_deps.specs.Ordering.{IsOrder};
-ghost use Rattle.lf_deps.specs.Sources.{IsSourcesOf};
+ghost use Rattle.lf_deps.specs.views.Sources.{IsSourcesOf};
 
 use crate::links::Links;
 use crate::queue::Queue;

@@ -1,7 +1,7 @@
 //! The rules left to be ordered, and which of them wait.
 ghost use Rattle.std.specs.Prelude.{◌≡◌, ◌≤◌, ◌<◌, ◌+◌, ◌++◌, ℕ, true, [], ◌∷◌, length, replicate, slice_index_or, slice_set, IfOk, OnOk};
 ghost use Rattle.std.specs.List.{Contains, range_with_len};
-ghost use Rattle.lf_deps.specs.Queue.{Chooses, CountsDown, IsLeft, IsQueue, IsReady, IsStart, IsWhole, Settles, TakesNext, occurs, occurs_in};
+ghost use Rattle.lf_deps.specs.views.Queue.{Chooses, CountsDown, IsLeft, IsQueue, IsReady, IsStart, IsWhole, Settles, TakesNext, occurs, occurs_in};
 
 use crate::links::Links;
 use crate::number_set::NumberSet;

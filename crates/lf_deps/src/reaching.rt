@@ -2,8 +2,8 @@
 ghost use Rattle.std.specs.Prelude.{◌≡◌, ◌<◌, ◌↔◌, ◌∷◌, [], ℕ, true, false, length, IfOk, OnOk, slice_index_or};
 ghost use Rattle.std.specs.List.{Contains};
 ghost use Rattle.lf_ast.specs.Labels.{Bytes};
-ghost use Rattle.lf_graph.specs.Listing.{Adds};
-ghost use Rattle.lf_deps.specs.Index.{makers_at};
+ghost use Rattle.lf_graph.specs.views.Listing.{Adds};
+ghost use Rattle.lf_deps.specs.views.Index.{makers_at};
 
 use crate::sources::Sources;
 use lf_base::{Memory, Seq};

@@ -3,10 +3,10 @@ ghost use Rattle.std.specs.Prelude.{◌≡◌, ◌<◌, ◌↔◌, ℕ, List, le
 ghost use Rattle.std.specs.List.{Contains};
 ghost use Rattle.lf_ast.specs.Rules.{RuleTree, rule_trees};
 ghost use Rattle.lf_ast.specs.Tree.{tree};
-ghost use Rattle.lf_deps.specs.Index.{IsIndex};
-ghost use Rattle.lf_deps.specs.Names.{IsNameGraphOf};
+ghost use Rattle.lf_deps.specs.views.Index.{IsIndex};
+ghost use Rattle.lf_deps.specs.views.Names.{IsNameGraphOf};
 ghost use Rattle.lf_deps.specs.Reading.{AreApart, IsCyclic, Reaches};
-ghost use Rattle.lf_deps.specs.Sources.{IsSourcesOf};
+ghost use Rattle.lf_deps.specs.views.Sources.{IsSourcesOf};
 
 use crate::links::sources_of;
 use crate::name_graph::NameGraph;

@@ -3,9 +3,9 @@ ghost use Rattle.std.specs.Prelude.{◌≡◌, ◌<◌, ◌∷◌, [], ℕ, List
 ghost use Rattle.std.specs.List.{Contains};
 ghost use Rattle.lf_ast.specs.Labels.{Bytes};
 ghost use Rattle.lf_ast.specs.Rules.{RuleTree};
-ghost use Rattle.lf_deps.specs.Index.{IsIndex, chosen_by, makers_of};
-ghost use Rattle.lf_deps.specs.Search.{AreRead, Grows, HasAll, IsSearch, chosen, chosen_all};
-ghost use Rattle.lf_deps.specs.Sources.{IsSourcesOf};
+ghost use Rattle.lf_deps.specs.views.Index.{IsIndex, chosen_by, makers_of};
+ghost use Rattle.lf_deps.specs.views.Search.{AreRead, Grows, HasAll, IsSearch, chosen, chosen_all};
+ghost use Rattle.lf_deps.specs.views.Sources.{IsSourcesOf};
 
 use crate::sources::Sources;
 use lf_base::{Memory, Text};

@@ -1,15 +1,15 @@
 //! What an expression selects.
 ghost use Rattle.std.specs.Prelude.{◌≡◌, ◌∷◌, ◌++◌, [], IfOk, OnOk};
-ghost use Rattle.std.specs.List.{flat_map};
-ghost use Rattle.std.specs.Option.{option_copied};
 ghost use Rattle.lf_ast.specs.Functions.{function_named};
-ghost use Rattle.lf_ast.specs.Selectors.{first_equal_name, selected_name};
+ghost use Rattle.lf_ast.specs.Selectors.{selected_name};
 ghost use Rattle.lf_ast.specs.Tree.{tree};
 ghost use Rattle.lf_ast.specs.Types.{is_scalar};
 ghost use Rattle.lf_semantics.specs.Parts.{given_by};
 ghost use Rattle.lf_deps.specs.Reading.{selectors};
+ghost use Rattle.lf_deps.specs.views.Selecting.{is_scalar_call, own_selectors, parts_read};
 
-use lf_ast::{Expr, ExprType, Function, MatchOp, Matcher};
+use lf_ast::walk::{Parts, Visitor, visit};
+use lf_ast::{Expr, Function, Matcher, is_scalar, selected_name};
 use lf_base::{Memory, Seq, Text};
 use std::alloc::Global;
 
@@ -17,56 +17,64 @@ use std::alloc::Global;
 pub(crate) fn selectors(alloc: Global, expr: &Expr) -> Result<Seq<Option<Text>>, Memory>
     ensures { IfOk result (λ found. found ≡ selectors (tree expr.now)) }
 {
-    let mut found = Seq::new(alloc);
-    select(expr, &mut found)?;
-    Ok(found)
+    let mut selecting = Selecting {
+        found: Seq::new(alloc),
+    };
+    visit(alloc, &mut selecting, expr)?;
+    Ok(selecting.found)
 }
 
-/// Puts the selectors of an expression behind those found. It only calls, since it recurs as deep as expressions nest.
+/// Puts the selectors of an expression behind those found.
 ///
 /// Only a call can be a scalar that has selectors: an operator is a scalar where both its sides are.
-#[cycle(select)]
-pub(crate) fn select(expr: &Expr, found: &mut Seq<Option<Text>>) -> Result<(), Memory>
-    ensures { OnOk result (found.new ≡ found.old ++ selectors (tree expr.now)) }
-{
-    match expr {
-        Expr::Number { .. } => Ok(()),
-        Expr::Str { .. } => Ok(()),
-        Expr::Selector { name, matchers, .. } => select_name(name, matchers.as_slice(), found),
-        Expr::Subquery { of, .. } => select(of, found),
-        Expr::Paren { of, .. } => select(of, found),
-        Expr::Unary { of, .. } => select(of, found),
-        Expr::Binary { left, right, .. } => {
-            select(left, found)?;
-            select(right, found)?;
-            Ok(())
-        }
-        Expr::Call { name, args, .. } => {
-            if gives_scalar(name.as_str()) {
-                Ok(())
-            } else {
-                select_all(args.as_slice(), found)
-            }
-        }
-        Expr::Aggregate { args, .. } => select_all(args.as_slice(), found),
-    }
+#[derive(Drop)]
+struct Selecting {
+    found: Seq<Option<Text>>,
 }
 
-/// Puts the selectors of arguments behind those found.
-#[cycle(select)]
-#[inline(never)]
-fn select_all(args: &[Expr], found: &mut Seq<Option<Text>>) -> Result<(), Memory>
-    ensures { OnOk result (found.new ≡ found.old ++ flat_map (λ e. selectors (tree e)) args.now) }
-{
-    for k in 0..args.len() {
-        select(&args[k], found)?;
+impl Visitor for Selecting {
+    ghost use Rattle.lf_deps.specs.views.Visits.{visits};
+
+    ghost visited = { λ s e. record { found = s.found ++ selectors e } };
+
+    ghost before = { λ s e. record { found = s.found ++ own_selectors e } };
+
+    ghost between = { λ s e. s };
+
+    ghost behind = { λ s e. s };
+
+    ghost needed = { λ e. parts_read e };
+
+    fn needed(&self, expr: &Expr) -> Parts {
+        if is_scalar_call(expr) {
+            Parts::Nothing
+        } else {
+            Parts::All
+        }
     }
-    Ok(())
+
+    fn before(&mut self, _alloc: Global, expr: &Expr) -> Result<(), Memory> {
+        match expr {
+            Expr::Selector { name, matchers, .. } => {
+                select(name, matchers.as_slice(), &mut self.found)
+            }
+            _ => Ok(()),
+        }
+    }
+
+    fn between(&mut self, _alloc: Global, _expr: &Expr) -> Result<(), Memory> {
+        Ok(())
+    }
+
+    fn behind(&mut self, _alloc: Global, _expr: &Expr) -> Result<(), Memory> {
+        Ok(())
+    }
+
+    ghost steps = { visits };
 }
 
 /// Puts what a selector selects behind what was found.
-#[inline(never)]
-fn select_name(
+fn select(
     name: &Option<Text>,
     matchers: &[Matcher],
     found: &mut Seq<Option<Text>>,
@@ -79,6 +87,16 @@ fn select_name(
     }
 }
 
+/// Whether an expression is a call that is a scalar.
+fn is_scalar_call(expr: &Expr) -> bool
+    ensures { result ≡ is_scalar_call (tree expr.now) }
+{
+    match expr {
+        Expr::Call { name, .. } => gives_scalar(name.as_str()),
+        _ => false,
+    }
+}
+
 /// Whether a call of this name is a scalar.
 fn gives_scalar(name: &str) -> bool
     ensures { result ≡ is_scalar (given_by (function_named name.now)) }
@@ -87,36 +105,4 @@ fn gives_scalar(name: &str) -> bool
         Some(function) => is_scalar(function.gives),
         None => false,
     }
-}
-
-/// Whether it is the type of scalars.
-fn is_scalar(of: ExprType) -> bool
-    ensures { result ≡ is_scalar of }
-{
-    match of {
-        ExprType::Scalar => true,
-        ExprType::Vector | ExprType::Range | ExprType::Str => false,
-    }
-}
-
-/// The name that a selector says: the one before the braces, or that of the first `=` on the metric name.
-fn selected_name<'a>(name: &'a Option<Text>, matchers: &'a [Matcher]) -> Option<&'a Text>
-    ensures { option_copied result ≡ selected_name name.now matchers.now }
-{
-    match name {
-        Some(name) => Some(name),
-        None => first_equal_name(matchers),
-    }
-}
-
-/// The text of the first `=` on the metric name.
-fn first_equal_name(matchers: &[Matcher]) -> Option<&Text>
-    ensures { option_copied result ≡ first_equal_name matchers.now }
-{
-    for matcher in matchers {
-        if matcher.op == MatchOp::Equal && matcher.label.as_str() == "__name__" {
-            return Some(&matcher.value);
-        }
-    }
-    None
 }

@@ -1,10 +1,10 @@
 //! What each rule selects, and which rules record each name.
 ghost use Rattle.std.specs.Prelude.{◌≡◌, ◌<◌, ◌∷◌, ◌++◌, [], List, cond, length, slice_index_or, IfOk, OnOk};
 ghost use Rattle.lf_ast.specs.Rules.{RuleTree, rule_tree, rule_trees};
-ghost use Rattle.lf_classes.specs.Meetings.{with_text};
-ghost use Rattle.lf_deps.specs.Index.{makers_at, makers_of};
-ghost use Rattle.lf_deps.specs.Makers.{with_maker};
-ghost use Rattle.lf_deps.specs.Sources.{IsSourcesOf};
+ghost use Rattle.lf_classes.specs.views.TextSets.{with_text};
+ghost use Rattle.lf_deps.specs.views.Index.{makers_at, makers_of};
+ghost use Rattle.lf_deps.specs.views.Makers.{with_maker};
+ghost use Rattle.lf_deps.specs.views.Sources.{IsSourcesOf};
 
 use crate::selecting::selectors;
 use lf_ast::Rule;
@@ -25,7 +25,7 @@ pub struct Sources {
 }
 
 impl Model for Sources {
-    ghost use Rattle.lf_deps.specs.Sources.{Sources};
+    ghost use Rattle.lf_deps.specs.views.Sources.{Sources};
 
     ghost Value = { Sources };
 

@@ -8,10 +8,10 @@ use Rattle.std.proofs.lemmas.Bool.Decides.{nat_tests}
 use Rattle.std.proofs.lemmas.List.{get_or-set_other, get_or-set_same, get_or_append_left, get_or_past, length-set}
 use Rattle.std.proofs.lemmas.List.Elements.{Contains-append_cases, Contains-append_left, Contains-append_right}
 use Rattle.lf_ast.specs.Labels.{Bytes}
-use Rattle.lf_classes.specs.Meetings.{with_text}
+use Rattle.lf_classes.specs.views.TextSets.{with_text}
 use Rattle.lf_semantics.specs.Listing.{place}
 use Rattle.lf_laws.proofs.Members.{first_or_behind, here, none_in, same_true, only_one}
-use Rattle.lf_semantics.proofs.Places.{place_le, same_text}
+use Rattle.lf_semantics.proofs.Places.{place_last, place_le, same_text}
 
 -- lists
 
@@ -32,14 +32,6 @@ place_front (x ∷ xs) ys n h = by (bytes_eq x n) h (place_front xs ys n)
     by : (b : Bool) → cond (not b) (1 + place xs n) 0 < suc (length xs) → (place xs n < length xs → place (xs ++ ys) n ≡ place xs n) → cond (not b) (1 + place (xs ++ ys) n) 0 ≡ cond (not b) (1 + place xs n) 0
     by true h rest = refl
     by false h rest = ap (λ k. 1 + k) (rest (omega (arith, h)))
-
-place_last : (xs : List Bytes) (n : Bytes) → length xs ≤ place xs n → place (xs ++ n ∷ []) n ≡ length xs
-place_last [] n h = rw (same_true n n refl) refl
-place_last (x ∷ xs) n h = by (bytes_eq x n) h (place_last xs n)
-  where
-    by : (b : Bool) → suc (length xs) ≤ cond (not b) (1 + place xs n) 0 → (length xs ≤ place xs n → place (xs ++ n ∷ []) n ≡ length xs) → cond (not b) (1 + place (xs ++ n ∷ []) n) 0 ≡ suc (length xs)
-    by true h rest = absurd (omega (arith, h))
-    by false h rest = let e = rest (omega (arith, h)) in omega (arith, e)
 
 -- an empty list behind others has no member
 end_none : (xs : List (List ℕ)) (k : ℕ) → length xs ≤ k → get_or (xs ++ [] ∷ []) k [] ≡ []

@@ -13,7 +13,7 @@ use Rattle.lf_semantics.proofs.RowLaws.{shape_join}
 use Rattle.lf_semantics.proofs.NormalizedRows.{normalized_join}
 use Rattle.lf_semantics.proofs.Members.{clash}
 use Rattle.lf_semantics.proofs.LeqLaws.{live_more, same_length, leq_trans, leq_join_left, leq_join_right}
-use Rattle.lf_fix.specs.Rounds.{missing, missing_in, missing_of}
+use Rattle.lf_fix.specs.views.Rounds.{missing, missing_in, missing_of}
 use Rattle.lf_fix.proofs.Raising.{none_some, some_row}
 
 -- sets

@@ -17,7 +17,7 @@ use Rattle.lf_semantics.proofs.RowLaws.{shape_join}
 use Rattle.lf_semantics.proofs.RowsGrow.{recorded_grows}
 use Rattle.lf_semantics.proofs.NormalizedRows.{normalized_join}
 use Rattle.lf_semantics.proofs.LeqLaws.{bottom_dead, leq_dead, leq_refl, leq_trans, leq_join_left, join_least}
-use Rattle.lf_fix.specs.Rounds.{start}
+use Rattle.lf_fix.specs.views.Rounds.{start}
 
 pub some_row : (a b : Sets) → Some a ≡ Some b → a ≡ b
 some_row a b e = cc

@@ -4,7 +4,7 @@ use Rattle.std.specs.Prelude.{slice_get, slice_index_or}
 use Rattle.std.specs.List.{AllByRecursion, Contains}
 use Rattle.std.specs.Str.{bytes_eq}
 use Rattle.std.proofs.Math.Seq.{take-length}
-use Rattle.std.proofs.lemmas.Option.{get_or_from_slice_get, slice_get_within}
+use Rattle.std.proofs.lemmas.Option.{slice_get_within}
 use Rattle.lf_ast.specs.Labels.{Bytes}
 use Rattle.lf_ast.specs.Rules.{RuleTree}
 use Rattle.lf_flow.specs.Raising.{joined}
@@ -20,23 +20,11 @@ use Rattle.lf_semantics.proofs.ListingLaws.{in_first_seen, of_first_seen}
 use Rattle.lf_semantics.proofs.RowLaws.{shape_bottom}
 use Rattle.lf_semantics.proofs.NormalizedRows.{recorded_row_is, normalized_bottom}
 use Rattle.lf_deps.specs.Ordering.{IsOrder}
+use Rattle.lf_deps.proofs.Numbered.{at_number, number_of}
 use Rattle.lf_deps.proofs.OrderLaws.{each_ordered}
-use Rattle.lf_fix.specs.Rounds.{OthersHold, Rises, StepTells, Tells, TellsOf, missing, start}
+use Rattle.lf_fix.specs.views.Rounds.{OthersHold, Rises, StepTells, Tells, TellsOf, missing, start}
 use Rattle.lf_fix.proofs.Missing.{joined_less}
 use Rattle.lf_fix.proofs.Raising.{environment_joined, names_of, step_under, under_start}
-
--- what a list has at a place stands in it
-pub at_index : {X : Type 0} (xs : List X) (k : ℕ) (x : X) → slice_get xs k ≡ Some x → Contains xs x
-at_index xs k x e = (k, slice_get_within xs k x e, get_or_from_slice_get xs k x x e)
-
--- the rules by their numbers
-
-index_of : (rules : List RuleTree) (r : RuleTree) → Contains rules r → (k : ℕ) × (k < length rules) × (slice_get rules k ≡ Some r)
-index_of [] r c = absurd (none_in r c)
-index_of (x ∷ rules) r c = elim (first_or_behind x rules r c) [
-  | inl q ↦ (0, omega arith, ap (λ (y : RuleTree). Some y) q)
-  | inr d ↦ let i = index_of rules r d in (suc i.0, omega (arith, i.1), i.2)
-]
 
 pub same_rule : (rules : List RuleTree) (k : ℕ) (r s : RuleTree) → slice_get rules k ≡ Some r → slice_get rules k ≡ Some s → r ≡ s
 same_rule rules k r s e f = let a : Some r ≡ Some s = sym e ∙ f in cc
@@ -96,9 +84,9 @@ more_taken (x ∷ order) (suc n) k j at c = elim (first_or_behind x (take (suc n
 ]
 
 -- a step more
-pub tells_more : (u : Listing) (rules : List RuleTree) (order : List ℕ) (n k : ℕ) (env mid later : Environment) (due after : List Bool) (again changed : Bool) → slice_get order n ≡ Some k
-    → Tells u rules order n env mid due again → StepTells u rules k mid later due after changed → Tells u rules order (n + 1) env later after (again || changed)
-tells_more u rules order n k env mid later due after again changed at h t = record {
+pub tells_more : (u : Listing) (rules : List RuleTree) (order : List ℕ) (n k : ℕ) (env mid later : Environment) (dirty after : List Bool) (again changed : Bool) → slice_get order n ≡ Some k
+    → Tells u rules order n env mid dirty again → StepTells u rules k mid later dirty after changed → Tells u rules order (n + 1) env later after (again || changed)
+tells_more u rules order n k env mid later dirty after again changed at h t = record {
   rises = rises_on u rules env mid later h.rises t.rises;
   less = λ e. less again changed refl refl e;
   same = λ e. let b = neither again changed e in t.same b.1 ∙ h.same b.0;
@@ -124,8 +112,8 @@ module _ (u : Listing) (p : IsListing u) (rules : List RuleTree) where
   rises_none env h = record { of_rules = h; below = λ other o d b. b }
 
   -- nothing is stepped yet
-  pub tells_none : (order : List ℕ) (env : Environment) (due : List Bool) → IsEnvironmentOf u rules env → OthersHold u rules env due → Tells u rules order 0 env env due false
-  tells_none order env due of hold = record { rises = rises_none env of; less = λ e. absurd (cc); same = λ e. refl; hold = hold; done = λ e k c. absurd (none_in k c) }
+  pub tells_none : (order : List ℕ) (env : Environment) (dirty : List Bool) → IsEnvironmentOf u rules env → OthersHold u rules env dirty → Tells u rules order 0 env env dirty false
+  tells_none order env dirty of hold = record { rises = rises_none env of; less = λ e. absurd (cc); same = λ e. refl; hold = hold; done = λ e k c. absurd (none_in k c) }
 
   pub alert_tells : (env : Environment) (k : ℕ) (r : RuleTree) → IsEnvironmentOf u rules env → slice_get rules k ≡ Some r → r.alert ≡ true → TellsOf u rules k env env false
   alert_tells env k r h is e = record {
@@ -139,7 +127,7 @@ module _ (u : Listing) (p : IsListing u) (rules : List RuleTree) where
   pub has_row : (env : Environment) (k : ℕ) (r : RuleTree) → IsEnvironmentOf u rules env → slice_get rules k ≡ Some r → r.alert ≡ false → (row : Sets) × (row_named env r.name ≡ Some row)
   has_row env k r h is e =
       let P : List Bytes → Type 0 = λ names. Contains names r.name in
-      row_in env r.name (subst P (sym h.names) (in_first_seen (names_recorded rules) r.name (in_names rules r (at_index rules k r is) e)))
+      row_in env r.name (subst P (sym h.names) (in_first_seen (names_recorded rules) r.name (in_names rules r (at_number rules k r is) e)))
 
   -- rows of the universe have one shape
   pub same_shape : (env : Environment) (n : Bytes) (row other : Sets) → IsEnvironmentOf u rules env → IsRow u row → row_named env n ≡ Some other → map length other ≡ map length row
@@ -154,7 +142,7 @@ module _ (u : Listing) (p : IsListing u) (rules : List RuleTree) where
       record {
         rises =
             let P : Environment → Type 0 = λ x. Rises u rules env x in
-            subst P (sym made) (record { of_rules = environment_joined r.name (recorded_row u env r) u own rules env h; below = λ other o d b. step_under u p rules env other r h o d (at_index rules k r is) e b });
+            subst P (sym made) (record { of_rules = environment_joined r.name (recorded_row u env r) u own rules env h; below = λ other o d b. step_under u p rules env other r h o d (at_number rules k r is) e b });
         less = λ f.
             let P : Environment → Type 0 = λ x. missing x < missing env in
             subst P (sym made) (joined_less u r.name (recorded_row u env r) own env h.environment.rows at.0 at.1 (λ under. clash f ((tells at.0 at.1).1 under)));
@@ -174,7 +162,7 @@ module _ (u : Listing) (p : IsListing u) (rules : List RuleTree) where
       → Tells u rules order (length order) env later after again → again ≡ false → IsLeast u rules later
   least_of order env later after again is h t e = record {
     of_rules = t.rises.of_rules;
-    closed = λ r c f. let i = index_of rules r c in t.hold i.0 r i.2 (t.done e i.0 (all_taken order i.0 (each_ordered rules order is i.0 i.1))) f;
+    closed = λ r c f. let i = number_of rules r c in t.hold i.0 r i.1 (t.done e i.0 (all_taken order i.0 (each_ordered rules order is i.0 (slice_get_within rules i.0 r i.1)))) f;
     least = λ other o d. t.rises.below other o d (h.below other o d (under_start u p rules other o));
   }
 

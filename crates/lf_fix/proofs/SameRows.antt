@@ -21,8 +21,8 @@ use Rattle.lf_semantics.proofs.Members.{all_back, all_front, all_of}
 use Rattle.lf_semantics.proofs.NormalizedRows.{recorded_row_is}
 use Rattle.lf_semantics.proofs.LeqLaws.{leq_refl, leq_trans, leq_join_left, leq_join_right}
 use Rattle.lf_deps.specs.Reading.{arguments_selectors, selectors, selectors_in}
-use Rattle.lf_fix.specs.Readers.{SelectsRow}
-use Rattle.lf_fix.specs.Rounds.{HoldsRule}
+use Rattle.lf_fix.specs.views.Dependents.{SelectsRow}
+use Rattle.lf_fix.specs.views.Rounds.{HoldsRule}
 use Rattle.lf_fix.proofs.Raising.{named_joined, others_joined}
 use Rattle.lf_fix.proofs.Rounds.{one_named}
 use Rattle.lf_fix.proofs.ScalarRows.{scalar_same}

@@ -2,7 +2,7 @@
 use Rattle.std.proofs.Common.{◌≡◌, ℕ, Bool, true, false, not, ◌&&◌, ◌||◌, cond, List, [], ◌∷◌, Option, Some, None, refl, sym, ◌∙◌, ap}
 use Rattle.std.specs.List.{list_all, list_any}
 use Rattle.std.specs.Str.{bytes_eq}
-use Rattle.lf_laws.proofs.Booleans.{and_both}
+use Rattle.std.proofs.lemmas.Bool.{and_parts}
 use Rattle.lf_ast.specs.Functions.{Row, Signature, function_named, functions, looked_up}
 use Rattle.lf_ast.specs.Labels.{Bytes}
 use Rattle.lf_ast.specs.Tree.{Tree, Trees, Number, Str, Selector, Subquery, Paren, Unary, Binary, Call, Aggregate}
@@ -37,7 +37,7 @@ each_function = refl
 found_passes : (test : Signature → Bool) (name : Bytes) (rows : List Row) → list_all (λ (row : Row). test row.signature) rows ≡ true → (s : Signature) → looked_up name rows ≡ Some s → test s ≡ true
 found_passes test name [] all s found = absurd (cc)
 found_passes test name (row ∷ rows) all s found =
-    let b = and_both (test row.signature) (list_all (λ (row : Row). test row.signature) rows) all in
+    let b = and_parts (test row.signature) (list_all (λ (row : Row). test row.signature) rows) all in
     by (list_any (bytes_eq name) row.names) found b.0 (found_passes test name rows b.1 s)
   where
     by : (here : Bool) → cond here (Some row.signature) (looked_up name rows) ≡ Some s → test row.signature ≡ true → (looked_up name rows ≡ Some s → test s ≡ true) → test s ≡ true

@@ -1,4 +1,4 @@
--- A step of a rule that is due, and the rules that it makes due again.
+-- A step of a rule that is dirty, and the rules that it makes dirty again.
 use Rattle.std.proofs.Common.{◌≡◌, ◌≢◌, ℕ, zero, suc, ◌<◌, Bool, true, false, List, length, Some, None, ◌⊎◌, inl, inr, refl, sym, ◌∙◌, ap, subst, arith}
 use Rattle.std.specs.Prelude.{slice_get, slice_index_or, slice_set}
 use Rattle.std.specs.List.{Contains}
@@ -14,14 +14,14 @@ use Rattle.lf_semantics.specs.RowTable.{Environment}
 use Rattle.lf_semantics.proofs.Members.{one_of, clash}
 use Rattle.lf_semantics.proofs.NormalizedRows.{recorded_row_is}
 use Rattle.lf_deps.specs.Reading.{selectors}
-use Rattle.lf_fix.specs.Readers.{Index, IsIndexOf, IsListed, SelectsRow}
-use Rattle.lf_fix.specs.Rounds.{HoldsRule, OthersHold, StepTells, TellsOf}
+use Rattle.lf_fix.specs.views.Dependents.{Index, IsIndexOf, IsListed, SelectsRow}
+use Rattle.lf_fix.specs.views.Rounds.{HoldsRule, OthersHold, StepTells, TellsOf}
 use Rattle.lf_fix.proofs.Rounds.{has_row, rises_none, same_rule}
 use Rattle.lf_fix.proofs.SameRows.{holds_own, holds_without}
 
-module _ (u : Listing) (p : IsListing u) (rules : List RuleTree) (k : ℕ) (env : Environment) (of : IsEnvironmentOf u rules env) (due : List Bool) (hold : OthersHold u rules env due) where
-  -- a rule that isn't due is passed over
-  pub step_over : slice_index_or due k true ≡ false → StepTells u rules k env env due due false
+module _ (u : Listing) (p : IsListing u) (rules : List RuleTree) (k : ℕ) (env : Environment) (of : IsEnvironmentOf u rules env) (dirty : List Bool) (hold : OthersHold u rules env dirty) where
+  -- a rule that isn't dirty is passed over
+  pub step_over : slice_index_or dirty k true ≡ false → StepTells u rules k env env dirty dirty false
   step_over e = record {
     rises = rises_none u p rules env of;
     less = λ f. absurd (cc);
@@ -30,17 +30,17 @@ module _ (u : Listing) (p : IsListing u) (rules : List RuleTree) (k : ℕ) (env 
     done = λ f. e;
     still = λ f j g. g;
     again = λ j r rule at is c a. elim (cases_eq j k) [
-      | inl q ↦ let A : ℕ → Type 0 = λ i. slice_index_or due i true ≡ true in absurd (clash (subst A q a) e)
-      | inr n ↦ absurd (clash a (sym (get_or-set_other due k j false true n) ∙ c))
+      | inl q ↦ let A : ℕ → Type 0 = λ i. slice_index_or dirty i true ≡ true in absurd (clash (subst A q a) e)
+      | inr n ↦ absurd (clash a (sym (get_or-set_other dirty k j false true n) ∙ c))
     ];
   }
 
-  module _ (within : k < length due) (later : Environment) (added : Bool) (t : TellsOf u rules k env later added) where
+  module _ (within : k < length dirty) (later : Environment) (added : Bool) (t : TellsOf u rules k env later added) where
     abbrev cleared : List Bool
-    cleared = slice_set due k false
+    cleared = slice_set dirty k false
 
     -- no class was added
-    pub step_same : added ≡ false → StepTells u rules k env later due cleared added
+    pub step_same : added ≡ false → StepTells u rules k env later dirty cleared added
     step_same e = record {
       rises = t.rises;
       less = t.less;
@@ -49,24 +49,24 @@ module _ (u : Listing) (p : IsListing u) (rules : List RuleTree) (k : ℕ) (env 
           let P : Environment → Type 0 = λ x. HoldsRule u x r in
           subst P (sym (t.same e)) (elim (cases_eq j k) [
             | inl q ↦ let A : ℕ → Type 0 = λ i. slice_get rules i ≡ Some r in t.holds e r (subst A q is)
-            | inr n ↦ hold j r is (sym (get_or-set_other due k j false true n) ∙ free)
+            | inr n ↦ hold j r is (sym (get_or-set_other dirty k j false true n) ∙ free)
           ]);
-      done = λ f. get_or-set_same due k false true within;
+      done = λ f. get_or-set_same dirty k false true within;
       still = λ f j g. elim (cases_eq j k) [
-        | inl q ↦ let A : ℕ → Type 0 = λ i. slice_index_or (slice_set due k false) i true ≡ false in subst A (sym q) (get_or-set_same due k false true within)
-        | inr n ↦ get_or-set_other due k j false true n ∙ g
+        | inl q ↦ let A : ℕ → Type 0 = λ i. slice_index_or (slice_set dirty k false) i true ≡ false in subst A (sym q) (get_or-set_same dirty k false true within)
+        | inr n ↦ get_or-set_other dirty k j false true n ∙ g
       ];
       again = λ j r rule at is c a. absurd (clash a c);
     }
 
-    -- A class was added: each rule that selects the name is due again, and no other.
+    -- A class was added: each rule that selects the name is dirty again, and no other.
     module _ (rule : RuleTree) (is : slice_get rules k ≡ Some rule) (after : List Bool) (kept : (j : ℕ) → slice_index_or cleared j true ≡ true → slice_index_or after j true ≡ true)
         (marked : (j : ℕ) (r : RuleTree) → slice_get rules j ≡ Some r → SelectsRow r.expr rule.name → slice_index_or after j true ≡ true)
         (only : (j : ℕ) (r : RuleTree) → slice_get rules j ≡ Some r → slice_index_or after j true ≡ true → (slice_index_or cleared j true ≡ true) ⊎ SelectsRow r.expr rule.name) where
       free_before : (j : ℕ) → slice_index_or after j true ≡ false → slice_index_or cleared j true ≡ false
       free_before j free = not_true (slice_index_or cleared j true) (λ e. clash (kept j e) free)
 
-      pub step_added : added ≡ true → StepTells u rules k env later due after added
+      pub step_added : added ≡ true → StepTells u rules k env later dirty after added
       step_added e =
           let j = t.joins e rule is in
           let P : Environment → Type 0 = λ x. OthersHold u rules x after in
@@ -84,7 +84,7 @@ module _ (u : Listing) (p : IsListing u) (rules : List RuleTree) (k : ℕ) (env 
                   subst H same (holds_own u p rules env of rule row.0 row.1 (subst N (sym same) (λ looks. clash (marked i r at looks) free)))
               | inr n ↦
                   holds_without u p rules env of rule.name (recorded_row u env rule) (recorded_row_is u p env of.environment rule) r (λ looks. clash (marked i r at looks) free)
-                  (hold i r at (sym (get_or-set_other due k i false true n) ∙ free_before i free))
+                  (hold i r at (sym (get_or-set_other dirty k i false true n) ∙ free_before i free))
             ]);
             done = λ f. absurd (clash e f);
             still = λ f. absurd (clash e f);

@@ -1,2 +1,1 @@
-pub mod Readers
-pub mod Rounds
+pub mod views

@@ -61,16 +61,19 @@ pub(crate) fn recorded_row(
 fn is_evaluated(expr: &Expr) -> bool
     ensures { result ≡ is_evaluated (type_by_form (tree expr.now)) }
 {
-    match expr {
-        Expr::Number { .. } => true,
-        Expr::Str { .. } => false,
-        Expr::Selector { sight, .. } => sight.range.is_none(),
-        Expr::Subquery { .. } => false,
-        Expr::Paren { of, .. } => is_evaluated(of),
-        Expr::Unary { of, .. } => is_evaluated(of),
-        Expr::Binary { .. } => true,
-        Expr::Call { name, .. } => gives_samples(name.as_str()),
-        Expr::Aggregate { .. } => true,
+    let mut inner = expr;
+    loop {
+        match inner {
+            Expr::Number { .. } => return true,
+            Expr::Str { .. } => return false,
+            Expr::Selector { sight, .. } => return sight.range.is_none(),
+            Expr::Subquery { .. } => return false,
+            Expr::Paren { of, .. } => inner = of,
+            Expr::Unary { of, .. } => inner = of,
+            Expr::Binary { .. } => return true,
+            Expr::Call { name, .. } => return gives_samples(name.as_str()),
+            Expr::Aggregate { .. } => return true,
+        }
     }
 }
 

@@ -4,10 +4,10 @@ ghost use Rattle.lf_ast.specs.Rules.{rule_trees};
 ghost use Rattle.lf_semantics.specs.Environments.{CoversRules, IsEnvironmentOf, IsLeast};
 ghost use Rattle.lf_semantics.specs.Listing.{IsListing};
 ghost use Rattle.lf_deps.specs.Ordering.{IsOrder};
-ghost use Rattle.lf_fix.specs.Readers.{IsIndexOf};
-ghost use Rattle.lf_fix.specs.Rounds.{OthersHold, Rises, StepTells, Tells, TellsOf, start};
+ghost use Rattle.lf_fix.specs.views.Dependents.{IsIndexOf};
+ghost use Rattle.lf_fix.specs.views.Rounds.{OthersHold, Rises, StepTells, Tells, TellsOf, start};
 
-use crate::readers::Readers;
+use crate::dependents::Dependents;
 use crate::recording::recorded_row;
 use lf_ast::Rule;
 use lf_base::{Memory, Seq};
@@ -27,33 +27,33 @@ pub fn solve(alloc: Global, universe: &Universe, rules: &Seq<Rule>) -> Result<En
     // For what its contract says of the universe.
     let _labels = universe.labels();
     let sources = Sources::of(alloc, rules)?;
-    let readers = Readers::of(alloc, &sources)?;
+    let dependents = Dependents::of(alloc, &sources)?;
     let order = order_of(alloc, &sources, rules)?;
-    let mut due = vec![in alloc; true; rules.len()]?;
+    let mut dirty = vec![in alloc; true; rules.len()]?;
     let env = Env::bottom(alloc, universe, rules)?;
-    rounds(alloc, universe, rules, &readers, &order, env, &mut due)
+    rounds(alloc, universe, rules, &dependents, &order, env, &mut dirty)
 }
 
-/// Steps of all rules in their order, round by round, until one adds no class. At first each rule is due.
+/// Steps of all rules in their order, round by round, until one adds no class. At first each rule is dirty.
 fn rounds(
     alloc: Global,
     universe: &Universe,
     rules: &Seq<Rule>,
-    readers: &Readers,
+    dependents: &Dependents,
     order: &Seq<u32>,
     mut env: Env,
-    due: &mut [bool],
+    dirty: &mut [bool],
 ) -> Result<Env, Memory>
     requires listing { IsListing universe.now }
-    requires index { IsIndexOf (rule_trees rules.now) readers.now }
+    requires index { IsIndexOf (rule_trees rules.now) dependents.now }
     requires order { IsOrder (rule_trees rules.now) order.now }
-    requires marks { length due.old ≡ length rules.now }
+    requires marks { length dirty.old ≡ length rules.now }
     requires rises { Rises universe.now (rule_trees rules.now) (start universe.now (rule_trees rules.now)) env }
-    requires hold { OthersHold universe.now (rule_trees rules.now) env due.old }
+    requires hold { OthersHold universe.now (rule_trees rules.now) env dirty.old }
     ensures { IfOk result (IsLeast universe.now (rule_trees rules.now)) }
 {
     loop {
-        let added = raise_all(alloc, universe, rules, readers, order, &mut env, due)?;
+        let added = raise_all(alloc, universe, rules, dependents, order, &mut env, dirty)?;
         if !added {
             return Ok(env);
         }
@@ -65,23 +65,23 @@ fn raise_all(
     alloc: Global,
     universe: &Universe,
     rules: &Seq<Rule>,
-    readers: &Readers,
+    dependents: &Dependents,
     order: &Seq<u32>,
     env: &mut Env,
-    due: &mut [bool],
+    dirty: &mut [bool],
 ) -> Result<bool, Memory>
     requires listing { IsListing universe.now }
     requires of_rules { IsEnvironmentOf universe.now (rule_trees rules.now) env.old }
-    requires index { IsIndexOf (rule_trees rules.now) readers.now }
+    requires index { IsIndexOf (rule_trees rules.now) dependents.now }
     requires order { IsOrder (rule_trees rules.now) order.now }
-    requires marks { length due.old ≡ length rules.now }
-    requires hold { OthersHold universe.now (rule_trees rules.now) env.old due.old }
-    ensures { IfOk result (Tells universe.now (rule_trees rules.now) order.now (length order.now) env.old env.new due.new) }
+    requires marks { length dirty.old ≡ length rules.now }
+    requires hold { OthersHold universe.now (rule_trees rules.now) env.old dirty.old }
+    ensures { IfOk result (Tells universe.now (rule_trees rules.now) order.now (length order.now) env.old env.new dirty.new) }
 {
     let mut added = false;
     for place in 0..order.len() {
         let k = *order.get(place) as usize;
-        let one = step(alloc, universe, rules, readers, k, env, due)?;
+        let one = step(alloc, universe, rules, dependents, k, env, dirty)?;
         added = either(added, one);
     }
     Ok(added)
@@ -94,34 +94,34 @@ fn either(a: bool, b: bool) -> bool
     a || b
 }
 
-/// A step of a rule, where it is due: its row is joined to that of its name, and where this adds a class, each rule that selects the name becomes due, and no other. It
+/// A step of a rule, where it is dirty: its row is joined to that of its name, and where this adds a class, each rule that selects the name becomes dirty, and no other. It
 /// says whether a class was added.
 fn step(
     alloc: Global,
     universe: &Universe,
     rules: &Seq<Rule>,
-    readers: &Readers,
+    dependents: &Dependents,
     k: usize,
     env: &mut Env,
-    due: &mut [bool],
+    dirty: &mut [bool],
 ) -> Result<bool, Memory>
     requires listing { IsListing universe.now }
     requires of_rules { IsEnvironmentOf universe.now (rule_trees rules.now) env.old }
     requires rule { k < length rules.now }
-    requires index { IsIndexOf (rule_trees rules.now) readers.now }
-    requires marks { length due.old ≡ length rules.now }
-    requires hold { OthersHold universe.now (rule_trees rules.now) env.old due.old }
-    ensures { IfOk result (StepTells universe.now (rule_trees rules.now) k env.old env.new due.old due.new) }
+    requires index { IsIndexOf (rule_trees rules.now) dependents.now }
+    requires marks { length dirty.old ≡ length rules.now }
+    requires hold { OthersHold universe.now (rule_trees rules.now) env.old dirty.old }
+    ensures { IfOk result (StepTells universe.now (rule_trees rules.now) k env.old env.new dirty.old dirty.new) }
 {
-    if !due[k] {
+    if !dirty[k] {
         return Ok(false);
     }
-    due[k] = false;
+    dirty[k] = false;
     let added = raise(alloc, universe, rules, k, env)?;
     if !added {
         return Ok(false);
     }
-    readers.mark(rules.get(k).name.as_str(), due);
+    dependents.invalidate(rules.get(k).name.as_str(), dirty);
     Ok(true)
 }
 

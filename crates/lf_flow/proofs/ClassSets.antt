@@ -9,7 +9,7 @@ use Rattle.lf_ast.specs.declared.expr.Grouping.{Grouping}
 use Rattle.lf_semantics.specs.Listing.{Listing, label_of, named_at}
 use Rattle.lf_semantics.specs.RowTable.{grouped_row, is_group_label, is_label}
 use Rattle.lf_semantics.proofs.RowLaws.{shape_replaced}
-use Rattle.lf_flow.specs.ClassSets.{IsSet}
+use Rattle.lf_flow.specs.views.ClassSets.{IsSet}
 
 pub eqb-turn : (m n : ℕ) → eqb m n ≡ eqb n m
 eqb-turn m n = grind (arith, nat_tests)

@@ -3,29 +3,16 @@ use Rattle.std.proofs.Common.{◌≡◌, ◌≢◌, ℕ, zero, suc, ◌+◌, ◌
 use Rattle.std.proofs.Math.ListN.{set}
 use Rattle.std.specs.Prelude.{replicate}
 use Rattle.std.proofs.lemmas.Bool.{cases_lt}
-use Rattle.std.proofs.lemmas.List.{map-append, take_more}
 use Rattle.std.specs.Str.{bytes_eq}
 use Rattle.lf_ast.specs.Labels.{Bytes}
-use Rattle.lf_ast.specs.Rules.{RuleTree, rule_tree, rule_trees}
-use Rattle.lf_ast.specs.declared.rule.Rule.{Rule}
 use Rattle.lf_semantics.specs.ClassRows.{Sets, join}
-use Rattle.lf_semantics.specs.Environments.{names_recorded}
-use Rattle.lf_semantics.specs.Listing.{StandOnce, first_seen, place}
+use Rattle.lf_semantics.specs.Listing.{StandOnce, place}
 use Rattle.lf_semantics.specs.RowTable.{Environment, row_named}
 use Rattle.lf_laws.proofs.Members.{other_false, true_same}
-use Rattle.lf_classes.specs.Meetings.{with_text}
-use Rattle.lf_classes.proofs.Seen.{first_seen-push}
+use Rattle.lf_semantics.proofs.Places.{first_is, later_is}
 use Rattle.lf_flow.specs.Raising.{entries, joined}
 
 -- where a name stands
-
-first_is : (b : Bool) (p : ℕ) → 0 ≡ cond (not b) (1 + p) 0 → b ≡ true
-first_is true p e = refl
-first_is false p e = absurd (omega (arith, e))
-
-later_is : (b : Bool) (p k : ℕ) → suc k ≡ cond (not b) (1 + p) 0 → (b ≡ false) × (k ≡ p)
-later_is true p k e = absurd (omega (arith, e))
-later_is false p k e = (refl, omega (arith, e))
 
 named_at : (names : List Bytes) (rows : List Sets) (name : Bytes) (k : ℕ) (d : Sets) → length names ≡ length rows → k ≡ place names name → k < length rows → row_named (entries names rows) name ≡ Some (get_or rows k d)
 named_at names [] name k d n e h = absurd (omega arith)
@@ -85,29 +72,6 @@ entries_same (x ∷ names) zero row e = absurd (omega (arith, e))
 entries_same (x ∷ names) (suc n) row e = ap (λ (env : Environment). (x, row) ∷ env) (entries_same names n row (omega (arith, e)))
 
 -- recorded names
-
-names_more : (rules : List RuleTree) (r : RuleTree) → names_recorded (rules ++ r ∷ []) ≡ cond r.alert (names_recorded rules) (names_recorded rules ++ r.name ∷ [])
-names_more [] r = refl
-names_more (x ∷ rules) r = by x.alert r.alert (names_more rules r)
-  where
-    by : (a b : Bool) → names_recorded (rules ++ r ∷ []) ≡ cond b (names_recorded rules) (names_recorded rules ++ r.name ∷ [])
-        → cond a (names_recorded (rules ++ r ∷ [])) (x.name ∷ names_recorded (rules ++ r ∷ []))
-        ≡ cond b (cond a (names_recorded rules) (x.name ∷ names_recorded rules)) (cond a (names_recorded rules) (x.name ∷ names_recorded rules) ++ r.name ∷ [])
-    by true true e = e
-    by true false e = e
-    by false true e = ap (λ (xs : List Bytes). x.name ∷ xs) e
-    by false false e = ap (λ (xs : List Bytes). x.name ∷ xs) e
-
-pub recorded_more : (rules : List RuleTree) (r : RuleTree) → first_seen (names_recorded (rules ++ r ∷ [])) ≡ cond r.alert (first_seen (names_recorded rules)) (with_text (first_seen (names_recorded rules)) r.name)
-recorded_more rules r = ap first_seen (names_more rules r) ∙ by r.alert
-  where
-    by : (b : Bool) → first_seen (cond b (names_recorded rules) (names_recorded rules ++ r.name ∷ [])) ≡ cond b (first_seen (names_recorded rules)) (with_text (first_seen (names_recorded rules)) r.name)
-    by true = refl
-    by false = first_seen-push (names_recorded rules) r.name
-
--- one more rule
-pub trees_more : (rules : List Rule) (i : ℕ) (r : Rule) → i < length rules → r ≡ get_or rules i r → rule_trees (take (i + 1) rules) ≡ rule_trees (take i rules) ++ rule_tree r ∷ []
-trees_more rules i r h is = ap rule_trees (take_more rules i r h) ∙ map-append rule_tree (take i rules) (get_or rules i r ∷ []) ∙ ap (λ x. rule_trees (take i rules) ++ rule_tree x ∷ []) (sym is)
 
 pub recorded_within : (names : List Bytes) (rows : List Sets) (name : Bytes) → length names ≡ length rows → row_named (entries names rows) name ≢ None → place names name < length rows
 recorded_within names rows name n h = elim (cases_lt (place names name) (length rows)) [

@@ -4,14 +4,11 @@ use Rattle.std.proofs.lemmas.List.{length-map}
 use Rattle.lf_laws.proofs.Booleans.{and_left, clash}
 use Rattle.lf_semantics.specs.ClassRows.{Sets, emptied, holds, is_live, narrowed, remade, replaced, normalized}
 use Rattle.lf_semantics.proofs.LeqLaws.{normalized_live}
-use Rattle.lf_semantics.proofs.RowLaws.{holds-remade, length-indexed, shape_narrowed, shape_remade, shape_replaced}
+use Rattle.lf_semantics.proofs.RowLaws.{holds-remade, length_remade, shape_narrowed, shape_remade, shape_replaced}
 use Rattle.lf_flow.proofs.ClassSets.{remade_same}
 use Rattle.lf_classes.proofs.Cutting.{count_at, emptied_dead, emptied_holds, emptied_remade, emptied_twice, live_at, live_when, same_sets}
 
 -- rows made anew
-
-length_remade : (f : ℕ → ℕ → Bool → Bool) (row : Sets) → length (remade f row) ≡ length row
-length_remade f row = length-indexed _ 0 row
 
 class_in : (f : ℕ → ℕ → Bool → Bool) (row : Sets) (l c : ℕ) → l < length row → c < length (get_or (remade f row) l []) → c < length (get_or row l [])
 class_in f row l c h k =

@@ -16,7 +16,7 @@ use Rattle.lf_laws.proofs.Booleans.{and_false}
 use Rattle.lf_laws.proofs.Members.{other_false, same_true}
 use Rattle.lf_semantics.proofs.Places.{class_test, eqb-other}
 use Rattle.lf_classes.proofs.Unread.{read_passes, unread, unread_passes}
-use Rattle.lf_flow.specs.ClassSets.{IsSet}
+use Rattle.lf_flow.specs.views.ClassSets.{IsSet}
 use Rattle.lf_flow.proofs.PatternSets.{retested}
 
 -- one class that differs from the others

@@ -6,7 +6,7 @@ use Rattle.lf_laws.proofs.Booleans.{and_false, and_true}
 use Rattle.lf_semantics.specs.ClassRows.{Sets, emptied, holds, is_live, kept, narrowed, remade, normalized}
 use Rattle.lf_semantics.proofs.Places.{eqb-other}
 use Rattle.lf_classes.proofs.LabelChanges.{emptied_label, narrowing, narrowing_here, narrowing_there}
-use Rattle.lf_flow.specs.ClassSets.{IsSet}
+use Rattle.lf_flow.specs.views.ClassSets.{IsSet}
 use Rattle.lf_flow.proofs.ClassSets.{remade_same}
 use Rattle.lf_flow.proofs.Layered.{none_remade, same_narrowed, same_remade, same_row}
 

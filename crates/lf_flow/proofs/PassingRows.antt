@@ -10,7 +10,7 @@ use Rattle.lf_semantics.specs.ClassRows.{HasShape, Sets, emptied, top, holds, is
 use Rattle.lf_semantics.specs.Listing.{Listing, class_counts, named_at}
 use Rattle.lf_semantics.specs.RowTable.{passes_class}
 use Rattle.lf_semantics.proofs.RowLaws.{holds-remade, live, shape_top, shape_narrowed, shape_remade}
-use Rattle.lf_classes.specs.Remembered.{passing_row}
+use Rattle.lf_classes.specs.views.Remembered.{passing_row}
 use Rattle.lf_classes.proofs.Cutting.{emptied_holds}
 use Rattle.lf_flow.proofs.ClassSets.{remade_same, row_length, set_length}
 

@@ -10,7 +10,7 @@ use Rattle.lf_semantics.specs.Listing.{Listing, class_texts, label_of, named_at,
 use Rattle.lf_semantics.specs.Passing.{is_plain}
 use Rattle.lf_semantics.specs.RowTable.{has_class, is_other, may_fail, may_match, set_at, source_set}
 use Rattle.lf_classes.proofs.Unread.{unread, unread_matches}
-use Rattle.lf_flow.specs.ClassSets.{IsSet}
+use Rattle.lf_flow.specs.views.ClassSets.{IsSet}
 use Rattle.lf_flow.proofs.ClassSets.{indexed_same, set_length}
 
 not_other : (u : Listing) (label class : ℕ) → class < other_class u label → is_other u label class ≡ false

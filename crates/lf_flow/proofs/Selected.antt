@@ -20,7 +20,7 @@ use Rattle.lf_semantics.proofs.Places.{eqb-other}
 use Rattle.lf_semantics.proofs.RowLaws.{shape_join}
 use Rattle.lf_semantics.proofs.NormalizedRows.{IsNormalized, normalized_top, normalized_bottom, normalized_replaced, normalized_join}
 use Rattle.lf_semantics.proofs.SelectorsRepresent.{shape_scraped, shape_with_recorded}
-use Rattle.lf_flow.specs.ClassSets.{IsSet}
+use Rattle.lf_flow.specs.views.ClassSets.{IsSet}
 use Rattle.lf_flow.specs.Raising.{joined_each}
 use Rattle.lf_flow.proofs.ClassSets.{replaced_same}
 use Rattle.lf_flow.proofs.Entries.{some_same}

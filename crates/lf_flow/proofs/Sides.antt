@@ -1,13 +1,14 @@
 -- Rows that are changed at the labels of a set, and rows where a side is empty.
 use Rattle.std.proofs.Common.{◌≡◌, ℕ, ◌<◌, Bool, true, false, not, ◌&&◌, ◌||◌, cond, eqb, List, length, get_or, refl, sym, ◌∙◌, ap, arith}
 use Rattle.lf_ast.specs.declared.expr.Name.{Name}
-use Rattle.lf_laws.proofs.Booleans.{and_left, not_true_is}
+use Rattle.std.proofs.lemmas.Bool.{not-true}
+use Rattle.lf_laws.proofs.Booleans.{and_left}
 use Rattle.lf_semantics.specs.ClassRows.{HasShape, Sets, emptied, top, holds, is_live, narrowed, bottom, only_empty, remade, replaced}
 use Rattle.lf_semantics.specs.Listing.{Listing}
 use Rattle.lf_semantics.specs.RowTable.{is_label_among, is_metric_label, nameless_if, taken_row}
 use Rattle.lf_semantics.proofs.RowLaws.{shape_top, shape_narrowed, shape_bottom, shape_replaced}
 use Rattle.lf_classes.proofs.Cutting.{emptied_remade, emptied_same}
-use Rattle.lf_flow.specs.Chosen.{Chooses}
+use Rattle.lf_flow.specs.views.Chosen.{Chooses}
 use Rattle.lf_flow.proofs.ClassSets.{row_length}
 use Rattle.lf_flow.proofs.Layered.{fewer_dead, same_narrowed, same_replaced, same_row, normalized_dead}
 
@@ -60,12 +61,12 @@ module _ (u : Listing) (row : Sets) (shape : HasShape u row) where
 
   -- a match of which this side is empty
   pub none_here : (test : ℕ → ℕ → Bool) (live : Bool) → not (is_live row) ≡ true → emptied row ≡ cond live (narrowed test row) (bottom u)
-  none_here test true e = sym (narrowed_dead test (not_true_is (is_live row) e))
+  none_here test true e = sym (narrowed_dead test (not-true (is_live row) e))
   none_here test false e = cleared
 
   -- a match of which the other side is empty
   pub none_there : (other : Sets) (x : Sets) → not (is_live other) ≡ true → emptied row ≡ cond (is_live other) x (bottom u)
-  none_there other x e = cleared ∙ ap (λ b. cond b x (bottom u)) (sym (not_true_is (is_live other) e))
+  none_there other x e = cleared ∙ ap (λ b. cond b x (bottom u)) (sym (not-true (is_live other) e))
 
 pub some_there : (other x none : Sets) → not (is_live other) ≡ false → x ≡ cond (is_live other) x none
 some_there other x none e = by (is_live other) e

@@ -10,7 +10,8 @@ use Rattle.std.proofs.lemmas.List.Folds.{list_any_more}
 use Rattle.std.proofs.lemmas.List.Sums.{count_by_more_no, count_by_more_yes, length-filter}
 use Rattle.lf_ast.specs.Labels.{Bytes}
 use Rattle.lf_ast.specs.declared.expr.Matcher.{Matcher}
-use Rattle.lf_laws.proofs.Booleans.{and_false, and_true, not_true_is, or_false}
+use Rattle.std.proofs.lemmas.Bool.{not-true}
+use Rattle.lf_laws.proofs.Booleans.{and_false, and_true, or_false}
 use Rattle.lf_semantics.specs.ClassRows.{holds, kept}
 use Rattle.lf_semantics.specs.Listing.{Listing, class_of, class_texts, label_of, named_at}
 use Rattle.lf_ast.specs.Selectors.{is_equal, metric}
@@ -20,7 +21,7 @@ use Rattle.lf_semantics.proofs.EffectsRepresent.{has_class_at}
 use Rattle.lf_semantics.proofs.Places.{eqb-other, place_le}
 use Rattle.lf_semantics.specs.Parts.{Sought}
 use Rattle.lf_classes.proofs.TextClasses.{none_set}
-use Rattle.lf_flow.specs.Absence.{AreCounts, also_bare, gives_class, is_class_sought, is_on_label, sought_text}
+use Rattle.lf_flow.specs.views.Absence.{AreCounts, also_bare, gives_class, is_class_sought, is_on_label, sought_text}
 use Rattle.lf_flow.proofs.ClassSets.{eqb-turn, set_length}
 use Rattle.lf_flow.proofs.MadeRows.{HasSome, made, made_holds, made_kept, made_same, shape_made}
 
@@ -298,7 +299,7 @@ module _ (u : Listing) (ms : List Matcher) where
         (elim (cases_eq r.0 0) [
           | inl z ↦
               none_set (λ class. not (eqb class 0)) (get_or row k []) 0 (λ c b t.
-              let some : eqb c 0 ≡ false = not_true_is (eqb c 0) (ap (λ n. not (eqb n 0)) (let q : c ≡ 0 + c = omega arith in q) ∙ t) in
+              let some : eqb c 0 ≡ false = not-true (eqb c 0) (ap (λ n. not (eqb n 0)) (let q : c ≡ 0 + c = omega arith in q) ∙ t) in
               held c (omega (arith, b, size))
               ∙ ap (λ n. eqb n c || (eqb c 0 && (not (nat_lt k k) || not (eqb count 1)))) z
               ∙ ap (λ b. b || (eqb c 0 && (not (nat_lt k k) || not (eqb count 1)))) (eqb-turn 0 c ∙ some)

@@ -1,4 +1,2 @@
-pub mod Absence
-pub mod Chosen
-pub mod ClassSets
 pub mod Raising
+pub mod views

@@ -5,7 +5,7 @@ ghost use Rattle.lf_semantics.specs.ClassRows.{top, replaced};
 ghost use Rattle.lf_semantics.specs.Listing.{Listing};
 ghost use Rattle.lf_semantics.specs.Parts.{sought_by, sought_in};
 ghost use Rattle.lf_semantics.specs.RowTable.{absent_row, bare_row, has_class};
-ghost use Rattle.lf_flow.specs.Absence.{AreCounts, also_bare, is_class_sought, sought_text};
+ghost use Rattle.lf_flow.specs.views.Absence.{AreCounts, is_class_sought, sought_text};
 
 use crate::effects::bare;
 use lf_ast::{Expr, MatchOp, Matcher, Sight};
@@ -18,26 +18,33 @@ pub fn absent(alloc: Global, universe: &Universe, args: &[Expr]) -> Result<Row, 
     ensures { IfOk result (λ row. row ≡ absent_row universe.now (sought_in (trees args.now))) }
 {
     match args.get(0) {
-        Some(expr) => absent_of(alloc, universe, expr, false),
+        Some(expr) => absent_of(alloc, universe, expr),
         None => bare(alloc, universe),
     }
 }
 
-/// The row by one argument, where the sample may also have no label if `outside` says so. It may where the selector stands in parentheses or has an `@`.
-fn absent_of(alloc: Global, universe: &Universe, expr: &Expr, outside: bool) -> Result<Row, Memory>
-    ensures { IfOk result (λ row. row ≡ absent_row universe.now (also_bare outside (sought_by (tree expr.now)))) }
+/// The row by one argument. The sample may also have no label where the selector stands in parentheses or has an `@`.
+fn absent_of(alloc: Global, universe: &Universe, expr: &Expr) -> Result<Row, Memory>
+    ensures { IfOk result (λ row. row ≡ absent_row universe.now (sought_by (tree expr.now))) }
 {
-    match expr {
-        Expr::Selector {
-            matchers,
-            sight,
-            ..
-        } => {
-            let may_be_bare = may_be_bare(outside, sight);
-            sought(alloc, universe, matchers.as_slice(), may_be_bare)
+    let mut inner = expr;
+    let mut outside = false;
+    loop {
+        match inner {
+            Expr::Selector {
+                matchers,
+                sight,
+                ..
+            } => {
+                let may_be_bare = may_be_bare(outside, sight);
+                return sought(alloc, universe, matchers.as_slice(), may_be_bare);
+            }
+            Expr::Paren { of, .. } => {
+                inner = of;
+                outside = true;
+            }
+            _ => return bare(alloc, universe),
         }
-        Expr::Paren { of, .. } => absent_of(alloc, universe, of, true),
-        _ => bare(alloc, universe),
     }
 }
 

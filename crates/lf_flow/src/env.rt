@@ -1,15 +1,14 @@
 //! The rows of recorded names.
-ghost use Rattle.std.specs.Prelude.{◌≡◌, ◌↔◌, ◌≢◌, cond, length, map, replicate, None, Some, IfOk, IfSome, IfNone, OnOk, true, false, IsTrue, not};
+ghost use Rattle.std.specs.Prelude.{◌≡◌, ◌↔◌, ◌≢◌, length, map, replicate, None, Some, IfOk, IfSome, IfNone, true, false, IsTrue, not};
 ghost use Rattle.lf_ast.specs.Rules.{rule_trees};
 ghost use Rattle.lf_semantics.specs.ClassRows.{Sets, bottom, join};
 ghost use Rattle.lf_semantics.specs.Environments.{Leq, recorded_names};
 ghost use Rattle.lf_semantics.specs.RowTable.{row_named};
-ghost use Rattle.lf_classes.specs.Meetings.{with_text};
 ghost use Rattle.lf_flow.specs.Raising.{joined};
 
 use lf_ast::Rule;
 use lf_base::{Memory, Seq};
-use lf_classes::{Row, TextSet, Universe};
+use lf_classes::{Row, TextSet, Universe, recorded_names};
 use std::alloc::Global;
 use std::marker::Model;
 
@@ -36,7 +35,7 @@ impl Env {
     pub fn bottom(alloc: Global, universe: &Universe, rules: &Seq<Rule>) -> Result<Env, Memory>
         ensures { IfOk result (λ env. env ≡ map (λ name. (name, bottom universe.now)) (recorded_names (rule_trees rules.now))) }
     {
-        let names = recorded(alloc, rules.as_slice())?;
+        let names = recorded_names(alloc, rules.as_slice())?;
         let rows = empty_rows(alloc, universe, names.len())?;
         Ok(Env { names, rows })
     }
@@ -93,28 +92,6 @@ fn join(own: &mut Row, row: &Row) -> bool
     }
     own.join(row);
     true
-}
-
-/// The recorded names, each once.
-fn recorded(alloc: Global, rules: &[Rule]) -> Result<TextSet, Memory>
-    ensures { IfOk result (λ names. names ≡ recorded_names (rule_trees rules.now)) }
-{
-    let mut names = TextSet::new(alloc);
-    for rule in rules {
-        record(alloc, rule, &mut names)?;
-    }
-    Ok(names)
-}
-
-/// Puts the name of a recording rule behind the others, unless it is there.
-fn record(alloc: Global, rule: &Rule, names: &mut TextSet) -> Result<(), Memory>
-    ensures { OnOk result (names.new ≡ cond rule.now.alert names.old (with_text names.old rule.now.name)) }
-{
-    if rule.alert {
-        return Ok(());
-    }
-    let _place = names.add(alloc, rule.name.as_str())?;
-    Ok(())
 }
 
 /// As many empty rows.

@@ -1,5 +1,5 @@
 //! What is told of an expression at once: its row and its type.
-ghost use Rattle.std.specs.Prelude.{◌≡◌, IfOk};
+ghost use Rattle.std.specs.Prelude.{◌≡◌, ◌≤◌, ◌∷◌, [], None, Some, length, option_to_list, IfOk};
 ghost use Rattle.std.specs.List.{position_or_len};
 ghost use Rattle.lf_ast.specs.Tree.{trees};
 ghost use Rattle.lf_ast.specs.Types.{is_scalar, joined, selected};
@@ -7,7 +7,8 @@ ghost use Rattle.lf_semantics.specs.ClassRows.{HasShape, bottom};
 ghost use Rattle.lf_semantics.specs.Environments.{IsEnvironment};
 ghost use Rattle.lf_semantics.specs.Listing.{IsListing};
 ghost use Rattle.lf_semantics.specs.Parts.{takes_samples};
-ghost use Rattle.lf_semantics.specs.RowTable.{bare_row, binary_row, effect_row, selector_row, sign_row};
+ghost use Rattle.lf_semantics.specs.RowTable.{binary_row, effect_row, selector_row, sign_row};
+ghost use Rattle.lf_flow.specs.views.Kept.{made_row, operand_row};
 
 use crate::Env;
 use crate::effects::{bare, effect, nameless};
@@ -20,38 +21,80 @@ use lf_base::{Memory, Text};
 use lf_classes::{Row, Universe};
 use std::alloc::Global;
 
-/// The row of an expression, and the type that its form tells.
+/// The row of an expression, and the type that its form tells. With no row it is that of the one sample without labels, which is made only where it is looked at.
 #[derive(Drop)]
 pub struct Given {
-    pub row: Row,
+    pub row: Option<Row>,
     pub form: ExprType,
 }
 
-/// A number.
-#[inline(never)]
-pub fn number(alloc: Global, universe: &Universe) -> Result<Given, Memory>
-    ensures row { IfOk result (λ given. given.row ≡ bare_row universe.now) }
-    ensures form { IfOk result (λ given. given.form ≡ ExprType.Scalar) }
+impl Given {
+    /// The row.
+    pub fn into_row(self, alloc: Global, universe: &Universe) -> Result<Row, Memory>
+        ensures { IfOk result (λ row. row ≡ made_row universe.now self.row) }
+    {
+        match self.row {
+            Some(row) => Ok(row),
+            None => bare(alloc, universe),
+        }
+    }
+}
+
+/// The only one of these.
+pub fn the_only(mut parts: Vec<Given>) -> Given
+    requires { length parts.items ≡ 1 }
+    ensures { parts.items ≡ result ∷ [] }
 {
-    let row = bare(alloc, universe)?;
-    Ok(Given {
-        row,
+    parts.pop().unwrap()
+}
+
+/// The only one of these, if there is one.
+pub fn operand(parts: Vec<Given>) -> Option<Given>
+    requires { length parts.items ≤ 1 }
+    ensures { parts.items ≡ option_to_list result }
+{
+    if parts.is_empty() {
+        None
+    } else {
+        Some(the_only(parts))
+    }
+}
+
+/// The two of these.
+pub fn both(mut parts: Vec<Given>) -> (Given, Given)
+    requires { length parts.items ≡ 2 }
+    ensures { parts.items ≡ result.0 ∷ result.1 ∷ [] }
+{
+    let right = parts.pop().unwrap();
+    let left = parts.pop().unwrap();
+    (left, right)
+}
+
+/// A number.
+pub fn number() -> Given
+    ensures row { result.row ≡ None }
+    ensures form { result.form ≡ ExprType.Scalar }
+{
+    Given {
+        row: None,
         form: ExprType::Scalar,
-    })
+    }
 }
 
 /// What gives no sample, and is of this type.
 #[inline(never)]
 pub fn empty(alloc: Global, universe: &Universe, form: ExprType) -> Result<Given, Memory>
-    ensures row { IfOk result (λ given. given.row ≡ bottom universe.now) }
+    ensures row { IfOk result (λ given. given.row ≡ Some (bottom universe.now)) }
     ensures form { IfOk result (λ given. given.form ≡ form) }
 {
     let row = Row::empty(alloc, universe)?;
-    Ok(Given { row, form })
+    Ok(Given {
+        row: Some(row),
+        form,
+    })
 }
 
 /// A selector.
-#[inline(never)]
 pub fn selector(
     alloc: Global,
     universe: &Universe,
@@ -61,46 +104,62 @@ pub fn selector(
     range: &Option<Text>,
 ) -> Result<Given, Memory>
     requires env { IsEnvironment universe.now env.now }
-    ensures row { IfOk result (λ given. given.row ≡ selector_row universe.now env.now name.now matchers.now) }
+    ensures row { IfOk result (λ given. given.row ≡ Some (selector_row universe.now env.now name.now matchers.now)) }
     ensures form { IfOk result (λ given. given.form ≡ selected range.now) }
 {
     let row = select(alloc, universe, env, name, matchers)?;
     Ok(Given {
-        row,
+        row: Some(row),
         form: selected(range),
     })
 }
 
-/// A subquery of this operand.
-pub fn ranged(operand: Given) -> Given
-    ensures row { result.row ≡ operand.row }
-    ensures form { result.form ≡ ExprType.Range }
+/// An operand in parentheses.
+pub fn whole(alloc: Global, universe: &Universe, operand: Given) -> Result<Given, Memory>
+    ensures row { IfOk result (λ given. given.row ≡ Some (made_row universe.now operand.row)) }
+    ensures form { IfOk result (λ given. given.form ≡ operand.form) }
 {
-    Given {
-        row: operand.row,
+    let form = operand.form;
+    let row = operand.into_row(alloc, universe)?;
+    Ok(Given {
+        row: Some(row),
+        form,
+    })
+}
+
+/// A subquery of this operand.
+pub fn ranged(alloc: Global, universe: &Universe, operand: Given) -> Result<Given, Memory>
+    ensures row { IfOk result (λ given. given.row ≡ Some (made_row universe.now operand.row)) }
+    ensures form { IfOk result (λ given. given.form ≡ ExprType.Range) }
+{
+    let row = operand.into_row(alloc, universe)?;
+    Ok(Given {
+        row: Some(row),
         form: ExprType::Range,
-    }
+    })
 }
 
 /// A sign before this operand.
-#[inline(never)]
-pub fn signed(universe: &Universe, minus: bool, operand: Given) -> Given
-    requires shape { HasShape universe.now operand.row }
-    ensures row { result.row ≡ sign_row universe.now minus operand.row }
-    ensures form { result.form ≡ operand.form }
+pub fn signed(
+    alloc: Global,
+    universe: &Universe,
+    minus: bool,
+    operand: Given,
+) -> Result<Given, Memory>
+    requires shape { HasShape universe.now (made_row universe.now operand.row) }
+    ensures row { IfOk result (λ given. given.row ≡ Some (sign_row universe.now minus (made_row universe.now operand.row))) }
+    ensures form { IfOk result (λ given. given.form ≡ operand.form) }
 {
-    if minus {
-        Given {
-            row: nameless(universe, operand.row),
-            form: operand.form,
-        }
-    } else {
-        operand
-    }
+    let form = operand.form;
+    let row = operand.into_row(alloc, universe)?;
+    let row = if minus { nameless(universe, row) } else { row };
+    Ok(Given {
+        row: Some(row),
+        form,
+    })
 }
 
 /// An operator between these two sides.
-#[inline(never)]
 pub fn binary(
     alloc: Global,
     universe: &Universe,
@@ -109,23 +168,17 @@ pub fn binary(
     left: Given,
     right: Given,
 ) -> Result<Given, Memory>
-    requires left { HasShape universe.now left.row }
-    requires right { HasShape universe.now right.row }
-    ensures row { IfOk result (λ given. given.row ≡ binary_row universe.now op matching.now (is_scalar left.form) (is_scalar right.form) left.row right.row) }
+    requires left { HasShape universe.now (made_row universe.now left.row) }
+    requires right { HasShape universe.now (made_row universe.now right.row) }
+    ensures row { IfOk result (λ given. given.row ≡ Some (binary_row universe.now op matching.now (is_scalar left.form) (is_scalar right.form) (made_row universe.now left.row) (made_row universe.now right.row))) }
     ensures form { IfOk result (λ given. given.form ≡ joined left.form right.form) }
 {
     let form = joined(left.form, right.form);
-    let left_is_scalar = is_scalar(left.form);
-    let right_is_scalar = is_scalar(right.form);
-    let row = operate(
-        alloc,
-        universe,
-        op,
-        matching,
-        (left_is_scalar, left.row),
-        (right_is_scalar, right.row),
-    )?;
-    Ok(Given { row, form })
+    let row = operate(alloc, universe, op, matching, left, right)?;
+    Ok(Given {
+        row: Some(row),
+        form,
+    })
 }
 
 /// Which argument is the operand of a function that always takes these: the first that has samples, or else the first further one.
@@ -150,24 +203,34 @@ fn takes_samples(of: ExprType) -> bool
     }
 }
 
-/// A call of a function, whose operand has this row.
-#[inline(never)]
-pub fn finished(
+/// A call of a function with this operand, if it has one.
+pub fn called(
     alloc: Global,
     universe: &Universe,
     function: &Function,
     grouping: &Grouping,
     args: &[Expr],
-    operand: Row,
+    operand: Option<Given>,
 ) -> Result<Given, Memory>
     requires listing { IsListing universe.now }
-    requires shape { HasShape universe.now operand }
-    ensures row { IfOk result (λ given. given.row ≡ effect_row universe.now function.now.labels grouping.now (trees args.now) operand) }
+    requires shape { HasShape universe.now (operand_row universe.now operand) }
+    ensures row { IfOk result (λ given. given.row ≡ Some (effect_row universe.now function.now.labels grouping.now (trees args.now) (operand_row universe.now operand))) }
     ensures form { IfOk result (λ given. given.form ≡ function.now.gives) }
 {
+    let operand = row_or_empty(alloc, universe, operand)?;
     let row = effect(alloc, universe, function.labels, grouping, args, operand)?;
     Ok(Given {
-        row,
+        row: Some(row),
         form: function.gives,
     })
+}
+
+/// The row of an operand, and the empty row where there is none.
+fn row_or_empty(alloc: Global, universe: &Universe, operand: Option<Given>) -> Result<Row, Memory>
+    ensures { IfOk result (λ row. row ≡ operand_row universe.now operand) }
+{
+    match operand {
+        Some(given) => given.into_row(alloc, universe),
+        None => Row::empty(alloc, universe),
+    }
 }

@@ -2,7 +2,7 @@
 ghost use Rattle.std.specs.Prelude.{◌≡◌, IfOk, OnOk};
 ghost use Rattle.lf_semantics.specs.ClassRows.{HasShape};
 ghost use Rattle.lf_semantics.specs.RowTable.{grouped_row, is_group_label};
-ghost use Rattle.lf_flow.specs.Chosen.{Chooses};
+ghost use Rattle.lf_flow.specs.views.Chosen.{Chooses};
 
 use crate::labels::Labels;
 use lf_ast::Grouping;

@@ -6,7 +6,7 @@ ghost use Rattle.lf_ast.specs.Tree.{trees};
 ghost use Rattle.lf_ast.specs.Arguments.{texts_of};
 ghost use Rattle.lf_semantics.specs.RowTable.{is_join, joining_row, may_be_absent, may_be_present};
 ghost use Rattle.lf_semantics.specs.Strings.{joining, shows};
-ghost use Rattle.lf_flow.specs.ClassSets.{IsSet};
+ghost use Rattle.lf_flow.specs.views.ClassSets.{IsSet};
 
 use lf_ast::{Expr, text_at, text_of};
 use lf_base::Memory;

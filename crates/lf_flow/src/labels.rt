@@ -2,7 +2,7 @@
 ghost use Rattle.std.specs.Prelude.{◌≡◌, ◌<◌, ◌&&◌, ◌||◌, cond, length, map, not, set, true, false, slice_index_or, IfOk};
 ghost use Rattle.lf_semantics.specs.ClassRows.{holds, is_live, narrowed, only_empty, replaced};
 ghost use Rattle.lf_semantics.specs.RowTable.{is_label_among, is_metric_label};
-ghost use Rattle.lf_flow.specs.Chosen.{Chooses};
+ghost use Rattle.lf_flow.specs.views.Chosen.{Chooses};
 
 use lf_ast::Name;
 use lf_base::Memory;

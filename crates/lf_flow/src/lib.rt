@@ -17,8 +17,6 @@ mod preparing;
 mod replacing;
 mod rows;
 mod selecting;
-#[cfg(test)]
-mod tests;
 
 pub use env::Env;
 pub use preparing::prepare;

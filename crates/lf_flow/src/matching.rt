@@ -2,7 +2,7 @@
 ghost use Rattle.std.specs.Prelude.{◌≡◌, ◌||◌, cond, length, map, not, false, slice_index_or, IfOk, OnOk};
 ghost use Rattle.lf_semantics.specs.ClassRows.{HasShape, holds, is_live, narrowed, bottom, only_empty, join};
 ghost use Rattle.lf_semantics.specs.RowTable.{combined_row, keeps_label, keeps_label_by, many_to_one_row, matched_row, nameless_if, paired_row, signs_label, taken_row};
-ghost use Rattle.lf_flow.specs.Chosen.{Chooses};
+ghost use Rattle.lf_flow.specs.views.Chosen.{Chooses};
 
 use crate::labels::Labels;
 use crate::operators::is_arithmetic;

@@ -4,7 +4,7 @@ ghost use Rattle.lf_ast.specs.declared.expr.MatchOp.TheVariants.{Equal, NotEqual
 ghost use Rattle.lf_semantics.specs.ClassRows.{HasShape, narrowed};
 ghost use Rattle.lf_semantics.specs.Listing.{IsListing, named_at};
 ghost use Rattle.lf_semantics.specs.RowTable.{is_label, passes_class};
-ghost use Rattle.lf_flow.specs.ClassSets.{IsSet};
+ghost use Rattle.lf_flow.specs.views.ClassSets.{IsSet};
 
 use crate::replacing::{asked, failed, matched, unread};
 use lf_ast::{MatchOp, Matcher};

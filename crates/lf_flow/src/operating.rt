@@ -1,35 +1,48 @@
 //! The row of an operator.
 ghost use Rattle.std.specs.Prelude.{◌≡◌, IfOk};
+ghost use Rattle.lf_ast.specs.Types.{is_scalar};
 ghost use Rattle.lf_semantics.specs.ClassRows.{HasShape};
 ghost use Rattle.lf_semantics.specs.Grouped.{is_filter};
 ghost use Rattle.lf_semantics.specs.RowTable.{beside_scalar_row, binary_row};
+ghost use Rattle.lf_flow.specs.views.Kept.{made_row};
 
 use crate::effects::{bare, nameless};
+use crate::given::Given;
 use crate::matching::combine;
 use crate::operators::is_filter;
-use lf_ast::{Matching, Op};
+use lf_ast::{Matching, Op, is_scalar};
 use lf_base::Memory;
 use lf_classes::{Row, Universe};
 use std::alloc::Global;
 
-/// The row of an operator, of whose sides it is said whether they are scalars.
+/// The row of an operator. The row of a scalar isn't looked at.
 pub fn operate(
     alloc: Global,
     universe: &Universe,
     op: Op,
     matching: &Matching,
-    left: (bool, Row),
-    right: (bool, Row),
+    left: Given,
+    right: Given,
 ) -> Result<Row, Memory>
-    requires left { HasShape universe.now left.1 }
-    requires right { HasShape universe.now right.1 }
-    ensures { IfOk result (λ row. row ≡ binary_row universe.now op matching.now left.0 right.0 left.1 right.1) }
+    requires left { HasShape universe.now (made_row universe.now left.row) }
+    requires right { HasShape universe.now (made_row universe.now right.row) }
+    ensures { IfOk result (λ row. row ≡ binary_row universe.now op matching.now (is_scalar left.form) (is_scalar right.form) (made_row universe.now left.row) (made_row universe.now right.row)) }
 {
-    match (left, right) {
-        ((true, _), (true, _)) => bare(alloc, universe),
-        ((false, row), (true, _)) => Ok(beside_scalar(universe, op, matching, row)),
-        ((true, _), (false, row)) => Ok(beside_scalar(universe, op, matching, row)),
-        ((false, left), (false, right)) => combine(alloc, universe, op, matching, left, right),
+    match (is_scalar(left.form), is_scalar(right.form)) {
+        (true, true) => bare(alloc, universe),
+        (false, true) => {
+            let row = left.into_row(alloc, universe)?;
+            Ok(beside_scalar(universe, op, matching, row))
+        }
+        (true, false) => {
+            let row = right.into_row(alloc, universe)?;
+            Ok(beside_scalar(universe, op, matching, row))
+        }
+        (false, false) => {
+            let left = left.into_row(alloc, universe)?;
+            let right = right.into_row(alloc, universe)?;
+            combine(alloc, universe, op, matching, left, right)
+        }
     }
 }
 

@@ -2,9 +2,10 @@
 ghost use Rattle.std.specs.Prelude.{◌≡◌, IfOk};
 ghost use Rattle.lf_semantics.specs.Listing.{label_of};
 ghost use Rattle.lf_semantics.specs.PatternBreaches.{takes_pattern};
-ghost use Rattle.lf_classes.specs.Remembered.{passing_row};
+ghost use Rattle.lf_classes.specs.views.Remembered.{passing_row};
 
 use crate::narrowing::narrow;
+use lf_ast::walk::nodes_of;
 use lf_ast::{Expr, MatchOp, Matcher, Rule};
 use lf_base::{Memory, Seq};
 use lf_classes::{Row, Universe};
@@ -27,8 +28,7 @@ pub fn prepare(alloc: Global, universe: &mut Universe, rules: &Seq<Rule>) -> Res
     Ok(())
 }
 
-/// Finds which classes pass the matchers of an expression. It only calls, since it recurs as deep as expressions nest.
-#[cycle(prepare)]
+/// Finds which classes pass the matchers of an expression.
 fn prepare_expr(
     alloc: Global,
     universe: &mut Universe,
@@ -37,43 +37,16 @@ fn prepare_expr(
 ) -> Result<(), Memory>
     ensures { universe.new ≡ universe.old }
 {
-    match expr {
-        Expr::Number { .. } | Expr::Str { .. } => Ok(()),
-        Expr::Selector { matchers, .. } => {
-            prepare_matchers(alloc, universe, room, matchers.as_slice())
+    let nodes = nodes_of(alloc, expr)?;
+    for node in nodes.as_slice() {
+        if let Expr::Selector { matchers, .. } = *node {
+            prepare_matchers(alloc, universe, room, matchers.as_slice())?;
         }
-        Expr::Subquery { of, .. } | Expr::Paren { of, .. } | Expr::Unary { of, .. } => {
-            prepare_expr(alloc, universe, room, of)
-        }
-        Expr::Binary { left, right, .. } => {
-            prepare_expr(alloc, universe, room, left)?;
-            prepare_expr(alloc, universe, room, right)
-        }
-        Expr::Call { args, .. } | Expr::Aggregate { args, .. } => {
-            prepare_args(alloc, universe, room, args.as_slice())
-        }
-    }
-}
-
-/// Finds which classes pass the matchers of arguments.
-#[cycle(prepare)]
-#[inline(never)]
-fn prepare_args(
-    alloc: Global,
-    universe: &mut Universe,
-    room: &mut u32,
-    args: &[Expr],
-) -> Result<(), Memory>
-    ensures { universe.new ≡ universe.old }
-{
-    for arg in args {
-        prepare_expr(alloc, universe, room, arg)?;
     }
     Ok(())
 }
 
 /// Finds which classes pass the matchers of a selector.
-#[inline(never)]
 fn prepare_matchers(
     alloc: Global,
     universe: &mut Universe,

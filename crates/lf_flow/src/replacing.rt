@@ -9,7 +9,7 @@ ghost use Rattle.lf_ast.specs.Arguments.{texts_of};
 ghost use Rattle.lf_semantics.specs.Passing.{is_plain};
 ghost use Rattle.lf_semantics.specs.RowTable.{has_class, is_expansion, is_other, may_fail, may_match, replacing_row, set_at, source_set};
 ghost use Rattle.lf_semantics.specs.Strings.{replacing};
-ghost use Rattle.lf_flow.specs.ClassSets.{IsSet};
+ghost use Rattle.lf_flow.specs.views.ClassSets.{IsSet};
 
 use lf_ast::{Expr, has_dollar, text_at};
 use lf_base::names::is_label_name;

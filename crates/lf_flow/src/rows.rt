@@ -1,25 +1,30 @@
 //! The row of an expression.
-ghost use Rattle.std.specs.Prelude.{◌≡◌, List, Some, IfOk};
+ghost use Rattle.std.specs.Prelude.{◌≡◌, List, Some, map, IfOk};
 ghost use Rattle.std.specs.List.{Contains};
 ghost use Rattle.lf_ast.specs.Functions.{signature_of};
 ghost use Rattle.lf_ast.specs.Labels.{Labels};
-ghost use Rattle.lf_ast.specs.Tree.{tree, trees};
+ghost use Rattle.lf_ast.specs.Tree.{parts_of, tree};
+ghost use Rattle.lf_ast.specs.views.Walks.{chosen};
 ghost use Rattle.lf_semantics.specs.ClassRows.{Represents};
 ghost use Rattle.lf_semantics.specs.Environments.{Admits, Covers, IsEnvironment};
 ghost use Rattle.lf_semantics.specs.Evaluation.{Evaluates};
 ghost use Rattle.lf_semantics.specs.Laws.{GrowsFrom};
 ghost use Rattle.lf_semantics.specs.Listing.{IsListing};
 ghost use Rattle.lf_semantics.specs.Parts.{type_by_form};
-ghost use Rattle.lf_semantics.specs.RowTable.{call_row, row_at, row_of};
+ghost use Rattle.lf_semantics.specs.RowTable.{row_of};
+ghost use Rattle.lf_flow.specs.views.Kept.{given_of, kept_row, operand_part, parts_needed};
 
 use crate::Env;
 use crate::given::{
-    Given, binary, empty, finished, number, operand_place, ranged, selector, signed,
+    Given, binary, both, called, empty, number, operand, operand_place, ranged, selector, signed,
+    the_only, whole,
 };
+use lf_ast::walk::{Fold, Parts, fold_up};
 use lf_ast::{Expr, ExprType, Function, Grouping};
 use lf_base::Memory;
 use lf_classes::{Row, Universe};
 use std::alloc::Global;
+use std::marker::Model;
 
 /// The row of an expression in an environment, by the table of constructs. A range vector has the row of its selector or subquery, a scalar that of the one sample
 /// without labels, and a string the empty row.
@@ -33,20 +38,96 @@ pub fn flow(alloc: Global, universe: &Universe, env: &Env, expr: &Expr) -> Resul
     ensures grows { IfOk result (GrowsFrom universe.now env.now (tree expr.now)) }
 {
     let _labels = universe.labels();
-    let told = given(alloc, universe, env, expr)?;
-    Ok(told.row)
+    let told = row(alloc, universe, env, expr)?;
+    Ok(told)
 }
 
-/// The row and the type of an expression. It only calls, since it recurs as deep as expressions nest.
-#[cycle(given)]
-fn given(alloc: Global, universe: &Universe, env: &Env, expr: &Expr) -> Result<Given, Memory>
+/// The same, of a universe that is known to be one.
+fn row(alloc: Global, universe: &Universe, env: &Env, expr: &Expr) -> Result<Row, Memory>
     requires listing { IsListing universe.now }
     requires env { IsEnvironment universe.now env.now }
-    ensures row { IfOk result (λ given. given.row ≡ row_of universe.now env.now (tree expr.now)) }
+    ensures { IfOk result (λ row. row ≡ row_of universe.now env.now (tree expr.now)) }
+{
+    let whole = fold_up(alloc, &Rows { universe, env }, expr)?;
+    whole.into_row(alloc, universe)
+}
+
+/// Makes the row of an expression of those of its parts, in an environment. Of the arguments of a call only the operand is looked at.
+#[derive(Drop)]
+struct Rows<'a> {
+    universe: &'a Universe,
+    env: &'a Env,
+}
+
+impl<'a> Model for Rows<'a> {
+    ghost use Rattle.lf_semantics.specs.Environments.{IsEnvironment};
+    ghost use Rattle.lf_semantics.specs.Listing.{IsListing, Listing};
+    ghost use Rattle.lf_semantics.specs.RowTable.{Environment};
+
+    ghost Value = { Listing × Environment };
+
+    ghost view = { λ rows. (rows.universe.now, rows.env.now) };
+
+    ghost invariant = { λ rows. IsListing rows.universe.now × IsEnvironment rows.universe.now rows.env.now };
+}
+
+impl<'a> Fold for Rows<'a> {
+    type Value = Given;
+
+    ghost value = { λ rows e. given_of rows.0 rows.1 e };
+
+    ghost needed = { λ rows e. parts_needed e };
+
+    fn needed(&self, expr: &Expr) -> Parts {
+        match expr {
+            Expr::Call { name, .. } => match Function::named(name.as_str()) {
+                Some(function) => operand_part(&function),
+                None => Parts::Nothing,
+            },
+            Expr::Aggregate { op, .. } => operand_part(&Function::of_aggregation(*op)),
+            Expr::Number { .. }
+            | Expr::Str { .. }
+            | Expr::Selector { .. }
+            | Expr::Subquery { .. }
+            | Expr::Paren { .. }
+            | Expr::Unary { .. }
+            | Expr::Binary { .. } => Parts::All,
+        }
+    }
+
+    fn step(&self, alloc: Global, expr: &Expr, values: Vec<Given>) -> Result<Given, Memory>
+        requires { values.items ≡ map (given_of self.now.0 self.now.1) (chosen (parts_needed (tree expr.now)) (parts_of (tree expr.now))) }
+        ensures { IfOk result (λ made. made ≡ given_of self.now.0 self.now.1 (tree expr.now)) }
+    {
+        given(alloc, self.universe, self.env, expr, values)
+    }
+}
+
+/// The operand of a function among its arguments.
+fn operand_part(function: &Function) -> Parts
+    ensures { result ≡ operand_part (Some (signature_of function.now)) }
+{
+    Parts::Only {
+        place: operand_place(function.takes),
+    }
+}
+
+/// What is told of an expression, from what is told of its parts.
+fn given(
+    alloc: Global,
+    universe: &Universe,
+    env: &Env,
+    expr: &Expr,
+    parts: Vec<Given>,
+) -> Result<Given, Memory>
+    requires listing { IsListing universe.now }
+    requires env { IsEnvironment universe.now env.now }
+    requires parts { parts.items ≡ map (given_of universe.now env.now) (chosen (parts_needed (tree expr.now)) (parts_of (tree expr.now))) }
+    ensures row { IfOk result (λ given. given.row ≡ kept_row universe.now env.now (tree expr.now)) }
     ensures form { IfOk result (λ given. given.form ≡ type_by_form (tree expr.now)) }
 {
     match expr {
-        Expr::Number { .. } => number(alloc, universe),
+        Expr::Number { .. } => Ok(number()),
         Expr::Str { .. } => empty(alloc, universe, ExprType::Str),
         Expr::Selector {
             name,
@@ -61,34 +142,21 @@ fn given(alloc: Global, universe: &Universe, env: &Env, expr: &Expr) -> Result<G
             matchers.as_slice(),
             &sight.range,
         ),
-        Expr::Subquery { of, .. } => {
-            let operand = given(alloc, universe, env, of)?;
-            Ok(ranged(operand))
-        }
-        Expr::Paren { of, .. } => given(alloc, universe, env, of),
-        Expr::Unary { minus, of, .. } => {
-            let operand = given(alloc, universe, env, of)?;
-            Ok(signed(universe, *minus, operand))
-        }
-        Expr::Binary {
-            op,
-            modifier,
-            left,
-            right,
-            ..
-        } => {
-            let left_side = given(alloc, universe, env, left)?;
-            let right_side = given(alloc, universe, env, right)?;
-            binary(alloc, universe, *op, modifier, left_side, right_side)
+        Expr::Subquery { .. } => ranged(alloc, universe, the_only(parts)),
+        Expr::Paren { .. } => whole(alloc, universe, the_only(parts)),
+        Expr::Unary { minus, .. } => signed(alloc, universe, *minus, the_only(parts)),
+        Expr::Binary { op, modifier, .. } => {
+            let (left, right) = both(parts);
+            binary(alloc, universe, *op, modifier, left, right)
         }
         Expr::Call { name, args, .. } => match Function::named(name.as_str()) {
             Some(function) => called(
                 alloc,
                 universe,
-                env,
                 &function,
                 &Grouping::None,
                 args.as_slice(),
+                operand(parts),
             ),
             None => empty(alloc, universe, ExprType::Vector),
         },
@@ -100,38 +168,10 @@ fn given(alloc: Global, universe: &Universe, env: &Env, expr: &Expr) -> Result<G
         } => called(
             alloc,
             universe,
-            env,
             &Function::of_aggregation(*op),
             grouping,
             args.as_slice(),
+            operand(parts),
         ),
-    }
-}
-
-/// The row and the type of a call or an aggregation, by its operand.
-#[cycle(given)]
-#[inline(never)]
-fn called(
-    alloc: Global,
-    universe: &Universe,
-    env: &Env,
-    function: &Function,
-    grouping: &Grouping,
-    args: &[Expr],
-) -> Result<Given, Memory>
-    requires listing { IsListing universe.now }
-    requires env { IsEnvironment universe.now env.now }
-    ensures row { IfOk result (λ given. given.row ≡ call_row universe.now (Some (signature_of function.now)) grouping.now (trees args.now) (row_at universe.now env.now (trees args.now))) }
-    ensures form { IfOk result (λ given. given.form ≡ function.now.gives) }
-{
-    match args.get(operand_place(function.takes)) {
-        Some(arg) => {
-            let operand = given(alloc, universe, env, arg)?;
-            finished(alloc, universe, function, grouping, args, operand.row)
-        }
-        None => {
-            let operand = Row::empty(alloc, universe)?;
-            finished(alloc, universe, function, grouping, args, operand)
-        }
     }
 }

@@ -6,7 +6,7 @@ ghost use Rattle.lf_semantics.specs.Environments.{IsEnvironment};
 ghost use Rattle.lf_semantics.specs.Listing.{IsListing, class_of, named_at};
 ghost use Rattle.lf_ast.specs.Selectors.{selected_name};
 ghost use Rattle.lf_semantics.specs.RowTable.{row_named, row_or_series, scraped_row, seen_row, selector_row, series_row, with_recorded};
-ghost use Rattle.lf_flow.specs.ClassSets.{IsSet};
+ghost use Rattle.lf_flow.specs.views.ClassSets.{IsSet};
 ghost use Rattle.lf_flow.specs.Raising.{joined_each};
 
 use crate::Env;

@@ -1,15 +1,14 @@
 -- Numbers that are added to an ordered set.
-use Rattle.std.proofs.Common.{◌≡◌, ℕ, ◌+◌, ◌<◌, ◌≤◌, ◌⊎◌, List, [], ◌∷◌, ◌++◌, take, length, get_or, inl, inr, refl, sym, ◌∙◌, ap, subst, arith}
+use Rattle.std.proofs.Common.{◌≡◌, ℕ, ◌+◌, ◌<◌, ◌≤◌, ◌⊎◌, List, [], ◌∷◌, ◌++◌, take, length, get_or, inl, inr, refl, sym, subst, arith}
 use Rattle.std.specs.BTreeSet.{insert_key}
 use Rattle.std.specs.List.{Contains, flat_map}
 use Rattle.std.specs.Ordering.{match_ordering, nat_cmp}
 use Rattle.std.specs.declared.cmp.Ordering.{Ordering}
 use Rattle.std.specs.declared.cmp.Ordering.TheVariants.{Equal, Greater, Less}
-use Rattle.std.proofs.lemmas.Grind.{flat_map-append}
-use Rattle.std.proofs.lemmas.List.{append-nil, take_more}
 use Rattle.std.proofs.lemmas.List.Elements.{Contains-append_cases, Contains-append_left, Contains-append_right, Contains-push, Contains-push_cases}
 use Rattle.std.proofs.lemmas.Map.Lookups.{exact_unsigned}
-use Rattle.lf_graph.specs.Listing.{Adds, AddsBelow}
+use Rattle.lf_graph.specs.views.Listing.{Adds, AddsBelow}
+use Rattle.lf_graph.proofs.Prefixes.{flat_map_next, prefix_next}
 use Rattle.lf_laws.proofs.Members.{behind, first_or_behind, here, none_in, only_one}
 
 insert_to : (xs : List ℕ) (x k : ℕ) → Contains (insert_key nat_cmp xs x) k → Contains xs k ⊎ (x ≡ k)
@@ -85,19 +84,12 @@ pub adds_more : {X : Type 0} (f : X → List ℕ) (xs : List X) (k : ℕ) (d x :
     → Adds (flat_map f (take (k + 1) xs)) a c
 adds_more f xs k d x a b c h is g s =
     let P : List ℕ → Type 0 = λ l. Adds l a c in
-    let front : List ℕ = flat_map f (take k xs) in
-    let last : x ∷ [] ≡ get_or xs k d ∷ [] = ap (λ y. y ∷ []) is in
-    let more : front ++ f x ≡ flat_map f (take (k + 1) xs) =
-    ap (λ (l : List ℕ). front ++ l) (sym (append-nil (f x)))
-    ∙ sym (flat_map-append f (take k xs) (x ∷ []))
-    ∙ ap (λ l. flat_map f (take k xs ++ l)) last
-    ∙ ap (flat_map f) (sym (take_more xs k d h)) in
-    subst P more (adds_then front (f x) a b c g s)
+    subst P (sym (flat_map_next f xs k d x h is)) (adds_then (flat_map f (take k xs)) (f x) a b c g s)
 
 pub adds_next : (numbers : List ℕ) (k x : ℕ) (a b c : List ℕ) → k < length numbers → x ≡ get_or numbers k 0 → Adds (take k numbers) a b → Adds (x ∷ []) b c → Adds (take (k + 1) numbers) a c
 adds_next numbers k x a b c h is g s =
     let P : List ℕ → Type 0 = λ l. Adds l a c in
-    subst P (ap (λ (y : ℕ). take k numbers ++ y ∷ []) is ∙ sym (take_more numbers k 0 h)) (adds_then (take k numbers) (x ∷ []) a b c g s)
+    subst P (sym (prefix_next numbers k 0 x h is)) (adds_then (take k numbers) (x ∷ []) a b c g s)
 
 -- numbers below one
 

@@ -3,7 +3,7 @@ use Rattle.std.proofs.Common.{◌≡◌, ℕ, ◌<◌, ◌≤◌, ◌↔◌, Lis
 use Rattle.std.specs.List.{Contains}
 use Rattle.std.proofs.lemmas.Bool.{cases_lt}
 use Rattle.lf_graph.specs.Paths.{Leads}
-use Rattle.lf_graph.specs.Search.{AllLead, IsLater, IsSearch, Rise, open_at, state_of}
+use Rattle.lf_graph.specs.views.Search.{AllLead, IsLater, IsSearch, Rise, open_at, state_of}
 use Rattle.lf_graph.specs.declared.search.Node.TheVariants.{Open, Closed}
 use Rattle.lf_graph.specs.declared.search.Search.{Search}
 use Rattle.lf_laws.proofs.Members.{only_one}

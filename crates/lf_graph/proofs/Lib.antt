@@ -10,5 +10,6 @@ mod Meeting
 mod Nodes
 mod Numbered
 pub mod Paths
+pub mod Prefixes
 mod Reaching
 mod Taking

@@ -5,7 +5,7 @@ use Rattle.std.proofs.lemmas.Bool.{cases_eq, cases_lt}
 use Rattle.std.proofs.lemmas.List.{get_or-set_other, get_or-set_same, length-replicate, length-set}
 use Rattle.std.proofs.lemmas.List.Elements.{Contains-append_left, Contains-push, Contains-push_cases}
 use Rattle.lf_graph.specs.Components.{AreComponents, AreNumbers, Components, number_of}
-use Rattle.lf_graph.specs.Listing.{Adds, AreMembers, AreNexts, IsMember, IsNext, numbers_of}
+use Rattle.lf_graph.specs.views.Listing.{Adds, AreMembers, AreNexts, IsMember, IsNext, numbers_of}
 use Rattle.lf_graph.specs.Paths.{IsGraph, after}
 use Rattle.lf_laws.proofs.Members.{in_map, map_member, none_in}
 

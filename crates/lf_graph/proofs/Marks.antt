@@ -5,7 +5,7 @@ use Rattle.std.specs.List.{Contains}
 use Rattle.std.proofs.lemmas.Bool.{cases_eq}
 use Rattle.std.proofs.lemmas.List.{get_or-set_other, get_or-set_same, length-set, take_more}
 use Rattle.std.proofs.lemmas.List.Elements.{Contains-append_left, Contains-push, Contains-push_cases}
-use Rattle.lf_graph.specs.Search.{IsClosing}
+use Rattle.lf_graph.specs.views.Search.{IsClosing}
 use Rattle.lf_graph.specs.declared.search.Node.{Node}
 use Rattle.lf_graph.specs.declared.search.Node.TheVariants.{Unmet, Closed}
 

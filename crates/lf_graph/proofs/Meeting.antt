@@ -6,7 +6,7 @@ use Rattle.std.proofs.lemmas.Bool.{cases_eq, cases_lt}
 use Rattle.std.proofs.lemmas.List.{get_or-append_right, get_or-map, get_or-set_other, get_or-set_same, get_or_append_left, get_or_push, length-append, length-map, length-set}
 use Rattle.std.proofs.lemmas.List.Elements.{Contains-append_left, Contains-push, Contains-push_cases}
 use Rattle.lf_graph.specs.Paths.{Leads, after, nowhere}
-use Rattle.lf_graph.specs.Search.{AllLead, AreClosed, AreDue, AreOpen, AreParts, IsFollowed, IsLater, IsMet, IsSearch, edges_from, from_at, open_at, state_of, to_at, to_come, work}
+use Rattle.lf_graph.specs.views.Search.{AllLead, AreClosed, AreDue, AreOpen, AreParts, IsFollowed, IsLater, IsMet, IsSearch, edges_from, from_at, open_at, state_of, to_at, to_come, work}
 use Rattle.lf_graph.specs.declared.search.Edge.{Edge}
 use Rattle.lf_graph.specs.declared.search.Node.TheVariants.{Unmet, Open, Closed}
 use Rattle.lf_graph.specs.declared.search.Search.{Search}

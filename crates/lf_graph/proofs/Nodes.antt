@@ -1,7 +1,7 @@
 -- What is known of nodes, and the work that is left.
 use Rattle.std.proofs.Common.{◌≡◌, ℕ, zero, suc, ◌<◌, ◌+◌, ◌⊎◌, List, [], ◌∷◌, length, get_or, inl, inr, refl, sym, ◌∙◌, ap, arith}
 use Rattle.std.specs.Prelude.{slice_set}
-use Rattle.lf_graph.specs.Search.{number_in, to_come, weight}
+use Rattle.lf_graph.specs.views.Search.{number_in, to_come, weight}
 use Rattle.lf_graph.specs.declared.search.Node.{Node}
 use Rattle.lf_graph.specs.declared.search.Node.TheVariants.{Unmet, Open, Closed}
 

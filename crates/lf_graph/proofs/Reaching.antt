@@ -7,7 +7,7 @@ use Rattle.std.specs.declared.cmp.Ordering.TheVariants.{Less}
 use Rattle.std.proofs.lemmas.Cmp.{ranked}
 use Rattle.std.proofs.lemmas.List.Elements.{All-contains, Contains-append_left, Contains-push, Contains-push_cases}
 use Rattle.lf_graph.specs.Components.{AreComponents, Components, number_of}
-use Rattle.lf_graph.specs.Listing.{Adds, AddsBelow, numbers_of}
+use Rattle.lf_graph.specs.views.Listing.{Adds, AddsBelow, numbers_of}
 use Rattle.lf_graph.specs.Paths.{IsReached, Leads}
 use Rattle.lf_graph.specs.Paths.Leads.{nowhere, along}
 use Rattle.lf_laws.proofs.Members.{behind, first_or_behind, in_map, map_member, none_in}

@@ -4,7 +4,7 @@ use Rattle.std.specs.List.{Contains}
 use Rattle.std.proofs.lemmas.Bool.{cases_lt}
 use Rattle.std.proofs.lemmas.List.{get_or-take, length-take}
 use Rattle.lf_graph.specs.Paths.{IsGraph, Leads, after}
-use Rattle.lf_graph.specs.Search.{AllLead, IsFollowed, IsSearch, TakesDue, from_at, open_at, to_at, work}
+use Rattle.lf_graph.specs.views.Search.{AllLead, IsFollowed, IsSearch, TakesDue, from_at, open_at, to_at, work}
 use Rattle.lf_graph.specs.declared.search.Edge.{Edge}
 use Rattle.lf_graph.specs.declared.search.Search.{Search}
 use Rattle.lf_laws.proofs.Members.{none_in}

@@ -1,5 +1,3 @@
-pub mod Buckets
 pub mod Components
-pub mod Listing
 pub mod Paths
-pub mod Search
+pub mod views

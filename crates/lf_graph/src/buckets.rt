@@ -1,6 +1,6 @@
 //! Lists of numbers, by number.
 ghost use Rattle.std.specs.Prelude.{◌≡◌, ◌<◌, ◌++◌, ◌∷◌, [], length, replicate, slice_index_or, IfOk, OnOk};
-ghost use Rattle.lf_graph.specs.Buckets.{put_at};
+ghost use Rattle.lf_graph.specs.views.Buckets.{put_at};
 
 use lf_base::{Memory, Seq};
 use std::alloc::Global;

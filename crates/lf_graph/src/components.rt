@@ -2,7 +2,7 @@
 ghost use Rattle.std.specs.Prelude.{◌≡◌, ◌<◌, ◌↔◌, ◌++◌, [], ◌∷◌, ℕ, List, length, map, replicate, IfOk, IsTrue, OnOk, slice_index_or, slice_set};
 ghost use Rattle.std.specs.List.{Contains};
 ghost use Rattle.lf_graph.specs.Components.{AreComponents, AreNumbers, number_of};
-ghost use Rattle.lf_graph.specs.Listing.{Adds, AddsBelow, AreMembers, AreNexts, numbers_of};
+ghost use Rattle.lf_graph.specs.views.Listing.{Adds, AddsBelow, AreMembers, AreNexts, numbers_of};
 ghost use Rattle.lf_graph.specs.Paths.{IsGraph, IsOnCircle, IsReached};
 
 use crate::buckets::Buckets;

@@ -2,7 +2,7 @@
 ghost use Rattle.std.specs.Prelude.{◌≡◌, map, IfOk};
 ghost use Rattle.lf_graph.specs.Components.{AreNumbers};
 ghost use Rattle.lf_graph.specs.Paths.{IsGraph};
-ghost use Rattle.lf_graph.specs.Search.{number_in};
+ghost use Rattle.lf_graph.specs.views.Search.{number_in};
 
 use crate::search::{Node, Search};
 use lf_base::{Memory, Seq};

@@ -2,7 +2,7 @@
 ghost use Rattle.std.specs.Prelude.{◌≡◌, ◌≤◌, ◌<◌, ◌+◌, ◌-◌, ◌++◌, ◌↔◌, ℕ, true, false, [], ◌∷◌, length, slice_index_or, slice_set, drop, take, IfOk, IfNone, IfSome, OnOk};
 ghost use Rattle.std.specs.List.{Contains};
 ghost use Rattle.lf_graph.specs.Paths.{IsGraph};
-ghost use Rattle.lf_graph.specs.Search.{AllLead, IsClosing, IsMet, IsSearch, NoneDue, Rise, TakesDue, edges_from, from_at, state_of, work};
+ghost use Rattle.lf_graph.specs.views.Search.{AllLead, IsClosing, IsMet, IsSearch, NoneDue, Rise, TakesDue, edges_from, from_at, state_of, work};
 ghost use Rattle.lf_graph.specs.declared.search.Node.TheVariants.{Unmet};
 
 use crate::counting::one_more;

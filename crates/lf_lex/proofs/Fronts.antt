@@ -7,7 +7,7 @@ use Rattle.std.specs.Str.Lossy.{utf8_valid_len}
 use Rattle.std.proofs.lemmas.Str.{is_utf8-from_IsUtf8, IsUtf8-from_is_utf8}
 use Rattle.lf_base.specs.declared.kind.Kind.TheVariants.{BadByte, BadEscape}
 use Rattle.lf_lex.specs.declared.token.TokenKind.TheVariants as kinds
-use Rattle.lf_lex.specs.Bytes.{is_continuation, is_line_feed}
+use Rattle.lf_lex.specs.Bytes.{is_continuation, is_line_break}
 use Rattle.lf_lex.specs.reading.Signs.{sign_at}
 use Rattle.lf_lex.specs.reading.Strings.{gives, bytes_of, places_of}
 use Rattle.lf_lex.specs.reading.Steps.{Front, breach, token, value_front, raw_front, sign_front}
@@ -37,6 +37,6 @@ pub no_sign : (from : List ℕ) (at more : ℕ) (src : List ℕ) → sign_at src
 unfolding sign_front
 no_sign from at more src e m = rw (e, m) refl
 
-pub comment_some : (bs : List ℕ) (at : ℕ) → at < length bs → get_or bs at 0 ≡ 35 → 0 < prefix_len (λ b. not (is_line_feed b)) (drop at bs)
-unfolding is_line_feed
-comment_some bs at lt e = some_pass (λ b. not (is_line_feed b)) (drop at bs) (omega (arith, length-drop at bs)) (ap (λ (b : ℕ). not (is_line_feed b)) (first_drop bs at ∙ e))
+pub comment_some : (bs : List ℕ) (at : ℕ) → at < length bs → get_or bs at 0 ≡ 35 → 0 < prefix_len (λ b. not (is_line_break b)) (drop at bs)
+unfolding is_line_break
+comment_some bs at lt e = some_pass (λ b. not (is_line_break b)) (drop at bs) (omega (arith, length-drop at bs)) (ap (λ (b : ℕ). not (is_line_break b)) (first_drop bs at ∙ e))

@@ -1,5 +1,6 @@
 -- The longest beginning of a sort, told by its length.
 use Rattle.std.proofs.Common.{◌≡◌, ℕ, suc, ◌+◌, ◌-◌, ◌<◌, ◌≤◌, Bool, true, false, cond, List, [], ◌∷◌, ◌++◌, length, take, drop, refl, ap, arith, append_assoc, sym, ◌∙◌, subst, ◌⊎◌, inl, inr, length-append, length-take-le, take-append-drop}
+use Rattle.std.proofs.Math.Seq.{take-append-add}
 use Rattle.std.proofs.lemmas.Bool.{cases_lt, and_parts}
 use Rattle.std.specs.List.{prefix_len, list_all}
 use Rattle.lf_lex.specs.Parts.{IsLongest}
@@ -12,8 +13,7 @@ pub record Greatest (sort : List ℕ → Type 0) (src : List ℕ) (n : ℕ) : Ty
 
 -- a beginning that goes on behind a text
 pub take_on : (xs ys : List ℕ) (k n : ℕ) → n ≡ length xs + k → take n (xs ++ ys) ≡ xs ++ take k ys
-take_on [] ys k n e = ap (λ (m : ℕ). take m ys) (e ∙ omega arith)
-take_on (x ∷ xs) ys k n e = let f : n ≡ suc (length xs + k) = e ∙ omega arith in ap (λ (m : ℕ). take m (x ∷ (xs ++ ys))) f ∙ ap (λ (zs : List ℕ). x ∷ zs) (take_on xs ys k (length xs + k) refl)
+take_on xs ys k n e = ap (λ (m : ℕ). take m (xs ++ ys)) e ∙ take-append-add xs ys k
 
 module _ (sort : List ℕ → Type 0) (src : List ℕ) (n : ℕ) (g : Greatest sort src n) where
   pub greatest_longest : IsLongest sort (take n src) (drop n src)

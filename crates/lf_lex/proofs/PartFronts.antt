@@ -1,18 +1,18 @@
 -- Blanks, comments, words, signs, strings in back quotes and unknown characters at the front of a text.
 use Rattle.std.proofs.Common.{◌≡◌, ◌≢◌, ℕ, zero, suc, ◌+◌, ◌-◌, ◌<◌, ◌≤◌, Bool, true, false, not, eqb, ltb, List, [], ◌∷◌, ◌++◌, length, take, drop, Option, Some, None, refl, ap, arith, append_assoc, append-nil, sym, ◌∙◌, subst, ◌⊎◌, inl, inr, length-append, length-take-le, take-append-drop}
 use Rattle.std.proofs.lemmas.List.{take_at}
-use Rattle.std.proofs.lemmas.Bool.{cases_lt, and_parts, or_from, false≢true, false_from_ne_true, ne_eqb, eqb-true, eq-eqb, lt-ltb, le-ltb}
+use Rattle.std.proofs.lemmas.Bool.{cases_lt, and_parts, or_from, false≢true, false_from_ne_true, ne_eqb, eqb-true, lt-ltb, le-ltb}
 use Rattle.std.specs.List.{prefix_len, list_all}
 use Rattle.lf_base.specs.declared.kind.Kind.TheVariants.{BadByte, OpenString}
 use Rattle.lf_lex.specs.declared.token.Sign.{Sign}
 use Rattle.lf_lex.specs.declared.token.Sign.TheVariants.{Colon}
 use Rattle.lf_lex.specs.declared.token.TokenKind.TheVariants as kinds
-use Rattle.lf_lex.specs.Bytes.{Each, is_blank, is_line_feed, is_no_line_feed, is_no_back_quote, is_continuation, begins_word, is_in_word}
+use Rattle.lf_lex.specs.Bytes.{Each, is_blank, is_line_break, is_no_line_break, is_no_back_quote, is_continuation, begins_word, is_in_word}
 use Rattle.lf_base.specs.Names.{is_letter, begins_label}
 use Rattle.lf_lex.specs.Signs.{spelling}
 use Rattle.lf_lex.specs.Runs.{begins_run}
 use Rattle.lf_lex.specs.Strings.{IsQuote, in_back_quotes}
-use Rattle.lf_lex.specs.Parts.{IsLongest, IsWord, IsSign, IsSomeSign, Blank, Comment, Written, EndsLine}
+use Rattle.lf_lex.specs.Parts.{IsLongest, IsWord, IsSign, IsSomeSign, Blank, Comment, Written, EndsComment}
 use Rattle.lf_lex.specs.Breaches.{IsBeginning, a_blank, a_comment, a_word, a_run, a_quote, a_back_quote, a_sign, IsCharacter, BeginsNothing, in_back_quotes as open_back_quotes}
 use Rattle.lf_lex.specs.reading.Signs.{sign_at}
 use Rattle.lf_lex.specs.reading.Steps.{Front, gap, token, breach, comment_front, word_front, raw_front, sign_front, next_token}
@@ -25,34 +25,32 @@ use Rattle.lf_lex.proofs.Standing.{Standing, stands, fails}
 
 -- ---- comments
 
-line_stops : (rest : List ℕ) → EndsLine rest → Stops is_no_line_feed rest
-unfolding is_line_feed
-line_stops [] h = tt
-line_stops (b ∷ rest) h = rw (eq-eqb b 10 h) refl
+comment_stops : (rest : List ℕ) → EndsComment rest → Stops is_no_line_break rest
+comment_stops [] h = tt
+comment_stops (b ∷ rest) h = ap not h
 
-line_ends : (rest : List ℕ) → Stops is_no_line_feed rest → EndsLine rest
-unfolding is_line_feed
-line_ends [] h = tt
-line_ends (b ∷ rest) h = eqb-true b 10 (not-false' (eqb b 10) h)
+comment_ends : (rest : List ℕ) → Stops is_no_line_break rest → EndsComment rest
+comment_ends [] h = tt
+comment_ends (b ∷ rest) h = not-false' (is_line_break b) h
   where
     not-false' : (t : Bool) → not t ≡ false → t ≡ true
     not-false' true h = refl
     not-false' false h = absurd (false≢true (sym h))
 
-hash_no_feed : is_no_line_feed 35 ≡ true
-unfolding is_line_feed
-hash_no_feed = refl
+hash_no_break : is_no_line_break 35 ≡ true
+unfolding is_line_break
+hash_no_break = refl
 
-hash_and : (line : List ℕ) → Each is_no_line_feed line → Each is_no_line_feed (35 ∷ line)
-hash_and line h = rw hash_no_feed h
+hash_and : (line : List ℕ) → Each is_no_line_break line → Each is_no_line_break (35 ∷ line)
+hash_and line h = rw hash_no_break h
 
 module _ (from : List ℕ) (inside : Bool) (at : ℕ) where
   pub blank_reads : (b : ℕ) (rest : List ℕ) → is_blank b ≡ true → next_token from inside at (b ∷ rest) ≡ gap 1
   blank_reads b rest h = front_blank from inside at rest b h
 
-  pub comment_reads : (line rest : List ℕ) → Each is_no_line_feed line → EndsLine rest → next_token from inside at (35 ∷ (line ++ rest)) ≡ gap (length (35 ∷ line))
+  pub comment_reads : (line rest : List ℕ) → Each is_no_line_break line → EndsComment rest → next_token from inside at (35 ∷ (line ++ rest)) ≡ gap (length (35 ∷ line))
   unfolding comment_front
-  comment_reads line rest h e = front_comment from inside at (line ++ rest) ∙ ap gap (row_is is_no_line_feed (35 ∷ line) rest (hash_and line h) (line_stops rest e))
+  comment_reads line rest h e = front_comment from inside at (line ++ rest) ∙ ap gap (row_is is_no_line_break (35 ∷ line) rest (hash_and line h) (comment_stops rest e))
 
   -- ---- words
 
@@ -172,8 +170,8 @@ module _ (inside : Bool) where
 
   pub comment_stands : (src : List ℕ) → Standing inside (35 ∷ src)
   comment_stands src =
-      let n = prefix_len is_no_line_feed src in
-      stands (Comment (take n src)) (drop n src) (ap (λ (x : List ℕ). 35 ∷ x) (sym (take-append-drop n src))) (row_all is_no_line_feed src, line_ends (drop n src) (row_then is_no_line_feed src))
+      let n = prefix_len is_no_line_break src in
+      stands (Comment (take n src)) (drop n src) (ap (λ (x : List ℕ). 35 ∷ x) (sym (take-append-drop n src))) (row_all is_no_line_break src, comment_ends (drop n src) (row_then is_no_line_break src))
 
   pub word_stands : (b : ℕ) (src : List ℕ) → begins_word inside b ≡ true → Standing inside (b ∷ src)
   word_stands b src h =

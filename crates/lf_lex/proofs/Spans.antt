@@ -96,9 +96,11 @@ module _ (from text : List ℕ) (offsets : length from ≡ length text + 1) (ris
   tokens_lie tokens t = let l = ap length t.source in subst (LieIn n) (sym t.tokens_are) (parts_lie t.parts 0 (omega arith))
 
 module _ (from text : List ℕ) (offsets : length from ≡ length text + 1) (rises : IsNonDecreasing from) where
-  found_lie : (n : ℕ) → get_or from (length text) 0 ≤ n → (r : Result (List Token) Refusal) → IfOk r (Tokens from text) → IfOk r (LieIn n)
-  found_lie n last (Ok tokens) t = tokens_lie from text offsets rises n last tokens t
-  found_lie n last (Err refusal) t = tt
+  -- the spans of what is answered lie in the source
+  pub found_inside : (r : Result (List Token) Refusal) → IfOk r (Tokens from text) → (n : ℕ) → get_or from (length text) 0 ≤ n → IfOk r (LieIn n)
+  found_inside (Ok tokens) t n last = tokens_lie from text offsets rises n last tokens t
+  found_inside (Err refusal) t n last = tt
 
-  pub all_lie : (r : Result (List Token) Refusal) → IfOk r (Tokens from text) → Refused (Breaks from text) r → (n : ℕ) → get_or from (length text) 0 ≤ n → IfOk r (LieIn n) × RefusedIn n r
-  all_lie r found refused n last = (found_lie n last r found, refused_in n (Breaks from text) (breach_lies from text offsets rises n last) r refused)
+  -- and so does that of a refusal
+  pub refused_inside : (r : Result (List Token) Refusal) → Refused (Breaks from text) r → (n : ℕ) → get_or from (length text) 0 ≤ n → RefusedIn n r
+  refused_inside r refused n last = refused_in n (Breaks from text) (breach_lies from text offsets rises n last) r refused

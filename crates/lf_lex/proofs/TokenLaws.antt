@@ -12,7 +12,8 @@ use Rattle.lf_lex.specs.Parts.{Part, Blank, Comment, Written, part_text, IsPart,
 use Rattle.lf_lex.specs.Breaches.{IsBreach}
 use Rattle.lf_lex.specs.Tokens.{in_source, token_of, tokens_of, Tokens, Breaks}
 use Rattle.lf_base.specs.declared.fault.Fault.{Fault}
-use Rattle.lf_base.specs.Answers.{Answers, Refused, Decides, OneAnswer}
+use Rattle.lf_base.specs.Answers.{Answers, Refused, OneAnswer}
+use Rattle.lf_base.proofs.Answering.{Decides}
 use Rattle.lf_lex.specs.reading.Steps.{next_token}
 use Rattle.lf_lex.specs.reading.Reads.{Reads, ends, goes_on, breaks, behind, tokens_at, with_front}
 use Rattle.lf_lex.proofs.FrontLaws.{found_of, part_reads, breach_reads, something_stands, part_some, breach_some}

@@ -13,13 +13,13 @@ use Rattle.lf_lex.specs.declared.token.Sign.TheVariants as signs
 use Rattle.lf_lex.specs.declared.token.Token.{Token}
 use Rattle.lf_lex.specs.declared.token.TokenKind.{TokenKind}
 use Rattle.lf_lex.specs.declared.token.TokenKind.TheVariants as kinds
-use Rattle.lf_lex.specs.Bytes.{is_dot, is_exponent, is_plus_minus, is_in_run, is_in_mantissa, is_blank, is_octal, begins_word, is_in_word, is_line_feed}
+use Rattle.lf_lex.specs.Bytes.{is_dot, is_exponent, is_plus_minus, is_in_run, is_in_mantissa, is_blank, is_octal, begins_word, is_in_word, is_line_break}
 use Rattle.lf_base.specs.Names.{is_letter, is_digit, is_hexadecimal, begins_label}
 use Rattle.lf_lex.specs.Signs.{spelling}
 use Rattle.lf_lex.specs.Runs.{begins_run, IsRun, IsNumber, lower_x, no_dot, one_dot, no_exponent, unsigned_exponent, signed_exponent, hexadecimal_number, decimal_number}
 use Rattle.lf_lex.specs.Durations.{Hours, Minutes, Seconds, Amount, AreAmounts, IsDuration, IsDisordered}
 use Rattle.lf_lex.specs.Strings.{IsString, in_quotes, in_back_quotes, One, Pair, IsRaw, Escape, Bare, byte_of_letter, hexadecimal_value, hexadecimal_byte}
-use Rattle.lf_lex.specs.Parts.{IsLongest, IsWord, IsSomeSign, Blank, Comment, Written}
+use Rattle.lf_lex.specs.Parts.{IsLongest, IsWord, IsSomeSign, Blank, Comment, Written, IsPart}
 use Rattle.lf_lex.specs.Breaches.{BeginsNothing, in_quotes as open_quotes, line_ends, BeginsNoEscape, no_escape, no_utf8}
 use Rattle.lf_lex.specs.Tokens.{Tokens, Breaks}
 use Rattle.lf_lex.specs.reading.Strings.{escape, octal_byte}
@@ -290,13 +290,18 @@ unfolding is_in_word begins_word begins_label is_letter is_digit
 c_longest = word_ends false 99 (codes " # d") refl
 
 two_signs : Tokens (0 ∷ 1 ∷ 2 ∷ 3 ∷ 4 ∷ 5 ∷ 6 ∷ 7 ∷ 8 ∷ 9 ∷ 10 ∷ 11 ∷ []) (codes "a=~b= c # d") (word "a" 0 1 ∷ sign signs.Matches 1 3 ∷ word "b" 3 4 ∷ sign signs.Is 4 5 ∷ word "c" 6 7 ∷ [])
-unfolding is_blank is_line_feed
+unfolding is_blank is_line_break
 two_signs = record {
   parts = Written (kinds.Word (codes "a")) (codes "a") ∷ Written (kinds.Sign signs.Matches) (codes "=~") ∷ Written (kinds.Word (codes "b")) (codes "b") ∷ Written (kinds.Sign signs.Is) (codes "=") ∷ Blank 32 ∷ Written (kinds.Word (codes "c")) (codes "c") ∷ Blank 32 ∷ Comment (codes " d") ∷ [];
   source = refl;
   are_parts = ((refl, a_matches), (((refl, no_colon false signs.Matches refl), matches_longest), ((refl, b_longest), (((refl, no_colon false signs.Is refl), is_longest), (refl, ((refl, c_longest), (refl, ((refl, tt), tt))))))));
   tokens_are = refl;
 }
+
+-- a comment ends at a carriage return too
+return_ends : IsPart false (Comment (codes " b")) (13 ∷ codes "+ c")
+unfolding is_line_break
+return_ends = (refl, refl)
 
 -- ---- strings
 

@@ -19,12 +19,12 @@ AreSome test bs = are_some test bs ≡ true
 unfoldable pub is_blank : ℕ → Bool
 is_blank b = b == 32 || b == 9 || b == 10 || b == 13
 
--- a line feed
-unfoldable pub is_line_feed : ℕ → Bool
-is_line_feed b = b == 10
+-- a line feed or a carriage return, which end a comment
+unfoldable pub is_line_break : ℕ → Bool
+is_line_break b = b == 10 || b == 13
 
-abbrev pub is_no_line_feed : ℕ → Bool
-is_no_line_feed b = not (is_line_feed b)
+abbrev pub is_no_line_break : ℕ → Bool
+is_no_line_break b = not (is_line_break b)
 
 abbrev pub is_no_back_quote : ℕ → Bool
 is_no_back_quote b = not (b == 96)

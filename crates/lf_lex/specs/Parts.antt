@@ -5,7 +5,7 @@ use Rattle.lf_lex.specs.declared.token.Sign.{Sign}
 use Rattle.lf_lex.specs.declared.token.Sign.TheVariants.{OpenBracket, CloseBracket, Colon}
 use Rattle.lf_lex.specs.declared.token.TokenKind.{TokenKind}
 use Rattle.lf_lex.specs.declared.token.TokenKind.TheVariants as kinds
-use Rattle.lf_lex.specs.Bytes.{Each, is_blank, is_no_line_feed, begins_word, is_in_word}
+use Rattle.lf_lex.specs.Bytes.{Each, is_blank, is_line_break, is_no_line_break, begins_word, is_in_word}
 use Rattle.lf_lex.specs.Signs.{spelling}
 use Rattle.lf_lex.specs.Runs.{IsRun, IsNumber}
 use Rattle.lf_lex.specs.Durations.{IsDuration}
@@ -48,14 +48,19 @@ part_text (Blank b) = b ∷ []
 part_text (Comment line) = 35 ∷ line
 part_text (Written kind text) = text
 
--- the end, or a line feed
+-- the end, or a line feed, at which a string in quotes has to be closed
 abbrev pub EndsLine : List ℕ → Type 0
 EndsLine [] = Unit {0}
 EndsLine (b ∷ rest) = b ≡ 10
 
+-- the end, or a line feed or a carriage return, at which a comment ends
+abbrev pub EndsComment : List ℕ → Type 0
+EndsComment [] = Unit {0}
+EndsComment (b ∷ rest) = is_line_break b ≡ true
+
 abbrev pub IsPart : Bool → Part → List ℕ → Type 0
 IsPart inside (Blank b) rest = is_blank b ≡ true
-IsPart inside (Comment line) rest = Each is_no_line_feed line × EndsLine rest
+IsPart inside (Comment line) rest = Each is_no_line_break line × EndsComment rest
 IsPart inside (Written kind text) rest = IsToken inside kind text rest
 
 -- whether the last bracket is open behind a sign, a token, a part

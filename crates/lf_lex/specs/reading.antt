@@ -1,4 +1,4 @@
--- A way of reading tokens, which defines nothing: what the code computes, function by function. Laws prove that it reads exactly the tokens and breaches of `Tokens.antt`.
+-- Ways of reading, which define nothing: what the code computes, function by function. Laws prove that it reads exactly the tokens and breaches that `Tokens.antt` says.
 pub mod Classes
 pub mod Runs
 pub mod Signs

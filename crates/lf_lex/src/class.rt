@@ -1,5 +1,5 @@
 //! What tokens are read by: as many bytes of a class as stand at the front.
-ghost use Rattle.std.specs.Prelude.{◌≡◌, ◌≤◌, length, drop, take};
+ghost use Rattle.std.specs.Prelude.{◌≡◌, ◌≤◌, length};
 ghost use Rattle.std.specs.List.{prefix_len};
 ghost use Rattle.lf_lex.specs.reading.Classes.{is_in_class};
 
@@ -9,8 +9,8 @@ use lf_base::names::is_digit;
 /// A class of bytes.
 #[derive(Clone, Copy, PartialEq, Eq, Debug)]
 pub enum Class {
-    /// All but a line feed.
-    NoLineFeed,
+    /// All but a line feed and a carriage return.
+    NoLineBreak,
     /// All but a back quote.
     NoBackQuote,
     /// What a word goes on with, between brackets or elsewhere.
@@ -26,12 +26,12 @@ pub enum Class {
 }
 
 /// Whether a byte is of a class.
-#[tactic(auto, unfolding(crate::specs::Bytes::is_line_feed))]
+#[tactic(auto, unfolding(crate::specs::Bytes::is_line_break))]
 fn is_in_class(class: Class, byte: u8) -> bool
     ensures { result ≡ is_in_class class byte }
 {
     match class {
-        Class::NoLineFeed => byte != b'\n',
+        Class::NoLineBreak => byte != b'\n' && byte != b'\r',
         Class::NoBackQuote => byte != b'`',
         Class::Word { inside } => is_in_word(inside, byte),
         Class::Mantissa => is_in_mantissa(byte),
@@ -39,22 +39,6 @@ fn is_in_class(class: Class, byte: u8) -> bool
         Class::Digit => is_digit(byte),
         Class::Continuation => is_continuation(byte),
     }
-}
-
-/// The part of the bytes that begins at a place.
-pub fn after(bytes: &[u8], place: usize) -> &[u8]
-    requires { place ≤ length bytes.now }
-    ensures { result.now ≡ drop place bytes.now }
-{
-    bytes.split_at(place).1
-}
-
-/// The part of the bytes that ends at a place.
-pub fn before(bytes: &[u8], place: usize) -> &[u8]
-    requires { place ≤ length bytes.now }
-    ensures { result.now ≡ take place bytes.now }
-{
-    bytes.split_at(place).0
 }
 
 /// How many bytes at the front are of a class, before the first that isn't.

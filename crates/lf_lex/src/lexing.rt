@@ -56,8 +56,10 @@ pub fn lex(alloc: Global, text: &Text, from: &Seq<u32>) -> Result<Seq<Token>, Re
     ensures refused { Refused (Breaks from.now text.now) result }
     // It is refused, unless memory runs out; so no text has two breaches, nor one and tokens.
     ensures breach { Breach (λ tokens. tokens) (Breaks from.now text.now) result }
-    // Spans lie in the source: those of the tokens, and that of a refusal.
-    ensures spans { (n : ℕ) → slice_index from.now (length text.now) ≤ n → IfOk result (LieIn n) × RefusedIn n result }
+    // Where the text ends in a source of n bytes, the spans of the tokens lie there.
+    ensures inside { (n : ℕ) → slice_index from.now (length text.now) ≤ n → IfOk result (LieIn n) }
+    // So does that of a refusal.
+    ensures refused_inside { (n : ℕ) → slice_index from.now (length text.now) ≤ n → RefusedIn n result }
     // Tokens stand in the order of the source.
     ensures ordered { IfOk result (λ tokens. IsNonDecreasingBy (λ token. token.span.start) tokens) }
 {

@@ -10,8 +10,6 @@ mod run;
 mod sign;
 mod step;
 mod string;
-#[cfg(test)]
-mod tests;
 mod token;
 
 pub use duration::is_duration;

@@ -7,8 +7,9 @@ ghost use Rattle.lf_lex.specs.Runs.{begins_run};
 ghost use Rattle.lf_lex.specs.reading.Runs as runs;
 
 use crate::bytes::{is_dot, is_exponent, is_plus_minus};
-use crate::class::{Class, after, before, prefix_len};
-use lf_base::names::{is_digit, is_hexadecimal};
+use crate::class::{Class, prefix_len};
+use lf_base::bytes::{after, before};
+use lf_base::names::{are_digits, is_digit, is_hexadecimal};
 
 /// Whether a run begins here: a digit, or a dot before a digit.
 pub fn begins_run(rest: &[u8]) -> bool
@@ -48,35 +49,30 @@ pub fn run_len(rest: &[u8]) -> usize
 }
 
 /// Whether there is a byte, and each is a hexadecimal digit.
-fn are_hexadecimal(digits: &[u8]) -> bool
+fn are_some_hexadecimal(digits: &[u8]) -> bool
     ensures { result ≡ bytes.are_some names.is_hexadecimal digits.now }
 {
     match digits {
         [] => false,
-        [first, more @ ..] => is_hexadecimal(*first) && all_hexadecimal(more),
+        [first, more @ ..] => is_hexadecimal(*first) && are_hexadecimal(more),
     }
 }
 
-fn all_hexadecimal(digits: &[u8]) -> bool
+/// Whether each byte is a hexadecimal digit.
+fn are_hexadecimal(digits: &[u8]) -> bool
     ensures { result ≡ list_all names.is_hexadecimal digits.now }
 {
     digits.iter().all(|byte| is_hexadecimal(*byte))
 }
 
 /// Whether there is a byte, and each is a digit.
-fn are_digits(digits: &[u8]) -> bool
+fn are_some_digits(digits: &[u8]) -> bool
     ensures { result ≡ bytes.are_some names.is_digit digits.now }
 {
     match digits {
         [] => false,
-        [first, more @ ..] => is_digit(*first) && all_digits(more),
+        [first, more @ ..] => is_digit(*first) && are_digits(more),
     }
-}
-
-fn all_digits(digits: &[u8]) -> bool
-    ensures { result ≡ list_all names.is_digit digits.now }
-{
-    digits.iter().all(|byte| is_digit(*byte))
 }
 
 #[tactic(auto, unfolding(crate::specs::reading::Runs::is_hexadecimal_number))]
@@ -88,7 +84,7 @@ fn is_hexadecimal_number(run: &[u8]) -> bool
         [_only] => false,
         [zero, x, digits @ ..] => *zero == b'0'
             && (*x == b'x' || *x == b'X')
-            && are_hexadecimal(digits),
+            && are_some_hexadecimal(digits),
     }
 }
 
@@ -119,9 +115,9 @@ fn are_signed(rest: &[u8]) -> bool
         [] => false,
         [sign, digits @ ..] => {
             if is_plus_minus(*sign) {
-                are_digits(digits)
+                are_some_digits(digits)
             } else {
-                are_digits(rest)
+                are_some_digits(rest)
             }
         }
     }

@@ -9,11 +9,12 @@ ghost use Rattle.lf_base.specs.Answers.{Answers};
 ghost use Rattle.lf_lex.specs.reading.Steps as steps;
 
 use crate::bytes;
-use crate::class::{Class, after, before, prefix_len};
+use crate::class::{Class, prefix_len};
 use crate::run::{self, duration_order, is_number, run_len};
 use crate::sign::sign_at;
 use crate::string::{closing, place_of_byte, value_bytes};
 use crate::token::TokenKind;
+use lf_base::bytes::{after, before};
 use lf_base::{Kind, Memory, Refusal, Span, Text};
 use std::alloc::Global;
 
@@ -208,7 +209,7 @@ pub fn next_token(
     if bytes::is_blank(first) {
         Ok((None, 1))
     } else if first == b'#' {
-        Ok((None, prefix_len(rest, Class::NoLineFeed)))
+        Ok((None, prefix_len(rest, Class::NoLineBreak)))
     } else if bytes::begins_word(inside, first) {
         word(alloc, text, inside, at)
     } else if run::begins_run(rest) {

@@ -5,8 +5,8 @@ ghost use Rattle.lf_lex.specs.reading.Strings as strings;
 ghost use Rattle.lf_lex.specs.reading.Escapes.{told_of, given_by};
 
 use crate::bytes::is_octal;
-use crate::class::after;
 use lf_base::Memory;
+use lf_base::bytes::after;
 use lf_base::names::is_digit;
 use std::alloc::Global;
 

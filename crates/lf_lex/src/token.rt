@@ -73,6 +73,8 @@ pub enum TokenKind {
 /// A token, and the part of the source that it was read from.
 #[derive(Debug, Drop)]
 pub struct Token {
+    /// What it is.
     pub kind: TokenKind,
+    /// Where it stands.
     pub span: Span,
 }

@@ -2,10 +2,11 @@
 use Rattle.std.specs.Prelude.{◌≡◌, Bool, true, false, List}
 use Rattle.std.proofs.Common.{refl, sym, subst, ◌∙◌}
 use Rattle.lf_ast.specs.Labels.{Bytes}
-use Rattle.lf_lint.specs.declared.asked.Asked.{Asked}
+use Rattle.lf_report.specs.declared.asked.Asked.{Asked}
 use Rattle.lf_lint.specs.Asks.{Asks, words_for}
-use Rattle.lf_lint.specs.Ends.{IsReport, IsReportOn}
-use Rattle.lf_lint.proofs.OneFound.{one_found}
+use Rattle.lf_report.specs.Report.{IsReportOn}
+use Rattle.lf_lint.specs.Ends.{IsReport}
+use Rattle.lf_report.proofs.OneFound.{one_found}
 
 same_words : (l m : Bool) (f g : Bytes) → words_for l f ≡ words_for m g → (l ≡ m) × (f ≡ g)
 same_words true true f g e = (refl, cc)

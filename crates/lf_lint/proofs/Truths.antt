@@ -15,19 +15,20 @@ use Rattle.lf_semantics.proofs.Places.{place_le}
 use Rattle.lf_semantics.proofs.SamplesRepresented.{sample_represented}
 use Rattle.lf_semantics.proofs.RowLaws.{length_row}
 use Rattle.lf_semantics.proofs.Told.{is_absent, is_present, not_empty}
-use Rattle.lf_lint.specs.declared.asked.Asked.{Asked}
-use Rattle.lf_lint.specs.declared.report.verdict.Verdict.{Verdict}
-use Rattle.lf_lint.specs.declared.report.verdict.Verdict.TheVariants.{Unresolved}
-use Rattle.lf_lint.specs.Accepted.{IsAccepted}
-use Rattle.lf_lint.specs.Ends.{IsReportOn, Judged, Wrote, WroteAll}
-use Rattle.lf_lint.specs.Founds.{Content, Refused, Rules, is_refused}
+use Rattle.lf_report.specs.declared.asked.Asked.{Asked}
+use Rattle.lf_report.specs.declared.report.verdict.Verdict.{Verdict}
+use Rattle.lf_report.specs.declared.report.verdict.Verdict.TheVariants.{Unresolved}
+use Rattle.lf_accept.specs.Accepted.{IsAccepted}
+use Rattle.lf_report.specs.Report.{IsReportOn}
+use Rattle.lf_lint.specs.Ends.{Judged, Wrote, WroteAll}
+use Rattle.lf_report.specs.Founds.{Content, Refused, Rules, is_refused}
 use Rattle.lf_lint.specs.Headline.{IsTrue, IsTrueOf, IsTrueReport, IsTrueSaid, Said, SpeaksTruth, Spoken, WroteTruth, is_empty, said_text, spoken_lines, verdicts_said}
-use Rattle.lf_lint.specs.Report.{label_line, label_lines, labels_of, labels_text, lines_text, place_text, report_of, rule_line, rule_lines, rules_lines, said_lines, totals_line, totals_text, verdicts_line}
-use Rattle.lf_lint.specs.Verdicts.{empty_count, is_empty_rule, verdict_from, verdict_of, verdicts_in, verdicts_of}
-use Rattle.lf_lint.proofs.AcceptedRules.{sets_no_name}
-use Rattle.lf_lint.proofs.LabelTexts.{text_same}
-use Rattle.lf_lint.proofs.Starless.{no_star}
-use Rattle.lf_lint.proofs.Universes.{shape_rule}
+use Rattle.lf_report.specs.Report.{label_line, label_lines, labels_of, labels_text, lines_text, place_text, report_of, rule_line, rule_lines, rules_lines, said_lines, totals_line, totals_text, verdicts_line}
+use Rattle.lf_report.specs.Verdicts.{empty_count, is_empty_rule, verdict_from, verdict_of, verdicts_in, verdicts_of}
+use Rattle.lf_accept.proofs.AcceptedRules.{sets_no_name}
+use Rattle.lf_report.proofs.LabelTexts.{text_same}
+use Rattle.lf_accept.proofs.Starless.{no_star}
+use Rattle.lf_report.proofs.Universes.{shape_rule}
 
 two : {A B C : Type 0} (f : A → B → C) (a a' : A) (b b' : B) → a ≡ a' → b ≡ b' → f a b ≡ f a' b'
 two f a a' b b' h k = ap (λ x. f x b) h ∙ ap (f a') k

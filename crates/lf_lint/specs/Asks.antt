@@ -2,7 +2,7 @@
 use Rattle.std.specs.Prelude.{◌≡◌, ℕ, Bool, false, List, [], ◌∷◌, ◌++◌, codes, if◌then◌else◌}
 use Rattle.std.specs.List.{starts_with}
 use Rattle.std.specs.Bool.{nat_eq}
-use Rattle.lf_lint.specs.declared.asked.Asked.{Asked}
+use Rattle.lf_report.specs.declared.asked.Asked.{Asked}
 
 -- the word `lint`, then perhaps `--labels`, then a file
 abbrev pub words_for : Bool → List ℕ → List (List ℕ)

@@ -1,17 +1,14 @@
 -- What a call of `lint` did to the outside, by its status.
-use Rattle.std.specs.Prelude.{◌≡◌, ℕ, ◌+◌, ◌<◌, ◌≤◌, Bool, true, List, ◌++◌, length, take, drop, Option, Some, None, ◌⊎◌}
+use Rattle.std.specs.Prelude.{◌≡◌, ℕ, ◌+◌, ◌<◌, ◌≤◌, Bool, List, ◌++◌, length, take, drop, Option, Some, None, ◌⊎◌}
 use Rattle.lf_ast.specs.Labels.{Bytes}
 use Rattle.lf_ast.specs.Rules.{RuleTree}
-use Rattle.lf_lint.specs.declared.asked.Asked.{Asked}
-use Rattle.lf_semantics.specs.Environments.{IsLeast}
-use Rattle.lf_semantics.specs.Listing.{universe_of}
-use Rattle.lf_semantics.specs.RowTable.{Environment}
+use Rattle.lf_report.specs.declared.asked.Asked.{Asked}
 use Rattle.lf_lint.specs.declared.status.Status.{Status}
 use Rattle.lf_lint.specs.declared.status.Status.TheVariants.{Clean, Problems, Words, Refused as RefusedEnd, Read, Write, Memory, Limit}
-use Rattle.lf_lint.specs.Accepted.{IsAccepted}
+use Rattle.lf_accept.specs.Accepted.{IsAccepted}
 use Rattle.lf_lint.specs.Asks.{Asks}
-use Rattle.lf_lint.specs.Founds.{Content, Rules, Refused, Exceeds, Fits, Holds, is_refused}
-use Rattle.lf_lint.specs.Report.{report_of}
+use Rattle.lf_report.specs.Founds.{Content, Rules, Refused, Exceeds, Fits, Holds, is_refused}
+use Rattle.lf_report.specs.Report.{IsReportOn}
 
 -- the most bytes that a file may have: 4 MiB
 abbrev pub most_bytes : ℕ
@@ -26,15 +23,6 @@ AreAsTold (Some told) bytes = bytes ≡ told
 abbrev pub Wrote : Option Bytes → Option Bytes → Bytes → Type 0
 Wrote None now bytes = Unit {0}
 Wrote (Some before) now bytes = now ≡ Some (before ++ bytes)
-
--- the environment is the least one of the rules that were found
-abbrev pub IsSolution : Content → Environment → Type 0
-IsSolution (Rules rules) env = IsLeast (universe_of rules) rules env
-IsSolution (Refused kind span) env = Unit {0}
-
--- the report on what was found: where verdicts are asked for, by the least environment. Else it doesn't depend on any
-abbrev pub IsReportOn : Asked → Bytes → Content → Bytes → Type 0
-IsReportOn asked bytes found report = (env : Environment) × (asked.labels ≡ true → IsSolution found env) × (report ≡ report_of asked bytes found env)
 
 -- the report that the words ask for, on a file of these bytes
 pub record IsReport (words : List Bytes) (bytes report : Bytes) : Type 0 where

@@ -9,12 +9,12 @@ use Rattle.lf_semantics.specs.Listing.{label_of, universe_of}
 use Rattle.lf_semantics.specs.RowTable.{Environment, may_be_absent, may_be_present}
 use Rattle.lf_semantics.specs.Texts.{Has}
 use Rattle.lf_semantics.specs.Worlds.{World, IsSample}
-use Rattle.lf_lint.specs.declared.asked.Asked.{Asked}
-use Rattle.lf_lint.specs.declared.report.verdict.Verdict.{Verdict}
-use Rattle.lf_lint.specs.declared.report.verdict.Verdict.TheVariants.{Guaranteed, Impossible, Unresolved}
+use Rattle.lf_report.specs.declared.asked.Asked.{Asked}
+use Rattle.lf_report.specs.declared.report.verdict.Verdict.{Verdict}
+use Rattle.lf_report.specs.declared.report.verdict.Verdict.TheVariants.{Guaranteed, Impossible, Unresolved}
 use Rattle.lf_lint.specs.Ends.{Judged, Wrote}
-use Rattle.lf_lint.specs.Founds.{Rules}
-use Rattle.lf_lint.specs.Report.{label_line, labels_of, lines_text, place_text, rule_line, totals_line, verdicts_line}
+use Rattle.lf_report.specs.Founds.{Rules}
+use Rattle.lf_report.specs.Report.{label_line, labels_of, lines_text, place_text, rule_line, totals_line, verdicts_line}
 
 -- in every world of the file's rules, a name called guaranteed is on each sample of the rule, and one called impossible on none. Of an unresolved one nothing is claimed
 abbrev pub IsTrueOf : List RuleTree → RuleTree → Verdict → Bytes → Type 0

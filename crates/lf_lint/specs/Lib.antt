@@ -1,10 +1,4 @@
-pub mod Accepted
 pub mod Asks
-pub mod Checked
 pub mod Ends
-pub mod Founds
 pub mod Headline
-pub mod Report
-pub mod Spots
 pub mod Statuses
-pub mod Verdicts

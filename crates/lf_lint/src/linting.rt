@@ -1,14 +1,16 @@
 //! A run of the program.
 ghost use Rattle.std.specs.Prelude.{◌≡◌, ◌≢◌, ◌↔◌, ℕ, Bool, true, false, List, map, string_bytes, Option, IfOk, ◌+◌, ◌<◌, ◌≤◌, ◌^◌, length};
-ghost use Rattle.lf_lint.specs.declared.asked.Asked.{Asked};
+ghost use Rattle.lf_report.specs.declared.asked.Asked.{Asked};
 ghost use Rattle.lf_lint.specs.Asks.{Asks};
 ghost use Rattle.lf_lint.specs.Ends.{IsReport, IsSilent, Passes, WroteAll, WrotePart};
-ghost use Rattle.lf_lint.specs.Founds.{Holds, content};
+ghost use Rattle.lf_report.specs.Founds.{Holds, content};
 ghost use Rattle.lf_lint.specs.Headline.{WroteTruth};
 
 use crate::reading::{ReadEnd, read_whole};
-use crate::{Found, JudgeEnd, Status, WordFault, accept, read_words, report_text, write_whole};
+use crate::{Status, WordFault, read_words, write_whole};
+use lf_accept::accept;
 use lf_base::{Files, Gate, Memory, Refusal, Sink};
+use lf_report::{Found, JudgeEnd, report_text};
 use std::alloc::Global;
 use std::thread::Threads;
 

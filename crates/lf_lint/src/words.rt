@@ -2,11 +2,11 @@
 ghost use Rattle.std.specs.Bool.{nat_eq};
 ghost use Rattle.std.specs.List.{starts_with};
 ghost use Rattle.std.specs.Prelude.{◌≡◌, ◌≢◌, ℕ, Bool, List, codes, map, string_bytes, IfOk, IfSome, IfNone, Err};
-ghost use Rattle.lf_lint.specs.declared.asked.Asked.{Asked};
+ghost use Rattle.lf_report.specs.declared.asked.Asked.{Asked};
 ghost use Rattle.lf_lint.specs.Asks.{Asks, words_for};
 
-use crate::Asked;
 use lf_base::{Memory, Text};
+use lf_report::Asked;
 use std::alloc::Global;
 
 /// Why words aren't read.

@@ -1,27 +1,27 @@
 -- What the machine's answer says of the tokens.
-use Rattle.std.proofs.Common.{◌≡◌, ℕ, zero, suc, ◌+◌, ◌≤◌, ◌<◌, ◌⊎◌, inl, inr, List, [], ◌∷◌, ◌++◌, length, take, drop, get_or, map, Option, Some, None, MatchOption, Result, Ok, Err, IfOk, IfErr, refl, sym, ◌∙◌, ap, subst, append_assoc, add-one, arith}
+use Rattle.std.proofs.Common.{◌≡◌, ℕ, zero, suc, ◌+◌, ◌≤◌, ◌<◌, ◌⊎◌, inl, inr, List, [], ◌∷◌, ◌++◌, length, take, drop, get_or, map, Option, Some, None, MatchOption, Result, Ok, Err, IfOk, refl, sym, ◌∙◌, ap, subst, append_assoc, add-one, arith}
 use Rattle.std.proofs.lemmas.List.{append-nil, at_drop_more, at_drop_all}
 use Rattle.std.specs.List.Sorted.{IsNonDecreasingBy}
 use Rattle.std.specs.Option.{option_and_then}
 use Rattle.std.proofs.Math.Seq.{take-length}
 use Rattle.lf_base.specs.declared.kind.Kind.TheVariants.{TooDeep, Syntax}
 use Rattle.lf_base.specs.declared.refusal.Refusal.{Refusal}
-use Rattle.lf_base.specs.declared.refusal.Refusal.TheVariants.{At, Memory}
+use Rattle.lf_base.specs.declared.refusal.Refusal.TheVariants.{At}
 use Rattle.lf_ast.specs.declared.expr.Expr.{Expr}
 use Rattle.lf_lex.specs.declared.token.Token.{Token}
 use Rattle.lf_lex.specs.Tokens.{LieIn}
 use Rattle.lf_base.specs.declared.fault.Fault.{Fault}
-use Rattle.lf_base.specs.Answers.{Breach, Decides, Found, Gives, OneAnswer, Only, Refused, RefusedIn}
+use Rattle.lf_base.specs.Answers.{Breach, Found, AnswersAs, OneAnswer, Only, Refused, RefusedIn}
 use Rattle.lf_base.specs.Faults.{fault}
-use Rattle.lf_base.proofs.Answering.{breach, found, one_answer, only, refused, refused_in}
+use Rattle.lf_base.proofs.Answering.{Decides, breach, found, one_answer, only, refused, refused_in}
 use Rattle.lf_ast.specs.Inside.{Inside}
 use Rattle.lf_parse.specs.Tokens.{Tok, shown}
 use Rattle.lf_ast.specs.Tree.{Tree, tree}
 use Rattle.lf_parse.specs.Grammar.{Parses, IsViable}
-use Rattle.lf_parse.specs.Machine.{State, step, finish, start, run, accept, at_end, reading_from, reading}
+use Rattle.lf_parse.specs.reading.Machine.{State, step, finish, start, run, accept, at_end, reading_from, reading}
 use Rattle.lf_parse.specs.Depth.{TooDeepAt, IsBounded}
 use Rattle.lf_parse.specs.Answer.{IsExpression, SyntaxAt, place, Refuses, too_deep, syntax}
-use Rattle.lf_parse.specs.Reading.{placed, answer}
+use Rattle.lf_parse.specs.reading.Answers.{placed, answer}
 use Rattle.lf_parse.proofs.Complete.{complete}
 use Rattle.lf_parse.proofs.Nestings.{deep_or_bounded}
 use Rattle.lf_parse.proofs.SpansInside.{refusal_lies, tree_inside}
@@ -218,7 +218,7 @@ inside_given : (ts : List Token) (n : ℕ) → LieIn n ts → IsNonDecreasingBy 
 inside_given ts n lie order (Ok e) h = tree_inside n ts (tree e) lie order h.1
 inside_given ts n lie order (Err refusal) h = tt
 
-clauses : (ts : List Token) (end : ℕ) (r : Result Expr Refusal) (read : Result Tree Fault) → IsRight ts end read → Gives tree r read → Clauses ts end r
+clauses : (ts : List Token) (end : ℕ) (r : Result Expr Refusal) (read : Result Tree Fault) → IsRight ts end read → AnswersAs tree r read → Clauses ts end r
 clauses ts end r read right given =
     let d = decides ts end read right in
     let stands = found tree (IsExpression ts) (Refuses ts end) read d r given in
@@ -288,7 +288,7 @@ module _ (ts us : List Token) (end : ℕ) (same : us ≡ ts) where
       let f = fault TooDeep (get_or us k t).span in
       subst (λ (xs : List Token). Clauses xs end (Err (At TooDeep (get_or us k t).span))) same (clauses us end (Err (At TooDeep (get_or us k t).span)) (Err f) (deep_refuses k t deep) refl)
 
-  pub clauses_read : (r : Result Expr Refusal) (o : Option ℕ) → o ≡ None → MatchOption o (IsBounded us) (TooDeepAt us) → Gives tree r (answer us end) → Clauses ts end r
+  pub clauses_read : (r : Result Expr Refusal) (o : Option ℕ) → o ≡ None → MatchOption o (IsBounded us) (TooDeepAt us) → AnswersAs tree r (answer us end) → Clauses ts end r
   clauses_read r o e a g =
       let bounded = subst (λ (x : Option ℕ). MatchOption x (IsBounded us) (TooDeepAt us)) e a in
       subst (λ (xs : List Token). Clauses xs end r) same (clauses us end r (answer us end) (right_read us end (read us) refl bounded) g)

@@ -22,7 +22,7 @@ use Rattle.lf_parse.specs.declared.class.Side.{Side}
 use Rattle.lf_parse.specs.Tokens.{Mark, Word, Metric, Num, Dur, Quoted, Sign, Tok, ◌at◌, op_of}
 use Rattle.lf_ast.specs.Tree.{Tree, Number, Str, Selector, Paren, Unary, Binary, Call, Aggregate, Trees, Nil, span_of}
 use Rattle.lf_parse.specs.Grammar.{to, up_to, behind, name, LabelsAt, one_label, next_label, NamesAt, no_names, names, names_comma, unmatched, NotOpen, ScopedAt, alone, group, group_names, ModifierAt, no_modifier, bool, scoped, bool_scoped, match_of, MatchersAt, one_matcher, next_matcher, BracesAt, no_matchers, matchers, matchers_comma, IsMetric, plain, edge, with_colon, SelectAt, word, word_braces, braces, blank, ranged, stepped, Mod, ModAt, offset, offset_minus, time, time_plus, time_minus, time_edge, HasRoom, with_mod, ModsAt, no_mods, mods, StepAt, no_step, step as step_dur, grouping, level, left_level, right_level, At, number, numeric, string, paren, selector, range, subquery, call, aggregate, aggregate_by, aggregate_args_by, plus, minus, binary, SomeAt, one, also, ArgsAt, no_args, args, Derives}
-use Rattle.lf_parse.specs.Machine.{Outcome, Go, Ends, Pass, Stop, Names, Opening, NextName, AfterName, names_step, Braces, NextMatcher, AfterLabel, AfterSign, AfterMatcher, compared, Front, front, Stage, Begin, AfterBool, InLabels, AfterLabels, AfterGroup, InInclude, modifier, group_modifier, in_labels, in_include, AfterOffset, AfterAt, Head, OfCall, OfAggregate, OfGrouped, Frame, LeftOf, Signed, InParen, InArgs, Subject, OfSelector, OfSubquery, Operand, Whole, Bare, Selected, Aggregated, Seen, operand_tree, operand_end, Want, First, Have, Modifying, InBraces, InMod, AfterBracket, AfterColon, AfterAggregation, InGrouping, AfterGrouping, InGroupingBehind, State, Held, state, held, reduce, applied, close, comma, ended, operator, joined, after, room, have_step, modified, in_braces, in_grouping, in_grouping_behind, step, finish, start, accept}
+use Rattle.lf_parse.specs.reading.Machine.{Step, More, Done, DoneBefore, Reject, Names, Opening, NextName, AfterName, names_step, Braces, NextMatcher, AfterLabel, AfterSign, AfterMatcher, compared, Front, front, Stage, Begin, AfterBool, InLabels, AfterLabels, AfterGroup, InInclude, modifier, group_modifier, in_labels, in_include, AfterOffset, AfterAt, Head, OfCall, OfAggregate, OfGrouped, Frame, LeftOf, Signed, InParen, InArgs, Subject, OfSelector, OfSubquery, Operand, Whole, Bare, Selected, Aggregated, Seen, operand_tree, operand_end, ExpectOperand, First, ExpectOperator, Modifying, InBraces, InMod, AfterBracket, AfterColon, AfterAggregation, InGrouping, AfterGrouping, InGroupingBehind, State, Held, state, held, reduce, applied, close, comma, ended, operator, joined, after, room, expect_operator, modified, in_braces, in_grouping, in_grouping_behind, step, finish, start, accept}
 use Rattle.lf_parse.proofs.Levels.{level-le, level-le_right, level-le_left, right_tighter, sign_tighter}
 
 -- going on from where a step leads
@@ -34,9 +34,9 @@ accept_step s s' t ts h = ap (option_and_then (λ x. accept x ts)) h
 abbrev pub Listed : Type 0
 Listed = List NameOf × Span
 
-abbrev pub told : (Names → State) → (List NameOf → Span → State) → Outcome Names Listed → Option State
-told inside done (Go n) = Some (inside n)
-told inside done (Ends (xs, c)) = Some (done xs c)
+abbrev pub told : (Names → State) → (List NameOf → Span → State) → Step Names Listed → Option State
+told inside done (More n) = Some (inside n)
+told inside done (Done (xs, c)) = Some (done xs c)
 told inside done _ = None
 
 module _ (inside : Names → State) (done : List NameOf → Span → State) (law : (n : Names) (t : Tok) → step (inside n) t ≡ told inside done (names_step n t)) where
@@ -109,19 +109,19 @@ module _ (fs : List Frame) (o : Op) (p : Span) (a : Tree) where
   at_stage st = state fs (Modifying o p a st)
 
   abbrev pub at_operand : MatchingOf → State
-  at_operand m = state (LeftOf o p m a ∷ fs) Want
+  at_operand m = state (LeftOf o p m a ∷ fs) ExpectOperand
 
-  pub labels_told : (f : Front) (t : Tok) (r : Outcome Names Listed) → modified fs o p a t (in_labels f r) ≡ told (λ n. at_stage (InLabels f n)) (λ xs c. at_stage (AfterLabels f xs c)) r
-  labels_told f t (Go n) = refl
-  labels_told f t (Ends (xs, c)) = refl
-  labels_told f t (Pass v) = refl
-  labels_told f t Stop = refl
+  pub labels_told : (f : Front) (t : Tok) (r : Step Names Listed) → modified fs o p a t (in_labels f r) ≡ told (λ n. at_stage (InLabels f n)) (λ xs c. at_stage (AfterLabels f xs c)) r
+  labels_told f t (More n) = refl
+  labels_told f t (Done (xs, c)) = refl
+  labels_told f t (DoneBefore v) = refl
+  labels_told f t Reject = refl
 
-  pub include_told : (f : Front) (xs : List NameOf) (s : Side) (t : Tok) (r : Outcome Names Listed) → modified fs o p a t (in_include f xs s r) ≡ told (λ n. at_stage (InInclude f xs s n)) (λ ys c. at_operand (group_modifier f xs s ys c)) r
-  include_told f xs s t (Go n) = refl
-  include_told f xs s t (Ends (ys, c)) = refl
-  include_told f xs s t (Pass v) = refl
-  include_told f xs s t Stop = refl
+  pub include_told : (f : Front) (xs : List NameOf) (s : Side) (t : Tok) (r : Step Names Listed) → modified fs o p a t (in_include f xs s r) ≡ told (λ n. at_stage (InInclude f xs s n)) (λ ys c. at_operand (group_modifier f xs s ys c)) r
+  include_told f xs s t (More n) = refl
+  include_told f xs s t (Done (ys, c)) = refl
+  include_told f xs s t (DoneBefore v) = refl
+  include_told f xs s t Reject = refl
 
   complete_in_labels : {xs : List NameOf} {c : Span} {ts rest : List Tok} (f : Front) → NamesAt xs c ts rest → accept (at_stage (InLabels f Opening)) ts ≡ accept (at_stage (AfterLabels f xs c)) rest
   complete_in_labels f d = complete_names (λ n. at_stage (InLabels f n)) (λ xs c. at_stage (AfterLabels f xs c)) (λ n t. labels_told f t (names_step n t)) d
@@ -210,12 +210,12 @@ module _ (fs : List Frame) (nm : Option (List ℕ)) (p : Span) where
   complete_matchers (one_matcher {w = w} {v = v} {s = s} {p = p'} {q = q} {r = r} {rest = rest} h) = complete_sign s [] (name w p') q ((Quoted v at r) ∷ rest) h
   complete_matchers (next_matcher {w = w} {v = v} {s = s} {xs = xs} {p = p'} {q = q} {r = r} {rest = rest} h l) = complete_matchers l ∙ complete_sign s xs (name w p') q ((Quoted v at r) ∷ rest) h
 
-  complete_braces : {ms : List Matcher} {c : Span} {ts rest : List Tok} → BracesAt ms c ts rest → accept (at_braces (NextMatcher [])) ts ≡ accept (state fs (Have (Selected nm ms (to p c)))) rest
+  complete_braces : {ms : List Matcher} {c : Span} {ts rest : List Tok} → BracesAt ms c ts rest → accept (at_braces (NextMatcher [])) ts ≡ accept (state fs (ExpectOperator (Selected nm ms (to p c)))) rest
   complete_braces no_matchers = refl
   complete_braces (matchers l) = complete_matchers l
   complete_braces (matchers_comma l) = complete_matchers l
 
-complete_metric : {w : List ℕ} {m : Mark} → IsMetric w m → (fs : List Frame) (p : Span) (ts : List Tok) → accept (state fs Want) ((m at p) ∷ ts) ≡ accept (state fs (Have (Bare w p))) ts
+complete_metric : {w : List ℕ} {m : Mark} → IsMetric w m → (fs : List Frame) (p : Span) (ts : List Tok) → accept (state fs ExpectOperand) ((m at p) ∷ ts) ≡ accept (state fs (ExpectOperator (Bare w p))) ts
 complete_metric plain fs p ts = refl
 complete_metric edge fs p ts = refl
 complete_metric with_colon fs p ts = refl
@@ -235,33 +235,33 @@ select_end (word i) = refl
 select_end (word_braces i b) = refl
 select_end (braces b) = refl
 
-complete_select : {nm : Option (List ℕ)} {ms : List Matcher} {p : Span} {ts rest : List Tok} (s : SelectAt nm ms p ts rest) (fs : List Frame) → accept (state fs Want) ts ≡ accept (state fs (Have (select_operand s))) rest
+complete_select : {nm : Option (List ℕ)} {ms : List Matcher} {p : Span} {ts rest : List Tok} (s : SelectAt nm ms p ts rest) (fs : List Frame) → accept (state fs ExpectOperand) ts ≡ accept (state fs (ExpectOperator (select_operand s))) rest
 complete_select (word {p = p} {rest = rest} i) fs = complete_metric i fs p rest
 complete_select (word_braces {w = w} {p = p} {o = o} {ts = ts} i b) fs = complete_metric i fs p ((Sign OpenBrace at o) ∷ ts) ∙ complete_braces fs (Some w) p b
 complete_select (braces {o = o} b) fs = complete_braces fs None o b
 
 -- ---- modifiers of selectors and subqueries
 
-complete_mod : (s : Sight) {x : Mod} {k : ℕ} {ts rest : List Tok} → HasRoom s x → ModAt x k ts rest → (fs : List Frame) (y : Subject) (p : Span) (n : ℕ) → accept (state fs (Have (Seen y s p n))) ts ≡ accept (state fs (Have (Seen y (with_mod s x) p k))) rest
+complete_mod : (s : Sight) {x : Mod} {k : ℕ} {ts rest : List Tok} → HasRoom s x → ModAt x k ts rest → (fs : List Frame) (y : Subject) (p : Span) (n : ℕ) → accept (state fs (ExpectOperator (Seen y s p n))) ts ≡ accept (state fs (ExpectOperator (Seen y (with_mod s x) p k))) rest
 complete_mod s h (offset {w = w} {d = d} {p = p'} {q = q} {rest = rest}) fs y p n =
-    accept_step (state fs (Have (Seen y s p n))) (state fs (InMod y s p AfterOffset)) (Word Offset w at p') ((Dur d at q) ∷ rest) (ap (λ z. room z (state fs (InMod y s p AfterOffset))) h)
+    accept_step (state fs (ExpectOperator (Seen y s p n))) (state fs (InMod y s p AfterOffset)) (Word Offset w at p') ((Dur d at q) ∷ rest) (ap (λ z. room z (state fs (InMod y s p AfterOffset))) h)
 complete_mod s h (offset_minus {w = w} {d = d} {p = p'} {o = o} {q = q} {rest = rest}) fs y p n =
-    accept_step (state fs (Have (Seen y s p n))) (state fs (InMod y s p AfterOffset)) (Word Offset w at p') ((Sign Minus at o) ∷ (Dur d at q) ∷ rest) (ap (λ z. room z (state fs (InMod y s p AfterOffset))) h)
+    accept_step (state fs (ExpectOperator (Seen y s p n))) (state fs (InMod y s p AfterOffset)) (Word Offset w at p') ((Sign Minus at o) ∷ (Dur d at q) ∷ rest) (ap (λ z. room z (state fs (InMod y s p AfterOffset))) h)
 complete_mod s h (time {x = x} {p = p'} {q = q} {rest = rest}) fs y p n =
-    accept_step (state fs (Have (Seen y s p n))) (state fs (InMod y s p AfterAt)) (Sign AtSign at p') ((Num x at q) ∷ rest) (ap (λ z. room z (state fs (InMod y s p AfterAt))) h)
+    accept_step (state fs (ExpectOperator (Seen y s p n))) (state fs (InMod y s p AfterAt)) (Sign AtSign at p') ((Num x at q) ∷ rest) (ap (λ z. room z (state fs (InMod y s p AfterAt))) h)
 complete_mod s h (time_plus {x = x} {p = p'} {o = o} {q = q} {rest = rest}) fs y p n =
-    accept_step (state fs (Have (Seen y s p n))) (state fs (InMod y s p AfterAt)) (Sign AtSign at p') ((Sign Plus at o) ∷ (Num x at q) ∷ rest) (ap (λ z. room z (state fs (InMod y s p AfterAt))) h)
+    accept_step (state fs (ExpectOperator (Seen y s p n))) (state fs (InMod y s p AfterAt)) (Sign AtSign at p') ((Sign Plus at o) ∷ (Num x at q) ∷ rest) (ap (λ z. room z (state fs (InMod y s p AfterAt))) h)
 complete_mod s h (time_minus {x = x} {p = p'} {o = o} {q = q} {rest = rest}) fs y p n =
-    accept_step (state fs (Have (Seen y s p n))) (state fs (InMod y s p AfterAt)) (Sign AtSign at p') ((Sign Minus at o) ∷ (Num x at q) ∷ rest) (ap (λ z. room z (state fs (InMod y s p AfterAt))) h)
+    accept_step (state fs (ExpectOperator (Seen y s p n))) (state fs (InMod y s p AfterAt)) (Sign AtSign at p') ((Sign Minus at o) ∷ (Num x at q) ∷ rest) (ap (λ z. room z (state fs (InMod y s p AfterAt))) h)
 complete_mod s h (time_edge {e = e} {w = w} {p = p'} {q = q} {o = o} {c = c} {rest = rest}) fs y p n =
-    accept_step (state fs (Have (Seen y s p n))) (state fs (InMod y s p AfterAt)) (Sign AtSign at p') ((Word (Edge e) w at q) ∷ (Sign OpenParen at o) ∷ (Sign CloseParen at c) ∷ rest) (ap (λ z. room z (state fs (InMod y s p AfterAt))) h)
+    accept_step (state fs (ExpectOperator (Seen y s p n))) (state fs (InMod y s p AfterAt)) (Sign AtSign at p') ((Word (Edge e) w at q) ∷ (Sign OpenParen at o) ∷ (Sign CloseParen at c) ∷ rest) (ap (λ z. room z (state fs (InMod y s p AfterAt))) h)
 
-complete_mods : {s r : Sight} {n m : ℕ} {ts rest : List Tok} → ModsAt s r n m ts rest → (fs : List Frame) (y : Subject) (p : Span) → accept (state fs (Have (Seen y s p n))) ts ≡ accept (state fs (Have (Seen y r p m))) rest
+complete_mods : {s r : Sight} {n m : ℕ} {ts rest : List Tok} → ModsAt s r n m ts rest → (fs : List Frame) (y : Subject) (p : Span) → accept (state fs (ExpectOperator (Seen y s p n))) ts ≡ accept (state fs (ExpectOperator (Seen y r p m))) rest
 complete_mods no_mods fs y p = refl
 complete_mods (mods {s = s} {n = n} h x m) fs y p = complete_mod s h x fs y p n ∙ complete_mods m fs y p
 
 -- a modifier comes to a selector alone as to one that is looked at already
-bare_mod : {x : Mod} {k : ℕ} {ts rest : List Tok} → ModAt x k ts rest → (fs : List Frame) (w : List ℕ) (p : Span) → accept (state fs (Have (Bare w p))) ts ≡ accept (state fs (Have (Seen (OfSelector (Some w) []) (blank p) p p.end))) ts
+bare_mod : {x : Mod} {k : ℕ} {ts rest : List Tok} → ModAt x k ts rest → (fs : List Frame) (w : List ℕ) (p : Span) → accept (state fs (ExpectOperator (Bare w p))) ts ≡ accept (state fs (ExpectOperator (Seen (OfSelector (Some w) []) (blank p) p p.end))) ts
 bare_mod offset fs w p = refl
 bare_mod offset_minus fs w p = refl
 bare_mod time fs w p = refl
@@ -269,7 +269,7 @@ bare_mod time_plus fs w p = refl
 bare_mod time_minus fs w p = refl
 bare_mod time_edge fs w p = refl
 
-selected_mod : {x : Mod} {k : ℕ} {ts rest : List Tok} → ModAt x k ts rest → (fs : List Frame) (nm : Option (List ℕ)) (ms : List Matcher) (p : Span) → accept (state fs (Have (Selected nm ms p))) ts ≡ accept (state fs (Have (Seen (OfSelector nm ms) (blank p) p p.end))) ts
+selected_mod : {x : Mod} {k : ℕ} {ts rest : List Tok} → ModAt x k ts rest → (fs : List Frame) (nm : Option (List ℕ)) (ms : List Matcher) (p : Span) → accept (state fs (ExpectOperator (Selected nm ms p))) ts ≡ accept (state fs (ExpectOperator (Seen (OfSelector nm ms) (blank p) p p.end))) ts
 selected_mod offset fs nm ms p = refl
 selected_mod offset_minus fs nm ms p = refl
 selected_mod time fs nm ms p = refl
@@ -277,7 +277,7 @@ selected_mod time_plus fs nm ms p = refl
 selected_mod time_minus fs nm ms p = refl
 selected_mod time_edge fs nm ms p = refl
 
-select_mod : {nm : Option (List ℕ)} {ms : List Matcher} {p : Span} {us vs : List Tok} (s : SelectAt nm ms p us vs) {x : Mod} {k : ℕ} {ts rest : List Tok} → ModAt x k ts rest → (fs : List Frame) → accept (state fs (Have (select_operand s))) ts ≡ accept (state fs (Have (Seen (OfSelector nm ms) (blank p) p p.end))) ts
+select_mod : {nm : Option (List ℕ)} {ms : List Matcher} {p : Span} {us vs : List Tok} (s : SelectAt nm ms p us vs) {x : Mod} {k : ℕ} {ts rest : List Tok} → ModAt x k ts rest → (fs : List Frame) → accept (state fs (ExpectOperator (select_operand s))) ts ≡ accept (state fs (ExpectOperator (Seen (OfSelector nm ms) (blank p) p p.end))) ts
 select_mod (word {w = w} {p = p} i) m fs = bare_mod m fs w p
 select_mod (word_braces {w = w} {xs = xs} {p = p} {c = c} i b) m fs = selected_mod m fs (Some w) xs (to p c)
 select_mod (braces {xs = xs} {o = o} {c = c} b) m fs = selected_mod m fs None xs (to o c)
@@ -294,12 +294,12 @@ modded_end : {nm : Option (List ℕ)} {ms : List Matcher} {r : Sight} {p : Span}
 modded_end s no_mods = select_end s
 modded_end s (mods h x m) = refl
 
-complete_modded : {nm : Option (List ℕ)} {ms : List Matcher} {r : Sight} {p : Span} {n : ℕ} {ts us rest : List Tok} (s : SelectAt nm ms p ts us) (m : ModsAt (blank p) r p.end n us rest) (fs : List Frame) → accept (state fs (Have (select_operand s))) us ≡ accept (state fs (Have (modded_operand s m))) rest
+complete_modded : {nm : Option (List ℕ)} {ms : List Matcher} {r : Sight} {p : Span} {n : ℕ} {ts us rest : List Tok} (s : SelectAt nm ms p ts us) (m : ModsAt (blank p) r p.end n us rest) (fs : List Frame) → accept (state fs (ExpectOperator (select_operand s))) us ≡ accept (state fs (ExpectOperator (modded_operand s m))) rest
 complete_modded s no_mods fs = refl
 complete_modded {nm} {ms} {r} {p} s (mods h x m) fs = select_mod s x fs ∙ complete_mods (mods h x m) fs (OfSelector nm ms) p
 
 -- a range behind a selector
-select_range : {nm : Option (List ℕ)} {ms : List Matcher} {p : Span} {us vs : List Tok} (s : SelectAt nm ms p us vs) (fs : List Frame) (d : List ℕ) (o q c : Span) (ts : List Tok) → accept (state fs (Have (select_operand s))) ((Sign OpenBracket at o) ∷ (Dur d at q) ∷ (Sign CloseBracket at c) ∷ ts) ≡ accept (state fs (Have (Seen (OfSelector nm ms) (ranged d q) (to p c) c.end))) ts
+select_range : {nm : Option (List ℕ)} {ms : List Matcher} {p : Span} {us vs : List Tok} (s : SelectAt nm ms p us vs) (fs : List Frame) (d : List ℕ) (o q c : Span) (ts : List Tok) → accept (state fs (ExpectOperator (select_operand s))) ((Sign OpenBracket at o) ∷ (Dur d at q) ∷ (Sign CloseBracket at c) ∷ ts) ≡ accept (state fs (ExpectOperator (Seen (OfSelector nm ms) (ranged d q) (to p c) c.end))) ts
 select_range (word i) fs d o q c ts = refl
 select_range (word_braces i b) fs d o q c ts = refl
 select_range (braces b) fs d o q c ts = refl
@@ -308,17 +308,17 @@ select_range (braces b) fs d o q c ts = refl
 
 -- where the machine is once it has taken an expression on these frames
 abbrev spine : {l n : ℕ} {e : Tree} {ts rest : List Tok} → At l e n ts rest → List Frame → State
-spine (number {x = x} {p = p}) fs = state fs (Have (Whole (Number x p) p.end))
-spine (numeric {w = w} {p = p}) fs = state fs (Have (Whole (Number w p) p.end))
-spine (string {x = x} {p = p}) fs = state fs (Have (Whole (Str x p) p.end))
-spine (paren {e = e} {o = o} {c = c} d) fs = state fs (Have (Whole (Paren e (to o c)) c.end))
-spine (selector s m) fs = state fs (Have (modded_operand s m))
-spine (range {n = n} {nm = nm} {ms = ms} {r = r} {p = p} {c = c} s m) fs = state fs (Have (Seen (OfSelector nm ms) r (to p c) n))
-spine (subquery {n = n} {e = e} {r = r} {c = c} d k m) fs = state fs (Have (Seen (OfSubquery e) r (to (span_of e) c) n))
-spine (call {w = w} {xs = xs} {p = p} {c = c} i a) fs = state fs (Have (Whole (Call w xs p) c.end))
-spine (aggregate {a = a} {xs = xs} {p = p} {c = c} d) fs = state fs (Have (Aggregated a xs p c.end))
-spine (aggregate_by {a = a} {k = k} {xs = xs} {ys = ys} {p = p} {c = c} b d) fs = state fs (Have (Whole (Aggregate a (grouping k ys) xs p) c.end))
-spine (aggregate_args_by {a = a} {k = k} {xs = xs} {ys = ys} {p = p} {d = d} i b) fs = state fs (Have (Whole (Aggregate a (grouping k ys) xs p) d.end))
+spine (number {x = x} {p = p}) fs = state fs (ExpectOperator (Whole (Number x p) p.end))
+spine (numeric {w = w} {p = p}) fs = state fs (ExpectOperator (Whole (Number w p) p.end))
+spine (string {x = x} {p = p}) fs = state fs (ExpectOperator (Whole (Str x p) p.end))
+spine (paren {e = e} {o = o} {c = c} d) fs = state fs (ExpectOperator (Whole (Paren e (to o c)) c.end))
+spine (selector s m) fs = state fs (ExpectOperator (modded_operand s m))
+spine (range {n = n} {nm = nm} {ms = ms} {r = r} {p = p} {c = c} s m) fs = state fs (ExpectOperator (Seen (OfSelector nm ms) r (to p c) n))
+spine (subquery {n = n} {e = e} {r = r} {c = c} d k m) fs = state fs (ExpectOperator (Seen (OfSubquery e) r (to (span_of e) c) n))
+spine (call {w = w} {xs = xs} {p = p} {c = c} i a) fs = state fs (ExpectOperator (Whole (Call w xs p) c.end))
+spine (aggregate {a = a} {xs = xs} {p = p} {c = c} d) fs = state fs (ExpectOperator (Aggregated a xs p c.end))
+spine (aggregate_by {a = a} {k = k} {xs = xs} {ys = ys} {p = p} {c = c} b d) fs = state fs (ExpectOperator (Whole (Aggregate a (grouping k ys) xs p) c.end))
+spine (aggregate_args_by {a = a} {k = k} {xs = xs} {ys = ys} {p = p} {d = d} i b) fs = state fs (ExpectOperator (Whole (Aggregate a (grouping k ys) xs p) d.end))
 spine (plus {p = p} h d) fs = spine d (Signed false p ∷ fs)
 spine (minus {p = p} h d) fs = spine d (Signed true p ∷ fs)
 spine (binary {o = o} {x = x} {a = a} {p = p} h i d m q) fs = spine q (LeftOf o p x a ∷ fs)
@@ -330,8 +330,8 @@ pub reduce_sign : (l n : ℕ) (neg : Bool) (p : Span) (fs : List Frame) (e : Tre
 reduce_sign l n neg p fs e h = rw (le-leb l 6 h) refl
 
 -- what looks at an operand, after the operators of level l, sees an expression of that level whole
-module _ (A : Type 0) (look : State → A) (f : Held → A) (l : ℕ) (law : (fs : List Frame) (x : Operand) → look (state fs (Have x)) ≡ f (reduce l (operand_end x) fs (operand_tree x))) where
-  look_operand : (fs : List Frame) (x : Operand) (e : Tree) (n : ℕ) → operand_tree x ≡ e → operand_end x ≡ n → look (state fs (Have x)) ≡ f (reduce l n fs e)
+module _ (A : Type 0) (look : State → A) (f : Held → A) (l : ℕ) (law : (fs : List Frame) (x : Operand) → look (state fs (ExpectOperator x)) ≡ f (reduce l (operand_end x) fs (operand_tree x))) where
+  look_operand : (fs : List Frame) (x : Operand) (e : Tree) (n : ℕ) → operand_tree x ≡ e → operand_end x ≡ n → look (state fs (ExpectOperator x)) ≡ f (reduce l n fs e)
   look_operand fs x e n t k = law fs x ∙ ap (λ y. f (reduce l (operand_end x) fs y)) t ∙ ap (λ y. f (reduce l y fs e)) k
 
   look_spine : {m n : ℕ} {e : Tree} {ts rest : List Tok} (d : At m e n ts rest) (fs : List Frame) → l ≤ m → look (spine d fs) ≡ f (reduce l n fs e)
@@ -358,7 +358,7 @@ after_op (Sign CloseParen) h fs e n p = cc
 after_op (Sign Comma) h fs e n p = cc
 after_op m h fs e n p = ap (joined fs e n p) h
 
-operator_law : {o : Op} (m : Mark) → op_of m ≡ Some o → (p : Span) (fs : List Frame) (x : Operand) → have_step fs x (m at p) ≡ operator o p (reduce (left_level o) (operand_end x) fs (operand_tree x))
+operator_law : {o : Op} (m : Mark) → op_of m ≡ Some o → (p : Span) (fs : List Frame) (x : Operand) → expect_operator fs x (m at p) ≡ operator o p (reduce (left_level o) (operand_end x) fs (operand_tree x))
 operator_law (Sign OpenBracket) h p fs x = cc
 operator_law (Sign OpenParen) h p fs x = cc
 operator_law (Sign OpenBrace) h p fs x = cc
@@ -371,21 +371,21 @@ operator_law m h p fs (Selected nm ms q) = after_op m h fs (Selector nm ms (blan
 operator_law m h p fs (Aggregated a xs q n) = after_op m h fs (Aggregate a grouping_of.None xs q) n p
 operator_law m h p fs (Seen y s q n) = after_op m h fs (operand_tree (Seen y s q n)) n p
 
-pub close_law : (p : Span) (fs : List Frame) (x : Operand) → have_step fs x (Sign CloseParen at p) ≡ close p (reduce 1 (operand_end x) fs (operand_tree x)).frames (reduce 1 (operand_end x) fs (operand_tree x)).tree
+pub close_law : (p : Span) (fs : List Frame) (x : Operand) → expect_operator fs x (Sign CloseParen at p) ≡ close p (reduce 1 (operand_end x) fs (operand_tree x)).frames (reduce 1 (operand_end x) fs (operand_tree x)).tree
 close_law p fs (Whole e n) = refl
 close_law p fs (Bare w q) = refl
 close_law p fs (Selected nm ms q) = refl
 close_law p fs (Aggregated a xs q n) = refl
 close_law p fs (Seen y s q n) = refl
 
-comma_law : (p : Span) (fs : List Frame) (x : Operand) → have_step fs x (Sign Comma at p) ≡ comma (reduce 1 (operand_end x) fs (operand_tree x)).frames (reduce 1 (operand_end x) fs (operand_tree x)).tree
+comma_law : (p : Span) (fs : List Frame) (x : Operand) → expect_operator fs x (Sign Comma at p) ≡ comma (reduce 1 (operand_end x) fs (operand_tree x)).frames (reduce 1 (operand_end x) fs (operand_tree x)).tree
 comma_law p fs (Whole e n) = refl
 comma_law p fs (Bare w q) = refl
 comma_law p fs (Selected nm ms q) = refl
 comma_law p fs (Aggregated a xs q n) = refl
 comma_law p fs (Seen y s q n) = refl
 
-bracket_law : (o : Span) (fs : List Frame) (x : Operand) → have_step fs x (Sign OpenBracket at o) ≡ Some (state fs (AfterBracket x))
+bracket_law : (o : Span) (fs : List Frame) (x : Operand) → expect_operator fs x (Sign OpenBracket at o) ≡ Some (state fs (AfterBracket x))
 bracket_law o fs (Whole e n) = refl
 bracket_law o fs (Bare w q) = refl
 bracket_law o fs (Selected nm ms q) = refl
@@ -416,7 +416,7 @@ step_comma p fs d = look_spine (Option State) (λ s. step s (Sign Comma at p)) (
 record Alone (e : Tree) (s : State) (fs : List Frame) : Type 0 where
   operand : Operand
   tree : operand_tree operand ≡ e
-  here : s ≡ state fs (Have operand)
+  here : s ≡ state fs (ExpectOperator operand)
 
 alone_at : {e : Tree} {n : ℕ} {ts rest : List Tok} (d : At 7 e n ts rest) (fs : List Frame) → Alone e (spine d fs) fs
 alone_at (number {x = x} {p = p}) fs = record { operand = Whole (Number x p) p.end; tree = refl; here = refl }
@@ -441,7 +441,7 @@ bracket_colon {e} d fs x o q k us =
     accept_step (spine d fs) (state fs (AfterBracket y.operand)) (Sign OpenBracket at o) ((Dur x at q) ∷ (Sign Colon at k) ∷ us) (ap (λ s. step s (Sign OpenBracket at o)) y.here ∙ bracket_law o fs y.operand)
     ∙ ap (λ z. accept (state fs (AfterColon z x q)) us) y.tree
 
-complete_step : {x : Option (List ℕ)} {us vs : List Tok} {c : Span} → StepAt x us ((Sign CloseBracket at c) ∷ vs) → (fs : List Frame) (e : Tree) (d : List ℕ) (q : Span) → accept (state fs (AfterColon e d q)) us ≡ accept (state fs (Have (Seen (OfSubquery e) (stepped d q x) (to (span_of e) c) c.end))) vs
+complete_step : {x : Option (List ℕ)} {us vs : List Tok} {c : Span} → StepAt x us ((Sign CloseBracket at c) ∷ vs) → (fs : List Frame) (e : Tree) (d : List ℕ) (q : Span) → accept (state fs (AfterColon e d q)) us ≡ accept (state fs (ExpectOperator (Seen (OfSubquery e) (stepped d q x) (to (span_of e) c) c.end))) vs
 complete_step no_step fs e d q = refl
 complete_step step_dur fs e d q = refl
 
@@ -451,27 +451,27 @@ abbrev args_spine : {xs : Trees} {ts rest : List Tok} → SomeAt xs ts rest → 
 args_spine (one d) h fs = spine d (InArgs h Nil ∷ fs)
 args_spine (also {xs = xs} s d) h fs = spine d (InArgs h xs ∷ fs)
 
-step_close_args : {xs : Trees} {ts rest : List Tok} (h : Head) (c : Span) (fs : List Frame) (s : SomeAt xs ts rest) → step (args_spine s h fs) (Sign CloseParen at c) ≡ Some (state fs (Have (applied h xs c)))
+step_close_args : {xs : Trees} {ts rest : List Tok} (h : Head) (c : Span) (fs : List Frame) (s : SomeAt xs ts rest) → step (args_spine s h fs) (Sign CloseParen at c) ≡ Some (state fs (ExpectOperator (applied h xs c)))
 step_close_args h c fs (one d) = step_close c (InArgs h Nil ∷ fs) d
 step_close_args h c fs (also {xs = xs} s d) = step_close c (InArgs h xs ∷ fs) d
 
-step_comma_args : {xs : Trees} {ts rest : List Tok} (h : Head) (c : Span) (fs : List Frame) (s : SomeAt xs ts rest) → step (args_spine s h fs) (Sign Comma at c) ≡ Some (state (InArgs h xs ∷ fs) Want)
+step_comma_args : {xs : Trees} {ts rest : List Tok} (h : Head) (c : Span) (fs : List Frame) (s : SomeAt xs ts rest) → step (args_spine s h fs) (Sign Comma at c) ≡ Some (state (InArgs h xs ∷ fs) ExpectOperand)
 step_comma_args h c fs (one d) = step_comma c (InArgs h Nil ∷ fs) d
 step_comma_args h c fs (also {xs = xs} s d) = step_comma c (InArgs h xs ∷ fs) d
 
 -- no expression begins with `)`
-first_want : {ts : List Tok} → Starts ts → (h : Head) (fs : List Frame) → accept (state fs (First h)) ts ≡ accept (state (InArgs h Nil ∷ fs) Want) ts
-first_want at_number h fs = refl
-first_want at_numeric h fs = refl
-first_want at_string h fs = refl
-first_want at_plain h fs = refl
-first_want at_edge h fs = refl
-first_want at_metric h fs = refl
-first_want at_aggregation h fs = refl
-first_want at_brace h fs = refl
-first_want at_paren h fs = refl
-first_want at_plus h fs = refl
-first_want at_minus h fs = refl
+first_operand : {ts : List Tok} → Starts ts → (h : Head) (fs : List Frame) → accept (state fs (First h)) ts ≡ accept (state (InArgs h Nil ∷ fs) ExpectOperand) ts
+first_operand at_number h fs = refl
+first_operand at_numeric h fs = refl
+first_operand at_string h fs = refl
+first_operand at_plain h fs = refl
+first_operand at_edge h fs = refl
+first_operand at_metric h fs = refl
+first_operand at_aggregation h fs = refl
+first_operand at_brace h fs = refl
+first_operand at_paren h fs = refl
+first_operand at_plus h fs = refl
+first_operand at_minus h fs = refl
 
 starts_some : {xs : Trees} {ts rest : List Tok} → SomeAt xs ts rest → Starts ts
 starts_some (one d) = starts d
@@ -480,33 +480,33 @@ starts_some (also s d) = starts_some s
 -- ---- the labels of a grouping
 
 module _ (fs : List Frame) (a : Agg) (p : Span) (k : Clause) where
-  pub grouping_told : (r : Outcome Names Listed) → in_grouping fs a p k r ≡ told (λ n. state fs (InGrouping a p k n)) (λ xs c. state fs (AfterGrouping a p (grouping k xs))) r
-  grouping_told (Go n) = refl
-  grouping_told (Ends (xs, c)) = refl
-  grouping_told (Pass v) = refl
-  grouping_told Stop = refl
+  pub grouping_told : (r : Step Names Listed) → in_grouping fs a p k r ≡ told (λ n. state fs (InGrouping a p k n)) (λ xs c. state fs (AfterGrouping a p (grouping k xs))) r
+  grouping_told (More n) = refl
+  grouping_told (Done (xs, c)) = refl
+  grouping_told (DoneBefore v) = refl
+  grouping_told Reject = refl
 
   complete_grouping : {ys : List NameOf} {c : Span} {ts rest : List Tok} → NamesAt ys c ts rest → accept (state fs (InGrouping a p k Opening)) ts ≡ accept (state fs (AfterGrouping a p (grouping k ys))) rest
   complete_grouping d = complete_names (λ n. state fs (InGrouping a p k n)) (λ xs c. state fs (AfterGrouping a p (grouping k xs))) (λ n t. grouping_told (names_step n t)) d
 
-  pub behind_told : (xs : Trees) (r : Outcome Names Listed) → in_grouping_behind fs a p xs k r ≡ told (λ n. state fs (InGroupingBehind a p xs k n)) (λ ys c. state fs (Have (Whole (Aggregate a (grouping k ys) xs p) c.end))) r
-  behind_told xs (Go n) = refl
-  behind_told xs (Ends (ys, c)) = refl
-  behind_told xs (Pass v) = refl
-  behind_told xs Stop = refl
+  pub behind_told : (xs : Trees) (r : Step Names Listed) → in_grouping_behind fs a p xs k r ≡ told (λ n. state fs (InGroupingBehind a p xs k n)) (λ ys c. state fs (ExpectOperator (Whole (Aggregate a (grouping k ys) xs p) c.end))) r
+  behind_told xs (More n) = refl
+  behind_told xs (Done (ys, c)) = refl
+  behind_told xs (DoneBefore v) = refl
+  behind_told xs Reject = refl
 
-  complete_behind : {ys : List NameOf} {c : Span} {ts rest : List Tok} (xs : Trees) → NamesAt ys c ts rest → accept (state fs (InGroupingBehind a p xs k Opening)) ts ≡ accept (state fs (Have (Whole (Aggregate a (grouping k ys) xs p) c.end))) rest
-  complete_behind xs d = complete_names (λ n. state fs (InGroupingBehind a p xs k n)) (λ ys c. state fs (Have (Whole (Aggregate a (grouping k ys) xs p) c.end))) (λ n t. behind_told xs (names_step n t)) d
+  complete_behind : {ys : List NameOf} {c : Span} {ts rest : List Tok} (xs : Trees) → NamesAt ys c ts rest → accept (state fs (InGroupingBehind a p xs k Opening)) ts ≡ accept (state fs (ExpectOperator (Whole (Aggregate a (grouping k ys) xs p) c.end))) rest
+  complete_behind xs d = complete_names (λ n. state fs (InGroupingBehind a p xs k n)) (λ ys c. state fs (ExpectOperator (Whole (Aggregate a (grouping k ys) xs p) c.end))) (λ n t. behind_told xs (names_step n t)) d
 
 -- ---- the whole
 
 mutual
-  complete_at : {l n : ℕ} {e : Tree} {ts rest : List Tok} (d : At l e n ts rest) (fs : List Frame) → Low l fs → accept (state fs Want) ts ≡ accept (spine d fs) rest
+  complete_at : {l n : ℕ} {e : Tree} {ts rest : List Tok} (d : At l e n ts rest) (fs : List Frame) → Low l fs → accept (state fs ExpectOperand) ts ≡ accept (spine d fs) rest
   complete_at number fs low = refl
   complete_at numeric fs low = refl
   complete_at string fs low = refl
   complete_at (paren {e = e} {o = o} {c = c} {rest = rest} d) fs low =
-      complete_at d (InParen o ∷ fs) (λ o' h n x. refl) ∙ accept_step (spine d (InParen o ∷ fs)) (state fs (Have (Whole (Paren e (to o c)) c.end))) (Sign CloseParen at c) rest (step_close c (InParen o ∷ fs) d)
+      complete_at d (InParen o ∷ fs) (λ o' h n x. refl) ∙ accept_step (spine d (InParen o ∷ fs)) (state fs (ExpectOperator (Whole (Paren e (to o c)) c.end))) (Sign CloseParen at c) rest (step_close c (InParen o ∷ fs) d)
   complete_at (selector s m) fs low = complete_select s fs ∙ complete_modded s m fs
   complete_at (range {nm = nm} {ms = ms} {d = d} {p = p} {o = o} {q = q} {c = c} {us = us} s m) fs low =
       complete_select s fs ∙ select_range s fs d o q c us ∙ complete_mods m fs (OfSelector nm ms) (to p c)
@@ -515,7 +515,7 @@ mutual
       ∙ bracket_colon d fs x o q k us
       ∙ complete_step i fs e x q
       ∙ complete_mods m fs (OfSubquery e) (to (span_of e) c)
-  complete_at (call {w = w} {p = p} {ts = ts} i a) fs low = complete_metric i fs p ts ∙ complete_args a (state fs (Have (Bare w p))) fs (OfCall w p) (λ o. refl)
+  complete_at (call {w = w} {p = p} {ts = ts} i a) fs low = complete_metric i fs p ts ∙ complete_args a (state fs (ExpectOperator (Bare w p))) fs (OfCall w p) (λ o. refl)
   complete_at (aggregate {a = a} {p = p} d) fs low = complete_args d (state fs (AfterAggregation a p)) fs (OfAggregate a p) (λ o. refl)
   complete_at (aggregate_by {a = a} {k = k} {ys = ys} {p = p} b d) fs low = complete_grouping fs a p k b ∙ complete_args d (state fs (AfterGrouping a p (grouping k ys))) fs (OfGrouped a (grouping k ys) p) (λ o. refl)
   complete_at (aggregate_args_by {a = a} {k = k} {xs = xs} {p = p} d b) fs low = complete_args d (state fs (AfterAggregation a p)) fs (OfAggregate a p) (λ o. refl) ∙ complete_behind fs a p k xs b
@@ -527,18 +527,18 @@ mutual
       ∙ complete_modifier fs o p a y (starts q)
       ∙ complete_at q (LeftOf o p x a ∷ fs) (low_left o p x a fs)
 
-  complete_some : {xs : Trees} {ts rest : List Tok} (s : SomeAt xs ts rest) (h : Head) (fs : List Frame) → accept (state (InArgs h Nil ∷ fs) Want) ts ≡ accept (args_spine s h fs) rest
+  complete_some : {xs : Trees} {ts rest : List Tok} (s : SomeAt xs ts rest) (h : Head) (fs : List Frame) → accept (state (InArgs h Nil ∷ fs) ExpectOperand) ts ≡ accept (args_spine s h fs) rest
   complete_some (one d) h fs = complete_at d (InArgs h Nil ∷ fs) (λ o i n x. refl)
   complete_some (also {xs = xs} {q = q} {us = us} s d) h fs =
-      complete_some s h fs ∙ accept_step (args_spine s h fs) (state (InArgs h xs ∷ fs) Want) (Sign Comma at q) us (step_comma_args h q fs s) ∙ complete_at d (InArgs h xs ∷ fs) (λ o i n x. refl)
+      complete_some s h fs ∙ accept_step (args_spine s h fs) (state (InArgs h xs ∷ fs) ExpectOperand) (Sign Comma at q) us (step_comma_args h q fs s) ∙ complete_at d (InArgs h xs ∷ fs) (λ o i n x. refl)
 
-  complete_args : {xs : Trees} {c : Span} {ts rest : List Tok} (a : ArgsAt xs c ts rest) (s : State) (fs : List Frame) (h : Head) → ((o : Span) → step s (Sign OpenParen at o) ≡ Some (state fs (First h))) → accept s ts ≡ accept (state fs (Have (applied h xs c))) rest
+  complete_args : {xs : Trees} {c : Span} {ts rest : List Tok} (a : ArgsAt xs c ts rest) (s : State) (fs : List Frame) (h : Head) → ((o : Span) → step s (Sign OpenParen at o) ≡ Some (state fs (First h))) → accept s ts ≡ accept (state fs (ExpectOperator (applied h xs c))) rest
   complete_args (no_args {o = o} {c = c} {rest = rest}) s fs h f = accept_step s (state fs (First h)) (Sign OpenParen at o) ((Sign CloseParen at c) ∷ rest) (f o)
   complete_args (args {xs = xs} {o = o} {c = c} {ts = ts} {rest = rest} d) s fs h f =
       accept_step s (state fs (First h)) (Sign OpenParen at o) ts (f o)
-      ∙ first_want (starts_some d) h fs
+      ∙ first_operand (starts_some d) h fs
       ∙ complete_some d h fs
-      ∙ accept_step (args_spine d h fs) (state fs (Have (applied h xs c))) (Sign CloseParen at c) rest (step_close_args h c fs d)
+      ∙ accept_step (args_spine d h fs) (state fs (ExpectOperator (applied h xs c))) (Sign CloseParen at c) rest (step_close_args h c fs d)
 
 -- what the grammar derives is taken, with its tree
 pub complete : (ts : List Tok) (e : Tree) → Derives ts e → accept start ts ≡ Some e

@@ -1,8 +1,8 @@
 -- One more part that was begun.
 use Rattle.std.proofs.Common.{◌≡◌, List, [], ◌∷◌, ◌++◌, map, ap}
 use Rattle.std.proofs.lemmas.List.{reverse-append}
-use Rattle.lf_parse.specs.declared.place.Pending.{Pending}
-use Rattle.lf_parse.specs.View.{frame, frames}
+use Rattle.lf_parse.specs.declared.mode.Frame.{Frame as FrameOf}
+use Rattle.lf_parse.specs.views.Values.{seen_frame, seen_frames}
 
-pub frames_push : (ps : List Pending) (b : Pending) → frames (ps ++ b ∷ []) ≡ frame b ∷ frames ps
-frames_push ps b = ap (map frame) (reverse-append ps (b ∷ []))
+pub frames_push : (ps : List FrameOf) (b : FrameOf) → seen_frames (ps ++ b ∷ []) ≡ seen_frame b ∷ seen_frames ps
+frames_push ps b = ap (map seen_frame) (reverse-append ps (b ∷ []))

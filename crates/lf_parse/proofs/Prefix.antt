@@ -21,7 +21,7 @@ use Rattle.lf_parse.specs.declared.class.Clause.{Clause}
 use Rattle.lf_parse.specs.Tokens.{Sign, Tok, ◌at◌, shown}
 use Rattle.lf_ast.specs.Tree.{Tree, Number, Paren, Unary, Binary, Aggregate, Trees, Nil, span_of, with_last}
 use Rattle.lf_parse.specs.Grammar.{to, up_to, behind, unmatched, matcher, stepped, edge_text, OffsetBy, AtTime, with_mod, grouping, IsViable}
-use Rattle.lf_parse.specs.Machine.{Names, Opening, NextName, AfterName, names_step, Braces, NextMatcher, AfterLabel, AfterSign, AfterMatcher, Stage, Begin, AfterBool, InLabels, AfterLabels, AfterGroup, InInclude, modifier, group_modifier, Part, AfterOffset, AfterOffsetMinus, AfterAt, AfterAtSign, AfterEdge, InEdge, Head, OfAggregate, OfGrouped, Frame, LeftOf, Signed, InParen, InArgs, Subject, OfSubquery, Operand, Whole, Selected, Seen, operand_tree, operand_end, Mode, Want, First, Have, Modifying, InBraces, InMod, AfterBracket, AfterRange, AfterColon, AfterStep, AfterAggregation, InGrouping, AfterGrouping, InGroupingBehind, State, Held, state, reduce, applied, close, ended, run, step, start, accept}
+use Rattle.lf_parse.specs.reading.Machine.{Names, Opening, NextName, AfterName, names_step, Braces, NextMatcher, AfterLabel, AfterSign, AfterMatcher, Stage, Begin, AfterBool, InLabels, AfterLabels, AfterGroup, InInclude, modifier, group_modifier, Part, AfterOffset, AfterOffsetMinus, AfterAt, AfterAtSign, AfterEdge, InEdge, Head, OfAggregate, OfGrouped, Frame, LeftOf, Signed, InParen, InArgs, Subject, OfSubquery, Operand, Whole, Selected, Seen, operand_tree, operand_end, Mode, ExpectOperand, First, ExpectOperator, Modifying, InBraces, InMod, AfterBracket, AfterRange, AfterColon, AfterStep, AfterAggregation, InGrouping, AfterGrouping, InGroupingBehind, State, Held, state, reduce, applied, close, ended, run, step, start, accept}
 use Rattle.lf_parse.proofs.Levels.{level-ge}
 use Rattle.lf_parse.proofs.Complete.{complete, accept_step, reduce_left, reduce_sign, close_law, told, labels_told, include_told, grouping_told, behind_told}
 use Rattle.lf_parse.proofs.Sound.{sound}
@@ -59,10 +59,10 @@ closers (InParen p ∷ fs) = a_sign CloseParen ∷ closers fs
 closers (InArgs h xs ∷ fs) = a_sign CloseParen ∷ closers fs
 
 -- some tokens lead from the state to the end
-abbrev Ends : State → Type 0
-Ends s = (more : List Token) × (e : Tree) × (accept s (map shown more) ≡ Some e)
+abbrev Done : State → Type 0
+Done s = (more : List Token) × (e : Tree) × (accept s (map shown more) ≡ Some e)
 
-ends_step : (s s' : State) (t : Token) → step s (shown t) ≡ Some s' → Ends s' → Ends s
+ends_step : (s s' : State) (t : Token) → step s (shown t) ≡ Some s' → Done s' → Done s
 ends_step s s' t h (more, e, g) = (t ∷ more, e, accept_step s s' (shown t) (map shown more) h ∙ g)
 
 -- what `)` and the end do once the operators are trees
@@ -70,7 +70,7 @@ abbrev settle : Held → List Tok → Option Tree
 settle h [] = ended h.frames h.tree
 settle h ((m at p) ∷ ts) = option_and_then (λ s. accept s ts) (close p h.frames h.tree)
 
-accept_closers : (fs : List Frame) (x : Operand) (gs : List Frame) → accept (state fs (Have x)) (map shown (closers gs)) ≡ settle (reduce 1 (operand_end x) fs (operand_tree x)) (map shown (closers gs))
+accept_closers : (fs : List Frame) (x : Operand) (gs : List Frame) → accept (state fs (ExpectOperator x)) (map shown (closers gs)) ≡ settle (reduce 1 (operand_end x) fs (operand_tree x)) (map shown (closers gs))
 accept_closers fs x [] = refl
 accept_closers fs x (LeftOf o p m a ∷ gs) = accept_closers fs x gs
 accept_closers fs x (Signed neg p ∷ gs) = accept_closers fs x gs
@@ -84,22 +84,22 @@ ends_settle (Signed neg p ∷ fs) n e = let y = ends_settle fs n (Unary neg e (u
 ends_settle (InParen p ∷ fs) n e = let x = Paren e (to p z) in let y = ends_settle fs 0 x in (y.0, accept_closers fs (Whole x 0) fs ∙ y.1)
 ends_settle (InArgs h xs ∷ fs) n e = let x = applied h (with_last xs e) z in let y = ends_settle fs (operand_end x) (operand_tree x) in (y.0, accept_closers fs x fs ∙ y.1)
 
-ends_have : (fs : List Frame) (x : Operand) → Ends (state fs (Have x))
+ends_have : (fs : List Frame) (x : Operand) → Done (state fs (ExpectOperator x))
 ends_have fs x = let y = ends_settle fs (operand_end x) (operand_tree x) in (closers fs, y.0, accept_closers fs x fs ∙ y.1)
 
-ends_want : (fs : List Frame) → Ends (state fs Want)
-ends_want fs = let x = Whole (Number zero_text z) 0 in ends_step (state fs Want) (state fs (Have x)) a_number refl (ends_have fs x)
+ends_want : (fs : List Frame) → Done (state fs ExpectOperand)
+ends_want fs = let x = Whole (Number zero_text z) 0 in ends_step (state fs ExpectOperand) (state fs (ExpectOperator x)) a_number refl (ends_have fs x)
 
-ends_first : (fs : List Frame) (h : Head) → Ends (state fs (First h))
-ends_first fs h = ends_step (state fs (First h)) (state fs (Have (applied h Nil z))) (a_sign CloseParen) refl (ends_have fs (applied h Nil z))
+ends_first : (fs : List Frame) (h : Head) → Done (state fs (First h))
+ends_first fs h = ends_step (state fs (First h)) (state fs (ExpectOperator (applied h Nil z))) (a_sign CloseParen) refl (ends_have fs (applied h Nil z))
 
 -- ---- lists of labels
 
-module _ (inside : Names → State) (done : List NameOf → Span → State) (law : (n : Names) (t : Tok) → step (inside n) t ≡ told inside done (names_step n t)) (after : (xs : List NameOf) (c : Span) → Ends (done xs c)) where
-  ends_next_name : (xs : List NameOf) → Ends (inside (NextName xs))
+module _ (inside : Names → State) (done : List NameOf → Span → State) (law : (n : Names) (t : Tok) → step (inside n) t ≡ told inside done (names_step n t)) (after : (xs : List NameOf) (c : Span) → Done (done xs c)) where
+  ends_next_name : (xs : List NameOf) → Done (inside (NextName xs))
   ends_next_name xs = ends_step (inside (NextName xs)) (done xs z) (a_sign CloseParen) (law (NextName xs) (Sign CloseParen at z)) (after xs z)
 
-  ends_names : (n : Names) → Ends (inside n)
+  ends_names : (n : Names) → Done (inside n)
   ends_names Opening = ends_step (inside Opening) (inside (NextName [])) (a_sign OpenParen) (law Opening (Sign OpenParen at z)) (ends_next_name [])
   ends_names (NextName xs) = ends_next_name xs
   ends_names (AfterName xs) = ends_step (inside (AfterName xs)) (done xs z) (a_sign CloseParen) (law (AfterName xs) (Sign CloseParen at z)) (after xs z)
@@ -110,14 +110,14 @@ module _ (fs : List Frame) (o : Op) (p : Span) (a : Tree) where
   abbrev here : Stage → State
   here st = state fs (Modifying o p a st)
 
-  ends_operand : (m : MatchingOf) → Ends (state (LeftOf o p m a ∷ fs) Want)
+  ends_operand : (m : MatchingOf) → Done (state (LeftOf o p m a ∷ fs) ExpectOperand)
   ends_operand m = ends_want (LeftOf o p m a ∷ fs)
 
   -- a number is an operand
-  ends_pass : (st : Stage) (m : MatchingOf) → step (here st) (shown a_number) ≡ Some (state (LeftOf o p m a ∷ fs) (Have (Whole (Number zero_text z) 0))) → Ends (here st)
-  ends_pass st m h = ends_step (here st) (state (LeftOf o p m a ∷ fs) (Have (Whole (Number zero_text z) 0))) a_number h (ends_have (LeftOf o p m a ∷ fs) (Whole (Number zero_text z) 0))
+  ends_pass : (st : Stage) (m : MatchingOf) → step (here st) (shown a_number) ≡ Some (state (LeftOf o p m a ∷ fs) (ExpectOperator (Whole (Number zero_text z) 0))) → Done (here st)
+  ends_pass st m h = ends_step (here st) (state (LeftOf o p m a ∷ fs) (ExpectOperator (Whole (Number zero_text z) 0))) a_number h (ends_have (LeftOf o p m a ∷ fs) (Whole (Number zero_text z) 0))
 
-  ends_stage : (st : Stage) → Ends (here st)
+  ends_stage : (st : Stage) → Done (here st)
   ends_stage Begin = ends_pass Begin (unmatched false (behind p)) refl
   ends_stage (AfterBool b) = ends_pass (AfterBool b) (unmatched true b) refl
   ends_stage (InLabels f n) =
@@ -125,7 +125,7 @@ module _ (fs : List Frame) (o : Op) (p : Span) (a : Tree) where
   ends_stage (AfterLabels f xs c) = ends_pass (AfterLabels f xs c) (modifier f xs c) refl
   ends_stage (AfterGroup f xs s q) = ends_pass (AfterGroup f xs s q) (group_modifier f xs s [] q) refl
   ends_stage (InInclude f xs s n) =
-      ends_names (λ m. here (InInclude f xs s m)) (λ ys c. state (LeftOf o p (group_modifier f xs s ys c) a ∷ fs) Want) (λ m t. include_told fs o p a f xs s t (names_step m t)) (λ ys c. ends_operand (group_modifier f xs s ys c)) n
+      ends_names (λ m. here (InInclude f xs s m)) (λ ys c. state (LeftOf o p (group_modifier f xs s ys c) a ∷ fs) ExpectOperand) (λ m t. include_told fs o p a f xs s t (names_step m t)) (λ ys c. ends_operand (group_modifier f xs s ys c)) n
 
 -- ---- selectors and what comes behind them
 
@@ -133,17 +133,17 @@ module _ (fs : List Frame) (nm : Option (List ℕ)) (p : Span) where
   abbrev braces : Braces → State
   braces b = state fs (InBraces nm p b)
 
-  ends_selected : (xs : List Matcher) → Ends (state fs (Have (Selected nm xs (to p z))))
+  ends_selected : (xs : List Matcher) → Done (state fs (ExpectOperator (Selected nm xs (to p z))))
   ends_selected xs = ends_have fs (Selected nm xs (to p z))
 
-  ends_after_matcher : (xs : List Matcher) → Ends (braces (AfterMatcher xs))
-  ends_after_matcher xs = ends_step (braces (AfterMatcher xs)) (state fs (Have (Selected nm xs (to p z)))) (a_sign CloseBrace) refl (ends_selected xs)
+  ends_after_matcher : (xs : List Matcher) → Done (braces (AfterMatcher xs))
+  ends_after_matcher xs = ends_step (braces (AfterMatcher xs)) (state fs (ExpectOperator (Selected nm xs (to p z)))) (a_sign CloseBrace) refl (ends_selected xs)
 
-  ends_after_sign : (xs : List Matcher) (n : NameOf) (o : MatchOp) → Ends (braces (AfterSign xs n o))
+  ends_after_sign : (xs : List Matcher) (n : NameOf) (o : MatchOp) → Done (braces (AfterSign xs n o))
   ends_after_sign xs n o = let ys = xs ++ matcher n o [] z ∷ [] in ends_step (braces (AfterSign xs n o)) (braces (AfterMatcher ys)) a_string refl (ends_after_matcher ys)
 
-  ends_braces : (b : Braces) → Ends (braces b)
-  ends_braces (NextMatcher xs) = ends_step (braces (NextMatcher xs)) (state fs (Have (Selected nm xs (to p z)))) (a_sign CloseBrace) refl (ends_selected xs)
+  ends_braces : (b : Braces) → Done (braces b)
+  ends_braces (NextMatcher xs) = ends_step (braces (NextMatcher xs)) (state fs (ExpectOperator (Selected nm xs (to p z)))) (a_sign CloseBrace) refl (ends_selected xs)
   ends_braces (AfterLabel xs n) = ends_step (braces (AfterLabel xs n)) (braces (AfterSign xs n match_op.Equal)) (a_sign Is) refl (ends_after_sign xs n match_op.Equal)
   ends_braces (AfterSign xs n o) = ends_after_sign xs n o
   ends_braces (AfterMatcher xs) = ends_after_matcher xs
@@ -152,49 +152,49 @@ module _ (fs : List Frame) (x : Subject) (s : Sight) (p : Span) where
   abbrev part_state : Part → State
   part_state part = state fs (InMod x s p part)
 
-  ends_in_edge : (e : EdgeOf) → Ends (part_state (InEdge e))
-  ends_in_edge e = let y = Seen x (with_mod s (AtTime (edge_text e))) p 0 in ends_step (part_state (InEdge e)) (state fs (Have y)) (a_sign CloseParen) refl (ends_have fs y)
+  ends_in_edge : (e : EdgeOf) → Done (part_state (InEdge e))
+  ends_in_edge e = let y = Seen x (with_mod s (AtTime (edge_text e))) p 0 in ends_step (part_state (InEdge e)) (state fs (ExpectOperator y)) (a_sign CloseParen) refl (ends_have fs y)
 
-  ends_part : (part : Part) → Ends (part_state part)
-  ends_part AfterOffset = let y = Seen x (with_mod s (OffsetBy no_time)) p 0 in ends_step (part_state AfterOffset) (state fs (Have y)) a_duration refl (ends_have fs y)
-  ends_part AfterOffsetMinus = let y = Seen x (with_mod s (OffsetBy (45 ∷ no_time))) p 0 in ends_step (part_state AfterOffsetMinus) (state fs (Have y)) a_duration refl (ends_have fs y)
-  ends_part AfterAt = let y = Seen x (with_mod s (AtTime zero_text)) p 0 in ends_step (part_state AfterAt) (state fs (Have y)) a_number refl (ends_have fs y)
-  ends_part (AfterAtSign b) = let y = Seen x (with_mod s (AtTime (b ∷ zero_text))) p 0 in ends_step (part_state (AfterAtSign b)) (state fs (Have y)) a_number refl (ends_have fs y)
+  ends_part : (part : Part) → Done (part_state part)
+  ends_part AfterOffset = let y = Seen x (with_mod s (OffsetBy no_time)) p 0 in ends_step (part_state AfterOffset) (state fs (ExpectOperator y)) a_duration refl (ends_have fs y)
+  ends_part AfterOffsetMinus = let y = Seen x (with_mod s (OffsetBy (45 ∷ no_time))) p 0 in ends_step (part_state AfterOffsetMinus) (state fs (ExpectOperator y)) a_duration refl (ends_have fs y)
+  ends_part AfterAt = let y = Seen x (with_mod s (AtTime zero_text)) p 0 in ends_step (part_state AfterAt) (state fs (ExpectOperator y)) a_number refl (ends_have fs y)
+  ends_part (AfterAtSign b) = let y = Seen x (with_mod s (AtTime (b ∷ zero_text))) p 0 in ends_step (part_state (AfterAtSign b)) (state fs (ExpectOperator y)) a_number refl (ends_have fs y)
   ends_part (AfterEdge e) = ends_step (part_state (AfterEdge e)) (part_state (InEdge e)) (a_sign OpenParen) refl (ends_in_edge e)
   ends_part (InEdge e) = ends_in_edge e
 
-ends_colon : (fs : List Frame) (e : Tree) (d : List ℕ) (q : Span) → Ends (state fs (AfterColon e d q))
-ends_colon fs e d q = let x = Seen (OfSubquery e) (stepped d q None) (to (span_of e) z) 0 in ends_step (state fs (AfterColon e d q)) (state fs (Have x)) (a_sign CloseBracket) refl (ends_have fs x)
+ends_colon : (fs : List Frame) (e : Tree) (d : List ℕ) (q : Span) → Done (state fs (AfterColon e d q))
+ends_colon fs e d q = let x = Seen (OfSubquery e) (stepped d q None) (to (span_of e) z) 0 in ends_step (state fs (AfterColon e d q)) (state fs (ExpectOperator x)) (a_sign CloseBracket) refl (ends_have fs x)
 
-ends_range : (fs : List Frame) (x : Operand) (d : List ℕ) (q : Span) → Ends (state fs (AfterRange x d q))
+ends_range : (fs : List Frame) (x : Operand) (d : List ℕ) (q : Span) → Done (state fs (AfterRange x d q))
 ends_range fs x d q = ends_step (state fs (AfterRange x d q)) (state fs (AfterColon (operand_tree x) d q)) (a_sign Colon) refl (ends_colon fs (operand_tree x) d q)
 
 -- ---- groupings
 
 module _ (fs : List Frame) (a : Agg) (p : Span) (k : Clause) where
-  ends_grouped : (g : GroupingOf) → Ends (state fs (AfterGrouping a p g))
+  ends_grouped : (g : GroupingOf) → Done (state fs (AfterGrouping a p g))
   ends_grouped g = ends_step (state fs (AfterGrouping a p g)) (state fs (First (OfGrouped a g p))) (a_sign OpenParen) refl (ends_first fs (OfGrouped a g p))
 
-  ends_grouping : (n : Names) → Ends (state fs (InGrouping a p k n))
+  ends_grouping : (n : Names) → Done (state fs (InGrouping a p k n))
   ends_grouping n = ends_names (λ m. state fs (InGrouping a p k m)) (λ xs c. state fs (AfterGrouping a p (grouping k xs))) (λ m t. grouping_told fs a p k (names_step m t)) (λ xs c. ends_grouped (grouping k xs)) n
 
-  ends_behind : (xs : Trees) (n : Names) → Ends (state fs (InGroupingBehind a p xs k n))
-  ends_behind xs n = ends_names (λ m. state fs (InGroupingBehind a p xs k m)) (λ ys c. state fs (Have (Whole (Aggregate a (grouping k ys) xs p) c.end))) (λ m t. behind_told fs a p k xs (names_step m t)) (λ ys c. ends_have fs (Whole (Aggregate a (grouping k ys) xs p) c.end)) n
+  ends_behind : (xs : Trees) (n : Names) → Done (state fs (InGroupingBehind a p xs k n))
+  ends_behind xs n = ends_names (λ m. state fs (InGroupingBehind a p xs k m)) (λ ys c. state fs (ExpectOperator (Whole (Aggregate a (grouping k ys) xs p) c.end))) (λ m t. behind_told fs a p k xs (names_step m t)) (λ ys c. ends_have fs (Whole (Aggregate a (grouping k ys) xs p) c.end)) n
 
 -- ---- the whole
 
 -- from each state some tokens lead to the end
-ends : (fs : List Frame) (m : Mode) → Ends (state fs m)
-ends fs Want = ends_want fs
+ends : (fs : List Frame) (m : Mode) → Done (state fs m)
+ends fs ExpectOperand = ends_want fs
 ends fs (First h) = ends_first fs h
-ends fs (Have x) = ends_have fs x
+ends fs (ExpectOperator x) = ends_have fs x
 ends fs (Modifying o p a st) = ends_stage fs o p a st
 ends fs (InBraces nm p b) = ends_braces fs nm p b
 ends fs (InMod x s p part) = ends_part fs x s p part
 ends fs (AfterBracket x) = ends_step (state fs (AfterBracket x)) (state fs (AfterRange x no_time z)) a_duration refl (ends_range fs x no_time z)
 ends fs (AfterRange x d q) = ends_range fs x d q
 ends fs (AfterColon e d q) = ends_colon fs e d q
-ends fs (AfterStep e d q x) = let y = Seen (OfSubquery e) (stepped d q (Some x)) (to (span_of e) z) 0 in ends_step (state fs (AfterStep e d q x)) (state fs (Have y)) (a_sign CloseBracket) refl (ends_have fs y)
+ends fs (AfterStep e d q x) = let y = Seen (OfSubquery e) (stepped d q (Some x)) (to (span_of e) z) 0 in ends_step (state fs (AfterStep e d q x)) (state fs (ExpectOperator y)) (a_sign CloseBracket) refl (ends_have fs y)
 ends fs (AfterAggregation a p) = ends_step (state fs (AfterAggregation a p)) (state fs (First (OfAggregate a p))) (a_sign OpenParen) refl (ends_first fs (OfAggregate a p))
 ends fs (InGrouping a p k n) = ends_grouping fs a p k n
 ends fs (AfterGrouping a p g) = ends_step (state fs (AfterGrouping a p g)) (state fs (First (OfGrouped a g p))) (a_sign OpenParen) refl (ends_first fs (OfGrouped a g p))

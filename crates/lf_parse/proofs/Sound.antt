@@ -23,7 +23,7 @@ use Rattle.lf_parse.specs.declared.class.Side.{Side}
 use Rattle.lf_parse.specs.Tokens.{Mark, Word, Metric, Num, Dur, Quoted, Sign, Tok, ◌at◌, op_of}
 use Rattle.lf_ast.specs.Tree.{Tree, Selector, Unary, Binary, Aggregate, Trees, Nil, with_last}
 use Rattle.lf_parse.specs.Grammar.{to, up_to, name, LabelsAt, one_label, next_label, NamesAt, no_names, names, names_comma, ScopedAt, alone, group, group_names, ModifierAt, no_modifier, bool, scoped, bool_scoped, match_of, MatchersAt, one_matcher, next_matcher, BracesAt, no_matchers, matchers, matchers_comma, IsMetric, plain, edge, with_colon, SelectAt, word, word_braces, braces, blank, Mod, AtTime, ModAt, offset, offset_minus, time, time_plus, time_minus, time_edge, HasRoom, with_mod, ModsAt, no_mods, mods, no_step, step as step_dur, grouping, level, left_level, right_level, At, number, numeric, string, paren, selector, range, subquery, call, aggregate, aggregate_by, aggregate_args_by, plus, minus, binary, SomeAt, one, also, ArgsAt, no_args, args, Derives}
-use Rattle.lf_parse.specs.Machine.{Outcome, Go, Ends, Pass, Stop, Names, Opening, NextName, AfterName, names_step, Braces, NextMatcher, AfterLabel, AfterSign, AfterMatcher, compared, braces_step, Front, front, Stage, Begin, AfterBool, InLabels, AfterLabels, AfterGroup, InInclude, in_labels, in_include, stage_step, Part, AfterOffset, AfterOffsetMinus, AfterAt, AfterAtSign, AfterEdge, InEdge, part_step, Head, OfCall, OfAggregate, OfGrouped, Frame, LeftOf, Signed, InParen, InArgs, Subject, OfSelector, Operand, Whole, Bare, Selected, Aggregated, Seen, subject_tree, operand_tree, operand_end, Mode, Want, First, Have, Modifying, InBraces, InMod, AfterBracket, AfterRange, AfterColon, AfterStep, AfterAggregation, InGrouping, AfterGrouping, InGroupingBehind, State, Held, state, reduce, applied, close, comma, ended, operator, joined, after, want, room, have_step, first, modified, in_braces, in_mod, range_of, in_grouping, in_grouping_behind, step_in, finish_in, start, accept}
+use Rattle.lf_parse.specs.reading.Machine.{Step, More, Done, DoneBefore, Reject, Names, Opening, NextName, AfterName, names_step, Braces, NextMatcher, AfterLabel, AfterSign, AfterMatcher, compared, braces_step, Front, front, Stage, Begin, AfterBool, InLabels, AfterLabels, AfterGroup, InInclude, in_labels, in_include, stage_step, Part, AfterOffset, AfterOffsetMinus, AfterAt, AfterAtSign, AfterEdge, InEdge, part_step, Head, OfCall, OfAggregate, OfGrouped, Frame, LeftOf, Signed, InParen, InArgs, Subject, OfSelector, Operand, Whole, Bare, Selected, Aggregated, Seen, subject_tree, operand_tree, operand_end, Mode, ExpectOperand, First, ExpectOperator, Modifying, InBraces, InMod, AfterBracket, AfterRange, AfterColon, AfterStep, AfterAggregation, InGrouping, AfterGrouping, InGroupingBehind, State, Held, state, reduce, applied, close, comma, ended, operator, joined, after, expect_operand, room, expect_operator, first, modified, in_braces, in_mod, range_of, in_grouping, in_grouping_behind, step_in, finish_in, start, accept}
 use Rattle.lf_parse.proofs.Levels.{level-ge, left-le, right-le, left_cases, sign_under}
 
 abbrev Listed : Type 0
@@ -38,9 +38,9 @@ data NamesIn : Names → List Tok → List Tok → Type 0 where
   in_comma : {xs : List NameOf} {p q : Span} {ts rest : List Tok} → LabelsAt xs ts ((Sign Comma at q) ∷ rest) → NamesIn (NextName xs) ((Sign OpenParen at p) ∷ ts) rest
   in_name : {xs : List NameOf} {p : Span} {ts rest : List Tok} → LabelsAt xs ts rest → NamesIn (AfterName xs) ((Sign OpenParen at p) ∷ ts) rest
 
-abbrev NamesTold : Outcome Names Listed → List Tok → List Tok → Type 0
-NamesTold (Go n) ts rest = NamesIn n ts rest
-NamesTold (Ends (xs, c)) ts rest = NamesAt xs c ts rest
+abbrev NamesTold : Step Names Listed → List Tok → List Tok → Type 0
+NamesTold (More n) ts rest = NamesIn n ts rest
+NamesTold (Done (xs, c)) ts rest = NamesAt xs c ts rest
 NamesTold _ ts rest = Unit {0}
 
 next_name_sound : {xs : List NameOf} {c : Class} {w : List ℕ} {p : Span} {ts rest : List Tok} → NamesIn (NextName xs) ts ((Word c w at p) ∷ rest) → NamesIn (AfterName (xs ++ name w p ∷ [])) ts rest
@@ -73,9 +73,9 @@ data BracesIn : Braces → List Tok → List Tok → Type 0 where
   in_sign : {xs : List Matcher} {c : Class} {w : List ℕ} {s : SignOf} {o : MatchOp} {p q : Span} {ts rest : List Tok} → match_of s ≡ Some o → NextIn xs ts ((Word c w at p) ∷ (Sign s at q) ∷ rest) → BracesIn (AfterSign xs (name w p) o) ts rest
   in_matcher : {xs : List Matcher} {ts rest : List Tok} → MatchersAt xs ts rest → BracesIn (AfterMatcher xs) ts rest
 
-abbrev BracesTold : Outcome Braces (List Matcher × Span) → List Tok → List Tok → Type 0
-BracesTold (Go b) ts rest = BracesIn b ts rest
-BracesTold (Ends (xs, c)) ts rest = BracesAt xs c ts rest
+abbrev BracesTold : Step Braces (List Matcher × Span) → List Tok → List Tok → Type 0
+BracesTold (More b) ts rest = BracesIn b ts rest
+BracesTold (Done (xs, c)) ts rest = BracesAt xs c ts rest
 BracesTold _ ts rest = Unit {0}
 
 compared_sound : {xs : List Matcher} {n : NameOf} {s : SignOf} {p : Span} {ts rest : List Tok} (r : Option MatchOp) → match_of s ≡ r → BracesIn (AfterLabel xs n) ts ((Sign s at p) ∷ rest) → BracesTold (compared xs n r) ts rest
@@ -120,23 +120,23 @@ data StageIn : Stage → List Tok → List Tok → Type 0 where
   after_group : {f : Front} {xs : List NameOf} {c : Span} {s : Side} {w : List ℕ} {q : Span} {ts us rest : List Tok} → FrontIn f ts us → NamesAt xs c us ((Word (Group s) w at q) ∷ rest) → StageIn (AfterGroup f xs s q) ts rest
   include_in : {f : Front} {xs : List NameOf} {c : Span} {s : Side} {n : Names} {w : List ℕ} {q : Span} {ts us vs rest : List Tok} → FrontIn f ts us → NamesAt xs c us ((Word (Group s) w at q) ∷ vs) → NamesIn n vs rest → StageIn (InInclude f xs s n) ts rest
 
-abbrev StageTold : Span → Outcome Stage MatchingOf → Tok → List Tok → List Tok → Type 0
-StageTold o (Go st) t ts rest = StageIn st ts rest
-StageTold o (Ends m) t ts rest = ModifierAt o m ts rest
-StageTold o (Pass m) t ts rest = ModifierAt o m ts (t ∷ rest)
-StageTold o Stop t ts rest = Unit {0}
+abbrev StageTold : Span → Step Stage MatchingOf → Tok → List Tok → List Tok → Type 0
+StageTold o (More st) t ts rest = StageIn st ts rest
+StageTold o (Done m) t ts rest = ModifierAt o m ts rest
+StageTold o (DoneBefore m) t ts rest = ModifierAt o m ts (t ∷ rest)
+StageTold o Reject t ts rest = Unit {0}
 
-labels_sound : {f : Front} {ts us : List Tok} (o : Span) (rest : List Tok) (t : Tok) (r : Outcome Names Listed) → FrontIn f ts us → NamesTold r us rest → StageTold o (in_labels f r) t ts rest
-labels_sound o rest t (Go n) i d = labels_in i d
-labels_sound o rest t (Ends (xs, c)) i d = after_labels i d
-labels_sound o rest t (Pass v) i d = tt
-labels_sound o rest t Stop i d = tt
+labels_sound : {f : Front} {ts us : List Tok} (o : Span) (rest : List Tok) (t : Tok) (r : Step Names Listed) → FrontIn f ts us → NamesTold r us rest → StageTold o (in_labels f r) t ts rest
+labels_sound o rest t (More n) i d = labels_in i d
+labels_sound o rest t (Done (xs, c)) i d = after_labels i d
+labels_sound o rest t (DoneBefore v) i d = tt
+labels_sound o rest t Reject i d = tt
 
-include_sound : {f : Front} {xs : List NameOf} {c : Span} {s : Side} {w : List ℕ} {q : Span} {ts us vs : List Tok} (o : Span) (rest : List Tok) (t : Tok) (r : Outcome Names Listed) → FrontIn f ts us → NamesAt xs c us ((Word (Group s) w at q) ∷ vs) → NamesTold r vs rest → StageTold o (in_include f xs s r) t ts rest
-include_sound o rest t (Go n) i e d = include_in i e d
-include_sound o rest t (Ends (ys, c)) i e d = modifier_at i (group_names e d)
-include_sound o rest t (Pass v) i e d = tt
-include_sound o rest t Stop i e d = tt
+include_sound : {f : Front} {xs : List NameOf} {c : Span} {s : Side} {w : List ℕ} {q : Span} {ts us vs : List Tok} (o : Span) (rest : List Tok) (t : Tok) (r : Step Names Listed) → FrontIn f ts us → NamesAt xs c us ((Word (Group s) w at q) ∷ vs) → NamesTold r vs rest → StageTold o (in_include f xs s r) t ts rest
+include_sound o rest t (More n) i e d = include_in i e d
+include_sound o rest t (Done (ys, c)) i e d = modifier_at i (group_names e d)
+include_sound o rest t (DoneBefore v) i e d = tt
+include_sound o rest t Reject i e d = tt
 
 stage_sound : {ts rest : List Tok} (o : Span) (st : Stage) (t : Tok) → StageIn st ts (t ∷ rest) → StageTold o (stage_step o st t) t ts rest
 stage_sound o Begin (Word BoolWord w at p) begin = after_bool
@@ -170,12 +170,12 @@ RoomFor s (AfterAtSign b) = s.at ≡ None
 RoomFor s (AfterEdge e) = s.at ≡ None
 RoomFor s (InEdge e) = s.at ≡ None
 
-abbrev PartTold : Sight → Outcome Part (Mod × ℕ) → List Tok → List Tok → Type 0
-PartTold s (Go part) ts rest = RoomFor s part × PartIn part ts rest
-PartTold s (Ends (m, n)) ts rest = HasRoom s m × ModAt m n ts rest
+abbrev PartTold : Sight → Step Part (Mod × ℕ) → List Tok → List Tok → Type 0
+PartTold s (More part) ts rest = RoomFor s part × PartIn part ts rest
+PartTold s (Done (m, n)) ts rest = HasRoom s m × ModAt m n ts rest
 PartTold s _ ts rest = Unit {0}
 
-signed_sound : (s : Sight) {b : ℕ} {x : List ℕ} {p : Span} {ts rest : List Tok} → s.at ≡ None → PartIn (AfterAtSign b) ts ((Num x at p) ∷ rest) → PartTold s (Ends (AtTime (b ∷ x), p.end)) ts rest
+signed_sound : (s : Sight) {b : ℕ} {x : List ℕ} {p : Span} {ts rest : List Tok} → s.at ≡ None → PartIn (AfterAtSign b) ts ((Num x at p) ∷ rest) → PartTold s (Done (AtTime (b ∷ x), p.end)) ts rest
 signed_sound s h after_at_plus = (h, time_plus)
 signed_sound s h after_at_minus = (h, time_minus)
 
@@ -334,9 +334,9 @@ select_at of_none b = braces b
 
 -- what the tokens before rest are, in each mode
 data Stands : List Frame → Mode → List Tok → List Tok → Type 0 where
-  s_want : {fs : List Frame} {ts rest : List Tok} → Opens fs ts rest → Stands fs Want ts rest
+  s_operand : {fs : List Frame} {ts rest : List Tok} → Opens fs ts rest → Stands fs ExpectOperand ts rest
   s_first : {fs : List Frame} {h : Head} {o : Span} {ts us rest : List Tok} → Opens fs ts us → HeadIn h us ((Sign OpenParen at o) ∷ rest) → Stands fs (First h) ts rest
-  s_have : {fs : List Frame} {x : Operand} {ts us rest : List Tok} → Opens fs ts us → OperandIn x us rest → Stands fs (Have x) ts rest
+  s_operator : {fs : List Frame} {x : Operand} {ts us rest : List Tok} → Opens fs ts us → OperandIn x us rest → Stands fs (ExpectOperator x) ts rest
   s_modifying : {fs : List Frame} {o : Op} {m : Mark} {a : Tree} {k : ℕ} {st : Stage} {p : Span} {ts us vs rest : List Tok} → need fs ≤ level o → op_of m ≡ Some o → Opens fs ts us → At (left_level o) a k us ((m at p) ∷ vs) → StageIn st vs rest → Stands fs (Modifying o p a st) ts rest
   s_braces : {fs : List Frame} {nm : Option (List ℕ)} {p : Span} {b : Braces} {ts us vs rest : List Tok} → Opens fs ts us → SelectIn nm p us vs → BracesIn b vs rest → Stands fs (InBraces nm p b) ts rest
   s_mod : {fs : List Frame} {x : Subject} {s : Sight} {p : Span} {n : ℕ} {part : Part} {ts us vs rest : List Tok} → Opens fs ts us → OperandIn (Seen x s p n) us vs → RoomFor s part → PartIn part vs rest → Stands fs (InMod x s p part) ts rest
@@ -364,15 +364,15 @@ module _ (ts rest : List Tok) where
   close_sound c [] e n between o d = tt
   close_sound c (LeftOf q p m a ∷ gs) e n between o d = tt
   close_sound c (Signed neg p ∷ gs) e n between o d = tt
-  close_sound c (InParen p ∷ gs) e n between (in_paren o) d = s_have o (is_whole (paren d))
-  close_sound c (InArgs h xs ∷ gs) e n between (in_args o i b) d = s_have o (applied_in i (args (last_arg b d)))
+  close_sound c (InParen p ∷ gs) e n between (in_paren o) d = s_operator o (is_whole (paren d))
+  close_sound c (InArgs h xs ∷ gs) e n between (in_args o i b) d = s_operator o (applied_in i (args (last_arg b d)))
 
   comma_sound : (c : Span) (gs : List Frame) (e : Tree) (n : ℕ) (between : List Tok) → Opens gs ts between → At 1 e n between ((Sign Comma at c) ∷ rest) → IfSome (comma gs e) Then_stands
   comma_sound c [] e n between o d = tt
   comma_sound c (LeftOf q p m a ∷ gs) e n between o d = tt
   comma_sound c (Signed neg p ∷ gs) e n between o d = tt
   comma_sound c (InParen p ∷ gs) e n between o d = tt
-  comma_sound c (InArgs h xs ∷ gs) e n between (in_args o i b) d = s_want (in_args o i (some (last_arg b d)))
+  comma_sound c (InArgs h xs ∷ gs) e n between (in_args o i b) d = s_operand (in_args o i (some (last_arg b d)))
 
   joined_sound : {us : List Tok} (fs : List Frame) (e : Tree) (n : ℕ) (m : Mark) (p : Span) (r : Option Op) → op_of m ≡ r → Opens fs ts us → At 7 e n us ((m at p) ∷ rest) → IfSome (joined fs e n p r) Then_stands
   joined_sound fs e n m p None i o d = tt
@@ -383,19 +383,19 @@ module _ (ts rest : List Tok) where
   after_sound fs e n (Sign Comma at p) o d = let y = reduce_holds o 1 7 n e ((Sign Comma at p) ∷ rest) d (omega arith) (omega (arith, need-le fs)) in comma_sound p (reduce 1 n fs e).frames (reduce 1 n fs e).tree n y.between y.opens y.tree
   after_sound fs e n (m at p) o d = joined_sound fs e n m p (op_of m) refl o d
 
-  want_sound : (fs : List Frame) (t : Tok) → Opens fs ts (t ∷ rest) → IfSome (want fs t) Then_stands
-  want_sound fs (Num x at p) o = s_have o (is_whole number)
-  want_sound fs (Word Numeric w at p) o = s_have o (is_whole numeric)
-  want_sound fs (Quoted x at p) o = s_have o (is_whole string)
-  want_sound fs (Word Plain w at p) o = s_have o (is_bare plain)
-  want_sound fs (Word (Edge e) w at p) o = s_have o (is_bare edge)
-  want_sound fs (Metric w at p) o = s_have o (is_bare with_colon)
-  want_sound fs (Word (Aggregation a) w at p) o = s_aggregation o
-  want_sound fs (Sign OpenBrace at p) o = s_braces o of_none (in_next begun)
-  want_sound fs (Sign OpenParen at p) o = s_want (in_paren o)
-  want_sound fs (Sign Plus at p) o = s_want (sign_plus o)
-  want_sound fs (Sign Minus at p) o = s_want (sign_minus o)
-  want_sound fs _ o = tt
+  operand_sound : (fs : List Frame) (t : Tok) → Opens fs ts (t ∷ rest) → IfSome (expect_operand fs t) Then_stands
+  operand_sound fs (Num x at p) o = s_operator o (is_whole number)
+  operand_sound fs (Word Numeric w at p) o = s_operator o (is_whole numeric)
+  operand_sound fs (Quoted x at p) o = s_operator o (is_whole string)
+  operand_sound fs (Word Plain w at p) o = s_operator o (is_bare plain)
+  operand_sound fs (Word (Edge e) w at p) o = s_operator o (is_bare edge)
+  operand_sound fs (Metric w at p) o = s_operator o (is_bare with_colon)
+  operand_sound fs (Word (Aggregation a) w at p) o = s_aggregation o
+  operand_sound fs (Sign OpenBrace at p) o = s_braces o of_none (in_next begun)
+  operand_sound fs (Sign OpenParen at p) o = s_operand (in_paren o)
+  operand_sound fs (Sign Plus at p) o = s_operand (sign_plus o)
+  operand_sound fs (Sign Minus at p) o = s_operand (sign_minus o)
+  operand_sound fs _ o = tt
 
   room_sound : {A : Type 0} (y z : Option A) (s : State) → y ≡ z → (y ≡ None → Then_stands s) → IfSome (room z s) Then_stands
   room_sound y None s h f = f h
@@ -408,71 +408,71 @@ module _ (ts rest : List Tok) where
   selected_seen : {nm : Option (List ℕ)} {ms : List Matcher} {p : Span} {us vs : List Tok} → OperandIn (Selected nm ms p) us vs → OperandIn (Seen (OfSelector nm ms) (blank p) p p.end) us vs
   selected_seen (is_selected s) = is_seen (λ r m more y. selector s y)
 
-  have_sound : {us : List Tok} (fs : List Frame) (x : Operand) (t : Tok) → Opens fs ts us → OperandIn x us (t ∷ rest) → IfSome (have_step fs x t) Then_stands
-  have_sound fs (Whole e n) (Sign OpenBracket at q) o d = s_bracket o d
-  have_sound fs (Whole e n) t o d = after_sound fs e n t o (operand_at d)
-  have_sound fs (Bare w p) (Sign OpenBracket at q) o d = s_bracket o d
-  have_sound fs (Bare w p) (Sign OpenParen at q) o (is_bare i) = s_first o (of_call i)
-  have_sound fs (Bare w p) (Sign OpenBrace at q) o (is_bare i) = s_braces o (of_word i) (in_next begun)
-  have_sound fs (Bare w p) (Word Offset v at q) o d = s_mod o (bare_seen d) refl after_offset
-  have_sound fs (Bare w p) (Sign AtSign at q) o d = s_mod o (bare_seen d) refl after_at
-  have_sound fs (Bare w p) t o d = after_sound fs (Selector (Some w) [] (blank p) p) p.end t o (operand_at d)
-  have_sound fs (Selected nm ms p) (Sign OpenBracket at q) o d = s_bracket o d
-  have_sound fs (Selected nm ms p) (Word Offset v at q) o d = s_mod o (selected_seen d) refl after_offset
-  have_sound fs (Selected nm ms p) (Sign AtSign at q) o d = s_mod o (selected_seen d) refl after_at
-  have_sound fs (Selected nm ms p) t o d = after_sound fs (Selector nm ms (blank p) p) p.end t o (operand_at d)
-  have_sound fs (Aggregated a xs p n) (Sign OpenBracket at q) o d = s_bracket o d
-  have_sound fs (Aggregated a xs p n) (Word (Grouping k) v at q) o (is_aggregated y) = s_behind o y opening
-  have_sound fs (Aggregated a xs p n) t o d = after_sound fs (Aggregate a grouping_of.None xs p) n t o (operand_at d)
-  have_sound fs (Seen x s p n) (Sign OpenBracket at q) o d = s_bracket o d
-  have_sound fs (Seen x s p n) (Word Offset v at q) o d = room_sound s.offset s.offset (state fs (InMod x s p AfterOffset)) refl (λ h. s_mod o d h after_offset)
-  have_sound fs (Seen x s p n) (Sign AtSign at q) o d = room_sound s.at s.at (state fs (InMod x s p AfterAt)) refl (λ h. s_mod o d h after_at)
-  have_sound fs (Seen x s p n) t o d = after_sound fs (subject_tree x s p) n t o (operand_at d)
+  operator_step_sound : {us : List Tok} (fs : List Frame) (x : Operand) (t : Tok) → Opens fs ts us → OperandIn x us (t ∷ rest) → IfSome (expect_operator fs x t) Then_stands
+  operator_step_sound fs (Whole e n) (Sign OpenBracket at q) o d = s_bracket o d
+  operator_step_sound fs (Whole e n) t o d = after_sound fs e n t o (operand_at d)
+  operator_step_sound fs (Bare w p) (Sign OpenBracket at q) o d = s_bracket o d
+  operator_step_sound fs (Bare w p) (Sign OpenParen at q) o (is_bare i) = s_first o (of_call i)
+  operator_step_sound fs (Bare w p) (Sign OpenBrace at q) o (is_bare i) = s_braces o (of_word i) (in_next begun)
+  operator_step_sound fs (Bare w p) (Word Offset v at q) o d = s_mod o (bare_seen d) refl after_offset
+  operator_step_sound fs (Bare w p) (Sign AtSign at q) o d = s_mod o (bare_seen d) refl after_at
+  operator_step_sound fs (Bare w p) t o d = after_sound fs (Selector (Some w) [] (blank p) p) p.end t o (operand_at d)
+  operator_step_sound fs (Selected nm ms p) (Sign OpenBracket at q) o d = s_bracket o d
+  operator_step_sound fs (Selected nm ms p) (Word Offset v at q) o d = s_mod o (selected_seen d) refl after_offset
+  operator_step_sound fs (Selected nm ms p) (Sign AtSign at q) o d = s_mod o (selected_seen d) refl after_at
+  operator_step_sound fs (Selected nm ms p) t o d = after_sound fs (Selector nm ms (blank p) p) p.end t o (operand_at d)
+  operator_step_sound fs (Aggregated a xs p n) (Sign OpenBracket at q) o d = s_bracket o d
+  operator_step_sound fs (Aggregated a xs p n) (Word (Grouping k) v at q) o (is_aggregated y) = s_behind o y opening
+  operator_step_sound fs (Aggregated a xs p n) t o d = after_sound fs (Aggregate a grouping_of.None xs p) n t o (operand_at d)
+  operator_step_sound fs (Seen x s p n) (Sign OpenBracket at q) o d = s_bracket o d
+  operator_step_sound fs (Seen x s p n) (Word Offset v at q) o d = room_sound s.offset s.offset (state fs (InMod x s p AfterOffset)) refl (λ h. s_mod o d h after_offset)
+  operator_step_sound fs (Seen x s p n) (Sign AtSign at q) o d = room_sound s.at s.at (state fs (InMod x s p AfterAt)) refl (λ h. s_mod o d h after_at)
+  operator_step_sound fs (Seen x s p n) t o d = after_sound fs (subject_tree x s p) n t o (operand_at d)
 
   first_sound : {o : Span} {us : List Tok} (fs : List Frame) (h : Head) (t : Tok) → Opens fs ts us → HeadIn h us ((Sign OpenParen at o) ∷ t ∷ rest) → IfSome (first fs h t) Then_stands
-  first_sound fs h (Sign CloseParen at c) o i = s_have o (applied_in i no_args)
-  first_sound fs h t o i = want_sound (InArgs h Nil ∷ fs) t (in_args o i nothing)
+  first_sound fs h (Sign CloseParen at c) o i = s_operator o (applied_in i no_args)
+  first_sound fs h t o i = operand_sound (InArgs h Nil ∷ fs) t (in_args o i nothing)
 
-  modified_sound : {us vs : List Tok} {k : ℕ} (fs : List Frame) (o : Op) (m : Mark) (p : Span) (a : Tree) (t : Tok) (r : Outcome Stage MatchingOf) → need fs ≤ level o → op_of m ≡ Some o → Opens fs ts us → At (left_level o) a k us ((m at p) ∷ vs) → StageTold p r t vs rest → IfSome (modified fs o p a t r) Then_stands
-  modified_sound fs o m p a t (Go st) b i y d k = s_modifying b i y d k
-  modified_sound fs o m p a t (Ends x) b i y d k = s_want (left b i y d k)
-  modified_sound fs o m p a t (Pass x) b i y d k = want_sound (LeftOf o p x a ∷ fs) t (left b i y d k)
-  modified_sound fs o m p a t Stop b i y d k = tt
+  modified_sound : {us vs : List Tok} {k : ℕ} (fs : List Frame) (o : Op) (m : Mark) (p : Span) (a : Tree) (t : Tok) (r : Step Stage MatchingOf) → need fs ≤ level o → op_of m ≡ Some o → Opens fs ts us → At (left_level o) a k us ((m at p) ∷ vs) → StageTold p r t vs rest → IfSome (modified fs o p a t r) Then_stands
+  modified_sound fs o m p a t (More st) b i y d k = s_modifying b i y d k
+  modified_sound fs o m p a t (Done x) b i y d k = s_operand (left b i y d k)
+  modified_sound fs o m p a t (DoneBefore x) b i y d k = operand_sound (LeftOf o p x a ∷ fs) t (left b i y d k)
+  modified_sound fs o m p a t Reject b i y d k = tt
 
-  in_braces_sound : {us vs : List Tok} (fs : List Frame) (nm : Option (List ℕ)) (p : Span) (r : Outcome Braces (List Matcher × Span)) → Opens fs ts us → SelectIn nm p us vs → BracesTold r vs rest → IfSome (in_braces fs nm p r) Then_stands
-  in_braces_sound fs nm p (Go b) o i d = s_braces o i d
-  in_braces_sound fs nm p (Ends (ms, c)) o i d = s_have o (is_selected (select_at i d))
-  in_braces_sound fs nm p (Pass v) o i d = tt
-  in_braces_sound fs nm p Stop o i d = tt
+  in_braces_sound : {us vs : List Tok} (fs : List Frame) (nm : Option (List ℕ)) (p : Span) (r : Step Braces (List Matcher × Span)) → Opens fs ts us → SelectIn nm p us vs → BracesTold r vs rest → IfSome (in_braces fs nm p r) Then_stands
+  in_braces_sound fs nm p (More b) o i d = s_braces o i d
+  in_braces_sound fs nm p (Done (ms, c)) o i d = s_operator o (is_selected (select_at i d))
+  in_braces_sound fs nm p (DoneBefore v) o i d = tt
+  in_braces_sound fs nm p Reject o i d = tt
 
   -- one more modifier
   more_mod : {x : Subject} {s : Sight} {p : Span} {n k : ℕ} {m : Mod} {us vs : List Tok} → OperandIn (Seen x s p n) us vs → HasRoom s m → ModAt m k vs rest → OperandIn (Seen x (with_mod s m) p k) us rest
   more_mod (is_seen f) h d = is_seen (λ r m more y. f r m more (mods h d y))
 
-  in_mod_sound : {us vs : List Tok} {n : ℕ} (fs : List Frame) (x : Subject) (s : Sight) (p : Span) (r : Outcome Part (Mod × ℕ)) → Opens fs ts us → OperandIn (Seen x s p n) us vs → PartTold s r vs rest → IfSome (in_mod fs x s p r) Then_stands
-  in_mod_sound fs x s p (Go part) o i d = s_mod o i d.0 d.1
-  in_mod_sound fs x s p (Ends (m, k)) o i d = s_have o (more_mod i d.0 d.1)
-  in_mod_sound fs x s p (Pass v) o i d = tt
-  in_mod_sound fs x s p Stop o i d = tt
+  in_mod_sound : {us vs : List Tok} {n : ℕ} (fs : List Frame) (x : Subject) (s : Sight) (p : Span) (r : Step Part (Mod × ℕ)) → Opens fs ts us → OperandIn (Seen x s p n) us vs → PartTold s r vs rest → IfSome (in_mod fs x s p r) Then_stands
+  in_mod_sound fs x s p (More part) o i d = s_mod o i d.0 d.1
+  in_mod_sound fs x s p (Done (m, k)) o i d = s_operator o (more_mod i d.0 d.1)
+  in_mod_sound fs x s p (DoneBefore v) o i d = tt
+  in_mod_sound fs x s p Reject o i d = tt
 
   range_sound : {us : List Tok} {o q : Span} (fs : List Frame) (x : Operand) (d : List ℕ) (c : Span) → Opens fs ts us → OperandIn x us ((Sign OpenBracket at o) ∷ (Dur d at q) ∷ (Sign CloseBracket at c) ∷ rest) → IfSome (range_of fs x d q c) Then_stands
-  range_sound fs (Bare w p) d c o (is_bare i) = s_have o (is_seen (λ r m more y. range (word i) y))
-  range_sound fs (Selected nm ms p) d c o (is_selected s) = s_have o (is_seen (λ r m more y. range s y))
+  range_sound fs (Bare w p) d c o (is_bare i) = s_operator o (is_seen (λ r m more y. range (word i) y))
+  range_sound fs (Selected nm ms p) d c o (is_selected s) = s_operator o (is_seen (λ r m more y. range s y))
   range_sound fs (Whole e n) d c o i = tt
   range_sound fs (Aggregated a xs p n) d c o i = tt
   range_sound fs (Seen x s p n) d c o i = tt
 
-  in_grouping_sound : {us : List Tok} {w v : List ℕ} {q : Span} (fs : List Frame) (a : Agg) (p : Span) (k : Clause) (r : Outcome Names Listed) → Opens fs ts ((Word (Aggregation a) w at p) ∷ (Word (Grouping k) v at q) ∷ us) → NamesTold r us rest → IfSome (in_grouping fs a p k r) Then_stands
-  in_grouping_sound fs a p k (Go n) o d = s_grouping o d
-  in_grouping_sound fs a p k (Ends (xs, c)) o d = s_grouped o (of_grouped d)
-  in_grouping_sound fs a p k (Pass y) o d = tt
-  in_grouping_sound fs a p k Stop o d = tt
+  in_grouping_sound : {us : List Tok} {w v : List ℕ} {q : Span} (fs : List Frame) (a : Agg) (p : Span) (k : Clause) (r : Step Names Listed) → Opens fs ts ((Word (Aggregation a) w at p) ∷ (Word (Grouping k) v at q) ∷ us) → NamesTold r us rest → IfSome (in_grouping fs a p k r) Then_stands
+  in_grouping_sound fs a p k (More n) o d = s_grouping o d
+  in_grouping_sound fs a p k (Done (xs, c)) o d = s_grouped o (of_grouped d)
+  in_grouping_sound fs a p k (DoneBefore y) o d = tt
+  in_grouping_sound fs a p k Reject o d = tt
 
-  behind_sound : {us vs : List Tok} {w v : List ℕ} {c q : Span} (fs : List Frame) (a : Agg) (p : Span) (xs : Trees) (k : Clause) (r : Outcome Names Listed) → Opens fs ts ((Word (Aggregation a) w at p) ∷ us) → ArgsAt xs c us ((Word (Grouping k) v at q) ∷ vs) → NamesTold r vs rest → IfSome (in_grouping_behind fs a p xs k r) Then_stands
-  behind_sound fs a p xs k (Go n) o y d = s_behind o y d
-  behind_sound fs a p xs k (Ends (ys, c)) o y d = s_have o (is_whole (aggregate_args_by y d))
-  behind_sound fs a p xs k (Pass z) o y d = tt
-  behind_sound fs a p xs k Stop o y d = tt
+  behind_sound : {us vs : List Tok} {w v : List ℕ} {c q : Span} (fs : List Frame) (a : Agg) (p : Span) (xs : Trees) (k : Clause) (r : Step Names Listed) → Opens fs ts ((Word (Aggregation a) w at p) ∷ us) → ArgsAt xs c us ((Word (Grouping k) v at q) ∷ vs) → NamesTold r vs rest → IfSome (in_grouping_behind fs a p xs k r) Then_stands
+  behind_sound fs a p xs k (More n) o y d = s_behind o y d
+  behind_sound fs a p xs k (Done (ys, c)) o y d = s_operator o (is_whole (aggregate_args_by y d))
+  behind_sound fs a p xs k (DoneBefore z) o y d = tt
+  behind_sound fs a p xs k Reject o y d = tt
 
   bracket_sound : (fs : List Frame) (x : Operand) (t : Tok) → Stands fs (AfterBracket x) ts (t ∷ rest) → IfSome (step_in fs (AfterBracket x) t) Then_stands
   bracket_sound fs x (Dur d at q) (s_bracket o i) = s_range o i
@@ -485,11 +485,11 @@ module _ (ts rest : List Tok) where
 
   colon_sound : (fs : List Frame) (e : Tree) (d : List ℕ) (q : Span) (t : Tok) → Stands fs (AfterColon e d q) ts (t ∷ rest) → IfSome (step_in fs (AfterColon e d q) t) Then_stands
   colon_sound fs e d q (Dur x at p) (s_colon o i) = s_step o i
-  colon_sound fs e d q (Sign CloseBracket at c) (s_colon o i) = s_have o (is_seen (λ r m more y. subquery i no_step y))
+  colon_sound fs e d q (Sign CloseBracket at c) (s_colon o i) = s_operator o (is_seen (λ r m more y. subquery i no_step y))
   colon_sound fs e d q _ i = tt
 
   step_step_sound : (fs : List Frame) (e : Tree) (d : List ℕ) (q : Span) (x : List ℕ) (t : Tok) → Stands fs (AfterStep e d q x) ts (t ∷ rest) → IfSome (step_in fs (AfterStep e d q x) t) Then_stands
-  step_step_sound fs e d q x (Sign CloseBracket at c) (s_step o i) = s_have o (is_seen (λ r m more y. subquery i step_dur y))
+  step_step_sound fs e d q x (Sign CloseBracket at c) (s_step o i) = s_operator o (is_seen (λ r m more y. subquery i step_dur y))
   step_step_sound fs e d q x _ i = tt
 
   aggregation_sound : (fs : List Frame) (a : Agg) (p : Span) (t : Tok) → Stands fs (AfterAggregation a p) ts (t ∷ rest) → IfSome (step_in fs (AfterAggregation a p) t) Then_stands
@@ -502,9 +502,9 @@ module _ (ts rest : List Tok) where
   grouped_sound fs a p g _ i = tt
 
   step_sound : (fs : List Frame) (m : Mode) (t : Tok) → Stands fs m ts (t ∷ rest) → IfSome (step_in fs m t) Then_stands
-  step_sound fs Want t (s_want o) = want_sound fs t o
+  step_sound fs ExpectOperand t (s_operand o) = operand_sound fs t o
   step_sound fs (First h) t (s_first o i) = first_sound fs h t o i
-  step_sound fs (Have x) t (s_have o d) = have_sound fs x t o d
+  step_sound fs (ExpectOperator x) t (s_operator o d) = operator_step_sound fs x t o d
   step_sound fs (Modifying o p a st) t (s_modifying {m = m} b i y d k) = modified_sound fs o m p a t (stage_step p st t) b i y d (stage_sound p st t k)
   step_sound fs (InBraces nm p b) t (s_braces o i d) = in_braces_sound fs nm p (braces_step b t) o i (braces_sound b t d)
   step_sound fs (InMod x s p part) t (s_mod o i h d) = in_mod_sound fs x s p (part_step part t) o i (part_sound s part t h d)
@@ -524,7 +524,7 @@ ended_sound [] e n ts between none d = (n, d)
 ended_sound (f ∷ gs) e n ts between o d = tt
 
 finish_sound : (fs : List Frame) (m : Mode) (ts : List Tok) → Stands fs m ts [] → IfSome (finish_in fs m) (Derives ts)
-finish_sound fs (Have x) ts (s_have o d) =
+finish_sound fs (ExpectOperator x) ts (s_operator o d) =
     let y = reduce_holds o 1 7 (operand_end x) (operand_tree x) [] (operand_at d) (omega arith) (omega (arith, need-le fs)) in
     ended_sound (reduce 1 (operand_end x) fs (operand_tree x)).frames (reduce 1 (operand_end x) fs (operand_tree x)).tree (operand_end x) ts y.between y.opens y.tree
 finish_sound fs _ ts i = tt
@@ -535,4 +535,4 @@ accept_sound (t ∷ us) fs m ts i = go_on (λ s. Stands s.frames s.mode ts us) (
 
 -- what is taken is derived, with that tree
 pub sound : (ts : List Tok) (e : Tree) → accept start ts ≡ Some e → Derives ts e
-sound ts e h = rw h at (accept_sound ts [] Want ts (s_want none))
+sound ts e h = rw h at (accept_sound ts [] ExpectOperand ts (s_operand none))

@@ -1,10 +1,9 @@
 -- Where tokens lie in a source in its order, so do the spans of their tree and of what is refused.
 use Rattle.std.proofs.Common.{◌≡◌, ◌≤◌, ◌<◌, ℕ, zero, suc, ◌+◌, Bool, List, [], ◌∷◌, ◌++◌, map, length, get_or, Option, refl, ap, arith}
-use Rattle.std.specs.List.{AllByRecursion}
 use Rattle.std.specs.List.Sorted.{IsNonDecreasingBy}
 use Rattle.lf_base.specs.declared.place.Span.{Span}
 use Rattle.lf_base.specs.declared.fault.Fault.{Fault}
-use Rattle.lf_base.specs.Faults.{LiesIn, fault}
+use Rattle.lf_base.specs.Faults.{LiesIn}
 use Rattle.lf_ast.specs.Inside.{EachInside, GroupingInside, Inside, MatchersInside, MatchingInside, NamesInside, SightInside}
 use Rattle.lf_ast.specs.Tree.{Tree, Trees, Unary, Nil, Next, span_of, with_last}
 use Rattle.lf_ast.specs.declared.expr.Group.{Group}
@@ -20,7 +19,7 @@ use Rattle.lf_parse.specs.declared.class.Clause.TheVariants.{By, Without}
 use Rattle.lf_parse.specs.declared.class.Scope.{Scope}
 use Rattle.lf_parse.specs.declared.class.Scope.TheVariants.{On, Ignoring}
 use Rattle.lf_parse.specs.Answer.{Refuses, place, syntax, too_deep}
-use Rattle.lf_parse.specs.Grammar.{to, up_to, many_of, LabelsAt, one_label, next_label, NamesAt, no_names, names, names_comma, matched, ScopedAt, alone, group, group_names, ModifierAt, no_modifier, bool, scoped, bool_scoped, MatchersAt, one_matcher, next_matcher, BracesAt, no_matchers, matchers, matchers_comma, SelectAt, word, word_braces, braces, Mod, OffsetBy, AtTime, ModAt, offset, offset_minus, time, time_plus, time_minus, time_edge, with_mod, ModsAt, no_mods, mods, StepAt, no_step, step, grouping, At, number, numeric, string, paren, selector, range, subquery, call, aggregate, aggregate_by, aggregate_args_by, plus, minus, binary, SomeAt, one, also, ArgsAt, no_args, args, Derives, Parses}
+use Rattle.lf_parse.specs.Grammar.{to, up_to, many_of, LabelsAt, one_label, next_label, NamesAt, no_names, names, names_comma, matched, ScopedAt, alone, group, group_names, ModifierAt, no_modifier, bool, scoped, bool_scoped, MatchersAt, one_matcher, next_matcher, BracesAt, no_matchers, matchers, matchers_comma, SelectAt, word, word_braces, braces, Mod, OffsetBy, AtTime, ModAt, offset, offset_minus, time, time_plus, time_minus, time_edge, with_mod, ModsAt, no_mods, mods, StepAt, no_step, step, grouping, At, number, numeric, string, paren, selector, range, subquery, call, aggregate, aggregate_by, aggregate_args_by, plus, minus, binary, SomeAt, one, also, ArgsAt, no_args, args, Parses}
 use Rattle.lf_parse.specs.Tokens.{Tok, ◌at◌, shown}
 
 module _ (n : ℕ) where

@@ -1,7 +1,6 @@
 pub mod Tokens
 pub mod Grammar
-pub mod Machine
 pub mod Depth
 pub mod Answer
-pub mod View
-pub mod Reading
+pub mod reading
+pub mod views

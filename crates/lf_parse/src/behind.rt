@@ -1,15 +1,15 @@
-//! Behind an operand.
+//! Behind an operand: an operator is expected, or what else may stand there.
 ghost use Rattle.std.specs.Prelude.{◌≡◌, [], IfOk};
 ghost use Rattle.lf_ast.specs.Tree.{tree, trees};
-ghost use Rattle.lf_parse.specs.Machine as machine;
-ghost use Rattle.lf_parse.specs.View.{tok, frames, next, seen_operand, seen_subject};
+ghost use Rattle.lf_parse.specs.reading.Machine as machine;
+ghost use Rattle.lf_parse.specs.views.Values.{tok, seen_frames, next, seen_operand, seen_subject};
 
 use crate::braces::Braces;
 use crate::calls::aggregation;
 use crate::class::Class;
+use crate::mode::{Frame, Head, Mode, Operand, Subject, blank, subject_tree};
 use crate::names::Names;
 use crate::part::Part;
-use crate::place::{Head, Operand, Pending, Place, Subject, blank, subject_tree};
 use crate::reduce::after;
 use crate::seen::{Mark, Seen};
 use lf_ast::{Agg, Expr, Grouping, Matcher, Sight};
@@ -20,18 +20,18 @@ use std::alloc::Global;
 /// Takes the token behind an operand to which only a bracket comes.
 fn whole_step(
     alloc: Global,
-    pending: &mut Vec<Pending>,
+    stack: &mut Vec<Frame>,
     operand: Expr,
     end: u32,
     token: Seen,
-) -> Result<Option<Place>, Memory>
-    ensures { IfOk result (λ p. next pending.new.items p ≡ machine.whole_step (frames pending.old.items) (tree operand) end (tok token.entry)) }
+) -> Result<Option<Mode>, Memory>
+    ensures { IfOk result (λ p. next stack.new.items p ≡ machine.whole_step (seen_frames stack.old.items) (tree operand) end (tok token.entry)) }
 {
     match token.mark {
         Mark::Sign(Sign::OpenBracket) => {
-            Ok(Some(Place::AfterBracket(Operand::Whole(operand, end))))
+            Ok(Some(Mode::AfterBracket(Operand::Whole(operand, end))))
         }
-        _ => after(alloc, pending, operand, end, token),
+        _ => after(alloc, stack, operand, end, token),
     }
 }
 
@@ -45,28 +45,28 @@ pub fn of_word(alloc: Global, name: Text) -> Subject
 /// Takes the token behind a word alone, which is a function where `(` follows and else names a metric.
 fn bare_step(
     alloc: Global,
-    pending: &mut Vec<Pending>,
+    stack: &mut Vec<Frame>,
     name: Text,
     span: Span,
     token: Seen,
-) -> Result<Option<Place>, Memory>
-    ensures { IfOk result (λ p. next pending.new.items p ≡ machine.bare_step (frames pending.old.items) name span (tok token.entry)) }
+) -> Result<Option<Mode>, Memory>
+    ensures { IfOk result (λ p. next stack.new.items p ≡ machine.bare_step (seen_frames stack.old.items) name span (tok token.entry)) }
 {
     match token.mark {
-        Mark::Sign(Sign::OpenBracket) => Ok(Some(Place::AfterBracket(Operand::Bare(name, span)))),
-        Mark::Sign(Sign::OpenParen) => Ok(Some(Place::First(Head::Call(name, span)))),
-        Mark::Sign(Sign::OpenBrace) => Ok(Some(Place::InBraces(
+        Mark::Sign(Sign::OpenBracket) => Ok(Some(Mode::AfterBracket(Operand::Bare(name, span)))),
+        Mark::Sign(Sign::OpenParen) => Ok(Some(Mode::First(Head::Call(name, span)))),
+        Mark::Sign(Sign::OpenBrace) => Ok(Some(Mode::InBraces(
             Some(name),
             span,
             Braces::Next(Seq::new(alloc)),
         ))),
-        Mark::Word(Class::Offset) => Ok(Some(Place::InMod(
+        Mark::Word(Class::Offset) => Ok(Some(Mode::InMod(
             of_word(alloc, name),
             blank(span),
             span,
             Part::AfterOffset,
         ))),
-        Mark::Sign(Sign::At) => Ok(Some(Place::InMod(
+        Mark::Sign(Sign::At) => Ok(Some(Mode::InMod(
             of_word(alloc, name),
             blank(span),
             span,
@@ -79,7 +79,7 @@ fn bare_step(
                 sight: blank(span),
                 span,
             };
-            after(alloc, pending, selector, span.end, token)
+            after(alloc, stack, selector, span.end, token)
         }
     }
 }
@@ -87,25 +87,25 @@ fn bare_step(
 /// Takes the token behind a selector with braces.
 fn selected_step(
     alloc: Global,
-    pending: &mut Vec<Pending>,
+    stack: &mut Vec<Frame>,
     name: Option<Text>,
     matchers: Seq<Matcher>,
     span: Span,
     token: Seen,
-) -> Result<Option<Place>, Memory>
-    ensures { IfOk result (λ p. next pending.new.items p ≡ machine.selected_step (frames pending.old.items) name matchers span (tok token.entry)) }
+) -> Result<Option<Mode>, Memory>
+    ensures { IfOk result (λ p. next stack.new.items p ≡ machine.selected_step (seen_frames stack.old.items) name matchers span (tok token.entry)) }
 {
     match token.mark {
-        Mark::Sign(Sign::OpenBracket) => Ok(Some(Place::AfterBracket(Operand::Selected(
+        Mark::Sign(Sign::OpenBracket) => Ok(Some(Mode::AfterBracket(Operand::Selected(
             name, matchers, span,
         )))),
-        Mark::Word(Class::Offset) => Ok(Some(Place::InMod(
+        Mark::Word(Class::Offset) => Ok(Some(Mode::InMod(
             Subject::Selector(name, matchers),
             blank(span),
             span,
             Part::AfterOffset,
         ))),
-        Mark::Sign(Sign::At) => Ok(Some(Place::InMod(
+        Mark::Sign(Sign::At) => Ok(Some(Mode::InMod(
             Subject::Selector(name, matchers),
             blank(span),
             span,
@@ -118,7 +118,7 @@ fn selected_step(
                 sight: blank(span),
                 span,
             };
-            after(alloc, pending, selector, span.end, token)
+            after(alloc, stack, selector, span.end, token)
         }
     }
 }
@@ -126,20 +126,20 @@ fn selected_step(
 /// Takes the token behind an aggregation whose arguments are there and whose grouping may still come.
 fn aggregated_step(
     alloc: Global,
-    pending: &mut Vec<Pending>,
+    stack: &mut Vec<Frame>,
     op: Agg,
     args: Seq<Expr>,
     span: Span,
     end: u32,
     token: Seen,
-) -> Result<Option<Place>, Memory>
-    ensures { IfOk result (λ p. next pending.new.items p ≡ machine.aggregated_step (frames pending.old.items) op (trees args) span end (tok token.entry)) }
+) -> Result<Option<Mode>, Memory>
+    ensures { IfOk result (λ p. next stack.new.items p ≡ machine.aggregated_step (seen_frames stack.old.items) op (trees args) span end (tok token.entry)) }
 {
     match token.mark {
-        Mark::Sign(Sign::OpenBracket) => Ok(Some(Place::AfterBracket(Operand::Aggregated(
+        Mark::Sign(Sign::OpenBracket) => Ok(Some(Mode::AfterBracket(Operand::Aggregated(
             op, args, span, end,
         )))),
-        Mark::Word(Class::Grouping(clause)) => Ok(Some(Place::InGroupingBehind(
+        Mark::Word(Class::Grouping(clause)) => Ok(Some(Mode::InGroupingBehind(
             op,
             span,
             args,
@@ -148,7 +148,7 @@ fn aggregated_step(
         ))),
         _ => {
             let whole = aggregation(op, Grouping::None, args, span);
-            after(alloc, pending, whole, end, token)
+            after(alloc, stack, whole, end, token)
         }
     }
 }
@@ -156,54 +156,54 @@ fn aggregated_step(
 /// Takes the token behind a selector or a subquery with a range or modifiers. A second offset or a second time is no expression.
 fn seen_step(
     alloc: Global,
-    pending: &mut Vec<Pending>,
+    stack: &mut Vec<Frame>,
     subject: Subject,
     sight: Sight,
     span: Span,
     end: u32,
     token: Seen,
-) -> Result<Option<Place>, Memory>
-    ensures { IfOk result (λ p. next pending.new.items p ≡ machine.seen_step (frames pending.old.items) (seen_subject subject) sight span end (tok token.entry)) }
+) -> Result<Option<Mode>, Memory>
+    ensures { IfOk result (λ p. next stack.new.items p ≡ machine.seen_step (seen_frames stack.old.items) (seen_subject subject) sight span end (tok token.entry)) }
 {
     match token.mark {
-        Mark::Sign(Sign::OpenBracket) => Ok(Some(Place::AfterBracket(Operand::Seen(
+        Mark::Sign(Sign::OpenBracket) => Ok(Some(Mode::AfterBracket(Operand::Seen(
             subject, sight, span, end,
         )))),
         Mark::Word(Class::Offset) => match &sight.offset {
-            None => Ok(Some(Place::InMod(subject, sight, span, Part::AfterOffset))),
+            None => Ok(Some(Mode::InMod(subject, sight, span, Part::AfterOffset))),
             Some(_) => Ok(None),
         },
         Mark::Sign(Sign::At) => match &sight.at {
-            None => Ok(Some(Place::InMod(subject, sight, span, Part::AfterAt))),
+            None => Ok(Some(Mode::InMod(subject, sight, span, Part::AfterAt))),
             Some(_) => Ok(None),
         },
         _ => {
             let operand = subject_tree(alloc, subject, sight, span)?;
-            after(alloc, pending, operand, end, token)
+            after(alloc, stack, operand, end, token)
         }
     }
 }
 
-/// Behind an operand.
-pub fn have_step(
+/// Takes the token behind an operand.
+pub fn expect_operator(
     alloc: Global,
-    pending: &mut Vec<Pending>,
+    stack: &mut Vec<Frame>,
     operand: Operand,
     token: Seen,
-) -> Result<Option<Place>, Memory>
-    ensures { IfOk result (λ p. next pending.new.items p ≡ machine.have_step (frames pending.old.items) (seen_operand operand) (tok token.entry)) }
+) -> Result<Option<Mode>, Memory>
+    ensures { IfOk result (λ p. next stack.new.items p ≡ machine.expect_operator (seen_frames stack.old.items) (seen_operand operand) (tok token.entry)) }
 {
     match operand {
-        Operand::Whole(operand, end) => whole_step(alloc, pending, operand, end, token),
-        Operand::Bare(name, span) => bare_step(alloc, pending, name, span, token),
+        Operand::Whole(operand, end) => whole_step(alloc, stack, operand, end, token),
+        Operand::Bare(name, span) => bare_step(alloc, stack, name, span, token),
         Operand::Selected(name, matchers, span) => {
-            selected_step(alloc, pending, name, matchers, span, token)
+            selected_step(alloc, stack, name, matchers, span, token)
         }
         Operand::Aggregated(op, args, span, end) => {
-            aggregated_step(alloc, pending, op, args, span, end, token)
+            aggregated_step(alloc, stack, op, args, span, end, token)
         }
         Operand::Seen(subject, sight, span, end) => {
-            seen_step(alloc, pending, subject, sight, span, end, token)
+            seen_step(alloc, stack, subject, sight, span, end, token)
         }
     }
 }

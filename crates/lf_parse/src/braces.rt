@@ -1,12 +1,12 @@
 //! The matchers of a selector.
 ghost use Rattle.std.specs.Prelude.{◌≡◌, ◌++◌, ◌∷◌, [], IfOk};
 ghost use Rattle.lf_parse.specs.Grammar as grammar;
-ghost use Rattle.lf_parse.specs.Machine as machine;
-ghost use Rattle.lf_parse.specs.View.{tok, seen_braces, seen_outcome};
+ghost use Rattle.lf_parse.specs.reading.Machine as machine;
+ghost use Rattle.lf_parse.specs.views.Values.{tok, seen_braces, step_of};
 
 use crate::names::name_of;
-use crate::outcome::Outcome;
 use crate::seen::{Mark, Seen};
+use crate::step::Step;
 use lf_ast::{MatchOp, Matcher, Name};
 use lf_base::{Memory, Seq, Span, Text};
 use lf_lex::Sign;
@@ -66,12 +66,12 @@ fn compared(
     matchers: Seq<Matcher>,
     label: Name,
     op: Option<MatchOp>,
-) -> Outcome<Braces, (Seq<Matcher>, Span)>
-    ensures { seen_outcome seen_braces (λ v. v) result ≡ machine.compared matchers label op }
+) -> Step<Braces, (Seq<Matcher>, Span)>
+    ensures { step_of seen_braces (λ v. v) result ≡ machine.compared matchers label op }
 {
     match op {
-        Some(op) => Outcome::Go(Braces::AfterSign(matchers, label, op)),
-        None => Outcome::Stop,
+        Some(op) => Step::More(Braces::AfterSign(matchers, label, op)),
+        None => Step::Reject,
     }
 }
 
@@ -80,30 +80,28 @@ pub fn braces_step(
     alloc: Global,
     braces: Braces,
     token: Seen,
-) -> Result<Outcome<Braces, (Seq<Matcher>, Span)>, Memory>
-    ensures { IfOk result (λ taken. seen_outcome seen_braces (λ v. v) taken ≡ machine.braces_step (seen_braces braces) (tok token.entry)) }
+) -> Result<Step<Braces, (Seq<Matcher>, Span)>, Memory>
+    ensures { IfOk result (λ taken. step_of seen_braces (λ v. v) taken ≡ machine.braces_step (seen_braces braces) (tok token.entry)) }
 {
     match (braces, token.mark) {
         (Braces::Next(list), Mark::Word(_)) => {
             let label = name_of(alloc, token)?;
-            Ok(Outcome::Go(Braces::AfterLabel(list, label)))
+            Ok(Step::More(Braces::AfterLabel(list, label)))
         }
-        (Braces::Next(list), Mark::Sign(Sign::CloseBrace)) => {
-            Ok(Outcome::Ends((list, token.span)))
-        }
+        (Braces::Next(list), Mark::Sign(Sign::CloseBrace)) => { Ok(Step::Done((list, token.span))) }
         (Braces::AfterLabel(list, label), Mark::Sign(sign)) => {
             Ok(compared(list, label, match_of(sign)))
         }
         (Braces::AfterSign(list, label, op), Mark::Str) => {
             let list = with_matcher(alloc, list, label, op, token)?;
-            Ok(Outcome::Go(Braces::AfterMatcher(list)))
+            Ok(Step::More(Braces::AfterMatcher(list)))
         }
         (Braces::AfterMatcher(list), Mark::Sign(Sign::Comma)) => {
-            Ok(Outcome::Go(Braces::Next(list)))
+            Ok(Step::More(Braces::Next(list)))
         }
         (Braces::AfterMatcher(list), Mark::Sign(Sign::CloseBrace)) => {
-            Ok(Outcome::Ends((list, token.span)))
+            Ok(Step::Done((list, token.span)))
         }
-        _ => Ok(Outcome::Stop),
+        _ => Ok(Step::Reject),
     }
 }

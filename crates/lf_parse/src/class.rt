@@ -2,7 +2,7 @@
 ghost use Rattle.std.specs.Prelude.{◌≡◌, map};
 ghost use Rattle.std.specs.Char.{to_ascii_lowercase};
 ghost use Rattle.std.specs.Str.{bytes_eq};
-ghost use Rattle.lf_parse.specs.View.{entries};
+ghost use Rattle.lf_parse.specs.views.Values.{entries};
 ghost use Rattle.lf_parse.specs.Tokens as tokens;
 
 use lf_ast::{Agg, Op};

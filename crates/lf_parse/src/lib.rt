@@ -7,14 +7,14 @@ mod calls;
 mod class;
 mod grouping;
 mod laws;
+mod machine;
+mod mode;
 mod names;
 mod nesting;
 mod operand;
 mod operator;
-mod outcome;
 mod parsing;
 mod part;
-mod place;
 mod range;
 mod reduce;
 mod seen;
@@ -24,6 +24,3 @@ mod step;
 
 pub use laws::one_reading;
 pub use parsing::parse;
-
-#[cfg(test)]
-mod tests;

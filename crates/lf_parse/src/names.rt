@@ -1,11 +1,11 @@
 //! Lists of labels in parentheses.
 ghost use Rattle.std.specs.Prelude.{◌≡◌, ◌++◌, ◌∷◌, [], IfOk};
 ghost use Rattle.lf_parse.specs.Grammar.{name};
-ghost use Rattle.lf_parse.specs.Machine as machine;
-ghost use Rattle.lf_parse.specs.View.{tok, seen_names, seen_outcome};
+ghost use Rattle.lf_parse.specs.reading.Machine as machine;
+ghost use Rattle.lf_parse.specs.views.Values.{tok, seen_names, step_of};
 
-use crate::outcome::Outcome;
 use crate::seen::{Mark, Seen};
+use crate::step::Step;
 use lf_ast::Name;
 use lf_base::{Memory, Seq, Span, Text};
 use lf_lex::Sign;
@@ -47,20 +47,20 @@ pub fn names_step(
     alloc: Global,
     names: Names,
     token: Seen,
-) -> Result<Outcome<Names, (Seq<Name>, Span)>, Memory>
-    ensures { IfOk result (λ taken. seen_outcome seen_names (λ v. v) taken ≡ machine.names_step (seen_names names) (tok token.entry)) }
+) -> Result<Step<Names, (Seq<Name>, Span)>, Memory>
+    ensures { IfOk result (λ taken. step_of seen_names (λ v. v) taken ≡ machine.names_step (seen_names names) (tok token.entry)) }
 {
     match (names, token.mark) {
         (Names::Opening, Mark::Sign(Sign::OpenParen)) => {
-            Ok(Outcome::Go(Names::Next(Seq::new(alloc))))
+            Ok(Step::More(Names::Next(Seq::new(alloc))))
         }
         (Names::Next(list), Mark::Word(_)) => {
             let label = name_of(alloc, token)?;
-            Ok(Outcome::Go(Names::After(with_name(list, label)?)))
+            Ok(Step::More(Names::After(with_name(list, label)?)))
         }
-        (Names::Next(list), Mark::Sign(Sign::CloseParen)) => Ok(Outcome::Ends((list, token.span))),
-        (Names::After(list), Mark::Sign(Sign::Comma)) => Ok(Outcome::Go(Names::Next(list))),
-        (Names::After(list), Mark::Sign(Sign::CloseParen)) => Ok(Outcome::Ends((list, token.span))),
-        _ => Ok(Outcome::Stop),
+        (Names::Next(list), Mark::Sign(Sign::CloseParen)) => Ok(Step::Done((list, token.span))),
+        (Names::After(list), Mark::Sign(Sign::Comma)) => Ok(Step::More(Names::Next(list))),
+        (Names::After(list), Mark::Sign(Sign::CloseParen)) => Ok(Step::Done((list, token.span))),
+        _ => Ok(Step::Reject),
     }
 }

@@ -1,7 +1,7 @@
 //! How deep tokens are nested.
 ghost use Rattle.std.specs.Prelude.{◌≡◌, ◌+◌, ◌<◌, ◌^◌, reverse, IfOk, MatchOption, List, ℕ};
 ghost use Rattle.lf_parse.specs.Depth as depth;
-ghost use Rattle.lf_parse.specs.View.{mark_with, tok, nesting_of};
+ghost use Rattle.lf_parse.specs.views.Values.{mark_with, tok, nesting_of};
 
 use crate::class::Class;
 use crate::operator::op_of_sign;

@@ -1,12 +1,12 @@
-//! Where an operand comes.
+//! Where an operand is expected.
 ghost use Rattle.std.specs.Prelude.{◌≡◌, ◌∷◌, IfOk};
 ghost use Rattle.lf_ast.specs.Tree as trees_of;
-ghost use Rattle.lf_parse.specs.Machine as machine;
-ghost use Rattle.lf_parse.specs.View.{tok, frame, frames, next, seen_head, seen_operand};
+ghost use Rattle.lf_parse.specs.reading.Machine as machine;
+ghost use Rattle.lf_parse.specs.views.Values.{tok, seen_frame, seen_frames, next, seen_head, seen_operand};
 
 use crate::braces::Braces;
 use crate::class::Class;
-use crate::place::{Head, Operand, Pending, Place};
+use crate::mode::{Frame, Head, Mode, Operand};
 use crate::reduce::applied;
 use crate::seen::{Mark, Seen};
 use lf_ast::Expr;
@@ -43,68 +43,72 @@ fn bare(alloc: Global, token: Seen) -> Result<Operand, Memory>
     Ok(Operand::Bare(Text::of(alloc, token.text)?, token.span))
 }
 
-/// Where an operand comes.
-pub fn want(alloc: Global, pending: &mut Vec<Pending>, token: Seen) -> Result<Option<Place>, Memory>
-    ensures { IfOk result (λ p. next pending.new.items p ≡ machine.want (frames pending.old.items) (tok token.entry)) }
+/// Takes the token where an operand is expected.
+pub fn expect_operand(
+    alloc: Global,
+    stack: &mut Vec<Frame>,
+    token: Seen,
+) -> Result<Option<Mode>, Memory>
+    ensures { IfOk result (λ p. next stack.new.items p ≡ machine.expect_operand (seen_frames stack.old.items) (tok token.entry)) }
 {
     match token.mark {
         Mark::Number | Mark::Word(Class::Numeric) => {
-            Ok(Some(Place::Have(number(alloc, token)?)))
+            Ok(Some(Mode::ExpectOperator(number(alloc, token)?)))
         }
-        Mark::Str => Ok(Some(Place::Have(string(alloc, token)?))),
+        Mark::Str => Ok(Some(Mode::ExpectOperator(string(alloc, token)?))),
         Mark::Word(Class::Plain) | Mark::Word(Class::Edge(_)) | Mark::Metric => {
-            Ok(Some(Place::Have(bare(alloc, token)?)))
+            Ok(Some(Mode::ExpectOperator(bare(alloc, token)?)))
         }
-        Mark::Word(Class::Aggregation(op)) => Ok(Some(Place::AfterAggregation(op, token.span))),
-        Mark::Sign(Sign::OpenBrace) => Ok(Some(Place::InBraces(
+        Mark::Word(Class::Aggregation(op)) => Ok(Some(Mode::AfterAggregation(op, token.span))),
+        Mark::Sign(Sign::OpenBrace) => Ok(Some(Mode::InBraces(
             None,
             token.span,
             Braces::Next(Seq::new(alloc)),
         ))),
         Mark::Sign(Sign::OpenParen) => {
-            pending.push(Pending::Paren(token.span))?;
-            Ok(Some(Place::Want))
+            stack.push(Frame::Paren(token.span))?;
+            Ok(Some(Mode::ExpectOperand))
         }
         Mark::Sign(Sign::Plus) => {
-            pending.push(Pending::Signed(false, token.span))?;
-            Ok(Some(Place::Want))
+            stack.push(Frame::Signed(false, token.span))?;
+            Ok(Some(Mode::ExpectOperand))
         }
         Mark::Sign(Sign::Minus) => {
-            pending.push(Pending::Signed(true, token.span))?;
-            Ok(Some(Place::Want))
+            stack.push(Frame::Signed(true, token.span))?;
+            Ok(Some(Mode::ExpectOperand))
         }
         _ => Ok(None),
     }
 }
 
-/// Begins a part, inside which an operand comes.
-pub fn want_inside(
+/// Puts a frame on the stack, inside which an operand is expected, and takes the token.
+pub fn expect_operand_in(
     alloc: Global,
-    pending: &mut Vec<Pending>,
-    begun: Pending,
+    stack: &mut Vec<Frame>,
+    begun: Frame,
     token: Seen,
-) -> Result<Option<Place>, Memory>
-    ensures { IfOk result (λ p. next pending.new.items p ≡ machine.want (frame begun ∷ frames pending.old.items) (tok token.entry)) }
+) -> Result<Option<Mode>, Memory>
+    ensures { IfOk result (λ p. next stack.new.items p ≡ machine.expect_operand (seen_frame begun ∷ seen_frames stack.old.items) (tok token.entry)) }
 {
-    pending.push(begun)?;
-    want(alloc, pending, token)
+    stack.push(begun)?;
+    expect_operand(alloc, stack, token)
 }
 
-/// Where the first argument or `)` comes.
+/// Takes the token where the first argument or `)` is expected.
 pub fn first(
     alloc: Global,
-    pending: &mut Vec<Pending>,
+    stack: &mut Vec<Frame>,
     head: Head,
     token: Seen,
-) -> Result<Option<Place>, Memory>
-    ensures { IfOk result (λ p. next pending.new.items p ≡ machine.first (frames pending.old.items) (seen_head head) (tok token.entry)) }
+) -> Result<Option<Mode>, Memory>
+    ensures { IfOk result (λ p. next stack.new.items p ≡ machine.first (seen_frames stack.old.items) (seen_head head) (tok token.entry)) }
 {
     match token.mark {
-        Mark::Sign(Sign::CloseParen) => Ok(Some(Place::Have(applied(
+        Mark::Sign(Sign::CloseParen) => Ok(Some(Mode::ExpectOperator(applied(
             head,
             Seq::new(alloc),
             token.span,
         )))),
-        _ => want_inside(alloc, pending, Pending::Args(head, Seq::new(alloc)), token),
+        _ => expect_operand_in(alloc, stack, Frame::Args(head, Seq::new(alloc)), token),
     }
 }

@@ -2,7 +2,7 @@
 ghost use Rattle.std.specs.Prelude.{◌≡◌, ◌≤◌};
 ghost use Rattle.lf_parse.specs.Tokens as tokens;
 ghost use Rattle.lf_parse.specs.Grammar as grammar;
-ghost use Rattle.lf_parse.specs.View.{mark_with};
+ghost use Rattle.lf_parse.specs.views.Values.{mark_with};
 ghost use Rattle.std.specs.Prelude.{List, ℕ};
 
 use crate::class::Class;

@@ -3,17 +3,17 @@ ghost use Rattle.std.specs.Prelude.{◌≡◌, ◌≤◌, ℕ, IfOk};
 ghost use Rattle.std.specs.List.Sorted.{IsNonDecreasingBy};
 ghost use Rattle.lf_base.specs.declared.kind.Kind.TheVariants.{Syntax};
 ghost use Rattle.lf_base.specs.declared.refusal.Refusal.TheVariants.{At};
-ghost use Rattle.lf_base.specs.Answers.{Breach, Found, Gives, Only, Refused, RefusedIn};
+ghost use Rattle.lf_base.specs.Answers.{Breach, Found, AnswersAs, Only, Refused, RefusedIn};
 ghost use Rattle.lf_ast.specs.Inside.{Inside};
 ghost use Rattle.lf_ast.specs.Tree.{tree};
 ghost use Rattle.lf_lex.specs.Tokens.{LieIn};
 ghost use Rattle.lf_parse.specs.Answer.{IsExpression, Refuses};
-ghost use Rattle.lf_parse.specs.Reading.{answer};
+ghost use Rattle.lf_parse.specs.reading.Answers.{answer};
 
+use crate::machine::{advance, finish};
+use crate::mode::Mode;
 use crate::nesting::first_too_deep;
-use crate::place::Place;
 use crate::seen::see;
-use crate::step::{finish, step};
 use lf_ast::Expr;
 use lf_base::{Kind, Refusal, Seq, Span};
 use lf_lex::Token;
@@ -50,17 +50,17 @@ pub fn parse(alloc: Global, tokens: &Seq<Token>, end: u32) -> Result<Expr, Refus
 
 /// The same, where no bound is passed.
 fn read(alloc: Global, tokens: &[Token], end: u32) -> Result<Expr, Refusal>
-    ensures { Gives tree result (answer tokens.now end) }
+    ensures { AnswersAs tree result (answer tokens.now end) }
 {
-    let mut pending = Vec::new(alloc);
-    let mut place = Place::Want;
+    let mut stack = Vec::new(alloc);
+    let mut mode = Mode::ExpectOperand;
     for token in tokens {
-        match step(alloc, &mut pending, place, see(token))? {
-            Some(next) => place = next,
+        match advance(alloc, &mut stack, mode, see(token))? {
+            Some(next) => mode = next,
             None => return Err(syntax(token.span)),
         }
     }
-    match finish(alloc, pending, place)? {
+    match finish(alloc, stack, mode)? {
         Some(expr) => Ok(expr),
         None => Err(syntax(Span { start: end, end })),
     }

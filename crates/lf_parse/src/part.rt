@@ -1,12 +1,12 @@
 //! Offsets and times behind a selector or a subquery.
 ghost use Rattle.std.specs.Prelude.{◌≡◌, ◌∷◌, ◌++◌, [], IfOk};
 ghost use Rattle.lf_parse.specs.Grammar as grammar;
-ghost use Rattle.lf_parse.specs.Machine as machine;
-ghost use Rattle.lf_parse.specs.View.{tok, sign_byte, seen_mod, seen_part, seen_outcome};
+ghost use Rattle.lf_parse.specs.reading.Machine as machine;
+ghost use Rattle.lf_parse.specs.views.Values.{tok, sign_byte, seen_mod, seen_part, step_of};
 
 use crate::class::{Class, Edge};
-use crate::outcome::Outcome;
 use crate::seen::{Mark, Seen};
+use crate::step::Step;
 use lf_base::{Memory, Text};
 use lf_lex::Sign;
 use std::alloc::Global;
@@ -68,46 +68,42 @@ fn sign_text(sign: TimeSign) -> &'static str
 }
 
 /// Takes the next token of an offset or a time. At the end this gives its text and the offset in the source where it ends.
-pub fn part_step(
-    alloc: Global,
-    part: Part,
-    token: Seen,
-) -> Result<Outcome<Part, (Mod, u32)>, Memory>
-    ensures { IfOk result (λ taken. seen_outcome seen_part seen_mod taken ≡ machine.part_step (seen_part part) (tok token.entry)) }
+pub fn part_step(alloc: Global, part: Part, token: Seen) -> Result<Step<Part, (Mod, u32)>, Memory>
+    ensures { IfOk result (λ taken. step_of seen_part seen_mod taken ≡ machine.part_step (seen_part part) (tok token.entry)) }
 {
     let end = token.span.end;
     match (part, token.mark) {
         (Part::AfterOffset, Mark::Duration) => {
             let text = Text::of(alloc, token.text)?;
-            Ok(Outcome::Ends((Mod::Offset(text), end)))
+            Ok(Step::Done((Mod::Offset(text), end)))
         }
-        (Part::AfterOffset, Mark::Sign(Sign::Minus)) => Ok(Outcome::Go(Part::AfterOffsetMinus)),
+        (Part::AfterOffset, Mark::Sign(Sign::Minus)) => Ok(Step::More(Part::AfterOffsetMinus)),
         (Part::AfterOffsetMinus, Mark::Duration) => {
             let text = signed(alloc, "-", token.text)?;
-            Ok(Outcome::Ends((Mod::Offset(text), end)))
+            Ok(Step::Done((Mod::Offset(text), end)))
         }
         (Part::AfterAt, Mark::Number) => {
             let text = Text::of(alloc, token.text)?;
-            Ok(Outcome::Ends((Mod::At(text), end)))
+            Ok(Step::Done((Mod::At(text), end)))
         }
         (Part::AfterAt, Mark::Sign(Sign::Plus)) => {
-            Ok(Outcome::Go(Part::AfterAtSign(TimeSign::Plus)))
+            Ok(Step::More(Part::AfterAtSign(TimeSign::Plus)))
         }
         (Part::AfterAt, Mark::Sign(Sign::Minus)) => {
-            Ok(Outcome::Go(Part::AfterAtSign(TimeSign::Minus)))
+            Ok(Step::More(Part::AfterAtSign(TimeSign::Minus)))
         }
-        (Part::AfterAt, Mark::Word(Class::Edge(edge))) => Ok(Outcome::Go(Part::AfterEdge(edge))),
+        (Part::AfterAt, Mark::Word(Class::Edge(edge))) => Ok(Step::More(Part::AfterEdge(edge))),
         (Part::AfterAtSign(sign), Mark::Number) => {
             let text = signed(alloc, sign_text(sign), token.text)?;
-            Ok(Outcome::Ends((Mod::At(text), end)))
+            Ok(Step::Done((Mod::At(text), end)))
         }
         (Part::AfterEdge(edge), Mark::Sign(Sign::OpenParen)) => {
-            Ok(Outcome::Go(Part::InEdge(edge)))
+            Ok(Step::More(Part::InEdge(edge)))
         }
         (Part::InEdge(edge), Mark::Sign(Sign::CloseParen)) => {
             let text = Text::of(alloc, edge_text(edge))?;
-            Ok(Outcome::Ends((Mod::At(text), end)))
+            Ok(Step::Done((Mod::At(text), end)))
         }
-        _ => Ok(Outcome::Stop),
+        _ => Ok(Step::Reject),
     }
 }

@@ -1,14 +1,14 @@
 //! The brackets of ranges and subqueries.
 ghost use Rattle.std.specs.Prelude.{◌≡◌, List, IfOk};
-ghost use Rattle.lf_parse.specs.declared.place.Pending.{Pending};
+ghost use Rattle.lf_parse.specs.declared.mode.Frame.{Frame};
 ghost use Rattle.lf_ast.specs.Tree as trees_of;
 ghost use Rattle.lf_ast.specs.Tree.{tree};
 ghost use Rattle.lf_parse.specs.Grammar as grammar;
-ghost use Rattle.lf_parse.specs.Machine as machine;
-ghost use Rattle.lf_parse.specs.View.{tok, frames, mode, next, seen_operand};
+ghost use Rattle.lf_parse.specs.reading.Machine as machine;
+ghost use Rattle.lf_parse.specs.views.Values.{tok, seen_frames, seen_mode, next, seen_operand};
 
 use crate::behind::of_word;
-use crate::place::{Operand, Place, Subject, operand_tree};
+use crate::mode::{Mode, Operand, Subject, operand_tree};
 use crate::seen::{Mark, Seen};
 use crate::span::to;
 use lf_ast::{Expr, Sight, span_of};
@@ -17,13 +17,13 @@ use lf_lex::Sign;
 use std::alloc::Global;
 
 /// Takes the token behind the `[` that follows an operand: the duration of a range. Any other token gives no place.
-pub fn after_bracket(alloc: Global, operand: Operand, token: Seen) -> Result<Option<Place>, Memory>
-    ensures { IfOk result (λ p. (ps : List Pending) → next ps p ≡ machine.after_bracket (frames ps) (seen_operand operand) (tok token.entry)) }
+pub fn after_bracket(alloc: Global, operand: Operand, token: Seen) -> Result<Option<Mode>, Memory>
+    ensures { IfOk result (λ p. (ps : List Frame) → next ps p ≡ machine.after_bracket (seen_frames ps) (seen_operand operand) (tok token.entry)) }
 {
     match token.mark {
         Mark::Duration => {
             let range = Text::of(alloc, token.text)?;
-            Ok(Some(Place::AfterRange(operand, range, token.span)))
+            Ok(Some(Mode::AfterRange(operand, range, token.span)))
         }
         _ => Ok(None),
     }
@@ -49,17 +49,17 @@ fn range_of(
     range: Text,
     range_span: Span,
     close: Span,
-) -> Option<Place>
-    ensures { (ps : List Pending) → next ps result ≡ machine.range_of (frames ps) (seen_operand operand) range range_span close }
+) -> Option<Mode>
+    ensures { (ps : List Frame) → next ps result ≡ machine.range_of (seen_frames ps) (seen_operand operand) range range_span close }
 {
     match operand {
-        Operand::Bare(name, span) => Some(Place::Have(Operand::Seen(
+        Operand::Bare(name, span) => Some(Mode::ExpectOperator(Operand::Seen(
             of_word(alloc, name),
             ranged(range, None, range_span),
             to(span, close),
             close.end,
         ))),
-        Operand::Selected(name, matchers, span) => Some(Place::Have(Operand::Seen(
+        Operand::Selected(name, matchers, span) => Some(Mode::ExpectOperator(Operand::Seen(
             Subject::Selector(name, matchers),
             ranged(range, None, range_span),
             to(span, close),
@@ -76,8 +76,8 @@ pub fn after_range(
     range: Text,
     range_span: Span,
     token: Seen,
-) -> Result<Option<Place>, Memory>
-    ensures { IfOk result (λ p. (ps : List Pending) → next ps p ≡ machine.after_range (frames ps) (seen_operand operand) range range_span (tok token.entry)) }
+) -> Result<Option<Mode>, Memory>
+    ensures { IfOk result (λ p. (ps : List Frame) → next ps p ≡ machine.after_range (seen_frames ps) (seen_operand operand) range range_span (tok token.entry)) }
 {
     match token.mark {
         Mark::Sign(Sign::CloseBracket) => {
@@ -85,18 +85,18 @@ pub fn after_range(
         }
         Mark::Sign(Sign::Colon) => {
             let (of, _) = operand_tree(alloc, operand)?;
-            Ok(Some(Place::AfterColon(of, range, range_span)))
+            Ok(Some(Mode::AfterColon(of, range, range_span)))
         }
         _ => Ok(None),
     }
 }
 
 /// Behind the `]` of a subquery.
-fn subquery(of: Expr, range: Text, range_span: Span, step: Option<Text>, close: Span) -> Place
-    ensures { mode result ≡ machine.Have (machine.Seen (machine.OfSubquery (tree of)) (grammar.stepped range range_span step) (grammar.to (trees_of.span_of (tree of)) close) close.end) }
+fn subquery(of: Expr, range: Text, range_span: Span, step: Option<Text>, close: Span) -> Mode
+    ensures { seen_mode result ≡ machine.ExpectOperator (machine.Seen (machine.OfSubquery (tree of)) (grammar.stepped range range_span step) (grammar.to (trees_of.span_of (tree of)) close) close.end) }
 {
     let span = to(span_of(&of), close);
-    Place::Have(Operand::Seen(
+    Mode::ExpectOperator(Operand::Seen(
         Subject::Subquery(of),
         ranged(range, step, range_span),
         span,
@@ -111,13 +111,13 @@ pub fn after_colon(
     range: Text,
     range_span: Span,
     token: Seen,
-) -> Result<Option<Place>, Memory>
-    ensures { IfOk result (λ p. (ps : List Pending) → next ps p ≡ machine.after_colon (frames ps) (tree of) range range_span (tok token.entry)) }
+) -> Result<Option<Mode>, Memory>
+    ensures { IfOk result (λ p. (ps : List Frame) → next ps p ≡ machine.after_colon (seen_frames ps) (tree of) range range_span (tok token.entry)) }
 {
     match token.mark {
         Mark::Duration => {
             let step = Text::of(alloc, token.text)?;
-            Ok(Some(Place::AfterStep(of, range, range_span, step)))
+            Ok(Some(Mode::AfterStep(of, range, range_span, step)))
         }
         Mark::Sign(Sign::CloseBracket) => {
             Ok(Some(subquery(of, range, range_span, None, token.span)))
@@ -127,8 +127,8 @@ pub fn after_colon(
 }
 
 /// Takes the token behind the step of a subquery, which is the `]`. Any other token gives no place.
-pub fn after_step(of: Expr, range: Text, range_span: Span, step: Text, token: Seen) -> Option<Place>
-    ensures { (ps : List Pending) → next ps result ≡ machine.after_step (frames ps) (tree of) range range_span step (tok token.entry) }
+pub fn after_step(of: Expr, range: Text, range_span: Span, step: Text, token: Seen) -> Option<Mode>
+    ensures { (ps : List Frame) → next ps result ≡ machine.after_step (seen_frames ps) (tree of) range range_span step (tok token.entry) }
 {
     match token.mark {
         Mark::Sign(Sign::CloseBracket) => {

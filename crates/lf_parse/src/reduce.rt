@@ -2,12 +2,12 @@
 ghost use Rattle.std.specs.Prelude.{◌≡◌, IfOk};
 ghost use Rattle.lf_ast.specs.Tree as trees_of;
 ghost use Rattle.lf_ast.specs.Tree.{tree, trees, with_last};
-ghost use Rattle.lf_parse.specs.Machine as machine;
-ghost use Rattle.lf_parse.specs.View.{tok, frames, next, seen_head, seen_operand, option_tree};
+ghost use Rattle.lf_parse.specs.reading.Machine as machine;
+ghost use Rattle.lf_parse.specs.views.Values.{tok, seen_frames, next, seen_head, seen_operand, option_tree};
 
 use crate::calls::{aggregation, call};
+use crate::mode::{Frame, Head, Mode, Operand};
 use crate::operator::{UNARY, left_level, level, op_of};
-use crate::place::{Head, Operand, Pending, Place};
 use crate::seen::{Mark, Seen};
 use crate::span::{to, up_to};
 use crate::stage::Stage;
@@ -21,23 +21,23 @@ pub fn reduce(
     alloc: Global,
     least: u32,
     end: u32,
-    pending: &mut Vec<Pending>,
+    stack: &mut Vec<Frame>,
     operand: Expr,
 ) -> Result<Expr, Memory>
-    ensures { IfOk result (λ e. machine.held (frames pending.new.items) (tree e) ≡ machine.reduce least end (frames pending.old.items) (tree operand)) }
+    ensures { IfOk result (λ e. machine.held (seen_frames stack.new.items) (tree e) ≡ machine.reduce least end (seen_frames stack.old.items) (tree operand)) }
 {
     let mut operand = operand;
     loop {
-        match pending.pop() {
+        match stack.pop() {
             None => return Ok(operand),
-            Some(Pending::LeftOf(op, span, modifier, left)) if level(op) >= least => {
+            Some(Frame::LeftOf(op, span, modifier, left)) if level(op) >= least => {
                 operand = binary(alloc, op, span, modifier, left, operand)?;
             }
-            Some(Pending::Signed(minus, sign)) if least <= UNARY => {
+            Some(Frame::Signed(minus, sign)) if least <= UNARY => {
                 operand = unary(alloc, minus, up_to(sign, end), operand)?;
             }
             Some(other) => {
-                pending.push(other)?;
+                stack.push(other)?;
                 return Ok(operand);
             }
         }
@@ -111,22 +111,22 @@ pub fn applied(head: Head, args: Seq<Expr>, close: Span) -> Operand
 /// Takes a `)` behind an operand, which ends at an offset: it closes a parenthesis or arguments.
 fn close(
     alloc: Global,
-    pending: &mut Vec<Pending>,
+    stack: &mut Vec<Frame>,
     operand: Expr,
     end: u32,
     close: Span,
-) -> Result<Option<Place>, Memory>
-    ensures { IfOk result (λ p. let h = machine.reduce 1 end (frames pending.old.items) (tree operand) in next pending.new.items p ≡ machine.close close h.frames h.tree) }
+) -> Result<Option<Mode>, Memory>
+    ensures { IfOk result (λ p. let h = machine.reduce 1 end (seen_frames stack.old.items) (tree operand) in next stack.new.items p ≡ machine.close close h.frames h.tree) }
 {
-    let inner = reduce(alloc, 1, end, pending, operand)?;
-    match pending.pop() {
-        Some(Pending::Paren(open)) => {
+    let inner = reduce(alloc, 1, end, stack, operand)?;
+    match stack.pop() {
+        Some(Frame::Paren(open)) => {
             let whole = paren(alloc, to(open, close), inner)?;
-            Ok(Some(Place::Have(Operand::Whole(whole, close.end))))
+            Ok(Some(Mode::ExpectOperator(Operand::Whole(whole, close.end))))
         }
-        Some(Pending::Args(head, args)) => {
+        Some(Frame::Args(head, args)) => {
             let args = with_last(args, inner)?;
-            Ok(Some(Place::Have(applied(head, args, close))))
+            Ok(Some(Mode::ExpectOperator(applied(head, args, close))))
         }
         _ => Ok(None),
     }
@@ -135,18 +135,18 @@ fn close(
 /// Takes a `,` behind an operand, which ends at an offset: the next argument comes.
 fn comma(
     alloc: Global,
-    pending: &mut Vec<Pending>,
+    stack: &mut Vec<Frame>,
     operand: Expr,
     end: u32,
-) -> Result<Option<Place>, Memory>
-    ensures { IfOk result (λ p. let h = machine.reduce 1 end (frames pending.old.items) (tree operand) in next pending.new.items p ≡ machine.comma h.frames h.tree) }
+) -> Result<Option<Mode>, Memory>
+    ensures { IfOk result (λ p. let h = machine.reduce 1 end (seen_frames stack.old.items) (tree operand) in next stack.new.items p ≡ machine.comma h.frames h.tree) }
 {
-    let inner = reduce(alloc, 1, end, pending, operand)?;
-    match pending.pop() {
-        Some(Pending::Args(head, args)) => {
+    let inner = reduce(alloc, 1, end, stack, operand)?;
+    match stack.pop() {
+        Some(Frame::Args(head, args)) => {
             let args = with_last(args, inner)?;
-            pending.push(Pending::Args(head, args))?;
-            Ok(Some(Place::Want))
+            stack.push(Frame::Args(head, args))?;
+            Ok(Some(Mode::ExpectOperand))
         }
         _ => Ok(None),
     }
@@ -155,19 +155,19 @@ fn comma(
 /// Takes an operator behind an operand, which ends at an offset. What binds tighter to the left of it is one tree from here on.
 fn joined(
     alloc: Global,
-    pending: &mut Vec<Pending>,
+    stack: &mut Vec<Frame>,
     operand: Expr,
     end: u32,
     span: Span,
     op: Option<Op>,
-) -> Result<Option<Place>, Memory>
-    ensures { IfOk result (λ p. next pending.new.items p ≡ machine.joined (frames pending.old.items) (tree operand) end span op) }
+) -> Result<Option<Mode>, Memory>
+    ensures { IfOk result (λ p. next stack.new.items p ≡ machine.joined (seen_frames stack.old.items) (tree operand) end span op) }
 {
     match op {
         None => Ok(None),
         Some(op) => {
-            let left = reduce(alloc, left_level(op), end, pending, operand)?;
-            Ok(Some(Place::Modifying(op, span, left, Stage::Begin)))
+            let left = reduce(alloc, left_level(op), end, stack, operand)?;
+            Ok(Some(Mode::Modifying(op, span, left, Stage::Begin)))
         }
     }
 }
@@ -175,32 +175,32 @@ fn joined(
 /// Takes the token behind an operand, which ends at an offset in the source.
 pub fn after(
     alloc: Global,
-    pending: &mut Vec<Pending>,
+    stack: &mut Vec<Frame>,
     operand: Expr,
     end: u32,
     token: Seen,
-) -> Result<Option<Place>, Memory>
-    ensures { IfOk result (λ p. next pending.new.items p ≡ machine.after (frames pending.old.items) (tree operand) end (tok token.entry)) }
+) -> Result<Option<Mode>, Memory>
+    ensures { IfOk result (λ p. next stack.new.items p ≡ machine.after (seen_frames stack.old.items) (tree operand) end (tok token.entry)) }
 {
     match token.mark {
-        Mark::Sign(Sign::CloseParen) => close(alloc, pending, operand, end, token.span),
-        Mark::Sign(Sign::Comma) => comma(alloc, pending, operand, end),
-        mark => joined(alloc, pending, operand, end, token.span, op_of(mark)),
+        Mark::Sign(Sign::CloseParen) => close(alloc, stack, operand, end, token.span),
+        Mark::Sign(Sign::Comma) => comma(alloc, stack, operand, end),
+        mark => joined(alloc, stack, operand, end, token.span, op_of(mark)),
     }
 }
 
 /// The whole expression, if this is its end.
 pub fn ended(
     alloc: Global,
-    pending: Vec<Pending>,
+    stack: Vec<Frame>,
     operand: Expr,
     end: u32,
 ) -> Result<Option<Expr>, Memory>
-    ensures { IfOk result (λ e. let h = machine.reduce 1 end (frames pending.items) (tree operand) in option_tree e ≡ machine.ended h.frames h.tree) }
+    ensures { IfOk result (λ e. let h = machine.reduce 1 end (seen_frames stack.items) (tree operand) in option_tree e ≡ machine.ended h.frames h.tree) }
 {
-    let mut pending = pending;
-    let whole = reduce(alloc, 1, end, &mut pending, operand)?;
-    if pending.is_empty() {
+    let mut stack = stack;
+    let whole = reduce(alloc, 1, end, &mut stack, operand)?;
+    if stack.is_empty() {
         Ok(Some(whole))
     } else {
         Ok(None)

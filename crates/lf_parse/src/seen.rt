@@ -2,7 +2,7 @@
 ghost use Rattle.std.specs.Prelude.{◌≡◌, ◌==◌};
 ghost use Rattle.std.specs.List.{list_any};
 ghost use Rattle.lf_parse.specs.Tokens.{word_mark, shown};
-ghost use Rattle.lf_parse.specs.View.{mark_with, tok};
+ghost use Rattle.lf_parse.specs.views.Values.{mark_with, tok};
 
 use crate::class::{Class, class_of};
 use lf_base::Span;
@@ -21,15 +21,18 @@ pub enum Mark {
     Sign(Sign),
 }
 
-/// A token: what it is, its text, which is empty for a sign, and where it stands.
+/// A token as the grammar sees it.
 #[derive(Clone, Copy, Drop)]
 pub struct Seen<'a> {
+    /// What it is.
     pub mark: Mark,
+    /// Its text, which is empty for a sign.
     pub text: &'a str,
+    /// Where it stands.
     pub span: Span,
 }
 
-/// A token as the grammar sees it.
+/// Sees a token as the grammar does.
 pub fn see(token: &Token) -> Seen<'_>
     ensures { tok result ≡ shown token.now }
 {

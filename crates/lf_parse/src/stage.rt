@@ -1,14 +1,14 @@
 //! The modifier of an operator: `bool`, `on` and `ignoring` with their labels, and the group modifiers.
 ghost use Rattle.std.specs.Prelude.{◌≡◌, IfOk};
 ghost use Rattle.lf_parse.specs.Grammar as grammar;
-ghost use Rattle.lf_parse.specs.Machine as machine;
-ghost use Rattle.lf_parse.specs.View.{tok, seen_names, seen_front, seen_stage, seen_outcome};
+ghost use Rattle.lf_parse.specs.reading.Machine as machine;
+ghost use Rattle.lf_parse.specs.views.Values.{tok, seen_names, seen_front, seen_stage, step_of};
 
 use crate::class::{Class, Scope, Side};
 use crate::names::{Names, names_step};
-use crate::outcome::Outcome;
 use crate::seen::{Mark, Seen};
 use crate::span::{behind, to};
+use crate::step::Step;
 use lf_ast::{Group, Matching, Name};
 use lf_base::{Memory, Seq, Span};
 use lf_lex::Sign;
@@ -17,9 +17,11 @@ use std::alloc::Global;
 /// How a modifier with labels begins.
 #[derive(Clone, Copy, Drop)]
 pub struct Front {
+    /// Whether `bool` came.
     pub with_bool: bool,
     /// The span of its first token.
     pub first: Span,
+    /// Whether it says `on` or `ignoring`.
     pub scope: Scope,
 }
 
@@ -96,26 +98,26 @@ fn many_of(side: Side) -> Group
 }
 
 /// Takes the token right behind an operator.
-fn begin(alloc: Global, operator: Span, token: Seen) -> Outcome<Stage, Matching>
-    ensures { seen_outcome seen_stage (λ m. m) result ≡ machine.stage_step operator machine.Begin (tok token.entry) }
+fn begin(alloc: Global, operator: Span, token: Seen) -> Step<Stage, Matching>
+    ensures { step_of seen_stage (λ m. m) result ≡ machine.stage_step operator machine.Begin (tok token.entry) }
 {
     match token.mark {
-        Mark::Word(Class::Bool) => Outcome::Go(Stage::AfterBool(token.span)),
+        Mark::Word(Class::Bool) => Step::More(Stage::AfterBool(token.span)),
         Mark::Word(Class::Matching(scope)) => {
             let front = Front {
                 with_bool: false,
                 first: token.span,
                 scope,
             };
-            Outcome::Go(Stage::InLabels(front, Names::Opening))
+            Step::More(Stage::InLabels(front, Names::Opening))
         }
-        _ => Outcome::Pass(unmatched(alloc, false, behind(operator))),
+        _ => Step::DoneBefore(unmatched(alloc, false, behind(operator))),
     }
 }
 
 /// Takes the token behind `bool`.
-fn after_bool(alloc: Global, operator: Span, first: Span, token: Seen) -> Outcome<Stage, Matching>
-    ensures { seen_outcome seen_stage (λ m. m) result ≡ machine.stage_step operator (machine.AfterBool first) (tok token.entry) }
+fn after_bool(alloc: Global, operator: Span, first: Span, token: Seen) -> Step<Stage, Matching>
+    ensures { step_of seen_stage (λ m. m) result ≡ machine.stage_step operator (machine.AfterBool first) (tok token.entry) }
 {
     match token.mark {
         Mark::Word(Class::Matching(scope)) => {
@@ -124,20 +126,20 @@ fn after_bool(alloc: Global, operator: Span, first: Span, token: Seen) -> Outcom
                 first,
                 scope,
             };
-            Outcome::Go(Stage::InLabels(front, Names::Opening))
+            Step::More(Stage::InLabels(front, Names::Opening))
         }
-        _ => Outcome::Pass(unmatched(alloc, true, first)),
+        _ => Step::DoneBefore(unmatched(alloc, true, first)),
     }
 }
 
 /// Goes on inside the labels of `on` or `ignoring`, by what they did with a token.
-fn in_labels(front: Front, taken: Outcome<Names, (Seq<Name>, Span)>) -> Outcome<Stage, Matching>
-    ensures { seen_outcome seen_stage (λ m. m) result ≡ machine.in_labels (seen_front front) (seen_outcome seen_names (λ v. v) taken) }
+fn in_labels(front: Front, taken: Step<Names, (Seq<Name>, Span)>) -> Step<Stage, Matching>
+    ensures { step_of seen_stage (λ m. m) result ≡ machine.in_labels (seen_front front) (step_of seen_names (λ v. v) taken) }
 {
     match taken {
-        Outcome::Go(names) => Outcome::Go(Stage::InLabels(front, names)),
-        Outcome::Ends((labels, close)) => Outcome::Go(Stage::AfterLabels(front, labels, close)),
-        Outcome::Pass(_) | Outcome::Stop => Outcome::Stop,
+        Step::More(names) => Step::More(Stage::InLabels(front, names)),
+        Step::Done((labels, close)) => Step::More(Stage::AfterLabels(front, labels, close)),
+        Step::DoneBefore(_) | Step::Reject => Step::Reject,
     }
 }
 
@@ -149,14 +151,14 @@ fn after_labels(
     labels: Seq<Name>,
     close: Span,
     token: Seen,
-) -> Outcome<Stage, Matching>
-    ensures { seen_outcome seen_stage (λ m. m) result ≡ machine.stage_step operator (machine.AfterLabels (seen_front front) labels close) (tok token.entry) }
+) -> Step<Stage, Matching>
+    ensures { step_of seen_stage (λ m. m) result ≡ machine.stage_step operator (machine.AfterLabels (seen_front front) labels close) (tok token.entry) }
 {
     match token.mark {
         Mark::Word(Class::Group(side)) => {
-            Outcome::Go(Stage::AfterGroup(front, labels, side, token.span))
+            Step::More(Stage::AfterGroup(front, labels, side, token.span))
         }
-        _ => Outcome::Pass(matched(front, labels, Group::One, Seq::new(alloc), close)),
+        _ => Step::DoneBefore(matched(front, labels, Group::One, Seq::new(alloc), close)),
     }
 }
 
@@ -169,17 +171,17 @@ fn after_group(
     side: Side,
     word: Span,
     token: Seen,
-) -> Outcome<Stage, Matching>
-    ensures { seen_outcome seen_stage (λ m. m) result ≡ machine.stage_step operator (machine.AfterGroup (seen_front front) labels side word) (tok token.entry) }
+) -> Step<Stage, Matching>
+    ensures { step_of seen_stage (λ m. m) result ≡ machine.stage_step operator (machine.AfterGroup (seen_front front) labels side word) (tok token.entry) }
 {
     match token.mark {
-        Mark::Sign(Sign::OpenParen) => Outcome::Go(Stage::InInclude(
+        Mark::Sign(Sign::OpenParen) => Step::More(Stage::InInclude(
             front,
             labels,
             side,
             Names::Next(Seq::new(alloc)),
         )),
-        _ => Outcome::Pass(matched(front, labels, many_of(side), Seq::new(alloc), word)),
+        _ => Step::DoneBefore(matched(front, labels, many_of(side), Seq::new(alloc), word)),
     }
 }
 
@@ -188,16 +190,16 @@ fn in_include(
     front: Front,
     labels: Seq<Name>,
     side: Side,
-    taken: Outcome<Names, (Seq<Name>, Span)>,
-) -> Outcome<Stage, Matching>
-    ensures { seen_outcome seen_stage (λ m. m) result ≡ machine.in_include (seen_front front) labels side (seen_outcome seen_names (λ v. v) taken) }
+    taken: Step<Names, (Seq<Name>, Span)>,
+) -> Step<Stage, Matching>
+    ensures { step_of seen_stage (λ m. m) result ≡ machine.in_include (seen_front front) labels side (step_of seen_names (λ v. v) taken) }
 {
     match taken {
-        Outcome::Go(names) => Outcome::Go(Stage::InInclude(front, labels, side, names)),
-        Outcome::Ends((include, close)) => {
-            Outcome::Ends(matched(front, labels, many_of(side), include, close))
+        Step::More(names) => Step::More(Stage::InInclude(front, labels, side, names)),
+        Step::Done((include, close)) => {
+            Step::Done(matched(front, labels, many_of(side), include, close))
         }
-        Outcome::Pass(_) | Outcome::Stop => Outcome::Stop,
+        Step::DoneBefore(_) | Step::Reject => Step::Reject,
     }
 }
 
@@ -207,8 +209,8 @@ pub fn stage_step(
     operator: Span,
     stage: Stage,
     token: Seen,
-) -> Result<Outcome<Stage, Matching>, Memory>
-    ensures { IfOk result (λ taken. seen_outcome seen_stage (λ m. m) taken ≡ machine.stage_step operator (seen_stage stage) (tok token.entry)) }
+) -> Result<Step<Stage, Matching>, Memory>
+    ensures { IfOk result (λ taken. step_of seen_stage (λ m. m) taken ≡ machine.stage_step operator (seen_stage stage) (tok token.entry)) }
 {
     match stage {
         Stage::Begin => Ok(begin(alloc, operator, token)),

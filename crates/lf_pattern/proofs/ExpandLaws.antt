@@ -6,10 +6,9 @@ use Rattle.std.proofs.lemmas.Bool.Decides.{nat_tests}
 use Rattle.std.proofs.lemmas.Option.{none-some}
 use Rattle.lf_pattern.specs.declared.replacement.Piece.{Piece}
 use Rattle.lf_pattern.specs.declared.replacement.Piece.TheVariants.{Char, Group}
-use Rattle.lf_pattern.specs.Groups.{IsFew}
-use Rattle.lf_pattern.specs.Matching.{plain_group}
-use Rattle.lf_pattern.specs.Replacement.{piece_text, expanded}
-use Rattle.lf_pattern.specs.ReplacementScan.{greatest, bounded}
+use Rattle.lf_pattern.specs.views.Groups.{IsFew}
+use Rattle.lf_pattern.specs.reading.Expansion.{expanded, piece_text, plain_group}
+use Rattle.lf_pattern.specs.reading.Replacement.{greatest, bounded}
 
 same_piece : (f g : ℕ → List ℕ) → ((n : ℕ) → f n ≡ g n) → (p : Piece) → piece_text f p ≡ piece_text g p
 same_piece f g h (Char c) = refl

@@ -6,10 +6,10 @@ use Rattle.std.specs.List.{list_any}
 use Rattle.std.specs.Str.{bytes_eq}
 use Rattle.regex.specs.declared.string.regex.Regex.{Regex}
 use Rattle.lf_pattern.proofs.MatchLaws.{matches_is}
-use Rattle.lf_pattern.specs.Form.{IsFormOf}
-use Rattle.lf_pattern.specs.Matching.{matches, Matches, plain_group, group_text}
+use Rattle.lf_pattern.specs.views.Form.{IsFormOf}
+use Rattle.lf_pattern.specs.Matching.{matches, Matches}
+use Rattle.lf_pattern.specs.reading.Expansion.{captures, group_text, plain_group}
 use Rattle.lf_pattern.specs.Read.{finds, found_group}
-use Rattle.lf_pattern.specs.Scan.{captures}
 use Rattle.lf_pattern.specs.declared.pattern.Form.{Form}
 use Rattle.lf_pattern.specs.declared.pattern.Form.TheVariants.{Plain, Other}
 

@@ -11,10 +11,11 @@ use Rattle.std.proofs.lemmas.Option.{none-some, same_Some}
 use Rattle.regex.specs.Patterns.{Re}
 use Rattle.lf_pattern.specs.Plain.{IsInPair, IsPlain, IsPlainPattern, HasGroup, is_special}
 use Rattle.lf_pattern.specs.Read.{reading, found_group}
-use Rattle.lf_pattern.specs.Scan.{alternatives_of, captures, has_pair, inside, is_capture, is_quiet}
+use Rattle.lf_pattern.specs.Scan.{alternatives_of, has_pair, inside, is_quiet}
 use Rattle.lf_pattern.specs.Plain.{Joins}
-use Rattle.lf_pattern.specs.Matching.{IsGroupText, IsPlainGroup, IsRead, IsWhole, Matches, group_text, is_read, matches, plain_group}
-use Rattle.lf_pattern.specs.Replacement.{IsExpansion, IsPieceText, IsTextOf, expansion, piece_text}
+use Rattle.lf_pattern.specs.Matching.{IsGroupText, IsPlainGroup, IsRead, IsWhole, Matches, is_read, matches}
+use Rattle.lf_pattern.specs.reading.Expansion.{captures, expansion, group_text, is_capture, piece_text, plain_group}
+use Rattle.lf_pattern.specs.Replacement.{IsExpansion, IsPieceText, IsTextOf}
 use Rattle.lf_pattern.specs.declared.replacement.Piece.{Piece}
 use Rattle.lf_pattern.specs.declared.replacement.Piece.TheVariants.{Char, Group}
 use Rattle.lf_pattern.proofs.MatchLaws.{matches_is}

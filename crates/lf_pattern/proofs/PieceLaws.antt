@@ -9,7 +9,7 @@ use Rattle.lf_pattern.specs.declared.replacement.Piece.TheVariants.{Char, Group}
 use Rattle.lf_pattern.specs.declared.replacement.Mode.{Mode}
 use Rattle.lf_pattern.specs.declared.replacement.Mode.TheVariants.{Text, Dollar, Number, Braced}
 use Rattle.lf_pattern.specs.Replacement.{IsNumber, is_word, BeginsApart, Reads, end, other, dollar, number, braced}
-use Rattle.lf_pattern.specs.ReplacementScan.{greatest, with_digit, pieces_of, bounded}
+use Rattle.lf_pattern.specs.reading.Replacement.{greatest, with_digit, pieces_of, bounded}
 
 -- a number ends at what is no digit
 pub number-apart : (n c : ℕ) (cs : List ℕ) → nat_lt (digit_value c) 10 ≡ false → pieces_of (Number n) (c ∷ cs) ≡ Group n ∷ pieces_of Text (c ∷ cs)

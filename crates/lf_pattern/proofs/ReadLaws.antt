@@ -26,7 +26,7 @@ use Rattle.regex_syntax.specs.Verdict.{Reads, Refuses}
 use Rattle.regex_syntax.specs.declared.Config.{Config}
 use Rattle.regex_syntax.specs.declared.error.Error as parser
 use Rattle.lf_pattern.specs.Read.{anchored, reading, finds, found_group, within_limit}
-use Rattle.lf_pattern.specs.Groups.{captured_text, group_of_match}
+use Rattle.lf_pattern.specs.views.Groups.{captured_text, group_of_match}
 
 -- the pattern that was read, and m means the same
 abbrev IsReadLike : Option (Nested Re × Names) → Re → Type 0

@@ -1,16 +1,16 @@
 -- The samples that are chosen are those of `AreSamples`.
-use Rattle.std.proofs.Common.{◌≡◌, ◌≢◌, ℕ, ◌≤◌, Bool, true, false, cond, ◌||◌, ◌&&◌, not, nat_lt, nat_le, nat_eq, List, [], ◌∷◌, ◌++◌, length, Option, Some, None, refl, sym, ap, ap₂, subst, ◌∙◌, arith, inl, inr, true≢false, All}
+use Rattle.std.proofs.Common.{◌≡◌, ◌≢◌, ℕ, Bool, true, false, cond, ◌||◌, ◌&&◌, not, nat_lt, nat_le, nat_eq, List, [], ◌∷◌, ◌++◌, length, Option, Some, None, refl, sym, ap, ap₂, subst, ◌∙◌, arith, inl, inr, true≢false, All}
 use Rattle.std.specs.List.{list_any, filter}
 use Rattle.std.specs.Option.{option_map_or}
 use Rattle.std.specs.Str.{bytes_eq, chars}
-use Rattle.std.proofs.lemmas.Bool.{cases_Bool, cond-true, cond-false}
+use Rattle.std.proofs.lemmas.Bool.{cases_Bool, cond-true, cond-false, false_from_ne_true}
 use Rattle.std.proofs.lemmas.Bool.Decides.{nat_tests}
 use Rattle.std.proofs.lemmas.Option.{none-some}
 use Rattle.std.proofs.lemmas.Slice.Eq.{bytes_eq-Decides}
 use Rattle.std.proofs.lemmas.List.Elements.{filter_passes}
-use Rattle.lf_pattern.specs.Matching.{Matches, matches}
-use Rattle.lf_pattern.specs.Samples.{is_kept, candidates, AreSamples}
-use Rattle.lf_pattern.specs.SampleScan.{added, both_added}
+use Rattle.lf_pattern.specs.Matching.{matches}
+use Rattle.lf_pattern.specs.Samples.{AreKept, AreSamples, IsKept, candidates, none, keep, leave}
+use Rattle.lf_pattern.specs.SampleScan.{added, both_added, is_kept}
 use Rattle.lf_pattern.specs.ShapeScan.{capped, read_from, start}
 use Rattle.lf_pattern.specs.declared.sample.Both.{Both}
 use Rattle.lf_pattern.proofs.Capping.{fits, capped-fits, capped-long}
@@ -98,43 +98,68 @@ module _ (p low high : List ℕ) where
         | inr e ↦ apart-both e (is_kept p low) ∙ sym (ap (filter (is_kept p)) (cond-false (bytes_eq low high) (low ∷ []) (low ∷ high ∷ []) e))
       ]
 
+-- ---- which texts are kept
+
+and_both : (a b : Bool) → (a && b) ≡ true → (a ≡ true) × (b ≡ true)
+and_both true b h = (refl, h)
+and_both false b h = absurd (true≢false (sym h))
+
+kept_from_test : (p s : List ℕ) → is_kept p s ≡ true → IsKept p s
+kept_from_test p s h =
+    let (front, matched) = and_both (nat_lt 0 (length s) && nat_le (length s) 256) (matches p s) h in
+    let (some, short) = and_both (nat_lt 0 (length s)) (nat_le (length s) 256) front in
+    (λ e. true≢false (sym some ∙ ap (λ (l : List ℕ). nat_lt 0 (length l)) e), grind (arith, nat_tests), (matches_is p s).0 matched)
+
+some_bytes : (s : List ℕ) → s ≢ [] → nat_lt 0 (length s) ≡ true
+some_bytes [] some = absurd (some refl)
+some_bytes (b ∷ s) some = grind (arith, nat_tests)
+
+test_from_kept : (p s : List ℕ) → IsKept p s → is_kept p s ≡ true
+test_from_kept p s (some, short, matched) =
+    let few : nat_le (length s) 256 ≡ true = grind (arith, nat_tests) in
+    ap (λ (b : Bool). (b && nat_le (length s) 256) && matches p s) (some_bytes s some) ∙ ap (λ (b : Bool). b && matches p s) few ∙ (matches_is p s).1 matched
+
+module _ (p : List ℕ) where
+  -- those that the test passes are kept
+  filter_kept : (texts : List (List ℕ)) → AreKept p texts (filter (is_kept p) texts)
+  filter_kept [] = none
+  filter_kept (s ∷ texts) = by (filter_kept texts) (is_kept p s) refl
+    where
+      by : AreKept p texts (filter (is_kept p) texts) → (b : Bool) → is_kept p s ≡ b → AreKept p (s ∷ texts) (cond b (s ∷ filter (is_kept p) texts) (filter (is_kept p) texts))
+      by more true e = keep (kept_from_test p s e) more
+      by more false e = leave (λ kept. true≢false (sym (test_from_kept p s kept) ∙ e)) more
+
+  -- and no others
+  kept_only : {texts kept : List (List ℕ)} → AreKept p texts kept → kept ≡ filter (is_kept p) texts
+  kept_only none = refl
+  kept_only (keep {s} {texts} {kept} is more) = ap (s ∷◌) (kept_only more) ∙ sym (cond-true (is_kept p s) _ _ (test_from_kept p s is))
+  kept_only (leave {s} {texts} {kept} isnt more) = kept_only more ∙ sym (cond-false (is_kept p s) _ _ (false_from_ne_true (is_kept p s) (λ e. isnt (kept_from_test p s e))))
+
+  each_kept : {texts kept : List (List ℕ)} → AreKept p texts kept → All (IsKept p) kept
+  each_kept {texts} {kept} are = subst (All (IsKept p)) (sym (kept_only are)) (λ k d lt. kept_from_test p _ (filter_passes (is_kept p) texts k d lt))
+
+-- ---- the samples of a pattern
+
 -- what is read of a pattern gives its samples
 pub samples_read : (p : List ℕ) (b : Both) (list : List (List ℕ)) → read_from start (chars p) ≡ Some b → list ≡ both_added p b → AreSamples p list
 samples_read p b list h e =
     let (s, shape, is) = given_shape (chars p) b h in
-    inl (s, shape, e ∙ ap (both_added p) is ∙ both_kept p s.low s.high)
+    let these : list ≡ filter (is_kept p) (candidates s) = e ∙ ap (both_added p) is ∙ both_kept p s.low s.high in
+    inl (s, shape, subst (AreKept p (candidates s)) (sym these) (filter_kept p (candidates s)))
 
 pub samples_none : (p : List ℕ) (list : List (List ℕ)) → read_from start (chars p) ≡ None → list ≡ [] → AreSamples p list
 samples_none p list h e = inr (λ s shape. none-some _ (sym h ∙ found_shape (chars p) s shape), e)
 
 -- the samples of a pattern are one list, which what is read of it gives
 pub samples_only : (p : List ℕ) (list : List (List ℕ)) → AreSamples p list → list ≡ option_map_or (both_added p) (read_from start (chars p)) []
-samples_only p list (inl (s, shape, e)) =
-    e ∙ sym (both_kept p s.low s.high) ∙ sym (ap (λ (o : Option Both). option_map_or (both_added p) o []) (found_shape (chars p) s shape))
+samples_only p list (inl (s, shape, are)) =
+    kept_only p are ∙ sym (both_kept p s.low s.high) ∙ sym (ap (λ (o : Option Both). option_map_or (both_added p) o []) (found_shape (chars p) s shape))
 samples_only p list (inr (outside, e)) = by (read_from start (chars p)) refl
   where
     by : (o : Option Both) → read_from start (chars p) ≡ o → list ≡ option_map_or (both_added p) o []
     by None h = e
     by (Some b) h = let (s, shape, is) = given_shape (chars p) b h in absurd (outside s shape)
 
--- ---- each sample
-
-abbrev pub IsGood : List ℕ → List ℕ → Type 0
-IsGood p s = (s ≢ []) × (length s ≤ 256) × Matches p s
-
-and-both : (a b : Bool) → (a && b) ≡ true → (a ≡ true) × (b ≡ true)
-and-both true b h = (refl, h)
-and-both false b h = absurd (true≢false (sym h))
-
-kept-good : (p s : List ℕ) → is_kept p s ≡ true → IsGood p s
-kept-good p s h =
-    let (front, matched) = and-both (nat_lt 0 (length s) && nat_le (length s) 256) (matches p s) h in
-    let (some, short) = and-both (nat_lt 0 (length s)) (nat_le (length s) 256) front in
-    (λ e. true≢false (sym some ∙ ap (λ (l : List ℕ). nat_lt 0 (length l)) e), grind (arith, nat_tests), (matches_is p s).0 matched)
-
-filter-good : (p : List ℕ) (xs : List (List ℕ)) → All (IsGood p) (filter (is_kept p) xs)
-filter-good p xs = λ k d lt. kept-good p _ (filter_passes (is_kept p) xs k d lt)
-
-pub samples_good : (p : List ℕ) (list : List (List ℕ)) → AreSamples p list → All (IsGood p) list
-samples_good p list (inl (s, shape, e)) = subst (All (IsGood p)) (sym e) (filter-good p (candidates s))
-samples_good p list (inr (outside, e)) = subst (All (IsGood p)) (sym e) (λ k d lt. absurd (omega (arith, lt)))
+pub samples_good : (p : List ℕ) (list : List (List ℕ)) → AreSamples p list → All (IsKept p) list
+samples_good p list (inl (s, shape, are)) = each_kept p are
+samples_good p list (inr (outside, e)) = subst (All (IsKept p)) (sym e) (λ k d lt. absurd (omega (arith, lt)))

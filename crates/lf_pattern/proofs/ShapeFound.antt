@@ -8,7 +8,7 @@ use Rattle.std.proofs.lemmas.Str.{length-encode}
 use Rattle.std.specs.Char.{digit_value}
 use Rattle.std.specs.Str.Parse.{AllDigits, IsNumeral, digits_value_after}
 use Rattle.lf_pattern.specs.Plain.{is_special, is_escapable}
-use Rattle.lf_pattern.specs.Shape.{Samples, counted, last_of, is_opaque, class_samples, IsLeast, Count, star, plus, optional, exactly, at_least, between, Lazily, greedy, lazy, Alternatives, one, more, Row, nothing, next, Piece, once, often, Atom, ordinary, any, begin, end, digit, word, space, escaped, class, group, quiet, HasShape}
+use Rattle.lf_pattern.specs.Shape.{Samples, counted, last_of, is_opaque, unknown, class_samples, IsLeast, Count, star, plus, optional, exactly, at_least, between, Lazily, greedy, lazy, Alternatives, one, more, Row, nothing, next, Piece, once, often, Atom, ordinary, any, begin, end, digit, word, space, escaped, class, negated, group, quiet, HasShape}
 use Rattle.lf_pattern.specs.declared.sample.Both.{Both}
 use Rattle.lf_pattern.specs.declared.shape.Frame.{Frame}
 use Rattle.lf_pattern.specs.declared.shape.Mode.{Mode}
@@ -50,6 +50,8 @@ idle mode.Escape P F S c h apart = absurd (true≢false (sym h))
 idle mode.Quiet P F S c h apart = absurd (true≢false (sym h))
 idle mode.ClassStart P F S c h apart = absurd (true≢false (sym h))
 idle (mode.Class first last opaque) P F S c h apart = absurd (true≢false (sym h))
+idle mode.NegatedStart P F S c h apart = absurd (true≢false (sym h))
+idle mode.Negated P F S c h apart = absurd (true≢false (sym h))
 idle mode.Brace P F S c h apart = absurd (true≢false (sym h))
 idle (mode.Least n) P F S c h apart = absurd (true≢false (sym h))
 idle (mode.Comma n) P F S c h apart = absurd (true≢false (sym h))
@@ -182,13 +184,32 @@ module _ (P : Both) (F : Frame) (S : List Frame) where
       ∙ class-members first d (opaque || is_hidden d) ds rest (all_tail d ds h)
       ∙ ap (λ (b : Bool). read_from (st mode.Atom (class_pair first (last_of d ds) b) F S) rest) (or-or opaque (is_hidden d) (list_any is_hidden ds))
 
-  class-whole : (first : ℕ) (members rest : List ℕ) → All (λ m. m ≢ 93) members →
-      read_from (st mode.ClassStart P F S) (first ∷ members ++ 93 ∷ rest) ≡ read_from (st mode.Atom (cut (class_samples first members)) F S) rest
+  class-first : (first : ℕ) → first ≢ 94 → stepped (st mode.ClassStart P F S) first ≡ st (mode.Class first first (is_hidden first)) P F S
   unfolding stepped
-  class-whole first members rest h =
-      class-members first first ((first == 94) || is_hidden first) members rest h
-      ∙ ap (λ (b : Bool). read_from (st mode.Atom (class_pair first (last_of first members) b) F S) rest) (or-or (first == 94) (is_hidden first) (list_any is_hidden members))
+  class-first first h = cond-false (first == 94) _ _ (grind (arith, nat_tests))
+
+  class-whole : (first : ℕ) (members rest : List ℕ) → first ≢ 94 → All (λ m. m ≢ 93) members →
+      read_from (st mode.ClassStart P F S) (first ∷ members ++ 93 ∷ rest) ≡ read_from (st mode.Atom (cut (class_samples first members)) F S) rest
+  class-whole first members rest apart h =
+      at_step (st mode.ClassStart P F S) _ first (members ++ 93 ∷ rest) (class-first first apart)
+      ∙ class-members first first (is_hidden first) members rest h
       ∙ ap (λ (q : Both). read_from (st mode.Atom q F S) rest) (class-cut first members (is_opaque first members) refl)
+
+  negated-step : (c : ℕ) → c ≢ 93 → stepped (st mode.Negated P F S) c ≡ st mode.Negated P F S
+  unfolding stepped
+  negated-step c h = cond-false (c == 93) _ _ (grind (arith, nat_tests))
+
+  negated-members : (members rest : List ℕ) → All (λ m. m ≢ 93) members →
+      read_from (st mode.Negated P F S) (members ++ 93 ∷ rest) ≡ read_from (st mode.Atom (cut unknown) F S) rest
+  unfolding stepped
+  negated-members [] rest h = refl
+  negated-members (d ∷ ds) rest h =
+      at_step (st mode.Negated P F S) _ d (ds ++ 93 ∷ rest) (negated-step d (all_head d ds h)) ∙ negated-members ds rest (all_tail d ds h)
+
+  negated-whole : (first : ℕ) (members rest : List ℕ) → All (λ m. m ≢ 93) members →
+      read_from (st mode.ClassStart P F S) (94 ∷ first ∷ members ++ 93 ∷ rest) ≡ read_from (st mode.Atom (cut unknown) F S) rest
+  unfolding stepped
+  negated-whole first members rest h = negated-members members rest h
 
 -- ---- atoms, pieces, rows and alternatives
 
@@ -258,9 +279,12 @@ mutual
       idle_from m P F S 92 (c ∷ rest) i refl
       ∙ at_step nothing_read (with_row F P) S (st mode.Escape nothing_read (with_row F P) S) _ c rest (escape-step nothing_read (with_row F P) S c h)
       ∙ ap (λ (q : Both). read_from (st mode.Atom q (with_row F P) S) rest) (encoded-cut c c)
-  found_atom (class first members {rest} h) m P F S i =
+  found_atom (class first members {rest} apart h) m P F S i =
       idle_from m P F S 91 (first ∷ members ++ 93 ∷ rest) i refl
-      ∙ class-whole nothing_read (with_row F P) S first members rest h
+      ∙ class-whole nothing_read (with_row F P) S first members rest apart h
+  found_atom (negated first members {rest} h) m P F S i =
+      idle_from m P F S 91 (94 ∷ first ∷ members ++ 93 ∷ rest) i refl
+      ∙ negated-whole nothing_read (with_row F P) S first members rest h
   found_atom (group {cs} {rest} {p} a) m P F S i =
       idle_from m P F S 40 cs i refl
       ∙ (let r = found_all a mode.Open None (with_row F P ∷ S) refl in

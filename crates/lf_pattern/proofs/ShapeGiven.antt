@@ -11,7 +11,7 @@ use Rattle.std.specs.List.{list_any}
 use Rattle.std.specs.Char.{digit_value}
 use Rattle.std.specs.Str.Parse.{IsNumeral}
 use Rattle.lf_pattern.specs.Plain.{is_special, is_escapable}
-use Rattle.lf_pattern.specs.Shape.{Samples, same, followed, counted, chosen, last_of, is_opaque, class_samples, IsLeast, Count, star, plus, optional, exactly, at_least, between, Lazily, greedy, lazy, Alternatives, one, more, Row, nothing, next, once, often, Atom, ordinary, any, begin, end, digit, word, space, escaped, class, group, quiet, HasShape}
+use Rattle.lf_pattern.specs.Shape.{Samples, same, followed, counted, chosen, last_of, is_opaque, unknown, class_samples, IsLeast, Count, star, plus, optional, exactly, at_least, between, Lazily, greedy, lazy, Alternatives, one, more, Row, nothing, next, once, often, Atom, ordinary, any, begin, end, digit, word, space, escaped, class, negated, group, quiet, HasShape}
 use Rattle.lf_pattern.specs.declared.sample.Both.{Both}
 use Rattle.lf_pattern.specs.declared.shape.Frame.{Frame}
 use Rattle.lf_pattern.specs.declared.shape.Mode.{Mode}
@@ -60,9 +60,8 @@ last-push first (d ∷ ds) c = last-push d ds c
 
 opaque-push : (first : ℕ) (members : List ℕ) (c : ℕ) → (is_opaque first members || is_hidden c) ≡ is_opaque first (members ++ c ∷ [])
 opaque-push first members c =
-    or-or (first == 94) (list_any is_hidden (first ∷ members)) (is_hidden c)
-    ∙ ap (λ (b : Bool). (first == 94) || b) (or-or (is_hidden first) (list_any is_hidden members) (is_hidden c)
-    ∙ ap (λ (b : Bool). is_hidden first || b) (ap (λ (b : Bool). list_any is_hidden members || b) (sym (or-false (is_hidden c))) ∙ sym (list_any-append is_hidden members (c ∷ []))))
+    or-or (is_hidden first) (list_any is_hidden members) (is_hidden c)
+    ∙ ap (λ (b : Bool). is_hidden first || b) (ap (λ (b : Bool). list_any is_hidden members || b) (sym (or-false (is_hidden c))) ∙ sym (list_any-append is_hidden members (c ∷ [])))
 
 digit-below : (c : ℕ) → is_digit c ≡ true → digit_value c < 10
 digit-below c h = grind (arith, nat_tests)
@@ -153,7 +152,9 @@ module _ (v : Both) where
   Left mode.Quiet P F S cs = (us : List ℕ) × (cs ≡ 58 ∷ us) × Tail (Ends S) (with_row F P) us
   Left mode.ClassStart P F S cs = AtomThen (Ends S) F (91 ∷ cs)
   Left (mode.Class first last opaque) P F S cs =
-      (members : List ℕ) → All (λ m. m ≢ 93) members → last ≡ last_of first members → opaque ≡ is_opaque first members → AtomThen (Ends S) F (91 ∷ first ∷ members ++ cs)
+      first ≢ 94 → (members : List ℕ) → All (λ m. m ≢ 93) members → last ≡ last_of first members → opaque ≡ is_opaque first members → AtomThen (Ends S) F (91 ∷ first ∷ members ++ cs)
+  Left mode.NegatedStart P F S cs = AtomThen (Ends S) F (91 ∷ 94 ∷ cs)
+  Left mode.Negated P F S cs = (first : ℕ) (members : List ℕ) → All (λ m. m ≢ 93) members → AtomThen (Ends S) F (91 ∷ 94 ∷ first ∷ members ++ cs)
   Left mode.Brace P F S cs = CountThen (Ends S) P F (123 ∷ cs)
   Left (mode.Least n) P F S cs = (digits : List ℕ) → IsLeast digits n → CountThen (Ends S) P F (123 ∷ digits ++ cs)
   Left (mode.Comma n) P F S cs = (digits : List ℕ) → IsLeast digits n → CountThen (Ends S) P F (123 ∷ digits ++ (44 ∷ cs))
@@ -180,6 +181,8 @@ module _ (v : Both) where
   left_end mode.Quiet P F [] h = absurd (none-some _ h)
   left_end mode.ClassStart P F [] h = absurd (none-some _ h)
   left_end (mode.Class first last opaque) P F [] h = absurd (none-some _ h)
+  left_end mode.NegatedStart P F [] h = absurd (none-some _ h)
+  left_end mode.Negated P F [] h = absurd (none-some _ h)
   left_end mode.Brace P F [] h = absurd (none-some _ h)
   left_end (mode.Least n) P F [] h = absurd (none-some _ h)
   left_end (mode.Comma n) P F [] h = absurd (none-some _ h)
@@ -281,8 +284,8 @@ module _ (v : Both) where
         (λ _ h. absurd (given_later mode.Outside P F S h)) h) h) h) h
 
     left_class : (first last : ℕ) (opaque : Bool) (c : ℕ) (P : Both) (F : Frame) (S : List Frame) → read_from (in_class first last opaque (st (mode.Class first last opaque) P F S) c) cs ≡ Some v →
-        (members : List ℕ) → All (λ m. m ≢ 93) members → last ≡ last_of first members → opaque ≡ is_opaque first members → AtomThen (Ends S) F (91 ∷ first ∷ members ++ (c ∷ cs))
-    left_class first last opaque c P F S h members all is_last is_hid =
+        first ≢ 94 → (members : List ℕ) → All (λ m. m ≢ 93) members → last ≡ last_of first members → opaque ≡ is_opaque first members → AtomThen (Ends S) F (91 ∷ first ∷ members ++ (c ∷ cs))
+    left_class first last opaque c P F S h apart members all is_last is_hid =
         let T = AtomThen (Ends S) F (91 ∷ first ∷ members ++ (c ∷ cs)) in
         split T (c == 93) _ _
         (λ e h.
@@ -290,18 +293,33 @@ module _ (v : Both) where
         let A : Both → Type 0 = λ q. AfterAtom (Ends S) q F cs in
         let same_pair : class_pair first last opaque ≡ cut (class_samples first members) =
         ap₂ (λ (l : ℕ) (b : Bool). class_pair first l b) is_last is_hid ∙ class-cut first members (is_opaque first members) refl in
-        subst D (sym (eqb-true c 93 e)) (class_samples first members, cs, class first members all, subst A same_pair (given_later mode.Atom (class_pair first last opaque) F S h)))
+        subst D (sym (eqb-true c 93 e)) (class_samples first members, cs, class first members apart all, subst A same_pair (given_later mode.Atom (class_pair first last opaque) F S h)))
         (λ e h.
         let L : List ℕ → Type 0 = λ l. AtomThen (Ends S) F (91 ∷ first ∷ l) in
         subst L (append_assoc members (c ∷ []) cs)
-        (given_later (mode.Class first c (opaque || is_hidden c)) P F S h (members ++ c ∷ [])
+        (given_later (mode.Class first c (opaque || is_hidden c)) P F S h apart (members ++ c ∷ [])
         (All-push (λ m. m ≢ 93) members c all (grind (arith, nat_tests)))
         (last-push first members c)
         (ap (λ (b : Bool). b || is_hidden c) is_hid ∙ opaque-push first members c))) h
 
-    left_start : (c : ℕ) (P : Both) (F : Frame) (S : List Frame) → read_from (st (mode.Class c c ((c == 94) || is_hidden c)) P F S) cs ≡ Some v → AtomThen (Ends S) F (91 ∷ c ∷ cs)
+    left_start : (c : ℕ) (P : Both) (F : Frame) (S : List Frame) → read_from (cond (c == 94) (st mode.NegatedStart P F S) (st (mode.Class c c (is_hidden c)) P F S)) cs ≡ Some v → AtomThen (Ends S) F (91 ∷ c ∷ cs)
     left_start c P F S h =
-        given_later (mode.Class c c ((c == 94) || is_hidden c)) P F S h [] (λ k d lt. absurd (omega (arith, lt))) refl (ap (λ (b : Bool). (c == 94) || b) (sym (or-false (is_hidden c))))
+        split (AtomThen (Ends S) F (91 ∷ c ∷ cs)) (c == 94) _ _
+        (λ e h. let D : ℕ → Type 0 = λ d. AtomThen (Ends S) F (91 ∷ d ∷ cs) in subst D (sym (eqb-true c 94 e)) (given_later mode.NegatedStart P F S h))
+        (λ e h.
+        let apart : c ≢ 94 = λ (f : c ≡ 94). absurd (grind (arith, nat_tests)) in
+        given_later (mode.Class c c (is_hidden c)) P F S h apart [] (λ k d lt. absurd (omega (arith, lt))) refl (sym (or-false (is_hidden c)))) h
+
+    left_negated : (c : ℕ) (P : Both) (F : Frame) (S : List Frame) → read_from (cond (c == 93) (st mode.Atom (pair (48 ∷ []) (97 ∷ [])) F S) (st mode.Negated P F S)) cs ≡ Some v →
+        (first : ℕ) (members : List ℕ) → All (λ m. m ≢ 93) members → AtomThen (Ends S) F (91 ∷ 94 ∷ first ∷ members ++ (c ∷ cs))
+    left_negated c P F S h first members all =
+        split (AtomThen (Ends S) F (91 ∷ 94 ∷ first ∷ members ++ (c ∷ cs))) (c == 93) _ _
+        (λ e h.
+        let D : ℕ → Type 0 = λ d. AtomThen (Ends S) F (91 ∷ 94 ∷ first ∷ members ++ (d ∷ cs)) in
+        subst D (sym (eqb-true c 93 e)) (unknown, cs, negated first members all, given_later mode.Atom (pair (48 ∷ []) (97 ∷ [])) F S h))
+        (λ e h.
+        let L : List ℕ → Type 0 = λ l. AtomThen (Ends S) F (91 ∷ 94 ∷ first ∷ l) in
+        subst L (append_assoc members (c ∷ []) cs) (given_later mode.Negated P F S h first (members ++ c ∷ []) (All-push (λ m. m ≢ 93) members c all (grind (arith, nat_tests))))) h
 
     left_brace : (c : ℕ) (P : Both) (F : Frame) (S : List Frame) → read_from (cond (is_digit c) (st (mode.Least (digit_value c)) P F S) (st mode.Outside P F S)) cs ≡ Some v → CountThen (Ends S) P F (123 ∷ c ∷ cs)
     left_brace c P F S h =
@@ -373,6 +391,8 @@ module _ (v : Both) where
         (λ _ h. absurd (given_later mode.Outside P F S h)) h
     left_step c mode.ClassStart P F S h = left_start c P F S h
     left_step c (mode.Class first last opaque) P F S h = left_class first last opaque c P F S h
+    left_step c mode.NegatedStart P F S h = given_later mode.Negated P F S h c [] (λ k d lt. absurd (omega (arith, lt)))
+    left_step c mode.Negated P F S h = left_negated c P F S h
     left_step c mode.Brace P F S h = left_brace c P F S h
     left_step c (mode.Least n) P F S h = left_least n c P F S h
     left_step c (mode.Comma n) P F S h = left_comma n c P F S h

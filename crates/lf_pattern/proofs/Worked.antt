@@ -6,7 +6,7 @@ use Rattle.lf_pattern.specs.Matching.{IsPlainGroup}
 use Rattle.lf_pattern.proofs.GroupLaws.{capture_given}
 use Rattle.lf_pattern.specs.Plain as joins
 use Rattle.lf_pattern.specs.Scan.{scanned, inside}
-use Rattle.lf_pattern.specs.Shape.{Samples, same, followed, counted, class_samples, HasShape, one, next, nothing, once, often, ordinary, any, class, star, optional, greedy}
+use Rattle.lf_pattern.specs.Shape.{Samples, same, followed, counted, unknown, class_samples, HasShape, one, next, nothing, once, often, ordinary, any, class, negated, star, optional, greedy}
 use Rattle.lf_pattern.specs.Replacement.{Reads, IsNumber}
 use Rattle.lf_pattern.specs.Replacement as pieces
 use Rattle.lf_pattern.specs.declared.replacement.Piece.TheVariants.{Group}
@@ -73,11 +73,19 @@ no_brackets (suc (suc k)) d lt = absurd (omega arith)
 
 class_x : HasShape (91 ∷ 97 ∷ 45 ∷ 99 ∷ 93 ∷ 120 ∷ 63 ∷ []) class_x_samples
 unfolding is_special
-class_x = one (next (once (class 97 (45 ∷ 99 ∷ []) no_brackets)) (next (often (ordinary refl) optional greedy) nothing))
+class_x = one (next (once (class 97 (45 ∷ 99 ∷ []) (λ (e : 97 ≡ 94). absurd (omega arith)) no_brackets)) (next (often (ordinary refl) optional greedy) nothing))
 
 class_x_is : class_x_samples ≡ record { low = 97 ∷ []; high = 99 ∷ 120 ∷ [] }
 unfolding encode_utf8
 class_x_is = refl
+
+-- `[^]a]` is one negated class, of the members `]` and `a`
+only_a : All (λ (m : ℕ). m ≢ 93) (97 ∷ [])
+only_a zero d lt = λ (e : 97 ≡ 93). absurd (omega arith)
+only_a (suc k) d lt = absurd (omega arith)
+
+not_bracket : HasShape (91 ∷ 94 ∷ 93 ∷ 97 ∷ 93 ∷ []) (followed unknown (same []))
+not_bracket = one (next (once (negated 93 (97 ∷ []) only_a)) nothing)
 
 -- `$1` is group 1
 one_is : IsNumber (49 ∷ []) 1

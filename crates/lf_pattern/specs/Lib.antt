@@ -1,13 +1,11 @@
-pub mod Form
-pub mod Groups
 pub mod Matching
 pub mod Plain
-pub mod PlainnessScan
 pub mod Read
 pub mod Replacement
-pub mod ReplacementScan
 pub mod SampleScan
 pub mod Samples
 pub mod Scan
 pub mod Shape
 pub mod ShapeScan
+pub mod views
+pub mod reading

@@ -2,13 +2,13 @@
 --
 -- `regex` reads a pattern p that isn't plain as `^(?:p)$`, so the match that it finds is the whole value; but a pattern such as `a)|(b` breaks out of the parentheses,
 -- and its match may be a part of the value.
-use Rattle.std.specs.Prelude.{◌≡◌, ◌⊎◌, ℕ, Bool, true, List, [], Contains, is_some, ◌&&◌, ◌||◌, ◌==◌, if◌then◌else◌}
+use Rattle.std.specs.Prelude.{◌≡◌, ◌⊎◌, ℕ, Bool, true, List, [], Contains, is_some, ◌||◌}
 use Rattle.std.specs.Option.{option_map_or}
 use Rattle.std.specs.List.{list_any}
 use Rattle.std.specs.Str.{bytes_eq}
 use Rattle.lf_pattern.specs.Plain.{HasAlternatives, HasGroup, IsPlainPattern}
 use Rattle.lf_pattern.specs.Read.{reading, finds, found_group}
-use Rattle.lf_pattern.specs.Scan.{alternatives_of, captures}
+use Rattle.lf_pattern.specs.Scan.{alternatives_of}
 
 -- A plain pattern matches exactly its alternatives, and any other where regex finds a match.
 abbrev pub Matches : List ℕ → List ℕ → Type 0
@@ -35,18 +35,13 @@ IsGroupText p value n text =
     (IsPlainPattern p × IsPlainGroup p value n text)
     ⊎ ((IsPlainPattern p → ⊥) × (text ≡ found_group p value n))
 
--- ---- The same as functions, by the scan of plain patterns, for the code and the crates above to compute with. They define nothing: laws in proofs/ (MatchLaws.antt,
--- GroupLaws.antt) say that they agree with the relations above, both ways.
+-- ---- The same as functions, for the rows and the universe of lf_semantics, which are values that are computed of rules. Laws in proofs/ (MatchLaws.antt, GroupLaws.antt) say
+-- that they agree with the relations above, both ways.
 
+-- whether the pattern matches the value
 abbrev pub matches : List ℕ → List ℕ → Bool
 matches p value = option_map_or (λ alternatives. list_any (λ a. bytes_eq a value) alternatives) (alternatives_of p) (finds p value)
 
+-- whether the pattern is plain, or regex's grammar reads it
 abbrev pub is_read : List ℕ → Bool
 is_read p = is_some (alternatives_of p) || is_some (reading p)
-
-abbrev pub plain_group : Bool → List ℕ → ℕ → List ℕ
-plain_group pair value n = if (n == 0) || (pair && (n == 1)) then value else []
-
-abbrev pub group_text : List ℕ → List ℕ → ℕ → List ℕ
-group_text p value n =
-    option_map_or (λ _. plain_group (captures p) value n) (alternatives_of p) (found_group p value n)

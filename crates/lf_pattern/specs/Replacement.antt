@@ -1,10 +1,9 @@
 -- Plain replacements and what they expand to. A replacement is a list of characters.
-use Rattle.std.specs.Prelude.{◌≡◌, ◌≢◌, ℕ, Bool, false, ◌||◌, ◌==◌, List, [], ◌∷◌, ◌++◌, Option, Some, None, encode_utf8, slice_index, ◌⊎◌, if◌then◌else◌}
-use Rattle.std.specs.Char.{is_ascii_alphanumeric}
-use Rattle.std.specs.List.{flat_map}
+use Rattle.std.specs.Prelude.{◌≡◌, ◌≢◌, ℕ, Bool, false, not, ◌||◌, ◌==◌, List, [], ◌∷◌, ◌++◌, Option, Some, None, encode_utf8, slice_index, ◌⊎◌}
+use Rattle.std.specs.Char.{is_ascii, is_ascii_alphanumeric}
 use Rattle.std.specs.Str.{chars}
 use Rattle.std.specs.Str.Parse.{IsNumeral, digits_value}
-use Rattle.lf_pattern.specs.Matching.{Matches, matches, IsGroupText, group_text}
+use Rattle.lf_pattern.specs.Matching.{Matches, IsGroupText}
 use Rattle.lf_pattern.specs.declared.replacement.Piece.{Piece}
 use Rattle.lf_pattern.specs.declared.replacement.Piece.TheVariants.{Char, Group}
 
@@ -12,17 +11,17 @@ use Rattle.lf_pattern.specs.declared.replacement.Piece.TheVariants.{Char, Group}
 abbrev pub IsNumber : List ℕ → ℕ → Type 0
 IsNumber digits n = IsNumeral 10 digits × ((slice_index digits 0 ≢ 48) ⊎ (digits ≡ 48 ∷ [])) × (n ≡ digits_value 10 digits)
 
--- an ASCII letter or digit, or `_`
+-- A group's name goes on with it: an ASCII letter or digit, `_`, or a character beyond ASCII, of which Prometheus takes the letters and digits into the name.
 abbrev pub is_word : ℕ → Bool
-is_word c = is_ascii_alphanumeric c || c == 95
+is_word c = is_ascii_alphanumeric c || (c == 95 || not (is_ascii c))
 
 -- the characters don't begin with one of these
 abbrev pub BeginsApart : List ℕ → Type 0
 BeginsApart [] = Unit {0}
 BeginsApart (c ∷ cs) = is_word c ≡ false
 
--- `Reads cs pieces`: a plain replacement holds `$` only as `$$`, which stands for `$`, and as `$n` and `${n}`, which stand for a group; `$n` isn't followed by a letter,
--- a digit or `_`. Every other character stands for itself.
+-- `Reads cs pieces`: a plain replacement holds `$` only as `$$`, which stands for `$`, and as `$n` and `${n}`, which stand for a group; `$n` isn't followed by a character
+-- with which a name goes on. Every other character stands for itself.
 pub data Reads : List ℕ → List Piece → Type 0 where
   end : Reads [] []
   other : {c : ℕ} {cs : List ℕ} {ps : List Piece} → c ≢ 36 → Reads cs ps → Reads (c ∷ cs) (Char c ∷ ps)
@@ -34,6 +33,7 @@ pub data Reads : List ℕ → List Piece → Type 0 where
 abbrev pub HasPieces : List ℕ → List Piece → Type 0
 HasPieces replacement ps = Reads (chars replacement) ps
 
+-- a text is a plain replacement
 abbrev pub IsPlainReplacement : List ℕ → Type 0
 IsPlainReplacement replacement = (ps : List Piece) × HasPieces replacement ps
 
@@ -52,18 +52,3 @@ IsTextOf p value (piece ∷ ps) text =
 abbrev pub IsExpansion : List ℕ → List ℕ → List Piece → Option (List ℕ) → Type 0
 IsExpansion p value ps None = Matches p value → ⊥
 IsExpansion p value ps (Some text) = Matches p value × IsTextOf p value ps text
-
--- ---- The same as functions, by the scan of plain patterns. They define nothing: a law in proofs/GroupLaws.antt says that `expansion` gives exactly the answer of
--- `IsExpansion`.
-
--- what a piece stands for, by the texts of the groups
-abbrev pub piece_text : (ℕ → List ℕ) → Piece → List ℕ
-piece_text group (Char c) = encode_utf8 c
-piece_text group (Group n) = group n
-
--- what pieces stand for where there is a match
-abbrev pub expanded : Bool → (ℕ → List ℕ) → List Piece → Option (List ℕ)
-expanded matched group ps = if matched then Some (flat_map (piece_text group) ps) else None
-
-abbrev pub expansion : List ℕ → List ℕ → List Piece → Option (List ℕ)
-expansion p value ps = expanded (matches p value) (group_text p value) ps

@@ -1,9 +1,14 @@
--- A way of choosing the samples that are kept, one after the other. It defines nothing: a law says that it chooses those of `AreSamples`.
-use Rattle.std.specs.Prelude.{ℕ, ◌||◌, not, nat_eq, List, [], ◌∷◌, ◌++◌, length, Option, Some, None, if◌then◌else◌}
+-- The samples that are kept as a function, one after the other. The universe of lf_semantics goes by it; so it is a definition. `AreSamples` of Samples.antt says the same as a relation,
+-- and laws in proofs/SampleLaws.antt say that the two agree.
+use Rattle.std.specs.Prelude.{ℕ, Bool, ◌&&◌, ◌||◌, not, nat_eq, nat_le, nat_lt, List, [], ◌∷◌, ◌++◌, length, Option, Some, None, if◌then◌else◌}
 use Rattle.std.specs.List.{list_any}
 use Rattle.std.specs.Str.{bytes_eq}
 use Rattle.lf_pattern.specs.Matching.{matches}
 use Rattle.lf_pattern.specs.declared.sample.Both.{Both}
+
+-- whether a sample is kept
+abbrev pub is_kept : List ℕ → List ℕ → Bool
+is_kept p sample = nat_lt 0 (length sample) && nat_le (length sample) 256 && matches p sample
 
 -- the list with a sample behind it, where it isn't too long, isn't empty, isn't in the list and is matched
 abbrev pub added : List ℕ → List (List ℕ) → Option (List ℕ) → List (List ℕ)

@@ -1,7 +1,6 @@
--- A way of reading plain patterns, from left to right. It defines nothing: `plain_alternatives` ensures that it finds exactly the alternatives that `HasAlternatives`
--- says, and a law in proofs/GroupLaws.antt says that `captures` tells exactly the plain patterns of `HasGroup`. It stands here so that the code and the crates above can
--- compute with it.
-use Rattle.std.specs.Prelude.{ℕ, ◌-◌, Bool, true, false, ◌&&◌, not, ◌==◌, nat_lt, List, [], ◌∷◌, ◌++◌, length, take, drop, Option, Some, None, if◌then◌else◌, encode_utf8, slice_index}
+-- The alternatives of a plain pattern as a function, from left to right. The rows and the universe of lf_semantics are values that are computed of rules, and go by it; so it is a
+-- definition. `HasAlternatives` of Plain.antt says the same as a relation, and laws in proofs/PlainLaws.antt say that the two agree, both ways.
+use Rattle.std.specs.Prelude.{ℕ, ◌-◌, Bool, true, false, ◌&&◌, ◌==◌, nat_lt, List, [], ◌∷◌, ◌++◌, length, take, drop, Option, Some, None, if◌then◌else◌, encode_utf8, slice_index}
 use Rattle.std.specs.Str.{chars}
 use Rattle.lf_pattern.specs.Plain.{is_special, is_escapable}
 
@@ -32,10 +31,3 @@ inside cs =
 -- the alternatives of a plain pattern, by its text
 abbrev pub alternatives_of : List ℕ → Option (List (List ℕ))
 alternatives_of text = scanned [] [] false (inside (chars text))
-
--- whether a plain pattern stands in a pair `( )`, which is a group; of any other pattern it says nothing
-abbrev pub is_capture : List ℕ → Bool
-is_capture cs = has_pair cs && not (is_quiet cs)
-
-abbrev pub captures : List ℕ → Bool
-captures text = is_capture (chars text)

@@ -35,14 +35,18 @@ abbrev pub last_of : ℕ → List ℕ → ℕ
 last_of c [] = c
 last_of c (d ∷ more) = last_of d more
 
--- a class that begins with `^`, or holds a backslash or a `[`
+-- a class that holds a backslash or a `[`
 abbrev pub is_opaque : ℕ → List ℕ → Bool
-is_opaque first more = first == 94 || list_any (λ m. m == 92 || m == 91) (first ∷ more)
+is_opaque first more = list_any (λ m. m == 92 || m == 91) (first ∷ more)
+
+-- the samples of what isn't told by members
+abbrev pub unknown : Samples
+unknown = record { low = 48 ∷ []; high = 97 ∷ [] }
 
 -- of a class, by its first member and those behind it
 abbrev pub class_samples : ℕ → List ℕ → Samples
 class_samples first more =
-    if is_opaque first more then record { low = 48 ∷ []; high = 97 ∷ [] }
+    if is_opaque first more then unknown
     else record { low = encode_utf8 first; high = encode_utf8 (last_of first more) }
 
 -- the digits of a count's least number
@@ -81,7 +85,7 @@ mutual
 
   pub data Atom : List ℕ → Samples → List ℕ → Type 0 where
     ordinary : {c : ℕ} {rest : List ℕ} → is_special c ≡ false → Atom (c ∷ rest) (same (encode_utf8 c)) rest
-    any : {rest : List ℕ} → Atom (46 ∷ rest) (record { low = 48 ∷ []; high = 97 ∷ [] }) rest
+    any : {rest : List ℕ} → Atom (46 ∷ rest) unknown rest
     -- `^` and `$`
     begin : {rest : List ℕ} → Atom (94 ∷ rest) (same []) rest
     end : {rest : List ℕ} → Atom (36 ∷ rest) (same []) rest
@@ -90,8 +94,9 @@ mutual
     word : {rest : List ℕ} → Atom (92 ∷ 119 ∷ rest) (same (97 ∷ [])) rest
     space : {rest : List ℕ} → Atom (92 ∷ 115 ∷ rest) (same (32 ∷ [])) rest
     escaped : {c : ℕ} {rest : List ℕ} → is_escapable c ≡ true → Atom (92 ∷ c ∷ rest) (same (encode_utf8 c)) rest
-    -- a class, which ends at the first `]` behind its first member
-    class : (first : ℕ) (members : List ℕ) {rest : List ℕ} → All (λ m. m ≢ 93) members → Atom (91 ∷ first ∷ members ++ 93 ∷ rest) (class_samples first members) rest
+    -- a class, which ends at the first `]` behind its first member, and a negated one: a `^` that begins a class is no member
+    class : (first : ℕ) (members : List ℕ) {rest : List ℕ} → first ≢ 94 → All (λ m. m ≢ 93) members → Atom (91 ∷ first ∷ members ++ 93 ∷ rest) (class_samples first members) rest
+    negated : (first : ℕ) (members : List ℕ) {rest : List ℕ} → All (λ m. m ≢ 93) members → Atom (91 ∷ 94 ∷ first ∷ members ++ 93 ∷ rest) unknown rest
     -- `(..)` and `(?:..)`
     group : {cs rest : List ℕ} {p : Samples} → Alternatives cs p (41 ∷ rest) → Atom (40 ∷ cs) p rest
     quiet : {cs rest : List ℕ} {p : Samples} → Alternatives cs p (41 ∷ rest) → Atom (40 ∷ 63 ∷ 58 ∷ cs) p rest

@@ -1,12 +1,13 @@
--- A way of reading the shape of a pattern, character by character, with a frame for each open group. It defines nothing: laws in proofs/ say that it finds exactly the
--- samples that `HasShape` gives, each cut to None where it has more than 256 bytes.
+-- The samples of a pattern's shape as a function, character by character, with a frame for each open group. The universe of lf_semantics is a value that is computed of rules, and
+-- goes by it; so it is a definition. `HasShape` of Shape.antt says the same as a relation, and laws in proofs/ say that it finds exactly the samples that `HasShape` gives, each cut to
+-- None where it has more than 256 bytes.
 use Rattle.std.specs.Prelude.{ℕ, zero, suc, ◌+◌, ◌*◌, max, Bool, true, false, ◌==◌, ◌||◌, not, nat_lt, nat_le, List, [], ◌∷◌, ◌++◌, length, reverse, Option, Some, None, unwrap_or, encode_utf8, if◌then◌else◌}
 use Rattle.std.specs.Char.{digit_value}
 use Rattle.lf_pattern.specs.Plain.{is_special, is_escapable}
 use Rattle.lf_pattern.specs.declared.sample.Both.{Both}
 use Rattle.lf_pattern.specs.declared.shape.Frame.{Frame}
 use Rattle.lf_pattern.specs.declared.shape.Mode.{Mode}
-use Rattle.lf_pattern.specs.declared.shape.Mode.TheVariants.{Ready, Atom, Lazy, Escape, Open, Quiet, ClassStart, Class, Brace, Least, Comma, Most, Outside}
+use Rattle.lf_pattern.specs.declared.shape.Mode.TheVariants.{Ready, Atom, Lazy, Escape, Open, Quiet, ClassStart, Class, NegatedStart, Negated, Brace, Least, Comma, Most, Outside}
 use Rattle.lf_pattern.specs.declared.shape.Part.{Part}
 use Rattle.lf_pattern.specs.declared.shape.Part.TheVariants as part
 use Rattle.lf_pattern.specs.declared.shape.Reader.{Reader}
@@ -159,8 +160,10 @@ stepped_in Lazy s c = if c == 63 then in_mode Ready s else begun s c
 stepped_in Escape s c = escaped_by s c
 stepped_in Open s c = if c == 63 then in_mode Quiet s else begun s c
 stepped_in Quiet s c = if c == 58 then in_mode Ready s else in_mode Outside s
-stepped_in ClassStart s c = in_mode (Class c c ((c == 94) || is_hidden c)) s
+stepped_in ClassStart s c = if c == 94 then in_mode NegatedStart s else in_mode (Class c c (is_hidden c)) s
 stepped_in (Class first last opaque) s c = in_class first last opaque s c
+stepped_in NegatedStart s c = in_mode Negated s
+stepped_in Negated s c = if c == 93 then with_atom (pair (48 ∷ []) (97 ∷ [])) s else in_mode Negated s
 stepped_in Brace s c = if is_digit c then in_mode (Least (digit_value c)) s else in_mode Outside s
 stepped_in (Least n) s c = in_least n s c
 stepped_in (Comma n) s c = in_most n s c

@@ -11,8 +11,6 @@ mod replacement;
 mod sample;
 mod sampling;
 mod shape;
-#[cfg(test)]
-mod tests;
 mod writing;
 
 pub use error::PatternError;

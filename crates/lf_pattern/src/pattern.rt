@@ -2,8 +2,9 @@
 ghost use Rattle.std.specs.Prelude.{◌≡◌, ◌↔◌, ℕ, List, Option, IfOk, IfErr, IsTrue, false, None};
 ghost use Rattle.std.specs.List.{list_any};
 ghost use Rattle.std.specs.Str.{bytes_eq};
-ghost use Rattle.lf_pattern.specs.Matching.{IsRead, Matches, matches, plain_group};
-ghost use Rattle.lf_pattern.specs.Replacement.{HasPieces, IsExpansion, IsPlainReplacement, expanded, expansion};
+ghost use Rattle.lf_pattern.specs.Matching.{IsRead, Matches, matches};
+ghost use Rattle.lf_pattern.specs.reading.Expansion.{expanded, expansion, plain_group};
+ghost use Rattle.lf_pattern.specs.Replacement.{HasPieces, IsExpansion, IsPlainReplacement};
 
 use crate::compiled::{compile, expand, finds};
 use crate::error::PatternError;
@@ -33,7 +34,7 @@ pub struct Pattern {
 
 impl Model for Pattern {
     ghost use Rattle.std.specs.Prelude.{List, ℕ};
-    ghost use Rattle.lf_pattern.specs.Form.{IsFormOf};
+    ghost use Rattle.lf_pattern.specs.views.Form.{IsFormOf};
 
     ghost Value = { List ℕ };
 

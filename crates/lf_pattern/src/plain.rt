@@ -2,7 +2,8 @@
 ghost use Rattle.std.specs.Prelude.{◌≡◌, ℕ, List, [], IfOk, IfSome, Some, false};
 ghost use Rattle.std.specs.Str.{chars};
 ghost use Rattle.lf_pattern.specs.Plain.{is_special, is_escapable, HasAlternatives};
-ghost use Rattle.lf_pattern.specs.Scan.{inside, scanned, alternatives_of, captures, is_capture};
+ghost use Rattle.lf_pattern.specs.Scan.{inside, scanned, alternatives_of};
+ghost use Rattle.lf_pattern.specs.reading.Expansion.{captures, is_capture};
 
 use lf_base::{Memory, Seq, Text};
 use std::alloc::Global;

@@ -1,6 +1,6 @@
 //! Whether a replacement is plain.
 ghost use Rattle.std.specs.Prelude.{◌≡◌, ◌↔◌, IfOk, IsTrue};
-ghost use Rattle.lf_pattern.specs.PlainnessScan.{checked, is_word, may_end, passes};
+ghost use Rattle.lf_pattern.specs.reading.Plainness.{checked, is_word, may_end, passes};
 ghost use Rattle.lf_pattern.specs.Replacement.{IsPlainReplacement};
 
 use lf_base::{Memory, Text};
@@ -28,7 +28,7 @@ enum Check {
 }
 
 /// Whether a replacement is plain: it holds `$` only as `$$`, `$n` and `${n}`, where n is a number without leading zeros, and `$n` isn't followed by an ASCII letter, a
-/// digit or `_`.
+/// digit, `_` or a character beyond ASCII.
 pub fn is_plain_replacement(alloc: Global, replacement: &Text) -> Result<bool, Memory>
     ensures { IfOk result (λ plain. IsTrue plain ↔ IsPlainReplacement replacement.now) }
 {
@@ -47,7 +47,7 @@ fn scan(characters: &[char]) -> bool
 }
 
 /// Reads a character.
-#[tactic(auto, unfolding(crate::specs::PlainnessScan::checked))]
+#[tactic(auto, unfolding(crate::specs::reading::Plainness::checked))]
 fn step(check: Check, c: char) -> Check
     ensures { result ≡ checked check c }
 {
@@ -68,16 +68,16 @@ fn step(check: Check, c: char) -> Check
 }
 
 /// Reads a character that no piece is open before.
-#[tactic(auto, unfolding(crate::specs::PlainnessScan::checked))]
+#[tactic(auto, unfolding(crate::specs::reading::Plainness::checked))]
 fn text(c: char) -> Check
     ensures { result ≡ checked Check.Text c }
 {
     if c == '$' { Check::Dollar } else { Check::Text }
 }
 
-/// Whether it is an ASCII letter or digit, or `_`.
+/// Whether a group's name goes on with it: an ASCII letter or digit, `_`, or a character beyond ASCII.
 fn is_word(c: char) -> bool
     ensures { result ≡ is_word c }
 {
-    c.is_ascii_alphanumeric() || c == '_'
+    c.is_ascii_alphanumeric() || c == '_' || !c.is_ascii()
 }

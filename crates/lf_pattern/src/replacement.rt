@@ -2,7 +2,7 @@
 ghost use Rattle.std.specs.Prelude.{◌≡◌, ℕ, List, ◌∷◌, ◌++◌, map, IfOk};
 ghost use Rattle.std.specs.Char.{digit_value};
 ghost use Rattle.lf_pattern.specs.Replacement.{HasPieces};
-ghost use Rattle.lf_pattern.specs.ReplacementScan.{bounded, pieces_of, with_digit};
+ghost use Rattle.lf_pattern.specs.reading.Replacement.{bounded, pieces_of, with_digit};
 
 use lf_base::{Memory, Seq, Text};
 use std::alloc::Global;
@@ -71,7 +71,7 @@ fn step(pieces: &mut Seq<Piece>, mode: Mode, c: char) -> Result<Mode, Memory>
 }
 
 /// Reads a character that no piece is open before.
-#[tactic(auto, unfolding(crate::specs::ReplacementScan::pieces_of))]
+#[tactic(auto, unfolding(crate::specs::reading::Replacement::pieces_of))]
 fn text(pieces: &mut Seq<Piece>, c: char) -> Result<Mode, Memory>
     ensures { (cs : List ℕ) → IfOk result (λ m. pieces.old ++ pieces_of Mode.Text (c ∷ cs) ≡ pieces.new ++ pieces_of m cs) }
 {
@@ -83,7 +83,7 @@ fn text(pieces: &mut Seq<Piece>, c: char) -> Result<Mode, Memory>
 }
 
 /// Reads a character behind a `$`.
-#[tactic(auto, unfolding(crate::specs::ReplacementScan::pieces_of))]
+#[tactic(auto, unfolding(crate::specs::reading::Replacement::pieces_of))]
 fn dollar(pieces: &mut Seq<Piece>, c: char) -> Result<Mode, Memory>
     ensures { (cs : List ℕ) → IfOk result (λ m. pieces.old ++ pieces_of Mode.Dollar (c ∷ cs) ≡ pieces.new ++ pieces_of m cs) }
 {
@@ -101,7 +101,7 @@ fn dollar(pieces: &mut Seq<Piece>, c: char) -> Result<Mode, Memory>
 }
 
 /// Reads a character behind a `${` and the digits of a number.
-#[tactic(auto, unfolding(crate::specs::ReplacementScan::pieces_of))]
+#[tactic(auto, unfolding(crate::specs::reading::Replacement::pieces_of))]
 fn braced(pieces: &mut Seq<Piece>, n: usize, c: char) -> Result<Mode, Memory>
     ensures { (cs : List ℕ) → IfOk result (λ m. pieces.old ++ pieces_of (Mode.Braced n) (c ∷ cs) ≡ pieces.new ++ pieces_of m cs) }
 {

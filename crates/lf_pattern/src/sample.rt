@@ -87,7 +87,9 @@ impl Sample {
 /// The low and the high sample of a part of a pattern.
 #[derive(Drop)]
 pub struct Both {
+    /// The low one.
     pub low: Sample,
+    /// The high one.
     pub high: Sample,
 }
 

@@ -25,12 +25,16 @@ enum Mode {
     Quiet,
     /// A `[`.
     ClassStart,
-    /// A `[` and at least one member. `opaque` says that it begins with `^`, or holds a backslash or a `[`.
+    /// A `[` and at least one member. `opaque` says that it holds a backslash or a `[`.
     Class {
         first: char,
         last: char,
         opaque: bool,
     },
+    /// A `[^`.
+    NegatedStart,
+    /// A `[^` and at least one member.
+    Negated,
     /// A `{`.
     Brace,
     /// A `{` and the digits of a least count.
@@ -153,19 +157,23 @@ impl Reader {
             Mode::Open => self.begin(alloc, c),
             Mode::Quiet if c == ':' => Ok(self.in_mode(Mode::Ready)),
             Mode::Quiet => Ok(self.in_mode(Mode::Outside)),
-            Mode::ClassStart => {
-                let opaque = c == '^' || is_hidden(c);
-                Ok(self.in_mode(Mode::Class {
-                    first: c,
-                    last: c,
-                    opaque,
-                }))
-            }
+            Mode::ClassStart if c == '^' => Ok(self.in_mode(Mode::NegatedStart)),
+            Mode::ClassStart => Ok(self.in_mode(Mode::Class {
+                first: c,
+                last: c,
+                opaque: is_hidden(c),
+            })),
             Mode::Class {
                 first,
                 last,
                 opaque,
             } => self.in_class(alloc, first, last, opaque, c),
+            Mode::NegatedStart => Ok(self.in_mode(Mode::Negated)),
+            Mode::Negated if c == ']' => {
+                let piece = Both::of(alloc, '0', 'a')?;
+                Ok(self.with_atom(piece))
+            }
+            Mode::Negated => Ok(self.in_mode(Mode::Negated)),
             Mode::Brace => match c.to_digit(10) {
                 Some(digit) => Ok(self.in_mode(Mode::Least(digit))),
                 None => Ok(self.in_mode(Mode::Outside)),

@@ -1,8 +1,7 @@
 //! What the pieces of a replacement stand for where a plain pattern matches.
 ghost use Rattle.std.specs.Prelude.{◌≡◌, IfOk};
 ghost use Rattle.std.specs.List.{flat_map};
-ghost use Rattle.lf_pattern.specs.Matching.{plain_group};
-ghost use Rattle.lf_pattern.specs.Replacement.{piece_text};
+ghost use Rattle.lf_pattern.specs.reading.Expansion.{piece_text, plain_group};
 
 use crate::replacement::Piece;
 use lf_base::{Memory, Text};

@@ -4,7 +4,8 @@ use Rattle.std.specs.Prelude.{IsErr}
 use Rattle.std.specs.List.{Contains}
 use Rattle.lf_base.specs.declared.fault.Fault.{Fault}
 use Rattle.lf_base.specs.declared.refusal.Refusal.{Refusal}
-use Rattle.lf_base.specs.Answers.{Gives, Decides, OneAnswer}
+use Rattle.lf_base.specs.Answers.{AnswersAs, OneAnswer}
+use Rattle.lf_base.proofs.Answering.{Decides}
 use Rattle.lf_base.proofs.Least.{Least, only_one}
 use Rattle.lf_base.proofs.Answering as answering
 use Rattle.lf_laws.proofs.Members.{here, none_in}
@@ -12,7 +13,7 @@ use Rattle.lf_yaml.specs.Tree.{Tree}
 use Rattle.lf_rules.specs.Rules.{IsRules}
 use Rattle.lf_rules.specs.Sources.{Source}
 use Rattle.lf_rules.specs.Breaches.{Breaks, FirstBreak}
-use Rattle.lf_rules.specs.Reading.{faults, sources, least_from, reading_from, reading}
+use Rattle.lf_rules.specs.reading.Files.{faults, sources, least_from, reading_from, reading}
 use Rattle.lf_rules.proofs.Laws.{told_is, breaks_in, breaks_out}
 use Rattle.lf_rules.proofs.FileReadings.{file_stands, file_clean}
 use Rattle.lf_rules.proofs.Times.{time_decides, limit_decides}
@@ -75,6 +76,6 @@ rules_or_fault t rs f a b = none_in f (subst (λ fs. Contains fs f) (file_clean 
 -- ---- what a function that answers so ensures
 
 module _ {X : Type 0} (view : X → List Source) (t : Tree) where
-  pub broken : (r : Result X Refusal) → Gives view r (reading t) → (f : Fault) → Breaks t f → IsErr r
+  pub broken : (r : Result X Refusal) → AnswersAs view r (reading t) → (f : Fault) → Breaks t f → IsErr r
   broken (Ok x) g f b = absurd (rules_or_fault t (view x) f (reading_stands t (view x) g) b)
   broken (Err e) g f b = refl

@@ -11,9 +11,9 @@ use Rattle.lf_base.specs.Names.{Bytes}
 use Rattle.lf_rules.specs.Mappings.{Pairing, pairs, trees, place, given, given_entry}
 use Rattle.lf_rules.specs.Rules.{group_keys}
 use Rattle.lf_rules.specs.Breaches as breach
-use Rattle.lf_rules.specs.Breaches.{at_start, GroupBreaks, GroupTreeBreaks, GroupNamed, SecondName, Breaks, group_scalar_keys, group_time_keys, IsNoMapping, IsNoList}
+use Rattle.lf_rules.specs.Breaches.{at_start, GroupBreaks, GroupTreeBreaks, group_scalar_keys, group_time_keys, IsNoMapping, IsNoList}
 use Rattle.lf_base.specs.Faults.{fault}
-use Rattle.lf_rules.specs.Reading.{is_time, is_limit, text_faults, scalar_faults, missing_faults, unknown_faults, rules_faults, rule_tree_faults, group_parts, group_faults, group_tree_faults}
+use Rattle.lf_rules.specs.reading.Files.{is_time, is_limit, text_faults, scalar_faults, missing_faults, unknown_faults, rules_faults, rule_tree_faults, group_parts, group_faults, group_tree_faults}
 use Rattle.lf_laws.proofs.Members.{here, none_in, only_one, any_out, in_flat_map, of_flat_map, each_member}
 use Rattle.lf_rules.proofs.Parts.{Decides, scalar_out, scalar_in, text_out, text_in_kind, text_in_text, unknown_out, unknown_in, scalar_is_no_mapping, list_is_no_mapping}
 use Rattle.lf_rules.proofs.RuleParts.{missing_out, not_given, none_given, rule_tree_out, rule_tree_in}

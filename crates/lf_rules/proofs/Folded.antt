@@ -3,7 +3,7 @@ use Rattle.std.proofs.Common.{◌≡◌, List, [], ◌∷◌, ◌++◌, Option, 
 use Rattle.std.specs.List.{flat_map}
 use Rattle.lf_base.specs.declared.fault.Fault.{Fault}
 use Rattle.lf_base.specs.declared.place.Span.{Span}
-use Rattle.lf_rules.specs.Reading.{lesser, least_from, least_each, joined, rule_parts, rule_faults, group_parts, group_faults, file_parts, file_faults}
+use Rattle.lf_rules.specs.reading.Files.{lesser, least_from, least_each, joined, rule_parts, rule_faults, group_parts, group_faults, file_parts, file_faults}
 use Rattle.lf_rules.specs.Mappings.{Pairing, pairs, trees}
 use Rattle.lf_yaml.specs.Tree.{Tree, entries_of, items_of}
 

@@ -12,9 +12,9 @@ use Rattle.lf_rules.specs.Texts.{IsTime, IsLimit}
 use Rattle.lf_rules.specs.Mappings.{pairs, trees, place, given, entry_at, is_empty}
 use Rattle.lf_rules.specs.Rules.{file_keys}
 use Rattle.lf_rules.specs.Breaches as breach
-use Rattle.lf_rules.specs.Breaches.{at_start, Breaks, FirstBreak, IsNoMapping, IsNoList}
+use Rattle.lf_rules.specs.Breaches.{at_start, Breaks, IsNoMapping, IsNoList}
 use Rattle.lf_base.specs.Faults.{fault}
-use Rattle.lf_rules.specs.Reading.{is_time, is_limit, unknown_faults, missing_faults, group_tree_faults, names_faults, groups_faults, file_parts, faults, lesser, least_from}
+use Rattle.lf_rules.specs.reading.Files.{is_time, is_limit, unknown_faults, missing_faults, group_tree_faults, names_faults, groups_faults, file_parts, faults, lesser, least_from}
 use Rattle.lf_base.proofs.Least.{Least, least_same, least_either, not_itself}
 use Rattle.lf_laws.proofs.Members.{here, behind, none_in, only_one, first_or_behind, in_flat_map, of_flat_map, each_member}
 use Rattle.lf_rules.proofs.Parts.{Decides, either, unknown_out, unknown_in, scalar_is_no_mapping, list_is_no_mapping}

@@ -8,9 +8,9 @@ use Rattle.lf_base.specs.declared.fault.Fault.{Fault}
 use Rattle.lf_base.specs.declared.name_set.NameSet.{NameSet}
 use Rattle.lf_base.specs.Names.{Bytes}
 use Rattle.lf_base.specs.Faults.{fault}
-use Rattle.lf_base.specs.NameSets.{has, HasNames}
+use Rattle.lf_base.specs.views.NameSets.{has, HasNames}
 use Rattle.lf_yaml.specs.Tree.{Tree}
-use Rattle.lf_rules.specs.Reading.{name_of, with_name, names_faults, again_faults, least_from, lesser}
+use Rattle.lf_rules.specs.reading.Files.{name_of, with_name, names_faults, again_faults, least_from, lesser}
 use Rattle.lf_rules.proofs.Folded.{least_both}
 
 swapped : (a b c : Bool) → (a || (b || c)) ≡ (b || (a || c))

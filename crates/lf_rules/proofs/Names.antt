@@ -11,7 +11,7 @@ use Rattle.lf_base.specs.Names.{Bytes}
 use Rattle.lf_rules.specs.Mappings.{pairs, given}
 use Rattle.lf_rules.specs.Breaches.{GroupNamed, SecondName}
 use Rattle.lf_base.specs.Faults.{fault}
-use Rattle.lf_rules.specs.Reading.{scalar_of, name_of, again_faults, with_name, names_faults}
+use Rattle.lf_rules.specs.reading.Files.{scalar_of, name_of, again_faults, with_name, names_faults}
 use Rattle.lf_laws.proofs.Members.{here, none_in, only_one, any_out, any_in}
 
 named_out : (t : Tree) (v : Value) → name_of t ≡ Some v → GroupNamed t v

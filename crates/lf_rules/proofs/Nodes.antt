@@ -8,8 +8,8 @@ use Rattle.lf_yaml.specs.declared.node.Node as Node
 use Rattle.lf_yaml.specs.declared.node.Node.{Node, the_lemmas}
 use Rattle.lf_yaml.specs.Tree.{Tree, tree, pair, value, leaf, sequence, mapping, entries_of, items_of}
 use Rattle.lf_rules.specs.Mappings.{entry_at, given}
-use Rattle.lf_rules.specs.Reading.{setting_faults, settings_faults, rule_faults, rule_tree_faults, rules_faults, group_faults, group_tree_faults, names_faults, groups_faults, file_faults, faults}
-use Rattle.lf_rules.specs.Reading as reading
+use Rattle.lf_rules.specs.reading.Files.{setting_faults, settings_faults, rule_faults, rule_tree_faults, rules_faults, group_faults, group_tree_faults, names_faults, groups_faults, file_faults, faults}
+use Rattle.lf_rules.specs.reading.Files as reading
 use Rattle.lf_rules.proofs.Folded.{pairs_back, trees_back}
 
 pub scalar_tree : (of : Scalar) → tree (Node.Scalar of) ≡ leaf (value of)

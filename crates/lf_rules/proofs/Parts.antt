@@ -12,7 +12,7 @@ use Rattle.lf_base.specs.Names.{Bytes, is_label_name, metric}
 use Rattle.lf_rules.specs.Mappings.{Pairing, pairs, place, given}
 use Rattle.lf_rules.specs.Breaches.{IsNoScalar, IsNoMapping, NoScalarAt, WrongTextAt, UnknownIn, SettingsBreak, settings_are_no_mapping, key_is_no_label, label_sets_the_name, setting_is_no_scalar}
 use Rattle.lf_base.specs.Faults.{fault}
-use Rattle.lf_rules.specs.Reading.{scalar_faults, text_faults, unknown_faults, value_faults, is_setting_name, setting_faults, settings_faults}
+use Rattle.lf_rules.specs.reading.Files.{scalar_faults, text_faults, unknown_faults, value_faults, is_setting_name, setting_faults, settings_faults}
 use Rattle.lf_laws.proofs.Members.{here, none_in, only_one, in_flat_map, of_flat_map, any_in, any_out, same_true, true_same}
 use Rattle.lf_laws.proofs.Booleans.{not_true}
 use Rattle.std.proofs.lemmas.List.Elements.{Contains-append_left, Contains-append_right, Contains-append_cases}

@@ -7,7 +7,7 @@ use Rattle.lf_base.specs.Names.{Bytes}
 use Rattle.lf_rules.specs.Mappings.{Pairing, pairs, trees, given, entry_at}
 use Rattle.lf_rules.specs.Sources.{Source, Setting}
 use Rattle.lf_rules.specs.Rules.{Sets, AreSettings, IsRecord, IsAlert, IsRule, IsRuleTree, AreRules, IsGroupTree, AreGroups, AreFileGroups, IsRules}
-use Rattle.lf_rules.specs.Reading.{faults, sources, entries_of, items_of, rules_of, IsLeaf, IsFilled, IsNamed, AreLeaves, SetsLeaves, IsReadable, AreReadable, AreReadableGroups}
+use Rattle.lf_rules.specs.reading.Files.{faults, sources, entries_of, items_of, rules_of, IsLeaf, IsFilled, IsNamed, AreLeaves, SetsLeaves, IsReadable, AreReadable, AreReadableGroups}
 use Rattle.lf_rules.proofs.FileReadings.{file_stands}
 use Rattle.lf_rules.proofs.Times.{time_decides, limit_decides}
 

@@ -11,7 +11,7 @@ use Rattle.lf_base.specs.Names.{Bytes, is_metric_name}
 use Rattle.lf_rules.specs.Mappings.{Pairing, given, given_entry}
 use Rattle.lf_rules.specs.Sources.{Source, Setting}
 use Rattle.lf_rules.specs.Rules.{IsText, AreSettings, SetsNoName, IsRecord, IsAlert, IsRule, rule_keys}
-use Rattle.lf_rules.specs.Reading.{is_time, text_faults, scalar_faults, unknown_faults, missing_faults, settings_faults, records_first, kind_faults, misplaced, alert_faults, rule_parts, rule_faults, text_of, settings_of, name_text, is_alert, rule_source}
+use Rattle.lf_rules.specs.reading.Files.{is_time, text_faults, scalar_faults, unknown_faults, missing_faults, settings_faults, records_first, kind_faults, misplaced, alert_faults, rule_parts, rule_faults, text_of, settings_of, name_text, is_alert, rule_source}
 use Rattle.lf_rules.proofs.Parts.{Decides}
 use Rattle.lf_rules.proofs.RuleParts.{record_key, alert_key, not_given, none_given, some_given, is_given}
 use Rattle.lf_rules.proofs.Stands.{both_empty, empty_both, part_is_empty, parts_are_empty, text_stands, text_clean, text_is_scalar, scalar_stands, scalar_clean, text_of_leaf, keys_stand, keys_clean, settings_stand, settings_clean}

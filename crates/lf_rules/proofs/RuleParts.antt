@@ -13,9 +13,9 @@ use Rattle.lf_rules.specs.Rules.{rule_keys, alert_keys}
 use Rattle.lf_rules.specs.Breaches as breach
 use Rattle.lf_rules.specs.Breaches.{at_start, scalar_keys, time_keys, StandsBefore, RuleBreaks, RuleTreeBreaks, Records}
 use Rattle.lf_base.specs.Faults.{fault}
-use Rattle.lf_rules.specs.Reading.{is_time, records_first, kind_faults, misplaced, alert_faults, rule_parts, rule_faults, rule_tree_faults, text_faults, scalar_faults, missing_faults, unknown_faults, settings_faults}
+use Rattle.lf_rules.specs.reading.Files.{is_time, records_first, kind_faults, misplaced, alert_faults, rule_parts, rule_faults, rule_tree_faults, text_faults, scalar_faults, missing_faults, unknown_faults, settings_faults}
 use Rattle.lf_laws.proofs.Members.{here, behind, none_in, only_one, first_or_behind, true_same, same_true, other_false, any_out, in_flat_map, of_flat_map, each_member}
-use Rattle.lf_laws.proofs.Booleans.{or_right}
+use Rattle.std.proofs.lemmas.Bool.{or_right}
 use Rattle.lf_rules.proofs.Parts.{Decides, either, scalar_out, scalar_in, text_out, text_in_kind, text_in_text, unknown_out, unknown_in, settings_out, settings_in, scalar_is_no_mapping, list_is_no_mapping}
 use Rattle.std.proofs.lemmas.List.Elements.{Contains-append_left, Contains-append_right}
 

@@ -223,12 +223,14 @@ module _ (n : ℕ) where
   sources_inside (sequence items s) rs h z = absurd z
   sources_inside (mapping es s) rs h z = file_inside (given (codes "groups") (pairs es)) rs (given_inside (pairs es) (pairs_inside es h.2) (codes "groups")) z.2
 
--- ---- the clause of a reader
+-- ---- the clauses of a reader
 
 module _ {X : Type 0} (view : X → List Source) (t : Tree) where
-  found_inside : (n : ℕ) → Inside n t → (r : Result X Refusal) → Found view (IsRules t) r → IfOk r (λ x. SourcesInside n (view x))
-  found_inside n h (Ok x) i = sources_inside n t (view x) h i
-  found_inside n h (Err e) i = tt
+  -- the scalars of what is answered lie in the source
+  pub found_inside : (r : Result X Refusal) → Found view (IsRules t) r → (n : ℕ) → n < 4294967296 → Inside n t → IfOk r (λ x. SourcesInside n (view x))
+  found_inside (Ok x) i n few h = sources_inside n t (view x) h i
+  found_inside (Err e) i n few h = tt
 
-  pub all_inside : (r : Result X Refusal) → Found view (IsRules t) r → Refused (FirstBreak t) r → (n : ℕ) → n < 4294967296 → Inside n t → IfOk r (λ x. SourcesInside n (view x)) × RefusedIn n r
-  all_inside r found refused n few h = (found_inside n h r found, refused_in n (FirstBreak t) (λ f b. breach_lies n few t h f b.0) r refused)
+  -- and so does the span of a refusal
+  pub refused_inside : (r : Result X Refusal) → Refused (FirstBreak t) r → (n : ℕ) → n < 4294967296 → Inside n t → RefusedIn n r
+  refused_inside r refused n few h = refused_in n (FirstBreak t) (λ f b. breach_lies n few t h f b.0) r refused

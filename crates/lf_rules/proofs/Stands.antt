@@ -12,7 +12,7 @@ use Rattle.lf_rules.specs.Mappings.{Pairing, pairs}
 use Rattle.lf_rules.specs.Sources.{Setting}
 use Rattle.lf_rules.specs.Rules.{HasOnly, IsText, Sets, AreSettings, SetsNoName}
 use Rattle.lf_base.specs.Faults.{fault}
-use Rattle.lf_rules.specs.Reading.{joined, text_faults, scalar_faults, unknown_faults, value_faults, is_setting_name, setting_faults, settings_faults, settings_of, leaf_of, text_of}
+use Rattle.lf_rules.specs.reading.Files.{joined, text_faults, scalar_faults, unknown_faults, value_faults, is_setting_name, setting_faults, settings_faults, settings_of, leaf_of, text_of}
 use Rattle.lf_laws.proofs.Members.{here, behind, none_in, first_or_behind, any_in, any_out, same_true, true_same}
 use Rattle.lf_laws.proofs.Booleans.{and_left, and_right}
 use Rattle.lf_rules.proofs.Parts.{Decides}

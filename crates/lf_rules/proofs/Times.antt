@@ -9,8 +9,9 @@ use Rattle.lf_lex.proofs.DurationLaws.{ordered, only_ordered}
 use Rattle.lf_lex.proofs.WholeDurations.{duration_some}
 use Rattle.lf_rules.specs.Texts.{IsTime, IsLimit}
 use Rattle.lf_base.specs.Names.{Bytes, is_digit}
-use Rattle.lf_rules.specs.Reading.{is_in_order, is_duration, is_time, is_limit}
-use Rattle.lf_laws.proofs.Booleans.{or_cases, or_right, and_left, and_right}
+use Rattle.lf_rules.specs.reading.Files.{is_in_order, is_duration, is_time, is_limit}
+use Rattle.std.proofs.lemmas.Bool.{or_cases, or_right}
+use Rattle.lf_laws.proofs.Booleans.{and_left, and_right}
 use Rattle.lf_laws.proofs.Members.{same_true, true_same}
 use Rattle.lf_rules.proofs.Parts.{Decides}
 

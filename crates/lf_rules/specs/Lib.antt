@@ -3,4 +3,4 @@ pub mod Mappings
 pub mod Sources
 pub mod Rules
 pub mod Breaches
-pub mod Reading
+pub mod reading

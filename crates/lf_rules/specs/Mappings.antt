@@ -23,7 +23,7 @@ place (leaf v) = v.span
 place (sequence is span) = span
 place (mapping es span) = span
 
--- a scalar without a text: nothing, `null`, `~` or quotes with nothing between them
+-- a scalar without a text: nothing, a word that is null, or quotes with nothing between them
 abbrev pub is_empty : Tree → Bool
 is_empty (leaf v) = bytes_eq v.text []
 is_empty (sequence is span) = false

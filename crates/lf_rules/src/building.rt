@@ -2,7 +2,7 @@
 ghost use Rattle.std.specs.Prelude.{◌≡◌, ◌++◌, suc, [], Some, map, option_map, codes, IfOk, OnOk};
 ghost use Rattle.lf_yaml.specs.Tree.{tree, pair, value};
 ghost use Rattle.lf_rules.specs.Mappings as mappings;
-ghost use Rattle.lf_rules.specs.Reading as reading;
+ghost use Rattle.lf_rules.specs.reading.Files as reading;
 ghost use Rattle.lf_rules.specs.Sources as sources;
 
 use crate::entries::{entries_of, given, items_of};
@@ -136,7 +136,7 @@ fn push_rules(
 }
 
 /// Appends the rules of all groups, which are numbered from 0. There is no memory for so many groups that their numbers don't fit.
-#[tactic(auto, unfolding(crate::specs::Reading::groups_sources))]
+#[tactic(auto, unfolding(crate::specs::reading::Files::groups_sources))]
 fn push_groups(rules: &mut Seq<RuleSource>, alloc: Global, groups: &[Node]) -> Result<(), Memory>
     requires { reading.AreReadableGroups (map tree groups.now) }
     ensures { OnOk result (map sources.source rules.new ≡ map sources.source rules.old ++ reading.groups_sources 0 (map tree groups.now)) }

@@ -2,7 +2,7 @@
 ghost use Rattle.std.specs.Prelude.{◌≡◌, Some, map, option_map};
 ghost use Rattle.lf_yaml.specs.Tree.{tree, pair, value};
 ghost use Rattle.lf_rules.specs.Mappings as mappings;
-ghost use Rattle.lf_rules.specs.Reading as reading;
+ghost use Rattle.lf_rules.specs.reading.Files as reading;
 
 use lf_base::Span;
 use lf_scalar::Scalar;
@@ -49,7 +49,7 @@ pub fn given<'a>(entries: &'a [Entry], key: &str) -> Option<&'a Node>
     }
 }
 
-/// Whether a node is a scalar without a text: nothing, `null`, `~` or quotes with nothing between them.
+/// Whether a node is a scalar without a text: nothing, a word that is null, or quotes with nothing between them.
 pub fn is_empty(node: &Node) -> bool
     ensures { result ≡ mappings.is_empty (tree node.now) }
 {

@@ -5,8 +5,8 @@ ghost use Rattle.std.specs.Str.{bytes_eq};
 ghost use Rattle.lf_yaml.specs.Tree.{tree, pair};
 ghost use Rattle.lf_base.specs.Faults.{fault};
 ghost use Rattle.lf_rules.specs.Breaches.{at_start};
-ghost use Rattle.lf_rules.specs.Reading as reading;
-ghost use Rattle.lf_rules.specs.Reading.{least_from};
+ghost use Rattle.lf_rules.specs.reading.Files as reading;
+ghost use Rattle.lf_rules.specs.reading.Files.{least_from};
 
 use crate::texts::{is_limit, is_metric, is_time};
 use lf_base::names::{is_label_name, is_metric_name};
@@ -70,7 +70,7 @@ pub fn note_at_start(first: &mut Option<Fault>, kind: Kind, span: Span)
 }
 
 /// A value that is there has to be a scalar.
-#[tactic(auto, unfolding(crate::specs::Reading::least_from))]
+#[tactic(auto, unfolding(crate::specs::reading::Files::least_from))]
 pub fn judge_scalar(first: &mut Option<Fault>, node: Option<&Node>)
     ensures { first.new ≡ least_from first.old (reading.scalar_faults (option_map (λ t. tree t.now) node.entry)) }
 {
@@ -83,7 +83,7 @@ pub fn judge_scalar(first: &mut Option<Fault>, node: Option<&Node>)
 }
 
 /// A value that is there has to be a scalar with such a text.
-#[tactic(auto, unfolding(crate::specs::Reading::least_from))]
+#[tactic(auto, unfolding(crate::specs::reading::Files::least_from))]
 pub fn judge_text(first: &mut Option<Fault>, wanted: Wanted, node: Option<&Node>)
     ensures { first.new ≡ least_from first.old (reading.text_faults (reading.test_of wanted) (reading.kind_of wanted) (option_map (λ t. tree t.now) node.entry)) }
 {
@@ -100,7 +100,7 @@ pub fn judge_text(first: &mut Option<Fault>, wanted: Wanted, node: Option<&Node>
 }
 
 /// A key that must be there.
-#[tactic(auto, unfolding(crate::specs::Reading::least_from))]
+#[tactic(auto, unfolding(crate::specs::reading::Files::least_from))]
 pub fn judge_missing(first: &mut Option<Fault>, span: Span, found: Option<&Entry>)
     ensures { first.new ≡ least_from first.old (reading.missing_faults span (option_map (λ e. pair e.now) found.entry)) }
 {
@@ -144,7 +144,7 @@ fn is_known(level: Level, key: &str) -> bool
 }
 
 /// A key has to be one of those that are known.
-#[tactic(auto, unfolding(crate::specs::Reading::least_from))]
+#[tactic(auto, unfolding(crate::specs::reading::Files::least_from))]
 fn judge_key(first: &mut Option<Fault>, level: Level, entry: &Entry)
     ensures { first.new ≡ least_from first.old (reading.unknown_faults (reading.keys_of level) (pair entry.now)) }
 {
@@ -154,7 +154,7 @@ fn judge_key(first: &mut Option<Fault>, level: Level, entry: &Entry)
 }
 
 /// Each key has to be one of those that are known.
-#[tactic(auto, unfolding(crate::specs::Reading::least_from), using(crate::proofs::Folded::least_flat))]
+#[tactic(auto, unfolding(crate::specs::reading::Files::least_from), using(crate::proofs::Folded::least_flat))]
 pub fn judge_keys(first: &mut Option<Fault>, level: Level, entries: &[Entry])
     ensures { first.new ≡ least_from first.old (flat_map (reading.unknown_faults (reading.keys_of level)) (map pair entries.now)) }
 {
@@ -166,7 +166,7 @@ pub fn judge_keys(first: &mut Option<Fault>, level: Level, entries: &[Entry])
 }
 
 /// A label or an annotation: its key has to be a label name, and its value a scalar.
-#[tactic(auto, unfolding(crate::specs::Reading::least_from))]
+#[tactic(auto, unfolding(crate::specs::reading::Files::least_from))]
 fn judge_setting(first: &mut Option<Fault>, is_labels: bool, entry: &Entry)
     ensures { first.new ≡ least_from first.old (reading.setting_faults is_labels (pair entry.now)) }
 {
@@ -178,7 +178,7 @@ fn judge_setting(first: &mut Option<Fault>, is_labels: bool, entry: &Entry)
 }
 
 /// Labels or annotations, where they are there: a mapping of such.
-#[tactic(auto, unfolding(crate::specs::Reading::least_from))]
+#[tactic(auto, unfolding(crate::specs::reading::Files::least_from))]
 pub fn judge_settings(first: &mut Option<Fault>, is_labels: bool, node: Option<&Node>)
     ensures { first.new ≡ least_from first.old (reading.settings_faults is_labels (option_map (λ t. tree t.now) node.entry)) }
 {
@@ -188,7 +188,7 @@ pub fn judge_settings(first: &mut Option<Fault>, is_labels: bool, node: Option<&
     }
 }
 
-#[tactic(auto, unfolding(crate::specs::Reading::least_from), using(crate::proofs::Nodes::settings_map))]
+#[tactic(auto, unfolding(crate::specs::reading::Files::least_from), using(crate::proofs::Nodes::settings_map))]
 fn judge_mapping(first: &mut Option<Fault>, is_labels: bool, node: &Node)
     ensures { first.new ≡ least_from first.old (reading.settings_faults is_labels (Some (tree node.now))) }
 {
@@ -199,7 +199,7 @@ fn judge_mapping(first: &mut Option<Fault>, is_labels: bool, node: &Node)
     }
 }
 
-#[tactic(auto, unfolding(crate::specs::Reading::least_from), using(crate::proofs::Folded::least_flat))]
+#[tactic(auto, unfolding(crate::specs::reading::Files::least_from), using(crate::proofs::Folded::least_flat))]
 fn judge_each_setting(first: &mut Option<Fault>, is_labels: bool, entries: &[Entry])
     ensures { first.new ≡ least_from first.old (flat_map (reading.setting_faults is_labels) (map pair entries.now)) }
 {

@@ -3,9 +3,9 @@ ghost use Rattle.std.specs.Prelude.{◌≡◌, ◌++◌, ℕ, List, [], Some, ma
 ghost use Rattle.std.specs.List.{flat_map};
 ghost use Rattle.std.specs.Str.{bytes_eq};
 ghost use Rattle.lf_yaml.specs.Tree.{tree, pair, value};
-ghost use Rattle.lf_base.specs.NameSets.{HasNames};
-ghost use Rattle.lf_rules.specs.Reading as reading;
-ghost use Rattle.lf_rules.specs.Reading.{least_from, least_each};
+ghost use Rattle.lf_base.specs.views.NameSets.{HasNames};
+ghost use Rattle.lf_rules.specs.reading.Files as reading;
+ghost use Rattle.lf_rules.specs.reading.Files.{least_from, least_each};
 
 use crate::entries::{entries_of, entry_at, given, given_entry, scalar_of};
 use crate::judging::{Level, Wanted, judge_keys, judge_missing, judge_scalar, judge_text, note};
@@ -43,7 +43,7 @@ fn judge_group(first: &mut Option<Fault>, span: Span, entries: &[Entry])
 }
 
 /// A group is a mapping.
-#[tactic(auto, unfolding(crate::specs::Reading::least_from), using(crate::proofs::Nodes::group_map))]
+#[tactic(auto, unfolding(crate::specs::reading::Files::least_from), using(crate::proofs::Nodes::group_map))]
 fn judge_group_node(first: &mut Option<Fault>, node: &Node)
     ensures { first.new ≡ least_from first.old (reading.group_tree_faults (tree node.now)) }
 {
@@ -55,7 +55,7 @@ fn judge_group_node(first: &mut Option<Fault>, node: &Node)
 }
 
 /// The groups of a list, one by one.
-#[tactic(auto, unfolding(crate::specs::Reading::least_from), using(crate::proofs::Folded::least_flat))]
+#[tactic(auto, unfolding(crate::specs::reading::Files::least_from), using(crate::proofs::Folded::least_flat))]
 fn judge_each_group(first: &mut Option<Fault>, groups: &[Node])
     ensures { first.new ≡ least_from first.old (flat_map reading.group_tree_faults (map tree groups.now)) }
 {
@@ -117,7 +117,7 @@ fn judge_group_list(first: &mut Option<Fault>, alloc: Global, groups: &[Node]) -
 }
 
 /// The value of `groups`: a list of groups.
-#[tactic(auto, unfolding(crate::specs::Reading::least_from), using(crate::proofs::Nodes::groups_list))]
+#[tactic(auto, unfolding(crate::specs::reading::Files::least_from), using(crate::proofs::Nodes::groups_list))]
 fn judge_groups_node(first: &mut Option<Fault>, alloc: Global, node: &Node) -> Result<(), Memory>
     ensures { OnOk result (first.new ≡ least_from first.old (reading.groups_faults (Some (tree node.now)))) }
 {
@@ -135,7 +135,7 @@ fn judge_groups_node(first: &mut Option<Fault>, alloc: Global, node: &Node) -> R
 }
 
 /// The same, where it is there.
-#[tactic(auto, unfolding(crate::specs::Reading::least_from))]
+#[tactic(auto, unfolding(crate::specs::reading::Files::least_from))]
 fn judge_groups(first: &mut Option<Fault>, alloc: Global, node: Option<&Node>) -> Result<(), Memory>
     ensures { OnOk result (first.new ≡ least_from first.old (reading.groups_faults (option_map (λ t. tree t.now) node.entry))) }
 {
@@ -153,7 +153,7 @@ fn is_nothing(of: &Scalar) -> bool
 }
 
 /// A scalar as a whole file: it has no text.
-#[tactic(auto, unfolding(crate::specs::Reading::least_from))]
+#[tactic(auto, unfolding(crate::specs::reading::Files::least_from))]
 fn judge_root(first: &mut Option<Fault>, of: &Scalar)
     ensures { first.new ≡ least_from first.old (reading.root_faults (value of.now)) }
 {
@@ -178,7 +178,7 @@ fn judge_file_entries(
 }
 
 /// A file: nothing, or a mapping.
-#[tactic(auto, unfolding(crate::specs::Reading::least_from), using(crate::proofs::Nodes::file_map))]
+#[tactic(auto, unfolding(crate::specs::reading::Files::least_from), using(crate::proofs::Nodes::file_map))]
 pub fn judge_file(first: &mut Option<Fault>, alloc: Global, node: &Node) -> Result<(), Memory>
     ensures { OnOk result (first.new ≡ least_from first.old (reading.faults (tree node.now))) }
 {

@@ -3,8 +3,8 @@ ghost use Rattle.std.specs.Prelude.{◌≡◌, [], ◌∷◌, ◌++◌, Some, ma
 ghost use Rattle.std.specs.List.{flat_map};
 ghost use Rattle.lf_yaml.specs.Tree.{tree, pair};
 ghost use Rattle.lf_rules.specs.Mappings.{given_entry as given_at};
-ghost use Rattle.lf_rules.specs.Reading as reading;
-ghost use Rattle.lf_rules.specs.Reading.{least_from, least_each};
+ghost use Rattle.lf_rules.specs.reading.Files as reading;
+ghost use Rattle.lf_rules.specs.reading.Files.{least_from, least_each};
 
 use crate::entries::{given, given_entry};
 use crate::judging::{
@@ -15,7 +15,7 @@ use lf_base::{Fault, Kind, Span};
 use lf_yaml::{Entry, Node};
 
 /// Whether of the keys `record` and `alert` the first entry is `record`.
-#[tactic(auto, unfolding(crate::specs::Reading::records_first))]
+#[tactic(auto, unfolding(crate::specs::reading::Files::records_first))]
 fn records_first(entries: &[Entry]) -> bool
     ensures { result ≡ reading.records_first (map pair entries.now) }
 {
@@ -34,7 +34,7 @@ fn records_first(entries: &[Entry]) -> bool
 }
 
 /// A rule has one of `record` and `alert`.
-#[tactic(auto, unfolding(crate::specs::Reading::least_from))]
+#[tactic(auto, unfolding(crate::specs::reading::Files::least_from))]
 fn judge_kind(
     first: &mut Option<Fault>,
     span: Span,
@@ -60,7 +60,7 @@ fn judge_kind(
 }
 
 /// A key that only alerts have.
-#[tactic(auto, unfolding(crate::specs::Reading::least_from))]
+#[tactic(auto, unfolding(crate::specs::reading::Files::least_from))]
 fn judge_misplaced(first: &mut Option<Fault>, found: Option<&Entry>)
     ensures { first.new ≡ least_from first.old (reading.misplaced (option_map (λ e. pair e.now) found.entry)) }
 {
@@ -79,7 +79,7 @@ fn judge_all_misplaced(first: &mut Option<Fault>, entries: &[Entry])
 }
 
 /// A rule that records, and isn't an alert too, has none of an alert's keys.
-#[tactic(auto, unfolding(crate::specs::Reading::least_from))]
+#[tactic(auto, unfolding(crate::specs::reading::Files::least_from))]
 fn judge_alert_keys(
     first: &mut Option<Fault>,
     recorded: Option<&Entry>,
@@ -138,7 +138,7 @@ fn judge_rule(first: &mut Option<Fault>, span: Span, entries: &[Entry])
 }
 
 /// A rule is a mapping.
-#[tactic(auto, unfolding(crate::specs::Reading::least_from), using(crate::proofs::Nodes::rule_map))]
+#[tactic(auto, unfolding(crate::specs::reading::Files::least_from), using(crate::proofs::Nodes::rule_map))]
 fn judge_rule_node(first: &mut Option<Fault>, node: &Node)
     ensures { first.new ≡ least_from first.old (reading.rule_tree_faults (tree node.now)) }
 {
@@ -150,7 +150,7 @@ fn judge_rule_node(first: &mut Option<Fault>, node: &Node)
 }
 
 /// The rules of a list, one by one.
-#[tactic(auto, unfolding(crate::specs::Reading::least_from), using(crate::proofs::Folded::least_flat))]
+#[tactic(auto, unfolding(crate::specs::reading::Files::least_from), using(crate::proofs::Folded::least_flat))]
 fn judge_each_rule(first: &mut Option<Fault>, nodes: &[Node])
     ensures { first.new ≡ least_from first.old (flat_map reading.rule_tree_faults (map tree nodes.now)) }
 {
@@ -161,7 +161,7 @@ fn judge_each_rule(first: &mut Option<Fault>, nodes: &[Node])
     }
 }
 
-#[tactic(auto, unfolding(crate::specs::Reading::least_from), using(crate::proofs::Nodes::rules_list))]
+#[tactic(auto, unfolding(crate::specs::reading::Files::least_from), using(crate::proofs::Nodes::rules_list))]
 fn judge_rules_node(first: &mut Option<Fault>, node: &Node)
     ensures { first.new ≡ least_from first.old (reading.rules_faults (Some (tree node.now))) }
 {
@@ -173,7 +173,7 @@ fn judge_rules_node(first: &mut Option<Fault>, node: &Node)
 }
 
 /// The rules of a group, where they are there: a list of rules.
-#[tactic(auto, unfolding(crate::specs::Reading::least_from))]
+#[tactic(auto, unfolding(crate::specs::reading::Files::least_from))]
 pub fn judge_rules(first: &mut Option<Fault>, node: Option<&Node>)
     ensures { first.new ≡ least_from first.old (reading.rules_faults (option_map (λ t. tree t.now) node.entry)) }
 {

@@ -8,8 +8,6 @@ mod judging_groups;
 mod judging_rules;
 mod reading;
 mod source;
-#[cfg(test)]
-mod tests;
 mod texts;
 mod uniqueness;
 

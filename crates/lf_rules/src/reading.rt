@@ -1,11 +1,11 @@
 //! The rules of a file, or the first breach of what a rule file may say.
 ghost use Rattle.std.specs.Prelude.{ℕ, ◌<◌, ◌^◌, map, IfOk, IsErr};
 ghost use Rattle.lf_base.specs.declared.fault.Fault.{Fault};
-ghost use Rattle.lf_base.specs.Answers.{Found, Only, Refused, Breach, RefusedIn, Gives};
+ghost use Rattle.lf_base.specs.Answers.{Found, Only, Refused, Breach, RefusedIn, AnswersAs};
 ghost use Rattle.lf_yaml.specs.Tree.{tree};
 ghost use Rattle.lf_yaml.specs.Insides.{Inside};
 ghost use Rattle.lf_rules.specs.Breaches.{Breaks, FirstBreak};
-ghost use Rattle.lf_rules.specs.Reading as reading;
+ghost use Rattle.lf_rules.specs.reading.Files as reading;
 ghost use Rattle.lf_rules.specs.Rules.{IsRules};
 ghost use Rattle.lf_rules.specs.Sources.{source, SourcesInside};
 
@@ -39,15 +39,17 @@ pub fn read_rules(alloc: Global, file: &Node) -> Result<Seq<RuleSource>, Refusal
     ensures told { Breach (map source) (FirstBreak (tree file.now)) result }
     // A tree with a breach is refused, unless memory runs out.
     ensures breach { (fault : Fault) → Breaks (tree file.now) fault → IsErr result }
-    // Where the tree lies in a file of n bytes, so do the scalars of the rules, and the span of a refusal.
-    ensures inside { (n : ℕ) → n < 2 ^ 32 → Inside n (tree file.now) → IfOk result (λ rules. SourcesInside n (map source rules)) × RefusedIn n result }
+    // Where the tree lies in a file of n bytes, so do the scalars of the rules.
+    ensures inside { (n : ℕ) → n < 2 ^ 32 → Inside n (tree file.now) → IfOk result (λ rules. SourcesInside n (map source rules)) }
+    // So does the span of a refusal.
+    ensures refused_inside { (n : ℕ) → n < 2 ^ 32 → Inside n (tree file.now) → RefusedIn n result }
 {
     read(alloc, file)
 }
 
 /// The same, by the way of reading.
 fn read(alloc: Global, file: &Node) -> Result<Seq<RuleSource>, Refusal>
-    ensures { Gives (map source) result (reading.reading (tree file.now)) }
+    ensures { AnswersAs (map source) result (reading.reading (tree file.now)) }
 {
     let mut first = None;
     judge_file(&mut first, alloc, file)?;

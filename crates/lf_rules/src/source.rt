@@ -3,10 +3,12 @@
 use lf_base::Seq;
 use lf_scalar::Scalar;
 
-/// A key of a mapping, and its text.
+/// A label or an annotation that a rule sets.
 #[derive(Debug, Drop)]
 pub struct Pair {
+    /// Its name.
     pub key: Scalar,
+    /// Its text.
     pub value: Scalar,
 }
 

@@ -1,22 +1,14 @@
 //! The texts that the keys of a rule file take.
 ghost use Rattle.std.specs.Prelude.{◌≡◌};
-ghost use Rattle.std.specs.List.{list_all};
 ghost use Rattle.std.specs.Str.{bytes_eq};
 ghost use Rattle.lf_base.specs.Names as names;
-ghost use Rattle.lf_rules.specs.Reading as reading;
+ghost use Rattle.lf_rules.specs.reading.Files as reading;
 
-use lf_base::names::is_digit;
+use lf_base::names::are_digits;
 use lf_lex::is_duration;
 
 /// The label that holds the metric name.
 const METRIC: &str = "__name__";
-
-/// Whether each byte is a digit.
-fn are_digits(bytes: &[u8]) -> bool
-    ensures { result ≡ list_all names.is_digit bytes.now }
-{
-    bytes.iter().all(|byte| is_digit(*byte))
-}
 
 /// Whether a text is a length of time: a duration, or a single `0`.
 #[tactic(auto, using(crate::proofs::Times::time_decides))]

@@ -7,7 +7,7 @@ use Rattle.lf_scalar.specs.Cells.{Cell, cell}
 use Rattle.lf_scalar.specs.Lines.{Line}
 use Rattle.lf_scalar.specs.Folding.{trimmed}
 use Rattle.lf_scalar.specs.Block.{EndsFull, AreEmpty, breaks, chomped, joined, Stretch, IsStretch, whole, folded, IsFolded, IsJoined, IsBlockText}
-use Rattle.lf_scalar.specs.BlockReading.{is_empty_text, is_empty, empties, between_of, stretch_of, folded_of, block_text}
+use Rattle.lf_scalar.specs.reading.Block.{is_empty_text, is_empty, empties, between_of, stretch_of, folded_of, block_text}
 use Rattle.lf_scalar.proofs.Tails.{true-false}
 
 by-test : (b : Bool) → (b ≡ true) ⊎ (b ≡ false)

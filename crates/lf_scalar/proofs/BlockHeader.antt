@@ -7,8 +7,8 @@ use Rattle.lf_scalar.specs.declared.block.Chomp.TheVariants.{Strip, Clip, Keep}
 use Rattle.lf_scalar.specs.Cells.{Cell}
 use Rattle.lf_scalar.specs.Lines.{is_blank, is_tail}
 use Rattle.lf_scalar.specs.Block.{IsChomp, IsDigit, AreMarks, IsHeader, WrongIn}
-use Rattle.lf_scalar.specs.QuotedReading.{wrong_behind}
-use Rattle.lf_scalar.specs.BlockReading.{chomp_of, mark_digit, chomp_or, Header, ends_header, once, header_from}
+use Rattle.lf_scalar.specs.reading.Quoted.{wrong_behind}
+use Rattle.lf_scalar.specs.reading.Block.{chomp_of, mark_digit, chomp_or, Header, ends_header, once, header_from}
 use Rattle.lf_scalar.proofs.Tails.{true-false, tail-told, told-tail, wrong-told, told-wrong}
 
 -- ---- what a cell is

@@ -6,7 +6,7 @@ use Rattle.lf_base.specs.Faults.{span}
 use Rattle.lf_scalar.specs.Cells.{Cell, Value, made, end_of}
 use Rattle.lf_scalar.specs.Lines.{Line}
 use Rattle.lf_scalar.specs.Block.{content_indent, body_of, Headed, IsBlock, BreaksBlock}
-use Rattle.lf_scalar.specs.BlockReading.{Header, header_from, block_text, block_value, block_read, block_lines, block_of}
+use Rattle.lf_scalar.specs.reading.Block.{Header, header_from, block_text, block_value, block_read, block_lines, block_of}
 use Rattle.lf_scalar.proofs.BlockBody.{Joining, text-again, text-told}
 use Rattle.lf_scalar.proofs.BlockHeader.{header-again, header-told, wrong-again, wrong-found}
 

@@ -6,8 +6,8 @@ use Rattle.lf_base.specs.declared.kind.Kind.TheVariants.{BadHeader}
 use Rattle.lf_base.specs.declared.refusal.Refusal.{Refusal}
 use Rattle.lf_scalar.specs.declared.block.Chomp.{Chomp}
 use Rattle.lf_scalar.specs.declared.block.Chomp.TheVariants.{Strip, Clip, Keep}
-use Rattle.lf_scalar.specs.declared.block.Joining.{Joining}
-use Rattle.lf_scalar.specs.declared.block.Joining.TheVariants as joining_of
+use Rattle.lf_scalar.specs.declared.joined.Joining.{Joining}
+use Rattle.lf_scalar.specs.declared.joined.Joining.TheVariants as joining_of
 use Rattle.lf_scalar.specs.declared.body.Body.{Body}
 use Rattle.lf_scalar.specs.declared.header.Header.{Header}
 use Rattle.lf_base.specs.Faults.{span}
@@ -16,9 +16,9 @@ use Rattle.lf_scalar.specs.Lines.{Line, line, lines, lines_at, first_text}
 use Rattle.lf_scalar.specs.Folding.{trimmed}
 use Rattle.lf_scalar.specs.Block.{breaks, last_break, content_indent, body_of, chomped}
 use Rattle.lf_scalar.specs.Scalars.{begins}
-use Rattle.lf_scalar.specs.BlockReading.{is_empty, empties, block_text, block_read, block_lines, block_of, header_from}
-use Rattle.lf_scalar.specs.BodyReading.{joins_of, style_of, contents, break_of, chomped_behind, header_told, IsBody}
-use Rattle.lf_scalar.specs.Drafted.{refused}
+use Rattle.lf_scalar.specs.reading.Block.{is_empty, empties, block_text, block_read, block_lines, block_of, header_from}
+use Rattle.lf_scalar.specs.reading.Body.{joins_of, style_of, contents, break_of, chomped_behind, header_told, IsBody}
+use Rattle.lf_scalar.specs.views.Built.{refused}
 use Rattle.lf_scalar.proofs.Tails.{true-false}
 
 -- ---- the text of a body
@@ -94,12 +94,12 @@ module _ (joining : Joining) (above at : ℕ) (rest : List ℕ) (text feed : ℕ
   block-wrong wrong refusal told e =
       rw e (block-is ∙ ap (block_read (joins_of joining) above (at + length rest) (cell (get_or (take text rest) 0 0) at) (lines_at (at + (feed + 1)) (drop (feed + 1) rest))) (sym told))
 
-  pub block-right : (h : Header) (draft : List Cell) (end : ℕ) → header_told (at + 1) (drop 1 (take text rest)) (Ok h) ≡ header_from None None (cells (at + 1) (drop 1 (take text rest)))
-      → draft ≡ [] ++ block_text (joins_of joining) h.chomp (body_of (content_indent above h.digit (lines_at (at + (feed + 1)) (drop (feed + 1) rest))) (lines_at (at + (feed + 1)) (drop (feed + 1) rest)))
-      → end ≡ min (end_of (at + 1) draft) (at + length rest)
-      → block_of (joins_of joining) above (at + length rest) (cells at rest) ≡ Ok (made draft end (span at end))
-  block-right h draft end told d e =
+  pub block-right : (h : Header) (builder : List Cell) (end : ℕ) → header_told (at + 1) (drop 1 (take text rest)) (Ok h) ≡ header_from None None (cells (at + 1) (drop 1 (take text rest)))
+      → builder ≡ [] ++ block_text (joins_of joining) h.chomp (body_of (content_indent above h.digit (lines_at (at + (feed + 1)) (drop (feed + 1) rest))) (lines_at (at + (feed + 1)) (drop (feed + 1) rest)))
+      → end ≡ min (end_of (at + 1) builder) (at + length rest)
+      → block_of (joins_of joining) above (at + length rest) (cells at rest) ≡ Ok (made builder end (span at end))
+  block-right h builder end told d e =
       block-is ∙ ap (block_read (joins_of joining) above (at + length rest) (cell (get_or (take text rest) 0 0) at) (lines_at (at + (feed + 1)) (drop (feed + 1) rest))) (sym told)
       ∙ ap (λ (v : Value). Ok v) (ap (λ (cs : List Cell). made cs (min (end_of (suc at) cs) (at + length rest)) (span at (min (end_of (suc at) cs) (at + length rest)))) (sym d)
-      ∙ ap (λ (n : ℕ). made draft (min (end_of n draft) (at + length rest)) (span at (min (end_of n draft) (at + length rest)))) (sym (add-one at))
-      ∙ ap (λ (n : ℕ). made draft n (span at n)) (sym e))
+      ∙ ap (λ (n : ℕ). made builder (min (end_of n builder) (at + length rest)) (span at (min (end_of n builder) (at + length rest)))) (sym (add-one at))
+      ∙ ap (λ (n : ℕ). made builder n (span at n)) (sym e))

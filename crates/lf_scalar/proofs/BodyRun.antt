@@ -11,8 +11,8 @@ use Rattle.lf_scalar.specs.Cells.{Cell, cell, cells}
 use Rattle.lf_scalar.specs.Lines.{Line, line, lines, lines_at, is_spaces}
 use Rattle.lf_scalar.specs.Folding.{trimmed}
 use Rattle.lf_scalar.specs.Block.{EndsFull, AreEmpty, breaks, last_break, in_body, content, body_of}
-use Rattle.lf_scalar.specs.BlockReading.{is_empty, empties}
-use Rattle.lf_scalar.specs.BodyReading.{contents, break_of, body_with, body_of_empty, IsBody, IsRole}
+use Rattle.lf_scalar.specs.reading.Block.{is_empty, empties}
+use Rattle.lf_scalar.specs.reading.Body.{contents, break_of, body_with, body_of_empty, IsBody, IsRole}
 use Rattle.lf_scalar.proofs.BlockBody.{split-again}
 use Rattle.lf_scalar.proofs.BodyLines.{cells-length}
 

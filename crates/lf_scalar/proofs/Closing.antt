@@ -7,7 +7,7 @@ use Rattle.std.proofs.lemmas.Bool.{ne_eqb}
 use Rattle.std.proofs.lemmas.Bool.Decides.{eqb_tells}
 use Rattle.lf_scalar.specs.Cells.{Cell}
 use Rattle.lf_scalar.specs.Quoted.{Quotes, Single, Double, quote_of, digit_of, Tells, Piece, Bare, Twice, Letter, Number, spelled, IsPiece, Raw, One, Pair, raw, IsRaw, ClosesBefore, Closes}
-use Rattle.lf_scalar.specs.QuotedReading.{Closing, behind, closing_of}
+use Rattle.lf_scalar.specs.reading.Quoted.{Closing, behind, closing_of}
 
 abbrev pub ahead : List Cell → Option Closing → Option Closing
 ahead cs None = None

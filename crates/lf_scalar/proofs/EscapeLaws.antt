@@ -8,7 +8,7 @@ use Rattle.std.proofs.lemmas.List.{length-take}
 use lib.Utf8.{scalar}
 use Rattle.lf_scalar.specs.Cells.{Cell, cell, cells}
 use Rattle.lf_scalar.specs.Quoted.{width_of}
-use Rattle.lf_scalar.specs.QuotedReading.{told, number_if, number_of, escape_of, as_piece, as_character, as_escape}
+use Rattle.lf_scalar.specs.reading.Quoted.{told, number_if, number_of, escape_of, as_piece, as_character, as_escape}
 
 pub length-cells : (at : ℕ) (xs : List ℕ) → length (cells at xs) ≡ length xs
 length-cells at [] = refl

@@ -8,7 +8,7 @@ use Rattle.lf_scalar.specs.Cells.{Cell, cell, cells}
 use Rattle.lf_scalar.specs.Lines.{Line, lines, first_text, begins_with, lengthen}
 use Rattle.lf_scalar.specs.Plain.{is_plain_byte, is_sign, before_blank}
 use Rattle.lf_scalar.specs.Scalars.{begins}
-use Rattle.lf_scalar.specs.BeginsReading.{first_byte_of, is_full_byte, begins_by}
+use Rattle.lf_scalar.specs.reading.Begins.{first_byte_of, is_full_byte, begins_by}
 use Rattle.lf_scalar.proofs.LineSteps.{lines-nil, lines-feed, lines-return, lines-other, line-step, IsOther}
 
 abbrev first_of : ℕ → List Cell → Option ℕ

@@ -5,9 +5,9 @@ use Rattle.std.proofs.lemmas.List.{drop_all}
 use Rattle.lf_scalar.specs.declared.block.Chomp.{Chomp}
 use Rattle.lf_scalar.specs.declared.header.Mark.TheVariants as mark
 use Rattle.lf_scalar.specs.Cells.{Cell, cell, cells}
-use Rattle.lf_scalar.specs.QuotedReading.{wrong_behind}
-use Rattle.lf_scalar.specs.BlockReading.{Header as HeaderRead, chomp_of, mark_digit, chomp_or, ends_header, once, header_from}
-use Rattle.lf_scalar.specs.BodyReading.{IsMark, header_with, header_told}
+use Rattle.lf_scalar.specs.reading.Quoted.{wrong_behind}
+use Rattle.lf_scalar.specs.reading.Block.{Header as HeaderRead, chomp_of, mark_digit, chomp_or, ends_header, once, header_from}
+use Rattle.lf_scalar.specs.reading.Body.{IsMark, header_with, header_told}
 use Rattle.lf_scalar.proofs.Cells.{cells-drop}
 
 -- the header from a place on, behind marks

@@ -8,7 +8,7 @@ use Rattle.lf_scalar.specs.declared.escapes.Given.{Given}
 use Rattle.lf_scalar.specs.Cells.{Cell, cells, byte_fault, character_fault}
 use Rattle.lf_scalar.specs.Lines.{Line}
 use Rattle.lf_scalar.specs.Quoted.{Quotes, Piece, IsBadEscape}
-use Rattle.lf_scalar.specs.QuotedReading.{piece_of, piece_at, as_piece, shown, begins_bad_escape, unindented_at}
+use Rattle.lf_scalar.specs.reading.Quoted.{piece_of, piece_at, as_piece, shown, begins_bad_escape, unindented_at}
 use Rattle.lf_scalar.proofs.Pieces.{none-stands, none-found}
 use Rattle.lf_scalar.proofs.Tails.{true-false}
 

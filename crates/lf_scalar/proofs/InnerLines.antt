@@ -6,7 +6,7 @@ use Rattle.lf_scalar.specs.Cells.{Cell}
 use Rattle.lf_scalar.specs.Lines.{Line, line, begins_with, lengthen, lines}
 use Rattle.lf_scalar.proofs.LineSteps.{IsOther, line-step, lines-nil, lines-feed, lines-return, lines-other}
 use Rattle.lf_scalar.specs.Quoted.{Quotes, Single, Double}
-use Rattle.lf_scalar.specs.QuotedReading.{Closing, behind, closing_of}
+use Rattle.lf_scalar.specs.reading.Quoted.{Closing, behind, closing_of}
 
 -- in these lines, the first of them read behind so many skipped cells, only the last has a quote that closes, and it ends with it
 abbrev pub LinesOk : Quotes → ℕ → Cell → List Line → Type 0

@@ -1,61 +1,80 @@
 -- Joining a body's lines one after the other.
-use Rattle.std.proofs.Common.{◌≡◌, ℕ, ◌+◌, ◌≤◌, false, List, [], ◌∷◌, ◌++◌, length, take, drop, Option, Some, None, refl, ap, arith, sym, ◌∙◌, append_assoc}
+use Rattle.std.proofs.Common.{◌≡◌, ℕ, ◌+◌, ◌≤◌, List, [], ◌∷◌, ◌++◌, length, take, drop, Option, Some, None, refl, ap, arith, sym, ◌∙◌, append_assoc, inl, inr, min}
 use Rattle.std.proofs.lemmas.List.{append-nil, drop_all}
+use Rattle.std.proofs.lemmas.Bool.Decides.{leb_tells}
+use Rattle.lf_scalar.specs.declared.joined.Joining.{Joining}
+use Rattle.lf_scalar.specs.declared.joined.Joining.TheVariants.{Literal, Folded}
+use Rattle.lf_scalar.specs.declared.joined.LastLine.{LastLine}
 use Rattle.lf_scalar.specs.Cells.{Cell, cell, cells}
-use Rattle.lf_scalar.specs.Lines.{Line, lines_at}
-use Rattle.lf_scalar.specs.Block.{joined, breaks, content}
-use Rattle.lf_scalar.specs.BodyReading.{contents, break_of, joined_behind}
+use Rattle.lf_scalar.specs.Lines.{Line, line, lines_at}
+use Rattle.lf_scalar.specs.Block.{joined}
+use Rattle.lf_scalar.specs.reading.Block.{folded_of}
+use Rattle.lf_scalar.specs.reading.Body.{contents, joins_of, literal_behind, joined_behind}
 use Rattle.lf_scalar.proofs.BodyLines.{cells-length}
 use Rattle.lf_scalar.proofs.BodyRun.{line_there}
 use Rattle.lf_scalar.proofs.Walk.{lines_left, left-start, left-end}
+use Rattle.lf_scalar.proofs.Reaching.{drop-cells}
 
-pub nothing-more : (k at : ℕ) (line : List ℕ) (old : List Cell) → length line ≤ k → old ≡ old ++ drop k (cells at line)
-nothing-more k at line old h = sym (ap (λ (x : List Cell). old ++ x) (drop_all k (cells at line) (omega (arith, cells-length at line))) ∙ append-nil old)
+-- ---- one line of a literal scalar
 
-joined-step : (l : Line) (ls : List Line) → joined (l ∷ ls) ≡ l.text ++ joined_behind (Some l.break) ls
-joined-step l [] = sym (append-nil l.text)
-joined-step l (m ∷ ls) = refl
+joined-step : (l : Line) (o : LastLine) (ls : List Line) → o.feed ≡ l.break → joined (l ∷ ls) ≡ l.text ++ literal_behind (Some o) ls
+joined-step l o [] e = sym (append-nil l.text)
+joined-step l o (m ∷ ls) e = rw e refl
 
-none-behind : (ls : List Line) → joined_behind None ls ≡ joined ls
-none-behind [] = refl
-none-behind (l ∷ ls) = refl
+module _ (old now : List Cell) (at feed : ℕ) (text : List ℕ) (after : LastLine) (is : after.feed ≡ feed) where
+  pub literal-first : (ls : List Line) → now ≡ old ++ cells at text → now ++ literal_behind (Some after) ls ≡ old ++ literal_behind None (line (cells at text) feed ∷ ls)
+  literal-first ls h =
+      ap (λ (cs : List Cell). cs ++ literal_behind (Some after) ls) h ∙ append_assoc old (cells at text) (literal_behind (Some after) ls) ∙ ap (λ (cs : List Cell). old ++ cs) (sym (joined-step (line (cells at text) feed) after ls is))
 
--- what was appended, and what the lines that are left will give
-abbrev pub Joins : ℕ → List Cell → List Cell → ℕ → List ℕ → ℕ → Option ℕ → ℕ → ℕ → Type 0
-Joins k old now at bytes count feed i place = now ++ joined_behind feed (contents k (lines_left at bytes count i place)) ≡ old ++ joined (contents k (take count (lines_at at bytes)))
+  pub literal-next : (o : LastLine) (broken : List Cell) (ls : List Line) → broken ≡ old ++ cell 10 o.feed ∷ [] → now ≡ broken ++ cells at text
+      → now ++ literal_behind (Some after) ls ≡ old ++ literal_behind (Some o) (line (cells at text) feed ∷ ls)
+  literal-next o broken ls b h =
+      ap (λ (cs : List Cell). cs ++ literal_behind (Some after) ls) (h ∙ ap (λ (cs : List Cell). cs ++ cells at text) b)
+      ∙ append_assoc (old ++ cell 10 o.feed ∷ []) (cells at text) (literal_behind (Some after) ls) ∙ append_assoc old (cell 10 o.feed ∷ []) (cells at text ++ literal_behind (Some after) ls)
+      ∙ ap (λ (cs : List Cell). old ++ cell 10 o.feed ∷ cs) (sym (joined-step (line (cells at text) feed) after ls is))
 
-pub joins-start : (k : ℕ) (old : List Cell) (at : ℕ) (bytes : List ℕ) (count : ℕ) → Joins k old old at bytes count None 0 0
-joins-start k old at bytes count = ap (λ (x : List Cell). old ++ x) (none-behind (contents k (lines_left at bytes count 0 0)) ∙ ap (λ (ls : List Line). joined (contents k ls)) (left-start at bytes count))
+-- ---- so many lines
 
-pub joins-end : (k : ℕ) (old now : List Cell) (at : ℕ) (bytes : List ℕ) (count : ℕ) (feed : Option ℕ) (i place : ℕ) → Joins k old now at bytes count feed i place → count ≤ i → now ≡ old ++ joined (contents k (take count (lines_at at bytes)))
-joins-end k old now at bytes count feed i place j h = sym (append-nil now) ∙ ap (λ (ls : List Line). now ++ joined_behind feed (contents k ls)) (sym (left-end at bytes count i place h)) ∙ j
+abbrev pub Joins : Joining → ℕ → List Cell → List Cell → ℕ → List ℕ → ℕ → Option LastLine → ℕ → ℕ → Type 0
+Joins j k old now at bytes count last i place = now ++ joined_behind j last (contents k (lines_left at bytes count i place)) ≡ old ++ joins_of j (contents k (take count (lines_at at bytes)))
 
-pub joins-next : (k : ℕ) (old now broken after : List Cell) (at : ℕ) (bytes : List ℕ) (count : ℕ) (feed : Option ℕ) (i place next text stop : ℕ)
+none-before : (j : Joining) (ls : List Line) → joined_behind j None ls ≡ joins_of j ls
+none-before Literal ls = refl
+none-before Folded ls = refl
+
+pub joins-start : (j : Joining) (k : ℕ) (old : List Cell) (at : ℕ) (bytes : List ℕ) (count : ℕ) → Joins j k old old at bytes count None 0 0
+joins-start j k old at bytes count =
+    ap (λ (cs : List Cell). old ++ cs) (none-before j (contents k (lines_left at bytes count 0 0)) ∙ ap (λ (ls : List Line). joins_of j (contents k ls)) (left-start at bytes count))
+
+nothing-behind : (j : Joining) (last : Option LastLine) → joined_behind j last [] ≡ []
+unfolding folded_of
+nothing-behind Literal None = refl
+nothing-behind Literal (Some o) = refl
+nothing-behind Folded None = refl
+nothing-behind Folded (Some o) = refl
+
+pub joins-end : (j : Joining) (k : ℕ) (old now : List Cell) (at : ℕ) (bytes : List ℕ) (count : ℕ) (last : Option LastLine) (i place : ℕ) → Joins j k old now at bytes count last i place → count ≤ i → now ≡ old ++ joins_of j (contents k (take count (lines_at at bytes)))
+joins-end j k old now at bytes count last i place f h =
+    sym (append-nil now) ∙ ap (λ (cs : List Cell). now ++ cs) (sym (nothing-behind j last)) ∙ ap (λ (ls : List Line). now ++ joined_behind j last (contents k ls)) (sym (left-end at bytes count i place h)) ∙ f
+
+-- what follows the content indent, as the code finds it
+content-there : (k at : ℕ) (line : List ℕ) → cells (at + min k (length line)) (drop (min k (length line)) line) ≡ drop k (cells at line)
+content-there k at line =
+    elim (leb_tells k (length line)) [
+      | inl a ↦ let m : min k (length line) ≡ k = omega (arith, a.1) in rw m (sym (drop-cells k at line))
+      | inr a ↦
+          let m : min k (length line) ≡ length line = omega (arith, a.1) in
+          rw m (ap (cells (at + length line)) (drop_all (length line) line (omega arith)) ∙ sym (drop_all k (cells at line) (omega (arith, a.1, cells-length at line))))
+    ]
+
+pub joins-next : (j : Joining) (k : ℕ) (old now after : List Cell) (at : ℕ) (bytes : List ℕ) (count : ℕ) (last behind : Option LastLine) (i place next text stop skipped : ℕ) (content_text : List ℕ)
     → lines_left at bytes count i place ≡ line_there at bytes place text stop ∷ lines_left at bytes count (i + 1) next
-    → broken ≡ now ++ break_of feed → after ≡ broken ++ drop k (cells (at + place) (take text (drop place bytes)))
-    → Joins k old now at bytes count feed i place → Joins k old after at bytes count (Some (at + stop)) (i + 1) next
-joins-next k old now broken after at bytes count feed i place next text stop left b a j =
-    let l : Line = content k false (line_there at bytes place text stop) in
-    let ls : List Line = contents k (lines_left at bytes count (i + 1) next) in
-    ap (λ (x : List Cell). x ++ joined_behind (Some (at + stop)) ls) (a ∙ ap (λ (x : List Cell). x ++ l.text) b)
-    ∙ append_assoc (now ++ break_of feed) l.text (joined_behind (Some (at + stop)) ls) ∙ append_assoc now (break_of feed) (l.text ++ joined_behind (Some (at + stop)) ls)
-    ∙ ap (λ (x : List Cell). now ++ (break_of feed ++ x)) (sym (joined-step l ls))
-    ∙ ap (λ (x : List Line). now ++ joined_behind feed (contents k x)) (sym left) ∙ j
-
--- ---- line breaks alone
-
-abbrev pub Breaks : List Cell → List Cell → ℕ → List ℕ → ℕ → ℕ → ℕ → Type 0
-Breaks old now at bytes count i place = now ++ breaks (lines_left at bytes count i place) ≡ old ++ breaks (take count (lines_at at bytes))
-
-pub breaks-start : (old : List Cell) (at : ℕ) (bytes : List ℕ) (count : ℕ) → Breaks old old at bytes count 0 0
-breaks-start old at bytes count = ap (λ (ls : List Line). old ++ breaks ls) (left-start at bytes count)
-
-pub breaks-end : (old now : List Cell) (at : ℕ) (bytes : List ℕ) (count i place : ℕ) → Breaks old now at bytes count i place → count ≤ i → now ≡ old ++ breaks (take count (lines_at at bytes))
-breaks-end old now at bytes count i place b h = sym (append-nil now) ∙ ap (λ (ls : List Line). now ++ breaks ls) (sym (left-end at bytes count i place h)) ∙ b
-
-pub breaks-next : (old now after : List Cell) (at : ℕ) (bytes : List ℕ) (count i place next text stop : ℕ)
-    → lines_left at bytes count i place ≡ line_there at bytes place text stop ∷ lines_left at bytes count (i + 1) next
-    → after ≡ now ++ cell 10 (at + stop) ∷ [] → Breaks old now at bytes count i place → Breaks old after at bytes count (i + 1) next
-breaks-next old now after at bytes count i place next text stop left a b =
-    ap (λ (x : List Cell). x ++ breaks (lines_left at bytes count (i + 1) next)) a ∙ append_assoc now (cell 10 (at + stop) ∷ []) (breaks (lines_left at bytes count (i + 1) next))
-    ∙ ap (λ (x : List Line). now ++ breaks x) (sym left) ∙ b
+    → skipped ≡ min k (length (take text (drop place bytes))) → content_text ≡ drop skipped (take text (drop place bytes))
+    → ((ls : List Line) → after ++ joined_behind j behind ls ≡ now ++ joined_behind j last (line (cells (at + (place + skipped)) content_text) (at + stop) ∷ ls))
+    → Joins j k old now at bytes count last i place → Joins j k old after at bytes count behind (i + 1) next
+joins-next j k old now after at bytes count last behind i place next text stop skipped content_text left s t gave f =
+    let a : at + (place + skipped) ≡ at + place + skipped = omega arith in
+    let c : cells (at + (place + skipped)) content_text ≡ drop k (cells (at + place) (take text (drop place bytes))) = rw (a, t, s) (content-there k (at + place) (take text (drop place bytes))) in
+    gave (contents k (lines_left at bytes count (i + 1) next))
+    ∙ ap (λ (cs : List Cell). now ++ joined_behind j last (line cs (at + stop) ∷ contents k (lines_left at bytes count (i + 1) next))) c
+    ∙ ap (λ (x : List Line). now ++ joined_behind j last (contents k x)) (sym left) ∙ f

@@ -3,15 +3,15 @@ use Rattle.std.proofs.Common.{◌≡◌, ℕ, true, false, List, [], ◌∷◌, 
 use Rattle.lf_scalar.specs.declared.scalar.Style.{Style}
 use Rattle.lf_scalar.specs.declared.scalar.Style.TheVariants as style
 use Rattle.lf_base.specs.declared.fault.Fault.{Fault}
-use Rattle.lf_base.specs.Answers.{Decides}
+use Rattle.lf_base.proofs.Answering.{Decides}
 use Rattle.lf_scalar.specs.Cells.{Cell, Value}
 use Rattle.lf_scalar.specs.Lines.{Line, lines, first_text}
 use Rattle.lf_scalar.specs.Plain.{Begun}
 use Rattle.lf_scalar.specs.Quoted.{Quotes, Single, Double}
 use Rattle.lf_scalar.specs.Block.{Headed, IsJoined, IsFolded, joined}
-use Rattle.lf_scalar.specs.BlockReading.{folded_of}
+use Rattle.lf_scalar.specs.reading.Block.{folded_of}
 use Rattle.lf_scalar.specs.Scalars.{begins, IsQuotedAt, BreaksQuotedAt, IsOfStyle, BreaksStyle}
-use Rattle.lf_scalar.specs.Reading.{quoted_at, reading}
+use Rattle.lf_scalar.specs.reading.Styles.{quoted_at, reading}
 use Rattle.lf_scalar.proofs.LineSteps.{lines-nil}
 use Rattle.lf_scalar.proofs.Tails.{true-false}
 use Rattle.lf_scalar.proofs.QuotedWhole as quoted

@@ -12,7 +12,7 @@ pub mod BlockHeader
 pub mod BlockLaws
 pub mod Laws
 pub mod LineLaws
-pub mod Drafts
+pub mod Zipped
 pub mod Cells
 pub mod Characters
 pub mod Scan
@@ -37,6 +37,7 @@ pub mod BodyLines
 pub mod BodyRun
 pub mod BodyIndent
 pub mod Walk
+pub mod BreaksRun
 pub mod JoinedRun
 pub mod FoldedRun
 pub mod HeaderRun

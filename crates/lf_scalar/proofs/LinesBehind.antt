@@ -11,8 +11,8 @@ use Rattle.lf_base.specs.declared.fault.Fault.{Fault}
 use Rattle.lf_scalar.specs.Cells.{Cell, cells, Fails, front, ◌>>=◌}
 use Rattle.lf_scalar.specs.Lines.{Line, line as one_line, lines_at, is_blank, is_blank_line, indent_of, after_spaces}
 use Rattle.lf_scalar.specs.Quoted.{Quotes, Break, filled, unindented}
-use Rattle.lf_scalar.specs.QuotedReading.{LineGives, broken, line_at, line_of, prefixed, next_line, lines_behind, unindented_at}
-use Rattle.lf_scalar.specs.Drafted.{TextGives}
+use Rattle.lf_scalar.specs.reading.Quoted.{LineAnswers, broken, line_at, line_of, prefixed, next_line, lines_behind, unindented_at}
+use Rattle.lf_scalar.specs.views.Built.{TextAnswers}
 use Rattle.lf_scalar.proofs.LineSteps.{lines-nil}
 use Rattle.lf_scalar.proofs.Tails.{true-false}
 
@@ -61,7 +61,7 @@ module _ (kind : Quotes) (above : ℕ) (whole : Result (List Cell) Fault) (old n
     whole-is : whole ≡ front left.out (onward kind above ls (next_line kind above b k l))
     whole-is = left.whole_is ∙ ap (front left.out) (full-line kind above b k l ls full)
 
-    pub one-full : (after : List Cell) (a : AtBreak) → LineGives (Ok a) now after l.break (next_line kind above b k l) → Left kind above whole old after (broken a l.break) 0 ls
+    pub one-full : (after : List Cell) (a : AtBreak) → LineAnswers (Ok a) now after l.break (next_line kind above b k l) → Left kind above whole old after (broken a l.break) 0 ls
     one-full after a (part, e, t) =
         record {
           out = left.out ++ part;
@@ -73,7 +73,7 @@ module _ (kind : Quotes) (above : ℕ) (whole : Result (List Cell) Fault) (old n
     one-bad refusal_of.Memory h = tt
     one-bad (refusal_of.At kd span) h = whole-is ∙ ap (λ (r : Result (List Cell × Break) Fault). front left.out (onward kind above ls r)) h
 
-pub no-more : {X : Type 0} (x : X) (kind : Quotes) (above : ℕ) (whole : Result (List Cell) Fault) (old now : List Cell) (b : Break) (k : ℕ) → Left kind above whole old now b k [] → TextGives (Ok x) old now whole
+pub no-more : {X : Type 0} (x : X) (kind : Quotes) (above : ℕ) (whole : Result (List Cell) Fault) (old now : List Cell) (b : Break) (k : ℕ) → Left kind above whole old now b k [] → TextAnswers (Ok x) old now whole
 unfolding lines_behind
 no-more x kind above whole old now b k left = (left.out, left.whole_is ∙ ap (λ (cs : List Cell). Ok cs) (append-nil left.out), left.text)
 
@@ -98,13 +98,13 @@ module _ (kind : Quotes) (above : ℕ) (whole : Result (List Cell) Fault) (old n
   is-full : n ≢ length line → list_all is_blank (cells place line) ≡ false
   is-full ne = blank ∙ ne_eqb n (length line) ne
 
-  pub step-full : n ≢ length line → (after : List Cell) (a : AtBreak) → LineGives (Ok a) now after (place + f) (next_line kind above b k (line_at place line (place + f))) → Left kind above whole old after (broken a (place + f)) 0 (lines_at (place + f + 1) later)
+  pub step-full : n ≢ length line → (after : List Cell) (a : AtBreak) → LineAnswers (Ok a) now after (place + f) (next_line kind above b k (line_at place line (place + f))) → Left kind above whole old after (broken a (place + f)) 0 (lines_at (place + f + 1) later)
   step-full ne after a h = one-full kind above whole old now b k (line_at place line (place + f)) (lines_at (place + f + 1) later) left-by (is-full ne) after a h
 
   pub step-bad : n ≢ length line → (e : Refusal) → Fails e (next_line kind above b k (line_at place line (place + f))) → Fails e whole
   step-bad ne e h = one-bad kind above whole old now b k (line_at place line (place + f)) (lines_at (place + f + 1) later) left-by (is-full ne) e h
 
-pub at-end : {X : Type 0} (x : X) (kind : Quotes) (above : ℕ) (whole : Result (List Cell) Fault) (old now : List Cell) (b : Break) (k place : ℕ) (rest : List ℕ) → Left kind above whole old now b k (lines_at place rest) → length rest ≤ 0 → TextGives (Ok x) old now whole
+pub at-end : {X : Type 0} (x : X) (kind : Quotes) (above : ℕ) (whole : Result (List Cell) Fault) (old now : List Cell) (b : Break) (k place : ℕ) (rest : List ℕ) → Left kind above whole old now b k (lines_at place rest) → length rest ≤ 0 → TextAnswers (Ok x) old now whole
 at-end x kind above whole old now b k place [] left le = no-more x kind above whole old now b k (subst (Left kind above whole old now b k) (lines-nil (place + 0)) left)
 at-end x kind above whole old now b k place (y ∷ ys) left le = absurd (omega arith)
 

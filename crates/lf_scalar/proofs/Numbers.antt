@@ -3,7 +3,7 @@ use Rattle.std.proofs.Common.{◌≡◌, ℕ, zero, suc, ◌+◌, ◌*◌, ◌<�
 use Rattle.std.proofs.lemmas.List.{drop_all}
 use Rattle.lf_scalar.specs.Cells.{cells}
 use Rattle.lf_scalar.specs.Quoted.{digit_of}
-use Rattle.lf_scalar.specs.QuotedReading.{told}
+use Rattle.lf_scalar.specs.reading.Quoted.{told}
 use Rattle.lf_scalar.proofs.Cells.{cells-drop}
 
 -- 16 to a power

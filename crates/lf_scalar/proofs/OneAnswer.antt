@@ -6,7 +6,7 @@ use Rattle.lf_base.proofs.Answering as answering
 use Rattle.lf_scalar.specs.declared.scalar.Style.{Style}
 use Rattle.lf_scalar.specs.Cells.{Value}
 use Rattle.lf_scalar.specs.Scalars.{least_above, source_at, BeginsAt, IsScalarAt, BreaksAt}
-use Rattle.lf_scalar.specs.Reading.{reading}
+use Rattle.lf_scalar.specs.reading.Styles.{reading}
 use Rattle.lf_scalar.proofs.Laws.{is_read, is_refused, decides}
 
 abbrev read : Value → Result Value Fault

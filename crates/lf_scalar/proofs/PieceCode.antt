@@ -5,7 +5,7 @@ use Rattle.std.proofs.lemmas.Bool.{ne_eqb}
 use Rattle.lf_scalar.specs.Cells.{Cell, cell, cells}
 use Rattle.lf_scalar.specs.Lines.{is_blank}
 use Rattle.lf_scalar.specs.Quoted.{Single, Double}
-use Rattle.lf_scalar.specs.QuotedReading.{escape_of, piece_of, as_piece, piece_at}
+use Rattle.lf_scalar.specs.reading.Quoted.{escape_of, piece_of, as_piece, piece_at}
 
 Seen : Type 0
 Seen = List Cell × (Bool × ℕ)

@@ -9,7 +9,7 @@ use Rattle.std.proofs.Math.Seq.{take-append_seam}
 use lib.Utf8.{scalar}
 use Rattle.lf_scalar.specs.Cells.{Cell}
 use Rattle.lf_scalar.specs.Quoted.{Quotes, Single, Double, letter_of, width_of, digit_of, Tells, Piece, Bare, Twice, Letter, Number, spelled, IsPiece}
-use Rattle.lf_scalar.specs.QuotedReading.{told_on, told, piece_of, scan}
+use Rattle.lf_scalar.specs.reading.Quoted.{told_on, told, piece_of, scan}
 
 none-some : {A : Type 0} (x : A) → None ≡ Some x → ⊥
 none-some x e = cc

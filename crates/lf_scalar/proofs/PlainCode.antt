@@ -10,9 +10,9 @@ use Rattle.lf_scalar.specs.Cells.{Cell, cells, byte_fault, Fails, front, ◌>>=�
 use Rattle.lf_scalar.specs.Lines.{Line, line, lines_at, is_blank_line}
 use Rattle.lf_scalar.specs.Folding.{fold}
 use Rattle.lf_scalar.specs.Plain.{is_commented, continues, has_tab}
-use Rattle.lf_scalar.specs.Drafted.{TextGives}
-use Rattle.lf_scalar.specs.QuotedReading.{line_at}
-use Rattle.lf_scalar.specs.PlainReading.{plain_line, plain_behind, plain_from, plain_lines_text, start_of, Steps}
+use Rattle.lf_scalar.specs.views.Built.{TextAnswers}
+use Rattle.lf_scalar.specs.reading.Quoted.{line_at}
+use Rattle.lf_scalar.specs.reading.Plain.{plain_line, plain_behind, plain_from, plain_lines_text, start_of, Steps}
 use Rattle.lf_scalar.proofs.PlainLaws.{blanks-passed, stops, goes, tabs}
 use Rattle.lf_scalar.proofs.LineSteps.{lines-nil}
 use Rattle.lf_scalar.proofs.Tails.{true-false}
@@ -42,7 +42,7 @@ pub front-twice : (a b : List Cell) (r : Read) → front a (front b r) ≡ front
 front-twice a b (Ok x) = ap yes (sym (append_assoc a b x))
 front-twice a b (Err f) = refl
 
-pub front-gives : {X : Type 0} (r : Result X Refusal) (old mid new cs : List Cell) (read : Read) → mid ≡ old ++ cs → TextGives r mid new read → TextGives r old new (front cs read)
+pub front-gives : {X : Type 0} (r : Result X Refusal) (old mid new cs : List Cell) (read : Read) → mid ≡ old ++ cs → TextAnswers r mid new read → TextAnswers r old new (front cs read)
 front-gives (Ok x) old mid new cs read m (part, e, n) = (cs ++ part, rw e refl, n ∙ ap (λ (ys : List Cell). ys ++ part) m ∙ append_assoc old cs part)
 front-gives (Err refusal_of.Memory) old mid new cs read m h = tt
 front-gives (Err (refusal_of.At kind span)) old mid new cs read m h = rw h refl
@@ -137,10 +137,10 @@ lines-none at place rest le = ap (λ (xs : List ℕ). lines_at (at + place) xs) 
 pub first-last : (above : ℕ) (l : Line) (ls : List Line) (part : List Cell) → plain_line l ≡ Ok part → is_commented l ≡ true → plain_from above l ls ≡ Ok part
 first-last above l ls part e c = rw (e, c) (ap yes (append-nil part))
 
-pub first-more : {X : Type 0} (r : Result X Refusal) (above : ℕ) (l : Line) (ls : List Line) (old mid new part : List Cell) → plain_line l ≡ Ok part → mid ≡ old ++ part → is_commented l ≡ false → TextGives r mid new (plain_behind above l.break 0 ls) → TextGives r old new (plain_from above l ls)
+pub first-more : {X : Type 0} (r : Result X Refusal) (above : ℕ) (l : Line) (ls : List Line) (old mid new part : List Cell) → plain_line l ≡ Ok part → mid ≡ old ++ part → is_commented l ≡ false → TextAnswers r mid new (plain_behind above l.break 0 ls) → TextAnswers r old new (plain_from above l ls)
 first-more r above l ls old mid new part e m c h =
     let same : front part (plain_behind above l.break 0 ls) ≡ plain_from above l ls = rw (e, c) refl in
-    subst (TextGives r old new) same (front-gives r old mid new part (plain_behind above l.break 0 ls) m h)
+    subst (TextAnswers r old new) same (front-gives r old mid new part (plain_behind above l.break 0 ls) m h)
 
 pub first-wrong : (e : Refusal) (above : ℕ) (l : Line) (ls : List Line) → Fails e (plain_line l) → Fails e (plain_from above l ls)
 first-wrong refusal_of.Memory above l ls h = tt
@@ -154,12 +154,12 @@ module _ (above at : ℕ) (rest taken : List ℕ) (text feed : ℕ) (t : taken �
   commented-first part e c = whole ∙ first-last above (line_at at taken (at + feed)) (lines_at (at + (feed + 1)) (drop (feed + 1) rest)) part e c
 
   pub bare-first : {X : Type 0} (r : Result X Refusal) (old mid new part : List Cell) (left : List ℕ) → plain_line (line_at at taken (at + feed)) ≡ Ok part → mid ≡ old ++ part → is_commented (line_at at taken (at + feed)) ≡ false → left ≡ drop (feed + 1) rest
-      → TextGives r mid new (plain_behind above (at + feed) 0 (lines_at ((at + feed) + 1) left)) → TextGives r old new (plain_lines_text above (lines_at at rest))
+      → TextAnswers r mid new (plain_behind above (at + feed) 0 (lines_at ((at + feed) + 1) left)) → TextAnswers r old new (plain_lines_text above (lines_at at rest))
   bare-first r old mid new part left e m c l h =
       let p : (at + feed) + 1 ≡ at + (feed + 1) = omega arith in
       let q : lines_at ((at + feed) + 1) left ≡ lines_at (at + (feed + 1)) (drop (feed + 1) rest) = ap (λ (n : ℕ). lines_at n left) p ∙ ap (λ (xs : List ℕ). lines_at (at + (feed + 1)) xs) l in
-      subst (TextGives r old new) (sym whole)
-      (first-more r above (line_at at taken (at + feed)) (lines_at (at + (feed + 1)) (drop (feed + 1) rest)) old mid new part e m c (subst (λ (ls : List Line). TextGives r mid new (plain_behind above (at + feed) 0 ls)) q h))
+      subst (TextAnswers r old new) (sym whole)
+      (first-more r above (line_at at taken (at + feed)) (lines_at (at + (feed + 1)) (drop (feed + 1) rest)) old mid new part e m c (subst (λ (ls : List Line). TextAnswers r mid new (plain_behind above (at + feed) 0 ls)) q h))
 
   pub wrong-first : (e : Refusal) → Fails e (plain_line (line_at at taken (at + feed))) → Fails e (plain_lines_text above (lines_at at rest))
   wrong-first e h = subst (Fails e) (sym whole) (first-wrong e above (line_at at taken (at + feed)) (lines_at (at + (feed + 1)) (drop (feed + 1) rest)) h)

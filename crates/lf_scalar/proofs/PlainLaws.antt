@@ -7,7 +7,7 @@ use Rattle.lf_scalar.specs.Cells.{Cell, Value, byte_fault, front, ◌>>=◌}
 use Rattle.lf_scalar.specs.Lines.{Line, begins_with, after_spaces, is_blank_line, AreBlank}
 use Rattle.lf_scalar.specs.Folding.{fold}
 use Rattle.lf_scalar.specs.Plain.{plain_text, is_commented, key_sign, continues, has_tab, StopsAt, IsLast, GoesOn, PlainFrom, last, more, PlainBreaks, key, tab, later, value_of, Begun, IsPlain, BreaksPlain}
-use Rattle.lf_scalar.specs.PlainReading.{plain_line, start_of, plain_behind, plain_from, begun_with, plain_lines, plain_of}
+use Rattle.lf_scalar.specs.reading.Plain.{plain_line, start_of, plain_behind, plain_from, begun_with, plain_lines, plain_of}
 use Rattle.lf_scalar.proofs.Tails.{true-false}
 
 Read : Type 0

@@ -5,7 +5,7 @@ use Rattle.lf_base.specs.declared.refusal.Refusal.TheVariants as refusal_of
 use Rattle.lf_scalar.specs.Cells.{Cell, cell, cells, Value, Fails, end_of, ◌>>=◌}
 use Rattle.lf_scalar.specs.Lines.{Line, lines, lines_at, first_text}
 use Rattle.lf_scalar.specs.Plain.{value_of, begins_plain}
-use Rattle.lf_scalar.specs.PlainReading.{plain_from, plain_lines_text, begun_with, plain_lines, plain_of}
+use Rattle.lf_scalar.specs.reading.Plain.{plain_from, plain_lines_text, begun_with, plain_lines, plain_of}
 use Rattle.lf_scalar.proofs.LineSteps.{lines-nil}
 use Rattle.lf_scalar.proofs.LineCuts.{first-line-of}
 use Rattle.lf_scalar.proofs.PlainLaws.{Answers, plain-tells}
@@ -82,13 +82,13 @@ module _ (above at : ℕ) (rest : List ℕ) (begun : begins_plain (first_text (l
   fault-read refusal_of.Memory h = tt
   fault-read (refusal_of.At kind span) h = is-read (first-cell (at + length rest) at rest begun) ∙ rw h refl
 
--- ---- a draft that began empty
+-- ---- a builder that began empty
 module _ (above at : ℕ) (rest : List ℕ) (empty now part : List Cell) (start : empty ≡ []) (e : plain_lines_text above (lines_at at rest) ≡ Ok part) (grown : now ≡ empty ++ part) where
   is-part : part ≡ now
   is-part = sym (grown ∙ ap (λ (cs : List Cell). cs ++ part) start)
 
-  pub draft-within : end_of at now ≤ at + length rest
-  draft-within = subst (λ (cs : List Cell). end_of at cs ≤ at + length rest) is-part (within-file above at rest part e)
+  pub builder-within : end_of at now ≤ at + length rest
+  builder-within = subst (λ (cs : List Cell). end_of at cs ≤ at + length rest) is-part (within-file above at rest part e)
 
-  pub draft-read : begins_plain (first_text (lines_at at rest)) ≡ true → (v : Value) → ((byte : ℕ) → v ≡ value_of (cell byte at) now) → plain_of above (at + length rest) (cells at rest) ≡ Ok v
-  draft-read b v h = value-read above at rest b part v e (λ byte. h byte ∙ ap (value_of (cell byte at)) (sym is-part))
+  pub builder-read : begins_plain (first_text (lines_at at rest)) ≡ true → (v : Value) → ((byte : ℕ) → v ≡ value_of (cell byte at) now) → plain_of above (at + length rest) (cells at rest) ≡ Ok v
+  builder-read b v h = value-read above at rest b part v e (λ byte. h byte ∙ ap (value_of (cell byte at)) (sym is-part))

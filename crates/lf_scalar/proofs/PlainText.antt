@@ -7,7 +7,7 @@ use Rattle.lf_scalar.specs.Cells.{Cell, cell, cells}
 use Rattle.lf_scalar.specs.Lines.{begins_with, is_blank}
 use Rattle.lf_scalar.specs.Folding.{trimmed}
 use Rattle.lf_scalar.specs.Plain.{before_comment, has_comment, before_blank, key_sign}
-use Rattle.lf_scalar.specs.PlainReading.{comment_at, key_at}
+use Rattle.lf_scalar.specs.reading.Plain.{comment_at, key_at}
 
 -- ---- comments
 

@@ -9,8 +9,8 @@ use Rattle.lf_base.specs.declared.fault.Fault.{Fault}
 use Rattle.lf_scalar.specs.Cells.{Cell, byte_fault, character_fault, front, ◌>>=◌}
 use Rattle.lf_scalar.specs.Lines.{Line, is_blank, after_blanks, after_spaces, indent_of, is_blank_line, AreBlank}
 use Rattle.lf_scalar.specs.Quoted.{Quotes, Single, Double, quote_of, Piece, Bare, Twice, spelled, given, IsPiece, Break, Folds, Drops, filled, IsBroken, Follows, unindented, QuotedFrom, last, more, HasBadEscape, QuotedBreaks, escape, indent, escape_not_indented, later}
-use Rattle.lf_scalar.specs.QuotedReading.{piece_of, scan, Closing, closing_of, stopped, ended, line_of, unindented_at, lines_behind, lines_from, lines_of, wrong_behind, alone, closed, quoted_of}
-use Rattle.lf_scalar.specs.QuotedReading as reading
+use Rattle.lf_scalar.specs.reading.Quoted.{piece_of, scan, Closing, closing_of, stopped, ended, line_of, unindented_at, lines_behind, lines_from, lines_of, wrong_behind, alone, closed, quoted_of}
+use Rattle.lf_scalar.specs.reading.Quoted as reading
 use Rattle.lf_scalar.proofs.Pieces.{none-stands, none-found, scan-again, IsScan, scan-sound}
 use Rattle.lf_scalar.proofs.Closing.{ahead, closing-pieces}
 use Rattle.lf_scalar.proofs.InnerLines.{LinesOk, behind-was, behind-none, passed}

@@ -10,7 +10,7 @@ use Rattle.lf_base.specs.declared.fault.Fault.{Fault}
 use Rattle.lf_scalar.specs.Cells.{Cell, cell, cells, byte_fault}
 use Rattle.lf_scalar.specs.Folding.{trimmed}
 use Rattle.lf_scalar.specs.Quoted.{Quotes, Piece, given, is_bare_blank, Break, Folds, Drops}
-use Rattle.lf_scalar.specs.QuotedReading.{scan, Reaches, ended, line_of, line_at}
+use Rattle.lf_scalar.specs.reading.Quoted.{scan, Reaches, ended, line_of, line_at}
 use Rattle.lf_scalar.proofs.Cells.{cells-drop}
 
 Read : Type 0

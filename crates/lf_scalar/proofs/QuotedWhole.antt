@@ -6,7 +6,7 @@ use Rattle.lf_base.specs.Faults.{span}
 use Rattle.lf_scalar.specs.Cells.{Cell, Value, made, ◌>>=◌}
 use Rattle.lf_scalar.specs.Lines.{Line}
 use Rattle.lf_scalar.specs.Quoted.{Quotes, raw, Closes, inner_lines, IsClosed, behind, IsQuoted, BreaksQuoted, open_quote, inside, outside}
-use Rattle.lf_scalar.specs.QuotedReading.{Closing, lines_of, lines_from, wrong_behind, alone, closed, quoted_of}
+use Rattle.lf_scalar.specs.reading.Quoted.{Closing, lines_of, lines_from, wrong_behind, alone, closed, quoted_of}
 use Rattle.lf_scalar.proofs.Closing.{closes-again, inner-again, closes-or-none}
 use Rattle.lf_scalar.proofs.InnerLines.{LinesOk, inner-lines}
 use Rattle.lf_scalar.proofs.Tails.{tail-told, told-tail, wrong-told, told-wrong, from-front, to-front}

@@ -11,7 +11,7 @@ use Rattle.lf_scalar.specs.declared.escapes.Given.TheVariants as given_of
 use Rattle.lf_scalar.specs.Cells.{Cell, cell, cells}
 use Rattle.lf_scalar.specs.Folding.{trimmed}
 use Rattle.lf_scalar.specs.Quoted.{Quotes, Piece, spelled, given, IsPiece, is_bare_blank}
-use Rattle.lf_scalar.specs.QuotedReading.{piece_of, piece_at, as_piece, shown, is_blank_given, scan, Reaches}
+use Rattle.lf_scalar.specs.reading.Quoted.{piece_of, piece_at, as_piece, shown, is_blank_given, scan, Reaches}
 use Rattle.lf_scalar.proofs.Pieces.{Starts, starts, head_of, tail_of, spelled-is, piece-one, NoPiece, scan-again}
 
 Seen : Type 0

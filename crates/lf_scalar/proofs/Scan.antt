@@ -6,7 +6,7 @@ use Rattle.lf_scalar.specs.declared.quotes.Step.TheVariants as step
 use Rattle.lf_scalar.specs.Cells.{Cell, cell, cells}
 use Rattle.lf_scalar.specs.Lines.{begins_with}
 use Rattle.lf_scalar.specs.Quoted.{Quotes, Single, Double}
-use Rattle.lf_scalar.specs.QuotedReading.{Closing, behind, closing_of, split_of, IsStep}
+use Rattle.lf_scalar.specs.reading.Quoted.{Closing, behind, closing_of, split_of, IsStep}
 use Rattle.lf_scalar.proofs.Cells.{cells-drop, cells-take}
 use Rattle.lf_scalar.proofs.Closing.{ahead}
 

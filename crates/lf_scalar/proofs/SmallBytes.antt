@@ -3,7 +3,7 @@ use Rattle.std.proofs.Common.{◌≡◌, ℕ, zero, suc, ◌<◌, Bool, true, fa
 use Rattle.std.proofs.lemmas.Bool.Decides.{eqb_tells}
 use Rattle.lf_scalar.specs.Cells.{cell}
 use Rattle.lf_scalar.specs.Lines.{is_blank}
-use Rattle.lf_scalar.specs.PlainReading.{comment_at}
+use Rattle.lf_scalar.specs.reading.Plain.{comment_at}
 
 pub small-blank : (x at : ℕ) → is_blank (cell x at) ≡ true → x < 128
 small-blank x at h =

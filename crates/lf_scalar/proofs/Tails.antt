@@ -3,7 +3,7 @@ use Rattle.std.proofs.Common.{◌≡◌, Bool, true, false, eqb, List, [], ◌�
 use Rattle.lf_scalar.specs.Cells.{Cell}
 use Rattle.lf_scalar.specs.Lines.{is_blank, is_tail}
 use Rattle.lf_scalar.specs.Quoted.{WrongBehind}
-use Rattle.lf_scalar.specs.QuotedReading.{wrong_behind}
+use Rattle.lf_scalar.specs.reading.Quoted.{wrong_behind}
 
 pub true-false : {X : Type 0} (b : Bool) → b ≡ true → b ≡ false → X
 true-false b p q = let h : true ≡ false = sym p ∙ q in absurd cc

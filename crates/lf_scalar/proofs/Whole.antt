@@ -5,18 +5,19 @@ use Rattle.std.specs.Str.{IsUtf8}
 use Rattle.std.proofs.lemmas.List.{length-drop}
 use Rattle.std.proofs.lemmas.Int.{to_z-of_z}
 use Rattle.lf_base.specs.declared.refusal.Refusal.{Refusal}
-use Rattle.lf_scalar.specs.declared.drafted.Drafted.{Drafted}
+use Rattle.lf_scalar.specs.declared.raw_scalar.RawScalar.{RawScalar}
 use Rattle.lf_scalar.specs.declared.scalar.Scalar.{Scalar}
 use Rattle.lf_scalar.specs.declared.scalar.Style.{Style}
 use Rattle.lf_scalar.specs.declared.scalar.Style.TheVariants as style
-use Rattle.lf_base.specs.Answers.{Gives, Found, Only, Refused, Breach, Decides}
+use Rattle.lf_base.specs.Answers.{AnswersAs, Found, Only, Refused, Breach}
+use Rattle.lf_base.proofs.Answering.{Decides}
 use Rattle.lf_base.proofs.Answering as answering
 use Rattle.lf_scalar.specs.Cells.{Cell, cells, Value, Fails}
 use Rattle.lf_scalar.specs.Lines.{Line, lines, lines_at, first_text}
 use Rattle.lf_scalar.specs.Scalars.{least_above, begins, source_at, IsOfStyle, BeginsAt, IsScalarAt, BreaksAt}
 use Rattle.lf_scalar.specs.Offsets.{AreOffsets}
-use Rattle.lf_scalar.specs.Drafted.{drafted, shown}
-use Rattle.lf_scalar.specs.Reading.{reading}
+use Rattle.lf_scalar.specs.views.Built.{built, shown}
+use Rattle.lf_scalar.specs.reading.Styles.{reading}
 use Rattle.lf_scalar.proofs.LineSteps.{lines-nil}
 use Rattle.lf_scalar.proofs.Tails.{true-false}
 use Rattle.lf_scalar.proofs.Laws.{decides}
@@ -52,29 +53,29 @@ module _ (s : Style) (bytes : List ℕ) (at : ℕ) (begun : begins s (first_text
       pub whole-fails : (e : Refusal) → Fails e (reading s above (at + length rest) (cells at rest)) → Fails e (reading s above (length bytes) (source_at bytes at))
       whole-fails e h = subst (Fails e) reading-is h
 
-      module _ (d : Drafted) (given : reading s above (at + length rest) (cells at rest) ≡ Ok (drafted d)) where
-        whole-is : reading s above (length bytes) (source_at bytes at) ≡ Ok (drafted d)
+      module _ (d : RawScalar) (given : reading s above (at + length rest) (cells at rest) ≡ Ok (built d)) where
+        whole-is : reading s above (length bytes) (source_at bytes at) ≡ Ok (built d)
         whole-is = sym reading-is ∙ given
 
-        pub whole-gives : (r : Result Scalar Refusal) → Gives shown r (Ok (drafted d)) → Gives shown r (reading s above (length bytes) (source_at bytes at))
-        whole-gives r h = subst (Gives shown r) (sym whole-is) h
+        pub whole-gives : (r : Result Scalar Refusal) → AnswersAs shown r (Ok (built d)) → AnswersAs shown r (reading s above (length bytes) (source_at bytes at))
+        whole-gives r h = subst (AnswersAs shown r) (sym whole-is) h
 
-        pub whole-scalar : IsOfStyle s above (length bytes) (source_at bytes at) (drafted d)
-        whole-scalar = (decides s above (length bytes) (source_at bytes at) begun).stands (drafted d) whole-is
+        pub whole-scalar : IsOfStyle s above (length bytes) (source_at bytes at) (built d)
+        whole-scalar = (decides s above (length bytes) (source_at bytes at) begun).stands (built d) whole-is
 
 -- by the least number of spaces of an indent above a parent's
-pub by-indent : (s : Style) (end above : ℕ) (indent : ℤ) (src : List Cell) (r : Result Scalar Refusal) → SFits w32 indent → above ≡ least_above (to_z w32 (of_z w32 indent)) → Gives shown r (reading s above end src) → Gives shown r (reading s (least_above indent) end src)
+pub by-indent : (s : Style) (end above : ℕ) (indent : ℤ) (src : List Cell) (r : Result Scalar Refusal) → SFits w32 indent → above ≡ least_above (to_z w32 (of_z w32 indent)) → AnswersAs shown r (reading s above end src) → AnswersAs shown r (reading s (least_above indent) end src)
 by-indent s end above indent src r fits e h =
-    subst (λ (n : ℕ). Gives shown r (reading s n end src)) (e ∙ ap least_above (to_z-of_z w32 indent fits)) h
+    subst (λ (n : ℕ). AnswersAs shown r (reading s n end src)) (e ∙ ap least_above (to_z-of_z w32 indent fits)) h
 
 -- ---- the four clauses
 
 module _ (bytes : List ℕ) (at : ℕ) (indent : ℤ) (s : Style) (begun : BeginsAt bytes at s) (above : ℕ) (r : Result Scalar Refusal) (fits : SFits w32 indent) (above_is : above ≡ least_above (to_z w32 (of_z w32 indent)))
-    (given : Gives shown r (reading s above (length bytes) (source_at bytes at))) where
+    (given : AnswersAs shown r (reading s above (length bytes) (source_at bytes at))) where
   decided : Decides (IsScalarAt bytes at indent s) (BreaksAt bytes at indent s) (reading s (least_above indent) (length bytes) (source_at bytes at))
   decided = decides s (least_above indent) (length bytes) (source_at bytes at) begun.1
 
-  gives : Gives shown r (reading s (least_above indent) (length bytes) (source_at bytes at))
+  gives : AnswersAs shown r (reading s (least_above indent) (length bytes) (source_at bytes at))
   gives = by-indent s (length bytes) above indent (source_at bytes at) r fits above_is given
 
   pub is-found : Found shown (IsScalarAt bytes at indent s) r

@@ -19,9 +19,9 @@ use Rattle.lf_scalar.specs.Lines.{Line, lines, first_text, begins_with, is_blank
 use Rattle.lf_scalar.specs.Plain.{plain_text, key_sign, before_blank, PlainBreaks, BreaksPlain}
 use Rattle.lf_scalar.specs.Plain as plain
 use Rattle.lf_scalar.specs.Quoted.{Quotes, Single, Double, quote_of, raw, spelled, unindented, QuotedBreaks, escape, indent, escape_not_indented, later, behind, BreaksQuoted, open_quote, inside, outside}
-use Rattle.lf_scalar.specs.QuotedReading.{wrong_behind}
+use Rattle.lf_scalar.specs.reading.Quoted.{wrong_behind}
 use Rattle.lf_scalar.specs.Block.{IsChomp, BreaksBlock}
-use Rattle.lf_scalar.specs.BlockReading.{Header, once, ends_header, header_from}
+use Rattle.lf_scalar.specs.reading.Block.{Header, once, ends_header, header_from}
 use Rattle.lf_scalar.specs.Scalars.{least_above, begins, source_at, BeginsAt, BreaksStyle, BreaksAt}
 use Rattle.lf_scalar.proofs.BlockHeader.{Mark, sign, numeral, neither, mark, step-sign, step-digit, step-end, wrong-again}
 use Rattle.lf_scalar.proofs.Cells.{cells-bytes}

@@ -76,9 +76,12 @@ pub data PlainBreaks (above : ℕ) : Line → List Line → Fault → Type 0 whe
 
 -- ---- the scalar
 
--- `null` and `~` are the empty text
+-- `null`, `Null`, `NULL` and `~` are the empty text
+abbrev pub nulls : List (List ℕ)
+nulls = codes "null" ∷ codes "Null" ∷ codes "NULL" ∷ codes "~" ∷ []
+
 abbrev pub is_null : List Cell → Bool
-is_null text = bytes_eq (bytes_of text) (codes "null") || bytes_eq (bytes_of text) (codes "~")
+is_null text = list_any (bytes_eq (bytes_of text)) nulls
 
 abbrev pub value_of : Cell → List Cell → Value
 value_of c text = made (if is_null text then [] else text) (end_of c.at text) (span c.at (end_of c.at text))

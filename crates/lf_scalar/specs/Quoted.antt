@@ -17,10 +17,10 @@ quote_of Double = 34
 
 -- ---- escapes
 
--- what a backslash and a letter stand for: \0 \a \b \t \n \v \f \r \e \" \/ \\ \N \_ \L \P, backslash and space, backslash and tab
+-- what a backslash and a letter stand for: \0 \a \b \t \n \v \f \r \e \" \' \\ \N \_ \L \P, backslash and space, backslash and tab
 abbrev pub letters : List (ℕ × ℕ)
 letters =
-    (48, 0) ∷ (97, 7) ∷ (98, 8) ∷ (116, 9) ∷ (110, 10) ∷ (118, 11) ∷ (102, 12) ∷ (114, 13) ∷ (101, 27) ∷ (34, 34) ∷ (47, 47) ∷ (92, 92)
+    (48, 0) ∷ (97, 7) ∷ (98, 8) ∷ (116, 9) ∷ (110, 10) ∷ (118, 11) ∷ (102, 12) ∷ (114, 13) ∷ (101, 27) ∷ (34, 34) ∷ (39, 39) ∷ (92, 92)
     ∷ (78, 0x85) ∷ (95, 0xA0) ∷ (76, 0x2028) ∷ (80, 0x2029) ∷ (32, 32) ∷ (9, 9) ∷ []
 
 abbrev pub looked_up : ℕ → List (ℕ × ℕ) → Option ℕ

@@ -4,7 +4,7 @@ ghost use Rattle.std.specs.Str.{IsCharBoundary};
 ghost use Rattle.lf_scalar.specs.Cells.{cells};
 ghost use Rattle.lf_scalar.specs.Lines.{lines, first_text};
 ghost use Rattle.lf_scalar.specs.Scalars.{BeginsAt};
-ghost use Rattle.lf_scalar.specs.BeginsReading.{first_byte_of, is_full_byte, begins_by};
+ghost use Rattle.lf_scalar.specs.reading.Begins.{first_byte_of, is_full_byte, begins_by};
 
 use crate::lines::{is_blank_byte, past};
 use crate::plain_signs::{is_plain_byte, is_sign_byte};

@@ -3,9 +3,10 @@ ghost use Rattle.std.specs.Prelude.{◌≡◌, ℕ, suc, ◌+◌, ◌<◌, ◌�
 ghost use Rattle.lf_scalar.specs.Cells.{cells};
 ghost use Rattle.lf_scalar.specs.Lines.{line as line_with, lines_at};
 ghost use Rattle.lf_scalar.specs.Block.{first_indent as indent_of_first, content_indent as indent_of_content};
-ghost use Rattle.lf_scalar.specs.BodyReading.{IsBody, IsRole, body_with, body_of_empty};
+ghost use Rattle.lf_scalar.specs.reading.Body.{IsBody, IsRole, body_with, body_of_empty};
 
-use crate::lines::{LineEnd, before, line_end, past, spaces};
+use crate::lines::{LineEnd, line_end, past, spaces};
+use lf_base::bytes::before;
 
 /// Where the line ends that begins at a place of some bytes, counted from that place.
 pub fn line_from(bytes: &[u8], place: usize) -> LineEnd

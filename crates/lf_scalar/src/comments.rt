@@ -2,7 +2,7 @@
 ghost use Rattle.std.specs.Prelude.{◌≡◌, ℕ, ◌<◌, length, get_or, take, eqb, IfSome, is_some, unwrap_or};
 ghost use Rattle.lf_scalar.specs.Cells.{cells};
 ghost use Rattle.lf_scalar.specs.Plain.{before_comment, has_comment};
-ghost use Rattle.lf_scalar.specs.PlainReading.{comment_at};
+ghost use Rattle.lf_scalar.specs.reading.Plain.{comment_at};
 
 use crate::lines::is_blank_byte;
 

@@ -1,6 +1,6 @@
 //! Copies of scalars.
 ghost use Rattle.std.specs.Prelude.{◌≡◌, IfOk};
-ghost use Rattle.lf_scalar.specs.Drafted.{shown};
+ghost use Rattle.lf_scalar.specs.views.Built.{shown};
 
 use crate::Scalar;
 use lf_base::Memory;

@@ -2,9 +2,9 @@
 ghost use Rattle.std.specs.Prelude.{◌≡◌, ℕ, ◌+◌, ◌<◌, ◌≤◌, ◌^◌, ◌++◌, take, length, drop, IfSome, IfOk, OnOk, option_map};
 ghost use Rattle.lf_scalar.specs.Cells.{Cell, cell, cells};
 ghost use Rattle.lf_scalar.specs.Quoted.{Single, Double, letter_of, width_of, digit_of};
-ghost use Rattle.lf_scalar.specs.QuotedReading.{told, number_of, escape_of, as_character, as_escape, as_piece, shown, piece_at, begins_bad_escape as bad_escape_first};
+ghost use Rattle.lf_scalar.specs.reading.Quoted.{told, number_of, escape_of, as_character, as_escape, as_piece, shown, piece_at, begins_bad_escape as bad_escape_first};
 
-use crate::draft::{Draft, push_char};
+use crate::builder::{ScalarBuilder, push_char};
 use crate::lines::past;
 use crate::quotes::Quotes;
 use lf_base::Memory;
@@ -25,7 +25,7 @@ pub fn letter(byte: u8) -> Option<char>
         b'r' => Some('\r'),
         b'e' => Some('\x1B'),
         b'"' => Some('"'),
-        b'/' => Some('/'),
+        b'\'' => Some('\''),
         b'\\' => Some('\\'),
         b'N' => Some('\u{85}'),
         b'_' => Some('\u{A0}'),
@@ -189,11 +189,11 @@ pub fn begins_bad_escape(kind: Quotes, rest: &[u8], at: u32) -> bool
 }
 
 /// Appends what a piece at an offset gave.
-pub fn push_given(draft: &mut Draft, given: Given, at: u32) -> Result<(), Memory>
-    ensures { OnOk result (draft.new ≡ draft.old ++ (shown at (given, 0)).0) }
+pub fn push_given(builder: &mut ScalarBuilder, given: Given, at: u32) -> Result<(), Memory>
+    ensures { OnOk result (builder.new ≡ builder.old ++ (shown at (given, 0)).0) }
 {
     match given {
-        Given::Byte(byte) => draft.push(byte, at),
-        Given::Char(c) => push_char(draft, c, at),
+        Given::Byte(byte) => builder.push(byte, at),
+        Given::Char(c) => push_char(builder, c, at),
     }
 }

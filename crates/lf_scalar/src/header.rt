@@ -1,9 +1,9 @@
 //! The header of a block scalar, which stands behind its sign.
 ghost use Rattle.std.specs.Prelude.{◌≡◌, false, ℕ, ◌+◌, ◌<◌, length, drop, IfErr};
 ghost use Rattle.lf_scalar.specs.Cells.{cells};
-ghost use Rattle.lf_scalar.specs.BlockReading.{header_from, ends_header};
-ghost use Rattle.lf_scalar.specs.QuotedReading.{wrong_behind as first_wrong};
-ghost use Rattle.lf_scalar.specs.BodyReading.{IsMark, header_told, header_with};
+ghost use Rattle.lf_scalar.specs.reading.Block.{header_from, ends_header};
+ghost use Rattle.lf_scalar.specs.reading.Quoted.{wrong_behind as first_wrong};
+ghost use Rattle.lf_scalar.specs.reading.Body.{IsMark, header_told, header_with};
 
 use crate::block::Chomp;
 use crate::lines::{past, wrong_behind};

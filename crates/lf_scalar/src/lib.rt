@@ -7,15 +7,14 @@
 mod begins;
 mod block;
 mod body;
+mod breaks;
+mod builder;
 pub mod comments;
 mod copied;
-mod draft;
-mod drafted;
 mod escapes;
-mod folded;
 mod header;
+mod joined;
 pub mod lines;
-mod literal;
 pub mod null_text;
 mod plain;
 mod plain_line;
@@ -23,10 +22,9 @@ pub mod plain_signs;
 mod quoted;
 mod quoted_scalar;
 pub mod quotes;
+mod raw_scalar;
 mod reader;
 mod scalar;
-#[cfg(test)]
-mod tests;
 mod uniqueness;
 
 pub use begins::begins_scalar;

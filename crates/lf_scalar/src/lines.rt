@@ -5,8 +5,8 @@
 //! first of these bytes in the source.
 ghost use Rattle.std.specs.Prelude.{false, ◌≡◌, ℕ, ◌+◌, ◌<◌, ◌≤◌, ◌^◌, ◌∷◌, length, get_or, take, drop, eqb, IfSome, option_map};
 ghost use Rattle.lf_scalar.specs.Cells.{cell, cells, character_fault as at_cell};
-ghost use Rattle.lf_scalar.specs.Drafted.{refused};
-ghost use Rattle.lf_scalar.specs.QuotedReading.{wrong_behind as first_wrong};
+ghost use Rattle.lf_scalar.specs.views.Built.{refused};
+ghost use Rattle.lf_scalar.specs.reading.Quoted.{wrong_behind as first_wrong};
 ghost use Rattle.lf_scalar.specs.Folding.{trimmed};
 ghost use Rattle.std.specs.List.{list_all};
 ghost use Rattle.std.specs.Str.{continuation_len};
@@ -77,14 +77,6 @@ pub fn past(bytes: &[u8], place: usize) -> &[u8]
     } else {
         &[]
     }
-}
-
-/// The bytes before a place.
-pub fn before(bytes: &[u8], place: usize) -> &[u8]
-    requires { place ≤ length bytes.now }
-    ensures { result.now ≡ take place bytes.now }
-{
-    bytes.split_at(place).0
 }
 
 /// Whether a byte is a space or a tab.

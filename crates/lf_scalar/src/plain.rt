@@ -1,21 +1,22 @@
 //! Plain scalars, over one line or several.
 ghost use Rattle.std.specs.Prelude.{◌≡◌, ℕ, ◌+◌, ◌<◌, ◌≤◌, ◌^◌, true, length, IfOk, IfSome};
 ghost use Rattle.lf_scalar.specs.declared.scalar.Style.TheVariants as style;
-ghost use Rattle.lf_base.specs.Answers.{Gives};
+ghost use Rattle.lf_base.specs.Answers.{AnswersAs};
 ghost use Rattle.lf_scalar.specs.Cells.{cell, cells, front, end_of};
 ghost use Rattle.lf_scalar.specs.Lines.{lines_at, first_text};
 ghost use Rattle.lf_scalar.specs.Folding.{fold};
 ghost use Rattle.lf_scalar.specs.Plain.{is_commented, value_of};
 ghost use Rattle.lf_scalar.specs.Scalars.{begins};
-ghost use Rattle.lf_scalar.specs.Drafted.{drafted, TextGives};
-ghost use Rattle.lf_scalar.specs.QuotedReading.{line_at};
-ghost use Rattle.lf_scalar.specs.PlainReading.{IsOnward, Steps, plain_line, plain_behind, plain_lines_text, plain_of};
+ghost use Rattle.lf_scalar.specs.views.Built.{built, TextAnswers};
+ghost use Rattle.lf_scalar.specs.reading.Quoted.{line_at};
+ghost use Rattle.lf_scalar.specs.reading.Plain.{IsOnward, Steps, plain_line, plain_behind, plain_lines_text, plain_of};
 
-use crate::draft::{Draft, fold_break};
-use crate::drafted::Drafted;
-use crate::lines::{before, blanks, line_end, past, spaces};
+use crate::builder::{ScalarBuilder, fold_break};
+use crate::lines::{blanks, line_end, past, spaces};
 use crate::null_text::is_null_text;
 use crate::plain_line::push_plain_line;
+use crate::raw_scalar::RawScalar;
+use lf_base::bytes::before;
 use lf_base::{Kind, Refusal, Span};
 use std::alloc::Global;
 
@@ -63,24 +64,24 @@ pub struct Folded {
 
 /// Appends what a line break becomes and what the line behind it gives, and tells whether that line ends in a comment.
 pub fn push_continuation(
-    draft: &mut Draft,
+    builder: &mut ScalarBuilder,
     folded: Folded,
     line: &[u8],
     at: u32,
 ) -> Result<bool, Refusal>
     requires { at + length line.now < 2 ^ 32 }
-    ensures text { (break_at : ℕ) → TextGives result draft.old draft.new (front (fold folded.at folded.blank) (plain_line (line_at at line.now break_at))) }
+    ensures text { (break_at : ℕ) → TextAnswers result builder.old builder.new (front (fold folded.at folded.blank) (plain_line (line_at at line.now break_at))) }
     ensures comment { IfOk result (λ commented. (break_at : ℕ) → is_commented (line_at at line.now break_at) ≡ commented) }
 {
-    match fold_break(draft, folded.blank, folded.at) {
-        Ok(()) => push_plain_line(draft, line, at),
+    match fold_break(builder, folded.blank, folded.at) {
+        Ok(()) => push_plain_line(builder, line, at),
         Err(_) => Err(Refusal::Memory),
     }
 }
 
 /// Takes the line behind a line break, and tells the line break that waits then, none where the scalar has ended. `feed` is where the line's own line break stands.
 pub fn push_step(
-    draft: &mut Draft,
+    builder: &mut ScalarBuilder,
     above: usize,
     folded: Folded,
     line: &[u8],
@@ -89,7 +90,7 @@ pub fn push_step(
 ) -> Result<Option<Folded>, Refusal>
     requires room { at + length line.now + 1 < 2 ^ 32 }
     requires few { folded.blank < 2 ^ 32 }
-    ensures steps { Steps above folded (line_at at line.now feed) result draft.old draft.new }
+    ensures steps { Steps above folded (line_at at line.now feed) result builder.old builder.new }
     ensures few { IfOk result (λ o. IfSome o (λ next. next.blank ≤ folded.blank + 1)) }
 {
     match onward_of(line, above) {
@@ -97,7 +98,7 @@ pub fn push_step(
             at: folded.at,
             blank: folded.blank + 1,
         })),
-        Onward::Continues => match push_continuation(draft, folded, line, at) {
+        Onward::Continues => match push_continuation(builder, folded, line, at) {
             Ok(true) => Ok(None),
             Ok(false) => Ok(Some(Folded { at: feed, blank: 0 })),
             Err(refusal) => Err(refusal),
@@ -115,14 +116,14 @@ pub fn push_step(
 
 /// Appends what the lines behind a line break give, as far as the scalar goes on over them. `rest` is what stands behind the line break, `feed` where it stands.
 pub fn push_behind(
-    draft: &mut Draft,
+    builder: &mut ScalarBuilder,
     above: usize,
     rest: &[u8],
     at: u32,
     feed: u32,
 ) -> Result<(), Refusal>
     requires { at + length rest.now ≤ 2 ^ 31 + 1 }
-    ensures { TextGives result draft.old draft.new (plain_behind above feed 0 (lines_at at rest.now)) }
+    ensures { TextAnswers result builder.old builder.new (plain_behind above feed 0 (lines_at at rest.now)) }
 {
     let mut folded = Folded { at: feed, blank: 0 };
     let mut place: usize = 0;
@@ -131,7 +132,7 @@ pub fn push_behind(
         let end = line_end(left);
         let start = at + place as u32;
         let text = before(left, end.text);
-        match push_step(draft, above, folded, text, start, start + end.feed as u32) {
+        match push_step(builder, above, folded, text, start, start + end.feed as u32) {
             Ok(Some(next)) => folded = next,
             Ok(None) => return Ok(()),
             Err(refusal) => return Err(refusal),
@@ -142,34 +143,39 @@ pub fn push_behind(
 }
 
 /// Appends what the lines of a plain scalar give. `rest` begins with the scalar.
-pub fn push_plain(draft: &mut Draft, above: usize, rest: &[u8], at: u32) -> Result<(), Refusal>
+pub fn push_plain(
+    builder: &mut ScalarBuilder,
+    above: usize,
+    rest: &[u8],
+    at: u32,
+) -> Result<(), Refusal>
     requires some { 0 < length rest.now }
     requires room { at + length rest.now ≤ 2 ^ 31 }
-    ensures { TextGives result draft.old draft.new (plain_lines_text above (lines_at at rest.now)) }
+    ensures { TextAnswers result builder.old builder.new (plain_lines_text above (lines_at at rest.now)) }
 {
     let end = line_end(rest);
-    match push_plain_line(draft, before(rest, end.text), at) {
+    match push_plain_line(builder, before(rest, end.text), at) {
         Ok(true) => Ok(()),
         Ok(false) => {
             let feed = at + end.feed as u32;
-            push_behind(draft, above, past(rest, end.feed + 1), feed + 1, feed)
+            push_behind(builder, above, past(rest, end.feed + 1), feed + 1, feed)
         }
         Err(refusal) => Err(refusal),
     }
 }
 
 /// The scalar whose lines gave a text. It begins at an offset and ends at most at another.
-fn with_text(draft: Draft, at: u32, most: u32) -> Drafted
-    requires { end_of at draft ≤ most }
-    ensures { (byte : ℕ) → drafted result ≡ value_of (cell byte at) draft }
+fn with_text(builder: ScalarBuilder, at: u32, most: u32) -> RawScalar
+    requires { end_of at builder ≤ most }
+    ensures { (byte : ℕ) → built result ≡ value_of (cell byte at) builder }
 {
-    let end = draft.end(at, most);
-    let mut draft = draft;
-    if is_null_text(draft.bytes()) {
-        draft.truncate(0);
+    let end = builder.end(at, most);
+    let mut builder = builder;
+    if is_null_text(builder.bytes()) {
+        builder.truncate(0);
     }
-    Drafted {
-        draft,
+    RawScalar {
+        builder,
         end,
         span: Span { start: at, end },
     }
@@ -177,14 +183,14 @@ fn with_text(draft: Draft, at: u32, most: u32) -> Drafted
 
 /// Reads a plain scalar. `rest` begins with it and reaches to the file's end, and stands at an offset of the file. Where the scalar goes on over further lines, these have
 /// at least `above` spaces.
-pub fn read_plain(alloc: Global, rest: &[u8], at: u32, above: usize) -> Result<Drafted, Refusal>
+pub fn read_plain(alloc: Global, rest: &[u8], at: u32, above: usize) -> Result<RawScalar, Refusal>
     requires room { at + length rest.now ≤ 2 ^ 31 }
     requires begins { begins style.Plain (first_text (lines_at at rest.now)) ≡ true }
-    ensures gives { Gives drafted result (plain_of above (at + length rest.now) (cells at rest.now)) }
+    ensures gives { AnswersAs built result (plain_of above (at + length rest.now) (cells at rest.now)) }
 {
-    let mut draft = Draft::new(alloc);
-    match push_plain(&mut draft, above, rest, at) {
-        Ok(()) => Ok(with_text(draft, at, at + rest.len() as u32)),
+    let mut builder = ScalarBuilder::new(alloc);
+    match push_plain(&mut builder, above, rest, at) {
+        Ok(()) => Ok(with_text(builder, at, at + rest.len() as u32)),
         Err(refusal) => Err(refusal),
     }
 }

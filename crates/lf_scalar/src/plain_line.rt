@@ -4,13 +4,14 @@ ghost use Rattle.lf_scalar.specs.Cells.{cell, cells};
 ghost use Rattle.lf_scalar.specs.Lines.{is_blank};
 ghost use Rattle.lf_scalar.specs.Folding.{trimmed};
 ghost use Rattle.lf_scalar.specs.Plain.{before_comment, has_comment, key_sign, is_commented};
-ghost use Rattle.lf_scalar.specs.QuotedReading.{line_at};
-ghost use Rattle.lf_scalar.specs.Drafted.{TextGives};
-ghost use Rattle.lf_scalar.specs.PlainReading.{key_at, unless_key, plain_line};
+ghost use Rattle.lf_scalar.specs.reading.Quoted.{line_at};
+ghost use Rattle.lf_scalar.specs.views.Built.{TextAnswers};
+ghost use Rattle.lf_scalar.specs.reading.Plain.{key_at, unless_key, plain_line};
 
+use crate::builder::{ScalarBuilder, copy};
 use crate::comments::find_comment;
-use crate::draft::{Draft, copy};
-use crate::lines::{before, blanks, is_blank_byte, past, trimmed_len};
+use crate::lines::{blanks, is_blank_byte, past, trimmed_len};
+use lf_base::bytes::before;
 use lf_base::{Kind, Refusal, Span};
 
 /// Whether a `:` stands at a place and a blank or the text's end behind it.
@@ -62,9 +63,9 @@ pub fn part_of(text: &[u8]) -> Part
 }
 
 /// Appends a text of a plain scalar, which is refused where it has the sign of a key.
-pub fn push_bare(draft: &mut Draft, text: &[u8], at: u32) -> Result<(), Refusal>
+pub fn push_bare(builder: &mut ScalarBuilder, text: &[u8], at: u32) -> Result<(), Refusal>
     requires { at + length text.now < 2 ^ 32 }
-    ensures { TextGives result draft.old draft.new (unless_key (cells at text.now) (key_sign (cells at text.now))) }
+    ensures { TextAnswers result builder.old builder.new (unless_key (cells at text.now) (key_sign (cells at text.now))) }
 {
     if let Some(place) = find_key_sign(text) {
         let start = at + place as u32;
@@ -76,22 +77,22 @@ pub fn push_bare(draft: &mut Draft, text: &[u8], at: u32) -> Result<(), Refusal>
             },
         });
     }
-    match copy(draft, text, at) {
+    match copy(builder, text, at) {
         Ok(()) => Ok(()),
         Err(_) => Err(Refusal::Memory),
     }
 }
 
 /// Appends what a line of a plain scalar gives, and tells whether it ends in a comment. It is refused where it has the sign of a key.
-pub fn push_plain_line(draft: &mut Draft, line: &[u8], at: u32) -> Result<bool, Refusal>
+pub fn push_plain_line(builder: &mut ScalarBuilder, line: &[u8], at: u32) -> Result<bool, Refusal>
     requires { at + length line.now < 2 ^ 32 }
-    ensures text { (break_at : ℕ) → TextGives result draft.old draft.new (plain_line (line_at at line.now break_at)) }
+    ensures text { (break_at : ℕ) → TextAnswers result builder.old builder.new (plain_line (line_at at line.now break_at)) }
     ensures comment { IfOk result (λ commented. (break_at : ℕ) → is_commented (line_at at line.now break_at) ≡ commented) }
 {
     let skipped = blanks(line);
     let text = past(line, skipped);
     let part = part_of(text);
-    match push_bare(draft, before(text, part.len), at + skipped as u32) {
+    match push_bare(builder, before(text, part.len), at + skipped as u32) {
         Ok(()) => Ok(part.commented),
         Err(refusal) => Err(refusal),
     }

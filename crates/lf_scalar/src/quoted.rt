@@ -1,13 +1,13 @@
 //! Scalars between quotes.
 ghost use Rattle.std.specs.Prelude.{false, ◌≡◌, ℕ, ◌+◌, ◌<◌, ◌≤◌, ◌^◌, length, drop, cond, ◌++◌, IfOk, OnOk};
 ghost use Rattle.lf_scalar.specs.Cells.{Fails, cells};
-ghost use Rattle.lf_scalar.specs.QuotedReading.{Reaches, is_blank_given, LineGives, broken, line_at, line_of, next_line, begins_bad_escape as bad_escape_first};
+ghost use Rattle.lf_scalar.specs.reading.Quoted.{Reaches, is_blank_given, LineAnswers, broken, line_at, line_of, next_line, begins_bad_escape as bad_escape_first};
 ghost use Rattle.lf_base.specs.declared.kind.Kind.TheVariants.{BadEscape, BadIndent};
 ghost use Rattle.lf_scalar.specs.Quoted.{filled};
 ghost use Rattle.lf_scalar.specs.Lines.{is_blank};
 ghost use Rattle.std.specs.List.{list_all};
 
-use crate::draft::{Draft, feed, fold_break};
+use crate::builder::{ScalarBuilder, feed, fold_break};
 use crate::escapes::{Given, begins_bad_escape, piece, push_given};
 use crate::lines::{blanks, fault_at, past, spaces};
 use crate::quotes::Quotes;
@@ -18,31 +18,36 @@ use lf_base::{Kind, Memory, Refusal, Span};
 pub struct Reach {
     /// How many bytes of the line are pieces.
     pub stop: usize,
-    /// How long the draft is without the blanks at the end of what they gave, those of escapes aside.
+    /// How long the text is without the blanks at the end of what they gave, those of escapes aside.
     pub kept: usize,
 }
 
 /// Appends what the pieces at the front of a line between quotes give, as many as stand there.
-pub fn push_pieces(draft: &mut Draft, kind: Quotes, line: &[u8], at: u32) -> Result<Reach, Memory>
+pub fn push_pieces(
+    builder: &mut ScalarBuilder,
+    kind: Quotes,
+    line: &[u8],
+    at: u32,
+) -> Result<Reach, Memory>
     requires { at + length line.now < 2 ^ 32 }
-    ensures reaches { IfOk result (λ reach. Reaches kind (cells at line.now) draft.old draft.new reach.kept (cells (at + reach.stop) (drop reach.stop line.now))) }
+    ensures reaches { IfOk result (λ reach. Reaches kind (cells at line.now) builder.old builder.new reach.kept (cells (at + reach.stop) (drop reach.stop line.now))) }
     ensures within { IfOk result (λ reach. reach.stop ≤ length line.now) }
 {
     let mut stop: usize = 0;
-    let mut kept = draft.len();
+    let mut kept = builder.len();
     while stop < line.len() {
         let place = at + stop as u32;
         let Some((given, behind)) = piece(kind, past(line, stop), place) else {
             break;
         };
-        push_given(draft, given, place)?;
-        kept = kept_behind(draft.len(), given, kept);
+        push_given(builder, given, place)?;
+        kept = kept_behind(builder.len(), given, kept);
         stop += 1 + behind;
     }
     Ok(Reach { stop, kept })
 }
 
-/// How long the draft is without blanks at its end, once a piece made it so long.
+/// How long the text is without blanks at its end, once a piece made it so long.
 fn kept_behind(len: usize, given: Given, kept: usize) -> usize
     ensures { result ≡ cond (is_blank_given given) kept len }
 {
@@ -65,16 +70,21 @@ pub enum AtBreak {
 
 /// Appends what a line between quotes gives, without the blanks before a line break that is folded. It ends at the line's end or at the quote that closes, and is refused
 /// where a backslash begins no escape.
-pub fn push_line(draft: &mut Draft, kind: Quotes, line: &[u8], at: u32) -> Result<AtBreak, Refusal>
+pub fn push_line(
+    builder: &mut ScalarBuilder,
+    kind: Quotes,
+    line: &[u8],
+    at: u32,
+) -> Result<AtBreak, Refusal>
     requires { at + length line.now + 1 < 2 ^ 32 }
-    ensures { (break_at : ℕ) → LineGives result draft.old draft.new break_at (line_of kind (line_at at line.now break_at)) }
+    ensures { (break_at : ℕ) → LineAnswers result builder.old builder.new break_at (line_of kind (line_at at line.now break_at)) }
 {
-    let reach = match push_pieces(draft, kind, line, at) {
+    let reach = match push_pieces(builder, kind, line, at) {
         Ok(reach) => reach,
         Err(_) => return Err(Refusal::Memory),
     };
     if reach.stop >= line.len() {
-        draft.truncate(reach.kept);
+        builder.truncate(reach.kept);
         return Ok(AtBreak::Fold);
     }
     if line[reach.stop] != b'\\' {
@@ -94,12 +104,17 @@ pub fn push_line(draft: &mut Draft, kind: Quotes, line: &[u8], at: u32) -> Resul
 }
 
 /// Appends what a line break at an offset becomes, with so many blank lines behind it.
-pub fn fill(draft: &mut Draft, at_break: AtBreak, blank: usize, at: u32) -> Result<(), Memory>
-    ensures { OnOk result (draft.new ≡ draft.old ++ filled (broken at_break at) blank) }
+pub fn fill(
+    builder: &mut ScalarBuilder,
+    at_break: AtBreak,
+    blank: usize,
+    at: u32,
+) -> Result<(), Memory>
+    ensures { OnOk result (builder.new ≡ builder.old ++ filled (broken at_break at) blank) }
 {
     match at_break {
-        AtBreak::Fold => fold_break(draft, blank, at),
-        AtBreak::Drop => feed(draft, blank, at),
+        AtBreak::Fold => fold_break(builder, blank, at),
+        AtBreak::Drop => feed(builder, blank, at),
     }
 }
 
@@ -126,7 +141,7 @@ fn kind_not_indented(kind: Quotes, rest: &[u8], at: u32) -> Kind
 
 /// Appends what a line break becomes and what the line behind it gives, which isn't blank and has at least `above` spaces, else it is refused.
 pub fn push_next(
-    draft: &mut Draft,
+    builder: &mut ScalarBuilder,
     kind: Quotes,
     above: usize,
     pending: Pending,
@@ -135,17 +150,17 @@ pub fn push_next(
 ) -> Result<AtBreak, Refusal>
     requires room { at + length line.now + 4 < 2 ^ 32 }
     requires full { list_all is_blank (cells at line.now) ≡ false }
-    ensures { (break_at : ℕ) → LineGives result draft.old draft.new break_at (next_line kind above (broken pending.at_break pending.at) pending.blank (line_at at line.now break_at)) }
+    ensures { (break_at : ℕ) → LineAnswers result builder.old builder.new break_at (next_line kind above (broken pending.at_break pending.at) pending.blank (line_at at line.now break_at)) }
 {
     let indent = spaces(line);
     if indent < above {
         let wrong = kind_not_indented(kind, past(line, indent), at + indent as u32);
         return Err(fault_at(wrong, line, indent, at));
     }
-    match fill(draft, pending.at_break, pending.blank, pending.at) {
+    match fill(builder, pending.at_break, pending.blank, pending.at) {
         Ok(()) => {}
         Err(_) => return Err(Refusal::Memory),
     }
     let skipped = blanks(line);
-    push_line(draft, kind, past(line, skipped), at + skipped as u32)
+    push_line(builder, kind, past(line, skipped), at + skipped as u32)
 }

@@ -1,18 +1,19 @@
 //! A scalar between quotes, line by line.
 ghost use Rattle.std.specs.Prelude.{◌≡◌, ℕ, ◌+◌, ◌<◌, ◌≤◌, ◌^◌, length};
 ghost use Rattle.lf_base.specs.declared.kind.Kind.TheVariants.{OpenQuote};
-ghost use Rattle.lf_base.specs.Answers.{Gives};
+ghost use Rattle.lf_base.specs.Answers.{AnswersAs};
 ghost use Rattle.lf_scalar.specs.Cells.{cells, byte_fault};
 ghost use Rattle.lf_scalar.specs.Lines.{lines_at, first_text};
-ghost use Rattle.lf_scalar.specs.QuotedReading.{broken, lines_behind, lines_of};
-ghost use Rattle.lf_scalar.specs.Drafted.{drafted, refused, TextGives};
-ghost use Rattle.lf_scalar.specs.Reading.{quoted_at};
+ghost use Rattle.lf_scalar.specs.reading.Quoted.{broken, lines_behind, lines_of};
+ghost use Rattle.lf_scalar.specs.views.Built.{built, refused, TextAnswers};
+ghost use Rattle.lf_scalar.specs.reading.Styles.{quoted_at};
 
-use crate::draft::Draft;
-use crate::drafted::Drafted;
-use crate::lines::{before, blanks, fault_at, line_end, past, wrong_behind};
+use crate::builder::ScalarBuilder;
+use crate::lines::{blanks, fault_at, line_end, past, wrong_behind};
 use crate::quoted::{Pending, push_line, push_next};
 use crate::quotes::{Quotes, find_closing};
+use crate::raw_scalar::RawScalar;
+use lf_base::bytes::before;
 use lf_base::{Kind, Refusal, Span};
 use std::alloc::Global;
 
@@ -23,17 +24,23 @@ pub fn read_quoted(
     rest: &[u8],
     at: u32,
     above: usize,
-) -> Result<Drafted, Refusal>
+) -> Result<RawScalar, Refusal>
     requires some { 0 < length rest.now }
     requires room { at + length rest.now ≤ 2 ^ 31 }
-    ensures gives { Gives drafted result (quoted_at kind above (at + length rest.now) (cells at rest.now)) }
+    ensures gives { AnswersAs built result (quoted_at kind above (at + length rest.now) (cells at rest.now)) }
 {
     let inner = past(rest, 1);
     let Some(closing) = find_closing(kind, inner, at + 1) else {
         return Err(open_quote(at));
     };
-    let mut draft = Draft::new(alloc);
-    match push_lines(&mut draft, kind, above, before(inner, closing + 1), at + 1) {
+    let mut builder = ScalarBuilder::new(alloc);
+    match push_lines(
+        &mut builder,
+        kind,
+        above,
+        before(inner, closing + 1),
+        at + 1,
+    ) {
         Ok(()) => {}
         Err(refusal) => return Err(refusal),
     }
@@ -41,8 +48,8 @@ pub fn read_quoted(
     let line = first_line(past(inner, closing + 1));
     match wrong_behind(line) {
         Some(k) => Err(fault_at(Kind::NotANode, line, k, end + 1)),
-        None => Ok(Drafted {
-            draft,
+        None => Ok(RawScalar {
+            builder,
             end,
             span: Span {
                 start: at,
@@ -76,7 +83,7 @@ fn first_line(rest: &[u8]) -> &[u8]
 
 /// Appends what the lines between quotes give. `inner` is what stands behind the quote that opens, the quote that closes included.
 fn push_lines(
-    draft: &mut Draft,
+    builder: &mut ScalarBuilder,
     kind: Quotes,
     above: usize,
     inner: &[u8],
@@ -84,13 +91,13 @@ fn push_lines(
 ) -> Result<(), Refusal>
     requires some { 0 < length inner.now }
     requires room { at + length inner.now ≤ 2 ^ 31 }
-    ensures { TextGives result draft.old draft.new (lines_of kind above (lines_at at inner.now)) }
+    ensures { TextAnswers result builder.old builder.new (lines_of kind above (lines_at at inner.now)) }
 {
     let end = line_end(inner);
     let break_at = at + end.feed as u32;
-    match push_line(draft, kind, before(inner, end.text), at) {
+    match push_line(builder, kind, before(inner, end.text), at) {
         Ok(at_break) => push_behind(
-            draft,
+            builder,
             kind,
             above,
             Pending {
@@ -107,7 +114,7 @@ fn push_lines(
 
 /// Appends what the lines behind a line break give. `rest` is these lines, the first of which stands at an offset.
 fn push_behind(
-    draft: &mut Draft,
+    builder: &mut ScalarBuilder,
     kind: Quotes,
     above: usize,
     first: Pending,
@@ -116,7 +123,7 @@ fn push_behind(
 ) -> Result<(), Refusal>
     requires room { at + length rest.now ≤ 2 ^ 31 + 1 }
     requires fresh { first.blank ≡ 0 }
-    ensures { TextGives result draft.old draft.new (lines_behind kind above (broken first.at_break first.at) 0 (lines_at at rest.now)) }
+    ensures { TextAnswers result builder.old builder.new (lines_behind kind above (broken first.at_break first.at) 0 (lines_at at rest.now)) }
 {
     let mut pending = first;
     let mut left = rest;
@@ -127,7 +134,7 @@ fn push_behind(
         if blanks(line) == line.len() {
             pending.blank += 1;
         } else {
-            match push_next(draft, kind, above, pending, line, place) {
+            match push_next(builder, kind, above, pending, line, place) {
                 Ok(at_break) => {
                     pending = Pending {
                         at_break,

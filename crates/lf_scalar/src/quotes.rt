@@ -3,7 +3,7 @@
 ghost use Rattle.std.specs.Prelude.{◌≡◌, ℕ, ◌+◌, ◌<◌, length, get_or, IfSome, option_map};
 ghost use Rattle.lf_scalar.specs.Cells.{cells};
 ghost use Rattle.lf_scalar.specs.Quoted.{quote_of};
-ghost use Rattle.lf_scalar.specs.QuotedReading.{closing_of, split_of, IsStep};
+ghost use Rattle.lf_scalar.specs.reading.Quoted.{closing_of, split_of, IsStep};
 
 /// The quotes round a scalar or a key.
 #[derive(Clone, Copy, PartialEq, Eq, Debug)]

@@ -1,20 +1,21 @@
 //! Reading a scalar of any style.
 ghost use Rattle.std.specs.Prelude.{true, ◌≡◌, ◌+◌, ◌≤◌, ◌^◌, length, Ok, IfOk};
 ghost use Rattle.std.specs.Str.{IsUtf8};
-ghost use Rattle.lf_base.specs.Answers.{Gives, Found, Only, Refused, Breach, RefusedIn};
+ghost use Rattle.lf_base.specs.Answers.{AnswersAs, Found, Only, Refused, Breach, RefusedIn};
 ghost use Rattle.lf_scalar.specs.Cells.{bytes_of, cells};
 ghost use Rattle.lf_scalar.specs.Lines.{lines_at, first_text};
 ghost use Rattle.lf_scalar.specs.Offsets.{AreOffsets};
 ghost use Rattle.lf_scalar.specs.Scalars.{least_above, begins, source_at, BeginsAt, IsScalarAt, BreaksAt};
-ghost use Rattle.lf_scalar.specs.Drafted.{drafted as value_of, shown};
-ghost use Rattle.lf_scalar.specs.Reading.{reading};
+ghost use Rattle.lf_scalar.specs.views.Built.{built as value_of, shown};
+ghost use Rattle.lf_scalar.specs.reading.Styles.{reading};
 
-use crate::block::{Joining, read_block};
-use crate::drafted::Drafted;
+use crate::block::read_block;
+use crate::joined::Joining;
 use crate::lines::past;
 use crate::plain::read_plain;
 use crate::quoted_scalar::read_quoted;
 use crate::quotes::Quotes;
+use crate::raw_scalar::RawScalar;
 use crate::scalar::{Scalar, Style};
 use lf_base::{Refusal, Seq, Text};
 use std::alloc::Global;
@@ -36,7 +37,7 @@ pub fn read_scalar(
     ensures only { Only shown (IsScalarAt bytes.now at indent style) result }
     ensures refused { Refused (BreaksAt bytes.now at indent style) result }
     ensures breach { Breach shown (BreaksAt bytes.now at indent style) result }
-    ensures in_file { RefusedIn (length bytes.now) result }
+    ensures refused_inside { RefusedIn (length bytes.now) result }
     ensures offsets { IfOk result (λ s. AreOffsets s.text s.from s.span × (s.span.end ≤ length bytes.now)) }
 {
     read_whole(alloc, bytes, at, spaces_above(indent), style)
@@ -54,10 +55,10 @@ fn read_whole(
     requires room { length bytes.now ≤ 2 ^ 31 }
     requires indent { above ≤ 2 ^ 31 }
     requires begins { BeginsAt bytes.now at style }
-    ensures { Gives shown result (reading style above (length bytes.now) (source_at bytes.now at)) }
+    ensures { AnswersAs shown result (reading style above (length bytes.now) (source_at bytes.now at)) }
 {
     match read_style(alloc, past(bytes, at as usize), at, above, style) {
-        Ok(drafted) => finish(drafted),
+        Ok(built) => finish(built),
         Err(refusal) => Err(refusal),
     }
 }
@@ -77,11 +78,11 @@ fn read_style(
     at: u32,
     above: usize,
     style: Style,
-) -> Result<Drafted, Refusal>
+) -> Result<RawScalar, Refusal>
     requires room { at + length rest.now ≤ 2 ^ 31 }
     requires indent { above ≤ 2 ^ 31 }
     requires begins { begins style (first_text (lines_at at rest.now)) ≡ true }
-    ensures { Gives value_of result (reading style above (at + length rest.now) (cells at rest.now)) }
+    ensures { AnswersAs value_of result (reading style above (at + length rest.now) (cells at rest.now)) }
 {
     match style {
         Style::Plain => read_plain(alloc, rest, at, above),
@@ -93,13 +94,13 @@ fn read_style(
 }
 
 /// The scalar whose text is UTF-8 and whose offsets never fall.
-fn finish(drafted: Drafted) -> Result<Scalar, Refusal>
-    requires text { IsUtf8 (bytes_of drafted.draft) }
-    requires offsets { AreOffsets (value_of drafted).text (value_of drafted).from drafted.span }
-    ensures { Gives shown result (Ok (value_of drafted)) }
+fn finish(built: RawScalar) -> Result<Scalar, Refusal>
+    requires text { IsUtf8 (bytes_of built.builder) }
+    requires offsets { AreOffsets (value_of built).text (value_of built).from built.span }
+    ensures { AnswersAs shown result (Ok (value_of built)) }
 {
-    let Drafted { draft, end, span } = drafted;
-    let (text, mut from) = draft.into_parts();
+    let RawScalar { builder, end, span } = built;
+    let (text, mut from) = builder.into_parts();
     match from.push(end) {
         Ok(()) => {}
         Err(_) => return Err(Refusal::Memory),

@@ -13,7 +13,7 @@ use Rattle.lf_ast.specs.declared.functions.LabelEffect.TheVariants.{Maps, Keeps,
 use Rattle.lf_ast.specs.Arguments.{text_at, texts_of}
 use Rattle.lf_semantics.specs.ClassRows.{HasShape, Represents, Sets}
 use Rattle.lf_semantics.specs.Environments.{IsKnown}
-use Rattle.lf_semantics.specs.Evaluation.{ArePairs, BesideScalar, BinaryGives, Combines, EffectGives, Gives, IsBare, LosesName, PairsGive, SignGives, SomeMade, Stays}
+use Rattle.lf_semantics.specs.Evaluation.{ArePairs, BesideScalar, BinaryGives, Combines, EffectGives, Results, IsBare, LosesName, PairsGive, SignGives, SomeMade, Stays}
 use Rattle.lf_semantics.specs.Grouped.{is_filter}
 use Rattle.lf_semantics.specs.Listing.{IsListing, Listing}
 use Rattle.lf_semantics.specs.Parts.{Sought, sought_in}
@@ -28,7 +28,7 @@ use Rattle.lf_semantics.proofs.RowLaws.{represents_join_left, represents_join_ri
 use Rattle.lf_semantics.proofs.StringsRepresent.{represents_joining, represents_replacing, shape_joining, shape_replacing}
 
 -- the row of an expression is sound: it represents each member of each set that may be given
-abbrev pub IsSound : Listing → Sets → Gives → Type 0
+abbrev pub IsSound : Listing → Sets → Results → Type 0
 IsSound u row gives = (R : List Labels) (r : Labels) → gives R → Contains R r → Represents u row r
 
 -- what is named is in the universe
@@ -54,13 +54,13 @@ module _ (u : Listing) (p : IsListing u) where
   pub sound_bare : IsSound u (bare_row u) IsBare
   sound_bare R r w inside = let L : Labels → Type 0 = λ t. Represents u (bare_row u) t in subst L (sym (w.1 r inside)) (represents_bare u p)
 
-  sound_maps : (row : Sets) (W : Gives) → HasShape u row → IsSound u row W → IsSound u (nameless u row) (SomeMade LosesName W)
+  sound_maps : (row : Sets) (W : Results) → HasShape u row → IsSound u row W → IsSound u (nameless u row) (SomeMade LosesName W)
   sound_maps row W shape sound R r w inside =
       let e = w.2 r inside in
       let L : Labels → Type 0 = λ t. Represents u (nameless u row) t in
       subst L (sym e.2) (represents_nameless u p row e.0 shape (sound w.0 e.0 w.1 e.1))
 
-  sound_keeps : (row : Sets) (W : Gives) → IsSound u row W → IsSound u row (SomeMade Stays W)
+  sound_keeps : (row : Sets) (W : Results) → IsSound u row W → IsSound u row (SomeMade Stays W)
   sound_keeps row W sound R r w inside =
       let e = w.2 r inside in
       let L : Labels → Type 0 = λ t. Represents u row t in
@@ -82,7 +82,7 @@ module _ (u : Listing) (p : IsListing u) where
   abbrev SoughtKnown : Trees → Type 0
   SoughtKnown args = (s : Sought) → sought_in args ≡ Some s → AllKnown u (matchers_mentions s.matchers)
 
-  pub sound_effect : (effect : LabelEffect) (grouping : Grouping) (args : Trees) (operands : List Mention) (row : Sets) (W : Gives) → AreKnown u (group_names grouping)
+  pub sound_effect : (effect : LabelEffect) (grouping : Grouping) (args : Trees) (operands : List Mention) (row : Sets) (W : Results) → AreKnown u (group_names grouping)
       → AllKnown u (effect_mentions effect (texts_of args) operands) → SoughtKnown args → HasShape u row → IsSound u row W → IsSound u (effect_row u effect grouping args row) (EffectGives effect grouping args W)
   sound_effect Maps grouping args operands row W g k a shape sound = sound_maps row W shape sound
   sound_effect Keeps grouping args operands row W g k a shape sound = sound_keeps row W sound
@@ -115,13 +115,13 @@ module _ (u : Listing) (p : IsListing u) where
   shape_beside true row shape = shape
   shape_beside false row shape = shape_nameless u p row shape
 
-  sound_loses : (row : Sets) (W : Gives) → HasShape u row → IsSound u row W → IsSound u (nameless u row) (SignGives true W)
+  sound_loses : (row : Sets) (W : Results) → HasShape u row → IsSound u row W → IsSound u (nameless u row) (SignGives true W)
   sound_loses row W shape sound R r w inside =
       let e = w.2.1 r inside in
       let L : Labels → Type 0 = λ t. Represents u (nameless u row) t in
       subst L (sym e.2) (represents_nameless u p row e.0 shape (sound w.0 e.0 w.1 e.1))
 
-  sound_beside : (filters : Bool) (row : Sets) (W : Gives) → HasShape u row → IsSound u row W → IsSound u (beside_scalar_row u filters row) (BesideScalar filters W)
+  sound_beside : (filters : Bool) (row : Sets) (W : Results) → HasShape u row → IsSound u row W → IsSound u (beside_scalar_row u filters row) (BesideScalar filters W)
   sound_beside true row W shape sound = sound_keeps row W sound
   sound_beside false row W shape sound = sound_loses row W shape sound
 
@@ -153,7 +153,7 @@ module _ (u : Listing) (p : IsListing u) where
     include_known : AreKnown u m.include
     include_known = all_back (IsKnown u) (names_mentions (names_at m.ignoring)) _ (all_back (IsKnown u) (names_mentions (names_at m.on)) _ known)
 
-    module _ (left right : Sets) (W V : Gives) (h : HasShape u left) (k : HasShape u right) (sound : IsSound u left W) (sound' : IsSound u right V) where
+    module _ (left right : Sets) (W V : Results) (h : HasShape u left) (k : HasShape u right) (sound : IsSound u left W) (sound' : IsSound u right V) where
       are_pairs : (op : Op) (b : Bool) (P Q R : List Labels) → PairsGive b op m P Q R → ArePairs op m P Q R
       are_pairs op true P Q R pairs = pairs
       are_pairs op false P Q R pairs = pairs.0
@@ -164,7 +164,7 @@ module _ (u : Listing) (p : IsListing u) where
           let L : Labels → Type 0 = λ t. Represents u (paired_row u m.group op m (matched_row u m left right) (matched_row u m right left)) t in
           subst L (sym e.5) (represents_out u p m on_known ignoring_known include_known op left right e.0 e.1 h k e.4 (sound w.0 e.0 w.2 e.2) (sound' w.1 e.1 w.3 e.3))
 
-      abbrev Both : Op → Gives
+      abbrev Both : Op → Results
       Both op R = (P : List Labels) × (Q : List Labels) × W P × V Q × Combines op m P Q R
 
       pub sound_combined : (op : Op) → IsSound u (combined_row u op m left right) (Both op)
@@ -196,7 +196,7 @@ module _ (u : Listing) (p : IsListing u) where
   shape_binary op m true false left right h k = shape_beside (is_filter op m) right k
   shape_binary op m false false left right h k = shape_combined op m left right h k
 
-  pub sound_binary : (op : Op) (m : Matching) (a b : Bool) (left right : Sets) (W V : Gives) → AllKnown u (modifier_mentions m) → HasShape u left → HasShape u right → IsSound u left W → IsSound u right V
+  pub sound_binary : (op : Op) (m : Matching) (a b : Bool) (left right : Sets) (W V : Results) → AllKnown u (modifier_mentions m) → HasShape u left → HasShape u right → IsSound u left W → IsSound u right V
       → IsSound u (binary_row u op m a b left right) (BinaryGives op m a b W V)
   sound_binary op m true true left right W V known h k sound sound' = λ R r w inside. sound_bare R r w inside
   sound_binary op m false true left right W V known h k sound sound' = λ R r w inside. sound_beside (is_filter op m) left W h sound R r w inside
@@ -207,6 +207,6 @@ module _ (u : Listing) (p : IsListing u) where
   shape_sign true row shape = shape_nameless u p row shape
   shape_sign false row shape = shape
 
-  pub sound_sign : (minus : Bool) (row : Sets) (W : Gives) → HasShape u row → IsSound u row W → IsSound u (sign_row u minus row) (SignGives minus W)
+  pub sound_sign : (minus : Bool) (row : Sets) (W : Results) → HasShape u row → IsSound u row W → IsSound u (sign_row u minus row) (SignGives minus W)
   sound_sign true row W shape sound = sound_loses row W shape sound
   sound_sign false row W shape sound = sound

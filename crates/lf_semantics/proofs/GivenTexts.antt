@@ -18,7 +18,7 @@ use Rattle.lf_ast.specs.declared.expr.Op.TheVariants.{Add, Subtract, Multiply, D
 use Rattle.lf_ast.specs.declared.functions.LabelEffect.{LabelEffect}
 use Rattle.lf_ast.specs.declared.functions.LabelEffect.TheVariants.{Maps, Keeps, Groups, CountValues, Date, Absent, LabelReplace, LabelJoin, HistogramQuantile, Bare}
 use Rattle.lf_ast.specs.Arguments.{text_at, texts_of}
-use Rattle.lf_semantics.specs.Evaluation.{ArePairs, ArgumentEvaluates, BesideScalar, BinaryGives, CallGives, Combines, EffectGives, Evaluates, Gives, IsAbsent, IsBare, IsCounted, IsGrouped, IsJoined, IsQuantile, IsReplaced, LosesName, Made, PairsGive, SignGives, SomeMade, Stays, bare}
+use Rattle.lf_semantics.specs.Evaluation.{ArePairs, ArgumentEvaluates, BesideScalar, BinaryGives, CallGives, Combines, EffectGives, Evaluates, Results, IsAbsent, IsBare, IsCounted, IsGrouped, IsJoined, IsQuantile, IsReplaced, LosesName, Made, PairsGive, SignGives, SomeMade, Stays, bare}
 use Rattle.lf_semantics.specs.Grouped.{group_of, is_arithmetic, is_filter, paired, taken_from, without_name_if}
 use Rattle.lf_semantics.specs.Parts.{Sought, is_scalar_part, operand_place}
 use Rattle.lf_semantics.specs.Strings.{joining, replacing}
@@ -29,7 +29,7 @@ use Rattle.lf_semantics.proofs.Kept.{restricted_has_texts, with_label_has_texts}
 abbrev pub HaveTexts : List Labels → Type 0
 HaveTexts R = (s : Labels) → Contains R s → HasTexts s
 
-abbrev pub GivesTexts : Gives → Type 0
+abbrev pub GivesTexts : Results → Type 0
 GivesTexts gives = (R : List Labels) → gives R → HaveTexts R
 
 bare_has_texts : HasTexts bare
@@ -52,10 +52,10 @@ paired_has_texts Right op m s t h k = without_if_has_texts m.bool_mod _ (taken_h
 abbrev Keeps-texts : (Labels → Labels → Type 0) → Type 0
 Keeps-texts becomes = (s r : Labels) → becomes s r → HasTexts s → HasTexts r
 
-some_made : (becomes : Labels → Labels → Type 0) (W : Gives) → Keeps-texts becomes → GivesTexts W → GivesTexts (SomeMade becomes W)
+some_made : (becomes : Labels → Labels → Type 0) (W : Results) → Keeps-texts becomes → GivesTexts W → GivesTexts (SomeMade becomes W)
 some_made becomes W keeps h R w r c = let e = w.2 r c in keeps e.0 r e.2 (h w.0 w.1 e.0 e.1)
 
-all_made : (becomes : Labels → Labels → Type 0) (W : Gives) → Keeps-texts becomes → GivesTexts W → GivesTexts (Made becomes W)
+all_made : (becomes : Labels → Labels → Type 0) (W : Results) → Keeps-texts becomes → GivesTexts W → GivesTexts (Made becomes W)
 all_made becomes W keeps h R w r c = let e = w.2.1 r c in keeps e.0 r e.2 (h w.0 w.1 e.0 e.1)
 
 bare_texts : GivesTexts IsBare
@@ -69,7 +69,7 @@ absent_has_texts None r is = subst HasTexts (sym is) bare_has_texts
 absent_has_texts (Some sought) r (inl has) = has.0
 absent_has_texts (Some sought) r (inr none) = subst HasTexts (sym none.1) bare_has_texts
 
-effect_texts : (effect : LabelEffect) (grouping : Grouping) (args : Trees) (W : Gives) → GivesTexts W → GivesTexts (EffectGives effect grouping args W)
+effect_texts : (effect : LabelEffect) (grouping : Grouping) (args : Trees) (W : Results) → GivesTexts W → GivesTexts (EffectGives effect grouping args W)
 effect_texts Maps grouping args W h = some_made LosesName W loses_name h
 effect_texts Keeps grouping args W h = some_made Stays W (λ s r e k. subst HasTexts (sym e) k) h
 effect_texts Groups grouping args W h = all_made (IsGrouped grouping) W (λ s r e k. subst HasTexts (sym e) (restricted_has_texts _ s k)) h
@@ -87,7 +87,7 @@ effect_texts LabelJoin grouping args W h = all_made (IsJoined (joining (texts_of
 effect_texts HistogramQuantile grouping args W h = some_made IsQuantile W (λ s r e k. subst HasTexts (sym e.1) (restricted_has_texts _ s k)) h
 effect_texts Bare grouping args W h = bare_texts
 
-beside_texts : (filters : Bool) (W : Gives) → GivesTexts W → GivesTexts (BesideScalar filters W)
+beside_texts : (filters : Bool) (W : Results) → GivesTexts W → GivesTexts (BesideScalar filters W)
 beside_texts true W h = some_made Stays W (λ s r e k. subst HasTexts (sym e) k) h
 beside_texts false W h = all_made LosesName W loses_name h
 
@@ -118,13 +118,13 @@ combined_texts Less m P Q R h k w = pair_texts Less m (is_filter Less m) P Q R h
 combined_texts GreaterOrEqual m P Q R h k w = pair_texts GreaterOrEqual m (is_filter GreaterOrEqual m) P Q R h k w
 combined_texts Greater m P Q R h k w = pair_texts Greater m (is_filter Greater m) P Q R h k w
 
-binary_texts : (op : Op) (m : Matching) (a b : Bool) (W V : Gives) → GivesTexts W → GivesTexts V → GivesTexts (BinaryGives op m a b W V)
+binary_texts : (op : Op) (m : Matching) (a b : Bool) (W V : Results) → GivesTexts W → GivesTexts V → GivesTexts (BinaryGives op m a b W V)
 binary_texts op m true true W V h k = λ R w r c. bare_texts R w r c
 binary_texts op m false true W V h k = λ R w r c. beside_texts (is_filter op m) W h R w r c
 binary_texts op m true false W V h k = λ R w r c. beside_texts (is_filter op m) V k R w r c
 binary_texts op m false false W V h k = λ R w r c. combined_texts op m w.0 w.1 R (h w.0 w.2) (k w.1 w.3) w.4 r c
 
-sign_texts : (minus : Bool) (W : Gives) → GivesTexts W → GivesTexts (SignGives minus W)
+sign_texts : (minus : Bool) (W : Results) → GivesTexts W → GivesTexts (SignGives minus W)
 sign_texts true W h = all_made LosesName W loses_name h
 sign_texts false W h = h
 

@@ -2,7 +2,8 @@
 use Rattle.std.proofs.Common.{◌≡◌, ◌≢◌, ℕ, zero, suc, ◌+◌, ◌<◌, Bool, true, false, not, cond, List, [], ◌∷◌, ◌++◌, map, length, get_or, inl, inr, refl, sym, ◌∙◌, ap, subst, arith, length-append}
 use Rattle.std.specs.List.{Contains, filter, flat_map}
 use Rattle.std.specs.Str.{bytes_eq}
-use Rattle.std.proofs.lemmas.List.{get_or-map, length-map}
+use Rattle.std.proofs.lemmas.List.{get_or-map, get_or_append_left, length-map}
+use Rattle.std.proofs.lemmas.List.Elements.{Contains-get_or}
 use Rattle.lf_ast.specs.Labels.{Bytes}
 use Rattle.lf_ast.specs.Rules.{RuleTree}
 use Rattle.lf_ast.specs.Selectors.{metric}
@@ -54,15 +55,10 @@ in_first_seen (x ∷ xs) t c = by (bytes_eq t x) refl (in_first_seen xs t)
       | inr d ↦ behind x _ t (in_filter (λ y. not (bytes_eq y x)) (first_seen xs) t (rest d) (ap not e))
     ]
 
-at_index : (xs : List Bytes) (k : ℕ) → k < length xs → Contains xs (get_or xs k [])
-at_index [] k h = absurd (omega arith)
-at_index (x ∷ xs) zero h = here x xs
-at_index (x ∷ xs) (suc k) h = behind x xs (get_or xs k []) (at_index xs k (omega arith))
-
 pub apart : (xs : List Bytes) → AreDistinct xs → StandOnce xs
 apart [] d k l h b = absurd (omega arith)
 apart (x ∷ xs) d k zero h b = absurd (omega arith)
-apart (x ∷ xs) d zero (suc l) h b = λ e. let P : Bytes → Type 0 = λ z. Contains xs z in d.0 (subst P (sym e) (at_index xs l (omega arith)))
+apart (x ∷ xs) d zero (suc l) h b = λ e. let P : Bytes → Type 0 = λ z. Contains xs z in d.0 (subst P (sym e) (Contains-get_or xs l [] (omega arith)))
 apart (x ∷ xs) d (suc k) (suc l) h b = apart xs d.1 k l (omega arith) (omega arith)
 
 -- a text that is in a list has a place there
@@ -82,11 +78,6 @@ place_within (x ∷ xs) t c = by (bytes_eq x t) refl (place_within xs t)
 module _ (items : List Mention) where
   abbrev u : Listing
   u = listing_of items
-
-  front_at : (xs ys : List (List Bytes)) (k : ℕ) → k < length xs → get_or (xs ++ ys) k [] ≡ get_or xs k []
-  front_at [] ys k h = absurd (omega arith)
-  front_at (x ∷ xs) ys zero h = refl
-  front_at (x ∷ xs) ys (suc k) h = front_at xs ys k (omega arith)
 
   -- the texts of a label are distinct, and none is empty
   abbrev AreGood : List Bytes → Type 0
@@ -130,7 +121,7 @@ module _ (items : List Mention) where
   pub texts_at : (label : Bytes) → label_of (listing_of items) label < length (labels_mentioned items) → named_at (listing_of items) (label_of (listing_of items) label) ≡ texts_mentioned items label
   texts_at label h =
       let k = label_of u label in
-      front_at (map (texts_mentioned items) (labels_mentioned items)) ([] ∷ []) k (omega (arith, h, length-map (labels_mentioned items) (texts_mentioned items)))
+      get_or_append_left (map (texts_mentioned items) (labels_mentioned items)) ([] ∷ []) [] k (omega (arith, h, length-map (labels_mentioned items) (texts_mentioned items)))
       ∙ get_or-map (texts_mentioned items) (labels_mentioned items) k [] [] h ∙ ap (texts_mentioned items) (at_place (labels_mentioned items) label h)
 
   label_known : (m : Mention) → Contains items m → label_of (listing_of items) m.label < length (labels_mentioned items)

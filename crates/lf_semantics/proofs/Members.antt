@@ -1,7 +1,8 @@
 -- Members of lists. Those of lf_laws go by this file too.
 use Rattle.std.proofs.Common.{◌≡◌, Bool, true, false, cond, List, [], ◌∷◌, ◌++◌, ◌⊎◌, inl, inr, refl, sym, ◌∙◌, ap, subst}
 use Rattle.std.specs.List.{AllByRecursion, Contains, filter}
-pub use Rattle.lf_laws.proofs.Booleans.{not_true, or_cases}
+pub use Rattle.std.proofs.lemmas.Bool.{or_cases}
+pub use Rattle.lf_laws.proofs.Booleans.{not_true}
 pub use Rattle.lf_laws.proofs.Members.{behind, each_member as one_of, first_or_behind, here, in_flat_map, in_map, map_member, none_in, other_false, same_true, true_same}
 
 pub clash : {b : Bool} → b ≡ true → b ≡ false → ⊥

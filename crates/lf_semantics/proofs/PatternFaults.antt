@@ -10,7 +10,8 @@ use Rattle.lf_base.proofs.Least.{only_one}
 use Rattle.lf_pattern.specs.Matching.{IsRead, is_read}
 use Rattle.lf_pattern.proofs.GroupLaws.{read_is}
 use Rattle.lf_semantics.specs.Passing.{Passes, passes}
-use Rattle.lf_semantics.specs.PatternBreaches.{NamesNoMetric, TellsPattern, is_empty_name, names_twice, passes_empty}
+use Rattle.lf_semantics.specs.PatternBreaches.{NamesNoMetric, TellsPattern, is_empty_name, names_twice}
+use Rattle.lf_semantics.specs.reading.Selectors.{passes_empty}
 use Rattle.lf_semantics.proofs.Members.{clash}
 use Rattle.lf_semantics.proofs.PatternTexts.{passes_is}
 

@@ -1,5 +1,5 @@
 -- Labels and classes by their numbers.
-use Rattle.std.proofs.Common.{◌≡◌, ◌≢◌, ℕ, zero, suc, ◌+◌, ◌<◌, ◌≤◌, true, false, not, cond, eqb, List, [], ◌∷◌, ◌++◌, length, get_or, refl, sym, ◌∙◌, ap, subst, arith, length-append, inl, inr}
+use Rattle.std.proofs.Common.{◌≡◌, ◌≢◌, ℕ, zero, suc, ◌+◌, ◌<◌, ◌≤◌, Bool, true, false, not, cond, eqb, List, [], ◌∷◌, ◌++◌, length, get_or, refl, sym, ◌∙◌, ap, subst, arith, length-append, inl, inr}
 use Rattle.std.specs.Str.{bytes_eq}
 use Rattle.std.proofs.lemmas.Slice.Eq.{bytes_eq-Decides}
 use Rattle.std.proofs.lemmas.List.{get_or-map}
@@ -26,6 +26,25 @@ place_at xs l h d =
 -- the text at its place
 pub at_place : (xs : List Bytes) (t : Bytes) → place xs t < length xs → get_or xs (place xs t) [] ≡ t
 at_place xs t h = true_same _ _ (passes_at_first (λ x. bytes_eq x t) xs [] h)
+
+-- a text whose place is the first one is the first text, and any other text stands behind it
+
+pub first_is : (b : Bool) (p : ℕ) → 0 ≡ cond (not b) (1 + p) 0 → b ≡ true
+first_is true p e = refl
+first_is false p e = absurd (omega (arith, e))
+
+pub later_is : (b : Bool) (p k : ℕ) → suc k ≡ cond (not b) (1 + p) 0 → (b ≡ false) × (k ≡ p)
+later_is true p k e = absurd (omega (arith, e))
+later_is false p k e = (refl, omega (arith, e))
+
+-- a text that isn't there has its place behind the others
+pub place_last : (xs : List Bytes) (n : Bytes) → length xs ≤ place xs n → place (xs ++ n ∷ []) n ≡ length xs
+place_last [] n h = rw (same_true n n refl) refl
+place_last (x ∷ xs) n h = by (bytes_eq x n) h (place_last xs n)
+  where
+    by : (b : Bool) → suc (length xs) ≤ cond (not b) (1 + place xs n) 0 → (length xs ≤ place xs n → place (xs ++ n ∷ []) n ≡ length xs) → cond (not b) (1 + place (xs ++ n ∷ []) n) 0 ≡ suc (length xs)
+    by true h rest = absurd (omega (arith, h))
+    by false h rest = let e = rest (omega (arith, h)) in omega (arith, e)
 
 -- two texts at one place are the same
 pub same_text : (xs : List Bytes) (a b : Bytes) → place xs a < length xs → place xs a ≡ place xs b → a ≡ b

@@ -33,6 +33,9 @@ holds_within [] label class h = absurd (cc)
 holds_within (set ∷ row) zero class h = (omega arith, true_within set class h)
 holds_within (set ∷ row) (suc label) class h = let r = holds_within row label class h in (omega (arith, r.0), r.1)
 
+pub length_remade : (f : ℕ → ℕ → Bool → Bool) (row : Sets) → length (remade f row) ≡ length row
+length_remade f row = length-indexed _ 0 row
+
 pub holds-remade : (f : ℕ → ℕ → Bool → Bool) (row : Sets) (label class : ℕ) → label < length row → class < length (get_or row label []) → holds (remade f row) label class ≡ f label class (holds row label class)
 holds-remade f row label class h k =
     ap (λ set. get_or set class false) (get_or-indexed (λ l set. indexed_from (λ c on. f l c on) 0 set) 0 row label [] [] h)

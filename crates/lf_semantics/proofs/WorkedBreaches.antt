@@ -14,7 +14,8 @@ use Rattle.lf_ast.specs.Selectors.{metric}
 use Rattle.lf_pattern.specs.Matching.{is_read, matches}
 use Rattle.lf_pattern.specs.Plain.{is_escapable, is_special}
 use Rattle.lf_pattern.specs.Scan.{scanned}
-use Rattle.lf_semantics.specs.PatternBreaches.{BreaksPatterns, TellsPattern, names_twice, passes_empty}
+use Rattle.lf_semantics.specs.PatternBreaches.{BreaksPatterns, TellsPattern, names_twice}
+use Rattle.lf_semantics.specs.reading.Selectors.{passes_empty}
 use Rattle.lf_semantics.proofs.Members.{first_or_behind, here, none_in}
 use Rattle.lf_semantics.proofs.PatternFaults.{unread_is}
 use Rattle.lf_semantics.proofs.Written.{asks, call, paren, place_at, selector, selects, sight, text}

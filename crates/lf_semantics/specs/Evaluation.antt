@@ -24,16 +24,16 @@ use Rattle.lf_semantics.specs.Passing.{HasName, PassesEach}
 use Rattle.lf_semantics.specs.Strings.{Expands, Joining, Replacing, absent_texts, joined_by, joining, replacing}
 use Rattle.lf_semantics.specs.Texts.{HasTexts, restricted, value_of, with_label}
 
--- which sets may be given
-abbrev pub Gives : Type 1
-Gives = List Labels → Type 0
+-- the results that may be given: which sets of samples
+abbrev pub Results : Type 1
+Results = List Labels → Type 0
 
 -- no label
 abbrev pub bare : Labels
 bare = map.empty
 
 -- the one sample without labels
-abbrev pub IsBare : Gives
+abbrev pub IsBare : Results
 IsBare R = Contains R bare × ((r : Labels) → Contains R r → r ≡ bare)
 
 -- sets made of a set, by a relation that says what a sample may become
@@ -95,23 +95,23 @@ IsAbsent None r = r ≡ bare
 IsAbsent (Some sought) r = HasSoughtTexts sought.matchers r ⊎ ((sought.may_be_bare ≡ true) × (r ≡ bare))
 
 -- nothing, or one sample
-abbrev pub AbsentGives : Option Sought → Gives
+abbrev pub AbsentGives : Option Sought → Results
 AbsentGives sought R = (one : Labels) × IsAbsent sought one × ((r : Labels) → Contains R r → r ≡ one)
 
 -- functions and aggregations, by the table of functions
 
-abbrev pub Made : (Labels → Labels → Type 0) → Gives → Gives
+abbrev pub Made : (Labels → Labels → Type 0) → Results → Results
 Made becomes operand R = (Q : List Labels) × operand Q × AreMade becomes Q R
 
-abbrev pub SomeMade : (Labels → Labels → Type 0) → Gives → Gives
+abbrev pub SomeMade : (Labels → Labels → Type 0) → Results → Results
 SomeMade becomes operand R = (Q : List Labels) × operand Q × AreSomeMade becomes Q R
 
 -- a function of dates maps its argument, or speaks of now
-abbrev pub DateGives : Trees → Gives → Gives
+abbrev pub DateGives : Trees → Results → Results
 DateGives Nil operand = IsBare
 DateGives (Next x xs) operand = SomeMade LosesName operand
 
-abbrev pub EffectGives : LabelEffect → Grouping → Trees → Gives → Gives
+abbrev pub EffectGives : LabelEffect → Grouping → Trees → Results → Results
 EffectGives Maps grouping args operand = SomeMade LosesName operand
 EffectGives Keeps grouping args operand = SomeMade Stays operand
 EffectGives Groups grouping args operand = Made (IsGrouped grouping) operand
@@ -126,7 +126,7 @@ EffectGives Bare grouping args operand = IsBare
 -- operators
 
 -- arithmetic and `bool` with a scalar drop the name, and a filter lets any samples through
-abbrev pub BesideScalar : Bool → Gives → Gives
+abbrev pub BesideScalar : Bool → Results → Results
 BesideScalar true operand = SomeMade Stays operand
 BesideScalar false operand = Made LosesName operand
 
@@ -172,18 +172,18 @@ Combines Unless m = AreUnmatched m
 Combines op m = PairsGive (is_filter op m) op m
 
 -- by whether the left and the right side are scalars
-abbrev pub BinaryGives : Op → Matching → Bool → Bool → Gives → Gives → Gives
+abbrev pub BinaryGives : Op → Matching → Bool → Bool → Results → Results → Results
 BinaryGives op m true true left right R = IsBare R
 BinaryGives op m false true left right R = BesideScalar (is_filter op m) left R
 BinaryGives op m true false left right R = BesideScalar (is_filter op m) right R
 BinaryGives op m false false left right R = (P : List Labels) × (Q : List Labels) × left P × right Q × Combines op m P Q R
 
-abbrev pub SignGives : Bool → Gives → Gives
+abbrev pub SignGives : Bool → Results → Results
 SignGives true operand = Made LosesName operand
 SignGives false operand = operand
 
 -- a call by its signature: `argument` says what each argument may give
-abbrev pub CallGives : Option Signature → Grouping → Trees → (ℕ → Gives) → Gives
+abbrev pub CallGives : Option Signature → Grouping → Trees → (ℕ → Results) → Results
 CallGives None grouping args argument R = ⊥
 CallGives (Some s) grouping args argument R = EffectGives s.labels grouping args (argument (operand_place s)) R
 
@@ -192,7 +192,7 @@ CallGives (Some s) grouping args argument R = EffectGives s.labels grouping args
 module _ (S N : List Labels) where
   abbrev mutual
     -- `Evaluates S N e R`: over the scraped series S and the recorded samples N, the expression e may give the set R
-    pub Evaluates : Tree → Gives
+    pub Evaluates : Tree → Results
     Evaluates (Number text span) R = IsBare R
     Evaluates (Str text span) R = ⊥
     -- any set of scraped series and recorded samples that pass the matchers
@@ -206,7 +206,7 @@ module _ (S N : List Labels) where
     Evaluates (Aggregate op grouping args span) R = CallGives (Some (aggregation op)) grouping args (ArgumentEvaluates args) R
 
     -- argument k, counted from 0, may give the set R
-    pub ArgumentEvaluates : Trees → ℕ → Gives
+    pub ArgumentEvaluates : Trees → ℕ → Results
     ArgumentEvaluates Nil k R = ⊥
     ArgumentEvaluates (Next x xs) zero R = Evaluates x R
     ArgumentEvaluates (Next x xs) (suc k) R = ArgumentEvaluates xs k R

@@ -12,3 +12,4 @@ pub mod Strings
 pub mod Texts
 pub mod Mentions
 pub mod Worlds
+pub mod reading

@@ -1,6 +1,6 @@
 -- What is wrong with the patterns and the selectors of an expression, and where: a pattern that can't be read, and a selector that names no metric, or names it twice.
 use Rattle.std.specs.Prelude.{◌≡◌, ◌⊎◌, Bool, true, false, ◌&&◌, List, [], Option, Some, None, is_some, option_and_then}
-use Rattle.std.specs.List.{AllByRecursion, Contains, list_all, list_any}
+use Rattle.std.specs.List.{AllByRecursion, Contains, list_any}
 use Rattle.std.specs.Str.{bytes_eq}
 use Rattle.lf_base.specs.declared.kind.Kind.TheVariants.{BadPattern, BadSelector}
 use Rattle.lf_base.specs.declared.place.Span.{Span}
@@ -17,7 +17,7 @@ use Rattle.lf_ast.specs.declared.functions.LabelEffect.TheVariants.{LabelReplace
 use Rattle.lf_ast.specs.Selectors.{metric}
 use Rattle.lf_pattern.specs.Matching.{IsRead}
 use Rattle.lf_semantics.specs.Parts.{argument_at}
-use Rattle.lf_semantics.specs.Passing.{Passes, passes}
+use Rattle.lf_semantics.specs.Passing.{Passes}
 
 -- patterns
 
@@ -70,10 +70,6 @@ is_empty_name (Some name) = bytes_eq name []
 -- each matcher passes the empty text: the selector names no metric. A pattern that can't be read passes nothing
 abbrev pub NamesNoMetric : Option Bytes → List Matcher → Type 0
 NamesNoMetric name matchers = (is_empty_name name ≡ true) × AllByRecursion (λ m. Passes m.op m.value []) matchers
-
--- The same as a function, for the code: `passes_empty_is` of proofs/PatternFaults says that it agrees, both ways.
-abbrev pub passes_empty : Option Bytes → List Matcher → Bool
-passes_empty name matchers = is_empty_name name && list_all (λ m. passes m.op m.value []) matchers
 
 -- a name before the braces, and a matcher on the metric name
 abbrev pub names_twice : Option Bytes → List Matcher → Bool

@@ -5,7 +5,7 @@ use Rattle.lf_ast.specs.Labels.{Labels}
 use Rattle.lf_ast.specs.Rules.{RuleTree}
 use Rattle.lf_ast.specs.declared.rule.RuleLabel.{RuleLabel}
 use Rattle.lf_ast.specs.Selectors.{metric}
-use Rattle.lf_semantics.specs.Evaluation.{Evaluates, Gives}
+use Rattle.lf_semantics.specs.Evaluation.{Evaluates, Results}
 use Rattle.lf_semantics.specs.Parts.{is_evaluated, type_by_form}
 use Rattle.lf_semantics.specs.Texts.{HasTexts, value_of, with_label}
 
@@ -23,7 +23,7 @@ abbrev pub SetsNoName : RuleTree → Type 0
 SetsNoName r = AllByRecursion (λ l. l.key ≢ metric) r.labels
 
 -- a rule that is a scalar or a vector may give what its expression may give, and any other gives nothing at all
-abbrev pub RuleGives : List Labels → List Labels → RuleTree → Gives
+abbrev pub RuleGives : List Labels → List Labels → RuleTree → Results
 RuleGives S N r R = (is_evaluated (type_by_form r.expr) ≡ true) × Evaluates S N r.expr R
 
 -- a step: a rule, and the set that its expression gives

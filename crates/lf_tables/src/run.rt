@@ -4,9 +4,9 @@ ghost use Rattle.std.specs.Prelude.{◌<◌, ◌≤◌, ◌^◌, length, OnOk};
 use crate::tables::tables_of;
 use crate::timing::print_time;
 use anyhow::{Result, bail};
+use lf_accept::accept;
 use lf_ast::Rule;
 use lf_base::{Refusal, Seq, Span};
-use lf_lint::accept;
 use std::env;
 use std::io::Read;
 

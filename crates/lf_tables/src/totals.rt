@@ -1,7 +1,7 @@
 //! How much the rules read together, by one index and one graph of names.
 ghost use Rattle.std.specs.Prelude.{◌<◌, ◌^◌, length};
-ghost use Rattle.lf_deps.specs.Index.{IsIndex};
-ghost use Rattle.lf_deps.specs.Names.{IsNameGraphOf};
+ghost use Rattle.lf_deps.specs.views.Index.{IsIndex};
+ghost use Rattle.lf_deps.specs.views.Names.{IsNameGraphOf};
 
 use lf_ast::Rule;
 use lf_base::{Memory, Seq};

@@ -4,7 +4,7 @@ use Rattle.std.proofs.lemmas.List.{drop_all}
 use Rattle.lf_templates.specs.declared.token.Place.TheVariants as places
 use Rattle.lf_templates.specs.declared.token.Lexeme.{Lexeme}
 use Rattle.lf_templates.specs.Templates.{opens}
-use Rattle.lf_templates.specs.Reading.{Acts, acts_of, before, action_at, total, lexed}
+use Rattle.lf_templates.specs.reading.Templates.{Acts, acts_of, before, action_at, total, lexed}
 
 abbrev pub no_acts : Option ℕ → Acts
 no_acts endless = record { actions = []; endless = endless }

@@ -10,8 +10,8 @@ use Rattle.lf_templates.specs.declared.state.State.{State}
 use Rattle.lf_base.specs.Answers.{IfAt, Answers}
 use Rattle.lf_base.specs.declared.fault.Fault.{Fault}
 use Rattle.lf_templates.specs.Templates.{opens, Action}
-use Rattle.lf_templates.specs.Reading.{Acts, acts_of, before, action_at, total, lexed, outcome, ending, reading}
-use Rattle.lf_templates.specs.Steps.{outcome_of, Steps, answer_at, Advances}
+use Rattle.lf_templates.specs.reading.Templates.{Acts, acts_of, before, action_at, total, lexed, outcome, ending, reading}
+use Rattle.lf_templates.specs.views.Steps.{outcome_of, Steps, answer_at, Advances}
 use Rattle.lf_templates.proofs.Lists.{drop_drop}
 use Rattle.lf_templates.proofs.Outcomes.{outcome_judged}
 use Rattle.lf_templates.proofs.Acts.{acts_end, acts_byte, acts_open, acts_action}

@@ -15,7 +15,7 @@ use Rattle.lf_base.specs.Names.{is_letter, begins_label, is_digit, is_in_label}
 use Rattle.lf_templates.specs.Bytes.{beginning, sign_begins, alone, Each}
 use Rattle.lf_templates.specs.Tokens.{IsName, IsToken, one_byte, in_quotes, in_back_quotes, a_word, a_variable, a_field, a_number, declares, a_colon, a_comment, a_slash, a_minus, is_trim, closes, behind}
 use Rattle.lf_templates.specs.Actions.{is_field}
-use Rattle.lf_templates.specs.Reading.{front, lexed, total, Named}
+use Rattle.lf_templates.specs.reading.Templates.{front, lexed, total, Named}
 use Rattle.lf_templates.proofs.Lists.{drop_drop, take_same}
 use Rattle.lf_templates.proofs.Standing.{front_stands, choose}
 

@@ -1,11 +1,11 @@
 -- The way of reading finds exactly the references and the breaches of the definitions.
 use Rattle.std.proofs.Common.{◌≡◌, ◌⊎◌, inl, inr, ℕ, ◌+◌, List, [], ◌∷◌, ◌++◌, Option, Some, None, Result, Ok, Err, length, refl, ap, arith, sym, ◌∙◌, subst, append-nil}
 use Rattle.lf_templates.specs.declared.reference.Reference.{Reference}
-use Rattle.lf_base.specs.Answers.{Decides, OneAnswer}
-use Rattle.lf_base.proofs.Answering.{one_answer}
+use Rattle.lf_base.specs.Answers.{OneAnswer}
+use Rattle.lf_base.proofs.Answering.{Decides, one_answer}
 use Rattle.lf_base.specs.declared.fault.Fault.{Fault}
 use Rattle.lf_templates.specs.Templates.{Piece, piece_texts, ArePieces, IsOpen, Action, actions_of, first_flawed, IsBreach, flawed, unended, Breaks, References}
-use Rattle.lf_templates.specs.Reading.{Acts, acts_of, judged, judged_by, reading}
+use Rattle.lf_templates.specs.reading.Templates.{Acts, acts_of, judged, judged_by, reading}
 use Rattle.lf_templates.proofs.Acts.{no_acts, acts_open, acts_end}
 use Rattle.lf_templates.proofs.Pieces.{Cut, after, pieces_read, pieces_stand, open_lexed}
 

@@ -1,6 +1,7 @@
 -- What stands at the front between braces is one token, and it is read as that.
 use Rattle.std.proofs.Common.{◌≡◌, ◌≢◌, ℕ, suc, ◌+◌, ◌<◌, ◌≤◌, Bool, true, false, cond, List, [], ◌∷◌, ◌++◌, Option, Some, length, take, drop, refl, ap, arith, sym, ◌∙◌, append_assoc, length-append, lt-ltb}
 use Rattle.std.specs.List.{prefix_len}
+use Rattle.std.proofs.lemmas.List.Sums.{prefix_len-le-length}
 use Rattle.lf_templates.specs.declared.token.Token.{Token}
 use Rattle.lf_templates.specs.declared.token.Token.TheVariants as tokens
 use Rattle.lf_templates.specs.declared.token.Place.{Place}
@@ -10,8 +11,8 @@ use Rattle.lf_templates.specs.declared.token.Beginning.TheVariants as begins
 use Rattle.lf_base.specs.Names.{is_letter, begins_label, is_digit, is_in_label}
 use Rattle.lf_templates.specs.Bytes.{beginning, sign_begins, is_in_number, is_no_back_quote, Each, Stops}
 use Rattle.lf_templates.specs.Tokens.{IsName, IsInner, IsToken, one_byte, in_quotes, in_back_quotes, a_word, a_variable, a_field, a_number, declares, a_colon, a_comment, a_slash, a_minus, takes_comment, ends_comment, FreeOf, word_of, variable_of, field_of}
-use Rattle.lf_templates.specs.Reading.{token, name_len, string_front, raw_front, word_front, variable_front, field_front, number_front, colon_front, slash_front, minus_front, front_by, front}
-use Rattle.lf_templates.proofs.Lists.{take_same, row_all, row_le, row_is, row_then}
+use Rattle.lf_templates.specs.reading.Templates.{token, name_len, string_front, raw_front, word_front, variable_front, field_front, number_front, colon_front, slash_front, minus_front, front_by, front}
+use Rattle.lf_templates.proofs.Lists.{take_same, row_all, row_is, row_then}
 use Rattle.lf_templates.proofs.Quotes.{string_read, comment_read}
 
 -- ---- names
@@ -28,7 +29,7 @@ name_le [] = omega arith
 name_le (b ∷ src) = by (begins_label b)
   where
     by : (t : Bool) → cond t (1 + prefix_len is_in_label src) 0 ≤ length (b ∷ src)
-    by true = let h = row_le is_in_label src in omega arith
+    by true = let h = prefix_len-le-length is_in_label src in omega arith
     by false = omega arith
 
 pub name_stands : (src : List ℕ) → IsName (take (name_len src) src) (drop (name_len src) src)

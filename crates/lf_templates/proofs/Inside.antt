@@ -14,7 +14,7 @@ use Rattle.lf_base.specs.declared.fault.Fault.{Fault}
 use Rattle.lf_templates.specs.Source.{LiesIn, in_source}
 use Rattle.lf_templates.specs.Actions.{tokens_of, goes_on, is_root, is_labels_field, is_field, begins_row, row_to, row_of_two, row_here, as_list, rows, sets_labels}
 use Rattle.lf_templates.specs.Templates.{Piece, Byte, Braced, piece_text, piece_texts, Action, actions_of, word_of_action, is_flawed, first_flawed, bodies_behind, bodies_round, hides, IsBreach, flawed, unended, Breaks, References, reference, references_in, references_of}
-use Rattle.lf_templates.specs.Reading.{total}
+use Rattle.lf_templates.specs.reading.Templates.{total}
 use Rattle.lf_templates.proofs.Pieces.{braced_length}
 
 both : {X : Type 0} (P : X → Type 0) (xs ys : List X) → AllByRecursion P xs → AllByRecursion P ys → AllByRecursion P (xs ++ ys)

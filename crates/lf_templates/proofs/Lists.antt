@@ -1,22 +1,15 @@
 -- Parts of lists, and rows of bytes of a class.
-use Rattle.std.proofs.Common.{◌≡◌, ℕ, zero, suc, ◌+◌, ◌≤◌, Bool, true, false, cond, List, [], ◌∷◌, ◌++◌, length, take, drop, refl, ap, arith, append-nil, sym, ◌∙◌, subst, length-take-le, take-append-drop}
+use Rattle.std.proofs.Common.{◌≡◌, ℕ, zero, suc, ◌+◌, ◌≤◌, Bool, true, false, cond, List, [], ◌∷◌, ◌++◌, length, take, drop, refl, arith, sym, subst, length-take-le, take-append-drop}
+use Rattle.std.proofs.Math.Seq.{drop-append_seam, take-append_seam}
 use Rattle.std.proofs.lemmas.Bool.{and_parts}
 use Rattle.std.specs.List.{prefix_len, list_all}
 use Rattle.lf_templates.specs.Bytes.{Stops}
 
-take_on : (xs ys : List ℕ) (k : ℕ) → take (length xs + k) (xs ++ ys) ≡ xs ++ take k ys
-take_on [] ys k = let e : 0 + k ≡ k = omega arith in rw e refl
-take_on (x ∷ xs) ys k = let e : length (x ∷ xs) + k ≡ suc (length xs + k) = omega arith in rw e (ap (λ (zs : List ℕ). x ∷ zs) (take_on xs ys k))
-
 pub take_same : (n : ℕ) (text rest : List ℕ) → length text ≡ n → take n (text ++ rest) ≡ text
-take_same n text rest e = let f : n ≡ length text + 0 = omega arith in ap (λ (k : ℕ). take k (text ++ rest)) f ∙ take_on text rest 0 ∙ append-nil text
+take_same n text rest e = subst (λ (k : ℕ). take k (text ++ rest) ≡ text) e (take-append_seam text rest)
 
 pub drop_same : (n : ℕ) (text rest : List ℕ) → length text ≡ n → drop n (text ++ rest) ≡ rest
-drop_same n text rest e = subst (λ (k : ℕ). drop k (text ++ rest) ≡ rest) e (past text)
-  where
-    past : (text : List ℕ) → drop (length text) (text ++ rest) ≡ rest
-    past [] = refl
-    past (b ∷ text) = past text
+drop_same n text rest e = subst (λ (k : ℕ). drop k (text ++ rest) ≡ rest) e (drop-append_seam text rest)
 
 drop_nil : (n : ℕ) → drop {A = ℕ} n [] ≡ []
 drop_nil zero = refl
@@ -36,14 +29,6 @@ row_all p (b ∷ src) = by (row_all p src) (p b) refl
     by : list_all p (take (prefix_len p src) src) ≡ true → (t : Bool) → p b ≡ t → list_all p (take (cond (p b) (1 + prefix_len p src) 0) (b ∷ src)) ≡ true
     by again true e = let k : 1 + prefix_len p src ≡ suc (prefix_len p src) = omega arith in rw (e, k, e) again
     by again false e = rw e refl
-
-pub row_le : (p : ℕ → Bool) (src : List ℕ) → prefix_len p src ≤ length src
-row_le p [] = omega arith
-row_le p (b ∷ src) = by (row_le p src) (p b)
-  where
-    by : prefix_len p src ≤ length src → (t : Bool) → cond t (1 + prefix_len p src) 0 ≤ length (b ∷ src)
-    by le true = omega arith
-    by le false = omega arith
 
 row_stops : (p : ℕ → Bool) (rest : List ℕ) → Stops p rest → prefix_len p rest ≡ 0
 row_stops p [] h = refl

@@ -11,7 +11,7 @@ use Rattle.lf_templates.specs.declared.reference.Reference.{Reference}
 use Rattle.lf_templates.specs.Source.{in_source}
 use Rattle.lf_templates.specs.Actions.{tokens_of, first, is_sound, sets_labels}
 use Rattle.lf_templates.specs.Templates.{Action, word_of_action, opens_body, bodies_behind, bodies_round, is_stray, inner_behind, is_closed, is_bad, first_flawed, hides, references_in, references_of}
-use Rattle.lf_templates.specs.Reading.{outcome, closed_by, opened_by, body, word_of_body, is_hidden, is_bad_by, or_else, some_or, outermost, flaw_at_end, ending_by, settled, or_settled, words_of, judged, judged_by}
+use Rattle.lf_templates.specs.reading.Templates.{outcome, closed_by, opened_by, body, word_of_body, is_hidden, is_bad_by, or_else, some_or, outermost, flaw_at_end, ending_by, settled, or_settled, words_of, judged, judged_by}
 
 -- ---- flaws and references apart
 

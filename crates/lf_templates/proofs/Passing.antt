@@ -4,7 +4,7 @@ use Rattle.std.specs.Prelude.{option_map}
 use Rattle.std.proofs.lemmas.List.{drop_all}
 use Rattle.lf_templates.specs.Bytes.{starts_with}
 use Rattle.lf_templates.specs.Tokens.{ends_comment}
-use Rattle.lf_templates.specs.Reading.{closing, comment_len}
+use Rattle.lf_templates.specs.reading.Templates.{closing, comment_len}
 
 one_more : (i : ℕ) (o : Option ℕ) → option_map (λ n. i + n) (option_map suc o) ≡ option_map (λ n. i + 1 + n) o
 one_more i None = refl

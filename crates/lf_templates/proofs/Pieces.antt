@@ -7,7 +7,7 @@ use Rattle.lf_templates.specs.declared.token.Place.TheVariants as places
 use Rattle.lf_templates.specs.declared.token.Lexeme.{Lexeme}
 use Rattle.lf_templates.specs.Tokens.{Part, texts, lexeme, AreParts, closes, behind}
 use Rattle.lf_templates.specs.Templates.{Piece, Byte, Braced, piece_text, piece_texts, opens, ArePieces, IsOpen, Action, actions_of}
-use Rattle.lf_templates.specs.Reading.{token, front, lexed, total, Acts, acts_of, before, action_at}
+use Rattle.lf_templates.specs.reading.Templates.{token, front, lexed, total, Acts, acts_of, before, action_at}
 use Rattle.lf_templates.proofs.Lists.{drop_same}
 use Rattle.lf_templates.proofs.Quotes.{two}
 use Rattle.lf_templates.proofs.Fronts.{token_read}

@@ -4,7 +4,7 @@ use Rattle.std.specs.Prelude.{option_map}
 use Rattle.std.proofs.lemmas.Bool.{ne_eqb, eqb-false, eqb-true, and_parts}
 use Rattle.lf_templates.specs.Bytes.{starts_with}
 use Rattle.lf_templates.specs.Tokens.{IsInner, nothing, itself, pair, ends_comment, FreeOf}
-use Rattle.lf_templates.specs.Reading.{closing, comment_len}
+use Rattle.lf_templates.specs.reading.Templates.{closing, comment_len}
 
 abbrev lengthened : Option ℕ → Option ℕ
 lengthened o = option_map suc o

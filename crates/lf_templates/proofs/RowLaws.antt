@@ -8,7 +8,7 @@ use Rattle.lf_templates.specs.declared.token.Row.{Row}
 use Rattle.lf_templates.specs.declared.reference.Reference.{Reference}
 use Rattle.lf_templates.specs.Actions.{goes_on, is_field, is_root, is_labels_field, begins_row, row_to, row_of_two, row_here, as_list, rows}
 use Rattle.lf_templates.specs.Templates.{reference}
-use Rattle.lf_templates.specs.Reading.{total, Named, IsRowIn}
+use Rattle.lf_templates.specs.reading.Templates.{total, Named, IsRowIn}
 use Rattle.lf_templates.proofs.TokenLoops.{split}
 
 -- ---- where they stand

@@ -3,7 +3,7 @@ use Rattle.std.proofs.Common.{◌≡◌, List, [], ◌∷◌, ◌++◌, Some, re
 use Rattle.std.specs.Prelude.{reverse, slice_get}
 use Rattle.std.proofs.lemmas.List.{reverse-append}
 use Rattle.lf_templates.specs.declared.body.Body.{Body}
-use Rattle.lf_templates.specs.Reading.{outermost}
+use Rattle.lf_templates.specs.reading.Templates.{outermost}
 
 pub outermost_last : (bodies : List Body) (b : Body) → outermost (bodies ++ b ∷ []) ≡ Some b.span
 outermost_last [] b = refl

@@ -4,6 +4,7 @@ use Rattle.std.specs.Prelude.{option_map, nat_lt}
 use Rattle.std.specs.List.{prefix_len}
 use Rattle.std.proofs.lemmas.Bool.{eqb-true}
 use Rattle.std.proofs.lemmas.Bool.Decides.{nat_tests}
+use Rattle.std.proofs.lemmas.List.Sums.{prefix_len-le-length}
 use Rattle.lf_templates.specs.declared.token.Token.{Token}
 use Rattle.lf_templates.specs.declared.token.Token.TheVariants as tokens
 use Rattle.lf_templates.specs.declared.token.Place.{Place}
@@ -13,8 +14,8 @@ use Rattle.lf_templates.specs.declared.token.Beginning.TheVariants as begins
 use Rattle.lf_base.specs.Names.{begins_label, is_digit, is_in_label}
 use Rattle.lf_templates.specs.Bytes.{beginning, sign_begins, is_in_number, is_no_back_quote, starts, Stops}
 use Rattle.lf_templates.specs.Tokens.{IsToken, one_byte, in_quotes, in_back_quotes, a_word, a_variable, a_field, a_number, declares, a_colon, a_comment, a_slash, a_minus, takes_comment}
-use Rattle.lf_templates.specs.Reading.{token, name_len, closing, comment_len, string_front, raw_front, word_front, variable_front, field_front, number_front, colon_front, slash_front, minus_front, front_by, front}
-use Rattle.lf_templates.proofs.Lists.{row_all, row_le, row_then, front_length, front_split}
+use Rattle.lf_templates.specs.reading.Templates.{token, name_len, closing, comment_len, string_front, raw_front, word_front, variable_front, field_front, number_front, colon_front, slash_front, minus_front, front_by, front}
+use Rattle.lf_templates.proofs.Lists.{row_all, row_then, front_length, front_split}
 use Rattle.lf_templates.proofs.Quotes.{string_stands, comment_stands}
 use Rattle.lf_templates.proofs.Fronts.{name_le, name_stands}
 
@@ -95,7 +96,7 @@ module _ (place : Place) (b : ℕ) (src : List ℕ) where
       let w = told b begins.Letter k in
       let n = 1 + prefix_len is_in_label src in
       let f : n ≡ suc (prefix_len is_in_label src) = omega arith in
-      let le = row_le is_in_label src in
+      let le = prefix_len-le-length is_in_label src in
       let more = take (prefix_len is_in_label src) src in
       let ml = front_length (prefix_len is_in_label src) src le in
       rw (w, f) (record {
@@ -110,7 +111,7 @@ module _ (place : Place) (b : ℕ) (src : List ℕ) where
   number_at : beginning b ≡ begins.Digit → Stands place (b ∷ src) (number_front src)
   unfolding number_front
   number_at k =
-      let le = row_le is_in_number src in
+      let le = prefix_len-le-length is_in_number src in
       let ml = front_length (prefix_len is_in_number src) src le in
       record {
         text = b ∷ take (prefix_len is_in_number src) src;

@@ -8,7 +8,7 @@ use Rattle.lf_templates.specs.declared.reference.Reference.{Reference}
 use Rattle.lf_templates.specs.Source.{in_source}
 use Rattle.lf_templates.specs.Actions.{tokens_of, first, sets_labels}
 use Rattle.lf_templates.specs.Templates.{Action, word_of_action, references_at}
-use Rattle.lf_templates.specs.Reading.{outcome, closed_by, opened_by, is_hidden, is_bad_by, or_else, settled, or_settled, bad_action}
+use Rattle.lf_templates.specs.reading.Templates.{outcome, closed_by, opened_by, is_hidden, is_bad_by, or_else, settled, or_settled, bad_action}
 
 module _ (from text : List ℕ) (a : Action) (ts : List Lexeme) (word : Word) (span : Span) (bodies closed opened : List Body) (flaw worst : Option Span) (renamed gone bad hidden : Bool) (found more : List Reference)
     (lexemes : ts ≡ a.lexemes)

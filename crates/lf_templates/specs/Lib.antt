@@ -3,5 +3,5 @@ pub mod Bytes
 pub mod Tokens
 pub mod Actions
 pub mod Templates
-pub mod Reading
-pub mod Steps
+pub mod reading
+pub mod views

@@ -1,17 +1,18 @@
 //! The tokens of an action.
 ghost use Rattle.std.specs.Prelude.{◌≡◌, ◌+◌, ◌≤◌, length, drop, option_map, IfOk, IfSome};
-ghost use Rattle.lf_templates.specs.Reading.{lexed, total, Named};
+ghost use Rattle.lf_templates.specs.reading.Templates.{lexed, total, Named};
 ghost use Rattle.lf_templates.specs.declared.token.Place.TheVariants.{Start};
 
-use crate::bytes::after;
 use crate::front::{behind, closes, front};
 use crate::token::{Lexeme, Place};
 use lf_base::Memory;
+use lf_base::bytes::after;
 use std::alloc::Global;
 
 /// What stands between the braces of an action.
 #[derive(Debug, Drop)]
 pub struct Braced {
+    /// Its tokens, blanks among them.
     pub tokens: Vec<Lexeme>,
     /// The offset of what stands behind the closing braces.
     pub end: usize,

@@ -3,10 +3,13 @@
 use crate::token::Word;
 use lf_base::Span;
 
-/// A body: the word that opened it, whether references in it are hidden, by it or by one round it, and the place of the action that opened it.
+/// A body that is open.
 #[derive(Clone, Copy, PartialEq, Eq, Debug)]
 pub struct Body {
+    /// The word that opened it.
     pub word: Word,
+    /// Whether references in it are hidden, by it or by one round it.
     pub hides: bool,
+    /// Where the action stands that opened it.
     pub span: Span,
 }

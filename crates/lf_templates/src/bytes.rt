@@ -1,8 +1,8 @@
 //! The classes of bytes that tokens are made of, and rows of them.
-ghost use Rattle.std.specs.Prelude.{◌≡◌, ◌≤◌, length, drop, take};
+ghost use Rattle.std.specs.Prelude.{◌≡◌, ◌≤◌, length};
 ghost use Rattle.std.specs.List.{prefix_len};
 ghost use Rattle.lf_templates.specs.Bytes as class_of;
-ghost use Rattle.lf_templates.specs.Reading.{is_in_class};
+ghost use Rattle.lf_templates.specs.reading.Templates.{is_in_class};
 
 use crate::token::{Beginning, Token};
 use lf_base::names::{begins_label, is_digit, is_in_label};
@@ -14,9 +14,11 @@ pub enum Class {
     Word,
     /// What a number goes on with.
     Number,
+    /// What stands between back quotes.
     NoBackQuote,
 }
 
+/// Whether a number goes on with the byte.
 #[tactic(auto, unfolding(crate::specs::Bytes::is_in_number))]
 fn is_in_number(byte: u8) -> bool
     ensures { result ≡ class_of.is_in_number byte }
@@ -24,6 +26,7 @@ fn is_in_number(byte: u8) -> bool
     is_in_label(byte) || byte == b'.'
 }
 
+/// Whether a byte is of a class.
 #[tactic(auto, unfolding(crate::specs::Bytes::is_no_back_quote))]
 fn is_in_class(class: Class, byte: u8) -> bool
     ensures { result ≡ is_in_class class byte }
@@ -97,22 +100,6 @@ pub fn starts(first: u8, text: &[u8]) -> bool
         [] => false,
         [a, ..] => *a == first,
     }
-}
-
-/// The part of the bytes that begins at a place.
-pub fn after(bytes: &[u8], place: usize) -> &[u8]
-    requires { place ≤ length bytes.now }
-    ensures { result.now ≡ drop place bytes.now }
-{
-    bytes.split_at(place).1
-}
-
-/// The part of the bytes that ends at a place.
-pub fn before(bytes: &[u8], place: usize) -> &[u8]
-    requires { place ≤ length bytes.now }
-    ensures { result.now ≡ take place bytes.now }
-{
-    bytes.split_at(place).0
 }
 
 /// How many bytes the longest row of a class at the front has.

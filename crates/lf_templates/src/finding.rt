@@ -2,12 +2,12 @@
 ghost use Rattle.std.specs.Prelude.{◌≡◌, ◌+◌, ◌++◌, ◌≤◌, ◌<◌, ◌^◌, length, drop, map, false, IfOk, OnOk, if◌then◌else◌};
 ghost use Rattle.lf_templates.specs.Actions.{rows};
 ghost use Rattle.lf_templates.specs.Templates as templates;
-ghost use Rattle.lf_templates.specs.Reading.{total, Named, IsRowIn};
+ghost use Rattle.lf_templates.specs.reading.Templates.{total, Named, IsRowIn};
 
-use crate::bytes::{after, before};
 use crate::reference::Reference;
 use crate::rows::{goes_on, row_here};
 use crate::token::{Lexeme, Row};
+use lf_base::bytes::{after, before};
 use lf_base::{Memory, Seq, Span, Text};
 use std::alloc::Global;
 

@@ -2,12 +2,13 @@
 ghost use Rattle.std.specs.Prelude.{◌≡◌, ◌≤◌, ◌<◌, length, IfSome};
 ghost use Rattle.lf_templates.specs.Bytes.{starts};
 ghost use Rattle.lf_templates.specs.Tokens as tokens;
-ghost use Rattle.lf_templates.specs.Reading as reading;
+ghost use Rattle.lf_templates.specs.reading.Templates as reading;
 
-use crate::bytes::{Class, after, before, beginning, row_len, starts, starts_with};
+use crate::bytes::{Class, beginning, row_len, starts, starts_with};
 use crate::names::{field_of, name_len, variable_of, word_of};
 use crate::strings::{closing, comment_len};
 use crate::token::{Beginning, Lexeme, Place, Token};
+use lf_base::bytes::{after, before};
 
 /// Whether the action ends here.
 pub fn closes(rest: &[u8]) -> bool
@@ -80,7 +81,7 @@ fn behind_blank(place: Place) -> Place
 }
 
 /// The string behind a quote.
-#[tactic(auto, unfolding(crate::specs::Reading::string_front))]
+#[tactic(auto, unfolding(crate::specs::reading::Templates::string_front))]
 fn string(quote: u8, rest: &[u8]) -> Option<Lexeme>
     ensures { result ≡ reading.string_front quote rest.now }
 {
@@ -92,7 +93,7 @@ fn string(quote: u8, rest: &[u8]) -> Option<Lexeme>
 }
 
 /// The string behind a back quote.
-#[tactic(auto, unfolding(crate::specs::Reading::raw_front))]
+#[tactic(auto, unfolding(crate::specs::reading::Templates::raw_front))]
 fn raw_string(rest: &[u8]) -> Option<Lexeme>
     ensures { result ≡ reading.raw_front rest.now }
 {
@@ -107,7 +108,7 @@ fn raw_string(rest: &[u8]) -> Option<Lexeme>
     }
 }
 
-#[tactic(auto, unfolding(crate::specs::Reading::word_front))]
+#[tactic(auto, unfolding(crate::specs::reading::Templates::word_front))]
 fn word(rest: &[u8]) -> Lexeme
     ensures { result ≡ reading.word_front rest.now }
 {
@@ -120,7 +121,7 @@ fn word(rest: &[u8]) -> Lexeme
 }
 
 /// The variable behind a `$`.
-#[tactic(auto, unfolding(crate::specs::Reading::variable_front))]
+#[tactic(auto, unfolding(crate::specs::reading::Templates::variable_front))]
 fn variable(rest: &[u8]) -> Lexeme
     ensures { result ≡ reading.variable_front rest.now }
 {
@@ -133,7 +134,7 @@ fn variable(rest: &[u8]) -> Lexeme
 }
 
 /// The field behind a dot.
-#[tactic(auto, unfolding(crate::specs::Reading::field_front))]
+#[tactic(auto, unfolding(crate::specs::reading::Templates::field_front))]
 fn field(rest: &[u8]) -> Lexeme
     ensures { result ≡ reading.field_front rest.now }
 {
@@ -145,7 +146,7 @@ fn field(rest: &[u8]) -> Lexeme
 }
 
 /// The number behind its first digit.
-#[tactic(auto, unfolding(crate::specs::Reading::number_front))]
+#[tactic(auto, unfolding(crate::specs::reading::Templates::number_front))]
 fn number(rest: &[u8]) -> Lexeme
     ensures { result ≡ reading.number_front rest.now }
 {
@@ -156,7 +157,7 @@ fn number(rest: &[u8]) -> Lexeme
 }
 
 /// What a colon is.
-#[tactic(auto, unfolding(crate::specs::Reading::colon_front))]
+#[tactic(auto, unfolding(crate::specs::reading::Templates::colon_front))]
 fn colon(rest: &[u8]) -> Lexeme
     ensures { result ≡ reading.colon_front rest.now }
 {
@@ -174,7 +175,7 @@ fn colon(rest: &[u8]) -> Lexeme
 }
 
 /// What a slash begins.
-#[tactic(auto, unfolding(crate::specs::Reading::slash_front))]
+#[tactic(auto, unfolding(crate::specs::reading::Templates::slash_front))]
 fn slash(place: Place, rest: &[u8]) -> Option<Lexeme>
     ensures { result ≡ reading.slash_front place rest.now }
 {
@@ -193,7 +194,7 @@ fn slash(place: Place, rest: &[u8]) -> Option<Lexeme>
 }
 
 /// What a minus is.
-#[tactic(auto, unfolding(crate::specs::Reading::minus_front))]
+#[tactic(auto, unfolding(crate::specs::reading::Templates::minus_front))]
 fn minus(place: Place, rest: &[u8]) -> Lexeme
     ensures { result ≡ reading.minus_front place rest.now }
 {

@@ -1,14 +1,14 @@
 //! Names, and what they stand for.
 ghost use Rattle.std.specs.Prelude.{◌≡◌, ◌≤◌, length};
 ghost use Rattle.lf_templates.specs.Tokens as tokens;
-ghost use Rattle.lf_templates.specs.Reading as reading;
+ghost use Rattle.lf_templates.specs.reading.Templates as reading;
 
 use crate::bytes::{Class, row_len};
 use crate::token::{Token, Variable, Word};
 use lf_base::names::begins_label;
 
 /// How many bytes the word at the front has, 0 where none begins.
-#[tactic(auto, unfolding(crate::specs::Reading::name_len))]
+#[tactic(auto, unfolding(crate::specs::reading::Templates::name_len))]
 pub fn name_len(rest: &[u8]) -> usize
     ensures value { result ≡ reading.name_len rest.now }
     ensures within { result ≤ length rest.now }

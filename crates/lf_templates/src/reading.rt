@@ -1,20 +1,19 @@
 //! From a template to its references.
-ghost use Rattle.std.specs.Prelude.{◌≡◌, ◌+◌, ◌<◌, length, List, Ok, Err, IfOk, IfErr};
+ghost use Rattle.std.specs.Prelude.{◌≡◌, ◌+◌, ◌<◌, length, IfOk, IfErr};
 ghost use Rattle.std.specs.List.{AllByRecursion};
 ghost use Rattle.std.specs.List.Sorted.{IsNonDecreasing};
-ghost use Rattle.lf_base.specs.Answers.{Answers, IfAt};
-ghost use Rattle.lf_base.specs.declared.fault.Fault.{Fault};
+ghost use Rattle.lf_base.specs.Answers.{Answers, Breach, Found, IfAt, Only, Refused};
 ghost use Rattle.lf_templates.specs.Source.{LiesIn};
 ghost use Rattle.lf_templates.specs.Templates as templates;
-ghost use Rattle.lf_templates.specs.Reading as reading;
-ghost use Rattle.lf_templates.specs.Steps.{Advances};
-ghost use Rattle.lf_templates.specs.declared.reference.Reference.{Reference};
+ghost use Rattle.lf_templates.specs.reading.Templates as reading;
+ghost use Rattle.lf_templates.specs.views.Steps.{Advances};
 
 use crate::action::read_action;
-use crate::bytes::{after, starts_with};
+use crate::bytes::starts_with;
 use crate::reference::Reference;
 use crate::state::{State, begin, endless, finish, step};
 use lf_ast::Template;
+use lf_base::bytes::after;
 use lf_base::{Refusal, Seq};
 use std::alloc::Global;
 
@@ -60,15 +59,16 @@ pub fn references(alloc: Global, template: &Template) -> Result<Seq<Reference>, 
     requires from { length template.now.from ≡ length template.now.text + 1 }
     requires rises { IsNonDecreasing template.now.from }
     // What is answered are the template's references.
-    ensures found { IfOk result (templates.References template.now.from template.now.text) }
+    ensures found { Found (λ found. found) (templates.References template.now.from template.now.text) result }
     // They are answered, unless memory runs out; so no template has two lists of references.
-    ensures only { (found : List Reference) → templates.References template.now.from template.now.text found → Answers result (Ok found) }
+    ensures only { Only (λ found. found) (templates.References template.now.from template.now.text) result }
     // What is refused is the breach of a template.
-    ensures refused { IfErr result (λ refusal. IfAt refusal (templates.Breaks template.now.from template.now.text)) }
+    ensures refused { Refused (templates.Breaks template.now.from template.now.text) result }
     // It is refused, unless memory runs out; so no template has two breaches, nor one and references.
-    ensures breach { (fault : Fault) → templates.Breaks template.now.from template.now.text fault → Answers result (Err fault) }
-    // Each span lies in the source of the template's text, that of a refusal too.
+    ensures breach { Breach (λ found. found) (templates.Breaks template.now.from template.now.text) result }
+    // The spans of the references lie in the source of the template's text.
     ensures inside { IfOk result (AllByRecursion (λ reference. LiesIn template.now.from reference.span)) }
+    // So does that of a refusal.
     ensures refused_inside { IfErr result (λ refusal. IfAt refusal (λ fault. LiesIn template.now.from fault.span)) }
 {
     read(alloc, template.text.as_str(), template.from.as_slice())

@@ -2,9 +2,11 @@
 
 use lf_base::{Span, Text};
 
-/// A reference to a label: its name, and where in the source `$labels.NAME`, `.Labels.NAME` or `$.Labels.NAME` stands.
+/// A reference to a label: `$labels.NAME`, `.Labels.NAME` or `$.Labels.NAME`.
 #[derive(Debug, Drop)]
 pub struct Reference {
+    /// The name of the label.
     pub label: Text,
+    /// Where in the source the reference stands.
     pub span: Span,
 }

@@ -1,7 +1,7 @@
 //! The references in an action.
 ghost use Rattle.std.specs.Prelude.{◌≡◌, ◌+◌, ◌<◌, ◌^◌};
 ghost use Rattle.lf_templates.specs.Actions as actions;
-ghost use Rattle.lf_templates.specs.Reading.{total};
+ghost use Rattle.lf_templates.specs.reading.Templates.{total};
 
 use crate::saying::is_labels;
 use crate::token::{Lexeme, Row, Token, Variable};

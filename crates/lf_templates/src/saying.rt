@@ -52,6 +52,7 @@ fn is_comment_token(token: Token) -> bool
     }
 }
 
+/// Whether a token is `$labels`.
 pub fn is_labels(token: Token) -> bool
     ensures { result ≡ actions.is_labels token }
 {

@@ -4,8 +4,8 @@ ghost use Rattle.lf_templates.specs.Actions as actions;
 ghost use Rattle.lf_templates.specs.Actions.{tokens_of, head_of, first};
 ghost use Rattle.lf_base.specs.Answers.{Answers, IfAt};
 ghost use Rattle.lf_templates.specs.Templates as templates;
-ghost use Rattle.lf_templates.specs.Reading as reading;
-ghost use Rattle.lf_templates.specs.Steps.{Steps};
+ghost use Rattle.lf_templates.specs.reading.Templates as reading;
+ghost use Rattle.lf_templates.specs.views.Steps.{Steps};
 
 use crate::action::Braced;
 use crate::body::Body;
@@ -25,6 +25,7 @@ pub struct State {
     pub flaw: Option<Span>,
     /// Some action set `$labels` anew.
     pub renamed: bool,
+    /// The references so far.
     pub found: Seq<Reference>,
 }
 

@@ -50,18 +50,23 @@ pub enum Token {
     Wrong,
 }
 
-/// A token and how many bytes it has.
+/// A token as it stands in an action.
 #[derive(Clone, Copy, PartialEq, Eq, Debug)]
 pub struct Lexeme {
+    /// What it is.
     pub token: Token,
+    /// How many bytes it has.
     pub len: usize,
 }
 
-/// A reference to a label: the offsets in the text where it begins, where the label's name begins, and where both end.
+/// A reference to a label, by offsets in the text.
 #[derive(Clone, Copy, PartialEq, Eq, Debug)]
 pub struct Row {
+    /// Where it begins.
     pub start: usize,
+    /// Where the label's name begins.
     pub name: usize,
+    /// Where both end.
     pub end: usize,
 }
 

@@ -9,8 +9,8 @@ use Rattle.lf_scalar.specs.Cells.{end_of}
 use Rattle.lf_scalar.specs.Plain.{is_null, value_of}
 use Rattle.lf_scalar.proofs.Cells.{cells-bytes}
 use Rattle.lf_yaml.specs.Heads.{Bare}
-use Rattle.lf_yaml.specs.Reading.{key_of}
-use Rattle.lf_yaml.specs.Ascending.{offsets_from}
+use Rattle.lf_yaml.specs.reading.Trees.{key_of}
+use Rattle.lf_yaml.specs.views.Ascending.{offsets_from}
 
 pub offsets-push : (at n : ℕ) → offsets_from at n ++ (at + n) ∷ [] ≡ offsets_from at (suc n)
 offsets-push at zero = let z : at + 0 ≡ at = omega arith in ap (λ (m : ℕ). m ∷ []) z

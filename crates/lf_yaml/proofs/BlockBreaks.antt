@@ -9,7 +9,7 @@ use Rattle.lf_yaml.specs.Heads.{NoEntry, OpensQuote}
 use Rattle.lf_yaml.specs.Tree.{no_items, no_entries}
 use Rattle.lf_yaml.specs.Breaches.{NodeBreaks, BlockBreaks, ItemsBreak, ItemValueBreaks, EntriesBreak, EntryValueBreaks}
 use Rattle.lf_yaml.specs.Breaches as breaks
-use Rattle.lf_yaml.specs.Reading.{entry_by, quoted_head, opens_quote, item_at, item_value, with_item, items, entry_of, entry_at, entry_value, with_entry, entries_behind, keyed, key_read, entries_on, entries, as_sequence, as_mapping, node_at}
+use Rattle.lf_yaml.specs.reading.Trees.{entry_by, quoted_head, opens_quote, item_at, item_value, with_item, items, entry_of, entry_at, entry_value, with_entry, entries_behind, keyed, key_read, entries_on, entries, as_sequence, as_mapping, node_at}
 use Rattle.lf_yaml.proofs.Ends.{end-length}
 use Rattle.lf_yaml.proofs.HeadLaws.{entry-is, key-is, key-breaks, has-tells, begins-block, begins-no-block, entry-view, opens-is, opens-view}
 use Rattle.lf_yaml.proofs.HeadLaws as heads

@@ -16,7 +16,7 @@ use Rattle.lf_yaml.specs.Nodes.{NothingBelow, Ends, NodeAt, BlockAt, ItemsAt, It
 use Rattle.lf_yaml.specs.Nodes as nodes
 use Rattle.lf_yaml.specs.Breaches.{NodeBreaks, BlockBreaks, ItemsBreak, ItemValueBreaks, EntriesBreak, EntryValueBreaks}
 use Rattle.lf_yaml.specs.Breaches as breaks
-use Rattle.lf_yaml.specs.Reading.{Read, Head, item_next, item_at, item_value, with_item, items_behind, items, key_of, entry_of, entry_next, entry_at, entry_value, with_entry, entries_behind, key_read, entries_on, entries, as_sequence, as_mapping, value_on, node_at}
+use Rattle.lf_yaml.specs.reading.Trees.{Read, Head, item_next, item_at, item_value, with_item, items_behind, items, key_of, entry_of, entry_next, entry_at, entry_value, with_entry, entries_behind, key_read, entries_on, entries, as_sequence, as_mapping, value_on, node_at}
 use Rattle.lf_yaml.proofs.Ends.{end-length, end-holds}
 use Rattle.lf_yaml.proofs.HeadLaws.{tells, entry-view, KeyTold, key-tells, has-tells, opens-view, block-view}
 use Rattle.lf_yaml.proofs.HeadLaws as heads

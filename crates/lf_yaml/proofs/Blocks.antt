@@ -6,7 +6,7 @@ use Rattle.lf_yaml.specs.Rows.{Row, indent}
 use Rattle.lf_yaml.specs.Heads.{is_item, Key, BeginsEntry}
 use Rattle.lf_yaml.specs.Tree.{Tree, Items, no_items, Entries, no_entries}
 use Rattle.lf_yaml.specs.Nodes.{NodeAt, BlockAt, ItemsAt, ItemValue, EntriesAt, EntryAt, EntryValue, value, block, block_sequence, block_mapping, last_item, more_items, item_here, item_below, item_empty, last_entry, more_entries, an_entry, value_here, value_below, value_beside, value_missing}
-use Rattle.lf_yaml.specs.Reading.{key_of, begins_block, Read, Reader, item_at, item_value, with_item, items_behind, items, entry_at, entry_value, with_entry, EntryValues, entries_behind, keyed, key_read, entries_on, entries, as_sequence, as_mapping, node_at}
+use Rattle.lf_yaml.specs.reading.Trees.{key_of, begins_block, Read, Reader, item_at, item_value, with_item, items_behind, items, entry_at, entry_value, with_entry, EntryValues, entries_behind, keyed, key_read, entries_on, entries, as_sequence, as_mapping, node_at}
 use Rattle.lf_yaml.proofs.Ends.{end-length}
 use Rattle.lf_yaml.proofs.HeadLaws.{entry-is, key-is, has-tells, begins-block, begins-no-block}
 use Rattle.lf_yaml.proofs.HeadLaws as heads

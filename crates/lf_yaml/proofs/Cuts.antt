@@ -13,10 +13,10 @@ use Rattle.lf_scalar.specs.Quoted.{quote_of}
 use Rattle.lf_yaml.specs.Flow.{is_flow_sign}
 use Rattle.lf_scalar.proofs.LineSteps.{line-step, lines-other}
 use Rattle.lf_scalar.proofs.SmallBytes.{small-blank}
-use Rattle.lf_yaml.specs.Shown.{shown}
-use Rattle.lf_yaml.specs.Cursor.{IsRowOf, rows_after}
+use Rattle.lf_yaml.specs.views.Shown.{shown}
+use Rattle.lf_yaml.specs.views.Cursor.{IsRowOf, rows_after}
 use Rattle.lf_yaml.specs.Rows.{Row}
-use Rattle.lf_yaml.specs.Places.{IsIn}
+use Rattle.lf_yaml.specs.views.Places.{IsIn}
 use Rattle.lf_yaml.specs.declared.row.Row.{Row as CodeRow}
 use Rattle.lf_yaml.proofs.HeadLaws.{tells}
 use Rattle.lf_yaml.proofs.Placed.{FirstCell, first-cell, first-lengthen}

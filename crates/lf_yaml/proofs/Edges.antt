@@ -7,17 +7,18 @@ use Rattle.std.proofs.lemmas.Slice.Eq.{bytes_eq-Decides}
 use Rattle.std.proofs.lemmas.Str.{IsCharBoundary-start, IsCharBoundary-past_char}
 use Rattle.lf_scalar.specs.Cells.{Cell, cells, Fails, ◌>>=◌}
 use Rattle.lf_scalar.specs.Lines.{is_tail}
-use Rattle.lf_scalar.specs.QuotedReading.{wrong_behind}
+use Rattle.lf_scalar.specs.reading.Quoted.{wrong_behind}
 use Rattle.lf_scalar.proofs.Tails.{tail-told, told-tail}
 use Rattle.lf_base.specs.declared.refusal.Refusal.{Refusal}
 use Rattle.lf_base.specs.declared.refusal.Refusal.TheVariants as refusal_of
 use Rattle.lf_yaml.specs.Rows.{Row, indent, is_opening_text, is_opening, without_opening}
 use Rattle.lf_yaml.specs.Tree.{Tree}
-use Rattle.lf_yaml.specs.Document.{mark_length, document_rows}
-use Rattle.lf_yaml.specs.Reading.{Read, begins_block, node_at, behind_root, document_of}
-use Rattle.lf_yaml.specs.Shown.{shown}
-use Rattle.lf_yaml.specs.Cursor.{rows_after}
-use Rattle.lf_yaml.specs.BlockTurns.{behind_fault}
+use Rattle.lf_yaml.specs.Characters.{mark_length}
+use Rattle.lf_yaml.specs.Document.{document_rows}
+use Rattle.lf_yaml.specs.reading.Trees.{Read, begins_block, node_at, behind_root, document_of}
+use Rattle.lf_yaml.specs.views.Shown.{shown}
+use Rattle.lf_yaml.specs.views.Cursor.{rows_after}
+use Rattle.lf_yaml.specs.reading.BlockTurns.{behind_fault}
 use Rattle.lf_yaml.specs.declared.row.Row.{Row as CodeRow}
 use Rattle.lf_yaml.proofs.RowCode.{text-shown}
 use Rattle.lf_yaml.proofs.HeadLaws.{tells}

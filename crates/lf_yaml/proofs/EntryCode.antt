@@ -6,11 +6,11 @@ use Rattle.lf_scalar.specs.Folding.{trimmed}
 use Rattle.lf_scalar.specs.Plain.{before_blank, begins_plain, is_plain_byte, is_sign}
 use Rattle.lf_yaml.specs.Rows.{Row, is_left_out}
 use Rattle.lf_scalar.specs.declared.quotes.Quotes.{Quotes}
-use Rattle.lf_scalar.specs.QuotedReading.{Closing, closing_of, split_of}
+use Rattle.lf_scalar.specs.reading.Quoted.{Closing, closing_of, split_of}
 use Rattle.lf_yaml.specs.Heads.{Split, key_in, never, Bare, Between}
-use Rattle.lf_yaml.specs.Reading.{Head, bare_head, entry_by, quoted_head, quoted_sign, sign_behind}
-use Rattle.lf_yaml.specs.Signs.{stops_of, ends_of, split_at}
-use Rattle.lf_yaml.specs.Shown.{shown}
+use Rattle.lf_yaml.specs.reading.Trees.{Head, bare_head, entry_by, quoted_head, quoted_sign, sign_behind}
+use Rattle.lf_yaml.specs.views.Signs.{stops_of, ends_of, split_at}
+use Rattle.lf_yaml.specs.views.Shown.{shown}
 use Rattle.lf_yaml.specs.declared.row.Row.{Row as CodeRow}
 use Rattle.lf_yaml.proofs.RowCode.{text-shown}
 

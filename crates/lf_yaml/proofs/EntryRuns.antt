@@ -9,8 +9,8 @@ use Rattle.lf_scalar.specs.Cells.{Cell, Value, Fails, ◌>>=◌}
 use Rattle.lf_yaml.specs.Rows.{Row, text_of, indent, indent_fault}
 use Rattle.lf_yaml.specs.Tree.{Tree, Entries, no_entries, entries_of}
 use Rattle.lf_yaml.specs.Nodes.{Ends}
-use Rattle.lf_yaml.specs.Reading.{Head, Read, EntryValues, entry_of, key_of, has, opens_quote, keyed, key_read, with_entry, entries_behind, entries_on, entries}
-use Rattle.lf_yaml.specs.BlockTurns.{head_here, no_entry_fault, entry_turn, if_new, new_key, with_key, one_entry, values, run_entries}
+use Rattle.lf_yaml.specs.reading.Trees.{Head, Read, EntryValues, entry_of, key_of, has, opens_quote, keyed, key_read, with_entry, entries_behind, entries_on, entries}
+use Rattle.lf_yaml.specs.reading.BlockTurns.{head_here, no_entry_fault, entry_turn, if_new, new_key, with_key, one_entry, values, run_entries}
 use Rattle.lf_yaml.proofs.BlockRows.{entry-value-rows}
 use Rattle.lf_yaml.proofs.BlockTells.{EntryValueTold, entry-value-told, node-tells, own-tells}
 use Rattle.lf_yaml.proofs.Ends.{end-length}

@@ -9,11 +9,11 @@ use Rattle.lf_scalar.specs.Cells.{Cell, Value, Fails, ◌>>=◌}
 use Rattle.lf_yaml.specs.Rows.{Row}
 use Rattle.lf_yaml.specs.Tree.{Tree, Entries, no_entries, entries_of, pair}
 use Rattle.lf_yaml.specs.Flow.{next_part}
-use Rattle.lf_yaml.specs.Reading.{FlowRead, Later, Signed, Valued, has, flow_key, flow_value, mapping_sign, value_behind, key_behind, mapping_in, turns}
-use Rattle.lf_yaml.specs.Turns.{with_pair, turned_entries, new_key, entry_at, closed_entries}
-use Rattle.lf_yaml.specs.Places.{left_at, rows_at}
-use Rattle.lf_yaml.specs.Shown.{shown}
-use Rattle.lf_yaml.specs.Cursor.{rows_after}
+use Rattle.lf_yaml.specs.reading.Trees.{FlowRead, Later, Signed, Valued, has, flow_key, flow_value, mapping_sign, value_behind, key_behind, mapping_in, turns}
+use Rattle.lf_yaml.specs.reading.FlowTurns.{with_pair, turned_entries, new_key, entry_at, closed_entries}
+use Rattle.lf_yaml.specs.views.Places.{left_at, rows_at}
+use Rattle.lf_yaml.specs.views.Shown.{shown}
+use Rattle.lf_yaml.specs.views.Cursor.{rows_after}
 use Rattle.lf_yaml.specs.declared.node.Entry.{Entry}
 use Rattle.lf_yaml.specs.declared.row.Row.{Row as CodeRow}
 use Rattle.lf_yaml.specs.declared.place.Place.{Place}

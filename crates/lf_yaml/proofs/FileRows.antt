@@ -4,8 +4,8 @@ use Rattle.std.specs.Prelude.{MatchOption, IfSome, option_map}
 use Rattle.std.specs.Str.{IsCharBoundary, IsUtf8}
 use Rattle.lf_scalar.specs.Cells.{cells}
 use Rattle.lf_yaml.specs.Rows.{left_of}
-use Rattle.lf_yaml.specs.Shown.{shown}
-use Rattle.lf_yaml.specs.Cursor.{rows_after, IsRowOf}
+use Rattle.lf_yaml.specs.views.Shown.{shown}
+use Rattle.lf_yaml.specs.views.Cursor.{rows_after, IsRowOf}
 use Rattle.lf_yaml.specs.declared.row.Row.{Row as CodeRow}
 use Rattle.lf_yaml.proofs.HeadCode.{left-row}
 use Rattle.lf_yaml.proofs.RowsAfter.{placed-first}

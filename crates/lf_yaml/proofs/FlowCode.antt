@@ -3,7 +3,7 @@ use Rattle.std.proofs.Common.{◌≡◌, Bool, true, false, cond, not, List, ref
 use Rattle.lf_base.specs.declared.kind.Kind.{Kind}
 use Rattle.lf_base.specs.declared.kind.Kind.TheVariants.{LeftOut, NotANode}
 use Rattle.lf_scalar.specs.Cells.{Cell, character_fault}
-use Rattle.lf_scalar.specs.Drafted.{refused}
+use Rattle.lf_scalar.specs.views.Built.{refused}
 use Rattle.lf_scalar.specs.Plain.{is_plain_byte, is_sign}
 use Rattle.lf_scalar.proofs.Tails.{true-false}
 use Rattle.lf_yaml.specs.Flow.{begins_blank, begins_flow}

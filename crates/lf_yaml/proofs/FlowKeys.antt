@@ -8,7 +8,7 @@ use Rattle.lf_scalar.specs.Cells.{Cell, cell, Value, byte_fault, character_fault
 use Rattle.lf_scalar.specs.Lines.{is_blank, after_blanks, begins_with}
 use Rattle.lf_scalar.specs.Folding.{trimmed}
 use Rattle.lf_scalar.specs.Quoted.{quote_of, Closes}
-use Rattle.lf_scalar.specs.QuotedReading.{closing_of}
+use Rattle.lf_scalar.specs.reading.Quoted.{closing_of}
 use Rattle.lf_scalar.proofs.Closing.{closes-again}
 use Rattle.lf_scalar.proofs.Tails.{true-false}
 use Rattle.lf_yaml.specs.Rows.{Row, is_property}
@@ -17,7 +17,7 @@ use Rattle.lf_yaml.specs.Tree.{Tree}
 use Rattle.lf_yaml.specs.Spans.{empty_at}
 use Rattle.lf_yaml.specs.Flow.{Next, at_part, broken, next_part, is_flow_sign, is_bracket, begins_flow, behind_text, FlowScalar, begins_part, part_fault, sign_fault, FlowScalarBreaks, ends_key, FlowKey, is_empty_key, NoSign, FlowKeyBreaks, EndsValue, FlowValue, FlowValueBreaks}
 use Rattle.lf_yaml.specs.Flow as flow
-use Rattle.lf_yaml.specs.Reading.{quotes_of, sign_behind, between_of, behind_closing, Part, flow_scalar, Signed, no_sign, signed, signed_behind, bare_key, plain_key, flow_key_by, flow_key, Valued, scalar_part, value_part, flow_value, turns}
+use Rattle.lf_yaml.specs.reading.Trees.{quotes_of, sign_behind, between_of, behind_closing, Part, flow_scalar, Signed, no_sign, signed, signed_behind, bare_key, plain_key, flow_key_by, flow_key, Valued, scalar_part, value_part, flow_value, turns}
 use Rattle.lf_yaml.proofs.Ends.{IsEnd, end-all}
 use Rattle.lf_yaml.proofs.HeadLaws.{tells, quotes-is, quotes-view, between-view, found, single_line, BetweenTold, between-tells, between-is, between-breaks, sign-is, sign-view}
 use Rattle.lf_yaml.proofs.FlowParts.{Further, next-further, turns-within, part-is, part-breaks, PartTold, part-tells, part-begins, quote-begins, flow-begins, part-no-sign, behind-length, closed-length, flow-quotes, no-part-quotes, no-part-flow, part-flow}

@@ -10,13 +10,13 @@ use Rattle.lf_base.specs.declared.fault.Fault.{Fault}
 use Rattle.lf_scalar.specs.Cells.{Cell, cell, Value, byte_fault}
 use Rattle.lf_scalar.specs.Lines.{is_blank}
 use Rattle.lf_scalar.specs.Quoted.{quote_of, raw, Closes}
-use Rattle.lf_scalar.specs.QuotedReading.{closing_of}
+use Rattle.lf_scalar.specs.reading.Quoted.{closing_of}
 use Rattle.lf_scalar.proofs.Closing.{closes-again}
 use Rattle.lf_scalar.proofs.Tails.{true-false}
 use Rattle.lf_yaml.specs.Rows.{Row, text_of, indent, is_mark}
 use Rattle.lf_yaml.specs.Heads.{OpensQuote}
 use Rattle.lf_yaml.specs.Flow.{Next, at_part, broken, on_line, next_part, begins_flow, flow_text, behind_text, later_colon, FlowScalar, quoted, plain, begins_part, part_fault, FlowScalarBreaks, no_scalar, open_quote, escape, colon}
-use Rattle.lf_yaml.specs.Reading.{quotes_of, between_of, behind_closing, Part, with_behind, plain_part, part_by, flow_scalar, turns}
+use Rattle.lf_yaml.specs.reading.Trees.{quotes_of, between_of, behind_closing, Part, with_behind, plain_part, part_by, flow_scalar, turns}
 use Rattle.lf_yaml.proofs.Ends.{IsEnd, end-is, end-behind}
 use Rattle.lf_yaml.proofs.HeadLaws.{tells, NoQuote, quotes-is, quotes-view, not-quote, between-view, single_line, BetweenTold, between-tells, between-is, between-breaks}
 

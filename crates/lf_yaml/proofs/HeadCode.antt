@@ -12,11 +12,11 @@ use Rattle.lf_scalar.proofs.Tails.{true-false}
 use Rattle.lf_yaml.specs.Rows.{Row, row, text_of, left_of}
 use Rattle.lf_yaml.specs.Heads.{Key, BeginsEntry}
 use Rattle.lf_yaml.specs.Heads as head
-use Rattle.lf_yaml.specs.Reading.{Head, entry_of}
-use Rattle.lf_yaml.specs.Shown.{shown}
-use Rattle.lf_yaml.specs.Cursor.{IsRowOf}
-use Rattle.lf_yaml.specs.Headed.{headed}
-use Rattle.lf_yaml.specs.BlockTurns.{IsBehind}
+use Rattle.lf_yaml.specs.reading.Trees.{Head, entry_of}
+use Rattle.lf_yaml.specs.views.Shown.{shown}
+use Rattle.lf_yaml.specs.views.Cursor.{IsRowOf}
+use Rattle.lf_yaml.specs.views.Headed.{headed}
+use Rattle.lf_yaml.specs.reading.BlockTurns.{IsBehind}
 use Rattle.lf_yaml.specs.declared.row.Row.{Row as CodeRow}
 use Rattle.lf_yaml.specs.declared.entries.Head.{Head as CodeHead}
 use Rattle.lf_scalar.proofs.Cells.{cells-bytes}

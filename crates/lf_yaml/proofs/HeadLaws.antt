@@ -13,13 +13,13 @@ use Rattle.lf_scalar.specs.Lines.{is_blank, after_blanks}
 use Rattle.lf_scalar.specs.Folding.{trimmed}
 use Rattle.lf_scalar.specs.Plain.{before_blank, begins_plain}
 use Rattle.lf_scalar.specs.Quoted.{quote_of, raw, Closes}
-use Rattle.lf_scalar.specs.QuotedReading.{Closing, closing_of, quoted_of}
+use Rattle.lf_scalar.specs.reading.Quoted.{Closing, closing_of, quoted_of}
 use Rattle.lf_scalar.proofs.Closing.{closes-again, closes-or-none}
 use Rattle.lf_scalar.proofs.QuotedWhole as whole
 use Rattle.lf_scalar.proofs.Tails.{true-false}
 use Rattle.lf_yaml.specs.Rows.{Row, text_of, is_left_out}
 use Rattle.lf_yaml.specs.Heads.{is_item, Split, key_in, never, Key, Bare, Between, up_to, IsBetween, BetweenBreaks, IsKey, KeyBreaks, IsSignBehind, BeginsEntry, bare, quoted, NoEntry, BeginsBlock, BeginsNoBlock, OpensQuote}
-use Rattle.lf_yaml.specs.Reading.{quotes_of, Head, sign_if, sign_behind, quoted_sign, quoted_head, bare_head, entry_by, entry_of, between_of, key_of, opens_by, opens_quote, has, begins_block}
+use Rattle.lf_yaml.specs.reading.Trees.{quotes_of, Head, sign_if, sign_behind, quoted_sign, quoted_head, bare_head, entry_by, entry_of, between_of, key_of, opens_by, opens_quote, has, begins_block}
 
 -- a test passes or not
 pub tells : (b : Bool) → (b ≡ true) ⊎ (b ≡ false)

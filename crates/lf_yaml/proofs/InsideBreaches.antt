@@ -18,7 +18,7 @@ use Rattle.lf_yaml.specs.Heads as heads
 use Rattle.lf_yaml.specs.Breaches.{ScalarBreaksOn, ValueBreaks, NodeBreaks, BlockBreaks, ItemsBreak, ItemValueBreaks, EntriesBreak, EntryValueBreaks}
 use Rattle.lf_yaml.specs.Breaches as breaks
 use Rattle.lf_yaml.specs.Document.{document_rows, DocumentBreaks, broken_node, behind_block, behind_value, TreeBreaks, bad_characters, bad_document}
-use Rattle.lf_yaml.specs.Cursor.{IsPlaced}
+use Rattle.lf_yaml.specs.views.Cursor.{IsPlaced}
 use Rattle.lf_yaml.proofs.Ends.{IsEnd, end-holds}
 use Rattle.lf_yaml.proofs.BlockRows.{block-rows, item-rows, entry-rows}
 use Rattle.lf_yaml.proofs.BlockTells.{entry-suffix}

@@ -16,7 +16,8 @@ use Rattle.lf_scalar.proofs.Parts.{Utf8, part-utf8, utf8-behind, blank-low, afte
 use Rattle.lf_scalar.proofs.Rising.{Rises, LinesRise, rises-le, rises-part, cells-rise, lines-rise}
 use Rattle.lf_scalar.proofs.Utf8Lines.{LinesUtf8, lines-utf8}
 use Rattle.lf_yaml.specs.Rows.{Row, row, text_of, start_of, headed, content_row, rows_of, left_of, is_left_out, indent_fault, row_fault, is_opening, without_opening}
-use Rattle.lf_yaml.specs.Document.{mark_length, document_rows}
+use Rattle.lf_yaml.specs.Characters.{mark_length}
+use Rattle.lf_yaml.specs.Document.{document_rows}
 use Rattle.lf_yaml.proofs.Edges.{mark-start}
 use Rattle.lf_yaml.proofs.Ends.{IsEnd}
 

@@ -7,11 +7,11 @@ use Rattle.lf_base.specs.declared.fault.Fault.{Fault}
 use Rattle.lf_scalar.specs.Cells.{Cell, Fails}
 use Rattle.lf_yaml.specs.Rows.{Row}
 use Rattle.lf_yaml.specs.Tree.{Tree, Items, no_items, items_of, tree}
-use Rattle.lf_yaml.specs.Reading.{FlowRead, sequence_in, turns}
-use Rattle.lf_yaml.specs.Turns.{with_tree, turned_items, closed_items}
-use Rattle.lf_yaml.specs.Places.{left_at, rows_at}
-use Rattle.lf_yaml.specs.Shown.{shown}
-use Rattle.lf_yaml.specs.Cursor.{rows_after}
+use Rattle.lf_yaml.specs.reading.Trees.{FlowRead, sequence_in, turns}
+use Rattle.lf_yaml.specs.reading.FlowTurns.{with_tree, turned_items, closed_items}
+use Rattle.lf_yaml.specs.views.Places.{left_at, rows_at}
+use Rattle.lf_yaml.specs.views.Shown.{shown}
+use Rattle.lf_yaml.specs.views.Cursor.{rows_after}
 use Rattle.lf_yaml.specs.declared.node.Node.{Node}
 use Rattle.lf_yaml.specs.declared.row.Row.{Row as CodeRow}
 use Rattle.lf_yaml.specs.declared.place.Place.{Place}

@@ -9,9 +9,9 @@ use Rattle.lf_yaml.specs.Rows.{Row, indent, indent_fault, row_fault}
 use Rattle.lf_yaml.specs.Heads.{is_item}
 use Rattle.lf_yaml.specs.Tree.{Tree, Items, no_items, items_of}
 use Rattle.lf_yaml.specs.Nodes.{Ends}
-use Rattle.lf_yaml.specs.Reading.{Read, Reader, item_value, with_item, items}
-use Rattle.lf_yaml.specs.Cursor.{rows_after}
-use Rattle.lf_yaml.specs.BlockTurns.{item_turn, inner, run_items}
+use Rattle.lf_yaml.specs.reading.Trees.{Read, Reader, item_value, with_item, items}
+use Rattle.lf_yaml.specs.views.Cursor.{rows_after}
+use Rattle.lf_yaml.specs.reading.BlockTurns.{item_turn, inner, run_items}
 use Rattle.lf_yaml.proofs.BlockRows.{item-rows}
 use Rattle.lf_yaml.proofs.BlockTells.{ItemTold, item-told, node-tells}
 use Rattle.lf_yaml.proofs.Blocks.{at-item}

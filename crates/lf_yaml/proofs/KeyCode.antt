@@ -5,12 +5,12 @@ use Rattle.lf_scalar.specs.Cells.{Cell, cell, cells, Value}
 use Rattle.lf_scalar.specs.Lines.{is_blank, after_blanks}
 use Rattle.lf_scalar.specs.Folding.{trimmed}
 use Rattle.lf_scalar.specs.declared.quotes.Quotes.{Quotes}
-use Rattle.lf_scalar.specs.QuotedReading.{closing_of}
+use Rattle.lf_scalar.specs.reading.Quoted.{closing_of}
 use Rattle.lf_yaml.specs.Rows.{Row}
 use Rattle.lf_yaml.specs.Heads.{Split, key_in}
 use Rattle.lf_yaml.specs.Flow.{next_part, begins_flow, flow_text, behind_text, is_flow_sign, is_empty_key, ends_key}
-use Rattle.lf_yaml.specs.Signs.{stops_of, ends_of, split_at}
-use Rattle.lf_yaml.specs.Reading.{Part, with_behind, part_by, between_of, behind_closing, sign_if, sign_behind, Signed, signed, signed_behind, no_sign, plain_key, bare_key, flow_key_by}
+use Rattle.lf_yaml.specs.views.Signs.{stops_of, ends_of, split_at}
+use Rattle.lf_yaml.specs.reading.Trees.{Part, with_behind, part_by, between_of, behind_closing, sign_if, sign_behind, Signed, signed, signed_behind, no_sign, plain_key, bare_key, flow_key_by}
 use Rattle.lf_yaml.proofs.Placed.{drops}
 use Rattle.lf_yaml.proofs.PartCode.{behind-is}
 use Rattle.lf_yaml.proofs.EntryCode.{take-within}

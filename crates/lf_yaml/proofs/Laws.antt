@@ -1,22 +1,22 @@
 -- Reading a file is the definition, both ways: there is one tree or one breach, and never both.
-use Rattle.std.proofs.Common.{◌≡◌, ℕ, ◌<◌, Bool, true, false, cond, List, [], ◌∷◌, Result, Ok, Err, length, refl, ap, arith, sym, ◌∙◌, subst, inl, inr}
+use Rattle.std.proofs.Common.{◌≡◌, ℕ, ◌<◌, Bool, true, false, cond, List, [], ◌∷◌, Result, Ok, Err, length, refl, ap, arith, sym, ◌∙◌, subst, inl, inr, get_or}
 use Rattle.std.specs.Prelude.{IsUtf8, drop}
 use Rattle.std.specs.Str.{IsValidUpTo}
 use Rattle.std.proofs.lemmas.List.{take_all}
 use Rattle.std.proofs.lemmas.Bool.{cases_lt}
 use Rattle.lf_base.specs.declared.kind.Kind.TheVariants.{BadUtf8, BadChar}
 use Rattle.lf_base.specs.declared.fault.Fault.{Fault}
-use Rattle.lf_scalar.specs.Cells.{byte_fault, ◌>>=◌}
+use Rattle.lf_scalar.specs.Cells.{byte_fault, ◌>>=◌, cell, character_fault}
 use Rattle.lf_scalar.specs.Lines.{lines}
 use Rattle.lf_scalar.specs.Scalars.{source_at}
 use Rattle.lf_scalar.proofs.Tails.{true-false}
-use Rattle.lf_yaml.specs.Characters.{is_wrong, FirstWrong, AreCharacters, BreaksCharacters}
+use Rattle.lf_yaml.specs.Characters.{mark_length, is_wrong, FirstWrong, AreCharacters, BreaksCharacters}
 use Rattle.lf_yaml.specs.Rows.{Row, rows_of, is_opening, without_opening}
 use Rattle.lf_yaml.specs.Tree.{Tree}
 use Rattle.lf_yaml.specs.Nodes.{NodeAt, BlockAt, ValueAt}
 use Rattle.lf_yaml.specs.Nodes as nodes
-use Rattle.lf_yaml.specs.Document.{mark_length, document_rows, DocumentAt, nothing, a_node, DocumentBreaks, broken_node, behind_block, behind_value}
-use Rattle.lf_yaml.specs.Reading.{Read, begins_block, node_at, behind_root, document_of}
+use Rattle.lf_yaml.specs.Document.{document_rows, DocumentAt, nothing, a_node, DocumentBreaks, broken_node, behind_block, behind_value}
+use Rattle.lf_yaml.specs.reading.Trees.{Read, begins_block, node_at, behind_root, document_of}
 use Rattle.lf_yaml.proofs.HeadLaws.{begins-no-block}
 use Rattle.lf_yaml.proofs.Placed.{ArePlaced, file-placed}
 use Rattle.lf_yaml.proofs.Steps.{value-node}
@@ -99,7 +99,7 @@ not-valid : (bytes : List ℕ) (n : ℕ) → IsValidUpTo bytes n → IsUtf8 byte
 not-valid bytes n h utf8 = h.longest (length bytes) h.short (subst IsUtf8 (sym (take_all (length bytes) bytes (omega arith))) utf8)
 
 first-within : (bytes : List ℕ) (k j : ℕ) → FirstWrong bytes k → FirstWrong bytes j → k < j → ⊥
-first-within bytes k j h g lt = true-false (is_wrong (drop k bytes)) h.0 (g.1 k lt)
+first-within bytes k j h g lt = true-false (is_wrong (drop k bytes)) h.1 (g.2 k h.0 lt)
 
 first-one : (bytes : List ℕ) (k j : ℕ) → FirstWrong bytes k → FirstWrong bytes j → k ≡ j
 first-one bytes k j h g =
@@ -115,8 +115,8 @@ pub characters-one : (bytes : List ℕ) (f g : Fault) → BreaksCharacters bytes
 characters-one bytes f g (inl (m, h, e)) (inl (n, k, q)) = e ∙ ap (λ (x : ℕ). byte_fault BadUtf8 x) (valid-one bytes m n h k) ∙ sym q
 characters-one bytes f g (inl (m, h, e)) (inr (utf8, k)) = absurd (not-valid bytes m h utf8)
 characters-one bytes f g (inr (utf8, h)) (inl (n, k, q)) = absurd (not-valid bytes n k utf8)
-characters-one bytes f g (inr (utf8, (k, h, e))) (inr (utf8b, (j, i, q))) = e ∙ ap (λ (x : ℕ). byte_fault BadChar x) (first-one bytes k j h i) ∙ sym q
+characters-one bytes f g (inr (utf8, (k, h, e))) (inr (utf8b, (j, i, q))) = e ∙ ap (λ (x : ℕ). character_fault BadChar (cell (get_or bytes x 0) x)) (first-one bytes k j h i) ∙ sym q
 
 pub characters-never : (bytes : List ℕ) (f : Fault) → BreaksCharacters bytes f → AreCharacters bytes → ⊥
 characters-never bytes f (inl (m, h, e)) (utf8, none) = not-valid bytes m h utf8
-characters-never bytes f (inr (utf8, (k, h, e))) (utf8b, none) = true-false (is_wrong (drop k bytes)) h.0 (none k)
+characters-never bytes f (inr (utf8, (k, h, e))) (utf8b, none) = true-false (is_wrong (drop k bytes)) h.1 (none k h.0)

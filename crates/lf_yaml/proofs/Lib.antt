@@ -45,3 +45,4 @@ pub mod InsideScalars
 pub mod InsideFlow
 pub mod InsideTrees
 pub mod InsideBreaches
+pub mod Worked

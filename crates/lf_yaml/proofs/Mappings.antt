@@ -10,7 +10,7 @@ use Rattle.lf_yaml.specs.Heads.{Key, IsKey}
 use Rattle.lf_yaml.specs.Tree.{Tree, Entries, no_entries, entry}
 use Rattle.lf_yaml.specs.Flow.{Next, at_part, broken, next_part, sign_fault, FlowKey, FlowKeyBreaks, FlowValue, FlowValueBreaks, FlowEntry, MappingIn, MappingBreaks}
 use Rattle.lf_yaml.specs.Flow as flow
-use Rattle.lf_yaml.specs.Reading.{Signed, flow_key, Valued, flow_value, FlowRead, with_flow_entry, mapping_sign, value_behind, Later, new_entry, key_behind, mapping_part, mapping_in, turns}
+use Rattle.lf_yaml.specs.reading.Trees.{Signed, flow_key, Valued, flow_value, FlowRead, with_flow_entry, mapping_sign, value_behind, Later, new_entry, key_behind, mapping_part, mapping_in, turns}
 use Rattle.lf_yaml.proofs.HeadLaws.{has-tells}
 use Rattle.lf_yaml.proofs.Ends.{IsEnd, end-trans}
 use Rattle.lf_yaml.proofs.FlowParts.{Further, next-further, turns-within, part-no-sign}

@@ -6,7 +6,7 @@ use Rattle.lf_base.specs.Faults.{span}
 use Rattle.lf_scalar.specs.Cells.{Cell, cell, cells, byte_fault}
 use Rattle.lf_scalar.specs.Plain.{value_of}
 use Rattle.lf_yaml.specs.Flow.{begins_flow, flow_text, behind_text, later_colon}
-use Rattle.lf_yaml.specs.Reading.{Part, plain_part, part_by}
+use Rattle.lf_yaml.specs.reading.Trees.{Part, plain_part, part_by}
 use Rattle.lf_yaml.proofs.Cuts.{cells-length}
 
 pub drop-cells : (n at : ℕ) (xs : List ℕ) → drop n (cells at xs) ≡ cells (at + n) (drop n xs)

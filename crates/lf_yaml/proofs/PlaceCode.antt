@@ -3,10 +3,10 @@ use Rattle.std.proofs.Common.{◌≡◌, ℕ, suc, ◌+◌, ◌-◌, ◌<◌, �
 use Rattle.lf_scalar.specs.Cells.{Cell, cells}
 use Rattle.lf_yaml.specs.Rows.{Row}
 use Rattle.lf_yaml.specs.Flow.{at_part, next_part}
-use Rattle.lf_yaml.specs.Reading.{turns}
-use Rattle.lf_yaml.specs.Shown.{shown}
-use Rattle.lf_yaml.specs.Cursor.{rows_after}
-use Rattle.lf_yaml.specs.Turns.{IsTurnIn}
+use Rattle.lf_yaml.specs.reading.Trees.{turns}
+use Rattle.lf_yaml.specs.views.Shown.{shown}
+use Rattle.lf_yaml.specs.views.Cursor.{rows_after}
+use Rattle.lf_yaml.specs.reading.FlowTurns.{IsTurnIn}
 use Rattle.lf_yaml.specs.declared.row.Row.{Row as CodeRow}
 use Rattle.lf_yaml.specs.declared.turn.Turn.{Turn}
 use Rattle.lf_yaml.specs.declared.turn.Turn.TheVariants as turn

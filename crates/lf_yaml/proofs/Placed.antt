@@ -6,7 +6,7 @@ use Rattle.lf_scalar.specs.Lines.{Line, line, lengthen, lines, first_text, is_bl
 use Rattle.lf_scalar.specs.Scalars.{source_at}
 use Rattle.lf_scalar.proofs.LineSteps.{line-step, lines-nil, lines-feed, lines-return, lines-other}
 use Rattle.lf_yaml.specs.Rows.{Row, row, text_of, start_of, headed, content_row, rows_of, left_of}
-pub use Rattle.lf_yaml.specs.Cursor.{IsPlaced}
+pub use Rattle.lf_yaml.specs.views.Cursor.{IsPlaced}
 use Rattle.lf_yaml.proofs.HeadLaws.{tells}
 
 abbrev pub ArePlaced : List ℕ → List Row → Type 0

@@ -7,26 +7,26 @@ use Rattle.lf_scalar.specs.declared.quotes.Quotes.{Quotes}
 use Rattle.lf_scalar.specs.declared.quotes.Quotes.TheVariants.{Single, Double}
 use Rattle.lf_scalar.specs.declared.scalar.Style.{Style}
 use Rattle.lf_base.specs.declared.fault.Fault.{Fault}
-use Rattle.lf_base.specs.Answers.{Gives}
+use Rattle.lf_base.specs.Answers.{AnswersAs}
 use Rattle.lf_scalar.specs.Cells.{Cell, cell, cells, Value}
 use Rattle.lf_scalar.specs.Lines.{Line, lines, first_text, lengthen}
 use Rattle.lf_scalar.specs.Quoted.{quote_of}
-use Rattle.lf_scalar.specs.QuotedReading.{split_of, quoted_of}
+use Rattle.lf_scalar.specs.reading.Quoted.{split_of, quoted_of}
 use Rattle.lf_scalar.specs.Scalars.{begins, source_at, IsOfStyle, BreaksStyle, BeginsAt}
-use Rattle.lf_scalar.specs.Reading.{reading}
+use Rattle.lf_scalar.specs.reading.Styles.{reading}
 use Rattle.lf_scalar.proofs.Laws as scalars
 use Rattle.lf_scalar.proofs.Cells.{cells-take}
 use Rattle.lf_scalar.proofs.LineSteps.{IsOther, lines-other}
-use Rattle.lf_yaml.specs.Reading.{between_of}
-use Rattle.lf_yaml.specs.Quoting.{style_of_quotes}
+use Rattle.lf_yaml.specs.reading.Trees.{between_of}
+use Rattle.lf_yaml.specs.views.Quoting.{style_of_quotes}
 use Rattle.lf_yaml.proofs.RowsAfter.{drop-of-take, get-drop}
 use Rattle.std.proofs.lemmas.List.{get_or-take}
 
 pub gives-reading : {X : Type 0} (view : X → Value) (s : Style) (above end : ℕ) (src : List Cell) (r : Result X Refusal) → begins s (first_text (lines end src)) ≡ true
-    → ((v : Value) → IsOfStyle s above end src v → Gives view r (Ok v)) → ((f : Fault) → BreaksStyle s above end src f → Gives view r (Err f)) → Gives view r (reading s above end src)
+    → ((v : Value) → IsOfStyle s above end src v → AnswersAs view r (Ok v)) → ((f : Fault) → BreaksStyle s above end src f → AnswersAs view r (Err f)) → AnswersAs view r (reading s above end src)
 gives-reading view s above end src r b only breach = by (reading s above end src) (scalars.tells s above end src b)
   where
-    by : (x : Result Value Fault) → scalars.Told s above end src x → Gives view r x
+    by : (x : Result Value Fault) → scalars.Told s above end src x → AnswersAs view r x
     by (Ok v) h = only v h
     by (Err f) h = breach f h
 

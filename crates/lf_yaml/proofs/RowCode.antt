@@ -6,7 +6,7 @@ use Rattle.lf_scalar.specs.Cells.{Cell, cell, cells}
 use Rattle.lf_scalar.specs.Lines.{is_blank}
 use Rattle.lf_scalar.proofs.Cells.{cells-drop}
 use Rattle.lf_yaml.specs.Rows.{Row, row, text_of, indent, is_thrice, is_mark, left_of}
-use Rattle.lf_yaml.specs.Shown.{shown}
+use Rattle.lf_yaml.specs.views.Shown.{shown}
 use Rattle.lf_yaml.specs.declared.row.Row.{Row as CodeRow}
 
 -- fewer than three bytes are no byte three times

@@ -8,7 +8,7 @@ use Rattle.lf_scalar.specs.Lines.{Line, line, lines, lines_at}
 use Rattle.lf_scalar.specs.Scalars.{source_at}
 use Rattle.lf_scalar.proofs.LineSteps.{lines-nil}
 use Rattle.lf_yaml.specs.Rows.{Row, content_row, rows_of}
-use Rattle.lf_yaml.specs.Cursor.{rows_after, IsPlaced}
+use Rattle.lf_yaml.specs.views.Cursor.{rows_after, IsPlaced}
 use Rattle.lf_yaml.proofs.Placed.{drops, ArePlaced, file-placed}
 
 nil-rows : (end : ℕ) (ls : List Line) → ls ≡ [] → rows_of ls ≡ []

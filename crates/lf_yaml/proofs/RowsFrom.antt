@@ -6,7 +6,7 @@ use Rattle.lf_scalar.specs.Cells.{Cell, cells}
 use Rattle.lf_scalar.specs.Lines.{Line, line, lines, is_content, after_spaces}
 use Rattle.lf_scalar.specs.Scalars.{source_at}
 use Rattle.lf_yaml.specs.Rows.{Row, start_of, headed, content_row, rows_of, rows_from}
-use Rattle.lf_yaml.specs.Cursor.{rows_after}
+use Rattle.lf_yaml.specs.views.Cursor.{rows_after}
 use Rattle.lf_yaml.proofs.Placed.{Stands, AllStand, lines-stand, after-suffix}
 use Rattle.lf_yaml.proofs.RowsAfter.{rows-past}
 

@@ -7,7 +7,7 @@ use Rattle.lf_scalar.proofs.Tails.{true-false}
 use Rattle.lf_yaml.specs.Rows.{Row}
 use Rattle.lf_yaml.specs.Tree.{leaf, Items, no_items, item}
 use Rattle.lf_yaml.specs.Flow.{Next, at_part, broken, next_part, FlowScalar, sign_fault, SequenceIn, closes, last, more, SequenceBreaks, no_part, scalar, no_sign, sign, later}
-use Rattle.lf_yaml.specs.Reading.{Part, flow_scalar, FlowRead, with_flow_item, sequence_sign, sequence_behind, sequence_part, sequence_in, turns}
+use Rattle.lf_yaml.specs.reading.Trees.{Part, flow_scalar, FlowRead, with_flow_item, sequence_sign, sequence_behind, sequence_part, sequence_in, turns}
 use Rattle.lf_yaml.proofs.Ends.{IsEnd, end-trans}
 use Rattle.lf_yaml.proofs.FlowParts.{Further, next-further, turns-within, part-is, part-breaks, PartTold, part-tells, part-begins, part-no-sign, behind-length}
 

@@ -5,7 +5,7 @@ use Rattle.lf_scalar.specs.Cells.{Cell, cell, cells}
 use Rattle.lf_scalar.specs.Lines.{is_blank, begins_with}
 use Rattle.lf_scalar.proofs.Cells.{cells-drop, cells-take}
 use Rattle.lf_yaml.specs.Heads.{Split, behind_cell, key_in}
-use Rattle.lf_yaml.specs.Signs.{stops_of, ends_of, split_at}
+use Rattle.lf_yaml.specs.views.Signs.{stops_of, ends_of, split_at}
 
 abbrev pub ahead : List Cell → Option Split → Option Split
 ahead cs None = None

@@ -8,8 +8,8 @@ use Rattle.lf_yaml.specs.Heads.{is_item, BeginsBlock, BeginsNoBlock}
 use Rattle.lf_yaml.specs.Tree.{no_items, no_entries}
 use Rattle.lf_yaml.specs.Nodes.{NoneBelow, NothingBelow, Ends}
 use Rattle.lf_yaml.specs.Spans.{empty_at}
-use Rattle.lf_yaml.specs.Reading.{Read, Reader, value_on, item_next, at_indent, items, begins_block, entry_next, EntryValues, entries, as_sequence, as_mapping, node_at}
-pub use Rattle.lf_yaml.specs.BlockTurns.{inner, owned, values}
+use Rattle.lf_yaml.specs.reading.Trees.{Read, Reader, value_on, item_next, at_indent, items, begins_block, entry_next, EntryValues, entries, as_sequence, as_mapping, node_at}
+pub use Rattle.lf_yaml.specs.reading.BlockTurns.{inner, owned, values}
 use Rattle.lf_yaml.proofs.HeadLaws.{begins-block, begins-no-block}
 
 pub value-node : (bytes : List ℕ) (d : ℕ) (own : Bool) (above : ℕ) (r : Row) (rs : List Row) → BeginsNoBlock r → node_at bytes d own above r rs ≡ value_on bytes above d r rs

@@ -8,7 +8,7 @@ use Rattle.lf_scalar.specs.Plain.{begins_plain}
 use Rattle.lf_scalar.specs.Scalars.{begins}
 use Rattle.lf_yaml.specs.Rows.{text_of}
 use Rattle.lf_yaml.specs.Heads.{style_of}
-use Rattle.lf_yaml.specs.Shown.{shown}
+use Rattle.lf_yaml.specs.views.Shown.{shown}
 use Rattle.lf_yaml.specs.declared.row.Row.{Row as CodeRow}
 use Rattle.lf_yaml.proofs.RowCode.{text-shown}
 

@@ -7,7 +7,7 @@ use Rattle.lf_base.specs.declared.fault.Fault.{Fault}
 use Rattle.lf_base.specs.Faults.{span}
 use Rattle.lf_scalar.specs.Cells.{Cell, cell, Value, character_fault}
 use Rattle.lf_scalar.specs.Lines.{lines, first_text}
-use Rattle.lf_scalar.specs.QuotedReading.{wrong_behind}
+use Rattle.lf_scalar.specs.reading.Quoted.{wrong_behind}
 use Rattle.lf_scalar.specs.Scalars.{begins, source_at}
 use Rattle.lf_scalar.proofs.Tails.{true-false, tail-told, told-tail, wrong-told, told-wrong, from-front, to-front}
 use Rattle.lf_scalar.proofs.Laws as scalars
@@ -19,7 +19,7 @@ use Rattle.lf_yaml.specs.Nodes.{IsScalarOn, ValueAt}
 use Rattle.lf_yaml.specs.Breaches.{ScalarBreaksOn, ValueBreaks}
 use Rattle.lf_yaml.specs.Nodes as nodes
 use Rattle.lf_yaml.specs.Breaches as breaches
-use Rattle.lf_yaml.specs.Reading.{FlowRead, sequence_in, mapping_in, turns, Read, alone, closed_list, flow_list, closed_map, flow_map, scalar_on, scalar_value, value_on}
+use Rattle.lf_yaml.specs.reading.Trees.{FlowRead, sequence_in, mapping_in, turns, Read, alone, closed_list, flow_list, closed_map, flow_map, scalar_on, scalar_value, value_on}
 use Rattle.lf_yaml.proofs.Ends.{IsEnd, end-all, end-behind}
 use Rattle.lf_yaml.proofs.HeadLaws.{tells}
 use Rattle.lf_yaml.proofs.Sequences.{sequence-is, sequence-breaks, SequenceTold, sequence-tells, sequence-rows}

@@ -3,12 +3,13 @@ use Rattle.std.proofs.Common.{◌≡◌, ℕ, List, Result, Ok, Err, refl, ap, s
 use Rattle.lf_base.specs.declared.refusal.Refusal.{Refusal}
 use Rattle.lf_base.specs.declared.refusal.Refusal.TheVariants as refusal_of
 use Rattle.lf_base.specs.declared.fault.Fault.{Fault}
-use Rattle.lf_base.specs.Answers.{Gives, Found, Only, Refused, Breach, Decides, OneAnswer}
+use Rattle.lf_base.specs.Answers.{AnswersAs, Found, Only, Refused, Breach, OneAnswer}
+use Rattle.lf_base.proofs.Answering.{Decides}
 use Rattle.lf_base.proofs.Answering as answering
 use Rattle.lf_yaml.specs.Characters.{AreCharacters, BreaksCharacters}
 use Rattle.lf_yaml.specs.Tree.{Tree, tree}
 use Rattle.lf_yaml.specs.Document.{document_rows, IsTree, TreeBreaks, bad_characters, bad_document}
-use Rattle.lf_yaml.specs.Reading.{document_of}
+use Rattle.lf_yaml.specs.reading.Trees.{document_of}
 use Rattle.lf_yaml.specs.declared.node.Node.{Node}
 use Rattle.lf_yaml.proofs.FileCharacters.{characters-or-breach}
 use Rattle.lf_yaml.proofs.Laws.{document-is, document-breaks, DocumentTold, document-tells, characters-one, characters-never}
@@ -30,7 +31,7 @@ module _ (bytes : List ℕ) where
   Told r = DocumentTold bytes (document_rows bytes) r
 
   -- a file whose characters are allowed is read as its document
-  document-decides : AreCharacters bytes → Decides (IsTree bytes) (TreeBreaks bytes) (document_of bytes (document_rows bytes))
+  pub document-decides : AreCharacters bytes → Decides (IsTree bytes) (TreeBreaks bytes) (document_of bytes (document_rows bytes))
   document-decides are = record {
     stands = λ t e. record { characters = are; document = subst Told e (document-tells bytes) };
     read = λ t h. document-is bytes (document_rows bytes) t h.document;
@@ -64,7 +65,7 @@ module _ (bytes : List ℕ) where
 
   -- ---- the four clauses, of a file whose characters are allowed
 
-  module _ (are : AreCharacters bytes) (r : Result Node Refusal) (gives : Gives tree r (document_of bytes (document_rows bytes))) where
+  module _ (are : AreCharacters bytes) (r : Result Node Refusal) (gives : AnswersAs tree r (document_of bytes (document_rows bytes))) where
     pub found-tree : Found tree (IsTree bytes) r
     found-tree = answering.found tree (IsTree bytes) (TreeBreaks bytes) (document_of bytes (document_rows bytes)) (document-decides are) r gives
 
@@ -83,8 +84,8 @@ module _ (bytes : List ℕ) where
     abbrev refused : Result Node Refusal
     refused = Err e
 
-    gives-breach : Gives tree refused (fail broken.0)
-    gives-breach = subst (λ (x : Refusal). let r : Result Node Refusal = Err x in Gives tree r (fail broken.0)) (sym broken.2) refl
+    gives-breach : AnswersAs tree refused (fail broken.0)
+    gives-breach = subst (λ (x : Refusal). let r : Result Node Refusal = Err x in AnswersAs tree r (fail broken.0)) (sym broken.2) refl
 
     pub never-tree : Only tree (IsTree bytes) refused
     never-tree = answering.only tree (IsTree bytes) (TreeBreaks bytes) (fail broken.0) (breach-decides broken.0 broken.1) refused gives-breach

@@ -1,21 +1,17 @@
 -- A file and its tree, and what breaks it.
-use Rattle.std.specs.Prelude.{ℕ, List, [], ◌∷◌, take, length, false, bytes_eq, if◌then◌else◌}
+use Rattle.std.specs.Prelude.{ℕ, List, [], ◌∷◌, length, false}
 use Rattle.lf_base.specs.declared.fault.Fault.{Fault}
 use Rattle.lf_scalar.specs.Lines.{lines}
 use Rattle.lf_scalar.specs.Scalars.{source_at}
 use Rattle.lf_yaml.specs.Rows.{Row, rows_of, without_opening, indent_fault, row_fault}
 use Rattle.lf_yaml.specs.Heads.{BeginsNoBlock}
-use Rattle.lf_yaml.specs.Characters.{AreCharacters, BreaksCharacters}
+use Rattle.lf_yaml.specs.Characters.{mark_length, AreCharacters, BreaksCharacters}
 use Rattle.lf_yaml.specs.Tree.{Tree}
 use Rattle.lf_yaml.specs.Spans.{empty_at}
 use Rattle.lf_yaml.specs.Nodes.{ValueAt, BlockAt, NodeAt}
 use Rattle.lf_yaml.specs.Breaches.{NodeBreaks}
 
 -- ---- the document
-
--- how many bytes a byte order mark at the file's start has: it is skipped
-abbrev pub mark_length : List ℕ → ℕ
-mark_length bytes = if bytes_eq (take 3 bytes) (0xEF ∷ 0xBB ∷ 0xBF ∷ []) then 3 else 0
 
 abbrev pub document_rows : List ℕ → List Row
 document_rows bytes = without_opening (rows_of (lines (length bytes) (source_at bytes (mark_length bytes))))

@@ -4,9 +4,9 @@ ghost use Rattle.std.specs.Str.{IsCharBoundary, IsUtf8};
 ghost use Rattle.lf_scalar.specs.Cells.{cells};
 ghost use Rattle.lf_yaml.specs.Rows.{indent as indent_of, left_of};
 ghost use Rattle.lf_yaml.specs.Nodes.{NoneBelow, NothingBelow};
-ghost use Rattle.lf_yaml.specs.Shown.{shown};
-ghost use Rattle.lf_yaml.specs.Cursor.{rows_after, IsRowOf};
-ghost use Rattle.lf_yaml.specs.BlockTurns.{IsBehind, IsBelow};
+ghost use Rattle.lf_yaml.specs.views.Shown.{shown};
+ghost use Rattle.lf_yaml.specs.views.Cursor.{rows_after, IsRowOf};
+ghost use Rattle.lf_yaml.specs.reading.BlockTurns.{IsBehind, IsBelow};
 
 use crate::entries::{Below, EntryRow};
 use crate::head::{indent, is_item, left};

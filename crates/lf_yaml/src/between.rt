@@ -1,16 +1,16 @@
 //! Scalars between quotes that close on their line.
 ghost use Rattle.std.specs.Prelude.{◌≡◌, ℕ, ◌+◌, ◌<◌, ◌≤◌, ◌^◌, ◌∷◌, length, get_or, take, drop, Some};
 ghost use Rattle.std.specs.Str.{IsUtf8};
-ghost use Rattle.lf_base.specs.Answers.{Gives};
+ghost use Rattle.lf_base.specs.Answers.{AnswersAs};
 ghost use Rattle.lf_scalar.specs.Cells.{cell};
 ghost use Rattle.lf_scalar.specs.Quoted.{quote_of};
-ghost use Rattle.lf_scalar.specs.QuotedReading.{split_of};
-ghost use Rattle.lf_scalar.specs.Drafted.{shown};
-ghost use Rattle.lf_yaml.specs.Reading.{between_of};
-ghost use Rattle.lf_yaml.specs.Quoting.{style_of_quotes};
+ghost use Rattle.lf_scalar.specs.reading.Quoted.{split_of};
+ghost use Rattle.lf_scalar.specs.views.Built.{shown};
+ghost use Rattle.lf_yaml.specs.reading.Trees.{between_of};
+ghost use Rattle.lf_yaml.specs.views.Quoting.{style_of_quotes};
 
 use lf_base::Refusal;
-use lf_scalar::lines::before;
+use lf_base::bytes::before;
 use lf_scalar::quotes::Quotes;
 use lf_scalar::{Scalar, Style, read_scalar};
 use std::alloc::Global;
@@ -41,7 +41,7 @@ pub fn quoted_scalar(
     requires closing { closing < length inside.now }
     requires closes { get_or inside.now closing 0 ≡ quote_of quote }
     requires within { at + length inside.now + 1 ≤ length bytes.now }
-    ensures { Gives shown result (between_of quote (cell (get_or bytes.now at 0) at) (Some (split_of (at + 1) inside.now closing))) }
+    ensures { AnswersAs shown result (between_of quote (cell (get_or bytes.now at 0) at) (Some (split_of (at + 1) inside.now closing))) }
 {
     let cut = before(bytes, at as usize + closing + 2);
     read_scalar(alloc, cut, at, -1, style_of(quote))

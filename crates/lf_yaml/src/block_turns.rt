@@ -1,13 +1,13 @@
 //! What the rows behind a part of a block collection are: its next part, its end, or what breaks it.
 ghost use Rattle.std.specs.Prelude.{◌≡◌, ℕ, ◌<◌, ◌≤◌, ◌^◌, List, length, MatchOption, None, Some, IfOk, IfSome, option_map};
 ghost use Rattle.std.specs.Str.{IsCharBoundary, IsUtf8};
-ghost use Rattle.lf_base.specs.Answers.{Gives};
-ghost use Rattle.lf_scalar.specs.Drafted.{refused};
-ghost use Rattle.lf_yaml.specs.Reading.{entry_of, begins_block as begins_block_of};
-ghost use Rattle.lf_yaml.specs.Shown.{shown};
-ghost use Rattle.lf_yaml.specs.Cursor.{rows_after, IsRowOf};
-ghost use Rattle.lf_yaml.specs.Headed.{headed};
-ghost use Rattle.lf_yaml.specs.BlockTurns.{item_turn, entry_turn, no_entry_fault, entry_shown, IsEntryRow};
+ghost use Rattle.lf_base.specs.Answers.{AnswersAs};
+ghost use Rattle.lf_scalar.specs.views.Built.{refused};
+ghost use Rattle.lf_yaml.specs.reading.Trees.{entry_of, begins_block as begins_block_of};
+ghost use Rattle.lf_yaml.specs.views.Shown.{shown};
+ghost use Rattle.lf_yaml.specs.views.Cursor.{rows_after, IsRowOf};
+ghost use Rattle.lf_yaml.specs.views.Headed.{headed};
+ghost use Rattle.lf_yaml.specs.reading.BlockTurns.{item_turn, entry_turn, no_entry_fault, entry_shown, IsEntryRow};
 
 use crate::below::first_row;
 use crate::entries::EntryRow;
@@ -25,7 +25,7 @@ pub fn begins_block(row: Row<'_>) -> bool
 
 /// The next item of a sequence at an indent, and where the line behind it begins; none where the sequence ends. A sequence that stands at the indent of the mapping
 /// around it, its own, ends before a row there that is no item.
-#[tactic(auto, unfolding(crate::specs::BlockTurns::item_turn))]
+#[tactic(auto, unfolding(crate::specs::reading::BlockTurns::item_turn))]
 pub fn next_item(
     bytes: &[u8],
     own: bool,
@@ -35,7 +35,7 @@ pub fn next_item(
     requires text { IsUtf8 bytes.now }
     requires room { length bytes.now ≤ 2 ^ 31 }
     requires start { IsCharBoundary bytes.now next }
-    ensures turn { Gives (option_map (λ x. (shown x.0, rows_after bytes.entry.now x.1))) result (item_turn own column (rows_after bytes.entry.now next)) }
+    ensures turn { AnswersAs (option_map (λ x. (shown x.0, rows_after bytes.entry.now x.1))) result (item_turn own column (rows_after bytes.entry.now next)) }
     ensures row { IfOk result (λ o. IfSome o (λ x. IsRowOf bytes.entry.now x.0)) }
     ensures start { IfOk result (λ o. IfSome o (λ x. IsCharBoundary bytes.entry.now x.1)) }
     ensures further { IfOk result (λ o. IfSome o (λ x. next < x.1)) }
@@ -81,12 +81,12 @@ fn no_entry(row: Row<'_>) -> Refusal
 }
 
 /// The next entry of a mapping at an indent; none where the mapping ends.
-#[tactic(auto, unfolding(crate::specs::BlockTurns::entry_turn))]
+#[tactic(auto, unfolding(crate::specs::reading::BlockTurns::entry_turn))]
 pub fn next_entry(bytes: &[u8], column: u32, next: usize) -> Result<Option<EntryRow<'_>>, Refusal>
     requires text { IsUtf8 bytes.now }
     requires room { length bytes.now ≤ 2 ^ 31 }
     requires start { IsCharBoundary bytes.now next }
-    ensures turn { Gives (option_map (entry_shown bytes.entry.now)) result (entry_turn column (rows_after bytes.entry.now next)) }
+    ensures turn { AnswersAs (option_map (entry_shown bytes.entry.now)) result (entry_turn column (rows_after bytes.entry.now next)) }
     ensures entry { IfOk result (λ o. IfSome o (IsEntryRow bytes.entry.now)) }
     ensures further { IfOk result (λ o. IfSome o (λ e. next < e.behind)) }
 {

@@ -1,22 +1,22 @@
 //! A file and its tree.
 ghost use Rattle.std.specs.Prelude.{◌≡◌, ℕ, [], ◌∷◌, ◌≤◌, ◌^◌, length, false, MatchOption, IfOk, IfSome};
 ghost use Rattle.std.specs.Str.{IsCharBoundary, IsUtf8};
-ghost use Rattle.lf_base.specs.Answers.{Gives, Found, Only, Refused, Breach, RefusedIn};
+ghost use Rattle.lf_base.specs.Answers.{AnswersAs, Found, Only, Refused, Breach, RefusedIn};
 ghost use Rattle.lf_scalar.specs.Cells.{cells};
-ghost use Rattle.lf_scalar.specs.Drafted.{refused};
+ghost use Rattle.lf_scalar.specs.views.Built.{refused};
 ghost use Rattle.lf_scalar.specs.Lines.{is_tail as is_tail_of};
 ghost use Rattle.lf_yaml.specs.Rows.{is_opening_text as is_opening_text_of, is_opening as is_opening_of};
 ghost use Rattle.lf_yaml.specs.Tree.{tree};
-ghost use Rattle.lf_yaml.specs.Document.{mark_length as mark_length_of, document_rows, IsTree, TreeBreaks};
+ghost use Rattle.lf_yaml.specs.Document.{document_rows, IsTree, TreeBreaks};
 ghost use Rattle.lf_yaml.specs.Insides.{Inside};
-ghost use Rattle.lf_yaml.specs.Reading.{document_of};
-ghost use Rattle.lf_yaml.specs.Shown.{shown};
-ghost use Rattle.lf_yaml.specs.Cursor.{rows_after, IsRowOf};
-ghost use Rattle.lf_yaml.specs.BlockTurns.{behind_fault};
+ghost use Rattle.lf_yaml.specs.reading.Trees.{document_of};
+ghost use Rattle.lf_yaml.specs.views.Shown.{shown};
+ghost use Rattle.lf_yaml.specs.views.Cursor.{rows_after, IsRowOf};
+ghost use Rattle.lf_yaml.specs.reading.BlockTurns.{behind_fault};
 
 use crate::below::first_row;
 use crate::block_turns::begins_block;
-use crate::characters::check_characters;
+use crate::characters::{check_characters, mark_length};
 use crate::head::{indent, indent_fault, row_fault};
 use crate::made::empty;
 use crate::nested::node;
@@ -41,7 +41,7 @@ pub fn read_tree(alloc: Global, bytes: &[u8]) -> Result<Node, Refusal>
     // A breach is refused, unless memory runs out.
     ensures breach { Breach tree (TreeBreaks bytes.now) result }
     // The span of a refusal lies in the file.
-    ensures in_file { RefusedIn (length bytes.now) result }
+    ensures refused_inside { RefusedIn (length bytes.now) result }
     // So do the spans of the tree, and the offsets of a scalar never fall and lie in its span.
     ensures inside { IfOk result (λ n. Inside (length bytes.now) (tree n)) }
 {
@@ -55,7 +55,7 @@ pub fn read_tree(alloc: Global, bytes: &[u8]) -> Result<Node, Refusal>
 fn document(alloc: Global, bytes: &[u8]) -> Result<Node, Refusal>
     requires text { IsUtf8 bytes.now }
     requires room { length bytes.now ≤ 2 ^ 31 }
-    ensures { Gives tree result (document_of bytes.now (document_rows bytes.now)) }
+    ensures { AnswersAs tree result (document_of bytes.now (document_rows bytes.now)) }
 {
     match root_row(bytes) {
         None => empty(alloc, 0),
@@ -86,17 +86,6 @@ fn root_row(bytes: &[u8]) -> Option<(Row<'_>, usize)>
             }
         }
         None => None,
-    }
-}
-
-/// How many bytes a byte order mark at the file's start has.
-fn mark_length(bytes: &[u8]) -> usize
-    ensures { result ≡ mark_length_of bytes.now }
-{
-    if bytes.starts_with(b"\xEF\xBB\xBF") {
-        3
-    } else {
-        0
     }
 }
 

@@ -2,16 +2,17 @@
 ghost use Rattle.std.specs.Prelude.{◌≡◌, ℕ, suc, ◌+◌, ◌<◌, ◌≤◌, ◌^◌, length, get_or, option_map, IfSome, None, Some};
 ghost use Rattle.lf_scalar.specs.Cells.{cell, cells};
 ghost use Rattle.lf_scalar.specs.Plain.{begins_plain as begins_plain_of};
-ghost use Rattle.lf_yaml.specs.Reading.{quotes_of, entry_by, entry_of, opens_quote as opens_quote_of, sign_behind as sign_behind_of};
+ghost use Rattle.lf_yaml.specs.reading.Trees.{quotes_of, entry_by, entry_of, opens_quote as opens_quote_of, sign_behind as sign_behind_of};
 ghost use Rattle.lf_scalar.specs.Quoted.{quote_of as quote_byte};
-ghost use Rattle.lf_yaml.specs.Headed.{headed, IsKeyIn};
-ghost use Rattle.lf_yaml.specs.Shown.{shown};
+ghost use Rattle.lf_yaml.specs.views.Headed.{headed, IsKeyIn};
+ghost use Rattle.lf_yaml.specs.views.Shown.{shown};
 
 use crate::entries::{Head, Key};
 use crate::head::{is_apart, is_left_out};
 use crate::keys::find_sign;
 use crate::row::Row;
-use lf_scalar::lines::{before, blanks, past, trimmed_len};
+use lf_base::bytes::before;
+use lf_scalar::lines::{blanks, past, trimmed_len};
 use lf_scalar::plain_signs::{is_plain_byte, is_sign_byte};
 use lf_scalar::quotes::{Quotes, find_closing};
 
@@ -106,7 +107,7 @@ fn quoted_entry(row: Row<'_>, quote: Quotes) -> Option<Head<'_>>
 }
 
 /// The entry that a row begins: a key, blanks, `:`, and a blank or the line's end.
-#[tactic(auto, unfolding(crate::specs::Reading::entry_of))]
+#[tactic(auto, unfolding(crate::specs::reading::Trees::entry_of))]
 pub fn find_entry(row: Row<'_>) -> Option<Head<'_>>
     ensures head { option_map (headed row.entry.at row.entry.text.now) result ≡ entry_of (shown row.entry) }
     ensures room { IfSome result (λ h. h.colon + 1 + length h.behind.now ≤ 2 ^ 31) }
@@ -119,7 +120,7 @@ pub fn find_entry(row: Row<'_>) -> Option<Head<'_>>
 }
 
 /// Whether a row begins with a quote that nothing on the row closes.
-#[tactic(auto, unfolding(crate::specs::Reading::opens_quote))]
+#[tactic(auto, unfolding(crate::specs::reading::Trees::opens_quote))]
 pub fn opens_quote(row: Row<'_>) -> bool
     ensures { result ≡ opens_quote_of (shown row.entry).first (shown row.entry).rest }
 {

@@ -1,16 +1,16 @@
 //! Flow mappings.
 ghost use Rattle.std.specs.Prelude.{false, ◌≡◌, ℕ, suc, ◌+◌, ◌<◌, ◌≤◌, ◌^◌, List, [], ◌∷◌, ◌++◌, length, get_or, IfOk};
 ghost use Rattle.std.specs.Str.{IsUtf8};
-ghost use Rattle.lf_base.specs.Answers.{Gives};
-ghost use Rattle.lf_scalar.specs.Drafted.{shown as scalar_shown};
+ghost use Rattle.lf_base.specs.Answers.{AnswersAs};
+ghost use Rattle.lf_scalar.specs.views.Built.{shown as scalar_shown};
 ghost use Rattle.lf_yaml.specs.Tree.{leaf, pair};
 ghost use Rattle.lf_yaml.specs.Flow.{next_part as next_part_of};
-ghost use Rattle.lf_yaml.specs.Reading.{Later, flow_key as flow_key_of, mapping_sign, key_behind, mapping_in, turns};
-ghost use Rattle.lf_yaml.specs.Cursor.{rows_after};
-ghost use Rattle.lf_yaml.specs.KeySets.{HasKeys};
-ghost use Rattle.lf_yaml.specs.Places.{IsPartIn, IsPlaceIn, left_at, rows_at, signed};
-ghost use Rattle.lf_yaml.specs.Turns.{IsTurnIn, IsTurnBehind, HasTurned, TurnsEntries, new_key as new_key_of, entry_at, left_behind, closed_entries};
-ghost use Rattle.lf_yaml.specs.Shown.{shown};
+ghost use Rattle.lf_yaml.specs.reading.Trees.{Later, flow_key as flow_key_of, mapping_sign, key_behind, mapping_in, turns};
+ghost use Rattle.lf_yaml.specs.views.Cursor.{rows_after};
+ghost use Rattle.lf_yaml.specs.views.KeySets.{HasKeys};
+ghost use Rattle.lf_yaml.specs.views.Places.{IsPartIn, IsPlaceIn, left_at, rows_at, signed};
+ghost use Rattle.lf_yaml.specs.reading.FlowTurns.{IsTurnIn, IsTurnBehind, HasTurned, TurnsEntries, new_key as new_key_of, entry_at, left_behind, closed_entries};
+ghost use Rattle.lf_yaml.specs.views.Shown.{shown};
 
 use crate::flow_items::scalar_node;
 use crate::flow_key::flow_key;
@@ -48,7 +48,7 @@ fn new_key(
     requires utf8 { IsUtf8 bytes.now }
     requires room { length bytes.now ≤ 2 ^ 31 }
     requires part { IsPartIn bytes.now part next }
-    ensures gives { (before : List (List ℕ)) → HasKeys keys.old before → Gives (signed part.entry) result (new_key_of (length bytes.now) above before (shown part.entry).first (shown part.entry).rest (rows_after bytes.now next)) }
+    ensures gives { (before : List (List ℕ)) → HasKeys keys.old before → AnswersAs (signed part.entry) result (new_key_of (length bytes.now) above before (shown part.entry).first (shown part.entry).rest (rows_after bytes.now next)) }
     ensures keys { (before : List (List ℕ)) → HasKeys keys.old before → IfOk result (λ x. HasKeys keys.new (before ++ x.0.text ∷ [])) }
     ensures within { IfOk result (λ x. x.1 < length part.entry.text.now) }
     ensures sign { IfOk result (λ x. get_or part.entry.text.now x.1 0 ≡ 58) }
@@ -82,7 +82,7 @@ fn entry_from<'a>(
     requires utf8 { IsUtf8 bytes.now }
     requires room { length bytes.now ≤ 2 ^ 31 }
     requires part { IsPartIn bytes.now part next }
-    ensures gives { (before : List (List ℕ)) → HasKeys keys.old before → Gives (left_behind bytes.entry.now) result (entry_at (length bytes.entry.now) above before (shown part.entry).first (shown part.entry).rest (rows_after bytes.entry.now next)) }
+    ensures gives { (before : List (List ℕ)) → HasKeys keys.old before → AnswersAs (left_behind bytes.entry.now) result (entry_at (length bytes.entry.now) above before (shown part.entry).first (shown part.entry).rest (rows_after bytes.entry.now next)) }
     ensures keys { (before : List (List ℕ)) → HasKeys keys.old before → IfOk result (λ x. HasKeys keys.new (before ++ (pair x.0).0.text ∷ [])) }
     ensures place { IfOk result (λ x. IsPlaceIn bytes.entry.now x.1) }
     ensures further { IfOk result (λ x. next ≤ x.1.next) }
@@ -158,7 +158,7 @@ fn entry_on<'a>(
 }
 
 /// What stands at a place of a flow mapping where an entry may begin.
-#[tactic(auto, unfolding(crate::specs::Reading::mapping_in))]
+#[tactic(auto, unfolding(crate::specs::reading::Trees::mapping_in))]
 fn entry_turn<'a>(
     alloc: Global,
     bytes: &'a [u8],
@@ -199,7 +199,7 @@ pub fn flow_entries<'a>(
     requires utf8 { IsUtf8 bytes.now }
     requires room { length bytes.now ≤ 2 ^ 31 }
     requires place { IsPlaceIn bytes.now place }
-    ensures gives { Gives (closed_entries bytes.entry.now) result
+    ensures gives { AnswersAs (closed_entries bytes.entry.now) result
         (mapping_in (length bytes.entry.now) above (suc (turns (left_at place.entry) (rows_at bytes.entry.now place.entry))) [] (left_at place.entry) (rows_at bytes.entry.now place.entry)) }
     ensures part { IfOk result (λ x. IsPartIn bytes.entry.now x.1 x.2) }
     ensures further { IfOk result (λ x. place.entry.next ≤ x.2) }

@@ -1,17 +1,17 @@
 //! Flow sequences.
 ghost use Rattle.std.specs.Prelude.{false, ◌≡◌, ℕ, suc, ◌+◌, ◌≤◌, ◌^◌, List, length, IfOk};
 ghost use Rattle.std.specs.Str.{IsUtf8};
-ghost use Rattle.lf_base.specs.Answers.{Gives};
+ghost use Rattle.lf_base.specs.Answers.{AnswersAs};
 ghost use Rattle.lf_scalar.specs.Cells.{Cell};
-ghost use Rattle.lf_scalar.specs.Drafted.{shown as scalar_shown};
+ghost use Rattle.lf_scalar.specs.views.Built.{shown as scalar_shown};
 ghost use Rattle.lf_yaml.specs.Rows.{Row as RowOf};
 ghost use Rattle.lf_yaml.specs.Tree.{leaf, tree, Items};
 ghost use Rattle.lf_yaml.specs.Flow.{next_part as next_part_of};
-ghost use Rattle.lf_yaml.specs.Reading.{FlowRead, flow_scalar, sequence_sign, sequence_behind, sequence_in, turns};
-ghost use Rattle.lf_yaml.specs.Cursor.{rows_after};
-ghost use Rattle.lf_yaml.specs.Places.{IsPartIn, IsPlaceIn, left_at, rows_at};
-ghost use Rattle.lf_yaml.specs.Turns.{IsTurnIn, IsTurnBehind, TurnsItems, closed_items};
-ghost use Rattle.lf_yaml.specs.Shown.{shown};
+ghost use Rattle.lf_yaml.specs.reading.Trees.{FlowRead, flow_scalar, sequence_sign, sequence_behind, sequence_in, turns};
+ghost use Rattle.lf_yaml.specs.views.Cursor.{rows_after};
+ghost use Rattle.lf_yaml.specs.views.Places.{IsPartIn, IsPlaceIn, left_at, rows_at};
+ghost use Rattle.lf_yaml.specs.reading.FlowTurns.{IsTurnIn, IsTurnBehind, TurnsItems, closed_items};
+ghost use Rattle.lf_yaml.specs.views.Shown.{shown};
 
 use crate::flow_scalar::sign_fault;
 use crate::flow_value::scalar_from;
@@ -86,7 +86,7 @@ fn item_on<'a>(
 }
 
 /// What stands at a place of a flow sequence where an item may begin.
-#[tactic(auto, unfolding(crate::specs::Reading::sequence_in))]
+#[tactic(auto, unfolding(crate::specs::reading::Trees::sequence_in))]
 fn item_turn<'a>(
     alloc: Global,
     bytes: &'a [u8],
@@ -125,7 +125,7 @@ pub fn flow_items<'a>(
     requires utf8 { IsUtf8 bytes.now }
     requires room { length bytes.now ≤ 2 ^ 31 }
     requires place { IsPlaceIn bytes.now place }
-    ensures gives { Gives (closed_items bytes.entry.now) result
+    ensures gives { AnswersAs (closed_items bytes.entry.now) result
         (sequence_in (length bytes.entry.now) above (suc (turns (left_at place.entry) (rows_at bytes.entry.now place.entry))) (left_at place.entry) (rows_at bytes.entry.now place.entry)) }
     ensures part { IfOk result (λ x. IsPartIn bytes.entry.now x.1 x.2) }
     ensures further { IfOk result (λ x. place.entry.next ≤ x.2) }

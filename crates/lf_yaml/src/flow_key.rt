@@ -1,17 +1,17 @@
 //! Keys of flow mappings.
 ghost use Rattle.std.specs.Prelude.{false, ◌≡◌, eqb, ℕ, suc, ◌+◌, ◌<◌, ◌≤◌, ◌^◌, length, get_or, take, drop, Ok, IfOk, Some, None};
 ghost use Rattle.std.specs.Str.{IsUtf8};
-ghost use Rattle.lf_base.specs.Answers.{Gives};
+ghost use Rattle.lf_base.specs.Answers.{AnswersAs};
 ghost use Rattle.lf_scalar.specs.Cells.{cell, cells, Fails};
 ghost use Rattle.lf_scalar.specs.Lines.{is_blank};
 ghost use Rattle.lf_scalar.specs.Folding.{trimmed};
-ghost use Rattle.lf_scalar.specs.Drafted.{shown as scalar_shown};
+ghost use Rattle.lf_scalar.specs.views.Built.{shown as scalar_shown};
 ghost use Rattle.lf_scalar.specs.Quoted.{quote_of as quote_byte};
 ghost use Rattle.lf_yaml.specs.Flow.{next_part as next_part_of, is_empty_key as is_empty_key_of};
-ghost use Rattle.lf_yaml.specs.Reading.{no_sign as no_sign_of, flow_key as flow_key_of, flow_key_by, bare_key as bare_key_of};
-ghost use Rattle.lf_yaml.specs.Cursor.{rows_after};
-ghost use Rattle.lf_yaml.specs.Places.{IsPartIn, IsPlaceIn, left_at, rows_at, signed};
-ghost use Rattle.lf_yaml.specs.Shown.{shown};
+ghost use Rattle.lf_yaml.specs.reading.Trees.{no_sign as no_sign_of, flow_key as flow_key_of, flow_key_by, bare_key as bare_key_of};
+ghost use Rattle.lf_yaml.specs.views.Cursor.{rows_after};
+ghost use Rattle.lf_yaml.specs.views.Places.{IsPartIn, IsPlaceIn, left_at, rows_at, signed};
+ghost use Rattle.lf_yaml.specs.views.Shown.{shown};
 
 use crate::entry::quote_of;
 use crate::flow_scalar::{begins_flow_bytes, part_fault, sign_fault};
@@ -23,9 +23,10 @@ use crate::parts::{behind, next_part};
 use crate::place::Place;
 use crate::plain::slice_scalar;
 use crate::row::Row;
+use lf_base::bytes::before;
 use lf_base::{Kind, Refusal, Span};
 use lf_scalar::Scalar;
-use lf_scalar::lines::{before, blanks, past, trimmed_len};
+use lf_scalar::lines::{blanks, past, trimmed_len};
 use lf_scalar::quotes::Quotes;
 use std::alloc::Global;
 
@@ -55,7 +56,7 @@ fn bare_scalar(alloc: Global, part: Row<'_>, place: usize) -> Result<Scalar, Ref
     requires utf8 { IsUtf8 part.text.now }
     requires within { place < length part.text.now }
     requires sign { get_or part.text.now place 0 ≡ 58 }
-    ensures { Gives scalar_shown result (Ok (bare_key_of (shown part.entry).first (trimmed is_blank (cells part.entry.at (take place part.entry.text.now))))) }
+    ensures { AnswersAs scalar_shown result (Ok (bare_key_of (shown part.entry).first (trimmed is_blank (cells part.entry.at (take place part.entry.text.now))))) }
 {
     let len = trimmed_len(before(part.text, place));
     let end = part.at + len as u32;
@@ -81,7 +82,7 @@ fn bare_key(
     requires utf8 { IsUtf8 bytes.now }
     requires room { length bytes.now ≤ 2 ^ 31 }
     requires part { IsPartIn bytes.now part next }
-    ensures gives { Gives (signed part.entry) result (flow_key_by (length bytes.now) above (shown part.entry).first (shown part.entry).rest (rows_after bytes.now next) None) }
+    ensures gives { AnswersAs (signed part.entry) result (flow_key_by (length bytes.now) above (shown part.entry).first (shown part.entry).rest (rows_after bytes.now next) None) }
     ensures within { IfOk result (λ x. x.1 < length part.entry.text.now) }
     ensures sign { IfOk result (λ x. get_or part.entry.text.now x.1 0 ≡ 58) }
 {
@@ -113,7 +114,7 @@ fn quoted_key(
     requires room { length bytes.now ≤ 2 ^ 31 }
     requires part { IsPartIn bytes.now part next }
     requires quote { get_or part.text.now 0 0 ≡ quote_byte quote }
-    ensures gives { Gives (signed part.entry) result (flow_key_by (length bytes.now) above (shown part.entry).first (shown part.entry).rest (rows_after bytes.now next) (Some quote)) }
+    ensures gives { AnswersAs (signed part.entry) result (flow_key_by (length bytes.now) above (shown part.entry).first (shown part.entry).rest (rows_after bytes.now next) (Some quote)) }
     ensures within { IfOk result (λ x. x.1 < length part.entry.text.now) }
     ensures sign { IfOk result (λ x. get_or part.entry.text.now x.1 0 ≡ 58) }
 {
@@ -138,7 +139,7 @@ fn is_colon(text: &[u8], place: usize) -> bool
 }
 
 /// The key that a part of a flow mapping begins, and the place of its `:` in the part. The lines behind the part's own begin at `next`.
-#[tactic(auto, unfolding(crate::specs::Reading::flow_key))]
+#[tactic(auto, unfolding(crate::specs::reading::Trees::flow_key))]
 pub fn flow_key(
     alloc: Global,
     bytes: &[u8],
@@ -149,7 +150,7 @@ pub fn flow_key(
     requires utf8 { IsUtf8 bytes.now }
     requires room { length bytes.now ≤ 2 ^ 31 }
     requires part { IsPartIn bytes.now part next }
-    ensures gives { Gives (signed part.entry) result (flow_key_of (length bytes.now) above (shown part.entry).first (shown part.entry).rest (rows_after bytes.now next)) }
+    ensures gives { AnswersAs (signed part.entry) result (flow_key_of (length bytes.now) above (shown part.entry).first (shown part.entry).rest (rows_after bytes.now next)) }
     ensures within { IfOk result (λ x. x.1 < length part.entry.text.now) }
     ensures sign { IfOk result (λ x. get_or part.entry.text.now x.1 0 ≡ 58) }
 {

@@ -2,15 +2,15 @@
 ghost use Rattle.std.specs.Prelude.{false, ◌≡◌, ℕ, suc, ◌+◌, ◌<◌, ◌≤◌, ◌^◌, [], length, get_or, map, None, Some, IfOk, MatchOption};
 ghost use Rattle.std.specs.Str.{IsCharBoundary, IsUtf8};
 ghost use Rattle.lf_base.specs.declared.kind.Kind.TheVariants.{NotANode};
-ghost use Rattle.lf_base.specs.Answers.{Gives};
+ghost use Rattle.lf_base.specs.Answers.{AnswersAs};
 ghost use Rattle.lf_scalar.specs.Cells.{Cell, character_fault as fault_at_of};
-ghost use Rattle.lf_scalar.specs.QuotedReading.{wrong_behind as wrong_behind_of};
-ghost use Rattle.lf_scalar.specs.Drafted.{refused};
+ghost use Rattle.lf_scalar.specs.reading.Quoted.{wrong_behind as wrong_behind_of};
+ghost use Rattle.lf_scalar.specs.views.Built.{refused};
 ghost use Rattle.lf_yaml.specs.Tree.{tree, pair, sequence, mapping, items_of, entries_of};
-ghost use Rattle.lf_yaml.specs.Reading.{sequence_in, mapping_in, closed_list, closed_map, flow_list as flow_list_of, flow_map as flow_map_of, turns};
-ghost use Rattle.lf_yaml.specs.Cursor.{rows_after};
-ghost use Rattle.lf_yaml.specs.Places.{IsPartIn};
-ghost use Rattle.lf_yaml.specs.Shown.{shown};
+ghost use Rattle.lf_yaml.specs.reading.Trees.{sequence_in, mapping_in, closed_list, closed_map, flow_list as flow_list_of, flow_map as flow_map_of, turns};
+ghost use Rattle.lf_yaml.specs.views.Cursor.{rows_after};
+ghost use Rattle.lf_yaml.specs.views.Places.{IsPartIn};
+ghost use Rattle.lf_yaml.specs.views.Shown.{shown};
 
 use crate::flow_entries::flow_entries;
 use crate::flow_items::flow_items;
@@ -69,7 +69,7 @@ fn closed_sequence(
     requires room { length bytes.now ≤ 2 ^ 31 }
     requires row { IsPartIn bytes.now row next }
     requires bracket { get_or row.text.now 0 0 ≡ 91 }
-    ensures gives { Gives (λ x. (tree x.0, rows_after bytes.now x.1)) result (closed_list (shown row.entry) (sequence_in (length bytes.now) above (suc (turns (shown row.entry).rest (rows_after bytes.now next))) (shown row.entry).rest (rows_after bytes.now next))) }
+    ensures gives { AnswersAs (λ x. (tree x.0, rows_after bytes.now x.1)) result (closed_list (shown row.entry) (sequence_in (length bytes.now) above (suc (turns (shown row.entry).rest (rows_after bytes.now next))) (shown row.entry).rest (rows_after bytes.now next))) }
     ensures start { IfOk result (λ x. IsCharBoundary bytes.now x.1) }
     ensures further { IfOk result (λ x. next ≤ x.1) }
 {
@@ -94,7 +94,7 @@ fn closed_mapping(
     requires room { length bytes.now ≤ 2 ^ 31 }
     requires row { IsPartIn bytes.now row next }
     requires bracket { get_or row.text.now 0 0 ≡ 123 }
-    ensures gives { Gives (λ x. (tree x.0, rows_after bytes.now x.1)) result (closed_map (shown row.entry) (mapping_in (length bytes.now) above (suc (turns (shown row.entry).rest (rows_after bytes.now next))) [] (shown row.entry).rest (rows_after bytes.now next))) }
+    ensures gives { AnswersAs (λ x. (tree x.0, rows_after bytes.now x.1)) result (closed_map (shown row.entry) (mapping_in (length bytes.now) above (suc (turns (shown row.entry).rest (rows_after bytes.now next))) [] (shown row.entry).rest (rows_after bytes.now next))) }
     ensures start { IfOk result (λ x. IsCharBoundary bytes.now x.1) }
     ensures further { IfOk result (λ x. next ≤ x.1) }
 {
@@ -120,7 +120,7 @@ pub fn flow_list(
     requires room { length bytes.now ≤ 2 ^ 31 }
     requires row { IsPartIn bytes.now row next }
     requires bracket { get_or row.text.now 0 0 ≡ 91 }
-    ensures gives { Gives (λ x. (tree x.0, rows_after bytes.now x.1)) result (flow_list_of (length bytes.now) above depth (shown row.entry) (rows_after bytes.now next)) }
+    ensures gives { AnswersAs (λ x. (tree x.0, rows_after bytes.now x.1)) result (flow_list_of (length bytes.now) above depth (shown row.entry) (rows_after bytes.now next)) }
     ensures start { IfOk result (λ x. IsCharBoundary bytes.now x.1) }
     ensures further { IfOk result (λ x. next ≤ x.1) }
 {
@@ -143,7 +143,7 @@ pub fn flow_map(
     requires room { length bytes.now ≤ 2 ^ 31 }
     requires row { IsPartIn bytes.now row next }
     requires bracket { get_or row.text.now 0 0 ≡ 123 }
-    ensures gives { Gives (λ x. (tree x.0, rows_after bytes.now x.1)) result (flow_map_of (length bytes.now) above depth (shown row.entry) (rows_after bytes.now next)) }
+    ensures gives { AnswersAs (λ x. (tree x.0, rows_after bytes.now x.1)) result (flow_map_of (length bytes.now) above depth (shown row.entry) (rows_after bytes.now next)) }
     ensures start { IfOk result (λ x. IsCharBoundary bytes.now x.1) }
     ensures further { IfOk result (λ x. next ≤ x.1) }
 {

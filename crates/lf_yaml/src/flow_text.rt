@@ -6,8 +6,9 @@ ghost use Rattle.lf_yaml.specs.Flow.{is_flow_sign as is_flow_sign_of, flow_text,
 
 use crate::head::is_apart;
 use crate::keys::is_flow_sign;
+use lf_base::bytes::before;
 use lf_scalar::comments::find_comment;
-use lf_scalar::lines::{before, past, trimmed_len};
+use lf_scalar::lines::{past, trimmed_len};
 
 /// How many bytes stand before the first `,` `[` `]` `{` or `}` of a text.
 fn find_flow_sign(text: &[u8]) -> usize

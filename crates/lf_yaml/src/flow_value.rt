@@ -1,14 +1,14 @@
 //! Scalars and values of flow collections, and the places behind them.
 ghost use Rattle.std.specs.Prelude.{◌≡◌, ◌||◌, eqb, ℕ, suc, ◌+◌, ◌<◌, ◌≤◌, ◌^◌, length, Ok, IfOk};
 ghost use Rattle.std.specs.Str.{IsUtf8};
-ghost use Rattle.lf_base.specs.Answers.{Gives};
+ghost use Rattle.lf_base.specs.Answers.{AnswersAs};
 ghost use Rattle.lf_scalar.specs.Cells.{cell};
-ghost use Rattle.lf_scalar.specs.Drafted.{shown as scalar_shown};
+ghost use Rattle.lf_scalar.specs.views.Built.{shown as scalar_shown};
 ghost use Rattle.lf_yaml.specs.Tree.{leaf};
 ghost use Rattle.lf_yaml.specs.Spans.{empty_at};
-ghost use Rattle.lf_yaml.specs.Reading.{flow_scalar, flow_value as flow_value_of, turns};
-ghost use Rattle.lf_yaml.specs.Places.{IsPartIn, IsPlaceIn, left_at, rows_at};
-ghost use Rattle.lf_yaml.specs.Shown.{shown};
+ghost use Rattle.lf_yaml.specs.reading.Trees.{flow_scalar, flow_value as flow_value_of, turns};
+ghost use Rattle.lf_yaml.specs.views.Places.{IsPartIn, IsPlaceIn, left_at, rows_at};
+ghost use Rattle.lf_yaml.specs.views.Shown.{shown};
 
 use crate::part_scalar::read_part;
 use crate::parts::{behind, next_part};
@@ -29,7 +29,7 @@ pub fn scalar_from<'a>(
     requires utf8 { IsUtf8 bytes.now }
     requires room { length bytes.now ≤ 2 ^ 31 }
     requires part { IsPartIn bytes.now part next }
-    ensures gives { Gives (λ x. (scalar_shown x.0, left_at x.1)) result (flow_scalar (shown part.entry).first (shown part.entry).rest) }
+    ensures gives { AnswersAs (λ x. (scalar_shown x.0, left_at x.1)) result (flow_scalar (shown part.entry).first (shown part.entry).rest) }
     ensures place { IfOk result (λ x. IsPlaceIn bytes.entry.now x.1) }
     ensures next { IfOk result (λ x. x.1.next ≡ next) }
     ensures shorter { IfOk result (λ x. length (left_at x.1) ≤ length part.entry.text.now) }
@@ -50,13 +50,13 @@ fn ends_value(byte: u8) -> bool
 /// The empty text at an offset, where a value is missing.
 pub fn missing_value(alloc: Global, at: u32) -> Result<Scalar, Refusal>
     requires { at ≤ 2 ^ 31 }
-    ensures { Gives (λ s. leaf (scalar_shown s)) result (Ok (empty_at at)) }
+    ensures { AnswersAs (λ s. leaf (scalar_shown s)) result (Ok (empty_at at)) }
 {
     slice_scalar(alloc, &[], at, Span { start: at, end: at })
 }
 
 /// The value of an entry of a flow mapping whose `:` stands at an offset, and the place behind it. A value that is missing, before a `,` or a `}`, is the empty text.
-#[tactic(auto, unfolding(crate::specs::Reading::flow_value))]
+#[tactic(auto, unfolding(crate::specs::reading::Trees::flow_value))]
 pub fn flow_value<'a>(
     alloc: Global,
     bytes: &'a [u8],
@@ -68,7 +68,7 @@ pub fn flow_value<'a>(
     requires room { length bytes.now ≤ 2 ^ 31 }
     requires colon { colon < 2 ^ 31 }
     requires place { IsPlaceIn bytes.now place }
-    ensures gives { Gives (λ x. (leaf (scalar_shown x.0), left_at x.1, rows_at bytes.entry.now x.1)) result (flow_value_of (length bytes.entry.now) above (cell 58 colon) (left_at place.entry) (rows_at bytes.entry.now place.entry)) }
+    ensures gives { AnswersAs (λ x. (leaf (scalar_shown x.0), left_at x.1, rows_at bytes.entry.now x.1)) result (flow_value_of (length bytes.entry.now) above (cell 58 colon) (left_at place.entry) (rows_at bytes.entry.now place.entry)) }
     ensures place { IfOk result (λ x. IsPlaceIn bytes.entry.now x.1) }
     ensures further { IfOk result (λ x. place.entry.next ≤ x.1.next) }
     ensures stays { IfOk result (λ x. turns (left_at x.1) (rows_at bytes.entry.now x.1) ≤ turns (left_at place.entry) (rows_at bytes.entry.now place.entry)) }

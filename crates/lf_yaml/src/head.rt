@@ -2,10 +2,10 @@
 ghost use Rattle.std.specs.Prelude.{◌≡◌, ℕ, suc, ◌+◌, ◌-◌, ◌<◌, ◌≤◌, ◌^◌, length, get_or, drop, option_map};
 ghost use Rattle.lf_scalar.specs.Cells.{cell, cells, byte_fault as at_byte, character_fault};
 ghost use Rattle.lf_scalar.specs.Plain.{before_blank};
-ghost use Rattle.lf_scalar.specs.Drafted.{refused};
+ghost use Rattle.lf_scalar.specs.views.Built.{refused};
 ghost use Rattle.lf_yaml.specs.Rows.{indent as indent_of, left_of, is_thrice as is_thrice_of, is_mark as is_mark_of, is_property as is_property_of, is_left_out as is_left_out_of, indent_fault as indent_fault_of, row_fault as row_fault_of};
 ghost use Rattle.lf_yaml.specs.Heads.{is_item as is_item_of};
-ghost use Rattle.lf_yaml.specs.Shown.{shown};
+ghost use Rattle.lf_yaml.specs.views.Shown.{shown};
 
 use crate::row::Row;
 use lf_base::{Kind, Refusal, Span};

@@ -1,7 +1,7 @@
 //! Sets of the texts of keys.
 ghost use Rattle.std.specs.Prelude.{◌≡◌, ℕ, List, [], ◌∷◌, ◌++◌, not, IfOk, OnOk};
-ghost use Rattle.lf_yaml.specs.Reading.{has};
-ghost use Rattle.lf_yaml.specs.KeySets.{HasKeys};
+ghost use Rattle.lf_yaml.specs.reading.Trees.{has};
+ghost use Rattle.lf_yaml.specs.views.KeySets.{HasKeys};
 
 use lf_base::Memory;
 use std::alloc::Global;

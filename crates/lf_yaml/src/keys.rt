@@ -3,7 +3,7 @@ ghost use Rattle.std.specs.Prelude.{true, ◌≡◌, ◌&&◌, eqb, ℕ, ◌+◌
 ghost use Rattle.lf_scalar.specs.Cells.{cell, cells};
 ghost use Rattle.lf_scalar.specs.Lines.{is_blank, begins_with};
 ghost use Rattle.lf_yaml.specs.Heads.{key_in};
-ghost use Rattle.lf_yaml.specs.Signs.{stops_of, ends_of, split_at};
+ghost use Rattle.lf_yaml.specs.views.Signs.{stops_of, ends_of, split_at};
 
 use lf_scalar::lines::{is_blank_byte, past};
 

@@ -31,8 +31,6 @@ mod row;
 mod row_value;
 mod rows;
 mod scalars;
-#[cfg(test)]
-mod tests;
 mod turn;
 mod uniqueness;
 

@@ -1,8 +1,8 @@
 //! Nodes of block collections, made of their parts.
 ghost use Rattle.std.specs.Prelude.{◌≡◌, ℕ, ◌+◌, ◌≤◌, ◌^◌, length, map, Ok, IfOk};
-ghost use Rattle.lf_base.specs.Answers.{Gives};
+ghost use Rattle.lf_base.specs.Answers.{AnswersAs};
 ghost use Rattle.lf_base.specs.Faults.{span as span_at};
-ghost use Rattle.lf_scalar.specs.Drafted.{shown as scalar_shown};
+ghost use Rattle.lf_scalar.specs.views.Built.{shown as scalar_shown};
 ghost use Rattle.lf_yaml.specs.Tree.{tree, pair, sequence, mapping, items_of, entries_of};
 ghost use Rattle.lf_yaml.specs.Spans.{span_of, items_end, entries_end, empty_at};
 
@@ -15,7 +15,7 @@ use std::alloc::Global;
 /// The empty text at an offset, which stands for a value that is missing.
 pub fn empty(alloc: Global, at: u32) -> Result<Node, Refusal>
     requires { at ≤ 2 ^ 31 }
-    ensures { Gives tree result (Ok (empty_at at)) }
+    ensures { AnswersAs tree result (Ok (empty_at at)) }
 {
     match missing_value(alloc, at) {
         Ok(of) => Ok(Node::Scalar { of }),

@@ -1,17 +1,17 @@
 //! Nodes by their rows: block sequences and block mappings, one in another.
 ghost use Rattle.std.specs.Prelude.{◌≡◌, ℕ, suc, ◌+◌, ◌<◌, ◌≤◌, ◌^◌, List, length, map, true, Some, IfOk};
 ghost use Rattle.std.specs.Str.{IsCharBoundary, IsUtf8};
-ghost use Rattle.lf_base.specs.Answers.{Gives};
+ghost use Rattle.lf_base.specs.Answers.{AnswersAs};
 ghost use Rattle.lf_scalar.specs.Cells.{cell, cells};
 ghost use Rattle.lf_yaml.specs.Rows.{indent as indent_of};
 ghost use Rattle.lf_yaml.specs.Heads.{is_item as is_item_of};
 ghost use Rattle.lf_yaml.specs.Tree.{tree, pair, items_of, entries_of};
-ghost use Rattle.lf_yaml.specs.Reading.{node_at, item_value as item_value_of, entry_at};
-ghost use Rattle.lf_yaml.specs.Shown.{shown};
-ghost use Rattle.lf_yaml.specs.Cursor.{rows_after, IsRowOf};
-ghost use Rattle.lf_yaml.specs.Headed.{headed};
-ghost use Rattle.lf_yaml.specs.KeySets.{HasKeys};
-ghost use Rattle.lf_yaml.specs.BlockTurns.{inner, owned, values, run_items, run_entries, one_entry as one_entry_of, IsEntryRow};
+ghost use Rattle.lf_yaml.specs.reading.Trees.{node_at, item_value as item_value_of, entry_at};
+ghost use Rattle.lf_yaml.specs.views.Shown.{shown};
+ghost use Rattle.lf_yaml.specs.views.Cursor.{rows_after, IsRowOf};
+ghost use Rattle.lf_yaml.specs.views.Headed.{headed};
+ghost use Rattle.lf_yaml.specs.views.KeySets.{HasKeys};
+ghost use Rattle.lf_yaml.specs.reading.BlockTurns.{inner, owned, values, run_items, run_entries, one_entry as one_entry_of, IsEntryRow};
 
 use crate::below::{left_behind, left_of_entry, row_below, row_beside};
 use crate::block_turns::{begins_block, entry_on, next_entry, next_item};
@@ -45,7 +45,7 @@ pub fn node(
     requires row { IsRowOf bytes.now row }
     requires start { IsCharBoundary bytes.now next }
     requires above { above ≤ 2 ^ 31 }
-    ensures gives { Gives (λ x. (tree x.0, rows_after bytes.now x.1)) result (node_at bytes.now depth own above (shown row.entry) (rows_after bytes.now next)) }
+    ensures gives { AnswersAs (λ x. (tree x.0, rows_after bytes.now x.1)) result (node_at bytes.now depth own above (shown row.entry) (rows_after bytes.now next)) }
     ensures start { IfOk result (λ x. IsCharBoundary bytes.now x.1) }
     ensures further { IfOk result (λ x. next ≤ x.1) }
 {
@@ -82,7 +82,7 @@ fn item_value(
     requires row { IsRowOf bytes.now row }
     requires start { IsCharBoundary bytes.now next }
     requires item { is_item_of (shown row) ≡ true }
-    ensures gives { Gives (λ x. (tree x.0, rows_after bytes.now x.1)) result (item_value_of (inner bytes.now depth) (indent_of (shown row.entry)) (shown row.entry) (rows_after bytes.now next)) }
+    ensures gives { AnswersAs (λ x. (tree x.0, rows_after bytes.now x.1)) result (item_value_of (inner bytes.now depth) (indent_of (shown row.entry)) (shown row.entry) (rows_after bytes.now next)) }
     ensures start { IfOk result (λ x. IsCharBoundary bytes.now x.1) }
     ensures further { IfOk result (λ x. next ≤ x.1) }
 {
@@ -111,7 +111,7 @@ fn items(
     requires row { IsRowOf bytes.now row }
     requires start { IsCharBoundary bytes.now next }
     requires item { is_item_of (shown row) ≡ true }
-    ensures gives { Gives (λ x. (items_of (map tree x.0), rows_after bytes.now x.1)) result (run_items bytes.now depth own (indent_of (shown row.entry)) (shown row.entry) (rows_after bytes.now next)) }
+    ensures gives { AnswersAs (λ x. (items_of (map tree x.0), rows_after bytes.now x.1)) result (run_items bytes.now depth own (indent_of (shown row.entry)) (shown row.entry) (rows_after bytes.now next)) }
     ensures start { IfOk result (λ x. IsCharBoundary bytes.now x.1) }
     ensures further { IfOk result (λ x. next ≤ x.1) }
 {
@@ -141,7 +141,7 @@ fn value_here(
     requires row { IsRowOf bytes.now left }
     requires start { IsCharBoundary bytes.now next }
     requires column { column < 2 ^ 31 }
-    ensures gives { Gives (λ x. (tree x.0, rows_after bytes.now x.1)) result (entry_at bytes.now depth (owned bytes.now depth) column 0 (rows_after bytes.now next) (Some (shown left.entry))) }
+    ensures gives { AnswersAs (λ x. (tree x.0, rows_after bytes.now x.1)) result (entry_at bytes.now depth (owned bytes.now depth) column 0 (rows_after bytes.now next) (Some (shown left.entry))) }
     ensures start { IfOk result (λ x. IsCharBoundary bytes.now x.1) }
     ensures further { IfOk result (λ x. next ≤ x.1) }
 {
@@ -165,7 +165,7 @@ fn entry_value(
     requires room { length bytes.now ≤ 2 ^ 31 }
     requires entry { IsEntryRow bytes.now entry }
     requires column { column < 2 ^ 31 }
-    ensures gives { Gives (λ x. (tree x.0, rows_after bytes.now x.1)) result (values bytes.now depth column entry.entry.row.begin (cell 58 entry.entry.head.colon) (cells (suc entry.entry.head.colon) entry.entry.head.behind.now) (rows_after bytes.now entry.entry.behind)) }
+    ensures gives { AnswersAs (λ x. (tree x.0, rows_after bytes.now x.1)) result (values bytes.now depth column entry.entry.row.begin (cell 58 entry.entry.head.colon) (cells (suc entry.entry.head.colon) entry.entry.head.behind.now) (rows_after bytes.now entry.entry.behind)) }
     ensures start { IfOk result (λ x. IsCharBoundary bytes.now x.1) }
     ensures further { IfOk result (λ x. entry.entry.behind ≤ x.1) }
 {
@@ -201,7 +201,7 @@ fn one_entry(
     requires room { length bytes.now ≤ 2 ^ 31 }
     requires entry { IsEntryRow bytes.now entry }
     requires column { column < 2 ^ 31 }
-    ensures gives { (texts : List (List ℕ)) → HasKeys keys.now texts → Gives (λ x. (pair x.0, rows_after bytes.now x.1)) result (one_entry_of (values bytes.now depth column) texts (shown entry.entry.row) (headed entry.entry.row.at entry.entry.row.text.now entry.entry.head) (rows_after bytes.now entry.entry.behind)) }
+    ensures gives { (texts : List (List ℕ)) → HasKeys keys.now texts → AnswersAs (λ x. (pair x.0, rows_after bytes.now x.1)) result (one_entry_of (values bytes.now depth column) texts (shown entry.entry.row) (headed entry.entry.row.at entry.entry.row.text.now entry.entry.head) (rows_after bytes.now entry.entry.behind)) }
     ensures start { IfOk result (λ x. IsCharBoundary bytes.now x.1) }
     ensures further { IfOk result (λ x. entry.entry.behind ≤ x.1) }
 {
@@ -221,7 +221,7 @@ fn entries(
     requires text { IsUtf8 bytes.now }
     requires room { length bytes.now ≤ 2 ^ 31 }
     requires entry { IsEntryRow bytes.now entry }
-    ensures gives { Gives (λ x. (entries_of (map pair x.0), rows_after bytes.now x.1)) result (run_entries bytes.now depth (indent_of (shown entry.entry.row)) (shown entry.entry.row) (rows_after bytes.now entry.entry.behind)) }
+    ensures gives { AnswersAs (λ x. (entries_of (map pair x.0), rows_after bytes.now x.1)) result (run_entries bytes.now depth (indent_of (shown entry.entry.row)) (shown entry.entry.row) (rows_after bytes.now entry.entry.behind)) }
     ensures start { IfOk result (λ x. IsCharBoundary bytes.now x.1) }
     ensures further { IfOk result (λ x. entry.entry.behind ≤ x.1) }
 {

@@ -1,12 +1,12 @@
 //! Keys that stand once in their mapping.
 ghost use Rattle.std.specs.Prelude.{◌≡◌, ℕ, List, ◌+◌, ◌≤◌, ◌^◌, length};
 ghost use Rattle.std.specs.Str.{IsUtf8};
-ghost use Rattle.lf_base.specs.Answers.{Gives};
-ghost use Rattle.lf_scalar.specs.Drafted.{shown as scalar_shown};
-ghost use Rattle.lf_yaml.specs.Shown.{shown};
-ghost use Rattle.lf_yaml.specs.Headed.{headed};
-ghost use Rattle.lf_yaml.specs.KeySets.{HasKeys};
-ghost use Rattle.lf_yaml.specs.BlockTurns.{new_key as new_key_of, IsEntryRow};
+ghost use Rattle.lf_base.specs.Answers.{AnswersAs};
+ghost use Rattle.lf_scalar.specs.views.Built.{shown as scalar_shown};
+ghost use Rattle.lf_yaml.specs.views.Shown.{shown};
+ghost use Rattle.lf_yaml.specs.views.Headed.{headed};
+ghost use Rattle.lf_yaml.specs.views.KeySets.{HasKeys};
+ghost use Rattle.lf_yaml.specs.reading.BlockTurns.{new_key as new_key_of, IsEntryRow};
 
 use crate::entries::EntryRow;
 use crate::held::key_scalar;
@@ -16,7 +16,7 @@ use lf_scalar::Scalar;
 use std::alloc::Global;
 
 /// The key of an entry, whose text is none of those before. A text that is one of them is a `DoubleKey` at the key.
-#[tactic(auto, unfolding(crate::specs::BlockTurns::new_key))]
+#[tactic(auto, unfolding(crate::specs::reading::BlockTurns::new_key))]
 pub fn new_key(
     alloc: Global,
     bytes: &[u8],
@@ -26,7 +26,7 @@ pub fn new_key(
     requires text { IsUtf8 bytes.now }
     requires room { length bytes.now ≤ 2 ^ 31 }
     requires entry { IsEntryRow bytes.now entry }
-    ensures { (texts : List (List ℕ)) → HasKeys keys.now texts → Gives scalar_shown result (new_key_of texts (shown entry.entry.row) (headed entry.entry.row.at entry.entry.row.text.now entry.entry.head)) }
+    ensures { (texts : List (List ℕ)) → HasKeys keys.now texts → AnswersAs scalar_shown result (new_key_of texts (shown entry.entry.row) (headed entry.entry.row.at entry.entry.row.text.now entry.entry.head)) }
 {
     match key_scalar(alloc, bytes, entry.row, entry.head.key) {
         Ok(key) => {

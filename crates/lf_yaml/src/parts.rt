@@ -3,9 +3,9 @@ ghost use Rattle.std.specs.Prelude.{false, ◌≡◌, ℕ, List, ◌+◌, ◌<�
 ghost use Rattle.std.specs.Str.{IsCharBoundary, IsUtf8};
 ghost use Rattle.lf_scalar.specs.Cells.{cells};
 ghost use Rattle.lf_yaml.specs.Flow.{on_line as on_line_of, next_part as next_part_of};
-ghost use Rattle.lf_yaml.specs.Cursor.{rows_after};
-ghost use Rattle.lf_yaml.specs.Parts.{IsNext};
-ghost use Rattle.lf_yaml.specs.Places.{IsPartIn, IsPlaceIn, left_at, rows_at};
+ghost use Rattle.lf_yaml.specs.views.Cursor.{rows_after};
+ghost use Rattle.lf_yaml.specs.views.Parts.{IsNext};
+ghost use Rattle.lf_yaml.specs.views.Places.{IsPartIn, IsPlaceIn, left_at, rows_at};
 
 use crate::head::{first_fault, indent, indent_fault, is_mark};
 use crate::place::Place;

@@ -1,12 +1,12 @@
 //! Scalars that are a part of one line as it stands.
 ghost use Rattle.std.specs.Prelude.{◌≡◌, ℕ, ◌+◌, ◌<◌, ◌≤◌, ◌^◌, ◌∷◌, [], ◌++◌, length, map, take, Ok, IfOk, IfErr};
 ghost use Rattle.std.specs.Str.{IsUtf8};
-ghost use Rattle.lf_base.specs.Answers.{Gives};
+ghost use Rattle.lf_base.specs.Answers.{AnswersAs};
 ghost use Rattle.lf_base.specs.Faults.{span as span_of};
 ghost use Rattle.lf_scalar.specs.Cells.{cells, made};
-ghost use Rattle.lf_scalar.specs.Drafted.{shown};
+ghost use Rattle.lf_scalar.specs.views.Built.{shown};
 ghost use Rattle.lf_base.specs.declared.refusal.Refusal.TheVariants as refusal_of;
-ghost use Rattle.lf_yaml.specs.Ascending.{offsets_from};
+ghost use Rattle.lf_yaml.specs.views.Ascending.{offsets_from};
 
 use lf_base::{Refusal, Seq, Span, Text};
 use lf_scalar::Scalar;
@@ -48,7 +48,7 @@ pub fn slice_scalar(alloc: Global, text: &[u8], at: u32, span: Span) -> Result<S
     requires room { at + length text.now ≤ 2 ^ 31 }
     requires start { span.start ≤ at }
     requires end { at + length text.now ≤ span.end }
-    ensures { Gives shown result (Ok (made (cells at text.now) (at + length text.now) span)) }
+    ensures { AnswersAs shown result (Ok (made (cells at text.now) (at + length text.now) span)) }
 {
     let from = match offsets(alloc, at, text.len()) {
         Ok(from) => from,

@@ -1,13 +1,13 @@
 //! Values on a row: scalars and flow collections.
 ghost use Rattle.std.specs.Prelude.{true, ◌≡◌, ℕ, ◌+◌, ◌≤◌, ◌^◌, length, IfOk};
 ghost use Rattle.std.specs.Str.{IsCharBoundary, IsUtf8};
-ghost use Rattle.lf_base.specs.Answers.{Gives};
+ghost use Rattle.lf_base.specs.Answers.{AnswersAs};
 ghost use Rattle.lf_scalar.specs.Scalars.{least_above};
 ghost use Rattle.lf_yaml.specs.Heads.{begins_scalar as begins_scalar_of};
 ghost use Rattle.lf_yaml.specs.Tree.{tree};
-ghost use Rattle.lf_yaml.specs.Reading.{value_on, scalar_on, scalar_value as scalar_value_of};
-ghost use Rattle.lf_yaml.specs.Shown.{shown};
-ghost use Rattle.lf_yaml.specs.Cursor.{rows_after, IsRowOf};
+ghost use Rattle.lf_yaml.specs.reading.Trees.{value_on, scalar_on, scalar_value as scalar_value_of};
+ghost use Rattle.lf_yaml.specs.views.Shown.{shown};
+ghost use Rattle.lf_yaml.specs.views.Cursor.{rows_after, IsRowOf};
 
 use crate::flow_items::scalar_node;
 use crate::flow_nodes::{flow_list, flow_map};
@@ -41,7 +41,7 @@ fn scalar_value(
     requires start { IsCharBoundary bytes.now next }
     requires above { above ≤ 2 ^ 31 }
     requires begins { begins_scalar_of (shown row) ≡ true }
-    ensures gives { Gives (λ x. (tree x.0, rows_after bytes.now x.1)) result (scalar_value_of (rows_after bytes.now next) (scalar_on bytes.now above (shown row.entry))) }
+    ensures gives { AnswersAs (λ x. (tree x.0, rows_after bytes.now x.1)) result (scalar_value_of (rows_after bytes.now next) (scalar_on bytes.now above (shown row.entry))) }
     ensures start { IfOk result (λ x. IsCharBoundary bytes.now x.1) }
     ensures further { IfOk result (λ x. next ≤ x.1) }
 {
@@ -57,7 +57,7 @@ fn scalar_value(
 /// The scalar or the flow collection that a row of a file begins, and where the line begins behind it. The lines behind the row's own begin at `next`.
 ///
 /// Its later lines have at least `above` spaces, and `depth` is how many collections may stand one in another from here on: a flow collection is `TooDeep` where that is 0.
-#[tactic(auto, unfolding(crate::specs::Reading::value_on))]
+#[tactic(auto, unfolding(crate::specs::reading::Trees::value_on))]
 pub fn value(
     alloc: Global,
     bytes: &[u8],
@@ -71,7 +71,7 @@ pub fn value(
     requires row { IsRowOf bytes.now row }
     requires start { IsCharBoundary bytes.now next }
     requires above { above ≤ 2 ^ 31 }
-    ensures gives { Gives (λ x. (tree x.0, rows_after bytes.now x.1)) result (value_on bytes.now above depth (shown row.entry) (rows_after bytes.now next)) }
+    ensures gives { AnswersAs (λ x. (tree x.0, rows_after bytes.now x.1)) result (value_on bytes.now above depth (shown row.entry) (rows_after bytes.now next)) }
     ensures start { IfOk result (λ x. IsCharBoundary bytes.now x.1) }
     ensures further { IfOk result (λ x. next ≤ x.1) }
 {

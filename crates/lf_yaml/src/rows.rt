@@ -4,11 +4,12 @@ ghost use Rattle.std.specs.Str.{IsCharBoundary, IsUtf8};
 ghost use Rattle.lf_scalar.specs.Cells.{cells};
 ghost use Rattle.lf_scalar.specs.Lines.{line};
 ghost use Rattle.lf_yaml.specs.Rows.{content_row, rows_from};
-ghost use Rattle.lf_yaml.specs.Shown.{shown};
-ghost use Rattle.lf_yaml.specs.Cursor.{rows_after, IsRowOf};
+ghost use Rattle.lf_yaml.specs.views.Shown.{shown};
+ghost use Rattle.lf_yaml.specs.views.Cursor.{rows_after, IsRowOf};
 
 use crate::row::Row;
-use lf_scalar::lines::{before, blanks, line_end, past, spaces};
+use lf_base::bytes::before;
+use lf_scalar::lines::{blanks, line_end, past, spaces};
 
 /// The row of a line that stands at an offset, none where the line is blank or a comment line.
 pub fn line_row(text: &[u8], at: u32) -> Option<Row<'_>>

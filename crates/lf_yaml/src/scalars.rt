@@ -1,15 +1,15 @@
 //! Scalars on a row.
 ghost use Rattle.std.specs.Prelude.{true, ◌≡◌, ℕ, ◌+◌, ◌≤◌, ◌^◌, length};
 ghost use Rattle.std.specs.Str.{IsUtf8};
-ghost use Rattle.lf_base.specs.Answers.{Gives};
+ghost use Rattle.lf_base.specs.Answers.{AnswersAs};
 ghost use Rattle.lf_scalar.specs.Cells.{cell};
 ghost use Rattle.lf_scalar.specs.Scalars.{least_above, begins};
 ghost use Rattle.lf_yaml.specs.Rows.{text_of};
-ghost use Rattle.lf_scalar.specs.Drafted.{shown as scalar_shown};
+ghost use Rattle.lf_scalar.specs.views.Built.{shown as scalar_shown};
 ghost use Rattle.lf_yaml.specs.Heads.{style_of as style_of_cell, begins_scalar as begins_scalar_of};
-ghost use Rattle.lf_yaml.specs.Reading.{scalar_on};
-ghost use Rattle.lf_yaml.specs.Shown.{shown};
-ghost use Rattle.lf_yaml.specs.Cursor.{IsRowOf};
+ghost use Rattle.lf_yaml.specs.reading.Trees.{scalar_on};
+ghost use Rattle.lf_yaml.specs.views.Shown.{shown};
+ghost use Rattle.lf_yaml.specs.views.Cursor.{IsRowOf};
 
 use crate::entry::begins_plain;
 use crate::head::is_left_out;
@@ -57,7 +57,7 @@ pub fn scalar(alloc: Global, bytes: &[u8], row: Row<'_>, parent: i32) -> Result<
     requires room { length bytes.now ≤ 2 ^ 31 }
     requires row { IsRowOf bytes.now row }
     requires begins { begins_scalar_of (shown row) ≡ true }
-    ensures { Gives scalar_shown result (scalar_on bytes.now (least_above parent) (shown row.entry)) }
+    ensures { AnswersAs scalar_shown result (scalar_on bytes.now (least_above parent) (shown row.entry)) }
 {
     read_scalar(alloc, bytes, row.at, parent, style_by(row.text[0]))
 }

@@ -8,7 +8,7 @@ use Rattle.lf_base.specs.declared.kind.Kind.TheVariants.{BadByte, OpenString, Ba
 use Rattle.lf_lex.specs.declared.token.Sign.{Sign}
 use Rattle.lf_lex.specs.declared.token.TokenKind.{TokenKind}
 use Rattle.lf_lex.specs.declared.token.TokenKind.TheVariants as kinds
-use Rattle.lf_lex.specs.Bytes.{is_blank, is_line_feed, begins_word, is_in_word, is_continuation}
+use Rattle.lf_lex.specs.Bytes.{is_blank, is_line_break, begins_word, is_in_word, is_continuation}
 use Rattle.lf_lex.specs.reading.Runs.{run_len, is_number, duration_order}
 use Rattle.lf_lex.specs.Runs.{begins_run}
 use Rattle.lf_lex.specs.reading.Strings.{closing, gives, bytes_of, places_of}
@@ -30,9 +30,9 @@ gap n = Ok (None, n)
 abbrev pub token : TokenKind → ℕ → Result Front Fault
 token kind n = Ok (Some kind, n)
 
--- a comment: all up to the line's end
+-- a comment: all up to a line feed or a carriage return
 unfoldable pub comment_front : List ℕ → Result Front Fault
-comment_front src = gap (prefix_len (λ b. not (is_line_feed b)) src)
+comment_front src = gap (prefix_len (λ b. not (is_line_break b)) src)
 
 -- a word: the longest row of its bytes
 unfoldable pub word_front : Bool → List ℕ → Result Front Fault

@@ -1,6 +1,6 @@
 use Rattle.lf_base.proofs.Answering.{one_answer}
 use Rattle.lf_ast.specs.Breaches.{Tells}
-use Rattle.lf_ast.specs.Judging.{judged}
+use Rattle.lf_ast.specs.reading.Judging.{judged}
 use Rattle.lf_ast.specs.Types.{HasType}
 use Rattle.lf_ast.proofs.Judged.{decides, no_breach}
 use Rattle.lf_ast.proofs.laws.one_type.Goals as goal

@@ -1,5 +1,5 @@
 use Rattle.std.proofs.Common.{◌≡◌, ℕ, List, take}
-use Rattle.lf_base.specs.NameSets.{has}
+use Rattle.lf_base.specs.views.NameSets.{has}
 use Rattle.lf_ast.specs.Types.{is_among}
 use Rattle.lf_ast.proofs.modifiers.set_of.Given as goal
 

@@ -1,6 +1,6 @@
 use Rattle.lf_base.proofs.Answering.{breach, found, only, refused, refused_in}
 use Rattle.lf_ast.specs.Breaches.{Tells}
-use Rattle.lf_ast.specs.Judging.{judged}
+use Rattle.lf_ast.specs.reading.Judging.{judged}
 use Rattle.lf_ast.specs.Tree.{tree}
 use Rattle.lf_ast.specs.Types.{HasType}
 use Rattle.lf_ast.proofs.BreachesInside.{breach_lies}
@@ -18,5 +18,5 @@ returns c =
       only = only (λ t. t) (HasType e) (Tells e) (judged e) (decides e) r given;
       refused = told;
       breach = breach (λ t. t) (HasType e) (Tells e) (judged e) (decides e) r given;
-      inside = λ n inside. refused_in n (Tells e) (λ f tells. breach_lies n e f inside tells.0) r told;
+      refused_inside = λ n inside. refused_in n (Tells e) (λ f tells. breach_lies n e f inside tells.0) r told;
     }

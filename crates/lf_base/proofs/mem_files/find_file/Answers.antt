@@ -2,7 +2,7 @@
 use Rattle.std.proofs.Common.{◌≡◌, sym, ◌∙◌, None, arith}
 use Rattle.std.proofs.lemmas.Grind.{common_steps}
 use Rattle.std.proofs.lemmas.Slice.Eq.{bytes_eq-Decides}
-use Rattle.lf_base.specs.FileList.{name_at, IsPlaceOf}
+use Rattle.lf_base.specs.views.FileList.{name_at, IsPlaceOf}
 use Rattle.lf_base.proofs.FileList.{get-at, get-absent}
 use Rattle.lf_base.proofs.mem_files.find_file.Goals as goal
 

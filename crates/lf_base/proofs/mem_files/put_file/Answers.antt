@@ -3,7 +3,7 @@ use Rattle.std.proofs.Common.{List, ℕ, None, Some, ◌∙◌, ap}
 use Rattle.std.specs.FinMap as map
 use Rattle.std.specs.Ordering.{nat_cmp}
 use Rattle.std.specs.Cmp.Lexicographic.{slice_cmp}
-use Rattle.lf_base.specs.FileList.{IsPlaceOf}
+use Rattle.lf_base.specs.views.FileList.{IsPlaceOf}
 use Rattle.lf_base.proofs.FileList.{from_entries-set, from_entries-push}
 use Rattle.lf_base.proofs.mem_files.put_file.Goals as goal
 

@@ -3,7 +3,7 @@ use Rattle.lf_ast.specs.Tree.{tree}
 use Rattle.lf_semantics.specs.PatternBreaches.{TellsPattern}
 use Rattle.lf_semantics.proofs.PatternsInside.{pattern_within}
 use Rattle.lf_classes.specs.Checked.{HasNoBreach}
-use Rattle.lf_classes.specs.Checking.{patterns_checked}
+use Rattle.lf_classes.specs.reading.Checking.{patterns_checked}
 use Rattle.lf_classes.proofs.FaultsFound.{decides}
 use Rattle.lf_classes.proofs.checking.check_patterns.Goals as goal
 
@@ -18,5 +18,5 @@ returns c =
       only = only (λ t. t) (HasNoBreach e) (TellsPattern e) (patterns_checked e) (decides e) r given;
       refused = told;
       breach = breach (λ t. t) (HasNoBreach e) (TellsPattern e) (patterns_checked e) (decides e) r given;
-      inside = λ n inside. refused_in n (TellsPattern e) (λ f tells. pattern_within n e f inside tells.0) r told;
+      refused_inside = λ n inside. refused_in n (TellsPattern e) (λ f tells. pattern_within n e f inside tells.0) r told;
     }

@@ -3,7 +3,7 @@ use Rattle.std.specs.Option.{option_and_then}
 use Rattle.std.proofs.lemmas.Grind.{common_steps}
 use Rattle.lf_ast.specs.Tree.{Tree}
 use Rattle.lf_semantics.specs.PatternBreaches.{placed_string}
-use Rattle.lf_classes.specs.Checking.{string_fault}
+use Rattle.lf_classes.specs.reading.Checking.{string_fault}
 use Rattle.lf_classes.proofs.Arguments.{argument_missing, argument_there}
 use Rattle.lf_classes.proofs.patterns.fifth_fault.Goals as goal
 

@@ -1,6 +1,6 @@
 use Rattle.std.proofs.Common.{◌/◌, ◌<◌, length, refl, ◌∙◌, arith}
 use Rattle.std.proofs.lemmas.List.{get_or_read}
-use Rattle.lf_classes.specs.Bits.{bit_of, changed}
+use Rattle.lf_classes.specs.views.Bits.{bit_of, changed}
 use Rattle.lf_classes.proofs.WordLists.{changed_here, changed_more, changed_none}
 use Rattle.lf_classes.proofs.range.change_words.Goals as goal
 

@@ -1,4 +1,4 @@
-use Rattle.lf_classes.specs.Bits.{bit_of, changed}
+use Rattle.lf_classes.specs.views.Bits.{bit_of, changed}
 use Rattle.lf_classes.proofs.WordLists.{IsChanged}
 use Rattle.lf_classes.proofs.range.change_words.Given as goal
 

@@ -1,5 +1,5 @@
 use Rattle.std.proofs.Common.{◌≡◌, ℕ, ◌*◌, ◌<◌, true}
-use Rattle.lf_classes.specs.Bits.{bit_of}
+use Rattle.lf_classes.specs.views.Bits.{bit_of}
 use Rattle.lf_classes.proofs.range.has_all.Given as goal
 
 abbrev pub invariant-loop-number : goal.invariant-loop-number

@@ -1,5 +1,5 @@
 use Rattle.std.proofs.Common.{◌≡◌, ℕ, ◌*◌, ◌<◌, ◌≤◌, false}
-use Rattle.lf_classes.specs.Bits.{bit_of}
+use Rattle.lf_classes.specs.views.Bits.{bit_of}
 use Rattle.lf_classes.proofs.range.has_any.Given as goal
 
 abbrev pub invariant-loop-number : goal.invariant-loop-number

@@ -1,6 +1,6 @@
 use Rattle.std.proofs.Common.{◌≡◌, ℕ, ◌<◌, true}
 use Rattle.lf_semantics.specs.ClassRows.{holds}
-use Rattle.lf_classes.specs.Cut.{cut}
+use Rattle.lf_classes.specs.views.Cut.{cut}
 use Rattle.lf_classes.proofs.row.all_live.Given as goal
 
 abbrev pub invariant-loop-label : goal.invariant-loop-label

@@ -1,5 +1,5 @@
 use Rattle.std.proofs.Common.{sym, ap, ◌∙◌}
-use Rattle.lf_classes.specs.Bits.{bit, changed}
+use Rattle.lf_classes.specs.views.Bits.{bit, changed}
 use Rattle.lf_classes.proofs.WordBits.{bit-and, bit-or}
 use Rattle.lf_classes.proofs.word.changed.Goals as goal
 

@@ -1,5 +1,5 @@
 use Rattle.std.proofs.Common.{◌≡◌, ℕ, Bool, true, false, refl, ◌∙◌}
-use Rattle.lf_classes.specs.Bits.{bit}
+use Rattle.lf_classes.specs.views.Bits.{bit}
 use Rattle.lf_classes.proofs.word.mask.Goals as goal
 
 -- a bit that is clear stays clear

@@ -1,6 +1,6 @@
 use Rattle.std.proofs.Common.{◌≡◌, ◌++◌, take}
 use Rattle.std.specs.List.{flat_map}
-use Rattle.lf_deps.specs.Links.{source_of}
+use Rattle.lf_deps.specs.views.Links.{source_of}
 use Rattle.lf_deps.proofs.links.push_sources.Given as goal
 
 abbrev pub invariant-loop-selector : goal.invariant-loop-selector

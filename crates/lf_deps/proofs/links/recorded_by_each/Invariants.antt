@@ -1,6 +1,6 @@
 use Rattle.std.proofs.Common.{◌≡◌, map, take}
 use Rattle.lf_ast.specs.Rules.{rule_tree}
-use Rattle.lf_deps.specs.Links.{recorded_at}
+use Rattle.lf_deps.specs.views.Links.{recorded_at}
 use Rattle.lf_deps.proofs.links.recorded_by_each.Given as goal
 
 abbrev pub invariant-loop-k : goal.invariant-loop-k

@@ -1,5 +1,5 @@
 use Rattle.std.proofs.Common.{◌≡◌, map, take}
-use Rattle.lf_deps.specs.Names.{nodes_by}
+use Rattle.lf_deps.specs.views.Names.{nodes_by}
 use Rattle.lf_deps.proofs.name_graph.edges_of.Given as goal
 
 abbrev pub invariant-loop-place : goal.invariant-loop-place

@@ -1,7 +1,7 @@
 use Rattle.std.proofs.Common.{◌≡◌, ◌+◌, length}
 use Rattle.std.specs.List.{range_with_len}
 use Rattle.lf_ast.specs.Rules.{rule_trees}
-use Rattle.lf_deps.specs.Queue.{IsReady}
+use Rattle.lf_deps.specs.views.Queue.{IsReady}
 use Rattle.lf_deps.proofs.Ordered.{OrderGoesOn, left_of}
 use Rattle.lf_deps.proofs.ordering.order_of.Given as goal
 

@@ -1,7 +1,7 @@
 use Rattle.std.proofs.Common.{◌≡◌, ◌+◌, ◌<◌, [], List, ℕ, get_or, length, take, drop, sym, subst, ◌∙◌, ap, arith}
 use Rattle.std.specs.List.{Contains}
 use Rattle.std.proofs.lemmas.List.{get_or_read, take_at}
-use Rattle.lf_deps.specs.Queue.{occurs, occurs_in}
+use Rattle.lf_deps.specs.views.Queue.{occurs, occurs_in}
 use Rattle.lf_deps.proofs.Counting.{occurs_in_more}
 use Rattle.lf_deps.proofs.queue.count_all.Goals as goal
 

@@ -1,5 +1,5 @@
 use Rattle.std.proofs.Common.{◌≡◌, ◌<◌, ℕ, get_or, length, take}
-use Rattle.lf_deps.specs.Queue.{occurs_in}
+use Rattle.lf_deps.specs.views.Queue.{occurs_in}
 use Rattle.lf_deps.proofs.queue.count_all.Given as goal
 
 abbrev pub invariant-loop-k : goal.invariant-loop-k

@@ -1,6 +1,6 @@
 use Rattle.std.proofs.Common.{◌++◌, ◌-◌, [], ◌∷◌, List, ℕ, get_or, ◌∙◌, ap, sym, subst}
 use Rattle.std.specs.Prelude.{slice_set}
-use Rattle.lf_deps.specs.Queue.{CountsDown}
+use Rattle.lf_deps.specs.views.Queue.{CountsDown}
 use Rattle.lf_deps.proofs.Counting.{down_one}
 use Rattle.lf_deps.proofs.queue.count_down.Goals as goal
 

@@ -1,7 +1,7 @@
 use Rattle.std.proofs.Common.{List, ℕ, get_or, take, sym, subst, arith}
 use Rattle.std.proofs.lemmas.List.{take_more}
 use Rattle.std.proofs.lemmas.List.Elements.{Contains-get_or}
-use Rattle.lf_deps.specs.Queue.{CountsDown}
+use Rattle.lf_deps.specs.views.Queue.{CountsDown}
 use Rattle.lf_deps.proofs.Counting.{down_more, occurs_front}
 use Rattle.lf_deps.proofs.queue.count_down_all.Goals as goal
 

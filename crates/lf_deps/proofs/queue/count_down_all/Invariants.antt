@@ -1,5 +1,5 @@
 use Rattle.std.proofs.Common.{take}
-use Rattle.lf_deps.specs.Queue.{CountsDown}
+use Rattle.lf_deps.specs.views.Queue.{CountsDown}
 use Rattle.lf_deps.proofs.queue.count_down_all.Given as goal
 
 abbrev pub invariant-loop-source : goal.invariant-loop-source

@@ -3,7 +3,7 @@ use Rattle.std.specs.Prelude.{slice_set}
 use Rattle.std.proofs.lemmas.Bool.{cases_eq}
 use Rattle.std.proofs.lemmas.List.{get_or-set_other, get_or-set_same}
 use Rattle.std.proofs.lemmas.List.Elements.{Contains-get_or}
-use Rattle.lf_deps.specs.Queue.{occurs}
+use Rattle.lf_deps.specs.views.Queue.{occurs}
 use Rattle.lf_deps.proofs.Counting.{never, occurs_more, once}
 use Rattle.lf_deps.proofs.queue.count_up_all.Goals as goal
 

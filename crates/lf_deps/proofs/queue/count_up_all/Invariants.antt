@@ -1,5 +1,5 @@
 use Rattle.std.proofs.Common.{◌≡◌, ◌<◌, ◌+◌, ℕ, get_or, length, take}
-use Rattle.lf_deps.specs.Queue.{occurs}
+use Rattle.lf_deps.specs.views.Queue.{occurs}
 use Rattle.lf_deps.proofs.queue.count_up_all.Given as goal
 
 abbrev pub invariant-loop-source : goal.invariant-loop-source

@@ -1,6 +1,6 @@
 use Rattle.std.proofs.Common.{ℕ, List, get_or, refl, subst}
 use Rattle.std.proofs.lemmas.List.{take_all}
-use Rattle.lf_graph.specs.Listing.{Adds}
+use Rattle.lf_graph.specs.views.Listing.{Adds}
 use Rattle.lf_graph.proofs.Inserting.{adds_next, adds_none}
 use Rattle.lf_deps.proofs.reaching.add_all.Goals as goal
 

@@ -2,9 +2,9 @@ use Rattle.std.proofs.Common.{ℕ, List, [], get_or, inl, inr, refl, sym, subst}
 use Rattle.std.specs.List.{flat_map}
 use Rattle.std.proofs.lemmas.List.{take_all}
 use Rattle.lf_laws.proofs.Members.{in_flat_map, none_in, of_flat_map}
-use Rattle.lf_graph.specs.Listing.{Adds}
-use Rattle.lf_deps.specs.Index.{makers_at}
-use Rattle.lf_deps.specs.Sources.{Sources}
+use Rattle.lf_graph.specs.views.Listing.{Adds}
+use Rattle.lf_deps.specs.views.Index.{makers_at}
+use Rattle.lf_deps.specs.views.Sources.{Sources}
 use Rattle.lf_graph.proofs.Inserting.{adds_more, adds_none}
 use Rattle.lf_deps.proofs.reaching.makers_at_all.Goals as goal
 

@@ -4,7 +4,7 @@ use Rattle.lf_ast.specs.Labels.{Bytes}
 use Rattle.lf_ast.specs.Tree.{Tree, tree}
 use Rattle.lf_ast.specs.Rules.{RuleTree}
 use Rattle.lf_deps.specs.Reading.{AreApart, selectors}
-use Rattle.lf_deps.specs.Search.{AreRead}
+use Rattle.lf_deps.specs.views.Search.{AreRead}
 use Rattle.lf_deps.proofs.Reached.{common_read, none_read}
 use Rattle.lf_deps.proofs.reading.apart_of.Goals as goal
 

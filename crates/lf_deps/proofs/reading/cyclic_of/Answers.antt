@@ -4,8 +4,8 @@ use Rattle.lf_ast.specs.Labels.{Bytes}
 use Rattle.lf_graph.specs.Components.{Components}
 use Rattle.lf_graph.specs.Paths.{IsOnCircle}
 use Rattle.lf_semantics.specs.Listing.{place}
-use Rattle.lf_deps.specs.Names.{IsNameGraphOf, edges_of}
-use Rattle.lf_deps.specs.Sources.{Sources}
+use Rattle.lf_deps.specs.views.Names.{IsNameGraphOf, edges_of}
+use Rattle.lf_deps.specs.views.Sources.{Sources}
 use Rattle.lf_deps.proofs.NamePaths.{circle_cyclic, cyclic_circle, names_numbered}
 use Rattle.lf_deps.proofs.reading.cyclic_of.Goals as goal
 

@@ -4,10 +4,10 @@ use Rattle.std.specs.List.{Contains}
 use Rattle.lf_ast.specs.Rules.{RuleTree}
 use Rattle.lf_graph.specs.Components.{Components}
 use Rattle.lf_graph.specs.Paths.{IsReached}
-use Rattle.lf_deps.specs.Index.{makers_at}
-use Rattle.lf_deps.specs.Names.{IsNameGraphOf, edges_of}
+use Rattle.lf_deps.specs.views.Index.{makers_at}
+use Rattle.lf_deps.specs.views.Names.{IsNameGraphOf, edges_of}
 use Rattle.lf_deps.specs.Reading.{Reaches, selectors}
-use Rattle.lf_deps.specs.Sources.{Sources}
+use Rattle.lf_deps.specs.views.Sources.{Sources}
 use Rattle.lf_deps.proofs.LookedUp.{selected_is}
 use Rattle.lf_deps.proofs.NamePaths.{nodes, nodes_numbered, reached_from, reached_to}
 use Rattle.lf_deps.proofs.reading.reach_of.Goals as goal

@@ -1,7 +1,7 @@
 use Rattle.std.proofs.Common.{[], ◌∷◌, List, sym, ◌∙◌, ap, subst}
 use Rattle.lf_ast.specs.Labels.{Bytes}
-use Rattle.lf_classes.specs.Meetings.{with_text}
-use Rattle.lf_deps.specs.Search.{Grows}
+use Rattle.lf_classes.specs.views.TextSets.{with_text}
+use Rattle.lf_deps.specs.views.Search.{Grows}
 use Rattle.lf_deps.proofs.Followed.{grows_text}
 use Rattle.lf_deps.proofs.searching.add_text.Goals as goal
 

@@ -1,7 +1,7 @@
 use Rattle.std.proofs.Common.{List, subst, arith}
 use Rattle.std.proofs.lemmas.List.{take_all}
 use Rattle.lf_ast.specs.Labels.{Bytes}
-use Rattle.lf_deps.specs.Search.{Grows}
+use Rattle.lf_deps.specs.views.Search.{Grows}
 use Rattle.lf_deps.proofs.Followed.{grows_next, grows_none}
 use Rattle.lf_deps.proofs.searching.add_texts.Goals as goal
 

@@ -1,5 +1,5 @@
 use Rattle.std.proofs.Common.{take}
-use Rattle.lf_deps.specs.Search.{Grows}
+use Rattle.lf_deps.specs.views.Search.{Grows}
 use Rattle.lf_deps.proofs.searching.add_texts.Given as goal
 
 abbrev pub invariant-loop-k : goal.invariant-loop-k

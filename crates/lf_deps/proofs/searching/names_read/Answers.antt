@@ -1,7 +1,7 @@
 use Rattle.std.proofs.Common.{List, subst}
 use Rattle.lf_ast.specs.Labels.{Bytes}
-use Rattle.lf_deps.specs.Search.{Grows, chosen_all}
-use Rattle.lf_deps.specs.Sources.{Sources}
+use Rattle.lf_deps.specs.views.Search.{Grows, chosen_all}
+use Rattle.lf_deps.specs.views.Sources.{Sources}
 use Rattle.lf_deps.proofs.Followed.{search_begins}
 use Rattle.lf_deps.proofs.LookedUp.{chosen_from, chosen_to}
 use Rattle.lf_deps.proofs.searching.names_read.Goals as goal

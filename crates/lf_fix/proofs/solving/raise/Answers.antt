@@ -1,6 +1,6 @@
 use Rattle.std.proofs.Common.{◌≡◌, Bool, true, false, not, refl, sym, ◌∙◌, ap, subst}
 use Rattle.lf_ast.specs.Rules.{RuleTree, rule_tree, rule_trees}
-use Rattle.lf_laws.proofs.Booleans.{not_true_is}
+use Rattle.std.proofs.lemmas.Bool.{not-true}
 use Rattle.lf_ast.specs.Labels.{Bytes}
 use Rattle.lf_flow.specs.Raising.{joined}
 use Rattle.lf_semantics.specs.ClassRows.{Sets}
@@ -38,5 +38,5 @@ returns c =
     (λ top is.
     let tells = c.raise.ensures.added top (ap (λ (name : Bytes). row_named env name) c.as_str.ensures ∙ is) in
     let U : Sets → Type 0 = λ x. Leq x top in
-    (λ f. subst U same (tells.0 (ap not f)), λ under. not_true_is c.raise.result (tells.1 (subst U (sym same) under))))
+    (λ f. subst U same (tells.0 (ap not f)), λ under. not-true c.raise.result (tells.1 (subst U (sym same) under))))
     c.raise.ensures.same

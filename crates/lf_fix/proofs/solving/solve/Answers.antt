@@ -5,16 +5,16 @@ use Rattle.lf_semantics.proofs.Members.{clash}
 use Rattle.lf_fix.proofs.Rounds.{rises_start}
 use Rattle.lf_fix.proofs.solving.solve.Goals as goal
 
--- at first each rule is due
-all_due : (n k : ℕ) → get_or (replicate n true) k true ≡ true
-all_due zero k = refl
-all_due (suc n) zero = refl
-all_due (suc n) (suc k) = all_due n k
+-- at first each rule is dirty
+all_dirty : (n k : ℕ) → get_or (replicate n true) k true ≡ true
+all_dirty zero k = refl
+all_dirty (suc n) zero = refl
+all_dirty (suc n) (suc k) = all_dirty n k
 
 pub rounds-requires-clause-hold : goal.rounds-requires-clause-hold
 rounds-requires-clause-hold c k r is free =
     let P : List Bool → Type 0 = λ marks. get_or marks k true ≡ false in
-    absurd (clash (all_due c.len.result k) (subst P (c.deref_mut.ensures.value ∙ c.in_ok-due.ensures.items_if_clones_equal (λ y e. e)) free))
+    absurd (clash (all_dirty c.len.result k) (subst P (c.deref_mut.ensures.value ∙ c.in_ok-dirty.ensures.items_if_clones_equal (λ y e. e)) free))
 
 pub rounds-requires-clause-rises : goal.rounds-requires-clause-rises
 rounds-requires-clause-rises c = rises_start c.args.universe.now c.labels-labels.ensures.within.listing (rule_trees c.args.rules.now) c.in_ok-env.env c.requires c.in_ok-env.ensures

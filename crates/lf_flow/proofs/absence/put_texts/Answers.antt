@@ -7,7 +7,7 @@ use Rattle.lf_ast.specs.declared.expr.Matcher.{Matcher}
 use Rattle.lf_semantics.specs.ClassRows.{HasShape, kept}
 use Rattle.lf_semantics.specs.Listing.{class_of, label_of}
 use Rattle.lf_ast.specs.Selectors.{metric}
-use Rattle.lf_flow.specs.Absence.{AreCounts, is_class_sought, is_on_label}
+use Rattle.lf_flow.specs.views.Absence.{AreCounts, is_class_sought, is_on_label}
 use Rattle.lf_flow.proofs.ClassSets.{row_length, set_length}
 use Rattle.lf_flow.proofs.MadeRows.{made, made_kept, made_same, shape_made}
 use Rattle.lf_flow.proofs.SoughtSets.{counts_more, counts_none, counts_passed, some_sought, sought_more, sought_none, sought_passed}

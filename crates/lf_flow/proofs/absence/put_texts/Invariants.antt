@@ -1,5 +1,5 @@
 use Rattle.std.proofs.Common.{◌≡◌, true, take}
-use Rattle.lf_flow.specs.Absence.{AreCounts, is_class_sought}
+use Rattle.lf_flow.specs.views.Absence.{AreCounts, is_class_sought}
 use Rattle.lf_flow.proofs.MadeRows.{made}
 use Rattle.lf_flow.proofs.absence.put_texts.Given as goal
 

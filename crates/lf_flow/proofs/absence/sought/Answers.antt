@@ -2,7 +2,7 @@ use Rattle.std.proofs.Common.{◌≡◌, ◌<◌, ◌≤◌, ◌&&◌, ℕ, Bool
 use Rattle.std.specs.List.{count_by}
 use Rattle.lf_semantics.specs.ClassRows.{HasShape, Sets, kept}
 use Rattle.lf_semantics.specs.RowTable.{absent_row, has_class}
-use Rattle.lf_flow.specs.Absence.{is_on_label}
+use Rattle.lf_flow.specs.views.Absence.{is_on_label}
 use Rattle.lf_flow.proofs.ClassSets.{row_length, set_length}
 use Rattle.lf_flow.proofs.MadeRows.{made, shape_made}
 use Rattle.lf_flow.proofs.SoughtSets.{certain_all, certain_below, certain_first, certain_same, certain_taken, sought_row}

@@ -1,5 +1,5 @@
 use Rattle.std.proofs.Common.{eqb, cond}
-use Rattle.lf_flow.specs.ClassSets.{IsSet}
+use Rattle.lf_flow.specs.views.ClassSets.{IsSet}
 use Rattle.lf_flow.proofs.joining.texts.Given as goal
 
 abbrev pub invariant-loop-class : goal.invariant-loop-class

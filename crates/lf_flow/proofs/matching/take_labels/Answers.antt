@@ -2,7 +2,7 @@ use Rattle.std.proofs.Common.{List, sym, ◌∙◌, subst}
 use Rattle.lf_ast.specs.declared.expr.Name.{Name}
 use Rattle.lf_semantics.specs.ClassRows.{holds, bottom}
 use Rattle.lf_semantics.specs.RowTable.{is_label_among}
-use Rattle.lf_flow.specs.Chosen.{Chooses}
+use Rattle.lf_flow.specs.views.Chosen.{Chooses}
 use Rattle.lf_flow.proofs.Sides.{chosen_taken, none_there, some_there}
 use Rattle.lf_flow.proofs.matching.take_labels.Goals as goal
 

@@ -4,7 +4,7 @@ use Rattle.lf_ast.specs.Labels.{Bytes}
 use Rattle.lf_ast.specs.declared.expr.MatchOp.TheVariants.{NotMatches}
 use Rattle.lf_semantics.specs.Listing.{named_at}
 use Rattle.lf_semantics.specs.RowTable.{may_match, passes_class}
-use Rattle.lf_flow.specs.ClassSets.{IsSet}
+use Rattle.lf_flow.specs.views.ClassSets.{IsSet}
 use Rattle.lf_flow.proofs.MatcherSets.{fails_pass, unread_pass}
 use Rattle.lf_flow.proofs.PatternSets.{failed_set}
 use Rattle.lf_flow.proofs.narrowing.unmatched.Goals as goal

@@ -1,6 +1,6 @@
 use Rattle.std.proofs.Common.{◌≡◌}
 use Rattle.lf_semantics.specs.RowTable.{may_match}
-use Rattle.lf_flow.specs.ClassSets.{IsSet}
+use Rattle.lf_flow.specs.views.ClassSets.{IsSet}
 use Rattle.lf_flow.proofs.replacing.asked.Given as goal
 
 abbrev pub invariant-loop-class : goal.invariant-loop-class

@@ -1,5 +1,5 @@
 use Rattle.std.proofs.Common.{◌+◌, ◌||◌, eqb, false, get_or, length, not}
-use Rattle.lf_flow.specs.ClassSets.{IsSet}
+use Rattle.lf_flow.specs.views.ClassSets.{IsSet}
 use Rattle.lf_flow.proofs.replacing.failed.Given as goal
 
 abbrev pub invariant-loop-class : goal.invariant-loop-class

@@ -3,7 +3,7 @@ use Rattle.std.specs.Prelude.{is_some}
 use Rattle.std.proofs.lemmas.Result.{IfOk-weaker}
 use Rattle.lf_semantics.specs.Listing.{named_at}
 use Rattle.lf_semantics.specs.RowTable.{may_match}
-use Rattle.lf_flow.specs.ClassSets.{IsSet}
+use Rattle.lf_flow.specs.views.ClassSets.{IsSet}
 use Rattle.lf_flow.proofs.PatternSets.{negated, unread_set}
 use Rattle.lf_flow.proofs.replacing.matched.Goals as goal
 

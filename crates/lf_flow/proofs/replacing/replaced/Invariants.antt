@@ -1,7 +1,7 @@
 use Rattle.std.proofs.Common.{◌&&◌, ◌||◌}
 use Rattle.lf_semantics.specs.ClassRows.{holds}
 use Rattle.lf_semantics.specs.RowTable.{is_expansion}
-use Rattle.lf_flow.specs.ClassSets.{IsSet}
+use Rattle.lf_flow.specs.views.ClassSets.{IsSet}
 use Rattle.lf_flow.proofs.replacing.replaced.Given as goal
 
 abbrev pub invariant-loop-class : goal.invariant-loop-class

@@ -4,7 +4,7 @@ use Rattle.std.specs.Prelude.{replicate}
 use Rattle.std.proofs.lemmas.List.{take_all}
 use Rattle.lf_ast.specs.Labels.{Bytes}
 use Rattle.lf_semantics.specs.Listing.{class_of, named_at}
-use Rattle.lf_flow.specs.ClassSets.{IsSet}
+use Rattle.lf_flow.specs.views.ClassSets.{IsSet}
 use Rattle.lf_flow.proofs.Selected.{first_off, off_more}
 use Rattle.lf_flow.proofs.selecting.unrecorded.Goals as goal
 

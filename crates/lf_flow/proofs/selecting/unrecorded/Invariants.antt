@@ -2,7 +2,7 @@ use Rattle.std.proofs.Common.{◌+◌, ◌&&◌, eqb, length, not, take}
 use Rattle.std.specs.List.{list_any}
 use Rattle.lf_ast.specs.Labels.{Bytes}
 use Rattle.lf_semantics.specs.Listing.{class_of, named_at}
-use Rattle.lf_flow.specs.ClassSets.{IsSet}
+use Rattle.lf_flow.specs.views.ClassSets.{IsSet}
 use Rattle.lf_flow.proofs.selecting.unrecorded.Given as goal
 
 abbrev pub invariant-loop-place : goal.invariant-loop-place

@@ -1,6 +1,6 @@
 use Rattle.std.proofs.Common.{ℕ, List, get_or, refl, subst}
 use Rattle.std.proofs.lemmas.List.{take_all}
-use Rattle.lf_graph.specs.Listing.{Adds}
+use Rattle.lf_graph.specs.views.Listing.{Adds}
 use Rattle.lf_graph.proofs.Inserting.{adds_next, adds_one}
 use Rattle.lf_graph.proofs.components.add_all.Goals as goal
 

@@ -2,7 +2,7 @@ use Rattle.std.proofs.Common.{◌≡◌, ℕ, List, map, sym, subst, rules}
 use Rattle.std.specs.Map.Iter.{deref}
 use Rattle.std.proofs.lemmas.List.{map_push}
 use Rattle.std.proofs.lemmas.Map.Iter.{iter_end}
-use Rattle.lf_graph.specs.Listing.{AddsBelow}
+use Rattle.lf_graph.specs.views.Listing.{AddsBelow}
 use Rattle.lf_graph.proofs.Inserting.{below_one, below_other}
 use Rattle.lf_graph.proofs.components.add_below.Goals as goal
 

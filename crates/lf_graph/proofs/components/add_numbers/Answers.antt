@@ -2,7 +2,7 @@ use Rattle.std.proofs.Common.{◌<◌, ℕ, List, get_or, length, sym, subst, ar
 use Rattle.std.proofs.lemmas.List.{get_or-map, length-map, take_all}
 use Rattle.std.proofs.lemmas.List.Elements.{Contains-get_or}
 use Rattle.lf_graph.specs.Components.{number_of}
-use Rattle.lf_graph.specs.Listing.{Adds, numbers_of}
+use Rattle.lf_graph.specs.views.Listing.{Adds, numbers_of}
 use Rattle.lf_graph.proofs.Inserting.{adds_next, adds_one}
 use Rattle.lf_graph.proofs.components.add_numbers.Goals as goal
 

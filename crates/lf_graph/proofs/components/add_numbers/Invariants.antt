@@ -1,5 +1,5 @@
 use Rattle.std.proofs.Common.{take}
-use Rattle.lf_graph.specs.Listing.{Adds, numbers_of}
+use Rattle.lf_graph.specs.views.Listing.{Adds, numbers_of}
 use Rattle.lf_graph.proofs.components.add_numbers.Given as goal
 
 abbrev pub invariant-loop-node : goal.invariant-loop-node

@@ -1,5 +1,5 @@
 use Rattle.std.proofs.Common.{◌≡◌, ℕ, List, length, sym, subst, arith}
-use Rattle.lf_graph.specs.Listing.{AreMembers}
+use Rattle.lf_graph.specs.views.Listing.{AreMembers}
 use Rattle.lf_graph.proofs.Listed.{no_members, one_more_member}
 use Rattle.lf_graph.proofs.components.list_members.Goals as goal
 

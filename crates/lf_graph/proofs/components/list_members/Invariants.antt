@@ -1,4 +1,4 @@
-use Rattle.lf_graph.specs.Listing.{AreMembers}
+use Rattle.lf_graph.specs.views.Listing.{AreMembers}
 use Rattle.lf_graph.proofs.components.list_members.Given as goal
 
 abbrev pub invariant-loop-node : goal.invariant-loop-node

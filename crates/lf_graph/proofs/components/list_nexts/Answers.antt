@@ -2,7 +2,7 @@ use Rattle.std.proofs.Common.{◌≡◌, ◌<◌, ℕ, List, [], BTreeSet, get_o
 use Rattle.std.specs.List.{Contains}
 use Rattle.std.proofs.lemmas.List.{get_or-map, get_or_read, length-map, map-set}
 use Rattle.lf_graph.specs.Components.{number_of}
-use Rattle.lf_graph.specs.Listing.{Adds, AreNexts, numbers_of}
+use Rattle.lf_graph.specs.views.Listing.{Adds, AreNexts, numbers_of}
 use Rattle.lf_graph.specs.Paths.{after}
 use Rattle.lf_graph.proofs.Listed.{no_nexts, one_more_next}
 use Rattle.lf_graph.proofs.components.list_nexts.Goals as goal

@@ -1,5 +1,5 @@
 use Rattle.std.proofs.Common.{map}
-use Rattle.lf_graph.specs.Listing.{AreNexts}
+use Rattle.lf_graph.specs.views.Listing.{AreNexts}
 use Rattle.lf_graph.proofs.components.list_nexts.Given as goal
 
 abbrev pub invariant-loop-node : goal.invariant-loop-node

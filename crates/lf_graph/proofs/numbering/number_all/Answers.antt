@@ -1,5 +1,5 @@
 use Rattle.std.proofs.Common.{◌∙◌, ap, map, arith}
-use Rattle.lf_graph.specs.Search.{number_in}
+use Rattle.lf_graph.specs.views.Search.{number_in}
 use Rattle.lf_graph.proofs.Numbered.{are_numbers}
 use Rattle.lf_graph.proofs.numbering.number_all.Goals as goal
 

@@ -1,5 +1,5 @@
 use Rattle.std.proofs.Common.{◌≡◌, ◌<◌, ℕ, []}
-use Rattle.lf_graph.specs.Search.{IsMet, IsSearch}
+use Rattle.lf_graph.specs.views.Search.{IsMet, IsSearch}
 use Rattle.lf_graph.proofs.numbering.number_all.Given as goal
 
 abbrev pub invariant-loop-node : goal.invariant-loop-node

@@ -1,5 +1,5 @@
 use Rattle.std.proofs.Common.{◌≡◌, map, take}
-use Rattle.lf_graph.specs.Search.{number_in}
+use Rattle.lf_graph.specs.views.Search.{number_in}
 use Rattle.lf_graph.proofs.numbering.numbers_in.Given as goal
 
 abbrev pub invariant-loop-node : goal.invariant-loop-node

@@ -1,5 +1,5 @@
 use Rattle.std.proofs.Common.{take}
-use Rattle.lf_graph.specs.Search.{IsClosing}
+use Rattle.lf_graph.specs.views.Search.{IsClosing}
 use Rattle.lf_graph.proofs.search.close_all.Given as goal
 
 abbrev pub invariant-loop-member : goal.invariant-loop-member

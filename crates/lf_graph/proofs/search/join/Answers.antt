@@ -1,7 +1,7 @@
 use Rattle.std.proofs.Common.{◌≡◌, ◌-◌, ℕ, List, length, take, get_or, refl, sym, ◌∙◌, ap, subst, arith}
 use Rattle.std.specs.List.{Contains}
 use Rattle.std.proofs.lemmas.List.{length-take}
-use Rattle.lf_graph.specs.Search.{Rise}
+use Rattle.lf_graph.specs.views.Search.{Rise}
 use Rattle.lf_graph.proofs.Lists.{fewer_rise, in_front, not_last, up_to_last}
 use Rattle.lf_graph.proofs.search.join.Goals as goal
 

@@ -1,6 +1,6 @@
 use Rattle.std.proofs.Common.{◌≤◌, ℕ, length}
 use Rattle.std.specs.List.{Contains}
-use Rattle.lf_graph.specs.Search.{Rise}
+use Rattle.lf_graph.specs.views.Search.{Rise}
 use Rattle.lf_graph.proofs.search.join.Given as goal
 
 -- the parts up to the place are still there, and no others are new

@@ -1,5 +1,5 @@
 use Rattle.std.proofs.Common.{◌≡◌, ◌++◌, take}
-use Rattle.lf_graph.specs.Search.{edges_from}
+use Rattle.lf_graph.specs.views.Search.{edges_from}
 use Rattle.lf_graph.proofs.search.push_edges.Given as goal
 
 abbrev pub invariant-loop-node : goal.invariant-loop-node

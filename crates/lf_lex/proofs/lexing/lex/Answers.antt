@@ -1,7 +1,7 @@
 use Rattle.lf_base.proofs.Answering.{found, only, refused, breach}
 use Rattle.lf_lex.specs.Tokens.{Tokens, Breaks}
 use Rattle.lf_lex.proofs.TokenLaws.{reading, decides, gives}
-use Rattle.lf_lex.proofs.Spans.{all_lie}
+use Rattle.lf_lex.proofs.Spans.{found_inside, refused_inside}
 use Rattle.lf_lex.proofs.lexing.lex.Goals as goal
 
 pub returns : goal.returns
@@ -18,6 +18,7 @@ returns c =
       only = only (λ x. x) (Tokens from text) (Breaks from text) (reading from text).0 d answer g;
       refused = r;
       breach = breach (λ x. x) (Tokens from text) (Breaks from text) (reading from text).0 d answer g;
-      spans = all_lie from text c.requires.from c.requires.rises answer f r;
+      inside = found_inside from text c.requires.from c.requires.rises answer f;
+      refused_inside = refused_inside from text c.requires.from c.requires.rises answer r;
       ordered = c.read.ensures.ordered;
     }

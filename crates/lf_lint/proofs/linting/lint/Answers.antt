@@ -1,10 +1,10 @@
 use Rattle.std.proofs.Common.{rules, ◌≡◌, ◌+◌, ℕ, Err, inl, refl, sym, ap, subst, ◌∙◌, arith}
 use Rattle.lf_ast.specs.Labels.{Bytes}
 use Rattle.lf_lint.specs.declared.status.Status.TheVariants.{Limit}
-use Rattle.lf_lint.specs.Ends.{IsReportOn}
-use Rattle.lf_lint.specs.Founds.{content}
+use Rattle.lf_report.specs.Report.{IsReportOn}
+use Rattle.lf_report.specs.Founds.{content}
 use Rattle.lf_lint.proofs.OneReport.{one_report}
-use Rattle.lf_lint.proofs.Reports.{wrote_front}
+use Rattle.lf_lint.proofs.Fronts.{wrote_front}
 use Rattle.lf_lint.proofs.Truths.{wrote_truth}
 use Rattle.lf_lint.proofs.linting.lint.Goals as goal
 

@@ -1,6 +1,6 @@
 use Rattle.std.proofs.Common.{◌≡◌, ◌+◌, ◌∙◌, sym, ap, take, false, arith}
 use Rattle.lf_parse.specs.Depth.{nesting, is_too_deep}
-use Rattle.lf_parse.specs.View.{tok, nesting_of}
+use Rattle.lf_parse.specs.views.Values.{tok, nesting_of}
 use Rattle.lf_parse.proofs.Nestings.{step_more, shallow_more, braces_rise}
 use Rattle.lf_parse.proofs.nesting.first_too_deep.Goals as goal
 

@@ -1,6 +1,6 @@
 use Rattle.std.proofs.Common.{◌≡◌, ◌≤◌, take}
 use Rattle.lf_parse.specs.Depth.{nesting}
-use Rattle.lf_parse.specs.View.{nesting_of}
+use Rattle.lf_parse.specs.views.Values.{nesting_of}
 use Rattle.lf_parse.proofs.Nestings.{IsShallow}
 use Rattle.lf_parse.proofs.nesting.first_too_deep.Given as goal
 

@@ -3,9 +3,9 @@ use Rattle.std.proofs.lemmas.Bool.{cond-true, cond-false}
 use Rattle.regex.specs.Patterns.{Re, find_str}
 use Rattle.regex.specs.Replace.{bytes_of}
 use Rattle.regex.specs.Strings.{captures_haystack}
-use Rattle.lf_pattern.specs.Groups.{group_of_match}
+use Rattle.lf_pattern.specs.views.Groups.{group_of_match}
 use Rattle.lf_pattern.specs.Read.{finds, found_group}
-use Rattle.lf_pattern.specs.ReplacementScan.{greatest}
+use Rattle.lf_pattern.specs.reading.Replacement.{greatest}
 use Rattle.lf_pattern.proofs.ReadLaws.{found_none, found_some, group_some, group_later, captured-text}
 use Rattle.lf_pattern.proofs.ExpandLaws.{same_pieces, few_of_later}
 use Rattle.lf_pattern.proofs.compiled.expand.Goals as goal

@@ -1,7 +1,7 @@
 use Rattle.std.proofs.Common.{rules, ◌≡◌, ap, ◌∙◌}
 use Rattle.std.specs.Str.{chars}
 use Rattle.std.proofs.lemmas.Str.{chars_from_encodes}
-use Rattle.lf_pattern.specs.Scan.{is_capture}
+use Rattle.lf_pattern.specs.reading.Expansion.{is_capture}
 use Rattle.lf_pattern.proofs.plain.in_pair.Goals as goal
 
 pub returns : goal.returns

@@ -1,7 +1,7 @@
 use Rattle.std.proofs.Common.{rules, ◌≡◌, ◌∙◌, sym, ap}
 use Rattle.std.specs.Str.{chars}
 use Rattle.std.proofs.lemmas.Str.{chars_from_encodes}
-use Rattle.lf_pattern.specs.PlainnessScan.{passes}
+use Rattle.lf_pattern.specs.reading.Plainness.{passes}
 use Rattle.lf_pattern.specs.declared.plainness.Check.TheVariants.{Text}
 use Rattle.lf_pattern.proofs.PlainnessLaws.{plain-passes, passes-plain}
 use Rattle.lf_pattern.proofs.plainness.is_plain_replacement.Goals as goal

@@ -1,5 +1,5 @@
 use Rattle.std.proofs.Common.{◌≡◌, drop}
-use Rattle.lf_pattern.specs.PlainnessScan.{passes}
+use Rattle.lf_pattern.specs.reading.Plainness.{passes}
 use Rattle.lf_pattern.specs.declared.plainness.Check.TheVariants.{Text}
 use Rattle.lf_pattern.proofs.plainness.scan.Given as goal
 

@@ -2,7 +2,7 @@ use Rattle.std.proofs.Common.{◌≡◌, List, ◌++◌, [], drop, ap, sym, ◌�
 use Rattle.std.proofs.lemmas.List.{at_drop_all}
 use Rattle.lf_pattern.specs.declared.replacement.Piece.{Piece}
 use Rattle.lf_pattern.specs.declared.replacement.Mode.{Mode}
-use Rattle.lf_pattern.specs.ReplacementScan.{pieces_of}
+use Rattle.lf_pattern.specs.reading.Replacement.{pieces_of}
 use Rattle.lf_pattern.proofs.PieceLaws.{number-end, end-apart}
 use Rattle.lf_pattern.proofs.replacement.scan.Goals as goal
 use Rattle.lf_pattern.proofs.replacement.scan.Goals.{in-Number+in_ok-push, in_default}

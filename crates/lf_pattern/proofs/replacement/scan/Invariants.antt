@@ -1,6 +1,6 @@
 use Rattle.std.proofs.Common.{◌≡◌, ◌++◌, drop}
 use Rattle.lf_pattern.specs.declared.replacement.Mode.TheVariants.{Text}
-use Rattle.lf_pattern.specs.ReplacementScan.{pieces_of}
+use Rattle.lf_pattern.specs.reading.Replacement.{pieces_of}
 use Rattle.lf_pattern.proofs.replacement.scan.Given as goal
 
 abbrev pub invariant-loop-c : goal.invariant-loop-c

@@ -5,7 +5,7 @@ use Rattle.lf_pattern.specs.declared.replacement.Piece.{Piece}
 use Rattle.lf_pattern.specs.declared.replacement.Piece.TheVariants.{Group}
 use Rattle.lf_pattern.specs.declared.replacement.Mode.{Mode}
 use Rattle.lf_pattern.specs.declared.replacement.Mode.TheVariants.{Text, Number}
-use Rattle.lf_pattern.specs.ReplacementScan.{pieces_of}
+use Rattle.lf_pattern.specs.reading.Replacement.{pieces_of}
 use Rattle.lf_pattern.proofs.PieceLaws.{number-apart, number-digit}
 use Rattle.lf_pattern.proofs.replacement.step.Goals as goal
 

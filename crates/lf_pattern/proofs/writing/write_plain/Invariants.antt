@@ -1,7 +1,6 @@
 use Rattle.std.proofs.Common.{◌≡◌, ◌++◌, drop, string_bytes}
 use Rattle.std.specs.List.{flat_map}
-use Rattle.lf_pattern.specs.Matching.{plain_group}
-use Rattle.lf_pattern.specs.Replacement.{piece_text}
+use Rattle.lf_pattern.specs.reading.Expansion.{piece_text, plain_group}
 use Rattle.lf_pattern.proofs.writing.write_plain.Given as goal
 
 abbrev pub invariant-loop-piece : goal.invariant-loop-piece

@@ -1,6 +1,6 @@
 use Rattle.std.proofs.Common.{◌≡◌, ◌++◌, map, length}
 use Rattle.lf_yaml.specs.Tree.{pair}
-use Rattle.lf_rules.specs.Reading.{AreLeaves, setting_of}
+use Rattle.lf_rules.specs.reading.Files.{AreLeaves, setting_of}
 use Rattle.lf_rules.specs.Sources.{setting}
 use Rattle.lf_rules.proofs.building.all_settings.Given as goal
 

@@ -1,7 +1,7 @@
 use Rattle.std.proofs.Common.{codes, sym, ap, ◌∙◌, subst}
 use Rattle.lf_yaml.specs.Tree.{tree}
 use Rattle.lf_rules.specs.Mappings.{given}
-use Rattle.lf_rules.specs.Reading.{AreReadableGroups, items_of}
+use Rattle.lf_rules.specs.reading.Files.{AreReadableGroups, items_of}
 use Rattle.lf_rules.proofs.Readable.{readable}
 use Rattle.lf_rules.proofs.building.all_sources.Goals as goal
 

@@ -1,7 +1,7 @@
 use Rattle.std.proofs.Common.{◌≡◌, ◌++◌, ℕ, suc, List, [], ◌∷◌, map, codes, sym, ap, ◌∙◌, subst, append_assoc}
 use Rattle.lf_yaml.specs.Tree.{Tree, tree}
 use Rattle.lf_rules.specs.Mappings.{given}
-use Rattle.lf_rules.specs.Reading.{AreReadableGroups, tree_source, items_of, group_sources, groups_sources}
+use Rattle.lf_rules.specs.reading.Files.{AreReadableGroups, tree_source, items_of, group_sources, groups_sources}
 use Rattle.lf_rules.specs.Sources.{Source, source}
 use Rattle.std.proofs.lemmas.List.{append-nil, nil_from_length}
 use Rattle.lf_rules.proofs.building.push_groups.Goals as goal

@@ -1,6 +1,6 @@
 use Rattle.std.proofs.Common.{◌≡◌, ◌++◌, map, length}
 use Rattle.lf_yaml.specs.Tree.{tree}
-use Rattle.lf_rules.specs.Reading.{AreReadable, tree_source}
+use Rattle.lf_rules.specs.reading.Files.{AreReadable, tree_source}
 use Rattle.lf_rules.specs.Sources.{source}
 use Rattle.lf_rules.proofs.building.push_rules.Given as goal
 

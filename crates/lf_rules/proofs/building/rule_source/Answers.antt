@@ -1,7 +1,7 @@
 use Rattle.std.proofs.Common.{◌≡◌, ℕ, Bool, List, refl, sym, ap, ◌∙◌, subst}
 use Rattle.lf_scalar.specs.Cells.{Value}
 use Rattle.lf_rules.specs.Sources.{Source, Setting}
-use Rattle.lf_rules.specs.Reading.{SetsLeaves, settings_of}
+use Rattle.lf_rules.specs.reading.Files.{SetsLeaves, settings_of}
 use Rattle.lf_rules.proofs.building.rule_source.Goals as goal
 
 abbrev made : Bool → Value → Value → List Setting → List Setting → ℕ → Source

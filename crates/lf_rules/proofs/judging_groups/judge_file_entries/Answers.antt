@@ -1,6 +1,6 @@
 use Rattle.std.proofs.Common.{map, sym, ◌∙◌}
 use Rattle.lf_yaml.specs.Tree.{pair}
-use Rattle.lf_rules.specs.Reading.{groups_faults, missing_faults}
+use Rattle.lf_rules.specs.reading.Files.{groups_faults, missing_faults}
 use Rattle.lf_rules.proofs.Folded.{three_parts, told, least_file}
 use Rattle.lf_rules.proofs.judging_groups.judge_file_entries.Goals as goal
 

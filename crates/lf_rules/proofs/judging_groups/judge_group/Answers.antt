@@ -1,6 +1,6 @@
 use Rattle.std.proofs.Common.{map, sym, ◌∙◌}
 use Rattle.lf_yaml.specs.Tree.{pair}
-use Rattle.lf_rules.specs.Reading.{group_name_parts, group_value_parts}
+use Rattle.lf_rules.specs.reading.Files.{group_name_parts, group_value_parts}
 use Rattle.lf_rules.proofs.Folded.{two_groups, least_group}
 use Rattle.lf_rules.proofs.judging_groups.judge_group.Goals as goal
 

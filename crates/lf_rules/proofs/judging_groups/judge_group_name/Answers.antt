@@ -1,4 +1,4 @@
-use Rattle.lf_rules.specs.Reading.{scalar_faults, missing_faults}
+use Rattle.lf_rules.specs.reading.Files.{scalar_faults, missing_faults}
 use Rattle.lf_rules.proofs.Folded.{three_parts, told}
 use Rattle.lf_rules.proofs.judging_groups.judge_group_name.Goals as goal
 

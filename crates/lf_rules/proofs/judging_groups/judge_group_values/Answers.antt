@@ -1,5 +1,5 @@
 use Rattle.lf_base.specs.declared.kind.Kind.TheVariants.{BadDuration, BadLimit}
-use Rattle.lf_rules.specs.Reading.{is_time, is_limit, text_faults, rules_faults}
+use Rattle.lf_rules.specs.reading.Files.{is_time, is_limit, text_faults, rules_faults}
 use Rattle.lf_rules.proofs.Folded.{four_parts, told}
 use Rattle.lf_rules.proofs.judging_groups.judge_group_values.Goals as goal
 

@@ -1,6 +1,6 @@
 use Rattle.std.proofs.Common.{map, sym, ap, ◌∙◌}
 use Rattle.lf_yaml.specs.Tree.{tree}
-use Rattle.lf_rules.specs.Reading.{least_from, names_faults, name_of, with_name}
+use Rattle.lf_rules.specs.reading.Files.{least_from, names_faults, name_of, with_name}
 use Rattle.std.proofs.lemmas.List.{nil_from_length}
 use Rattle.lf_rules.proofs.NameSets.{names_step, names_ended}
 use Rattle.lf_rules.proofs.judging_groups.judge_names.Goals as goal

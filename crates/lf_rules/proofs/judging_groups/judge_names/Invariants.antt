@@ -1,7 +1,7 @@
 use Rattle.std.proofs.Common.{◌≡◌, List, [], map, length}
 use Rattle.lf_yaml.specs.Tree.{tree}
-use Rattle.lf_base.specs.NameSets.{HasNames}
-use Rattle.lf_rules.specs.Reading.{least_from, names_faults}
+use Rattle.lf_base.specs.views.NameSets.{HasNames}
+use Rattle.lf_rules.specs.reading.Files.{least_from, names_faults}
 use Rattle.lf_base.specs.Names.{Bytes}
 use Rattle.lf_rules.proofs.judging_groups.judge_names.Given as goal
 

@@ -1,4 +1,4 @@
-use Rattle.lf_rules.specs.Reading.{misplaced}
+use Rattle.lf_rules.specs.reading.Files.{misplaced}
 use Rattle.lf_rules.proofs.Folded.{told, three}
 use Rattle.lf_rules.proofs.judging_rules.judge_all_misplaced.Goals as goal
 

@@ -1,7 +1,7 @@
 use Rattle.std.proofs.Common.{map, ap, sym, ◌∙◌}
 use Rattle.std.specs.List.{flat_map}
 use Rattle.lf_yaml.specs.Tree.{tree}
-use Rattle.lf_rules.specs.Reading.{least_from, rule_tree_faults}
+use Rattle.lf_rules.specs.reading.Files.{least_from, rule_tree_faults}
 use Rattle.lf_rules.proofs.Folded.{least_flat}
 use Rattle.lf_rules.proofs.judging_rules.judge_each_rule.Goals as goal
 

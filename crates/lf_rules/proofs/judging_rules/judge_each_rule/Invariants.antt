@@ -1,7 +1,7 @@
 use Rattle.std.proofs.Common.{◌≡◌, map, length}
 use Rattle.std.specs.List.{flat_map}
 use Rattle.lf_yaml.specs.Tree.{tree}
-use Rattle.lf_rules.specs.Reading as reading
+use Rattle.lf_rules.specs.reading.Files as reading
 use Rattle.lf_rules.proofs.judging_rules.judge_each_rule.Given as goal
 
 abbrev pub invariant-loop-node : goal.invariant-loop-node

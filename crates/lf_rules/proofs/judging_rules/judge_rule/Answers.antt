@@ -1,6 +1,6 @@
 use Rattle.std.proofs.Common.{map, sym, ◌∙◌}
 use Rattle.lf_yaml.specs.Tree.{pair}
-use Rattle.lf_rules.specs.Reading.{rule_key_parts, rule_text_parts, rule_setting_parts}
+use Rattle.lf_rules.specs.reading.Files.{rule_key_parts, rule_text_parts, rule_setting_parts}
 use Rattle.lf_rules.proofs.Folded.{three_groups, least_rule}
 use Rattle.lf_rules.proofs.judging_rules.judge_rule.Goals as goal
 

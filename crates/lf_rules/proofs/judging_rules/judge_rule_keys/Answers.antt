@@ -1,6 +1,6 @@
 use Rattle.std.proofs.Common.{map}
 use Rattle.lf_yaml.specs.Tree.{pair}
-use Rattle.lf_rules.specs.Reading.{kind_faults, alert_faults}
+use Rattle.lf_rules.specs.reading.Files.{kind_faults, alert_faults}
 use Rattle.lf_rules.proofs.Folded.{three_parts, told_of_two, told_of_three}
 use Rattle.lf_rules.proofs.judging_rules.judge_rule_keys.Goals as goal
 

@@ -1,6 +1,6 @@
 use Rattle.std.proofs.Common.{true, false}
 use Rattle.lf_base.specs.declared.kind.Kind.TheVariants.{BadDuration}
-use Rattle.lf_rules.specs.Reading.{is_time, text_faults, settings_faults}
+use Rattle.lf_rules.specs.reading.Files.{is_time, text_faults, settings_faults}
 use Rattle.lf_rules.proofs.Folded.{four_parts, told}
 use Rattle.lf_rules.proofs.judging_rules.judge_rule_settings.Goals as goal
 

@@ -1,6 +1,6 @@
 use Rattle.lf_base.specs.declared.kind.Kind.TheVariants.{BadName}
 use Rattle.lf_base.specs.Names.{is_metric_name}
-use Rattle.lf_rules.specs.Reading.{text_faults, scalar_faults, missing_faults}
+use Rattle.lf_rules.specs.reading.Files.{text_faults, scalar_faults, missing_faults}
 use Rattle.lf_rules.proofs.Folded.{four_parts, told}
 use Rattle.lf_rules.proofs.judging_rules.judge_rule_texts.Goals as goal
 

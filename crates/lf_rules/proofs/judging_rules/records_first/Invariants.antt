@@ -1,6 +1,6 @@
 use Rattle.std.proofs.Common.{◌≡◌, map, length}
 use Rattle.lf_yaml.specs.Tree.{pair}
-use Rattle.lf_rules.specs.Reading as reading
+use Rattle.lf_rules.specs.reading.Files as reading
 use Rattle.lf_rules.proofs.judging_rules.records_first.Given as goal
 
 abbrev pub invariant-loop-entry : goal.invariant-loop-entry

@@ -4,9 +4,9 @@ use Rattle.lf_yaml.specs.Tree.{tree}
 use Rattle.lf_rules.specs.Sources.{source}
 use Rattle.lf_rules.specs.Rules.{IsRules}
 use Rattle.lf_rules.specs.Breaches.{FirstBreak}
-use Rattle.lf_rules.specs.Reading.{reading}
+use Rattle.lf_rules.specs.reading.Files.{reading}
 use Rattle.lf_rules.proofs.Answering.{decides, broken}
-use Rattle.lf_rules.proofs.Spans.{all_inside}
+use Rattle.lf_rules.proofs.Spans.{found_inside, refused_inside}
 use Rattle.lf_rules.proofs.reading.read_rules.Goals as goal
 
 pub returns : goal.returns
@@ -22,5 +22,6 @@ returns c =
       refused = r;
       told = breach (map source) (IsRules t) (FirstBreak t) (reading t) (decides t) answer g;
       breach = broken (map source) t answer g;
-      inside = all_inside (map source) t answer f r;
+      inside = found_inside (map source) t answer f;
+      refused_inside = refused_inside (map source) t answer r;
     }

@@ -1,7 +1,7 @@
 use Rattle.std.proofs.Common.{sym, ◌∙◌, refl, true, false}
 use Rattle.lf_scalar.specs.Cells.{cell}
 use Rattle.lf_scalar.specs.Plain.{is_sign}
-use Rattle.lf_scalar.specs.BeginsReading.{is_full_byte}
+use Rattle.lf_scalar.specs.reading.Begins.{is_full_byte}
 use Rattle.lf_scalar.proofs.FirstByte.{plain-begins}
 use Rattle.lf_scalar.proofs.begins.begins_with.Goals as goal
 

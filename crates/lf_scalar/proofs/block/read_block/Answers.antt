@@ -15,6 +15,6 @@ returns c = record {
   gives =
       block-right c.args.joining c.args.above c.args.at c.args.rest.now c.line_end-first.result.text c.line_end-first.result.feed c.requires.begins
       (c.line_end-first.ensures.first c.args.at (some-rest c.args.joining c.args.at c.args.rest.now c.requires.begins))
-      c.in-Ok.header c.push_body.new.draft c.end-end.result (rw (c.past-line.ensures, c.before-2.ensures) at (c.in-Ok.ensures.value (c.args.at + 1)))
-      (rw (c.past-body.ensures, c.new-draft.ensures) at c.in-Ok-push_body.ensures) c.end-end.ensures;
+      c.in-Ok.header c.push_body.new.builder c.end-end.result (rw (c.past-line.ensures, c.before-2.ensures) at (c.in-Ok.ensures.value (c.args.at + 1)))
+      (rw (c.past-body.ensures, c.new-builder.ensures) at c.in-Ok-push_body.ensures) c.end-end.ensures;
 }

@@ -1,5 +1,5 @@
 use Rattle.std.proofs.Common.{◌≡◌, ◌<◌, ℕ, false}
-use Rattle.lf_scalar.specs.PlainReading.{comment_at}
+use Rattle.lf_scalar.specs.reading.Plain.{comment_at}
 use Rattle.lf_scalar.proofs.comments.find_comment.Given as goal
 
 abbrev pub invariant-loop-i : goal.invariant-loop-i

@@ -2,7 +2,7 @@ use Rattle.std.proofs.Common.{sym, ◌∙◌, arith, ap, get_or, length, ◌+◌
 use Rattle.std.proofs.lemmas.List.{length-drop}
 use Rattle.std.specs.Prelude.{option_map}
 use Rattle.lf_scalar.specs.Cells.{cell}
-use Rattle.lf_scalar.specs.QuotedReading.{as_piece, as_escape}
+use Rattle.lf_scalar.specs.reading.Quoted.{as_piece, as_escape}
 use Rattle.lf_scalar.proofs.EscapeLaws.{escape-width, counted-is, counted-within}
 use Rattle.lf_scalar.proofs.escapes.escape.Goals as goal
 

@@ -1,6 +1,6 @@
 use Rattle.std.proofs.Common.{◌≡◌, ◌<◌, ◌+◌, drop}
 use Rattle.lf_scalar.specs.Cells.{cells}
-use Rattle.lf_scalar.specs.QuotedReading.{told}
+use Rattle.lf_scalar.specs.reading.Quoted.{told}
 use Rattle.lf_scalar.proofs.Numbers.{most}
 use Rattle.lf_scalar.proofs.escapes.number.Given as goal
 

@@ -1,12 +1,12 @@
 use Rattle.std.proofs.Common.{[], ◌∙◌, sym}
 use Rattle.std.proofs.lemmas.List.{append-nil}
-use Rattle.lf_scalar.specs.QuotedReading.{line_at}
+use Rattle.lf_scalar.specs.reading.Quoted.{line_at}
 use Rattle.lf_scalar.proofs.PlainCode.{blank-step, last-step, more-step, wrong-step, tab-step, ends-step}
 use Rattle.lf_scalar.proofs.plain.push_step.Goals as goal
 
 pub returns-in-Blank-clause-steps : goal.returns-in-Blank-clause-steps
 returns-in-Blank-clause-steps c =
-    ([], sym (append-nil c.args.draft.now), blank-step c.args.above c.args.folded.at c.args.folded.blank (line_at c.args.at c.args.line.now c.args.feed) (c.in-Blank.ensures c.args.at c.args.feed))
+    ([], sym (append-nil c.args.builder.now), blank-step c.args.above c.args.folded.at c.args.folded.blank (line_at c.args.at c.args.line.now c.args.feed) (c.in-Blank.ensures c.args.at c.args.feed))
 
 pub returns-in-Ok-true-clause-steps : goal.returns-in-Ok-true-clause-steps
 returns-in-Ok-true-clause-steps c =
@@ -33,4 +33,4 @@ returns-in-Tab-clause-steps c =
 pub returns-in-Ends-clause-steps : goal.returns-in-Ends-clause-steps
 returns-in-Ends-clause-steps c =
     let o = c.in-Ends.ensures c.args.at c.args.feed in
-    ([], sym (append-nil c.args.draft.now), ends-step c.args.above c.args.folded.at c.args.folded.blank (line_at c.args.at c.args.line.now c.args.feed) o.0 o.1)
+    ([], sym (append-nil c.args.builder.now), ends-step c.args.above c.args.folded.at c.args.folded.blank (line_at c.args.at c.args.line.now c.args.feed) o.0 o.1)

@@ -1,4 +1,4 @@
-use Rattle.lf_scalar.specs.QuotedReading.{broken}
+use Rattle.lf_scalar.specs.reading.Quoted.{broken}
 use Rattle.lf_scalar.proofs.NextLine.{full-indent, low-gives}
 use Rattle.lf_scalar.proofs.quoted.push_next.Goals as goal
 

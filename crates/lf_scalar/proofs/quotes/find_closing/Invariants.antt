@@ -1,6 +1,6 @@
 use Rattle.std.proofs.Common.{◌≡◌, cond}
 use Rattle.lf_scalar.specs.Cells.{cells}
-use Rattle.lf_scalar.specs.QuotedReading.{closing_of}
+use Rattle.lf_scalar.specs.reading.Quoted.{closing_of}
 use Rattle.lf_scalar.proofs.Scan.{scanned}
 use Rattle.lf_scalar.proofs.quotes.find_closing.Given as goal
 

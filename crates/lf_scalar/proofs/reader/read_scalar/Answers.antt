@@ -17,8 +17,8 @@ returns-clause-refused c = is-refused c.args.bytes.now c.args.at c.args.indent c
 pub returns-clause-breach : goal.returns-clause-breach
 returns-clause-breach c = is-breach c.args.bytes.now c.args.at c.args.indent c.args.style c.requires.begins c.spaces_above.result c.read_whole.result c.ranges.indent c.spaces_above.ensures.value c.read_whole.ensures
 
-pub returns-clause-in_file : goal.returns-clause-in_file
-returns-clause-in_file c =
+pub returns-clause-refused_inside : goal.returns-clause-refused_inside
+returns-clause-refused_inside c =
     refused_in (length c.args.bytes.now) (BreaksAt c.args.bytes.now c.args.at c.args.indent c.args.style) (breach_lies c.args.bytes.now c.args.at c.args.indent c.args.style c.requires.text c.requires.begins) c.read_whole.result
     (returns-clause-refused c)
 

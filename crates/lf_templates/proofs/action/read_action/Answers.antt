@@ -1,6 +1,6 @@
 use Rattle.std.proofs.Common.{sym, ap, ◌∙◌, arith, ◌≡◌, ◌++◌, [], ◌∷◌, drop, Some, None, true, false, length-drop}
 use Rattle.lf_templates.specs.Tokens.{closes}
-use Rattle.lf_templates.specs.Reading.{front}
+use Rattle.lf_templates.specs.reading.Templates.{front}
 use Rattle.lf_templates.proofs.Braces.{lexed_closes, lexed_none, lexed_end, front_some, behind_tokens, behind_none, behind_closes, same_on, end_on, within_on, named_on}
 use Rattle.lf_templates.proofs.action.read_action.Goals as goal
 

@@ -1,6 +1,6 @@
 use Rattle.std.proofs.Common.{◌≡◌, ◌+◌, drop}
 use Rattle.std.specs.List.{prefix_len}
-use Rattle.lf_templates.specs.Reading.{is_in_class}
+use Rattle.lf_templates.specs.reading.Templates.{is_in_class}
 use Rattle.lf_templates.proofs.bytes.row_len.Given as goal
 
 abbrev pub invariant-loop-i : goal.invariant-loop-i

@@ -1,6 +1,6 @@
 use Rattle.std.proofs.Common.{◌≡◌, ◌+◌, ◌≤◌, ◌++◌, length, drop, false}
 use Rattle.lf_templates.specs.Actions.{rows}
-use Rattle.lf_templates.specs.Reading.{total, Named}
+use Rattle.lf_templates.specs.reading.Templates.{total, Named}
 use Rattle.lf_templates.proofs.RowLaws.{told}
 use Rattle.lf_templates.proofs.finding.push_references.Given as goal
 

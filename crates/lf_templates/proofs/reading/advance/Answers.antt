@@ -1,7 +1,7 @@
 use Rattle.std.proofs.Common.{◌≡◌, arith, true, false, drop, Some, None, ◌+◌, ◌≤◌, length}
 use Rattle.lf_templates.specs.declared.token.Place.TheVariants as places
 use Rattle.lf_templates.specs.Templates.{opens}
-use Rattle.lf_templates.specs.Reading.{lexed, total, action_at}
+use Rattle.lf_templates.specs.reading.Templates.{lexed, total, action_at}
 use Rattle.lf_templates.proofs.Advancing.{byte_advances, open_stops, action_advances, action_stops, carried, after_is, steps_as}
 use Rattle.lf_templates.proofs.reading.advance.Goals as goal
 

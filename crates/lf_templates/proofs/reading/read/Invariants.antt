@@ -1,5 +1,5 @@
 use Rattle.std.proofs.Common.{length, ◌-◌, ◌≡◌, ◌≤◌}
-use Rattle.lf_templates.specs.Steps.{answer_at}
+use Rattle.lf_templates.specs.views.Steps.{answer_at}
 use Rattle.lf_templates.proofs.reading.read.Given as goal
 
 abbrev pub invariant-loop-at : goal.invariant-loop-at

@@ -6,7 +6,7 @@ use Rattle.lf_templates.specs.declared.body.Body.{Body}
 use Rattle.lf_templates.specs.Source.{in_source}
 use Rattle.lf_templates.specs.Actions.{first, tokens_of, head_of, word_at}
 use Rattle.lf_templates.specs.Templates.{word_of_action}
-use Rattle.lf_templates.specs.Reading.{action_at, is_bad_by, is_hidden, settled}
+use Rattle.lf_templates.specs.reading.Templates.{action_at, is_bad_by, is_hidden, settled}
 use Rattle.lf_templates.proofs.Stepping.{steps_err, steps_ok}
 use Rattle.lf_templates.proofs.state.step.Goals as goal
 

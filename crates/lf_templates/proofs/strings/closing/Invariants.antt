@@ -1,5 +1,5 @@
 use Rattle.std.proofs.Common.{◌≡◌, false}
-use Rattle.lf_templates.specs.Reading.{closing}
+use Rattle.lf_templates.specs.reading.Templates.{closing}
 use Rattle.lf_templates.proofs.Passing.{passed}
 use Rattle.lf_templates.proofs.strings.closing.Given as goal
 

@@ -1,5 +1,5 @@
 use Rattle.std.proofs.Common.{◌≡◌}
-use Rattle.lf_templates.specs.Reading.{comment_len}
+use Rattle.lf_templates.specs.reading.Templates.{comment_len}
 use Rattle.lf_templates.proofs.Passing.{searched}
 use Rattle.lf_templates.proofs.strings.comment_len.Given as goal
 

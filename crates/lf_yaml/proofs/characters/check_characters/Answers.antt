@@ -1,7 +1,7 @@
-use Rattle.std.proofs.Common.{rules, refl, sym, subst, inl, inr}
+use Rattle.std.proofs.Common.{get_or, rules, refl, sym, subst, inl, inr}
 use Rattle.std.specs.Str.{IsValidUpTo}
 use Rattle.lf_base.specs.declared.kind.Kind.TheVariants.{BadUtf8, BadChar}
-use Rattle.lf_scalar.specs.Cells.{byte_fault}
+use Rattle.lf_scalar.specs.Cells.{cell, byte_fault, character_fault}
 use Rattle.lf_yaml.proofs.characters.check_characters.Goals as goal
 
 pub returns-in-Err-clause-refused : goal.returns-in-Err-clause-refused
@@ -10,4 +10,4 @@ returns-in-Err-clause-refused c =
 
 pub returns-in-Some-clause-refused : goal.returns-in-Some-clause-refused
 returns-in-Some-clause-refused c =
-    (byte_fault BadChar c.in-Some.offset, inr (c.in-Ok.ensures.cases.1, (c.in-Some.offset, c.in-Some.ensures, refl)), search rules)
+    (character_fault BadChar (cell (get_or c.args.bytes.now c.in-Some.offset 0) c.in-Some.offset), inr (c.in-Ok.ensures.cases.1, (c.in-Some.offset, c.in-Some.ensures.found, refl)), search rules)

@@ -1,16 +1,16 @@
 use Rattle.std.proofs.Common.{subst}
 use Rattle.std.proofs.lemmas.Result.{err_from_is_err_and}
-use Rattle.lf_base.specs.Answers.{Gives}
+use Rattle.lf_base.specs.Answers.{AnswersAs}
 use Rattle.lf_yaml.specs.Tree.{tree}
-use Rattle.lf_yaml.specs.Reading.{document_of}
-use Rattle.lf_yaml.specs.Shown.{shown}
-use Rattle.lf_yaml.specs.Cursor.{rows_after}
+use Rattle.lf_yaml.specs.reading.Trees.{document_of}
+use Rattle.lf_yaml.specs.views.Shown.{shown}
+use Rattle.lf_yaml.specs.views.Cursor.{rows_after}
 use Rattle.lf_yaml.proofs.Edges.{root-fails, root-alone, root-followed, nothing-there}
 use Rattle.lf_yaml.proofs.document.document.Goals as goal
 
 pub returns-in-None : goal.returns-in-None
 unfolding document_of
-returns-in-None c = subst (Gives tree c.empty.result) (nothing-there c.args.bytes.now c.in-None.ensures.rows) c.empty.ensures
+returns-in-None c = subst (AnswersAs tree c.empty.result) (nothing-there c.args.bytes.now c.in-None.ensures.rows) c.empty.ensures
 
 pub returns-in_err-root-in-Some : goal.returns-in_err-root-in-Some
 returns-in_err-root-in-Some c =

@@ -28,11 +28,11 @@ returns-in-Err-clause-refused c = broken-told c.args.bytes.now c.in-Err.refusal 
 pub returns-in-Err-clause-breach : goal.returns-in-Err-clause-breach
 returns-in-Err-clause-breach c = broken-only c.args.bytes.now c.in-Err.refusal c.in-Err.ensures.refused
 
-pub returns-in-Ok-clause-in_file : goal.returns-in-Ok-clause-in_file
-returns-in-Ok-clause-in_file c = refused_in (length c.args.bytes.now) (TreeBreaks c.args.bytes.now) (breach_inside c.args.bytes.now) c.document.result (returns-in-Ok-clause-refused c)
+pub returns-in-Ok-clause-refused_inside : goal.returns-in-Ok-clause-refused_inside
+returns-in-Ok-clause-refused_inside c = refused_in (length c.args.bytes.now) (TreeBreaks c.args.bytes.now) (breach_inside c.args.bytes.now) c.document.result (returns-in-Ok-clause-refused c)
 
 pub returns-in-Ok-clause-inside : goal.returns-in-Ok-clause-inside
 returns-in-Ok-clause-inside c = found_inside c.args.bytes.now c.document.result (returns-in-Ok-clause-found c)
 
-pub returns-in-Err-clause-in_file : goal.returns-in-Err-clause-in_file
-returns-in-Err-clause-in_file c = refused_in {X = Node} (length c.args.bytes.now) (TreeBreaks c.args.bytes.now) (breach_inside c.args.bytes.now) (Err c.in-Err.refusal) (returns-in-Err-clause-refused c)
+pub returns-in-Err-clause-refused_inside : goal.returns-in-Err-clause-refused_inside
+returns-in-Err-clause-refused_inside c = refused_in {X = Node} (length c.args.bytes.now) (TreeBreaks c.args.bytes.now) (breach_inside c.args.bytes.now) (Err c.in-Err.refusal) (returns-in-Err-clause-refused c)

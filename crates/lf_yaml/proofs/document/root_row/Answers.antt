@@ -2,8 +2,8 @@ use Rattle.std.proofs.Common.{◌≡◌, ◌∷◌, ◌∙◌, [], List, sym, su
 use Rattle.std.specs.Prelude.{MatchOption}
 use Rattle.std.specs.Str.{IsCharBoundary}
 use Rattle.lf_yaml.specs.Rows.{Row}
-use Rattle.lf_yaml.specs.Shown.{shown}
-use Rattle.lf_yaml.specs.Cursor.{rows_after}
+use Rattle.lf_yaml.specs.views.Shown.{shown}
+use Rattle.lf_yaml.specs.views.Cursor.{rows_after}
 use Rattle.lf_yaml.proofs.Edges.{mark-start, behind-opening, no-opening, no-rows}
 use Rattle.lf_yaml.proofs.document.root_row.Goals as goal
 

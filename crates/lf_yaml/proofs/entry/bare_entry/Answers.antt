@@ -4,8 +4,8 @@ use Rattle.lf_scalar.specs.Lines.{is_blank}
 use Rattle.lf_scalar.specs.Folding.{trimmed}
 use Rattle.lf_yaml.specs.Rows.{is_left_out}
 use Rattle.lf_yaml.specs.Heads.{key_in, Bare}
-use Rattle.lf_yaml.specs.Signs.{stops_of, ends_of}
-use Rattle.lf_yaml.specs.Shown.{shown}
+use Rattle.lf_yaml.specs.views.Signs.{stops_of, ends_of}
+use Rattle.lf_yaml.specs.views.Shown.{shown}
 use Rattle.lf_yaml.proofs.EntryCode.{entry-bare, take-within, head-of-split}
 use Rattle.lf_yaml.proofs.entry.bare_entry.Goals as goal
 

@@ -1,6 +1,6 @@
 use Rattle.std.proofs.Common.{◌∙◌, ap}
-use Rattle.lf_yaml.specs.Reading.{entry_by, entry_of}
-use Rattle.lf_yaml.specs.Shown.{shown}
+use Rattle.lf_yaml.specs.reading.Trees.{entry_by, entry_of}
+use Rattle.lf_yaml.specs.views.Shown.{shown}
 use Rattle.lf_yaml.proofs.entry.find_entry.Goals as goal
 
 pub returns-in-Some-clause-head : goal.returns-in-Some-clause-head

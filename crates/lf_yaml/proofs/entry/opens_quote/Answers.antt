@@ -1,6 +1,6 @@
 use Rattle.std.proofs.Common.{ap}
-use Rattle.lf_yaml.specs.Reading.{opens_by, opens_quote}
-use Rattle.lf_yaml.specs.Shown.{shown}
+use Rattle.lf_yaml.specs.reading.Trees.{opens_by, opens_quote}
+use Rattle.lf_yaml.specs.views.Shown.{shown}
 use Rattle.lf_yaml.proofs.entry.opens_quote.Goals as goal
 
 pub returns-in-None : goal.returns-in-None

@@ -1,6 +1,6 @@
 use Rattle.std.proofs.Common.{arith}
 use Rattle.std.proofs.lemmas.Str.{IsCharBoundary-after_ascii}
-use Rattle.lf_yaml.specs.Places.{left_at}
+use Rattle.lf_yaml.specs.views.Places.{left_at}
 use Rattle.lf_yaml.proofs.PlaceCode.{past-key}
 use Rattle.lf_yaml.proofs.flow_entries.entry_from.Goals as goal
 

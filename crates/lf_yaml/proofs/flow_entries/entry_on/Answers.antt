@@ -1,7 +1,7 @@
 use Rattle.std.proofs.Common.{length, sym, subst}
-use Rattle.lf_yaml.specs.Shown.{shown}
-use Rattle.lf_yaml.specs.Cursor.{rows_after}
-use Rattle.lf_yaml.specs.Turns.{TurnsEntries, left_behind}
+use Rattle.lf_yaml.specs.views.Shown.{shown}
+use Rattle.lf_yaml.specs.views.Cursor.{rows_after}
+use Rattle.lf_yaml.specs.reading.FlowTurns.{TurnsEntries, left_behind}
 use Rattle.lf_yaml.proofs.EntryTurns.{entry-goes, entry-fails}
 use Rattle.lf_yaml.proofs.flow_entries.entry_on.Goals as goal
 

@@ -1,6 +1,6 @@
 use Rattle.std.proofs.Common.{length, arith}
 use Rattle.std.proofs.lemmas.Str.{IsCharBoundary-after_ascii}
-use Rattle.lf_yaml.specs.Places.{left_at, rows_at}
+use Rattle.lf_yaml.specs.views.Places.{left_at, rows_at}
 use Rattle.lf_yaml.proofs.PlaceCode.{past-sign}
 use Rattle.lf_yaml.proofs.flow_entries.entry_sign.Goals as goal
 

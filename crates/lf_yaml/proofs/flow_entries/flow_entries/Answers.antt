@@ -1,12 +1,12 @@
 use Rattle.std.proofs.Common.{◌≤◌, ◌<◌, ◌∙◌, ◌∷◌, ◌++◌, [], ℕ, List, length, map, ap, sym, subst, arith}
-use Rattle.lf_base.specs.Answers.{Gives}
+use Rattle.lf_base.specs.Answers.{AnswersAs}
 use Rattle.lf_scalar.specs.Cells.{Cell}
 use Rattle.lf_yaml.specs.Rows.{Row}
 use Rattle.lf_yaml.specs.Tree.{pair}
-use Rattle.lf_yaml.specs.Reading.{mapping_in, turns}
-use Rattle.lf_yaml.specs.KeySets.{HasKeys}
-use Rattle.lf_yaml.specs.Places.{IsPlaceIn, left_at, rows_at}
-use Rattle.lf_yaml.specs.Turns.{IsTurnIn, IsTurnBehind, HasTurned, turned_entries, closed_entries}
+use Rattle.lf_yaml.specs.reading.Trees.{mapping_in, turns}
+use Rattle.lf_yaml.specs.views.KeySets.{HasKeys}
+use Rattle.lf_yaml.specs.views.Places.{IsPlaceIn, left_at, rows_at}
+use Rattle.lf_yaml.specs.reading.FlowTurns.{IsTurnIn, IsTurnBehind, HasTurned, turned_entries, closed_entries}
 use Rattle.lf_yaml.proofs.EntryTurns.{texts_of, texts-more, all_from, entries-end, entries-last, entries-more, entries-fail}
 use Rattle.lf_yaml.proofs.flow_entries.flow_entries.Goals as goal
 use Rattle.lf_yaml.proofs.flow_entries.flow_entries.Goals.{in-Ok, in-Err-push}
@@ -28,11 +28,11 @@ returns-in-Ok-Last-clause-gives c =
     let before = texts_of (map pair c.entries.entries) in
     let whole = all_from (length c.args.bytes.now) c.args.above [] (left_at c.args.place) (rows_at c.args.bytes.now c.args.place) in
     elim c.match-push.branch [
-      | in-Ok w ↦ subst (λ r. Gives (closed_entries c.args.bytes.now) r whole) (sym w.result-is)
+      | in-Ok w ↦ subst (λ r. AnswersAs (closed_entries c.args.bytes.now) r whole) (sym w.result-is)
           (entries-last (length c.args.bytes.now) c.args.above c.args.bytes.now whole c.entries.entries cs rs c.entries.invariant.0 c.in-Ok-Last.found _ c.in-Ok-Last.closing c.in-Ok-Last.next w.in-Ok.ensures.ok
           (c.in-Ok-Last.ensures.gives (turns cs rs) before c.entries.invariant.3
           ∙ ap (turned_entries c.args.bytes.now (λ (ks : List (List ℕ)) (xs : List Cell) (ys : List Row). mapping_in (length c.args.bytes.now) c.args.above (turns cs rs) ks xs ys) before) c.in-Ok-Last.field-0-is))
-      | in-Err-push w ↦ subst (λ r. Gives (closed_entries c.args.bytes.now) r whole) (sym w.result-is) tt
+      | in-Err-push w ↦ subst (λ r. AnswersAs (closed_entries c.args.bytes.now) r whole) (sym w.result-is) tt
     ]
 
 pub entries-preserved : goal.entries-preserved

@@ -1,8 +1,8 @@
 use Rattle.std.proofs.Common.{◌≡◌, ◌≤◌, [], length, map}
 use Rattle.lf_yaml.specs.Tree.{pair}
-use Rattle.lf_yaml.specs.Reading.{turns}
-use Rattle.lf_yaml.specs.KeySets.{HasKeys}
-use Rattle.lf_yaml.specs.Places.{IsPlaceIn, left_at, rows_at}
+use Rattle.lf_yaml.specs.reading.Trees.{turns}
+use Rattle.lf_yaml.specs.views.KeySets.{HasKeys}
+use Rattle.lf_yaml.specs.views.Places.{IsPlaceIn, left_at, rows_at}
 use Rattle.lf_yaml.proofs.EntryTurns.{texts_of, after_entries, all_from}
 use Rattle.lf_yaml.proofs.flow_entries.flow_entries.Given as goal
 

@@ -1,10 +1,10 @@
 use Rattle.std.proofs.Common.{◌≤◌, ◌<◌, ◌∙◌, List, length, ap, sym, subst, arith}
-use Rattle.lf_base.specs.Answers.{Gives}
+use Rattle.lf_base.specs.Answers.{AnswersAs}
 use Rattle.lf_scalar.specs.Cells.{Cell}
 use Rattle.lf_yaml.specs.Rows.{Row}
-use Rattle.lf_yaml.specs.Reading.{sequence_in, turns}
-use Rattle.lf_yaml.specs.Places.{IsPlaceIn, left_at, rows_at}
-use Rattle.lf_yaml.specs.Turns.{IsTurnIn, IsTurnBehind, turned_items, closed_items}
+use Rattle.lf_yaml.specs.reading.Trees.{sequence_in, turns}
+use Rattle.lf_yaml.specs.views.Places.{IsPlaceIn, left_at, rows_at}
+use Rattle.lf_yaml.specs.reading.FlowTurns.{IsTurnIn, IsTurnBehind, turned_items, closed_items}
 use Rattle.lf_yaml.proofs.ItemCode.{all_from, items-end, items-last, items-more, items-fail}
 use Rattle.lf_yaml.proofs.flow_items.flow_items.Goals as goal
 use Rattle.lf_yaml.proofs.flow_items.flow_items.Goals.{in-Ok, in-Err-push}
@@ -23,10 +23,10 @@ returns-in-Ok-Last-clause-gives c =
     let rs = rows_at c.args.bytes.now c.items.at in
     let whole = all_from (length c.args.bytes.now) c.args.above (left_at c.args.place) (rows_at c.args.bytes.now c.args.place) in
     elim c.match-push.branch [
-      | in-Ok w ↦ subst (λ r. Gives (closed_items c.args.bytes.now) r whole) (sym w.result-is)
+      | in-Ok w ↦ subst (λ r. AnswersAs (closed_items c.args.bytes.now) r whole) (sym w.result-is)
           (items-last (length c.args.bytes.now) c.args.above c.args.bytes.now whole c.items.items cs rs c.items.invariant.0 c.in-Ok-Last.found _ c.in-Ok-Last.closing c.in-Ok-Last.next w.in-Ok.ensures.ok
           (c.in-Ok-Last.ensures.gives (turns cs rs) ∙ ap (turned_items c.args.bytes.now (λ (xs : List Cell) (ys : List Row). sequence_in (length c.args.bytes.now) c.args.above (turns cs rs) xs ys)) c.in-Ok-Last.field-0-is))
-      | in-Err-push w ↦ subst (λ r. Gives (closed_items c.args.bytes.now) r whole) (sym w.result-is) tt
+      | in-Err-push w ↦ subst (λ r. AnswersAs (closed_items c.args.bytes.now) r whole) (sym w.result-is) tt
     ]
 
 pub items-preserved : goal.items-preserved

@@ -1,7 +1,7 @@
 use Rattle.std.proofs.Common.{◌≡◌, ◌≤◌, length, map}
 use Rattle.lf_yaml.specs.Tree.{tree}
-use Rattle.lf_yaml.specs.Reading.{turns}
-use Rattle.lf_yaml.specs.Places.{IsPlaceIn, left_at, rows_at}
+use Rattle.lf_yaml.specs.reading.Trees.{turns}
+use Rattle.lf_yaml.specs.views.Places.{IsPlaceIn, left_at, rows_at}
 use Rattle.lf_yaml.proofs.ItemCode.{after_items, all_from}
 use Rattle.lf_yaml.proofs.flow_items.flow_items.Given as goal
 

@@ -1,9 +1,9 @@
 use Rattle.std.proofs.Common.{◌+◌}
-use Rattle.lf_yaml.specs.Reading.{turns}
-use Rattle.lf_yaml.specs.Shown.{shown}
-use Rattle.lf_yaml.specs.Cursor.{rows_after}
-use Rattle.lf_yaml.specs.Places.{left_at, rows_at}
-use Rattle.lf_yaml.specs.Turns.{IsTurnIn}
+use Rattle.lf_yaml.specs.reading.Trees.{turns}
+use Rattle.lf_yaml.specs.views.Shown.{shown}
+use Rattle.lf_yaml.specs.views.Cursor.{rows_after}
+use Rattle.lf_yaml.specs.views.Places.{left_at, rows_at}
+use Rattle.lf_yaml.specs.reading.FlowTurns.{IsTurnIn}
 use Rattle.lf_yaml.specs.declared.node.Node.{Node}
 use Rattle.lf_yaml.specs.declared.turn.Turn.{Turn}
 use Rattle.lf_yaml.proofs.PlaceCode.{each-ok, turn-within, left-of-part}

@@ -1,9 +1,9 @@
 use Rattle.std.proofs.Common.{◌≡◌, ◌+◌, ℕ, suc, true, false, List, length, drop, Ok, ap, sym, subst, ◌∙◌}
 use Rattle.lf_scalar.specs.Cells.{Cell, cell, cells, Fails, Value, ◌>>=◌}
 use Rattle.lf_yaml.specs.Flow.{next_part, begins_flow, is_empty_key}
-use Rattle.lf_yaml.specs.Reading.{no_sign, Signed}
-use Rattle.lf_yaml.specs.Cursor.{rows_after}
-use Rattle.lf_yaml.specs.Shown.{shown}
+use Rattle.lf_yaml.specs.reading.Trees.{no_sign, Signed}
+use Rattle.lf_yaml.specs.views.Cursor.{rows_after}
+use Rattle.lf_yaml.specs.views.Shown.{shown}
 use Rattle.lf_yaml.proofs.Cuts.{cut-before}
 use Rattle.lf_yaml.proofs.KeyCode.{bare-found, bare-missing}
 use Rattle.lf_yaml.proofs.RowCode.{text-shown}

@@ -1,14 +1,14 @@
 use Rattle.std.proofs.Common.{Option, length, subst}
 use Rattle.lf_scalar.specs.declared.quotes.Quotes.{Quotes}
-use Rattle.lf_base.specs.Answers.{Gives}
-use Rattle.lf_yaml.specs.Reading.{flow_key, flow_key_by}
-use Rattle.lf_yaml.specs.Cursor.{rows_after}
-use Rattle.lf_yaml.specs.Places.{signed}
-use Rattle.lf_yaml.specs.Shown.{shown}
+use Rattle.lf_base.specs.Answers.{AnswersAs}
+use Rattle.lf_yaml.specs.reading.Trees.{flow_key, flow_key_by}
+use Rattle.lf_yaml.specs.views.Cursor.{rows_after}
+use Rattle.lf_yaml.specs.views.Places.{signed}
+use Rattle.lf_yaml.specs.views.Shown.{shown}
 use Rattle.lf_yaml.proofs.flow_key.flow_key.Goals as goal
 
 pub returns-in-None-clause-gives : goal.returns-in-None-clause-gives
 unfolding flow_key
 returns-in-None-clause-gives c =
-    subst (λ (o : Option Quotes). Gives (signed c.args.part) c.bare_key.result (flow_key_by (length c.args.bytes.now) c.args.above (shown c.args.part).first (shown c.args.part).rest (rows_after c.args.bytes.now c.args.next) o))
+    subst (λ (o : Option Quotes). AnswersAs (signed c.args.part) c.bare_key.result (flow_key_by (length c.args.bytes.now) c.args.above (shown c.args.part).first (shown c.args.part).rest (rows_after c.args.bytes.now c.args.next) o))
     (c.in-None.ensures.kind c.args.part.at) c.bare_key.ensures.gives

@@ -2,11 +2,11 @@ use Rattle.std.proofs.Common.{◌≡◌, ◌+◌, ℕ, false, List, length, drop
 use Rattle.std.proofs.lemmas.Bool.{eqb-true}
 use Rattle.lf_scalar.specs.Cells.{Cell, cells, Fails}
 use Rattle.lf_scalar.specs.Lines.{after_blanks}
-use Rattle.lf_scalar.specs.Drafted.{shown as scalar_shown}
+use Rattle.lf_scalar.specs.views.Built.{shown as scalar_shown}
 use Rattle.lf_yaml.specs.Flow.{next_part}
-use Rattle.lf_yaml.specs.Reading.{no_sign}
-use Rattle.lf_yaml.specs.Cursor.{rows_after}
-use Rattle.lf_yaml.specs.Shown.{shown}
+use Rattle.lf_yaml.specs.reading.Trees.{no_sign}
+use Rattle.lf_yaml.specs.views.Cursor.{rows_after}
+use Rattle.lf_yaml.specs.views.Shown.{shown}
 use Rattle.lf_yaml.proofs.KeyCode.{quoted-found, quoted-missing}
 use Rattle.lf_yaml.proofs.flow_key.quoted_key.Goals as goal
 

@@ -1,6 +1,6 @@
 use Rattle.std.proofs.Common.{◌≡◌, ◌+◌, suc, false, List, ℕ, get_or, ap, sym, arith, ◌∙◌}
 use Rattle.lf_scalar.specs.Cells.{cell, cells}
-use Rattle.lf_scalar.specs.QuotedReading.{wrong_behind}
+use Rattle.lf_scalar.specs.reading.Quoted.{wrong_behind}
 use Rattle.lf_yaml.proofs.flow_nodes.wrong_after.Goals as goal
 
 pub returns-in-Some : goal.returns-in-Some

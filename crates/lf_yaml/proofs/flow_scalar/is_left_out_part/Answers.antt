@@ -1,6 +1,6 @@
 use Rattle.lf_yaml.specs.Flow.{is_bracket}
 use Rattle.lf_yaml.specs.Rows.{is_property}
-use Rattle.lf_yaml.specs.Shown.{shown}
+use Rattle.lf_yaml.specs.views.Shown.{shown}
 use Rattle.lf_yaml.proofs.FlowCode.{or-first, or-second}
 use Rattle.lf_yaml.proofs.flow_scalar.is_left_out_part.Goals as goal
 

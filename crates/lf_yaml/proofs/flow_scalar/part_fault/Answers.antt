@@ -1,7 +1,7 @@
 use Rattle.std.proofs.Common.{◌∙◌, ◌||◌}
 use Rattle.lf_yaml.specs.Flow.{is_bracket}
 use Rattle.lf_yaml.specs.Rows.{is_property}
-use Rattle.lf_yaml.specs.Shown.{shown}
+use Rattle.lf_yaml.specs.views.Shown.{shown}
 use Rattle.lf_yaml.proofs.FlowCode.{fault-is}
 use Rattle.lf_yaml.proofs.flow_scalar.part_fault.Goals as goal
 

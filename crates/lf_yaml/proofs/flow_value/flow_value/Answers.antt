@@ -1,7 +1,7 @@
 use Rattle.std.proofs.Common.{◌≡◌, ◌≤◌, length}
 use Rattle.lf_scalar.specs.declared.scalar.Scalar.{Scalar}
-use Rattle.lf_yaml.specs.Reading.{turns}
-use Rattle.lf_yaml.specs.Places.{left_at, rows_at}
+use Rattle.lf_yaml.specs.reading.Trees.{turns}
+use Rattle.lf_yaml.specs.views.Places.{left_at, rows_at}
 use Rattle.lf_yaml.specs.declared.place.Place.{Place}
 use Rattle.lf_yaml.proofs.PlaceCode.{both-ok, stays-behind}
 use Rattle.lf_yaml.proofs.flow_value.flow_value.Goals as goal

@@ -1,7 +1,7 @@
 use Rattle.std.proofs.Common.{◌≡◌}
 use Rattle.lf_scalar.specs.Cells.{cells}
 use Rattle.lf_yaml.specs.Heads.{key_in}
-use Rattle.lf_yaml.specs.Signs.{stops_of, ends_of}
+use Rattle.lf_yaml.specs.views.Signs.{stops_of, ends_of}
 use Rattle.lf_yaml.proofs.SignScan.{key_from}
 use Rattle.lf_yaml.proofs.keys.find_sign.Given as goal
 

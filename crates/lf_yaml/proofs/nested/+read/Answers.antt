@@ -2,14 +2,14 @@ use Rattle.std.proofs.Common.{◌-◌, [], sym, ap, ◌∙◌, subst, arith, map
 use Rattle.std.proofs.lemmas.Result.{err_from_is_err_and}
 use Rattle.std.proofs.lemmas.List.{map_push}
 use Rattle.lf_scalar.specs.Cells.{Fails}
-use Rattle.lf_scalar.specs.Drafted.{shown as scalar_shown}
+use Rattle.lf_scalar.specs.views.Built.{shown as scalar_shown}
 use Rattle.lf_yaml.specs.Rows.{indent}
 use Rattle.lf_yaml.specs.Tree.{Tree, tree, pair}
-use Rattle.lf_yaml.specs.Reading.{as_sequence, as_mapping}
-use Rattle.lf_yaml.specs.Shown.{shown}
-use Rattle.lf_yaml.specs.Cursor.{rows_after}
-use Rattle.lf_yaml.specs.Headed.{headed}
-use Rattle.lf_yaml.specs.BlockTurns.{values, run_items, run_entries}
+use Rattle.lf_yaml.specs.reading.Trees.{as_sequence, as_mapping}
+use Rattle.lf_yaml.specs.views.Shown.{shown}
+use Rattle.lf_yaml.specs.views.Cursor.{rows_after}
+use Rattle.lf_yaml.specs.views.Headed.{headed}
+use Rattle.lf_yaml.specs.reading.BlockTurns.{values, run_items, run_entries}
 use Rattle.lf_yaml.proofs.ItemRuns.{NextItem, rows-placed, next-item, first-item-at, more-items, item-fails, items-done}
 use Rattle.lf_yaml.proofs.ItemRuns as items
 use Rattle.lf_yaml.proofs.EntryRuns.{Pair, NextEntry, texts_of, next-entry, first-entry-at, first-fails-at, more-entries, entry-fails, entries-done}

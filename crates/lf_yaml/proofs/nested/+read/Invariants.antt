@@ -2,10 +2,10 @@ use Rattle.std.proofs.Common.{◌+◌, ◌*◌, ◌-◌, ◌≤◌, length, map}
 use Rattle.std.specs.Str.{IsCharBoundary}
 use Rattle.lf_yaml.specs.Rows.{indent}
 use Rattle.lf_yaml.specs.Tree.{tree, pair}
-use Rattle.lf_yaml.specs.Shown.{shown}
-use Rattle.lf_yaml.specs.Cursor.{rows_after}
-use Rattle.lf_yaml.specs.KeySets.{HasKeys}
-use Rattle.lf_yaml.specs.BlockTurns.{run_items, run_entries}
+use Rattle.lf_yaml.specs.views.Shown.{shown}
+use Rattle.lf_yaml.specs.views.Cursor.{rows_after}
+use Rattle.lf_yaml.specs.views.KeySets.{HasKeys}
+use Rattle.lf_yaml.specs.reading.BlockTurns.{run_items, run_entries}
 use Rattle.lf_yaml.proofs.ItemRuns.{ItemsLeft}
 use Rattle.lf_yaml.proofs.EntryRuns.{EntriesLeft, texts_of}
 use Rattle.lf_yaml.proofs.nested.+read.Given as goal

@@ -3,8 +3,8 @@ use Rattle.std.proofs.lemmas.Str.{IsUtf8-take}
 use Rattle.lf_base.specs.declared.refusal.Refusal.{Refusal}
 use Rattle.lf_scalar.specs.Cells.{Value, cells, Fails, ◌>>=◌}
 use Rattle.lf_yaml.specs.Flow.{begins_flow}
-use Rattle.lf_yaml.specs.Reading.{part_by}
-use Rattle.lf_yaml.specs.Shown.{shown}
+use Rattle.lf_yaml.specs.reading.Trees.{part_by}
+use Rattle.lf_yaml.specs.views.Shown.{shown}
 use Rattle.lf_yaml.proofs.Cuts.{cut-before}
 use Rattle.lf_yaml.proofs.PartCode.{plain-found, plain-refused}
 use Rattle.lf_yaml.proofs.RowCode.{text-shown}

@@ -1,14 +1,14 @@
 use Rattle.std.proofs.Common.{Option, subst}
 use Rattle.lf_scalar.specs.declared.quotes.Quotes.{Quotes}
 use Rattle.std.proofs.Common.{◌+◌, drop}
-use Rattle.lf_base.specs.Answers.{Gives}
+use Rattle.lf_base.specs.Answers.{AnswersAs}
 use Rattle.lf_scalar.specs.Cells.{cells}
-use Rattle.lf_scalar.specs.Drafted.{shown as scalar_shown}
-use Rattle.lf_yaml.specs.Reading.{part_by}
-use Rattle.lf_yaml.specs.Shown.{shown}
+use Rattle.lf_scalar.specs.views.Built.{shown as scalar_shown}
+use Rattle.lf_yaml.specs.reading.Trees.{part_by}
+use Rattle.lf_yaml.specs.views.Shown.{shown}
 use Rattle.lf_yaml.proofs.part_scalar.read_part.Goals as goal
 
 pub returns-in-None-clause-gives : goal.returns-in-None-clause-gives
-unfolding Rattle.lf_yaml.specs.Reading.flow_scalar
+unfolding Rattle.lf_yaml.specs.reading.Trees.flow_scalar
 returns-in-None-clause-gives c =
-    subst (λ (o : Option Quotes). Gives (λ x. (scalar_shown x.0, cells (c.args.part.at + x.1) (drop x.1 c.args.part.text.now))) c.plain_part.result (part_by (shown c.args.part).first (shown c.args.part).rest o)) (c.in-None.ensures.kind c.args.part.at) c.plain_part.ensures.gives
+    subst (λ (o : Option Quotes). AnswersAs (λ x. (scalar_shown x.0, cells (c.args.part.at + x.1) (drop x.1 c.args.part.text.now))) c.plain_part.result (part_by (shown c.args.part).first (shown c.args.part).rest o)) (c.in-None.ensures.kind c.args.part.at) c.plain_part.ensures.gives

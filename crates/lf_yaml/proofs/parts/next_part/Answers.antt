@@ -1,6 +1,6 @@
 use Rattle.std.proofs.Common.{◌∙◌, ◌≡◌, ◌≢◌, ◌≤◌, ◌⊎◌, ap, sym, subst, arith, length, ℕ, get_or, inl, inr, List}
-use Rattle.lf_yaml.specs.Parts.{IsNext}
-use Rattle.lf_yaml.specs.Cursor.{rows_after}
+use Rattle.lf_yaml.specs.views.Parts.{IsNext}
+use Rattle.lf_yaml.specs.views.Cursor.{rows_after}
 use Rattle.lf_yaml.proofs.Cuts.{blanks-cut, in-behind}
 use Rattle.std.specs.Str.{IsCharBoundary}
 use Rattle.lf_yaml.proofs.NextParts.{next-empty, next-comment, next-here}

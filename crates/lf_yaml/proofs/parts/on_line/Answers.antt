@@ -1,4 +1,4 @@
-use Rattle.lf_yaml.specs.Cursor.{rows_after}
+use Rattle.lf_yaml.specs.views.Cursor.{rows_after}
 use Rattle.lf_yaml.proofs.Cuts.{next-utf8}
 use Rattle.lf_yaml.proofs.parts.on_line.Goals as goal
 

@@ -1,5 +1,5 @@
 use Rattle.std.proofs.Common.{◌∙◌, ◌≡◌, ℕ, arith, subst}
-use Rattle.lf_yaml.specs.Ascending.{offsets_from}
+use Rattle.lf_yaml.specs.views.Ascending.{offsets_from}
 use Rattle.lf_yaml.proofs.Ascents.{offsets-more}
 use Rattle.lf_yaml.proofs.plain.offsets.Goals as goal
 

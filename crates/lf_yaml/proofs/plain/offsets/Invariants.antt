@@ -1,5 +1,5 @@
 use Rattle.std.proofs.Common.{◌≡◌}
-use Rattle.lf_yaml.specs.Ascending.{offsets_from}
+use Rattle.lf_yaml.specs.views.Ascending.{offsets_from}
 use Rattle.lf_yaml.proofs.plain.offsets.Given as goal
 
 abbrev pub invariant-loop-i : goal.invariant-loop-i

@@ -1,7 +1,7 @@
 use Rattle.std.proofs.Common.{◌≡◌, ◌≤◌, ◌-◌, length}
 use Rattle.std.specs.Str.{IsCharBoundary}
 use Rattle.lf_yaml.specs.Rows.{rows_from}
-use Rattle.lf_yaml.specs.Cursor.{rows_after}
+use Rattle.lf_yaml.specs.views.Cursor.{rows_after}
 use Rattle.lf_yaml.proofs.rows.lines_from.Given as goal
 
 abbrev pub invariant-loop-next : goal.invariant-loop-next

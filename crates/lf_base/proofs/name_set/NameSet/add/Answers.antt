@@ -2,7 +2,7 @@ use Rattle.std.proofs.Common.{◌∙◌}
 use Rattle.std.specs.Str.{bytes_eq}
 use Rattle.std.proofs.lemmas.Cmp.{nat_list_eq_equiv}
 use Rattle.lf_laws.proofs.Booleans.{or_from_cond}
-use Rattle.lf_base.specs.NameSets.{has}
+use Rattle.lf_base.specs.views.NameSets.{has}
 use Rattle.lf_base.proofs.name_set.NameSet.add.Goals as goal
 
 pub returns-clause-members : goal.returns-clause-members

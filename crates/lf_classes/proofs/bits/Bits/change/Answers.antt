@@ -1,6 +1,6 @@
 use Rattle.std.proofs.Common.{◌≡◌, ◌≤◌, length, ap, ◌∙◌, arith}
 use Rattle.std.proofs.Math.Nat.{div-add-mod}
-use Rattle.lf_classes.specs.Bits.{changed}
+use Rattle.lf_classes.specs.views.Bits.{changed}
 use Rattle.lf_classes.proofs.WordLists.{both_seen, length_bits, same_length, same_seen}
 use Rattle.lf_classes.proofs.bits.Bits.change.Goals as goal
 

@@ -1,6 +1,6 @@
 use Rattle.std.proofs.Common.{◌+◌, ◌/◌, ◌∙◌, ap, arith}
 use Rattle.std.proofs.Math.Nat.{div-add-mod}
-use Rattle.lf_classes.specs.Bits.{bits_of}
+use Rattle.lf_classes.specs.views.Bits.{bits_of}
 use Rattle.lf_classes.proofs.WordLists.{bits_alike}
 use Rattle.lf_classes.proofs.bits.Bits.of.Goals as goal
 

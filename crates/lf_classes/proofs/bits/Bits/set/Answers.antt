@@ -2,7 +2,7 @@ use Rattle.std.proofs.Common.{◌<◌, ◌≤◌, ◌*◌, ◌/◌, length, ◌�
 use Rattle.std.proofs.Math.ListN.{set}
 use Rattle.std.proofs.lemmas.List.{get_or_read}
 use Rattle.std.proofs.Math.Nat.{div-add-mod}
-use Rattle.lf_classes.specs.Bits.{bit}
+use Rattle.lf_classes.specs.views.Bits.{bit}
 use Rattle.lf_classes.proofs.WordLists.{length_bits, set_bits}
 use Rattle.lf_classes.proofs.bits.Bits.set.Goals as goal
 

@@ -1,6 +1,6 @@
 use Rattle.std.proofs.Common.{◌∙◌, ap}
 use Rattle.lf_ast.specs.declared.expr.MatchOp.TheVariants.{Matches, NotMatches}
-use Rattle.lf_classes.specs.Remembered.{passing_row}
+use Rattle.lf_classes.specs.views.Remembered.{passing_row}
 use Rattle.lf_classes.proofs.remembered.LabelRows.add.Goals as goal
 
 pub returns-in-Matches : goal.returns-in-Matches

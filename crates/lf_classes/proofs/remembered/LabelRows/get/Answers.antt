@@ -1,7 +1,7 @@
 use Rattle.std.proofs.Common.{◌≡◌, sym, subst}
 use Rattle.std.specs.Prelude.{IfSome}
 use Rattle.lf_ast.specs.declared.expr.MatchOp.{MatchOp}
-use Rattle.lf_classes.specs.Remembered.{passing_row}
+use Rattle.lf_classes.specs.views.Remembered.{passing_row}
 use Rattle.lf_ast.specs.declared.expr.MatchOp.TheVariants.{Matches, NotMatches}
 use Rattle.lf_classes.proofs.remembered.LabelRows.get.Goals as goal
 

@@ -1,6 +1,6 @@
 use Rattle.std.proofs.Common.{◌<◌, length, refl}
 use Rattle.std.proofs.lemmas.Option.{slice_get_read}
-use Rattle.lf_classes.specs.Remembered.{HasRows}
+use Rattle.lf_classes.specs.views.Remembered.{HasRows}
 use Rattle.lf_classes.proofs.PatternPlaces.{each_set}
 use Rattle.lf_classes.proofs.remembered.Remembered.add.Goals as goal
 

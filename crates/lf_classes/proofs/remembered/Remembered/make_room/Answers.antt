@@ -1,6 +1,6 @@
 use Rattle.std.proofs.Common.{◌∙◌, ap, sym}
 use Rattle.std.specs.Prelude.{slice_get}
-use Rattle.lf_classes.specs.Remembered.{HasRows}
+use Rattle.lf_classes.specs.views.Remembered.{HasRows}
 use Rattle.lf_classes.proofs.PatternPlaces.{each_push}
 use Rattle.lf_classes.proofs.remembered.Remembered.make_room.Goals as goal
 

@@ -1,6 +1,6 @@
 use Rattle.std.proofs.Common.{◌+◌, ◌-◌, length}
 use Rattle.lf_semantics.specs.Listing.{Listing}
-use Rattle.lf_classes.specs.Remembered.{AreRemembered}
+use Rattle.lf_classes.specs.views.Remembered.{AreRemembered}
 use Rattle.lf_classes.proofs.remembered.Remembered.make_room.Given as goal
 
 abbrev pub invariant-loop-alloc : goal.invariant-loop-alloc

@@ -1,6 +1,6 @@
 use Rattle.std.proofs.Common.{◌∙◌, ap}
 use Rattle.lf_semantics.specs.ClassRows.{emptied}
-use Rattle.lf_classes.specs.Cut.{cut}
+use Rattle.lf_classes.specs.views.Cut.{cut}
 use Rattle.lf_classes.proofs.LabelChanges.{emptied_view}
 use Rattle.lf_classes.proofs.row.Row.clear.Goals as goal
 

@@ -1,5 +1,5 @@
 use Rattle.std.proofs.Common.{true, sym, ◌∙◌, ap, arith}
-use Rattle.lf_classes.specs.Cut.{cut, shown}
+use Rattle.lf_classes.specs.views.Cut.{cut, shown}
 use Rattle.lf_classes.proofs.Cutting.{start_within}
 use Rattle.lf_classes.proofs.Changes.{label_within}
 use Rattle.lf_classes.proofs.LabelChanges.{label_filled, replaced_dead}

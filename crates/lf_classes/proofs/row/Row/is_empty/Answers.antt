@@ -1,6 +1,6 @@
 use Rattle.std.proofs.Common.{not, sym, ◌∙◌, ap}
 use Rattle.lf_semantics.specs.ClassRows.{normalized}
-use Rattle.lf_classes.specs.Cut.{cut}
+use Rattle.lf_classes.specs.views.Cut.{cut}
 use Rattle.lf_classes.proofs.Changes.{live_view, settled_shown}
 use Rattle.lf_classes.proofs.row.Row.is_empty.Goals as goal
 

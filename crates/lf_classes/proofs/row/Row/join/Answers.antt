@@ -1,6 +1,6 @@
 use Rattle.std.proofs.Common.{◌∙◌, ap, arith}
 use Rattle.lf_semantics.specs.ClassRows.{is_live}
-use Rattle.lf_classes.specs.Cut.{cut, shown}
+use Rattle.lf_classes.specs.views.Cut.{cut, shown}
 use Rattle.lf_classes.proofs.Changes.{all_taken, joined_empty, joined_right, joined_row, same_total}
 use Rattle.lf_classes.proofs.row.Row.join.Goals as goal
 

@@ -1,6 +1,6 @@
 use Rattle.std.proofs.Common.{◌≡◌, ◌+◌, length, sym, ◌∙◌, ap, arith, length-set}
 use Rattle.lf_semantics.specs.ClassRows.{kept}
-use Rattle.lf_classes.specs.Cut.{cut, shown}
+use Rattle.lf_classes.specs.views.Cut.{cut, shown}
 use Rattle.lf_classes.proofs.Cutting.{length-cut, start_within}
 use Rattle.lf_classes.proofs.Changes.{kept_empty, kept_row, label_within, place_within}
 use Rattle.lf_classes.proofs.row.Row.keep.Goals as goal

@@ -1,6 +1,6 @@
 use Rattle.std.proofs.Common.{eqb, sym, ◌∙◌, ap}
 use Rattle.lf_semantics.specs.ClassRows.{emptied}
-use Rattle.lf_classes.specs.Cut.{cut, shown}
+use Rattle.lf_classes.specs.views.Cut.{cut, shown}
 use Rattle.lf_classes.proofs.Changes.{live_view}
 use Rattle.lf_classes.proofs.LabelChanges.{class_alone, class_lacked, narrowed_dead}
 use Rattle.lf_classes.proofs.row.Row.keep_class.Goals as goal

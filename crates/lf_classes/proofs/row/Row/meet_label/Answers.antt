@@ -1,6 +1,6 @@
 use Rattle.std.proofs.Common.{sym, ◌∙◌, ap}
 use Rattle.lf_semantics.specs.ClassRows.{holds}
-use Rattle.lf_classes.specs.Cut.{cut, shown}
+use Rattle.lf_classes.specs.views.Cut.{cut, shown}
 use Rattle.lf_classes.proofs.Changes.{label_within, same_total}
 use Rattle.lf_classes.proofs.LabelChanges.{empty_holds, met_label, narrowed_dead, narrowed_out}
 use Rattle.lf_classes.proofs.row.Row.meet_label.Goals as goal

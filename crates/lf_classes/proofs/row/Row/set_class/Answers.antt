@@ -1,6 +1,6 @@
 use Rattle.std.proofs.Common.{◌≡◌, ◌+◌, true, length, sym, ◌∙◌, ap, arith, length-set}
 use Rattle.lf_semantics.specs.ClassRows.{set_to}
-use Rattle.lf_classes.specs.Cut.{cut, shown}
+use Rattle.lf_classes.specs.views.Cut.{cut, shown}
 use Rattle.lf_classes.proofs.Cutting.{length-cut, start_within}
 use Rattle.lf_classes.proofs.Changes.{label_within, place_within, set_empty, set_row}
 use Rattle.lf_classes.proofs.row.Row.set_class.Goals as goal

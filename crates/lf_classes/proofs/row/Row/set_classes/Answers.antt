@@ -1,5 +1,5 @@
 use Rattle.std.proofs.Common.{false, get_or, sym, ◌∙◌, ap, arith}
-use Rattle.lf_classes.specs.Cut.{cut, shown}
+use Rattle.lf_classes.specs.views.Cut.{cut, shown}
 use Rattle.lf_classes.proofs.Cutting.{count_at, start_within}
 use Rattle.lf_classes.proofs.Changes.{label_within, shape_view}
 use Rattle.lf_classes.proofs.LabelChanges.{listed_replaced, replaced_dead}

@@ -7,24 +7,24 @@ use Rattle.lf_semantics.specs.Listing.{IsListing, Listing, universe_of}
 use Rattle.lf_semantics.specs.Mentions.{rules_mentions}
 use Rattle.lf_semantics.proofs.ListingLaws.{universe_is_listing}
 use Rattle.lf_classes.specs.Limits.{Exceeds}
-use Rattle.lf_classes.specs.Meetings.{met_all, nothing_met, with_star}
+use Rattle.lf_classes.specs.views.Mentioned.{mentioned_all, nothing_mentioned, with_star}
 use Rattle.lf_classes.proofs.Listed.{met_listing}
 use Rattle.lf_classes.proofs.universe.Universe.build.Goals as goal
 
 -- what was met from nothing on is the universe
-is_universe : (rules seen : List Rule) (start met : Listing) → start ≡ nothing_met → seen ≡ rules → met ≡ met_all start (rules_mentions (rule_trees seen)) → with_star met ≡ universe_of (rule_trees rules)
+is_universe : (rules seen : List Rule) (start met : Listing) → start ≡ nothing_mentioned → seen ≡ rules → met ≡ mentioned_all start (rules_mentions (rule_trees seen)) → with_star met ≡ universe_of (rule_trees rules)
 is_universe rules seen start met none same all =
-    ap with_star (all ∙ ap (λ s. met_all s (rules_mentions (rule_trees seen))) none ∙ ap (λ rs. met_all nothing_met (rules_mentions (rule_trees rs))) same) ∙ met_listing (rules_mentions (rule_trees rules))
+    ap with_star (all ∙ ap (λ s. mentioned_all s (rules_mentions (rule_trees seen))) none ∙ ap (λ rs. mentioned_all nothing_mentioned (rules_mentions (rule_trees rs))) same) ∙ met_listing (rules_mentions (rule_trees rules))
 
 pub returns-in_err-check_limits-clause-refused : goal.returns-in_err-check_limits-clause-refused
 returns-in_err-check_limits-clause-refused c =
     let p = err_from_is_err_and c.from_residual-in_err-check_limits.result c.from_residual-in_err-check_limits.ensures.1 in
-    let same = is_universe c.args.rules.now c.as_slice.result.now c.in_ok-meetings.meetings c.meet_rules.new.self c.in_ok-meetings.ensures c.as_slice.ensures c.in_ok-meet_rules.ensures in
+    let same = is_universe c.args.rules.now c.as_slice.result.now c.in_ok-mentions.mentions c.mention_rules.new.self c.in_ok-mentions.ensures c.as_slice.ensures c.in_ok-mention_rules.ensures in
     rw (p.1, p.2) (subst (λ u. Exceeds u c.in_err-check_limits.field-0.0) same c.in_err-check_limits.ensures.refused)
 
 pub of-requires : goal.of-requires
 of-requires c =
-    let same = is_universe c.args.rules.now c.as_slice.result.now c.in_ok-meetings.meetings c.meet_rules.new.self c.in_ok-meetings.ensures c.as_slice.ensures c.in_ok-meet_rules.ensures in
+    let same = is_universe c.args.rules.now c.as_slice.result.now c.in_ok-mentions.mentions c.mention_rules.new.self c.in_ok-mentions.ensures c.as_slice.ensures c.in_ok-mention_rules.ensures in
     record {
       listing = subst IsListing (sym same) (universe_is_listing (rule_trees c.args.rules.now));
       labels = c.in_ok-check_limits.ensures.labels;
@@ -33,5 +33,5 @@ of-requires c =
 
 pub returns-clause-found : goal.returns-clause-found
 returns-clause-found c =
-    let same = is_universe c.args.rules.now c.as_slice.result.now c.in_ok-meetings.meetings c.meet_rules.new.self c.in_ok-meetings.ensures c.as_slice.ensures c.in_ok-meet_rules.ensures in
+    let same = is_universe c.args.rules.now c.as_slice.result.now c.in_ok-mentions.mentions c.mention_rules.new.self c.in_ok-mentions.ensures c.as_slice.ensures c.in_ok-mention_rules.ensures in
     subst (λ u. IfOk c.of.result (λ universe. universe ≡ u)) same c.of.ensures.found

@@ -1,5 +1,5 @@
 use Rattle.std.proofs.Common.{sym, ap, ◌∙◌}
-use Rattle.lf_classes.specs.Remembered.{passing_row}
+use Rattle.lf_classes.specs.views.Remembered.{passing_row}
 use Rattle.lf_classes.proofs.universe.Universe.remember.Goals as goal
 
 pub invariant_of-self : goal.invariant_of-self

@@ -1,7 +1,7 @@
 use Rattle.std.proofs.Common.{◌≡◌, subst}
 use Rattle.std.specs.Prelude.{IfSome}
 use Rattle.lf_semantics.specs.Listing.{Listing}
-use Rattle.lf_classes.specs.Remembered.{passing_row}
+use Rattle.lf_classes.specs.views.Remembered.{passing_row}
 use Rattle.lf_classes.proofs.universe.Universe.remembered.Goals as goal
 
 pub returns : goal.returns

@@ -2,9 +2,9 @@ use Rattle.std.proofs.Common.{◌≡◌, ◌+◌, ℕ, List, [], ◌∷◌, map,
 use Rattle.std.specs.List.{flat_map}
 use Rattle.lf_ast.specs.Labels.{Bytes}
 use Rattle.lf_ast.specs.Rules.{RuleTree, rule_trees}
-use Rattle.lf_deps.specs.Links.{recorded_at, source_of}
+use Rattle.lf_deps.specs.views.Links.{recorded_at, source_of}
 use Rattle.lf_deps.specs.Reading.{selectors}
-use Rattle.lf_deps.specs.Sources.{IsSourcesOf, Sources}
+use Rattle.lf_deps.specs.views.Sources.{IsSourcesOf, Sources}
 use Rattle.lf_deps.proofs.RuleTrees.{map_trees}
 use Rattle.lf_deps.proofs.links.Links.of.Goals as goal
 

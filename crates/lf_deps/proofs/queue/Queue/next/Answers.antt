@@ -3,8 +3,8 @@ use Rattle.std.specs.Prelude.{slice_set}
 use Rattle.std.specs.List.{Contains}
 use Rattle.std.specs.Vec.{with_items}
 use Rattle.std.proofs.lemmas.List.{with_items_is}
-use Rattle.lf_deps.specs.Links.{recorded_by}
-use Rattle.lf_deps.specs.Queue.{AreCounts, CountsDown, IsQueue, occurs}
+use Rattle.lf_deps.specs.views.Links.{recorded_by}
+use Rattle.lf_deps.specs.views.Queue.{AreCounts, CountsDown, IsQueue, occurs}
 use Rattle.lf_deps.specs.declared.queue.Queue.{Queue}
 use Rattle.lf_deps.proofs.Taking.{chosen_next, enough, left_within, read_at, same_down, taken_counts, taken_queue}
 use Rattle.lf_deps.proofs.queue.Queue.next.Goals as goal

@@ -1,6 +1,6 @@
 use Rattle.std.proofs.Common.{ℕ, false, Bool, List, replicate, refl, sym, ◌∙◌, ap, subst}
 use Rattle.std.specs.List.{range_with_len}
-use Rattle.lf_deps.specs.Queue.{AreCounts}
+use Rattle.lf_deps.specs.views.Queue.{AreCounts}
 use Rattle.lf_deps.specs.declared.queue.Queue.{Queue}
 use Rattle.lf_deps.proofs.Taking.{start_counts, start_queue}
 use Rattle.lf_deps.proofs.queue.Queue.of.Goals as goal

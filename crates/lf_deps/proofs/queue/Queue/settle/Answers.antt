@@ -2,7 +2,7 @@ use Rattle.std.proofs.Common.{◌≡◌, ◌<◌, ◌++◌, ℕ, true, List, [],
 use Rattle.std.specs.Prelude.{slice_set}
 use Rattle.std.specs.List.{Contains}
 use Rattle.std.proofs.lemmas.List.{get_or_read}
-use Rattle.lf_deps.specs.Links.{waited_by}
+use Rattle.lf_deps.specs.views.Links.{waited_by}
 use Rattle.lf_deps.specs.declared.queue.Queue.{Queue}
 use Rattle.lf_deps.proofs.Settling.{freed_on, listed_on, same_none}
 use Rattle.lf_deps.proofs.queue.Queue.settle.Goals as goal

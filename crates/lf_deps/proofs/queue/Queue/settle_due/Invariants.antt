@@ -1,5 +1,5 @@
 use Rattle.std.proofs.Common.{length}
-use Rattle.lf_deps.specs.Queue.{Settles}
+use Rattle.lf_deps.specs.views.Queue.{Settles}
 use Rattle.lf_deps.proofs.queue.Queue.settle_due.Given as goal
 
 abbrev pub invariant-loop-rule : goal.invariant-loop-rule

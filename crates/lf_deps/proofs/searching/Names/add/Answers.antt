@@ -1,6 +1,6 @@
 use Rattle.std.proofs.Common.{◌∷◌, [], List, OnOk, Result, Ok, Err, sym, ◌∙◌, ap, subst}
 use Rattle.lf_ast.specs.Labels.{Bytes}
-use Rattle.lf_deps.specs.Search.{Grows, HasAll, chosen}
+use Rattle.lf_deps.specs.views.Search.{Grows, HasAll, chosen}
 use Rattle.lf_deps.proofs.Followed.{kept_in}
 use Rattle.lf_deps.proofs.searching.Names.add.Goals as goal
 

@@ -1,5 +1,5 @@
 use Rattle.std.proofs.Common.{arith}
-use Rattle.lf_deps.specs.Search.{chosen}
+use Rattle.lf_deps.specs.views.Search.{chosen}
 use Rattle.lf_deps.proofs.Followed.{grows_more, grows_none, grows_whole}
 use Rattle.lf_deps.proofs.searching.Names.add_all.Goals as goal
 

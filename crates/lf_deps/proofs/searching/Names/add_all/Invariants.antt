@@ -1,5 +1,5 @@
 use Rattle.std.proofs.Common.{take}
-use Rattle.lf_deps.specs.Search.{Grows, HasAll, chosen_all}
+use Rattle.lf_deps.specs.views.Search.{Grows, HasAll, chosen_all}
 use Rattle.lf_deps.proofs.searching.Names.add_all.Given as goal
 
 abbrev pub invariant-loop-k : goal.invariant-loop-k

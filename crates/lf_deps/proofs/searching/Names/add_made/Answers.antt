@@ -1,8 +1,8 @@
 use Rattle.std.proofs.Common.{ℕ, List, [], get_or, Option, refl, subst}
 use Rattle.std.proofs.lemmas.List.Elements.{Contains-get_or}
 use Rattle.lf_ast.specs.Labels.{Bytes}
-use Rattle.lf_deps.specs.Search.{Grows, chosen_all}
-use Rattle.lf_deps.specs.Sources.{Sources}
+use Rattle.lf_deps.specs.views.Search.{Grows, chosen_all}
+use Rattle.lf_deps.specs.views.Sources.{Sources}
 use Rattle.lf_deps.proofs.Followed.{grows_more, grows_none, grows_whole}
 use Rattle.lf_deps.proofs.searching.Names.add_made.Goals as goal
 

@@ -1,6 +1,6 @@
 use Rattle.std.proofs.Common.{take}
-use Rattle.lf_deps.specs.Index.{chosen_by}
-use Rattle.lf_deps.specs.Search.{Grows, HasAll}
+use Rattle.lf_deps.specs.views.Index.{chosen_by}
+use Rattle.lf_deps.specs.views.Search.{Grows, HasAll}
 use Rattle.lf_deps.proofs.searching.Names.add_made.Given as goal
 
 abbrev pub invariant-loop-k : goal.invariant-loop-k

@@ -1,8 +1,8 @@
 use Rattle.std.proofs.Common.{ℕ, List, OnOk, ◌∙◌, ap, subst}
 use Rattle.std.specs.List.{Contains}
-use Rattle.lf_deps.specs.Index.{chosen_by, makers_of}
-use Rattle.lf_deps.specs.Search.{Grows}
-use Rattle.lf_deps.specs.Sources.{Sources}
+use Rattle.lf_deps.specs.views.Index.{chosen_by, makers_of}
+use Rattle.lf_deps.specs.views.Search.{Grows}
+use Rattle.lf_deps.specs.views.Sources.{Sources}
 use Rattle.lf_deps.proofs.LookedUp.{makers_within}
 use Rattle.lf_deps.proofs.searching.Names.follow.Goals as goal
 

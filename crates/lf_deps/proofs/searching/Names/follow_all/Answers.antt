@@ -1,7 +1,7 @@
 use Rattle.std.proofs.Common.{[], List, get_or, arith}
 use Rattle.lf_ast.specs.Labels.{Bytes}
-use Rattle.lf_deps.specs.Index.{chosen_by, makers_of}
-use Rattle.lf_deps.specs.Sources.{Sources}
+use Rattle.lf_deps.specs.views.Index.{chosen_by, makers_of}
+use Rattle.lf_deps.specs.views.Sources.{Sources}
 use Rattle.lf_deps.proofs.Followed.{search_ends, search_goes_on}
 use Rattle.lf_deps.proofs.LookedUp.{made_from, made_to}
 use Rattle.lf_deps.proofs.searching.Names.follow_all.Goals as goal

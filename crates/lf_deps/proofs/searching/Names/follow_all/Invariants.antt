@@ -1,8 +1,8 @@
 use Rattle.std.proofs.Common.{◌-◌, ◌^◌, List, Option}
 use Rattle.lf_ast.specs.Labels.{Bytes}
 use Rattle.lf_ast.specs.Rules.{RuleTree}
-use Rattle.lf_deps.specs.Search.{HasAll, IsSearch}
-use Rattle.lf_deps.specs.Sources.{IsSourcesOf}
+use Rattle.lf_deps.specs.views.Search.{HasAll, IsSearch}
+use Rattle.lf_deps.specs.views.Sources.{IsSourcesOf}
 use Rattle.lf_deps.proofs.searching.Names.follow_all.Given as goal
 
 abbrev pub invariant-loop-next : goal.invariant-loop-next

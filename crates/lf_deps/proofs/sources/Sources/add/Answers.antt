@@ -2,9 +2,9 @@ use Rattle.std.proofs.Common.{◌≡◌, ◌∷◌, ◌++◌, [], ℕ, List, Opt
 use Rattle.std.specs.Prelude.{OnOk, Result, Ok, Err}
 use Rattle.lf_ast.specs.Labels.{Bytes}
 use Rattle.lf_ast.specs.Rules.{RuleTree, rule_tree}
-use Rattle.lf_classes.specs.Meetings.{with_text}
-use Rattle.lf_deps.specs.Makers.{with_maker}
-use Rattle.lf_deps.specs.Sources.{IsSourcesOf, Sources}
+use Rattle.lf_classes.specs.views.TextSets.{with_text}
+use Rattle.lf_deps.specs.views.Makers.{with_maker}
+use Rattle.lf_deps.specs.views.Sources.{IsSourcesOf, Sources}
 use Rattle.lf_deps.proofs.Indexed.{sources_more}
 use Rattle.lf_deps.proofs.sources.Sources.add.Goals as goal
 

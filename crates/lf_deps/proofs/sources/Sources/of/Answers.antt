@@ -2,7 +2,7 @@ use Rattle.std.proofs.Common.{◌≡◌, ℕ, List, length, take, ◌∙◌, sub
 use Rattle.std.proofs.lemmas.List.{take_all, length-take-le}
 use Rattle.lf_ast.specs.Rules.{RuleTree, rule_trees}
 use Rattle.lf_ast.specs.declared.rule.Rule.{Rule}
-use Rattle.lf_deps.specs.Sources.{IsSourcesOf}
+use Rattle.lf_deps.specs.views.Sources.{IsSourcesOf}
 use Rattle.lf_deps.proofs.Indexed.{no_sources, sources_full}
 use Rattle.lf_deps.proofs.RuleTrees.{trees_count, trees_more}
 use Rattle.lf_deps.proofs.sources.Sources.of.Goals as goal

@@ -12,7 +12,7 @@ use Rattle.lf_flow.proofs.env.Env.bottom.Goals as goal
 
 pub invariant_of-result : goal.invariant_of-result
 invariant_of-result c = record {
-  once = subst StandOnce (sym c.in_ok-names.ensures) (apart _ (first_seen_distinct (names_recorded (rule_trees c.as_slice.result.now))));
+  once = subst StandOnce (sym c.in_ok-names.ensures.names) (apart _ (first_seen_distinct (names_recorded (rule_trees c.as_slice.result.now))));
   count = sym c.len.ensures.count ∙ sym (length-replicate c.len.result (bottom c.args.universe.now)) ∙ ap length (sym c.in_ok-rows.ensures);
 }
 
@@ -21,4 +21,4 @@ returns c =
     let row = bottom c.args.universe.now in
     ap (entries c.in_ok-names.names) c.in_ok-rows.ensures
     ∙ entries_same c.in_ok-names.names c.len.result row c.len.ensures.count
-    ∙ ap (map (λ (name : Bytes). (name, row))) (c.in_ok-names.ensures ∙ ap (λ rules. recorded_names (rule_trees rules)) c.as_slice.ensures)
+    ∙ ap (map (λ (name : Bytes). (name, row))) (c.in_ok-names.ensures.names ∙ ap (λ rules. recorded_names (rule_trees rules)) c.as_slice.ensures)

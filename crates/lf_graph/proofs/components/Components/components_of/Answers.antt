@@ -1,5 +1,5 @@
 use Rattle.std.proofs.Common.{◌≡◌, ◌<◌, ℕ, List, [], length, sym, ◌∙◌, ap, subst}
-use Rattle.lf_graph.specs.Listing.{Adds, numbers_of}
+use Rattle.lf_graph.specs.views.Listing.{Adds, numbers_of}
 use Rattle.lf_graph.proofs.components.Components.components_of.Goals as goal
 
 pub add_numbers-requires : goal.add_numbers-requires

@@ -1,6 +1,6 @@
 use Rattle.std.proofs.Common.{◌<◌, ℕ, List, BTreeSet, length, map, sym, subst, arith}
 use Rattle.lf_graph.specs.Components.{AreNumbers, Components, number_of}
-use Rattle.lf_graph.specs.Listing.{AreMembers, AreNexts}
+use Rattle.lf_graph.specs.views.Listing.{AreMembers, AreNexts}
 use Rattle.lf_graph.proofs.Listed.{all_listed}
 use Rattle.lf_graph.proofs.components.Components.of.Goals as goal
 

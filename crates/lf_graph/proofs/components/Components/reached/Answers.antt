@@ -3,7 +3,7 @@ use Rattle.std.specs.List.{Contains}
 use Rattle.std.proofs.lemmas.List.{get_or-map, length-map, nil_from_length}
 use Rattle.std.proofs.lemmas.Map.Keys.{below_from_sorted}
 use Rattle.lf_graph.specs.Components.{Components}
-use Rattle.lf_graph.specs.Listing.{Adds, AddsBelow}
+use Rattle.lf_graph.specs.views.Listing.{Adds, AddsBelow}
 use Rattle.lf_graph.specs.Paths.{IsReached}
 use Rattle.lf_graph.proofs.Reaching.{IsFoundOrDue, all_found, due_within, goes_on, lower, starts, starts_within, was_due}
 use Rattle.lf_graph.proofs.components.Components.reached.Goals as goal

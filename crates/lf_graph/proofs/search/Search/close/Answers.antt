@@ -1,6 +1,6 @@
 use Rattle.std.proofs.Common.{◌≡◌, ℕ, List, length, take, drop, refl, ◌∙◌, ap, subst, arith}
 use Rattle.std.specs.List.{Contains}
-use Rattle.lf_graph.specs.Search.{IsClosing, last_part}
+use Rattle.lf_graph.specs.views.Search.{IsClosing, last_part}
 use Rattle.lf_graph.specs.declared.search.Search.{Search}
 use Rattle.lf_graph.proofs.Closing.{begin_within, closes_part, less, open_within}
 use Rattle.lf_graph.proofs.search.Search.close.Goals as goal

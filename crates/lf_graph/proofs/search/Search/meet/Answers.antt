@@ -2,7 +2,7 @@ use Rattle.std.proofs.Common.{◌≡◌, ◌++◌, ◌∷◌, [], ℕ, List, len
 use Rattle.std.specs.Prelude.{slice_set}
 use Rattle.std.proofs.lemmas.List.{get_or_read}
 use Rattle.lf_graph.specs.Paths.{after}
-use Rattle.lf_graph.specs.Search.{edges_from}
+use Rattle.lf_graph.specs.views.Search.{edges_from}
 use Rattle.lf_graph.specs.declared.search.Node.TheVariants.{Open}
 use Rattle.lf_graph.specs.declared.search.Search.{Search}
 use Rattle.lf_graph.proofs.Meeting.{less, meets}

@@ -1,5 +1,5 @@
 use Rattle.std.proofs.Common.{ℕ, []}
-use Rattle.lf_graph.specs.Search.{IsMet, IsSearch, work}
+use Rattle.lf_graph.specs.views.Search.{IsMet, IsSearch, work}
 use Rattle.lf_graph.proofs.search.Search.visit.Given as goal
 
 abbrev pub invariant-loop-self : goal.invariant-loop-self

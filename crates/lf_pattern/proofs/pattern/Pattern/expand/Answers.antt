@@ -1,9 +1,9 @@
 use Rattle.std.proofs.Common.{◌≡◌, ◌∙◌, ℕ, List, IfOk, subst, map}
-use Rattle.lf_pattern.specs.Groups.{IsFew}
-use Rattle.lf_pattern.specs.Matching.{matches, group_text}
+use Rattle.lf_pattern.specs.views.Groups.{IsFew}
+use Rattle.lf_pattern.specs.Matching.{matches}
+use Rattle.lf_pattern.specs.reading.Expansion.{expanded, expansion, group_text}
 use Rattle.lf_pattern.specs.Read.{finds, found_group}
-use Rattle.lf_pattern.specs.Replacement.{expansion, expanded}
-use Rattle.lf_pattern.specs.ReplacementScan.{bounded}
+use Rattle.lf_pattern.specs.reading.Replacement.{bounded}
 use Rattle.lf_pattern.proofs.FormLaws.{form_at, plain_matches, plain_groups, other_matches, other_groups}
 use Rattle.lf_pattern.proofs.ExpandLaws.{answer_few, answer_plain}
 use Rattle.lf_pattern.proofs.GroupLaws.{meaning_of, none_of, only_of}

@@ -3,7 +3,7 @@ use Rattle.std.specs.Prelude.{string_bytes, bytes_eq}
 use Rattle.std.specs.HashSet.{contains_text}
 use Rattle.std.proofs.lemmas.List.Folds.{list_any-append}
 use Rattle.std.proofs.lemmas.Map.Text.{hash_set_updates_text}
-use Rattle.lf_yaml.specs.Reading.{has}
+use Rattle.lf_yaml.specs.reading.Trees.{has}
 use Rattle.lf_yaml.proofs.key_set.KeySet.add.Goals as goal
 
 or-cond : (a b : Bool) → cond a true b ≡ (b || (a || false))

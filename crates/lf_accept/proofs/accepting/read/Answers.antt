@@ -1,0 +1,17 @@
+use Rattle.std.proofs.Common.{List, map, subst, sym}
+use Rattle.lf_ast.specs.Rules.{rule_trees}
+use Rattle.lf_rules.specs.Sources.{source}
+use Rattle.lf_rules.specs.declared.source.RuleSource.{RuleSource}
+use Rattle.lf_accept.specs.Accepted.{Says}
+use Rattle.lf_accept.proofs.Steps.{accepts, refuses_rule}
+use Rattle.lf_accept.proofs.accepting.read.Goals as goal
+
+pub returns-clause-found : goal.returns-clause-found
+returns-clause-found c =
+    let P : List RuleSource → Type 0 = λ ss. Says c.args.bytes.now (map source ss) in
+    accepts c.args.file c.args.bytes.now (map source c.as_slice.result.now) (subst P (sym c.as_slice.ensures) c.in_ok-sources.ensures.found) rule_trees c.rules_of.result c.rules_of.ensures.found
+
+pub returns-clause-refused : goal.returns-clause-refused
+returns-clause-refused c =
+    let P : List RuleSource → Type 0 = λ ss. Says c.args.bytes.now (map source ss) in
+    refuses_rule c.args.bytes.now (map source c.as_slice.result.now) (subst P (sym c.as_slice.ensures) c.in_ok-sources.ensures.found) c.rules_of.result c.rules_of.ensures.refused

@@ -1,0 +1,9 @@
+//! From the bytes of a file to its rules: the tree of the file, the rules that it says, and the tokens, tree, type and patterns of each expression; or the first thing
+//! that refuses the file.
+#![tactic(auto)]
+
+mod accepting;
+mod expression;
+mod rules;
+
+pub use accepting::{accept, one_file};

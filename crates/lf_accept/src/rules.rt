@@ -1,0 +1,94 @@
+//! The rules of a file, each with its expression.
+ghost use Rattle.std.specs.Prelude.{◌≡◌, ◌++◌, ◌≤◌, ℕ, map, IfOk, OnOk};
+ghost use Rattle.std.specs.List.{AllZip};
+ghost use Rattle.lf_ast.specs.declared.rule.RuleLabel.{RuleLabel};
+ghost use Rattle.lf_rules.specs.Sources.{SourcesInside, setting, source as source_of};
+ghost use Rattle.lf_base.specs.Answers.{Found, Refused, RefusedIn};
+ghost use Rattle.lf_ast.specs.Rules.{rule_tree, rule_trees};
+ghost use Rattle.lf_accept.specs.Accepted.{BreaksExpr, IsRule, label_of, template_of, templates_of as templates_in};
+ghost use Rattle.lf_accept.specs.views.Checked.{HasBreach};
+ghost use Rattle.lf_yaml.specs.Tree.{value};
+
+use crate::expression::read_expr;
+use lf_ast::{Rule, RuleLabel, Template};
+use lf_base::{Memory, Refusal, Seq};
+use lf_rules::{Pair, RuleSource};
+use std::alloc::Global;
+
+/// The rules as they stand in a file, each with its expression.
+pub fn rules_of(alloc: Global, sources: &[RuleSource], file: u32) -> Result<Seq<Rule>, Refusal>
+    ensures found { Found rule_trees (AllZip (IsRule file) (map source_of sources.now)) result }
+    ensures refused { Refused (HasBreach (map source_of sources.now)) result }
+    ensures refused_inside { (n : ℕ) → SourcesInside n (map source_of sources.now) → RefusedIn n result }
+{
+    let mut rules = Seq::new(alloc);
+    for source in sources {
+        let rule = rule_of(alloc, source, file)?;
+        rules.push(rule)?;
+    }
+    Ok(rules)
+}
+
+/// A rule as it stands in a file, with its expression.
+fn rule_of(alloc: Global, source: &RuleSource, file: u32) -> Result<Rule, Refusal>
+    ensures found { Found rule_tree (IsRule file (source_of source.now)) result }
+    ensures refused { Refused (BreaksExpr (value source.now.expr)) result }
+    ensures refused_inside { (n : ℕ) → source.now.expr.span.end ≤ n → RefusedIn n result }
+{
+    let name = source.name.text.copy()?;
+    let labels = labels_of(alloc, source.labels.as_slice())?;
+    let templates = templates_of(alloc, source)?;
+    let expr = read_expr(alloc, &source.expr)?;
+    Ok(Rule {
+        file,
+        alert: source.alert,
+        name,
+        name_span: source.name.span,
+        expr,
+        expr_span: source.expr.span,
+        labels,
+        templates,
+    })
+}
+
+/// The labels that a rule sets.
+fn labels_of(alloc: Global, pairs: &[Pair]) -> Result<Seq<RuleLabel>, Memory>
+    ensures { IfOk result (λ labels. labels ≡ map label_of (map setting pairs.now)) }
+{
+    let mut labels = Seq::new(alloc);
+    for pair in pairs {
+        let key = pair.key.text.copy()?;
+        let value = pair.value.text.copy()?;
+        labels.push(RuleLabel {
+            key,
+            key_span: pair.key.span,
+            value,
+        })?;
+    }
+    Ok(labels)
+}
+
+/// The texts of an alert's labels and then of its annotations; a recording rule has no templates.
+fn templates_of(alloc: Global, source: &RuleSource) -> Result<Seq<Template>, Memory>
+    ensures { IfOk result (λ templates. templates ≡ templates_in (source_of source.now)) }
+{
+    let mut templates = Seq::new(alloc);
+    if !source.alert {
+        return Ok(templates);
+    }
+    push_templates(&mut templates, source.labels.as_slice())?;
+    push_templates(&mut templates, source.annotations.as_slice())?;
+    Ok(templates)
+}
+
+/// Appends the text of each pair.
+fn push_templates(templates: &mut Seq<Template>, pairs: &[Pair]) -> Result<(), Memory>
+    ensures { OnOk result (templates.new ≡ templates.old ++ map template_of (map setting pairs.now)) }
+{
+    for pair in pairs {
+        let text = pair.value.text.copy()?;
+        let from = pair.value.from.copy()?;
+        templates.push(Template { text, from })?;
+    }
+    Ok(())
+}

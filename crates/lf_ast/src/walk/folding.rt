@@ -1,0 +1,69 @@
+//! Values of expressions, each made of those of its parts.
+ghost use Rattle.std.specs.Prelude.{◌≡◌, map, IfOk};
+ghost use Rattle.lf_ast.specs.Tree.{Tree, parts_of, tree};
+ghost use Rattle.lf_ast.specs.views.Walks.{chosen};
+ghost use Rattle.lf_ast.specs.declared.walk.choosing.Parts.{Parts};
+
+use crate::Expr;
+use crate::walk::choosing::{Frame, Parts, split_first};
+use lf_base::Memory;
+use std::alloc::Global;
+
+/// A value for each expression, made of those of its parts.
+pub trait Fold {
+    type Value: Drop;
+
+    /// The value of an expression.
+    ghost value: { Self → Tree → Self.Value };
+
+    /// The parts whose values it is made of.
+    ghost needed: { Self → Tree → Parts };
+
+    /// The parts of an expression whose values its own is made of.
+    fn needed(&self, expr: &Expr) -> Parts
+        ensures { result ≡ needed self.now (tree expr.now) };
+
+    /// The value of an expression from those of its parts that are needed.
+    fn step(
+        &self,
+        alloc: Global,
+        expr: &Expr,
+        values: Vec<Self::Value>,
+    ) -> Result<Self::Value, Memory>
+        requires { values.items ≡ map (value self.now) (chosen (needed self.now (tree expr.now)) (parts_of (tree expr.now))) }
+        ensures { IfOk result (λ made. made ≡ value self.now (tree expr.now)) };
+}
+
+/// The value of an expression. It calls no deeper for deep ones. Each frame notes how many values there were before those of its parts.
+pub fn fold_up<F: Fold>(alloc: Global, fold: &F, expr: &Expr) -> Result<F::Value, Memory>
+    ensures { IfOk result (λ made. made ≡ F.value fold.now (tree expr.now)) }
+{
+    let mut frames = Vec::new(alloc);
+    let mut values = Vec::new(alloc);
+    frames.push(Frame {
+        expr,
+        parts: fold.needed(expr),
+        note: 0,
+    })?;
+    while let Some(frame) = frames.pop() {
+        match split_first(frame.parts, frame.expr) {
+            Some((part, parts)) => {
+                frames.push(Frame {
+                    expr: frame.expr,
+                    parts,
+                    note: frame.note,
+                })?;
+                frames.push(Frame {
+                    expr: part,
+                    parts: fold.needed(part),
+                    note: values.len(),
+                })?;
+            }
+            None => {
+                let of_parts = values.split_off(frame.note)?;
+                values.push(fold.step(alloc, frame.expr, of_parts)?)?;
+            }
+        }
+    }
+    Ok(values.pop().unwrap())
+}

@@ -1,0 +1,5 @@
+pub mod Numbers
+pub mod Claims
+pub mod Seats
+pub mod Pieces
+pub mod views

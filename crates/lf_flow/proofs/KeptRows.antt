@@ -1,0 +1,74 @@
+-- What is kept of the parts of an expression has their rows.
+use Rattle.std.proofs.Common.{◌≡◌, ◌≤◌, ℕ, zero, suc, List, [], ◌∷◌, length, map, take, drop, Option, None, Some, refl, sym, ◌∙◌, ap, subst, arith}
+use Rattle.std.specs.Prelude.{option_to_list}
+use Rattle.lf_ast.specs.Tree.{Tree, Trees, Number, Str, Selector, Subquery, Paren, Unary, Binary, Call, Aggregate, Nil, Next, list}
+use Rattle.lf_semantics.specs.ClassRows.{HasShape}
+use Rattle.lf_semantics.specs.Environments.{IsEnvironment}
+use Rattle.lf_semantics.specs.Listing.{IsListing, Listing}
+use Rattle.lf_semantics.specs.RowTable.{Environment, row_at, row_of}
+use Rattle.lf_semantics.proofs.RowLaws.{shape_bottom}
+use Rattle.lf_semantics.proofs.Soundness.{shape_of_row}
+use Rattle.lf_flow.specs.declared.given.Given.{Given}
+use Rattle.lf_flow.specs.views.Kept.{given_of, kept_row, made_row, operand_row}
+
+module _ (u : Listing) (env : Environment) where
+  -- the row that is kept of an expression is its own
+  pub made_is : (e : Tree) → made_row u (kept_row u env e) ≡ row_of u env e
+  made_is (Number text span) = refl
+  made_is (Str text span) = refl
+  made_is (Selector name matchers sight span) = refl
+  made_is (Subquery of sight span) = refl
+  made_is (Paren of span) = refl
+  made_is (Unary minus of span) = refl
+  made_is (Binary op m left right span) = refl
+  made_is (Call name args span) = refl
+  made_is (Aggregate op grouping args span) = refl
+
+  take_none : {X : Type 0} (xs : List X) → take 0 xs ≡ []
+  take_none [] = refl
+  take_none (x ∷ xs) = refl
+
+  pub made_shape : IsListing u → IsEnvironment u env → (e : Tree) (given : Given) → given ≡ given_of u env e → HasShape u (made_row u given.row)
+  made_shape listing environment e given is =
+      let P : _ → Type 0 = λ row. HasShape u row in
+      subst P (sym (ap (λ (g : Given). made_row u g.row) is ∙ made_is e)) (shape_of_row u listing env environment e)
+
+  -- the parts of an expression
+
+  pub only_is : (g : Given) (parts : List Given) (e : Tree) → parts ≡ g ∷ [] → parts ≡ given_of u env e ∷ [] → g ≡ given_of u env e
+  only_is g parts e is own = cc
+
+  pub left_is : (g h : Given) (parts : List Given) (left right : Tree) → parts ≡ g ∷ h ∷ [] → parts ≡ given_of u env left ∷ given_of u env right ∷ [] → g ≡ given_of u env left
+  left_is g h parts left right is own = cc
+
+  pub right_is : (g h : Given) (parts : List Given) (left right : Tree) → parts ≡ g ∷ h ∷ [] → parts ≡ given_of u env left ∷ given_of u env right ∷ [] → h ≡ given_of u env right
+  right_is g h parts left right is own = cc
+
+  -- the operand among arguments
+
+  abbrev pub operands : Trees → ℕ → List Given
+  operands args k = map (given_of u env) (take 1 (drop k (list args)))
+
+  pub operand_is : (args : Trees) (k : ℕ) (o : Option Given) → operands args k ≡ option_to_list o → row_at u env args k ≡ operand_row u o
+  operand_is Nil zero None e = refl
+  operand_is Nil (suc k) None e = refl
+  operand_is Nil zero (Some g) e = absurd (cc)
+  operand_is Nil (suc k) (Some g) e = absurd (cc)
+  operand_is (Next x xs) zero None e = absurd (cc)
+  operand_is (Next x xs) zero (Some g) e = let same : given_of u env x ≡ g = cc in sym (made_is x) ∙ ap (λ (h : Given). made_row u h.row) same
+  operand_is (Next x xs) (suc k) o e = operand_is xs k o e
+
+  pub one_operand : (args : Trees) (k : ℕ) → length (operands args k) ≤ 1
+  one_operand Nil zero = omega arith
+  one_operand Nil (suc k) = omega arith
+  one_operand (Next x xs) zero = let none : length (map (given_of u env) (take 0 (list xs))) ≡ 0 = ap (λ ys. length (map (given_of u env) ys)) (take_none (list xs)) in omega (arith, none)
+  one_operand (Next x xs) (suc k) = one_operand xs k
+
+  module _ (listing : IsListing u) (environment : IsEnvironment u env) where
+    shape_at : (args : Trees) (k : ℕ) → HasShape u (row_at u env args k)
+    shape_at Nil k = shape_bottom u
+    shape_at (Next x xs) zero = shape_of_row u listing env environment x
+    shape_at (Next x xs) (suc k) = shape_at xs k
+
+    pub operand_shape : (args : Trees) (k : ℕ) (o : Option Given) → operands args k ≡ option_to_list o → HasShape u (operand_row u o)
+    operand_shape args k o e = subst (HasShape u) (operand_is args k o e) (shape_at args k)

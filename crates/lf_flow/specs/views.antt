@@ -1,0 +1,5 @@
+-- How contracts see the code's own data. It defines nothing.
+pub mod Absence
+pub mod Chosen
+pub mod ClassSets
+pub mod Kept

@@ -1,0 +1,43 @@
+-- What is kept of the parts of an expression until its own row is made: how contracts see the code. It defines nothing.
+use Rattle.std.specs.Prelude.{Option, Some, None}
+use Rattle.lf_ast.specs.Functions.{Signature, aggregation, function_named}
+use Rattle.lf_ast.specs.Tree.{Tree, Number, Call, Aggregate}
+use Rattle.lf_ast.specs.declared.walk.choosing.Parts.{Parts}
+use Rattle.lf_ast.specs.declared.walk.choosing.Parts.TheVariants.{All, Only, Nothing}
+use Rattle.lf_semantics.specs.ClassRows.{Sets, bottom}
+use Rattle.lf_semantics.specs.Listing.{Listing}
+use Rattle.lf_semantics.specs.Parts.{operand_place, type_by_form}
+use Rattle.lf_semantics.specs.RowTable.{Environment, bare_row, row_of}
+use Rattle.lf_flow.specs.declared.given.Given.{Given}
+
+-- the argument that is the operand, if there is one
+abbrev pub operand_part : Option Signature → Parts
+operand_part None = Nothing
+operand_part (Some s) = Only (operand_place s)
+
+-- the parts that the row of an expression is made of: of a call only the operand
+abbrev pub parts_needed : Tree → Parts
+parts_needed (Call name args span) = operand_part (function_named name)
+parts_needed (Aggregate op grouping args span) = operand_part (Some (aggregation op))
+parts_needed _ = All
+
+module _ (u : Listing) where
+  -- a row that isn't made yet is that of the one sample without labels
+  abbrev pub made_row : Option Sets → Sets
+  made_row None = bare_row u
+  made_row (Some row) = row
+
+  -- the row of an operand, and the empty row where there is none
+  abbrev pub operand_row : Option Given → Sets
+  operand_row None = bottom u
+  operand_row (Some given) = made_row given.row
+
+  module _ (env : Environment) where
+    -- the row of a number isn't made
+    abbrev pub kept_row : Tree → Option Sets
+    kept_row (Number text span) = None
+    kept_row e = Some (row_of u env e)
+
+    -- what is told of an expression: its row, and the type that its form tells
+    abbrev pub given_of : Tree → Given
+    given_of e = record { row = kept_row e; form = type_by_form e }

@@ -1,5 +1,0 @@
-use Rattle.lf_lint.proofs.OneFile.{one_file}
-use Rattle.lf_lint.proofs.accepting.one_file.Goals as goal
-
-pub returns : goal.returns
-returns c = one_file

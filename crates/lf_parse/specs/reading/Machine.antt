@@ -1,0 +1,475 @@
+-- The parser as a machine that takes one token at a time. It is a way of reading, and defines nothing: the laws in proofs/ say that it takes what the grammar
+-- derives, and gives its tree.
+use Rattle.std.specs.Prelude.{ℕ, ◌+◌, Result, Ok, Err, Bool, true, false, nat_le, if◌then◌else◌, List, [], ◌∷◌, ◌++◌, Option, Some, None, option_and_then}
+use Rattle.lf_base.specs.declared.place.Span.{Span}
+use Rattle.lf_ast.specs.declared.expr.Agg.{Agg}
+use Rattle.lf_ast.specs.declared.expr.Group.TheVariants as group_of
+use Rattle.lf_ast.specs.declared.expr.Grouping.{Grouping as GroupingOf}
+use Rattle.lf_ast.specs.declared.expr.Grouping.TheVariants as grouping_of
+use Rattle.lf_ast.specs.declared.expr.MatchOp.{MatchOp}
+use Rattle.lf_ast.specs.declared.expr.Matcher.{Matcher}
+use Rattle.lf_ast.specs.declared.expr.Matching.{Matching as MatchingOf}
+use Rattle.lf_ast.specs.declared.expr.Name.{Name as NameOf}
+use Rattle.lf_ast.specs.declared.expr.Op.{Op}
+use Rattle.lf_ast.specs.declared.expr.Sight.{Sight}
+use Rattle.lf_lex.specs.declared.token.Sign.TheVariants.{OpenParen, CloseParen, OpenBrace, CloseBrace, OpenBracket, CloseBracket, Comma, Colon, Plus, Minus, At as AtSign}
+use Rattle.lf_parse.specs.declared.class.Class.TheVariants.{Plain, Edge, Numeric, Aggregation, Grouping, Matching, Group, Offset, Bool as BoolWord}
+use Rattle.lf_parse.specs.declared.class.Edge.{Edge as EdgeOf}
+use Rattle.lf_parse.specs.declared.class.Clause.{Clause}
+use Rattle.lf_parse.specs.declared.class.Scope.{Scope}
+use Rattle.lf_parse.specs.declared.class.Side.{Side}
+use Rattle.lf_parse.specs.Tokens.{Word, Metric, Num, Dur, Quoted, Sign, Tok, ◌at◌, op_of}
+use Rattle.lf_ast.specs.Tree.{Tree, Number, Str, Selector, Subquery, Paren, Unary, Binary, Call, Aggregate, Trees, Nil, span_of, with_last}
+use Rattle.lf_parse.specs.Grammar.{to, up_to, behind, name, matched, unmatched, many_of, matcher, match_of, blank, ranged, stepped, edge_text, Mod, OffsetBy, AtTime, with_mod, grouping, level, left_level}
+
+-- what a part does with a token: it goes on, is done with it, was done before it, or can't take it
+pub data Step (S V : Type 0) : Type 0 where
+  More : S → Step S V
+  Done : V → Step S V
+  DoneBefore : V → Step S V
+  Reject : Step S V
+
+-- ---- a list of labels in parentheses
+
+pub data Names : Type 0 where
+  -- its `(` comes
+  Opening : Names
+  -- a label or the `)` comes
+  NextName : List NameOf → Names
+  -- a `,` or the `)` comes
+  AfterName : List NameOf → Names
+
+abbrev pub names_step : Names → Tok → Step Names (List NameOf × Span)
+names_step Opening (Sign OpenParen at p) = More (NextName [])
+names_step Opening (m at p) = Reject
+names_step (NextName xs) (Word c w at p) = More (AfterName (xs ++ name w p ∷ []))
+names_step (NextName xs) (Sign CloseParen at p) = Done (xs, p)
+names_step (NextName xs) (m at p) = Reject
+names_step (AfterName xs) (Sign Comma at p) = More (NextName xs)
+names_step (AfterName xs) (Sign CloseParen at p) = Done (xs, p)
+names_step (AfterName xs) (m at p) = Reject
+
+-- ---- matchers behind a `{`
+
+pub data Braces : Type 0 where
+  -- a label or the `}` comes
+  NextMatcher : List Matcher → Braces
+  -- a match sign comes
+  AfterLabel : List Matcher → NameOf → Braces
+  -- a string comes
+  AfterSign : List Matcher → NameOf → MatchOp → Braces
+  -- a `,` or the `}` comes
+  AfterMatcher : List Matcher → Braces
+
+abbrev pub compared : List Matcher → NameOf → Option MatchOp → Step Braces (List Matcher × Span)
+compared xs n (Some o) = More (AfterSign xs n o)
+compared xs n None = Reject
+
+abbrev pub braces_step : Braces → Tok → Step Braces (List Matcher × Span)
+braces_step (NextMatcher xs) (Word c w at p) = More (AfterLabel xs (name w p))
+braces_step (NextMatcher xs) (Sign CloseBrace at p) = Done (xs, p)
+braces_step (NextMatcher xs) (m at p) = Reject
+braces_step (AfterLabel xs n) (Sign s at p) = compared xs n (match_of s)
+braces_step (AfterLabel xs n) (m at p) = Reject
+braces_step (AfterSign xs n o) (Quoted v at p) = More (AfterMatcher (xs ++ matcher n o v p ∷ []))
+braces_step (AfterSign xs n o) (m at p) = Reject
+braces_step (AfterMatcher xs) (Sign Comma at p) = More (NextMatcher xs)
+braces_step (AfterMatcher xs) (Sign CloseBrace at p) = Done (xs, p)
+braces_step (AfterMatcher xs) (m at p) = Reject
+
+-- ---- the modifier of an operator
+
+-- A modifier with `bool` or without, its first token's span, and whether it says `on` or `ignoring`.
+pub record Front : Type 0 where
+  pub with_bool : Bool
+  pub first : Span
+  pub scope : Scope
+
+pub data Stage : Type 0 where
+  -- behind the operator
+  Begin : Stage
+  -- behind `bool`
+  AfterBool : Span → Stage
+  -- behind `on` or `ignoring`
+  InLabels : Front → Names → Stage
+  AfterLabels : Front → List NameOf → Span → Stage
+  -- behind the group modifier
+  AfterGroup : Front → List NameOf → Side → Span → Stage
+  InInclude : Front → List NameOf → Side → Names → Stage
+
+abbrev pub front : Bool → Span → Scope → Front
+front b p k = record { with_bool = b; first = p; scope = k }
+
+abbrev pub modifier : Front → List NameOf → Span → MatchingOf
+modifier f xs c = matched f.with_bool f.scope xs group_of.One [] (to f.first c)
+
+abbrev pub group_modifier : Front → List NameOf → Side → List NameOf → Span → MatchingOf
+group_modifier f xs s ys c = matched f.with_bool f.scope xs (many_of s) ys (to f.first c)
+
+abbrev pub in_labels : Front → Step Names (List NameOf × Span) → Step Stage MatchingOf
+in_labels f (More n) = More (InLabels f n)
+in_labels f (Done (xs, c)) = More (AfterLabels f xs c)
+in_labels f _ = Reject
+
+abbrev pub in_include : Front → List NameOf → Side → Step Names (List NameOf × Span) → Step Stage MatchingOf
+in_include f xs s (More n) = More (InInclude f xs s n)
+in_include f xs s (Done (ys, c)) = Done (group_modifier f xs s ys c)
+in_include f xs s _ = Reject
+
+-- a token behind an operator with a span
+abbrev pub stage_step : Span → Stage → Tok → Step Stage MatchingOf
+stage_step o Begin (Word BoolWord w at p) = More (AfterBool p)
+stage_step o Begin (Word (Matching k) w at p) = More (InLabels (front false p k) Opening)
+stage_step o Begin t = DoneBefore (unmatched false (behind o))
+stage_step o (AfterBool b) (Word (Matching k) w at p) = More (InLabels (front true b k) Opening)
+stage_step o (AfterBool b) t = DoneBefore (unmatched true b)
+stage_step o (InLabels f n) t = in_labels f (names_step n t)
+stage_step o (AfterLabels f xs c) (Word (Group s) w at p) = More (AfterGroup f xs s p)
+stage_step o (AfterLabels f xs c) t = DoneBefore (modifier f xs c)
+stage_step o (AfterGroup f xs s q) (Sign OpenParen at p) = More (InInclude f xs s (NextName []))
+stage_step o (AfterGroup f xs s q) t = DoneBefore (group_modifier f xs s [] q)
+stage_step o (InInclude f xs s n) t = in_include f xs s (names_step n t)
+
+-- ---- an offset or a time
+
+pub data Part : Type 0 where
+  AfterOffset : Part
+  AfterOffsetMinus : Part
+  AfterAt : Part
+  -- behind the `+` or `-` of a time, a byte
+  AfterAtSign : ℕ → Part
+  AfterEdge : EdgeOf → Part
+  InEdge : EdgeOf → Part
+
+abbrev pub part_step : Part → Tok → Step Part (Mod × ℕ)
+part_step AfterOffset (Dur d at p) = Done (OffsetBy d, p.end)
+part_step AfterOffset (Sign Minus at p) = More AfterOffsetMinus
+part_step AfterOffset (m at p) = Reject
+part_step AfterOffsetMinus (Dur d at p) = Done (OffsetBy (45 ∷ d), p.end)
+part_step AfterOffsetMinus (m at p) = Reject
+part_step AfterAt (Num x at p) = Done (AtTime x, p.end)
+part_step AfterAt (Sign Plus at p) = More (AfterAtSign 43)
+part_step AfterAt (Sign Minus at p) = More (AfterAtSign 45)
+part_step AfterAt (Word (Edge e) w at p) = More (AfterEdge e)
+part_step AfterAt (m at p) = Reject
+part_step (AfterAtSign b) (Num x at p) = Done (AtTime (b ∷ x), p.end)
+part_step (AfterAtSign b) (m at p) = Reject
+part_step (AfterEdge e) (Sign OpenParen at p) = More (InEdge e)
+part_step (AfterEdge e) (m at p) = Reject
+part_step (InEdge e) (Sign CloseParen at p) = Done (AtTime (edge_text e), p.end)
+part_step (InEdge e) (m at p) = Reject
+
+-- ---- the machine
+
+-- whose arguments they are: a function's, an aggregation's, or those of one whose grouping came before
+pub data Head : Type 0 where
+  OfCall : List ℕ → Span → Head
+  OfAggregate : Agg → Span → Head
+  OfGrouped : Agg → GroupingOf → Span → Head
+
+-- a frame of the stack: what was begun and is not at its end
+pub data Frame : Type 0 where
+  -- an operator, its place and modifier, and its left operand
+  LeftOf : Op → Span → MatchingOf → Tree → Frame
+  -- a sign before an operand: a minus sign, or else a plus sign
+  Signed : Bool → Span → Frame
+  InParen : Span → Frame
+  -- arguments that have a comma behind them
+  InArgs : Head → Trees → Frame
+
+-- what modifiers come to
+pub data Subject : Type 0 where
+  OfSelector : Option (List ℕ) → List Matcher → Subject
+  OfSubquery : Tree → Subject
+
+-- an operand
+pub data Operand : Type 0 where
+  -- one to which only a bracket comes, and the offset of its end
+  Whole : Tree → ℕ → Operand
+  -- a word alone
+  Bare : List ℕ → Span → Operand
+  -- a selector with braces
+  Selected : Option (List ℕ) → List Matcher → Span → Operand
+  -- an aggregation without a grouping
+  Aggregated : Agg → Trees → Span → ℕ → Operand
+  -- a selector or a subquery with a range or modifiers
+  Seen : Subject → Sight → Span → ℕ → Operand
+
+abbrev pub subject_tree : Subject → Sight → Span → Tree
+subject_tree (OfSelector nm ms) s p = Selector nm ms s p
+subject_tree (OfSubquery e) s p = Subquery e s p
+
+abbrev pub operand_tree : Operand → Tree
+operand_tree (Whole e n) = e
+operand_tree (Bare w p) = Selector (Some w) [] (blank p) p
+operand_tree (Selected nm ms p) = Selector nm ms (blank p) p
+operand_tree (Aggregated a xs p n) = Aggregate a grouping_of.None xs p
+operand_tree (Seen x s p n) = subject_tree x s p
+
+abbrev pub operand_end : Operand → ℕ
+operand_end (Whole e n) = n
+operand_end (Bare w p) = p.end
+operand_end (Selected nm ms p) = p.end
+operand_end (Aggregated a xs p n) = n
+operand_end (Seen x s p n) = n
+
+-- what is expected next, by what was read last
+pub data Mode : Type 0 where
+  -- an operand
+  ExpectOperand : Mode
+  -- the first argument or `)`
+  First : Head → Mode
+  -- an operator, or what else may stand behind an operand
+  ExpectOperator : Operand → Mode
+  Modifying : Op → Span → Tree → Stage → Mode
+  -- inside the braces of a selector that began with a span
+  InBraces : Option (List ℕ) → Span → Braces → Mode
+  InMod : Subject → Sight → Span → Part → Mode
+  -- behind `[`, behind the duration, behind `:`, behind the step
+  AfterBracket : Operand → Mode
+  AfterRange : Operand → List ℕ → Span → Mode
+  AfterColon : Tree → List ℕ → Span → Mode
+  AfterStep : Tree → List ℕ → Span → List ℕ → Mode
+  -- behind the name of an aggregation
+  AfterAggregation : Agg → Span → Mode
+  -- in the labels of a grouping before the arguments, and behind them
+  InGrouping : Agg → Span → Clause → Names → Mode
+  AfterGrouping : Agg → Span → GroupingOf → Mode
+  -- in the labels of a grouping behind the arguments
+  InGroupingBehind : Agg → Span → Trees → Clause → Names → Mode
+
+pub record State : Type 0 where
+  pub frames : List Frame
+  pub mode : Mode
+
+-- an operand, and the frames below it
+pub record Held : Type 0 where
+  pub frames : List Frame
+  pub tree : Tree
+
+abbrev pub state : List Frame → Mode → State
+state fs m = record { frames = fs; mode = m }
+
+abbrev pub held : List Frame → Tree → Held
+held fs e = record { frames = fs; tree = e }
+
+-- makes trees of the operators from level l on, whose last token ends at n
+abbrev pub reduce : ℕ → ℕ → List Frame → Tree → Held
+reduce l n [] e = held [] e
+reduce l n (LeftOf o p m a ∷ fs) e = if nat_le l (level o) then reduce l n fs (Binary o m a e p) else held (LeftOf o p m a ∷ fs) e
+reduce l n (Signed minus p ∷ fs) e = if nat_le l 6 then reduce l n fs (Unary minus e (up_to p n)) else held (Signed minus p ∷ fs) e
+reduce l n (InParen p ∷ fs) e = held (InParen p ∷ fs) e
+reduce l n (InArgs h xs ∷ fs) e = held (InArgs h xs ∷ fs) e
+
+abbrev pub operand_read : List Frame → Operand → Option State
+operand_read fs x = Some (state fs (ExpectOperator x))
+
+-- a call or an aggregation with its arguments, whose `)` has a span
+abbrev pub applied : Head → Trees → Span → Operand
+applied (OfCall w p) xs c = Whole (Call w xs p) c.end
+applied (OfAggregate a p) xs c = Aggregated a xs p c.end
+applied (OfGrouped a g p) xs c = Whole (Aggregate a g xs p) c.end
+
+abbrev pub close : Span → List Frame → Tree → Option State
+close c (InParen o ∷ fs) e = operand_read fs (Whole (Paren e (to o c)) c.end)
+close c (InArgs h xs ∷ fs) e = operand_read fs (applied h (with_last xs e) c)
+close c _ e = None
+
+abbrev pub comma : List Frame → Tree → Option State
+comma (InArgs h xs ∷ fs) e = Some (state (InArgs h (with_last xs e) ∷ fs) ExpectOperand)
+comma _ e = None
+
+abbrev pub ended : List Frame → Tree → Option Tree
+ended [] e = Some e
+ended _ e = None
+
+abbrev pub operator : Op → Span → Held → Option State
+operator o p h = Some (state h.frames (Modifying o p h.tree Begin))
+
+abbrev pub joined : List Frame → Tree → ℕ → Span → Option Op → Option State
+joined fs e n p None = None
+joined fs e n p (Some o) = operator o p (reduce (left_level o) n fs e)
+
+-- after an operand whose last token ends at n
+abbrev pub after : List Frame → Tree → ℕ → Tok → Option State
+after fs e n (Sign CloseParen at p) = close p (reduce 1 n fs e).frames (reduce 1 n fs e).tree
+after fs e n (Sign Comma at p) = comma (reduce 1 n fs e).frames (reduce 1 n fs e).tree
+after fs e n (m at p) = joined fs e n p (op_of m)
+
+-- where an operand is expected
+abbrev pub expect_operand : List Frame → Tok → Option State
+expect_operand fs (Num x at p) = operand_read fs (Whole (Number x p) p.end)
+expect_operand fs (Word Numeric w at p) = operand_read fs (Whole (Number w p) p.end)
+expect_operand fs (Quoted x at p) = operand_read fs (Whole (Str x p) p.end)
+expect_operand fs (Word Plain w at p) = operand_read fs (Bare w p)
+expect_operand fs (Word (Edge e) w at p) = operand_read fs (Bare w p)
+expect_operand fs (Metric w at p) = operand_read fs (Bare w p)
+expect_operand fs (Word (Aggregation a) w at p) = Some (state fs (AfterAggregation a p))
+expect_operand fs (Sign OpenBrace at p) = Some (state fs (InBraces None p (NextMatcher [])))
+expect_operand fs (Sign OpenParen at p) = Some (state (InParen p ∷ fs) ExpectOperand)
+expect_operand fs (Sign Plus at p) = Some (state (Signed false p ∷ fs) ExpectOperand)
+expect_operand fs (Sign Minus at p) = Some (state (Signed true p ∷ fs) ExpectOperand)
+expect_operand fs _ = None
+
+abbrev pub room : {A : Type 0} → Option A → State → Option State
+room None s = Some s
+room (Some x) s = None
+
+abbrev pub whole_step : List Frame → Tree → ℕ → Tok → Option State
+whole_step fs e n (Sign OpenBracket at o) = Some (state fs (AfterBracket (Whole e n)))
+whole_step fs e n t = after fs e n t
+
+abbrev pub bare_step : List Frame → List ℕ → Span → Tok → Option State
+bare_step fs w p (Sign OpenBracket at o) = Some (state fs (AfterBracket (Bare w p)))
+bare_step fs w p (Sign OpenParen at o) = Some (state fs (First (OfCall w p)))
+bare_step fs w p (Sign OpenBrace at o) = Some (state fs (InBraces (Some w) p (NextMatcher [])))
+bare_step fs w p (Word Offset v at q) = Some (state fs (InMod (OfSelector (Some w) []) (blank p) p AfterOffset))
+bare_step fs w p (Sign AtSign at q) = Some (state fs (InMod (OfSelector (Some w) []) (blank p) p AfterAt))
+bare_step fs w p t = after fs (Selector (Some w) [] (blank p) p) p.end t
+
+abbrev pub selected_step : List Frame → Option (List ℕ) → List Matcher → Span → Tok → Option State
+selected_step fs nm ms p (Sign OpenBracket at o) = Some (state fs (AfterBracket (Selected nm ms p)))
+selected_step fs nm ms p (Word Offset v at q) = Some (state fs (InMod (OfSelector nm ms) (blank p) p AfterOffset))
+selected_step fs nm ms p (Sign AtSign at q) = Some (state fs (InMod (OfSelector nm ms) (blank p) p AfterAt))
+selected_step fs nm ms p t = after fs (Selector nm ms (blank p) p) p.end t
+
+abbrev pub aggregated_step : List Frame → Agg → Trees → Span → ℕ → Tok → Option State
+aggregated_step fs a xs p n (Sign OpenBracket at o) = Some (state fs (AfterBracket (Aggregated a xs p n)))
+aggregated_step fs a xs p n (Word (Grouping k) v at q) = Some (state fs (InGroupingBehind a p xs k Opening))
+aggregated_step fs a xs p n t = after fs (Aggregate a grouping_of.None xs p) n t
+
+abbrev pub seen_step : List Frame → Subject → Sight → Span → ℕ → Tok → Option State
+seen_step fs x s p n (Sign OpenBracket at o) = Some (state fs (AfterBracket (Seen x s p n)))
+seen_step fs x s p n (Word Offset v at q) = room s.offset (state fs (InMod x s p AfterOffset))
+seen_step fs x s p n (Sign AtSign at q) = room s.at (state fs (InMod x s p AfterAt))
+seen_step fs x s p n t = after fs (subject_tree x s p) n t
+
+abbrev pub expect_operator : List Frame → Operand → Tok → Option State
+expect_operator fs (Whole e n) t = whole_step fs e n t
+expect_operator fs (Bare w p) t = bare_step fs w p t
+expect_operator fs (Selected nm ms p) t = selected_step fs nm ms p t
+expect_operator fs (Aggregated a xs p n) t = aggregated_step fs a xs p n t
+expect_operator fs (Seen x s p n) t = seen_step fs x s p n t
+
+abbrev pub first : List Frame → Head → Tok → Option State
+first fs h (Sign CloseParen at c) = operand_read fs (applied h Nil c)
+first fs h t = expect_operand (InArgs h Nil ∷ fs) t
+
+abbrev pub modified : List Frame → Op → Span → Tree → Tok → Step Stage MatchingOf → Option State
+modified fs o p a t (More st) = Some (state fs (Modifying o p a st))
+modified fs o p a t (Done m) = Some (state (LeftOf o p m a ∷ fs) ExpectOperand)
+modified fs o p a t (DoneBefore m) = expect_operand (LeftOf o p m a ∷ fs) t
+modified fs o p a t Reject = None
+
+abbrev pub in_braces : List Frame → Option (List ℕ) → Span → Step Braces (List Matcher × Span) → Option State
+in_braces fs nm p (More b) = Some (state fs (InBraces nm p b))
+in_braces fs nm p (Done (ms, c)) = operand_read fs (Selected nm ms (to p c))
+in_braces fs nm p _ = None
+
+abbrev pub in_mod : List Frame → Subject → Sight → Span → Step Part (Mod × ℕ) → Option State
+in_mod fs x s p (More part) = Some (state fs (InMod x s p part))
+in_mod fs x s p (Done (m, n)) = operand_read fs (Seen x (with_mod s m) p n)
+in_mod fs x s p _ = None
+
+abbrev pub after_bracket : List Frame → Operand → Tok → Option State
+after_bracket fs x (Dur d at q) = Some (state fs (AfterRange x d q))
+after_bracket fs x _ = None
+
+abbrev pub range_of : List Frame → Operand → List ℕ → Span → Span → Option State
+range_of fs (Bare w p) d q c = operand_read fs (Seen (OfSelector (Some w) []) (ranged d q) (to p c) c.end)
+range_of fs (Selected nm ms p) d q c = operand_read fs (Seen (OfSelector nm ms) (ranged d q) (to p c) c.end)
+range_of fs _ d q c = None
+
+abbrev pub after_range : List Frame → Operand → List ℕ → Span → Tok → Option State
+after_range fs x d q (Sign CloseBracket at c) = range_of fs x d q c
+after_range fs x d q (Sign Colon at k) = Some (state fs (AfterColon (operand_tree x) d q))
+after_range fs x d q _ = None
+
+abbrev pub subquery_of : List Frame → Tree → List ℕ → Span → Option (List ℕ) → Span → Option State
+subquery_of fs e d q x c = operand_read fs (Seen (OfSubquery e) (stepped d q x) (to (span_of e) c) c.end)
+
+abbrev pub after_colon : List Frame → Tree → List ℕ → Span → Tok → Option State
+after_colon fs e d q (Dur x at p) = Some (state fs (AfterStep e d q x))
+after_colon fs e d q (Sign CloseBracket at c) = subquery_of fs e d q None c
+after_colon fs e d q _ = None
+
+abbrev pub after_step : List Frame → Tree → List ℕ → Span → List ℕ → Tok → Option State
+after_step fs e d q x (Sign CloseBracket at c) = subquery_of fs e d q (Some x) c
+after_step fs e d q x _ = None
+
+abbrev pub after_aggregation : List Frame → Agg → Span → Tok → Option State
+after_aggregation fs a p (Sign OpenParen at o) = Some (state fs (First (OfAggregate a p)))
+after_aggregation fs a p (Word (Grouping k) w at q) = Some (state fs (InGrouping a p k Opening))
+after_aggregation fs a p _ = None
+
+abbrev pub in_grouping : List Frame → Agg → Span → Clause → Step Names (List NameOf × Span) → Option State
+in_grouping fs a p k (More n) = Some (state fs (InGrouping a p k n))
+in_grouping fs a p k (Done (xs, c)) = Some (state fs (AfterGrouping a p (grouping k xs)))
+in_grouping fs a p k _ = None
+
+abbrev pub after_grouping : List Frame → Agg → Span → GroupingOf → Tok → Option State
+after_grouping fs a p g (Sign OpenParen at o) = Some (state fs (First (OfGrouped a g p)))
+after_grouping fs a p g _ = None
+
+abbrev pub in_grouping_behind : List Frame → Agg → Span → Trees → Clause → Step Names (List NameOf × Span) → Option State
+in_grouping_behind fs a p xs k (More n) = Some (state fs (InGroupingBehind a p xs k n))
+in_grouping_behind fs a p xs k (Done (ys, c)) = operand_read fs (Whole (Aggregate a (grouping k ys) xs p) c.end)
+in_grouping_behind fs a p xs k _ = None
+
+abbrev pub step_in : List Frame → Mode → Tok → Option State
+step_in fs ExpectOperand t = expect_operand fs t
+step_in fs (First h) t = first fs h t
+step_in fs (ExpectOperator x) t = expect_operator fs x t
+step_in fs (Modifying o p a st) t = modified fs o p a t (stage_step p st t)
+step_in fs (InBraces nm p b) t = in_braces fs nm p (braces_step b t)
+step_in fs (InMod x s p part) t = in_mod fs x s p (part_step part t)
+step_in fs (AfterBracket x) t = after_bracket fs x t
+step_in fs (AfterRange x d q) t = after_range fs x d q t
+step_in fs (AfterColon e d q) t = after_colon fs e d q t
+step_in fs (AfterStep e d q x) t = after_step fs e d q x t
+step_in fs (AfterAggregation a p) t = after_aggregation fs a p t
+step_in fs (InGrouping a p k n) t = in_grouping fs a p k (names_step n t)
+step_in fs (AfterGrouping a p g) t = after_grouping fs a p g t
+step_in fs (InGroupingBehind a p xs k n) t = in_grouping_behind fs a p xs k (names_step n t)
+
+abbrev pub step : State → Tok → Option State
+step s t = step_in s.frames s.mode t
+
+-- the operand that was read last, if one was
+abbrev pub operand_of : Mode → Option Operand
+operand_of (ExpectOperator x) = Some x
+operand_of _ = None
+
+abbrev pub finish_operand : List Frame → Option Operand → Option Tree
+finish_operand fs None = None
+finish_operand fs (Some x) = ended (reduce 1 (operand_end x) fs (operand_tree x)).frames (reduce 1 (operand_end x) fs (operand_tree x)).tree
+
+abbrev pub finish_in : List Frame → Mode → Option Tree
+finish_in fs m = finish_operand fs (operand_of m)
+
+abbrev pub finish : State → Option Tree
+finish s = finish_in s.frames s.mode
+
+abbrev pub start : State
+start = state [] ExpectOperand
+
+abbrev pub run : State → List Tok → Option State
+run s [] = Some s
+run s (t ∷ ts) = option_and_then (λ s'. run s' ts) (step s t)
+
+abbrev pub accept : State → List Tok → Option Tree
+accept s [] = finish s
+accept s (t ∷ ts) = option_and_then (λ s'. accept s' ts) (step s t)
+
+-- an end where there has to be one, or the place where no expression goes on
+abbrev pub at_end : ℕ → Option Tree → Result Tree ℕ
+at_end k None = Err k
+at_end k (Some e) = Ok e
+
+-- the tree of tokens that stand from place k on, or the place where no expression goes on
+abbrev pub reading_from : ℕ → State → List Tok → Result Tree ℕ
+reading_from k s [] = at_end k (finish s)
+reading_from k s (t ∷ ts) = elim (step s t) [ None ↦ Err k | Some s' ↦ reading_from (k + 1) s' ts ]
+
+abbrev pub reading : List Tok → Result Tree ℕ
+reading ts = reading_from 0 start ts

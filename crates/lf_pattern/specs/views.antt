@@ -1,0 +1,3 @@
+-- How contracts see the data of the code. They define nothing.
+pub mod Form
+pub mod Groups

@@ -1,0 +1,33 @@
+-- What a text is after several pieces were appended in turn.
+use Rattle.std.proofs.Common.{◌≡◌, ℕ, List, [], ◌∷◌, ◌++◌, ap, ◌∙◌, append_assoc, sym}
+use Rattle.std.proofs.lemmas.List.Concat.{flat_map-append}
+use Rattle.lf_ast.specs.Labels.{Bytes}
+use Rattle.lf_report.specs.Report.{lines_text}
+
+-- two pieces
+pub appended_two : (start one two : List ℕ) {first second : List ℕ} → first ≡ start ++ one → second ≡ first ++ two → second ≡ start ++ (one ++ two)
+appended_two start one two e f = f ∙ ap (λ l. l ++ two) e ∙ append_assoc start one two
+
+-- three pieces
+pub appended_three : (start one two three : List ℕ) {first second third : List ℕ} → first ≡ start ++ one → second ≡ first ++ two → third ≡ second ++ three
+    → third ≡ start ++ (one ++ two ++ three)
+appended_three start one two three e f g = appended_two start (one ++ two) three (appended_two start one two e f) g
+
+-- two groups of lines
+pub appended_lines : (start : Bytes) (one two : List Bytes) {first second : Bytes} → first ≡ start ++ lines_text one → second ≡ first ++ lines_text two → second ≡ start ++ lines_text (one ++ two)
+appended_lines start one two e f =
+    appended_two start (lines_text one) (lines_text two) e f ∙ ap (λ l. start ++ l) (sym (flat_map-append (λ line. line ++ 10 ∷ []) one two))
+
+-- the same, from no text on
+pub built_two : (one two : List Bytes) {start first second : Bytes} → start ≡ [] → first ≡ start ++ lines_text one → second ≡ first ++ lines_text two → second ≡ lines_text (one ++ two)
+built_two one two n e f = f ∙ ap (λ l. l ++ lines_text two) (e ∙ ap (λ l. l ++ lines_text one) n) ∙ sym (flat_map-append (λ line. line ++ 10 ∷ []) one two)
+
+-- one more group of lines
+pub built_more : (some more : List Bytes) {before now : Bytes} → before ≡ lines_text some → now ≡ before ++ lines_text more → now ≡ lines_text (some ++ more)
+built_more some more e f = f ∙ ap (λ l. l ++ lines_text more) e ∙ sym (flat_map-append (λ line. line ++ 10 ∷ []) some more)
+
+-- a report of lines and two totals
+pub built_report : (total verdicts : Bytes) (lines : List Bytes) {start first second third : Bytes} → start ≡ [] → first ≡ start ++ lines_text lines
+    → second ≡ first ++ lines_text (total ∷ []) → third ≡ second ++ lines_text (verdicts ∷ []) → third ≡ lines_text (lines ++ total ∷ verdicts ∷ [])
+built_report total verdicts lines n e f g =
+    built_more (lines ++ total ∷ []) (verdicts ∷ []) (built_two lines (total ∷ []) n e f) g ∙ ap lines_text (append_assoc lines (total ∷ []) (verdicts ∷ []))

@@ -1,0 +1,11 @@
+pub mod Appends
+pub mod LabelLines
+pub mod LabelTexts
+pub mod OneFound
+pub mod OneLeast
+pub mod Reports
+pub mod SeenRules
+pub mod ShownNames
+pub mod Spotted
+pub mod Universes
+pub mod Worked

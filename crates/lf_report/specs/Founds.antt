@@ -1,0 +1,81 @@
+-- What stands in a file: its rules, or what refuses it; and which limits rules may pass.
+use Rattle.std.specs.Prelude.{◌≡◌, ◌<◌, ◌≤◌, ℕ, ◌+◌, ◌*◌, ◌/◌, Bool, true, false, List, length, ◌⊎◌}
+use Rattle.lf_ast.specs.Labels.{Bytes}
+use Rattle.lf_base.specs.Faults.{fault}
+use Rattle.lf_base.specs.declared.kind.Kind.{Kind}
+use Rattle.lf_base.specs.declared.place.Span.{Span}
+use Rattle.lf_ast.specs.Rules.{RuleTree, rule_trees}
+use Rattle.lf_classes.specs.Limits.{most_classes, most_labels}
+use Rattle.lf_semantics.specs.Environments.{recorded_names}
+use Rattle.lf_semantics.specs.Listing.{class_count, label_count, universe_of}
+use Rattle.lf_report.specs.declared.found.Found.{Found}
+use Rattle.lf_report.specs.declared.found.Found.TheVariants as found_of
+use Rattle.lf_report.specs.declared.judge_end.JudgeEnd.{JudgeEnd}
+use Rattle.lf_report.specs.declared.judge_end.JudgeEnd.TheVariants.{Memory, Limit}
+use Rattle.lf_accept.specs.Accepted.{IsAccepted, RefusesFile}
+
+-- what stands in a file: rules, in its order, or a breach by which it is refused
+pub data Content : Type 0 where
+  Rules : List RuleTree → Content
+  Refused : Kind → Span → Content
+
+-- what the code found, without the addresses that its boxes have
+abbrev pub content : Found → Content
+content (found_of.Rules rules) = Rules (rule_trees rules)
+content (found_of.Refused kind span) = Refused kind span
+
+-- the file is accepted with these rules, or it is refused there
+abbrev pub Holds : Bytes → Content → Type 0
+Holds bytes (Rules rules) = IsAccepted bytes 0 rules
+Holds bytes (Refused kind span) = RefusesFile bytes (fault kind span)
+
+abbrev pub is_refused : Content → Bool
+is_refused (Rules rules) = false
+is_refused (Refused kind span) = true
+
+-- limits
+
+-- the most rules that may be accepted
+abbrev pub most_rules : ℕ
+most_rules = 20000
+
+-- the most words of 64 classes that the rows of all recorded names may have
+abbrev pub most_words : ℕ
+most_words = 4194304
+
+-- the words of the rows of all recorded names
+abbrev pub word_count : List RuleTree → ℕ
+word_count rules = length (recorded_names rules) * ((class_count (universe_of rules) + 63) / 64)
+
+-- the rules pass no limit: on their number, on the labels of their universe, on the classes of these labels, and on the words of rows
+pub record AreWithin (rules : List RuleTree) : Type 0 where
+  pub rules_fit : length rules ≤ most_rules
+  pub labels_fit : label_count (universe_of rules) ≤ most_labels
+  pub classes_fit : class_count (universe_of rules) ≤ most_classes
+  pub words_fit : word_count rules ≤ most_words
+
+-- the first limit that the rules pass is the one on this quantity, with this count: 4 is the rules, 5 the labels, 6 the classes, and 7 the words
+abbrev pub Exceeds : List RuleTree → ℕ → ℕ → Type 0
+Exceeds rules quantity count =
+    ((quantity ≡ 4) × (count ≡ length rules) × (most_rules < count))
+    ⊎ ((length rules ≤ most_rules)
+    × (((quantity ≡ 5) × (count ≡ label_count (universe_of rules)) × (most_labels < count))
+    ⊎ ((label_count (universe_of rules) ≤ most_labels)
+    × (((quantity ≡ 6) × (count ≡ class_count (universe_of rules)) × (most_classes < count))
+    ⊎ ((class_count (universe_of rules) ≤ most_classes) × (quantity ≡ 7) × (count ≡ word_count rules) × (most_words < count))))))
+
+-- why there is no report on rules: they pass a limit. Memory has no cause in the rules
+abbrev pub Ends : List RuleTree → JudgeEnd → Type 0
+Ends rules Memory = Unit {0}
+Ends rules (Limit quantity count) = Exceeds rules quantity count
+
+-- what was found passes no limit; a file that is refused passes none
+abbrev pub Fits : Content → Type 0
+Fits (Rules rules) = AreWithin rules
+Fits (Refused kind span) = Unit {0}
+
+-- why there is no report on what was found
+abbrev pub EndsIn : Content → JudgeEnd → Type 0
+EndsIn (Rules rules) end = Ends rules end
+EndsIn (Refused kind span) Memory = Unit {0}
+EndsIn (Refused kind span) (Limit quantity count) = ⊥

@@ -1,0 +1,4 @@
+pub mod Founds
+pub mod Report
+pub mod Verdicts
+pub mod views

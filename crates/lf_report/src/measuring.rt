@@ -1,0 +1,87 @@
+//! The limits on rules.
+ghost use Rattle.std.specs.Prelude.{◌≡◌, ◌≤◌, length, IfOk, IfErr};
+ghost use Rattle.lf_ast.specs.Rules.{rule_trees};
+ghost use Rattle.lf_semantics.specs.Listing.{class_count as class_count_of, label_count, universe_of};
+ghost use Rattle.lf_classes.specs.Limits.{most_classes, most_labels};
+ghost use Rattle.lf_report.specs.Founds.{AreWithin, Ends, most_rules, word_count as word_count_of};
+
+use crate::JudgeEnd;
+use lf_ast::Rule;
+use lf_base::{Memory, Seq};
+use lf_classes::{ClassError, Universe, recorded_names};
+use std::alloc::Global;
+
+/// The most rules that may be accepted.
+const MOST_RULES: usize = 20_000;
+
+/// The number of that limit in a status.
+const ACCEPTED_RULES: u8 = 4;
+
+/// The number of the limit on labels.
+const LABELS: u8 = 5;
+
+/// The number of the limit on the classes of all labels.
+const CLASSES: u8 = 6;
+
+/// The most words of 64 classes that the rows of all recorded names may have.
+const MOST_WORDS: u64 = 4_194_304;
+
+/// The number of that limit in a status.
+const WORDS: u8 = 7;
+
+/// The universe of rules, where they pass no limit. The limits are tested in this order: on the rules, the labels, the classes, and the words of the rows of
+/// recorded names.
+pub fn measure(alloc: Global, rules: &Seq<Rule>) -> Result<Universe, JudgeEnd>
+    ensures found { IfOk result (λ universe. universe ≡ universe_of (rule_trees rules.now)) }
+    ensures within { IfOk result (λ _. AreWithin (rule_trees rules.now)) }
+    ensures refused { IfErr result (Ends (rule_trees rules.now)) }
+{
+    if rules.len() > MOST_RULES {
+        return Err(JudgeEnd::Limit {
+            quantity: ACCEPTED_RULES,
+            found: rules.len() as u64,
+        });
+    }
+    let universe = build(alloc, rules)?;
+    let words = word_count(alloc, &universe, rules)?;
+    if words > MOST_WORDS {
+        return Err(JudgeEnd::Limit {
+            quantity: WORDS,
+            found: words,
+        });
+    }
+    Ok(universe)
+}
+
+/// The universe of rules that aren't too many, where it passes no limit.
+fn build(alloc: Global, rules: &Seq<Rule>) -> Result<Universe, JudgeEnd>
+    requires { length rules.now ≤ most_rules }
+    ensures found { IfOk result (λ universe. universe ≡ universe_of (rule_trees rules.now)) }
+    ensures labels { IfOk result (λ _. label_count (universe_of (rule_trees rules.now)) ≤ most_labels) }
+    ensures classes { IfOk result (λ _. class_count_of (universe_of (rule_trees rules.now)) ≤ most_classes) }
+    ensures refused { IfErr result (Ends (rule_trees rules.now)) }
+{
+    match Universe::build(alloc, rules) {
+        Ok(universe) => Ok(universe),
+        Err(ClassError::Memory) => Err(JudgeEnd::Memory),
+        Err(ClassError::TooManyLabels { found }) => Err(JudgeEnd::Limit {
+            quantity: LABELS,
+            found,
+        }),
+        Err(ClassError::TooManyClasses { found }) => Err(JudgeEnd::Limit {
+            quantity: CLASSES,
+            found,
+        }),
+    }
+}
+
+/// The words that the rows of all recorded names have.
+fn word_count(alloc: Global, universe: &Universe, rules: &Seq<Rule>) -> Result<u64, Memory>
+    requires universe { universe.now ≡ universe_of (rule_trees rules.now) }
+    requires few { length rules.now ≤ most_rules }
+    ensures { IfOk result (λ words. words ≡ word_count_of (rule_trees rules.now)) }
+{
+    let names = recorded_names(alloc, rules.as_slice())?;
+    let classes = u64::from(universe.class_count());
+    Ok(names.len() as u64 * ((classes + 63) / 64))
+}

@@ -1,0 +1,96 @@
+//! Where something stands in a file.
+//!
+//! The places of a file's rules are looked up in the order of the file, so that its bytes are gone through once.
+ghost use Rattle.std.specs.Prelude.{◌≡◌, ◌++◌, ◌≤◌, ◌<◌, ℕ, List, length, min, codes, IfOk};
+ghost use Rattle.std.specs.Fmt.{decimal};
+ghost use Rattle.lf_report.specs.Report.{place_text, shown};
+ghost use Rattle.lf_report.specs.views.Spots.{IsSpot, IsSpotOf};
+
+use lf_base::{Memory, Text};
+use std::alloc::Global;
+
+/// A byte offset of a file, with its line and its column, both counted from 1 and the column in bytes.
+#[derive(Clone, Copy, PartialEq, Eq, Debug)]
+pub struct Spot {
+    pub offset: usize,
+    pub line: usize,
+    pub column: usize,
+}
+
+impl Spot {
+    /// The spot of a file's first byte.
+    pub fn first() -> Spot
+        ensures spot { (bytes : List ℕ) → IsSpot bytes result }
+        ensures start { result.offset ≡ 0 }
+    {
+        Spot {
+            offset: 0,
+            line: 1,
+            column: 1,
+        }
+    }
+}
+
+/// The spot of an offset, or of the file's end where the file is shorter. From a spot before it only the bytes between are gone through.
+pub fn spot_of(bytes: &[u8], from: Spot, offset: u32) -> Spot
+    requires { IsSpot bytes.now from }
+    ensures spot { IsSpot bytes.now result }
+    ensures of { IsSpotOf bytes.now offset result }
+{
+    let end = bytes.len().min(offset as usize);
+    moved(bytes, not_behind(from, end), end)
+}
+
+/// A spot that isn't behind an offset: this one, or else the first.
+fn not_behind(spot: Spot, offset: usize) -> Spot
+    ensures spot { (bytes : List ℕ) → IsSpot bytes spot → IsSpot bytes result }
+    ensures order { result.offset ≤ offset }
+{
+    if offset < spot.offset {
+        Spot::first()
+    } else {
+        spot
+    }
+}
+
+/// The spot of an offset that is no less than that of a spot.
+fn moved(bytes: &[u8], from: Spot, end: usize) -> Spot
+    requires from { IsSpot bytes.now from }
+    requires order { from.offset ≤ end }
+    requires within { end ≤ length bytes.now }
+    ensures spot { IsSpot bytes.now result }
+    ensures offset { result.offset ≡ end }
+{
+    let mut line = from.line;
+    let mut column = from.column;
+    for k in from.offset..end {
+        if bytes[k] == b'\n' {
+            line += 1;
+            column = 1;
+        } else {
+            column += 1;
+        }
+    }
+    Spot {
+        offset: end,
+        line,
+        column,
+    }
+}
+
+/// `FILE:LINE:COLUMN` of a spot. `file` is the name as it is shown.
+pub fn place_at(alloc: Global, file: &str, spot: Spot) -> Result<Text, Memory>
+    ensures { IfOk result (λ place. place ≡ file.now ++ codes ":" ++ decimal spot.line ++ codes ":" ++ decimal spot.column) }
+{
+    let line = spot.line;
+    let column = spot.column;
+    let place = format!(in alloc; "{file}:{line}:{column}")?;
+    Text::of(alloc, place.as_str())
+}
+
+/// `FILE:LINE:COLUMN` of an offset of a file.
+pub fn place_in(alloc: Global, file: &str, bytes: &[u8], offset: u32) -> Result<Text, Memory>
+    ensures { (name : List ℕ) → file.now ≡ shown name → IfOk result (λ place. place ≡ place_text name bytes.now offset) }
+{
+    place_at(alloc, file, spot_of(bytes, Spot::first(), offset))
+}

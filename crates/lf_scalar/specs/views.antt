@@ -1,0 +1,2 @@
+-- How contracts see the code's own data. They define nothing.
+pub mod Built

@@ -1,0 +1,32 @@
+//! What no contract says: that runs succeed where memory is there, and that each failing call ends them as it should.
+ghost use Rattle.std.specs.Prelude.{◌≡◌, ◌≤◌, ◌^◌};
+
+use lf_base::{Files, OpenGate, Sink};
+use lf_lint::{Status, lint};
+use std::alloc::{AllocError, Global};
+use std::thread::Threads;
+
+mod ends;
+mod parts;
+mod reports;
+
+/// A run on the words between the spaces of a line. The empty line has no words.
+fn run<R: Threads + Sync, F: Files, O: Sink>(
+    rt: &R,
+    alloc: Global,
+    line: &str,
+    files: &mut F,
+    out: &mut O,
+) -> Result<Status, AllocError>
+    requires files { F.faults files.old ≡ 0 }
+    requires out { O.faults out.old ≡ 0 }
+    requires opens { F.opens files.old ≤ 2 ^ 31 }
+{
+    let mut words = Vec::new(alloc);
+    if !line.is_empty() {
+        for word in line.split(' ') {
+            words.push(String::from_str(alloc, word)?)?;
+        }
+    }
+    Ok(lint(rt, alloc, words.as_slice(), files, out, &OpenGate))
+}

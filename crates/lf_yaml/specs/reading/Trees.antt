@@ -1,0 +1,353 @@
+-- A way of reading a document row by row, which defines nothing: proofs/Laws shows that it is the definition.
+use Rattle.std.specs.Prelude.{ℕ, zero, suc, ◌+◌, List, [], ◌∷◌, ◌++◌, length, Bool, true, false, not, Option, Some, None, Result, Ok, Err, nat_lt, bytes_eq, is_some, is_none, ◌==◌, ◌&&◌, ◌||◌, if◌then◌else◌}
+use Rattle.std.specs.List.{list_any}
+use Rattle.lf_base.specs.declared.kind.Kind.TheVariants.{OpenQuote, DoubleKey, NotANode, TooDeep}
+use Rattle.lf_scalar.specs.declared.quotes.Quotes.{Quotes}
+use Rattle.lf_scalar.specs.declared.quotes.Quotes.TheVariants.{Single, Double}
+use Rattle.lf_base.specs.declared.fault.Fault.{Fault}
+use Rattle.lf_base.specs.Faults.{span, fault}
+use Rattle.lf_scalar.specs.Cells.{Cell, Value, made, end_of, byte_fault, character_fault, ◌>>=◌}
+use Rattle.lf_scalar.specs.Lines.{is_blank, after_blanks}
+use Rattle.lf_scalar.specs.Folding.{trimmed}
+use Rattle.lf_scalar.specs.Plain.{before_blank, begins_plain, value_of}
+use Rattle.lf_scalar.specs.Scalars.{source_at}
+use Rattle.lf_scalar.specs.reading.Quoted.{Closing, closing_of, wrong_behind, quoted_of}
+use Rattle.lf_scalar.specs.reading.Styles as scalar
+use Rattle.lf_yaml.specs.Tree.{Tree, leaf, sequence, mapping, Items, no_items, item, Entries, no_entries, entry}
+use Rattle.lf_yaml.specs.Spans.{items_end, entries_end, empty_at}
+use Rattle.lf_yaml.specs.Rows.{Row, text_of, indent, rows_from, left_of, is_left_out, indent_fault, row_fault}
+use Rattle.lf_yaml.specs.Heads.{is_item, Split, key_in, never, Key, Bare, Between, style_of, begins_scalar}
+use Rattle.lf_yaml.specs.Flow.{Next, at_part, broken, next_part, is_flow_sign, begins_flow, flow_text, behind_text, later_colon, part_fault, sign_fault, ends_key, is_empty_key}
+
+-- ---- keys
+
+abbrev pub quotes_of : Cell → Option Quotes
+quotes_of c = if c.byte == 39 then Some Single else if c.byte == 34 then Some Double else None
+
+-- a key, its `:` and what stands behind it
+abbrev pub Head : Type 0
+Head = Key × Cell × List Cell
+
+abbrev pub sign_if : List Cell → Option (Cell × List Cell)
+sign_if [] = None
+sign_if (c ∷ cs) = if c.byte == 58 then Some (c, cs) else None
+
+abbrev pub sign_behind : List Cell → Option (Cell × List Cell)
+sign_behind cs = sign_if (after_blanks cs)
+
+abbrev pub quoted_sign : Quotes → Option (Cell × List Cell) → Option Head
+quoted_sign kind None = None
+quoted_sign kind (Some x) = if before_blank x.1 then Some (Between kind, x.0, x.1) else None
+
+abbrev pub quoted_head : Quotes → Option Closing → Option Head
+quoted_head kind None = None
+quoted_head kind (Some x) = quoted_sign kind (sign_behind x.1.1)
+
+abbrev pub bare_head : Option Split → Option Head
+bare_head None = None
+bare_head (Some x) = Some (Bare (trimmed is_blank x.0), x.1, x.2)
+
+abbrev pub entry_by : Row → Option Quotes → Option Head
+entry_by r None = if begins_plain (text_of r) && not (is_left_out r) then bare_head (key_in never before_blank (text_of r)) else None
+entry_by r (Some kind) = quoted_head kind (closing_of kind 0 r.rest)
+
+-- the entry that a row begins
+unfoldable pub entry_of : Row → Option Head
+entry_of r = entry_by r (quotes_of r.first)
+
+-- a scalar between quotes that closes on its line
+abbrev pub between_of : Quotes → Cell → Option Closing → Result Value Fault
+between_of kind c None = Err (byte_fault OpenQuote c.at)
+between_of kind c (Some x) = quoted_of kind 0 (x.1.0.at + 1) c (x.0 ++ x.1.0 ∷ [])
+
+unfoldable pub key_of : Cell → List Cell → Key → Result Value Fault
+key_of c cs (Bare text) = Ok (made text (end_of c.at text) (span c.at (end_of c.at text)))
+key_of c cs (Between kind) = between_of kind c (closing_of kind 0 cs)
+
+abbrev pub opens_by : List Cell → Option Quotes → Bool
+opens_by cs None = false
+opens_by cs (Some kind) = is_none (closing_of kind 0 cs)
+
+-- a quote that nothing on its line closes
+unfoldable pub opens_quote : Cell → List Cell → Bool
+opens_quote c cs = opens_by cs (quotes_of c)
+
+-- a text stands among some
+abbrev pub has : List (List ℕ) → List ℕ → Bool
+has texts text = list_any (λ t. bytes_eq t text) texts
+
+-- ---- flow collections
+
+-- a scalar and what stands behind it on its line
+abbrev pub Part : Type 0
+Part = Value × List Cell
+
+-- what stands behind a quote that closes
+abbrev pub behind_closing : Option Closing → List Cell
+behind_closing None = []
+behind_closing (Some x) = x.1.1
+
+abbrev pub with_behind : List Cell → Result Value Fault → Result Part Fault
+with_behind behind read = read >>= λ v. Ok (v, behind)
+
+abbrev pub plain_part : Cell → List Cell → Option Cell → Result Part Fault
+plain_part c cs None = Ok (value_of c (flow_text (c ∷ cs)), behind_text (c ∷ cs))
+plain_part c cs (Some wrong) = Err (character_fault NotANode wrong)
+
+abbrev pub part_by : Cell → List Cell → Option Quotes → Result Part Fault
+part_by c cs None = if begins_flow c cs then plain_part c cs (later_colon (flow_text (c ∷ cs)) (behind_text (c ∷ cs))) else Err (part_fault c cs)
+part_by c cs (Some kind) = with_behind (behind_closing (closing_of kind 0 cs)) (between_of kind c (closing_of kind 0 cs))
+
+unfoldable pub flow_scalar : Cell → List Cell → Result Part Fault
+flow_scalar c cs = part_by c cs (quotes_of c)
+
+-- what a flow collection holds, its closing bracket, what stands behind that on its line, and the rows left
+abbrev pub FlowRead : Type 0 → Type 0
+FlowRead A = Result (A × Cell × List Cell × List Row) Fault
+
+abbrev pub with_flow_item : Value → FlowRead Items → FlowRead Items
+with_flow_item v read = read >>= λ x. Ok (item (leaf v) x.0, x.1, x.2, x.3)
+
+abbrev pub sequence_sign : (List Cell → List Row → FlowRead Items) → Value → Next → FlowRead Items
+sequence_sign later v (broken f) = Err f
+sequence_sign later v (at_part c cs rs) =
+    if c.byte == 44 then with_flow_item v (later cs rs)
+    else if c.byte == 93 then Ok (item (leaf v) no_items, c, cs, rs)
+    else Err (sign_fault c)
+
+abbrev pub sequence_behind : ℕ → ℕ → (List Cell → List Row → FlowRead Items) → List Row → Result Part Fault → FlowRead Items
+sequence_behind end above later rs read = read >>= λ x. sequence_sign later x.0 (next_part end above false x.1 rs)
+
+abbrev pub sequence_part : ℕ → ℕ → (List Cell → List Row → FlowRead Items) → Next → FlowRead Items
+sequence_part end above later (broken f) = Err f
+sequence_part end above later (at_part c cs rs) = if c.byte == 93 then Ok (no_items, c, cs, rs) else sequence_behind end above later rs (flow_scalar c cs)
+
+-- The number bounds the turns. The count of the cells and rows and one is always enough.
+unfoldable pub sequence_in : ℕ → ℕ → ℕ → List Cell → List Row → FlowRead Items
+sequence_in end above zero cs rs = Err (byte_fault NotANode 0)
+sequence_in end above (suc n) cs rs = sequence_part end above (λ cs rs. sequence_in end above n cs rs) (next_part end above false cs rs)
+
+-- a key, its `:` and what stands behind it on its line
+abbrev pub Signed : Type 0
+Signed = Value × Cell × List Cell
+
+abbrev pub no_sign : Next → Result Signed Fault
+no_sign (broken f) = Err f
+no_sign (at_part c cs rs) = Err (sign_fault c)
+
+abbrev pub signed : ℕ → ℕ → Value → List Cell → List Row → Option (Cell × List Cell) → Result Signed Fault
+signed end above v behind rs None = no_sign (next_part end above false behind rs)
+signed end above v behind rs (Some x) = Ok (v, x.0, x.1)
+
+abbrev pub signed_behind : ℕ → ℕ → List Cell → List Row → Result Value Fault → Result Signed Fault
+signed_behind end above behind rs read = read >>= λ v. signed end above v behind rs (sign_behind behind)
+
+abbrev pub bare_key : Cell → List Cell → Value
+bare_key c text = made text (end_of c.at text) (span c.at (end_of c.at text))
+
+abbrev pub plain_key : ℕ → ℕ → Cell → List Cell → List Row → Option Split → Result Signed Fault
+plain_key end above c cs rs None = no_sign (next_part end above false (behind_text (c ∷ cs)) rs)
+plain_key end above c cs rs (Some x) = Ok (bare_key c (trimmed is_blank x.0), x.1, x.2)
+
+abbrev pub flow_key_by : ℕ → ℕ → Cell → List Cell → List Row → Option Quotes → Result Signed Fault
+flow_key_by end above c cs rs None =
+    if begins_flow c cs then (if is_empty_key c cs then Err (character_fault NotANode c) else plain_key end above c cs rs (key_in is_flow_sign ends_key (c ∷ cs)))
+    else Err (part_fault c cs)
+flow_key_by end above c cs rs (Some kind) = signed_behind end above (behind_closing (closing_of kind 0 cs)) rs (between_of kind c (closing_of kind 0 cs))
+
+unfoldable pub flow_key : ℕ → ℕ → Cell → List Cell → List Row → Result Signed Fault
+flow_key end above c cs rs = flow_key_by end above c cs rs (quotes_of c)
+
+-- a value and what is left behind it
+abbrev pub Valued : Type 0
+Valued = Tree × List Cell × List Row
+
+abbrev pub scalar_part : List Row → Result Part Fault → Result Valued Fault
+scalar_part ss read = read >>= λ x. Ok (leaf x.0, x.1, ss)
+
+abbrev pub value_part : Cell → List Cell → List Row → Next → Result Valued Fault
+value_part colon cs rs (broken f) = Err f
+value_part colon cs rs (at_part c more ss) = if (c.byte == 44) || (c.byte == 125) then Ok (empty_at (suc colon.at), cs, rs) else scalar_part ss (flow_scalar c more)
+
+unfoldable pub flow_value : ℕ → ℕ → Cell → List Cell → List Row → Result Valued Fault
+flow_value end above colon cs rs = value_part colon cs rs (next_part end above false cs rs)
+
+abbrev pub with_flow_entry : Value → Tree → FlowRead Entries → FlowRead Entries
+with_flow_entry v t read = read >>= λ x. Ok (entry v t x.0, x.1, x.2, x.3)
+
+abbrev pub mapping_sign : (List Cell → List Row → FlowRead Entries) → Value → Tree → Next → FlowRead Entries
+mapping_sign later v t (broken f) = Err f
+mapping_sign later v t (at_part c cs rs) =
+    if c.byte == 44 then with_flow_entry v t (later cs rs)
+    else if c.byte == 125 then Ok (entry v t no_entries, c, cs, rs)
+    else Err (sign_fault c)
+
+abbrev pub Later : Type 0
+Later = List (List ℕ) → List Cell → List Row → FlowRead Entries
+
+abbrev pub value_behind : ℕ → ℕ → (List Cell → List Row → FlowRead Entries) → Value → Result Valued Fault → FlowRead Entries
+value_behind end above later v read = read >>= λ x. mapping_sign later v x.0 (next_part end above false x.1 x.2)
+
+abbrev pub new_entry : ℕ → ℕ → Later → List (List ℕ) → List Row → Signed → FlowRead Entries
+new_entry end above later keys rs k =
+    if has keys k.0.text then Err (fault DoubleKey k.0.span)
+    else value_behind end above (λ cs rs. later (keys ++ k.0.text ∷ []) cs rs) k.0 (flow_value end above k.1 k.2 rs)
+
+abbrev pub key_behind : ℕ → ℕ → Later → List (List ℕ) → List Row → Result Signed Fault → FlowRead Entries
+key_behind end above later keys rs read = read >>= λ k. new_entry end above later keys rs k
+
+abbrev pub mapping_part : ℕ → ℕ → Later → List (List ℕ) → Next → FlowRead Entries
+mapping_part end above later keys (broken f) = Err f
+mapping_part end above later keys (at_part c cs rs) = if c.byte == 125 then Ok (no_entries, c, cs, rs) else key_behind end above later keys rs (flow_key end above c cs rs)
+
+unfoldable pub mapping_in : ℕ → ℕ → ℕ → List (List ℕ) → List Cell → List Row → FlowRead Entries
+mapping_in end above zero keys cs rs = Err (byte_fault NotANode 0)
+mapping_in end above (suc n) keys cs rs = mapping_part end above (λ ks cs rs. mapping_in end above n ks cs rs) keys (next_part end above false cs rs)
+
+-- how many turns some cells and rows need at most
+abbrev pub turns : List Cell → List Row → ℕ
+turns cs [] = suc (length cs)
+turns cs (r ∷ rs) = suc (length cs) + turns (text_of r) rs
+
+-- ---- block collections
+
+abbrev pub Read : Type 0 → Type 0
+Read A = Result (A × List Row) Fault
+
+-- Nothing but blanks and a comment stands behind a closing bracket.
+abbrev pub alone : {A : Type 0} → (A → Cell → Tree) → A × Cell × List Cell × List Row → Option Cell → Read Tree
+alone node x None = Ok (node x.0 x.1, x.3)
+alone node x (Some wrong) = Err (character_fault NotANode wrong)
+
+abbrev pub closed_list : Row → FlowRead Items → Read Tree
+closed_list r read = read >>= λ x. alone (λ is closing. sequence is (span r.first.at (suc closing.at))) x (wrong_behind false x.2)
+
+abbrev pub flow_list : ℕ → ℕ → ℕ → Row → List Row → Read Tree
+flow_list end above zero r rs = Err (character_fault TooDeep r.first)
+flow_list end above (suc d) r rs = closed_list r (sequence_in end above (suc (turns r.rest rs)) r.rest rs)
+
+abbrev pub closed_map : Row → FlowRead Entries → Read Tree
+closed_map r read = read >>= λ x. alone (λ es closing. mapping es (span r.first.at (suc closing.at))) x (wrong_behind false x.2)
+
+abbrev pub flow_map : ℕ → ℕ → ℕ → Row → List Row → Read Tree
+flow_map end above zero r rs = Err (character_fault TooDeep r.first)
+flow_map end above (suc d) r rs = closed_map r (mapping_in end above (suc (turns r.rest rs)) [] r.rest rs)
+
+abbrev pub scalar_on : List ℕ → ℕ → Row → Result Value Fault
+scalar_on bytes above r = scalar.reading (style_of r.first) above (length bytes) (source_at bytes r.first.at)
+
+abbrev pub scalar_value : List Row → Result Value Fault → Read Tree
+scalar_value rs read = read >>= λ v. Ok (leaf v, rows_from v.span.end rs)
+
+-- a scalar or a flow collection
+unfoldable pub value_on : List ℕ → ℕ → ℕ → Row → List Row → Read Tree
+value_on bytes above d r rs =
+    if begins_scalar r then scalar_value rs (scalar_on bytes above r)
+    else if r.first.byte == 91 then flow_list (length bytes) above d r rs
+    else if r.first.byte == 123 then flow_map (length bytes) above d r rs
+    else Err (row_fault r)
+
+-- by the number of spaces that an indent above the parent's has at least
+abbrev pub Reader : Type 0
+Reader = ℕ → Row → List Row → Read Tree
+
+-- the value of an item or an entry on a row below, if there is one
+abbrev pub item_next : Reader → ℕ → ℕ → List Row → Read Tree
+item_next node m at [] = Ok (empty_at at, [])
+item_next node m at (r ∷ rs) = if nat_lt m (indent r) then node (suc m) r rs else Ok (empty_at at, r ∷ rs)
+
+abbrev pub item_at : Reader → ℕ → ℕ → List Row → Option Row → Read Tree
+item_at node m at rs (Some left) = node (suc m) left rs
+item_at node m at rs None = item_next node m at rs
+
+abbrev pub item_value : Reader → ℕ → Row → List Row → Read Tree
+item_value node m r rs = item_at node m (suc r.first.at) rs (left_of r.begin r.rest)
+
+abbrev pub with_item : Tree → Read Items → Read Items
+with_item t read = read >>= λ x. Ok (item t x.0, x.1)
+
+abbrev pub items_behind : (List Row → Read Items) → Read Tree → Read Items
+items_behind later read = read >>= λ x. with_item x.0 (later x.1)
+
+abbrev pub items_on : Reader → (List Row → Read Items) → Bool → ℕ → Row → List Row → Read Items
+items_on node later own m r rs =
+    if is_item r then items_behind later (item_value node m r rs)
+    else if own then Ok (no_items, r ∷ rs)
+    else Err (row_fault r)
+
+-- a row behind some part of a collection at m: deeper, at a smaller indent, or at m
+abbrev pub at_indent : {A : Type 0} → ℕ → Row → List Row → A → Read A → Read A
+at_indent m r rs none read = if nat_lt m (indent r) then Err (indent_fault r) else if nat_lt (indent r) m then Ok (none, r ∷ rs) else read
+
+-- The number bounds the turns. The count of the rows and one is always enough.
+unfoldable pub items : Reader → ℕ → Bool → ℕ → List Row → Read Items
+items node zero own m rs = Err (byte_fault NotANode 0)
+items node (suc n) own m [] = Ok (no_items, [])
+items node (suc n) own m (r ∷ rs) = at_indent m r rs no_items (items_on node (λ rows. items node n own m rows) own m r rs)
+
+abbrev pub begins_block : Row → Bool
+begins_block r = is_item r || is_some (entry_of r)
+
+abbrev pub entry_next : (Bool → Reader) → ℕ → ℕ → List Row → Read Tree
+entry_next node m at [] = Ok (empty_at at, [])
+entry_next node m at (r ∷ rs) =
+    if nat_lt m (indent r) then node false (suc m) r rs
+    else if (indent r == m) && is_item r then node true (suc m) r rs
+    else Ok (empty_at at, r ∷ rs)
+
+abbrev pub entry_at : List ℕ → ℕ → (Bool → Reader) → ℕ → ℕ → List Row → Option Row → Read Tree
+entry_at bytes d node m at rs (Some left) = if begins_block left then Err (character_fault NotANode left.first) else value_on bytes (suc m) d left rs
+entry_at bytes d node m at rs None = entry_next node m at rs
+
+abbrev pub entry_value : List ℕ → ℕ → (Bool → Reader) → ℕ → ℕ → Cell → List Cell → List Row → Read Tree
+entry_value bytes d node m begin colon behind rs = entry_at bytes d node m (suc colon.at) rs (left_of begin behind)
+
+abbrev pub with_entry : Value → Tree → Read Entries → Read Entries
+with_entry v t read = read >>= λ x. Ok (entry v t x.0, x.1)
+
+abbrev pub EntryValues : Type 0
+EntryValues = ℕ → Cell → List Cell → List Row → Read Tree
+
+abbrev pub entries_behind : Value → (List Row → Read Entries) → Read Tree → Read Entries
+entries_behind v later read = read >>= λ x. with_entry v x.0 (later x.1)
+
+abbrev pub keyed : EntryValues → (List (List ℕ) → List Row → Read Entries) → List (List ℕ) → Row → List Row → Cell → List Cell → Value → Read Entries
+keyed value later keys r rs colon behind v =
+    if has keys v.text then Err (fault DoubleKey v.span)
+    else entries_behind v (λ rows. later (keys ++ v.text ∷ []) rows) (value r.begin colon behind rs)
+
+abbrev pub key_read : EntryValues → (List (List ℕ) → List Row → Read Entries) → List (List ℕ) → Row → List Row → Cell → List Cell → Result Value Fault → Read Entries
+key_read value later keys r rs colon behind read = read >>= λ v. keyed value later keys r rs colon behind v
+
+abbrev pub entries_on : EntryValues → (List (List ℕ) → List Row → Read Entries) → List (List ℕ) → Row → List Row → Option Head → Read Entries
+entries_on value later keys r rs None = if opens_quote r.first r.rest then Err (byte_fault OpenQuote r.first.at) else Err (row_fault r)
+entries_on value later keys r rs (Some h) = key_read value later keys r rs h.1 h.2 (key_of r.first r.rest h.0)
+
+unfoldable pub entries : EntryValues → ℕ → ℕ → List (List ℕ) → List Row → Read Entries
+entries value zero m keys rs = Err (byte_fault NotANode 0)
+entries value (suc n) m keys [] = Ok (no_entries, [])
+entries value (suc n) m keys (r ∷ rs) = at_indent m r rs no_entries (entries_on value (λ ks rows. entries value n m ks rows) keys r rs (entry_of r))
+
+abbrev pub as_sequence : Row → Read Items → Read Tree
+as_sequence r read = read >>= λ x. Ok (sequence x.0 (span r.first.at (items_end r.first.at x.0)), x.1)
+
+abbrev pub as_mapping : Row → Read Entries → Read Tree
+as_mapping r read = read >>= λ x. Ok (mapping x.0 (span r.first.at (entries_end r.first.at x.0)), x.1)
+
+-- One node. With true it is a sequence at the indent of the mapping around it.
+unfoldable pub node_at : List ℕ → ℕ → Bool → Reader
+node_at bytes zero own above r rs = if begins_block r then Err (character_fault TooDeep r.first) else value_on bytes above zero r rs
+node_at bytes (suc d) own above r rs =
+    if is_item r then as_sequence r (items (λ a x xs. node_at bytes d false a x xs) (suc (length (r ∷ rs))) own (indent r) (r ∷ rs))
+    else if begins_block r then as_mapping r (entries (λ begin colon behind xs. entry_value bytes d (λ o a x ys. node_at bytes d o a x ys) (indent r) begin colon behind xs) (suc (length (r ∷ rs))) (indent r) [] (r ∷ rs))
+    else value_on bytes above (suc d) r rs
+
+-- ---- the document
+
+abbrev pub behind_root : Row → Tree × List Row → Result Tree Fault
+behind_root r (t, []) = Ok t
+behind_root r (t, next ∷ later) = if begins_block r then Err (indent_fault next) else Err (row_fault next)
+
+unfoldable pub document_of : List ℕ → List Row → Result Tree Fault
+document_of bytes [] = Ok (empty_at 0)
+document_of bytes (r ∷ rs) = node_at bytes 16 false 0 r rs >>= λ x. behind_root r x
