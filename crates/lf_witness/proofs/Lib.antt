@@ -1,0 +1,15 @@
+pub mod SameSets
+pub mod SameSamples
+pub mod SameResults
+pub mod StrictIsRelational
+pub mod StrictRunIsRun
+pub mod OnePieces
+pub mod OneSample
+pub mod OneOutcome
+pub mod Decided
+pub mod SomeSample
+pub mod SomeOutcome
+pub mod AscendingLists
+pub mod Answers
+pub mod WorkedStrict
+pub mod WorkedWorlds

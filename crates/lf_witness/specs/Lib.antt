@@ -1,0 +1,3 @@
+pub mod Ascending
+pub mod Strict
+pub mod StrictRuns
