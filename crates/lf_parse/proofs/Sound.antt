@@ -410,6 +410,8 @@ module _ (ts rest : List Tok) where
 
   operator_step_sound : {us : List Tok} (fs : List Frame) (x : Operand) (t : Tok) → Opens fs ts us → OperandIn x us (t ∷ rest) → IfSome (expect_operator fs x t) Then_stands
   operator_step_sound fs (Whole e n) (Sign OpenBracket at q) o d = s_bracket o d
+  -- (named, so that the classes of words are told apart below)
+  operator_step_sound fs (Whole e n) (Word Offset v at q) o d = after_sound fs e n (Word Offset v at q) o (operand_at d)
   operator_step_sound fs (Whole e n) t o d = after_sound fs e n t o (operand_at d)
   operator_step_sound fs (Bare w p) (Sign OpenBracket at q) o d = s_bracket o d
   operator_step_sound fs (Bare w p) (Sign OpenParen at q) o (is_bare i) = s_first o (of_call i)

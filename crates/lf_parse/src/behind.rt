@@ -6,15 +6,14 @@ ghost use Rattle.lf_parse.specs.views.Values.{tok, seen_frames, next, seen_opera
 
 use crate::braces::Braces;
 use crate::calls::aggregation;
-use crate::class::Class;
+use crate::follower::{Follower, follower_of};
 use crate::mode::{Frame, Head, Mode, Operand, Subject, blank, subject_tree};
 use crate::names::Names;
 use crate::part::Part;
 use crate::reduce::after;
-use crate::seen::{Mark, Seen};
+use crate::seen::Seen;
 use lf_ast::{Agg, Expr, Grouping, Matcher, Sight};
 use lf_base::{Memory, Seq, Span, Text};
-use lf_lex::Sign;
 use std::alloc::Global;
 
 /// Takes the token behind an operand to which only a bracket comes.
@@ -23,14 +22,13 @@ fn whole_step(
     stack: &mut Vec<Frame>,
     operand: Expr,
     end: u32,
+    follower: Follower,
     token: Seen,
 ) -> Result<Option<Mode>, Memory>
-    ensures { IfOk result (λ p. next stack.new.items p ≡ machine.whole_step (seen_frames stack.old.items) (tree operand) end (tok token.entry)) }
+    ensures { IfOk result (λ p. next stack.new.items p ≡ machine.whole_step (seen_frames stack.old.items) (tree operand) end follower (tok token.entry)) }
 {
-    match token.mark {
-        Mark::Sign(Sign::OpenBracket) => {
-            Ok(Some(Mode::AfterBracket(Operand::Whole(operand, end))))
-        }
+    match follower {
+        Follower::Bracket => { Ok(Some(Mode::AfterBracket(Operand::Whole(operand, end)))) }
         _ => after(alloc, stack, operand, end, token),
     }
 }
@@ -48,25 +46,26 @@ fn bare_step(
     stack: &mut Vec<Frame>,
     name: Text,
     span: Span,
+    follower: Follower,
     token: Seen,
 ) -> Result<Option<Mode>, Memory>
-    ensures { IfOk result (λ p. next stack.new.items p ≡ machine.bare_step (seen_frames stack.old.items) name span (tok token.entry)) }
+    ensures { IfOk result (λ p. next stack.new.items p ≡ machine.bare_step (seen_frames stack.old.items) name span follower (tok token.entry)) }
 {
-    match token.mark {
-        Mark::Sign(Sign::OpenBracket) => Ok(Some(Mode::AfterBracket(Operand::Bare(name, span)))),
-        Mark::Sign(Sign::OpenParen) => Ok(Some(Mode::First(Head::Call(name, span)))),
-        Mark::Sign(Sign::OpenBrace) => Ok(Some(Mode::InBraces(
+    match follower {
+        Follower::Bracket => Ok(Some(Mode::AfterBracket(Operand::Bare(name, span)))),
+        Follower::Paren => Ok(Some(Mode::First(Head::Call(name, span)))),
+        Follower::Brace => Ok(Some(Mode::InBraces(
             Some(name),
             span,
             Braces::Next(Seq::new(alloc)),
         ))),
-        Mark::Word(Class::Offset) => Ok(Some(Mode::InMod(
+        Follower::Offset => Ok(Some(Mode::InMod(
             of_word(alloc, name),
             blank(span),
             span,
             Part::AfterOffset,
         ))),
-        Mark::Sign(Sign::At) => Ok(Some(Mode::InMod(
+        Follower::At => Ok(Some(Mode::InMod(
             of_word(alloc, name),
             blank(span),
             span,
@@ -91,21 +90,20 @@ fn selected_step(
     name: Option<Text>,
     matchers: Seq<Matcher>,
     span: Span,
+    follower: Follower,
     token: Seen,
 ) -> Result<Option<Mode>, Memory>
-    ensures { IfOk result (λ p. next stack.new.items p ≡ machine.selected_step (seen_frames stack.old.items) name matchers span (tok token.entry)) }
+    ensures { IfOk result (λ p. next stack.new.items p ≡ machine.selected_step (seen_frames stack.old.items) name matchers span follower (tok token.entry)) }
 {
-    match token.mark {
-        Mark::Sign(Sign::OpenBracket) => Ok(Some(Mode::AfterBracket(Operand::Selected(
-            name, matchers, span,
-        )))),
-        Mark::Word(Class::Offset) => Ok(Some(Mode::InMod(
+    match follower {
+        Follower::Bracket => Ok(Some(Mode::AfterBracket(Operand::Selected(name, matchers, span)))),
+        Follower::Offset => Ok(Some(Mode::InMod(
             Subject::Selector(name, matchers),
             blank(span),
             span,
             Part::AfterOffset,
         ))),
-        Mark::Sign(Sign::At) => Ok(Some(Mode::InMod(
+        Follower::At => Ok(Some(Mode::InMod(
             Subject::Selector(name, matchers),
             blank(span),
             span,
@@ -131,15 +129,14 @@ fn aggregated_step(
     args: Seq<Expr>,
     span: Span,
     end: u32,
+    follower: Follower,
     token: Seen,
 ) -> Result<Option<Mode>, Memory>
-    ensures { IfOk result (λ p. next stack.new.items p ≡ machine.aggregated_step (seen_frames stack.old.items) op (trees args) span end (tok token.entry)) }
+    ensures { IfOk result (λ p. next stack.new.items p ≡ machine.aggregated_step (seen_frames stack.old.items) op (trees args) span end follower (tok token.entry)) }
 {
-    match token.mark {
-        Mark::Sign(Sign::OpenBracket) => Ok(Some(Mode::AfterBracket(Operand::Aggregated(
-            op, args, span, end,
-        )))),
-        Mark::Word(Class::Grouping(clause)) => Ok(Some(Mode::InGroupingBehind(
+    match follower {
+        Follower::Bracket => Ok(Some(Mode::AfterBracket(Operand::Aggregated(op, args, span, end)))),
+        Follower::Grouping(clause) => Ok(Some(Mode::InGroupingBehind(
             op,
             span,
             args,
@@ -161,19 +158,18 @@ fn seen_step(
     sight: Sight,
     span: Span,
     end: u32,
+    follower: Follower,
     token: Seen,
 ) -> Result<Option<Mode>, Memory>
-    ensures { IfOk result (λ p. next stack.new.items p ≡ machine.seen_step (seen_frames stack.old.items) (seen_subject subject) sight span end (tok token.entry)) }
+    ensures { IfOk result (λ p. next stack.new.items p ≡ machine.seen_step (seen_frames stack.old.items) (seen_subject subject) sight span end follower (tok token.entry)) }
 {
-    match token.mark {
-        Mark::Sign(Sign::OpenBracket) => Ok(Some(Mode::AfterBracket(Operand::Seen(
-            subject, sight, span, end,
-        )))),
-        Mark::Word(Class::Offset) => match &sight.offset {
+    match follower {
+        Follower::Bracket => Ok(Some(Mode::AfterBracket(Operand::Seen(subject, sight, span, end)))),
+        Follower::Offset => match &sight.offset {
             None => Ok(Some(Mode::InMod(subject, sight, span, Part::AfterOffset))),
             Some(_) => Ok(None),
         },
-        Mark::Sign(Sign::At) => match &sight.at {
+        Follower::At => match &sight.at {
             None => Ok(Some(Mode::InMod(subject, sight, span, Part::AfterAt))),
             Some(_) => Ok(None),
         },
@@ -193,17 +189,18 @@ pub fn expect_operator(
 ) -> Result<Option<Mode>, Memory>
     ensures { IfOk result (λ p. next stack.new.items p ≡ machine.expect_operator (seen_frames stack.old.items) (seen_operand operand) (tok token.entry)) }
 {
+    let follower = follower_of(token);
     match operand {
-        Operand::Whole(operand, end) => whole_step(alloc, stack, operand, end, token),
-        Operand::Bare(name, span) => bare_step(alloc, stack, name, span, token),
+        Operand::Whole(operand, end) => whole_step(alloc, stack, operand, end, follower, token),
+        Operand::Bare(name, span) => bare_step(alloc, stack, name, span, follower, token),
         Operand::Selected(name, matchers, span) => {
-            selected_step(alloc, stack, name, matchers, span, token)
+            selected_step(alloc, stack, name, matchers, span, follower, token)
         }
         Operand::Aggregated(op, args, span, end) => {
-            aggregated_step(alloc, stack, op, args, span, end, token)
+            aggregated_step(alloc, stack, op, args, span, end, follower, token)
         }
         Operand::Seen(subject, sight, span, end) => {
-            seen_step(alloc, stack, subject, sight, span, end, token)
+            seen_step(alloc, stack, subject, sight, span, end, follower, token)
         }
     }
 }

@@ -5,6 +5,7 @@ mod behind;
 mod braces;
 mod calls;
 mod class;
+mod follower;
 mod grouping;
 mod laws;
 mod machine;

@@ -18,7 +18,9 @@ use Rattle.lf_parse.specs.declared.class.Edge.{Edge as EdgeOf}
 use Rattle.lf_parse.specs.declared.class.Clause.{Clause}
 use Rattle.lf_parse.specs.declared.class.Scope.{Scope}
 use Rattle.lf_parse.specs.declared.class.Side.{Side}
-use Rattle.lf_parse.specs.Tokens.{Word, Metric, Num, Dur, Quoted, Sign, Tok, ◌at◌, op_of}
+use Rattle.lf_parse.specs.declared.follower.Follower.{Follower}
+use Rattle.lf_parse.specs.declared.follower.Follower.TheVariants as followers
+use Rattle.lf_parse.specs.Tokens.{Mark, Word, Metric, Num, Dur, Quoted, Sign, Tok, ◌at◌, op_of}
 use Rattle.lf_ast.specs.Tree.{Tree, Number, Str, Selector, Subquery, Paren, Unary, Binary, Call, Aggregate, Trees, Nil, span_of, with_last}
 use Rattle.lf_parse.specs.Grammar.{to, up_to, behind, name, matched, unmatched, many_of, matcher, match_of, blank, ranged, stepped, edge_text, Mod, OffsetBy, AtTime, with_mod, grouping, level, left_level}
 
@@ -315,41 +317,56 @@ abbrev pub room : {A : Type 0} → Option A → State → Option State
 room None s = Some s
 room (Some x) s = None
 
-abbrev pub whole_step : List Frame → Tree → ℕ → Tok → Option State
-whole_step fs e n (Sign OpenBracket at o) = Some (state fs (AfterBracket (Whole e n)))
-whole_step fs e n t = after fs e n t
+-- what a token begins right behind an operand
+abbrev pub follower : Mark → Follower
+follower (Sign OpenBracket) = followers.Bracket
+follower (Sign OpenParen) = followers.Paren
+follower (Sign OpenBrace) = followers.Brace
+follower (Sign AtSign) = followers.At
+follower (Word Offset w) = followers.Offset
+follower (Word (Grouping k) w) = followers.Grouping k
+follower _ = followers.Other
 
-abbrev pub bare_step : List Frame → List ℕ → Span → Tok → Option State
-bare_step fs w p (Sign OpenBracket at o) = Some (state fs (AfterBracket (Bare w p)))
-bare_step fs w p (Sign OpenParen at o) = Some (state fs (First (OfCall w p)))
-bare_step fs w p (Sign OpenBrace at o) = Some (state fs (InBraces (Some w) p (NextMatcher [])))
-bare_step fs w p (Word Offset v at q) = Some (state fs (InMod (OfSelector (Some w) []) (blank p) p AfterOffset))
-bare_step fs w p (Sign AtSign at q) = Some (state fs (InMod (OfSelector (Some w) []) (blank p) p AfterAt))
-bare_step fs w p t = after fs (Selector (Some w) [] (blank p) p) p.end t
+abbrev pub follower_of : Tok → Follower
+follower_of (m at p) = follower m
 
-abbrev pub selected_step : List Frame → Option (List ℕ) → List Matcher → Span → Tok → Option State
-selected_step fs nm ms p (Sign OpenBracket at o) = Some (state fs (AfterBracket (Selected nm ms p)))
-selected_step fs nm ms p (Word Offset v at q) = Some (state fs (InMod (OfSelector nm ms) (blank p) p AfterOffset))
-selected_step fs nm ms p (Sign AtSign at q) = Some (state fs (InMod (OfSelector nm ms) (blank p) p AfterAt))
-selected_step fs nm ms p t = after fs (Selector nm ms (blank p) p) p.end t
+-- the token behind an operand of each sort, by what it begins there
 
-abbrev pub aggregated_step : List Frame → Agg → Trees → Span → ℕ → Tok → Option State
-aggregated_step fs a xs p n (Sign OpenBracket at o) = Some (state fs (AfterBracket (Aggregated a xs p n)))
-aggregated_step fs a xs p n (Word (Grouping k) v at q) = Some (state fs (InGroupingBehind a p xs k Opening))
-aggregated_step fs a xs p n t = after fs (Aggregate a grouping_of.None xs p) n t
+abbrev pub whole_step : List Frame → Tree → ℕ → Follower → Tok → Option State
+whole_step fs e n followers.Bracket t = Some (state fs (AfterBracket (Whole e n)))
+whole_step fs e n _ t = after fs e n t
 
-abbrev pub seen_step : List Frame → Subject → Sight → Span → ℕ → Tok → Option State
-seen_step fs x s p n (Sign OpenBracket at o) = Some (state fs (AfterBracket (Seen x s p n)))
-seen_step fs x s p n (Word Offset v at q) = room s.offset (state fs (InMod x s p AfterOffset))
-seen_step fs x s p n (Sign AtSign at q) = room s.at (state fs (InMod x s p AfterAt))
-seen_step fs x s p n t = after fs (subject_tree x s p) n t
+abbrev pub bare_step : List Frame → List ℕ → Span → Follower → Tok → Option State
+bare_step fs w p followers.Bracket t = Some (state fs (AfterBracket (Bare w p)))
+bare_step fs w p followers.Paren t = Some (state fs (First (OfCall w p)))
+bare_step fs w p followers.Brace t = Some (state fs (InBraces (Some w) p (NextMatcher [])))
+bare_step fs w p followers.Offset t = Some (state fs (InMod (OfSelector (Some w) []) (blank p) p AfterOffset))
+bare_step fs w p followers.At t = Some (state fs (InMod (OfSelector (Some w) []) (blank p) p AfterAt))
+bare_step fs w p _ t = after fs (Selector (Some w) [] (blank p) p) p.end t
+
+abbrev pub selected_step : List Frame → Option (List ℕ) → List Matcher → Span → Follower → Tok → Option State
+selected_step fs nm ms p followers.Bracket t = Some (state fs (AfterBracket (Selected nm ms p)))
+selected_step fs nm ms p followers.Offset t = Some (state fs (InMod (OfSelector nm ms) (blank p) p AfterOffset))
+selected_step fs nm ms p followers.At t = Some (state fs (InMod (OfSelector nm ms) (blank p) p AfterAt))
+selected_step fs nm ms p _ t = after fs (Selector nm ms (blank p) p) p.end t
+
+abbrev pub aggregated_step : List Frame → Agg → Trees → Span → ℕ → Follower → Tok → Option State
+aggregated_step fs a xs p n followers.Bracket t = Some (state fs (AfterBracket (Aggregated a xs p n)))
+aggregated_step fs a xs p n (followers.Grouping k) t = Some (state fs (InGroupingBehind a p xs k Opening))
+aggregated_step fs a xs p n _ t = after fs (Aggregate a grouping_of.None xs p) n t
+
+abbrev pub seen_step : List Frame → Subject → Sight → Span → ℕ → Follower → Tok → Option State
+seen_step fs x s p n followers.Bracket t = Some (state fs (AfterBracket (Seen x s p n)))
+seen_step fs x s p n followers.Offset t = room s.offset (state fs (InMod x s p AfterOffset))
+seen_step fs x s p n followers.At t = room s.at (state fs (InMod x s p AfterAt))
+seen_step fs x s p n _ t = after fs (subject_tree x s p) n t
 
 abbrev pub expect_operator : List Frame → Operand → Tok → Option State
-expect_operator fs (Whole e n) t = whole_step fs e n t
-expect_operator fs (Bare w p) t = bare_step fs w p t
-expect_operator fs (Selected nm ms p) t = selected_step fs nm ms p t
-expect_operator fs (Aggregated a xs p n) t = aggregated_step fs a xs p n t
-expect_operator fs (Seen x s p n) t = seen_step fs x s p n t
+expect_operator fs (Whole e n) t = whole_step fs e n (follower_of t) t
+expect_operator fs (Bare w p) t = bare_step fs w p (follower_of t) t
+expect_operator fs (Selected nm ms p) t = selected_step fs nm ms p (follower_of t) t
+expect_operator fs (Aggregated a xs p n) t = aggregated_step fs a xs p n (follower_of t) t
+expect_operator fs (Seen x s p n) t = seen_step fs x s p n (follower_of t) t
 
 abbrev pub first : List Frame → Head → Tok → Option State
 first fs h (Sign CloseParen at c) = operand_read fs (applied h Nil c)
