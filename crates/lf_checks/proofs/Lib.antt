@@ -1,0 +1,4 @@
+pub mod OneList
+pub mod TrueFindings
+pub mod WorkedAlerts
+pub mod WorkedRecords

@@ -1,0 +1,116 @@
+-- What findings claim of samples is so in every world of the rules.
+use Rattle.std.proofs.Common.{◌≡◌, inl, inr, ℕ, Bool, false, cond, List, [], ◌∷◌, ◌++◌, Some, codes, refl, sym, ap, ◌∙◌, subst, arith}
+use Rattle.std.specs.Prelude.{slice_get, slice_index_or}
+use Rattle.std.proofs.lemmas.List.{append_cancel_left, append_cancel_right}
+use Rattle.lf_ast.specs.Labels.{Bytes, Labels}
+use Rattle.lf_ast.specs.Rules.{RuleTree}
+use Rattle.lf_semantics.specs.ClassRows.{Represents, Sets, bottom, is_live}
+use Rattle.lf_semantics.specs.Environments.{IsLeast, rule_row}
+use Rattle.lf_semantics.specs.Laws.{SetNoNames}
+use Rattle.lf_semantics.specs.Listing.{Listing, universe_of}
+use Rattle.lf_semantics.specs.Parts.{is_evaluated, type_by_form}
+use Rattle.lf_semantics.specs.RowTable.{Environment, row_of}
+use Rattle.lf_semantics.specs.Worlds.{IsSample, World}
+use Rattle.lf_semantics.proofs.LeqLaws.{bottom_dead}
+use Rattle.lf_semantics.proofs.ListingLaws.{universe_covers, universe_is_listing}
+use Rattle.lf_semantics.proofs.SamplesRepresented.{sample_represented}
+use Rattle.lf_semantics.proofs.Told.{is_absent, is_present, not_empty}
+use Rattle.lf_checks.specs.AlertTemplate as alert_template
+use Rattle.lf_checks.specs.Files.{File}
+use Rattle.lf_checks.specs.Finding.{Check, AlertComparison, AlertTemplate, RuleDuplicate, RuleDependency, PromqlRegexp, MatchLabel, ExprEmpty, ExprType, RuleLabel, Finding}
+use Rattle.lf_checks.specs.Findings.{Finds, IsFinding}
+use Rattle.lf_checks.specs.Judged.{IsGuaranteed, IsImpossible}
+use Rattle.lf_checks.specs.RuleLabel as rule_label
+use Rattle.lf_checks.specs.Truths.{HasNoSample, IsOnEach, IsOnNone, IsTrue}
+
+-- ---- texts
+
+-- one label is named by a text that ends in the same words
+same_label : (back label other : Bytes) → codes "label " ++ (label ++ back) ≡ codes "label " ++ (other ++ back) → label ≡ other
+same_label back label other e = append_cancel_right label other back (append_cancel_left (codes "label ") (label ++ back) (other ++ back) e)
+
+-- the last byte of a text behind another
+abbrev pub last_of : ℕ → Bytes → ℕ
+last_of before [] = before
+last_of before (b ∷ bs) = last_of b bs
+
+pub last_behind : (before b : ℕ) (front bs : Bytes) → last_of before (front ++ b ∷ bs) ≡ last_of b bs
+last_behind before b [] bs = refl
+last_behind before b (c ∷ front) bs = last_behind c b front bs
+
+-- texts that end otherwise differ
+end_of_replaced : (label : Bytes) → last_of 0 (rule_label.says_replaced label) ≡ 115
+end_of_replaced label = last_behind 32 32 label (codes "replaces one that each sample has")
+
+end_of_removed : (label : Bytes) → last_of 0 (rule_label.says_removed label) ≡ 101
+end_of_removed label = last_behind 32 32 label (codes "is removed but on no sample")
+
+replaced_is_not_removed : (label other : Bytes) → rule_label.says_replaced label ≡ rule_label.says_removed other → ⊥
+replaced_is_not_removed label other e = let clash : 115 ≡ 101 = sym (end_of_replaced label) ∙ ap (last_of 0) e ∙ end_of_removed other in omega (arith, clash)
+
+unreadable_names_none : (label : Bytes) → alert_template.says_unreadable ≡ alert_template.says_never label → ⊥
+unreadable_names_none label e = let clash : 116 ≡ 108 = ap (λ (t : Bytes). slice_index_or t 0 0) e in omega (arith, clash)
+
+-- ---- samples
+
+module _ (rules : List RuleTree) (named : SetNoNames rules) (env : Environment) (least : IsLeast (universe_of rules) rules env) where
+  abbrev u : Listing
+  u = universe_of rules
+
+  abbrev row : RuleTree → Sets
+  row = rule_row u env
+
+  represents : (r : RuleTree) (world : World rules) (s : Labels) → IsSample world r s → Represents u (row r) s
+  represents r world s sample = sample_represented u (universe_is_listing rules) rules (universe_covers rules) named env least.of_rules least.closed world r s sample
+
+  -- an impossible label is on no sample, and a guaranteed one on each
+  pub on_none : (r : RuleTree) (label : Bytes) → IsImpossible u (row r) label → IsOnNone rules r label
+  on_none r label impossible world s sample has = has (is_absent u (row r) s (represents r world s sample) label impossible.1)
+
+  pub on_each : (r : RuleTree) (label : Bytes) → IsGuaranteed u (row r) label → IsOnEach rules r label
+  on_each r label guaranteed world s sample = is_present u (row r) s (represents r world s sample) label guaranteed.1
+
+  -- a rule with the empty row has no sample; and it is that of a string and of a range vector
+  pub no_sample : (r : RuleTree) → is_live (row r) ≡ false → HasNoSample rules r
+  no_sample r empty world s sample = not_empty u (row r) s (represents r world s sample) empty
+
+  empty_by_type : (r : RuleTree) → is_evaluated (type_by_form r.expr) ≡ false → is_live (row r) ≡ false
+  empty_by_type r e = ap (λ (b : Bool). is_live (cond b (row_of u env r.expr) (bottom u))) e ∙ bottom_dead u (universe_is_listing rules)
+
+  template_is_true : (r : RuleTree) (f : Finding) → alert_template.IsFound u (row r) r f → IsTrue rules r f
+  template_is_true r f (inl (t, reference, has, refers, impossible, e)) =
+      subst (IsTrue rules r) (sym e)
+      (λ label text. subst (IsOnNone rules r) (same_label (codes " is never on the alert's sample") reference.label label text) (on_none r reference.label impossible))
+  template_is_true r f (inr (t, breach, has, breaks, e)) = subst (IsTrue rules r) (sym e) (λ label text. absurd (unreadable_names_none label text))
+
+  label_is_true : (r : RuleTree) (f : Finding) → rule_label.IsFound u (row r) r f → IsTrue rules r f
+  label_is_true r f (inl (l, has, some, guaranteed, e)) =
+      subst (IsTrue rules r) (sym e) (
+        λ label text. subst (IsOnEach rules r) (same_label (codes " replaces one that each sample has") l.key label text) (on_each r l.key guaranteed),
+        λ label text. absurd (replaced_is_not_removed l.key label text),
+      )
+  label_is_true r f (inr (l, has, none, impossible, e)) =
+      subst (IsTrue rules r) (sym e) (
+        λ label text. absurd (replaced_is_not_removed label l.key (sym text)),
+        λ label text. subst (IsOnNone rules r) (same_label (codes " is removed but on no sample") l.key label text) (on_none r l.key impossible),
+      )
+
+  -- ---- all checks
+
+  -- what a check finds of a rule is true
+  pub found_is_true : (files : List File) (check : Check) (i : ℕ) (r : RuleTree) (f : Finding) → Finds files rules env check i r f → IsTrue rules r f
+  found_is_true files AlertComparison i r f h = subst (IsTrue rules r) (sym h.2) tt
+  found_is_true files AlertTemplate i r f h = template_is_true r f h
+  found_is_true files RuleDuplicate i r f (s, place, first, at, e) = subst (IsTrue rules r) (sym e) tt
+  found_is_true files RuleDependency i r f (inl (name, span, at, colon, none, e)) = subst (IsTrue rules r) (sym e) tt
+  found_is_true files RuleDependency i r f (inr (name, span, at, cyclic, e)) = subst (IsTrue rules r) (sym e) tt
+  found_is_true files PromqlRegexp i r f (inl (m, by, one, e)) = subst (IsTrue rules r) (sym e) tt
+  found_is_true files PromqlRegexp i r f (inr (m, by, anchored, e)) = subst (IsTrue rules r) (sym e) tt
+  found_is_true files MatchLabel i r f (x, label, operand, within, seeks, impossible, e) = subst (IsTrue rules r) (sym e) tt
+  found_is_true files ExprEmpty i r f h = subst (IsTrue rules r) (sym h.2) (no_sample r h.1)
+  found_is_true files ExprType i r f h = subst (IsTrue rules r) (sym h.1) (no_sample r (empty_by_type r h.0))
+  found_is_true files RuleLabel i r f h = label_is_true r f h
+
+  -- so is each of its findings
+  pub finding_is_true : (files : List File) (i : ℕ) (f : Finding) → IsFinding files rules env i f → (r : RuleTree) × (slice_get rules i ≡ Some r) × IsTrue rules r f
+  finding_is_true files i f (r, at, check, found) = (r, at, found_is_true files check i r f found)

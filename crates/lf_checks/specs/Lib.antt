@@ -1,0 +1,15 @@
+pub mod Finding
+pub mod Files
+pub mod Judged
+pub mod Subexpressions
+pub mod AlertComparison
+pub mod AlertTemplate
+pub mod RuleDuplicate
+pub mod RuleDependency
+pub mod PromqlRegexp
+pub mod MatchLabel
+pub mod ExprEmpty
+pub mod ExprType
+pub mod RuleLabel
+pub mod Findings
+pub mod Truths

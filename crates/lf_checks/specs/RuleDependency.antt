@@ -1,0 +1,45 @@
+-- rule/dependency: a selector of a name with a colon that no rule records, or of a name that is read in its own making.
+use Rattle.std.specs.Prelude.{◌≡◌, ◌⊎◌, ◌==◌, Bool, true, List, ◌++◌, Option, Some, codes}
+use Rattle.std.specs.List.{Contains, list_any}
+use Rattle.lf_base.specs.declared.place.Span.{Span}
+use Rattle.lf_ast.specs.Labels.{Bytes}
+use Rattle.lf_ast.specs.Rules.{RuleTree}
+use Rattle.lf_ast.specs.Selectors.{selected_name}
+use Rattle.lf_ast.specs.Tree.{Tree, Selector}
+use Rattle.lf_ast.specs.declared.expr.Matcher.{Matcher}
+use Rattle.lf_ast.specs.declared.expr.Sight.{Sight}
+use Rattle.lf_deps.specs.Reading.{IsCyclic}
+use Rattle.lf_semantics.specs.Environments.{names_recorded}
+use Rattle.lf_checks.specs.Finding.{Finding, Note, RuleDependency, Severity, finding}
+use Rattle.lf_checks.specs.Subexpressions.{subexpressions}
+
+abbrev pub severity : Severity
+severity = Note
+
+abbrev pub says_unrecorded : Bytes → Bytes
+says_unrecorded name = name ++ codes " is recorded by no accepted rule"
+
+abbrev pub says_cyclic : Bytes → Bytes
+says_cyclic name = name ++ codes " is read in its own making"
+
+-- by convention a metric name with a colon is a recorded one
+abbrev pub has_colon : Bytes → Bool
+has_colon name = list_any (λ b. b == 58) name
+
+-- a selector in the expression, with this span, is of the name: the one before its braces, or that of its first `=` on the metric name
+abbrev pub SelectsAt : Tree → Bytes → Span → Type 0
+SelectsAt e name span =
+    (before : Option Bytes) × (matchers : List Matcher) × (sight : Sight) × Contains (subexpressions e) (Selector before matchers sight span) × (selected_name before matchers ≡ Some name)
+
+-- a selector of a name with a colon that no rule records, at the selector
+abbrev pub IsUnrecorded : List RuleTree → RuleTree → Finding → Type 0
+IsUnrecorded rules r f =
+    (name : Bytes) × (span : Span) × SelectsAt r.expr name span × (has_colon name ≡ true) × (Contains (names_recorded rules) name → ⊥)
+    × (f ≡ finding RuleDependency span (says_unrecorded name))
+
+-- a selector of a name that one of its own rules reads, directly or through others; at the selector
+abbrev pub IsOfCyclic : List RuleTree → RuleTree → Finding → Type 0
+IsOfCyclic rules r f = (name : Bytes) × (span : Span) × SelectsAt r.expr name span × IsCyclic rules name × (f ≡ finding RuleDependency span (says_cyclic name))
+
+abbrev pub IsFound : List RuleTree → RuleTree → Finding → Type 0
+IsFound rules r f = IsUnrecorded rules r f ⊎ IsOfCyclic rules r f
