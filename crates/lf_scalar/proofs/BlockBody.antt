@@ -199,14 +199,14 @@ joining = record { again = λ ls text h. h; told = λ ls. refl }
 pub folding : Joining IsFolded folded_of
 folding = record { again = folded-again; told = folded-told }
 
-pub text-again : (Joins : List Line → List Cell → Type 0) (joins : List Line → List Cell) (j : Joining Joins joins) (chomp : Chomp) (body : List Line) (text : List Cell) → IsBlockText Joins chomp body text → text ≡ block_text joins chomp body
-text-again Joins joins j chomp body text h =
+pub text-again : (Joins : List Line → List Cell → Type 0) (joins : List Line → List Cell) (j : Joining Joins joins) (end : ℕ) (chomp : Chomp) (body : List Line) (text : List Cell) → IsBlockText Joins end chomp body text → text ≡ block_text joins end chomp body
+text-again Joins joins j end chomp body text h =
     let s = split-again h.full h.empty h.ends_full h.are_empty in
     let f : trimmed is_empty body ≡ h.full = ap (trimmed is_empty) h.source ∙ s.0 in
     let e : empties body ≡ h.empty = ap empties h.source ∙ s.1 in
-    h.text_is ∙ rw (f, e) (ap (λ (x : List Cell). x ++ chomped chomp h.full h.empty) (j.again h.full h.inner h.joins))
+    h.text_is ∙ rw (f, e) (ap (λ (x : List Cell). x ++ chomped end chomp h.full h.empty) (j.again h.full h.inner h.joins))
 
-pub text-told : (Joins : List Line → List Cell → Type 0) (joins : List Line → List Cell) (j : Joining Joins joins) (chomp : Chomp) (body : List Line) → IsBlockText Joins chomp body (block_text joins chomp body)
-text-told Joins joins j chomp body =
+pub text-told : (Joins : List Line → List Cell → Type 0) (joins : List Line → List Cell) (j : Joining Joins joins) (end : ℕ) (chomp : Chomp) (body : List Line) → IsBlockText Joins end chomp body (block_text joins end chomp body)
+text-told Joins joins j end chomp body =
     let s = split body in
     record { full = trimmed is_empty body; empty = empties body; source = s.source; ends_full = s.ends_full; are_empty = s.are_empty; inner = joins (trimmed is_empty body); joins = j.told (trimmed is_empty body); text_is = refl }

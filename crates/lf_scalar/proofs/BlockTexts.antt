@@ -1,5 +1,5 @@
 -- The text of a block scalar: it is UTF-8, and its offsets never fall.
-use Rattle.std.proofs.Common.{◌≡◌, ℕ, zero, suc, ◌≤◌, Bool, true, false, cond, ◌||◌, eqb, leb, List, [], ◌∷◌, ◌++◌, length, map, take, drop, take_while, refl, ap, arith, sym, ◌∙◌, subst, ◌⊎◌, inl, inr, eqb-true}
+use Rattle.std.proofs.Common.{◌≡◌, ℕ, zero, suc, ◌≤◌, Bool, true, false, cond, ◌||◌, eqb, leb, nat_lt, List, [], ◌∷◌, ◌++◌, length, map, take, drop, take_while, refl, ap, arith, sym, ◌∙◌, subst, ◌⊎◌, inl, inr, eqb-true}
 use Rattle.std.specs.List.{flat_map, list_all}
 use Rattle.std.proofs.lemmas.List.{take-append-drop}
 use Rattle.std.proofs.lemmas.List.Sums.{take_while-cons}
@@ -9,7 +9,7 @@ use Rattle.lf_scalar.specs.declared.block.Chomp.TheVariants.{Strip, Clip, Keep}
 use Rattle.lf_scalar.specs.Cells.{Cell, cell}
 use Rattle.lf_scalar.specs.Lines.{Line, indent_of, is_spaces}
 use Rattle.lf_scalar.specs.Folding.{fold, feeds}
-use Rattle.lf_scalar.specs.Block.{in_body, content, body_of, breaks, last_break, chomped, joined, Stretch, whole, begins_blank, between, folded, IsFolded, IsJoined, IsBlockText}
+use Rattle.lf_scalar.specs.Block.{in_body, content, body_of, breaks, line_end, line_ends, last_end, chomped, joined, Stretch, whole, begins_blank, between, folded, IsFolded, IsJoined, IsBlockText}
 use Rattle.lf_scalar.proofs.Parts.{Utf8, Part, whole-part, low-part, part-utf8}
 use Rattle.lf_scalar.proofs.Utf8Lines.{utf8-nil, utf8-append, utf8-low, feeds-utf8, fold-utf8, LinesUtf8, lines-utf8-behind, lines-utf8-front}
 use Rattle.lf_scalar.proofs.Rising.{Rises, LinesRise, rises-le, rises-low, rises-back, lines-low, lines-behind}
@@ -41,35 +41,27 @@ content-part k l h =
       | inr a ↦ indented-part k l.text (inl (leb-true k (indent_of l.text) a))
     ]
 
-content-utf8 : (k : ℕ) (bare : Bool) (l : Line) → in_body k l ≡ true → Utf8 l.text → Utf8 (content k bare l).text
-content-utf8 k true l h u = utf8-nil
-content-utf8 k false l h u = part-utf8 l.text (drop k l.text) (content-part k l h) u
-
-taken-utf8 : (k : ℕ) (bare : Bool) (ls : List Line) → LinesUtf8 ls → LinesUtf8 (map (content k bare) (take_while (in_body k) ls))
-taken-utf8 k bare [] u = tt
-taken-utf8 k bare (l ∷ ls) u = subst (λ (ms : List Line). LinesUtf8 (map (content k bare) ms)) (sym (take_while-cons (in_body k) l ls)) (by (in_body k l) refl (taken-utf8 k bare ls u.1))
+taken-utf8 : (k : ℕ) (ls : List Line) → LinesUtf8 ls → LinesUtf8 (map (content k) (take_while (in_body k) ls))
+taken-utf8 k [] u = tt
+taken-utf8 k (l ∷ ls) u = subst (λ (ms : List Line). LinesUtf8 (map (content k) ms)) (sym (take_while-cons (in_body k) l ls)) (by (in_body k l) refl (taken-utf8 k ls u.1))
   where
-    by : (b : Bool) → in_body k l ≡ b → LinesUtf8 (map (content k bare) (take_while (in_body k) ls)) → LinesUtf8 (map (content k bare) (cond b (l ∷ take_while (in_body k) ls) []))
-    by true e below = (content-utf8 k bare l e u.0, below)
+    by : (b : Bool) → in_body k l ≡ b → LinesUtf8 (map (content k) (take_while (in_body k) ls)) → LinesUtf8 (map (content k) (cond b (l ∷ take_while (in_body k) ls) []))
+    by true e below = (part-utf8 l.text (drop k l.text) (content-part k l e) u.0, below)
     by false e below = tt
 
 pub body-utf8 : (k : ℕ) (ls : List Line) → LinesUtf8 ls → LinesUtf8 (body_of k ls)
-body-utf8 k ls u = taken-utf8 k (list_all is_spaces (take_while (in_body k) ls)) ls u
+body-utf8 k ls u = taken-utf8 k ls u
 
-content-rises : (k : ℕ) (bare : Bool) (lo : ℕ) (l : Line) → Rises lo l.text l.break → Rises lo (content k bare l).text l.break
-content-rises k true lo l r = rises-le lo l.text l.break r
-content-rises k false lo l r = rises-back lo (take k l.text) (drop k l.text) l.break (subst (λ (cs : List Cell). Rises lo cs l.break) (sym (take-append-drop k l.text)) r)
-
-taken-rise : (k : ℕ) (bare : Bool) (lo hi : ℕ) (ls : List Line) → LinesRise lo ls hi → LinesRise lo (map (content k bare) (take_while (in_body k) ls)) hi
-taken-rise k bare lo hi [] r = tt
-taken-rise k bare lo hi (l ∷ ls) r = subst (λ (ms : List Line). LinesRise lo (map (content k bare) ms) hi) (sym (take_while-cons (in_body k) l ls)) (by (in_body k l) (taken-rise k bare (suc l.break) hi ls r.2))
-  where
-    by : (b : Bool) → LinesRise (suc l.break) (map (content k bare) (take_while (in_body k) ls)) hi → LinesRise lo (map (content k bare) (cond b (l ∷ take_while (in_body k) ls) [])) hi
-    by true below = (content-rises k bare lo l r.0, r.1, below)
-    by false below = tt
+content-rises : (k lo : ℕ) (l : Line) → Rises lo l.text l.break → Rises lo (content k l).text l.break
+content-rises k lo l r = rises-back lo (take k l.text) (drop k l.text) l.break (subst (λ (cs : List Cell). Rises lo cs l.break) (sym (take-append-drop k l.text)) r)
 
 pub body-rises : (k lo hi : ℕ) (ls : List Line) → LinesRise lo ls hi → LinesRise lo (body_of k ls) hi
-body-rises k lo hi ls r = taken-rise k (list_all is_spaces (take_while (in_body k) ls)) lo hi ls r
+body-rises k lo hi [] r = tt
+body-rises k lo hi (l ∷ ls) r = subst (λ (ms : List Line). LinesRise lo (map (content k) ms) hi) (sym (take_while-cons (in_body k) l ls)) (by (in_body k l) (body-rises k (suc l.break) hi ls r.2))
+  where
+    by : (b : Bool) → LinesRise (suc l.break) (map (content k) (take_while (in_body k) ls)) hi → LinesRise lo (map (content k) (cond b (l ∷ take_while (in_body k) ls) [])) hi
+    by true below = (content-rises k lo l r.0, r.1, below)
+    by false below = tt
 
 -- ---- UTF-8
 
@@ -77,15 +69,26 @@ breaks-utf8 : (ls : List Line) → Utf8 (breaks ls)
 breaks-utf8 [] = utf8-nil
 breaks-utf8 (l ∷ ls) = utf8-low (cell 10 l.break) (breaks ls) (omega arith) (breaks-utf8 ls)
 
-last-break-utf8 : (ls : List Line) → Utf8 (last_break ls)
-last-break-utf8 [] = utf8-nil
-last-break-utf8 (l ∷ []) = utf8-low (cell 10 l.break) [] (omega arith) utf8-nil
-last-break-utf8 (l ∷ m ∷ ls) = last-break-utf8 (m ∷ ls)
+end-utf8 : (end : ℕ) (l : Line) → Utf8 (line_end end l)
+end-utf8 end l = by (nat_lt l.break end)
+  where
+    by : (b : Bool) → Utf8 (cond b (cell 10 l.break ∷ []) [])
+    by true = utf8-low (cell 10 l.break) [] (omega arith) utf8-nil
+    by false = utf8-nil
 
-chomped-utf8 : (chomp : Chomp) (full empty : List Line) → Utf8 (chomped chomp full empty)
-chomped-utf8 Strip full empty = utf8-nil
-chomped-utf8 Clip full empty = last-break-utf8 full
-chomped-utf8 Keep full empty = utf8-append (last_break full) (breaks empty) (last-break-utf8 full) (breaks-utf8 empty)
+ends-utf8 : (end : ℕ) (ls : List Line) → Utf8 (line_ends end ls)
+ends-utf8 end [] = utf8-nil
+ends-utf8 end (l ∷ ls) = utf8-append (line_end end l) (line_ends end ls) (end-utf8 end l) (ends-utf8 end ls)
+
+last-end-utf8 : (end : ℕ) (ls : List Line) → Utf8 (last_end end ls)
+last-end-utf8 end [] = utf8-nil
+last-end-utf8 end (l ∷ []) = end-utf8 end l
+last-end-utf8 end (l ∷ m ∷ ls) = last-end-utf8 end (m ∷ ls)
+
+chomped-utf8 : (end : ℕ) (chomp : Chomp) (full empty : List Line) → Utf8 (chomped end chomp full empty)
+chomped-utf8 end Strip full empty = utf8-nil
+chomped-utf8 end Clip full empty = last-end-utf8 end full
+chomped-utf8 end Keep full empty = utf8-append (last_end end full) (line_ends end empty) (last-end-utf8 end full) (ends-utf8 end empty)
 
 joined-utf8 : (ls : List Line) → LinesUtf8 ls → Utf8 (joined ls)
 joined-utf8 [] u = utf8-nil
@@ -118,10 +121,10 @@ folds-utf8 ls text f u =
     subst Utf8 (sym f.text_is)
     (utf8-append (breaks f.empty) (folded f.stretches) (breaks-utf8 f.empty) (folded-utf8 f.stretches (lines-utf8-behind f.empty (flat_map whole f.stretches) (subst LinesUtf8 f.source u))))
 
-pub block-utf8 : (Joins : List Line → List Cell → Type 0) → KeepsUtf8 Joins → (chomp : Chomp) (body : List Line) (text : List Cell) → IsBlockText Joins chomp body text → LinesUtf8 body → Utf8 text
-block-utf8 Joins keeps chomp body text b u =
+pub block-utf8 : (Joins : List Line → List Cell → Type 0) → KeepsUtf8 Joins → (end : ℕ) (chomp : Chomp) (body : List Line) (text : List Cell) → IsBlockText Joins end chomp body text → LinesUtf8 body → Utf8 text
+block-utf8 Joins keeps end chomp body text b u =
     subst Utf8 (sym b.text_is)
-    (utf8-append b.inner (chomped chomp b.full b.empty) (keeps b.full b.inner b.joins (lines-utf8-front b.full b.empty (subst LinesUtf8 b.source u))) (chomped-utf8 chomp b.full b.empty))
+    (utf8-append b.inner (chomped end chomp b.full b.empty) (keeps b.full b.inner b.joins (lines-utf8-front b.full b.empty (subst LinesUtf8 b.source u))) (chomped-utf8 end chomp b.full b.empty))
 
 -- ---- offsets
 
@@ -191,21 +194,34 @@ breaks-mount : (lo hi : ℕ) (ls : List Line) → LinesRise lo ls hi → Mounts 
 breaks-mount lo hi [] r = omega arith
 breaks-mount lo hi (l ∷ ls) r = (rises-le lo l.text l.break r.0, breaks-mount l.break hi ls (lines-low (suc l.break) l.break ls hi (omega arith) r.2))
 
-last-break-mounts : (lo hi : ℕ) (ls : List Line) → LinesRise lo ls hi → Mounts (reach lo ls) (last_break ls) (reach lo ls)
-last-break-mounts lo hi [] r = omega arith
-last-break-mounts lo hi (l ∷ []) r = (omega arith, omega arith)
-last-break-mounts lo hi (l ∷ m ∷ ls) r = last-break-mounts (suc l.break) hi (m ∷ ls) r.2
+end-mounts : (end : ℕ) (l : Line) → Mounts l.break (line_end end l) l.break
+end-mounts end l = by (nat_lt l.break end)
+  where
+    by : (b : Bool) → Mounts l.break (cond b (cell 10 l.break ∷ []) []) l.break
+    by true = (omega arith, omega arith)
+    by false = omega arith
 
-chomped-mounts : (chomp : Chomp) (lo hi : ℕ) (full empty : List Line) → lo ≤ hi → LinesRise lo (full ++ empty) hi → Mounts (reach lo full) (chomped chomp full empty) hi
-chomped-mounts Strip lo hi full empty le r = reach-high lo hi full le (lines-before lo hi full empty r)
-chomped-mounts Clip lo hi full empty le r =
+ends-mount : (end lo hi : ℕ) (ls : List Line) → LinesRise lo ls hi → Mounts lo (line_ends end ls) (reach lo ls)
+ends-mount end lo hi [] r = omega arith
+ends-mount end lo hi (l ∷ ls) r =
+    mounts-append lo (line_end end l) l.break (line_ends end ls) (reach l.break ls) (mounts-low l.break lo (line_end end l) l.break (rises-le lo l.text l.break r.0) (end-mounts end l))
+    (ends-mount end l.break hi ls (lines-low (suc l.break) l.break ls hi (omega arith) r.2))
+
+last-end-mounts : (end lo hi : ℕ) (ls : List Line) → LinesRise lo ls hi → Mounts (reach lo ls) (last_end end ls) (reach lo ls)
+last-end-mounts end lo hi [] r = omega arith
+last-end-mounts end lo hi (l ∷ []) r = end-mounts end l
+last-end-mounts end lo hi (l ∷ m ∷ ls) r = last-end-mounts end (suc l.break) hi (m ∷ ls) r.2
+
+chomped-mounts : (end : ℕ) (chomp : Chomp) (lo hi : ℕ) (full empty : List Line) → lo ≤ hi → LinesRise lo (full ++ empty) hi → Mounts (reach lo full) (chomped end chomp full empty) hi
+chomped-mounts end Strip lo hi full empty le r = reach-high lo hi full le (lines-before lo hi full empty r)
+chomped-mounts end Clip lo hi full empty le r =
     let f = lines-before lo hi full empty r in
-    mounts-high (reach lo full) (last_break full) (reach lo full) hi (reach-high lo hi full le f) (last-break-mounts lo hi full f)
-chomped-mounts Keep lo hi full empty le r =
+    mounts-high (reach lo full) (last_end end full) (reach lo full) hi (reach-high lo hi full le f) (last-end-mounts end lo hi full f)
+chomped-mounts end Keep lo hi full empty le r =
     let f = lines-before lo hi full empty r in
     let e = lines-past lo hi full empty r in
-    mounts-append (reach lo full) (last_break full) (reach lo full) (breaks empty) hi (last-break-mounts lo hi full f)
-    (mounts-high (reach lo full) (breaks empty) (reach (reach lo full) empty) hi (reach-high (reach lo full) hi empty (reach-high lo hi full le f) e) (breaks-mount (reach lo full) hi empty e))
+    mounts-append (reach lo full) (last_end end full) (reach lo full) (line_ends end empty) hi (last-end-mounts end lo hi full f)
+    (mounts-high (reach lo full) (line_ends end empty) (reach (reach lo full) empty) hi (reach-high (reach lo full) hi empty (reach-high lo hi full le f) e) (ends-mount end (reach lo full) hi empty e))
 
 joined-mounts : (lo hi : ℕ) (ls : List Line) → LinesRise lo ls hi → Mounts lo (joined ls) (reach lo ls)
 joined-mounts lo hi [] r = omega arith
@@ -248,8 +264,8 @@ folds-order ls text f lo hi r =
     subst (λ (cs : List Cell). Mounts lo cs (reach lo ls)) (sym f.text_is)
     (mounts-append lo (breaks f.empty) (reach lo f.empty) (folded f.stretches) (reach lo ls) (breaks-mount lo hi f.empty e) (subst (Mounts (reach lo f.empty) (folded f.stretches)) end (folded-mounts (reach lo f.empty) hi f.stretches w)))
 
-pub block-mounts : (Joins : List Line → List Cell → Type 0) → KeepsOrder Joins → (chomp : Chomp) (body : List Line) (text : List Cell) → IsBlockText Joins chomp body text → (lo hi : ℕ) → lo ≤ hi → LinesRise lo body hi → Mounts lo text hi
-block-mounts Joins keeps chomp body text b lo hi le r =
+pub block-mounts : (Joins : List Line → List Cell → Type 0) → KeepsOrder Joins → (end : ℕ) (chomp : Chomp) (body : List Line) (text : List Cell) → IsBlockText Joins end chomp body text → (lo hi : ℕ) → lo ≤ hi → LinesRise lo body hi → Mounts lo text hi
+block-mounts Joins keeps end chomp body text b lo hi le r =
     let s : LinesRise lo (b.full ++ b.empty) hi = subst (λ (ms : List Line). LinesRise lo ms hi) b.source r in
     subst (λ (cs : List Cell). Mounts lo cs hi) (sym b.text_is)
-    (mounts-append lo b.inner (reach lo b.full) (chomped chomp b.full b.empty) hi (keeps b.full b.inner b.joins lo hi (lines-before lo hi b.full b.empty s)) (chomped-mounts chomp lo hi b.full b.empty le s))
+    (mounts-append lo b.inner (reach lo b.full) (chomped end chomp b.full b.empty) hi (keeps b.full b.inner b.joins lo hi (lines-before lo hi b.full b.empty s)) (chomped-mounts end chomp lo hi b.full b.empty le s))

@@ -19,27 +19,27 @@ use Rattle.lf_scalar.proofs.PlainLaws as plain
 use Rattle.lf_scalar.proofs.BlockBody.{joining, folding}
 use Rattle.lf_scalar.proofs.BlockLaws as block
 
-quoted-read : (kind : Quotes) (above end : ℕ) (src : List Cell) (v : Value) → IsQuotedAt kind above end src v → quoted_at kind above end src ≡ Ok v
-quoted-read kind above end [] v h = absurd h
-quoted-read kind above end (c ∷ src) v h = quoted.quoted-again kind above end c src v h
+quoted-read : (kind : Quotes) (end : ℕ) (src : List Cell) (v : Value) → IsQuotedAt kind end src v → quoted_at kind end src ≡ Ok v
+quoted-read kind end [] v h = absurd h
+quoted-read kind end (c ∷ src) v h = quoted.quoted-again kind end c src v h
 
-quoted-refused : (kind : Quotes) (above end : ℕ) (src : List Cell) (f : Fault) → BreaksQuotedAt kind above end src f → quoted_at kind above end src ≡ Err f
-quoted-refused kind above end [] f h = absurd h
-quoted-refused kind above end (c ∷ src) f h = quoted.quoted-breaks kind above end c src f h
+quoted-refused : (kind : Quotes) (end : ℕ) (src : List Cell) (f : Fault) → BreaksQuotedAt kind end src f → quoted_at kind end src ≡ Err f
+quoted-refused kind end [] f h = absurd h
+quoted-refused kind end (c ∷ src) f h = quoted.quoted-breaks kind end c src f h
 
 -- what the definition has is read
 pub is_read : (s : Style) (above end : ℕ) (src : List Cell) (v : Value) → IsOfStyle s above end src v → reading s above end src ≡ Ok v
 is_read style.Plain above end src v h = plain.plain-read above end src v h
-is_read style.Single above end src v h = quoted-read Single above end src v h
-is_read style.Double above end src v h = quoted-read Double above end src v h
+is_read style.Single above end src v h = quoted-read Single end src v h
+is_read style.Double above end src v h = quoted-read Double end src v h
 is_read style.Literal above end src v h = block.block-read IsJoined joined joining above end src v h
 is_read style.Folded above end src v h = block.block-read IsFolded folded_of folding above end src v h
 
 -- a breach is answered
 pub is_refused : (s : Style) (above end : ℕ) (src : List Cell) (f : Fault) → BreaksStyle s above end src f → reading s above end src ≡ Err f
 is_refused style.Plain above end src f h = plain.plain-refused above end src f h
-is_refused style.Single above end src f h = quoted-refused Single above end src f h
-is_refused style.Double above end src f h = quoted-refused Double above end src f h
+is_refused style.Single above end src f h = quoted-refused Single end src f h
+is_refused style.Double above end src f h = quoted-refused Double end src f h
 is_refused style.Literal above end src f h = block.block-refused IsJoined joined joining above end src f h
 is_refused style.Folded above end src f h = block.block-refused IsFolded folded_of folding above end src f h
 
@@ -74,8 +74,8 @@ plain-again above end src (Ok v) h = h
 plain-again above end src (Err f) h = h
 
 quoted-told : (kind : Quotes) (s : Style) (above end : ℕ) (c : Cell) (src : List Cell) (r : Result Value Fault)
-    → ((v : Value) → IsQuotedAt kind above end (c ∷ src) v → IsOfStyle s above end (c ∷ src) v) → ((f : Fault) → BreaksQuotedAt kind above end (c ∷ src) f → BreaksStyle s above end (c ∷ src) f)
-    → quoted.Told kind above end c src r → Told s above end (c ∷ src) r
+    → ((v : Value) → IsQuotedAt kind end (c ∷ src) v → IsOfStyle s above end (c ∷ src) v) → ((f : Fault) → BreaksQuotedAt kind end (c ∷ src) f → BreaksStyle s above end (c ∷ src) f)
+    → quoted.Told kind end c src r → Told s above end (c ∷ src) r
 quoted-told kind s above end c src (Ok v) is breaks h = is v h
 quoted-told kind s above end c src (Err f) is breaks h = breaks f h
 
@@ -94,9 +94,9 @@ nothing-begins s end = ap (λ (ls : List Line). begins s (first_text ls)) (lines
 pub tells : (s : Style) (above end : ℕ) (src : List Cell) → begins s (first_text (lines end src)) ≡ true → Told s above end src (reading s above end src)
 tells style.Plain above end src h = plain-again above end src (reading style.Plain above end src) (plain.plain-told above end src (begun style.Plain end src h))
 tells style.Single above end [] h = true-false _ h (nothing-begins style.Single end)
-tells style.Single above end (c ∷ src) h = quoted-told Single style.Single above end c src (reading style.Single above end (c ∷ src)) (λ v i. i) (λ f i. i) (quoted.quoted-tells Single above end c src)
+tells style.Single above end (c ∷ src) h = quoted-told Single style.Single above end c src (reading style.Single above end (c ∷ src)) (λ v i. i) (λ f i. i) (quoted.quoted-tells Single end c src)
 tells style.Double above end [] h = true-false _ h (nothing-begins style.Double end)
-tells style.Double above end (c ∷ src) h = quoted-told Double style.Double above end c src (reading style.Double above end (c ∷ src)) (λ v i. i) (λ f i. i) (quoted.quoted-tells Double above end c src)
+tells style.Double above end (c ∷ src) h = quoted-told Double style.Double above end c src (reading style.Double above end (c ∷ src)) (λ v i. i) (λ f i. i) (quoted.quoted-tells Double end c src)
 tells style.Literal above end src h = joined-told above end src (reading style.Literal above end src) (block.block-told IsJoined joined joining above end src (headed end src (begun style.Literal end src h)))
 tells style.Folded above end src h = folded-told above end src (reading style.Folded above end src) (block.block-told IsFolded folded_of folding above end src (headed end src (begun style.Folded end src h)))
 

@@ -22,7 +22,6 @@ pub mod PieceCode
 pub mod Reaching
 pub mod QuotedLine
 pub mod NextLine
-pub mod IndentFault
 pub mod PlainText
 pub mod Behind
 pub mod PlainCode
@@ -39,6 +38,7 @@ pub mod BodyIndent
 pub mod Walk
 pub mod BreaksRun
 pub mod JoinedRun
+pub mod Thrice
 pub mod FoldedRun
 pub mod HeaderRun
 pub mod BlockRun

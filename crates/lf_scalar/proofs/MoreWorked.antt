@@ -3,18 +3,18 @@ use Rattle.std.proofs.Common.{◌≡◌, ◌≢◌, ℕ, ◌+◌, ◌<◌, ◌�
 use Rattle.std.specs.Prelude.{pos, negsuc, codes}
 use Rattle.std.proofs.lemmas.Bool.{true≢false}
 use Rattle.std.specs.List.{AllByRecursion, flat_map}
-use Rattle.lf_base.specs.declared.kind.Kind.TheVariants.{BadEscape, OpenQuote, BadHeader, BadIndent, NotANode}
+use Rattle.lf_base.specs.declared.kind.Kind.TheVariants.{BadEscape, OpenQuote, BadHeader, BadIndent, LeftOut, NotANode}
 use Rattle.lf_scalar.specs.declared.scalar.Style.TheVariants as style
 use Rattle.lf_scalar.specs.declared.block.Chomp.{Chomp}
 use Rattle.lf_scalar.specs.declared.block.Chomp.TheVariants.{Strip, Clip, Keep}
 use Rattle.lf_base.specs.declared.place.Span.{Span}
-use Rattle.lf_base.specs.Faults.{span}
+use Rattle.lf_base.specs.Faults.{span, fault}
 use Rattle.lf_scalar.specs.Cells.{Cell, cell, Value, byte_fault}
 use Rattle.lf_scalar.specs.Lines.{line, lines, is_tail}
 use Rattle.lf_scalar.specs.Plain.{last, more}
 use Rattle.lf_scalar.specs.Quoted.{Quotes, Single, Double, Piece, Bare, Twice, Letter, Number, IsPiece, spelled, letter_of, width_of, Raw, One, Pair, raw, Closes, Break, Folds, Drops, IsBadEscape, HasBadEscape, open_quote, inside, outside}
 use Rattle.lf_scalar.specs.Quoted as quoted
-use Rattle.lf_scalar.specs.Block.{AreMarks, IsChomp}
+use Rattle.lf_scalar.specs.Block.{AreMarks, IsChomp, body_fault, header, body}
 use Rattle.lf_scalar.specs.Scalars.{IsScalarAt, BreaksAt}
 
 abbrev value : List ℕ → List ℕ → Span → Value
@@ -81,8 +81,8 @@ blanks_and_backslash = record {
     following = line (cell 32 6 ∷ cell 32 7 ∷ cell 92 8 ∷ []) 9 ∷ line (cell 32 10 ∷ cell 32 11 ∷ cell 99 12 ∷ cell 34 13 ∷ []) 14 ∷ [];
     source = refl;
     text = cell 98 4 ∷ cell 32 5 ∷ cell 99 12 ∷ [];
-    from = quoted.more (cell 98 4 ∷ []) (Folds 5) [] (Bare (cell 98 4) ∷ [], (b, tt), refl, refl, refl) (record { are_blank = tt; is_full = refl }) (omega arith)
-        (quoted.more [] (Drops 9) [] ([], cell 92 8, tt, refl, refl, refl, refl) (record { are_blank = tt; is_full = refl }) (omega arith) (quoted.last (Bare (cell 99 12) ∷ []) (cell 34 13) (c, tt) refl refl));
+    from = quoted.more (cell 98 4 ∷ []) (Folds 5) [] (Bare (cell 98 4) ∷ [], (b, tt), refl, refl, refl) (record { are_blank = tt; is_full = refl }) refl
+        (quoted.more [] (Drops 9) [] ([], cell 92 8, tt, refl, refl, refl, refl) (record { are_blank = tt; is_full = refl }) refl (quoted.last (Bare (cell 99 12) ∷ []) (cell 34 13) (c, tt) refl refl));
     value = refl;
   };
   alone = refl;
@@ -164,45 +164,21 @@ behind_quote = outside
     })
     (record { front = cell 32 6 ∷ []; more = []; source = refl; before = refl; here = refl })
 
--- a second line that isn't indented, told at its first character, which has two bytes
-not_indented : BreaksAt (codes "a: \"b\n" ++ 0xC3 ∷ 0xA9 ∷ 34 ∷ 10 ∷ []) 3 (pos 0) style.Double (record { kind = BadIndent; span = span 6 8 })
+-- a second line that begins with the marker of a document, told at its first byte
+marker_inside : BreaksAt (codes "'b\n---\n'") 0 (negsuc 0) style.Single (byte_fault LeftOut 3)
 unfolding lines
-not_indented = inside
+marker_inside = inside
     (record {
-      raws = One (cell 98 4) ∷ One (cell 10 5) ∷ One (cell 0xC3 6) ∷ One (cell 0xA9 7) ∷ [];
-      each = (b, (a_feed, ((differ 0xC3 34 (inr (omega arith)), differ 0xC3 92 (inr (omega arith))), ((differ 0xA9 34 (inr (omega arith)), differ 0xA9 92 (inr (omega arith))), tt))));
-      closing = cell 34 8;
-      rest = cell 10 9 ∷ [];
+      raws = One (cell 98 1) ∷ One (cell 10 2) ∷ One (cell 45 3) ∷ One (cell 45 4) ∷ One (cell 45 5) ∷ One (cell 10 6) ∷ [];
+      each = (differ 98 39 (inr (omega arith)), (differ 10 39 (inl (omega arith)), (differ 45 39 (inr (omega arith)), (differ 45 39 (inr (omega arith)), (differ 45 39 (inr (omega arith)), (differ 10 39 (inl (omega arith)), tt))))));
+      closing = cell 39 7;
+      rest = [];
       source = refl;
       closes = refl;
-      alone = tt;
+      alone = refl;
     })
     refl
-    (quoted.indent (cell 98 4 ∷ []) (Folds 5) [] [] (Bare (cell 98 4) ∷ [], (b, tt), refl, refl, refl) (record { are_blank = tt; is_full = refl }) (omega arith) refl (λ h. differ 0xC3 92 (inr (omega arith)) h.is_backslash))
-
--- a second line that isn't indented and begins with a wrong escape: both are told of the backslash, and the escape comes first
-escape_comes_first : BreaksAt (codes "a: \"b\n\\q\"\n") 3 (pos 0) style.Double (byte_fault BadEscape 6)
-unfolding lines
-escape_comes_first = inside
-    (record { raws = One (cell 98 4) ∷ One (cell 10 5) ∷ Pair (cell 92 6) (cell 113 7) ∷ []; each = (b, (a_feed, (refl, tt))); closing = cell 34 8; rest = cell 10 9 ∷ []; source = refl; closes = refl; alone = tt })
-    refl
-    (quoted.escape_not_indented (cell 98 4 ∷ []) (Folds 5) [] [] (Bare (cell 98 4) ∷ [], (b, tt), refl, refl, refl) (record { are_blank = tt; is_full = refl }) (omega arith) refl (q-is-bad 6 (cell 34 8 ∷ [])))
-
--- a second line that isn't indented, with a wrong escape behind its first character: the line is told of that character, which comes first
-indent_comes_first : BreaksAt (codes "a: \"b\nc\\q\"\n") 3 (pos 0) style.Double (byte_fault BadIndent 6)
-unfolding lines
-indent_comes_first = inside
-    (record { raws = One (cell 98 4) ∷ One (cell 10 5) ∷ One (cell 99 6) ∷ Pair (cell 92 7) (cell 113 8) ∷ []; each = (b, (a_feed, (c, (refl, tt)))); closing = cell 34 9; rest = cell 10 10 ∷ []; source = refl; closes = refl; alone = tt })
-    refl
-    (quoted.indent (cell 98 4 ∷ []) (Folds 5) [] [] (Bare (cell 98 4) ∷ [], (b, tt), refl, refl, refl) (record { are_blank = tt; is_full = refl }) (omega arith) refl (λ h. c.1 h.is_backslash))
-
--- a backslash that ends its line is no wrong escape
-backslash_ends_line : BreaksAt (codes "a: \"b\n\\\nc\"\n") 3 (pos 0) style.Double (byte_fault BadIndent 6)
-unfolding lines
-backslash_ends_line = inside
-    (record { raws = One (cell 98 4) ∷ One (cell 10 5) ∷ Pair (cell 92 6) (cell 10 7) ∷ One (cell 99 8) ∷ []; each = (b, (a_feed, (refl, (c, tt)))); closing = cell 34 9; rest = cell 10 10 ∷ []; source = refl; closes = refl; alone = tt })
-    refl
-    (quoted.indent (cell 98 4 ∷ []) (Folds 5) [] _ (Bare (cell 98 4) ∷ [], (b, tt), refl, refl, refl) (record { are_blank = tt; is_full = refl }) (omega arith) refl (λ h. h.inside refl))
+    (quoted.marker (cell 98 1 ∷ []) (Folds 2) [] _ (Bare (cell 98 1) ∷ [], (differ 98 39 (inr (omega arith)), tt), refl, refl, refl) (record { are_blank = tt; is_full = refl }) refl)
 
 -- ---- blocks
 
@@ -226,21 +202,24 @@ not-marks (m ∷ n ∷ marks) tail chomp digit e h t = nil-cons n (marks ++ tail
 -- a header with another character, told at it
 no_header : BreaksAt (codes "a: |x\n") 3 (pos 0) style.Literal (byte_fault BadHeader 4)
 unfolding lines
-no_header = record {
-  headed = record { sign = _; header = _; break = _; following = _; source = refl };
-  wrong = cell 120 4;
-  wrong_in = record { front = []; more = []; source = refl; before = (Clip, None, record { marks = []; tail = []; source = refl; are_marks = tt; is_tail = refl }); here = λ h. not-marks h.2.marks h.2.tail h.0 h.1 h.2.source h.2.are_marks h.2.is_tail };
-  fault_is = refl;
-}
+no_header = header
+    (record { sign = _; header = _; break = _; following = _; source = refl })
+    (record { front = []; more = []; source = refl; before = (Clip, None, record { marks = []; tail = []; source = refl; are_marks = tt; is_tail = refl }); here = λ h. not-marks h.2.marks h.2.tail h.0 h.1 h.2.source h.2.are_marks h.2.is_tail })
 
--- the last line has no line feed: its line break stands at the file's end, and so does the text's end
-no_end : IsScalarAt (codes "a: |\n  b") 3 (pos 0) style.Literal (value (codes "b\n") (7 ∷ 8 ∷ 8 ∷ []) (span 3 8))
-unfolding lines
+-- a line of spaces alone that is longer than the content indent, before the line that tells it: told right behind its last space
+long_line : BreaksAt (codes "a: |\n   \n  b\n") 3 (pos 0) style.Literal (fault BadIndent (span 8 8))
+unfolding lines body_fault
+long_line = body {chomp = Clip} {digit = None} (record { sign = _; header = _; break = _; following = _; source = refl }) (record { marks = []; tail = []; source = refl; are_marks = tt; is_tail = refl }) refl
+
+-- the last line of the file has no line feed, and gives none
+no_end : IsScalarAt (codes "a: |\n  b") 3 (pos 0) style.Literal (value (codes "b") (7 ∷ 8 ∷ []) (span 3 8))
+unfolding lines body_fault
 no_end = record {
   headed = record { sign = _; header = _; break = _; following = _; source = refl };
   chomp = Clip;
   digit = None;
   header = record { marks = []; tail = []; source = refl; are_marks = tt; is_tail = refl };
+  sound = refl;
   text = _;
   is_text = record { full = line (cell 98 7 ∷ []) 8 ∷ []; empty = []; source = refl; ends_full = some (cell 98 7) []; are_empty = tt; inner = cell 98 7 ∷ []; joins = refl; text_is = refl };
   last = 8;
@@ -250,12 +229,13 @@ no_end = record {
 
 -- at the root the digit alone is the content indent, and `-` drops the last line break
 digit_at_root : IsScalarAt (codes "|2-\n  b\n   c\n") 0 (negsuc 0) style.Literal (value (codes "b\n c") (6 ∷ 7 ∷ 10 ∷ 11 ∷ 12 ∷ []) (span 0 12))
-unfolding lines
+unfolding lines body_fault
 digit_at_root = record {
   headed = record { sign = _; header = _; break = _; following = _; source = refl };
   chomp = Strip;
   digit = Some 2;
   header = record { marks = cell 50 1 ∷ cell 45 2 ∷ []; tail = []; source = refl; are_marks = inr ((omega arith, omega arith, refl), refl); is_tail = refl };
+  sound = refl;
   text = _;
   is_text = record { full = line (cell 98 6 ∷ []) 7 ∷ line (cell 32 10 ∷ cell 99 11 ∷ []) 12 ∷ []; empty = []; source = refl; ends_full = some (cell 32 10) (cell 99 11 ∷ []); are_empty = tt; inner = _; joins = refl; text_is = refl };
   last = 12;

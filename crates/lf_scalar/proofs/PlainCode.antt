@@ -1,5 +1,5 @@
 -- The lines behind a plain scalar's first line, one by one.
-use Rattle.std.proofs.Common.{◌≡◌, ℕ, ◌+◌, ◌≤◌, Bool, true, false, cond, List, [], ◌∷◌, ◌++◌, Some, None, Result, Ok, Err, length, take, drop, refl, ap, arith, append_assoc, sym, ◌∙◌, subst}
+use Rattle.std.proofs.Common.{◌≡◌, ℕ, ◌+◌, ◌≤◌, Bool, true, false, cond, List, [], ◌∷◌, ◌++◌, Option, Some, None, Result, Ok, Err, length, take, drop, refl, ap, arith, append_assoc, sym, ◌∙◌, subst}
 use Rattle.std.proofs.lemmas.List.{append-nil, drop-drop, drop_all}
 use Rattle.lf_base.specs.declared.kind.Kind.TheVariants.{BadIndent}
 use Rattle.lf_base.specs.declared.refusal.Refusal.{Refusal}
@@ -7,12 +7,12 @@ use Rattle.lf_base.specs.declared.refusal.Refusal.TheVariants as refusal_of
 use Rattle.lf_scalar.specs.declared.plain.Folded.{Folded}
 use Rattle.lf_base.specs.declared.fault.Fault.{Fault}
 use Rattle.lf_scalar.specs.Cells.{Cell, cells, byte_fault, Fails, front, ◌>>=◌}
-use Rattle.lf_scalar.specs.Lines.{Line, line, lines_at, is_blank_line}
+use Rattle.lf_scalar.specs.Lines.{Line, line, lines_at, start_of, is_blank_line}
 use Rattle.lf_scalar.specs.Folding.{fold}
 use Rattle.lf_scalar.specs.Plain.{is_commented, continues, has_tab}
 use Rattle.lf_scalar.specs.views.Built.{TextAnswers}
 use Rattle.lf_scalar.specs.reading.Quoted.{line_at}
-use Rattle.lf_scalar.specs.reading.Plain.{plain_line, plain_behind, plain_from, plain_lines_text, start_of, Steps}
+use Rattle.lf_scalar.specs.reading.Plain.{plain_line, plain_behind, plain_from, plain_lines_text, tab_with, Steps}
 use Rattle.lf_scalar.proofs.PlainLaws.{blanks-passed, stops, goes, tabs}
 use Rattle.lf_scalar.proofs.LineSteps.{lines-nil}
 use Rattle.lf_scalar.proofs.Tails.{true-false}
@@ -58,38 +58,40 @@ front-wrong cs (Err g) behind f e = e
 
 -- ---- one line
 
-module _ (above break k : ℕ) (l : Line) where
-  pub blank-step : is_blank_line l ≡ true → (ls : List Line) → plain_behind above break k (l ∷ ls) ≡ front [] (plain_behind above break (k + 1) ls)
-  blank-step h ls = blanks-passed above break k (l ∷ []) ls (h, tt) ∙ front-nil (plain_behind above break (k + 1) ls)
+module _ (above break k : ℕ) (tab : Option ℕ) (l : Line) where
+  pub blank-step : (after : Option ℕ) → after ≡ tab_with tab l → is_blank_line l ≡ true → (ls : List Line) → plain_behind above break k tab (l ∷ ls) ≡ front [] (plain_behind above break (k + 1) after ls)
+  blank-step after a h ls = blanks-passed above break k tab (l ∷ []) ls (h, tt) ∙ ap (λ (o : Option ℕ). plain_behind above break (k + 1) o ls) (sym a) ∙ front-nil (plain_behind above break (k + 1) after ls)
 
-  goes-step : (b : Bool) (part : List Cell) → continues above l ≡ true → has_tab l ≡ false → is_commented l ≡ b → front (fold break k) (plain_line l) ≡ Ok part → (ls : List Line)
-      → plain_behind above break k (l ∷ ls) ≡ front part (cond b (Ok []) (plain_behind above l.break 0 ls))
+  goes-step : (b : Bool) (part : List Cell) → continues above l ≡ true → tab_with tab l ≡ None → is_commented l ≡ b → front (fold break k) (plain_line l) ≡ Ok part → (ls : List Line)
+      → plain_behind above break k tab (l ∷ ls) ≡ front part (cond b (Ok []) (plain_behind above l.break 0 None ls))
   goes-step b part c t m e ls =
-      goes above break k l ls c t ∙ front-line (fold break k) part (plain_line l) (cond (is_commented l) (Ok []) (plain_behind above l.break 0 ls)) e
-      ∙ ap (λ (x : Bool). front part (cond x (Ok []) (plain_behind above l.break 0 ls))) m
+      goes above break k tab l ls c t ∙ front-line (fold break k) part (plain_line l) (cond (is_commented l) (Ok []) (plain_behind above l.break 0 None ls)) e
+      ∙ ap (λ (x : Bool). front part (cond x (Ok []) (plain_behind above l.break 0 None ls))) m
 
-  pub last-step : (part : List Cell) → continues above l ≡ true → has_tab l ≡ false → is_commented l ≡ true → front (fold break k) (plain_line l) ≡ Ok part → (ls : List Line) → plain_behind above break k (l ∷ ls) ≡ Ok part
+  pub last-step : (part : List Cell) → continues above l ≡ true → tab_with tab l ≡ None → is_commented l ≡ true → front (fold break k) (plain_line l) ≡ Ok part → (ls : List Line) → plain_behind above break k tab (l ∷ ls) ≡ Ok part
   last-step part c t m e ls = goes-step true part c t m e ls ∙ ap yes (append-nil part)
 
-  pub more-step : (part : List Cell) → continues above l ≡ true → has_tab l ≡ false → is_commented l ≡ false → front (fold break k) (plain_line l) ≡ Ok part → (ls : List Line)
-      → plain_behind above break k (l ∷ ls) ≡ front part (plain_behind above l.break 0 ls)
+  pub more-step : (part : List Cell) → continues above l ≡ true → tab_with tab l ≡ None → is_commented l ≡ false → front (fold break k) (plain_line l) ≡ Ok part → (ls : List Line)
+      → plain_behind above break k tab (l ∷ ls) ≡ front part (plain_behind above l.break 0 None ls)
   more-step part c t m e ls = goes-step false part c t m e ls
 
-  pub wrong-step : (e : Refusal) → continues above l ≡ true → has_tab l ≡ false → Fails e (front (fold break k) (plain_line l)) → (ls : List Line) → Fails e (plain_behind above break k (l ∷ ls))
+  pub wrong-step : (e : Refusal) → continues above l ≡ true → tab_with tab l ≡ None → Fails e (front (fold break k) (plain_line l)) → (ls : List Line) → Fails e (plain_behind above break k tab (l ∷ ls))
   wrong-step refusal_of.Memory c t h ls = tt
   wrong-step (refusal_of.At kind span) c t h ls =
-      goes above break k l ls c t ∙ front-wrong (fold break k) (plain_line l) (cond (is_commented l) (Ok []) (plain_behind above l.break 0 ls)) (record { kind = kind; span = span }) h
+      goes above break k tab l ls c t ∙ front-wrong (fold break k) (plain_line l) (cond (is_commented l) (Ok []) (plain_behind above l.break 0 None ls)) (record { kind = kind; span = span }) h
 
-  pub ends-step : is_blank_line l ≡ false → continues above l ≡ false → (ls : List Line) → plain_behind above break k (l ∷ ls) ≡ Ok []
-  ends-step b c ls = stops above break k (l ∷ ls) (b, c)
+  pub tab-step : (at : ℕ) → continues above l ≡ true → tab_with tab l ≡ Some at → (ls : List Line) → plain_behind above break k tab (l ∷ ls) ≡ Err (byte_fault BadIndent at)
+  tab-step at c t ls = tabs above break k tab l ls at c t
 
-start-at : (at : ℕ) (bytes : List ℕ) (break : ℕ) → is_blank_line (line_at at bytes break) ≡ false → start_of (line_at at bytes break) (cells at bytes) ≡ at
-start-at at [] break h = true-false true refl h
-start-at at (b ∷ bytes) break h = refl
+  pub ends-step : is_blank_line l ≡ false → continues above l ≡ false → (ls : List Line) → plain_behind above break k tab (l ∷ ls) ≡ Ok []
+  ends-step b c ls = stops above break k tab (l ∷ ls) (b, c)
 
-pub tab-step : (above break k at : ℕ) (bytes : List ℕ) (own : ℕ) → is_blank_line (line_at at bytes own) ≡ false → continues above (line_at at bytes own) ≡ true → has_tab (line_at at bytes own) ≡ true → (ls : List Line)
-    → plain_behind above break k (line_at at bytes own ∷ ls) ≡ Err (byte_fault BadIndent at)
-tab-step above break k at bytes own b c t ls = tabs above break k (line_at at bytes own) ls c t ∙ ap (λ (n : ℕ). no (byte_fault BadIndent n)) (start-at at bytes own b)
+-- ---- a tab behind the spaces of a line
+
+-- a line with one begins with its first byte
+pub tab-begun : (at : ℕ) (bytes : List ℕ) (break : ℕ) → has_tab (line_at at bytes break) ≡ true → start_of (line_at at bytes break) ≡ at
+tab-begun at [] break h = true-false false h refl
+tab-begun at (b ∷ bytes) break h = refl
 
 -- ---- the lines behind a line break
 
@@ -97,10 +99,10 @@ tab-step above break k at bytes own b c t ls = tabs above break k (line_at at by
 pub record Onto (above feed : ℕ) (all : List Line) (old now : List Cell) (folded : Folded) (left : List Line) : Type 0 where
   pub part : List Cell
   pub grown : now ≡ old ++ part
-  pub same : plain_behind above feed 0 all ≡ front part (plain_behind above folded.at folded.blank left)
+  pub same : plain_behind above feed 0 None all ≡ front part (plain_behind above folded.at folded.blank folded.tab left)
 
-pub onto-start : (above feed : ℕ) (all : List Line) (old : List Cell) (folded : Folded) → folded.at ≡ feed → folded.blank ≡ 0 → Onto above feed all old old folded all
-onto-start above feed all old folded a b = record { part = []; grown = sym (append-nil old); same = front-nil (plain_behind above feed 0 all) ∙ rw (a, b) refl }
+pub onto-start : (above feed : ℕ) (all : List Line) (old : List Cell) (folded : Folded) → folded.at ≡ feed → folded.blank ≡ 0 → folded.tab ≡ None → Onto above feed all old old folded all
+onto-start above feed all old folded a b t = record { part = []; grown = sym (append-nil old); same = front-nil (plain_behind above feed 0 None all) ∙ rw (a, b, t) refl }
 
 module _ (above feed : ℕ) (all : List Line) (old now : List Cell) (folded : Folded) (l : Line) (left : List Line) (h : Onto above feed all old now folded (l ∷ left)) where
   pub onto-more : (next : Folded) (new : List Cell) → Steps above folded l (Ok (Some next)) now new → Onto above feed all old new next left
@@ -108,17 +110,17 @@ module _ (above feed : ℕ) (all : List Line) (old now : List Cell) (folded : Fo
       record {
         part = h.part ++ part;
         grown = n ∙ ap (λ (x : List Cell). x ++ part) h.grown ∙ append_assoc old h.part part;
-        same = h.same ∙ ap (front h.part) (e left) ∙ front-twice h.part part (plain_behind above next.at next.blank left);
+        same = h.same ∙ ap (front h.part) (e left) ∙ front-twice h.part part (plain_behind above next.at next.blank next.tab left);
       }
 
-  pub onto-last : (new : List Cell) → Steps above folded l (Ok None) now new → (part : List Cell) × (plain_behind above feed 0 all ≡ Ok part) × (new ≡ old ++ part)
+  pub onto-last : (new : List Cell) → Steps above folded l (Ok None) now new → (part : List Cell) × (plain_behind above feed 0 None all ≡ Ok part) × (new ≡ old ++ part)
   onto-last new (part, n, e) = (h.part ++ part, h.same ∙ ap (front h.part) (e left), n ∙ ap (λ (x : List Cell). x ++ part) h.grown ∙ append_assoc old h.part part)
 
-  pub onto-wrong : (e : Refusal) (new : List Cell) → Steps above folded l (Err e) now new → Fails e (plain_behind above feed 0 all)
+  pub onto-wrong : (e : Refusal) (new : List Cell) → Steps above folded l (Err e) now new → Fails e (plain_behind above feed 0 None all)
   onto-wrong refusal_of.Memory new s = tt
   onto-wrong (refusal_of.At kind span) new s = h.same ∙ ap (front h.part) (s left)
 
-pub onto-end : (above feed : ℕ) (all : List Line) (old now : List Cell) (folded : Folded) → Onto above feed all old now folded [] → (part : List Cell) × (plain_behind above feed 0 all ≡ Ok part) × (now ≡ old ++ part)
+pub onto-end : (above feed : ℕ) (all : List Line) (old now : List Cell) (folded : Folded) → Onto above feed all old now folded [] → (part : List Cell) × (plain_behind above feed 0 None all ≡ Ok part) × (now ≡ old ++ part)
 unfolding plain_behind
 onto-end above feed all old now folded h = (h.part, h.same ∙ ap yes (append-nil h.part), h.grown)
 
@@ -137,10 +139,10 @@ lines-none at place rest le = ap (λ (xs : List ℕ). lines_at (at + place) xs) 
 pub first-last : (above : ℕ) (l : Line) (ls : List Line) (part : List Cell) → plain_line l ≡ Ok part → is_commented l ≡ true → plain_from above l ls ≡ Ok part
 first-last above l ls part e c = rw (e, c) (ap yes (append-nil part))
 
-pub first-more : {X : Type 0} (r : Result X Refusal) (above : ℕ) (l : Line) (ls : List Line) (old mid new part : List Cell) → plain_line l ≡ Ok part → mid ≡ old ++ part → is_commented l ≡ false → TextAnswers r mid new (plain_behind above l.break 0 ls) → TextAnswers r old new (plain_from above l ls)
+pub first-more : {X : Type 0} (r : Result X Refusal) (above : ℕ) (l : Line) (ls : List Line) (old mid new part : List Cell) → plain_line l ≡ Ok part → mid ≡ old ++ part → is_commented l ≡ false → TextAnswers r mid new (plain_behind above l.break 0 None ls) → TextAnswers r old new (plain_from above l ls)
 first-more r above l ls old mid new part e m c h =
-    let same : front part (plain_behind above l.break 0 ls) ≡ plain_from above l ls = rw (e, c) refl in
-    subst (TextAnswers r old new) same (front-gives r old mid new part (plain_behind above l.break 0 ls) m h)
+    let same : front part (plain_behind above l.break 0 None ls) ≡ plain_from above l ls = rw (e, c) refl in
+    subst (TextAnswers r old new) same (front-gives r old mid new part (plain_behind above l.break 0 None ls) m h)
 
 pub first-wrong : (e : Refusal) (above : ℕ) (l : Line) (ls : List Line) → Fails e (plain_line l) → Fails e (plain_from above l ls)
 first-wrong refusal_of.Memory above l ls h = tt
@@ -154,12 +156,12 @@ module _ (above at : ℕ) (rest taken : List ℕ) (text feed : ℕ) (t : taken �
   commented-first part e c = whole ∙ first-last above (line_at at taken (at + feed)) (lines_at (at + (feed + 1)) (drop (feed + 1) rest)) part e c
 
   pub bare-first : {X : Type 0} (r : Result X Refusal) (old mid new part : List Cell) (left : List ℕ) → plain_line (line_at at taken (at + feed)) ≡ Ok part → mid ≡ old ++ part → is_commented (line_at at taken (at + feed)) ≡ false → left ≡ drop (feed + 1) rest
-      → TextAnswers r mid new (plain_behind above (at + feed) 0 (lines_at ((at + feed) + 1) left)) → TextAnswers r old new (plain_lines_text above (lines_at at rest))
+      → TextAnswers r mid new (plain_behind above (at + feed) 0 None (lines_at ((at + feed) + 1) left)) → TextAnswers r old new (plain_lines_text above (lines_at at rest))
   bare-first r old mid new part left e m c l h =
       let p : (at + feed) + 1 ≡ at + (feed + 1) = omega arith in
       let q : lines_at ((at + feed) + 1) left ≡ lines_at (at + (feed + 1)) (drop (feed + 1) rest) = ap (λ (n : ℕ). lines_at n left) p ∙ ap (λ (xs : List ℕ). lines_at (at + (feed + 1)) xs) l in
       subst (TextAnswers r old new) (sym whole)
-      (first-more r above (line_at at taken (at + feed)) (lines_at (at + (feed + 1)) (drop (feed + 1) rest)) old mid new part e m c (subst (λ (ls : List Line). TextAnswers r mid new (plain_behind above (at + feed) 0 ls)) q h))
+      (first-more r above (line_at at taken (at + feed)) (lines_at (at + (feed + 1)) (drop (feed + 1) rest)) old mid new part e m c (subst (λ (ls : List Line). TextAnswers r mid new (plain_behind above (at + feed) 0 None ls)) q h))
 
   pub wrong-first : (e : Refusal) → Fails e (plain_line (line_at at taken (at + feed))) → Fails e (plain_lines_text above (lines_at at rest))
   wrong-first e h = subst (Fails e) (sym whole) (first-wrong e above (line_at at taken (at + feed)) (lines_at (at + (feed + 1)) (drop (feed + 1) rest)) h)

@@ -1,21 +1,20 @@
 -- Reading the lines between quotes is the definition, in both directions, and its fault is the breach.
-use Rattle.std.proofs.Common.{◌≡◌, ◌≢◌, ℕ, zero, suc, ◌+◌, ◌<◌, ◌≤◌, Bool, true, false, eqb, leb, List, [], ◌∷◌, ◌++◌, Option, Some, None, Result, Ok, Err, length, eq-eqb, refl, ap, arith, sym, ◌∙◌, subst, ◌⊎◌, inl, inr, ◌&&◌}
+use Rattle.std.proofs.Common.{◌≡◌, ◌≢◌, ℕ, zero, suc, ◌+◌, ◌<◌, Bool, true, false, eqb, List, [], ◌∷◌, ◌++◌, Option, Some, None, Result, Ok, Err, length, eq-eqb, refl, ap, arith, sym, ◌∙◌, subst, ◌⊎◌, inl, inr, ◌&&◌}
 use Rattle.std.specs.List.{flat_map, AllByRecursion, list_all}
 use Rattle.std.proofs.lemmas.List.{append-nil, length-append}
-use Rattle.std.proofs.lemmas.Bool.{le-leb}
-use Rattle.std.proofs.lemmas.Bool.Decides.{eqb_tells, leb_tells}
-use Rattle.lf_base.specs.declared.kind.Kind.TheVariants.{BadEscape, BadIndent}
+use Rattle.std.proofs.lemmas.Bool.Decides.{eqb_tells}
+use Rattle.lf_base.specs.declared.kind.Kind.TheVariants.{BadEscape, LeftOut}
 use Rattle.lf_base.specs.declared.fault.Fault.{Fault}
-use Rattle.lf_scalar.specs.Cells.{Cell, byte_fault, character_fault, front, ◌>>=◌}
-use Rattle.lf_scalar.specs.Lines.{Line, is_blank, after_blanks, after_spaces, indent_of, is_blank_line, AreBlank}
-use Rattle.lf_scalar.specs.Quoted.{Quotes, Single, Double, quote_of, Piece, Bare, Twice, spelled, given, IsPiece, Break, Folds, Drops, filled, IsBroken, Follows, unindented, QuotedFrom, last, more, HasBadEscape, QuotedBreaks, escape, indent, escape_not_indented, later}
-use Rattle.lf_scalar.specs.reading.Quoted.{piece_of, scan, Closing, closing_of, stopped, ended, line_of, unindented_at, lines_behind, lines_from, lines_of, wrong_behind, alone, closed, quoted_of}
+use Rattle.lf_scalar.specs.Cells.{Cell, byte_fault, front, ◌>>=◌}
+use Rattle.lf_scalar.specs.Lines.{Line, start_of, is_blank, after_blanks, is_blank_line, AreBlank}
+use Rattle.lf_scalar.specs.Markers.{is_marker}
+use Rattle.lf_scalar.specs.Quoted.{Quotes, Single, Double, quote_of, Piece, Bare, Twice, spelled, given, IsPiece, Break, Folds, Drops, filled, IsBroken, Follows, unindented, QuotedFrom, last, more, HasBadEscape, QuotedBreaks, escape, marker, later}
+use Rattle.lf_scalar.specs.reading.Quoted.{piece_of, scan, Closing, closing_of, stopped, ended, line_of, lines_behind, lines_from, lines_of, wrong_behind, alone, closed, quoted_of}
 use Rattle.lf_scalar.specs.reading.Quoted as reading
 use Rattle.lf_scalar.proofs.Pieces.{none-stands, none-found, scan-again, IsScan, scan-sound}
 use Rattle.lf_scalar.proofs.Closing.{ahead, closing-pieces}
 use Rattle.lf_scalar.proofs.InnerLines.{LinesOk, behind-was, behind-none, passed}
 use Rattle.lf_scalar.proofs.Tails.{true-false}
-use Rattle.lf_scalar.proofs.IndentFault.{told-escape, told-indent, bad-or-not}
 
 -- ---- what the definition has is read: one line
 
@@ -54,64 +53,52 @@ escape-again kind l b h =
 
 -- ---- blank lines
 
-pub blanks-passed : (kind : Quotes) (above : ℕ) (break : Break) (k : ℕ) (blank rest : List Line) → AreBlank blank → lines_behind kind above break k (blank ++ rest) ≡ lines_behind kind above break (k + length blank) rest
+pub blanks-passed : (kind : Quotes) (break : Break) (k : ℕ) (blank rest : List Line) → AreBlank blank → lines_behind kind break k (blank ++ rest) ≡ lines_behind kind break (k + length blank) rest
 unfolding lines_behind
-blanks-passed kind above break k [] rest h = ap (λ (n : ℕ). lines_behind kind above break n rest) (omega arith)
-blanks-passed kind above break k (l ∷ ls) rest h =
+blanks-passed kind break k [] rest h = ap (λ (n : ℕ). lines_behind kind break n rest) (omega arith)
+blanks-passed kind break k (l ∷ ls) rest h =
     let n : suc k + length ls ≡ k + suc (length ls) = omega arith in
-    rw h.0 (blanks-passed kind above break (suc k) ls rest h.1 ∙ ap (λ (m : ℕ). lines_behind kind above break m rest) n)
+    rw h.0 (blanks-passed kind break (suc k) ls rest h.1 ∙ ap (λ (m : ℕ). lines_behind kind break m rest) n)
 
 -- the line behind blank ones
-abbrev next_read : Quotes → ℕ → Break → ℕ → Line → List Line → Bool → Result (List Cell) Fault
-next_read kind above break k next rest true = front (filled break k) (lines_from kind above (unindented next) rest)
-next_read kind above break k next rest false = Err (unindented_at kind next (after_spaces next.text))
+abbrev next_read : Quotes → Break → ℕ → Line → List Line → Bool → Result (List Cell) Fault
+next_read kind break k next rest false = front (filled break k) (lines_from kind (unindented next) rest)
+next_read kind break k next rest true = Err (byte_fault LeftOut (start_of next))
 
-next-is : (kind : Quotes) (above : ℕ) (break : Break) (k : ℕ) (next : Line) (rest : List Line) (b : Bool) → is_blank_line next ≡ false → leb above (indent_of next.text) ≡ b → lines_behind kind above break k (next ∷ rest) ≡ next_read kind above break k next rest b
+next-is : (kind : Quotes) (break : Break) (k : ℕ) (next : Line) (rest : List Line) (b : Bool) → is_blank_line next ≡ false → is_marker next ≡ b → lines_behind kind break k (next ∷ rest) ≡ next_read kind break k next rest b
 unfolding lines_behind
-next-is kind above break k next rest true f e = rw (f, e) refl
-next-is kind above break k next rest false f e = rw (f, e) refl
+next-is kind break k next rest true f e = rw (f, e) refl
+next-is kind break k next rest false f e = rw (f, e) refl
 
-pub behind-is : (kind : Quotes) (above : ℕ) (break : Break) (blank : List Line) (next : Line) (rest : List Line) (b : Bool) → Follows blank next → leb above (indent_of next.text) ≡ b
-    → lines_behind kind above break 0 (blank ++ next ∷ rest) ≡ next_read kind above break (length blank) next rest b
-behind-is kind above break blank next rest b f e =
+pub behind-is : (kind : Quotes) (break : Break) (blank : List Line) (next : Line) (rest : List Line) (b : Bool) → Follows blank next → is_marker next ≡ b → lines_behind kind break 0 (blank ++ next ∷ rest) ≡ next_read kind break (length blank) next rest b
+behind-is kind break blank next rest b f e =
     let n : 0 + length blank ≡ length blank = omega arith in
-    blanks-passed kind above break 0 blank (next ∷ rest) f.are_blank ∙ ap (λ (k : ℕ). lines_behind kind above break k (next ∷ rest)) n ∙ next-is kind above break (length blank) next rest b f.is_full e
-
-lt-leb : (m n : ℕ) → n < m → leb m n ≡ false
-lt-leb m n h = elim (leb_tells m n) [ inl a ↦ absurd (omega (arith, a.1)) | inr a ↦ a.0 ]
+    blanks-passed kind break 0 blank (next ∷ rest) f.are_blank ∙ ap (λ (k : ℕ). lines_behind kind break k (next ∷ rest)) n ∙ next-is kind break (length blank) next rest b f.is_full e
 
 -- ---- what the definition has is read: all lines
 
-from-line : (kind : Quotes) (above : ℕ) (l : Line) (ls : List Line) (part : List Cell) (break : Break) (read : Result (List Cell) Fault) → line_of kind l ≡ good part break → lines_behind kind above break 0 ls ≡ read → lines_from kind above l ls ≡ front part read
-from-line kind above l ls part break read e h = rw (e, h) refl
+from-line : (kind : Quotes) (l : Line) (ls : List Line) (part : List Cell) (break : Break) (read : Result (List Cell) Fault) → line_of kind l ≡ good part break → lines_behind kind break 0 ls ≡ read → lines_from kind l ls ≡ front part read
+from-line kind l ls part break read e h = rw (e, h) refl
 
-behind-nothing : (kind : Quotes) (above : ℕ) (break : Break) → lines_behind kind above break 0 [] ≡ Ok []
+behind-nothing : (kind : Quotes) (break : Break) → lines_behind kind break 0 [] ≡ Ok []
 unfolding lines_behind
-behind-nothing kind above break = refl
+behind-nothing kind break = refl
 
-pub from-again : (kind : Quotes) (above : ℕ) (l : Line) (ls : List Line) (text : List Cell) → QuotedFrom kind above l ls text → lines_from kind above l ls ≡ Ok text
-from-again kind above l _ _ (last ps closing each e source) =
-    from-line kind above l [] (flat_map given ps) (Folds l.break) (Ok []) (line-last kind l ps closing each e source) (behind-nothing kind above (Folds l.break)) ∙ ap (λ (x : List Cell). Ok x) (append-nil (flat_map given ps))
-from-again kind above l _ _ (more {next = next} {ls = ls} {text = text} part break blank broken follows high rest) =
-    let below : lines_behind kind above break 0 (blank ++ next ∷ ls) ≡ Ok (filled break (length blank) ++ text) =
-    behind-is kind above break blank next ls true follows (le-leb above (indent_of next.text) high) ∙ rw (from-again kind above (unindented next) ls text rest) refl in
-    from-line kind above l (blank ++ next ∷ ls) part break _ (broken-again kind l part break broken) below
+pub from-again : (kind : Quotes) (l : Line) (ls : List Line) (text : List Cell) → QuotedFrom kind l ls text → lines_from kind l ls ≡ Ok text
+from-again kind l _ _ (last ps closing each e source) =
+    from-line kind l [] (flat_map given ps) (Folds l.break) (Ok []) (line-last kind l ps closing each e source) (behind-nothing kind (Folds l.break)) ∙ ap (λ (x : List Cell). Ok x) (append-nil (flat_map given ps))
+from-again kind l _ _ (more {next = next} {ls = ls} {text = text} part break blank broken follows bare rest) =
+    let below : lines_behind kind break 0 (blank ++ next ∷ ls) ≡ Ok (filled break (length blank) ++ text) =
+    behind-is kind break blank next ls false follows bare ∙ rw (from-again kind (unindented next) ls text rest) refl in
+    from-line kind l (blank ++ next ∷ ls) part break _ (broken-again kind l part break broken) below
 
--- the line behind blank ones isn't indented
-low-behind : (kind : Quotes) (above : ℕ) (break : Break) (blank : List Line) (next : Line) (rest : List Line) (c : Cell) (cs : List Cell) (f : Fault) → Follows blank next → indent_of next.text < above → after_spaces next.text ≡ c ∷ cs
-    → unindented_at kind next (c ∷ cs) ≡ f → lines_behind kind above break 0 (blank ++ next ∷ rest) ≡ Err f
-low-behind kind above break blank next rest c cs f follows low spaces told =
-    behind-is kind above break blank next rest false follows (lt-leb above (indent_of next.text) low) ∙ ap (λ (x : List Cell). Err (unindented_at kind next x)) spaces ∙ ap (λ (g : Fault). Err g) told
-
-pub breaks-again : (kind : Quotes) (above : ℕ) (l : Line) (ls : List Line) (f : Fault) → QuotedBreaks kind above l ls f → lines_from kind above l ls ≡ Err f
-breaks-again kind above l _ _ (escape {backslash = b} ls h) = rw (escape-again kind l b h) refl
-breaks-again kind above l _ _ (indent {next = next} {c = c} {cs = cs} part break blank ls broken follows low spaces good) =
-    from-line kind above l (blank ++ next ∷ ls) part break _ (broken-again kind l part break broken) (low-behind kind above break blank next ls c cs (character_fault BadIndent c) follows low spaces (told-indent kind next c cs good))
-breaks-again kind above l _ _ (escape_not_indented {next = next} {backslash = c} {cs = cs} part break blank ls broken follows low spaces wrong) =
-    from-line kind above l (blank ++ next ∷ ls) part break _ (broken-again kind l part break broken) (low-behind kind above break blank next ls c cs (byte_fault BadEscape c.at) follows low spaces (told-escape kind next c cs wrong))
-breaks-again kind above l _ _ (later {next = next} {ls = ls} {f = f} part break blank broken follows high rest) =
-    let below : lines_behind kind above break 0 (blank ++ next ∷ ls) ≡ Err f = behind-is kind above break blank next ls true follows (le-leb above (indent_of next.text) high) ∙ rw (breaks-again kind above (unindented next) ls f rest) refl in
-    from-line kind above l (blank ++ next ∷ ls) part break _ (broken-again kind l part break broken) below
+pub breaks-again : (kind : Quotes) (l : Line) (ls : List Line) (f : Fault) → QuotedBreaks kind l ls f → lines_from kind l ls ≡ Err f
+breaks-again kind l _ _ (escape {backslash = b} ls h) = rw (escape-again kind l b h) refl
+breaks-again kind l _ _ (marker {next = next} part break blank ls broken follows marked) =
+    from-line kind l (blank ++ next ∷ ls) part break _ (broken-again kind l part break broken) (behind-is kind break blank next ls true follows marked)
+breaks-again kind l _ _ (later {next = next} {ls = ls} {f = f} part break blank broken follows bare rest) =
+    let below : lines_behind kind break 0 (blank ++ next ∷ ls) ≡ Err f = behind-is kind break blank next ls false follows bare ∙ rw (breaks-again kind (unindented next) ls f rest) refl in
+    from-line kind l (blank ++ next ∷ ls) part break _ (broken-again kind l part break broken) below
 
 -- ---- what is read is told by the definition: one line
 
@@ -206,9 +193,9 @@ pub middle-tells : (kind : Quotes) (l : Line) → closing_of kind 0 l.text ≡ N
 middle-tells kind l none = middle-by kind l (scan kind 0 l.text).0 (scan kind 0 l.text).1 (scan-sound kind (suc (length l.text)) l.text (omega arith)) none
 
 -- the last line
-abbrev Last : Quotes → ℕ → Line → Result Read Fault → Type 0
-Last kind above l (Ok x) = QuotedFrom kind above l [] x.0
-Last kind above l (Err f) = (b : Cell) × HasBadEscape kind l.text b × (f ≡ byte_fault BadEscape b.at)
+abbrev Last : Quotes → Line → Result Read Fault → Type 0
+Last kind l (Ok x) = QuotedFrom kind l [] x.0
+Last kind l (Err f) = (b : Cell) × HasBadEscape kind l.text b × (f ≡ byte_fault BadEscape b.at)
 
 closing-is : (x y : Closing) → some-closing x ≡ some-closing y → x ≡ y
 closing-is x y e = cc
@@ -222,32 +209,32 @@ nothing-closes : (kind : Quotes) → closing_of kind 0 [] ≡ None
 unfolding closing_of
 nothing-closes kind = refl
 
-last-by : (kind : Quotes) (above : ℕ) (l : Line) (ps : List Piece) (rest within : List Cell) (end : Cell) → IsScan kind l.text (ps, rest) → closing_of kind 0 l.text ≡ Some (within, (end, [])) → Last kind above l (ended l.break (ps, rest))
-last-by kind above l ps rest within end r found = by rest r (ap (closing_of kind 0) (sym r.source) ∙ found)
+last-by : (kind : Quotes) (l : Line) (ps : List Piece) (rest within : List Cell) (end : Cell) → IsScan kind l.text (ps, rest) → closing_of kind 0 l.text ≡ Some (within, (end, [])) → Last kind l (ended l.break (ps, rest))
+last-by kind l ps rest within end r found = by rest r (ap (closing_of kind 0) (sym r.source) ∙ found)
   where
     unfound : (rest : List Cell) → AllByRecursion (IsPiece kind) ps → closing_of kind 0 rest ≡ None → closing_of kind 0 (flat_map spelled ps ++ rest) ≡ some-closing (within, (end, [])) → ⊥
     unfound rest each none f = no-some (within, (end, [])) (sym (closing-pieces kind ps rest each ∙ ap (ahead (flat_map spelled ps)) none) ∙ f)
 
-    stopping : (c : Cell) (src : List Cell) → IsScan kind l.text (ps, c ∷ src) → closing_of kind 0 (flat_map spelled ps ++ c ∷ src) ≡ some-closing (within, (end, [])) → Stuck kind c src → Last kind above l (ended l.break (ps, c ∷ src))
+    stopping : (c : Cell) (src : List Cell) → IsScan kind l.text (ps, c ∷ src) → closing_of kind 0 (flat_map spelled ps ++ c ∷ src) ≡ some-closing (within, (end, [])) → Stuck kind c src → Last kind l (ended l.break (ps, c ∷ src))
     stopping c [] r f (backslash k e) = absurd (unfound (c ∷ []) r.each ((none-closes kind c k e).1) f)
-    stopping c (d ∷ left) r f (backslash k e) = subst (Last kind above l) (sym (ended-bad l.break ps c d left e)) (c, bad-escape kind l.text ps c d left r e, refl)
+    stopping c (d ∷ left) r f (backslash k e) = subst (Last kind l) (sym (ended-bad l.break ps c d left e)) (c, bad-escape kind l.text ps c d left r e, refl)
     stopping c src r f (closing e g) =
         let i = closing-is (flat_map spelled ps ++ [], (c, src)) (within, (end, [])) (sym (closing-pieces kind ps (c ∷ src) r.each ∙ ap (ahead (flat_map spelled ps)) g) ∙ f) in
         let j : src ≡ [] = ap (λ (x : Closing). x.1.1) i in
-        subst (Last kind above l) (sym (ended-closes kind l.break ps c src e)) (last ps c r.each e (r.source ∙ ap (λ (x : List Cell). flat_map spelled ps ++ c ∷ x) j))
+        subst (Last kind l) (sym (ended-closes kind l.break ps c src e)) (last ps c r.each e (r.source ∙ ap (λ (x : List Cell). flat_map spelled ps ++ c ∷ x) j))
 
-    by : (rest : List Cell) → IsScan kind l.text (ps, rest) → closing_of kind 0 (flat_map spelled ps ++ rest) ≡ some-closing (within, (end, [])) → Last kind above l (ended l.break (ps, rest))
+    by : (rest : List Cell) → IsScan kind l.text (ps, rest) → closing_of kind 0 (flat_map spelled ps ++ rest) ≡ some-closing (within, (end, [])) → Last kind l (ended l.break (ps, rest))
     by [] r f = absurd (unfound [] r.each (nothing-closes kind) f)
     by (c ∷ src) r f = stopping c src r f (stuck kind c src r.none)
 
-pub last-tells : (kind : Quotes) (above : ℕ) (l : Line) (within : List Cell) (end : Cell) → closing_of kind 0 l.text ≡ Some (within, (end, [])) → Last kind above l (line_of kind l)
-last-tells kind above l within end found = last-by kind above l (scan kind 0 l.text).0 (scan kind 0 l.text).1 within end (scan-sound kind (suc (length l.text)) l.text (omega arith)) found
+pub last-tells : (kind : Quotes) (l : Line) (within : List Cell) (end : Cell) → closing_of kind 0 l.text ≡ Some (within, (end, [])) → Last kind l (line_of kind l)
+last-tells kind l within end found = last-by kind l (scan kind 0 l.text).0 (scan kind 0 l.text).1 within end (scan-sound kind (suc (length l.text)) l.text (omega arith)) found
 
 -- ---- what is read is told by the definition: all lines
 
-abbrev pub Answers : Quotes → ℕ → Line → List Line → Result (List Cell) Fault → Type 0
-Answers kind above l ls (Ok text) = QuotedFrom kind above l ls text
-Answers kind above l ls (Err f) = QuotedBreaks kind above l ls f
+abbrev pub Answers : Quotes → Line → List Line → Result (List Cell) Fault → Type 0
+Answers kind l ls (Ok text) = QuotedFrom kind l ls text
+Answers kind l ls (Err f) = QuotedBreaks kind l ls f
 
 -- blank lines, and a line that isn't blank
 pub record Behind (kind : Quotes) (end : Cell) (ls : List Line) : Type 0 where
@@ -266,19 +253,12 @@ and-right : (a b : Bool) → (a && b) ≡ true → b ≡ true
 and-right true b h = h
 and-right false b h = true-false false h refl
 
-and-false : (a b : Bool) → (a && b) ≡ false → a ≡ true → b ≡ false
-and-false true b h e = h
-and-false false b h e = true-false false e refl
-
 blank-is : (c : Cell) → is_blank c ≡ true → (c.byte ≡ 32) ⊎ (c.byte ≡ 9)
 blank-is c h =
     elim (eqb_tells c.byte 32) [
       | inl a ↦ inl a.1
       | inr a ↦ elim (eqb_tells c.byte 9) [ inl b ↦ inr b.1 | inr b ↦ true-false (is_blank c) h (rw (a.0, b.0) refl) ]
     ]
-
-space-is-blank : (c : Cell) → eqb c.byte 32 ≡ true → is_blank c ≡ true
-space-is-blank c h = rw h refl
 
 blank-bare : (b : ℕ) → (b ≡ 32) ⊎ (b ≡ 9) → (b ≢ 39) × (b ≢ 34) × (b ≢ 92)
 blank-bare b (inl h) = (λ e. omega arith, λ e. omega arith, λ e. omega arith)
@@ -335,53 +315,36 @@ after-closes : (kind : Quotes) (end : Cell) (l : Line) (ls : List Line) → Line
 after-closes kind end l [] ok = after-some kind l.text ok.0 (end, []) ok.1
 after-closes kind end l (m ∷ ms) ok = (after-none kind l.text ok.0, ok.1)
 
-spaces-left : (cs : List Cell) → list_all is_blank cs ≡ false → (c : Cell) × (left : List Cell) × (after_spaces cs ≡ c ∷ left)
-spaces-left [] h = true-false true refl h
-spaces-left (c ∷ cs) h =
-    elim (by-test (eqb c.byte 32)) [
-      | inl a ↦ rw a (spaces-left cs (and-false (is_blank c) (list_all is_blank cs) h (space-is-blank c a)))
-      | inr a ↦ rw a (c, cs, refl)
-    ]
-
-only-line : (kind : Quotes) (above : ℕ) (l : Line) (read : Result Read Fault) → Last kind above l read → Answers kind above l [] (read >>= λ x. front x.0 (lines_behind kind above x.1 0 []))
-only-line kind above l (Ok x) h =
-    let e : front x.0 (lines_behind kind above x.1 0 []) ≡ Ok x.0 = rw (behind-nothing kind above x.1) (ap (λ (t : List Cell). Ok t) (append-nil x.0)) in
-    subst (Answers kind above l []) (sym e) h
-only-line kind above l (Err f) (b, h, e) = subst (QuotedBreaks kind above l []) (sym e) (escape [] h)
+only-line : (kind : Quotes) (l : Line) (read : Result Read Fault) → Last kind l read → Answers kind l [] (read >>= λ x. front x.0 (lines_behind kind x.1 0 []))
+only-line kind l (Ok x) h =
+    let e : front x.0 (lines_behind kind x.1 0 []) ≡ Ok x.0 = rw (behind-nothing kind x.1) (ap (λ (t : List Cell). Ok t) (append-nil x.0)) in
+    subst (Answers kind l []) (sym e) h
+only-line kind l (Err f) (b, h, e) = subst (QuotedBreaks kind l []) (sym e) (escape [] h)
 
 -- what is read of the lines behind makes what is read of all
-onward : (kind : Quotes) (above : ℕ) (l next : Line) (rest blank : List Line) (part : List Cell) (break : Break) (read : Result (List Cell) Fault) → IsBroken kind l part break → Follows blank next → above ≤ indent_of next.text
-    → Answers kind above (unindented next) rest read → Answers kind above l (blank ++ next ∷ rest) (front part (front (filled break (length blank)) read))
-onward kind above l next rest blank part break (Ok text) broken follows high h = more part break blank broken follows high h
-onward kind above l next rest blank part break (Err f) broken follows high h = later part break blank broken follows high h
+onward : (kind : Quotes) (l next : Line) (rest blank : List Line) (part : List Cell) (break : Break) (read : Result (List Cell) Fault) → IsBroken kind l part break → Follows blank next → is_marker next ≡ false
+    → Answers kind (unindented next) rest read → Answers kind l (blank ++ next ∷ rest) (front part (front (filled break (length blank)) read))
+onward kind l next rest blank part break (Ok text) broken follows bare h = more part break blank broken follows bare h
+onward kind l next rest blank part break (Err f) broken follows bare h = later part break blank broken follows bare h
 
-indented : (kind : Quotes) (above : ℕ) (l next : Line) (rest blank : List Line) (part : List Cell) (break : Break) → IsBroken kind l part break → Follows blank next → indent_of next.text < above
-    → Answers kind above l (blank ++ next ∷ rest) (front part (Err (unindented_at kind next (after_spaces next.text))))
-indented kind above l next rest blank part break broken follows low =
-    let s = spaces-left next.text follows.is_full in
-    subst (λ (cs : List Cell). QuotedBreaks kind above l (blank ++ next ∷ rest) (unindented_at kind next cs)) (sym s.2) (elim (bad-or-not kind s.0 s.1) [
-      | inl wrong ↦ subst (QuotedBreaks kind above l (blank ++ next ∷ rest)) (sym (told-escape kind next s.0 s.1 wrong)) (escape_not_indented part break blank rest broken follows low s.2 wrong)
-      | inr good ↦ subst (QuotedBreaks kind above l (blank ++ next ∷ rest)) (sym (told-indent kind next s.0 s.1 good)) (indent part break blank rest broken follows low s.2 good)
+abbrev Whole : Quotes → Line → List Line → Type 0
+Whole kind l ls = Answers kind l ls (lines_from kind l ls)
+
+middle-line : (kind : Quotes) (end : Cell) (l : Line) (ls : List Line) (b : Behind kind end ls) (read : Result Read Fault) → Middle kind l read → Whole kind (unindented b.next) b.rest
+    → Answers kind l ls (read >>= λ x. front x.0 (lines_behind kind x.1 0 ls))
+middle-line kind end l ls b (Err f) (c, h, e) below = subst (QuotedBreaks kind l ls) (sym e) (escape ls h)
+middle-line kind end l ls b (Ok x) broken below =
+    subst (λ (y : List Line). Answers kind l y (front x.0 (lines_behind kind x.1 0 y))) (sym b.source) (elim (by-test (is_marker b.next)) [
+      | inl a ↦ subst (λ (r : Result (List Cell) Fault). Answers kind l (b.blank ++ b.next ∷ b.rest) (front x.0 r)) (sym (behind-is kind x.1 b.blank b.next b.rest true b.follows a))
+          (marker x.0 x.1 b.blank b.rest broken b.follows a)
+      | inr a ↦ subst (λ (r : Result (List Cell) Fault). Answers kind l (b.blank ++ b.next ∷ b.rest) (front x.0 r)) (sym (behind-is kind x.1 b.blank b.next b.rest false b.follows a))
+          (onward kind l b.next b.rest b.blank x.0 x.1 (lines_from kind (unindented b.next) b.rest) broken b.follows a below)
     ])
 
-abbrev Whole : Quotes → ℕ → Line → List Line → Type 0
-Whole kind above l ls = Answers kind above l ls (lines_from kind above l ls)
-
-middle-line : (kind : Quotes) (above : ℕ) (end : Cell) (l : Line) (ls : List Line) (b : Behind kind end ls) (read : Result Read Fault) → Middle kind l read → Whole kind above (unindented b.next) b.rest
-    → Answers kind above l ls (read >>= λ x. front x.0 (lines_behind kind above x.1 0 ls))
-middle-line kind above end l ls b (Err f) (c, h, e) below = subst (QuotedBreaks kind above l ls) (sym e) (escape ls h)
-middle-line kind above end l ls b (Ok x) broken below =
-    subst (λ (y : List Line). Answers kind above l y (front x.0 (lines_behind kind above x.1 0 y))) (sym b.source) (elim (leb_tells above (indent_of b.next.text)) [
-      | inl a ↦ subst (λ (r : Result (List Cell) Fault). Answers kind above l (b.blank ++ b.next ∷ b.rest) (front x.0 r)) (sym (behind-is kind above x.1 b.blank b.next b.rest true b.follows a.0))
-          (onward kind above l b.next b.rest b.blank x.0 x.1 (lines_from kind above (unindented b.next) b.rest) broken b.follows a.1 below)
-      | inr a ↦ subst (λ (r : Result (List Cell) Fault). Answers kind above l (b.blank ++ b.next ∷ b.rest) (front x.0 r)) (sym (behind-is kind above x.1 b.blank b.next b.rest false b.follows a.0))
-          (indented kind above l b.next b.rest b.blank x.0 x.1 broken b.follows a.1)
-    ])
-
-pub from-tells : (kind : Quotes) (above n : ℕ) (end : Cell) (l : Line) (ls : List Line) → length ls < n → LinesOk kind 0 end (l ∷ ls) → Answers kind above l ls (lines_from kind above l ls)
-from-tells kind above zero end l ls lt ok = absurd (omega arith)
-from-tells kind above (suc n) end l [] lt ok = only-line kind above l (line_of kind l) (last-tells kind above l ok.0 end ok.1)
-from-tells kind above (suc n) end l (m ∷ ms) lt ok =
+pub from-tells : (kind : Quotes) (n : ℕ) (end : Cell) (l : Line) (ls : List Line) → length ls < n → LinesOk kind 0 end (l ∷ ls) → Answers kind l ls (lines_from kind l ls)
+from-tells kind zero end l ls lt ok = absurd (omega arith)
+from-tells kind (suc n) end l [] lt ok = only-line kind l (line_of kind l) (last-tells kind l ok.0 end ok.1)
+from-tells kind (suc n) end l (m ∷ ms) lt ok =
     let b = blanks-behind kind end m ms ok.1 in
     let size : length (m ∷ ms) ≡ length b.blank + suc (length b.rest) = ap length b.source ∙ length-append b.blank (b.next ∷ b.rest) in
-    middle-line kind above end l (m ∷ ms) b (line_of kind l) (middle-tells kind l ok.0) (from-tells kind above n end (unindented b.next) b.rest (omega (arith, size)) (after-closes kind end b.next b.rest b.ok))
+    middle-line kind end l (m ∷ ms) b (line_of kind l) (middle-tells kind l ok.0) (from-tells kind n end (unindented b.next) b.rest (omega (arith, size)) (after-closes kind end b.next b.rest b.ok))

@@ -226,12 +226,12 @@ pub filled-utf8 : (break : Break) (k : ℕ) → Utf8 (filled break k)
 filled-utf8 (Folds at) k = fold-utf8 at k
 filled-utf8 (Drops at) k = feeds-utf8 k at
 
-pub quoted-utf8 : (kind : Quotes) (above : ℕ) (l : Line) (ls : List Line) (text : List Cell) → QuotedFrom kind above l ls text → LinesUtf8 (l ∷ ls) → Utf8 text
-quoted-utf8 kind above l _ _ (last ps c h q s) u = pieces-utf8 kind ps h (utf8-before (flat_map spelled ps) c [] (subst Utf8 s u.0) (quote-low kind c q))
-quoted-utf8 kind above l _ _ (more {next = next} {ls = ls} {text = text} part break blank b f i rest) u =
+pub quoted-utf8 : (kind : Quotes) (l : Line) (ls : List Line) (text : List Cell) → QuotedFrom kind l ls text → LinesUtf8 (l ∷ ls) → Utf8 text
+quoted-utf8 kind l _ _ (last ps c h q s) u = pieces-utf8 kind ps h (utf8-before (flat_map spelled ps) c [] (subst Utf8 s u.0) (quote-low kind c q))
+quoted-utf8 kind l _ _ (more {next = next} {ls = ls} {text = text} part break blank b f i rest) u =
     let v = lines-utf8-behind blank (next ∷ ls) u.1 in
     utf8-append part (filled break (length blank) ++ text) (broken-utf8 kind l part break b u.0)
-    (utf8-append (filled break (length blank)) text (filled-utf8 break (length blank)) (quoted-utf8 kind above (unindented next) ls text rest (part-utf8 next.text (after_blanks next.text) (after-blanks-part next.text) v.0, v.1)))
+    (utf8-append (filled break (length blank)) text (filled-utf8 break (length blank)) (quoted-utf8 kind (unindented next) ls text rest (part-utf8 next.text (after_blanks next.text) (after-blanks-part next.text) v.0, v.1)))
 
 pub broken-climbs : (kind : Quotes) (l : Line) (text : List Cell) (break : Break) (lo : ℕ) → IsBroken kind l text break → Rises lo l.text l.break → Climbs lo text l.break
 broken-climbs kind l text (Folds at) lo (ps, h, s, t, p) r = subst (λ (cs : List Cell). Climbs lo cs l.break) (sym t) (trimmed-climbs ps lo l.break (subst (λ (cs : List Cell). Rises lo cs l.break) s r))
@@ -244,14 +244,14 @@ filled-climbs kind l text (Folds at) k (ps, h, s, t, p) = rw p (fold-climbs l.br
 filled-climbs Double l text (Drops at) k (ps, b, h, lb, s, t, p) = rw p (feeds-climb k l.break)
 filled-climbs Single l text (Drops at) k h = absurd h
 
-pub quoted-climbs : (kind : Quotes) (above : ℕ) (l : Line) (ls : List Line) (text : List Cell) → QuotedFrom kind above l ls text → (lo hi : ℕ) → LinesRise lo (l ∷ ls) (suc hi) → Climbs lo text hi
-quoted-climbs kind above l _ _ (last ps c h q s) lo hi r =
+pub quoted-climbs : (kind : Quotes) (l : Line) (ls : List Line) (text : List Cell) → QuotedFrom kind l ls text → (lo hi : ℕ) → LinesRise lo (l ∷ ls) (suc hi) → Climbs lo text hi
+quoted-climbs kind l _ _ (last ps c h q s) lo hi r =
     let k : Rises lo (flat_map spelled ps ++ c ∷ []) l.break = subst (λ (cs : List Cell). Rises lo cs l.break) s r.0 in
     let e : suc c.at ≤ l.break = rises-behind lo (flat_map spelled ps) c [] l.break k in
     climbs-high lo (flat_map given ps) c.at hi (omega (arith, e, r.1)) (pieces-climb lo ps c.at (rises-before lo (flat_map spelled ps) c [] l.break k))
-quoted-climbs kind above l _ _ (more {next = next} {ls = ls} {text = text} part break blank b f i rest) lo hi r =
+quoted-climbs kind l _ _ (more {next = next} {ls = ls} {text = text} part break blank b f i rest) lo hi r =
     let n : LinesRise (suc l.break) (next ∷ ls) (suc hi) = lines-behind (suc l.break) blank (next ∷ ls) (suc hi) r.2 in
     let below : Climbs (suc l.break) text hi =
-    quoted-climbs kind above (unindented next) ls text rest (suc l.break) hi (rises-part (suc l.break) next.text (after_blanks next.text) next.break (after-blanks-part next.text) n.0, n.1, n.2) in
+    quoted-climbs kind (unindented next) ls text rest (suc l.break) hi (rises-part (suc l.break) next.text (after_blanks next.text) next.break (after-blanks-part next.text) n.0, n.1, n.2) in
     climbs-append lo part l.break (filled break (length blank) ++ text) hi (broken-climbs kind l part break lo b r.0)
     (climbs-append l.break (filled break (length blank)) (suc l.break) text hi (filled-climbs kind l part break (length blank) b) below)

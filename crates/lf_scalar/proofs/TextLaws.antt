@@ -59,28 +59,28 @@ plain-text-utf8 above end src v u p =
     let t : Utf8 p.text = plain-utf8 above p.begun.first p.begun.following p.text p.from ls in
     made-utf8 v (cond (is_null p.text) [] p.text) (end_of p.begun.opening.at p.text) (span p.begun.opening.at (end_of p.begun.opening.at p.text)) p.value (unless-null (is_null p.text) p.text t)
 
-quoted-text-utf8 : (kind : Quotes) (above end : ℕ) (opening : Cell) (src : List Cell) (v : Value) → opening.byte ≡ quote_of kind → Utf8 (opening ∷ src) → IsQuoted kind above end opening src v → IsUtf8 v.text
-quoted-text-utf8 kind above end opening src v o u q =
+quoted-text-utf8 : (kind : Quotes) (end : ℕ) (opening : Cell) (src : List Cell) (v : Value) → opening.byte ≡ quote_of kind → Utf8 (opening ∷ src) → IsQuoted kind end opening src v → IsUtf8 v.text
+quoted-text-utf8 kind end opening src v o u q =
     let c = q.closed.between in
     let low = quote-low kind c.closing c.closes in
     let inner : Utf8 (flat_map raw c.raws ++ c.closing ∷ c.rest) = subst Utf8 c.source (utf8-behind [] opening src u (quote-low kind opening o)) in
     let whole : Utf8 (flat_map raw c.raws ++ c.closing ∷ []) = utf8-append (flat_map raw c.raws) (c.closing ∷ []) (utf8-before (flat_map raw c.raws) c.closing c.rest inner low) (utf8-low c.closing [] low utf8-nil) in
     let ls : LinesUtf8 (q.closed.first ∷ q.closed.following) =
     subst LinesUtf8 q.closed.source (lines-utf8 (suc (length (flat_map raw c.raws ++ c.closing ∷ []))) (c.closing.at + 1) (flat_map raw c.raws ++ c.closing ∷ []) (omega arith) whole) in
-    made-utf8 v q.closed.text c.closing.at (span opening.at (c.closing.at + 1)) q.closed.value (quoted-utf8 kind above q.closed.first q.closed.following q.closed.text q.closed.from ls)
+    made-utf8 v q.closed.text c.closing.at (span opening.at (c.closing.at + 1)) q.closed.value (quoted-utf8 kind q.closed.first q.closed.following q.closed.text q.closed.from ls)
 
 block-text-utf8 : (Joins : List Line → List Cell → Type 0) → KeepsUtf8 Joins → (above end : ℕ) (src : List Cell) (v : Value) → Utf8 src → IsBlock Joins above end src v → IsUtf8 v.text
 block-text-utf8 Joins keeps above end src v u b =
     let ls : LinesUtf8 (record { text = b.headed.sign ∷ b.headed.header; break = b.headed.break } ∷ b.headed.following) = subst LinesUtf8 b.headed.source (lines-utf8 (suc (length src)) end src (omega arith) u) in
     let k : ℕ = content_indent above b.digit b.headed.following in
-    made-utf8 v b.text b.last (span b.headed.sign.at b.last) b.value (block-utf8 Joins keeps b.chomp (body_of k b.headed.following) b.text b.is_text (body-utf8 k b.headed.following ls.1))
+    made-utf8 v b.text b.last (span b.headed.sign.at b.last) b.value (block-utf8 Joins keeps end b.chomp (body_of k b.headed.following) b.text b.is_text (body-utf8 k b.headed.following ls.1))
 
 style-utf8 : (s : Style) (above end : ℕ) (src : List Cell) (v : Value) → Utf8 src → begins s (first_text (lines end src)) ≡ true → IsOfStyle s above end src v → IsUtf8 v.text
 style-utf8 style.Plain above end src v u b h = plain-text-utf8 above end src v u h
 style-utf8 style.Single above end [] v u b h = absurd h
-style-utf8 style.Single above end (c ∷ src) v u b h = quoted-text-utf8 Single above end c src v (first-byte end 39 c src b) u h
+style-utf8 style.Single above end (c ∷ src) v u b h = quoted-text-utf8 Single end c src v (first-byte end 39 c src b) u h
 style-utf8 style.Double above end [] v u b h = absurd h
-style-utf8 style.Double above end (c ∷ src) v u b h = quoted-text-utf8 Double above end c src v (first-byte end 34 c src b) u h
+style-utf8 style.Double above end (c ∷ src) v u b h = quoted-text-utf8 Double end c src v (first-byte end 34 c src b) u h
 style-utf8 style.Literal above end src v u b h = block-text-utf8 IsJoined joins-utf8 above end src v u h
 style-utf8 style.Folded above end src v u b h = block-text-utf8 IsFolded folds-utf8 above end src v u h
 
@@ -157,7 +157,7 @@ module _ (at end : ℕ) (rest : List ℕ) (rises : Rises at (cells at rest) end)
       let le : suc h.sign.at ≤ h.break = rises-le (suc h.sign.at) h.header h.break r.0.1 in
       let k : ℕ = content_indent above b.digit h.following in
       let body : LinesRise h.sign.at (body_of k h.following) end = body-rises k h.sign.at end h.following (lines-low (suc h.break) h.sign.at h.following end (omega (arith, le)) r.2) in
-      let m : Mounts h.sign.at b.text end = block-mounts Joins keeps b.chomp (body_of k h.following) b.text b.is_text h.sign.at end (omega (arith, le, r.1)) body in
+      let m : Mounts h.sign.at b.text end = block-mounts Joins keeps end b.chomp (body_of k h.following) b.text b.is_text h.sign.at end (omega (arith, le, r.1)) body in
       let both : Mounts h.sign.at b.text b.last =
       subst (Mounts h.sign.at b.text) (sym b.last_is) (least-mounts h.sign.at b.text (end_of (suc h.sign.at) b.text) end (end-mounts (suc h.sign.at) h.sign.at b.text end (omega arith) m) m) in
       made-placed v b.text b.last at end h.sign.at b.last b.value (line-at at end rest (record { text = h.sign ∷ h.header; break = h.break }) h.following h.sign h.header h.source refl) both (omega arith) (omega (arith, b.last_is))
@@ -166,8 +166,8 @@ pub rises-push : (lo : ℕ) (xs : List Cell) (c : Cell) → Rises lo xs c.at →
 rises-push lo [] c h = (h, omega arith)
 rises-push lo (x ∷ xs) c h = (h.0, rises-push (suc x.at) xs c h.1)
 
-pub quoted-placed : (kind : Quotes) (above at end : ℕ) (opening : Cell) (src : List Cell) (v : Value) → opening.at ≡ at → Rises at (opening ∷ src) end → IsQuoted kind above end opening src v → IsPlaced v at end
-quoted-placed kind above at end opening src v o r q =
+pub quoted-placed : (kind : Quotes) (at end : ℕ) (opening : Cell) (src : List Cell) (v : Value) → opening.at ≡ at → Rises at (opening ∷ src) end → IsQuoted kind end opening src v → IsPlaced v at end
+quoted-placed kind at end opening src v o r q =
     let c = q.closed.between in
     let s : Rises (suc opening.at) (flat_map raw c.raws ++ c.closing ∷ c.rest) end = subst (λ (cs : List Cell). Rises (suc opening.at) cs end) c.source r.1 in
     let stop : suc c.closing.at ≤ end = rises-le (suc c.closing.at) c.rest end (rises-behind (suc opening.at) (flat_map raw c.raws) c.closing c.rest end s) in
@@ -177,17 +177,17 @@ quoted-placed kind above at end opening src v o r q =
     let one : c.closing.at + 1 ≡ suc c.closing.at = omega arith in
     let ls : LinesRise (suc opening.at) (q.closed.first ∷ q.closed.following) (suc c.closing.at) = subst (LinesRise (suc opening.at) (q.closed.first ∷ q.closed.following)) one (subst (λ (xs : List Line). LinesRise (suc opening.at) xs (c.closing.at + 1)) q.closed.source all) in
     let m : Climbs opening.at q.closed.text c.closing.at =
-    quoted-climbs kind above q.closed.first q.closed.following q.closed.text q.closed.from opening.at c.closing.at (lines-low (suc opening.at) opening.at (q.closed.first ∷ q.closed.following) (suc c.closing.at) (omega arith) ls) in
+    quoted-climbs kind q.closed.first q.closed.following q.closed.text q.closed.from opening.at c.closing.at (lines-low (suc opening.at) opening.at (q.closed.first ∷ q.closed.following) (suc c.closing.at) (omega arith) ls) in
     made-placed v q.closed.text c.closing.at at end opening.at (c.closing.at + 1) q.closed.value o (climbs-mount opening.at q.closed.text c.closing.at m) (omega arith) (omega (arith, stop))
 
-quoted-at-placed : (kind : Quotes) (above at end : ℕ) (rest : List ℕ) (v : Value) → Rises at (cells at rest) end → IsQuotedAt kind above end (cells at rest) v → IsPlaced v at end
-quoted-at-placed kind above at end [] v r h = absurd h
-quoted-at-placed kind above at end (b ∷ rest) v r h = quoted-placed kind above at end (cell b at) (cells (suc at) rest) v refl r h
+quoted-at-placed : (kind : Quotes) (at end : ℕ) (rest : List ℕ) (v : Value) → Rises at (cells at rest) end → IsQuotedAt kind end (cells at rest) v → IsPlaced v at end
+quoted-at-placed kind at end [] v r h = absurd h
+quoted-at-placed kind at end (b ∷ rest) v r h = quoted-placed kind at end (cell b at) (cells (suc at) rest) v refl r h
 
 pub style-placed : (s : Style) (above at end : ℕ) (rest : List ℕ) (v : Value) → Rises at (cells at rest) end → IsOfStyle s above end (cells at rest) v → IsPlaced v at end
 style-placed style.Plain above at end rest v r h = plain-placed at end rest r above v h
-style-placed style.Single above at end rest v r h = quoted-at-placed Single above at end rest v r h
-style-placed style.Double above at end rest v r h = quoted-at-placed Double above at end rest v r h
+style-placed style.Single above at end rest v r h = quoted-at-placed Single at end rest v r h
+style-placed style.Double above at end rest v r h = quoted-at-placed Double at end rest v r h
 style-placed style.Literal above at end rest v r h = block-placed at end rest r IsJoined joins-order above v h
 style-placed style.Folded above at end rest v r h = block-placed at end rest r IsFolded folds-order above v h
 

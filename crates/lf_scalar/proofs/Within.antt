@@ -1,13 +1,13 @@
 -- The span of each breach of a scalar lies in its file.
-use Rattle.std.proofs.Common.{◌≡◌, ℕ, suc, ◌+◌, ◌<◌, ◌≤◌, Bool, true, false, eqb, ◌&&◌, List, [], ◌∷◌, ◌++◌, Option, Some, None, Ok, Err, length, drop, refl, ap, arith, sym, ◌∙◌, subst, inl, inr, eqb-true}
-use Rattle.std.specs.Prelude.{ℤ}
+use Rattle.std.proofs.Common.{◌≡◌, ◌≢◌, ℕ, suc, ◌+◌, ◌<◌, ◌≤◌, Bool, true, false, eqb, ◌&&◌, List, [], ◌∷◌, ◌++◌, Option, Some, None, Ok, Err, length, drop, refl, ap, arith, sym, ◌∙◌, subst, inl, inr, eqb-true}
+use Rattle.std.specs.Prelude.{ℤ, leb, nat_lt, is_none}
 use Rattle.std.specs.Str.{IsUtf8}
 use Rattle.std.specs.List.{flat_map}
-use Rattle.std.proofs.lemmas.Bool.{cases_Bool}
+use Rattle.std.proofs.lemmas.Bool.{cases_Bool, and_parts}
 use Rattle.std.proofs.lemmas.List.{length-drop}
 use Rattle.std.proofs.lemmas.Str.{IsUtf8-drop}
 use Rattle.lf_base.specs.declared.kind.Kind.{Kind}
-use Rattle.lf_base.specs.declared.kind.Kind.TheVariants.{BadIndent, BadHeader, NotANode}
+use Rattle.lf_base.specs.declared.kind.Kind.TheVariants.{BadHeader, NotANode}
 use Rattle.lf_base.specs.declared.fault.Fault.{Fault}
 use Rattle.lf_base.specs.Faults.{LiesIn}
 use Rattle.lf_scalar.specs.declared.block.Chomp.{Chomp}
@@ -15,22 +15,24 @@ use Rattle.lf_scalar.specs.declared.block.Chomp.TheVariants.{Strip, Clip, Keep}
 use Rattle.lf_scalar.specs.declared.scalar.Style.{Style}
 use Rattle.lf_scalar.specs.declared.scalar.Style.TheVariants as style
 use Rattle.lf_scalar.specs.Cells.{Cell, cells, character_fault}
-use Rattle.lf_scalar.specs.Lines.{Line, lines, first_text, begins_with, is_blank, after_blanks, after_spaces}
-use Rattle.lf_scalar.specs.Plain.{plain_text, key_sign, before_blank, PlainBreaks, BreaksPlain}
+use Rattle.lf_scalar.specs.Lines.{Line, lines, start_of, first_text, begins_with, is_blank, after_blanks, indent_of, is_spaces}
+use Rattle.lf_scalar.specs.Markers.{is_marker}
+use Rattle.lf_scalar.specs.Plain.{plain_text, key_sign, before_blank, has_tab, first_tab, PlainBreaks, BreaksPlain}
 use Rattle.lf_scalar.specs.Plain as plain
-use Rattle.lf_scalar.specs.Quoted.{Quotes, Single, Double, quote_of, raw, spelled, unindented, QuotedBreaks, escape, indent, escape_not_indented, later, behind, BreaksQuoted, open_quote, inside, outside}
+use Rattle.lf_scalar.specs.Quoted.{Quotes, Single, Double, quote_of, raw, spelled, unindented, QuotedBreaks, escape, marker, later, behind, BreaksQuoted, open_quote, inside, outside}
 use Rattle.lf_scalar.specs.reading.Quoted.{wrong_behind}
-use Rattle.lf_scalar.specs.Block.{IsChomp, BreaksBlock}
+use Rattle.lf_scalar.specs.Block.{content_indent, spaces_fault, tab_fault, body_fault, IsChomp, BreaksBlock}
+use Rattle.lf_scalar.specs.Block as block
 use Rattle.lf_scalar.specs.reading.Block.{Header, once, ends_header, header_from}
 use Rattle.lf_scalar.specs.Scalars.{least_above, begins, source_at, BeginsAt, BreaksStyle, BreaksAt}
 use Rattle.lf_scalar.proofs.BlockHeader.{Mark, sign, numeral, neither, mark, step-sign, step-digit, step-end, wrong-again}
 use Rattle.lf_scalar.proofs.Cells.{cells-bytes}
 use Rattle.lf_scalar.proofs.Characters.{character_lies, byte_lies, lies_further}
-use Rattle.lf_scalar.proofs.Parts.{Utf8, utf8-before, utf8-behind, part-utf8, blank-low, after-blanks-part, after-spaces-part}
+use Rattle.lf_scalar.proofs.Parts.{Utf8, utf8-before, utf8-behind, part-utf8, blank-low, after-blanks-part}
 use Rattle.lf_scalar.proofs.PlainOffsets.{plain-text-rises}
 use Rattle.lf_scalar.proofs.QuotedTexts.{quote-low}
-use Rattle.lf_scalar.proofs.Rising.{Rises, LinesRise, rises-le, rises-part, rises-before, rises-behind, cells-rise, lines-rise, lines-behind}
-use Rattle.lf_scalar.proofs.Tails.{wrong-told, from-front}
+use Rattle.lf_scalar.proofs.Rising.{Rises, LinesRise, rises-le, rises-part, rises-before, rises-behind, climbs-from, climbs-end, cells-rise, lines-rise, lines-behind}
+use Rattle.lf_scalar.proofs.Tails.{true-false, wrong-told, from-front}
 use Rattle.lf_scalar.proofs.TextLaws.{first-byte, rises-push}
 use Rattle.lf_scalar.proofs.Utf8Lines.{utf8-nil, utf8-append, utf8-low, LinesUtf8, lines-utf8, lines-utf8-behind}
 
@@ -43,6 +45,23 @@ none_some c e = cc
 some_is : (c d : Cell) → some c ≡ some d → c ≡ d
 some_is c d e = cc
 
+abbrev some_place : ℕ → Option ℕ
+some_place at = Some at
+
+no_place : (at : ℕ) → None ≡ some_place at → ⊥
+no_place at e = cc
+
+place_is : (m n : ℕ) → some_place m ≡ some_place n → m ≡ n
+place_is m n e = cc
+
+-- a line with a first byte begins in the source
+start_lies : (l : Line) (lo hi : ℕ) → l.text ≢ [] → Rises lo l.text l.break → l.break ≤ hi → suc (start_of l) ≤ hi
+start_lies l lo hi some r le = by l.text some r
+  where
+    by : (cs : List Cell) → cs ≢ [] → Rises lo cs l.break → suc (start_of (record { text = cs; break = l.break })) ≤ hi
+    by [] n r = absurd (n refl)
+    by (c ∷ cs) n r = let k : suc c.at ≤ l.break = rises-le (suc c.at) cs l.break r.1 in omega (arith, k, le)
+
 -- ---- plain scalars
 
 key_lies : (cs : List Cell) (c : Cell) (lo hi : ℕ) → key_sign cs ≡ some c → Rises lo cs hi → suc c.at ≤ hi
@@ -53,42 +72,47 @@ key_lies (d ∷ cs) c lo hi e r =
       | inr a ↦ key_lies cs c (suc d.at) hi (rw a at e) r.1
     ]
 
+-- a line with a tab behind its spaces has a first byte
+tab_full : (l : Line) → has_tab l ≡ true → l.text ≢ []
+tab_full l h e = let n : has_tab l ≡ false = rw e refl in true-false (has_tab l) h n
+
+tab_lies : (ls : List Line) (at lo hi : ℕ) → first_tab ls ≡ some_place at → LinesRise lo ls hi → suc at ≤ hi
+tab_lies [] at lo hi e r = absurd (no_place at e)
+tab_lies (l ∷ ls) at lo hi e r =
+    elim (cases_Bool (has_tab l)) [
+      | inl a ↦ subst (λ (n : ℕ). suc n ≤ hi) (place_is (start_of l) at (rw a at e)) (start_lies l lo hi (tab_full l a) r.0 r.1)
+      | inr a ↦ tab_lies ls at (suc l.break) hi (rw a at e) r.2
+    ]
+
+lines-upto : (lo : ℕ) (blank : List Line) (next : Line) (ls : List Line) (hi : ℕ) → LinesRise lo (blank ++ next ∷ ls) hi → LinesRise lo (blank ++ next ∷ []) hi
+lines-upto lo [] next ls hi r = (r.0, r.1, tt)
+lines-upto lo (b ∷ blank) next ls hi r = (r.0, r.1, lines-upto (suc b.break) blank next ls hi r.2)
+
 plain_lies : (above : ℕ) (l : Line) (ls : List Line) (f : Fault) → PlainBreaks above l ls f → (lo hi : ℕ) → LinesRise lo (l ∷ ls) hi → LiesIn hi f.span
 plain_lies above l _ _ (plain.key {c = c} ls e) lo hi r =
     let k : suc c.at ≤ l.break = key_lies (plain_text l) c lo l.break e (plain-text-rises lo l l.break r.0) in
     byte_lies c.at hi (omega (arith, k, r.1))
-plain_lies above l _ _ (plain.tab {next = next} {c = c} {cs = cs} blank ls e g source t) lo hi r =
-    let n : LinesRise (suc l.break) (next ∷ ls) hi = lines-behind (suc l.break) blank (next ∷ ls) hi r.2 in
-    let k : Rises (suc l.break) (c ∷ cs) next.break = subst (λ (xs : List Cell). Rises (suc l.break) xs next.break) source n.0 in
-    let le : suc c.at ≤ next.break = rises-le (suc c.at) cs next.break k.1 in
-    byte_lies c.at hi (omega (arith, le, n.1))
+plain_lies above l _ _ (plain.tab {next = next} {at = at} blank ls e g t) lo hi r =
+    byte_lies at hi (tab_lies (blank ++ next ∷ []) at (suc l.break) hi t (lines-upto (suc l.break) blank next ls hi r.2))
 plain_lies above l _ _ (plain.later {next = next} {ls = ls} {f = f} blank e g t rest) lo hi r = plain_lies above next ls f rest (suc l.break) hi (lines-behind (suc l.break) blank (next ∷ ls) hi r.2)
 
 -- ---- scalars between quotes
 
--- the character behind the spaces of a line
-spaces_lie : (l : Line) (c : Cell) (cs : List Cell) (lo hi : ℕ) → after_spaces l.text ≡ c ∷ cs → Utf8 l.text → Rises lo l.text l.break → l.break ≤ hi → (kind : Kind) → LiesIn hi (character_fault kind c).span × (suc c.at ≤ hi)
-spaces_lie l c cs lo hi e u r le kind =
-    let v : Utf8 (c ∷ cs) = subst Utf8 e (part-utf8 l.text (after_spaces l.text) (after-spaces-part l.text) u) in
-    let s : Rises lo (c ∷ cs) l.break = subst (λ (xs : List Cell). Rises lo xs l.break) e (rises-part lo l.text (after_spaces l.text) l.break (after-spaces-part l.text) r) in
-    let k : suc c.at ≤ l.break = rises-le (suc c.at) cs l.break s.1 in
-    (lies_further l.break hi (character_fault kind c).span le (character_lies lo c cs l.break v s kind), omega (arith, k, le))
+marker_full : (l : Line) → is_marker l ≡ true → l.text ≢ []
+marker_full l h e = let n : is_marker l ≡ false = rw e refl in true-false (is_marker l) h n
 
-lines_lie : (kind : Quotes) (above : ℕ) (l : Line) (ls : List Line) (f : Fault) → QuotedBreaks kind above l ls f → (lo hi : ℕ) → LinesUtf8 (l ∷ ls) → LinesRise lo (l ∷ ls) hi → LiesIn hi f.span
-lines_lie kind above l _ _ (escape {backslash = b} ls h) lo hi u r =
+lines_lie : (kind : Quotes) (l : Line) (ls : List Line) (f : Fault) → QuotedBreaks kind l ls f → (lo hi : ℕ) → LinesUtf8 (l ∷ ls) → LinesRise lo (l ∷ ls) hi → LiesIn hi f.span
+lines_lie kind l _ _ (escape {backslash = b} ls h) lo hi u r =
     let s : Rises lo (flat_map spelled h.pieces ++ b ∷ h.more) l.break = subst (λ (xs : List Cell). Rises lo xs l.break) h.source r.0 in
     let k : suc b.at ≤ l.break = rises-le (suc b.at) h.more l.break (rises-behind lo (flat_map spelled h.pieces) b h.more l.break s) in
     byte_lies b.at hi (omega (arith, k, r.1))
-lines_lie kind above l _ _ (indent {next = next} {c = c} {cs = cs} part break blank ls broken follows low spaces good) lo hi u r =
+lines_lie kind l _ _ (marker {next = next} part break blank ls broken follows marked) lo hi u r =
     let n : LinesRise (suc l.break) (next ∷ ls) hi = lines-behind (suc l.break) blank (next ∷ ls) hi r.2 in
-    (spaces_lie next c cs (suc l.break) hi spaces (lines-utf8-behind blank (next ∷ ls) u.1).0 n.0 n.1 BadIndent).0
-lines_lie kind above l _ _ (escape_not_indented {next = next} {backslash = c} {cs = cs} part break blank ls broken follows low spaces wrong) lo hi u r =
-    let n : LinesRise (suc l.break) (next ∷ ls) hi = lines-behind (suc l.break) blank (next ∷ ls) hi r.2 in
-    byte_lies c.at hi (spaces_lie next c cs (suc l.break) hi spaces (lines-utf8-behind blank (next ∷ ls) u.1).0 n.0 n.1 BadIndent).1
-lines_lie kind above l _ _ (later {next = next} {ls = ls} {f = f} part break blank broken follows high rest) lo hi u r =
+    byte_lies (start_of next) hi (start_lies next (suc l.break) hi (marker_full next marked) n.0 n.1)
+lines_lie kind l _ _ (later {next = next} {ls = ls} {f = f} part break blank broken follows bare rest) lo hi u r =
     let n : LinesRise (suc l.break) (next ∷ ls) hi = lines-behind (suc l.break) blank (next ∷ ls) hi r.2 in
     let v = lines-utf8-behind blank (next ∷ ls) u.1 in
-    lines_lie kind above (unindented next) ls f rest (suc l.break) hi (part-utf8 next.text (after_blanks next.text) (after-blanks-part next.text) v.0, v.1)
+    lines_lie kind (unindented next) ls f rest (suc l.break) hi (part-utf8 next.text (after_blanks next.text) (after-blanks-part next.text) v.0, v.1)
     (rises-part (suc l.break) next.text (after_blanks next.text) next.break (after-blanks-part next.text) n.0, n.1, n.2)
 
 -- the first character that can't stand behind a scalar
@@ -115,9 +139,9 @@ first_rises : (lo : ℕ) (ls : List Line) (hi : ℕ) → lo ≤ hi → LinesRise
 first_rises lo [] hi le r = le
 first_rises lo (l ∷ ls) hi le r = rises_high lo l.text l.break hi r.1 r.0
 
-pub quoted_lies : (kind : Quotes) (above end : ℕ) (opening : Cell) (src : List Cell) (f : Fault) → BreaksQuoted kind above end opening src f → (lo : ℕ) → opening.byte ≡ quote_of kind → Utf8 (opening ∷ src) → Rises lo (opening ∷ src) end → LiesIn end f.span
-quoted_lies kind above end opening src _ (open_quote none) lo o u r = byte_lies opening.at end (rises-le (suc opening.at) src end r.1)
-quoted_lies kind above end opening src _ (inside {first = first} {following = following} {f = f} c source h) lo o u r =
+pub quoted_lies : (kind : Quotes) (end : ℕ) (opening : Cell) (src : List Cell) (f : Fault) → BreaksQuoted kind end opening src f → (lo : ℕ) → opening.byte ≡ quote_of kind → Utf8 (opening ∷ src) → Rises lo (opening ∷ src) end → LiesIn end f.span
+quoted_lies kind end opening src _ (open_quote none) lo o u r = byte_lies opening.at end (rises-le (suc opening.at) src end r.1)
+quoted_lies kind end opening src _ (inside {first = first} {following = following} {f = f} c source h) lo o u r =
     let low = quote-low kind c.closing c.closes in
     let inner : Utf8 (flat_map raw c.raws ++ c.closing ∷ c.rest) = subst Utf8 c.source (utf8-behind [] opening src u (quote-low kind opening o)) in
     let whole : Utf8 (flat_map raw c.raws ++ c.closing ∷ []) = utf8-append (flat_map raw c.raws) (c.closing ∷ []) (utf8-before (flat_map raw c.raws) c.closing c.rest inner low) (utf8-low c.closing [] low utf8-nil) in
@@ -128,8 +152,8 @@ quoted_lies kind above end opening src _ (inside {first = first} {following = fo
     let rs : LinesRise (suc opening.at) (first ∷ following) (c.closing.at + 1) =
     subst (λ (xs : List Line). LinesRise (suc opening.at) xs (c.closing.at + 1)) source
     (lines-rise (suc (length (flat_map raw c.raws ++ c.closing ∷ []))) (c.closing.at + 1) (suc opening.at) (flat_map raw c.raws ++ c.closing ∷ []) (omega arith) rise) in
-    lies_further (c.closing.at + 1) end f.span (omega (arith, stop)) (lines_lie kind above first following f h (suc opening.at) (c.closing.at + 1) us rs)
-quoted_lies kind above end opening src _ (outside {v = v} {wrong = wrong} closed w) lo o u r =
+    lies_further (c.closing.at + 1) end f.span (omega (arith, stop)) (lines_lie kind first following f h (suc opening.at) (c.closing.at + 1) us rs)
+quoted_lies kind end opening src _ (outside {v = v} {wrong = wrong} closed w) lo o u r =
     let c = closed.between in
     let inner : Utf8 (flat_map raw c.raws ++ c.closing ∷ c.rest) = subst Utf8 c.source (utf8-behind [] opening src u (quote-low kind opening o)) in
     let rest : Utf8 c.rest = utf8-behind (flat_map raw c.raws) c.closing c.rest inner (quote-low kind c.closing c.closes) in
@@ -180,6 +204,43 @@ header_lies s d (c ∷ cs) w lo hi e u r kind = by (mark c) (λ s d v h. header_
     by (numeral n h) below = once_lies d (header_from s (Some n) cs) (sym (step-digit s d c cs n h) ∙ e) (below s (Some n) (utf8-behind [] c cs u (omega (arith, h.1, h.2))))
     by (neither p q) below = ends (wrong_behind false (c ∷ cs)) refl (sym (step-end s d c cs p q) ∙ e)
 
+abbrev some_fault : Fault → Option Fault
+some_fault f = Some f
+
+no_fault : (f : Fault) → None ≡ some_fault f → ⊥
+no_fault f e = cc
+
+fault_is : (f g : Fault) → some_fault f ≡ some_fault g → f ≡ g
+fault_is f g e = cc
+
+-- right behind the last space of a line
+end_lies : (l : Line) (lo hi : ℕ) → Rises lo l.text l.break → l.break ≤ hi → LiesIn hi (spaces_fault l).span
+end_lies l lo hi r le = (omega arith, omega (arith, le, climbs-end l.break lo l.text l.break (omega arith) (climbs-from lo l.text l.break r)))
+
+body_lies : (leads : Bool) (above k : ℕ) (ls : List Line) (f : Fault) (lo hi : ℕ) → body_fault leads above k ls ≡ some_fault f → LinesRise lo ls hi → LiesIn hi f.span
+unfolding body_fault
+body_lies leads above k [] f lo hi e r = absurd (no_fault f e)
+body_lies leads above k (l ∷ ls) f lo hi e r =
+    elim (cases_Bool (is_spaces l)) [
+      | inl a ↦ elim (cases_Bool (leads && nat_lt k (length l.text))) [
+        | inl b ↦ subst (λ (g : Fault). LiesIn hi g.span) (fault_is (spaces_fault l) f (rw (a, b) at e)) (end_lies l lo hi r.0 r.1)
+        | inr b ↦ body_lies leads above k ls f (suc l.break) hi (rw (a, b) at e) r.2
+      ]
+      | inr a ↦ elim (cases_Bool (leb k (indent_of l.text))) [
+        | inl b ↦ elim (cases_Bool (leads && has_tab l)) [
+          | inl t ↦ tab ((and_parts leads (has_tab l) t).1) (rw (a, b, t) at e)
+          | inr t ↦ body_lies false above k ls f (suc l.break) hi (rw (a, b, t) at e) r.2
+        ]
+        | inr b ↦ elim (cases_Bool (leb above (indent_of l.text) && has_tab l)) [
+          | inl t ↦ tab ((and_parts (leb above (indent_of l.text)) (has_tab l) t).1) (rw (a, b, t) at e)
+          | inr t ↦ absurd (no_fault f (rw (a, b, t) at e))
+        ]
+      ]
+    ]
+  where
+    tab : has_tab l ≡ true → some_fault (tab_fault l) ≡ some_fault f → LiesIn hi f.span
+    tab t e = subst (λ (g : Fault). LiesIn hi g.span) (fault_is (tab_fault l) f e) (byte_lies (start_of l) hi (start_lies l lo hi (tab_full l t) r.0 r.1))
+
 module _ (end lo : ℕ) (src : List Cell) (u : Utf8 src) (r : Rises lo src end) where
   lines_u : LinesUtf8 (lines end src)
   lines_u = lines-utf8 (suc (length src)) end src (omega arith) u
@@ -190,25 +251,27 @@ module _ (end lo : ℕ) (src : List Cell) (u : Utf8 src) (r : Rises lo src end) 
   scalar_lies : (above : ℕ) (f : Fault) → BreaksPlain above end src f → LiesIn end f.span
   scalar_lies above f h = plain_lies above h.0.first h.0.following f h.1 lo end (subst (λ (ls : List Line). LinesRise lo ls end) h.0.source lines_r)
 
-  block_lies : (b : ℕ) → b < 128 → begins_with b (first_text (lines end src)) ≡ true → (f : Fault) → BreaksBlock end src f → LiesIn end f.span
-  block_lies b lt begun f h =
-      let g = h.headed in
+  block_lies : (above b : ℕ) → b < 128 → begins_with b (first_text (lines end src)) ≡ true → (f : Fault) → BreaksBlock above end src f → LiesIn end f.span
+  block_lies above b lt begun _ (block.header {wrong = wrong} g w) =
       let l : Line = record { text = g.sign ∷ g.header; break = g.break } in
       let v : LinesUtf8 (l ∷ g.following) = subst LinesUtf8 g.source lines_u in
       let s : LinesRise lo (l ∷ g.following) end = subst (λ (ls : List Line). LinesRise lo ls end) g.source lines_r in
       let is : eqb g.sign.byte b ≡ true = ap (λ (ls : List Line). begins_with b (first_text ls)) (sym g.source) ∙ begun in
       let low : g.sign.byte < 128 = omega (arith, lt, eqb-true g.sign.byte b is) in
-      let told : LiesIn g.break (character_fault BadHeader h.wrong).span = header_lies None None g.header h.wrong (suc g.sign.at) g.break (wrong-again g.header h.wrong h.wrong_in) (utf8-behind [] g.sign g.header v.0 low) s.0.1 BadHeader in
-      subst (λ (x : Fault). LiesIn end x.span) (sym h.fault_is) (lies_further g.break end (character_fault BadHeader h.wrong).span s.1 told)
+      let told : LiesIn g.break (character_fault BadHeader wrong).span = header_lies None None g.header wrong (suc g.sign.at) g.break (wrong-again g.header wrong w) (utf8-behind [] g.sign g.header v.0 low) s.0.1 BadHeader in
+      lies_further g.break end (character_fault BadHeader wrong).span s.1 told
+  block_lies above b lt begun f (block.body {digit = digit} g marks broken) =
+      let s : LinesRise lo (record { text = g.sign ∷ g.header; break = g.break } ∷ g.following) end = subst (λ (ls : List Line). LinesRise lo ls end) g.source lines_r in
+      body_lies (is_none digit) above (content_indent above digit g.following) g.following f (suc g.break) end broken s.2
 
 pub style_lies : (s : Style) (above end lo : ℕ) (src : List Cell) (f : Fault) → Utf8 src → Rises lo src end → begins s (first_text (lines end src)) ≡ true → BreaksStyle s above end src f → LiesIn end f.span
 style_lies style.Plain above end lo src f u r b h = scalar_lies end lo src u r above f h
 style_lies style.Single above end lo [] f u r b h = absurd h
-style_lies style.Single above end lo (c ∷ src) f u r b h = quoted_lies Single above end c src f h lo (first-byte end 39 c src b) u r
+style_lies style.Single above end lo (c ∷ src) f u r b h = quoted_lies Single end c src f h lo (first-byte end 39 c src b) u r
 style_lies style.Double above end lo [] f u r b h = absurd h
-style_lies style.Double above end lo (c ∷ src) f u r b h = quoted_lies Double above end c src f h lo (first-byte end 34 c src b) u r
-style_lies style.Literal above end lo src f u r b h = block_lies end lo src u r 124 (omega arith) b f h
-style_lies style.Folded above end lo src f u r b h = block_lies end lo src u r 62 (omega arith) b f h
+style_lies style.Double above end lo (c ∷ src) f u r b h = quoted_lies Double end c src f h lo (first-byte end 34 c src b) u r
+style_lies style.Literal above end lo src f u r b h = block_lies end lo src u r above 124 (omega arith) b f h
+style_lies style.Folded above end lo src f u r b h = block_lies end lo src u r above 62 (omega arith) b f h
 
 pub breach_lies : (bytes : List ℕ) (at : ℕ) (parent : ℤ) (s : Style) → IsUtf8 bytes → BeginsAt bytes at s → (f : Fault) → BreaksAt bytes at parent s f → LiesIn (length bytes) f.span
 breach_lies bytes at parent s u b f h =

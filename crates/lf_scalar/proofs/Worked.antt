@@ -11,6 +11,7 @@ use Rattle.lf_scalar.specs.Lines.{line, lines}
 use Rattle.lf_scalar.specs.Plain.{last, more, key, tab, later}
 use Rattle.lf_scalar.specs.Quoted.{Quotes, Single, Double, Piece, Bare, Twice, Letter, Raw, One, Pair, letter_of, Closes, QuotedFrom, Break, Folds, Drops, IsQuoted, IsClosed, BreaksQuoted}
 use Rattle.lf_scalar.specs.Quoted as quoted
+use Rattle.lf_scalar.specs.Block.{body_fault}
 use Rattle.lf_scalar.specs.Scalars.{IsScalarAt, BreaksAt}
 
 abbrev value : List ℕ → List ℕ → Span → Value
@@ -39,7 +40,7 @@ second_tab : BreaksAt (codes "a: b\n\n  \tc\n") 3 (pos 0) style.Plain (byte_faul
 unfolding lines
 second_tab = (
   record { first = _; following = _; opening = _; rest = _; source = refl; text = refl },
-  tab (line [] 5 ∷ []) [] refl (record { bare = refl; are_blank = (refl, tt); goes_on = refl }) refl refl,
+  tab (line [] 5 ∷ []) [] refl (record { bare = refl; are_blank = (refl, tt); goes_on = refl }) refl,
 )
 
 differ : (m n : ℕ) → (m < n) ⊎ (n < m) → m ≢ n
@@ -87,7 +88,7 @@ dropped_break = record {
     source = refl;
     text = cell 98 4 ∷ cell 10 6 ∷ cell 99 10 ∷ [];
     from = quoted.more (cell 98 4 ∷ []) (Drops 6) (line [] 7 ∷ []) (Bare (cell 98 4) ∷ [], cell 92 5, ((differ 98 34 (inr (omega arith)), differ 98 92 (inr (omega arith))), tt), refl, refl, refl, refl)
-        (record { are_blank = (refl, tt); is_full = refl }) (omega arith) (quoted.last (Bare (cell 99 10) ∷ []) (cell 34 11) ((differ 99 34 (inr (omega arith)), differ 99 92 (inr (omega arith))), tt) refl refl);
+        (record { are_blank = (refl, tt); is_full = refl }) refl (quoted.last (Bare (cell 99 10) ∷ []) (cell 34 11) ((differ 99 34 (inr (omega arith)), differ 99 92 (inr (omega arith))), tt) refl refl);
     value = refl;
   };
   alone = refl;
@@ -98,12 +99,13 @@ some c cs e = cc
 
 -- a literal scalar that keeps the empty lines at its end, one of them of one space
 kept : IsScalarAt (codes "a: |+\n  b\n\n \nc: d\n") 3 (pos 0) style.Literal (value (codes "b\n\n\n") (8 ∷ 9 ∷ 10 ∷ 12 ∷ 13 ∷ []) (span 3 13))
-unfolding lines
+unfolding lines body_fault
 kept = record {
   headed = record { sign = _; header = _; break = _; following = _; source = refl };
   chomp = Keep;
   digit = None;
   header = record { marks = cell 43 4 ∷ []; tail = []; source = refl; are_marks = refl; is_tail = refl };
+  sound = refl;
   text = _;
   is_text = record { full = line (cell 98 8 ∷ []) 9 ∷ []; empty = line [] 10 ∷ line [] 12 ∷ []; source = refl; ends_full = some (cell 98 8) []; are_empty = (refl, (refl, tt)); inner = cell 98 8 ∷ []; joins = refl; text_is = refl };
   last = 13;
@@ -113,12 +115,13 @@ kept = record {
 
 -- a folded scalar: one line feed more than there are empty lines beside a line that begins with a blank, all with the offset of the first line break there
 beside_blanks : IsScalarAt (codes "a: >\n  b\n\n    c\n  d\n  e\n") 3 (pos 0) style.Folded (value (codes "b\n\n  c\nd e\n") (7 ∷ 8 ∷ 8 ∷ 12 ∷ 13 ∷ 14 ∷ 15 ∷ 18 ∷ 19 ∷ 22 ∷ 23 ∷ 24 ∷ []) (span 3 24))
-unfolding lines
+unfolding lines body_fault
 beside_blanks = record {
   headed = record { sign = _; header = _; break = _; following = _; source = refl };
   chomp = Clip;
   digit = None;
   header = record { marks = []; tail = []; source = refl; are_marks = tt; is_tail = refl };
+  sound = refl;
   text = _;
   is_text = record {
     full = _;

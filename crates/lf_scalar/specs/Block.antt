@@ -1,14 +1,15 @@
 -- Literal and folded block scalars: a header, and a body of lines.
-use Rattle.std.specs.Prelude.{◌≡◌, ◌≢◌, ℕ, suc, ◌+◌, ◌-◌, ◌≤◌, min, max, leb, List, [], ◌∷◌, ◌++◌, length, map, drop, take_while, Bool, true, false, Option, Some, None, ◌⊎◌, ◌||◌, if◌then◌else◌}
-use Rattle.std.specs.List.{flat_map, list_all, AllByRecursion}
-use Rattle.lf_base.specs.declared.kind.Kind.TheVariants.{BadHeader}
+use Rattle.std.specs.Prelude.{◌≡◌, ◌≢◌, ℕ, suc, ◌+◌, ◌-◌, ◌≤◌, min, max, leb, nat_lt, is_none, List, [], ◌∷◌, ◌++◌, length, map, drop, take_while, Bool, true, false, Option, Some, None, ◌⊎◌, ◌&&◌, ◌||◌, if◌then◌else◌}
+use Rattle.std.specs.List.{flat_map, AllByRecursion}
+use Rattle.lf_base.specs.declared.kind.Kind.TheVariants.{BadHeader, BadIndent}
 use Rattle.lf_scalar.specs.declared.block.Chomp.{Chomp}
 use Rattle.lf_scalar.specs.declared.block.Chomp.TheVariants.{Strip, Clip, Keep}
 use Rattle.lf_base.specs.declared.fault.Fault.{Fault}
-use Rattle.lf_base.specs.Faults.{span}
-use Rattle.lf_scalar.specs.Cells.{Cell, cell, Value, made, end_of, character_fault}
-use Rattle.lf_scalar.specs.Lines.{Line, line, lines, is_blank, indent_of, is_spaces, is_tail}
+use Rattle.lf_base.specs.Faults.{span, fault}
+use Rattle.lf_scalar.specs.Cells.{Cell, cell, Value, made, end_of, byte_fault, character_fault}
+use Rattle.lf_scalar.specs.Lines.{Line, line, lines, start_of, is_blank, indent_of, is_spaces, is_tail}
 use Rattle.lf_scalar.specs.Folding.{fold, feeds}
+use Rattle.lf_scalar.specs.Plain.{has_tab}
 
 -- ---- the header, which stands behind the sign `|` or `>`
 
@@ -51,30 +52,49 @@ pub record WrongIn (header : List Cell) (wrong : Cell) : Type 0 where
 
 -- ---- the body, with `above` the least number of spaces of an indent above the parent's
 
--- the indent of the first line with a character other than a space
-abbrev pub first_indent : List Line → ℕ
-first_indent [] = 0
-first_indent (l ∷ ls) = if is_spaces l then first_indent ls else indent_of l.text
+-- What the lines tell of the content indent: the indent of the first with a character other than a space, if that is above the parent's. Else it is the length of the
+-- longest line of spaces alone before it, which is `longest` so far.
+abbrev pub told_indent : ℕ → ℕ → List Line → ℕ
+told_indent above longest [] = longest
+told_indent above longest (l ∷ ls) =
+    if is_spaces l then told_indent above (max longest (length l.text)) ls
+    else if leb above (indent_of l.text) then indent_of l.text
+    else longest
 
--- With a digit the parent's indent, or 0 if it is -1, plus the digit. Without one the indent of the first line with a character other than a space; where that isn't
--- above the parent's, the body ends before that line.
+-- With a digit the parent's indent, or 0 if it is -1, plus the digit; without one the lines tell it.
 abbrev pub content_indent : ℕ → Option ℕ → List Line → ℕ
 content_indent above (Some d) following = (above - 1) + d
-content_indent above None following = max above (first_indent following)
+content_indent above None following = told_indent above above following
 
 -- spaces alone, or an indent of at least the content indent
 abbrev pub in_body : ℕ → Line → Bool
 in_body k l = is_spaces l || leb k (indent_of l.text)
 
--- what a line of the body gives: what follows the content indent, and nothing where the body is bare, that is, no line of it has a character other than a space
-abbrev pub content : ℕ → Bool → Line → Line
-content k bare l = line (if bare then [] else drop k l.text) l.break
+-- what a line of the body gives: what follows the content indent
+abbrev pub content : ℕ → Line → Line
+content k l = line (drop k l.text) l.break
 
 -- the body is the lines up to the first that is not of it
 abbrev pub body_of : ℕ → List Line → List Line
-body_of k following =
-    let taken = take_while (in_body k) following in
-    map (content k (list_all is_spaces taken)) taken
+body_of k following = map (content k) (take_while (in_body k) following)
+
+-- right behind the last space of a line
+abbrev pub spaces_fault : Line → Fault
+spaces_fault l = fault BadIndent (span (end_of l.break l.text) (end_of l.break l.text))
+
+-- a tab behind the spaces of a line is told at the line's first byte
+abbrev pub tab_fault : Line → Fault
+tab_fault l = byte_fault BadIndent (start_of l)
+
+-- What breaks a body with a content indent, if anything does. Where the lines tell the indent, no line of spaces alone is longer before the one that tells it, and no tab
+-- stands behind the spaces of that one: `leads` is true up to there. Nor does a tab stand behind the spaces of the line that ends the body, if they are above the parent's indent.
+unfoldable pub body_fault : Bool → ℕ → ℕ → List Line → Option Fault
+body_fault leads above k [] = None
+body_fault leads above k (l ∷ ls) =
+    if is_spaces l then (if leads && nat_lt k (length l.text) then Some (spaces_fault l) else body_fault leads above k ls)
+    else if leb k (indent_of l.text) then (if leads && has_tab l then Some (tab_fault l) else body_fault false above k ls)
+    else if leb above (indent_of l.text) && has_tab l then Some (tab_fault l)
+    else None
 
 -- ---- the text of a body
 
@@ -91,17 +111,25 @@ AreEmpty ls = AllByRecursion (λ l. l.text ≡ []) ls
 abbrev pub breaks : List Line → List Cell
 breaks ls = map (λ l. cell 10 l.break) ls
 
--- the line break of the last line, if there is one
-abbrev pub last_break : List Line → List Cell
-last_break [] = []
-last_break (l ∷ []) = cell 10 l.break ∷ []
-last_break (l ∷ m ∷ ls) = last_break (m ∷ ls)
+-- the line break of a line, which the last line of a source that ends at `end` may lack
+abbrev pub line_end : ℕ → Line → List Cell
+line_end end l = if nat_lt l.break end then cell 10 l.break ∷ [] else []
+
+abbrev pub line_ends : ℕ → List Line → List Cell
+line_ends end [] = []
+line_ends end (l ∷ ls) = line_end end l ++ line_ends end ls
+
+-- that of the last line, if there is one
+abbrev pub last_end : ℕ → List Line → List Cell
+last_end end [] = []
+last_end end (l ∷ []) = line_end end l
+last_end end (l ∷ m ∷ ls) = last_end end (m ∷ ls)
 
 -- what stands at the end: nothing by `-`, else the last line's break, and by `+` those of the empty lines behind it
-abbrev pub chomped : Chomp → List Line → List Line → List Cell
-chomped Strip full empty = []
-chomped Clip full empty = last_break full
-chomped Keep full empty = last_break full ++ breaks empty
+abbrev pub chomped : ℕ → Chomp → List Line → List Line → List Cell
+chomped end Strip full empty = []
+chomped end Clip full empty = last_end end full
+chomped end Keep full empty = last_end end full ++ line_ends end empty
 
 -- a literal scalar's lines are joined by their line breaks
 abbrev pub joined : List Line → List Cell
@@ -148,7 +176,7 @@ abbrev pub IsJoined : List Line → List Cell → Type 0
 IsJoined ls text = text ≡ joined ls
 
 -- The body is lines up to the last that isn't empty, and then empty ones. The first are joined or folded.
-pub record IsBlockText (Joins : List Line → List Cell → Type 0) (chomp : Chomp) (body : List Line) (text : List Cell) : Type 0 where
+pub record IsBlockText (Joins : List Line → List Cell → Type 0) (end : ℕ) (chomp : Chomp) (body : List Line) (text : List Cell) : Type 0 where
   pub full : List Line
   pub empty : List Line
   pub source : body ≡ full ++ empty
@@ -156,7 +184,7 @@ pub record IsBlockText (Joins : List Line → List Cell → Type 0) (chomp : Cho
   pub are_empty : AreEmpty empty
   pub inner : List Cell
   pub joins : Joins full inner
-  pub text_is : text ≡ inner ++ chomped chomp full empty
+  pub text_is : text ≡ inner ++ chomped end chomp full empty
 
 -- ---- the scalar
 
@@ -174,14 +202,15 @@ pub record IsBlock (Joins : List Line → List Cell → Type 0) (above end : ℕ
   pub chomp : Chomp
   pub digit : Option ℕ
   pub header : IsHeader headed.header chomp digit
+  pub sound : body_fault (is_none digit) above (content_indent above digit headed.following) headed.following ≡ None
   pub text : List Cell
-  pub is_text : IsBlockText Joins chomp (body_of (content_indent above digit headed.following) headed.following) text
+  pub is_text : IsBlockText Joins end chomp (body_of (content_indent above digit headed.following) headed.following) text
   pub last : ℕ
   pub last_is : last ≡ min (end_of (suc headed.sign.at) text) end
   pub value : v ≡ made text last (span headed.sign.at last)
 
-pub record BreaksBlock (end : ℕ) (src : List Cell) (f : Fault) : Type 0 where
-  pub headed : Headed end src
-  pub wrong : Cell
-  pub wrong_in : WrongIn headed.header wrong
-  pub fault_is : f ≡ character_fault BadHeader wrong
+-- a wrong character of the header, or what breaks the body
+pub data BreaksBlock (above end : ℕ) (src : List Cell) : Fault → Type 0 where
+  header : {wrong : Cell} (headed : Headed end src) → WrongIn headed.header wrong → BreaksBlock above end src (character_fault BadHeader wrong)
+  body : {chomp : Chomp} {digit : Option ℕ} {f : Fault} (headed : Headed end src) → IsHeader headed.header chomp digit
+      → body_fault (is_none digit) above (content_indent above digit headed.following) headed.following ≡ Some f → BreaksBlock above end src f

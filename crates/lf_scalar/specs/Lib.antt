@@ -2,6 +2,7 @@ pub mod Cells
 pub mod Lines
 pub mod Folding
 pub mod Plain
+pub mod Markers
 pub mod Quoted
 pub mod Block
 pub mod Scalars

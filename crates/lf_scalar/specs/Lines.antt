@@ -11,6 +11,14 @@ pub record Line : Type 0 where
 abbrev pub line : List Cell → ℕ → Line
 line text break = record { text = text; break = break }
 
+-- the offset of a line's first byte
+abbrev pub start_of : Line → ℕ
+start_of l = by l.text
+  where
+    by : List Cell → ℕ
+    by [] = l.break
+    by (c ∷ cs) = c.at
+
 -- the first of some cells is this byte
 abbrev pub begins_with : ℕ → List Cell → Bool
 begins_with byte [] = false

@@ -5,7 +5,7 @@ use Rattle.lf_base.specs.declared.kind.Kind.TheVariants.{BadIndent, NotANode}
 use Rattle.lf_base.specs.declared.fault.Fault.{Fault}
 use Rattle.lf_base.specs.Faults.{span}
 use Rattle.lf_scalar.specs.Cells.{Cell, Value, made, bytes_of, end_of, byte_fault}
-use Rattle.lf_scalar.specs.Lines.{Line, lines, begins_with, is_blank, after_blanks, after_spaces, indent_of, is_blank_line, AreBlank, is_content}
+use Rattle.lf_scalar.specs.Lines.{Line, lines, start_of, begins_with, is_blank, after_blanks, after_spaces, indent_of, is_blank_line, AreBlank, is_content}
 use Rattle.lf_scalar.specs.Folding.{fold, trimmed}
 
 -- ---- one line
@@ -46,6 +46,11 @@ continues above l = is_content l && leb above (indent_of l.text)
 abbrev pub has_tab : Line → Bool
 has_tab l = begins_with 9 (after_spaces l.text)
 
+-- where the first of some lines begins that has one
+abbrev pub first_tab : List Line → Option ℕ
+first_tab [] = None
+first_tab (l ∷ ls) = if has_tab l then Some (start_of l) else first_tab ls
+
 abbrev pub StopsAt : ℕ → List Line → Type 0
 StopsAt above [] = Unit {0}
 StopsAt above (l ∷ ls) = (is_blank_line l ≡ false) × (continues above l ≡ false)
@@ -63,15 +68,15 @@ pub record GoesOn (above : ℕ) (l : Line) (blank : List Line) (next : Line) : T
 -- `PlainFrom above l ls text`: a plain scalar whose line l stands before the lines ls has this text from l on. `last` is its last line, `more` one before it.
 pub data PlainFrom (above : ℕ) : Line → List Line → List Cell → Type 0 where
   last : {l : Line} {ls : List Line} → key_sign (plain_text l) ≡ None → IsLast above l ls → PlainFrom above l ls (plain_text l)
-  more : {l next : Line} {ls : List Line} {text : List Cell} (blank : List Line) → key_sign (plain_text l) ≡ None → GoesOn above l blank next → has_tab next ≡ false
+  more : {l next : Line} {ls : List Line} {text : List Cell} (blank : List Line) → key_sign (plain_text l) ≡ None → GoesOn above l blank next → first_tab (blank ++ next ∷ []) ≡ None
       → PlainFrom above next ls text → PlainFrom above l (blank ++ next ∷ ls) (plain_text l ++ (fold l.break (length blank) ++ text))
 
--- What breaks such a scalar from l on: a `:` before a blank or the line's end, a tab behind the spaces of a line that goes on, or what breaks a later line.
+-- What breaks such a scalar from l on: a `:` before a blank or the line's end, a tab behind the spaces of a line that goes on or of a blank one before it, or what breaks a later line.
 pub data PlainBreaks (above : ℕ) : Line → List Line → Fault → Type 0 where
   key : {l : Line} {c : Cell} (ls : List Line) → key_sign (plain_text l) ≡ Some c → PlainBreaks above l ls (byte_fault NotANode c.at)
-  tab : {l next : Line} {c : Cell} {cs : List Cell} (blank ls : List Line) → key_sign (plain_text l) ≡ None → GoesOn above l blank next → next.text ≡ c ∷ cs → has_tab next ≡ true
-      → PlainBreaks above l (blank ++ next ∷ ls) (byte_fault BadIndent c.at)
-  later : {l next : Line} {ls : List Line} {f : Fault} (blank : List Line) → key_sign (plain_text l) ≡ None → GoesOn above l blank next → has_tab next ≡ false
+  tab : {l next : Line} {at : ℕ} (blank ls : List Line) → key_sign (plain_text l) ≡ None → GoesOn above l blank next → first_tab (blank ++ next ∷ []) ≡ Some at
+      → PlainBreaks above l (blank ++ next ∷ ls) (byte_fault BadIndent at)
+  later : {l next : Line} {ls : List Line} {f : Fault} (blank : List Line) → key_sign (plain_text l) ≡ None → GoesOn above l blank next → first_tab (blank ++ next ∷ []) ≡ None
       → PlainBreaks above next ls f → PlainBreaks above l (blank ++ next ∷ ls) f
 
 -- ---- the scalar

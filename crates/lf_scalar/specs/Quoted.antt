@@ -1,14 +1,15 @@
 -- Scalars between single or double quotes, over one line or several.
-use Rattle.std.specs.Prelude.{◌≡◌, ◌≢◌, ℕ, ◌+◌, ◌*◌, ◌-◌, ◌<◌, ◌≤◌, List, [], ◌∷◌, ◌++◌, map, length, Bool, true, false, Option, Some, None, nat_lt, ◌==◌, if◌then◌else◌}
+use Rattle.std.specs.Prelude.{◌≡◌, ◌≢◌, ℕ, ◌+◌, ◌*◌, ◌-◌, List, [], ◌∷◌, ◌++◌, map, length, Bool, true, false, Option, Some, None, nat_lt, ◌==◌, if◌then◌else◌}
 use Rattle.std.specs.List.{flat_map, AllByRecursion}
 use Rattle.std.specs.Char.{IsScalar, encode_utf8}
-use Rattle.lf_base.specs.declared.kind.Kind.TheVariants.{BadEscape, OpenQuote, BadIndent, NotANode}
+use Rattle.lf_base.specs.declared.kind.Kind.TheVariants.{BadEscape, OpenQuote, LeftOut, NotANode}
 pub use Rattle.lf_scalar.specs.declared.quotes.Quotes.{Quotes}
 pub use Rattle.lf_scalar.specs.declared.quotes.Quotes.TheVariants.{Single, Double}
 use Rattle.lf_base.specs.declared.fault.Fault.{Fault}
 use Rattle.lf_base.specs.Faults.{span}
 use Rattle.lf_scalar.specs.Cells.{Cell, cell, Value, made, byte_fault, character_fault}
-use Rattle.lf_scalar.specs.Lines.{Line, line, lines, first_text, begins_with, is_blank, after_blanks, after_spaces, indent_of, is_blank_line, AreBlank, is_tail}
+use Rattle.lf_scalar.specs.Lines.{Line, line, lines, start_of, first_text, begins_with, is_blank, after_blanks, is_blank_line, AreBlank, is_tail}
+use Rattle.lf_scalar.specs.Markers.{is_marker}
 use Rattle.lf_scalar.specs.Folding.{fold, feeds, trimmed}
 
 abbrev pub quote_of : Quotes → ℕ
@@ -116,7 +117,7 @@ pub record Closes (kind : Quotes) (src : List Cell) : Type 0 where
 abbrev pub inner_lines : {kind : Quotes} {src : List Cell} → Closes kind src → List Line
 inner_lines c = lines (c.closing.at + 1) (flat_map raw c.raws ++ c.closing ∷ [])
 
--- ---- the lines between the quotes. An indent is above the parent's where it has at least `above` spaces.
+-- ---- the lines between the quotes, each of any indent
 
 -- the line break at an offset is folded, or dropped
 pub data Break : Type 0 where
@@ -146,12 +147,12 @@ pub record Follows (blank : List Line) (next : Line) : Type 0 where
 abbrev pub unindented : Line → Line
 unindented l = line (after_blanks l.text) l.break
 
--- `QuotedFrom kind above l ls text`: the line l and the lines ls behind it, the last of which ends with the closing quote, give this text. `last` is the line with the quote,
+-- `QuotedFrom kind l ls text`: the line l and the lines ls behind it, the last of which ends with the closing quote, give this text. `last` is the line with the quote,
 -- `more` one before it.
-pub data QuotedFrom (kind : Quotes) (above : ℕ) : Line → List Line → List Cell → Type 0 where
-  last : {l : Line} (pieces : List Piece) (closing : Cell) → AllByRecursion (IsPiece kind) pieces → closing.byte ≡ quote_of kind → l.text ≡ flat_map spelled pieces ++ closing ∷ [] → QuotedFrom kind above l [] (flat_map given pieces)
-  more : {l next : Line} {ls : List Line} {text : List Cell} (part : List Cell) (break : Break) (blank : List Line) → IsBroken kind l part break → Follows blank next → above ≤ indent_of next.text
-      → QuotedFrom kind above (unindented next) ls text → QuotedFrom kind above l (blank ++ next ∷ ls) (part ++ (filled break (length blank) ++ text))
+pub data QuotedFrom (kind : Quotes) : Line → List Line → List Cell → Type 0 where
+  last : {l : Line} (pieces : List Piece) (closing : Cell) → AllByRecursion (IsPiece kind) pieces → closing.byte ≡ quote_of kind → l.text ≡ flat_map spelled pieces ++ closing ∷ [] → QuotedFrom kind l [] (flat_map given pieces)
+  more : {l next : Line} {ls : List Line} {text : List Cell} (part : List Cell) (break : Break) (blank : List Line) → IsBroken kind l part break → Follows blank next → is_marker next ≡ false
+      → QuotedFrom kind (unindented next) ls text → QuotedFrom kind l (blank ++ next ∷ ls) (part ++ (filled break (length blank) ++ text))
 
 -- A wrong escape: a backslash with which no piece begins, and the rest of its line, which isn't empty. (A backslash that ends its line is none of these.)
 pub record IsBadEscape (kind : Quotes) (backslash : Cell) (more : List Cell) : Type 0 where
@@ -167,35 +168,32 @@ pub record HasBadEscape (kind : Quotes) (text : List Cell) (backslash : Cell) : 
   pub source : text ≡ flat_map spelled pieces ++ backslash ∷ more
   pub is_bad : IsBadEscape kind backslash more
 
--- What breaks the lines from l on: a wrong escape, a line that isn't blank and isn't indented, or what breaks a later line. A line that isn't indented is told of its first
--- character behind the spaces. Where a wrong escape begins with that character too, both would be told of the same place, and then it is the escape.
-pub data QuotedBreaks (kind : Quotes) (above : ℕ) : Line → List Line → Fault → Type 0 where
-  escape : {l : Line} {backslash : Cell} (ls : List Line) → HasBadEscape kind l.text backslash → QuotedBreaks kind above l ls (byte_fault BadEscape backslash.at)
-  indent : {l next : Line} {c : Cell} {cs : List Cell} (part : List Cell) (break : Break) (blank ls : List Line) → IsBroken kind l part break → Follows blank next
-      → indent_of next.text < above → after_spaces next.text ≡ c ∷ cs → (IsBadEscape kind c cs → ⊥) → QuotedBreaks kind above l (blank ++ next ∷ ls) (character_fault BadIndent c)
-  escape_not_indented : {l next : Line} {backslash : Cell} {cs : List Cell} (part : List Cell) (break : Break) (blank ls : List Line) → IsBroken kind l part break → Follows blank next
-      → indent_of next.text < above → after_spaces next.text ≡ backslash ∷ cs → IsBadEscape kind backslash cs → QuotedBreaks kind above l (blank ++ next ∷ ls) (byte_fault BadEscape backslash.at)
-  later : {l next : Line} {ls : List Line} {f : Fault} (part : List Cell) (break : Break) (blank : List Line) → IsBroken kind l part break → Follows blank next → above ≤ indent_of next.text
-      → QuotedBreaks kind above (unindented next) ls f → QuotedBreaks kind above l (blank ++ next ∷ ls) f
+-- What breaks the lines from l on: a wrong escape, a line that begins with the marker of a document, or what breaks a later line.
+pub data QuotedBreaks (kind : Quotes) : Line → List Line → Fault → Type 0 where
+  escape : {l : Line} {backslash : Cell} (ls : List Line) → HasBadEscape kind l.text backslash → QuotedBreaks kind l ls (byte_fault BadEscape backslash.at)
+  marker : {l next : Line} (part : List Cell) (break : Break) (blank ls : List Line) → IsBroken kind l part break → Follows blank next → is_marker next ≡ true
+      → QuotedBreaks kind l (blank ++ next ∷ ls) (byte_fault LeftOut (start_of next))
+  later : {l next : Line} {ls : List Line} {f : Fault} (part : List Cell) (break : Break) (blank : List Line) → IsBroken kind l part break → Follows blank next → is_marker next ≡ false
+      → QuotedBreaks kind (unindented next) ls f → QuotedBreaks kind l (blank ++ next ∷ ls) f
 
 -- ---- the scalar
 
 -- a scalar between quotes, whatever stands behind it
-pub record IsClosed (kind : Quotes) (above : ℕ) (opening : Cell) (src : List Cell) (v : Value) : Type 0 where
+pub record IsClosed (kind : Quotes) (opening : Cell) (src : List Cell) (v : Value) : Type 0 where
   pub between : Closes kind src
   pub first : Line
   pub following : List Line
   pub source : inner_lines between ≡ first ∷ following
   pub text : List Cell
-  pub from : QuotedFrom kind above first following text
+  pub from : QuotedFrom kind first following text
   pub value : v ≡ made text between.closing.at (span opening.at (between.closing.at + 1))
 
 -- what stands behind the closing quote on its line (behind, as everywhere here, is what comes later in the file)
 abbrev pub behind : {kind : Quotes} {src : List Cell} → ℕ → Closes kind src → List Cell
 behind end c = first_text (lines end c.rest)
 
-pub record IsQuoted (kind : Quotes) (above end : ℕ) (opening : Cell) (src : List Cell) (v : Value) : Type 0 where
-  pub closed : IsClosed kind above opening src v
+pub record IsQuoted (kind : Quotes) (end : ℕ) (opening : Cell) (src : List Cell) (v : Value) : Type 0 where
+  pub closed : IsClosed kind opening src v
   pub alone : is_tail false (behind end closed.between) ≡ true
 
 -- the first character of some cells that no blanks and no comment have there
@@ -207,7 +205,7 @@ pub record WrongBehind (cs : List Cell) (wrong : Cell) : Type 0 where
   pub here : is_tail false (front ++ wrong ∷ []) ≡ false
 
 -- what breaks a scalar between quotes: nothing closes it, its lines are broken, or something stands behind it
-pub data BreaksQuoted (kind : Quotes) (above end : ℕ) (opening : Cell) (src : List Cell) : Fault → Type 0 where
-  open_quote : (Closes kind src → ⊥) → BreaksQuoted kind above end opening src (byte_fault OpenQuote opening.at)
-  inside : {first : Line} {following : List Line} {f : Fault} (c : Closes kind src) → inner_lines c ≡ first ∷ following → QuotedBreaks kind above first following f → BreaksQuoted kind above end opening src f
-  outside : {v : Value} {wrong : Cell} (closed : IsClosed kind above opening src v) → WrongBehind (behind end closed.between) wrong → BreaksQuoted kind above end opening src (character_fault NotANode wrong)
+pub data BreaksQuoted (kind : Quotes) (end : ℕ) (opening : Cell) (src : List Cell) : Fault → Type 0 where
+  open_quote : (Closes kind src → ⊥) → BreaksQuoted kind end opening src (byte_fault OpenQuote opening.at)
+  inside : {first : Line} {following : List Line} {f : Fault} (c : Closes kind src) → inner_lines c ≡ first ∷ following → QuotedBreaks kind first following f → BreaksQuoted kind end opening src f
+  outside : {v : Value} {wrong : Cell} (closed : IsClosed kind opening src v) → WrongBehind (behind end closed.between) wrong → BreaksQuoted kind end opening src (character_fault NotANode wrong)

@@ -24,28 +24,28 @@ begins style.Literal text = begins_with 124 text
 begins style.Folded text = begins_with 62 text
 
 -- a scalar between quotes, the first of which a source begins with
-abbrev pub IsQuotedAt : Quotes → ℕ → ℕ → List Cell → Value → Type 0
-IsQuotedAt kind above end [] v = ⊥
-IsQuotedAt kind above end (opening ∷ src) v = IsQuoted kind above end opening src v
+abbrev pub IsQuotedAt : Quotes → ℕ → List Cell → Value → Type 0
+IsQuotedAt kind end [] v = ⊥
+IsQuotedAt kind end (opening ∷ src) v = IsQuoted kind end opening src v
 
-abbrev pub BreaksQuotedAt : Quotes → ℕ → ℕ → List Cell → Fault → Type 0
-BreaksQuotedAt kind above end [] f = ⊥
-BreaksQuotedAt kind above end (opening ∷ src) f = BreaksQuoted kind above end opening src f
+abbrev pub BreaksQuotedAt : Quotes → ℕ → List Cell → Fault → Type 0
+BreaksQuotedAt kind end [] f = ⊥
+BreaksQuotedAt kind end (opening ∷ src) f = BreaksQuoted kind end opening src f
 
 -- a source that ends at an offset begins with this scalar
 abbrev pub IsOfStyle : Style → ℕ → ℕ → List Cell → Value → Type 0
 IsOfStyle style.Plain above end src v = IsPlain above end src v
-IsOfStyle style.Single above end src v = IsQuotedAt Single above end src v
-IsOfStyle style.Double above end src v = IsQuotedAt Double above end src v
+IsOfStyle style.Single above end src v = IsQuotedAt Single end src v
+IsOfStyle style.Double above end src v = IsQuotedAt Double end src v
 IsOfStyle style.Literal above end src v = IsBlock IsJoined above end src v
 IsOfStyle style.Folded above end src v = IsBlock IsFolded above end src v
 
 abbrev pub BreaksStyle : Style → ℕ → ℕ → List Cell → Fault → Type 0
 BreaksStyle style.Plain above end src f = BreaksPlain above end src f
-BreaksStyle style.Single above end src f = BreaksQuotedAt Single above end src f
-BreaksStyle style.Double above end src f = BreaksQuotedAt Double above end src f
-BreaksStyle style.Literal above end src f = BreaksBlock end src f
-BreaksStyle style.Folded above end src f = BreaksBlock end src f
+BreaksStyle style.Single above end src f = BreaksQuotedAt Single end src f
+BreaksStyle style.Double above end src f = BreaksQuotedAt Double end src f
+BreaksStyle style.Literal above end src f = BreaksBlock above end src f
+BreaksStyle style.Folded above end src f = BreaksBlock above end src f
 
 -- the bytes of a file from an offset on
 abbrev pub source_at : List ℕ → ℕ → List Cell

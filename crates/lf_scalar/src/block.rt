@@ -4,11 +4,11 @@ ghost use Rattle.lf_scalar.specs.declared.scalar.Style.TheVariants as style;
 ghost use Rattle.lf_base.specs.Answers.{AnswersAs};
 ghost use Rattle.lf_scalar.specs.Cells.{cells};
 ghost use Rattle.lf_scalar.specs.Lines.{lines_at, first_text};
-ghost use Rattle.lf_scalar.specs.Block.{content_indent as indent_of_content, body_of};
+ghost use Rattle.lf_scalar.specs.Block.{body_of};
 ghost use Rattle.lf_scalar.specs.Scalars.{begins};
-ghost use Rattle.lf_scalar.specs.reading.Block.{block_text, block_of};
-ghost use Rattle.lf_scalar.specs.reading.Body.{joins_of, style_of, chomped_behind};
-ghost use Rattle.lf_scalar.specs.views.Built.{built};
+ghost use Rattle.lf_scalar.specs.reading.Block.{block_text, body_read, block_of};
+ghost use Rattle.lf_scalar.specs.reading.Body.{joins_of, style_of, IsBody, chomped_behind};
+ghost use Rattle.lf_scalar.specs.views.Built.{built, TextAnswers};
 
 use crate::body::{Body, content_indent, find_body};
 use crate::breaks::{push_break, push_breaks};
@@ -56,7 +56,7 @@ pub fn read_block(
     let mut builder = ScalarBuilder::new(alloc);
     match push_body(&mut builder, joining, header, above, body, place) {
         Ok(()) => {}
-        Err(_) => return Err(Refusal::Memory),
+        Err(refusal) => return Err(refusal),
     }
     let end = builder.end(at + 1, at + rest.len() as u32);
     let span = Span { start: at, end };
@@ -71,15 +71,37 @@ fn push_body(
     above: usize,
     body: &[u8],
     at: u32,
-) -> Result<(), Memory>
+) -> Result<(), Refusal>
     requires room { at + length body.now + 4 < 2 ^ 32 }
     requires indent { above ≤ 2 ^ 31 }
-    ensures { OnOk result (builder.new ≡ builder.old ++ block_text (joins_of joining) header.chomp (body_of (indent_of_content above header.digit (lines_at at body.now)) (lines_at at body.now))) }
+    ensures { TextAnswers result builder.old builder.new (body_read (joins_of joining) above (at + length body.now) header.chomp header.digit (lines_at at body.now)) }
 {
     let indent = content_indent(above, header.digit, body);
-    let found = find_body(body, at, indent);
+    match find_body(body, at, header.digit.is_none(), above, indent) {
+        Ok(found) => match push_found(builder, joining, header.chomp, indent, found, body, at) {
+            Ok(()) => Ok(()),
+            Err(_) => Err(Refusal::Memory),
+        },
+        Err(refusal) => Err(refusal),
+    }
+}
+
+/// Appends the text of a body whose lines were found.
+fn push_found(
+    builder: &mut ScalarBuilder,
+    joining: Joining,
+    chomp: Chomp,
+    indent: usize,
+    found: Body,
+    body: &[u8],
+    at: u32,
+) -> Result<(), Memory>
+    requires room { at + length body.now + 4 < 2 ^ 32 }
+    requires found { IsBody indent at body.now found }
+    ensures { OnOk result (builder.new ≡ builder.old ++ block_text (joins_of joining) (at + length body.now) chomp (body_of indent (lines_at at body.now))) }
+{
     push_joined(builder, joining, body, at, found.full, indent)?;
-    push_chomped(builder, header.chomp, found, body, at)
+    push_chomped(builder, chomp, found, body, at)
 }
 
 /// Appends what stands at a body's end: the last line's break, and those of the empty lines behind it.
@@ -93,7 +115,7 @@ fn push_chomped(
     requires room { at + length body.now + 4 < 2 ^ 32 }
     requires within { found.behind ≤ length body.now + 1 }
     requires enough { found.empty ≤ length (lines_at (at + found.behind) (drop found.behind body.now)) }
-    ensures { OnOk result (builder.new ≡ builder.old ++ chomped_behind chomp found (lines_at (at + found.behind) (drop found.behind body.now))) }
+    ensures { OnOk result (builder.new ≡ builder.old ++ chomped_behind chomp found (at + found.behind) (drop found.behind body.now)) }
 {
     match chomp {
         Chomp::Strip => Ok(()),

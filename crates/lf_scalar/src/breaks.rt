@@ -1,10 +1,10 @@
 //! The line breaks at the end of a block scalar.
 ghost use Rattle.std.specs.Prelude.{◌≡◌, ◌+◌, ◌<◌, ◌≤◌, ◌^◌, ◌++◌, length, take, OnOk};
 ghost use Rattle.lf_scalar.specs.Lines.{lines_at};
-ghost use Rattle.lf_scalar.specs.Block.{breaks};
+ghost use Rattle.lf_scalar.specs.Block.{line_ends};
 ghost use Rattle.lf_scalar.specs.reading.Body.{break_of};
 
-use crate::body::line_from;
+use crate::body::{break_at, line_from};
 use crate::builder::ScalarBuilder;
 use lf_base::Memory;
 
@@ -18,7 +18,7 @@ pub fn push_break(builder: &mut ScalarBuilder, feed: Option<u32>) -> Result<(), 
     }
 }
 
-/// Appends the line breaks of so many lines.
+/// Appends the line breaks of so many lines. The last line may have none.
 pub fn push_breaks(
     builder: &mut ScalarBuilder,
     body: &[u8],
@@ -27,12 +27,12 @@ pub fn push_breaks(
 ) -> Result<(), Memory>
     requires room { at + length body.now + 2 < 2 ^ 32 }
     requires within { count ≤ length (lines_at at body.now) }
-    ensures { OnOk result (builder.new ≡ builder.old ++ breaks (take count (lines_at at body.now))) }
+    ensures { OnOk result (builder.new ≡ builder.old ++ line_ends (at + length body.now) (take count (lines_at at body.now))) }
 {
     let mut place: usize = 0;
     for _ in 0..count {
         let end = line_from(body, place);
-        builder.push(b'\n', at + (place + end.feed) as u32)?;
+        push_break(builder, break_at(body, at, place + end.feed))?;
         place += end.feed + 1;
     }
     Ok(())

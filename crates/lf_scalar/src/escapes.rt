@@ -2,7 +2,7 @@
 ghost use Rattle.std.specs.Prelude.{◌≡◌, ℕ, ◌+◌, ◌<◌, ◌≤◌, ◌^◌, ◌++◌, take, length, drop, IfSome, IfOk, OnOk, option_map};
 ghost use Rattle.lf_scalar.specs.Cells.{Cell, cell, cells};
 ghost use Rattle.lf_scalar.specs.Quoted.{Single, Double, letter_of, width_of, digit_of};
-ghost use Rattle.lf_scalar.specs.reading.Quoted.{told, number_of, escape_of, as_character, as_escape, as_piece, shown, piece_at, begins_bad_escape as bad_escape_first};
+ghost use Rattle.lf_scalar.specs.reading.Quoted.{told, number_of, escape_of, as_character, as_escape, as_piece, shown, piece_at};
 
 use crate::builder::{ScalarBuilder, push_char};
 use crate::lines::past;
@@ -172,20 +172,6 @@ pub fn piece(kind: Quotes, rest: &[u8], at: u32) -> Option<(Given, usize)>
         Quotes::Single => single_piece(rest, at),
         Quotes::Double => double_piece(rest, at),
     }
-}
-
-/// Whether the rest of a line between quotes begins with a backslash that no escape begins with. A backslash that ends its line is none of these.
-pub fn begins_bad_escape(kind: Quotes, rest: &[u8], at: u32) -> bool
-    requires { at + length rest.now < 2 ^ 32 }
-    ensures { result ≡ bad_escape_first kind (cells at rest.now) }
-{
-    if rest.len() < 2 {
-        return false;
-    }
-    if rest[0] != b'\\' {
-        return false;
-    }
-    piece(kind, rest, at).is_none()
 }
 
 /// Appends what a piece at an offset gave.

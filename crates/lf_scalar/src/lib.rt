@@ -15,6 +15,7 @@ mod escapes;
 mod header;
 mod joined;
 pub mod lines;
+pub mod markers;
 pub mod null_text;
 mod plain;
 mod plain_line;

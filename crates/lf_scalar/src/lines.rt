@@ -8,9 +8,10 @@ ghost use Rattle.lf_scalar.specs.Cells.{cell, cells, character_fault as at_cell}
 ghost use Rattle.lf_scalar.specs.views.Built.{refused};
 ghost use Rattle.lf_scalar.specs.reading.Quoted.{wrong_behind as first_wrong};
 ghost use Rattle.lf_scalar.specs.Folding.{trimmed};
+ghost use Rattle.lf_scalar.specs.Plain.{has_tab as has_tab_of};
 ghost use Rattle.std.specs.List.{list_all};
 ghost use Rattle.std.specs.Str.{continuation_len};
-ghost use Rattle.lf_scalar.specs.Lines.{line, lines_at, IsTextBefore, indent_of, is_blank, after_blanks, after_spaces};
+ghost use Rattle.lf_scalar.specs.Lines.{line as line_with, lines_at, IsTextBefore, indent_of, is_blank, after_blanks, after_spaces};
 
 use lf_base::{Kind, Refusal, Span};
 
@@ -27,7 +28,7 @@ pub struct LineEnd {
 pub fn line_end(rest: &[u8]) -> LineEnd
     ensures within { (result.text ≤ result.feed) × (result.feed ≤ length rest.now) }
     ensures feed { result.feed < length rest.now → get_or rest.now result.feed 0 ≡ 10 }
-    ensures first { (at : ℕ) → 0 < length rest.now → lines_at at rest.now ≡ line (cells at (take result.text rest.now)) (at + result.feed) ∷ lines_at (at + (result.feed + 1)) (drop (result.feed + 1) rest.now) }
+    ensures first { (at : ℕ) → 0 < length rest.now → lines_at at rest.now ≡ line_with (cells at (take result.text rest.now)) (at + result.feed) ∷ lines_at (at + (result.feed + 1)) (drop (result.feed + 1) rest.now) }
 {
     for (i, byte) in rest.iter().enumerate() {
         if *byte == b'\n' {
@@ -66,6 +67,17 @@ pub fn spaces(line: &[u8]) -> usize
         }
     }
     line.len()
+}
+
+/// Whether a tab stands right behind the spaces that a line begins with.
+pub fn has_tab(line: &[u8]) -> bool
+    ensures { (at feed : ℕ) → result ≡ has_tab_of (line_with (cells at line.now) feed) }
+{
+    match past(line, spaces(line)) {
+        [b'\t', ..] => true,
+        [_, ..] => false,
+        [] => false,
+    }
 }
 
 /// The bytes from a place on, none where it lies at the end or behind it.

@@ -1,5 +1,5 @@
 //! Plain scalars, over one line or several.
-ghost use Rattle.std.specs.Prelude.{◌≡◌, ℕ, ◌+◌, ◌<◌, ◌≤◌, ◌^◌, true, length, IfOk, IfSome};
+ghost use Rattle.std.specs.Prelude.{◌≡◌, ℕ, ◌+◌, ◌<◌, ◌≤◌, ◌^◌, true, None, length, IfOk, IfSome};
 ghost use Rattle.lf_scalar.specs.declared.scalar.Style.TheVariants as style;
 ghost use Rattle.lf_base.specs.Answers.{AnswersAs};
 ghost use Rattle.lf_scalar.specs.Cells.{cell, cells, front, end_of};
@@ -9,10 +9,10 @@ ghost use Rattle.lf_scalar.specs.Plain.{is_commented, value_of};
 ghost use Rattle.lf_scalar.specs.Scalars.{begins};
 ghost use Rattle.lf_scalar.specs.views.Built.{built, TextAnswers};
 ghost use Rattle.lf_scalar.specs.reading.Quoted.{line_at};
-ghost use Rattle.lf_scalar.specs.reading.Plain.{IsOnward, Steps, plain_line, plain_behind, plain_lines_text, plain_of};
+ghost use Rattle.lf_scalar.specs.reading.Plain.{IsOnward, tab_with as tab_with_of, HasRoom, Steps, plain_line, plain_behind, plain_lines_text, plain_of};
 
 use crate::builder::{ScalarBuilder, fold_break};
-use crate::lines::{blanks, line_end, past, spaces};
+use crate::lines::{blanks, has_tab, line_end, past, spaces};
 use crate::null_text::is_null_text;
 use crate::plain_line::push_plain_line;
 use crate::raw_scalar::RawScalar;
@@ -27,8 +27,6 @@ pub enum Onward {
     Blank,
     /// It is of the scalar.
     Continues,
-    /// It is of the scalar, but a tab stands behind the spaces at its front.
-    Tab,
     /// The scalar ends before it.
     Ends,
 }
@@ -44,22 +42,35 @@ pub fn onward_of(line: &[u8], above: usize) -> Onward
     if line[skipped] == b'#' {
         return Onward::Ends;
     }
-    let indent = spaces(line);
-    if indent < above {
-        return Onward::Ends;
-    }
-    if line[indent] == b'\t' {
-        Onward::Tab
+    if spaces(line) < above {
+        Onward::Ends
     } else {
         Onward::Continues
     }
 }
 
-/// A line break that waits for the line that goes on: where it stands, and how many blank lines stand behind it.
+/// A line break that waits for the line that goes on.
 #[derive(Clone, Copy, PartialEq, Eq, Debug)]
 pub struct Folded {
+    /// Where it stands.
     pub at: u32,
+    /// How many blank lines stand behind it.
     pub blank: usize,
+    /// Where the first of these begins that has a tab right behind its spaces.
+    pub tab: Option<u32>,
+}
+
+/// Where the first line with a tab right behind its spaces begins, with a line more, which stands at an offset.
+fn tab_with(tab: Option<u32>, line: &[u8], at: u32) -> Option<u32>
+    requires room { at + 1 < 2 ^ 32 }
+    requires tab { HasRoom tab }
+    ensures value { (break_at : ℕ) → result ≡ tab_with_of tab (line_at at line.now break_at) }
+    ensures room { HasRoom result }
+{
+    match tab {
+        Some(place) => Some(place),
+        None => { if has_tab(line) { Some(at) } else { None } }
+    }
 }
 
 /// Appends what a line break becomes and what the line behind it gives, and tells whether that line ends in a comment.
@@ -90,26 +101,36 @@ pub fn push_step(
 ) -> Result<Option<Folded>, Refusal>
     requires room { at + length line.now + 1 < 2 ^ 32 }
     requires few { folded.blank < 2 ^ 32 }
+    requires tab { HasRoom folded.tab }
     ensures steps { Steps above folded (line_at at line.now feed) result builder.old builder.new }
     ensures few { IfOk result (λ o. IfSome o (λ next. next.blank ≤ folded.blank + 1)) }
+    ensures tab { IfOk result (λ o. IfSome o (λ next. HasRoom next.tab)) }
 {
+    let tab = tab_with(folded.tab, line, at);
     match onward_of(line, above) {
         Onward::Blank => Ok(Some(Folded {
             at: folded.at,
             blank: folded.blank + 1,
+            tab,
         })),
-        Onward::Continues => match push_continuation(builder, folded, line, at) {
-            Ok(true) => Ok(None),
-            Ok(false) => Ok(Some(Folded { at: feed, blank: 0 })),
-            Err(refusal) => Err(refusal),
-        },
-        Onward::Tab => Err(Refusal::At {
-            kind: Kind::BadIndent,
-            span: Span {
-                start: at,
-                end: at + 1,
+        Onward::Continues => match tab {
+            Some(start) => Err(Refusal::At {
+                kind: Kind::BadIndent,
+                span: Span {
+                    start,
+                    end: start + 1,
+                },
+            }),
+            None => match push_continuation(builder, folded, line, at) {
+                Ok(true) => Ok(None),
+                Ok(false) => Ok(Some(Folded {
+                    at: feed,
+                    blank: 0,
+                    tab: None,
+                })),
+                Err(refusal) => Err(refusal),
             },
-        }),
+        },
         Onward::Ends => Ok(None),
     }
 }
@@ -123,9 +144,13 @@ pub fn push_behind(
     feed: u32,
 ) -> Result<(), Refusal>
     requires { at + length rest.now ≤ 2 ^ 31 + 1 }
-    ensures { TextAnswers result builder.old builder.new (plain_behind above feed 0 (lines_at at rest.now)) }
+    ensures { TextAnswers result builder.old builder.new (plain_behind above feed 0 None (lines_at at rest.now)) }
 {
-    let mut folded = Folded { at: feed, blank: 0 };
+    let mut folded = Folded {
+        at: feed,
+        blank: 0,
+        tab: None,
+    };
     let mut place: usize = 0;
     while place < rest.len() {
         let left = past(rest, place);

@@ -1,15 +1,15 @@
 //! Scalars between quotes.
 ghost use Rattle.std.specs.Prelude.{false, ◌≡◌, ℕ, ◌+◌, ◌<◌, ◌≤◌, ◌^◌, length, drop, cond, ◌++◌, IfOk, OnOk};
 ghost use Rattle.lf_scalar.specs.Cells.{Fails, cells};
-ghost use Rattle.lf_scalar.specs.reading.Quoted.{Reaches, is_blank_given, LineAnswers, broken, line_at, line_of, next_line, begins_bad_escape as bad_escape_first};
-ghost use Rattle.lf_base.specs.declared.kind.Kind.TheVariants.{BadEscape, BadIndent};
+ghost use Rattle.lf_scalar.specs.reading.Quoted.{Reaches, is_blank_given, LineAnswers, broken, line_at, line_of, next_line};
 ghost use Rattle.lf_scalar.specs.Quoted.{filled};
 ghost use Rattle.lf_scalar.specs.Lines.{is_blank};
 ghost use Rattle.std.specs.List.{list_all};
 
 use crate::builder::{ScalarBuilder, feed, fold_break};
-use crate::escapes::{Given, begins_bad_escape, piece, push_given};
-use crate::lines::{blanks, fault_at, past, spaces};
+use crate::escapes::{Given, piece, push_given};
+use crate::lines::{blanks, past};
+use crate::markers::is_marker;
 use crate::quotes::Quotes;
 use lf_base::{Kind, Memory, Refusal, Span};
 
@@ -126,36 +126,26 @@ pub struct Pending {
     pub blank: usize,
 }
 
-/// What is refused at the first character of a line that isn't indented, by what stands behind its spaces: its indent, or the wrong escape that begins there, which
-/// comes first.
-fn kind_not_indented(kind: Quotes, rest: &[u8], at: u32) -> Kind
-    requires { at + length rest.now < 2 ^ 32 }
-    ensures { result ≡ cond (bad_escape_first kind (cells at rest.now)) BadEscape BadIndent }
-{
-    if begins_bad_escape(kind, rest, at) {
-        Kind::BadEscape
-    } else {
-        Kind::BadIndent
-    }
-}
-
-/// Appends what a line break becomes and what the line behind it gives, which isn't blank and has at least `above` spaces, else it is refused.
+/// Appends what a line break becomes and what the line behind it gives. The line isn't blank, and is refused where it begins with the marker of a document.
 pub fn push_next(
     builder: &mut ScalarBuilder,
     kind: Quotes,
-    above: usize,
     pending: Pending,
     line: &[u8],
     at: u32,
 ) -> Result<AtBreak, Refusal>
-    requires room { at + length line.now + 4 < 2 ^ 32 }
+    requires room { at + length line.now + 1 < 2 ^ 32 }
     requires full { list_all is_blank (cells at line.now) ≡ false }
-    ensures { (break_at : ℕ) → LineAnswers result builder.old builder.new break_at (next_line kind above (broken pending.at_break pending.at) pending.blank (line_at at line.now break_at)) }
+    ensures { (break_at : ℕ) → LineAnswers result builder.old builder.new break_at (next_line kind (broken pending.at_break pending.at) pending.blank (line_at at line.now break_at)) }
 {
-    let indent = spaces(line);
-    if indent < above {
-        let wrong = kind_not_indented(kind, past(line, indent), at + indent as u32);
-        return Err(fault_at(wrong, line, indent, at));
+    if is_marker(line) {
+        return Err(Refusal::At {
+            kind: Kind::LeftOut,
+            span: Span {
+                start: at,
+                end: at + 1,
+            },
+        });
     }
     match fill(builder, pending.at_break, pending.blank, pending.at) {
         Ok(()) => {}

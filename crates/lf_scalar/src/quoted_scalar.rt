@@ -18,29 +18,17 @@ use lf_base::{Kind, Refusal, Span};
 use std::alloc::Global;
 
 /// Reads a scalar between quotes. `rest` is what the file has from the quote that opens on, which stands at an offset.
-pub fn read_quoted(
-    alloc: Global,
-    kind: Quotes,
-    rest: &[u8],
-    at: u32,
-    above: usize,
-) -> Result<RawScalar, Refusal>
+pub fn read_quoted(alloc: Global, kind: Quotes, rest: &[u8], at: u32) -> Result<RawScalar, Refusal>
     requires some { 0 < length rest.now }
     requires room { at + length rest.now ≤ 2 ^ 31 }
-    ensures gives { AnswersAs built result (quoted_at kind above (at + length rest.now) (cells at rest.now)) }
+    ensures gives { AnswersAs built result (quoted_at kind (at + length rest.now) (cells at rest.now)) }
 {
     let inner = past(rest, 1);
     let Some(closing) = find_closing(kind, inner, at + 1) else {
         return Err(open_quote(at));
     };
     let mut builder = ScalarBuilder::new(alloc);
-    match push_lines(
-        &mut builder,
-        kind,
-        above,
-        before(inner, closing + 1),
-        at + 1,
-    ) {
+    match push_lines(&mut builder, kind, before(inner, closing + 1), at + 1) {
         Ok(()) => {}
         Err(refusal) => return Err(refusal),
     }
@@ -85,13 +73,12 @@ fn first_line(rest: &[u8]) -> &[u8]
 fn push_lines(
     builder: &mut ScalarBuilder,
     kind: Quotes,
-    above: usize,
     inner: &[u8],
     at: u32,
 ) -> Result<(), Refusal>
     requires some { 0 < length inner.now }
     requires room { at + length inner.now ≤ 2 ^ 31 }
-    ensures { TextAnswers result builder.old builder.new (lines_of kind above (lines_at at inner.now)) }
+    ensures { TextAnswers result builder.old builder.new (lines_of kind (lines_at at inner.now)) }
 {
     let end = line_end(inner);
     let break_at = at + end.feed as u32;
@@ -99,7 +86,6 @@ fn push_lines(
         Ok(at_break) => push_behind(
             builder,
             kind,
-            above,
             Pending {
                 at_break,
                 at: break_at,
@@ -116,14 +102,13 @@ fn push_lines(
 fn push_behind(
     builder: &mut ScalarBuilder,
     kind: Quotes,
-    above: usize,
     first: Pending,
     rest: &[u8],
     at: u32,
 ) -> Result<(), Refusal>
     requires room { at + length rest.now ≤ 2 ^ 31 + 1 }
     requires fresh { first.blank ≡ 0 }
-    ensures { TextAnswers result builder.old builder.new (lines_behind kind above (broken first.at_break first.at) 0 (lines_at at rest.now)) }
+    ensures { TextAnswers result builder.old builder.new (lines_behind kind (broken first.at_break first.at) 0 (lines_at at rest.now)) }
 {
     let mut pending = first;
     let mut left = rest;
@@ -134,7 +119,7 @@ fn push_behind(
         if blanks(line) == line.len() {
             pending.blank += 1;
         } else {
-            match push_next(builder, kind, above, pending, line, place) {
+            match push_next(builder, kind, pending, line, place) {
                 Ok(at_break) => {
                     pending = Pending {
                         at_break,

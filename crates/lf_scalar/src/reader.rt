@@ -86,8 +86,8 @@ fn read_style(
 {
     match style {
         Style::Plain => read_plain(alloc, rest, at, above),
-        Style::Single => read_quoted(alloc, Quotes::Single, rest, at, above),
-        Style::Double => read_quoted(alloc, Quotes::Double, rest, at, above),
+        Style::Single => read_quoted(alloc, Quotes::Single, rest, at),
+        Style::Double => read_quoted(alloc, Quotes::Double, rest, at),
         Style::Literal => read_block(alloc, Joining::Literal, rest, at, above),
         Style::Folded => read_block(alloc, Joining::Folded, rest, at, above),
     }

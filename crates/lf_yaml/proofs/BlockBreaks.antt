@@ -80,9 +80,10 @@ mutual
       at-item (inner bytes d) n own m r rs _ same i (item-is bytes d m r rs t (next ∷ later) h) ∙ ap (with_item t) (items-break bytes d own m n next later f (omega (arith, k)) more)
 
   pub item-breaks : (bytes : List ℕ) (d m : ℕ) (r : Row) (rs : List Row) (f : Fault) → ItemValueBreaks bytes d m r rs f → item_value (inner bytes d) m r rs ≡ Err f
-  item-breaks bytes d m r rs f (breaks.ItemValueBreaks.item_here {left = left} e h) = ap (item_at (inner bytes d) m (suc r.first.at) rs) e ∙ node-breaks bytes (suc m) d left rs f h
-  item-breaks bytes d m r _ f (breaks.ItemValueBreaks.item_below {next = next} {rs = rs} e lt h) =
-      ap (item_at (inner bytes d) m (suc r.first.at) (next ∷ rs)) e ∙ steps.item-below (inner bytes d) m (suc r.first.at) next rs lt ∙ node-breaks bytes (suc m) d next rs f h
+  item-breaks bytes d m r rs f (breaks.ItemValueBreaks.item_here {left = left} tab e h) = rw tab (ap (item_at (inner bytes d) m (suc r.first.at) rs) e ∙ node-breaks bytes (suc m) d left rs f h)
+  item-breaks bytes d m r _ f (breaks.ItemValueBreaks.item_below {next = next} {rs = rs} tab e lt h) =
+      rw tab (ap (item_at (inner bytes d) m (suc r.first.at) (next ∷ rs)) e ∙ steps.item-below (inner bytes d) m (suc r.first.at) next rs lt ∙ node-breaks bytes (suc m) d next rs f h)
+  item-breaks bytes d m r rs _ (breaks.ItemValueBreaks.item_tab d2 xs tab) = rw tab refl
 
   pub entries-break : (bytes : List ℕ) (d m n : ℕ) (keys : Keys) (r : Row) (rs : List Row) (f : Fault) → length (r ∷ rs) < n → EntriesBreak bytes d m keys r rs f → entries (values bytes d m) n m keys (r ∷ rs) ≡ Err f
   entries-break bytes d m zero keys r rs f lt h = absurd (omega arith)

@@ -22,9 +22,9 @@ mutual
       end-trans rs (next ∷ later) rest (item-rows bytes d m r rs t (next ∷ later) h) (end-behind next later rest (items-rows bytes d own m next later is rest more))
 
   pub item-rows : (bytes : List ℕ) (d m : ℕ) (r : Row) (rs : List Row) (t : Tree) (rest : List Row) → ItemValue bytes d m r rs t rest → IsEnd rs rest
-  item-rows bytes d m r rs t rest (item_here {left = left} e h) = node-rows bytes (suc m) d left rs t rest h
-  item-rows bytes d m r _ t rest (item_below {next = next} {rs = rs} e lt h) = end-behind next rs rest (node-rows bytes (suc m) d next rs t rest h)
-  item-rows bytes d m r rs _ _ (item_empty d2 e h) = end-all rs
+  item-rows bytes d m r rs t rest (item_here {left = left} tab e h) = node-rows bytes (suc m) d left rs t rest h
+  item-rows bytes d m r _ t rest (item_below {next = next} {rs = rs} tab e lt h) = end-behind next rs rest (node-rows bytes (suc m) d next rs t rest h)
+  item-rows bytes d m r rs _ _ (item_empty d2 tab e h) = end-all rs
 
   pub entries-rows : (bytes : List ℕ) (d m : ℕ) (keys : List (List ℕ)) (r : Row) (rs : List Row) (es : Entries) (rest : List Row) → EntriesAt bytes d m keys r rs es rest → IsEnd rs rest
   entries-rows bytes d m keys r rs _ rest (last_entry {v = v} {t = t} h ends) = entry-rows bytes d m keys r rs v t rest h

@@ -7,7 +7,7 @@ use Rattle.lf_base.specs.declared.fault.Fault.{Fault}
 use Rattle.lf_scalar.specs.Cells.{Cell, Value}
 use Rattle.lf_scalar.specs.Lines.{is_blank, after_blanks, begins_with}
 use Rattle.lf_scalar.specs.Quoted.{raw}
-use Rattle.lf_yaml.specs.Rows.{Row, text_of, indent, left_of, indent_fault, row_fault}
+use Rattle.lf_yaml.specs.Rows.{Row, text_of, indent, left_of, indent_fault, row_fault, tab_in}
 use Rattle.lf_yaml.specs.Heads.{is_item, Split, behind_cell, key_in, Key, IsKey, BeginsEntry, BeginsNoBlock, NoEntry}
 use Rattle.lf_yaml.specs.Heads as head
 use Rattle.lf_yaml.specs.Tree.{Tree, Items, no_items, Entries, no_entries}
@@ -16,7 +16,7 @@ use Rattle.lf_yaml.specs.Nodes.{NothingBelow, Ends, NodeAt, BlockAt, ItemsAt, It
 use Rattle.lf_yaml.specs.Nodes as nodes
 use Rattle.lf_yaml.specs.Breaches.{NodeBreaks, BlockBreaks, ItemsBreak, ItemValueBreaks, EntriesBreak, EntryValueBreaks}
 use Rattle.lf_yaml.specs.Breaches as breaks
-use Rattle.lf_yaml.specs.reading.Trees.{Read, Head, item_next, item_at, item_value, with_item, items_behind, items, key_of, entry_of, entry_next, entry_at, entry_value, with_entry, entries_behind, key_read, entries_on, entries, as_sequence, as_mapping, value_on, node_at}
+use Rattle.lf_yaml.specs.reading.Trees.{Read, Head, item_next, item_at, unless_tab, item_value, with_item, items_behind, items, key_of, entry_of, entry_next, entry_at, entry_value, with_entry, entries_behind, key_read, entries_on, entries, as_sequence, as_mapping, value_on, node_at}
 use Rattle.lf_yaml.proofs.Ends.{end-length, end-holds}
 use Rattle.lf_yaml.proofs.HeadLaws.{tells, entry-view, KeyTold, key-tells, has-tells, opens-view, block-view}
 use Rattle.lf_yaml.proofs.HeadLaws as heads
@@ -108,29 +108,33 @@ module _ (bytes : List ℕ) where
 
   -- ---- items
 
-  here-told : (d m : ℕ) (r left : Row) (rs : List Row) → left_of r.begin r.rest ≡ Some left → (read : Read Tree) → NodeTold (suc m) d left rs read → ItemTold d m r rs read
-  here-told d m r left rs e (Ok x) h = nodes.ItemValue.item_here e h
-  here-told d m r left rs e (Err f) h = breaks.ItemValueBreaks.item_here e h
+  here-told : (d m : ℕ) (r left : Row) (rs : List Row) → tab_in r.rest ≡ None → left_of r.begin r.rest ≡ Some left → (read : Read Tree) → NodeTold (suc m) d left rs read → ItemTold d m r rs read
+  here-told d m r left rs tab e (Ok x) h = nodes.ItemValue.item_here tab e h
+  here-told d m r left rs tab e (Err f) h = breaks.ItemValueBreaks.item_here tab e h
 
-  below-told : (d m : ℕ) (r next : Row) (rs : List Row) → left_of r.begin r.rest ≡ None → m < indent next → (read : Read Tree) → NodeTold (suc m) d next rs read → ItemTold d m r (next ∷ rs) read
-  below-told d m r next rs e lt (Ok x) h = nodes.ItemValue.item_below e lt h
-  below-told d m r next rs e lt (Err f) h = breaks.ItemValueBreaks.item_below e lt h
+  below-told : (d m : ℕ) (r next : Row) (rs : List Row) → tab_in r.rest ≡ None → left_of r.begin r.rest ≡ None → m < indent next → (read : Read Tree) → NodeTold (suc m) d next rs read → ItemTold d m r (next ∷ rs) read
+  below-told d m r next rs tab e lt (Ok x) h = nodes.ItemValue.item_below tab e lt h
+  below-told d m r next rs tab e lt (Err f) h = breaks.ItemValueBreaks.item_below tab e lt h
 
-  next-told : (d m : ℕ) (r : Row) (rs : List Row) → Tells d → ArePlaced bytes rs → left_of r.begin r.rest ≡ None → ItemTold d m r rs (item_next (inner bytes d) m (suc r.first.at) rs)
-  next-told d m r [] node placed e = nodes.ItemValue.item_empty d e tt
-  next-told d m r (next ∷ rs) node placed e = by (ltb m (indent next)) refl
+  next-told : (d m : ℕ) (r : Row) (rs : List Row) → Tells d → ArePlaced bytes rs → tab_in r.rest ≡ None → left_of r.begin r.rest ≡ None → ItemTold d m r rs (item_next (inner bytes d) m (suc r.first.at) rs)
+  next-told d m r [] node placed tab e = nodes.ItemValue.item_empty d tab e tt
+  next-told d m r (next ∷ rs) node placed tab e = by (ltb m (indent next)) refl
     where
       by : (b : Bool) → ltb m (indent next) ≡ b → ItemTold d m r (next ∷ rs) (cond b (node_at bytes d false (suc m) next rs) (Ok (empty_at (suc r.first.at), next ∷ rs)))
-      by true h = below-told d m r next rs e (ltb-true m (indent next) h) (node_at bytes d false (suc m) next rs) (node (suc m) next rs placed.0 placed.1)
-      by false h = nodes.ItemValue.item_empty d e (ltb-false m (indent next) h)
+      by true h = below-told d m r next rs tab e (ltb-true m (indent next) h) (node_at bytes d false (suc m) next rs) (node (suc m) next rs placed.0 placed.1)
+      by false h = nodes.ItemValue.item_empty d tab e (ltb-false m (indent next) h)
 
   pub item-told : (d m : ℕ) (r : Row) (rs : List Row) → Tells d → IsPlaced bytes r → ArePlaced bytes rs → ItemTold d m r rs (item_value (inner bytes d) m r rs)
-  item-told d m r rs node here placed = by (left_of r.begin r.rest) refl
+  item-told d m r rs node here placed = tabbed (tab_in r.rest) refl
     where
-      by : (o : Option Row) → left_of r.begin r.rest ≡ o → ItemTold d m r rs (item_at (inner bytes d) m (suc r.first.at) rs o)
-      by (Some left) e =
-          here-told d m r left rs e (node_at bytes d false (suc m) left rs) (node (suc m) left rs (placed-left bytes r left (r.first ∷ []) r.rest r.begin here refl e) placed)
-      by None e = next-told d m r rs node placed e
+      by : tab_in r.rest ≡ None → (o : Option Row) → left_of r.begin r.rest ≡ o → ItemTold d m r rs (item_at (inner bytes d) m (suc r.first.at) rs o)
+      by tab (Some left) e =
+          here-told d m r left rs tab e (node_at bytes d false (suc m) left rs) (node (suc m) left rs (placed-left bytes r left (r.first ∷ []) r.rest r.begin here refl e) placed)
+      by tab None e = next-told d m r rs node placed tab e
+
+      tabbed : (o : Option Cell) → tab_in r.rest ≡ o → ItemTold d m r rs (unless_tab o (item_at (inner bytes d) m (suc r.first.at) rs (left_of r.begin r.rest)))
+      tabbed (Some c) tab = breaks.ItemValueBreaks.item_tab d rs tab
+      tabbed None tab = by tab (left_of r.begin r.rest) refl
 
   more-told : (d : ℕ) (own : Bool) (m : ℕ) (r next : Row) (rs later : List Row) (t : Tree) → indent r ≡ m → is_item r ≡ true → ItemValue bytes d m r rs t (next ∷ later) → (read : Read Items) → ItemsTold d own m next later read
       → ItemsTold d own m r rs (with_item t read)

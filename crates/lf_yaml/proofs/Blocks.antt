@@ -87,10 +87,10 @@ mutual
       at-item (inner bytes d) n own m r rs _ e i (item-is bytes d m r rs t (next ∷ later) h) ∙ ap (with_item t) (items-is bytes d own m n next later is rest (omega (arith, k)) more)
 
   pub item-is : (bytes : List ℕ) (d m : ℕ) (r : Row) (rs : List Row) (t : Tree) (rest : List Row) → ItemValue bytes d m r rs t rest → item_value (inner bytes d) m r rs ≡ Ok (t, rest)
-  item-is bytes d m r rs t rest (item_here {left = left} e h) = ap (item_at (inner bytes d) m (suc r.first.at) rs) e ∙ node-is bytes (suc m) d left rs t rest h
-  item-is bytes d m r _ t rest (item_below {next = next} {rs = rs} e lt h) =
-      ap (item_at (inner bytes d) m (suc r.first.at) (next ∷ rs)) e ∙ steps.item-below (inner bytes d) m (suc r.first.at) next rs lt ∙ node-is bytes (suc m) d next rs t rest h
-  item-is bytes d m r rs _ _ (item_empty e2 e h) = ap (item_at (inner bytes d) m (suc r.first.at) rs) e ∙ item-nothing (inner bytes d) m (suc r.first.at) rs h
+  item-is bytes d m r rs t rest (item_here {left = left} tab e h) = rw tab (ap (item_at (inner bytes d) m (suc r.first.at) rs) e ∙ node-is bytes (suc m) d left rs t rest h)
+  item-is bytes d m r _ t rest (item_below {next = next} {rs = rs} tab e lt h) =
+      rw tab (ap (item_at (inner bytes d) m (suc r.first.at) (next ∷ rs)) e ∙ steps.item-below (inner bytes d) m (suc r.first.at) next rs lt ∙ node-is bytes (suc m) d next rs t rest h)
+  item-is bytes d m r rs _ _ (item_empty e2 tab e h) = rw tab (ap (item_at (inner bytes d) m (suc r.first.at) rs) e ∙ item-nothing (inner bytes d) m (suc r.first.at) rs h)
 
   pub entries-is : (bytes : List ℕ) (d m n : ℕ) (keys : List (List ℕ)) (r : Row) (rs : List Row) (es : Entries) (rest : List Row) → length (r ∷ rs) < n → EntriesAt bytes d m keys r rs es rest
       → entries (values bytes d m) n m keys (r ∷ rs) ≡ Ok (es, rest)

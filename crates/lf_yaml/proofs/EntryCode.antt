@@ -9,7 +9,7 @@ use Rattle.lf_scalar.specs.declared.quotes.Quotes.{Quotes}
 use Rattle.lf_scalar.specs.reading.Quoted.{Closing, closing_of, split_of}
 use Rattle.lf_yaml.specs.Heads.{Split, key_in, never, Bare, Between}
 use Rattle.lf_yaml.specs.reading.Trees.{Head, bare_head, entry_by, quoted_head, quoted_sign, sign_behind}
-use Rattle.lf_yaml.specs.views.Signs.{stops_of, ends_of, split_at}
+use Rattle.lf_yaml.specs.views.Signs.{stops_of, split_at}
 use Rattle.lf_yaml.specs.views.Shown.{shown}
 use Rattle.lf_yaml.specs.declared.row.Row.{Row as CodeRow}
 use Rattle.lf_yaml.proofs.RowCode.{text-shown}
@@ -23,7 +23,7 @@ plain-by at (x ∷ xs) p s d lt e f g =
 abbrev chosen : Row → Bool → Bool → Option Split → Option Head
 chosen r b l o = cond (b && not l) (bare_head o) None
 
-pub entry-bare : (r : CodeRow) (b l : Bool) (o : Option Split) → 0 < length r.text.now → begins_plain (cells r.at r.text.now) ≡ b → is_left_out (shown r) ≡ l → key_in (stops_of false) (ends_of false) (cells r.at r.text.now) ≡ o
+pub entry-bare : (r : CodeRow) (b l : Bool) (o : Option Split) → 0 < length r.text.now → begins_plain (cells r.at r.text.now) ≡ b → is_left_out (shown r) ≡ l → key_in (stops_of false) before_blank (cells r.at r.text.now) ≡ o
     → entry_by (shown r) None ≡ cond (b && not l) (bare_head o) None
 entry-bare r b l o lt e f g =
     ap (λ (cs : List Cell). cond (begins_plain cs && not (is_left_out (shown r))) (bare_head (key_in never before_blank cs)) None) (text-shown r lt)

@@ -32,53 +32,53 @@ texts_of es = map (λ e. e.0.text) es
 abbrev Found : Type 0
 Found = Value × Tree × List Cell × List Row
 
-module _ (end above : ℕ) (later : Later) (keys : Keys) where
+module _ (end : ℕ) (later : Later) (keys : Keys) where
   -- what is read behind an entry
   abbrev pub behind_entry : Result Found Fault → FlowRead Entries
-  behind_entry read = read >>= λ x. mapping_sign (λ cs rs. later (keys ++ x.0.text ∷ []) cs rs) x.0 x.1 (next_part end above false x.2 x.3)
+  behind_entry read = read >>= λ x. mapping_sign (λ cs rs. later (keys ++ x.0.text ∷ []) cs rs) x.0 x.1 (next_part end false x.2 x.3)
 
-  by-value : (rs : List Row) (v : Value) (read : Result Valued Fault) → value_behind end above (λ cs ys. later (keys ++ v.text ∷ []) cs ys) v read ≡ behind_entry (read >>= λ x. Ok (v, x.0, x.1, x.2))
+  by-value : (rs : List Row) (v : Value) (read : Result Valued Fault) → value_behind end (λ cs ys. later (keys ++ v.text ∷ []) cs ys) v read ≡ behind_entry (read >>= λ x. Ok (v, x.0, x.1, x.2))
   by-value rs v (Ok x) = refl
   by-value rs v (Err f) = refl
 
   by-key : (rs : List Row) (k : Signed) (b : Bool)
-      → cond b (Err (record { kind = DoubleKey; span = k.0.span })) (value_behind end above (λ cs ys. later (keys ++ k.0.text ∷ []) cs ys) k.0 (flow_value end above k.1 k.2 rs))
-      ≡ behind_entry (cond b (Err (record { kind = DoubleKey; span = k.0.span })) (Ok k) >>= λ j. flow_value end above j.1 j.2 rs >>= λ x. Ok (j.0, x.0, x.1, x.2))
+      → cond b (Err (record { kind = DoubleKey; span = k.0.span })) (value_behind end (λ cs ys. later (keys ++ k.0.text ∷ []) cs ys) k.0 (flow_value end k.1 k.2 rs))
+      ≡ behind_entry (cond b (Err (record { kind = DoubleKey; span = k.0.span })) (Ok k) >>= λ j. flow_value end j.1 j.2 rs >>= λ x. Ok (j.0, x.0, x.1, x.2))
   by-key rs k true = refl
-  by-key rs k false = by-value rs k.0 (flow_value end above k.1 k.2 rs)
+  by-key rs k false = by-value rs k.0 (flow_value end k.1 k.2 rs)
 
   abbrev entry_by : List Row → Result Signed Fault → Result Found Fault
-  entry_by rs read = (read >>= λ k. cond (has keys k.0.text) (Err (record { kind = DoubleKey; span = k.0.span })) (Ok k)) >>= λ j. flow_value end above j.1 j.2 rs >>= λ x. Ok (j.0, x.0, x.1, x.2)
+  entry_by rs read = (read >>= λ k. cond (has keys k.0.text) (Err (record { kind = DoubleKey; span = k.0.span })) (Ok k)) >>= λ j. flow_value end j.1 j.2 rs >>= λ x. Ok (j.0, x.0, x.1, x.2)
 
-  by-read : (rs : List Row) (read : Result Signed Fault) → key_behind end above later keys rs read ≡ behind_entry (entry_by rs read)
+  by-read : (rs : List Row) (read : Result Signed Fault) → key_behind end later keys rs read ≡ behind_entry (entry_by rs read)
   by-read rs (Ok k) = by-key rs k (has keys k.0.text)
   by-read rs (Err f) = refl
 
-  pub entry-behind : (c : Cell) (cs : List Cell) (rs : List Row) → key_behind end above later keys rs (flow_key end above c cs rs) ≡ behind_entry (entry_at end above keys c cs rs)
-  entry-behind c cs rs = by-read rs (flow_key end above c cs rs)
+  pub entry-behind : (c : Cell) (cs : List Cell) (rs : List Row) → key_behind end later keys rs (flow_key end c cs rs) ≡ behind_entry (entry_at end keys c cs rs)
+  entry-behind c cs rs = by-read rs (flow_key end c cs rs)
 
-  pub entry-fails : (e : Refusal) (c : Cell) (cs : List Cell) (rs : List Row) → Fails e (entry_at end above keys c cs rs) → Fails e (key_behind end above later keys rs (flow_key end above c cs rs))
+  pub entry-fails : (e : Refusal) (c : Cell) (cs : List Cell) (rs : List Row) → Fails e (entry_at end keys c cs rs) → Fails e (key_behind end later keys rs (flow_key end c cs rs))
   entry-fails refusal_of.Memory c cs rs h = tt
   entry-fails (refusal_of.At kind span) c cs rs h = entry-behind c cs rs ∙ ap behind_entry h
 
-  pub entry-goes : (c : Cell) (cs : List Cell) (rs : List Row) (x : Found) → entry_at end above keys c cs rs ≡ Ok x
-      → key_behind end above later keys rs (flow_key end above c cs rs) ≡ mapping_sign (λ xs ys. later (keys ++ x.0.text ∷ []) xs ys) x.0 x.1 (next_part end above false x.2 x.3)
+  pub entry-goes : (c : Cell) (cs : List Cell) (rs : List Row) (x : Found) → entry_at end keys c cs rs ≡ Ok x
+      → key_behind end later keys rs (flow_key end c cs rs) ≡ mapping_sign (λ xs ys. later (keys ++ x.0.text ∷ []) xs ys) x.0 x.1 (next_part end false x.2 x.3)
   entry-goes c cs rs x e = entry-behind c cs rs ∙ ap behind_entry e
 
 -- a key is new, or it stands among those before it
-pub key-new : (end above : ℕ) (keys : Keys) (c : Cell) (cs : List Cell) (rs : List Row) (k : Signed) → flow_key end above c cs rs ≡ Ok k → has keys k.0.text ≡ false → new_key end above keys c cs rs ≡ Ok k
-key-new end above keys c cs rs k e h =
+pub key-new : (end : ℕ) (keys : Keys) (c : Cell) (cs : List Cell) (rs : List Row) (k : Signed) → flow_key end c cs rs ≡ Ok k → has keys k.0.text ≡ false → new_key end keys c cs rs ≡ Ok k
+key-new end keys c cs rs k e h =
     ap (λ (r : Result Signed Fault). r >>= λ j. cond (has keys j.0.text) (Err (record { kind = DoubleKey; span = j.0.span })) (Ok j)) e
     ∙ ap (λ (b : Bool). (let r : Result Signed Fault = cond b (Err (record { kind = DoubleKey; span = k.0.span })) (Ok k) in r)) h
 
-pub key-twice : (end above : ℕ) (keys : Keys) (c : Cell) (cs : List Cell) (rs : List Row) (k : Signed) → flow_key end above c cs rs ≡ Ok k → has keys k.0.text ≡ true → new_key end above keys c cs rs ≡ Err (record { kind = DoubleKey; span = k.0.span })
-key-twice end above keys c cs rs k e h =
+pub key-twice : (end : ℕ) (keys : Keys) (c : Cell) (cs : List Cell) (rs : List Row) (k : Signed) → flow_key end c cs rs ≡ Ok k → has keys k.0.text ≡ true → new_key end keys c cs rs ≡ Err (record { kind = DoubleKey; span = k.0.span })
+key-twice end keys c cs rs k e h =
     ap (λ (r : Result Signed Fault). r >>= λ j. cond (has keys j.0.text) (Err (record { kind = DoubleKey; span = j.0.span })) (Ok j)) e
     ∙ ap (λ (b : Bool). (let r : Result Signed Fault = cond b (Err (record { kind = DoubleKey; span = k.0.span })) (Ok k) in r)) h
 
-pub key-fails : (end above : ℕ) (keys : Keys) (c : Cell) (cs : List Cell) (rs : List Row) (e : Refusal) → Fails e (flow_key end above c cs rs) → Fails e (new_key end above keys c cs rs)
-key-fails end above keys c cs rs refusal_of.Memory h = tt
-key-fails end above keys c cs rs (refusal_of.At kind span) h =
+pub key-fails : (end : ℕ) (keys : Keys) (c : Cell) (cs : List Cell) (rs : List Row) (e : Refusal) → Fails e (flow_key end c cs rs) → Fails e (new_key end keys c cs rs)
+key-fails end keys c cs rs refusal_of.Memory h = tt
+key-fails end keys c cs rs (refusal_of.At kind span) h =
     ap (λ (r : Result Signed Fault). r >>= λ j. cond (has keys j.0.text) (Err (record { kind = DoubleKey; span = j.0.span })) (Ok j)) h
 
 -- ---- what is read behind some entries
@@ -102,19 +102,19 @@ entries-err (e ∷ es) f = ap (with_pair e) (entries-err es f)
 pub texts-more : (entries now : List Entry) (found : Entry) → now ≡ entries ++ found ∷ [] → texts_of (map pair now) ≡ texts_of (map pair entries) ++ (pair found).0.text ∷ []
 texts-more entries now found e = ap (λ (es : List Entry). texts_of (map pair es)) e ∙ ap texts_of (map_push pair entries found) ∙ map_push (λ (x : Value × Tree). x.0.text) (map pair entries) (pair found)
 
-module _ (end above : ℕ) where
-  enough-entries : (n m : ℕ) (keys : Keys) (cs : List Cell) (rs : List Row) → turns cs rs < n → turns cs rs < m → mapping_in end above n keys cs rs ≡ mapping_in end above m keys cs rs
-  enough-entries n m keys cs rs a b = by (mapping_in end above n keys cs rs) (mapping-tells end above n keys cs rs a)
+module _ (end : ℕ) where
+  enough-entries : (n m : ℕ) (keys : Keys) (cs : List Cell) (rs : List Row) → turns cs rs < n → turns cs rs < m → mapping_in end n keys cs rs ≡ mapping_in end m keys cs rs
+  enough-entries n m keys cs rs a b = by (mapping_in end n keys cs rs) (mapping-tells end n keys cs rs a)
     where
-      by : (r : FlowRead Entries) → MappingTold end above keys cs rs r → r ≡ mapping_in end above m keys cs rs
-      by (Ok x) h = sym (mapping-is end above m keys cs rs x.0 x.1 x.2 x.3 b h)
-      by (Err f) h = sym (mapping-breaks end above m keys cs rs f b h)
+      by : (r : FlowRead Entries) → MappingTold end keys cs rs r → r ≡ mapping_in end m keys cs rs
+      by (Ok x) h = sym (mapping-is end m keys cs rs x.0 x.1 x.2 x.3 b h)
+      by (Err f) h = sym (mapping-breaks end m keys cs rs f b h)
 
   abbrev pub all_from : Keys → List Cell → List Row → FlowRead Entries
-  all_from keys cs rs = mapping_in end above (suc (turns cs rs)) keys cs rs
+  all_from keys cs rs = mapping_in end (suc (turns cs rs)) keys cs rs
 
   abbrev later_on : List Cell → List Row → Later
-  later_on cs rs = λ ks xs ys. mapping_in end above (turns cs rs) ks xs ys
+  later_on cs rs = λ ks xs ys. mapping_in end (turns cs rs) ks xs ys
 
   module _ (bytes : List ℕ) (whole : FlowRead Entries) (entries : List Entry) (cs : List Cell) (rs : List Row) (so_far : after_entries (map pair entries) (all_from (texts_of (map pair entries)) cs rs) ≡ whole) where
     abbrev before : Keys

@@ -1,6 +1,5 @@
 -- The parts of flow collections are read: where the next one begins, and scalars.
 use Rattle.std.proofs.Common.{◌≡◌, ℕ, suc, ◌+◌, ◌<◌, ◌≤◌, Bool, true, false, cond, eqb, List, [], ◌∷◌, Option, Some, None, Result, Ok, Err, length, eq-eqb, refl, ap, arith, sym, ◌∙◌, subst, inl, inr, ◌&&◌, ◌||◌, length-append, length-drop}
-use Rattle.std.specs.Prelude.{nat_lt}
 use Rattle.std.specs.List.{flat_map}
 use Rattle.std.proofs.lemmas.Bool.Decides.{eqb_tells}
 use Rattle.lf_base.specs.declared.kind.Kind.TheVariants.{OpenQuote}
@@ -13,7 +12,7 @@ use Rattle.lf_scalar.specs.Quoted.{quote_of, raw, Closes}
 use Rattle.lf_scalar.specs.reading.Quoted.{closing_of}
 use Rattle.lf_scalar.proofs.Closing.{closes-again}
 use Rattle.lf_scalar.proofs.Tails.{true-false}
-use Rattle.lf_yaml.specs.Rows.{Row, text_of, indent, is_mark}
+use Rattle.lf_yaml.specs.Rows.{Row, text_of, is_mark}
 use Rattle.lf_yaml.specs.Heads.{OpensQuote}
 use Rattle.lf_yaml.specs.Flow.{Next, at_part, broken, on_line, next_part, begins_flow, flow_text, behind_text, later_colon, FlowScalar, quoted, plain, begins_part, part_fault, FlowScalarBreaks, no_scalar, open_quote, escape, colon}
 use Rattle.lf_yaml.specs.reading.Trees.{quotes_of, between_of, behind_closing, Part, with_behind, plain_part, part_by, flow_scalar, turns}
@@ -45,10 +44,10 @@ turns-cells cs (r ∷ rs) = omega arith
 pub turns-within : (xs ys : List Cell) (rs ss : List Row) (k : ℕ) → length xs ≤ length ys + k → rs ≡ ss → turns xs rs ≤ turns ys ss + k
 turns-within xs ys rs ss k le e = subst (λ (zs : List Row). turns xs rs ≤ turns ys zs + k) e (omega (arith, turns-cells xs rs, turns-cells ys rs))
 
-on-line-further : (end above : ℕ) (rs ss : List Row) (c : Cell) (more : List Cell) → on_line end above rs ≡ at_part c more ss → Further [] rs more ss
-on-line-further end above [] ss c more e = broken-part _ c more ss e
-on-line-further end above (r ∷ rs) ss c more e =
-    let h = line-further _ _ r rs ss c more (eqb r.first.byte 9 || nat_lt (indent r) above) (is_mark r) e in
+on-line-further : (end : ℕ) (rs ss : List Row) (c : Cell) (more : List Cell) → on_line end rs ≡ at_part c more ss → Further [] rs more ss
+on-line-further end [] ss c more e = broken-part _ c more ss e
+on-line-further end (r ∷ rs) ss c more e =
+    let h = line-further _ _ r rs ss c more (eqb r.first.byte 9) (is_mark r) e in
     let a : turns (text_of r) rs ≡ suc (turns r.rest rs) = omega (arith, turns-cells (text_of r) rs, turns-cells r.rest rs) in
     let b : turns more ss ≤ turns r.rest rs + 0 = turns-within more r.rest ss rs 0 (omega (arith, ap length h.0)) (sym h.1) in
     record { turns_fall = omega arith; rows_stay = end-behind r rs ss (end-is rs ss h.1) }
@@ -65,14 +64,14 @@ no-cells cs rs more ss h = record { turns_fall = omega (arith, h.turns_fall, tur
 part-inj : (c d : Cell) (cs more : List Cell) (rs ss : List Row) → at_part c cs rs ≡ at_part d more ss → (cs ≡ more) × (rs ≡ ss)
 part-inj c d cs more rs ss e = (cc, cc)
 
-pub next-further : (end above : ℕ) (blank : Bool) (cs : List Cell) (rs ss : List Row) (c : Cell) (more : List Cell) → next_part end above blank cs rs ≡ at_part c more ss → Further cs rs more ss
+pub next-further : (end : ℕ) (blank : Bool) (cs : List Cell) (rs ss : List Row) (c : Cell) (more : List Cell) → next_part end blank cs rs ≡ at_part c more ss → Further cs rs more ss
 unfolding next_part
-next-further end above blank [] rs ss c more e = on-line-further end above rs ss c more e
-next-further end above blank (d ∷ cs) rs ss c more e =
+next-further end blank [] rs ss c more e = on-line-further end rs ss c more e
+next-further end blank (d ∷ cs) rs ss c more e =
     elim (tells (is_blank d)) [
-      | inl a ↦ one-more d cs rs more ss (next-further end above true cs rs ss c more (rw a at e))
+      | inl a ↦ one-more d cs rs more ss (next-further end true cs rs ss c more (rw a at e))
       | inr a ↦ elim (tells (blank && eqb d.byte 35)) [
-        | inl b ↦ no-cells (d ∷ cs) rs more ss (on-line-further end above rs ss c more (rw (a, b) at e))
+        | inl b ↦ no-cells (d ∷ cs) rs more ss (on-line-further end rs ss c more (rw (a, b) at e))
         | inr b ↦
             let same : at_part d cs rs ≡ at_part c more ss = rw (a, b) at e in
             let h = part-inj d c cs more rs ss same in

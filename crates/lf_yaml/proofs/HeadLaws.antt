@@ -89,24 +89,24 @@ between-view kind cs =
 
 -- what a reader of such a scalar gives
 abbrev pub single_line : (kind : Quotes) → Cell → {cs : List Cell} → Closes kind cs → Result Value Fault
-single_line kind c between = quoted_of kind 0 (between.closing.at + 1) c (up_to between)
+single_line kind c between = quoted_of kind (between.closing.at + 1) c (up_to between)
 
 abbrev pub BetweenTold : (kind : Quotes) → Cell → (cs : List Cell) → Closes kind cs → Result Value Fault → Type 0
 BetweenTold kind c cs between (Ok v) = IsBetween kind c cs between v
 BetweenTold kind c cs between (Err f) = BetweenBreaks kind c cs f
 
 pub between-tells : (kind : Quotes) (c : Cell) (cs : List Cell) (between : Closes kind cs) → BetweenTold kind c cs between (single_line kind c between)
-between-tells kind c cs between = by (single_line kind c between) (whole.quoted-tells kind 0 (between.closing.at + 1) c (up_to between))
+between-tells kind c cs between = by (single_line kind c between) (whole.quoted-tells kind (between.closing.at + 1) c (up_to between))
   where
-    by : (r : Result Value Fault) → whole.Told kind 0 (between.closing.at + 1) c (up_to between) r → BetweenTold kind c cs between r
+    by : (r : Result Value Fault) → whole.Told kind (between.closing.at + 1) c (up_to between) r → BetweenTold kind c cs between r
     by (Ok v) h = h
     by (Err f) h = (between, h)
 
 pub between-is : (kind : Quotes) (c : Cell) (cs : List Cell) (between : Closes kind cs) (v : Value) → IsBetween kind c cs between v → single_line kind c between ≡ Ok v
-between-is kind c cs between v h = whole.quoted-again kind 0 (between.closing.at + 1) c (up_to between) v h
+between-is kind c cs between v h = whole.quoted-again kind (between.closing.at + 1) c (up_to between) v h
 
 pub between-breaks : (kind : Quotes) (c : Cell) (cs : List Cell) (f : Fault) (h : BetweenBreaks kind c cs f) → single_line kind c h.0 ≡ Err f
-between-breaks kind c cs f h = whole.quoted-breaks kind 0 (h.0.closing.at + 1) c (up_to h.0) f h.1
+between-breaks kind c cs f h = whole.quoted-breaks kind (h.0.closing.at + 1) c (up_to h.0) f h.1
 
 -- ---- the sign behind a key
 

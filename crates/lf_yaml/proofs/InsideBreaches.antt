@@ -1,7 +1,7 @@
 -- The span of each breach of a file lies in it.
-use Rattle.std.proofs.Common.{◌≡◌, ℕ, suc, ◌+◌, ◌≤◌, Bool, true, false, not, List, [], ◌∷◌, ◌++◌, length, drop, Some, refl, ap, arith, sym, ◌∙◌, subst}
+use Rattle.std.proofs.Common.{◌≡◌, ℕ, suc, ◌+◌, ◌≤◌, Bool, true, false, not, List, [], ◌∷◌, ◌++◌, length, drop, eqb, Option, Some, None, refl, ap, arith, sym, ◌∙◌, subst, inl, inr}
 use Rattle.std.specs.Str.{IsUtf8, IsCharBoundary}
-use Rattle.std.proofs.lemmas.Bool.{and_parts}
+use Rattle.std.proofs.lemmas.Bool.{and_parts, cases_Bool}
 use Rattle.std.proofs.lemmas.Str.{IsCharBoundary-start, IsCharBoundary-from_rest}
 use Rattle.lf_base.specs.declared.kind.Kind.TheVariants.{TooDeep, NotANode}
 use Rattle.lf_base.specs.declared.fault.Fault.{Fault}
@@ -10,9 +10,10 @@ use Rattle.lf_scalar.specs.Cells.{Cell, bytes_of, character_fault}
 use Rattle.lf_scalar.specs.Quoted.{WrongBehind}
 use Rattle.lf_scalar.specs.Scalars.{begins, source_at}
 use Rattle.lf_scalar.proofs.Characters.{byte_lies}
+use Rattle.lf_scalar.proofs.Rising.{Rises, rises-le}
 use Rattle.lf_scalar.proofs.Tails.{wrong-told, from-front}
 use Rattle.lf_scalar.proofs.Within.{rises_high, wrong_lies, style_lies}
-use Rattle.lf_yaml.specs.Rows.{Row, row, indent, text_of, left_of, is_left_out}
+use Rattle.lf_yaml.specs.Rows.{Row, row, indent, text_of, left_of, tab_in, is_left_out}
 use Rattle.lf_yaml.specs.Heads.{is_item, Key, KeyBreaks, BeginsEntry, style_of, begins_scalar}
 use Rattle.lf_yaml.specs.Heads as heads
 use Rattle.lf_yaml.specs.Breaches.{ScalarBreaksOn, ValueBreaks, NodeBreaks, BlockBreaks, ItemsBreak, ItemValueBreaks, EntriesBreak, EntryValueBreaks}
@@ -79,14 +80,14 @@ value_breach bytes utf8 above d lo r _ f (breaks.ValueBreaks.scalar rs b s) h = 
 value_breach bytes utf8 above d lo r _ _ (breaks.ValueBreaks.no_value d2 rs b q) h = row_lies (length bytes) lo h.stop r h.row h.within
 value_breach bytes utf8 above _ lo r _ _ (breaks.ValueBreaks.deep rs q) h = below_first bytes lo r rs h
 value_breach bytes utf8 above _ lo r rs f (breaks.ValueBreaks.flow_sequence d q s) h =
-    sequence_lies (length bytes) above (suc r.first.at) r.rest rs f s (behind_first (length bytes) lo h.stop r h.row h.within (omega (arith, q))) (rows_behind (length bytes) lo h.stop r rs h.row h.rows)
+    sequence_lies (length bytes) (suc r.first.at) r.rest rs f s (behind_first (length bytes) lo h.stop r h.row h.within (omega (arith, q))) (rows_behind (length bytes) lo h.stop r rs h.row h.rows)
 value_breach bytes utf8 above _ lo r rs _ (breaks.ValueBreaks.behind_sequence {rest = rest} {is = is} {closing = closing} {wrong = wrong} {behind = behind} d q s w) h =
-    let x = sequence_in (length bytes) above (suc r.first.at) r.rest rs is closing behind rest s (behind_first (length bytes) lo h.stop r h.row h.within (omega (arith, q))) (rows_behind (length bytes) lo h.stop r rs h.row h.rows) in
+    let x = sequence_in (length bytes) (suc r.first.at) r.rest rs is closing behind rest s (behind_first (length bytes) lo h.stop r h.row h.within (omega (arith, q))) (rows_behind (length bytes) lo h.stop r rs h.row h.rows) in
     wrong_breach (length bytes) (suc r.first.at) behind wrong w x.1.left
 value_breach bytes utf8 above _ lo r rs f (breaks.ValueBreaks.flow_mapping d q s) h =
-    mapping_lies (length bytes) above (suc r.first.at) [] r.rest rs f s (behind_first (length bytes) lo h.stop r h.row h.within (omega (arith, q))) (rows_behind (length bytes) lo h.stop r rs h.row h.rows)
+    mapping_lies (length bytes) (suc r.first.at) [] r.rest rs f s (behind_first (length bytes) lo h.stop r h.row h.within (omega (arith, q))) (rows_behind (length bytes) lo h.stop r rs h.row h.rows)
 value_breach bytes utf8 above _ lo r rs _ (breaks.ValueBreaks.behind_mapping {rest = rest} {es = es} {closing = closing} {wrong = wrong} {behind = behind} d q s w) h =
-    let x = mapping_in (length bytes) above (suc r.first.at) [] r.rest rs es closing behind rest s (behind_first (length bytes) lo h.stop r h.row h.within (omega (arith, q))) (rows_behind (length bytes) lo h.stop r rs h.row h.rows) in
+    let x = mapping_in (length bytes) (suc r.first.at) [] r.rest rs es closing behind rest s (behind_first (length bytes) lo h.stop r h.row h.within (omega (arith, q))) (rows_behind (length bytes) lo h.stop r rs h.row h.rows) in
     wrong_breach (length bytes) (suc r.first.at) behind wrong w x.1.left
 
 key_breach : (n lo stop : ℕ) (r : Row) (k : Key) (colon : Cell) (behind : List Cell) (f : Fault) → BeginsEntry r k colon behind → KeyBreaks r.first r.rest k f → IsRowIn lo stop r → stop ≤ n → LiesIn n f.span
@@ -100,6 +101,33 @@ left_entry lo stop r left k colon behind b e row =
     let begin = row.begin in
     let at = s.low in
     left_in r.begin behind left colon.at stop e (omega (arith, begin, at)) s.rest_in.1 s.rest_in.0
+
+-- a tab among the blanks behind an item's sign stands on its line
+tab_lies : (lo : ℕ) (cs : List Cell) (tab : Cell) (hi : ℕ) → tab_in cs ≡ Some tab → Rises lo cs hi → suc tab.at ≤ hi
+tab_lies lo [] tab hi e r = absurd (none e)
+  where
+    some : Cell → Option Cell
+    some c = Some c
+
+    none : None ≡ some tab → ⊥
+    none e = cc
+tab_lies lo (c ∷ cs) tab hi e r =
+    elim (cases_Bool (eqb c.byte 32)) [
+      | inl a ↦ tab_lies (suc c.at) cs tab hi (rw a at e) r.1
+      | inr a ↦ elim (cases_Bool (eqb c.byte 9)) [
+        | inl b ↦ (let same : c ≡ tab = is (rw (a, b) at e) in let k : suc c.at ≤ hi = rises-le (suc c.at) cs hi r.1 in omega (arith, k, ap (λ (x : Cell). x.at) same))
+        | inr b ↦ absurd (none (rw (a, b) at e))
+      ]
+    ]
+  where
+    some : Cell → Option Cell
+    some c = Some c
+
+    none : None ≡ some tab → ⊥
+    none e = cc
+
+    is : some c ≡ some tab → c ≡ tab
+    is e = cc
 
 mutual
   node_breach : (bytes : List ℕ) (utf8 : IsUtf8 bytes) (above d lo : ℕ) (r : Row) (rs : List Row) (f : Fault) → NodeBreaks bytes above d r rs f → RowsAt bytes lo r rs → LiesIn (length bytes) f.span
@@ -119,10 +147,13 @@ mutual
       items_breach bytes utf8 d own m h.stop next later f b (last_rows bytes lo r rs h next later (item-rows bytes d m r rs t (next ∷ later) v))
 
   item_breach : (bytes : List ℕ) (utf8 : IsUtf8 bytes) (d m lo : ℕ) (r : Row) (rs : List Row) (f : Fault) → is_item r ≡ true → ItemValueBreaks bytes d m r rs f → RowsAt bytes lo r rs → LiesIn (length bytes) f.span
-  item_breach bytes utf8 d m lo r rs f i (breaks.ItemValueBreaks.item_here {left = left} e b) h =
+  item_breach bytes utf8 d m lo r rs f i (breaks.ItemValueBreaks.item_here {left = left} tab e b) h =
       node_breach bytes utf8 (suc m) d (suc r.first.at) left rs f b (left_at bytes lo r rs h (suc r.first.at) left (r.first ∷ []) r.rest (left_item lo h.stop r left i e h.row) refl e)
-  item_breach bytes utf8 d m lo r _ f i (breaks.ItemValueBreaks.item_below {next = next} {rs = rs} e lt b) h =
+  item_breach bytes utf8 d m lo r _ f i (breaks.ItemValueBreaks.item_below {next = next} {rs = rs} tab e lt b) h =
       node_breach bytes utf8 (suc m) d h.stop next rs f b (rows_at bytes h.stop next rs h.rows h.are_placed)
+  item_breach bytes utf8 d m lo r rs _ i (breaks.ItemValueBreaks.item_tab {tab = tab} d2 xs e) h =
+      let k : suc tab.at ≤ h.stop = tab_lies (suc r.first.at) r.rest tab h.stop e h.row.rises.1 in
+      byte_lies tab.at (length bytes) (omega (arith, k, h.within))
 
   entries_breach : (bytes : List ℕ) (utf8 : IsUtf8 bytes) (d m : ℕ) (keys : List (List ℕ)) (lo : ℕ) (r : Row) (rs : List Row) (f : Fault) → EntriesBreak bytes d m keys r rs f → RowsAt bytes lo r rs → LiesIn (length bytes) f.span
   entries_breach bytes utf8 d m keys lo r rs _ (breaks.EntriesBreak.deeper_entry d2 ks xs lt) h = indent_lies (length bytes) lo h.stop r h.row h.within

@@ -8,14 +8,15 @@ use Rattle.lf_base.specs.declared.kind.Kind.{Kind}
 use Rattle.lf_base.specs.declared.kind.Kind.TheVariants.{BadIndent, LeftOut, NotANode}
 use Rattle.lf_base.specs.Faults.{LiesIn}
 use Rattle.lf_scalar.specs.Cells.{Cell, cells, character_fault}
-use Rattle.lf_scalar.specs.Lines.{Line, line, lines, is_blank, after_spaces, is_content}
+use Rattle.lf_scalar.specs.Lines.{Line, line, lines, begins_with, is_blank, after_spaces}
 use Rattle.lf_scalar.specs.Scalars.{source_at}
 use Rattle.lf_scalar.proofs.Cells.{cells-bytes}
 use Rattle.lf_scalar.proofs.Characters.{character_lies, byte_lies, lies_further}
 use Rattle.lf_scalar.proofs.Parts.{Utf8, part-utf8, utf8-behind, blank-low, after-spaces-part}
 use Rattle.lf_scalar.proofs.Rising.{Rises, LinesRise, rises-le, rises-part, cells-rise, lines-rise}
 use Rattle.lf_scalar.proofs.Utf8Lines.{LinesUtf8, lines-utf8}
-use Rattle.lf_yaml.specs.Rows.{Row, row, text_of, start_of, headed, content_row, rows_of, left_of, is_left_out, indent_fault, row_fault, is_opening, without_opening}
+use Rattle.lf_scalar.specs.Lines.{start_of}
+use Rattle.lf_yaml.specs.Rows.{Row, row, text_of, headed, content_row, rows_of, left_of, is_left_out, indent_fault, row_fault, is_opening, without_opening}
 use Rattle.lf_yaml.specs.Characters.{mark_length}
 use Rattle.lf_yaml.specs.Document.{document_rows}
 use Rattle.lf_yaml.proofs.Edges.{mark-start}
@@ -124,7 +125,7 @@ start_before lo (x ∷ text) break c cs e r =
     head x c xs cs e = cc
 
 line_rows : (n lo : ℕ) (l : Line) (rs : List Row) → Utf8 l.text → Rises lo l.text l.break → l.break ≤ n → AreRowsIn n (suc l.break) rs → AreRowsIn n lo (content_row l ++ rs)
-line_rows n lo l rs u r le later = by (is_content l) (after_spaces l.text) refl
+line_rows n lo l rs u r le later = by (begins_with 35 (after_spaces l.text)) (after_spaces l.text) refl
   where
     lower : AreRowsIn n lo rs
     lower = let k = rises-le lo l.text l.break r in rows_low n (suc l.break) lo rs (omega (arith, k)) later
@@ -136,9 +137,9 @@ line_rows n lo l rs u r le later = by (is_content l) (after_spaces l.text) refl
         let v : Utf8 (c ∷ cs) = subst Utf8 e (part-utf8 l.text (after_spaces l.text) (after-spaces-part l.text) u) in
         (l.break, record { low = k.0; begin = start_before lo l.text l.break c cs e r; rises = (omega arith, k.1); utf8 = v }, le, rows_low n (suc l.break) l.break rs (omega arith) later)
 
-    by : (b : Bool) (cs : List Cell) → after_spaces l.text ≡ cs → AreRowsIn n lo (cond b (headed (start_of l) cs) [] ++ rs)
-    by true cs e = text cs e
-    by false cs e = lower
+    by : (b : Bool) (cs : List Cell) → after_spaces l.text ≡ cs → AreRowsIn n lo (cond b [] (headed (start_of l) cs) ++ rs)
+    by true cs e = lower
+    by false cs e = text cs e
 
 pub rows_in : (n lo : ℕ) (ls : List Line) → LinesUtf8 ls → LinesRise lo ls n → AreRowsIn n lo (rows_of ls)
 unfolding rows_of

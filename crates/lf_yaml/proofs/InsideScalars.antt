@@ -25,10 +25,10 @@ use Rattle.lf_scalar.proofs.TextLaws.{IsPlaced, made-placed, climbs-mount, end-m
 use Rattle.lf_scalar.proofs.BlockTexts.{Mounts}
 use Rattle.lf_scalar.proofs.Utf8Lines.{utf8-nil, utf8-append, utf8-low}
 use Rattle.lf_scalar.proofs.Within.{quoted_lies}
-use Rattle.lf_yaml.specs.Rows.{Row, text_of, is_property}
+use Rattle.lf_yaml.specs.Rows.{Row, text_of}
 use Rattle.lf_yaml.specs.Heads.{key_in, Split, behind_cell, Key, Bare, Between, up_to, IsBetween, BetweenBreaks, IsKey, IsSignBehind, BeginsEntry}
 use Rattle.lf_yaml.specs.Heads as heads
-use Rattle.lf_yaml.specs.Flow.{is_flow_sign, is_bracket, ends_key, flow_text, behind_text, colon_in, later_colon, part_fault, sign_fault, FlowScalar, FlowScalarBreaks, FlowKey}
+use Rattle.lf_yaml.specs.Flow.{is_flow_sign, is_bracket, is_flow_property, flow_text, behind_text, colon_in, later_colon, part_fault, sign_fault, FlowScalar, FlowScalarBreaks, FlowKey}
 use Rattle.lf_yaml.specs.Flow as flow
 use Rattle.lf_yaml.specs.Spans.{empty_at}
 use Rattle.lf_yaml.specs.Insides.{ScalarInside, Inside}
@@ -79,7 +79,7 @@ module _ (n : ℕ) (kind : Quotes) (c : Cell) (cs : List Cell) (between : Closes
   pub between_from : (v : Value) → IsBetween kind c cs between v → ScalarFrom n c.at v
   between_from v b =
       let stop : suc between.closing.at ≤ n = closing_within in
-      placed_from n c.at (between.closing.at + 1) v (quoted-placed kind 0 c.at (between.closing.at + 1) c (up_to between) v refl up_to_rises b) (omega (arith, stop))
+      placed_from n c.at (between.closing.at + 1) v (quoted-placed kind c.at (between.closing.at + 1) c (up_to between) v refl up_to_rises b) (omega (arith, stop))
 
   -- what stands behind the closing quote
   pub rest_rises : Rises c.at between.rest n
@@ -95,13 +95,13 @@ module _ (n : ℕ) (kind : Quotes) (c : Cell) (cs : List Cell) (between : Closes
     pub rest_utf8 : Utf8 between.rest
     rest_utf8 = utf8-behind (c ∷ flat_map raw between.raws) between.closing between.rest whole (quote-low kind between.closing between.closes)
 
-    pub between_lies : (f : Fault) → c.byte ≡ quote_of kind → BreaksQuoted kind 0 (between.closing.at + 1) c (up_to between) f → LiesIn n f.span
+    pub between_lies : (f : Fault) → c.byte ≡ quote_of kind → BreaksQuoted kind (between.closing.at + 1) c (up_to between) f → LiesIn n f.span
     between_lies f q b =
         let low = quote-low kind between.closing between.closes in
         let front : Utf8 (c ∷ flat_map raw between.raws) = utf8-before (c ∷ flat_map raw between.raws) between.closing between.rest whole low in
         let cut : Utf8 (c ∷ up_to between) = utf8-append (c ∷ flat_map raw between.raws) (between.closing ∷ []) front (utf8-low between.closing [] low utf8-nil) in
         let stop : suc between.closing.at ≤ n = closing_within in
-        lies_further (between.closing.at + 1) n f.span (omega (arith, stop)) (quoted_lies kind 0 (between.closing.at + 1) c (up_to between) f b c.at q cut up_to_rises)
+        lies_further (between.closing.at + 1) n f.span (omega (arith, stop)) (quoted_lies kind (between.closing.at + 1) c (up_to between) f b c.at q cut up_to_rises)
 
 pub escape_lies : (n : ℕ) (kind : Quotes) (c : Cell) (cs : List Cell) (f : Fault) → Rises c.at (c ∷ cs) n → Utf8 (c ∷ cs) → c.byte ≡ quote_of kind → BetweenBreaks kind c cs f → LiesIn n f.span
 escape_lies n kind c cs f r u q b = between_lies n kind c cs b.0 r u f q b.1
@@ -204,7 +204,7 @@ pub part_lies : (n : ℕ) (c : Cell) (cs : List Cell) → LeftIn n c.at (c ∷ c
 part_lies n c cs h kind = character_lies c.at c cs n h.1 h.0 kind
 
 pub no_part_lies : (n : ℕ) (c : Cell) (cs : List Cell) → LeftIn n c.at (c ∷ cs) → LiesIn n (part_fault c cs).span
-no_part_lies n c cs h = by (is_bracket c || is_property c cs)
+no_part_lies n c cs h = by (is_bracket c || is_flow_property c cs)
   where
     by : (b : Bool) → LiesIn n (cond b (character_fault LeftOut c) (character_fault NotANode c)).span
     by true = part_lies n c cs h LeftOut
@@ -287,8 +287,8 @@ quoted_in n kind c cs between colon rest s h =
 
 pub flow_key_in : (n : ℕ) (c : Cell) (cs : List Cell) (k : Key) (colon : Cell) (rest : List Cell) → FlowKey c cs k colon rest → LeftIn n c.at (c ∷ cs) → SignedIn n c.at k colon rest
 flow_key_in n c cs _ colon rest (flow.FlowKey.quoted kind between q s) h = quoted_in n kind c cs between colon rest s h
-flow_key_in n c cs _ colon rest (flow.FlowKey.bare {front = front} p e) h =
-    bare_in n c cs (c ∷ front) rest colon (split-source is_flow_sign ends_key (c ∷ cs) (c ∷ front, colon, rest) e) (split_sign is_flow_sign ends_key (c ∷ cs) (c ∷ front, colon, rest) e) h
+flow_key_in n c cs _ colon rest (flow.FlowKey.bare {front = front} p e nn) h =
+    bare_in n c cs (c ∷ front) rest colon (split-source is_flow_sign before_blank (c ∷ cs) (c ∷ front, colon, rest) e) (split_sign is_flow_sign before_blank (c ∷ cs) (c ∷ front, colon, rest) e) h
 
 pub entry_key_in : (n : ℕ) (r : Row) (k : Key) (colon : Cell) (rest : List Cell) → BeginsEntry r k colon rest → LeftIn n r.first.at (text_of r) → SignedIn n r.first.at k colon rest
 entry_key_in n r _ colon rest (heads.BeginsEntry.bare {front = front} p l e) h =

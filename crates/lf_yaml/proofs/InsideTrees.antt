@@ -68,12 +68,12 @@ module _ (bytes : List ℕ) (utf8 : IsUtf8 bytes) where
   pub value_tree : (above d lo stop : ℕ) (r : Row) (rs : List Row) (t : Tree) (rest : List Row) → ValueAt bytes above d r rs t rest → IsRowIn lo stop r → stop ≤ length bytes → AreRowsIn (length bytes) stop rs → TreeFrom (length bytes) r.first.at t
   value_tree above d lo stop r _ _ _ (nodes.ValueAt.scalar {v = v} rs b s) h le rows = let x = scalar_on above lo stop r v s h le in (x.0, omega (arith, x.1))
   value_tree above _ lo stop r rs _ rest (nodes.ValueAt.flow_sequence {is = is} {closing = closing} {behind = behind} q s tail) h le rows =
-      let x = sequence_in (length bytes) above (suc r.first.at) r.rest rs is closing behind rest s (behind_first (length bytes) lo stop r h le (omega (arith, q))) (rows_behind (length bytes) lo stop r rs h rows) in
+      let x = sequence_in (length bytes) (suc r.first.at) r.rest rs is closing behind rest s (behind_first (length bytes) lo stop r h le (omega (arith, q))) (rows_behind (length bytes) lo stop r rs h rows) in
       let low = x.1.low in
       let within = x.1.within in
       (((omega (arith, low), within), x.0), omega arith)
   value_tree above _ lo stop r rs _ rest (nodes.ValueAt.flow_mapping {es = es} {closing = closing} {behind = behind} q s tail) h le rows =
-      let x = mapping_in (length bytes) above (suc r.first.at) [] r.rest rs es closing behind rest s (behind_first (length bytes) lo stop r h le (omega (arith, q))) (rows_behind (length bytes) lo stop r rs h rows) in
+      let x = mapping_in (length bytes) (suc r.first.at) [] r.rest rs es closing behind rest s (behind_first (length bytes) lo stop r h le (omega (arith, q))) (rows_behind (length bytes) lo stop r rs h rows) in
       let low = x.1.low in
       let within = x.1.within in
       (((omega (arith, low), within), omega (arith, low, within), x.0), omega arith)
@@ -110,14 +110,14 @@ mutual
 
   pub item_tree : (bytes : List ℕ) (utf8 : IsUtf8 bytes) (d m lo stop : ℕ) (r : Row) (rs : List Row) (t : Tree) (rest : List Row) → is_item r ≡ true → ItemValue bytes d m r rs t rest → IsRowIn lo stop r → stop ≤ length bytes
       → AreRowsIn (length bytes) stop rs → TreeFrom (length bytes) lo t
-  item_tree bytes utf8 d m lo stop r rs t rest i (nodes.ItemValue.item_here {left = left} e h) row le rows =
+  item_tree bytes utf8 d m lo stop r rs t rest i (nodes.ItemValue.item_here {left = left} tab e h) row le rows =
       let low = row.low in
       tree_low (length bytes) (suc r.first.at) lo t (omega (arith, low)) (node_tree bytes utf8 (suc m) d (suc r.first.at) stop left rs t rest h (left_item lo stop r left i e row) le rows)
-  item_tree bytes utf8 d m lo stop r _ t rest i (nodes.ItemValue.item_below {next = next} {rs = rs} e lt h) row le rows =
+  item_tree bytes utf8 d m lo stop r _ t rest i (nodes.ItemValue.item_below {next = next} {rs = rs} tab e lt h) row le rows =
       let low = row.low in
       let behind = row_behind lo stop r row in
       tree_low (length bytes) stop lo t (omega (arith, low, behind)) (node_tree bytes utf8 (suc m) d stop rows.0 next rs t rest h rows.1 rows.2 rows.3)
-  item_tree bytes utf8 d m lo stop r rs _ _ i (nodes.ItemValue.item_empty d2 e none) row le rows =
+  item_tree bytes utf8 d m lo stop r rs _ _ i (nodes.ItemValue.item_empty d2 tab e none) row le rows =
       let low = row.low in
       let behind = row_behind lo stop r row in
       (empty_inside (length bytes) (suc r.first.at) (omega (arith, behind, le)), omega (arith, low))

@@ -35,20 +35,20 @@ items-err : (ts : List Tree) (f : Fault) → after_items ts (Err f) ≡ Err f
 items-err [] f = refl
 items-err (t ∷ ts) f = ap (with_tree t) (items-err ts f)
 
-module _ (end above : ℕ) where
+module _ (end : ℕ) where
   -- how many turns are granted makes no difference, where they are enough
-  enough-items : (n m : ℕ) (cs : List Cell) (rs : List Row) → turns cs rs < n → turns cs rs < m → sequence_in end above n cs rs ≡ sequence_in end above m cs rs
-  enough-items n m cs rs a b = by (sequence_in end above n cs rs) (sequence-tells end above n cs rs a)
+  enough-items : (n m : ℕ) (cs : List Cell) (rs : List Row) → turns cs rs < n → turns cs rs < m → sequence_in end n cs rs ≡ sequence_in end m cs rs
+  enough-items n m cs rs a b = by (sequence_in end n cs rs) (sequence-tells end n cs rs a)
     where
-      by : (r : FlowRead Items) → SequenceTold end above cs rs r → r ≡ sequence_in end above m cs rs
-      by (Ok x) h = sym (sequence-is end above m cs rs x.0 x.1 x.2 x.3 b h)
-      by (Err f) h = sym (sequence-breaks end above m cs rs f b h)
+      by : (r : FlowRead Items) → SequenceTold end cs rs r → r ≡ sequence_in end m cs rs
+      by (Ok x) h = sym (sequence-is end m cs rs x.0 x.1 x.2 x.3 b h)
+      by (Err f) h = sym (sequence-breaks end m cs rs f b h)
 
   abbrev pub all_from : List Cell → List Row → FlowRead Items
-  all_from cs rs = sequence_in end above (suc (turns cs rs)) cs rs
+  all_from cs rs = sequence_in end (suc (turns cs rs)) cs rs
 
   abbrev later_on : List Cell → List Row → List Cell → List Row → FlowRead Items
-  later_on cs rs = λ xs ys. sequence_in end above (turns cs rs) xs ys
+  later_on cs rs = λ xs ys. sequence_in end (turns cs rs) xs ys
 
   module _ (bytes : List ℕ) (whole : FlowRead Items) (items : List Node) (cs : List Cell) (rs : List Row) (so_far : after_items (map tree items) (all_from cs rs) ≡ whole) where
     pub items-end : (closing : CodeRow) (next : ℕ) → all_from cs rs ≡ turned_items bytes (later_on cs rs) (turn.Ends closing next) → whole ≡ Ok (closed_items bytes (items, closing, next))

@@ -1,15 +1,17 @@
 -- Keys of flow mappings, as the code reads them.
 use Rattle.std.proofs.Common.{◌≡◌, ℕ, zero, suc, ◌+◌, ◌≤◌, true, false, eqb, List, [], ◌∷◌, Option, Some, None, Result, Ok, Err, length, get_or, take, drop, length-take, eq-eqb, refl, ap, arith, sym, ◌∙◌}
 use Rattle.lf_base.specs.declared.fault.Fault.{Fault}
-use Rattle.lf_scalar.specs.Cells.{Cell, cell, cells, Value}
+use Rattle.lf_base.specs.declared.kind.Kind.TheVariants.{LeftOut}
+use Rattle.lf_scalar.specs.Plain.{before_blank, is_null}
+use Rattle.lf_scalar.specs.Cells.{Cell, cell, cells, Value, character_fault}
 use Rattle.lf_scalar.specs.Lines.{is_blank, after_blanks}
 use Rattle.lf_scalar.specs.Folding.{trimmed}
 use Rattle.lf_scalar.specs.declared.quotes.Quotes.{Quotes}
 use Rattle.lf_scalar.specs.reading.Quoted.{closing_of}
 use Rattle.lf_yaml.specs.Rows.{Row}
 use Rattle.lf_yaml.specs.Heads.{Split, key_in}
-use Rattle.lf_yaml.specs.Flow.{next_part, begins_flow, flow_text, behind_text, is_flow_sign, is_empty_key, ends_key}
-use Rattle.lf_yaml.specs.views.Signs.{stops_of, ends_of, split_at}
+use Rattle.lf_yaml.specs.Flow.{next_part, begins_flow, flow_text, behind_text, is_flow_sign}
+use Rattle.lf_yaml.specs.views.Signs.{stops_of, split_at}
 use Rattle.lf_yaml.specs.reading.Trees.{Part, with_behind, part_by, between_of, behind_closing, sign_if, sign_behind, Signed, signed, signed_behind, no_sign, plain_key, bare_key, flow_key_by}
 use Rattle.lf_yaml.proofs.Placed.{drops}
 use Rattle.lf_yaml.proofs.PartCode.{behind-is}
@@ -33,11 +35,11 @@ with-ok behind (Ok v) x e = let h : (v ≡ x.0) × (behind ≡ x.1) = ok-pair e 
 with-ok behind (Err f) x e = absurd cc
 
 -- what stands behind a quoted scalar
-pub quoted-by : (end above : ℕ) (kind : Quotes) (c : Cell) (cs : List Cell) (rs : List Row) (v : Value) (behind : List Cell) → part_by c cs (Some kind) ≡ Ok (v, behind)
-    → flow_key_by end above c cs rs (Some kind) ≡ signed end above v behind rs (sign_behind behind)
-quoted-by end above kind c cs rs v behind e =
+pub quoted-by : (end : ℕ) (kind : Quotes) (c : Cell) (cs : List Cell) (rs : List Row) (v : Value) (behind : List Cell) → part_by c cs (Some kind) ≡ Ok (v, behind)
+    → flow_key_by end c cs rs (Some kind) ≡ signed end v behind rs (sign_behind behind)
+quoted-by end kind c cs rs v behind e =
     let h = with-ok (behind_closing (closing_of kind 0 cs)) (between_of kind c (closing_of kind 0 cs)) (v, behind) e in
-    ap (λ (xs : List Cell). signed_behind end above xs rs (between_of kind c (closing_of kind 0 cs))) h.1 ∙ ap (signed_behind end above behind rs) h.0
+    ap (λ (xs : List Cell). signed_behind end xs rs (between_of kind c (closing_of kind 0 cs))) h.1 ∙ ap (signed_behind end behind rs) h.0
 
 pub sign-found : (n p : ℕ) (text : List ℕ) → get_or text p 0 ≡ 58 → sign_if (cells n (drop p text)) ≡ Some (cell 58 n, cells (suc n) (drop (p + 1) text))
 sign-found n zero [] e = absurd (omega (arith, e))
@@ -57,36 +59,39 @@ module _ (at len k : ℕ) (text : List ℕ) (after : after_blanks (cells (at + l
       let z : at + len + k ≡ at + (len + k) = omega arith in
       ap sign_if after ∙ ap (λ (xs : List ℕ). sign_if (cells (at + len + k) xs)) (drops len k text) ∙ ap (λ (n : ℕ). sign_if (cells n (drop (len + k) text))) z
 
-  pub quoted-found : (end above : ℕ) (kind : Quotes) (c : Cell) (cs : List Cell) (rs : List Row) (v : Value) → part_by c cs (Some kind) ≡ Ok (v, cells (at + len) (drop len text)) → get_or text (len + k) 0 ≡ 58
-      → flow_key_by end above c cs rs (Some kind) ≡ Ok (v, cell 58 (at + (len + k)), cells (at + (len + k + 1)) (drop (len + k + 1) text))
-  quoted-found end above kind c cs rs v e sign =
+  pub quoted-found : (end : ℕ) (kind : Quotes) (c : Cell) (cs : List Cell) (rs : List Row) (v : Value) → part_by c cs (Some kind) ≡ Ok (v, cells (at + len) (drop len text)) → get_or text (len + k) 0 ≡ 58
+      → flow_key_by end c cs rs (Some kind) ≡ Ok (v, cell 58 (at + (len + k)), cells (at + (len + k + 1)) (drop (len + k + 1) text))
+  quoted-found end kind c cs rs v e sign =
       let z : suc (at + (len + k)) ≡ at + (len + k + 1) = omega arith in
-      quoted-by end above kind c cs rs v (cells (at + len) (drop len text)) e
-      ∙ ap (signed end above v (cells (at + len) (drop len text)) rs) (sign-at ∙ sign-found (at + (len + k)) (len + k) text sign)
+      quoted-by end kind c cs rs v (cells (at + len) (drop len text)) e
+      ∙ ap (signed end v (cells (at + len) (drop len text)) rs) (sign-at ∙ sign-found (at + (len + k)) (len + k) text sign)
       ∙ ap (λ (n : ℕ). let x : Signed = (v, cell 58 (at + (len + k)), cells n (drop (len + k + 1) text)) in Ok x) z
 
-  pub quoted-missing : (end above : ℕ) (kind : Quotes) (c : Cell) (cs : List Cell) (rs : List Row) (v : Value) → part_by c cs (Some kind) ≡ Ok (v, cells (at + len) (drop len text)) → eqb (get_or text (len + k) 0) 58 ≡ false
-      → flow_key_by end above c cs rs (Some kind) ≡ no_sign (next_part end above false (cells (at + len) (drop len text)) rs)
-  quoted-missing end above kind c cs rs v e sign =
-      quoted-by end above kind c cs rs v (cells (at + len) (drop len text)) e
-      ∙ ap (signed end above v (cells (at + len) (drop len text)) rs) (sign-at ∙ sign-missing (at + (len + k)) (len + k) text sign)
+  pub quoted-missing : (end : ℕ) (kind : Quotes) (c : Cell) (cs : List Cell) (rs : List Row) (v : Value) → part_by c cs (Some kind) ≡ Ok (v, cells (at + len) (drop len text)) → eqb (get_or text (len + k) 0) 58 ≡ false
+      → flow_key_by end c cs rs (Some kind) ≡ no_sign (next_part end false (cells (at + len) (drop len text)) rs)
+  quoted-missing end kind c cs rs v e sign =
+      quoted-by end kind c cs rs v (cells (at + len) (drop len text)) e
+      ∙ ap (signed end v (cells (at + len) (drop len text)) rs) (sign-at ∙ sign-missing (at + (len + k)) (len + k) text sign)
 
 -- ---- without quotes
 
-module _ (end above : ℕ) (c : Cell) (cs : List Cell) (rs : List Row) (at : ℕ) (text : List ℕ) (is : c ∷ cs ≡ cells at text) (begins : begins_flow c cs ≡ true) (full : is_empty_key c cs ≡ false) where
-  bare-by : (o : Option Split) → o ≡ key_in (stops_of true) (ends_of true) (cells at text) → flow_key_by end above c cs rs None ≡ plain_key end above c cs rs o
-  bare-by o e = rw (begins, full) (ap (plain_key end above c cs rs) (ap (λ (xs : List Cell). key_in is_flow_sign ends_key xs) is ∙ sym e))
+module _ (end : ℕ) (c : Cell) (cs : List Cell) (rs : List Row) (at : ℕ) (text : List ℕ) (is : c ∷ cs ≡ cells at text) (begins : begins_flow c cs ≡ true) where
+  bare-by : (o : Option Split) → o ≡ key_in (stops_of true) before_blank (cells at text) → flow_key_by end c cs rs None ≡ plain_key end c cs rs o
+  bare-by o e = rw begins (ap (plain_key end c cs rs) (ap (λ (xs : List Cell). key_in is_flow_sign before_blank xs) is ∙ sym e))
 
-  pub bare-found : (k : ℕ) → Some (split_at at text k) ≡ key_in (stops_of true) (ends_of true) (cells at text) → get_or text k 0 ≡ 58
-      → flow_key_by end above c cs rs None ≡ Ok (bare_key c (trimmed is_blank (cells at (take k text))), cell 58 (at + k), cells (at + (k + 1)) (drop (k + 1) text))
-  bare-found k e sign =
+  pub bare-null : (k : ℕ) → Some (split_at at text k) ≡ key_in (stops_of true) before_blank (cells at text) → is_null (trimmed is_blank (cells at (take k text))) ≡ true → flow_key_by end c cs rs None ≡ Err (character_fault LeftOut c)
+  bare-null k e n = bare-by (Some (split_at at text k)) e ∙ rw n refl
+
+  pub bare-found : (k : ℕ) → Some (split_at at text k) ≡ key_in (stops_of true) before_blank (cells at text) → is_null (trimmed is_blank (cells at (take k text))) ≡ false → get_or text k 0 ≡ 58
+      → flow_key_by end c cs rs None ≡ Ok (bare_key c (trimmed is_blank (cells at (take k text))), cell 58 (at + k), cells (at + (k + 1)) (drop (k + 1) text))
+  bare-found k e n sign =
       bare-by (Some (split_at at text k)) e
-      ∙ ap (λ (b : ℕ). let x : Signed = (bare_key c (trimmed is_blank (cells at (take k text))), cell b (at + k), cells (at + (k + 1)) (drop (k + 1) text)) in Ok x) sign
+      ∙ rw n (ap (λ (b : ℕ). let x : Signed = (bare_key c (trimmed is_blank (cells at (take k text))), cell b (at + k), cells (at + (k + 1)) (drop (k + 1) text)) in Ok x) sign)
 
-  pub bare-missing : (len : ℕ) → None ≡ key_in (stops_of true) (ends_of true) (cells at text) → len ≤ length text → flow_text (cells at text) ≡ cells at (take len text)
-      → flow_key_by end above c cs rs None ≡ no_sign (next_part end above false (cells (at + len) (drop len text)) rs)
+  pub bare-missing : (len : ℕ) → None ≡ key_in (stops_of true) before_blank (cells at text) → len ≤ length text → flow_text (cells at text) ≡ cells at (take len text)
+      → flow_key_by end c cs rs None ≡ no_sign (next_part end false (cells (at + len) (drop len text)) rs)
   bare-missing len e le cut =
-      bare-by None e ∙ ap (λ (xs : List Cell). no_sign (next_part end above false xs rs)) (ap behind_text is ∙ behind-is at len text le cut)
+      bare-by None e ∙ ap (λ (xs : List Cell). no_sign (next_part end false xs rs)) (ap behind_text is ∙ behind-is at len text le cut)
 
 -- the text of a key without the blanks before its `:`
 pub trimmed-key : (at k len : ℕ) (text front : List ℕ) → front ≡ take k text → len ≤ length front → trimmed is_blank (cells at front) ≡ cells at (take len front) → trimmed is_blank (cells at (take k text)) ≡ cells at (take len text)

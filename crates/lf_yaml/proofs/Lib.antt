@@ -37,6 +37,7 @@ pub mod FileRows
 pub mod Cuts
 pub mod PartCode
 pub mod KeyCode
+pub mod KeyText
 pub mod PlaceCode
 pub mod ItemCode
 pub mod EntryTurns
@@ -46,3 +47,4 @@ pub mod InsideFlow
 pub mod InsideTrees
 pub mod InsideBreaches
 pub mod Worked
+pub mod TabCode

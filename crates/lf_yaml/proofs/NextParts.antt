@@ -8,9 +8,9 @@ use Rattle.lf_yaml.specs.Flow.{Next, at_part, on_line, next_part, begins_blank}
 use Rattle.lf_yaml.proofs.HeadLaws.{tells}
 
 -- behind the blanks, by whether there were some
-abbrev pub part_after : ℕ → ℕ → Bool → List Cell → List Row → Next
-part_after end above blank [] rs = on_line end above rs
-part_after end above blank (c ∷ cs) rs = cond (blank && eqb c.byte 35) (on_line end above rs) (at_part c cs rs)
+abbrev pub part_after : ℕ → Bool → List Cell → List Row → Next
+part_after end blank [] rs = on_line end rs
+part_after end blank (c ∷ cs) rs = cond (blank && eqb c.byte 35) (on_line end rs) (at_part c cs rs)
 
 or-true : (b : Bool) → true ≡ (b || true)
 or-true true = refl
@@ -20,13 +20,13 @@ or-false : (b : Bool) → b ≡ (b || false)
 or-false true = refl
 or-false false = refl
 
-pub next-is : (end above : ℕ) (blank : Bool) (cs : List Cell) (rs : List Row) → next_part end above blank cs rs ≡ part_after end above (blank || begins_blank cs) (after_blanks cs) rs
+pub next-is : (end : ℕ) (blank : Bool) (cs : List Cell) (rs : List Row) → next_part end blank cs rs ≡ part_after end (blank || begins_blank cs) (after_blanks cs) rs
 unfolding next_part
-next-is end above blank [] rs = refl
-next-is end above blank (c ∷ cs) rs =
+next-is end blank [] rs = refl
+next-is end blank (c ∷ cs) rs =
     elim (tells (is_blank c)) [
-      | inl a ↦ rw a (next-is end above true cs rs ∙ ap (λ (b : Bool). part_after end above b (after_blanks cs) rs) (or-true blank))
-      | inr a ↦ rw a (ap (λ (b : Bool). part_after end above b (c ∷ cs) rs) (or-false blank))
+      | inl a ↦ rw a (next-is end true cs rs ∙ ap (λ (b : Bool). part_after end b (after_blanks cs) rs) (or-true blank))
+      | inr a ↦ rw a (ap (λ (b : Bool). part_after end b (c ∷ cs) rs) (or-false blank))
     ]
 
 cells-length : (at : ℕ) (xs : List ℕ) → length (cells at xs) ≡ length xs
@@ -57,34 +57,34 @@ skipped-blank at k (x ∷ xs) le e =
           a ∙ sym (le-ltb 0 k (omega (arith, ap length f, n, m, le)))
     ]
 
-module _ (end above at k : ℕ) (text part : List ℕ) (rs : List Row) (le : k ≤ length text) (after : after_blanks (cells at text) ≡ cells (at + k) (drop k text)) (is : part ≡ drop k text) where
-  whole : next_part end above false (cells at text) rs ≡ part_after end above (ltb 0 k) (cells (at + k) part) rs
+module _ (end at k : ℕ) (text part : List ℕ) (rs : List Row) (le : k ≤ length text) (after : after_blanks (cells at text) ≡ cells (at + k) (drop k text)) (is : part ≡ drop k text) where
+  whole : next_part end false (cells at text) rs ≡ part_after end (ltb 0 k) (cells (at + k) part) rs
   whole =
-      next-is end above false (cells at text) rs ∙ ap (λ (b : Bool). part_after end above b (after_blanks (cells at text)) rs) (skipped-blank at k text le after)
-      ∙ ap (λ (cs : List Cell). part_after end above (ltb 0 k) cs rs) (after ∙ ap (cells (at + k)) (sym is))
+      next-is end false (cells at text) rs ∙ ap (λ (b : Bool). part_after end b (after_blanks (cells at text)) rs) (skipped-blank at k text le after)
+      ∙ ap (λ (cs : List Cell). part_after end (ltb 0 k) cs rs) (after ∙ ap (cells (at + k)) (sym is))
 
-  pub next-empty : length part < 1 → next_part end above false (cells at text) rs ≡ on_line end above rs
+  pub next-empty : length part < 1 → next_part end false (cells at text) rs ≡ on_line end rs
   next-empty lt = whole ∙ by part lt
     where
-      by : (xs : List ℕ) → length xs < 1 → part_after end above (ltb 0 k) (cells (at + k) xs) rs ≡ on_line end above rs
+      by : (xs : List ℕ) → length xs < 1 → part_after end (ltb 0 k) (cells (at + k) xs) rs ≡ on_line end rs
       by [] lt = refl
       by (x ∷ xs) lt = absurd (omega arith)
 
-  pub next-comment : 0 < length part → 0 < k → get_or part 0 0 ≡ 35 → next_part end above false (cells at text) rs ≡ on_line end above rs
+  pub next-comment : 0 < length part → 0 < k → get_or part 0 0 ≡ 35 → next_part end false (cells at text) rs ≡ on_line end rs
   next-comment lt pos e = whole ∙ by part lt e
     where
-      by : (xs : List ℕ) → 0 < length xs → get_or xs 0 0 ≡ 35 → part_after end above (ltb 0 k) (cells (at + k) xs) rs ≡ on_line end above rs
+      by : (xs : List ℕ) → 0 < length xs → get_or xs 0 0 ≡ 35 → part_after end (ltb 0 k) (cells (at + k) xs) rs ≡ on_line end rs
       by [] lt e = absurd (omega arith)
       by (x ∷ xs) lt e = rw (lt-ltb 0 k pos, eq-eqb x 35 e) refl
 
-  pub next-here : 0 < length part → (k ≤ 0) ⊎ (get_or part 0 0 ≢ 35) → next_part end above false (cells at text) rs ≡ at_part (cell (get_or part 0 0) (at + k)) (cells (suc (at + k)) (drop 1 part)) rs
+  pub next-here : 0 < length part → (k ≤ 0) ⊎ (get_or part 0 0 ≢ 35) → next_part end false (cells at text) rs ≡ at_part (cell (get_or part 0 0) (at + k)) (cells (suc (at + k)) (drop 1 part)) rs
   next-here lt h = whole ∙ by part lt h
     where
       and-false : (b : Bool) → (b && false) ≡ false
       and-false true = refl
       and-false false = refl
 
-      by : (xs : List ℕ) → 0 < length xs → (k ≤ 0) ⊎ (get_or xs 0 0 ≢ 35) → part_after end above (ltb 0 k) (cells (at + k) xs) rs ≡ at_part (cell (get_or xs 0 0) (at + k)) (cells (suc (at + k)) (drop 1 xs)) rs
+      by : (xs : List ℕ) → 0 < length xs → (k ≤ 0) ⊎ (get_or xs 0 0 ≢ 35) → part_after end (ltb 0 k) (cells (at + k) xs) rs ≡ at_part (cell (get_or xs 0 0) (at + k)) (cells (suc (at + k)) (drop 1 xs)) rs
       by [] lt h = absurd (omega arith)
       by (x ∷ xs) lt (inl none) = rw (le-ltb 0 k none) refl
       by (x ∷ xs) lt (inr ne) = rw (ne_eqb x 35 ne, and-false (ltb 0 k)) refl

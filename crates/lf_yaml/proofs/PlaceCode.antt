@@ -27,20 +27,20 @@ left-of-part bytes part next from left full same le =
     let n : length (shown part).rest ≡ length part.text.now - 1 = ap (λ (k : ℕ). k) (omega (arith, cells-length (suc part.at) (drop 1 part.text.now), length-drop 1 part.text.now)) in
     turns-within left (shown part).rest (rows_after bytes from) (rows_after bytes next) 1 (omega (arith, n, le, full)) (ap (rows_after bytes) same)
 
-pub part-further : (end above : ℕ) (bytes : List ℕ) (cs : List Cell) (rs : List Row) (part : CodeRow) (next : ℕ) → next_part end above false cs rs ≡ at_part (shown part).first (shown part).rest (rows_after bytes next)
+pub part-further : (end : ℕ) (bytes : List ℕ) (cs : List Cell) (rs : List Row) (part : CodeRow) (next : ℕ) → next_part end false cs rs ≡ at_part (shown part).first (shown part).rest (rows_after bytes next)
     → turns (shown part).rest (rows_after bytes next) < turns cs rs
-part-further end above bytes cs rs part next e = (next-further end above false cs rs (rows_after bytes next) (shown part).first (shown part).rest e).turns_fall
+part-further end bytes cs rs part next e = (next-further end false cs rs (rows_after bytes next) (shown part).first (shown part).rest e).turns_fall
 
-pub stays-behind : (end above : ℕ) (bytes : List ℕ) (cs : List Cell) (rs : List Row) (part : CodeRow) (next from : ℕ) (left : List Cell) → 0 < length part.text.now → next_part end above false cs rs ≡ at_part (shown part).first (shown part).rest (rows_after bytes next)
+pub stays-behind : (end : ℕ) (bytes : List ℕ) (cs : List Cell) (rs : List Row) (part : CodeRow) (next from : ℕ) (left : List Cell) → 0 < length part.text.now → next_part end false cs rs ≡ at_part (shown part).first (shown part).rest (rows_after bytes next)
     → from ≡ next → length left ≤ length part.text.now → turns left (rows_after bytes from) ≤ turns cs rs
-stays-behind end above bytes cs rs part next from left full e same le = omega (arith, left-of-part bytes part next from left full same le, part-further end above bytes cs rs part next e)
+stays-behind end bytes cs rs part next from left full e same le = omega (arith, left-of-part bytes part next from left full same le, part-further end bytes cs rs part next e)
 
 -- behind a sign
-pub past-sign : (end above : ℕ) (bytes : List ℕ) (cs : List Cell) (rs : List Row) (part : CodeRow) (next from : ℕ) (left : List Cell) → next_part end above false cs rs ≡ at_part (shown part).first (shown part).rest (rows_after bytes next)
+pub past-sign : (end : ℕ) (bytes : List ℕ) (cs : List Cell) (rs : List Row) (part : CodeRow) (next from : ℕ) (left : List Cell) → next_part end false cs rs ≡ at_part (shown part).first (shown part).rest (rows_after bytes next)
     → from ≡ next → left ≡ cells (part.at + 1) (drop 1 part.text.now) → turns left (rows_after bytes from) < turns cs rs
-past-sign end above bytes cs rs part next from left e same is =
+past-sign end bytes cs rs part next from left e same is =
     let n : length left ≤ length (shown part).rest + 0 = omega (arith, ap length is, cells-length (part.at + 1) (drop 1 part.text.now), cells-length (suc part.at) (drop 1 part.text.now)) in
-    omega (arith, turns-within left (shown part).rest (rows_after bytes from) (rows_after bytes next) 0 n (ap (rows_after bytes) same), part-further end above bytes cs rs part next e)
+    omega (arith, turns-within left (shown part).rest (rows_after bytes from) (rows_after bytes next) 0 n (ap (rows_after bytes) same), part-further end bytes cs rs part next e)
 
 -- behind the `:` of a key
 pub past-key : (bytes : List ℕ) (part : CodeRow) (next from k : ℕ) (left : List Cell) → from ≡ next → left ≡ cells (part.at + (k + 1)) (drop (k + 1) part.text.now) → turns left (rows_after bytes from) ≤ turns (shown part).rest (rows_after bytes next)

@@ -2,10 +2,11 @@
 use Rattle.std.proofs.Common.{◌≡◌, ℕ, zero, suc, ◌+◌, Bool, true, false, eqb, cond, List, [], ◌∷◌, ◌++◌, length, drop, Some, None, refl, ap, arith, sym, ◌∙◌, subst, append_assoc, inl, inr}
 use Rattle.std.specs.List.{AllByRecursion}
 use Rattle.lf_scalar.specs.Cells.{Cell, cell, cells}
-use Rattle.lf_scalar.specs.Lines.{Line, line, lengthen, lines, first_text, is_blank, after_spaces, is_content}
+use Rattle.lf_scalar.specs.Lines.{Line, line, lengthen, lines, first_text, begins_with, is_blank, after_spaces}
 use Rattle.lf_scalar.specs.Scalars.{source_at}
 use Rattle.lf_scalar.proofs.LineSteps.{line-step, lines-nil, lines-feed, lines-return, lines-other}
-use Rattle.lf_yaml.specs.Rows.{Row, row, text_of, start_of, headed, content_row, rows_of, left_of}
+use Rattle.lf_scalar.specs.Lines.{start_of}
+use Rattle.lf_yaml.specs.Rows.{Row, row, text_of, headed, content_row, rows_of, left_of}
 pub use Rattle.lf_yaml.specs.views.Cursor.{IsPlaced}
 use Rattle.lf_yaml.proofs.HeadLaws.{tells}
 
@@ -164,7 +165,7 @@ after-suffix (c ∷ cs) =
 
 -- a line's row stands in the file
 row-placed : (bytes : List ℕ) (at : ℕ) (l : Line) → Stands (length bytes) at (drop at bytes) l → ArePlaced bytes (content_row l)
-row-placed bytes at l h = by (is_content l) (after_spaces l.text) (after-suffix l.text)
+row-placed bytes at l h = by (begins_with 35 (after_spaces l.text)) (after_spaces l.text) (after-suffix l.text)
   where
     text : (cs : List Cell) → (front : List Cell) × (l.text ≡ front ++ cs) → ArePlaced bytes (headed (start_of l) cs)
     text [] f = tt
@@ -181,9 +182,9 @@ row-placed bytes at l h = by (is_content l) (after_spaces l.text) (after-suffix 
             let whole : IsPlaced bytes (row 0 x (front ++ c ∷ cs)) = ap (λ (xs : List Cell). first_text (lines (length bytes) xs)) d ∙ k.2 in
             placed-behind bytes (row 0 x (front ++ c ∷ cs)) (start_of l) (x ∷ front) c cs whole refl
 
-    by : (b : Bool) (cs : List Cell) → (front : List Cell) × (l.text ≡ front ++ cs) → ArePlaced bytes (cond b (headed (start_of l) cs) [])
-    by true cs f = text cs f
-    by false cs f = tt
+    by : (b : Bool) (cs : List Cell) → (front : List Cell) × (l.text ≡ front ++ cs) → ArePlaced bytes (cond b [] (headed (start_of l) cs))
+    by true cs f = tt
+    by false cs f = text cs f
 
 append-placed : (bytes : List ℕ) (rs ss : List Row) → ArePlaced bytes rs → ArePlaced bytes ss → ArePlaced bytes (rs ++ ss)
 append-placed bytes [] ss h k = k

@@ -66,9 +66,9 @@ quote-begins kind end c src e =
     by Double [] e = eq-eqb c.byte 34 e
     by Double (l ∷ ls) e = eq-eqb c.byte 34 e
 
-quoted-reading : (kind : Quotes) (above end : ℕ) (c : Cell) (src : List Cell) → reading (style_of_quotes kind) above end (c ∷ src) ≡ quoted_of kind above end c src
-quoted-reading Single above end c src = refl
-quoted-reading Double above end c src = refl
+quoted-reading : (kind : Quotes) (end : ℕ) (c : Cell) (src : List Cell) → reading (style_of_quotes kind) 0 end (c ∷ src) ≡ quoted_of kind end c src
+quoted-reading Single end c src = refl
+quoted-reading Double end c src = refl
 
 -- what is read from the cut file
 pub cut-reading : (kind : Quotes) (bytes inside : List ℕ) (at k q : ℕ) → q ∷ inside ≡ take (length inside + 1) (drop at bytes) → k < length inside → at + k + 2 ≤ length bytes
@@ -79,7 +79,7 @@ cut-reading kind bytes inside at k q e lt le =
     let z : suc at ≡ at + 1 = omega arith in
     let t : cells (suc at) (take (k + 1) inside) ≡ cells (at + 1) (take k inside) ++ cell (get_or inside k 0) (at + 1 + k) ∷ [] = ap (λ (m : ℕ). cells m (take (k + 1) inside)) z ∙ cells-take (at + 1) inside k lt in
     ap (λ (m : ℕ). reading (style_of_quotes kind) 0 m (source_at (take (at + k + 2) bytes) at)) n ∙ ap (reading (style_of_quotes kind) 0 (at + 1 + k + 1)) s
-    ∙ quoted-reading kind 0 (at + 1 + k + 1) (cell q at) (cells (suc at) (take (k + 1) inside)) ∙ ap (quoted_of kind 0 (at + 1 + k + 1) (cell q at)) t
+    ∙ quoted-reading kind (at + 1 + k + 1) (cell q at) (cells (suc at) (take (k + 1) inside)) ∙ ap (quoted_of kind (at + 1 + k + 1) (cell q at)) t
 
 get-of-take : (n : ℕ) (xs ys : List ℕ) (i : ℕ) → xs ≡ take n ys → i < length xs → get_or xs i 0 ≡ get_or ys i 0
 get-of-take n xs ys i e lt = ap (λ (zs : List ℕ). get_or zs i 0) e ∙ get_or-take n ys i 0 (omega (arith, lt, ap length e, length-take n ys))

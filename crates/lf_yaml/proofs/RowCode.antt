@@ -5,16 +5,10 @@ use Rattle.std.proofs.lemmas.List.{drop_all}
 use Rattle.lf_scalar.specs.Cells.{Cell, cell, cells}
 use Rattle.lf_scalar.specs.Lines.{is_blank}
 use Rattle.lf_scalar.proofs.Cells.{cells-drop}
-use Rattle.lf_yaml.specs.Rows.{Row, row, text_of, indent, is_thrice, is_mark, left_of}
+use Rattle.lf_scalar.specs.Markers.{is_thrice}
+use Rattle.lf_yaml.specs.Rows.{Row, row, text_of, indent, is_mark, left_of}
 use Rattle.lf_yaml.specs.views.Shown.{shown}
 use Rattle.lf_yaml.specs.declared.row.Row.{Row as CodeRow}
-
--- fewer than three bytes are no byte three times
-pub thrice-short : (b : ℕ) (xs : List ℕ) → length xs < 3 → (at : ℕ) → false ≡ is_thrice b (cells at xs)
-thrice-short b [] lt at = refl
-thrice-short b (x ∷ []) lt at = refl
-thrice-short b (x ∷ y ∷ []) lt at = refl
-thrice-short b (x ∷ y ∷ z ∷ xs) lt at = absurd (omega arith)
 
 -- what is left of a line from a place on
 abbrev pub left_from : ℕ → ℕ → List ℕ → ℕ → Option Row

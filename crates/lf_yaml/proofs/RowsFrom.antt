@@ -3,9 +3,10 @@ use Rattle.std.proofs.Common.{◌≡◌, ℕ, ◌<◌, ◌≤◌, Bool, true, fa
 use Rattle.std.specs.List.{AllByRecursion}
 use Rattle.std.proofs.lemmas.Bool.{le-ltb, lt-ltb}
 use Rattle.lf_scalar.specs.Cells.{Cell, cells}
-use Rattle.lf_scalar.specs.Lines.{Line, line, lines, is_content, after_spaces}
+use Rattle.lf_scalar.specs.Lines.{Line, line, lines, begins_with, after_spaces}
 use Rattle.lf_scalar.specs.Scalars.{source_at}
-use Rattle.lf_yaml.specs.Rows.{Row, start_of, headed, content_row, rows_of, rows_from}
+use Rattle.lf_scalar.specs.Lines.{start_of}
+use Rattle.lf_yaml.specs.Rows.{Row, headed, content_row, rows_of, rows_from}
 use Rattle.lf_yaml.specs.views.Cursor.{rows_after}
 use Rattle.lf_yaml.proofs.Placed.{Stands, AllStand, lines-stand, after-suffix}
 use Rattle.lf_yaml.proofs.RowsAfter.{rows-past}
@@ -21,11 +22,11 @@ no-cells from feed [] rs offset lt = refl
 no-cells from feed (x ∷ xs) rs offset lt = dropped offset from (after_spaces (cells from (x ∷ xs))) rs lt
 
 pub line-before : (from feed : ℕ) (text : List ℕ) (rs : List Row) (offset : ℕ) → from < offset → rows_from offset (content_row (line (cells from text) feed) ++ rs) ≡ rows_from offset rs
-line-before from feed text rs offset lt = by (is_content (line (cells from text) feed))
+line-before from feed text rs offset lt = by (begins_with 35 (after_spaces (cells from text)))
   where
-    by : (b : Bool) → rows_from offset (cond b (headed (start_of (line (cells from text) feed)) (after_spaces (cells from text))) [] ++ rs) ≡ rows_from offset rs
-    by true = no-cells from feed text rs offset lt
-    by false = refl
+    by : (b : Bool) → rows_from offset (cond b [] (headed (start_of (line (cells from text) feed)) (after_spaces (cells from text))) ++ rs) ≡ rows_from offset rs
+    by true = refl
+    by false = no-cells from feed text rs offset lt
 
 pub step-from : (bytes : List ℕ) (from next behind offset : ℕ) (text : List ℕ) → next < offset → (feed : ℕ) × (rows_after bytes next ≡ content_row (line (cells next text) feed) ++ rows_after bytes behind)
     → rows_from offset (rows_after bytes next) ≡ rows_from offset (rows_after bytes from) → rows_from offset (rows_after bytes behind) ≡ rows_from offset (rows_after bytes from)
@@ -45,7 +46,7 @@ append-begins at [] ss h k = k
 append-begins at (r ∷ rs) ss h k = (h.0, append-begins at rs ss h.1 k)
 
 line-begins : (end at : ℕ) (bs : List ℕ) (l : Line) → Stands end at bs l → Begin at (content_row l)
-line-begins end at bs l h = by (is_content l) (after-suffix l.text)
+line-begins end at bs l h = by (begins_with 35 (after_spaces l.text)) (after-suffix l.text)
   where
     text : (cs after : List Cell) → l.text ≡ cs → (front : List Cell) × (cs ≡ front ++ after) → Begin at (headed (start_of l) after)
     text [] [] e f = tt
@@ -56,9 +57,9 @@ line-begins end at bs l h = by (is_content l) (after-suffix l.text)
         let s : start_of l ≡ c.at = ap (λ (xs : List Cell). start_of (line xs l.break)) e in
         headed-begins at (start_of l) after (omega (arith, s, k.1))
 
-    by : (b : Bool) → (front : List Cell) × (l.text ≡ front ++ after_spaces l.text) → Begin at (cond b (headed (start_of l) (after_spaces l.text)) [])
-    by true f = text l.text (after_spaces l.text) refl f
-    by false f = tt
+    by : (b : Bool) → (front : List Cell) × (l.text ≡ front ++ after_spaces l.text) → Begin at (cond b [] (headed (start_of l) (after_spaces l.text)))
+    by true f = tt
+    by false f = text l.text (after_spaces l.text) refl f
 
 lines-begin : (end at : ℕ) (bs : List ℕ) (ls : List Line) → AllStand end at bs ls → Begin at (rows_of ls)
 unfolding rows_of

@@ -3,9 +3,10 @@ use Rattle.std.proofs.Common.{◌≡◌, ℕ, ◌+◌, ◌<◌, ◌≤◌, Bool,
 use Rattle.std.proofs.lemmas.List.{append-nil, drop_all}
 use Rattle.lf_scalar.specs.Cells.{Cell, cell, cells}
 use Rattle.lf_scalar.specs.Lines.{is_blank, begins_with}
+use Rattle.lf_scalar.specs.Plain.{before_blank}
 use Rattle.lf_scalar.proofs.Cells.{cells-drop, cells-take}
 use Rattle.lf_yaml.specs.Heads.{Split, behind_cell, key_in}
-use Rattle.lf_yaml.specs.views.Signs.{stops_of, ends_of, split_at}
+use Rattle.lf_yaml.specs.views.Signs.{stops_of, split_at}
 
 abbrev pub ahead : List Cell → Option Split → Option Split
 ahead cs None = None
@@ -17,12 +18,12 @@ ahead-behind cs c (Some x) = ap (λ (xs : List Cell). Some (xs, x.1, x.2)) (sym 
 
 -- what ends a key, where the first bytes are passed
 abbrev pub key_from : Bool → ℕ → List ℕ → ℕ → Option Split
-key_from flow at text i = ahead (cells at (take i text)) (key_in (stops_of flow) (ends_of flow) (cells (at + i) (drop i text)))
+key_from flow at text i = ahead (cells at (take i text)) (key_in (stops_of flow) before_blank (cells (at + i) (drop i text)))
 
-pub key-start : (flow : Bool) (at : ℕ) (text : List ℕ) → key_from flow at text 0 ≡ key_in (stops_of flow) (ends_of flow) (cells at text)
+pub key-start : (flow : Bool) (at : ℕ) (text : List ℕ) → key_from flow at text 0 ≡ key_in (stops_of flow) before_blank (cells at text)
 key-start flow at text =
     let z : at + 0 ≡ at = omega arith in
-    ap (λ (n : ℕ). ahead [] (key_in (stops_of flow) (ends_of flow) (cells n text))) z ∙ same (key_in (stops_of flow) (ends_of flow) (cells at text))
+    ap (λ (n : ℕ). ahead [] (key_in (stops_of flow) before_blank (cells n text))) z ∙ same (key_in (stops_of flow) before_blank (cells at text))
   where
     same : (o : Option Split) → ahead [] o ≡ o
     same None = refl
@@ -35,33 +36,33 @@ module _ (flow : Bool) (at : ℕ) (text : List ℕ) (i : ℕ) (lt : i < length t
   abbrev following : List Cell
   following = cells (at + (i + 1)) (drop (i + 1) text)
 
-  first : key_from flow at text i ≡ ahead (cells at (take i text)) (key_in (stops_of flow) (ends_of flow) (here ∷ following))
-  first = ap (λ (cs : List Cell). ahead (cells at (take i text)) (key_in (stops_of flow) (ends_of flow) cs)) (cells-drop at text i lt)
+  first : key_from flow at text i ≡ ahead (cells at (take i text)) (key_in (stops_of flow) before_blank (here ∷ following))
+  first = ap (λ (cs : List Cell). ahead (cells at (take i text)) (key_in (stops_of flow) before_blank cs)) (cells-drop at text i lt)
 
-  pub key-found : (eqb (get_or text i 0) 58 && ends_of flow following) ≡ true → key_from flow at text i ≡ Some (split_at at text i)
+  pub key-found : (eqb (get_or text i 0) 58 && before_blank following) ≡ true → key_from flow at text i ≡ Some (split_at at text i)
   unfolding key_in
   key-found e = first ∙ rw e (ap (λ (cs : List Cell). Some (cs, here, following)) (append-nil (cells at (take i text))))
 
-  pub key-stopped : (eqb (get_or text i 0) 58 && ends_of flow following) ≡ false → stops_of flow here ≡ true → key_from flow at text i ≡ None
+  pub key-stopped : (eqb (get_or text i 0) 58 && before_blank following) ≡ false → stops_of flow here ≡ true → key_from flow at text i ≡ None
   unfolding key_in
   key-stopped e s = first ∙ rw (e, s) refl
 
-  pub key-commented : (eqb (get_or text i 0) 58 && ends_of flow following) ≡ false → stops_of flow here ≡ false → (is_blank here && begins_with 35 following) ≡ true → key_from flow at text i ≡ None
+  pub key-commented : (eqb (get_or text i 0) 58 && before_blank following) ≡ false → stops_of flow here ≡ false → (is_blank here && begins_with 35 following) ≡ true → key_from flow at text i ≡ None
   unfolding key_in
   key-commented e s b = first ∙ rw (e, s, b) refl
 
-  pub key-goes : (eqb (get_or text i 0) 58 && ends_of flow following) ≡ false → stops_of flow here ≡ false → (is_blank here && begins_with 35 following) ≡ false → key_from flow at text i ≡ key_from flow at text (i + 1)
+  pub key-goes : (eqb (get_or text i 0) 58 && before_blank following) ≡ false → stops_of flow here ≡ false → (is_blank here && begins_with 35 following) ≡ false → key_from flow at text i ≡ key_from flow at text (i + 1)
   unfolding key_in
-  key-goes e s b = first ∙ rw (e, s, b, cells-take at text i lt) (ahead-behind (cells at (take i text)) here (key_in (stops_of flow) (ends_of flow) following))
+  key-goes e s b = first ∙ rw (e, s, b, cells-take at text i lt) (ahead-behind (cells at (take i text)) here (key_in (stops_of flow) before_blank following))
 
 pub key-end : (flow : Bool) (at : ℕ) (text : List ℕ) (i : ℕ) → length text ≤ i → key_from flow at text i ≡ None
 unfolding key_in
-key-end flow at text i le = ap (λ (xs : List ℕ). ahead (cells at (take i text)) (key_in (stops_of flow) (ends_of flow) (cells (at + i) xs))) (drop_all i text le)
+key-end flow at text i le = ap (λ (xs : List ℕ). ahead (cells at (take i text)) (key_in (stops_of flow) before_blank (cells (at + i) xs))) (drop_all i text le)
 
 -- the tests of the code at a place, from what they say of the bytes behind it
-pub ends-value : (flow v : Bool) (at b i : ℕ) (text rest : List ℕ) (result : Bool) → rest ≡ drop (i + 1) text → ((a : ℕ) → result ≡ (eqb b 58 && ends_of flow (cells a rest))) → result ≡ v
-    → (eqb b 58 && ends_of flow (cells (at + (i + 1)) (drop (i + 1) text))) ≡ v
-ends-value flow v at b i text rest result e h r = subst (λ (xs : List ℕ). (eqb b 58 && ends_of flow (cells (at + (i + 1)) xs)) ≡ v) e (sym (h (at + (i + 1))) ∙ r)
+pub ends-value : (v : Bool) (at b i : ℕ) (text rest : List ℕ) (result : Bool) → rest ≡ drop (i + 1) text → ((a : ℕ) → result ≡ (eqb b 58 && before_blank (cells a rest))) → result ≡ v
+    → (eqb b 58 && before_blank (cells (at + (i + 1)) (drop (i + 1) text))) ≡ v
+ends-value v at b i text rest result e h r = subst (λ (xs : List ℕ). (eqb b 58 && before_blank (cells (at + (i + 1)) xs)) ≡ v) e (sym (h (at + (i + 1))) ∙ r)
 
 pub comments-value : (v : Bool) (at b i : ℕ) (text rest : List ℕ) (result : Bool) → rest ≡ drop (i + 1) text → ((a : ℕ) → result ≡ (is_blank (cell b a) && begins_with 35 (cells a rest))) → result ≡ v
     → (is_blank (cell b (at + i)) && begins_with 35 (cells (at + (i + 1)) (drop (i + 1) text))) ≡ v

@@ -53,11 +53,11 @@ module _ (bytes : List ℕ) (above : ℕ) where
   abbrev end : ℕ
   end = length bytes
 
-  list-on : (d : ℕ) (r : Row) (rs : List Row) → r.first.byte ≡ 91 → value_on bytes above d r rs ≡ flow_list end above d r rs
+  list-on : (d : ℕ) (r : Row) (rs : List Row) → r.first.byte ≡ 91 → value_on bytes above d r rs ≡ flow_list end d r rs
   unfolding value_on
   list-on d r rs e = rw (no-scalar 91 r refl e, eq-eqb r.first.byte 91 e) refl
 
-  map-on : (d : ℕ) (r : Row) (rs : List Row) → r.first.byte ≡ 123 → value_on bytes above d r rs ≡ flow_map end above d r rs
+  map-on : (d : ℕ) (r : Row) (rs : List Row) → r.first.byte ≡ 123 → value_on bytes above d r rs ≡ flow_map end d r rs
   unfolding value_on
   map-on d r rs e = rw (no-scalar 123 r refl e, no-91 r.first.byte e, eq-eqb r.first.byte 123 e) refl
 
@@ -65,10 +65,10 @@ module _ (bytes : List ℕ) (above : ℕ) where
   unfolding value_on
   value-is d r _ _ _ (nodes.ValueAt.scalar {v = v} rs b h) = rw b (ap (scalar_value rs) (scalars.is_read (style_of r.first) above end (source_at bytes r.first.at) v h))
   value-is _ r rs _ rest (nodes.ValueAt.flow_sequence {d = d} {is = is} {closing = closing} {behind = behind} e h b) =
-      list-on (suc d) r rs e ∙ ap (closed_list r) (sequence-is end above (suc (turns r.rest rs)) r.rest rs is closing behind rest (omega arith) h)
+      list-on (suc d) r rs e ∙ ap (closed_list r) (sequence-is end (suc (turns r.rest rs)) r.rest rs is closing behind rest (omega arith) h)
       ∙ ap (alone (λ (is : Items) (closing : Cell). sequence is (span r.first.at (suc closing.at))) (is, closing, behind, rest)) (tail-told false behind b)
   value-is _ r rs _ rest (nodes.ValueAt.flow_mapping {d = d} {es = es} {closing = closing} {behind = behind} e h b) =
-      map-on (suc d) r rs e ∙ ap (closed_map r) (mapping-is end above (suc (turns r.rest rs)) [] r.rest rs es closing behind rest (omega arith) h)
+      map-on (suc d) r rs e ∙ ap (closed_map r) (mapping-is end (suc (turns r.rest rs)) [] r.rest rs es closing behind rest (omega arith) h)
       ∙ ap (alone (λ (es : Entries) (closing : Cell). mapping es (span r.first.at (suc closing.at))) (es, closing, behind, rest)) (tail-told false behind b)
 
   nothing-on : (d : ℕ) (r : Row) (rs : List Row) → begins_scalar r ≡ false → is_bracket r.first ≡ false → value_on bytes above d r rs ≡ Err (row_fault r)
@@ -88,14 +88,14 @@ module _ (bytes : List ℕ) (above : ℕ) where
   value-breaks d r rs _ (breaches.ValueBreaks.no_value e xs b n) = nothing-on d r rs b n
   value-breaks _ r rs _ (breaches.ValueBreaks.deep xs h) = deep-on r rs h
   value-breaks _ r rs _ (breaches.ValueBreaks.flow_sequence {f = f} d e h) =
-      list-on (suc d) r rs e ∙ ap (closed_list r) (sequence-breaks end above (suc (turns r.rest rs)) r.rest rs f (omega arith) h)
+      list-on (suc d) r rs e ∙ ap (closed_list r) (sequence-breaks end (suc (turns r.rest rs)) r.rest rs f (omega arith) h)
   value-breaks _ r rs _ (breaches.ValueBreaks.behind_sequence {rest = rest} {is = is} {closing = closing} {wrong = wrong} {behind = behind} d e h w) =
-      list-on (suc d) r rs e ∙ ap (closed_list r) (sequence-is end above (suc (turns r.rest rs)) r.rest rs is closing behind rest (omega arith) h)
+      list-on (suc d) r rs e ∙ ap (closed_list r) (sequence-is end (suc (turns r.rest rs)) r.rest rs is closing behind rest (omega arith) h)
       ∙ ap (alone (λ (is : Items) (closing : Cell). sequence is (span r.first.at (suc closing.at))) (is, closing, behind, rest)) (wrong-told false behind wrong (from-front behind wrong w))
   value-breaks _ r rs _ (breaches.ValueBreaks.flow_mapping {f = f} d e h) =
-      map-on (suc d) r rs e ∙ ap (closed_map r) (mapping-breaks end above (suc (turns r.rest rs)) [] r.rest rs f (omega arith) h)
+      map-on (suc d) r rs e ∙ ap (closed_map r) (mapping-breaks end (suc (turns r.rest rs)) [] r.rest rs f (omega arith) h)
   value-breaks _ r rs _ (breaches.ValueBreaks.behind_mapping {rest = rest} {es = es} {closing = closing} {wrong = wrong} {behind = behind} d e h w) =
-      map-on (suc d) r rs e ∙ ap (closed_map r) (mapping-is end above (suc (turns r.rest rs)) [] r.rest rs es closing behind rest (omega arith) h)
+      map-on (suc d) r rs e ∙ ap (closed_map r) (mapping-is end (suc (turns r.rest rs)) [] r.rest rs es closing behind rest (omega arith) h)
       ∙ ap (alone (λ (es : Entries) (closing : Cell). mapping es (span r.first.at (suc closing.at))) (es, closing, behind, rest)) (wrong-told false behind wrong (from-front behind wrong w))
 
   abbrev pub ValueTold : ℕ → Row → List Row → Read Tree → Type 0
@@ -116,7 +116,7 @@ module _ (bytes : List ℕ) (above : ℕ) where
       ap (begins (style_of r.first)) placed ∙ and-left (begins (style_of r.first) (text_of r)) (not (is_left_out r)) b in
       scalar-told d r rs b (scalar_on bytes above r) (scalars.tells (style_of r.first) above end (source_at bytes r.first.at) h)
 
-  list-told : (d : ℕ) (r : Row) (rs : List Row) → r.first.byte ≡ 91 → (read : FlowRead Items) → SequenceTold end above r.rest rs read → ValueTold (suc d) r rs (closed_list r read)
+  list-told : (d : ℕ) (r : Row) (rs : List Row) → r.first.byte ≡ 91 → (read : FlowRead Items) → SequenceTold end r.rest rs read → ValueTold (suc d) r rs (closed_list r read)
   list-told d r rs e (Ok x) h = by (wrong_behind false x.2) refl
     where
       by : (o : Option Cell) → wrong_behind false x.2 ≡ o → ValueTold (suc d) r rs (alone (λ (is : Items) (closing : Cell). sequence is (span r.first.at (suc closing.at))) x o)
@@ -124,7 +124,7 @@ module _ (bytes : List ℕ) (above : ℕ) where
       by (Some wrong) w = breaches.ValueBreaks.behind_sequence d e h (to-front x.2 wrong (told-wrong false x.2 wrong w))
   list-told d r rs e (Err f) h = breaches.ValueBreaks.flow_sequence d e h
 
-  map-told : (d : ℕ) (r : Row) (rs : List Row) → r.first.byte ≡ 123 → (read : FlowRead Entries) → MappingTold end above [] r.rest rs read → ValueTold (suc d) r rs (closed_map r read)
+  map-told : (d : ℕ) (r : Row) (rs : List Row) → r.first.byte ≡ 123 → (read : FlowRead Entries) → MappingTold end [] r.rest rs read → ValueTold (suc d) r rs (closed_map r read)
   map-told d r rs e (Ok x) h = by (wrong_behind false x.2) refl
     where
       by : (o : Option Cell) → wrong_behind false x.2 ≡ o → ValueTold (suc d) r rs (alone (λ (es : Entries) (closing : Cell). mapping es (span r.first.at (suc closing.at))) x o)
@@ -132,13 +132,13 @@ module _ (bytes : List ℕ) (above : ℕ) where
       by (Some wrong) w = breaches.ValueBreaks.behind_mapping d e h (to-front x.2 wrong (told-wrong false x.2 wrong w))
   map-told d r rs e (Err f) h = breaches.ValueBreaks.flow_mapping d e h
 
-  list-tells : (d : ℕ) (r : Row) (rs : List Row) → r.first.byte ≡ 91 → is_bracket r.first ≡ true → ValueTold d r rs (flow_list end above d r rs)
+  list-tells : (d : ℕ) (r : Row) (rs : List Row) → r.first.byte ≡ 91 → is_bracket r.first ≡ true → ValueTold d r rs (flow_list end d r rs)
   list-tells zero r rs e b = breaches.ValueBreaks.deep rs b
-  list-tells (suc d) r rs e b = list-told d r rs e (sequence_in end above (suc (turns r.rest rs)) r.rest rs) (sequence-tells end above (suc (turns r.rest rs)) r.rest rs (omega arith))
+  list-tells (suc d) r rs e b = list-told d r rs e (sequence_in end (suc (turns r.rest rs)) r.rest rs) (sequence-tells end (suc (turns r.rest rs)) r.rest rs (omega arith))
 
-  map-tells : (d : ℕ) (r : Row) (rs : List Row) → r.first.byte ≡ 123 → is_bracket r.first ≡ true → ValueTold d r rs (flow_map end above d r rs)
+  map-tells : (d : ℕ) (r : Row) (rs : List Row) → r.first.byte ≡ 123 → is_bracket r.first ≡ true → ValueTold d r rs (flow_map end d r rs)
   map-tells zero r rs e b = breaches.ValueBreaks.deep rs b
-  map-tells (suc d) r rs e b = map-told d r rs e (mapping_in end above (suc (turns r.rest rs)) [] r.rest rs) (mapping-tells end above (suc (turns r.rest rs)) [] r.rest rs (omega arith))
+  map-tells (suc d) r rs e b = map-told d r rs e (mapping_in end (suc (turns r.rest rs)) [] r.rest rs) (mapping-tells end (suc (turns r.rest rs)) [] r.rest rs (omega arith))
 
   pub value-tells : (d : ℕ) (r : Row) (rs : List Row) → IsPlaced bytes r → ValueTold d r rs (value_on bytes above d r rs)
   unfolding value_on
@@ -166,5 +166,5 @@ module _ (bytes : List ℕ) (above : ℕ) where
 
   pub value-rows : (d : ℕ) (r : Row) (rs : List Row) (t : Tree) (rest : List Row) → ValueAt bytes above d r rs t rest → IsEnd rs rest
   value-rows d r _ _ _ (nodes.ValueAt.scalar {v = v} rs b h) = from-end v.span.end rs
-  value-rows _ r rs _ rest (nodes.ValueAt.flow_sequence {is = is} {closing = closing} {behind = behind} e h b) = sequence-rows end above r.rest rs is closing behind rest h
-  value-rows _ r rs _ rest (nodes.ValueAt.flow_mapping {es = es} {closing = closing} {behind = behind} e h b) = mapping-rows end above [] r.rest rs es closing behind rest h
+  value-rows _ r rs _ rest (nodes.ValueAt.flow_sequence {is = is} {closing = closing} {behind = behind} e h b) = sequence-rows end r.rest rs is closing behind rest h
+  value-rows _ r rs _ rest (nodes.ValueAt.flow_mapping {es = es} {closing = closing} {behind = behind} e h b) = mapping-rows end [] r.rest rs es closing behind rest h

@@ -14,7 +14,7 @@ use Rattle.lf_scalar.proofs.Utf8Lines.{utf8-nil, utf8-low}
 use Rattle.lf_yaml.specs.Characters.{is_wrong, NoneWrong, AreCharacters}
 use Rattle.lf_yaml.specs.Tree.{Tree, leaf, mapping, no_entries, entry}
 use Rattle.lf_yaml.specs.Rows.{rows_of}
-use Rattle.lf_yaml.specs.Heads.{key_in}
+use Rattle.lf_yaml.specs.Keys.{key_in}
 use Rattle.lf_yaml.specs.Document.{IsTree, TreeBreaks}
 use Rattle.lf_yaml.specs.reading.Trees.{entry_of, key_of, opens_quote, value_on, items, entries, node_at, document_of}
 use Rattle.lf_yaml.proofs.Whole.{document-decides}

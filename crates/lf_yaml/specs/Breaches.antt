@@ -6,7 +6,7 @@ use Rattle.lf_base.specs.Faults.{fault}
 use Rattle.lf_scalar.specs.Cells.{Cell, Value, byte_fault, character_fault}
 use Rattle.lf_scalar.specs.Quoted.{WrongBehind}
 use Rattle.lf_scalar.specs.Scalars.{BreaksStyle, source_at}
-use Rattle.lf_yaml.specs.Rows.{Row, indent, left_of, indent_fault, row_fault}
+use Rattle.lf_yaml.specs.Rows.{Row, indent, left_of, tab_in, indent_fault, row_fault}
 use Rattle.lf_yaml.specs.Heads.{is_item, Key, IsKey, KeyBreaks, BeginsEntry, NoEntry, BeginsBlock, BeginsNoBlock, OpensQuote, style_of, begins_scalar}
 use Rattle.lf_yaml.specs.Flow.{is_bracket, SequenceIn, SequenceBreaks, MappingIn, MappingBreaks}
 use Rattle.lf_yaml.specs.Tree.{Tree, Items, Entries}
@@ -20,11 +20,11 @@ pub data ValueBreaks (bytes : List ℕ) (above : ℕ) : ℕ → Row → List Row
   scalar : {d : ℕ} {r : Row} {f : Fault} (rs : List Row) → begins_scalar r ≡ true → ScalarBreaksOn bytes above r f → ValueBreaks bytes above d r rs f
   no_value : {r : Row} (d : ℕ) (rs : List Row) → begins_scalar r ≡ false → is_bracket r.first ≡ false → ValueBreaks bytes above d r rs (row_fault r)
   deep : {r : Row} (rs : List Row) → is_bracket r.first ≡ true → ValueBreaks bytes above zero r rs (character_fault TooDeep r.first)
-  flow_sequence : {r : Row} {rs : List Row} {f : Fault} (d : ℕ) → r.first.byte ≡ 91 → SequenceBreaks (length bytes) above r.rest rs f → ValueBreaks bytes above (suc d) r rs f
-  behind_sequence : {r : Row} {rs rest : List Row} {is : Items} {closing wrong : Cell} {behind : List Cell} (d : ℕ) → r.first.byte ≡ 91 → SequenceIn (length bytes) above r.rest rs is closing behind rest → WrongBehind behind wrong
+  flow_sequence : {r : Row} {rs : List Row} {f : Fault} (d : ℕ) → r.first.byte ≡ 91 → SequenceBreaks (length bytes) r.rest rs f → ValueBreaks bytes above (suc d) r rs f
+  behind_sequence : {r : Row} {rs rest : List Row} {is : Items} {closing wrong : Cell} {behind : List Cell} (d : ℕ) → r.first.byte ≡ 91 → SequenceIn (length bytes) r.rest rs is closing behind rest → WrongBehind behind wrong
       → ValueBreaks bytes above (suc d) r rs (character_fault NotANode wrong)
-  flow_mapping : {r : Row} {rs : List Row} {f : Fault} (d : ℕ) → r.first.byte ≡ 123 → MappingBreaks (length bytes) above [] r.rest rs f → ValueBreaks bytes above (suc d) r rs f
-  behind_mapping : {r : Row} {rs rest : List Row} {es : Entries} {closing wrong : Cell} {behind : List Cell} (d : ℕ) → r.first.byte ≡ 123 → MappingIn (length bytes) above [] r.rest rs es closing behind rest → WrongBehind behind wrong
+  flow_mapping : {r : Row} {rs : List Row} {f : Fault} (d : ℕ) → r.first.byte ≡ 123 → MappingBreaks (length bytes) [] r.rest rs f → ValueBreaks bytes above (suc d) r rs f
+  behind_mapping : {r : Row} {rs rest : List Row} {es : Entries} {closing wrong : Cell} {behind : List Cell} (d : ℕ) → r.first.byte ≡ 123 → MappingIn (length bytes) [] r.rest rs es closing behind rest → WrongBehind behind wrong
       → ValueBreaks bytes above (suc d) r rs (character_fault NotANode wrong)
 
 mutual
@@ -45,9 +45,11 @@ mutual
     later_item : {d m : ℕ} {own : Bool} {r next : Row} {rs later : List Row} {t : Tree} {f : Fault} → indent r ≡ m → is_item r ≡ true → ItemValue bytes d m r rs t (next ∷ later) → ItemsBreak bytes d own m next later f
         → ItemsBreak bytes d own m r rs f
 
+  -- a tab behind the item's sign, or what breaks the value
   pub data ItemValueBreaks (bytes : List ℕ) : ℕ → ℕ → Row → List Row → Fault → Type 0 where
-    item_here : {d m : ℕ} {r left : Row} {rs : List Row} {f : Fault} → left_of r.begin r.rest ≡ Some left → NodeBreaks bytes (suc m) d left rs f → ItemValueBreaks bytes d m r rs f
-    item_below : {d m : ℕ} {r next : Row} {rs : List Row} {f : Fault} → left_of r.begin r.rest ≡ None → m < indent next → NodeBreaks bytes (suc m) d next rs f → ItemValueBreaks bytes d m r (next ∷ rs) f
+    item_tab : {m : ℕ} {r : Row} {tab : Cell} (d : ℕ) (rs : List Row) → tab_in r.rest ≡ Some tab → ItemValueBreaks bytes d m r rs (byte_fault NotANode tab.at)
+    item_here : {d m : ℕ} {r left : Row} {rs : List Row} {f : Fault} → tab_in r.rest ≡ None → left_of r.begin r.rest ≡ Some left → NodeBreaks bytes (suc m) d left rs f → ItemValueBreaks bytes d m r rs f
+    item_below : {d m : ℕ} {r next : Row} {rs : List Row} {f : Fault} → tab_in r.rest ≡ None → left_of r.begin r.rest ≡ None → m < indent next → NodeBreaks bytes (suc m) d next rs f → ItemValueBreaks bytes d m r (next ∷ rs) f
 
   -- A row behind some entries is deeper, or one at m is no entry, its key is broken or stands a second time, its value breaks, or what stands behind the entry.
   pub data EntriesBreak (bytes : List ℕ) : ℕ → ℕ → List (List ℕ) → Row → List Row → Fault → Type 0 where

@@ -1,17 +1,19 @@
 -- How a row begins: an item, an entry with its key, or a scalar of some style.
-use Rattle.std.specs.Prelude.{◌≡◌, ◌+◌, List, [], ◌∷◌, ◌++◌, Bool, true, false, not, Option, Some, None, ◌⊎◌, ◌==◌, ◌&&◌, if◌then◌else◌}
+use Rattle.std.specs.Prelude.{◌≡◌, ◌+◌, List, [], ◌∷◌, ◌++◌, Bool, true, false, not, Some, ◌⊎◌, ◌==◌, ◌&&◌, if◌then◌else◌}
 use Rattle.lf_scalar.specs.declared.scalar.Style.{Style}
 use Rattle.lf_scalar.specs.declared.scalar.Style.TheVariants as style
 use Rattle.std.specs.List.{flat_map}
 use Rattle.lf_base.specs.declared.fault.Fault.{Fault}
 use Rattle.lf_base.specs.Faults.{span}
 use Rattle.lf_scalar.specs.Cells.{Cell, Value, made, end_of}
-use Rattle.lf_scalar.specs.Lines.{is_blank, after_blanks, begins_with}
+use Rattle.lf_scalar.specs.Lines.{is_blank, after_blanks}
 use Rattle.lf_scalar.specs.Folding.{trimmed}
 use Rattle.lf_scalar.specs.Plain.{before_blank, begins_plain}
 use Rattle.lf_scalar.specs.declared.quotes.Quotes.{Quotes}
 use Rattle.lf_scalar.specs.Quoted.{quote_of, raw, Closes, IsQuoted, BreaksQuoted}
 use Rattle.lf_scalar.specs.Scalars.{begins}
+pub use Rattle.lf_yaml.specs.Keys.{Split, behind_cell, never}
+unfoldable pub use Rattle.lf_yaml.specs.Keys.{key_in}
 use Rattle.lf_yaml.specs.Rows.{Row, text_of, is_left_out}
 
 -- a `-` before a blank or the line's end
@@ -19,27 +21,6 @@ abbrev pub is_item : Row → Bool
 is_item r = (r.first.byte == 45) && before_blank r.rest
 
 -- ---- keys
-
--- What stands before the first `:` that ends a key, this `:`, and what stands behind it. None where one of some signs or a comment, whose `#` stands behind a blank,
--- comes before such a `:`, or the line's end does.
-abbrev pub Split : Type 0
-Split = List Cell × Cell × List Cell
-
-abbrev pub behind_cell : Cell → Option Split → Option Split
-behind_cell c None = None
-behind_cell c (Some x) = Some (c ∷ x.0, x.1, x.2)
-
-unfoldable pub key_in : (Cell → Bool) → (List Cell → Bool) → List Cell → Option Split
-key_in stops ends [] = None
-key_in stops ends (c ∷ cs) =
-    if (c.byte == 58) && ends cs then Some ([], c, cs)
-    else if stops c then None
-    else if is_blank c && begins_with 35 cs then None
-    else behind_cell c (key_in stops ends cs)
-
--- no sign stops a key of a block mapping
-abbrev pub never : Cell → Bool
-never c = false
 
 -- a key without quotes, which has these cells, or one between quotes
 pub data Key : Type 0 where
@@ -51,13 +32,13 @@ abbrev pub up_to : {kind : Quotes} {cs : List Cell} → Closes kind cs → List 
 up_to between = flat_map raw between.raws ++ between.closing ∷ []
 
 abbrev pub IsBetween : (kind : Quotes) → Cell → (cs : List Cell) → Closes kind cs → Value → Type 0
-IsBetween kind c cs between v = IsQuoted kind 0 (between.closing.at + 1) c (up_to between) v
+IsBetween kind c cs between v = IsQuoted kind (between.closing.at + 1) c (up_to between) v
 
 -- what breaks it: an escape that isn't one
 abbrev pub BetweenBreaks : Quotes → Cell → List Cell → Fault → Type 0
-BetweenBreaks kind c cs f = (between : Closes kind cs) × BreaksQuoted kind 0 (between.closing.at + 1) c (up_to between) f
+BetweenBreaks kind c cs f = (between : Closes kind cs) × BreaksQuoted kind (between.closing.at + 1) c (up_to between) f
 
--- What a key is that begins with a cell, with these cells behind it on the line. A key without quotes is its text, `null` and `~` too.
+-- What a key is that begins with a cell, with these cells behind it on the line. A key without quotes is its text.
 abbrev pub IsKey : Cell → List Cell → Key → Value → Type 0
 IsKey c cs (Bare text) v = v ≡ made text (end_of c.at text) (span c.at (end_of c.at text))
 IsKey c cs (Between kind) v = (between : Closes kind cs) × IsBetween kind c cs between v

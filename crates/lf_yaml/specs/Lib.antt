@@ -1,5 +1,6 @@
 pub mod Characters
 pub mod Tree
+pub mod Keys
 pub mod Rows
 pub mod Heads
 pub mod Spans

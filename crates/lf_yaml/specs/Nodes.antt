@@ -4,7 +4,7 @@ use Rattle.lf_base.specs.Faults.{span}
 use Rattle.lf_scalar.specs.Cells.{Cell, Value}
 use Rattle.lf_scalar.specs.Lines.{is_tail}
 use Rattle.lf_scalar.specs.Scalars.{IsOfStyle, source_at}
-use Rattle.lf_yaml.specs.Rows.{Row, indent, rows_from, left_of}
+use Rattle.lf_yaml.specs.Rows.{Row, indent, rows_from, left_of, tab_in}
 use Rattle.lf_yaml.specs.Heads.{is_item, Key, IsKey, BeginsEntry, BeginsNoBlock, style_of, begins_scalar}
 use Rattle.lf_yaml.specs.Flow.{SequenceIn, MappingIn}
 use Rattle.lf_yaml.specs.Tree.{Tree, leaf, sequence, mapping, Items, no_items, item, Entries, no_entries, entry}
@@ -20,9 +20,9 @@ IsScalarOn bytes above r v = IsOfStyle (style_of r.first) above (length bytes) (
 -- scalar leaves are those that begin behind its span. Behind a closing bracket only blanks and a comment stand on its line.
 pub data ValueAt (bytes : List ℕ) (above : ℕ) : ℕ → Row → List Row → Tree → List Row → Type 0 where
   scalar : {d : ℕ} {r : Row} {v : Value} (rs : List Row) → begins_scalar r ≡ true → IsScalarOn bytes above r v → ValueAt bytes above d r rs (leaf v) (rows_from v.span.end rs)
-  flow_sequence : {d : ℕ} {r : Row} {rs rest : List Row} {is : Items} {closing : Cell} {behind : List Cell} → r.first.byte ≡ 91 → SequenceIn (length bytes) above r.rest rs is closing behind rest → is_tail false behind ≡ true
+  flow_sequence : {d : ℕ} {r : Row} {rs rest : List Row} {is : Items} {closing : Cell} {behind : List Cell} → r.first.byte ≡ 91 → SequenceIn (length bytes) r.rest rs is closing behind rest → is_tail false behind ≡ true
       → ValueAt bytes above (suc d) r rs (sequence is (span r.first.at (suc closing.at))) rest
-  flow_mapping : {d : ℕ} {r : Row} {rs rest : List Row} {es : Entries} {closing : Cell} {behind : List Cell} → r.first.byte ≡ 123 → MappingIn (length bytes) above [] r.rest rs es closing behind rest → is_tail false behind ≡ true
+  flow_mapping : {d : ℕ} {r : Row} {rs rest : List Row} {es : Entries} {closing : Cell} {behind : List Cell} → r.first.byte ≡ 123 → MappingIn (length bytes) [] r.rest rs es closing behind rest → is_tail false behind ≡ true
       → ValueAt bytes above (suc d) r rs (mapping es (span r.first.at (suc closing.at))) rest
 
 -- no row is left whose indent is above m
@@ -58,12 +58,12 @@ mutual
     more_items : {d m : ℕ} {own : Bool} {r next : Row} {rs later rest : List Row} {t : Tree} {is : Items} → indent r ≡ m → is_item r ≡ true → ItemValue bytes d m r rs t (next ∷ later) → ItemsAt bytes d own m next later is rest
         → ItemsAt bytes d own m r rs (item t is) rest
 
-  -- The value of an item at m. What stands behind the sign and blanks on its line may itself be an entry or an item, whose indent is its column. Else the next row
+  -- The value of an item at m. What stands behind the sign and spaces on its line may itself be an entry or an item, whose indent is its column. Else the next row
   -- decides: with an indent above m it begins the value, or the value is the empty text behind the sign.
   pub data ItemValue (bytes : List ℕ) : ℕ → ℕ → Row → List Row → Tree → List Row → Type 0 where
-    item_here : {d m : ℕ} {r left : Row} {rs rest : List Row} {t : Tree} → left_of r.begin r.rest ≡ Some left → NodeAt bytes (suc m) d left rs t rest → ItemValue bytes d m r rs t rest
-    item_below : {d m : ℕ} {r next : Row} {rs rest : List Row} {t : Tree} → left_of r.begin r.rest ≡ None → m < indent next → NodeAt bytes (suc m) d next rs t rest → ItemValue bytes d m r (next ∷ rs) t rest
-    item_empty : {m : ℕ} {r : Row} {rs : List Row} (d : ℕ) → left_of r.begin r.rest ≡ None → NoneBelow m rs → ItemValue bytes d m r rs (empty_at (suc r.first.at)) rs
+    item_here : {d m : ℕ} {r left : Row} {rs rest : List Row} {t : Tree} → tab_in r.rest ≡ None → left_of r.begin r.rest ≡ Some left → NodeAt bytes (suc m) d left rs t rest → ItemValue bytes d m r rs t rest
+    item_below : {d m : ℕ} {r next : Row} {rs rest : List Row} {t : Tree} → tab_in r.rest ≡ None → left_of r.begin r.rest ≡ None → m < indent next → NodeAt bytes (suc m) d next rs t rest → ItemValue bytes d m r (next ∷ rs) t rest
+    item_empty : {m : ℕ} {r : Row} {rs : List Row} (d : ℕ) → tab_in r.rest ≡ None → left_of r.begin r.rest ≡ None → NoneBelow m rs → ItemValue bytes d m r rs (empty_at (suc r.first.at)) rs
 
   -- one or more entries at m, of which the first stands on the row r; their keys differ in text from each other and from those before
   pub data EntriesAt (bytes : List ℕ) : ℕ → ℕ → List (List ℕ) → Row → List Row → Entries → List Row → Type 0 where

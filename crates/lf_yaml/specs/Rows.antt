@@ -4,8 +4,10 @@ use Rattle.std.specs.List.{list_any}
 use Rattle.lf_base.specs.declared.kind.Kind.TheVariants.{BadIndent, LeftOut, NotANode}
 use Rattle.lf_base.specs.declared.fault.Fault.{Fault}
 use Rattle.lf_scalar.specs.Cells.{Cell, byte_fault, character_fault}
-use Rattle.lf_scalar.specs.Lines.{Line, is_blank, after_spaces, is_content, is_tail}
+use Rattle.lf_scalar.specs.Lines.{Line, start_of, is_blank, after_spaces, begins_with, is_tail}
+use Rattle.lf_scalar.specs.Markers.{is_thrice}
 use Rattle.lf_scalar.specs.Plain.{before_blank}
+use Rattle.lf_yaml.specs.Keys.{has_null_key}
 
 -- A content line, from its first character that isn't a space, or what is left of one behind a sign, from its first character that isn't a blank: the offset of the
 -- line's first byte, that character's first cell, and the cells behind it on the line.
@@ -26,23 +28,16 @@ indent r = r.first.at - r.begin
 
 -- ---- the rows of a file
 
--- the offset of a line's first byte
-abbrev pub start_of : Line → ℕ
-start_of l = by l.text
-  where
-    by : List Cell → ℕ
-    by [] = l.break
-    by (c ∷ cs) = c.at
-
--- some cells of a line, from a character that isn't a blank on
+-- some cells of a line, from a character that isn't a space on
 abbrev pub headed : ℕ → List Cell → List Row
 headed begin [] = []
 headed begin (c ∷ cs) = row begin c cs ∷ []
 
+-- Each line with a character other than a space is a row, unless the first such is `#`. So a line is one too whose first is a tab, whatever follows: it can't stand anywhere.
 abbrev pub content_row : Line → List Row
-content_row l = if is_content l then headed (start_of l) (after_spaces l.text) else []
+content_row l = if begins_with 35 (after_spaces l.text) then [] else headed (start_of l) (after_spaces l.text)
 
--- a row for each content line: blank lines and comment lines are left out
+-- the rows of some lines: lines of spaces and comment lines are left out
 unfoldable pub rows_of : List Line → List Row
 rows_of [] = []
 rows_of (l ∷ ls) = content_row l ++ rows_of ls
@@ -57,15 +52,15 @@ abbrev pub left_of : ℕ → List Cell → Option Row
 left_of begin [] = None
 left_of begin (c ∷ cs) = if is_blank c then left_of begin cs else if c.byte == 35 then None else Some (row begin c cs)
 
+-- a tab that stands among the blanks at the front of some cells: only spaces may stand behind an item's sign
+abbrev pub tab_in : List Cell → Option Cell
+tab_in [] = None
+tab_in (c ∷ cs) = if c.byte == 32 then tab_in cs else if c.byte == 9 then Some c else None
+
 -- ---- forms that the profile leaves out
 
 abbrev pub is_one_of : List ℕ → Cell → Bool
 is_one_of signs c = list_any (λ sign. c.byte == sign) signs
-
--- a byte three times, and then a blank or the line's end
-abbrev pub is_thrice : ℕ → List Cell → Bool
-is_thrice byte (c ∷ d ∷ e ∷ cs) = (c.byte == byte) && ((d.byte == byte) && ((e.byte == byte) && before_blank cs))
-is_thrice byte cs = false
 
 -- a line at indent 0 that begins with `---` or `...` and a blank or the line's end, or with `%`
 abbrev pub is_mark : Row → Bool
@@ -75,8 +70,9 @@ is_mark r = (indent r == 0) && (is_thrice 45 (text_of r) || (is_thrice 46 (text_
 abbrev pub is_property : Cell → List Cell → Bool
 is_property c cs = is_one_of (codes "&*!") c || ((c.byte == 63) && before_blank cs)
 
+-- one of these forms, or a key without quotes that is null
 abbrev pub is_left_out : Row → Bool
-is_left_out r = is_property r.first r.rest || is_mark r
+is_left_out r = is_property r.first r.rest || (is_mark r || has_null_key (text_of r))
 
 -- ---- what is told of a row
 

@@ -1,18 +1,21 @@
 //! What stands behind a sign: the rest of its row, and the rows below.
-ghost use Rattle.std.specs.Prelude.{◌≡◌, ℕ, suc, ◌+◌, ◌<◌, ◌≤◌, ◌^◌, ◌∷◌, [], List, length, get_or, drop, MatchOption, IfSome, option_map};
+ghost use Rattle.std.specs.Prelude.{◌≡◌, eqb, ℕ, suc, ◌+◌, ◌<◌, ◌≤◌, ◌^◌, ◌∷◌, [], List, None, Some, length, get_or, drop, MatchOption, IfSome, option_map};
 ghost use Rattle.std.specs.Str.{IsCharBoundary, IsUtf8};
-ghost use Rattle.lf_scalar.specs.Cells.{cells};
-ghost use Rattle.lf_yaml.specs.Rows.{indent as indent_of, left_of};
+ghost use Rattle.lf_base.specs.declared.kind.Kind.TheVariants.{NotANode};
+ghost use Rattle.lf_scalar.specs.Cells.{Cell, cells, byte_fault as fault_of};
+ghost use Rattle.lf_scalar.specs.views.Built.{refused};
+ghost use Rattle.lf_yaml.specs.Rows.{indent as indent_of, left_of, tab_in};
 ghost use Rattle.lf_yaml.specs.Nodes.{NoneBelow, NothingBelow};
 ghost use Rattle.lf_yaml.specs.views.Shown.{shown};
 ghost use Rattle.lf_yaml.specs.views.Cursor.{rows_after, IsRowOf};
 ghost use Rattle.lf_yaml.specs.reading.BlockTurns.{IsBehind, IsBelow};
 
 use crate::entries::{Below, EntryRow};
-use crate::head::{indent, is_item, left};
+use crate::head::{byte_fault, indent, is_item, left};
 use crate::row::Row;
 use crate::rows::next_row;
-use lf_scalar::lines::past;
+use lf_base::{Kind, Refusal};
+use lf_scalar::lines::{past, spaces};
 
 /// What is left of a row behind an ASCII byte at a place.
 pub fn left_behind(row: Row<'_>, sign: usize) -> Option<Row<'_>>
@@ -25,6 +28,26 @@ pub fn left_behind(row: Row<'_>, sign: usize) -> Option<Row<'_>>
         row.at + sign as u32 + 1,
         past(row.text, sign + 1),
     )
+}
+
+/// The refusal of a tab that stands among the blanks behind an item's sign, where only spaces may stand.
+pub fn tab_behind(row: Row<'_>) -> Option<Refusal>
+    ensures { MatchOption result (tab_in (shown row.entry).rest ≡ None) (λ e. (c : Cell) × (tab_in (shown row.entry).rest ≡ Some c) × (e ≡ refused (fault_of NotANode c.at))) }
+{
+    let rest = past(row.text, 1);
+    let skipped = spaces(rest);
+    if is_tab(rest, skipped) {
+        Some(byte_fault(Kind::NotANode, row.at + 1 + skipped as u32))
+    } else {
+        None
+    }
+}
+
+/// Whether a tab stands at a place.
+fn is_tab(text: &[u8], place: usize) -> bool
+    ensures { result ≡ eqb (get_or text.now place 0) 9 }
+{
+    place < text.len() && text[place] == b'\t'
 }
 
 /// The next row of a file from the start of a line on, and where the line behind it begins.

@@ -8,11 +8,12 @@ ghost use Rattle.lf_yaml.specs.views.Headed.{headed, IsKeyIn};
 ghost use Rattle.lf_yaml.specs.views.Shown.{shown};
 
 use crate::entries::{Head, Key};
-use crate::head::{is_apart, is_left_out};
+use crate::head::is_left_out;
 use crate::keys::find_sign;
 use crate::row::Row;
 use lf_base::bytes::before;
 use lf_scalar::lines::{blanks, past, trimmed_len};
+use lf_scalar::markers::is_apart;
 use lf_scalar::plain_signs::{is_plain_byte, is_sign_byte};
 use lf_scalar::quotes::{Quotes, find_closing};
 

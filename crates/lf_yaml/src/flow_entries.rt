@@ -40,7 +40,6 @@ fn scalar_entry(key: Scalar, of: Scalar) -> Entry
 fn new_key(
     alloc: Global,
     bytes: &[u8],
-    above: u32,
     keys: &mut KeySet,
     part: Row<'_>,
     next: usize,
@@ -48,12 +47,12 @@ fn new_key(
     requires utf8 { IsUtf8 bytes.now }
     requires room { length bytes.now ≤ 2 ^ 31 }
     requires part { IsPartIn bytes.now part next }
-    ensures gives { (before : List (List ℕ)) → HasKeys keys.old before → AnswersAs (signed part.entry) result (new_key_of (length bytes.now) above before (shown part.entry).first (shown part.entry).rest (rows_after bytes.now next)) }
+    ensures gives { (before : List (List ℕ)) → HasKeys keys.old before → AnswersAs (signed part.entry) result (new_key_of (length bytes.now) before (shown part.entry).first (shown part.entry).rest (rows_after bytes.now next)) }
     ensures keys { (before : List (List ℕ)) → HasKeys keys.old before → IfOk result (λ x. HasKeys keys.new (before ++ x.0.text ∷ [])) }
     ensures within { IfOk result (λ x. x.1 < length part.entry.text.now) }
     ensures sign { IfOk result (λ x. get_or part.entry.text.now x.1 0 ≡ 58) }
 {
-    match flow_key(alloc, bytes, above, part, next) {
+    match flow_key(alloc, bytes, part, next) {
         Ok((key, place)) => {
             if keys.contains(key.text.as_str()) {
                 return Err(Refusal::At {
@@ -74,7 +73,6 @@ fn new_key(
 fn entry_from<'a>(
     alloc: Global,
     bytes: &'a [u8],
-    above: u32,
     keys: &mut KeySet,
     part: Row<'a>,
     next: usize,
@@ -82,16 +80,16 @@ fn entry_from<'a>(
     requires utf8 { IsUtf8 bytes.now }
     requires room { length bytes.now ≤ 2 ^ 31 }
     requires part { IsPartIn bytes.now part next }
-    ensures gives { (before : List (List ℕ)) → HasKeys keys.old before → AnswersAs (left_behind bytes.entry.now) result (entry_at (length bytes.entry.now) above before (shown part.entry).first (shown part.entry).rest (rows_after bytes.entry.now next)) }
+    ensures gives { (before : List (List ℕ)) → HasKeys keys.old before → AnswersAs (left_behind bytes.entry.now) result (entry_at (length bytes.entry.now) before (shown part.entry).first (shown part.entry).rest (rows_after bytes.entry.now next)) }
     ensures keys { (before : List (List ℕ)) → HasKeys keys.old before → IfOk result (λ x. HasKeys keys.new (before ++ (pair x.0).0.text ∷ [])) }
     ensures place { IfOk result (λ x. IsPlaceIn bytes.entry.now x.1) }
     ensures further { IfOk result (λ x. next ≤ x.1.next) }
     ensures stays { IfOk result (λ x. turns (left_at x.1) (rows_at bytes.entry.now x.1) ≤ turns (shown part.entry).rest (rows_after bytes.entry.now next)) }
 {
-    match new_key(alloc, bytes, above, keys, part, next) {
+    match new_key(alloc, bytes, keys, part, next) {
         Ok((key, colon)) => {
             let at = part.at + colon as u32;
-            match flow_value(alloc, bytes, above, at, behind(part, colon + 1, next)) {
+            match flow_value(alloc, bytes, at, behind(part, colon + 1, next)) {
                 Ok((of, place)) => Ok((scalar_entry(key, of), place)),
                 Err(refusal) => Err(refusal),
             }
@@ -103,7 +101,6 @@ fn entry_from<'a>(
 /// What stands behind an entry: a comma, or the bracket that closes.
 fn entry_sign<'a>(
     bytes: &'a [u8],
-    above: u32,
     found: Entry,
     place: Place<'a>,
 ) -> Result<Turn<'a, Entry>, Refusal>
@@ -111,12 +108,12 @@ fn entry_sign<'a>(
     requires room { length bytes.now ≤ 2 ^ 31 }
     requires place { IsPlaceIn bytes.now place }
     ensures gives { (later : Later) (before : List (List ℕ)) → TurnsEntries bytes.entry.now later before result
-        (mapping_sign (λ cs rs. later (before ++ (pair found).0.text ∷ []) cs rs) (pair found).0 (pair found).1 (next_part_of (length bytes.entry.now) above false (left_at place.entry) (rows_at bytes.entry.now place.entry))) }
+        (mapping_sign (λ cs rs. later (before ++ (pair found).0.text ∷ []) cs rs) (pair found).0 (pair found).1 (next_part_of (length bytes.entry.now) false (left_at place.entry) (rows_at bytes.entry.now place.entry))) }
     ensures turn { IfOk result (λ t. IsTurnIn bytes.entry.now (turns (left_at place.entry) (rows_at bytes.entry.now place.entry)) t) }
     ensures further { IfOk result (λ t. IsTurnBehind place.entry.next t) }
     ensures found { (set : KeySet) (before : List (List ℕ)) → HasKeys set (before ++ (pair found).0.text ∷ []) → IfOk result (λ t. HasTurned set before t) }
 {
-    match next_part(bytes, above, place) {
+    match next_part(bytes, place) {
         Ok((part, next)) => match part.text[0] {
             b',' => Ok(Turn::More {
                 found,
@@ -137,7 +134,6 @@ fn entry_sign<'a>(
 fn entry_on<'a>(
     alloc: Global,
     bytes: &'a [u8],
-    above: u32,
     keys: &mut KeySet,
     part: Row<'a>,
     next: usize,
@@ -146,13 +142,13 @@ fn entry_on<'a>(
     requires room { length bytes.now ≤ 2 ^ 31 }
     requires part { IsPartIn bytes.now part next }
     ensures gives { (later : Later) (before : List (List ℕ)) → HasKeys keys.old before → TurnsEntries bytes.entry.now later before result
-        (key_behind (length bytes.entry.now) above later before (rows_after bytes.entry.now next) (flow_key_of (length bytes.entry.now) above (shown part.entry).first (shown part.entry).rest (rows_after bytes.entry.now next))) }
+        (key_behind (length bytes.entry.now) later before (rows_after bytes.entry.now next) (flow_key_of (length bytes.entry.now) (shown part.entry).first (shown part.entry).rest (rows_after bytes.entry.now next))) }
     ensures keys { (before : List (List ℕ)) → HasKeys keys.old before → IfOk result (λ t. HasTurned keys.new before t) }
     ensures turn { IfOk result (λ t. IsTurnIn bytes.entry.now (turns (shown part.entry).rest (rows_after bytes.entry.now next)) t) }
     ensures further { IfOk result (λ t. IsTurnBehind next t) }
 {
-    match entry_from(alloc, bytes, above, keys, part, next) {
-        Ok((found, place)) => entry_sign(bytes, above, found, place),
+    match entry_from(alloc, bytes, keys, part, next) {
+        Ok((found, place)) => entry_sign(bytes, found, place),
         Err(refusal) => Err(refusal),
     }
 }
@@ -162,20 +158,19 @@ fn entry_on<'a>(
 fn entry_turn<'a>(
     alloc: Global,
     bytes: &'a [u8],
-    above: u32,
     keys: &mut KeySet,
     place: Place<'a>,
 ) -> Result<Turn<'a, Entry>, Refusal>
     requires utf8 { IsUtf8 bytes.now }
     requires room { length bytes.now ≤ 2 ^ 31 }
     requires place { IsPlaceIn bytes.now place }
-    ensures gives { (m : ℕ) (before : List (List ℕ)) → HasKeys keys.old before → TurnsEntries bytes.entry.now (λ ks cs rs. mapping_in (length bytes.entry.now) above m ks cs rs) before result
-        (mapping_in (length bytes.entry.now) above (suc m) before (left_at place.entry) (rows_at bytes.entry.now place.entry)) }
+    ensures gives { (m : ℕ) (before : List (List ℕ)) → HasKeys keys.old before → TurnsEntries bytes.entry.now (λ ks cs rs. mapping_in (length bytes.entry.now) m ks cs rs) before result
+        (mapping_in (length bytes.entry.now) (suc m) before (left_at place.entry) (rows_at bytes.entry.now place.entry)) }
     ensures keys { (before : List (List ℕ)) → HasKeys keys.old before → IfOk result (λ t. HasTurned keys.new before t) }
     ensures turn { IfOk result (λ t. IsTurnIn bytes.entry.now (turns (left_at place.entry) (rows_at bytes.entry.now place.entry)) t) }
     ensures further { IfOk result (λ t. IsTurnBehind place.entry.next t) }
 {
-    match next_part(bytes, above, place) {
+    match next_part(bytes, place) {
         Ok((part, next)) => {
             if part.text[0] == b'}' {
                 return Ok(Turn::Ends {
@@ -183,7 +178,7 @@ fn entry_turn<'a>(
                     next,
                 });
             }
-            entry_on(alloc, bytes, above, keys, part, next)
+            entry_on(alloc, bytes, keys, part, next)
         }
         Err(refusal) => Err(refusal),
     }
@@ -193,14 +188,13 @@ fn entry_turn<'a>(
 pub fn flow_entries<'a>(
     alloc: Global,
     bytes: &'a [u8],
-    above: u32,
     place: Place<'a>,
 ) -> Result<(Seq<Entry>, Row<'a>, usize), Refusal>
     requires utf8 { IsUtf8 bytes.now }
     requires room { length bytes.now ≤ 2 ^ 31 }
     requires place { IsPlaceIn bytes.now place }
     ensures gives { AnswersAs (closed_entries bytes.entry.now) result
-        (mapping_in (length bytes.entry.now) above (suc (turns (left_at place.entry) (rows_at bytes.entry.now place.entry))) [] (left_at place.entry) (rows_at bytes.entry.now place.entry)) }
+        (mapping_in (length bytes.entry.now) (suc (turns (left_at place.entry) (rows_at bytes.entry.now place.entry))) [] (left_at place.entry) (rows_at bytes.entry.now place.entry)) }
     ensures part { IfOk result (λ x. IsPartIn bytes.entry.now x.1 x.2) }
     ensures further { IfOk result (λ x. place.entry.next ≤ x.2) }
 {
@@ -208,7 +202,7 @@ pub fn flow_entries<'a>(
     let mut keys = KeySet::new(alloc);
     let mut at = place;
     'entries: loop {
-        match entry_turn(alloc, bytes, above, &mut keys, at) {
+        match entry_turn(alloc, bytes, &mut keys, at) {
             Ok(Turn::Ends { closing, next }) => return Ok((entries, closing, next)),
             Ok(
                 Turn::Last {

@@ -32,21 +32,16 @@ pub fn scalar_node(of: Scalar) -> Node
 }
 
 /// What stands behind an item: a comma, or the bracket that closes.
-fn item_sign<'a>(
-    bytes: &'a [u8],
-    above: u32,
-    item: Scalar,
-    place: Place<'a>,
-) -> Result<Turn<'a, Node>, Refusal>
+fn item_sign<'a>(bytes: &'a [u8], item: Scalar, place: Place<'a>) -> Result<Turn<'a, Node>, Refusal>
     requires utf8 { IsUtf8 bytes.now }
     requires room { length bytes.now ≤ 2 ^ 31 }
     requires place { IsPlaceIn bytes.now place }
     ensures gives { (later : List Cell → List RowOf → FlowRead Items) → TurnsItems bytes.entry.now later result
-        (sequence_sign later (scalar_shown item) (next_part_of (length bytes.entry.now) above false (left_at place.entry) (rows_at bytes.entry.now place.entry))) }
+        (sequence_sign later (scalar_shown item) (next_part_of (length bytes.entry.now) false (left_at place.entry) (rows_at bytes.entry.now place.entry))) }
     ensures turn { IfOk result (λ t. IsTurnIn bytes.entry.now (turns (left_at place.entry) (rows_at bytes.entry.now place.entry)) t) }
     ensures further { IfOk result (λ t. IsTurnBehind place.entry.next t) }
 {
-    match next_part(bytes, above, place) {
+    match next_part(bytes, place) {
         Ok((part, next)) => match part.text[0] {
             b',' => Ok(Turn::More {
                 found: scalar_node(item),
@@ -67,7 +62,6 @@ fn item_sign<'a>(
 fn item_on<'a>(
     alloc: Global,
     bytes: &'a [u8],
-    above: u32,
     part: Row<'a>,
     next: usize,
 ) -> Result<Turn<'a, Node>, Refusal>
@@ -75,12 +69,12 @@ fn item_on<'a>(
     requires room { length bytes.now ≤ 2 ^ 31 }
     requires part { IsPartIn bytes.now part next }
     ensures gives { (later : List Cell → List RowOf → FlowRead Items) → TurnsItems bytes.entry.now later result
-        (sequence_behind (length bytes.entry.now) above later (rows_after bytes.entry.now next) (flow_scalar (shown part.entry).first (shown part.entry).rest)) }
+        (sequence_behind (length bytes.entry.now) later (rows_after bytes.entry.now next) (flow_scalar (shown part.entry).first (shown part.entry).rest)) }
     ensures turn { IfOk result (λ t. IsTurnIn bytes.entry.now (turns (shown part.entry).rest (rows_after bytes.entry.now next) + 1) t) }
     ensures further { IfOk result (λ t. IsTurnBehind next t) }
 {
     match scalar_from(alloc, bytes, part, next) {
-        Ok((scalar, place)) => item_sign(bytes, above, scalar, place),
+        Ok((scalar, place)) => item_sign(bytes, scalar, place),
         Err(refusal) => Err(refusal),
     }
 }
@@ -90,18 +84,17 @@ fn item_on<'a>(
 fn item_turn<'a>(
     alloc: Global,
     bytes: &'a [u8],
-    above: u32,
     place: Place<'a>,
 ) -> Result<Turn<'a, Node>, Refusal>
     requires utf8 { IsUtf8 bytes.now }
     requires room { length bytes.now ≤ 2 ^ 31 }
     requires place { IsPlaceIn bytes.now place }
-    ensures gives { (m : ℕ) → TurnsItems bytes.entry.now (λ cs rs. sequence_in (length bytes.entry.now) above m cs rs) result
-        (sequence_in (length bytes.entry.now) above (suc m) (left_at place.entry) (rows_at bytes.entry.now place.entry)) }
+    ensures gives { (m : ℕ) → TurnsItems bytes.entry.now (λ cs rs. sequence_in (length bytes.entry.now) m cs rs) result
+        (sequence_in (length bytes.entry.now) (suc m) (left_at place.entry) (rows_at bytes.entry.now place.entry)) }
     ensures turn { IfOk result (λ t. IsTurnIn bytes.entry.now (turns (left_at place.entry) (rows_at bytes.entry.now place.entry)) t) }
     ensures further { IfOk result (λ t. IsTurnBehind place.entry.next t) }
 {
-    match next_part(bytes, above, place) {
+    match next_part(bytes, place) {
         Ok((part, next)) => {
             if part.text[0] == b']' {
                 return Ok(Turn::Ends {
@@ -109,7 +102,7 @@ fn item_turn<'a>(
                     next,
                 });
             }
-            item_on(alloc, bytes, above, part, next)
+            item_on(alloc, bytes, part, next)
         }
         Err(refusal) => Err(refusal),
     }
@@ -119,21 +112,20 @@ fn item_turn<'a>(
 pub fn flow_items<'a>(
     alloc: Global,
     bytes: &'a [u8],
-    above: u32,
     place: Place<'a>,
 ) -> Result<(Seq<Node>, Row<'a>, usize), Refusal>
     requires utf8 { IsUtf8 bytes.now }
     requires room { length bytes.now ≤ 2 ^ 31 }
     requires place { IsPlaceIn bytes.now place }
     ensures gives { AnswersAs (closed_items bytes.entry.now) result
-        (sequence_in (length bytes.entry.now) above (suc (turns (left_at place.entry) (rows_at bytes.entry.now place.entry))) (left_at place.entry) (rows_at bytes.entry.now place.entry)) }
+        (sequence_in (length bytes.entry.now) (suc (turns (left_at place.entry) (rows_at bytes.entry.now place.entry))) (left_at place.entry) (rows_at bytes.entry.now place.entry)) }
     ensures part { IfOk result (λ x. IsPartIn bytes.entry.now x.1 x.2) }
     ensures further { IfOk result (λ x. place.entry.next ≤ x.2) }
 {
     let mut items = Seq::new(alloc);
     let mut at = place;
     'items: loop {
-        match item_turn(alloc, bytes, above, at) {
+        match item_turn(alloc, bytes, at) {
             Ok(Turn::Ends { closing, next }) => return Ok((items, closing, next)),
             Ok(
                 Turn::Last {

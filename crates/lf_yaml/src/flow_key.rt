@@ -4,10 +4,10 @@ ghost use Rattle.std.specs.Str.{IsUtf8};
 ghost use Rattle.lf_base.specs.Answers.{AnswersAs};
 ghost use Rattle.lf_scalar.specs.Cells.{cell, cells, Fails};
 ghost use Rattle.lf_scalar.specs.Lines.{is_blank};
-ghost use Rattle.lf_scalar.specs.Folding.{trimmed};
+ghost use Rattle.lf_scalar.specs.Folding.{trimmed as trimmed_of};
 ghost use Rattle.lf_scalar.specs.views.Built.{shown as scalar_shown};
 ghost use Rattle.lf_scalar.specs.Quoted.{quote_of as quote_byte};
-ghost use Rattle.lf_yaml.specs.Flow.{next_part as next_part_of, is_empty_key as is_empty_key_of};
+ghost use Rattle.lf_yaml.specs.Flow.{next_part as next_part_of};
 ghost use Rattle.lf_yaml.specs.reading.Trees.{no_sign as no_sign_of, flow_key as flow_key_of, flow_key_by, bare_key as bare_key_of};
 ghost use Rattle.lf_yaml.specs.views.Cursor.{rows_after};
 ghost use Rattle.lf_yaml.specs.views.Places.{IsPartIn, IsPlaceIn, left_at, rows_at, signed};
@@ -16,8 +16,8 @@ ghost use Rattle.lf_yaml.specs.views.Shown.{shown};
 use crate::entry::quote_of;
 use crate::flow_scalar::{begins_flow_bytes, part_fault, sign_fault};
 use crate::flow_text::flow_text_len;
-use crate::head::byte_fault;
-use crate::keys::{ends_key, find_sign};
+use crate::head::first_fault;
+use crate::keys::{find_sign, trimmed};
 use crate::part_scalar::quoted_part;
 use crate::parts::{behind, next_part};
 use crate::place::Place;
@@ -27,28 +27,21 @@ use lf_base::bytes::before;
 use lf_base::{Kind, Refusal, Span};
 use lf_scalar::Scalar;
 use lf_scalar::lines::{blanks, past, trimmed_len};
+use lf_scalar::null_text::is_null_text;
 use lf_scalar::quotes::Quotes;
 use std::alloc::Global;
 
 /// What is told where no `:` stands behind a key: what is broken before the next part, or this part.
-fn no_sign(bytes: &[u8], above: u32, place: Place<'_>) -> Refusal
+fn no_sign(bytes: &[u8], place: Place<'_>) -> Refusal
     requires utf8 { IsUtf8 bytes.now }
     requires room { length bytes.now ≤ 2 ^ 31 }
     requires place { IsPlaceIn bytes.now place }
-    ensures { Fails result (no_sign_of (next_part_of (length bytes.now) above false (left_at place.entry) (rows_at bytes.now place.entry))) }
+    ensures { Fails result (no_sign_of (next_part_of (length bytes.now) false (left_at place.entry) (rows_at bytes.now place.entry))) }
 {
-    match next_part(bytes, above, place) {
+    match next_part(bytes, place) {
         Ok((part, _)) => sign_fault(part),
         Err(refusal) => refusal,
     }
-}
-
-/// Whether a `:` that ends a key begins a part where a key is wanted.
-fn is_empty_key(text: &[u8]) -> bool
-    requires { 0 < length text.now }
-    ensures { (at : ℕ) → result ≡ is_empty_key_of (cell (get_or text.now 0 0) at) (cells (suc at) (drop 1 text.now)) }
-{
-    text[0] == b':' && ends_key(true, past(text, 1))
 }
 
 /// The scalar of a key without quotes, whose `:` stands at a place of its part.
@@ -56,7 +49,7 @@ fn bare_scalar(alloc: Global, part: Row<'_>, place: usize) -> Result<Scalar, Ref
     requires utf8 { IsUtf8 part.text.now }
     requires within { place < length part.text.now }
     requires sign { get_or part.text.now place 0 ≡ 58 }
-    ensures { AnswersAs scalar_shown result (Ok (bare_key_of (shown part.entry).first (trimmed is_blank (cells part.entry.at (take place part.entry.text.now))))) }
+    ensures { AnswersAs scalar_shown result (Ok (bare_key_of (shown part.entry).first (trimmed_of is_blank (cells part.entry.at (take place part.entry.text.now))))) }
 {
     let len = trimmed_len(before(part.text, place));
     let end = part.at + len as u32;
@@ -71,33 +64,34 @@ fn bare_scalar(alloc: Global, part: Row<'_>, place: usize) -> Result<Scalar, Ref
     )
 }
 
-/// The key without quotes that a part begins, and the place of its `:` in the part. The lines behind the part's own begin at `next`.
+/// The key without quotes that a part begins, and the place of its `:` in the part. One that is null is left out. The lines behind the part's own begin at `next`.
 fn bare_key(
     alloc: Global,
     bytes: &[u8],
-    above: u32,
     part: Row<'_>,
     next: usize,
 ) -> Result<(Scalar, usize), Refusal>
     requires utf8 { IsUtf8 bytes.now }
     requires room { length bytes.now ≤ 2 ^ 31 }
     requires part { IsPartIn bytes.now part next }
-    ensures gives { AnswersAs (signed part.entry) result (flow_key_by (length bytes.now) above (shown part.entry).first (shown part.entry).rest (rows_after bytes.now next) None) }
+    ensures gives { AnswersAs (signed part.entry) result (flow_key_by (length bytes.now) (shown part.entry).first (shown part.entry).rest (rows_after bytes.now next) None) }
     ensures within { IfOk result (λ x. x.1 < length part.entry.text.now) }
     ensures sign { IfOk result (λ x. get_or part.entry.text.now x.1 0 ≡ 58) }
 {
     if !begins_flow_bytes(part.text[0], past(part.text, 1)) {
         return Err(part_fault(part));
     }
-    if is_empty_key(part.text) {
-        return Err(byte_fault(Kind::NotANode, part.at));
-    }
     match find_sign(true, part.text, part.at) {
-        Some(place) => match bare_scalar(alloc, part, place) {
-            Ok(scalar) => Ok((scalar, place)),
-            Err(refusal) => Err(refusal),
-        },
-        None => Err(no_sign(bytes, above, behind(part, flow_text_len(part.text), next))),
+        Some(place) => {
+            if is_null_text(trimmed(before(part.text, place))) {
+                return Err(first_fault(Kind::LeftOut, part));
+            }
+            match bare_scalar(alloc, part, place) {
+                Ok(scalar) => Ok((scalar, place)),
+                Err(refusal) => Err(refusal),
+            }
+        }
+        None => Err(no_sign(bytes, behind(part, flow_text_len(part.text), next))),
     }
 }
 
@@ -105,7 +99,6 @@ fn bare_key(
 fn quoted_key(
     alloc: Global,
     bytes: &[u8],
-    above: u32,
     part: Row<'_>,
     next: usize,
     quote: Quotes,
@@ -114,7 +107,7 @@ fn quoted_key(
     requires room { length bytes.now ≤ 2 ^ 31 }
     requires part { IsPartIn bytes.now part next }
     requires quote { get_or part.text.now 0 0 ≡ quote_byte quote }
-    ensures gives { AnswersAs (signed part.entry) result (flow_key_by (length bytes.now) above (shown part.entry).first (shown part.entry).rest (rows_after bytes.now next) (Some quote)) }
+    ensures gives { AnswersAs (signed part.entry) result (flow_key_by (length bytes.now) (shown part.entry).first (shown part.entry).rest (rows_after bytes.now next) (Some quote)) }
     ensures within { IfOk result (λ x. x.1 < length part.entry.text.now) }
     ensures sign { IfOk result (λ x. get_or part.entry.text.now x.1 0 ≡ 58) }
 {
@@ -124,7 +117,7 @@ fn quoted_key(
             if is_colon(part.text, place) {
                 Ok((scalar, place))
             } else {
-                Err(no_sign(bytes, above, behind(part, len, next)))
+                Err(no_sign(bytes, behind(part, len, next)))
             }
         }
         Err(refusal) => Err(refusal),
@@ -143,19 +136,18 @@ fn is_colon(text: &[u8], place: usize) -> bool
 pub fn flow_key(
     alloc: Global,
     bytes: &[u8],
-    above: u32,
     part: Row<'_>,
     next: usize,
 ) -> Result<(Scalar, usize), Refusal>
     requires utf8 { IsUtf8 bytes.now }
     requires room { length bytes.now ≤ 2 ^ 31 }
     requires part { IsPartIn bytes.now part next }
-    ensures gives { AnswersAs (signed part.entry) result (flow_key_of (length bytes.now) above (shown part.entry).first (shown part.entry).rest (rows_after bytes.now next)) }
+    ensures gives { AnswersAs (signed part.entry) result (flow_key_of (length bytes.now) (shown part.entry).first (shown part.entry).rest (rows_after bytes.now next)) }
     ensures within { IfOk result (λ x. x.1 < length part.entry.text.now) }
     ensures sign { IfOk result (λ x. get_or part.entry.text.now x.1 0 ≡ 58) }
 {
     match quote_of(part.text[0]) {
-        Some(quote) => quoted_key(alloc, bytes, above, part, next, quote),
-        None => bare_key(alloc, bytes, above, part, next),
+        Some(quote) => quoted_key(alloc, bytes, part, next, quote),
+        None => bare_key(alloc, bytes, part, next),
     }
 }

@@ -61,7 +61,6 @@ fn closed_span(row: Row<'_>, closing: Row<'_>) -> Span
 fn closed_sequence(
     alloc: Global,
     bytes: &[u8],
-    above: u32,
     row: Row<'_>,
     next: usize,
 ) -> Result<(Node, usize), Refusal>
@@ -69,11 +68,11 @@ fn closed_sequence(
     requires room { length bytes.now ≤ 2 ^ 31 }
     requires row { IsPartIn bytes.now row next }
     requires bracket { get_or row.text.now 0 0 ≡ 91 }
-    ensures gives { AnswersAs (λ x. (tree x.0, rows_after bytes.now x.1)) result (closed_list (shown row.entry) (sequence_in (length bytes.now) above (suc (turns (shown row.entry).rest (rows_after bytes.now next))) (shown row.entry).rest (rows_after bytes.now next))) }
+    ensures gives { AnswersAs (λ x. (tree x.0, rows_after bytes.now x.1)) result (closed_list (shown row.entry) (sequence_in (length bytes.now) (suc (turns (shown row.entry).rest (rows_after bytes.now next))) (shown row.entry).rest (rows_after bytes.now next))) }
     ensures start { IfOk result (λ x. IsCharBoundary bytes.now x.1) }
     ensures further { IfOk result (λ x. next ≤ x.1) }
 {
-    match flow_items(alloc, bytes, above, behind(row, 1, next)) {
+    match flow_items(alloc, bytes, behind(row, 1, next)) {
         Ok((items, closing, next)) => match wrong_after(closing) {
             Some(refusal) => Err(refusal),
             None => Ok((list_node(items, closed_span(row, closing)), next)),
@@ -86,7 +85,6 @@ fn closed_sequence(
 fn closed_mapping(
     alloc: Global,
     bytes: &[u8],
-    above: u32,
     row: Row<'_>,
     next: usize,
 ) -> Result<(Node, usize), Refusal>
@@ -94,11 +92,11 @@ fn closed_mapping(
     requires room { length bytes.now ≤ 2 ^ 31 }
     requires row { IsPartIn bytes.now row next }
     requires bracket { get_or row.text.now 0 0 ≡ 123 }
-    ensures gives { AnswersAs (λ x. (tree x.0, rows_after bytes.now x.1)) result (closed_map (shown row.entry) (mapping_in (length bytes.now) above (suc (turns (shown row.entry).rest (rows_after bytes.now next))) [] (shown row.entry).rest (rows_after bytes.now next))) }
+    ensures gives { AnswersAs (λ x. (tree x.0, rows_after bytes.now x.1)) result (closed_map (shown row.entry) (mapping_in (length bytes.now) (suc (turns (shown row.entry).rest (rows_after bytes.now next))) [] (shown row.entry).rest (rows_after bytes.now next))) }
     ensures start { IfOk result (λ x. IsCharBoundary bytes.now x.1) }
     ensures further { IfOk result (λ x. next ≤ x.1) }
 {
-    match flow_entries(alloc, bytes, above, behind(row, 1, next)) {
+    match flow_entries(alloc, bytes, behind(row, 1, next)) {
         Ok((entries, closing, next)) => match wrong_after(closing) {
             Some(refusal) => Err(refusal),
             None => Ok((map_node(entries, closed_span(row, closing)), next)),
@@ -111,7 +109,6 @@ fn closed_mapping(
 pub fn flow_list(
     alloc: Global,
     bytes: &[u8],
-    above: u32,
     depth: u32,
     row: Row<'_>,
     next: usize,
@@ -120,21 +117,20 @@ pub fn flow_list(
     requires room { length bytes.now ≤ 2 ^ 31 }
     requires row { IsPartIn bytes.now row next }
     requires bracket { get_or row.text.now 0 0 ≡ 91 }
-    ensures gives { AnswersAs (λ x. (tree x.0, rows_after bytes.now x.1)) result (flow_list_of (length bytes.now) above depth (shown row.entry) (rows_after bytes.now next)) }
+    ensures gives { AnswersAs (λ x. (tree x.0, rows_after bytes.now x.1)) result (flow_list_of (length bytes.now) depth (shown row.entry) (rows_after bytes.now next)) }
     ensures start { IfOk result (λ x. IsCharBoundary bytes.now x.1) }
     ensures further { IfOk result (λ x. next ≤ x.1) }
 {
     if depth == 0 {
         return Err(first_fault(Kind::TooDeep, row));
     }
-    closed_sequence(alloc, bytes, above, row, next)
+    closed_sequence(alloc, bytes, row, next)
 }
 
 /// The flow mapping that a row begins. It is `TooDeep` where no collection may stand any more.
 pub fn flow_map(
     alloc: Global,
     bytes: &[u8],
-    above: u32,
     depth: u32,
     row: Row<'_>,
     next: usize,
@@ -143,12 +139,12 @@ pub fn flow_map(
     requires room { length bytes.now ≤ 2 ^ 31 }
     requires row { IsPartIn bytes.now row next }
     requires bracket { get_or row.text.now 0 0 ≡ 123 }
-    ensures gives { AnswersAs (λ x. (tree x.0, rows_after bytes.now x.1)) result (flow_map_of (length bytes.now) above depth (shown row.entry) (rows_after bytes.now next)) }
+    ensures gives { AnswersAs (λ x. (tree x.0, rows_after bytes.now x.1)) result (flow_map_of (length bytes.now) depth (shown row.entry) (rows_after bytes.now next)) }
     ensures start { IfOk result (λ x. IsCharBoundary bytes.now x.1) }
     ensures further { IfOk result (λ x. next ≤ x.1) }
 {
     if depth == 0 {
         return Err(first_fault(Kind::TooDeep, row));
     }
-    closed_mapping(alloc, bytes, above, row, next)
+    closed_mapping(alloc, bytes, row, next)
 }

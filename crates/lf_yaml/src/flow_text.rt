@@ -4,11 +4,11 @@ ghost use Rattle.lf_scalar.specs.Cells.{cell, cells};
 ghost use Rattle.lf_scalar.specs.Plain.{before_comment};
 ghost use Rattle.lf_yaml.specs.Flow.{is_flow_sign as is_flow_sign_of, flow_text, later_colon};
 
-use crate::head::is_apart;
 use crate::keys::is_flow_sign;
 use lf_base::bytes::before;
 use lf_scalar::comments::find_comment;
 use lf_scalar::lines::{past, trimmed_len};
+use lf_scalar::markers::is_apart;
 
 /// How many bytes stand before the first `,` `[` `]` `{` or `}` of a text.
 fn find_flow_sign(text: &[u8]) -> usize

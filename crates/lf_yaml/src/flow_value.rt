@@ -60,7 +60,6 @@ pub fn missing_value(alloc: Global, at: u32) -> Result<Scalar, Refusal>
 pub fn flow_value<'a>(
     alloc: Global,
     bytes: &'a [u8],
-    above: u32,
     colon: u32,
     place: Place<'a>,
 ) -> Result<(Scalar, Place<'a>), Refusal>
@@ -68,12 +67,12 @@ pub fn flow_value<'a>(
     requires room { length bytes.now ≤ 2 ^ 31 }
     requires colon { colon < 2 ^ 31 }
     requires place { IsPlaceIn bytes.now place }
-    ensures gives { AnswersAs (λ x. (leaf (scalar_shown x.0), left_at x.1, rows_at bytes.entry.now x.1)) result (flow_value_of (length bytes.entry.now) above (cell 58 colon) (left_at place.entry) (rows_at bytes.entry.now place.entry)) }
+    ensures gives { AnswersAs (λ x. (leaf (scalar_shown x.0), left_at x.1, rows_at bytes.entry.now x.1)) result (flow_value_of (length bytes.entry.now) (cell 58 colon) (left_at place.entry) (rows_at bytes.entry.now place.entry)) }
     ensures place { IfOk result (λ x. IsPlaceIn bytes.entry.now x.1) }
     ensures further { IfOk result (λ x. place.entry.next ≤ x.1.next) }
     ensures stays { IfOk result (λ x. turns (left_at x.1) (rows_at bytes.entry.now x.1) ≤ turns (left_at place.entry) (rows_at bytes.entry.now place.entry)) }
 {
-    match next_part(bytes, above, place) {
+    match next_part(bytes, place) {
         Ok((part, next)) => {
             if ends_value(part.text[0]) {
                 match missing_value(alloc, colon + 1) {

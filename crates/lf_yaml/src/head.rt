@@ -1,31 +1,22 @@
 //! How a row begins.
 ghost use Rattle.std.specs.Prelude.{◌≡◌, ℕ, suc, ◌+◌, ◌-◌, ◌<◌, ◌≤◌, ◌^◌, length, get_or, drop, option_map};
 ghost use Rattle.lf_scalar.specs.Cells.{cell, cells, byte_fault as at_byte, character_fault};
-ghost use Rattle.lf_scalar.specs.Plain.{before_blank};
 ghost use Rattle.lf_scalar.specs.views.Built.{refused};
-ghost use Rattle.lf_yaml.specs.Rows.{indent as indent_of, left_of, is_thrice as is_thrice_of, is_mark as is_mark_of, is_property as is_property_of, is_left_out as is_left_out_of, indent_fault as indent_fault_of, row_fault as row_fault_of};
+ghost use Rattle.lf_yaml.specs.Rows.{indent as indent_of, left_of, is_mark as is_mark_of, is_property as is_property_of, is_left_out as is_left_out_of, indent_fault as indent_fault_of, row_fault as row_fault_of};
 ghost use Rattle.lf_yaml.specs.Heads.{is_item as is_item_of};
 ghost use Rattle.lf_yaml.specs.views.Shown.{shown};
 
+use crate::keys::has_null_key;
 use crate::row::Row;
 use lf_base::{Kind, Refusal, Span};
 use lf_scalar::lines::{char_len, is_blank_byte, past};
+use lf_scalar::markers::{is_apart, is_thrice};
 
 /// The column of a row's first character.
 pub fn indent(row: Row<'_>) -> u32
     ensures { result ≡ indent_of (shown row.entry) }
 {
     row.at - row.begin
-}
-
-/// Whether a text is empty or begins with a blank.
-pub fn is_apart(text: &[u8]) -> bool
-    ensures { (at : ℕ) → result ≡ before_blank (cells at text.now) }
-{
-    match text {
-        [] => true,
-        [byte, ..] => is_blank_byte(*byte),
-    }
 }
 
 /// Whether a row begins an item: `-` before a blank or the line's end.
@@ -36,18 +27,6 @@ pub fn is_item(row: Row<'_>) -> bool
         [b'-', rest @ ..] => is_apart(rest),
         [_, ..] => false,
         [] => false,
-    }
-}
-
-/// Whether a text begins with a byte three times, and then a blank or the line's end.
-fn is_thrice(byte: u8, text: &[u8]) -> bool
-    ensures { (at : ℕ) → result ≡ is_thrice_of byte (cells at text.now) }
-{
-    match text {
-        [] => false,
-        [_] => false,
-        [_, _] => false,
-        [a, b, c, rest @ ..] => *a == byte && *b == byte && *c == byte && is_apart(rest),
     }
 }
 
@@ -105,7 +84,7 @@ pub fn is_property(text: &[u8]) -> bool
 pub fn is_left_out(row: Row<'_>) -> bool
     ensures { result ≡ is_left_out_of (shown row.entry) }
 {
-    is_property(row.text) || is_mark(row)
+    is_property(row.text) || is_mark(row) || has_null_key(row.text, row.at)
 }
 
 /// The refusal of a kind whose span is one byte.

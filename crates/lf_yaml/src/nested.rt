@@ -13,7 +13,7 @@ ghost use Rattle.lf_yaml.specs.views.Headed.{headed};
 ghost use Rattle.lf_yaml.specs.views.KeySets.{HasKeys};
 ghost use Rattle.lf_yaml.specs.reading.BlockTurns.{inner, owned, values, run_items, run_entries, one_entry as one_entry_of, IsEntryRow};
 
-use crate::below::{left_behind, left_of_entry, row_below, row_beside};
+use crate::below::{left_behind, left_of_entry, row_below, row_beside, tab_behind};
 use crate::block_turns::{begins_block, entry_on, next_entry, next_item};
 use crate::entries::EntryRow;
 use crate::head::{first_fault, indent, is_item};
@@ -87,6 +87,9 @@ fn item_value(
     ensures further { IfOk result (λ x. next ≤ x.1) }
 {
     let column = indent(row);
+    if let Some(refusal) = tab_behind(row) {
+        return Err(refusal);
+    }
     match left_behind(row, 0) {
         Some(left) => node(alloc, bytes, depth, false, column + 1, left, next),
         None => match row_below(bytes, column, next) {

@@ -7,7 +7,7 @@ ghost use Rattle.lf_yaml.specs.views.Cursor.{rows_after};
 ghost use Rattle.lf_yaml.specs.views.Parts.{IsNext};
 ghost use Rattle.lf_yaml.specs.views.Places.{IsPartIn, IsPlaceIn, left_at, rows_at};
 
-use crate::head::{first_fault, indent, indent_fault, is_mark};
+use crate::head::{first_fault, indent_fault, is_mark};
 use crate::place::Place;
 use crate::row::Row;
 use crate::rows::next_row;
@@ -15,11 +15,11 @@ use lf_base::{Kind, Refusal, Span};
 use lf_scalar::lines::{blanks, past};
 
 /// The part that begins on a later line, at its first character. The line is indented, and no mark. The file doesn't end before it.
-pub fn on_line(bytes: &[u8], above: u32, next: usize) -> Result<(Row<'_>, usize), Refusal>
+pub fn on_line(bytes: &[u8], next: usize) -> Result<(Row<'_>, usize), Refusal>
     requires text { IsUtf8 bytes.now }
     requires room { length bytes.now ≤ 2 ^ 31 }
     requires start { IsCharBoundary bytes.now next }
-    ensures next { IsNext bytes.entry.now result (on_line_of (length bytes.entry.now) above (rows_after bytes.entry.now next)) }
+    ensures next { IsNext bytes.entry.now result (on_line_of (length bytes.entry.now) (rows_after bytes.entry.now next)) }
     ensures part { IfOk result (λ x. IsPartIn bytes.entry.now x.0 x.1) }
     ensures further { IfOk result (λ x. next ≤ x.1) }
 {
@@ -32,7 +32,7 @@ pub fn on_line(bytes: &[u8], above: u32, next: usize) -> Result<(Row<'_>, usize)
             })
         }
         Some((row, behind)) => {
-            if row.text[0] == b'\t' || indent(row) < above {
+            if row.text[0] == b'\t' {
                 return Err(indent_fault(row));
             }
             if is_mark(row) {
@@ -44,24 +44,20 @@ pub fn on_line(bytes: &[u8], above: u32, next: usize) -> Result<(Row<'_>, usize)
 }
 
 /// The next part from a place on, and where the lines behind its own begin: blanks are skipped, and a comment, whose `#` stands behind a blank.
-pub fn next_part<'a>(
-    bytes: &'a [u8],
-    above: u32,
-    place: Place<'a>,
-) -> Result<(Row<'a>, usize), Refusal>
+pub fn next_part<'a>(bytes: &'a [u8], place: Place<'a>) -> Result<(Row<'a>, usize), Refusal>
     requires utf8 { IsUtf8 bytes.now }
     requires room { length bytes.now ≤ 2 ^ 31 }
     requires place { IsPlaceIn bytes.now place }
-    ensures next { IsNext bytes.entry.now result (next_part_of (length bytes.entry.now) above false (left_at place.entry) (rows_at bytes.entry.now place.entry)) }
+    ensures next { IsNext bytes.entry.now result (next_part_of (length bytes.entry.now) false (left_at place.entry) (rows_at bytes.entry.now place.entry)) }
     ensures part { IfOk result (λ x. IsPartIn bytes.entry.now x.0 x.1) }
     ensures further { IfOk result (λ x. place.entry.next ≤ x.1) }
 {
     let skipped = blanks(place.text);
     match past(place.text, skipped) {
-        [] => on_line(bytes, above, place.next),
+        [] => on_line(bytes, place.next),
         [first, ..] => {
             if skipped > 0 && *first == b'#' {
-                return on_line(bytes, above, place.next);
+                return on_line(bytes, place.next);
             }
             let row = Row {
                 begin: place.begin,

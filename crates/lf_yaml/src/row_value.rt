@@ -79,8 +79,8 @@ pub fn value(
         return scalar_value(alloc, bytes, row, next, above);
     }
     match row.text[0] {
-        b'[' => flow_list(alloc, bytes, above, depth, row, next),
-        b'{' => flow_map(alloc, bytes, above, depth, row, next),
+        b'[' => flow_list(alloc, bytes, depth, row, next),
+        b'{' => flow_map(alloc, bytes, depth, row, next),
         _ => Err(row_fault(row)),
     }
 }

@@ -9,27 +9,25 @@ ghost use Rattle.lf_yaml.specs.views.Cursor.{rows_after, IsRowOf};
 
 use crate::row::Row;
 use lf_base::bytes::before;
-use lf_scalar::lines::{blanks, line_end, past, spaces};
+use lf_scalar::lines::{line_end, past, spaces};
 
-/// The row of a line that stands at an offset, none where the line is blank or a comment line.
+/// The row of a line that stands at an offset, none where the line has spaces alone or is a comment line.
 pub fn line_row(text: &[u8], at: u32) -> Option<Row<'_>>
     requires room { at + length text.now ≤ 2 ^ 31 }
     ensures row { (feed : ℕ) → MatchOption result (content_row (line (cells at text.entry.now) feed) ≡ []) (λ r. content_row (line (cells at text.entry.now) feed) ≡ shown r ∷ []) }
     ensures spaces { IfSome result (λ r. at < r.at → get_or text.entry.now (r.at - at - 1) 0 ≡ 32) }
     ensures place { IfSome result (λ r. (at ≤ r.at) × (r.text.now ≡ drop (r.at - at) text.entry.now)) }
 {
-    let skipped = blanks(text);
-    match past(text, skipped) {
+    let indent = spaces(text);
+    let rest = past(text, indent);
+    match rest {
         [] => None,
         [b'#', ..] => None,
-        [_, ..] => {
-            let indent = spaces(text);
-            Some(Row {
-                begin: at,
-                at: at + indent as u32,
-                text: past(text, indent),
-            })
-        }
+        [_, ..] => Some(Row {
+            begin: at,
+            at: at + indent as u32,
+            text: rest,
+        }),
     }
 }
 

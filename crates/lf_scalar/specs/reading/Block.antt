@@ -1,15 +1,15 @@
 -- Reading a block scalar: its header, and its body line by line. A way of reading, which defines nothing: it is proved equal to what specs/Block defines.
-use Rattle.std.specs.Prelude.{ℕ, suc, ◌-◌, min, nat_lt, List, [], ◌∷◌, ◌++◌, Bool, true, false, Option, Some, None, Result, Ok, Err, ◌==◌, ◌&&◌, ◌||◌, if◌then◌else◌}
+use Rattle.std.specs.Prelude.{ℕ, suc, ◌-◌, min, nat_lt, List, [], ◌∷◌, ◌++◌, Bool, true, false, Option, Some, None, is_none, Result, Ok, Err, ◌==◌, ◌&&◌, ◌||◌, if◌then◌else◌}
 use Rattle.std.specs.List.{list_all}
 use Rattle.lf_base.specs.declared.kind.Kind.TheVariants.{BadHeader}
 use Rattle.lf_scalar.specs.declared.block.Chomp.{Chomp}
 use Rattle.lf_scalar.specs.declared.block.Chomp.TheVariants.{Strip, Clip, Keep}
 use Rattle.lf_base.specs.declared.fault.Fault.{Fault}
 use Rattle.lf_base.specs.Faults.{span, fault}
-use Rattle.lf_scalar.specs.Cells.{Cell, cell, Value, made, end_of, character_fault}
+use Rattle.lf_scalar.specs.Cells.{Cell, cell, Value, made, end_of, character_fault, ◌>>=◌}
 use Rattle.lf_scalar.specs.Lines.{Line, lines}
 use Rattle.lf_scalar.specs.Folding.{fold, feeds, trimmed}
-use Rattle.lf_scalar.specs.Block.{content_indent, body_of, chomped, begins_blank}
+use Rattle.lf_scalar.specs.Block.{content_indent, body_of, body_fault, chomped, begins_blank}
 use Rattle.lf_scalar.specs.reading.Quoted.{wrong_behind}
 
 -- ---- the header
@@ -74,19 +74,28 @@ unfoldable pub folded_of : List Line → List Cell
 folded_of [] = []
 folded_of (l ∷ ls) = if is_empty l then cell 10 l.break ∷ folded_of ls else stretch_of l 0 ls
 
--- the text of a body whose lines are joined or folded
-abbrev pub block_text : (List Line → List Cell) → Chomp → List Line → List Cell
-block_text joins chomp body = joins (trimmed is_empty body) ++ chomped chomp (trimmed is_empty body) (empties body)
+-- the text of a body whose lines are joined or folded, of a source that ends at an offset
+abbrev pub block_text : (List Line → List Cell) → ℕ → Chomp → List Line → List Cell
+block_text joins end chomp body = joins (trimmed is_empty body) ++ chomped end chomp (trimmed is_empty body) (empties body)
+
+-- a text, unless something breaks it
+abbrev pub unless_broken : Option Fault → List Cell → Result (List Cell) Fault
+unless_broken None text = Ok text
+unless_broken (Some f) text = Err f
+
+-- the text of the body that some lines begin with
+abbrev pub body_read : (List Line → List Cell) → ℕ → ℕ → Chomp → Option ℕ → List Line → Result (List Cell) Fault
+body_read joins above end chomp digit following =
+    let k = content_indent above digit following in
+    unless_broken (body_fault (is_none digit) above k following) (block_text joins end chomp (body_of k following))
 
 -- ---- the scalar
 
-abbrev pub block_value : (List Line → List Cell) → ℕ → ℕ → Cell → List Line → Chomp × Option ℕ → Value
-block_value joins above end sign following header =
-    let text = block_text joins header.0 (body_of (content_indent above header.1 following) following) in
-    made text (min (end_of (suc sign.at) text) end) (span sign.at (min (end_of (suc sign.at) text) end))
+abbrev pub block_value : ℕ → Cell → List Cell → Value
+block_value end sign text = made text (min (end_of (suc sign.at) text) end) (span sign.at (min (end_of (suc sign.at) text) end))
 
 abbrev pub block_read : (List Line → List Cell) → ℕ → ℕ → Cell → List Line → Header → Result Value Fault
-block_read joins above end sign following (Ok header) = Ok (block_value joins above end sign following header)
+block_read joins above end sign following (Ok header) = body_read joins above end header.0 header.1 following >>= λ text. Ok (block_value end sign text)
 block_read joins above end sign following (Err wrong) = Err (character_fault BadHeader wrong)
 
 abbrev pub block_begun : (List Line → List Cell) → ℕ → ℕ → ℕ → List Cell → List Line → Result Value Fault

@@ -1,5 +1,7 @@
 -- Reading a block scalar's header byte by byte and its body line by line, as the code does. A way of reading, it defines nothing: proofs tell that it gives what the definitions have.
 use Rattle.std.specs.Prelude.{◌≡◌, ℕ, suc, ◌+◌, ◌≤◌, List, [], ◌∷◌, ◌++◌, length, map, take, drop, Bool, true, false, Option, Some, None, Result, Ok, Err, get_or, ◌||◌, if◌then◌else◌}
+use Rattle.lf_base.specs.declared.refusal.Refusal.{Refusal}
+use Rattle.lf_base.specs.Answers.{IfAt}
 use Rattle.lf_scalar.specs.declared.body.Body.{Body}
 use Rattle.lf_scalar.specs.declared.body.Role.{Role}
 use Rattle.lf_scalar.specs.declared.body.Role.TheVariants as role
@@ -14,9 +16,9 @@ use Rattle.lf_scalar.specs.declared.block.Chomp.TheVariants.{Strip, Clip, Keep}
 use Rattle.lf_scalar.specs.declared.scalar.Style.{Style}
 use Rattle.lf_scalar.specs.declared.scalar.Style.TheVariants as style
 use Rattle.lf_scalar.specs.Cells.{Cell, cell}
-use Rattle.lf_scalar.specs.Lines.{Line, lines_at, is_spaces}
+use Rattle.lf_scalar.specs.Lines.{Line, lines_at}
 use Rattle.lf_scalar.specs.Folding.{fold, feeds, trimmed}
-use Rattle.lf_scalar.specs.Block.{joined, breaks, last_break, in_body, content, body_of, begins_blank}
+use Rattle.lf_scalar.specs.Block.{joined, line_ends, last_end, in_body, content, body_of, body_fault, begins_blank}
 use Rattle.lf_scalar.specs.reading.Block.{chomp_of, mark_digit, chomp_or, Header as HeaderRead, is_empty, empties, stretch_of, folded_of}
 
 -- ---- the header
@@ -42,9 +44,9 @@ abbrev pub joins_of : Joining → List Line → List Cell
 joins_of joining_of.Literal ls = joined ls
 joins_of joining_of.Folded ls = folded_of ls
 
--- what lines give that have a text: what follows the content indent
+-- what lines give: what follows the content indent
 abbrev pub contents : ℕ → List Line → List Line
-contents k ls = map (content k false) ls
+contents k ls = map (content k) ls
 
 -- the style whose scalars are joined so
 abbrev pub style_of : Joining → Style
@@ -89,20 +91,20 @@ abbrev pub FewBehind : Option LastLine → ℕ → Type 0
 FewBehind None n = Unit {0}
 FewBehind (Some o) n = o.empty ≤ n
 
--- what a line is to a body
-abbrev pub IsRole : ℕ → Line → Role → Type 0
-IsRole k l role.Behind = in_body k l ≡ false
-IsRole k l role.Spaces = is_spaces l ≡ true
-IsRole k l role.Text = (in_body k l ≡ true) × (is_spaces l ≡ false)
+-- what a line is to a body, and what breaks the body there, whatever the lines behind it are
+abbrev pub IsRole : Bool → ℕ → ℕ → Line → Role → Type 0
+IsRole leads above k l role.Behind = (in_body k l ≡ false) × ((ls : List Line) → body_fault leads above k (l ∷ ls) ≡ None)
+IsRole leads above k l role.Spaces = (in_body k l ≡ true) × ((ls : List Line) → body_fault leads above k (l ∷ ls) ≡ body_fault leads above k ls)
+IsRole leads above k l role.Text = (in_body k l ≡ true) × ((ls : List Line) → body_fault leads above k (l ∷ ls) ≡ body_fault false above k ls)
 
--- what is found with a line more, whose line break stands at a place
-abbrev pub body_with : Body → Bool → ℕ → ℕ → Body
-body_with b true feed at = record { full = b.full + b.empty + 1; last = Some (at + feed); behind = feed + 1; empty = 0 }
-body_with b false feed at = record { full = b.full; last = b.last; behind = b.behind; empty = b.empty + 1 }
+abbrev pub TellsRole : Bool → ℕ → ℕ → Line → Result Role Refusal → Type 0
+TellsRole leads above k l (Ok role) = IsRole leads above k l role
+TellsRole leads above k l (Err e) = IfAt e (λ f. (ls : List Line) → body_fault leads above k (l ∷ ls) ≡ Some f)
 
--- the same lines where each is empty
-abbrev pub body_of_empty : Body → Body
-body_of_empty b = record { full = 0; last = None; behind = 0; empty = b.full + b.empty }
+-- what is found with a line more, whose line break stands at a place, if it has one
+abbrev pub body_with : Body → Bool → ℕ → Option ℕ → Body
+body_with b true feed break = record { full = b.full + b.empty + 1; last = break; behind = feed + 1; empty = 0 }
+body_with b false feed break = record { full = b.full; last = b.last; behind = b.behind; empty = b.empty + 1 }
 
 -- What the code finds of the lines of a body, whose first bytes are the lines up to the last that isn't empty.
 pub record IsBody (k at : ℕ) (bytes : List ℕ) (b : Body) : Type 0 where
@@ -112,14 +114,19 @@ pub record IsBody (k at : ℕ) (bytes : List ℕ) (b : Body) : Type 0 where
   pub source : lines_at at bytes ≡ full ++ (empty ++ left)
   pub full_is : b.full ≡ length full
   pub empty_is : b.empty ≡ length empty
-  pub last_is : last_break full ≡ break_of b.last
+  pub last_is : last_end (at + length bytes) full ≡ break_of b.last
   pub behind : lines_at (at + b.behind) (drop b.behind bytes) ≡ empty ++ left
   pub within : b.behind ≤ length bytes + 1
   pub texts : trimmed is_empty (body_of k (lines_at at bytes)) ≡ contents k full
-  pub breaks_are : breaks (empties (body_of k (lines_at at bytes))) ≡ breaks empty
+  pub empties_are : empties (body_of k (lines_at at bytes)) ≡ contents k empty
 
--- what stands at the end of a body, whose last empty lines begin these
-abbrev pub chomped_behind : Chomp → Body → List Line → List Cell
-chomped_behind Strip b ls = []
-chomped_behind Clip b ls = break_of b.last
-chomped_behind Keep b ls = break_of b.last ++ breaks (take b.empty ls)
+-- the same, or what breaks the body
+abbrev pub FindsBody : Bool → ℕ → ℕ → ℕ → List ℕ → Result Body Refusal → Type 0
+FindsBody leads above k at bytes (Ok b) = IsBody k at bytes b × (body_fault leads above k (lines_at at bytes) ≡ None)
+FindsBody leads above k at bytes (Err e) = IfAt e (λ f. body_fault leads above k (lines_at at bytes) ≡ Some f)
+
+-- what stands at the end of a body, whose last empty lines begin these bytes
+abbrev pub chomped_behind : Chomp → Body → ℕ → List ℕ → List Cell
+chomped_behind Strip b at bytes = []
+chomped_behind Clip b at bytes = break_of b.last
+chomped_behind Keep b at bytes = break_of b.last ++ line_ends (at + length bytes) (take b.empty (lines_at at bytes))

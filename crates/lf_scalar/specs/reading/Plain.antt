@@ -1,5 +1,5 @@
 -- Reading a plain scalar line by line. A way of reading, which defines nothing: it is proved equal to what specs/Plain defines.
-use Rattle.std.specs.Prelude.{◌≡◌, ℕ, zero, suc, Bool, true, false, get_or, ◌==◌, ◌&&◌, List, [], ◌∷◌, ◌++◌, Option, Some, None, Result, Ok, Err, if◌then◌else◌}
+use Rattle.std.specs.Prelude.{◌≡◌, ℕ, zero, suc, ◌+◌, ◌<◌, ◌^◌, IfSome, Bool, true, false, get_or, ◌==◌, ◌&&◌, List, [], ◌∷◌, ◌++◌, Option, Some, None, Result, Ok, Err, if◌then◌else◌}
 use Rattle.lf_base.specs.declared.kind.Kind.TheVariants.{BadIndent, NotANode}
 use Rattle.lf_base.specs.declared.refusal.Refusal.{Refusal}
 use Rattle.lf_scalar.specs.declared.plain.Folded.{Folded}
@@ -7,7 +7,7 @@ use Rattle.lf_scalar.specs.declared.plain.Onward.{Onward}
 use Rattle.lf_scalar.specs.declared.plain.Onward.TheVariants as onward
 use Rattle.lf_base.specs.declared.fault.Fault.{Fault}
 use Rattle.lf_scalar.specs.Cells.{Cell, cell, cells, Value, Fails, byte_fault, front, ◌>>=◌}
-use Rattle.lf_scalar.specs.Lines.{Line, lines, is_blank, is_blank_line}
+use Rattle.lf_scalar.specs.Lines.{Line, lines, start_of, is_blank, is_blank_line}
 use Rattle.lf_scalar.specs.Folding.{fold}
 use Rattle.lf_scalar.specs.Plain.{plain_text, is_commented, before_blank, key_sign, continues, has_tab, value_of}
 
@@ -18,23 +18,27 @@ unless_key text (Some c) = Err (byte_fault NotANode c.at)
 abbrev pub plain_line : Line → Result (List Cell) Fault
 plain_line l = unless_key (plain_text l) (key_sign (plain_text l))
 
--- the offset of a line's first byte
-abbrev pub start_of : Line → List Cell → ℕ
-start_of l [] = l.break
-start_of l (c ∷ cs) = c.at
+-- where the first line with a tab behind its spaces begins, with a line more
+abbrev pub tab_with : Option ℕ → Line → Option ℕ
+tab_with None l = if has_tab l then Some (start_of l) else None
+tab_with (Some at) l = Some at
 
--- what follows a line break at an offset with so many blank lines so far
-unfoldable pub plain_behind : ℕ → ℕ → ℕ → List Line → Result (List Cell) Fault
-plain_behind above break k [] = Ok []
-plain_behind above break k (l ∷ ls) =
-    if is_blank_line l then plain_behind above break (suc k) ls
+-- what is read of a line that goes on, unless there is such a tab
+abbrev pub unless_tab : Option ℕ → Result (List Cell) Fault → Result (List Cell) Fault
+unless_tab None read = read
+unless_tab (Some at) read = Err (byte_fault BadIndent at)
+
+-- what follows a line break at an offset with so many blank lines so far, and where the first of these begins that has a tab behind its spaces
+unfoldable pub plain_behind : ℕ → ℕ → ℕ → Option ℕ → List Line → Result (List Cell) Fault
+plain_behind above break k tab [] = Ok []
+plain_behind above break k tab (l ∷ ls) =
+    if is_blank_line l then plain_behind above break (suc k) (tab_with tab l) ls
     else if continues above l then
-    (if has_tab l then Err (byte_fault BadIndent (start_of l l.text))
-    else front (fold break k) (plain_line l >>= λ text. front text (if is_commented l then Ok [] else plain_behind above l.break 0 ls)))
+    unless_tab (tab_with tab l) (front (fold break k) (plain_line l >>= λ text. front text (if is_commented l then Ok [] else plain_behind above l.break 0 None ls)))
     else Ok []
 
 abbrev pub plain_from : ℕ → Line → List Line → Result (List Cell) Fault
-plain_from above l ls = plain_line l >>= λ text. front text (if is_commented l then Ok [] else plain_behind above l.break 0 ls)
+plain_from above l ls = plain_line l >>= λ text. front text (if is_commented l then Ok [] else plain_behind above l.break 0 None ls)
 
 abbrev pub plain_lines_text : ℕ → List Line → Result (List Cell) Fault
 plain_lines_text above [] = Ok []
@@ -68,14 +72,17 @@ key_at (b ∷ bytes) (suc n) = key_at bytes n
 -- what the code tells of a line behind a line of the scalar
 abbrev pub IsOnward : ℕ → Line → Onward → Type 0
 IsOnward above l onward.Blank = is_blank_line l ≡ true
-IsOnward above l onward.Continues = (is_blank_line l ≡ false) × (continues above l ≡ true) × (has_tab l ≡ false)
-IsOnward above l onward.Tab = (is_blank_line l ≡ false) × (continues above l ≡ true) × (has_tab l ≡ true)
+IsOnward above l onward.Continues = (is_blank_line l ≡ false) × (continues above l ≡ true)
 IsOnward above l onward.Ends = (is_blank_line l ≡ false) × (continues above l ≡ false)
+
+-- an offset behind which there is room for one byte
+abbrev pub HasRoom : Option ℕ → Type 0
+HasRoom tab = IfSome tab (λ at. at + 1 < 2 ^ 32)
 
 -- What a step over the line behind a line break returned, and what it did to a text: another line break waits, the scalar has ended, or the line breaks it. What follows
 -- that line doesn't matter.
 abbrev pub Steps : ℕ → Folded → Line → Result (Option Folded) Refusal → List Cell → List Cell → Type 0
 Steps above folded l (Ok (Some next)) old now =
-    (part : List Cell) × (now ≡ old ++ part) × ((ls : List Line) → plain_behind above folded.at folded.blank (l ∷ ls) ≡ front part (plain_behind above next.at next.blank ls))
-Steps above folded l (Ok None) old now = (part : List Cell) × (now ≡ old ++ part) × ((ls : List Line) → plain_behind above folded.at folded.blank (l ∷ ls) ≡ Ok part)
-Steps above folded l (Err e) old now = (ls : List Line) → Fails e (plain_behind above folded.at folded.blank (l ∷ ls))
+    (part : List Cell) × (now ≡ old ++ part) × ((ls : List Line) → plain_behind above folded.at folded.blank folded.tab (l ∷ ls) ≡ front part (plain_behind above next.at next.blank next.tab ls))
+Steps above folded l (Ok None) old now = (part : List Cell) × (now ≡ old ++ part) × ((ls : List Line) → plain_behind above folded.at folded.blank folded.tab (l ∷ ls) ≡ Ok part)
+Steps above folded l (Err e) old now = (ls : List Line) → Fails e (plain_behind above folded.at folded.blank folded.tab (l ∷ ls))

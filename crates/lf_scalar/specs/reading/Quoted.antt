@@ -1,8 +1,8 @@
 -- Reading what stands between quotes, piece by piece. A way of reading, which defines nothing: it is proved equal to what specs/Quoted defines.
-use Rattle.std.specs.Prelude.{◌≡◌, ◌≢◌, ℕ, zero, suc, ◌+◌, ◌*◌, List, [], ◌∷◌, ◌++◌, length, take, drop, get_or, leb, Bool, true, false, not, is_some, Option, Some, None, Result, Ok, Err, ◌==◌, ◌&&◌, if◌then◌else◌}
+use Rattle.std.specs.Prelude.{◌≡◌, ◌≢◌, ℕ, zero, suc, ◌+◌, ◌*◌, List, [], ◌∷◌, ◌++◌, length, take, drop, get_or, Bool, true, false, Option, Some, None, Result, Ok, Err, ◌==◌, ◌&&◌, if◌then◌else◌}
 use Rattle.std.specs.List.{flat_map}
 use lib.Utf8.{scalar}
-use Rattle.lf_base.specs.declared.kind.Kind.TheVariants.{BadEscape, OpenQuote, BadIndent, NotANode}
+use Rattle.lf_base.specs.declared.kind.Kind.TheVariants.{BadEscape, OpenQuote, LeftOut, NotANode}
 use Rattle.lf_scalar.specs.declared.escapes.Given.{Given}
 use Rattle.lf_scalar.specs.declared.escapes.Given.TheVariants as given_of
 use Rattle.lf_base.specs.declared.refusal.Refusal.{Refusal}
@@ -13,7 +13,8 @@ use Rattle.lf_scalar.specs.declared.quotes.Step.TheVariants as step
 use Rattle.lf_base.specs.declared.fault.Fault.{Fault}
 use Rattle.lf_base.specs.Faults.{span}
 use Rattle.lf_scalar.specs.Cells.{Cell, cell, cells, Value, made, byte_fault, character_fault, front, Fails, ◌>>=◌}
-use Rattle.lf_scalar.specs.Lines.{Line, line, lines, first_text, begins_with, is_blank, after_spaces, indent_of, is_blank_line}
+use Rattle.lf_scalar.specs.Lines.{Line, line, lines, start_of, first_text, begins_with, is_blank, is_blank_line}
+use Rattle.lf_scalar.specs.Markers.{is_marker}
 use Rattle.lf_scalar.specs.Folding.{trimmed}
 use Rattle.lf_scalar.specs.Quoted.{Quotes, Single, Double, Piece, Bare, Twice, Letter, Number, given, char_cells, letter_of, width_of, digit_of, is_bare_blank, Break, Folds, Drops, filled, unindented}
 
@@ -158,41 +159,30 @@ abbrev pub LineAnswers : Result AtBreak Refusal → List Cell → List Cell → 
 LineAnswers (Ok b) old now break read = (part : List Cell) × (read ≡ Ok (part, broken b break)) × (now ≡ old ++ part)
 LineAnswers (Err e) old now break read = Fails e read
 
--- a wrong escape stands at the front of what a line has left
-abbrev pub begins_bad_escape : Quotes → List Cell → Bool
-begins_bad_escape kind [] = false
-begins_bad_escape kind (c ∷ []) = false
-begins_bad_escape kind (c ∷ d ∷ more) = (c.byte == 92) && not (is_some (piece_of kind c (d ∷ more)))
-
--- the fault of a line that isn't indented, by what stands behind its spaces
-abbrev pub unindented_at : Quotes → Line → List Cell → Fault
-unindented_at kind l [] = byte_fault BadIndent l.break
-unindented_at kind l (c ∷ cs) = character_fault (if begins_bad_escape kind (c ∷ cs) then BadEscape else BadIndent) c
-
 -- cells before those of a line
 abbrev pub prefixed : List Cell → Result (List Cell × Break) Fault → Result (List Cell × Break) Fault
 prefixed cs read = read >>= λ x. Ok (cs ++ x.0, x.1)
 
 -- what a line break with so many blank lines behind it and the next line give
-abbrev pub next_line : Quotes → ℕ → Break → ℕ → Line → Result (List Cell × Break) Fault
-next_line kind above break k l = if leb above (indent_of l.text) then prefixed (filled break k) (line_of kind (unindented l)) else Err (unindented_at kind l (after_spaces l.text))
+abbrev pub next_line : Quotes → Break → ℕ → Line → Result (List Cell × Break) Fault
+next_line kind break k l = if is_marker l then Err (byte_fault LeftOut (start_of l)) else prefixed (filled break k) (line_of kind (unindented l))
 
 -- what follows a line break with so many blank lines so far
-unfoldable pub lines_behind : Quotes → ℕ → Break → ℕ → List Line → Result (List Cell) Fault
-lines_behind kind above break k [] = Ok []
-lines_behind kind above break k (l ∷ ls) =
-    if is_blank_line l then lines_behind kind above break (suc k) ls
-    else if leb above (indent_of l.text) then front (filled break k) (line_of kind (unindented l) >>= λ x. front x.0 (lines_behind kind above x.1 0 ls))
-    else Err (unindented_at kind l (after_spaces l.text))
+unfoldable pub lines_behind : Quotes → Break → ℕ → List Line → Result (List Cell) Fault
+lines_behind kind break k [] = Ok []
+lines_behind kind break k (l ∷ ls) =
+    if is_blank_line l then lines_behind kind break (suc k) ls
+    else if is_marker l then Err (byte_fault LeftOut (start_of l))
+    else front (filled break k) (line_of kind (unindented l) >>= λ x. front x.0 (lines_behind kind x.1 0 ls))
 
-abbrev pub lines_from : Quotes → ℕ → Line → List Line → Result (List Cell) Fault
-lines_from kind above l ls = line_of kind l >>= λ x. front x.0 (lines_behind kind above x.1 0 ls)
+abbrev pub lines_from : Quotes → Line → List Line → Result (List Cell) Fault
+lines_from kind l ls = line_of kind l >>= λ x. front x.0 (lines_behind kind x.1 0 ls)
 
 -- ---- the scalar
 
-abbrev pub lines_of : Quotes → ℕ → List Line → Result (List Cell) Fault
-lines_of kind above [] = Ok []
-lines_of kind above (l ∷ ls) = lines_from kind above l ls
+abbrev pub lines_of : Quotes → List Line → Result (List Cell) Fault
+lines_of kind [] = Ok []
+lines_of kind (l ∷ ls) = lines_from kind l ls
 
 -- the first cell that can't stand behind a scalar on its line
 abbrev pub wrong_behind : Bool → List Cell → Option Cell
@@ -203,10 +193,10 @@ abbrev pub alone : Value → Option Cell → Result Value Fault
 alone v None = Ok v
 alone v (Some c) = Err (character_fault NotANode c)
 
-abbrev pub closed : Quotes → ℕ → ℕ → Cell → Option Closing → Result Value Fault
-closed kind above end opening None = Err (byte_fault OpenQuote opening.at)
-closed kind above end opening (Some x) =
-    lines_of kind above (lines (x.1.0.at + 1) (x.0 ++ x.1.0 ∷ [])) >>= λ text. alone (made text x.1.0.at (span opening.at (x.1.0.at + 1))) (wrong_behind false (first_text (lines end x.1.1)))
+abbrev pub closed : Quotes → ℕ → Cell → Option Closing → Result Value Fault
+closed kind end opening None = Err (byte_fault OpenQuote opening.at)
+closed kind end opening (Some x) =
+    lines_of kind (lines (x.1.0.at + 1) (x.0 ++ x.1.0 ∷ [])) >>= λ text. alone (made text x.1.0.at (span opening.at (x.1.0.at + 1))) (wrong_behind false (first_text (lines end x.1.1)))
 
-unfoldable pub quoted_of : Quotes → ℕ → ℕ → Cell → List Cell → Result Value Fault
-quoted_of kind above end opening src = closed kind above end opening (closing_of kind 0 src)
+unfoldable pub quoted_of : Quotes → ℕ → Cell → List Cell → Result Value Fault
+quoted_of kind end opening src = closed kind end opening (closing_of kind 0 src)

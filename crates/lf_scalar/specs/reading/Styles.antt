@@ -12,13 +12,13 @@ use Rattle.lf_scalar.specs.reading.Plain.{plain_of}
 use Rattle.lf_scalar.specs.Block.{joined}
 use Rattle.lf_scalar.specs.reading.Block.{block_of, folded_of}
 
-abbrev pub quoted_at : Quotes → ℕ → ℕ → List Cell → Result Value Fault
-quoted_at kind above end [] = Err (fault OpenQuote (span end end))
-quoted_at kind above end (opening ∷ src) = quoted_of kind above end opening src
+abbrev pub quoted_at : Quotes → ℕ → List Cell → Result Value Fault
+quoted_at kind end [] = Err (fault OpenQuote (span end end))
+quoted_at kind end (opening ∷ src) = quoted_of kind end opening src
 
 abbrev pub reading : Style → ℕ → ℕ → List Cell → Result Value Fault
 reading style.Plain above end src = plain_of above end src
-reading style.Single above end src = quoted_at Single above end src
-reading style.Double above end src = quoted_at Double above end src
+reading style.Single above end src = quoted_at Single end src
+reading style.Double above end src = quoted_at Double end src
 reading style.Literal above end src = block_of joined above end src
 reading style.Folded above end src = block_of folded_of above end src

@@ -66,12 +66,12 @@ TurnsEntries bytes later keys (Ok turn) read = read ≡ turned_entries bytes lat
 TurnsEntries bytes later keys (Err e) read = Fails e read
 
 -- a key that is new to those before it, its `:` and what stands behind it on its line
-abbrev pub new_key : ℕ → ℕ → List (List ℕ) → Cell → List Cell → List Row → Result Signed Fault
-new_key end above keys c cs rs = flow_key end above c cs rs >>= λ k. if has keys k.0.text then Err (fault DoubleKey k.0.span) else Ok k
+abbrev pub new_key : ℕ → List (List ℕ) → Cell → List Cell → List Row → Result Signed Fault
+new_key end keys c cs rs = flow_key end c cs rs >>= λ k. if has keys k.0.text then Err (fault DoubleKey k.0.span) else Ok k
 
 -- such a key, its value, and what is left
-abbrev pub entry_at : ℕ → ℕ → List (List ℕ) → Cell → List Cell → List Row → Result (Value × Tree × List Cell × List Row) Fault
-entry_at end above keys c cs rs = new_key end above keys c cs rs >>= λ k. flow_value end above k.1 k.2 rs >>= λ x. Ok (k.0, x.0, x.1, x.2)
+abbrev pub entry_at : ℕ → List (List ℕ) → Cell → List Cell → List Row → Result (Value × Tree × List Cell × List Row) Fault
+entry_at end keys c cs rs = new_key end keys c cs rs >>= λ k. flow_value end k.1 k.2 rs >>= λ x. Ok (k.0, x.0, x.1, x.2)
 
 abbrev pub left_behind : List ℕ → Entry × Place → Value × Tree × List Cell × List Row
 left_behind bytes x = ((pair x.0).0, (pair x.0).1, left_at x.1, rows_at bytes x.1)

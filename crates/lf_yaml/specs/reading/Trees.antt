@@ -1,7 +1,7 @@
 -- A way of reading a document row by row, which defines nothing: proofs/Laws shows that it is the definition.
 use Rattle.std.specs.Prelude.{ℕ, zero, suc, ◌+◌, List, [], ◌∷◌, ◌++◌, length, Bool, true, false, not, Option, Some, None, Result, Ok, Err, nat_lt, bytes_eq, is_some, is_none, ◌==◌, ◌&&◌, ◌||◌, if◌then◌else◌}
 use Rattle.std.specs.List.{list_any}
-use Rattle.lf_base.specs.declared.kind.Kind.TheVariants.{OpenQuote, DoubleKey, NotANode, TooDeep}
+use Rattle.lf_base.specs.declared.kind.Kind.TheVariants.{OpenQuote, LeftOut, DoubleKey, NotANode, TooDeep}
 use Rattle.lf_scalar.specs.declared.quotes.Quotes.{Quotes}
 use Rattle.lf_scalar.specs.declared.quotes.Quotes.TheVariants.{Single, Double}
 use Rattle.lf_base.specs.declared.fault.Fault.{Fault}
@@ -9,15 +9,15 @@ use Rattle.lf_base.specs.Faults.{span, fault}
 use Rattle.lf_scalar.specs.Cells.{Cell, Value, made, end_of, byte_fault, character_fault, ◌>>=◌}
 use Rattle.lf_scalar.specs.Lines.{is_blank, after_blanks}
 use Rattle.lf_scalar.specs.Folding.{trimmed}
-use Rattle.lf_scalar.specs.Plain.{before_blank, begins_plain, value_of}
+use Rattle.lf_scalar.specs.Plain.{before_blank, begins_plain, is_null, value_of}
 use Rattle.lf_scalar.specs.Scalars.{source_at}
 use Rattle.lf_scalar.specs.reading.Quoted.{Closing, closing_of, wrong_behind, quoted_of}
 use Rattle.lf_scalar.specs.reading.Styles as scalar
 use Rattle.lf_yaml.specs.Tree.{Tree, leaf, sequence, mapping, Items, no_items, item, Entries, no_entries, entry}
 use Rattle.lf_yaml.specs.Spans.{items_end, entries_end, empty_at}
-use Rattle.lf_yaml.specs.Rows.{Row, text_of, indent, rows_from, left_of, is_left_out, indent_fault, row_fault}
+use Rattle.lf_yaml.specs.Rows.{Row, text_of, indent, rows_from, left_of, tab_in, is_left_out, indent_fault, row_fault}
 use Rattle.lf_yaml.specs.Heads.{is_item, Split, key_in, never, Key, Bare, Between, style_of, begins_scalar}
-use Rattle.lf_yaml.specs.Flow.{Next, at_part, broken, next_part, is_flow_sign, begins_flow, flow_text, behind_text, later_colon, part_fault, sign_fault, ends_key, is_empty_key}
+use Rattle.lf_yaml.specs.Flow.{Next, at_part, broken, next_part, is_flow_sign, begins_flow, flow_text, behind_text, later_colon, part_fault, sign_fault}
 
 -- ---- keys
 
@@ -58,7 +58,7 @@ entry_of r = entry_by r (quotes_of r.first)
 -- a scalar between quotes that closes on its line
 abbrev pub between_of : Quotes → Cell → Option Closing → Result Value Fault
 between_of kind c None = Err (byte_fault OpenQuote c.at)
-between_of kind c (Some x) = quoted_of kind 0 (x.1.0.at + 1) c (x.0 ++ x.1.0 ∷ [])
+between_of kind c (Some x) = quoted_of kind (x.1.0.at + 1) c (x.0 ++ x.1.0 ∷ [])
 
 unfoldable pub key_of : Cell → List Cell → Key → Result Value Fault
 key_of c cs (Bare text) = Ok (made text (end_of c.at text) (span c.at (end_of c.at text)))
@@ -115,17 +115,17 @@ sequence_sign later v (at_part c cs rs) =
     else if c.byte == 93 then Ok (item (leaf v) no_items, c, cs, rs)
     else Err (sign_fault c)
 
-abbrev pub sequence_behind : ℕ → ℕ → (List Cell → List Row → FlowRead Items) → List Row → Result Part Fault → FlowRead Items
-sequence_behind end above later rs read = read >>= λ x. sequence_sign later x.0 (next_part end above false x.1 rs)
+abbrev pub sequence_behind : ℕ → (List Cell → List Row → FlowRead Items) → List Row → Result Part Fault → FlowRead Items
+sequence_behind end later rs read = read >>= λ x. sequence_sign later x.0 (next_part end false x.1 rs)
 
-abbrev pub sequence_part : ℕ → ℕ → (List Cell → List Row → FlowRead Items) → Next → FlowRead Items
-sequence_part end above later (broken f) = Err f
-sequence_part end above later (at_part c cs rs) = if c.byte == 93 then Ok (no_items, c, cs, rs) else sequence_behind end above later rs (flow_scalar c cs)
+abbrev pub sequence_part : ℕ → (List Cell → List Row → FlowRead Items) → Next → FlowRead Items
+sequence_part end later (broken f) = Err f
+sequence_part end later (at_part c cs rs) = if c.byte == 93 then Ok (no_items, c, cs, rs) else sequence_behind end later rs (flow_scalar c cs)
 
 -- The number bounds the turns. The count of the cells and rows and one is always enough.
-unfoldable pub sequence_in : ℕ → ℕ → ℕ → List Cell → List Row → FlowRead Items
-sequence_in end above zero cs rs = Err (byte_fault NotANode 0)
-sequence_in end above (suc n) cs rs = sequence_part end above (λ cs rs. sequence_in end above n cs rs) (next_part end above false cs rs)
+unfoldable pub sequence_in : ℕ → ℕ → List Cell → List Row → FlowRead Items
+sequence_in end zero cs rs = Err (byte_fault NotANode 0)
+sequence_in end (suc n) cs rs = sequence_part end (λ cs rs. sequence_in end n cs rs) (next_part end false cs rs)
 
 -- a key, its `:` and what stands behind it on its line
 abbrev pub Signed : Type 0
@@ -135,28 +135,28 @@ abbrev pub no_sign : Next → Result Signed Fault
 no_sign (broken f) = Err f
 no_sign (at_part c cs rs) = Err (sign_fault c)
 
-abbrev pub signed : ℕ → ℕ → Value → List Cell → List Row → Option (Cell × List Cell) → Result Signed Fault
-signed end above v behind rs None = no_sign (next_part end above false behind rs)
-signed end above v behind rs (Some x) = Ok (v, x.0, x.1)
+abbrev pub signed : ℕ → Value → List Cell → List Row → Option (Cell × List Cell) → Result Signed Fault
+signed end v behind rs None = no_sign (next_part end false behind rs)
+signed end v behind rs (Some x) = Ok (v, x.0, x.1)
 
-abbrev pub signed_behind : ℕ → ℕ → List Cell → List Row → Result Value Fault → Result Signed Fault
-signed_behind end above behind rs read = read >>= λ v. signed end above v behind rs (sign_behind behind)
+abbrev pub signed_behind : ℕ → List Cell → List Row → Result Value Fault → Result Signed Fault
+signed_behind end behind rs read = read >>= λ v. signed end v behind rs (sign_behind behind)
 
 abbrev pub bare_key : Cell → List Cell → Value
 bare_key c text = made text (end_of c.at text) (span c.at (end_of c.at text))
 
-abbrev pub plain_key : ℕ → ℕ → Cell → List Cell → List Row → Option Split → Result Signed Fault
-plain_key end above c cs rs None = no_sign (next_part end above false (behind_text (c ∷ cs)) rs)
-plain_key end above c cs rs (Some x) = Ok (bare_key c (trimmed is_blank x.0), x.1, x.2)
+abbrev pub plain_key : ℕ → Cell → List Cell → List Row → Option Split → Result Signed Fault
+plain_key end c cs rs None = no_sign (next_part end false (behind_text (c ∷ cs)) rs)
+plain_key end c cs rs (Some x) = if is_null (trimmed is_blank x.0) then Err (character_fault LeftOut c) else Ok (bare_key c (trimmed is_blank x.0), x.1, x.2)
 
-abbrev pub flow_key_by : ℕ → ℕ → Cell → List Cell → List Row → Option Quotes → Result Signed Fault
-flow_key_by end above c cs rs None =
-    if begins_flow c cs then (if is_empty_key c cs then Err (character_fault NotANode c) else plain_key end above c cs rs (key_in is_flow_sign ends_key (c ∷ cs)))
+abbrev pub flow_key_by : ℕ → Cell → List Cell → List Row → Option Quotes → Result Signed Fault
+flow_key_by end c cs rs None =
+    if begins_flow c cs then plain_key end c cs rs (key_in is_flow_sign before_blank (c ∷ cs))
     else Err (part_fault c cs)
-flow_key_by end above c cs rs (Some kind) = signed_behind end above (behind_closing (closing_of kind 0 cs)) rs (between_of kind c (closing_of kind 0 cs))
+flow_key_by end c cs rs (Some kind) = signed_behind end (behind_closing (closing_of kind 0 cs)) rs (between_of kind c (closing_of kind 0 cs))
 
-unfoldable pub flow_key : ℕ → ℕ → Cell → List Cell → List Row → Result Signed Fault
-flow_key end above c cs rs = flow_key_by end above c cs rs (quotes_of c)
+unfoldable pub flow_key : ℕ → Cell → List Cell → List Row → Result Signed Fault
+flow_key end c cs rs = flow_key_by end c cs rs (quotes_of c)
 
 -- a value and what is left behind it
 abbrev pub Valued : Type 0
@@ -169,8 +169,8 @@ abbrev pub value_part : Cell → List Cell → List Row → Next → Result Valu
 value_part colon cs rs (broken f) = Err f
 value_part colon cs rs (at_part c more ss) = if (c.byte == 44) || (c.byte == 125) then Ok (empty_at (suc colon.at), cs, rs) else scalar_part ss (flow_scalar c more)
 
-unfoldable pub flow_value : ℕ → ℕ → Cell → List Cell → List Row → Result Valued Fault
-flow_value end above colon cs rs = value_part colon cs rs (next_part end above false cs rs)
+unfoldable pub flow_value : ℕ → Cell → List Cell → List Row → Result Valued Fault
+flow_value end colon cs rs = value_part colon cs rs (next_part end false cs rs)
 
 abbrev pub with_flow_entry : Value → Tree → FlowRead Entries → FlowRead Entries
 with_flow_entry v t read = read >>= λ x. Ok (entry v t x.0, x.1, x.2, x.3)
@@ -185,24 +185,24 @@ mapping_sign later v t (at_part c cs rs) =
 abbrev pub Later : Type 0
 Later = List (List ℕ) → List Cell → List Row → FlowRead Entries
 
-abbrev pub value_behind : ℕ → ℕ → (List Cell → List Row → FlowRead Entries) → Value → Result Valued Fault → FlowRead Entries
-value_behind end above later v read = read >>= λ x. mapping_sign later v x.0 (next_part end above false x.1 x.2)
+abbrev pub value_behind : ℕ → (List Cell → List Row → FlowRead Entries) → Value → Result Valued Fault → FlowRead Entries
+value_behind end later v read = read >>= λ x. mapping_sign later v x.0 (next_part end false x.1 x.2)
 
-abbrev pub new_entry : ℕ → ℕ → Later → List (List ℕ) → List Row → Signed → FlowRead Entries
-new_entry end above later keys rs k =
+abbrev pub new_entry : ℕ → Later → List (List ℕ) → List Row → Signed → FlowRead Entries
+new_entry end later keys rs k =
     if has keys k.0.text then Err (fault DoubleKey k.0.span)
-    else value_behind end above (λ cs rs. later (keys ++ k.0.text ∷ []) cs rs) k.0 (flow_value end above k.1 k.2 rs)
+    else value_behind end (λ cs rs. later (keys ++ k.0.text ∷ []) cs rs) k.0 (flow_value end k.1 k.2 rs)
 
-abbrev pub key_behind : ℕ → ℕ → Later → List (List ℕ) → List Row → Result Signed Fault → FlowRead Entries
-key_behind end above later keys rs read = read >>= λ k. new_entry end above later keys rs k
+abbrev pub key_behind : ℕ → Later → List (List ℕ) → List Row → Result Signed Fault → FlowRead Entries
+key_behind end later keys rs read = read >>= λ k. new_entry end later keys rs k
 
-abbrev pub mapping_part : ℕ → ℕ → Later → List (List ℕ) → Next → FlowRead Entries
-mapping_part end above later keys (broken f) = Err f
-mapping_part end above later keys (at_part c cs rs) = if c.byte == 125 then Ok (no_entries, c, cs, rs) else key_behind end above later keys rs (flow_key end above c cs rs)
+abbrev pub mapping_part : ℕ → Later → List (List ℕ) → Next → FlowRead Entries
+mapping_part end later keys (broken f) = Err f
+mapping_part end later keys (at_part c cs rs) = if c.byte == 125 then Ok (no_entries, c, cs, rs) else key_behind end later keys rs (flow_key end c cs rs)
 
-unfoldable pub mapping_in : ℕ → ℕ → ℕ → List (List ℕ) → List Cell → List Row → FlowRead Entries
-mapping_in end above zero keys cs rs = Err (byte_fault NotANode 0)
-mapping_in end above (suc n) keys cs rs = mapping_part end above (λ ks cs rs. mapping_in end above n ks cs rs) keys (next_part end above false cs rs)
+unfoldable pub mapping_in : ℕ → ℕ → List (List ℕ) → List Cell → List Row → FlowRead Entries
+mapping_in end zero keys cs rs = Err (byte_fault NotANode 0)
+mapping_in end (suc n) keys cs rs = mapping_part end (λ ks cs rs. mapping_in end n ks cs rs) keys (next_part end false cs rs)
 
 -- how many turns some cells and rows need at most
 abbrev pub turns : List Cell → List Row → ℕ
@@ -222,16 +222,16 @@ alone node x (Some wrong) = Err (character_fault NotANode wrong)
 abbrev pub closed_list : Row → FlowRead Items → Read Tree
 closed_list r read = read >>= λ x. alone (λ is closing. sequence is (span r.first.at (suc closing.at))) x (wrong_behind false x.2)
 
-abbrev pub flow_list : ℕ → ℕ → ℕ → Row → List Row → Read Tree
-flow_list end above zero r rs = Err (character_fault TooDeep r.first)
-flow_list end above (suc d) r rs = closed_list r (sequence_in end above (suc (turns r.rest rs)) r.rest rs)
+abbrev pub flow_list : ℕ → ℕ → Row → List Row → Read Tree
+flow_list end zero r rs = Err (character_fault TooDeep r.first)
+flow_list end (suc d) r rs = closed_list r (sequence_in end (suc (turns r.rest rs)) r.rest rs)
 
 abbrev pub closed_map : Row → FlowRead Entries → Read Tree
 closed_map r read = read >>= λ x. alone (λ es closing. mapping es (span r.first.at (suc closing.at))) x (wrong_behind false x.2)
 
-abbrev pub flow_map : ℕ → ℕ → ℕ → Row → List Row → Read Tree
-flow_map end above zero r rs = Err (character_fault TooDeep r.first)
-flow_map end above (suc d) r rs = closed_map r (mapping_in end above (suc (turns r.rest rs)) [] r.rest rs)
+abbrev pub flow_map : ℕ → ℕ → Row → List Row → Read Tree
+flow_map end zero r rs = Err (character_fault TooDeep r.first)
+flow_map end (suc d) r rs = closed_map r (mapping_in end (suc (turns r.rest rs)) [] r.rest rs)
 
 abbrev pub scalar_on : List ℕ → ℕ → Row → Result Value Fault
 scalar_on bytes above r = scalar.reading (style_of r.first) above (length bytes) (source_at bytes r.first.at)
@@ -243,8 +243,8 @@ scalar_value rs read = read >>= λ v. Ok (leaf v, rows_from v.span.end rs)
 unfoldable pub value_on : List ℕ → ℕ → ℕ → Row → List Row → Read Tree
 value_on bytes above d r rs =
     if begins_scalar r then scalar_value rs (scalar_on bytes above r)
-    else if r.first.byte == 91 then flow_list (length bytes) above d r rs
-    else if r.first.byte == 123 then flow_map (length bytes) above d r rs
+    else if r.first.byte == 91 then flow_list (length bytes) d r rs
+    else if r.first.byte == 123 then flow_map (length bytes) d r rs
     else Err (row_fault r)
 
 -- by the number of spaces that an indent above the parent's has at least
@@ -260,8 +260,12 @@ abbrev pub item_at : Reader → ℕ → ℕ → List Row → Option Row → Read
 item_at node m at rs (Some left) = node (suc m) left rs
 item_at node m at rs None = item_next node m at rs
 
+abbrev pub unless_tab : Option Cell → Read Tree → Read Tree
+unless_tab None read = read
+unless_tab (Some tab) read = Err (byte_fault NotANode tab.at)
+
 abbrev pub item_value : Reader → ℕ → Row → List Row → Read Tree
-item_value node m r rs = item_at node m (suc r.first.at) rs (left_of r.begin r.rest)
+item_value node m r rs = unless_tab (tab_in r.rest) (item_at node m (suc r.first.at) rs (left_of r.begin r.rest))
 
 abbrev pub with_item : Tree → Read Items → Read Items
 with_item t read = read >>= λ x. Ok (item t x.0, x.1)

@@ -1,17 +1,12 @@
--- Which `:` ends a key, in a block mapping and in a flow mapping, as the code tells them apart. It defines nothing of trees.
+-- Which signs stop a key, in a block mapping and in a flow mapping, as the code tells them apart. It defines nothing of trees.
 use Rattle.std.specs.Prelude.{ℕ, ◌+◌, List, Bool, true, false, take, drop, get_or}
 use Rattle.lf_scalar.specs.Cells.{Cell, cell, cells}
-use Rattle.lf_scalar.specs.Plain.{before_blank}
 use Rattle.lf_yaml.specs.Heads.{Split, never}
-use Rattle.lf_yaml.specs.Flow.{is_flow_sign, ends_key}
+use Rattle.lf_yaml.specs.Flow.{is_flow_sign}
 
 abbrev pub stops_of : Bool → Cell → Bool
 stops_of true c = is_flow_sign c
 stops_of false c = never c
-
-abbrev pub ends_of : Bool → List Cell → Bool
-ends_of true cs = ends_key cs
-ends_of false cs = before_blank cs
 
 -- what stands before a place of a text, the cell there, and what stands behind it
 abbrev pub split_at : ℕ → List ℕ → ℕ → Split

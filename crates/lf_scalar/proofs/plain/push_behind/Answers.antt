@@ -7,7 +7,7 @@ use Rattle.lf_scalar.proofs.plain.push_behind.Goals as goal
 pub returns : goal.returns
 returns c =
     onto-end c.args.above c.args.feed (lines_at c.args.at c.args.rest.now) c.args.builder.now c.loop-place.builder c.loop-place.folded
-    (subst (Onto c.args.above c.args.feed (lines_at c.args.at c.args.rest.now) c.args.builder.now c.loop-place.builder c.loop-place.folded) (lines-none c.args.at c.loop-place.place c.args.rest.now c.loop-place-test.false) c.loop-place.invariant.2)
+    (subst (Onto c.args.above c.args.feed (lines_at c.args.at c.args.rest.now) c.args.builder.now c.loop-place.builder c.loop-place.folded) (lines-none c.args.at c.loop-place.place c.args.rest.now c.loop-place-test.false) c.loop-place.invariant.3)
 
 pub returns-in-Err : goal.returns-in-Err
 returns-in-Err c =
@@ -18,4 +18,4 @@ returns-in-Err c =
     let first : lines_at at (drop c.loop-place.place c.args.rest.now) ≡ line (cells at c.before-text.result.now) (at + end.feed) ∷ lines_at (at + (end.feed + 1)) (drop (end.feed + 1) left) =
     ap (lines_at at) (sym c.past-left.ensures) ∙ c.line_end-end.ensures.first at full ∙ ap (λ xs. line (cells at xs) (at + end.feed) ∷ lines_at (at + (end.feed + 1)) (drop (end.feed + 1) left)) (sym c.before-text.ensures) in
     onto-wrong c.args.above c.args.feed (lines_at c.args.at c.args.rest.now) c.args.builder.now c.loop-place.builder c.loop-place.folded (line (cells at c.before-text.result.now) (at + end.feed)) (lines_at (at + (end.feed + 1)) (drop (end.feed + 1) left))
-    (subst (Onto c.args.above c.args.feed (lines_at c.args.at c.args.rest.now) c.args.builder.now c.loop-place.builder c.loop-place.folded) first c.loop-place.invariant.2) c.in-Err.refusal c.push_step.new.builder c.in-Err.ensures.steps
+    (subst (Onto c.args.above c.args.feed (lines_at c.args.at c.args.rest.now) c.args.builder.now c.loop-place.builder c.loop-place.folded) first c.loop-place.invariant.3) c.in-Err.refusal c.push_step.new.builder c.in-Err.ensures.steps

@@ -1,21 +1,22 @@
 use Rattle.std.proofs.Common.{sym, ◌∙◌, refl, ap, arith, true, false, suc, ◌+◌, List, ℕ, take, length, length-take, ◌≤◌, ◌≡◌, Some}
+use Rattle.lf_scalar.specs.Plain.{before_blank}
 use Rattle.lf_scalar.specs.Cells.{cell, cells}
 use Rattle.lf_scalar.specs.Lines.{is_blank}
 use Rattle.lf_scalar.specs.Folding.{trimmed}
 use Rattle.lf_yaml.specs.Rows.{is_left_out}
 use Rattle.lf_yaml.specs.Heads.{key_in, Bare}
-use Rattle.lf_yaml.specs.views.Signs.{stops_of, ends_of}
+use Rattle.lf_yaml.specs.views.Signs.{stops_of}
 use Rattle.lf_yaml.specs.views.Shown.{shown}
 use Rattle.lf_yaml.proofs.EntryCode.{entry-bare, take-within, head-of-split}
 use Rattle.lf_yaml.proofs.entry.bare_entry.Goals as goal
 
 pub returns-then-not-begins_plain-clause-head : goal.returns-then-not-begins_plain-clause-head
 returns-then-not-begins_plain-clause-head c =
-    sym (entry-bare c.args.row false (is_left_out (shown c.args.row)) (key_in (stops_of false) (ends_of false) (cells c.args.row.at c.args.row.text.now)) c.args.row.full (sym (c.begins_plain.ensures c.args.row.at) ∙ c.if-not-begins_plain.true) refl refl)
+    sym (entry-bare c.args.row false (is_left_out (shown c.args.row)) (key_in (stops_of false) before_blank (cells c.args.row.at c.args.row.text.now)) c.args.row.full (sym (c.begins_plain.ensures c.args.row.at) ∙ c.if-not-begins_plain.true) refl refl)
 
 pub returns-then-is_left_out-clause-head : goal.returns-then-is_left_out-clause-head
 returns-then-is_left_out-clause-head c =
-    sym (entry-bare c.args.row true true (key_in (stops_of false) (ends_of false) (cells c.args.row.at c.args.row.text.now)) c.args.row.full (sym (c.begins_plain.ensures c.args.row.at) ∙ c.if-not-begins_plain.false) (sym c.is_left_out.ensures ∙ c.if-is_left_out.true) refl)
+    sym (entry-bare c.args.row true true (key_in (stops_of false) before_blank (cells c.args.row.at c.args.row.text.now)) c.args.row.full (sym (c.begins_plain.ensures c.args.row.at) ∙ c.if-not-begins_plain.false) (sym c.is_left_out.ensures ∙ c.if-is_left_out.true) refl)
 
 pub returns-in-None-clause-head : goal.returns-in-None-clause-head
 returns-in-None-clause-head c =

@@ -12,6 +12,6 @@ use Rattle.lf_yaml.proofs.flow_items.item_turn.Goals as goal
 pub returns-else-part-eq93-clause-turn : goal.returns-else-part-eq93-clause-turn
 returns-else-part-eq93-clause-turn c =
     let le : turns (shown c.in-Ok.part).rest (rows_after c.args.bytes.now c.in-Ok.next) + 1 ≤ turns (left_at c.args.place) (rows_at c.args.bytes.now c.args.place) =
-    omega (arith, part-further (length c.args.bytes.now) c.args.above c.args.bytes.now (left_at c.args.place) (rows_at c.args.bytes.now c.args.place) c.in-Ok.part c.in-Ok.next c.in-Ok.ensures.next) in
+    omega (arith, part-further (length c.args.bytes.now) c.args.bytes.now (left_at c.args.place) (rows_at c.args.bytes.now c.args.place) c.in-Ok.part c.in-Ok.next c.in-Ok.ensures.next) in
     each-ok (λ (t : Turn Node). IsTurnIn c.args.bytes.now (turns (shown c.in-Ok.part).rest (rows_after c.args.bytes.now c.in-Ok.next) + 1) t)
     (λ (t : Turn Node). IsTurnIn c.args.bytes.now (turns (left_at c.args.place) (rows_at c.args.bytes.now c.args.place)) t) (λ t h. turn-within c.args.bytes.now _ _ t le h) c.item_on.result c.item_on.ensures.turn

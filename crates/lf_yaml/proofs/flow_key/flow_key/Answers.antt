@@ -10,5 +10,5 @@ use Rattle.lf_yaml.proofs.flow_key.flow_key.Goals as goal
 pub returns-in-None-clause-gives : goal.returns-in-None-clause-gives
 unfolding flow_key
 returns-in-None-clause-gives c =
-    subst (λ (o : Option Quotes). AnswersAs (signed c.args.part) c.bare_key.result (flow_key_by (length c.args.bytes.now) c.args.above (shown c.args.part).first (shown c.args.part).rest (rows_after c.args.bytes.now c.args.next) o))
+    subst (λ (o : Option Quotes). AnswersAs (signed c.args.part) c.bare_key.result (flow_key_by (length c.args.bytes.now) (shown c.args.part).first (shown c.args.part).rest (rows_after c.args.bytes.now c.args.next) o))
     (c.in-None.ensures.kind c.args.part.at) c.bare_key.ensures.gives

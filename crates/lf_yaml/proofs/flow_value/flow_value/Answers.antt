@@ -10,5 +10,5 @@ pub returns-else-ends_value-clause-stays : goal.returns-else-ends_value-clause-s
 returns-else-ends_value-clause-stays c =
     both-ok (λ (x : Scalar × Place). x.1.next ≡ c.in-Ok.next) (λ (x : Scalar × Place). length (left_at x.1) ≤ length c.in-Ok.part.text.now)
     (λ (x : Scalar × Place). turns (left_at x.1) (rows_at c.args.bytes.now x.1) ≤ turns (left_at c.args.place) (rows_at c.args.bytes.now c.args.place))
-    (λ x e le. stays-behind (length c.args.bytes.now) c.args.above c.args.bytes.now (left_at c.args.place) (rows_at c.args.bytes.now c.args.place) c.in-Ok.part c.in-Ok.next x.1.next (left_at x.1) c.in-Ok.part.full c.in-Ok.ensures.next e le)
+    (λ x e le. stays-behind (length c.args.bytes.now) c.args.bytes.now (left_at c.args.place) (rows_at c.args.bytes.now c.args.place) c.in-Ok.part c.in-Ok.next x.1.next (left_at x.1) c.in-Ok.part.full c.in-Ok.ensures.next e le)
     c.scalar_from.result c.scalar_from.ensures.next c.scalar_from.ensures.shorter

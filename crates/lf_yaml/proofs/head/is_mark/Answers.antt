@@ -1,5 +1,5 @@
 use Rattle.std.proofs.Common.{sym, ◌∙◌, true, false, arith, refl}
-use Rattle.lf_yaml.specs.Rows.{is_thrice}
+use Rattle.lf_scalar.specs.Markers.{is_thrice}
 use Rattle.lf_scalar.specs.Cells.{cells}
 use Rattle.lf_yaml.proofs.RowCode.{mark-by}
 use Rattle.lf_yaml.proofs.head.is_mark.Goals as goal

@@ -1,6 +1,6 @@
-use Rattle.lf_yaml.proofs.RowCode.{thrice-short}
 use Rattle.std.proofs.Common.{arith}
-use Rattle.lf_yaml.proofs.head.is_thrice.Goals as goal
+use Rattle.lf_scalar.proofs.Thrice.{thrice-short}
+use Rattle.lf_scalar.proofs.markers.is_thrice.Goals as goal
 
 pub returns-in-len1 : goal.returns-in-len1
 returns-in-len1 c = thrice-short c.args.byte c.args.text.now (omega arith)
