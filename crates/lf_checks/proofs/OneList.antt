@@ -14,7 +14,7 @@ use Rattle.lf_checks.specs.Files.{File}
 use Rattle.lf_checks.specs.Finding.{Finding, finding_cmp, key_of}
 use Rattle.lf_checks.specs.Findings.{AreFindings}
 
-abbrev Ascends : List Finding → Type 0
+abbrev pub Ascends : List Finding → Type 0
 Ascends found = (j k : ℕ) (f g : Finding) → j < k → slice_get found j ≡ Some f → slice_get found k ≡ Some g → finding_cmp f g ≡ Less
 
 abbrev Within : List Finding → List Finding → Type 0
@@ -26,10 +26,10 @@ less_itself f less = let tied = sym less ∙ tied_itself nat_list_cmp_total (key
 less_both : (f g : Finding) → finding_cmp f g ≡ Less → finding_cmp g f ≡ Less → ⊥
 less_both f g less more = let clash : Less ≡ Greater = sym less ∙ nat_list_cmp_total.antisymm (key_of f) (key_of g) ∙ ap ordering_reverse more in cc
 
-tail_ascends : (f : Finding) (found : List Finding) → Ascends (f ∷ found) → Ascends found
+pub tail_ascends : (f : Finding) (found : List Finding) → Ascends (f ∷ found) → Ascends found
 tail_ascends f found ascends j k g h less = ascends (suc j) (suc k) g h (omega (arith, less))
 
-head_less : (f g : Finding) (found : List Finding) → Ascends (f ∷ found) → Contains found g → finding_cmp f g ≡ Less
+pub head_less : (f g : Finding) (found : List Finding) → Ascends (f ∷ found) → Contains found g → finding_cmp f g ≡ Less
 head_less f g found ascends c = ascends zero (suc c.0) f g (omega arith) refl (slice_get-get_or found c.0 g c.1 ∙ ap Some c.2)
 
 -- the members of one tail are those of the other

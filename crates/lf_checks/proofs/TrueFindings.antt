@@ -1,11 +1,15 @@
 -- What findings claim of samples is so in every world of the rules.
 use Rattle.std.proofs.Common.{◌≡◌, inl, inr, ℕ, Bool, false, cond, List, [], ◌∷◌, ◌++◌, Some, codes, refl, sym, ap, ◌∙◌, subst, arith}
 use Rattle.std.specs.Prelude.{slice_get, slice_index_or}
+use Rattle.std.specs.List.{Contains}
 use Rattle.std.proofs.lemmas.List.{append_cancel_left, append_cancel_right}
+use Rattle.std.proofs.lemmas.Option.{get_or_from_slice_get, slice_get_within}
 use Rattle.lf_ast.specs.Labels.{Bytes, Labels}
 use Rattle.lf_ast.specs.Rules.{RuleTree}
 use Rattle.lf_semantics.specs.ClassRows.{Represents, Sets, bottom, is_live}
-use Rattle.lf_semantics.specs.Environments.{IsLeast, rule_row}
+use Rattle.lf_ast.specs.Tree.{Tree}
+use Rattle.lf_semantics.specs.Environments.{Covers, IsKnown, IsLeast, rule_row}
+use Rattle.lf_semantics.specs.Mentions.{mentions}
 use Rattle.lf_semantics.specs.Laws.{SetNoNames}
 use Rattle.lf_semantics.specs.Listing.{Listing, universe_of}
 use Rattle.lf_semantics.specs.Parts.{is_evaluated, type_by_form}
@@ -14,14 +18,19 @@ use Rattle.lf_semantics.specs.Worlds.{IsSample, World}
 use Rattle.lf_semantics.proofs.LeqLaws.{bottom_dead}
 use Rattle.lf_semantics.proofs.ListingLaws.{universe_covers, universe_is_listing}
 use Rattle.lf_semantics.proofs.SamplesRepresented.{sample_represented}
+use Rattle.lf_semantics.proofs.Members.{all_front}
+use Rattle.lf_semantics.proofs.Soundness.{sound}
 use Rattle.lf_semantics.proofs.Told.{is_absent, is_present, not_empty}
 use Rattle.lf_checks.specs.AlertTemplate as alert_template
 use Rattle.lf_checks.specs.Files.{File}
 use Rattle.lf_checks.specs.Finding.{Check, AlertComparison, AlertTemplate, RuleDuplicate, RuleDependency, PromqlRegexp, MatchLabel, ExprEmpty, ExprType, RuleLabel, Finding}
 use Rattle.lf_checks.specs.Findings.{Finds, IsFinding}
 use Rattle.lf_checks.specs.Judged.{IsGuaranteed, IsImpossible}
+use Rattle.lf_checks.specs.MatchLabel as match_label
 use Rattle.lf_checks.specs.RuleLabel as rule_label
-use Rattle.lf_checks.specs.Truths.{HasNoSample, IsOnEach, IsOnNone, IsTrue}
+use Rattle.lf_checks.specs.Truths.{HasNoSample, IsNeverGiven, IsOnEach, IsOnNone, IsTrue, recorded}
+use Rattle.lf_checks.proofs.PartsCovered.{part_covered, sought_covered}
+use Rattle.lf_checks.proofs.RunsAdmitted.{world_admitted}
 
 -- ---- texts
 
@@ -95,22 +104,47 @@ module _ (rules : List RuleTree) (named : SetNoNames rules) (env : Environment) 
         λ label text. subst (IsOnNone rules r) (same_label (codes " is removed but on no sample") l.key label text) (on_none r l.key impossible),
       )
 
+  -- ---- operands
+
+  never_given : (e : Tree) (label : Bytes) → Covers u e → IsImpossible u (row_of u env e) label → IsNeverGiven rules e label
+  never_given e label known impossible world before after split R s w inside has =
+      let admitted = world_admitted rules named env least world before after split in
+      let represented = sound u (universe_is_listing rules) env least.of_rules.environment world.series (recorded before) admitted e known R s w inside in
+      has (is_absent u (row_of u env e) s represented label impossible.1)
+
+  match_is_true : (r : RuleTree) (f : Finding) → Contains rules r → match_label.IsFound u env r f → IsTrue rules r f
+  match_is_true r f c (e, sought, operand, within, seeks, impossible, is) =
+      let whole : Covers u r.expr = all_front (IsKnown u) (mentions r.expr) _ (universe_covers rules r c) in
+      let known : Covers u operand = sought_covered u e sought operand (part_covered u r.expr e whole within) seeks in
+      subst (IsTrue rules r) (sym is) (
+      λ label text.
+      let same : sought.text ≡ label = same_label (codes " is never on the operand") sought.text label text in (
+        e,
+        sought,
+        operand,
+        within,
+        seeks,
+        same,
+        subst (IsNeverGiven rules operand) same (never_given operand sought.text known impossible),
+      )
+      )
+
   -- ---- all checks
 
   -- what a check finds of a rule is true
-  pub found_is_true : (files : List File) (check : Check) (i : ℕ) (r : RuleTree) (f : Finding) → Finds files rules env check i r f → IsTrue rules r f
-  found_is_true files AlertComparison i r f h = subst (IsTrue rules r) (sym h.2) tt
-  found_is_true files AlertTemplate i r f h = template_is_true r f h
-  found_is_true files RuleDuplicate i r f (s, place, first, at, e) = subst (IsTrue rules r) (sym e) tt
-  found_is_true files RuleDependency i r f (inl (name, span, at, colon, none, e)) = subst (IsTrue rules r) (sym e) tt
-  found_is_true files RuleDependency i r f (inr (name, span, at, cyclic, e)) = subst (IsTrue rules r) (sym e) tt
-  found_is_true files PromqlRegexp i r f (inl (m, by, one, e)) = subst (IsTrue rules r) (sym e) tt
-  found_is_true files PromqlRegexp i r f (inr (m, by, anchored, e)) = subst (IsTrue rules r) (sym e) tt
-  found_is_true files MatchLabel i r f (x, label, operand, within, seeks, impossible, e) = subst (IsTrue rules r) (sym e) tt
-  found_is_true files ExprEmpty i r f h = subst (IsTrue rules r) (sym h.2) (no_sample r h.1)
-  found_is_true files ExprType i r f h = subst (IsTrue rules r) (sym h.1) (no_sample r (empty_by_type r h.0))
-  found_is_true files RuleLabel i r f h = label_is_true r f h
+  pub found_is_true : (files : List File) (check : Check) (i : ℕ) (r : RuleTree) (f : Finding) → Contains rules r → Finds files rules env check i r f → IsTrue rules r f
+  found_is_true files AlertComparison i r f c h = subst (IsTrue rules r) (sym h.2) tt
+  found_is_true files AlertTemplate i r f c h = template_is_true r f h
+  found_is_true files RuleDuplicate i r f c (s, place, first, at, e) = subst (IsTrue rules r) (sym e) tt
+  found_is_true files RuleDependency i r f c (inl (name, span, at, colon, none, e)) = subst (IsTrue rules r) (sym e) tt
+  found_is_true files RuleDependency i r f c (inr (name, span, at, cyclic, e)) = subst (IsTrue rules r) (sym e) tt
+  found_is_true files PromqlRegexp i r f c (inl (m, by, one, e)) = subst (IsTrue rules r) (sym e) tt
+  found_is_true files PromqlRegexp i r f c (inr (m, by, anchored, e)) = subst (IsTrue rules r) (sym e) tt
+  found_is_true files MatchLabel i r f c h = match_is_true r f c h
+  found_is_true files ExprEmpty i r f c h = subst (IsTrue rules r) (sym h.2) (no_sample r h.1)
+  found_is_true files ExprType i r f c h = subst (IsTrue rules r) (sym h.1) (no_sample r (empty_by_type r h.0))
+  found_is_true files RuleLabel i r f c h = label_is_true r f h
 
   -- so is each of its findings
   pub finding_is_true : (files : List File) (i : ℕ) (f : Finding) → IsFinding files rules env i f → (r : RuleTree) × (slice_get rules i ≡ Some r) × IsTrue rules r f
-  finding_is_true files i f (r, at, check, found) = (r, at, found_is_true files check i r f found)
+  finding_is_true files i f (r, at, check, found) = (r, at, found_is_true files check i r f (i, slice_get_within rules i r at, get_or_from_slice_get rules i r r at) found)
