@@ -77,6 +77,16 @@ has_no_sample = (refl, refl, refl)
 may_have_samples : (f : Finding) → expr_empty.IsFound (row with_x) with_x f → ⊥
 may_have_samples f h = true≢false h.1
 
+-- `up{env="prod"} * on (env, job) target_info{env="dev"}` has none, as no pair agrees on `env`; with `on (job)` it may
+abbrev joined_on : List Bytes → RuleTree
+joined_on labels = plain (between Multiply (matching false (Some labels) None One []) (selector (codes "up") (asks (codes "env") Equal (codes "prod") ∷ [])) (selector (codes "target_info") (asks (codes "env") Equal (codes "dev") ∷ [])))
+
+matched_apart : expr_empty.IsFound (row (joined_on (codes "env" ∷ codes "job" ∷ []))) (joined_on (codes "env" ∷ codes "job" ∷ [])) (finding ExprEmpty (place_at 0) (codes "the expression has no sample in any run"))
+matched_apart = (refl, refl, refl)
+
+matched_together : (f : Finding) → expr_empty.IsFound (row (joined_on (codes "job" ∷ []))) (joined_on (codes "job" ∷ [])) f → ⊥
+matched_together f h = true≢false h.1
+
 -- of a range vector, which has none either, it is the type that is told
 abbrev range : RuleTree
 range = plain (over_time (codes "foo") [])

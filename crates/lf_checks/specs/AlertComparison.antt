@@ -13,9 +13,11 @@ use Rattle.lf_semantics.specs.Grouped.{is_filter}
 use Rattle.lf_semantics.specs.Parts.{takes_samples, type_by_form}
 use Rattle.lf_checks.specs.Finding.{AlertComparison, Finding, Problem, Severity, finding}
 
+-- how grave it is
 abbrev pub severity : Severity
 severity = Problem
 
+-- what it says
 abbrev pub says : Bytes
 says = codes "the alert's expression compares nothing"
 
@@ -24,6 +26,7 @@ abbrev pub looks_for_absence : LabelEffect → Bool
 looks_for_absence Absent = true
 looks_for_absence _ = false
 
+-- the function is one of these
 abbrev pub is_absent_function : Option Signature → Bool
 is_absent_function None = false
 is_absent_function (Some s) = looks_for_absence s.labels

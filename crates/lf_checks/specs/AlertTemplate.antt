@@ -12,12 +12,15 @@ use Rattle.lf_templates.specs.declared.reference.Reference.{Reference}
 use Rattle.lf_checks.specs.Finding.{AlertTemplate, Finding, Problem, Severity, finding}
 use Rattle.lf_checks.specs.Judged.{IsImpossible}
 
+-- how grave it is
 abbrev pub severity : Severity
 severity = Problem
 
+-- what it says of a label that is never there
 abbrev pub says_never : Bytes → Bytes
 says_never label = codes "label " ++ (label ++ codes " is never on the alert's sample")
 
+-- what it says of a template that is refused
 abbrev pub says_unreadable : Bytes
 says_unreadable = codes "the template can't be read"
 
@@ -39,5 +42,6 @@ IsNeverThere u row r f =
 abbrev pub IsUnreadable : RuleTree → Finding → Type 0
 IsUnreadable r f = (t : Template) × (breach : Fault) × HasTemplate r t × Breaks t.from t.text breach × (f ≡ finding AlertTemplate breach.span says_unreadable)
 
+-- what the check finds: either of these
 abbrev pub IsFound : Listing → Sets → RuleTree → Finding → Type 0
 IsFound u row r f = IsNeverThere u row r f ⊎ IsUnreadable r f

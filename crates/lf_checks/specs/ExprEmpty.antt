@@ -6,9 +6,11 @@ use Rattle.lf_semantics.specs.ClassRows.{Sets, is_live}
 use Rattle.lf_semantics.specs.Parts.{is_evaluated, type_by_form}
 use Rattle.lf_checks.specs.Finding.{ExprEmpty, Finding, Problem, Severity, finding}
 
+-- how grave it is
 abbrev pub severity : Severity
 severity = Problem
 
+-- what it says
 abbrev pub says : Bytes
 says = codes "the expression has no sample in any run"
 

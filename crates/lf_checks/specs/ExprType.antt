@@ -5,9 +5,11 @@ use Rattle.lf_ast.specs.Rules.{RuleTree}
 use Rattle.lf_semantics.specs.Parts.{is_evaluated, type_by_form}
 use Rattle.lf_checks.specs.Finding.{ExprType, Finding, Problem, Severity, finding}
 
+-- how grave it is
 abbrev pub severity : Severity
 severity = Problem
 
+-- what it says
 abbrev pub says : Bytes
 says = codes "a rule needs a scalar or an instant vector"
 

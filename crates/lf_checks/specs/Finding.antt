@@ -53,6 +53,7 @@ pub record Finding : Type 0 where
   pub span : Span
   pub text : Bytes
 
+-- the finding of a check at a span, with a text
 abbrev pub finding : Check → Span → Bytes → Finding
 finding check span text = record { check = check; span = span; text = text }
 

@@ -19,9 +19,11 @@ use Rattle.lf_checks.specs.Finding.{Finding, MatchLabel, Note, Severity, finding
 use Rattle.lf_checks.specs.Judged.{IsImpossible}
 use Rattle.lf_checks.specs.Subexpressions.{subexpressions}
 
+-- how grave it is
 abbrev pub severity : Severity
 severity = Note
 
+-- what it says of a label that is never there
 abbrev pub says_never : Bytes → Bytes
 says_never label = codes "label " ++ (label ++ codes " is never on the operand")
 

@@ -12,12 +12,15 @@ use Rattle.lf_semantics.specs.PatternBreaches.{takes_pattern}
 use Rattle.lf_checks.specs.Finding.{Finding, Note, PromqlRegexp, Severity, finding}
 use Rattle.lf_checks.specs.Subexpressions.{subexpressions}
 
+-- how grave it is
 abbrev pub severity : Severity
 severity = Note
 
+-- what it says of a plain pattern
 abbrev pub says_plain : Bytes
 says_plain = codes "the pattern is one plain text"
 
+-- what it says of one that anchors itself
 abbrev pub says_anchored : Bytes
 says_anchored = codes "the pattern is anchored already"
 
@@ -47,5 +50,6 @@ IsPlain r f = (m : Matcher) × MatchesBy r.expr m × IsOneText m.value × (f ≡
 abbrev pub IsAnchored : RuleTree → Finding → Type 0
 IsAnchored r f = (m : Matcher) × MatchesBy r.expr m × (BeginsAnchored m.value ⊎ EndsAnchored m.value) × (f ≡ finding PromqlRegexp m.value_span says_anchored)
 
+-- what the check finds: either of these
 abbrev pub IsFound : RuleTree → Finding → Type 0
 IsFound r f = IsPlain r f ⊎ IsAnchored r f

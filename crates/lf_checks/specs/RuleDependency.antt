@@ -13,12 +13,15 @@ use Rattle.lf_semantics.specs.Environments.{names_recorded}
 use Rattle.lf_checks.specs.Finding.{Finding, Note, RuleDependency, Severity, finding}
 use Rattle.lf_checks.specs.Subexpressions.{subexpressions}
 
+-- how grave it is
 abbrev pub severity : Severity
 severity = Note
 
+-- what it says of a name that no rule records
 abbrev pub says_unrecorded : Bytes → Bytes
 says_unrecorded name = name ++ codes " is recorded by no accepted rule"
 
+-- what it says of a name that is read in its own making
 abbrev pub says_cyclic : Bytes → Bytes
 says_cyclic name = name ++ codes " is read in its own making"
 
@@ -41,5 +44,6 @@ IsUnrecorded rules r f =
 abbrev pub IsOfCyclic : List RuleTree → RuleTree → Finding → Type 0
 IsOfCyclic rules r f = (name : Bytes) × (span : Span) × SelectsAt r.expr name span × IsCyclic rules name × (f ≡ finding RuleDependency span (says_cyclic name))
 
+-- what the check finds: either of these
 abbrev pub IsFound : List RuleTree → RuleTree → Finding → Type 0
 IsFound rules r f = IsUnrecorded rules r f ⊎ IsOfCyclic rules r f

@@ -7,9 +7,11 @@ use Rattle.lf_ast.specs.declared.rule.RuleLabel.{RuleLabel}
 use Rattle.lf_checks.specs.Files.{File, IsNamedAt}
 use Rattle.lf_checks.specs.Finding.{Finding, Problem, RuleDuplicate, Severity, finding}
 
+-- how grave it is
 abbrev pub severity : Severity
 severity = Problem
 
+-- what it says of the place where the same rule stands
 abbrev pub says_where : Bytes → Bytes
 says_where place = codes "the same rule stands at " ++ place
 

@@ -9,12 +9,15 @@ use Rattle.lf_semantics.specs.Listing.{Listing}
 use Rattle.lf_checks.specs.Finding.{Finding, Note, RuleLabel, Severity, finding}
 use Rattle.lf_checks.specs.Judged.{IsGuaranteed, IsImpossible}
 
+-- how grave it is
 abbrev pub severity : Severity
 severity = Note
 
+-- what it says of a label that replaces another
 abbrev pub says_replaced : Bytes → Bytes
 says_replaced label = codes "label " ++ (label ++ codes " replaces one that each sample has")
 
+-- what it says of a label that removes nothing
 abbrev pub says_removed : Bytes → Bytes
 says_removed label = codes "label " ++ (label ++ codes " is removed but on no sample")
 
@@ -30,5 +33,6 @@ IsReplacing u row r f = (l : Label) × HasLabel r l × (l.value ≢ []) × IsGua
 abbrev pub IsRemoving : Listing → Sets → RuleTree → Finding → Type 0
 IsRemoving u row r f = (l : Label) × HasLabel r l × (l.value ≡ []) × IsImpossible u row l.key × (f ≡ finding RuleLabel l.key_span (says_removed l.key))
 
+-- what the check finds: either of these
 abbrev pub IsFound : Listing → Sets → RuleTree → Finding → Type 0
 IsFound u row r f = IsReplacing u row r f ⊎ IsRemoving u row r f
