@@ -14,7 +14,7 @@ nodes_all [] = []
 nodes_all (x ∷ xs) = nodes x ++ nodes_all xs
 
 -- what is still to be found, the last frame first
-abbrev pub to_find : {N : Type 0} → List (Frame N) → List Tree
+abbrev pub to_find : {M N : Type 0} → List (Frame M N) → List Tree
 to_find [] = []
 to_find (f ∷ fs) = nodes_all (left_of f) ++ to_find fs
 
@@ -38,7 +38,7 @@ pub starts : (x : Tree) → x ∷ (nodes_all (parts_of x) ++ []) ≡ nodes x
 starts x = ap (λ ys. x ∷ ys) (append-nil (nodes_all (parts_of x))) ∙ sym (nodes_parts x)
 
 -- a part is found, and gone into
-module _ {N : Type 0} (old front middle new : List (Frame N)) (f g h : Frame N) (taken : old ≡ front ++ f ∷ []) (back : middle ≡ front ++ g ∷ []) (pushed : new ≡ middle ++ h ∷ [])
+module _ {M N : Type 0} (old front middle new : List (Frame M N)) (f g h : Frame M N) (taken : old ≡ front ++ f ∷ []) (back : middle ≡ front ++ g ∷ []) (pushed : new ≡ middle ++ h ∷ [])
     (first : left_of f ≡ tree h.expr.now ∷ left_of g) (all : left_of h ≡ parts_of (tree h.expr.now)) (found after : List (Bor Expr)) (listed : after ≡ found ++ h.expr ∷ []) where
   abbrev part : Tree
   part = tree h.expr.now

@@ -1,5 +1,5 @@
 -- What a visit of an expression keeps.
-use Rattle.std.proofs.Common.{Bool, true, false, List, [], ◌∷◌}
+use Rattle.std.proofs.Common.{◌≡◌, Bool, true, false, List, [], ◌∷◌}
 use Rattle.lf_ast.specs.Tree.{Tree, tree}
 use Rattle.lf_ast.specs.declared.walk.choosing.Frame.{Frame}
 use Rattle.lf_ast.specs.views.Walks.{along, further}
@@ -11,7 +11,7 @@ module _ {S : Type 0} (visited between behind : S → Tree → S) where
   gone_on true x ps s = further visited between x ps s
   gone_on false x ps s = along visited between x ps s
 
-  -- what is left once all is done that is left to do, the last frame first
-  abbrev pub finished : List (Frame Bool) → S → S
-  finished [] s = s
-  finished (f ∷ fs) s = finished fs (behind (gone_on f.note (tree f.expr.now) (left_of f) s) (tree f.expr.now))
+  -- what is left to do, the last frame first, leaves this in the end; each frame has a note of its expression
+  abbrev pub Leaves : {N : Type 0} → (Tree → N → Type 0) → S → List (Frame Bool N) → S → Type 0
+  Leaves notes end [] s = s ≡ end
+  Leaves notes end (f ∷ fs) s = notes (tree f.expr.now) f.note × Leaves notes end fs (behind (gone_on f.mark (tree f.expr.now) (left_of f) s) (tree f.expr.now))

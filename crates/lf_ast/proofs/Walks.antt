@@ -61,14 +61,14 @@ weight_chosen (Only place) xs = omega (arith, sum_by-take-drop weight xs place, 
 weight_chosen Nothing xs = omega arith
 
 -- what is left to do in a frame
-abbrev pub left_of : {N : Type 0} → Frame N → List Tree
+abbrev pub left_of : {M N : Type 0} → Frame M N → List Tree
 left_of f = chosen f.parts (parts_of (tree f.expr.now))
 
-abbrev pub work : {N : Type 0} → Frame N → ℕ
+abbrev pub work : {M N : Type 0} → Frame M N → ℕ
 work f = sum_by weight (left_of f) + 1
 
 -- a frame is taken off the stack, and put back with one for the part that is gone into
-module _ {N : Type 0} (old front middle new : List (Frame N)) (f g h : Frame N) (taken : old ≡ front ++ f ∷ []) (back : middle ≡ front ++ g ∷ []) (pushed : new ≡ middle ++ h ∷ [])
+module _ {M N : Type 0} (old front middle new : List (Frame M N)) (f g h : Frame M N) (taken : old ≡ front ++ f ∷ []) (back : middle ≡ front ++ g ∷ []) (pushed : new ≡ middle ++ h ∷ [])
     (first : left_of f ≡ tree h.expr.now ∷ left_of g) where
   pub falls : sum_by work new < sum_by work old
   falls =

@@ -52,6 +52,8 @@ struct Judging;
 impl Fold for Judging {
     type Value = Judged;
 
+    type Note = ();
+
     ghost use Rattle.lf_ast.specs.reading.Judging.{judged};
     ghost use Rattle.lf_ast.specs.declared.walk.choosing.Parts.TheVariants.{All};
 
@@ -59,11 +61,19 @@ impl Fold for Judging {
 
     ghost needed = { λ judging e. All };
 
-    fn needed(&self, _expr: &Expr) -> Parts {
-        Parts::All
+    ghost notes = { λ e note. Unit {0} };
+
+    fn enter(&self, _expr: &Expr) -> (Parts, ()) {
+        (Parts::All, ())
     }
 
-    fn step(&self, alloc: Global, expr: &Expr, values: Vec<Judged>) -> Result<Judged, Memory>
+    fn step(
+        &self,
+        alloc: Global,
+        expr: &Expr,
+        _note: (),
+        values: Vec<Judged>,
+    ) -> Result<Judged, Memory>
         requires { values.items ≡ map judged (parts_of (tree expr.now)) }
         ensures { IfOk result (λ found. found ≡ judged (tree expr.now)) }
     {

@@ -52,6 +52,8 @@ struct PatternCheck;
 impl Fold for PatternCheck {
     type Value = Option<Fault>;
 
+    type Note = ();
+
     ghost use Rattle.lf_classes.specs.reading.Checking.{pattern_fault};
     ghost use Rattle.lf_ast.specs.declared.walk.choosing.Parts.TheVariants.{All};
 
@@ -59,14 +61,17 @@ impl Fold for PatternCheck {
 
     ghost needed = { λ check e. All };
 
-    fn needed(&self, _expr: &Expr) -> Parts {
-        Parts::All
+    ghost notes = { λ e note. Unit {0} };
+
+    fn enter(&self, _expr: &Expr) -> (Parts, ()) {
+        (Parts::All, ())
     }
 
     fn step(
         &self,
         alloc: Global,
         expr: &Expr,
+        _note: (),
         values: Vec<Option<Fault>>,
     ) -> Result<Option<Fault>, Memory>
         requires { values.items ≡ map pattern_fault (parts_of (tree expr.now)) }

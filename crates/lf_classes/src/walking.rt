@@ -1,15 +1,16 @@
 //! What rules and their expressions mention, in the order of their text.
 ghost use Rattle.std.specs.Prelude.{◌≡◌, ◌++◌, [], cond, OnOk};
+ghost use Rattle.std.specs.Option.{option_map};
 ghost use Rattle.lf_ast.specs.Arguments.{texts_of};
-ghost use Rattle.lf_ast.specs.Functions.{aggregation, function_named};
+ghost use Rattle.lf_ast.specs.Functions.{signature_of};
 ghost use Rattle.lf_ast.specs.Rules.{rule_tree, rule_trees};
 ghost use Rattle.lf_ast.specs.Tree.{trees};
 ghost use Rattle.lf_semantics.specs.Mentions.{group_names, matchers_mentions, name_mentions, names_mentions, rule_mentions, rules_mentions, stands_first};
-ghost use Rattle.lf_classes.specs.views.Mentioned.{called_before, called_behind, mentioned_all, mentioned_before, mentioned_behind};
+ghost use Rattle.lf_classes.specs.views.Mentioned.{called_before, called_behind, mentioned_all};
 
 use crate::mentions::{METRIC, Mentions};
 use lf_ast::walk::{Parts, Visitor, visit};
-use lf_ast::{Agg, Expr, Function, Grouping, Matcher, Name, Rule, span_of};
+use lf_ast::{Expr, Function, Grouping, Matcher, Name, Rule, span_of};
 use lf_base::{Memory, Text};
 use std::alloc::Global;
 
@@ -37,8 +38,13 @@ impl Mentions {
     }
 }
 
-// Each expression is gone into for what it names itself, so that the deepest need no deep stack.
+// Each expression is gone into for what it names itself, so that the deepest need no deep stack. What it calls is looked up once, where it is entered.
 impl Visitor for Mentions {
+    type Note = Option<Function>;
+
+    ghost use Rattle.std.specs.Prelude.{◌≡◌};
+    ghost use Rattle.std.specs.Option.{option_map};
+    ghost use Rattle.lf_ast.specs.Functions.{called_by, signature_of};
     ghost use Rattle.lf_semantics.specs.Mentions.{mentions};
     ghost use Rattle.lf_ast.specs.declared.walk.choosing.Parts.TheVariants.{All};
     ghost use Rattle.lf_classes.specs.views.Mentioned.{mentioned_all, own_before, own_behind, own_between};
@@ -54,26 +60,28 @@ impl Visitor for Mentions {
 
     ghost needed = { λ e. All };
 
+    ghost notes = { λ e function. option_map signature_of function ≡ called_by e };
+
     ghost steps = { mentioned_along };
 
-    fn needed(&self, _expr: &Expr) -> Parts {
-        Parts::All
+    fn enter(&self, expr: &Expr) -> (Parts, Option<Function>) {
+        (Parts::All, Function::called_by(expr))
     }
 
-    fn before(&mut self, alloc: Global, expr: &Expr) -> Result<(), Memory> {
+    fn before(
+        &mut self,
+        alloc: Global,
+        expr: &Expr,
+        function: &Option<Function>,
+    ) -> Result<(), Memory> {
         match expr {
             Expr::Selector { name, matchers, .. } => {
                 self.mention_selector(alloc, name, matchers.as_slice())
             }
-            Expr::Call { name, args, .. } => {
-                self.mention_call(alloc, name.as_str(), args.as_slice())
+            Expr::Call { args, .. } => self.mention_call(alloc, function, args.as_slice()),
+            Expr::Aggregate { grouping, args, .. } => {
+                self.mention_aggregate(alloc, function, grouping, args.as_slice())
             }
-            Expr::Aggregate {
-                op,
-                grouping,
-                args,
-                ..
-            } => self.mention_aggregate(alloc, *op, grouping, args.as_slice()),
             Expr::Number { .. }
             | Expr::Str { .. }
             | Expr::Subquery { .. }
@@ -90,17 +98,17 @@ impl Visitor for Mentions {
         }
     }
 
-    fn behind(&mut self, alloc: Global, expr: &Expr) -> Result<(), Memory> {
+    fn behind(
+        &mut self,
+        alloc: Global,
+        expr: &Expr,
+        function: &Option<Function>,
+    ) -> Result<(), Memory> {
         match expr {
-            Expr::Call { name, args, .. } => {
-                self.mention_behind_call(alloc, name.as_str(), args.as_slice())
+            Expr::Call { args, .. } => self.mention_behind_call(alloc, function, args.as_slice()),
+            Expr::Aggregate { grouping, args, .. } => {
+                self.mention_behind_aggregate(alloc, function, grouping, args.as_slice())
             }
-            Expr::Aggregate {
-                op,
-                grouping,
-                args,
-                ..
-            } => self.mention_behind_aggregate(alloc, *op, grouping, args.as_slice()),
             _ => Ok(()),
         }
     }
@@ -120,26 +128,31 @@ impl Mentions {
         self.mention_matchers(alloc, matchers)
     }
 
-    /// Mentions what a call names before its arguments.
-    fn mention_call(&mut self, alloc: Global, name: &str, args: &[Expr]) -> Result<(), Memory>
-        ensures { OnOk result (self.new ≡ mentioned_all self.old (called_before (function_named name.now) (texts_of (trees args.now)))) }
+    /// Mentions what a call of a function names before its arguments.
+    fn mention_call(
+        &mut self,
+        alloc: Global,
+        function: &Option<Function>,
+        args: &[Expr],
+    ) -> Result<(), Memory>
+        ensures { OnOk result (self.new ≡ mentioned_all self.old (called_before (option_map signature_of function.now) (texts_of (trees args.now)))) }
     {
-        match Function::named(name) {
+        match function {
             Some(function) => self.mention_before(alloc, function.labels, args),
             None => Ok(()),
         }
     }
 
-    /// Mentions what a call names behind its arguments.
+    /// Mentions what a call of a function names behind its arguments.
     fn mention_behind_call(
         &mut self,
         alloc: Global,
-        name: &str,
+        function: &Option<Function>,
         args: &[Expr],
     ) -> Result<(), Memory>
-        ensures { OnOk result (self.new ≡ mentioned_all self.old (called_behind (function_named name.now) (texts_of (trees args.now)))) }
+        ensures { OnOk result (self.new ≡ mentioned_all self.old (called_behind (option_map signature_of function.now) (texts_of (trees args.now)))) }
     {
-        match Function::named(name) {
+        match function {
             Some(function) => self.mention_behind(alloc, function.labels, args),
             None => Ok(()),
         }
@@ -149,29 +162,29 @@ impl Mentions {
     fn mention_aggregate(
         &mut self,
         alloc: Global,
-        op: Agg,
+        function: &Option<Function>,
         grouping: &Grouping,
         args: &[Expr],
     ) -> Result<(), Memory>
-        ensures { OnOk result (self.new ≡ mentioned_all self.old (cond (stands_first (group_names grouping.now) (trees args.now)) (names_mentions (group_names grouping.now)) [] ++ mentioned_before (aggregation op).labels (texts_of (trees args.now)))) }
+        ensures { OnOk result (self.new ≡ mentioned_all self.old (cond (stands_first (group_names grouping.now) (trees args.now)) (names_mentions (group_names grouping.now)) [] ++ called_before (option_map signature_of function.now) (texts_of (trees args.now)))) }
     {
         let names = names_in(grouping);
         self.mention_names_if(alloc, stands_first(names, args), names)?;
-        self.mention_before(alloc, Function::of_aggregation(op).labels, args)
+        self.mention_call(alloc, function, args)
     }
 
     /// Mentions what an aggregation names behind its arguments: what it reads off its strings, and its grouping, if that doesn't stand before them.
     fn mention_behind_aggregate(
         &mut self,
         alloc: Global,
-        op: Agg,
+        function: &Option<Function>,
         grouping: &Grouping,
         args: &[Expr],
     ) -> Result<(), Memory>
-        ensures { OnOk result (self.new ≡ mentioned_all self.old (mentioned_behind (aggregation op).labels (texts_of (trees args.now)) ++ cond (stands_first (group_names grouping.now) (trees args.now)) [] (names_mentions (group_names grouping.now)))) }
+        ensures { OnOk result (self.new ≡ mentioned_all self.old (called_behind (option_map signature_of function.now) (texts_of (trees args.now)) ++ cond (stands_first (group_names grouping.now) (trees args.now)) [] (names_mentions (group_names grouping.now)))) }
     {
         let names = names_in(grouping);
-        self.mention_behind(alloc, Function::of_aggregation(op).labels, args)?;
+        self.mention_behind_call(alloc, function, args)?;
         self.mention_names_if(alloc, !stands_first(names, args), names)
     }
 

@@ -33,6 +33,8 @@ struct Selecting {
 }
 
 impl Visitor for Selecting {
+    type Note = ();
+
     ghost use Rattle.lf_deps.specs.views.Visits.{visits};
 
     ghost visited = { λ s e. record { found = s.found ++ selectors e } };
@@ -45,15 +47,17 @@ impl Visitor for Selecting {
 
     ghost needed = { λ e. parts_read e };
 
-    fn needed(&self, expr: &Expr) -> Parts {
+    ghost notes = { λ e note. Unit {0} };
+
+    fn enter(&self, expr: &Expr) -> (Parts, ()) {
         if is_scalar_call(expr) {
-            Parts::Nothing
+            (Parts::Nothing, ())
         } else {
-            Parts::All
+            (Parts::All, ())
         }
     }
 
-    fn before(&mut self, _alloc: Global, expr: &Expr) -> Result<(), Memory> {
+    fn before(&mut self, _alloc: Global, expr: &Expr, _note: &()) -> Result<(), Memory> {
         match expr {
             Expr::Selector { name, matchers, .. } => {
                 select(name, matchers.as_slice(), &mut self.found)
@@ -66,7 +70,7 @@ impl Visitor for Selecting {
         Ok(())
     }
 
-    fn behind(&mut self, _alloc: Global, _expr: &Expr) -> Result<(), Memory> {
+    fn behind(&mut self, _alloc: Global, _expr: &Expr, _note: &()) -> Result<(), Memory> {
         Ok(())
     }
 

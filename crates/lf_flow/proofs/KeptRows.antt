@@ -1,15 +1,19 @@
 -- What is kept of the parts of an expression has their rows.
 use Rattle.std.proofs.Common.{◌≡◌, ◌≤◌, ℕ, zero, suc, List, [], ◌∷◌, length, map, take, drop, Option, None, Some, refl, sym, ◌∙◌, ap, subst, arith}
 use Rattle.std.specs.Prelude.{option_to_list}
+use Rattle.lf_ast.specs.Functions.{Signature}
 use Rattle.lf_ast.specs.Tree.{Tree, Trees, Number, Str, Selector, Subquery, Paren, Unary, Binary, Call, Aggregate, Nil, Next, list}
+use Rattle.lf_ast.specs.declared.expr.Grouping.{Grouping}
+use Rattle.lf_ast.specs.views.Walks.{chosen}
 use Rattle.lf_semantics.specs.ClassRows.{HasShape}
 use Rattle.lf_semantics.specs.Environments.{IsEnvironment}
 use Rattle.lf_semantics.specs.Listing.{IsListing, Listing}
-use Rattle.lf_semantics.specs.RowTable.{Environment, row_at, row_of}
+use Rattle.lf_semantics.specs.Parts.{operand_place}
+use Rattle.lf_semantics.specs.RowTable.{Environment, call_row, effect_row, row_at, row_of}
 use Rattle.lf_semantics.proofs.RowLaws.{shape_bottom}
 use Rattle.lf_semantics.proofs.Soundness.{shape_of_row}
 use Rattle.lf_flow.specs.declared.given.Given.{Given}
-use Rattle.lf_flow.specs.views.Kept.{given_of, kept_row, made_row, operand_row}
+use Rattle.lf_flow.specs.views.Kept.{given_of, kept_row, made_row, operand_part, operand_row}
 
 module _ (u : Listing) (env : Environment) where
   -- the row that is kept of an expression is its own
@@ -46,10 +50,10 @@ module _ (u : Listing) (env : Environment) where
 
   -- the operand among arguments
 
-  abbrev pub operands : Trees → ℕ → List Given
+  abbrev operands : Trees → ℕ → List Given
   operands args k = map (given_of u env) (take 1 (drop k (list args)))
 
-  pub operand_is : (args : Trees) (k : ℕ) (o : Option Given) → operands args k ≡ option_to_list o → row_at u env args k ≡ operand_row u o
+  operand_is : (args : Trees) (k : ℕ) (o : Option Given) → operands args k ≡ option_to_list o → row_at u env args k ≡ operand_row u o
   operand_is Nil zero None e = refl
   operand_is Nil (suc k) None e = refl
   operand_is Nil zero (Some g) e = absurd (cc)
@@ -58,11 +62,25 @@ module _ (u : Listing) (env : Environment) where
   operand_is (Next x xs) zero (Some g) e = let same : given_of u env x ≡ g = cc in sym (made_is x) ∙ ap (λ (h : Given). made_row u h.row) same
   operand_is (Next x xs) (suc k) o e = operand_is xs k o e
 
-  pub one_operand : (args : Trees) (k : ℕ) → length (operands args k) ≤ 1
+  one_operand : (args : Trees) (k : ℕ) → length (operands args k) ≤ 1
   one_operand Nil zero = omega arith
   one_operand Nil (suc k) = omega arith
   one_operand (Next x xs) zero = let none : length (map (given_of u env) (take 0 (list xs))) ≡ 0 = ap (λ ys. length (map (given_of u env) ys)) (take_none (list xs)) in omega (arith, none)
   one_operand (Next x xs) (suc k) = one_operand xs k
+
+  -- what is kept of the parts of a call
+
+  abbrev pub of_call : Option Signature → Trees → List Given
+  of_call o args = map (given_of u env) (chosen (operand_part o) (list args))
+
+  pub one_of_call : (o : Option Signature) (args : Trees) → length (of_call o args) ≤ 1
+  one_of_call None args = omega arith
+  one_of_call (Some s) args = one_operand args (operand_place s)
+
+  pub row_of_call : (o : Option Signature) (grouping : Grouping) (args : Trees) (operand : Option Given) → of_call o args ≡ option_to_list operand
+      → call_row u o grouping args (λ place. operand_row u operand) ≡ call_row u o grouping args (row_at u env args)
+  row_of_call None grouping args operand e = refl
+  row_of_call (Some s) grouping args operand e = ap (effect_row u s.labels grouping args) (sym (operand_is args (operand_place s) operand e))
 
   module _ (listing : IsListing u) (environment : IsEnvironment u env) where
     shape_at : (args : Trees) (k : ℕ) → HasShape u (row_at u env args k)
@@ -70,5 +88,7 @@ module _ (u : Listing) (env : Environment) where
     shape_at (Next x xs) zero = shape_of_row u listing env environment x
     shape_at (Next x xs) (suc k) = shape_at xs k
 
-    pub operand_shape : (args : Trees) (k : ℕ) (o : Option Given) → operands args k ≡ option_to_list o → HasShape u (operand_row u o)
-    operand_shape args k o e = subst (HasShape u) (operand_is args k o e) (shape_at args k)
+    pub shape_of_call : (o : Option Signature) (args : Trees) (operand : Option Given) → of_call o args ≡ option_to_list operand → HasShape u (operand_row u operand)
+    shape_of_call None args None e = shape_bottom u
+    shape_of_call None args (Some given) e = absurd (cc)
+    shape_of_call (Some s) args operand e = subst (HasShape u) (operand_is args (operand_place s) operand e) (shape_at args (operand_place s))

@@ -1,13 +1,15 @@
 //! What is told of an expression at once: its row and its type.
 ghost use Rattle.std.specs.Prelude.{◌≡◌, ◌≤◌, ◌∷◌, [], None, Some, length, option_to_list, IfOk};
 ghost use Rattle.std.specs.List.{position_or_len};
+ghost use Rattle.std.specs.Option.{option_map};
+ghost use Rattle.lf_ast.specs.Functions.{signature_of};
 ghost use Rattle.lf_ast.specs.Tree.{trees};
 ghost use Rattle.lf_ast.specs.Types.{is_scalar, joined, selected};
 ghost use Rattle.lf_semantics.specs.ClassRows.{HasShape, bottom};
 ghost use Rattle.lf_semantics.specs.Environments.{IsEnvironment};
 ghost use Rattle.lf_semantics.specs.Listing.{IsListing};
-ghost use Rattle.lf_semantics.specs.Parts.{takes_samples};
-ghost use Rattle.lf_semantics.specs.RowTable.{binary_row, effect_row, selector_row, sign_row};
+ghost use Rattle.lf_semantics.specs.Parts.{given_by, takes_samples};
+ghost use Rattle.lf_semantics.specs.RowTable.{binary_row, call_row, selector_row, sign_row};
 ghost use Rattle.lf_flow.specs.views.Kept.{made_row, operand_row};
 
 use crate::Env;
@@ -203,20 +205,23 @@ fn takes_samples(of: ExprType) -> bool
     }
 }
 
-/// A call of a function with this operand, if it has one.
+/// A call of a function with this operand, if it has one. A call of no function gives no sample.
 pub fn called(
     alloc: Global,
     universe: &Universe,
-    function: &Function,
+    function: Option<Function>,
     grouping: &Grouping,
     args: &[Expr],
     operand: Option<Given>,
 ) -> Result<Given, Memory>
     requires listing { IsListing universe.now }
     requires shape { HasShape universe.now (operand_row universe.now operand) }
-    ensures row { IfOk result (λ given. given.row ≡ Some (effect_row universe.now function.now.labels grouping.now (trees args.now) (operand_row universe.now operand))) }
-    ensures form { IfOk result (λ given. given.form ≡ function.now.gives) }
+    ensures row { IfOk result (λ given. given.row ≡ Some (call_row universe.now (option_map signature_of function) grouping.now (trees args.now) (λ place. operand_row universe.now operand))) }
+    ensures form { IfOk result (λ given. given.form ≡ given_by (option_map signature_of function)) }
 {
+    let Some(function) = function else {
+        return empty(alloc, universe, ExprType::Vector);
+    };
     let operand = row_or_empty(alloc, universe, operand)?;
     let row = effect(alloc, universe, function.labels, grouping, args, operand)?;
     Ok(Given {

@@ -1,7 +1,8 @@
 //! The row of an expression.
-ghost use Rattle.std.specs.Prelude.{◌≡◌, List, Some, map, IfOk};
+ghost use Rattle.std.specs.Prelude.{◌≡◌, List, map, IfOk};
 ghost use Rattle.std.specs.List.{Contains};
-ghost use Rattle.lf_ast.specs.Functions.{signature_of};
+ghost use Rattle.std.specs.Option.{option_map};
+ghost use Rattle.lf_ast.specs.Functions.{called_by, signature_of};
 ghost use Rattle.lf_ast.specs.Labels.{Labels};
 ghost use Rattle.lf_ast.specs.Tree.{parts_of, tree};
 ghost use Rattle.lf_ast.specs.views.Walks.{chosen};
@@ -74,54 +75,80 @@ impl<'a> Model for Rows<'a> {
 impl<'a> Fold for Rows<'a> {
     type Value = Given;
 
+    type Note = Option<Function>;
+
+    ghost use Rattle.std.specs.Prelude.{◌≡◌};
+    ghost use Rattle.std.specs.Option.{option_map};
+    ghost use Rattle.lf_ast.specs.Functions.{called_by, signature_of};
+    ghost use Rattle.lf_flow.specs.views.Kept.{given_of, parts_needed};
+
     ghost value = { λ rows e. given_of rows.0 rows.1 e };
 
     ghost needed = { λ rows e. parts_needed e };
 
-    fn needed(&self, expr: &Expr) -> Parts {
-        match expr {
-            Expr::Call { name, .. } => match Function::named(name.as_str()) {
-                Some(function) => operand_part(&function),
-                None => Parts::Nothing,
-            },
-            Expr::Aggregate { op, .. } => operand_part(&Function::of_aggregation(*op)),
-            Expr::Number { .. }
-            | Expr::Str { .. }
-            | Expr::Selector { .. }
-            | Expr::Subquery { .. }
-            | Expr::Paren { .. }
-            | Expr::Unary { .. }
-            | Expr::Binary { .. } => Parts::All,
-        }
+    ghost notes = { λ e function. option_map signature_of function ≡ called_by e };
+
+    fn enter(&self, expr: &Expr) -> (Parts, Option<Function>) {
+        let function = Function::called_by(expr);
+        (parts_needed(expr, &function), function)
     }
 
-    fn step(&self, alloc: Global, expr: &Expr, values: Vec<Given>) -> Result<Given, Memory>
-        requires { values.items ≡ map (given_of self.now.0 self.now.1) (chosen (parts_needed (tree expr.now)) (parts_of (tree expr.now))) }
+    fn step(
+        &self,
+        alloc: Global,
+        expr: &Expr,
+        function: Option<Function>,
+        values: Vec<Given>,
+    ) -> Result<Given, Memory>
+        requires function { option_map signature_of function ≡ called_by (tree expr.now) }
+        requires values { values.items ≡ map (given_of self.now.0 self.now.1) (chosen (parts_needed (tree expr.now)) (parts_of (tree expr.now))) }
         ensures { IfOk result (λ made. made ≡ given_of self.now.0 self.now.1 (tree expr.now)) }
     {
-        given(alloc, self.universe, self.env, expr, values)
+        given(alloc, self.universe, self.env, expr, function, values)
     }
 }
 
-/// The operand of a function among its arguments.
-fn operand_part(function: &Function) -> Parts
-    ensures { result ≡ operand_part (Some (signature_of function.now)) }
+/// The parts that the row of an expression is made of, which calls this function, if any: of arguments only the operand.
+fn parts_needed(expr: &Expr, function: &Option<Function>) -> Parts
+    requires { option_map signature_of function.now ≡ called_by (tree expr.now) }
+    ensures { result ≡ parts_needed (tree expr.now) }
 {
-    Parts::Only {
-        place: operand_place(function.takes),
+    match expr {
+        Expr::Call { .. } | Expr::Aggregate { .. } => operand_part(function),
+        Expr::Number { .. }
+        | Expr::Str { .. }
+        | Expr::Selector { .. }
+        | Expr::Subquery { .. }
+        | Expr::Paren { .. }
+        | Expr::Unary { .. }
+        | Expr::Binary { .. } => Parts::All,
     }
 }
 
-/// What is told of an expression, from what is told of its parts.
+/// The operand of a function among its arguments, and nothing where there is no function.
+fn operand_part(function: &Option<Function>) -> Parts
+    ensures { result ≡ operand_part (option_map signature_of function.now) }
+{
+    match function {
+        Some(function) => Parts::Only {
+            place: operand_place(function.takes),
+        },
+        None => Parts::Nothing,
+    }
+}
+
+/// What is told of an expression, from what it calls and what is told of its parts.
 fn given(
     alloc: Global,
     universe: &Universe,
     env: &Env,
     expr: &Expr,
+    function: Option<Function>,
     parts: Vec<Given>,
 ) -> Result<Given, Memory>
     requires listing { IsListing universe.now }
     requires env { IsEnvironment universe.now env.now }
+    requires function { option_map signature_of function ≡ called_by (tree expr.now) }
     requires parts { parts.items ≡ map (given_of universe.now env.now) (chosen (parts_needed (tree expr.now)) (parts_of (tree expr.now))) }
     ensures row { IfOk result (λ given. given.row ≡ kept_row universe.now env.now (tree expr.now)) }
     ensures form { IfOk result (λ given. given.form ≡ type_by_form (tree expr.now)) }
@@ -149,26 +176,18 @@ fn given(
             let (left, right) = both(parts);
             binary(alloc, universe, *op, modifier, left, right)
         }
-        Expr::Call { name, args, .. } => match Function::named(name.as_str()) {
-            Some(function) => called(
-                alloc,
-                universe,
-                &function,
-                &Grouping::None,
-                args.as_slice(),
-                operand(parts),
-            ),
-            None => empty(alloc, universe, ExprType::Vector),
-        },
-        Expr::Aggregate {
-            op,
-            grouping,
-            args,
-            ..
-        } => called(
+        Expr::Call { args, .. } => called(
             alloc,
             universe,
-            &Function::of_aggregation(*op),
+            function,
+            &Grouping::None,
+            args.as_slice(),
+            operand(parts),
+        ),
+        Expr::Aggregate { grouping, args, .. } => called(
+            alloc,
+            universe,
+            function,
             grouping,
             args.as_slice(),
             operand(parts),

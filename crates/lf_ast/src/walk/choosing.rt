@@ -16,11 +16,12 @@ pub enum Parts {
     Nothing,
 }
 
-/// An expression of which some parts were gone into, those that weren't, and what a walk notes beside it.
+/// An expression of which some parts were gone into, those that weren't, the mark by which a walk goes on, and its caller's note.
 #[derive(Drop)]
-pub(crate) struct Frame<'a, N> {
+pub(crate) struct Frame<'a, M, N> {
     pub(crate) expr: &'a Expr,
     pub(crate) parts: Parts,
+    pub(crate) mark: M,
     pub(crate) note: N,
 }
 

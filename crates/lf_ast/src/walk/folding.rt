@@ -13,37 +13,48 @@ use std::alloc::Global;
 pub trait Fold {
     type Value: Drop;
 
+    /// What is noted of an expression where it is entered, until its own value is made.
+    type Note: Drop;
+
     /// The value of an expression.
     ghost value: { Self → Tree → Self.Value };
 
     /// The parts whose values it is made of.
     ghost needed: { Self → Tree → Parts };
 
-    /// The parts of an expression whose values its own is made of.
-    fn needed(&self, expr: &Expr) -> Parts
-        ensures { result ≡ needed self.now (tree expr.now) };
+    /// What a note says of its expression.
+    ghost notes: { Tree → Self.Note → Type 0 };
+
+    /// The parts of an expression whose values its own is made of, and what is noted of it.
+    fn enter(&self, expr: &Expr) -> (Parts, Self::Note)
+        ensures parts { result.0 ≡ needed self.now (tree expr.now) }
+        ensures note { notes (tree expr.now) result.1 };
 
     /// The value of an expression from those of its parts that are needed.
     fn step(
         &self,
         alloc: Global,
         expr: &Expr,
+        note: Self::Note,
         values: Vec<Self::Value>,
     ) -> Result<Self::Value, Memory>
-        requires { values.items ≡ map (value self.now) (chosen (needed self.now (tree expr.now)) (parts_of (tree expr.now))) }
+        requires note { notes (tree expr.now) note }
+        requires values { values.items ≡ map (value self.now) (chosen (needed self.now (tree expr.now)) (parts_of (tree expr.now))) }
         ensures { IfOk result (λ made. made ≡ value self.now (tree expr.now)) };
 }
 
-/// The value of an expression. It calls no deeper for deep ones. Each frame notes how many values there were before those of its parts.
+/// The value of an expression. It calls no deeper for deep ones. Each frame's mark is how many values there were before those of its parts.
 pub fn fold_up<F: Fold>(alloc: Global, fold: &F, expr: &Expr) -> Result<F::Value, Memory>
     ensures { IfOk result (λ made. made ≡ F.value fold.now (tree expr.now)) }
 {
     let mut frames = Vec::new(alloc);
     let mut values = Vec::new(alloc);
+    let (parts, note) = fold.enter(expr);
     frames.push(Frame {
         expr,
-        parts: fold.needed(expr),
-        note: 0,
+        parts,
+        mark: 0,
+        note,
     })?;
     while let Some(frame) = frames.pop() {
         match split_first(frame.parts, frame.expr) {
@@ -51,17 +62,20 @@ pub fn fold_up<F: Fold>(alloc: Global, fold: &F, expr: &Expr) -> Result<F::Value
                 frames.push(Frame {
                     expr: frame.expr,
                     parts,
+                    mark: frame.mark,
                     note: frame.note,
                 })?;
+                let (parts, note) = fold.enter(part);
                 frames.push(Frame {
                     expr: part,
-                    parts: fold.needed(part),
-                    note: values.len(),
+                    parts,
+                    mark: values.len(),
+                    note,
                 })?;
             }
             None => {
-                let of_parts = values.split_off(frame.note)?;
-                values.push(fold.step(alloc, frame.expr, of_parts)?)?;
+                let of_parts = values.split_off(frame.mark)?;
+                values.push(fold.step(alloc, frame.expr, frame.note, of_parts)?)?;
             }
         }
     }

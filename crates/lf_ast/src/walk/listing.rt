@@ -18,6 +18,7 @@ pub fn nodes_of<'a>(alloc: Global, expr: &'a Expr) -> Result<Vec<&'a Expr>, Memo
     open.push(Frame {
         expr,
         parts: Parts::All,
+        mark: (),
         note: (),
     })?;
     while let Some(frame) = open.pop() {
@@ -25,12 +26,14 @@ pub fn nodes_of<'a>(alloc: Global, expr: &'a Expr) -> Result<Vec<&'a Expr>, Memo
             open.push(Frame {
                 expr: frame.expr,
                 parts,
+                mark: (),
                 note: (),
             })?;
             found.push(part)?;
             open.push(Frame {
                 expr: part,
                 parts: Parts::All,
+                mark: (),
                 note: (),
             })?;
         }

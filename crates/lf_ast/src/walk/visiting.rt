@@ -11,6 +11,9 @@ use std::alloc::Global;
 
 /// What is done at each expression before its parts, between any two of them, and behind them.
 pub trait Visitor {
+    /// What is noted of an expression where it is entered, for what is done before and behind its parts.
+    type Note: Drop;
+
     /// What the visit of a whole expression leaves.
     ghost visited: { Self → Tree → Self };
 
@@ -26,12 +29,17 @@ pub trait Visitor {
     /// The parts that are visited.
     ghost needed: { Tree → Parts };
 
-    /// The parts of an expression that are visited.
-    fn needed(&self, expr: &Expr) -> Parts
-        ensures { result ≡ needed (tree expr.now) };
+    /// What a note says of its expression.
+    ghost notes: { Tree → Self.Note → Type 0 };
+
+    /// The parts of an expression that are visited, and what is noted of it.
+    fn enter(&self, expr: &Expr) -> (Parts, Self::Note)
+        ensures parts { result.0 ≡ needed (tree expr.now) }
+        ensures note { notes (tree expr.now) result.1 };
 
     /// What is done before the parts of an expression.
-    fn before(&mut self, alloc: Global, expr: &Expr) -> Result<(), Memory>
+    fn before(&mut self, alloc: Global, expr: &Expr, note: &Self::Note) -> Result<(), Memory>
+        requires { notes (tree expr.now) note.now }
         ensures { OnOk result (self.new ≡ before self.old (tree expr.now)) };
 
     /// What is done between two parts of an expression.
@@ -39,41 +47,47 @@ pub trait Visitor {
         ensures { OnOk result (self.new ≡ between self.old (tree expr.now)) };
 
     /// What is done behind the parts of an expression.
-    fn behind(&mut self, alloc: Global, expr: &Expr) -> Result<(), Memory>
+    fn behind(&mut self, alloc: Global, expr: &Expr, note: &Self::Note) -> Result<(), Memory>
+        requires { notes (tree expr.now) note.now }
         ensures { OnOk result (self.new ≡ behind self.old (tree expr.now)) };
 
     /// A visit does what is done at the expression itself, and visits its parts.
     ghost steps: { (state : Self) (x : Tree) → visited state x ≡ behind (along visited between x (chosen (needed x) (parts_of x)) (before state x)) x };
 }
 
-/// Visits an expression. It calls no deeper for deep ones. Each frame notes whether a part was visited.
+/// Visits an expression. It calls no deeper for deep ones. Each frame's mark is whether a part was visited.
 pub fn visit<V: Visitor>(alloc: Global, visitor: &mut V, expr: &Expr) -> Result<(), Memory>
     ensures { OnOk result (visitor.new ≡ V.visited visitor.old (tree expr.now)) }
 {
     let mut frames = Vec::new(alloc);
-    visitor.before(alloc, expr)?;
+    let (parts, note) = visitor.enter(expr);
+    visitor.before(alloc, expr, &note)?;
     frames.push(Frame {
         expr,
-        parts: visitor.needed(expr),
-        note: false,
+        parts,
+        mark: false,
+        note,
     })?;
     while let Some(frame) = frames.pop() {
         match split_first(frame.parts, frame.expr) {
             Some((part, parts)) => {
-                go_on(alloc, visitor, frame.note, frame.expr)?;
+                go_on(alloc, visitor, frame.mark, frame.expr)?;
                 frames.push(Frame {
                     expr: frame.expr,
                     parts,
-                    note: true,
+                    mark: true,
+                    note: frame.note,
                 })?;
-                visitor.before(alloc, part)?;
+                let (parts, note) = visitor.enter(part);
+                visitor.before(alloc, part, &note)?;
                 frames.push(Frame {
                     expr: part,
-                    parts: visitor.needed(part),
-                    note: false,
+                    parts,
+                    mark: false,
+                    note,
                 })?;
             }
-            None => visitor.behind(alloc, frame.expr)?,
+            None => visitor.behind(alloc, frame.expr, &frame.note)?,
         }
     }
     Ok(())

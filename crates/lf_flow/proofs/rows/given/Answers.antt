@@ -1,18 +1,19 @@
 use Rattle.std.proofs.Common.{◌≡◌, ◌≤◌, ◌∷◌, [], List, Option, Some, length, map, sym, ◌∙◌, ap, subst}
 use Rattle.std.specs.Prelude.{IfOk}
-use Rattle.lf_ast.specs.Functions.{Signature, function_named, signature_of}
-use Rattle.lf_ast.specs.Tree.{Tree, list, parts_of, tree, trees}
+use Rattle.std.specs.Option.{option_map}
+use Rattle.lf_ast.specs.Functions.{Signature, aggregation, called_by, function_named, signature_of}
+use Rattle.lf_ast.specs.Tree.{Tree, parts_of, tree, trees}
 use Rattle.lf_ast.specs.Types.{is_scalar}
 use Rattle.lf_ast.specs.declared.expr.Expr.{Expr}
 use Rattle.lf_ast.specs.declared.expr.Grouping.TheVariants.{None as Ungrouped}
 use Rattle.lf_ast.specs.views.Walks.{chosen}
 use Rattle.lf_ast.proofs.TreeOf.{tree_aggregate, tree_call}
 use Rattle.lf_semantics.specs.ClassRows.{Sets}
-use Rattle.lf_semantics.specs.Parts.{is_scalar_part, operand_place}
-use Rattle.lf_semantics.specs.RowTable.{binary_row, call_row, effect_row, row_at, row_of, selector_row}
+use Rattle.lf_semantics.specs.Parts.{is_scalar_part}
+use Rattle.lf_semantics.specs.RowTable.{binary_row, call_row, row_at, row_of, selector_row}
 use Rattle.lf_flow.specs.declared.given.Given.{Given}
-use Rattle.lf_flow.specs.views.Kept.{given_of, kept_row, made_row, operand_part, operand_row, parts_needed}
-use Rattle.lf_flow.proofs.KeptRows.{left_is, made_is, made_shape, one_operand, only_is, operand_is, operand_shape, operands, right_is}
+use Rattle.lf_flow.specs.views.Kept.{given_of, kept_row, made_row, operand_row, parts_needed}
+use Rattle.lf_flow.proofs.KeptRows.{left_is, made_is, made_shape, of_call, one_of_call, only_is, right_is, row_of_call, shape_of_call}
 use Rattle.lf_flow.proofs.rows.given.Goals as goal
 
 -- selectors
@@ -74,93 +75,86 @@ returns-in-Binary-clause-row c =
     ∙ sym (ap (λ (e : Expr). kept_row u env (tree e)) s.is))
     c.binary.ensures.row
 
--- calls
+-- calls and aggregations
 
 pub operand-requires : goal.operand-requires
 operand-requires c =
     let u = c.args.universe.now in
     let env = c.args.env.now in
     let s = c.in-Call in
-    let named : Some (signature_of c.in-Some.function) ≡ function_named s.name = c.in-Some.ensures ∙ ap function_named c.as_str.ensures in
-    let own : c.args.parts.items ≡ operands u env (trees s.args) (operand_place (signature_of c.in-Some.function)) =
-    c.requires.parts
-    ∙ ap (λ (e : Tree). map (given_of u env) (chosen (parts_needed e) (parts_of e))) (tree_call c.args.expr.now s.name s.args s.span s.is)
-    ∙ ap (λ (o : Option Signature). map (given_of u env) (chosen (operand_part o) (list (trees s.args)))) (sym named) in
+    let o = option_map signature_of c.args.function in
+    let is = tree_call c.args.expr.now s.name s.args s.span s.is in
+    let own : c.args.parts.items ≡ of_call u env o (trees s.args) =
+    c.requires.parts ∙ ap (λ (e : Tree). map (given_of u env) (chosen (parts_needed e) (parts_of e))) is ∙ ap (λ (o : Option Signature). of_call u env o (trees s.args)) (sym (c.requires.function ∙ ap called_by is)) in
     let P : List Given → Type 0 = λ parts. length parts ≤ 1 in
-    subst P (sym own) (one_operand u env (trees s.args) (operand_place (signature_of c.in-Some.function)))
+    subst P (sym own) (one_of_call u env o (trees s.args))
 
 pub called-requires-clause-shape : goal.called-requires-clause-shape
 called-requires-clause-shape c =
     let u = c.args.universe.now in
     let env = c.args.env.now in
     let s = c.in-Call in
-    let named : Some (signature_of c.in-Some.function) ≡ function_named s.name = c.in-Some.ensures ∙ ap function_named c.as_str.ensures in
-    let own : c.args.parts.items ≡ operands u env (trees s.args) (operand_place (signature_of c.in-Some.function)) =
-    c.requires.parts
-    ∙ ap (λ (e : Tree). map (given_of u env) (chosen (parts_needed e) (parts_of e))) (tree_call c.args.expr.now s.name s.args s.span s.is)
-    ∙ ap (λ (o : Option Signature). map (given_of u env) (chosen (operand_part o) (list (trees s.args)))) (sym named) in
-    operand_shape u env c.requires.listing c.requires.env (trees s.args) (operand_place (signature_of c.in-Some.function)) c.operand.result (sym own ∙ c.operand.ensures)
+    let o = option_map signature_of c.args.function in
+    let is = tree_call c.args.expr.now s.name s.args s.span s.is in
+    let own : c.args.parts.items ≡ of_call u env o (trees s.args) =
+    c.requires.parts ∙ ap (λ (e : Tree). map (given_of u env) (chosen (parts_needed e) (parts_of e))) is ∙ ap (λ (o : Option Signature). of_call u env o (trees s.args)) (sym (c.requires.function ∙ ap called_by is)) in
+    shape_of_call u env c.requires.listing c.requires.env o (trees s.args) c.operand.result (sym own ∙ c.operand.ensures)
 
-pub returns-in-Some-clause-row : goal.returns-in-Some-clause-row
-returns-in-Some-clause-row c =
+pub returns-in-Call-clause-row : goal.returns-in-Call-clause-row
+returns-in-Call-clause-row c =
     let u = c.args.universe.now in
     let env = c.args.env.now in
     let s = c.in-Call in
-    let f = c.in-Some.function in
-    let k = operand_place (signature_of f) in
-    let named : Some (signature_of f) ≡ function_named s.name = c.in-Some.ensures ∙ ap function_named c.as_str.ensures in
-    let own : c.args.parts.items ≡ operands u env (trees s.args) k =
-    c.requires.parts
-    ∙ ap (λ (e : Tree). map (given_of u env) (chosen (parts_needed e) (parts_of e))) (tree_call c.args.expr.now s.name s.args s.span s.is)
-    ∙ ap (λ (o : Option Signature). map (given_of u env) (chosen (operand_part o) (list (trees s.args)))) (sym named) in
+    let o = option_map signature_of c.args.function in
+    let is = tree_call c.args.expr.now s.name s.args s.span s.is in
+    let named : o ≡ function_named s.name = c.requires.function ∙ ap called_by is in
+    let own : c.args.parts.items ≡ of_call u env o (trees s.args) =
+    c.requires.parts ∙ ap (λ (e : Tree). map (given_of u env) (chosen (parts_needed e) (parts_of e))) is ∙ ap (λ (o : Option Signature). of_call u env o (trees s.args)) (sym named) in
     let P : Option Sets → Type 0 = λ x. IfOk c.called.result (λ given. given.row ≡ x) in
     subst P
-    (ap (λ args. Some (effect_row u f.labels Ungrouped (trees args) (operand_row u c.operand.result))) c.as_slice-in-Some.ensures
-    ∙ ap (λ (x : Sets). Some (effect_row u f.labels Ungrouped (trees s.args) x)) (sym (operand_is u env (trees s.args) k c.operand.result (sym own ∙ c.operand.ensures)))
+    (ap (λ args. Some (call_row u o Ungrouped (trees args) (λ place. operand_row u c.operand.result))) c.as_slice-in-Call.ensures
+    ∙ ap (λ (x : Sets). Some x) (row_of_call u env o Ungrouped (trees s.args) c.operand.result (sym own ∙ c.operand.ensures))
     ∙ ap (λ (o : Option Signature). Some (call_row u o Ungrouped (trees s.args) (row_at u env (trees s.args)))) named
-    ∙ sym (ap (kept_row u env) (tree_call c.args.expr.now s.name s.args s.span s.is)))
+    ∙ sym (ap (kept_row u env) is))
     c.called.ensures.row
-
--- aggregations
 
 pub operand-requires-in-Aggregate : goal.operand-requires-in-Aggregate
 operand-requires-in-Aggregate c =
     let u = c.args.universe.now in
     let env = c.args.env.now in
     let s = c.in-Aggregate in
-    let own : c.args.parts.items ≡ operands u env (trees s.args) (operand_place (signature_of c.of_aggregation.result)) =
-    c.requires.parts
-    ∙ ap (λ (e : Tree). map (given_of u env) (chosen (parts_needed e) (parts_of e))) (tree_aggregate c.args.expr.now s.op s.grouping s.args s.span s.is)
-    ∙ ap (λ (f : Signature). operands u env (trees s.args) (operand_place f)) (sym c.of_aggregation.ensures) in
+    let o = option_map signature_of c.args.function in
+    let is = tree_aggregate c.args.expr.now s.op s.grouping s.args s.span s.is in
+    let own : c.args.parts.items ≡ of_call u env o (trees s.args) =
+    c.requires.parts ∙ ap (λ (e : Tree). map (given_of u env) (chosen (parts_needed e) (parts_of e))) is ∙ ap (λ (o : Option Signature). of_call u env o (trees s.args)) (sym (c.requires.function ∙ ap called_by is)) in
     let P : List Given → Type 0 = λ parts. length parts ≤ 1 in
-    subst P (sym own) (one_operand u env (trees s.args) (operand_place (signature_of c.of_aggregation.result)))
+    subst P (sym own) (one_of_call u env o (trees s.args))
 
 pub called-requires-in-Aggregate-clause-shape : goal.called-requires-in-Aggregate-clause-shape
 called-requires-in-Aggregate-clause-shape c =
     let u = c.args.universe.now in
     let env = c.args.env.now in
     let s = c.in-Aggregate in
-    let own : c.args.parts.items ≡ operands u env (trees s.args) (operand_place (signature_of c.of_aggregation.result)) =
-    c.requires.parts
-    ∙ ap (λ (e : Tree). map (given_of u env) (chosen (parts_needed e) (parts_of e))) (tree_aggregate c.args.expr.now s.op s.grouping s.args s.span s.is)
-    ∙ ap (λ (f : Signature). operands u env (trees s.args) (operand_place f)) (sym c.of_aggregation.ensures) in
-    operand_shape u env c.requires.listing c.requires.env (trees s.args) (operand_place (signature_of c.of_aggregation.result)) c.operand-in-Aggregate.result (sym own ∙ c.operand-in-Aggregate.ensures)
+    let o = option_map signature_of c.args.function in
+    let is = tree_aggregate c.args.expr.now s.op s.grouping s.args s.span s.is in
+    let own : c.args.parts.items ≡ of_call u env o (trees s.args) =
+    c.requires.parts ∙ ap (λ (e : Tree). map (given_of u env) (chosen (parts_needed e) (parts_of e))) is ∙ ap (λ (o : Option Signature). of_call u env o (trees s.args)) (sym (c.requires.function ∙ ap called_by is)) in
+    shape_of_call u env c.requires.listing c.requires.env o (trees s.args) c.operand-in-Aggregate.result (sym own ∙ c.operand-in-Aggregate.ensures)
 
 pub returns-in-Aggregate-clause-row : goal.returns-in-Aggregate-clause-row
 returns-in-Aggregate-clause-row c =
     let u = c.args.universe.now in
     let env = c.args.env.now in
     let s = c.in-Aggregate in
-    let f = c.of_aggregation.result in
-    let k = operand_place (signature_of f) in
-    let own : c.args.parts.items ≡ operands u env (trees s.args) k =
-    c.requires.parts
-    ∙ ap (λ (e : Tree). map (given_of u env) (chosen (parts_needed e) (parts_of e))) (tree_aggregate c.args.expr.now s.op s.grouping s.args s.span s.is)
-    ∙ ap (λ (x : Signature). operands u env (trees s.args) (operand_place x)) (sym c.of_aggregation.ensures) in
+    let o = option_map signature_of c.args.function in
+    let is = tree_aggregate c.args.expr.now s.op s.grouping s.args s.span s.is in
+    let named : o ≡ Some (aggregation s.op) = c.requires.function ∙ ap called_by is in
+    let own : c.args.parts.items ≡ of_call u env o (trees s.args) =
+    c.requires.parts ∙ ap (λ (e : Tree). map (given_of u env) (chosen (parts_needed e) (parts_of e))) is ∙ ap (λ (o : Option Signature). of_call u env o (trees s.args)) (sym named) in
     let P : Option Sets → Type 0 = λ x. IfOk c.called-in-Aggregate.result (λ given. given.row ≡ x) in
     subst P
-    (ap (λ args. Some (effect_row u f.labels s.grouping (trees args) (operand_row u c.operand-in-Aggregate.result))) c.as_slice-in-Aggregate.ensures
-    ∙ ap (λ (x : Sets). Some (effect_row u f.labels s.grouping (trees s.args) x)) (sym (operand_is u env (trees s.args) k c.operand-in-Aggregate.result (sym own ∙ c.operand-in-Aggregate.ensures)))
-    ∙ ap (λ (x : Signature). Some (call_row u (Some x) s.grouping (trees s.args) (row_at u env (trees s.args)))) c.of_aggregation.ensures
-    ∙ sym (ap (kept_row u env) (tree_aggregate c.args.expr.now s.op s.grouping s.args s.span s.is)))
+    (ap (λ args. Some (call_row u o s.grouping (trees args) (λ place. operand_row u c.operand-in-Aggregate.result))) c.as_slice-in-Aggregate.ensures
+    ∙ ap (λ (x : Sets). Some x) (row_of_call u env o s.grouping (trees s.args) c.operand-in-Aggregate.result (sym own ∙ c.operand-in-Aggregate.ensures))
+    ∙ ap (λ (o : Option Signature). Some (call_row u o s.grouping (trees s.args) (row_at u env (trees s.args)))) named
+    ∙ sym (ap (kept_row u env) is))
     c.called-in-Aggregate.ensures.row
