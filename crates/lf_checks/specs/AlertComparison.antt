@@ -42,7 +42,7 @@ joins_conditions Or m left right = left && right
 joins_conditions op m left right = is_filter op m || (left || right)
 
 abbrev mutual
-  -- the expression is conditional: whether it gives a sample hangs on a comparison, or on samples that are lacking
+  -- the expression is conditional: by its form it compares, or asks for samples that are lacking
   pub is_conditional : Tree → Bool
   is_conditional (Number text span) = false
   is_conditional (Str text span) = false

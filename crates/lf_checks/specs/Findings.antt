@@ -30,8 +30,8 @@ severity_of ExprEmpty = expr_empty.severity
 severity_of ExprType = expr_type.severity
 severity_of RuleLabel = rule_label.severity
 
--- The files are those that the rules stand in, and the rules are those of all files that aren't refused. The row of a rule is that in the environment, which is meant to be the
--- least one of the rules.
+-- The files are all that are linted, refused ones too, so that the number of a rule's file is its place among them. The rules are those of the files that aren't refused, file by
+-- file and group by group. The row of a rule is that in the environment, which is meant to be the least one of the rules.
 module _ (files : List File) (rules : List RuleTree) (env : Environment) where
   -- the check finds this of rule i, which is r
   abbrev pub Finds : Check → ℕ → RuleTree → Finding → Type 0
