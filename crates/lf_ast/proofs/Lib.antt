@@ -2,6 +2,7 @@ pub mod BreachesInside
 pub mod CallsJudged
 pub mod Folding
 pub mod Judged
+pub mod LabelOrders
 pub mod LabelSets
 pub mod Listing
 pub mod Sides

@@ -16,19 +16,19 @@ use Rattle.lf_witness.specs.Strict.{AreSame}
 use Rattle.lf_witness.proofs.SameSets.{same_itself}
 use Rattle.lf_witness.proofs.Decided.{equal_same}
 
-total : IsTotalOrder (slice_cmp (slice_cmp (slice_cmp nat_cmp)))
+pub total : IsTotalOrder (slice_cmp (slice_cmp (slice_cmp nat_cmp)))
 total = lists_total (lists_total nat_list_cmp_total)
 
-less_itself : (s : Labels) → labels_cmp s s ≡ Less → ⊥
+pub less_itself : (s : Labels) → labels_cmp s s ≡ Less → ⊥
 less_itself s less = let tied = sym less ∙ tied_itself total (pairs_of s) in cc
 
 less_both : (s t : Labels) → labels_cmp s t ≡ Less → labels_cmp t s ≡ Less → ⊥
 less_both s t less more = let clash : Less ≡ Greater = sym less ∙ total.antisymm (pairs_of s) (pairs_of t) ∙ ap ordering_reverse more in cc
 
-tail_ascends : (s : Labels) (R : List Labels) → IsAscending (s ∷ R) → IsAscending R
+pub tail_ascends : (s : Labels) (R : List Labels) → IsAscending (s ∷ R) → IsAscending R
 tail_ascends s R ascends i j t u less = ascends (suc i) (suc j) t u (omega (arith, less))
 
-head_less : (s t : Labels) (R : List Labels) → IsAscending (s ∷ R) → Contains R t → labels_cmp s t ≡ Less
+pub head_less : (s t : Labels) (R : List Labels) → IsAscending (s ∷ R) → Contains R t → labels_cmp s t ≡ Less
 head_less s t R ascends c = ascends zero (suc c.0) s t (omega arith) refl (slice_get-get_or R c.0 t c.1 ∙ ap Some c.2)
 
 -- the members of one tail are those of the other
@@ -57,10 +57,10 @@ one_list (s ∷ P) (t ∷ R) one another same =
     ap₂ (λ (z : Labels) (l : List Labels). z ∷ l) e
     (one_list P R (tail_ascends s P one) (tail_ascends t R another) (tail_within s P R one together.0, tail_within s R P too together.1))
 
-at_place : (R : List Labels) (k : ℕ) (t : Labels) → slice_get R k ≡ Some t → Contains R t
+pub at_place : (R : List Labels) (k : ℕ) (t : Labels) → slice_get R k ≡ Some t → Contains R t
 at_place R k t e = (k, slice_get_within R k t e, get_or_from_slice_get R k t t e)
 
-ascends_behind : (s : Labels) (R : List Labels) → IsAscending R → ((t : Labels) → Contains R t → labels_cmp s t ≡ Less) → IsAscending (s ∷ R)
+pub ascends_behind : (s : Labels) (R : List Labels) → IsAscending R → ((t : Labels) → Contains R t → labels_cmp s t ≡ Less) → IsAscending (s ∷ R)
 ascends_behind s R ascends less zero zero t u lt a b = absurd (omega (arith, lt))
 ascends_behind s R ascends less zero (suc j) t u lt a b = let same : s ≡ t = (let e : Some s ≡ Some t = a in cc) in subst (λ z. labels_cmp z u ≡ Less) same (less u (at_place R j u b))
 ascends_behind s R ascends less (suc i) zero t u lt a b = absurd (omega (arith, lt))
