@@ -96,7 +96,7 @@ small-or b sign r small later h =
 -- a sign of flow collections
 pub small-sign : (b at : ℕ) → is_flow_sign (cell b at) ≡ true → b < 128
 small-sign b at h =
-    small-or b 44 _ (omega arith) (small-or b 91 _ (omega arith) (small-or b 93 _ (omega arith) (small-or b 123 _ (omega arith) (small-or b 125 false (omega arith) (λ e. absurd (never e)))))) h
+    small-or b 44 _ (omega arith) (small-or b 91 _ (omega arith) (small-or b 93 _ (omega arith) (small-or b 123 _ (omega arith) (small-or b 125 _ (omega arith) (small-or b 63 false (omega arith) (λ e. absurd (never e))))))) h
   where
     never : false ≡ true → ⊥
     never e = cc

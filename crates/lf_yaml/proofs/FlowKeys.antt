@@ -4,7 +4,7 @@ use Rattle.std.proofs.lemmas.Bool.{eqb-true}
 use Rattle.lf_base.specs.declared.kind.Kind.TheVariants.{OpenQuote, LeftOut}
 use Rattle.lf_scalar.specs.declared.quotes.Quotes.{Quotes}
 use Rattle.lf_base.specs.declared.fault.Fault.{Fault}
-use Rattle.lf_scalar.specs.Plain.{before_blank, is_null}
+use Rattle.lf_scalar.specs.Plain.{before_blank}
 use Rattle.lf_scalar.specs.Cells.{Cell, cell, Value, byte_fault, character_fault}
 use Rattle.lf_scalar.specs.Lines.{is_blank, after_blanks, begins_with}
 use Rattle.lf_scalar.specs.Folding.{trimmed}
@@ -13,6 +13,7 @@ use Rattle.lf_scalar.specs.reading.Quoted.{closing_of}
 use Rattle.lf_scalar.proofs.Closing.{closes-again}
 use Rattle.lf_scalar.proofs.Tails.{true-false}
 use Rattle.lf_yaml.specs.Rows.{Row}
+use Rattle.lf_yaml.specs.Keys.{is_key_left_out}
 use Rattle.lf_yaml.specs.Heads.{Split, behind_cell, key_in, Key, Bare, Between, IsKey, IsSignBehind, OpensQuote}
 use Rattle.lf_yaml.specs.Tree.{Tree}
 use Rattle.lf_yaml.specs.Spans.{empty_at}
@@ -116,7 +117,7 @@ module _ (end : ℕ) where
 
   pub flow-key-breaks : (c : Cell) (cs : List Cell) (rs : List Row) (f : Fault) → FlowKeyBreaks end c cs rs f → flow_key end c cs rs ≡ Err f
   flow-key-breaks c cs rs _ (flow.FlowKeyBreaks.no_key p) = no-key c cs rs p
-  flow-key-breaks c cs rs _ (flow.FlowKeyBreaks.null_key p e n) = plain-key c cs rs _ p e ∙ rw n refl
+  flow-key-breaks c cs rs _ (flow.FlowKeyBreaks.key_left_out p e n) = plain-key c cs rs _ p e ∙ rw n refl
   flow-key-breaks c cs rs _ (flow.FlowKeyBreaks.open_quote h) = open-key c cs rs h
   flow-key-breaks c cs rs _ (flow.FlowKeyBreaks.escape {f = f} kind e h) = quoted-key kind c cs rs h.0 e ∙ ap (signed_behind end h.0.rest rs) (between-breaks kind c cs f h)
   flow-key-breaks c cs rs _ (flow.FlowKeyBreaks.no_part {behind = behind} n e) = nosign-is c cs rs behind n ∙ ap no_sign e
@@ -145,11 +146,11 @@ module _ (end : ℕ) where
   plain-told c cs rs p (Some x) e =
       let f = key-front c cs x p e in
       let again : key_in is_flow_sign before_blank (c ∷ cs) ≡ Some (c ∷ f.0, x.1, x.2) = e ∙ ap (λ (front : List Cell). Some (front, x.1, x.2)) f.1 in
-      rw f.1 (by f.0 again (is_null (trimmed is_blank (c ∷ f.0))) refl)
+      rw f.1 (by f.0 again (is_key_left_out (c ∷ f.0)) refl)
     where
-      by : (front : List Cell) → key_in is_flow_sign before_blank (c ∷ cs) ≡ Some (c ∷ front, x.1, x.2) → (b : Bool) → is_null (trimmed is_blank (c ∷ front)) ≡ b
+      by : (front : List Cell) → key_in is_flow_sign before_blank (c ∷ cs) ≡ Some (c ∷ front, x.1, x.2) → (b : Bool) → is_key_left_out (c ∷ front) ≡ b
           → FlowKeyTold c cs rs (cond b (Err (character_fault LeftOut c)) (Ok (bare_key c (trimmed is_blank (c ∷ front)), x.1, x.2)))
-      by front again true n = flow.FlowKeyBreaks.null_key p again n
+      by front again true n = flow.FlowKeyBreaks.key_left_out p again n
       by front again false n = (Bare (trimmed is_blank (c ∷ front)), flow.FlowKey.bare p again n, refl)
 
   pub flow-key-tells : (c : Cell) (cs : List Cell) (rs : List Row) → FlowKeyTold c cs rs (flow_key end c cs rs)

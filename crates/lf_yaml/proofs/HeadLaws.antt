@@ -138,7 +138,7 @@ sign-view cs = by (after_blanks cs) refl
 pub entry-is : (r : Row) (k : Key) (colon : Cell) (rest : List Cell) → BeginsEntry r k colon rest → entry_of r ≡ Some (k, colon, rest)
 unfolding entry_of
 entry-is r _ _ _ (bare {front = front} {rest = rest} {colon = colon} p l e) =
-    ap (entry_by r) (plain-quotes r.first r.rest p) ∙ rw (p, l) (ap bare_head e)
+    ap (entry_by r) (plain-quotes r.first r.rest p) ∙ rw (l, p) (ap bare_head e)
 entry-is r _ _ _ (quoted {rest = rest} {colon = colon} kind c e s b) =
     ap (entry_by r) (quotes-is r.first kind e) ∙ ap (quoted_head kind) (closes-again kind r.rest c) ∙ ap (quoted_sign kind) (sign-is c.rest colon rest s) ∙ rw b refl
 
@@ -159,14 +159,14 @@ unfolding entry_of
 bare-view r q =
     elim (tells (begins_plain (text_of r))) [
       | inl p ↦ elim (tells (is_left_out r)) [
-        | inl l ↦ missing r (ap (entry_by r) q ∙ rw (p, l) refl)
+        | inl l ↦ missing r (ap (entry_by r) q ∙ rw (l, p) refl)
         | inr l ↦ by p l (key_in never before_blank (text_of r)) refl
       ]
       | inr p ↦ missing r (ap (entry_by r) q ∙ rw p refl)
     ]
   where
     by : begins_plain (text_of r) ≡ true → is_left_out r ≡ false → (o : Option Split) → key_in never before_blank (text_of r) ≡ o → EntryView r
-    by p l None e = missing r (ap (entry_by r) q ∙ rw (p, l) (ap bare_head e))
+    by p l None e = missing r (ap (entry_by r) q ∙ rw (l, p) (ap bare_head e))
     by p l (Some x) e = there r (Bare (trimmed is_blank x.0)) x.1 x.2 (bare p l e)
 
 quoted-view : (r : Row) (kind : Quotes) → r.first.byte ≡ quote_of kind → EntryView r

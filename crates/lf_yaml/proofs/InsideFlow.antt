@@ -157,7 +157,7 @@ no_sign_left n c cs _ (flow.NoSign.bare p e) h = (behind_rises n c.at (c ∷ cs)
 
 key_lies : (n lo : ℕ) (c : Cell) (cs : List Cell) (rs : List Row) (f : Fault) → FlowKeyBreaks n c cs rs f → lo ≤ c.at → LeftIn n c.at (c ∷ cs) → AreRowsIn n lo rs → LiesIn n f.span
 key_lies n lo c cs rs _ (flow.FlowKeyBreaks.no_key e) le h rows = no_part_lies n c cs h
-key_lies n lo c cs rs _ (flow.FlowKeyBreaks.null_key p e b) le h rows = part_lies n c cs h LeftOut
+key_lies n lo c cs rs _ (flow.FlowKeyBreaks.key_left_out p e b) le h rows = part_lies n c cs h LeftOut
 key_lies n lo c cs rs _ (flow.FlowKeyBreaks.open_quote o) le h rows = byte_lies c.at n (rises-le (suc c.at) cs n h.0.1)
 key_lies n lo c cs rs f (flow.FlowKeyBreaks.escape kind q b) le h rows = escape_lies n kind c cs f h.0 h.1 q b
 key_lies n lo c cs rs f (flow.FlowKeyBreaks.no_part {behind = behind} s e) le h rows = broken_in n lo behind rs (earlier n c.at lo behind le (no_sign_left n c cs behind s h)) rows f e

@@ -79,8 +79,8 @@ module _ (n lo stop : ℕ) (r : Row) (h : IsRowIn lo stop r) (le : stop ≤ n) w
       elim (cases_Bool (eqb r.first.byte 9)) [
         | inl a ↦ rw a (byte_lies r.begin n (omega (arith, h.begin, row_behind lo stop r h, le)))
         | inr a ↦ elim (cases_Bool (is_left_out r)) [
-          | inl b ↦ rw (a, b) (first_lies LeftOut)
-          | inr b ↦ rw (a, b) (first_lies NotANode)
+          | inl b ↦ rw (b, a) (first_lies LeftOut)
+          | inr b ↦ rw (b, a) (first_lies NotANode)
         ]
       ]
 

@@ -2,7 +2,7 @@
 use Rattle.std.proofs.Common.{◌≡◌, ℕ, zero, suc, ◌+◌, ◌≤◌, true, false, eqb, List, [], ◌∷◌, Option, Some, None, Result, Ok, Err, length, get_or, take, drop, length-take, eq-eqb, refl, ap, arith, sym, ◌∙◌}
 use Rattle.lf_base.specs.declared.fault.Fault.{Fault}
 use Rattle.lf_base.specs.declared.kind.Kind.TheVariants.{LeftOut}
-use Rattle.lf_scalar.specs.Plain.{before_blank, is_null}
+use Rattle.lf_scalar.specs.Plain.{before_blank}
 use Rattle.lf_scalar.specs.Cells.{Cell, cell, cells, Value, character_fault}
 use Rattle.lf_scalar.specs.Lines.{is_blank, after_blanks}
 use Rattle.lf_scalar.specs.Folding.{trimmed}
@@ -10,6 +10,7 @@ use Rattle.lf_scalar.specs.declared.quotes.Quotes.{Quotes}
 use Rattle.lf_scalar.specs.reading.Quoted.{closing_of}
 use Rattle.lf_yaml.specs.Rows.{Row}
 use Rattle.lf_yaml.specs.Heads.{Split, key_in}
+use Rattle.lf_yaml.specs.Keys.{is_key_left_out}
 use Rattle.lf_yaml.specs.Flow.{next_part, begins_flow, flow_text, behind_text, is_flow_sign}
 use Rattle.lf_yaml.specs.views.Signs.{stops_of, split_at}
 use Rattle.lf_yaml.specs.reading.Trees.{Part, with_behind, part_by, between_of, behind_closing, sign_if, sign_behind, Signed, signed, signed_behind, no_sign, plain_key, bare_key, flow_key_by}
@@ -79,10 +80,10 @@ module _ (end : ℕ) (c : Cell) (cs : List Cell) (rs : List Row) (at : ℕ) (tex
   bare-by : (o : Option Split) → o ≡ key_in (stops_of true) before_blank (cells at text) → flow_key_by end c cs rs None ≡ plain_key end c cs rs o
   bare-by o e = rw begins (ap (plain_key end c cs rs) (ap (λ (xs : List Cell). key_in is_flow_sign before_blank xs) is ∙ sym e))
 
-  pub bare-null : (k : ℕ) → Some (split_at at text k) ≡ key_in (stops_of true) before_blank (cells at text) → is_null (trimmed is_blank (cells at (take k text))) ≡ true → flow_key_by end c cs rs None ≡ Err (character_fault LeftOut c)
-  bare-null k e n = bare-by (Some (split_at at text k)) e ∙ rw n refl
+  pub bare-left-out : (k : ℕ) → Some (split_at at text k) ≡ key_in (stops_of true) before_blank (cells at text) → is_key_left_out (cells at (take k text)) ≡ true → flow_key_by end c cs rs None ≡ Err (character_fault LeftOut c)
+  bare-left-out k e n = bare-by (Some (split_at at text k)) e ∙ rw n refl
 
-  pub bare-found : (k : ℕ) → Some (split_at at text k) ≡ key_in (stops_of true) before_blank (cells at text) → is_null (trimmed is_blank (cells at (take k text))) ≡ false → get_or text k 0 ≡ 58
+  pub bare-found : (k : ℕ) → Some (split_at at text k) ≡ key_in (stops_of true) before_blank (cells at text) → is_key_left_out (cells at (take k text)) ≡ false → get_or text k 0 ≡ 58
       → flow_key_by end c cs rs None ≡ Ok (bare_key c (trimmed is_blank (cells at (take k text))), cell 58 (at + k), cells (at + (k + 1)) (drop (k + 1) text))
   bare-found k e n sign =
       bare-by (Some (split_at at text k)) e

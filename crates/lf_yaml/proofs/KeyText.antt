@@ -1,27 +1,55 @@
 -- The text of a key without quotes, as the code finds it.
-use Rattle.std.proofs.Common.{◌≡◌, ℕ, Bool, false, List, Option, Some, None, take, refl, ap, sym, ◌∙◌}
-use Rattle.lf_scalar.specs.Cells.{Cell, cells}
-use Rattle.lf_scalar.specs.Lines.{is_blank}
-use Rattle.lf_scalar.specs.Folding.{trimmed}
-use Rattle.lf_scalar.specs.Plain.{before_blank, is_null}
-use Rattle.lf_yaml.specs.Keys.{Split, key_in, never, has_null_key}
+use Rattle.std.proofs.Common.{◌≡◌, ℕ, suc, ◌+◌, ◌<◌, ◌≤◌, Bool, true, false, cond, List, [], ◌∷◌, Option, Some, None, length, get_or, take, drop, refl, ap, arith, sym, ◌∙◌, inl, inr}
+use Rattle.std.proofs.lemmas.List.{drop_all}
+use Rattle.lf_scalar.specs.Cells.{Cell, cell, cells}
+use Rattle.lf_scalar.specs.Plain.{before_blank, begins_plain}
+use Rattle.lf_scalar.proofs.Cells.{cells-drop}
+use Rattle.lf_yaml.specs.Keys.{Split, key_in, never, begins_character, characters, is_key_left_out, has_key_left_out}
 use Rattle.lf_yaml.specs.views.Signs.{stops_of, split_at}
+use Rattle.lf_yaml.proofs.HeadLaws.{tells}
 
--- a key's text is null as the code finds it
-pub null-is : (at : ℕ) (front text whole : List ℕ) (k : ℕ) → front ≡ take k whole → trimmed is_blank (cells at front) ≡ cells at text → is_null (trimmed is_blank (cells at (take k whole))) ≡ is_null (cells at text)
-null-is at front text whole k e t = ap (λ (xs : List ℕ). is_null (trimmed is_blank (cells at xs))) (sym e) ∙ ap is_null t
+-- ---- how many characters
+
+-- the characters of a text don't hang on its offset
+pub characters-at : (a b : ℕ) (text : List ℕ) → characters (cells a text) ≡ characters (cells b text)
+characters-at a b [] = refl
+characters-at a b (x ∷ xs) =
+    elim (tells (begins_character (cell x 0))) [
+      | inl h ↦ rw h (ap suc (characters-at (suc a) (suc b) xs))
+      | inr h ↦ rw h (characters-at (suc a) (suc b) xs)
+    ]
+
+-- those of a text from a place on
+abbrev pub left_at : List ℕ → ℕ → ℕ
+left_at text i = characters (cells (0 + i) (drop i text))
+
+pub one-counted : (text : List ℕ) (i n : ℕ) → i < length text → n ≡ cond (begins_character (cell (get_or text i 0) 0)) 1 0 → left_at text i ≡ n + left_at text (i + 1)
+one-counted text i n lt e =
+    ap characters (cells-drop 0 text i lt)
+    ∙ elim (tells (begins_character (cell (get_or text i 0) 0))) [
+      | inl h ↦ rw (e, h) (omega arith)
+      | inr h ↦ rw (e, h) (omega arith)
+    ]
+
+pub all-counted : (text : List ℕ) (i : ℕ) → length text ≤ i → left_at text i ≡ 0
+all-counted text i le = ap (λ (xs : List ℕ). characters (cells (0 + i) xs)) (drop_all i text le)
+
+-- ---- keys
 
 abbrev by : Option Split → Bool
 by None = false
-by (Some x) = is_null (trimmed is_blank x.0)
+by (Some x) = is_key_left_out x.0
 
-tested : (cs : List Cell) (o : Option Split) → o ≡ key_in never before_blank cs → has_null_key cs ≡ by o
-tested cs None e = rw (← e) refl
-tested cs (Some x) e = rw (← e) refl
+tested : (cs : List Cell) (o : Option Split) → begins_plain cs ≡ true → o ≡ key_in never before_blank cs → has_key_left_out cs ≡ by o
+tested cs None p e = rw (p, ← e) refl
+tested cs (Some x) p e = rw (p, ← e) refl
 
-pub null-found : (at k : ℕ) (front text whole : List ℕ) → Some (split_at at whole k) ≡ key_in (stops_of false) before_blank (cells at whole) → front ≡ take k whole → trimmed is_blank (cells at front) ≡ cells at text
-    → (result : Bool) → result ≡ is_null (cells at text) → result ≡ has_null_key (cells at whole)
-null-found at k front text whole e f t result r = r ∙ sym (null-is at front text whole k f t) ∙ sym (tested (cells at whole) (Some (split_at at whole k)) e)
+pub key-found : (at k : ℕ) (front whole : List ℕ) → Some (split_at at whole k) ≡ key_in (stops_of false) before_blank (cells at whole) → front ≡ take k whole → begins_plain (cells at whole) ≡ true
+    → (result : Bool) → result ≡ is_key_left_out (cells at front) → result ≡ has_key_left_out (cells at whole)
+key-found at k front whole e f p result r = r ∙ ap (λ (xs : List ℕ). is_key_left_out (cells at xs)) f ∙ sym (tested (cells at whole) (Some (split_at at whole k)) p e)
 
-pub null-missing : (at : ℕ) (whole : List ℕ) → None ≡ key_in (stops_of false) before_blank (cells at whole) → false ≡ has_null_key (cells at whole)
-null-missing at whole e = sym (tested (cells at whole) None e)
+pub key-missing : (at : ℕ) (whole : List ℕ) → None ≡ key_in (stops_of false) before_blank (cells at whole) → begins_plain (cells at whole) ≡ true → false ≡ has_key_left_out (cells at whole)
+key-missing at whole e p = sym (tested (cells at whole) None p e)
+
+pub not-plain : (at : ℕ) (whole : List ℕ) → begins_plain (cells at whole) ≡ false → false ≡ has_key_left_out (cells at whole)
+not-plain at whole p = rw p refl

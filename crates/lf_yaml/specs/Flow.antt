@@ -6,9 +6,10 @@ use Rattle.lf_base.specs.Faults.{span, fault}
 use Rattle.lf_scalar.specs.Cells.{Cell, Value, byte_fault, character_fault}
 use Rattle.lf_scalar.specs.Lines.{is_blank}
 use Rattle.lf_scalar.specs.Folding.{trimmed}
-use Rattle.lf_scalar.specs.Plain.{before_blank, before_comment, is_plain_byte, is_null, value_of}
+use Rattle.lf_scalar.specs.Plain.{before_blank, before_comment, is_plain_byte, value_of}
 use Rattle.lf_scalar.specs.declared.quotes.Quotes.{Quotes}
 use Rattle.lf_scalar.specs.Quoted.{quote_of, Closes}
+use Rattle.lf_yaml.specs.Keys.{is_key_left_out}
 use Rattle.lf_yaml.specs.Rows.{Row, is_one_of, is_mark, indent_fault}
 use Rattle.lf_yaml.specs.Heads.{key_in, Key, Bare, Between, IsBetween, BetweenBreaks, IsKey, IsSignBehind, OpensQuote}
 use Rattle.lf_yaml.specs.Tree.{Tree, leaf, Items, no_items, item, Entries, no_entries, entry}
@@ -39,9 +40,9 @@ next_part end blank (c ∷ cs) rs =
 
 -- ---- scalars: between quotes on one line, or plain on one line
 
--- one of , [ ] { }
+-- one of , [ ] { }, which end a text of a flow collection, and ?, which none has
 abbrev pub is_flow_sign : Cell → Bool
-is_flow_sign c = is_one_of (codes ",[]{}") c
+is_flow_sign c = is_one_of (codes ",[]{}?") c
 
 abbrev pub is_bracket : Cell → Bool
 is_bracket c = is_one_of (codes "[{") c
@@ -54,7 +55,7 @@ begins_blank (c ∷ cs) = is_blank c
 abbrev pub begins_flow : Cell → List Cell → Bool
 begins_flow c cs = is_plain_byte c || ((c.byte == 45) && not (before_blank cs))
 
--- a plain scalar's text ends before a comment, before a sign of flow collections, and before the blanks there
+-- a plain scalar's text ends before a comment, before one of these signs, and before the blanks there
 abbrev pub flow_text : List Cell → List Cell
 flow_text cs = trimmed is_blank (before_comment (take_while (λ c. not (is_flow_sign c)) cs))
 
@@ -126,17 +127,17 @@ pub data SequenceBreaks (end : ℕ) : List Cell → List Row → Fault → Type 
 -- `FlowKey c cs k colon rest`: the key k begins with the cell c, which the cells cs follow on its line; there its `:` stands, and `rest` behind it.
 pub data FlowKey (c : Cell) (cs : List Cell) : Key → Cell → List Cell → Type 0 where
   quoted : {rest : List Cell} {colon : Cell} (kind : Quotes) (between : Closes kind cs) → c.byte ≡ quote_of kind → IsSignBehind between.rest colon rest → FlowKey c cs (Between kind) colon rest
-  bare : {front rest : List Cell} {colon : Cell} → begins_flow c cs ≡ true → key_in is_flow_sign before_blank (c ∷ cs) ≡ Some (c ∷ front, colon, rest) → is_null (trimmed is_blank (c ∷ front)) ≡ false → FlowKey c cs (Bare (trimmed is_blank (c ∷ front))) colon rest
+  bare : {front rest : List Cell} {colon : Cell} → begins_flow c cs ≡ true → key_in is_flow_sign before_blank (c ∷ cs) ≡ Some (c ∷ front, colon, rest) → is_key_left_out (c ∷ front) ≡ false → FlowKey c cs (Bare (trimmed is_blank (c ∷ front))) colon rest
 
 -- a text where a key is wanted, behind which no `:` stands on its line that ends one
 pub data NoSign (c : Cell) (cs : List Cell) : List Cell → Type 0 where
   quoted : (kind : Quotes) (between : Closes kind cs) (v : Value) → c.byte ≡ quote_of kind → IsBetween kind c cs between v → ((colon : Cell) (rest : List Cell) → IsSignBehind between.rest colon rest → ⊥) → NoSign c cs between.rest
   bare : begins_flow c cs ≡ true → key_in is_flow_sign before_blank (c ∷ cs) ≡ None → NoSign c cs (behind_text (c ∷ cs))
 
--- What breaks a key that begins with a cell, behind whose line these rows stand. One without quotes that is null is left out. Where no `:` follows, that is told at the next part.
+-- What breaks a key that begins with a cell, behind whose line these rows stand. Some without quotes are left out. Where no `:` follows, that is told at the next part.
 pub data FlowKeyBreaks (end : ℕ) (c : Cell) (cs : List Cell) (rs : List Row) : Fault → Type 0 where
   no_key : begins_part c cs ≡ false → FlowKeyBreaks end c cs rs (part_fault c cs)
-  null_key : {front rest : List Cell} {colon : Cell} → begins_flow c cs ≡ true → key_in is_flow_sign before_blank (c ∷ cs) ≡ Some (c ∷ front, colon, rest) → is_null (trimmed is_blank (c ∷ front)) ≡ true
+  key_left_out : {front rest : List Cell} {colon : Cell} → begins_flow c cs ≡ true → key_in is_flow_sign before_blank (c ∷ cs) ≡ Some (c ∷ front, colon, rest) → is_key_left_out (c ∷ front) ≡ true
       → FlowKeyBreaks end c cs rs (character_fault LeftOut c)
   open_quote : OpensQuote c cs → FlowKeyBreaks end c cs rs (byte_fault OpenQuote c.at)
   escape : {f : Fault} (kind : Quotes) → c.byte ≡ quote_of kind → BetweenBreaks kind c cs f → FlowKeyBreaks end c cs rs f

@@ -1,9 +1,9 @@
 -- Keys without quotes: where their `:` stands, and which are left out.
-use Rattle.std.specs.Prelude.{List, [], ◌∷◌, Bool, false, Option, Some, None, ◌==◌, ◌&&◌, if◌then◌else◌}
+use Rattle.std.specs.Prelude.{ℕ, suc, nat_lt, leb, List, [], ◌∷◌, Bool, false, Option, Some, None, ◌==◌, ◌&&◌, ◌||◌, if◌then◌else◌}
 use Rattle.lf_scalar.specs.Cells.{Cell}
 use Rattle.lf_scalar.specs.Lines.{is_blank, begins_with}
 use Rattle.lf_scalar.specs.Folding.{trimmed}
-use Rattle.lf_scalar.specs.Plain.{before_blank, is_null}
+use Rattle.lf_scalar.specs.Plain.{before_blank, begins_plain, is_null}
 
 -- What stands before the first `:` that ends a key, this `:`, and what stands behind it. None where one of some signs or a comment, whose `#` stands behind a blank,
 -- comes before such a `:`, or the line's end does.
@@ -26,10 +26,24 @@ key_in stops ends (c ∷ cs) =
 abbrev pub never : Cell → Bool
 never c = false
 
--- a text begins with the key of a block mapping that is `null`, `Null`, `NULL` or `~`
-abbrev pub has_null_key : List Cell → Bool
-has_null_key cs = by (key_in never before_blank cs)
+-- a byte that begins a character, and is no later byte of one
+abbrev pub begins_character : Cell → Bool
+begins_character c = nat_lt c.byte 128 || leb 192 c.byte
+
+-- how many characters some cells have
+abbrev pub characters : List Cell → ℕ
+characters [] = 0
+characters (c ∷ cs) = if begins_character c then suc (characters cs) else characters cs
+
+-- A key without quotes is left out where it is `null`, `Null`, `NULL` or `~`, and where its `:` stands more than 1,024 characters behind its first. These cells stand
+-- before the `:`.
+abbrev pub is_key_left_out : List Cell → Bool
+is_key_left_out front = is_null (trimmed is_blank front) || nat_lt 1024 (characters front)
+
+-- a text begins with such a key of a block mapping
+abbrev pub has_key_left_out : List Cell → Bool
+has_key_left_out cs = begins_plain cs && by (key_in never before_blank cs)
   where
     by : Option Split → Bool
     by None = false
-    by (Some x) = is_null (trimmed is_blank x.0)
+    by (Some x) = is_key_left_out x.0

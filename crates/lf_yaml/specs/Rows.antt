@@ -7,7 +7,7 @@ use Rattle.lf_scalar.specs.Cells.{Cell, byte_fault, character_fault}
 use Rattle.lf_scalar.specs.Lines.{Line, start_of, is_blank, after_spaces, begins_with, is_tail}
 use Rattle.lf_scalar.specs.Markers.{is_thrice}
 use Rattle.lf_scalar.specs.Plain.{before_blank}
-use Rattle.lf_yaml.specs.Keys.{has_null_key}
+use Rattle.lf_yaml.specs.Keys.{has_key_left_out}
 
 -- A content line, from its first character that isn't a space, or what is left of one behind a sign, from its first character that isn't a blank: the offset of the
 -- line's first byte, that character's first cell, and the cells behind it on the line.
@@ -70,9 +70,9 @@ is_mark r = (indent r == 0) && (is_thrice 45 (text_of r) || (is_thrice 46 (text_
 abbrev pub is_property : Cell → List Cell → Bool
 is_property c cs = is_one_of (codes "&*!") c || ((c.byte == 63) && before_blank cs)
 
--- one of these forms, or a key without quotes that is null
+-- one of these forms, or a key without quotes that is left out
 abbrev pub is_left_out : Row → Bool
-is_left_out r = is_property r.first r.rest || (is_mark r || has_null_key (text_of r))
+is_left_out r = is_property r.first r.rest || (is_mark r || has_key_left_out (text_of r))
 
 -- ---- what is told of a row
 

@@ -17,7 +17,7 @@ use crate::entry::quote_of;
 use crate::flow_scalar::{begins_flow_bytes, part_fault, sign_fault};
 use crate::flow_text::flow_text_len;
 use crate::head::first_fault;
-use crate::keys::{find_sign, trimmed};
+use crate::keys::{find_sign, is_key_left_out};
 use crate::part_scalar::quoted_part;
 use crate::parts::{behind, next_part};
 use crate::place::Place;
@@ -27,7 +27,6 @@ use lf_base::bytes::before;
 use lf_base::{Kind, Refusal, Span};
 use lf_scalar::Scalar;
 use lf_scalar::lines::{blanks, past, trimmed_len};
-use lf_scalar::null_text::is_null_text;
 use lf_scalar::quotes::Quotes;
 use std::alloc::Global;
 
@@ -64,7 +63,7 @@ fn bare_scalar(alloc: Global, part: Row<'_>, place: usize) -> Result<Scalar, Ref
     )
 }
 
-/// The key without quotes that a part begins, and the place of its `:` in the part. One that is null is left out. The lines behind the part's own begin at `next`.
+/// The key without quotes that a part begins, and the place of its `:` in the part. Some are left out. The lines behind the part's own begin at `next`.
 fn bare_key(
     alloc: Global,
     bytes: &[u8],
@@ -83,7 +82,7 @@ fn bare_key(
     }
     match find_sign(true, part.text, part.at) {
         Some(place) => {
-            if is_null_text(trimmed(before(part.text, place))) {
+            if is_key_left_out(before(part.text, place)) {
                 return Err(first_fault(Kind::LeftOut, part));
             }
             match bare_scalar(alloc, part, place) {

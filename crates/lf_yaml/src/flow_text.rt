@@ -10,7 +10,7 @@ use lf_scalar::comments::find_comment;
 use lf_scalar::lines::{past, trimmed_len};
 use lf_scalar::markers::is_apart;
 
-/// How many bytes stand before the first `,` `[` `]` `{` or `}` of a text.
+/// How many bytes stand before the first `,` `[` `]` `{` `}` or `?` of a text.
 fn find_flow_sign(text: &[u8]) -> usize
     ensures within { result ≤ length text.now }
     ensures text { (at : ℕ) → take_while (λ c. not (is_flow_sign_of c)) (cells at text.now) ≡ cells at (take result text.now) }

@@ -6,7 +6,7 @@ ghost use Rattle.lf_yaml.specs.Rows.{indent as indent_of, left_of, is_mark as is
 ghost use Rattle.lf_yaml.specs.Heads.{is_item as is_item_of};
 ghost use Rattle.lf_yaml.specs.views.Shown.{shown};
 
-use crate::keys::has_null_key;
+use crate::keys::has_key_left_out;
 use crate::row::Row;
 use lf_base::{Kind, Refusal, Span};
 use lf_scalar::lines::{char_len, is_blank_byte, past};
@@ -84,7 +84,7 @@ pub fn is_property(text: &[u8]) -> bool
 pub fn is_left_out(row: Row<'_>) -> bool
     ensures { result ≡ is_left_out_of (shown row.entry) }
 {
-    is_property(row.text) || is_mark(row) || has_null_key(row.text, row.at)
+    is_property(row.text) || is_mark(row) || has_key_left_out(row.text, row.at)
 }
 
 /// The refusal of a kind whose span is one byte.

@@ -1,22 +1,23 @@
 //! Keys without quotes: where their `:` stands.
-ghost use Rattle.std.specs.Prelude.{true, ◌≡◌, ◌&&◌, eqb, ℕ, ◌+◌, ◌<◌, length, get_or, drop, IfSome, option_map};
+ghost use Rattle.std.specs.Prelude.{true, ◌≡◌, ◌&&◌, eqb, cond, ℕ, ◌+◌, ◌<◌, ◌≤◌, length, get_or, drop, IfSome, option_map};
 ghost use Rattle.lf_scalar.specs.Cells.{cell, cells};
 ghost use Rattle.lf_scalar.specs.Lines.{is_blank, begins_with};
 ghost use Rattle.lf_scalar.specs.Plain.{before_blank};
 ghost use Rattle.lf_scalar.specs.Folding.{trimmed as trimmed_of};
-ghost use Rattle.lf_yaml.specs.Keys.{key_in, has_null_key as has_null_key_of};
+ghost use Rattle.lf_yaml.specs.Keys.{key_in, begins_character, characters, is_key_left_out as is_key_left_out_of, has_key_left_out as has_key_left_out_of};
 ghost use Rattle.lf_yaml.specs.views.Signs.{stops_of, split_at};
 
+use crate::entry::begins_plain;
 use lf_base::bytes::before;
 use lf_scalar::lines::{is_blank_byte, past, trimmed_len};
 use lf_scalar::markers::is_apart;
 use lf_scalar::null_text::is_null_text;
 
-/// Whether a byte is one of `,` `[` `]` `{` `}`, which end a text in a flow collection.
+/// Whether a byte is one of `,` `[` `]` `{` `}`, which end a text in a flow collection, or `?`, which none has.
 pub fn is_flow_sign(byte: u8) -> bool
     ensures { (at : ℕ) → result ≡ stops_of true (cell byte at) }
 {
-    matches!(byte, b',' | b'[' | b']' | b'{' | b'}')
+    matches!(byte, b',' | b'[' | b']' | b'{' | b'}' | b'?')
 }
 
 /// Whether a text begins with `#`.
@@ -80,12 +81,41 @@ pub fn trimmed(text: &[u8]) -> &[u8]
     before(text, trimmed_len(text))
 }
 
-/// Whether a text begins with the key of a block mapping that is null.
-pub fn has_null_key(text: &[u8], at: u32) -> bool
-    ensures { result ≡ has_null_key_of (cells at text.now) }
+/// How many characters begin with a byte: one, or none where it is a later byte of a character.
+fn begun_by(byte: u8) -> usize
+    ensures few { result ≤ 1 }
+    ensures value { (at : ℕ) → result ≡ cond (begins_character (cell byte at)) 1 0 }
 {
+    if byte < 0x80 || byte >= 0xC0 { 1 } else { 0 }
+}
+
+/// How many characters a text has.
+fn char_count(text: &[u8]) -> usize
+    ensures { (at : ℕ) → result ≡ characters (cells at text.now) }
+{
+    let mut count: usize = 0;
+    for (i, byte) in text.iter().enumerate() {
+        count += begun_by(*byte);
+    }
+    count
+}
+
+/// Whether a key without quotes is left out: it is null, or more than 1,024 characters stand before its `:`. `front` is what stands there.
+pub fn is_key_left_out(front: &[u8]) -> bool
+    ensures { (at : ℕ) → result ≡ is_key_left_out_of (cells at front.now) }
+{
+    is_null_text(trimmed(front)) || char_count(front) > 1024
+}
+
+/// Whether a text begins with a key of a block mapping that is left out.
+pub fn has_key_left_out(text: &[u8], at: u32) -> bool
+    ensures { result ≡ has_key_left_out_of (cells at text.now) }
+{
+    if !begins_plain(text) {
+        return false;
+    }
     match find_sign(false, text, at) {
-        Some(place) => is_null_text(trimmed(before(text, place))),
+        Some(place) => is_key_left_out(before(text, place)),
         None => false,
     }
 }

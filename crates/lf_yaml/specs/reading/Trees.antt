@@ -9,12 +9,13 @@ use Rattle.lf_base.specs.Faults.{span, fault}
 use Rattle.lf_scalar.specs.Cells.{Cell, Value, made, end_of, byte_fault, character_fault, ◌>>=◌}
 use Rattle.lf_scalar.specs.Lines.{is_blank, after_blanks}
 use Rattle.lf_scalar.specs.Folding.{trimmed}
-use Rattle.lf_scalar.specs.Plain.{before_blank, begins_plain, is_null, value_of}
+use Rattle.lf_scalar.specs.Plain.{before_blank, begins_plain, value_of}
 use Rattle.lf_scalar.specs.Scalars.{source_at}
 use Rattle.lf_scalar.specs.reading.Quoted.{Closing, closing_of, wrong_behind, quoted_of}
 use Rattle.lf_scalar.specs.reading.Styles as scalar
 use Rattle.lf_yaml.specs.Tree.{Tree, leaf, sequence, mapping, Items, no_items, item, Entries, no_entries, entry}
 use Rattle.lf_yaml.specs.Spans.{items_end, entries_end, empty_at}
+use Rattle.lf_yaml.specs.Keys.{is_key_left_out}
 use Rattle.lf_yaml.specs.Rows.{Row, text_of, indent, rows_from, left_of, tab_in, is_left_out, indent_fault, row_fault}
 use Rattle.lf_yaml.specs.Heads.{is_item, Split, key_in, never, Key, Bare, Between, style_of, begins_scalar}
 use Rattle.lf_yaml.specs.Flow.{Next, at_part, broken, next_part, is_flow_sign, begins_flow, flow_text, behind_text, later_colon, part_fault, sign_fault}
@@ -147,7 +148,7 @@ bare_key c text = made text (end_of c.at text) (span c.at (end_of c.at text))
 
 abbrev pub plain_key : ℕ → Cell → List Cell → List Row → Option Split → Result Signed Fault
 plain_key end c cs rs None = no_sign (next_part end false (behind_text (c ∷ cs)) rs)
-plain_key end c cs rs (Some x) = if is_null (trimmed is_blank x.0) then Err (character_fault LeftOut c) else Ok (bare_key c (trimmed is_blank x.0), x.1, x.2)
+plain_key end c cs rs (Some x) = if is_key_left_out x.0 then Err (character_fault LeftOut c) else Ok (bare_key c (trimmed is_blank x.0), x.1, x.2)
 
 abbrev pub flow_key_by : ℕ → Cell → List Cell → List Row → Option Quotes → Result Signed Fault
 flow_key_by end c cs rs None =
