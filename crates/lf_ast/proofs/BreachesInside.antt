@@ -12,7 +12,7 @@ use Rattle.lf_ast.specs.declared.expr.Sight.{Sight}
 use Rattle.lf_base.specs.declared.fault.Fault.{Fault}
 
 module _ (n : ℕ) where
-  at_span : (kind : Kind) (span : Span) (f : Fault) → LiesIn n span → f ≡ fault kind span → LiesIn n f.span
+  pub at_span : (kind : Kind) (span : Span) (f : Fault) → LiesIn n span → f ≡ fault kind span → LiesIn n f.span
   at_span kind span f within is = subst (λ (g : Fault). LiesIn n g.span) (sym is) within
 
   pub span_lies : (e : Tree) → Inside n e → LiesIn n (span_of e)

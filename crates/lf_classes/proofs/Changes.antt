@@ -8,9 +8,10 @@ use Rattle.std.proofs.lemmas.Bool.Decides.{Decides-eqb}
 use Rattle.std.proofs.lemmas.List.{ext_get_or, get_or-set_same, get_or-set_other, length-replicate}
 use Rattle.lf_semantics.specs.ClassRows.{Sets, meet, emptied, holds, is_live, kept, remade, set_to, normalized, join}
 use Rattle.lf_semantics.proofs.Places.{eqb-other}
-use Rattle.lf_semantics.proofs.RowLaws.{holds-remade, shape_emptied, shape_remade}
+use Rattle.lf_semantics.proofs.RowLaws.{holds-remade, length_remade, live_when, shape_emptied, shape_remade}
 use Rattle.lf_classes.specs.views.Cut.{cut, shown, start}
-use Rattle.lf_classes.proofs.Cutting.{count_at, cut_remade, dead_when, emptied_dead, emptied_holds, emptied_remade, emptied_same, emptied_twice, empty_cut, found_class, full_cut, full_live, holds-cut, label_in, length-cut, live_at, live_when, no_class, shape_cut, start_before, start_within}
+use Rattle.lf_semantics.proofs.RowSets.{count_at, dead_when, emptied_dead, emptied_holds, emptied_remade, emptied_same, emptied_twice, label_in, live_at}
+use Rattle.lf_classes.proofs.Cutting.{cut_remade, empty_cut, found_class, full_cut, full_live, holds-cut, length-cut, no_class, shape_cut, start_before, start_within}
 use Rattle.lf_laws.proofs.Booleans.{and_false}
 
 pub shape_shown : (live : Bool) (counts : List ℕ) (bits : List Bool) → sum counts ≤ length bits → map length (shown live (cut counts bits)) ≡ counts
@@ -29,9 +30,6 @@ apart counts l m c d n h k i j = λ e. elim (cases_lt l m) [
 ]
 
 -- rows that stay live
-
-length_remade : (f : ℕ → ℕ → Bool → Bool) (row : Sets) → length (remade f row) ≡ length row
-length_remade f row = label_in (remade f row) (map length row) (shape_remade f 0 row) ∙ sym (label_in row (map length row) refl)
 
 pub live_remade : (f : ℕ → ℕ → Bool → Bool) (row : Sets) (label : ℕ) → is_live row ≡ true → ((l c : ℕ) → l ≢ label → f l c true ≡ true)
     → (c : ℕ) → holds (remade f row) label c ≡ true → is_live (remade f row) ≡ true

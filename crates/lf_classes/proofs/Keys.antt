@@ -5,15 +5,11 @@ use Rattle.std.specs.Option.{option_map_or}
 use Rattle.std.specs.Prelude.{string_bytes}
 use Rattle.std.specs.Str.{bytes_eq}
 use Rattle.std.specs.declared.string.String.{String}
-use Rattle.std.proofs.lemmas.Bool.Decides.{same_from_decides}
-use Rattle.std.proofs.lemmas.Slice.Eq.{bytes_eq-Decides}
 use Rattle.std.proofs.lemmas.List.{length-map, map-append}
+use Rattle.lf_semantics.proofs.Places.{symmetric}
 use Rattle.indexmap.specs.IndexSet.{insert_key}
 use Rattle.lf_ast.specs.Labels.{Bytes}
 use Rattle.lf_semantics.specs.Listing.{place}
-
-pub bytes_eq_turned : (x t : Bytes) → bytes_eq x t ≡ bytes_eq t x
-bytes_eq_turned x t = same_from_decides {P = x ≡ t} (bytes_eq x t) (bytes_eq t x) (bytes_eq-Decides x t) ((λ e. sym ((bytes_eq-Decides t x).0 e)), (λ e. (bytes_eq-Decides t x).1 (sym e)))
 
 module _ {A : Type 0} (t : Bytes) where
   abbrev pub is_key : String A → Bool
@@ -21,7 +17,7 @@ module _ {A : Type 0} (t : Bytes) where
 
   pub place_keys : (keys : List (String A)) → place (map string_bytes keys) t ≡ position_or_len is_key keys
   place_keys [] = refl
-  place_keys (k ∷ keys) = ap (λ b. cond (not b) (1 + place (map string_bytes keys) t) 0) (bytes_eq_turned (string_bytes k) t) ∙ ap (λ n. cond (not (is_key k)) (1 + n) 0) (place_keys keys)
+  place_keys (k ∷ keys) = ap (λ b. cond (not b) (1 + place (map string_bytes keys) t) 0) (symmetric (string_bytes k) t) ∙ ap (λ n. cond (not (is_key k)) (1 + n) 0) (place_keys keys)
 
 -- where it is found
 pub found_at : (p n : ℕ) (b : Bool) (i : ℕ) → ltb p n ≡ b → cond b (Some p) None ≡ Some i → i ≡ p

@@ -2,14 +2,14 @@
 use Rattle.std.proofs.Common.{◌≡◌, ◌≢◌, ℕ, suc, ◌+◌, ◌-◌, ◌<◌, ◌≤◌, Bool, true, false, not, ◌&&◌, ◌||◌, cond, eqb, List, [], ◌∷◌, length, get_or, map, take, inl, inr, refl, sym, ◌∙◌, ap, subst, arith}
 use Rattle.std.specs.List.{sum}
 use Rattle.std.proofs.lemmas.Bool.{cases_eq, cases_lt}
-use Rattle.std.proofs.lemmas.Bool.Decides.{Decides-eqb}
 use Rattle.std.proofs.lemmas.List.Sums.{sum_by-cons}
 use Rattle.lf_semantics.specs.ClassRows.{Sets, emptied, holds, is_live, narrowed, remade, replaced, set_to, normalized}
 use Rattle.lf_semantics.specs.Environments.{Leq}
-use Rattle.lf_semantics.proofs.Places.{eqb-other}
+use Rattle.lf_semantics.proofs.Places.{eqb-other, eqb-same}
 use Rattle.lf_semantics.proofs.RowLaws.{holds-remade, holds_within, shape_emptied, shape_remade}
 use Rattle.lf_classes.specs.views.Cut.{cut, shown, start}
-use Rattle.lf_classes.proofs.Cutting.{count_at, cut_remade, dead_when, emptied_dead, emptied_holds, emptied_remade, emptied_twice, holds-cut, label_in, length-cut, live_at, same_sets, shape_cut, start_before}
+use Rattle.lf_semantics.proofs.RowSets.{count_at, dead_when, emptied_dead, emptied_holds, emptied_remade, emptied_twice, label_in, live_at, remade_same}
+use Rattle.lf_classes.proofs.Cutting.{cut_remade, holds-cut, length-cut, shape_cut, start_before}
 use Rattle.lf_classes.proofs.Changes.{class_within, dead_remade, label_within, live_remade, live_view, same_counts, same_total, settled_as, shape_view}
 use Rattle.lf_laws.proofs.Booleans.{and_false, and_true, clash}
 
@@ -76,17 +76,14 @@ narrowing test label l c on = on && (not (eqb label l) || test l c)
 abbrev pub replacing : (ℕ → ℕ → Bool) → ℕ → ℕ → ℕ → Bool → Bool
 replacing test label l c on = cond (eqb label l) (test l c) on
 
-itself : (label : ℕ) → eqb label label ≡ true
-itself label = (Decides-eqb label label).1 refl
-
 pub narrowing_here : (test : ℕ → ℕ → Bool) (label c : ℕ) (on : Bool) → narrowing test label label c on ≡ (on && test label c)
-narrowing_here test label c on = ap (λ b. on && (not b || test label c)) (itself label)
+narrowing_here test label c on = ap (λ b. on && (not b || test label c)) (eqb-same label)
 
 pub narrowing_there : (test : ℕ → ℕ → Bool) (label l c : ℕ) (on : Bool) → l ≢ label → narrowing test label l c on ≡ on
 narrowing_there test label l c on n = ap (λ b. on && (not b || test l c)) (eqb-other label l (λ q. n (sym q))) ∙ and_true on
 
 pub replacing_here : (test : ℕ → ℕ → Bool) (label c : ℕ) (on : Bool) → replacing test label label c on ≡ test label c
-replacing_here test label c on = ap (λ b. cond b (test label c) on) (itself label)
+replacing_here test label c on = ap (λ b. cond b (test label c) on) (eqb-same label)
 
 pub replacing_there : (test : ℕ → ℕ → Bool) (label l c : ℕ) (on : Bool) → l ≢ label → replacing test label l c on ≡ on
 replacing_there test label l c on n = ap (λ b. cond b (test l c) on) (eqb-other label l (λ q. n (sym q)))
@@ -298,13 +295,6 @@ module _ (left : Bool) (counts : List ℕ) (bits new : List Bool) (view : Sets) 
 
 -- of the classes that a label has one alone is left
 
-same_remade : (f g : ℕ → ℕ → Bool → Bool) (row : Sets) → ((l c : ℕ) → f l c (holds row l c) ≡ g l c (holds row l c)) → remade f row ≡ remade g row
-same_remade f g row same =
-    same_sets (remade f row) (remade g row) (shape_remade f 0 row ∙ sym (shape_remade g 0 row)) (λ l c h k.
-    let b : l < length row = omega (arith, h, label_in (remade f row) (map length row) (shape_remade f 0 row), label_in row (map length row) refl) in
-    let d : c < length (get_or row l []) = omega (arith, k, count_at (remade f row) (map length row) l (shape_remade f 0 row) h, count_at row (map length row) l refl b) in
-    holds-remade f row l c b d ∙ same l c ∙ sym (holds-remade g row l c b d))
-
 module _ (row : Sets) (label class : ℕ) where
   abbrev alone : ℕ → ℕ → Bool
   alone l c = eqb c class
@@ -333,7 +323,7 @@ module _ (row : Sets) (label class : ℕ) where
 
   -- the class that it has
   pub class_alone : is_live row ≡ true → holds row label class ≡ true → set_to label class row ≡ narrowed (λ l c. not (eqb label l) || eqb c class) row
-  class_alone live on = sym (replaced_live alone label row live) ∙ ap normalized (same_remade (replacing alone label) (narrowing alone label) row (same_class on))
+  class_alone live on = sym (replaced_live alone label row live) ∙ ap normalized (remade_same (replacing alone label) (narrowing alone label) row (λ l c h k. same_class on l c))
 
   -- and one that it hasn't
   pub class_lacked : label < length row → holds row label class ≡ false → emptied row ≡ narrowed (λ l c. not (eqb label l) || eqb c class) row

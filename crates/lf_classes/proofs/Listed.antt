@@ -1,5 +1,5 @@
 -- What was mentioned, label by label, is the universe of what is mentioned.
-use Rattle.std.proofs.Common.{◌≡◌, ◌≢◌, ◌<◌, ◌≤◌, ℕ, ◌+◌, ltb, eqb, Bool, true, false, not, cond, List, [], ◌∷◌, ◌++◌, get_or, set, map, length, refl, sym, ap, subst, ◌∙◌, append-nil, append_assoc, length-append, arith}
+use Rattle.std.proofs.Common.{◌≡◌, ◌≢◌, ◌<◌, ℕ, ◌+◌, ltb, eqb, Bool, true, false, not, cond, List, [], ◌∷◌, ◌++◌, get_or, set, map, length, refl, sym, ap, subst, ◌∙◌, append-nil, append_assoc, length-append, arith}
 use Rattle.std.specs.Prelude.{fold}
 use Rattle.std.specs.List.{filter, flat_map}
 use Rattle.std.specs.Str.{bytes_eq}
@@ -7,6 +7,7 @@ use Rattle.std.proofs.lemmas.Grind.{flat_map-append}
 use Rattle.std.proofs.lemmas.List.{ext_get_or, get_or-append-add, get_or_append_left, get_or-map, get_or_past, get_or-set_other, get_or-set_same, length-map, length-set, map-append}
 use Rattle.std.proofs.lemmas.List.Elements.{filter-append}
 use Rattle.std.proofs.lemmas.List.Folds.{position_or_len_push}
+use Rattle.std.proofs.lemmas.Bool.{ltb-false, ltb-true}
 use Rattle.lf_ast.specs.Labels.{Bytes}
 use Rattle.lf_semantics.specs.Listing.{Listing, first_seen, label_of, labels_mentioned, listing_of, named_at, place, texts_mentioned}
 use Rattle.lf_ast.specs.Selectors.{metric}
@@ -64,12 +65,6 @@ module _ (k : ℕ) where
 
 -- a label that is put behind the others
 
-not_less : (a b : ℕ) → ltb a b ≡ false → b ≤ a
-not_less a b h = grind arith
-
-less : (a b : ℕ) → ltb a b ≡ true → a < b
-less a b h = grind arith
-
 module _ (s : Listing) (label : Bytes) (count : length s.named ≡ length s.names) where
   label_length : length (with_label s label).named ≡ length (with_label s label).names
   label_length =
@@ -102,7 +97,7 @@ module _ (s : Listing) (label : Bytes) (count : length s.named ≡ length s.name
   own_place true e = refl
   own_place false e =
       let most = place_le s.names label in
-      let least = not_less (label_of s label) (length s.names) e in
+      let least = ltb-false (label_of s label) (length s.names) e in
       let at : eqb (place s.names label) (length s.names) ≡ true = grind (arith, most, least) in
       position_or_len_push (λ x. bytes_eq x label) s.names label
       ∙ ap (λ b. cond b (length s.names + cond (bytes_eq label label) 0 1) (place s.names label)) at
@@ -112,7 +107,7 @@ module _ (s : Listing) (label : Bytes) (count : length s.named ≡ length s.name
   label_same = own_place (ltb (label_of s label) (length s.names)) refl
 
   own_within : (b : Bool) → ltb (label_of s label) (length s.names) ≡ b → label_of s label < length (cond b s.names (s.names ++ label ∷ []))
-  own_within true e = less (label_of s label) (length s.names) e
+  own_within true e = ltb-true (label_of s label) (length s.names) e
   own_within false e = let most = place_le s.names label in let long = length-append s.names (label ∷ []) in omega (arith, most, long)
 
   label_within : label_of s label < length (with_label s label).names

@@ -1,5 +1,5 @@
 -- One more text behind others, and what it does to the texts that are seen first.
-use Rattle.std.proofs.Common.{◌≡◌, ◌<◌, ℕ, ltb, Bool, true, false, not, cond, ◌||◌, List, [], ◌∷◌, ◌++◌, get_or, length, refl, sym, ap, subst, ◌∙◌, append-nil, append_assoc, arith}
+use Rattle.std.proofs.Common.{◌≡◌, ltb, Bool, true, false, not, cond, ◌||◌, List, [], ◌∷◌, ◌++◌, get_or, length, refl, sym, ap, subst, ◌∙◌, append-nil, append_assoc}
 use Rattle.std.specs.Bool.{Decides}
 use Rattle.std.specs.Prelude.{fold}
 use Rattle.std.specs.List.{Contains, filter, list_any}
@@ -7,6 +7,7 @@ use Rattle.std.specs.Str.{bytes_eq}
 use Rattle.std.proofs.lemmas.Bool.Decides.{same_from_decides}
 use Rattle.std.proofs.lemmas.List.Elements.{Contains-get_or, filter-append}
 use Rattle.std.proofs.lemmas.List.Folds.{list_any_at}
+use Rattle.std.proofs.lemmas.Bool.{lt-ltb, ltb-true}
 use Rattle.indexmap.proofs.CallerLemmas.{Contains-list_any}
 use Rattle.lf_ast.specs.Labels.{Bytes}
 use Rattle.lf_semantics.specs.Listing.{first_seen, place}
@@ -21,16 +22,10 @@ among xs t = list_any (bytes_eq t) xs
 among-Decides : (xs : List Bytes) (t : Bytes) → Decides (among xs t) (Contains xs t)
 among-Decides xs t = (Contains-list_any bytes_eq true_same xs t, λ c. list_any_at (bytes_eq t) xs c.0 t c.1 (same_true t (get_or xs c.0 t) (sym c.2)))
 
-below : (a b : ℕ) → ltb a b ≡ true → a < b
-below a b h = grind arith
-
-not_below : (a b : ℕ) → a < b → ltb a b ≡ true
-not_below a b h = grind arith
-
 place-Decides : (xs : List Bytes) (t : Bytes) → Decides (ltb (place xs t) (length xs)) (Contains xs t)
 place-Decides xs t = (
-  λ h. let b = below (place xs t) (length xs) h in subst (λ z. Contains xs z) (at_place xs t b) (Contains-get_or xs (place xs t) [] b),
-  λ c. not_below (place xs t) (length xs) (place_within xs t c),
+  λ h. let b = ltb-true (place xs t) (length xs) h in subst (λ z. Contains xs z) (at_place xs t b) (Contains-get_or xs (place xs t) [] b),
+  λ c. lt-ltb (place xs t) (length xs) (place_within xs t c),
 )
 
 seen_is : (xs : List Bytes) (t : Bytes) → among xs t ≡ ltb (place (first_seen xs) t) (length (first_seen xs))

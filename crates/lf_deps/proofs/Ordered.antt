@@ -5,6 +5,7 @@ use Rattle.std.specs.List.{Contains, filter, flat_map, range_with_len}
 use Rattle.std.proofs.lemmas.Bool.{and_right, cases_eq, eq-eqb, lt-ltb, ltb-true, not-true}
 use Rattle.std.proofs.lemmas.List.{get_or-replicate, get_or-set_other, get_or-set_same, length-map}
 use Rattle.std.proofs.lemmas.List.Elements.{Contains-get_or}
+use Rattle.lf_laws.proofs.Booleans.{and_true}
 use Rattle.lf_ast.specs.Labels.{Bytes}
 use Rattle.lf_ast.specs.Rules.{RuleTree}
 use Rattle.lf_semantics.specs.Environments.{names_recorded, recorded_names}
@@ -192,10 +193,6 @@ filter_twice p q r h (x ∷ xs) = ap (λ (b : Bool). cond b (x ∷ filter p xs) 
 pub left_without : (taken : List Bool) (n k : ℕ) → IsLeft taken k → left_of (slice_set taken k true) n ≡ without k (left_of taken n)
 left_without taken n k l = filter_twice (λ j. not (get_or (slice_set taken k true) j true)) (λ j. not (eqb j k)) (λ j. not (get_or taken j true)) both (range_with_len 0 n)
   where
-    and_true : (b : Bool) → (b && true) ≡ b
-    and_true true = refl
-    and_true false = refl
-
     both : (j : ℕ) → not (get_or (slice_set taken k true) j true) ≡ (not (get_or taken j true) && not (eqb j k))
     both j = elim (cases_eq j k) [
       | inl e ↦

@@ -10,7 +10,7 @@ use Rattle.std.proofs.lemmas.List.Elements.{Contains-append_cases, Contains-appe
 use Rattle.lf_ast.specs.Labels.{Bytes}
 use Rattle.lf_classes.specs.views.TextSets.{with_text}
 use Rattle.lf_semantics.specs.Listing.{place}
-use Rattle.lf_laws.proofs.Members.{first_or_behind, here, none_in, same_true, only_one}
+use Rattle.lf_laws.proofs.Members.{here, none_in, only_one}
 use Rattle.lf_semantics.proofs.Places.{place_last, place_le, same_text}
 
 -- lists

@@ -3,6 +3,7 @@ use Rattle.std.proofs.Common.{◌≡◌, ℕ, zero, suc, ◌+◌, ◌<◌, ◌�
 use Rattle.std.specs.List.{AllByRecursion}
 use Rattle.std.specs.Str.{bytes_eq}
 use Rattle.std.proofs.lemmas.Bool.{cases_lt}
+use Rattle.std.proofs.lemmas.Option.{none-some, same_Some}
 use Rattle.lf_ast.specs.Labels.{Bytes}
 use Rattle.lf_flow.specs.Raising.{joined}
 use Rattle.lf_semantics.specs.ClassRows.{Sets, emptied, holds, is_live, normalized, join}
@@ -10,11 +11,11 @@ use Rattle.lf_semantics.specs.Environments.{IsRow, Leq}
 use Rattle.lf_semantics.specs.Listing.{Listing}
 use Rattle.lf_semantics.specs.RowTable.{Environment, row_named}
 use Rattle.lf_semantics.proofs.RowLaws.{shape_join}
+use Rattle.lf_semantics.proofs.RowSets.{emptied_holds}
 use Rattle.lf_semantics.proofs.NormalizedRows.{normalized_join}
 use Rattle.lf_semantics.proofs.Members.{clash}
 use Rattle.lf_semantics.proofs.LeqLaws.{live_more, same_length, leq_trans, leq_join_left, leq_join_right}
 use Rattle.lf_fix.specs.views.Rounds.{missing, missing_in, missing_of}
-use Rattle.lf_fix.proofs.Raising.{none_some, some_row}
 
 -- sets
 
@@ -66,16 +67,6 @@ row_same (x ∷ row) (y ∷ other) n h e l c k =
     pick zero f g k = f c k
     pick (suc l) f g k = g l c k
 
-none_on : (set : List Bool) (c : ℕ) → get_or (map (λ (on : Bool). false) set) c false ≡ false
-none_on [] c = refl
-none_on (b ∷ set) zero = refl
-none_on (b ∷ set) (suc c) = none_on set c
-
-emptied_holds : (row : Sets) (l c : ℕ) → holds (emptied row) l c ≡ false
-emptied_holds [] l c = refl
-emptied_holds (set ∷ row) zero c = none_on set c
-emptied_holds (set ∷ row) (suc l) c = emptied_holds row l c
-
 -- a row of the universe that holds a class isn't empty
 live_if : (row : Sets) → normalized row ≡ row → (l c : ℕ) → holds row l c ≡ true → is_live row ≡ true
 live_if row is l c h = by (is_live row) refl
@@ -124,7 +115,7 @@ module _ (u : Listing) (name : Bytes) (row : Sets) (is : IsRow u row) where
 
   -- a row is joined that doesn't lie there
   pub joined_less : (env : Environment) → AllByRecursion (λ entry. IsRow u entry.1) env → (old : Sets) → row_named env name ≡ Some old → (Leq row old → ⊥) → missing (joined name row env) < missing env
-  joined_less [] h old found new = absurd (none_some old found)
+  joined_less [] h old found new = absurd (none-some old found)
   joined_less (e ∷ env) h old found new = by (bytes_eq e.0 name) found (joined_le env h.1) (λ f. joined_less env h.1 old f new)
     where
       by : (b : Bool) → cond b (Some e.1) (row_named env name) ≡ Some old → missing (joined name row env) ≤ missing env → (row_named env name ≡ Some old → missing (joined name row env) < missing env)
@@ -132,6 +123,6 @@ module _ (u : Listing) (name : Bytes) (row : Sets) (is : IsRow u row) where
       by true f le rest =
           let P : Sets → Type 0 = λ x. Leq row x in
           let less = under_less u e.1 (join e.1 row) h.0 (union_is e.1 h.0) (leq_join_left u e.1 row h.0.0 is.0)
-          (λ k. new (subst P (some_row e.1 old f) (leq_trans row (join e.1 row) e.1 (leq_join_right u e.1 row h.0.0 is.0) k))) in
+          (λ k. new (subst P (same_Some e.1 old f) (leq_trans row (join e.1 row) e.1 (leq_join_right u e.1 row h.0.0 is.0) k))) in
           omega arith
       by false f le rest = let less = rest f in omega arith

@@ -2,6 +2,7 @@
 use Rattle.std.proofs.Common.{◌≡◌, ◌<◌, Bool, true, false, cond, List, [], ◌∷◌, map, Option, Some, None, refl, sym, ◌∙◌, ap, subst}
 use Rattle.std.specs.List.{AllByRecursion, Contains}
 use Rattle.std.specs.Str.{bytes_eq}
+use Rattle.std.proofs.lemmas.Option.{none-some, same_Some}
 use Rattle.lf_ast.specs.Labels.{Bytes}
 use Rattle.lf_ast.specs.Rules.{RuleTree}
 use Rattle.lf_flow.specs.Raising.{joined}
@@ -18,12 +19,6 @@ use Rattle.lf_semantics.proofs.RowsGrow.{recorded_grows}
 use Rattle.lf_semantics.proofs.NormalizedRows.{normalized_join}
 use Rattle.lf_semantics.proofs.LeqLaws.{bottom_dead, leq_dead, leq_refl, leq_trans, leq_join_left, join_least}
 use Rattle.lf_fix.specs.views.Rounds.{start}
-
-pub some_row : (a b : Sets) → Some a ≡ Some b → a ≡ b
-some_row a b e = cc
-
-pub none_some : (row : Sets) → None ≡ Some row → ⊥
-none_some row e = cc
 
 pub environment_refl : (env : Environment) → EnvironmentLeq env env
 environment_refl [] = tt
@@ -50,7 +45,7 @@ each_named name P (e ∷ env) top distinct is h = by (bytes_eq e.0 name) refl is
     by : (b : Bool) → bytes_eq e.0 name ≡ b → cond b (Some e.1) (row_named env name) ≡ Some top → (row_named env name ≡ Some top → EachNamed name P env) → EachNamed name P (e ∷ env)
     by true f g rest =
         let N : Bytes → Type 0 = λ x. Contains (names_of env) x → ⊥ in
-        (λ same. subst P (sym (some_row e.1 top g)) h, none_here name P env (subst N (true_same e.0 name f) distinct.0))
+        (λ same. subst P (sym (same_Some e.1 top g)) h, none_here name P env (subst N (true_same e.0 name f) distinct.0))
     by false f g rest = (λ same. absurd (clash same f), rest g)
 
 module _ (name : Bytes) (row : Sets) where
@@ -67,13 +62,13 @@ module _ (name : Bytes) (row : Sets) where
 
   -- the rows of the name are joined, and the others stay
   pub named_joined : (env : Environment) (n : Bytes) (old : Sets) → row_named env n ≡ Some old → row_named (joined name row env) n ≡ Some (cond (bytes_eq n name) (join old row) old)
-  named_joined [] n old is = absurd (none_some old is)
+  named_joined [] n old is = absurd (none-some old is)
   named_joined (e ∷ env) n old is = by (bytes_eq e.0 n) refl is (named_joined env n old)
     where
       by : (b : Bool) → bytes_eq e.0 n ≡ b → cond b (Some e.1) (row_named env n) ≡ Some old → (row_named env n ≡ Some old → row_named (joined name row env) n ≡ Some (cond (bytes_eq n name) (join old row) old))
           → cond b (Some (cond (bytes_eq e.0 name) (join e.1 row) e.1)) (row_named (joined name row env) n) ≡ Some (cond (bytes_eq n name) (join old row) old)
       by true f g rest =
-          ap (λ (x : Bytes). Some (cond (bytes_eq x name) (join e.1 row) e.1)) (true_same e.0 n f) ∙ ap (λ (x : Sets). Some (cond (bytes_eq n name) (join x row) x)) (some_row e.1 old g)
+          ap (λ (x : Bytes). Some (cond (bytes_eq x name) (join e.1 row) e.1)) (true_same e.0 n f) ∙ ap (λ (x : Sets). Some (cond (bytes_eq n name) (join x row) x)) (same_Some e.1 old g)
       by false f g rest = rest g
 
   unnamed_joined : (env : Environment) (n : Bytes) → row_named env n ≡ None → row_named (joined name row env) n ≡ None
@@ -82,7 +77,7 @@ module _ (name : Bytes) (row : Sets) where
     where
       by : (b : Bool) → cond b (Some e.1) (row_named env n) ≡ None → (row_named env n ≡ None → row_named (joined name row env) n ≡ None)
           → cond b (Some (cond (bytes_eq e.0 name) (join e.1 row) e.1)) (row_named (joined name row env) n) ≡ None
-      by true g rest = absurd (none_some e.1 (sym g))
+      by true g rest = absurd (none-some e.1 (sym g))
       by false g rest = rest g
 
   other_row : (old : Sets) (b : Bool) → b ≡ false → cond b (join old row) old ≡ old

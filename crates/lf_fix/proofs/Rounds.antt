@@ -5,6 +5,7 @@ use Rattle.std.specs.List.{AllByRecursion, Contains}
 use Rattle.std.specs.Str.{bytes_eq}
 use Rattle.std.proofs.Math.Seq.{take-length}
 use Rattle.std.proofs.lemmas.Option.{slice_get_within}
+use Rattle.std.proofs.lemmas.Bool.{or_parts}
 use Rattle.lf_ast.specs.Labels.{Bytes}
 use Rattle.lf_ast.specs.Rules.{RuleTree}
 use Rattle.lf_flow.specs.Raising.{joined}
@@ -67,10 +68,6 @@ one_named P (x ∷ env) n row h e = by (bytes_eq x.0 n) e (one_named P env n row
 rises_on : (u : Listing) (rules : List RuleTree) (a b c : Environment) → Rises u rules a b → Rises u rules b c → Rises u rules a c
 rises_on u rules a b c h k = record { of_rules = k.of_rules; below = λ other o d e. k.below other o d (h.below other o d e) }
 
-neither : (x y : Bool) → (x || y) ≡ false → (x ≡ false) × (y ≡ false)
-neither true y e = absurd (clash refl e)
-neither false y e = (refl, e)
-
 -- what stands before the place behind one stands before that one, or there
 more_taken : (order : List ℕ) (n k j : ℕ) → slice_get order n ≡ Some k → Contains (take (suc n) order) j → Contains (take n order) j ⊎ (k ≡ j)
 more_taken [] n k j at c = absurd (cc)
@@ -89,10 +86,10 @@ pub tells_more : (u : Listing) (rules : List RuleTree) (order : List ℕ) (n k :
 tells_more u rules order n k env mid later dirty after again changed at h t = record {
   rises = rises_on u rules env mid later h.rises t.rises;
   less = λ e. less again changed refl refl e;
-  same = λ e. let b = neither again changed e in t.same b.1 ∙ h.same b.0;
+  same = λ e. let b = or_parts again changed e in t.same b.1 ∙ h.same b.0;
   hold = t.hold;
   done = λ e j c.
-      let b = neither again changed e in
+      let b = or_parts again changed e in
       let more : n + 1 ≡ suc n = omega arith in
       let T : ℕ → Type 0 = λ i. Contains (take i order) j in
       elim (more_taken order n k j at (subst T more c)) [

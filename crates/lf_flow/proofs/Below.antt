@@ -6,7 +6,8 @@ use Rattle.std.proofs.lemmas.Bool.Decides.{nat_tests}
 use Rattle.lf_laws.proofs.Booleans.{and_true}
 use Rattle.lf_semantics.specs.ClassRows.{Sets, holds, is_live, narrowed, replaced, normalized}
 use Rattle.lf_semantics.proofs.LeqLaws.{normalized_live}
-use Rattle.lf_flow.proofs.Layered.{narrowed_twice, replaced_dead, replaced_live, replaced_twice, same_narrowed, same_replaced, same_row}
+use Rattle.lf_semantics.proofs.RowSets.{same_row}
+use Rattle.lf_flow.proofs.Layered.{narrowed_twice, replaced_dead, replaced_live, replaced_twice, same_narrowed, same_replaced}
 
 -- the chosen labels below a number
 abbrev pub below : (ℕ → Bool) → ℕ → ℕ → Bool

@@ -3,12 +3,13 @@ use Rattle.std.proofs.Common.{◌≡◌, ℕ, suc, ◌+◌, ◌<◌, Bool, true,
 use Rattle.std.proofs.lemmas.Grind.{common_steps}
 use Rattle.std.proofs.lemmas.List.{get_or-map, length-map}
 use Rattle.std.proofs.lemmas.Bool.Decides.{Decides-eqb, nat_tests}
-use Rattle.lf_semantics.specs.ClassRows.{HasShape, Sets, holds, indexed_from, is_live, remade, replaced, normalized}
+use Rattle.lf_semantics.specs.ClassRows.{HasShape, Sets, indexed_from, is_live, replaced, normalized}
 use Rattle.lf_ast.specs.Labels.{Bytes}
 use Rattle.lf_ast.specs.declared.expr.Grouping.{Grouping}
 use Rattle.lf_semantics.specs.Listing.{Listing, label_of, named_at}
 use Rattle.lf_semantics.specs.RowTable.{grouped_row, is_group_label, is_label}
 use Rattle.lf_semantics.proofs.RowLaws.{shape_replaced}
+use Rattle.lf_semantics.proofs.RowSets.{remade_same}
 use Rattle.lf_flow.specs.views.ClassSets.{IsSet}
 
 pub eqb-turn : (m n : ℕ) → eqb m n ≡ eqb n m
@@ -33,12 +34,6 @@ indexed_same f g d k (x ∷ xs) h =
     let rest : indexed_from f (suc k) xs ≡ indexed_from g (suc k) xs =
     indexed_same f g d (suc k) xs (λ i b. let q : k + suc i ≡ suc k + i = omega arith in rw q at (h (suc i) (omega arith))) in
     rw (first, rest) refl
-
-pub remade_same : (f g : ℕ → ℕ → Bool → Bool) (row : Sets) → ((l c : ℕ) → l < length row → c < length (get_or row l []) → f l c (holds row l c) ≡ g l c (holds row l c)) → remade f row ≡ remade g row
-remade_same f g row h =
-    indexed_same (λ l set. indexed_from (λ c on. f l c on) 0 set) (λ l set. indexed_from (λ c on. g l c on) 0 set) [] 0 row
-    (λ l b. indexed_same (λ c on. f (0 + l) c on) (λ c on. g (0 + l) c on) false 0 (get_or row l [])
-    (λ c k. let e : 0 + l ≡ l = omega arith in let q : 0 + c ≡ c = omega arith in rw (e, q) (h l c b k)))
 
 by_chosen : (chosen other f g on : Bool) → chosen ≡ other → (chosen ≡ true → f ≡ g) → cond chosen f on ≡ cond other g on
 by_chosen true true f g on e h = h refl

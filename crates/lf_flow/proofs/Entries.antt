@@ -1,5 +1,5 @@
 -- Names and their rows.
-use Rattle.std.proofs.Common.{◌≡◌, ◌≢◌, ℕ, zero, suc, ◌+◌, ◌<◌, ◌≤◌, Bool, true, false, not, cond, List, [], ◌∷◌, ◌++◌, length, map, take, get_or, Option, Some, None, inl, inr, refl, sym, ◌∙◌, ap, arith}
+use Rattle.std.proofs.Common.{◌≡◌, ◌≢◌, ℕ, zero, suc, ◌+◌, ◌<◌, ◌≤◌, Bool, true, false, not, cond, List, [], ◌∷◌, ◌++◌, length, map, get_or, Option, Some, None, inl, inr, refl, sym, ◌∙◌, ap, arith}
 use Rattle.std.proofs.Math.ListN.{set}
 use Rattle.std.specs.Prelude.{replicate}
 use Rattle.std.proofs.lemmas.Bool.{cases_lt}
@@ -78,9 +78,6 @@ recorded_within names rows name n h = elim (cases_lt (place names name) (length 
   | inl b ↦ b
   | inr b ↦ absurd (h (none_named names rows name n b))
 ]
-
-pub some_same : (a b : Sets) → Some a ≡ Some b → a ≡ b
-some_same a b e = cc
 
 replicate_suc : (n : ℕ) (row : Sets) → replicate n row ++ row ∷ [] ≡ replicate (suc n) row
 replicate_suc zero row = refl

@@ -4,16 +4,11 @@ use Rattle.std.proofs.lemmas.List.{length-map}
 use Rattle.lf_laws.proofs.Booleans.{and_left, clash}
 use Rattle.lf_semantics.specs.ClassRows.{Sets, emptied, holds, is_live, narrowed, remade, replaced, normalized}
 use Rattle.lf_semantics.proofs.LeqLaws.{normalized_live}
-use Rattle.lf_semantics.proofs.RowLaws.{holds-remade, length_remade, shape_narrowed, shape_remade, shape_replaced}
-use Rattle.lf_flow.proofs.ClassSets.{remade_same}
-use Rattle.lf_classes.proofs.Cutting.{count_at, emptied_dead, emptied_holds, emptied_remade, emptied_twice, live_at, live_when, same_sets}
+use Rattle.lf_semantics.proofs.NormalizedRows.{normalized_emptied}
+use Rattle.lf_semantics.proofs.RowLaws.{holds-remade, length_remade, live_when, shape_narrowed, shape_remade, shape_replaced}
+use Rattle.lf_semantics.proofs.RowSets.{class_in, emptied_dead, emptied_holds, emptied_remade, live_at, remade_same, same_row, same_sets}
 
 -- rows made anew
-
-class_in : (f : ℕ → ℕ → Bool → Bool) (row : Sets) (l c : ℕ) → l < length row → c < length (get_or (remade f row) l []) → c < length (get_or row l [])
-class_in f row l c h k =
-    let m : l < length (remade f row) = omega (arith, h, length_remade f row) in
-    omega (arith, k, count_at (remade f row) (map length row) l (shape_remade f 0 row) m, count_at row (map length row) l refl h)
 
 pub same_remade : (f g : ℕ → ℕ → Bool → Bool) (row : Sets) → ((l c : ℕ) → l < length row → f l c (holds row l c) ≡ g l c (holds row l c)) → remade f row ≡ remade g row
 same_remade f g row same = remade_same f g row (λ l c h k. same l c h)
@@ -29,16 +24,6 @@ twice_remade f g row =
 
 pub normalized_dead : (row : Sets) → is_live row ≡ false → normalized row ≡ emptied row
 normalized_dead row e = ap (λ b. cond b row (emptied row)) e
-
-normalized_emptied : (row : Sets) → normalized (emptied row) ≡ emptied row
-normalized_emptied row = elim (is_live (emptied row)) as (λ b. cond b (emptied row) (emptied (emptied row)) ≡ emptied row) [ true ↦ refl | false ↦ emptied_twice row ]
-
--- a row of which each class stays
-pub same_row : (f : ℕ → ℕ → Bool → Bool) (row : Sets) → ((l c : ℕ) → f l c (holds row l c) ≡ holds row l c) → remade f row ≡ row
-same_row f row same =
-    same_sets (remade f row) row (shape_remade f 0 row) (λ l c h k.
-    let b : l < length row = omega (arith, h, length_remade f row) in
-    holds-remade f row l c b (class_in f row l c b k) ∙ same l c)
 
 -- the empty row stays empty where no class is added
 pub none_remade : (f : ℕ → ℕ → Bool → Bool) (row : Sets) → ((l c : ℕ) → f l c false ≡ false) → normalized (remade f (emptied row)) ≡ emptied row

@@ -4,8 +4,9 @@ use Rattle.std.proofs.lemmas.List.{get_or-map, length-map}
 use Rattle.lf_ast.specs.Labels.{Bytes}
 use Rattle.lf_semantics.specs.ClassRows.{HasShape, Sets, top, holds, is_live, kept, remade, replaced, normalized}
 use Rattle.lf_semantics.specs.Listing.{Listing, class_counts, named_at}
-use Rattle.lf_semantics.proofs.RowLaws.{holds-remade, shape_top, shape_remade, shape_replaced}
-use Rattle.lf_classes.proofs.Cutting.{full_live, label_in, live_when}
+use Rattle.lf_semantics.proofs.RowLaws.{holds-remade, live_when, shape_remade, shape_replaced, shape_top}
+use Rattle.lf_semantics.proofs.RowSets.{label_in}
+use Rattle.lf_classes.proofs.Cutting.{full_live}
 use Rattle.lf_flow.proofs.ClassSets.{row_length, set_length}
 use Rattle.lf_semantics.proofs.LeqLaws.{normalized_live}
 use Rattle.lf_flow.proofs.Layered.{replaced_live, same_remade, twice_remade}

@@ -7,8 +7,8 @@ use Rattle.lf_semantics.specs.ClassRows.{Sets, emptied, holds, is_live, kept, na
 use Rattle.lf_semantics.proofs.Places.{eqb-other}
 use Rattle.lf_classes.proofs.LabelChanges.{emptied_label, narrowing, narrowing_here, narrowing_there}
 use Rattle.lf_flow.specs.views.ClassSets.{IsSet}
-use Rattle.lf_flow.proofs.ClassSets.{remade_same}
-use Rattle.lf_flow.proofs.Layered.{none_remade, same_narrowed, same_remade, same_row}
+use Rattle.lf_semantics.proofs.RowSets.{remade_same, same_row}
+use Rattle.lf_flow.proofs.Layered.{none_remade, same_narrowed, same_remade}
 
 -- a label of which the classes in a set stay
 pub narrowed_at : (label n : ℕ) (on : List Bool) (test : ℕ → ℕ → Bool) (row : Sets) → IsSet n (test label) on → length (get_or row label []) ≡ n

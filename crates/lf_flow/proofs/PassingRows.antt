@@ -9,10 +9,10 @@ use Rattle.lf_laws.proofs.Booleans.{clash, not_true}
 use Rattle.lf_semantics.specs.ClassRows.{HasShape, Sets, emptied, top, holds, is_live, narrowed, remade, normalized}
 use Rattle.lf_semantics.specs.Listing.{Listing, class_counts, named_at}
 use Rattle.lf_semantics.specs.RowTable.{passes_class}
-use Rattle.lf_semantics.proofs.RowLaws.{holds-remade, live, shape_top, shape_narrowed, shape_remade}
+use Rattle.lf_semantics.proofs.RowLaws.{holds-remade, live_when, shape_top, shape_narrowed, shape_remade}
 use Rattle.lf_classes.specs.views.Remembered.{passing_row}
-use Rattle.lf_classes.proofs.Cutting.{emptied_holds}
-use Rattle.lf_flow.proofs.ClassSets.{remade_same, row_length, set_length}
+use Rattle.lf_semantics.proofs.RowSets.{emptied_holds, remade_same}
+use Rattle.lf_flow.proofs.ClassSets.{row_length, set_length}
 
 -- every class is in the full row
 full_at : (u : Listing) (l c : ℕ) → l < length u.named → c < length (named_at u l) + 2 → holds (top u) l c ≡ true
@@ -55,7 +55,7 @@ module _ (u : Listing) (label : ℕ) (pass : ℕ → ℕ → Bool) (within : lab
     where
       by : (b : Bool) → is_live made ≡ b → holds (cond b made (emptied made)) label c ≡ pass label c
       by true e = own c k
-      by false e = emptied_holds made label c ∙ sym (not_true (pass label c) (λ p. clash (is_live made) (live made (each c k p)) e))
+      by false e = emptied_holds made label c ∙ sym (not_true (pass label c) (λ p. clash (is_live made) (live_when made (each c k p)) e))
 
 -- a row that meets the row of a pattern keeps the classes that pass
 pub met_passing : (u : Listing) (label : ℕ) (op : MatchOp) (pattern : Bytes) (passing row : Sets) → label < length u.named → HasShape u row → passing ≡ passing_row u label op pattern

@@ -8,6 +8,7 @@ use Rattle.std.proofs.lemmas.Bool.{cases_eq}
 use Rattle.std.proofs.lemmas.Bool.Decides.{Decides-eqb, nat_tests}
 use Rattle.std.proofs.lemmas.List.{get_or-set_other, get_or-set_same, length-replicate}
 use Rattle.std.proofs.lemmas.List.Folds.{list_all_more, list_any_more}
+use Rattle.std.proofs.lemmas.Option.{same_Some}
 use Rattle.lf_ast.specs.Labels.{Bytes}
 use Rattle.lf_ast.specs.declared.expr.Matcher.{Matcher}
 use Rattle.lf_laws.proofs.Booleans.{and_false, and_true}
@@ -23,7 +24,6 @@ use Rattle.lf_semantics.proofs.SelectorsRepresent.{shape_scraped, shape_with_rec
 use Rattle.lf_flow.specs.views.ClassSets.{IsSet}
 use Rattle.lf_flow.specs.Raising.{joined_each}
 use Rattle.lf_flow.proofs.ClassSets.{replaced_same}
-use Rattle.lf_flow.proofs.Entries.{some_same}
 use Rattle.lf_flow.proofs.Layered.{narrowed_twice, same_narrowed}
 use Rattle.lf_flow.proofs.MatcherSets.{get_one}
 use Rattle.lf_flow.proofs.PatternSets.{retested}
@@ -133,7 +133,7 @@ module _ (u : Listing) (p : IsListing u) (env : Environment) (ok : IsEnvironment
   normalized_named (entry ∷ later) n (Some row) e rows = by (bytes_eq entry.0 n) e (λ f. normalized_named later n (Some row) f rows.1)
     where
       by : (b : Bool) → cond b (Some entry.1) (row_named later n) ≡ Some row → (row_named later n ≡ Some row → IsNormalized row) → IsNormalized row
-      by true e rest = subst IsNormalized (some_same entry.1 row e) rows.0.1
+      by true e rest = subst IsNormalized (same_Some entry.1 row e) rows.0.1
       by false e rest = rest e
 
   normalized_recorded : (later : Environment) (row : Sets) → HasShape u row → IsNormalized row → AllByRecursion (λ entry. IsRow u entry.1) later → IsNormalized (with_recorded u later row)

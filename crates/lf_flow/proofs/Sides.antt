@@ -7,10 +7,10 @@ use Rattle.lf_semantics.specs.ClassRows.{HasShape, Sets, emptied, top, holds, is
 use Rattle.lf_semantics.specs.Listing.{Listing}
 use Rattle.lf_semantics.specs.RowTable.{is_label_among, is_metric_label, nameless_if, taken_row}
 use Rattle.lf_semantics.proofs.RowLaws.{shape_top, shape_narrowed, shape_bottom, shape_replaced}
-use Rattle.lf_classes.proofs.Cutting.{emptied_remade, emptied_same}
+use Rattle.lf_semantics.proofs.RowSets.{emptied_remade, emptied_same, same_row}
 use Rattle.lf_flow.specs.views.Chosen.{Chooses}
 use Rattle.lf_flow.proofs.ClassSets.{row_length}
-use Rattle.lf_flow.proofs.Layered.{fewer_dead, same_narrowed, same_replaced, same_row, normalized_dead}
+use Rattle.lf_flow.proofs.Layered.{fewer_dead, same_narrowed, same_replaced, normalized_dead}
 
 module _ (u : Listing) (row : Sets) (shape : HasShape u row) where
   -- at the labels that are chosen

@@ -25,17 +25,18 @@ use Rattle.lf_semantics.specs.RowTable.{absent_row, bare_row, beside_scalar_row,
 use Rattle.lf_semantics.specs.Strings.{Joining, Replacing, joining, replacing, shows}
 use Rattle.lf_semantics.proofs.EffectsRepresent.{has_class_at, shape_grouped}
 use Rattle.lf_semantics.proofs.PairsRepresent.{shape_matched, shape_nameless_if, shape_taken}
-use Rattle.lf_semantics.proofs.RowLaws.{get_or-indexed, in_range, length-indexed, true_within}
+use Rattle.lf_semantics.proofs.RowLaws.{get_or-indexed, in_range, length-indexed}
 use Rattle.lf_semantics.proofs.Members.{clash}
-use Rattle.lf_semantics.proofs.LeqLaws.{bottom_dead, leq_join, leq_narrowed, leq_only_empty, leq_refl, leq_replaced, live_at, some_on}
+use Rattle.lf_semantics.proofs.LeqLaws.{bottom_dead, leq_join, leq_narrowed, leq_only_empty, leq_refl, leq_replaced}
+use Rattle.lf_semantics.proofs.RowSets.{live_at, some_on}
 
 -- a class of the set that passes
 of_has_class : (u : Listing) (test : ℕ → Bool) (set : List Bool) → has_class u test set ≡ true → (c : ℕ) × (get_or set c false ≡ true) × (test c ≡ true)
 of_has_class u test set e =
     let tested : List Bool = indexed_from (λ class on. on && test class) 0 set in
     let r = some_on tested e in
-    let b : r.0 < length set = omega (arith, true_within tested r.0 r.1, length-indexed (λ class on. on && test class) 0 set) in
-    let both = and_parts (get_or set r.0 false) (test (0 + r.0)) (sym (get_or-indexed (λ class on. on && test class) 0 set r.0 false false b) ∙ r.1) in
+    let b : r.0 < length set = omega (arith, r.1, length-indexed (λ class on. on && test class) 0 set) in
+    let both = and_parts (get_or set r.0 false) (test (0 + r.0)) (sym (get_or-indexed (λ class on. on && test class) 0 set r.0 false false b) ∙ r.2) in
     let P : ℕ → Type 0 = λ n. test n ≡ true in
     (r.0, both.0, subst P (omega arith) both.1)
 
@@ -129,8 +130,8 @@ module _ (u : Listing) (p : IsListing u) (row other : Sets) (s : HasShape u row)
   one_of_two : is_live row ≡ true → (x : Bytes) → may_be_absent u row x ≡ false → may_be_present u row x ≡ false → ⊥
   one_of_two live x no_absence no_presence =
       let l : ℕ = label_of u x in
-      let r = some_on (get_or row l []) (live_at row l (in_range u p row x [] s).0 live) in
-      by r.0 r.1
+      let r = live_at row l live (in_range u p row x [] s).0 in
+      by r.0 r.2
     where
       by : (c : ℕ) → holds row (label_of u x) c ≡ true → ⊥
       by zero h = clash h no_absence

@@ -1,13 +1,13 @@
 -- The order of rows: what is made of a row grows with the row, and `join` is the least upper bound.
-use Rattle.std.proofs.Common.{◌≡◌, ℕ, zero, suc, ◌+◌, ◌<◌, Bool, true, false, ◌&&◌, ◌||◌, cond, eqb, List, [], ◌∷◌, map, length, get_or, inl, inr, refl, sym, ◌∙◌, ap, subst, arith}
-use Rattle.std.specs.List.{list_any}
+use Rattle.std.proofs.Common.{◌≡◌, ℕ, ◌+◌, ◌<◌, Bool, true, false, ◌&&◌, ◌||◌, cond, eqb, List, [], ◌∷◌, map, length, get_or, inl, inr, refl, sym, ◌∙◌, ap, subst, arith}
 use Rattle.std.proofs.lemmas.List.{get_or-map, length-map}
 use Rattle.std.proofs.lemmas.Bool.{or_cases, or_left, or_right}
 use Rattle.lf_semantics.specs.ClassRows.{HasShape, Sets, bottom, emptied, holds, indexed_from, is_live, join, narrowed, normalized, only_empty, remade, replaced, top}
 use Rattle.lf_semantics.specs.Environments.{Leq}
 use Rattle.lf_semantics.specs.Listing.{IsListing, Listing}
 use Rattle.lf_semantics.proofs.Members.{clash}
-use Rattle.lf_semantics.proofs.RowLaws.{get_or-indexed, holds-remade, holds_within, length-indexed, length_row, live, shape_remade, shape_top}
+use Rattle.lf_semantics.proofs.RowLaws.{get_or-indexed, holds-remade, holds_within, length-indexed, length_row, live_when, shape_remade, shape_top}
+use Rattle.lf_semantics.proofs.RowSets.{emptied_dead, live_at}
 
 pub leq_refl : (row : Sets) → Leq row row
 leq_refl row e = (e, λ l c h. h)
@@ -19,38 +19,13 @@ leq_trans a b c h k e = let f = h e in let g = k f.0 in (g.0, λ l x i. g.1 l x 
 pub leq_dead : (row other : Sets) → is_live row ≡ false → Leq row other
 leq_dead row other f e = absurd (clash e f)
 
--- rows that aren't empty
-
-pub some_on : (set : List Bool) → list_any (λ b. b) set ≡ true → (c : ℕ) × (get_or set c false ≡ true)
-some_on [] e = absurd (clash e refl)
-some_on (true ∷ set) e = (0, refl)
-some_on (false ∷ set) e = let r = some_on set e in (suc r.0, r.1)
-
-pub live_at : (row : Sets) (label : ℕ) → label < length row → is_live row ≡ true → list_any (λ b. b) (get_or row label []) ≡ true
-live_at [] label h e = absurd (omega arith)
-live_at (set ∷ row) label h e = by label (list_any (λ b. b) set) refl h e (λ l b f. live_at row l b f)
-  where
-    by : (label : ℕ) (b : Bool) → list_any (λ b. b) set ≡ b → label < length (set ∷ row) → (b && is_live row) ≡ true
-        → ((l : ℕ) → l < length row → is_live row ≡ true → list_any (λ b. b) (get_or row l []) ≡ true) → list_any (λ b. b) (get_or (set ∷ row) label []) ≡ true
-    by label false e h k rest = absurd (clash k refl)
-    by zero true e h k rest = e
-    by (suc l) true e h k rest = rest l (omega arith) k
-
 -- what has each class of a row that isn't empty isn't empty
 pub live_more : (row other : Sets) → length row ≡ length other → ((l c : ℕ) → holds row l c ≡ true → holds other l c ≡ true) → is_live row ≡ true → is_live other ≡ true
 live_more row other n h e =
-    live other (λ l b. let r = some_on (get_or row l []) (live_at row l (omega (arith, n)) e) in (r.0, h l r.0 r.1))
+    live_when other (λ l b. let r = live_at row l e (omega (arith, n)) in (r.0, h l r.0 r.2))
 
 pub same_length : (u : Listing) (row other : Sets) → HasShape u row → HasShape u other → length row ≡ length other
 same_length u row other s t = sym (length-map row length) ∙ ap length (s ∙ sym t) ∙ length-map other length
-
-none_any : (set : List Bool) → list_any (λ b. b) (map (λ b. false) set) ≡ false
-none_any [] = refl
-none_any (b ∷ set) = none_any set
-
-pub emptied_dead : (row : Sets) → 0 < length row → is_live (emptied row) ≡ false
-emptied_dead [] h = absurd (omega arith)
-emptied_dead (set ∷ row) h = rw (none_any set) refl
 
 pub bottom_dead : (u : Listing) → IsListing u → is_live (bottom u) ≡ false
 bottom_dead u p = emptied_dead (top u) (omega (arith, length_row u p (top u) (shape_top u)))

@@ -18,6 +18,7 @@ pub mod PatternsInside
 pub mod Places
 pub mod Restricted
 pub mod RowLaws
+pub mod RowSets
 pub mod RowsGrow
 pub mod SamplesRepresented
 pub mod SelectorsRepresent

@@ -1,5 +1,5 @@
 -- The row of an expression, and that of what a rule records, is a row of the universe: where some label has no class it is the empty row.
-use Rattle.std.proofs.Common.{◌≡◌, ℕ, zero, suc, Bool, true, false, not, ◌&&◌, ◌||◌, cond, eqb, List, [], ◌∷◌, map, codes, Option, Some, None, refl, sym, ◌∙◌, ap, subst}
+use Rattle.std.proofs.Common.{◌≡◌, ℕ, zero, suc, Bool, true, false, not, ◌&&◌, ◌||◌, cond, eqb, List, [], ◌∷◌, codes, Option, Some, None, refl, sym, ap, subst}
 use Rattle.lf_ast.specs.Functions.{Signature, aggregation, function_named}
 use Rattle.lf_ast.specs.Labels.{Bytes}
 use Rattle.lf_ast.specs.Rules.{RuleTree}
@@ -27,19 +27,12 @@ use Rattle.lf_semantics.specs.Strings.{Joining, Replacing, joining, replacing}
 use Rattle.lf_semantics.specs.Evaluation.{bare}
 use Rattle.lf_semantics.proofs.SamplesRepresented.{shape_with_text}
 use Rattle.lf_semantics.proofs.RowLaws.{represents_top, shape_bottom}
+use Rattle.lf_semantics.proofs.RowSets.{emptied_twice}
 use Rattle.lf_semantics.proofs.Soundness.{shape_of_row}
 use Rattle.lf_semantics.proofs.LeqLaws.{leq_join_left, normalized_live}
 
 abbrev pub IsNormalized : Sets → Type 0
 IsNormalized row = normalized row ≡ row
-
-falses_twice : (set : List Bool) → map (λ (on : Bool). false) (map (λ (on : Bool). false) set) ≡ map (λ (on : Bool). false) set
-falses_twice [] = refl
-falses_twice (b ∷ set) = ap (λ (s : List Bool). false ∷ s) (falses_twice set)
-
-pub emptied_twice : (row : Sets) → emptied (emptied row) ≡ emptied row
-emptied_twice [] = refl
-emptied_twice (set ∷ row) = ap (λ (s : List Bool). s ∷ emptied (emptied row)) (falses_twice set) ∙ ap (λ (r : Sets). map (λ (on : Bool). false) set ∷ r) (emptied_twice row)
 
 pub normalized_emptied : (row : Sets) → IsNormalized (emptied row)
 normalized_emptied row = elim (is_live (emptied row)) as (λ b. cond b (emptied row) (emptied (emptied row)) ≡ emptied row) [ true ↦ refl | false ↦ emptied_twice row ]

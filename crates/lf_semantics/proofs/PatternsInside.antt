@@ -1,9 +1,7 @@
 -- Each breach of patterns and selectors stands where the expression does.
-use Rattle.std.proofs.Common.{◌≡◌, ℕ, zero, suc, List, inl, inr, Option, Some, None, sym, subst}
+use Rattle.std.proofs.Common.{ℕ, zero, suc, List, inl, inr, Option, Some, None}
 use Rattle.std.specs.Prelude.{option_and_then}
-use Rattle.lf_base.specs.declared.kind.Kind.{Kind}
-use Rattle.lf_base.specs.declared.place.Span.{Span}
-use Rattle.lf_base.specs.Faults.{LiesIn, fault}
+use Rattle.lf_base.specs.Faults.{LiesIn}
 use Rattle.lf_ast.specs.Functions.{Signature, function_named}
 use Rattle.lf_ast.specs.Inside.{EachInside, Inside, MatchersInside}
 use Rattle.lf_ast.specs.Tree.{Tree, Trees, Number, Str, Selector, Subquery, Paren, Unary, Binary, Call, Aggregate, Nil, Next}
@@ -13,18 +11,16 @@ use Rattle.lf_ast.specs.declared.functions.LabelEffect.{LabelEffect}
 use Rattle.lf_ast.specs.declared.functions.LabelEffect.TheVariants.{LabelReplace}
 use Rattle.lf_semantics.specs.Parts.{argument_at}
 use Rattle.lf_semantics.specs.PatternBreaches.{AnyBreaksPatterns, BreaksPatterns, HasUnread, IsUnreadString, called_with, pattern_argument, placed_string}
+use Rattle.lf_ast.proofs.BreachesInside.{at_span}
 use Rattle.lf_semantics.proofs.Members.{one_of}
 
 module _ (n : ℕ) where
-  at_span : (kind : Kind) (span : Span) (f : Fault) → LiesIn n span → f ≡ fault kind span → LiesIn n f.span
-  at_span kind span f within is = subst (λ (g : Fault). LiesIn n g.span) (sym is) within
-
   at_matcher : (matchers : List Matcher) (f : Fault) → MatchersInside n matchers → HasUnread matchers f → LiesIn n f.span
   at_matcher matchers f h unread =
-      at_span _ unread.0.value_span f (one_of (λ (m : Matcher). LiesIn n m.label_span × LiesIn n m.value_span) matchers unread.0 h unread.1).1 unread.3.1
+      at_span n _ unread.0.value_span f (one_of (λ (m : Matcher). LiesIn n m.label_span × LiesIn n m.value_span) matchers unread.0 h unread.1).1 unread.3.1
 
   at_string : (e : Tree) (f : Fault) → Inside n e → IsUnreadString (placed_string e) f → LiesIn n f.span
-  at_string (Str text span) f h unread = at_span _ span f h unread.1
+  at_string (Str text span) f h unread = at_span n _ span f h unread.1
   at_string (Paren of span) f h unread = at_string of f h.1 unread
   at_string (Number text span) f h unread = absurd unread
   at_string (Selector name matchers sight span) f h unread = absurd unread
@@ -52,7 +48,7 @@ module _ (n : ℕ) where
     pattern_within (Number text span) f h b = absurd b
     pattern_within (Str text span) f h b = absurd b
     pattern_within (Selector name matchers sight span) f h (inl b) = at_matcher matchers f h.1 b
-    pattern_within (Selector name matchers sight span) f h (inr b) = at_span _ span f h.0 b.1
+    pattern_within (Selector name matchers sight span) f h (inr b) = at_span n _ span f h.0 b.1
     pattern_within (Subquery of sight span) f h b = pattern_within of f h.1 b
     pattern_within (Paren of span) f h b = pattern_within of f h.1 b
     pattern_within (Unary minus of span) f h b = pattern_within of f h.1 b

@@ -88,11 +88,11 @@ any_at (x ∷ xs) zero h = rw h refl
 any_at (true ∷ xs) (suc i) h = refl
 any_at (false ∷ xs) (suc i) h = any_at xs i h
 
-pub live : (row : Sets) → ((l : ℕ) → l < length row → (c : ℕ) × (holds row l c ≡ true)) → is_live row ≡ true
-live [] h = refl
-live (set ∷ row) h =
+pub live_when : (row : Sets) → ((l : ℕ) → l < length row → (c : ℕ) × (holds row l c ≡ true)) → is_live row ≡ true
+live_when [] h = refl
+live_when (set ∷ row) h =
     let first = h 0 (omega arith) in
-    let rest : is_live row ≡ true = live row (λ l b. h (suc l) (omega arith)) in
+    let rest : is_live row ≡ true = live_when row (λ l b. h (suc l) (omega arith)) in
     rw (any_at set first.0 first.1, rest) refl
 
 module _ (u : Listing) (p : IsListing u) where
@@ -106,7 +106,7 @@ module _ (u : Listing) (p : IsListing u) where
   -- a row that holds the texts of a label set isn't empty, since each label has a name
   pub live_of_holds : (row : Sets) (s : Labels) → HasShape u row → HoldsEach row s → is_live row ≡ true
   live_of_holds row s shape each =
-      live row (λ l b.
+      live_when row (λ l b.
       let n = name_of u p l (omega (arith, length_row row shape)) in
       let P : ℕ → Type 0 = λ k. (c : ℕ) × (holds row k c ≡ true) in
       subst P n.1 (class_of u (label_of u n.0) (value_of s n.0), each n.0))

@@ -5,6 +5,7 @@ use Rattle.std.specs.Option.{option_map_or}
 use Rattle.std.specs.Str.{bytes_eq}
 use Rattle.std.proofs.lemmas.Bool.Decides.{nat_tests}
 use Rattle.std.proofs.lemmas.Bool.{or_cases}
+use Rattle.std.proofs.lemmas.Option.{none-some, same_Some}
 use Rattle.lf_ast.specs.Labels.{Bytes, Labels}
 use Rattle.lf_ast.specs.declared.expr.Matcher.{Matcher}
 use Rattle.lf_ast.specs.declared.expr.MatchOp.{MatchOp}
@@ -103,12 +104,9 @@ says m s e h = by m.op refl e h
     by Matches q e h = absurd (cc)
     by NotMatches q e h = absurd (cc)
 
-some_same : (a b : Bytes) → Some a ≡ Some b → a ≡ b
-some_same a b e = cc
-
 first_name_by : (m : Matcher) (rest : Option Bytes) (s : Labels) (n : Bytes) (b : Bool) → (is_equal m.op && bytes_eq m.label metric) ≡ b → passes m.op m.value (value_of s m.label) ≡ true
     → (rest ≡ Some n → value_of s metric ≡ n) → cond b (Some m.value) rest ≡ Some n → value_of s metric ≡ n
-first_name_by m rest s n true e h k f = says m s e h ∙ some_same m.value n f
+first_name_by m rest s n true e h k f = says m s e h ∙ same_Some m.value n f
 first_name_by m rest s n false e h k f = k f
 
 module _ (u : Listing) where
@@ -119,16 +117,10 @@ module _ (u : Listing) where
   -- what a selector sees has the name that it says
   selected_name_is : (name : Option Bytes) (matchers : List Matcher) (s : Labels) (n : Bytes) → HasName name s → PassesEach matchers s → selected_name name matchers ≡ Some n → value_of s metric ≡ n
   selected_name_is None matchers s n h k e = first_name_is matchers s n k e
-  selected_name_is (Some m) matchers s n h k e = h ∙ some_same m n e
+  selected_name_is (Some m) matchers s n h k e = h ∙ same_Some m n e
 
 no_row : Option Sets
 no_row = None
-
-none_some : (row : Sets) → None ≡ Some row → ⊥
-none_some row e = cc
-
-some_row : (r q : Sets) → Some r ≡ Some q → r ≡ q
-some_row r q e = cc
 
 module _ (u : Listing) (p : IsListing u) (env : Environment) (ok : IsEnvironment u env) where
   -- shapes
@@ -148,11 +140,11 @@ module _ (u : Listing) (p : IsListing u) (env : Environment) (ok : IsEnvironment
 
   shape_named : (later : Environment) (n : Bytes) (o : Option Sets) → row_named later n ≡ o → AllByRecursion (λ entry. IsRow u entry.1) later → HasShape u (row_or_series u o n)
   shape_named later n None e rows = shape_series n
-  shape_named [] n (Some row) e rows = absurd (none_some row e)
+  shape_named [] n (Some row) e rows = absurd (none-some row e)
   shape_named (entry ∷ later) n (Some row) e rows = by (bytes_eq entry.0 n) e (λ f. shape_named later n (Some row) f rows.1)
     where
       by : (b : Bool) → cond b (Some entry.1) (row_named later n) ≡ Some row → (row_named later n ≡ Some row → HasShape u row) → HasShape u row
-      by true e rest = let P : Sets → Type 0 = λ x. HasShape u x in subst P (some_row entry.1 row e) rows.0.0
+      by true e rest = let P : Sets → Type 0 = λ x. HasShape u x in subst P (same_Some entry.1 row e) rows.0.0
       by false e rest = rest e
 
   pub shape_seen : (o : Option Bytes) → HasShape u (seen_row u env o)
@@ -179,17 +171,17 @@ module _ (u : Listing) (p : IsListing u) (env : Environment) (ok : IsEnvironment
             subst P (sym same) (eqb-same (class_of u (label_of u name) (value_of s metric)))
 
     represents_named : (s : Labels) (o : Option Sets) → row_named env (value_of s metric) ≡ o → Contains S s ⊎ Contains N s → Represents u (row_or_series u o (value_of s metric)) s
-    represents_named s (Some row) e (inl c) = absurd (none_some row (sym (admits.scraped s c).2 ∙ e))
+    represents_named s (Some row) e (inl c) = absurd (none-some row (sym (admits.scraped s c).2 ∙ e))
     represents_named s (Some row) e (inr c) =
         let r = admits.recorded s c in
         let P : Sets → Type 0 = λ x. Represents u x s in
-        subst P (some_row r.1 row (sym r.2 ∙ e)) r.3
-    represents_named s None e (inr c) = let r = admits.recorded s c in absurd (none_some r.1 (sym e ∙ r.2))
+        subst P (same_Some r.1 row (sym r.2 ∙ e)) r.3
+    represents_named s None e (inr c) = let r = admits.recorded s c in absurd (none-some r.1 (sym e ∙ r.2))
     represents_named s None e (inl c) = represents_series s (admits.scraped s c).1
 
     unrecorded_by : (entry : Bytes × Sets) (later : Environment) (v : Bytes) (b : Bool) → bytes_eq entry.0 v ≡ b → cond b (Some entry.1) (row_named later v) ≡ None
         → (bytes_eq entry.0 v ≡ false) × (row_named later v ≡ None)
-    unrecorded_by entry later v true e f = absurd (none_some entry.1 (sym f))
+    unrecorded_by entry later v true e f = absurd (none-some entry.1 (sym f))
     unrecorded_by entry later v false e f = (e, f)
 
     -- the class of a name that isn't recorded is none of the recorded names
@@ -221,7 +213,7 @@ module _ (u : Listing) (p : IsListing u) (env : Environment) (ok : IsEnvironment
 
     represents_with_recorded : (first : Sets) (later : Environment) (s : Labels) → HasShape u first → AllByRecursion (λ entry. IsRow u entry.1) later → RepresentsIn first later s → Represents u (with_recorded u later first) s
     represents_with_recorded first [] s shape rows (inl represents) = represents
-    represents_with_recorded first [] s shape rows (inr named) = absurd (none_some named.0 named.1)
+    represents_with_recorded first [] s shape rows (inr named) = absurd (none-some named.0 named.1)
     represents_with_recorded first (entry ∷ later) s shape rows represents =
         by (bytes_eq entry.0 (value_of s metric)) refl represents (represents_with_recorded first later s shape rows.1)
       where
@@ -234,7 +226,7 @@ module _ (u : Listing) (p : IsListing u) (env : Environment) (ok : IsEnvironment
         by false e (inr named) rest = represents_join_left u p (with_recorded u later first) entry.1 s before (rest (inr named))
         by true e (inr named) rest =
             let P : Sets → Type 0 = λ x. Represents u x s in
-            represents_join_right u p (with_recorded u later first) entry.1 s before (subst P (sym (some_row entry.1 named.0 named.1)) named.2)
+            represents_join_right u p (with_recorded u later first) entry.1 s before (subst P (sym (same_Some entry.1 named.0 named.1)) named.2)
 
     represents_seen : (s : Labels) (o : Option Bytes) → ((n : Bytes) → o ≡ Some n → value_of s metric ≡ n) → Contains S s ⊎ Contains N s → Represents u (seen_row u env o) s
     represents_seen s (Some n) is c =

@@ -2,6 +2,7 @@
 use Rattle.std.proofs.Common.{◌≡◌, ℕ, zero, suc, Bool, true, false, List, [], Option, Some, None, refl, subst, arith}
 use Rattle.std.specs.Prelude.{option_map}
 use Rattle.std.specs.List.{Contains}
+use Rattle.std.proofs.lemmas.Option.{same_Some}
 use Rattle.lf_ast.specs.Functions.{Signature, aggregation, function_named}
 use Rattle.lf_ast.specs.Labels.{Labels}
 use Rattle.lf_ast.specs.Tree.{Tree, Trees, Number, Str, Selector, Subquery, Paren, Unary, Binary, Call, Aggregate, Nil, Next}
@@ -29,15 +30,12 @@ grouped_known u false grouping arguments known = (all_back (IsKnown u) arguments
 module _ (u : Listing) where
   -- the matchers of the selector that `absent` looks for are named in its argument
 
-  some_same : (a b : Sought) → Some a ≡ Some b → a ≡ b
-  some_same a b e = cc
-
   sought_through : (o : Option Sought) (s : Sought) → option_map (λ sought. record { matchers = sought.matchers; may_be_bare = true }) o ≡ Some s
       → ((t : Sought) → o ≡ Some t → AllKnown u (matchers_mentions t.matchers)) → AllKnown u (matchers_mentions s.matchers)
   sought_through None s e h = absurd (cc)
   sought_through (Some t) s e h =
       let P : Sought → Type 0 = λ x. AllKnown u (matchers_mentions x.matchers) in
-      subst P (some_same (record { matchers = t.matchers; may_be_bare = true }) s e) (h t refl)
+      subst P (same_Some (record { matchers = t.matchers; may_be_bare = true }) s e) (h t refl)
 
   none_sought : (s : Sought) → None ≡ Some s → ⊥
   none_sought s e = cc
@@ -45,7 +43,7 @@ module _ (u : Listing) where
   sought_known : (e : Tree) → Covers u e → (s : Sought) → sought_by e ≡ Some s → AllKnown u (matchers_mentions s.matchers)
   sought_known (Selector name matchers sight span) known s e =
       let P : Sought → Type 0 = λ x. AllKnown u (matchers_mentions x.matchers) in
-      subst P (some_same _ s e) (all_back (IsKnown u) (name_mentions name) (matchers_mentions matchers) known)
+      subst P (same_Some _ s e) (all_back (IsKnown u) (name_mentions name) (matchers_mentions matchers) known)
   sought_known (Paren of span) known s e = sought_through (sought_by of) s e (λ t f. sought_known of known t f)
   sought_known (Number text span) known s e = absurd (none_sought s e)
   sought_known (Str text span) known s e = absurd (none_sought s e)

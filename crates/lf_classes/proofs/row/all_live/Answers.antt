@@ -2,7 +2,8 @@ use Rattle.std.proofs.Common.{◌≡◌, ℕ, true, inl, inr, sym, subst, arith}
 use Rattle.std.proofs.lemmas.Bool.{cases_lt}
 use Rattle.lf_semantics.specs.ClassRows.{holds}
 use Rattle.lf_classes.specs.views.Cut.{cut}
-use Rattle.lf_classes.proofs.Cutting.{length-cut, live_when}
+use Rattle.lf_classes.proofs.Cutting.{length-cut}
+use Rattle.lf_semantics.proofs.RowLaws.{live_when}
 use Rattle.lf_classes.proofs.row.all_live.Goals as goal
 
 pub loop-label-init : goal.loop-label-init

@@ -1,6 +1,7 @@
-use Rattle.std.proofs.Common.{◌≡◌, Bool, true, false, not, refl, sym, ◌∙◌, ap, subst}
+use Rattle.std.proofs.Common.{◌≡◌, not, sym, ◌∙◌, ap, subst}
 use Rattle.lf_ast.specs.Rules.{RuleTree, rule_tree, rule_trees}
 use Rattle.std.proofs.lemmas.Bool.{not-true}
+use Rattle.std.proofs.lemmas.Option.{none-some}
 use Rattle.lf_ast.specs.Labels.{Bytes}
 use Rattle.lf_flow.specs.Raising.{joined}
 use Rattle.lf_semantics.specs.ClassRows.{Sets}
@@ -8,7 +9,6 @@ use Rattle.lf_semantics.specs.Environments.{IsRow, Leq, recorded_row}
 use Rattle.lf_semantics.specs.RowTable.{Environment, row_named}
 use Rattle.lf_semantics.proofs.NormalizedRows.{recorded_row_is}
 use Rattle.lf_deps.proofs.RuleTrees.{tree_at}
-use Rattle.lf_fix.proofs.Raising.{none_some}
 use Rattle.lf_fix.proofs.Rounds.{has_row, joined_tells, same_shape}
 use Rattle.lf_fix.proofs.solving.raise.Goals as goal
 
@@ -17,7 +17,7 @@ raise-requires-clause-recorded c none =
     let r : RuleTree = rule_tree c.get-rule.result.now in
     let env : Environment = c.args.env.now in
     let at = has_row c.args.universe.now c.requires.listing (rule_trees c.args.rules.now) env c.args.k r c.requires.of_rules (tree_at c.args.rules.now c.args.k c.get-rule.result.now c.get-rule.ensures.value) c.if-rule.false in
-    none_some at.0 (sym none ∙ ap (λ (name : Bytes). row_named env name) c.as_str.ensures ∙ at.1)
+    none-some at.0 (sym none ∙ ap (λ (name : Bytes). row_named env name) c.as_str.ensures ∙ at.1)
 
 pub raise-requires-clause-shape : goal.raise-requires-clause-shape
 raise-requires-clause-shape c other is =

@@ -1,5 +1,5 @@
 use Rattle.std.proofs.Common.{arith}
-use Rattle.lf_classes.proofs.Cutting.{count_at}
+use Rattle.lf_semantics.proofs.RowSets.{count_at}
 use Rattle.lf_classes.proofs.Changes.{label_within, shape_view}
 use Rattle.lf_classes.proofs.row.Row.drop_label.Goals as goal
 

@@ -1,6 +1,7 @@
 use Rattle.std.proofs.Common.{false, get_or, sym, ◌∙◌, ap, arith}
 use Rattle.lf_classes.specs.views.Cut.{cut, shown}
-use Rattle.lf_classes.proofs.Cutting.{count_at, start_within}
+use Rattle.lf_semantics.proofs.RowSets.{count_at}
+use Rattle.lf_classes.proofs.Cutting.{start_within}
 use Rattle.lf_classes.proofs.Changes.{label_within, shape_view}
 use Rattle.lf_classes.proofs.LabelChanges.{listed_replaced, replaced_dead}
 use Rattle.lf_classes.proofs.row.Row.set_classes.Goals as goal

@@ -1,10 +1,11 @@
 use Rattle.std.proofs.Common.{◌↔◌, IsTrue, not, Some, sym, subst, ◌∙◌, ap, arith, get_or}
 use Rattle.std.proofs.Math.ListN.{set}
+use Rattle.std.proofs.lemmas.Option.{same_Some}
 use Rattle.lf_semantics.specs.ClassRows.{Sets, join}
 use Rattle.lf_semantics.specs.Environments.{Leq}
 use Rattle.lf_semantics.specs.RowTable.{row_named}
 use Rattle.lf_flow.specs.Raising.{entries, joined}
-use Rattle.lf_flow.proofs.Entries.{joined_row, named_row, recorded_within, some_same}
+use Rattle.lf_flow.proofs.Entries.{joined_row, named_row, recorded_within}
 use Rattle.lf_flow.proofs.env.Env.raise.Goals as goal
 
 pub index_mut-requires : goal.index_mut-requires
@@ -51,4 +52,4 @@ returns-clause-added c = λ other e.
     ∙ ap (λ k. Some (get_or rows k own)) (sym c.place-place.ensures.place)
     ∙ ap Some (sym c.index_mut.ensures.value) in
     let P : Sets → Type 0 = λ x. IsTrue (not c.join.result) ↔ Leq c.args.row.now x in
-    subst P (some_same own other (sym named ∙ e)) c.join.ensures.added
+    subst P (same_Some own other (sym named ∙ e)) c.join.ensures.added
