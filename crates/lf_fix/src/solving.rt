@@ -24,14 +24,30 @@ pub fn solve(alloc: Global, universe: &Universe, rules: &Seq<Rule>) -> Result<En
     requires { CoversRules universe.now (rule_trees rules.now) }
     ensures { IfOk result (IsLeast universe.now (rule_trees rules.now)) }
 {
-    // For what its contract says of the universe.
-    let _labels = universe.labels();
     let sources = Sources::of(alloc, rules)?;
     let dependents = Dependents::of(alloc, &sources)?;
     let order = order_of(alloc, &sources, rules)?;
+    from_bottom(alloc, universe, rules, &dependents, &order)
+}
+
+/// The same, by the rules that select each name and by the order of the rules. It begins where no row has a class.
+fn from_bottom(
+    alloc: Global,
+    universe: &Universe,
+    rules: &Seq<Rule>,
+    dependents: &Dependents,
+    order: &Seq<u32>,
+) -> Result<Env, Memory>
+    requires covers { CoversRules universe.now (rule_trees rules.now) }
+    requires index { IsIndexOf (rule_trees rules.now) dependents.now }
+    requires order { IsOrder (rule_trees rules.now) order.now }
+    ensures { IfOk result (IsLeast universe.now (rule_trees rules.now)) }
+{
+    // For what its contract says of the universe.
+    let _labels = universe.labels();
     let mut dirty = vec![in alloc; true; rules.len()]?;
     let env = Env::bottom(alloc, universe, rules)?;
-    rounds(alloc, universe, rules, &dependents, &order, env, &mut dirty)
+    rounds(alloc, universe, rules, dependents, order, env, &mut dirty)
 }
 
 /// Steps of all rules in their order, round by round, until one adds no class. At first each rule is dirty.

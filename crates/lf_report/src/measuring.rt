@@ -43,14 +43,27 @@ pub fn measure(alloc: Global, rules: &Seq<Rule>) -> Result<Universe, JudgeEnd>
         });
     }
     let universe = build(alloc, rules)?;
-    let words = word_count(alloc, &universe, rules)?;
+    limit_words(alloc, &universe, rules)?;
+    Ok(universe)
+}
+
+/// Refuses rules that pass the limit on words, where they pass none of those before it.
+fn limit_words(alloc: Global, universe: &Universe, rules: &Seq<Rule>) -> Result<(), JudgeEnd>
+    requires universe { universe.now ≡ universe_of (rule_trees rules.now) }
+    requires few { length rules.now ≤ most_rules }
+    requires labels { label_count (universe_of (rule_trees rules.now)) ≤ most_labels }
+    requires classes { class_count_of (universe_of (rule_trees rules.now)) ≤ most_classes }
+    ensures within { IfOk result (λ _. AreWithin (rule_trees rules.now)) }
+    ensures refused { IfErr result (Ends (rule_trees rules.now)) }
+{
+    let words = word_count(alloc, universe, rules)?;
     if words > MOST_WORDS {
         return Err(JudgeEnd::Limit {
             quantity: WORDS,
             found: words,
         });
     }
-    Ok(universe)
+    Ok(())
 }
 
 /// The universe of rules that aren't too many, where it passes no limit.

@@ -66,9 +66,25 @@ fn rules_report(
     ensures refused { IfErr result (Ends (rule_trees rules.now)) }
 {
     let mut universe = measure(alloc, rules)?;
+    let report = report_within(alloc, file, bytes, &mut universe, rules, labels)?;
+    Ok(report)
+}
+
+/// The report on rules that pass no limit and have this universe, with verdicts where `labels` asks for them. `file` is the name as it is shown.
+fn report_within(
+    alloc: Global,
+    file: &str,
+    bytes: &[u8],
+    universe: &mut Universe,
+    rules: &Seq<Rule>,
+    labels: bool,
+) -> Result<Text, Memory>
+    requires { universe.old ≡ universe_of (rule_trees rules.now) }
+    ensures { (asked : Asked) → file.now ≡ shown asked.file → labels ≡ asked.labels → IfOk result (IsReportOn asked bytes.now (Rules (rule_trees rules.now))) }
+{
     if labels {
-        prepare(alloc, &mut universe, rules)?;
-        let report = labels_report(alloc, file, bytes, &universe, rules)?;
+        prepare(alloc, universe, rules)?;
+        let report = labels_report(alloc, file, bytes, universe, rules)?;
         return Ok(report);
     }
     let report = totals_report(alloc, rules.len())?;

@@ -3,7 +3,7 @@ use Rattle.std.specs.Prelude.{replicate}
 use Rattle.lf_ast.specs.Rules.{rule_trees}
 use Rattle.lf_semantics.proofs.Members.{clash}
 use Rattle.lf_fix.proofs.Rounds.{rises_start}
-use Rattle.lf_fix.proofs.solving.solve.Goals as goal
+use Rattle.lf_fix.proofs.solving.from_bottom.Goals as goal
 
 -- at first each rule is dirty
 all_dirty : (n k : ℕ) → get_or (replicate n true) k true ≡ true
@@ -17,4 +17,4 @@ rounds-requires-clause-hold c k r is free =
     absurd (clash (all_dirty c.len.result k) (subst P (c.deref_mut.ensures.value ∙ c.in_ok-dirty.ensures.items_if_clones_equal (λ y e. e)) free))
 
 pub rounds-requires-clause-rises : goal.rounds-requires-clause-rises
-rounds-requires-clause-rises c = rises_start c.args.universe.now c.labels-labels.ensures.within.listing (rule_trees c.args.rules.now) c.in_ok-env.env c.requires c.in_ok-env.ensures
+rounds-requires-clause-rises c = rises_start c.args.universe.now c.labels-labels.ensures.within.listing (rule_trees c.args.rules.now) c.in_ok-env.env c.requires.covers c.in_ok-env.ensures
