@@ -28,7 +28,7 @@ use std::alloc::Global;
 
 /// The node that begins on a row of a file, and where the line behind it begins. The lines behind the row's own begin at `next`.
 ///
-/// `depth` is how many collections may stand one in another from here on. The later lines of a scalar have at least `above` spaces. `own` says that the node is a
+/// `depth` is how many collections may stand one in another from here on. The later lines of a plain or block scalar have at least `above` spaces. `own` says that the node is a
 /// sequence at the indent of the mapping around it.
 #[cycle(read)]
 pub fn node(

@@ -14,7 +14,7 @@ use crate::rows::next_row;
 use lf_base::{Kind, Refusal, Span};
 use lf_scalar::lines::{blanks, past};
 
-/// The part that begins on a later line, at its first character. The line is indented, and no mark. The file doesn't end before it.
+/// The part that begins on a later line, at its first character. The line may have any indent, but no tab behind it, and is no mark. The file doesn't end before it.
 pub fn on_line(bytes: &[u8], next: usize) -> Result<(Row<'_>, usize), Refusal>
     requires text { IsUtf8 bytes.now }
     requires room { length bytes.now ≤ 2 ^ 31 }

@@ -56,7 +56,7 @@ fn scalar_value(
 
 /// The scalar or the flow collection that a row of a file begins, and where the line begins behind it. The lines behind the row's own begin at `next`.
 ///
-/// Its later lines have at least `above` spaces, and `depth` is how many collections may stand one in another from here on: a flow collection is `TooDeep` where that is 0.
+/// The later lines of a plain or block scalar have at least `above` spaces, and `depth` is how many collections may stand one in another from here on: a flow collection is `TooDeep` where that is 0.
 #[tactic(auto, unfolding(crate::specs::reading::Trees::value_on))]
 pub fn value(
     alloc: Global,
