@@ -1,5 +1,5 @@
 -- What a report says of the labels of rules is true.
-use Rattle.std.proofs.Common.{◌≡◌, ◌↔◌, ℕ, zero, suc, ◌+◌, ◌<◌, Bool, true, false, not, cond, List, [], ◌∷◌, ◌++◌, map, length, get_or, length-append, Option, Some, refl, sym, ◌∙◌, ap, subst, arith, codes, if◌then◌else◌}
+use Rattle.std.proofs.Common.{◌≡◌, ◌↔◌, ℕ, zero, suc, ◌+◌, ◌<◌, Bool, true, false, not, cond, List, [], ◌∷◌, ◌++◌, map, length, get_or, length-append, Option, Some, refl, sym, ◌∙◌, ap, ap₂, subst, arith, codes, if◌then◌else◌}
 use Rattle.std.specs.Prelude.{slice_get}
 use Rattle.std.specs.List.{AllByRecursion, Contains, count_by, flat_map}
 use Rattle.std.proofs.lemmas.List.Sums.{sum_by-cons}
@@ -29,9 +29,6 @@ use Rattle.lf_accept.proofs.AcceptedRules.{sets_no_name}
 use Rattle.lf_report.proofs.LabelTexts.{text_same}
 use Rattle.lf_accept.proofs.Starless.{no_star}
 use Rattle.lf_report.proofs.Universes.{shape_rule}
-
-two : {A B C : Type 0} (f : A → B → C) (a a' : A) (b b' : B) → a ≡ a' → b ≡ b' → f a b ≡ f a' b'
-two f a a' b b' h k = ap (λ x. f x b) h ∙ ap (f a') k
 
 -- ---- verdicts
 
@@ -160,17 +157,17 @@ module _ (rules : List RuleTree) (named : (r : RuleTree) → Contains rules r �
 
   all_lines : (file bytes : Bytes) (rs : List RuleTree) → flat_map (spoken_lines file bytes) (map speak rs) ≡ rules_lines file bytes (labels_of u) row rs
   all_lines file bytes [] = refl
-  all_lines file bytes (r ∷ rs) = two (λ (l m : List Bytes). l ++ m) _ _ _ _ (lines_same file bytes r) (all_lines file bytes rs)
+  all_lines file bytes (r ∷ rs) = ap₂ (λ (l m : List Bytes). l ++ m) (lines_same file bytes r) (all_lines file bytes rs)
 
   all_verdicts : (rs : List RuleTree) → flat_map (λ (s : Spoken). verdicts_said s.said) (map speak rs) ≡ verdicts_of row rs
   all_verdicts [] = refl
-  all_verdicts (r ∷ rs) = two (λ (l m : List Verdict). l ++ m) _ _ _ _ (verdicts_same (labels_of u) (row r) (each_set r)) (all_verdicts rs)
+  all_verdicts (r ∷ rs) = ap₂ (λ (l m : List Verdict). l ++ m) (verdicts_same (labels_of u) (row r) (each_set r)) (all_verdicts rs)
 
   all_empty : (rs : List RuleTree) → count_by (λ (s : Spoken). is_empty s.said) (map speak rs) ≡ empty_count row rs
   all_empty [] = refl
   all_empty (r ∷ rs) =
       sum_by-cons (λ (s : Spoken). cond (is_empty s.said) 1 0) (speak r) (map speak rs)
-      ∙ two (λ (b : Bool) (n : ℕ). cond b 1 0 + n) _ _ _ _ (empty_same (labels_of u) (row r)) (all_empty rs)
+      ∙ ap₂ (λ (b : Bool) (n : ℕ). cond b 1 0 + n) (empty_same (labels_of u) (row r)) (all_empty rs)
       ∙ sym (sum_by-cons (λ y. cond (is_empty_rule row y) 1 0) r rs)
 
   true_report : (asked : Asked) (bytes : Bytes) → asked.labels ≡ true → IsTrueReport asked bytes rules (report_of asked bytes (Rules rules) env)
@@ -183,8 +180,8 @@ module _ (rules : List RuleTree) (named : (r : RuleTree) → Contains rules r �
     text =
         ap (λ (b : Bool). if b then labels_text asked.file bytes row rules else totals_text rules) labels
         ∙ ap (λ (lines : List Bytes). lines_text (lines ++ totals_line 0 (length rules) ∷ verdicts_line (verdicts_of row rules) (empty_count row rules) ∷ [])) (sym (all_lines asked.file bytes rules))
-        ∙ two (λ (verdicts : List Verdict) (empty : ℕ). lines_text (flat_map (spoken_lines asked.file bytes) (map speak rules) ++ totals_line 0 (length rules) ∷ verdicts_line verdicts empty ∷ []))
-        _ _ _ _ (sym (all_verdicts rules)) (sym (all_empty rules));
+        ∙ ap₂ (λ (verdicts : List Verdict) (empty : ℕ). lines_text (flat_map (spoken_lines asked.file bytes) (map speak rules) ++ totals_line 0 (length rules) ∷ verdicts_line verdicts empty ∷ []))
+        (sym (all_verdicts rules)) (sym (all_empty rules));
     all_true = all_spoken rules;
   }
 

@@ -1,19 +1,12 @@
 -- That a label may be on a sample is said of its set in two ways.
-use Rattle.std.proofs.Common.{◌≡◌, ℕ, suc, Bool, true, false, not, eqb, ◌&&◌, ◌||◌, List, [], ◌∷◌, refl, sym, ◌∙◌, ap, arith}
+use Rattle.std.proofs.Common.{◌≡◌, ℕ, suc, Bool, false, not, eqb, ◌&&◌, ◌||◌, List, [], ◌∷◌, refl, sym, ◌∙◌, ap, arith}
 use Rattle.std.specs.List.{list_any}
+use Rattle.lf_laws.proofs.Booleans.{and_false, and_true}
 use Rattle.lf_semantics.specs.ClassRows.{indexed_from}
 use Rattle.lf_semantics.specs.Listing.{Listing}
 use Rattle.lf_semantics.specs.RowTable.{has_class}
 use Rattle.lf_semantics.proofs.Places.{eqb-other}
 use Rattle.lf_report.specs.Verdicts.{has_text}
-
-and_true : (a : Bool) → (a && true) ≡ a
-and_true true = refl
-and_true false = refl
-
-and_false : (a : Bool) → (a && false) ≡ false
-and_false true = refl
-and_false false = refl
 
 -- each class but the first is that of a text
 later_text : (k : ℕ) (set : List Bool) → list_any (λ on. on) (indexed_from (λ class on. on && not (eqb class 0)) (suc k) set) ≡ list_any (λ on. on) set

@@ -1,5 +1,5 @@
 -- Rules have one least environment: two that lie in each other are equal, since their rows have no class where some label has none.
-use Rattle.std.proofs.Common.{◌≡◌, ℕ, suc, Bool, true, false, cond, List, [], ◌∷◌, map, length, get_or, refl, sym, ◌∙◌, ap}
+use Rattle.std.proofs.Common.{◌≡◌, Bool, true, false, cond, List, [], ◌∷◌, map, length, refl, sym, ◌∙◌, ap, ap₂}
 use Rattle.std.specs.List.{AllByRecursion}
 use Rattle.lf_ast.specs.Labels.{Bytes}
 use Rattle.lf_ast.specs.Rules.{RuleTree}
@@ -7,49 +7,13 @@ use Rattle.lf_semantics.specs.ClassRows.{Sets, emptied, holds, is_live, normaliz
 use Rattle.lf_semantics.specs.Environments.{EnvironmentLeq, IsLeast, IsRow, Leq}
 use Rattle.lf_semantics.specs.Listing.{Listing}
 use Rattle.lf_semantics.specs.RowTable.{Environment}
-
-clash : {b : Bool} → b ≡ true → b ≡ false → ⊥
-clash e f = cc
-
-two : {A B C : Type 0} (f : A → B → C) (a a' : A) (b b' : B) → a ≡ a' → b ≡ b' → f a b ≡ f a' b'
-two f a a' b b' h k = ap (λ x. f x b) h ∙ ap (f a') k
+use Rattle.lf_semantics.proofs.Members.{clash}
+use Rattle.lf_semantics.proofs.RowSets.{emptied_same, same_sets}
 
 same_bit : (a b : Bool) → (a ≡ true → b ≡ true) → (b ≡ true → a ≡ true) → a ≡ b
 same_bit true b h k = sym (h refl)
 same_bit false true h k = k refl
 same_bit false false h k = refl
-
--- sets and rows with the same classes
-
-same_set : (xs ys : List Bool) → length xs ≡ length ys → ((c : ℕ) → get_or xs c false ≡ get_or ys c false) → xs ≡ ys
-same_set [] [] n h = refl
-same_set [] (y ∷ ys) n h = cc
-same_set (x ∷ xs) [] n h = cc
-same_set (x ∷ xs) (y ∷ ys) n h = let len : length xs ≡ length ys = cc in two (λ (z : Bool) (zs : List Bool). z ∷ zs) x y xs ys (h 0) (same_set xs ys len (λ c. h (suc c)))
-
-same_sets : (row other : Sets) → map length row ≡ map length other → ((l c : ℕ) → holds row l c ≡ holds other l c) → row ≡ other
-same_sets [] [] n h = refl
-same_sets [] (t ∷ other) n h = cc
-same_sets (s ∷ row) [] n h = cc
-same_sets (s ∷ row) (t ∷ other) n h =
-    let one : length s ≡ length t = cc in
-    let others : map length row ≡ map length other = cc in
-    two (λ (z : List Bool) (zs : Sets). z ∷ zs) s t row other (same_set s t one (λ c. h 0 c)) (same_sets row other others (λ l c. h (suc l) c))
-
-none_same : (xs ys : List Bool) → length xs ≡ length ys → map (λ (on : Bool). false) xs ≡ map (λ (on : Bool). false) ys
-none_same [] [] n = refl
-none_same [] (y ∷ ys) n = cc
-none_same (x ∷ xs) [] n = cc
-none_same (x ∷ xs) (y ∷ ys) n = let len : length xs ≡ length ys = cc in ap (λ (zs : List Bool). false ∷ zs) (none_same xs ys len)
-
-emptied_same : (row other : Sets) → map length row ≡ map length other → emptied row ≡ emptied other
-emptied_same [] [] n = refl
-emptied_same [] (t ∷ other) n = cc
-emptied_same (s ∷ row) [] n = cc
-emptied_same (s ∷ row) (t ∷ other) n =
-    let one : length s ≡ length t = cc in
-    let others : map length row ≡ map length other = cc in
-    two (λ (z : List Bool) (zs : Sets). z ∷ zs) _ _ _ _ (none_same s t one) (emptied_same row other others)
 
 -- the empty row has no class
 is_emptied : (row : Sets) → normalized row ≡ row → is_live row ≡ false → row ≡ emptied row
@@ -66,7 +30,7 @@ module _ (u : Listing) where
       by true e =
           let there = h e in
           let back = k there.0 in
-          same_sets row other shape (λ l c. same_bit (holds row l c) (holds other l c) (there.1 l c) (back.1 l c))
+          same_sets row other shape (λ l c b k. same_bit (holds row l c) (holds other l c) (there.1 l c) (back.1 l c))
       by false e = is_emptied row p.1 e ∙ emptied_same row other shape ∙ sym (is_emptied other q.1 (other_dead (is_live other) refl))
         where
           other_dead : (b : Bool) → is_live other ≡ b → is_live other ≡ false
@@ -78,7 +42,7 @@ module _ (u : Listing) where
   same_environment [] (b ∷ other) p q h k = absurd h
   same_environment (a ∷ env) [] p q h k = absurd h
   same_environment (a ∷ env) (b ∷ other) p q h k =
-      two (λ (x : Bytes × Sets) (xs : Environment). x ∷ xs) a b env other (two (λ (n : Bytes) (row : Sets). (n, row)) a.0 b.0 a.1 b.1 h.0 (same_row a.1 b.1 p.0 q.0 h.1 k.1))
+      ap₂ (λ (x : Bytes × Sets) (xs : Environment). x ∷ xs) (ap₂ (λ (n : Bytes) (row : Sets). (n, row)) h.0 (same_row a.1 b.1 p.0 q.0 h.1 k.1))
       (same_environment env other p.1 q.1 h.2 k.2)
 
   pub one_least : (rules : List RuleTree) (a b : Environment) → IsLeast u rules a → IsLeast u rules b → a ≡ b

@@ -1,5 +1,5 @@
 -- A text is the report, by what was found.
-use Rattle.std.proofs.Common.{◌≡◌, ℕ, Bool, true, false, List, [], ◌∷◌, length, sym, ◌∙◌, ap, subst, if◌then◌else◌}
+use Rattle.std.proofs.Common.{◌≡◌, ℕ, true, false, List, [], ◌∷◌, length, sym, ◌∙◌, ap, subst, if◌then◌else◌}
 use Rattle.lf_ast.specs.Labels.{Bytes}
 use Rattle.lf_ast.specs.Rules.{RuleTree}
 use Rattle.lf_base.specs.declared.kind.Kind.{Kind}
@@ -7,13 +7,11 @@ use Rattle.lf_base.specs.declared.place.Span.{Span}
 use Rattle.lf_semantics.specs.Environments.{IsLeast, rule_row}
 use Rattle.lf_semantics.specs.Listing.{Listing, universe_of}
 use Rattle.lf_semantics.specs.RowTable.{Environment}
+use Rattle.lf_semantics.proofs.Members.{clash}
 use Rattle.lf_report.specs.declared.asked.Asked.{Asked}
 use Rattle.lf_report.specs.Report.{IsReportOn}
 use Rattle.lf_report.specs.Founds.{Content, Refused, Rules}
 use Rattle.lf_report.specs.Report.{labels_text, lines_text, place_text, refused_line, totals_line, totals_text, verdicts_line, with_labels}
-
-clash : {b : Bool} → b ≡ true → b ≡ false → ⊥
-clash e f = cc
 
 module _ (asked : Asked) (bytes : Bytes) where
   -- verdicts are asked for
