@@ -1,7 +1,7 @@
 //! The text report on one file.
 ghost use Rattle.std.specs.Prelude.{◌≡◌, ℕ, List, [], ◌∷◌, ◌++◌, length, IfOk, IfErr};
 ghost use Rattle.lf_ast.specs.Rules.{rule_trees};
-ghost use Rattle.lf_semantics.specs.Environments.{IsLeast, rule_row};
+ghost use Rattle.lf_semantics.specs.Environments.{IsEnvironment, IsLeast, rule_row};
 ghost use Rattle.lf_semantics.specs.Listing.{universe_of};
 ghost use Rattle.lf_semantics.specs.RowTable.{Environment};
 ghost use Rattle.lf_report.specs.Report.{IsReportOn};
@@ -27,7 +27,7 @@ use lf_ast::Rule;
 use lf_base::{Kind, Memory, Seq, Span, Text};
 use lf_classes::Universe;
 use lf_fix::solve;
-use lf_flow::prepare;
+use lf_flow::{Env, prepare};
 use std::alloc::Global;
 
 /// The report on what was found in the file that is asked for, each line ended by a line feed. `bytes` are those of the file.
@@ -125,6 +125,23 @@ fn labels_report(
     ensures { (name : List ℕ) → file.now ≡ shown name → IfOk result (λ text. (env : Environment) × IsLeast universe.now (rule_trees rules.now) env × (text ≡ labels_text name bytes.now (rule_row universe.now env) (rule_trees rules.now))) }
 {
     let env = solve(alloc, universe, rules)?;
+    let report = solved_report(alloc, file, bytes, universe, &env, rules)?;
+    Ok(report)
+}
+
+/// The report on rules with the verdict of every label, by an environment. `file` is the name as it is shown.
+fn solved_report(
+    alloc: Global,
+    file: &str,
+    bytes: &[u8],
+    universe: &Universe,
+    env: &Env,
+    rules: &Seq<Rule>,
+) -> Result<Text, Memory>
+    requires universe { universe.now ≡ universe_of (rule_trees rules.now) }
+    requires env { IsEnvironment universe.now env.now }
+    ensures { (name : List ℕ) → file.now ≡ shown name → IfOk result (λ text. text ≡ labels_text name bytes.now (rule_row universe.now env.now) (rule_trees rules.now)) }
+{
     let mut report = Text::of(alloc, "")?;
     let said = push_rules(
         alloc,
@@ -132,7 +149,7 @@ fn labels_report(
         file,
         bytes,
         universe,
-        &env,
+        env,
         rules.as_slice(),
     )?;
     push_totals_line(alloc, &mut report, 0, rules.len())?;
