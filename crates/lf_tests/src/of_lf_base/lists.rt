@@ -13,31 +13,56 @@ fn lists_give_what_was_put_in(rt: HostRuntime) -> Result<(), Fail> {
     assert_eq!(rt; list.as_slice(), [7, 9].as_slice());
     assert_eq!(rt; list.len(), 2);
     assert_eq!(rt; *list.get(1), 9);
+    Ok(())
+}
+
+#[test]
+fn the_last_of_a_list_is_taken_first(rt: HostRuntime) -> Result<(), Fail> {
+    let mut list = Seq::of(rt.alloc(), &[3_u8, 4, 5])?;
+    assert_eq!(rt; list.as_slice(), [3, 4, 5].as_slice());
+    assert_eq!(rt; list.pop(), Some(5));
+    assert_eq!(rt; list.pop(), Some(4));
+    assert_eq!(rt; list.pop(), Some(3));
+    assert_eq!(rt; list.pop(), None);
+    Ok(())
+}
+
+#[test]
+fn copies_of_a_list_stay_as_they_were(rt: HostRuntime) -> Result<(), Fail> {
+    let mut list = Seq::of(rt.alloc(), &[7_u32, 9])?;
     let copy = list.copy()?;
     let clone = list.clone()?;
     assert_eq!(rt; list.pop(), Some(9));
-    assert_eq!(rt; list.pop(), Some(7));
-    assert_eq!(rt; list.pop(), None);
     assert_eq!(rt; copy.as_slice(), [7, 9].as_slice());
     assert_eq!(rt; clone.as_slice(), [7, 9].as_slice());
-    let of = Seq::of(rt.alloc(), &[3_u8, 4, 5])?;
-    assert_eq!(rt; of.as_slice(), [3, 4, 5].as_slice());
     Ok(())
 }
 
 #[test]
 fn texts_give_what_was_put_in(rt: HostRuntime) -> Result<(), Fail> {
     let mut text = Text::of(rt.alloc(), "up")?;
-    let copy = text.copy()?;
-    let clone = text.clone()?;
-    assert!(rt; text.is(&copy));
     text.push("time é")?;
     assert_eq!(rt; text.as_str(), "uptime é");
     assert_eq!(rt; text.len(), 9);
     assert_eq!(rt; text.get(2), b't');
+    Ok(())
+}
+
+#[test]
+fn copies_of_a_text_stay_as_they_were(rt: HostRuntime) -> Result<(), Fail> {
+    let mut text = Text::of(rt.alloc(), "up")?;
+    let copy = text.copy()?;
+    let clone = text.clone()?;
+    assert!(rt; text.is(&copy));
+    text.push("time")?;
     assert!(rt; !text.is(&copy));
     assert_eq!(rt; copy.as_str(), "up");
     assert_eq!(rt; clone.as_str(), "up");
+    Ok(())
+}
+
+#[test]
+fn a_text_is_made_of_a_string(rt: HostRuntime) -> Result<(), Fail> {
     let taken = Text::from_string(String::from_str(rt.alloc(), "é")?);
     assert_eq!(rt; taken.as_str(), "é");
     assert_eq!(rt; taken.len(), 2);
