@@ -6,6 +6,7 @@ use lf_lint::{Status, lint};
 use std::alloc::{AllocError, Global};
 use std::thread::Threads;
 
+mod deepest;
 mod ends;
 mod parts;
 mod reports;
