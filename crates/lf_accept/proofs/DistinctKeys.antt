@@ -35,17 +35,17 @@ abbrev mutual
   EntriesDiffer no_entries keys = Unit {0}
   EntriesDiffer (entry v t es) keys = (Contains keys v.text → ⊥) × KeysDiffer t × EntriesDiffer es (keys ++ v.text ∷ [])
 
-module _ (end above : ℕ) where
-  flow_items : {cs behind : List Cell} {rs rest : List Row} {is : Items} {closing : Cell} → SequenceIn end above cs rs is closing behind rest → ItemsDiffer is
+module _ (end : ℕ) where
+  flow_items : {cs behind : List Cell} {rs rest : List Row} {is : Items} {closing : Cell} → SequenceIn end cs rs is closing behind rest → ItemsDiffer is
   flow_items (F.closes part byte) = tt
   flow_items (F.last part scalar sign byte) = (tt, tt)
   flow_items (F.more part scalar sign byte later) = (tt, flow_items later)
 
-  flow_value : {colon : Cell} {cs left : List Cell} {rs ss : List Row} {t : Tree} → FlowValue end above colon cs rs t left ss → KeysDiffer t
+  flow_value : {colon : Cell} {cs left : List Cell} {rs ss : List Row} {t : Tree} → FlowValue end colon cs rs t left ss → KeysDiffer t
   flow_value (F.missing part ends) = tt
   flow_value (F.scalar part scalar) = tt
 
-  flow_entries : {keys : List Bytes} {cs behind : List Cell} {rs rest : List Row} {es : Entries} {closing : Cell} → MappingIn end above keys cs rs es closing behind rest → EntriesDiffer es keys
+  flow_entries : {keys : List Bytes} {cs behind : List Cell} {rs rest : List Row} {es : Entries} {closing : Cell} → MappingIn end keys cs rs es closing behind rest → EntriesDiffer es keys
   flow_entries (F.closes keys part byte) = tt
   flow_entries (F.last e part byte) = (e.is_new, flow_value e.value, tt)
   flow_entries (F.more e part byte later) = (e.is_new, flow_value e.value, flow_entries later)
@@ -53,8 +53,8 @@ module _ (end above : ℕ) where
 module _ (bytes : List ℕ) where
   value_differs : {above d : ℕ} {r : Row} {rs rest : List Row} {t : Tree} → ValueAt bytes above d r rs t rest → KeysDiffer t
   value_differs (N.scalar rs begins is) = tt
-  value_differs (N.flow_sequence byte is tail) = flow_items _ _ is
-  value_differs (N.flow_mapping byte is tail) = flow_entries _ _ is
+  value_differs (N.flow_sequence byte is tail) = flow_items _ is
+  value_differs (N.flow_mapping byte is tail) = flow_entries _ is
 
   mutual
     node_differs : {above d : ℕ} {r : Row} {rs rest : List Row} {t : Tree} → NodeAt bytes above d r rs t rest → KeysDiffer t
@@ -70,9 +70,9 @@ module _ (bytes : List ℕ) where
     items_differ (N.more_items at is v later) = (item_differs v, items_differ later)
 
     item_differs : {d m : ℕ} {r : Row} {rs rest : List Row} {t : Tree} → ItemValue bytes d m r rs t rest → KeysDiffer t
-    item_differs (N.item_here left n) = node_differs n
-    item_differs (N.item_below left below n) = node_differs n
-    item_differs (N.item_empty d left none) = tt
+    item_differs (N.item_here tabs left n) = node_differs n
+    item_differs (N.item_below tabs left below n) = node_differs n
+    item_differs (N.item_empty d tabs left none) = tt
 
     entries_differ : {d m : ℕ} {keys : List Bytes} {r : Row} {rs rest : List Row} {es : Entries} → EntriesAt bytes d m keys r rs es rest → EntriesDiffer es keys
     entries_differ (N.last_entry e ends) = let k = entry_differs e in (k.0, k.1, tt)
