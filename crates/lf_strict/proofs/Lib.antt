@@ -1,0 +1,15 @@
+pub mod Absences
+pub mod Answered
+pub mod Joins
+pub mod Operands
+pub mod Replacements
+pub mod Times
+pub mod Filtered
+pub mod LastBuckets
+pub mod MadeApart
+pub mod ManySide
+pub mod Runs
+pub mod SampleSets
+pub mod Selected
+pub mod Signatures
+pub mod StoredSamples

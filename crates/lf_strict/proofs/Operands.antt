@@ -1,0 +1,121 @@
+-- What is kept of the parts of an expression is what they give.
+use Rattle.std.proofs.Common.{◌≡◌, ◌≤◌, ℕ, zero, suc, List, [], ◌∷◌, length, map, take, drop, Option, None, Some, Result, Ok, Err, refl, sym, ap, ap₂, subst, arith}
+use Rattle.std.specs.Prelude.{IfOk, IfSome}
+use Rattle.lf_ast.specs.Functions.{Signature}
+use Rattle.lf_ast.specs.Labels.{Labels}
+use Rattle.lf_ast.specs.Tree.{Tree, Trees, Str, Nil, Next, list}
+use Rattle.lf_ast.specs.views.Walks.{chosen}
+use Rattle.lf_ast.specs.declared.expr.Grouping.{Grouping}
+use Rattle.lf_ast.specs.declared.expr.ExprType.{ExprType}
+use Rattle.lf_semantics.specs.Parts.{operand_place, type_by_form}
+use Rattle.lf_witness.specs.Ascending.{IsAscending}
+use Rattle.lf_witness.specs.Strict.{ArgumentStrictlyEvaluates, Outcomes, StrictCall, StrictEffect, StrictlyEvaluates}
+use Rattle.lf_witness.specs.StrictRuns.{InOrder, IsStrictAnswer}
+use Rattle.lf_strict.specs.declared.evaluated.Evaluated.{Evaluated}
+use Rattle.lf_strict.specs.views.Evaluated.{evaluated, operand_of, operand_part}
+use Rattle.lf_strict.proofs.Answered.{answers, is_answer}
+
+-- answers ascend
+pub in_order_ascends : (f : Outcomes) (o : Option (List Labels)) → InOrder f o → IfSome o IsAscending
+in_order_ascends f None is = tt
+in_order_ascends f (Some R) is = is.1
+
+-- a string stands for an argument that isn't there: it is None too
+abbrev argument_tree : Trees → ℕ → Tree
+argument_tree Nil k = Str [] (record { start = 0; end = 0 })
+argument_tree (Next x xs) zero = x
+argument_tree (Next x xs) (suc k) = argument_tree xs k
+
+pub if_ok : {X E : Type 0} {P Q : X → Type 0} (r : Result X E) → ((x : X) → P x → Q x) → IfOk r P → IfOk r Q
+if_ok (Ok x) f p = f x p
+if_ok (Err e) f p = tt
+
+pub both_ok : {X E : Type 0} {P Q C : X → Type 0} (r : Result X E) → ((x : X) → P x → Q x → C x) → IfOk r P → IfOk r Q → IfOk r C
+both_ok (Ok x) f p q = f x p q
+both_ok (Err e) f p q = tt
+
+module _ (W : List Labels) where
+  -- an argument gives what its expression gives
+  same_argument : (args : Trees) (k : ℕ) → ArgumentStrictlyEvaluates W args k ≡ StrictlyEvaluates W (argument_tree args k)
+  same_argument Nil k = refl
+  same_argument (Next x xs) zero = refl
+  same_argument (Next x xs) (suc k) = same_argument xs k
+
+  take_none : {X : Type 0} (xs : List X) → take 0 xs ≡ []
+  take_none [] = refl
+  take_none (x ∷ xs) = refl
+
+  pub kept_answer : (e : Tree) (kept : Evaluated) → kept ≡ evaluated W e → IsStrictAnswer W e kept.answer
+  kept_answer e kept is = subst (λ (k : Evaluated). IsStrictAnswer W e k.answer) (sym is) (answers W e)
+
+  pub kept_ascends : (e : Tree) (kept : Evaluated) → kept ≡ evaluated W e → IfSome kept.answer IsAscending
+  kept_ascends e kept is = in_order_ascends (StrictlyEvaluates W e) kept.answer (kept_answer e kept is)
+
+  -- the parts of an expression
+
+  pub only_is : (kept : Evaluated) (parts : List Evaluated) (e : Tree) → parts ≡ kept ∷ [] → parts ≡ evaluated W e ∷ [] → kept ≡ evaluated W e
+  only_is kept parts e is own = cc
+
+  pub left_is : (g h : Evaluated) (parts : List Evaluated) (left right : Tree) → parts ≡ g ∷ h ∷ [] → parts ≡ evaluated W left ∷ evaluated W right ∷ [] → g ≡ evaluated W left
+  left_is g h parts left right is own = cc
+
+  pub right_is : (g h : Evaluated) (parts : List Evaluated) (left right : Tree) → parts ≡ g ∷ h ∷ [] → parts ≡ evaluated W left ∷ evaluated W right ∷ [] → h ≡ evaluated W right
+  right_is g h parts left right is own = cc
+
+  -- the operand among arguments
+
+  abbrev operands : Trees → ℕ → List Evaluated
+  operands args k = map (evaluated W) (take 1 (drop k (list args)))
+
+  one_operand : (args : Trees) (k : ℕ) → length (operands args k) ≤ 1
+  one_operand Nil zero = omega arith
+  one_operand Nil (suc k) = omega arith
+  one_operand (Next x xs) zero = let none : length (map (evaluated W) (take 0 (list xs))) ≡ 0 = ap (λ ys. length (map (evaluated W) ys)) (take_none (list xs)) in omega (arith, none)
+  one_operand (Next x xs) (suc k) = one_operand xs k
+
+  operand_answer : (args : Trees) (k : ℕ) → IsStrictAnswer W (argument_tree args k) (operand_of (operands args k))
+  operand_answer Nil zero = tt
+  operand_answer Nil (suc k) = tt
+  operand_answer (Next x xs) zero = answers W x
+  operand_answer (Next x xs) (suc k) = operand_answer xs k
+
+  -- what is kept of the parts of a call
+
+  abbrev pub of_call : Option Signature → Trees → List Evaluated
+  of_call o args = map (evaluated W) (chosen (operand_part o) (list args))
+
+  pub one_of_call : (o : Option Signature) (args : Trees) → length (of_call o args) ≤ 1
+  one_of_call None args = omega arith
+  one_of_call (Some s) args = one_operand args (operand_place s)
+
+  -- the expression of a call's operand
+  abbrev pub operand_tree : Option Signature → Trees → Tree
+  operand_tree None args = Str [] (record { start = 0; end = 0 })
+  operand_tree (Some s) args = argument_tree args (operand_place s)
+
+  pub operand_is : (o : Option Signature) (args : Trees) → IsStrictAnswer W (operand_tree o args) (operand_of (of_call o args))
+  operand_is None args = tt
+  operand_is (Some s) args = operand_answer args (operand_place s)
+
+  pub operand_ascends : (o : Option Signature) (args : Trees) → IfSome (operand_of (of_call o args)) IsAscending
+  operand_ascends o args = in_order_ascends (StrictlyEvaluates W (operand_tree o args)) (operand_of (of_call o args)) (operand_is o args)
+
+  pub call_is : (o : Option Signature) (grouping : Grouping) (args : Trees) (given : Option (List Labels)) → InOrder (StrictCall o grouping args (λ place. StrictlyEvaluates W (operand_tree o args))) given
+      → InOrder (StrictCall o grouping args (ArgumentStrictlyEvaluates W args)) given
+  call_is None grouping args given is = is
+  call_is (Some s) grouping args given is = subst (λ (operand : Outcomes). InOrder (StrictEffect s.labels grouping args operand) given) (sym (same_argument args (operand_place s))) is
+
+  -- the answer of a call, by that for its operand
+  pub call_answer : {E : Type 0} (o p : Option Signature) (grouping : Grouping) (args : Trees) (r : Result Evaluated E) → o ≡ p
+      → IfOk r (λ made. InOrder (StrictCall o grouping args (λ place. StrictlyEvaluates W (operand_tree o args))) made.answer)
+      → IfOk r (λ made. InOrder (StrictCall p grouping args (ArgumentStrictlyEvaluates W args)) made.answer)
+  call_answer o p grouping args r same given =
+      subst (λ (q : Option Signature). IfOk r (λ made. InOrder (StrictCall q grouping args (ArgumentStrictlyEvaluates W args)) made.answer)) same
+      (if_ok r (λ made is. call_is o grouping args made.answer is) given)
+
+  abbrev kept : Option (List Labels) → ExprType → Evaluated
+  kept a f = record { answer = a; form = f }
+
+  -- what is made is what is kept
+  pub is_evaluated : (e : Tree) (made : Evaluated) → IsStrictAnswer W e made.answer → made.form ≡ type_by_form e → made ≡ evaluated W e
+  is_evaluated e made answered form = ap₂ kept (is_answer W e made.answer answered) form

@@ -1,0 +1,108 @@
+-- Steps of rules and stretches of them, and runs over series.
+use Rattle.std.proofs.Common.{◌≡◌, inl, inr, ◌+◌, ◌<◌, ◌++◌, ℕ, zero, suc, true, false, List, [], ◌∷◌, Option, Some, None, drop, get_or, length, take, append-nil, append_assoc, refl, sym, ap, ◌∙◌, subst, arith}
+use Rattle.std.specs.List.{Contains}
+use Rattle.std.specs.Prelude.{slice_get, IfSome}
+use Rattle.std.proofs.lemmas.List.{take_more}
+use Rattle.std.proofs.lemmas.Option.{get_or_from_slice_get, slice_get_within}
+use Rattle.lf_laws.proofs.Members.{first_or_behind, none_in}
+use Rattle.lf_ast.specs.Labels.{Labels}
+use Rattle.lf_ast.specs.Rules.{RuleTree}
+use Rattle.lf_semantics.specs.Parts.{is_evaluated, type_by_form}
+use Rattle.lf_semantics.specs.Worlds.{AreScraped, World}
+use Rattle.lf_witness.specs.Ascending.{IsAscending}
+use Rattle.lf_witness.specs.Strict.{AreSame, From, Outcomes}
+use Rattle.lf_witness.specs.StrictRuns.{InOrder, IsRuleAnswer, IsRunAnswer, IsStrictAnswer, IsStrictRun, RuleStrictlyGives, StepAdds, StoredOf, StrictlyStored}
+use Rattle.lf_witness.proofs.AscendingLists.{at_place}
+use Rattle.lf_witness.proofs.SameSamples.{from_into, rule_into}
+use Rattle.lf_witness.proofs.SameSets.{chained, same_front, turned}
+use Rattle.lf_witness.proofs.StrictRunIsRun.{world_of}
+use Rattle.lf_strict.specs.Steps.{rules_at, with_rule}
+use Rattle.lf_strict.specs.views.Running.{IsStep, IsStretch}
+
+-- a rule
+
+pub rule_given : (W : List Labels) (r : RuleTree) → is_evaluated (type_by_form r.expr) ≡ true → (o : Option (List Labels)) → IsStrictAnswer W r.expr o → IsRuleAnswer W r o
+rule_given W r e None is = inr (e, is)
+rule_given W r e (Some R) is = (inr (e, is.0), is.1)
+
+pub rule_none : (W : List Labels) (r : RuleTree) → is_evaluated (type_by_form r.expr) ≡ false → IsRuleAnswer W r None
+rule_none W r e = inl (e, tt)
+
+-- an alert stores nothing
+pub nothing_stored : (r : RuleTree) (P R : List Labels) → r.alert ≡ true → R ≡ [] → InOrder (StoredOf r r.alert P) (Some R)
+nothing_stored r P R alert is = (
+  subst (λ b. StoredOf r b P (Some R)) (sym alert) is,
+  subst IsAscending (sym is) (λ i j s t less a b. absurd (none_in s (at_place [] i s a))),
+)
+
+pub from_answer : (f : Outcomes) (by : List Labels → Outcomes) (P : List Labels) → InOrder f (Some P) → (o : Option (List Labels)) → InOrder (by P) o → InOrder (From f by) o
+from_answer f by P some None is = inr (P, some.0, is)
+from_answer f by P some (Some R) is = (inr (P, some.0, is.0), is.1)
+
+-- stretches over the same samples
+
+stored_into : (rules : List RuleTree) (W V : List Labels) → AreSame W V → (o : Option (List Labels)) → StrictlyStored W rules o → StrictlyStored V rules o
+stored_into [] W V same None is = is
+stored_into [] W V same (Some R) is = chained V W R (turned W V same) is
+stored_into (r ∷ later) W V same o is =
+    from_into (StepAdds W r) (StepAdds V r) (λ A. StrictlyStored (W ++ A) later) (λ A. StrictlyStored (V ++ A) later)
+    (from_into (RuleStrictlyGives W r) (RuleStrictlyGives V r) (StoredOf r r.alert) (StoredOf r r.alert) (rule_into W V same r) (λ P p given. given)) (λ A p given. stored_into later (W ++ A) (V ++ A) (same_front W V A same) p given) o is
+
+pub no_step : (W : List Labels) → IsStretch W [] W true
+no_step W later o is = is
+
+pub step_more : (W V U : List Labels) (rules : List RuleTree) (r : RuleTree) → IsStretch W rules V true → IsStep V r U true → IsStretch W (rules ++ r ∷ []) U true
+step_more W V U rules r before (A, adds, same) later o is =
+    subst (λ (l : List RuleTree). StrictlyStored W l o) (sym (append_assoc rules (r ∷ []) later)) (before (r ∷ later) o (inr (A, adds, stored_into later U (V ++ A) (turned (V ++ A) U same) o is)))
+
+pub step_none : (W V U : List Labels) (rules later : List RuleTree) (r : RuleTree) → IsStretch W rules V true → IsStep V r U false → StrictlyStored W (rules ++ r ∷ later) None
+step_none W V U rules later r before none = before (r ∷ later) None (inl (none, tt))
+
+-- the rules of the steps
+
+with_rule_append : (o : Option RuleTree) (A B : List RuleTree) → with_rule o A ++ B ≡ with_rule o (A ++ B)
+with_rule_append None A B = refl
+with_rule_append (Some r) A B = refl
+
+member_at : (rules : List RuleTree) (k : ℕ) (r : RuleTree) → slice_get rules k ≡ Some r → Contains rules r
+member_at rules k r e = (k, slice_get_within rules k r e, get_or_from_slice_get rules k r r e)
+
+module _ (rules : List RuleTree) where
+  pub rules_at_push : (steps : List ℕ) (x : ℕ) (r : RuleTree) → slice_get rules x ≡ Some r → rules_at rules (steps ++ x ∷ []) ≡ rules_at rules steps ++ r ∷ []
+  rules_at_push [] x r e = ap (λ o. with_rule o []) e
+  rules_at_push (y ∷ steps) x r e = ap (with_rule (slice_get rules y)) (rules_at_push steps x r e) ∙ sym (with_rule_append (slice_get rules y) (rules_at rules steps) (r ∷ []))
+
+  pub rules_at_more : (steps : List ℕ) (k x : ℕ) (r : RuleTree) → k < length steps → x ≡ get_or steps k x → slice_get rules x ≡ Some r → rules_at rules (take (k + 1) steps) ≡ rules_at rules (take k steps) ++ r ∷ []
+  rules_at_more steps k x r lt is e = ap (rules_at rules) (take_more steps k x lt ∙ ap (λ (y : ℕ). take k steps ++ y ∷ []) (sym is)) ∙ rules_at_push (take k steps) x r e
+
+  pub rules_at_whole : (steps : List ℕ) (k x : ℕ) (r : RuleTree) → k < length steps → x ≡ get_or steps k x → slice_get rules x ≡ Some r → rules_at rules (take k steps) ++ r ∷ rules_at rules (drop (suc k) steps) ≡ rules_at rules steps
+  rules_at_whole [] k x r lt is e = absurd (omega (arith, lt))
+  rules_at_whole (y ∷ steps) zero x r lt is e = ap (λ o. with_rule o (rules_at rules steps)) (sym e ∙ ap (slice_get rules) is)
+  rules_at_whole (y ∷ steps) (suc k) x r lt is e =
+      with_rule_append (slice_get rules y) (rules_at rules (take k steps)) (r ∷ rules_at rules (drop (suc k) steps)) ∙ ap (with_rule (slice_get rules y)) (rules_at_whole steps k x r (omega (arith, lt)) is e)
+
+  pub rules_at_among : (steps : List ℕ) (r : RuleTree) → Contains (rules_at rules steps) r → Contains rules r
+  rules_at_among [] r c = absurd (none_in r c)
+  rules_at_among (y ∷ steps) r c = by (slice_get rules y) refl c (rules_at_among steps r)
+    where
+      by : (o : Option RuleTree) → slice_get rules y ≡ o → Contains (with_rule o (rules_at rules steps)) r → (Contains (rules_at rules steps) r → Contains rules r) → Contains rules r
+      by None e c rest = rest c
+      by (Some q) e c rest = elim (first_or_behind q (rules_at rules steps) r c) [
+        | inl same ↦ subst (Contains rules) same (member_at rules y q e)
+        | inr later ↦ rest later
+      ]
+
+  -- a run that isn't None is a world's
+  pub world_run : (series : List Labels) (steps : List ℕ) → AreScraped rules series → (o : Option (List Labels)) → IsRunAnswer series (rules_at rules steps) o
+      → IfSome o (λ V. (world : World rules) × (world.series ≡ series) × IsStrictRun series (rules_at rules steps) V world.steps)
+  world_run series steps scraped None is = tt
+  world_run series steps scraped (Some V) is = world_of rules series scraped (rules_at rules steps) (rules_at_among steps) V is.0
+
+-- the whole run
+
+pub run_answer : (series W V : List Labels) (rules : List RuleTree) (R : List Labels) → AreSame series W → IsStretch W rules V true → AreSame V R → IsAscending R → IsRunAnswer series rules (Some R)
+run_answer series W V rules R same ran stored ascends =
+    (stored_into rules W series (turned series W same) (Some R) (subst (λ (l : List RuleTree). StrictlyStored W l (Some R)) (append-nil rules) (ran [] (Some R) stored)), ascends)
+
+pub run_none : (series W V : List Labels) (rules : List RuleTree) → AreSame series W → IsStretch W rules V false → IsRunAnswer series rules None
+run_none series W V rules same none = stored_into rules W series (turned series W same) None none

@@ -1,0 +1,11 @@
+use Rattle.std.proofs.Common.{◌≡◌, ◌+◌, ◌++◌, ◌∷◌, [], rules, sym, subst, take}
+use Rattle.std.specs.List.{AllZip}
+use Rattle.std.proofs.lemmas.List.Elements.{all_zip_more}
+use Rattle.lf_strict.proofs.becoming.each_made.Goals as goal
+
+pub loop-sample-preserved : goal.loop-sample-preserved
+loop-sample-preserved g c =
+    let becomes = g.B.Becoming.becomes c.args.how.now in
+    let pushed : c.push.new.self.items ≡ c.loop-sample.made.items ++ c.in_ok-of.field-0 ∷ [] = search rules in
+    subst (AllZip becomes (take (c.loop-sample.sample-index + 1) c.args.samples.now)) (sym pushed)
+    (all_zip_more becomes c.args.samples.now c.loop-sample.made.items c.loop-sample.sample-index c.sample-item.result c.in_ok-of.field-0 c.loop-sample-test.true c.sample-item.is c.loop-sample.invariant c.in_ok-of.ensures)

@@ -1,0 +1,15 @@
+use Rattle.std.proofs.Common.{◌≡◌, ◌+◌, ◌++◌, ◌∷◌, [], rules, sym, ◌∙◌, subst, take}
+use Rattle.std.specs.List.{AllZip}
+use Rattle.std.proofs.lemmas.List.Elements.{all_zip_more}
+use Rattle.lf_semantics.specs.Evaluation.{IsReplaced}
+use Rattle.lf_strict.proofs.replacing.Replacing.each_replaced.Goals as goal
+
+pub loop-sample-preserved : goal.loop-sample-preserved
+loop-sample-preserved c =
+    let becomes = IsReplaced c.args.self.now in
+    let made = c.in_ok-replaced_in in
+    let pushed : c.push.new.self.items ≡ c.loop-sample.made.items ++ made.field-0 ∷ [] = search rules in (
+      subst (AllZip becomes (take (c.loop-sample.sample-index + 1) c.args.samples.now)) (sym pushed)
+          (all_zip_more becomes c.args.samples.now c.loop-sample.made.items c.loop-sample.sample-index c.sample-item.result made.field-0 c.loop-sample-test.true c.sample-item.is c.loop-sample.invariant.0 made.ensures.made),
+      made.ensures.same ∙ c.loop-sample.invariant.1,
+    )

@@ -1,0 +1,19 @@
+use Rattle.std.proofs.Common.{List, sym, subst}
+use Rattle.lf_ast.specs.Labels.{Labels}
+use Rattle.lf_witness.specs.Ascending.{IsAscending}
+use Rattle.lf_witness.specs.Strict.{AreSelected}
+use Rattle.lf_strict.proofs.StoredSamples.{if_ok, selected_of}
+use Rattle.lf_strict.proofs.store.Store.select.Goals as goal
+
+pub select-requires : goal.select-requires
+select-requires c = subst IsAscending (sym c.as_slice.ensures) c.in_ok-all-in-None.ensures.ascends
+
+pub returns-in_ok-all-in-None : goal.returns-in_ok-all-in-None
+returns-in_ok-all-in-None c =
+    let W : List Labels = c.args.self.now in
+    let V : List Labels = c.in_ok-all-in-None.all in
+    let name = c.args.name.now in
+    let ms = c.args.matchers.now in
+    if_ok c.select.result
+    (λ R is. (selected_of W V name ms R c.in_ok-all-in-None.ensures.same.1 (λ s d named each. c.in_ok-all-in-None.ensures.same.0 s d) (subst (λ (l : List Labels). AreSelected l name ms R) c.as_slice.ensures is.0), is.1))
+    c.select.ensures

@@ -1,0 +1,17 @@
+-- Samples whose signature is one of some signatures.
+use Rattle.std.specs.Prelude.{Bool, cond, not, List}
+use Rattle.std.specs.List.{list_any}
+use Rattle.std.specs.Ordering.{eq_by_cmp}
+use Rattle.lf_ast.specs.Labels.{Labels}
+use Rattle.lf_ast.specs.declared.expr.Matching.{Matching}
+use Rattle.lf_semantics.specs.Grouped.{signs}
+use Rattle.lf_semantics.specs.Texts.{restricted}
+use Rattle.lf_witness.specs.Ascending.{labels_cmp}
+
+-- a label set is one of these
+abbrev pub is_one_of : List Labels → Labels → Bool
+is_one_of R s = list_any (λ t. eq_by_cmp labels_cmp t s) R
+
+-- the signature of a sample is one of these, or isn't where that is wanted
+abbrev pub is_signed : Matching → List Labels → Bool → Labels → Bool
+is_signed m signatures wanted s = cond wanted (is_one_of signatures (restricted (signs m) s)) (not (is_one_of signatures (restricted (signs m) s)))

@@ -1,0 +1,195 @@
+//! What is kept of the parts of an expression until its own samples are made.
+ghost use Rattle.std.specs.Prelude.{◌≡◌, ◌≤◌, ◌∷◌, [], IfOk, IfSome, List, length};
+ghost use Rattle.std.specs.List.{position_or_len};
+ghost use Rattle.std.specs.Option.{option_map};
+ghost use Rattle.lf_ast.specs.Functions.{called_by, signature_of};
+ghost use Rattle.lf_ast.specs.Labels.{Labels};
+ghost use Rattle.lf_ast.specs.Tree.{Tree, tree, trees};
+ghost use Rattle.lf_ast.specs.Types.{is_scalar, joined, selected};
+ghost use Rattle.lf_semantics.specs.Parts.{given_by, takes_samples};
+ghost use Rattle.lf_witness.specs.Ascending.{IsAscending};
+ghost use Rattle.lf_witness.specs.Strict.{AreSelected, IsSet, StrictBinary, StrictCall, StrictSign, StrictlyEvaluates};
+ghost use Rattle.lf_witness.specs.StrictRuns.{InOrder, IsStrictAnswer};
+ghost use Rattle.lf_strict.specs.views.Evaluated.{operand_of, operand_part, parts_needed};
+
+use crate::effects::called;
+use crate::operand::behind_sign;
+use crate::operating::operated;
+use crate::store::Store;
+use lf_ast::walk::Parts;
+use lf_ast::{
+    Expr, ExprType, Function, Grouping, LabelSet, Matcher, Matching, Op, is_scalar, joined,
+    selected,
+};
+use lf_base::{Memory, Seq, Text};
+use std::alloc::Global;
+
+/// What an expression gives, and the type that its form tells.
+#[derive(Drop)]
+pub struct Evaluated {
+    pub answer: Option<Seq<LabelSet>>,
+    pub form: ExprType,
+}
+
+/// The only one of these.
+pub fn the_only(mut parts: Vec<Evaluated>) -> Evaluated
+    requires { length parts.items ≡ 1 }
+    ensures { parts.items ≡ result ∷ [] }
+{
+    parts.pop().unwrap()
+}
+
+/// The two of these.
+pub fn both(mut parts: Vec<Evaluated>) -> (Evaluated, Evaluated)
+    requires { length parts.items ≡ 2 }
+    ensures { parts.items ≡ result.0 ∷ result.1 ∷ [] }
+{
+    let right = parts.pop().unwrap();
+    let left = parts.pop().unwrap();
+    (left, right)
+}
+
+/// What the only one of these gives, and None where there is none.
+pub fn operand(parts: Vec<Evaluated>) -> Option<Seq<LabelSet>>
+    requires { length parts.items ≤ 1 }
+    ensures { result ≡ operand_of parts.items }
+{
+    if parts.is_empty() {
+        None
+    } else {
+        the_only(parts).answer
+    }
+}
+
+/// A selector.
+pub fn selector(
+    alloc: Global,
+    store: &Store,
+    name: &Option<Text>,
+    matchers: &[Matcher],
+    range: &Option<Text>,
+) -> Result<Evaluated, Memory>
+    ensures answer { IfOk result (λ made. InOrder (IsSet (AreSelected store.now name.now matchers.now)) made.answer) }
+    ensures form { IfOk result (λ made. made.form ≡ selected range.now) }
+{
+    let samples = store.select(alloc, name, matchers)?;
+    Ok(Evaluated {
+        answer: Some(samples),
+        form: selected(range),
+    })
+}
+
+/// A sign before an operand.
+pub fn signed(alloc: Global, minus: bool, operand: Evaluated) -> Result<Evaluated, Memory>
+    requires { IfSome operand.answer IsAscending }
+    ensures answer { (W : List Labels) (e : Tree) → IsStrictAnswer W e operand.answer → IfOk result (λ made. InOrder (StrictSign minus (StrictlyEvaluates W e)) made.answer) }
+    ensures form { IfOk result (λ made. made.form ≡ operand.form) }
+{
+    let form = operand.form;
+    let answer = behind_sign(alloc, minus, operand.answer)?;
+    Ok(Evaluated { answer, form })
+}
+
+/// An operator between two sides. What a scalar gives isn't looked at.
+pub fn binary(
+    alloc: Global,
+    op: Op,
+    matching: &Matching,
+    left: Evaluated,
+    right: Evaluated,
+) -> Result<Evaluated, Memory>
+    requires left { IfSome left.answer IsAscending }
+    requires right { IfSome right.answer IsAscending }
+    ensures answer { (W : List Labels) (d e : Tree) → IsStrictAnswer W d left.answer → IsStrictAnswer W e right.answer → IfOk result (λ made. InOrder (StrictBinary op matching.now (is_scalar left.form) (is_scalar right.form) (StrictlyEvaluates W d) (StrictlyEvaluates W e)) made.answer) }
+    ensures form { IfOk result (λ made. made.form ≡ joined left.form right.form) }
+{
+    let form = joined(left.form, right.form);
+    let answer = operated(
+        alloc,
+        op,
+        matching,
+        is_scalar(left.form),
+        is_scalar(right.form),
+        left.answer,
+        right.answer,
+    )?;
+    Ok(Evaluated { answer, form })
+}
+
+/// A call of a function, or of none, with what its operand gives.
+pub fn call(
+    alloc: Global,
+    function: Option<Function>,
+    grouping: &Grouping,
+    args: &[Expr],
+    operand: Option<Seq<LabelSet>>,
+) -> Result<Evaluated, Memory>
+    requires { IfSome operand IsAscending }
+    ensures answer { (W : List Labels) (e : Tree) → IsStrictAnswer W e operand → IfOk result (λ made. InOrder (StrictCall (option_map signature_of function) grouping.now (trees args.now) (λ place. StrictlyEvaluates W e)) made.answer) }
+    ensures form { IfOk result (λ made. made.form ≡ given_by (option_map signature_of function)) }
+{
+    let form = given_by(&function);
+    let answer = called(alloc, function, grouping, args, operand)?;
+    Ok(Evaluated { answer, form })
+}
+
+/// The type that a function gives. What calls none counts as a vector.
+fn given_by(function: &Option<Function>) -> ExprType
+    ensures { result ≡ given_by (option_map signature_of function.now) }
+{
+    match function {
+        Some(function) => function.gives,
+        None => ExprType::Vector,
+    }
+}
+
+/// The parts that what an expression gives is made of, which calls this function, if any: of arguments only the operand.
+pub fn parts_needed(expr: &Expr, function: &Option<Function>) -> Parts
+    requires { option_map signature_of function.now ≡ called_by (tree expr.now) }
+    ensures { result ≡ parts_needed (tree expr.now) }
+{
+    match expr {
+        Expr::Call { .. } | Expr::Aggregate { .. } => operand_part(function),
+        Expr::Number { .. }
+        | Expr::Str { .. }
+        | Expr::Selector { .. }
+        | Expr::Subquery { .. }
+        | Expr::Paren { .. }
+        | Expr::Unary { .. }
+        | Expr::Binary { .. } => Parts::All,
+    }
+}
+
+/// The operand of a function among its arguments, and nothing where there is no function.
+fn operand_part(function: &Option<Function>) -> Parts
+    ensures { result ≡ operand_part (option_map signature_of function.now) }
+{
+    match function {
+        Some(function) => Parts::Only {
+            place: operand_place(function.takes),
+        },
+        None => Parts::Nothing,
+    }
+}
+
+/// Which argument is the operand of a function that always takes these: the first that has samples, or else the first further one.
+fn operand_place(takes: &[ExprType]) -> usize
+    ensures { result ≡ position_or_len takes_samples takes.now }
+{
+    for (place, of) in takes.iter().enumerate() {
+        if takes_samples(*of) {
+            return place;
+        }
+    }
+    takes.len()
+}
+
+/// Whether an argument of this type has samples.
+fn takes_samples(of: ExprType) -> bool
+    ensures { result ≡ takes_samples of }
+{
+    match of {
+        ExprType::Vector | ExprType::Range => true,
+        ExprType::Scalar | ExprType::Str => false,
+    }
+}

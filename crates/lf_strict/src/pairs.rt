@@ -1,0 +1,118 @@
+//! What operators give between two vectors.
+ghost use Rattle.std.specs.Prelude.{◌≡◌, IfOk, IfSome, List};
+ghost use Rattle.lf_ast.specs.Labels.{Labels};
+ghost use Rattle.lf_ast.specs.Tree.{Tree};
+ghost use Rattle.lf_ast.specs.declared.expr.Group.TheVariants.{One};
+ghost use Rattle.lf_witness.specs.Ascending.{IsAscending};
+ghost use Rattle.lf_witness.specs.Strict.{From, StrictCombines, StrictPairs, StrictlyEvaluates};
+ghost use Rattle.lf_witness.specs.StrictRuns.{InOrder, IsStrictAnswer};
+ghost use Rattle.lf_strict.specs.views.Paired.{ManyPairs};
+
+use crate::becoming::made_apart;
+use crate::partners::{Paired, indexed};
+use crate::sets::{difference, intersection, union};
+use crate::signature::matched;
+use lf_ast::{Group, LabelSet, Matching, Op};
+use lf_base::{Memory, Seq};
+use std::alloc::Global;
+
+/// What an operator gives between two vectors: None where a side is, and but for the operators of sets where the match isn't unique or two pairs have one result.
+pub fn combine(
+    alloc: Global,
+    op: Op,
+    matching: &Matching,
+    left: &Option<Seq<LabelSet>>,
+    right: &Option<Seq<LabelSet>>,
+) -> Result<Option<Seq<LabelSet>>, Memory>
+    requires left { IfSome left.now IsAscending }
+    requires right { IfSome right.now IsAscending }
+    ensures { (W : List Labels) (d e : Tree) → IsStrictAnswer W d left.now → IsStrictAnswer W e right.now → IfOk result (InOrder (From (StrictlyEvaluates W d) (λ P. From (StrictlyEvaluates W e) (StrictCombines op matching.now P)))) }
+{
+    match op {
+        Op::And => intersection(alloc, matching, left, right),
+        Op::Or => union(alloc, matching, left, right),
+        Op::Unless => difference(alloc, matching, left, right),
+        _ => joined(alloc, op, matching, left, right),
+    }
+}
+
+/// What the pairs of two sides give, and None where a side is None.
+fn joined(
+    alloc: Global,
+    op: Op,
+    matching: &Matching,
+    left: &Option<Seq<LabelSet>>,
+    right: &Option<Seq<LabelSet>>,
+) -> Result<Option<Seq<LabelSet>>, Memory>
+    requires left { IfSome left.now IsAscending }
+    requires right { IfSome right.now IsAscending }
+    ensures { (W : List Labels) (d e : Tree) → IsStrictAnswer W d left.now → IsStrictAnswer W e right.now → IfOk result (InOrder (From (StrictlyEvaluates W d) (λ P. From (StrictlyEvaluates W e) (StrictPairs op matching.now P)))) }
+{
+    match left {
+        None => Ok(None),
+        Some(left) => match right {
+            None => Ok(None),
+            Some(right) => paired(alloc, op, matching, left, right),
+        },
+    }
+}
+
+/// What the pairs of the left and the right samples give, in ascending order.
+fn paired(
+    alloc: Global,
+    op: Op,
+    matching: &Matching,
+    left: &Seq<LabelSet>,
+    right: &Seq<LabelSet>,
+) -> Result<Option<Seq<LabelSet>>, Memory>
+    requires left { IsAscending left.now }
+    requires right { IsAscending right.now }
+    ensures { IfOk result (InOrder (StrictPairs op matching.now left.now right.now)) }
+{
+    match matching.group {
+        Group::One => one_to_one(alloc, op, matching, left, right),
+        Group::Left => many_to_one(alloc, op, matching, left, right),
+        Group::Right => many_to_one(alloc, op, matching, right, left),
+    }
+}
+
+/// What the pairs give where both sides are one sides.
+fn one_to_one(
+    alloc: Global,
+    op: Op,
+    matching: &Matching,
+    left: &Seq<LabelSet>,
+    right: &Seq<LabelSet>,
+) -> Result<Option<Seq<LabelSet>>, Memory>
+    requires group { matching.now.group ≡ One }
+    requires left { IsAscending left.now }
+    requires right { IsAscending right.now }
+    ensures { IfOk result (InOrder (StrictPairs op matching.now left.now right.now)) }
+{
+    match indexed(alloc, matching, left.as_slice())? {
+        None => Ok(None),
+        Some(_) => many_to_one(alloc, op, matching, left, right),
+    }
+}
+
+/// What the pairs of a many side and a one side give, in ascending order. Each sample of the many side looks up its partner by the signature.
+fn many_to_one(
+    alloc: Global,
+    op: Op,
+    matching: &Matching,
+    many: &Seq<LabelSet>,
+    one: &Seq<LabelSet>,
+) -> Result<Option<Seq<LabelSet>>, Memory>
+    requires many { IsAscending many.now }
+    requires one { IsAscending one.now }
+    ensures { IfOk result (InOrder (ManyPairs op matching.now many.now one.now)) }
+{
+    match indexed(alloc, matching, one.as_slice())? {
+        None => Ok(None),
+        Some(ones) => {
+            let ones = &ones;
+            let partnered = matched(alloc, matching, many, one)?;
+            made_apart(alloc, &Paired { op, matching, ones }, &partnered)
+        }
+    }
+}

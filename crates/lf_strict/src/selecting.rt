@@ -1,0 +1,141 @@
+//! The samples that a selector gives.
+ghost use Rattle.std.specs.Prelude.{◌≡◌, ◌&&◌, IfOk, Some};
+ghost use Rattle.std.specs.List.{filter};
+ghost use Rattle.std.specs.Str.{bytes_eq};
+ghost use Rattle.lf_pattern.specs.Matching.{is_read, matches};
+ghost use Rattle.lf_semantics.specs.Texts.{value_of};
+ghost use Rattle.lf_witness.specs.Ascending.{IsAscending};
+ghost use Rattle.lf_witness.specs.Strict.{AreSelected, IsSet};
+ghost use Rattle.lf_witness.specs.StrictRuns.{InOrder};
+ghost use Rattle.lf_strict.specs.views.Selected.{as_wanted, has_name, passes_by};
+
+use lf_ast::{LabelSet, MatchOp, Matcher};
+use lf_base::{Memory, Seq, Text};
+use lf_pattern::{Pattern, PatternError};
+use std::alloc::Global;
+
+/// The samples that have the name and pass the matchers, in ascending order.
+pub fn select(
+    alloc: Global,
+    stored: &[LabelSet],
+    name: &Option<Text>,
+    matchers: &[Matcher],
+) -> Result<Seq<LabelSet>, Memory>
+    requires { IsAscending stored.now }
+    ensures { IfOk result (λ set. InOrder (IsSet (AreSelected stored.now name.now matchers.now)) (Some set)) }
+{
+    let mut kept = named(alloc, stored, name)?;
+    for matcher in matchers {
+        kept = passing(alloc, matcher, kept.as_slice())?;
+    }
+    Ok(Seq::from_vec(kept))
+}
+
+/// The samples that pass a matcher.
+fn passing(alloc: Global, matcher: &Matcher, samples: &[LabelSet]) -> Result<Vec<LabelSet>, Memory>
+    ensures { IfOk result (λ kept. kept.items ≡ filter (passes_by matcher.now) samples.now) }
+{
+    match matcher.op {
+        MatchOp::Equal => compared(alloc, matcher, samples, true),
+        MatchOp::NotEqual => compared(alloc, matcher, samples, false),
+        MatchOp::Matches => tried(alloc, matcher, samples, true),
+        MatchOp::NotMatches => tried(alloc, matcher, samples, false),
+    }
+}
+
+/// The samples of this name, or all of them.
+fn named(alloc: Global, samples: &[LabelSet], name: &Option<Text>) -> Result<Vec<LabelSet>, Memory>
+    ensures { IfOk result (λ kept. kept.items ≡ filter (has_name name.now) samples.now) }
+{
+    let mut kept = Vec::new(alloc);
+    for sample in samples {
+        if has_name(name, sample) {
+            kept.push(sample.copy()?)?;
+        }
+    }
+    Ok(kept)
+}
+
+/// Whether a sample has this name, if there is one.
+fn has_name(name: &Option<Text>, sample: &LabelSet) -> bool
+    ensures { result ≡ has_name name.now sample.now }
+{
+    match name {
+        None => true,
+        Some(name) => text_of(sample, "__name__") == name.as_str(),
+    }
+}
+
+/// The text of a label, and the empty text where it is absent.
+pub fn text_of<'a>(sample: &'a LabelSet, label: &str) -> &'a str
+    ensures { result.now ≡ value_of sample.entry.now label.now }
+{
+    match sample.get(label) {
+        Some(text) => text.as_str(),
+        None => "",
+    }
+}
+
+/// The samples whose text is the matcher's, or whose text isn't.
+fn compared(
+    alloc: Global,
+    matcher: &Matcher,
+    samples: &[LabelSet],
+    wanted: bool,
+) -> Result<Vec<LabelSet>, Memory>
+    ensures { IfOk result (λ kept. kept.items ≡ filter (λ s. as_wanted wanted (bytes_eq (value_of s matcher.now.label) matcher.now.value)) samples.now) }
+{
+    let mut kept = Vec::new(alloc);
+    for sample in samples {
+        if as_wanted(
+            wanted,
+            text_of(sample, matcher.label.as_str()) == matcher.value.as_str(),
+        ) {
+            kept.push(sample.copy()?)?;
+        }
+    }
+    Ok(kept)
+}
+
+/// An answer as it is, or turned round where the other is wanted.
+fn as_wanted(wanted: bool, found: bool) -> bool
+    ensures { result ≡ as_wanted wanted found }
+{
+    if wanted { found } else { !found }
+}
+
+/// The samples whose text is matched by the matcher's pattern, or isn't. What is no pattern passes nothing. The pattern is read once.
+fn tried(
+    alloc: Global,
+    matcher: &Matcher,
+    samples: &[LabelSet],
+    wanted: bool,
+) -> Result<Vec<LabelSet>, Memory>
+    ensures { IfOk result (λ kept. kept.items ≡ filter (λ s. is_read matcher.now.value && as_wanted wanted (matches matcher.now.value (value_of s matcher.now.label))) samples.now) }
+{
+    match Pattern::new(alloc, &matcher.value) {
+        Ok(mut pattern) => matching(alloc, &mut pattern, &matcher.label, samples, wanted),
+        Err(PatternError::BadPattern) => Ok(Vec::new(alloc)),
+        Err(PatternError::Memory) => Err(Memory),
+    }
+}
+
+/// The samples whose text of a label is matched by a pattern, or isn't.
+fn matching(
+    alloc: Global,
+    pattern: &mut Pattern,
+    label: &Text,
+    samples: &[LabelSet],
+    wanted: bool,
+) -> Result<Vec<LabelSet>, Memory>
+    ensures { IfOk result (λ kept. kept.items ≡ filter (λ s. as_wanted wanted (matches pattern.old (value_of s label.now))) samples.now) }
+{
+    let mut kept = Vec::new(alloc);
+    for sample in samples {
+        let text = Text::of(alloc, text_of(sample, label.as_str()))?;
+        if as_wanted(wanted, pattern.matches(alloc, &text)?) {
+            kept.push(sample.copy()?)?;
+        }
+    }
+    Ok(kept)
+}

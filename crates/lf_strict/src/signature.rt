@@ -1,0 +1,151 @@
+//! Signatures of vector matching.
+ghost use Rattle.std.specs.Prelude.{◌≡◌, ◌++◌, IfOk, OnOk, Some};
+ghost use Rattle.std.specs.FinMap.{entries};
+ghost use Rattle.std.specs.List.{Contains, filter};
+ghost use Rattle.std.proofs.Common.{sym, ◌∙◌};
+ghost use Rattle.lf_ast.specs.Labels.{HasNoEmptyText, Labels};
+ghost use Rattle.lf_semantics.specs.Evaluation.{AreEither, AreMatched, AreUnmatched};
+ghost use Rattle.lf_semantics.specs.Grouped.{signs};
+ghost use Rattle.lf_semantics.specs.Texts.{HasTexts, restricted};
+ghost use Rattle.lf_witness.specs.Ascending.{IsAscending};
+ghost use Rattle.lf_witness.specs.Strict.{IsSet};
+ghost use Rattle.lf_witness.specs.StrictRuns.{InOrder};
+ghost use Rattle.lf_strict.specs.views.Signed.{is_one_of, is_signed};
+
+use crate::apart::together;
+use crate::becoming::{Becoming, made_together};
+use crate::choosing::SignatureLabels;
+use lf_ast::{LabelSet, Matching};
+use lf_base::{Memory, Seq};
+use std::alloc::Global;
+
+/// A sample becomes its signature: the labels that are matched, with their texts. No text of a sample is empty, so equal signatures are one label set.
+#[derive(Drop)]
+pub struct Signed<'a> {
+    pub matching: &'a Matching,
+}
+
+impl<'a> Becoming for Signed<'a> {
+    ghost becomes = { λ how s r. (r ≡ restricted (signs how.matching.now) s) × HasTexts s };
+
+    ghost one = { λ how s t u a b. a.0 ∙ sym b.0 };
+
+    fn of(&self, alloc: Global, sample: &LabelSet) -> Result<LabelSet, Memory> {
+        let _count = sample.len();
+        let matching = self.matching;
+        sample.kept(&SignatureLabels { matching })
+    }
+}
+
+/// The left samples that have a partner on the right, in ascending order.
+pub fn matched(
+    alloc: Global,
+    matching: &Matching,
+    left: &Seq<LabelSet>,
+    right: &Seq<LabelSet>,
+) -> Result<Seq<LabelSet>, Memory>
+    requires { IsAscending left.now }
+    ensures { IfOk result (λ set. InOrder (IsSet (AreMatched matching.now left.now right.now)) (Some set)) }
+{
+    let signatures = made_together(alloc, &Signed { matching }, right)?;
+    with_signature(
+        alloc,
+        matching,
+        left.as_slice(),
+        signatures.as_slice(),
+        true,
+    )
+}
+
+/// The left samples that have no partner on the right, in ascending order.
+pub fn unmatched(
+    alloc: Global,
+    matching: &Matching,
+    left: &Seq<LabelSet>,
+    right: &Seq<LabelSet>,
+) -> Result<Seq<LabelSet>, Memory>
+    requires { IsAscending left.now }
+    ensures { IfOk result (λ set. InOrder (IsSet (AreUnmatched matching.now left.now right.now)) (Some set)) }
+{
+    let signatures = made_together(alloc, &Signed { matching }, right)?;
+    with_signature(
+        alloc,
+        matching,
+        left.as_slice(),
+        signatures.as_slice(),
+        false,
+    )
+}
+
+/// The left samples, and the right ones that have no partner on the left, in ascending order.
+pub fn either(
+    alloc: Global,
+    matching: &Matching,
+    left: &Seq<LabelSet>,
+    right: &Seq<LabelSet>,
+) -> Result<Seq<LabelSet>, Memory>
+    requires { IsAscending right.now }
+    ensures { IfOk result (λ set. InOrder (IsSet (AreEither matching.now left.now right.now)) (Some set)) }
+{
+    let others = unmatched(alloc, matching, right, left)?;
+    let mut samples = Vec::new(alloc);
+    push_each(&mut samples, left.as_slice())?;
+    push_each(&mut samples, others.as_slice())?;
+    Ok(together(samples))
+}
+
+/// Appends samples, and may have appended some where it fails.
+pub fn push_each(all: &mut Vec<LabelSet>, samples: &[LabelSet]) -> Result<(), Memory>
+    ensures { OnOk result (all.new.items ≡ all.old.items ++ samples.now) }
+{
+    for sample in samples {
+        all.push(sample.copy()?)?;
+    }
+    Ok(())
+}
+
+/// The samples whose signature is one of these, or those whose signature isn't.
+fn with_signature(
+    alloc: Global,
+    matching: &Matching,
+    samples: &[LabelSet],
+    signatures: &[LabelSet],
+    wanted: bool,
+) -> Result<Seq<LabelSet>, Memory>
+    requires { IsAscending signatures.now }
+    ensures kept { IfOk result (λ kept. kept ≡ filter (is_signed matching.now signatures.now wanted) samples.now) }
+    ensures texts { IfOk result (λ kept. (s : Labels) → Contains samples.now s → HasTexts s) }
+{
+    let mut kept = Vec::new(alloc);
+    for sample in samples {
+        if is_signed(matching, signatures, wanted, sample)? {
+            kept.push(sample.copy()?)?;
+        }
+    }
+    Ok(Seq::from_vec(kept))
+}
+
+/// Whether the signature of a sample is one of these, or isn't where that is wanted.
+fn is_signed(
+    matching: &Matching,
+    signatures: &[LabelSet],
+    wanted: bool,
+    sample: &LabelSet,
+) -> Result<bool, Memory>
+    requires { IsAscending signatures.now }
+    ensures signed { IfOk result (λ is. is ≡ is_signed matching.now signatures.now wanted sample.now) }
+    ensures texts { HasNoEmptyText (entries sample.now) }
+{
+    let _count = sample.len();
+    let signature = sample.kept(&SignatureLabels { matching })?;
+    let found = is_one_of(signatures, &signature);
+    Ok(if wanted { found } else { !found })
+}
+
+/// Whether a label set is one of these in ascending order.
+fn is_one_of(sorted: &[LabelSet], sought: &LabelSet) -> bool
+    requires { IsAscending sorted.now }
+    ensures { result ≡ is_one_of sorted.now sought.now }
+{
+    sorted.binary_search(sought).is_ok()
+}

@@ -1,0 +1,169 @@
+//! The stored samples, by their metric names.
+ghost use Rattle.std.specs.Prelude.{◌≡◌, ◌++◌, ◌∷◌, [], IfOk, IfSome, OnOk, Some, true};
+ghost use Rattle.std.specs.List.{Contains};
+ghost use Rattle.lf_ast.specs.Labels.{Labels};
+ghost use Rattle.lf_ast.specs.Selectors.{metric};
+ghost use Rattle.lf_semantics.specs.Passing.{HasName, Passes, PassesEach};
+ghost use Rattle.lf_semantics.specs.Texts.{value_of};
+ghost use Rattle.lf_witness.specs.Ascending.{IsAscending};
+ghost use Rattle.lf_witness.specs.Strict.{AreSame, AreSelected, IsSet};
+ghost use Rattle.lf_witness.specs.StrictRuns.{InOrder};
+
+use crate::apart::together;
+use crate::sample_set::SampleSet;
+use crate::selecting::{select, text_of};
+use crate::signature::push_each;
+use lf_ast::{LabelSet, MatchOp, Matcher};
+use lf_base::{Memory, Seq, Text};
+use std::alloc::Global;
+use std::collections::BTreeMap;
+use std::marker::Model;
+
+/// The stored samples, each once, under the text of the metric name, which is empty where a sample has none.
+#[derive(Drop)]
+pub struct Store {
+    by_name: BTreeMap<String, SampleSet>,
+}
+
+impl Model for Store {
+    ghost use Rattle.std.specs.Prelude.{List};
+    ghost use Rattle.std.specs.Coded.{coded_ℕ, coded_list};
+    ghost use Rattle.std.specs.FinMap as map;
+    ghost use Rattle.lf_ast.specs.Labels.{Labels};
+    ghost use Rattle.lf_strict.specs.views.Stored.{AreUnderNames, samples_of};
+
+    ghost Value = { List Labels };
+
+    ghost coded = { coded_list (map.code (coded_list coded_ℕ) (coded_list coded_ℕ)) };
+
+    ghost view = { λ store. samples_of store.by_name.entries };
+
+    ghost invariant = { λ store. AreUnderNames store.by_name.entries };
+}
+
+impl Store {
+    /// No sample.
+    fn new(alloc: Global) -> Store
+        ensures { result ≡ [] }
+    {
+        Store {
+            by_name: BTreeMap::new(alloc),
+        }
+    }
+
+    /// These samples, of which equal ones count once.
+    pub fn of(alloc: Global, samples: &Seq<LabelSet>) -> Result<Store, Memory>
+        ensures { IfOk result (AreSame samples.now) }
+    {
+        let mut copies = Vec::new(alloc);
+        push_each(&mut copies, samples.as_slice())?;
+        let mut store = Store::new(alloc);
+        store.add(alloc, together(copies).as_slice())?;
+        Ok(store)
+    }
+
+    /// Puts samples among the others, of which equal ones count once. It may have put some where it fails.
+    pub fn add(&mut self, alloc: Global, samples: &[LabelSet]) -> Result<(), Memory>
+        ensures { OnOk result (AreSame (self.old ++ samples.now) self.new) }
+    {
+        for sample in samples {
+            self.put(alloc, sample.copy()?)?;
+        }
+        Ok(())
+    }
+
+    /// Puts a sample among those of its name, unless it is there.
+    fn put(&mut self, alloc: Global, sample: LabelSet) -> Result<(), Memory>
+        ensures { OnOk result (AreSame (self.old ++ sample ∷ []) self.new) }
+    {
+        let name = String::from_str(alloc, text_of(&sample, "__name__"))?;
+        if let Some(samples) = self.by_name.get_mut(name.as_str()) {
+            return samples.add(sample);
+        }
+        let mut samples = SampleSet::new(alloc);
+        samples.add(sample)?;
+        self.by_name.insert(name, samples)?;
+        Ok(())
+    }
+
+    /// All samples, in ascending order.
+    pub fn in_order(&self, alloc: Global) -> Result<Seq<LabelSet>, Memory>
+        ensures same { IfOk result (AreSame self.now) }
+        ensures ascends { IfOk result IsAscending }
+    {
+        let mut all = Vec::new(alloc);
+        for samples in self.by_name.values() {
+            push_each(&mut all, samples.as_slice())?;
+        }
+        Ok(together(all))
+    }
+
+    /// The samples that have the name and pass the matchers, in ascending order. Where the metric name is given, only the samples of that name are looked at.
+    pub fn select(
+        &self,
+        alloc: Global,
+        name: &Option<Text>,
+        matchers: &[Matcher],
+    ) -> Result<Seq<LabelSet>, Memory>
+        ensures { IfOk result (λ set. InOrder (IsSet (AreSelected self.now name.now matchers.now)) (Some set)) }
+    {
+        match sought_name(name, matchers) {
+            Some(sought) => self.select_named(alloc, sought, name, matchers),
+            None => {
+                let all = self.in_order(alloc)?;
+                select(alloc, all.as_slice(), name, matchers)
+            }
+        }
+    }
+
+    /// The samples that have the name and pass the matchers, where only such of one metric name do.
+    fn select_named(
+        &self,
+        alloc: Global,
+        sought: &Text,
+        name: &Option<Text>,
+        matchers: &[Matcher],
+    ) -> Result<Seq<LabelSet>, Memory>
+        requires { (s : Labels) → HasName name.now s → PassesEach matchers.now s → value_of s metric ≡ sought.now }
+        ensures { IfOk result (λ set. InOrder (IsSet (AreSelected self.now name.now matchers.now)) (Some set)) }
+    {
+        let _count = self.by_name.len();
+        match self.by_name.get(sought.as_str()) {
+            Some(samples) => select(alloc, samples.as_slice(), name, matchers),
+            None => Ok(Seq::new(alloc)),
+        }
+    }
+}
+
+/// The metric name of all samples that have the name and pass the matchers, where the name or a matcher says it.
+fn sought_name<'a>(name: &'a Option<Text>, matchers: &'a [Matcher]) -> Option<&'a Text>
+    ensures { IfSome result (λ sought. (s : Labels) → HasName name.entry.now s → PassesEach matchers.entry.now s → value_of s metric ≡ sought.now) }
+{
+    match name {
+        Some(name) => Some(name),
+        None => sought_by(matchers),
+    }
+}
+
+/// The metric name that the first matcher `=` on it says, if there is one.
+fn sought_by(matchers: &[Matcher]) -> Option<&Text>
+    ensures { IfSome result (λ sought. (s : Labels) → PassesEach matchers.entry.now s → value_of s metric ≡ sought.now) }
+{
+    for k in 0..matchers.len() {
+        let matcher = &matchers[k];
+        if says_name(matcher) {
+            return Some(&matcher.value);
+        }
+    }
+    None
+}
+
+/// Whether a matcher is `=` on the metric name.
+fn says_name(matcher: &Matcher) -> bool
+    ensures { result ≡ true → (s : Labels) → Passes matcher.now.op matcher.now.value (value_of s matcher.now.label) → value_of s metric ≡ matcher.now.value }
+{
+    match matcher.op {
+        MatchOp::Equal => matcher.label.as_str() == "__name__",
+        MatchOp::NotEqual | MatchOp::Matches | MatchOp::NotMatches => false,
+    }
+}
