@@ -1,0 +1,14 @@
+pub mod WorkedBuilt
+pub mod WorkedRatio
+pub mod WorkedUniform
+pub mod WorkedVerdict
+pub mod OneVerdict
+pub mod FirstFree
+pub mod MadeSeries
+pub mod BuiltSeries
+pub mod ShownInWorlds
+pub mod WorkedReport
+pub mod Reachable
+pub mod SomeVerdict
+pub mod SelectedNames
+pub mod WorkedBound

@@ -1,0 +1,134 @@
+-- What a trial shows is so in a world of the relational evaluation: a label that is called possible has two of them, one with a sample that has it and one with a sample
+-- that lacks it.
+use Rattle.std.proofs.Common.{◌≡◌, ◌≢◌, inl, inr, ℕ, Bool, true, false, cond, List, [], ◌∷◌, Option, Some, None, is_some, refl, sym, ap, ◌∙◌, subst, true≢false, option_and_then, slice_get}
+use Rattle.std.specs.List.{Contains, find, flat_map}
+use Rattle.std.proofs.lemmas.List.Elements.{Contains-append_cases}
+use Rattle.std.proofs.lemmas.Option.{get_or_from_slice_get, slice_get_within}
+use Rattle.lf_laws.proofs.Members.{behind, here, map_member, none_in, of_flat_map, only_one, true_same, same_true}
+use Rattle.lf_ast.specs.Labels.{Bytes}
+use Rattle.lf_ast.specs.Rules.{RuleTree}
+use Rattle.lf_ast.specs.Selectors.{metric}
+use Rattle.lf_semantics.specs.ClassRows.{Sets}
+use Rattle.lf_semantics.specs.Listing.{IsListing, Listing}
+use Rattle.lf_semantics.specs.RowTable.{Environment}
+use Rattle.lf_semantics.specs.Texts.{Has, value_of}
+use Rattle.lf_semantics.specs.Worlds.{AreScraped, IsSample, World}
+use Rattle.lf_semantics.proofs.ListingLaws.{of_first_seen}
+use Rattle.lf_trials.specs.Built.{IsBuilt}
+use Rattle.lf_trials.specs.Candidates.{has_presence, labels_in}
+use Rattle.lf_trials.specs.Given.{Given, giving, label_set}
+use Rattle.lf_trials.specs.Names.{is_scraped_name, name_for}
+use Rattle.lf_trials.specs.Reached.{Trial, listed, rules_at, with_reach}
+use Rattle.lf_trials.specs.Trials.{IsFirstShown, Shown, Shows}
+use Rattle.lf_trials.specs.Selected.{Selected, selected_by}
+use Rattle.lf_trials.specs.Uniform.{name_said, name_unsaid, series_names, uniform_series, uniform_texts}
+use Rattle.lf_trials.specs.Verdicts.{IsLabelVerdict, Possible}
+use Rattle.lf_trials.proofs.BuiltSeries.{AreScrapedIn, building_scraped, named_for, once_there}
+use Rattle.lf_trials.proofs.MadeSeries.{IsScraped, IsScrapedName, made_is_scraped, scraped_by_test}
+use Rattle.lf_witness.proofs.StrictRunIsRun.{samples_behind}
+
+at_number : {X : Type 0} (xs : List X) (k : ℕ) (x : X) → slice_get xs k ≡ Some x → Contains xs x
+at_number xs k x is = (k, slice_get_within xs k x is, get_or_from_slice_get xs k x x is)
+
+of_listed : {X : Type 0} (o : Option X) (x : X) → Contains (listed o) x → o ≡ Some x
+of_listed None x there = absurd (none_in x there)
+of_listed (Some y) x there = ap Some (only_one y x there)
+
+-- the steps of a trial are of the rules
+steps_among : (rules : List RuleTree) (numbers : List ℕ) (r : RuleTree) → Contains (rules_at rules numbers) r → Contains rules r
+steps_among rules numbers r there = let from = of_flat_map (λ k. listed (slice_get rules k)) numbers r there in at_number rules from.0 r (of_listed (slice_get rules from.0) r from.2)
+
+-- what is found is there, and passes
+abbrev IsIn : {X : Type 0} → (X → Bool) → List X → X → Type 0
+IsIn test xs x = Contains xs x × (test x ≡ true)
+
+found_in : {X : Type 0} (test : X → Bool) (xs : List X) (x : X) → find test xs ≡ Some x → IsIn test xs x
+found_in test [] x e = absurd (true≢false (sym (ap is_some e)))
+found_in {X = X} test (y ∷ xs) x e = by (test y) refl (found_in test xs x) e
+  where
+    the_first : Some y ≡ Some x → y ≡ x
+    the_first same = ap (λ (o : Option X). elim o [ None ↦ y | Some z ↦ z ]) same
+
+    by : (b : Bool) → test y ≡ b → (find test xs ≡ Some x → IsIn test xs x) → cond b (Some y) (find test xs) ≡ Some x → IsIn test (y ∷ xs) x
+    by true is later same = (subst (Contains (y ∷ xs)) (the_first same) (here y xs), ap test (sym (the_first same)) ∙ is)
+    by false is later same = let rest = later same in (behind y xs x rest.0, rest.1)
+
+module _ (u : Listing) (env : Environment) (rules : List RuleTree) (listing : IsListing u) where
+  -- the series of trials are scraped
+
+  said_is_scraped : (said : Option Bytes) (name : Bytes) → option_and_then (λ n. cond (is_scraped_name rules n) (Some n) None) said ≡ Some name → IsScrapedName rules name
+  said_is_scraped None name e = absurd (true≢false (sym (ap is_some e)))
+  said_is_scraped (Some n) name e = by (is_scraped_name rules n) refl e
+    where
+      by : (b : Bool) → is_scraped_name rules n ≡ b → cond b (Some n) None ≡ Some name → IsScrapedName rules name
+      by true is same = subst (IsScrapedName rules) (ap (λ (o : Option Bytes). elim o [ None ↦ n | Some z ↦ z ]) same) (scraped_by_test rules n is)
+      by false is same = absurd (true≢false (sym (ap is_some same)))
+
+  unsaid_is_scraped : (s : Selected) (name : Bytes) → name_unsaid u rules s ≡ Some name → IsScrapedName rules name
+  unsaid_is_scraped s name e = by (is_some s.name) e
+    where
+      by : (b : Bool) → cond b None (name_for u rules s.matchers) ≡ Some name → IsScrapedName rules name
+      by true same = absurd (true≢false (sym (ap is_some same)))
+      by false same = named_for u env rules listing s.matchers name same
+
+  name_is_scraped : (selected : List Selected) (name : Bytes) → Contains (series_names u rules selected) name → IsScrapedName rules name
+  name_is_scraped selected name there =
+      elim (Contains-append_cases (flat_map (λ s. listed (name_said rules s)) selected) (flat_map (λ s. listed (name_unsaid u rules s)) selected) name (of_first_seen _ name there)) [
+        | inl said ↦ let from = of_flat_map (λ s. listed (name_said rules s)) selected name said in said_is_scraped from.0.name name (of_listed (name_said rules from.0) name from.2)
+        | inr unsaid ↦ let from = of_flat_map (λ s. listed (name_unsaid u rules s)) selected name unsaid in unsaid_is_scraped from.0 name (of_listed (name_unsaid u rules from.0) name from.2)
+      ]
+
+  uniform_is_scraped : (selected : List Selected) (D : Given) → AreScraped rules (uniform_series u rules selected D)
+  uniform_is_scraped selected D s there =
+      let from = map_member (λ name. label_set (labels_in u) (giving metric name D)) (series_names u rules selected) s there in
+      subst (IsScraped rules) (sym from.2) (made_is_scraped u rules listing from.0 D (name_is_scraped selected from.0 from.1))
+
+  module _ (i : ℕ) (label : Bytes) (presence : Bool) where
+    built_is_scraped : (t : Trial) → IsBuilt u env rules i label presence t → AreScraped rules t.series
+    built_is_scraped t is s there =
+        let all : AreScrapedIn u env rules listing (Some is.built) = subst (AreScrapedIn u env rules listing) is.is_built (building_scraped u env rules listing is.holds_fork i is.rule label presence) in
+        all s (once_there u env rules listing is.built.series s (subst (λ (v : Trial). Contains v.series s) is.is_trial there))
+
+    trial_is_scraped : (shown : Shown) → IsFirstShown u env rules i label presence shown → AreScraped rules shown.trial.series
+    trial_is_scraped shown (inl built) = built_is_scraped shown.trial built.0
+    trial_is_scraped shown (inr uniform) =
+        let is = uniform.1.0 in
+        λ s there. uniform_is_scraped (selected_by rules (with_reach i is.reach)) (uniform_texts u rules i is.rule label presence) s (subst (λ (v : Trial). Contains v.series s) is.is_trial there)
+
+    shows : (shown : Shown) → IsFirstShown u env rules i label presence shown → Shows rules i label presence shown
+    shows shown (inl built) = built.1
+    shows shown (inr uniform) = uniform.1.1
+
+    -- a world with the series that are shown, in which the sample that is shown is one of the rule and has the presence
+    pub record IsInWorld (shown : Shown) : Type 0 where
+      pub world : World rules
+      pub series : world.series ≡ shown.trial.series
+      pub rule : RuleTree
+      pub is_rule : slice_get rules i ≡ Some rule
+      pub sample : IsSample world rule shown.sample
+      pub present : has_presence presence (value_of shown.sample label) ≡ true
+
+    pub shown_in_world : (shown : Shown) → IsFirstShown u env rules i label presence shown → IsInWorld shown
+    shown_in_world shown first =
+        let is = shows shown first in
+        let trial = shown.trial in
+        let found = found_in (λ s. has_presence presence (value_of s label)) is.samples shown.sample is.is_sample in
+        let made = samples_behind rules trial.series (trial_is_scraped shown first) (rules_at rules trial.steps) (steps_among rules trial.steps) is.stored is.is_stored.0 is.rule is.samples (at_number rules i is.rule is.is_rule) is.are_samples.0 in
+        record { world = made.0; series = made.1; rule = is.rule; is_rule = is.is_rule; sample = made.2 shown.sample found.0; present = found.1 }
+
+-- presence and absence
+
+is_there : (text : Bytes) → has_presence true text ≡ true → text ≢ []
+is_there [] e = absurd (true≢false (sym e))
+is_there (c ∷ text) e = λ empty. true≢false (sym (same_true (c ∷ text) [] empty))
+
+is_lacking : (text : Bytes) → has_presence false text ≡ true → text ≡ []
+is_lacking text e = true_same text [] e
+
+-- a label that is called possible
+module _ (u : Listing) (env : Environment) (rules : List RuleTree) (listing : IsListing u) (i : ℕ) (row : Sets) (label : Bytes) (with without : Shown) (possible : IsLabelVerdict u env rules i row label (Possible with without)) where
+  pub is_with : (world : World rules) × (r : RuleTree) × (slice_get rules i ≡ Some r) × IsSample world r with.sample × Has with.sample label
+  is_with = let is = shown_in_world u env rules listing i label true with possible.1 in (is.world, is.rule, is.is_rule, is.sample, is_there (value_of with.sample label) is.present)
+
+  pub is_without : (world : World rules) × (r : RuleTree) × (slice_get rules i ≡ Some r) × IsSample world r without.sample × (value_of without.sample label ≡ [])
+  is_without = let is = shown_in_world u env rules listing i label false without possible.2 in (is.world, is.rule, is.is_rule, is.sample, is_lacking (value_of without.sample label) is.present)

@@ -1,0 +1,15 @@
+pub mod Candidates
+pub mod Reached
+pub mod Names
+pub mod Forks
+pub mod Sides
+pub mod Given
+pub mod Building
+pub mod Operands
+pub mod Matched
+pub mod Built
+pub mod Follow
+pub mod Selected
+pub mod Uniform
+pub mod Trials
+pub mod Verdicts
