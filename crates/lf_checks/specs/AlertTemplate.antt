@@ -1,6 +1,7 @@
 -- alert/template: a template of an alert that names a label which none of its samples has, or that can't be read.
-use Rattle.std.specs.Prelude.{◌≡◌, ◌⊎◌, true, List, ◌++◌, codes}
+use Rattle.std.specs.Prelude.{◌≡◌, ◌⊎◌, ◌+◌, true, List, ◌++◌, codes, length}
 use Rattle.std.specs.List.{Contains}
+use Rattle.std.specs.List.Sorted.{IsNonDecreasing}
 use Rattle.lf_base.specs.declared.fault.Fault.{Fault}
 use Rattle.lf_ast.specs.Labels.{Bytes}
 use Rattle.lf_ast.specs.Rules.{RuleTree}
@@ -45,3 +46,7 @@ IsUnreadable r f = (t : Template) × (breach : Fault) × HasTemplate r t × Brea
 -- what the check finds: either of these
 abbrev pub IsFound : Listing → Sets → RuleTree → Finding → Type 0
 IsFound u row r f = IsNeverThere u row r f ⊎ IsUnreadable r f
+
+-- each template has an offset in its source for each byte of its text and for the end, none less than one before it: so do those of the rules of files
+abbrev pub HaveSources : List RuleTree → Type 0
+HaveSources rules = (r : RuleTree) → Contains rules r → (t : Template) → Contains r.templates t → (length t.from ≡ length t.text + 1) × IsNonDecreasing t.from

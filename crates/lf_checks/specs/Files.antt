@@ -1,6 +1,7 @@
 -- The files that rules stand in, and how a finding names a place in one.
 use Rattle.std.specs.Prelude.{◌≡◌, ℕ, List, ◌++◌, Some, codes, slice_get}
 use Rattle.std.specs.Fmt.{decimal}
+use Rattle.std.specs.List.{Contains}
 use Rattle.lf_base.specs.Places.{column_at, line_at}
 use Rattle.lf_ast.specs.Labels.{Bytes}
 use Rattle.lf_ast.specs.Rules.{RuleTree}
@@ -17,3 +18,7 @@ place_in file offset = file.name ++ codes ":" ++ decimal (line_at file.bytes off
 -- the name of the rule stands at this place; the rule says the number of its file
 abbrev pub IsNamedAt : List File → RuleTree → Bytes → Type 0
 IsNamedAt files r place = (file : File) × (slice_get files r.file ≡ Some file) × (place ≡ place_in file r.name_span.start)
+
+-- the file of each rule is among them
+abbrev pub StandIn : List File → List RuleTree → Type 0
+StandIn files rules = (r : RuleTree) → Contains rules r → (file : File) × (slice_get files r.file ≡ Some file)

@@ -13,3 +13,4 @@ pub mod ExprType
 pub mod RuleLabel
 pub mod Findings
 pub mod Truths
+pub mod views

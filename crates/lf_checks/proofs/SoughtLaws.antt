@@ -1,0 +1,140 @@
+-- What is told of labels that are sought on operands: of one label, of a grouping, of a match and of a whole rule.
+use Rattle.std.proofs.Common.{◌≡◌, ◌↔◌, ◌⊎◌, inl, inr, ℕ, zero, suc, Bool, List, [], ◌∷◌, drop, Some, None, refl, sym, subst, ◌∙◌, IsTrue}
+use Rattle.std.specs.List.{Contains}
+use Rattle.lf_laws.proofs.Members.{none_in}
+use Rattle.lf_base.specs.declared.place.Span.{Span}
+use Rattle.lf_ast.specs.Functions.{aggregation}
+use Rattle.lf_ast.specs.Labels.{Bytes}
+use Rattle.lf_ast.specs.Rules.{RuleTree}
+use Rattle.lf_ast.specs.Tree.{Tree, Trees, Binary, Aggregate, Nil, Next, list, parts_of}
+use Rattle.lf_ast.specs.declared.expr.Agg.{Agg}
+use Rattle.lf_ast.specs.declared.expr.Group.{Group}
+use Rattle.lf_ast.specs.declared.expr.Group.TheVariants.{One, Left, Right}
+use Rattle.lf_ast.specs.declared.expr.Grouping.{Grouping}
+use Rattle.lf_ast.specs.declared.expr.Grouping.TheVariants.{None as Ungrouped, By, Without}
+use Rattle.lf_ast.specs.declared.expr.Matching.{Matching}
+use Rattle.lf_ast.specs.declared.expr.Name.{Name}
+use Rattle.lf_ast.specs.declared.expr.Op.{Op}
+use Rattle.lf_ast.specs.declared.verdict.Finding.{Finding as Row}
+use Rattle.lf_semantics.specs.ClassRows.{Sets}
+use Rattle.lf_semantics.specs.Listing.{Listing}
+use Rattle.lf_semantics.specs.Parts.{argument_at, operand_place}
+use Rattle.lf_semantics.specs.RowTable.{Environment, row_of}
+use Rattle.lf_checks.specs.Finding.{Finding, MatchLabel, finding}
+use Rattle.lf_checks.specs.Judged.{IsImpossible}
+use Rattle.lf_checks.specs.MatchLabel.{IsFound, Seeks, one_side, says_never}
+use Rattle.lf_checks.specs.Subexpressions.{subexpressions}
+use Rattle.lf_checks.specs.views.Adding.{Adds, OfSome}
+use Rattle.lf_checks.specs.views.Sought.{IsNever, IsOfMatch, IsOfOperand, IsOfPart, for_left, for_right, labels_by}
+use Rattle.lf_checks.proofs.Added.{adds_as, adds_none}
+
+-- ---- arguments by their places
+
+pub argument_there : (args : Trees) (k : ℕ) (x : Tree) (rest : List Tree) → drop k (list args) ≡ x ∷ rest → argument_at args k ≡ Some x
+argument_there Nil zero x rest e = let no_way : [] ≡ x ∷ rest = e in cc
+argument_there Nil (suc k) x rest e = let no_way : [] ≡ x ∷ rest = e in cc
+argument_there (Next y ys) zero x rest e = let same : y ∷ list ys ≡ x ∷ rest = e in cc
+argument_there (Next y ys) (suc k) x rest e = argument_there ys k x rest e
+
+pub argument_lacking : (args : Trees) (k : ℕ) → drop k (list args) ≡ [] → argument_at args k ≡ None
+argument_lacking Nil zero e = refl
+argument_lacking Nil (suc k) e = refl
+argument_lacking (Next y ys) zero e = let no_way : y ∷ list ys ≡ [] = e in cc
+argument_lacking (Next y ys) (suc k) e = argument_lacking ys k e
+
+module _ (u : Listing) where
+  pub of_label : (row : Sets) (label : Name) (name : Bytes) (never : Bool) (old new : List Row) → name ≡ label.text → IsTrue never ↔ IsImpossible u row name
+      → Adds (λ f. IsTrue never × (f ≡ finding MatchLabel label.span (says_never name))) old new → Adds (IsNever u row label) old new
+  of_label row label name never old new e is a = adds_as _ (IsNever u row label) old new a
+      (λ f h. (subst (λ (n : Bytes). IsImpossible u row n) e (is.0 h.0), subst (λ (n : Bytes). f ≡ finding MatchLabel label.span (says_never n)) e h.1))
+      (λ f h. (is.1 (subst (λ (n : Bytes). IsImpossible u row n) (sym e) h.0), subst (λ (n : Bytes). f ≡ finding MatchLabel label.span (says_never n)) (sym e) h.1))
+
+  module _ (env : Environment) where
+    -- ---- a grouping
+
+    by_seeks : (op : Agg) (grouping : Grouping) (args : Trees) (span : Span) (label : Name) (x : Tree) → Seeks (Aggregate op grouping args span) label x
+        → Contains (labels_by grouping) label × (argument_at args (operand_place (aggregation op)) ≡ Some x)
+    by_seeks op Ungrouped args span label x seeks = absurd seeks
+    by_seeks op (By labels) args span label x seeks = (seeks.0, seeks.1)
+    by_seeks op (Without labels) args span label x seeks = absurd seeks
+
+    seeks_by : (op : Agg) (grouping : Grouping) (args : Trees) (span : Span) (label : Name) (x : Tree) → Contains (labels_by grouping) label → argument_at args (operand_place (aggregation op)) ≡ Some x
+        → Seeks (Aggregate op grouping args span) label x
+    seeks_by op Ungrouped args span label x c at = absurd (none_in label c)
+    seeks_by op (By labels) args span label x c at = (c, at)
+    seeks_by op (Without labels) args span label x c at = absurd (none_in label c)
+
+    pub of_grouping : (t : Tree) (op : Agg) (grouping : Grouping) (args : Trees) (span : Span) (x : Tree) (rest : List Tree) (k : ℕ) (old new : List Row) → t ≡ Aggregate op grouping args span
+        → k ≡ operand_place (aggregation op) → drop k (parts_of t) ≡ x ∷ rest → Adds (IsOfOperand u env x (labels_by grouping) []) old new → Adds (IsOfPart u env t) old new
+    of_grouping t op grouping args span x rest k old new is e there a = subst (λ (z : Tree). Adds (IsOfPart u env z) old new) (sym is) (adds_as (IsOfOperand u env x (labels_by grouping) []) (IsOfPart u env (Aggregate op grouping args span)) old new a to from)
+      where
+        at : argument_at args (operand_place (aggregation op)) ≡ Some x
+        at = argument_there args (operand_place (aggregation op)) x rest (subst (λ (z : Tree). drop (operand_place (aggregation op)) (parts_of z) ≡ x ∷ rest) is (subst (λ (n : ℕ). drop n (parts_of t) ≡ x ∷ rest) e there))
+
+        to : (f : Finding) → IsOfOperand u env x (labels_by grouping) [] f → IsOfPart u env (Aggregate op grouping args span) f
+        to f (inl (label, c, never)) = (label, x, seeks_by op grouping args span label x c at, never)
+        to f (inr (label, c, never)) = absurd (none_in label c)
+
+        from : (f : Finding) → IsOfPart u env (Aggregate op grouping args span) f → IsOfOperand u env x (labels_by grouping) [] f
+        from f (label, y, seeks, never) =
+            let s = by_seeks op grouping args span label y seeks in
+            let same : y ≡ x = (let e : Some y ≡ Some x = sym s.1 ∙ at in cc) in
+            inl (label, s.0, subst (λ (z : Tree). IsNever u (row_of u env z) label f) same never)
+
+    pub of_no_operand : (t : Tree) (op : Agg) (grouping : Grouping) (args : Trees) (span : Span) (old : List Row) → t ≡ Aggregate op grouping args span → drop (operand_place (aggregation op)) (parts_of t) ≡ []
+        → Adds (IsOfPart u env t) old old
+    of_no_operand t op grouping args span old is there = subst (λ (z : Tree). Adds (IsOfPart u env z) old old) (sym is) (adds_none (IsOfPart u env (Aggregate op grouping args span)) old none)
+      where
+        none : (f : Finding) → IsOfPart u env (Aggregate op grouping args span) f → ⊥
+        none f (label, y, seeks, never) =
+            let e : Some y ≡ None = sym (by_seeks op grouping args span label y seeks).1 ∙ argument_lacking args (operand_place (aggregation op)) (subst (λ (z : Tree). drop (operand_place (aggregation op)) (parts_of z) ≡ []) is there) in
+            cc
+
+    -- ---- a match
+
+    left_seeks : (group : Group) (names : List Name) (left right : Tree) (label : Name) → Contains (for_left group names) label → Contains names label × (one_side group left right ≡ Some left)
+    left_seeks One names left right label c = absurd (none_in label c)
+    left_seeks Left names left right label c = absurd (none_in label c)
+    left_seeks Right names left right label c = (c, refl)
+
+    right_seeks : (group : Group) (names : List Name) (left right : Tree) (label : Name) → Contains (for_right group names) label → Contains names label × (one_side group left right ≡ Some right)
+    right_seeks One names left right label c = absurd (none_in label c)
+    right_seeks Left names left right label c = (c, refl)
+    right_seeks Right names left right label c = absurd (none_in label c)
+
+    one_sides : (group : Group) (names : List Name) (left right x : Tree) (label : Name) → Contains names label → one_side group left right ≡ Some x
+        → ((x ≡ left) × Contains (for_left group names) label) ⊎ ((x ≡ right) × Contains (for_right group names) label)
+    one_sides One names left right x label c e = let no_way : None ≡ Some x = e in absurd (cc)
+    one_sides Left names left right x label c e = inr ((let same : Some right ≡ Some x = e in cc), c)
+    one_sides Right names left right x label c e = inl ((let same : Some left ≡ Some x = e in cc), c)
+
+    pub of_match : (op : Op) (m : Matching) (left right : Tree) (span : Span) (old new : List Row) → Adds (IsOfMatch u env m left right) old new → Adds (IsOfPart u env (Binary op m left right span)) old new
+    of_match op m left right span old new a = adds_as (IsOfMatch u env m left right) (IsOfPart u env (Binary op m left right span)) old new a to from
+      where
+        to : (f : Finding) → IsOfMatch u env m left right f → IsOfPart u env (Binary op m left right span) f
+        to f (l, r, inl (inl (label, c, never))) = (label, left, (l, r, inl (c, inl refl)), never)
+        to f (l, r, inl (inr (label, c, never))) = (label, left, (l, r, inr (left_seeks m.group m.include left right label c)), never)
+        to f (l, r, inr (inl (label, c, never))) = (label, right, (l, r, inl (c, inr refl)), never)
+        to f (l, r, inr (inr (label, c, never))) = (label, right, (l, r, inr (right_seeks m.group m.include left right label c)), never)
+
+        on : (label : Name) (x y : Tree) (f : Finding) → x ≡ y → IsNever u (row_of u env x) label f → IsNever u (row_of u env y) label f
+        on label x y f e never = subst (λ (z : Tree). IsNever u (row_of u env z) label f) e never
+
+        from : (f : Finding) → IsOfPart u env (Binary op m left right span) f → IsOfMatch u env m left right f
+        from f (label, x, (l, r, inl (c, inl e)), never) = (l, r, inl (inl (label, c, on label x left f e never)))
+        from f (label, x, (l, r, inl (c, inr e)), never) = (l, r, inr (inl (label, c, on label x right f e never)))
+        from f (label, x, (l, r, inr (c, e)), never) = elim (one_sides m.group m.include left right x label c e) [
+          | inl h ↦ (l, r, inl (inr (label, h.1, on label x left f h.0 never)))
+          | inr h ↦ (l, r, inr (inr (label, h.1, on label x right f h.0 never)))
+        ]
+
+    -- ---- a whole rule
+
+    pub of_rule : (r : RuleTree) (new : List Row) → Adds (OfSome (IsOfPart u env) (subexpressions r.expr)) [] new → Adds (IsFound u env r) [] new
+    of_rule r new a = adds_as (OfSome (IsOfPart u env) (subexpressions r.expr)) (IsFound u env r) [] new a to from
+      where
+        to : (f : Finding) → OfSome (IsOfPart u env) (subexpressions r.expr) f → IsFound u env r f
+        to f (x, c, (label, operand, seeks, never)) = (x, label, operand, c, seeks, never.0, never.1)
+
+        from : (f : Finding) → IsFound u env r f → OfSome (IsOfPart u env) (subexpressions r.expr) f
+        from f (x, label, operand, c, seeks, never, e) = (x, c, (label, operand, seeks, (never, e)))

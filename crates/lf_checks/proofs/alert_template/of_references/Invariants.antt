@@ -1,0 +1,7 @@
+use Rattle.std.proofs.Common.{take}
+use Rattle.lf_checks.specs.views.Shown.{Along, ListsAlone}
+use Rattle.lf_checks.specs.views.TemplateCases.{IsOfReference}
+use Rattle.lf_checks.proofs.alert_template.of_references.Given as goal
+
+abbrev pub invariant-loop-reference : goal.invariant-loop-reference
+invariant-loop-reference l = ListsAlone (Along (IsOfReference l.universe l.row) (take l.reference-index l.references)) l.found.items

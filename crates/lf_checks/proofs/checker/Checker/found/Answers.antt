@@ -1,0 +1,76 @@
+use Rattle.std.proofs.Common.{◌≡◌, ◌<◌, ◌++◌, ℕ, List, Option, None, Some, length, take, sym, ap, ◌∙◌, subst}
+use Rattle.std.proofs.lemmas.Option.{get_or_from_slice_get, slice_get-get_or, slice_get-map, slice_get_within}
+use Rattle.std.proofs.lemmas.Result.{IfOk-weaker}
+use Rattle.std.specs.List.{Contains}
+use Rattle.std.specs.Option.{option_map}
+use Rattle.std.specs.Prelude.{slice_get}
+use Rattle.lf_laws.proofs.Members.{in_map}
+use Rattle.lf_ast.specs.Rules.{RuleTree, rule_tree, rule_trees}
+use Rattle.lf_ast.specs.declared.rule.Rule.{Rule}
+use Rattle.lf_ast.specs.declared.verdict.Finding.{Finding as Row}
+use Rattle.lf_semantics.specs.ClassRows.{HasShape, Sets}
+use Rattle.lf_semantics.specs.Environments.{IsEnvironment}
+use Rattle.lf_semantics.specs.Listing.{IsListing, Listing, universe_of}
+use Rattle.lf_semantics.proofs.ListingLaws.{universe_is_listing}
+use Rattle.lf_semantics.proofs.NormalizedRows.{rule_row_is}
+use Rattle.lf_checks.specs.AlertTemplate.{HaveSources}
+use Rattle.lf_checks.specs.Files.{File, StandIn}
+use Rattle.lf_checks.specs.Findings.{IsFinding}
+use Rattle.lf_checks.specs.views.Checked.{Checked}
+use Rattle.lf_checks.specs.views.Duplicates.{AreFirsts, IsFirstOf}
+use Rattle.lf_checks.specs.views.Shown.{Lists}
+use Rattle.lf_checks.proofs.Checking.{of_three}
+use Rattle.lf_checks.proofs.checker.Checker.found.Goals as goal
+
+listing_of : (u : Listing) (rules : List RuleTree) → u ≡ universe_of rules → IsListing u
+listing_of u rules e = subst IsListing (sym e) (universe_is_listing rules)
+
+pub of_rule-requires-clause-shape : goal.of_rule-requires-clause-shape
+of_rule-requires-clause-shape c =
+    let u : Listing = c.self.inside.universe.now in
+    let of_rules = subst (λ (v : Checked). v.universe ≡ universe_of (rule_trees v.rules)) (sym c.self.view_is) c.requires.universe in
+    let ok = subst (λ (v : Checked). IsEnvironment v.universe v.env) (sym c.self.view_is) c.requires.env in
+    let listing = listing_of u (rule_trees c.self.inside.rules.now) of_rules in
+    subst (λ (row : Sets). HasShape u row) (sym c.in_ok-row.ensures.row) (rule_row_is u listing c.self.inside.env.now ok (rule_tree c.get-rule.result.now)).0
+
+pub of_rule-requires-clause-sources : goal.of_rule-requires-clause-sources
+of_rule-requires-clause-sources c t k =
+    let rules : List Rule = c.self.inside.rules.now in
+    let r : Rule = c.get-rule.result.now in
+    let is : slice_get rules c.args.i ≡ Some r = c.get-rule.ensures.value in
+    let member : Contains rules r = (c.args.i, slice_get_within rules c.args.i r is, get_or_from_slice_get rules c.args.i r r is) in
+    let sources = subst (λ (v : Checked). HaveSources (rule_trees v.rules)) (sym c.self.view_is) c.requires.sources in
+    sources (rule_tree r) (in_map rule_tree rules r member) t k
+
+pub of_parts-requires-clause-listing : goal.of_parts-requires-clause-listing
+of_parts-requires-clause-listing c =
+    listing_of c.self.inside.universe.now (rule_trees c.self.inside.rules.now) (subst (λ (v : Checked). v.universe ≡ universe_of (rule_trees v.rules)) (sym c.self.view_is) c.requires.universe)
+
+pub returns : goal.returns
+returns c =
+    let u : Listing = c.self.inside.universe.now in
+    let env = c.self.inside.env.now in
+    let i = c.args.i in
+    let rules : List Rule = c.self.inside.rules.now in
+    let trees : List RuleTree = rule_trees rules in
+    let rule : Rule = c.get-rule.result.now in
+    let r : RuleTree = rule_tree rule in
+    let value : slice_get rules i ≡ Some rule = c.get-rule.ensures.value in
+    let at : slice_get trees i ≡ Some r = slice_get-map rule_tree rules i ∙ ap (option_map rule_tree) value in
+    let of_rules = subst (λ (v : Checked). v.universe ≡ universe_of (rule_trees v.rules)) (sym c.self.view_is) c.requires.universe in
+    let firsts : List (Option ℕ) = c.self.inside.firsts.items in
+    let x : Option ℕ = c.index.result.now in
+    let are : AreFirsts trees firsts = c.self.invariant.1 in
+    let inside : i < length firsts = subst (λ (n : ℕ). i < n) (sym are.count) (slice_get_within trees i r at) in
+    let there : slice_get firsts i ≡ Some x = slice_get-get_or firsts i x inside ∙ ap Some (sym c.index.ensures) in
+    let first = subst (λ (o : Option ℕ). IsFirstOf (take i trees) r o) (get_or_from_slice_get firsts i x None there) (are.each i r at) in
+    let two : List Row = c.in_ok-found.found.items in
+    let same : List Row = c.in_ok-same.same.items in
+    IfOk-weaker c.both-2.result (λ all. all.items ≡ two ++ same)
+    (λ all. (files : List File) → StandIn files (rule_trees c.args.self.now.rules) → Lists files (rule_trees c.args.self.now.rules) (IsFinding files (rule_trees c.args.self.now.rules) c.args.self.now.env i) all.items)
+    (λ all e files stand.
+    let here = subst (λ (v : Checked). StandIn files (rule_trees v.rules)) (sym c.self.view_is) stand in
+    subst (λ (v : Checked). Lists files (rule_trees v.rules) (IsFinding files (rule_trees v.rules) v.env i) all.items) c.self.view_is
+    (of_three files trees env i r at u of_rules c.in_ok-row.row c.in_ok-row.ensures.row c.in_ok-own.own.items c.in_ok-parts.parts.items same two all.items c.in_ok-own.ensures
+    (c.in_ok-parts.ensures trees c.self.invariant.0) (c.in_ok-same.ensures files trees i here at first) c.in_ok-found.ensures e))
+    c.both-2.ensures

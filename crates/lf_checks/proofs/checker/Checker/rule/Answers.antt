@@ -1,0 +1,21 @@
+use Rattle.std.proofs.Common.{List}
+use Rattle.std.proofs.lemmas.Result.{IfOk-weaker}
+use Rattle.lf_ast.specs.Rules.{RuleTree, rule_trees}
+use Rattle.lf_ast.specs.declared.verdict.Finding.{Finding as Row}
+use Rattle.lf_checks.specs.Files.{File}
+use Rattle.lf_checks.specs.Findings.{AreFindings}
+use Rattle.lf_checks.specs.views.InOrder.{IsInOrder, OneDuplicate}
+use Rattle.lf_checks.specs.views.Shown.{all_shown}
+use Rattle.lf_checks.proofs.Checking.{are_findings}
+use Rattle.lf_checks.proofs.checker.Checker.rule.Goals as goal
+
+pub returns : goal.returns
+returns c files stand =
+    let rules : List RuleTree = rule_trees c.args.self.now.rules in
+    let env = c.args.self.now.env in
+    let found : List Row = c.in_ok-found.found.items in
+    IfOk-weaker c.in_order.result
+    (λ sorted. (files : List File) (rules : List RuleTree) → OneDuplicate (all_shown files rules found) → IsInOrder (all_shown files rules found) (all_shown files rules sorted))
+    (λ sorted. AreFindings files rules env c.args.i (all_shown files rules sorted))
+    (λ sorted order. are_findings files rules env c.args.i found sorted (c.in_ok-found.ensures files stand) (order files rules))
+    c.in_order.ensures

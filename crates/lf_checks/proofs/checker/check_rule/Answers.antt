@@ -1,0 +1,17 @@
+use Rattle.std.proofs.Common.{sym, subst}
+use Rattle.std.specs.Prelude.{IfOk}
+use Rattle.lf_ast.specs.Rules.{rule_trees}
+use Rattle.lf_checks.specs.AlertTemplate.{HaveSources}
+use Rattle.lf_checks.specs.Files.{StandIn}
+use Rattle.lf_checks.specs.Findings.{AreFindings}
+use Rattle.lf_checks.specs.views.Checked.{Checked}
+use Rattle.lf_checks.specs.views.Shown.{all_shown}
+use Rattle.lf_checks.proofs.checker.check_rule.Goals as goal
+
+pub rule-requires-clause-sources : goal.rule-requires-clause-sources
+rule-requires-clause-sources c = subst (λ (v : Checked). HaveSources (rule_trees v.rules)) (sym c.in_ok-checker.ensures) c.requires.sources
+
+pub returns : goal.returns
+returns c files stand =
+    subst (λ (v : Checked). IfOk c.rule.result (λ found. AreFindings files (rule_trees v.rules) v.env c.args.i (all_shown files (rule_trees v.rules) found))) c.in_ok-checker.ensures
+    (c.rule.ensures files (subst (λ (v : Checked). StandIn files (rule_trees v.rules)) (sym c.in_ok-checker.ensures) stand))

@@ -1,0 +1,21 @@
+use Rattle.std.proofs.Common.{List, map, sym, ◌∙◌, subst}
+use Rattle.std.proofs.lemmas.List.Filters.{dedup_is}
+use Rattle.std.specs.List.Sorted.{IsPermutation}
+use Rattle.std.specs.Ordering.{eq_by_cmp}
+use Rattle.lf_ast.specs.declared.verdict.Finding.{Finding as Row}
+use Rattle.lf_checks.specs.declared.ordering.Keyed.{Keyed}
+use Rattle.lf_checks.specs.views.InOrder.{IsInOrder, keyed, keyed_cmp}
+use Rattle.lf_checks.specs.views.Shown.{all_shown}
+use Rattle.lf_checks.proofs.Ordered.{in_order}
+use Rattle.lf_checks.proofs.ordering.in_order.Goals as goal
+
+pub returns : goal.returns
+returns c files rules one =
+    let found : List Row = c.args.found.items in
+    let sorted : List Keyed = c.sort_unstable.new.self.items in
+    let left : List Keyed = c.dedup.new.self.items in
+    let P : List Keyed → Type 0 = λ ks. IsPermutation ks sorted in
+    let moved : IsPermutation (map keyed found) sorted = subst P c.in_ok-keyed.ensures c.sort_unstable.ensures.permutation in
+    let is = c.from_vec.ensures ∙ c.in_ok-sorted.ensures in
+    subst (λ (l : List Row). IsInOrder (all_shown files rules found) (all_shown files rules l)) (sym is)
+    (in_order files rules found sorted moved c.sort_unstable.ensures.sorted one left (dedup_is (eq_by_cmp keyed_cmp) sorted left c.dedup.ensures.filtered))

@@ -1,0 +1,9 @@
+use Rattle.std.proofs.Common.{List, [], take}
+use Rattle.lf_ast.specs.Rules.{RuleTree}
+use Rattle.lf_ast.specs.Tree.{tree}
+use Rattle.lf_checks.specs.views.Adding.{Adds, OfSome}
+use Rattle.lf_checks.specs.views.Recorded.{AreOf, IsOfSelector}
+use Rattle.lf_checks.proofs.rule_dependency.rule_dependency.Given as goal
+
+abbrev pub invariant-loop-node : goal.invariant-loop-node
+invariant-loop-node l = (rules : List RuleTree) → AreOf rules l.recorded → Adds (OfSome (λ x. IsOfSelector rules (tree x.now)) (take l.node-index l.node-items)) [] l.found.items

@@ -1,0 +1,64 @@
+-- The cases of the checks as the code numbers them: checks from 0 in the order of their table, and the cases of one check from 0.
+use Rattle.std.specs.Prelude.{ℕ, zero, suc, List, [], ◌∷◌, slice_index_or}
+use Rattle.lf_ast.specs.Labels.{Bytes}
+use Rattle.lf_checks.specs.AlertComparison as alert_comparison
+use Rattle.lf_checks.specs.AlertTemplate as alert_template
+use Rattle.lf_checks.specs.ExprEmpty as expr_empty
+use Rattle.lf_checks.specs.ExprType as expr_type
+use Rattle.lf_checks.specs.Finding.{Check, AlertComparison, AlertTemplate, RuleDuplicate, RuleDependency, PromqlRegexp, MatchLabel, ExprEmpty, ExprType, RuleLabel}
+use Rattle.lf_checks.specs.MatchLabel as match_label
+use Rattle.lf_checks.specs.PromqlRegexp as promql_regexp
+use Rattle.lf_checks.specs.RuleDependency as rule_dependency
+use Rattle.lf_checks.specs.RuleDuplicate as rule_duplicate
+use Rattle.lf_checks.specs.RuleLabel as rule_label
+use Rattle.lf_checks.specs.declared.case.Case.{Case}
+
+-- the checks by their numbers
+abbrev pub checks : List Check
+checks = AlertComparison ∷ AlertTemplate ∷ RuleDuplicate ∷ RuleDependency ∷ PromqlRegexp ∷ MatchLabel ∷ ExprEmpty ∷ ExprType ∷ RuleLabel ∷ []
+
+abbrev pub check_at : ℕ → Check
+check_at number = slice_index_or checks number RuleLabel
+
+-- what a case of a check says of a label or name, or of the place of another rule
+abbrev pub said : Check → ℕ → Bytes → Bytes → Bytes
+said AlertComparison case label place = alert_comparison.says
+said AlertTemplate zero label place = alert_template.says_never label
+said AlertTemplate (suc k) label place = alert_template.says_unreadable
+said RuleDuplicate case label place = rule_duplicate.says_where place
+said RuleDependency zero label place = rule_dependency.says_unrecorded label
+said RuleDependency (suc k) label place = rule_dependency.says_cyclic label
+said PromqlRegexp zero label place = promql_regexp.says_plain
+said PromqlRegexp (suc k) label place = promql_regexp.says_anchored
+said MatchLabel case label place = match_label.says_never label
+said ExprEmpty case label place = expr_empty.says
+said ExprType case label place = expr_type.says
+said RuleLabel zero label place = rule_label.says_replaced label
+said RuleLabel (suc k) label place = rule_label.says_removed label
+
+-- the check of a case, and the number of the case among those of the check
+abbrev pub check_of : Case → Check
+check_of Case.ComparesNothing = AlertComparison
+check_of Case.NeverOnAlert = AlertTemplate
+check_of Case.UnreadableTemplate = AlertTemplate
+check_of Case.SameRule = RuleDuplicate
+check_of Case.Unrecorded = RuleDependency
+check_of Case.Cyclic = RuleDependency
+check_of Case.PlainPattern = PromqlRegexp
+check_of Case.AnchoredPattern = PromqlRegexp
+check_of Case.NeverOnOperand = MatchLabel
+check_of Case.NoSample = ExprEmpty
+check_of Case.WrongType = ExprType
+check_of Case.ReplacesLabel = RuleLabel
+check_of Case.RemovesNothing = RuleLabel
+
+abbrev pub number_of : Case → ℕ
+number_of Case.UnreadableTemplate = 1
+number_of Case.Cyclic = 1
+number_of Case.AnchoredPattern = 1
+number_of Case.RemovesNothing = 1
+number_of _ = 0
+
+-- what a case says
+abbrev pub says_of : Case → Bytes → Bytes → Bytes
+says_of case label place = said (check_of case) (number_of case) label place

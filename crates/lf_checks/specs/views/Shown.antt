@@ -1,0 +1,40 @@
+-- What the code's findings say, in the words of the definitions.
+use Rattle.std.specs.Prelude.{ℕ, List, [], Option, map, slice_get}
+use Rattle.std.specs.List.{Contains}
+use Rattle.std.specs.Option.{option_and_then, option_map_or}
+use Rattle.lf_ast.specs.Labels.{Bytes}
+use Rattle.lf_ast.specs.Rules.{RuleTree}
+use Rattle.lf_ast.specs.declared.verdict.Finding.{Finding as Row}
+use Rattle.lf_checks.specs.Files.{File, place_in}
+use Rattle.lf_checks.specs.Finding.{Finding, finding}
+use Rattle.lf_checks.specs.views.Cases.{check_at, said}
+
+-- over the files and the rules, of which a finding may name one by its number
+module _ (files : List File) (rules : List RuleTree) where
+  -- where the name of the rule stands in its file
+  abbrev pub name_place : RuleTree → Bytes
+  name_place r = option_map_or (λ file. place_in file r.name_span.start) (slice_get files r.file) []
+
+  -- where the name of the rule with this number stands
+  abbrev pub place_of : Option ℕ → Bytes
+  place_of other = option_map_or name_place (option_and_then (slice_get rules) other) []
+
+  -- what a finding of the code is
+  abbrev pub shown : Row → Finding
+  shown f = finding (check_at f.check) f.span (said (check_at f.check) f.case f.label (place_of f.other))
+
+  abbrev pub all_shown : List Row → List Finding
+  all_shown found = map shown found
+
+  -- the list holds exactly these findings
+  pub record Lists (is : Finding → Type 0) (found : List Row) : Type 0 where
+    pub each : (f : Finding) → Contains (all_shown found) f → is f
+    pub all : (f : Finding) → is f → Contains (all_shown found) f
+
+-- the same of findings that name no other rule, so that neither files nor rules matter
+abbrev pub ListsAlone : (Finding → Type 0) → List Row → Type 0
+ListsAlone is found = (files : List File) (rules : List RuleTree) → Lists files rules is found
+
+-- what is found of some element of a list
+abbrev pub Along : {X : Type 0} → (X → Finding → Type 0) → List X → Finding → Type 0
+Along {X} P xs f = (x : X) × Contains xs x × P x f

@@ -1,0 +1,55 @@
+-- What match/label tells of labels that are sought on an operand, of a match, and of one part of an expression.
+use Rattle.std.specs.Prelude.{◌≡◌, ◌⊎◌, true, List, []}
+use Rattle.lf_ast.specs.Tree.{Tree}
+use Rattle.lf_ast.specs.Types.{is_vector, names_at}
+use Rattle.lf_ast.specs.declared.expr.Group.{Group}
+use Rattle.lf_ast.specs.declared.expr.Group.TheVariants.{Left, Right}
+use Rattle.lf_ast.specs.declared.expr.Grouping.{Grouping}
+use Rattle.lf_ast.specs.declared.expr.Grouping.TheVariants.{None as Ungrouped, By, Without}
+use Rattle.lf_ast.specs.declared.expr.Matching.{Matching}
+use Rattle.lf_ast.specs.declared.expr.Name.{Name}
+use Rattle.lf_semantics.specs.ClassRows.{Sets}
+use Rattle.lf_semantics.specs.Listing.{Listing}
+use Rattle.lf_semantics.specs.Parts.{type_by_form}
+use Rattle.lf_semantics.specs.RowTable.{Environment, row_of}
+use Rattle.lf_checks.specs.Finding.{Finding, MatchLabel, finding}
+use Rattle.lf_checks.specs.Judged.{IsImpossible}
+use Rattle.lf_checks.specs.MatchLabel.{Seeks, says_never}
+use Rattle.lf_checks.specs.views.Adding.{OfSome}
+
+-- the labels of `by`
+abbrev pub labels_by : Grouping → List Name
+labels_by Ungrouped = []
+labels_by (By labels) = labels
+labels_by (Without labels) = []
+
+-- the list of a group modifier, where the left side is the one side, and where the right one is
+abbrev pub for_left : Group → List Name → List Name
+for_left Right names = names
+for_left _ names = []
+
+abbrev pub for_right : Group → List Name → List Name
+for_right Left names = names
+for_right _ names = []
+
+module _ (u : Listing) where
+  -- the label is impossible by the row
+  abbrev pub IsNever : Sets → Name → Finding → Type 0
+  IsNever row label f = IsImpossible u row label.text × (f ≡ finding MatchLabel label.span (says_never label.text))
+
+  module _ (env : Environment) where
+    -- a label of one of these lists is never on the operand
+    abbrev pub IsOfOperand : Tree → List Name → List Name → Finding → Type 0
+    IsOfOperand operand labels others f = OfSome (IsNever (row_of u env operand)) labels f ⊎ OfSome (IsNever (row_of u env operand)) others f
+
+    -- of either side the labels of `on`, and of the one side those of a group list
+    abbrev pub IsOfSides : Matching → Tree → Tree → Finding → Type 0
+    IsOfSides m left right f = IsOfOperand left (names_at m.on) (for_left m.group m.include) f ⊎ IsOfOperand right (names_at m.on) (for_right m.group m.include) f
+
+    -- of sides that are vectors
+    abbrev pub IsOfMatch : Matching → Tree → Tree → Finding → Type 0
+    IsOfMatch m left right f = (is_vector (type_by_form left) ≡ true) × (is_vector (type_by_form right) ≡ true) × IsOfSides m left right f
+
+    -- a label that the part seeks is never on its operand
+    abbrev pub IsOfPart : Tree → Finding → Type 0
+    IsOfPart x f = (label : Name) × (operand : Tree) × Seeks x label operand × IsNever (row_of u env operand) label f

@@ -1,0 +1,180 @@
+//! What is found of a rule.
+ghost use Rattle.std.specs.Prelude.{◌≡◌, ◌<◌, ◌+◌, ◌++◌, List, Some, length, slice_get, IfOk};
+ghost use Rattle.std.specs.List.{Contains};
+ghost use Rattle.std.specs.List.Sorted.{IsNonDecreasing};
+ghost use Rattle.lf_ast.specs.Rules.{RuleTree, rule_tree, rule_trees};
+ghost use Rattle.lf_ast.specs.declared.rule.Template.{Template};
+ghost use Rattle.lf_semantics.specs.ClassRows.{HasShape};
+ghost use Rattle.lf_semantics.specs.Environments.{IsEnvironment, IsLeast};
+ghost use Rattle.lf_semantics.specs.Listing.{IsListing, universe_of};
+ghost use Rattle.lf_checks.specs.AlertTemplate.{HaveSources};
+ghost use Rattle.lf_checks.specs.Files.{File, StandIn};
+ghost use Rattle.lf_checks.specs.Findings.{AreFindings, IsFinding};
+ghost use Rattle.lf_checks.specs.views.Checked.{IsOfParts, IsOfRule};
+ghost use Rattle.lf_checks.specs.views.Recorded.{AreOf, AreOfSome};
+ghost use Rattle.lf_checks.specs.views.Shown.{Lists, ListsAlone, all_shown};
+
+use crate::alert_comparison::{alert_comparison, condition_of};
+use crate::alert_template::alert_template;
+use crate::expr_empty::expr_empty;
+use crate::expr_type::expr_type;
+use crate::match_label::match_label;
+use crate::ordering::in_order;
+use crate::promql_regexp::promql_regexp;
+use crate::rule_dependency::{RecordedNames, rule_dependency};
+use crate::rule_duplicate::{first_rules, rule_duplicate};
+use crate::rule_label::rule_label;
+use lf_ast::{Finding, Rule};
+use lf_base::{Memory, Seq};
+use lf_classes::{Row, Universe};
+use lf_fix::rule_row;
+use lf_flow::Env;
+use std::alloc::Global;
+use std::marker::Model;
+
+/// Finds what the checks tell of rules. What all rules share is made once.
+#[derive(Drop)]
+pub struct Checker<'a> {
+    universe: &'a Universe,
+    env: &'a Env,
+    rules: &'a Seq<Rule>,
+    recorded: RecordedNames,
+    firsts: Vec<Option<u32>>,
+}
+
+impl<'a> Model for Checker<'a> {
+    ghost use Rattle.std.specs.Coded.{codes};
+    ghost use Rattle.lf_ast.specs.Rules.{rule_trees};
+    ghost use Rattle.lf_ast.specs.contracts.rule.Rule as rule;
+    ghost use Rattle.lf_checks.specs.views.Checked.{Checked};
+    ghost use Rattle.lf_checks.specs.views.Duplicates.{AreFirsts};
+    ghost use Rattle.lf_checks.specs.views.Recorded.{AreOf};
+
+    ghost Value = { Checked };
+
+    ghost coded = { Prim.hlevel (codes, rule.the_row.coded) };
+
+    ghost view = { λ c. record { universe = c.universe.now; env = c.env.now; rules = c.rules.now } };
+
+    ghost invariant = { λ c. AreOf (rule_trees c.rules.now) c.recorded × AreFirsts (rule_trees c.rules.now) c.firsts.items };
+}
+
+impl<'a> Checker<'a> {
+    /// One for rules and their universe and environment.
+    pub fn new(
+        alloc: Global,
+        universe: &'a Universe,
+        env: &'a Env,
+        rules: &'a Seq<Rule>,
+    ) -> Result<Checker<'a>, Memory>
+        ensures { IfOk result (λ checker. checker ≡ record { universe = universe.now; env = env.now; rules = rules.now }) }
+    {
+        let recorded = RecordedNames::of(alloc, rules)?;
+        let firsts = first_rules(alloc, rules)?;
+        Ok(Checker {
+            universe,
+            env,
+            rules,
+            recorded,
+            firsts,
+        })
+    }
+
+    /// The findings of the rule with this number, counted from 0, in their order and each once.
+    pub fn rule(&self, alloc: Global, i: u32) -> Result<Seq<Finding>, Memory>
+        requires universe { self.now.universe ≡ universe_of (rule_trees self.now.rules) }
+        requires least { IsLeast self.now.universe (rule_trees self.now.rules) self.now.env }
+        requires sources { HaveSources (rule_trees self.now.rules) }
+        requires rule { i < length self.now.rules }
+        ensures { (files : List File) → StandIn files (rule_trees self.now.rules) → IfOk result (λ found. AreFindings files (rule_trees self.now.rules) self.now.env i (all_shown files (rule_trees self.now.rules) found)) }
+    {
+        let found = self.found(alloc, i)?;
+        in_order(alloc, found)
+    }
+
+    /// What is found of a rule, check by check.
+    fn found(&self, alloc: Global, i: u32) -> Result<Vec<Finding>, Memory>
+        requires universe { self.now.universe ≡ universe_of (rule_trees self.now.rules) }
+        requires env { IsEnvironment self.now.universe self.now.env }
+        requires sources { HaveSources (rule_trees self.now.rules) }
+        requires rule { i < length self.now.rules }
+        ensures { IfOk result (λ found. (files : List File) → StandIn files (rule_trees self.now.rules) → Lists files (rule_trees self.now.rules) (IsFinding files (rule_trees self.now.rules) self.now.env i) found.items) }
+    {
+        let rule = self.rules.get(i as usize);
+        let row = rule_row(alloc, self.universe, self.env, rule)?;
+        let own = of_rule(alloc, self.universe, &row, rule)?;
+        let parts = of_parts(alloc, self.universe, self.env, &self.recorded, rule)?;
+        let same = rule_duplicate(alloc, self.firsts[i as usize], rule)?;
+        let found = both(own, parts)?;
+        both(found, same)
+    }
+}
+
+/// What is found by a rule itself and its row.
+fn of_rule(
+    alloc: Global,
+    universe: &Universe,
+    row: &Row,
+    rule: &Rule,
+) -> Result<Vec<Finding>, Memory>
+    requires shape { HasShape universe.now row.now }
+    requires sources { (t : Template) → Contains rule.now.templates t → (length t.from ≡ length t.text + 1) × IsNonDecreasing t.from }
+    ensures { IfOk result (λ found. ListsAlone (IsOfRule universe.now row.now (rule_tree rule.now)) found.items) }
+{
+    let condition = condition_of(alloc, &rule.expr)?;
+    let comparisons = alert_comparison(alloc, rule, condition.conditional)?;
+    let templates = alert_template(alloc, universe, row, rule)?;
+    let empty = expr_empty(alloc, row, rule, condition.form)?;
+    let types = expr_type(alloc, rule, condition.form)?;
+    let labels = rule_label(alloc, universe, row, rule)?;
+    let two = both(comparisons, templates)?;
+    let three = both(two, empty)?;
+    let four = both(three, types)?;
+    both(four, labels)
+}
+
+/// What is found by the parts of a rule's expression.
+fn of_parts(
+    alloc: Global,
+    universe: &Universe,
+    env: &Env,
+    recorded: &RecordedNames,
+    rule: &Rule,
+) -> Result<Vec<Finding>, Memory>
+    requires listing { IsListing universe.now }
+    requires env { IsEnvironment universe.now env.now }
+    requires recorded { AreOfSome recorded.now }
+    ensures { (rules : List RuleTree) → AreOf rules recorded.now → IfOk result (λ found. ListsAlone (IsOfParts universe.now env.now rules (rule_tree rule.now)) found.items) }
+{
+    let dependencies = rule_dependency(alloc, recorded, rule)?;
+    let patterns = promql_regexp(alloc, rule)?;
+    let labels = match_label(alloc, universe, env, rule)?;
+    let two = both(dependencies, patterns)?;
+    both(two, labels)
+}
+
+/// The findings of two lists.
+fn both(mut found: Vec<Finding>, mut more: Vec<Finding>) -> Result<Vec<Finding>, Memory>
+    ensures { IfOk result (λ all. all.items ≡ found.items ++ more.items) }
+{
+    found.append(&mut more)?;
+    Ok(found)
+}
+
+/// The findings of the rule with a number, counted from 0, in their order and each once. For many rules a `Checker` is made once.
+pub fn check_rule(
+    alloc: Global,
+    universe: &Universe,
+    env: &Env,
+    rules: &Seq<Rule>,
+    i: u32,
+) -> Result<Seq<Finding>, Memory>
+    requires universe { universe.now ≡ universe_of (rule_trees rules.now) }
+    requires least { IsLeast universe.now (rule_trees rules.now) env.now }
+    requires sources { HaveSources (rule_trees rules.now) }
+    requires rule { i < length rules.now }
+    ensures { (files : List File) → StandIn files (rule_trees rules.now) → IfOk result (λ found. AreFindings files (rule_trees rules.now) env.now i (all_shown files (rule_trees rules.now) found)) }
+{
+    let checker = Checker::new(alloc, universe, env, rules)?;
+    checker.rule(alloc, i)
+}
