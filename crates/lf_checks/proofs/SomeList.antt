@@ -20,7 +20,7 @@ use Rattle.lf_checks.proofs.OneList.{Ascends, head_less, tail_ascends}
 -- ---- findings that neither comes before the other are one
 
 checks : List Check
-checks = AlertComparison ∷ AlertTemplate ∷ RuleDuplicate ∷ RuleDependency ∷ PromqlRegexp ∷ MatchLabel ∷ ExprEmpty ∷ ExprType ∷ RuleLabel ∷ []
+checks = RuleLabel ∷ AlertComparison ∷ AlertTemplate ∷ RuleDuplicate ∷ RuleDependency ∷ PromqlRegexp ∷ MatchLabel ∷ ExprEmpty ∷ ExprType ∷ RuleLabel ∷ []
 
 check_at : ℕ → Check
 check_at k = slice_index_or checks k RuleLabel

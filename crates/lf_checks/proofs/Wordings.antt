@@ -13,28 +13,28 @@ pub told : {E : Type 0} (r : Result Bytes E) (one other : Bytes) → IfOk r (λ 
 told r one other h e = IfOk-weaker r (λ t. t ≡ one) (λ t. t ≡ other) (λ t is. is ∙ e) h
 
 module _ (check case : ℕ) (label place : Bytes) where
-  pub later_template : check ≡ 1 → (case ≡ 0 → ⊥) → says_unreadable ≡ said (check_at check) case label place
+  pub later_template : check ≡ 2 → (case ≡ 0 → ⊥) → says_unreadable ≡ said (check_at check) case label place
   later_template e other = by case other
     where
       by : (k : ℕ) → (k ≡ 0 → ⊥) → says_unreadable ≡ said (check_at check) k label place
       by zero none = absurd (none refl)
       by (suc k) none = rw e refl
 
-  pub later_dependency : check ≡ 3 → (case ≡ 0 → ⊥) → label ++ codes " is read in its own making" ≡ said (check_at check) case label place
+  pub later_dependency : check ≡ 4 → (case ≡ 0 → ⊥) → label ++ codes " is read in its own making" ≡ said (check_at check) case label place
   later_dependency e other = by case other
     where
       by : (k : ℕ) → (k ≡ 0 → ⊥) → label ++ codes " is read in its own making" ≡ said (check_at check) k label place
       by zero none = absurd (none refl)
       by (suc k) none = rw e refl
 
-  pub later_pattern : check ≡ 4 → (case ≡ 0 → ⊥) → says_anchored ≡ said (check_at check) case label place
+  pub later_pattern : check ≡ 5 → (case ≡ 0 → ⊥) → says_anchored ≡ said (check_at check) case label place
   later_pattern e other = by case other
     where
       by : (k : ℕ) → (k ≡ 0 → ⊥) → says_anchored ≡ said (check_at check) k label place
       by zero none = absurd (none refl)
       by (suc k) none = rw e refl
 
-  pub on_operand : check ≡ 5 → codes "label " ++ (label ++ codes " is never on the operand") ≡ said (check_at check) case label place
+  pub on_operand : check ≡ 6 → codes "label " ++ (label ++ codes " is never on the operand") ≡ said (check_at check) case label place
   on_operand e = rw e refl
 
   module _ (last : check_at check ≡ RuleLabel) where
@@ -48,15 +48,16 @@ module _ (check case : ℕ) (label place : Bytes) where
         by zero none = absurd (none refl)
         by (suc k) none = rw last refl
 
--- the numbers from 8 on are of the last check
-pub last_check : (n : ℕ) → (n ≡ 0 → ⊥) → (n ≡ 1 → ⊥) → (n ≡ 2 → ⊥) → (n ≡ 3 → ⊥) → (n ≡ 4 → ⊥) → (n ≡ 5 → ⊥) → (n ≡ 6 → ⊥) → (n ≡ 7 → ⊥) → check_at n ≡ RuleLabel
-last_check zero a b c d e f g h = absurd (a refl)
-last_check (suc zero) a b c d e f g h = absurd (b refl)
-last_check (suc (suc zero)) a b c d e f g h = absurd (c refl)
-last_check (suc (suc (suc zero))) a b c d e f g h = absurd (d refl)
-last_check (suc (suc (suc (suc zero)))) a b c d e f g h = absurd (e refl)
-last_check (suc (suc (suc (suc (suc zero))))) a b c d e f g h = absurd (f refl)
-last_check (suc (suc (suc (suc (suc (suc zero)))))) a b c d e f g h = absurd (g refl)
-last_check (suc (suc (suc (suc (suc (suc (suc zero))))))) a b c d e f g h = absurd (h refl)
-last_check (suc (suc (suc (suc (suc (suc (suc (suc zero)))))))) a b c d e f g h = refl
-last_check (suc (suc (suc (suc (suc (suc (suc (suc (suc k))))))))) a b c d e f g h = refl
+-- the numbers but 1 to 8 are of the last check
+pub last_check : (n : ℕ) → (n ≡ 1 → ⊥) → (n ≡ 2 → ⊥) → (n ≡ 3 → ⊥) → (n ≡ 4 → ⊥) → (n ≡ 5 → ⊥) → (n ≡ 6 → ⊥) → (n ≡ 7 → ⊥) → (n ≡ 8 → ⊥) → check_at n ≡ RuleLabel
+last_check zero a b c d e f g h = refl
+last_check (suc zero) a b c d e f g h = absurd (a refl)
+last_check (suc (suc zero)) a b c d e f g h = absurd (b refl)
+last_check (suc (suc (suc zero))) a b c d e f g h = absurd (c refl)
+last_check (suc (suc (suc (suc zero)))) a b c d e f g h = absurd (d refl)
+last_check (suc (suc (suc (suc (suc zero))))) a b c d e f g h = absurd (e refl)
+last_check (suc (suc (suc (suc (suc (suc zero)))))) a b c d e f g h = absurd (f refl)
+last_check (suc (suc (suc (suc (suc (suc (suc zero))))))) a b c d e f g h = absurd (g refl)
+last_check (suc (suc (suc (suc (suc (suc (suc (suc zero)))))))) a b c d e f g h = absurd (h refl)
+last_check (suc (suc (suc (suc (suc (suc (suc (suc (suc zero))))))))) a b c d e f g h = refl
+last_check (suc (suc (suc (suc (suc (suc (suc (suc (suc (suc k)))))))))) a b c d e f g h = refl

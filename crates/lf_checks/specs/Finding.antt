@@ -30,17 +30,17 @@ name_of ExprEmpty = codes "expr/empty"
 name_of ExprType = codes "expr/type"
 name_of RuleLabel = codes "rule/label"
 
--- the place of a check in the table of checks, counted from 0
+-- the number of a check in the table of checks, counted from 1
 abbrev pub rank : Check → ℕ
-rank AlertComparison = 0
-rank AlertTemplate = 1
-rank RuleDuplicate = 2
-rank RuleDependency = 3
-rank PromqlRegexp = 4
-rank MatchLabel = 5
-rank ExprEmpty = 6
-rank ExprType = 7
-rank RuleLabel = 8
+rank AlertComparison = 1
+rank AlertTemplate = 2
+rank RuleDuplicate = 3
+rank RuleDependency = 4
+rank PromqlRegexp = 5
+rank MatchLabel = 6
+rank ExprEmpty = 7
+rank ExprType = 8
+rank RuleLabel = 9
 
 -- how grave a finding is: a problem, or a note, which asks for a look and no more
 pub data Severity : Type 0 where

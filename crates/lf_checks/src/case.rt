@@ -43,20 +43,20 @@ pub(crate) enum Case {
 }
 
 impl Case {
-    /// The number of its check in the table, counted from 0.
+    /// The number of its check in the table, counted from 1.
     fn check(self) -> u8
         ensures { result ≡ rank (check_of self) }
     {
         match self {
-            Case::ComparesNothing => 0,
-            Case::NeverOnAlert | Case::UnreadableTemplate => 1,
-            Case::SameRule => 2,
-            Case::Unrecorded | Case::Cyclic => 3,
-            Case::PlainPattern | Case::AnchoredPattern => 4,
-            Case::NeverOnOperand => 5,
-            Case::NoSample => 6,
-            Case::WrongType => 7,
-            Case::ReplacesLabel | Case::RemovesNothing => 8,
+            Case::ComparesNothing => 1,
+            Case::NeverOnAlert | Case::UnreadableTemplate => 2,
+            Case::SameRule => 3,
+            Case::Unrecorded | Case::Cyclic => 4,
+            Case::PlainPattern | Case::AnchoredPattern => 5,
+            Case::NeverOnOperand => 6,
+            Case::NoSample => 7,
+            Case::WrongType => 8,
+            Case::ReplacesLabel | Case::RemovesNothing => 9,
         }
     }
 

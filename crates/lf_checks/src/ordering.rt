@@ -100,11 +100,14 @@ fn key_of(alloc: Global, finding: &Finding) -> Result<Seq<u32>, Memory>
     Ok(key)
 }
 
-/// The place of a finding's check in the table of checks.
+/// The number of a finding's check in the table of checks.
 fn rank(finding: &Finding) -> u8
     ensures { result ≡ rank (check_at finding.now.check) }
 {
-    finding.check.min(8)
+    match finding.check {
+        1..=8 => finding.check,
+        _ => 9,
+    }
 }
 
 /// The findings without their keys.

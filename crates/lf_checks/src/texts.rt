@@ -12,17 +12,17 @@ pub fn text_of(alloc: Global, finding: &Finding, place: &str) -> Result<Text, Me
 {
     let label = finding.label.as_str();
     match (finding.check, finding.case) {
-        (0, _) => Text::of(alloc, "the alert's expression compares nothing"),
-        (1, 0) => within(alloc, "label ", label, " is never on the alert's sample"),
-        (1, _) => Text::of(alloc, "the template can't be read"),
-        (2, _) => within(alloc, "the same rule stands at ", place, ""),
-        (3, 0) => within(alloc, "", label, " is recorded by no accepted rule"),
-        (3, _) => within(alloc, "", label, " is read in its own making"),
-        (4, 0) => Text::of(alloc, "the pattern is one plain text"),
-        (4, _) => Text::of(alloc, "the pattern is anchored already"),
-        (5, _) => within(alloc, "label ", label, " is never on the operand"),
-        (6, _) => Text::of(alloc, "the expression has no sample in any run"),
-        (7, _) => Text::of(alloc, "a rule needs a scalar or an instant vector"),
+        (1, _) => Text::of(alloc, "the alert's expression compares nothing"),
+        (2, 0) => within(alloc, "label ", label, " is never on the alert's sample"),
+        (2, _) => Text::of(alloc, "the template can't be read"),
+        (3, _) => within(alloc, "the same rule stands at ", place, ""),
+        (4, 0) => within(alloc, "", label, " is recorded by no accepted rule"),
+        (4, _) => within(alloc, "", label, " is read in its own making"),
+        (5, 0) => Text::of(alloc, "the pattern is one plain text"),
+        (5, _) => Text::of(alloc, "the pattern is anchored already"),
+        (6, _) => within(alloc, "label ", label, " is never on the operand"),
+        (7, _) => Text::of(alloc, "the expression has no sample in any run"),
+        (8, _) => Text::of(alloc, "a rule needs a scalar or an instant vector"),
         (_, 0) => within(alloc, "label ", label, " replaces one that each sample has"),
         (_, _) => within(alloc, "label ", label, " is removed but on no sample"),
     }

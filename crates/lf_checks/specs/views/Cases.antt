@@ -1,4 +1,4 @@
--- The cases of the checks as the code numbers them: checks from 0 in the order of their table, and the cases of one check from 0.
+-- The cases of the checks as the code numbers them: checks from 1 in the order of their table, and the cases of one check from 0.
 use Rattle.std.specs.Prelude.{ℕ, zero, suc, List, [], ◌∷◌, slice_index_or}
 use Rattle.lf_ast.specs.Labels.{Bytes}
 use Rattle.lf_checks.specs.AlertComparison as alert_comparison
@@ -13,9 +13,9 @@ use Rattle.lf_checks.specs.RuleDuplicate as rule_duplicate
 use Rattle.lf_checks.specs.RuleLabel as rule_label
 use Rattle.lf_checks.specs.declared.case.Case.{Case}
 
--- the checks by their numbers
+-- the checks by their numbers, of which none is 0
 abbrev pub checks : List Check
-checks = AlertComparison ∷ AlertTemplate ∷ RuleDuplicate ∷ RuleDependency ∷ PromqlRegexp ∷ MatchLabel ∷ ExprEmpty ∷ ExprType ∷ RuleLabel ∷ []
+checks = RuleLabel ∷ AlertComparison ∷ AlertTemplate ∷ RuleDuplicate ∷ RuleDependency ∷ PromqlRegexp ∷ MatchLabel ∷ ExprEmpty ∷ ExprType ∷ RuleLabel ∷ []
 
 abbrev pub check_at : ℕ → Check
 check_at number = slice_index_or checks number RuleLabel
