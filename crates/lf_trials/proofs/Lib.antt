@@ -12,3 +12,4 @@ pub mod Reachable
 pub mod SomeVerdict
 pub mod SelectedNames
 pub mod WorkedBound
+pub mod WorkedEmptyRow

@@ -47,6 +47,6 @@ module _ (u : Listing) where
   abbrev pub completed_by : Sets → Given → Given
   completed_by row D name = option_or (D name) (first (candidates_in u row name))
 
-  -- none where a label is left without a text
+  -- none where the row is empty, and where a label is left without a text
   abbrev pub completed : Sets → Given → Option Given
-  completed row D = cond (list_all (λ name. is_some (completed_by row D name)) (labels_in u)) (Some (completed_by row D)) None
+  completed row D = cond (is_live row && list_all (λ name. is_some (completed_by row D name)) (labels_in u)) (Some (completed_by row D)) None
