@@ -21,7 +21,7 @@ use Rattle.lf_trials.specs.Names.{is_scraped_name, name_for}
 use Rattle.lf_trials.specs.Reached.{Trial, listed, rules_at, with_reach}
 use Rattle.lf_trials.specs.Trials.{IsFirstShown, Shown, Shows}
 use Rattle.lf_trials.specs.Selected.{Selected, selected_by}
-use Rattle.lf_trials.specs.Uniform.{name_said, name_unsaid, series_names, uniform_series, uniform_texts}
+use Rattle.lf_trials.specs.Uniform.{IsUniform, name_said, name_unsaid, series_names, uniform_series, uniform_texts}
 use Rattle.lf_trials.specs.Verdicts.{IsLabelVerdict, Possible}
 use Rattle.lf_trials.proofs.BuiltSeries.{AreScrapedIn, building_scraped, named_for, once_there}
 use Rattle.lf_trials.proofs.MadeSeries.{IsScraped, IsScrapedName, made_is_scraped, scraped_by_test}
@@ -78,22 +78,24 @@ module _ (u : Listing) (env : Environment) (rules : List RuleTree) (listing : Is
         | inr unsaid ↦ let from = of_flat_map (λ s. listed (name_unsaid u rules s)) selected name unsaid in unsaid_is_scraped from.0 name (of_listed (name_unsaid u rules from.0) name from.2)
       ]
 
-  uniform_is_scraped : (selected : List Selected) (D : Given) → AreScraped rules (uniform_series u rules selected D)
-  uniform_is_scraped selected D s there =
+  uniform_scraped : (selected : List Selected) (D : Given) → AreScraped rules (uniform_series u rules selected D)
+  uniform_scraped selected D s there =
       let from = map_member (λ name. label_set (labels_in u) (giving metric name D)) (series_names u rules selected) s there in
       subst (IsScraped rules) (sym from.2) (made_is_scraped u rules listing from.0 D (name_is_scraped selected from.0 from.1))
 
   module _ (i : ℕ) (label : Bytes) (presence : Bool) where
-    built_is_scraped : (t : Trial) → IsBuilt u env rules i label presence t → AreScraped rules t.series
+    pub built_is_scraped : (t : Trial) → IsBuilt u env rules i label presence t → AreScraped rules t.series
     built_is_scraped t is s there =
         let all : AreScrapedIn u env rules listing (Some is.built) = subst (AreScrapedIn u env rules listing) is.is_built (building_scraped u env rules listing is.holds_fork i is.rule label presence) in
         all s (once_there u env rules listing is.built.series s (subst (λ (v : Trial). Contains v.series s) is.is_trial there))
 
+    pub uniform_is_scraped : (t : Trial) → IsUniform u rules i label presence t → AreScraped rules t.series
+    uniform_is_scraped t is s there =
+        uniform_scraped (selected_by rules (with_reach i is.reach)) (uniform_texts u rules i is.rule label presence) s (subst (λ (v : Trial). Contains v.series s) is.is_trial there)
+
     trial_is_scraped : (shown : Shown) → IsFirstShown u env rules i label presence shown → AreScraped rules shown.trial.series
     trial_is_scraped shown (inl built) = built_is_scraped shown.trial built.0
-    trial_is_scraped shown (inr uniform) =
-        let is = uniform.1.0 in
-        λ s there. uniform_is_scraped (selected_by rules (with_reach i is.reach)) (uniform_texts u rules i is.rule label presence) s (subst (λ (v : Trial). Contains v.series s) is.is_trial there)
+    trial_is_scraped shown (inr uniform) = uniform_is_scraped shown.trial uniform.1.0
 
     shows : (shown : Shown) → IsFirstShown u env rules i label presence shown → Shows rules i label presence shown
     shows shown (inl built) = built.1
