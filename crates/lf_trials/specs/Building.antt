@@ -6,7 +6,7 @@ use Rattle.lf_ast.specs.Labels.{Labels}
 use Rattle.lf_ast.specs.LabelOrder.{labels_cmp}
 use Rattle.lf_trials.specs.Given.{Given}
 
--- what is built: series and steps in the order in which they are added, and how often a selector was built
+-- what is built: series and steps in the order in which they are added, and how many selectors were built, one that was built twice being two
 pub record Building : Type 0 where
   pub series : List Labels
   pub steps : List ℕ

@@ -89,8 +89,8 @@ module _ (u : Listing) (env : Environment) (rules : List RuleTree) (holds_fork :
   abbrev pub before_recording : RuleTree → Given → Given
   before_recording r D = losing (λ name. is_metric name || sets_label r name) D
 
-  -- The first rule that fits is marked, its expression is built, the mark is taken off, and its step is added. So many rules aren't marked yet: each that is built marks
-  -- one, so they run out before the number does.
+  -- The first rule that fits is marked, its expression is built, the mark is taken off, and its step is added. At most so many rules aren't marked yet: each that is
+  -- built marks one, so they run out before the number does.
   abbrev pub build_by_rule : ℕ → List ℕ → Bytes → Builder
   build_by_rule zero marked name D = None
   build_by_rule (suc unmarked) marked name D =
@@ -110,7 +110,8 @@ module _ (u : Listing) (env : Environment) (rules : List RuleTree) (holds_fork :
 abbrev pub selector_count : List RuleTree → List ℕ → ℕ
 selector_count rules numbers = sum (map (λ r. length (selectors r.expr)) (rules_at rules numbers))
 
--- The built world for a label and a presence. There is none where a selector is built more than four times as often as selectors stand in the rule and in its reach.
+-- The built world for a label and a presence. There is none where selectors, all of them together, are built more than four times as often as they stand in the rule and in its
+-- reach, outside scalars.
 pub record IsBuilt (u : Listing) (env : Environment) (rules : List RuleTree) (i : ℕ) (label : Bytes) (presence : Bool) (trial : Trial) : Type 0 where
   pub holds_fork : Tree → Bool
   pub tells_forks : TellsForks rules holds_fork

@@ -50,7 +50,7 @@ module _ (label : Bytes) where
 
   -- functions and aggregations
 
-  -- the text of the first `=` on the label
+  -- the text of the first `=` on the label. The metric name is lost, and so is each label where the argument is no selector
   abbrev pub sought_text : Option Sought → Bytes
   sought_text None = []
   sought_text (Some sought) = cond (is_metric label) [] (option_map_or (λ text. text) (first (equal_texts (filter (λ m. bytes_eq m.label label) sought.matchers))) [])
@@ -61,7 +61,7 @@ module _ (label : Bytes) where
   abbrev pub counted_text : Grouping → Bytes → Bytes → Bytes
   counted_text grouping x text = cond (bytes_eq label x) (codes "1") (grouped_text grouping text)
 
-  -- `le` has to be `+Inf`, and is lost
+  -- `le` has to be `+Inf`, and is lost; so is the metric name, and other labels pass
   abbrev pub bucket_text : Bytes → Followed
   bucket_text text = cond (bytes_eq label (codes "le")) (cond (bytes_eq text (codes "+Inf")) lost None) (Some (without_name text))
 
@@ -146,7 +146,8 @@ module _ (u : Listing) (rules : List RuleTree) (label given : Bytes) where
 
   -- recorded names
 
-  -- the first unmarked rule of the name is marked and followed. So many rules aren't marked yet: each that is followed marks one, so they run out before the number does
+  -- the first unmarked rule of the name is marked and followed. At most so many rules aren't marked yet: each that is followed marks one, so they run out before the number
+  -- does
   abbrev pub follow_by_rule : ℕ → List ℕ → Bytes → Followed
   follow_by_rule zero marked name = None
   follow_by_rule (suc unmarked) marked name =

@@ -1,4 +1,5 @@
--- Which side of a match gives a label to the result. A label that neither gives is on no result.
+-- Which side of a match gives a label to the result. A label that neither gives is on no result. This is asked of arithmetic, comparisons and `and` alone: what is said here of `or`
+-- and `unless` means nothing, and nothing uses it.
 use Rattle.std.specs.Prelude.{Bool, true, false, not, ◌&&◌, ◌||◌}
 use Rattle.lf_ast.specs.Labels.{Bytes}
 use Rattle.lf_ast.specs.Types.{is_among}
