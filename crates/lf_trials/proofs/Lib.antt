@@ -13,3 +13,4 @@ pub mod SomeVerdict
 pub mod SelectedNames
 pub mod WorkedBound
 pub mod WorkedEmptyRow
+pub mod WorkedUnresolved

@@ -27,7 +27,7 @@ use Rattle.lf_trials.proofs.BuiltSeries.{AreScrapedIn, building_scraped, named_f
 use Rattle.lf_trials.proofs.MadeSeries.{IsScraped, IsScrapedName, made_is_scraped, scraped_by_test}
 use Rattle.lf_witness.proofs.StrictRunIsRun.{samples_behind}
 
-at_number : {X : Type 0} (xs : List X) (k : ℕ) (x : X) → slice_get xs k ≡ Some x → Contains xs x
+pub at_number : {X : Type 0} (xs : List X) (k : ℕ) (x : X) → slice_get xs k ≡ Some x → Contains xs x
 at_number xs k x is = (k, slice_get_within xs k x is, get_or_from_slice_get xs k x x is)
 
 of_listed : {X : Type 0} (o : Option X) (x : X) → Contains (listed o) x → o ≡ Some x
@@ -39,10 +39,10 @@ steps_among : (rules : List RuleTree) (numbers : List ℕ) (r : RuleTree) → Co
 steps_among rules numbers r there = let from = of_flat_map (λ k. listed (slice_get rules k)) numbers r there in at_number rules from.0 r (of_listed (slice_get rules from.0) r from.2)
 
 -- what is found is there, and passes
-abbrev IsIn : {X : Type 0} → (X → Bool) → List X → X → Type 0
+abbrev pub IsIn : {X : Type 0} → (X → Bool) → List X → X → Type 0
 IsIn test xs x = Contains xs x × (test x ≡ true)
 
-found_in : {X : Type 0} (test : X → Bool) (xs : List X) (x : X) → find test xs ≡ Some x → IsIn test xs x
+pub found_in : {X : Type 0} (test : X → Bool) (xs : List X) (x : X) → find test xs ≡ Some x → IsIn test xs x
 found_in test [] x e = absurd (true≢false (sym (ap is_some e)))
 found_in {X = X} test (y ∷ xs) x e = by (test y) refl (found_in test xs x) e
   where

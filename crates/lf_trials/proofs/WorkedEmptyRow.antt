@@ -27,22 +27,30 @@ pub empty_completes_none : (u : Listing) (row : Sets) (D : Given) → is_live ro
 empty_completes_none u row D empty = ap (λ (live : Bool). cond (live && list_all (λ name. is_some (completed_by u row D name)) (labels_in u)) (Some (completed_by u row D)) None) empty
 
 -- a selector with a text of `a`
-abbrev of_a : Bytes → Bytes → Tree
+abbrev pub of_a : Bytes → Bytes → Tree
 of_a name text = selector name (asks (codes "a") Equal text ∷ [])
 
 -- `foo{a="1",a="2"}` has no sample
-abbrev never : Tree
+abbrev pub never : Tree
 never = selector (codes "foo") (asks (codes "a") Equal (codes "1") ∷ asks (codes "a") Equal (codes "2") ∷ [])
 
+-- `bar{a="1"} or foo{a="1",a="2"}`
+abbrev pub either : Tree
+either = between Or unmodified (of_a (codes "bar") (codes "1")) never
+
 -- `foo{a=""} or (bar{a="1"} or foo{a="1",a="2"})`
-abbrev left : Tree
-left = between Or unmodified (of_a (codes "foo") []) (paren (between Or unmodified (of_a (codes "bar") (codes "1")) never))
+abbrev pub left : Tree
+left = between Or unmodified (of_a (codes "foo") []) (paren either)
+
+-- `(foo{a=""} or (bar{a="1"} or foo{a="1",a="2"})) and bar{a="1"}`
+abbrev pub conjoined : Tree
+conjoined = between And unmodified (paren left) (of_a (codes "bar") (codes "1"))
 
 -- `r:r` is `((foo{a=""} or (bar{a="1"} or foo{a="1",a="2"})) and bar{a="1"}) or sum(zzz)`
-abbrev rule : RuleTree
-rule = alone (between Or unmodified (paren (between And unmodified (paren left) (of_a (codes "bar") (codes "1")))) (aggregate Sum Ungrouped (selector (codes "zzz") [] ∷ [])))
+abbrev pub rule : RuleTree
+rule = alone (between Or unmodified (paren conjoined) (aggregate Sum Ungrouped (selector (codes "zzz") [] ∷ [])))
 
-abbrev u : Listing
+abbrev pub u : Listing
 u = record { names = metric ∷ codes "a" ∷ []; named = (codes "foo" ∷ codes "bar" ∷ codes "zzz" ∷ codes "r:r" ∷ []) ∷ (codes "1" ∷ codes "2" ∷ []) ∷ [] ∷ [] }
 
 universe : universe_of (rule ∷ []) ≡ u
