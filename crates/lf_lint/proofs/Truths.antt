@@ -1,7 +1,9 @@
--- What a report says of the labels of rules is true.
-use Rattle.std.proofs.Common.{◌≡◌, ◌↔◌, ℕ, zero, suc, ◌+◌, ◌<◌, Bool, true, false, not, cond, List, [], ◌∷◌, ◌++◌, map, length, get_or, length-append, Option, Some, refl, sym, ◌∙◌, ap, ap₂, subst, arith, codes, if◌then◌else◌}
+-- What a report says of the labels of rules is true, and so is what its findings claim.
+use Rattle.std.proofs.Common.{◌≡◌, ◌↔◌, ℕ, zero, suc, ◌+◌, ◌<◌, Bool, true, false, not, cond, List, [], ◌∷◌, ◌++◌, map, length, get_or, length-append, Option, Some, refl, sym, ◌∙◌, ap, ap₂, subst, arith, codes}
 use Rattle.std.specs.Prelude.{slice_get}
 use Rattle.std.specs.List.{AllByRecursion, Contains, count_by, flat_map}
+use Rattle.std.specs.Option.{option_map}
+use Rattle.std.proofs.lemmas.Option.{slice_get-map}
 use Rattle.std.proofs.lemmas.List.Sums.{sum_by-cons}
 use Rattle.lf_ast.specs.Labels.{Bytes, Labels}
 use Rattle.lf_ast.specs.Rules.{RuleTree}
@@ -15,15 +17,23 @@ use Rattle.lf_semantics.proofs.Places.{place_le}
 use Rattle.lf_semantics.proofs.SamplesRepresented.{sample_represented}
 use Rattle.lf_semantics.proofs.RowLaws.{length_row}
 use Rattle.lf_semantics.proofs.Told.{is_absent, is_present, not_empty}
+use Rattle.lf_checks.specs.Files.{File}
+use Rattle.lf_checks.specs.Finding.{Finding}
+use Rattle.lf_checks.specs.Findings.{AreFindings}
+use Rattle.lf_checks.specs.Truths.{IsTrue as IsTrueFinding}
+use Rattle.lf_checks.proofs.TrueFindings.{finding_is_true}
+use Rattle.lf_laws.proofs.Members.{behind, here}
 use Rattle.lf_report.specs.declared.asked.Asked.{Asked}
+use Rattle.lf_report.specs.declared.file_report.FileReport.{FileReport}
 use Rattle.lf_report.specs.declared.report.verdict.Verdict.{Verdict}
 use Rattle.lf_report.specs.declared.report.verdict.Verdict.TheVariants.{Unresolved}
 use Rattle.lf_accept.specs.Accepted.{IsAccepted}
-use Rattle.lf_report.specs.Report.{IsReportOn}
-use Rattle.lf_lint.specs.Ends.{Judged, Wrote, WroteAll}
-use Rattle.lf_report.specs.Founds.{Content, Refused, Rules, is_refused}
-use Rattle.lf_lint.specs.Headline.{IsTrue, IsTrueOf, IsTrueReport, IsTrueSaid, Said, SpeaksTruth, Spoken, WroteTruth, is_empty, said_text, spoken_lines, verdicts_said}
-use Rattle.lf_report.specs.Report.{label_line, label_lines, labels_of, labels_text, lines_text, place_text, report_of, rule_line, rule_lines, rules_lines, said_lines, totals_line, totals_text, verdicts_line}
+use Rattle.lf_report.specs.Checked.{AreChecked, Checked, findings_of, note_count, problem_count}
+use Rattle.lf_lint.specs.declared.status.Status.{Status}
+use Rattle.lf_lint.specs.Ends.{IsOfRules, Judged, Wrote, WroteAll, end_of}
+use Rattle.lf_report.specs.Founds.{Content, Refused, Rules}
+use Rattle.lf_lint.specs.Headline.{IsTrue, IsTrueOf, IsTrueReport, IsTrueSaid, Said, SpeaksTruth, Spoken, WroteTruth, findings_spoken, is_empty, said_text, spoken_lines, totals_spoken, verdicts_said}
+use Rattle.lf_report.specs.Report.{IsReportOn, IsRulesReport, checked_lines, files_of, finding_lines, label_line, label_lines, labels_of, lines_text, place_text, rule_line, rules_text, said_lines, totals_line, totals_lines, verdicts_line, with_labels}
 use Rattle.lf_report.specs.Verdicts.{empty_count, is_empty_rule, verdict_from, verdict_of, verdicts_in, verdicts_of}
 use Rattle.lf_accept.proofs.AcceptedRules.{sets_no_name}
 use Rattle.lf_report.proofs.LabelTexts.{text_same}
@@ -141,71 +151,93 @@ module _ (rules : List RuleTree) (named : (r : RuleTree) → Contains rules r �
       by true e = (e, claim_labels (labels_of u) (row r) (each_set r), λ name. (_, claim_at (labels_of u) (row r) (label_of u name) (within name) (each_set r), true_at r name))
       by false e = (e, λ world s sample. not_empty u (row r) s (lies r world s sample) e)
 
-  abbrev speak : RuleTree → Spoken
-  speak r = record { rule = r; said = said_by (labels_of u) (row r) }
+  abbrev speak : Checked → Spoken
+  speak c = record { rule = c.rule; said = said_by (labels_of u) (row c.rule); found = c.found }
 
-  rules_spoken : (rs : List RuleTree) → map (λ (s : Spoken). s.rule) (map speak rs) ≡ rs
+  -- ---- findings
+
+  all_members : (P : Finding → Type 0) (found : List Finding) → ((f : Finding) → Contains found f → P f) → AllByRecursion P found
+  all_members P [] h = tt
+  all_members P (f ∷ found) h = (h f (here f found), all_members P found (λ g c. h g (behind f found g c)))
+
+  -- the findings of a rule are true of it, where the list has them and the rule
+  found_true : (files : List File) (i : ℕ) (c : Checked) → slice_get rules i ≡ Some c.rule → AreFindings files rules env i c.found → AllByRecursion (IsTrueFinding rules c.rule) c.found
+  found_true files i c at are = all_members (IsTrueFinding rules c.rule) c.found (λ f has.
+      let told = finding_is_true rules named env least files i f (are.each f has) in
+      let same : told.0 ≡ c.rule = (let e : Some told.0 ≡ Some c.rule = sym told.1 ∙ at in cc) in
+      subst (λ (r : RuleTree). IsTrueFinding rules r f) same told.2)
+
+  -- each is told of its own rule
+  each_true : (checked : List Checked) → ((i : ℕ) (c : Checked) → slice_get checked i ≡ Some c → AllByRecursion (IsTrueFinding rules c.rule) c.found) → AllByRecursion (SpeaksTruth rules env) (map speak checked)
+  each_true [] h = tt
+  each_true (c ∷ checked) h = ((true_said c.rule, h 0 c refl), each_true checked (λ i d at. h (suc i) d at))
+
+  rule_at : (checked : List Checked) (i : ℕ) (c : Checked) → map (λ (x : Checked). x.rule) checked ≡ rules → slice_get checked i ≡ Some c → slice_get rules i ≡ Some c.rule
+  rule_at checked i c each at = ap (λ l. slice_get l i) (sym each) ∙ slice_get-map (λ (x : Checked). x.rule) checked i ∙ ap (option_map (λ (x : Checked). x.rule)) at
+
+  all_spoken : (files : List File) (checked : List Checked) → AreChecked files rules env checked → AllByRecursion (SpeaksTruth rules env) (map speak checked)
+  all_spoken files checked are = each_true checked (λ i c at. found_true files i c (rule_at checked i c are.each_rule at) (are.each_list i c at))
+
+  -- ---- the text
+
+  rules_spoken : (checked : List Checked) → map (λ (s : Spoken). s.rule) (map speak checked) ≡ map (λ (c : Checked). c.rule) checked
   rules_spoken [] = refl
-  rules_spoken (r ∷ rs) = ap (λ (l : List RuleTree). r ∷ l) (rules_spoken rs)
+  rules_spoken (c ∷ checked) = ap (λ (l : List RuleTree). c.rule ∷ l) (rules_spoken checked)
 
-  all_spoken : (rs : List RuleTree) → AllByRecursion (SpeaksTruth rules env) (map speak rs)
-  all_spoken [] = tt
-  all_spoken (r ∷ rs) = (true_said r, all_spoken rs)
+  found_spoken : (checked : List Checked) → findings_spoken (map speak checked) ≡ findings_of checked
+  found_spoken [] = refl
+  found_spoken (c ∷ checked) = ap (λ (l : List Finding). c.found ++ l) (found_spoken checked)
 
-  lines_same : (file bytes : Bytes) (r : RuleTree) → spoken_lines file bytes (speak r) ≡ rule_lines file bytes (labels_of u) row r
-  lines_same file bytes r = ap (λ (l : List Bytes). rule_line (place_text file bytes r.name_span.start) r.name ∷ l) (said_same (place_text file bytes r.expr_span.start) (labels_of u) (row r))
+  lines_same : (asked : Asked) (bytes : Bytes) (c : Checked) → spoken_lines asked bytes (speak c) ≡ checked_lines asked bytes (labels_of u) row c
+  lines_same asked bytes c =
+      ap (λ (l : List Bytes). with_labels asked.labels (rule_line (place_text asked.file bytes c.rule.name_span.start) c.rule.name ∷ l) ++ finding_lines asked.file bytes c.found)
+      (said_same (place_text asked.file bytes c.rule.expr_span.start) (labels_of u) (row c.rule))
 
-  all_lines : (file bytes : Bytes) (rs : List RuleTree) → flat_map (spoken_lines file bytes) (map speak rs) ≡ rules_lines file bytes (labels_of u) row rs
-  all_lines file bytes [] = refl
-  all_lines file bytes (r ∷ rs) = ap₂ (λ (l m : List Bytes). l ++ m) (lines_same file bytes r) (all_lines file bytes rs)
+  all_lines : (asked : Asked) (bytes : Bytes) (checked : List Checked) → flat_map (spoken_lines asked bytes) (map speak checked) ≡ flat_map (checked_lines asked bytes (labels_of u) row) checked
+  all_lines asked bytes [] = refl
+  all_lines asked bytes (c ∷ checked) = ap₂ (λ (l m : List Bytes). l ++ m) (lines_same asked bytes c) (all_lines asked bytes checked)
 
-  all_verdicts : (rs : List RuleTree) → flat_map (λ (s : Spoken). verdicts_said s.said) (map speak rs) ≡ verdicts_of row rs
+  all_verdicts : (checked : List Checked) → flat_map (λ (s : Spoken). verdicts_said s.said) (map speak checked) ≡ verdicts_of row (map (λ (c : Checked). c.rule) checked)
   all_verdicts [] = refl
-  all_verdicts (r ∷ rs) = ap₂ (λ (l m : List Verdict). l ++ m) (verdicts_same (labels_of u) (row r) (each_set r)) (all_verdicts rs)
+  all_verdicts (c ∷ checked) = ap₂ (λ (l m : List Verdict). l ++ m) (verdicts_same (labels_of u) (row c.rule) (each_set c.rule)) (all_verdicts checked)
 
-  all_empty : (rs : List RuleTree) → count_by (λ (s : Spoken). is_empty s.said) (map speak rs) ≡ empty_count row rs
+  all_empty : (checked : List Checked) → count_by (λ (s : Spoken). is_empty s.said) (map speak checked) ≡ empty_count row (map (λ (c : Checked). c.rule) checked)
   all_empty [] = refl
-  all_empty (r ∷ rs) =
-      sum_by-cons (λ (s : Spoken). cond (is_empty s.said) 1 0) (speak r) (map speak rs)
-      ∙ ap₂ (λ (b : Bool) (n : ℕ). cond b 1 0 + n) (empty_same (labels_of u) (row r)) (all_empty rs)
-      ∙ sym (sum_by-cons (λ y. cond (is_empty_rule row y) 1 0) r rs)
+  all_empty (c ∷ checked) =
+      sum_by-cons (λ (s : Spoken). cond (is_empty s.said) 1 0) (speak c) (map speak checked)
+      ∙ ap₂ (λ (b : Bool) (n : ℕ). cond b 1 0 + n) (empty_same (labels_of u) (row c.rule)) (all_empty checked)
+      ∙ sym (sum_by-cons (λ y. cond (is_empty_rule row y) 1 0) c.rule (map (λ (x : Checked). x.rule) checked))
 
-  true_report : (asked : Asked) (bytes : Bytes) → asked.labels ≡ true → IsTrueReport asked bytes rules (report_of asked bytes (Rules rules) env)
-  true_report asked bytes labels = record {
+  totals_same : (asked : Asked) (checked : List Checked) → map (λ (c : Checked). c.rule) checked ≡ rules → totals_lines asked row rules (findings_of checked) ≡ totals_spoken asked rules (map speak checked)
+  totals_same asked checked each =
+      ap (λ (found : List Finding). totals_line 0 (length rules) (problem_count found) (note_count found) ∷ with_labels asked.labels (verdicts_line (verdicts_of row rules) (empty_count row rules) ∷ []))
+      (sym (found_spoken checked))
+      ∙ ap₂ (λ (verdicts : List Verdict) (empty : ℕ). totals_line 0 (length rules) (problem_count (findings_spoken (map speak checked))) (note_count (findings_spoken (map speak checked)))
+      ∷ with_labels asked.labels (verdicts_line verdicts empty ∷ []))
+      (sym (all_verdicts checked ∙ ap (verdicts_of row) each)) (sym (all_empty checked ∙ ap (empty_count row) each))
+
+  true_report : (asked : Asked) (bytes : Bytes) (checked : List Checked) → AreChecked (files_of asked bytes) rules env checked → IsTrueReport asked bytes rules (rules_text asked bytes row rules checked)
+  true_report asked bytes checked are = record {
     env = env;
     least = least;
     no_star = starless;
-    spoken = map speak rules;
-    each_rule = rules_spoken rules;
-    text =
-        ap (λ (b : Bool). if b then labels_text asked.file bytes row rules else totals_text rules) labels
-        ∙ ap (λ (lines : List Bytes). lines_text (lines ++ totals_line 0 (length rules) ∷ verdicts_line (verdicts_of row rules) (empty_count row rules) ∷ [])) (sym (all_lines asked.file bytes rules))
-        ∙ ap₂ (λ (verdicts : List Verdict) (empty : ℕ). lines_text (flat_map (spoken_lines asked.file bytes) (map speak rules) ++ totals_line 0 (length rules) ∷ verdicts_line verdicts empty ∷ []))
-        (sym (all_verdicts rules)) (sym (all_empty rules));
-    all_true = all_spoken rules;
+    spoken = map speak checked;
+    each_rule = rules_spoken checked ∙ are.each_rule;
+    text = ap₂ (λ (lines totals : List Bytes). lines_text (lines ++ totals)) (sym (all_lines asked bytes checked)) (totals_same asked checked are.each_rule);
+    all_true = all_spoken (files_of asked bytes) checked are;
   }
 
--- a report on rules where labels are asked for
-true_on : (asked : Asked) (bytes : Bytes) (rules : List RuleTree) → IsAccepted bytes 0 rules → (report : Bytes) → IsReportOn asked bytes (Rules rules) report → asked.labels ≡ true → IsTrueReport asked bytes rules report
-true_on asked bytes rules accepted report on labels =
+-- a report on rules
+true_on : (asked : Asked) (bytes : Bytes) (rules : List RuleTree) → IsAccepted bytes 0 rules → (report : FileReport) → IsRulesReport asked bytes rules report → IsTrueReport asked bytes rules report.text
+true_on asked bytes rules accepted report on =
     let P : Bytes → Type 0 = λ text. IsTrueReport asked bytes rules text in
-    subst P (sym on.2) (true_report rules (sets_no_name bytes 0 rules accepted) on.0 (on.1 labels) (λ c. no_star bytes 0 rules accepted (codes "*") c refl) asked bytes labels)
+    subst P (sym on.text) (true_report rules (sets_no_name bytes 0 rules accepted) on.env on.least (λ c. no_star bytes 0 rules accepted (codes "*") c refl) asked bytes on.checked on.are_checked)
 
 -- some rules were found
-wrote_on : (words : List Bytes) (held : Bytes → Option Bytes) (before now : Option Bytes) (asked : Asked) (bytes : Bytes) (rules : List RuleTree) → Judged words held asked bytes (Rules rules)
-    → (report : Bytes) → IsReportOn asked bytes (Rules rules) report → Wrote before now report → WroteTruth words held before now
-wrote_on words held before now asked bytes rules judged report on written = (asked, bytes, rules, judged, λ labels. (report, written, true_on asked bytes rules judged.holds report on labels))
+wrote_on : (words : List Bytes) (held : Bytes → Option Bytes) (before now : Option Bytes) (status : Status) → IsOfRules status → (asked : Asked) (bytes : Bytes) (found : Content) → Judged words held asked bytes found
+    → (report : FileReport) → IsReportOn asked bytes found report → end_of found report ≡ status → Wrote before now report.text → WroteTruth words held before now
+wrote_on words held before now status good asked bytes (Rules rules) judged report on ends written = (asked, bytes, rules, judged, report.text, written, true_on asked bytes rules judged.holds report on)
+wrote_on words held before now status good asked bytes (Refused kind span) judged report on ends written = absurd (subst IsOfRules (sym ends) good)
 
-true_false : true ≡ false → ⊥
-true_false e = cc
-
-rules_in : (found : Content) → is_refused found ≡ false → (rules : List RuleTree) × (found ≡ Rules rules)
-rules_in (Rules rules) e = (rules, refl)
-rules_in (Refused kind span) e = absurd (true_false e)
-
-pub wrote_truth : (words : List Bytes) (held : Bytes → Option Bytes) (before now : Option Bytes) → WroteAll words held before now false → WroteTruth words held before now
-wrote_truth words held before now all =
-    let some = rules_in all.2 all.4 in
-    let P : Content → Type 0 = λ f. Judged words held all.0 all.1 f in
-    let Q : Content → Type 0 = λ f. IsReportOn all.0 all.1 f all.5 in
-    wrote_on words held before now all.0 all.1 some.0 (subst P some.1 all.3) all.5 (subst Q some.1 all.6) all.7
+pub wrote_truth : (words : List Bytes) (held : Bytes → Option Bytes) (before now : Option Bytes) (status : Status) → IsOfRules status → WroteAll words held before now status → WroteTruth words held before now
+wrote_truth words held before now status good (asked, bytes, found, judged, report, on, ends, written) = wrote_on words held before now status good asked bytes found judged report on ends written

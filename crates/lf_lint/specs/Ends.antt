@@ -1,13 +1,14 @@
 -- What a call of `lint` did to the outside, by its status.
-use Rattle.std.specs.Prelude.{◌≡◌, ℕ, ◌+◌, ◌<◌, ◌≤◌, Bool, List, ◌++◌, length, take, drop, Option, Some, None, ◌⊎◌}
+use Rattle.std.specs.Prelude.{◌≡◌, ℕ, ◌+◌, ◌<◌, ◌≤◌, ◌==◌, List, ◌++◌, length, take, drop, Option, Some, None, ◌⊎◌, if◌then◌else◌}
 use Rattle.lf_ast.specs.Labels.{Bytes}
 use Rattle.lf_ast.specs.Rules.{RuleTree}
 use Rattle.lf_report.specs.declared.asked.Asked.{Asked}
+use Rattle.lf_report.specs.declared.file_report.FileReport.{FileReport}
 use Rattle.lf_lint.specs.declared.status.Status.{Status}
 use Rattle.lf_lint.specs.declared.status.Status.TheVariants.{Clean, Problems, Words, Refused as RefusedEnd, Read, Write, Memory, Limit}
 use Rattle.lf_accept.specs.Accepted.{IsAccepted}
 use Rattle.lf_lint.specs.Asks.{Asks}
-use Rattle.lf_report.specs.Founds.{Content, Rules, Refused, Exceeds, Fits, Holds, is_refused}
+use Rattle.lf_report.specs.Founds.{Content, Rules, Refused, Exceeds, Fits, Holds}
 use Rattle.lf_report.specs.Report.{IsReportOn}
 
 -- the most bytes that a file may have: 4 MiB
@@ -25,12 +26,12 @@ Wrote None now bytes = Unit {0}
 Wrote (Some before) now bytes = now ≡ Some (before ++ bytes)
 
 -- the report that the words ask for, on a file of these bytes
-pub record IsReport (words : List Bytes) (bytes report : Bytes) : Type 0 where
+pub record IsReport (words : List Bytes) (bytes : Bytes) (report : FileReport) : Type 0 where
   pub asked : Asked
   pub asks : Asks words asked
   pub found : Content
   pub holds : Holds bytes found
-  pub text : IsReportOn asked bytes found report
+  pub is_report : IsReportOn asked bytes found report
 
 -- the words ask for a file, these are its bytes, and this is what stands in them
 pub record Judged (words : List Bytes) (held : Bytes → Option Bytes) (asked : Asked) (bytes : Bytes) (found : Content) : Type 0 where
@@ -40,16 +41,21 @@ pub record Judged (words : List Bytes) (held : Bytes → Option Bytes) (asked : 
   pub holds : Holds bytes found
   pub fits : Fits found
 
--- the whole report was written, on a file that is refused or not
-abbrev pub WroteAll : List Bytes → (Bytes → Option Bytes) → Option Bytes → Option Bytes → Bool → Type 0
-WroteAll words held before now refused =
-    (asked : Asked) × (bytes : Bytes) × (found : Content) × Judged words held asked bytes found × (is_refused found ≡ refused)
-    × (report : Bytes) × IsReportOn asked bytes found report × Wrote before now report
+-- how the report on what was found ends a run once it is written: with a refusal, with a problem, or with neither. Notes don't matter
+abbrev pub end_of : Content → FileReport → Status
+end_of (Refused kind span) report = RefusedEnd
+end_of (Rules rules) report = if report.problems == 0 then Clean else Problems
+
+-- the whole report was written, and it ends the run so
+abbrev pub WroteAll : List Bytes → (Bytes → Option Bytes) → Option Bytes → Option Bytes → Status → Type 0
+WroteAll words held before now status =
+    (asked : Asked) × (bytes : Bytes) × (found : Content) × Judged words held asked bytes found
+    × (report : FileReport) × IsReportOn asked bytes found report × (end_of found report ≡ status) × Wrote before now report.text
 
 -- a front of the report was written, and not the whole
 abbrev pub WrotePart : List Bytes → (Bytes → Option Bytes) → Option Bytes → Option Bytes → Type 0
 WrotePart words held before now = (asked : Asked) × (bytes : Bytes) × (found : Content) × Judged words held asked bytes found
-    × (report : Bytes) × IsReportOn asked bytes found report × (k : ℕ) × (k < length report) × Wrote before now (take k report)
+    × (report : FileReport) × IsReportOn asked bytes found report × (k : ℕ) × (k < length report.text) × Wrote before now (take k report.text)
 
 -- the words ask for a file of more bytes than a file may have, and reading stopped right behind the first of them
 abbrev pub IsTooLong : List Bytes → (Bytes → Option Bytes) → Option Bytes → Type 0
@@ -77,3 +83,14 @@ IsSilent Clean = ⊥
 IsSilent Problems = ⊥
 IsSilent RefusedEnd = ⊥
 IsSilent Write = ⊥
+
+-- the ends after which the whole report on accepted rules was written
+abbrev pub IsOfRules : Status → Type 0
+IsOfRules Clean = Unit {0}
+IsOfRules Problems = Unit {0}
+IsOfRules Words = ⊥
+IsOfRules RefusedEnd = ⊥
+IsOfRules (Read file) = ⊥
+IsOfRules Write = ⊥
+IsOfRules Memory = ⊥
+IsOfRules (Limit quantity found) = ⊥

@@ -1,4 +1,4 @@
--- That what a report says of labels is true of every run of the rules, in any order and over any scraped series.
+-- That what a report says of labels, and by its findings of samples, is true of every run of the rules, in any order and over any scraped series.
 use Rattle.std.specs.Prelude.{◌≡◌, ◌↔◌, Bool, true, false, List, [], ◌∷◌, ◌++◌, map, length, count_by, codes, Option, Some, slice_get}
 use Rattle.std.specs.List.{AllByRecursion, Contains, flat_map}
 use Rattle.lf_ast.specs.Labels.{Bytes, Labels}
@@ -9,12 +9,15 @@ use Rattle.lf_semantics.specs.Listing.{label_of, universe_of}
 use Rattle.lf_semantics.specs.RowTable.{Environment, may_be_absent, may_be_present}
 use Rattle.lf_semantics.specs.Texts.{Has}
 use Rattle.lf_semantics.specs.Worlds.{World, IsSample}
+use Rattle.lf_checks.specs.Finding.{Finding}
+use Rattle.lf_checks.specs.Truths.{IsTrue as IsTrueFinding}
+use Rattle.lf_report.specs.Checked.{note_count, problem_count}
 use Rattle.lf_report.specs.declared.asked.Asked.{Asked}
 use Rattle.lf_report.specs.declared.report.verdict.Verdict.{Verdict}
 use Rattle.lf_report.specs.declared.report.verdict.Verdict.TheVariants.{Guaranteed, Impossible, Unresolved}
 use Rattle.lf_lint.specs.Ends.{Judged, Wrote}
 use Rattle.lf_report.specs.Founds.{Rules}
-use Rattle.lf_report.specs.Report.{label_line, labels_of, lines_text, place_text, rule_line, totals_line, verdicts_line}
+use Rattle.lf_report.specs.Report.{finding_lines, label_line, labels_of, lines_text, place_text, rule_line, totals_line, verdicts_line, with_labels}
 
 -- in every world of the file's rules, a name called guaranteed is on each sample of the rule, and one called impossible on none. Of an unresolved one nothing is claimed
 abbrev pub IsTrueOf : List RuleTree → RuleTree → Verdict → Bytes → Type 0
@@ -46,22 +49,26 @@ IsTrueSaid rules env r (verdicts claims) =
     × (map (λ claim. claim.0) claims ≡ labels_of (universe_of rules))
     × ((name : Bytes) → (claim : Bytes × Verdict) × (slice_get claims (label_of (universe_of rules) name) ≡ Some claim) × IsTrue rules env r claim.1 name)
 
--- a rule, and what a report says of it
+-- a rule, what a report says of its labels where verdicts are asked for, and its findings
 pub record Spoken : Type 0 where
   pub rule : RuleTree
   pub said : Said
+  pub found : List Finding
 
+-- what is said of the labels is true, and so is what each finding claims of samples, in every world of the file's rules
 abbrev pub SpeaksTruth : List RuleTree → Environment → Spoken → Type 0
-SpeaksTruth rules env spoken = IsTrueSaid rules env spoken.rule spoken.said
+SpeaksTruth rules env spoken = IsTrueSaid rules env spoken.rule spoken.said × AllByRecursion (IsTrueFinding rules spoken.rule) spoken.found
 
 -- a line for each verdict, or one that says `empty`
 abbrev pub said_text : Bytes → Said → List Bytes
 said_text place empty = codes "  empty" ∷ []
 said_text place (verdicts claims) = map (λ claim. label_line place claim.0 claim.1) claims
 
--- the line of the rule, and those of what is said of it
-abbrev pub spoken_lines : Bytes → Bytes → Spoken → List Bytes
-spoken_lines file bytes spoken = rule_line (place_text file bytes spoken.rule.name_span.start) spoken.rule.name ∷ said_text (place_text file bytes spoken.rule.expr_span.start) spoken.said
+-- where verdicts are asked for the line of the rule and those of what is said of it, and then the findings
+abbrev pub spoken_lines : Asked → Bytes → Spoken → List Bytes
+spoken_lines asked bytes spoken =
+    with_labels asked.labels (rule_line (place_text asked.file bytes spoken.rule.name_span.start) spoken.rule.name ∷ said_text (place_text asked.file bytes spoken.rule.expr_span.start) spoken.said)
+    ++ finding_lines asked.file bytes spoken.found
 
 abbrev pub verdicts_said : Said → List Verdict
 verdicts_said empty = []
@@ -71,7 +78,16 @@ abbrev pub is_empty : Said → Bool
 is_empty empty = true
 is_empty (verdicts claims) = false
 
--- the report is, for each rule of the file, its line and what it says of it, and then the totals; and all that it says is true
+abbrev pub findings_spoken : List Spoken → List Finding
+findings_spoken spoken = flat_map (λ s. s.found) spoken
+
+-- the totals, with those of the verdicts where these are asked for
+abbrev pub totals_spoken : Asked → List RuleTree → List Spoken → List Bytes
+totals_spoken asked rules spoken =
+    totals_line 0 (length rules) (problem_count (findings_spoken spoken)) (note_count (findings_spoken spoken))
+    ∷ with_labels asked.labels (verdicts_line (flat_map (λ s. verdicts_said s.said) spoken) (count_by (λ s. is_empty s.said) spoken) ∷ [])
+
+-- the report is, for each rule of the file, what it says of it, and then the totals; and all that it says is true
 pub record IsTrueReport (asked : Asked) (bytes : Bytes) (rules : List RuleTree) (report : Bytes) : Type 0 where
   pub env : Environment
   pub least : IsLeast (universe_of rules) rules env
@@ -79,11 +95,10 @@ pub record IsTrueReport (asked : Asked) (bytes : Bytes) (rules : List RuleTree) 
   pub no_star : Contains (universe_of rules).names (codes "*") → ⊥
   pub spoken : List Spoken
   pub each_rule : map (λ s. s.rule) spoken ≡ rules
-  pub text : report ≡ lines_text (flat_map (spoken_lines asked.file bytes) spoken
-      ++ totals_line 0 (length rules) ∷ verdicts_line (flat_map (λ s. verdicts_said s.said) spoken) (count_by (λ s. is_empty s.said) spoken) ∷ [])
+  pub text : report ≡ lines_text (flat_map (spoken_lines asked bytes) spoken ++ totals_spoken asked rules spoken)
   pub all_true : AllByRecursion (SpeaksTruth rules env) spoken
 
--- a report was written on the rules of the file that the words ask for, and where they ask for labels it is true
+-- a report was written on the rules of the file that the words ask for, and it is true
 abbrev pub WroteTruth : List Bytes → (Bytes → Option Bytes) → Option Bytes → Option Bytes → Type 0
 WroteTruth words held before now = (asked : Asked) × (bytes : Bytes) × (rules : List RuleTree) × Judged words held asked bytes (Rules rules)
-    × (asked.labels ≡ true → (report : Bytes) × Wrote before now report × IsTrueReport asked bytes rules report)
+    × (report : Bytes) × Wrote before now report × IsTrueReport asked bytes rules report

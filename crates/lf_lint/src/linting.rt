@@ -1,8 +1,9 @@
 //! A run of the program.
 ghost use Rattle.std.specs.Prelude.{◌≡◌, ◌≢◌, ◌↔◌, ℕ, Bool, true, false, List, map, string_bytes, Option, IfOk, ◌+◌, ◌<◌, ◌≤◌, ◌^◌, length};
 ghost use Rattle.lf_report.specs.declared.asked.Asked.{Asked};
+ghost use Rattle.lf_report.specs.declared.file_report.FileReport.{FileReport};
 ghost use Rattle.lf_lint.specs.Asks.{Asks};
-ghost use Rattle.lf_lint.specs.Ends.{IsReport, IsSilent, Passes, WroteAll, WrotePart};
+ghost use Rattle.lf_lint.specs.Ends.{IsOfRules, IsReport, IsSilent, Passes, WroteAll, WrotePart, end_of};
 ghost use Rattle.lf_report.specs.Founds.{Holds, content};
 ghost use Rattle.lf_lint.specs.Headline.{WroteTruth};
 
@@ -10,7 +11,7 @@ use crate::reading::{ReadEnd, read_whole};
 use crate::{Status, WordFault, read_words, write_whole};
 use lf_accept::accept;
 use lf_base::{Files, Gate, Memory, Refusal, Sink};
-use lf_report::{Found, JudgeEnd, report_text};
+use lf_report::{FileReport, Found, JudgeEnd, report_text};
 use std::alloc::Global;
 use std::thread::Threads;
 
@@ -41,16 +42,16 @@ pub fn lint<R: Threads + Sync, F: Files, O: Sink, G: Gate + Sync>(
     ensures asked { result ≢ Status.Words → (asked : Asked) × Asks (map string_bytes words.now) asked }
 
     // The whole report was written, or a call of the sink failed after a front of it.
-    ensures clean { result ≡ Status.Clean → WroteAll (map string_bytes words.now) (F.held files.old) (O.taken out.old) (O.taken out.new) false }
-    ensures refused { result ≡ Status.Refused → WroteAll (map string_bytes words.now) (F.held files.old) (O.taken out.old) (O.taken out.new) true }
+    ensures clean { result ≡ Status.Clean → WroteAll (map string_bytes words.now) (F.held files.old) (O.taken out.old) (O.taken out.new) Status.Clean }
+    ensures problems { result ≡ Status.Problems → WroteAll (map string_bytes words.now) (F.held files.old) (O.taken out.old) (O.taken out.new) Status.Problems }
+    ensures refused { result ≡ Status.Refused → WroteAll (map string_bytes words.now) (F.held files.old) (O.taken out.old) (O.taken out.new) Status.Refused }
     ensures write { result ≡ Status.Write → (O.faults out.old < O.faults out.new) × WrotePart (map string_bytes words.now) (F.held files.old) (O.taken out.old) (O.taken out.new) }
-    ensures never { result ≢ Status.Problems }
 
-    // What the report says of labels is true of every run.
-    ensures headline { result ≡ Status.Clean → WroteTruth (map string_bytes words.now) (F.held files.old) (O.taken out.old) (O.taken out.new) }
+    // What the report says of labels, and by its findings of samples, is true of every run.
+    ensures headline { IsOfRules result → WroteTruth (map string_bytes words.now) (F.held files.old) (O.taken out.old) (O.taken out.new) }
 
     // There is one report for a list of words and the bytes of a file.
-    ensures one_report { (bytes a b : List ℕ) → IsReport (map string_bytes words.now) bytes a → IsReport (map string_bytes words.now) bytes b → a ≡ b }
+    ensures one_report { (bytes : List ℕ) (a b : FileReport) → IsReport (map string_bytes words.now) bytes a → IsReport (map string_bytes words.now) bytes b → a ≡ b }
 
     // A file's number is that of the last call of `open`.
     ensures read { (file : ℕ) → result ≡ Status.Read file → (F.faults files.old < F.faults files.new) × (F.opens files.new ≡ F.opens files.old + (file + 1)) }
@@ -91,11 +92,23 @@ pub fn lint<R: Threads + Sync, F: Files, O: Sink, G: Gate + Sync>(
         Err(JudgeEnd::Limit { quantity, found }) => return Status::Limit { quantity, found },
         Err(JudgeEnd::Memory) => return Status::Memory,
     };
-    match write_whole(out, report.as_str().as_bytes()) {
+    match write_whole(out, report.text.as_str().as_bytes()) {
         Err(_) => Status::Write,
-        Ok(()) if found.is_refused() => Status::Refused,
-        Ok(()) => Status::Clean,
+        Ok(()) => ending(&found, &report),
     }
+}
+
+/// How the report on what was found ends a run once it is written.
+fn ending(found: &Found, report: &FileReport) -> Status
+    ensures { result ≡ end_of (content found.now) report.now }
+{
+    if found.is_refused() {
+        return Status::Refused;
+    }
+    if report.problems > 0 {
+        return Status::Problems;
+    }
+    Status::Clean
 }
 
 /// What stands in a file of these bytes.

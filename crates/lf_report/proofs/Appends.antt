@@ -1,5 +1,5 @@
 -- What a text is after several pieces were appended in turn.
-use Rattle.std.proofs.Common.{◌≡◌, ℕ, List, [], ◌∷◌, ◌++◌, ap, ◌∙◌, append_assoc, sym}
+use Rattle.std.proofs.Common.{◌≡◌, ℕ, List, [], ◌∷◌, ◌++◌, codes, ap, ◌∙◌, append_assoc, sym}
 use Rattle.std.proofs.lemmas.List.Concat.{flat_map-append}
 use Rattle.lf_ast.specs.Labels.{Bytes}
 use Rattle.lf_report.specs.Report.{lines_text}
@@ -31,3 +31,8 @@ pub built_report : (total verdicts : Bytes) (lines : List Bytes) {start first se
     → second ≡ first ++ lines_text (total ∷ []) → third ≡ second ++ lines_text (verdicts ∷ []) → third ≡ lines_text (lines ++ total ∷ verdicts ∷ [])
 built_report total verdicts lines n e f g =
     built_more (lines ++ total ∷ []) (verdicts ∷ []) (built_two lines (total ∷ []) n e f) g ∙ ap lines_text (append_assoc lines (total ∷ []) (verdicts ∷ []))
+
+-- the line of a finding, whose parts were joined from the right
+pub finding_joined : (place severity check said : Bytes) → place ++ (codes ": " ++ (severity ++ (codes " [" ++ (check ++ (codes "] " ++ (said ++ 10 ∷ []))))))
+    ≡ lines_text ((place ++ codes ": " ++ severity ++ codes " [" ++ check ++ codes "] " ++ said) ∷ [])
+finding_joined place severity check said = simp append_assoc

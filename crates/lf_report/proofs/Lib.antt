@@ -1,11 +1,16 @@
 pub mod Appends
+pub mod CheckedLines
+pub mod FoundSoFar
 pub mod LabelLines
 pub mod LabelTexts
+pub mod NameSpots
 pub mod OneFound
 pub mod OneLeast
 pub mod Reports
 pub mod SeenRules
 pub mod ShownNames
+pub mod Sources
 pub mod Spotted
 pub mod Universes
 pub mod Worked
+pub mod Zips

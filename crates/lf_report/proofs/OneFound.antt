@@ -1,17 +1,20 @@
--- What stands in the bytes of a file has one report: the file has one list of rules or one refusal, and rules have one least environment.
-use Rattle.std.proofs.Common.{◌≡◌, ◌∙◌, Bool, true, false, List, refl, sym, ap, subst}
-use Rattle.std.specs.Prelude.{if◌then◌else◌}
+-- What stands in the bytes of a file has one report: the file has one list of rules or one refusal, rules have one least environment, and each rule one list of findings.
+use Rattle.std.proofs.Common.{◌≡◌, ◌∙◌, ℕ, suc, List, [], ◌∷◌, map, Some, refl, sym, ap, ap₂, subst}
+use Rattle.std.specs.Prelude.{slice_get}
 use Rattle.lf_base.specs.declared.fault.Fault.{Fault}
 use Rattle.lf_base.specs.Faults.{fault}
 use Rattle.lf_ast.specs.Labels.{Bytes}
 use Rattle.lf_ast.specs.Rules.{RuleTree}
-use Rattle.lf_semantics.specs.Environments.{IsLeast, rule_row}
+use Rattle.lf_semantics.specs.Environments.{rule_row}
 use Rattle.lf_semantics.specs.Listing.{universe_of}
 use Rattle.lf_semantics.specs.RowTable.{Environment}
+use Rattle.lf_checks.specs.Files.{File}
+use Rattle.lf_checks.proofs.OneList.{one_list}
 use Rattle.lf_report.specs.declared.asked.Asked.{Asked}
-use Rattle.lf_report.specs.Report.{IsReportOn}
+use Rattle.lf_report.specs.declared.file_report.FileReport.{FileReport}
+use Rattle.lf_report.specs.Checked.{AreChecked, Checked, findings_of, problem_count}
 use Rattle.lf_report.specs.Founds.{Content, Holds, Refused, Rules}
-use Rattle.lf_report.specs.Report.{labels_text, totals_text}
+use Rattle.lf_report.specs.Report.{IsReportOn, IsRulesReport, files_of, rules_text}
 use Rattle.lf_accept.proofs.OneFile.{one_file}
 use Rattle.lf_report.proofs.OneLeast.{one_least}
 
@@ -21,16 +24,38 @@ one_content bytes (Rules rs) (Refused kind span) h k = absurd ((one_file bytes 0
 one_content bytes (Refused kind span) (Rules rs) h k = absurd ((one_file bytes 0).one rs (fault kind span) k h)
 one_content bytes (Refused kind span) (Refused other place) h k = ap (λ (f : Fault). Refused f.kind f.span) ((one_file bytes 0).breach (fault kind span) (fault other place) h k)
 
-one_text : (file bytes : Bytes) (rules : List RuleTree) (a b : Environment) (labels : Bool) → (labels ≡ true → IsLeast (universe_of rules) rules a) → (labels ≡ true → IsLeast (universe_of rules) rules b)
-    → (if labels then labels_text file bytes (rule_row (universe_of rules) a) rules else totals_text rules) ≡ (if labels then labels_text file bytes (rule_row (universe_of rules) b) rules else totals_text rules)
-one_text file bytes rules a b true h k = ap (λ env. labels_text file bytes (rule_row (universe_of rules) env) rules) (one_least (universe_of rules) rules a b (h refl) (k refl))
-one_text file bytes rules a b false h k = refl
+-- rules with their findings are one list
+same_checked : (xs ys : List Checked) → map (λ (c : Checked). c.rule) xs ≡ map (λ (c : Checked). c.rule) ys
+    → ((i : ℕ) (c d : Checked) → slice_get xs i ≡ Some c → slice_get ys i ≡ Some d → c.found ≡ d.found) → xs ≡ ys
+same_checked [] [] rules same = refl
+same_checked [] (d ∷ ys) rules same = cc
+same_checked (c ∷ xs) [] rules same = cc
+same_checked (c ∷ xs) (d ∷ ys) rules same =
+    let rule : c.rule ≡ d.rule = cc in
+    let later : map (λ (x : Checked). x.rule) xs ≡ map (λ (x : Checked). x.rule) ys = cc in
+    let found : c.found ≡ d.found = same 0 c d refl refl in
+    ap₂ (λ (x : Checked) (l : List Checked). x ∷ l) (λ i. record { rule = rule i; found = found i }) (same_checked xs ys later (λ i x y. same (suc i) x y))
 
-same_report : (asked : Asked) (bytes : Bytes) (c : Content) (a b : Bytes) → IsReportOn asked bytes c a → IsReportOn asked bytes c b → a ≡ b
-same_report asked bytes (Rules rules) a b h k = h.2 ∙ one_text asked.file bytes rules h.0 k.0 asked.labels h.1 k.1 ∙ sym k.2
-same_report asked bytes (Refused kind span) a b h k = h.2 ∙ sym k.2
+one_checked : (files : List File) (rules : List RuleTree) (env : Environment) (xs ys : List Checked) → AreChecked files rules env xs → AreChecked files rules env ys → xs ≡ ys
+one_checked files rules env xs ys h k = same_checked xs ys (h.each_rule ∙ sym k.each_rule) (λ i c d at there. one_list files rules env i c.found d.found (h.each_list i c at) (k.each_list i d there))
 
-pub one_found : (asked : Asked) (bytes : Bytes) (f g : Content) → Holds bytes f → Holds bytes g → (a b : Bytes) → IsReportOn asked bytes f a → IsReportOn asked bytes g b → a ≡ b
-one_found asked bytes f g h k a b p q =
-    let P : Content → Type 0 = λ c. IsReportOn asked bytes c a in
-    same_report asked bytes g a b (subst P (one_content bytes f g h k) p) q
+same_parts : (a b : FileReport) → a.text ≡ b.text → a.problems ≡ b.problems → a ≡ b
+same_parts a b text problems i = record { text = text i; problems = problems i }
+
+module _ (asked : Asked) (bytes : Bytes) where
+  rules_report : (rules : List RuleTree) (a b : FileReport) → IsRulesReport asked bytes rules a → IsRulesReport asked bytes rules b → a ≡ b
+  rules_report rules a b h k =
+      let same_env : k.env ≡ h.env = one_least (universe_of rules) rules k.env h.env k.least h.least in
+      let P : Environment → Type 0 = λ env. AreChecked (files_of asked bytes) rules env k.checked in
+      let same : h.checked ≡ k.checked = one_checked (files_of asked bytes) rules h.env h.checked k.checked h.are_checked (subst P same_env k.are_checked) in
+      same_parts a b (h.text ∙ ap₂ (λ (env : Environment) (checked : List Checked). rules_text asked bytes (rule_row (universe_of rules) env) rules checked) (sym same_env) same ∙ sym k.text)
+      (h.problems ∙ ap (λ (checked : List Checked). problem_count (findings_of checked)) same ∙ sym k.problems)
+
+  same_report : (c : Content) (a b : FileReport) → IsReportOn asked bytes c a → IsReportOn asked bytes c b → a ≡ b
+  same_report (Rules rules) a b h k = rules_report rules a b h k
+  same_report (Refused kind span) a b h k = same_parts a b (h.0 ∙ sym k.0) (h.1 ∙ sym k.1)
+
+  pub one_found : (f g : Content) → Holds bytes f → Holds bytes g → (a b : FileReport) → IsReportOn asked bytes f a → IsReportOn asked bytes g b → a ≡ b
+  one_found f g h k a b p q =
+      let P : Content → Type 0 = λ c. IsReportOn asked bytes c a in
+      same_report g a b (subst P (one_content bytes f g h k) p) q

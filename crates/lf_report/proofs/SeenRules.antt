@@ -4,25 +4,17 @@ use Rattle.std.specs.Prelude.{count_by}
 use Rattle.std.specs.List.{flat_map}
 use Rattle.std.proofs.lemmas.List.Folds.{flat_map-map}
 use Rattle.std.proofs.lemmas.List.Sums.{sum_by-cons}
-use Rattle.lf_ast.specs.Labels.{Bytes}
 use Rattle.lf_ast.specs.Rules.{RuleTree, rule_tree, rule_trees}
 use Rattle.lf_ast.specs.declared.rule.Rule.{Rule}
 use Rattle.lf_semantics.specs.ClassRows.{Sets}
 use Rattle.lf_report.specs.declared.report.verdict.Verdict.{Verdict}
-use Rattle.lf_report.specs.Report.{rule_lines, rules_lines}
 use Rattle.lf_report.specs.Verdicts.{empty_count, is_empty_rule, verdicts_in, verdicts_of}
-
-abbrev pub lines_seen : Bytes → Bytes → List Bytes → (RuleTree → Sets) → List Rule → List Bytes
-lines_seen file bytes labels row rules = flat_map (λ r. rule_lines file bytes labels row (rule_tree r)) rules
 
 abbrev pub verdicts_seen : (RuleTree → Sets) → List Rule → List Verdict
 verdicts_seen row rules = flat_map (λ r. verdicts_in (row (rule_tree r))) rules
 
 abbrev pub empty_seen : (RuleTree → Sets) → List Rule → ℕ
 empty_seen row rules = count_by (λ r. is_empty_rule row (rule_tree r)) rules
-
-pub lines_same : (file bytes : Bytes) (labels : List Bytes) (row : RuleTree → Sets) (rules : List Rule) → lines_seen file bytes labels row rules ≡ rules_lines file bytes labels row (rule_trees rules)
-lines_same file bytes labels row rules = sym (flat_map-map (rule_lines file bytes labels row) rule_tree rules)
 
 pub verdicts_same : (row : RuleTree → Sets) (rules : List Rule) → verdicts_seen row rules ≡ verdicts_of row (rule_trees rules)
 verdicts_same row rules = sym (flat_map-map (λ (r : RuleTree). verdicts_in (row r)) rule_tree rules)

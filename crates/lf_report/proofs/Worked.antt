@@ -1,5 +1,6 @@
 -- The definitions of reports on worked rules and files, by computation.
-use Rattle.std.proofs.Common.{◌≡◌, ℕ, false, true, List, [], ◌∷◌, ◌++◌, length, codes, refl}
+use Rattle.std.proofs.Common.{◌≡◌, ℕ, false, true, List, [], ◌∷◌, ◌++◌, map, codes, refl}
+use Rattle.std.specs.List.{flat_map}
 use Rattle.std.specs.Fmt.{digits}
 use Rattle.lf_base.specs.declared.kind.Kind.TheVariants.{LeftOut, BadUtf8}
 use Rattle.lf_base.specs.declared.place.Span.{Span}
@@ -7,17 +8,24 @@ use Rattle.lf_ast.specs.Labels.{Bytes}
 use Rattle.lf_ast.specs.Tree.{Tree}
 use Rattle.lf_ast.specs.Rules.{RuleTree}
 use Rattle.lf_semantics.specs.ClassRows.{Sets}
-use Rattle.lf_semantics.specs.RowTable.{Environment}
-use Rattle.lf_report.specs.Founds.{Refused, Rules}
-use Rattle.lf_report.specs.Report.{lines_text, report_of, rules_lines, totals_line, verdicts_line}
-use Rattle.lf_report.specs.Verdicts.{empty_count, verdicts_of}
+use Rattle.lf_checks.specs.Finding.{AlertComparison, AlertTemplate, Finding, MatchLabel, PromqlRegexp, finding}
+use Rattle.lf_report.specs.declared.asked.Asked.{Asked}
+use Rattle.lf_report.specs.Checked.{Checked, findings_of}
+use Rattle.lf_report.specs.Report.{checked_lines, lines_text, refused_text, totals_lines}
 
 abbrev at : ℕ → Span
 at start = record { start = start; end = start }
 
--- the lines of rules whose rows are given
-abbrev text_by : Bytes → Bytes → List Bytes → (RuleTree → Sets) → List RuleTree → Bytes
-text_by file bytes labels row rules = lines_text (rules_lines file bytes labels row rules ++ totals_line 0 (length rules) ∷ verdicts_line (verdicts_of row rules) (empty_count row rules) ∷ [])
+-- the text of rules whose rows, findings and labels are given
+abbrev text_by : Asked → Bytes → List Bytes → (RuleTree → Sets) → List Checked → Bytes
+text_by asked bytes labels row checked =
+    lines_text (flat_map (checked_lines asked bytes labels row) checked ++ totals_lines asked row (map (λ c. c.rule) checked) (findings_of checked))
+
+abbrev with : Bytes → Asked
+with file = record { labels = true; file = file }
+
+abbrev without : Bytes → Asked
+without file = record { labels = false; file = file }
 
 job_file : Bytes
 job_file = lines_text (codes "groups:" ∷ codes "- name: g" ∷ codes "  rules:" ∷ codes "  - record: job:foo:sum" ∷ codes "    expr: sum by (job) (foo{env=\"p\"})" ∷ [])
@@ -33,11 +41,31 @@ module _ (expr : Tree) where
   labels : List Bytes
   labels = codes "__name__" ∷ codes "job" ∷ codes "env" ∷ codes "*" ∷ []
 
-  job_report : text_by (codes "r.yml") job_file labels (λ r. job_row) (job_rule ∷ [])
+  of_job : List Finding → Checked
+  of_job found = record { rule = job_rule; found = found }
+
+  job_report : text_by (with (codes "r.yml")) job_file labels (λ r. job_row) (of_job [] ∷ [])
       ≡ lines_text (codes "r.yml:4:13: rule job:foo:sum" ∷ codes "  __name__: impossible" ∷ codes "  job: unresolved O0 at r.yml:5:11" ∷ codes "  env: impossible" ∷ codes "  *: impossible"
       ∷ codes "files 1, refused 0, rules 1, problems 0, notes 0" ∷ codes "verdicts guaranteed 0, impossible 3, possible 0, unresolved 1, empty 0" ∷ [])
-  unfolding job_file job_rule job_row labels digits
+  unfolding job_file job_rule of_job job_row labels digits
   job_report = refl
+
+  -- two notes of it stand behind its labels, and alone where no labels are asked for
+  notes : List Finding
+  notes = finding PromqlRegexp (at 75) (codes "the pattern is one plain text") ∷ finding MatchLabel (at 69) (codes "label job is never on the operand") ∷ []
+
+  noted_report : text_by (with (codes "r.yml")) job_file labels (λ r. job_row) (of_job notes ∷ [])
+      ≡ lines_text (codes "r.yml:4:13: rule job:foo:sum" ∷ codes "  __name__: impossible" ∷ codes "  job: unresolved O0 at r.yml:5:11" ∷ codes "  env: impossible" ∷ codes "  *: impossible"
+      ∷ codes "r.yml:5:25: note [promql/regexp] the pattern is one plain text" ∷ codes "r.yml:5:19: note [match/label] label job is never on the operand"
+      ∷ codes "files 1, refused 0, rules 1, problems 0, notes 2" ∷ codes "verdicts guaranteed 0, impossible 3, possible 0, unresolved 1, empty 0" ∷ [])
+  unfolding job_file job_rule of_job job_row labels notes digits
+  noted_report = refl
+
+  noted_alone : text_by (without (codes "r.yml")) job_file labels (λ r. job_row) (of_job notes ∷ [])
+      ≡ lines_text (codes "r.yml:5:25: note [promql/regexp] the pattern is one plain text" ∷ codes "r.yml:5:19: note [match/label] label job is never on the operand"
+      ∷ codes "files 1, refused 0, rules 1, problems 0, notes 2" ∷ [])
+  unfolding job_file job_rule of_job job_row labels notes digits
+  noted_alone = refl
 
   -- an alert in a file whose name holds a line feed
   alert_file : Bytes
@@ -50,34 +78,44 @@ module _ (expr : Tree) where
   alert_row : Sets
   alert_row = (false ∷ true ∷ true ∷ []) ∷ (true ∷ true ∷ []) ∷ []
 
-  alert_report : text_by (codes "a\n.yml") alert_file (codes "job" ∷ codes "shard" ∷ []) (λ r. alert_row) (alert_rule ∷ [])
+  -- its findings tell a name with a line feed
+  faults : List Finding
+  faults = finding AlertComparison (at 31) (codes "the alert's expression compares nothing") ∷ finding AlertTemplate (at 5) (codes "label a\nb is never on the alert's sample") ∷ []
+
+  of_alert : List Finding → Checked
+  of_alert found = record { rule = alert_rule; found = found }
+
+  alert_report : text_by (with (codes "a\n.yml")) alert_file (codes "job" ∷ codes "shard" ∷ []) (λ r. alert_row) (of_alert faults ∷ [])
       ≡ lines_text (codes "a\\x0a.yml:1:4: rule a\\x09b" ∷ codes "  job: guaranteed" ∷ codes "  shard: unresolved O0 at a\\x0a.yml:2:1"
-      ∷ codes "files 1, refused 0, rules 1, problems 0, notes 0" ∷ codes "verdicts guaranteed 1, impossible 0, possible 0, unresolved 1, empty 0" ∷ [])
-  unfolding alert_file alert_rule alert_row digits
+      ∷ codes "a\\x0a.yml:2:1: problem [alert/comparison] the alert's expression compares nothing" ∷ codes "a\\x0a.yml:1:6: problem [alert/template] label a\\x0ab is never on the alert's sample"
+      ∷ codes "files 1, refused 0, rules 1, problems 2, notes 0" ∷ codes "verdicts guaranteed 1, impossible 0, possible 0, unresolved 1, empty 0" ∷ [])
+  unfolding alert_file alert_rule of_alert faults alert_row digits
   alert_report = refl
 
   -- two rules with the empty row
-  empty_report : text_by (codes "r.yml") job_file labels (λ r. (false ∷ false ∷ []) ∷ (false ∷ false ∷ []) ∷ []) (job_rule ∷ job_rule ∷ [])
+  empty_report : text_by (with (codes "r.yml")) job_file labels (λ r. (false ∷ false ∷ []) ∷ (false ∷ false ∷ []) ∷ []) (of_job [] ∷ of_job [] ∷ [])
       ≡ lines_text (codes "r.yml:4:13: rule job:foo:sum" ∷ codes "  empty" ∷ codes "r.yml:4:13: rule job:foo:sum" ∷ codes "  empty"
       ∷ codes "files 1, refused 0, rules 2, problems 0, notes 0" ∷ codes "verdicts guaranteed 0, impossible 0, possible 0, unresolved 0, empty 2" ∷ [])
-  unfolding job_file job_rule labels digits
+  unfolding job_file job_rule of_job labels digits
   empty_report = refl
 
-  -- two rules, where no labels are asked for
-  totals_report : (env : Environment) → report_of (record { labels = false; file = codes "r.yml" }) job_file (Rules (job_rule ∷ alert_rule ∷ [])) env ≡ codes "files 1, refused 0, rules 2, problems 0, notes 0\n"
-  unfolding digits
-  totals_report env = refl
+  -- two rules, where no labels are asked for; the findings of the second are problems
+  totals_report : text_by (without (codes "r.yml")) alert_file labels (λ r. job_row) (of_job [] ∷ of_alert faults ∷ [])
+      ≡ lines_text (codes "r.yml:2:1: problem [alert/comparison] the alert's expression compares nothing" ∷ codes "r.yml:1:6: problem [alert/template] label a\\x0ab is never on the alert's sample"
+      ∷ codes "files 1, refused 0, rules 2, problems 2, notes 0" ∷ [])
+  unfolding alert_file alert_rule job_rule of_alert of_job faults job_row labels digits
+  totals_report = refl
 
 -- ---- files that are refused
 
-refused_report : (env : Environment) → report_of (record { labels = false; file = codes "r.yml" }) (codes "groups: &x []\n") (Refused LeftOut (at 8)) env
+refused_report : refused_text (without (codes "r.yml")) (codes "groups: &x []\n") LeftOut (at 8)
     ≡ lines_text (codes "r.yml:1:9: refused [LeftOut] this form is left out of the profile" ∷ codes "files 1, refused 1, rules 0, problems 0, notes 0" ∷ [])
 unfolding digits
-refused_report env = refl
+refused_report = refl
 
 -- of a file that isn't UTF-8 the place is told too
-bad_bytes_report : (env : Environment) → report_of (record { labels = true; file = codes "r.yml" }) (97 ∷ 10 ∷ 98 ∷ 255 ∷ []) (Refused BadUtf8 (at 3)) env
+bad_bytes_report : refused_text (with (codes "r.yml")) (97 ∷ 10 ∷ 98 ∷ 255 ∷ []) BadUtf8 (at 3)
     ≡ lines_text (codes "r.yml:2:2: refused [BadUtf8] the bytes aren't UTF-8" ∷ codes "files 1, refused 1, rules 0, problems 0, notes 0"
     ∷ codes "verdicts guaranteed 0, impossible 0, possible 0, unresolved 0, empty 0" ∷ [])
 unfolding digits
-bad_bytes_report env = refl
+bad_bytes_report = refl

@@ -1,3 +1,4 @@
+pub mod Checked
 pub mod Founds
 pub mod Report
 pub mod Verdicts

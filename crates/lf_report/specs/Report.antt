@@ -1,5 +1,5 @@
 -- The text report on one file.
-use Rattle.std.specs.Prelude.{◌≡◌, ℕ, Bool, cond, true, false, ◌==◌, ◌||◌, ◌/◌, ◌%◌, nat_lt, List, [], ◌∷◌, ◌++◌, map, length, count_by, codes, if◌then◌else◌}
+use Rattle.std.specs.Prelude.{◌≡◌, ℕ, Bool, cond, false, ◌==◌, ◌||◌, ◌/◌, ◌%◌, nat_lt, List, [], ◌∷◌, ◌++◌, map, length, count_by, codes, if◌then◌else◌}
 use Rattle.std.specs.Fmt.{decimal, digit_glyph}
 use Rattle.std.specs.List.{flat_map}
 use Rattle.lf_ast.specs.Labels.{Bytes}
@@ -7,13 +7,19 @@ use Rattle.lf_ast.specs.Rules.{RuleTree}
 use Rattle.lf_base.specs.Kinds.{name_of, meaning_of}
 use Rattle.lf_base.specs.Places.{line_at, column_at}
 use Rattle.lf_base.specs.declared.kind.Kind.{Kind}
+use Rattle.lf_base.specs.declared.place.Span.{Span}
+use Rattle.lf_checks.specs.Files.{File}
+use Rattle.lf_checks.specs.Finding.{Finding, Severity, Problem, Note, name_of as check_name}
+use Rattle.lf_checks.specs.Findings.{severity_of}
 use Rattle.lf_report.specs.declared.asked.Asked.{Asked}
+use Rattle.lf_report.specs.declared.file_report.FileReport.{FileReport}
 use Rattle.lf_report.specs.declared.report.verdict.Verdict.{Verdict}
 use Rattle.lf_report.specs.declared.report.verdict.Verdict.TheVariants.{Guaranteed, Impossible, Unresolved}
 use Rattle.lf_semantics.specs.ClassRows.{Sets, is_live}
 use Rattle.lf_semantics.specs.Environments.{IsLeast, rule_row}
 use Rattle.lf_semantics.specs.Listing.{Listing, universe_of}
 use Rattle.lf_semantics.specs.RowTable.{Environment}
+use Rattle.lf_report.specs.Checked.{AreChecked, Checked, findings_of, note_count, problem_count}
 use Rattle.lf_report.specs.Founds.{Content, Rules, Refused}
 use Rattle.lf_report.specs.Verdicts.{empty_count, is_guaranteed, is_impossible, is_unresolved, verdict_of, verdicts_of}
 
@@ -55,26 +61,35 @@ label_lines place _ _ = []
 abbrev pub said_lines : Bytes → List Bytes → Sets → List Bytes
 said_lines place labels row = cond (is_live row) (label_lines place labels (map verdict_of row)) (codes "  empty" ∷ [])
 
--- the rule's line, and what is said of it. `row` gives the row of a rule
+-- the rule's line, and what is said of its labels. `row` gives the row of a rule
 abbrev pub rule_lines : Bytes → Bytes → List Bytes → (RuleTree → Sets) → RuleTree → List Bytes
 rule_lines file bytes labels row r = rule_line (place_text file bytes r.name_span.start) r.name ∷ said_lines (place_text file bytes r.expr_span.start) labels (row r)
+
+-- the severity in words
+abbrev pub severity_name : Severity → Bytes
+severity_name Problem = codes "problem"
+severity_name Note = codes "note"
+
+-- `FILE:LINE:COLUMN: SEVERITY [CHECK] TEXT`, at the start of what the finding is about. Its text holds names as they are, so all of it is shown as a name is
+abbrev pub finding_line : Bytes → Bytes → Finding → Bytes
+finding_line file bytes f = place_text file bytes f.span.start ++ codes ": " ++ severity_name (severity_of f.check) ++ codes " [" ++ check_name f.check ++ codes "] " ++ shown f.text
+
+abbrev pub finding_lines : Bytes → Bytes → List Finding → List Bytes
+finding_lines file bytes found = map (finding_line file bytes) found
 
 -- the line of a file that is refused
 abbrev pub refused_line : Bytes → Kind → Bytes
 refused_line place kind = place ++ codes ": refused [" ++ name_of kind ++ codes "] " ++ meaning_of kind
 
--- the totals of one file: how many files are refused, and how many rules there are
-abbrev pub totals_line : ℕ → ℕ → Bytes
-totals_line refused rules = codes "files 1, refused " ++ decimal refused ++ codes ", rules " ++ decimal rules ++ codes ", problems 0, notes 0"
+-- the totals of one file: how many files are refused, how many rules there are, and how many of the findings are problems and notes
+abbrev pub totals_line : ℕ → ℕ → ℕ → ℕ → Bytes
+totals_line refused rules problems notes =
+    codes "files 1, refused " ++ decimal refused ++ codes ", rules " ++ decimal rules ++ codes ", problems " ++ decimal problems ++ codes ", notes " ++ decimal notes
 
 -- the totals of these verdicts, and of the rules of which `empty` is said
 abbrev pub verdicts_line : List Verdict → ℕ → Bytes
 verdicts_line verdicts empty = codes "verdicts guaranteed " ++ decimal (count_by is_guaranteed verdicts) ++ codes ", impossible " ++ decimal (count_by is_impossible verdicts)
     ++ codes ", possible 0, unresolved " ++ decimal (count_by is_unresolved verdicts) ++ codes ", empty " ++ decimal empty
-
--- the lines of all rules
-abbrev pub rules_lines : Bytes → Bytes → List Bytes → (RuleTree → Sets) → List RuleTree → List Bytes
-rules_lines file bytes labels row rules = flat_map (rule_lines file bytes labels row) rules
 
 -- the labels of which a report speaks: those of the universe, and `*` for every other
 abbrev pub labels_of : Listing → List Bytes
@@ -84,26 +99,39 @@ labels_of u = u.names ++ codes "*" ∷ []
 abbrev pub with_labels : Bool → List Bytes → List Bytes
 with_labels labels lines = if labels then lines else []
 
--- the report on rules with verdicts: what is said of each rule, and the totals
-abbrev pub labels_text : Bytes → Bytes → (RuleTree → Sets) → List RuleTree → Bytes
-labels_text file bytes row rules =
-    lines_text (rules_lines file bytes (labels_of (universe_of rules)) row rules ++ totals_line 0 (length rules) ∷ verdicts_line (verdicts_of row rules) (empty_count row rules) ∷ [])
+-- what a report says of a rule: where verdicts are asked for its line and those of its labels, and then a line for each finding
+abbrev pub checked_lines : Asked → Bytes → List Bytes → (RuleTree → Sets) → Checked → List Bytes
+checked_lines asked bytes labels row c = with_labels asked.labels (rule_lines asked.file bytes labels row c.rule) ++ finding_lines asked.file bytes c.found
 
--- and without: the totals alone
-abbrev pub totals_text : List RuleTree → Bytes
-totals_text rules = lines_text (totals_line 0 (length rules) ∷ [])
+-- the totals, with those of the verdicts where these are asked for
+abbrev pub totals_lines : Asked → (RuleTree → Sets) → List RuleTree → List Finding → List Bytes
+totals_lines asked row rules found =
+    totals_line 0 (length rules) (problem_count found) (note_count found) ∷ with_labels asked.labels (verdicts_line (verdicts_of row rules) (empty_count row rules) ∷ [])
 
--- the report on what was found in the file that is asked for, whose bytes these are, by the rows of the rules in an environment
-abbrev pub report_of : Asked → Bytes → Content → Environment → Bytes
-report_of asked bytes (Refused kind span) env =
-    lines_text (refused_line (place_text asked.file bytes span.start) kind ∷ totals_line 1 0 ∷ with_labels asked.labels (verdicts_line [] 0 ∷ []))
-report_of asked bytes (Rules rules) env = if asked.labels then labels_text asked.file bytes (rule_row (universe_of rules) env) rules else totals_text rules
+-- the text of the report on rules with their findings: what is said of each rule, and the totals
+abbrev pub rules_text : Asked → Bytes → (RuleTree → Sets) → List RuleTree → List Checked → Bytes
+rules_text asked bytes row rules checked =
+    lines_text (flat_map (checked_lines asked bytes (labels_of (universe_of rules)) row) checked ++ totals_lines asked row rules (findings_of checked))
 
--- the environment is the least one of the rules that were found
-abbrev pub IsSolution : Content → Environment → Type 0
-IsSolution (Rules rules) env = IsLeast (universe_of rules) rules env
-IsSolution (Refused kind span) env = Unit {0}
+-- and of the one on a file that is refused: why, and the totals
+abbrev pub refused_text : Asked → Bytes → Kind → Span → Bytes
+refused_text asked bytes kind span =
+    lines_text (refused_line (place_text asked.file bytes span.start) kind ∷ totals_line 1 0 0 0 ∷ with_labels asked.labels (verdicts_line [] 0 ∷ []))
 
--- the report on what was found: where verdicts are asked for, by the least environment. Else it doesn't depend on any
-abbrev pub IsReportOn : Asked → Bytes → Content → Bytes → Type 0
-IsReportOn asked bytes found report = (env : Environment) × (asked.labels ≡ true → IsSolution found env) × (report ≡ report_of asked bytes found env)
+-- the file that is asked for is the only one
+abbrev pub files_of : Asked → Bytes → List File
+files_of asked bytes = record { name = asked.file; bytes = bytes } ∷ []
+
+-- the report on rules, by their least environment and their findings
+pub record IsRulesReport (asked : Asked) (bytes : Bytes) (rules : List RuleTree) (report : FileReport) : Type 0 where
+  pub env : Environment
+  pub least : IsLeast (universe_of rules) rules env
+  pub checked : List Checked
+  pub are_checked : AreChecked (files_of asked bytes) rules env checked
+  pub text : report.text ≡ rules_text asked bytes (rule_row (universe_of rules) env) rules checked
+  pub problems : report.problems ≡ problem_count (findings_of checked)
+
+-- the report on what was found in the file that is asked for, whose bytes these are
+abbrev pub IsReportOn : Asked → Bytes → Content → FileReport → Type 0
+IsReportOn asked bytes (Refused kind span) report = (report.text ≡ refused_text asked bytes kind span) × (report.problems ≡ 0)
+IsReportOn asked bytes (Rules rules) report = IsRulesReport asked bytes rules report

@@ -1,2 +1,3 @@
 -- How contracts see the code's own data: nobody has to believe it, and no definition uses it.
 pub mod Spots
+pub mod Told

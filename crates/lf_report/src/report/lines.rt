@@ -1,5 +1,5 @@
 //! The lines of a report, but for those of labels. Each function appends one kind of line to the text so far.
-ghost use Rattle.std.specs.Prelude.{◌≡◌, [], ◌∷◌, ◌++◌, count_by, OnOk};
+ghost use Rattle.std.specs.Prelude.{◌≡◌, [], ◌∷◌, ◌++◌, codes, count_by, OnOk};
 ghost use Rattle.lf_report.specs.Report.{lines_text, refused_line, rule_line, totals_line, verdicts_line};
 ghost use Rattle.lf_report.specs.Verdicts.{is_guaranteed, is_impossible, is_unresolved};
 
@@ -39,17 +39,34 @@ pub fn push_rule_line(
     report.push("\n")
 }
 
-/// The totals of one file: how many files are refused, and how many rules there are.
+/// The line of a finding, at this place: the severity, the name of the check, and what it says, as it is shown.
+pub fn push_finding_line(
+    alloc: Global,
+    report: &mut Text,
+    place: &str,
+    severity: &str,
+    check: &str,
+    said: &str,
+) -> Result<(), Memory>
+    ensures { OnOk result (report.new ≡ report.old ++ lines_text ((place.now ++ codes ": " ++ severity.now ++ codes " [" ++ check.now ++ codes "] " ++ said.now) ∷ [])) }
+{
+    let line = format!(in alloc; "{place}: {severity} [{check}] {said}\n")?;
+    report.push(line.as_str())
+}
+
+/// The totals of one file: how many files are refused, how many rules there are, and how many problems and notes.
 pub fn push_totals_line(
     alloc: Global,
     report: &mut Text,
     refused: usize,
     rules: usize,
+    problems: usize,
+    notes: usize,
 ) -> Result<(), Memory>
-    ensures { OnOk result (report.new ≡ report.old ++ lines_text (totals_line refused rules ∷ [])) }
+    ensures { OnOk result (report.new ≡ report.old ++ lines_text (totals_line refused rules problems notes ∷ [])) }
 {
     let line = format!(in alloc;
-        "files 1, refused {refused}, rules {rules}, problems 0, notes 0\n"
+        "files 1, refused {refused}, rules {rules}, problems {problems}, notes {notes}\n"
     )?;
     report.push(line.as_str())
 }

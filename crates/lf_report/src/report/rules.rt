@@ -1,11 +1,15 @@
 //! The part of a report that speaks of rules.
-ghost use Rattle.std.specs.Prelude.{◌≡◌, ◌≤◌, ℕ, cond, not, List, ◌∷◌, [], ◌++◌, map, OnOk, IfOk};
+ghost use Rattle.std.specs.List.{flat_map};
+ghost use Rattle.std.specs.Prelude.{◌≡◌, ◌≤◌, ℕ, true, cond, not, List, ◌++◌, map, length, OnOk, IfOk};
 ghost use Rattle.lf_ast.specs.Rules.{RuleTree, rule_tree, rule_trees};
 ghost use Rattle.lf_semantics.specs.ClassRows.{Sets, is_live};
 ghost use Rattle.lf_semantics.specs.Environments.{IsEnvironment, rule_row as row_of_rule};
 ghost use Rattle.lf_semantics.specs.Listing.{IsListing};
-ghost use Rattle.lf_report.specs.Report.{labels_of, lines_text, rule_lines, rules_lines, shown};
+ghost use Rattle.lf_report.specs.declared.asked.Asked.{Asked};
+ghost use Rattle.lf_report.specs.Checked.{Checked};
+ghost use Rattle.lf_report.specs.Report.{checked_lines, labels_of, lines_text, rule_lines, shown};
 ghost use Rattle.lf_report.specs.views.Spots.{IsSpotOf};
+ghost use Rattle.lf_report.specs.views.Told.{texts_of};
 ghost use Rattle.lf_report.specs.Verdicts.{empty_count, verdicts_in, verdicts_of};
 
 use crate::report::judging::judge;
@@ -29,7 +33,8 @@ pub struct Said {
     pub empty: usize,
 }
 
-/// Appends the lines of all rules of a file, by their rows in an environment, and answers what was said of them. `file` is the name as it is shown.
+/// Appends what is said of all rules of a file: the lines of each, by its row in an environment, and behind them those of its findings, which stand in `found` at the number
+/// of the rule. Answers what was said of the labels. `file` is the name as it is shown.
 pub fn push_rules(
     alloc: Global,
     report: &mut Text,
@@ -38,10 +43,12 @@ pub fn push_rules(
     universe: &Universe,
     env: &Env,
     rules: &[Rule],
+    found: &[Text],
 ) -> Result<Said, Memory>
     requires listing { IsListing universe.now }
     requires env { IsEnvironment universe.now env.now }
-    ensures text { (name : List ℕ) → file.now ≡ shown name → OnOk result (report.new ≡ report.old ++ lines_text (rules_lines name bytes.now (labels_of universe.now) (row_of_rule universe.now env.now) (rule_trees rules.now))) }
+    requires each { length found.now ≡ length rules.now }
+    ensures text { (asked : Asked) (checked : List Checked) → asked.labels ≡ true → file.now ≡ shown asked.file → found.now ≡ texts_of asked.file bytes.now checked → map (λ c. c.rule) checked ≡ rule_trees rules.now → OnOk result (report.new ≡ report.old ++ lines_text (flat_map (checked_lines asked bytes.now (labels_of universe.now) (row_of_rule universe.now env.now)) checked)) }
     ensures verdicts { IfOk result (λ said. said.verdicts.items ≡ verdicts_of (row_of_rule universe.now env.now) (rule_trees rules.now)) }
     ensures empty { IfOk result (λ said. said.empty ≡ empty_count (row_of_rule universe.now env.now) (rule_trees rules.now)) }
 {
@@ -50,7 +57,8 @@ pub fn push_rules(
     let mut empty = 0;
     let mut name_at = Spot::first();
     let mut expr_at = Spot::first();
-    for rule in rules {
+    for k in 0..rules.len() {
+        let rule = &rules[k];
         name_at = spot_of(bytes, name_at, rule.name_span.start);
         expr_at = spot_of(bytes, expr_at, rule.expr_span.start);
         let row = rule_row(alloc, universe, env, rule)?;
@@ -66,10 +74,21 @@ pub fn push_rules(
             &row,
             said.as_slice(),
         )?;
+        report.push(found[k].as_str())?;
         verdicts.extend_from_slice(said.as_slice())?;
         empty += empty_rules(&row);
     }
     Ok(Said { verdicts, empty })
+}
+
+/// Appends the lines of what was found of all rules, which stand one text a rule.
+pub fn push_found(report: &mut Text, found: &[Text]) -> Result<(), Memory>
+    ensures { OnOk result (report.new ≡ report.old ++ flat_map (λ text. text) found.now) }
+{
+    for lines in found {
+        report.push(lines.as_str())?;
+    }
+    Ok(())
 }
 
 /// How many rules are empty, of the one that has this row.

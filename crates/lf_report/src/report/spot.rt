@@ -4,8 +4,10 @@
 ghost use Rattle.std.specs.Prelude.{◌≡◌, ◌++◌, ◌≤◌, ◌<◌, ℕ, List, length, min, codes, IfOk};
 ghost use Rattle.std.specs.Fmt.{decimal};
 ghost use Rattle.lf_report.specs.Report.{place_text, shown};
-ghost use Rattle.lf_report.specs.views.Spots.{IsSpot, IsSpotOf};
+ghost use Rattle.lf_ast.specs.Rules.{rule_trees};
+ghost use Rattle.lf_report.specs.views.Spots.{AreNameSpots, IsSpot, IsSpotOf};
 
+use lf_ast::Rule;
 use lf_base::{Memory, Text};
 use std::alloc::Global;
 
@@ -93,4 +95,17 @@ pub fn place_in(alloc: Global, file: &str, bytes: &[u8], offset: u32) -> Result<
     ensures { (name : List ℕ) → file.now ≡ shown name → IfOk result (λ place. place ≡ place_text name bytes.now offset) }
 {
     place_at(alloc, file, spot_of(bytes, Spot::first(), offset))
+}
+
+/// The spots of the names of rules, each at the number of its rule.
+pub fn name_spots(alloc: Global, bytes: &[u8], rules: &[Rule]) -> Result<Vec<Spot>, Memory>
+    ensures { IfOk result (λ spots. AreNameSpots bytes.now (rule_trees rules.now) spots.items) }
+{
+    let mut spots = Vec::new(alloc);
+    let mut at = Spot::first();
+    for rule in rules {
+        at = spot_of(bytes, at, rule.name_span.start);
+        spots.push(at)?;
+    }
+    Ok(spots)
 }

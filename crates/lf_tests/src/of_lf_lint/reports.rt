@@ -68,21 +68,24 @@ fn a_report_is_offered_whole(rt: HostRuntime) -> Result<(), Fail> {
 
 #[test]
 fn verdicts_are_told_by_the_least_environment(rt: HostRuntime) -> Result<(), Fail> {
-    for (rules, report) in [
+    for (rules, end, report) in [
         // A selector that contradicts itself.
         (
             "  - record: a\n    expr: foo{x=\"1\",x=\"2\"}\n",
-            "r.yml:4:13: rule a\n  empty\nfiles 1, refused 0, rules 1, problems 0, notes 0\nverdicts guaranteed 0, impossible 0, possible 0, unresolved 0, empty 1\n",
+            Status::Problems,
+            "r.yml:4:13: rule a\n  empty\nr.yml:5:11: problem [expr/empty] the expression has no sample in any run\nfiles 1, refused 0, rules 1, problems 1, notes 0\nverdicts guaranteed 0, impossible 0, possible 0, unresolved 0, empty 1\n",
         ),
         // What a rule records is read by another one, which stands before it.
         (
             "  - record: b\n    expr: sum by (x) (a)\n  - record: a\n    expr: foo{x=\"1\"}\n",
+            Status::Clean,
             "r.yml:4:13: rule b\n  __name__: impossible\n  x: guaranteed\n  *: impossible\nr.yml:6:13: rule a\n  __name__: guaranteed\n  x: guaranteed\n  *: unresolved O0 at r.yml:7:11\nfiles 1, refused 0, rules 2, problems 0, notes 0\nverdicts guaranteed 3, impossible 2, possible 0, unresolved 1, empty 0\n",
         ),
         // Two rules that read nothing but each other.
         (
             "  - record: a\n    expr: b\n  - record: b\n    expr: a\n",
-            "r.yml:4:13: rule a\n  empty\nr.yml:6:13: rule b\n  empty\nfiles 1, refused 0, rules 2, problems 0, notes 0\nverdicts guaranteed 0, impossible 0, possible 0, unresolved 0, empty 2\n",
+            Status::Problems,
+            "r.yml:4:13: rule a\n  empty\nr.yml:5:11: note [rule/dependency] b is read in its own making\nr.yml:5:11: problem [expr/empty] the expression has no sample in any run\nr.yml:6:13: rule b\n  empty\nr.yml:7:11: note [rule/dependency] a is read in its own making\nr.yml:7:11: problem [expr/empty] the expression has no sample in any run\nfiles 1, refused 0, rules 2, problems 2, notes 2\nverdicts guaranteed 0, impossible 0, possible 0, unresolved 0, empty 2\n",
         ),
     ] {
         let mut text = String::from_str(rt.alloc(), "groups:\n- name: g\n  rules:\n")?;
@@ -90,8 +93,8 @@ fn verdicts_are_told_by_the_least_environment(rt: HostRuntime) -> Result<(), Fai
         let mut files = MemFiles::new(rt.alloc());
         files.add("r.yml", text.as_str().as_bytes())?;
         let mut out = MemSink::new(rt.alloc(), 1000, 1000)?;
-        let end = run(&rt, rt.alloc(), "lint --labels r.yml", &mut files, &mut out)?;
-        assert_eq!(rt; end, Status::Clean, "{rules}");
+        let ended = run(&rt, rt.alloc(), "lint --labels r.yml", &mut files, &mut out)?;
+        assert_eq!(rt; ended, end, "{rules}");
         assert_eq!(rt; out.bytes(), report.as_bytes(), "{rules}");
     }
     Ok(())

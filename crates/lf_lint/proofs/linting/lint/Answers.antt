@@ -4,7 +4,7 @@ use Rattle.lf_lint.specs.declared.status.Status.TheVariants.{Limit}
 use Rattle.lf_report.specs.Report.{IsReportOn}
 use Rattle.lf_report.specs.Founds.{content}
 use Rattle.lf_lint.proofs.OneReport.{one_report}
-use Rattle.lf_lint.proofs.Fronts.{wrote_front}
+use Rattle.lf_lint.proofs.Fronts.{wrote_all, wrote_front}
 use Rattle.lf_lint.proofs.Truths.{wrote_truth}
 use Rattle.lf_lint.proofs.linting.lint.Goals as goal
 
@@ -32,14 +32,26 @@ returns-in_default-clause-one_report g c = one_report _
 pub returns-in-Err-clause-one_report : goal.returns-in-Err-clause-one_report
 returns-in-Err-clause-one_report g c = one_report _
 
-pub returns-in-Ok-write_whole-clause-one_report : goal.returns-in-Ok-write_whole-clause-one_report
-returns-in-Ok-write_whole-clause-one_report g c = one_report _
-
 pub returns-clause-one_report : goal.returns-clause-one_report
 returns-clause-one_report g c = one_report _
 
+pub returns-clause-clean : goal.returns-clause-clean
+returns-clause-clean g c = λ e.
+    let P : Bytes → Type 0 = λ bytes. IsReportOn c.in-Ok.asked bytes (content c.in-Ok-find.found) c.in-Ok-report_text.report in
+    wrote_all _ _ _ _ c.ending.result _ c.in-Ok.asked c.in-Ok-read_whole.bytes (content c.in-Ok-find.found) c.in-Ok-report_text.report c.as_bytes.result.now c.ending.ensures e (search rules)
+    (subst P c.as_slice-2.ensures c.in-Ok-report_text.ensures.text) (c.as_bytes.ensures.value ∙ c.as_str.ensures) (search rules)
+
+pub returns-clause-problems : goal.returns-clause-problems
+returns-clause-problems g c = λ e.
+    let P : Bytes → Type 0 = λ bytes. IsReportOn c.in-Ok.asked bytes (content c.in-Ok-find.found) c.in-Ok-report_text.report in
+    wrote_all _ _ _ _ c.ending.result _ c.in-Ok.asked c.in-Ok-read_whole.bytes (content c.in-Ok-find.found) c.in-Ok-report_text.report c.as_bytes.result.now c.ending.ensures e (search rules)
+    (subst P c.as_slice-2.ensures c.in-Ok-report_text.ensures.text) (c.as_bytes.ensures.value ∙ c.as_str.ensures) (search rules)
+
 pub returns-clause-headline : goal.returns-clause-headline
-returns-clause-headline g c = λ e. wrote_truth _ _ _ _ (search rules)
+returns-clause-headline g c = λ e.
+    let P : Bytes → Type 0 = λ bytes. IsReportOn c.in-Ok.asked bytes (content c.in-Ok-find.found) c.in-Ok-report_text.report in
+    wrote_truth _ _ _ _ _ e (wrote_all _ _ _ _ c.ending.result _ c.in-Ok.asked c.in-Ok-read_whole.bytes (content c.in-Ok-find.found) c.in-Ok-report_text.report c.as_bytes.result.now c.ending.ensures refl (search rules)
+    (subst P c.as_slice-2.ensures c.in-Ok-report_text.ensures.text) (c.as_bytes.ensures.value ∙ c.as_str.ensures) (search rules))
 
 pub returns-in-Err-Limit-clause-one_report : goal.returns-in-Err-Limit-clause-one_report
 returns-in-Err-Limit-clause-one_report g c = one_report _

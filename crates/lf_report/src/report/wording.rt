@@ -1,0 +1,41 @@
+//! What checks and their severities are called.
+ghost use Rattle.std.specs.Prelude.{◌≡◌};
+ghost use Rattle.lf_checks.specs.Finding.{name_of};
+ghost use Rattle.lf_checks.specs.Findings.{severity_of};
+ghost use Rattle.lf_checks.specs.views.Cases.{check_at};
+ghost use Rattle.lf_report.specs.Checked.{is_grave};
+ghost use Rattle.lf_report.specs.Report.{severity_name};
+
+/// The name of the check with this number.
+pub fn check_name(check: u8) -> &'static str
+    ensures { result.now ≡ name_of (check_at check) }
+{
+    match check {
+        0 => "alert/comparison",
+        1 => "alert/template",
+        2 => "rule/duplicate",
+        3 => "rule/dependency",
+        4 => "promql/regexp",
+        5 => "match/label",
+        6 => "expr/empty",
+        7 => "expr/type",
+        _ => "rule/label",
+    }
+}
+
+/// Whether what the check with this number finds are problems. Else they are notes.
+pub fn is_problem(check: u8) -> bool
+    ensures { result ≡ is_grave (severity_of (check_at check)) }
+{
+    match check {
+        0 | 1 | 2 | 6 | 7 => true,
+        _ => false,
+    }
+}
+
+/// The severity of what the check with this number finds.
+pub fn severity(check: u8) -> &'static str
+    ensures { result.now ≡ severity_name (severity_of (check_at check)) }
+{
+    if is_problem(check) { "problem" } else { "note" }
+}
