@@ -11,14 +11,14 @@ pub fn check_name(check: u8) -> &'static str
     ensures { result.now ≡ name_of (check_at check) }
 {
     match check {
-        0 => "alert/comparison",
-        1 => "alert/template",
-        2 => "rule/duplicate",
-        3 => "rule/dependency",
-        4 => "promql/regexp",
-        5 => "match/label",
-        6 => "expr/empty",
-        7 => "expr/type",
+        1 => "alert/comparison",
+        2 => "alert/template",
+        3 => "rule/duplicate",
+        4 => "rule/dependency",
+        5 => "promql/regexp",
+        6 => "match/label",
+        7 => "expr/empty",
+        8 => "expr/type",
         _ => "rule/label",
     }
 }
@@ -28,7 +28,7 @@ pub fn is_problem(check: u8) -> bool
     ensures { result ≡ is_grave (severity_of (check_at check)) }
 {
     match check {
-        0 | 1 | 2 | 6 | 7 => true,
+        1 | 2 | 3 | 7 | 8 => true,
         _ => false,
     }
 }
