@@ -1,18 +1,16 @@
 -- Samples that are put among others in ascending order.
-use Rattle.std.proofs.Common.{◌≡◌, ◌⊎◌, inl, inr, ◌<◌, ◌≤◌, ◌++◌, ℕ, zero, suc, List, [], ◌∷◌, Err, get_or, length, ap, ◌∙◌, subst, arith}
-use Rattle.std.specs.List.{Contains, insert}
-use Rattle.std.specs.List.Sorted.{IsBinarySearchResult}
-use Rattle.std.specs.declared.cmp.Ordering.TheVariants.{Less}
-use Rattle.std.specs.Ordering.{ordering_reverse}
+use Rattle.std.proofs.Common.{◌≡◌, ◌⊎◌, inl, inr, ◌++◌, List, [], ◌∷◌, refl, sym, subst}
+use Rattle.std.specs.BTreeSet.{insert_key}
+use Rattle.std.specs.List.{Contains}
+use Rattle.std.specs.Ordering.{match_ordering}
+use Rattle.std.specs.declared.cmp.Ordering.{Ordering}
+use Rattle.std.specs.declared.cmp.Ordering.TheVariants.{Less, Equal, Greater}
 use Rattle.std.proofs.lemmas.List.Elements.{Contains-append_left, Contains-append_right, Contains-push_cases}
-use Rattle.std.proofs.lemmas.List.Sorted.{IsPermutation-insert, searchable_from_sorted}
-use Rattle.lf_laws.proofs.Members.{behind, first_or_behind, here}
+use Rattle.lf_laws.proofs.Members.{behind, first_or_behind, here, none_in}
 use Rattle.lf_ast.specs.Labels.{Labels}
-use Rattle.lf_witness.specs.Ascending.{IsAscending, labels_cmp}
+use Rattle.lf_witness.specs.Ascending.{labels_cmp}
 use Rattle.lf_witness.specs.Strict.{AreSame}
-use Rattle.lf_witness.proofs.AscendingLists.{ascends_behind, head_less, tail_ascends}
-use Rattle.lf_strict.proofs.Filtered.{sorted}
-use Rattle.lf_strict.proofs.Times.{labels_total, same_moved}
+use Rattle.lf_witness.proofs.Decided.{equal_same}
 
 -- R has the members of P, and s
 abbrev pub IsWith : Labels → List Labels → List Labels → Type 0
@@ -40,25 +38,25 @@ pushed_with s P R is = (
   ],
 )
 
-pub with_insert : (s : Labels) (R : List Labels) (i : ℕ) → IsWith s R (insert R i s)
-with_insert s R i =
-    let same = same_moved (s ∷ R) (insert R i s) (IsPermutation-insert R i s) in
-    (λ t c. first_or_behind s R t (same.1 t c), λ t c. same.0 t (behind s R t c), same.0 s (here s R))
-
-ascending_put : (s : Labels) (R : List Labels) (i : ℕ) → i ≤ length R → IsAscending R → ((k : ℕ) (d : Labels) → k < i → labels_cmp (get_or R k d) s ≡ Less)
-    → ((k : ℕ) (d : Labels) → i ≤ k → k < length R → labels_cmp s (get_or R k d) ≡ Less) → IsAscending (insert R i s)
-ascending_put s R zero le ascends before after = ascends_behind s R ascends (λ t c. subst (λ z. labels_cmp s z ≡ Less) c.2 (after c.0 t (omega arith) c.1))
-ascending_put s [] (suc i) le ascends before after = absurd (omega (arith, le))
-ascending_put s (x ∷ R) (suc i) le ascends before after =
-    ascends_behind x (insert R i s)
-    (ascending_put s R i (omega (arith, le)) (tail_ascends x R ascends) (λ k d lt. before (suc k) d (omega (arith, lt))) (λ k d low lt. after (suc k) d (omega (arith, low)) (omega (arith, lt))))
-    (λ t c. elim ((with_insert s R i).0 t c) [
-      | inl new ↦ subst (λ z. labels_cmp x z ≡ Less) new (before zero x (omega arith))
-      | inr old ↦ head_less x t R ascends old
-    ])
-
--- at the place that a search answers
-pub ascending_searched : (s : Labels) (R l : List Labels) (i : ℕ) → l ≡ R → IsAscending R → i ≤ length l → IsBinarySearchResult (λ y. labels_cmp y s) l (Err i) → IsAscending (insert R i s)
-ascending_searched s R l i is ascends le found =
-    let apart = subst (λ (l : List Labels). IsBinarySearchResult (λ y. labels_cmp y s) l (Err i)) is found (searchable_from_sorted labels_total (λ x. x) R s (sorted R ascends)) in
-    ascending_put s R i (subst (λ (l : List Labels). i ≤ length l) is le) ascends (λ k d lt. apart.0 k d (omega arith) lt) (λ k d low lt. labels_total.antisymm s (get_or R k d) ∙ ap ordering_reverse (apart.1 k d low lt))
+-- put at its place, unless it is there
+pub with_key : (s : Labels) (R : List Labels) → IsWith s R (insert_key labels_cmp R s)
+with_key s [] = (λ t c. first_or_behind s [] t c, λ t c. absurd (none_in t c), here s [])
+with_key s (x ∷ R) = by (labels_cmp s x) refl (with_key s R)
+  where
+    by : (o : Ordering) → labels_cmp s x ≡ o → IsWith s R (insert_key labels_cmp R s) → IsWith s (x ∷ R) (match_ordering o (s ∷ x ∷ R) (x ∷ R) (x ∷ insert_key labels_cmp R s))
+    by Less is _ = (λ t c. first_or_behind s (x ∷ R) t c, λ t c. behind s (x ∷ R) t c, here s (x ∷ R))
+    by Equal is _ = (λ t c. inr c, λ t c. c, subst (Contains (x ∷ R)) (sym (equal_same s x is)) (here x R))
+    by Greater is rest = (
+      λ t c. elim (first_or_behind x (insert_key labels_cmp R s) t c) [
+        | inl first ↦ inr (subst (Contains (x ∷ R)) first (here x R))
+        | inr later ↦ elim (rest.0 t later) [
+          | inl new ↦ inl new
+          | inr old ↦ inr (behind x R t old)
+        ]
+      ],
+      λ t c. elim (first_or_behind x R t c) [
+        | inl first ↦ subst (Contains (x ∷ insert_key labels_cmp R s)) first (here x (insert_key labels_cmp R s))
+        | inr later ↦ behind x (insert_key labels_cmp R s) t (rest.1 t later)
+      ],
+      behind x (insert_key labels_cmp R s) s rest.2,
+    )

@@ -7,7 +7,7 @@ ghost use Rattle.lf_semantics.specs.Texts.{value_of};
 ghost use Rattle.lf_witness.specs.Ascending.{IsAscending};
 ghost use Rattle.lf_witness.specs.Strict.{AreSelected, IsSet};
 ghost use Rattle.lf_witness.specs.StrictRuns.{InOrder};
-ghost use Rattle.lf_strict.specs.views.Selected.{as_wanted, has_name, passes_by};
+ghost use Rattle.lf_strict.specs.views.Selected.{as_wanted, has_name, passes_by, passing};
 
 use lf_ast::{LabelSet, MatchOp, Matcher};
 use lf_base::{Memory, Seq, Text};
@@ -24,11 +24,22 @@ pub fn select(
     requires { IsAscending stored.now }
     ensures { IfOk result (λ set. InOrder (IsSet (AreSelected stored.now name.now matchers.now)) (Some set)) }
 {
-    let mut kept = named(alloc, stored, name)?;
+    let kept = named(alloc, stored, name)?;
+    Ok(Seq::from_vec(passing_each(alloc, kept, matchers)?))
+}
+
+/// Those of the samples that pass each matcher.
+pub fn passing_each(
+    alloc: Global,
+    mut kept: Vec<LabelSet>,
+    matchers: &[Matcher],
+) -> Result<Vec<LabelSet>, Memory>
+    ensures { IfOk result (λ passed. passed.items ≡ passing matchers.now kept.items) }
+{
     for matcher in matchers {
         kept = passing(alloc, matcher, kept.as_slice())?;
     }
-    Ok(Seq::from_vec(kept))
+    Ok(kept)
 }
 
 /// The samples that pass a matcher.
@@ -57,7 +68,7 @@ fn named(alloc: Global, samples: &[LabelSet], name: &Option<Text>) -> Result<Vec
 }
 
 /// Whether a sample has this name, if there is one.
-fn has_name(name: &Option<Text>, sample: &LabelSet) -> bool
+pub fn has_name(name: &Option<Text>, sample: &LabelSet) -> bool
     ensures { result ≡ has_name name.now sample.now }
 {
     match name {

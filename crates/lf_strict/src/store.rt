@@ -93,7 +93,7 @@ impl Store {
     {
         let mut all = Vec::new(alloc);
         for samples in self.by_name.values() {
-            push_each(&mut all, samples.as_slice())?;
+            samples.push_to(&mut all)?;
         }
         Ok(together(all))
     }
@@ -129,7 +129,7 @@ impl Store {
     {
         let _count = self.by_name.len();
         match self.by_name.get(sought.as_str()) {
-            Some(samples) => select(alloc, samples.as_slice(), name, matchers),
+            Some(samples) => samples.select(alloc, name, matchers),
             None => Ok(Seq::new(alloc)),
         }
     }

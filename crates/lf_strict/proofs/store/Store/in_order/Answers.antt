@@ -11,7 +11,7 @@ pub loop-samples-preserved : goal.loop-samples-preserved
 loop-samples-preserved c =
     let old : List Labels = c.loop-samples.all.items in
     let later = c.next.new.self in
-    ap (λ (l : List Labels). l ++ all_of later) (c.in_ok-push_each.ensures ∙ ap (λ (l : List Labels). old ++ l) c.as_slice.ensures.value)
+    ap (λ (l : List Labels). l ++ all_of later) c.in_ok-push_to.ensures
     ∙ append_assoc old c.in-Some.samples.now (all_of later)
     ∙ ap (λ (l : List (List Labels)). old ++ all_of l) (sym c.in-Some.ensures.steps)
     ∙ c.loop-samples.invariant

@@ -9,9 +9,6 @@ use Rattle.lf_witness.proofs.AscendingLists.{at_place}
 use Rattle.lf_strict.proofs.StoredSamples.{found_all, found_none, found_some, if_ok, is_named, selected_of}
 use Rattle.lf_strict.proofs.store.Store.select_named.Goals as goal
 
-pub select-requires : goal.select-requires
-select-requires c = subst IsAscending (sym c.as_slice.ensures.value) c.as_slice.ensures.ascends
-
 pub returns-in-Some : goal.returns-in-Some
 returns-in-Some c =
     let es = c.self.inside.by_name.entries in
@@ -24,7 +21,7 @@ returns-in-Some c =
     let inside : (s : Labels) → Contains V s → Contains W s = λ s d. subst (λ (l : List Labels). Contains l s) c.self.view_is (found_some n es c.self.invariant V found s d).0 in
     let all : (s : Labels) → Contains W s → _ → _ → Contains V s = λ s d named each.
     found_all n es c.len-count.ensures.ordered c.self.invariant V found s (subst (λ (l : List Labels). Contains l s) (sym c.self.view_is) d) (c.requires s named each ∙ sym c.as_str.ensures) in
-    if_ok c.select.result (λ R is. (selected_of W V name ms R inside all (subst (λ (l : List Labels). AreSelected l name ms R) c.as_slice.ensures.value is.0), is.1)) c.select.ensures
+    if_ok c.select.result (λ R is. (selected_of W V name ms R inside all is.0, is.1)) c.select.ensures
 
 pub returns-in-None : goal.returns-in-None
 returns-in-None c =
