@@ -2,6 +2,7 @@
 use Rattle.std.specs.Prelude.{ℕ, List, [], ◌∷◌, Option, Some, None, slice_get}
 use Rattle.lf_ast.specs.Rules.{RuleTree}
 
+-- in front of others a rule, if there is one
 abbrev pub with_rule : Option RuleTree → List RuleTree → List RuleTree
 with_rule None later = later
 with_rule (Some r) later = r ∷ later
