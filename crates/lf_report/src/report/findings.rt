@@ -89,12 +89,23 @@ fn find_each(
     let mut from = Spot::first();
     for k in 0..count {
         let found = checker.rule(alloc, k as u32)?;
-        from = spot_of(bytes, from, least_start(found.as_slice()));
+        from = before_all(bytes, from, found.as_slice());
         let text = rule_text(alloc, asked, file, bytes, names, from, found.as_slice())?;
         push_graves(&mut graves, found.as_slice())?;
         lines.push(text)?;
     }
     Ok(FindingLines { lines, graves })
+}
+
+/// A spot before all findings of a rule, from one before it. Where nothing is found it stays, so that the bytes before it aren't gone through again.
+fn before_all(bytes: &[u8], from: Spot, found: &[Finding]) -> Spot
+    requires { IsSpot bytes.now from }
+    ensures { IsSpot bytes.now result }
+{
+    if found.is_empty() {
+        return from;
+    }
+    spot_of(bytes, from, least_start(found))
 }
 
 /// Where the first of the findings of a rule starts, or 0 where there is none.

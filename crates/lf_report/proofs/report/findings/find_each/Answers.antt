@@ -25,7 +25,7 @@ loop-k-preserved c =
     let found = c.in_ok-found.found in
     let stand = stand_in bytes rules (record { name = asked.file; bytes = bytes }) c.requires.accepted in
     record {
-      spot = c.spot_of-from.ensures.spot;
+      spot = c.before_all-from.ensures;
       so_far =
           more_so_far asked bytes rules env k c.loop-k.lines c.push.new.self c.loop-k.graves.items c.push_graves.new.graves.items c.in_ok-text.text (all_shown files rules found) c.loop-k.invariant.so_far
           (omega (arith, c.loop-k-test.true, c.requires.count, length-map c.args.checker.now.rules rule_tree)) (c.in_ok-found.ensures files stand)
