@@ -1,8 +1,8 @@
 -- The findings of the first rules of a file, one rule after another.
-use Rattle.std.proofs.Common.{◌≡◌, inl, inr, ℕ, ◌+◌, ◌<◌, ◌≤◌, Bool, cond, List, [], ◌∷◌, ◌++◌, map, length, take, get_or, Some, refl, sym, ap, ap₂, subst, ◌∙◌, arith, append-nil, length-take}
+use Rattle.std.proofs.Common.{◌≡◌, inl, inr, ℕ, ◌+◌, ◌<◌, Bool, cond, List, [], ◌∷◌, ◌++◌, map, length, take, get_or, Some, refl, sym, ap, ap₂, subst, ◌∙◌, arith, append-nil, length-take}
 use Rattle.std.specs.Prelude.{slice_get}
 use Rattle.std.specs.List.{count_by}
-use Rattle.std.proofs.lemmas.List.{length-map, map_more, take_all, take_more}
+use Rattle.std.proofs.lemmas.List.{length-map, map_more, take_more}
 use Rattle.std.proofs.lemmas.List.Concat.{flat_map-append}
 use Rattle.std.proofs.lemmas.List.Sums.{sum_by-cons}
 use Rattle.std.proofs.lemmas.Option.{get_or_from_slice_get}
@@ -15,11 +15,10 @@ use Rattle.lf_checks.specs.Finding.{Finding}
 use Rattle.lf_checks.specs.Findings.{AreFindings, severity_of}
 use Rattle.lf_checks.specs.views.Cases.{check_at}
 use Rattle.lf_checks.specs.views.Shown.{all_shown, shown as finding_of}
-use Rattle.lf_report.specs.Checked.{AreChecked, Checked, findings_of, is_grave, is_problem}
+use Rattle.lf_report.specs.Checked.{Checked, findings_of, is_grave, is_problem}
 use Rattle.lf_report.specs.Report.{files_of, finding_line, finding_lines, lines_text}
 use Rattle.lf_report.specs.declared.asked.Asked.{Asked}
-use Rattle.lf_report.specs.declared.report.findings.FindingLines.{FindingLines}
-use Rattle.lf_report.specs.views.Told.{Tells, texts_of}
+use Rattle.lf_report.specs.views.Told.{texts_of}
 use Rattle.lf_report.proofs.Appends.{built_more}
 use Rattle.lf_report.proofs.Zips.{at_push, some_at}
 
@@ -63,9 +62,6 @@ module _ (asked : Asked) (bytes : Bytes) (rules : List RuleTree) (env : Environm
     pub lines_are : lines ≡ texts_of asked.file bytes checked
     pub graves_are : graves ≡ map is_problem (findings_of checked)
 
-  pub none_so_far : IsSoFar 0 [] [] []
-  none_so_far = record { rules_are = refl; lists_are = λ i c e. cc; lines_are = refl; graves_are = refl }
-
   pub more_so_far : (k : ℕ) (lines new_lines : List Bytes) (graves new_graves : List Bool) (text : Bytes) (found : List Finding) → (checked : List Checked) × IsSoFar k checked lines graves → k < length rules
       → AreFindings (files_of asked bytes) rules env k found → text ≡ lines_text (finding_lines asked.file bytes found) → new_lines ≡ lines ++ text ∷ [] → new_graves ≡ graves ++ map is_problem found
       → (checked : List Checked) × IsSoFar (k + 1) checked new_lines new_graves
@@ -94,12 +90,4 @@ module _ (asked : Asked) (bytes : Bytes) (rules : List RuleTree) (env : Environm
               ∙ ap (map is_problem) (ap (λ l. findings_of checked ++ l) (sym (append-nil found)) ∙ sym (flat_map-append (λ (c : Checked). c.found) checked (one ∷ [])));
         },
       )
-
   -- all rules
-  pub all_so_far : (k : ℕ) (found : FindingLines) → (checked : List Checked) × IsSoFar k checked found.lines found.graves.items → length rules ≤ k
-      → (checked : List Checked) × AreChecked (files_of asked bytes) rules env checked × Tells asked bytes checked found
-  all_so_far k found (checked, so_far) end = (
-    checked,
-    record { each_rule = so_far.rules_are ∙ take_all k rules end; each_list = so_far.lists_are },
-    record { lines_are = so_far.lines_are; graves_are = so_far.graves_are },
-  )

@@ -6,7 +6,6 @@ pub mod LabelTexts
 pub mod NameSpots
 pub mod OneFound
 pub mod OneLeast
-pub mod Reports
 pub mod SeenRules
 pub mod ShownNames
 pub mod Sources
