@@ -1,0 +1,72 @@
+-- Which numbers of rules fit, by what was prepared.
+use Rattle.std.proofs.Common.{◌≡◌, ◌<◌, ◌+◌, ℕ, Bool, true, false, not, ◌&&◌, List, [], length, reverse, get_or, Option, Some, None, sym, ◌∙◌, ap, subst, arith}
+use Rattle.std.specs.Prelude.{slice_get}
+use Rattle.std.specs.List.{Contains, find}
+use Rattle.std.proofs.lemmas.List.{get_or-map, length-map}
+use Rattle.std.proofs.lemmas.Option.{get_or_from_slice_get, slice_get_within}
+use Rattle.lf_ast.specs.Labels.{Bytes}
+use Rattle.lf_ast.specs.Rules.{RuleTree}
+use Rattle.lf_deps.specs.views.Search.{numbers_of}
+use Rattle.lf_deps.proofs.Numbered.{of_numbers}
+use Rattle.lf_semantics.specs.ClassRows.{Sets}
+use Rattle.lf_semantics.specs.Environments.{recorded_row}
+use Rattle.lf_trials.specs.Built.{fits}
+use Rattle.lf_trials.specs.Given.{Given, holds_texts}
+use Rattle.lf_trials.specs.Reached.{first_rule, is_marked, records}
+use Rattle.lf_built.specs.declared.prepared.Prepared.{Prepared}
+use Rattle.lf_built.specs.views.Fitting.{IsFirstRule}
+use Rattle.lf_built.specs.views.Indexed.{IsPrepared, env_of, forks_of, trees_of, universe_of}
+use Rattle.lf_built.proofs.FirstRules.{first_is, found_at, none_at}
+
+-- the rule isn't marked, and its row, as it is recorded, holds the texts
+abbrev pub fits_by : Prepared → List ℕ → Given → ℕ → Bool
+fits_by p marked D k = not (is_marked (reverse marked) k) && holds_texts (universe_of p) (get_or p.recorded.items k []) D
+
+module _ (p : Prepared) (known : IsPrepared p) where
+  pub recorded_count : length p.recorded.items ≡ length (trees_of p)
+  recorded_count = ap length known.recorded ∙ length-map (trees_of p) (recorded_row (universe_of p) (env_of p))
+
+  pub recorded_at : (k : ℕ) (r : RuleTree) (d : Sets) → slice_get (trees_of p) k ≡ Some r → get_or p.recorded.items k d ≡ recorded_row (universe_of p) (env_of p) r
+  recorded_at k r d is =
+      ap (λ (xs : List Sets). get_or xs k d) known.recorded
+      ∙ get_or-map (recorded_row (universe_of p) (env_of p)) (trees_of p) k r d (slice_get_within (trees_of p) k r is)
+      ∙ ap (recorded_row (universe_of p) (env_of p)) (get_or_from_slice_get (trees_of p) k r r is)
+
+  -- a number of a name is one of a rule
+  pub number_within : (name : Bytes) (k : ℕ) → Contains (numbers_of (records name) 0 (trees_of p)) k → (r : RuleTree) × (slice_get (trees_of p) k ≡ Some r)
+  number_within name k c =
+      let f = of_numbers (records name) (trees_of p) 0 k c in
+      let e : f.0 ≡ k = omega (arith, f.1) in
+      (f.2, subst (λ (n : ℕ). slice_get (trees_of p) n ≡ Some f.2) e f.3)
+
+  module _ (marked : List ℕ) (name : Bytes) (D : Given) where
+    abbrev numbers : List ℕ
+    numbers = numbers_of (records name) 0 (trees_of p)
+
+    abbrev first : Option (ℕ × RuleTree)
+    first = first_rule (fits (universe_of p) (env_of p) (trees_of p) (forks_of p) (reverse marked) name D) 0 (trees_of p)
+
+    told : (o : Option ℕ) → find (fits_by p marked D) numbers ≡ o → IsFirstRule (trees_of p) first o
+    told o e = by o (subst (λ (x : Option ℕ). Found x) e found)
+      where
+        rest : ℕ → RuleTree → Bool
+        rest k r = not (is_marked (reverse marked) k) && holds_texts (universe_of p) (recorded_row (universe_of p) (env_of p) r) D
+
+        agree : (i j : ℕ) (r : RuleTree) → j ≡ i → slice_get (trees_of p) i ≡ Some r → rest j r ≡ fits_by p marked D j
+        agree i j r e is = ap (λ (row : Sets). not (is_marked (reverse marked) j) && holds_texts (universe_of p) row D) (sym (recorded_at j r [] (ap (slice_get (trees_of p)) e ∙ is)))
+
+        Found : Option ℕ → Type 0
+        Found x = Rattle.lf_built.proofs.FirstRules.FirstOf (fits_by p marked D) name rest 0 (trees_of p) x first
+
+        found : Found (find (fits_by p marked D) numbers)
+        found = first_is (fits_by p marked D) name rest (trees_of p) 0 (λ i r is. agree i (0 + i) r (let z : 0 + i ≡ i = omega arith in z) is)
+
+        by : (o : Option ℕ) → Found o → IsFirstRule (trees_of p) first o
+        by None is = is
+        by (Some k) (i, r, at, there, is) = let e : i ≡ k = omega (arith, at) in (r, is, subst (λ (n : ℕ). slice_get (trees_of p) n ≡ Some r) e there)
+
+    pub some_fits : (i : ℕ) → i < length numbers → ((k : ℕ) → k < i → fits_by p marked D (get_or numbers k 0) ≡ false) → fits_by p marked D (get_or numbers i 0) ≡ true → IsFirstRule (trees_of p) first (Some (get_or numbers i 0))
+    some_fits i less before here = told (Some (get_or numbers i 0)) (found_at (fits_by p marked D) numbers i less before here)
+
+    pub none_fit : ((k : ℕ) → k < length numbers → fits_by p marked D (get_or numbers k 0) ≡ false) → IsFirstRule (trees_of p) first None
+    none_fit before = told None (none_at (fits_by p marked D) numbers before)

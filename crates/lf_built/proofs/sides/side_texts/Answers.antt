@@ -1,0 +1,129 @@
+use Rattle.std.proofs.Common.{◌≡◌, ◌<◌, ◌≤◌, ◌+◌, ◌&&◌, ◌||◌, ℕ, Bool, true, List, [], length, not, refl, sym, ap, subst, ◌∙◌, arith}
+use Rattle.std.specs.Prelude.{is_some}
+use Rattle.std.specs.List.{list_all}
+use Rattle.std.proofs.lemmas.List.{length-set, take_all}
+use Rattle.std.proofs.lemmas.List.Folds.{list_all_more}
+use Rattle.lf_ast.specs.Labels.{Bytes}
+use Rattle.lf_semantics.specs.Grouped.{signs}
+use Rattle.lf_trials.specs.Candidates.{labels_in}
+use Rattle.lf_trials.specs.Given.{Given}
+use Rattle.lf_trials.specs.Matched.{side, signature_text}
+use Rattle.lf_trials.specs.Sides.{drops, left_gives, right_gives}
+use Rattle.lf_candidates.specs.views.ClassTexts.{StandsAt, StandsBefore, name_at}
+use Rattle.lf_candidates.proofs.Standing.{all_stand, fails_at, label_count, name_read, none_yet, one_stands}
+use Rattle.lf_built.proofs.SideTexts.{side_now, text_told}
+use Rattle.lf_built.proofs.sides.side_texts.Goals as goal
+
+pub loop-label-init : goal.loop-label-init
+loop-label-init c =
+    let u = c.args.universe.now in
+    let texts = c.args.texts.now in
+    record {
+      left_count = ap length c.in_ok-left.ensures;
+      right_count = ap length c.in_ok-right.ensures;
+      signed = λ D stands. refl;
+      left = λ D stands. subst (λ classes. StandsBefore u texts 0 classes (side u (left_gives c.args.op c.args.matching.now) c.args.op c.args.matching.now c.args.left_row.now c.args.right_row.now D)) (sym c.in_ok-left.ensures) (none_yet u (side u (left_gives c.args.op c.args.matching.now) c.args.op c.args.matching.now c.args.left_row.now c.args.right_row.now D) texts);
+      right = λ D stands. subst (λ classes. StandsBefore u texts 0 classes (side u (right_gives c.args.op c.args.matching.now) c.args.op c.args.matching.now c.args.left_row.now c.args.right_row.now D)) (sym c.in_ok-right.ensures) (none_yet u (side u (right_gives c.args.op c.args.matching.now) c.args.op c.args.matching.now c.args.left_row.now c.args.right_row.now D) texts);
+    }
+
+pub returns-then-lacks_text : goal.returns-then-lacks_text
+returns-then-lacks_text c = λ D stands.
+    let u = c.args.universe.now in
+    let within = c.requires.universe in
+    let op = c.args.op in
+    let m = c.args.matching.now in
+    let l = c.args.left_row.now in
+    let r = c.args.right_row.now in
+    let label : ℕ = c.loop-label.label in
+    let E : Given = signature_text u op m l r D in
+    let test : Bytes → Bool = λ name. not (signs m name) || is_some (E name) in
+    let less : label < length u.named = omega (arith, c.loop-label-test.true, c.labels-label-end.ensures.count) in
+    let listed : label < length (labels_in u) = omega (arith, less, label_count u within) in
+    let read = name_read u c.args.names.now label c.index-names-place.result c.requires.names (let P : List Bytes → Type 0 = λ xs. label < length xs in subst P (sym c.requires.names) listed) c.index-names-place.is in
+    let name : c.as_str-name.result.now ≡ name_at u label = c.as_str-name.ensures ∙ read in
+    let at : StandsAt u label c.get-class.result D = subst (λ o. StandsAt u label o D) (sym c.get-class.ensures) (stands.each label less) in
+    let is : c.signs-is_signed.result ≡ signs m (name_at u label) = c.signs-is_signed.ensures ∙ ap (signs m) name in
+    let signed : c.signs-is_signed.result ≡ true → StandsAt u label c.signature_class-signature.result E = λ e. c.signature_class-signature.ensures op m D e (c.drops-dropped.ensures ∙ ap (drops op m) name) at in
+    let told : test (name_at u label) ≡ not c.lacks_text.result = text_told u op m l r D label c.signs-is_signed.result c.signature_class-signature.result is signed ∙ ap not (sym c.lacks_text.ensures) in
+    fails_at test (labels_in u) [] label listed (told ∙ ap not c.if-lacks_text.true)
+
+pub loop-label-preserved : goal.loop-label-preserved
+loop-label-preserved c = record {
+  left_count = ap length c.put.ensures ∙ length-set c.loop-label.left c.loop-label.label c.side_class.result ∙ c.loop-label.invariant.left_count;
+  right_count = ap length c.put-in-loop-label.ensures ∙ length-set c.loop-label.right c.loop-label.label c.side_class-in-loop-label.result ∙ c.loop-label.invariant.right_count;
+  signed = λ D stands.
+      let u = c.args.universe.now in
+      let within = c.requires.universe in
+      let op = c.args.op in
+      let m = c.args.matching.now in
+      let l = c.args.left_row.now in
+      let r = c.args.right_row.now in
+      let label : ℕ = c.loop-label.label in
+      let E : Given = signature_text u op m l r D in
+      let test : Bytes → Bool = λ name. not (signs m name) || is_some (E name) in
+      let less : label < length u.named = omega (arith, c.loop-label-test.true, c.labels-label-end.ensures.count) in
+      let listed : label < length (labels_in u) = omega (arith, less, label_count u within) in
+      let read = name_read u c.args.names.now label c.index-names-place.result c.requires.names (let P : List Bytes → Type 0 = λ xs. label < length xs in subst P (sym c.requires.names) listed) c.index-names-place.is in
+      let name : c.as_str-name.result.now ≡ name_at u label = c.as_str-name.ensures ∙ read in
+      let at : StandsAt u label c.get-class.result D = subst (λ o. StandsAt u label o D) (sym c.get-class.ensures) (stands.each label less) in
+      let is : c.signs-is_signed.result ≡ signs m (name_at u label) = c.signs-is_signed.ensures ∙ ap (signs m) name in
+      let signed : c.signs-is_signed.result ≡ true → StandsAt u label c.signature_class-signature.result E = λ e. c.signature_class-signature.ensures op m D e (c.drops-dropped.ensures ∙ ap (drops op m) name) at in
+      let told : test (name_at u label) ≡ not c.lacks_text.result = text_told u op m l r D label c.signs-is_signed.result c.signature_class-signature.result is signed ∙ ap not (sym c.lacks_text.ensures) in
+      list_all_more test (labels_in u) label [] listed ∙ ap (λ (b : Bool). b && test (name_at u label)) (c.loop-label.invariant.signed D stands) ∙ (told ∙ ap not c.if-lacks_text.false);
+  left = λ D stands.
+      let u = c.args.universe.now in
+      let within = c.requires.universe in
+      let op = c.args.op in
+      let m = c.args.matching.now in
+      let l = c.args.left_row.now in
+      let r = c.args.right_row.now in
+      let label : ℕ = c.loop-label.label in
+      let E : Given = signature_text u op m l r D in
+      let less : label < length u.named = omega (arith, c.loop-label-test.true, c.labels-label-end.ensures.count) in
+      let listed : label < length (labels_in u) = omega (arith, less, label_count u within) in
+      let read = name_read u c.args.names.now label c.index-names-place.result c.requires.names (let P : List Bytes → Type 0 = λ xs. label < length xs in subst P (sym c.requires.names) listed) c.index-names-place.is in
+      let name : c.as_str-name.result.now ≡ name_at u label = c.as_str-name.ensures ∙ read in
+      let at : StandsAt u label c.get-class.result D = subst (λ o. StandsAt u label o D) (sym c.get-class.ensures) (stands.each label less) in
+      let is : c.signs-is_signed.result ≡ signs m (name_at u label) = c.signs-is_signed.ensures ∙ ap (signs m) name in
+      let signed : c.signs-is_signed.result ≡ true → StandsAt u label c.signature_class-signature.result E = λ e. c.signature_class-signature.ensures op m D e (c.drops-dropped.ensures ∙ ap (drops op m) name) at in
+      let S : Given = side u (left_gives op m) op m l r D in
+      let so_far = c.loop-label.invariant.left D stands in
+      let room : label < length c.loop-label.left = omega (arith, less, so_far.count, stands.count) in
+      subst (λ classes. StandsBefore u c.args.texts.now (label + 1) classes S) (sym c.put.ensures)
+      (one_stands u S c.args.texts.now label c.loop-label.left c.side_class.result room so_far
+      (side_now u op m l r D label (left_gives op m) c.signs-is_signed.result c.left_gives.result c.get-class.result c.signature_class-signature.result c.side_class.result is (c.left_gives.ensures ∙ ap (left_gives op m) name) c.side_class.ensures at signed));
+  right = λ D stands.
+      let u = c.args.universe.now in
+      let within = c.requires.universe in
+      let op = c.args.op in
+      let m = c.args.matching.now in
+      let l = c.args.left_row.now in
+      let r = c.args.right_row.now in
+      let label : ℕ = c.loop-label.label in
+      let E : Given = signature_text u op m l r D in
+      let less : label < length u.named = omega (arith, c.loop-label-test.true, c.labels-label-end.ensures.count) in
+      let listed : label < length (labels_in u) = omega (arith, less, label_count u within) in
+      let read = name_read u c.args.names.now label c.index-names-place.result c.requires.names (let P : List Bytes → Type 0 = λ xs. label < length xs in subst P (sym c.requires.names) listed) c.index-names-place.is in
+      let name : c.as_str-name.result.now ≡ name_at u label = c.as_str-name.ensures ∙ read in
+      let at : StandsAt u label c.get-class.result D = subst (λ o. StandsAt u label o D) (sym c.get-class.ensures) (stands.each label less) in
+      let is : c.signs-is_signed.result ≡ signs m (name_at u label) = c.signs-is_signed.ensures ∙ ap (signs m) name in
+      let signed : c.signs-is_signed.result ≡ true → StandsAt u label c.signature_class-signature.result E = λ e. c.signature_class-signature.ensures op m D e (c.drops-dropped.ensures ∙ ap (drops op m) name) at in
+      let S : Given = side u (right_gives op m) op m l r D in
+      let so_far = c.loop-label.invariant.right D stands in
+      let room : label < length c.loop-label.right = omega (arith, less, so_far.count, stands.count) in
+      subst (λ classes. StandsBefore u c.args.texts.now (label + 1) classes S) (sym c.put-in-loop-label.ensures)
+      (one_stands u S c.args.texts.now label c.loop-label.right c.side_class-in-loop-label.result room so_far
+      (side_now u op m l r D label (right_gives op m) c.signs-is_signed.result c.right_gives.result c.get-class.result c.signature_class-signature.result c.side_class-in-loop-label.result is (c.right_gives.ensures ∙ ap (right_gives op m) name) c.side_class-in-loop-label.ensures at signed));
+}
+
+pub returns : goal.returns
+returns c = λ D stands.
+    let u = c.args.universe.now in
+    let m = c.args.matching.now in
+    let test : Bytes → Bool = λ name. not (signs m name) || is_some (signature_text u c.args.op m c.args.left_row.now c.args.right_row.now D name) in
+    let most : length u.named ≤ c.loop-label.label = omega (arith, c.loop-label-test.false, c.labels-label-end.ensures.count) in
+    let all : list_all test (labels_in u) ≡ true = ap (list_all test) (sym (take_all c.loop-label.label (labels_in u) (omega (arith, most, label_count u c.requires.universe)))) ∙ c.loop-label.invariant.signed D stands in (
+      all,
+      all_stand u (side u (left_gives c.args.op m) c.args.op m c.args.left_row.now c.args.right_row.now D) c.args.texts.now c.loop-label.label c.loop-label.left c.requires.count most (c.loop-label.invariant.left D stands),
+      all_stand u (side u (right_gives c.args.op m) c.args.op m c.args.left_row.now c.args.right_row.now D) c.args.texts.now c.loop-label.label c.loop-label.right c.requires.count most (c.loop-label.invariant.right D stands),
+    )

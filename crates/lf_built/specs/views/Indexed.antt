@@ -1,0 +1,51 @@
+-- What the built worlds of rules share: how contracts see the code. It defines nothing.
+use Rattle.std.specs.Prelude.{◌≡◌, Bool, List, map}
+use Rattle.lf_ast.specs.Rules.{RuleTree, rule_trees}
+use Rattle.lf_ast.specs.Tree.{Tree}
+use Rattle.lf_ast.specs.declared.rule.Rule.{Rule}
+use Rattle.lf_ast.specs.views.Walks.{nodes}
+use Rattle.lf_classes.specs.Limits.{IsWithin}
+use Rattle.lf_deps.specs.views.Sources.{IsSourcesOf}
+use Rattle.lf_semantics.specs.Environments.{CoversRules, IsEnvironment, recorded_row}
+use Rattle.lf_semantics.specs.Listing.{Listing}
+use Rattle.lf_semantics.specs.RowTable.{Environment}
+use Rattle.lf_trials.specs.Candidates.{labels_in}
+use Rattle.lf_forks.specs.views.ForkTests.{has_passing}
+use Rattle.lf_forks.specs.views.Holding.{Forks, test_of}
+use Rattle.lf_built.specs.declared.prepared.Prepared.{Prepared}
+use Rattle.lf_built.specs.views.PartRows.{part_rows}
+use Rattle.lf_built.specs.views.Recorders.{AreRecordersOf}
+
+-- what it is of
+
+abbrev pub universe_of : Prepared → Listing
+universe_of p = p.universe.now
+
+abbrev pub env_of : Prepared → Environment
+env_of p = p.env.now
+
+abbrev pub trees_of : Prepared → List RuleTree
+trees_of p = rule_trees p.rules.now
+
+-- which expressions hold a fork
+abbrev pub forks_of : Prepared → Tree → Bool
+forks_of p = has_passing (test_of p.forks.now)
+
+-- all is as it is to be
+pub record IsPrepared (p : Prepared) : Type 0 where
+  pub within : IsWithin (universe_of p)
+  pub environment : IsEnvironment (universe_of p) (env_of p)
+  pub covers : CoversRules (universe_of p) (trees_of p)
+  pub sources : IsSourcesOf (trees_of p) p.sources.now
+  pub names : p.names.items ≡ labels_in (universe_of p)
+  pub recorders : AreRecordersOf (trees_of p) p.recorders
+  pub parts : p.parts.items ≡ map (λ (r : RuleTree). part_rows (universe_of p) (env_of p) (forks_of p) (nodes r.expr)) (trees_of p)
+  pub recorded : p.recorded.items ≡ map (recorded_row (universe_of p) (env_of p)) (trees_of p)
+
+-- it is prepared for these
+pub record IsPreparedFor (u : Listing) (e : Environment) (rs : List Rule) (fs : Forks) (p : Prepared) : Type 0 where
+  pub universe : p.universe.now ≡ u
+  pub env : p.env.now ≡ e
+  pub rules : p.rules.now ≡ rs
+  pub forks : p.forks.now ≡ fs
+  pub prepared : IsPrepared p

@@ -1,0 +1,60 @@
+//! How many selectors may be built.
+ghost use Rattle.std.specs.Prelude.{◌≡◌, ◌+◌, ◌*◌, eqb, cond, length, List, IfOk};
+ghost use Rattle.lf_ast.specs.Rules.{RuleTree};
+ghost use Rattle.lf_deps.specs.views.Sources.{IsSourcesOf};
+ghost use Rattle.lf_trials.specs.Built.{selector_count};
+ghost use Rattle.lf_trials.specs.Reached.{with_reach};
+ghost use Rattle.lf_built.specs.views.Counts.{others, selected};
+
+use lf_base::{Memory, Seq};
+use lf_deps::Sources;
+
+/// Four times as many selectors as stand in a rule and its reach, outside scalars. Want of memory where that doesn't fit.
+pub fn most_selectors(sources: &Sources, reach: &Seq<u32>, i: u32) -> Result<usize, Memory>
+    ensures { (rules : List RuleTree) → IsSourcesOf rules sources.now → IfOk result (λ most. most ≡ 4 * selector_count rules (with_reach i reach.now)) }
+{
+    let mut count = selected(sources, i);
+    for k in reach.as_slice() {
+        count = add(count, unless_same(i, *k, selected(sources, *k)))?;
+    }
+    four_times(count)
+}
+
+/// How many selectors stand in a rule, if there is one of the number.
+fn selected(sources: &Sources, number: u32) -> usize
+    ensures { (rules : List RuleTree) → IsSourcesOf rules sources.now → result ≡ selected rules number }
+{
+    let number = number as usize;
+    if number < sources.rule_count() {
+        sources.selected_by(number).len()
+    } else {
+        0
+    }
+}
+
+/// The count, and none where both numbers are equal.
+fn unless_same(i: u32, k: u32, count: usize) -> usize
+    ensures { result ≡ cond (eqb i k) 0 count }
+{
+    if i == k { 0 } else { count }
+}
+
+/// The sum. Want of memory where it doesn't fit.
+fn add(count: usize, more: usize) -> Result<usize, Memory>
+    ensures { IfOk result (λ sum. sum ≡ count + more) }
+{
+    match count.checked_add(more) {
+        Some(sum) => Ok(sum),
+        None => Err(Memory),
+    }
+}
+
+/// Four times a count. Want of memory where it doesn't fit.
+fn four_times(count: usize) -> Result<usize, Memory>
+    ensures { IfOk result (λ times. times ≡ 4 * count) }
+{
+    match count.checked_mul(4) {
+        Some(times) => Ok(times),
+        None => Err(Memory),
+    }
+}

@@ -1,0 +1,25 @@
+//! The world that is built to show a text of a label on a sample of a rule.
+#![tactic(auto)]
+
+mod bound;
+mod building;
+mod built;
+mod fitting;
+mod handing;
+mod made;
+mod once;
+mod operands;
+mod part_rows;
+mod parts;
+mod prepared;
+mod recorders;
+mod recording;
+mod scalars;
+mod series;
+mod sides;
+mod spots;
+mod visiting;
+mod work;
+
+pub use built::Built;
+pub use prepared::Prepared;

@@ -1,0 +1,161 @@
+//! What the built worlds of rules share.
+ghost use Rattle.std.specs.Prelude.{◌≡◌, ◌+◌, ◌<◌, ◌^◌, List, Some, length, map, slice_get, IfOk};
+ghost use Rattle.lf_ast.specs.Rules.{RuleTree, rule_trees};
+ghost use Rattle.lf_ast.specs.views.Walks.{nodes};
+ghost use Rattle.lf_deps.specs.views.Sources.{IsSourcesOf};
+ghost use Rattle.lf_semantics.specs.Environments.{CoversRules, IsEnvironment, recorded_row as row_recorded};
+ghost use Rattle.lf_semantics.specs.Listing.{IsListing};
+ghost use Rattle.lf_semantics.specs.Parts.{is_scalar_part};
+ghost use Rattle.lf_semantics.specs.RowTable.{row_of};
+ghost use Rattle.lf_forks.specs.views.ForkTests.{has_passing};
+ghost use Rattle.lf_forks.specs.views.Holding.{test_of};
+ghost use Rattle.lf_built.specs.views.Indexed.{IsPrepared, IsPreparedFor, env_of, forks_of, trees_of, universe_of};
+ghost use Rattle.lf_built.specs.views.PartRows.{part_rows as rows_of_parts};
+ghost use Rattle.lf_built.specs.views.Places.{size};
+ghost use Rattle.lf_built.specs.views.Spots.{IsSpot, tree_at};
+
+use crate::part_rows::PartRows;
+use crate::recorders::Recorders;
+use crate::recording::recorded_row;
+use crate::spots::Spot;
+use lf_ast::Rule;
+use lf_base::{Memory, Seq, Text};
+use lf_candidates::label_names;
+use lf_classes::{Row, Universe};
+use lf_deps::Sources;
+use lf_flow::Env;
+use lf_forks::Forks;
+use std::alloc::Global;
+
+/// What the built worlds of rules share: the names of the labels, the rules of each recorded name, what is told of the parts of each rule's expression, and the row of what
+/// each rule stores.
+#[derive(Drop)]
+pub struct Prepared<'a> {
+    pub(crate) universe: &'a Universe,
+    pub(crate) env: &'a Env,
+    pub(crate) rules: &'a Seq<Rule>,
+    pub(crate) sources: &'a Sources,
+    pub(crate) forks: &'a Forks,
+    pub(crate) names: Vec<Text>,
+    pub(crate) recorders: Recorders,
+    pub(crate) parts: Vec<PartRows>,
+    pub(crate) recorded: Vec<Row>,
+}
+
+impl<'a> Prepared<'a> {
+    /// For rules, and their universe, environment and forks.
+    pub fn of(
+        alloc: Global,
+        universe: &'a Universe,
+        env: &'a Env,
+        rules: &'a Seq<Rule>,
+        sources: &'a Sources,
+        forks: &'a Forks,
+    ) -> Result<Prepared<'a>, Memory>
+        requires environment { IsEnvironment universe.now env.now }
+        requires covers { CoversRules universe.now (rule_trees rules.now) }
+        requires sources { IsSourcesOf (rule_trees rules.now) sources.now }
+        ensures { IfOk result (IsPreparedFor universe.now env.now rules.now forks.now) }
+    {
+        let _labels = universe.labels();
+        let names = label_names(alloc, universe)?;
+        let recorders = Recorders::of(alloc, rules)?;
+        let parts = part_rows(alloc, universe, env, forks, rules.as_slice())?;
+        let recorded = recorded_rows(alloc, universe, env, rules.as_slice())?;
+        Ok(Prepared {
+            universe,
+            env,
+            rules,
+            sources,
+            forks,
+            names,
+            recorders,
+            parts,
+            recorded,
+        })
+    }
+
+    /// The row of an expression.
+    pub(crate) fn row(&self, spot: &Spot<'a>) -> &Row
+        requires known { IsPrepared self.now }
+        requires spot { IsSpot (trees_of self.now) spot.now }
+        ensures { result.now ≡ row_of (universe_of self.now) (env_of self.now) (tree_at spot.now) }
+    {
+        self.parts[spot.rule].row(spot.place)
+    }
+
+    /// How many parts there are in an expression, with itself.
+    pub(crate) fn size(&self, spot: &Spot<'a>) -> usize
+        requires known { IsPrepared self.now }
+        requires spot { IsSpot (trees_of self.now) spot.now }
+        ensures count { result ≡ size (tree_at spot.now) }
+        ensures small { spot.now.place + result < 2 ^ 63 }
+    {
+        let parts = &self.parts[spot.rule];
+        let _all = parts.len();
+        parts.size(spot.place)
+    }
+
+    /// Whether an expression is a scalar.
+    pub(crate) fn is_scalar(&self, spot: &Spot<'a>) -> bool
+        requires known { IsPrepared self.now }
+        requires spot { IsSpot (trees_of self.now) spot.now }
+        ensures { result ≡ is_scalar_part (tree_at spot.now) }
+    {
+        self.parts[spot.rule].is_scalar(spot.place)
+    }
+
+    /// Whether an expression holds a fork.
+    pub(crate) fn is_fork(&self, spot: &Spot<'a>) -> bool
+        requires known { IsPrepared self.now }
+        requires spot { IsSpot (trees_of self.now) spot.now }
+        ensures { result ≡ forks_of self.now (tree_at spot.now) }
+    {
+        self.parts[spot.rule].is_fork(spot.place)
+    }
+
+    /// The row of what a rule stores.
+    pub(crate) fn recorded_row(&self, rule: usize) -> &Row
+        requires known { IsPrepared self.now }
+        requires rule { rule < length self.now.rules.now }
+        ensures { (r : RuleTree) → slice_get (trees_of self.now) rule ≡ Some r → result.now ≡ row_recorded (universe_of self.now) (env_of self.now) r }
+    {
+        &self.recorded[rule]
+    }
+}
+
+/// What is told of the parts of each rule's expression.
+fn part_rows(
+    alloc: Global,
+    universe: &Universe,
+    env: &Env,
+    forks: &Forks,
+    rules: &[Rule],
+) -> Result<Vec<PartRows>, Memory>
+    requires { IsEnvironment universe.now env.now }
+    ensures { IfOk result (λ parts. parts.items ≡ map (λ (r : RuleTree). rows_of_parts universe.now env.now (has_passing (test_of forks.now)) (nodes r.expr)) (rule_trees rules.now)) }
+{
+    let mut parts = Vec::new(alloc);
+    for rule in rules {
+        parts.push(PartRows::of(alloc, universe, env, forks, &rule.expr)?)?;
+    }
+    Ok(parts)
+}
+
+/// The row of what each rule stores.
+fn recorded_rows(
+    alloc: Global,
+    universe: &Universe,
+    env: &Env,
+    rules: &[Rule],
+) -> Result<Vec<Row>, Memory>
+    requires listing { IsListing universe.now }
+    requires env { IsEnvironment universe.now env.now }
+    ensures { IfOk result (λ rows. rows.items ≡ map (row_recorded universe.now env.now) (rule_trees rules.now)) }
+{
+    let mut rows = Vec::new(alloc);
+    for rule in rules {
+        rows.push(recorded_row(alloc, universe, env, rule)?)?;
+    }
+    Ok(rows)
+}

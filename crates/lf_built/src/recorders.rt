@@ -1,0 +1,103 @@
+//! The rules of each recorded name.
+ghost use Rattle.std.specs.Prelude.{◌≡◌, ◌∷◌, ◌++◌, [], List, cond, length, IfOk, OnOk};
+ghost use Rattle.lf_ast.specs.Rules.{RuleTree, rule_tree, rule_trees};
+ghost use Rattle.lf_classes.specs.views.TextSets.{with_text};
+ghost use Rattle.lf_deps.specs.views.Makers.{with_maker};
+ghost use Rattle.lf_deps.specs.views.Search.{numbers_of};
+ghost use Rattle.lf_trials.specs.Reached.{records};
+ghost use Rattle.lf_built.specs.views.Recorders.{AreRecordersOf};
+
+use lf_ast::Rule;
+use lf_base::{Memory, Seq};
+use lf_classes::TextSet;
+use lf_graph::Buckets;
+use std::alloc::Global;
+use std::marker::Model;
+
+/// The recorded names, and for each the numbers of the rules that record it, in ascending order. Where a name stands is looked up by its hash.
+#[derive(Drop)]
+pub struct Recorders {
+    names: TextSet,
+    numbers: Buckets,
+}
+
+impl Model for Recorders {
+    ghost use Rattle.lf_built.specs.views.Recorders.{Recorders};
+
+    ghost Value = { Recorders };
+
+    ghost view = { λ r. record { names = r.names; numbers = r.numbers } };
+}
+
+impl Recorders {
+    /// Those of rules. One pass over the rules.
+    pub fn of(alloc: Global, rules: &Seq<Rule>) -> Result<Recorders, Memory>
+        ensures { IfOk result (AreRecordersOf (rule_trees rules.now)) }
+    {
+        let mut recorders = Recorders {
+            names: TextSet::new(alloc),
+            numbers: Buckets::new(alloc),
+        };
+        for k in 0..rules.len() {
+            recorders.add(alloc, k, rules.get(k))?;
+        }
+        Ok(recorders)
+    }
+
+    /// The recorded names.
+    pub fn names(&self) -> &TextSet
+        ensures { result.now ≡ self.now.names }
+    {
+        &self.names
+    }
+
+    /// The numbers of the rules that record a name.
+    pub fn of_name(&self, name: &str) -> &[usize]
+        ensures { (rules : List RuleTree) → AreRecordersOf rules self.now → result.now ≡ numbers_of (records name.now) 0 rules }
+    {
+        self.numbers.at(self.names.place(name))
+    }
+
+    /// Adds the rule that comes behind those of a count.
+    fn add(&mut self, alloc: Global, count: usize, rule: &Rule) -> Result<(), Memory>
+        requires full { length self.old.numbers ≡ length self.old.names }
+        ensures { OnOk result ((rules : List RuleTree) → length rules ≡ count → AreRecordersOf rules self.old → AreRecordersOf (rules ++ rule_tree rule.now ∷ []) self.new) }
+    {
+        list_rule(alloc, &mut self.names, &mut self.numbers, rule, count)
+    }
+}
+
+/// Puts the number of a rule behind those of the rules that record its name. An alert records none.
+fn list_rule(
+    alloc: Global,
+    names: &mut TextSet,
+    numbers: &mut Buckets,
+    rule: &Rule,
+    number: usize,
+) -> Result<(), Memory>
+    requires { length numbers.old ≡ length names.old }
+    ensures names { OnOk result (names.new ≡ cond rule.now.alert names.old (with_text names.old rule.now.name)) }
+    ensures numbers { OnOk result (numbers.new ≡ cond rule.now.alert numbers.old (with_maker names.old numbers.old rule.now.name number)) }
+{
+    if rule.alert {
+        return Ok(());
+    }
+    list(alloc, names, numbers, rule.name.as_str(), number)
+}
+
+/// Puts the number of a rule behind those of a name.
+fn list(
+    alloc: Global,
+    names: &mut TextSet,
+    numbers: &mut Buckets,
+    name: &str,
+    number: usize,
+) -> Result<(), Memory>
+    requires { length numbers.old ≡ length names.old }
+    ensures names { OnOk result (names.new ≡ with_text names.old name.now) }
+    ensures numbers { OnOk result (numbers.new ≡ with_maker names.old numbers.old name.now number) }
+{
+    let place = names.add(alloc, name)?;
+    numbers.make_room(alloc, place)?;
+    numbers.push(place, number)
+}

@@ -1,0 +1,72 @@
+//! A building under way.
+ghost use Rattle.std.specs.Prelude.{◌≡◌, ◌++◌, reverse, IfOk, OnOk};
+ghost use Rattle.lf_built.specs.views.Works.{stack_of, tasks_of};
+
+use crate::made::Made;
+use crate::spots::Spot;
+use lf_base::Memory;
+use lf_candidates::LabelTexts;
+use std::alloc::Global;
+
+/// What is to be done: to build an expression from these texts; or, once the expression of the rule that was marked last is built, to take its mark off and to add its step.
+#[derive(Drop)]
+pub enum Pending<'a> {
+    Visit { spot: Spot<'a>, texts: LabelTexts },
+    Finish,
+}
+
+/// The parts of an expression that are to be built, with their texts: none, one, or both sides of an operator.
+#[derive(Drop)]
+pub enum Parts<'a> {
+    Nothing,
+    One {
+        spot: Spot<'a>,
+        texts: LabelTexts,
+    },
+    Both {
+        left: Spot<'a>,
+        left_texts: LabelTexts,
+        right: Spot<'a>,
+        right_texts: LabelTexts,
+    },
+}
+
+/// What was built, and what is still to be done, the next task last.
+#[derive(Drop)]
+pub struct Work<'a> {
+    pub stack: Vec<Pending<'a>>,
+    /// The numbers of the rules whose expressions are being built, the first one's at first.
+    pub marked: Vec<usize>,
+    /// How many rules aren't marked.
+    pub unmarked: usize,
+    pub made: Made,
+}
+
+/// Puts parts onto a stack, the first one last.
+pub fn push_parts<'a>(stack: &mut Vec<Pending<'a>>, parts: Parts<'a>) -> Result<(), Memory>
+    ensures { OnOk result (reverse stack.new.items ≡ tasks_of parts.entry ++ reverse stack.old.items) }
+{
+    match parts {
+        Parts::Nothing => Ok(()),
+        Parts::One { spot, texts } => {
+            stack.push(Pending::Visit { spot, texts })?;
+            Ok(())
+        }
+        Parts::Both {
+            left,
+            left_texts,
+            right,
+            right_texts,
+        } => {
+            stack.push(Pending::Visit {
+                spot: right,
+                texts: right_texts,
+            })?;
+            stack.push(Pending::Visit {
+                spot: left,
+                texts: left_texts,
+            })?;
+            Ok(())
+        }
+    }
+}

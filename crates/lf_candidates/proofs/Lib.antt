@@ -1,0 +1,6 @@
+pub mod Completed
+pub mod FirstClass
+pub mod Labelled
+pub mod Marks
+pub mod Recorded
+pub mod Standing

@@ -1,0 +1,3 @@
+-- How contracts see the code's own data. It defines nothing.
+pub mod ClassTexts
+pub mod Told

@@ -1,0 +1,19 @@
+//! Texts that labels may have: candidates, what a world is built to show, which labels go where, and the names that scraped series may have.
+#![tactic(auto)]
+
+mod candidates;
+mod choosing;
+mod given;
+mod labels;
+mod names;
+mod trial;
+
+pub use candidates::{first_class, first_class_with, first_common_class, other_name};
+pub use choosing::{
+    MetricName, OneLabel, OutsideCount, OutsideGroup, SetByRule, drops, is_grouped_by, is_metric,
+    left_gives, right_gives, signs,
+};
+pub use given::LabelTexts;
+pub use labels::label_names;
+pub use names::{is_recorded, is_scraped_name, name_for, passes_as_name};
+pub use trial::Trial;

@@ -1,0 +1,81 @@
+//! The names that scraped series may have.
+ghost use Rattle.std.specs.Prelude.{◌≡◌, ◌||◌, ◌&&◌, List, not, IfOk};
+ghost use Rattle.std.specs.Option.{option_map};
+ghost use Rattle.std.specs.Str.{bytes_eq};
+ghost use Rattle.lf_ast.specs.Rules.{RuleTree};
+ghost use Rattle.lf_classes.specs.Limits.{IsWithin};
+ghost use Rattle.lf_semantics.specs.Environments.{recorded_names};
+ghost use Rattle.lf_trials.specs.Names.{is_scraped_name, name_for, passes_as_name};
+ghost use Rattle.lf_trials.specs.Reached.{is_recorded};
+ghost use Rattle.lf_candidates.specs.views.ClassTexts.{IsClass, text_at};
+
+use crate::choosing::is_metric;
+use lf_ast::Matcher;
+use lf_base::{Memory, Text};
+use lf_classes::{TextSet, Universe, passes};
+use std::alloc::Global;
+
+/// The number of the label `__name__`.
+const METRIC: u32 = 0;
+
+/// Whether a rule records a name, by the recorded names.
+pub fn is_recorded(recorded: &TextSet, name: &str) -> bool
+    ensures { (rules : List RuleTree) → recorded.now ≡ recorded_names rules → result ≡ is_recorded rules name.now }
+{
+    recorded.place(name) < recorded.len()
+}
+
+/// Whether scraped series may have a name: it isn't empty, and no rule records it.
+pub fn is_scraped_name(recorded: &TextSet, name: &str) -> bool
+    ensures { (rules : List RuleTree) → recorded.now ≡ recorded_names rules → result ≡ is_scraped_name rules name.now }
+{
+    !(name == "" || is_recorded(recorded, name))
+}
+
+/// Whether a name passes the matchers on the metric name.
+pub fn passes_as_name(alloc: Global, matchers: &[Matcher], name: &Text) -> Result<bool, Memory>
+    ensures { IfOk result (λ found. found ≡ passes_as_name matchers.now name.now) }
+{
+    for matcher in matchers {
+        if is_metric(matcher.label.as_str()) && !passes(alloc, matcher, name)? {
+            return Ok(false);
+        }
+    }
+    Ok(true)
+}
+
+/// Whether scraped series may have a name, and it passes the matchers on the metric name.
+fn may_be_name(
+    alloc: Global,
+    recorded: &TextSet,
+    matchers: &[Matcher],
+    name: &Text,
+) -> Result<bool, Memory>
+    ensures { (rules : List RuleTree) → recorded.now ≡ recorded_names rules → IfOk result (λ found. found ≡ (is_scraped_name rules name.now && passes_as_name matchers.now name.now)) }
+{
+    if !is_scraped_name(recorded, name.as_str()) {
+        return Ok(false);
+    }
+    passes_as_name(alloc, matchers, name)
+}
+
+/// The class of the name of the series for a selector with these matchers, which says no name: the first candidate that scraped series may have as a name and that passes
+/// the matchers on it.
+pub fn name_for(
+    alloc: Global,
+    universe: &Universe,
+    recorded: &TextSet,
+    matchers: &[Matcher],
+) -> Result<Option<u32>, Memory>
+    requires { IsWithin universe.now }
+    ensures class { IfOk result (IsClass universe.now 0) }
+    ensures name { (rules : List RuleTree) → recorded.now ≡ recorded_names rules → IfOk result (λ class. option_map (text_at universe.now 0) class ≡ name_for universe.now rules matchers.now) }
+{
+    for class in 0..universe.classes(METRIC) {
+        let fits = may_be_name(alloc, recorded, matchers, universe.candidate(METRIC, class))?;
+        if fits {
+            return Ok(Some(class));
+        }
+    }
+    Ok(None)
+}

@@ -1,0 +1,166 @@
+//! Which expressions hold a fork.
+ghost use Rattle.std.specs.Prelude.{◌≡◌, ◌∷◌, [], length, map, IfOk};
+ghost use Rattle.std.specs.List.{list_any};
+ghost use Rattle.lf_ast.specs.Functions.{function_named};
+ghost use Rattle.lf_ast.specs.Tree.{parts_of, tree};
+ghost use Rattle.lf_ast.specs.Types.{is_scalar};
+ghost use Rattle.lf_semantics.specs.Parts.{given_by};
+ghost use Rattle.lf_trials.specs.Forks.{is_or};
+ghost use Rattle.lf_forks.specs.views.ForkTests.{has_passing};
+ghost use Rattle.lf_forks.specs.views.Holding.{beside, called, holds, test_of};
+
+use crate::forks::Forks;
+use lf_ast::walk::{Fold, Parts, fold_up};
+use lf_ast::{Expr, Function, Op, is_scalar, selected_name};
+use lf_base::Memory;
+use std::alloc::Global;
+use std::marker::Model;
+
+/// Whether an `or` or a selector that is to be found stands in an expression.
+pub(crate) fn holds(alloc: Global, forks: &Forks, expr: &Expr) -> Result<bool, Memory>
+    ensures { IfOk result (λ found. found ≡ has_passing (test_of forks.now) (tree expr.now)) }
+{
+    let held = fold_up(alloc, &Holding { forks }, expr)?;
+    Ok(held.found)
+}
+
+/// What is told of an expression: whether it is a scalar, and whether something is found.
+#[derive(Drop)]
+pub(crate) struct Held {
+    pub(crate) scalar: bool,
+    pub(crate) found: bool,
+}
+
+/// Tells of an expression what is told of its parts.
+#[derive(Drop)]
+struct Holding<'a> {
+    forks: &'a Forks,
+}
+
+impl<'a> Model for Holding<'a> {
+    ghost use Rattle.lf_forks.specs.views.Holding.{Forks};
+
+    ghost Value = { Forks };
+
+    ghost view = { λ h. h.forks.now };
+}
+
+impl<'a> Fold for Holding<'a> {
+    type Value = Held;
+
+    type Note = ();
+
+    ghost use Rattle.lf_ast.specs.declared.walk.choosing.Parts.TheVariants.{All};
+    ghost use Rattle.lf_forks.specs.views.Holding.{holds};
+
+    ghost value = { λ h e. holds h e };
+
+    ghost needed = { λ h e. All };
+
+    ghost notes = { λ e note. Unit {0} };
+
+    fn enter(&self, _expr: &Expr) -> (Parts, ()) {
+        (Parts::All, ())
+    }
+
+    fn step(
+        &self,
+        _alloc: Global,
+        expr: &Expr,
+        _note: (),
+        values: Vec<Held>,
+    ) -> Result<Held, Memory>
+        requires { values.items ≡ map (holds self.now) (parts_of (tree expr.now)) }
+        ensures { IfOk result (λ made. made ≡ holds self.now (tree expr.now)) }
+    {
+        Ok(told_of(self.forks, expr, values))
+    }
+}
+
+/// What is told of an expression, by what is told of its parts.
+fn told_of(forks: &Forks, expr: &Expr, parts: Vec<Held>) -> Held
+    requires { parts.items ≡ map (holds forks.now) (parts_of (tree expr.now)) }
+    ensures { result ≡ holds forks.now (tree expr.now) }
+{
+    match expr {
+        Expr::Number { .. } => Held {
+            scalar: true,
+            found: false,
+        },
+        Expr::Str { .. } => Held {
+            scalar: false,
+            found: false,
+        },
+        Expr::Selector { name, matchers, .. } => Held {
+            scalar: false,
+            found: forks.has(selected_name(name, matchers.as_slice())),
+        },
+        Expr::Subquery { .. } => Held {
+            scalar: false,
+            found: the_only(parts).found,
+        },
+        Expr::Paren { .. } | Expr::Unary { .. } => the_only(parts),
+        Expr::Binary { op, .. } => beside(*op, parts),
+        Expr::Call { name, .. } => called(gives_scalar(name.as_str()), parts),
+        Expr::Aggregate { .. } => called(false, parts),
+    }
+}
+
+/// What is told of an operator, by what is told of its sides: two scalars give a scalar, and within one nothing is looked at.
+fn beside(op: Op, mut sides: Vec<Held>) -> Held
+    requires { length sides.items ≡ 2 }
+    ensures { (l r : Held) → sides.items ≡ l ∷ r ∷ [] → result ≡ beside op l r }
+{
+    let right = sides.pop().unwrap();
+    let left = sides.pop().unwrap();
+    let scalar = left.scalar && right.scalar;
+    Held {
+        scalar,
+        found: !scalar && (is_or(op) || (left.found || right.found)),
+    }
+}
+
+/// What is told of a call or an aggregation, by whether it is a scalar and by what is told of its arguments.
+fn called(scalar: bool, args: Vec<Held>) -> Held
+    ensures { result ≡ called scalar args.items }
+{
+    Held {
+        scalar,
+        found: !scalar && any_found(args.as_slice()),
+    }
+}
+
+/// Whether something is found in one of these.
+fn any_found(parts: &[Held]) -> bool
+    ensures { result ≡ list_any (λ h. h.found) parts.now }
+{
+    parts.iter().any(|held| held.found)
+}
+
+/// The only one of these.
+fn the_only(mut parts: Vec<Held>) -> Held
+    requires { length parts.items ≡ 1 }
+    ensures { parts.items ≡ result ∷ [] }
+{
+    parts.pop().unwrap()
+}
+
+/// Whether the operator is `or`.
+fn is_or(op: Op) -> bool
+    ensures { result ≡ is_or op }
+{
+    match op {
+        Op::Or => true,
+        _ => false,
+    }
+}
+
+/// Whether a call of this name is a scalar.
+fn gives_scalar(name: &str) -> bool
+    ensures { result ≡ is_scalar (given_by (function_named name.now)) }
+{
+    match Function::named(name) {
+        Some(function) => is_scalar(function.gives),
+        None => false,
+    }
+}

@@ -1,0 +1,12 @@
+//! Forks: where samples may come from one place or from another. Which expressions have one in them, in themselves or in what they read.
+#![tactic(auto)]
+
+mod counting;
+mod forks;
+mod holding;
+mod own;
+mod selectors;
+mod uses;
+
+pub use forks::Forks;
+pub use selectors::all_selectors;

@@ -1,0 +1,13 @@
+pub mod Absences
+pub mod Agreeing
+pub mod FirstNumbers
+pub mod NamedSeries
+pub mod Operands
+pub mod Preparing
+pub mod Rounds
+pub mod SeriesNames
+pub mod Sound
+pub mod Uncyclic
+pub mod UniformWorlds
+pub mod Values
+pub mod WithReach

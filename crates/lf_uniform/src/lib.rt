@@ -1,0 +1,20 @@
+//! Uniform worlds: all scraped series have the same labels but for their names.
+#![tactic(auto)]
+
+mod absence;
+mod effects;
+mod firsts;
+mod following;
+mod line;
+mod naming;
+mod operators;
+mod reaching;
+mod series;
+mod setting;
+mod table;
+mod texts;
+mod told;
+mod uniform;
+
+pub use firsts::FirstRules;
+pub use uniform::Uniform;

@@ -1,0 +1,122 @@
+//! The texts of the labels on scraped series.
+ghost use Rattle.std.specs.Prelude.{◌≡◌, ◌<◌, IfOk, List, Some, length, slice_get};
+ghost use Rattle.std.specs.List.{find};
+ghost use Rattle.std.specs.Option.{option_map};
+ghost use Rattle.lf_ast.specs.Rules.{RuleTree, rule_trees};
+ghost use Rattle.lf_trials.specs.Candidates.{candidates, labels_in};
+ghost use Rattle.lf_candidates.specs.views.ClassTexts.{IsClass, Stands, name_at, text_at};
+ghost use Rattle.lf_uniform.specs.views.Texts.{comes_out, first_texts, is_followed, passes_as};
+ghost use Rattle.lf_uniform.specs.views.Ways.{IsWay};
+
+use crate::line::Line;
+use crate::setting::Setting;
+use crate::table::follow_from;
+use lf_base::{Memory, Text};
+use lf_candidates::LabelTexts;
+use std::alloc::Global;
+
+/// How a label is to come out on what the rule's expression gives.
+#[derive(Clone, Copy, Drop)]
+pub enum Wanted {
+    /// With whatever text.
+    Anything,
+    /// It is there.
+    Present,
+    /// It is absent.
+    Absent,
+}
+
+/// For each label the first candidate with which it can be followed through the rule's expression. The names are those of the labels, in their order.
+pub fn first_texts(
+    alloc: Global,
+    setting: &Setting,
+    line: &Line,
+    number: u32,
+    names: &[Text],
+) -> Result<LabelTexts, Memory>
+    requires way { IsWay (rule_trees setting.now.rules) number line.now }
+    requires names { names.now ≡ labels_in setting.now.universe }
+    ensures { (own : RuleTree) → slice_get (rule_trees setting.now.rules) number ≡ Some own → IfOk result (λ texts. Stands setting.now.universe texts (first_texts setting.now.universe (rule_trees setting.now.rules) number own)) }
+{
+    let universe = setting.universe();
+    let mut texts = LabelTexts::nothing(alloc, universe)?;
+    for label in 0..universe.labels() {
+        let place = label as usize;
+        let class = first_followed(
+            alloc,
+            setting,
+            line,
+            number,
+            label,
+            &names[place],
+            Wanted::Anything,
+        )?;
+        texts.put(place, class);
+    }
+    Ok(texts)
+}
+
+/// The class of a label's first candidate with which it can be followed and comes out as it is wanted.
+pub fn first_followed(
+    alloc: Global,
+    setting: &Setting,
+    line: &Line,
+    number: u32,
+    label: u32,
+    name: &Text,
+    wanted: Wanted,
+) -> Result<Option<u32>, Memory>
+    requires way { IsWay (rule_trees setting.now.rules) number line.now }
+    requires label { label < length setting.now.universe.named }
+    requires name { name.now ≡ name_at setting.now.universe label }
+    ensures class { IfOk result (IsClass setting.now.universe label) }
+    ensures text { (own : RuleTree) → slice_get (rule_trees setting.now.rules) number ≡ Some own → IfOk result (λ class. option_map (text_at setting.now.universe label) class ≡ find (is_followed setting.now.universe (rule_trees setting.now.rules) number own wanted (name_at setting.now.universe label)) (candidates setting.now.universe (name_at setting.now.universe label))) }
+{
+    let universe = setting.universe();
+    for class in 0..universe.classes(label) {
+        let text = universe.candidate(label, class);
+        let fits = is_followed(alloc, setting, line, number, name, text, wanted)?;
+        if fits {
+            return Ok(Some(class));
+        }
+    }
+    Ok(None)
+}
+
+/// Whether a label with this text can be followed and comes out as it is wanted.
+fn is_followed(
+    alloc: Global,
+    setting: &Setting,
+    line: &Line,
+    number: u32,
+    name: &Text,
+    text: &Text,
+    wanted: Wanted,
+) -> Result<bool, Memory>
+    requires { IsWay (rule_trees setting.now.rules) number line.now }
+    ensures { (own : RuleTree) → slice_get (rule_trees setting.now.rules) number ≡ Some own → IfOk result (λ found. found ≡ is_followed setting.now.universe (rule_trees setting.now.rules) number own wanted name.now text.now) }
+{
+    let followed = follow_from(alloc, setting, line, number, name, text)?;
+    Ok(comes_out(wanted, &followed))
+}
+
+/// Whether what is told of a label is as it is wanted.
+fn comes_out(wanted: Wanted, followed: &Option<Text>) -> bool
+    ensures { result ≡ comes_out wanted followed.now }
+{
+    match followed {
+        Some(text) => passes_as(wanted, text.as_str()),
+        None => false,
+    }
+}
+
+/// Whether a text is as it is wanted.
+fn passes_as(wanted: Wanted, text: &str) -> bool
+    ensures { result ≡ passes_as wanted text.now }
+{
+    match wanted {
+        Wanted::Anything => true,
+        Wanted::Present => text != "",
+        Wanted::Absent => text == "",
+    }
+}

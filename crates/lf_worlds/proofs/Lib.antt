@@ -1,0 +1,10 @@
+pub mod LabelVerdicts
+pub mod Measured
+pub mod OneMeasure
+pub mod OpenLabels
+pub mod PreparedFor
+pub mod Reaches
+pub mod RuleRows
+pub mod RulesAt
+pub mod ShownWorlds
+pub mod Steps

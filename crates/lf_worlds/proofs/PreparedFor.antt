@@ -1,0 +1,31 @@
+-- What is prepared for rules is so for the same rules.
+use Rattle.std.proofs.Common.{◌≡◌, ◌<◌, ℕ, List, length, sym, ap, ◌∙◌, subst}
+use Rattle.lf_ast.specs.Rules.{rule_trees}
+use Rattle.lf_ast.specs.declared.rule.Rule.{Rule}
+use Rattle.lf_semantics.specs.Listing.{Listing}
+use Rattle.lf_semantics.specs.RowTable.{Environment}
+use Rattle.lf_forks.specs.views.ForkTests.{TellsSelectors}
+use Rattle.lf_forks.specs.views.Holding.{Forks, test_of}
+use Rattle.lf_built.specs.declared.prepared.Prepared.{Prepared}
+use Rattle.lf_built.specs.views.Built.{OfRule}
+use Rattle.lf_built.specs.views.Indexed.{IsPreparedFor, env_of, trees_of, universe_of}
+use Rattle.lf_worlds.specs.views.Tried.{IsReachAt}
+
+abbrev of_rule : Listing → Environment → List Rule → ℕ → OfRule
+of_rule u env rules i = record { universe = u; env = env; rules = rules; number = i }
+
+module _ (u : Listing) (env : Environment) (rules : List Rule) (forks : Forks) (p : Prepared) (is : IsPreparedFor u env rules forks p) where
+  pub tells_selectors : TellsSelectors (rule_trees rules) (test_of forks) → TellsSelectors (trees_of p) (test_of p.forks.now)
+  tells_selectors tells =
+      subst (λ (rs : List Rule). TellsSelectors (rule_trees rs) (test_of p.forks.now)) (sym is.rules) (subst (λ (f : Forks). TellsSelectors (rule_trees rules) (test_of f)) (sym is.forks) tells)
+
+  module _ (i : ℕ) where
+    pub is_within : i < length rules → i < length p.rules.now
+    is_within less = subst (λ (rs : List Rule). i < length rs) (sym is.rules) less
+
+    pub has_reach : (reach : List ℕ) → IsReachAt (rule_trees rules) i reach → IsReachAt (trees_of p) i reach
+    has_reach reach of = subst (λ (rs : List Rule). IsReachAt (rule_trees rs) i reach) (sym is.rules) of
+
+    pub is_built_of : (b : OfRule) → b ≡ of_rule (universe_of p) (env_of p) p.rules.now i → b ≡ of_rule u env rules i
+    is_built_of b same =
+        same ∙ ap (λ (x : Listing). of_rule x (env_of p) p.rules.now i) is.universe ∙ ap (λ (x : Environment). of_rule u x p.rules.now i) is.env ∙ ap (λ (x : List Rule). of_rule u env x i) is.rules

@@ -1,0 +1,4 @@
+-- How contracts see the code's own data. It defines nothing.
+pub mod Readings
+pub mod Told
+pub mod Tried

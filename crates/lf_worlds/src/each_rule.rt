@@ -1,0 +1,146 @@
+//! What is known of the labels of rules, by their rows and by trials.
+ghost use Rattle.std.specs.Prelude.{◌≡◌, ◌<◌, List, length, map, slice_get, IfOk, Some};
+ghost use Rattle.lf_ast.specs.Rules.{RuleTree, rule_trees};
+ghost use Rattle.lf_semantics.specs.ClassRows.{HasShape};
+ghost use Rattle.lf_semantics.specs.Environments.{CoversRules, IsLeast};
+ghost use Rattle.lf_trials.specs.Candidates.{labels_in};
+ghost use Rattle.lf_trials.specs.Verdicts.{AreLabelVerdicts, IsRuleVerdict};
+ghost use Rattle.lf_worlds.specs.views.Readings.{AreReadingsOf};
+ghost use Rattle.lf_worlds.specs.views.Told.{label_verdict, rule_verdict};
+ghost use Rattle.lf_worlds.specs.views.Tried.{IsEvaluatedAt};
+
+use crate::at_need::UniformAtNeed;
+use crate::leaving::{has_open_label, settled};
+use crate::of_rule::RuleTrials;
+use crate::readings::Readings;
+use crate::verdict::{RuleVerdicts, Verdict};
+use lf_ast::Rule;
+use lf_base::{Memory, Seq, Text};
+use lf_built::{Built, Prepared};
+use lf_candidates::label_names;
+use lf_classes::{Row, Universe};
+use lf_deps::reach_of;
+use lf_fix::rule_row;
+use lf_flow::Env;
+use std::alloc::Global;
+use std::marker::Model;
+
+/// Tells what is known of the labels of rules. What the trials of all rules share is made once.
+#[derive(Drop)]
+pub struct Trials<'a> {
+    universe: &'a Universe,
+    env: &'a Env,
+    rules: &'a Seq<Rule>,
+    readings: &'a Readings,
+    prepared: Prepared<'a>,
+    names: Vec<Text>,
+}
+
+impl<'a> Model for Trials<'a> {
+    ghost use Rattle.std.specs.Prelude.{◌≡◌};
+    ghost use Rattle.std.specs.Coded.{codes};
+    ghost use Rattle.lf_ast.specs.Rules.{rule_trees};
+    ghost use Rattle.lf_ast.specs.contracts.rule.Rule as rule;
+    ghost use Rattle.lf_classes.specs.Limits.{IsWithin};
+    ghost use Rattle.lf_semantics.specs.Environments.{CoversRules, IsEnvironment};
+    ghost use Rattle.lf_trials.specs.Candidates.{labels_in};
+    ghost use Rattle.lf_built.specs.views.Indexed.{IsPreparedFor};
+    ghost use Rattle.lf_worlds.specs.views.Readings.{AreReadingsOf};
+    ghost use Rattle.lf_worlds.specs.views.Tried.{Tried};
+
+    ghost Value = { Tried };
+
+    ghost coded = { Prim.hlevel (codes, rule.the_row.coded) };
+
+    ghost view = { λ t. record { universe = t.universe.now; env = t.env.now; rules = t.rules.now } };
+
+    ghost invariant = { λ t. CoversRules t.universe.now (rule_trees t.rules.now) × IsEnvironment t.universe.now t.env.now × AreReadingsOf (rule_trees t.rules.now) t.readings.now × IsPreparedFor t.universe.now t.env.now t.rules.now t.readings.now.forks t.prepared × (t.names.items ≡ labels_in t.universe.now) × IsWithin t.universe.now };
+}
+
+impl<'a> Trials<'a> {
+    /// Those of rules, with their universe and environment, and with what they read.
+    pub fn new(
+        alloc: Global,
+        universe: &'a Universe,
+        env: &'a Env,
+        rules: &'a Seq<Rule>,
+        readings: &'a Readings,
+    ) -> Result<Trials<'a>, Memory>
+        requires covers { CoversRules universe.now (rule_trees rules.now) }
+        requires least { IsLeast universe.now (rule_trees rules.now) env.now }
+        requires readings { AreReadingsOf (rule_trees rules.now) readings.now }
+        ensures { IfOk result (λ trials. trials ≡ record { universe = universe.now; env = env.now; rules = rules.now }) }
+    {
+        // For what its contract says of the universe.
+        let _labels = universe.labels();
+        let prepared = Prepared::of(
+            alloc,
+            universe,
+            env,
+            rules,
+            &readings.sources,
+            &readings.forks,
+        )?;
+        let names = label_names(alloc, universe)?;
+        Ok(Trials {
+            universe,
+            env,
+            rules,
+            readings,
+            prepared,
+            names,
+        })
+    }
+
+    /// What is known of the labels of the rule with this number, counted from 0: that it is empty where its row is, and else a verdict for each label. A label of which
+    /// the row leaves both presences is possible, with the first worlds that show its presence and its absence, where both are shown.
+    pub fn rule(&self, alloc: Global, i: u32) -> Result<RuleVerdicts, Memory>
+        requires { i < length self.now.rules }
+        ensures { (r : RuleTree) → slice_get (rule_trees self.now.rules) i ≡ Some r → IfOk result (λ told. IsRuleVerdict self.now.universe self.now.env (rule_trees self.now.rules) i r (rule_verdict told)) }
+    {
+        let row = rule_row(alloc, self.universe, self.env, self.rules.get(i as usize))?;
+        if row.is_empty() {
+            Ok(RuleVerdicts::Empty)
+        } else {
+            let of = self.labels(alloc, &row, i)?;
+            Ok(RuleVerdicts::Labels { of })
+        }
+    }
+
+    /// The verdicts on the labels by a row of a rule that isn't empty. Trials are made only where the row leaves both presences of some label.
+    fn labels(&self, alloc: Global, row: &Row, i: u32) -> Result<Seq<Verdict>, Memory>
+        requires rule { i < length self.now.rules }
+        requires evaluated { IsEvaluatedAt (rule_trees self.now.rules) i }
+        requires shape { HasShape self.now.universe row.now }
+        ensures { IfOk result (λ of. AreLabelVerdicts self.now.universe self.now.env (rule_trees self.now.rules) i row.now (labels_in self.now.universe) (map label_verdict of)) }
+    {
+        if has_open_label(self.universe, row) {
+            self.tried(alloc, row, i)
+        } else {
+            settled(alloc, self.universe, row)
+        }
+    }
+
+    /// The verdicts on the labels by a row of a rule that isn't empty, by trials.
+    fn tried(&self, alloc: Global, row: &Row, i: u32) -> Result<Seq<Verdict>, Memory>
+        requires rule { i < length self.now.rules }
+        requires evaluated { IsEvaluatedAt (rule_trees self.now.rules) i }
+        requires shape { HasShape self.now.universe row.now }
+        ensures { IfOk result (λ of. AreLabelVerdicts self.now.universe self.now.env (rule_trees self.now.rules) i row.now (labels_in self.now.universe) (map label_verdict of)) }
+    {
+        let reach = reach_of(alloc, &self.readings.sources, &self.readings.graph, i)?;
+        let built = Built::new(alloc, &self.prepared, &reach, i)?;
+        let uniform = UniformAtNeed::new(self.universe, self.rules, self.readings, &reach, i);
+        let names = self.names.as_slice();
+        let mut trials = RuleTrials::new(
+            self.universe,
+            self.env,
+            self.rules,
+            names,
+            i,
+            built,
+            uniform,
+        );
+        trials.verdicts(alloc, row)
+    }
+}

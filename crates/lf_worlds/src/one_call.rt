@@ -1,0 +1,33 @@
+//! What is known of the labels of one rule, by one call.
+ghost use Rattle.std.specs.Prelude.{◌≡◌, ◌<◌, length, slice_get, IfOk, Some};
+ghost use Rattle.lf_ast.specs.Rules.{RuleTree, rule_trees};
+ghost use Rattle.lf_semantics.specs.Environments.{CoversRules, IsLeast};
+ghost use Rattle.lf_trials.specs.Verdicts.{IsRuleVerdict};
+ghost use Rattle.lf_worlds.specs.views.Told.{rule_verdict};
+
+use crate::each_rule::Trials;
+use crate::readings::Readings;
+use crate::verdict::RuleVerdicts;
+use lf_ast::Rule;
+use lf_base::{Memory, Seq};
+use lf_classes::Universe;
+use lf_flow::Env;
+use std::alloc::Global;
+
+/// What is known of the labels of the rule with a number, counted from 0. For many rules `Trials` are made once.
+pub fn trials(
+    alloc: Global,
+    universe: &Universe,
+    env: &Env,
+    rules: &Seq<Rule>,
+    i: u32,
+) -> Result<RuleVerdicts, Memory>
+    requires covers { CoversRules universe.now (rule_trees rules.now) }
+    requires least { IsLeast universe.now (rule_trees rules.now) env.now }
+    requires rule { i < length rules.now }
+    ensures { (r : RuleTree) → slice_get (rule_trees rules.now) i ≡ Some r → IfOk result (λ told. IsRuleVerdict universe.now env.now (rule_trees rules.now) i r (rule_verdict told)) }
+{
+    let readings = Readings::of(alloc, rules)?;
+    let trials = Trials::new(alloc, universe, env, rules, &readings)?;
+    trials.rule(alloc, i)
+}
