@@ -10,22 +10,25 @@ use Rattle.lf_checks.specs.Files.{File}
 use Rattle.lf_checks.specs.Finding.{Finding}
 use Rattle.lf_checks.specs.views.Adding.{Adds, OfSome}
 use Rattle.lf_checks.specs.views.Shown.{ListsAlone, all_shown, shown}
+use Rattle.lf_checks.proofs.Lists.{Numbered, numbered_both, numbered_none, numbered_one}
 
 pub adds_none : (is : Finding → Type 0) (old : List Row) → ((f : Finding) → is f → ⊥) → Adds is old old
 adds_none is old none = record {
   kept = λ files rules f c. c;
   all = λ files rules f p. absurd (none f p);
   only = λ files rules f c. inl c;
+  numbers = λ h. h;
 }
 
-pub adds_one : (is : Finding → Type 0) (old new : List Row) (row : Row) (f : Finding) → new ≡ old ++ row ∷ [] → ((files : List File) (rules : List RuleTree) → shown files rules row ≡ f) → is f → ((g : Finding) → is g → g ≡ f) → Adds is old new
-adds_one is old new row f e says holds one = record {
+pub adds_one : (is : Finding → Type 0) (old new : List Row) (row : Row) (f : Finding) → new ≡ old ++ row ∷ [] → ((files : List File) (rules : List RuleTree) → shown files rules row ≡ f) → Numbered row → is f → ((g : Finding) → is g → g ≡ f) → Adds is old new
+adds_one is old new row f e says numbered holds one = record {
   kept = λ files rules g c. subst (λ (l : List Finding). Contains l g) (sym (more files rules)) (Contains-append_left (all_shown files rules old) (f ∷ []) g c);
   all = λ files rules g h. subst (λ (l : List Finding). Contains l g) (sym (more files rules)) (subst (λ (x : Finding). Contains (all_shown files rules old ++ f ∷ []) x) (sym (one g h)) (Contains-push (all_shown files rules old) f));
   only = λ files rules g c. elim (Contains-push_cases (all_shown files rules old) f g (subst (λ (l : List Finding). Contains l g) (more files rules) c)) [
     | inl d ↦ inl d
     | inr d ↦ inr (subst is d holds)
   ];
+  numbers = λ h. numbered_both old (row ∷ []) new h (numbered_one row numbered) e;
 }
   where
     more : (files : List File) (rules : List RuleTree) → all_shown files rules new ≡ all_shown files rules old ++ f ∷ []
@@ -36,6 +39,7 @@ adds_as is too old new a to from = record {
   kept = a.kept;
   all = λ files rules f h. a.all files rules f (from f h);
   only = λ files rules f c. elim (a.only files rules f c) [ inl d ↦ inl d | inr h ↦ inr (to f h) ];
+  numbers = a.numbers;
 }
 
 pub adds_both : (is too : Finding → Type 0) (old mid new : List Row) → Adds is old mid → Adds too mid new → Adds (λ f. is f ⊎ too f) old new
@@ -46,13 +50,17 @@ adds_both is too old mid new a b = record {
     | inl d ↦ elim (a.only files rules f d) [ inl old_one ↦ inl old_one | inr p ↦ inr (inl p) ]
     | inr q ↦ inr (inr q)
   ];
+  numbers = λ h. b.numbers (a.numbers h);
 }
 
 -- to none was added: the list is that of the findings
 pub adds_all : (is : Finding → Type 0) (new : List Row) → Adds is [] new → ListsAlone is new
-adds_all is new a files rules = record {
-  each = λ f c. elim (a.only files rules f c) [ inl d ↦ absurd (none_in f d) | inr h ↦ h ];
-  all = λ f h. a.all files rules f h;
+adds_all is new a = record {
+  lists = λ files rules. record {
+    each = λ f c. elim (a.only files rules f c) [ inl d ↦ absurd (none_in f d) | inr h ↦ h ];
+    all = λ f h. a.all files rules f h;
+  };
+  numbers = a.numbers numbered_none;
 }
 
 -- ---- of members, one after the other

@@ -1,6 +1,8 @@
 -- What the checks find of a rule, together.
 use Rattle.std.proofs.Common.{◌≡◌, ◌<◌, ◌≤◌, ◌⊎◌, inl, inr, ℕ, List, ◌++◌, Some, sym, ap, ◌∙◌, subst, arith}
 use Rattle.std.proofs.lemmas.Bool.{cases_lt}
+use Rattle.std.proofs.lemmas.List.Elements.{All-append, All-contains, All-weaker}
+use Rattle.std.specs.List.{All, Contains}
 use Rattle.std.specs.Prelude.{slice_get}
 use Rattle.lf_ast.specs.Labels.{Bytes}
 use Rattle.lf_ast.specs.Rules.{RuleTree}
@@ -15,8 +17,9 @@ use Rattle.lf_checks.specs.Findings.{AreFindings, Finds, IsFinding}
 use Rattle.lf_checks.specs.RuleDuplicate as rule_duplicate
 use Rattle.lf_checks.specs.views.Checked.{IsOfParts, IsOfRule}
 use Rattle.lf_checks.specs.views.InOrder.{IsInOrder, OneDuplicate}
-use Rattle.lf_checks.specs.views.Shown.{Lists, ListsAlone, all_shown}
-use Rattle.lf_checks.proofs.Lists.{lists_both, lists_same}
+use Rattle.lf_checks.specs.Numbers.{HasNumbers}
+use Rattle.lf_checks.specs.views.Shown.{AreNumbered, Lists, ListsAlone, NumberedAlone, all_shown, shown}
+use Rattle.lf_checks.proofs.Lists.{lists_both, lists_same, numbered_both}
 
 module _ (files : List File) (rules : List RuleTree) (env : Environment) (i : ℕ) (r : RuleTree) (at : slice_get rules i ≡ Some r) where
   abbrev Together : Finding → Type 0
@@ -60,15 +63,15 @@ module _ (files : List File) (rules : List RuleTree) (env : Environment) (i : �
       let U = universe_of rules in
       let R = rule_row U env r in
       let row_is : row ≡ R = subst (λ (v : Listing). row ≡ rule_row v env r) universe is in
-      let own_lists : Lists files rules (IsOfRule U R r) own = subst (λ (w : Sets). Lists files rules (IsOfRule U w r) own) row_is (subst (λ (v : Listing). Lists files rules (IsOfRule v row r) own) universe (a files rules)) in
-      let part_lists : Lists files rules (IsOfParts U env rules r) parts = subst (λ (v : Listing). Lists files rules (IsOfParts v env rules r) parts) universe (b files rules) in
+      let own_lists : Lists files rules (IsOfRule U R r) own = subst (λ (w : Sets). Lists files rules (IsOfRule U w r) own) row_is (subst (λ (v : Listing). Lists files rules (IsOfRule v row r) own) universe (a.lists files rules)) in
+      let part_lists : Lists files rules (IsOfParts U env rules r) parts = subst (λ (v : Listing). Lists files rules (IsOfParts v env rules r) parts) universe (b.lists files rules) in
       let front = lists_both files rules (IsOfRule U R r) (IsOfParts U env rules r) own parts two own_lists part_lists e in
       of_all all (lists_both files rules (λ f. IsOfRule U R r f ⊎ IsOfParts U env rules r f) (rule_duplicate.IsFound files rules i r) two same all front c f)
 
 -- what is found says at most once where the same rule stands
 module _ (files : List File) (rules : List RuleTree) (i : ℕ) (r : RuleTree) where
   one_first : (s t : RuleTree) → rule_duplicate.IsFirstSame rules i r s → rule_duplicate.IsFirstSame rules i r t → s ≡ t
-  one_first s t (j, before, at, same, none) (k, below, there, too, others) = by (cases_lt j k) (cases_lt k j)
+  one_first s t (j, (before, at, same, none)) (k, (below, there, too, others)) = by (cases_lt j k) (cases_lt k j)
     where
       by : (j < k) ⊎ (k ≤ j) → (k < j) ⊎ (j ≤ k) → s ≡ t
       by (inl h) _ = absurd (others j s h at same)
@@ -121,3 +124,17 @@ module _ (files : List File) (rules : List RuleTree) (env : Environment) (i : �
   are_findings found sorted lists order =
       let put = order (one_duplicate found lists) in
       record { each = λ f c. lists.each f (put.only f c); all = λ f h. put.kept f (lists.all f h); ascending = put.ascending }
+
+-- ---- numbers
+
+module _ (files : List File) (rules : List RuleTree) (i : ℕ) where
+  abbrev IsNumbered : Row → Type 0
+  IsNumbered f = HasNumbers rules i (shown files rules f) f
+
+  -- what is found has the numbers of what it says
+  pub numbered_three : (own parts same two all : List Row) → NumberedAlone own → NumberedAlone parts → AreNumbered files rules i same → two ≡ own ++ parts → all ≡ two ++ same → AreNumbered files rules i all
+  numbered_three own parts same two all a b c e f = subst (All IsNumbered) (sym f) (All-append IsNumbered two same (numbered_both own parts two a b e files rules i) c)
+
+  -- so has each list of what was found
+  pub given_numbered : (found sorted : List Row) → AreNumbered files rules i found → All (Contains found) sorted → AreNumbered files rules i sorted
+  given_numbered found sorted numbered given = All-weaker (Contains found) IsNumbered (λ f c. All-contains IsNumbered found f numbered c) sorted given

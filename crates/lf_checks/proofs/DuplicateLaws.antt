@@ -4,6 +4,7 @@ use Rattle.std.specs.Prelude.{slice_get}
 use Rattle.std.specs.Str.{bytes_eq}
 use Rattle.std.proofs.Math.Seq.{get_or-append_seam, take-append_seam}
 use Rattle.std.proofs.lemmas.List.{get_or_append_left, length-map, length-take-le, map-append, take-append-le, take_more}
+use Rattle.std.proofs.lemmas.List.Elements.{All-cons, All-nil}
 use Rattle.std.proofs.lemmas.List.Folds.{position_or_len_push}
 use Rattle.std.proofs.lemmas.Option.{slice_get_within}
 use Rattle.std.proofs.Math.Nat.{eq-or-lt_of_le}
@@ -19,8 +20,10 @@ use Rattle.std.proofs.lemmas.Bool.{le-ltb, lt-ltb}
 use Rattle.lf_classes.specs.views.TextSets.{with_text}
 use Rattle.lf_checks.specs.Files.{File, StandIn, place_in}
 use Rattle.lf_checks.specs.Finding.{Finding, RuleDuplicate, finding}
-use Rattle.lf_checks.specs.RuleDuplicate.{IsFound, says_where}
-use Rattle.lf_checks.specs.views.Shown.{Lists, place_of, shown}
+use Rattle.lf_checks.specs.Numbers.{HasNumbers}
+use Rattle.lf_checks.specs.RuleDuplicate.{AreSame, IsFirstAt, IsFound, says_where}
+use Rattle.lf_checks.specs.views.Cases.{same_row}
+use Rattle.lf_checks.specs.views.Shown.{AreNumbered, Lists, place_of, shown}
 use Rattle.lf_checks.proofs.Lists.{lists_none, lists_one}
 use Rattle.lf_checks.specs.views.Duplicates.{AreFirsts, AreKept, HaveNone, IsFirst, IsFirstOf}
 use Rattle.lf_checks.specs.views.Keys.{key_of}
@@ -242,18 +245,37 @@ taken_get {X} (y ∷ xs) zero j x lt e = absurd (omega (arith, lt))
 taken_get {X} (y ∷ xs) (suc i) zero x lt e = e
 taken_get {X} (y ∷ xs) (suc i) (suc j) x lt e = taken_get xs i j x (omega (arith, lt)) e
 
-not_apart : (k j : ℕ) → (k < j → ⊥) → (j < k → ⊥) → k ≡ j
+pub not_apart : (k j : ℕ) → (k < j → ⊥) → (j < k → ⊥) → k ≡ j
 not_apart k j a b = omega (arith, a, b)
+
+-- the first of those before a rule is the first of all
+first_at : (rules : List RuleTree) (i : ℕ) (r : RuleTree) (j : ℕ) (s : RuleTree) → slice_get (take i rules) j ≡ Some s → AreSame r s
+    → ((k : ℕ) (t : RuleTree) → k < j → slice_get (take i rules) k ≡ Some t → AreSame r t → ⊥) → IsFirstAt rules i r j s
+first_at rules i r j s taken same least =
+    let at = get_taken rules i j s taken in
+    (at.0, at.1, same, λ k t lt e. least k t lt (taken_get rules i k t (let less = at.0 in omega (arith, lt, less)) e))
+
+-- the finding that names it has the numbers of what it says
+pub first_numbered : (files : List File) (rules : List RuleTree) (i : ℕ) (r : RuleTree) (j : ℕ) → slice_get rules i ≡ Some r → IsFirst (take i rules) r j → AreNumbered files rules i (same_row r.name_span j ∷ [])
+first_numbered files rules i r j at (s, taken, same, least) =
+    let P : Row → Type 0 = λ f. HasNumbers rules i (shown files rules f) f in
+    let numbered : P (same_row r.name_span j) = record {
+      check = refl;
+      span = refl;
+      case = (refl, (place_of files rules (Some j), refl));
+      other = (r, s, j, at, first_at rules i r j s taken same least, refl);
+    } in
+    All-cons P (same_row r.name_span j) [] numbered (All-nil P)
 
 module _ (files : List File) (rules : List RuleTree) (i : ℕ) (r : RuleTree) (stand : StandIn files rules) where
   pub tells_none : HaveNone (take i rules) r → Lists files rules (IsFound files rules i r) []
   tells_none none = lists_none files rules (IsFound files rules i r) [] refl no
     where
       no : (f : Finding) → IsFound files rules i r f → ⊥
-      no f (s, place, (j, lt, at, same, least), named, e) = none j s (taken_get rules i j s lt at) same
+      no f (s, place, (j, (lt, at, same, least)), named, e) = none j s (taken_get rules i j s lt at) same
 
-  pub tells_first : (j : ℕ) (row : Row) → IsFirst (take i rules) r j → shown files rules row ≡ finding RuleDuplicate r.name_span (says_where (place_of files rules (Some j))) → Lists files rules (IsFound files rules i r) (row ∷ [])
-  tells_first j row (s, taken, same, least) shows = lists_one files rules (IsFound files rules i r) (row ∷ []) (finding RuleDuplicate r.name_span (says_where here)) (ap (λ (f : Finding). f ∷ []) (shows ∙ ap (λ p. finding RuleDuplicate r.name_span (says_where p)) placed)) found one
+  pub tells_first : (j : ℕ) (row : Row) → IsFirst (take i rules) r j → row ≡ same_row r.name_span j → Lists files rules (IsFound files rules i r) (row ∷ [])
+  tells_first j row (s, taken, same, least) is_row = lists_one files rules (IsFound files rules i r) (row ∷ []) (finding RuleDuplicate r.name_span (says_where here)) (ap (λ (f : Finding). f ∷ []) (ap (shown files rules) is_row ∙ ap (λ p. finding RuleDuplicate r.name_span (says_where p)) placed)) found one
     where
       at : slice_get rules j ≡ Some s
       at = (get_taken rules i j s taken).1
@@ -268,10 +290,10 @@ module _ (files : List File) (rules : List RuleTree) (i : ℕ) (r : RuleTree) (s
       placed = rw (at, held.1) refl
 
       found : IsFound files rules i r (finding RuleDuplicate r.name_span (says_where here))
-      found = (s, here, (j, (get_taken rules i j s taken).0, at, same, λ k t lt e. least k t lt (taken_get rules i k t (let less = (get_taken rules i j s taken).0 in omega (arith, lt, less)) e)), (held.0, held.1, refl), refl)
+      found = (s, here, (j, first_at rules i r j s taken same least), (held.0, held.1, refl), refl)
 
       one : (f : Finding) → IsFound files rules i r f → f ≡ finding RuleDuplicate r.name_span (says_where here)
-      one f (t, place, (k, lt, there, alike, first), (file, has, is), e) =
+      one f (t, place, (k, (lt, there, alike, first)), (file, has, is), e) =
           let equal : k ≡ j = not_apart k j (λ less. least k t less (taken_get rules i k t lt there) alike) (λ less. first j s less at same) in
           let ts : t ≡ s = (let both : Some t ≡ Some s = sym there ∙ ap (slice_get rules) equal ∙ at in cc) in
           let fs : file ≡ held.0 = (let both : Some file ≡ Some held.0 = sym has ∙ ap (λ (x : RuleTree). slice_get files x.file) ts ∙ held.1 in cc) in

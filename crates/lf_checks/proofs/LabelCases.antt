@@ -8,7 +8,7 @@ use Rattle.lf_checks.specs.Finding.{Finding}
 use Rattle.lf_checks.specs.RuleLabel.{IsFound}
 use Rattle.lf_checks.specs.views.LabelCases.{IsOfLabel}
 use Rattle.lf_checks.specs.views.Shown.{Along, ListsAlone}
-use Rattle.lf_checks.proofs.Lists.{lists_same}
+use Rattle.lf_checks.proofs.Lists.{alone_same}
 
 module _ (u : Listing) (row : Sets) (r : RuleTree) (records : r.alert ≡ false) where
   to : (f : Finding) → Along (IsOfLabel u row) r.labels f → IsFound u row r f
@@ -20,4 +20,4 @@ module _ (u : Listing) (row : Sets) (r : RuleTree) (records : r.alert ≡ false)
   from f (inr h) = (h.0, h.1.1, inr (h.2, h.3, h.4))
 
   pub of_labels : (found : List Row) → ListsAlone (Along (IsOfLabel u row) r.labels) found → ListsAlone (IsFound u row r) found
-  of_labels found h = λ files rules. lists_same files rules _ _ found to from (h files rules)
+  of_labels found h = alone_same _ _ found to from h

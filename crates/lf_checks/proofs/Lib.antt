@@ -7,6 +7,7 @@ pub mod KeyLaws
 pub mod LabelCases
 pub mod Lists
 pub mod Nodes
+pub mod OneAnswer
 pub mod OneList
 pub mod Ordered
 pub mod PartsCovered

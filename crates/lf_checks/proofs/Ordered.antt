@@ -1,6 +1,7 @@
 -- Findings that are in the order of their keys, each key once, are in their own order.
 use Rattle.std.proofs.Common.{◌≡◌, ◌≢◌, ◌<◌, ℕ, zero, suc, Bool, true, false, true≢false, List, [], ◌∷◌, map, Option, Some, None, get_or, refl, sym, ap, ◌∙◌, subst}
 use Rattle.std.proofs.lemmas.Cmp.{tied_itself}
+use Rattle.std.proofs.lemmas.List.Elements.{All-contains_itself, All-map, All-weaker}
 use Rattle.std.proofs.lemmas.List.Kept.{Any-dedup, Contains-from_dedup, IsStrictlySortedBy-dedup}
 use Rattle.std.proofs.lemmas.List.Sorted.{Contains-permutation, IsPermutation-sym}
 use Rattle.std.proofs.lemmas.Map.Keys.{Less-from_sorted}
@@ -8,7 +9,7 @@ use Rattle.std.proofs.lemmas.Option.{get_or_from_slice_get, slice_get-map, slice
 use Rattle.std.specs.Cmp.{IsTotalOrder, eq_by_cmp_equiv, on_total}
 use Rattle.std.specs.Cmp.Lexicographic.{nat_list_cmp_total, slice_cmp}
 use Rattle.std.specs.FinMap.{nat_cmp-IsAntisymmetric}
-use Rattle.std.specs.List.{Any, Contains, dedup}
+use Rattle.std.specs.List.{All, Any, Contains, dedup}
 use Rattle.std.specs.List.Sorted.{IsPermutation, IsSorted, IsStrictlySortedBy}
 use Rattle.std.specs.Option.{option_map}
 use Rattle.std.specs.Ordering.{eq_by_cmp, nat_cmp}
@@ -243,3 +244,13 @@ module _ (files : List File) (rules : List RuleTree) where
     pub in_order : (rs : List Keyed) → rs ≡ dedup (eq_by_cmp keyed_cmp) sorted → IsInOrder (all_shown files rules found) (all_shown files rules (map (λ (k : Keyed). k.finding) rs))
     unfolding left findings
     in_order rs is = subst (λ (ks : List Keyed). IsInOrder (all_shown files rules found) (all_shown files rules (map (λ (k : Keyed). k.finding) ks))) (sym is) (record { ascending = ascending; kept = kept; only = only })
+
+-- each that is left was found
+pub given : (found : List Row) (sorted rs : List Keyed) → IsPermutation (map keyed found) sorted → rs ≡ dedup (eq_by_cmp keyed_cmp) sorted → All (Contains found) (map (λ (k : Keyed). k.finding) rs)
+given found sorted rs moved is = All-map (Contains found) (λ (k : Keyed). k.finding) rs (All-weaker (Contains rs) (λ (k : Keyed). Contains found k.finding) from rs (All-contains_itself rs))
+  where
+    from : (k : Keyed) → Contains rs k → Contains found k.finding
+    from k c =
+        let kept : Contains sorted k = Contains-from_dedup (eq_by_cmp keyed_cmp) sorted k (subst (λ (l : List Keyed). Contains l k) is c) in
+        let a = map_member keyed found k (Contains-permutation sorted (map keyed found) k (IsPermutation-sym (map keyed found) sorted moved) kept) in
+        subst (Contains found) (sym (ap (λ (l : Keyed). l.finding) {x = k} {y = keyed a.0} a.2)) a.1

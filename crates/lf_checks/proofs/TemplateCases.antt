@@ -15,11 +15,12 @@ use Rattle.lf_semantics.specs.Listing.{Listing}
 use Rattle.lf_templates.specs.Templates.{Breaks, References}
 use Rattle.lf_templates.specs.declared.reference.Reference.{Reference}
 use Rattle.lf_checks.specs.AlertTemplate.{IsFound, says_unreadable}
-use Rattle.lf_checks.specs.Files.{File}
 use Rattle.lf_checks.specs.Finding.{AlertTemplate, Finding, finding}
-use Rattle.lf_checks.specs.views.Shown.{Along, ListsAlone, all_shown}
+use Rattle.lf_checks.specs.views.Shown.{Along, ListsAlone}
 use Rattle.lf_checks.specs.views.TemplateCases.{IsOfReference, IsOfTemplate}
-use Rattle.lf_checks.proofs.Lists.{lists_one, lists_same}
+use Rattle.lf_checks.specs.declared.case.Case.{Case}
+use Rattle.lf_checks.specs.views.Cases.{row_of}
+use Rattle.lf_checks.proofs.Lists.{alone_if, alone_same}
 
 -- answers are told apart
 same_ok : (x y : List Reference) → AnswersAs {X = List Reference} {Y = List Reference} (λ z. z) (Ok x) (Ok y) → y ≡ x
@@ -45,7 +46,7 @@ module _ (u : Listing) (row : Sets) where
     from f (inr h) = (h.0, h.2.1, inr (h.1, h.3, h.4))
 
     pub of_templates : (found : List Row) → ListsAlone (Along (IsOfTemplate u row) r.templates) found → ListsAlone (IsFound u row r) found
-    of_templates found h = λ files rules. lists_same files rules _ _ found to from (h files rules)
+    of_templates found h = alone_same _ _ found to from h
 
   -- a template with references has no breach
   module _ (t : Template) (references : List Reference) (are : References t.from t.text references) (only : Only (λ z. z) (References t.from t.text) (Ok references))
@@ -58,7 +59,7 @@ module _ (u : Listing) (row : Sets) where
     one_of f (inr h) = absurd (not_err references h.0 (breach h.0 h.1))
 
     pub of_sound : (found : List Row) → ListsAlone (Along (IsOfReference u row) references) found → ListsAlone (IsOfTemplate u row t) found
-    of_sound found h = λ files rules. lists_same files rules _ _ found of_one one_of (h files rules)
+    of_sound found h = alone_same _ _ found of_one one_of h
 
   -- one with a breach has no references
   module _ (t : Template) (kind : Kind) (span : Span) (breaks : Breaks t.from t.text (fault kind span)) (only : Only {X = List Reference} (λ z. z) (References t.from t.text) (Err (At kind span)))
@@ -67,5 +68,5 @@ module _ (u : Listing) (row : Sets) where
     is_own f (inl h) = absurd (not_ok kind span h.1.0 (only h.1.0 h.1.1))
     is_own f (inr h) = h.2 ∙ ap (λ (b : Fault). finding AlertTemplate b.span says_unreadable) (same_err kind span h.0 (breach h.0 h.1))
 
-    pub of_broken : (found : List Row) → ((files : List File) (rules : List RuleTree) → all_shown files rules found ≡ finding AlertTemplate span says_unreadable ∷ []) → ListsAlone (IsOfTemplate u row t) found
-    of_broken found made = λ files rules. lists_one files rules (IsOfTemplate u row t) found (finding AlertTemplate span says_unreadable) (made files rules) (inr (fault kind span, breaks, refl)) is_own
+    pub of_broken : (found : List Row) → found ≡ row_of Case.UnreadableTemplate span [] ∷ [] → ListsAlone (IsOfTemplate u row t) found
+    of_broken found made = alone_if (IsOfTemplate u row t) found true Case.UnreadableTemplate span [] refl made (λ e. inr (fault kind span, breaks, refl)) (λ f h. (refl, is_own f h))

@@ -35,7 +35,7 @@ use Rattle.lf_checks.proofs.RunsAdmitted.{world_admitted}
 -- ---- texts
 
 -- one label is named by a text that ends in the same words
-same_label : (back label other : Bytes) → codes "label " ++ (label ++ back) ≡ codes "label " ++ (other ++ back) → label ≡ other
+pub same_label : (back label other : Bytes) → codes "label " ++ (label ++ back) ≡ codes "label " ++ (other ++ back) → label ≡ other
 same_label back label other e = append_cancel_right label other back (append_cancel_left (codes "label ") (label ++ back) (other ++ back) e)
 
 -- the last byte of a text behind another
@@ -54,10 +54,10 @@ end_of_replaced label = last_behind 32 32 label (codes "replaces one that each s
 end_of_removed : (label : Bytes) → last_of 0 (rule_label.says_removed label) ≡ 101
 end_of_removed label = last_behind 32 32 label (codes "is removed but on no sample")
 
-replaced_is_not_removed : (label other : Bytes) → rule_label.says_replaced label ≡ rule_label.says_removed other → ⊥
+pub replaced_is_not_removed : (label other : Bytes) → rule_label.says_replaced label ≡ rule_label.says_removed other → ⊥
 replaced_is_not_removed label other e = let clash : 115 ≡ 101 = sym (end_of_replaced label) ∙ ap (last_of 0) e ∙ end_of_removed other in omega (arith, clash)
 
-unreadable_names_none : (label : Bytes) → alert_template.says_unreadable ≡ alert_template.says_never label → ⊥
+pub unreadable_names_none : (label : Bytes) → alert_template.says_unreadable ≡ alert_template.says_never label → ⊥
 unreadable_names_none label e = let clash : 116 ≡ 108 = ap (λ (t : Bytes). slice_index_or t 0 0) e in omega (arith, clash)
 
 -- ---- samples

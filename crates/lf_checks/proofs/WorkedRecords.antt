@@ -37,6 +37,7 @@ use Rattle.lf_checks.specs.Findings.{AreFindings, Finds}
 use Rattle.lf_checks.specs.Judged.{IsImpossible}
 use Rattle.lf_checks.specs.MatchLabel as match_label
 use Rattle.lf_checks.specs.MatchLabel.{Seeks}
+use Rattle.lf_checks.specs.Numbers.{HasNumbers, Says}
 use Rattle.lf_checks.specs.PromqlRegexp as promql_regexp
 use Rattle.lf_checks.specs.PromqlRegexp.{IsAnchored, MatchesBy}
 use Rattle.lf_checks.specs.RuleDependency as rule_dependency
@@ -362,7 +363,7 @@ unfolding digits
 again = (
   stands_at 4 8 [],
   codes "r.yml:2:3",
-  (0, omega arith, refl, (refl, refl, refl, refl, refl), λ k t less at same. absurd (omega (arith, less))),
+  (0, (omega arith, refl, (refl, refl, refl, refl, refl), λ k t less at same. absurd (omega (arith, less)))),
   (file, refl, refl),
   refl,
 )
@@ -373,14 +374,31 @@ unfolding digits
 third_time = (
   stands_at 4 8 [],
   codes "r.yml:2:3",
-  (0, omega arith, refl, (refl, refl, refl, refl, refl), λ k t less at same. absurd (omega (arith, less))),
+  (0, (omega arith, refl, (refl, refl, refl, refl, refl), λ k t less at same. absurd (omega (arith, less)))),
   (file, refl, refl),
   refl,
 )
 
+-- it is answered by the numbers of the check, of its one case and of the first rule
+in_numbers : HasNumbers (stands_at 4 8 [] ∷ stands_at 12 16 [] ∷ stands_at 20 24 [] ∷ []) 2 (finding RuleDuplicate (place_at 20) (codes "the same rule stands at r.yml:2:3"))
+    (record { check = 3; case = 0; span = place_at 20; label = []; other = Some 0 })
+in_numbers = record {
+  check = refl;
+  span = refl;
+  case = (refl, (codes "r.yml:2:3", refl));
+  other = (stands_at 20 24 [], stands_at 4 8 [], 0, refl, (omega arith, refl, (refl, refl, refl, refl, refl), λ k t less at same. absurd (omega (arith, less))), refl);
+}
+
+-- there is no other case of the check, and rule/label has two
+one_case : (case : ℕ) (label text : Bytes) → Says RuleDuplicate (suc case) label text → ⊥
+one_case case label text h = h
+
+two_cases : (label text : Bytes) → Says RuleLabel 9 label text → ⊥
+two_cases label text h = h
+
 -- and the first one has none before it
 first_time : (f : Finding) → rule_duplicate.IsFound (file ∷ []) (stands_at 4 8 [] ∷ stands_at 12 16 [] ∷ []) 0 (stands_at 4 8 []) f → ⊥
-first_time f (s, place, (j, less, at, same, first), named_at, e) = omega (arith, less)
+first_time f (s, place, (j, (less, at, same, first)), named_at, e) = omega (arith, less)
 
 -- with a label it is another rule
 abbrev labels_at : Option RuleTree → ℕ
@@ -388,7 +406,7 @@ labels_at None = 0
 labels_at (Some r) = length (rule_duplicate.pairs_of r.labels)
 
 other_labels : (f : Finding) → rule_duplicate.IsFound (file ∷ []) (stands_at 4 8 [] ∷ stands_at 12 16 (set_to (codes "y") ∷ []) ∷ []) 1 (stands_at 12 16 (set_to (codes "y") ∷ [])) f → ⊥
-other_labels f (s, place, (j, less, at, same, first), named_at, e) = by j less at
+other_labels f (s, place, (j, (less, at, same, first)), named_at, e) = by j less at
   where
     by : (j : ℕ) → j < 1 → slice_get (stands_at 4 8 [] ∷ stands_at 12 16 (set_to (codes "y") ∷ []) ∷ []) j ≡ Some s → ⊥
     by zero less at = let clash : 1 ≡ 0 = ap length same.3 ∙ sym (ap labels_at at) in omega (arith, clash)
@@ -422,7 +440,7 @@ only_the_type : (check : Check) (f : Finding) → Finds (file ∷ []) (lone ∷ 
 only_the_type AlertComparison f h = absurd (true≢false (sym h.0))
 only_the_type AlertTemplate f (inl (t, reference, has, refers, impossible, e)) = absurd (true≢false (sym has.0))
 only_the_type AlertTemplate f (inr (t, breach, has, breaks, e)) = absurd (true≢false (sym has.0))
-only_the_type RuleDuplicate f (s, place, (j, less, at, same, first), named_at, e) = absurd (omega (arith, less))
+only_the_type RuleDuplicate f (s, place, (j, (less, at, same, first)), named_at, e) = absurd (omega (arith, less))
 only_the_type RuleDependency f h = absurd (scraped (over_time (codes "foo") []) refl refl f h)
 only_the_type PromqlRegexp f (inl (m, (name, matchers, seen, span, c, has, takes), one, e)) =
     let same : [] ≡ matchers = ap matchers_of (only_one (over_time (codes "foo") []) (Selector name matchers seen span) c) in

@@ -12,5 +12,6 @@ pub mod ExprEmpty
 pub mod ExprType
 pub mod RuleLabel
 pub mod Findings
+pub mod Numbers
 pub mod Truths
 pub mod views

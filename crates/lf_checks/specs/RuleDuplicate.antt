@@ -23,10 +23,13 @@ pairs_of labels = map (λ l. (l.key, l.value)) labels
 abbrev pub AreSame : RuleTree → RuleTree → Type 0
 AreSame r s = (r.alert ≡ false) × (s.alert ≡ false) × (r.name ≡ s.name) × (pairs_of r.labels ≡ pairs_of s.labels) × (spanless r.expr ≡ spanless s.expr)
 
--- s is the first of the rules that is the same as rule i, which is r, and it stands before rule i
+-- rule j, which is s, is the first of the rules that is the same as rule i, which is r, and it stands before rule i
+abbrev pub IsFirstAt : List RuleTree → ℕ → RuleTree → ℕ → RuleTree → Type 0
+IsFirstAt rules i r j s = (j < i) × (slice_get rules j ≡ Some s) × AreSame r s × ((k : ℕ) (t : RuleTree) → k < j → slice_get rules k ≡ Some t → AreSame r t → ⊥)
+
+-- s is this first rule
 abbrev pub IsFirstSame : List RuleTree → ℕ → RuleTree → RuleTree → Type 0
-IsFirstSame rules i r s =
-    (j : ℕ) × (j < i) × (slice_get rules j ≡ Some s) × AreSame r s × ((k : ℕ) (t : RuleTree) → k < j → slice_get rules k ≡ Some t → AreSame r t → ⊥)
+IsFirstSame rules i r s = (j : ℕ) × IsFirstAt rules i r j s
 
 -- of rule i, which is r, at its name: it says where the first such rule has its name
 abbrev pub IsFound : List File → List RuleTree → ℕ → RuleTree → Finding → Type 0

@@ -1,11 +1,7 @@
 //! The cases of the checks.
-ghost use Rattle.std.specs.Prelude.{◌≡◌, ◌∷◌, List, [], None, Some, cond, IfOk};
-ghost use Rattle.lf_ast.specs.Rules.{RuleTree};
-ghost use Rattle.lf_checks.specs.Files.{File};
-ghost use Rattle.lf_checks.specs.Finding.{RuleDuplicate, finding, rank};
-ghost use Rattle.lf_checks.specs.RuleDuplicate.{says_where};
-ghost use Rattle.lf_checks.specs.views.Cases.{check_of, number_of, says_of};
-ghost use Rattle.lf_checks.specs.views.Shown.{all_shown, place_of, shown};
+ghost use Rattle.std.specs.Prelude.{◌≡◌, ◌∷◌, [], cond, IfOk};
+ghost use Rattle.lf_checks.specs.Finding.{rank};
+ghost use Rattle.lf_checks.specs.views.Cases.{check_of, number_of, row_of, same_row};
 
 use lf_ast::Finding;
 use lf_base::{Memory, Span, Text};
@@ -75,7 +71,7 @@ impl Case {
 
     /// The finding at a span, about a label or name; with the empty text for the cases that are about none.
     pub(crate) fn at(self, alloc: Global, span: Span, label: &str) -> Result<Finding, Memory>
-        ensures { IfOk result (λ f. (files : List File) (rules : List RuleTree) → shown files rules f ≡ finding (check_of self) span (says_of self label.now (place_of files rules None))) }
+        ensures { IfOk result (λ f. f ≡ row_of self span label.now) }
     {
         Ok(Finding {
             check: self.check(),
@@ -89,7 +85,7 @@ impl Case {
 
 /// The finding that the rule with a number is the same, at a span.
 pub(crate) fn same_rule(alloc: Global, span: Span, other: u32) -> Result<Finding, Memory>
-    ensures { IfOk result (λ f. (files : List File) (rules : List RuleTree) → shown files rules f ≡ finding RuleDuplicate span (says_where (place_of files rules (Some other)))) }
+    ensures { IfOk result (λ f. f ≡ same_row span other) }
 {
     let case = Case::SameRule;
     Ok(Finding {
@@ -109,7 +105,7 @@ pub(crate) fn found_if(
     span: Span,
     label: &str,
 ) -> Result<Vec<Finding>, Memory>
-    ensures { IfOk result (λ found. (files : List File) (rules : List RuleTree) → all_shown files rules found.items ≡ cond holds (finding (check_of case) span (says_of case label.now (place_of files rules None)) ∷ []) []) }
+    ensures { IfOk result (λ found. found.items ≡ cond holds (row_of case span label.now ∷ []) []) }
 {
     let mut found = Vec::new(alloc);
     if holds {

@@ -12,7 +12,7 @@ ghost use Rattle.lf_checks.specs.Files.{File, StandIn};
 ghost use Rattle.lf_checks.specs.Findings.{AreFindings, IsFinding};
 ghost use Rattle.lf_checks.specs.views.Checked.{IsOfParts, IsOfRule};
 ghost use Rattle.lf_checks.specs.views.Recorded.{AreOf, AreOfSome};
-ghost use Rattle.lf_checks.specs.views.Shown.{Lists, ListsAlone, all_shown};
+ghost use Rattle.lf_checks.specs.views.Shown.{AreNumbered, Lists, ListsAlone, all_shown};
 
 use crate::alert_comparison::{alert_comparison, condition_of};
 use crate::alert_template::alert_template;
@@ -86,7 +86,8 @@ impl<'a> Checker<'a> {
         requires least { IsLeast self.now.universe (rule_trees self.now.rules) self.now.env }
         requires sources { HaveSources (rule_trees self.now.rules) }
         requires rule { i < length self.now.rules }
-        ensures { (files : List File) → StandIn files (rule_trees self.now.rules) → IfOk result (λ found. AreFindings files (rule_trees self.now.rules) self.now.env i (all_shown files (rule_trees self.now.rules) found)) }
+        ensures findings { (files : List File) → StandIn files (rule_trees self.now.rules) → IfOk result (λ found. AreFindings files (rule_trees self.now.rules) self.now.env i (all_shown files (rule_trees self.now.rules) found)) }
+        ensures numbers { (files : List File) → IfOk result (AreNumbered files (rule_trees self.now.rules) i) }
     {
         let found = self.found(alloc, i)?;
         in_order(alloc, found)
@@ -98,7 +99,8 @@ impl<'a> Checker<'a> {
         requires env { IsEnvironment self.now.universe self.now.env }
         requires sources { HaveSources (rule_trees self.now.rules) }
         requires rule { i < length self.now.rules }
-        ensures { IfOk result (λ found. (files : List File) → StandIn files (rule_trees self.now.rules) → Lists files (rule_trees self.now.rules) (IsFinding files (rule_trees self.now.rules) self.now.env i) found.items) }
+        ensures findings { IfOk result (λ found. (files : List File) → StandIn files (rule_trees self.now.rules) → Lists files (rule_trees self.now.rules) (IsFinding files (rule_trees self.now.rules) self.now.env i) found.items) }
+        ensures numbers { (files : List File) → IfOk result (λ found. AreNumbered files (rule_trees self.now.rules) i found.items) }
     {
         let rule = self.rules.get(i as usize);
         let row = rule_row(alloc, self.universe, self.env, rule)?;
@@ -173,7 +175,8 @@ pub fn check_rule(
     requires least { IsLeast universe.now (rule_trees rules.now) env.now }
     requires sources { HaveSources (rule_trees rules.now) }
     requires rule { i < length rules.now }
-    ensures { (files : List File) → StandIn files (rule_trees rules.now) → IfOk result (λ found. AreFindings files (rule_trees rules.now) env.now i (all_shown files (rule_trees rules.now) found)) }
+    ensures findings { (files : List File) → StandIn files (rule_trees rules.now) → IfOk result (λ found. AreFindings files (rule_trees rules.now) env.now i (all_shown files (rule_trees rules.now) found)) }
+    ensures numbers { (files : List File) → IfOk result (AreNumbered files (rule_trees rules.now) i) }
 {
     let checker = Checker::new(alloc, universe, env, rules)?;
     checker.rule(alloc, i)

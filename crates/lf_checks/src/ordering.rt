@@ -1,6 +1,6 @@
 //! The order of findings.
-ghost use Rattle.std.specs.Prelude.{◌≡◌, List, [], map, refl, IfOk};
-ghost use Rattle.std.specs.List.{Contains};
+ghost use Rattle.std.specs.Prelude.{◌≡◌, ◌++◌, List, [], map, refl, IfOk, OnOk};
+ghost use Rattle.std.specs.List.{All, Contains};
 ghost use Rattle.std.specs.Cmp.{eq_by_cmp_equiv, on_total, partial_equiv_from_equiv, partial_order_from_total};
 ghost use Rattle.std.specs.Cmp.Lexicographic.{nat_list_cmp_total};
 ghost use Rattle.std.specs.Ordering.{as_partial_cmp, eq_by_cmp};
@@ -19,7 +19,8 @@ use std::cmp::Ordering;
 
 /// The findings in their order, each once. Of one that names another rule the place of that rule isn't looked at: there is one at most.
 pub(crate) fn in_order(alloc: Global, found: Vec<Finding>) -> Result<Seq<Finding>, Memory>
-    ensures { IfOk result (λ sorted. (files : List File) (rules : List RuleTree) → OneDuplicate (all_shown files rules found.items) → IsInOrder (all_shown files rules found.items) (all_shown files rules sorted)) }
+    ensures order { IfOk result (λ sorted. (files : List File) (rules : List RuleTree) → OneDuplicate (all_shown files rules found.items) → IsInOrder (all_shown files rules found.items) (all_shown files rules sorted)) }
+    ensures given { IfOk result (All (Contains found.items)) }
 {
     let mut keyed = with_keys(alloc, found)?;
     keyed.sort_unstable();
@@ -94,10 +95,18 @@ fn key_of(alloc: Global, finding: &Finding) -> Result<Seq<u32>, Memory>
     key.push(u32::from(rank(finding)))?;
     key.push(finding.span.start)?;
     key.push(finding.span.end)?;
-    for byte in text.as_str().as_bytes() {
+    push_bytes(&mut key, text.as_str())?;
+    Ok(key)
+}
+
+/// Puts the bytes of a text behind a key.
+fn push_bytes(key: &mut Seq<u32>, text: &str) -> Result<(), Memory>
+    ensures { OnOk result (key.new ≡ key.old ++ text.now) }
+{
+    for byte in text.as_bytes() {
         key.push(u32::from(*byte))?;
     }
-    Ok(key)
+    Ok(())
 }
 
 /// The number of a finding's check in the table of checks.

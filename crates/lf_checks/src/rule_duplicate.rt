@@ -4,7 +4,7 @@ ghost use Rattle.lf_ast.specs.Rules.{RuleTree, rule_tree, rule_trees};
 ghost use Rattle.lf_checks.specs.Files.{File, StandIn};
 ghost use Rattle.lf_checks.specs.RuleDuplicate.{IsFound};
 ghost use Rattle.lf_checks.specs.views.Duplicates.{AreFirsts, AreKept, IsFirstOf};
-ghost use Rattle.lf_checks.specs.views.Shown.{Lists};
+ghost use Rattle.lf_checks.specs.views.Shown.{AreNumbered, Lists};
 
 use crate::case::same_rule;
 use crate::rule_key::key_of;
@@ -72,7 +72,8 @@ pub(crate) fn rule_duplicate(
     first: Option<u32>,
     rule: &Rule,
 ) -> Result<Vec<Finding>, Memory>
-    ensures { (files : List File) (rules : List RuleTree) (i : ℕ) → StandIn files rules → slice_get rules i ≡ Some (rule_tree rule.now) → IsFirstOf (take i rules) (rule_tree rule.now) first → IfOk result (λ found. Lists files rules (IsFound files rules i (rule_tree rule.now)) found.items) }
+    ensures findings { (files : List File) (rules : List RuleTree) (i : ℕ) → StandIn files rules → slice_get rules i ≡ Some (rule_tree rule.now) → IsFirstOf (take i rules) (rule_tree rule.now) first → IfOk result (λ found. Lists files rules (IsFound files rules i (rule_tree rule.now)) found.items) }
+    ensures numbers { (files : List File) (rules : List RuleTree) (i : ℕ) → slice_get rules i ≡ Some (rule_tree rule.now) → IsFirstOf (take i rules) (rule_tree rule.now) first → IfOk result (λ found. AreNumbered files rules i found.items) }
 {
     let mut found = Vec::new(alloc);
     match first {

@@ -2,7 +2,7 @@
 ghost use Rattle.std.specs.Prelude.{◌≡◌, [], IsTrue, OnOk};
 ghost use Rattle.lf_checks.specs.Finding.{finding};
 ghost use Rattle.lf_checks.specs.views.Adding.{Adds};
-ghost use Rattle.lf_checks.specs.views.Cases.{check_of, says_of};
+ghost use Rattle.lf_checks.specs.views.Cases.{IsAbout, check_of, says_of};
 
 use crate::case::Case;
 use lf_ast::Finding;
@@ -18,6 +18,7 @@ pub(crate) fn tell_if(
     label: &str,
     found: &mut Vec<Finding>,
 ) -> Result<(), Memory>
+    requires { IsAbout case label.now }
     ensures { OnOk result (Adds (λ f. IsTrue holds × (f ≡ finding (check_of case) span (says_of case label.now []))) found.old.items found.new.items) }
 {
     if holds {

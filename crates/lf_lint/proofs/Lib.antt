@@ -1,4 +1,5 @@
 pub mod Fronts
+mod Leaves
 pub mod OneReport
 mod ShortLists
 mod Streams

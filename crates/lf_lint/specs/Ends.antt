@@ -39,7 +39,7 @@ pub record Judged (words : List Bytes) (held : Bytes → Option Bytes) (asked : 
   pub read : AreAsTold (held asked.file) bytes
   pub within : length bytes ≤ most_bytes
   pub holds : Holds bytes found
-  pub fits : Fits found
+  pub fits : Fits asked.labels found
 
 -- how the report on what was found ends a run once it is written: with a refusal, with a problem, or with neither. Notes don't matter
 abbrev pub end_of : Content → FileReport → Status
@@ -64,10 +64,10 @@ IsTooLong words held left = (asked : Asked) × Asks words asked × (bytes : Byte
 -- the words ask for a file that is accepted, and its rules pass this limit
 abbrev pub HasTooMany : List Bytes → (Bytes → Option Bytes) → ℕ → ℕ → Type 0
 HasTooMany words held quantity count = (asked : Asked) × Asks words asked × (bytes : Bytes) × AreAsTold (held asked.file) bytes × (length bytes ≤ most_bytes)
-    × (rules : List RuleTree) × IsAccepted bytes 0 rules × Exceeds rules quantity count
+    × (rules : List RuleTree) × IsAccepted bytes 0 rules × Exceeds asked.labels rules quantity count
 
 -- which quantity passed its limit, and its count: 2 is the bytes of the file, of which one more than the limit was read, and the others are of the accepted rules. Whether
--- the words ask for verdicts doesn't matter
+-- the words ask for verdicts matters to the last of these alone
 abbrev pub Passes : List Bytes → (Bytes → Option Bytes) → Option Bytes → ℕ → ℕ → Type 0
 Passes words held left quantity count =
     ((quantity ≡ 2) × (count ≡ 4194305) × IsTooLong words held left)

@@ -8,7 +8,7 @@ mod words;
 mod writing;
 
 pub use lf_accept::{accept, one_file};
-pub use lf_report::{Asked, Found, JudgeEnd, report_text};
+pub use lf_report::{Asked, FileContent, JudgeEnd, report_text};
 pub use linting::lint;
 pub use reading::{ReadEnd, read_whole};
 pub use status::Status;

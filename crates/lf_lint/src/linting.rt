@@ -4,14 +4,13 @@ ghost use Rattle.lf_report.specs.declared.asked.Asked.{Asked};
 ghost use Rattle.lf_report.specs.declared.file_report.FileReport.{FileReport};
 ghost use Rattle.lf_lint.specs.Asks.{Asks};
 ghost use Rattle.lf_lint.specs.Ends.{IsOfRules, IsReport, IsSilent, Passes, WroteAll, WrotePart, end_of};
-ghost use Rattle.lf_report.specs.Founds.{Holds, content};
+ghost use Rattle.lf_report.specs.Founds.{content};
 ghost use Rattle.lf_lint.specs.Headline.{WroteTruth};
 
 use crate::reading::{ReadEnd, read_whole};
 use crate::{Status, WordFault, read_words, write_whole};
-use lf_accept::accept;
-use lf_base::{Files, Gate, Memory, Refusal, Sink};
-use lf_report::{FileReport, Found, JudgeEnd, report_text};
+use lf_base::{Files, Gate, Sink};
+use lf_report::{FileContent, FileReport, JudgeEnd, report_text};
 use std::alloc::Global;
 use std::thread::Threads;
 
@@ -84,41 +83,29 @@ pub fn lint<R: Threads + Sync, F: Files, O: Sink, G: Gate + Sync>(
         }
         Err(ReadEnd::Memory) => return Status::Memory,
     };
-    let Ok(found) = find(alloc, bytes.as_slice()) else {
+    let Ok(file) = FileContent::of(alloc, bytes.as_slice()) else {
         return Status::Memory;
     };
-    let report = match report_text(alloc, &asked, bytes.as_slice(), &found) {
+    let report = match report_text(alloc, &asked, &file) {
         Ok(report) => report,
         Err(JudgeEnd::Limit { quantity, found }) => return Status::Limit { quantity, found },
         Err(JudgeEnd::Memory) => return Status::Memory,
     };
     match write_whole(out, report.text.as_str().as_bytes()) {
         Err(_) => Status::Write,
-        Ok(()) => ending(&found, &report),
+        Ok(()) => ending(&file, &report),
     }
 }
 
-/// How the report on what was found ends a run once it is written.
-fn ending(found: &Found, report: &FileReport) -> Status
-    ensures { result ≡ end_of (content found.now) report.now }
+/// How the report on what stands in a file ends a run once it is written.
+fn ending(file: &FileContent, report: &FileReport) -> Status
+    ensures { result ≡ end_of (content file.now.found) report.now }
 {
-    if found.is_refused() {
+    if file.is_refused() {
         return Status::Refused;
     }
     if report.problems > 0 {
         return Status::Problems;
     }
     Status::Clean
-}
-
-/// What stands in a file of these bytes.
-fn find(alloc: Global, bytes: &[u8]) -> Result<Found, Memory>
-    requires { length bytes.now ≤ 2 ^ 31 }
-    ensures { IfOk result (λ found. Holds bytes.now (content found)) }
-{
-    match accept(alloc, bytes, 0) {
-        Ok(rules) => Ok(Found::Rules { rules }),
-        Err(Refusal::At { kind, span }) => Ok(Found::Refused { kind, span }),
-        Err(Refusal::Memory) => Err(Memory),
-    }
 }

@@ -1,11 +1,10 @@
 -- The findings of the first rules of a file, one rule after another.
-use Rattle.std.proofs.Common.{◌≡◌, inl, inr, ℕ, ◌+◌, ◌<◌, Bool, cond, List, [], ◌∷◌, ◌++◌, map, length, take, get_or, Some, refl, sym, ap, ap₂, subst, ◌∙◌, arith, append-nil, length-take}
+use Rattle.std.proofs.Common.{◌≡◌, inl, inr, ℕ, ◌+◌, ◌<◌, Bool, cond, List, [], ◌∷◌, ◌++◌, map, length, take, get_or, Some, refl, sym, ap, ap₂, subst, ◌∙◌, arith, append-nil, length-append}
 use Rattle.std.specs.Prelude.{slice_get}
 use Rattle.std.specs.List.{count_by}
-use Rattle.std.proofs.lemmas.List.{length-map, map_more, take_more}
+use Rattle.std.proofs.lemmas.List.{map_more}
 use Rattle.std.proofs.lemmas.List.Concat.{flat_map-append}
 use Rattle.std.proofs.lemmas.List.Sums.{sum_by-cons}
-use Rattle.std.proofs.lemmas.Option.{get_or_from_slice_get}
 use Rattle.lf_ast.specs.Labels.{Bytes}
 use Rattle.lf_ast.specs.Rules.{RuleTree}
 use Rattle.lf_ast.specs.declared.verdict.Finding.{Finding as Row}
@@ -15,18 +14,18 @@ use Rattle.lf_checks.specs.Finding.{Finding}
 use Rattle.lf_checks.specs.Findings.{AreFindings, severity_of}
 use Rattle.lf_checks.specs.views.Cases.{check_at}
 use Rattle.lf_checks.specs.views.Shown.{all_shown, shown as finding_of}
-use Rattle.lf_report.specs.Checked.{Checked, findings_of, is_grave, is_problem}
+use Rattle.lf_report.specs.Checked.{is_grave, is_problem}
 use Rattle.lf_report.specs.Report.{files_of, finding_line, finding_lines, lines_text}
 use Rattle.lf_report.specs.declared.asked.Asked.{Asked}
-use Rattle.lf_report.specs.views.Told.{texts_of}
+use Rattle.lf_report.specs.views.Told.{all_of, texts_of}
 use Rattle.lf_report.proofs.Appends.{built_more}
-use Rattle.lf_report.proofs.Zips.{at_push, some_at}
+use Rattle.lf_report.proofs.Zips.{at_push}
 
 map_append : {A B : Type 0} (f : A → B) (xs ys : List A) → map f (xs ++ ys) ≡ map f xs ++ map f ys
 map_append f [] ys = refl
 map_append f (x ∷ xs) ys = ap (λ l. f x ∷ l) (map_append f xs ys)
 
-map_twice : {A B D : Type 0} (g : B → D) (f : A → B) (xs : List A) → map g (map f xs) ≡ map (λ x. g (f x)) xs
+pub map_twice : {A B D : Type 0} (g : B → D) (f : A → B) (xs : List A) → map g (map f xs) ≡ map (λ x. g (f x)) xs
 map_twice g f [] = refl
 map_twice g f (x ∷ xs) = ap (λ l. g (f x) ∷ l) (map_twice g f xs)
 
@@ -56,38 +55,31 @@ module _ (files : List File) (rules : List RuleTree) where
 
 module _ (asked : Asked) (bytes : Bytes) (rules : List RuleTree) (env : Environment) where
   -- what is kept of the first k rules
-  pub record IsSoFar (k : ℕ) (checked : List Checked) (lines : List Bytes) (graves : List Bool) : Type 0 where
-    pub rules_are : map (λ c. c.rule) checked ≡ take k rules
-    pub lists_are : (i : ℕ) (c : Checked) → slice_get checked i ≡ Some c → AreFindings (files_of asked bytes) rules env i c.found
-    pub lines_are : lines ≡ texts_of asked.file bytes checked
-    pub graves_are : graves ≡ map is_problem (findings_of checked)
+  pub record IsSoFar (k : ℕ) (lists : List (List Finding)) (lines : List Bytes) (graves : List Bool) : Type 0 where
+    pub count : length lists ≡ k
+    pub lists_are : (i : ℕ) (found : List Finding) → slice_get lists i ≡ Some found → AreFindings (files_of asked bytes) rules env i found
+    pub lines_are : lines ≡ texts_of asked.file bytes lists
+    pub graves_are : graves ≡ map is_problem (all_of lists)
 
-  pub more_so_far : (k : ℕ) (lines new_lines : List Bytes) (graves new_graves : List Bool) (text : Bytes) (found : List Finding) → (checked : List Checked) × IsSoFar k checked lines graves → k < length rules
+  pub more_so_far : (k : ℕ) (lines new_lines : List Bytes) (graves new_graves : List Bool) (text : Bytes) (found : List Finding) → (lists : List (List Finding)) × IsSoFar k lists lines graves
       → AreFindings (files_of asked bytes) rules env k found → text ≡ lines_text (finding_lines asked.file bytes found) → new_lines ≡ lines ++ text ∷ [] → new_graves ≡ graves ++ map is_problem found
-      → (checked : List Checked) × IsSoFar (k + 1) checked new_lines new_graves
-  more_so_far k lines new_lines graves new_graves text found (checked, so_far) inside are text_is lines_pushed graves_pushed =
-      let some = some_at rules k inside in
-      let r = some.0 in
-      let one : Checked = record { rule = r; found = found } in
-      let count : length checked ≡ k = omega (arith, sym (length-map checked (λ (c : Checked). c.rule)), ap length so_far.rules_are, length-take k rules) in (
-        checked ++ one ∷ [],
-        record {
-          rules_are =
-              map_append (λ (c : Checked). c.rule) checked (one ∷ []) ∙ ap (λ l. l ++ r ∷ []) so_far.rules_are
-              ∙ ap (λ x. take k rules ++ x ∷ []) (sym (get_or_from_slice_get rules k r r some.1)) ∙ sym (take_more rules k r inside);
-          lists_are = λ i c e. elim (at_push checked one i c e) [
-            | inl before ↦ so_far.lists_are i c before
-            | inr last ↦
-                let P : ℕ → Type 0 = λ n. AreFindings (files_of asked bytes) rules env n c.found in
-                let Q : Checked → Type 0 = λ x. AreFindings (files_of asked bytes) rules env k x.found in
-                subst P (sym (last.0 ∙ count)) (subst Q (sym last.1) are)
-          ];
-          lines_are =
-              lines_pushed ∙ ap₂ (λ (l : List Bytes) (x : Bytes). l ++ x ∷ []) so_far.lines_are text_is
-              ∙ sym (map_append (λ (c : Checked). lines_text (finding_lines asked.file bytes c.found)) checked (one ∷ []));
-          graves_are =
-              graves_pushed ∙ ap (λ l. l ++ map is_problem found) so_far.graves_are ∙ sym (map_append is_problem (findings_of checked) found)
-              ∙ ap (map is_problem) (ap (λ l. findings_of checked ++ l) (sym (append-nil found)) ∙ sym (flat_map-append (λ (c : Checked). c.found) checked (one ∷ [])));
-        },
-      )
-  -- all rules
+      → (lists : List (List Finding)) × IsSoFar (k + 1) lists new_lines new_graves
+  more_so_far k lines new_lines graves new_graves text found (lists, so_far) are text_is lines_pushed graves_pushed = (
+    lists ++ found ∷ [],
+    record {
+      count = omega (arith, length-append lists (found ∷ []), so_far.count);
+      lists_are = λ i one e. elim (at_push lists found i one e) [
+        | inl before ↦ so_far.lists_are i one before
+        | inr last ↦
+            let P : ℕ → Type 0 = λ n. AreFindings (files_of asked bytes) rules env n one in
+            let Q : List Finding → Type 0 = λ x. AreFindings (files_of asked bytes) rules env k x in
+            subst P (sym (last.0 ∙ so_far.count)) (subst Q (sym last.1) are)
+      ];
+      lines_are =
+          lines_pushed ∙ ap₂ (λ (l : List Bytes) (x : Bytes). l ++ x ∷ []) so_far.lines_are text_is
+          ∙ sym (map_append (λ (one : List Finding). lines_text (finding_lines asked.file bytes one)) lists (found ∷ []));
+      graves_are =
+          graves_pushed ∙ ap (λ l. l ++ map is_problem found) so_far.graves_are ∙ sym (map_append is_problem (all_of lists) found)
+          ∙ ap (map is_problem) (ap (λ l. all_of lists ++ l) (sym (append-nil found)) ∙ sym (flat_map-append (λ (one : List Finding). one) lists (found ∷ [])));
+    },
+  )

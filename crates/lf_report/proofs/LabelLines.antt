@@ -1,8 +1,6 @@
 -- The lines of labels, and those of rules, one after another.
-use Rattle.std.proofs.Common.{◌≡◌, ℕ, ◌+◌, ◌<◌, ◌≤◌, zero, suc, List, [], ◌∷◌, ◌++◌, map, length, take, get_or, refl, ap, sym, ◌∙◌, arith, append-nil}
-use Rattle.std.specs.List.{flat_map}
-use Rattle.std.proofs.lemmas.List.{length-map, take_more}
-use Rattle.std.proofs.lemmas.List.Concat.{flat_map-append}
+use Rattle.std.proofs.Common.{◌≡◌, ℕ, ◌+◌, ◌<◌, ◌≤◌, zero, suc, List, [], ◌∷◌, ◌++◌, map, length, take, get_or, refl, ap, sym, ◌∙◌, arith}
+use Rattle.std.proofs.lemmas.List.{length-map}
 use Rattle.lf_ast.specs.Labels.{Bytes}
 use Rattle.lf_report.specs.declared.report.verdict.Verdict.{Verdict}
 use Rattle.lf_report.specs.Report.{label_line, label_lines, lines_text, shown}
@@ -57,19 +55,3 @@ module _ (place : Bytes) where
   label_lines_end names labels said k start report shows h i end before =
       let len : length labels ≡ length names = ap length shows ∙ length-map names shown in
       before ∙ ap (λ l. start ++ lines_text l) (lines_all names said k (omega (arith, len)) i (λ a b. end (omega (arith, len)) b))
-
--- one more thing of which several lines tell
-pub flat_lines_more : {A : Type 0} (lines : A → List Bytes) (xs : List A) (k : ℕ) (x : A) (start old new : Bytes) → k < length xs → x ≡ get_or xs k x → old ≡ start ++ lines_text (flat_map lines (take k xs))
-    → new ≡ old ++ lines_text (lines x) → new ≡ start ++ lines_text (flat_map lines (take (k + 1) xs))
-flat_lines_more lines xs k x start old new inside at before pushed =
-    appended_lines start (flat_map lines (take k xs)) (lines x) before pushed
-    ∙ ap (λ l. start ++ lines_text l)
-    (ap (λ y. flat_map lines (take k xs) ++ lines y) at ∙ ap (λ l. flat_map lines (take k xs) ++ l) (sym (append-nil (lines (get_or xs k x))))
-    ∙ sym (flat_map-append lines (take k xs) (get_or xs k x ∷ [])) ∙ ap (flat_map lines) (sym (take_more xs k x inside)))
-
--- and of which several values are taken
-pub flat_more : {A B : Type 0} (f : A → List B) (xs : List A) (k : ℕ) (x : A) (old new some : List B) → k < length xs → x ≡ get_or xs k x → old ≡ flat_map f (take k xs) → some ≡ f x → new ≡ old ++ some
-    → new ≡ flat_map f (take (k + 1) xs)
-flat_more f xs k x old new some inside at before here pushed =
-    pushed ∙ ap (λ l. l ++ some) before ∙ ap (λ l. flat_map f (take k xs) ++ l) (here ∙ ap f at ∙ sym (append-nil (f (get_or xs k x))))
-    ∙ sym (flat_map-append f (take k xs) (get_or xs k x ∷ [])) ∙ ap (flat_map f) (sym (take_more xs k x inside))

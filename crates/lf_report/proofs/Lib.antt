@@ -2,11 +2,10 @@ pub mod Appends
 pub mod CheckedLines
 pub mod FoundSoFar
 pub mod LabelLines
-pub mod LabelTexts
 pub mod NameSpots
 pub mod OneFound
 pub mod OneLeast
-pub mod SeenRules
+pub mod SaidSoFar
 pub mod ShownNames
 pub mod Sources
 pub mod Spotted

@@ -11,8 +11,6 @@ use Rattle.lf_semantics.proofs.RowLaws.{shape_bottom}
 use Rattle.lf_semantics.proofs.Soundness.{shape_of_row}
 use Rattle.lf_semantics.specs.Listing.{IsListing, Listing, class_counts, named_at}
 use Rattle.lf_report.specs.Report.{labels_of, shown}
-use Rattle.lf_report.specs.Verdicts.{verdict_of}
-use Rattle.lf_report.specs.declared.report.verdict.Verdict.{Verdict}
 
 -- the last of a list, for each place that isn't one of the others
 get_or-last : {A : Type 0} (xs : List A) (x : A) (k : ℕ) (d : A) → k ≤ length xs → get_or (xs ++ x ∷ []) k d ≡ get_or xs k x
@@ -55,9 +53,3 @@ module _ (u : Listing) (row : Sets) (shape : HasShape u row) where
 -- the row of a rule has a set for each label
 pub shape_rule : (u : Listing) → IsListing u → (env : Environment) → IsEnvironment u env → (r : RuleTree) → HasShape u (rule_row u env r)
 shape_rule u p env of r = elim (is_evaluated (type_by_form r.expr)) as (λ b. HasShape u (cond b (row_of u env r.expr) (bottom u))) [ true ↦ shape_of_row u p env of r.expr | false ↦ shape_bottom u ]
-
--- one more verdict
-pub verdict_more : (row : Sets) (k : ℕ) (verdict : Verdict) (old new : List Verdict) → k < length row → verdict ≡ verdict_of (get_or row k []) → old ≡ map verdict_of (take k row) → new ≡ old ++ verdict ∷ []
-    → new ≡ map verdict_of (take (k + 1) row)
-verdict_more row k verdict old new h is before pushed =
-    pushed ∙ ap (λ l. l ++ verdict ∷ []) before ∙ ap (λ v. map verdict_of (take k row) ++ v ∷ []) is ∙ sym (map_more verdict_of row k [] h)

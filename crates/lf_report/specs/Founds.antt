@@ -1,5 +1,5 @@
 -- What stands in a file: its rules, or what refuses it; and which limits rules may pass.
-use Rattle.std.specs.Prelude.{◌≡◌, ◌<◌, ◌≤◌, ℕ, ◌+◌, ◌*◌, ◌/◌, Bool, true, false, List, length, ◌⊎◌}
+use Rattle.std.specs.Prelude.{◌≡◌, ◌<◌, ◌≤◌, ℕ, ◌+◌, ◌-◌, ◌*◌, ◌/◌, ◌^◌, Bool, true, false, List, length, min, ◌⊎◌}
 use Rattle.lf_ast.specs.Labels.{Bytes}
 use Rattle.lf_base.specs.Faults.{fault}
 use Rattle.lf_base.specs.declared.kind.Kind.{Kind}
@@ -13,6 +13,7 @@ use Rattle.lf_report.specs.declared.found.Found.TheVariants as found_of
 use Rattle.lf_report.specs.declared.judge_end.JudgeEnd.{JudgeEnd}
 use Rattle.lf_report.specs.declared.judge_end.JudgeEnd.TheVariants.{Memory, Limit}
 use Rattle.lf_accept.specs.Accepted.{IsAccepted, RefusesFile}
+use Rattle.lf_worlds.specs.Measure.{IsLabelSelectors}
 
 -- what stands in a file: rules, in its order, or a breach by which it is refused
 pub data Content : Type 0 where
@@ -28,6 +29,11 @@ content (found_of.Refused kind span) = Refused kind span
 abbrev pub Holds : Bytes → Content → Type 0
 Holds bytes (Rules rules) = IsAccepted bytes 0 rules
 Holds bytes (Refused kind span) = RefusesFile bytes (fault kind span)
+
+-- the bytes of a file, and what the code found in them
+pub record FileFound : Type 0 where
+  pub bytes : Bytes
+  pub found : Found
 
 abbrev pub is_refused : Content → Bool
 is_refused (Rules rules) = false
@@ -47,35 +53,48 @@ most_words = 4194304
 abbrev pub word_count : List RuleTree → ℕ
 word_count rules = length (recorded_names rules) * ((class_count (universe_of rules) + 63) / 64)
 
--- the rules pass no limit: on their number, on the labels of their universe, on the classes of these labels, and on the words of rows
-pub record AreWithin (rules : List RuleTree) : Type 0 where
+-- the most labels, times selectors, that trials are made for
+abbrev pub most_selected : ℕ
+most_selected = 4194304
+
+-- The rules pass no limit: on their number, on the labels of their universe, on the classes of these labels, on the words of rows; and, where verdicts on labels are asked
+-- for, on the labels times the selectors that there are to try
+pub record AreWithin (labels : Bool) (rules : List RuleTree) : Type 0 where
   pub rules_fit : length rules ≤ most_rules
   pub labels_fit : label_count (universe_of rules) ≤ most_labels
   pub classes_fit : class_count (universe_of rules) ≤ most_classes
   pub words_fit : word_count rules ≤ most_words
+  pub trials_fit : labels ≡ true → (n : ℕ) × IsLabelSelectors (universe_of rules) rules n × (n ≤ most_selected)
 
--- the first limit that the rules pass is the one on this quantity, with this count: 4 is the rules, 5 the labels, 6 the classes, and 7 the words
-abbrev pub Exceeds : List RuleTree → ℕ → ℕ → Type 0
-Exceeds rules quantity count =
+-- there is too much to try, and the count is the number of labels times selectors, or 2^64 - 1 where that is greater
+abbrev pub IsTooMuch : List RuleTree → ℕ → Type 0
+IsTooMuch rules count = (n : ℕ) × IsLabelSelectors (universe_of rules) rules n × (most_selected < n) × (count ≡ min n (2 ^ 64 - 1))
+
+-- the first limit that the rules pass is the one on this quantity, with this count: 4 is the rules, 5 the labels, 6 the classes, 7 the words, and 8, where verdicts on labels
+-- are asked for, the labels times the selectors
+abbrev pub Exceeds : Bool → List RuleTree → ℕ → ℕ → Type 0
+Exceeds labels rules quantity count =
     ((quantity ≡ 4) × (count ≡ length rules) × (most_rules < count))
     ⊎ ((length rules ≤ most_rules)
     × (((quantity ≡ 5) × (count ≡ label_count (universe_of rules)) × (most_labels < count))
     ⊎ ((label_count (universe_of rules) ≤ most_labels)
     × (((quantity ≡ 6) × (count ≡ class_count (universe_of rules)) × (most_classes < count))
-    ⊎ ((class_count (universe_of rules) ≤ most_classes) × (quantity ≡ 7) × (count ≡ word_count rules) × (most_words < count))))))
+    ⊎ ((class_count (universe_of rules) ≤ most_classes)
+    × (((quantity ≡ 7) × (count ≡ word_count rules) × (most_words < count))
+    ⊎ ((word_count rules ≤ most_words) × (labels ≡ true) × (quantity ≡ 8) × IsTooMuch rules count)))))))
 
 -- why there is no report on rules: they pass a limit. Memory has no cause in the rules
-abbrev pub Ends : List RuleTree → JudgeEnd → Type 0
-Ends rules Memory = Unit {0}
-Ends rules (Limit quantity count) = Exceeds rules quantity count
+abbrev pub Ends : Bool → List RuleTree → JudgeEnd → Type 0
+Ends labels rules Memory = Unit {0}
+Ends labels rules (Limit quantity count) = Exceeds labels rules quantity count
 
 -- what was found passes no limit; a file that is refused passes none
-abbrev pub Fits : Content → Type 0
-Fits (Rules rules) = AreWithin rules
-Fits (Refused kind span) = Unit {0}
+abbrev pub Fits : Bool → Content → Type 0
+Fits labels (Rules rules) = AreWithin labels rules
+Fits labels (Refused kind span) = Unit {0}
 
 -- why there is no report on what was found
-abbrev pub EndsIn : Content → JudgeEnd → Type 0
-EndsIn (Rules rules) end = Ends rules end
-EndsIn (Refused kind span) Memory = Unit {0}
-EndsIn (Refused kind span) (Limit quantity count) = ⊥
+abbrev pub EndsIn : Bool → Content → JudgeEnd → Type 0
+EndsIn labels (Rules rules) end = Ends labels rules end
+EndsIn labels (Refused kind span) Memory = Unit {0}
+EndsIn labels (Refused kind span) (Limit quantity count) = ⊥

@@ -1,5 +1,5 @@
 -- The text report on one file.
-use Rattle.std.specs.Prelude.{◌≡◌, ℕ, Bool, cond, false, ◌==◌, ◌||◌, ◌/◌, ◌%◌, nat_lt, List, [], ◌∷◌, ◌++◌, map, length, count_by, codes, if◌then◌else◌}
+use Rattle.std.specs.Prelude.{◌≡◌, ℕ, Bool, false, ◌==◌, ◌||◌, ◌/◌, ◌%◌, nat_lt, List, [], ◌∷◌, ◌++◌, map, length, count_by, codes, if◌then◌else◌}
 use Rattle.std.specs.Fmt.{decimal, digit_glyph}
 use Rattle.std.specs.List.{flat_map}
 use Rattle.lf_ast.specs.Labels.{Bytes}
@@ -14,14 +14,14 @@ use Rattle.lf_checks.specs.Findings.{severity_of}
 use Rattle.lf_report.specs.declared.asked.Asked.{Asked}
 use Rattle.lf_report.specs.declared.file_report.FileReport.{FileReport}
 use Rattle.lf_report.specs.declared.report.verdict.Verdict.{Verdict}
-use Rattle.lf_report.specs.declared.report.verdict.Verdict.TheVariants.{Guaranteed, Impossible, Unresolved}
-use Rattle.lf_semantics.specs.ClassRows.{Sets, is_live}
-use Rattle.lf_semantics.specs.Environments.{IsLeast, rule_row}
+use Rattle.lf_report.specs.declared.report.verdict.Verdict.TheVariants.{Guaranteed, Impossible, Possible, Unresolved}
+use Rattle.lf_semantics.specs.Environments.{IsLeast}
 use Rattle.lf_semantics.specs.Listing.{Listing, universe_of}
 use Rattle.lf_semantics.specs.RowTable.{Environment}
 use Rattle.lf_report.specs.Checked.{AreChecked, Checked, findings_of, note_count, problem_count}
 use Rattle.lf_report.specs.Founds.{Content, Rules, Refused}
-use Rattle.lf_report.specs.Verdicts.{empty_count, is_guaranteed, is_impossible, is_unresolved, verdict_of, verdicts_of}
+use Rattle.lf_report.specs.Verdicts.{is_empty, is_guaranteed, is_impossible, is_possible, is_unresolved, told, told_of}
+use Rattle.lf_trials.specs.Verdicts.{RuleVerdict, Empty, Labels}
 
 -- each line ended by a line feed
 abbrev pub lines_text : List Bytes → Bytes
@@ -42,6 +42,7 @@ place_text file bytes offset = shown file ++ codes ":" ++ decimal (line_at bytes
 abbrev pub verdict_text : Bytes → Verdict → Bytes
 verdict_text place Guaranteed = codes "guaranteed"
 verdict_text place Impossible = codes "impossible"
+verdict_text place Possible = codes "possible"
 verdict_text place Unresolved = codes "unresolved O0 at " ++ place
 
 -- `  LABEL: VERDICT`
@@ -57,13 +58,14 @@ abbrev pub label_lines : Bytes → List Bytes → List Verdict → List Bytes
 label_lines place (label ∷ labels) (verdict ∷ verdicts) = label_line place label verdict ∷ label_lines place labels verdicts
 label_lines place _ _ = []
 
--- a line for each label, by its set in the row of the rule; and one line where the row is empty
-abbrev pub said_lines : Bytes → List Bytes → Sets → List Bytes
-said_lines place labels row = cond (is_live row) (label_lines place labels (map verdict_of row)) (codes "  empty" ∷ [])
+-- a line for each label, or one line where the rule is empty
+abbrev pub said_lines : Bytes → List Bytes → RuleVerdict → List Bytes
+said_lines place labels Empty = codes "  empty" ∷ []
+said_lines place labels (Labels verdicts) = label_lines place labels (map told verdicts)
 
--- the rule's line, and what is said of its labels. `row` gives the row of a rule
-abbrev pub rule_lines : Bytes → Bytes → List Bytes → (RuleTree → Sets) → RuleTree → List Bytes
-rule_lines file bytes labels row r = rule_line (place_text file bytes r.name_span.start) r.name ∷ said_lines (place_text file bytes r.expr_span.start) labels (row r)
+-- the rule's line, and what is said of its labels
+abbrev pub rule_lines : Bytes → Bytes → List Bytes → RuleTree → RuleVerdict → List Bytes
+rule_lines file bytes labels r verdict = rule_line (place_text file bytes r.name_span.start) r.name ∷ said_lines (place_text file bytes r.expr_span.start) labels verdict
 
 -- the severity in words
 abbrev pub severity_name : Severity → Bytes
@@ -89,7 +91,7 @@ totals_line refused rules problems notes =
 -- the totals of these verdicts, and of the rules of which `empty` is said
 abbrev pub verdicts_line : List Verdict → ℕ → Bytes
 verdicts_line verdicts empty = codes "verdicts guaranteed " ++ decimal (count_by is_guaranteed verdicts) ++ codes ", impossible " ++ decimal (count_by is_impossible verdicts)
-    ++ codes ", possible 0, unresolved " ++ decimal (count_by is_unresolved verdicts) ++ codes ", empty " ++ decimal empty
+    ++ codes ", possible " ++ decimal (count_by is_possible verdicts) ++ codes ", unresolved " ++ decimal (count_by is_unresolved verdicts) ++ codes ", empty " ++ decimal empty
 
 -- the labels of which a report speaks: those of the universe, and `*` for every other
 abbrev pub labels_of : Listing → List Bytes
@@ -100,18 +102,25 @@ abbrev pub with_labels : Bool → List Bytes → List Bytes
 with_labels labels lines = if labels then lines else []
 
 -- what a report says of a rule: where verdicts are asked for its line and those of its labels, and then a line for each finding
-abbrev pub checked_lines : Asked → Bytes → List Bytes → (RuleTree → Sets) → Checked → List Bytes
-checked_lines asked bytes labels row c = with_labels asked.labels (rule_lines asked.file bytes labels row c.rule) ++ finding_lines asked.file bytes c.found
+abbrev pub checked_lines : Asked → Bytes → List Bytes → Checked → List Bytes
+checked_lines asked bytes labels c = with_labels asked.labels (rule_lines asked.file bytes labels c.rule c.verdict) ++ finding_lines asked.file bytes c.found
+
+-- the verdicts on the labels of all rules, and how many rules are empty
+abbrev pub verdicts_of : List Checked → List Verdict
+verdicts_of checked = flat_map (λ c. told_of c.verdict) checked
+
+abbrev pub empty_count : List Checked → ℕ
+empty_count checked = count_by (λ c. is_empty c.verdict) checked
 
 -- the totals, with those of the verdicts where these are asked for
-abbrev pub totals_lines : Asked → (RuleTree → Sets) → List RuleTree → List Finding → List Bytes
-totals_lines asked row rules found =
-    totals_line 0 (length rules) (problem_count found) (note_count found) ∷ with_labels asked.labels (verdicts_line (verdicts_of row rules) (empty_count row rules) ∷ [])
+abbrev pub totals_lines : Asked → List Checked → List Bytes
+totals_lines asked checked =
+    totals_line 0 (length checked) (problem_count (findings_of checked)) (note_count (findings_of checked))
+    ∷ with_labels asked.labels (verdicts_line (verdicts_of checked) (empty_count checked) ∷ [])
 
--- the text of the report on rules with their findings: what is said of each rule, and the totals
-abbrev pub rules_text : Asked → Bytes → (RuleTree → Sets) → List RuleTree → List Checked → Bytes
-rules_text asked bytes row rules checked =
-    lines_text (flat_map (checked_lines asked bytes (labels_of (universe_of rules)) row) checked ++ totals_lines asked row rules (findings_of checked))
+-- the text of the report on rules with their verdicts and findings: what is said of each rule, and the totals
+abbrev pub rules_text : Asked → Bytes → List Bytes → List Checked → Bytes
+rules_text asked bytes labels checked = lines_text (flat_map (checked_lines asked bytes labels) checked ++ totals_lines asked checked)
 
 -- and of the one on a file that is refused: why, and the totals
 abbrev pub refused_text : Asked → Bytes → Kind → Span → Bytes
@@ -122,13 +131,13 @@ refused_text asked bytes kind span =
 abbrev pub files_of : Asked → Bytes → List File
 files_of asked bytes = record { name = asked.file; bytes = bytes } ∷ []
 
--- the report on rules, by their least environment and their findings
+-- The report on rules, by their least environment, the verdicts on them and their findings. Each rule has a verdict, and where verdicts are asked for it is told
 pub record IsRulesReport (asked : Asked) (bytes : Bytes) (rules : List RuleTree) (report : FileReport) : Type 0 where
   pub env : Environment
   pub least : IsLeast (universe_of rules) rules env
   pub checked : List Checked
   pub are_checked : AreChecked (files_of asked bytes) rules env checked
-  pub text : report.text ≡ rules_text asked bytes (rule_row (universe_of rules) env) rules checked
+  pub text : report.text ≡ rules_text asked bytes (labels_of (universe_of rules)) checked
   pub problems : report.problems ≡ problem_count (findings_of checked)
 
 -- the report on what was found in the file that is asked for, whose bytes these are

@@ -2,6 +2,7 @@
 #![tactic(auto)]
 
 mod asked;
+mod file_content;
 mod file_report;
 mod found;
 mod judge_end;
@@ -9,6 +10,7 @@ mod measuring;
 mod report;
 
 pub use asked::Asked;
+pub use file_content::FileContent;
 pub use file_report::FileReport;
 pub use found::Found;
 pub use judge_end::JudgeEnd;

@@ -1,15 +1,14 @@
 //! The text report on one file.
-ghost use Rattle.std.specs.Prelude.{◌≡◌, ◌≤◌, ℕ, true, false, List, [], ◌∷◌, ◌++◌, map, length, IfOk, IfErr};
+ghost use Rattle.std.specs.Prelude.{◌≡◌, ◌≤◌, ℕ, true, false, List, [], ◌∷◌, length, IfOk, IfErr};
 ghost use Rattle.lf_accept.specs.Accepted.{IsAccepted};
 ghost use Rattle.lf_ast.specs.Rules.{RuleTree, rule_trees};
-ghost use Rattle.lf_semantics.specs.ClassRows.{Sets};
-ghost use Rattle.lf_semantics.specs.Environments.{IsLeast, rule_row};
+ghost use Rattle.lf_semantics.specs.Environments.{IsLeast};
 ghost use Rattle.lf_semantics.specs.Listing.{universe_of};
-ghost use Rattle.lf_report.specs.Checked.{Checked};
+ghost use Rattle.lf_trials.specs.Verdicts.{RuleVerdict};
 ghost use Rattle.lf_report.specs.declared.asked.Asked.{Asked};
 ghost use Rattle.lf_report.specs.Founds.{AreWithin, Ends, EndsIn, Fits, Holds, content, most_rules};
-ghost use Rattle.lf_report.specs.Report.{IsReportOn, IsRulesReport, lines_text, place_text, refused_line, rules_text, shown, totals_line, verdicts_line, with_labels};
-ghost use Rattle.lf_report.specs.views.Told.{Tells};
+ghost use Rattle.lf_report.specs.Report.{IsReportOn, IsRulesReport, lines_text, place_text, refused_line, shown, totals_line, verdicts_line, with_labels};
+ghost use Rattle.lf_report.specs.views.Told.{IsWritten, IsWrittenBy};
 
 mod findings;
 mod judging;
@@ -27,7 +26,7 @@ use crate::report::lines::{push_refused_line, push_totals_line, push_verdicts_li
 use crate::report::rules::{push_found, push_rules};
 use crate::report::shown::shown_name;
 use crate::report::spot::place_in;
-use crate::{Asked, FileReport, Found, JudgeEnd};
+use crate::{Asked, FileContent, FileReport, Found, JudgeEnd};
 use lf_ast::Rule;
 use lf_base::{Kind, Memory, Seq, Span, Text};
 use lf_classes::Universe;
@@ -35,10 +34,19 @@ use lf_fix::solve;
 use lf_flow::{Env, prepare};
 use std::alloc::Global;
 
-/// The report on what was found in the file that is asked for. `bytes` are those of the file.
+/// The report on what stands in the file that is asked for.
 ///
-/// Rules that pass a limit have none. This doesn't depend on whether verdicts are asked for.
-pub fn report_text(
+/// Rules that pass a limit have none. One limit is on the verdicts that are asked for, and the others don't depend on them.
+pub fn report_text(alloc: Global, asked: &Asked, file: &FileContent) -> Result<FileReport, JudgeEnd>
+    ensures text { IfOk result (IsReportOn asked.now file.now.bytes (content file.now.found)) }
+    ensures fits { IfOk result (λ _. Fits asked.now.labels (content file.now.found)) }
+    ensures refused { IfErr result (EndsIn asked.now.labels (content file.now.found)) }
+{
+    report_found(alloc, asked, file.bytes, &file.found)
+}
+
+/// The report on what was found in the bytes of the file that is asked for.
+fn report_found(
     alloc: Global,
     asked: &Asked,
     bytes: &[u8],
@@ -46,8 +54,8 @@ pub fn report_text(
 ) -> Result<FileReport, JudgeEnd>
     requires { Holds bytes.now (content found.now) }
     ensures text { IfOk result (IsReportOn asked.now bytes.now (content found.now)) }
-    ensures fits { IfOk result (λ _. Fits (content found.now)) }
-    ensures refused { IfErr result (EndsIn (content found.now)) }
+    ensures fits { IfOk result (λ _. Fits asked.now.labels (content found.now)) }
+    ensures refused { IfErr result (EndsIn asked.now.labels (content found.now)) }
 {
     let file = shown_name(alloc, asked.file.as_str())?;
     match found {
@@ -70,10 +78,10 @@ fn rules_report(
     requires accepted { IsAccepted bytes.now 0 (rule_trees rules.now) }
     requires file { file.now ≡ shown asked.now.file }
     ensures text { IfOk result (IsRulesReport asked.now bytes.now (rule_trees rules.now)) }
-    ensures fits { IfOk result (λ _. AreWithin (rule_trees rules.now)) }
-    ensures refused { IfErr result (Ends (rule_trees rules.now)) }
+    ensures fits { IfOk result (λ _. AreWithin asked.now.labels (rule_trees rules.now)) }
+    ensures refused { IfErr result (Ends asked.now.labels (rule_trees rules.now)) }
 {
-    let mut universe = measure(alloc, rules)?;
+    let mut universe = measure(alloc, rules, asked.labels)?;
     let report = report_within(alloc, asked, file, bytes, &mut universe, rules)?;
     Ok(report)
 }
@@ -140,7 +148,7 @@ fn checked_report(
     Ok(FileReport { text, problems })
 }
 
-/// The text of the report on rules, by an environment and what was found. `file` is the name as it is shown.
+/// The text of the report on rules, by an environment and what was found. `file` is the name as it is shown. Worlds are tried only where verdicts are asked for.
 fn written(
     alloc: Global,
     asked: &Asked,
@@ -154,8 +162,9 @@ fn written(
     requires file { file.now ≡ shown asked.now.file }
     requires universe { universe.now ≡ universe_of (rule_trees rules.now) }
     requires least { IsLeast universe.now (rule_trees rules.now) env.now }
+    requires few { length rules.now ≤ most_rules }
     requires each { length found.now.lines ≡ length rules.now }
-    ensures { (checked : List Checked) → Tells asked.now bytes.now checked found.now → map (λ c. c.rule) checked ≡ rule_trees rules.now → IfOk result (λ text. text ≡ rules_text asked.now bytes.now (rule_row universe.now env.now) (rule_trees rules.now) checked) }
+    ensures { IfOk result (IsWritten asked.now bytes.now universe.now env.now (rule_trees rules.now) found.now) }
 {
     if asked.labels {
         return with_verdicts(alloc, file, bytes, universe, env, rules, found);
@@ -175,21 +184,13 @@ fn with_verdicts(
 ) -> Result<Text, Memory>
     requires universe { universe.now ≡ universe_of (rule_trees rules.now) }
     requires least { IsLeast universe.now (rule_trees rules.now) env.now }
+    requires few { length rules.now ≤ most_rules }
     requires each { length found.now.lines ≡ length rules.now }
-    ensures { (asked : Asked) (checked : List Checked) → asked.labels ≡ true → file.now ≡ shown asked.file → Tells asked bytes.now checked found.now → map (λ c. c.rule) checked ≡ rule_trees rules.now → IfOk result (λ text. text ≡ rules_text asked bytes.now (rule_row universe.now env.now) (rule_trees rules.now) checked) }
+    ensures { (asked : Asked) → asked.labels ≡ true → file.now ≡ shown asked.file → IfOk result (IsWritten asked bytes.now universe.now env.now (rule_trees rules.now) found.now) }
 {
     let mut report = Text::of(alloc, "")?;
     let lines = found.lines.as_slice();
-    let said = push_rules(
-        alloc,
-        &mut report,
-        file,
-        bytes,
-        universe,
-        env,
-        rules.as_slice(),
-        lines,
-    )?;
+    let said = push_rules(alloc, &mut report, file, bytes, universe, env, rules, lines)?;
     push_totals_line(
         alloc,
         &mut report,
@@ -204,7 +205,7 @@ fn with_verdicts(
 
 /// The text without verdicts: what was found of so many rules, and the totals.
 fn without_verdicts(alloc: Global, rules: usize, found: &FindingLines) -> Result<Text, Memory>
-    ensures { (asked : Asked) (bytes : List ℕ) (row : RuleTree → Sets) (trees : List RuleTree) (checked : List Checked) → asked.labels ≡ false → rules ≡ length trees → Tells asked bytes checked found.now → IfOk result (λ text. text ≡ rules_text asked bytes row trees checked) }
+    ensures { (asked : Asked) (bytes : List ℕ) (labels : List (List ℕ)) (trees : List RuleTree) (verdicts : List RuleVerdict) → asked.labels ≡ false → rules ≡ length trees → length verdicts ≡ length trees → IfOk result (IsWrittenBy asked bytes labels trees verdicts found.now) }
 {
     let mut report = Text::of(alloc, "")?;
     push_found(&mut report, found.lines.as_slice())?;

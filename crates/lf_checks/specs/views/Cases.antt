@@ -1,11 +1,13 @@
 -- The cases of the checks as the code numbers them: checks from 1 in the order of their table, and the cases of one check from 0.
-use Rattle.std.specs.Prelude.{ℕ, zero, suc, List, [], ◌∷◌, slice_index_or}
+use Rattle.std.specs.Prelude.{◌≡◌, ℕ, zero, suc, List, [], ◌∷◌, Some, None, slice_index_or}
+use Rattle.lf_base.specs.declared.place.Span.{Span}
 use Rattle.lf_ast.specs.Labels.{Bytes}
+use Rattle.lf_ast.specs.declared.verdict.Finding.{Finding as Row}
 use Rattle.lf_checks.specs.AlertComparison as alert_comparison
 use Rattle.lf_checks.specs.AlertTemplate as alert_template
 use Rattle.lf_checks.specs.ExprEmpty as expr_empty
 use Rattle.lf_checks.specs.ExprType as expr_type
-use Rattle.lf_checks.specs.Finding.{Check, AlertComparison, AlertTemplate, RuleDuplicate, RuleDependency, PromqlRegexp, MatchLabel, ExprEmpty, ExprType, RuleLabel}
+use Rattle.lf_checks.specs.Finding.{Check, AlertComparison, AlertTemplate, RuleDuplicate, RuleDependency, PromqlRegexp, MatchLabel, ExprEmpty, ExprType, RuleLabel, rank}
 use Rattle.lf_checks.specs.MatchLabel as match_label
 use Rattle.lf_checks.specs.PromqlRegexp as promql_regexp
 use Rattle.lf_checks.specs.RuleDependency as rule_dependency
@@ -62,3 +64,27 @@ number_of _ = 0
 -- what a case says
 abbrev pub says_of : Case → Bytes → Bytes → Bytes
 says_of case label place = said (check_of case) (number_of case) label place
+
+-- the finding of a case at a span, about a label or name
+abbrev pub row_of : Case → Span → Bytes → Row
+row_of case span label = record { check = rank (check_of case); case = number_of case; span = span; label = label; other = None }
+
+-- the finding that the rule with a number is the same
+abbrev pub same_row : Span → ℕ → Row
+same_row span other = record { check = rank RuleDuplicate; case = number_of Case.SameRule; span = span; label = []; other = Some other }
+
+-- whether a case is about this label or name: where it is about none, this is the empty text. No label makes a finding that names a rule
+abbrev pub IsAbout : Case → Bytes → Type 0
+IsAbout Case.ComparesNothing label = label ≡ []
+IsAbout Case.NeverOnAlert label = Unit {0}
+IsAbout Case.UnreadableTemplate label = label ≡ []
+IsAbout Case.SameRule label = ⊥
+IsAbout Case.Unrecorded label = Unit {0}
+IsAbout Case.Cyclic label = Unit {0}
+IsAbout Case.PlainPattern label = label ≡ []
+IsAbout Case.AnchoredPattern label = label ≡ []
+IsAbout Case.NeverOnOperand label = Unit {0}
+IsAbout Case.NoSample label = label ≡ []
+IsAbout Case.WrongType label = label ≡ []
+IsAbout Case.ReplacesLabel label = Unit {0}
+IsAbout Case.RemovesNothing label = Unit {0}

@@ -1,12 +1,13 @@
 -- What the code's findings say, in the words of the definitions.
 use Rattle.std.specs.Prelude.{ℕ, List, [], Option, map, slice_get}
-use Rattle.std.specs.List.{Contains}
+use Rattle.std.specs.List.{All, Contains}
 use Rattle.std.specs.Option.{option_and_then, option_map_or}
 use Rattle.lf_ast.specs.Labels.{Bytes}
 use Rattle.lf_ast.specs.Rules.{RuleTree}
 use Rattle.lf_ast.specs.declared.verdict.Finding.{Finding as Row}
 use Rattle.lf_checks.specs.Files.{File, place_in}
 use Rattle.lf_checks.specs.Finding.{Finding, finding}
+use Rattle.lf_checks.specs.Numbers.{HasNumbers}
 use Rattle.lf_checks.specs.views.Cases.{check_at, said}
 
 -- over the files and the rules, of which a finding may name one by its number
@@ -31,9 +32,19 @@ module _ (files : List File) (rules : List RuleTree) where
     pub each : (f : Finding) → Contains (all_shown found) f → is f
     pub all : (f : Finding) → is f → Contains (all_shown found) f
 
+  -- each has the numbers of what it says of rule i
+  abbrev pub AreNumbered : ℕ → List Row → Type 0
+  AreNumbered i found = All (λ f. HasNumbers rules i (shown f) f) found
+
 -- the same of findings that name no other rule, so that neither files nor rules matter
-abbrev pub ListsAlone : (Finding → Type 0) → List Row → Type 0
-ListsAlone is found = (files : List File) (rules : List RuleTree) → Lists files rules is found
+
+abbrev pub NumberedAlone : List Row → Type 0
+NumberedAlone found = (files : List File) (rules : List RuleTree) (i : ℕ) → AreNumbered files rules i found
+
+-- the list holds exactly these findings, with the numbers of what they say
+pub record ListsAlone (is : Finding → Type 0) (found : List Row) : Type 0 where
+  pub lists : (files : List File) (rules : List RuleTree) → Lists files rules is found
+  pub numbers : NumberedAlone found
 
 -- what is found of some element of a list
 abbrev pub Along : {X : Type 0} → (X → Finding → Type 0) → List X → Finding → Type 0

@@ -8,11 +8,11 @@ ghost use Rattle.lf_checks.specs.Files.{File, StandIn};
 ghost use Rattle.lf_checks.specs.Findings.{severity_of};
 ghost use Rattle.lf_checks.specs.views.Cases.{check_at};
 ghost use Rattle.lf_checks.specs.views.Shown.{all_shown, place_of, shown as finding_of};
-ghost use Rattle.lf_report.specs.Checked.{AreChecked, Checked, is_grave};
+ghost use Rattle.lf_report.specs.Checked.{is_grave};
 ghost use Rattle.lf_report.specs.Founds.{most_rules};
 ghost use Rattle.lf_report.specs.Report.{files_of, finding_line, finding_lines, lines_text, shown};
 ghost use Rattle.lf_report.specs.views.Spots.{AreNameSpots, IsSpot, IsSpotOf};
-ghost use Rattle.lf_report.specs.views.Told.{Tells};
+ghost use Rattle.lf_report.specs.views.Told.{TellsFindings};
 
 use crate::Asked;
 use crate::report::lines::push_finding_line;
@@ -50,7 +50,7 @@ pub fn find_all(
     requires least { IsLeast universe.now (rule_trees rules.now) env.now }
     requires file { file.now ≡ shown asked.now.file }
     requires few { length rules.now ≤ most_rules }
-    ensures { IfOk result (λ found. (checked : List Checked) × AreChecked (files_of asked.now bytes.now) (rule_trees rules.now) env.now checked × Tells asked.now bytes.now checked found) }
+    ensures { IfOk result (TellsFindings asked.now bytes.now (rule_trees rules.now) env.now) }
 {
     let names = name_spots(alloc, bytes, rules.as_slice())?;
     let checker = Checker::new(alloc, universe, env, rules)?;
@@ -82,7 +82,7 @@ fn find_each(
     requires names { AreNameSpots bytes.now (rule_trees checker.now.rules) names.now }
     requires count { count ≡ length checker.now.rules }
     requires few { count ≤ most_rules }
-    ensures { IfOk result (λ found. (checked : List Checked) × AreChecked (files_of asked.now bytes.now) (rule_trees checker.now.rules) checker.now.env checked × Tells asked.now bytes.now checked found) }
+    ensures { IfOk result (TellsFindings asked.now bytes.now (rule_trees checker.now.rules) checker.now.env) }
 {
     let mut lines = Seq::new(alloc);
     let mut graves = Vec::new(alloc);

@@ -1,14 +1,15 @@
 //! The lines of a rule's labels.
 ghost use Rattle.std.specs.Prelude.{◌≡◌, ◌<◌, ℕ, List, ◌∷◌, [], ◌++◌, length, map, OnOk, IfOk};
-ghost use Rattle.lf_semantics.specs.ClassRows.{Sets};
+ghost use Rattle.lf_trials.specs.Verdicts.{RuleVerdict};
 ghost use Rattle.lf_report.specs.declared.report.verdict.Verdict.{Verdict};
 ghost use Rattle.lf_report.specs.Report.{label_line, label_lines, labels_of, lines_text, said_lines, shown, verdict_text};
-ghost use Rattle.lf_report.specs.Verdicts.{verdicts_in};
+ghost use Rattle.lf_report.specs.views.Told.{SaysVerdict};
 
+use crate::report::judging::RuleSaid;
 use crate::report::shown::shown_name;
 use crate::report::verdict::Verdict;
 use lf_base::{Memory, Seq, Text};
-use lf_classes::{Row, Universe};
+use lf_classes::Universe;
 use std::alloc::Global;
 
 /// The labels of a universe, as a report shows them, in their order. `*` is the last.
@@ -23,21 +24,19 @@ pub fn shown_labels(alloc: Global, universe: &Universe) -> Result<Seq<Text>, Mem
     Ok(names)
 }
 
-/// Appends what is said of a rule with this row: a line for each label, or one that it is empty. `labels` are the names as they are shown, and `said` the verdicts
-/// on them.
+/// Appends what is said of a rule: a line for each label, or one that it is empty. `labels` are the names as they are shown.
 pub fn push_said(
     report: &mut Text,
     place: &str,
     labels: &[Text],
-    row: &Row,
-    said: &[Verdict],
+    said: &RuleSaid,
 ) -> Result<(), Memory>
-    ensures { (names : List (List ℕ)) → labels.now ≡ map shown names → said.now ≡ verdicts_in row.now → OnOk result (report.new ≡ report.old ++ lines_text (said_lines place.now names row.now)) }
+    ensures { (names : List (List ℕ)) (verdict : RuleVerdict) → labels.now ≡ map shown names → SaysVerdict verdict said.now → OnOk result (report.new ≡ report.old ++ lines_text (said_lines place.now names verdict)) }
 {
-    if row.is_empty() {
+    if said.empty {
         return report.push("  empty\n");
     }
-    push_label_lines(report, place, labels, said)
+    push_label_lines(report, place, labels, said.labels.as_slice())
 }
 
 /// Appends a line for each label. `labels` are the names as they are shown, and `said` the verdicts on them.
@@ -78,6 +77,7 @@ fn push_verdict(report: &mut Text, place: &str, verdict: Verdict) -> Result<(), 
     match verdict {
         Verdict::Guaranteed => report.push("guaranteed"),
         Verdict::Impossible => report.push("impossible"),
+        Verdict::Possible => report.push("possible"),
         Verdict::Unresolved => {
             report.push("unresolved O0 at ")?;
             report.push(place)

@@ -1,7 +1,7 @@
 //! The lines of a report, but for those of labels. Each function appends one kind of line to the text so far.
 ghost use Rattle.std.specs.Prelude.{◌≡◌, [], ◌∷◌, ◌++◌, codes, count_by, OnOk};
 ghost use Rattle.lf_report.specs.Report.{lines_text, refused_line, rule_line, totals_line, verdicts_line};
-ghost use Rattle.lf_report.specs.Verdicts.{is_guaranteed, is_impossible, is_unresolved};
+ghost use Rattle.lf_report.specs.Verdicts.{is_guaranteed, is_impossible, is_possible, is_unresolved};
 
 use crate::report::shown::shown_name;
 use crate::report::verdict::Verdict;
@@ -82,9 +82,10 @@ pub fn push_verdicts_line(
 {
     let guaranteed = guaranteed_count(verdicts);
     let impossible = impossible_count(verdicts);
+    let possible = possible_count(verdicts);
     let unresolved = unresolved_count(verdicts);
     let line = format!(in alloc;
-        "verdicts guaranteed {guaranteed}, impossible {impossible}, possible 0, unresolved {unresolved}, empty {empty}\n"
+        "verdicts guaranteed {guaranteed}, impossible {impossible}, possible {possible}, unresolved {unresolved}, empty {empty}\n"
     )?;
     report.push(line.as_str())
 }
@@ -106,6 +107,16 @@ fn impossible_count(verdicts: &[Verdict]) -> usize
     verdicts
         .iter()
         .filter(|verdict| verdict.is_impossible())
+        .count()
+}
+
+/// How many verdicts are possible.
+fn possible_count(verdicts: &[Verdict]) -> usize
+    ensures { result ≡ count_by is_possible verdicts.now }
+{
+    verdicts
+        .iter()
+        .filter(|verdict| verdict.is_possible())
         .count()
 }
 

@@ -8,25 +8,14 @@ pub enum Verdict {
     Guaranteed,
     /// The label is on no sample.
     Impossible,
-    /// Nothing rules out either.
+    /// In one world a sample has the label, and in another one a sample lacks it.
+    Possible,
+    /// Nothing rules out either, and no trial shows both.
     Unresolved,
 }
 
 impl Verdict {
-    ghost use Rattle.lf_report.specs.Verdicts.{is_guaranteed, is_impossible, is_unresolved, verdict_from};
-
-    /// What is said of a label that may be on a sample or not, and may be lacking on one or not.
-    pub fn of(may_be_present: bool, may_be_absent: bool) -> Verdict
-        ensures { result ≡ verdict_from may_be_present may_be_absent }
-    {
-        if !may_be_absent {
-            return Verdict::Guaranteed;
-        }
-        if !may_be_present {
-            return Verdict::Impossible;
-        }
-        Verdict::Unresolved
-    }
+    ghost use Rattle.lf_report.specs.Verdicts.{is_guaranteed, is_impossible, is_possible, is_unresolved};
 
     /// Whether the label is on every sample.
     pub fn is_guaranteed(&self) -> bool
@@ -34,7 +23,7 @@ impl Verdict {
     {
         match self {
             Verdict::Guaranteed => true,
-            Verdict::Impossible | Verdict::Unresolved => false,
+            Verdict::Impossible | Verdict::Possible | Verdict::Unresolved => false,
         }
     }
 
@@ -44,17 +33,27 @@ impl Verdict {
     {
         match self {
             Verdict::Impossible => true,
-            Verdict::Guaranteed | Verdict::Unresolved => false,
+            Verdict::Guaranteed | Verdict::Possible | Verdict::Unresolved => false,
         }
     }
 
-    /// Whether nothing rules out either.
+    /// Whether worlds show a sample with the label and one without it.
+    pub fn is_possible(&self) -> bool
+        ensures { result ≡ is_possible self.now }
+    {
+        match self {
+            Verdict::Possible => true,
+            Verdict::Guaranteed | Verdict::Impossible | Verdict::Unresolved => false,
+        }
+    }
+
+    /// Whether nothing rules out either, and no trial shows both.
     pub fn is_unresolved(&self) -> bool
         ensures { result ≡ is_unresolved self.now }
     {
         match self {
             Verdict::Unresolved => true,
-            Verdict::Guaranteed | Verdict::Impossible => false,
+            Verdict::Guaranteed | Verdict::Impossible | Verdict::Possible => false,
         }
     }
 }

@@ -79,39 +79,69 @@ const NESTINGS: [Nesting; 6] = [
     },
 ];
 
-/// Of each of them: what is computed of samples drops the metric name, and scraped samples may have any other label or none.
-const REPORT: &str =
-    "r.yml:4:13: rule rec:0\n  __name__: impossible\n  *: unresolved O0 at r.yml:5:11\nfiles 1, refused 0, rules 1, problems 0, notes 0\nverdicts guaranteed 0, impossible 1, possible 0, unresolved 1, empty 0\n";
+/// Of each of them without verdicts.
+const TOTALS: &str = "files 1, refused 0, rules 1, problems 0, notes 0\n";
 
-/// A file with one rule, whose expression nests a selector in this way as deep as may be.
-fn deepest(alloc: Global, nesting: &Nesting) -> Result<String, AllocError> {
+/// And with them: what is computed of samples drops the metric name, and scraped samples may have any other label or none, as two worlds show.
+const VERDICTS: &str =
+    "r.yml:4:13: rule rec:0\n  __name__: impossible\n  *: possible\nfiles 1, refused 0, rules 1, problems 0, notes 0\nverdicts guaranteed 0, impossible 1, possible 1, unresolved 0, empty 0\n";
+
+/// A file with one rule, whose expression nests a selector in this way, so many levels deep.
+fn nested(alloc: Global, nesting: &Nesting, levels: usize) -> Result<String, AllocError> {
     let before = nesting.before.repeat(alloc, nesting.often)?;
     let behind = nesting.behind.repeat(alloc, nesting.often)?;
     let front = format!(in alloc; "{}{before}", nesting.opening)?;
     let back = format!(in alloc; "{behind}{}", nesting.closing)?;
-    let fronts = front.as_str().repeat(alloc, nesting.levels)?;
-    let backs = back.as_str().repeat(alloc, nesting.levels)?;
+    let fronts = front.as_str().repeat(alloc, levels)?;
+    let backs = back.as_str().repeat(alloc, levels)?;
     format!(in alloc;
         "groups:\n- name: g\n  rules:\n  - record: rec:0\n    expr: {fronts}a{backs}\n"
     )
 }
 
-/// Whether a whole run on a file of this text writes the report, and ends well.
-fn is_reported<R: Threads + Sync>(rt: &R, alloc: Global, text: &str) -> Result<bool, Memory> {
+/// Whether a whole run of these words on a file of this text writes this report, and ends well.
+fn is_reported<R: Threads + Sync>(
+    rt: &R,
+    alloc: Global,
+    words: &str,
+    text: &str,
+    report: &str,
+) -> Result<bool, Memory> {
     let mut files = MemFiles::new(alloc);
     files.add("r.yml", text.as_bytes())?;
     let mut out = MemSink::new(alloc, 1000, 1000)?;
-    let end = run(rt, alloc, "lint --labels r.yml", &mut files, &mut out)?;
-    Ok(end == Status::Clean && out.bytes() == REPORT.as_bytes())
+    let end = run(rt, alloc, words, &mut files, &mut out)?;
+    Ok(end == Status::Clean && out.bytes() == report.as_bytes())
 }
 
 #[test]
 fn the_deepest_files_are_linted_on_another_thread(rt: HostRuntime) -> Result<(), Fail> {
     let alloc = rt.alloc();
     for nesting in &NESTINGS {
-        let text = deepest(alloc, nesting)?;
+        let text = nested(alloc, nesting, nesting.levels)?;
         // The first of these is called on a new thread.
-        let (reported, ()) = join(&rt, || is_reported(&rt, alloc, text.as_str()), || ());
+        let (reported, ()) = join(
+            &rt,
+            || is_reported(&rt, alloc, "lint r.yml", text.as_str(), TOTALS),
+            || (),
+        );
+        let (opening, before, behind) = (nesting.opening, nesting.before, nesting.behind);
+        assert_eq!(rt; reported, Ok(true), "{opening}{before}{behind}");
+    }
+    Ok(())
+}
+
+/// The rows of all parts of an expression take its depth times its size, so the deepest files themselves are linted with verdicts by the end-to-end cases alone.
+#[test]
+fn deep_files_have_verdicts_on_another_thread(rt: HostRuntime) -> Result<(), Fail> {
+    let alloc = rt.alloc();
+    for nesting in &NESTINGS {
+        let text = nested(alloc, nesting, nesting.levels / 10)?;
+        let (reported, ()) = join(
+            &rt,
+            || is_reported(&rt, alloc, "lint --labels r.yml", text.as_str(), VERDICTS),
+            || (),
+        );
         let (opening, before, behind) = (nesting.opening, nesting.before, nesting.behind);
         assert_eq!(rt; reported, Ok(true), "{opening}{before}{behind}");
     }

@@ -79,7 +79,7 @@ fn verdicts_are_told_by_the_least_environment(rt: HostRuntime) -> Result<(), Fai
         (
             "  - record: b\n    expr: sum by (x) (a)\n  - record: a\n    expr: foo{x=\"1\"}\n",
             Status::Clean,
-            "r.yml:4:13: rule b\n  __name__: impossible\n  x: guaranteed\n  *: impossible\nr.yml:6:13: rule a\n  __name__: guaranteed\n  x: guaranteed\n  *: unresolved O0 at r.yml:7:11\nfiles 1, refused 0, rules 2, problems 0, notes 0\nverdicts guaranteed 3, impossible 2, possible 0, unresolved 1, empty 0\n",
+            "r.yml:4:13: rule b\n  __name__: impossible\n  x: guaranteed\n  *: impossible\nr.yml:6:13: rule a\n  __name__: guaranteed\n  x: guaranteed\n  *: possible\nfiles 1, refused 0, rules 2, problems 0, notes 0\nverdicts guaranteed 3, impossible 2, possible 1, unresolved 0, empty 0\n",
         ),
         // Two rules that read nothing but each other.
         (

@@ -2,15 +2,13 @@ use Rattle.std.proofs.Common.{◌≡◌, Err, List, [], ◌∷◌, subst}
 use Rattle.std.proofs.lemmas.Result.{IfOk-weaker}
 use Rattle.lf_base.specs.Answers.{Breach, IfAt, Only}
 use Rattle.lf_base.specs.declared.refusal.Refusal.{Refusal}
-use Rattle.lf_ast.specs.Rules.{RuleTree}
 use Rattle.lf_ast.specs.declared.rule.Template.{Template}
 use Rattle.lf_ast.specs.declared.verdict.Finding.{Finding as Row}
 use Rattle.lf_templates.specs.Templates.{Breaks, References}
 use Rattle.lf_templates.specs.declared.reference.Reference.{Reference}
-use Rattle.lf_checks.specs.AlertTemplate.{says_unreadable}
-use Rattle.lf_checks.specs.Files.{File}
-use Rattle.lf_checks.specs.Finding.{AlertTemplate, finding}
-use Rattle.lf_checks.specs.views.Shown.{Along, ListsAlone, all_shown}
+use Rattle.lf_checks.specs.declared.case.Case.{Case}
+use Rattle.lf_checks.specs.views.Cases.{row_of}
+use Rattle.lf_checks.specs.views.Shown.{Along, ListsAlone}
 use Rattle.lf_checks.specs.views.TemplateCases.{IsOfReference, IsOfTemplate}
 use Rattle.lf_checks.proofs.TemplateCases.{of_broken, of_sound}
 use Rattle.lf_checks.proofs.alert_template.of_template.Goals as goal
@@ -37,7 +35,7 @@ returns-in-Err-At c =
     let O : Refusal → Type 0 = λ r. Only {X = List Reference} (λ z. z) (References t.from t.text) (Err r) in
     let B : Refusal → Type 0 = λ r. Breach {X = List Reference} (λ z. z) (Breaks t.from t.text) (Err r) in
     let R : Refusal → Type 0 = λ r. IfAt r (Breaks t.from t.text) in
-    IfOk-weaker c.found_if.result (λ found. (files : List File) (rules : List RuleTree) → all_shown files rules found.items ≡ finding AlertTemplate c.in-Err-At.span says_unreadable ∷ [])
+    IfOk-weaker c.found_if.result (λ found. found.items ≡ row_of Case.UnreadableTemplate c.in-Err-At.span [] ∷ [])
     (λ found. ListsAlone (IsOfTemplate u row t) found.items)
     (λ found h. of_broken u row t c.in-Err-At.field-0-0 c.in-Err-At.span (subst R is c.in-Err-At.ensures.refused) (subst O is c.in-Err-At.ensures.only) (subst B is c.in-Err-At.ensures.breach) found.items h)
     c.found_if.ensures

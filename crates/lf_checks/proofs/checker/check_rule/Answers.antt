@@ -5,13 +5,16 @@ use Rattle.lf_checks.specs.AlertTemplate.{HaveSources}
 use Rattle.lf_checks.specs.Files.{StandIn}
 use Rattle.lf_checks.specs.Findings.{AreFindings}
 use Rattle.lf_checks.specs.views.Checked.{Checked}
-use Rattle.lf_checks.specs.views.Shown.{all_shown}
+use Rattle.lf_checks.specs.views.Shown.{AreNumbered, all_shown}
 use Rattle.lf_checks.proofs.checker.check_rule.Goals as goal
 
 pub rule-requires-clause-sources : goal.rule-requires-clause-sources
 rule-requires-clause-sources c = subst (λ (v : Checked). HaveSources (rule_trees v.rules)) (sym c.in_ok-checker.ensures) c.requires.sources
 
-pub returns : goal.returns
-returns c files stand =
+pub returns-clause-findings : goal.returns-clause-findings
+returns-clause-findings c files stand =
     subst (λ (v : Checked). IfOk c.rule.result (λ found. AreFindings files (rule_trees v.rules) v.env c.args.i (all_shown files (rule_trees v.rules) found))) c.in_ok-checker.ensures
-    (c.rule.ensures files (subst (λ (v : Checked). StandIn files (rule_trees v.rules)) (sym c.in_ok-checker.ensures) stand))
+    (c.rule.ensures.findings files (subst (λ (v : Checked). StandIn files (rule_trees v.rules)) (sym c.in_ok-checker.ensures) stand))
+
+pub returns-clause-numbers : goal.returns-clause-numbers
+returns-clause-numbers c files = subst (λ (v : Checked). IfOk c.rule.result (AreNumbered files (rule_trees v.rules) c.args.i)) c.in_ok-checker.ensures (c.rule.ensures.numbers files)

@@ -2,7 +2,7 @@ use Rattle.std.proofs.Common.{rules, ◌≡◌, ◌+◌, ℕ, Err, inl, refl, sy
 use Rattle.lf_ast.specs.Labels.{Bytes}
 use Rattle.lf_lint.specs.declared.status.Status.TheVariants.{Limit}
 use Rattle.lf_report.specs.Report.{IsReportOn}
-use Rattle.lf_report.specs.Founds.{content}
+use Rattle.lf_report.specs.Founds.{Holds, content}
 use Rattle.lf_lint.proofs.OneReport.{one_report}
 use Rattle.lf_lint.proofs.Fronts.{wrote_all, wrote_front}
 use Rattle.lf_lint.proofs.Truths.{wrote_truth}
@@ -37,21 +37,30 @@ returns-clause-one_report g c = one_report _
 
 pub returns-clause-clean : goal.returns-clause-clean
 returns-clause-clean g c = λ e.
-    let P : Bytes → Type 0 = λ bytes. IsReportOn c.in-Ok.asked bytes (content c.in-Ok-find.found) c.in-Ok-report_text.report in
-    wrote_all _ _ _ _ c.ending.result _ c.in-Ok.asked c.in-Ok-read_whole.bytes (content c.in-Ok-find.found) c.in-Ok-report_text.report c.as_bytes.result.now c.ending.ensures e (search rules)
-    (subst P c.as_slice-2.ensures c.in-Ok-report_text.ensures.text) (c.as_bytes.ensures.value ∙ c.as_str.ensures) (search rules)
+    let same : c.in-Ok-of.file.bytes ≡ c.in-Ok-read_whole.bytes = c.in-Ok-of.ensures.bytes ∙ c.as_slice.ensures in
+    let P : Bytes → Type 0 = λ bytes. IsReportOn c.in-Ok.asked bytes (content c.in-Ok-of.file.found) c.in-Ok-report_text.report in
+    let Q : Bytes → Type 0 = λ bytes. Holds bytes (content c.in-Ok-of.file.found) in
+    let holds = subst Q same c.in-Ok-of.ensures.holds in
+    wrote_all _ _ _ _ c.ending.result _ c.in-Ok.asked c.in-Ok-read_whole.bytes (content c.in-Ok-of.file.found) c.in-Ok-report_text.report c.as_bytes.result.now c.ending.ensures e (search rules)
+    (subst P same c.in-Ok-report_text.ensures.text) (c.as_bytes.ensures.value ∙ c.as_str.ensures) (search rules)
 
 pub returns-clause-problems : goal.returns-clause-problems
 returns-clause-problems g c = λ e.
-    let P : Bytes → Type 0 = λ bytes. IsReportOn c.in-Ok.asked bytes (content c.in-Ok-find.found) c.in-Ok-report_text.report in
-    wrote_all _ _ _ _ c.ending.result _ c.in-Ok.asked c.in-Ok-read_whole.bytes (content c.in-Ok-find.found) c.in-Ok-report_text.report c.as_bytes.result.now c.ending.ensures e (search rules)
-    (subst P c.as_slice-2.ensures c.in-Ok-report_text.ensures.text) (c.as_bytes.ensures.value ∙ c.as_str.ensures) (search rules)
+    let same : c.in-Ok-of.file.bytes ≡ c.in-Ok-read_whole.bytes = c.in-Ok-of.ensures.bytes ∙ c.as_slice.ensures in
+    let P : Bytes → Type 0 = λ bytes. IsReportOn c.in-Ok.asked bytes (content c.in-Ok-of.file.found) c.in-Ok-report_text.report in
+    let Q : Bytes → Type 0 = λ bytes. Holds bytes (content c.in-Ok-of.file.found) in
+    let holds = subst Q same c.in-Ok-of.ensures.holds in
+    wrote_all _ _ _ _ c.ending.result _ c.in-Ok.asked c.in-Ok-read_whole.bytes (content c.in-Ok-of.file.found) c.in-Ok-report_text.report c.as_bytes.result.now c.ending.ensures e (search rules)
+    (subst P same c.in-Ok-report_text.ensures.text) (c.as_bytes.ensures.value ∙ c.as_str.ensures) (search rules)
 
 pub returns-clause-headline : goal.returns-clause-headline
 returns-clause-headline g c = λ e.
-    let P : Bytes → Type 0 = λ bytes. IsReportOn c.in-Ok.asked bytes (content c.in-Ok-find.found) c.in-Ok-report_text.report in
-    wrote_truth _ _ _ _ _ e (wrote_all _ _ _ _ c.ending.result _ c.in-Ok.asked c.in-Ok-read_whole.bytes (content c.in-Ok-find.found) c.in-Ok-report_text.report c.as_bytes.result.now c.ending.ensures refl (search rules)
-    (subst P c.as_slice-2.ensures c.in-Ok-report_text.ensures.text) (c.as_bytes.ensures.value ∙ c.as_str.ensures) (search rules))
+    let same : c.in-Ok-of.file.bytes ≡ c.in-Ok-read_whole.bytes = c.in-Ok-of.ensures.bytes ∙ c.as_slice.ensures in
+    let P : Bytes → Type 0 = λ bytes. IsReportOn c.in-Ok.asked bytes (content c.in-Ok-of.file.found) c.in-Ok-report_text.report in
+    let Q : Bytes → Type 0 = λ bytes. Holds bytes (content c.in-Ok-of.file.found) in
+    let holds = subst Q same c.in-Ok-of.ensures.holds in
+    wrote_truth _ _ _ _ _ e (wrote_all _ _ _ _ c.ending.result _ c.in-Ok.asked c.in-Ok-read_whole.bytes (content c.in-Ok-of.file.found) c.in-Ok-report_text.report c.as_bytes.result.now c.ending.ensures refl (search rules)
+    (subst P same c.in-Ok-report_text.ensures.text) (c.as_bytes.ensures.value ∙ c.as_str.ensures) (search rules))
 
 pub returns-in-Err-Limit-clause-one_report : goal.returns-in-Err-Limit-clause-one_report
 returns-in-Err-Limit-clause-one_report g c = one_report _
@@ -67,8 +76,11 @@ returns-in-Err-TooLong-clause-limit g c = λ quantity count e.
 
 pub returns-in-Err-clause-write : goal.returns-in-Err-clause-write
 returns-in-Err-clause-write g c = λ e.
-    let P : Bytes → Type 0 = λ bytes. IsReportOn c.in-Ok.asked bytes (content c.in-Ok-find.found) c.in-Ok-report_text.report in (
+    let same : c.in-Ok-of.file.bytes ≡ c.in-Ok-read_whole.bytes = c.in-Ok-of.ensures.bytes ∙ c.as_slice.ensures in
+    let P : Bytes → Type 0 = λ bytes. IsReportOn c.in-Ok.asked bytes (content c.in-Ok-of.file.found) c.in-Ok-report_text.report in
+    let Q : Bytes → Type 0 = λ bytes. Holds bytes (content c.in-Ok-of.file.found) in
+    let holds = subst Q same c.in-Ok-of.ensures.holds in (
       search rules,
-      wrote_front _ _ _ _ c.in-Ok.asked c.in-Ok-read_whole.bytes (content c.in-Ok-find.found) c.in-Ok-report_text.report c.as_bytes.result.now (search rules) (subst P c.as_slice-2.ensures c.in-Ok-report_text.ensures.text)
+      wrote_front _ _ _ _ c.in-Ok.asked c.in-Ok-read_whole.bytes (content c.in-Ok-of.file.found) c.in-Ok-report_text.report c.as_bytes.result.now (search rules) (subst P same c.in-Ok-report_text.ensures.text)
           (c.as_bytes.ensures.value ∙ c.as_str.ensures) c.in-Err.ensures.part,
     )

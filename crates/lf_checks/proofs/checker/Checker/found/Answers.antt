@@ -1,4 +1,4 @@
-use Rattle.std.proofs.Common.{◌≡◌, ◌<◌, ◌++◌, ℕ, List, Option, None, Some, length, take, sym, ap, ◌∙◌, subst}
+use Rattle.std.proofs.Common.{◌≡◌, ◌<◌, ◌++◌, ℕ, List, Option, None, Some, length, take, get_or, sym, ap, ◌∙◌, subst}
 use Rattle.std.proofs.lemmas.Option.{get_or_from_slice_get, slice_get-get_or, slice_get-map, slice_get_within}
 use Rattle.std.proofs.lemmas.Result.{IfOk-weaker}
 use Rattle.std.specs.List.{Contains}
@@ -18,8 +18,8 @@ use Rattle.lf_checks.specs.Files.{File, StandIn}
 use Rattle.lf_checks.specs.Findings.{IsFinding}
 use Rattle.lf_checks.specs.views.Checked.{Checked}
 use Rattle.lf_checks.specs.views.Duplicates.{AreFirsts, IsFirstOf}
-use Rattle.lf_checks.specs.views.Shown.{Lists}
-use Rattle.lf_checks.proofs.Checking.{of_three}
+use Rattle.lf_checks.specs.views.Shown.{AreNumbered, Lists}
+use Rattle.lf_checks.proofs.Checking.{numbered_three, of_three}
 use Rattle.lf_checks.proofs.checker.Checker.found.Goals as goal
 
 listing_of : (u : Listing) (rules : List RuleTree) → u ≡ universe_of rules → IsListing u
@@ -46,8 +46,15 @@ pub of_parts-requires-clause-listing : goal.of_parts-requires-clause-listing
 of_parts-requires-clause-listing c =
     listing_of c.self.inside.universe.now (rule_trees c.self.inside.rules.now) (subst (λ (v : Checked). v.universe ≡ universe_of (rule_trees v.rules)) (sym c.self.view_is) c.requires.universe)
 
-pub returns : goal.returns
-returns c =
+-- the first of the rules before it that is the same, as it is kept
+first_of : (trees : List RuleTree) (firsts : List (Option ℕ)) (i : ℕ) (r : RuleTree) (x : Option ℕ) → slice_get trees i ≡ Some r → AreFirsts trees firsts → x ≡ get_or firsts i x → IsFirstOf (take i trees) r x
+first_of trees firsts i r x at are is =
+    let inside : i < length firsts = subst (λ (n : ℕ). i < n) (sym are.count) (slice_get_within trees i r at) in
+    let there : slice_get firsts i ≡ Some x = slice_get-get_or firsts i x inside ∙ ap Some (sym is) in
+    subst (λ (o : Option ℕ). IsFirstOf (take i trees) r o) (get_or_from_slice_get firsts i x None there) (are.each i r at)
+
+pub returns-clause-findings : goal.returns-clause-findings
+returns-clause-findings c =
     let u : Listing = c.self.inside.universe.now in
     let env = c.self.inside.env.now in
     let i = c.args.i in
@@ -58,12 +65,7 @@ returns c =
     let value : slice_get rules i ≡ Some rule = c.get-rule.ensures.value in
     let at : slice_get trees i ≡ Some r = slice_get-map rule_tree rules i ∙ ap (option_map rule_tree) value in
     let of_rules = subst (λ (v : Checked). v.universe ≡ universe_of (rule_trees v.rules)) (sym c.self.view_is) c.requires.universe in
-    let firsts : List (Option ℕ) = c.self.inside.firsts.items in
-    let x : Option ℕ = c.index.result.now in
-    let are : AreFirsts trees firsts = c.self.invariant.1 in
-    let inside : i < length firsts = subst (λ (n : ℕ). i < n) (sym are.count) (slice_get_within trees i r at) in
-    let there : slice_get firsts i ≡ Some x = slice_get-get_or firsts i x inside ∙ ap Some (sym c.index.ensures) in
-    let first = subst (λ (o : Option ℕ). IsFirstOf (take i trees) r o) (get_or_from_slice_get firsts i x None there) (are.each i r at) in
+    let first = first_of trees c.self.inside.firsts.items i r c.index.result.now at c.self.invariant.1 c.index.ensures in
     let two : List Row = c.in_ok-found.found.items in
     let same : List Row = c.in_ok-same.same.items in
     IfOk-weaker c.both-2.result (λ all. all.items ≡ two ++ same)
@@ -72,5 +74,23 @@ returns c =
     let here = subst (λ (v : Checked). StandIn files (rule_trees v.rules)) (sym c.self.view_is) stand in
     subst (λ (v : Checked). Lists files (rule_trees v.rules) (IsFinding files (rule_trees v.rules) v.env i) all.items) c.self.view_is
     (of_three files trees env i r at u of_rules c.in_ok-row.row c.in_ok-row.ensures.row c.in_ok-own.own.items c.in_ok-parts.parts.items same two all.items c.in_ok-own.ensures
-    (c.in_ok-parts.ensures trees c.self.invariant.0) (c.in_ok-same.ensures files trees i here at first) c.in_ok-found.ensures e))
+    (c.in_ok-parts.ensures trees c.self.invariant.0) (c.in_ok-same.ensures.findings files trees i here at first) c.in_ok-found.ensures e))
+    c.both-2.ensures
+
+pub returns-clause-numbers : goal.returns-clause-numbers
+returns-clause-numbers c files =
+    let i = c.args.i in
+    let rules : List Rule = c.self.inside.rules.now in
+    let trees : List RuleTree = rule_trees rules in
+    let rule : Rule = c.get-rule.result.now in
+    let r : RuleTree = rule_tree rule in
+    let at : slice_get trees i ≡ Some r = slice_get-map rule_tree rules i ∙ ap (option_map rule_tree) c.get-rule.ensures.value in
+    let first = first_of trees c.self.inside.firsts.items i r c.index.result.now at c.self.invariant.1 c.index.ensures in
+    let two : List Row = c.in_ok-found.found.items in
+    let same : List Row = c.in_ok-same.same.items in
+    IfOk-weaker c.both-2.result (λ all. all.items ≡ two ++ same) (λ all. AreNumbered files (rule_trees c.args.self.now.rules) i all.items)
+    (λ all e.
+    subst (λ (v : Checked). AreNumbered files (rule_trees v.rules) i all.items) c.self.view_is
+    (numbered_three files trees i c.in_ok-own.own.items c.in_ok-parts.parts.items same two all.items c.in_ok-own.ensures.numbers (c.in_ok-parts.ensures trees c.self.invariant.0).numbers
+    (c.in_ok-same.ensures.numbers files trees i at first) c.in_ok-found.ensures e))
     c.both-2.ensures

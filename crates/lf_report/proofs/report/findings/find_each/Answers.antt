@@ -1,6 +1,5 @@
-use Rattle.std.proofs.Common.{◌++◌, map, ap, ◌∙◌, arith}
-use Rattle.std.proofs.lemmas.List.{length-map}
-use Rattle.lf_ast.specs.Rules.{rule_tree, rule_trees}
+use Rattle.std.proofs.Common.{◌++◌, map, ap, ◌∙◌}
+use Rattle.lf_ast.specs.Rules.{rule_trees}
 use Rattle.lf_ast.specs.declared.verdict.Finding.{Finding as Row}
 use Rattle.lf_checks.specs.Findings.{severity_of}
 use Rattle.lf_checks.specs.views.Cases.{check_at}
@@ -28,7 +27,7 @@ loop-k-preserved c =
       spot = c.before_all-from.ensures;
       so_far =
           more_so_far asked bytes rules env k c.loop-k.lines c.push.new.self c.loop-k.graves.items c.push_graves.new.graves.items c.in_ok-text.text (all_shown files rules found) c.loop-k.invariant.so_far
-          (omega (arith, c.loop-k-test.true, c.requires.count, length-map c.args.checker.now.rules rule_tree)) (c.in_ok-found.ensures files stand)
+          (c.in_ok-found.ensures.findings files stand)
           (c.in_ok-text.ensures rules c.requires.names stand ∙ ap (λ l. lines_text (finding_lines asked.file bytes (all_shown files rules l))) c.as_slice-in-loop-k.ensures)
           c.in_ok-push.ensures.ok
           (c.in_ok-push_graves.ensures ∙ ap (λ l. c.loop-k.graves.items ++ map (λ (f : Row). is_grave (severity_of (check_at f.check))) l) c.as_slice-in-loop-k-2.ensures

@@ -1,7 +1,6 @@
-use Rattle.std.proofs.Common.{arith}
-use Rattle.lf_report.proofs.Universes.{set_length}
+use Rattle.std.proofs.lemmas.Result.{IfOk-weaker}
+use Rattle.lf_worlds.specs.views.Told.{rule_verdict}
 use Rattle.lf_report.proofs.report.judging.judge.Goals as goal
 
-pub verdict_on-requires-clause-some : goal.verdict_on-requires-clause-some
-verdict_on-requires-clause-some c =
-    omega (arith, set_length c.args.universe.now c.args.row.now c.requires c.loop-label.label (omega (arith, c.loop-label-test.true, c.labels-label-end.ensures.count)))
+pub returns : goal.returns
+returns c = λ r at. IfOk-weaker c.said_of.result _ _ (λ said says. (rule_verdict c.in_ok-verdicts.verdicts, c.in_ok-verdicts.ensures r at, says)) c.said_of.ensures

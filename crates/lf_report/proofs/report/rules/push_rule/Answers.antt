@@ -1,13 +1,12 @@
 use Rattle.std.proofs.Common.{◌≡◌, [], ◌∷◌, ◌++◌, ap, ◌∙◌}
 use Rattle.std.proofs.lemmas.Result.{on_ok_weaker}
-use Rattle.lf_ast.specs.Rules.{rule_tree}
 use Rattle.lf_report.specs.Report.{lines_text, place_text, rule_line, said_lines}
 use Rattle.lf_report.proofs.Appends.{appended_lines}
 use Rattle.lf_report.proofs.Spotted.{placed}
 use Rattle.lf_report.proofs.report.rules.push_rule.Goals as goal
 
 pub returns : goal.returns
-returns c = λ name bytes names rows shows at_name at_expr labels said row_is.
+returns c = λ name bytes names verdict shows at_name at_expr labels says.
     let r = c.args.rule.now in
     let report = c.args.report.now in
     let name_place = place_text name bytes r.name_span.start in
@@ -17,6 +16,5 @@ returns c = λ name bytes names rows shows at_name at_expr labels said row_is.
     let first : c.push_rule_line.new.report ≡ report ++ lines_text (rule_line name_place r.name ∷ []) =
     c.in_ok-push_rule_line.ensures ∙ ap (λ p. report ++ lines_text (rule_line p c.as_str-2.result.now ∷ [])) one ∙ ap (λ n. report ++ lines_text (rule_line name_place n ∷ [])) c.as_str-2.ensures in
     on_ok_weaker c.push_said.result
-    (λ e. appended_lines report (rule_line name_place r.name ∷ []) (said_lines expr_place names (rows (rule_tree r))) first
-    (e ∙ ap (λ p. c.push_rule_line.new.report ++ lines_text (said_lines p names c.args.row.now)) two ∙ ap (λ sets. c.push_rule_line.new.report ++ lines_text (said_lines expr_place names sets)) row_is))
-    (c.push_said.ensures names labels said)
+    (λ e. appended_lines report (rule_line name_place r.name ∷ []) (said_lines expr_place names verdict) first (e ∙ ap (λ p. c.push_rule_line.new.report ++ lines_text (said_lines p names verdict)) two))
+    (c.push_said.ensures names verdict labels says)
