@@ -9,7 +9,7 @@ use Rattle.lf_ast.specs.Rules.{RuleTree}
 use Rattle.lf_deps.specs.views.Search.{numbers_of}
 use Rattle.lf_deps.proofs.Numbered.{of_numbers}
 use Rattle.lf_semantics.specs.ClassRows.{Sets}
-use Rattle.lf_semantics.specs.Environments.{recorded_row}
+use Rattle.lf_semantics.specs.Environments.{recorded_row, rule_row}
 use Rattle.lf_trials.specs.Built.{fits}
 use Rattle.lf_trials.specs.Given.{Given, holds_texts}
 use Rattle.lf_trials.specs.Reached.{first_rule, is_marked, records}
@@ -31,6 +31,15 @@ module _ (p : Prepared) (known : IsPrepared p) where
       ap (λ (xs : List Sets). get_or xs k d) known.recorded
       ∙ get_or-map (recorded_row (universe_of p) (env_of p)) (trees_of p) k r d (slice_get_within (trees_of p) k r is)
       ∙ ap (recorded_row (universe_of p) (env_of p)) (get_or_from_slice_get (trees_of p) k r r is)
+
+  pub row_count : length p.rows.items ≡ length (trees_of p)
+  row_count = ap length known.rows ∙ length-map (trees_of p) (rule_row (universe_of p) (env_of p))
+
+  pub row_at : (k : ℕ) (r : RuleTree) (d : Sets) → slice_get (trees_of p) k ≡ Some r → get_or p.rows.items k d ≡ rule_row (universe_of p) (env_of p) r
+  row_at k r d is =
+      ap (λ (xs : List Sets). get_or xs k d) known.rows
+      ∙ get_or-map (rule_row (universe_of p) (env_of p)) (trees_of p) k r d (slice_get_within (trees_of p) k r is)
+      ∙ ap (rule_row (universe_of p) (env_of p)) (get_or_from_slice_get (trees_of p) k r r is)
 
   -- a number of a name is one of a rule
   pub number_within : (name : Bytes) (k : ℕ) → Contains (numbers_of (records name) 0 (trees_of p)) k → (r : RuleTree) × (slice_get (trees_of p) k ≡ Some r)

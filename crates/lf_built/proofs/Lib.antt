@@ -8,6 +8,7 @@ pub mod Fits
 pub mod KnownNames
 pub mod NamesRecorded
 pub mod OneMore
+pub mod PartSizes
 pub mod PartSpots
 pub mod Places
 pub mod RulesIndexed

@@ -40,7 +40,7 @@ fn unless_same(i: u32, k: u32, count: usize) -> usize
 }
 
 /// The sum. Want of memory where it doesn't fit.
-fn add(count: usize, more: usize) -> Result<usize, Memory>
+pub fn add(count: usize, more: usize) -> Result<usize, Memory>
     ensures { IfOk result (λ sum. sum ≡ count + more) }
 {
     match count.checked_add(more) {

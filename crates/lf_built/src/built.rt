@@ -22,7 +22,6 @@ use crate::work::{Pending, Work};
 use lf_base::{Memory, Seq};
 use lf_candidates::{LabelTexts, Trial, first_class_with};
 use lf_classes::Row;
-use lf_fix::rule_row;
 use std::alloc::Global;
 use std::marker::Model;
 
@@ -64,8 +63,7 @@ impl<'a> Built<'a> {
         requires reach { (r : RuleTree) → slice_get (trees_of prepared.now) i ≡ Some r → IsReach (trees_of prepared.now) r.expr reach.now }
         ensures { IfOk result (λ built. built ≡ record { universe = universe_of prepared.now; env = env_of prepared.now; rules = prepared.now.rules.now; number = i }) }
     {
-        let rule = prepared.rules.get(i as usize);
-        let row = rule_row(alloc, prepared.universe, prepared.env, rule)?;
+        let row = prepared.rule_row(i as usize).copy()?;
         let most = most_selectors(prepared.sources, reach, i)?;
         Ok(Built {
             prepared,

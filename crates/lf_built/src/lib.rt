@@ -17,6 +17,7 @@ mod recording;
 mod scalars;
 mod series;
 mod sides;
+mod sizes;
 mod spots;
 mod visiting;
 mod work;

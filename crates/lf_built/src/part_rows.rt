@@ -1,20 +1,18 @@
 //! The rows of all parts of an expression.
-ghost use Rattle.std.specs.Prelude.{◌≡◌, ◌<◌, ◌^◌, length, map, IfOk, false, slice_index_or, []};
+ghost use Rattle.std.specs.Prelude.{◌≡◌, ◌<◌, ◌^◌, length, IfOk, false, slice_index_or, []};
 ghost use Rattle.lf_ast.specs.Tree.{tree};
-ghost use Rattle.lf_ast.specs.views.Walks.{nodes, trees_at};
+ghost use Rattle.lf_ast.specs.views.Walks.{nodes};
 ghost use Rattle.lf_semantics.specs.Environments.{IsEnvironment};
-ghost use Rattle.lf_semantics.specs.RowTable.{row_of};
 ghost use Rattle.lf_forks.specs.views.ForkTests.{has_passing};
 ghost use Rattle.lf_forks.specs.views.Holding.{test_of};
-ghost use Rattle.lf_built.specs.views.Places.{size};
 ghost use Rattle.lf_built.specs.views.PartRows.{part_rows};
 
-use crate::scalars::is_scalar_part;
+use crate::scalars::scalar_parts;
+use crate::sizes::part_sizes;
 use lf_ast::Expr;
-use lf_ast::walk::nodes_of;
 use lf_base::Memory;
 use lf_classes::{Row, Universe};
-use lf_flow::{Env, flow};
+use lf_flow::Env;
 use lf_forks::Forks;
 use std::alloc::Global;
 use std::marker::Model;
@@ -49,22 +47,15 @@ impl PartRows {
         requires { IsEnvironment universe.now env.now }
         ensures { IfOk result (λ parts. parts ≡ part_rows universe.now env.now (has_passing (test_of forks.now)) (nodes (tree expr.now))) }
     {
-        let parts = nodes_of(alloc, expr)?;
-        let mut rows = Vec::new(alloc);
-        let mut sizes = Vec::new(alloc);
-        let mut scalars = Vec::new(alloc);
-        let mut held = Vec::new(alloc);
-        for part in &parts {
-            rows.push(flow(alloc, universe, env, *part)?)?;
-            sizes.push(count_parts(alloc, *part)?)?;
-            scalars.push(is_scalar_part(alloc, *part)?)?;
-            held.push(forks.is_in(alloc, *part)?)?;
-        }
+        let rows = lf_flow::part_rows(alloc, universe, env, expr)?;
+        let sizes = part_sizes(alloc, expr)?;
+        let scalars = scalar_parts(alloc, expr)?;
+        let forks = forks.are_in(alloc, expr)?;
         Ok(PartRows {
             rows,
             sizes,
             scalars,
-            forks: held,
+            forks,
         })
     }
 
@@ -107,12 +98,4 @@ impl PartRows {
     {
         self.forks[place]
     }
-}
-
-/// How many parts there are in an expression, with itself.
-fn count_parts(alloc: Global, expr: &Expr) -> Result<usize, Memory>
-    ensures { IfOk result (λ count. count ≡ size (tree expr.now)) }
-{
-    let parts = nodes_of(alloc, expr)?;
-    Ok(parts.len())
 }

@@ -3,7 +3,7 @@ ghost use Rattle.std.specs.Prelude.{◌≡◌, ◌+◌, ◌<◌, ◌^◌, List, 
 ghost use Rattle.lf_ast.specs.Rules.{RuleTree, rule_trees};
 ghost use Rattle.lf_ast.specs.views.Walks.{nodes};
 ghost use Rattle.lf_deps.specs.views.Sources.{IsSourcesOf};
-ghost use Rattle.lf_semantics.specs.Environments.{CoversRules, IsEnvironment, recorded_row as row_recorded};
+ghost use Rattle.lf_semantics.specs.Environments.{CoversRules, IsEnvironment, recorded_row as row_recorded, rule_row as row_of_rule};
 ghost use Rattle.lf_semantics.specs.Listing.{IsListing};
 ghost use Rattle.lf_semantics.specs.Parts.{is_scalar_part};
 ghost use Rattle.lf_semantics.specs.RowTable.{row_of};
@@ -23,12 +23,13 @@ use lf_base::{Memory, Seq, Text};
 use lf_candidates::label_names;
 use lf_classes::{Row, Universe};
 use lf_deps::Sources;
+use lf_fix::rule_row;
 use lf_flow::Env;
 use lf_forks::Forks;
 use std::alloc::Global;
 
-/// What the built worlds of rules share: the names of the labels, the rules of each recorded name, what is told of the parts of each rule's expression, and the row of what
-/// each rule stores.
+/// What the built worlds of rules share: the names of the labels, the rules of each recorded name, what is told of the parts of each rule's expression, and the rows of each
+/// rule and of what it stores.
 #[derive(Drop)]
 pub struct Prepared<'a> {
     pub(crate) universe: &'a Universe,
@@ -39,7 +40,15 @@ pub struct Prepared<'a> {
     pub(crate) names: Vec<Text>,
     pub(crate) recorders: Recorders,
     pub(crate) parts: Vec<PartRows>,
+    pub(crate) rows: Vec<Row>,
     pub(crate) recorded: Vec<Row>,
+}
+
+/// The rows of rules, and of what they store.
+#[derive(Drop)]
+struct RuleRows {
+    own: Vec<Row>,
+    recorded: Vec<Row>,
 }
 
 impl<'a> Prepared<'a> {
@@ -61,7 +70,7 @@ impl<'a> Prepared<'a> {
         let names = label_names(alloc, universe)?;
         let recorders = Recorders::of(alloc, rules)?;
         let parts = part_rows(alloc, universe, env, forks, rules.as_slice())?;
-        let recorded = recorded_rows(alloc, universe, env, rules.as_slice())?;
+        let RuleRows { own, recorded } = rule_rows(alloc, universe, env, rules.as_slice())?;
         Ok(Prepared {
             universe,
             env,
@@ -71,6 +80,7 @@ impl<'a> Prepared<'a> {
             names,
             recorders,
             parts,
+            rows: own,
             recorded,
         })
     }
@@ -114,6 +124,15 @@ impl<'a> Prepared<'a> {
         self.parts[spot.rule].is_fork(spot.place)
     }
 
+    /// The row of a rule.
+    pub fn rule_row(&self, rule: usize) -> &Row
+        requires known { IsPrepared self.now }
+        requires rule { rule < length self.now.rules.now }
+        ensures { (r : RuleTree) → slice_get (trees_of self.now) rule ≡ Some r → result.now ≡ row_of_rule (universe_of self.now) (env_of self.now) r }
+    {
+        &self.rows[rule]
+    }
+
     /// The row of what a rule stores.
     pub(crate) fn recorded_row(&self, rule: usize) -> &Row
         requires known { IsPrepared self.now }
@@ -142,20 +161,24 @@ fn part_rows(
     Ok(parts)
 }
 
-/// The row of what each rule stores.
-fn recorded_rows(
+/// The row of each rule, and of what each stores.
+fn rule_rows(
     alloc: Global,
     universe: &Universe,
     env: &Env,
     rules: &[Rule],
-) -> Result<Vec<Row>, Memory>
+) -> Result<RuleRows, Memory>
     requires listing { IsListing universe.now }
     requires env { IsEnvironment universe.now env.now }
-    ensures { IfOk result (λ rows. rows.items ≡ map (row_recorded universe.now env.now) (rule_trees rules.now)) }
+    ensures own { IfOk result (λ rows. rows.own.items ≡ map (row_of_rule universe.now env.now) (rule_trees rules.now)) }
+    ensures recorded { IfOk result (λ rows. rows.recorded.items ≡ map (row_recorded universe.now env.now) (rule_trees rules.now)) }
 {
-    let mut rows = Vec::new(alloc);
+    let mut own = Vec::new(alloc);
+    let mut recorded = Vec::new(alloc);
     for rule in rules {
-        rows.push(recorded_row(alloc, universe, env, rule)?)?;
+        let row = rule_row(alloc, universe, env, rule)?;
+        recorded.push(recorded_row(universe, &row, rule)?)?;
+        own.push(row)?;
     }
-    Ok(rows)
+    Ok(RuleRows { own, recorded })
 }

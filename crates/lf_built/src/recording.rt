@@ -1,32 +1,25 @@
 //! The rows of what rules record.
 ghost use Rattle.std.specs.Prelude.{◌≡◌, IfOk};
 ghost use Rattle.lf_ast.specs.Rules.{rule_tree};
+ghost use Rattle.lf_ast.specs.Selectors.{metric};
 ghost use Rattle.lf_semantics.specs.ClassRows.{HasShape};
-ghost use Rattle.lf_semantics.specs.Environments.{IsEnvironment, recorded_row as row_recorded, with_text, with_texts};
+ghost use Rattle.lf_semantics.specs.Environments.{with_text, with_texts};
 ghost use Rattle.lf_semantics.specs.Listing.{IsListing};
 
 use lf_ast::{Rule, RuleLabel};
 use lf_base::Memory;
 use lf_classes::{Row, Universe};
-use lf_fix::rule_row;
-use lf_flow::Env;
-use std::alloc::Global;
 
 /// The row of what a recording rule stores: that of the rule, with its name and its labels set.
-pub fn recorded_row(
-    alloc: Global,
-    universe: &Universe,
-    env: &Env,
-    rule: &Rule,
-) -> Result<Row, Memory>
+pub fn recorded_row(universe: &Universe, row: &Row, rule: &Rule) -> Result<Row, Memory>
     requires listing { IsListing universe.now }
-    requires env { IsEnvironment universe.now env.now }
-    ensures { IfOk result (λ row. row ≡ row_recorded universe.now env.now (rule_tree rule.now)) }
+    requires shape { HasShape universe.now row.now }
+    ensures { IfOk result (λ recorded. recorded ≡ with_texts universe.now (rule_tree rule.now).labels (with_text universe.now metric (rule_tree rule.now).name row.now)) }
 {
-    let mut row = rule_row(alloc, universe, env, rule)?;
-    set_text(universe, &mut row, "__name__", rule.name.as_str());
-    set_labels(universe, &mut row, rule.labels.as_slice());
-    Ok(row)
+    let mut recorded = row.copy()?;
+    set_text(universe, &mut recorded, "__name__", rule.name.as_str());
+    set_labels(universe, &mut recorded, rule.labels.as_slice());
+    Ok(recorded)
 }
 
 /// Leaves a label only one text. The empty row stays empty.

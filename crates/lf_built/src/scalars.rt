@@ -3,18 +3,20 @@ ghost use Rattle.std.specs.Prelude.{◌≡◌, ◌&&◌, ◌∷◌, [], Bool, le
 ghost use Rattle.lf_ast.specs.Functions.{function_named};
 ghost use Rattle.lf_ast.specs.Tree.{parts_of, tree};
 ghost use Rattle.lf_ast.specs.Types.{is_scalar};
+ghost use Rattle.lf_ast.specs.views.Walks.{nodes};
 ghost use Rattle.lf_semantics.specs.Parts.{given_by, is_scalar_part};
 
-use lf_ast::walk::{Fold, Parts, fold_up};
+use lf_ast::walk::{Fold, Parts};
 use lf_ast::{Expr, Function, is_scalar};
 use lf_base::Memory;
+use lf_parts::fold_parts;
 use std::alloc::Global;
 
-/// Whether an expression is a scalar.
-pub fn is_scalar_part(alloc: Global, expr: &Expr) -> Result<bool, Memory>
-    ensures { IfOk result (λ found. found ≡ is_scalar_part (tree expr.now)) }
+/// Whether an expression and each part in it are scalars, each before those of its own parts.
+pub fn scalar_parts(alloc: Global, expr: &Expr) -> Result<Vec<bool>, Memory>
+    ensures { IfOk result (λ found. found.items ≡ map is_scalar_part (nodes (tree expr.now))) }
 {
-    fold_up(alloc, &Scalars, expr)
+    fold_parts(alloc, &Scalars, expr)
 }
 
 /// Tells of an expression whether it is a scalar, by its parts.

@@ -6,11 +6,13 @@ use Rattle.std.specs.Str.{bytes_eq}
 use Rattle.std.proofs.lemmas.Bool.{cases_lt}
 use Rattle.std.proofs.lemmas.List.{get_or-map, length-map}
 use Rattle.std.proofs.lemmas.List.Elements.{Contains-get_or}
-use Rattle.lf_laws.proofs.Booleans.{and_true}
+use Rattle.lf_laws.proofs.Booleans.{and_false, and_true}
 use Rattle.lf_laws.proofs.Members.{other_false}
 use Rattle.lf_ast.specs.Labels.{Bytes}
 use Rattle.lf_semantics.specs.ClassRows.{HasShape, Sets, holds}
 use Rattle.lf_semantics.specs.Listing.{IsCandidate, IsFirstFree, Listing, class_texts, label_of, named_at}
+use Rattle.lf_semantics.specs.RowTable.{has_class}
+use Rattle.lf_semantics.proofs.EffectsRepresent.{has_class_at}
 use Rattle.lf_semantics.proofs.Places.{eqb-other}
 use Rattle.lf_classes.specs.Limits.{IsWithin}
 use Rattle.lf_trials.specs.Candidates.{candidates, candidates_in, candidates_in_both, candidates_of, chosen_from, first, first_free, has_presence}
@@ -52,11 +54,32 @@ module _ (test : Bytes → Bool) (chosen : ℕ → Bool) where
       skips (chosen a) (test text) text (chosen_from chosen (suc a) texts) refl (none 0 a (omega arith) (omega arith))
       ∙ none_found (suc a) texts (fewer a text texts (length texts) none)
 
+-- a row has a set for each label
+pub row_length : (u : Listing) (row : Sets) → HasShape u row → length row ≡ length u.named
+row_length u row shape = sym (length-map row length) ∙ ap length shape ∙ length-map u.named (λ (named : List Bytes). length named + 2)
+
 -- a row has a place for each class of a label
 pub set_length : (u : Listing) (row : Sets) → HasShape u row → (label : ℕ) → label < length u.named → length (get_or row label []) ≡ length (named_at u label) + 2
 set_length u row shape label h =
-    let many : length row ≡ length u.named = sym (length-map row length) ∙ ap length shape ∙ length-map u.named (λ (named : List Bytes). length named + 2) in
+    let many : length row ≡ length u.named = row_length u row shape in
     sym (get_or-map length row label [] 0 (omega (arith, h, many))) ∙ ap (λ (counts : List ℕ). get_or counts label 0) shape ∙ get_or-map (λ (named : List Bytes). length named + 2) u.named label [] 0 h
+
+-- a row without a text of a label
+pub no_text : (row : Sets) (label : ℕ) → ((u : Listing) → has_class u (λ class. not (eqb class 0)) (get_or row label []) ≡ false) → (class : ℕ) → (holds row label class && not (eqb class 0)) ≡ false
+no_text row label none class = by (holds row label class) refl (not (eqb class 0)) refl
+  where
+    any : Listing
+    any = record { names = []; named = [] }
+
+    by : (held : Bool) → holds row label class ≡ held → (some : Bool) → not (eqb class 0) ≡ some → (held && some) ≡ false
+    by true is true passes = absurd (true≢false (sym (has_class_at any (λ class. not (eqb class 0)) row label class is passes) ∙ none any))
+    by true is false passes = refl
+    by false is some passes = refl
+
+-- a row without the absence of a label
+pub no_absence : (row : Sets) (label : ℕ) → holds row label 0 ≡ false → (class : ℕ) → (holds row label class && eqb class 0) ≡ false
+no_absence row label none zero = and_true (holds row label 0) ∙ none
+no_absence row label none (suc k) = ap (λ (b : Bool). holds row label (suc k) && b) (eqb-other (suc k) 0 (λ e. absurd (omega (arith, e)))) ∙ and_false (holds row label (suc k))
 
 -- all texts are chosen
 pub all_chosen : (k : ℕ) (texts : List Bytes) → chosen_from (λ class. true) k texts ≡ texts

@@ -1,8 +1,8 @@
 //! Candidates: the texts that stand for classes, and the name that stands for `*`.
-ghost use Rattle.std.specs.Prelude.{◌≡◌, ◌<◌, ◌++◌, cond, codes, decimal, eqb, length, not, IfOk};
+ghost use Rattle.std.specs.Prelude.{◌≡◌, ◌<◌, ◌++◌, ◌&&◌, [], ℕ, cond, codes, decimal, eqb, false, length, not, slice_index_or, IfOk};
 ghost use Rattle.std.specs.List.{find};
 ghost use Rattle.std.specs.Option.{option_map};
-ghost use Rattle.lf_semantics.specs.ClassRows.{HasShape};
+ghost use Rattle.lf_semantics.specs.ClassRows.{HasShape, holds};
 ghost use Rattle.lf_classes.specs.Limits.{IsWithin};
 ghost use Rattle.lf_trials.specs.Candidates.{candidates_in, candidates_in_both, first, has_presence, other_name};
 ghost use Rattle.lf_candidates.specs.views.ClassTexts.{IsClass, name_at, text_at};
@@ -68,6 +68,34 @@ pub fn first_common_class(universe: &Universe, row: &Row, other: &Row, label: u3
 
 /// The class of a label's first candidate in a row that has a presence: the label is there, or it is absent.
 pub fn first_class_with(universe: &Universe, row: &Row, label: u32, presence: bool) -> Option<u32>
+    requires universe { IsWithin universe.now }
+    requires label { label < length universe.now.named }
+    requires shape { HasShape universe.now row.now }
+    ensures class { IsClass universe.now label result }
+    ensures candidate { option_map (text_at universe.now label) result ≡ find (has_presence presence) (candidates_in universe.now row.now (name_at universe.now label)) }
+{
+    if may_have(row, label, presence) {
+        first_found(universe, row, label, presence)
+    } else {
+        None
+    }
+}
+
+/// Whether a row leaves a label a presence, told of all classes at once: many labels have thousands.
+fn may_have(row: &Row, label: u32, presence: bool) -> bool
+    requires label { label < length row.now }
+    requires classes { 0 < length (slice_index_or row.now label []) }
+    ensures { result ≡ false → (class : ℕ) → (holds row.now label class && cond presence (not (eqb class 0)) (eqb class 0)) ≡ false }
+{
+    if presence {
+        row.has_text(label)
+    } else {
+        row.has(label, 0)
+    }
+}
+
+/// The class of the first candidate of a label in a row that has a presence, found class by class.
+fn first_found(universe: &Universe, row: &Row, label: u32, presence: bool) -> Option<u32>
     requires universe { IsWithin universe.now }
     requires label { label < length universe.now.named }
     requires shape { HasShape universe.now row.now }

@@ -9,6 +9,7 @@ pub mod Layered
 pub mod MadeRows
 pub mod MatcherSets
 pub mod Narrowed
+pub mod PartRows
 pub mod PassingRows
 pub mod PatternSets
 pub mod Selected

@@ -21,6 +21,7 @@ use lf_ast::{
 };
 use lf_base::{Memory, Text};
 use lf_classes::{Row, Universe};
+use lf_parts::Copied;
 use std::alloc::Global;
 
 /// The row of an expression, and the type that its form tells. With no row it is that of the one sample without labels, which is made only where it is looked at.
@@ -39,6 +40,19 @@ impl Given {
             Some(row) => Ok(row),
             None => bare(alloc, universe),
         }
+    }
+}
+
+impl Copied for Given {
+    fn copied(&self, _alloc: Global) -> Result<Given, Memory> {
+        let row = match &self.row {
+            Some(row) => Some(row.copy()?),
+            None => None,
+        };
+        Ok(Given {
+            row,
+            form: self.form,
+        })
     }
 }
 

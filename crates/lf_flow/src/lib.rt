@@ -13,11 +13,13 @@ mod matching;
 mod narrowing;
 mod operating;
 mod operators;
+mod parts;
 mod preparing;
 mod replacing;
 mod rows;
 mod selecting;
 
 pub use env::Env;
+pub use parts::part_rows;
 pub use preparing::prepare;
 pub use rows::flow;

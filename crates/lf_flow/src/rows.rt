@@ -55,9 +55,9 @@ fn row(alloc: Global, universe: &Universe, env: &Env, expr: &Expr) -> Result<Row
 
 /// Makes the row of an expression of those of its parts, in an environment. Of the arguments of a call only the operand is looked at.
 #[derive(Drop)]
-struct Rows<'a> {
-    universe: &'a Universe,
-    env: &'a Env,
+pub(crate) struct Rows<'a> {
+    pub(crate) universe: &'a Universe,
+    pub(crate) env: &'a Env,
 }
 
 impl<'a> Model for Rows<'a> {

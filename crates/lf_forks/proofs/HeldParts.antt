@@ -1,5 +1,5 @@
 -- What is told of an expression is told of its parts.
-use Rattle.std.proofs.Common.{◌≡◌, Bool, true, false, not, ◌&&◌, ◌||◌, cond, List, map, Option, Some, None, refl, sym, ap}
+use Rattle.std.proofs.Common.{◌≡◌, Bool, true, false, not, ◌&&◌, ◌||◌, cond, List, [], ◌∷◌, map, Option, Some, None, refl, sym, ap}
 use Rattle.std.specs.List.{list_any}
 use Rattle.lf_base.specs.declared.place.Span.{Span}
 use Rattle.lf_ast.specs.Functions.{function_named}
@@ -65,3 +65,8 @@ module _ (s : Forks) where
 
   pub of_aggregation : (op : Agg) (grouping : Grouping) (args : Trees) (span : Span) → called false (map (holds s) (list args)) ≡ holds s (Aggregate op grouping args span)
   of_aggregation op grouping args span = ap (told false) (of_arguments args)
+
+  -- of several expressions
+  pub found_in_each : (es : List Tree) → map (λ (h : Held). h.found) (map (holds s) es) ≡ map (has_passing (test_of s)) es
+  found_in_each [] = refl
+  found_in_each (e ∷ es) = ap (λ (found : List Bool). has_passing (test_of s) e ∷ found) (found_in_each es)

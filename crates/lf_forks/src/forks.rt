@@ -1,13 +1,14 @@
 //! Which selectors are forks, or are made by one.
-ghost use Rattle.std.specs.Prelude.{◌≡◌, Some, IfOk};
+ghost use Rattle.std.specs.Prelude.{◌≡◌, Some, map, IfOk};
 ghost use Rattle.std.specs.Option.{option_copied};
 ghost use Rattle.lf_ast.specs.Rules.{rule_trees};
 ghost use Rattle.lf_ast.specs.Tree.{tree};
+ghost use Rattle.lf_ast.specs.views.Walks.{nodes};
 ghost use Rattle.lf_deps.specs.views.Sources.{IsSourcesOf};
 ghost use Rattle.lf_forks.specs.views.ForkTests.{TellsSelectors, has_passing};
 ghost use Rattle.lf_forks.specs.views.Holding.{test_of};
 
-use crate::holding::holds;
+use crate::holding::{hold_each, holds};
 use crate::own::own_forks;
 use crate::uses::uses_of;
 use lf_ast::{Expr, Rule};
@@ -58,6 +59,13 @@ impl Forks {
         ensures { IfOk result (λ found. found ≡ has_passing (test_of self.now) (tree expr.now)) }
     {
         holds(alloc, self, expr)
+    }
+
+    /// The same of an expression and of all parts in it, in the order of the text, each before those of its own parts. Each part is looked at once.
+    pub fn are_in(&self, alloc: Global, expr: &Expr) -> Result<Vec<bool>, Memory>
+        ensures { IfOk result (λ found. found.items ≡ map (has_passing (test_of self.now)) (nodes (tree expr.now))) }
+    {
+        hold_each(alloc, self, expr)
     }
 
     /// Whether a selector is to be found, by the name that it says.

@@ -4,6 +4,7 @@ ghost use Rattle.std.specs.List.{list_any};
 ghost use Rattle.lf_ast.specs.Functions.{function_named};
 ghost use Rattle.lf_ast.specs.Tree.{parts_of, tree};
 ghost use Rattle.lf_ast.specs.Types.{is_scalar};
+ghost use Rattle.lf_ast.specs.views.Walks.{nodes};
 ghost use Rattle.lf_semantics.specs.Parts.{given_by};
 ghost use Rattle.lf_trials.specs.Forks.{is_or};
 ghost use Rattle.lf_forks.specs.views.ForkTests.{has_passing};
@@ -13,6 +14,7 @@ use crate::forks::Forks;
 use lf_ast::walk::{Fold, Parts, fold_up};
 use lf_ast::{Expr, Function, Op, is_scalar, selected_name};
 use lf_base::Memory;
+use lf_parts::{Copied, fold_parts};
 use std::alloc::Global;
 use std::marker::Model;
 
@@ -24,11 +26,36 @@ pub(crate) fn holds(alloc: Global, forks: &Forks, expr: &Expr) -> Result<bool, M
     Ok(held.found)
 }
 
+/// For an expression and all parts in it, each before those of its own parts, whether an `or` or a selector that is to be found stands in it.
+pub(crate) fn hold_each(alloc: Global, forks: &Forks, expr: &Expr) -> Result<Vec<bool>, Memory>
+    ensures { IfOk result (λ found. found.items ≡ map (has_passing (test_of forks.now)) (nodes (tree expr.now))) }
+{
+    let held = fold_parts(alloc, &Holding { forks }, expr)?;
+    are_found(alloc, held.as_slice())
+}
+
+/// Whether something is found, of each of these.
+fn are_found(alloc: Global, held: &[Held]) -> Result<Vec<bool>, Memory>
+    ensures { IfOk result (λ found. found.items ≡ map (λ h. h.found) held.now) }
+{
+    let found: Vec<bool> = held.iter().map(|held| held.found).collect(alloc)?;
+    Ok(found)
+}
+
 /// What is told of an expression: whether it is a scalar, and whether something is found.
 #[derive(Drop)]
 pub(crate) struct Held {
     pub(crate) scalar: bool,
     pub(crate) found: bool,
+}
+
+impl Copied for Held {
+    fn copied(&self, _alloc: Global) -> Result<Held, Memory> {
+        Ok(Held {
+            scalar: self.scalar,
+            found: self.found,
+        })
+    }
 }
 
 /// Tells of an expression what is told of its parts.

@@ -1,7 +1,9 @@
 -- What is prepared for rules is so for the same rules.
-use Rattle.std.proofs.Common.{◌≡◌, ◌<◌, ℕ, List, length, sym, ap, ◌∙◌, subst}
-use Rattle.lf_ast.specs.Rules.{rule_trees}
+use Rattle.std.proofs.Common.{◌≡◌, ◌<◌, ℕ, List, Some, length, sym, ap, ◌∙◌, subst, slice_get}
+use Rattle.lf_ast.specs.Rules.{RuleTree, rule_trees}
 use Rattle.lf_ast.specs.declared.rule.Rule.{Rule}
+use Rattle.lf_semantics.specs.ClassRows.{Sets}
+use Rattle.lf_semantics.specs.Environments.{rule_row}
 use Rattle.lf_semantics.specs.Listing.{Listing}
 use Rattle.lf_semantics.specs.RowTable.{Environment}
 use Rattle.lf_forks.specs.views.ForkTests.{TellsSelectors}
@@ -19,7 +21,13 @@ module _ (u : Listing) (env : Environment) (rules : List Rule) (forks : Forks) (
   tells_selectors tells =
       subst (λ (rs : List Rule). TellsSelectors (rule_trees rs) (test_of p.forks.now)) (sym is.rules) (subst (λ (f : Forks). TellsSelectors (rule_trees rules) (test_of f)) (sym is.forks) tells)
 
+  pub own_row : (r : RuleTree) (row : Sets) → row ≡ rule_row (universe_of p) (env_of p) r → row ≡ rule_row u env r
+  own_row r row same = same ∙ ap (λ (x : Listing). rule_row x (env_of p) r) is.universe ∙ ap (λ (x : Environment). rule_row u x r) is.env
+
   module _ (i : ℕ) where
+    pub own_tree : (r : RuleTree) → slice_get (rule_trees rules) i ≡ Some r → slice_get (trees_of p) i ≡ Some r
+    own_tree r at = subst (λ (rs : List Rule). slice_get (rule_trees rs) i ≡ Some r) (sym is.rules) at
+
     pub is_within : i < length rules → i < length p.rules.now
     is_within less = subst (λ (rs : List Rule). i < length rs) (sym is.rules) less
 

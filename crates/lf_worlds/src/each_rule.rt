@@ -2,7 +2,8 @@
 ghost use Rattle.std.specs.Prelude.{◌≡◌, ◌<◌, List, length, map, slice_get, IfOk, Some};
 ghost use Rattle.lf_ast.specs.Rules.{RuleTree, rule_trees};
 ghost use Rattle.lf_semantics.specs.ClassRows.{HasShape};
-ghost use Rattle.lf_semantics.specs.Environments.{CoversRules, IsLeast};
+ghost use Rattle.lf_semantics.specs.Environments.{CoversRules, IsEnvironment, IsLeast, rule_row};
+ghost use Rattle.lf_semantics.specs.Listing.{IsListing};
 ghost use Rattle.lf_trials.specs.Candidates.{labels_in};
 ghost use Rattle.lf_trials.specs.Verdicts.{AreLabelVerdicts, IsRuleVerdict};
 ghost use Rattle.lf_worlds.specs.views.Readings.{AreReadingsOf};
@@ -20,7 +21,6 @@ use lf_built::{Built, Prepared};
 use lf_candidates::label_names;
 use lf_classes::{Row, Universe};
 use lf_deps::reach_of;
-use lf_fix::rule_row;
 use lf_flow::Env;
 use std::alloc::Global;
 use std::marker::Model;
@@ -73,6 +73,7 @@ impl<'a> Trials<'a> {
     {
         // For what its contract says of the universe.
         let _labels = universe.labels();
+        let names = label_names(alloc, universe)?;
         let prepared = Prepared::of(
             alloc,
             universe,
@@ -81,7 +82,6 @@ impl<'a> Trials<'a> {
             &readings.sources,
             &readings.forks,
         )?;
-        let names = label_names(alloc, universe)?;
         Ok(Trials {
             universe,
             env,
@@ -98,13 +98,23 @@ impl<'a> Trials<'a> {
         requires { i < length self.now.rules }
         ensures { (r : RuleTree) → slice_get (rule_trees self.now.rules) i ≡ Some r → IfOk result (λ told. IsRuleVerdict self.now.universe self.now.env (rule_trees self.now.rules) i r (rule_verdict told)) }
     {
-        let row = rule_row(alloc, self.universe, self.env, self.rules.get(i as usize))?;
+        let row = self.row(i);
         if row.is_empty() {
             Ok(RuleVerdicts::Empty)
         } else {
-            let of = self.labels(alloc, &row, i)?;
+            let of = self.labels(alloc, row, i)?;
             Ok(RuleVerdicts::Labels { of })
         }
+    }
+
+    /// The row of the rule with this number. Beside it stands what is known of every universe and environment of trials.
+    fn row(&self, i: u32) -> &Row
+        requires { i < length self.now.rules }
+        ensures listing { IsListing self.now.universe }
+        ensures environment { IsEnvironment self.now.universe self.now.env }
+        ensures row { (r : RuleTree) → slice_get (rule_trees self.now.rules) i ≡ Some r → result.now ≡ rule_row self.now.universe self.now.env r }
+    {
+        self.prepared.rule_row(i as usize)
     }
 
     /// The verdicts on the labels by a row of a rule that isn't empty. Trials are made only where the row leaves both presences of some label.

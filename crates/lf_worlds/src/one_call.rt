@@ -3,6 +3,7 @@ ghost use Rattle.std.specs.Prelude.{◌≡◌, ◌<◌, length, slice_get, IfOk,
 ghost use Rattle.lf_ast.specs.Rules.{RuleTree, rule_trees};
 ghost use Rattle.lf_semantics.specs.Environments.{CoversRules, IsLeast};
 ghost use Rattle.lf_trials.specs.Verdicts.{IsRuleVerdict};
+ghost use Rattle.lf_worlds.specs.views.Readings.{AreReadingsOf};
 ghost use Rattle.lf_worlds.specs.views.Told.{rule_verdict};
 
 use crate::each_rule::Trials;
@@ -28,6 +29,24 @@ pub fn trials(
     ensures { (r : RuleTree) → slice_get (rule_trees rules.now) i ≡ Some r → IfOk result (λ told. IsRuleVerdict universe.now env.now (rule_trees rules.now) i r (rule_verdict told)) }
 {
     let readings = Readings::of(alloc, rules)?;
-    let trials = Trials::new(alloc, universe, env, rules, &readings)?;
+    tried(alloc, universe, env, rules, &readings, i)
+}
+
+/// The same, by what the rules read.
+fn tried(
+    alloc: Global,
+    universe: &Universe,
+    env: &Env,
+    rules: &Seq<Rule>,
+    readings: &Readings,
+    i: u32,
+) -> Result<RuleVerdicts, Memory>
+    requires covers { CoversRules universe.now (rule_trees rules.now) }
+    requires least { IsLeast universe.now (rule_trees rules.now) env.now }
+    requires readings { AreReadingsOf (rule_trees rules.now) readings.now }
+    requires rule { i < length rules.now }
+    ensures { (r : RuleTree) → slice_get (rule_trees rules.now) i ≡ Some r → IfOk result (λ told. IsRuleVerdict universe.now env.now (rule_trees rules.now) i r (rule_verdict told)) }
+{
+    let trials = Trials::new(alloc, universe, env, rules, readings)?;
     trials.rule(alloc, i)
 }

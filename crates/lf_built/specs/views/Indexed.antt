@@ -6,7 +6,7 @@ use Rattle.lf_ast.specs.declared.rule.Rule.{Rule}
 use Rattle.lf_ast.specs.views.Walks.{nodes}
 use Rattle.lf_classes.specs.Limits.{IsWithin}
 use Rattle.lf_deps.specs.views.Sources.{IsSourcesOf}
-use Rattle.lf_semantics.specs.Environments.{CoversRules, IsEnvironment, recorded_row}
+use Rattle.lf_semantics.specs.Environments.{CoversRules, IsEnvironment, recorded_row, rule_row}
 use Rattle.lf_semantics.specs.Listing.{Listing}
 use Rattle.lf_semantics.specs.RowTable.{Environment}
 use Rattle.lf_trials.specs.Candidates.{labels_in}
@@ -40,6 +40,7 @@ pub record IsPrepared (p : Prepared) : Type 0 where
   pub names : p.names.items ≡ labels_in (universe_of p)
   pub recorders : AreRecordersOf (trees_of p) p.recorders
   pub parts : p.parts.items ≡ map (λ (r : RuleTree). part_rows (universe_of p) (env_of p) (forks_of p) (nodes r.expr)) (trees_of p)
+  pub rows : p.rows.items ≡ map (rule_row (universe_of p) (env_of p)) (trees_of p)
   pub recorded : p.recorded.items ≡ map (recorded_row (universe_of p) (env_of p)) (trees_of p)
 
 -- it is prepared for these

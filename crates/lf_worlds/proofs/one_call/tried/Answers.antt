@@ -4,7 +4,7 @@ use Rattle.lf_ast.specs.Rules.{rule_trees}
 use Rattle.lf_trials.specs.Verdicts.{IsRuleVerdict}
 use Rattle.lf_worlds.specs.views.Told.{rule_verdict}
 use Rattle.lf_worlds.specs.views.Tried.{Tried}
-use Rattle.lf_worlds.proofs.one_call.trials.Goals as goal
+use Rattle.lf_worlds.proofs.one_call.tried.Goals as goal
 
 pub returns : goal.returns
 returns c = λ r at.

@@ -1,0 +1,31 @@
+use Rattle.std.proofs.Common.{List, map, refl, ap, ◌∙◌}
+use Rattle.lf_ast.specs.Rules.{RuleTree, rule_trees}
+use Rattle.lf_ast.specs.declared.rule.Rule.{Rule}
+use Rattle.lf_ast.specs.views.Walks.{nodes}
+use Rattle.lf_semantics.specs.Environments.{recorded_row, rule_row}
+use Rattle.lf_forks.specs.views.ForkTests.{has_passing}
+use Rattle.lf_forks.specs.views.Holding.{test_of}
+use Rattle.lf_built.specs.views.PartRows.{part_rows}
+use Rattle.lf_built.proofs.prepared.Prepared.of.Goals as goal
+
+pub returns : goal.returns
+returns c =
+    let u = c.args.universe.now in
+    let env = c.args.env.now in
+    record {
+      universe = refl;
+      env = refl;
+      rules = refl;
+      forks = refl;
+      prepared = record {
+        within = c.labels-labels.ensures.within;
+        environment = c.requires.environment;
+        covers = c.requires.covers;
+        sources = c.requires.sources;
+        names = c.in_ok-names.ensures;
+        recorders = c.in_ok-recorders.ensures;
+        parts = c.in_ok-parts.ensures ∙ ap (λ (rs : List Rule). map (λ (r : RuleTree). part_rows u env (has_passing (test_of c.args.forks.now)) (nodes r.expr)) (rule_trees rs)) c.as_slice.ensures;
+        rows = c.in_ok-own.ensures.own ∙ ap (λ (rs : List Rule). map (rule_row u env) (rule_trees rs)) c.as_slice-2.ensures;
+        recorded = c.in_ok-own.ensures.recorded ∙ ap (λ (rs : List Rule). map (recorded_row u env) (rule_trees rs)) c.as_slice-2.ensures;
+      };
+    }

@@ -1,0 +1,59 @@
+//! The rows of all parts of an expression.
+ghost use Rattle.std.specs.Prelude.{◌≡◌, map, IfOk};
+ghost use Rattle.lf_ast.specs.Tree.{tree};
+ghost use Rattle.lf_ast.specs.views.Walks.{nodes};
+ghost use Rattle.lf_semantics.specs.Environments.{IsEnvironment};
+ghost use Rattle.lf_semantics.specs.Listing.{IsListing};
+ghost use Rattle.lf_semantics.specs.RowTable.{row_of};
+ghost use Rattle.lf_flow.specs.views.Kept.{given_of, made_row};
+
+use crate::Env;
+use crate::given::Given;
+use crate::rows::Rows;
+use lf_ast::Expr;
+use lf_base::Memory;
+use lf_classes::{Row, Universe};
+use lf_parts::fold_parts;
+use std::alloc::Global;
+
+/// The rows of an expression and of all parts in it, in the order of the text, each before those of its own parts. Each is made once, of those of its parts: this takes as
+/// long as there are parts, while `flow` at each of them would take that squared.
+pub fn part_rows(
+    alloc: Global,
+    universe: &Universe,
+    env: &Env,
+    expr: &Expr,
+) -> Result<Vec<Row>, Memory>
+    requires env { IsEnvironment universe.now env.now }
+    ensures { IfOk result (λ rows. rows.items ≡ map (row_of universe.now env.now) (nodes (tree expr.now))) }
+{
+    let _labels = universe.labels();
+    let parts = given_parts(alloc, universe, env, expr)?;
+    into_rows(alloc, universe, parts)
+}
+
+/// What is told of an expression and of all parts in it, of a universe that is known to be one.
+fn given_parts(
+    alloc: Global,
+    universe: &Universe,
+    env: &Env,
+    expr: &Expr,
+) -> Result<Vec<Given>, Memory>
+    requires listing { IsListing universe.now }
+    requires env { IsEnvironment universe.now env.now }
+    ensures { IfOk result (λ parts. parts.items ≡ map (given_of universe.now env.now) (nodes (tree expr.now))) }
+{
+    fold_parts(alloc, &Rows { universe, env }, expr)
+}
+
+/// The rows of these.
+fn into_rows(alloc: Global, universe: &Universe, mut parts: Vec<Given>) -> Result<Vec<Row>, Memory>
+    ensures { IfOk result (λ rows. rows.items ≡ map (λ (given : Given). made_row universe.now given.row) parts.items) }
+{
+    let mut rows = Vec::new(alloc);
+    while let Some(part) = parts.pop() {
+        rows.push(part.into_row(alloc, universe)?)?;
+    }
+    rows.reverse();
+    Ok(rows)
+}

@@ -1,0 +1,8 @@
+//! What is told of all parts of an expression, each once, in a time linear in their number.
+#![tactic(auto)]
+
+mod choosing;
+mod counting;
+mod folding;
+
+pub use folding::{Copied, fold_parts};
