@@ -9,11 +9,11 @@ use Rattle.lf_ast.specs.Rules.{RuleTree}
 use Rattle.lf_ast.specs.declared.verdict.Finding.{Finding as Row}
 use Rattle.lf_semantics.specs.ClassRows.{Sets}
 use Rattle.lf_semantics.specs.Environments.{rule_row}
-use Rattle.lf_semantics.specs.Listing.{Listing, universe_of}
+use Rattle.lf_semantics.specs.Listing.{Listing}
 use Rattle.lf_semantics.specs.RowTable.{Environment}
 use Rattle.lf_checks.specs.Files.{File, IsNamedAt, place_in}
 use Rattle.lf_checks.specs.Finding.{Check, AlertComparison, AlertTemplate, RuleDuplicate, RuleDependency, PromqlRegexp, MatchLabel, ExprEmpty, ExprType, RuleLabel, Finding, finding}
-use Rattle.lf_checks.specs.Findings.{AreFindings, Finds, IsFinding}
+use Rattle.lf_checks.specs.Findings.{AreFindingsIn, FindsIn, IsFindingIn}
 use Rattle.lf_checks.specs.RuleDuplicate as rule_duplicate
 use Rattle.lf_checks.specs.views.Checked.{IsOfParts, IsOfRule}
 use Rattle.lf_checks.specs.views.InOrder.{IsInOrder, OneDuplicate}
@@ -21,11 +21,11 @@ use Rattle.lf_checks.specs.Numbers.{HasNumbers}
 use Rattle.lf_checks.specs.views.Shown.{AreNumbered, Lists, ListsAlone, NumberedAlone, all_shown, shown}
 use Rattle.lf_checks.proofs.Lists.{lists_both, lists_same, numbered_both}
 
-module _ (files : List File) (rules : List RuleTree) (env : Environment) (i : ℕ) (r : RuleTree) (at : slice_get rules i ≡ Some r) where
+module _ (files : List File) (u : Listing) (rules : List RuleTree) (env : Environment) (i : ℕ) (r : RuleTree) (at : slice_get rules i ≡ Some r) where
   abbrev Together : Finding → Type 0
-  Together f = (IsOfRule (universe_of rules) (rule_row (universe_of rules) env r) r f ⊎ IsOfParts (universe_of rules) env rules r f) ⊎ rule_duplicate.IsFound files rules i r f
+  Together f = (IsOfRule u (rule_row u env r) r f ⊎ IsOfParts u env rules r f) ⊎ rule_duplicate.IsFound files rules i r f
 
-  to : (f : Finding) → Together f → IsFinding files rules env i f
+  to : (f : Finding) → Together f → IsFindingIn files u rules env i f
   to f (inl (inl (inl (inl (inl (inl h)))))) = (r, at, AlertComparison, h)
   to f (inl (inl (inl (inl (inl (inr h)))))) = (r, at, AlertTemplate, h)
   to f (inl (inl (inl (inl (inr h))))) = (r, at, ExprEmpty, h)
@@ -36,7 +36,7 @@ module _ (files : List File) (rules : List RuleTree) (env : Environment) (i : �
   to f (inl (inr (inr h))) = (r, at, MatchLabel, h)
   to f (inr h) = (r, at, RuleDuplicate, h)
 
-  by_check : (f : Finding) (check : Check) → Finds files rules env check i r f → Together f
+  by_check : (f : Finding) (check : Check) → FindsIn files u rules env check i r f → Together f
   by_check f AlertComparison h = inl (inl (inl (inl (inl (inl h)))))
   by_check f AlertTemplate h = inl (inl (inl (inl (inl (inr h)))))
   by_check f RuleDuplicate h = inr h
@@ -47,26 +47,23 @@ module _ (files : List File) (rules : List RuleTree) (env : Environment) (i : �
   by_check f ExprType h = inl (inl (inl (inr h)))
   by_check f RuleLabel h = inl (inl (inr h))
 
-  from : (f : Finding) → IsFinding files rules env i f → Together f
+  from : (f : Finding) → IsFindingIn files u rules env i f → Together f
   from f (s, there, check, h) =
       let e : Some s ≡ Some r = sym there ∙ at in
       let same : s ≡ r = cc in
-      by_check f check (subst (λ (x : RuleTree). Finds files rules env check i x f) same h)
+      by_check f check (subst (λ (x : RuleTree). FindsIn files u rules env check i x f) same h)
 
-  pub of_all : (found : List Row) → Lists files rules (λ f. (IsOfRule (universe_of rules) (rule_row (universe_of rules) env r) r f ⊎ IsOfParts (universe_of rules) env rules r f) ⊎ rule_duplicate.IsFound files rules i r f) found
-      → Lists files rules (IsFinding files rules env i) found
-  of_all found h = lists_same files rules Together (IsFinding files rules env i) found to from h
+  pub of_all : (found : List Row) → Lists files rules (λ f. (IsOfRule u (rule_row u env r) r f ⊎ IsOfParts u env rules r f) ⊎ rule_duplicate.IsFound files rules i r f) found
+      → Lists files rules (IsFindingIn files u rules env i) found
+  of_all found h = lists_same files rules Together (IsFindingIn files u rules env i) found to from h
 
-  pub of_three : (u : Listing) → u ≡ universe_of rules → (row : Sets) → row ≡ rule_row u env r → (own parts same two all : List Row) → ListsAlone (IsOfRule u row r) own → ListsAlone (IsOfParts u env rules r) parts
-      → Lists files rules (rule_duplicate.IsFound files rules i r) same → two ≡ own ++ parts → all ≡ two ++ same → Lists files rules (IsFinding files rules env i) all
-  of_three u universe row is own parts same two all a b c e f =
-      let U = universe_of rules in
-      let R = rule_row U env r in
-      let row_is : row ≡ R = subst (λ (v : Listing). row ≡ rule_row v env r) universe is in
-      let own_lists : Lists files rules (IsOfRule U R r) own = subst (λ (w : Sets). Lists files rules (IsOfRule U w r) own) row_is (subst (λ (v : Listing). Lists files rules (IsOfRule v row r) own) universe (a.lists files rules)) in
-      let part_lists : Lists files rules (IsOfParts U env rules r) parts = subst (λ (v : Listing). Lists files rules (IsOfParts v env rules r) parts) universe (b.lists files rules) in
-      let front = lists_both files rules (IsOfRule U R r) (IsOfParts U env rules r) own parts two own_lists part_lists e in
-      of_all all (lists_both files rules (λ f. IsOfRule U R r f ⊎ IsOfParts U env rules r f) (rule_duplicate.IsFound files rules i r) two same all front c f)
+  pub of_three : (row : Sets) → row ≡ rule_row u env r → (own parts same two all : List Row) → ListsAlone (IsOfRule u row r) own → ListsAlone (IsOfParts u env rules r) parts
+      → Lists files rules (rule_duplicate.IsFound files rules i r) same → two ≡ own ++ parts → all ≡ two ++ same → Lists files rules (IsFindingIn files u rules env i) all
+  of_three row is own parts same two all a b c e f =
+      let R = rule_row u env r in
+      let own_lists : Lists files rules (IsOfRule u R r) own = subst (λ (w : Sets). Lists files rules (IsOfRule u w r) own) is (a.lists files rules) in
+      let front = lists_both files rules (IsOfRule u R r) (IsOfParts u env rules r) own parts two own_lists (b.lists files rules) e in
+      of_all all (lists_both files rules (λ f. IsOfRule u R r f ⊎ IsOfParts u env rules r f) (rule_duplicate.IsFound files rules i r) two same all front c f)
 
 -- what is found says at most once where the same rule stands
 module _ (files : List File) (rules : List RuleTree) (i : ℕ) (r : RuleTree) where
@@ -94,8 +91,8 @@ module _ (files : List File) (rules : List RuleTree) (i : ℕ) (r : RuleTree) wh
       is ∙ ap (λ (x : Bytes). finding RuleDuplicate r.name_span (rule_duplicate.says_where x)) place ∙ sym too
 
 -- of the findings of a rule one at most says so
-module _ (files : List File) (rules : List RuleTree) (env : Environment) (i : ℕ) where
-  duplicate_by : (r : RuleTree) (f : Finding) (check : Check) → Finds files rules env check i r f → f.check ≡ RuleDuplicate → rule_duplicate.IsFound files rules i r f
+module _ (files : List File) (u : Listing) (rules : List RuleTree) (env : Environment) (i : ℕ) where
+  duplicate_by : (r : RuleTree) (f : Finding) (check : Check) → FindsIn files u rules env check i r f → f.check ≡ RuleDuplicate → rule_duplicate.IsFound files rules i r f
   duplicate_by r f RuleDuplicate h e = h
   duplicate_by r f AlertComparison h e = absurd (let clash : AlertComparison ≡ RuleDuplicate = sym (ap (λ (x : Finding). x.check) h.2) ∙ e in cc)
   duplicate_by r f AlertTemplate (inl h) e = absurd (let clash : AlertTemplate ≡ RuleDuplicate = sym (ap (λ (x : Finding). x.check) h.5) ∙ e in cc)
@@ -110,17 +107,17 @@ module _ (files : List File) (rules : List RuleTree) (env : Environment) (i : �
   duplicate_by r f RuleLabel (inl h) e = absurd (let clash : RuleLabel ≡ RuleDuplicate = sym (ap (λ (x : Finding). x.check) h.4) ∙ e in cc)
   duplicate_by r f RuleLabel (inr h) e = absurd (let clash : RuleLabel ≡ RuleDuplicate = sym (ap (λ (x : Finding). x.check) h.4) ∙ e in cc)
 
-  one_duplicate : (found : List Row) → Lists files rules (IsFinding files rules env i) found → OneDuplicate (all_shown files rules found)
+  one_duplicate : (found : List Row) → Lists files rules (IsFindingIn files u rules env i) found → OneDuplicate (all_shown files rules found)
   one_duplicate found lists f g cf cg ef eg =
       let h = lists.each f cf in
       let k = lists.each g cg in
       let rules_same : Some h.0 ≡ Some k.0 = sym h.1 ∙ k.1 in
       let same : h.0 ≡ k.0 = cc in
-      one_found files rules i h.0 f g (duplicate_by h.0 f h.2 h.3 ef) (duplicate_by h.0 g k.2 (subst (λ (x : RuleTree). Finds files rules env k.2 i x g) (sym same) k.3) eg)
+      one_found files rules i h.0 f g (duplicate_by h.0 f h.2 h.3 ef) (duplicate_by h.0 g k.2 (subst (λ (x : RuleTree). FindsIn files u rules env k.2 i x g) (sym same) k.3) eg)
 
   -- the list of the findings is what was found, in order
-  pub are_findings : (found sorted : List Row) → Lists files rules (IsFinding files rules env i) found → (OneDuplicate (all_shown files rules found) → IsInOrder (all_shown files rules found) (all_shown files rules sorted))
-      → AreFindings files rules env i (all_shown files rules sorted)
+  pub are_findings : (found sorted : List Row) → Lists files rules (IsFindingIn files u rules env i) found → (OneDuplicate (all_shown files rules found) → IsInOrder (all_shown files rules found) (all_shown files rules sorted))
+      → AreFindingsIn files u rules env i (all_shown files rules sorted)
   are_findings found sorted lists order =
       let put = order (one_duplicate found lists) in
       record { each = λ f c. lists.each f (put.only f c); all = λ f h. put.kept f (lists.all f h); ascending = put.ascending }

@@ -6,17 +6,18 @@ use Rattle.std.specs.Prelude.{slice_index_or}
 use Rattle.lf_ast.specs.Labels.{Bytes}
 use Rattle.lf_ast.specs.Rules.{RuleTree}
 use Rattle.lf_ast.specs.declared.verdict.Finding.{Finding as Row}
+use Rattle.lf_semantics.specs.Listing.{Listing}
 use Rattle.lf_semantics.specs.RowTable.{Environment}
 use Rattle.lf_checks.specs.Files.{File}
 use Rattle.lf_checks.specs.Finding.{Check, AlertComparison, AlertTemplate, RuleDuplicate, RuleDependency, PromqlRegexp, MatchLabel, ExprEmpty, ExprType, RuleLabel, Finding}
-use Rattle.lf_checks.specs.Findings.{AreFindings}
+use Rattle.lf_checks.specs.Findings.{AreFindingsIn}
 use Rattle.lf_checks.specs.Numbers.{HasNumbers, Names, Says}
 use Rattle.lf_checks.specs.PromqlRegexp.{says_anchored, says_plain}
 use Rattle.lf_checks.specs.RuleDependency.{says_cyclic, says_unrecorded}
 use Rattle.lf_checks.specs.RuleDuplicate.{IsFirstAt}
 use Rattle.lf_checks.specs.views.Shown.{AreNumbered, all_shown, shown}
 use Rattle.lf_checks.proofs.DuplicateLaws.{not_apart}
-use Rattle.lf_checks.proofs.OneList.{one_list}
+use Rattle.lf_checks.proofs.OneList.{one_list_in}
 use Rattle.lf_checks.proofs.TrueFindings.{last_behind, last_of, replaced_is_not_removed, same_label, unreadable_names_none}
 
 -- ---- texts of two cases differ
@@ -126,5 +127,5 @@ module _ (files : List File) (rules : List RuleTree) (i : ℕ) where
       ap₂ (λ (x : Row) (l : List Row). x ∷ l) first (same_rows found other behind (All-tail IsNumbered a found h) (All-tail IsNumbered b other g))
 
   -- two answers that tell the findings of a rule, with their numbers, are one
-  pub one_answer : (env : Environment) (found other : List Row) → AreFindings files rules env i (all_shown files rules found) → AreFindings files rules env i (all_shown files rules other) → AreNumbered files rules i found → AreNumbered files rules i other → found ≡ other
-  one_answer env found other one another h g = same_rows found other (one_list files rules env i (all_shown files rules found) (all_shown files rules other) one another) h g
+  pub one_answer : (u : Listing) (env : Environment) (found other : List Row) → AreFindingsIn files u rules env i (all_shown files rules found) → AreFindingsIn files u rules env i (all_shown files rules other) → AreNumbered files rules i found → AreNumbered files rules i other → found ≡ other
+  one_answer u env found other one another h g = same_rows found other (one_list_in files u rules env i (all_shown files rules found) (all_shown files rules other) one another) h g

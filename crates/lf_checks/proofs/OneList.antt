@@ -9,10 +9,11 @@ use Rattle.std.specs.Ordering.{ordering_reverse}
 use Rattle.std.specs.Cmp.Lexicographic.{nat_list_cmp_total}
 use Rattle.lf_laws.proofs.Members.{behind, first_or_behind, here, none_in}
 use Rattle.lf_ast.specs.Rules.{RuleTree}
+use Rattle.lf_semantics.specs.Listing.{Listing, universe_of}
 use Rattle.lf_semantics.specs.RowTable.{Environment}
 use Rattle.lf_checks.specs.Files.{File}
 use Rattle.lf_checks.specs.Finding.{Finding, finding_cmp, key_of}
-use Rattle.lf_checks.specs.Findings.{AreFindings}
+use Rattle.lf_checks.specs.Findings.{AreFindings, AreFindingsIn}
 
 abbrev pub Ascends : List Finding → Type 0
 Ascends found = (j k : ℕ) (f g : Finding) → j < k → slice_get found j ≡ Some f → slice_get found k ≡ Some g → finding_cmp f g ≡ Less
@@ -60,6 +61,9 @@ same_lists (f ∷ found) (g ∷ other) one another within back =
     (same_lists found other (tail_ascends f found one) (tail_ascends g other another) (tail_within f found other one to) (tail_within f other found ascends from))
 
 -- two lists of the findings of a rule are one
-pub one_list : (files : List File) (rules : List RuleTree) (env : Environment) (i : ℕ) (found other : List Finding) → AreFindings files rules env i found → AreFindings files rules env i other → found ≡ other
-one_list files rules env i found other one another =
+pub one_list_in : (files : List File) (u : Listing) (rules : List RuleTree) (env : Environment) (i : ℕ) (found other : List Finding) → AreFindingsIn files u rules env i found → AreFindingsIn files u rules env i other → found ≡ other
+one_list_in files u rules env i found other one another =
     same_lists found other one.ascending another.ascending (λ f c. another.all f (one.each f c)) (λ f c. one.all f (another.each f c))
+
+pub one_list : (files : List File) (rules : List RuleTree) (env : Environment) (i : ℕ) (found other : List Finding) → AreFindings files rules env i found → AreFindings files rules env i other → found ≡ other
+one_list files rules env = one_list_in files (universe_of rules) rules env

@@ -7,16 +7,16 @@ use Rattle.lf_ast.specs.Labels.{Bytes, Labels}
 use Rattle.lf_ast.specs.Rules.{RuleTree}
 use Rattle.lf_ast.specs.Selectors.{metric}
 use Rattle.lf_semantics.specs.ClassRows.{HasShape, Represents, Sets, bottom}
-use Rattle.lf_semantics.specs.Environments.{Admits, IsKnown, IsLeast, names_recorded, recorded_row, rule_row}
+use Rattle.lf_semantics.specs.Environments.{Admits, CoversRules, IsKnown, IsLeast, names_recorded, recorded_row, rule_row}
 use Rattle.lf_semantics.specs.Laws.{SetNoNames}
-use Rattle.lf_semantics.specs.Listing.{Listing, universe_of}
+use Rattle.lf_semantics.specs.Listing.{IsListing, Listing}
 use Rattle.lf_semantics.specs.Mentions.{mentions}
 use Rattle.lf_semantics.specs.Parts.{is_evaluated, type_by_form}
 use Rattle.lf_semantics.specs.RowTable.{Environment, row_named, row_of}
 use Rattle.lf_semantics.specs.Texts.{HasTexts, value_of}
 use Rattle.lf_semantics.specs.Worlds.{AreScraped, IsRunFrom, RuleGives, Step, World, added, stored}
 use Rattle.lf_semantics.proofs.GivenTexts.{evaluates_gives_texts}
-use Rattle.lf_semantics.proofs.ListingLaws.{of_first_seen, universe_covers, universe_is_listing}
+use Rattle.lf_semantics.proofs.ListingLaws.{of_first_seen}
 use Rattle.lf_semantics.proofs.Members.{all_front}
 use Rattle.lf_semantics.proofs.RowLaws.{shape_bottom}
 use Rattle.lf_semantics.proofs.SamplesRepresented.{name_of_stored, none_named, represents_leq, represents_stored, stored_texts}
@@ -41,10 +41,8 @@ recorded_by (r ∷ rules) name c = by r.alert refl c (recorded_by rules name)
       | inr g ↦ later r rules name (rest g)
     ]
 
-module _ (rules : List RuleTree) (named : SetNoNames rules) (env : Environment) (least : IsLeast (universe_of rules) rules env) (S : List Labels) (scraped : AreScraped rules S) where
-  abbrev u : Listing
-  u = universe_of rules
-
+module _ (u : Listing) (listing : IsListing u) (rules : List RuleTree) (covers : CoversRules u rules) (named : SetNoNames rules) (env : Environment) (least : IsLeast u rules env) (S : List Labels)
+    (scraped : AreScraped rules S) where
   -- each recorded sample has no empty text and is represented by the row of its name
   abbrev AllRepresented : List Labels → Type 0
   AllRepresented N = (s : Labels) → Contains N s → HasTexts s × (row : Sets) × (row_named env (value_of s metric) ≡ Some row) × Represents u row s
@@ -60,14 +58,14 @@ module _ (rules : List RuleTree) (named : SetNoNames rules) (env : Environment) 
 
   shape_rule : (r : RuleTree) → HasShape u (rule_row u env r)
   shape_rule r = elim (is_evaluated (type_by_form r.expr)) as (λ b. HasShape u (cond b (row_of u env r.expr) (bottom u))) [
-    | true ↦ shape_of_row u (universe_is_listing rules) env least.of_rules.environment r.expr
+    | true ↦ shape_of_row u listing env least.of_rules.environment r.expr
     | false ↦ shape_bottom u
   ]
 
   gives_represented : (N : List Labels) → AllRepresented N → (r : RuleTree) → Contains rules r → (R : List Labels) → RuleGives S N r R → (s : Labels) → Contains R s → Represents u (rule_row u env r) s
   gives_represented N each r c R w s inside =
       subst (λ (b : Bool). Represents u (cond b (row_of u env r.expr) (bottom u)) s) (sym w.0)
-      (sound u (universe_is_listing rules) env least.of_rules.environment S N (admits N each) r.expr (all_front (IsKnown u) (mentions r.expr) _ (universe_covers rules r c)) R s w.1 inside)
+      (sound u listing env least.of_rules.environment S N (admits N each) r.expr (all_front (IsKnown u) (mentions r.expr) _ (covers r c)) R s w.1 inside)
 
   gives_texts : (N : List Labels) → AllRepresented N → (r : RuleTree) (R : List Labels) → RuleGives S N r R → (s : Labels) → Contains R s → HasTexts s
   gives_texts N each r R w s inside = evaluates_gives_texts S N (λ x c. (scraped x c).0) (λ x c. (each x c).0) r.expr R w.1 s inside
@@ -81,7 +79,7 @@ module _ (rules : List RuleTree) (named : SetNoNames rules) (env : Environment) 
           let m = map_member (stored step.rule) step.gives s d in
           let k = least.closed step.rule c e in
           let represents : Represents u (recorded_row u env step.rule) (stored step.rule m.0) =
-          represents_stored u (universe_is_listing rules) env step.rule (universe_covers rules step.rule c) e (rule_row u env step.rule) m.0 (shape_rule step.rule) (gives_represented N each step.rule c step.gives w m.0 m.1) in (
+          represents_stored u listing env step.rule (covers step.rule c) e (rule_row u env step.rule) m.0 (shape_rule step.rule) (gives_represented N each step.rule c step.gives w m.0 m.1) in (
             subst HasTexts (sym m.2) (stored_texts step.rule m.0 (gives_texts N each step.rule step.gives w m.0 m.1)),
             k.0,
             ap (λ x. row_named env (value_of x metric)) m.2 ∙ ap (row_named env) (name_of_stored step.rule m.0 (named step.rule c)) ∙ k.1,
@@ -98,8 +96,8 @@ module _ (rules : List RuleTree) (named : SetNoNames rules) (env : Environment) 
       (run_represented (N ++ added step) before after (both_represented N (added step) each (added_represented N each step run.0 run.1)) run.2)
 
 -- behind the first steps of a world
-pub world_admitted : (rules : List RuleTree) → SetNoNames rules → (env : Environment) → IsLeast (universe_of rules) rules env → (world : World rules) (before after : List Step) → world.steps ≡ before ++ after
-    → Admits (universe_of rules) env world.series (recorded before)
-world_admitted rules named env least world before after e =
-    admits rules named env least world.series world.scraped (recorded before)
-    (run_represented rules named env least world.series world.scraped [] before after (λ s c. absurd (none_in s c)) (subst (IsRunFrom rules world.series []) e world.run))
+pub world_admitted : (u : Listing) → IsListing u → (rules : List RuleTree) → CoversRules u rules → SetNoNames rules → (env : Environment) → IsLeast u rules env → (world : World rules) (before after : List Step) → world.steps ≡ before ++ after
+    → Admits u env world.series (recorded before)
+world_admitted u listing rules covers named env least world before after e =
+    admits u listing rules covers named env least world.series world.scraped (recorded before)
+    (run_represented u listing rules covers named env least world.series world.scraped [] before after (λ s c. absurd (none_in s c)) (subst (IsRunFrom rules world.series []) e world.run))

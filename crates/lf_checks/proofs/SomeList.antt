@@ -11,10 +11,11 @@ use Rattle.std.specs.Cmp.Lexicographic.{nat_list_cmp_total}
 use Rattle.lf_laws.proofs.Members.{behind, first_or_behind, here, none_in, only_one}
 use Rattle.lf_base.specs.Faults.{span}
 use Rattle.lf_ast.specs.Rules.{RuleTree}
+use Rattle.lf_semantics.specs.Listing.{Listing}
 use Rattle.lf_semantics.specs.RowTable.{Environment}
 use Rattle.lf_checks.specs.Files.{File}
 use Rattle.lf_checks.specs.Finding.{Check, AlertComparison, AlertTemplate, RuleDuplicate, RuleDependency, PromqlRegexp, MatchLabel, ExprEmpty, ExprType, RuleLabel, Finding, finding, finding_cmp, key_of, rank}
-use Rattle.lf_checks.specs.Findings.{AreFindings, IsFinding}
+use Rattle.lf_checks.specs.Findings.{AreFindingsIn, IsFindingIn}
 use Rattle.lf_checks.proofs.OneList.{Ascends, head_less, tail_ascends}
 
 -- ---- findings that neither comes before the other are one
@@ -130,9 +131,9 @@ in_order (f ∷ listed) =
       ),
     )
 
-pub some_list : (files : List File) (rules : List RuleTree) (env : Environment) (i : ℕ) (listed : List Finding) → ((f : Finding) → Contains listed f → IsFinding files rules env i f) → ((f : Finding) → IsFinding files rules env i f → Contains listed f)
-    → (found : List Finding) × AreFindings files rules env i found
-some_list files rules env i listed each all =
+pub some_list : (files : List File) (u : Listing) (rules : List RuleTree) (env : Environment) (i : ℕ) (listed : List Finding) → ((f : Finding) → Contains listed f → IsFindingIn files u rules env i f) → ((f : Finding) → IsFindingIn files u rules env i f → Contains listed f)
+    → (found : List Finding) × AreFindingsIn files u rules env i found
+some_list files u rules env i listed each all =
     let sorted = in_order listed in (
       sorted.0,
       record { each = λ f c. each f (sorted.1.2 f c); all = λ f h. sorted.1.1 f (all f h); ascending = sorted.1.0 },

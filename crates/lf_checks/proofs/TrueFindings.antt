@@ -8,10 +8,10 @@ use Rattle.lf_ast.specs.Labels.{Bytes, Labels}
 use Rattle.lf_ast.specs.Rules.{RuleTree}
 use Rattle.lf_semantics.specs.ClassRows.{Represents, Sets, bottom, is_live}
 use Rattle.lf_ast.specs.Tree.{Tree}
-use Rattle.lf_semantics.specs.Environments.{Covers, IsKnown, IsLeast, rule_row}
+use Rattle.lf_semantics.specs.Environments.{Covers, CoversRules, IsKnown, IsLeast, rule_row}
 use Rattle.lf_semantics.specs.Mentions.{mentions}
 use Rattle.lf_semantics.specs.Laws.{SetNoNames}
-use Rattle.lf_semantics.specs.Listing.{Listing, universe_of}
+use Rattle.lf_semantics.specs.Listing.{IsListing, Listing, universe_of}
 use Rattle.lf_semantics.specs.Parts.{is_evaluated, type_by_form}
 use Rattle.lf_semantics.specs.RowTable.{Environment, row_of}
 use Rattle.lf_semantics.specs.Worlds.{IsSample, World}
@@ -24,7 +24,7 @@ use Rattle.lf_semantics.proofs.Told.{is_absent, is_present, not_empty}
 use Rattle.lf_checks.specs.AlertTemplate as alert_template
 use Rattle.lf_checks.specs.Files.{File}
 use Rattle.lf_checks.specs.Finding.{Check, AlertComparison, AlertTemplate, RuleDuplicate, RuleDependency, PromqlRegexp, MatchLabel, ExprEmpty, ExprType, RuleLabel, Finding}
-use Rattle.lf_checks.specs.Findings.{Finds, IsFinding}
+use Rattle.lf_checks.specs.Findings.{FindsIn, IsFindingIn}
 use Rattle.lf_checks.specs.Judged.{IsGuaranteed, IsImpossible}
 use Rattle.lf_checks.specs.MatchLabel as match_label
 use Rattle.lf_checks.specs.RuleLabel as rule_label
@@ -62,15 +62,12 @@ unreadable_names_none label e = let clash : 116 ≡ 108 = ap (λ (t : Bytes). sl
 
 -- ---- samples
 
-module _ (rules : List RuleTree) (named : SetNoNames rules) (env : Environment) (least : IsLeast (universe_of rules) rules env) where
-  abbrev u : Listing
-  u = universe_of rules
-
+module _ (u : Listing) (listing : IsListing u) (rules : List RuleTree) (covers : CoversRules u rules) (named : SetNoNames rules) (env : Environment) (least : IsLeast u rules env) where
   abbrev row : RuleTree → Sets
   row = rule_row u env
 
   represents : (r : RuleTree) (world : World rules) (s : Labels) → IsSample world r s → Represents u (row r) s
-  represents r world s sample = sample_represented u (universe_is_listing rules) rules (universe_covers rules) named env least.of_rules least.closed world r s sample
+  represents r world s sample = sample_represented u listing rules covers named env least.of_rules least.closed world r s sample
 
   -- an impossible label is on no sample, and a guaranteed one on each
   pub on_none : (r : RuleTree) (label : Bytes) → IsImpossible u (row r) label → IsOnNone rules r label
@@ -84,7 +81,7 @@ module _ (rules : List RuleTree) (named : SetNoNames rules) (env : Environment) 
   no_sample r empty world s sample = not_empty u (row r) s (represents r world s sample) empty
 
   empty_by_type : (r : RuleTree) → is_evaluated (type_by_form r.expr) ≡ false → is_live (row r) ≡ false
-  empty_by_type r e = ap (λ (b : Bool). is_live (cond b (row_of u env r.expr) (bottom u))) e ∙ bottom_dead u (universe_is_listing rules)
+  empty_by_type r e = ap (λ (b : Bool). is_live (cond b (row_of u env r.expr) (bottom u))) e ∙ bottom_dead u listing
 
   template_is_true : (r : RuleTree) (f : Finding) → alert_template.IsFound u (row r) r f → IsTrue rules r f
   template_is_true r f (inl (t, reference, has, refers, impossible, e)) =
@@ -108,13 +105,13 @@ module _ (rules : List RuleTree) (named : SetNoNames rules) (env : Environment) 
 
   never_given : (e : Tree) (label : Bytes) → Covers u e → IsImpossible u (row_of u env e) label → IsNeverGiven rules e label
   never_given e label known impossible world before after split R s w inside has =
-      let admitted = world_admitted rules named env least world before after split in
-      let represented = sound u (universe_is_listing rules) env least.of_rules.environment world.series (recorded before) admitted e known R s w inside in
+      let admitted = world_admitted u listing rules covers named env least world before after split in
+      let represented = sound u listing env least.of_rules.environment world.series (recorded before) admitted e known R s w inside in
       has (is_absent u (row_of u env e) s represented label impossible.1)
 
   match_is_true : (r : RuleTree) (f : Finding) → Contains rules r → match_label.IsFound u env r f → IsTrue rules r f
   match_is_true r f c (e, sought, operand, within, seeks, impossible, is) =
-      let whole : Covers u r.expr = all_front (IsKnown u) (mentions r.expr) _ (universe_covers rules r c) in
+      let whole : Covers u r.expr = all_front (IsKnown u) (mentions r.expr) _ (covers r c) in
       let known : Covers u operand = sought_covered u e sought operand (part_covered u r.expr e whole within) seeks in
       subst (IsTrue rules r) (sym is) (
       λ label text.
@@ -132,7 +129,7 @@ module _ (rules : List RuleTree) (named : SetNoNames rules) (env : Environment) 
   -- ---- all checks
 
   -- what a check finds of a rule is true
-  pub found_is_true : (files : List File) (check : Check) (i : ℕ) (r : RuleTree) (f : Finding) → Contains rules r → Finds files rules env check i r f → IsTrue rules r f
+  pub found_is_true : (files : List File) (check : Check) (i : ℕ) (r : RuleTree) (f : Finding) → Contains rules r → FindsIn files u rules env check i r f → IsTrue rules r f
   found_is_true files AlertComparison i r f c h = subst (IsTrue rules r) (sym h.2) tt
   found_is_true files AlertTemplate i r f c h = template_is_true r f h
   found_is_true files RuleDuplicate i r f c (s, place, first, at, e) = subst (IsTrue rules r) (sym e) tt
@@ -146,5 +143,10 @@ module _ (rules : List RuleTree) (named : SetNoNames rules) (env : Environment) 
   found_is_true files RuleLabel i r f c h = label_is_true r f h
 
   -- so is each of its findings
-  pub finding_is_true : (files : List File) (i : ℕ) (f : Finding) → IsFinding files rules env i f → (r : RuleTree) × (slice_get rules i ≡ Some r) × IsTrue rules r f
-  finding_is_true files i f (r, at, check, found) = (r, at, found_is_true files check i r f (i, slice_get_within rules i r at, get_or_from_slice_get rules i r r at) found)
+  pub finding_is_true_in : (files : List File) (i : ℕ) (f : Finding) → IsFindingIn files u rules env i f → (r : RuleTree) × (slice_get rules i ≡ Some r) × IsTrue rules r f
+  finding_is_true_in files i f (r, at, check, found) = (r, at, found_is_true files check i r f (i, slice_get_within rules i r at, get_or_from_slice_get rules i r r at) found)
+
+-- in the universe of exactly these rules
+pub finding_is_true : (rules : List RuleTree) → SetNoNames rules → (env : Environment) → IsLeast (universe_of rules) rules env → (files : List File) (i : ℕ) (f : Finding) → IsFindingIn files (universe_of rules) rules env i f
+    → (r : RuleTree) × (slice_get rules i ≡ Some r) × IsTrue rules r f
+finding_is_true rules = finding_is_true_in (universe_of rules) (universe_is_listing rules) rules (universe_covers rules)

@@ -15,9 +15,9 @@ use Rattle.lf_ast.specs.declared.expr.Op.TheVariants.{Add, And, Equal, Greater, 
 use Rattle.lf_ast.specs.declared.rule.Template.{Template}
 use Rattle.lf_semantics.specs.ClassRows.{Sets}
 use Rattle.lf_semantics.specs.Environments.{rule_row}
-use Rattle.lf_semantics.specs.Listing.{Listing, universe_of}
+use Rattle.lf_semantics.specs.Listing.{Listing, label_of, universe_of}
 use Rattle.lf_semantics.specs.RowTable.{may_be_present}
-use Rattle.lf_semantics.proofs.Written.{aggregate, asks, between, call, matching, number, over_time, paren, place_at, selector, sight, sum_by, unmodified}
+use Rattle.lf_semantics.proofs.Written.{aggregate, asks, between, call, matching, number, over_time, paren, place_at, record_rule, selector, sight, sum_by, unmodified}
 use Rattle.lf_templates.specs.Templates.{Braced, Breaks, Piece, References, flawed}
 use Rattle.lf_templates.specs.Tokens.{a_field, a_variable, a_word, field_of, variable_of, word_of}
 use Rattle.lf_templates.specs.declared.reference.Reference.{Reference}
@@ -160,6 +160,23 @@ job_is_named = record {
 
 never_there : Found (tells (codes "{{$labels.env}}")) (finding AlertTemplate (span 2 13) (codes "label env is never on the alert's sample"))
 never_there = inl (tells (codes "{{$labels.env}}"), refers (codes "env"), (refl, here (tells (codes "{{$labels.env}}")) []), (refers (codes "env") ∷ [], env_is_named, here (refers (codes "env")) []), (refl, refl), refl)
+
+-- so it is in the universe of more rules, where one behind it names the label
+abbrev names_env : RuleTree
+names_env = record_rule (codes "env:up") [] (sum_by (codes "env" ∷ []) up)
+
+abbrev wider : List Template → Listing
+wider templates = universe_of (by_job templates ∷ names_env ∷ [])
+
+abbrev FoundInMore : Template → Finding → Type 0
+FoundInMore t f = alert_template.IsFound (wider (t ∷ [])) (rule_row (wider (t ∷ [])) [] (by_job (t ∷ []))) (by_job (t ∷ [])) f
+
+env_is_named_by_another : label_of (wider (tells (codes "{{$labels.env}}") ∷ [])) (codes "env") ≡ 2
+env_is_named_by_another = refl
+
+never_there_among_more : FoundInMore (tells (codes "{{$labels.env}}")) (finding AlertTemplate (span 2 13) (codes "label env is never on the alert's sample"))
+never_there_among_more =
+    inl (tells (codes "{{$labels.env}}"), refers (codes "env"), (refl, here (tells (codes "{{$labels.env}}")) []), (refers (codes "env") ∷ [], env_is_named, here (refers (codes "env")) []), (refl, refl), refl)
 
 may_be_there : (f : Finding) → Found (tells (codes "{{$labels.job}}")) f → ⊥
 may_be_there f (inl (t, reference, has, (found, refers_to, is_in), impossible, e)) =

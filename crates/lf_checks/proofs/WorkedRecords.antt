@@ -33,7 +33,7 @@ use Rattle.lf_checks.specs.ExprEmpty as expr_empty
 use Rattle.lf_checks.specs.ExprType as expr_type
 use Rattle.lf_checks.specs.Files.{File}
 use Rattle.lf_checks.specs.Finding.{Check, AlertComparison, AlertTemplate, RuleDuplicate, RuleDependency, PromqlRegexp, MatchLabel, ExprEmpty, ExprType, RuleLabel, Finding, finding, finding_cmp}
-use Rattle.lf_checks.specs.Findings.{AreFindings, Finds}
+use Rattle.lf_checks.specs.Findings.{AreFindingsIn, FindsIn}
 use Rattle.lf_checks.specs.Judged.{IsImpossible}
 use Rattle.lf_checks.specs.MatchLabel as match_label
 use Rattle.lf_checks.specs.MatchLabel.{Seeks}
@@ -429,35 +429,35 @@ by_text = refl
 
 -- ---- all checks
 
--- of `foo[5m]`, recorded as `a:x`, it is all that is found that it is a range vector
+-- of `foo[5m]`, recorded as `a:x`, it is all that is found that it is a range vector, in whatever universe
 abbrev lone : RuleTree
 lone = record_rule (codes "a:x") [] (over_time (codes "foo") [])
 
 abbrev the_type : Finding
 the_type = finding ExprType (place_at 0) (codes "a rule needs a scalar or an instant vector")
 
-only_the_type : (check : Check) (f : Finding) → Finds (file ∷ []) (lone ∷ []) [] check 0 lone f → Contains (the_type ∷ []) f
-only_the_type AlertComparison f h = absurd (true≢false (sym h.0))
-only_the_type AlertTemplate f (inl (t, reference, has, refers, impossible, e)) = absurd (true≢false (sym has.0))
-only_the_type AlertTemplate f (inr (t, breach, has, breaks, e)) = absurd (true≢false (sym has.0))
-only_the_type RuleDuplicate f (s, place, (j, (less, at, same, first)), named_at, e) = absurd (omega (arith, less))
-only_the_type RuleDependency f h = absurd (scraped (over_time (codes "foo") []) refl refl f h)
-only_the_type PromqlRegexp f (inl (m, (name, matchers, seen, span, c, has, takes), one, e)) =
+only_the_type : (w : Listing) (check : Check) (f : Finding) → FindsIn (file ∷ []) w (lone ∷ []) [] check 0 lone f → Contains (the_type ∷ []) f
+only_the_type w AlertComparison f h = absurd (true≢false (sym h.0))
+only_the_type w AlertTemplate f (inl (t, reference, has, refers, impossible, e)) = absurd (true≢false (sym has.0))
+only_the_type w AlertTemplate f (inr (t, breach, has, breaks, e)) = absurd (true≢false (sym has.0))
+only_the_type w RuleDuplicate f (s, place, (j, (less, at, same, first)), named_at, e) = absurd (omega (arith, less))
+only_the_type w RuleDependency f h = absurd (scraped (over_time (codes "foo") []) refl refl f h)
+only_the_type w PromqlRegexp f (inl (m, (name, matchers, seen, span, c, has, takes), one, e)) =
     let same : [] ≡ matchers = ap matchers_of (only_one (over_time (codes "foo") []) (Selector name matchers seen span) c) in
     absurd (none_in m (subst (λ (l : List Matcher). Contains l m) (sym same) has))
-only_the_type PromqlRegexp f (inr (m, (name, matchers, seen, span, c, has, takes), anchored, e)) =
+only_the_type w PromqlRegexp f (inr (m, (name, matchers, seen, span, c, has, takes), anchored, e)) =
     let same : [] ≡ matchers = ap matchers_of (only_one (over_time (codes "foo") []) (Selector name matchers seen span) c) in
     absurd (none_in m (subst (λ (l : List Matcher). Contains l m) (sym same) has))
-only_the_type MatchLabel f (e, label, operand, c, seeks, impossible, is) = absurd (subst (λ z. Seeks z label operand) (sym (only_one (over_time (codes "foo") []) e c)) seeks)
-only_the_type ExprEmpty f h = absurd (true≢false (sym h.0))
-only_the_type ExprType f h = subst (Contains (the_type ∷ [])) (sym h.1) (here the_type [])
-only_the_type RuleLabel f (inl (l, has, some, guaranteed, e)) = absurd (none_in l has.1)
-only_the_type RuleLabel f (inr (l, has, none, impossible, e)) = absurd (none_in l has.1)
+only_the_type w MatchLabel f (e, label, operand, c, seeks, impossible, is) = absurd (subst (λ z. Seeks z label operand) (sym (only_one (over_time (codes "foo") []) e c)) seeks)
+only_the_type w ExprEmpty f h = absurd (true≢false (sym h.0))
+only_the_type w ExprType f h = subst (Contains (the_type ∷ [])) (sym h.1) (here the_type [])
+only_the_type w RuleLabel f (inl (l, has, some, guaranteed, e)) = absurd (none_in l has.1)
+only_the_type w RuleLabel f (inr (l, has, none, impossible, e)) = absurd (none_in l has.1)
 
-the_findings : AreFindings (file ∷ []) (lone ∷ []) [] 0 (the_type ∷ [])
-the_findings = record {
+the_findings : (w : Listing) → AreFindingsIn (file ∷ []) w (lone ∷ []) [] 0 (the_type ∷ [])
+the_findings w = record {
   each = λ f c. (lone, refl, ExprType, (refl, sym (only_one the_type f c)));
-  all = λ f (r, at, check, finds). only_the_type check f (subst (λ (z : RuleTree). Finds (file ∷ []) (lone ∷ []) [] check 0 z f) (sym (same_rule r at)) finds);
+  all = λ f (r, at, check, finds). only_the_type w check f (subst (λ (z : RuleTree). FindsIn (file ∷ []) w (lone ∷ []) [] check 0 z f) (sym (same_rule r at)) finds);
   ascending = λ j k f g less at before. absurd (none_behind j k g less before);
 }
   where

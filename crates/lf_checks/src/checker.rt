@@ -6,10 +6,10 @@ ghost use Rattle.lf_ast.specs.Rules.{RuleTree, rule_tree, rule_trees};
 ghost use Rattle.lf_ast.specs.declared.rule.Template.{Template};
 ghost use Rattle.lf_semantics.specs.ClassRows.{HasShape};
 ghost use Rattle.lf_semantics.specs.Environments.{IsEnvironment, IsLeast};
-ghost use Rattle.lf_semantics.specs.Listing.{IsListing, universe_of};
+ghost use Rattle.lf_semantics.specs.Listing.{IsListing};
 ghost use Rattle.lf_checks.specs.AlertTemplate.{HaveSources};
 ghost use Rattle.lf_checks.specs.Files.{File, StandIn};
-ghost use Rattle.lf_checks.specs.Findings.{AreFindings, IsFinding};
+ghost use Rattle.lf_checks.specs.Findings.{AreFindingsIn, IsFindingIn};
 ghost use Rattle.lf_checks.specs.views.Checked.{IsOfParts, IsOfRule};
 ghost use Rattle.lf_checks.specs.views.Recorded.{AreOf, AreOfSome};
 ghost use Rattle.lf_checks.specs.views.Shown.{AreNumbered, Lists, ListsAlone, all_shown};
@@ -46,6 +46,7 @@ impl<'a> Model for Checker<'a> {
     ghost use Rattle.std.specs.Coded.{codes};
     ghost use Rattle.lf_ast.specs.Rules.{rule_trees};
     ghost use Rattle.lf_ast.specs.contracts.rule.Rule as rule;
+    ghost use Rattle.lf_semantics.specs.Listing.{IsListing};
     ghost use Rattle.lf_checks.specs.views.Checked.{Checked};
     ghost use Rattle.lf_checks.specs.views.Duplicates.{AreFirsts};
     ghost use Rattle.lf_checks.specs.views.Recorded.{AreOf};
@@ -56,11 +57,11 @@ impl<'a> Model for Checker<'a> {
 
     ghost view = { λ c. record { universe = c.universe.now; env = c.env.now; rules = c.rules.now } };
 
-    ghost invariant = { λ c. AreOf (rule_trees c.rules.now) c.recorded × AreFirsts (rule_trees c.rules.now) c.firsts.items };
+    ghost invariant = { λ c. IsListing c.universe.now × AreOf (rule_trees c.rules.now) c.recorded × AreFirsts (rule_trees c.rules.now) c.firsts.items };
 }
 
 impl<'a> Checker<'a> {
-    /// One for rules and their universe and environment.
+    /// One for rules, with a universe and an environment of theirs. The universe may be built of more rules than these.
     pub fn new(
         alloc: Global,
         universe: &'a Universe,
@@ -69,6 +70,8 @@ impl<'a> Checker<'a> {
     ) -> Result<Checker<'a>, Memory>
         ensures { IfOk result (λ checker. checker ≡ record { universe = universe.now; env = env.now; rules = rules.now }) }
     {
+        // For what its contract says of the universe.
+        let _labels = universe.labels();
         let recorded = RecordedNames::of(alloc, rules)?;
         let firsts = first_rules(alloc, rules)?;
         Ok(Checker {
@@ -82,11 +85,10 @@ impl<'a> Checker<'a> {
 
     /// The findings of the rule with this number, counted from 0, in their order and each once.
     pub fn rule(&self, alloc: Global, i: u32) -> Result<Seq<Finding>, Memory>
-        requires universe { self.now.universe ≡ universe_of (rule_trees self.now.rules) }
         requires least { IsLeast self.now.universe (rule_trees self.now.rules) self.now.env }
         requires sources { HaveSources (rule_trees self.now.rules) }
         requires rule { i < length self.now.rules }
-        ensures findings { (files : List File) → StandIn files (rule_trees self.now.rules) → IfOk result (λ found. AreFindings files (rule_trees self.now.rules) self.now.env i (all_shown files (rule_trees self.now.rules) found)) }
+        ensures findings { (files : List File) → StandIn files (rule_trees self.now.rules) → IfOk result (λ found. AreFindingsIn files self.now.universe (rule_trees self.now.rules) self.now.env i (all_shown files (rule_trees self.now.rules) found)) }
         ensures numbers { (files : List File) → IfOk result (AreNumbered files (rule_trees self.now.rules) i) }
     {
         let found = self.found(alloc, i)?;
@@ -95,11 +97,10 @@ impl<'a> Checker<'a> {
 
     /// What is found of a rule, check by check.
     fn found(&self, alloc: Global, i: u32) -> Result<Vec<Finding>, Memory>
-        requires universe { self.now.universe ≡ universe_of (rule_trees self.now.rules) }
         requires env { IsEnvironment self.now.universe self.now.env }
         requires sources { HaveSources (rule_trees self.now.rules) }
         requires rule { i < length self.now.rules }
-        ensures findings { IfOk result (λ found. (files : List File) → StandIn files (rule_trees self.now.rules) → Lists files (rule_trees self.now.rules) (IsFinding files (rule_trees self.now.rules) self.now.env i) found.items) }
+        ensures findings { IfOk result (λ found. (files : List File) → StandIn files (rule_trees self.now.rules) → Lists files (rule_trees self.now.rules) (IsFindingIn files self.now.universe (rule_trees self.now.rules) self.now.env i) found.items) }
         ensures numbers { (files : List File) → IfOk result (λ found. AreNumbered files (rule_trees self.now.rules) i found.items) }
     {
         let rule = self.rules.get(i as usize);
@@ -163,7 +164,7 @@ fn both(mut found: Vec<Finding>, mut more: Vec<Finding>) -> Result<Vec<Finding>,
     Ok(found)
 }
 
-/// The findings of the rule with a number, counted from 0, in their order and each once. For many rules a `Checker` is made once.
+/// The findings of the rule with a number, counted from 0, in their order and each once, by the labels and classes of the universe. For many rules a `Checker` is made once.
 pub fn check_rule(
     alloc: Global,
     universe: &Universe,
@@ -171,11 +172,10 @@ pub fn check_rule(
     rules: &Seq<Rule>,
     i: u32,
 ) -> Result<Seq<Finding>, Memory>
-    requires universe { universe.now ≡ universe_of (rule_trees rules.now) }
     requires least { IsLeast universe.now (rule_trees rules.now) env.now }
     requires sources { HaveSources (rule_trees rules.now) }
     requires rule { i < length rules.now }
-    ensures findings { (files : List File) → StandIn files (rule_trees rules.now) → IfOk result (λ found. AreFindings files (rule_trees rules.now) env.now i (all_shown files (rule_trees rules.now) found)) }
+    ensures findings { (files : List File) → StandIn files (rule_trees rules.now) → IfOk result (λ found. AreFindingsIn files universe.now (rule_trees rules.now) env.now i (all_shown files (rule_trees rules.now) found)) }
     ensures numbers { (files : List File) → IfOk result (AreNumbered files (rule_trees rules.now) i) }
 {
     let checker = Checker::new(alloc, universe, env, rules)?;

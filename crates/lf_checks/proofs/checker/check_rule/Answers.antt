@@ -3,7 +3,7 @@ use Rattle.std.specs.Prelude.{IfOk}
 use Rattle.lf_ast.specs.Rules.{rule_trees}
 use Rattle.lf_checks.specs.AlertTemplate.{HaveSources}
 use Rattle.lf_checks.specs.Files.{StandIn}
-use Rattle.lf_checks.specs.Findings.{AreFindings}
+use Rattle.lf_checks.specs.Findings.{AreFindingsIn}
 use Rattle.lf_checks.specs.views.Checked.{Checked}
 use Rattle.lf_checks.specs.views.Shown.{AreNumbered, all_shown}
 use Rattle.lf_checks.proofs.checker.check_rule.Goals as goal
@@ -13,7 +13,7 @@ rule-requires-clause-sources c = subst (λ (v : Checked). HaveSources (rule_tree
 
 pub returns-clause-findings : goal.returns-clause-findings
 returns-clause-findings c files stand =
-    subst (λ (v : Checked). IfOk c.rule.result (λ found. AreFindings files (rule_trees v.rules) v.env c.args.i (all_shown files (rule_trees v.rules) found))) c.in_ok-checker.ensures
+    subst (λ (v : Checked). IfOk c.rule.result (λ found. AreFindingsIn files v.universe (rule_trees v.rules) v.env c.args.i (all_shown files (rule_trees v.rules) found))) c.in_ok-checker.ensures
     (c.rule.ensures.findings files (subst (λ (v : Checked). StandIn files (rule_trees v.rules)) (sym c.in_ok-checker.ensures) stand))
 
 pub returns-clause-numbers : goal.returns-clause-numbers

@@ -10,27 +10,22 @@ use Rattle.lf_ast.specs.declared.rule.Rule.{Rule}
 use Rattle.lf_ast.specs.declared.verdict.Finding.{Finding as Row}
 use Rattle.lf_semantics.specs.ClassRows.{HasShape, Sets}
 use Rattle.lf_semantics.specs.Environments.{IsEnvironment}
-use Rattle.lf_semantics.specs.Listing.{IsListing, Listing, universe_of}
-use Rattle.lf_semantics.proofs.ListingLaws.{universe_is_listing}
+use Rattle.lf_semantics.specs.Listing.{IsListing, Listing}
 use Rattle.lf_semantics.proofs.NormalizedRows.{rule_row_is}
 use Rattle.lf_checks.specs.AlertTemplate.{HaveSources}
 use Rattle.lf_checks.specs.Files.{File, StandIn}
-use Rattle.lf_checks.specs.Findings.{IsFinding}
+use Rattle.lf_checks.specs.Findings.{IsFindingIn}
 use Rattle.lf_checks.specs.views.Checked.{Checked}
 use Rattle.lf_checks.specs.views.Duplicates.{AreFirsts, IsFirstOf}
 use Rattle.lf_checks.specs.views.Shown.{AreNumbered, Lists}
 use Rattle.lf_checks.proofs.Checking.{numbered_three, of_three}
 use Rattle.lf_checks.proofs.checker.Checker.found.Goals as goal
 
-listing_of : (u : Listing) (rules : List RuleTree) → u ≡ universe_of rules → IsListing u
-listing_of u rules e = subst IsListing (sym e) (universe_is_listing rules)
-
 pub of_rule-requires-clause-shape : goal.of_rule-requires-clause-shape
 of_rule-requires-clause-shape c =
     let u : Listing = c.self.inside.universe.now in
-    let of_rules = subst (λ (v : Checked). v.universe ≡ universe_of (rule_trees v.rules)) (sym c.self.view_is) c.requires.universe in
     let ok = subst (λ (v : Checked). IsEnvironment v.universe v.env) (sym c.self.view_is) c.requires.env in
-    let listing = listing_of u (rule_trees c.self.inside.rules.now) of_rules in
+    let listing : IsListing u = c.self.invariant.0 in
     subst (λ (row : Sets). HasShape u row) (sym c.in_ok-row.ensures.row) (rule_row_is u listing c.self.inside.env.now ok (rule_tree c.get-rule.result.now)).0
 
 pub of_rule-requires-clause-sources : goal.of_rule-requires-clause-sources
@@ -43,8 +38,7 @@ of_rule-requires-clause-sources c t k =
     sources (rule_tree r) (in_map rule_tree rules r member) t k
 
 pub of_parts-requires-clause-listing : goal.of_parts-requires-clause-listing
-of_parts-requires-clause-listing c =
-    listing_of c.self.inside.universe.now (rule_trees c.self.inside.rules.now) (subst (λ (v : Checked). v.universe ≡ universe_of (rule_trees v.rules)) (sym c.self.view_is) c.requires.universe)
+of_parts-requires-clause-listing c = c.self.invariant.0
 
 -- the first of the rules before it that is the same, as it is kept
 first_of : (trees : List RuleTree) (firsts : List (Option ℕ)) (i : ℕ) (r : RuleTree) (x : Option ℕ) → slice_get trees i ≡ Some r → AreFirsts trees firsts → x ≡ get_or firsts i x → IsFirstOf (take i trees) r x
@@ -64,17 +58,16 @@ returns-clause-findings c =
     let r : RuleTree = rule_tree rule in
     let value : slice_get rules i ≡ Some rule = c.get-rule.ensures.value in
     let at : slice_get trees i ≡ Some r = slice_get-map rule_tree rules i ∙ ap (option_map rule_tree) value in
-    let of_rules = subst (λ (v : Checked). v.universe ≡ universe_of (rule_trees v.rules)) (sym c.self.view_is) c.requires.universe in
-    let first = first_of trees c.self.inside.firsts.items i r c.index.result.now at c.self.invariant.1 c.index.ensures in
+    let first = first_of trees c.self.inside.firsts.items i r c.index.result.now at c.self.invariant.2 c.index.ensures in
     let two : List Row = c.in_ok-found.found.items in
     let same : List Row = c.in_ok-same.same.items in
     IfOk-weaker c.both-2.result (λ all. all.items ≡ two ++ same)
-    (λ all. (files : List File) → StandIn files (rule_trees c.args.self.now.rules) → Lists files (rule_trees c.args.self.now.rules) (IsFinding files (rule_trees c.args.self.now.rules) c.args.self.now.env i) all.items)
+    (λ all. (files : List File) → StandIn files (rule_trees c.args.self.now.rules) → Lists files (rule_trees c.args.self.now.rules) (IsFindingIn files c.args.self.now.universe (rule_trees c.args.self.now.rules) c.args.self.now.env i) all.items)
     (λ all e files stand.
     let here = subst (λ (v : Checked). StandIn files (rule_trees v.rules)) (sym c.self.view_is) stand in
-    subst (λ (v : Checked). Lists files (rule_trees v.rules) (IsFinding files (rule_trees v.rules) v.env i) all.items) c.self.view_is
-    (of_three files trees env i r at u of_rules c.in_ok-row.row c.in_ok-row.ensures.row c.in_ok-own.own.items c.in_ok-parts.parts.items same two all.items c.in_ok-own.ensures
-    (c.in_ok-parts.ensures trees c.self.invariant.0) (c.in_ok-same.ensures.findings files trees i here at first) c.in_ok-found.ensures e))
+    subst (λ (v : Checked). Lists files (rule_trees v.rules) (IsFindingIn files v.universe (rule_trees v.rules) v.env i) all.items) c.self.view_is
+    (of_three files u trees env i r at c.in_ok-row.row c.in_ok-row.ensures.row c.in_ok-own.own.items c.in_ok-parts.parts.items same two all.items c.in_ok-own.ensures
+    (c.in_ok-parts.ensures trees c.self.invariant.1) (c.in_ok-same.ensures.findings files trees i here at first) c.in_ok-found.ensures e))
     c.both-2.ensures
 
 pub returns-clause-numbers : goal.returns-clause-numbers
@@ -85,12 +78,12 @@ returns-clause-numbers c files =
     let rule : Rule = c.get-rule.result.now in
     let r : RuleTree = rule_tree rule in
     let at : slice_get trees i ≡ Some r = slice_get-map rule_tree rules i ∙ ap (option_map rule_tree) c.get-rule.ensures.value in
-    let first = first_of trees c.self.inside.firsts.items i r c.index.result.now at c.self.invariant.1 c.index.ensures in
+    let first = first_of trees c.self.inside.firsts.items i r c.index.result.now at c.self.invariant.2 c.index.ensures in
     let two : List Row = c.in_ok-found.found.items in
     let same : List Row = c.in_ok-same.same.items in
     IfOk-weaker c.both-2.result (λ all. all.items ≡ two ++ same) (λ all. AreNumbered files (rule_trees c.args.self.now.rules) i all.items)
     (λ all e.
     subst (λ (v : Checked). AreNumbered files (rule_trees v.rules) i all.items) c.self.view_is
-    (numbered_three files trees i c.in_ok-own.own.items c.in_ok-parts.parts.items same two all.items c.in_ok-own.ensures.numbers (c.in_ok-parts.ensures trees c.self.invariant.0).numbers
+    (numbered_three files trees i c.in_ok-own.own.items c.in_ok-parts.parts.items same two all.items c.in_ok-own.ensures.numbers (c.in_ok-parts.ensures trees c.self.invariant.1).numbers
     (c.in_ok-same.ensures.numbers files trees i at first) c.in_ok-found.ensures e))
     c.both-2.ensures
