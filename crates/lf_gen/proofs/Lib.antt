@@ -1,0 +1,4 @@
+pub mod LineLaws
+pub mod RuleLaws
+pub mod Worked
+pub mod Written

@@ -1,0 +1,11 @@
+pub mod Simple
+pub mod Rows
+pub mod Steps
+pub mod Forms
+pub mod Theorem
+pub mod GenWords
+pub mod Numbers
+pub mod Asked
+pub mod Worked
+pub mod Inversion
+pub mod Onward

@@ -1,0 +1,3 @@
+pub mod Lint
+pub mod Grammar
+pub mod views
