@@ -19,7 +19,7 @@ use Rattle.lf_classes.specs.Limits.{most_classes}
 use Rattle.lf_trials.specs.Candidates.{candidates, chosen_from, first_free, has_presence, in_row, is_one_of, labels_in, other_name}
 use Rattle.lf_trials.specs.Verdicts.{leaves}
 use Rattle.lf_trials.proofs.FirstFree.{candidate_is, other_name_is}
-use Rattle.lf_report.proofs.Universes.{set_length}
+use Rattle.lf_lint.proofs.Shapes.{set_length}
 use Rattle.lf_lint.specs.Headline.{label_for}
 
 -- some text is chosen and passes, where each class has a text that passes as the class does

@@ -1,6 +1,12 @@
-pub mod Fronts
+mod Accepted
+pub mod Gathered
+pub mod GeneratedSize
 mod Leaves
 pub mod OneReport
-mod ShortLists
+pub mod SameBytes
+mod Shapes
+pub mod Standing
 mod Streams
+mod ToldRules
 pub mod Truths
+pub mod Written

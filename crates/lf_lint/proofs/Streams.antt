@@ -5,7 +5,8 @@ use Rattle.std.proofs.lemmas.List.{take-append-drop}
 use Rattle.std.proofs.lemmas.Grind.{common_steps}
 use Rattle.lf_base.specs.declared.outside.Failed.{Failed}
 use Rattle.lf_base.specs.Outside.{Reads, Takes}
-use Rattle.lf_lint.specs.Ends.{AreAsTold, Wrote}
+use Rattle.lf_lint.specs.Ends.{Wrote}
+use Rattle.lf_lint.specs.Read.{AreAsTold}
 
 -- the rest of a list from a place on
 pub rest_of : (xs : List ℕ) (k : ℕ) → take (length xs - k) (drop k xs) ≡ drop k xs

@@ -1,15 +1,12 @@
--- What a report says of the labels of rules is true, and so is what its findings claim.
-use Rattle.std.proofs.Common.{◌≡◌, ◌≢◌, inl, inr, ℕ, zero, suc, ◌+◌, ◌<◌, ◌≤◌, ◌^◌, Bool, true, false, not, cond, eqb, List, [], ◌∷◌, ◌++◌, map, length, get_or, length-append, Option, Some, None, refl, sym, ◌∙◌, ap, ap₂, subst, true≢false, arith, codes}
+-- What a report says of rules is true, and so is what its findings claim.
+use Rattle.std.proofs.Common.{◌≡◌, ◌≢◌, inl, inr, ℕ, zero, suc, ◌+◌, ◌<◌, ◌≤◌, ◌^◌, Bool, true, false, not, eqb, List, [], ◌∷◌, map, length, get_or, length-append, Option, Some, None, if◌then◌else◌, refl, sym, ◌∙◌, ap, subst, true≢false, arith, codes}
 use Rattle.std.specs.Prelude.{slice_get, slice_index_or}
-use Rattle.std.specs.List.{AllByRecursion, Contains, count_by, flat_map}
-use Rattle.std.specs.Option.{option_map}
+use Rattle.std.specs.List.{Contains}
 use Rattle.std.proofs.lemmas.List.{length-map}
 use Rattle.std.proofs.lemmas.List.Elements.{Contains-append_right}
-use Rattle.std.proofs.lemmas.Option.{slice_get-map}
-use Rattle.std.proofs.lemmas.List.Sums.{sum_by-cons}
 use Rattle.lf_ast.specs.Labels.{Bytes, Labels as LabelTexts}
 use Rattle.lf_ast.specs.Rules.{RuleTree}
-use Rattle.lf_semantics.specs.ClassRows.{HasShape, Represents, Sets, holds}
+use Rattle.lf_semantics.specs.ClassRows.{HasShape, Represents, Sets, holds, is_live}
 use Rattle.lf_semantics.specs.Environments.{IsLeast, rule_row}
 use Rattle.lf_semantics.specs.Listing.{Listing, class_count, label_count, label_of, universe_of}
 use Rattle.lf_semantics.specs.RowTable.{Environment, has_class, may_be_absent, may_be_present, set_at}
@@ -26,7 +23,7 @@ use Rattle.lf_checks.specs.Findings.{AreFindings}
 use Rattle.lf_checks.specs.Truths.{IsTrue as IsTrueFinding}
 use Rattle.lf_checks.proofs.TrueFindings.{finding_is_true}
 use Rattle.lf_laws.proofs.Booleans.{clash}
-use Rattle.lf_laws.proofs.Members.{behind, here, none_in, of_flat_map, only_one, same_true, true_same}
+use Rattle.lf_laws.proofs.Members.{here, none_in, of_flat_map, only_one, same_true, true_same}
 use Rattle.lf_trials.specs.Candidates.{has_presence, labels_in, other_name}
 use Rattle.lf_trials.specs.Reached.{listed, rules_at}
 use Rattle.lf_trials.specs.Trials.{IsFirstShown, Shown, Shows}
@@ -34,21 +31,17 @@ use Rattle.lf_trials.specs.Verdicts.{AreLabelVerdicts, IsLabelVerdict, IsRuleVer
 use Rattle.lf_trials.proofs.ShownInWorlds.{at_number, built_is_scraped, found_in, uniform_is_scraped}
 use Rattle.lf_witness.specs.StrictRuns.{RuleStrictlyGives}
 use Rattle.lf_witness.proofs.StrictRunIsRun.{step_of, world_behind}
-use Rattle.lf_report.specs.declared.asked.Asked.{Asked}
-use Rattle.lf_report.specs.declared.file_report.FileReport.{FileReport}
-use Rattle.lf_report.specs.declared.report.verdict.Verdict.{Verdict}
-use Rattle.lf_accept.specs.Accepted.{IsAccepted}
-use Rattle.lf_report.specs.Checked.{AreChecked, Checked, findings_of, note_count, problem_count}
-use Rattle.lf_lint.specs.declared.status.Status.{Status}
-use Rattle.lf_lint.specs.Ends.{IsOfRules, Judged, Wrote, WroteAll, end_of}
-use Rattle.lf_report.specs.Founds.{AreWithin, Content, Refused, Rules}
-use Rattle.lf_lint.specs.Headline.{IsInWorld, IsTrue, IsTrueReport, IsTrueSaid, Said, SpeaksTruth, Spoken, WroteTruth, findings_spoken, is_empty, label_for, said_text, spoken_lines, totals_spoken, verdicts_said}
-use Rattle.lf_report.specs.Report.{IsReportOn, IsRulesReport, checked_lines, empty_count, files_of, finding_lines, label_line, label_lines, labels_of, lines_text, place_text, rule_line, rules_text, said_lines, totals_line, totals_lines, verdicts_line, verdicts_of, with_labels}
-use Rattle.lf_report.specs.Verdicts.{is_empty as is_called_empty, told, told_of}
-use Rattle.lf_accept.proofs.AcceptedRules.{sets_no_name}
-use Rattle.lf_accept.proofs.Starless.{no_star}
-use Rattle.lf_report.proofs.Universes.{shape_rule}
+use Rattle.lf_judge.specs.Founds.{accepted}
+use Rattle.lf_judge.specs.Judged.{AreChecked, Checked, IsReportOn, ToldRule, finding_in, finding_told, is_empty, labels_of, rule_in, rule_told, rules_told, verdict_told, verdicts_told, world_told}
+use Rattle.lf_judge.specs.Limits.{AreWithin}
+use Rattle.lf_report.specs.declared.report.Finding.{Finding as ReportFinding}
+use Rattle.lf_report.specs.declared.report.Report.{Report}
+use Rattle.lf_report.specs.declared.report.RuleReport.{RuleReport}
+use Rattle.lf_lint.specs.Headline.{IsInWorld, IsTrue, IsTrueEmptiness, IsTrueReport, IsTrueSaid, IsTrueToldFinding, SpeaksTruth, label_for}
+use Rattle.lf_lint.proofs.Accepted.{no_star_in, set_no_name}
 use Rattle.lf_lint.proofs.Leaves.{few_named, label_for_at, label_for_same, leaves_absent, leaves_present}
+use Rattle.lf_lint.proofs.Shapes.{shape_rule}
+use Rattle.lf_lint.proofs.ToldRules.{of_map, to_map, told_at, told_count}
 
 -- ---- worlds
 
@@ -77,7 +70,7 @@ module _ (rules : List RuleTree) (env : Environment) (i : ℕ) (r : RuleTree) (a
   is_scraped shown (inr uniform) = uniform_is_scraped (universe_of rules) env rules (universe_is_listing rules) i label presence shown.trial uniform.1.0
 
   -- what is shown first is a sample in a world of the steps that show it, and has the presence
-  in_world : (shown : Shown) → IsFirstShown (universe_of rules) env rules i label presence shown → IsInWorld rules i r label presence shown × (has_presence presence (value_of shown.sample label) ≡ true)
+  in_world : (shown : Shown) → IsFirstShown (universe_of rules) env rules i label presence shown → IsInWorld rules i r label presence (world_told shown) × (has_presence presence (value_of shown.sample label) ≡ true)
   in_world shown first =
       let is = shows shown first in
       let same : is.rule ≡ r = (let e : Some is.rule ≡ Some r = sym is.is_rule ∙ at in cc) in
@@ -132,34 +125,34 @@ module _ (rules : List RuleTree) (env : Environment) (shape : (r : RuleTree) →
         leaves_absent universe (universe_is_listing rules) label few rule_sets (shape r)
         ∙ ap (λ (k : ℕ). holds rule_sets k 0) (label_for_same universe names_few name)
 
-    true_verdict : (v : LabelVerdict) → IsLabelVerdict universe env rules i rule_sets label v → IsTrue rules env i r v name
+    true_verdict : (v : LabelVerdict) → IsLabelVerdict universe env rules i rule_sets label v → IsTrue rules env i r (verdict_told i r v) name
     true_verdict Guaranteed is =
         let lacking : may_be_absent universe rule_sets name ≡ false = sym same_absent ∙ is in
         record {
           true_of = λ world s sample. is_present universe rule_sets s (lies world s sample) name lacking;
           is_open = (λ e. absurd e, λ both. clash (may_be_absent universe rule_sets name) both.1 lacking);
-          unresolved = (λ e. cc, λ both. absurd (clash (may_be_absent universe rule_sets name) both.0.1 lacking));
+          unresolved = (λ e. absurd e, λ both. clash (may_be_absent universe rule_sets name) both.0.1 lacking);
         }
     true_verdict Impossible is =
         let there : may_be_present universe rule_sets name ≡ false = sym same_present ∙ is.0 in
         record {
           true_of = λ world s sample has. has (is_absent universe rule_sets s (lies world s sample) name there);
           is_open = (λ e. absurd e, λ both. clash (may_be_present universe rule_sets name) both.0 there);
-          unresolved = (λ e. cc, λ both. absurd (clash (may_be_present universe rule_sets name) both.0.0 there));
+          unresolved = (λ e. absurd e, λ both. clash (may_be_present universe rule_sets name) both.0.0 there);
         }
-    true_verdict (Possible with without) is =
-        let there = in_world rules env i r at label true with is.1 in
-        let lacking = in_world rules env i r at label false without is.2 in
+    true_verdict (Possible present absent) is =
+        let there = in_world rules env i r at label true present is.1 in
+        let lacking = in_world rules env i r at label false absent is.2 in
         record {
-          true_of = ((there.0, is_there (value_of with.sample label) there.1), (lacking.0, λ has. has (is_lacking (value_of without.sample label) lacking.1)));
+          true_of = ((there.0, is_there (value_of present.sample label) there.1), (lacking.0, λ has. has (is_lacking (value_of absent.sample label) lacking.1)));
           is_open = (λ e. (sym same_present ∙ is.0.0, sym same_absent ∙ is.0.1), λ both. tt);
-          unresolved = (λ e. cc, λ both. absurd (elim both.1 [ inl none ↦ none with is.1 | inr none ↦ none without is.2 ]));
+          unresolved = (λ e. absurd e, λ both. elim both.1 [ inl none ↦ none present is.1 | inr none ↦ none absent is.2 ]);
         }
     true_verdict Unresolved is =
         record {
-          true_of = tt;
+          true_of = (refl, refl, refl);
           is_open = (λ e. (sym same_present ∙ is.0.0, sym same_absent ∙ is.0.1), λ both. tt);
-          unresolved = (λ e. ((sym same_present ∙ is.0.0, sym same_absent ∙ is.0.1), is.1), λ both. refl);
+          unresolved = (λ e. ((sym same_present ∙ is.0.0, sym same_absent ∙ is.0.1), is.1), λ both. tt);
         }
 
   -- the verdict at the place of a label
@@ -176,66 +169,10 @@ module _ (rules : List RuleTree) (env : Environment) (shape : (r : RuleTree) →
   verdict_count (l ∷ labels) [] are = absurd are
   verdict_count (l ∷ labels) (v ∷ verdicts) are = ap (λ n. suc n) (verdict_count labels verdicts are.1)
 
--- ---- the claims on a rule
+-- ---- what is told of a rule
 
-claims_of : List Bytes → List LabelVerdict → List (Bytes × LabelVerdict)
-claims_of [] verdicts = []
-claims_of (l ∷ labels) [] = []
-claims_of (l ∷ labels) (v ∷ verdicts) = (l, v) ∷ claims_of labels verdicts
-
-claim_lines : (place : Bytes) (labels : List Bytes) (verdicts : List LabelVerdict)
-    → map (λ (claim : Bytes × LabelVerdict). label_line place claim.0 (told claim.1)) (claims_of labels verdicts) ≡ label_lines place labels (map told verdicts)
-unfolding claims_of
-claim_lines place [] verdicts = refl
-claim_lines place (l ∷ labels) [] = refl
-claim_lines place (l ∷ labels) (v ∷ verdicts) = ap (λ (ls : List Bytes). label_line place l (told v) ∷ ls) (claim_lines place labels verdicts)
-
-claim_labels : (labels : List Bytes) (verdicts : List LabelVerdict) → length verdicts ≡ length labels → map (λ (claim : Bytes × LabelVerdict). claim.0) (claims_of labels verdicts) ≡ labels
-unfolding claims_of
-claim_labels [] verdicts n = refl
-claim_labels (l ∷ labels) [] n = absurd (omega (arith, n))
-claim_labels (l ∷ labels) (v ∷ verdicts) n = ap (λ (ls : List Bytes). l ∷ ls) (claim_labels labels verdicts (omega (arith, n)))
-
-claim_verdicts : (labels : List Bytes) (verdicts : List LabelVerdict) → length verdicts ≡ length labels → map (λ (claim : Bytes × LabelVerdict). told claim.1) (claims_of labels verdicts) ≡ map told verdicts
-unfolding claims_of
-claim_verdicts [] [] n = refl
-claim_verdicts [] (v ∷ verdicts) n = absurd (omega (arith, n))
-claim_verdicts (l ∷ labels) [] n = absurd (omega (arith, n))
-claim_verdicts (l ∷ labels) (v ∷ verdicts) n = ap (λ (ls : List Verdict). told v ∷ ls) (claim_verdicts labels verdicts (omega (arith, n)))
-
-claim_at : (labels : List Bytes) (verdicts : List LabelVerdict) (k : ℕ) (v : LabelVerdict) → k < length labels → slice_get verdicts k ≡ Some v → slice_get (claims_of labels verdicts) k ≡ Some (get_or labels k [], v)
-unfolding claims_of
-claim_at [] verdicts k v less at = absurd (omega arith)
-claim_at (l ∷ labels) [] k v less at = cc
-claim_at (l ∷ labels) (w ∷ verdicts) zero v less at = (let same : w ≡ v = cc in ap (λ (x : LabelVerdict). Some (l, x)) same)
-claim_at (l ∷ labels) (w ∷ verdicts) (suc k) v less at = claim_at labels verdicts k v (omega (arith, less)) at
-
--- what is said by a verdict
-abbrev said_by : List Bytes → RuleVerdict → Said
-said_by labels Empty = Said.empty
-said_by labels (Labels verdicts) = Said.verdicts (claims_of labels verdicts)
-
-said_same : (place : Bytes) (labels : List Bytes) (v : RuleVerdict) → said_text place (said_by labels v) ≡ said_lines place labels v
-said_same place labels Empty = refl
-said_same place labels (Labels verdicts) = claim_lines place labels verdicts
-
--- there is a verdict for each label
-abbrev IsFull : List Bytes → RuleVerdict → Type 0
-IsFull labels Empty = Unit {0}
-IsFull labels (Labels verdicts) = length verdicts ≡ length labels
-
-verdicts_same : (labels : List Bytes) (v : RuleVerdict) → IsFull labels v → verdicts_said (said_by labels v) ≡ told_of v
-verdicts_same labels Empty n = refl
-verdicts_same labels (Labels verdicts) n = claim_verdicts labels verdicts n
-
-empty_same : (labels : List Bytes) (v : RuleVerdict) → is_empty (said_by labels v) ≡ is_called_empty v
-empty_same labels Empty = refl
-empty_same labels (Labels verdicts) = refl
-
--- ---- the rules
-
-module _ (rules : List RuleTree) (named : (r : RuleTree) → Contains rules r → SetsNoName r) (env : Environment) (least : IsLeast (universe_of rules) rules env)
-    (starless : Contains (universe_of rules).names (codes "*") → ⊥) (labels_few : label_count (universe_of rules) ≤ most_labels) (classes_few : class_count (universe_of rules) ≤ most_classes) where
+module _ (rules : List RuleTree) (named : (r : RuleTree) → Contains rules r → SetsNoName r) (env : Environment) (least : IsLeast (universe_of rules) rules env) (labels_few : label_count (universe_of rules) ≤ most_labels)
+    (classes_few : class_count (universe_of rules) ≤ most_classes) where
   abbrev u : Listing
   u = universe_of rules
 
@@ -251,115 +188,78 @@ module _ (rules : List RuleTree) (named : (r : RuleTree) → Contains rules r �
   within : (name : Bytes) → label_of u name < length (labels_of u)
   within name = omega (arith, place_le u.names name, length-append u.names (codes "*" ∷ []))
 
-  full : (i : ℕ) (r : RuleTree) → slice_get rules i ≡ Some r → (v : RuleVerdict) → IsRuleVerdict u env rules i r v → IsFull (labels_of u) v
-  full i r at Empty is = tt
-  full i r at (Labels verdicts) is = verdict_count rules env shape labels_few classes_few i r at (lies r) (labels_in u) verdicts is.1 ∙ sym label_total
+  true_emptiness : (i : ℕ) (r : RuleTree) (v : RuleVerdict) → IsRuleVerdict u env rules i r v → IsTrueEmptiness rules env r (is_empty v)
+  true_emptiness i r Empty is = record { exactly = (λ e. is, λ e. refl); no_sample = λ e world s sample. not_empty u (rule_row u env r) s (lies r world s sample) is }
+  true_emptiness i r (Labels verdicts) is = record { exactly = (λ e. cc, λ e. absurd (clash (is_live (rule_row u env r)) is.0 e)); no_sample = λ e. cc }
 
-  true_said : (i : ℕ) (r : RuleTree) → slice_get rules i ≡ Some r → (v : RuleVerdict) → IsRuleVerdict u env rules i r v → IsTrueSaid rules env i r (said_by (labels_of u) v)
-  true_said i r at Empty is = (is, λ world s sample. not_empty u (rule_row u env r) s (lies r world s sample) is)
-  true_said i r at (Labels verdicts) is = (
+  true_said : (i : ℕ) (r : RuleTree) → slice_get rules i ≡ Some r → (labels : Bool) (v : RuleVerdict) → IsRuleVerdict u env rules i r v → IsTrueSaid rules env i r labels (if labels then Some (verdicts_told i r v) else None)
+  true_said i r at false v is = refl
+  true_said i r at true Empty is = (refl, is)
+  true_said i r at true (Labels verdicts) is = (
+    refl,
     is.0,
-    claim_labels (labels_of u) verdicts (full i r at (Labels verdicts) is),
+    length-map verdicts (verdict_told i r) ∙ verdict_count rules env shape labels_few classes_few i r at (lies r) (labels_in u) verdicts is.1 ∙ sym label_total,
     λ name.
         let k = label_of u name in
         let found = verdict_at rules env shape labels_few classes_few i r at (lies r) (labels_in u) verdicts is.1 k (omega (arith, within name, label_total)) in
         let of_label = subst (λ (l : Bytes). IsLabelVerdict u env rules i (rule_row u env r) l found.0) (label_for_at u (omega (arith, labels_few)) name) found.2 in
-        ((get_or (labels_of u) k [], found.0), claim_at (labels_of u) verdicts k found.0 (within name) found.1, true_verdict rules env shape labels_few classes_few i r at (lies r) name found.0 of_label),
+        (verdict_told i r found.0, to_map (verdict_told i r) verdicts k found.0 found.1, true_verdict rules env shape labels_few classes_few i r at (lies r) name found.0 of_label),
   )
 
-  abbrev speak : Checked → Spoken
-  speak c = record { rule = c.rule; said = said_by (labels_of u) c.verdict; found = c.found }
-
-  -- ---- findings
-
-  all_members : (P : Finding → Type 0) (found : List Finding) → ((f : Finding) → Contains found f → P f) → AllByRecursion P found
-  all_members P [] h = tt
-  all_members P (f ∷ found) h = (h f (here f found), all_members P found (λ g c. h g (behind f found g c)))
-
-  -- the findings of a rule are true of it, where the list has them and the rule
-  found_true : (files : List File) (i : ℕ) (c : Checked) → slice_get rules i ≡ Some c.rule → AreFindings files rules env i c.found → AllByRecursion (IsTrueFinding rules c.rule) c.found
-  found_true files i c at are = all_members (IsTrueFinding rules c.rule) c.found (λ f has.
+  -- the findings of a rule are true of it
+  found_true : (files : List File) (i : ℕ) (c : Checked) → slice_get rules i ≡ Some c.rule → AreFindings files rules env i c.found → (f : Finding) → Contains c.found f → IsTrueFinding rules c.rule f
+  found_true files i c at are f has =
       let told = finding_is_true rules named env least files i f (are.each f has) in
       let same : told.0 ≡ c.rule = (let e : Some told.0 ≡ Some c.rule = sym told.1 ∙ at in cc) in
-      subst (λ (r : RuleTree). IsTrueFinding rules r f) same told.2)
+      subst (λ (r : RuleTree). IsTrueFinding rules r f) same told.2
 
-  rule_at : (checked : List Checked) (i : ℕ) (c : Checked) → map (λ (x : Checked). x.rule) checked ≡ rules → slice_get checked i ≡ Some c → slice_get rules i ≡ Some c.rule
-  rule_at checked i c each at = ap (λ l. slice_get l i) (sym each) ∙ slice_get-map (λ (x : Checked). x.rule) checked i ∙ ap (option_map (λ (x : Checked). x.rule)) at
+  true_finding : (files : List File) (i : ℕ) (c : Checked) (told : RuleReport) → slice_get rules i ≡ Some c.rule → AreFindings files rules env i c.found → map finding_in told.findings ≡ map finding_told c.found → (k : ℕ) (finding : ReportFinding)
+      → slice_get told.findings k ≡ Some finding → IsTrueToldFinding rules c.rule finding
+  true_finding files i c told at are same k finding here =
+      let there : slice_get (map finding_told c.found) k ≡ Some (finding_in finding) = ap (λ l. slice_get l k) (sym same) ∙ to_map finding_in told.findings k finding here in
+      let (f, is, tells) = of_map finding_told c.found k (finding_in finding) there in
+      (f, tells, found_true files i c at are f (at_number c.found k f is))
 
-  spoken_at : (checked : List Checked) (i : ℕ) (s : Spoken) → slice_get (map speak checked) i ≡ Some s → (c : Checked) × (slice_get checked i ≡ Some c) × (speak c ≡ s)
-  spoken_at [] i s e = cc
-  spoken_at (c ∷ checked) zero s e = (c, refl, cc)
-  spoken_at (c ∷ checked) (suc i) s e = spoken_at checked i s e
-
-  all_spoken : (files : List File) (checked : List Checked) → AreChecked files rules env checked → (i : ℕ) (s : Spoken) → slice_get (map speak checked) i ≡ Some s → SpeaksTruth rules env i s
-  all_spoken files checked are i s e =
-      let (c, at, same) = spoken_at checked i s e in
-      let of_rule = rule_at checked i c are.each_rule at in
-      subst (SpeaksTruth rules env i) same (true_said i c.rule of_rule c.verdict (are.each_verdict i c at), found_true files i c of_rule (are.each_list i c at))
-
-  -- ---- the text
-
-  rules_spoken : (checked : List Checked) → map (λ (s : Spoken). s.rule) (map speak checked) ≡ map (λ (c : Checked). c.rule) checked
-  rules_spoken [] = refl
-  rules_spoken (c ∷ checked) = ap (λ (l : List RuleTree). c.rule ∷ l) (rules_spoken checked)
-
-  found_spoken : (checked : List Checked) → findings_spoken (map speak checked) ≡ findings_of checked
-  found_spoken [] = refl
-  found_spoken (c ∷ checked) = ap (λ (l : List Finding). c.found ++ l) (found_spoken checked)
-
-  lines_same : (asked : Asked) (bytes : Bytes) (c : Checked) → spoken_lines asked bytes (speak c) ≡ checked_lines asked bytes (labels_of u) c
-  lines_same asked bytes c =
-      ap (λ (l : List Bytes). with_labels asked.labels (rule_line (place_text asked.file bytes c.rule.name_span.start) c.rule.name ∷ l) ++ finding_lines asked.file bytes c.found)
-      (said_same (place_text asked.file bytes c.rule.expr_span.start) (labels_of u) c.verdict)
-
-  all_lines : (asked : Asked) (bytes : Bytes) (checked : List Checked) → flat_map (spoken_lines asked bytes) (map speak checked) ≡ flat_map (checked_lines asked bytes (labels_of u)) checked
-  all_lines asked bytes [] = refl
-  all_lines asked bytes (c ∷ checked) = ap₂ (λ (l m : List Bytes). l ++ m) (lines_same asked bytes c) (all_lines asked bytes checked)
-
-  all_full : (checked : List Checked) → ((i : ℕ) (c : Checked) → slice_get checked i ≡ Some c → IsFull (labels_of u) c.verdict) → flat_map (λ (s : Spoken). verdicts_said s.said) (map speak checked) ≡ verdicts_of checked
-  all_full [] each = refl
-  all_full (c ∷ checked) each = ap₂ (λ (l m : List Verdict). l ++ m) (verdicts_same (labels_of u) c.verdict (each 0 c refl)) (all_full checked (λ i d at. each (suc i) d at))
-
-  all_empty : (checked : List Checked) → count_by (λ (s : Spoken). is_empty s.said) (map speak checked) ≡ empty_count checked
-  all_empty [] = refl
-  all_empty (c ∷ checked) =
-      sum_by-cons (λ (s : Spoken). cond (is_empty s.said) 1 0) (speak c) (map speak checked)
-      ∙ ap₂ (λ (b : Bool) (n : ℕ). cond b 1 0 + n) (empty_same (labels_of u) c.verdict) (all_empty checked)
-      ∙ sym (sum_by-cons (λ (d : Checked). cond (is_called_empty d.verdict) 1 0) c checked)
-
-  totals_same : (asked : Asked) (files : List File) (checked : List Checked) → AreChecked files rules env checked → totals_lines asked checked ≡ totals_spoken asked rules (map speak checked)
-  totals_same asked files checked are =
-      let count : length checked ≡ length rules = sym (length-map checked (λ (c : Checked). c.rule)) ∙ ap length are.each_rule in
-      let verdicts = all_full checked (λ i c at. full i c.rule (rule_at checked i c are.each_rule at) c.verdict (are.each_verdict i c at)) in
-      ap₂ (λ (n : ℕ) (found : List Finding). totals_line 0 n (problem_count found) (note_count found) ∷ with_labels asked.labels (verdicts_line (verdicts_of checked) (empty_count checked) ∷ [])) count
-      (sym (found_spoken checked))
-      ∙ ap₂ (λ (said : List Verdict) (empty : ℕ). totals_line 0 (length rules) (problem_count (findings_spoken (map speak checked))) (note_count (findings_spoken (map speak checked)))
-      ∷ with_labels asked.labels (verdicts_line said empty ∷ [])) (sym verdicts) (sym (all_empty checked))
-
-  true_report : (asked : Asked) (bytes : Bytes) (checked : List Checked) → AreChecked (files_of asked bytes) rules env checked → IsTrueReport asked bytes rules (rules_text asked bytes (labels_of u) checked)
-  true_report asked bytes checked are = record {
-    env = env;
-    least = least;
-    no_star = starless;
-    spoken = map speak checked;
-    each_rule = rules_spoken checked ∙ are.each_rule;
-    text = ap₂ (λ (lines totals : List Bytes). lines_text (lines ++ totals)) (sym (all_lines asked bytes checked)) (totals_same asked (files_of asked bytes) checked are);
-    all_true = all_spoken (files_of asked bytes) checked are;
+  speaks : (files : List File) (labels : Bool) (i : ℕ) (c : Checked) (told : RuleReport) → slice_get rules i ≡ Some c.rule → IsRuleVerdict u env rules i c.rule c.verdict → AreFindings files rules env i c.found → rule_in told ≡ rule_told labels i c
+      → SpeaksTruth rules env labels i c.rule told
+  speaks files labels i c told at is are tells = record {
+    file = ap (λ (t : ToldRule). t.file) tells;
+    alert = ap (λ (t : ToldRule). t.alert) tells;
+    name = ap (λ (t : ToldRule). t.name) tells;
+    name_span = ap (λ (t : ToldRule). t.name_span) tells;
+    empty = subst (IsTrueEmptiness rules env c.rule) (sym (ap (λ (t : ToldRule). t.empty) tells)) (true_emptiness i c.rule c.verdict is);
+    said = subst (IsTrueSaid rules env i c.rule labels) (sym (ap (λ (t : ToldRule). t.verdicts) tells)) (true_said i c.rule at labels c.verdict is);
+    findings = true_finding files i c told at are (ap (λ (t : ToldRule). t.findings) tells);
   }
 
--- a report on rules
-true_on : (asked : Asked) (bytes : Bytes) (rules : List RuleTree) → IsAccepted bytes 0 rules → AreWithin asked.labels rules → (report : FileReport) → IsRulesReport asked bytes rules report
-    → IsTrueReport asked bytes rules report.text
-true_on asked bytes rules accepted fits report on =
-    let P : Bytes → Type 0 = λ text. IsTrueReport asked bytes rules text in
-    subst P (sym on.text)
-    (true_report rules (sets_no_name bytes 0 rules accepted) on.env on.least (λ c. no_star bytes 0 rules accepted (codes "*") c refl) fits.labels_fit fits.classes_fit asked bytes on.checked on.are_checked)
+  rule_at : (checked : List Checked) (i : ℕ) (c : Checked) → map (λ (x : Checked). x.rule) checked ≡ rules → slice_get checked i ≡ Some c → slice_get rules i ≡ Some c.rule
+  rule_at checked i c each at = ap (λ l. slice_get l i) (sym each) ∙ to_map (λ (x : Checked). x.rule) checked i c at
 
--- some rules were found
-wrote_on : (words : List Bytes) (held : Bytes → Option Bytes) (before now : Option Bytes) (status : Status) → IsOfRules status → (asked : Asked) (bytes : Bytes) (found : Content) → Judged words held asked bytes found
-    → (report : FileReport) → IsReportOn asked bytes found report → end_of found report ≡ status → Wrote before now report.text → WroteTruth words held before now
-wrote_on words held before now status good asked bytes (Rules rules) judged report on ends written = (asked, bytes, rules, judged, report.text, written, true_on asked bytes rules judged.holds judged.fits report on)
-wrote_on words held before now status good asked bytes (Refused kind span) judged report on ends written = absurd (subst IsOfRules (sym ends) good)
+  all_speak : (files : List File) (labels : Bool) (checked : List Checked) (reports : List RuleReport) → AreChecked files rules env checked → map rule_in reports ≡ rules_told labels 0 checked → (i : ℕ) (r : RuleTree) (told : RuleReport)
+      → slice_get rules i ≡ Some r → slice_get reports i ≡ Some told → SpeaksTruth rules env labels i r told
+  all_speak files labels checked reports are tell i r told at here =
+      let there : slice_get (rules_told labels 0 checked) i ≡ Some (rule_in told) = ap (λ l. slice_get l i) (sym tell) ∙ to_map rule_in reports i told here in
+      let (c, is, numbered) = told_at labels 0 checked i (rule_in told) there in
+      let zero : 0 + i ≡ i = omega arith in
+      let tells : rule_told labels i c ≡ rule_in told = ap (λ k. rule_told labels k c) (sym zero) ∙ numbered in
+      let of_rule = rule_at checked i c are.each_rule is in
+      let same : c.rule ≡ r = (let e : Some c.rule ≡ Some r = sym of_rule ∙ at in cc) in
+      subst (λ (x : RuleTree). SpeaksTruth rules env labels i x told) same (speaks files labels i c told of_rule (are.each_verdict i c is) (are.each_list i c is) (sym tells))
 
-pub wrote_truth : (words : List Bytes) (held : Bytes → Option Bytes) (before now : Option Bytes) (status : Status) → IsOfRules status → WroteAll words held before now status → WroteTruth words held before now
-wrote_truth words held before now status good (asked, bytes, found, judged, report, on, ends, written) = wrote_on words held before now status good asked bytes found judged report on ends written
+-- a report on files is true
+pub true_report : (files : List File) (labels : Bool) (report : Report) (on : IsReportOn files labels report) → AreWithin labels (accepted on.contents) → IsTrueReport files (accepted on.contents) report
+true_report files labels report on fits =
+    let rules = accepted on.contents in
+    record {
+      contents = on.contents;
+      are_contents = on.are_contents;
+      are_accepted = refl;
+      files_said = on.files_are;
+      env = on.env;
+      least = on.least;
+      no_star = no_star_in files on.contents on.are_contents;
+      universe = on.universe_is;
+      count = sym (length-map report.rules rule_in) ∙ ap length on.rules_are ∙ told_count labels 0 on.checked ∙ sym (length-map on.checked (λ (c : Checked). c.rule)) ∙ ap length on.are_checked.each_rule;
+      all_true = subst (λ (l : Bool). (i : ℕ) (r : RuleTree) (told : RuleReport) → slice_get rules i ≡ Some r → slice_get report.rules i ≡ Some told → SpeaksTruth rules on.env l i r told) (sym on.labels_are)
+          (all_speak rules (set_no_name files on.contents on.are_contents) on.env on.least fits.labels_fit fits.classes_fit files labels on.checked report.rules on.are_checked on.rules_are);
+    }

@@ -1,4 +1,6 @@
-pub mod Asks
+pub mod Asked
 pub mod Ends
 pub mod Headline
+pub mod Read
 pub mod Statuses
+pub mod views

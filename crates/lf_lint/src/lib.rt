@@ -1,16 +1,20 @@
-//! What the program does: it reads the words and the file, accepts and judges its rules, and writes the report.
+//! What the program does: it reads the words and the files, accepts and judges their rules, and writes the report.
 #![tactic(auto)]
 
 mod linting;
+mod making;
+mod output;
 mod reading;
+mod sources;
 mod status;
-mod words;
+mod unreported;
 mod writing;
 
-pub use lf_accept::{accept, one_file};
-pub use lf_report::{Asked, FileContent, JudgeEnd, report_text};
+pub use lf_gen::gen_text;
+pub use lf_judge::{JudgeEnd, Source, judge};
+pub use lf_report::{json_of, text_of};
+pub use lf_words::{Options, WordFault, read_words};
 pub use linting::lint;
 pub use reading::{ReadEnd, read_whole};
 pub use status::Status;
-pub use words::{WordFault, read_words};
 pub use writing::write_whole;

@@ -1,26 +1,20 @@
 //! A run of the program.
-ghost use Rattle.std.specs.Prelude.{◌≡◌, ◌≢◌, ◌↔◌, ℕ, Bool, true, false, List, map, string_bytes, Option, IfOk, ◌+◌, ◌<◌, ◌≤◌, ◌^◌, length};
-ghost use Rattle.lf_report.specs.declared.asked.Asked.{Asked};
-ghost use Rattle.lf_report.specs.declared.file_report.FileReport.{FileReport};
-ghost use Rattle.lf_lint.specs.Asks.{Asks};
-ghost use Rattle.lf_lint.specs.Ends.{IsOfRules, IsReport, IsSilent, Passes, WroteAll, WrotePart, end_of};
-ghost use Rattle.lf_report.specs.Founds.{content};
+ghost use Rattle.std.specs.Prelude.{◌≡◌, ◌≢◌, ◌↔◌, ℕ, List, map, string_bytes, ◌+◌, ◌<◌, ◌≤◌, ◌^◌, length};
+ghost use Rattle.lf_report.specs.declared.report.Report.{Report};
+ghost use Rattle.lf_words.specs.Grammar.{Asks};
+ghost use Rattle.lf_words.specs.declared.options.Options.{Options};
+ghost use Rattle.lf_lint.specs.Asked.{names_of};
+ghost use Rattle.lf_judge.specs.Judged.{TellTheSame};
+ghost use Rattle.lf_lint.specs.Ends.{IsOfReport, IsOutcome, IsSilent, IsUnread, Passes, WroteAll, WrotePart};
 ghost use Rattle.lf_lint.specs.Headline.{WroteTruth};
 
-use crate::reading::{ReadEnd, read_whole};
+use crate::making::make;
 use crate::{Status, WordFault, read_words, write_whole};
 use lf_base::{Files, Gate, Sink};
-use lf_report::{FileContent, FileReport, JudgeEnd, report_text};
 use std::alloc::Global;
 use std::thread::Threads;
 
-/// The most bytes that a file may have: 4 MiB.
-const MOST_BYTES: u32 = 4 * 1024 * 1024;
-
-/// The number of that limit in a status.
-const FILE_BYTES: u8 = 2;
-
-/// A whole run of the program: lints the file that the words ask for, and writes the report on it. A file is linted on one thread.
+/// A whole run of the program: lints the files that the words ask for, or a generated one, and writes the report on them. Files are linted on one thread.
 ///
 /// The words come without the program's own name. The whole report is made before its first byte is written.
 pub fn lint<R: Threads + Sync, F: Files, O: Sink, G: Gate + Sync>(
@@ -36,9 +30,9 @@ pub fn lint<R: Threads + Sync, F: Files, O: Sink, G: Gate + Sync>(
     requires opens { F.opens files.old ≤ 2 ^ 31 }
 
     // The words alone decide this end, and nothing is opened.
-    ensures words { (result ≡ Status.Words) ↔ ((asked : Asked) → Asks (map string_bytes words.now) asked → ⊥) }
+    ensures words { (result ≡ Status.Words) ↔ ((options : Options) → Asks (map string_bytes words.now) options → ⊥) }
+    ensures asked { result ≢ Status.Words → (options : Options) × Asks (map string_bytes words.now) options }
     ensures unread { result ≡ Status.Words → files.new ≡ files.old }
-    ensures asked { result ≢ Status.Words → (asked : Asked) × Asks (map string_bytes words.now) asked }
 
     // The whole report was written, or a call of the sink failed after a front of it.
     ensures clean { result ≡ Status.Clean → WroteAll (map string_bytes words.now) (F.held files.old) (O.taken out.old) (O.taken out.new) Status.Clean }
@@ -46,66 +40,41 @@ pub fn lint<R: Threads + Sync, F: Files, O: Sink, G: Gate + Sync>(
     ensures refused { result ≡ Status.Refused → WroteAll (map string_bytes words.now) (F.held files.old) (O.taken out.old) (O.taken out.new) Status.Refused }
     ensures write { result ≡ Status.Write → (O.faults out.old < O.faults out.new) × WrotePart (map string_bytes words.now) (F.held files.old) (O.taken out.old) (O.taken out.new) }
 
-    // What the report says of labels, and by its findings of samples, is true of every run.
-    ensures headline { IsOfRules result → WroteTruth (map string_bytes words.now) (F.held files.old) (O.taken out.old) (O.taken out.new) }
+    // What the report says is true of every run of the rules.
+    ensures headline { IsOfReport result → WroteTruth (map string_bytes words.now) (F.held files.old) (O.taken out.old) (O.taken out.new) }
 
-    // There is one report for a list of words and the bytes of a file.
-    ensures one_report { (bytes : List ℕ) (a b : FileReport) → IsReport (map string_bytes words.now) bytes a → IsReport (map string_bytes words.now) bytes b → a ≡ b }
+    // There is one report for a list of words and the bytes of the files, and it is written in one way.
+    ensures one_report { (stand : List ℕ → List ℕ) (a b : Report) (c d : List ℕ) → IsOutcome (map string_bytes words.now) stand a c → IsOutcome (map string_bytes words.now) stand b d → TellTheSame a b × (c ≡ d) }
 
     // A file's number is that of the last call of `open`.
-    ensures read { (file : ℕ) → result ≡ Status.Read file → (F.faults files.old < F.faults files.new) × (F.opens files.new ≡ F.opens files.old + (file + 1)) }
-    ensures limit { (quantity count : ℕ) → result ≡ Status.Limit quantity count → Passes (map string_bytes words.now) (F.held files.old) (F.left files.new) quantity count }
+    ensures read { (file : ℕ) → result ≡ Status.Read file → (F.faults files.old < F.faults files.new) × (F.opens files.new ≡ F.opens files.old + (file + 1)) × IsUnread (map string_bytes words.now) (F.held files.old) file }
+    ensures limit { (quantity count : ℕ) → result ≡ Status.Limit quantity count → (opened : ℕ) × (F.opens files.new ≡ F.opens files.old + opened) × Passes (map string_bytes words.now) (F.held files.old) (F.left files.new) opened quantity count }
+
+    // Each file is opened once where the report was written whole or in part, and at most once else.
+    ensures opened { (options : Options) → Asks (map string_bytes words.now) options → IsOfReport result → F.opens files.new ≡ F.opens files.old + length (names_of options) }
+    ensures opened_at_write { (options : Options) → Asks (map string_bytes words.now) options → result ≡ Status.Write → F.opens files.new ≡ F.opens files.old + length (names_of options) }
+    ensures opened_once { (options : Options) → Asks (map string_bytes words.now) options → F.opens files.new ≤ F.opens files.old + length (names_of options) }
 
     // What else is as before.
     ensures quiet { IsSilent result → out.new ≡ out.old }
-    ensures opened { result ≢ Status.Words → result ≢ Status.Memory → F.opens files.new ≡ F.opens files.old + 1 }
-    ensures opened_once { F.opens files.new ≤ F.opens files.old + 1 }
     ensures files_calm { ((file : ℕ) → result ≢ Status.Read file) → F.faults files.new ≡ F.faults files.old }
     ensures out_calm { result ≢ Status.Write → O.faults out.new ≡ O.faults out.old }
     ensures kept { (name : List ℕ) → F.held files.new name ≡ F.held files.old name }
 {
-    // One file needs no thread.
+    // Files are linted on this thread alone.
     let _ = rt;
     let _ = gate;
-    let asked = match read_words(alloc, words) {
-        Ok(asked) => asked,
+    let options = match read_words(alloc, words) {
+        Ok(options) => options,
         Err(WordFault::Refused) => return Status::Words,
         Err(WordFault::Memory) => return Status::Memory,
     };
-    let bytes = match read_whole(alloc, files, &asked.file, MOST_BYTES) {
-        Ok(bytes) => bytes,
-        Err(ReadEnd::Failed) => return Status::Read { file: 0 },
-        Err(ReadEnd::TooLong) => {
-            return Status::Limit {
-                quantity: FILE_BYTES,
-                found: u64::from(MOST_BYTES) + 1,
-            };
-        }
-        Err(ReadEnd::Memory) => return Status::Memory,
+    let made = match make(alloc, &options, files) {
+        Ok(made) => made,
+        Err(why) => return why.status(),
     };
-    let Ok(file) = FileContent::of(alloc, bytes.as_slice()) else {
-        return Status::Memory;
-    };
-    let report = match report_text(alloc, &asked, &file) {
-        Ok(report) => report,
-        Err(JudgeEnd::Limit { quantity, found }) => return Status::Limit { quantity, found },
-        Err(JudgeEnd::Memory) => return Status::Memory,
-    };
-    match write_whole(out, report.text.as_str().as_bytes()) {
+    match write_whole(out, made.text.as_str().as_bytes()) {
         Err(_) => Status::Write,
-        Ok(()) => ending(&file, &report),
+        Ok(()) => made.status,
     }
-}
-
-/// How the report on what stands in a file ends a run once it is written.
-fn ending(file: &FileContent, report: &FileReport) -> Status
-    ensures { result ≡ end_of (content file.now.found) report.now }
-{
-    if file.is_refused() {
-        return Status::Refused;
-    }
-    if report.problems > 0 {
-        return Status::Problems;
-    }
-    Status::Clean
 }

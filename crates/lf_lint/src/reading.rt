@@ -1,9 +1,9 @@
 //! The reading of a whole file.
 ghost use Rattle.std.specs.Prelude.{◌≡◌, ◌≢◌, ℕ, List, ◌+◌, ◌-◌, ◌<◌, ◌≤◌, ◌^◌, Err, length, take, drop, vec_len, IfOk, OnOk, OnErr};
 ghost use Rattle.lf_base.specs.Outside.{Faults, Reads};
-ghost use Rattle.lf_lint.specs.Ends.{AreAsTold};
+ghost use Rattle.lf_lint.specs.Read.{AreAsTold};
 
-use lf_base::{Failed, Files, Seq, Text};
+use lf_base::{Failed, Files, Memory, Seq, Text};
 use std::alloc::{AllocError, Global};
 
 /// By how many bytes the part of the buffer that is read into grows.
@@ -27,6 +27,16 @@ impl From<Failed> for ReadEnd {
 
     fn from(_: Failed) -> ReadEnd {
         ReadEnd::Failed
+    }
+}
+
+impl From<Memory> for ReadEnd {
+    ghost use Rattle.lf_lint.specs.declared.reading.ReadEnd.TheVariants.{Memory};
+
+    ghost from_gives = { λ _ end. end ≡ Memory };
+
+    fn from(_: Memory) -> ReadEnd {
+        ReadEnd::Memory
     }
 }
 
@@ -58,7 +68,7 @@ pub fn read_whole<F: Files>(
 
     // A file is opened unless memory is wanting, and the count of faults rises only where the reading failed.
     ensures opened { result ≢ Err ReadEnd.Memory → F.opens files.new ≡ F.opens files.old + 1 }
-    ensures opened_once { F.opens files.new ≤ F.opens files.old + 1 }
+    ensures opened_once { (F.opens files.old ≤ F.opens files.new) × (F.opens files.new ≤ F.opens files.old + 1) }
     ensures calm { result ≢ Err ReadEnd.Failed → F.faults files.new ≡ F.faults files.old }
     ensures kept { (other : List ℕ) → F.held files.new other ≡ F.held files.old other }
 {
@@ -72,6 +82,7 @@ pub fn read_whole<F: Files>(
         let count = read_at(files, &mut bytes, filled)?;
         if count == 0 {
             bytes.truncate(filled);
+            bytes.shrink_to_fit();
             return Ok(Seq::from_vec(bytes));
         }
         filled += count;

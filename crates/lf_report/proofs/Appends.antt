@@ -2,7 +2,7 @@
 use Rattle.std.proofs.Common.{◌≡◌, ℕ, List, [], ◌∷◌, ◌++◌, codes, ap, ◌∙◌, append_assoc, sym}
 use Rattle.std.proofs.lemmas.List.Concat.{flat_map-append}
 use Rattle.lf_ast.specs.Labels.{Bytes}
-use Rattle.lf_report.specs.Report.{lines_text}
+use Rattle.lf_report.specs.Text.{lines_text}
 
 -- two pieces
 pub appended_two : (start one two : List ℕ) {first second : List ℕ} → first ≡ start ++ one → second ≡ first ++ two → second ≡ start ++ (one ++ two)
@@ -36,3 +36,8 @@ built_report total verdicts lines n e f g =
 pub finding_joined : (place severity check said : Bytes) → place ++ (codes ": " ++ (severity ++ (codes " [" ++ (check ++ (codes "] " ++ (said ++ 10 ∷ []))))))
     ≡ lines_text ((place ++ codes ": " ++ severity ++ codes " [" ++ check ++ codes "] " ++ said) ∷ [])
 finding_joined place severity check said = simp append_assoc
+
+-- five pieces
+pub appended_five : (start a b c d e : Bytes) {t1 t2 t3 t4 t5 : Bytes} → t1 ≡ start ++ a → t2 ≡ t1 ++ b → t3 ≡ t2 ++ c → t4 ≡ t3 ++ d → t5 ≡ t4 ++ e → t5 ≡ start ++ (a ++ (b ++ (c ++ (d ++ e))))
+appended_five start a b c d e {t1} {t2} {t3} p q r s t =
+    appended_two start a (b ++ (c ++ (d ++ e))) p (appended_two t1 b (c ++ (d ++ e)) q (appended_two t2 c (d ++ e) r (appended_two t3 d e s t)))

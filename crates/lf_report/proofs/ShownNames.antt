@@ -8,7 +8,7 @@ use Rattle.std.specs.Fmt.{digit_glyph}
 use Rattle.std.specs.Str.{IsUtf8, chars}
 use lib.Utf8.{encode, encodes}
 use Rattle.lf_ast.specs.Labels.{Bytes}
-use Rattle.lf_report.specs.Report.{shown, shown_byte}
+use Rattle.lf_report.specs.Shown.{shown, shown_byte}
 
 -- a byte of a control character
 pub shown_byte-control : (b : ℕ) → IsAsciiControl b → shown_byte b ≡ codes "\\x" ++ digit_glyph false (b / 16) ∷ digit_glyph false (b % 16) ∷ []

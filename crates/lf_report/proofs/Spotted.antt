@@ -1,13 +1,11 @@
 -- The line and the column of an offset, byte by byte.
-use Rattle.std.proofs.Common.{◌≡◌, ℕ, ◌+◌, ◌-◌, ◌<◌, ◌≤◌, ◌++◌, Bool, true, false, not, length, take, get_or, ap, ◌∙◌, arith, length-drop, length-take, min, codes}
-use Rattle.std.specs.Fmt.{decimal}
+use Rattle.std.proofs.Common.{◌≡◌, ℕ, ◌+◌, ◌-◌, ◌<◌, ◌≤◌, Bool, true, false, not, length, take, get_or, ap, ◌∙◌, arith, length-drop, length-take, min}
 use Rattle.std.specs.List.{after_last, suffix_len, count_by}
 use Rattle.std.proofs.lemmas.List.{take_min}
 use Rattle.std.proofs.lemmas.List.Sums.{count_by-le-length, count_by_more_yes, count_by_more_no, suffix_len-le-length, suffix_len-take_yes, suffix_len-take_no}
 use Rattle.lf_ast.specs.Labels.{Bytes}
 use Rattle.lf_base.specs.Places.{is_line_feed, line_at, column_at}
-use Rattle.lf_report.specs.declared.report.spot.Spot.{Spot}
-use Rattle.lf_report.specs.Report.{place_text, shown}
+use Rattle.lf_report.specs.declared.spot.Spot.{Spot}
 use Rattle.lf_report.specs.views.Spots.{IsSpot, IsSpotOf}
 
 -- the byte ends no line
@@ -56,11 +54,3 @@ spot_is bs offset spot is at = record {
   line_is = is.line_is ∙ ap (λ n. line_at bs n) at ∙ ap (λ xs. 1 + count_by is_line_feed xs) (take_min offset bs);
   column_is = is.column_is ∙ ap (λ n. column_at bs n) at ∙ ap (λ xs. 1 + length (after_last is_line_feed xs)) (take_min offset bs);
 }
-
--- the place of a spot, written out
-pub placed : (file name bytes : Bytes) (offset : ℕ) (spot : Spot) → file ≡ shown name → IsSpotOf bytes offset spot
-    → file ++ codes ":" ++ decimal spot.line ++ codes ":" ++ decimal spot.column ≡ place_text name bytes offset
-placed file name bytes offset spot shows is =
-    ap (λ f. f ++ codes ":" ++ decimal spot.line ++ codes ":" ++ decimal spot.column) shows
-    ∙ ap (λ n. shown name ++ codes ":" ++ decimal n ++ codes ":" ++ decimal spot.column) is.line_is
-    ∙ ap (λ n. shown name ++ codes ":" ++ decimal (line_at bytes offset) ++ codes ":" ++ decimal n) is.column_is

@@ -1,116 +1,134 @@
--- The definitions of reports on worked rules and files, by computation.
-use Rattle.std.proofs.Common.{◌≡◌, ℕ, false, true, List, [], ◌∷◌, codes, refl}
+-- The definitions of the text and the JSON on worked reports, by computation.
+use Rattle.std.proofs.Common.{◌≡◌, ℕ, false, true, List, [], ◌∷◌, Option, None, Some, codes, refl}
+use denote.Bor.{Bor}
 use Rattle.std.specs.Fmt.{digits}
-use Rattle.lf_base.specs.declared.kind.Kind.TheVariants.{LeftOut, BadUtf8}
+use Rattle.std.specs.FinMap as map_of
+use Rattle.std.specs.Cmp.Lexicographic.{slice_cmp}
+use Rattle.std.specs.Ordering.{nat_cmp}
+use Rattle.serde_json.proofs.OnLiterals.{serde_json_on_literals}
+use Rattle.lf_ast.specs.Labels.{Bytes, Labels as LabelMap}
+use Rattle.lf_ast.specs.declared.verdict.RuleVerdicts.{RuleVerdicts}
+use Rattle.lf_ast.specs.declared.verdict.RuleVerdicts.TheVariants.{Labels}
+use Rattle.lf_ast.specs.declared.verdict.Verdict.TheVariants.{Impossible, Possible}
+use Rattle.lf_ast.specs.declared.verdict.World.{World}
+use Rattle.lf_base.specs.declared.kind.Kind.TheVariants.{LeftOut}
 use Rattle.lf_base.specs.declared.place.Span.{Span}
-use Rattle.lf_ast.specs.Labels.{Bytes}
-use Rattle.lf_ast.specs.Tree.{Tree}
-use Rattle.lf_ast.specs.Rules.{RuleTree}
-use Rattle.lf_checks.specs.Finding.{AlertComparison, AlertTemplate, Finding, MatchLabel, PromqlRegexp, finding}
-use Rattle.lf_report.specs.declared.asked.Asked.{Asked}
-use Rattle.lf_report.specs.Checked.{Checked}
-use Rattle.lf_report.specs.Report.{lines_text, refused_text, rules_text}
-use Rattle.lf_trials.specs.Trials.{Shown}
-use Rattle.lf_trials.specs.Verdicts.{LabelVerdict, RuleVerdict, Empty, Labels, Guaranteed, Impossible, Possible, Unresolved}
+use Rattle.lf_report.specs.Counts.{is_guaranteed, is_impossible, is_possible, is_unresolved}
+use Rattle.lf_report.specs.Json.{report_json}
+use Rattle.lf_report.specs.Text.{lines_text, report_text}
+use Rattle.lf_report.specs.declared.report.FileReport.{FileReport}
+use Rattle.lf_report.specs.declared.report.Report.{Report}
+use Rattle.lf_report.specs.declared.report.RuleReport.{RuleReport}
+use Rattle.lf_report.specs.declared.report.Severity.TheVariants.{Problem}
 
-abbrev at : ℕ → Span
-at start = record { start = start; end = start }
+abbrev at : ℕ → ℕ → Span
+at start end = record { start = start; end = end }
 
-abbrev with : Bytes → Asked
-with file = record { labels = true; file = file }
+abbrev accepted : Bytes → Bytes → FileReport
+accepted name source = record { name = name; source = source; refusal = None }
 
-abbrev without : Bytes → Asked
-without file = record { labels = false; file = file }
+abbrev set : List (Bytes × Bytes) → LabelMap
+set entries = map_of.from_sorted entries
 
-job_file : Bytes
-job_file = lines_text (codes "groups:" ∷ codes "- name: g" ∷ codes "  rules:" ∷ codes "  - record: job:foo:sum" ∷ codes "    expr: sum by (job) (foo{env=\"p\"})" ∷ [])
+-- ---- a rule with its verdicts
 
--- the worlds that a verdict carries aren't told
-module _ (expr : Tree) (shown : Shown) where
-  job_rule : RuleTree
-  job_rule = record { file = 0; alert = false; name = codes "job:foo:sum"; name_span = at 39; expr = expr; expr_span = at 61; labels = []; templates = [] }
+job_source : Bytes
+job_source = lines_text (codes "groups:" ∷ codes "- name: g" ∷ codes "  rules:" ∷ codes "  - record: job:foo:sum" ∷ codes "    expr: sum by (job) (foo{env=\"p\"})" ∷ [])
 
-  -- `job` may be there and may be lacking, and the others are lacking
-  job_is : LabelVerdict → RuleVerdict
-  job_is v = Labels (Impossible ∷ v ∷ Impossible ∷ Impossible ∷ [])
+with_job : World
+with_job = record { series = set ((codes "__name__", codes "foo") ∷ (codes "env", codes "p") ∷ (codes "job", codes "v1") ∷ []) ∷ []; steps = []; sample = set ((codes "job", codes "v1") ∷ []) }
 
-  labels : List Bytes
-  labels = codes "__name__" ∷ codes "job" ∷ codes "env" ∷ codes "*" ∷ []
+without_job : World
+without_job = record { series = set ((codes "__name__", codes "foo") ∷ (codes "env", codes "p") ∷ []) ∷ []; steps = []; sample = set [] }
 
-  of_job : RuleVerdict → List Finding → Checked
-  of_job verdict found = record { rule = job_rule; verdict = verdict; found = found }
+job_rule : Option RuleVerdicts → RuleReport
+job_rule verdicts = record { file = 0; alert = false; name = codes "job:foo:sum"; name_span = at 39 50; verdicts = verdicts; empty = false; findings = [] }
 
-  job_report : rules_text (with (codes "r.yml")) job_file labels (of_job (job_is (Possible shown shown)) [] ∷ [])
-      ≡ lines_text (codes "r.yml:4:13: rule job:foo:sum" ∷ codes "  __name__: impossible" ∷ codes "  job: possible" ∷ codes "  env: impossible" ∷ codes "  *: impossible"
-      ∷ codes "files 1, refused 0, rules 1, problems 0, notes 0" ∷ codes "verdicts guaranteed 0, impossible 3, possible 1, unresolved 0, empty 0" ∷ [])
-  unfolding job_file job_rule of_job job_is labels digits
-  job_report = refl
+job_labels : RuleVerdicts
+job_labels = Labels (Impossible ∷ Possible with_job without_job ∷ Impossible ∷ Impossible ∷ [])
 
-  -- two notes of it stand behind its labels, and alone where no labels are asked for
-  notes : List Finding
-  notes = finding PromqlRegexp (at 75) (codes "the pattern is one plain text") ∷ finding MatchLabel (at 69) (codes "label job is never on the operand") ∷ []
+job_report : Report
+job_report = record {
+  labels = true;
+  files = accepted (codes "r.yml") job_source ∷ [];
+  rules = job_rule (Some job_labels) ∷ [];
+  universe = codes "__name__" ∷ codes "job" ∷ codes "env" ∷ codes "*" ∷ [];
+}
 
-  noted_report : rules_text (with (codes "r.yml")) job_file labels (of_job (job_is Unresolved) notes ∷ [])
-      ≡ lines_text (codes "r.yml:4:13: rule job:foo:sum" ∷ codes "  __name__: impossible" ∷ codes "  job: unresolved O0 at r.yml:5:11" ∷ codes "  env: impossible" ∷ codes "  *: impossible"
-      ∷ codes "r.yml:5:25: note [promql/regexp] the pattern is one plain text" ∷ codes "r.yml:5:19: note [match/label] label job is never on the operand"
-      ∷ codes "files 1, refused 0, rules 1, problems 0, notes 2" ∷ codes "verdicts guaranteed 0, impossible 3, possible 0, unresolved 1, empty 0" ∷ [])
-  unfolding job_file job_rule of_job job_is labels notes digits
-  noted_report = refl
+job_text : report_text job_report
+    ≡ lines_text (codes "r.yml:4:13: rule job:foo:sum" ∷ codes "  __name__: impossible" ∷ codes "  job: possible" ∷ codes "  env: impossible" ∷ codes "  *: impossible"
+    ∷ codes "files 1, refused 0, rules 1, problems 0, notes 0" ∷ codes "verdicts guaranteed 0, impossible 3, possible 1, unresolved 0, empty 0" ∷ [])
+unfolding job_report job_rule job_labels job_source digits is_guaranteed is_impossible is_possible is_unresolved
+job_text = refl
 
-  noted_alone : rules_text (without (codes "r.yml")) job_file labels (of_job (job_is Unresolved) notes ∷ [])
-      ≡ lines_text (codes "r.yml:5:25: note [promql/regexp] the pattern is one plain text" ∷ codes "r.yml:5:19: note [match/label] label job is never on the operand"
-      ∷ codes "files 1, refused 0, rules 1, problems 0, notes 2" ∷ [])
-  unfolding job_file job_rule of_job job_is labels notes digits
-  noted_alone = refl
+job_json : report_json job_report
+    ≡ codes "{\"files\":[{\"name\":\"r.yml\",\"refusal\":null,\"rules\":[{\"column\":13,\"empty\":false,\"findings\":[],\"kind\":\"record\",\"labels\":[{\"label\":\"__name__\",\"verdict\":\"impossible\"},{\"label\":\"job\",\"verdict\":\"possible\",\"with\":{\"sample\":{\"job\":\"v1\"},\"series\":[{\"__name__\":\"foo\",\"env\":\"p\",\"job\":\"v1\"}],\"steps\":[]},\"without\":{\"sample\":{},\"series\":[{\"__name__\":\"foo\",\"env\":\"p\"}],\"steps\":[]}},{\"label\":\"env\",\"verdict\":\"impossible\"},{\"label\":\"*\",\"verdict\":\"impossible\"}],\"line\":4,\"name\":\"job:foo:sum\"}]}],\"summary\":{\"files\":1,\"notes\":0,\"problems\":0,\"refused\":0,\"rules\":1,\"verdicts\":{\"empty\":0,\"guaranteed\":0,\"impossible\":3,\"possible\":1,\"unresolved\":0}}}\n"
+unfolding job_report job_rule job_labels with_job without_job job_source digits is_guaranteed is_impossible is_possible is_unresolved serde_json_on_literals
+job_json =
+    let all = map_of.entries-from_sorted {X = Bytes} (slice_cmp nat_cmp) ((codes "__name__", codes "foo") ∷ (codes "env", codes "p") ∷ (codes "job", codes "v1") ∷ []) tt in
+    let two = map_of.entries-from_sorted {X = Bytes} (slice_cmp nat_cmp) ((codes "__name__", codes "foo") ∷ (codes "env", codes "p") ∷ []) tt in
+    let one = map_of.entries-from_sorted {X = Bytes} (slice_cmp nat_cmp) ((codes "job", codes "v1") ∷ []) tt in
+    let none = map_of.entries-from_sorted {X = Bytes} (slice_cmp nat_cmp) [] tt in
+    rw (all, two, one, none) refl
 
-  -- an alert in a file whose name holds a line feed
-  alert_file : Bytes
-  alert_file = codes "groups: [{name: g, rules: []}]\n"
+-- ---- an empty file, where no verdicts are told
 
-  alert_rule : RuleTree
-  alert_rule = record { file = 0; alert = true; name = codes "a\tb"; name_span = at 3; expr = expr; expr_span = at 31; labels = []; templates = [] }
+empty_report : Report
+empty_report = record { labels = false; files = accepted (codes "r.yml") [] ∷ []; rules = []; universe = [] }
 
-  alert_verdict : RuleVerdict
-  alert_verdict = Labels (Guaranteed ∷ Unresolved ∷ [])
+empty_text : report_text empty_report ≡ codes "files 1, refused 0, rules 0, problems 0, notes 0\n"
+unfolding empty_report digits
+empty_text = refl
 
-  -- its findings tell a name with a line feed
-  faults : List Finding
-  faults = finding AlertComparison (at 31) (codes "the alert's expression compares nothing") ∷ finding AlertTemplate (at 5) (codes "label a\nb is never on the alert's sample") ∷ []
+empty_json : report_json empty_report
+    ≡ codes "{\"files\":[{\"name\":\"r.yml\",\"refusal\":null,\"rules\":[]}],\"summary\":{\"files\":1,\"notes\":0,\"problems\":0,\"refused\":0,\"rules\":0,\"verdicts\":null}}\n"
+unfolding empty_report digits serde_json_on_literals
+empty_json = refl
 
-  of_alert : List Finding → Checked
-  of_alert found = record { rule = alert_rule; verdict = alert_verdict; found = found }
+-- ---- three files, the second of which is refused
 
-  alert_report : rules_text (with (codes "a\n.yml")) alert_file (codes "job" ∷ codes "shard" ∷ []) (of_alert faults ∷ [])
-      ≡ lines_text (codes "a\\x0a.yml:1:4: rule a\\x09b" ∷ codes "  job: guaranteed" ∷ codes "  shard: unresolved O0 at a\\x0a.yml:2:1"
-      ∷ codes "a\\x0a.yml:2:1: problem [alert/comparison] the alert's expression compares nothing" ∷ codes "a\\x0a.yml:1:6: problem [alert/template] label a\\x0ab is never on the alert's sample"
-      ∷ codes "files 1, refused 0, rules 1, problems 2, notes 0" ∷ codes "verdicts guaranteed 1, impossible 0, possible 0, unresolved 1, empty 0" ∷ [])
-  unfolding alert_file alert_rule of_alert faults alert_verdict digits
-  alert_report = refl
+b_file : FileReport
+b_file = record { name = codes "b.yml"; source = codes "groups: &x []\n"; refusal = Some (record { kind = LeftOut; span = at 8 9 }) }
 
-  -- two rules that are empty
-  empty_report : rules_text (with (codes "r.yml")) job_file labels (of_job Empty [] ∷ of_job Empty [] ∷ [])
-      ≡ lines_text (codes "r.yml:4:13: rule job:foo:sum" ∷ codes "  empty" ∷ codes "r.yml:4:13: rule job:foo:sum" ∷ codes "  empty"
-      ∷ codes "files 1, refused 0, rules 2, problems 0, notes 0" ∷ codes "verdicts guaranteed 0, impossible 0, possible 0, unresolved 0, empty 2" ∷ [])
-  unfolding job_file job_rule of_job labels digits
-  empty_report = refl
+three_report : Report
+three_report = record { labels = false; files = accepted (codes "a.yml") job_source ∷ b_file ∷ accepted (codes "c.yml") [] ∷ []; rules = job_rule None ∷ []; universe = [] }
 
-  -- two rules, where no labels are asked for; the findings of the second are problems
-  totals_report : rules_text (without (codes "r.yml")) alert_file labels (of_job (job_is Unresolved) [] ∷ of_alert faults ∷ [])
-      ≡ lines_text (codes "r.yml:2:1: problem [alert/comparison] the alert's expression compares nothing" ∷ codes "r.yml:1:6: problem [alert/template] label a\\x0ab is never on the alert's sample"
-      ∷ codes "files 1, refused 0, rules 2, problems 2, notes 0" ∷ [])
-  unfolding alert_file alert_rule alert_verdict job_rule of_alert of_job faults job_is labels digits
-  totals_report = refl
+three_text : report_text three_report
+    ≡ lines_text (codes "b.yml:1:9: refused [LeftOut] this form is left out of the profile" ∷ codes "files 3, refused 1, rules 1, problems 0, notes 0" ∷ [])
+unfolding three_report b_file job_rule job_source digits
+three_text = refl
 
--- ---- files that are refused
+three_json : report_json three_report
+    ≡ codes "{\"files\":[{\"name\":\"a.yml\",\"refusal\":null,\"rules\":[{\"column\":13,\"empty\":false,\"findings\":[],\"kind\":\"record\",\"labels\":null,\"line\":4,\"name\":\"job:foo:sum\"}]},{\"name\":\"b.yml\",\"refusal\":{\"column\":9,\"end\":9,\"kind\":\"LeftOut\",\"line\":1,\"start\":8,\"text\":\"this form is left out of the profile\"},\"rules\":[]},{\"name\":\"c.yml\",\"refusal\":null,\"rules\":[]}],\"summary\":{\"files\":3,\"notes\":0,\"problems\":0,\"refused\":1,\"rules\":1,\"verdicts\":null}}\n"
+unfolding three_report b_file job_rule job_source digits serde_json_on_literals
+three_json = refl
 
-refused_report : refused_text (without (codes "r.yml")) (codes "groups: &x []\n") LeftOut (at 8)
-    ≡ lines_text (codes "r.yml:1:9: refused [LeftOut] this form is left out of the profile" ∷ codes "files 1, refused 1, rules 0, problems 0, notes 0" ∷ [])
-unfolding digits
-refused_report = refl
+-- ---- findings, beside verdicts on alerts: the file's name, a label and a text hold control characters
 
--- of a file that isn't UTF-8 the place is told too
-bad_bytes_report : refused_text (with (codes "r.yml")) (97 ∷ 10 ∷ 98 ∷ 255 ∷ []) BadUtf8 (at 3)
-    ≡ lines_text (codes "r.yml:2:2: refused [BadUtf8] the bytes aren't UTF-8" ∷ codes "files 1, refused 1, rules 0, problems 0, notes 0"
-    ∷ codes "verdicts guaranteed 0, impossible 0, possible 0, unresolved 0, empty 0" ∷ [])
-unfolding digits
-bad_bytes_report = refl
+sum_source : Bytes
+sum_source = lines_text (codes "groups:" ∷ codes "- name: g" ∷ codes "  rules:" ∷ codes "  - record: a:b" ∷ codes "    expr: foo{a=\"x\"} + bar{a=\"y\"}" ∷ [])
+
+sum_rule : Bor (List ℕ) → RuleReport
+sum_rule check = record {
+  file = 0;
+  alert = false;
+  name = codes "a:b";
+  name_span = at 39 42;
+  verdicts = None;
+  empty = true;
+  findings = record { check = check; severity = Problem; span = at 53 76; text = codes "the expression has no sample in any run" } ∷ [];
+}
+
+module _ (check : Bor (List ℕ)) (is : check.now ≡ codes "expr/empty") where
+  sum_report : Report
+  sum_report = record { labels = false; files = accepted (codes "r.yml") sum_source ∷ []; rules = sum_rule check ∷ []; universe = [] }
+
+  sum_text : report_text sum_report
+      ≡ lines_text (codes "r.yml:5:11: problem [expr/empty] the expression has no sample in any run" ∷ codes "files 1, refused 0, rules 1, problems 1, notes 0" ∷ [])
+  unfolding sum_report sum_rule sum_source digits
+  sum_text = rw is refl
+
+  sum_json : report_json sum_report
+      ≡ codes "{\"files\":[{\"name\":\"r.yml\",\"refusal\":null,\"rules\":[{\"column\":13,\"empty\":true,\"findings\":[{\"check\":\"expr/empty\",\"column\":11,\"end\":76,\"line\":5,\"severity\":\"problem\",\"start\":53,\"text\":\"the expression has no sample in any run\"}],\"kind\":\"record\",\"labels\":null,\"line\":4,\"name\":\"a:b\"}]}],\"summary\":{\"files\":1,\"notes\":0,\"problems\":1,\"refused\":0,\"rules\":1,\"verdicts\":null}}\n"
+  unfolding sum_report sum_rule sum_source digits serde_json_on_literals
+  sum_json = rw is refl

@@ -1,5 +1,7 @@
-pub mod Checked
-pub mod Founds
-pub mod Report
-pub mod Verdicts
+pub mod Counts
+pub mod Json
+pub mod Numbers
+pub mod Places
+pub mod Shown
+pub mod Text
 pub mod views

@@ -1,17 +1,14 @@
-//! The text report on one file: its rules with their verdicts, or what refuses it.
+//! Reports: what was found in files and what is told of their rules, as data, as text and as JSON.
 #![tactic(auto)]
 
-mod asked;
-mod file_content;
-mod file_report;
-mod found;
-mod judge_end;
-mod measuring;
+mod counting;
+mod json;
+mod places;
 mod report;
+mod shown;
+mod spot;
+mod text;
 
-pub use asked::Asked;
-pub use file_content::FileContent;
-pub use file_report::FileReport;
-pub use found::Found;
-pub use judge_end::JudgeEnd;
-pub use report::report_text;
+pub use json::json_of;
+pub use report::{FileReport, Finding, Refused, Report, RuleReport, Severity};
+pub use text::text_of;

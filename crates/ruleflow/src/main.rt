@@ -11,6 +11,10 @@ use lf_lint::{Status, lint};
 use std::process::ExitCode;
 use std::{env, io};
 
+/// How the words go.
+const USAGE: &str =
+    "usage: ruleflow lint [--workers N] [--format text|json] [--labels] [--] FILE...\n       ruleflow gen N";
+
 fn main(rt: HostRuntime) -> ExitCode {
     let status = match words_of(&rt) {
         Ok(words) => {
@@ -45,7 +49,7 @@ fn words_of(rt: &HostRuntime) -> Result<Vec<String>, Status> {
 fn tell(rt: &HostRuntime, status: Status) -> io::Result<()> {
     match status {
         Status::Clean | Status::Problems | Status::Refused => Ok(()),
-        Status::Words => eprintln!(rt; "ruleflow: words refused"),
+        Status::Words => eprintln!(rt; "ruleflow: words refused\n{USAGE}"),
         Status::Read { file } => eprintln!(rt; "ruleflow: read fault on file {file}"),
         Status::Write => eprintln!(rt; "ruleflow: write fault"),
         Status::Memory => eprintln!(rt; "ruleflow: no memory"),

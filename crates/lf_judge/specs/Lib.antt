@@ -1,0 +1,4 @@
+pub mod Founds
+pub mod Judged
+pub mod Limits
+pub mod views

@@ -1,0 +1,4 @@
+-- How contracts see the code's own data: nobody has to believe it, and no definition uses it.
+pub mod Accepting
+pub mod Checking
+pub mod Spots

@@ -1,0 +1,186 @@
+//! The report on files.
+ghost use Rattle.std.specs.Prelude.{◌≡◌, ◌≤◌, ◌<◌, ◌^◌, ℕ, Bool, List, Some, length, map, slice_get, slice_index_or, IfOk, IfErr};
+ghost use Rattle.lf_ast.specs.Rules.{rule_trees};
+ghost use Rattle.lf_checks.specs.Files.{File};
+ghost use Rattle.lf_report.specs.declared.report.Report.{Report};
+ghost use Rattle.lf_semantics.specs.Environments.{IsLeast};
+ghost use Rattle.lf_semantics.specs.Listing.{universe_of};
+ghost use Rattle.lf_judge.specs.Founds.{Content};
+ghost use Rattle.lf_judge.specs.Judged.{IsReportOn, TellTheSame, files_of, files_told, labels_of};
+ghost use Rattle.lf_judge.specs.Limits.{EndsIn, Fit, most_rules};
+ghost use Rattle.lf_judge.specs.declared.source.Source.{Source};
+ghost use Rattle.lf_judge.specs.views.Accepting.{IsOfFiles, refusal_in};
+ghost use Rattle.lf_judge.specs.views.Checking.{IsPutTogether};
+
+use crate::accepting::{Accepted, accept_all};
+use crate::measuring::measure;
+use crate::telling::tell_rules;
+use crate::{JudgeEnd, Source};
+use lf_base::{Memory, Seq, Text};
+use lf_classes::Universe;
+use lf_fix::solve;
+use lf_flow::{Env, prepare};
+use lf_report::{FileReport, Refused, Report, RuleReport};
+use std::alloc::Global;
+
+/// The report on files, with the verdicts on labels where `labels` asks for them.
+///
+/// Files whose rules pass a limit have none. One limit is on the verdicts that are asked for, and the others don't depend on them.
+pub fn judge(alloc: Global, files: &Seq<Source>, labels: bool) -> Result<Report, JudgeEnd>
+    requires room { (k : ℕ) (file : Source) → slice_get files.now k ≡ Some file → length file.bytes ≤ 2 ^ 31 }
+    requires few { length files.now < 2 ^ 32 }
+    ensures report { IfOk result (IsReportOn (files_of files.now) labels) }
+    ensures fits { IfOk result (λ _. Fit labels (files_of files.now)) }
+    ensures refused { IfErr result (EndsIn labels (files_of files.now)) }
+{
+    let accepted = accept_all(alloc, files)?;
+    let report = judge_accepted(alloc, files, &accepted, labels)?;
+    Ok(report)
+}
+
+/// The report on files in which this stands.
+fn judge_accepted(
+    alloc: Global,
+    files: &Seq<Source>,
+    accepted: &Accepted,
+    labels: bool,
+) -> Result<Report, JudgeEnd>
+    requires { IsOfFiles (files_of files.now) accepted.now }
+    ensures report { IfOk result (IsReportOn (files_of files.now) labels) }
+    ensures fits { IfOk result (λ _. Fit labels (files_of files.now)) }
+    ensures refused { IfErr result (EndsIn labels (files_of files.now)) }
+{
+    let mut universe = measure(alloc, &accepted.rules, labels)?;
+    let report = judge_within(alloc, files, accepted, &mut universe, labels)?;
+    Ok(report)
+}
+
+/// The same, where the rules pass no limit and have this universe.
+fn judge_within(
+    alloc: Global,
+    files: &Seq<Source>,
+    accepted: &Accepted,
+    universe: &mut Universe,
+    labels: bool,
+) -> Result<Report, Memory>
+    requires accepted { IsOfFiles (files_of files.now) accepted.now }
+    requires universe { universe.old ≡ universe_of (rule_trees accepted.now.rules) }
+    requires few { length accepted.now.rules ≤ most_rules }
+    ensures { IfOk result (IsReportOn (files_of files.now) labels) }
+{
+    prepare(alloc, universe, &accepted.rules)?;
+    judge_prepared(alloc, files, accepted, universe, labels)
+}
+
+/// The same, with the environment still to be solved.
+fn judge_prepared(
+    alloc: Global,
+    files: &Seq<Source>,
+    accepted: &Accepted,
+    universe: &Universe,
+    labels: bool,
+) -> Result<Report, Memory>
+    requires accepted { IsOfFiles (files_of files.now) accepted.now }
+    requires universe { universe.now ≡ universe_of (rule_trees accepted.now.rules) }
+    requires few { length accepted.now.rules ≤ most_rules }
+    ensures { IfOk result (IsReportOn (files_of files.now) labels) }
+{
+    let env = solve(alloc, universe, &accepted.rules)?;
+    let report = judge_solved(alloc, files, accepted, universe, &env, labels)?;
+    Ok(report)
+}
+
+/// The same, by the least environment.
+fn judge_solved(
+    alloc: Global,
+    files: &Seq<Source>,
+    accepted: &Accepted,
+    universe: &Universe,
+    env: &Env,
+    labels: bool,
+) -> Result<Report, Memory>
+    requires accepted { IsOfFiles (files_of files.now) accepted.now }
+    requires universe { universe.now ≡ universe_of (rule_trees accepted.now.rules) }
+    requires few { length accepted.now.rules ≤ most_rules }
+    requires least { IsLeast universe.now (rule_trees accepted.now.rules) env.now }
+    ensures { IfOk result (IsReportOn (files_of files.now) labels) }
+{
+    let rules = tell_rules(alloc, files, &accepted.rules, universe, env, labels)?;
+    report_of(alloc, files, accepted, universe, rules, labels)
+}
+
+/// The report, put together of what is told of the rules and of what stands in the files.
+fn report_of(
+    alloc: Global,
+    files: &Seq<Source>,
+    accepted: &Accepted,
+    universe: &Universe,
+    rules: Seq<RuleReport>,
+    labels: bool,
+) -> Result<Report, Memory>
+    requires { length accepted.now.refusals ≡ length files.now }
+    ensures { (contents : List Content) → accepted.now.refusals ≡ map refusal_in contents → IfOk result (IsPutTogether (files_of files.now) labels universe.now contents rules) }
+{
+    let files = told_files(alloc, files, accepted.refusals.as_slice())?;
+    let universe = told_labels(alloc, universe)?;
+    Ok(Report {
+        labels,
+        files,
+        rules,
+        universe,
+    })
+}
+
+/// What is told of each file: its name and its bytes, and why it is refused, where it is.
+fn told_files(
+    alloc: Global,
+    files: &Seq<Source>,
+    refusals: &[Option<Refused>],
+) -> Result<Seq<FileReport>, Memory>
+    requires { length refusals.now ≡ length files.now }
+    ensures { (contents : List Content) → refusals.now ≡ map refusal_in contents → IfOk result (λ told. told ≡ files_told (files_of files.now) contents) }
+{
+    let mut told = Seq::new(alloc);
+    for k in 0..files.len() {
+        let file = told_file(files.get(k), refusal_at(refusals, k))?;
+        told.push(file)?;
+    }
+    Ok(told)
+}
+
+/// Why the file with this number is refused, if it is.
+fn refusal_at(refusals: &[Option<Refused>], number: usize) -> Option<Refused>
+    requires { number < length refusals.now }
+    ensures { result ≡ slice_index_or refusals.now number result }
+{
+    refusals[number]
+}
+
+/// What is told of a file.
+fn told_file(file: &Source, refusal: Option<Refused>) -> Result<FileReport, Memory>
+    ensures { IfOk result (λ told. told ≡ record { name = file.now.name; source = file.now.bytes; refusal = refusal }) }
+{
+    let name = file.name.copy()?;
+    let source = file.bytes.copy()?;
+    Ok(FileReport {
+        name,
+        source,
+        refusal,
+    })
+}
+
+/// The labels of a universe, in their order. `*` is the last.
+fn told_labels(alloc: Global, universe: &Universe) -> Result<Seq<Text>, Memory>
+    ensures { IfOk result (λ names. names ≡ labels_of universe.now) }
+{
+    let mut names = Seq::new(alloc);
+    for label in 0..universe.labels() {
+        names.push(universe.name(label).copy()?)?;
+    }
+    Ok(names)
+}
+
+/// The reports on the same files tell the same.
+pub fn one_report()
+    ensures { (files : List File) (labels : Bool) (a b : Report) → IsReportOn files labels a → IsReportOn files labels b → TellTheSame a b }
+{}

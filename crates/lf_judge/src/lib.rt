@@ -1,0 +1,19 @@
+//! What is told of the rules of files: which files are refused, the verdicts on the labels of each rule, and its findings.
+#![tactic(auto)]
+
+mod accepting;
+mod findings;
+mod judge_end;
+mod judging;
+mod measuring;
+mod moving;
+mod source;
+mod spot;
+mod telling;
+mod verdicts;
+mod wording;
+
+pub use judge_end::JudgeEnd;
+pub use judging::{judge, one_report};
+pub use measuring::measure;
+pub use source::Source;

@@ -1,0 +1,15 @@
+use Rattle.std.proofs.Common.{◌≡◌, ◌++◌, Some, ap, sym, ◌∙◌}
+use Rattle.std.proofs.lemmas.Result.{on_ok_weaker}
+use Rattle.serde_json.specs.Written.{compact_text}
+use Rattle.lf_report.specs.Json.{rule_data}
+use Rattle.lf_report.proofs.Floats.{rule_floats}
+use Rattle.lf_report.proofs.Pieces.{some_same}
+use Rattle.lf_report.proofs.json.push_rule.Goals as goal
+
+pub returns : goal.returns
+returns c = λ it this at here.
+    let report = c.args.report.now in
+    let rule = c.get-rule.result.now in
+    let same : rule ≡ this = some_same rule this (sym c.get-rule.ensures.value ∙ here) in
+    on_ok_weaker c.push_value.result (λ p. p ∙ ap (λ r. c.args.text.now ++ compact_text (rule_data report it r)) same)
+    (c.push_value.ensures (rule_data report it rule) (c.in_ok-value.ensures it at) (rule_floats report it rule))

@@ -1,8 +1,0 @@
-use Rattle.std.proofs.Common.{◌≡◌}
-use Rattle.std.specs.String.{string_bytes}
-use Rattle.std.specs.Str.{encode_utf8_all}
-use Rattle.lf_report.specs.Report.{shown}
-use Rattle.lf_report.proofs.report.shown.shown_name.Given as goal
-
-abbrev pub invariant-loop-c : goal.invariant-loop-c
-invariant-loop-c l = string_bytes l.text ≡ shown (encode_utf8_all l.yielded)

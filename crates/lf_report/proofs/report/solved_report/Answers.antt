@@ -1,9 +1,0 @@
-use Rattle.std.proofs.Common.{sym, subst}
-use Rattle.lf_ast.specs.Rules.{rule_trees}
-use Rattle.lf_semantics.specs.Environments.{CoversRules}
-use Rattle.lf_semantics.specs.Listing.{Listing}
-use Rattle.lf_semantics.proofs.ListingLaws.{universe_covers}
-use Rattle.lf_report.proofs.report.solved_report.Goals as goal
-
-pub solve-requires : goal.solve-requires
-solve-requires c = let P : Listing → Type 0 = λ u. CoversRules u (rule_trees c.args.rules.now) in subst P (sym c.requires.universe) (universe_covers (rule_trees c.args.rules.now))

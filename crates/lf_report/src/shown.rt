@@ -1,0 +1,51 @@
+//! Names of files as reports show them.
+ghost use Rattle.std.specs.Prelude.{◌≡◌, ◌<◌, ◌/◌, ◌%◌, false, [], ◌∷◌, ◌++◌, codes, map, string_bytes, IfOk, OnOk};
+ghost use Rattle.std.specs.Char.{encode_utf8};
+ghost use Rattle.std.specs.Fmt.{digit_glyph};
+ghost use Rattle.lf_report.specs.Shown.{shown};
+
+use lf_base::{Memory, Seq, Text};
+use std::alloc::Global;
+
+/// The name as a report shows it: control characters as `\x` and two hexadecimal digits, so that a name stays on its line.
+pub fn shown_name(alloc: Global, name: &str) -> Result<Text, Memory>
+    ensures { IfOk result (λ text. text ≡ shown name.now) }
+{
+    let mut text = String::new(alloc);
+    for c in name.chars() {
+        push_shown(&mut text, c)?;
+    }
+    Text::of(alloc, text.as_str())
+}
+
+/// Appends a character as a report shows it.
+fn push_shown(text: &mut String, c: char) -> Result<(), Memory>
+    ensures { OnOk result (string_bytes text.new ≡ string_bytes text.old ++ shown (encode_utf8 c)) }
+{
+    if c.is_ascii_control() {
+        return push_escaped(text, c);
+    }
+    text.push(c)?;
+    Ok(())
+}
+
+/// Appends the code of a character of ASCII as `\x` and two hexadecimal digits.
+fn push_escaped(text: &mut String, c: char) -> Result<(), Memory>
+    requires { c < 128 }
+    ensures { OnOk result (string_bytes text.new ≡ string_bytes text.old ++ (codes "\\x" ++ digit_glyph false (c / 16) ∷ digit_glyph false (c % 16) ∷ [])) }
+{
+    let code = u32::from(c);
+    write!(text, "\\x{code:02x}")?;
+    Ok(())
+}
+
+/// The names, each as a report shows it.
+pub fn shown_names(alloc: Global, names: &[Text]) -> Result<Seq<Text>, Memory>
+    ensures { IfOk result (λ texts. texts ≡ map shown names.now) }
+{
+    let mut texts = Seq::new(alloc);
+    for name in names {
+        texts.push(shown_name(alloc, name.as_str())?)?;
+    }
+    Ok(texts)
+}
