@@ -23,11 +23,17 @@ fn run<R: Threads + Sync, F: Files, O: Sink>(
     requires out { O.faults out.old ≡ 0 }
     requires opens { F.opens files.old ≤ 2 ^ 31 }
 {
+    let words = words_in(alloc, line)?;
+    Ok(lint(rt, alloc, words.as_slice(), files, out, &OpenGate))
+}
+
+/// The words between the spaces of a line.
+fn words_in(alloc: Global, line: &str) -> Result<Vec<String>, AllocError> {
     let mut words = Vec::new(alloc);
     if !line.is_empty() {
         for word in line.split(' ') {
             words.push(String::from_str(alloc, word)?)?;
         }
     }
-    Ok(lint(rt, alloc, words.as_slice(), files, out, &OpenGate))
+    Ok(words)
 }

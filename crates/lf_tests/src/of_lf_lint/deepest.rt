@@ -86,14 +86,14 @@ const TOTALS: &str = "files 1, refused 0, rules 1, problems 0, notes 0\n";
 const VERDICTS: &str =
     "r.yml:4:13: rule rec:0\n  __name__: impossible\n  *: possible\nfiles 1, refused 0, rules 1, problems 0, notes 0\nverdicts guaranteed 0, impossible 1, possible 1, unresolved 0, empty 0\n";
 
-/// A file with one rule, whose expression nests a selector in this way, so many levels deep.
-fn nested(alloc: Global, nesting: &Nesting, levels: usize) -> Result<String, AllocError> {
+/// A file with one rule, whose expression nests a selector in this way.
+fn nested(alloc: Global, nesting: &Nesting) -> Result<String, AllocError> {
     let before = nesting.before.repeat(alloc, nesting.often)?;
     let behind = nesting.behind.repeat(alloc, nesting.often)?;
     let front = format!(in alloc; "{}{before}", nesting.opening)?;
     let back = format!(in alloc; "{behind}{}", nesting.closing)?;
-    let fronts = front.as_str().repeat(alloc, levels)?;
-    let backs = back.as_str().repeat(alloc, levels)?;
+    let fronts = front.as_str().repeat(alloc, nesting.levels)?;
+    let backs = back.as_str().repeat(alloc, nesting.levels)?;
     format!(in alloc;
         "groups:\n- name: g\n  rules:\n  - record: rec:0\n    expr: {fronts}a{backs}\n"
     )
@@ -118,7 +118,7 @@ fn is_reported<R: Threads + Sync>(
 fn the_deepest_files_are_linted_on_another_thread(rt: HostRuntime) -> Result<(), Fail> {
     let alloc = rt.alloc();
     for nesting in &NESTINGS {
-        let text = nested(alloc, nesting, nesting.levels)?;
+        let text = nested(alloc, nesting)?;
         // The first of these is called on a new thread.
         let (reported, ()) = join(
             &rt,
@@ -131,12 +131,11 @@ fn the_deepest_files_are_linted_on_another_thread(rt: HostRuntime) -> Result<(),
     Ok(())
 }
 
-/// The rows of all parts of an expression take its depth times its size, so the deepest files themselves are linted with verdicts by the end-to-end cases alone.
 #[test]
-fn deep_files_have_verdicts_on_another_thread(rt: HostRuntime) -> Result<(), Fail> {
+fn the_deepest_files_have_verdicts_on_another_thread(rt: HostRuntime) -> Result<(), Fail> {
     let alloc = rt.alloc();
     for nesting in &NESTINGS {
-        let text = nested(alloc, nesting, nesting.levels / 10)?;
+        let text = nested(alloc, nesting)?;
         let (reported, ()) = join(
             &rt,
             || is_reported(&rt, alloc, "lint --labels r.yml", text.as_str(), VERDICTS),

@@ -22,3 +22,22 @@ fn each_call_of_the_file_source_fails_in_turn(rt: HostRuntime) -> Result<(), Fai
     }
     Ok(())
 }
+
+#[test]
+fn a_thousand_files_may_be_named(rt: HostRuntime) -> Result<(), Fail> {
+    for (count, limit) in [(1_000, false), (1_001, true)] {
+        let names = " a".repeat(rt.alloc(), count)?;
+        let line = format!(in rt.alloc(); "lint{names}")?;
+        let mut files = MemFiles::new(rt.alloc());
+        files.add("a", b"")?;
+        let mut out = MemSink::new(rt.alloc(), 1000, 1000)?;
+        let end = run(&rt, rt.alloc(), line.as_str(), &mut files, &mut out)?;
+        let passed = Status::Limit {
+            quantity: 1,
+            found: 1_001,
+        };
+        assert_eq!(rt; end == passed, limit, "{count}");
+        assert_eq!(rt; end == Status::Clean, !limit, "{count}");
+    }
+    Ok(())
+}

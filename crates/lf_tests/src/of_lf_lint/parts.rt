@@ -1,20 +1,42 @@
 //! The parts of a run, each on its own.
 
+use super::{run, words_in};
 use lf_base::{Failed, Files, MemFiles, MemSink, Text};
-use lf_lint::{ReadEnd, read_whole, read_words, write_whole};
+use lf_lint::{Options, ReadEnd, Status, read_whole, read_words, write_whole};
 use std::test::Fail;
 
 #[test]
 fn words_are_read(rt: HostRuntime) -> Result<(), Fail> {
-    for (option, name) in [(false, "a.yml"), (true, "a b"), (false, ""), (true, "lint")] {
-        let mut words = vec![in rt.alloc(); String::from_str(rt.alloc(), "lint")?]?;
-        if option {
-            words.push(String::from_str(rt.alloc(), "--labels")?)?;
+    let words = words_in(rt.alloc(), "lint f --workers 7 --format=json -- -x")?;
+    match read_words(rt.alloc(), words.as_slice())? {
+        Options::Lint {
+            workers,
+            json,
+            labels,
+            files,
+        } => {
+            assert_eq!(rt; (workers, json, labels), (7, true, false));
+            assert_eq!(rt; files.len(), 2);
+            assert_eq!(rt; files.as_slice()[1].as_str(), "-x");
         }
-        words.push(String::from_str(rt.alloc(), name)?)?;
-        let asked = read_words(rt.alloc(), words.as_slice())?;
-        assert_eq!(rt; asked.labels, option);
-        assert_eq!(rt; asked.file.as_str(), name);
+        Options::Gen { n } => assert_eq!(rt; n, 0),
+    }
+    Ok(())
+}
+
+#[test]
+fn other_words_are_refused(rt: HostRuntime) -> Result<(), Fail> {
+    for line in [
+        "",
+        "lint",
+        "lint --workers 0 f",
+        "lint --labels --labels f",
+        "lint --help",
+        "gen 07",
+        "gen 4001",
+    ] {
+        let words = words_in(rt.alloc(), line)?;
+        assert!(rt; read_words(rt.alloc(), words.as_slice()).is_err(), "{line}");
     }
     Ok(())
 }
@@ -88,5 +110,21 @@ fn a_source_may_give_one_byte_at_a_time(rt: HostRuntime) -> Result<(), Fail> {
     let name = Text::of(rt.alloc(), "a.yml")?;
     let read = read_whole(rt.alloc(), &mut dripping, &name, 70_000)?;
     assert_eq!(rt; read.as_slice(), bytes.as_slice());
+    Ok(())
+}
+
+#[test]
+fn two_files_may_come_one_byte_at_a_time(rt: HostRuntime) -> Result<(), Fail> {
+    let mut files = MemFiles::new(rt.alloc());
+    files.add("a.yml", b"groups: []\n")?;
+    files.add("b.yml", b"groups: &x []\n")?;
+    let mut dripping = DrippingFiles { files };
+    let mut out = MemSink::new(rt.alloc(), 1000, 1)?;
+    let end = run(&rt, rt.alloc(), "lint a.yml b.yml", &mut dripping, &mut out)?;
+    assert_eq!(rt; end, Status::Refused);
+    assert_eq!(rt;
+        out.bytes(),
+        b"b.yml:1:9: refused [LeftOut] this form is left out of the profile\nfiles 2, refused 1, rules 0, problems 0, notes 0\n".as_slice()
+    );
     Ok(())
 }

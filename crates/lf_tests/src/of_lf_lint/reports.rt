@@ -13,15 +13,32 @@ const RULE_REPORT: &str = "files 1, refused 0, rules 1, problems 0, notes 0\n";
 const REFUSED_REPORT: &str =
     "b.yml:1:9: refused [LeftOut] this form is left out of the profile\nfiles 1, refused 1, rules 0, problems 0, notes 0\n";
 
+const LABELS_JSON: &str =
+    "{\"files\":[{\"name\":\"a.yml\",\"refusal\":null,\"rules\":[{\"column\":13,\"empty\":false,\"findings\":[],\"kind\":\"record\",\"labels\":[{\"label\":\"__name__\",\"verdict\":\"impossible\"},{\"label\":\"job\",\"verdict\":\"possible\",\"with\":{\"sample\":{\"job\":\"v1\"},\"series\":[{\"__name__\":\"foo\",\"env\":\"p\",\"job\":\"v1\"}],\"steps\":[]},\"without\":{\"sample\":{},\"series\":[{\"__name__\":\"foo\",\"env\":\"p\"}],\"steps\":[]}},{\"label\":\"env\",\"verdict\":\"impossible\"},{\"label\":\"*\",\"verdict\":\"impossible\"}],\"line\":4,\"name\":\"job:foo:sum\"}]}],\"summary\":{\"files\":1,\"notes\":0,\"problems\":0,\"refused\":0,\"rules\":1,\"verdicts\":{\"empty\":0,\"guaranteed\":0,\"impossible\":3,\"possible\":1,\"unresolved\":0}}}\n";
+
+const ALL_REPORT: &str =
+    "b.yml:1:9: refused [LeftOut] this form is left out of the profile\nfiles 3, refused 1, rules 1, problems 0, notes 0\n";
+
+const GENERATED_REPORT: &str =
+    "files 1, refused 0, rules 4, problems 1, notes 0\nverdicts guaranteed 1, impossible 14, possible 5, unresolved 0, empty 0\n";
+
 #[test]
-fn of_two_files_the_one_asked_for_is_read(rt: HostRuntime) -> Result<(), Fail> {
+fn files_are_reported_as_the_words_ask(rt: HostRuntime) -> Result<(), Fail> {
     for (line, end, report) in [
         ("lint a.yml", Status::Clean, RULE_REPORT),
         ("lint b.yml", Status::Refused, REFUSED_REPORT),
+        ("lint a.yml b.yml c.yml", Status::Refused, ALL_REPORT),
+        (
+            "lint --format json --workers 2 --labels a.yml",
+            Status::Clean,
+            LABELS_JSON,
+        ),
+        ("gen 4", Status::Problems, GENERATED_REPORT),
     ] {
         let mut files = MemFiles::new(rt.alloc());
         files.add("a.yml", RULE.as_bytes())?;
         files.add("b.yml", b"groups: &x []\n")?;
+        files.add("c.yml", b"")?;
         let mut out = MemSink::new(rt.alloc(), 1000, 1000)?;
         assert_eq!(rt;
             run(&rt, rt.alloc(), line, &mut files, &mut out)?,
