@@ -1,0 +1,182 @@
+-- Marks, rule by rule; and that those of chosen rules tell which selectors read a rule that passes a test.
+use Rattle.std.proofs.Common.{◌≡◌, ◌<◌, ◌≤◌, ◌+◌, ◌⊎◌, inl, inr, ℕ, zero, suc, Bool, true, false, true≢false, not, ◌&&◌, ◌||◌, List, [], ◌∷◌, length, replicate, get_or, Option, Some, None, refl, sym, ap, ◌∙◌, subst, arith, slice_get}
+use Rattle.std.specs.Prelude.{IfOk, Result, Ok, Err}
+use Rattle.std.proofs.lemmas.Bool.{cases_lt}
+use Rattle.std.proofs.lemmas.List.{get_or_past, length-replicate}
+use Rattle.std.proofs.lemmas.Option.{get_or_from_slice_get, slice_get-get_or, slice_get_within}
+use Rattle.std.specs.List.{Contains}
+use Rattle.lf_laws.proofs.Booleans.{and_left, and_right}
+use Rattle.lf_laws.proofs.Members.{here, only_one}
+use Rattle.lf_ast.specs.Labels.{Bytes}
+use Rattle.lf_ast.specs.Rules.{RuleTree}
+use Rattle.lf_deps.specs.Reading.{Reaches, SelectsBy}
+use Rattle.lf_deps.specs.views.Search.{ReadsBy}
+use Rattle.lf_semantics.specs.Environments.{recorded_names}
+use Rattle.lf_semantics.specs.Listing.{place}
+use Rattle.lf_semantics.proofs.Places.{at_place}
+use Rattle.lf_forks.proofs.Recorded.{named, placed}
+use Rattle.lf_open.specs.views.Marks.{AreChosenBy, AreMarks, AreMarksUpTo, IsChosen, Marked, Marks, TellsReading}
+
+not_true_false : (b : Bool) → not b ≡ true → b ≡ false
+not_true_false true e = sym e
+not_true_false false e = refl
+
+module _ (rules : List RuleTree) (chosen : List Bool) where
+  -- a chosen rule among the first j records the name at the place
+  abbrev Placed : ℕ → Marks → ℕ → Type 0
+  Placed j m p = (k : ℕ) × (s : RuleTree) × IsChosen rules chosen j k s × (place m.names s.name ≡ p)
+
+  -- a rule among the first i + 1 is one among the first i, or the one behind them
+  later : (i k : ℕ) (r : RuleTree) → IsChosen rules chosen i k r → IsChosen rules chosen (i + 1) k r
+  later i k r is = record { before = omega (arith, is.before); at = is.at; recording = is.recording; picked = is.picked }
+
+  module _ (i : ℕ) (r : RuleTree) (at : slice_get rules i ≡ Some r) (on : Bool) (on_is : on ≡ get_or chosen i false) where
+    this : (on && not r.alert) ≡ true → IsChosen rules chosen (i + 1) i r
+    this e = record { before = omega arith; at = at; recording = not_true_false r.alert (and_right on (not r.alert) e); picked = sym on_is ∙ and_left on (not r.alert) e }
+
+    same_some : (x y : RuleTree) → Some x ≡ Some y → x ≡ y
+    same_some x y e = ap (λ (o : Option RuleTree). elim o [ None ↦ x | Some z ↦ z ]) e
+
+    both : (a b : Bool) → a ≡ true → b ≡ false → (a && not b) ≡ true
+    both true false e f = refl
+    both true true e f = absurd (true≢false f)
+    both false b e f = absurd (true≢false (sym e))
+
+    earlier : (k : ℕ) (s : RuleTree) → IsChosen rules chosen (i + 1) k s → IsChosen rules chosen i k s ⊎ (((on && not r.alert) ≡ true) × (r ≡ s))
+    earlier k s is = by (cases_lt k i)
+      where
+        by : (k < i) ⊎ (i ≤ k) → IsChosen rules chosen i k s ⊎ (((on && not r.alert) ≡ true) × (r ≡ s))
+        by (inl less) = inl (record { before = less; at = is.at; recording = is.recording; picked = is.picked })
+        by (inr more) =
+            let b = is.before in
+            let same : k ≡ i = omega (arith, more, b) in
+            let it : r ≡ s = same_some r s (sym at ∙ ap (slice_get rules) (sym same) ∙ is.at) in
+            inr (both on r.alert (on_is ∙ ap (λ (n : ℕ). get_or chosen n false) (sym same) ∙ is.picked) (ap (λ (z : RuleTree). z.alert) it ∙ is.recording), it)
+
+    pub one_more : (old new : Marks) → AreMarksUpTo rules chosen i old → Marked (on && not r.alert) r.name old new → AreMarksUpTo rules chosen (i + 1) new
+    one_more old new are m = record {
+      names = m.names ∙ are.names;
+      count = m.count ∙ are.count ∙ sym (ap length m.names);
+      marked = λ p less. let less_old : p < length old.marked = subst (λ n. p < n) m.count less in (to p less_old, from p less_old);
+      without_name = (to_without, from_without);
+    }
+      where
+        to : (p : ℕ) → p < length old.marked → get_or new.marked p false ≡ true → Placed (i + 1) new p
+        to p less e = by ((m.marked p less).0 e)
+          where
+            by : (get_or old.marked p false ≡ true) ⊎ (((on && not r.alert) ≡ true) × (place old.names r.name ≡ p)) → Placed (i + 1) new p
+            by (inl was) = let w = (are.marked p less).0 was in (w.0, w.1, later i w.0 w.1 w.2, ap (λ (l : List Bytes). place l w.1.name) m.names ∙ w.3)
+            by (inr it) = (i, r, this it.0, ap (λ (l : List Bytes). place l r.name) m.names ∙ it.1)
+
+        from : (p : ℕ) → p < length old.marked → Placed (i + 1) new p → get_or new.marked p false ≡ true
+        from p less (k, s, is, e) = (m.marked p less).1 (by (earlier k s is))
+          where
+            by : IsChosen rules chosen i k s ⊎ (((on && not r.alert) ≡ true) × (r ≡ s)) → (get_or old.marked p false ≡ true) ⊎ (((on && not r.alert) ≡ true) × (place old.names r.name ≡ p))
+            by (inl was) = inl ((are.marked p less).1 (k, s, was, ap (λ (l : List Bytes). place l s.name) (sym m.names) ∙ e))
+            by (inr it) = inr (it.0, ap (λ (z : RuleTree). place old.names z.name) it.1 ∙ ap (λ (l : List Bytes). place l s.name) (sym m.names) ∙ e)
+
+        to_without : new.without_name ≡ true → (k : ℕ) × (s : RuleTree) × IsChosen rules chosen (i + 1) k s
+        to_without e = by old.without_name refl
+          where
+            by : (b : Bool) → old.without_name ≡ b → (k : ℕ) × (s : RuleTree) × IsChosen rules chosen (i + 1) k s
+            by true was = let w = are.without_name.0 was in (w.0, w.1, later i w.0 w.1 w.2)
+            by false was = (i, r, this (sym (ap (λ (b : Bool). b || (on && not r.alert)) was) ∙ sym m.without_name ∙ e))
+
+        from_without : ((k : ℕ) × (s : RuleTree) × IsChosen rules chosen (i + 1) k s) → new.without_name ≡ true
+        from_without (k, s, is) = m.without_name ∙ by (earlier k s is)
+          where
+            or_true : (a b : Bool) → b ≡ true → (a || b) ≡ true
+            or_true true b e = refl
+            or_true false b e = e
+
+            by : IsChosen rules chosen i k s ⊎ (((on && not r.alert) ≡ true) × (r ≡ s)) → (old.without_name || (on && not r.alert)) ≡ true
+            by (inl was) = ap (λ (b : Bool). b || (on && not r.alert)) (are.without_name.1 (k, s, was))
+            by (inr it) = or_true old.without_name (on && not r.alert) it.0
+
+-- ---- what they tell
+
+in_rules : (rules : List RuleTree) (k : ℕ) (r : RuleTree) → slice_get rules k ≡ Some r → Contains rules r
+in_rules rules k r at = (k, slice_get_within rules k r at, get_or_from_slice_get rules k r r at)
+
+at_rules : (rules : List RuleTree) (r : RuleTree) (c : Contains rules r) → slice_get rules c.0 ≡ Some r
+at_rules rules r c = slice_get-get_or rules c.0 r c.1 ∙ ap Some c.2
+
+pub begins : (rules : List RuleTree) (chosen : List Bool) (m : Marks) → m.names ≡ recorded_names rules → m.marked ≡ replicate (length m.names) false → m.without_name ≡ false → AreMarksUpTo rules chosen 0 m
+begins rules chosen m names marked without = record {
+  names = names;
+  count = ap length marked ∙ length-replicate (length m.names) false;
+  marked = λ p less. (λ e. absurd (true≢false (sym e ∙ none p)), λ (k, r, is, e). absurd (let b = is.before in omega (arith, b)));
+  without_name = (λ e. absurd (true≢false (sym e ∙ without)), λ (k, r, is). absurd (let b = is.before in omega (arith, b)));
+}
+  where
+    all_false : (n p : ℕ) → get_or (replicate n false) p false ≡ false
+    all_false zero p = refl
+    all_false (suc n) zero = refl
+    all_false (suc n) (suc p) = all_false n p
+
+    none : (p : ℕ) → get_or m.marked p false ≡ false
+    none p = ap (λ (l : List Bool). get_or l p false) marked ∙ all_false (length m.names) p
+
+module _ (rules : List RuleTree) (of_rule : RuleTree → Bool) (chosen : List Bool) (by_test : AreChosenBy rules of_rule chosen) (m : Marks) (are : AreMarks rules chosen m) where
+  abbrev Passing : RuleTree → Type 0
+  Passing r = (of_rule r ≡ true) ⊎ ((s : RuleTree) × Contains rules s × Reaches rules r.expr s × (of_rule s ≡ true))
+
+  abbrev ReadsPassing : Option Bytes → Type 0
+  ReadsPassing o = (r : RuleTree) × Contains rules r × (r.alert ≡ false) × ReadsBy rules (o ∷ []) r.name × (of_rule r ≡ true)
+
+  -- a chosen rule whose name is selected
+  selected_chosen : (o : Option Bytes) (k : ℕ) (r : RuleTree) → IsChosen rules chosen (length rules) k r → SelectsBy rules (o ∷ []) r.name → ReadsPassing o
+  selected_chosen o k r is selects = by ((by_test k r is.at).0 is.picked)
+    where
+      by : Passing r → ReadsPassing o
+      by (inl own) = (r, in_rules rules k r is.at, is.recording, inl selects, own)
+      by (inr (s, there, (recording, reads), own)) = (s, there, recording, inr (r, in_rules rules k r is.at, is.recording, selects, reads), own)
+
+  -- a rule that is read is chosen, or the one that is selected
+  read_chosen : (o : Option Bytes) → ReadsPassing o → (k : ℕ) × (r : RuleTree) × IsChosen rules chosen (length rules) k r × SelectsBy rules (o ∷ []) r.name
+  read_chosen o (r, there, recording, inl selects, own) =
+      (there.0, r, record { before = there.1; at = at_rules rules r there; recording = recording; picked = (by_test there.0 r (at_rules rules r there)).1 (inl own) }, selects)
+  read_chosen o (r, there, recording, inr (s, here_too, too, selects, reads), own) =
+      (here_too.0, s, record { before = here_too.1; at = at_rules rules s here_too; recording = too; picked = (by_test here_too.0 s (at_rules rules s here_too)).1 (inr (r, there, (recording, reads), own)) }, selects)
+
+  the_name : (name other : Bytes) → SelectsBy rules (Some name ∷ []) other → name ≡ other
+  the_name name other (inl c) = ap (λ (o : Option Bytes). elim o [ None ↦ name | Some z ↦ z ]) (only_one (Some name) (Some other) c)
+  the_name name other (inr (c, recorded)) = absurd (true≢false (sym (ap (λ (o : Option Bytes). elim o [ None ↦ false | Some z ↦ true ]) (sym (only_one (Some name) None c)))))
+
+  pub tells_reading : TellsReading rules of_rule m
+  tells_reading None = (to, from)
+    where
+      to : m.without_name ≡ true → ReadsPassing None
+      to e = let w = are.without_name.0 e in selected_chosen None w.0 w.1 w.2 (inr (here None [], named rules w.1 (in_rules rules w.0 w.1 w.2.at) w.2.recording))
+
+      from : ReadsPassing None → m.without_name ≡ true
+      from h = let w = read_chosen None h in are.without_name.1 (w.0, w.1, w.2)
+  tells_reading (Some name) = (to, from)
+    where
+      to : get_or m.marked (place m.names name) false ≡ true → ReadsPassing (Some name)
+      to e = by (cases_lt (place m.names name) (length m.marked))
+        where
+          by : (place m.names name < length m.marked) ⊎ (length m.marked ≤ place m.names name) → ReadsPassing (Some name)
+          by (inl less) =
+              let w = (are.marked (place m.names name) less).0 e in
+              let k : ℕ = w.0 in
+              let r : RuleTree = w.1 in
+              let is : IsChosen rules chosen (length rules) k r = w.2 in
+              let own : get_or m.names (place m.names r.name) [] ≡ r.name = at_place m.names r.name (placed rules m.names are.names r (in_rules rules k r is.at) is.recording) in
+              let same : r.name ≡ name = sym own ∙ ap (λ (n : ℕ). get_or m.names n []) w.3 ∙ at_place m.names name (subst (λ n. place m.names name < n) are.count less) in
+              selected_chosen (Some name) k r is (inl (subst (λ n. Contains (Some name ∷ []) (Some n)) (sym same) (here (Some name) [])))
+          by (inr past) = absurd (true≢false (sym e ∙ get_or_past m.marked (place m.names name) false past))
+
+      from : ReadsPassing (Some name) → get_or m.marked (place m.names name) false ≡ true
+      from h =
+          let w = read_chosen (Some name) h in
+          let r : RuleTree = w.1 in
+          let is : IsChosen rules chosen (length rules) w.0 r = w.2 in
+          let same : name ≡ r.name = the_name name r.name w.3 in
+          let placed_r : place m.names r.name < length m.names = placed rules m.names are.names r (in_rules rules w.0 r is.at) is.recording in
+          let within : place m.names name < length m.marked = subst (λ n. place m.names name < n) (sym are.count) (subst (λ n. place m.names n < length m.names) (sym same) placed_r) in
+          (are.marked (place m.names name) within).1 (w.0, r, is, ap (place m.names) (sym same))
+
+pub all_ok : {X E : Type 0} (P Q : X → Type 0) (r : Result X E) → ((x : X) → P x → Q x) → IfOk r P → IfOk r Q
+all_ok P Q (Ok x) go p = go x p
+all_ok P Q (Err e) go p = p

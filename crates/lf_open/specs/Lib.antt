@@ -1,0 +1,5 @@
+pub mod Standing
+pub mod Holding
+pub mod Constructs
+pub mod OpenList
+pub mod views

@@ -1,0 +1,12 @@
+-- How contracts see the code's own data. It defines nothing.
+pub mod Absence
+pub mod Adding
+pub mod Choosing
+pub mod Holding
+pub mod InOrder
+pub mod Known
+pub mod Marks
+pub mod Names
+pub mod Opens
+pub mod Sides
+pub mod Standing

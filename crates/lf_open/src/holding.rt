@@ -1,0 +1,160 @@
+//! What expressions hold, in themselves or in the rules that they read.
+ghost use Rattle.std.specs.Prelude.{◌≡◌, ◌↔◌, ◌||◌, List, codes, IfOk, IsTrue};
+ghost use Rattle.std.specs.List.{list_any};
+ghost use Rattle.std.specs.Str.{bytes_eq};
+ghost use Rattle.lf_ast.specs.Functions.{called_by};
+ghost use Rattle.lf_ast.specs.Rules.{RuleTree, rule_tree};
+ghost use Rattle.lf_ast.specs.Tree.{Tree, tree};
+ghost use Rattle.lf_open.specs.Holding.{CannotBeSilent, NamesLe, arguments_of, has_own_le, has_own_source, has_no_argument, is_source, matches_le, names_le};
+ghost use Rattle.lf_open.specs.views.Holding.{gives_alone};
+ghost use Rattle.lf_open.specs.views.Marks.{TellsReading, marks_tree};
+
+use crate::marks::Marks;
+use crate::standing::standing;
+use lf_ast::{Expr, Function, LabelEffect, Matcher, Rule, selected_name};
+use lf_base::Memory;
+use std::alloc::Global;
+
+/// Whether an expression can't be silent.
+pub(crate) fn cannot_be_silent(alloc: Global, loud: &Marks, expr: &Expr) -> Result<bool, Memory>
+    ensures { (rules : List RuleTree) → TellsReading rules (λ r. has_own_source r.expr) loud.now → IfOk result (λ found. IsTrue found ↔ CannotBeSilent rules (tree expr.now)) }
+{
+    let parts = standing(alloc, expr)?;
+    Ok(any_loud(loud, parts.as_slice()))
+}
+
+/// Whether `le` is named beneath an expression.
+pub(crate) fn names_le(alloc: Global, marks: &Marks, expr: &Expr) -> Result<bool, Memory>
+    ensures { (rules : List RuleTree) → TellsReading rules names_le marks.now → IfOk result (λ found. IsTrue found ↔ NamesLe rules (tree expr.now)) }
+{
+    let parts = standing(alloc, expr)?;
+    Ok(any_on_le(marks, parts.as_slice()))
+}
+
+/// Whether a call that gives a sample without being given one stands in an expression.
+pub(crate) fn has_own_source(alloc: Global, expr: &Expr) -> Result<bool, Memory>
+    ensures { IfOk result (λ found. found ≡ has_own_source (tree expr.now)) }
+{
+    let parts = standing(alloc, expr)?;
+    Ok(any_source(parts.as_slice()))
+}
+
+/// Whether a rule names `le`, by a matcher or by a label that it sets.
+pub(crate) fn rule_names_le(alloc: Global, rule: &Rule) -> Result<bool, Memory>
+    ensures { IfOk result (λ found. found ≡ names_le (rule_tree rule.now)) }
+{
+    let own = has_own_le(alloc, &rule.expr)?;
+    Ok(own || sets_le(rule))
+}
+
+/// Whether a selector with a matcher on `le` stands in an expression.
+fn has_own_le(alloc: Global, expr: &Expr) -> Result<bool, Memory>
+    ensures { IfOk result (λ found. found ≡ has_own_le (tree expr.now)) }
+{
+    let parts = standing(alloc, expr)?;
+    Ok(any_matching_le(parts.as_slice()))
+}
+
+/// Whether one of these is such a call, or a selector that is marked.
+fn any_loud(marks: &Marks, parts: &[&Expr]) -> bool
+    ensures { result ≡ list_any (λ p. is_source (tree p.now) || marks_tree marks.now (tree p.now)) parts.now }
+{
+    parts
+        .iter()
+        .any(|part| is_source(part) || is_marked(marks, part))
+}
+
+/// Whether one of these is a selector with a matcher on `le`, or one that is marked.
+fn any_on_le(marks: &Marks, parts: &[&Expr]) -> bool
+    ensures { result ≡ list_any (λ p. matches_le (tree p.now) || marks_tree marks.now (tree p.now)) parts.now }
+{
+    parts
+        .iter()
+        .any(|part| matches_le(part) || is_marked(marks, part))
+}
+
+/// Whether one of these is a call that gives a sample without being given one.
+fn any_source(parts: &[&Expr]) -> bool
+    ensures { result ≡ list_any (λ p. is_source (tree p.now)) parts.now }
+{
+    parts.iter().any(|part| is_source(part))
+}
+
+/// Whether one of these is a selector with a matcher on `le`.
+fn any_matching_le(parts: &[&Expr]) -> bool
+    ensures { result ≡ list_any (λ p. matches_le (tree p.now)) parts.now }
+{
+    parts.iter().any(|part| matches_le(part))
+}
+
+/// Whether a rule sets the label `le`.
+fn sets_le(rule: &Rule) -> bool
+    ensures { result ≡ list_any (λ l. bytes_eq l.key (codes "le")) rule.now.labels }
+{
+    rule.labels
+        .as_slice()
+        .iter()
+        .any(|label| label.key.as_str() == "le")
+}
+
+/// Whether an expression is a selector that is marked.
+fn is_marked(marks: &Marks, expr: &Expr) -> bool
+    ensures { result ≡ marks_tree marks.now (tree expr.now) }
+{
+    match expr {
+        Expr::Selector { name, matchers, .. } => {
+            marks.has(selected_name(name, matchers.as_slice()))
+        }
+        _ => false,
+    }
+}
+
+/// Whether an expression is a call that gives a sample without being given one.
+fn is_source(expr: &Expr) -> bool
+    ensures { result ≡ is_source (tree expr.now) }
+{
+    match Function::called_by(expr) {
+        Some(function) => gives_alone(function.labels, has_no_argument(expr)),
+        None => false,
+    }
+}
+
+/// Whether an expression is no call with an argument.
+fn has_no_argument(expr: &Expr) -> bool
+    ensures { result ≡ has_no_argument (arguments_of (tree expr.now)) }
+{
+    match expr {
+        Expr::Call { args, .. } => args.len() == 0,
+        _ => true,
+    }
+}
+
+/// Whether a function of this effect gives a sample without being given one, by whether it has no argument.
+fn gives_alone(effect: LabelEffect, bare: bool) -> bool
+    ensures { result ≡ gives_alone effect bare }
+{
+    match effect {
+        LabelEffect::Bare | LabelEffect::Absent => true,
+        LabelEffect::Date => bare,
+        _ => false,
+    }
+}
+
+/// Whether an expression is a selector with a matcher on `le`.
+fn matches_le(expr: &Expr) -> bool
+    ensures { result ≡ matches_le (tree expr.now) }
+{
+    match expr {
+        Expr::Selector { matchers, .. } => any_is_on_le(matchers.as_slice()),
+        _ => false,
+    }
+}
+
+/// Whether one of these matchers is on `le`.
+fn any_is_on_le(matchers: &[Matcher]) -> bool
+    ensures { result ≡ list_any (λ m. bytes_eq m.label (codes "le")) matchers.now }
+{
+    matchers
+        .iter()
+        .any(|matcher| matcher.label.as_str() == "le")
+}
