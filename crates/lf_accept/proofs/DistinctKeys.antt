@@ -35,26 +35,25 @@ abbrev mutual
   EntriesDiffer no_entries keys = Unit {0}
   EntriesDiffer (entry v t es) keys = (Contains keys v.text → ⊥) × KeysDiffer t × EntriesDiffer es (keys ++ v.text ∷ [])
 
-module _ (end : ℕ) where
-  flow_items : {cs behind : List Cell} {rs rest : List Row} {is : Items} {closing : Cell} → SequenceIn end cs rs is closing behind rest → ItemsDiffer is
+module _ (bytes : List ℕ) where
+  flow_items : {at : ℕ} {is : Items} {closing : Cell} → SequenceIn bytes at is closing → ItemsDiffer is
   flow_items (F.closes part byte) = tt
   flow_items (F.last part scalar sign byte) = (tt, tt)
   flow_items (F.more part scalar sign byte later) = (tt, flow_items later)
 
-  flow_value : {colon : Cell} {cs left : List Cell} {rs ss : List Row} {t : Tree} → FlowValue end colon cs rs t left ss → KeysDiffer t
+  flow_value : {colon : Cell} {t : Tree} {after : ℕ} → FlowValue bytes colon t after → KeysDiffer t
   flow_value (F.missing part ends) = tt
   flow_value (F.scalar part scalar) = tt
 
-  flow_entries : {keys : List Bytes} {cs behind : List Cell} {rs rest : List Row} {es : Entries} {closing : Cell} → MappingIn end keys cs rs es closing behind rest → EntriesDiffer es keys
+  flow_entries : {keys : List Bytes} {at : ℕ} {es : Entries} {closing : Cell} → MappingIn bytes keys at es closing → EntriesDiffer es keys
   flow_entries (F.closes keys part byte) = tt
   flow_entries (F.last e part byte) = (e.is_new, flow_value e.value, tt)
   flow_entries (F.more e part byte later) = (e.is_new, flow_value e.value, flow_entries later)
 
-module _ (bytes : List ℕ) where
   value_differs : {above d : ℕ} {r : Row} {rs rest : List Row} {t : Tree} → ValueAt bytes above d r rs t rest → KeysDiffer t
   value_differs (N.scalar rs begins is) = tt
-  value_differs (N.flow_sequence byte is tail) = flow_items _ is
-  value_differs (N.flow_mapping byte is tail) = flow_entries _ is
+  value_differs (N.flow_sequence rs byte is tail) = flow_items is
+  value_differs (N.flow_mapping rs byte is tail) = flow_entries is
 
   mutual
     node_differs : {above d : ℕ} {r : Row} {rs rest : List Row} {t : Tree} → NodeAt bytes above d r rs t rest → KeysDiffer t

@@ -5,7 +5,7 @@ use Rattle.std.specs.List.{flat_map}
 use Rattle.std.proofs.lemmas.Bool.{ltb-true, ltb-false, eqb-true}
 use Rattle.lf_base.specs.declared.fault.Fault.{Fault}
 use Rattle.lf_scalar.specs.Cells.{Cell, Value}
-use Rattle.lf_scalar.specs.Lines.{is_blank, after_blanks, begins_with}
+use Rattle.lf_scalar.specs.Lines.{is_blank, after_blanks}
 use Rattle.lf_scalar.specs.Quoted.{raw}
 use Rattle.lf_yaml.specs.Rows.{Row, text_of, indent, left_of, indent_fault, row_fault, tab_in}
 use Rattle.lf_yaml.specs.Heads.{is_item, Split, behind_cell, key_in, Key, IsKey, BeginsEntry, BeginsNoBlock, NoEntry}
@@ -20,6 +20,7 @@ use Rattle.lf_yaml.specs.reading.Trees.{Read, Head, item_next, item_at, unless_t
 use Rattle.lf_yaml.proofs.Ends.{end-length, end-holds}
 use Rattle.lf_yaml.proofs.HeadLaws.{tells, entry-view, KeyTold, key-tells, has-tells, opens-view, block-view}
 use Rattle.lf_yaml.proofs.HeadLaws as heads
+use Rattle.lf_yaml.proofs.FlowKeys.{split-source}
 use Rattle.lf_yaml.proofs.Values.{ValueTold, value-tells}
 use Rattle.lf_yaml.proofs.Placed.{IsPlaced, ArePlaced, placed-left}
 use Rattle.lf_yaml.proofs.BlockRows.{item-rows, entry-value-rows}
@@ -31,28 +32,6 @@ abbrev Keys : Type 0
 Keys = List (List ℕ)
 
 -- ---- what stands behind a key's sign ends the row
-
-split-step : (c : Cell) (cs : List Cell) (x : Split) (a b d : Bool) (o : Option Split) → ((y : Split) → o ≡ Some y → cs ≡ y.0 ++ y.1 ∷ y.2) → cond a (Some ([], c, cs)) (cond b None (cond d None (behind_cell c o))) ≡ Some x
-    → c ∷ cs ≡ x.0 ++ x.1 ∷ x.2
-split-step c cs x true b d o source h = ap joined h
-  where
-    joined : Option Split → List Cell
-    joined None = []
-    joined (Some y) = y.0 ++ y.1 ∷ y.2
-split-step c cs x false true d o source h = absurd cc
-split-step c cs x false false true o source h = absurd cc
-split-step c cs x false false false None source h = absurd cc
-split-step c cs x false false false (Some y) source h = ap (λ (xs : List Cell). c ∷ xs) (source y refl) ∙ ap joined h
-  where
-    joined : Option Split → List Cell
-    joined None = []
-    joined (Some z) = z.0 ++ z.1 ∷ z.2
-
-pub split-source : (stops : Cell → Bool) (ends : List Cell → Bool) (cs : List Cell) (x : Split) → key_in stops ends cs ≡ Some x → cs ≡ x.0 ++ x.1 ∷ x.2
-unfolding key_in
-split-source stops ends [] x e = absurd cc
-split-source stops ends (c ∷ cs) x e =
-    split-step c cs x (eqb c.byte 58 && ends cs) (stops c) (is_blank c && begins_with 35 cs) (key_in stops ends cs) (λ y h. split-source stops ends cs y h) e
 
 pub blanks-suffix : (cs : List Cell) → (front : List Cell) × (cs ≡ front ++ after_blanks cs)
 blanks-suffix [] = ([], refl)

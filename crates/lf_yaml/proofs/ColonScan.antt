@@ -3,7 +3,7 @@ use Rattle.std.proofs.Common.{◌≡◌, ◌≢◌, ℕ, zero, suc, ◌+◌, ◌
 use Rattle.lf_scalar.specs.Cells.{Cell, cell, cells}
 use Rattle.lf_scalar.specs.Plain.{before_blank}
 use Rattle.lf_scalar.proofs.Cells.{cells-append}
-use Rattle.lf_yaml.specs.Flow.{colon_in, later_colon}
+use Rattle.lf_yaml.specs.Flow.{colon_in}
 use Rattle.lf_yaml.proofs.Placed.{drops}
 
 -- from a place on
@@ -55,13 +55,11 @@ module _ (at len i : ℕ) (text : List ℕ) (lt : i < len) (le : len ≤ length 
 pub colon-end : (at len i : ℕ) (text : List ℕ) → len ≤ i → colon_from at text len i ≡ None
 colon-end at len i text le = let z : len - i ≡ 0 = omega arith in ap (λ (n : ℕ). colon_in (cells (at + i) (take n (drop i text))) (cells (at + len) (drop len text))) z
 
-pub colon-start : (at len : ℕ) (text : List ℕ) → len ≤ length text → colon_from at text len 1 ≡ later_colon (cells at (take len text)) (cells (at + len) (drop len text))
-colon-start at zero text le = refl
-colon-start at (suc len) [] le = absurd (omega arith)
-colon-start at (suc len) (x ∷ xs) le =
-    let n : suc len - 1 ≡ len = omega arith in
-    let z : at + 1 ≡ suc at = omega arith in
-    ap (λ (m : ℕ). colon_in (cells (at + 1) (take m xs)) (cells (at + suc len) (drop len xs))) n ∙ ap (λ (m : ℕ). colon_in (cells m (take len xs)) (cells (at + suc len) (drop len xs))) z
+pub colon-start : (at len : ℕ) (text : List ℕ) → colon_from at text len 0 ≡ colon_in (cells at (take len text)) (cells (at + len) (drop len text))
+colon-start at len text =
+    let n : len - 0 ≡ len = omega arith in
+    let z : at + 0 ≡ at = omega arith in
+    ap (λ (m : ℕ). colon_in (cells m (take (len - 0) text)) (cells (at + len) (drop len text))) z ∙ ap (λ (m : ℕ). colon_in (cells at (take m text)) (cells (at + len) (drop len text))) n
 
 pub not-apart : (x : ℕ) (b : Bool) → b ≡ false → (eqb x 58 && b) ≡ false
 not-apart x b h = rw h (and-false (eqb x 58))

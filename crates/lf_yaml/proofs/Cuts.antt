@@ -16,12 +16,11 @@ use Rattle.lf_scalar.proofs.SmallBytes.{small-blank}
 use Rattle.lf_yaml.specs.views.Shown.{shown}
 use Rattle.lf_yaml.specs.views.Cursor.{IsRowOf, rows_after}
 use Rattle.lf_yaml.specs.Rows.{Row}
-use Rattle.lf_yaml.specs.views.Places.{IsIn}
 use Rattle.lf_yaml.specs.declared.row.Row.{Row as CodeRow}
 use Rattle.lf_yaml.proofs.HeadLaws.{tells}
 use Rattle.lf_yaml.proofs.Placed.{FirstCell, first-cell, first-lengthen}
 use Rattle.lf_yaml.proofs.RowCode.{text-shown}
-use Rattle.lf_yaml.proofs.RowsAfter.{placed-first, part-of-file, get-drop}
+use Rattle.lf_yaml.proofs.RowsAfter.{placed-first, get-drop}
 
 -- a byte more in front
 pub boundary-more : (x k : ℕ) (xs : List ℕ) → IsCharBoundary xs k → IsCharBoundary (x ∷ xs) (suc k)
@@ -118,16 +117,6 @@ small-within n len text part e n_le len_le inner outer lt =
 
 -- ---- parts of a line
 
--- what is left of a line behind a cut
-pub in-behind : (bytes text part : List ℕ) (at next k : ℕ) → IsIn bytes at text next → IsCharBoundary text k → part ≡ drop k text → IsIn bytes (at + k) part next
-in-behind bytes text part at next k is cut e =
-    let n : k ≡ (at + k) - at = omega arith in
-    record {
-      text_is = part-of-file bytes at (at + k) text part (omega arith) is.text_is (e ∙ ap (λ (m : ℕ). drop m text) n);
-      utf8 = subst IsUtf8 (sym e) (IsUtf8-drop text k is.utf8 cut);
-      start = is.start;
-    }
-
 -- behind the quote that closes
 small-quote : (kind : Quotes) (b : ℕ) → b ≡ quote_of kind → b < 128
 small-quote Single b e = omega (arith, e)
@@ -139,7 +128,3 @@ quote-cut kind text inside k e lt q utf8 =
     let z : 1 + k ≡ k + 1 = omega arith in
     let same : get_or inside k 0 ≡ get_or text (k + 1) 0 = ap (λ (xs : List ℕ). get_or xs k 0) e ∙ get-drop 1 k text ∙ ap (λ (m : ℕ). get_or text m 0) z in
     subst (IsCharBoundary text) n (IsCharBoundary-after_ascii text (k + 1) utf8 (omega (arith, lt, ap length e, length-drop 1 text)) (small-quote kind _ (sym same ∙ q)))
-
--- a row of the file
-pub row-in : (bytes : List ℕ) (r : CodeRow) (next : ℕ) → IsUtf8 bytes → 0 < length r.text.now → IsRowOf bytes r → IsCharBoundary bytes next → IsIn bytes r.at r.text.now next
-row-in bytes r next utf8 full is start = record { text_is = is.text; utf8 = row-utf8 bytes r utf8 full is; start = start }

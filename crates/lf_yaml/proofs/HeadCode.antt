@@ -24,7 +24,8 @@ use Rattle.lf_yaml.proofs.HeadLaws.{tells, entry-view}
 use Rattle.lf_yaml.proofs.Placed.{placed-left, drops}
 use Rattle.lf_yaml.proofs.RowCode.{text-shown}
 use Rattle.lf_yaml.proofs.RowsAfter.{part-of-file, get-drop}
-use Rattle.lf_yaml.proofs.BlockTells.{split-source, blanks-suffix}
+use Rattle.lf_yaml.proofs.BlockTells.{blanks-suffix}
+use Rattle.lf_yaml.proofs.FlowKeys.{split-source}
 
 -- ---- an entry's row is what stands before its `:`, this sign, and what stands behind it
 

@@ -1,5 +1,5 @@
 -- The span of each breach of a file lies in it.
-use Rattle.std.proofs.Common.{◌≡◌, ℕ, suc, ◌+◌, ◌≤◌, Bool, true, false, not, List, [], ◌∷◌, ◌++◌, length, drop, eqb, Option, Some, None, refl, ap, arith, sym, ◌∙◌, subst, inl, inr}
+use Rattle.std.proofs.Common.{◌≡◌, ℕ, suc, ◌+◌, ◌<◌, ◌≤◌, Bool, true, false, not, List, [], ◌∷◌, ◌++◌, length, drop, eqb, Option, Some, None, refl, ap, arith, sym, ◌∙◌, subst, inl, inr}
 use Rattle.std.specs.Str.{IsUtf8, IsCharBoundary}
 use Rattle.std.proofs.lemmas.Bool.{and_parts, cases_Bool}
 use Rattle.std.proofs.lemmas.Str.{IsCharBoundary-start, IsCharBoundary-from_rest}
@@ -25,9 +25,12 @@ use Rattle.lf_yaml.proofs.BlockRows.{block-rows, item-rows, entry-rows}
 use Rattle.lf_yaml.proofs.BlockTells.{entry-suffix}
 use Rattle.lf_yaml.proofs.FileCharacters.{characters_lie}
 use Rattle.lf_yaml.proofs.InsideRows.{IsRowIn, row_behind, left_in, first_lies, indent_lies, row_lies, AreRowsIn, rows_end, source_utf8, source_rises, document_in}
-use Rattle.lf_yaml.proofs.InsideScalars.{LeftIn, entry_key_in, key_from, escape_lies}
-use Rattle.lf_yaml.proofs.InsideFlow.{sequence_in, sequence_lies, mapping_in, mapping_lies}
-use Rattle.lf_yaml.proofs.InsideTrees.{behind_first, rows_behind, left_item}
+use Rattle.lf_yaml.proofs.InsideScalars.{entry_key_in, key_from, escape_lies}
+use Rattle.lf_yaml.proofs.InsideFlow.{line_in, sequence_behind, sequence_lies, mapping_behind, mapping_lies}
+use Rattle.lf_yaml.proofs.FlowLines.{short-drop}
+use Rattle.lf_yaml.proofs.FlowParts.{ascii-boundary}
+use Rattle.lf_yaml.specs.Flow.{line_on}
+use Rattle.lf_yaml.proofs.InsideTrees.{left_item}
 use Rattle.lf_yaml.proofs.Laws.{rows-of-document}
 use Rattle.lf_yaml.proofs.Placed.{first-cell, ArePlaced, placed-left}
 use Rattle.lf_yaml.proofs.Values.{value-rows}
@@ -65,6 +68,13 @@ module _ (bytes : List ℕ) (lo : ℕ) (r : Row) (rs : List Row) (h : RowsAt byt
       let z : r.first.at + 0 ≡ r.first.at = omega arith in
       subst (IsCharBoundary bytes) z (IsCharBoundary-from_rest bytes r.first.at 0 (omega (arith, k, le)) (subst (λ (bs : List ℕ). IsCharBoundary bs 0) (sym first.bytes) b))
 
+  -- behind the row's first byte
+  behind_first : IsUtf8 bytes → r.first.byte < 128 → IsCharBoundary bytes (suc r.first.at)
+  behind_first utf8 low =
+      let first = first-cell (length bytes) r.first.at (drop r.first.at bytes) r.first r.rest h.placed in
+      let x = short-drop r.first.at r.first.byte first.later bytes first.bytes in
+      ascii-boundary bytes r.first utf8 (x.0, x.1) low
+
   scalar_breach : IsUtf8 bytes → (above : ℕ) (f : Fault) → begins_scalar r ≡ true → ScalarBreaksOn bytes above r f → LiesIn (length bytes) f.span
   scalar_breach utf8 above f b s =
       let k = row_behind lo h.stop r h.row in
@@ -72,23 +82,22 @@ module _ (bytes : List ℕ) (lo : ℕ) (r : Row) (rs : List Row) (h : RowsAt byt
       style_lies (style_of r.first) above (length bytes) r.first.at (source_at bytes r.first.at) f (source_utf8 bytes utf8 r.first.at starts) (source_rises bytes utf8 r.first.at (omega (arith, k, le)))
       (ap (begins (style_of r.first)) h.placed ∙ (and_parts (begins (style_of r.first) (text_of r)) (not (is_left_out r)) b).0) s
 
-wrong_breach : (n lo : ℕ) (behind : List Cell) (wrong : Cell) → WrongBehind behind wrong → LeftIn n lo behind → LiesIn n (character_fault NotANode wrong).span
-wrong_breach n lo behind wrong w h = wrong_lies false behind wrong lo n (wrong-told false behind wrong (from-front behind wrong w)) h.1 h.0 NotANode
+-- what stands behind a bracket that closes
+wrong_breach : (bytes : List ℕ) (at : ℕ) (wrong : Cell) → IsUtf8 bytes → IsCharBoundary bytes at → WrongBehind (line_on bytes at).text wrong → LiesIn (length bytes) (character_fault NotANode wrong).span
+wrong_breach bytes at wrong utf8 b w =
+    let h = line_in bytes utf8 at b in
+    wrong_lies false (line_on bytes at).text wrong at (length bytes) (wrong-told false (line_on bytes at).text wrong (from-front (line_on bytes at).text wrong w)) h.1 h.0 NotANode
 
 value_breach : (bytes : List ℕ) (utf8 : IsUtf8 bytes) (above d lo : ℕ) (r : Row) (rs : List Row) (f : Fault) → ValueBreaks bytes above d r rs f → RowsAt bytes lo r rs → LiesIn (length bytes) f.span
 value_breach bytes utf8 above d lo r _ f (breaks.ValueBreaks.scalar rs b s) h = scalar_breach bytes lo r rs h utf8 above f b s
 value_breach bytes utf8 above d lo r _ _ (breaks.ValueBreaks.no_value d2 rs b q) h = row_lies (length bytes) lo h.stop r h.row h.within
 value_breach bytes utf8 above _ lo r _ _ (breaks.ValueBreaks.deep rs q) h = below_first bytes lo r rs h
-value_breach bytes utf8 above _ lo r rs f (breaks.ValueBreaks.flow_sequence d q s) h =
-    sequence_lies (length bytes) (suc r.first.at) r.rest rs f s (behind_first (length bytes) lo h.stop r h.row h.within (omega (arith, q))) (rows_behind (length bytes) lo h.stop r rs h.row h.rows)
-value_breach bytes utf8 above _ lo r rs _ (breaks.ValueBreaks.behind_sequence {rest = rest} {is = is} {closing = closing} {wrong = wrong} {behind = behind} d q s w) h =
-    let x = sequence_in (length bytes) (suc r.first.at) r.rest rs is closing behind rest s (behind_first (length bytes) lo h.stop r h.row h.within (omega (arith, q))) (rows_behind (length bytes) lo h.stop r rs h.row h.rows) in
-    wrong_breach (length bytes) (suc r.first.at) behind wrong w x.1.left
-value_breach bytes utf8 above _ lo r rs f (breaks.ValueBreaks.flow_mapping d q s) h =
-    mapping_lies (length bytes) (suc r.first.at) [] r.rest rs f s (behind_first (length bytes) lo h.stop r h.row h.within (omega (arith, q))) (rows_behind (length bytes) lo h.stop r rs h.row h.rows)
-value_breach bytes utf8 above _ lo r rs _ (breaks.ValueBreaks.behind_mapping {rest = rest} {es = es} {closing = closing} {wrong = wrong} {behind = behind} d q s w) h =
-    let x = mapping_in (length bytes) (suc r.first.at) [] r.rest rs es closing behind rest s (behind_first (length bytes) lo h.stop r h.row h.within (omega (arith, q))) (rows_behind (length bytes) lo h.stop r rs h.row h.rows) in
-    wrong_breach (length bytes) (suc r.first.at) behind wrong w x.1.left
+value_breach bytes utf8 above _ lo r _ f (breaks.ValueBreaks.flow_sequence rs d q s) h = sequence_lies bytes utf8 (suc r.first.at) f s (behind_first bytes lo r rs h utf8 (omega (arith, q)))
+value_breach bytes utf8 above _ lo r _ _ (breaks.ValueBreaks.behind_sequence {is = is} {closing = closing} {wrong = wrong} rs d q s w) h =
+    wrong_breach bytes (suc closing.at) wrong utf8 (sequence_behind bytes utf8 (suc r.first.at) is closing s) w
+value_breach bytes utf8 above _ lo r _ f (breaks.ValueBreaks.flow_mapping rs d q s) h = mapping_lies bytes utf8 [] (suc r.first.at) f s (behind_first bytes lo r rs h utf8 (omega (arith, q)))
+value_breach bytes utf8 above _ lo r _ _ (breaks.ValueBreaks.behind_mapping {es = es} {closing = closing} {wrong = wrong} rs d q s w) h =
+    wrong_breach bytes (suc closing.at) wrong utf8 (mapping_behind bytes utf8 [] (suc r.first.at) es closing s) w
 
 key_breach : (n lo stop : ℕ) (r : Row) (k : Key) (colon : Cell) (behind : List Cell) (f : Fault) → BeginsEntry r k colon behind → KeyBreaks r.first r.rest k f → IsRowIn lo stop r → stop ≤ n → LiesIn n f.span
 key_breach n lo stop r _ colon behind f (heads.BeginsEntry.bare p l e) b h le = absurd b

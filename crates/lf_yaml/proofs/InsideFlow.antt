@@ -1,30 +1,100 @@
 -- Flow collections: what they read and what breaks them lies in the file.
-use Rattle.std.proofs.Common.{◌≡◌, ℕ, suc, ◌<◌, ◌≤◌, Bool, true, false, eqb, ◌&&◌, List, [], ◌∷◌, ◌++◌, arith, subst, inl, inr}
+use Rattle.std.proofs.Common.{◌≡◌, ℕ, suc, ◌<◌, ◌≤◌, Bool, true, false, cond, eqb, ◌&&◌, List, [], ◌∷◌, ◌++◌, length, arith, sym, ◌∙◌, subst, inl, inr, append_assoc}
+use Rattle.std.specs.List.{AllByRecursion, flat_map}
+use Rattle.std.specs.Str.{IsUtf8, IsCharBoundary}
 use Rattle.std.proofs.lemmas.Bool.{cases_Bool}
 use Rattle.lf_base.specs.declared.kind.Kind.TheVariants.{LeftOut}
 use Rattle.lf_base.specs.declared.fault.Fault.{Fault}
 use Rattle.lf_base.specs.Faults.{LiesIn}
 use Rattle.lf_scalar.specs.Cells.{Cell, Value}
-use Rattle.lf_scalar.specs.Lines.{is_blank}
+use Rattle.lf_scalar.specs.Lines.{Line, start_of, begins_with, is_blank, after_blanks, after_spaces}
+use Rattle.lf_scalar.specs.Plain.{before_blank}
+use Rattle.lf_scalar.specs.declared.quotes.Quotes.{Quotes}
+use Rattle.lf_scalar.specs.Scalars.{source_at}
+use Rattle.lf_scalar.specs.Quoted.{raw, Closes}
 use Rattle.lf_scalar.proofs.Characters.{byte_lies}
-use Rattle.lf_scalar.proofs.Parts.{utf8-behind, blank-low}
+use Rattle.lf_scalar.proofs.Parts.{utf8-behind, blank-low, after-blanks-part, after-spaces-part}
+use Rattle.lf_scalar.proofs.QuotedTexts.{quote-low}
 use Rattle.lf_scalar.proofs.Rising.{rises-le, rises-low}
+use Rattle.lf_scalar.proofs.Utf8Lines.{LinesUtf8, utf8-nil, lines-utf8}
 use Rattle.lf_scalar.proofs.Within.{rises_high}
-use Rattle.lf_yaml.specs.Rows.{Row, text_of, is_mark}
+use Rattle.lf_yaml.specs.Rows.{Row, text_of, is_mark, headed, content_row, rows_of}
 use Rattle.lf_yaml.specs.Heads.{Key}
 use Rattle.lf_yaml.specs.Tree.{Tree, Items, Entries}
-use Rattle.lf_yaml.specs.Flow.{Next, at_part, broken, on_line, next_part, FlowScalar, SequenceIn, SequenceBreaks, FlowKey, NoSign, FlowKeyBreaks, EndsValue, FlowValue, FlowValueBreaks, FlowEntry, MappingIn, MappingBreaks}
+use Rattle.lf_yaml.specs.Flow.{first_line, later_lines, lines_on, line_on, lines_below, Next, at_part, broken, on_line, next_part, next_on, is_flow_sign, sign_fault, FlowScalar, FlowScalarBreaks, SequenceIn, SequenceBreaks, FlowKey, NoSign, FlowKeyBreaks, FlowValue, FlowValueBreaks, FlowEntry, MappingIn, MappingBreaks}
 use Rattle.lf_yaml.specs.Flow as flow
 use Rattle.lf_yaml.specs.Insides.{ScalarInside, Inside, ItemsInside, EntriesInside}
-use Rattle.lf_yaml.proofs.InsideRows.{row_behind, AreRowsIn, rows_low, first_lies, indent_lies}
-use Rattle.lf_yaml.proofs.InsideScalars.{LeftIn, SignedIn, flow_scalar_in, flow_scalar_lies, flow_key_in, key_from, escape_lies, part_lies, no_part_lies, no_sign_lies, behind_rises, behind_utf8, rest_rises, rest_utf8, empty_inside}
+use Rattle.lf_yaml.proofs.FlowLines.{all-front, all-back, InFile, LinesInFile, left-boundary, lines-here, lines-rise-here}
+use Rattle.lf_yaml.proofs.FlowKeys.{split-source, key-within}
+use Rattle.lf_yaml.proofs.FlowParts.{part-bounds, part-within, ascii-boundary, scalar-within, scalar-boundary}
+use Rattle.lf_yaml.proofs.InsideRows.{AreRowsIn, rows_low, rows_in, first_lies, indent_lies, source_utf8}
+use Rattle.lf_yaml.proofs.InsideScalars.{LeftIn, split_sign, flow_scalar_in, flow_scalar_lies, flow_key_from, escape_lies, part_lies, no_part_lies, no_sign_lies, empty_inside}
 
--- ---- the next part
+-- ---- the next part: its line's cells are those of the file
 
--- a part begins at an offset or later, and so do its line and the rows behind it; or what is broken lies in the file
+abbrev AreIn : List ℕ → List Cell → Type 0
+AreIn bytes cs = AllByRecursion (InFile bytes) cs
+
+-- the cells of the first of some rows are those of the file
+abbrev FirstIn : List ℕ → List Row → Type 0
+FirstIn bytes [] = Unit {0}
+FirstIn bytes (r ∷ rs) = AreIn bytes (text_of r)
+
+row_first : (bytes : List ℕ) (l : Line) (rs : List Row) → AreIn bytes l.text → FirstIn bytes rs → FirstIn bytes (content_row l ++ rs)
+row_first bytes l rs are below = by (begins_with 35 (after_spaces l.text)) (after_spaces l.text) rest
+  where
+    rest : AreIn bytes (after_spaces l.text)
+    rest = let p = after-spaces-part l.text in all-front (InFile bytes) (after_spaces l.text) p.back (all-back (InFile bytes) p.front (after_spaces l.text ++ p.back) (subst (AreIn bytes) p.source are))
+
+    by : (b : Bool) (cs : List Cell) → AreIn bytes cs → FirstIn bytes (cond b [] (headed (start_of l) cs) ++ rs)
+    by true cs h = below
+    by false [] h = below
+    by false (c ∷ cs) h = h
+
+rows_first : (bytes : List ℕ) (ls : List Line) → LinesInFile bytes ls → FirstIn bytes (rows_of ls)
+unfolding rows_of
+rows_first bytes [] h = tt
+rows_first bytes (l ∷ ls) h = row_first bytes l (rows_of ls) h.0.0 (rows_first bytes ls h.1)
+
+abbrev NextAre : List ℕ → Next → Type 0
+NextAre bytes (broken f) = Unit {0}
+NextAre bytes (at_part c cs) = AreIn bytes (c ∷ cs)
+
+on_line_are : (bytes : List ℕ) (end : ℕ) (rs : List Row) → FirstIn bytes rs → NextAre bytes (on_line end rs)
+on_line_are bytes end [] h = tt
+on_line_are bytes end (r ∷ rs) h =
+    elim (cases_Bool (eqb r.first.byte 9)) [
+      | inl a ↦ rw a tt
+      | inr a ↦ elim (cases_Bool (is_mark r)) [
+        | inl b ↦ rw (a, b) tt
+        | inr b ↦ rw (a, b) h
+      ]
+    ]
+
+next_are : (bytes : List ℕ) (end : ℕ) (blank : Bool) (cs : List Cell) (rs : List Row) → AreIn bytes cs → FirstIn bytes rs → NextAre bytes (next_part end blank cs rs)
+unfolding next_part
+next_are bytes end blank [] rs are first = on_line_are bytes end rs first
+next_are bytes end blank (c ∷ cs) rs are first =
+    elim (cases_Bool (is_blank c)) [
+      | inl a ↦ rw a (next_are bytes end true cs rs are.1 first)
+      | inr a ↦ elim (cases_Bool (blank && eqb c.byte 35)) [
+        | inl b ↦ rw (a, b) (on_line_are bytes end rs first)
+        | inr b ↦ rw (a, b) are
+      ]
+    ]
+
+pub part_are : (bytes : List ℕ) (at : ℕ) (c : Cell) (cs : List Cell) → next_on bytes at ≡ at_part c cs → AreIn bytes (c ∷ cs)
+unfolding next_on
+part_are bytes at c cs e =
+    let are = lines-here bytes at in
+    subst (NextAre bytes) e (next_are bytes (length bytes) false (line_on bytes at).text (rows_of (lines_below bytes at)) are.0.0 (rows_first bytes (lines_below bytes at) are.1))
+
+-- ---- and it lies in the file
+
+-- a part begins at an offset or later, and so does its line; or what is broken lies in the file
 abbrev pub NextIn : ℕ → ℕ → Next → Type 0
 NextIn n lo (broken f) = LiesIn n f.span
-NextIn n lo (at_part c cs rs) = (lo ≤ c.at) × LeftIn n c.at (c ∷ cs) × AreRowsIn n lo rs
+NextIn n lo (at_part c cs) = (lo ≤ c.at) × LeftIn n c.at (c ∷ cs)
 
 on_line_in : (n lo : ℕ) (rs : List Row) → AreRowsIn n lo rs → NextIn n lo (on_line n rs)
 on_line_in n lo [] h = (omega arith, omega arith)
@@ -33,9 +103,7 @@ on_line_in n lo (r ∷ rs) h =
       | inl a ↦ rw a (rw a at (indent_lies n lo h.0 r h.1 h.2))
       | inr a ↦ elim (cases_Bool (is_mark r)) [
         | inl b ↦ rw (a, b) (first_lies n lo h.0 r h.1 h.2 LeftOut)
-        | inr b ↦
-            let low : lo ≤ h.0 = (let k = row_behind lo h.0 r h.1 in omega (arith, k, h.1.low)) in
-            rw (a, b) (h.1.low, (rises_high r.first.at (text_of r) h.0 n h.2 h.1.rises, h.1.utf8), rows_low n h.0 lo rs low h.3)
+        | inr b ↦ rw (a, b) (h.1.low, (rises_high r.first.at (text_of r) h.0 n h.2 h.1.rises, h.1.utf8))
       ]
     ]
 
@@ -44,145 +112,191 @@ unfolding next_part
 next_in n blank lo [] rs h rows = on_line_in n lo rs rows
 next_in n blank lo (c ∷ cs) rs h rows =
     elim (cases_Bool (is_blank c)) [
-      | inl a ↦ rw a (next_in n true lo cs rs (rises-low (suc c.at) lo cs n (omega (arith, h.0.0)) h.0.1, utf8-behind [] c cs h.1 (blank-low c a)) rows)
+      | inl a ↦ rw a (next_in n true lo cs rs (rises-low (suc c.at) lo cs n (let low = h.0.0 in omega (arith, low)) h.0.1, utf8-behind [] c cs h.1 (blank-low c a)) rows)
       | inr a ↦ elim (cases_Bool (blank && eqb c.byte 35)) [
         | inl b ↦ rw (a, b) (on_line_in n lo rs rows)
-        | inr b ↦ rw (a, b) (h.0.0, ((omega arith, h.0.1), h.1), rows)
+        | inr b ↦ rw (a, b) (h.0.0, ((omega arith, h.0.1), h.1))
       ]
     ]
 
-module _ (n lo : ℕ) (cs : List Cell) (rs : List Row) (left : LeftIn n lo cs) (rows : AreRowsIn n lo rs) where
-  pub part_in : (c : Cell) (more : List Cell) (ss : List Row) → next_part n false cs rs ≡ at_part c more ss → (lo ≤ c.at) × LeftIn n c.at (c ∷ more) × AreRowsIn n lo ss
-  part_in c more ss e = subst (NextIn n lo) e (next_in n false lo cs rs left rows)
+-- the sign of a key is a cell of its line
+all_at : (bytes : List ℕ) (xs : List Cell) (c : Cell) (ys : List Cell) → AreIn bytes (xs ++ c ∷ ys) → InFile bytes c
+all_at bytes [] c ys h = h.0
+all_at bytes (x ∷ xs) c ys h = all_at bytes xs c ys h.1
 
-  pub broken_in : (f : Fault) → next_part n false cs rs ≡ broken f → LiesIn n f.span
-  broken_in f e = subst (NextIn n lo) e (next_in n false lo cs rs left rows)
+key-cell : (bytes : List ℕ) (c : Cell) (cs : List Cell) (k : Key) (colon : Cell) → FlowKey c cs k colon → AreIn bytes (c ∷ cs) → InFile bytes colon × (colon.byte ≡ 58)
+key-cell bytes c cs _ _ (flow.FlowKey.quoted {rest = rest} {colon = colon} kind between e s) are =
+    let all : AreIn bytes ((flat_map raw between.raws ++ between.closing ∷ []) ++ between.rest) =
+    subst (AreIn bytes) (between.source ∙ sym (append_assoc (flat_map raw between.raws) (between.closing ∷ []) between.rest)) are.1 in
+    let behind : AreIn bytes between.rest = all-back (InFile bytes) (flat_map raw between.raws ++ between.closing ∷ []) between.rest all in
+    let p = after-blanks-part between.rest in
+    let sign : AreIn bytes (after_blanks between.rest) = all-front (InFile bytes) (after_blanks between.rest) p.back (all-back (InFile bytes) p.front (after_blanks between.rest ++ p.back) (subst (AreIn bytes) p.source behind)) in
+    let cut : AreIn bytes (colon ∷ rest) = subst (AreIn bytes) s.0 sign in
+    (cut.0, s.1)
+key-cell bytes c cs _ _ (flow.FlowKey.bare {front = front} {rest = rest} {colon = colon} p e n) are =
+    (all_at bytes (c ∷ front) colon rest (subst (AreIn bytes) (split-source is_flow_sign before_blank (c ∷ cs) (c ∷ front, colon, rest) e) are), split_sign is_flow_sign before_blank (c ∷ cs) (c ∷ front, colon, rest) e)
 
--- from an earlier offset on
-earlier : (n low lo : ℕ) (cs : List Cell) → lo ≤ low → LeftIn n low cs → LeftIn n lo cs
-earlier n low lo cs le h = (rises-low low lo cs n le h.0, h.1)
+-- so is the quote that closes
+closing-cell : (bytes : List ℕ) (kind : Quotes) (c : Cell) (cs : List Cell) (between : Closes kind cs) → AreIn bytes (c ∷ cs) → InFile bytes between.closing
+closing-cell bytes kind c cs between are = all_at bytes (flat_map raw between.raws) between.closing between.rest (subst (AreIn bytes) between.source are.1)
 
--- behind a sign
-behind_sign : (n lo : ℕ) (c : Cell) (cs : List Cell) → c.byte < 128 → lo ≤ c.at → LeftIn n c.at (c ∷ cs) → LeftIn n lo cs
-behind_sign n lo c cs low le h = (rises-low (suc c.at) lo cs n (omega (arith, le)) h.0.1, utf8-behind [] c cs h.1 low)
+no-sign-boundary : (bytes : List ℕ) (c : Cell) (cs : List Cell) (after : ℕ) → IsUtf8 bytes → NoSign bytes c cs after → AreIn bytes (c ∷ cs) → IsCharBoundary bytes after
+no-sign-boundary bytes c cs _ utf8 (flow.NoSign.quoted kind between v q b none) are = ascii-boundary bytes between.closing utf8 (closing-cell bytes kind c cs between are) (quote-low kind between.closing between.closes)
+no-sign-boundary bytes c cs _ utf8 (flow.NoSign.bare p e) are = left-boundary bytes (line_on bytes c.at) (lines-here bytes c.at).0
 
--- ---- sequences
+-- ---- where a collection is read on
 
--- the bracket that closes, what stands behind it, and the rows that are left
-pub record ClosedIn (n lo : ℕ) (closing : Cell) (behind : List Cell) (rest : List Row) : Type 0 where
-  pub low : lo ≤ closing.at
-  pub within : suc closing.at ≤ n
-  pub left : LeftIn n lo behind
-  pub rows : AreRowsIn n lo rest
+first_utf8 : (end : ℕ) (ls : List Line) → LinesUtf8 ls → LinesUtf8 (first_line end ls ∷ later_lines ls)
+first_utf8 end [] h = (utf8-nil, tt)
+first_utf8 end (l ∷ ls) h = h
 
-closed_at : (n lo : ℕ) (closing : Cell) (behind : List Cell) (rest : List Row) → closing.byte < 128 → (lo ≤ closing.at) × LeftIn n closing.at (closing ∷ behind) × AreRowsIn n lo rest → ClosedIn n lo closing behind rest
-closed_at n lo closing behind rest low h = record { low = h.0; within = rises-le (suc closing.at) behind n h.1.0.1; left = behind_sign n lo closing behind low h.0 h.1; rows = h.2 }
+module _ (bytes : List ℕ) where
+  abbrev n : ℕ
+  n = length bytes
 
-pub sequence_in : (n lo : ℕ) (cs : List Cell) (rs : List Row) (is : Items) (closing : Cell) (behind : List Cell) (rest : List Row) → SequenceIn n cs rs is closing behind rest → LeftIn n lo cs → AreRowsIn n lo rs → ItemsInside n is × ClosedIn n lo closing behind rest
-sequence_in n lo cs rs _ closing behind rest (flow.SequenceIn.closes e b) h rows = (tt, closed_at n lo closing behind rest (omega (arith, b)) (part_in n lo cs rs h rows closing behind rest e))
-sequence_in n lo cs rs _ closing behind rest (flow.SequenceIn.last {more = more} {after = after} {ss = ss} {c = c} {v = v} e s g b) h rows =
-    let p = part_in n lo cs rs h rows c more ss e in
-    let x = flow_scalar_in n c more v after s p.1 in
-    ((x.0.0, tt), closed_at n lo closing behind rest (omega (arith, b)) (part_in n lo after ss (earlier n c.at lo after p.0 x.1) p.2 closing behind rest g))
-sequence_in n lo cs rs _ closing behind rest (flow.SequenceIn.more {more = more} {after = after} {left = left} {ss = ss} {ts = ts} {c = c} {comma = comma} {v = v} {is = is} e s g b later) h rows =
-    let p = part_in n lo cs rs h rows c more ss e in
-    let x = flow_scalar_in n c more v after s p.1 in
-    let q = part_in n lo after ss (earlier n c.at lo after p.0 x.1) p.2 comma left ts g in
-    let k = sequence_in n lo left ts is closing behind rest later (behind_sign n lo comma left (omega (arith, b)) q.0 q.1) q.2 in
-    ((x.0.0, k.0), k.1)
+  -- ---- what is read lies in the file
 
-pub sequence_lies : (n lo : ℕ) (cs : List Cell) (rs : List Row) (f : Fault) → SequenceBreaks n cs rs f → LeftIn n lo cs → AreRowsIn n lo rs → LiesIn n f.span
-sequence_lies n lo cs rs f (flow.SequenceBreaks.no_part e) h rows = broken_in n lo cs rs h rows f e
-sequence_lies n lo cs rs f (flow.SequenceBreaks.scalar {more = more} {ss = ss} {c = c} e other b) h rows = flow_scalar_lies n c more f b (part_in n lo cs rs h rows c more ss e).1
-sequence_lies n lo cs rs f (flow.SequenceBreaks.no_sign {more = more} {after = after} {ss = ss} {c = c} {v = v} e s g) h rows =
-    let p = part_in n lo cs rs h rows c more ss e in
-    let x = flow_scalar_in n c more v after s p.1 in
-    broken_in n lo after ss (earlier n c.at lo after p.0 x.1) p.2 f g
-sequence_lies n lo cs rs _ (flow.SequenceBreaks.sign {more = more} {after = after} {left = left} {ss = ss} {ts = ts} {c = c} {wrong = wrong} {v = v} e s g a b) h rows =
-    let p = part_in n lo cs rs h rows c more ss e in
-    let x = flow_scalar_in n c more v after s p.1 in
-    no_sign_lies n wrong left (part_in n lo after ss (earlier n c.at lo after p.0 x.1) p.2 wrong left ts g).1
-sequence_lies n lo cs rs f (flow.SequenceBreaks.later {more = more} {after = after} {left = left} {ss = ss} {ts = ts} {c = c} {comma = comma} {v = v} e s g b rest_breaks) h rows =
-    let p = part_in n lo cs rs h rows c more ss e in
-    let x = flow_scalar_in n c more v after s p.1 in
-    let q = part_in n lo after ss (earlier n c.at lo after p.0 x.1) p.2 comma left ts g in
-    sequence_lies n lo left ts f rest_breaks (behind_sign n lo comma left (omega (arith, b)) q.0 q.1) q.2
+  -- a scalar behind an offset
+  scalar_in : (at : ℕ) (c : Cell) (cs : List Cell) (v : Value) (after : ℕ) → next_on bytes at ≡ at_part c cs → FlowScalar bytes c cs v after → ScalarInside n v × (at ≤ after)
+  scalar_in at c cs v after e s =
+      let k = part-within bytes at c cs e in
+      let w = scalar-within bytes c cs v after k.1 s in
+      let low = k.0 in
+      ((flow_scalar_in bytes c cs v after s k.1).0, omega (arith, low, w.0))
 
--- ---- mappings
+  -- the bracket that closes
+  abbrev pub ClosedIn : ℕ → Cell → Type 0
+  ClosedIn lo closing = (lo ≤ closing.at) × (suc closing.at ≤ n)
 
-pub record LeavesIn (n lo : ℕ) (left : List Cell) (ss : List Row) : Type 0 where
-  pub cells : LeftIn n lo left
-  pub rows : AreRowsIn n lo ss
+  pub sequence_in : (at : ℕ) (is : Items) (closing : Cell) → SequenceIn bytes at is closing → ItemsInside n is × ClosedIn at closing
+  sequence_in at _ closing (flow.SequenceIn.closes {cs = cs} e b) = (tt, part-within bytes at closing cs e)
+  sequence_in at _ closing (flow.SequenceIn.last {after = after} {c = c} {cs = cs} {ds = ds} {v = v} e s g b) =
+      let x = scalar_in at c cs v after e s in
+      let w = part-within bytes after closing ds g in
+      let from = w.0 in
+      ((x.0, tt), (omega (arith, x.1, from), w.1))
+  sequence_in at _ closing (flow.SequenceIn.more {after = after} {c = c} {comma = comma} {cs = cs} {ds = ds} {v = v} {is = is} e s g b later) =
+      let x = scalar_in at c cs v after e s in
+      let w = part-within bytes after comma ds g in
+      let from = w.0 in
+      let k = sequence_in (suc comma.at) is closing later in
+      let low = k.1.0 in
+      ((x.0, k.0), (omega (arith, x.1, from, low), k.1.1))
 
-value_in : (n lo : ℕ) (colon : Cell) (cs : List Cell) (rs : List Row) (t : Tree) (left : List Cell) (ss : List Row) → FlowValue n colon cs rs t left ss → suc colon.at ≤ n → LeftIn n lo cs → AreRowsIn n lo rs → Inside n t × LeavesIn n lo left ss
-value_in n lo colon cs rs _ _ _ (flow.FlowValue.missing e b) le h rows = (empty_inside n (suc colon.at) le, record { cells = h; rows = rows })
-value_in n lo colon cs rs _ after ss (flow.FlowValue.scalar {more = more} {c = c} {v = v} e s) le h rows =
-    let p = part_in n lo cs rs h rows c more ss e in
-    let x = flow_scalar_in n c more v after s p.1 in
-    (x.0.0, record { cells = earlier n c.at lo after p.0 x.1; rows = p.2 })
+  value_in : (colon : Cell) (t : Tree) (after : ℕ) → FlowValue bytes colon t after → suc colon.at ≤ n → Inside n t × (suc colon.at ≤ after)
+  value_in colon _ _ (flow.FlowValue.missing e b) le = (empty_inside n (suc colon.at) le, omega arith)
+  value_in colon _ after (flow.FlowValue.scalar {c = c} {cs = cs} {v = v} e s) le = scalar_in (suc colon.at) c cs v after e s
 
-value_lies : (n lo : ℕ) (cs : List Cell) (rs : List Row) (f : Fault) → FlowValueBreaks n cs rs f → LeftIn n lo cs → AreRowsIn n lo rs → LiesIn n f.span
-value_lies n lo cs rs f (flow.FlowValueBreaks.no_part e) h rows = broken_in n lo cs rs h rows f e
-value_lies n lo cs rs f (flow.FlowValueBreaks.scalar {more = more} {ss = ss} {c = c} e other b) h rows = flow_scalar_lies n c more f b (part_in n lo cs rs h rows c more ss e).1
+  entry_in : (keys : List (List ℕ)) (at : ℕ) (v : Value) (t : Tree) (after : ℕ) → FlowEntry bytes keys at v t after → ScalarInside n v × Inside n t × (at ≤ after)
+  entry_in keys at v t after e =
+      let p = part-bounds bytes at e.first e.more e.part in
+      let w = key-within n e.first e.more e.key e.colon e.is_key p.1 in
+      let k = flow_key_from n e.first e.more e.key e.colon v e.is_key p.1 e.key_value in
+      let x = value_in e.colon t after e.value w.1 in
+      let low = p.0 in
+      let on = w.0 in
+      (k.0, x.0, omega (arith, low, on, x.1))
 
--- a key and what stands behind its `:`
-key_in_part : (n lo : ℕ) (c : Cell) (more : List Cell) (k : Key) (colon : Cell) (behind : List Cell) → lo ≤ c.at → SignedIn n c.at k colon behind → LeftIn n lo behind
-key_in_part n lo c more k colon behind le s = earlier n colon.at lo behind (let low = s.low in omega (arith, le, low)) s.rest_in
+  pub mapping_in : (keys : List (List ℕ)) (at : ℕ) (es : Entries) (closing : Cell) → MappingIn bytes keys at es closing → EntriesInside n es × ClosedIn at closing
+  mapping_in keys at _ closing (flow.MappingIn.closes {cs = cs} ks e b) = (tt, part-within bytes at closing cs e)
+  mapping_in keys at _ closing (flow.MappingIn.last {after = after} {cs = cs} {v = v} {t = t} e g b) =
+      let x = entry_in keys at v t after e in
+      let w = part-within bytes after closing cs g in
+      let from = w.0 in
+      ((x.0, x.1, tt), (omega (arith, x.2, from), w.1))
+  mapping_in keys at _ closing (flow.MappingIn.more {after = after} {comma = comma} {cs = cs} {v = v} {t = t} {es = es} e g b later) =
+      let x = entry_in keys at v t after e in
+      let w = part-within bytes after comma cs g in
+      let from = w.0 in
+      let k = mapping_in (keys ++ v.text ∷ []) (suc comma.at) es closing later in
+      let low = k.1.0 in
+      ((x.0, x.1, k.0), (omega (arith, x.2, from, low), k.1.1))
 
-entry_in : (n lo : ℕ) (keys : List (List ℕ)) (cs : List Cell) (rs : List Row) (v : Value) (t : Tree) (left : List Cell) (ss : List Row) → FlowEntry n keys cs rs v t left ss → LeftIn n lo cs → AreRowsIn n lo rs
-    → ScalarInside n v × Inside n t × LeavesIn n lo left ss
-entry_in n lo keys cs rs v t left ss e h rows =
-    let p = part_in n lo cs rs h rows e.first e.more e.lower e.part in
-    let s = flow_key_in n e.first e.more e.key e.colon e.behind e.is_key p.1 in
-    let k = key_from n e.first e.more e.key e.colon e.behind v s p.1.0 e.key_value in
-    let x = value_in n lo e.colon e.behind e.lower t left ss e.value s.within (key_in_part n lo e.first e.more e.key e.colon e.behind p.0 s) p.2 in
-    (k.0, x.0, x.1)
+  -- ---- what breaks it lies in the file
 
-pub mapping_in : (n lo : ℕ) (keys : List (List ℕ)) (cs : List Cell) (rs : List Row) (es : Entries) (closing : Cell) (behind : List Cell) (rest : List Row) → MappingIn n keys cs rs es closing behind rest → LeftIn n lo cs → AreRowsIn n lo rs
-    → EntriesInside n es × ClosedIn n lo closing behind rest
-mapping_in n lo keys cs rs _ closing behind rest (flow.MappingIn.closes ks e b) h rows = (tt, closed_at n lo closing behind rest (omega (arith, b)) (part_in n lo cs rs h rows closing behind rest e))
-mapping_in n lo keys cs rs _ closing behind rest (flow.MappingIn.last {left = left} {ss = ss} {v = v} {t = t} e g b) h rows =
-    let x = entry_in n lo keys cs rs v t left ss e h rows in
-    ((x.0, x.1, tt), closed_at n lo closing behind rest (omega (arith, b)) (part_in n lo left ss x.2.cells x.2.rows closing behind rest g))
-mapping_in n lo keys cs rs _ closing behind rest (flow.MappingIn.more {left = left} {after = after} {ss = ss} {ts = ts} {comma = comma} {v = v} {t = t} {es = es} e g b later) h rows =
-    let x = entry_in n lo keys cs rs v t left ss e h rows in
-    let q = part_in n lo left ss x.2.cells x.2.rows comma after ts g in
-    let k = mapping_in n lo (keys ++ v.text ∷ []) after ts es closing behind rest later (behind_sign n lo comma after (omega (arith, b)) q.0 q.1) q.2 in
-    ((x.0, x.1, k.0), k.1)
+  module _ (utf8 : IsUtf8 bytes) where
+    pub line_in : (at : ℕ) → IsCharBoundary bytes at → LeftIn n at (line_on bytes at).text
+    line_in at b =
+        let le : at ≤ n = b.0 in
+        let r = lines-rise-here bytes at le in
+        let u = first_utf8 n (lines_on bytes at) (lines-utf8 (suc (length (source_at bytes at))) n (source_at bytes at) (omega arith) (source_utf8 bytes utf8 at b)) in
+        (rises_high at (line_on bytes at).text (line_on bytes at).break n r.1 r.0, u.0)
 
--- what stands behind a text that no `:` follows
-no_sign_left : (n : ℕ) (c : Cell) (cs behind : List Cell) → NoSign c cs behind → LeftIn n c.at (c ∷ cs) → LeftIn n c.at behind
-no_sign_left n c cs _ (flow.NoSign.quoted kind between v q b none) h = (rest_rises n kind c cs between h.0, rest_utf8 n kind c cs between h.0 h.1)
-no_sign_left n c cs _ (flow.NoSign.bare p e) h = (behind_rises n c.at (c ∷ cs) h.0, behind_utf8 n c.at (c ∷ cs) h.0 h.1)
+    next_here : (at : ℕ) → IsCharBoundary bytes at → NextIn n at (next_on bytes at)
+    unfolding next_on
+    next_here at b =
+        let le : at ≤ n = b.0 in
+        let r = lines-rise-here bytes at le in
+        let u = first_utf8 n (lines_on bytes at) (lines-utf8 (suc (length (source_at bytes at))) n (source_at bytes at) (omega arith) (source_utf8 bytes utf8 at b)) in
+        let low = rises-le at (line_on bytes at).text (line_on bytes at).break r.0 in
+        next_in n false at (line_on bytes at).text (rows_of (lines_below bytes at)) (line_in at b)
+        (rows_low n (suc (line_on bytes at).break) at (rows_of (lines_below bytes at)) (omega (arith, low)) (rows_in n (suc (line_on bytes at).break) (lines_below bytes at) u.1 r.2))
 
-key_lies : (n lo : ℕ) (c : Cell) (cs : List Cell) (rs : List Row) (f : Fault) → FlowKeyBreaks n c cs rs f → lo ≤ c.at → LeftIn n c.at (c ∷ cs) → AreRowsIn n lo rs → LiesIn n f.span
-key_lies n lo c cs rs _ (flow.FlowKeyBreaks.no_key e) le h rows = no_part_lies n c cs h
-key_lies n lo c cs rs _ (flow.FlowKeyBreaks.key_left_out p e b) le h rows = part_lies n c cs h LeftOut
-key_lies n lo c cs rs _ (flow.FlowKeyBreaks.open_quote o) le h rows = byte_lies c.at n (rises-le (suc c.at) cs n h.0.1)
-key_lies n lo c cs rs f (flow.FlowKeyBreaks.escape kind q b) le h rows = escape_lies n kind c cs f h.0 h.1 q b
-key_lies n lo c cs rs f (flow.FlowKeyBreaks.no_part {behind = behind} s e) le h rows = broken_in n lo behind rs (earlier n c.at lo behind le (no_sign_left n c cs behind s h)) rows f e
-key_lies n lo c cs rs _ (flow.FlowKeyBreaks.no_sign {behind = behind} {left = left} {ss = ss} {wrong = wrong} s e) le h rows =
-    no_sign_lies n wrong left (part_in n lo behind rs (earlier n c.at lo behind le (no_sign_left n c cs behind s h)) rows wrong left ss e).1
+    part_in : (at : ℕ) (c : Cell) (cs : List Cell) → IsCharBoundary bytes at → next_on bytes at ≡ at_part c cs → LeftIn n c.at (c ∷ cs)
+    part_in at c cs b e = let h : NextIn n at (at_part c cs) = subst (NextIn n at) e (next_here at b) in h.1
 
-pub mapping_lies : (n lo : ℕ) (keys : List (List ℕ)) (cs : List Cell) (rs : List Row) (f : Fault) → MappingBreaks n keys cs rs f → LeftIn n lo cs → AreRowsIn n lo rs → LiesIn n f.span
-mapping_lies n lo keys cs rs f (flow.MappingBreaks.no_part ks e) h rows = broken_in n lo cs rs h rows f e
-mapping_lies n lo keys cs rs f (flow.MappingBreaks.key {more = more} {ss = ss} {c = c} ks e other b) h rows =
-    let p = part_in n lo cs rs h rows c more ss e in
-    key_lies n lo c more ss f b p.0 p.1 p.2
-mapping_lies n lo keys cs rs _ (flow.MappingBreaks.twice {more = more} {behind = behind} {ss = ss} {c = c} {colon = colon} {k = k} v e s i there) h rows =
-    let p = part_in n lo cs rs h rows c more ss e in
-    (key_from n c more k colon behind v (flow_key_in n c more k colon behind s p.1) p.1.0 i).0.0
-mapping_lies n lo keys cs rs f (flow.MappingBreaks.value {more = more} {behind = behind} {ss = ss} {c = c} {colon = colon} {k = k} v e s i new b) h rows =
-    let p = part_in n lo cs rs h rows c more ss e in
-    let q = flow_key_in n c more k colon behind s p.1 in
-    value_lies n lo behind ss f b (key_in_part n lo c more k colon behind p.0 q) p.2
-mapping_lies n lo keys cs rs f (flow.MappingBreaks.no_sign {left = left} {ss = ss} {v = v} {t = t} e g) h rows =
-    let x = entry_in n lo keys cs rs v t left ss e h rows in
-    broken_in n lo left ss x.2.cells x.2.rows f g
-mapping_lies n lo keys cs rs _ (flow.MappingBreaks.sign {left = left} {after = after} {ss = ss} {ts = ts} {wrong = wrong} {v = v} {t = t} e g a b) h rows =
-    let x = entry_in n lo keys cs rs v t left ss e h rows in
-    no_sign_lies n wrong after (part_in n lo left ss x.2.cells x.2.rows wrong after ts g).1
-mapping_lies n lo keys cs rs f (flow.MappingBreaks.later {left = left} {after = after} {ss = ss} {ts = ts} {comma = comma} {v = v} {t = t} e g b rest_breaks) h rows =
-    let x = entry_in n lo keys cs rs v t left ss e h rows in
-    let q = part_in n lo left ss x.2.cells x.2.rows comma after ts g in
-    mapping_lies n lo (keys ++ v.text ∷ []) after ts f rest_breaks (behind_sign n lo comma after (omega (arith, b)) q.0 q.1) q.2
+    broken_in : (at : ℕ) (f : Fault) → IsCharBoundary bytes at → next_on bytes at ≡ broken f → LiesIn n f.span
+    broken_in at f b e = subst (NextIn n at) e (next_here at b)
+
+    wrong_in : (at : ℕ) (wrong : Cell) (cs : List Cell) → IsCharBoundary bytes at → next_on bytes at ≡ at_part wrong cs → LiesIn n (sign_fault wrong).span
+    wrong_in at wrong cs b e = no_sign_lies n wrong cs (part_in at wrong cs b e)
+
+    -- behind a sign a character begins
+    behind_sign : (at : ℕ) (c : Cell) (cs : List Cell) → next_on bytes at ≡ at_part c cs → c.byte < 128 → IsCharBoundary bytes (suc c.at)
+    behind_sign at c cs e low = let are = part_are bytes at c cs e in ascii-boundary bytes c utf8 are.0 low
+
+    scalar_lies : (at : ℕ) (c : Cell) (cs : List Cell) (f : Fault) → IsCharBoundary bytes at → next_on bytes at ≡ at_part c cs → FlowScalarBreaks bytes c cs f → LiesIn n f.span
+    scalar_lies at c cs f b e h = let are = part_are bytes at c cs e in flow_scalar_lies bytes c cs f utf8 h (part_in at c cs b e) are.0
+
+    -- behind the bracket that closes too
+    pub sequence_behind : (at : ℕ) (is : Items) (closing : Cell) → SequenceIn bytes at is closing → IsCharBoundary bytes (suc closing.at)
+    sequence_behind at _ closing (flow.SequenceIn.closes {cs = cs} e b) = behind_sign at closing cs e (omega (arith, b))
+    sequence_behind at _ closing (flow.SequenceIn.last {after = after} {ds = ds} e s g b) = behind_sign after closing ds g (omega (arith, b))
+    sequence_behind at _ closing (flow.SequenceIn.more {comma = comma} {is = is} e s g b later) = sequence_behind (suc comma.at) is closing later
+
+    pub sequence_lies : (at : ℕ) (f : Fault) → SequenceBreaks bytes at f → IsCharBoundary bytes at → LiesIn n f.span
+    sequence_lies at f (flow.SequenceBreaks.no_part e) start = broken_in at f start e
+    sequence_lies at f (flow.SequenceBreaks.scalar {c = c} {cs = cs} e other b) start = scalar_lies at c cs f start e b
+    sequence_lies at f (flow.SequenceBreaks.no_sign {after = after} {c = c} {cs = cs} {v = v} e s g) start = broken_in after f (scalar-boundary bytes c cs v after utf8 s) g
+    sequence_lies at _ (flow.SequenceBreaks.sign {after = after} {c = c} {wrong = wrong} {cs = cs} {ds = ds} {v = v} e s g a b) start = wrong_in after wrong ds (scalar-boundary bytes c cs v after utf8 s) g
+    sequence_lies at f (flow.SequenceBreaks.later {after = after} {comma = comma} {ds = ds} e s g b more) start = sequence_lies (suc comma.at) f more (behind_sign after comma ds g (omega (arith, b)))
+
+    -- behind the `:` of a key
+    key_behind : (at : ℕ) (c : Cell) (cs : List Cell) (k : Key) (colon : Cell) → next_on bytes at ≡ at_part c cs → FlowKey c cs k colon → IsCharBoundary bytes (suc colon.at)
+    key_behind at c cs k colon e h = let x = key-cell bytes c cs k colon h (part_are bytes at c cs e) in let sign = x.1 in ascii-boundary bytes colon utf8 x.0 (omega (arith, sign))
+
+    value_behind : (colon : Cell) (t : Tree) (after : ℕ) → FlowValue bytes colon t after → IsCharBoundary bytes (suc colon.at) → IsCharBoundary bytes after
+    value_behind colon _ _ (flow.FlowValue.missing e b) start = start
+    value_behind colon _ after (flow.FlowValue.scalar {c = c} {cs = cs} {v = v} e s) start = scalar-boundary bytes c cs v after utf8 s
+
+    entry_behind : (keys : List (List ℕ)) (at : ℕ) (v : Value) (t : Tree) (after : ℕ) → FlowEntry bytes keys at v t after → IsCharBoundary bytes after
+    entry_behind keys at v t after e = value_behind e.colon t after e.value (key_behind at e.first e.more e.key e.colon e.part e.is_key)
+
+    value_lies : (colon : Cell) (f : Fault) → FlowValueBreaks bytes colon f → IsCharBoundary bytes (suc colon.at) → LiesIn n f.span
+    value_lies colon f (flow.FlowValueBreaks.no_part e) start = broken_in (suc colon.at) f start e
+    value_lies colon f (flow.FlowValueBreaks.scalar {c = c} {cs = cs} e other b) start = scalar_lies (suc colon.at) c cs f start e b
+
+    key_lies : (at : ℕ) (c : Cell) (cs : List Cell) (f : Fault) → FlowKeyBreaks bytes c cs f → IsCharBoundary bytes at → next_on bytes at ≡ at_part c cs → LiesIn n f.span
+    key_lies at c cs _ (flow.FlowKeyBreaks.no_key e) start is = no_part_lies n c cs (part_in at c cs start is)
+    key_lies at c cs _ (flow.FlowKeyBreaks.key_left_out p e b) start is = part_lies n c cs (part_in at c cs start is) LeftOut
+    key_lies at c cs _ (flow.FlowKeyBreaks.open_quote o) start is = byte_lies c.at n (part-within bytes at c cs is).1
+    key_lies at c cs f (flow.FlowKeyBreaks.escape kind q b) start is = let p = part_in at c cs start is in escape_lies n kind c cs f p.0 p.1 q b
+    key_lies at c cs f (flow.FlowKeyBreaks.no_part {after = after} s e) start is = broken_in after f (no-sign-boundary bytes c cs after utf8 s (part_are bytes at c cs is)) e
+    key_lies at c cs _ (flow.FlowKeyBreaks.no_sign {after = after} {wrong = wrong} {ds = ds} s e) start is = wrong_in after wrong ds (no-sign-boundary bytes c cs after utf8 s (part_are bytes at c cs is)) e
+
+    pub mapping_behind : (keys : List (List ℕ)) (at : ℕ) (es : Entries) (closing : Cell) → MappingIn bytes keys at es closing → IsCharBoundary bytes (suc closing.at)
+    mapping_behind keys at _ closing (flow.MappingIn.closes {cs = cs} ks e b) = behind_sign at closing cs e (omega (arith, b))
+    mapping_behind keys at _ closing (flow.MappingIn.last {after = after} {cs = cs} e g b) = behind_sign after closing cs g (omega (arith, b))
+    mapping_behind keys at _ closing (flow.MappingIn.more {comma = comma} {v = v} {es = es} e g b later) = mapping_behind (keys ++ v.text ∷ []) (suc comma.at) es closing later
+
+    pub mapping_lies : (keys : List (List ℕ)) (at : ℕ) (f : Fault) → MappingBreaks bytes keys at f → IsCharBoundary bytes at → LiesIn n f.span
+    mapping_lies keys at f (flow.MappingBreaks.no_part ks e) start = broken_in at f start e
+    mapping_lies keys at f (flow.MappingBreaks.key {c = c} {cs = cs} ks e other b) start = key_lies at c cs f b start e
+    mapping_lies keys at _ (flow.MappingBreaks.twice {c = c} {colon = colon} {cs = cs} {k = k} v e s i there) start =
+        let p = part-bounds bytes at c cs e in
+        (flow_key_from n c cs k colon v s p.1 i).0.0
+    mapping_lies keys at f (flow.MappingBreaks.value {c = c} {colon = colon} {cs = cs} {k = k} v e s i new b) start = value_lies colon f b (key_behind at c cs k colon e s)
+    mapping_lies keys at f (flow.MappingBreaks.no_sign {after = after} {v = v} {t = t} e g) start = broken_in after f (entry_behind keys at v t after e) g
+    mapping_lies keys at _ (flow.MappingBreaks.sign {after = after} {wrong = wrong} {cs = cs} {v = v} {t = t} e g a b) start = wrong_in after wrong cs (entry_behind keys at v t after e) g
+    mapping_lies keys at f (flow.MappingBreaks.later {after = after} {comma = comma} {cs = cs} {v = v} {t = t} e g b more) start =
+        mapping_lies (keys ++ v.text ∷ []) (suc comma.at) f more (behind_sign after comma cs g (omega (arith, b)))

@@ -1,26 +1,26 @@
 -- Scalars and keys on a line: their spans and offsets lie on it.
-use Rattle.std.proofs.Common.{◌≡◌, ℕ, suc, ◌+◌, ◌≤◌, Bool, true, false, cond, not, eqb, ◌&&◌, ◌||◌, List, [], ◌∷◌, ◌++◌, Option, Some, None, length, drop, take, refl, ap, arith, append_assoc, sym, ◌∙◌, subst, inl, inr, eqb-true}
-use Rattle.std.specs.Prelude.{take_while}
-use Rattle.std.specs.List.{flat_map, prefix_len}
+use Rattle.std.proofs.Common.{◌≡◌, ℕ, suc, ◌+◌, ◌≤◌, Bool, true, false, cond, eqb, ◌&&◌, ◌||◌, List, [], ◌∷◌, ◌++◌, Option, Some, None, length, refl, ap, arith, subst, inl, inr, eqb-true}
+use Rattle.std.specs.List.{flat_map}
+use Rattle.std.specs.Str.{IsUtf8}
 use Rattle.std.proofs.lemmas.Bool.{cases_Bool, and_parts}
-use Rattle.std.proofs.Math.Seq.{drop-append_seam}
 use Rattle.lf_base.specs.declared.kind.Kind.{Kind}
 use Rattle.lf_base.specs.declared.kind.Kind.TheVariants.{LeftOut, NotANode}
 use Rattle.lf_base.specs.declared.fault.Fault.{Fault}
 use Rattle.lf_base.specs.declared.place.Span.{Span}
 use Rattle.lf_base.specs.Faults.{span, LiesIn}
 use Rattle.lf_scalar.specs.Cells.{Cell, cell, Value, made, end_of, character_fault}
-use Rattle.lf_scalar.specs.Lines.{is_blank, begins_with, after_blanks}
+use Rattle.lf_scalar.specs.Lines.{Line, is_blank, begins_with, after_blanks}
+use Rattle.lf_scalar.specs.Scalars.{source_at}
 use Rattle.lf_scalar.specs.Folding.{trimmed}
 use Rattle.lf_scalar.specs.Offsets.{AreOffsets}
-use Rattle.lf_scalar.specs.Plain.{before_blank, before_comment, is_null}
+use Rattle.lf_scalar.specs.Plain.{before_blank, is_null, value_of}
 use Rattle.lf_scalar.specs.declared.quotes.Quotes.{Quotes}
 use Rattle.lf_scalar.specs.Quoted.{quote_of, raw, Closes, BreaksQuoted}
 use Rattle.lf_scalar.proofs.Characters.{character_lies, byte_lies, lies_further}
 use Rattle.lf_scalar.proofs.Climbing as list
-use Rattle.lf_scalar.proofs.Parts.{Utf8, Front, BeginsLow, utf8-before, utf8-behind, part-utf8, after-blanks-part, before-comment-front, trimmed-front}
+use Rattle.lf_scalar.proofs.Parts.{Utf8, Front, utf8-before, utf8-behind, part-utf8, after-blanks-part, trimmed-front}
 use Rattle.lf_scalar.proofs.QuotedTexts.{quote-low}
-use Rattle.lf_scalar.proofs.Rising.{Rises, Climbs, rises-le, rises-low, rises-front, rises-back, rises-part, rises-before, rises-behind, climbs-from, climbs-end}
+use Rattle.lf_scalar.proofs.Rising.{Rises, Climbs, LinesRise, rises-le, rises-low, rises-front, rises-part, rises-before, rises-behind, climbs-from, climbs-end}
 use Rattle.lf_scalar.proofs.TextLaws.{IsPlaced, made-placed, climbs-mount, end-mounts, null-mounts, quoted-placed, rises-push}
 use Rattle.lf_scalar.proofs.BlockTexts.{Mounts}
 use Rattle.lf_scalar.proofs.Utf8Lines.{utf8-nil, utf8-append, utf8-low}
@@ -28,12 +28,14 @@ use Rattle.lf_scalar.proofs.Within.{quoted_lies}
 use Rattle.lf_yaml.specs.Rows.{Row, text_of}
 use Rattle.lf_yaml.specs.Heads.{key_in, Split, behind_cell, Key, Bare, Between, up_to, IsBetween, BetweenBreaks, IsKey, IsSignBehind, BeginsEntry}
 use Rattle.lf_yaml.specs.Heads as heads
-use Rattle.lf_yaml.specs.Flow.{is_flow_sign, is_bracket, is_flow_property, flow_text, behind_text, colon_in, later_colon, part_fault, sign_fault, FlowScalar, FlowScalarBreaks, FlowKey}
+use Rattle.lf_yaml.specs.Flow.{line_on, lines_below, is_flow_sign, is_bracket, is_flow_property, line_text, line_left, colon_in, part_fault, sign_fault, FlowScalar, PlainBreaks, FlowScalarBreaks, FlowKey}
 use Rattle.lf_yaml.specs.Flow as flow
 use Rattle.lf_yaml.specs.Spans.{empty_at}
 use Rattle.lf_yaml.specs.Insides.{ScalarInside, Inside}
-use Rattle.lf_yaml.proofs.BlockTells.{split-source}
-use Rattle.lf_yaml.proofs.Cuts.{small-sign}
+use Rattle.lf_yaml.proofs.FlowKeys.{split-source}
+use Rattle.lf_yaml.proofs.FlowLines.{is-onward, onward-rises, text-rises, plain-climbs, InFile, source-rises, lines-rise-here}
+use Rattle.lf_yaml.proofs.FlowParts.{ascii-boundary}
+use Rattle.lf_yaml.proofs.InsideRows.{source_utf8}
 
 -- ---- a scalar that begins at an offset
 
@@ -108,69 +110,34 @@ escape_lies n kind c cs f r u q b = between_lies n kind c cs b.0 r u f q b.1
 
 -- ---- plain texts
 
-front_trans : (all part more : List Cell) → Front all part → Front part more → Front all more
-front_trans all part more f g =
-    record { back = g.back ++ f.back; source = f.source ∙ ap (λ (xs : List Cell). xs ++ f.back) g.source ∙ append_assoc more g.back f.back; begins_low = by g.back g.begins_low }
-  where
-    by : (back : List Cell) → BeginsLow back → BeginsLow (back ++ f.back)
-    by [] h = f.begins_low
-    by (c ∷ cs) h = h
-
-no_sign_at : (c : Cell) (cs : List Cell) → is_flow_sign c ≡ true → take_while (λ c. not (is_flow_sign c)) (c ∷ cs) ≡ []
-no_sign_at c cs h = rw h refl
-
-more_at : (c : Cell) (cs : List Cell) → is_flow_sign c ≡ false → take_while (λ c. not (is_flow_sign c)) (c ∷ cs) ≡ c ∷ take_while (λ c. not (is_flow_sign c)) cs
-more_at c cs h =
-    let m = prefix_len (λ (c : Cell). not (is_flow_sign c)) cs in
-    let z : 1 + m ≡ suc m = omega arith in
-    rw h (ap (λ (k : ℕ). take k (c ∷ cs)) z)
-
-before_sign : (cs : List Cell) → Front cs (take_while (λ c. not (is_flow_sign c)) cs)
-before_sign [] = record { back = []; source = refl; begins_low = tt }
-before_sign (c ∷ cs) =
-    elim (cases_Bool (is_flow_sign c)) [
-      | inl a ↦ subst (Front (c ∷ cs)) (sym (no_sign_at c cs a)) (record { back = c ∷ cs; source = refl; begins_low = small-sign c.byte c.at a })
-      | inr a ↦ let k = before_sign cs in subst (Front (c ∷ cs)) (sym (more_at c cs a)) (record { back = k.back; source = ap (λ (xs : List Cell). c ∷ xs) k.source; begins_low = k.begins_low })
-    ]
-
-flow_front : (cs : List Cell) → Front cs (flow_text cs)
-flow_front cs =
-    let one = take_while (λ c. not (is_flow_sign c)) cs in
-    front_trans cs one (flow_text cs) (before_sign cs) (front_trans one (before_comment one) (flow_text cs) (before-comment-front one) (trimmed-front (before_comment one)))
-
-back_utf8 : (part back : List Cell) → BeginsLow back → Utf8 (part ++ back) → Utf8 back
-back_utf8 part [] h u = utf8-nil
-back_utf8 part (c ∷ cs) h u = utf8-low c cs h (utf8-behind part c cs u h)
-
 front_rises : (lo n : ℕ) (all part : List Cell) → Front all part → Rises lo all n → Rises lo part n
 front_rises lo n all part f r = rises-front lo part f.back n (subst (λ (xs : List Cell). Rises lo xs n) f.source r)
-
-module _ (n lo : ℕ) (cs : List Cell) (rises : Rises lo cs n) where
-  pub flow_rises : Rises lo (flow_text cs) n
-  flow_rises = front_rises lo n cs (flow_text cs) (flow_front cs) rises
-
-  behind_is : behind_text cs ≡ (flow_front cs).back
-  behind_is = ap (drop (length (flow_text cs))) (flow_front cs).source ∙ drop-append_seam (flow_text cs) (flow_front cs).back
-
-  pub behind_rises : Rises lo (behind_text cs) n
-  behind_rises = subst (λ (xs : List Cell). Rises lo xs n) (sym behind_is) (rises-back lo (flow_text cs) (flow_front cs).back n (subst (λ (xs : List Cell). Rises lo xs n) (flow_front cs).source rises))
-
-  pub behind_utf8 : Utf8 cs → Utf8 (behind_text cs)
-  behind_utf8 u = subst Utf8 (sym behind_is) (back_utf8 (flow_text cs) (flow_front cs).back (flow_front cs).begins_low (subst Utf8 (flow_front cs).source u))
 
 -- ---- scalars in flow collections
 
 abbrev pub LeftIn : ℕ → ℕ → List Cell → Type 0
 LeftIn n lo cs = Rises lo cs n × Utf8 cs
 
-pub flow_scalar_in : (n : ℕ) (c : Cell) (cs : List Cell) (v : Value) (behind : List Cell) → FlowScalar c cs v behind → LeftIn n c.at (c ∷ cs) → ScalarFrom n c.at v × LeftIn n c.at behind
-flow_scalar_in n c cs v _ (flow.FlowScalar.quoted kind between q b) h = (between_from n kind c cs between h.0 v b, (rest_rises n kind c cs between h.0, rest_utf8 n kind c cs between h.0 h.1))
-flow_scalar_in n c cs _ _ (flow.FlowScalar.plain p e) h =
-    let text = flow_text (c ∷ cs) in
-    let r : Rises c.at text n = flow_rises n c.at (c ∷ cs) h.0 in (
-      made_from n c.at text r _ _ (null-mounts (is_null text) c.at text (end_of c.at text) (cells_mount n c.at text r)) refl,
-      (behind_rises n c.at (c ∷ cs) h.0, behind_utf8 n c.at (c ∷ cs) h.0 h.1),
-    )
+-- a scalar of a file
+module _ (bytes : List ℕ) where
+  abbrev end : ℕ
+  end = length bytes
+
+  quoted_rises : (c : Cell) → suc c.at ≤ end → Rises c.at (c ∷ source_at bytes (suc c.at)) end
+  quoted_rises c le = (omega arith, source-rises bytes (suc c.at) le)
+
+  pub flow_scalar_in : (c : Cell) (cs : List Cell) (v : Value) (after : ℕ) → FlowScalar bytes c cs v after → suc c.at ≤ end → ScalarFrom end c.at v
+  flow_scalar_in c cs v _ (flow.FlowScalar.quoted kind between q b) le = between_from end kind c (source_at bytes (suc c.at)) between (quoted_rises c le) v b
+  flow_scalar_in c cs _ after (flow.FlowScalar.plain {text = text} p l) le =
+      let climbs : Climbs c.at text end = plain-climbs (line_on bytes c.at) (lines_below bytes c.at) text after l c.at end (lines-rise-here bytes c.at (omega (arith, le))) in
+      let m : Mounts c.at text (end_of c.at text) = end-mounts c.at c.at text end (omega arith) (climbs-mount c.at text end climbs) in
+      let stop : end_of c.at text ≤ end = climbs-end c.at c.at text end (omega (arith, le)) climbs in
+      placed_from end c.at end (value_of c text)
+      (made-placed (value_of c text) (cond (is_null text) [] text) (end_of c.at text) c.at end c.at (end_of c.at text) refl refl (null-mounts (is_null text) c.at text (end_of c.at text) m) (omega arith) stop) (omega arith)
+
+  -- what breaks one
+  flow_inside_lies : (c : Cell) (kind : Quotes) (f : Fault) → suc c.at ≤ end → Utf8 (c ∷ source_at bytes (suc c.at)) → c.byte ≡ quote_of kind → BetweenBreaks kind c (source_at bytes (suc c.at)) f → LiesIn end f.span
+  flow_inside_lies c kind f le u q b = escape_lies end kind c (source_at bytes (suc c.at)) f (quoted_rises c le) u q b
 
 -- a `:` is one byte long
 pub sign_lies : (n : ℕ) (c : Cell) (kind : Kind) → c.byte ≡ 58 → suc c.at ≤ n → LiesIn n (character_fault kind c).span
@@ -192,12 +159,13 @@ colon_lies n lo (c ∷ text) behind w e r =
     is : (x y : Cell) → Some x ≡ Some y → x ≡ y
     is x y e = cc
 
-later_lies : (n lo : ℕ) (text behind : List Cell) (w : Cell) → later_colon text behind ≡ Some w → Rises lo text n → (w.byte ≡ 58) × (suc w.at ≤ n)
-later_lies n lo [] behind w e r = none e
-  where
-    none : None ≡ Some w → (w.byte ≡ 58) × (suc w.at ≤ n)
-    none e = absurd cc
-later_lies n lo (c ∷ text) behind w e r = colon_lies n (suc c.at) text behind w e r.1
+plain_lies : (n lo : ℕ) (l : Line) (ls : List Line) (f : Fault) → PlainBreaks l ls f → LinesRise lo (l ∷ ls) n → LiesIn n f.span
+plain_lies n lo l ls _ (flow.PlainBreaks.colon {c = c} xs e) r =
+    let k = colon_lies l.break lo (line_text l) (line_left l) c e (text-rises lo l.break l r.0) in
+    let le = r.1 in
+    byte_lies c.at n (omega (arith, k.1, le))
+plain_lies n lo l ls f (flow.PlainBreaks.later {next = next} {later = below} {k = k} e g rest) r =
+    plain_lies n (suc l.break) next below f rest (onward-rises 0 (suc l.break) n ls (k, next, below) (is-onward l ls (k, next, below) g) r.2)
 
 -- the character that a part begins with
 pub part_lies : (n : ℕ) (c : Cell) (cs : List Cell) → LeftIn n c.at (c ∷ cs) → (kind : Kind) → LiesIn n (character_fault kind c).span
@@ -217,13 +185,16 @@ no_sign_lies n c cs h = by (is_bracket c)
     by true = part_lies n c cs h LeftOut
     by false = part_lies n c cs h NotANode
 
-pub flow_scalar_lies : (n : ℕ) (c : Cell) (cs : List Cell) (f : Fault) → FlowScalarBreaks c cs f → LeftIn n c.at (c ∷ cs) → LiesIn n f.span
-flow_scalar_lies n c cs _ (flow.FlowScalarBreaks.no_scalar e) h = no_part_lies n c cs h
-flow_scalar_lies n c cs _ (flow.FlowScalarBreaks.open_quote o) h = byte_lies c.at n (rises-le (suc c.at) cs n h.0.1)
-flow_scalar_lies n c cs f (flow.FlowScalarBreaks.escape kind q b) h = escape_lies n kind c cs f h.0 h.1 q b
-flow_scalar_lies n c cs _ (flow.FlowScalarBreaks.colon {wrong = w} p e) h =
-    let k = later_lies n c.at (flow_text (c ∷ cs)) (behind_text (c ∷ cs)) w e (flow_rises n c.at (c ∷ cs) h.0) in
-    sign_lies n w NotANode k.0 k.1
+pub flow_scalar_lies : (bytes : List ℕ) (c : Cell) (cs : List Cell) (f : Fault) → IsUtf8 bytes → FlowScalarBreaks bytes c cs f → LeftIn (length bytes) c.at (c ∷ cs) → InFile bytes c → LiesIn (length bytes) f.span
+flow_scalar_lies bytes c cs _ utf8 (flow.FlowScalarBreaks.no_scalar e) h is = no_part_lies (length bytes) c cs h
+flow_scalar_lies bytes c cs _ utf8 (flow.FlowScalarBreaks.open_quote o) h is = byte_lies c.at (length bytes) (rises-le (suc c.at) cs (length bytes) h.0.1)
+flow_scalar_lies bytes c cs f utf8 (flow.FlowScalarBreaks.inside kind q b) h is =
+    let low = quote-low kind c q in
+    let u : Utf8 (c ∷ source_at bytes (suc c.at)) = utf8-low c (source_at bytes (suc c.at)) low (source_utf8 bytes utf8 (suc c.at) (ascii-boundary bytes c utf8 is low)) in
+    flow_inside_lies bytes c kind f (rises-le (suc c.at) cs (length bytes) h.0.1) u q b
+flow_scalar_lies bytes c cs f utf8 (flow.FlowScalarBreaks.plain_lines p b) h is =
+    let le = rises-le (suc c.at) cs (length bytes) h.0.1 in
+    plain_lies (length bytes) c.at (line_on bytes c.at) (lines_below bytes c.at) f b (lines-rise-here bytes c.at (omega (arith, le)))
 
 -- ---- keys
 
@@ -244,7 +215,7 @@ sign_step c cs x false z false false None a more h = absurd cc
 sign_step c cs x false z false false (Some y) a more h = let same : y.1 ≡ x.1 = ap sign_of h in subst (λ (z : Cell). z.byte ≡ 58) same (more y refl)
 
 -- the sign of a key is a `:`
-split_sign : (stops : Cell → Bool) (ends : List Cell → Bool) (cs : List Cell) (x : Split) → key_in stops ends cs ≡ Some x → x.1.byte ≡ 58
+pub split_sign : (stops : Cell → Bool) (ends : List Cell → Bool) (cs : List Cell) (x : Split) → key_in stops ends cs ≡ Some x → x.1.byte ≡ 58
 unfolding key_in
 split_sign stops ends [] x e = absurd cc
 split_sign stops ends (c ∷ cs) x e =
@@ -285,11 +256,6 @@ quoted_in n kind c cs between colon rest s h =
       rest_in = (rises-low (suc colon.at) colon.at rest n (omega arith) r.1, utf8-behind [] colon rest u (omega (arith, s.1)));
     }
 
-pub flow_key_in : (n : ℕ) (c : Cell) (cs : List Cell) (k : Key) (colon : Cell) (rest : List Cell) → FlowKey c cs k colon rest → LeftIn n c.at (c ∷ cs) → SignedIn n c.at k colon rest
-flow_key_in n c cs _ colon rest (flow.FlowKey.quoted kind between q s) h = quoted_in n kind c cs between colon rest s h
-flow_key_in n c cs _ colon rest (flow.FlowKey.bare {front = front} p e nn) h =
-    bare_in n c cs (c ∷ front) rest colon (split-source is_flow_sign before_blank (c ∷ cs) (c ∷ front, colon, rest) e) (split_sign is_flow_sign before_blank (c ∷ cs) (c ∷ front, colon, rest) e) h
-
 pub entry_key_in : (n : ℕ) (r : Row) (k : Key) (colon : Cell) (rest : List Cell) → BeginsEntry r k colon rest → LeftIn n r.first.at (text_of r) → SignedIn n r.first.at k colon rest
 entry_key_in n r _ colon rest (heads.BeginsEntry.bare {front = front} p l e) h =
     bare_in n r.first r.rest front rest colon (split-source heads.never before_blank (text_of r) (front, colon, rest) e) (split_sign heads.never before_blank (text_of r) (front, colon, rest) e) h
@@ -299,3 +265,11 @@ entry_key_in n r _ colon rest (heads.BeginsEntry.quoted kind between q s b) h = 
 pub key_from : (n : ℕ) (c : Cell) (cs : List Cell) (k : Key) (colon : Cell) (rest : List Cell) (v : Value) → SignedIn n c.at k colon rest → Rises c.at (c ∷ cs) n → IsKey c cs k v → ScalarFrom n c.at v
 key_from n c cs (Bare text) colon rest v s r e = made_from n c.at text s.key v text (cells_mount n c.at text s.key) e
 key_from n c cs (Between kind) colon rest v s r (between, b) = between_from n kind c cs between r v b
+
+-- a key of a flow mapping
+pub flow_key_from : (n : ℕ) (c : Cell) (cs : List Cell) (k : Key) (colon : Cell) (v : Value) → FlowKey c cs k colon → Rises c.at (c ∷ cs) n → IsKey c cs k v → ScalarFrom n c.at v
+flow_key_from n c cs _ colon v (flow.FlowKey.quoted kind between q s) r (other, b) = between_from n kind c cs other r v b
+flow_key_from n c cs _ colon v (flow.FlowKey.bare {front = front} {rest = rest} p e nn) r h =
+    let whole : Rises c.at ((c ∷ front) ++ colon ∷ rest) n = subst (λ (xs : List Cell). Rises c.at xs n) (split-source is_flow_sign before_blank (c ∷ cs) (c ∷ front, colon, rest) e) r in
+    let text : Rises c.at (trimmed is_blank (c ∷ front)) n = front_rises c.at n (c ∷ front) (trimmed is_blank (c ∷ front)) (trimmed-front (c ∷ front)) (rises-front c.at (c ∷ front) (colon ∷ rest) n whole) in
+    made_from n c.at (trimmed is_blank (c ∷ front)) text v (trimmed is_blank (c ∷ front)) (cells_mount n c.at (trimmed is_blank (c ∷ front)) text) h

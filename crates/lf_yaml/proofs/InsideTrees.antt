@@ -10,7 +10,6 @@ use Rattle.lf_scalar.specs.Cells.{Cell, Value}
 use Rattle.lf_scalar.specs.Plain.{before_blank}
 use Rattle.lf_scalar.proofs.Parts.{utf8-behind}
 use Rattle.lf_scalar.proofs.TextLaws.{style-placed}
-use Rattle.lf_scalar.proofs.Within.{rises_high}
 use Rattle.lf_yaml.specs.Rows.{Row, indent, left_of}
 use Rattle.lf_yaml.specs.Heads.{is_item, style_of}
 use Rattle.lf_yaml.specs.Tree.{Tree, tree, leaf, sequence, mapping, Items, Entries}
@@ -21,7 +20,7 @@ use Rattle.lf_yaml.specs.Document.{document_rows, DocumentAt, nothing, a_node, I
 use Rattle.lf_yaml.specs.Insides.{ScalarInside, Inside, ItemsInside, EntriesInside}
 use Rattle.lf_yaml.specs.declared.node.Node.{Node}
 use Rattle.lf_yaml.proofs.BlockRows.{item-rows, entry-rows}
-use Rattle.lf_yaml.proofs.InsideRows.{IsRowIn, row_low, row_behind, left_in, AreRowsIn, rows_low, rows_end, source_rises, document_in}
+use Rattle.lf_yaml.proofs.InsideRows.{IsRowIn, row_low, row_behind, left_in, AreRowsIn, rows_end, source_rises, document_in}
 use Rattle.lf_yaml.proofs.InsideScalars.{ScalarFrom, LeftIn, placed_from, empty_inside, entry_key_in, key_from}
 use Rattle.lf_yaml.proofs.InsideFlow.{sequence_in, mapping_in}
 
@@ -36,13 +35,6 @@ scalar_wide stop n v le h = ((h.0.0, omega (arith, h.0.1, le)), h.1)
 -- the row at its own offset or later
 pub row_here : (lo stop : ℕ) (r : Row) → IsRowIn lo stop r → IsRowIn r.first.at stop r
 row_here lo stop r h = record { low = omega arith; begin = h.begin; rises = h.rises; utf8 = h.utf8 }
-
--- what stands behind a row's first byte, and the rows behind its line
-pub behind_first : (n lo stop : ℕ) (r : Row) → IsRowIn lo stop r → stop ≤ n → r.first.byte < 128 → LeftIn n (suc r.first.at) r.rest
-behind_first n lo stop r h le low = (rises_high (suc r.first.at) r.rest stop n le h.rises.1, utf8-behind [] r.first r.rest h.utf8 low)
-
-pub rows_behind : (n lo stop : ℕ) (r : Row) (rs : List Row) → IsRowIn lo stop r → AreRowsIn n stop rs → AreRowsIn n (suc r.first.at) rs
-rows_behind n lo stop r rs h rows = rows_low n stop (suc r.first.at) rs (row_behind lo stop r h) rows
 
 pub item_byte : (r : Row) → is_item r ≡ true → r.first.byte < 128
 item_byte r i = omega (arith, eqb-true r.first.byte 45 (and_parts (eqb r.first.byte 45) (before_blank r.rest) i).0)
@@ -67,15 +59,15 @@ module _ (bytes : List ℕ) (utf8 : IsUtf8 bytes) where
 
   pub value_tree : (above d lo stop : ℕ) (r : Row) (rs : List Row) (t : Tree) (rest : List Row) → ValueAt bytes above d r rs t rest → IsRowIn lo stop r → stop ≤ length bytes → AreRowsIn (length bytes) stop rs → TreeFrom (length bytes) r.first.at t
   value_tree above d lo stop r _ _ _ (nodes.ValueAt.scalar {v = v} rs b s) h le rows = let x = scalar_on above lo stop r v s h le in (x.0, omega (arith, x.1))
-  value_tree above _ lo stop r rs _ rest (nodes.ValueAt.flow_sequence {is = is} {closing = closing} {behind = behind} q s tail) h le rows =
-      let x = sequence_in (length bytes) (suc r.first.at) r.rest rs is closing behind rest s (behind_first (length bytes) lo stop r h le (omega (arith, q))) (rows_behind (length bytes) lo stop r rs h rows) in
-      let low = x.1.low in
-      let within = x.1.within in
+  value_tree above _ lo stop r _ _ _ (nodes.ValueAt.flow_sequence {is = is} {closing = closing} rs q s tail) h le rows =
+      let x = sequence_in bytes (suc r.first.at) is closing s in
+      let low = x.1.0 in
+      let within = x.1.1 in
       (((omega (arith, low), within), x.0), omega arith)
-  value_tree above _ lo stop r rs _ rest (nodes.ValueAt.flow_mapping {es = es} {closing = closing} {behind = behind} q s tail) h le rows =
-      let x = mapping_in (length bytes) (suc r.first.at) [] r.rest rs es closing behind rest s (behind_first (length bytes) lo stop r h le (omega (arith, q))) (rows_behind (length bytes) lo stop r rs h rows) in
-      let low = x.1.low in
-      let within = x.1.within in
+  value_tree above _ lo stop r _ _ _ (nodes.ValueAt.flow_mapping {es = es} {closing = closing} rs q s tail) h le rows =
+      let x = mapping_in bytes [] (suc r.first.at) es closing s in
+      let low = x.1.0 in
+      let within = x.1.1 in
       (((omega (arith, low), within), omega (arith, low, within), x.0), omega arith)
 
 mutual

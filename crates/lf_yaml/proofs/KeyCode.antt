@@ -8,39 +8,38 @@ use Rattle.lf_scalar.specs.Lines.{is_blank, after_blanks}
 use Rattle.lf_scalar.specs.Folding.{trimmed}
 use Rattle.lf_scalar.specs.declared.quotes.Quotes.{Quotes}
 use Rattle.lf_scalar.specs.reading.Quoted.{closing_of}
-use Rattle.lf_yaml.specs.Rows.{Row}
 use Rattle.lf_yaml.specs.Heads.{Split, key_in}
 use Rattle.lf_yaml.specs.Keys.{is_key_left_out}
-use Rattle.lf_yaml.specs.Flow.{next_part, begins_flow, flow_text, behind_text, is_flow_sign}
+use Rattle.lf_yaml.specs.Flow.{line_on, left_on, next_on, begins_flow, is_flow_sign}
 use Rattle.lf_yaml.specs.views.Signs.{stops_of, split_at}
-use Rattle.lf_yaml.specs.reading.Trees.{Part, with_behind, part_by, between_of, behind_closing, sign_if, sign_behind, Signed, signed, signed_behind, no_sign, plain_key, bare_key, flow_key_by}
+use Rattle.lf_yaml.specs.reading.Trees.{Part, after_closing, with_after, quoted_part, between_of, behind_closing, sign_if, sign_behind, Signed, signed, signed_behind, no_sign, plain_key, bare_key, flow_key_by}
 use Rattle.lf_yaml.proofs.Placed.{drops}
-use Rattle.lf_yaml.proofs.PartCode.{behind-is}
 use Rattle.lf_yaml.proofs.EntryCode.{take-within}
 
 -- ---- between quotes
 
-with-ok : (behind : List Cell) (read : Result Value Fault) (x : Part) → with_behind behind read ≡ Ok x → (read ≡ Ok x.0) × (behind ≡ x.1)
-with-ok behind (Ok v) x e = let h : (v ≡ x.0) × (behind ≡ x.1) = ok-pair e in (ap (λ (w : Value). Ok w) h.0, h.1)
+with-ok : (after : ℕ) (read : Result Value Fault) (x : Part) → with_after after read ≡ Ok x → (read ≡ Ok x.0) × (after ≡ x.1)
+with-ok after (Ok v) x e = let h : (v ≡ x.0) × (after ≡ x.1) = ok-pair e in (ap (λ (w : Value). Ok w) h.0, h.1)
   where
-    ok-pair : (let y : Result Part Fault = Ok (v, behind) in y) ≡ Ok x → (v ≡ x.0) × (behind ≡ x.1)
+    ok-pair : (let y : Result Part Fault = Ok (v, after) in y) ≡ Ok x → (v ≡ x.0) × (after ≡ x.1)
     ok-pair h = (ap (λ (r : Result Part Fault). fst-of r) h, ap (λ (r : Result Part Fault). snd-of r) h)
       where
         fst-of : Result Part Fault → Value
         fst-of (Ok y) = y.0
         fst-of (Err f) = v
 
-        snd-of : Result Part Fault → List Cell
+        snd-of : Result Part Fault → ℕ
         snd-of (Ok y) = y.1
-        snd-of (Err f) = behind
-with-ok behind (Err f) x e = absurd cc
+        snd-of (Err f) = after
+with-ok after (Err f) x e = absurd cc
 
 -- what stands behind a quoted scalar
-pub quoted-by : (end : ℕ) (kind : Quotes) (c : Cell) (cs : List Cell) (rs : List Row) (v : Value) (behind : List Cell) → part_by c cs (Some kind) ≡ Ok (v, behind)
-    → flow_key_by end c cs rs (Some kind) ≡ signed end v behind rs (sign_behind behind)
-quoted-by end kind c cs rs v behind e =
-    let h = with-ok (behind_closing (closing_of kind 0 cs)) (between_of kind c (closing_of kind 0 cs)) (v, behind) e in
-    ap (λ (xs : List Cell). signed_behind end xs rs (between_of kind c (closing_of kind 0 cs))) h.1 ∙ ap (signed_behind end behind rs) h.0
+pub quoted-by : (bytes : List ℕ) (kind : Quotes) (c : Cell) (cs : List Cell) (v : Value) (after : ℕ) (behind : List Cell) → quoted_part kind c (closing_of kind 0 cs) ≡ Ok (v, after) → behind_closing (closing_of kind 0 cs) ≡ behind
+    → flow_key_by bytes c cs (Some kind) ≡ signed bytes v after (sign_behind behind)
+quoted-by bytes kind c cs v after behind e b =
+    let h = with-ok (after_closing (closing_of kind 0 cs)) (between_of kind c (closing_of kind 0 cs)) (v, after) e in
+    ap (λ (n : ℕ). signed_behind bytes n (behind_closing (closing_of kind 0 cs)) (between_of kind c (closing_of kind 0 cs))) h.1
+    ∙ ap (λ (xs : List Cell). signed_behind bytes after xs (between_of kind c (closing_of kind 0 cs))) b ∙ ap (signed_behind bytes after behind) h.0
 
 pub sign-found : (n p : ℕ) (text : List ℕ) → get_or text p 0 ≡ 58 → sign_if (cells n (drop p text)) ≡ Some (cell 58 n, cells (suc n) (drop (p + 1) text))
 sign-found n zero [] e = absurd (omega (arith, e))
@@ -60,39 +59,33 @@ module _ (at len k : ℕ) (text : List ℕ) (after : after_blanks (cells (at + l
       let z : at + len + k ≡ at + (len + k) = omega arith in
       ap sign_if after ∙ ap (λ (xs : List ℕ). sign_if (cells (at + len + k) xs)) (drops len k text) ∙ ap (λ (n : ℕ). sign_if (cells n (drop (len + k) text))) z
 
-  pub quoted-found : (end : ℕ) (kind : Quotes) (c : Cell) (cs : List Cell) (rs : List Row) (v : Value) → part_by c cs (Some kind) ≡ Ok (v, cells (at + len) (drop len text)) → get_or text (len + k) 0 ≡ 58
-      → flow_key_by end c cs rs (Some kind) ≡ Ok (v, cell 58 (at + (len + k)), cells (at + (len + k + 1)) (drop (len + k + 1) text))
-  quoted-found end kind c cs rs v e sign =
-      let z : suc (at + (len + k)) ≡ at + (len + k + 1) = omega arith in
-      quoted-by end kind c cs rs v (cells (at + len) (drop len text)) e
-      ∙ ap (signed end v (cells (at + len) (drop len text)) rs) (sign-at ∙ sign-found (at + (len + k)) (len + k) text sign)
-      ∙ ap (λ (n : ℕ). let x : Signed = (v, cell 58 (at + (len + k)), cells n (drop (len + k + 1) text)) in Ok x) z
+  pub quoted-found : (bytes : List ℕ) (kind : Quotes) (c : Cell) (cs : List Cell) (v : Value) → quoted_part kind c (closing_of kind 0 cs) ≡ Ok (v, at + len) → behind_closing (closing_of kind 0 cs) ≡ cells (at + len) (drop len text) → get_or text (len + k) 0 ≡ 58
+      → flow_key_by bytes c cs (Some kind) ≡ Ok (v, cell 58 (at + (len + k)))
+  quoted-found bytes kind c cs v e b sign =
+      quoted-by bytes kind c cs v (at + len) (cells (at + len) (drop len text)) e b ∙ ap (signed bytes v (at + len)) (sign-at ∙ sign-found (at + (len + k)) (len + k) text sign)
 
-  pub quoted-missing : (end : ℕ) (kind : Quotes) (c : Cell) (cs : List Cell) (rs : List Row) (v : Value) → part_by c cs (Some kind) ≡ Ok (v, cells (at + len) (drop len text)) → eqb (get_or text (len + k) 0) 58 ≡ false
-      → flow_key_by end c cs rs (Some kind) ≡ no_sign (next_part end false (cells (at + len) (drop len text)) rs)
-  quoted-missing end kind c cs rs v e sign =
-      quoted-by end kind c cs rs v (cells (at + len) (drop len text)) e
-      ∙ ap (signed end v (cells (at + len) (drop len text)) rs) (sign-at ∙ sign-missing (at + (len + k)) (len + k) text sign)
+  pub quoted-missing : (bytes : List ℕ) (kind : Quotes) (c : Cell) (cs : List Cell) (v : Value) → quoted_part kind c (closing_of kind 0 cs) ≡ Ok (v, at + len) → behind_closing (closing_of kind 0 cs) ≡ cells (at + len) (drop len text) → eqb (get_or text (len + k) 0) 58 ≡ false
+      → flow_key_by bytes c cs (Some kind) ≡ no_sign (next_on bytes (at + len))
+  quoted-missing bytes kind c cs v e b sign =
+      quoted-by bytes kind c cs v (at + len) (cells (at + len) (drop len text)) e b ∙ ap (signed bytes v (at + len)) (sign-at ∙ sign-missing (at + (len + k)) (len + k) text sign)
 
 -- ---- without quotes
 
-module _ (end : ℕ) (c : Cell) (cs : List Cell) (rs : List Row) (at : ℕ) (text : List ℕ) (is : c ∷ cs ≡ cells at text) (begins : begins_flow c cs ≡ true) where
-  bare-by : (o : Option Split) → o ≡ key_in (stops_of true) before_blank (cells at text) → flow_key_by end c cs rs None ≡ plain_key end c cs rs o
-  bare-by o e = rw begins (ap (plain_key end c cs rs) (ap (λ (xs : List Cell). key_in is_flow_sign before_blank xs) is ∙ sym e))
+module _ (bytes : List ℕ) (c : Cell) (cs : List Cell) (at : ℕ) (text : List ℕ) (is : c ∷ cs ≡ cells at text) (begins : begins_flow c cs ≡ true) where
+  bare-by : (o : Option Split) → o ≡ key_in (stops_of true) before_blank (cells at text) → flow_key_by bytes c cs None ≡ plain_key bytes c cs o
+  bare-by o e = rw begins (ap (plain_key bytes c cs) (ap (λ (xs : List Cell). key_in is_flow_sign before_blank xs) is ∙ sym e))
 
-  pub bare-left-out : (k : ℕ) → Some (split_at at text k) ≡ key_in (stops_of true) before_blank (cells at text) → is_key_left_out (cells at (take k text)) ≡ true → flow_key_by end c cs rs None ≡ Err (character_fault LeftOut c)
+  pub bare-left-out : (k : ℕ) → Some (split_at at text k) ≡ key_in (stops_of true) before_blank (cells at text) → is_key_left_out (cells at (take k text)) ≡ true → flow_key_by bytes c cs None ≡ Err (character_fault LeftOut c)
   bare-left-out k e n = bare-by (Some (split_at at text k)) e ∙ rw n refl
 
   pub bare-found : (k : ℕ) → Some (split_at at text k) ≡ key_in (stops_of true) before_blank (cells at text) → is_key_left_out (cells at (take k text)) ≡ false → get_or text k 0 ≡ 58
-      → flow_key_by end c cs rs None ≡ Ok (bare_key c (trimmed is_blank (cells at (take k text))), cell 58 (at + k), cells (at + (k + 1)) (drop (k + 1) text))
+      → flow_key_by bytes c cs None ≡ Ok (bare_key c (trimmed is_blank (cells at (take k text))), cell 58 (at + k))
   bare-found k e n sign =
       bare-by (Some (split_at at text k)) e
-      ∙ rw n (ap (λ (b : ℕ). let x : Signed = (bare_key c (trimmed is_blank (cells at (take k text))), cell b (at + k), cells (at + (k + 1)) (drop (k + 1) text)) in Ok x) sign)
+      ∙ rw n (ap (λ (b : ℕ). let x : Signed = (bare_key c (trimmed is_blank (cells at (take k text))), cell b (at + k)) in Ok x) sign)
 
-  pub bare-missing : (len : ℕ) → None ≡ key_in (stops_of true) before_blank (cells at text) → len ≤ length text → flow_text (cells at text) ≡ cells at (take len text)
-      → flow_key_by end c cs rs None ≡ no_sign (next_part end false (cells (at + len) (drop len text)) rs)
-  bare-missing len e le cut =
-      bare-by None e ∙ ap (λ (xs : List Cell). no_sign (next_part end false xs rs)) (ap behind_text is ∙ behind-is at len text le cut)
+  pub bare-missing : None ≡ key_in (stops_of true) before_blank (cells at text) → flow_key_by bytes c cs None ≡ no_sign (next_on bytes (left_on (line_on bytes c.at)))
+  bare-missing e = bare-by None e
 
 -- the text of a key without the blanks before its `:`
 pub trimmed-key : (at k len : ℕ) (text front : List ℕ) → front ≡ take k text → len ≤ length front → trimmed is_blank (cells at front) ≡ cells at (take len front) → trimmed is_blank (cells at (take k text)) ≡ cells at (take len text)

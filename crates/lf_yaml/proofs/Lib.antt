@@ -1,5 +1,6 @@
 pub mod HeadLaws
 pub mod Ends
+pub mod FlowLines
 pub mod FlowParts
 pub mod Sequences
 pub mod FlowKeys
@@ -38,7 +39,12 @@ pub mod Cuts
 pub mod PartCode
 pub mod KeyCode
 pub mod KeyText
-pub mod PlaceCode
+pub mod PlainLines
+pub mod LinesOn
+pub mod FlowPlaces
+pub mod FlowOn
+pub mod PartPlaces
+pub mod ClosedCode
 pub mod ItemCode
 pub mod EntryTurns
 pub mod InsideRows

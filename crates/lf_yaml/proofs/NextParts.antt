@@ -10,7 +10,7 @@ use Rattle.lf_yaml.proofs.HeadLaws.{tells}
 -- behind the blanks, by whether there were some
 abbrev pub part_after : ℕ → Bool → List Cell → List Row → Next
 part_after end blank [] rs = on_line end rs
-part_after end blank (c ∷ cs) rs = cond (blank && eqb c.byte 35) (on_line end rs) (at_part c cs rs)
+part_after end blank (c ∷ cs) rs = cond (blank && eqb c.byte 35) (on_line end rs) (at_part c cs)
 
 or-true : (b : Bool) → true ≡ (b || true)
 or-true true = refl
@@ -77,14 +77,14 @@ module _ (end at k : ℕ) (text part : List ℕ) (rs : List Row) (le : k ≤ len
       by [] lt e = absurd (omega arith)
       by (x ∷ xs) lt e = rw (lt-ltb 0 k pos, eq-eqb x 35 e) refl
 
-  pub next-here : 0 < length part → (k ≤ 0) ⊎ (get_or part 0 0 ≢ 35) → next_part end false (cells at text) rs ≡ at_part (cell (get_or part 0 0) (at + k)) (cells (suc (at + k)) (drop 1 part)) rs
+  pub next-here : 0 < length part → (k ≤ 0) ⊎ (get_or part 0 0 ≢ 35) → next_part end false (cells at text) rs ≡ at_part (cell (get_or part 0 0) (at + k)) (cells (suc (at + k)) (drop 1 part))
   next-here lt h = whole ∙ by part lt h
     where
       and-false : (b : Bool) → (b && false) ≡ false
       and-false true = refl
       and-false false = refl
 
-      by : (xs : List ℕ) → 0 < length xs → (k ≤ 0) ⊎ (get_or xs 0 0 ≢ 35) → part_after end (ltb 0 k) (cells (at + k) xs) rs ≡ at_part (cell (get_or xs 0 0) (at + k)) (cells (suc (at + k)) (drop 1 xs)) rs
+      by : (xs : List ℕ) → 0 < length xs → (k ≤ 0) ⊎ (get_or xs 0 0 ≢ 35) → part_after end (ltb 0 k) (cells (at + k) xs) rs ≡ at_part (cell (get_or xs 0 0) (at + k)) (cells (suc (at + k)) (drop 1 xs))
       by [] lt h = absurd (omega arith)
       by (x ∷ xs) lt (inl none) = rw (le-ltb 0 k none) refl
       by (x ∷ xs) lt (inr ne) = rw (ne_eqb x 35 ne, and-false (ltb 0 k)) refl

@@ -19,7 +19,7 @@ pub first-lengthen : (end : ℕ) (c : Cell) (ls : List Line) → first_text (len
 first-lengthen end c [] = refl
 first-lengthen end c (l ∷ ls) = refl
 
-nil-cons : {X : Type 0} {Y : Type 0} (x : X) (xs : List X) → [] ≡ x ∷ xs → Y
+pub nil-cons : {X : Type 0} {Y : Type 0} (x : X) (xs : List X) → [] ≡ x ∷ xs → Y
 nil-cons x xs e = absurd cc
 
 cons-head : (x y : Cell) (xs ys : List Cell) → x ∷ xs ≡ y ∷ ys → (x ≡ y) × (xs ≡ ys)

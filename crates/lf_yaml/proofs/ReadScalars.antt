@@ -90,7 +90,7 @@ closing-byte bytes inside at k q e lt =
     let z : suc k ≡ k + 1 = omega arith in
     get-of-take (length inside + 1) (q ∷ inside) (drop at bytes) (suc k) e (omega arith) ∙ get-drop at (suc k) bytes ∙ ap (λ (m : ℕ). get_or bytes (at + m) 0) z
 
-small-quote : (kind : Quotes) (b : ℕ) → b ≡ quote_of kind → b < 128
+pub small-quote : (kind : Quotes) (b : ℕ) → b ≡ quote_of kind → b < 128
 small-quote Single b e = omega (arith, e)
 small-quote Double b e = omega (arith, e)
 

@@ -1,5 +1,5 @@
 -- Scalars and flow collections on a row are read: what stands is read, a breach is answered, and what is answered is one of both.
-use Rattle.std.proofs.Common.{◌≡◌, ℕ, zero, suc, Bool, true, false, eqb, not, List, [], ◌∷◌, Option, Some, None, Result, Ok, Err, length, eq-eqb, refl, ap, arith, sym, ◌∙◌, subst, ◌⊎◌, inl, inr, ◌&&◌, ◌||◌}
+use Rattle.std.proofs.Common.{◌≡◌, ℕ, zero, suc, Bool, true, false, eqb, not, List, [], ◌∷◌, Option, Some, None, Result, Ok, Err, length, eq-eqb, refl, ap, sym, ◌∙◌, subst, ◌⊎◌, inl, inr, ◌&&◌, ◌||◌}
 use Rattle.std.specs.Prelude.{nat_lt}
 use Rattle.std.proofs.lemmas.Bool.{eqb-true}
 use Rattle.lf_base.specs.declared.kind.Kind.TheVariants.{TooDeep}
@@ -14,16 +14,16 @@ use Rattle.lf_scalar.proofs.Laws as scalars
 use Rattle.lf_yaml.specs.Rows.{Row, row, text_of, rows_from, row_fault, is_left_out}
 use Rattle.lf_yaml.specs.Heads.{style_of, begins_scalar}
 use Rattle.lf_yaml.specs.Tree.{Tree, sequence, mapping, Items, Entries}
-use Rattle.lf_yaml.specs.Flow.{is_bracket}
+use Rattle.lf_yaml.specs.Flow.{is_bracket, line_on}
 use Rattle.lf_yaml.specs.Nodes.{IsScalarOn, ValueAt}
 use Rattle.lf_yaml.specs.Breaches.{ScalarBreaksOn, ValueBreaks}
 use Rattle.lf_yaml.specs.Nodes as nodes
 use Rattle.lf_yaml.specs.Breaches as breaches
-use Rattle.lf_yaml.specs.reading.Trees.{FlowRead, sequence_in, mapping_in, turns, Read, alone, closed_list, flow_list, closed_map, flow_map, scalar_on, scalar_value, value_on}
+use Rattle.lf_yaml.specs.reading.Trees.{FlowRead, sequence_in, mapping_in, Read, alone, closed_list, flow_list, closed_map, flow_map, scalar_on, scalar_value, value_on}
 use Rattle.lf_yaml.proofs.Ends.{IsEnd, end-all, end-behind}
 use Rattle.lf_yaml.proofs.HeadLaws.{tells}
-use Rattle.lf_yaml.proofs.Sequences.{sequence-is, sequence-breaks, SequenceTold, sequence-tells, sequence-rows}
-use Rattle.lf_yaml.proofs.Mappings.{mapping-is, mapping-breaks, MappingTold, mapping-tells, mapping-rows}
+use Rattle.lf_yaml.proofs.Sequences.{sequence-is, sequence-breaks, SequenceTold, sequence-tells, always-enough}
+use Rattle.lf_yaml.proofs.Mappings.{mapping-is, mapping-breaks, MappingTold, mapping-tells}
 use Rattle.lf_yaml.proofs.Placed.{IsPlaced}
 
 -- a row that begins with a bracket begins no scalar
@@ -53,23 +53,23 @@ module _ (bytes : List ℕ) (above : ℕ) where
   abbrev end : ℕ
   end = length bytes
 
-  list-on : (d : ℕ) (r : Row) (rs : List Row) → r.first.byte ≡ 91 → value_on bytes above d r rs ≡ flow_list end d r rs
+  list-on : (d : ℕ) (r : Row) (rs : List Row) → r.first.byte ≡ 91 → value_on bytes above d r rs ≡ flow_list bytes d r rs
   unfolding value_on
   list-on d r rs e = rw (no-scalar 91 r refl e, eq-eqb r.first.byte 91 e) refl
 
-  map-on : (d : ℕ) (r : Row) (rs : List Row) → r.first.byte ≡ 123 → value_on bytes above d r rs ≡ flow_map end d r rs
+  map-on : (d : ℕ) (r : Row) (rs : List Row) → r.first.byte ≡ 123 → value_on bytes above d r rs ≡ flow_map bytes d r rs
   unfolding value_on
   map-on d r rs e = rw (no-scalar 123 r refl e, no-91 r.first.byte e, eq-eqb r.first.byte 123 e) refl
 
   pub value-is : (d : ℕ) (r : Row) (rs : List Row) (t : Tree) (rest : List Row) → ValueAt bytes above d r rs t rest → value_on bytes above d r rs ≡ Ok (t, rest)
   unfolding value_on
   value-is d r _ _ _ (nodes.ValueAt.scalar {v = v} rs b h) = rw b (ap (scalar_value rs) (scalars.is_read (style_of r.first) above end (source_at bytes r.first.at) v h))
-  value-is _ r rs _ rest (nodes.ValueAt.flow_sequence {d = d} {is = is} {closing = closing} {behind = behind} e h b) =
-      list-on (suc d) r rs e ∙ ap (closed_list r) (sequence-is end (suc (turns r.rest rs)) r.rest rs is closing behind rest (omega arith) h)
-      ∙ ap (alone (λ (is : Items) (closing : Cell). sequence is (span r.first.at (suc closing.at))) (is, closing, behind, rest)) (tail-told false behind b)
-  value-is _ r rs _ rest (nodes.ValueAt.flow_mapping {d = d} {es = es} {closing = closing} {behind = behind} e h b) =
-      map-on (suc d) r rs e ∙ ap (closed_map r) (mapping-is end (suc (turns r.rest rs)) [] r.rest rs es closing behind rest (omega arith) h)
-      ∙ ap (alone (λ (es : Entries) (closing : Cell). mapping es (span r.first.at (suc closing.at))) (es, closing, behind, rest)) (tail-told false behind b)
+  value-is _ r _ _ _ (nodes.ValueAt.flow_sequence {d = d} {is = is} {closing = closing} rs e h b) =
+      list-on (suc d) r rs e ∙ ap (closed_list bytes r rs) (sequence-is bytes (suc end) (suc r.first.at) is closing (always-enough end (suc r.first.at)) h)
+      ∙ ap (alone (λ (is : Items) (closing : Cell). sequence is (span r.first.at (suc closing.at))) rs (is, closing)) (tail-told false (line_on bytes (suc closing.at)).text b)
+  value-is _ r _ _ _ (nodes.ValueAt.flow_mapping {d = d} {es = es} {closing = closing} rs e h b) =
+      map-on (suc d) r rs e ∙ ap (closed_map bytes r rs) (mapping-is bytes (suc end) [] (suc r.first.at) es closing (always-enough end (suc r.first.at)) h)
+      ∙ ap (alone (λ (es : Entries) (closing : Cell). mapping es (span r.first.at (suc closing.at))) rs (es, closing)) (tail-told false (line_on bytes (suc closing.at)).text b)
 
   nothing-on : (d : ℕ) (r : Row) (rs : List Row) → begins_scalar r ≡ false → is_bracket r.first ≡ false → value_on bytes above d r rs ≡ Err (row_fault r)
   unfolding value_on
@@ -87,16 +87,18 @@ module _ (bytes : List ℕ) (above : ℕ) where
   value-breaks d r rs _ (breaches.ValueBreaks.scalar {f = f} xs b h) = rw b (ap (scalar_value rs) (scalars.is_refused (style_of r.first) above end (source_at bytes r.first.at) f h))
   value-breaks d r rs _ (breaches.ValueBreaks.no_value e xs b n) = nothing-on d r rs b n
   value-breaks _ r rs _ (breaches.ValueBreaks.deep xs h) = deep-on r rs h
-  value-breaks _ r rs _ (breaches.ValueBreaks.flow_sequence {f = f} d e h) =
-      list-on (suc d) r rs e ∙ ap (closed_list r) (sequence-breaks end (suc (turns r.rest rs)) r.rest rs f (omega arith) h)
-  value-breaks _ r rs _ (breaches.ValueBreaks.behind_sequence {rest = rest} {is = is} {closing = closing} {wrong = wrong} {behind = behind} d e h w) =
-      list-on (suc d) r rs e ∙ ap (closed_list r) (sequence-is end (suc (turns r.rest rs)) r.rest rs is closing behind rest (omega arith) h)
-      ∙ ap (alone (λ (is : Items) (closing : Cell). sequence is (span r.first.at (suc closing.at))) (is, closing, behind, rest)) (wrong-told false behind wrong (from-front behind wrong w))
-  value-breaks _ r rs _ (breaches.ValueBreaks.flow_mapping {f = f} d e h) =
-      map-on (suc d) r rs e ∙ ap (closed_map r) (mapping-breaks end (suc (turns r.rest rs)) [] r.rest rs f (omega arith) h)
-  value-breaks _ r rs _ (breaches.ValueBreaks.behind_mapping {rest = rest} {es = es} {closing = closing} {wrong = wrong} {behind = behind} d e h w) =
-      map-on (suc d) r rs e ∙ ap (closed_map r) (mapping-is end (suc (turns r.rest rs)) [] r.rest rs es closing behind rest (omega arith) h)
-      ∙ ap (alone (λ (es : Entries) (closing : Cell). mapping es (span r.first.at (suc closing.at))) (es, closing, behind, rest)) (wrong-told false behind wrong (from-front behind wrong w))
+  value-breaks _ r _ f (breaches.ValueBreaks.flow_sequence rs d e h) =
+      list-on (suc d) r rs e ∙ ap (closed_list bytes r rs) (sequence-breaks bytes (suc end) (suc r.first.at) f (always-enough end (suc r.first.at)) h)
+  value-breaks _ r _ _ (breaches.ValueBreaks.behind_sequence {is = is} {closing = closing} {wrong = wrong} rs d e h w) =
+      list-on (suc d) r rs e ∙ ap (closed_list bytes r rs) (sequence-is bytes (suc end) (suc r.first.at) is closing (always-enough end (suc r.first.at)) h)
+      ∙ ap (alone (λ (is : Items) (closing : Cell). sequence is (span r.first.at (suc closing.at))) rs (is, closing))
+      (wrong-told false (line_on bytes (suc closing.at)).text wrong (from-front (line_on bytes (suc closing.at)).text wrong w))
+  value-breaks _ r _ f (breaches.ValueBreaks.flow_mapping rs d e h) =
+      map-on (suc d) r rs e ∙ ap (closed_map bytes r rs) (mapping-breaks bytes (suc end) [] (suc r.first.at) f (always-enough end (suc r.first.at)) h)
+  value-breaks _ r _ _ (breaches.ValueBreaks.behind_mapping {es = es} {closing = closing} {wrong = wrong} rs d e h w) =
+      map-on (suc d) r rs e ∙ ap (closed_map bytes r rs) (mapping-is bytes (suc end) [] (suc r.first.at) es closing (always-enough end (suc r.first.at)) h)
+      ∙ ap (alone (λ (es : Entries) (closing : Cell). mapping es (span r.first.at (suc closing.at))) rs (es, closing))
+      (wrong-told false (line_on bytes (suc closing.at)).text wrong (from-front (line_on bytes (suc closing.at)).text wrong w))
 
   abbrev pub ValueTold : ℕ → Row → List Row → Read Tree → Type 0
   ValueTold d r rs (Ok x) = ValueAt bytes above d r rs x.0 x.1
@@ -116,29 +118,29 @@ module _ (bytes : List ℕ) (above : ℕ) where
       ap (begins (style_of r.first)) placed ∙ and-left (begins (style_of r.first) (text_of r)) (not (is_left_out r)) b in
       scalar-told d r rs b (scalar_on bytes above r) (scalars.tells (style_of r.first) above end (source_at bytes r.first.at) h)
 
-  list-told : (d : ℕ) (r : Row) (rs : List Row) → r.first.byte ≡ 91 → (read : FlowRead Items) → SequenceTold end r.rest rs read → ValueTold (suc d) r rs (closed_list r read)
-  list-told d r rs e (Ok x) h = by (wrong_behind false x.2) refl
+  list-told : (d : ℕ) (r : Row) (rs : List Row) → r.first.byte ≡ 91 → (read : FlowRead Items) → SequenceTold bytes (suc r.first.at) read → ValueTold (suc d) r rs (closed_list bytes r rs read)
+  list-told d r rs e (Ok x) h = by (wrong_behind false (line_on bytes (suc x.1.at)).text) refl
     where
-      by : (o : Option Cell) → wrong_behind false x.2 ≡ o → ValueTold (suc d) r rs (alone (λ (is : Items) (closing : Cell). sequence is (span r.first.at (suc closing.at))) x o)
-      by None w = nodes.ValueAt.flow_sequence e h (told-tail false x.2 w)
-      by (Some wrong) w = breaches.ValueBreaks.behind_sequence d e h (to-front x.2 wrong (told-wrong false x.2 wrong w))
-  list-told d r rs e (Err f) h = breaches.ValueBreaks.flow_sequence d e h
+      by : (o : Option Cell) → wrong_behind false (line_on bytes (suc x.1.at)).text ≡ o → ValueTold (suc d) r rs (alone (λ (is : Items) (closing : Cell). sequence is (span r.first.at (suc closing.at))) rs x o)
+      by None w = nodes.ValueAt.flow_sequence rs e h (told-tail false (line_on bytes (suc x.1.at)).text w)
+      by (Some wrong) w = breaches.ValueBreaks.behind_sequence rs d e h (to-front (line_on bytes (suc x.1.at)).text wrong (told-wrong false (line_on bytes (suc x.1.at)).text wrong w))
+  list-told d r rs e (Err f) h = breaches.ValueBreaks.flow_sequence rs d e h
 
-  map-told : (d : ℕ) (r : Row) (rs : List Row) → r.first.byte ≡ 123 → (read : FlowRead Entries) → MappingTold end [] r.rest rs read → ValueTold (suc d) r rs (closed_map r read)
-  map-told d r rs e (Ok x) h = by (wrong_behind false x.2) refl
+  map-told : (d : ℕ) (r : Row) (rs : List Row) → r.first.byte ≡ 123 → (read : FlowRead Entries) → MappingTold bytes [] (suc r.first.at) read → ValueTold (suc d) r rs (closed_map bytes r rs read)
+  map-told d r rs e (Ok x) h = by (wrong_behind false (line_on bytes (suc x.1.at)).text) refl
     where
-      by : (o : Option Cell) → wrong_behind false x.2 ≡ o → ValueTold (suc d) r rs (alone (λ (es : Entries) (closing : Cell). mapping es (span r.first.at (suc closing.at))) x o)
-      by None w = nodes.ValueAt.flow_mapping e h (told-tail false x.2 w)
-      by (Some wrong) w = breaches.ValueBreaks.behind_mapping d e h (to-front x.2 wrong (told-wrong false x.2 wrong w))
-  map-told d r rs e (Err f) h = breaches.ValueBreaks.flow_mapping d e h
+      by : (o : Option Cell) → wrong_behind false (line_on bytes (suc x.1.at)).text ≡ o → ValueTold (suc d) r rs (alone (λ (es : Entries) (closing : Cell). mapping es (span r.first.at (suc closing.at))) rs x o)
+      by None w = nodes.ValueAt.flow_mapping rs e h (told-tail false (line_on bytes (suc x.1.at)).text w)
+      by (Some wrong) w = breaches.ValueBreaks.behind_mapping rs d e h (to-front (line_on bytes (suc x.1.at)).text wrong (told-wrong false (line_on bytes (suc x.1.at)).text wrong w))
+  map-told d r rs e (Err f) h = breaches.ValueBreaks.flow_mapping rs d e h
 
-  list-tells : (d : ℕ) (r : Row) (rs : List Row) → r.first.byte ≡ 91 → is_bracket r.first ≡ true → ValueTold d r rs (flow_list end d r rs)
+  list-tells : (d : ℕ) (r : Row) (rs : List Row) → r.first.byte ≡ 91 → is_bracket r.first ≡ true → ValueTold d r rs (flow_list bytes d r rs)
   list-tells zero r rs e b = breaches.ValueBreaks.deep rs b
-  list-tells (suc d) r rs e b = list-told d r rs e (sequence_in end (suc (turns r.rest rs)) r.rest rs) (sequence-tells end (suc (turns r.rest rs)) r.rest rs (omega arith))
+  list-tells (suc d) r rs e b = list-told d r rs e (sequence_in bytes (suc end) (suc r.first.at)) (sequence-tells bytes (suc end) (suc r.first.at) (always-enough end (suc r.first.at)))
 
-  map-tells : (d : ℕ) (r : Row) (rs : List Row) → r.first.byte ≡ 123 → is_bracket r.first ≡ true → ValueTold d r rs (flow_map end d r rs)
+  map-tells : (d : ℕ) (r : Row) (rs : List Row) → r.first.byte ≡ 123 → is_bracket r.first ≡ true → ValueTold d r rs (flow_map bytes d r rs)
   map-tells zero r rs e b = breaches.ValueBreaks.deep rs b
-  map-tells (suc d) r rs e b = map-told d r rs e (mapping_in end (suc (turns r.rest rs)) [] r.rest rs) (mapping-tells end (suc (turns r.rest rs)) [] r.rest rs (omega arith))
+  map-tells (suc d) r rs e b = map-told d r rs e (mapping_in bytes (suc end) [] (suc r.first.at)) (mapping-tells bytes (suc end) [] (suc r.first.at) (always-enough end (suc r.first.at)))
 
   pub value-tells : (d : ℕ) (r : Row) (rs : List Row) → IsPlaced bytes r → ValueTold d r rs (value_on bytes above d r rs)
   unfolding value_on
@@ -166,5 +168,5 @@ module _ (bytes : List ℕ) (above : ℕ) where
 
   pub value-rows : (d : ℕ) (r : Row) (rs : List Row) (t : Tree) (rest : List Row) → ValueAt bytes above d r rs t rest → IsEnd rs rest
   value-rows d r _ _ _ (nodes.ValueAt.scalar {v = v} rs b h) = from-end v.span.end rs
-  value-rows _ r rs _ rest (nodes.ValueAt.flow_sequence {is = is} {closing = closing} {behind = behind} e h b) = sequence-rows end r.rest rs is closing behind rest h
-  value-rows _ r rs _ rest (nodes.ValueAt.flow_mapping {es = es} {closing = closing} {behind = behind} e h b) = mapping-rows end [] r.rest rs es closing behind rest h
+  value-rows _ r _ _ _ (nodes.ValueAt.flow_sequence {closing = closing} rs e h b) = from-end (suc closing.at) rs
+  value-rows _ r _ _ _ (nodes.ValueAt.flow_mapping {closing = closing} rs e h b) = from-end (suc closing.at) rs

@@ -8,7 +8,7 @@ use Rattle.lf_scalar.specs.Quoted.{WrongBehind}
 use Rattle.lf_scalar.specs.Scalars.{BreaksStyle, source_at}
 use Rattle.lf_yaml.specs.Rows.{Row, indent, left_of, tab_in, indent_fault, row_fault}
 use Rattle.lf_yaml.specs.Heads.{is_item, Key, IsKey, KeyBreaks, BeginsEntry, NoEntry, BeginsBlock, BeginsNoBlock, OpensQuote, style_of, begins_scalar}
-use Rattle.lf_yaml.specs.Flow.{is_bracket, SequenceIn, SequenceBreaks, MappingIn, MappingBreaks}
+use Rattle.lf_yaml.specs.Flow.{is_bracket, line_on, SequenceIn, SequenceBreaks, MappingIn, MappingBreaks}
 use Rattle.lf_yaml.specs.Tree.{Tree, Items, Entries}
 use Rattle.lf_yaml.specs.Nodes.{ItemValue, EntryAt}
 
@@ -20,11 +20,11 @@ pub data ValueBreaks (bytes : List ℕ) (above : ℕ) : ℕ → Row → List Row
   scalar : {d : ℕ} {r : Row} {f : Fault} (rs : List Row) → begins_scalar r ≡ true → ScalarBreaksOn bytes above r f → ValueBreaks bytes above d r rs f
   no_value : {r : Row} (d : ℕ) (rs : List Row) → begins_scalar r ≡ false → is_bracket r.first ≡ false → ValueBreaks bytes above d r rs (row_fault r)
   deep : {r : Row} (rs : List Row) → is_bracket r.first ≡ true → ValueBreaks bytes above zero r rs (character_fault TooDeep r.first)
-  flow_sequence : {r : Row} {rs : List Row} {f : Fault} (d : ℕ) → r.first.byte ≡ 91 → SequenceBreaks (length bytes) r.rest rs f → ValueBreaks bytes above (suc d) r rs f
-  behind_sequence : {r : Row} {rs rest : List Row} {is : Items} {closing wrong : Cell} {behind : List Cell} (d : ℕ) → r.first.byte ≡ 91 → SequenceIn (length bytes) r.rest rs is closing behind rest → WrongBehind behind wrong
+  flow_sequence : {r : Row} {f : Fault} (rs : List Row) (d : ℕ) → r.first.byte ≡ 91 → SequenceBreaks bytes (suc r.first.at) f → ValueBreaks bytes above (suc d) r rs f
+  behind_sequence : {r : Row} {is : Items} {closing wrong : Cell} (rs : List Row) (d : ℕ) → r.first.byte ≡ 91 → SequenceIn bytes (suc r.first.at) is closing → WrongBehind (line_on bytes (suc closing.at)).text wrong
       → ValueBreaks bytes above (suc d) r rs (character_fault NotANode wrong)
-  flow_mapping : {r : Row} {rs : List Row} {f : Fault} (d : ℕ) → r.first.byte ≡ 123 → MappingBreaks (length bytes) [] r.rest rs f → ValueBreaks bytes above (suc d) r rs f
-  behind_mapping : {r : Row} {rs rest : List Row} {es : Entries} {closing wrong : Cell} {behind : List Cell} (d : ℕ) → r.first.byte ≡ 123 → MappingIn (length bytes) [] r.rest rs es closing behind rest → WrongBehind behind wrong
+  flow_mapping : {r : Row} {f : Fault} (rs : List Row) (d : ℕ) → r.first.byte ≡ 123 → MappingBreaks bytes [] (suc r.first.at) f → ValueBreaks bytes above (suc d) r rs f
+  behind_mapping : {r : Row} {es : Entries} {closing wrong : Cell} (rs : List Row) (d : ℕ) → r.first.byte ≡ 123 → MappingIn bytes [] (suc r.first.at) es closing → WrongBehind (line_on bytes (suc closing.at)).text wrong
       → ValueBreaks bytes above (suc d) r rs (character_fault NotANode wrong)
 
 mutual

@@ -1,25 +1,47 @@
 -- Flow collections: `[` scalars `]` and `{` entries `}`, on one line or over several.
 use Rattle.std.specs.Prelude.{◌≡◌, ◌≢◌, ℕ, suc, List, [], ◌∷◌, ◌++◌, length, drop, take_while, Bool, true, false, not, Option, Some, None, ◌⊎◌, ◌==◌, ◌&&◌, ◌||◌, codes, if◌then◌else◌, Contains}
+use Rattle.std.specs.List.{list_all}
 use Rattle.lf_base.specs.declared.kind.Kind.TheVariants.{OpenQuote, LeftOut, DoubleKey, NotANode}
 use Rattle.lf_base.specs.declared.fault.Fault.{Fault}
 use Rattle.lf_base.specs.Faults.{span, fault}
 use Rattle.lf_scalar.specs.Cells.{Cell, Value, byte_fault, character_fault}
-use Rattle.lf_scalar.specs.Lines.{is_blank}
-use Rattle.lf_scalar.specs.Folding.{trimmed}
+use Rattle.lf_scalar.specs.Lines.{Line, line, lines, start_of, is_blank, after_blanks, after_spaces}
+use Rattle.lf_scalar.specs.Folding.{fold, trimmed}
 use Rattle.lf_scalar.specs.Plain.{before_blank, before_comment, is_plain_byte, value_of}
+use Rattle.lf_scalar.specs.Scalars.{source_at}
 use Rattle.lf_scalar.specs.declared.quotes.Quotes.{Quotes}
 use Rattle.lf_scalar.specs.Quoted.{quote_of, Closes}
 use Rattle.lf_yaml.specs.Keys.{is_key_left_out}
-use Rattle.lf_yaml.specs.Rows.{Row, is_one_of, is_mark, indent_fault}
+use Rattle.lf_yaml.specs.Rows.{Row, is_one_of, is_mark, indent_fault, content_row, rows_of}
 use Rattle.lf_yaml.specs.Heads.{key_in, Key, Bare, Between, IsBetween, BetweenBreaks, IsKey, IsSignBehind, OpensQuote}
 use Rattle.lf_yaml.specs.Tree.{Tree, leaf, Items, no_items, item, Entries, no_entries, entry}
 use Rattle.lf_yaml.specs.Spans.{empty_at}
 
+-- ---- the lines of a file from an offset on
+
+abbrev pub first_line : ℕ → List Line → Line
+first_line end [] = line [] end
+first_line end (l ∷ ls) = l
+
+abbrev pub later_lines : List Line → List Line
+later_lines [] = []
+later_lines (l ∷ ls) = ls
+
+-- the rest of the line at an offset of a file, and the lines behind it
+abbrev pub lines_on : List ℕ → ℕ → List Line
+lines_on bytes at = lines (length bytes) (source_at bytes at)
+
+abbrev pub line_on : List ℕ → ℕ → Line
+line_on bytes at = first_line (length bytes) (lines_on bytes at)
+
+abbrev pub lines_below : List ℕ → ℕ → List Line
+lines_below bytes at = later_lines (lines_on bytes at)
+
 -- ---- the next part
 
--- Where the next part of a flow collection begins: its first cell, the cells behind it on its line, and the rows behind this line. Or what is broken before it.
+-- Where the next part of a flow collection begins: its first cell, and the cells behind it on its line. Or what is broken before it.
 pub data Next : Type 0 where
-  at_part : Cell → List Cell → List Row → Next
+  at_part : Cell → List Cell → Next
   broken : Fault → Next
 
 -- On a later line, which may have any indent, it begins at the first character, if that is no tab and begins no mark. The file doesn't end before it.
@@ -28,7 +50,7 @@ on_line end [] = broken (fault NotANode (span end end))
 on_line end (r ∷ rs) =
     if r.first.byte == 9 then broken (indent_fault r)
     else if is_mark r then broken (character_fault LeftOut r.first)
-    else at_part r.first r.rest rs
+    else at_part r.first r.rest
 
 -- Behind some cells of a line: blanks are skipped, and a comment, whose `#` stands behind a blank. The flag says that a blank stands before these cells.
 unfoldable pub next_part : ℕ → Bool → List Cell → List Row → Next
@@ -36,9 +58,13 @@ next_part end blank [] rs = on_line end rs
 next_part end blank (c ∷ cs) rs =
     if is_blank c then next_part end true cs rs
     else if blank && (c.byte == 35) then on_line end rs
-    else at_part c cs rs
+    else at_part c cs
 
--- ---- scalars: between quotes on one line, or plain on one line
+-- the next part from an offset of a file on
+unfoldable pub next_on : List ℕ → ℕ → Next
+next_on bytes at = next_part (length bytes) false (line_on bytes at).text (rows_of (lines_below bytes at))
+
+-- ---- texts of plain scalars
 
 -- one of , [ ] { }, which end a text of a flow collection, and ?, which none has
 abbrev pub is_flow_sign : Cell → Bool
@@ -67,15 +93,69 @@ abbrev pub colon_in : List Cell → List Cell → Option Cell
 colon_in [] behind = None
 colon_in (c ∷ text) behind = if (c.byte == 58) && before_blank (text ++ behind) then Some c else colon_in text behind
 
--- the same behind a text's first cell
-abbrev pub later_colon : List Cell → List Cell → Option Cell
-later_colon [] behind = None
-later_colon (c ∷ text) behind = colon_in text behind
+-- what a line of a plain scalar gives, behind its first blanks; what stands behind that; and a `:` in it that ends a key
+abbrev pub line_text : Line → List Cell
+line_text l = flow_text (after_blanks l.text)
 
--- `FlowScalar c cs v behind`: a scalar begins with the cell c, which the cells cs follow on its line; `behind` is what stands behind it there.
-pub data FlowScalar (c : Cell) (cs : List Cell) : Value → List Cell → Type 0 where
-  quoted : {v : Value} (kind : Quotes) (between : Closes kind cs) → c.byte ≡ quote_of kind → IsBetween kind c cs between v → FlowScalar c cs v between.rest
-  plain : begins_flow c cs ≡ true → later_colon (flow_text (c ∷ cs)) (behind_text (c ∷ cs)) ≡ None → FlowScalar c cs (value_of c (flow_text (c ∷ cs))) (behind_text (c ∷ cs))
+abbrev pub line_left : Line → List Cell
+line_left l = behind_text (after_blanks l.text)
+
+abbrev pub line_colon : Line → Option Cell
+line_colon l = colon_in (line_text l) (line_left l)
+
+-- nothing but blanks is left of a line: neither a sign nor a comment
+abbrev pub is_bare : Line → Bool
+is_bare l = list_all is_blank (line_left l)
+
+abbrev pub is_nothing : List Cell → Bool
+is_nothing [] = true
+is_nothing (c ∷ cs) = false
+
+-- a line of spaces alone
+abbrev pub is_spaces : Line → Bool
+is_spaces l = is_nothing (after_spaces l.text)
+
+-- A line goes on with a plain scalar: it is a row, and its first character is no tab, no sign of flow collections, and begins no mark.
+abbrev pub goes_on : List Row → Bool
+goes_on [] = false
+goes_on (r ∷ rs) = not (r.first.byte == 9) && (not (is_flow_sign r.first) && not (is_mark r))
+
+-- Behind lines of spaces, counted from a number on, such a line, and the lines behind it. A comment line is none.
+abbrev pub Onward : Type 0
+Onward = ℕ × Line × List Line
+
+unfoldable pub onward : ℕ → List Line → Option Onward
+onward k [] = None
+onward k (l ∷ ls) =
+    if is_spaces l then onward (suc k) ls
+    else if goes_on (content_row l) then Some (k, l, ls)
+    else None
+
+-- the line that goes on with a scalar behind one of its lines
+abbrev pub following : Line → List Line → Option Onward
+following l ls = if is_bare l then onward 0 ls else None
+
+-- where the collection is read on behind a scalar's last line: at what is left of it
+abbrev pub left_on : Line → ℕ
+left_on l = if is_bare l then l.break else start_of (line (line_left l) l.break)
+
+-- `PlainFrom l ls text after`: a plain scalar whose line l stands before the lines ls has this text from l on, its lines folded; the collection is read on at the offset `after`.
+pub data PlainFrom : Line → List Line → List Cell → ℕ → Type 0 where
+  last : {l : Line} {ls : List Line} → line_colon l ≡ None → following l ls ≡ None → PlainFrom l ls (line_text l) (left_on l)
+  more : {l next : Line} {ls later : List Line} {k after : ℕ} {text : List Cell} → line_colon l ≡ None → following l ls ≡ Some (k, next, later) → PlainFrom next later text after
+      → PlainFrom l ls (line_text l ++ (fold l.break k ++ text)) after
+
+-- what breaks such a scalar from l on: a `:` before a blank or the line's end, there or on a later line
+pub data PlainBreaks : Line → List Line → Fault → Type 0 where
+  colon : {l : Line} {c : Cell} (ls : List Line) → line_colon l ≡ Some c → PlainBreaks l ls (byte_fault NotANode c.at)
+  later : {l next : Line} {ls later : List Line} {k : ℕ} {f : Fault} → line_colon l ≡ None → following l ls ≡ Some (k, next, later) → PlainBreaks next later f → PlainBreaks l ls f
+
+-- ---- scalars: between quotes or plain, each on one line or over several
+
+-- `FlowScalar bytes c cs v after`: a scalar begins with the cell c, which the cells cs follow on its line; the collection is read on at the offset `after`.
+pub data FlowScalar (bytes : List ℕ) (c : Cell) (cs : List Cell) : Value → ℕ → Type 0 where
+  quoted : {v : Value} (kind : Quotes) (between : Closes kind (source_at bytes (suc c.at))) → c.byte ≡ quote_of kind → IsBetween kind c (source_at bytes (suc c.at)) between v → FlowScalar bytes c cs v (suc between.closing.at)
+  plain : {text : List Cell} {after : ℕ} → begins_flow c cs ≡ true → PlainFrom (line_on bytes c.at) (lines_below bytes c.at) text after → FlowScalar bytes c cs (value_of c text) after
 
 -- a quote, or a character with which a plain scalar begins
 abbrev pub begins_part : Cell → List Cell → Bool
@@ -94,102 +174,96 @@ abbrev pub sign_fault : Cell → Fault
 sign_fault c = if is_bracket c then character_fault LeftOut c else character_fault NotANode c
 
 -- what breaks a scalar that begins with a cell
-pub data FlowScalarBreaks (c : Cell) (cs : List Cell) : Fault → Type 0 where
-  no_scalar : begins_part c cs ≡ false → FlowScalarBreaks c cs (part_fault c cs)
-  open_quote : OpensQuote c cs → FlowScalarBreaks c cs (byte_fault OpenQuote c.at)
-  escape : {f : Fault} (kind : Quotes) → c.byte ≡ quote_of kind → BetweenBreaks kind c cs f → FlowScalarBreaks c cs f
-  colon : {wrong : Cell} → begins_flow c cs ≡ true → later_colon (flow_text (c ∷ cs)) (behind_text (c ∷ cs)) ≡ Some wrong → FlowScalarBreaks c cs (character_fault NotANode wrong)
+pub data FlowScalarBreaks (bytes : List ℕ) (c : Cell) (cs : List Cell) : Fault → Type 0 where
+  no_scalar : begins_part c cs ≡ false → FlowScalarBreaks bytes c cs (part_fault c cs)
+  open_quote : OpensQuote c (source_at bytes (suc c.at)) → FlowScalarBreaks bytes c cs (byte_fault OpenQuote c.at)
+  inside : {f : Fault} (kind : Quotes) → c.byte ≡ quote_of kind → BetweenBreaks kind c (source_at bytes (suc c.at)) f → FlowScalarBreaks bytes c cs f
+  plain_lines : {f : Fault} → begins_flow c cs ≡ true → PlainBreaks (line_on bytes c.at) (lines_below bytes c.at) f → FlowScalarBreaks bytes c cs f
 
 -- ---- sequences
 
--- `SequenceIn end cs rs is closing behind rest`: behind a `[` or a comma, where the cells cs and then the rows rs follow, stand these items and the bracket that
--- closes; `behind` follows it on its line, and the rows `rest` are left. The file ends at `end`.
-pub data SequenceIn (end : ℕ) : List Cell → List Row → Items → Cell → List Cell → List Row → Type 0 where
-  closes : {cs behind : List Cell} {rs rest : List Row} {closing : Cell} → next_part end false cs rs ≡ at_part closing behind rest → closing.byte ≡ 93 → SequenceIn end cs rs no_items closing behind rest
-  last : {cs more after behind : List Cell} {rs ss rest : List Row} {c closing : Cell} {v : Value} → next_part end false cs rs ≡ at_part c more ss → FlowScalar c more v after
-      → next_part end false after ss ≡ at_part closing behind rest → closing.byte ≡ 93 → SequenceIn end cs rs (item (leaf v) no_items) closing behind rest
-  more : {cs more after left behind : List Cell} {rs ss ts rest : List Row} {c comma closing : Cell} {v : Value} {is : Items} → next_part end false cs rs ≡ at_part c more ss → FlowScalar c more v after
-      → next_part end false after ss ≡ at_part comma left ts → comma.byte ≡ 44 → SequenceIn end left ts is closing behind rest → SequenceIn end cs rs (item (leaf v) is) closing behind rest
+-- `SequenceIn bytes at is closing`: behind a `[` or a comma, from the offset `at` on, stand these items and the bracket that closes.
+pub data SequenceIn (bytes : List ℕ) : ℕ → Items → Cell → Type 0 where
+  closes : {at : ℕ} {closing : Cell} {cs : List Cell} → next_on bytes at ≡ at_part closing cs → closing.byte ≡ 93 → SequenceIn bytes at no_items closing
+  last : {at after : ℕ} {c closing : Cell} {cs ds : List Cell} {v : Value} → next_on bytes at ≡ at_part c cs → FlowScalar bytes c cs v after
+      → next_on bytes after ≡ at_part closing ds → closing.byte ≡ 93 → SequenceIn bytes at (item (leaf v) no_items) closing
+  more : {at after : ℕ} {c comma closing : Cell} {cs ds : List Cell} {v : Value} {is : Items} → next_on bytes at ≡ at_part c cs → FlowScalar bytes c cs v after
+      → next_on bytes after ≡ at_part comma ds → comma.byte ≡ 44 → SequenceIn bytes (suc comma.at) is closing → SequenceIn bytes at (item (leaf v) is) closing
 
 -- What breaks such items: no part follows, a part is no scalar and doesn't close, or a scalar is broken; no part follows it, or one that is no comma and doesn't close.
-pub data SequenceBreaks (end : ℕ) : List Cell → List Row → Fault → Type 0 where
-  no_part : {cs : List Cell} {rs : List Row} {f : Fault} → next_part end false cs rs ≡ broken f → SequenceBreaks end cs rs f
-  scalar : {cs more : List Cell} {rs ss : List Row} {c : Cell} {f : Fault} → next_part end false cs rs ≡ at_part c more ss → c.byte ≢ 93 → FlowScalarBreaks c more f → SequenceBreaks end cs rs f
-  no_sign : {cs more after : List Cell} {rs ss : List Row} {c : Cell} {v : Value} {f : Fault} → next_part end false cs rs ≡ at_part c more ss → FlowScalar c more v after
-      → next_part end false after ss ≡ broken f → SequenceBreaks end cs rs f
-  sign : {cs more after left : List Cell} {rs ss ts : List Row} {c wrong : Cell} {v : Value} → next_part end false cs rs ≡ at_part c more ss → FlowScalar c more v after
-      → next_part end false after ss ≡ at_part wrong left ts → wrong.byte ≢ 44 → wrong.byte ≢ 93 → SequenceBreaks end cs rs (sign_fault wrong)
-  later : {cs more after left : List Cell} {rs ss ts : List Row} {c comma : Cell} {v : Value} {f : Fault} → next_part end false cs rs ≡ at_part c more ss → FlowScalar c more v after
-      → next_part end false after ss ≡ at_part comma left ts → comma.byte ≡ 44 → SequenceBreaks end left ts f → SequenceBreaks end cs rs f
+pub data SequenceBreaks (bytes : List ℕ) : ℕ → Fault → Type 0 where
+  no_part : {at : ℕ} {f : Fault} → next_on bytes at ≡ broken f → SequenceBreaks bytes at f
+  scalar : {at : ℕ} {c : Cell} {cs : List Cell} {f : Fault} → next_on bytes at ≡ at_part c cs → c.byte ≢ 93 → FlowScalarBreaks bytes c cs f → SequenceBreaks bytes at f
+  no_sign : {at after : ℕ} {c : Cell} {cs : List Cell} {v : Value} {f : Fault} → next_on bytes at ≡ at_part c cs → FlowScalar bytes c cs v after → next_on bytes after ≡ broken f → SequenceBreaks bytes at f
+  sign : {at after : ℕ} {c wrong : Cell} {cs ds : List Cell} {v : Value} → next_on bytes at ≡ at_part c cs → FlowScalar bytes c cs v after
+      → next_on bytes after ≡ at_part wrong ds → wrong.byte ≢ 44 → wrong.byte ≢ 93 → SequenceBreaks bytes at (sign_fault wrong)
+  later : {at after : ℕ} {c comma : Cell} {cs ds : List Cell} {v : Value} {f : Fault} → next_on bytes at ≡ at_part c cs → FlowScalar bytes c cs v after
+      → next_on bytes after ≡ at_part comma ds → comma.byte ≡ 44 → SequenceBreaks bytes (suc comma.at) f → SequenceBreaks bytes at f
 
 -- ---- mappings
 
--- `FlowKey c cs k colon rest`: the key k begins with the cell c, which the cells cs follow on its line; there its `:` stands, and `rest` behind it.
-pub data FlowKey (c : Cell) (cs : List Cell) : Key → Cell → List Cell → Type 0 where
-  quoted : {rest : List Cell} {colon : Cell} (kind : Quotes) (between : Closes kind cs) → c.byte ≡ quote_of kind → IsSignBehind between.rest colon rest → FlowKey c cs (Between kind) colon rest
-  bare : {front rest : List Cell} {colon : Cell} → begins_flow c cs ≡ true → key_in is_flow_sign before_blank (c ∷ cs) ≡ Some (c ∷ front, colon, rest) → is_key_left_out (c ∷ front) ≡ false → FlowKey c cs (Bare (trimmed is_blank (c ∷ front))) colon rest
+-- `FlowKey c cs k colon`: the key k begins with the cell c, which the cells cs follow on its line, and there its `:` stands.
+pub data FlowKey (c : Cell) (cs : List Cell) : Key → Cell → Type 0 where
+  quoted : {rest : List Cell} {colon : Cell} (kind : Quotes) (between : Closes kind cs) → c.byte ≡ quote_of kind → IsSignBehind between.rest colon rest → FlowKey c cs (Between kind) colon
+  bare : {front rest : List Cell} {colon : Cell} → begins_flow c cs ≡ true → key_in is_flow_sign before_blank (c ∷ cs) ≡ Some (c ∷ front, colon, rest) → is_key_left_out (c ∷ front) ≡ false → FlowKey c cs (Bare (trimmed is_blank (c ∷ front))) colon
 
--- a text where a key is wanted, behind which no `:` stands on its line that ends one
-pub data NoSign (c : Cell) (cs : List Cell) : List Cell → Type 0 where
-  quoted : (kind : Quotes) (between : Closes kind cs) (v : Value) → c.byte ≡ quote_of kind → IsBetween kind c cs between v → ((colon : Cell) (rest : List Cell) → IsSignBehind between.rest colon rest → ⊥) → NoSign c cs between.rest
-  bare : begins_flow c cs ≡ true → key_in is_flow_sign before_blank (c ∷ cs) ≡ None → NoSign c cs (behind_text (c ∷ cs))
+-- `NoSign bytes c cs after`: a text where a key is wanted, behind which no `:` stands on its line that ends one; the mapping is read on at the offset `after`.
+pub data NoSign (bytes : List ℕ) (c : Cell) (cs : List Cell) : ℕ → Type 0 where
+  quoted : (kind : Quotes) (between : Closes kind cs) (v : Value) → c.byte ≡ quote_of kind → IsBetween kind c cs between v → ((colon : Cell) (rest : List Cell) → IsSignBehind between.rest colon rest → ⊥) → NoSign bytes c cs (suc between.closing.at)
+  bare : begins_flow c cs ≡ true → key_in is_flow_sign before_blank (c ∷ cs) ≡ None → NoSign bytes c cs (left_on (line_on bytes c.at))
 
--- What breaks a key that begins with a cell, behind whose line these rows stand. Some without quotes are left out. Where no `:` follows, that is told at the next part.
-pub data FlowKeyBreaks (end : ℕ) (c : Cell) (cs : List Cell) (rs : List Row) : Fault → Type 0 where
-  no_key : begins_part c cs ≡ false → FlowKeyBreaks end c cs rs (part_fault c cs)
+-- What breaks a key that begins with a cell. Some without quotes are left out, and a quote of a key closes on its line. Where no `:` follows, that is told at the next part.
+pub data FlowKeyBreaks (bytes : List ℕ) (c : Cell) (cs : List Cell) : Fault → Type 0 where
+  no_key : begins_part c cs ≡ false → FlowKeyBreaks bytes c cs (part_fault c cs)
   key_left_out : {front rest : List Cell} {colon : Cell} → begins_flow c cs ≡ true → key_in is_flow_sign before_blank (c ∷ cs) ≡ Some (c ∷ front, colon, rest) → is_key_left_out (c ∷ front) ≡ true
-      → FlowKeyBreaks end c cs rs (character_fault LeftOut c)
-  open_quote : OpensQuote c cs → FlowKeyBreaks end c cs rs (byte_fault OpenQuote c.at)
-  escape : {f : Fault} (kind : Quotes) → c.byte ≡ quote_of kind → BetweenBreaks kind c cs f → FlowKeyBreaks end c cs rs f
-  no_part : {behind : List Cell} {f : Fault} → NoSign c cs behind → next_part end false behind rs ≡ broken f → FlowKeyBreaks end c cs rs f
-  no_sign : {behind left : List Cell} {ss : List Row} {wrong : Cell} → NoSign c cs behind → next_part end false behind rs ≡ at_part wrong left ss → FlowKeyBreaks end c cs rs (sign_fault wrong)
+      → FlowKeyBreaks bytes c cs (character_fault LeftOut c)
+  open_quote : OpensQuote c cs → FlowKeyBreaks bytes c cs (byte_fault OpenQuote c.at)
+  escape : {f : Fault} (kind : Quotes) → c.byte ≡ quote_of kind → BetweenBreaks kind c cs f → FlowKeyBreaks bytes c cs f
+  no_part : {after : ℕ} {f : Fault} → NoSign bytes c cs after → next_on bytes after ≡ broken f → FlowKeyBreaks bytes c cs f
+  no_sign : {after : ℕ} {wrong : Cell} {ds : List Cell} → NoSign bytes c cs after → next_on bytes after ≡ at_part wrong ds → FlowKeyBreaks bytes c cs (sign_fault wrong)
 
 -- a `,` or a `}`
 abbrev pub EndsValue : Cell → Type 0
 EndsValue c = (c.byte ≡ 44) ⊎ (c.byte ≡ 125)
 
--- The value behind a `:`: nothing before a `,` or a `}`, or a scalar. Then these cells and rows are left.
-pub data FlowValue (end : ℕ) (colon : Cell) (cs : List Cell) (rs : List Row) : Tree → List Cell → List Row → Type 0 where
-  missing : {left : List Cell} {ss : List Row} {c : Cell} → next_part end false cs rs ≡ at_part c left ss → EndsValue c → FlowValue end colon cs rs (empty_at (suc colon.at)) cs rs
-  scalar : {more after : List Cell} {ss : List Row} {c : Cell} {v : Value} → next_part end false cs rs ≡ at_part c more ss → FlowScalar c more v after → FlowValue end colon cs rs (leaf v) after ss
+-- The value behind a `:`: nothing before a `,` or a `}`, or a scalar. Then the mapping is read on at the offset `after`.
+pub data FlowValue (bytes : List ℕ) (colon : Cell) : Tree → ℕ → Type 0 where
+  missing : {c : Cell} {cs : List Cell} → next_on bytes (suc colon.at) ≡ at_part c cs → EndsValue c → FlowValue bytes colon (empty_at (suc colon.at)) (suc colon.at)
+  scalar : {after : ℕ} {c : Cell} {cs : List Cell} {v : Value} → next_on bytes (suc colon.at) ≡ at_part c cs → FlowScalar bytes c cs v after → FlowValue bytes colon (leaf v) after
 
-pub data FlowValueBreaks (end : ℕ) (cs : List Cell) (rs : List Row) : Fault → Type 0 where
-  no_part : {f : Fault} → next_part end false cs rs ≡ broken f → FlowValueBreaks end cs rs f
-  scalar : {more : List Cell} {ss : List Row} {c : Cell} {f : Fault} → next_part end false cs rs ≡ at_part c more ss → (EndsValue c → ⊥) → FlowScalarBreaks c more f → FlowValueBreaks end cs rs f
+pub data FlowValueBreaks (bytes : List ℕ) (colon : Cell) : Fault → Type 0 where
+  no_part : {f : Fault} → next_on bytes (suc colon.at) ≡ broken f → FlowValueBreaks bytes colon f
+  scalar : {c : Cell} {cs : List Cell} {f : Fault} → next_on bytes (suc colon.at) ≡ at_part c cs → (EndsValue c → ⊥) → FlowScalarBreaks bytes c cs f → FlowValueBreaks bytes colon f
 
--- `FlowEntry end keys cs rs k t left ss`: an entry stands behind the cells cs and rows rs, its key new to those before it; these cells and rows are left.
-pub record FlowEntry (end : ℕ) (keys : List (List ℕ)) (cs : List Cell) (rs : List Row) (v : Value) (t : Tree) (left : List Cell) (ss : List Row) : Type 0 where
+-- `FlowEntry bytes keys at v t after`: an entry stands at the offset `at` or behind it, its key new to those before it; the mapping is read on at `after`.
+pub record FlowEntry (bytes : List ℕ) (keys : List (List ℕ)) (at : ℕ) (v : Value) (t : Tree) (after : ℕ) : Type 0 where
   pub first : Cell
   pub more : List Cell
-  pub lower : List Row
-  pub part : next_part end false cs rs ≡ at_part first more lower
+  pub part : next_on bytes at ≡ at_part first more
   pub key : Key
   pub colon : Cell
-  pub behind : List Cell
-  pub is_key : FlowKey first more key colon behind
+  pub is_key : FlowKey first more key colon
   pub key_value : IsKey first more key v
   pub is_new : Contains keys v.text → ⊥
-  pub value : FlowValue end colon behind lower t left ss
+  pub value : FlowValue bytes colon t after
 
 -- the same of entries as of items
-pub data MappingIn (end : ℕ) : List (List ℕ) → List Cell → List Row → Entries → Cell → List Cell → List Row → Type 0 where
-  closes : {cs behind : List Cell} {rs rest : List Row} {closing : Cell} (keys : List (List ℕ)) → next_part end false cs rs ≡ at_part closing behind rest → closing.byte ≡ 125
-      → MappingIn end keys cs rs no_entries closing behind rest
-  last : {cs left behind : List Cell} {rs ss rest : List Row} {closing : Cell} {keys : List (List ℕ)} {v : Value} {t : Tree} → FlowEntry end keys cs rs v t left ss
-      → next_part end false left ss ≡ at_part closing behind rest → closing.byte ≡ 125 → MappingIn end keys cs rs (entry v t no_entries) closing behind rest
-  more : {cs left after behind : List Cell} {rs ss ts rest : List Row} {comma closing : Cell} {keys : List (List ℕ)} {v : Value} {t : Tree} {es : Entries} → FlowEntry end keys cs rs v t left ss
-      → next_part end false left ss ≡ at_part comma after ts → comma.byte ≡ 44 → MappingIn end (keys ++ v.text ∷ []) after ts es closing behind rest → MappingIn end keys cs rs (entry v t es) closing behind rest
+pub data MappingIn (bytes : List ℕ) : List (List ℕ) → ℕ → Entries → Cell → Type 0 where
+  closes : {at : ℕ} {closing : Cell} {cs : List Cell} (keys : List (List ℕ)) → next_on bytes at ≡ at_part closing cs → closing.byte ≡ 125 → MappingIn bytes keys at no_entries closing
+  last : {at after : ℕ} {closing : Cell} {cs : List Cell} {keys : List (List ℕ)} {v : Value} {t : Tree} → FlowEntry bytes keys at v t after
+      → next_on bytes after ≡ at_part closing cs → closing.byte ≡ 125 → MappingIn bytes keys at (entry v t no_entries) closing
+  more : {at after : ℕ} {comma closing : Cell} {cs : List Cell} {keys : List (List ℕ)} {v : Value} {t : Tree} {es : Entries} → FlowEntry bytes keys at v t after
+      → next_on bytes after ≡ at_part comma cs → comma.byte ≡ 44 → MappingIn bytes (keys ++ v.text ∷ []) (suc comma.at) es closing → MappingIn bytes keys at (entry v t es) closing
 
-pub data MappingBreaks (end : ℕ) : List (List ℕ) → List Cell → List Row → Fault → Type 0 where
-  no_part : {cs : List Cell} {rs : List Row} {f : Fault} (keys : List (List ℕ)) → next_part end false cs rs ≡ broken f → MappingBreaks end keys cs rs f
-  key : {cs more : List Cell} {rs ss : List Row} {c : Cell} {f : Fault} (keys : List (List ℕ)) → next_part end false cs rs ≡ at_part c more ss → c.byte ≢ 125 → FlowKeyBreaks end c more ss f
-      → MappingBreaks end keys cs rs f
-  twice : {cs more behind : List Cell} {rs ss : List Row} {c colon : Cell} {k : Key} {keys : List (List ℕ)} (v : Value) → next_part end false cs rs ≡ at_part c more ss → FlowKey c more k colon behind → IsKey c more k v
-      → Contains keys v.text → MappingBreaks end keys cs rs (fault DoubleKey v.span)
-  value : {cs more behind : List Cell} {rs ss : List Row} {c colon : Cell} {k : Key} {f : Fault} {keys : List (List ℕ)} (v : Value) → next_part end false cs rs ≡ at_part c more ss → FlowKey c more k colon behind → IsKey c more k v
-      → (Contains keys v.text → ⊥) → FlowValueBreaks end behind ss f → MappingBreaks end keys cs rs f
-  no_sign : {cs left : List Cell} {rs ss : List Row} {v : Value} {t : Tree} {f : Fault} {keys : List (List ℕ)} → FlowEntry end keys cs rs v t left ss → next_part end false left ss ≡ broken f → MappingBreaks end keys cs rs f
-  sign : {cs left after : List Cell} {rs ss ts : List Row} {wrong : Cell} {v : Value} {t : Tree} {keys : List (List ℕ)} → FlowEntry end keys cs rs v t left ss → next_part end false left ss ≡ at_part wrong after ts
-      → wrong.byte ≢ 44 → wrong.byte ≢ 125 → MappingBreaks end keys cs rs (sign_fault wrong)
-  later : {cs left after : List Cell} {rs ss ts : List Row} {comma : Cell} {v : Value} {t : Tree} {f : Fault} {keys : List (List ℕ)} → FlowEntry end keys cs rs v t left ss → next_part end false left ss ≡ at_part comma after ts
-      → comma.byte ≡ 44 → MappingBreaks end (keys ++ v.text ∷ []) after ts f → MappingBreaks end keys cs rs f
+pub data MappingBreaks (bytes : List ℕ) : List (List ℕ) → ℕ → Fault → Type 0 where
+  no_part : {at : ℕ} {f : Fault} (keys : List (List ℕ)) → next_on bytes at ≡ broken f → MappingBreaks bytes keys at f
+  key : {at : ℕ} {c : Cell} {cs : List Cell} {f : Fault} (keys : List (List ℕ)) → next_on bytes at ≡ at_part c cs → c.byte ≢ 125 → FlowKeyBreaks bytes c cs f → MappingBreaks bytes keys at f
+  twice : {at : ℕ} {c colon : Cell} {cs : List Cell} {k : Key} {keys : List (List ℕ)} (v : Value) → next_on bytes at ≡ at_part c cs → FlowKey c cs k colon → IsKey c cs k v
+      → Contains keys v.text → MappingBreaks bytes keys at (fault DoubleKey v.span)
+  value : {at : ℕ} {c colon : Cell} {cs : List Cell} {k : Key} {f : Fault} {keys : List (List ℕ)} (v : Value) → next_on bytes at ≡ at_part c cs → FlowKey c cs k colon → IsKey c cs k v
+      → (Contains keys v.text → ⊥) → FlowValueBreaks bytes colon f → MappingBreaks bytes keys at f
+  no_sign : {at after : ℕ} {v : Value} {t : Tree} {f : Fault} {keys : List (List ℕ)} → FlowEntry bytes keys at v t after → next_on bytes after ≡ broken f → MappingBreaks bytes keys at f
+  sign : {at after : ℕ} {wrong : Cell} {cs : List Cell} {v : Value} {t : Tree} {keys : List (List ℕ)} → FlowEntry bytes keys at v t after → next_on bytes after ≡ at_part wrong cs
+      → wrong.byte ≢ 44 → wrong.byte ≢ 125 → MappingBreaks bytes keys at (sign_fault wrong)
+  later : {at after : ℕ} {comma : Cell} {cs : List Cell} {v : Value} {t : Tree} {f : Fault} {keys : List (List ℕ)} → FlowEntry bytes keys at v t after → next_on bytes after ≡ at_part comma cs
+      → comma.byte ≡ 44 → MappingBreaks bytes (keys ++ v.text ∷ []) (suc comma.at) f → MappingBreaks bytes keys at f

@@ -27,14 +27,14 @@ pub data Key : Type 0 where
   Bare : List Cell → Key
   Between : Quotes → Key
 
--- A scalar between quotes that closes on its line: as it stands alone, the line cut right behind the quote that closes.
+-- A scalar between quotes that closes in some cells, those of its line or of the file: as it stands alone, these cells cut right behind the quote that closes.
 abbrev pub up_to : {kind : Quotes} {cs : List Cell} → Closes kind cs → List Cell
 up_to between = flat_map raw between.raws ++ between.closing ∷ []
 
 abbrev pub IsBetween : (kind : Quotes) → Cell → (cs : List Cell) → Closes kind cs → Value → Type 0
 IsBetween kind c cs between v = IsQuoted kind (between.closing.at + 1) c (up_to between) v
 
--- what breaks it: an escape that isn't one
+-- what breaks it: an escape that isn't one, or over several lines a mark
 abbrev pub BetweenBreaks : Quotes → Cell → List Cell → Fault → Type 0
 BetweenBreaks kind c cs f = (between : Closes kind cs) × BreaksQuoted kind (between.closing.at + 1) c (up_to between) f
 

@@ -6,7 +6,7 @@ use Rattle.lf_scalar.specs.Lines.{is_tail}
 use Rattle.lf_scalar.specs.Scalars.{IsOfStyle, source_at}
 use Rattle.lf_yaml.specs.Rows.{Row, indent, rows_from, left_of, tab_in}
 use Rattle.lf_yaml.specs.Heads.{is_item, Key, IsKey, BeginsEntry, BeginsNoBlock, style_of, begins_scalar}
-use Rattle.lf_yaml.specs.Flow.{SequenceIn, MappingIn}
+use Rattle.lf_yaml.specs.Flow.{line_on, SequenceIn, MappingIn}
 use Rattle.lf_yaml.specs.Tree.{Tree, leaf, sequence, mapping, Items, no_items, item, Entries, no_entries, entry}
 use Rattle.lf_yaml.specs.Spans.{items_end, entries_end, empty_at}
 
@@ -16,14 +16,14 @@ use Rattle.lf_yaml.specs.Spans.{items_end, entries_end, empty_at}
 abbrev pub IsScalarOn : List ℕ → ℕ → Row → Value → Type 0
 IsScalarOn bytes above r v = IsOfStyle (style_of r.first) above (length bytes) (source_at bytes r.first.at) v
 
--- `ValueAt bytes above d r rs t rest`: on the row r, behind which the rows rs stand, t is a scalar or a flow collection, and leaves the rows `rest`. The rows that a
--- scalar leaves are those that begin behind its span. Behind a closing bracket only blanks and a comment stand on its line.
+-- `ValueAt bytes above d r rs t rest`: on the row r, behind which the rows rs stand, t is a scalar or a flow collection, and leaves the rows `rest`: those that begin
+-- behind its span. Behind a closing bracket only blanks and a comment stand on its line.
 pub data ValueAt (bytes : List ℕ) (above : ℕ) : ℕ → Row → List Row → Tree → List Row → Type 0 where
   scalar : {d : ℕ} {r : Row} {v : Value} (rs : List Row) → begins_scalar r ≡ true → IsScalarOn bytes above r v → ValueAt bytes above d r rs (leaf v) (rows_from v.span.end rs)
-  flow_sequence : {d : ℕ} {r : Row} {rs rest : List Row} {is : Items} {closing : Cell} {behind : List Cell} → r.first.byte ≡ 91 → SequenceIn (length bytes) r.rest rs is closing behind rest → is_tail false behind ≡ true
-      → ValueAt bytes above (suc d) r rs (sequence is (span r.first.at (suc closing.at))) rest
-  flow_mapping : {d : ℕ} {r : Row} {rs rest : List Row} {es : Entries} {closing : Cell} {behind : List Cell} → r.first.byte ≡ 123 → MappingIn (length bytes) [] r.rest rs es closing behind rest → is_tail false behind ≡ true
-      → ValueAt bytes above (suc d) r rs (mapping es (span r.first.at (suc closing.at))) rest
+  flow_sequence : {d : ℕ} {r : Row} {is : Items} {closing : Cell} (rs : List Row) → r.first.byte ≡ 91 → SequenceIn bytes (suc r.first.at) is closing → is_tail false (line_on bytes (suc closing.at)).text ≡ true
+      → ValueAt bytes above (suc d) r rs (sequence is (span r.first.at (suc closing.at))) (rows_from (suc closing.at) rs)
+  flow_mapping : {d : ℕ} {r : Row} {es : Entries} {closing : Cell} (rs : List Row) → r.first.byte ≡ 123 → MappingIn bytes [] (suc r.first.at) es closing → is_tail false (line_on bytes (suc closing.at)).text ≡ true
+      → ValueAt bytes above (suc d) r rs (mapping es (span r.first.at (suc closing.at))) (rows_from (suc closing.at) rs)
 
 -- no row is left whose indent is above m
 abbrev pub NoneBelow : ℕ → List Row → Type 0

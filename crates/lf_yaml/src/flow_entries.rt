@@ -1,15 +1,14 @@
 //! Flow mappings.
-ghost use Rattle.std.specs.Prelude.{false, ◌≡◌, ℕ, suc, ◌+◌, ◌<◌, ◌≤◌, ◌^◌, List, [], ◌∷◌, ◌++◌, length, get_or, IfOk};
+ghost use Rattle.std.specs.Prelude.{◌≡◌, ℕ, suc, ◌<◌, ◌≤◌, ◌^◌, List, [], ◌∷◌, ◌++◌, length, get_or, IfOk};
 ghost use Rattle.std.specs.Str.{IsUtf8};
 ghost use Rattle.lf_base.specs.Answers.{AnswersAs};
 ghost use Rattle.lf_scalar.specs.views.Built.{shown as scalar_shown};
 ghost use Rattle.lf_yaml.specs.Tree.{leaf, pair};
-ghost use Rattle.lf_yaml.specs.Flow.{next_part as next_part_of};
-ghost use Rattle.lf_yaml.specs.reading.Trees.{Later, flow_key as flow_key_of, mapping_sign, key_behind, mapping_in, turns};
-ghost use Rattle.lf_yaml.specs.views.Cursor.{rows_after};
+ghost use Rattle.lf_yaml.specs.Flow.{next_on};
+ghost use Rattle.lf_yaml.specs.reading.Trees.{Later, flow_key as flow_key_of, mapping_sign, key_behind, mapping_in};
 ghost use Rattle.lf_yaml.specs.views.KeySets.{HasKeys};
-ghost use Rattle.lf_yaml.specs.views.Places.{IsPartIn, IsPlaceIn, left_at, rows_at, signed};
-ghost use Rattle.lf_yaml.specs.reading.FlowTurns.{IsTurnIn, IsTurnBehind, HasTurned, TurnsEntries, new_key as new_key_of, entry_at, left_behind, closed_entries};
+ghost use Rattle.lf_yaml.specs.views.Places.{IsPartIn, IsPlaceIn, signed};
+ghost use Rattle.lf_yaml.specs.reading.FlowTurns.{IsTurnIn, HasTurned, TurnsEntries, new_key as new_key_of, entry_at, left_behind, closed_entries};
 ghost use Rattle.lf_yaml.specs.views.Shown.{shown};
 
 use crate::flow_items::scalar_node;
@@ -47,7 +46,7 @@ fn new_key(
     requires utf8 { IsUtf8 bytes.now }
     requires room { length bytes.now ≤ 2 ^ 31 }
     requires part { IsPartIn bytes.now part next }
-    ensures gives { (before : List (List ℕ)) → HasKeys keys.old before → AnswersAs (signed part.entry) result (new_key_of (length bytes.now) before (shown part.entry).first (shown part.entry).rest (rows_after bytes.now next)) }
+    ensures gives { (before : List (List ℕ)) → HasKeys keys.old before → AnswersAs (signed part.entry) result (new_key_of bytes.now before (shown part.entry).first (shown part.entry).rest) }
     ensures keys { (before : List (List ℕ)) → HasKeys keys.old before → IfOk result (λ x. HasKeys keys.new (before ++ x.0.text ∷ [])) }
     ensures within { IfOk result (λ x. x.1 < length part.entry.text.now) }
     ensures sign { IfOk result (λ x. get_or part.entry.text.now x.1 0 ≡ 58) }
@@ -80,11 +79,10 @@ fn entry_from<'a>(
     requires utf8 { IsUtf8 bytes.now }
     requires room { length bytes.now ≤ 2 ^ 31 }
     requires part { IsPartIn bytes.now part next }
-    ensures gives { (before : List (List ℕ)) → HasKeys keys.old before → AnswersAs (left_behind bytes.entry.now) result (entry_at (length bytes.entry.now) before (shown part.entry).first (shown part.entry).rest (rows_after bytes.entry.now next)) }
+    ensures gives { (before : List (List ℕ)) → HasKeys keys.old before → AnswersAs left_behind result (entry_at bytes.entry.now before (shown part.entry).first (shown part.entry).rest) }
     ensures keys { (before : List (List ℕ)) → HasKeys keys.old before → IfOk result (λ x. HasKeys keys.new (before ++ (pair x.0).0.text ∷ [])) }
     ensures place { IfOk result (λ x. IsPlaceIn bytes.entry.now x.1) }
-    ensures further { IfOk result (λ x. next ≤ x.1.next) }
-    ensures stays { IfOk result (λ x. turns (left_at x.1) (rows_at bytes.entry.now x.1) ≤ turns (shown part.entry).rest (rows_after bytes.entry.now next)) }
+    ensures further { IfOk result (λ x. part.entry.at ≤ x.1.at) }
 {
     match new_key(alloc, bytes, keys, part, next) {
         Ok((key, colon)) => {
@@ -107,10 +105,9 @@ fn entry_sign<'a>(
     requires utf8 { IsUtf8 bytes.now }
     requires room { length bytes.now ≤ 2 ^ 31 }
     requires place { IsPlaceIn bytes.now place }
-    ensures gives { (later : Later) (before : List (List ℕ)) → TurnsEntries bytes.entry.now later before result
-        (mapping_sign (λ cs rs. later (before ++ (pair found).0.text ∷ []) cs rs) (pair found).0 (pair found).1 (next_part_of (length bytes.entry.now) false (left_at place.entry) (rows_at bytes.entry.now place.entry))) }
-    ensures turn { IfOk result (λ t. IsTurnIn bytes.entry.now (turns (left_at place.entry) (rows_at bytes.entry.now place.entry)) t) }
-    ensures further { IfOk result (λ t. IsTurnBehind place.entry.next t) }
+    ensures gives { (later : Later) (before : List (List ℕ)) → TurnsEntries later before result
+        (mapping_sign (λ at. later (before ++ (pair found).0.text ∷ []) at) (pair found).0 (pair found).1 (next_on bytes.entry.now place.entry.at)) }
+    ensures turn { IfOk result (λ t. IsTurnIn bytes.entry.now place.entry.at t) }
     ensures found { (set : KeySet) (before : List (List ℕ)) → HasKeys set (before ++ (pair found).0.text ∷ []) → IfOk result (λ t. HasTurned set before t) }
 {
     match next_part(bytes, place) {
@@ -141,11 +138,10 @@ fn entry_on<'a>(
     requires utf8 { IsUtf8 bytes.now }
     requires room { length bytes.now ≤ 2 ^ 31 }
     requires part { IsPartIn bytes.now part next }
-    ensures gives { (later : Later) (before : List (List ℕ)) → HasKeys keys.old before → TurnsEntries bytes.entry.now later before result
-        (key_behind (length bytes.entry.now) later before (rows_after bytes.entry.now next) (flow_key_of (length bytes.entry.now) (shown part.entry).first (shown part.entry).rest (rows_after bytes.entry.now next))) }
+    ensures gives { (later : Later) (before : List (List ℕ)) → HasKeys keys.old before → TurnsEntries later before result
+        (key_behind bytes.entry.now later before (flow_key_of bytes.entry.now (shown part.entry).first (shown part.entry).rest)) }
     ensures keys { (before : List (List ℕ)) → HasKeys keys.old before → IfOk result (λ t. HasTurned keys.new before t) }
-    ensures turn { IfOk result (λ t. IsTurnIn bytes.entry.now (turns (shown part.entry).rest (rows_after bytes.entry.now next)) t) }
-    ensures further { IfOk result (λ t. IsTurnBehind next t) }
+    ensures turn { IfOk result (λ t. IsTurnIn bytes.entry.now part.entry.at t) }
 {
     match entry_from(alloc, bytes, keys, part, next) {
         Ok((found, place)) => entry_sign(bytes, found, place),
@@ -164,11 +160,9 @@ fn entry_turn<'a>(
     requires utf8 { IsUtf8 bytes.now }
     requires room { length bytes.now ≤ 2 ^ 31 }
     requires place { IsPlaceIn bytes.now place }
-    ensures gives { (m : ℕ) (before : List (List ℕ)) → HasKeys keys.old before → TurnsEntries bytes.entry.now (λ ks cs rs. mapping_in (length bytes.entry.now) m ks cs rs) before result
-        (mapping_in (length bytes.entry.now) (suc m) before (left_at place.entry) (rows_at bytes.entry.now place.entry)) }
+    ensures gives { (m : ℕ) (before : List (List ℕ)) → HasKeys keys.old before → TurnsEntries (λ ks at. mapping_in bytes.entry.now m ks at) before result (mapping_in bytes.entry.now (suc m) before place.entry.at) }
     ensures keys { (before : List (List ℕ)) → HasKeys keys.old before → IfOk result (λ t. HasTurned keys.new before t) }
-    ensures turn { IfOk result (λ t. IsTurnIn bytes.entry.now (turns (left_at place.entry) (rows_at bytes.entry.now place.entry)) t) }
-    ensures further { IfOk result (λ t. IsTurnBehind place.entry.next t) }
+    ensures turn { IfOk result (λ t. IsTurnIn bytes.entry.now place.entry.at t) }
 {
     match next_part(bytes, place) {
         Ok((part, next)) => {
@@ -193,10 +187,8 @@ pub fn flow_entries<'a>(
     requires utf8 { IsUtf8 bytes.now }
     requires room { length bytes.now ≤ 2 ^ 31 }
     requires place { IsPlaceIn bytes.now place }
-    ensures gives { AnswersAs (closed_entries bytes.entry.now) result
-        (mapping_in (length bytes.entry.now) (suc (turns (left_at place.entry) (rows_at bytes.entry.now place.entry))) [] (left_at place.entry) (rows_at bytes.entry.now place.entry)) }
+    ensures gives { AnswersAs (λ x. closed_entries (x.0, x.1)) result (mapping_in bytes.entry.now (suc (length bytes.entry.now)) [] place.entry.at) }
     ensures part { IfOk result (λ x. IsPartIn bytes.entry.now x.1 x.2) }
-    ensures further { IfOk result (λ x. place.entry.next ≤ x.2) }
 {
     let mut entries = Seq::new(alloc);
     let mut keys = KeySet::new(alloc);

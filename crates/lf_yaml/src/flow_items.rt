@@ -1,21 +1,18 @@
 //! Flow sequences.
-ghost use Rattle.std.specs.Prelude.{false, ◌≡◌, ℕ, suc, ◌+◌, ◌≤◌, ◌^◌, List, length, IfOk};
+ghost use Rattle.std.specs.Prelude.{◌≡◌, ℕ, suc, ◌≤◌, ◌^◌, length, IfOk};
 ghost use Rattle.std.specs.Str.{IsUtf8};
 ghost use Rattle.lf_base.specs.Answers.{AnswersAs};
-ghost use Rattle.lf_scalar.specs.Cells.{Cell};
 ghost use Rattle.lf_scalar.specs.views.Built.{shown as scalar_shown};
-ghost use Rattle.lf_yaml.specs.Rows.{Row as RowOf};
 ghost use Rattle.lf_yaml.specs.Tree.{leaf, tree, Items};
-ghost use Rattle.lf_yaml.specs.Flow.{next_part as next_part_of};
-ghost use Rattle.lf_yaml.specs.reading.Trees.{FlowRead, flow_scalar, sequence_sign, sequence_behind, sequence_in, turns};
-ghost use Rattle.lf_yaml.specs.views.Cursor.{rows_after};
-ghost use Rattle.lf_yaml.specs.views.Places.{IsPartIn, IsPlaceIn, left_at, rows_at};
-ghost use Rattle.lf_yaml.specs.reading.FlowTurns.{IsTurnIn, IsTurnBehind, TurnsItems, closed_items};
+ghost use Rattle.lf_yaml.specs.Flow.{next_on};
+ghost use Rattle.lf_yaml.specs.reading.Trees.{FlowRead, flow_scalar, sequence_sign, sequence_behind, sequence_in};
+ghost use Rattle.lf_yaml.specs.views.Places.{IsPartIn, IsPlaceIn};
+ghost use Rattle.lf_yaml.specs.reading.FlowTurns.{IsTurnIn, TurnsItems, closed_items};
 ghost use Rattle.lf_yaml.specs.views.Shown.{shown};
 
 use crate::flow_scalar::sign_fault;
-use crate::flow_value::scalar_from;
 use crate::node::Node;
+use crate::part_scalar::read_part;
 use crate::parts::{behind, next_part};
 use crate::place::Place;
 use crate::row::Row;
@@ -36,10 +33,8 @@ fn item_sign<'a>(bytes: &'a [u8], item: Scalar, place: Place<'a>) -> Result<Turn
     requires utf8 { IsUtf8 bytes.now }
     requires room { length bytes.now ≤ 2 ^ 31 }
     requires place { IsPlaceIn bytes.now place }
-    ensures gives { (later : List Cell → List RowOf → FlowRead Items) → TurnsItems bytes.entry.now later result
-        (sequence_sign later (scalar_shown item) (next_part_of (length bytes.entry.now) false (left_at place.entry) (rows_at bytes.entry.now place.entry))) }
-    ensures turn { IfOk result (λ t. IsTurnIn bytes.entry.now (turns (left_at place.entry) (rows_at bytes.entry.now place.entry)) t) }
-    ensures further { IfOk result (λ t. IsTurnBehind place.entry.next t) }
+    ensures gives { (later : ℕ → FlowRead Items) → TurnsItems later result (sequence_sign later (scalar_shown item) (next_on bytes.entry.now place.entry.at)) }
+    ensures turn { IfOk result (λ t. IsTurnIn bytes.entry.now place.entry.at t) }
 {
     match next_part(bytes, place) {
         Ok((part, next)) => match part.text[0] {
@@ -68,12 +63,10 @@ fn item_on<'a>(
     requires utf8 { IsUtf8 bytes.now }
     requires room { length bytes.now ≤ 2 ^ 31 }
     requires part { IsPartIn bytes.now part next }
-    ensures gives { (later : List Cell → List RowOf → FlowRead Items) → TurnsItems bytes.entry.now later result
-        (sequence_behind (length bytes.entry.now) later (rows_after bytes.entry.now next) (flow_scalar (shown part.entry).first (shown part.entry).rest)) }
-    ensures turn { IfOk result (λ t. IsTurnIn bytes.entry.now (turns (shown part.entry).rest (rows_after bytes.entry.now next) + 1) t) }
-    ensures further { IfOk result (λ t. IsTurnBehind next t) }
+    ensures gives { (later : ℕ → FlowRead Items) → TurnsItems later result (sequence_behind bytes.entry.now later (flow_scalar bytes.entry.now (shown part.entry).first (shown part.entry).rest)) }
+    ensures turn { IfOk result (λ t. IsTurnIn bytes.entry.now part.entry.at t) }
 {
-    match scalar_from(alloc, bytes, part, next) {
+    match read_part(alloc, bytes, part, next) {
         Ok((scalar, place)) => item_sign(bytes, scalar, place),
         Err(refusal) => Err(refusal),
     }
@@ -89,10 +82,8 @@ fn item_turn<'a>(
     requires utf8 { IsUtf8 bytes.now }
     requires room { length bytes.now ≤ 2 ^ 31 }
     requires place { IsPlaceIn bytes.now place }
-    ensures gives { (m : ℕ) → TurnsItems bytes.entry.now (λ cs rs. sequence_in (length bytes.entry.now) m cs rs) result
-        (sequence_in (length bytes.entry.now) (suc m) (left_at place.entry) (rows_at bytes.entry.now place.entry)) }
-    ensures turn { IfOk result (λ t. IsTurnIn bytes.entry.now (turns (left_at place.entry) (rows_at bytes.entry.now place.entry)) t) }
-    ensures further { IfOk result (λ t. IsTurnBehind place.entry.next t) }
+    ensures gives { (m : ℕ) → TurnsItems (λ at. sequence_in bytes.entry.now m at) result (sequence_in bytes.entry.now (suc m) place.entry.at) }
+    ensures turn { IfOk result (λ t. IsTurnIn bytes.entry.now place.entry.at t) }
 {
     match next_part(bytes, place) {
         Ok((part, next)) => {
@@ -117,10 +108,8 @@ pub fn flow_items<'a>(
     requires utf8 { IsUtf8 bytes.now }
     requires room { length bytes.now ≤ 2 ^ 31 }
     requires place { IsPlaceIn bytes.now place }
-    ensures gives { AnswersAs (closed_items bytes.entry.now) result
-        (sequence_in (length bytes.entry.now) (suc (turns (left_at place.entry) (rows_at bytes.entry.now place.entry))) (left_at place.entry) (rows_at bytes.entry.now place.entry)) }
+    ensures gives { AnswersAs (λ x. closed_items (x.0, x.1)) result (sequence_in bytes.entry.now (suc (length bytes.entry.now)) place.entry.at) }
     ensures part { IfOk result (λ x. IsPartIn bytes.entry.now x.1 x.2) }
-    ensures further { IfOk result (λ x. place.entry.next ≤ x.2) }
 {
     let mut items = Seq::new(alloc);
     let mut at = place;

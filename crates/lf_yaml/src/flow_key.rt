@@ -1,25 +1,26 @@
 //! Keys of flow mappings.
-ghost use Rattle.std.specs.Prelude.{false, ◌≡◌, eqb, ℕ, suc, ◌+◌, ◌<◌, ◌≤◌, ◌^◌, length, get_or, take, drop, Ok, IfOk, Some, None};
-ghost use Rattle.std.specs.Str.{IsUtf8};
+ghost use Rattle.std.specs.Prelude.{◌≡◌, eqb, ℕ, suc, ◌+◌, ◌<◌, ◌≤◌, ◌^◌, length, get_or, take, drop, Ok, IfOk, Some, None};
+ghost use Rattle.std.specs.Str.{IsCharBoundary, IsUtf8};
 ghost use Rattle.lf_base.specs.Answers.{AnswersAs};
 ghost use Rattle.lf_scalar.specs.Cells.{cell, cells, Fails};
 ghost use Rattle.lf_scalar.specs.Lines.{is_blank};
 ghost use Rattle.lf_scalar.specs.Folding.{trimmed as trimmed_of};
 ghost use Rattle.lf_scalar.specs.views.Built.{shown as scalar_shown};
 ghost use Rattle.lf_scalar.specs.Quoted.{quote_of as quote_byte};
-ghost use Rattle.lf_yaml.specs.Flow.{next_part as next_part_of};
-ghost use Rattle.lf_yaml.specs.reading.Trees.{no_sign as no_sign_of, flow_key as flow_key_of, flow_key_by, bare_key as bare_key_of};
-ghost use Rattle.lf_yaml.specs.views.Cursor.{rows_after};
-ghost use Rattle.lf_yaml.specs.views.Places.{IsPartIn, IsPlaceIn, left_at, rows_at, signed};
+ghost use Rattle.lf_yaml.specs.Flow.{next_on};
+ghost use Rattle.lf_yaml.specs.reading.Trees.{quoted_part, behind_closing, no_sign as no_sign_of, flow_key as flow_key_of, flow_key_by, bare_key as bare_key_of};
+ghost use Rattle.lf_yaml.specs.views.Parts.{IsTextOf};
+ghost use Rattle.lf_scalar.specs.reading.Quoted.{closing_of};
+ghost use Rattle.lf_yaml.specs.views.Places.{IsPartIn, IsPlaceIn, signed};
 ghost use Rattle.lf_yaml.specs.views.Shown.{shown};
 
+use crate::between::quoted_scalar;
 use crate::entry::quote_of;
+use crate::flow_plain::text_left;
 use crate::flow_scalar::{begins_flow_bytes, part_fault, sign_fault};
-use crate::flow_text::flow_text_len;
-use crate::head::first_fault;
+use crate::head::{byte_fault, first_fault};
 use crate::keys::{find_sign, is_key_left_out};
-use crate::part_scalar::quoted_part;
-use crate::parts::{behind, next_part};
+use crate::parts::{behind, next_part, place_from};
 use crate::place::Place;
 use crate::plain::slice_scalar;
 use crate::row::Row;
@@ -27,7 +28,7 @@ use lf_base::bytes::before;
 use lf_base::{Kind, Refusal, Span};
 use lf_scalar::Scalar;
 use lf_scalar::lines::{blanks, past, trimmed_len};
-use lf_scalar::quotes::Quotes;
+use lf_scalar::quotes::{Quotes, find_closing};
 use std::alloc::Global;
 
 /// What is told where no `:` stands behind a key: what is broken before the next part, or this part.
@@ -35,7 +36,7 @@ fn no_sign(bytes: &[u8], place: Place<'_>) -> Refusal
     requires utf8 { IsUtf8 bytes.now }
     requires room { length bytes.now ≤ 2 ^ 31 }
     requires place { IsPlaceIn bytes.now place }
-    ensures { Fails result (no_sign_of (next_part_of (length bytes.now) false (left_at place.entry) (rows_at bytes.now place.entry))) }
+    ensures { Fails result (no_sign_of (next_on bytes.now place.entry.at)) }
 {
     match next_part(bytes, place) {
         Ok((part, _)) => sign_fault(part),
@@ -73,7 +74,7 @@ fn bare_key(
     requires utf8 { IsUtf8 bytes.now }
     requires room { length bytes.now ≤ 2 ^ 31 }
     requires part { IsPartIn bytes.now part next }
-    ensures gives { AnswersAs (signed part.entry) result (flow_key_by (length bytes.now) (shown part.entry).first (shown part.entry).rest (rows_after bytes.now next) None) }
+    ensures gives { AnswersAs (signed part.entry) result (flow_key_by bytes.now (shown part.entry).first (shown part.entry).rest None) }
     ensures within { IfOk result (λ x. x.1 < length part.entry.text.now) }
     ensures sign { IfOk result (λ x. get_or part.entry.text.now x.1 0 ≡ 58) }
 {
@@ -90,7 +91,35 @@ fn bare_key(
                 Err(refusal) => Err(refusal),
             }
         }
-        None => Err(no_sign(bytes, behind(part, flow_text_len(part.text), next))),
+        None => {
+            let after = text_left(bytes, part);
+            Err(no_sign(bytes, place_from(bytes, part, next, after)))
+        }
+    }
+}
+
+/// The scalar between quotes that a part begins and that closes on its line, and how many bytes of the part it takes.
+fn quoted_scalar_on(
+    alloc: Global,
+    bytes: &[u8],
+    part: Row<'_>,
+    quote: Quotes,
+) -> Result<(Scalar, usize), Refusal>
+    requires utf8 { IsUtf8 bytes.now }
+    requires room { length bytes.now ≤ 2 ^ 31 }
+    requires part { IsTextOf bytes.now part }
+    requires quote { get_or part.text.now 0 0 ≡ quote_byte quote }
+    ensures gives { AnswersAs (λ x. (scalar_shown x.0, part.entry.at + x.1)) result (quoted_part quote (shown part.entry).first (closing_of quote 0 (shown part.entry).rest)) }
+    ensures left { IfOk result (λ x. behind_closing (closing_of quote 0 (shown part.entry).rest) ≡ cells (part.entry.at + x.1) (drop x.1 part.entry.text.now)) }
+    ensures cut { IsUtf8 part.entry.text.now → IfOk result (λ x. IsCharBoundary part.entry.text.now x.1) }
+{
+    let inside = past(part.text, 1);
+    match find_closing(quote, inside, part.at + 1) {
+        None => Err(byte_fault(Kind::OpenQuote, part.at)),
+        Some(closing) => match quoted_scalar(alloc, bytes, part.at, inside, quote, closing) {
+            Ok(scalar) => Ok((scalar, closing + 2)),
+            Err(refusal) => Err(refusal),
+        },
     }
 }
 
@@ -106,11 +135,11 @@ fn quoted_key(
     requires room { length bytes.now ≤ 2 ^ 31 }
     requires part { IsPartIn bytes.now part next }
     requires quote { get_or part.text.now 0 0 ≡ quote_byte quote }
-    ensures gives { AnswersAs (signed part.entry) result (flow_key_by (length bytes.now) (shown part.entry).first (shown part.entry).rest (rows_after bytes.now next) (Some quote)) }
+    ensures gives { AnswersAs (signed part.entry) result (flow_key_by bytes.now (shown part.entry).first (shown part.entry).rest (Some quote)) }
     ensures within { IfOk result (λ x. x.1 < length part.entry.text.now) }
     ensures sign { IfOk result (λ x. get_or part.entry.text.now x.1 0 ≡ 58) }
 {
-    match quoted_part(alloc, bytes, part, quote) {
+    match quoted_scalar_on(alloc, bytes, part, quote) {
         Ok((scalar, len)) => {
             let place = len + blanks(past(part.text, len));
             if is_colon(part.text, place) {
@@ -141,7 +170,7 @@ pub fn flow_key(
     requires utf8 { IsUtf8 bytes.now }
     requires room { length bytes.now ≤ 2 ^ 31 }
     requires part { IsPartIn bytes.now part next }
-    ensures gives { AnswersAs (signed part.entry) result (flow_key_of (length bytes.now) (shown part.entry).first (shown part.entry).rest (rows_after bytes.now next)) }
+    ensures gives { AnswersAs (signed part.entry) result (flow_key_of bytes.now (shown part.entry).first (shown part.entry).rest) }
     ensures within { IfOk result (λ x. x.1 < length part.entry.text.now) }
     ensures sign { IfOk result (λ x. get_or part.entry.text.now x.1 0 ≡ 58) }
 {

@@ -7,17 +7,17 @@ ghost use Rattle.lf_scalar.specs.Cells.{Cell, character_fault as fault_at_of};
 ghost use Rattle.lf_scalar.specs.reading.Quoted.{wrong_behind as wrong_behind_of};
 ghost use Rattle.lf_scalar.specs.views.Built.{refused};
 ghost use Rattle.lf_yaml.specs.Tree.{tree, pair, sequence, mapping, items_of, entries_of};
-ghost use Rattle.lf_yaml.specs.reading.Trees.{sequence_in, mapping_in, closed_list, closed_map, flow_list as flow_list_of, flow_map as flow_map_of, turns};
-ghost use Rattle.lf_yaml.specs.views.Cursor.{rows_after};
-ghost use Rattle.lf_yaml.specs.views.Places.{IsPartIn};
+ghost use Rattle.lf_yaml.specs.reading.Trees.{sequence_in, mapping_in, closed_list, closed_map, flow_list as flow_list_of, flow_map as flow_map_of};
+ghost use Rattle.lf_yaml.specs.views.Cursor.{rows_after, IsRowOf};
 ghost use Rattle.lf_yaml.specs.views.Shown.{shown};
 
 use crate::flow_entries::flow_entries;
 use crate::flow_items::flow_items;
 use crate::head::first_fault;
 use crate::node::{Entry, Node};
-use crate::parts::behind;
+use crate::parts::place_on;
 use crate::row::Row;
+use crate::rows::lines_from;
 use lf_base::{Kind, Refusal, Seq, Span};
 use lf_scalar::lines::{fault_at, past, wrong_behind};
 use std::alloc::Global;
@@ -66,16 +66,20 @@ fn closed_sequence(
 ) -> Result<(Node, usize), Refusal>
     requires utf8 { IsUtf8 bytes.now }
     requires room { length bytes.now ≤ 2 ^ 31 }
-    requires row { IsPartIn bytes.now row next }
+    requires row { IsRowOf bytes.now row }
+    requires start { IsCharBoundary bytes.now next }
     requires bracket { get_or row.text.now 0 0 ≡ 91 }
-    ensures gives { AnswersAs (λ x. (tree x.0, rows_after bytes.now x.1)) result (closed_list (shown row.entry) (sequence_in (length bytes.now) (suc (turns (shown row.entry).rest (rows_after bytes.now next))) (shown row.entry).rest (rows_after bytes.now next))) }
+    ensures gives { AnswersAs (λ x. (tree x.0, rows_after bytes.now x.1)) result (closed_list bytes.now (shown row.entry) (rows_after bytes.now next) (sequence_in bytes.now (suc (length bytes.now)) (suc row.entry.at))) }
     ensures start { IfOk result (λ x. IsCharBoundary bytes.now x.1) }
     ensures further { IfOk result (λ x. next ≤ x.1) }
 {
-    match flow_items(alloc, bytes, behind(row, 1, next)) {
-        Ok((items, closing, next)) => match wrong_after(closing) {
+    match flow_items(alloc, bytes, place_on(bytes, row.at + 1)) {
+        Ok((items, closing, _)) => match wrong_after(closing) {
             Some(refusal) => Err(refusal),
-            None => Ok((list_node(items, closed_span(row, closing)), next)),
+            None => {
+                let left = lines_from(bytes, next, closing.at as usize + 1);
+                Ok((list_node(items, closed_span(row, closing)), left))
+            }
         },
         Err(refusal) => Err(refusal),
     }
@@ -90,16 +94,20 @@ fn closed_mapping(
 ) -> Result<(Node, usize), Refusal>
     requires utf8 { IsUtf8 bytes.now }
     requires room { length bytes.now ≤ 2 ^ 31 }
-    requires row { IsPartIn bytes.now row next }
+    requires row { IsRowOf bytes.now row }
+    requires start { IsCharBoundary bytes.now next }
     requires bracket { get_or row.text.now 0 0 ≡ 123 }
-    ensures gives { AnswersAs (λ x. (tree x.0, rows_after bytes.now x.1)) result (closed_map (shown row.entry) (mapping_in (length bytes.now) (suc (turns (shown row.entry).rest (rows_after bytes.now next))) [] (shown row.entry).rest (rows_after bytes.now next))) }
+    ensures gives { AnswersAs (λ x. (tree x.0, rows_after bytes.now x.1)) result (closed_map bytes.now (shown row.entry) (rows_after bytes.now next) (mapping_in bytes.now (suc (length bytes.now)) [] (suc row.entry.at))) }
     ensures start { IfOk result (λ x. IsCharBoundary bytes.now x.1) }
     ensures further { IfOk result (λ x. next ≤ x.1) }
 {
-    match flow_entries(alloc, bytes, behind(row, 1, next)) {
-        Ok((entries, closing, next)) => match wrong_after(closing) {
+    match flow_entries(alloc, bytes, place_on(bytes, row.at + 1)) {
+        Ok((entries, closing, _)) => match wrong_after(closing) {
             Some(refusal) => Err(refusal),
-            None => Ok((map_node(entries, closed_span(row, closing)), next)),
+            None => {
+                let left = lines_from(bytes, next, closing.at as usize + 1);
+                Ok((map_node(entries, closed_span(row, closing)), left))
+            }
         },
         Err(refusal) => Err(refusal),
     }
@@ -115,9 +123,10 @@ pub fn flow_list(
 ) -> Result<(Node, usize), Refusal>
     requires utf8 { IsUtf8 bytes.now }
     requires room { length bytes.now ≤ 2 ^ 31 }
-    requires row { IsPartIn bytes.now row next }
+    requires row { IsRowOf bytes.now row }
+    requires start { IsCharBoundary bytes.now next }
     requires bracket { get_or row.text.now 0 0 ≡ 91 }
-    ensures gives { AnswersAs (λ x. (tree x.0, rows_after bytes.now x.1)) result (flow_list_of (length bytes.now) depth (shown row.entry) (rows_after bytes.now next)) }
+    ensures gives { AnswersAs (λ x. (tree x.0, rows_after bytes.now x.1)) result (flow_list_of bytes.now depth (shown row.entry) (rows_after bytes.now next)) }
     ensures start { IfOk result (λ x. IsCharBoundary bytes.now x.1) }
     ensures further { IfOk result (λ x. next ≤ x.1) }
 {
@@ -137,9 +146,10 @@ pub fn flow_map(
 ) -> Result<(Node, usize), Refusal>
     requires utf8 { IsUtf8 bytes.now }
     requires room { length bytes.now ≤ 2 ^ 31 }
-    requires row { IsPartIn bytes.now row next }
+    requires row { IsRowOf bytes.now row }
+    requires start { IsCharBoundary bytes.now next }
     requires bracket { get_or row.text.now 0 0 ≡ 123 }
-    ensures gives { AnswersAs (λ x. (tree x.0, rows_after bytes.now x.1)) result (flow_map_of (length bytes.now) depth (shown row.entry) (rows_after bytes.now next)) }
+    ensures gives { AnswersAs (λ x. (tree x.0, rows_after bytes.now x.1)) result (flow_map_of bytes.now depth (shown row.entry) (rows_after bytes.now next)) }
     ensures start { IfOk result (λ x. IsCharBoundary bytes.now x.1) }
     ensures further { IfOk result (λ x. next ≤ x.1) }
 {

@@ -2,7 +2,7 @@
 ghost use Rattle.std.specs.Prelude.{not, ◌≡◌, ℕ, ◌+◌, ◌<◌, ◌≤◌, length, get_or, take, drop, take_while, IfSome, option_map};
 ghost use Rattle.lf_scalar.specs.Cells.{cell, cells};
 ghost use Rattle.lf_scalar.specs.Plain.{before_comment};
-ghost use Rattle.lf_yaml.specs.Flow.{is_flow_sign as is_flow_sign_of, flow_text, later_colon};
+ghost use Rattle.lf_yaml.specs.Flow.{is_flow_sign as is_flow_sign_of, flow_text, colon_in};
 
 use crate::keys::is_flow_sign;
 use lf_base::bytes::before;
@@ -47,13 +47,13 @@ pub fn flow_text_len(text: &[u8]) -> usize
     trimmed_len(part)
 }
 
-/// The place of the first `:` behind the first byte of a text's first `len` bytes that stands before a blank or the line's end.
+/// The place of the first `:` among a text's first `len` bytes that stands before a blank or the line's end.
 pub fn find_colon(text: &[u8], len: usize) -> Option<usize>
     requires within { len ≤ length text.now }
     ensures within { IfSome result (λ k. k < len) }
-    ensures value { (at : ℕ) → option_map (λ k. cell 58 (at + k)) result ≡ later_colon (cells at (take len text.now)) (cells (at + len) (drop len text.now)) }
+    ensures value { (at : ℕ) → option_map (λ k. cell 58 (at + k)) result ≡ colon_in (cells at (take len text.now)) (cells (at + len) (drop len text.now)) }
 {
-    let mut i = 1;
+    let mut i = 0;
     while i < len {
         if text[i] == b':' && is_apart(past(text, i + 1)) {
             return Some(i);

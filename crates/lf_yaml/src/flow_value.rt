@@ -1,44 +1,21 @@
-//! Scalars and values of flow collections, and the places behind them.
-ghost use Rattle.std.specs.Prelude.{◌≡◌, ◌||◌, eqb, ℕ, suc, ◌+◌, ◌<◌, ◌≤◌, ◌^◌, length, Ok, IfOk};
+//! Values of flow mappings, and the places behind them.
+ghost use Rattle.std.specs.Prelude.{◌≡◌, ◌||◌, eqb, suc, ◌<◌, ◌≤◌, ◌^◌, length, Ok, IfOk};
 ghost use Rattle.std.specs.Str.{IsUtf8};
 ghost use Rattle.lf_base.specs.Answers.{AnswersAs};
 ghost use Rattle.lf_scalar.specs.Cells.{cell};
 ghost use Rattle.lf_scalar.specs.views.Built.{shown as scalar_shown};
 ghost use Rattle.lf_yaml.specs.Tree.{leaf};
 ghost use Rattle.lf_yaml.specs.Spans.{empty_at};
-ghost use Rattle.lf_yaml.specs.reading.Trees.{flow_scalar, flow_value as flow_value_of, turns};
-ghost use Rattle.lf_yaml.specs.views.Places.{IsPartIn, IsPlaceIn, left_at, rows_at};
-ghost use Rattle.lf_yaml.specs.views.Shown.{shown};
+ghost use Rattle.lf_yaml.specs.reading.Trees.{flow_value as flow_value_of};
+ghost use Rattle.lf_yaml.specs.views.Places.{IsPlaceIn};
 
 use crate::part_scalar::read_part;
-use crate::parts::{behind, next_part};
+use crate::parts::next_part;
 use crate::place::Place;
 use crate::plain::slice_scalar;
-use crate::row::Row;
 use lf_base::{Refusal, Span};
 use lf_scalar::Scalar;
 use std::alloc::Global;
-
-/// The scalar that a part begins, and the place behind it. The lines behind the part's own begin at `next`.
-pub fn scalar_from<'a>(
-    alloc: Global,
-    bytes: &'a [u8],
-    part: Row<'a>,
-    next: usize,
-) -> Result<(Scalar, Place<'a>), Refusal>
-    requires utf8 { IsUtf8 bytes.now }
-    requires room { length bytes.now ≤ 2 ^ 31 }
-    requires part { IsPartIn bytes.now part next }
-    ensures gives { AnswersAs (λ x. (scalar_shown x.0, left_at x.1)) result (flow_scalar (shown part.entry).first (shown part.entry).rest) }
-    ensures place { IfOk result (λ x. IsPlaceIn bytes.entry.now x.1) }
-    ensures next { IfOk result (λ x. x.1.next ≡ next) }
-    ensures shorter { IfOk result (λ x. length (left_at x.1) ≤ length part.entry.text.now) }
-{
-    match read_part(alloc, bytes, part) {
-        Ok((scalar, len)) => Ok((scalar, behind(part, len, next))),
-        Err(refusal) => Err(refusal),
-    }
-}
 
 /// Whether a byte stands where a value is missing: a `,` or a `}`.
 fn ends_value(byte: u8) -> bool
@@ -67,10 +44,10 @@ pub fn flow_value<'a>(
     requires room { length bytes.now ≤ 2 ^ 31 }
     requires colon { colon < 2 ^ 31 }
     requires place { IsPlaceIn bytes.now place }
-    ensures gives { AnswersAs (λ x. (leaf (scalar_shown x.0), left_at x.1, rows_at bytes.entry.now x.1)) result (flow_value_of (length bytes.entry.now) (cell 58 colon) (left_at place.entry) (rows_at bytes.entry.now place.entry)) }
+    requires behind { place.at ≡ suc colon }
+    ensures gives { AnswersAs (λ x. (leaf (scalar_shown x.0), x.1.at)) result (flow_value_of bytes.entry.now (cell 58 colon)) }
     ensures place { IfOk result (λ x. IsPlaceIn bytes.entry.now x.1) }
-    ensures further { IfOk result (λ x. place.entry.next ≤ x.1.next) }
-    ensures stays { IfOk result (λ x. turns (left_at x.1) (rows_at bytes.entry.now x.1) ≤ turns (left_at place.entry) (rows_at bytes.entry.now place.entry)) }
+    ensures further { IfOk result (λ x. place.entry.at ≤ x.1.at) }
 {
     match next_part(bytes, place) {
         Ok((part, next)) => {
@@ -80,7 +57,7 @@ pub fn flow_value<'a>(
                     Err(refusal) => Err(refusal),
                 }
             } else {
-                scalar_from(alloc, bytes, part, next)
+                read_part(alloc, bytes, part, next)
             }
         }
         Err(refusal) => Err(refusal),

@@ -12,6 +12,7 @@ mod flow_entries;
 mod flow_items;
 mod flow_key;
 mod flow_nodes;
+mod flow_plain;
 mod flow_scalar;
 mod flow_text;
 mod flow_value;
@@ -31,6 +32,7 @@ mod row;
 mod row_value;
 mod rows;
 mod scalars;
+mod text_builder;
 mod turn;
 mod uniqueness;
 

@@ -1,16 +1,15 @@
 //! The parts of flow collections: where the next one begins.
-ghost use Rattle.std.specs.Prelude.{false, ◌≡◌, ℕ, List, ◌+◌, ◌<◌, ◌≤◌, ◌^◌, length, drop, IfOk};
+ghost use Rattle.std.specs.Prelude.{◌≡◌, ℕ, List, ◌+◌, ◌<◌, ◌≤◌, ◌^◌, length, drop, IfOk};
 ghost use Rattle.std.specs.Str.{IsCharBoundary, IsUtf8};
-ghost use Rattle.lf_scalar.specs.Cells.{cells};
-ghost use Rattle.lf_yaml.specs.Flow.{on_line as on_line_of, next_part as next_part_of};
+ghost use Rattle.lf_yaml.specs.Flow.{on_line as on_line_of, next_on};
 ghost use Rattle.lf_yaml.specs.views.Cursor.{rows_after};
 ghost use Rattle.lf_yaml.specs.views.Parts.{IsNext};
-ghost use Rattle.lf_yaml.specs.views.Places.{IsPartIn, IsPlaceIn, left_at, rows_at};
+ghost use Rattle.lf_yaml.specs.views.Places.{IsPartIn, IsPlaceIn};
 
 use crate::head::{first_fault, indent_fault, is_mark};
 use crate::place::Place;
 use crate::row::Row;
-use crate::rows::next_row;
+use crate::rows::{line_of, next_row};
 use lf_base::{Kind, Refusal, Span};
 use lf_scalar::lines::{blanks, past};
 
@@ -19,9 +18,8 @@ pub fn on_line(bytes: &[u8], next: usize) -> Result<(Row<'_>, usize), Refusal>
     requires text { IsUtf8 bytes.now }
     requires room { length bytes.now ≤ 2 ^ 31 }
     requires start { IsCharBoundary bytes.now next }
-    ensures next { IsNext bytes.entry.now result (on_line_of (length bytes.entry.now) (rows_after bytes.entry.now next)) }
+    ensures next { IsNext result (on_line_of (length bytes.entry.now) (rows_after bytes.entry.now next)) }
     ensures part { IfOk result (λ x. IsPartIn bytes.entry.now x.0 x.1) }
-    ensures further { IfOk result (λ x. next ≤ x.1) }
 {
     match next_row(bytes, next) {
         None => {
@@ -44,13 +42,14 @@ pub fn on_line(bytes: &[u8], next: usize) -> Result<(Row<'_>, usize), Refusal>
 }
 
 /// The next part from a place on, and where the lines behind its own begin: blanks are skipped, and a comment, whose `#` stands behind a blank.
+#[tactic(auto, unfolding(crate::specs::Flow::next_on))]
 pub fn next_part<'a>(bytes: &'a [u8], place: Place<'a>) -> Result<(Row<'a>, usize), Refusal>
     requires utf8 { IsUtf8 bytes.now }
     requires room { length bytes.now ≤ 2 ^ 31 }
     requires place { IsPlaceIn bytes.now place }
-    ensures next { IsNext bytes.entry.now result (next_part_of (length bytes.entry.now) false (left_at place.entry) (rows_at bytes.entry.now place.entry)) }
+    ensures next { IsNext result (next_on bytes.entry.now place.entry.at) }
     ensures part { IfOk result (λ x. IsPartIn bytes.entry.now x.0 x.1) }
-    ensures further { IfOk result (λ x. place.entry.next ≤ x.1) }
+    ensures further { IfOk result (λ x. place.entry.at ≤ x.0.at) }
 {
     let skipped = blanks(place.text);
     match past(place.text, skipped) {
@@ -72,14 +71,57 @@ pub fn next_part<'a>(bytes: &'a [u8], place: Place<'a>) -> Result<(Row<'a>, usiz
 /// The place behind the first `len` bytes of a part, behind whose line the lines begin at `next`.
 pub fn behind(part: Row<'_>, len: usize, next: usize) -> Place<'_>
     requires within { len ≤ length part.text.now }
-    ensures left { left_at result ≡ cells (part.entry.at + len) (drop len part.entry.text.now) }
-    ensures next { result.next ≡ next }
+    ensures at { result.at ≡ part.entry.at + len }
     ensures place { (bytes : List ℕ) → IsPartIn bytes part.entry next → IsCharBoundary part.entry.text.now len → IsPlaceIn bytes result }
+    ensures from { (bytes : List ℕ) → IsUtf8 bytes → IsPartIn bytes part.entry next → IsCharBoundary bytes (part.entry.at + len) → IsPlaceIn bytes result }
 {
     Place {
         begin: part.begin,
         at: part.at + len as u32,
         text: past(part.text, len),
         next,
+    }
+}
+
+/// The place at an offset of a file where a character begins.
+pub fn place_on(bytes: &[u8], at: u32) -> Place<'_>
+    requires utf8 { IsUtf8 bytes.now }
+    requires room { length bytes.now ≤ 2 ^ 31 }
+    requires start { IsCharBoundary bytes.now at }
+    ensures at { result.at ≡ at }
+    ensures place { IsPlaceIn bytes.entry.now result }
+{
+    if (at as usize) < bytes.len() {
+        let line = line_of(bytes, at as usize);
+        return Place {
+            begin: at,
+            at,
+            text: line.text,
+            next: line.behind,
+        };
+    }
+    Place {
+        begin: at,
+        at,
+        text: &[],
+        next: bytes.len(),
+    }
+}
+
+/// The place at an offset behind a part's first byte, on the part's line or on a later one. The lines behind the part's own begin at `next`.
+pub fn place_from<'a>(bytes: &'a [u8], part: Row<'a>, next: usize, at: u32) -> Place<'a>
+    requires utf8 { IsUtf8 bytes.now }
+    requires room { length bytes.now ≤ 2 ^ 31 }
+    requires part { IsPartIn bytes.now part next }
+    requires order { part.at ≤ at }
+    requires start { IsCharBoundary bytes.now at }
+    ensures at { result.at ≡ at }
+    ensures place { IsPlaceIn bytes.entry.now result }
+{
+    let len = (at - part.at) as usize;
+    if len <= part.text.len() {
+        behind(part, len, next)
+    } else {
+        place_on(bytes, at)
     }
 }

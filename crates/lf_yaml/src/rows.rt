@@ -3,7 +3,8 @@ ghost use Rattle.std.specs.Prelude.{◌≡◌, ℕ, ◌+◌, ◌<◌, ◌≤◌,
 ghost use Rattle.std.specs.Str.{IsCharBoundary, IsUtf8};
 ghost use Rattle.lf_scalar.specs.Cells.{cells};
 ghost use Rattle.lf_scalar.specs.Lines.{line};
-ghost use Rattle.lf_yaml.specs.Rows.{content_row, rows_from};
+ghost use Rattle.lf_yaml.specs.Flow.{line_on, lines_below};
+ghost use Rattle.lf_yaml.specs.Rows.{content_row, rows_from, rows_of};
 ghost use Rattle.lf_yaml.specs.views.Shown.{shown};
 ghost use Rattle.lf_yaml.specs.views.Cursor.{rows_after, IsRowOf};
 
@@ -46,6 +47,8 @@ pub fn line_of(bytes: &[u8], from: usize) -> LineOf<'_>
     requires room { length bytes.now ≤ 2 ^ 31 }
     requires within { from < length bytes.now }
     ensures rows { (feed : ℕ) × (rows_after bytes.entry.now from ≡ content_row (line (cells from result.text.now) feed) ++ rows_after bytes.entry.now result.behind) }
+    ensures rest { cells from result.text.now ≡ (line_on bytes.entry.now from).text }
+    ensures below { rows_after bytes.entry.now result.behind ≡ rows_of (lines_below bytes.entry.now from) }
     ensures text { result.text.now ≡ take (length result.text.now) (drop from bytes.entry.now) }
     ensures start { IsCharBoundary bytes.entry.now result.behind }
     ensures further { from < result.behind }
@@ -72,6 +75,8 @@ pub fn next_row(bytes: &[u8], from: usize) -> Option<(Row<'_>, usize)>
     ensures rows { MatchOption result (rows_after bytes.entry.now from ≡ []) (λ x. rows_after bytes.entry.now from ≡ shown x.0 ∷ rows_after bytes.entry.now x.1) }
     ensures boundary { IfSome result (λ x. IsCharBoundary bytes.entry.now x.0.at) }
     ensures text { IfSome result (λ x. x.0.text.now ≡ take (length x.0.text.now) (drop x.0.at bytes.entry.now)) }
+    ensures rest { IfSome result (λ x. cells x.0.at x.0.text.now ≡ (line_on bytes.entry.now x.0.at).text) }
+    ensures below { IfSome result (λ x. rows_after bytes.entry.now x.1 ≡ rows_of (lines_below bytes.entry.now x.0.at)) }
     ensures start { IfSome result (λ x. IsCharBoundary bytes.entry.now x.1) }
     ensures further { IfSome result (λ x. from < x.1) }
 {

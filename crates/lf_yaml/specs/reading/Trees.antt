@@ -7,18 +7,19 @@ use Rattle.lf_scalar.specs.declared.quotes.Quotes.TheVariants.{Single, Double}
 use Rattle.lf_base.specs.declared.fault.Fault.{Fault}
 use Rattle.lf_base.specs.Faults.{span, fault}
 use Rattle.lf_scalar.specs.Cells.{Cell, Value, made, end_of, byte_fault, character_fault, ◌>>=◌}
-use Rattle.lf_scalar.specs.Lines.{is_blank, after_blanks}
-use Rattle.lf_scalar.specs.Folding.{trimmed}
+use Rattle.lf_scalar.specs.Lines.{Line, is_blank, after_blanks}
+use Rattle.lf_scalar.specs.Folding.{fold, trimmed}
 use Rattle.lf_scalar.specs.Plain.{before_blank, begins_plain, value_of}
 use Rattle.lf_scalar.specs.Scalars.{source_at}
 use Rattle.lf_scalar.specs.reading.Quoted.{Closing, closing_of, wrong_behind, quoted_of}
+use Rattle.lf_scalar.specs.reading.Plain.{unless_key}
 use Rattle.lf_scalar.specs.reading.Styles as scalar
 use Rattle.lf_yaml.specs.Tree.{Tree, leaf, sequence, mapping, Items, no_items, item, Entries, no_entries, entry}
 use Rattle.lf_yaml.specs.Spans.{items_end, entries_end, empty_at}
 use Rattle.lf_yaml.specs.Keys.{is_key_left_out}
-use Rattle.lf_yaml.specs.Rows.{Row, text_of, indent, rows_from, left_of, tab_in, is_left_out, indent_fault, row_fault}
+use Rattle.lf_yaml.specs.Rows.{Row, text_of, indent, content_row, rows_from, left_of, tab_in, is_left_out, indent_fault, row_fault}
 use Rattle.lf_yaml.specs.Heads.{is_item, Split, key_in, never, Key, Bare, Between, style_of, begins_scalar}
-use Rattle.lf_yaml.specs.Flow.{Next, at_part, broken, next_part, is_flow_sign, begins_flow, flow_text, behind_text, later_colon, part_fault, sign_fault}
+use Rattle.lf_yaml.specs.Flow.{line_on, lines_below, Next, at_part, broken, next_on, is_flow_sign, begins_flow, line_text, line_colon, is_bare, is_spaces, goes_on, left_on, part_fault, sign_fault}
 
 -- ---- keys
 
@@ -79,136 +80,163 @@ has texts text = list_any (λ t. bytes_eq t text) texts
 
 -- ---- flow collections
 
--- a scalar and what stands behind it on its line
+-- the text that a line of a plain scalar gives
+abbrev pub plain_line : Line → Result (List Cell) Fault
+plain_line l = unless_key (line_text l) (line_colon l)
+
+-- the text of such a scalar behind a line break with so many lines of spaces so far, and where the collection is read on: at this line break where no line goes on
+abbrev pub Folded : Type 0
+Folded = Result (List Cell × ℕ) Fault
+
+abbrev pub before_text : List Cell → Folded → Folded
+before_text cs read = read >>= λ x. Ok (cs ++ x.0, x.1)
+
+unfoldable pub plain_behind : ℕ → ℕ → List Line → Folded
+plain_behind break k [] = Ok ([], break)
+plain_behind break k (l ∷ ls) =
+    if is_spaces l then plain_behind break (suc k) ls
+    else if goes_on (content_row l) then
+    before_text (fold break k) (plain_line l >>= λ text. before_text text (if is_bare l then plain_behind l.break 0 ls else Ok ([], left_on l)))
+    else Ok ([], break)
+
+abbrev pub plain_from : Line → List Line → Folded
+plain_from l ls = plain_line l >>= λ text. before_text text (if is_bare l then plain_behind l.break 0 ls else Ok ([], left_on l))
+
+-- a scalar, and where the collection is read on
 abbrev pub Part : Type 0
-Part = Value × List Cell
+Part = Value × ℕ
+
+abbrev pub plain_part : Cell → Folded → Result Part Fault
+plain_part c read = read >>= λ x. Ok (value_of c x.0, x.1)
+
+-- behind a quote that closes
+abbrev pub after_closing : Option Closing → ℕ
+after_closing None = 0
+after_closing (Some x) = suc x.1.0.at
+
+abbrev pub with_after : ℕ → Result Value Fault → Result Part Fault
+with_after after read = read >>= λ v. Ok (v, after)
+
+abbrev pub quoted_part : Quotes → Cell → Option Closing → Result Part Fault
+quoted_part kind c closing = with_after (after_closing closing) (between_of kind c closing)
+
+abbrev pub part_by : List ℕ → Cell → List Cell → Option Quotes → Result Part Fault
+part_by bytes c cs None = if begins_flow c cs then plain_part c (plain_from (line_on bytes c.at) (lines_below bytes c.at)) else Err (part_fault c cs)
+part_by bytes c cs (Some kind) = quoted_part kind c (closing_of kind 0 (source_at bytes (suc c.at)))
+
+unfoldable pub flow_scalar : List ℕ → Cell → List Cell → Result Part Fault
+flow_scalar bytes c cs = part_by bytes c cs (quotes_of c)
+
+-- what a flow collection holds, and its closing bracket
+abbrev pub FlowRead : Type 0 → Type 0
+FlowRead A = Result (A × Cell) Fault
+
+abbrev pub with_flow_item : Value → FlowRead Items → FlowRead Items
+with_flow_item v read = read >>= λ x. Ok (item (leaf v) x.0, x.1)
+
+abbrev pub sequence_sign : (ℕ → FlowRead Items) → Value → Next → FlowRead Items
+sequence_sign later v (broken f) = Err f
+sequence_sign later v (at_part c cs) =
+    if c.byte == 44 then with_flow_item v (later (suc c.at))
+    else if c.byte == 93 then Ok (item (leaf v) no_items, c)
+    else Err (sign_fault c)
+
+abbrev pub sequence_behind : List ℕ → (ℕ → FlowRead Items) → Result Part Fault → FlowRead Items
+sequence_behind bytes later read = read >>= λ x. sequence_sign later x.0 (next_on bytes x.1)
+
+abbrev pub sequence_part : List ℕ → (ℕ → FlowRead Items) → Next → FlowRead Items
+sequence_part bytes later (broken f) = Err f
+sequence_part bytes later (at_part c cs) = if c.byte == 93 then Ok (no_items, c) else sequence_behind bytes later (flow_scalar bytes c cs)
+
+-- The number bounds the turns. The count of the bytes from the offset on and one is always enough.
+unfoldable pub sequence_in : List ℕ → ℕ → ℕ → FlowRead Items
+sequence_in bytes zero at = Err (byte_fault NotANode 0)
+sequence_in bytes (suc n) at = sequence_part bytes (λ next. sequence_in bytes n next) (next_on bytes at)
+
+-- a key and its `:`
+abbrev pub Signed : Type 0
+Signed = Value × Cell
+
+abbrev pub no_sign : Next → Result Signed Fault
+no_sign (broken f) = Err f
+no_sign (at_part c cs) = Err (sign_fault c)
+
+abbrev pub signed : List ℕ → Value → ℕ → Option (Cell × List Cell) → Result Signed Fault
+signed bytes v after None = no_sign (next_on bytes after)
+signed bytes v after (Some x) = Ok (v, x.0)
+
+abbrev pub signed_behind : List ℕ → ℕ → List Cell → Result Value Fault → Result Signed Fault
+signed_behind bytes after behind read = read >>= λ v. signed bytes v after (sign_behind behind)
 
 -- what stands behind a quote that closes
 abbrev pub behind_closing : Option Closing → List Cell
 behind_closing None = []
 behind_closing (Some x) = x.1.1
 
-abbrev pub with_behind : List Cell → Result Value Fault → Result Part Fault
-with_behind behind read = read >>= λ v. Ok (v, behind)
-
-abbrev pub plain_part : Cell → List Cell → Option Cell → Result Part Fault
-plain_part c cs None = Ok (value_of c (flow_text (c ∷ cs)), behind_text (c ∷ cs))
-plain_part c cs (Some wrong) = Err (character_fault NotANode wrong)
-
-abbrev pub part_by : Cell → List Cell → Option Quotes → Result Part Fault
-part_by c cs None = if begins_flow c cs then plain_part c cs (later_colon (flow_text (c ∷ cs)) (behind_text (c ∷ cs))) else Err (part_fault c cs)
-part_by c cs (Some kind) = with_behind (behind_closing (closing_of kind 0 cs)) (between_of kind c (closing_of kind 0 cs))
-
-unfoldable pub flow_scalar : Cell → List Cell → Result Part Fault
-flow_scalar c cs = part_by c cs (quotes_of c)
-
--- what a flow collection holds, its closing bracket, what stands behind that on its line, and the rows left
-abbrev pub FlowRead : Type 0 → Type 0
-FlowRead A = Result (A × Cell × List Cell × List Row) Fault
-
-abbrev pub with_flow_item : Value → FlowRead Items → FlowRead Items
-with_flow_item v read = read >>= λ x. Ok (item (leaf v) x.0, x.1, x.2, x.3)
-
-abbrev pub sequence_sign : (List Cell → List Row → FlowRead Items) → Value → Next → FlowRead Items
-sequence_sign later v (broken f) = Err f
-sequence_sign later v (at_part c cs rs) =
-    if c.byte == 44 then with_flow_item v (later cs rs)
-    else if c.byte == 93 then Ok (item (leaf v) no_items, c, cs, rs)
-    else Err (sign_fault c)
-
-abbrev pub sequence_behind : ℕ → (List Cell → List Row → FlowRead Items) → List Row → Result Part Fault → FlowRead Items
-sequence_behind end later rs read = read >>= λ x. sequence_sign later x.0 (next_part end false x.1 rs)
-
-abbrev pub sequence_part : ℕ → (List Cell → List Row → FlowRead Items) → Next → FlowRead Items
-sequence_part end later (broken f) = Err f
-sequence_part end later (at_part c cs rs) = if c.byte == 93 then Ok (no_items, c, cs, rs) else sequence_behind end later rs (flow_scalar c cs)
-
--- The number bounds the turns. The count of the cells and rows and one is always enough.
-unfoldable pub sequence_in : ℕ → ℕ → List Cell → List Row → FlowRead Items
-sequence_in end zero cs rs = Err (byte_fault NotANode 0)
-sequence_in end (suc n) cs rs = sequence_part end (λ cs rs. sequence_in end n cs rs) (next_part end false cs rs)
-
--- a key, its `:` and what stands behind it on its line
-abbrev pub Signed : Type 0
-Signed = Value × Cell × List Cell
-
-abbrev pub no_sign : Next → Result Signed Fault
-no_sign (broken f) = Err f
-no_sign (at_part c cs rs) = Err (sign_fault c)
-
-abbrev pub signed : ℕ → Value → List Cell → List Row → Option (Cell × List Cell) → Result Signed Fault
-signed end v behind rs None = no_sign (next_part end false behind rs)
-signed end v behind rs (Some x) = Ok (v, x.0, x.1)
-
-abbrev pub signed_behind : ℕ → List Cell → List Row → Result Value Fault → Result Signed Fault
-signed_behind end behind rs read = read >>= λ v. signed end v behind rs (sign_behind behind)
-
 abbrev pub bare_key : Cell → List Cell → Value
 bare_key c text = made text (end_of c.at text) (span c.at (end_of c.at text))
 
-abbrev pub plain_key : ℕ → Cell → List Cell → List Row → Option Split → Result Signed Fault
-plain_key end c cs rs None = no_sign (next_part end false (behind_text (c ∷ cs)) rs)
-plain_key end c cs rs (Some x) = if is_key_left_out x.0 then Err (character_fault LeftOut c) else Ok (bare_key c (trimmed is_blank x.0), x.1, x.2)
+abbrev pub plain_key : List ℕ → Cell → List Cell → Option Split → Result Signed Fault
+plain_key bytes c cs None = no_sign (next_on bytes (left_on (line_on bytes c.at)))
+plain_key bytes c cs (Some x) = if is_key_left_out x.0 then Err (character_fault LeftOut c) else Ok (bare_key c (trimmed is_blank x.0), x.1)
 
-abbrev pub flow_key_by : ℕ → Cell → List Cell → List Row → Option Quotes → Result Signed Fault
-flow_key_by end c cs rs None =
-    if begins_flow c cs then plain_key end c cs rs (key_in is_flow_sign before_blank (c ∷ cs))
+abbrev pub quoted_key : List ℕ → Quotes → Cell → Option Closing → Result Signed Fault
+quoted_key bytes kind c closing = signed_behind bytes (after_closing closing) (behind_closing closing) (between_of kind c closing)
+
+abbrev pub flow_key_by : List ℕ → Cell → List Cell → Option Quotes → Result Signed Fault
+flow_key_by bytes c cs None =
+    if begins_flow c cs then plain_key bytes c cs (key_in is_flow_sign before_blank (c ∷ cs))
     else Err (part_fault c cs)
-flow_key_by end c cs rs (Some kind) = signed_behind end (behind_closing (closing_of kind 0 cs)) rs (between_of kind c (closing_of kind 0 cs))
+flow_key_by bytes c cs (Some kind) = quoted_key bytes kind c (closing_of kind 0 cs)
 
-unfoldable pub flow_key : ℕ → Cell → List Cell → List Row → Result Signed Fault
-flow_key end c cs rs = flow_key_by end c cs rs (quotes_of c)
+unfoldable pub flow_key : List ℕ → Cell → List Cell → Result Signed Fault
+flow_key bytes c cs = flow_key_by bytes c cs (quotes_of c)
 
--- a value and what is left behind it
+-- a value, and where the mapping is read on
 abbrev pub Valued : Type 0
-Valued = Tree × List Cell × List Row
+Valued = Tree × ℕ
 
-abbrev pub scalar_part : List Row → Result Part Fault → Result Valued Fault
-scalar_part ss read = read >>= λ x. Ok (leaf x.0, x.1, ss)
+abbrev pub scalar_part : Result Part Fault → Result Valued Fault
+scalar_part read = read >>= λ x. Ok (leaf x.0, x.1)
 
-abbrev pub value_part : Cell → List Cell → List Row → Next → Result Valued Fault
-value_part colon cs rs (broken f) = Err f
-value_part colon cs rs (at_part c more ss) = if (c.byte == 44) || (c.byte == 125) then Ok (empty_at (suc colon.at), cs, rs) else scalar_part ss (flow_scalar c more)
+abbrev pub value_part : List ℕ → Cell → Next → Result Valued Fault
+value_part bytes colon (broken f) = Err f
+value_part bytes colon (at_part c cs) = if (c.byte == 44) || (c.byte == 125) then Ok (empty_at (suc colon.at), suc colon.at) else scalar_part (flow_scalar bytes c cs)
 
-unfoldable pub flow_value : ℕ → Cell → List Cell → List Row → Result Valued Fault
-flow_value end colon cs rs = value_part colon cs rs (next_part end false cs rs)
+unfoldable pub flow_value : List ℕ → Cell → Result Valued Fault
+flow_value bytes colon = value_part bytes colon (next_on bytes (suc colon.at))
 
 abbrev pub with_flow_entry : Value → Tree → FlowRead Entries → FlowRead Entries
-with_flow_entry v t read = read >>= λ x. Ok (entry v t x.0, x.1, x.2, x.3)
+with_flow_entry v t read = read >>= λ x. Ok (entry v t x.0, x.1)
 
-abbrev pub mapping_sign : (List Cell → List Row → FlowRead Entries) → Value → Tree → Next → FlowRead Entries
+abbrev pub mapping_sign : (ℕ → FlowRead Entries) → Value → Tree → Next → FlowRead Entries
 mapping_sign later v t (broken f) = Err f
-mapping_sign later v t (at_part c cs rs) =
-    if c.byte == 44 then with_flow_entry v t (later cs rs)
-    else if c.byte == 125 then Ok (entry v t no_entries, c, cs, rs)
+mapping_sign later v t (at_part c cs) =
+    if c.byte == 44 then with_flow_entry v t (later (suc c.at))
+    else if c.byte == 125 then Ok (entry v t no_entries, c)
     else Err (sign_fault c)
 
 abbrev pub Later : Type 0
-Later = List (List ℕ) → List Cell → List Row → FlowRead Entries
+Later = List (List ℕ) → ℕ → FlowRead Entries
 
-abbrev pub value_behind : ℕ → (List Cell → List Row → FlowRead Entries) → Value → Result Valued Fault → FlowRead Entries
-value_behind end later v read = read >>= λ x. mapping_sign later v x.0 (next_part end false x.1 x.2)
+abbrev pub value_behind : List ℕ → (ℕ → FlowRead Entries) → Value → Result Valued Fault → FlowRead Entries
+value_behind bytes later v read = read >>= λ x. mapping_sign later v x.0 (next_on bytes x.1)
 
-abbrev pub new_entry : ℕ → Later → List (List ℕ) → List Row → Signed → FlowRead Entries
-new_entry end later keys rs k =
+abbrev pub new_entry : List ℕ → Later → List (List ℕ) → Signed → FlowRead Entries
+new_entry bytes later keys k =
     if has keys k.0.text then Err (fault DoubleKey k.0.span)
-    else value_behind end (λ cs rs. later (keys ++ k.0.text ∷ []) cs rs) k.0 (flow_value end k.1 k.2 rs)
+    else value_behind bytes (λ next. later (keys ++ k.0.text ∷ []) next) k.0 (flow_value bytes k.1)
 
-abbrev pub key_behind : ℕ → Later → List (List ℕ) → List Row → Result Signed Fault → FlowRead Entries
-key_behind end later keys rs read = read >>= λ k. new_entry end later keys rs k
+abbrev pub key_behind : List ℕ → Later → List (List ℕ) → Result Signed Fault → FlowRead Entries
+key_behind bytes later keys read = read >>= λ k. new_entry bytes later keys k
 
-abbrev pub mapping_part : ℕ → Later → List (List ℕ) → Next → FlowRead Entries
-mapping_part end later keys (broken f) = Err f
-mapping_part end later keys (at_part c cs rs) = if c.byte == 125 then Ok (no_entries, c, cs, rs) else key_behind end later keys rs (flow_key end c cs rs)
+abbrev pub mapping_part : List ℕ → Later → List (List ℕ) → Next → FlowRead Entries
+mapping_part bytes later keys (broken f) = Err f
+mapping_part bytes later keys (at_part c cs) = if c.byte == 125 then Ok (no_entries, c) else key_behind bytes later keys (flow_key bytes c cs)
 
-unfoldable pub mapping_in : ℕ → ℕ → List (List ℕ) → List Cell → List Row → FlowRead Entries
-mapping_in end zero keys cs rs = Err (byte_fault NotANode 0)
-mapping_in end (suc n) keys cs rs = mapping_part end (λ ks cs rs. mapping_in end n ks cs rs) keys (next_part end false cs rs)
-
--- how many turns some cells and rows need at most
-abbrev pub turns : List Cell → List Row → ℕ
-turns cs [] = suc (length cs)
-turns cs (r ∷ rs) = suc (length cs) + turns (text_of r) rs
+unfoldable pub mapping_in : List ℕ → ℕ → List (List ℕ) → ℕ → FlowRead Entries
+mapping_in bytes zero keys at = Err (byte_fault NotANode 0)
+mapping_in bytes (suc n) keys at = mapping_part bytes (λ ks next. mapping_in bytes n ks next) keys (next_on bytes at)
 
 -- ---- block collections
 
@@ -216,23 +244,23 @@ abbrev pub Read : Type 0 → Type 0
 Read A = Result (A × List Row) Fault
 
 -- Nothing but blanks and a comment stands behind a closing bracket.
-abbrev pub alone : {A : Type 0} → (A → Cell → Tree) → A × Cell × List Cell × List Row → Option Cell → Read Tree
-alone node x None = Ok (node x.0 x.1, x.3)
-alone node x (Some wrong) = Err (character_fault NotANode wrong)
+abbrev pub alone : {A : Type 0} → (A → Cell → Tree) → List Row → A × Cell → Option Cell → Read Tree
+alone node rs x None = Ok (node x.0 x.1, rows_from (suc x.1.at) rs)
+alone node rs x (Some wrong) = Err (character_fault NotANode wrong)
 
-abbrev pub closed_list : Row → FlowRead Items → Read Tree
-closed_list r read = read >>= λ x. alone (λ is closing. sequence is (span r.first.at (suc closing.at))) x (wrong_behind false x.2)
+abbrev pub closed_list : List ℕ → Row → List Row → FlowRead Items → Read Tree
+closed_list bytes r rs read = read >>= λ x. alone (λ is closing. sequence is (span r.first.at (suc closing.at))) rs x (wrong_behind false (line_on bytes (suc x.1.at)).text)
 
-abbrev pub flow_list : ℕ → ℕ → Row → List Row → Read Tree
-flow_list end zero r rs = Err (character_fault TooDeep r.first)
-flow_list end (suc d) r rs = closed_list r (sequence_in end (suc (turns r.rest rs)) r.rest rs)
+abbrev pub flow_list : List ℕ → ℕ → Row → List Row → Read Tree
+flow_list bytes zero r rs = Err (character_fault TooDeep r.first)
+flow_list bytes (suc d) r rs = closed_list bytes r rs (sequence_in bytes (suc (length bytes)) (suc r.first.at))
 
-abbrev pub closed_map : Row → FlowRead Entries → Read Tree
-closed_map r read = read >>= λ x. alone (λ es closing. mapping es (span r.first.at (suc closing.at))) x (wrong_behind false x.2)
+abbrev pub closed_map : List ℕ → Row → List Row → FlowRead Entries → Read Tree
+closed_map bytes r rs read = read >>= λ x. alone (λ es closing. mapping es (span r.first.at (suc closing.at))) rs x (wrong_behind false (line_on bytes (suc x.1.at)).text)
 
-abbrev pub flow_map : ℕ → ℕ → Row → List Row → Read Tree
-flow_map end zero r rs = Err (character_fault TooDeep r.first)
-flow_map end (suc d) r rs = closed_map r (mapping_in end (suc (turns r.rest rs)) [] r.rest rs)
+abbrev pub flow_map : List ℕ → ℕ → Row → List Row → Read Tree
+flow_map bytes zero r rs = Err (character_fault TooDeep r.first)
+flow_map bytes (suc d) r rs = closed_map bytes r rs (mapping_in bytes (suc (length bytes)) [] (suc r.first.at))
 
 abbrev pub scalar_on : List ℕ → ℕ → Row → Result Value Fault
 scalar_on bytes above r = scalar.reading (style_of r.first) above (length bytes) (source_at bytes r.first.at)
@@ -244,8 +272,8 @@ scalar_value rs read = read >>= λ v. Ok (leaf v, rows_from v.span.end rs)
 unfoldable pub value_on : List ℕ → ℕ → ℕ → Row → List Row → Read Tree
 value_on bytes above d r rs =
     if begins_scalar r then scalar_value rs (scalar_on bytes above r)
-    else if r.first.byte == 91 then flow_list (length bytes) d r rs
-    else if r.first.byte == 123 then flow_map (length bytes) d r rs
+    else if r.first.byte == 91 then flow_list bytes d r rs
+    else if r.first.byte == 123 then flow_map bytes d r rs
     else Err (row_fault r)
 
 -- by the number of spaces that an indent above the parent's has at least

@@ -4,14 +4,13 @@ use Rattle.lf_base.specs.declared.refusal.Refusal.{Refusal}
 use Rattle.lf_base.specs.declared.refusal.Refusal.TheVariants as refusal_of
 use Rattle.lf_yaml.specs.Flow.{Next, at_part, broken}
 use Rattle.lf_yaml.specs.views.Shown.{shown}
-use Rattle.lf_yaml.specs.views.Cursor.{rows_after}
 use Rattle.lf_yaml.specs.declared.row.Row.{Row as CodeRow}
 
--- a part, which is the rest of its line, and the rows behind that line; or what is broken before it
-abbrev pub IsNext : List ℕ → Result (CodeRow × ℕ) Refusal → Next → Type 0
-IsNext bytes (Ok x) next = next ≡ at_part (shown x.0).first (shown x.0).rest (rows_after bytes x.1)
-IsNext bytes (Err refusal_of.Memory) next = ⊥
-IsNext bytes (Err (refusal_of.At kind span)) next = next ≡ broken (record { kind = kind; span = span })
+-- a part, which is the rest of its line; or what is broken before it
+abbrev pub IsNext : Result (CodeRow × ℕ) Refusal → Next → Type 0
+IsNext (Ok x) next = next ≡ at_part (shown x.0).first (shown x.0).rest
+IsNext (Err refusal_of.Memory) next = ⊥
+IsNext (Err (refusal_of.At kind span)) next = next ≡ broken (record { kind = kind; span = span })
 
 -- a row's bytes are those of the file from its offset on
 abbrev pub IsTextOf : List ℕ → CodeRow → Type 0

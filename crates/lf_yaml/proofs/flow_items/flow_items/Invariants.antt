@@ -1,14 +1,11 @@
-use Rattle.std.proofs.Common.{◌≡◌, ◌≤◌, length, map}
+use Rattle.std.proofs.Common.{◌≡◌, ◌-◌, ◌^◌, map}
 use Rattle.lf_yaml.specs.Tree.{tree}
-use Rattle.lf_yaml.specs.reading.Trees.{turns}
-use Rattle.lf_yaml.specs.views.Places.{IsPlaceIn, left_at, rows_at}
+use Rattle.lf_yaml.specs.views.Places.{IsPlaceIn}
 use Rattle.lf_yaml.proofs.ItemCode.{after_items, all_from}
 use Rattle.lf_yaml.proofs.flow_items.flow_items.Given as goal
 
 abbrev pub invariant-items : goal.invariant-items
-invariant-items l =
-    (after_items (map tree l.items) (all_from (length l.bytes) (left_at l.at) (rows_at l.bytes l.at)) ≡ all_from (length l.bytes) (left_at l.fn.place) (rows_at l.bytes l.fn.place))
-    × IsPlaceIn l.bytes l.at × (l.fn.place.next ≤ l.at.next)
+invariant-items l = (after_items (map tree l.items) (all_from l.bytes l.at.at) ≡ all_from l.bytes l.fn.place.at) × IsPlaceIn l.bytes l.at
 
 abbrev pub decreases-items : goal.decreases-items
-decreases-items l = turns (left_at l.at) (rows_at l.bytes l.at)
+decreases-items l = 2 ^ 31 - l.at.at

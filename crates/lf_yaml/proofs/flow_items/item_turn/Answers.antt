@@ -1,17 +1,5 @@
-use Rattle.std.proofs.Common.{◌+◌, ◌≤◌, length, arith}
-use Rattle.lf_yaml.specs.reading.Trees.{turns}
-use Rattle.lf_yaml.specs.views.Shown.{shown}
-use Rattle.lf_yaml.specs.views.Cursor.{rows_after}
-use Rattle.lf_yaml.specs.views.Places.{left_at, rows_at}
-use Rattle.lf_yaml.specs.reading.FlowTurns.{IsTurnIn}
-use Rattle.lf_yaml.specs.declared.node.Node.{Node}
-use Rattle.lf_yaml.specs.declared.turn.Turn.{Turn}
-use Rattle.lf_yaml.proofs.PlaceCode.{each-ok, turn-within, part-further}
+use Rattle.lf_yaml.proofs.FlowOn.{turns-low}
 use Rattle.lf_yaml.proofs.flow_items.item_turn.Goals as goal
 
 pub returns-else-part-eq93-clause-turn : goal.returns-else-part-eq93-clause-turn
-returns-else-part-eq93-clause-turn c =
-    let le : turns (shown c.in-Ok.part).rest (rows_after c.args.bytes.now c.in-Ok.next) + 1 ≤ turns (left_at c.args.place) (rows_at c.args.bytes.now c.args.place) =
-    omega (arith, part-further (length c.args.bytes.now) c.args.bytes.now (left_at c.args.place) (rows_at c.args.bytes.now c.args.place) c.in-Ok.part c.in-Ok.next c.in-Ok.ensures.next) in
-    each-ok (λ (t : Turn Node). IsTurnIn c.args.bytes.now (turns (shown c.in-Ok.part).rest (rows_after c.args.bytes.now c.in-Ok.next) + 1) t)
-    (λ (t : Turn Node). IsTurnIn c.args.bytes.now (turns (left_at c.args.place) (rows_at c.args.bytes.now c.args.place)) t) (λ t h. turn-within c.args.bytes.now _ _ t le h) c.item_on.result c.item_on.ensures.turn
+returns-else-part-eq93-clause-turn c = turns-low c.args.bytes.now c.in-Ok.part.at c.args.place.at c.in-Ok.ensures.further c.item_on.result c.item_on.ensures.turn

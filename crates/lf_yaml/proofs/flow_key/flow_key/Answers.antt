@@ -1,8 +1,7 @@
-use Rattle.std.proofs.Common.{Option, length, subst}
+use Rattle.std.proofs.Common.{Option, subst}
 use Rattle.lf_scalar.specs.declared.quotes.Quotes.{Quotes}
 use Rattle.lf_base.specs.Answers.{AnswersAs}
 use Rattle.lf_yaml.specs.reading.Trees.{flow_key, flow_key_by}
-use Rattle.lf_yaml.specs.views.Cursor.{rows_after}
 use Rattle.lf_yaml.specs.views.Places.{signed}
 use Rattle.lf_yaml.specs.views.Shown.{shown}
 use Rattle.lf_yaml.proofs.flow_key.flow_key.Goals as goal
@@ -10,5 +9,5 @@ use Rattle.lf_yaml.proofs.flow_key.flow_key.Goals as goal
 pub returns-in-None-clause-gives : goal.returns-in-None-clause-gives
 unfolding flow_key
 returns-in-None-clause-gives c =
-    subst (λ (o : Option Quotes). AnswersAs (signed c.args.part) c.bare_key.result (flow_key_by (length c.args.bytes.now) (shown c.args.part).first (shown c.args.part).rest (rows_after c.args.bytes.now c.args.next) o))
+    subst (λ (o : Option Quotes). AnswersAs (signed c.args.part) c.bare_key.result (flow_key_by c.args.bytes.now (shown c.args.part).first (shown c.args.part).rest o))
     (c.in-None.ensures.kind c.args.part.at) c.bare_key.ensures.gives

@@ -1,11 +1,10 @@
-use Rattle.std.proofs.Common.{◌≡◌, ◌+◌, ℕ, false, List, length, drop, ap, sym, subst, ◌∙◌}
+use Rattle.std.proofs.Common.{◌≡◌, ◌+◌, ℕ, List, drop, ap, sym, subst, ◌∙◌}
 use Rattle.std.proofs.lemmas.Bool.{eqb-true}
-use Rattle.lf_scalar.specs.Cells.{Cell, cells, Fails}
+use Rattle.lf_scalar.specs.Cells.{cells, Fails}
 use Rattle.lf_scalar.specs.Lines.{after_blanks}
 use Rattle.lf_scalar.specs.views.Built.{shown as scalar_shown}
-use Rattle.lf_yaml.specs.Flow.{next_part}
+use Rattle.lf_yaml.specs.Flow.{next_on}
 use Rattle.lf_yaml.specs.reading.Trees.{no_sign}
-use Rattle.lf_yaml.specs.views.Cursor.{rows_after}
 use Rattle.lf_yaml.specs.views.Shown.{shown}
 use Rattle.lf_yaml.proofs.KeyCode.{quoted-found, quoted-missing}
 use Rattle.lf_yaml.proofs.flow_key.quoted_key.Goals as goal
@@ -17,16 +16,15 @@ pub returns-then-is_colon-clause-gives : goal.returns-then-is_colon-clause-gives
 returns-then-is_colon-clause-gives c =
     let after : after_blanks (cells (c.args.part.at + c.in-Ok.len) (drop c.in-Ok.len c.args.part.text.now)) ≡ cells (c.args.part.at + c.in-Ok.len + c.blanks.result) (drop c.blanks.result (drop c.in-Ok.len c.args.part.text.now)) =
     subst (λ (xs : List ℕ). after_blanks (cells (c.args.part.at + c.in-Ok.len) xs) ≡ cells (c.args.part.at + c.in-Ok.len + c.blanks.result) (drop c.blanks.result xs)) c.past.ensures (c.blanks.ensures.after (c.args.part.at + c.in-Ok.len)) in
-    quoted-found c.args.part.at c.in-Ok.len c.blanks.result c.args.part.text.now after (length c.args.bytes.now) c.args.quote (shown c.args.part).first (shown c.args.part).rest (rows_after c.args.bytes.now c.args.next)
-    (scalar_shown c.in-Ok.scalar) c.in-Ok.ensures.gives (eqb-true _ 58 (sym c.is_colon.ensures ∙ c.if-is_colon.true))
+    quoted-found c.args.part.at c.in-Ok.len c.blanks.result c.args.part.text.now after c.args.bytes.now c.args.quote (shown c.args.part).first (shown c.args.part).rest
+    (scalar_shown c.in-Ok.scalar) c.in-Ok.ensures.gives c.in-Ok.ensures.left (eqb-true _ 58 (sym c.is_colon.ensures ∙ c.if-is_colon.true))
 
 pub returns-else-is_colon-clause-gives : goal.returns-else-is_colon-clause-gives
 returns-else-is_colon-clause-gives c =
     let after : after_blanks (cells (c.args.part.at + c.in-Ok.len) (drop c.in-Ok.len c.args.part.text.now)) ≡ cells (c.args.part.at + c.in-Ok.len + c.blanks.result) (drop c.blanks.result (drop c.in-Ok.len c.args.part.text.now)) =
     subst (λ (xs : List ℕ). after_blanks (cells (c.args.part.at + c.in-Ok.len) xs) ≡ cells (c.args.part.at + c.in-Ok.len + c.blanks.result) (drop c.blanks.result xs)) c.past.ensures (c.blanks.ensures.after (c.args.part.at + c.in-Ok.len)) in
     subst (Fails c.no_sign.result)
-    (ap (λ (xs : List Cell). no_sign (next_part (length c.args.bytes.now) false xs (rows_after c.args.bytes.now c.behind.result.next))) c.behind.ensures.left
-    ∙ ap (λ (n : ℕ). no_sign (next_part (length c.args.bytes.now) false (cells (c.args.part.at + c.in-Ok.len) (drop c.in-Ok.len c.args.part.text.now)) (rows_after c.args.bytes.now n))) c.behind.ensures.next
-    ∙ sym (quoted-missing c.args.part.at c.in-Ok.len c.blanks.result c.args.part.text.now after (length c.args.bytes.now) c.args.quote (shown c.args.part).first (shown c.args.part).rest
-    (rows_after c.args.bytes.now c.args.next) (scalar_shown c.in-Ok.scalar) c.in-Ok.ensures.gives (sym c.is_colon.ensures ∙ c.if-is_colon.false)))
+    (ap (λ (n : ℕ). no_sign (next_on c.args.bytes.now n)) c.behind.ensures.at
+    ∙ sym (quoted-missing c.args.part.at c.in-Ok.len c.blanks.result c.args.part.text.now after c.args.bytes.now c.args.quote (shown c.args.part).first (shown c.args.part).rest
+    (scalar_shown c.in-Ok.scalar) c.in-Ok.ensures.gives c.in-Ok.ensures.left (sym c.is_colon.ensures ∙ c.if-is_colon.false)))
     c.no_sign.ensures

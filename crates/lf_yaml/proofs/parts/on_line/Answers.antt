@@ -8,4 +8,6 @@ returns-else-is_mark-clause-part c =
       text_is = c.in-Some.ensures.text;
       utf8 = next-utf8 c.args.bytes.now c.args.next c.in-Some.row (rows_after c.args.bytes.now c.in-Some.behind) c.requires.text c.in-Some.row.full c.in-Some.ensures.rows c.in-Some.ensures.boundary c.in-Some.ensures.text;
       start = c.in-Some.ensures.start;
+      rest = c.in-Some.ensures.rest;
+      below = c.in-Some.ensures.below;
     }

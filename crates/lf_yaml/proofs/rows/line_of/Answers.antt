@@ -1,5 +1,6 @@
 use Rattle.std.proofs.Common.{arith, ap, length, inl, inr, length-drop}
 use Rattle.lf_yaml.proofs.RowsAfter.{Behind, rows-of-line, behind-start}
+use Rattle.lf_yaml.proofs.LinesOn.{line-rest, line-below}
 use Rattle.lf_yaml.proofs.rows.line_of.Goals as goal
 use Rattle.lf_yaml.proofs.rows.line_of.Goals.{then-end-rest, else-end-rest}
 
@@ -16,3 +17,13 @@ returns-clause-rows c =
 
 pub returns-clause-start : goal.returns-clause-start
 returns-clause-start c = behind-start c.args.bytes.now c.args.from c.line_end-end.result.feed c.if-end-rest.behind c.past-rest.result.now c.requires.text c.past-rest.ensures (behind c) c.line_end-end.ensures.feed
+
+pub returns-clause-rest : goal.returns-clause-rest
+returns-clause-rest c =
+    line-rest c.args.bytes.now c.args.from c.line_end-end.result.text c.line_end-end.result.feed c.before-2.result.now c.past-rest.result.now c.requires.within c.past-rest.ensures c.before-2.ensures
+    (c.line_end-end.ensures.first c.args.from (omega (arith, c.requires.within, ap length c.past-rest.ensures, length-drop c.args.from c.args.bytes.now)))
+
+pub returns-clause-below : goal.returns-clause-below
+returns-clause-below c =
+    line-below c.args.bytes.now c.args.from c.line_end-end.result.text c.line_end-end.result.feed c.if-end-rest.behind c.past-rest.result.now c.requires.within c.past-rest.ensures (behind c)
+    (c.line_end-end.ensures.first c.args.from (omega (arith, c.requires.within, ap length c.past-rest.ensures, length-drop c.args.from c.args.bytes.now)))
