@@ -8,6 +8,10 @@ use Rattle.lf_report.specs.Text.{lines_text}
 pub appended_two : (start one two : List ℕ) {first second : List ℕ} → first ≡ start ++ one → second ≡ first ++ two → second ≡ start ++ (one ++ two)
 appended_two start one two e f = f ∙ ap (λ l. l ++ two) e ∙ append_assoc start one two
 
+-- two pieces that were appended as one, and one more
+pub appended_pair : (start one two three : List ℕ) {first second : List ℕ} → first ≡ start ++ (one ++ two) → second ≡ first ++ three → second ≡ start ++ (one ++ (two ++ three))
+appended_pair start one two three e f = appended_two start (one ++ two) three e f ∙ ap (λ l. start ++ l) (append_assoc one two three)
+
 -- three pieces
 pub appended_three : (start one two three : List ℕ) {first second third : List ℕ} → first ≡ start ++ one → second ≡ first ++ two → third ≡ second ++ three
     → third ≡ start ++ (one ++ two ++ three)

@@ -10,16 +10,10 @@ use Rattle.serde_json.specs.Data.{Data, Members, member, no_members, put, string
 use Rattle.serde_json.specs.View.{items_of}
 use Rattle.serde_json.specs.Written.{has_float, items_have_float, members_have_float}
 use Rattle.lf_ast.specs.Labels.{Bytes, Labels as LabelMap}
-use Rattle.lf_ast.specs.declared.verdict.RuleVerdicts.{RuleVerdicts}
-use Rattle.lf_ast.specs.declared.verdict.RuleVerdicts.TheVariants.{Empty, Labels}
-use Rattle.lf_ast.specs.declared.verdict.Verdict.{Verdict}
-use Rattle.lf_ast.specs.declared.verdict.Verdict.TheVariants.{Guaranteed, Impossible, Possible, Unresolved}
-use Rattle.lf_ast.specs.declared.verdict.World.{World}
-use Rattle.lf_report.specs.Json.{count_data, finding_data, label_data, labels_data, labels_items, refusal_data, rule_data, set_data, set_members, summary_data, world_data}
+use Rattle.lf_report.specs.Json.{count_data, list_data, refusal_data, set_data, set_members, summary_data}
 use Rattle.lf_report.specs.declared.report.FileReport.{FileReport}
 use Rattle.lf_report.specs.declared.report.Refused.{Refused}
 use Rattle.lf_report.specs.declared.report.Report.{Report}
-use Rattle.lf_report.specs.declared.report.RuleReport.{RuleReport}
 
 both : (a b : Bool) → a ≡ false → b ≡ false → a || b ≡ false
 both a b h k = ap (λ x. x || b) h ∙ k
@@ -50,35 +44,11 @@ set_floats_from : (entries : List (Bytes × Bytes)) (ms : Members) → members_h
 set_floats_from [] ms h = h
 set_floats_from (e ∷ es) ms h = set_floats_from es (put e.0 (string e.1) ms) (put_floats e.0 (string e.1) ms refl h)
 
-set_floats : (set : LabelMap) → has_float (set_data set) ≡ false
+pub set_floats : (set : LabelMap) → has_float (set_data set) ≡ false
 set_floats set = set_floats_from (map_of.entries set) no_members refl
 
-world_floats : (world : World) → has_float (world_data world) ≡ false
-world_floats world =
-    both (has_float (set_data world.sample)) _ (set_floats world.sample)
-    (both (items_have_float (items_of (map set_data world.series))) _ (floats_of set_data set_floats world.series)
-    (both (items_have_float (items_of (map count_data world.steps))) false (floats_of count_data (λ n. refl) world.steps) refl))
-
-label_floats : (report : Report) (label : Bytes) (verdict : Verdict) → has_float (label_data report label verdict) ≡ false
-label_floats report label Guaranteed = refl
-label_floats report label Impossible = refl
-label_floats report label (Possible with without) = both (has_float (world_data with)) _ (world_floats with) (both (has_float (world_data without)) false (world_floats without) refl)
-label_floats report label (Unresolved construct rule span) = refl
-
-items_floats : (report : Report) (labels : List Bytes) (verdicts : List Verdict) → items_have_float (items_of (labels_items report labels verdicts)) ≡ false
-items_floats report [] verdicts = refl
-items_floats report (label ∷ labels) [] = refl
-items_floats report (label ∷ labels) (verdict ∷ verdicts) = both (has_float (label_data report label verdict)) _ (label_floats report label verdict) (items_floats report labels verdicts)
-
-labels_floats : (report : Report) (verdicts : Option RuleVerdicts) → has_float (labels_data report verdicts) ≡ false
-labels_floats report None = refl
-labels_floats report (Some Empty) = refl
-labels_floats report (Some (Labels verdicts)) = items_floats report report.universe verdicts
-
-pub rule_floats : (report : Report) (file : FileReport) (rule : RuleReport) → has_float (rule_data report file rule) ≡ false
-rule_floats report file rule =
-    both (items_have_float (items_of (map (finding_data file) rule.findings))) _ (floats_of (finding_data file) (λ f. refl) rule.findings)
-    (both (has_float (labels_data report rule.verdicts)) false (labels_floats report rule.verdicts) refl)
+pub steps_floats : (steps : List ℕ) → has_float (list_data (map count_data steps)) ≡ false
+steps_floats steps = floats_of count_data (λ n. refl) steps
 
 pub refusal_floats : (file : FileReport) (why : Option Refused) → has_float (refusal_data file why) ≡ false
 refusal_floats file None = refl

@@ -1,8 +1,6 @@
-//! The JSON of a report, which is written file by file and rule by rule, so that no value of the whole report is made.
-ghost use Rattle.std.specs.Prelude.{◌≡◌, ◌<◌, ◌++◌, ◌∷◌, [], false, ℕ, List, length, map, nat_lt, slice_get, Some, IfOk, OnOk};
-ghost use Rattle.serde_json.specs.Data.{Data};
-ghost use Rattle.serde_json.specs.View.{view};
-ghost use Rattle.serde_json.specs.Written.{comma_if, compact_text, has_float};
+//! The JSON of a report, which is written label set by label set and finding by finding, so that no value of more than one of them is made.
+ghost use Rattle.std.specs.Prelude.{◌≡◌, ◌<◌, ◌++◌, ◌∷◌, [], false, ℕ, List, length, map, slice_get, Some, IfOk, OnOk};
+ghost use Rattle.serde_json.specs.Written.{compact_text};
 ghost use Rattle.lf_report.specs.Json.{file_data, files_items, report_json, rule_data, told_rules};
 ghost use Rattle.lf_report.specs.Numbers.{NameRules, StandInFiles, rules_of};
 ghost use Rattle.lf_report.specs.declared.report.FileReport.{FileReport};
@@ -12,15 +10,17 @@ ghost use Rattle.lf_report.specs.views.Pieces.{file_head, listed};
 ghost use Rattle.lf_report.specs.views.Totals.{AreTotals};
 
 mod labels;
+mod pieces;
 mod rules;
 mod totals;
+mod worlds;
 
 use crate::Report;
 use crate::counting::Totals;
 use crate::places::{Lookup, numbers_at};
 use lf_base::{Memory, Text};
-use rules::{refusal_value, rule_value, text_value};
-use serde_json::Value;
+use pieces::{push_comma, push_text, push_value};
+use rules::{push_rule, refusal_value};
 use std::alloc::Global;
 use totals::summary_value;
 
@@ -69,13 +69,6 @@ fn push_files(
         push_file(alloc, text, report, lookup, k)?;
     }
     Ok(())
-}
-
-/// Appends the comma before the element with this number, which the first one lacks.
-fn push_comma(text: &mut Text, number: usize) -> Result<(), Memory>
-    ensures { OnOk result (text.new ≡ text.old ++ comma_if (nat_lt 0 number)) }
-{
-    if number > 0 { text.push(",") } else { Ok(()) }
 }
 
 /// Appends the file with this number.
@@ -129,9 +122,12 @@ fn push_file_head(
     requires lookup { IsLookup report.now lookup.now }
     ensures { (it : FileReport) → slice_get report.now.files file ≡ Some it → OnOk result (text.new ≡ text.old ++ file_head it) }
 {
-    let name = text_value(alloc, report.files.get(file).name.as_str())?;
-    text.push("{\"name\":")?;
-    push_value(alloc, text, &name)?;
+    push_text(
+        alloc,
+        text,
+        "{\"name\":",
+        report.files.get(file).name.as_str(),
+    )?;
     let refusal = refusal_value(alloc, report, lookup.marks.as_slice(), file)?;
     text.push(",\"refusal\":")?;
     push_value(alloc, text, &refusal)?;
@@ -155,13 +151,13 @@ fn push_rules(
     let numbers = numbers_at(lookup, file);
     for k in 0..numbers.len() {
         push_comma(text, k)?;
-        push_rule(alloc, text, report, lookup, file, *numbers.get(k))?;
+        push_rule_at(alloc, text, report, lookup, file, *numbers.get(k))?;
     }
     Ok(())
 }
 
 /// Appends the rule with this number, of the file with that one.
-fn push_rule(
+fn push_rule_at(
     alloc: Global,
     text: &mut Text,
     report: &Report,
@@ -177,14 +173,5 @@ fn push_rule(
     ensures { (it : FileReport) (this : RuleReport) → slice_get report.now.files file ≡ Some it → slice_get report.now.rules rule ≡ Some this → OnOk result (text.new ≡ text.old ++ compact_text (rule_data report.now it this)) }
 {
     let rule = report.rules.get(rule);
-    let value = rule_value(alloc, report, lookup.marks.as_slice(), file, rule)?;
-    push_value(alloc, text, &value)
-}
-
-/// Appends a value in its compact form.
-fn push_value(alloc: Global, text: &mut Text, value: &Value) -> Result<(), Memory>
-    ensures { (it : Data) → view value.now ≡ it → has_float it ≡ false → OnOk result (text.new ≡ text.old ++ compact_text it) }
-{
-    let written = value.to_string(alloc)?;
-    text.push(written.as_str())
+    push_rule(alloc, text, report, lookup.marks.as_slice(), file, rule)
 }

@@ -1,25 +1,20 @@
 //! Rules, findings and refusals as JSON.
-ghost use Rattle.std.specs.Prelude.{◌≡◌, ◌<◌, List, length, map, slice_get, Some, IfOk};
-ghost use Rattle.serde_json.specs.Data.{string};
+ghost use Rattle.std.specs.Prelude.{◌≡◌, ◌++◌, ◌<◌, List, false, length, map, slice_get, Some, IfOk, OnOk};
 ghost use Rattle.serde_json.specs.View.{view};
-ghost use Rattle.lf_report.specs.Json.{finding_data, kind_name, list_data, refusal_data, rule_data, rule_object};
+ghost use Rattle.serde_json.specs.Written.{compact_text};
+ghost use Rattle.lf_report.specs.Json.{finding_data, kind_name, refusal_data, rule_data};
 ghost use Rattle.lf_report.specs.Numbers.{NameRulesBelow, StandInFiles, labels_of};
 ghost use Rattle.lf_report.specs.declared.report.FileReport.{FileReport};
+ghost use Rattle.lf_report.specs.views.Pieces.{listed, rule_end, rule_head, rule_kind};
 ghost use Rattle.lf_report.specs.views.Spots.{AreMarked};
 
-use crate::json::labels::labels_value;
+use crate::json::labels::push_labels;
+use crate::json::pieces::{push_comma, push_count, push_text, push_value};
 use crate::spot::{Marks, Spot, spot_in};
 use crate::{Finding, Report, RuleReport};
-use lf_base::Memory;
+use lf_base::{Memory, Text};
 use serde_json::{Value, json};
 use std::alloc::{AllocError, Global};
-
-/// A text.
-pub fn text_value(alloc: Global, text: &str) -> Result<Value, AllocError>
-    ensures { IfOk result (λ value. view value ≡ string text.now) }
-{
-    Ok(Value::from(String::from_str(alloc, text)?))
-}
 
 /// Why the file with this number is refused, if it is.
 pub fn refusal_value(
@@ -48,46 +43,64 @@ pub fn refusal_value(
     }
 }
 
-/// A rule of the file with this number.
-pub fn rule_value(
+/// Appends a rule of the file with this number.
+pub fn push_rule(
     alloc: Global,
+    text: &mut Text,
     report: &Report,
     marks: &[Marks],
     file: usize,
     rule: &RuleReport,
-) -> Result<Value, Memory>
+) -> Result<(), Memory>
     requires file { file < length report.now.files }
     requires files { StandInFiles report.now }
     requires rules { NameRulesBelow (length report.now.rules) (labels_of rule.now.verdicts) }
     requires marks { AreMarked report.now.files marks.now }
-    ensures { (it : FileReport) → slice_get report.now.files file ≡ Some it → IfOk result (λ value. view value ≡ rule_data report.now it rule.now) }
+    ensures { (it : FileReport) → slice_get report.now.files file ≡ Some it → OnOk result (text.new ≡ text.old ++ compact_text (rule_data report.now it rule.now)) }
 {
-    let findings = findings_value(alloc, report, marks, file, rule.findings.as_slice())?;
-    let labels = labels_value(alloc, report, marks, rule)?;
     let spot = spot_in(report, marks, file, rule.name_span.start);
-    let value = rule_of(alloc, spot, rule, findings, labels)?;
-    Ok(value)
+    push_rule_head(alloc, text, spot, rule)?;
+    push_findings(alloc, text, report, marks, file, rule.findings.as_slice())?;
+    push_rule_kind(alloc, text, kind_name(rule.alert))?;
+    push_labels(alloc, text, report, marks, rule)?;
+    push_rule_end(alloc, text, spot, rule)
 }
 
-/// A rule whose name stands at this spot, with its findings and labels.
-fn rule_of(
+/// Appends a rule whose name stands at this spot, up to its findings.
+fn push_rule_head(
     alloc: Global,
+    text: &mut Text,
     spot: Spot,
     rule: &RuleReport,
-    findings: Value,
-    labels: Value,
-) -> Result<Value, AllocError>
-    ensures { IfOk result (λ value. view value ≡ rule_object spot.column rule.now.empty (view findings) (kind_name rule.now.alert) (view labels) spot.line rule.now.name) }
+) -> Result<(), Memory>
+    ensures { OnOk result (text.new ≡ text.old ++ rule_head spot.column rule.now.empty) }
 {
-    json!(in alloc; {
-        "column": spot.column,
-        "empty": rule.empty,
-        "findings": findings,
-        "kind": kind_name(rule.alert),
-        "labels": labels,
-        "line": spot.line,
-        "name": rule.name.as_str()
-    })
+    push_count(alloc, text, "{\"column\":", spot.column)?;
+    text.push(",\"empty\":")?;
+    push_value(alloc, text, &Value::from(rule.empty))?;
+    text.push(",\"findings\":[")
+}
+
+/// Appends what a rule is called, with what stands between its findings and its labels.
+fn push_rule_kind(alloc: Global, text: &mut Text, kind: &str) -> Result<(), Memory>
+    ensures { OnOk result (text.new ≡ text.old ++ rule_kind kind.now) }
+{
+    push_text(alloc, text, "],\"kind\":", kind)?;
+    text.push(",\"labels\":")
+}
+
+/// Appends what stands behind a rule's labels.
+fn push_rule_end(
+    alloc: Global,
+    text: &mut Text,
+    spot: Spot,
+    rule: &RuleReport,
+) -> Result<(), Memory>
+    ensures { OnOk result (text.new ≡ text.old ++ rule_end spot.line rule.now.name) }
+{
+    push_count(alloc, text, ",\"line\":", spot.line)?;
+    push_text(alloc, text, ",\"name\":", rule.name.as_str())?;
+    text.push("}")
 }
 
 /// What a rule is called.
@@ -97,23 +110,41 @@ fn kind_name(alert: bool) -> &'static str
     if alert { "alert" } else { "record" }
 }
 
-/// Findings on a rule of the file with this number.
-fn findings_value(
+/// Appends findings on a rule of the file with this number, with commas between them.
+fn push_findings(
     alloc: Global,
+    text: &mut Text,
     report: &Report,
     marks: &[Marks],
     file: usize,
     findings: &[Finding],
-) -> Result<Value, AllocError>
+) -> Result<(), Memory>
     requires file { file < length report.now.files }
     requires marks { AreMarked report.now.files marks.now }
-    ensures { (it : FileReport) → slice_get report.now.files file ≡ Some it → IfOk result (λ value. view value ≡ list_data (map (finding_data it) findings.now)) }
+    ensures { (it : FileReport) → slice_get report.now.files file ≡ Some it → OnOk result (text.new ≡ text.old ++ listed false (map (finding_data it) findings.now)) }
 {
-    let mut values = Vec::new(alloc);
-    for finding in findings {
-        values.push(finding_value(alloc, report, marks, file, finding)?)?;
+    for k in 0..findings.len() {
+        push_comma(text, k)?;
+        push_finding(alloc, text, report, marks, file, &findings[k])?;
     }
-    Ok(Value::Array(values))
+    Ok(())
+}
+
+/// Appends a finding.
+fn push_finding(
+    alloc: Global,
+    text: &mut Text,
+    report: &Report,
+    marks: &[Marks],
+    file: usize,
+    finding: &Finding,
+) -> Result<(), Memory>
+    requires file { file < length report.now.files }
+    requires marks { AreMarked report.now.files marks.now }
+    ensures { (it : FileReport) → slice_get report.now.files file ≡ Some it → OnOk result (text.new ≡ text.old ++ compact_text (finding_data it finding.now)) }
+{
+    let value = finding_value(alloc, report, marks, file, finding)?;
+    push_value(alloc, text, &value)
 }
 
 /// A finding.

@@ -1,8 +1,0 @@
-use Rattle.std.proofs.Common.{length, subst, sym}
-use Rattle.lf_report.specs.Numbers.{NameRulesBelow, labels_in}
-use Rattle.lf_report.proofs.json.labels.said_value.Goals as goal
-
-pub told_labels-requires-clause-rules : goal.told_labels-requires-clause-rules
-told_labels-requires-clause-rules c =
-    let n = length c.args.report.now.rules in
-    subst (NameRulesBelow n) (sym c.as_slice.ensures) (subst (λ v. NameRulesBelow n (labels_in v)) c.in-Labels.is c.requires.rules)
