@@ -25,7 +25,7 @@ one_content k file (Refused kind span) (Rules rs) h g = absurd ((one_file file.b
 one_content k file (Refused kind span) (Refused other place) h g = ap (λ (f : Fault). Refused f.kind f.span) ((one_file file.bytes k).breach (fault kind span) (fault other place) h g)
 
 -- two lists with the same at each place are one
-same_list : {X : Type 0} (xs ys : List X) → length xs ≡ length ys → ((i : ℕ) (x y : X) → slice_get xs i ≡ Some x → slice_get ys i ≡ Some y → x ≡ y) → xs ≡ ys
+pub same_list : {X : Type 0} (xs ys : List X) → length xs ≡ length ys → ((i : ℕ) (x y : X) → slice_get xs i ≡ Some x → slice_get ys i ≡ Some y → x ≡ y) → xs ≡ ys
 same_list [] [] n same = refl
 same_list [] (y ∷ ys) n same = absurd (omega (arith, n))
 same_list (x ∷ xs) [] n same = absurd (omega (arith, n))

@@ -1,12 +1,17 @@
 pub mod Called
 pub mod Contents
+pub mod FirstOpen
+pub mod Found
 pub mod NameSpots
 pub mod OneLeast
 pub mod OneReport
+pub mod Pieces
 pub mod Places
 pub mod Reported
+pub mod Shared
 pub mod SoFar
 pub mod Sourced
 pub mod Spotted
+pub mod Told
 mod Worked
 pub mod Zips

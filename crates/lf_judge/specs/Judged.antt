@@ -1,4 +1,5 @@
 -- The report on files: what stands in them, and of each rule the verdicts on its labels and its findings.
+use Rattle.std.specs.List.{list_any}
 use Rattle.std.specs.Prelude.{◌≡◌, ℕ, suc, Bool, true, false, List, [], ◌∷◌, ◌++◌, map, codes, Option, Some, None, if◌then◌else◌, slice_get}
 use Rattle.lf_ast.specs.Labels.{Bytes}
 use Rattle.lf_ast.specs.Rules.{RuleTree}
@@ -11,6 +12,9 @@ use Rattle.lf_base.specs.declared.place.Span.{Span}
 use Rattle.lf_checks.specs.Files.{File}
 use Rattle.lf_checks.specs.Finding.{Finding, Severity, Problem, Note, name_of}
 use Rattle.lf_checks.specs.Findings.{AreFindings, severity_of}
+use Rattle.lf_open.specs.Constructs.{number_of}
+use Rattle.lf_open.specs.OpenList.{AreOpen}
+use Rattle.lf_open.specs.declared.open_at.OpenAt.{OpenAt}
 use Rattle.lf_report.specs.declared.report.FileReport.{FileReport}
 use Rattle.lf_report.specs.declared.report.Finding.{Finding as ReportFinding}
 use Rattle.lf_report.specs.declared.report.Report.{Report}
@@ -33,16 +37,33 @@ file_of source = record { name = source.name; bytes = source.bytes }
 abbrev pub files_of : List Source → List File
 files_of sources = map file_of sources
 
--- a rule, the verdict on it, and its findings
+-- the first construct that stands open for the rule with a number, or none where nothing does
+abbrev pub IsFirstOpen : List RuleTree → ℕ → Option OpenAt → Type 0
+IsFirstOpen rules i None = AreOpen rules i []
+IsFirstOpen rules i (Some first) = (later : List OpenAt) × AreOpen rules i (first ∷ later)
+
+abbrev pub is_unresolved : LabelVerdict → Bool
+is_unresolved verdict.Unresolved = true
+is_unresolved _ = false
+
+-- some label of the rule stays unresolved
+abbrev pub has_unresolved : RuleVerdict → Bool
+has_unresolved Empty = false
+has_unresolved (Labels verdicts) = list_any is_unresolved verdicts
+
+-- a rule, the verdict on it, what stands in the way of an answer, and its findings
 pub record Checked : Type 0 where
   pub rule : RuleTree
   pub verdict : RuleVerdict
+  pub first : Option OpenAt
   pub found : List Finding
 
--- these are the rules, in their order, each with its verdict and the list of its findings
-pub record AreChecked (files : List File) (rules : List RuleTree) (env : Environment) (checked : List Checked) : Type 0 where
+-- These are the rules, in their order, each with its verdict and the list of its findings; and where verdicts are told and leave a label unresolved, with the first construct that
+-- stands open for the rule
+pub record AreChecked (files : List File) (labels : Bool) (rules : List RuleTree) (env : Environment) (checked : List Checked) : Type 0 where
   pub each_rule : map (λ c. c.rule) checked ≡ rules
   pub each_verdict : (i : ℕ) (c : Checked) → slice_get checked i ≡ Some c → IsRuleVerdict (universe_of rules) env rules i c.rule c.verdict
+  pub each_open : labels ≡ true → (i : ℕ) (c : Checked) → slice_get checked i ≡ Some c → has_unresolved c.verdict ≡ true → IsFirstOpen rules i c.first
   pub each_list : (i : ℕ) (c : Checked) → slice_get checked i ≡ Some c → AreFindings files rules env i c.found
 
 -- ---- how the report tells it
@@ -55,16 +76,22 @@ labels_of u = u.names ++ codes "*" ∷ []
 abbrev pub world_told : Shown → World
 world_told shown = record { series = shown.trial.series; steps = shown.trial.steps; sample = shown.sample }
 
--- A verdict on a label of the rule with a number. What stays unresolved names no construct yet, and stands at the rule's expression
-abbrev pub verdict_told : ℕ → RuleTree → LabelVerdict → Verdict
-verdict_told i r verdict.Guaranteed = told.Guaranteed
-verdict_told i r verdict.Impossible = told.Impossible
-verdict_told i r (verdict.Possible present absent) = told.Possible (world_told present) (world_told absent)
-verdict_told i r verdict.Unresolved = told.Unresolved 0 i r.expr_span
+-- What stays unresolved names the first construct that stands open for the rule, and its place. There always is one where a label stays unresolved, as a law says; else the rule's own
+-- expression would be named, by the number 0
+abbrev pub unresolved_told : Option OpenAt → ℕ → RuleTree → Verdict
+unresolved_told None i r = told.Unresolved 0 i r.expr_span
+unresolved_told (Some first) i r = told.Unresolved (number_of first.construct) first.rule first.span
 
-abbrev pub verdicts_told : ℕ → RuleTree → RuleVerdict → RuleVerdicts
-verdicts_told i r Empty = told_rule.Empty
-verdicts_told i r (Labels verdicts) = told_rule.Labels (map (verdict_told i r) verdicts)
+-- a verdict on a label of the rule with a number
+abbrev pub verdict_told : Option OpenAt → ℕ → RuleTree → LabelVerdict → Verdict
+verdict_told first i r verdict.Guaranteed = told.Guaranteed
+verdict_told first i r verdict.Impossible = told.Impossible
+verdict_told first i r (verdict.Possible present absent) = told.Possible (world_told present) (world_told absent)
+verdict_told first i r verdict.Unresolved = unresolved_told first i r
+
+abbrev pub verdicts_told : Option OpenAt → ℕ → RuleTree → RuleVerdict → RuleVerdicts
+verdicts_told first i r Empty = told_rule.Empty
+verdicts_told first i r (Labels verdicts) = told_rule.Labels (map (verdict_told first i r) verdicts)
 
 abbrev pub is_empty : RuleVerdict → Bool
 is_empty Empty = true
@@ -107,7 +134,7 @@ rule_told labels i c = record {
   alert = c.rule.alert;
   name = c.rule.name;
   name_span = c.rule.name_span;
-  verdicts = if labels then Some (verdicts_told i c.rule c.verdict) else None;
+  verdicts = if labels then Some (verdicts_told c.first i c.rule c.verdict) else None;
   empty = is_empty c.verdict;
   findings = map finding_told c.found;
 }
@@ -133,7 +160,7 @@ pub record IsReportOn (files : List File) (labels : Bool) (report : Report) : Ty
   pub env : Environment
   pub least : IsLeast (universe_of (accepted contents)) (accepted contents) env
   pub checked : List Checked
-  pub are_checked : AreChecked files (accepted contents) env checked
+  pub are_checked : AreChecked files labels (accepted contents) env checked
   pub labels_are : report.labels ≡ labels
   pub files_are : report.files ≡ files_told files contents
   pub rules_are : map rule_in report.rules ≡ rules_told labels 0 checked

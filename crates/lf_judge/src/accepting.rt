@@ -1,19 +1,33 @@
 //! What stands in files: their rules, and why some of them are refused.
-ghost use Rattle.std.specs.Prelude.{◌≡◌, ◌≤◌, ◌<◌, ◌^◌, ◌++◌, ℕ, Some, length, slice_get, IfOk, OnOk};
+ghost use Rattle.std.specs.Prelude.{◌≡◌, ◌≤◌, ◌<◌, ◌^◌, ◌++◌, ℕ, Some, length, map, slice_get, IfOk, OnOk};
 ghost use Rattle.lf_ast.specs.Rules.{rule_trees};
 ghost use Rattle.lf_base.specs.declared.refusal.Refusal.TheVariants as refusal_of;
-ghost use Rattle.lf_judge.specs.Founds.{Content, Holds, rules_in};
+ghost use Rattle.lf_judge.specs.Founds.{AreContents, Holds, rules_in};
 ghost use Rattle.lf_judge.specs.Judged.{file_of, files_of};
 ghost use Rattle.lf_judge.specs.declared.source.Source.{Source};
-ghost use Rattle.lf_judge.specs.views.Accepting.{IsOfFiles, refusal_in};
+ghost use Rattle.lf_judge.specs.views.Accepting.{IsFoundIn, IsOfContents, IsOfFiles, content_of, refusal_in};
 
 use crate::Source;
 use crate::moving::taken_out;
 use lf_accept::accept;
 use lf_ast::Rule;
-use lf_base::{Memory, Refusal, Seq};
+use lf_base::{Gate, Memory, Refusal, Seq};
+use lf_board::map_pieces;
 use lf_report::Refused;
 use std::alloc::Global;
+use std::thread::Threads;
+
+/// The phase in which workers accept files, a piece being a file.
+const ACCEPTING: u8 = 0;
+
+/// What stands in a file.
+#[derive(Drop)]
+pub enum Found {
+    /// Its rules, in its order.
+    Rules { of: Seq<Rule> },
+    /// Why it is refused.
+    Refused { why: Refused },
+}
 
 /// What stands in files.
 #[derive(Drop)]
@@ -25,38 +39,61 @@ pub struct Accepted {
 }
 
 /// What stands in these files, which are numbered from 0.
-pub fn accept_all(alloc: Global, files: &Seq<Source>) -> Result<Accepted, Memory>
+pub fn accept_all<R: Threads + Sync, G: Gate + Sync>(
+    rt: &R,
+    alloc: Global,
+    files: &Seq<Source>,
+    workers: u32,
+    gate: &G,
+) -> Result<Accepted, Memory>
     requires room { (k : ℕ) (file : Source) → slice_get files.now k ≡ Some file → length file.bytes ≤ 2 ^ 31 }
     requires few { length files.now < 2 ^ 32 }
+    requires workers { (0 < workers) × (workers ≤ 64) }
     ensures { IfOk result (IsOfFiles (files_of files.now)) }
 {
-    let mut refusals = Seq::new(alloc);
-    let mut rules = Seq::new(alloc);
-    for k in 0..files.len() {
-        let refusal = accept_file(alloc, &mut rules, files.get(k), k as u32)?;
-        refusals.push(refusal)?;
-    }
-    Ok(Accepted { refusals, rules })
+    let found = accept_each(rt, alloc, files, workers, gate)?;
+    put_together(alloc, found)
 }
 
-/// Moves the rules of the file with this number behind these, unless it is refused. Answers why it is, if so.
-fn accept_file(
+/// What stands in each of these files.
+fn accept_each<R: Threads + Sync, G: Gate + Sync>(
+    rt: &R,
     alloc: Global,
-    rules: &mut Seq<Rule>,
-    file: &Source,
-    number: u32,
-) -> Result<Option<Refused>, Memory>
+    files: &Seq<Source>,
+    workers: u32,
+    gate: &G,
+) -> Result<Seq<Found>, Memory>
+    requires room { (k : ℕ) (file : Source) → slice_get files.now k ≡ Some file → length file.bytes ≤ 2 ^ 31 }
+    requires few { length files.now < 2 ^ 32 }
+    requires workers { (0 < workers) × (workers ≤ 64) }
+    ensures { IfOk result (λ found. AreContents (files_of files.now) (map content_of found)) }
+{
+    let accept_one = |number: u32| -> Result<Found, Memory>
+        requires room { (k : ℕ) (file : Source) → slice_get files.now k ≡ Some file → length file.bytes ≤ 2 ^ 31 }
+        requires within { number < length files.now }
+        ensures { IfOk result (IsFoundIn (files_of files.entry.now) number) }
+    { accept_file(alloc, files.get(number as usize), number) };
+    map_pieces(
+        rt,
+        alloc,
+        files.len() as u32,
+        workers,
+        gate,
+        ACCEPTING,
+        &accept_one,
+    )
+}
+
+/// What stands in the file with this number.
+fn accept_file(alloc: Global, file: &Source, number: u32) -> Result<Found, Memory>
     requires { length file.now.bytes ≤ 2 ^ 31 }
-    ensures { IfOk result (λ refusal. (content : Content) × Holds number (file_of file.now) content × (refusal ≡ refusal_in content) × (rule_trees rules.new ≡ rule_trees rules.old ++ rules_in content)) }
+    ensures { IfOk result (λ found. Holds number (file_of file.now) (content_of found)) }
 {
     match accept(alloc, file.bytes.as_slice(), number) {
-        Ok(accepted) => {
-            move_behind(alloc, rules, accepted)?;
-            Ok(None)
-        }
+        Ok(of) => Ok(Found::Rules { of }),
         Err(refusal) => {
             let why = refused(refusal)?;
-            Ok(Some(why))
+            Ok(Found::Refused { why })
         }
     }
 }
@@ -68,6 +105,34 @@ fn refused(refusal: Refusal) -> Result<Refused, Memory>
     match refusal {
         Refusal::At { kind, span } => Ok(Refused { kind, span }),
         Refusal::Memory => Err(Memory),
+    }
+}
+
+/// What stands in all files, by what stands in each.
+fn put_together(alloc: Global, found: Seq<Found>) -> Result<Accepted, Memory>
+    ensures { IfOk result (IsOfContents (map content_of found)) }
+{
+    let mut taken = taken_out(alloc, found)?;
+    let mut refusals = Seq::new(alloc);
+    let mut rules = Seq::new(alloc);
+    while let Some(next) = taken.pop() {
+        let refusal = move_found(alloc, &mut rules, next)?;
+        refusals.push(refusal)?;
+    }
+    Ok(Accepted { refusals, rules })
+}
+
+/// Moves the rules of a file behind these, unless it is refused. Answers why it is, if so.
+fn move_found(alloc: Global, rules: &mut Seq<Rule>, found: Found) -> Result<Option<Refused>, Memory>
+    ensures refusal { IfOk result (λ refusal. refusal ≡ refusal_in (content_of found)) }
+    ensures rules { OnOk result (rule_trees rules.new ≡ rule_trees rules.old ++ rules_in (content_of found)) }
+{
+    match found {
+        Found::Rules { of } => {
+            move_behind(alloc, rules, of)?;
+            Ok(None)
+        }
+        Found::Refused { why } => Ok(Some(why)),
     }
 }
 

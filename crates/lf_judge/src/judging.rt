@@ -16,96 +16,142 @@ use crate::accepting::{Accepted, accept_all};
 use crate::measuring::measure;
 use crate::telling::tell_rules;
 use crate::{JudgeEnd, Source};
-use lf_base::{Memory, Seq, Text};
+use lf_base::{Gate, Memory, Seq, Text};
 use lf_classes::Universe;
 use lf_fix::solve;
 use lf_flow::{Env, prepare};
 use lf_report::{FileReport, Refused, Report, RuleReport};
 use std::alloc::Global;
+use std::thread::Threads;
 
-/// The report on files, with the verdicts on labels where `labels` asks for them.
+/// The report on files, with the verdicts on labels where `labels` asks for them. It is the same for any number of workers, who accept the files, and tell of the rules.
 ///
 /// Files whose rules pass a limit have none. One limit is on the verdicts that are asked for, and the others don't depend on them.
-pub fn judge(alloc: Global, files: &Seq<Source>, labels: bool) -> Result<Report, JudgeEnd>
+pub fn judge<R: Threads + Sync, G: Gate + Sync>(
+    rt: &R,
+    alloc: Global,
+    files: &Seq<Source>,
+    labels: bool,
+    workers: u32,
+    gate: &G,
+) -> Result<Report, JudgeEnd>
     requires room { (k : ℕ) (file : Source) → slice_get files.now k ≡ Some file → length file.bytes ≤ 2 ^ 31 }
     requires few { length files.now < 2 ^ 32 }
+    requires workers { (0 < workers) × (workers ≤ 64) }
     ensures report { IfOk result (IsReportOn (files_of files.now) labels) }
     ensures fits { IfOk result (λ _. Fit labels (files_of files.now)) }
     ensures refused { IfErr result (EndsIn labels (files_of files.now)) }
 {
-    let accepted = accept_all(alloc, files)?;
-    let report = judge_accepted(alloc, files, &accepted, labels)?;
+    let accepted = accept_all(rt, alloc, files, workers, gate)?;
+    let report = judge_accepted(rt, alloc, files, &accepted, labels, workers, gate)?;
     Ok(report)
 }
 
 /// The report on files in which this stands.
-fn judge_accepted(
+fn judge_accepted<R: Threads + Sync, G: Gate + Sync>(
+    rt: &R,
     alloc: Global,
     files: &Seq<Source>,
     accepted: &Accepted,
     labels: bool,
+    workers: u32,
+    gate: &G,
 ) -> Result<Report, JudgeEnd>
-    requires { IsOfFiles (files_of files.now) accepted.now }
+    requires accepted { IsOfFiles (files_of files.now) accepted.now }
+    requires workers { (0 < workers) × (workers ≤ 64) }
     ensures report { IfOk result (IsReportOn (files_of files.now) labels) }
     ensures fits { IfOk result (λ _. Fit labels (files_of files.now)) }
     ensures refused { IfErr result (EndsIn labels (files_of files.now)) }
 {
     let mut universe = measure(alloc, &accepted.rules, labels)?;
-    let report = judge_within(alloc, files, accepted, &mut universe, labels)?;
+    let report = judge_within(
+        rt,
+        alloc,
+        files,
+        accepted,
+        &mut universe,
+        labels,
+        workers,
+        gate,
+    )?;
     Ok(report)
 }
 
 /// The same, where the rules pass no limit and have this universe.
-fn judge_within(
+fn judge_within<R: Threads + Sync, G: Gate + Sync>(
+    rt: &R,
     alloc: Global,
     files: &Seq<Source>,
     accepted: &Accepted,
     universe: &mut Universe,
     labels: bool,
+    workers: u32,
+    gate: &G,
 ) -> Result<Report, Memory>
     requires accepted { IsOfFiles (files_of files.now) accepted.now }
     requires universe { universe.old ≡ universe_of (rule_trees accepted.now.rules) }
     requires few { length accepted.now.rules ≤ most_rules }
+    requires workers { (0 < workers) × (workers ≤ 64) }
     ensures { IfOk result (IsReportOn (files_of files.now) labels) }
 {
     prepare(alloc, universe, &accepted.rules)?;
-    judge_prepared(alloc, files, accepted, universe, labels)
+    judge_prepared(rt, alloc, files, accepted, universe, labels, workers, gate)
 }
 
 /// The same, with the environment still to be solved.
-fn judge_prepared(
+fn judge_prepared<R: Threads + Sync, G: Gate + Sync>(
+    rt: &R,
     alloc: Global,
     files: &Seq<Source>,
     accepted: &Accepted,
     universe: &Universe,
     labels: bool,
+    workers: u32,
+    gate: &G,
 ) -> Result<Report, Memory>
     requires accepted { IsOfFiles (files_of files.now) accepted.now }
     requires universe { universe.now ≡ universe_of (rule_trees accepted.now.rules) }
     requires few { length accepted.now.rules ≤ most_rules }
+    requires workers { (0 < workers) × (workers ≤ 64) }
     ensures { IfOk result (IsReportOn (files_of files.now) labels) }
 {
     let env = solve(alloc, universe, &accepted.rules)?;
-    let report = judge_solved(alloc, files, accepted, universe, &env, labels)?;
+    let report = judge_solved(
+        rt, alloc, files, accepted, universe, &env, labels, workers, gate,
+    )?;
     Ok(report)
 }
 
 /// The same, by the least environment.
-fn judge_solved(
+fn judge_solved<R: Threads + Sync, G: Gate + Sync>(
+    rt: &R,
     alloc: Global,
     files: &Seq<Source>,
     accepted: &Accepted,
     universe: &Universe,
     env: &Env,
     labels: bool,
+    workers: u32,
+    gate: &G,
 ) -> Result<Report, Memory>
     requires accepted { IsOfFiles (files_of files.now) accepted.now }
     requires universe { universe.now ≡ universe_of (rule_trees accepted.now.rules) }
     requires few { length accepted.now.rules ≤ most_rules }
     requires least { IsLeast universe.now (rule_trees accepted.now.rules) env.now }
+    requires workers { (0 < workers) × (workers ≤ 64) }
     ensures { IfOk result (IsReportOn (files_of files.now) labels) }
 {
-    let rules = tell_rules(alloc, files, &accepted.rules, universe, env, labels)?;
+    let rules = tell_rules(
+        rt,
+        alloc,
+        files,
+        &accepted.rules,
+        universe,
+        env,
+        labels,
+        workers,
+        gate,
+    )?;
     report_of(alloc, files, accepted, universe, rules, labels)
 }
 

@@ -2,6 +2,7 @@
 #![tactic(auto)]
 
 mod accepting;
+mod at_hand;
 mod findings;
 mod judge_end;
 mod judging;

@@ -1,10 +1,12 @@
 //! What is known of the labels of a rule, as a report tells it.
-ghost use Rattle.std.specs.Prelude.{◌≡◌, ◌<◌, Some, length, map, not, slice_get, IfOk};
+ghost use Rattle.std.specs.List.{list_any};
+ghost use Rattle.std.specs.Prelude.{◌≡◌, ◌<◌, List, Some, true, length, map, not, slice_get, IfOk};
 ghost use Rattle.lf_ast.specs.Rules.{RuleTree, rule_tree, rule_trees};
+ghost use Rattle.lf_open.specs.views.Opens.{AreOpens, AreSomeOpens};
 ghost use Rattle.lf_semantics.specs.Environments.{IsLeast};
 ghost use Rattle.lf_semantics.specs.Listing.{universe_of};
 ghost use Rattle.lf_worlds.specs.views.Told.{label_verdict, rule_verdict};
-ghost use Rattle.lf_judge.specs.Judged.{verdict_told, verdicts_told, world_told};
+ghost use Rattle.lf_judge.specs.Judged.{IsFirstOpen, has_unresolved, is_unresolved, unresolved_told, verdict_told, verdicts_told, world_told};
 ghost use Rattle.lf_judge.specs.views.Checking.{TellsEmpty, TellsVerdicts};
 
 use crate::moving::taken_out;
@@ -13,38 +15,87 @@ use lf_base::{Memory, Seq, Span};
 use lf_classes::Universe;
 use lf_fix::rule_row;
 use lf_flow::Env;
+use lf_open::{OpenAt, Opens};
 use lf_worlds::{RuleVerdicts as RuleKnown, Trials, Verdict as Known, World as Shown};
 use std::alloc::Global;
 
-/// What is known of the labels of the rule with this number, counted from 0, by trials of the rules.
+/// What is known of the labels of the rule with this number, counted from 0, by trials of the rules and by what stands open in them.
 pub fn verdicts_of(
     alloc: Global,
     trials: &Trials,
+    opens: &Opens,
     rule: &Rule,
     number: u32,
 ) -> Result<RuleVerdicts, Memory>
     requires universe { trials.now.universe ≡ universe_of (rule_trees trials.now.rules) }
+    requires opens { AreOpens (rule_trees trials.now.rules) opens.now }
     requires within { number < length trials.now.rules }
     requires rule { slice_get trials.now.rules number ≡ Some rule.now }
     ensures { IfOk result (TellsVerdicts (rule_trees trials.now.rules) trials.now.env number (rule_tree rule.now)) }
 {
     let known = trials.rule(alloc, number)?;
-    rule_told(alloc, known, number, rule.expr_span)
+    let first = open_for(alloc, opens, &known, number)?;
+    rule_told(alloc, known, first, number, rule.expr_span)
 }
 
-/// Verdicts on the rule with a number, whose expression has this span, as a report tells them.
+/// The first construct that stands open for the rule with this number, where its verdicts leave a label unresolved. Elsewhere it isn't looked for.
+fn open_for(
+    alloc: Global,
+    opens: &Opens,
+    known: &RuleKnown,
+    number: u32,
+) -> Result<Option<OpenAt>, Memory>
+    requires opens { AreSomeOpens opens.now }
+    requires within { number < length opens.now.lists }
+    ensures { IfOk result (λ first. (rules : List RuleTree) → AreOpens rules opens.now → has_unresolved (rule_verdict known.now) ≡ true → IsFirstOpen rules number first) }
+{
+    if has_unresolved(known) {
+        return opens.first(alloc, number);
+    }
+    Ok(None)
+}
+
+/// Whether a label of the rule stays unresolved.
+fn has_unresolved(known: &RuleKnown) -> bool
+    ensures { result ≡ has_unresolved (rule_verdict known.now) }
+{
+    match known {
+        RuleKnown::Empty => false,
+        RuleKnown::Labels { of } => any_unresolved(of.as_slice()),
+    }
+}
+
+/// Whether one of these verdicts is that nothing is known.
+fn any_unresolved(known: &[Known]) -> bool
+    ensures { result ≡ list_any (λ v. is_unresolved (label_verdict v)) known.now }
+{
+    known.iter().any(|verdict| is_unresolved(verdict))
+}
+
+/// Whether a verdict is that nothing is known.
+fn is_unresolved(known: &Known) -> bool
+    ensures { result ≡ is_unresolved (label_verdict known.now) }
+{
+    match known {
+        Known::Unresolved => true,
+        _ => false,
+    }
+}
+
+/// Verdicts on the rule with a number, whose expression has this span, as a report tells them, by the first construct that stands open for it.
 fn rule_told(
     alloc: Global,
     known: RuleKnown,
+    first: Option<OpenAt>,
     number: u32,
     span: Span,
 ) -> Result<RuleVerdicts, Memory>
-    ensures { (r : RuleTree) → r.expr_span ≡ span → IfOk result (λ told. told ≡ verdicts_told number r (rule_verdict known)) }
+    ensures { (r : RuleTree) → r.expr_span ≡ span → IfOk result (λ told. told ≡ verdicts_told first number r (rule_verdict known)) }
 {
     match known {
         RuleKnown::Empty => Ok(RuleVerdicts::Empty),
         RuleKnown::Labels { of } => {
-            let of = each_told(alloc, of, number, span)?;
+            let of = each_told(alloc, of, first, number, span)?;
             Ok(RuleVerdicts::Labels { of })
         }
     }
@@ -54,22 +105,23 @@ fn rule_told(
 fn each_told(
     alloc: Global,
     known: Seq<Known>,
+    first: Option<OpenAt>,
     number: u32,
     span: Span,
 ) -> Result<Seq<Verdict>, Memory>
-    ensures { (r : RuleTree) → r.expr_span ≡ span → IfOk result (λ told. told ≡ map (λ v. verdict_told number r (label_verdict v)) known) }
+    ensures { (r : RuleTree) → r.expr_span ≡ span → IfOk result (λ told. told ≡ map (λ v. verdict_told first number r (label_verdict v)) known) }
 {
     let mut taken = taken_out(alloc, known)?;
     let mut told = Seq::new(alloc);
     while let Some(verdict) = taken.pop() {
-        told.push(label_told(verdict, number, span))?;
+        told.push(label_told(verdict, first, number, span))?;
     }
     Ok(told)
 }
 
 /// The same of a verdict.
-fn label_told(known: Known, number: u32, span: Span) -> Verdict
-    ensures { (r : RuleTree) → r.expr_span ≡ span → result ≡ verdict_told number r (label_verdict known) }
+fn label_told(known: Known, first: Option<OpenAt>, number: u32, span: Span) -> Verdict
+    ensures { (r : RuleTree) → r.expr_span ≡ span → result ≡ verdict_told first number r (label_verdict known) }
 {
     match known {
         Known::Guaranteed => Verdict::Guaranteed,
@@ -78,7 +130,21 @@ fn label_told(known: Known, number: u32, span: Span) -> Verdict
             with: world_told(with),
             without: world_told(without),
         },
-        Known::Unresolved => Verdict::Unresolved {
+        Known::Unresolved => unresolved_told(first, number, span),
+    }
+}
+
+/// The same where nothing is known: the first open construct is named, and the place where it stands.
+fn unresolved_told(first: Option<OpenAt>, number: u32, span: Span) -> Verdict
+    ensures { (r : RuleTree) → r.expr_span ≡ span → result ≡ unresolved_told first number r }
+{
+    match first {
+        Some(held) => Verdict::Unresolved {
+            construct: held.construct.number(),
+            rule: held.rule,
+            span: held.span,
+        },
+        None => Verdict::Unresolved {
             construct: 0,
             rule: number,
             span,

@@ -12,9 +12,10 @@ use Rattle.lf_semantics.specs.Worlds.{SetsNoName}
 use Rattle.lf_semantics.proofs.ListingLaws.{in_first_seen, of_first_seen}
 use Rattle.lf_checks.specs.Files.{File}
 use Rattle.lf_accept.specs.Accepted.{IsAccepted}
-use Rattle.lf_accept.proofs.AcceptedRules.{sets_no_name}
+use Rattle.lf_accept.proofs.AcceptedRules.{accepted_rule, sets_no_name}
 use Rattle.lf_accept.proofs.Starless.{no_star}
 use Rattle.lf_judge.specs.Founds.{AreContents, Content, Rules, Refused, accepted, rules_in}
+use Rattle.lf_shown.proofs.Settled.{AreTyped}
 use Rattle.lf_lint.proofs.ToldRules.{number_of, there_is}
 
 -- the rule is one of those with which the file with this number is accepted
@@ -41,6 +42,9 @@ module _ (files : List File) (contents : List Content) (are : AreContents files 
 
   pub set_no_name : (r : RuleTree) → Contains (accepted contents) r → SetsNoName r
   set_no_name r c = let of = of_file r c in sets_no_name of.file.bytes of.number of.rules of.is_accepted r of.is_one
+
+  pub are_typed : AreTyped (accepted contents)
+  are_typed r c = let of = of_file r c in let judged = accepted_rule of.file.bytes of.number of.rules of.is_accepted r of.is_one in (judged.type, judged.has_type)
 
   -- no label is called as the one that stands for all others is
   pub no_star_in : Contains (universe_of (accepted contents)).names (codes "*") → ⊥

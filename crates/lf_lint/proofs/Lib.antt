@@ -1,4 +1,5 @@
 mod Accepted
+pub mod Asking
 pub mod Gathered
 pub mod GeneratedSize
 mod Leaves

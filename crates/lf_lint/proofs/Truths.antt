@@ -3,7 +3,7 @@ use Rattle.std.proofs.Common.{◌≡◌, ◌≢◌, inl, inr, ℕ, zero, suc, �
 use Rattle.std.specs.Prelude.{slice_get, slice_index_or}
 use Rattle.std.specs.List.{Contains}
 use Rattle.std.proofs.lemmas.List.{length-map}
-use Rattle.std.proofs.lemmas.List.Elements.{Contains-append_right}
+use Rattle.std.proofs.lemmas.List.Elements.{Contains-append_right, Contains-get_or}
 use Rattle.lf_ast.specs.Labels.{Bytes, Labels as LabelTexts}
 use Rattle.lf_ast.specs.Rules.{RuleTree}
 use Rattle.lf_semantics.specs.ClassRows.{HasShape, Represents, Sets, holds, is_live}
@@ -28,17 +28,22 @@ use Rattle.lf_trials.specs.Candidates.{has_presence, labels_in, other_name}
 use Rattle.lf_trials.specs.Reached.{listed, rules_at}
 use Rattle.lf_trials.specs.Trials.{IsFirstShown, Shown, Shows}
 use Rattle.lf_trials.specs.Verdicts.{AreLabelVerdicts, IsLabelVerdict, IsRuleVerdict, LabelVerdict, RuleVerdict, Empty, Labels, Guaranteed, Impossible, Possible, Unresolved, leaves}
+use Rattle.lf_trials.proofs.MadeSeries.{any_has}
 use Rattle.lf_trials.proofs.ShownInWorlds.{at_number, built_is_scraped, found_in, uniform_is_scraped}
 use Rattle.lf_witness.specs.StrictRuns.{RuleStrictlyGives}
 use Rattle.lf_witness.proofs.StrictRunIsRun.{step_of, world_behind}
 use Rattle.lf_judge.specs.Founds.{accepted}
-use Rattle.lf_judge.specs.Judged.{AreChecked, Checked, IsReportOn, ToldRule, finding_in, finding_told, is_empty, labels_of, rule_in, rule_told, rules_told, verdict_told, verdicts_told, world_told}
+use Rattle.lf_judge.specs.Judged.{AreChecked, Checked, IsFirstOpen, IsReportOn, ToldRule, finding_in, finding_told, has_unresolved, is_empty, is_unresolved, labels_of, rule_in, rule_told, rules_told, unresolved_told, verdict_told, verdicts_told, world_told}
 use Rattle.lf_judge.specs.Limits.{AreWithin}
+use Rattle.lf_open.specs.OpenList.{AreOpen}
+use Rattle.lf_open.specs.declared.open_at.OpenAt.{OpenAt}
 use Rattle.lf_report.specs.declared.report.Finding.{Finding as ReportFinding}
 use Rattle.lf_report.specs.declared.report.Report.{Report}
 use Rattle.lf_report.specs.declared.report.RuleReport.{RuleReport}
+use Rattle.lf_shown.proofs.Resolved.{unresolved_is_open}
+use Rattle.lf_shown.proofs.Settled.{AreTyped}
 use Rattle.lf_lint.specs.Headline.{IsInWorld, IsTrue, IsTrueEmptiness, IsTrueReport, IsTrueSaid, IsTrueToldFinding, SpeaksTruth, label_for}
-use Rattle.lf_lint.proofs.Accepted.{no_star_in, set_no_name}
+use Rattle.lf_lint.proofs.Accepted.{are_typed, no_star_in, set_no_name}
 use Rattle.lf_lint.proofs.Leaves.{few_named, label_for_at, label_for_same, leaves_absent, leaves_present}
 use Rattle.lf_lint.proofs.Shapes.{shape_rule}
 use Rattle.lf_lint.proofs.ToldRules.{of_map, to_map, told_at, told_count}
@@ -98,7 +103,8 @@ module _ (rules : List RuleTree) (env : Environment) (i : ℕ) (r : RuleTree) (a
 
 module _ (rules : List RuleTree) (env : Environment) (shape : (r : RuleTree) → HasShape (universe_of rules) (rule_row (universe_of rules) env r)) (labels_few : label_count (universe_of rules) ≤ most_labels)
     (classes_few : class_count (universe_of rules) ≤ most_classes) (i : ℕ) (r : RuleTree) (at : slice_get rules i ≡ Some r)
-    (lies : (world : World rules) (s : LabelTexts) → IsSample world r s → Represents (universe_of rules) (rule_row (universe_of rules) env r) s) where
+    (lies : (world : World rules) (s : LabelTexts) → IsSample world r s → Represents (universe_of rules) (rule_row (universe_of rules) env r) s)
+    (stands : (label : Bytes) → Contains (labels_in (universe_of rules)) label → IsLabelVerdict (universe_of rules) env rules i (rule_row (universe_of rules) env r) label Unresolved → AreOpen rules i [] → ⊥) where
   abbrev universe : Listing
   universe = universe_of rules
 
@@ -115,6 +121,11 @@ module _ (rules : List RuleTree) (env : Environment) (shape : (r : RuleTree) →
     few : length (slice_index_or universe.named (label_of universe label) []) < 2 ^ 63
     few = few_named universe classes_few (label_of universe label)
 
+    label_listed : Contains (labels_in universe) label
+    label_listed =
+        let within : label_of universe name < length (labels_in universe) = omega (arith, place_le universe.names name, length-append universe.names (other_name universe ∷ [])) in
+        subst (Contains (labels_in universe)) (label_for_at universe names_few name) (Contains-get_or (labels_in universe) (label_of universe name) [] within)
+
     same_present : leaves universe rule_sets label true ≡ may_be_present universe rule_sets name
     same_present =
         leaves_present universe (universe_is_listing rules) label few rule_sets (shape r)
@@ -125,22 +136,31 @@ module _ (rules : List RuleTree) (env : Environment) (shape : (r : RuleTree) →
         leaves_absent universe (universe_is_listing rules) label few rule_sets (shape r)
         ∙ ap (λ (k : ℕ). holds rule_sets k 0) (label_for_same universe names_few name)
 
-    true_verdict : (v : LabelVerdict) → IsLabelVerdict universe env rules i rule_sets label v → IsTrue rules env i r (verdict_told i r v) name
-    true_verdict Guaranteed is =
+    true_unresolved : (first : Option OpenAt) → IsFirstOpen rules i first → IsLabelVerdict universe env rules i rule_sets label Unresolved → (AreOpen rules i [] → ⊥) → IsTrue rules env i r (unresolved_told first i r) name
+    true_unresolved None is_first is refuted = absurd (refuted is_first)
+    true_unresolved (Some first) is_first is refuted =
+        record {
+          true_of = (first, is_first.0, is_first.1, refl, refl, refl);
+          is_open = (λ e. (sym same_present ∙ is.0.0, sym same_absent ∙ is.0.1), λ both. tt);
+          unresolved = (λ e. ((sym same_present ∙ is.0.0, sym same_absent ∙ is.0.1), is.1), λ both. tt);
+        }
+
+    true_verdict : (first : Option OpenAt) (v : LabelVerdict) → (is_unresolved v ≡ true → IsFirstOpen rules i first) → IsLabelVerdict universe env rules i rule_sets label v → IsTrue rules env i r (verdict_told first i r v) name
+    true_verdict first Guaranteed is_first is =
         let lacking : may_be_absent universe rule_sets name ≡ false = sym same_absent ∙ is in
         record {
           true_of = λ world s sample. is_present universe rule_sets s (lies world s sample) name lacking;
           is_open = (λ e. absurd e, λ both. clash (may_be_absent universe rule_sets name) both.1 lacking);
           unresolved = (λ e. absurd e, λ both. clash (may_be_absent universe rule_sets name) both.0.1 lacking);
         }
-    true_verdict Impossible is =
+    true_verdict first Impossible is_first is =
         let there : may_be_present universe rule_sets name ≡ false = sym same_present ∙ is.0 in
         record {
           true_of = λ world s sample has. has (is_absent universe rule_sets s (lies world s sample) name there);
           is_open = (λ e. absurd e, λ both. clash (may_be_present universe rule_sets name) both.0 there);
           unresolved = (λ e. absurd e, λ both. clash (may_be_present universe rule_sets name) both.0.0 there);
         }
-    true_verdict (Possible present absent) is =
+    true_verdict first (Possible present absent) is_first is =
         let there = in_world rules env i r at label true present is.1 in
         let lacking = in_world rules env i r at label false absent is.2 in
         record {
@@ -148,12 +168,7 @@ module _ (rules : List RuleTree) (env : Environment) (shape : (r : RuleTree) →
           is_open = (λ e. (sym same_present ∙ is.0.0, sym same_absent ∙ is.0.1), λ both. tt);
           unresolved = (λ e. absurd e, λ both. elim both.1 [ inl none ↦ none present is.1 | inr none ↦ none absent is.2 ]);
         }
-    true_verdict Unresolved is =
-        record {
-          true_of = (refl, refl, refl);
-          is_open = (λ e. (sym same_present ∙ is.0.0, sym same_absent ∙ is.0.1), λ both. tt);
-          unresolved = (λ e. ((sym same_present ∙ is.0.0, sym same_absent ∙ is.0.1), is.1), λ both. tt);
-        }
+    true_verdict first Unresolved is_first is = true_unresolved first (is_first refl) is (stands label label_listed is)
 
   -- the verdict at the place of a label
   verdict_at : (labels : List Bytes) (verdicts : List LabelVerdict) → AreLabelVerdicts universe env rules i rule_sets labels verdicts → (k : ℕ) → k < length labels
@@ -172,7 +187,7 @@ module _ (rules : List RuleTree) (env : Environment) (shape : (r : RuleTree) →
 -- ---- what is told of a rule
 
 module _ (rules : List RuleTree) (named : (r : RuleTree) → Contains rules r → SetsNoName r) (env : Environment) (least : IsLeast (universe_of rules) rules env) (labels_few : label_count (universe_of rules) ≤ most_labels)
-    (classes_few : class_count (universe_of rules) ≤ most_classes) where
+    (classes_few : class_count (universe_of rules) ≤ most_classes) (typed : AreTyped rules) where
   abbrev u : Listing
   u = universe_of rules
 
@@ -192,18 +207,24 @@ module _ (rules : List RuleTree) (named : (r : RuleTree) → Contains rules r �
   true_emptiness i r Empty is = record { exactly = (λ e. is, λ e. refl); no_sample = λ e world s sample. not_empty u (rule_row u env r) s (lies r world s sample) is }
   true_emptiness i r (Labels verdicts) is = record { exactly = (λ e. cc, λ e. absurd (clash (is_live (rule_row u env r)) is.0 e)); no_sample = λ e. cc }
 
-  true_said : (i : ℕ) (r : RuleTree) → slice_get rules i ≡ Some r → (labels : Bool) (v : RuleVerdict) → IsRuleVerdict u env rules i r v → IsTrueSaid rules env i r labels (if labels then Some (verdicts_told i r v) else None)
-  true_said i r at false v is = refl
-  true_said i r at true Empty is = (refl, is)
-  true_said i r at true (Labels verdicts) is = (
+  -- where a label stays unresolved, something stands open
+  stands : (i : ℕ) (r : RuleTree) → slice_get rules i ≡ Some r → is_live (rule_row u env r) ≡ true → (label : Bytes) → Contains (labels_in u) label → IsLabelVerdict u env rules i (rule_row u env r) label Unresolved → AreOpen rules i [] → ⊥
+  stands i r at live label listed unresolved none = unresolved_is_open rules typed named (omega (arith, classes_few)) env least i r at live label listed unresolved [] none refl
+
+  true_said : (i : ℕ) (r : RuleTree) → slice_get rules i ≡ Some r → (labels : Bool) (first : Option OpenAt) (v : RuleVerdict) → (labels ≡ true → has_unresolved v ≡ true → IsFirstOpen rules i first) → IsRuleVerdict u env rules i r v
+      → IsTrueSaid rules env i r labels (if labels then Some (verdicts_told first i r v) else None)
+  true_said i r at false first v is_first is = refl
+  true_said i r at true first Empty is_first is = (refl, is)
+  true_said i r at true first (Labels verdicts) is_first is = (
     refl,
     is.0,
-    length-map verdicts (verdict_told i r) ∙ verdict_count rules env shape labels_few classes_few i r at (lies r) (labels_in u) verdicts is.1 ∙ sym label_total,
+    length-map verdicts (verdict_told first i r) ∙ verdict_count rules env shape labels_few classes_few i r at (lies r) (stands i r at is.0) (labels_in u) verdicts is.1 ∙ sym label_total,
     λ name.
         let k = label_of u name in
-        let found = verdict_at rules env shape labels_few classes_few i r at (lies r) (labels_in u) verdicts is.1 k (omega (arith, within name, label_total)) in
+        let found = verdict_at rules env shape labels_few classes_few i r at (lies r) (stands i r at is.0) (labels_in u) verdicts is.1 k (omega (arith, within name, label_total)) in
         let of_label = subst (λ (l : Bytes). IsLabelVerdict u env rules i (rule_row u env r) l found.0) (label_for_at u (omega (arith, labels_few)) name) found.2 in
-        (verdict_told i r found.0, to_map (verdict_told i r) verdicts k found.0 found.1, true_verdict rules env shape labels_few classes_few i r at (lies r) name found.0 of_label),
+        let open_of : is_unresolved found.0 ≡ true → IsFirstOpen rules i first = λ e. is_first refl (any_has is_unresolved verdicts found.0 (at_number verdicts k found.0 found.1) e) in
+        (verdict_told first i r found.0, to_map (verdict_told first i r) verdicts k found.0 found.1, true_verdict rules env shape labels_few classes_few i r at (lies r) (stands i r at is.0) name first found.0 open_of of_label),
   )
 
   -- the findings of a rule are true of it
@@ -220,22 +241,22 @@ module _ (rules : List RuleTree) (named : (r : RuleTree) → Contains rules r �
       let (f, is, tells) = of_map finding_told c.found k (finding_in finding) there in
       (f, tells, found_true files i c at are f (at_number c.found k f is))
 
-  speaks : (files : List File) (labels : Bool) (i : ℕ) (c : Checked) (told : RuleReport) → slice_get rules i ≡ Some c.rule → IsRuleVerdict u env rules i c.rule c.verdict → AreFindings files rules env i c.found → rule_in told ≡ rule_told labels i c
-      → SpeaksTruth rules env labels i c.rule told
-  speaks files labels i c told at is are tells = record {
+  speaks : (files : List File) (labels : Bool) (i : ℕ) (c : Checked) (told : RuleReport) → slice_get rules i ≡ Some c.rule → IsRuleVerdict u env rules i c.rule c.verdict
+      → (labels ≡ true → has_unresolved c.verdict ≡ true → IsFirstOpen rules i c.first) → AreFindings files rules env i c.found → rule_in told ≡ rule_told labels i c → SpeaksTruth rules env labels i c.rule told
+  speaks files labels i c told at is is_first are tells = record {
     file = ap (λ (t : ToldRule). t.file) tells;
     alert = ap (λ (t : ToldRule). t.alert) tells;
     name = ap (λ (t : ToldRule). t.name) tells;
     name_span = ap (λ (t : ToldRule). t.name_span) tells;
     empty = subst (IsTrueEmptiness rules env c.rule) (sym (ap (λ (t : ToldRule). t.empty) tells)) (true_emptiness i c.rule c.verdict is);
-    said = subst (IsTrueSaid rules env i c.rule labels) (sym (ap (λ (t : ToldRule). t.verdicts) tells)) (true_said i c.rule at labels c.verdict is);
+    said = subst (IsTrueSaid rules env i c.rule labels) (sym (ap (λ (t : ToldRule). t.verdicts) tells)) (true_said i c.rule at labels c.first c.verdict is_first is);
     findings = true_finding files i c told at are (ap (λ (t : ToldRule). t.findings) tells);
   }
 
   rule_at : (checked : List Checked) (i : ℕ) (c : Checked) → map (λ (x : Checked). x.rule) checked ≡ rules → slice_get checked i ≡ Some c → slice_get rules i ≡ Some c.rule
   rule_at checked i c each at = ap (λ l. slice_get l i) (sym each) ∙ to_map (λ (x : Checked). x.rule) checked i c at
 
-  all_speak : (files : List File) (labels : Bool) (checked : List Checked) (reports : List RuleReport) → AreChecked files rules env checked → map rule_in reports ≡ rules_told labels 0 checked → (i : ℕ) (r : RuleTree) (told : RuleReport)
+  all_speak : (files : List File) (labels : Bool) (checked : List Checked) (reports : List RuleReport) → AreChecked files labels rules env checked → map rule_in reports ≡ rules_told labels 0 checked → (i : ℕ) (r : RuleTree) (told : RuleReport)
       → slice_get rules i ≡ Some r → slice_get reports i ≡ Some told → SpeaksTruth rules env labels i r told
   all_speak files labels checked reports are tell i r told at here =
       let there : slice_get (rules_told labels 0 checked) i ≡ Some (rule_in told) = ap (λ l. slice_get l i) (sym tell) ∙ to_map rule_in reports i told here in
@@ -244,7 +265,7 @@ module _ (rules : List RuleTree) (named : (r : RuleTree) → Contains rules r �
       let tells : rule_told labels i c ≡ rule_in told = ap (λ k. rule_told labels k c) (sym zero) ∙ numbered in
       let of_rule = rule_at checked i c are.each_rule is in
       let same : c.rule ≡ r = (let e : Some c.rule ≡ Some r = sym of_rule ∙ at in cc) in
-      subst (λ (x : RuleTree). SpeaksTruth rules env labels i x told) same (speaks files labels i c told of_rule (are.each_verdict i c is) (are.each_list i c is) (sym tells))
+      subst (λ (x : RuleTree). SpeaksTruth rules env labels i x told) same (speaks files labels i c told of_rule (are.each_verdict i c is) (λ e. are.each_open e i c is) (are.each_list i c is) (sym tells))
 
 -- a report on files is true
 pub true_report : (files : List File) (labels : Bool) (report : Report) (on : IsReportOn files labels report) → AreWithin labels (accepted on.contents) → IsTrueReport files (accepted on.contents) report
@@ -261,5 +282,5 @@ true_report files labels report on fits =
       universe = on.universe_is;
       count = sym (length-map report.rules rule_in) ∙ ap length on.rules_are ∙ told_count labels 0 on.checked ∙ sym (length-map on.checked (λ (c : Checked). c.rule)) ∙ ap length on.are_checked.each_rule;
       all_true = subst (λ (l : Bool). (i : ℕ) (r : RuleTree) (told : RuleReport) → slice_get rules i ≡ Some r → slice_get report.rules i ≡ Some told → SpeaksTruth rules on.env l i r told) (sym on.labels_are)
-          (all_speak rules (set_no_name files on.contents on.are_contents) on.env on.least fits.labels_fit fits.classes_fit files labels on.checked report.rules on.are_checked on.rules_are);
+          (all_speak rules (set_no_name files on.contents on.are_contents) on.env on.least fits.labels_fit fits.classes_fit (are_typed files on.contents on.are_contents) files labels on.checked report.rules on.are_checked on.rules_are);
     }

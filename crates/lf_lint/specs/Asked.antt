@@ -1,5 +1,5 @@
--- What options ask for: how the report is written, whether it tells the verdicts on labels, and of which files it is.
-use Rattle.std.specs.Prelude.{◌≡◌, Bool, true, List, [], ◌∷◌, codes, Option, if◌then◌else◌}
+-- What options ask for: how the report is written, whether it tells the verdicts on labels, how many workers make it, and of which files it is.
+use Rattle.std.specs.Prelude.{◌≡◌, ℕ, Bool, true, List, [], ◌∷◌, codes, Option, if◌then◌else◌}
 use Rattle.std.specs.List.{AllZip}
 use Rattle.lf_ast.specs.Labels.{Bytes}
 use Rattle.lf_checks.specs.Files.{File}
@@ -29,6 +29,11 @@ written Totals report = last_lines 2 (report_text report)
 abbrev pub tells_labels : Options → Bool
 tells_labels (Lint workers json labels files) = labels
 tells_labels (Gen n) = true
+
+-- so many workers make it: as many as are given, and four where the file is generated
+abbrev pub workers_of : Options → ℕ
+workers_of (Lint workers json labels files) = workers
+workers_of (Gen n) = 4
 
 -- the names of the files that are opened, in their order. The generated file is opened nowhere
 abbrev pub names_of : Options → List Bytes

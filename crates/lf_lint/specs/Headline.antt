@@ -14,6 +14,9 @@ use Rattle.lf_checks.specs.Finding.{Finding}
 use Rattle.lf_checks.specs.Truths.{IsTrue as IsTrueFinding}
 use Rattle.lf_judge.specs.Founds.{AreContents, Content, accepted}
 use Rattle.lf_judge.specs.Judged.{files_told, finding_in, finding_told, labels_of}
+use Rattle.lf_open.specs.Constructs.{number_of}
+use Rattle.lf_open.specs.OpenList.{AreOpen}
+use Rattle.lf_open.specs.declared.open_at.OpenAt.{OpenAt}
 use Rattle.lf_report.specs.declared.report.Finding.{Finding as ReportFinding}
 use Rattle.lf_report.specs.declared.report.Report.{Report}
 use Rattle.lf_report.specs.declared.report.RuleReport.{RuleReport}
@@ -54,14 +57,15 @@ pub record IsInWorld (rules : List RuleTree) (i : ℕ) (r : RuleTree) (label : B
   pub is_sample : IsSample world r told.sample
 
 -- In every world of the rules, a name called guaranteed is on each sample of the rule, and one called impossible on none. Where it is called possible, the verdict has two
--- worlds: in one a sample has the label that stands for the name, and in the other one a sample lacks it. An unresolved one stands at the rule's own expression and names no
--- construct, and nothing is claimed of samples
+-- worlds: in one a sample has the label that stands for the name, and in the other one a sample lacks it. An unresolved one names the first construct that stands open for the rule, so
+-- one does: in its expression, or in that of a rule that it reads
 abbrev pub IsTrueOf : List RuleTree → ℕ → RuleTree → Verdict → Bytes → Bytes → Type 0
 IsTrueOf rules i r Guaranteed label name = (world : World rules) (s : Labels) → IsSample world r s → Has s name
 IsTrueOf rules i r Impossible label name = (world : World rules) (s : Labels) → IsSample world r s → Has s name → ⊥
 IsTrueOf rules i r (Possible with without) label name =
     (IsInWorld rules i r label true with × Has with.sample label) × (IsInWorld rules i r label false without × (Has without.sample label → ⊥))
-IsTrueOf rules i r (Unresolved construct rule span) label name = (construct ≡ 0) × (rule ≡ i) × (span ≡ r.expr_span)
+IsTrueOf rules i r (Unresolved construct rule span) label name =
+    (first : OpenAt) × (later : List OpenAt) × AreOpen rules i (first ∷ later) × (construct ≡ number_of first.construct) × (rule ≡ first.rule) × (span ≡ first.span)
 
 -- the row of the rule in the environment leaves both open, that the name is there and that it isn't
 abbrev pub LeavesBoth : List RuleTree → Environment → RuleTree → Bytes → Type 0

@@ -1,4 +1,4 @@
-//! What the program does: it reads the words and the files, accepts and judges their rules, and writes the report.
+//! What the program does: it reads the words and the files, accepts and judges their rules, and writes the report. Its parts can be called on their own.
 #![tactic(auto)]
 
 mod linting;
@@ -10,8 +10,9 @@ mod status;
 mod unreported;
 mod writing;
 
+pub use lf_accept::accept;
 pub use lf_gen::gen_text;
-pub use lf_judge::{JudgeEnd, Source, judge};
+pub use lf_judge::{JudgeEnd, Source, judge, measure};
 pub use lf_report::{json_of, text_of};
 pub use lf_words::{Options, WordFault, read_words};
 pub use linting::lint;

@@ -14,7 +14,8 @@ use lf_base::{Files, Gate, Sink};
 use std::alloc::Global;
 use std::thread::Threads;
 
-/// A whole run of the program: lints the files that the words ask for, or a generated one, and writes the report on them. Files are linted on one thread.
+/// A whole run of the program: lints the files that the words ask for, or a generated one, and writes the report on them. As many workers do it as the words say; a generated
+/// file has four.
 ///
 /// The words come without the program's own name. The whole report is made before its first byte is written.
 pub fn lint<R: Threads + Sync, F: Files, O: Sink, G: Gate + Sync>(
@@ -61,15 +62,12 @@ pub fn lint<R: Threads + Sync, F: Files, O: Sink, G: Gate + Sync>(
     ensures out_calm { result ≢ Status.Write → O.faults out.new ≡ O.faults out.old }
     ensures kept { (name : List ℕ) → F.held files.new name ≡ F.held files.old name }
 {
-    // Files are linted on this thread alone.
-    let _ = rt;
-    let _ = gate;
     let options = match read_words(alloc, words) {
         Ok(options) => options,
         Err(WordFault::Refused) => return Status::Words,
         Err(WordFault::Memory) => return Status::Memory,
     };
-    let made = match make(alloc, &options, files) {
+    let made = match make(rt, alloc, &options, files, gate) {
         Ok(made) => made,
         Err(why) => return why.status(),
     };

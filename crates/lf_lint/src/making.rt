@@ -1,23 +1,24 @@
 //! The making of a report.
-ghost use Rattle.std.specs.Prelude.{◌≡◌, ◌≤◌, ◌+◌, ◌^◌, ℕ, List, length, IfErr, IfOk, OnOk};
+ghost use Rattle.std.specs.Prelude.{◌≡◌, ◌≤◌, ◌<◌, ◌+◌, ◌^◌, ℕ, List, length, IfErr, IfOk, OnOk};
 ghost use Rattle.lf_judge.specs.Judged.{files_of};
 ghost use Rattle.lf_report.specs.Numbers.{NameRules, StandInFiles};
 ghost use Rattle.lf_report.specs.declared.report.Report.{Report};
 ghost use Rattle.lf_words.specs.Grammar.{Asks};
-ghost use Rattle.lf_lint.specs.Asked.{names_of, tells_labels, written};
+ghost use Rattle.lf_lint.specs.Asked.{names_of, tells_labels, workers_of, written};
 ghost use Rattle.lf_lint.specs.Ends.{end_of};
 ghost use Rattle.lf_lint.specs.Read.{AreShort, most_files};
 ghost use Rattle.lf_lint.specs.views.Making.{IsMade, IsMadeOf, IsWhyUnjudged, IsWhyUnreported};
 
 use crate::Status;
-use crate::output::{Output, render, with_labels};
+use crate::output::{Output, render, with_labels, worker_count};
 use crate::sources::sources_of;
 use crate::unreported::Unreported;
-use lf_base::{Files, Memory, Seq, Text};
+use lf_base::{Files, Gate, Memory, Seq, Text};
 use lf_judge::{Source, judge};
 use lf_report::Report;
 use lf_words::Options;
 use std::alloc::Global;
+use std::thread::Threads;
 
 /// A report as it is written, and how it ends a run once it is.
 #[derive(Drop)]
@@ -27,7 +28,13 @@ pub struct Made {
 }
 
 /// Makes the report that these options ask for. Nothing is written.
-pub fn make<F: Files>(alloc: Global, options: &Options, files: &mut F) -> Result<Made, Unreported>
+pub fn make<R: Threads + Sync, F: Files, G: Gate + Sync>(
+    rt: &R,
+    alloc: Global,
+    options: &Options,
+    files: &mut F,
+    gate: &G,
+) -> Result<Made, Unreported>
     requires calm { F.faults files.old ≡ 0 }
     requires opens { F.opens files.old ≤ 2 ^ 31 }
     requires asked { (words : List (List ℕ)) × Asks words options.now }
@@ -39,17 +46,25 @@ pub fn make<F: Files>(alloc: Global, options: &Options, files: &mut F) -> Result
     ensures kept { (name : List ℕ) → F.held files.new name ≡ F.held files.old name }
 {
     let sources = sources_of(alloc, options, files)?;
-    make_of(alloc, options, &sources)
+    make_of(rt, alloc, options, &sources, gate)
 }
 
 /// Makes the report on these files.
-fn make_of(alloc: Global, options: &Options, sources: &Seq<Source>) -> Result<Made, Unreported>
+fn make_of<R: Threads + Sync, G: Gate + Sync>(
+    rt: &R,
+    alloc: Global,
+    options: &Options,
+    sources: &Seq<Source>,
+    gate: &G,
+) -> Result<Made, Unreported>
     requires short { AreShort (files_of sources.now) }
     requires few { length sources.now ≤ most_files }
+    requires workers { (0 < workers_of options.now) × (workers_of options.now ≤ 64) }
     ensures made { IfOk result (IsMadeOf options.now (files_of sources.now)) }
     ensures why { IfErr result (IsWhyUnjudged (tells_labels options.now) (files_of sources.now)) }
 {
-    let report = judge(alloc, sources, with_labels(options))?;
+    let labels = with_labels(options);
+    let report = judge(rt, alloc, sources, labels, worker_count(options), gate)?;
     let made = Made::of(alloc, Output::of(options), &report)?;
     Ok(made)
 }

@@ -3,13 +3,16 @@ ghost use Rattle.std.specs.Prelude.{◌≡◌, IfOk};
 ghost use Rattle.lf_gen.specs.Lines.{last_lines};
 ghost use Rattle.lf_report.specs.Numbers.{NameRules, StandInFiles};
 ghost use Rattle.lf_report.specs.Text.{report_text};
-ghost use Rattle.lf_lint.specs.Asked.{output_of, tells_labels, written};
+ghost use Rattle.lf_lint.specs.Asked.{output_of, tells_labels, workers_of, written};
 
 use lf_base::{Memory, Text};
 use lf_gen::last_two_lines;
 use lf_report::{Report, json_of, text_of};
 use lf_words::Options;
 use std::alloc::Global;
+
+/// How many workers make the report on a generated file.
+const WORKERS_OF_GENERATED: u32 = 4;
 
 /// How a report is written.
 #[derive(Clone, Copy, PartialEq, Eq, Debug)]
@@ -42,6 +45,16 @@ pub fn with_labels(options: &Options) -> bool
     match options {
         Options::Lint { labels, .. } => *labels,
         Options::Gen { .. } => true,
+    }
+}
+
+/// How many workers make the report that these options ask for.
+pub fn worker_count(options: &Options) -> u32
+    ensures { result ≡ workers_of options.now }
+{
+    match options {
+        Options::Lint { workers, .. } => *workers,
+        Options::Gen { .. } => WORKERS_OF_GENERATED,
     }
 }
 

@@ -6,8 +6,8 @@ ghost use Rattle.lf_lint.specs.Read.{AreAsTold};
 use lf_base::{Failed, Files, Memory, Seq, Text};
 use std::alloc::{AllocError, Global};
 
-/// By how many bytes the part of the buffer that is read into grows.
-const STEP: usize = 64 * 1024;
+/// How many bytes are read into first. From then on the buffer doubles.
+const FIRST: usize = 16 * 1024;
 
 /// Why a file isn't read whole.
 #[derive(Clone, Copy, PartialEq, Eq, Debug)]
@@ -72,9 +72,8 @@ pub fn read_whole<F: Files>(
     ensures calm { result ≢ Err ReadEnd.Failed → F.faults files.new ≡ F.faults files.old }
     ensures kept { (other : List ℕ) → F.held files.new other ≡ F.held files.old other }
 {
-    // Memory that is never touched costs nothing, so the room for the longest file is taken at once, and no byte is moved later.
     let room = most as usize + 1;
-    let mut bytes = Vec::with_capacity(alloc, room)?;
+    let mut bytes = Vec::new(alloc);
     let mut filled = 0;
     files.open(name.as_str())?;
     while filled < room {
@@ -90,7 +89,8 @@ pub fn read_whole<F: Files>(
     Err(ReadEnd::TooLong)
 }
 
-/// Sees to it that there are bytes to read over from `filled` on: a step of zeros where there are none, but no more than there is room for.
+/// Sees to it that there are bytes to read over from `filled` on: as many zeros again where there are none, but no more than there is room for. So a short file takes little
+/// room, and of a long one each byte is moved a time or two.
 fn make_room(bytes: &mut Vec<u8>, filled: usize, room: usize) -> Result<(), AllocError>
     requires filled { filled ≤ vec_len bytes.old }
     requires some { filled < room }
@@ -102,7 +102,7 @@ fn make_room(bytes: &mut Vec<u8>, filled: usize, room: usize) -> Result<(), Allo
     if filled < bytes.len() {
         return Ok(());
     }
-    let step = STEP.min(room - filled);
+    let step = FIRST.max(filled).min(room - filled);
     bytes.resize(filled + step, 0)
 }
 

@@ -1,10 +1,21 @@
--- What the code keeps of the files that it accepts.
-use Rattle.std.specs.Prelude.{◌≡◌, List, Option, Some, None, map}
+-- What the code finds in files, and what it keeps of them.
+use Rattle.std.specs.Prelude.{◌≡◌, ℕ, List, Option, Some, None, map, slice_get}
 use Rattle.lf_ast.specs.Rules.{rule_trees}
 use Rattle.lf_checks.specs.Files.{File}
 use Rattle.lf_report.specs.declared.report.Refused.{Refused as Refusal}
-use Rattle.lf_judge.specs.Founds.{AreContents, Content, Rules, Refused, accepted}
+use Rattle.lf_judge.specs.Founds.{AreContents, Content, Holds, Rules, Refused, accepted}
 use Rattle.lf_judge.specs.declared.accepting.Accepted.{Accepted}
+use Rattle.lf_judge.specs.declared.accepting.Found.{Found}
+use Rattle.lf_judge.specs.declared.accepting.Found.TheVariants as kept
+
+-- what was found in a file
+abbrev pub content_of : Found → Content
+content_of (kept.Rules rules) = Rules (rule_trees rules)
+content_of (kept.Refused why) = Refused why.kind why.span
+
+-- this was found in the file with a number
+abbrev pub IsFoundIn : List File → ℕ → Found → Type 0
+IsFoundIn files k found = (file : File) → slice_get files k ≡ Some file → Holds k file (content_of found)
 
 -- why a file is refused, if it is
 abbrev pub refusal_in : Content → Option Refusal

@@ -1,23 +1,18 @@
-use Rattle.std.proofs.Common.{◌∙◌, ap, append-nil, refl, subst, sym}
+use Rattle.std.proofs.Common.{subst}
 use Rattle.lf_ast.specs.Labels.{Bytes}
-use Rattle.lf_ast.specs.Rules.{rule_tree, rule_trees}
+use Rattle.lf_ast.specs.Rules.{rule_trees}
 use Rattle.lf_accept.specs.Accepted.{IsAccepted, RefusesFile}
 use Rattle.lf_base.specs.Answers.{IfAt}
 use Rattle.lf_base.specs.Faults.{fault}
 use Rattle.lf_base.specs.declared.refusal.Refusal.{Refusal}
-use Rattle.lf_judge.specs.Founds.{Refused, Rules}
-use Rattle.lf_judge.proofs.Places.{map_append}
 use Rattle.lf_judge.proofs.accepting.accept_file.Goals as goal
 
-pub returns-in_ok-move_behind-in-Ok : goal.returns-in_ok-move_behind-in-Ok
-returns-in_ok-move_behind-in-Ok c =
-    let rules = c.in-Ok.accepted in
-    let P : Bytes → Type 0 = λ bytes. IsAccepted bytes c.args.number (rule_trees rules) in
-    (Rules (rule_trees rules), subst P c.as_slice.ensures c.in-Ok.ensures.found, refl, ap rule_trees c.in_ok-move_behind-in-Ok.ensures ∙ map_append rule_tree c.args.rules.now rules)
+pub returns-in-Ok : goal.returns-in-Ok
+returns-in-Ok c = let P : Bytes → Type 0 = λ bytes. IsAccepted bytes c.args.number (rule_trees c.in-Ok.of) in subst P c.as_slice.ensures c.in-Ok.ensures.found
 
 pub returns-in_ok-why-in-Err : goal.returns-in_ok-why-in-Err
 returns-in_ok-why-in-Err c =
     let why = c.in_ok-why-in-Err.why in
     let P : Refusal → Type 0 = λ refusal. IfAt refusal (RefusesFile c.as_slice.result.now) in
     let Q : Bytes → Type 0 = λ bytes. RefusesFile bytes (fault why.kind why.span) in
-    (Refused why.kind why.span, subst Q c.as_slice.ensures (subst P c.in_ok-why-in-Err.ensures c.in-Err.ensures.refused), refl, sym (append-nil (rule_trees c.args.rules.now)))
+    subst Q c.as_slice.ensures (subst P c.in_ok-why-in-Err.ensures c.in-Err.ensures.refused)

@@ -10,24 +10,24 @@ use Rattle.lf_judge.proofs.Places.{file_at, stands_in, tree_at}
 use Rattle.lf_judge.proofs.findings.other_place.Goals as goal
 
 pub get-requires-2 : goal.get-requires-2
-get-requires-2 c = stands_in c.args.files.now c.args.rules.now c.in-Some.number c.get.result.now c.requires.stand c.get.ensures.value
+get-requires-2 c = stands_in c.args.hand.now.files.now c.args.hand.now.rules.now c.in-Some.number c.get.result.now c.requires.stand c.get.ensures.value
 
 pub spot_at-requires : goal.spot_at-requires
 spot_at-requires c =
-    omega (arith, spot_count (files_of c.args.files.now) (rule_trees c.args.rules.now) c.args.names.now c.requires.names, length-map c.args.rules.now rule_tree, c.if-at-len.false, c.len.ensures)
+    omega (arith, spot_count (files_of c.args.hand.now.files.now) (rule_trees c.args.hand.now.rules.now) c.args.hand.now.names.now c.requires.names, length-map c.args.hand.now.rules.now rule_tree, c.if-at-len.false, c.len.ensures)
 
 pub returns : goal.returns
 returns c =
-    let files = c.args.files.now in
-    let rules = c.args.rules.now in
+    let files = c.args.hand.now.files.now in
+    let rules = c.args.hand.now.rules.now in
     let number = c.in-Some.number in
     let rule = c.get.result.now in
     let file = c.get-2.result.now in
     let spot = c.spot_at.result in
-    let inside : number < length c.args.names.now =
-    omega (arith, spot_count (files_of files) (rule_trees rules) c.args.names.now c.requires.names, length-map rules rule_tree, c.if-at-len.false, c.len.ensures) in
+    let inside : number < length c.args.hand.now.names.now =
+    omega (arith, spot_count (files_of files) (rule_trees rules) c.args.hand.now.names.now c.requires.names, length-map rules rule_tree, c.if-at-len.false, c.len.ensures) in
     IfOk-weaker c.place_at.result _ _
-    (λ place e. e ∙ ap (λ n. n ++ codes ":" ++ decimal spot.line ++ codes ":" ++ decimal spot.column) c.as_str.ensures
-    ∙ place_found (files_of files) (rule_trees rules) c.args.names.now c.requires.names number (rule_tree rule) (file_of file) spot (tree_at rules number rule c.get.ensures.value) (file_at files rule.file file c.get-2.ensures.value) inside c.spot_at.ensures
+    (λ place e. e ∙ ap (λ n. n ++ codes ":" ++ decimal spot.line ++ codes ":" ++ decimal spot.column) c.as_str-name.ensures
+    ∙ place_found (files_of files) (rule_trees rules) c.args.hand.now.names.now c.requires.names number (rule_tree rule) (file_of file) spot (tree_at rules number rule c.get.ensures.value) (file_at files rule.file file c.get-2.ensures.value) inside c.spot_at.ensures
     ∙ ap (λ o. place_of (files_of files) (rule_trees rules) o) (sym c.in-Some.is))
     c.place_at.ensures

@@ -4,7 +4,7 @@ use Rattle.lf_judge.proofs.Contents.{some_contents}
 use Rattle.lf_judge.proofs.judging.judge.Goals as goal
 
 pub returns-in_err-accepted-clause-refused : goal.returns-in_err-accepted-clause-refused
-returns-in_err-accepted-clause-refused c =
+returns-in_err-accepted-clause-refused g c =
     let p = err_from_is_err_and c.from_residual.result c.from_residual.ensures.1 in
     let some = some_contents (files_of c.args.files.now) in
     rw (p.1, p.2) (some.0, some.1, tt)

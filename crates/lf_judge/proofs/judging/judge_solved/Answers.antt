@@ -9,17 +9,17 @@ use Rattle.lf_judge.proofs.Reported.{reported}
 use Rattle.lf_judge.proofs.judging.judge_solved.Goals as goal
 
 pub tell_rules-requires-clause-sources : goal.tell_rules-requires-clause-sources
-tell_rules-requires-clause-sources c =
+tell_rules-requires-clause-sources g c κs within =
     let a = c.requires.accepted in
     subst HaveSources (sym a.2.1) (have_sources (files_of c.args.files.now) a.0 a.1)
 
 pub tell_rules-requires-clause-stand : goal.tell_rules-requires-clause-stand
-tell_rules-requires-clause-stand c =
+tell_rules-requires-clause-stand g c κs within =
     let a = c.requires.accepted in
     subst (StandIn (files_of c.args.files.now)) (sym a.2.1) (stand_in (files_of c.args.files.now) a.0 a.1)
 
 pub returns : goal.returns
-returns c =
+returns g c =
     let files = files_of c.args.files.now in
     let a = c.requires.accepted in
     IfOk-weaker c.report_of.result _ _

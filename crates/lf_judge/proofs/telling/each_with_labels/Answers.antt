@@ -1,16 +1,37 @@
-use Rattle.std.proofs.Common.{true, arith}
+use denote.Param.Send.{sendable}
+use Rattle.std.proofs.Crossing.{crosses}
+use Rattle.lf_flow.proofs.env.Env.TheSendSync as env
+use Rattle.lf_checks.proofs.rule_dependency.RecordedNames.TheSendSync as recorded
+use Rattle.lf_base.proofs.seq.Seq.TheSendSync as seq
+use Rattle.lf_judge.proofs.source.Source.TheSendSync as source
+use Rattle.lf_judge.proofs.spot.Spot.TheSendSync as spot
+use Rattle.lf_classes.proofs.universe.Universe.TheSendSync as universe
+use Rattle.std.proofs.option.Option.TheSendSync as option
+use Rattle.lf_open.proofs.opens.Opens.TheSendSync as opens
+use Rattle.lf_built.proofs.part_rows.PartRows.TheSendSync as part_rows
+use Rattle.lf_worlds.proofs.readings.Readings.TheSendSync as readings
+use Rattle.lf_built.proofs.recorders.Recorders.TheSendSync as recorders
+use Rattle.lf_classes.proofs.row.Row.TheSendSync as row
+use Rattle.lf_base.proofs.text.Text.TheSendSync as text
+use Rattle.lf_deps.proofs.sources.Sources.TheSendSync as sources
+use Rattle.lf_forks.proofs.forks.Forks.TheSendSync as forks
+use Rattle.lf_judge.proofs.Shared.{rule_sync}
+use Rattle.std.proofs.Common.{◌∙◌, true, rules, sym}
 use Rattle.std.proofs.lemmas.List.{length-map}
-use Rattle.lf_ast.specs.Rules.{rule_tree, rule_trees}
-use Rattle.lf_judge.specs.Judged.{files_of}
-use Rattle.lf_judge.proofs.SoFar.{all_told, more_told}
+use Rattle.std.proofs.lemmas.Result.{IfOk-weaker}
+use Rattle.lf_ast.specs.Rules.{rule_tree}
+use Rattle.lf_judge.specs.views.AtHand.{TellsRuleAt, files_at, rules_at}
+use Rattle.lf_judge.proofs.Pieces.{each_value}
+use Rattle.lf_judge.proofs.Told.{all_told}
 use Rattle.lf_judge.proofs.telling.each_with_labels.Goals as goal
 
-pub loop-k-preserved : goal.loop-k-preserved
-loop-k-preserved c =
-    more_told (files_of c.args.files.now) (rule_trees c.args.rules.now) c.args.checker.now.env true c.loop-k.k c.loop-k.told c.push.new.self c.in_ok-rule.rule
-    (omega (arith, c.loop-k-test.true, c.len-k-end.ensures, length-map c.args.rules.now rule_tree)) c.loop-k.invariant c.in_ok-rule.ensures c.in_ok-push.ensures.ok
-
 pub returns : goal.returns
-returns c =
-    all_told (files_of c.args.files.now) (rule_trees c.args.rules.now) c.args.checker.now.env true c.loop-k.k c.loop-k.told (omega (arith, c.loop-k-test.false, c.len-k-end.ensures, length-map c.args.rules.now rule_tree))
-    c.loop-k.invariant
+returns g c =
+    let hand = c.args.hand.now in
+    IfOk-weaker c.map_pieces.result _ _
+    (λ told is. all_told (files_at hand) (rules_at hand) hand.env.now true told (is.count ∙ c.len.ensures ∙ sym (length-map hand.rules.now rule_tree)) (each_value _ _ _ (TellsRuleAt hand true) (λ i x h gave. search rules) told is))
+    c.map_pieces.ensures.each
+
+pub map_pieces-requires-sync-F : goal.map_pieces-requires-sync-F
+map_pieces-requires-sync-F g c κs within =
+    search (sendable, rule_sync, env.the_sync, recorded.the_field_sync, seq.the_sync, source.the_sync, spot.the_sync, universe.the_sync, option.the_sync, opens.the_sync, part_rows.the_sync, readings.the_sync, recorders.the_sync, row.the_sync, text.the_sync, sources.the_sync, forks.the_sync, crosses) depth 40 fits 200000

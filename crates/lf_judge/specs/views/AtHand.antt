@@ -1,0 +1,48 @@
+-- What is at hand to tell of rules.
+use Rattle.std.specs.Prelude.{◌≡◌, ◌≤◌, ℕ, Bool, List, length}
+use Rattle.lf_ast.specs.Rules.{RuleTree, rule_trees}
+use Rattle.lf_checks.specs.AlertTemplate.{HaveSources}
+use Rattle.lf_checks.specs.Files.{File, StandIn}
+use Rattle.lf_report.specs.declared.report.Finding.{Finding}
+use Rattle.lf_report.specs.declared.report.RuleReport.{RuleReport}
+use Rattle.lf_semantics.specs.Environments.{IsLeast}
+use Rattle.lf_semantics.specs.Listing.{universe_of}
+use Rattle.lf_worlds.specs.views.Tried.{Tried}
+use Rattle.lf_judge.specs.Judged.{files_of}
+use Rattle.lf_judge.specs.Limits.{most_rules}
+use Rattle.lf_judge.specs.declared.at_hand.AtHand.{AtHand}
+use Rattle.lf_judge.specs.views.Checking.{TellsFindings, TellsRule, TellsRules}
+use Rattle.lf_judge.specs.views.Spots.{AreNameSpots}
+
+-- the files and the rules
+abbrev pub files_at : AtHand → List File
+files_at h = files_of h.files.now
+
+abbrev pub rules_at : AtHand → List RuleTree
+rules_at h = rule_trees h.rules.now
+
+-- All is as it is to be: the rules are few and stand in the files, and the spots of their names, the universe, the environment and the checker are theirs
+pub record IsReady (h : AtHand) : Type 0 where
+  pub few : length h.rules.now ≤ most_rules
+  pub stand : StandIn (files_at h) (rules_at h)
+  pub sources : HaveSources (rules_at h)
+  pub names : AreNameSpots (files_at h) (rules_at h) h.names.now
+  pub universe : h.universe.now ≡ universe_of (rules_at h)
+  pub least : IsLeast (universe_of (rules_at h)) (rules_at h) h.env.now
+  pub checker : h.checker.now ≡ record { universe = universe_of (rules_at h); env = h.env.now; rules = h.rules.now }
+
+-- the trials are those of the rules
+abbrev pub AreTrialsAt : AtHand → Tried → Type 0
+AreTrialsAt h trials = trials ≡ record { universe = universe_of (rules_at h); env = h.env.now; rules = h.rules.now }
+
+-- these are findings of the rule with a number
+abbrev pub TellsFindingsAt : AtHand → ℕ → List Finding → Type 0
+TellsFindingsAt h number told = TellsFindings (files_at h) (rules_at h) h.env.now number told
+
+-- this is told of the rule with a number
+abbrev pub TellsRuleAt : AtHand → Bool → ℕ → RuleReport → Type 0
+TellsRuleAt h labels number told = TellsRule (files_at h) (rules_at h) h.env.now labels number told
+
+-- this is told of the rules
+abbrev pub TellsRulesAt : AtHand → Bool → List RuleReport → Type 0
+TellsRulesAt h labels told = TellsRules (files_at h) (rules_at h) h.env.now labels told

@@ -1,0 +1,21 @@
+//! What is at hand to tell of rules.
+
+use crate::Source;
+use crate::spot::Spot;
+use lf_ast::Rule;
+use lf_base::Seq;
+use lf_checks::Checker;
+use lf_classes::Universe;
+use lf_flow::Env;
+
+/// What is at hand to tell of the rules of files. Workers share it.
+#[derive(Drop)]
+pub struct AtHand<'a> {
+    pub files: &'a Seq<Source>,
+    pub rules: &'a Seq<Rule>,
+    /// Where the names of the rules stand.
+    pub names: &'a [Spot],
+    pub universe: &'a Universe,
+    pub env: &'a Env,
+    pub checker: &'a Checker<'a>,
+}
