@@ -6,7 +6,8 @@ use Rattle.lf_ast.specs.Rules.{RuleTree}
 use Rattle.lf_ast.specs.declared.verdict.RuleVerdicts.TheVariants as told_rule
 use Rattle.lf_ast.specs.declared.verdict.Verdict.TheVariants as told
 use Rattle.lf_open.specs.declared.open_at.OpenAt.{OpenAt}
-use Rattle.lf_open.specs.views.Opens.{AreOpens, IsFirst, Opens}
+use Rattle.lf_open.specs.declared.opens.Opens.{Opens}
+use Rattle.lf_open.specs.views.Opens.{AreOpens, IsFirst}
 use Rattle.lf_open.proofs.OneList.{one_list}
 use Rattle.lf_trials.specs.Verdicts.{Empty, Labels, LabelVerdict, RuleVerdict}
 use Rattle.lf_trials.specs.Verdicts as verdict

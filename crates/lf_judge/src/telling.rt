@@ -135,7 +135,7 @@ fn tell_opened<R: Threads + Sync, G: Gate + Sync>(
     rt: &R,
     alloc: Global,
     hand: &AtHand,
-    opens: &Opens,
+    opens: &Opens<'_>,
     workers: u32,
     gate: &G,
 ) -> Result<Seq<RuleReport>, Memory>
@@ -154,7 +154,7 @@ fn tell_read<R: Threads + Sync, G: Gate + Sync>(
     rt: &R,
     alloc: Global,
     hand: &AtHand,
-    opens: &Opens,
+    opens: &Opens<'_>,
     readings: &Readings,
     workers: u32,
     gate: &G,
@@ -175,7 +175,7 @@ fn each_with_labels<R: Threads + Sync, G: Gate + Sync>(
     rt: &R,
     alloc: Global,
     hand: &AtHand,
-    opens: &Opens,
+    opens: &Opens<'_>,
     trials: &Trials,
     workers: u32,
     gate: &G,
@@ -208,7 +208,7 @@ fn each_with_labels<R: Threads + Sync, G: Gate + Sync>(
 fn rule_with_labels(
     alloc: Global,
     hand: &AtHand,
-    opens: &Opens,
+    opens: &Opens<'_>,
     trials: &Trials,
     number: u32,
 ) -> Result<RuleReport, Memory>

@@ -2,7 +2,7 @@
 ghost use Rattle.std.specs.List.{list_any};
 ghost use Rattle.std.specs.Prelude.{◌≡◌, ◌<◌, List, Some, true, length, map, not, slice_get, IfOk};
 ghost use Rattle.lf_ast.specs.Rules.{RuleTree, rule_tree, rule_trees};
-ghost use Rattle.lf_open.specs.views.Opens.{AreOpens, AreSomeOpens};
+ghost use Rattle.lf_open.specs.views.Opens.{AreOpens, AreReady, rules_at};
 ghost use Rattle.lf_semantics.specs.Environments.{IsLeast};
 ghost use Rattle.lf_semantics.specs.Listing.{universe_of};
 ghost use Rattle.lf_worlds.specs.views.Told.{label_verdict, rule_verdict};
@@ -23,7 +23,7 @@ use std::alloc::Global;
 pub fn verdicts_of(
     alloc: Global,
     trials: &Trials,
-    opens: &Opens,
+    opens: &Opens<'_>,
     rule: &Rule,
     number: u32,
 ) -> Result<RuleVerdicts, Memory>
@@ -41,12 +41,12 @@ pub fn verdicts_of(
 /// The first construct that stands open for the rule with this number, where its verdicts leave a label unresolved. Elsewhere it isn't looked for.
 fn open_for(
     alloc: Global,
-    opens: &Opens,
+    opens: &Opens<'_>,
     known: &RuleKnown,
     number: u32,
 ) -> Result<Option<OpenAt>, Memory>
-    requires opens { AreSomeOpens opens.now }
-    requires within { number < length opens.now.lists }
+    requires opens { AreReady opens.now }
+    requires within { number < length (rules_at opens.now) }
     ensures { IfOk result (λ first. (rules : List RuleTree) → AreOpens rules opens.now → has_unresolved (rule_verdict known.now) ≡ true → IsFirstOpen rules number first) }
 {
     if has_unresolved(known) {

@@ -1,16 +1,15 @@
 //! What stands open in rules, for each rule and for all that it reads.
-ghost use Rattle.std.specs.Prelude.{◌≡◌, ◌<◌, ◌++◌, ◌∷◌, [], length, List, IfOk, OnOk, slice_get};
-ghost use Rattle.std.specs.List.{flat_map};
+ghost use Rattle.std.specs.Prelude.{◌≡◌, ◌<◌, ◌++◌, ◌∷◌, [], ℕ, length, List, IfOk, OnOk, slice_get};
+ghost use Rattle.std.specs.List.{Contains};
 ghost use Rattle.lf_ast.specs.Rules.{RuleTree, rule_trees};
 ghost use Rattle.lf_deps.specs.Ordering.{without};
-ghost use Rattle.lf_deps.specs.views.Names.{IsNameGraphOf};
-ghost use Rattle.lf_deps.specs.views.Sources.{IsSourcesOf};
 ghost use Rattle.lf_open.specs.OpenList.{AreOpen, AreOpenOf};
 ghost use Rattle.lf_open.specs.views.Known.{IsKnown, rules_of};
-ghost use Rattle.lf_open.specs.views.Opens.{AreLists, AreOpens, AreSomeOpens, IsFirst, own_at};
+ghost use Rattle.lf_open.specs.views.Opens.{AreOpens, AreReady, IsFirst, IsListOf, rules_at};
 
 use crate::choosing::number;
 use crate::known::Known;
+use crate::marks::Marks;
 use crate::nodes::open_in;
 use crate::open_at::OpenAt;
 use crate::ordering::in_order;
@@ -20,7 +19,6 @@ use lf_base::{Memory, Seq};
 use lf_deps::{NameGraph, Sources, reach_of};
 use lf_forks::Forks;
 use std::alloc::Global;
-use std::marker::Model;
 
 /// The open constructs of the rule of number `i`: those of its own expression, and then those of each rule whose name it reads, directly or through others, in ascending
 /// order of the rules' numbers. Those of one rule are ordered by where they start, and then by their code.
@@ -32,119 +30,116 @@ pub fn open_constructs(alloc: Global, rules: &Seq<Rule>, i: u32) -> Result<Seq<O
     opens.list(alloc, i)
 }
 
-/// What stands open in each of some rules, and what each reads. It is made once, and then tells of each rule.
+/// What is known of some rules, by which it is found what stands open for each of them. It is made once for all. What stands open in a rule is looked for when it is asked, since
+/// most rules have an answer for each of their labels.
 #[derive(Drop)]
-pub struct Opens {
+pub struct Opens<'a> {
+    rules: &'a Seq<Rule>,
     sources: Sources,
     graph: NameGraph,
-    lists: Vec<Seq<OpenAt>>,
+    forks: Forks,
+    loud: Marks,
+    on_le: Marks,
 }
 
-impl Model for Opens {
-    ghost use Rattle.lf_open.specs.views.Opens.{Opens};
-
-    ghost Value = { Opens };
-
-    ghost view = { λ o. record { sources = o.sources; graph = o.graph; lists = o.lists.items } };
-}
-
-impl Opens {
+impl<'a> Opens<'a> {
     /// Those of rules.
-    pub fn of(alloc: Global, rules: &Seq<Rule>) -> Result<Opens, Memory>
+    pub fn of(alloc: Global, rules: &'a Seq<Rule>) -> Result<Opens<'a>, Memory>
         ensures { IfOk result (AreOpens (rule_trees rules.now)) }
     {
         let sources = Sources::of(alloc, rules)?;
         let graph = NameGraph::of(alloc, &sources)?;
-        let lists = lists_of(alloc, rules, &sources, &graph)?;
+        let forks = Forks::of(alloc, rules, &sources)?;
+        let loud = loud_marks(alloc, rules, &sources, &graph)?;
+        let on_le = le_marks(alloc, rules, &sources, &graph)?;
         Ok(Opens {
+            rules,
             sources,
             graph,
-            lists,
+            forks,
+            loud,
+            on_le,
         })
     }
 
     /// The first open construct of the rule of number `i`, if there is one.
     pub fn first(&self, alloc: Global, i: u32) -> Result<Option<OpenAt>, Memory>
-        requires opens { AreSomeOpens self.now }
-        requires rule { i < length self.now.lists }
+        requires opens { AreReady self.now }
+        requires rule { i < length (rules_at self.now) }
         ensures { (rules : List RuleTree) → AreOpens rules self.now → IfOk result (IsFirst rules i) }
     {
-        let reach = reach_of(alloc, &self.sources, &self.graph, i)?;
-        Ok(self.first_from(i, reach.as_slice()))
+        let list = self.list(alloc, i)?;
+        Ok(first_of(list.as_slice()))
     }
 
     /// The open constructs of the rule of number `i`.
     pub fn list(&self, alloc: Global, i: u32) -> Result<Seq<OpenAt>, Memory>
-        requires opens { AreSomeOpens self.now }
-        requires rule { i < length self.now.lists }
+        requires opens { AreReady self.now }
+        requires rule { i < length (rules_at self.now) }
         ensures { (rules : List RuleTree) → AreOpens rules self.now → IfOk result (AreOpen rules i) }
     {
+        let known = self.known();
         let reach = reach_of(alloc, &self.sources, &self.graph, i)?;
-        let mut found = Seq::new(alloc);
-        push_all(&mut found, self.own(i))?;
-        self.push_others(reach.as_slice(), i, &mut found)?;
+        let mut found = own_list(&known, alloc, i as usize)?;
+        push_others(&known, alloc, reach.as_slice(), i, &mut found)?;
         Ok(found)
     }
 
-    /// What stands open in the expression of the rule of a number.
-    fn own(&self, number: u32) -> &[OpenAt]
-        ensures { result.now ≡ own_at self.now number }
+    /// What is known of the rules.
+    fn known(&self) -> Known<'_>
+        requires { AreReady self.now }
+        ensures { IsKnown result × (rules_of result ≡ rules_at self.now) }
     {
-        match self.lists.get(number as usize) {
-            Some(list) => list.as_slice(),
-            None => &[],
+        Known {
+            rules: self.rules,
+            sources: &self.sources,
+            graph: &self.graph,
+            forks: &self.forks,
+            loud: &self.loud,
+            on_le: &self.on_le,
         }
     }
+}
 
-    /// The first that stands open in the expression of the rule of a number.
-    fn first_own(&self, number: u32) -> Option<OpenAt>
-        ensures { result ≡ slice_get (own_at self.now number) 0 }
-    {
-        match self.own(number).get(0) {
-            Some(first) => Some(*first),
-            None => None,
-        }
+/// The first of open constructs, if there is one.
+fn first_of(list: &[OpenAt]) -> Option<OpenAt>
+    ensures { result ≡ slice_get list.now 0 }
+{
+    match list.get(0) {
+        Some(first) => Some(*first),
+        None => None,
     }
+}
 
-    /// The first that stands open in the expression of the rule of number `i`, or else in those of the rules of some numbers.
-    fn first_from(&self, i: u32, numbers: &[u32]) -> Option<OpenAt>
-        ensures { result ≡ slice_get (own_at self.now i ++ flat_map (own_at self.now) numbers.now) 0 }
-    {
-        match self.first_own(i) {
-            Some(first) => Some(first),
-            None => self.first_among(numbers),
-        }
+/// Puts what stands open in the expressions of the rules of some numbers behind others, but for one of these rules.
+fn push_others(
+    known: &Known<'_>,
+    alloc: Global,
+    numbers: &[u32],
+    i: u32,
+    found: &mut Seq<OpenAt>,
+) -> Result<(), Memory>
+    requires known { IsKnown known.now }
+    requires rules { (k : ℕ) → Contains numbers.now k → k < length known.now.rules.now }
+    ensures { OnOk result (IsListOf (rules_of known.now) (without i numbers.now) found.old found.new) }
+{
+    for number in numbers {
+        let own = other_list(known, alloc, *number, i)?;
+        push_all(found, own.as_slice())?;
     }
+    Ok(())
+}
 
-    /// The first that stands open in the expressions of the rules of some numbers.
-    fn first_among(&self, numbers: &[u32]) -> Option<OpenAt>
-        ensures { result ≡ slice_get (flat_map (own_at self.now) numbers.now) 0 }
-    {
-        for number in numbers {
-            match self.first_own(*number) {
-                Some(first) => return Some(first),
-                None => {}
-            }
-        }
-        None
+/// What stands open in the expression of the rule of a number, but for one number.
+fn other_list(known: &Known<'_>, alloc: Global, number: u32, i: u32) -> Result<Seq<OpenAt>, Memory>
+    requires known { IsKnown known.now }
+    requires rule { number < length known.now.rules.now }
+    ensures { IfOk result (λ own. IsListOf (rules_of known.now) (without i (number ∷ [])) [] own) }
+{
+    if number == i {
+        return Ok(Seq::new(alloc));
     }
-
-    /// Puts what stands open in the expressions of some rules behind others, but for one of these rules.
-    fn push_others(&self, numbers: &[u32], i: u32, found: &mut Seq<OpenAt>) -> Result<(), Memory>
-        ensures { OnOk result (found.new ≡ found.old ++ flat_map (own_at self.now) (without i numbers.now)) }
-    {
-        for number in numbers {
-            push_all(found, self.other(*number, i))?;
-        }
-        Ok(())
-    }
-
-    /// What stands open in the expression of the rule of a number, but for one number.
-    fn other(&self, number: u32, i: u32) -> &[OpenAt]
-        ensures { result.now ≡ flat_map (own_at self.now) (without i (number ∷ [])) }
-    {
-        if number == i { &[] } else { self.own(number) }
-    }
+    own_list(known, alloc, number as usize)
 }
 
 /// Puts open constructs behind others.
@@ -155,43 +150,6 @@ fn push_all(found: &mut Seq<OpenAt>, more: &[OpenAt]) -> Result<(), Memory>
         found.push(*item)?;
     }
     Ok(())
-}
-
-/// For each rule what stands open in its expression.
-fn lists_of(
-    alloc: Global,
-    rules: &Seq<Rule>,
-    sources: &Sources,
-    graph: &NameGraph,
-) -> Result<Vec<Seq<OpenAt>>, Memory>
-    requires sources { IsSourcesOf (rule_trees rules.now) sources.now }
-    requires graph { IsNameGraphOf sources.now graph.now }
-    ensures { IfOk result (λ lists. AreLists (rule_trees rules.now) lists.items) }
-{
-    let forks = Forks::of(alloc, rules, sources)?;
-    let loud = loud_marks(alloc, rules, sources, graph)?;
-    let on_le = le_marks(alloc, rules, sources, graph)?;
-    let known = Known {
-        rules,
-        sources,
-        graph,
-        forks: &forks,
-        loud: &loud,
-        on_le: &on_le,
-    };
-    own_lists(&known, alloc)
-}
-
-/// For each rule what stands open in its expression, by what is known of the rules.
-fn own_lists(known: &Known<'_>, alloc: Global) -> Result<Vec<Seq<OpenAt>>, Memory>
-    requires { IsKnown known.now }
-    ensures { IfOk result (λ lists. AreLists (rules_of known.now) lists.items) }
-{
-    let mut lists = Vec::new(alloc);
-    for k in 0..known.rules.len() {
-        lists.push(own_list(known, alloc, k)?)?;
-    }
-    Ok(lists)
 }
 
 /// What stands open in the expression of the rule of a number.

@@ -1,35 +1,35 @@
--- What stands open in rules: how contracts see the code. It defines nothing.
-use Rattle.std.specs.Prelude.{◌≡◌, ℕ, List, [], length, Option, Some, slice_get, slice_index_or}
-use Rattle.lf_ast.specs.Rules.{RuleTree}
+-- What is known of rules to find what stands open in them: how contracts see the code. It defines nothing.
+use Rattle.std.specs.Prelude.{◌≡◌, ℕ, List, ◌++◌, Option, slice_get}
+use Rattle.lf_ast.specs.Rules.{RuleTree, rule_trees}
 use Rattle.lf_deps.specs.views.Names.{IsNameGraphOf}
-use Rattle.lf_deps.specs.views.Sources.{IsSourcesOf, Sources}
-use Rattle.lf_graph.specs.Components.{Components}
-use Rattle.lf_open.specs.OpenList.{AreOpen, AreOpenOf}
+use Rattle.lf_deps.specs.views.Sources.{IsSourcesOf}
+use Rattle.lf_forks.specs.views.ForkTests.{TellsSelectors}
+use Rattle.lf_forks.specs.views.Holding.{test_of}
+use Rattle.lf_open.specs.Holding.{has_own_source, names_le}
+use Rattle.lf_open.specs.OpenList.{AreOpen, AreOpenOfEach}
 use Rattle.lf_open.specs.declared.open_at.OpenAt.{OpenAt}
+use Rattle.lf_open.specs.declared.opens.Opens.{Opens}
+use Rattle.lf_open.specs.views.Marks.{TellsReading}
 
-pub record Opens : Type 0 where
-  pub sources : Sources
-  pub graph : Components
-  pub lists : List (List OpenAt)
+-- the rules
+abbrev pub rules_at : Opens → List RuleTree
+rules_at o = rule_trees o.rules.now
 
--- what stands open in the expression of the rule of a number
-abbrev pub own_at : Opens → ℕ → List OpenAt
-own_at o k = slice_index_or o.lists k []
-
--- for each rule the list of what stands open in its expression
-pub record AreLists (rules : List RuleTree) (lists : List (List OpenAt)) : Type 0 where
-  pub count : length lists ≡ length rules
-  pub own : (k : ℕ) (r : RuleTree) → slice_get rules k ≡ Some r → AreOpenOf rules k (slice_index_or lists k [])
+-- all is as it is to be
+pub record AreReady (o : Opens) : Type 0 where
+  pub sources : IsSourcesOf (rules_at o) o.sources
+  pub graph : IsNameGraphOf o.sources o.graph
+  pub forks : TellsSelectors (rules_at o) (test_of o.forks)
+  pub loud : TellsReading (rules_at o) (λ r. has_own_source r.expr) o.loud
+  pub on_le : TellsReading (rules_at o) names_le o.on_le
 
 -- it is of these rules
-pub record AreOpens (rules : List RuleTree) (o : Opens) : Type 0 where
-  pub sources : IsSourcesOf rules o.sources
-  pub graph : IsNameGraphOf o.sources o.graph
-  pub lists : AreLists rules o.lists
+abbrev pub AreOpens : List RuleTree → Opens → Type 0
+AreOpens rules o = (rules ≡ rules_at o) × AreReady o
 
--- it is of some rules
-abbrev pub AreSomeOpens : Opens → Type 0
-AreSomeOpens o = (rules : List RuleTree) × AreOpens rules o
+-- what stands open in some rules, one rule after the other, is put behind a list
+abbrev pub IsListOf : List RuleTree → List ℕ → List OpenAt → List OpenAt → Type 0
+IsListOf rules numbers before after = (more : List OpenAt) × AreOpenOfEach rules numbers more × (after ≡ before ++ more)
 
 -- it is the first of the open constructs of rule i, and none exactly where there are none
 abbrev pub IsFirst : List RuleTree → ℕ → Option OpenAt → Type 0

@@ -1,4 +1,4 @@
-use Rattle.std.proofs.Common.{refl, subst, arith}
+use Rattle.std.proofs.Common.{length, refl, ap, subst, arith}
 use Rattle.std.proofs.lemmas.List.{length-map}
 use Rattle.std.proofs.lemmas.Result.{IfOk-weaker}
 use Rattle.lf_ast.specs.Rules.{rule_tree, rule_trees}
@@ -9,10 +9,10 @@ use Rattle.lf_judge.proofs.Places.{tree_at}
 use Rattle.lf_judge.proofs.verdicts.verdicts_of.Goals as goal
 
 pub open_for-requires-clause-opens : goal.open_for-requires-clause-opens
-open_for-requires-clause-opens c = (rule_trees c.args.trials.now.rules, c.requires.opens)
+open_for-requires-clause-opens c = c.requires.opens.1
 
 pub open_for-requires-clause-within : goal.open_for-requires-clause-within
-open_for-requires-clause-within c = omega (arith, c.requires.within, c.requires.opens.lists.count, length-map c.args.trials.now.rules rule_tree)
+open_for-requires-clause-within c = omega (arith, c.requires.within, ap length c.requires.opens.0, length-map c.args.trials.now.rules rule_tree)
 
 pub returns : goal.returns
 returns c =

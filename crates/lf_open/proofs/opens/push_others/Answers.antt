@@ -1,0 +1,19 @@
+use Rattle.std.proofs.Common.{ℕ, List, ◌++◌, get_or, refl, ap, ◌∙◌}
+use Rattle.lf_open.specs.declared.open_at.OpenAt.{OpenAt}
+use Rattle.lf_open.specs.views.Known.{rules_of}
+use Rattle.lf_open.proofs.Joined.{member_at, one_more}
+use Rattle.lf_open.proofs.opens.push_others.Goals as goal
+
+pub other_list-requires-clause-rule : goal.other_list-requires-clause-rule
+other_list-requires-clause-rule c =
+    let numbers : List ℕ = c.args.numbers.now in
+    let k : ℕ = c.loop-number.number-index in
+    c.requires.rules (get_or numbers k 0) (member_at numbers k 0 c.loop-number-test.true)
+
+pub loop-number-preserved : goal.loop-number-preserved
+loop-number-preserved c =
+    let numbers : List ℕ = c.args.numbers.now in
+    let k : ℕ = c.loop-number.number-index in
+    let found : List OpenAt = c.loop-number.found in
+    one_more (rules_of c.args.known.now) c.args.i k 0 (get_or numbers k 0) numbers c.args.found.now found c.in_ok-own.own c.push_all.new.found c.loop-number-test.true refl c.loop-number.invariant c.in_ok-own.ensures
+    (c.in_ok-push_all.ensures ∙ ap (λ (l : List OpenAt). found ++ l) c.as_slice.ensures)
