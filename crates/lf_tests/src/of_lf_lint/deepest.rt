@@ -132,9 +132,41 @@ fn the_deepest_files_are_linted_on_another_thread(rt: HostRuntime) -> Result<(),
 }
 
 #[test]
-fn the_deepest_files_have_verdicts_on_another_thread(rt: HostRuntime) -> Result<(), Fail> {
+fn deepest_signs_and_sums_have_verdicts_on_another_thread(rt: HostRuntime) -> Result<(), Fail> {
     let alloc = rt.alloc();
-    for nesting in &NESTINGS {
+    for nesting in &NESTINGS[..2] {
+        let text = nested(alloc, nesting)?;
+        let (reported, ()) = join(
+            &rt,
+            || is_reported(&rt, alloc, "lint --labels r.yml", text.as_str(), VERDICTS),
+            || (),
+        );
+        let (opening, before, behind) = (nesting.opening, nesting.before, nesting.behind);
+        assert_eq!(rt; reported, Ok(true), "{opening}{before}{behind}");
+    }
+    Ok(())
+}
+
+#[test]
+fn deepest_powers_have_verdicts_on_another_thread(rt: HostRuntime) -> Result<(), Fail> {
+    let alloc = rt.alloc();
+    for nesting in &NESTINGS[2..4] {
+        let text = nested(alloc, nesting)?;
+        let (reported, ()) = join(
+            &rt,
+            || is_reported(&rt, alloc, "lint --labels r.yml", text.as_str(), VERDICTS),
+            || (),
+        );
+        let (opening, before, behind) = (nesting.opening, nesting.before, nesting.behind);
+        assert_eq!(rt; reported, Ok(true), "{opening}{before}{behind}");
+    }
+    Ok(())
+}
+
+#[test]
+fn deepest_calls_have_verdicts_on_another_thread(rt: HostRuntime) -> Result<(), Fail> {
+    let alloc = rt.alloc();
+    for nesting in &NESTINGS[4..] {
         let text = nested(alloc, nesting)?;
         let (reported, ()) = join(
             &rt,

@@ -8,7 +8,7 @@ use std::test::Fail;
 #[test]
 fn each_call_of_the_file_source_fails_in_turn(rt: HostRuntime) -> Result<(), Fail> {
     // One call opens the file, two read its bytes, and one finds its end. There is no fifth. The file is one comment.
-    let bytes = vec![in rt.alloc(); b'#'; 70_000]?;
+    let bytes = vec![in rt.alloc(); b'#'; 20_000]?;
     for call in 1..6 {
         let mut files = MemFiles::new(rt.alloc());
         files.add("a.yml", bytes.as_slice())?;
