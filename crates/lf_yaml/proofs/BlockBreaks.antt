@@ -1,15 +1,15 @@
 -- Block sequences and mappings are read: a breach is answered.
-use Rattle.std.proofs.Common.{◌≡◌, ℕ, zero, suc, ◌<◌, Bool, true, false, List, [], ◌∷◌, ◌++◌, None, Err, length, refl, ap, arith, ◌∙◌, inl, inr}
+use Rattle.std.proofs.Common.{◌≡◌, ℕ, zero, suc, ◌<◌, Bool, true, false, cond, List, [], ◌∷◌, ◌++◌, Option, None, Err, length, refl, ap, arith, ◌∙◌, inl, inr}
 use Rattle.std.specs.Prelude.{Contains}
 use Rattle.lf_base.specs.declared.kind.Kind.TheVariants.{DoubleKey}
 use Rattle.lf_base.specs.declared.fault.Fault.{Fault}
 use Rattle.lf_scalar.specs.Cells.{Cell, Value}
-use Rattle.lf_yaml.specs.Rows.{Row, indent}
+use Rattle.lf_yaml.specs.Rows.{Row, indent, is_left_out}
 use Rattle.lf_yaml.specs.Heads.{NoEntry, OpensQuote}
 use Rattle.lf_yaml.specs.Tree.{no_items, no_entries}
 use Rattle.lf_yaml.specs.Breaches.{NodeBreaks, BlockBreaks, ItemsBreak, ItemValueBreaks, EntriesBreak, EntryValueBreaks}
 use Rattle.lf_yaml.specs.Breaches as breaks
-use Rattle.lf_yaml.specs.reading.Trees.{entry_by, quoted_head, opens_quote, item_at, item_value, with_item, items, entry_of, entry_at, entry_value, with_entry, entries_behind, keyed, key_read, entries_on, entries, as_sequence, as_mapping, node_at}
+use Rattle.lf_yaml.specs.reading.Trees.{quotes_of, Head, entry_by, quoted_head, opens_quote, item_at, item_value, with_item, items, entry_of, entry_at, entry_value, with_entry, entries_behind, keyed, key_read, entries_on, entries, as_sequence, as_mapping, node_at}
 use Rattle.lf_yaml.proofs.Ends.{end-length}
 use Rattle.lf_yaml.proofs.HeadLaws.{entry-is, key-is, key-breaks, has-tells, begins-block, begins-no-block, entry-view, opens-is, opens-view}
 use Rattle.lf_yaml.proofs.HeadLaws as heads
@@ -31,12 +31,16 @@ no-entry-of r n =
     ]
 
 -- where a quote opens that nothing on the line closes there is no entry
+no-head : (b : Bool) (o : Option Head) → o ≡ None → cond b None o ≡ None
+no-head true o e = refl
+no-head false o e = e
+
 open-no-entry : (r : Row) → OpensQuote r.first r.rest → entry_of r ≡ None
 unfolding entry_of
 open-no-entry r h =
     elim (heads.between-view h.kind r.rest) [
       | inl (between, e) ↦ absurd (h.unclosed between)
-      | inr (n, e) ↦ ap (entry_by r) (heads.quotes-is r.first h.kind h.is_quote) ∙ ap (quoted_head h.kind) n
+      | inr (n, e) ↦ no-head (is_left_out r) (entry_by r (quotes_of r.first)) (ap (entry_by r) (heads.quotes-is r.first h.kind h.is_quote) ∙ ap (quoted_head h.kind) n)
     ]
 
 not-open : (r : Row) → (OpensQuote r.first r.rest → ⊥) → opens_quote r.first r.rest ≡ false

@@ -4,11 +4,10 @@ use Rattle.lf_scalar.specs.Cells.{Cell, cell, cells}
 use Rattle.lf_scalar.specs.Lines.{is_blank}
 use Rattle.lf_scalar.specs.Folding.{trimmed}
 use Rattle.lf_scalar.specs.Plain.{before_blank, begins_plain, is_plain_byte, is_sign}
-use Rattle.lf_yaml.specs.Rows.{Row, is_left_out}
 use Rattle.lf_scalar.specs.declared.quotes.Quotes.{Quotes}
 use Rattle.lf_scalar.specs.reading.Quoted.{Closing, closing_of, split_of}
 use Rattle.lf_yaml.specs.Heads.{Split, key_in, never, Bare, Between}
-use Rattle.lf_yaml.specs.reading.Trees.{Head, bare_head, entry_by, quoted_head, quoted_sign, sign_behind}
+use Rattle.lf_yaml.specs.reading.Trees.{bare_head, entry_by, quoted_head, quoted_sign, sign_behind}
 use Rattle.lf_yaml.specs.views.Signs.{stops_of, split_at}
 use Rattle.lf_yaml.specs.views.Shown.{shown}
 use Rattle.lf_yaml.specs.declared.row.Row.{Row as CodeRow}
@@ -20,16 +19,12 @@ plain-by at [] p s d lt e f g = absurd (omega arith)
 plain-by at (x ∷ xs) p s d lt e f g =
     ap (λ (q : Bool). q || (is_sign (cell x at) && not (before_blank (cells (suc at) xs)))) e ∙ ap (λ (q : Bool). p || (q && not (before_blank (cells (suc at) xs)))) f ∙ ap (λ (q : Bool). p || (s && not q)) g
 
-abbrev chosen : Row → Bool → Bool → Option Split → Option Head
-chosen r b l o = cond (b && not l) (bare_head o) None
-
-pub entry-bare : (r : CodeRow) (b l : Bool) (o : Option Split) → 0 < length r.text.now → begins_plain (cells r.at r.text.now) ≡ b → is_left_out (shown r) ≡ l → key_in (stops_of false) before_blank (cells r.at r.text.now) ≡ o
-    → entry_by (shown r) None ≡ cond (b && not l) (bare_head o) None
-entry-bare r b l o lt e f g =
-    ap (λ (cs : List Cell). cond (begins_plain cs && not (is_left_out (shown r))) (bare_head (key_in never before_blank cs)) None) (text-shown r lt)
-    ∙ ap (λ (q : Bool). cond (q && not (is_left_out (shown r))) (bare_head (key_in never before_blank (cells r.at r.text.now))) None) e
-    ∙ ap (λ (q : Bool). cond (b && not q) (bare_head (key_in never before_blank (cells r.at r.text.now))) None) f
-    ∙ ap (λ (q : Option Split). cond (b && not l) (bare_head q) None) g
+pub entry-bare : (r : CodeRow) (b : Bool) (o : Option Split) → 0 < length r.text.now → begins_plain (cells r.at r.text.now) ≡ b → key_in (stops_of false) before_blank (cells r.at r.text.now) ≡ o
+    → entry_by (shown r) None ≡ cond b (bare_head o) None
+entry-bare r b o lt e g =
+    ap (λ (cs : List Cell). cond (begins_plain cs) (bare_head (key_in never before_blank cs)) None) (text-shown r lt)
+    ∙ ap (λ (q : Bool). cond q (bare_head (key_in never before_blank (cells r.at r.text.now))) None) e
+    ∙ ap (λ (q : Option Split). cond b (bare_head q) None) g
 
 pub take-within : (n k : ℕ) (xs : List ℕ) → n ≤ k → take n (take k xs) ≡ take n xs
 take-within zero k xs le = refl

@@ -14,13 +14,13 @@ use Rattle.lf_scalar.proofs.Closing.{closes-again}
 use Rattle.lf_scalar.proofs.Parts.{after-blanks-part}
 use Rattle.lf_scalar.proofs.Rising.{Rises, rises-le, rises-back, rises-part, rises-before, rises-behind}
 use Rattle.lf_scalar.proofs.Tails.{true-false}
-use Rattle.lf_yaml.specs.Keys.{is_key_left_out}
+use Rattle.lf_yaml.specs.Keys.{is_too_far, before_offset, is_key_left_out}
 use Rattle.lf_yaml.specs.Heads.{Split, behind_cell, key_in, Key, Bare, Between, IsKey, IsSignBehind, OpensQuote}
 use Rattle.lf_yaml.specs.Tree.{Tree}
 use Rattle.lf_yaml.specs.Spans.{empty_at}
 use Rattle.lf_yaml.specs.Flow.{Next, at_part, broken, next_on, is_flow_sign, begins_flow, line_on, left_on, FlowScalar, begins_part, part_fault, FlowKey, NoSign, FlowKeyBreaks, EndsValue, FlowValue, FlowValueBreaks}
 use Rattle.lf_yaml.specs.Flow as flow
-use Rattle.lf_yaml.specs.reading.Trees.{sign_behind, behind_closing, Part, flow_scalar, Signed, no_sign, signed, signed_behind, bare_key, plain_key, quoted_key as key_between, flow_key_by, flow_key, Valued, scalar_part, value_part, flow_value}
+use Rattle.lf_yaml.specs.reading.Trees.{sign_behind, behind_closing, Part, flow_scalar, Signed, no_sign, signed, signed_behind, far_sign, bare_key, plain_key, quoted_key as key_between, flow_key_by, flow_key, Valued, scalar_part, value_part, flow_value}
 use Rattle.lf_yaml.proofs.HeadLaws.{tells, quotes-is, quotes-view, between-view, single_line, BetweenTold, between-tells, between-is, between-breaks, sign-is, sign-view}
 use Rattle.lf_yaml.proofs.FlowParts.{part-within, part-is, part-breaks, PartTold, part-tells, part-begins, quote-begins, flow-begins, part-no-sign, flow-quotes, no-part-quotes, no-part-flow, part-flow, scalar-within}
 
@@ -70,9 +70,19 @@ split-source stops ends (c ∷ cs) x e =
 -- ---- keys
 
 module _ (bytes : List ℕ) where
-  quoted-key : (kind : Quotes) (c : Cell) (cs : List Cell) (between : Closes kind cs) → c.byte ≡ quote_of kind → flow_key bytes c cs ≡ signed_behind bytes (suc between.closing.at) between.rest (single_line kind c between)
+  between-key : (kind : Quotes) (c : Cell) (cs : List Cell) (between : Closes kind cs) → c.byte ≡ quote_of kind
+      → flow_key bytes c cs ≡ cond (far_sign (c ∷ cs) (sign_behind between.rest)) (Err (character_fault LeftOut c)) (signed_behind bytes (suc between.closing.at) between.rest (single_line kind c between))
   unfolding flow_key
-  quoted-key kind c cs between e = ap (flow_key_by bytes c cs) (quotes-is c kind e) ∙ ap (key_between bytes kind c) (closes-again kind cs between)
+  between-key kind c cs between e = ap (flow_key_by bytes c cs) (quotes-is c kind e) ∙ ap (key_between bytes kind c cs) (closes-again kind cs between)
+
+  quoted-key : (kind : Quotes) (c : Cell) (cs : List Cell) (between : Closes kind cs) → c.byte ≡ quote_of kind → far_sign (c ∷ cs) (sign_behind between.rest) ≡ false
+      → flow_key bytes c cs ≡ signed_behind bytes (suc between.closing.at) between.rest (single_line kind c between)
+  quoted-key kind c cs between e near =
+      between-key kind c cs between e ∙ ap (λ (b : Bool). cond b (Err (character_fault LeftOut c)) (signed_behind bytes (suc between.closing.at) between.rest (single_line kind c between))) near
+
+  far-key : (kind : Quotes) (c : Cell) (cs : List Cell) (between : Closes kind cs) → c.byte ≡ quote_of kind → far_sign (c ∷ cs) (sign_behind between.rest) ≡ true → flow_key bytes c cs ≡ Err (character_fault LeftOut c)
+  far-key kind c cs between e far =
+      between-key kind c cs between e ∙ ap (λ (b : Bool). cond b (Err (character_fault LeftOut c)) (signed_behind bytes (suc between.closing.at) between.rest (single_line kind c between))) far
 
   plain-key : (c : Cell) (cs : List Cell) (o : Option Split) → begins_flow c cs ≡ true → key_in is_flow_sign before_blank (c ∷ cs) ≡ o → flow_key bytes c cs ≡ plain_key bytes c cs o
   unfolding flow_key
@@ -81,17 +91,29 @@ module _ (bytes : List ℕ) where
   same-rest : (kind : Quotes) (cs : List Cell) (a b : Closes kind cs) → a.rest ≡ b.rest
   same-rest kind cs a b = ap behind_closing (sym (closes-again kind cs a) ∙ closes-again kind cs b)
 
+  -- whether a sign stands too far
+  sign-far : (c : Cell) (cs : List Cell) (kind : Quotes) (between : Closes kind cs) (colon : Cell) (rest : List Cell) → IsSignBehind between.rest colon rest → far_sign (c ∷ cs) (sign_behind between.rest) ≡ is_too_far (before_offset colon.at (c ∷ cs))
+  sign-far c cs kind between colon rest s = ap (far_sign (c ∷ cs)) (sign-is between.rest colon rest s)
+
+  none-far : (c : Cell) (cs : List Cell) (kind : Quotes) (between : Closes kind cs) → flow.NoneFar c cs between → far_sign (c ∷ cs) (sign_behind between.rest) ≡ false
+  none-far c cs kind between near =
+      elim (sign-view between.rest) [
+        | inl (colon, rest, s, t) ↦ sign-far c cs kind between colon rest s ∙ near colon rest s
+        | inr (n, s) ↦ ap (far_sign (c ∷ cs)) n
+      ]
+
   pub flow-key-is : (c : Cell) (cs : List Cell) (k : Key) (colon : Cell) (v : Value) → FlowKey c cs k colon → IsKey c cs k v → flow_key bytes c cs ≡ Ok (v, colon)
-  flow-key-is c cs _ _ v (flow.FlowKey.quoted {rest = rest} {colon = colon} kind between e s) (other, h) =
+  flow-key-is c cs _ _ v (flow.FlowKey.quoted {rest = rest} {colon = colon} kind between e s near) (other, h) =
       let s2 : IsSignBehind other.rest colon rest = subst (λ (xs : List Cell). IsSignBehind xs colon rest) (same-rest kind cs between other) s in
-      quoted-key kind c cs other e ∙ ap (signed_behind bytes (suc other.closing.at) other.rest) (between-is kind c cs other v h) ∙ ap (signed bytes v (suc other.closing.at)) (sign-is other.rest colon rest s2)
+      quoted-key kind c cs other e (sign-far c cs kind other colon rest s2 ∙ near) ∙ ap (signed_behind bytes (suc other.closing.at) other.rest) (between-is kind c cs other v h) ∙ ap (signed bytes v (suc other.closing.at)) (sign-is other.rest colon rest s2)
   flow-key-is c cs _ _ v (flow.FlowKey.bare {front = front} {rest = rest} {colon = colon} p e n) h =
       plain-key c cs _ p e ∙ rw n (ap (λ (x : Value). Ok (x, colon)) (sym h))
 
   -- a text without a sign
   nosign-is : (c : Cell) (cs : List Cell) (after : ℕ) → NoSign bytes c cs after → flow_key bytes c cs ≡ no_sign (next_on bytes after)
   nosign-is c cs _ (flow.NoSign.quoted kind between v e h none) =
-      quoted-key kind c cs between e ∙ ap (signed_behind bytes (suc between.closing.at) between.rest) (between-is kind c cs between v h) ∙ ap (signed bytes v (suc between.closing.at)) nothing
+      quoted-key kind c cs between e (ap (far_sign (c ∷ cs)) nothing) ∙ ap (signed_behind bytes (suc between.closing.at) between.rest) (between-is kind c cs between v h)
+      ∙ ap (signed bytes v (suc between.closing.at)) nothing
     where
       nothing : sign_behind between.rest ≡ None
       nothing = elim (sign-view between.rest) [
@@ -105,7 +127,7 @@ module _ (bytes : List ℕ) where
   open-key c cs h =
       elim (between-view h.kind cs) [
         | inl (between, e) ↦ absurd (h.unclosed between)
-        | inr (n, e) ↦ ap (flow_key_by bytes c cs) (quotes-is c h.kind h.is_quote) ∙ ap (key_between bytes h.kind c) n
+        | inr (n, e) ↦ ap (flow_key_by bytes c cs) (quotes-is c h.kind h.is_quote) ∙ ap (key_between bytes h.kind c cs) n
       ]
 
   no-key : (c : Cell) (cs : List Cell) → begins_part c cs ≡ false → flow_key bytes c cs ≡ Err (part_fault c cs)
@@ -116,7 +138,8 @@ module _ (bytes : List ℕ) where
   flow-key-breaks c cs _ (flow.FlowKeyBreaks.no_key p) = no-key c cs p
   flow-key-breaks c cs _ (flow.FlowKeyBreaks.key_left_out p e n) = plain-key c cs _ p e ∙ rw n refl
   flow-key-breaks c cs _ (flow.FlowKeyBreaks.open_quote h) = open-key c cs h
-  flow-key-breaks c cs f (flow.FlowKeyBreaks.escape kind e h) = quoted-key kind c cs h.0 e ∙ ap (signed_behind bytes (suc h.0.closing.at) h.0.rest) (between-breaks kind c cs f h)
+  flow-key-breaks c cs _ (flow.FlowKeyBreaks.quoted_left_out {rest = rest} {colon = colon} kind between e s far) = far-key kind c cs between e (sign-far c cs kind between colon rest s ∙ far)
+  flow-key-breaks c cs f (flow.FlowKeyBreaks.escape kind e h near) = quoted-key kind c cs h.0 e (none-far c cs kind h.0 near) ∙ ap (signed_behind bytes (suc h.0.closing.at) h.0.rest) (between-breaks kind c cs f h)
   flow-key-breaks c cs f (flow.FlowKeyBreaks.no_part {after = after} n e) = nosign-is c cs after n ∙ ap no_sign e
   flow-key-breaks c cs _ (flow.FlowKeyBreaks.no_sign {after = after} n e) = nosign-is c cs after n ∙ ap no_sign e
 
@@ -128,15 +151,34 @@ module _ (bytes : List ℕ) where
   nosign-told c cs after n (broken f) e = flow.FlowKeyBreaks.no_part n e
   nosign-told c cs after n (at_part d ds) e = flow.FlowKeyBreaks.no_sign n e
 
-  between-told : (kind : Quotes) (c : Cell) (cs : List Cell) (between : Closes kind cs) → c.byte ≡ quote_of kind → (r : Result Value Fault) → BetweenTold kind c cs between r → FlowKeyTold c cs (signed_behind bytes (suc between.closing.at) between.rest r)
-  between-told kind c cs between e (Ok v) h =
+  far-told : (kind : Quotes) (c : Cell) (cs : List Cell) (between : Closes kind cs) → c.byte ≡ quote_of kind → far_sign (c ∷ cs) (sign_behind between.rest) ≡ true → FlowKeyBreaks bytes c cs (character_fault LeftOut c)
+  far-told kind c cs between e far =
       elim (sign-view between.rest) [
-        | inl (colon, rest, s, t) ↦ subst (λ (o : Option (Cell × List Cell)). FlowKeyTold c cs (signed bytes v (suc between.closing.at) o)) (sym t) (Between kind, flow.FlowKey.quoted kind between e s, (between, h))
+        | inl (colon, rest, s, t) ↦ flow.FlowKeyBreaks.quoted_left_out kind between e s (sym (sign-far c cs kind between colon rest s) ∙ far)
+        | inr (n, s) ↦ true-false (far_sign (c ∷ cs) (sign_behind between.rest)) far (ap (far_sign (c ∷ cs)) n)
+      ]
+
+  -- each proof of what closes tells the same
+  still-near : (kind : Quotes) (c : Cell) (cs : List Cell) (a b : Closes kind cs) → far_sign (c ∷ cs) (sign_behind a.rest) ≡ false → flow.NoneFar c cs b
+  still-near kind c cs a b near colon rest s = sym (ap (λ (xs : List Cell). far_sign (c ∷ cs) (sign_behind xs)) (same-rest kind cs a b) ∙ sign-far c cs kind b colon rest s) ∙ near
+
+  between-told : (kind : Quotes) (c : Cell) (cs : List Cell) (between : Closes kind cs) → c.byte ≡ quote_of kind → far_sign (c ∷ cs) (sign_behind between.rest) ≡ false
+      → (r : Result Value Fault) → BetweenTold kind c cs between r → FlowKeyTold c cs (signed_behind bytes (suc between.closing.at) between.rest r)
+  between-told kind c cs between e near (Ok v) h =
+      elim (sign-view between.rest) [
+        | inl (colon, rest, s, t) ↦ subst (λ (o : Option (Cell × List Cell)). FlowKeyTold c cs (signed bytes v (suc between.closing.at) o)) (sym t) (Between kind, flow.FlowKey.quoted kind between e s (sym (sign-far c cs kind between colon rest s) ∙ near), (between, h))
         | inr (n, s) ↦
             subst (λ (o : Option (Cell × List Cell)). FlowKeyTold c cs (signed bytes v (suc between.closing.at) o)) (sym n)
             (nosign-told c cs (suc between.closing.at) (flow.NoSign.quoted kind between v e h s) (next_on bytes (suc between.closing.at)) refl)
       ]
-  between-told kind c cs between e (Err f) h = flow.FlowKeyBreaks.escape kind e h
+  between-told kind c cs between e near (Err f) h = flow.FlowKeyBreaks.escape kind e h (still-near kind c cs between h.0 near)
+
+  closed-told : (kind : Quotes) (c : Cell) (cs : List Cell) (between : Closes kind cs) → c.byte ≡ quote_of kind → FlowKeyTold c cs (flow_key bytes c cs)
+  closed-told kind c cs between e =
+      elim (tells (far_sign (c ∷ cs) (sign_behind between.rest))) [
+        | inl far ↦ subst (FlowKeyTold c cs) (sym (far-key kind c cs between e far)) (far-told kind c cs between e far)
+        | inr near ↦ subst (FlowKeyTold c cs) (sym (quoted-key kind c cs between e near)) (between-told kind c cs between e near (single_line kind c between) (between-tells kind c cs between))
+      ]
 
   plain-told : (c : Cell) (cs : List Cell) → begins_flow c cs ≡ true → (o : Option Split) → key_in is_flow_sign before_blank (c ∷ cs) ≡ o → FlowKeyTold c cs (plain_key bytes c cs o)
   plain-told c cs p None e = nosign-told c cs (left_on (line_on bytes c.at)) (flow.NoSign.bare p e) (next_on bytes (left_on (line_on bytes c.at))) refl
@@ -154,7 +196,7 @@ module _ (bytes : List ℕ) where
   flow-key-tells c cs =
       elim (quotes-view c) [
         | inl (kind, q, s) ↦ elim (between-view kind cs) [
-          | inl (between, e) ↦ subst (FlowKeyTold c cs) (sym (quoted-key kind c cs between q)) (between-told kind c cs between q (single_line kind c between) (between-tells kind c cs between))
+          | inl (between, e) ↦ closed-told kind c cs between q
           | inr (n, e) ↦ let h : OpensQuote c cs = record { kind = kind; is_quote = q; unclosed = e } in subst (FlowKeyTold c cs) (sym (open-key c cs h)) (flow.FlowKeyBreaks.open_quote h)
         ]
         | inr (q, n) ↦ elim (tells (begins_flow c cs)) [
@@ -226,7 +268,7 @@ module _ (bytes : List ℕ) where
 -- ---- where a key's sign stands, and where the mapping is read on behind the value
 
 pub key-within : (hi : ℕ) (c : Cell) (cs : List Cell) (k : Key) (colon : Cell) → FlowKey c cs k colon → Rises c.at (c ∷ cs) hi → (c.at ≤ colon.at) × (suc colon.at ≤ hi)
-key-within hi c cs _ _ (flow.FlowKey.quoted {rest = rest} {colon = colon} kind between e s) r =
+key-within hi c cs _ _ (flow.FlowKey.quoted {rest = rest} {colon = colon} kind between e s near) r =
     let inner : Rises (suc c.at) (flat_map raw between.raws ++ between.closing ∷ between.rest) hi = subst (λ (xs : List Cell). Rises (suc c.at) xs hi) between.source r.1 in
     let behind : Rises (suc c.at) between.rest hi = rises-back (suc c.at) (flat_map raw between.raws ++ between.closing ∷ []) between.rest hi (subst (λ (xs : List Cell). Rises (suc c.at) xs hi) (sym (append_assoc (flat_map raw between.raws) (between.closing ∷ []) between.rest)) inner) in
     let sign : Rises (suc c.at) (colon ∷ rest) hi = subst (λ (xs : List Cell). Rises (suc c.at) xs hi) s.0 (rises-part (suc c.at) between.rest (after_blanks between.rest) hi (after-blanks-part between.rest) behind) in
@@ -237,7 +279,7 @@ key-within hi c cs _ _ (flow.FlowKey.bare {front = front} {rest = rest} {colon =
     (rises-le c.at (c ∷ front) colon.at (rises-before c.at (c ∷ front) colon rest hi s), rises-le (suc colon.at) rest hi (rises-behind c.at (c ∷ front) colon rest hi s))
 
 pub key-begins : (c : Cell) (cs : List Cell) (k : Key) (colon : Cell) → FlowKey c cs k colon → begins_part c cs ≡ true
-key-begins c cs _ _ (flow.FlowKey.quoted kind between e s) = quote-begins c cs kind e
+key-begins c cs _ _ (flow.FlowKey.quoted kind between e s near) = quote-begins c cs kind e
 key-begins c cs _ _ (flow.FlowKey.bare p e n) = flow-begins c cs p
 
 pub value-within : (bytes : List ℕ) (colon : Cell) (t : Tree) (after : ℕ) → FlowValue bytes colon t after → suc colon.at ≤ length bytes → (suc colon.at ≤ after) × (after ≤ length bytes)

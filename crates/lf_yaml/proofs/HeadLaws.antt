@@ -1,5 +1,5 @@
 -- How a row begins is read: keys and their signs, scalars between quotes, keys that stand before.
-use Rattle.std.proofs.Common.{◌≡◌, ◌≢◌, ℕ, zero, suc, ◌+◌, Bool, true, false, eqb, List, [], ◌∷◌, Option, Some, None, Result, Ok, Err, length, eq-eqb, refl, ap, arith, sym, ◌∙◌, subst, ◌⊎◌, inl, inr, ◌&&◌, ◌||◌}
+use Rattle.std.proofs.Common.{◌≡◌, ◌≢◌, ℕ, zero, suc, ◌+◌, Bool, true, false, cond, eqb, List, [], ◌∷◌, Option, Some, None, Result, Ok, Err, length, eq-eqb, refl, ap, arith, sym, ◌∙◌, subst, ◌⊎◌, inl, inr, ◌&&◌, ◌||◌}
 use Rattle.std.specs.Prelude.{Contains, bytes_eq}
 use Rattle.std.specs.List.{flat_map}
 use Rattle.std.proofs.lemmas.Bool.Decides.{eqb_tells}
@@ -135,12 +135,20 @@ sign-view cs = by (after_blanks cs) refl
 
 -- ---- entries
 
-pub entry-is : (r : Row) (k : Key) (colon : Cell) (rest : List Cell) → BeginsEntry r k colon rest → entry_of r ≡ Some (k, colon, rest)
+-- a row that is left out begins no entry, and else its first cell decides
+pub left-out : (r : Row) → is_left_out r ≡ true → entry_of r ≡ None
 unfolding entry_of
+left-out r l = ap (λ (b : Bool). cond b None (entry_by r (quotes_of r.first))) l
+
+pub kept : (r : Row) → is_left_out r ≡ false → entry_of r ≡ entry_by r (quotes_of r.first)
+unfolding entry_of
+kept r l = ap (λ (b : Bool). cond b None (entry_by r (quotes_of r.first))) l
+
+pub entry-is : (r : Row) (k : Key) (colon : Cell) (rest : List Cell) → BeginsEntry r k colon rest → entry_of r ≡ Some (k, colon, rest)
 entry-is r _ _ _ (bare {front = front} {rest = rest} {colon = colon} p l e) =
-    ap (entry_by r) (plain-quotes r.first r.rest p) ∙ rw (l, p) (ap bare_head e)
-entry-is r _ _ _ (quoted {rest = rest} {colon = colon} kind c e s b) =
-    ap (entry_by r) (quotes-is r.first kind e) ∙ ap (quoted_head kind) (closes-again kind r.rest c) ∙ ap (quoted_sign kind) (sign-is c.rest colon rest s) ∙ rw b refl
+    kept r l ∙ ap (entry_by r) (plain-quotes r.first r.rest p) ∙ rw p (ap bare_head e)
+entry-is r _ _ _ (quoted {rest = rest} {colon = colon} kind c e l s b) =
+    kept r l ∙ ap (entry_by r) (quotes-is r.first kind e) ∙ ap (quoted_head kind) (closes-again kind r.rest c) ∙ ap (quoted_sign kind) (sign-is c.rest colon rest s) ∙ rw b refl
 
 pub no-entry : (r : Row) → entry_of r ≡ None → NoEntry r
 no-entry r n k colon rest h = let x : Head = (k, colon, rest) in none-some x (sym n ∙ entry-is r k colon rest h)
@@ -154,40 +162,38 @@ there r k colon rest h = inl (k, colon, rest, h, entry-is r k colon rest h)
 missing : (r : Row) → entry_of r ≡ None → EntryView r
 missing r e = inr (e, no-entry r e)
 
-bare-view : (r : Row) → quotes_of r.first ≡ None → EntryView r
-unfolding entry_of
-bare-view r q =
+bare-view : (r : Row) → quotes_of r.first ≡ None → is_left_out r ≡ false → EntryView r
+bare-view r q l =
     elim (tells (begins_plain (text_of r))) [
-      | inl p ↦ elim (tells (is_left_out r)) [
-        | inl l ↦ missing r (ap (entry_by r) q ∙ rw (l, p) refl)
-        | inr l ↦ by p l (key_in never before_blank (text_of r)) refl
-      ]
-      | inr p ↦ missing r (ap (entry_by r) q ∙ rw p refl)
+      | inl p ↦ by p (key_in never before_blank (text_of r)) refl
+      | inr p ↦ missing r (kept r l ∙ ap (entry_by r) q ∙ rw p refl)
     ]
   where
-    by : begins_plain (text_of r) ≡ true → is_left_out r ≡ false → (o : Option Split) → key_in never before_blank (text_of r) ≡ o → EntryView r
-    by p l None e = missing r (ap (entry_by r) q ∙ rw (l, p) (ap bare_head e))
-    by p l (Some x) e = there r (Bare (trimmed is_blank x.0)) x.1 x.2 (bare p l e)
+    by : begins_plain (text_of r) ≡ true → (o : Option Split) → key_in never before_blank (text_of r) ≡ o → EntryView r
+    by p None e = missing r (kept r l ∙ ap (entry_by r) q ∙ rw p (ap bare_head e))
+    by p (Some x) e = there r (Bare (trimmed is_blank x.0)) x.1 x.2 (bare p l e)
 
-quoted-view : (r : Row) (kind : Quotes) → r.first.byte ≡ quote_of kind → EntryView r
-unfolding entry_of
-quoted-view r kind q =
+quoted-view : (r : Row) (kind : Quotes) → r.first.byte ≡ quote_of kind → is_left_out r ≡ false → EntryView r
+quoted-view r kind q l =
     elim (between-view kind r.rest) [
       | inl (c, h) ↦ elim (sign-view c.rest) [
         | inl (colon, rest, s, t) ↦ elim (tells (before_blank rest)) [
-          | inl b ↦ there r (Between kind) colon rest (quoted kind c q s b)
-          | inr b ↦ missing r (ap (entry_by r) (quotes-is r.first kind q) ∙ ap (quoted_head kind) h ∙ ap (quoted_sign kind) t ∙ rw b refl)
+          | inl b ↦ there r (Between kind) colon rest (quoted kind c q l s b)
+          | inr b ↦ missing r (kept r l ∙ ap (entry_by r) (quotes-is r.first kind q) ∙ ap (quoted_head kind) h ∙ ap (quoted_sign kind) t ∙ rw b refl)
         ]
-        | inr (n, s) ↦ missing r (ap (entry_by r) (quotes-is r.first kind q) ∙ ap (quoted_head kind) h ∙ ap (quoted_sign kind) n)
+        | inr (n, s) ↦ missing r (kept r l ∙ ap (entry_by r) (quotes-is r.first kind q) ∙ ap (quoted_head kind) h ∙ ap (quoted_sign kind) n)
       ]
-      | inr (n, c) ↦ missing r (ap (entry_by r) (quotes-is r.first kind q) ∙ ap (quoted_head kind) n)
+      | inr (n, c) ↦ missing r (kept r l ∙ ap (entry_by r) (quotes-is r.first kind q) ∙ ap (quoted_head kind) n)
     ]
 
 pub entry-view : (r : Row) → EntryView r
 entry-view r =
-    elim (quotes-view r.first) [
-      | inl (kind, q, s) ↦ quoted-view r kind q
-      | inr (q, n) ↦ bare-view r q
+    elim (tells (is_left_out r)) [
+      | inl l ↦ missing r (left-out r l)
+      | inr l ↦ elim (quotes-view r.first) [
+        | inl (kind, q, s) ↦ quoted-view r kind q l
+        | inr (q, n) ↦ bare-view r q l
+      ]
     ]
 
 -- ---- block or not
@@ -238,7 +244,7 @@ bare-item r true e p =
 
 pub entry-no-item : (r : Row) (k : Key) (colon : Cell) (rest : List Cell) → BeginsEntry r k colon rest → is_item r ≡ false
 entry-no-item r _ _ _ (bare p l e) = bare-item r (before_blank r.rest) refl p
-entry-no-item r _ _ _ (quoted kind c e s b) = no-item r (quote_of kind) e (by kind)
+entry-no-item r _ _ _ (quoted kind c e l s b) = no-item r (quote_of kind) e (by kind)
   where
     by : (kind : Quotes) → eqb (quote_of kind) 45 ≡ false
     by Single = refl
@@ -263,7 +269,7 @@ KeyTold c cs k (Err f) = KeyBreaks c cs k f
 pub key-tells : (r : Row) (k : Key) (colon : Cell) (rest : List Cell) → BeginsEntry r k colon rest → KeyTold r.first r.rest k (key_of r.first r.rest k)
 unfolding key_of
 key-tells r _ _ _ (bare p l e) = refl
-key-tells r _ _ _ (quoted kind c e s b) =
+key-tells r _ _ _ (quoted kind c e l s b) =
     subst (KeyTold r.first r.rest (Between kind)) (sym (ap (between_of kind r.first) (closes-again kind r.rest c))) (by (single_line kind r.first c) (between-tells kind r.first r.rest c))
   where
     by : (x : Result Value Fault) → BetweenTold kind r.first r.rest c x → KeyTold r.first r.rest (Between kind) x

@@ -101,7 +101,7 @@ value_breach bytes utf8 above _ lo r _ _ (breaks.ValueBreaks.behind_mapping {es 
 
 key_breach : (n lo stop : ℕ) (r : Row) (k : Key) (colon : Cell) (behind : List Cell) (f : Fault) → BeginsEntry r k colon behind → KeyBreaks r.first r.rest k f → IsRowIn lo stop r → stop ≤ n → LiesIn n f.span
 key_breach n lo stop r _ colon behind f (heads.BeginsEntry.bare p l e) b h le = absurd b
-key_breach n lo stop r _ colon behind f (heads.BeginsEntry.quoted kind between q s p) b h le = escape_lies n kind r.first r.rest f (rises_high r.first.at (text_of r) stop n le h.rises) h.utf8 q b
+key_breach n lo stop r _ colon behind f (heads.BeginsEntry.quoted kind between q l s p) b h le = escape_lies n kind r.first r.rest f (rises_high r.first.at (text_of r) stop n le h.rises) h.utf8 q b
 
 -- what is left of a row behind a key's `:`
 left_entry : (lo stop : ℕ) (r left : Row) (k : Key) (colon : Cell) (behind : List Cell) → BeginsEntry r k colon behind → left_of r.begin behind ≡ Some left → IsRowIn lo stop r → IsRowIn colon.at stop left

@@ -125,7 +125,7 @@ all_at bytes [] c ys h = h.0
 all_at bytes (x ∷ xs) c ys h = all_at bytes xs c ys h.1
 
 key-cell : (bytes : List ℕ) (c : Cell) (cs : List Cell) (k : Key) (colon : Cell) → FlowKey c cs k colon → AreIn bytes (c ∷ cs) → InFile bytes colon × (colon.byte ≡ 58)
-key-cell bytes c cs _ _ (flow.FlowKey.quoted {rest = rest} {colon = colon} kind between e s) are =
+key-cell bytes c cs _ _ (flow.FlowKey.quoted {rest = rest} {colon = colon} kind between e s near) are =
     let all : AreIn bytes ((flat_map raw between.raws ++ between.closing ∷ []) ++ between.rest) =
     subst (AreIn bytes) (between.source ∙ sym (append_assoc (flat_map raw between.raws) (between.closing ∷ []) between.rest)) are.1 in
     let behind : AreIn bytes between.rest = all-back (InFile bytes) (flat_map raw between.raws ++ between.closing ∷ []) between.rest all in
@@ -280,7 +280,8 @@ module _ (bytes : List ℕ) where
     key_lies at c cs _ (flow.FlowKeyBreaks.no_key e) start is = no_part_lies n c cs (part_in at c cs start is)
     key_lies at c cs _ (flow.FlowKeyBreaks.key_left_out p e b) start is = part_lies n c cs (part_in at c cs start is) LeftOut
     key_lies at c cs _ (flow.FlowKeyBreaks.open_quote o) start is = byte_lies c.at n (part-within bytes at c cs is).1
-    key_lies at c cs f (flow.FlowKeyBreaks.escape kind q b) start is = let p = part_in at c cs start is in escape_lies n kind c cs f p.0 p.1 q b
+    key_lies at c cs _ (flow.FlowKeyBreaks.quoted_left_out kind between q s far) start is = part_lies n c cs (part_in at c cs start is) LeftOut
+    key_lies at c cs f (flow.FlowKeyBreaks.escape kind q b near) start is = let p = part_in at c cs start is in escape_lies n kind c cs f p.0 p.1 q b
     key_lies at c cs f (flow.FlowKeyBreaks.no_part {after = after} s e) start is = broken_in after f (no-sign-boundary bytes c cs after utf8 s (part_are bytes at c cs is)) e
     key_lies at c cs _ (flow.FlowKeyBreaks.no_sign {after = after} {wrong = wrong} {ds = ds} s e) start is = wrong_in after wrong ds (no-sign-boundary bytes c cs after utf8 s (part_are bytes at c cs is)) e
 

@@ -259,7 +259,7 @@ quoted_in n kind c cs between colon rest s h =
 pub entry_key_in : (n : ℕ) (r : Row) (k : Key) (colon : Cell) (rest : List Cell) → BeginsEntry r k colon rest → LeftIn n r.first.at (text_of r) → SignedIn n r.first.at k colon rest
 entry_key_in n r _ colon rest (heads.BeginsEntry.bare {front = front} p l e) h =
     bare_in n r.first r.rest front rest colon (split-source heads.never before_blank (text_of r) (front, colon, rest) e) (split_sign heads.never before_blank (text_of r) (front, colon, rest) e) h
-entry_key_in n r _ colon rest (heads.BeginsEntry.quoted kind between q s b) h = quoted_in n kind r.first r.rest between colon rest s h
+entry_key_in n r _ colon rest (heads.BeginsEntry.quoted kind between q l s b) h = quoted_in n kind r.first r.rest between colon rest s h
 
 -- what the key is
 pub key_from : (n : ℕ) (c : Cell) (cs : List Cell) (k : Key) (colon : Cell) (rest : List Cell) (v : Value) → SignedIn n c.at k colon rest → Rises c.at (c ∷ cs) n → IsKey c cs k v → ScalarFrom n c.at v
@@ -268,7 +268,7 @@ key_from n c cs (Between kind) colon rest v s r (between, b) = between_from n ki
 
 -- a key of a flow mapping
 pub flow_key_from : (n : ℕ) (c : Cell) (cs : List Cell) (k : Key) (colon : Cell) (v : Value) → FlowKey c cs k colon → Rises c.at (c ∷ cs) n → IsKey c cs k v → ScalarFrom n c.at v
-flow_key_from n c cs _ colon v (flow.FlowKey.quoted kind between q s) r (other, b) = between_from n kind c cs other r v b
+flow_key_from n c cs _ colon v (flow.FlowKey.quoted kind between q s near) r (other, b) = between_from n kind c cs other r v b
 flow_key_from n c cs _ colon v (flow.FlowKey.bare {front = front} {rest = rest} p e nn) r h =
     let whole : Rises c.at ((c ∷ front) ++ colon ∷ rest) n = subst (λ (xs : List Cell). Rises c.at xs n) (split-source is_flow_sign before_blank (c ∷ cs) (c ∷ front, colon, rest) e) r in
     let text : Rises c.at (trimmed is_blank (c ∷ front)) n = front_rises c.at n (c ∷ front) (trimmed is_blank (c ∷ front)) (trimmed-front (c ∷ front)) (rises-front c.at (c ∷ front) (colon ∷ rest) n whole) in

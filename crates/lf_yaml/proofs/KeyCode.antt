@@ -1,5 +1,5 @@
 -- Keys of flow mappings, as the code reads them.
-use Rattle.std.proofs.Common.{◌≡◌, ℕ, zero, suc, ◌+◌, ◌≤◌, true, false, eqb, List, [], ◌∷◌, Option, Some, None, Result, Ok, Err, length, get_or, take, drop, length-take, eq-eqb, refl, ap, arith, sym, ◌∙◌}
+use Rattle.std.proofs.Common.{◌≡◌, ℕ, zero, suc, ◌+◌, ◌≤◌, Bool, true, false, cond, eqb, List, [], ◌∷◌, Option, Some, None, Result, Ok, Err, length, get_or, take, drop, length-take, eq-eqb, refl, ap, arith, sym, ◌∙◌}
 use Rattle.lf_base.specs.declared.fault.Fault.{Fault}
 use Rattle.lf_base.specs.declared.kind.Kind.TheVariants.{LeftOut}
 use Rattle.lf_scalar.specs.Plain.{before_blank}
@@ -12,7 +12,7 @@ use Rattle.lf_yaml.specs.Heads.{Split, key_in}
 use Rattle.lf_yaml.specs.Keys.{is_key_left_out}
 use Rattle.lf_yaml.specs.Flow.{line_on, left_on, next_on, begins_flow, is_flow_sign}
 use Rattle.lf_yaml.specs.views.Signs.{stops_of, split_at}
-use Rattle.lf_yaml.specs.reading.Trees.{Part, after_closing, with_after, quoted_part, between_of, behind_closing, sign_if, sign_behind, Signed, signed, signed_behind, no_sign, plain_key, bare_key, flow_key_by}
+use Rattle.lf_yaml.specs.reading.Trees.{Part, after_closing, with_after, quoted_part, between_of, behind_closing, sign_if, sign_behind, Signed, signed, signed_behind, far_sign, no_sign, plain_key, bare_key, flow_key_by}
 use Rattle.lf_yaml.proofs.Placed.{drops}
 use Rattle.lf_yaml.proofs.EntryCode.{take-within}
 
@@ -33,12 +33,29 @@ with-ok after (Ok v) x e = let h : (v ≡ x.0) × (after ≡ x.1) = ok-pair e in
         snd-of (Err f) = after
 with-ok after (Err f) x e = absurd cc
 
+-- whether the `:` behind it stands too far
+abbrev pub is_far : Quotes → Cell → List Cell → Bool
+is_far kind c cs = far_sign (c ∷ cs) (sign_behind (behind_closing (closing_of kind 0 cs)))
+
+by-far : (bytes : List ℕ) (kind : Quotes) (c : Cell) (cs : List Cell) (b : Bool) → is_far kind c cs ≡ b
+    → flow_key_by bytes c cs (Some kind)
+    ≡ cond b (Err (character_fault LeftOut c)) (signed_behind bytes (after_closing (closing_of kind 0 cs)) (behind_closing (closing_of kind 0 cs)) (between_of kind c (closing_of kind 0 cs)))
+by-far bytes kind c cs b e =
+    ap (λ (q : Bool). cond q (Err (character_fault LeftOut c)) (signed_behind bytes (after_closing (closing_of kind 0 cs)) (behind_closing (closing_of kind 0 cs)) (between_of kind c (closing_of kind 0 cs)))) e
+
+pub quoted-far : (bytes : List ℕ) (kind : Quotes) (c : Cell) (cs : List Cell) → is_far kind c cs ≡ true → flow_key_by bytes c cs (Some kind) ≡ Err (character_fault LeftOut c)
+quoted-far bytes kind c cs e = by-far bytes kind c cs true e
+
+pub quoted-near : (bytes : List ℕ) (kind : Quotes) (c : Cell) (cs : List Cell) → is_far kind c cs ≡ false
+    → flow_key_by bytes c cs (Some kind) ≡ signed_behind bytes (after_closing (closing_of kind 0 cs)) (behind_closing (closing_of kind 0 cs)) (between_of kind c (closing_of kind 0 cs))
+quoted-near bytes kind c cs e = by-far bytes kind c cs false e
+
 -- what stands behind a quoted scalar
-pub quoted-by : (bytes : List ℕ) (kind : Quotes) (c : Cell) (cs : List Cell) (v : Value) (after : ℕ) (behind : List Cell) → quoted_part kind c (closing_of kind 0 cs) ≡ Ok (v, after) → behind_closing (closing_of kind 0 cs) ≡ behind
-    → flow_key_by bytes c cs (Some kind) ≡ signed bytes v after (sign_behind behind)
-quoted-by bytes kind c cs v after behind e b =
+pub quoted-by : (bytes : List ℕ) (kind : Quotes) (c : Cell) (cs : List Cell) (v : Value) (after : ℕ) (behind : List Cell) → is_far kind c cs ≡ false
+    → quoted_part kind c (closing_of kind 0 cs) ≡ Ok (v, after) → behind_closing (closing_of kind 0 cs) ≡ behind → flow_key_by bytes c cs (Some kind) ≡ signed bytes v after (sign_behind behind)
+quoted-by bytes kind c cs v after behind near e b =
     let h = with-ok (after_closing (closing_of kind 0 cs)) (between_of kind c (closing_of kind 0 cs)) (v, after) e in
-    ap (λ (n : ℕ). signed_behind bytes n (behind_closing (closing_of kind 0 cs)) (between_of kind c (closing_of kind 0 cs))) h.1
+    quoted-near bytes kind c cs near ∙ ap (λ (n : ℕ). signed_behind bytes n (behind_closing (closing_of kind 0 cs)) (between_of kind c (closing_of kind 0 cs))) h.1
     ∙ ap (λ (xs : List Cell). signed_behind bytes after xs (between_of kind c (closing_of kind 0 cs))) b ∙ ap (signed_behind bytes after behind) h.0
 
 pub sign-found : (n p : ℕ) (text : List ℕ) → get_or text p 0 ≡ 58 → sign_if (cells n (drop p text)) ≡ Some (cell 58 n, cells (suc n) (drop (p + 1) text))
@@ -59,15 +76,17 @@ module _ (at len k : ℕ) (text : List ℕ) (after : after_blanks (cells (at + l
       let z : at + len + k ≡ at + (len + k) = omega arith in
       ap sign_if after ∙ ap (λ (xs : List ℕ). sign_if (cells (at + len + k) xs)) (drops len k text) ∙ ap (λ (n : ℕ). sign_if (cells n (drop (len + k) text))) z
 
-  pub quoted-found : (bytes : List ℕ) (kind : Quotes) (c : Cell) (cs : List Cell) (v : Value) → quoted_part kind c (closing_of kind 0 cs) ≡ Ok (v, at + len) → behind_closing (closing_of kind 0 cs) ≡ cells (at + len) (drop len text) → get_or text (len + k) 0 ≡ 58
+  pub quoted-found : (bytes : List ℕ) (kind : Quotes) (c : Cell) (cs : List Cell) (v : Value) → is_far kind c cs ≡ false
+      → quoted_part kind c (closing_of kind 0 cs) ≡ Ok (v, at + len) → behind_closing (closing_of kind 0 cs) ≡ cells (at + len) (drop len text) → get_or text (len + k) 0 ≡ 58
       → flow_key_by bytes c cs (Some kind) ≡ Ok (v, cell 58 (at + (len + k)))
-  quoted-found bytes kind c cs v e b sign =
-      quoted-by bytes kind c cs v (at + len) (cells (at + len) (drop len text)) e b ∙ ap (signed bytes v (at + len)) (sign-at ∙ sign-found (at + (len + k)) (len + k) text sign)
+  quoted-found bytes kind c cs v near e b sign =
+      quoted-by bytes kind c cs v (at + len) (cells (at + len) (drop len text)) near e b ∙ ap (signed bytes v (at + len)) (sign-at ∙ sign-found (at + (len + k)) (len + k) text sign)
 
-  pub quoted-missing : (bytes : List ℕ) (kind : Quotes) (c : Cell) (cs : List Cell) (v : Value) → quoted_part kind c (closing_of kind 0 cs) ≡ Ok (v, at + len) → behind_closing (closing_of kind 0 cs) ≡ cells (at + len) (drop len text) → eqb (get_or text (len + k) 0) 58 ≡ false
+  pub quoted-missing : (bytes : List ℕ) (kind : Quotes) (c : Cell) (cs : List Cell) (v : Value) → is_far kind c cs ≡ false
+      → quoted_part kind c (closing_of kind 0 cs) ≡ Ok (v, at + len) → behind_closing (closing_of kind 0 cs) ≡ cells (at + len) (drop len text) → eqb (get_or text (len + k) 0) 58 ≡ false
       → flow_key_by bytes c cs (Some kind) ≡ no_sign (next_on bytes (at + len))
-  quoted-missing bytes kind c cs v e b sign =
-      quoted-by bytes kind c cs v (at + len) (cells (at + len) (drop len text)) e b ∙ ap (signed bytes v (at + len)) (sign-at ∙ sign-missing (at + (len + k)) (len + k) text sign)
+  quoted-missing bytes kind c cs v near e b sign =
+      quoted-by bytes kind c cs v (at + len) (cells (at + len) (drop len text)) near e b ∙ ap (signed bytes v (at + len)) (sign-at ∙ sign-missing (at + (len + k)) (len + k) text sign)
 
 -- ---- without quotes
 

@@ -4,7 +4,7 @@ use Rattle.std.proofs.lemmas.List.{drop_all}
 use Rattle.lf_scalar.specs.Cells.{Cell, cell, cells}
 use Rattle.lf_scalar.specs.Plain.{before_blank, begins_plain}
 use Rattle.lf_scalar.proofs.Cells.{cells-drop}
-use Rattle.lf_yaml.specs.Keys.{Split, key_in, never, begins_character, characters, is_key_left_out, has_key_left_out}
+use Rattle.lf_yaml.specs.Keys.{Split, key_in, never, begins_character, characters, is_key_left_out, has_bare_left_out}
 use Rattle.lf_yaml.specs.views.Signs.{stops_of, split_at}
 use Rattle.lf_yaml.proofs.HeadLaws.{tells}
 
@@ -40,16 +40,16 @@ abbrev by : Option Split → Bool
 by None = false
 by (Some x) = is_key_left_out x.0
 
-tested : (cs : List Cell) (o : Option Split) → begins_plain cs ≡ true → o ≡ key_in never before_blank cs → has_key_left_out cs ≡ by o
+tested : (cs : List Cell) (o : Option Split) → begins_plain cs ≡ true → o ≡ key_in never before_blank cs → has_bare_left_out cs ≡ by o
 tested cs None p e = rw (p, ← e) refl
 tested cs (Some x) p e = rw (p, ← e) refl
 
 pub key-found : (at k : ℕ) (front whole : List ℕ) → Some (split_at at whole k) ≡ key_in (stops_of false) before_blank (cells at whole) → front ≡ take k whole → begins_plain (cells at whole) ≡ true
-    → (result : Bool) → result ≡ is_key_left_out (cells at front) → result ≡ has_key_left_out (cells at whole)
+    → (result : Bool) → result ≡ is_key_left_out (cells at front) → result ≡ has_bare_left_out (cells at whole)
 key-found at k front whole e f p result r = r ∙ ap (λ (xs : List ℕ). is_key_left_out (cells at xs)) f ∙ sym (tested (cells at whole) (Some (split_at at whole k)) p e)
 
-pub key-missing : (at : ℕ) (whole : List ℕ) → None ≡ key_in (stops_of false) before_blank (cells at whole) → begins_plain (cells at whole) ≡ true → false ≡ has_key_left_out (cells at whole)
+pub key-missing : (at : ℕ) (whole : List ℕ) → None ≡ key_in (stops_of false) before_blank (cells at whole) → begins_plain (cells at whole) ≡ true → false ≡ has_bare_left_out (cells at whole)
 key-missing at whole e p = sym (tested (cells at whole) None p e)
 
-pub not-plain : (at : ℕ) (whole : List ℕ) → begins_plain (cells at whole) ≡ false → false ≡ has_key_left_out (cells at whole)
+pub not-plain : (at : ℕ) (whole : List ℕ) → begins_plain (cells at whole) ≡ false → false ≡ has_bare_left_out (cells at whole)
 not-plain at whole p = rw p refl

@@ -33,6 +33,7 @@ pub mod BlockCode
 pub mod Lasts
 pub mod Edges
 pub mod Whole
+pub mod FarKeys
 pub mod FileCharacters
 pub mod FileRows
 pub mod Cuts
@@ -53,4 +54,5 @@ pub mod InsideFlow
 pub mod InsideTrees
 pub mod InsideBreaches
 pub mod Worked
+pub mod WorkedKeys
 pub mod TabCode

@@ -27,7 +27,7 @@ abbrev one_entry_tree : Tree
 one_entry_tree = mapping (entry (value (codes "a") (0 ∷ 1 ∷ []) (span 0 1)) (leaf (value (codes "b") (3 ∷ 4 ∷ []) (span 3 4))) no_entries) (span 0 4)
 
 -- characters of ASCII are UTF-8
-low_utf8 : (cs : List Cell) → AllByRecursion (λ c. c.byte < 128) cs → Utf8 cs
+pub low_utf8 : (cs : List Cell) → AllByRecursion (λ c. c.byte < 128) cs → Utf8 cs
 low_utf8 [] h = utf8-nil
 low_utf8 (c ∷ cs) h = utf8-low c cs h.0 (low_utf8 cs h.1)
 

@@ -11,7 +11,7 @@ use Rattle.lf_scalar.specs.Plain.{before_blank, before_comment, is_plain_byte, v
 use Rattle.lf_scalar.specs.Scalars.{source_at}
 use Rattle.lf_scalar.specs.declared.quotes.Quotes.{Quotes}
 use Rattle.lf_scalar.specs.Quoted.{quote_of, Closes}
-use Rattle.lf_yaml.specs.Keys.{is_key_left_out}
+use Rattle.lf_yaml.specs.Keys.{is_too_far, before_offset, is_key_left_out}
 use Rattle.lf_yaml.specs.Rows.{Row, is_one_of, is_mark, indent_fault, content_row, rows_of}
 use Rattle.lf_yaml.specs.Heads.{key_in, Key, Bare, Between, IsBetween, BetweenBreaks, IsKey, IsSignBehind, OpensQuote}
 use Rattle.lf_yaml.specs.Tree.{Tree, leaf, Items, no_items, item, Entries, no_entries, entry}
@@ -202,9 +202,9 @@ pub data SequenceBreaks (bytes : List ℕ) : ℕ → Fault → Type 0 where
 
 -- ---- mappings
 
--- `FlowKey c cs k colon`: the key k begins with the cell c, which the cells cs follow on its line, and there its `:` stands.
+-- `FlowKey c cs k colon`: the key k begins with the cell c, which the cells cs follow on its line, and there its `:` stands, and not too far.
 pub data FlowKey (c : Cell) (cs : List Cell) : Key → Cell → Type 0 where
-  quoted : {rest : List Cell} {colon : Cell} (kind : Quotes) (between : Closes kind cs) → c.byte ≡ quote_of kind → IsSignBehind between.rest colon rest → FlowKey c cs (Between kind) colon
+  quoted : {rest : List Cell} {colon : Cell} (kind : Quotes) (between : Closes kind cs) → c.byte ≡ quote_of kind → IsSignBehind between.rest colon rest → is_too_far (before_offset colon.at (c ∷ cs)) ≡ false → FlowKey c cs (Between kind) colon
   bare : {front rest : List Cell} {colon : Cell} → begins_flow c cs ≡ true → key_in is_flow_sign before_blank (c ∷ cs) ≡ Some (c ∷ front, colon, rest) → is_key_left_out (c ∷ front) ≡ false → FlowKey c cs (Bare (trimmed is_blank (c ∷ front))) colon
 
 -- `NoSign bytes c cs after`: a text where a key is wanted, behind which no `:` stands on its line that ends one; the mapping is read on at the offset `after`.
@@ -212,13 +212,20 @@ pub data NoSign (bytes : List ℕ) (c : Cell) (cs : List Cell) : ℕ → Type 0 
   quoted : (kind : Quotes) (between : Closes kind cs) (v : Value) → c.byte ≡ quote_of kind → IsBetween kind c cs between v → ((colon : Cell) (rest : List Cell) → IsSignBehind between.rest colon rest → ⊥) → NoSign bytes c cs (suc between.closing.at)
   bare : begins_flow c cs ≡ true → key_in is_flow_sign before_blank (c ∷ cs) ≡ None → NoSign bytes c cs (left_on (line_on bytes c.at))
 
--- What breaks a key that begins with a cell. Some without quotes are left out, and a quote of a key closes on its line. Where no `:` follows, that is told at the next part.
+-- no `:` stands too far behind a key between quotes
+abbrev pub NoneFar : {kind : Quotes} → Cell → (cs : List Cell) → Closes kind cs → Type 0
+NoneFar c cs between = (colon : Cell) (rest : List Cell) → IsSignBehind between.rest colon rest → is_too_far (before_offset colon.at (c ∷ cs)) ≡ false
+
+-- What breaks a key that begins with a cell. Some are left out, and a quote of a key closes on its line. A key between quotes whose `:` stands too far is left out whatever
+-- stands between them. Where no `:` follows, that is told at the next part.
 pub data FlowKeyBreaks (bytes : List ℕ) (c : Cell) (cs : List Cell) : Fault → Type 0 where
   no_key : begins_part c cs ≡ false → FlowKeyBreaks bytes c cs (part_fault c cs)
   key_left_out : {front rest : List Cell} {colon : Cell} → begins_flow c cs ≡ true → key_in is_flow_sign before_blank (c ∷ cs) ≡ Some (c ∷ front, colon, rest) → is_key_left_out (c ∷ front) ≡ true
       → FlowKeyBreaks bytes c cs (character_fault LeftOut c)
   open_quote : OpensQuote c cs → FlowKeyBreaks bytes c cs (byte_fault OpenQuote c.at)
-  escape : {f : Fault} (kind : Quotes) → c.byte ≡ quote_of kind → BetweenBreaks kind c cs f → FlowKeyBreaks bytes c cs f
+  quoted_left_out : {rest : List Cell} {colon : Cell} (kind : Quotes) (between : Closes kind cs) → c.byte ≡ quote_of kind → IsSignBehind between.rest colon rest → is_too_far (before_offset colon.at (c ∷ cs)) ≡ true
+      → FlowKeyBreaks bytes c cs (character_fault LeftOut c)
+  escape : {f : Fault} (kind : Quotes) → c.byte ≡ quote_of kind → (b : BetweenBreaks kind c cs f) → NoneFar c cs b.0 → FlowKeyBreaks bytes c cs f
   no_part : {after : ℕ} {f : Fault} → NoSign bytes c cs after → next_on bytes after ≡ broken f → FlowKeyBreaks bytes c cs f
   no_sign : {after : ℕ} {wrong : Cell} {ds : List Cell} → NoSign bytes c cs after → next_on bytes after ≡ at_part wrong ds → FlowKeyBreaks bytes c cs (sign_fault wrong)
 

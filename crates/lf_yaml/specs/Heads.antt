@@ -51,11 +51,12 @@ KeyBreaks c cs (Between kind) f = BetweenBreaks kind c cs f
 abbrev pub IsSignBehind : List Cell → Cell → List Cell → Type 0
 IsSignBehind cs colon rest = (after_blanks cs ≡ colon ∷ rest) × (colon.byte ≡ 58)
 
--- A row begins an entry: a key, blanks, a `:` and a blank or the line's end. A key without quotes begins as a plain scalar does, and one between quotes closes on the line.
+-- A row begins an entry: a key that isn't left out, blanks, a `:` and a blank or the line's end. A key without quotes begins as a plain scalar does, and one between quotes
+-- closes on the line.
 pub data BeginsEntry (r : Row) : Key → Cell → List Cell → Type 0 where
   bare : {front rest : List Cell} {colon : Cell} → begins_plain (text_of r) ≡ true → is_left_out r ≡ false → key_in never before_blank (text_of r) ≡ Some (front, colon, rest)
       → BeginsEntry r (Bare (trimmed is_blank front)) colon rest
-  quoted : {rest : List Cell} {colon : Cell} (kind : Quotes) (c : Closes kind r.rest) → r.first.byte ≡ quote_of kind → IsSignBehind c.rest colon rest → before_blank rest ≡ true
+  quoted : {rest : List Cell} {colon : Cell} (kind : Quotes) (c : Closes kind r.rest) → r.first.byte ≡ quote_of kind → is_left_out r ≡ false → IsSignBehind c.rest colon rest → before_blank rest ≡ true
       → BeginsEntry r (Between kind) colon rest
 
 abbrev pub NoEntry : Row → Type 0

@@ -70,7 +70,7 @@ is_mark r = (indent r == 0) && (is_thrice 45 (text_of r) || (is_thrice 46 (text_
 abbrev pub is_property : Cell → List Cell → Bool
 is_property c cs = is_one_of (codes "&*!") c || ((c.byte == 63) && before_blank cs)
 
--- one of these forms, or a key without quotes that is left out
+-- one of these forms, or a key that is left out
 abbrev pub is_left_out : Row → Bool
 is_left_out r = is_property r.first r.rest || (is_mark r || has_key_left_out (text_of r))
 

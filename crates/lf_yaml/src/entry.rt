@@ -39,16 +39,13 @@ pub fn quote_of(byte: u8) -> Option<Quotes>
     }
 }
 
-/// The entry that a row begins whose key has no quotes.
+/// The entry that a row begins whose key has no quotes and isn't left out.
 fn bare_entry(row: Row<'_>) -> Option<Head<'_>>
     ensures head { option_map (headed row.entry.at row.entry.text.now) result ≡ entry_by (shown row.entry) None }
     ensures room { IfSome result (λ h. h.colon + 1 + length h.behind.now ≤ 2 ^ 31) }
     ensures key { IfSome result (λ h. IsKeyIn row.entry.at row.entry.text.now h.key) }
 {
     if !begins_plain(row.text) {
-        return None;
-    }
-    if is_left_out(row) {
         return None;
     }
     match find_sign(false, row.text, row.at) {
@@ -64,10 +61,11 @@ fn bare_entry(row: Row<'_>) -> Option<Head<'_>>
 }
 
 /// The `:` behind a key between quotes, at its offset, and what stands behind it: blanks, `:`, and a blank or the line's end.
-fn sign_behind(text: &[u8], at: u32) -> Option<(u32, &[u8])>
+pub fn sign_behind(text: &[u8], at: u32) -> Option<(u32, &[u8])>
     requires room { at + length text.now ≤ 2 ^ 31 }
     ensures sign { option_map (λ x. (cell 58 x.0, cells (suc x.0) x.1.now)) result ≡ sign_behind_of (cells at text.entry.now) }
     ensures room { IfSome result (λ x. x.0 + 1 + length x.1.now ≤ 2 ^ 31) }
+    ensures within { IfSome result (λ x. (at ≤ x.0) × (x.0 ≤ at + length text.entry.now)) }
 {
     let skipped = blanks(text);
     match past(text, skipped) {
@@ -77,7 +75,7 @@ fn sign_behind(text: &[u8], at: u32) -> Option<(u32, &[u8])>
     }
 }
 
-/// The entry that a row begins whose key stands between quotes.
+/// The entry that a row begins whose key stands between quotes and isn't left out.
 fn quoted_entry(row: Row<'_>, quote: Quotes) -> Option<Head<'_>>
     requires quote { get_or row.text.now 0 0 ≡ quote_byte quote }
     ensures head { option_map (headed row.entry.at row.entry.text.now) result ≡ entry_by (shown row.entry) (Some quote) }
@@ -107,13 +105,16 @@ fn quoted_entry(row: Row<'_>, quote: Quotes) -> Option<Head<'_>>
     }
 }
 
-/// The entry that a row begins: a key, blanks, `:`, and a blank or the line's end.
+/// The entry that a row begins: a key that isn't left out, blanks, `:`, and a blank or the line's end.
 #[tactic(auto, unfolding(crate::specs::reading::Trees::entry_of))]
 pub fn find_entry(row: Row<'_>) -> Option<Head<'_>>
     ensures head { option_map (headed row.entry.at row.entry.text.now) result ≡ entry_of (shown row.entry) }
     ensures room { IfSome result (λ h. h.colon + 1 + length h.behind.now ≤ 2 ^ 31) }
     ensures key { IfSome result (λ h. IsKeyIn row.entry.at row.entry.text.now h.key) }
 {
+    if is_left_out(row) {
+        return None;
+    }
     match quote_of(row.text[0]) {
         Some(quote) => quoted_entry(row, quote),
         None => bare_entry(row),

@@ -16,6 +16,7 @@ ghost use Rattle.lf_yaml.specs.views.Shown.{shown};
 
 use crate::between::quoted_scalar;
 use crate::entry::quote_of;
+use crate::far_keys::is_far_part;
 use crate::flow_plain::text_left;
 use crate::flow_scalar::{begins_flow_bytes, part_fault, sign_fault};
 use crate::head::{byte_fault, first_fault};
@@ -123,7 +124,7 @@ fn quoted_scalar_on(
     }
 }
 
-/// The key between quotes that a part begins, and the place of its `:` in the part.
+/// The key between quotes that a part begins, and the place of its `:` in the part. It is left out where the `:` stands too far behind, whatever is between the quotes.
 fn quoted_key(
     alloc: Global,
     bytes: &[u8],
@@ -139,6 +140,9 @@ fn quoted_key(
     ensures within { IfOk result (λ x. x.1 < length part.entry.text.now) }
     ensures sign { IfOk result (λ x. get_or part.entry.text.now x.1 0 ≡ 58) }
 {
+    if is_far_part(part, quote) {
+        return Err(first_fault(Kind::LeftOut, part));
+    }
     match quoted_scalar_on(alloc, bytes, part, quote) {
         Ok((scalar, len)) => {
             let place = len + blanks(past(part.text, len));

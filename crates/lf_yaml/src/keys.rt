@@ -1,13 +1,14 @@
-//! Keys without quotes: where their `:` stands.
-ghost use Rattle.std.specs.Prelude.{true, ◌≡◌, ◌&&◌, eqb, cond, ℕ, ◌+◌, ◌<◌, ◌≤◌, length, get_or, drop, IfSome, option_map};
+//! Keys without quotes: where their `:` stands; and which keys are left out.
+ghost use Rattle.std.specs.Prelude.{true, ◌≡◌, ◌&&◌, eqb, cond, ℕ, ◌+◌, ◌<◌, ◌≤◌, ◌^◌, length, get_or, drop, IfSome, option_map};
 ghost use Rattle.lf_scalar.specs.Cells.{cell, cells};
 ghost use Rattle.lf_scalar.specs.Lines.{is_blank, begins_with};
 ghost use Rattle.lf_scalar.specs.Plain.{before_blank};
 ghost use Rattle.lf_scalar.specs.Folding.{trimmed as trimmed_of};
-ghost use Rattle.lf_yaml.specs.Keys.{key_in, begins_character, characters, is_key_left_out as is_key_left_out_of, has_key_left_out as has_key_left_out_of};
+ghost use Rattle.lf_yaml.specs.Keys.{key_in, begins_character, characters, is_too_far as is_too_far_of, is_key_left_out as is_key_left_out_of, has_bare_left_out as has_bare_left_out_of, has_key_left_out as has_key_left_out_of};
 ghost use Rattle.lf_yaml.specs.views.Signs.{stops_of, split_at};
 
 use crate::entry::begins_plain;
+use crate::far_keys::has_far_key;
 use lf_base::bytes::before;
 use lf_scalar::lines::{is_blank_byte, past, trimmed_len};
 use lf_scalar::markers::is_apart;
@@ -100,16 +101,23 @@ fn char_count(text: &[u8]) -> usize
     count
 }
 
-/// Whether a key without quotes is left out: it is null, or more than 1,024 characters stand before its `:`. `front` is what stands there.
+/// Whether a `:` stands too far behind the start of its key: more than 1,024 characters stand before it. `front` is what stands there.
+pub fn is_too_far(front: &[u8]) -> bool
+    ensures { (at : ℕ) → result ≡ is_too_far_of (cells at front.now) }
+{
+    char_count(front) > 1024
+}
+
+/// Whether a key without quotes is left out: it is null, or its `:` stands too far behind its start. `front` is what stands before the `:`.
 pub fn is_key_left_out(front: &[u8]) -> bool
     ensures { (at : ℕ) → result ≡ is_key_left_out_of (cells at front.now) }
 {
-    is_null_text(trimmed(front)) || char_count(front) > 1024
+    is_null_text(trimmed(front)) || is_too_far(front)
 }
 
-/// Whether a text begins with a key of a block mapping that is left out.
-pub fn has_key_left_out(text: &[u8], at: u32) -> bool
-    ensures { result ≡ has_key_left_out_of (cells at text.now) }
+/// Whether a text begins with a key without quotes of a block mapping that is left out.
+fn has_bare_left_out(text: &[u8], at: u32) -> bool
+    ensures { result ≡ has_bare_left_out_of (cells at text.now) }
 {
     if !begins_plain(text) {
         return false;
@@ -118,4 +126,13 @@ pub fn has_key_left_out(text: &[u8], at: u32) -> bool
         Some(place) => is_key_left_out(before(text, place)),
         None => false,
     }
+}
+
+/// Whether a text begins with a key of a block mapping that is left out.
+pub fn has_key_left_out(text: &[u8], at: u32) -> bool
+    requires some { 0 < length text.now }
+    requires room { at + length text.now ≤ 2 ^ 31 }
+    ensures { result ≡ has_key_left_out_of (cells at text.now) }
+{
+    has_bare_left_out(text, at) || has_far_key(text, at)
 }

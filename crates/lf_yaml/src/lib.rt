@@ -8,6 +8,7 @@ mod characters;
 mod document;
 mod entries;
 mod entry;
+mod far_keys;
 mod flow_entries;
 mod flow_items;
 mod flow_key;

@@ -1,9 +1,8 @@
 -- A way of reading a document row by row, which defines nothing: proofs/Laws shows that it is the definition.
-use Rattle.std.specs.Prelude.{ℕ, zero, suc, ◌+◌, List, [], ◌∷◌, ◌++◌, length, Bool, true, false, not, Option, Some, None, Result, Ok, Err, nat_lt, bytes_eq, is_some, is_none, ◌==◌, ◌&&◌, ◌||◌, if◌then◌else◌}
+use Rattle.std.specs.Prelude.{ℕ, zero, suc, ◌+◌, List, [], ◌∷◌, ◌++◌, length, Bool, true, false, Option, Some, None, Result, Ok, Err, nat_lt, bytes_eq, is_some, is_none, ◌==◌, ◌&&◌, ◌||◌, if◌then◌else◌}
 use Rattle.std.specs.List.{list_any}
 use Rattle.lf_base.specs.declared.kind.Kind.TheVariants.{OpenQuote, LeftOut, DoubleKey, NotANode, TooDeep}
 use Rattle.lf_scalar.specs.declared.quotes.Quotes.{Quotes}
-use Rattle.lf_scalar.specs.declared.quotes.Quotes.TheVariants.{Single, Double}
 use Rattle.lf_base.specs.declared.fault.Fault.{Fault}
 use Rattle.lf_base.specs.Faults.{span, fault}
 use Rattle.lf_scalar.specs.Cells.{Cell, Value, made, end_of, byte_fault, character_fault, ◌>>=◌}
@@ -16,15 +15,13 @@ use Rattle.lf_scalar.specs.reading.Plain.{unless_key}
 use Rattle.lf_scalar.specs.reading.Styles as scalar
 use Rattle.lf_yaml.specs.Tree.{Tree, leaf, sequence, mapping, Items, no_items, item, Entries, no_entries, entry}
 use Rattle.lf_yaml.specs.Spans.{items_end, entries_end, empty_at}
-use Rattle.lf_yaml.specs.Keys.{is_key_left_out}
+use Rattle.lf_yaml.specs.Keys.{is_too_far, before_offset, is_key_left_out}
+pub use Rattle.lf_yaml.specs.Keys.{quotes_of}
 use Rattle.lf_yaml.specs.Rows.{Row, text_of, indent, content_row, rows_from, left_of, tab_in, is_left_out, indent_fault, row_fault}
 use Rattle.lf_yaml.specs.Heads.{is_item, Split, key_in, never, Key, Bare, Between, style_of, begins_scalar}
 use Rattle.lf_yaml.specs.Flow.{line_on, lines_below, Next, at_part, broken, next_on, is_flow_sign, begins_flow, line_text, line_colon, is_bare, is_spaces, goes_on, left_on, part_fault, sign_fault}
 
 -- ---- keys
-
-abbrev pub quotes_of : Cell → Option Quotes
-quotes_of c = if c.byte == 39 then Some Single else if c.byte == 34 then Some Double else None
 
 -- a key, its `:` and what stands behind it
 abbrev pub Head : Type 0
@@ -50,12 +47,12 @@ bare_head None = None
 bare_head (Some x) = Some (Bare (trimmed is_blank x.0), x.1, x.2)
 
 abbrev pub entry_by : Row → Option Quotes → Option Head
-entry_by r None = if begins_plain (text_of r) && not (is_left_out r) then bare_head (key_in never before_blank (text_of r)) else None
+entry_by r None = if begins_plain (text_of r) then bare_head (key_in never before_blank (text_of r)) else None
 entry_by r (Some kind) = quoted_head kind (closing_of kind 0 r.rest)
 
 -- the entry that a row begins
 unfoldable pub entry_of : Row → Option Head
-entry_of r = entry_by r (quotes_of r.first)
+entry_of r = if is_left_out r then None else entry_by r (quotes_of r.first)
 
 -- a scalar between quotes that closes on its line
 abbrev pub between_of : Quotes → Cell → Option Closing → Result Value Fault
@@ -180,14 +177,21 @@ abbrev pub plain_key : List ℕ → Cell → List Cell → Option Split → Resu
 plain_key bytes c cs None = no_sign (next_on bytes (left_on (line_on bytes c.at)))
 plain_key bytes c cs (Some x) = if is_key_left_out x.0 then Err (character_fault LeftOut c) else Ok (bare_key c (trimmed is_blank x.0), x.1)
 
-abbrev pub quoted_key : List ℕ → Quotes → Cell → Option Closing → Result Signed Fault
-quoted_key bytes kind c closing = signed_behind bytes (after_closing closing) (behind_closing closing) (between_of kind c closing)
+-- a `:` stands too far behind the start of a text
+abbrev pub far_sign : List Cell → Option (Cell × List Cell) → Bool
+far_sign text None = false
+far_sign text (Some x) = is_too_far (before_offset x.0.at text)
+
+abbrev pub quoted_key : List ℕ → Quotes → Cell → List Cell → Option Closing → Result Signed Fault
+quoted_key bytes kind c cs closing =
+    if far_sign (c ∷ cs) (sign_behind (behind_closing closing)) then Err (character_fault LeftOut c)
+    else signed_behind bytes (after_closing closing) (behind_closing closing) (between_of kind c closing)
 
 abbrev pub flow_key_by : List ℕ → Cell → List Cell → Option Quotes → Result Signed Fault
 flow_key_by bytes c cs None =
     if begins_flow c cs then plain_key bytes c cs (key_in is_flow_sign before_blank (c ∷ cs))
     else Err (part_fault c cs)
-flow_key_by bytes c cs (Some kind) = quoted_key bytes kind c (closing_of kind 0 cs)
+flow_key_by bytes c cs (Some kind) = quoted_key bytes kind c cs (closing_of kind 0 cs)
 
 unfoldable pub flow_key : List ℕ → Cell → List Cell → Result Signed Fault
 flow_key bytes c cs = flow_key_by bytes c cs (quotes_of c)

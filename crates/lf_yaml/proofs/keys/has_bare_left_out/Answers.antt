@@ -1,6 +1,6 @@
 use Rattle.std.proofs.Common.{sym, ◌∙◌}
 use Rattle.lf_yaml.proofs.KeyText.{key-found, key-missing, not-plain}
-use Rattle.lf_yaml.proofs.keys.has_key_left_out.Goals as goal
+use Rattle.lf_yaml.proofs.keys.has_bare_left_out.Goals as goal
 
 pub returns-then-not-begins_plain : goal.returns-then-not-begins_plain
 returns-then-not-begins_plain c = not-plain c.args.at c.args.text.now (sym (c.begins_plain.ensures c.args.at) ∙ c.if-not-begins_plain.true)
