@@ -9,4 +9,6 @@ pub mod Sets
 pub mod ShownNames
 pub mod Spotted
 pub mod Worked
+pub mod WorkedLabels
+pub mod WorkedNames
 pub mod Zips

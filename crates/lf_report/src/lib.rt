@@ -11,4 +11,5 @@ mod text;
 
 pub use json::json_of;
 pub use report::{FileReport, Finding, Refused, Report, RuleReport, Severity};
+pub use spot::{Spot, place_at, spot_from};
 pub use text::text_of;

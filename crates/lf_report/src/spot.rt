@@ -105,7 +105,7 @@ fn mark_before(bytes: &[u8], marks: &[Spot], offset: usize) -> Spot
 }
 
 /// The spot of an offset, or of the file's end where the file is shorter. From a spot before it only the bytes between are gone through.
-fn spot_from(bytes: &[u8], from: Spot, offset: usize) -> Spot
+pub fn spot_from(bytes: &[u8], from: Spot, offset: usize) -> Spot
     requires { IsSpot bytes.now from }
     ensures spot { IsSpot bytes.now result }
     ensures of { IsSpotOf bytes.now offset result }
