@@ -14,7 +14,7 @@ use Rattle.lf_checks.specs.Files.{File, StandIn}
 use Rattle.lf_judge.specs.Founds.{AreContents, Content, Holds, Refused, Rules, accepted, rules_in}
 use Rattle.lf_judge.proofs.Sourced.{IsSourced, sourced}
 use Rattle.lf_judge.proofs.Places.{the_same}
-use Rattle.lf_judge.proofs.Zips.{some_at}
+use Rattle.lf_report.proofs.Zips.{some_at}
 
 -- ---- one
 

@@ -11,7 +11,5 @@ pub mod Reported
 pub mod Shared
 pub mod SoFar
 pub mod Sourced
-pub mod Spotted
 pub mod Told
 mod Worked
-pub mod Zips

@@ -10,10 +10,11 @@ use Rattle.lf_ast.specs.Rules.{RuleTree, rule_tree, rule_trees}
 use Rattle.lf_ast.specs.declared.rule.Rule.{Rule}
 use Rattle.lf_checks.specs.Files.{File, place_in}
 use Rattle.lf_checks.specs.views.Shown.{name_place, place_of}
-use Rattle.lf_judge.specs.declared.spot.Spot.{Spot}
-use Rattle.lf_judge.specs.views.Spots.{AreNameSpots, IsNameSpot, IsSpotOf}
+use Rattle.lf_report.specs.declared.spot.Spot.{Spot}
+use Rattle.lf_report.specs.views.Spots.{IsSpotOf}
+use Rattle.lf_report.proofs.Zips.{zip_at, zip_length, zip_push}
+use Rattle.lf_judge.specs.views.Spots.{AreNameSpots, IsNameSpot}
 use Rattle.lf_judge.proofs.Places.{the_same}
-use Rattle.lf_judge.proofs.Zips.{zip_at, zip_length, zip_push}
 
 module _ (files : List File) where
   -- one more rule

@@ -1,12 +1,12 @@
 //! What is at hand to tell of rules.
 
 use crate::Source;
-use crate::spot::Spot;
 use lf_ast::Rule;
 use lf_base::Seq;
 use lf_checks::Checker;
 use lf_classes::Universe;
 use lf_flow::Env;
+use lf_report::Spot;
 
 /// What is at hand to tell of the rules of files. Workers share it.
 #[derive(Drop)]

@@ -7,12 +7,11 @@ ghost use Rattle.lf_judge.specs.Judged.{finding_in, finding_told};
 ghost use Rattle.lf_judge.specs.views.AtHand.{IsReady, TellsFindingsAt, files_at, rules_at};
 
 use crate::at_hand::AtHand;
-use crate::spot::{Spot, place_at};
 use crate::wording::{check_name, severity};
 use lf_ast::Finding as Found;
 use lf_base::{Memory, Seq, Text};
 use lf_checks::text_of;
-use lf_report::Finding;
+use lf_report::{Finding, Spot, place_at};
 use std::alloc::Global;
 
 /// The findings of the rule with this number.

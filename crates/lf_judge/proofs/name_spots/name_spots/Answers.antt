@@ -1,11 +1,11 @@
 use Rattle.std.proofs.Common.{◌≡◌, ◌∙◌, ap, arith, get_or, length, sym, subst}
 use Rattle.lf_ast.specs.Labels.{Bytes}
 use Rattle.lf_checks.specs.Files.{File}
+use Rattle.lf_report.specs.views.Spots.{IsSpot, IsSpotOf}
 use Rattle.lf_judge.specs.Judged.{file_of, files_of}
-use Rattle.lf_judge.specs.views.Spots.{IsSpot, IsSpotOf}
 use Rattle.lf_judge.proofs.NameSpots.{spots_more}
 use Rattle.lf_judge.proofs.Places.{file_at, read_at, stands_in, the_same}
-use Rattle.lf_judge.proofs.spot.name_spots.Goals as goal
+use Rattle.lf_judge.proofs.name_spots.name_spots.Goals as goal
 
 pub get-requires : goal.get-requires
 get-requires c =
@@ -15,8 +15,8 @@ get-requires c =
     stands_in c.args.files.now rules k rule c.requires
     (read_at rules k rule (omega (arith, c.loop-rule-test.true, ap length c.as_slice-rule-items.ensures)) (c.rule-item.is ∙ ap (λ l. get_or l k rule) c.as_slice-rule-items.ensures))
 
-pub spot_of-at-requires : goal.spot_of-at-requires
-spot_of-at-requires c =
+pub spot_from-at-requires : goal.spot_from-at-requires
+spot_from-at-requires c =
     let files = c.args.files.now in
     let P : Bytes → Type 0 = λ bytes. IsSpot bytes c.kept_in-at.result in
     subst P (sym c.as_slice.ensures)
@@ -27,16 +27,16 @@ loop-rule-preserved c =
     let files = c.args.files.now in
     let rule = c.rule-item.result in
     let own = file_at files rule.file c.get.result.now c.get.ensures.value in
-    let spot = c.spot_of-at.result in
+    let spot = c.spot_from-at.result in
     record {
       spot = λ file e.
           let same : c.as_slice.result.now ≡ file.bytes = c.as_slice.ensures ∙ ap (λ (f : File). f.bytes) (the_same (file_of c.get.result.now) file (sym own ∙ e)) in
-          subst (λ (bytes : Bytes). IsSpot bytes spot) same c.spot_of-at.ensures.spot;
+          subst (λ (bytes : Bytes). IsSpot bytes spot) same c.spot_from-at.ensures.spot;
       spots_are =
           spots_more (files_of files) c.args.rules.now c.loop-rule.rule-index rule c.loop-rule.spots.items _ spot (omega (arith, c.loop-rule-test.true, ap length c.as_slice-rule-items.ensures))
           (c.rule-item.is ∙ ap (λ l. get_or l c.loop-rule.rule-index rule) c.as_slice-rule-items.ensures) c.loop-rule.invariant.spots_are
           (λ file e.
           let same : c.as_slice.result.now ≡ file.bytes = c.as_slice.ensures ∙ ap (λ (f : File). f.bytes) (the_same (file_of c.get.result.now) file (sym own ∙ e)) in
-          subst (λ (bytes : Bytes). IsSpotOf bytes rule.name_span.start spot) same c.spot_of-at.ensures.of)
+          subst (λ (bytes : Bytes). IsSpotOf bytes rule.name_span.start spot) same c.spot_from-at.ensures.of)
           c.in_ok-push.ensures.items;
     }
