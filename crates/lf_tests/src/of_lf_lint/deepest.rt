@@ -114,67 +114,42 @@ fn is_reported<R: Threads + Sync>(
     Ok(end == Status::Clean && out.bytes() == report.as_bytes())
 }
 
-#[test]
-fn the_deepest_files_are_linted_on_another_thread(rt: HostRuntime) -> Result<(), Fail> {
-    let alloc = rt.alloc();
-    for nesting in &NESTINGS {
+/// The number of the first nesting, if there is one, of which a run of these words, called on a new thread, doesn't write this report.
+fn first_unreported<R: Threads + Sync>(
+    rt: &R,
+    alloc: Global,
+    words: &str,
+    report: &str,
+) -> Result<Option<usize>, Memory> {
+    for (number, nesting) in NESTINGS.iter().enumerate() {
         let text = nested(alloc, nesting)?;
         // The first of these is called on a new thread.
         let (reported, ()) = join(
-            &rt,
-            || is_reported(&rt, alloc, "lint r.yml", text.as_str(), TOTALS),
+            rt,
+            || is_reported(rt, alloc, words, text.as_str(), report),
             || (),
         );
-        let (opening, before, behind) = (nesting.opening, nesting.before, nesting.behind);
-        assert_eq!(rt; reported, Ok(true), "{opening}{before}{behind}");
+        if !reported? {
+            return Ok(Some(number));
+        }
     }
+    Ok(None)
+}
+
+#[test]
+fn the_deepest_files_are_linted_on_another_thread(rt: HostRuntime) -> Result<(), Fail> {
+    assert_eq!(rt;
+        first_unreported(&rt, rt.alloc(), "lint r.yml", TOTALS)?,
+        None
+    );
     Ok(())
 }
 
 #[test]
-fn deepest_signs_and_sums_have_verdicts_on_another_thread(rt: HostRuntime) -> Result<(), Fail> {
-    let alloc = rt.alloc();
-    for nesting in &NESTINGS[..2] {
-        let text = nested(alloc, nesting)?;
-        let (reported, ()) = join(
-            &rt,
-            || is_reported(&rt, alloc, "lint --labels r.yml", text.as_str(), VERDICTS),
-            || (),
-        );
-        let (opening, before, behind) = (nesting.opening, nesting.before, nesting.behind);
-        assert_eq!(rt; reported, Ok(true), "{opening}{before}{behind}");
-    }
-    Ok(())
-}
-
-#[test]
-fn deepest_powers_have_verdicts_on_another_thread(rt: HostRuntime) -> Result<(), Fail> {
-    let alloc = rt.alloc();
-    for nesting in &NESTINGS[2..4] {
-        let text = nested(alloc, nesting)?;
-        let (reported, ()) = join(
-            &rt,
-            || is_reported(&rt, alloc, "lint --labels r.yml", text.as_str(), VERDICTS),
-            || (),
-        );
-        let (opening, before, behind) = (nesting.opening, nesting.before, nesting.behind);
-        assert_eq!(rt; reported, Ok(true), "{opening}{before}{behind}");
-    }
-    Ok(())
-}
-
-#[test]
-fn deepest_calls_have_verdicts_on_another_thread(rt: HostRuntime) -> Result<(), Fail> {
-    let alloc = rt.alloc();
-    for nesting in &NESTINGS[4..] {
-        let text = nested(alloc, nesting)?;
-        let (reported, ()) = join(
-            &rt,
-            || is_reported(&rt, alloc, "lint --labels r.yml", text.as_str(), VERDICTS),
-            || (),
-        );
-        let (opening, before, behind) = (nesting.opening, nesting.before, nesting.behind);
-        assert_eq!(rt; reported, Ok(true), "{opening}{before}{behind}");
-    }
+fn the_deepest_files_have_verdicts_on_another_thread(rt: HostRuntime) -> Result<(), Fail> {
+    assert_eq!(rt;
+        first_unreported(&rt, rt.alloc(), "lint --labels r.yml", VERDICTS)?,
+        None
+    );
     Ok(())
 }

@@ -24,6 +24,38 @@ fn each_call_of_the_file_source_fails_in_turn(rt: HostRuntime) -> Result<(), Fai
 }
 
 #[test]
+fn the_file_of_a_failed_call_is_told(rt: HostRuntime) -> Result<(), Fail> {
+    // Of each file one call opens it, one reads its bytes, if it has some, and one finds its end. There is no ninth.
+    for (call, file) in [
+        (1, 0),
+        (2, 0),
+        (3, 0),
+        (4, 1),
+        (5, 1),
+        (6, 1),
+        (7, 2),
+        (8, 2),
+    ] {
+        let mut files = MemFiles::new(rt.alloc());
+        files.add("a.yml", b"# a file\n")?;
+        files.add("b.yml", b"groups: &x []\n")?;
+        files.add("c.yml", b"")?;
+        files.fail_calls(&[call])?;
+        let mut out = MemSink::new(rt.alloc(), 1000, 1000)?;
+        let end = run(
+            &rt,
+            rt.alloc(),
+            "lint a.yml b.yml c.yml",
+            &mut files,
+            &mut out,
+        )?;
+        assert_eq!(rt; end, Status::Read { file }, "call {call}");
+        assert_eq!(rt; out.bytes(), b"".as_slice(), "call {call}");
+    }
+    Ok(())
+}
+
+#[test]
 fn a_thousand_files_may_be_named(rt: HostRuntime) -> Result<(), Fail> {
     for (count, limit) in [(1_000, false), (1_001, true)] {
         let names = " a".repeat(rt.alloc(), count)?;

@@ -71,6 +71,23 @@ fn each_write_of_a_report_fails_in_turn(rt: HostRuntime) -> Result<(), Fail> {
 }
 
 #[test]
+fn each_write_of_a_byte_fails_in_turn(rt: HostRuntime) -> Result<(), Fail> {
+    // The report of an empty file has 49 bytes. A fiftieth write isn't made.
+    for call in 1..51 {
+        let mut files = MemFiles::new(rt.alloc());
+        files.add("r.yml", b"")?;
+        let mut out = MemSink::new(rt.alloc(), 1000, 1)?;
+        out.fail_calls(&[call])?;
+        let end = run(&rt, rt.alloc(), "lint r.yml", &mut files, &mut out)?;
+        let failed = call < 50;
+        assert_eq!(rt; end == Status::Write, failed, "call {call}");
+        assert_eq!(rt; end == Status::Clean, !failed, "call {call}");
+        assert_eq!(rt; out.bytes().len(), call as usize - 1, "call {call}");
+    }
+    Ok(())
+}
+
+#[test]
 fn a_report_is_offered_whole(rt: HostRuntime) -> Result<(), Fail> {
     // The second write would fail, and none is made.
     let mut files = MemFiles::new(rt.alloc());
