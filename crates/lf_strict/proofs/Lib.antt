@@ -1,3 +1,4 @@
+pub mod AfterRuns
 pub mod Absences
 pub mod Answered
 pub mod Joins

@@ -27,4 +27,4 @@ mod store;
 mod storing;
 
 pub use evaluating::strict;
-pub use running::strict_run;
+pub use running::{strict_after, strict_run};

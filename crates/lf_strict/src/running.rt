@@ -3,14 +3,16 @@ ghost use Rattle.std.specs.Prelude.{◌≡◌, ◌<◌, ℕ, IfOk, IfSome, List,
 ghost use Rattle.std.specs.List.{Contains};
 ghost use Rattle.lf_ast.specs.Labels.{Labels};
 ghost use Rattle.lf_ast.specs.Rules.{rule_trees};
+ghost use Rattle.lf_ast.specs.Tree.{tree};
 ghost use Rattle.lf_semantics.specs.Worlds.{AreScraped, World};
 ghost use Rattle.lf_witness.specs.StrictRuns.{IsRunAnswer, IsStrictRun};
-ghost use Rattle.lf_strict.specs.Steps.{rules_at};
+ghost use Rattle.lf_strict.specs.Steps.{IsAnswerAfter, rules_at};
 ghost use Rattle.lf_strict.specs.views.Running.{IsStretch};
 
+use crate::evaluating::evaluate;
 use crate::stepping::step;
 use crate::store::Store;
-use lf_ast::{LabelSet, Rule};
+use lf_ast::{Expr, LabelSet, Rule};
 use lf_base::{Memory, Seq};
 use std::alloc::Global;
 
@@ -33,6 +35,26 @@ pub fn strict_run(
     let mut store = Store::of(alloc, series)?;
     if run_steps(alloc, &mut store, rules.as_slice(), steps.as_slice())? {
         Ok(Some(store.in_order(alloc)?))
+    } else {
+        Ok(None)
+    }
+}
+
+/// What an expression strictly gives over the samples that are stored after steps of rules over series, as `strict` tells it over what `strict_run` tells. It is None where a
+/// step is, too. The stored samples are looked at where they are, and neither listed nor stored once more.
+pub fn strict_after(
+    alloc: Global,
+    series: &Seq<LabelSet>,
+    rules: &Seq<Rule>,
+    steps: &Seq<u32>,
+    expr: &Expr,
+) -> Result<Option<Seq<LabelSet>>, Memory>
+    requires { (k : ℕ) → Contains steps.now k → k < length rules.now }
+    ensures { IfOk result (IsAnswerAfter series.now (rules_at (rule_trees rules.now) steps.now) (tree expr.now)) }
+{
+    let mut store = Store::of(alloc, series)?;
+    if run_steps(alloc, &mut store, rules.as_slice(), steps.as_slice())? {
+        evaluate(alloc, &store, expr)
     } else {
         Ok(None)
     }

@@ -12,7 +12,6 @@ ghost use Rattle.lf_witness.specs.StrictRuns.{InOrder};
 use crate::apart::together;
 use crate::sample_set::SampleSet;
 use crate::selecting::{select, text_of};
-use crate::signature::push_each;
 use lf_ast::{LabelSet, MatchOp, Matcher};
 use lf_base::{Memory, Seq, Text};
 use std::alloc::Global;
@@ -55,10 +54,8 @@ impl Store {
     pub fn of(alloc: Global, samples: &Seq<LabelSet>) -> Result<Store, Memory>
         ensures { IfOk result (AreSame samples.now) }
     {
-        let mut copies = Vec::new(alloc);
-        push_each(&mut copies, samples.as_slice())?;
         let mut store = Store::new(alloc);
-        store.add(alloc, together(copies).as_slice())?;
+        store.add(alloc, samples.as_slice())?;
         Ok(store)
     }
 

@@ -6,15 +6,9 @@ use Rattle.lf_ast.specs.declared.rule.Rule.{Rule}
 use Rattle.lf_witness.proofs.Answers.{one_run_answer}
 use Rattle.lf_strict.specs.Steps.{rules_at}
 use Rattle.lf_strict.specs.views.Running.{IsStretch}
+use Rattle.lf_strict.proofs.AfterRuns.{stretch}
 use Rattle.lf_strict.proofs.Runs.{run_answer, run_none, world_run}
 use Rattle.lf_strict.proofs.running.strict_run.Goals as goal
-
--- a stretch of the rules and steps that were lent, as it went
-stretch : (W V : List Labels) (rules lent : List Rule) (steps places : List ℕ) (went is : Bool) → lent ≡ rules → places ≡ steps → went ≡ is → IsStretch W (rules_at (rule_trees lent) places) V went
-    → IsStretch W (rules_at (rule_trees rules) steps) V is
-stretch W V rules lent steps places went is a b e ran =
-    subst (IsStretch W (rules_at (rule_trees rules) steps) V) e
-    (subst (λ (l : List ℕ). IsStretch W (rules_at (rule_trees rules) l) V went) b (subst (λ (l : List Rule). IsStretch W (rules_at (rule_trees l) places) V went) a ran))
 
 pub run_steps-requires : goal.run_steps-requires
 run_steps-requires c = λ k step. subst (λ (l : List Rule). k < length l) (sym c.as_slice.ensures) (c.requires k (subst (λ (l : List ℕ). Contains l k) c.as_slice-2.ensures step))
