@@ -1,11 +1,12 @@
 -- The first candidate of a label is found class by class.
-use Rattle.std.proofs.Common.{inl, inr, ◌≡◌, ◌≢◌, ◌<◌, ◌^◌, ℕ, zero, suc, ◌+◌, Bool, true, false, not, ◌&&◌, cond, eqb, List, [], ◌∷◌, get_or, length, Option, Some, None, refl, sym, ◌∙◌, ap, subst, arith, codes, length-append, true≢false}
+use Rattle.std.proofs.Common.{inl, inr, ◌≡◌, ◌≢◌, ◌<◌, ◌≤◌, ◌^◌, ℕ, zero, suc, ◌+◌, Bool, true, false, not, ◌&&◌, cond, eqb, List, [], ◌∷◌, get_or, length, Option, Some, None, refl, sym, ◌∙◌, ap, subst, arith, codes, length-append, true≢false}
 use Rattle.std.specs.Prelude.{decimal}
 use Rattle.std.specs.List.{find}
 use Rattle.std.specs.Str.{bytes_eq}
 use Rattle.std.proofs.lemmas.Bool.{cases_lt}
 use Rattle.std.proofs.lemmas.List.{get_or-map, length-map}
 use Rattle.std.proofs.lemmas.List.Elements.{Contains-get_or}
+use Rattle.std.proofs.lemmas.List.Sums.{fails_before_first, passes_at_first}
 use Rattle.lf_laws.proofs.Booleans.{and_false, and_true}
 use Rattle.lf_laws.proofs.Members.{other_false}
 use Rattle.lf_ast.specs.Labels.{Bytes}
@@ -17,7 +18,7 @@ use Rattle.lf_semantics.proofs.Places.{eqb-other}
 use Rattle.lf_classes.specs.Limits.{IsWithin}
 use Rattle.lf_trials.specs.Candidates.{candidates, candidates_in, candidates_in_both, candidates_of, chosen_from, first, first_free, has_presence}
 use Rattle.lf_trials.proofs.FirstFree.{candidate_is}
-use Rattle.lf_candidates.specs.views.ClassTexts.{name_at, text_at}
+use Rattle.lf_candidates.specs.views.ClassTexts.{first_held, name_at, text_at}
 use Rattle.lf_candidates.proofs.Labelled.{few_named, label_at}
 
 pub first_is_found : (texts : List Bytes) → find (λ text. true) texts ≡ first texts
@@ -161,6 +162,21 @@ module _ (u : Listing) (within : IsWithin u) (label : ℕ) (h : label < length u
   none_in_row row none =
       in_set (λ text. true) row None (none_is (λ text. true) (holds row label) (λ j before. and_true (holds row label j) ∙ none j before))
       ∙ first_is_found (candidates_in u row name)
+
+  -- by the first class that the row has
+
+  module _ (row : Sets) (shape : HasShape u row) (held : ℕ) (is : held ≡ first_held row label) where
+    room : length (get_or row label []) ≡ length (named_at u label) + 2
+    room = set_length u row shape label h
+
+    pub first_by_held : held < length (named_at u label) + 2 → Some (text_at u label held) ≡ first (candidates_in u row name)
+    first_by_held less =
+        subst (λ k. Some (text_at u label k) ≡ first (candidates_in u row name)) (sym is)
+        (first_in_row row (first_held row label) (omega (arith, is, less)) (passes_at_first (λ (on : Bool). on) (get_or row label []) false (omega (arith, is, less, room)))
+        (λ j before. fails_before_first (λ (on : Bool). on) (get_or row label []) j false before))
+
+    pub none_by_held : length (named_at u label) + 2 ≤ held → None ≡ first (candidates_in u row name)
+    none_by_held most = none_in_row row (λ j less. fails_before_first (λ (on : Bool). on) (get_or row label []) j false (omega (arith, is, less, most)))
 
   pub first_in_both : (row other : Sets) (class : ℕ) → class < length (named_at u label) + 2 → holds row label class ≡ true → holds other label class ≡ true → ((j : ℕ) → j < class → (holds row label j && holds other label j) ≡ false) → Some (text_at u label class) ≡ first (candidates_in_both u row other name)
   first_in_both row other class less is too none =

@@ -2,5 +2,6 @@ pub mod Completed
 pub mod FirstClass
 pub mod Labelled
 pub mod Marks
+pub mod OnlyClass
 pub mod Recorded
 pub mod Standing

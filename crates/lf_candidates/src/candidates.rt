@@ -2,10 +2,10 @@
 ghost use Rattle.std.specs.Prelude.{◌≡◌, ◌<◌, ◌++◌, ◌&&◌, [], ℕ, cond, codes, decimal, eqb, false, length, not, slice_index_or, IfOk};
 ghost use Rattle.std.specs.List.{find};
 ghost use Rattle.std.specs.Option.{option_map};
-ghost use Rattle.lf_semantics.specs.ClassRows.{HasShape, holds};
+ghost use Rattle.lf_semantics.specs.ClassRows.{HasShape, Sets, holds};
 ghost use Rattle.lf_classes.specs.Limits.{IsWithin};
 ghost use Rattle.lf_trials.specs.Candidates.{candidates_in, candidates_in_both, first, has_presence, other_name};
-ghost use Rattle.lf_candidates.specs.views.ClassTexts.{IsClass, name_at, text_at};
+ghost use Rattle.lf_candidates.specs.views.ClassTexts.{IsClass, first_held, name_at, text_at};
 
 use lf_base::{Memory, Text};
 use lf_classes::{Row, Universe};
@@ -41,12 +41,37 @@ pub fn first_class(universe: &Universe, row: &Row, label: u32) -> Option<u32>
     ensures class { IsClass universe.now label result }
     ensures candidate { option_map (text_at universe.now label) result ≡ first (candidates_in universe.now row.now (name_at universe.now label)) }
 {
-    for class in 0..universe.classes(label) {
+    class_held(universe, label, first_held(universe, row, label))
+}
+
+/// The first class that a row has of a label, or how many classes the label has, where the row has none of them.
+pub fn first_held(universe: &Universe, row: &Row, label: u32) -> u32
+    requires universe { IsWithin universe.now }
+    requires label { label < length universe.now.named }
+    requires shape { HasShape universe.now row.now }
+    ensures { result ≡ first_held row.now label }
+{
+    let classes = universe.classes(label);
+    for class in 0..classes {
         if row.has(label, class) {
-            return Some(class);
+            return class;
         }
     }
-    None
+    classes
+}
+
+/// The class of a label's first candidate in a row, by the first class that the row has of the label.
+pub fn class_held(universe: &Universe, label: u32, held: u32) -> Option<u32>
+    requires universe { IsWithin universe.now }
+    requires label { label < length universe.now.named }
+    ensures class { IsClass universe.now label result }
+    ensures candidate { (row : Sets) → HasShape universe.now row → held ≡ first_held row label → option_map (text_at universe.now label) result ≡ first (candidates_in universe.now row (name_at universe.now label)) }
+{
+    if held < universe.classes(label) {
+        Some(held)
+    } else {
+        None
+    }
 }
 
 /// The class of a label's first candidate in two rows.

@@ -9,7 +9,7 @@ ghost use Rattle.lf_trials.specs.Candidates.{labels_in};
 ghost use Rattle.lf_trials.specs.Given.{Given, completed, completed_by, giving, holds_text, holds_texts, label_set, losing, nothing_given, with_text};
 ghost use Rattle.lf_candidates.specs.views.ClassTexts.{IsClass, Stands, StandsAt, StandsFor, class_at, name_at, text_at};
 
-use crate::candidates::first_class;
+use crate::named_row::NamedRow;
 use lf_ast::{LabelChoice, LabelSet};
 use lf_base::{Memory, Text};
 use lf_classes::{Row, Universe};
@@ -86,7 +86,7 @@ impl LabelTexts {
     }
 
     /// These texts, and of each label of which they say nothing its first candidate in a row. There are none where the row is empty, and where a label is left without a text.
-    pub fn completed_by(mut self, universe: &Universe, row: &Row) -> Option<LabelTexts>
+    pub fn completed_by(mut self, universe: &Universe, row: &NamedRow) -> Option<LabelTexts>
         requires universe { IsWithin universe.now }
         requires shape { HasShape universe.now row.now }
         requires count { length self ≡ length universe.now.named }
@@ -100,7 +100,7 @@ impl LabelTexts {
     }
 
     /// Gives each label of which nothing is said its first candidate in a row, if it has one.
-    fn complete(&mut self, universe: &Universe, row: &Row)
+    fn complete(&mut self, universe: &Universe, row: &NamedRow)
         requires universe { IsWithin universe.now }
         requires shape { HasShape universe.now row.now }
         requires count { length self.old ≡ length universe.now.named }
@@ -179,7 +179,12 @@ fn unless_lost(lost: bool, class: Option<u32>) -> Option<u32>
 }
 
 /// What is said of a label, or else its first candidate in a row.
-fn completed_class(universe: &Universe, row: &Row, label: u32, class: Option<u32>) -> Option<u32>
+fn completed_class(
+    universe: &Universe,
+    row: &NamedRow,
+    label: u32,
+    class: Option<u32>,
+) -> Option<u32>
     requires universe { IsWithin universe.now }
     requires shape { HasShape universe.now row.now }
     requires label { label < length universe.now.named }
@@ -187,7 +192,7 @@ fn completed_class(universe: &Universe, row: &Row, label: u32, class: Option<u32
 {
     match class {
         Some(class) => Some(class),
-        None => first_class(universe, row, label),
+        None => row.first_class(universe, label),
     }
 }
 

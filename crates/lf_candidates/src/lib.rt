@@ -5,6 +5,7 @@ mod candidates;
 mod choosing;
 mod given;
 mod labels;
+mod named_row;
 mod names;
 mod trial;
 
@@ -15,5 +16,6 @@ pub use choosing::{
 };
 pub use given::LabelTexts;
 pub use labels::label_names;
+pub use named_row::NamedRow;
 pub use names::{is_recorded, is_scraped_name, name_for, passes_as_name};
 pub use trial::Trial;

@@ -1,6 +1,8 @@
 -- Texts of labels as the code has them: a class, or nothing, for each label of the universe. The text of a class is the candidate that stands for it.
-use Rattle.std.specs.Prelude.{◌≡◌, ◌<◌, ◌≤◌, ◌+◌, ℕ, List, [], ◌∷◌, codes, Option, Some, None, length, option_map, slice_index_or}
+use Rattle.std.specs.Prelude.{◌≡◌, ◌<◌, ◌≤◌, ◌+◌, ℕ, Bool, List, [], ◌∷◌, codes, Option, Some, None, length, option_map, slice_index_or}
+use Rattle.std.specs.List.{position_or_len}
 use Rattle.lf_ast.specs.Labels.{Bytes}
+use Rattle.lf_semantics.specs.ClassRows.{Sets}
 use Rattle.lf_semantics.specs.Environments.{IsKnown}
 use Rattle.lf_semantics.specs.Listing.{Listing, class_of, named_at, other_class}
 use Rattle.lf_trials.specs.Candidates.{candidates, labels_in}
@@ -18,6 +20,10 @@ text_at u label class = slice_index_or (candidates u (name_at u label)) class []
 abbrev pub IsClass : Listing → ℕ → Option ℕ → Type 0
 IsClass u label None = Unit {0}
 IsClass u label (Some class) = class < length (named_at u label) + 2
+
+-- the first class that a row has of a label, or how many places it has for classes of the label, where it has none of them
+abbrev pub first_held : Sets → ℕ → ℕ
+first_held row label = position_or_len (λ (on : Bool). on) (slice_index_or row label [])
 
 -- the class stands for the text that is given of a label, or nothing is given of it
 abbrev pub StandsAt : Listing → ℕ → Option ℕ → Given → Type 0

@@ -14,14 +14,14 @@ live false e = sym e
 
 pub returns-then-is_empty : goal.returns-then-is_empty
 returns-then-is_empty c = λ D stands.
-    of_empty c.args.universe.now c.args.row.now D (dead (is_live c.args.row.now) (sym c.is_empty.ensures.empty ∙ c.if-is_empty.true))
+    of_empty c.args.universe.now c.args.row.now D (dead (is_live c.args.row.now) (sym c.is_empty.ensures ∙ c.if-is_empty.true))
 
 pub returns-then-is_whole : goal.returns-then-is_whole
 returns-then-is_whole c = λ D stands.
     let u = c.args.universe.now in
     let row = c.args.row.now in
     let done = c.complete.ensures D stands in
-    all_completed u row D c.complete.new.self (live (is_live row) (sym c.is_empty.ensures.empty ∙ c.if-is_empty.false)) (sym c.if-is_whole.true ∙ c.is_whole.ensures u (completed_by u row D) c.requires.universe done) done
+    all_completed u row D c.complete.new.self (live (is_live row) (sym c.is_empty.ensures ∙ c.if-is_empty.false)) (sym c.if-is_whole.true ∙ c.is_whole.ensures u (completed_by u row D) c.requires.universe done) done
 
 pub returns-else-is_whole : goal.returns-else-is_whole
 returns-else-is_whole c = λ D stands.
