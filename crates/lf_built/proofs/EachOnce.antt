@@ -1,5 +1,5 @@
 -- One label set more among label sets that are kept once.
-use Rattle.std.proofs.Common.{◌≡◌, Bool, true, false, not, ◌||◌, cond, List, [], ◌∷◌, ◌++◌, refl, ◌∙◌, ap, subst}
+use Rattle.std.proofs.Common.{◌≡◌, ◌<◌, Bool, true, false, not, ◌||◌, cond, List, [], ◌∷◌, ◌++◌, length, refl, ◌∙◌, ap, subst, arith}
 use Rattle.std.specs.List.{filter, list_any}
 use Rattle.std.specs.Ordering.{is_eq}
 use Rattle.lf_ast.specs.LabelOrder.{labels_cmp}
@@ -8,6 +8,12 @@ use Rattle.lf_trials.specs.Building.{each_once}
 use Rattle.lf_witness.proofs.Decided.{equal_itself, equal_same}
 use Rattle.std.specs.declared.cmp.Ordering.{Ordering}
 use Rattle.std.specs.declared.cmp.Ordering.TheVariants.{Less, Equal, Greater}
+
+-- of fewer than two each is there once
+pub few_once : (xs : List Labels) → length xs < 2 → xs ≡ each_once xs
+few_once [] few = refl
+few_once (x ∷ []) few = refl
+few_once (x ∷ y ∷ xs) few = absurd (omega (arith, few))
 
 abbrev pub is_in : List Labels → Labels → Bool
 is_in xs s = list_any (λ t. is_eq (labels_cmp s t)) xs

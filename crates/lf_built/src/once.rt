@@ -7,10 +7,13 @@ use lf_base::{Memory, Seq};
 use std::alloc::Global;
 use std::collections::BTreeSet;
 
-/// Label sets, each once, in the order in which they come first.
+/// Label sets, each once, in the order in which they come first. A single one, which most worlds have, is neither looked up nor copied.
 pub fn each_once(alloc: Global, all: Vec<LabelSet>) -> Result<Seq<LabelSet>, Memory>
     ensures { IfOk result (λ once. once ≡ each_once all.items) }
 {
+    if all.len() < 2 {
+        return Ok(Seq::from_vec(all));
+    }
     let mut seen = BTreeSet::new(alloc);
     let mut once = Seq::new(alloc);
     for series in &all {

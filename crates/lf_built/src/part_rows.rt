@@ -1,7 +1,10 @@
 //! The rows of all parts of an expression.
 ghost use Rattle.std.specs.Prelude.{◌≡◌, ◌<◌, ◌^◌, length, IfOk, false, slice_index_or, []};
+ghost use Rattle.std.specs.List.{All};
 ghost use Rattle.lf_ast.specs.Tree.{tree};
 ghost use Rattle.lf_ast.specs.views.Walks.{nodes};
+ghost use Rattle.lf_classes.specs.Limits.{IsWithin};
+ghost use Rattle.lf_semantics.specs.ClassRows.{HasShape};
 ghost use Rattle.lf_semantics.specs.Environments.{IsEnvironment};
 ghost use Rattle.lf_forks.specs.views.ForkTests.{has_passing};
 ghost use Rattle.lf_forks.specs.views.Holding.{test_of};
@@ -11,6 +14,7 @@ use crate::scalars::scalar_parts;
 use crate::sizes::part_sizes;
 use lf_ast::Expr;
 use lf_base::Memory;
+use lf_candidates::NamedRow;
 use lf_classes::{Row, Universe};
 use lf_flow::Env;
 use lf_forks::Forks;
@@ -21,7 +25,7 @@ use std::marker::Model;
 /// the text, each before its own parts, so that the parts of one stand right behind it.
 #[derive(Drop)]
 pub struct PartRows {
-    rows: Vec<Row>,
+    rows: Vec<NamedRow>,
     sizes: Vec<usize>,
     scalars: Vec<bool>,
     forks: Vec<bool>,
@@ -36,18 +40,22 @@ impl Model for PartRows {
 }
 
 impl PartRows {
-    /// Those of an expression.
+    /// Those of an expression. The likely classes of `__name__` are those that its rows may well have.
     pub fn of(
         alloc: Global,
         universe: &Universe,
         env: &Env,
         forks: &Forks,
         expr: &Expr,
+        likely: &[u32],
     ) -> Result<PartRows, Memory>
         requires { IsEnvironment universe.now env.now }
         ensures { IfOk result (λ parts. parts ≡ part_rows universe.now env.now (has_passing (test_of forks.now)) (nodes (tree expr.now))) }
     {
+        // For what its contract says of the universe.
+        let _labels = universe.labels();
         let rows = lf_flow::part_rows(alloc, universe, env, expr)?;
+        let rows = named_rows(alloc, universe, rows, likely)?;
         let sizes = part_sizes(alloc, expr)?;
         let scalars = scalar_parts(alloc, expr)?;
         let forks = forks.are_in(alloc, expr)?;
@@ -69,6 +77,14 @@ impl PartRows {
 
     /// The row of the part at a place.
     pub fn row(&self, place: usize) -> &Row
+        requires { place < length self.now.rows }
+        ensures { result.now ≡ slice_index_or self.now.rows place [] }
+    {
+        self.named_row(place).row()
+    }
+
+    /// The row of the part at a place, with its first class of `__name__`.
+    pub fn named_row(&self, place: usize) -> &NamedRow
         requires { place < length self.now.rows }
         ensures { result.now ≡ slice_index_or self.now.rows place [] }
     {
@@ -98,4 +114,23 @@ impl PartRows {
     {
         self.forks[place]
     }
+}
+
+/// These rows with their first classes of `__name__`, of which the likely ones are tried first.
+fn named_rows(
+    alloc: Global,
+    universe: &Universe,
+    mut rows: Vec<Row>,
+    likely: &[u32],
+) -> Result<Vec<NamedRow>, Memory>
+    requires universe { IsWithin universe.now }
+    requires shapes { All (HasShape universe.now) rows.items }
+    ensures { IfOk result (λ named. named.items ≡ rows.items) }
+{
+    let mut named = Vec::new(alloc);
+    while let Some(row) = rows.pop() {
+        named.push(NamedRow::of(universe, row, likely)?)?;
+    }
+    named.reverse();
+    Ok(named)
 }

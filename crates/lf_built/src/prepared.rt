@@ -1,5 +1,5 @@
 //! What the built worlds of rules share.
-ghost use Rattle.std.specs.Prelude.{◌≡◌, ◌+◌, ◌<◌, ◌^◌, List, Some, length, map, slice_get, IfOk};
+ghost use Rattle.std.specs.Prelude.{◌≡◌, ◌+◌, ◌<◌, ◌≤◌, ◌^◌, List, Some, length, map, slice_get, IfOk};
 ghost use Rattle.lf_ast.specs.Rules.{RuleTree, rule_trees};
 ghost use Rattle.lf_ast.specs.views.Walks.{nodes};
 ghost use Rattle.lf_deps.specs.views.Sources.{IsSourcesOf};
@@ -20,13 +20,16 @@ use crate::recording::recorded_row;
 use crate::spots::Spot;
 use lf_ast::Rule;
 use lf_base::{Memory, Seq, Text};
-use lf_candidates::label_names;
+use lf_candidates::{NamedRow, label_names};
 use lf_classes::{Row, Universe};
 use lf_deps::Sources;
 use lf_fix::rule_row;
 use lf_flow::Env;
 use lf_forks::Forks;
 use std::alloc::Global;
+
+/// The number of the label `__name__`.
+const METRIC: u32 = 0;
 
 /// What the built worlds of rules share: the names of the labels, the rules of each recorded name, what is told of the parts of each rule's expression, and the rows of each
 /// rule and of what it stores.
@@ -69,7 +72,7 @@ impl<'a> Prepared<'a> {
         let _labels = universe.labels();
         let names = label_names(alloc, universe)?;
         let recorders = Recorders::of(alloc, rules)?;
-        let parts = part_rows(alloc, universe, env, forks, rules.as_slice())?;
+        let parts = part_rows(alloc, universe, env, sources, forks, rules.as_slice())?;
         let RuleRows { own, recorded } = rule_rows(alloc, universe, env, rules.as_slice())?;
         Ok(Prepared {
             universe,
@@ -92,6 +95,15 @@ impl<'a> Prepared<'a> {
         ensures { result.now ≡ row_of (universe_of self.now) (env_of self.now) (tree_at spot.now) }
     {
         self.parts[spot.rule].row(spot.place)
+    }
+
+    /// The row of an expression, with its first class of `__name__`.
+    pub(crate) fn named_row(&self, spot: &Spot<'a>) -> &NamedRow
+        requires known { IsPrepared self.now }
+        requires spot { IsSpot (trees_of self.now) spot.now }
+        ensures { result.now ≡ row_of (universe_of self.now) (env_of self.now) (tree_at spot.now) }
+    {
+        self.parts[spot.rule].named_row(spot.place)
     }
 
     /// How many parts there are in an expression, with itself.
@@ -148,17 +160,40 @@ fn part_rows(
     alloc: Global,
     universe: &Universe,
     env: &Env,
+    sources: &Sources,
     forks: &Forks,
     rules: &[Rule],
 ) -> Result<Vec<PartRows>, Memory>
-    requires { IsEnvironment universe.now env.now }
+    requires environment { IsEnvironment universe.now env.now }
+    requires sources { IsSourcesOf (rule_trees rules.now) sources.now }
     ensures { IfOk result (λ parts. parts.items ≡ map (λ (r : RuleTree). rows_of_parts universe.now env.now (has_passing (test_of forks.now)) (nodes r.expr)) (rule_trees rules.now)) }
 {
     let mut parts = Vec::new(alloc);
-    for rule in rules {
-        parts.push(PartRows::of(alloc, universe, env, forks, &rule.expr)?)?;
+    for k in 0..rules.len() {
+        let likely = likely_names(alloc, universe, sources.selected_by(k))?;
+        let likely = likely.as_slice();
+        parts.push(PartRows::of(alloc, universe, env, forks, &rules[k].expr, likely)?)?;
     }
     Ok(parts)
+}
+
+/// The classes of the names that a rule selects, at most one for each. Rows of its parts are likely to have them, and which these are changes only how long it takes.
+fn likely_names(
+    alloc: Global,
+    universe: &Universe,
+    selected: &[Option<Text>],
+) -> Result<Vec<u32>, Memory>
+    ensures { IfOk result (λ likely. length likely.items ≤ length selected.now) }
+{
+    // For what its contract says of the universe.
+    let _labels = universe.labels();
+    let mut likely = Vec::new(alloc);
+    for name in selected {
+        if let Some(name) = name {
+            likely.push(universe.class_of(METRIC, name.as_str()))?;
+        }
+    }
+    Ok(likely)
 }
 
 /// The row of each rule, and of what each stores.

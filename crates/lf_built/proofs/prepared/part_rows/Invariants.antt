@@ -6,5 +6,5 @@ use Rattle.lf_forks.specs.views.Holding.{test_of}
 use Rattle.lf_built.specs.views.PartRows.{part_rows}
 use Rattle.lf_built.proofs.prepared.part_rows.Given as goal
 
-abbrev pub invariant-loop-rule : goal.invariant-loop-rule
-invariant-loop-rule l = l.parts.items ≡ map (λ (r : RuleTree). part_rows l.universe l.env (has_passing (test_of l.forks)) (nodes r.expr)) (rule_trees (take l.rule-index l.rules))
+abbrev pub invariant-loop-k : goal.invariant-loop-k
+invariant-loop-k l = l.parts.items ≡ map (λ (r : RuleTree). part_rows l.universe l.env (has_passing (test_of l.forks)) (nodes r.expr)) (rule_trees (take l.k l.rules))

@@ -1,0 +1,10 @@
+use Rattle.std.proofs.Common.{◌≡◌, ◌++◌, length, reverse}
+use Rattle.std.specs.List.{All}
+use Rattle.lf_semantics.specs.ClassRows.{HasShape}
+use Rattle.lf_built.proofs.part_rows.named_rows.Given as goal
+
+abbrev pub invariant-loop-row : goal.invariant-loop-row
+invariant-loop-row l = record { whole : l.initial.rows.items ≡ l.rows.items ++ reverse l.named.items; shapes : All (HasShape l.universe) l.rows.items }
+
+abbrev pub decreases-loop-row : goal.decreases-loop-row
+decreases-loop-row l = length l.rows.items
