@@ -7,4 +7,5 @@ pub mod Reaches
 pub mod RuleRows
 pub mod RulesAt
 pub mod ShownWorlds
+pub mod StandsOpen
 pub mod Steps

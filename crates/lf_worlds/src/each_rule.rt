@@ -1,11 +1,14 @@
 //! What is known of the labels of rules, by their rows and by trials.
 ghost use Rattle.std.specs.Prelude.{◌≡◌, ◌<◌, List, length, map, slice_get, IfOk, Some};
 ghost use Rattle.lf_ast.specs.Rules.{RuleTree, rule_trees};
+ghost use Rattle.lf_classes.specs.Limits.{IsWithin};
 ghost use Rattle.lf_semantics.specs.ClassRows.{HasShape};
 ghost use Rattle.lf_semantics.specs.Environments.{CoversRules, IsEnvironment, IsLeast, rule_row};
+ghost use Rattle.lf_semantics.specs.Laws.{SetNoNames};
 ghost use Rattle.lf_semantics.specs.Listing.{IsListing};
 ghost use Rattle.lf_trials.specs.Candidates.{labels_in};
 ghost use Rattle.lf_trials.specs.Verdicts.{AreLabelVerdicts, IsRuleVerdict};
+ghost use Rattle.lf_worlds.specs.Unresolved.{AreTyped, IsOpenIfUnresolved};
 ghost use Rattle.lf_worlds.specs.views.Readings.{AreReadingsOf};
 ghost use Rattle.lf_worlds.specs.views.Told.{label_verdict, rule_verdict};
 ghost use Rattle.lf_worlds.specs.views.Tried.{IsEvaluatedAt};
@@ -42,7 +45,7 @@ impl<'a> Model for Trials<'a> {
     ghost use Rattle.lf_ast.specs.Rules.{rule_trees};
     ghost use Rattle.lf_ast.specs.contracts.rule.Rule as rule;
     ghost use Rattle.lf_classes.specs.Limits.{IsWithin};
-    ghost use Rattle.lf_semantics.specs.Environments.{CoversRules, IsEnvironment};
+    ghost use Rattle.lf_semantics.specs.Environments.{CoversRules, IsEnvironment, IsLeast};
     ghost use Rattle.lf_trials.specs.Candidates.{labels_in};
     ghost use Rattle.lf_built.specs.views.Indexed.{IsPreparedFor};
     ghost use Rattle.lf_worlds.specs.views.Readings.{AreReadingsOf};
@@ -54,7 +57,7 @@ impl<'a> Model for Trials<'a> {
 
     ghost view = { λ t. record { universe = t.universe.now; env = t.env.now; rules = t.rules.now } };
 
-    ghost invariant = { λ t. CoversRules t.universe.now (rule_trees t.rules.now) × IsEnvironment t.universe.now t.env.now × AreReadingsOf (rule_trees t.rules.now) t.readings.now × IsPreparedFor t.universe.now t.env.now t.rules.now t.readings.now.forks t.prepared × (t.names.items ≡ labels_in t.universe.now) × IsWithin t.universe.now };
+    ghost invariant = { λ t. CoversRules t.universe.now (rule_trees t.rules.now) × IsEnvironment t.universe.now t.env.now × AreReadingsOf (rule_trees t.rules.now) t.readings.now × IsPreparedFor t.universe.now t.env.now t.rules.now t.readings.now.forks t.prepared × (t.names.items ≡ labels_in t.universe.now) × IsWithin t.universe.now × IsLeast t.universe.now (rule_trees t.rules.now) t.env.now };
 }
 
 impl<'a> Trials<'a> {
@@ -93,10 +96,12 @@ impl<'a> Trials<'a> {
     }
 
     /// What is known of the labels of the rule with this number, counted from 0: that it is empty where its row is, and else a verdict for each label. A label of which
-    /// the row leaves both presences is possible, with the first worlds that show its presence and its absence, where both are shown.
+    /// the row leaves both presences is possible, with the first worlds that show its presence and its absence, where both are shown. Of rules as accepted files have
+    /// them a label is unresolved only where a construct stands open, in the rule's expression or in a rule that it reads.
     pub fn rule(&self, alloc: Global, i: u32) -> Result<RuleVerdicts, Memory>
         requires { i < length self.now.rules }
-        ensures { (r : RuleTree) → slice_get (rule_trees self.now.rules) i ≡ Some r → IfOk result (λ told. IsRuleVerdict self.now.universe self.now.env (rule_trees self.now.rules) i r (rule_verdict told)) }
+        ensures verdict { (r : RuleTree) → slice_get (rule_trees self.now.rules) i ≡ Some r → IfOk result (λ told. IsRuleVerdict self.now.universe self.now.env (rule_trees self.now.rules) i r (rule_verdict told)) }
+        ensures unresolved { AreTyped (rule_trees self.now.rules) → SetNoNames (rule_trees self.now.rules) → IfOk result (λ told. IsOpenIfUnresolved (rule_trees self.now.rules) i (rule_verdict told)) }
     {
         let row = self.row(i);
         if row.is_empty() {
@@ -107,11 +112,14 @@ impl<'a> Trials<'a> {
         }
     }
 
-    /// The row of the rule with this number. Beside it stands what is known of every universe and environment of trials.
+    /// The row of the rule with this number. Beside it stands what is known of every universe, environment and rules of trials.
     fn row(&self, i: u32) -> &Row
         requires { i < length self.now.rules }
+        ensures within { IsWithin self.now.universe }
         ensures listing { IsListing self.now.universe }
         ensures environment { IsEnvironment self.now.universe self.now.env }
+        ensures covers { CoversRules self.now.universe (rule_trees self.now.rules) }
+        ensures least { IsLeast self.now.universe (rule_trees self.now.rules) self.now.env }
         ensures row { (r : RuleTree) → slice_get (rule_trees self.now.rules) i ≡ Some r → result.now ≡ rule_row self.now.universe self.now.env r }
     {
         self.prepared.rule_row(i as usize)

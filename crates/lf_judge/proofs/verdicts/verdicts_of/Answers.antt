@@ -21,5 +21,5 @@ returns c =
     let r = rule_tree c.args.rule.now in
     let known = rule_verdict c.in_ok-known.known in
     let P : Listing → Type 0 = λ u. IsRuleVerdict u trials.env rules c.args.number r known in
-    let is = subst P c.requires.universe (c.in_ok-known.ensures r (tree_at trials.rules c.args.number c.args.rule.now c.requires.rule)) in
+    let is = subst P c.requires.universe (c.in_ok-known.ensures.verdict r (tree_at trials.rules c.args.number c.args.rule.now c.requires.rule)) in
     IfOk-weaker c.rule_told.result _ _ (λ told e. (known, c.in_ok-first.first, is, c.in_ok-first.ensures rules c.requires.opens, e)) (c.rule_told.ensures r refl)

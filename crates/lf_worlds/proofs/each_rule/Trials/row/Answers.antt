@@ -1,6 +1,7 @@
 use Rattle.std.proofs.Common.{◌≡◌, ◌<◌, Some, length, sym, subst, slice_get}
 use Rattle.lf_ast.specs.Rules.{rule_trees}
-use Rattle.lf_semantics.specs.Environments.{IsEnvironment, rule_row}
+use Rattle.lf_classes.specs.Limits.{IsWithin}
+use Rattle.lf_semantics.specs.Environments.{CoversRules, IsEnvironment, IsLeast, rule_row}
 use Rattle.lf_semantics.specs.Listing.{IsListing}
 use Rattle.lf_worlds.specs.views.Tried.{Tried}
 use Rattle.lf_worlds.proofs.PreparedFor.{is_within, own_row, own_tree}
@@ -14,11 +15,20 @@ rule_row-requires-clause-rule c =
     is_within c.self.inside.universe.now c.self.inside.env.now c.self.inside.rules.now c.self.inside.readings.now.forks c.self.inside.prepared c.self.invariant.3 c.args.i
     (subst (λ (w : Tried). c.args.i < length w.rules) (sym c.self.view_is) c.requires)
 
+pub returns-clause-within : goal.returns-clause-within
+returns-clause-within c = subst (λ (w : Tried). IsWithin w.universe) c.self.view_is c.self.invariant.5
+
 pub returns-clause-listing : goal.returns-clause-listing
 returns-clause-listing c = subst (λ (w : Tried). IsListing w.universe) c.self.view_is c.self.invariant.5.listing
 
 pub returns-clause-environment : goal.returns-clause-environment
 returns-clause-environment c = subst (λ (w : Tried). IsEnvironment w.universe w.env) c.self.view_is c.self.invariant.1
+
+pub returns-clause-covers : goal.returns-clause-covers
+returns-clause-covers c = subst (λ (w : Tried). CoversRules w.universe (rule_trees w.rules)) c.self.view_is c.self.invariant.0
+
+pub returns-clause-least : goal.returns-clause-least
+returns-clause-least c = subst (λ (w : Tried). IsLeast w.universe (rule_trees w.rules) w.env) c.self.view_is c.self.invariant.6
 
 pub returns-clause-row : goal.returns-clause-row
 returns-clause-row c = λ r at.

@@ -1,19 +1,20 @@
 use Rattle.std.proofs.Common.{◌≡◌, Some, map, subst, slice_get}
-use Rattle.lf_ast.specs.Rules.{rule_tree, rule_trees}
+use Rattle.lf_ast.specs.Rules.{RuleTree, rule_tree, rule_trees}
 use Rattle.lf_ast.specs.declared.rule.Rule.{Rule}
 use Rattle.lf_deps.proofs.RuleTrees.{tree_at}
 use Rattle.lf_semantics.specs.ClassRows.{Sets}
 use Rattle.lf_semantics.specs.Environments.{IsEnvironment, rule_row}
 use Rattle.lf_semantics.specs.Listing.{IsListing}
 use Rattle.lf_trials.specs.Candidates.{labels_in}
-use Rattle.lf_trials.specs.Verdicts.{AreLabelVerdicts}
+use Rattle.lf_trials.specs.Verdicts.{AreLabelVerdicts, Labels}
 use Rattle.lf_worlds.specs.views.Told.{label_verdict}
 use Rattle.lf_worlds.specs.views.Tried.{Tried}
 use Rattle.lf_worlds.proofs.RuleRows.{evaluated_at, is_alive, is_dead, live_row, of_tree, row_shape, some_at}
+use Rattle.lf_worlds.proofs.StandsOpen.{open_if_unresolved}
 use Rattle.lf_worlds.proofs.each_rule.Trials.rule.Goals as goal
 
-pub returns-then-is_empty : goal.returns-then-is_empty
-returns-then-is_empty c =
+pub returns-then-is_empty-clause-verdict : goal.returns-then-is_empty-clause-verdict
+returns-then-is_empty-clause-verdict c =
     let v : Tried = c.args.self.now in
     let own = some_at v.rules c.args.i c.requires in
     let rule : Rule = own.0 in
@@ -42,8 +43,8 @@ labels-requires-clause-shape c =
     let ok : IsEnvironment v.universe v.env = c.row-row.ensures.environment in
     row_shape v.universe v.env v.rules c.args.i rule value c.row-row.result.now is listing ok
 
-pub returns-in_ok-of : goal.returns-in_ok-of
-returns-in_ok-of c = λ r at.
+pub returns-in_ok-of-clause-verdict : goal.returns-in_ok-of-clause-verdict
+returns-in_ok-of-clause-verdict c = λ r at.
     let v : Tried = c.args.self.now in
     let own = some_at v.rules c.args.i c.requires in
     let rule : Rule = own.0 in
@@ -54,3 +55,11 @@ returns-in_ok-of c = λ r at.
       live_row v.universe v.env r c.row-row.result.now same live,
       subst (λ (row : Sets). AreLabelVerdicts v.universe v.env (rule_trees v.rules) c.args.i row (labels_in v.universe) (map label_verdict c.in_ok-of.of)) same c.in_ok-of.ensures,
     )
+
+pub returns-in_ok-of-clause-unresolved : goal.returns-in_ok-of-clause-unresolved
+returns-in_ok-of-clause-unresolved c = λ typed unnamed.
+    let v : Tried = c.args.self.now in
+    let own = some_at v.rules c.args.i c.requires in
+    let r : RuleTree = rule_tree own.0 in
+    let at : slice_get (rule_trees v.rules) c.args.i ≡ Some r = tree_at v.rules c.args.i own.0 own.1 in
+    open_if_unresolved v.universe v.env (rule_trees v.rules) c.args.i c.row-row.ensures.within c.row-row.ensures.covers c.row-row.ensures.least r at (Labels (map label_verdict c.in_ok-of.of)) (returns-in_ok-of-clause-verdict c r at) typed unnamed
