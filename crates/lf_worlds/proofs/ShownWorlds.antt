@@ -7,6 +7,7 @@ use Rattle.lf_semantics.specs.RowTable.{Environment}
 use Rattle.lf_semantics.specs.Parts.{is_evaluated, type_by_form}
 use Rattle.lf_witness.specs.StrictRuns.{IsRuleAnswer, IsRunAnswer, IsStrictAnswer}
 use Rattle.lf_witness.proofs.Answers.{one_rule_answer, one_run_answer}
+use Rattle.lf_strict.specs.Steps.{IsAnswerAfter}
 use Rattle.lf_trials.specs.Built.{IsBuilt}
 use Rattle.lf_trials.specs.Reached.{Trial, rules_at}
 use Rattle.lf_trials.specs.Trials.{IsFirstShown, Shown, Shows, ShowsBuilt, ShowsUniform}
@@ -47,6 +48,17 @@ module _ (stored : List Labels) (r : RuleTree) (evaluated : is_evaluated (type_b
 
     pub none_is_given : IsStrictAnswer stored r.expr None → IsGiven stored r label presence None
     none_is_given is = λ other gives. absurd (true≢false (sym (ap is_some (one_rule_answer stored r None (Some other) (rule_answer None is) gives))))
+
+-- what a rule gives behind the steps of a trial
+module _ (rules : List RuleTree) (i : ℕ) (r : RuleTree) (at : slice_get rules i ≡ Some r) (evaluated : is_evaluated (type_by_form r.expr) ≡ true) (label : Bytes) (presence : Bool) (trial : Trial) where
+  pub some_after : (samples : List Labels) → IsAnswerAfter trial.series (rules_at rules trial.steps) r.expr (Some samples) → IsSampleShown rules i label presence trial (first_with label presence samples)
+  some_after samples (inl (run, none)) = absurd (true≢false (ap is_some none))
+  some_after samples (inr (stored, run, is)) =
+      given_is_shown rules i r at label presence trial stored run (first_with label presence samples) (first_is_given stored r evaluated label presence samples is)
+
+  pub none_after : IsAnswerAfter trial.series (rules_at rules trial.steps) r.expr None → IsSampleShown rules i label presence trial None
+  none_after (inl (run, none)) = no_run_shows rules i label presence trial run
+  none_after (inr (stored, run, is)) = given_is_shown rules i r at label presence trial stored run None (none_is_given stored r evaluated label presence is)
 
 module _ (u : Listing) (env : Environment) (rules : List RuleTree) (i : ℕ) (label : Bytes) (presence : Bool) where
   -- the built world shows what its trial shows

@@ -2,18 +2,16 @@
 ghost use Rattle.std.specs.Prelude.{◌≡◌, ◌<◌, ℕ, true, length, IfOk};
 ghost use Rattle.std.specs.List.{Contains, find};
 ghost use Rattle.std.specs.Option.{option_copied};
-ghost use Rattle.lf_ast.specs.Rules.{rule_tree, rule_trees};
-ghost use Rattle.lf_ast.specs.Tree.{tree};
-ghost use Rattle.lf_semantics.specs.Parts.{is_evaluated, type_by_form};
+ghost use Rattle.lf_ast.specs.Rules.{rule_trees};
 ghost use Rattle.lf_semantics.specs.Texts.{value_of};
 ghost use Rattle.lf_trials.specs.Candidates.{has_presence};
-ghost use Rattle.lf_worlds.specs.views.Tried.{AreBelow, IsEvaluatedAt, IsGiven, IsSampleShown, IsWorldIfShown, IsWorldShown, first_with};
+ghost use Rattle.lf_worlds.specs.views.Tried.{AreBelow, IsEvaluatedAt, IsSampleShown, IsWorldIfShown, IsWorldShown, first_with};
 
 use crate::verdict::World;
 use lf_ast::{LabelSet, Rule};
 use lf_base::{Memory, Seq, Text};
 use lf_candidates::Trial;
-use lf_strict::{strict, strict_run};
+use lf_strict::strict_after;
 use std::alloc::Global;
 
 /// The world of a trial, if there is one and it shows a presence of a label on a sample of rule `i`.
@@ -64,7 +62,7 @@ fn world_of(
     }
 }
 
-/// The sample that a trial shows.
+/// The sample that a trial shows: the first with the presence that the rule strictly gives behind the steps.
 fn sample_of(
     alloc: Global,
     rules: &Seq<Rule>,
@@ -78,24 +76,8 @@ fn sample_of(
     requires steps { (k : ℕ) → Contains trial.now.steps k → k < length rules.now }
     ensures { IfOk result (IsSampleShown (rule_trees rules.now) i label.now presence trial.now) }
 {
-    match strict_run(alloc, &trial.series, rules, &trial.steps)? {
-        Some(stored) => given(alloc, &stored, rules.get(i as usize), label, presence),
-        None => Ok(None),
-    }
-}
-
-/// The first sample with a presence of a label that a rule strictly gives over stored samples.
-fn given(
-    alloc: Global,
-    stored: &Seq<LabelSet>,
-    rule: &Rule,
-    label: &Text,
-    presence: bool,
-) -> Result<Option<LabelSet>, Memory>
-    requires { is_evaluated (type_by_form (tree rule.now.expr)) ≡ true }
-    ensures { IfOk result (IsGiven stored.now (rule_tree rule.now) label.now presence) }
-{
-    match strict(alloc, stored, &rule.expr)? {
+    let rule = rules.get(i as usize);
+    match strict_after(alloc, &trial.series, rules, &trial.steps, &rule.expr)? {
         Some(samples) => copy_of(first_with(samples.as_slice(), label.as_str(), presence)),
         None => Ok(None),
     }

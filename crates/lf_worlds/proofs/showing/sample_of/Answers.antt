@@ -1,40 +1,47 @@
-use Rattle.std.proofs.Common.{◌≡◌, List, None, Some, subst, slice_get}
+use Rattle.std.proofs.Common.{◌≡◌, List, None, Option, Some, ap₂, sym, ◌∙◌, subst, slice_get}
 use Rattle.std.specs.List.{Contains}
+use Rattle.std.specs.Option.{option_copied}
 use Rattle.std.proofs.lemmas.Result.{IfOk-weaker}
-use Rattle.lf_ast.specs.Labels.{Labels}
+use Rattle.lf_ast.specs.Labels.{Bytes, Labels}
 use Rattle.lf_ast.specs.Rules.{RuleTree, rule_tree, rule_trees}
 use Rattle.lf_deps.proofs.RuleTrees.{tree_at}
 use Rattle.lf_strict.specs.Steps as strict
+use Rattle.lf_strict.specs.Steps.{IsAnswerAfter}
 use Rattle.lf_trials.specs.Reached.{Trial, rules_at}
-use Rattle.lf_witness.specs.StrictRuns.{IsRunAnswer}
-use Rattle.lf_worlds.specs.views.Tried.{IsGiven, IsSampleShown}
+use Rattle.lf_worlds.specs.views.Tried.{IsSampleShown, first_with}
 use Rattle.lf_worlds.proofs.RulesAt.{same_rules}
-use Rattle.lf_worlds.proofs.ShownWorlds.{given_is_shown, no_run_shows}
+use Rattle.lf_worlds.proofs.ShownWorlds.{none_after, some_after}
 use Rattle.lf_worlds.proofs.showing.sample_of.Goals as goal
 
-pub strict_run-requires : goal.strict_run-requires
-strict_run-requires c = λ k there. c.requires.steps k (subst (λ (t : Trial). Contains t.steps k) c.trial.view_is there)
+-- an answer behind the steps of a trial, as its model has them
+behind : (trees : List RuleTree) (r : RuleTree) (inner trial : Trial) (o : Option (List Labels)) → inner ≡ trial → IsAnswerAfter inner.series (strict.rules_at trees inner.steps) r.expr o
+    → IsAnswerAfter trial.series (rules_at trees trial.steps) r.expr o
+behind trees r inner trial o same is =
+    subst (λ (t : Trial). IsAnswerAfter t.series (rules_at trees t.steps) r.expr o) same (subst (λ (l : List RuleTree). IsAnswerAfter inner.series l r.expr o) (same_rules trees inner.steps) is)
 
-pub given-requires : goal.given-requires
-given-requires c = c.requires.evaluated (rule_tree c.get.result.now) (tree_at c.args.rules.now c.args.i c.get.result.now c.get.ensures.value)
+pub strict_after-requires : goal.strict_after-requires
+strict_after-requires c = λ k there. c.requires.steps k (subst (λ (t : Trial). Contains t.steps k) c.trial.view_is there)
 
 pub returns-in-Some : goal.returns-in-Some
 returns-in-Some c =
     let trees : List RuleTree = rule_trees c.args.rules.now in
-    let r : RuleTree = rule_tree c.get.result.now in
-    let at : slice_get trees c.args.i ≡ Some r = tree_at c.args.rules.now c.args.i c.get.result.now c.get.ensures.value in
-    let stored : List Labels = c.in-Some.stored in
+    let r : RuleTree = rule_tree c.get-rule.result.now in
+    let at : slice_get trees c.args.i ≡ Some r = tree_at c.args.rules.now c.args.i c.get-rule.result.now c.get-rule.ensures.value in
+    let label : Bytes = c.args.label.now in
+    let presence = c.args.presence in
+    let samples : List Labels = c.in-Some.samples in
     let inner : Trial = record { series = c.trial.inside.series; steps = c.trial.inside.steps } in
-    let told : IsRunAnswer inner.series (strict.rules_at trees inner.steps) (Some stored) = subst (IsRunAnswer inner.series (strict.rules_at trees inner.steps)) c.in-Some.is c.in_ok-stored.ensures.answer in
-    let ran : IsRunAnswer inner.series (rules_at trees inner.steps) (Some stored) = subst (λ (l : List RuleTree). IsRunAnswer inner.series l (Some stored)) (same_rules trees inner.steps) told in
-    let run : IsRunAnswer c.args.trial.now.series (rules_at trees c.args.trial.now.steps) (Some stored) = subst (λ (t : Trial). IsRunAnswer t.series (rules_at trees t.steps) (Some stored)) c.trial.view_is ran in
-    IfOk-weaker c.given.result (IsGiven stored r c.args.label.now c.args.presence) (IsSampleShown trees c.args.i c.args.label.now c.args.presence c.args.trial.now)
-    (λ o given. given_is_shown trees c.args.i r at c.args.label.now c.args.presence c.args.trial.now stored run o given) c.given.ensures
+    let answer : IsAnswerAfter inner.series (strict.rules_at trees inner.steps) r.expr (Some samples) = subst (IsAnswerAfter inner.series (strict.rules_at trees inner.steps) r.expr) c.in-Some.is c.in_ok-samples.ensures in
+    let shown = some_after trees c.args.i r at (c.requires.evaluated r at) label presence c.args.trial.now samples (behind trees r inner c.args.trial.now (Some samples) c.trial.view_is answer) in
+    let first : option_copied c.first_with.result ≡ first_with label presence samples = c.first_with.ensures ∙ ap₂ (λ (n : Bytes) (l : List Labels). first_with n presence l) c.as_str.ensures c.as_slice.ensures in
+    IfOk-weaker c.copy_of.result (λ copied. copied ≡ option_copied c.first_with.result) (IsSampleShown trees c.args.i label presence c.args.trial.now)
+    (λ copied same. subst (IsSampleShown trees c.args.i label presence c.args.trial.now) (sym (same ∙ first)) shown) c.copy_of.ensures
 
 pub returns-in-None : goal.returns-in-None
 returns-in-None c =
     let trees : List RuleTree = rule_trees c.args.rules.now in
+    let r : RuleTree = rule_tree c.get-rule.result.now in
+    let at : slice_get trees c.args.i ≡ Some r = tree_at c.args.rules.now c.args.i c.get-rule.result.now c.get-rule.ensures.value in
     let inner : Trial = record { series = c.trial.inside.series; steps = c.trial.inside.steps } in
-    let told : IsRunAnswer inner.series (strict.rules_at trees inner.steps) None = subst (IsRunAnswer inner.series (strict.rules_at trees inner.steps)) c.in-None.is c.in_ok-stored.ensures.answer in
-    let ran : IsRunAnswer inner.series (rules_at trees inner.steps) None = subst (λ (l : List RuleTree). IsRunAnswer inner.series l None) (same_rules trees inner.steps) told in
-    no_run_shows trees c.args.i c.args.label.now c.args.presence c.args.trial.now (subst (λ (t : Trial). IsRunAnswer t.series (rules_at trees t.steps) None) c.trial.view_is ran)
+    let answer : IsAnswerAfter inner.series (strict.rules_at trees inner.steps) r.expr None = subst (IsAnswerAfter inner.series (strict.rules_at trees inner.steps) r.expr) c.in-None.is c.in_ok-samples.ensures in
+    none_after trees c.args.i r at (c.requires.evaluated r at) c.args.label.now c.args.presence c.args.trial.now (behind trees r inner c.args.trial.now None c.trial.view_is answer)
