@@ -17,10 +17,10 @@ use Rattle.lf_deps.specs.Reading.Reads.{selected, through}
 use Rattle.lf_deps.specs.views.Search.{ReadsBy}
 use Rattle.lf_deps.specs.views.Selecting.{own_selectors}
 use Rattle.lf_trials.proofs.MadeSeries.{any_has}
-use Rattle.lf_open.specs.Holding.{Holds, has_no_argument}
+use Rattle.lf_open.specs.Holding.{Holds, has_no_argument, is_source, matches_le}
 use Rattle.lf_open.specs.Standing.{arguments_standing, standing, standing_in, unless_scalar}
 use Rattle.lf_open.specs.views.Marks.{Marks, TellsReading, has_mark, marks_tree}
-use Rattle.lf_open.specs.views.Standing.{AreStanding}
+use Rattle.lf_open.specs.views.Speaking.{AreSpeaking, speaks}
 
 -- the selectors of an expression are those that stand in it
 
@@ -66,15 +66,37 @@ some_has {X = X} test (y ∷ xs) e = by (test y) refl (some_has test xs) e
     by true is later h = (y, here y xs, is)
     by false is later h = let rest = later h in (rest.0, behind y xs rest.0 rest.1, rest.2)
 
--- a test finds something in what stands in an expression exactly where it does in its list
-pub same_any : (test : Tree → Bool) (e : Tree) (found : List Tree) → AreStanding e found → list_any test found ≡ list_any test (standing e)
-same_any test e found are = by (list_any test found) refl (list_any test (standing e)) refl
+-- a test of what speaks finds something in what stands in an expression exactly where it does among what speaks there
+pub same_any : (test : Tree → Bool) → ((x : Tree) → test x ≡ true → speaks x ≡ true) → (e : Tree) (found : List Tree) → AreSpeaking e found → list_any test found ≡ list_any test (standing e)
+same_any test tells e found are = by (list_any test found) refl (list_any test (standing e)) refl
   where
     by : (a : Bool) → list_any test found ≡ a → (b : Bool) → list_any test (standing e) ≡ b → a ≡ b
     by true is true too = refl
     by false is false too = refl
-    by true is false too = let w = some_has test found is in absurd (true≢false (sym (any_has test (standing e) w.0 ((are w.0).0 w.1) w.2) ∙ too))
-    by false is true too = let w = some_has test (standing e) too in absurd (true≢false (sym (any_has test found w.0 ((are w.0).1 w.1) w.2) ∙ is))
+    by true is false too = let w = some_has test found is in absurd (true≢false (sym (any_has test (standing e) w.0 ((are w.0).0 w.1).0 w.2) ∙ too))
+    by false is true too = let w = some_has test (standing e) too in absurd (true≢false (sym (any_has test found w.0 ((are w.0).1 (w.1, tells w.0 w.2)) w.2) ∙ is))
+
+pub source_speaks : (x : Tree) → is_source x ≡ true → speaks x ≡ true
+source_speaks (Selector name matchers sight span) e = refl
+source_speaks (Call name args span) e = refl
+source_speaks (Aggregate op grouping args span) e = refl
+source_speaks (Number text span) e = absurd (true≢false (sym e))
+source_speaks (Str text span) e = absurd (true≢false (sym e))
+source_speaks (Subquery of sight span) e = absurd (true≢false (sym e))
+source_speaks (Paren of span) e = absurd (true≢false (sym e))
+source_speaks (Unary minus of span) e = absurd (true≢false (sym e))
+source_speaks (Binary op n left right span) e = absurd (true≢false (sym e))
+
+pub le_speaks : (x : Tree) → matches_le x ≡ true → speaks x ≡ true
+le_speaks (Selector name matchers sight span) e = refl
+le_speaks (Call name args span) e = refl
+le_speaks (Aggregate op grouping args span) e = refl
+le_speaks (Number text span) e = absurd (true≢false (sym e))
+le_speaks (Str text span) e = absurd (true≢false (sym e))
+le_speaks (Subquery of sight span) e = absurd (true≢false (sym e))
+le_speaks (Paren of span) e = absurd (true≢false (sym e))
+le_speaks (Unary minus of span) e = absurd (true≢false (sym e))
+le_speaks (Binary op n left right span) e = absurd (true≢false (sym e))
 
 -- of borrowed expressions
 pub any_trees : (test : Tree → Bool) (parts : List (Bor Expr)) → list_any (λ (p : Bor Expr). test (tree p.now)) parts ≡ list_any test (trees_at parts)
@@ -104,7 +126,7 @@ selects_by : (rules : List RuleTree) (e : Tree) (o : Option Bytes) (name : Bytes
 selects_by rules e o name c (inl d) = inl (subst (Contains (selectors e)) (only_one o (Some name) d) c)
 selects_by rules e o name c (inr (d, recorded)) = inr (subst (Contains (selectors e)) (only_one o None d) c, recorded)
 
-reads_by : (rules : List RuleTree) (e : Tree) (o : Option Bytes) (name : Bytes) → Contains (selectors e) o → ReadsBy rules (o ∷ []) name → Reads rules e name
+pub reads_by : (rules : List RuleTree) (e : Tree) (o : Option Bytes) (name : Bytes) → Contains (selectors e) o → ReadsBy rules (o ∷ []) name → Reads rules e name
 reads_by rules e o name c (inl selects) = selected (selects_by rules e o name c selects)
 reads_by rules e o name c (inr (r, there, recording, selects, reads)) = through r there recording (selects_by rules e o r.name c selects) reads
 
@@ -113,7 +135,7 @@ of_selector : (rules : List RuleTree) (e : Tree) (name : Bytes) → SelectsBy ru
 of_selector rules e name (inl c) = (Some name, c, inl (here (Some name) []))
 of_selector rules e name (inr (c, recorded)) = (None, c, inr (here None [], recorded))
 
-by_selector : (rules : List RuleTree) (e : Tree) (name : Bytes) → Reads rules e name → (o : Option Bytes) × Contains (selectors e) o × ReadsBy rules (o ∷ []) name
+pub by_selector : (rules : List RuleTree) (e : Tree) (name : Bytes) → Reads rules e name → (o : Option Bytes) × Contains (selectors e) o × ReadsBy rules (o ∷ []) name
 by_selector rules e name (selected s) = let w = of_selector rules e name s in (w.0, w.1, inl w.2)
 by_selector rules e name (through r there recording s reads) = let w = of_selector rules e r.name s in (w.0, w.1, inr (r, there, recording, w.2, reads))
 
@@ -139,11 +161,11 @@ marks_own m (Binary op n left right span) e = absurd (true≢false (sym e))
 marks_own m (Call name args span) e = absurd (true≢false (sym e))
 marks_own m (Aggregate op grouping args span) e = absurd (true≢false (sym e))
 
-module _ (rules : List RuleTree) (own : Tree → Bool) (of_rule : RuleTree → Bool) (m : Marks) (tells : TellsReading rules of_rule m) (e : Tree) (found : List Tree) (are : AreStanding e found) where
+module _ (rules : List RuleTree) (own : Tree → Bool) (of_rule : RuleTree → Bool) (m : Marks) (tells : TellsReading rules of_rule m) (e : Tree) where
   abbrev HoldsSome : Type 0
   HoldsSome = Holds rules (λ x. list_any own (standing x)) of_rule e
 
-  pub holds_by : (list_any (λ x. own x || marks_tree m x) found ≡ true) ↔ HoldsSome
+  pub holds_by : (list_any (λ x. own x || marks_tree m x) (standing e) ≡ true) ↔ HoldsSome
   holds_by = (to, from)
     where
       of_mark : (x : Tree) → Contains (standing e) x → marks_tree m x ≡ true → HoldsSome
@@ -153,18 +175,17 @@ module _ (rules : List RuleTree) (own : Tree → Bool) (of_rule : RuleTree → B
           let h = (tells w.0).0 w.2 in
           inr (h.0, h.1, (h.2, reads_by rules e w.0 h.0.name in_e h.3), h.4)
 
-      to : list_any (λ x. own x || marks_tree m x) found ≡ true → HoldsSome
+      to : list_any (λ x. own x || marks_tree m x) (standing e) ≡ true → HoldsSome
       to any =
-          let w = some_has (λ x. own x || marks_tree m x) found any in
-          let c : Contains (standing e) w.0 = (are w.0).0 w.1 in
-          elim (or_cases (own w.0) (marks_tree m w.0) w.2) [ inl is ↦ inl (any_has own (standing e) w.0 c is) | inr marked ↦ of_mark w.0 c marked ]
+          let w = some_has (λ x. own x || marks_tree m x) (standing e) any in
+          elim (or_cases (own w.0) (marks_tree m w.0) w.2) [ inl is ↦ inl (any_has own (standing e) w.0 w.1 is) | inr marked ↦ of_mark w.0 w.1 marked ]
 
-      from : HoldsSome → list_any (λ x. own x || marks_tree m x) found ≡ true
+      from : HoldsSome → list_any (λ x. own x || marks_tree m x) (standing e) ≡ true
       from (inl is) =
           let w = some_has own (standing e) is in
-          any_has (λ x. own x || marks_tree m x) found w.0 ((are w.0).1 w.1) (or_left (own w.0) (marks_tree m w.0) w.2)
+          any_has (λ x. own x || marks_tree m x) (standing e) w.0 w.1 (or_left (own w.0) (marks_tree m w.0) w.2)
       from (inr (r, there, (recording, reads), passing)) =
           let w = by_selector rules e r.name reads in
           let s = of_flat_map own_selectors (standing e) w.0 (subst (λ (l : List (Option Bytes)). Contains l w.0) (selectors_stand e) w.1) in
           let marked : has_mark m w.0 ≡ true = (tells w.0).1 (r, there, recording, w.2, passing) in
-          any_has (λ x. own x || marks_tree m x) found s.0 ((are s.0).1 s.1) (or_right (own s.0) (marks_tree m s.0) (own_marks m s.0 w.0 s.2 marked))
+          any_has (λ x. own x || marks_tree m x) (standing e) s.0 s.1 (or_right (own s.0) (marks_tree m s.0) (own_marks m s.0 w.0 s.2 marked))

@@ -1,16 +1,22 @@
--- What stands in an expression: itself, and what stands in its parts. And how much of it is left to be looked at.
-use Rattle.std.proofs.Common.{◌≡◌, ◌+◌, ◌<◌, ◌⊎◌, ◌↔◌, inl, inr, ℕ, Bool, true, false, true≢false, cond, List, [], ◌∷◌, ◌++◌, length, refl, sym, ap, ◌∙◌, subst, arith}
+-- The selectors, calls and aggregations that stand in an expression: itself, if it is one, and those in its parts. And how much is left to be looked at.
+use Rattle.std.proofs.Common.{◌≡◌, ◌+◌, ◌<◌, ◌⊎◌, ◌↔◌, inl, inr, ℕ, Bool, true, false, true≢false, ◌&&◌, cond, List, [], ◌∷◌, ◌++◌, length, Option, Some, None, refl, sym, ap, ap₂, ◌∙◌, subst, arith}
 use Rattle.std.proofs.lemmas.List.{append-nil, append_assoc, length-append, map-append}
-use Rattle.std.proofs.lemmas.List.Elements.{Contains-append_cases, Contains-append_left, Contains-append_right, Contains-push, Contains-push_cases}
+use Rattle.std.proofs.lemmas.List.Elements.{Contains-append_cases, Contains-append_left, Contains-append_right}
 use Rattle.std.proofs.lemmas.List.Sums.{sum_by-append, sum_by-cons, sum_by_push}
 use Rattle.std.specs.Borrow.{Bor}
-use Rattle.std.specs.List.{Contains, flat_map, sum_by}
+use Rattle.std.specs.List.{Contains, filter, flat_map, sum_by}
+use Rattle.lf_ast.specs.Labels.{Bytes}
 use Rattle.lf_ast.specs.Tree.{Tree, Trees, Number, Str, Selector, Subquery, Paren, Unary, Binary, Call, Aggregate, Nil, Next, list, parts_of, tree}
+use Rattle.lf_ast.specs.Types.{is_scalar, selected}
 use Rattle.lf_ast.specs.declared.expr.Expr.{Expr}
+use Rattle.lf_ast.specs.declared.expr.ExprType.TheVariants.{Scalar, Vector}
 use Rattle.lf_ast.specs.views.Walks.{nodes, nodes_in, trees_at}
-use Rattle.lf_laws.proofs.Members.{behind, first_or_behind, here, none_in}
+use Rattle.lf_deps.specs.views.Selecting.{is_scalar_call}
+use Rattle.lf_laws.proofs.Members.{none_in}
+use Rattle.lf_semantics.proofs.Members.{in_filter, of_filter}
 use Rattle.lf_semantics.specs.Parts.{is_scalar_part}
 use Rattle.lf_open.specs.Standing.{arguments_standing, standing, standing_in}
+use Rattle.lf_open.specs.views.Speaking.{AreSpeaking, own_speaking, speaks}
 
 -- what stands in an expression
 
@@ -18,17 +24,17 @@ of_arguments : (args : Trees) → arguments_standing args ≡ flat_map standing 
 of_arguments Nil = refl
 of_arguments (Next x xs) = ap (λ (l : List Tree). standing x ++ l) (of_arguments xs)
 
-of_only : (e : Tree) → standing e ≡ flat_map standing (e ∷ [])
-of_only e = sym (append-nil (standing e))
+of_one : (e : Tree) → standing e ≡ flat_map standing (e ∷ [])
+of_one e = sym (append-nil (standing e))
 
 within : (e : Tree) → standing_in e ≡ e ∷ flat_map standing (parts_of e)
 within (Number text span) = refl
 within (Str text span) = refl
 within (Selector name matchers sight span) = refl
-within (Subquery of sight span) = ap (λ (l : List Tree). Subquery of sight span ∷ l) (of_only of)
-within (Paren of span) = ap (λ (l : List Tree). Paren of span ∷ l) (of_only of)
-within (Unary minus of span) = ap (λ (l : List Tree). Unary minus of span ∷ l) (of_only of)
-within (Binary op m left right span) = ap (λ (l : List Tree). Binary op m left right span ∷ (standing left ++ l)) (of_only right)
+within (Subquery of sight span) = ap (λ (l : List Tree). Subquery of sight span ∷ l) (of_one of)
+within (Paren of span) = ap (λ (l : List Tree). Paren of span ∷ l) (of_one of)
+within (Unary minus of span) = ap (λ (l : List Tree). Unary minus of span ∷ l) (of_one of)
+within (Binary op m left right span) = ap (λ (l : List Tree). Binary op m left right span ∷ (standing left ++ l)) (of_one right)
 within (Call name args span) = ap (λ (l : List Tree). Call name args span ∷ l) (of_arguments args)
 within (Aggregate op grouping args span) = ap (λ (l : List Tree). Aggregate op grouping args span ∷ l) (of_arguments args)
 
@@ -37,6 +43,67 @@ of_scalar e is = ap (λ (b : Bool). cond b [] (standing_in e)) is
 
 pub of_other : (e : Tree) → is_scalar_part e ≡ false → standing e ≡ e ∷ flat_map standing (parts_of e)
 of_other e is = ap (λ (b : Bool). cond b [] (standing_in e)) is ∙ within e
+
+-- what speaks in it
+
+abbrev pub speaking : Tree → List Tree
+speaking e = filter speaks (standing e)
+
+filter_cons : (x : Tree) (xs : List Tree) → filter speaks (x ∷ xs) ≡ cond (speaks x) (x ∷ filter speaks xs) (filter speaks xs)
+filter_cons x xs = refl
+
+filter_both : (xs ys : List Tree) → filter speaks (xs ++ ys) ≡ filter speaks xs ++ filter speaks ys
+filter_both [] ys = refl
+filter_both (x ∷ xs) ys = by (speaks x) (filter_both xs ys)
+  where
+    by : (b : Bool) → filter speaks (xs ++ ys) ≡ filter speaks xs ++ filter speaks ys → cond b (x ∷ filter speaks (xs ++ ys)) (filter speaks (xs ++ ys)) ≡ cond b (x ∷ filter speaks xs) (filter speaks xs) ++ filter speaks ys
+    by true is = ap (λ (l : List Tree). x ∷ l) is
+    by false is = is
+
+speak_arguments : (args : Trees) → filter speaks (arguments_standing args) ≡ flat_map speaking (list args)
+speak_arguments Nil = refl
+speak_arguments (Next x xs) = filter_both (standing x) (arguments_standing xs) ∙ ap (λ (l : List Tree). speaking x ++ l) (speak_arguments xs)
+
+of_only : (e : Tree) → speaking e ≡ flat_map speaking (e ∷ [])
+of_only e = sym (append-nil (speaking e))
+
+of_call : (e : Tree) → is_scalar_call e ≡ true → speaking e ≡ []
+of_call (Call name args span) is = ap (λ (b : Bool). filter speaks (cond b [] (standing_in (Call name args span)))) is
+of_call (Number text span) is = absurd (true≢false (sym is))
+of_call (Str text span) is = absurd (true≢false (sym is))
+of_call (Selector name matchers sight span) is = absurd (true≢false (sym is))
+of_call (Subquery of sight span) is = absurd (true≢false (sym is))
+of_call (Paren of span) is = absurd (true≢false (sym is))
+of_call (Unary minus of span) is = absurd (true≢false (sym is))
+of_call (Binary op m left right span) is = absurd (true≢false (sym is))
+of_call (Aggregate op grouping args span) is = absurd (true≢false (sym is))
+
+of_same : (b : Bool) (x : Tree) (X : List Tree) → speaks x ≡ false → filter speaks (cond b [] (x ∷ cond b [] X)) ≡ filter speaks (cond b [] X)
+of_same true x X is = refl
+of_same false x X is = ap (λ (s : Bool). cond s (x ∷ filter speaks X) (filter speaks X)) is
+
+of_sides : (p q : Bool) (x : Tree) (X Y : List Tree) → speaks x ≡ false → filter speaks (cond (is_scalar (cond (p && q) Scalar Vector)) [] (x ∷ (cond p [] X ++ cond q [] Y))) ≡ filter speaks (cond p [] X ++ cond q [] Y)
+of_sides true true x X Y is = refl
+of_sides true false x X Y is = ap (λ (s : Bool). cond s (x ∷ filter speaks Y) (filter speaks Y)) is
+of_sides false true x X Y is = ap (λ (s : Bool). cond s (x ∷ filter speaks (X ++ [])) (filter speaks (X ++ []))) is
+of_sides false false x X Y is = ap (λ (s : Bool). cond s (x ∷ filter speaks (X ++ Y)) (filter speaks (X ++ Y))) is
+
+of_range : (x : Tree) (range : Option Bytes) → filter speaks (cond (is_scalar (selected range)) [] (x ∷ [])) ≡ filter speaks (x ∷ [])
+of_range x None = refl
+of_range x (Some duration) = refl
+
+of_parts : (e : Tree) → is_scalar_call e ≡ false → speaking e ≡ own_speaking e ++ flat_map speaking (parts_of e)
+of_parts (Number text span) is = refl
+of_parts (Str text span) is = refl
+of_parts (Selector name matchers sight span) is = of_range (Selector name matchers sight span) sight.range
+of_parts (Subquery of sight span) is = of_only of
+of_parts (Paren of span) is = of_same (is_scalar_part of) (Paren of span) (standing_in of) refl ∙ of_only of
+of_parts (Unary minus of span) is = of_same (is_scalar_part of) (Unary minus of span) (standing_in of) refl ∙ of_only of
+of_parts (Binary op m left right span) is =
+    of_sides (is_scalar_part left) (is_scalar_part right) (Binary op m left right span) (standing_in left) (standing_in right) refl ∙ filter_both (standing left) (standing right)
+    ∙ ap (λ (l : List Tree). speaking left ++ l) (of_only right)
+of_parts (Call name args span) is = ap (λ (b : Bool). filter speaks (cond b [] (standing_in (Call name args span)))) is ∙ ap (λ (l : List Tree). Call name args span ∷ l) (speak_arguments args)
+of_parts (Aggregate op grouping args span) is = ap (λ (l : List Tree). Aggregate op grouping args span ∷ l) (speak_arguments args)
 
 -- how much it is
 
@@ -58,85 +125,81 @@ one_more (Binary op m left right span) = omega (arith, length-append (nodes left
 one_more (Call name args span) = omega (arith, of_row args)
 one_more (Aggregate op grouping args span) = omega (arith, of_row args)
 
--- the walk: what stands in the expression was found, or stands in what is left to be looked at
+-- the walk: what speaks in the expression was found, or speaks in what is left to be looked at
 
 abbrev pub Walked : Tree → List Tree → List Tree → Type 0
-Walked e found left = (x : Tree) → Contains (standing e) x ↔ (Contains found x ⊎ Contains (flat_map standing left) x)
+Walked e found left = (x : Tree) → Contains (speaking e) x ↔ (Contains found x ⊎ Contains (flat_map speaking left) x)
 
 pub begins : (e : Tree) → Walked e [] (e ∷ [])
 begins e x = (λ c. inr (subst (λ (l : List Tree). Contains l x) (of_only e) c), from)
   where
-    from : Contains [] x ⊎ Contains (flat_map standing (e ∷ [])) x → Contains (standing e) x
+    from : Contains [] x ⊎ Contains (flat_map speaking (e ∷ [])) x → Contains (speaking e) x
     from (inl c) = absurd (none_in x c)
     from (inr c) = subst (λ (l : List Tree). Contains l x) (sym (of_only e)) c
 
-flat_push : (left : List Tree) (p : Tree) → flat_map standing (left ++ p ∷ []) ≡ flat_map standing left ++ standing p
-flat_push [] p = append-nil (standing p)
-flat_push (q ∷ left) p = ap (λ (l : List Tree). standing q ++ l) (flat_push left p) ∙ sym (append_assoc (standing q) (flat_map standing left) (standing p))
-
-flat_append : (left more : List Tree) → flat_map standing (left ++ more) ≡ flat_map standing left ++ flat_map standing more
+flat_append : (left more : List Tree) → flat_map speaking (left ++ more) ≡ flat_map speaking left ++ flat_map speaking more
 flat_append [] more = refl
-flat_append (q ∷ left) more = ap (λ (l : List Tree). standing q ++ l) (flat_append left more) ∙ sym (append_assoc (standing q) (flat_map standing left) (flat_map standing more))
+flat_append (q ∷ left) more = ap (λ (l : List Tree). speaking q ++ l) (flat_append left more) ∙ sym (append_assoc (speaking q) (flat_map speaking left) (flat_map speaking more))
+
+flat_push : (left : List Tree) (p : Tree) → flat_map speaking (left ++ p ∷ []) ≡ flat_map speaking left ++ speaking p
+flat_push left p = flat_append left (p ∷ []) ∙ ap (λ (l : List Tree). flat_map speaking left ++ l) (append-nil (speaking p))
 
 module _ (e : Tree) (found left : List Tree) (p : Tree) (walked : Walked e found (left ++ p ∷ [])) where
-  -- a scalar is passed over
-  pub passes : is_scalar_part p ≡ true → Walked e found left
+  -- a scalar call is passed over
+  pub passes : is_scalar_call p ≡ true → Walked e found left
   passes is x = (to, from)
     where
-      same : flat_map standing (left ++ p ∷ []) ≡ flat_map standing left
-      same = flat_push left p ∙ ap (λ (l : List Tree). flat_map standing left ++ l) (of_scalar p is) ∙ append-nil (flat_map standing left)
+      same : flat_map speaking (left ++ p ∷ []) ≡ flat_map speaking left
+      same = flat_push left p ∙ ap (λ (l : List Tree). flat_map speaking left ++ l) (of_call p is) ∙ append-nil (flat_map speaking left)
 
-      to : Contains (standing e) x → Contains found x ⊎ Contains (flat_map standing left) x
+      to : Contains (speaking e) x → Contains found x ⊎ Contains (flat_map speaking left) x
       to c = subst (λ (l : List Tree). Contains found x ⊎ Contains l x) same ((walked x).0 c)
 
-      from : Contains found x ⊎ Contains (flat_map standing left) x → Contains (standing e) x
+      from : Contains found x ⊎ Contains (flat_map speaking left) x → Contains (speaking e) x
       from c = (walked x).1 (subst (λ (l : List Tree). Contains found x ⊎ Contains l x) (sym same) c)
 
-  -- what is none is found, and its parts are left
-  pub finds : is_scalar_part p ≡ false → Walked e (found ++ p ∷ []) (left ++ parts_of p)
+  -- of any other the expression itself is found, and its parts are left
+  pub finds : is_scalar_call p ≡ false → Walked e (found ++ own_speaking p) (left ++ parts_of p)
   finds is x = (to, from)
     where
-      same : flat_map standing (left ++ p ∷ []) ≡ flat_map standing left ++ (p ∷ flat_map standing (parts_of p))
-      same = flat_push left p ∙ ap (λ (l : List Tree). flat_map standing left ++ l) (of_other p is)
+      same : flat_map speaking (left ++ p ∷ []) ≡ (flat_map speaking left) ++ (own_speaking p ++ (flat_map speaking (parts_of p)))
+      same = flat_push left p ∙ ap (λ (l : List Tree). (flat_map speaking left) ++ l) (of_parts p is)
 
-      parts : flat_map standing (left ++ parts_of p) ≡ flat_map standing left ++ flat_map standing (parts_of p)
-      parts = flat_append left (parts_of p)
+      now : flat_map speaking (left ++ parts_of p) ≡ (flat_map speaking left) ++ (flat_map speaking (parts_of p))
+      now = flat_append left (parts_of p)
 
-      rest : (p ≡ x) ⊎ Contains (flat_map standing (parts_of p)) x → Contains (found ++ p ∷ []) x ⊎ Contains (flat_map standing left ++ flat_map standing (parts_of p)) x
-      rest (inl it) = inl (subst (λ (y : Tree). Contains (found ++ p ∷ []) y) it (Contains-push found p))
-      rest (inr c) = inr (Contains-append_right (flat_map standing left) (flat_map standing (parts_of p)) x c)
+      split : Contains (flat_map speaking left) x ⊎ Contains (own_speaking p ++ (flat_map speaking (parts_of p))) x → Contains (found ++ own_speaking p) x ⊎ Contains ((flat_map speaking left) ++ (flat_map speaking (parts_of p))) x
+      split (inl c) = inr (Contains-append_left (flat_map speaking left) (flat_map speaking (parts_of p)) x c)
+      split (inr c) = elim (Contains-append_cases (own_speaking p) (flat_map speaking (parts_of p)) x c) [ inl d ↦ inl (Contains-append_right found (own_speaking p) x d) | inr d ↦ inr (Contains-append_right (flat_map speaking left) (flat_map speaking (parts_of p)) x d) ]
 
-      split : Contains (flat_map standing left) x ⊎ Contains (p ∷ flat_map standing (parts_of p)) x → Contains (found ++ p ∷ []) x ⊎ Contains (flat_map standing left ++ flat_map standing (parts_of p)) x
-      split (inl c) = inr (Contains-append_left (flat_map standing left) (flat_map standing (parts_of p)) x c)
-      split (inr c) = rest (first_or_behind p (flat_map standing (parts_of p)) x c)
+      forth : Contains found x ⊎ Contains (flat_map speaking (left ++ p ∷ [])) x → Contains (found ++ own_speaking p) x ⊎ Contains ((flat_map speaking left) ++ (flat_map speaking (parts_of p))) x
+      forth (inl c) = inl (Contains-append_left found (own_speaking p) x c)
+      forth (inr c) = split (Contains-append_cases (flat_map speaking left) (own_speaking p ++ (flat_map speaking (parts_of p))) x (subst (λ (l : List Tree). Contains l x) same c))
 
-      forth : Contains found x ⊎ Contains (flat_map standing (left ++ p ∷ [])) x → Contains (found ++ p ∷ []) x ⊎ Contains (flat_map standing left ++ flat_map standing (parts_of p)) x
-      forth (inl c) = inl (Contains-append_left found (p ∷ []) x c)
-      forth (inr c) = split (Contains-append_cases (flat_map standing left) (p ∷ flat_map standing (parts_of p)) x (subst (λ (l : List Tree). Contains l x) same c))
+      to : Contains (speaking e) x → Contains (found ++ own_speaking p) x ⊎ Contains (flat_map speaking (left ++ parts_of p)) x
+      to c = subst (λ (l : List Tree). Contains (found ++ own_speaking p) x ⊎ Contains l x) (sym now) (forth ((walked x).0 c))
 
-      to : Contains (standing e) x → Contains (found ++ p ∷ []) x ⊎ Contains (flat_map standing (left ++ parts_of p)) x
-      to c = subst (λ (l : List Tree). Contains (found ++ p ∷ []) x ⊎ Contains l x) (sym parts) (forth ((walked x).0 c))
-
-      whole : Contains (flat_map standing left ++ (p ∷ flat_map standing (parts_of p))) x → Contains (standing e) x
+      whole : Contains ((flat_map speaking left) ++ (own_speaking p ++ (flat_map speaking (parts_of p)))) x → Contains (speaking e) x
       whole c = (walked x).1 (inr (subst (λ (l : List Tree). Contains l x) (sym same) c))
 
-      back : Contains found x ⊎ (p ≡ x) → Contains (standing e) x
-      back (inl c) = (walked x).1 (inl c)
-      back (inr it) = whole (Contains-append_right (flat_map standing left) (p ∷ flat_map standing (parts_of p)) x (subst (λ (y : Tree). Contains (p ∷ flat_map standing (parts_of p)) y) it (here p (flat_map standing (parts_of p)))))
+      from : Contains (found ++ own_speaking p) x ⊎ Contains (flat_map speaking (left ++ parts_of p)) x → Contains (speaking e) x
+      from (inl c) = elim (Contains-append_cases found (own_speaking p) x c) [
+        | inl d ↦ (walked x).1 (inl d)
+        | inr d ↦ whole (Contains-append_right (flat_map speaking left) (own_speaking p ++ (flat_map speaking (parts_of p))) x (Contains-append_left (own_speaking p) (flat_map speaking (parts_of p)) x d))
+      ]
+      from (inr c) = elim (Contains-append_cases (flat_map speaking left) (flat_map speaking (parts_of p)) x (subst (λ (l : List Tree). Contains l x) now c)) [
+        | inl d ↦ whole (Contains-append_left (flat_map speaking left) (own_speaking p ++ (flat_map speaking (parts_of p))) x d)
+        | inr d ↦ whole (Contains-append_right (flat_map speaking left) (own_speaking p ++ (flat_map speaking (parts_of p))) x (Contains-append_right (own_speaking p) (flat_map speaking (parts_of p)) x d))
+      ]
 
-      both : Contains (flat_map standing left) x ⊎ Contains (flat_map standing (parts_of p)) x → Contains (standing e) x
-      both (inl c) = whole (Contains-append_left (flat_map standing left) (p ∷ flat_map standing (parts_of p)) x c)
-      both (inr c) = whole (Contains-append_right (flat_map standing left) (p ∷ flat_map standing (parts_of p)) x (behind p (flat_map standing (parts_of p)) x c))
-
-      from : Contains (found ++ p ∷ []) x ⊎ Contains (flat_map standing (left ++ parts_of p)) x → Contains (standing e) x
-      from (inl c) = back (Contains-push_cases found p x c)
-      from (inr c) = both (Contains-append_cases (flat_map standing left) (flat_map standing (parts_of p)) x (subst (λ (l : List Tree). Contains l x) parts c))
-
-pub ends : (e : Tree) (found : List Tree) → Walked e found [] → (x : Tree) → Contains found x ↔ Contains (standing e) x
-ends e found walked x = (λ c. (walked x).1 (inl c), λ c. elim ((walked x).0 c) [ inl d ↦ d | inr d ↦ absurd (none_in x d) ])
+pub ends : (e : Tree) (found : List Tree) → Walked e found [] → AreSpeaking e found
+ends e found walked x = (
+  λ c. of_filter speaks (standing e) x ((walked x).1 (inl c)),
+  λ h. elim ((walked x).0 (in_filter speaks (standing e) x h.0 h.1)) [ inl d ↦ d | inr d ↦ absurd (none_in x d) ],
+)
 
 -- and less is left
-pub falls : (old left new : List Tree) (p : Tree) → old ≡ left ++ p ∷ [] → new ≡ left ++ parts_of p → sum_by size new < sum_by size old
+falls : (old left new : List Tree) (p : Tree) → old ≡ left ++ p ∷ [] → new ≡ left ++ parts_of p → sum_by size new < sum_by size old
 falls old left new p was is =
     let a = ap (sum_by size) was ∙ sum_by_push size left p in
     let b = ap (sum_by size) is ∙ sum_by-append size left (parts_of p) in
@@ -149,9 +212,8 @@ module _ (e : Tree) (found left rest : List (Bor Expr)) (p : Bor Expr) (was : le
   were : trees_at left ≡ trees_at rest ++ tree p.now ∷ []
   were = ap (λ (l : List (Bor Expr)). trees_at l) was ∙ map-append (λ (b : Bor Expr). tree b.now) rest (p ∷ [])
 
-  pub passed : (b : Bool) → b ≡ is_scalar_part (tree p.now) → b ≡ true → Walked e (trees_at found) (trees_at left) → Walked e (trees_at found) (trees_at rest)
-  passed true told is walked = passes e (trees_at found) (trees_at rest) (tree p.now) (subst (Walked e (trees_at found)) were walked) (sym told)
-  passed false told is walked = absurd (true≢false (sym is))
+  pub passed : (b : Bool) → b ≡ is_scalar_call (tree p.now) → b ≡ true → Walked e (trees_at found) (trees_at left) → Walked e (trees_at found) (trees_at rest)
+  passed b told is walked = passes e (trees_at found) (trees_at rest) (tree p.now) (subst (Walked e (trees_at found)) were walked) (sym told ∙ is)
 
   pub less_passed : sum_by size (trees_at rest) < sum_by size (trees_at left)
   less_passed =
@@ -159,12 +221,11 @@ module _ (e : Tree) (found left rest : List (Bor Expr)) (p : Bor Expr) (was : le
       let d = one_more (tree p.now) in
       omega arith
 
-  module _ (later next : List (Bor Expr)) (now : later ≡ found ++ p ∷ []) (parts : trees_at next ≡ trees_at rest ++ parts_of (tree p.now)) where
-    pub found_more : (b : Bool) → b ≡ is_scalar_part (tree p.now) → b ≡ false → Walked e (trees_at found) (trees_at left) → Walked e (trees_at later) (trees_at next)
-    found_more true told is walked = absurd (true≢false is)
-    found_more false told is walked =
-        subst (λ (l : List Tree). Walked e l (trees_at next)) (sym (ap (λ (l : List (Bor Expr)). trees_at l) now ∙ map-append (λ (b : Bor Expr). tree b.now) found (p ∷ [])))
-        (subst (Walked e (trees_at found ++ tree p.now ∷ [])) (sym parts) (finds e (trees_at found) (trees_at rest) (tree p.now) (subst (Walked e (trees_at found)) were walked) (sym told)))
+  module _ (later next : List (Bor Expr)) (now : trees_at later ≡ trees_at found ++ own_speaking (tree p.now)) (parts : trees_at next ≡ trees_at rest ++ parts_of (tree p.now)) where
+    pub found_more : (b : Bool) → b ≡ is_scalar_call (tree p.now) → b ≡ false → Walked e (trees_at found) (trees_at left) → Walked e (trees_at later) (trees_at next)
+    found_more b told is walked =
+        subst (λ (l : List Tree). Walked e l (trees_at next)) (sym now)
+        (subst (Walked e (trees_at found ++ own_speaking (tree p.now))) (sym parts) (finds e (trees_at found) (trees_at rest) (tree p.now) (subst (Walked e (trees_at found)) were walked) (sym told ∙ is)))
 
     pub less_found : sum_by size (trees_at next) < sum_by size (trees_at left)
     less_found = falls (trees_at left) (trees_at rest) (trees_at next) (tree p.now) were parts

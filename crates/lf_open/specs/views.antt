@@ -8,5 +8,8 @@ pub mod Known
 pub mod Marks
 pub mod Names
 pub mod Opens
+pub mod ReadNames
 pub mod Sides
-pub mod Standing
+pub mod Speaking
+pub mod Telling
+pub mod Told

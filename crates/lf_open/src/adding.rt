@@ -1,10 +1,11 @@
 //! How open constructs are listed.
-ghost use Rattle.std.specs.Prelude.{◌≡◌, IsTrue, OnOk};
+ghost use Rattle.std.specs.Prelude.{◌≡◌, ◌++◌, IsTrue, OnOk};
 ghost use Rattle.lf_open.specs.views.Adding.{Adds};
+ghost use Rattle.lf_open.specs.views.Told.{opened};
 
 use crate::construct::Construct;
 use crate::open_at::OpenAt;
-use lf_base::{Memory, Span};
+use lf_base::{Memory, Seq, Span};
 
 /// Puts an open construct behind others where it holds.
 pub(crate) fn add_if(
@@ -22,6 +23,47 @@ pub(crate) fn add_if(
             rule,
             span,
         })?;
+    }
+    Ok(())
+}
+
+/// The same, by what the list then is.
+pub(crate) fn push_if(
+    holds: bool,
+    construct: Construct,
+    rule: u32,
+    span: Span,
+    found: &mut Seq<OpenAt>,
+) -> Result<(), Memory>
+    ensures { OnOk result (found.new ≡ found.old ++ opened holds construct rule span) }
+{
+    if holds {
+        found.push(OpenAt {
+            construct,
+            rule,
+            span,
+        })
+    } else {
+        Ok(())
+    }
+}
+
+/// Puts open constructs behind others.
+pub(crate) fn push_all(found: &mut Seq<OpenAt>, more: &[OpenAt]) -> Result<(), Memory>
+    ensures { OnOk result (found.new ≡ found.old ++ more.now) }
+{
+    for item in more {
+        found.push(*item)?;
+    }
+    Ok(())
+}
+
+/// Puts open constructs behind those of a vector.
+pub(crate) fn append_all(found: &mut Vec<OpenAt>, more: &[OpenAt]) -> Result<(), Memory>
+    ensures { OnOk result (found.new.items ≡ found.old.items ++ more.now) }
+{
+    for item in more {
+        found.push(*item)?;
     }
     Ok(())
 }

@@ -1,61 +1,77 @@
 //! What is open at a call.
-ghost use Rattle.std.specs.Prelude.{◌≡◌, ◌↔◌, ◌⊎◌, IfOk, IsTrue, Some};
-ghost use Rattle.lf_ast.specs.Tree.{tree, trees};
-ghost use Rattle.lf_ast.specs.declared.functions.LabelEffect.TheVariants.{HistogramQuantile};
+ghost use Rattle.std.specs.Prelude.{◌≡◌, ◌↔◌, IfOk, IsTrue, Some};
+ghost use Rattle.std.specs.List.{list_any};
+ghost use Rattle.lf_ast.specs.Tree.{tree};
+ghost use Rattle.lf_ast.specs.declared.functions.LabelEffect.TheVariants.{Absent};
 ghost use Rattle.lf_semantics.specs.Parts.{sought_in};
 ghost use Rattle.lf_witness.specs.Strict.{IsOpenAbsent};
-ghost use Rattle.lf_open.specs.Constructs.{IsDoubtfulAbsent, effect_of};
+ghost use Rattle.lf_open.specs.Constructs.{effect_of};
 ghost use Rattle.lf_open.specs.Holding.{arguments_of};
-ghost use Rattle.lf_open.specs.declared.known.Beneath.TheVariants.{Source};
-ghost use Rattle.lf_open.specs.views.Known.{IsKnown, SomeIsBeneath, rules_of};
+ghost use Rattle.lf_open.specs.views.Told.{call_opens};
 
 use crate::absence::is_open;
-use crate::choosing::either;
+use crate::adding::push_if;
+use crate::construct::Construct;
 use crate::forms::{arguments_of, effect_of};
-use crate::known::{Beneath, Known};
+use crate::open_at::OpenAt;
+use crate::told::Told;
 use lf_ast::{Expr, LabelEffect};
-use lf_base::Memory;
+use lf_base::{Memory, Seq, Span};
 use std::alloc::Global;
 
-/// Whether an expression is a `histogram_quantile` beneath whose arguments it stands.
-pub(crate) fn is_quantile_of(
-    known: &Known<'_>,
+/// What is open at a call of this effect, by what is told of its arguments: it is a `histogram_quantile` beneath which a fork stands or `le` is named, or an `absent` whose
+/// argument can't be silent.
+pub(crate) fn open_at_call(
     alloc: Global,
-    beneath: Beneath,
-    expr: &Expr,
-) -> Result<bool, Memory>
-    requires { IsKnown known.now }
-    ensures { IfOk result (λ found. IsTrue found ↔ ((effect_of (tree expr.now) ≡ Some HistogramQuantile) × SomeIsBeneath (rules_of known.now) beneath (arguments_of (tree expr.now)))) }
+    rule: u32,
+    effect: Option<LabelEffect>,
+    span: Span,
+    args: &[Told],
+) -> Result<Seq<OpenAt>, Memory>
+    ensures { IfOk result (λ found. found ≡ call_opens rule effect span args.now) }
 {
-    match effect_of(expr) {
+    let mut found = Seq::new(alloc);
+    match effect {
         Some(LabelEffect::HistogramQuantile) => {
-            known.any_holds(alloc, beneath, arguments_of(expr))
+            push_if(any_fork(args), Construct::Forked, rule, span, &mut found)?;
+            push_if(any_bucket(args), Construct::NamedBucket, rule, span, &mut found)?;
+            Ok(found)
         }
-        _ => Ok(false),
+        Some(LabelEffect::Absent) => {
+            push_if(any_loud(args), Construct::OpenAbsent, rule, span, &mut found)?;
+            Ok(found)
+        }
+        _ => Ok(found),
     }
 }
 
-/// Whether an expression is an `absent` that is open, or whose argument can't be silent.
-pub(crate) fn is_doubtful_absent(
-    known: &Known<'_>,
-    alloc: Global,
-    expr: &Expr,
-) -> Result<bool, Memory>
-    requires { IsKnown known.now }
-    ensures { IfOk result (λ found. IsTrue found ↔ IsDoubtfulAbsent (rules_of known.now) (tree expr.now)) }
+/// Whether one of these holds a fork.
+fn any_fork(parts: &[Told]) -> bool
+    ensures { result ≡ list_any (λ t. t.fork) parts.now }
+{
+    parts.iter().any(|part| part.fork)
+}
+
+/// Whether one of these can't be silent.
+fn any_loud(parts: &[Told]) -> bool
+    ensures { result ≡ list_any (λ t. t.loud) parts.now }
+{
+    parts.iter().any(|part| part.loud)
+}
+
+/// Whether `le` is named beneath one of these.
+fn any_bucket(parts: &[Told]) -> bool
+    ensures { result ≡ list_any (λ t. t.bucket) parts.now }
+{
+    parts.iter().any(|part| part.bucket)
+}
+
+/// Whether an expression is an `absent` that is open by the selector that it is of.
+pub(crate) fn is_open_absent(expr: &Expr) -> bool
+    ensures { IsTrue result ↔ ((effect_of (tree expr.now) ≡ Some Absent) × IsOpenAbsent (sought_in (arguments_of (tree expr.now)))) }
 {
     match effect_of(expr) {
-        Some(LabelEffect::Absent) => is_in_doubt(known, alloc, arguments_of(expr)),
-        _ => Ok(false),
+        Some(LabelEffect::Absent) => is_open(arguments_of(expr)),
+        _ => false,
     }
-}
-
-/// Whether an `absent` of these arguments is open, or one of them can't be silent.
-fn is_in_doubt(known: &Known<'_>, alloc: Global, args: &[Expr]) -> Result<bool, Memory>
-    requires { IsKnown known.now }
-    ensures { IfOk result (λ found. IsTrue found ↔ (IsOpenAbsent (sought_in (trees args.now)) ⊎ SomeIsBeneath (rules_of known.now) Source (trees args.now))) }
-{
-    let open = is_open(args);
-    let loud = known.any_holds(alloc, Beneath::Source, args)?;
-    Ok(either(open, loud))
 }

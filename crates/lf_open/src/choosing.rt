@@ -1,5 +1,5 @@
 //! Which rules pass a test, or read a rule that does.
-ghost use Rattle.std.specs.Prelude.{◌≡◌, ◌<◌, ◌&&◌, ◌||◌, Bool, false, length, List, IfOk, slice_index_or};
+ghost use Rattle.std.specs.Prelude.{◌≡◌, ◌<◌, ◌||◌, Bool, false, length, List, IfOk, slice_index_or};
 ghost use Rattle.std.specs.List.{list_any};
 ghost use Rattle.lf_ast.specs.Rules.{RuleTree};
 ghost use Rattle.lf_deps.specs.views.Index.{IsIndex};
@@ -34,17 +34,10 @@ pub(crate) fn chosen(
 }
 
 /// Whether one of the two holds.
-pub(crate) fn either(own: bool, read: bool) -> bool
+fn either(own: bool, read: bool) -> bool
     ensures { result ≡ (own || read) }
 {
     own || read
-}
-
-/// Whether both of the two hold.
-pub(crate) fn both(one: bool, other: bool) -> bool
-    ensures { result ≡ (one && other) }
-{
-    one && other
 }
 
 /// Whether the rule of a number reads one that passes.

@@ -1,41 +1,24 @@
 //! What expressions hold, in themselves or in the rules that they read.
-ghost use Rattle.std.specs.Prelude.{◌≡◌, ◌↔◌, ◌||◌, List, codes, IfOk, IsTrue};
+ghost use Rattle.std.specs.Prelude.{◌≡◌, codes, IfOk};
 ghost use Rattle.std.specs.List.{list_any};
 ghost use Rattle.std.specs.Str.{bytes_eq};
-ghost use Rattle.lf_ast.specs.Functions.{called_by};
-ghost use Rattle.lf_ast.specs.Rules.{RuleTree, rule_tree};
-ghost use Rattle.lf_ast.specs.Tree.{Tree, tree};
-ghost use Rattle.lf_open.specs.Holding.{CannotBeSilent, NamesLe, arguments_of, has_own_le, has_own_source, has_no_argument, is_source, matches_le, names_le};
+ghost use Rattle.lf_ast.specs.Rules.{rule_tree};
+ghost use Rattle.lf_ast.specs.Tree.{tree};
+ghost use Rattle.lf_open.specs.Holding.{arguments_of, has_no_argument, has_own_le, has_own_source, is_source, matches_le, names_le};
 ghost use Rattle.lf_open.specs.views.Holding.{gives_alone};
-ghost use Rattle.lf_open.specs.views.Marks.{TellsReading, marks_tree};
+ghost use Rattle.lf_open.specs.views.Marks.{marks_tree};
 
 use crate::marks::Marks;
-use crate::standing::standing;
+use crate::speaking::speaking;
 use lf_ast::{Expr, Function, LabelEffect, Matcher, Rule, selected_name};
 use lf_base::Memory;
 use std::alloc::Global;
-
-/// Whether an expression can't be silent.
-pub(crate) fn cannot_be_silent(alloc: Global, loud: &Marks, expr: &Expr) -> Result<bool, Memory>
-    ensures { (rules : List RuleTree) → TellsReading rules (λ r. has_own_source r.expr) loud.now → IfOk result (λ found. IsTrue found ↔ CannotBeSilent rules (tree expr.now)) }
-{
-    let parts = standing(alloc, expr)?;
-    Ok(any_loud(loud, parts.as_slice()))
-}
-
-/// Whether `le` is named beneath an expression.
-pub(crate) fn names_le(alloc: Global, marks: &Marks, expr: &Expr) -> Result<bool, Memory>
-    ensures { (rules : List RuleTree) → TellsReading rules names_le marks.now → IfOk result (λ found. IsTrue found ↔ NamesLe rules (tree expr.now)) }
-{
-    let parts = standing(alloc, expr)?;
-    Ok(any_on_le(marks, parts.as_slice()))
-}
 
 /// Whether a call that gives a sample without being given one stands in an expression.
 pub(crate) fn has_own_source(alloc: Global, expr: &Expr) -> Result<bool, Memory>
     ensures { IfOk result (λ found. found ≡ has_own_source (tree expr.now)) }
 {
-    let parts = standing(alloc, expr)?;
+    let parts = speaking(alloc, expr)?;
     Ok(any_source(parts.as_slice()))
 }
 
@@ -51,26 +34,8 @@ pub(crate) fn rule_names_le(alloc: Global, rule: &Rule) -> Result<bool, Memory>
 fn has_own_le(alloc: Global, expr: &Expr) -> Result<bool, Memory>
     ensures { IfOk result (λ found. found ≡ has_own_le (tree expr.now)) }
 {
-    let parts = standing(alloc, expr)?;
+    let parts = speaking(alloc, expr)?;
     Ok(any_matching_le(parts.as_slice()))
-}
-
-/// Whether one of these is such a call, or a selector that is marked.
-fn any_loud(marks: &Marks, parts: &[&Expr]) -> bool
-    ensures { result ≡ list_any (λ p. is_source (tree p.now) || marks_tree marks.now (tree p.now)) parts.now }
-{
-    parts
-        .iter()
-        .any(|part| is_source(part) || is_marked(marks, part))
-}
-
-/// Whether one of these is a selector with a matcher on `le`, or one that is marked.
-fn any_on_le(marks: &Marks, parts: &[&Expr]) -> bool
-    ensures { result ≡ list_any (λ p. matches_le (tree p.now) || marks_tree marks.now (tree p.now)) parts.now }
-{
-    parts
-        .iter()
-        .any(|part| matches_le(part) || is_marked(marks, part))
 }
 
 /// Whether one of these is a call that gives a sample without being given one.
@@ -98,7 +63,7 @@ fn sets_le(rule: &Rule) -> bool
 }
 
 /// Whether an expression is a selector that is marked.
-fn is_marked(marks: &Marks, expr: &Expr) -> bool
+pub(crate) fn is_marked(marks: &Marks, expr: &Expr) -> bool
     ensures { result ≡ marks_tree marks.now (tree expr.now) }
 {
     match expr {
@@ -110,7 +75,7 @@ fn is_marked(marks: &Marks, expr: &Expr) -> bool
 }
 
 /// Whether an expression is a call that gives a sample without being given one.
-fn is_source(expr: &Expr) -> bool
+pub(crate) fn is_source(expr: &Expr) -> bool
     ensures { result ≡ is_source (tree expr.now) }
 {
     match Function::called_by(expr) {
@@ -141,7 +106,7 @@ fn gives_alone(effect: LabelEffect, bare: bool) -> bool
 }
 
 /// Whether an expression is a selector with a matcher on `le`.
-fn matches_le(expr: &Expr) -> bool
+pub(crate) fn matches_le(expr: &Expr) -> bool
     ensures { result ≡ matches_le (tree expr.now) }
 {
     match expr {

@@ -7,7 +7,6 @@ ghost use Rattle.lf_open.specs.Constructs.{NarrowsFork, SaysCyclicName};
 ghost use Rattle.lf_open.specs.views.Known.{IsKnown, rules_of};
 ghost use Rattle.lf_open.specs.views.Names.{narrows};
 
-use crate::choosing::both;
 use crate::known::Known;
 use lf_ast::{Expr, Matcher, selected_name};
 use lf_base::Memory;
@@ -33,8 +32,11 @@ pub(crate) fn narrows_fork(known: &Known<'_>, alloc: Global, expr: &Expr) -> Res
     requires { IsKnown known.now }
     ensures { IfOk result (λ found. IsTrue found ↔ NarrowsFork (rules_of known.now) (tree expr.now)) }
 {
-    let fork = known.forks.is_in(alloc, expr)?;
-    Ok(both(narrows(expr), fork))
+    if narrows(expr) {
+        known.forks.is_in(alloc, expr)
+    } else {
+        Ok(false)
+    }
 }
 
 /// Whether an expression is a selector that says a name and has a matcher on another label than the metric name.

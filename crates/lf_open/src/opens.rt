@@ -7,12 +7,14 @@ ghost use Rattle.lf_open.specs.OpenList.{AreOpen, AreOpenOf};
 ghost use Rattle.lf_open.specs.views.Known.{IsKnown, rules_of};
 ghost use Rattle.lf_open.specs.views.Opens.{AreOpens, AreReady, IsFirst, IsListOf, rules_at};
 
+use crate::adding::push_all;
 use crate::choosing::number;
 use crate::known::Known;
 use crate::marks::Marks;
 use crate::nodes::open_in;
 use crate::open_at::OpenAt;
 use crate::ordering::in_order;
+use crate::read_graph::ReadGraph;
 use crate::reading::{le_marks, loud_marks};
 use lf_ast::Rule;
 use lf_base::{Memory, Seq};
@@ -37,6 +39,7 @@ pub struct Opens<'a> {
     rules: &'a Seq<Rule>,
     sources: Sources,
     graph: NameGraph,
+    reading: ReadGraph,
     forks: Forks,
     loud: Marks,
     on_le: Marks,
@@ -49,6 +52,7 @@ impl<'a> Opens<'a> {
     {
         let sources = Sources::of(alloc, rules)?;
         let graph = NameGraph::of(alloc, &sources)?;
+        let reading = ReadGraph::of(alloc, rules, &sources)?;
         let forks = Forks::of(alloc, rules, &sources)?;
         let loud = loud_marks(alloc, rules, &sources, &graph)?;
         let on_le = le_marks(alloc, rules, &sources, &graph)?;
@@ -56,6 +60,7 @@ impl<'a> Opens<'a> {
             rules,
             sources,
             graph,
+            reading,
             forks,
             loud,
             on_le,
@@ -94,6 +99,7 @@ impl<'a> Opens<'a> {
             rules: self.rules,
             sources: &self.sources,
             graph: &self.graph,
+            reading: &self.reading,
             forks: &self.forks,
             loud: &self.loud,
             on_le: &self.on_le,
@@ -142,16 +148,6 @@ fn other_list(known: &Known<'_>, alloc: Global, number: u32, i: u32) -> Result<S
     own_list(known, alloc, number as usize)
 }
 
-/// Puts open constructs behind others.
-fn push_all(found: &mut Seq<OpenAt>, more: &[OpenAt]) -> Result<(), Memory>
-    ensures { OnOk result (found.new ≡ found.old ++ more.now) }
-{
-    for item in more {
-        found.push(*item)?;
-    }
-    Ok(())
-}
-
 /// What stands open in the expression of the rule of a number.
 fn own_list(known: &Known<'_>, alloc: Global, k: usize) -> Result<Seq<OpenAt>, Memory>
     requires known { IsKnown known.now }
@@ -159,7 +155,8 @@ fn own_list(known: &Known<'_>, alloc: Global, k: usize) -> Result<Seq<OpenAt>, M
     ensures { IfOk result (AreOpenOf (rules_of known.now) k) }
 {
     let rule = number(k)?;
-    let found = open_in(known, alloc, rule, &known.rules.get(k).expr)?;
+    let selected = known.sources.selected_by(k);
+    let found = open_in(known, alloc, rule, selected, &known.rules.get(k).expr)?;
     let sorted = in_order(alloc, found)?;
     Ok(Seq::from_vec(sorted))
 }

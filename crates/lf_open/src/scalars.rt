@@ -1,89 +1,44 @@
 //! Which expressions are scalars.
-ghost use Rattle.std.specs.Prelude.{◌≡◌, ◌&&◌, ◌∷◌, [], Bool, length, map, IfOk};
+ghost use Rattle.std.specs.Prelude.{◌≡◌};
+ghost use Rattle.std.specs.List.{list_all};
 ghost use Rattle.lf_ast.specs.Functions.{function_named};
-ghost use Rattle.lf_ast.specs.Tree.{parts_of, tree};
+ghost use Rattle.lf_ast.specs.Tree.{tree};
 ghost use Rattle.lf_ast.specs.Types.{is_scalar};
-ghost use Rattle.lf_semantics.specs.Parts.{given_by, is_scalar_part};
+ghost use Rattle.lf_deps.specs.views.Selecting.{is_scalar_call};
+ghost use Rattle.lf_semantics.specs.Parts.{given_by};
+ghost use Rattle.lf_open.specs.views.Told.{scalar_by};
 
-use lf_ast::walk::{Fold, Parts, fold_up};
+use crate::told::Told;
 use lf_ast::{Expr, Function, is_scalar};
-use lf_base::Memory;
-use std::alloc::Global;
-
-/// Whether an expression is a scalar.
-pub(crate) fn is_scalar_part(alloc: Global, expr: &Expr) -> Result<bool, Memory>
-    ensures { IfOk result (λ found. found ≡ is_scalar_part (tree expr.now)) }
-{
-    fold_up(alloc, &Scalars, expr)
-}
-
-/// Tells of an expression whether it is a scalar, by its parts.
-#[derive(Drop)]
-struct Scalars;
-
-impl Fold for Scalars {
-    type Value = bool;
-
-    type Note = ();
-
-    ghost use Rattle.lf_ast.specs.declared.walk.choosing.Parts.TheVariants.{All};
-    ghost use Rattle.lf_semantics.specs.Parts.{is_scalar_part};
-
-    ghost value = { λ s e. is_scalar_part e };
-
-    ghost needed = { λ s e. All };
-
-    ghost notes = { λ e note. Unit {0} };
-
-    fn enter(&self, _expr: &Expr) -> (Parts, ()) {
-        (Parts::All, ())
-    }
-
-    fn step(
-        &self,
-        _alloc: Global,
-        expr: &Expr,
-        _note: (),
-        values: Vec<bool>,
-    ) -> Result<bool, Memory>
-        requires { values.items ≡ map is_scalar_part (parts_of (tree expr.now)) }
-        ensures { IfOk result (λ made. made ≡ is_scalar_part (tree expr.now)) }
-    {
-        Ok(scalar_by(expr, values))
-    }
-}
 
 /// Whether an expression is a scalar, by whether its parts are.
-fn scalar_by(expr: &Expr, parts: Vec<bool>) -> bool
-    requires { parts.items ≡ map is_scalar_part (parts_of (tree expr.now)) }
-    ensures { result ≡ is_scalar_part (tree expr.now) }
+pub(crate) fn is_scalar_by(expr: &Expr, parts: &[Told]) -> bool
+    ensures { result ≡ scalar_by (tree expr.now) parts.now }
 {
     match expr {
         Expr::Number { .. } => true,
         Expr::Str { .. } | Expr::Selector { .. } | Expr::Subquery { .. } => false,
-        Expr::Paren { .. } | Expr::Unary { .. } => the_only(parts),
-        Expr::Binary { .. } => are_both(parts),
+        Expr::Paren { .. } | Expr::Unary { .. } | Expr::Binary { .. } => are_scalars(parts),
         Expr::Call { name, .. } => gives_scalar(name.as_str()),
         Expr::Aggregate { .. } => false,
     }
 }
 
-/// The only one of these.
-fn the_only(mut parts: Vec<bool>) -> bool
-    requires { length parts.items ≡ 1 }
-    ensures { parts.items ≡ result ∷ [] }
+/// Whether these are all scalars.
+fn are_scalars(parts: &[Told]) -> bool
+    ensures { result ≡ list_all (λ t. t.scalar) parts.now }
 {
-    parts.pop().unwrap()
+    parts.iter().all(|part| part.scalar)
 }
 
-/// Whether both of two are true.
-fn are_both(mut sides: Vec<bool>) -> bool
-    requires { length sides.items ≡ 2 }
-    ensures { (l r : Bool) → sides.items ≡ l ∷ r ∷ [] → result ≡ (l && r) }
+/// Whether an expression is a call that is a scalar.
+pub(crate) fn is_scalar_call(expr: &Expr) -> bool
+    ensures { result ≡ is_scalar_call (tree expr.now) }
 {
-    let right = sides.pop().unwrap();
-    let left = sides.pop().unwrap();
-    left && right
+    match expr {
+        Expr::Call { name, .. } => gives_scalar(name.as_str()),
+        _ => false,
+    }
 }
 
 /// Whether a call of this name is a scalar.

@@ -10,6 +10,7 @@ use Rattle.lf_open.specs.OpenList.{AreOpen, AreOpenOfEach}
 use Rattle.lf_open.specs.declared.open_at.OpenAt.{OpenAt}
 use Rattle.lf_open.specs.declared.opens.Opens.{Opens}
 use Rattle.lf_open.specs.views.Marks.{TellsReading}
+use Rattle.lf_open.specs.views.ReadNames.{IsReadGraph}
 
 -- the rules
 abbrev pub rules_at : Opens → List RuleTree
@@ -19,6 +20,7 @@ rules_at o = rule_trees o.rules.now
 pub record AreReady (o : Opens) : Type 0 where
   pub sources : IsSourcesOf (rules_at o) o.sources
   pub graph : IsNameGraphOf o.sources o.graph
+  pub reading : IsReadGraph (rules_at o) o.reading
   pub forks : TellsSelectors (rules_at o) (test_of o.forks)
   pub loud : TellsReading (rules_at o) (λ r. has_own_source r.expr) o.loud
   pub on_le : TellsReading (rules_at o) names_le o.on_le

@@ -1,0 +1,18 @@
+use Rattle.std.proofs.Common.{List}
+use Rattle.lf_ast.specs.Rules.{RuleTree}
+use Rattle.lf_ast.specs.Tree.{Tree, tree}
+use Rattle.lf_open.specs.declared.open_at.OpenAt.{OpenAt}
+use Rattle.lf_open.specs.views.Adding.{Adds, IsByForm, IsByItself, IsByNames}
+use Rattle.lf_open.specs.views.Known.{rules_of}
+use Rattle.lf_open.proofs.Added.{adds_both, on_ok}
+use Rattle.lf_open.proofs.nodes.add_by_itself.Goals as goal
+
+pub returns : goal.returns
+returns c =
+    let rules : List RuleTree = rules_of c.args.known.now in
+    let k = c.args.rule in
+    let e : Tree = tree c.args.expr.now in
+    let old : List OpenAt = c.args.found.now.items in
+    let first : List OpenAt = c.add_by_form.new.found.items in
+    let new : List OpenAt = c.add_by_names.new.found.items in
+    on_ok (Adds (IsByNames rules k e) first new) (Adds (IsByItself rules k e) old new) c.add_by_names.result (λ a. adds_both (IsByForm rules k e) (IsByNames rules k e) old first new (c.in_ok-add_by_form.ensures rules) a) c.add_by_names.ensures

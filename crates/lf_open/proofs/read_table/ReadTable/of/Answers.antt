@@ -1,0 +1,26 @@
+use Rattle.std.proofs.Common.{◌≡◌, [], List, Option, Some, refl, sym, ◌∙◌, ap, subst}
+use Rattle.std.specs.List.{Contains}
+use Rattle.lf_ast.specs.Labels.{Bytes}
+use Rattle.lf_deps.specs.views.Search.{Grows}
+use Rattle.lf_open.proofs.Grown.{grows_more, grows_none, grows_whole}
+use Rattle.lf_open.specs.views.ReadNames.{said_name, with_said}
+use Rattle.lf_open.proofs.ReadTables.{grows_said, table_of}
+use Rattle.lf_open.proofs.read_table.ReadTable.of.Goals as goal
+
+pub add-requires-clause-placed : goal.add-requires-clause-placed
+add-requires-clause-placed c = λ n e.
+    let P : Option Bytes → Type 0 = λ z. Contains c.args.selectors.now z in
+    c.requires.placed n (subst P e (c.loop-selector.selector-index, c.loop-selector-test.true, sym c.selector-item.is))
+
+pub loop-selector-preserved : goal.loop-selector-preserved
+loop-selector-preserved c = (
+  c.in_ok-add.ensures.count,
+  grows_more said_name c.args.selectors.now c.loop-selector.selector-index c.selector-item.result c.selector-item.result [] c.loop-selector.table.names c.add.new.self.names c.loop-selector-test.true c.selector-item.is c.loop-selector.invariant.1
+  (subst (Grows (said_name c.selector-item.result) c.loop-selector.table.names) (sym c.in_ok-add.ensures.names) (grows_said c.loop-selector.table.names c.selector-item.result)),
+  λ rules is. c.in_ok-add.ensures.read rules is (c.loop-selector.invariant.2 rules is),
+)
+
+pub returns : goal.returns
+returns c = λ rules is.
+    table_of rules c.args.graph.now.names c.args.selectors.now c.loop-selector.table (c.loop-selector.invariant.2 rules is)
+    (grows_whole said_name c.args.selectors.now c.loop-selector.selector-index [] c.loop-selector.table.names c.loop-selector-test.false c.loop-selector.invariant.1)
