@@ -218,8 +218,8 @@ module _ (f : Facts) where
     of_others is = record {
       scalar = ap (λ (t : Told). t.scalar) t ∙ gathered_scalar (own f e ps) ps ∙ sym is;
       fork =
-      ap (λ (t : Told). t.fork) t ∙ gathered_any (λ t. t.fork) (λ a b. refl) (own f e ps) ps
-      ∙ ap (λ (b : Bool). own_fork f e || b) (any_told (told f) (λ t. t.fork) (has_passing (test_of f.forks)) (parts_of e) (λ p c. (each p c).fork)) ∙ sym (fork_parts e is);
+          ap (λ (t : Told). t.fork) t ∙ gathered_any (λ t. t.fork) (λ a b. refl) (own f e ps) ps
+          ∙ ap (λ (b : Bool). own_fork f e || b) (any_told (told f) (λ t. t.fork) (has_passing (test_of f.forks)) (parts_of e) (λ p c. (each p c).fork)) ∙ sym (fork_parts e is);
       loud = ap (λ (t : Told). t.loud) t ∙ gathered_any (λ t. t.loud) (λ a b. refl) (own f e ps) ps ∙ any_parts (λ t. t.loud) (own_loud f) (λ p c. (each p c).loud);
       bucket = ap (λ (t : Told). t.bucket) t ∙ gathered_any (λ t. t.bucket) (λ a b. refl) (own f e ps) ps ∙ any_parts (λ t. t.bucket) (own_bucket f) (λ p c. (each p c).bucket);
       reads = λ k. all (λ t. t.reads) (λ a b. in_joined a.reads b.reads) (own_numbers f) k (λ c. elim (of_put (own_numbers f e) [] k c) [ inl d ↦ d | inr d ↦ absurd (none_in k d) ]) (λ c. in_put (own_numbers f e) [] k (inl c)) (λ p c. (each p c).reads k);
@@ -247,17 +247,17 @@ module _ (f : Facts) where
           λ c. elim ((gathered_has field law (own f e ps) ps x).0 (subst (λ (z : Told). Contains (field z) x) t c)) [
             | inl d ↦ (e, subst (λ (l : List Tree). Contains l e) (sym stands) (here e (flat_map standing (parts_of e))), own_to d)
             | inr s ↦ (
-              let m = map_member (told f) (parts_of e) s.0 s.1 in
-              let y = (parts m.0 m.1).0 (subst (λ (z : Told). Contains (field z) x) m.2 s.2) in
-              (y.0, subst (λ (l : List Tree). Contains l y.0) (sym stands) (behind e (flat_map standing (parts_of e)) y.0 (in_flat_map standing (parts_of e) m.0 y.0 m.1 y.1)), y.2)
-              )
+                let m = map_member (told f) (parts_of e) s.0 s.1 in
+                let y = (parts m.0 m.1).0 (subst (λ (z : Told). Contains (field z) x) m.2 s.2) in
+                (y.0, subst (λ (l : List Tree). Contains l y.0) (sym stands) (behind e (flat_map standing (parts_of e)) y.0 (in_flat_map standing (parts_of e) m.0 y.0 m.1 y.1)), y.2)
+                )
           ],
           λ h. subst (λ (z : Told). Contains (field z) x) (sym t) ((gathered_has field law (own f e ps) ps x).1 (elim (first_or_behind e (flat_map standing (parts_of e)) h.0 (subst (λ (l : List Tree). Contains l h.0) stands h.1)) [
             | inl same ↦ inl (own_from (subst (λ (z : Tree). Contains (its z) x) (sym same) h.2))
             | inr d ↦ (
-              let p = of_flat_map standing (parts_of e) h.0 d in
-              inr (told f p.0, in_map (told f) (parts_of e) p.0 p.1, (parts p.0 p.1).1 (h.0, p.2, h.2))
-              )
+                let p = of_flat_map standing (parts_of e) h.0 d in
+                inr (told f p.0, in_map (told f) (parts_of e) p.0 p.1, (parts p.0 p.1).1 (h.0, p.2, h.2))
+                )
           ])),
         )
 

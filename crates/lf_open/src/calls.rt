@@ -34,11 +34,23 @@ pub(crate) fn open_at_call(
     match effect {
         Some(LabelEffect::HistogramQuantile) => {
             push_if(any_fork(args), Construct::Forked, rule, span, &mut found)?;
-            push_if(any_bucket(args), Construct::NamedBucket, rule, span, &mut found)?;
+            push_if(
+                any_bucket(args),
+                Construct::NamedBucket,
+                rule,
+                span,
+                &mut found,
+            )?;
             Ok(found)
         }
         Some(LabelEffect::Absent) => {
-            push_if(any_loud(args), Construct::OpenAbsent, rule, span, &mut found)?;
+            push_if(
+                any_loud(args),
+                Construct::OpenAbsent,
+                rule,
+                span,
+                &mut found,
+            )?;
             Ok(found)
         }
         _ => Ok(found),

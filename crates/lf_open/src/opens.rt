@@ -5,7 +5,7 @@ ghost use Rattle.lf_ast.specs.Rules.{RuleTree, rule_trees};
 ghost use Rattle.lf_deps.specs.Ordering.{without};
 ghost use Rattle.lf_open.specs.OpenList.{AreOpen, AreOpenOf};
 ghost use Rattle.lf_open.specs.views.Known.{IsKnown, rules_of};
-ghost use Rattle.lf_open.specs.views.Opens.{AreOpens, AreReady, IsFirst, IsListOf, rules_at};
+ghost use Rattle.lf_open.specs.views.Opens.{AreMarked, AreOpens, AreReads, AreReady, IsFirst, IsListOf, rules_at};
 
 use crate::adding::push_all;
 use crate::choosing::number;
@@ -37,9 +37,21 @@ pub fn open_constructs(alloc: Global, rules: &Seq<Rule>, i: u32) -> Result<Seq<O
 #[derive(Drop)]
 pub struct Opens<'a> {
     rules: &'a Seq<Rule>,
+    reads: Reads,
+    marked: Marked,
+}
+
+/// What rules read.
+#[derive(Drop)]
+struct Reads {
     sources: Sources,
     graph: NameGraph,
-    reading: ReadGraph,
+    names: ReadGraph,
+}
+
+/// Which rules hold what.
+#[derive(Drop)]
+struct Marked {
     forks: Forks,
     loud: Marks,
     on_le: Marks,
@@ -50,20 +62,12 @@ impl<'a> Opens<'a> {
     pub fn of(alloc: Global, rules: &'a Seq<Rule>) -> Result<Opens<'a>, Memory>
         ensures { IfOk result (AreOpens (rule_trees rules.now)) }
     {
-        let sources = Sources::of(alloc, rules)?;
-        let graph = NameGraph::of(alloc, &sources)?;
-        let reading = ReadGraph::of(alloc, rules, &sources)?;
-        let forks = Forks::of(alloc, rules, &sources)?;
-        let loud = loud_marks(alloc, rules, &sources, &graph)?;
-        let on_le = le_marks(alloc, rules, &sources, &graph)?;
+        let reads = Reads::of(alloc, rules)?;
+        let marked = Marked::of(alloc, rules, &reads)?;
         Ok(Opens {
             rules,
-            sources,
-            graph,
-            reading,
-            forks,
-            loud,
-            on_le,
+            reads,
+            marked,
         })
     }
 
@@ -84,7 +88,7 @@ impl<'a> Opens<'a> {
         ensures { (rules : List RuleTree) → AreOpens rules self.now → IfOk result (AreOpen rules i) }
     {
         let known = self.known();
-        let reach = reach_of(alloc, &self.sources, &self.graph, i)?;
+        let reach = reach_of(alloc, &self.reads.sources, &self.reads.graph, i)?;
         let mut found = own_list(&known, alloc, i as usize)?;
         push_others(&known, alloc, reach.as_slice(), i, &mut found)?;
         Ok(found)
@@ -97,13 +101,42 @@ impl<'a> Opens<'a> {
     {
         Known {
             rules: self.rules,
-            sources: &self.sources,
-            graph: &self.graph,
-            reading: &self.reading,
-            forks: &self.forks,
-            loud: &self.loud,
-            on_le: &self.on_le,
+            sources: &self.reads.sources,
+            graph: &self.reads.graph,
+            reading: &self.reads.names,
+            forks: &self.marked.forks,
+            loud: &self.marked.loud,
+            on_le: &self.marked.on_le,
         }
+    }
+}
+
+impl Reads {
+    /// What these rules read.
+    fn of(alloc: Global, rules: &Seq<Rule>) -> Result<Reads, Memory>
+        ensures { IfOk result (AreReads (rule_trees rules.now)) }
+    {
+        let sources = Sources::of(alloc, rules)?;
+        let graph = NameGraph::of(alloc, &sources)?;
+        let names = ReadGraph::of(alloc, rules, &sources)?;
+        Ok(Reads {
+            sources,
+            graph,
+            names,
+        })
+    }
+}
+
+impl Marked {
+    /// Which of these rules hold what, by what they read.
+    fn of(alloc: Global, rules: &Seq<Rule>, reads: &Reads) -> Result<Marked, Memory>
+        requires { AreReads (rule_trees rules.now) reads.now }
+        ensures { IfOk result (AreMarked (rule_trees rules.now)) }
+    {
+        let forks = Forks::of(alloc, rules, &reads.sources)?;
+        let loud = loud_marks(alloc, rules, &reads.sources, &reads.graph)?;
+        let on_le = le_marks(alloc, rules, &reads.sources, &reads.graph)?;
+        Ok(Marked { forks, loud, on_le })
     }
 }
 

@@ -56,12 +56,7 @@ impl ReadGraph {
         requires placed { IsPlaced self.now.names name.now }
         ensures { (rules : List RuleTree) → IsReadGraph rules self.now → IfOk result (AreNumbersBy rules self.now.names (Some name.now)) }
     {
-        reached_names(
-            alloc,
-            &self.graph,
-            self.names.len(),
-            self.names.place(name),
-        )
+        reached_names(alloc, &self.graph, self.names.len(), self.names.place(name))
     }
 
     /// The numbers of the names that a selector reads which says no name.
@@ -115,11 +110,7 @@ fn names_of(alloc: Global, rules: &Seq<Rule>, sources: &Sources) -> Result<TextS
 }
 
 /// Puts the names that selectors say behind others, each unless it is there.
-fn add_selected(
-    alloc: Global,
-    selected: &[Option<Text>],
-    names: &mut TextSet,
-) -> Result<(), Memory>
+fn add_selected(alloc: Global, selected: &[Option<Text>], names: &mut TextSet) -> Result<(), Memory>
     ensures { OnOk result (Grows (said_names selected.now) names.old names.new) }
 {
     for selector in selected {

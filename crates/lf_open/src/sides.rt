@@ -29,9 +29,21 @@ pub(crate) fn open_at_operator(
     let joined = joins(op, left, right);
     let loud = is_unless(op) && right.loud;
     let mut found = Seq::new(alloc);
-    push_if(vectors && shared, Construct::SharedMetric, rule, span, &mut found)?;
+    push_if(
+        vectors && shared,
+        Construct::SharedMetric,
+        rule,
+        span,
+        &mut found,
+    )?;
     push_if(vectors && joined, Construct::Forked, rule, span, &mut found)?;
-    push_if(vectors && loud, Construct::LoudUnless, rule, span, &mut found)?;
+    push_if(
+        vectors && loud,
+        Construct::LoudUnless,
+        rule,
+        span,
+        &mut found,
+    )?;
     Ok(found)
 }
 

@@ -60,13 +60,7 @@ impl<'a> Fold for Telling<'a> {
         (Parts::All, ())
     }
 
-    fn step(
-        &self,
-        alloc: Global,
-        expr: &Expr,
-        _note: (),
-        values: Vec<Told>,
-    ) -> Result<Told, Memory>
+    fn step(&self, alloc: Global, expr: &Expr, _note: (), values: Vec<Told>) -> Result<Told, Memory>
         requires { values.items ≡ map (told (facts_of self.now)) (parts_of (tree expr.now)) }
         ensures { IfOk result (λ made. made ≡ told (facts_of self.now) (tree expr.now)) }
     {
@@ -140,12 +134,7 @@ impl<'a> Telling<'a> {
     }
 
     /// What is open at an expression by what is told of its parts.
-    fn own_opens(
-        &self,
-        alloc: Global,
-        expr: &Expr,
-        parts: &[Told],
-    ) -> Result<Seq<OpenAt>, Memory>
+    fn own_opens(&self, alloc: Global, expr: &Expr, parts: &[Told]) -> Result<Seq<OpenAt>, Memory>
         requires { length parts.now ≡ length (parts_of (tree expr.now)) }
         ensures { IfOk result (λ found. found ≡ own_opens (facts_of self.now) (tree expr.now) parts.now) }
     {

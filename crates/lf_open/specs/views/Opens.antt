@@ -8,7 +8,9 @@ use Rattle.lf_forks.specs.views.Holding.{test_of}
 use Rattle.lf_open.specs.Holding.{has_own_source, names_le}
 use Rattle.lf_open.specs.OpenList.{AreOpen, AreOpenOfEach}
 use Rattle.lf_open.specs.declared.open_at.OpenAt.{OpenAt}
+use Rattle.lf_open.specs.declared.opens.Marked.{Marked}
 use Rattle.lf_open.specs.declared.opens.Opens.{Opens}
+use Rattle.lf_open.specs.declared.opens.Reads.{Reads}
 use Rattle.lf_open.specs.views.Marks.{TellsReading}
 use Rattle.lf_open.specs.views.ReadNames.{IsReadGraph}
 
@@ -16,14 +18,22 @@ use Rattle.lf_open.specs.views.ReadNames.{IsReadGraph}
 abbrev pub rules_at : Opens → List RuleTree
 rules_at o = rule_trees o.rules.now
 
+-- what rules read is as it is to be
+pub record AreReads (rules : List RuleTree) (x : Reads) : Type 0 where
+  pub sources : IsSourcesOf rules x.sources
+  pub graph : IsNameGraphOf x.sources x.graph
+  pub reading : IsReadGraph rules x.names
+
+-- and which of them hold what
+pub record AreMarked (rules : List RuleTree) (x : Marked) : Type 0 where
+  pub forks : TellsSelectors rules (test_of x.forks)
+  pub loud : TellsReading rules (λ r. has_own_source r.expr) x.loud
+  pub on_le : TellsReading rules names_le x.on_le
+
 -- all is as it is to be
 pub record AreReady (o : Opens) : Type 0 where
-  pub sources : IsSourcesOf (rules_at o) o.sources
-  pub graph : IsNameGraphOf o.sources o.graph
-  pub reading : IsReadGraph (rules_at o) o.reading
-  pub forks : TellsSelectors (rules_at o) (test_of o.forks)
-  pub loud : TellsReading (rules_at o) (λ r. has_own_source r.expr) o.loud
-  pub on_le : TellsReading (rules_at o) names_le o.on_le
+  pub reads : AreReads (rules_at o) o.reads
+  pub marked : AreMarked (rules_at o) o.marked
 
 -- it is of these rules
 abbrev pub AreOpens : List RuleTree → Opens → Type 0

@@ -15,7 +15,7 @@ push_others-requires-clause-rules c = λ k there.
     let rules : List RuleTree = rules_at c.args.self.now in
     let reach : List ℕ = c.in_ok-reach.reach in
     let in_reach : Contains reach k = subst (λ (l : List ℕ). Contains l k) c.as_slice.ensures there in
-    let lt : k < length rules = are_rules rules c.args.i reach c.requires.rule (λ of at j. c.in_ok-reach.ensures.members rules c.requires.opens.sources of at j) k in_reach in
+    let lt : k < length rules = are_rules rules c.args.i reach c.requires.rule (λ of at j. c.in_ok-reach.ensures.members rules c.requires.opens.reads.sources of at j) k in_reach in
     omega (arith, lt, ap length c.known-known.ensures.1, trees_count c.known-known.result.rules.now)
 
 pub returns : goal.returns
@@ -29,5 +29,5 @@ returns c = λ rules are.
     let pushed : IsListOf (rules_of c.known-known.result) (without i c.as_slice.result.now) own found = c.in_ok-push_others.ensures in
     let of_mine : IsListOf mine (without i c.as_slice.result.now) own found = subst (λ (rs : List RuleTree). IsListOf rs (without i c.as_slice.result.now) own found) c.known-known.ensures.1 pushed in
     let listed : IsListOf mine (without i reach) own found = subst (λ (l : List ℕ). IsListOf mine (without i l) own found) c.as_slice.ensures of_mine in
-    let all = whole mine i reach own found c.requires.rule (λ of at k. c.in_ok-reach.ensures.members mine c.requires.opens.sources of at k) c.in_ok-reach.ensures.ascending own_is listed in
+    let all = whole mine i reach own found c.requires.rule (λ of at k. c.in_ok-reach.ensures.members mine c.requires.opens.reads.sources of at k) c.in_ok-reach.ensures.ascending own_is listed in
     subst (λ (rs : List RuleTree). AreOpen rs i found) (sym are.0) all

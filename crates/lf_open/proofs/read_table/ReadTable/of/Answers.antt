@@ -16,7 +16,7 @@ pub loop-selector-preserved : goal.loop-selector-preserved
 loop-selector-preserved c = (
   c.in_ok-add.ensures.count,
   grows_more said_name c.args.selectors.now c.loop-selector.selector-index c.selector-item.result c.selector-item.result [] c.loop-selector.table.names c.add.new.self.names c.loop-selector-test.true c.selector-item.is c.loop-selector.invariant.1
-  (subst (Grows (said_name c.selector-item.result) c.loop-selector.table.names) (sym c.in_ok-add.ensures.names) (grows_said c.loop-selector.table.names c.selector-item.result)),
+      (subst (Grows (said_name c.selector-item.result) c.loop-selector.table.names) (sym c.in_ok-add.ensures.names) (grows_said c.loop-selector.table.names c.selector-item.result)),
   λ rules is. c.in_ok-add.ensures.read rules is (c.loop-selector.invariant.2 rules is),
 )
 
