@@ -9,6 +9,9 @@ use Rattle.lf_classes.proofs.universe.Universe.TheSendSync as universe
 use Rattle.std.proofs.option.Option.TheSendSync as option
 use Rattle.lf_deps.proofs.name_graph.NameGraph.TheSendSync as name_graph
 use Rattle.lf_open.proofs.marks.Marks.TheSendSync as marks
+use Rattle.lf_open.proofs.opens.Marked.TheSendSync as marked
+use Rattle.lf_open.proofs.opens.Reads.TheSendSync as reads
+use Rattle.lf_open.proofs.read_graph.ReadGraph.TheSendSync as read_graph
 use Rattle.lf_candidates.proofs.named_row.NamedRow.TheSendSync as named_row
 use Rattle.lf_built.proofs.part_rows.PartRows.TheSendSync as part_rows
 use Rattle.lf_worlds.proofs.readings.Readings.TheSendSync as readings
@@ -36,4 +39,4 @@ returns g c =
 
 pub map_pieces-requires-sync-F : goal.map_pieces-requires-sync-F
 map_pieces-requires-sync-F g c κs within =
-    search (sendable, rule_sync, env.the_sync, recorded.the_field_sync, seq.the_sync, source.the_sync, spot.the_sync, universe.the_sync, option.the_sync, name_graph.the_sync, marks.the_sync, named_row.the_sync, part_rows.the_sync, readings.the_sync, recorders.the_sync, row.the_sync, text.the_sync, sources.the_sync, forks.the_sync, crosses) depth 40 fits 200000
+    search (sendable, rule_sync, env.the_sync, recorded.the_field_sync, seq.the_sync, source.the_sync, spot.the_sync, universe.the_sync, option.the_sync, name_graph.the_sync, marks.the_sync, marked.the_sync, reads.the_sync, read_graph.the_sync, named_row.the_sync, part_rows.the_sync, readings.the_sync, recorders.the_sync, row.the_sync, text.the_sync, sources.the_sync, forks.the_sync, crosses) depth 40 fits 200000
