@@ -17,7 +17,7 @@ use Rattle.lf_built.specs.views.Works.{AreTasks, Builds, marks_of, so_far}
 use Rattle.lf_built.proofs.Tasks.{and_nothing, nothing_and}
 
 pub begun : (p : Prepared) (i : ℕ) (r : RuleTree) (D : Given) (spot : Spot) (texts : List (Option ℕ)) (w : Work) → w.stack.items ≡ T.Visit spot texts ∷ [] → IsSpot (trees_of p) spot → tree_at spot ≡ r.expr → Stands (universe_of p) texts D
-    → w.marked.items ≡ i ∷ [] → w.unmarked ≡ length (trees_of p) → so_far w.made ≡ record { series = []; steps = []; selectors = 0 } → Builds p (begun_of p i r D) w
+    → w.marked ≡ i ∷ [] → w.unmarked ≡ length (trees_of p) → so_far w.made ≡ record { series = []; steps = []; selectors = 0 } → Builds p (begun_of p i r D) w
 begun p i r D spot texts w stack is_spot is_expr stands marked unmarked made =
     let tasks : List Task = Visit (want r.expr D) ∷ [] in
     let left : ℕ → List ℕ → Option Building = λ n m. outcome (universe_of p) (env_of p) (trees_of p) (forks_of p) n m tasks in

@@ -6,6 +6,7 @@ pub mod Efforts
 pub mod FirstRules
 pub mod Fits
 pub mod KnownNames
+pub mod Marked
 pub mod NamesRecorded
 pub mod OneMore
 pub mod PartSizes

@@ -174,7 +174,7 @@ module _ (p : Prepared) where
 
   pub entry_of : (k : ℕ) (D : Given) (before after : Work) (r : RuleTree) → slice_get (trees_of p) k ≡ Some r → (spot : Spot) (texts : List (Option ℕ)) → IsSpot (trees_of p) spot → tree_at spot ≡ r.expr
       → Stands (universe_of p) texts (losing (λ name. is_metric name || sets_label r name) D) → (middle last : List Pending) → last ≡ middle ++ T.Visit spot texts ∷ [] → middle ≡ before.stack.items ++ T.Finish ∷ []
-      → after.marked.items ≡ before.marked.items ++ k ∷ [] → before.unmarked ≡ suc after.unmarked → so_far after.made ≡ both (so_far before.made) (record { series = []; steps = []; selectors = 1 }) → after.stack.items ≡ last → IsEntered p k D before after
+      → after.marked ≡ before.marked ++ k ∷ [] → before.unmarked ≡ suc after.unmarked → so_far after.made ≡ both (so_far before.made) (record { series = []; steps = []; selectors = 1 }) → after.stack.items ≡ last → IsEntered p k D before after
   entry_of k D before after r is spot texts is_spot is_expr stands middle last a b marked unmarked made e = record {
     rule = r;
     is_rule = is;
@@ -203,7 +203,7 @@ module _ (p : Prepared) where
       let visit : Task = Visit (want r.expr (before_recording u env rules forks r D)) in
       let stack : stack_of after ≡ T.Visit entry.spot entry.texts ∷ T.Finish ∷ stack_of before =
       ap reverse entry.stack ∙ reverse-append (before.stack.items ++ T.Finish ∷ []) (T.Visit entry.spot entry.texts ∷ []) ∙ ap (λ (s : List Pending). T.Visit entry.spot entry.texts ∷ s) (reverse-append before.stack.items (T.Finish ∷ [])) in
-      let marks : marks_of after ≡ k ∷ marks_of before = ap reverse entry.marked ∙ reverse-append before.marked.items (k ∷ []) in
+      let marks : marks_of after ≡ k ∷ marks_of before = ap reverse entry.marked ∙ reverse-append before.marked (k ∷ []) in
       record {
         tasks = visit ∷ Finish ∷ tasks;
         are = subst (λ (s : List Pending). AreTasks p s (visit ∷ Finish ∷ tasks)) (sym stack)

@@ -4,6 +4,7 @@ pub mod Built
 pub mod Counts
 pub mod Fitting
 pub mod Indexed
+pub mod Marked
 pub mod PartRows
 pub mod Places
 pub mod Recorders

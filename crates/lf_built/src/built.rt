@@ -15,6 +15,7 @@ ghost use Rattle.lf_built.specs.views.Works.{Builds, so_far};
 
 use crate::bound::most_selectors;
 use crate::made::Made;
+use crate::marks::Marks;
 use crate::once::each_once;
 use crate::prepared::Prepared;
 use crate::spots::Spot;
@@ -131,7 +132,7 @@ fn begin<'a>(
         expr: &prepared.rules.get(number).expr,
     };
     let stack = vec![in alloc; Pending::Visit { spot, texts }]?;
-    let marked = vec![in alloc; number]?;
+    let marked = Marks::of(alloc, number)?;
     Ok(Work {
         stack,
         marked,

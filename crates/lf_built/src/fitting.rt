@@ -1,5 +1,5 @@
 //! Which rule makes a recorded name.
-ghost use Rattle.std.specs.Prelude.{◌≡◌, ℕ, List, None, Option, Some, reverse, slice_get, IfSome};
+ghost use Rattle.std.specs.Prelude.{◌≡◌, ℕ, List, None, Option, Some, false, reverse, slice_get, IfSome};
 ghost use Rattle.lf_ast.specs.Rules.{RuleTree};
 ghost use Rattle.lf_trials.specs.Built.{fits};
 ghost use Rattle.lf_trials.specs.Given.{Given};
@@ -8,6 +8,7 @@ ghost use Rattle.lf_candidates.specs.views.ClassTexts.{Stands};
 ghost use Rattle.lf_built.specs.views.Indexed.{IsPrepared, env_of, forks_of, trees_of, universe_of};
 ghost use Rattle.lf_built.specs.views.Fitting.{IsFirstRule};
 
+use crate::marks::Marks;
 use crate::prepared::Prepared;
 use lf_candidates::LabelTexts;
 
@@ -15,28 +16,20 @@ impl<'a> Prepared<'a> {
     /// The number of the first rule of a name that isn't marked and whose row, as it is recorded, holds the texts.
     pub(crate) fn first_fitting(
         &self,
-        marked: &[usize],
+        marked: &Marks,
         name: &str,
         texts: &LabelTexts,
     ) -> Option<usize>
         requires known { IsPrepared self.now }
         requires texts { (D : Given) × Stands (universe_of self.now) texts.now D }
-        ensures { (D : Given) → Stands (universe_of self.now) texts.now D → IsFirstRule (trees_of self.now) (first_rule (fits (universe_of self.now) (env_of self.now) (trees_of self.now) (forks_of self.now) (reverse marked.now) name.now D) 0 (trees_of self.now)) result }
+        ensures first { (D : Given) → Stands (universe_of self.now) texts.now D → IsFirstRule (trees_of self.now) (first_rule (fits (universe_of self.now) (env_of self.now) (trees_of self.now) (forks_of self.now) (reverse marked.now) name.now D) 0 (trees_of self.now)) result }
+        ensures free { IfSome result (λ number. is_marked (reverse marked.now) number ≡ false) }
     {
         for number in self.recorders.of_name(name) {
-            if !is_marked(marked, *number)
-                && texts.is_held_by(self.universe, self.recorded_row(*number))
-            {
+            if !marked.has(*number) && texts.is_held_by(self.universe, self.recorded_row(*number)) {
                 return Some(*number);
             }
         }
         None
     }
-}
-
-/// Whether a number is marked.
-fn is_marked(marked: &[usize], number: usize) -> bool
-    ensures { result ≡ is_marked (reverse marked.now) number }
-{
-    marked.iter().rev().any(|mark| number == *mark)
 }

@@ -1,11 +1,12 @@
 //! What is done with an expression, and behind a rule's.
-ghost use Rattle.std.specs.Prelude.{◌≡◌, ◌∷◌, ◌<◌, ◌≤◌, ◌+◌, ◌-◌, ◌^◌, ℕ, List, Option, Some, length, option_and_then, option_map, true, IfNone, IfOk, IfSome, OnOk};
+ghost use Rattle.std.specs.Prelude.{◌≡◌, ◌∷◌, ◌<◌, ◌≤◌, ◌+◌, ◌-◌, ◌^◌, ℕ, List, Option, Some, length, option_and_then, option_map, false, true, IfNone, IfOk, IfSome, OnOk};
 ghost use Rattle.std.specs.Option.{option_copied};
 ghost use Rattle.lf_ast.specs.Labels.{Bytes};
 ghost use Rattle.lf_ast.specs.Tree.{tree};
 ghost use Rattle.lf_ast.specs.declared.expr.Matcher.{Matcher};
 ghost use Rattle.lf_trials.specs.Building.{Building, one_more as with_one_more, with_series};
 ghost use Rattle.lf_trials.specs.Given.{Given};
+ghost use Rattle.lf_trials.specs.Reached.{is_marked};
 ghost use Rattle.lf_candidates.specs.views.ClassTexts.{KnowsName, Stands};
 ghost use Rattle.lf_built.specs.declared.prepared.Prepared.{Prepared};
 ghost use Rattle.lf_built.specs.declared.work.Pending.TheVariants.{Finish, Visit};
@@ -13,7 +14,7 @@ ghost use Rattle.lf_built.specs.views.Indexed.{IsPrepared, env_of, trees_of, uni
 ghost use Rattle.lf_built.specs.views.Places.{size};
 ghost use Rattle.lf_built.specs.views.Spots.{IsSelector, IsSpot, tree_at};
 ghost use Rattle.lf_built.specs.views.Tasks.{IsNoSelector, parts_wanted};
-ghost use Rattle.lf_built.specs.views.Works.{AreTasks, GoesOn, IsEntered, Leaves, LeavesBehind, all_of, by_rule_of, effort, expression_of, outcome_of, selector_of, so_far, stack_of, weight};
+ghost use Rattle.lf_built.specs.views.Works.{AreTasks, GoesOn, IsEntered, Leaves, LeavesBehind, all_of, by_rule_of, effort, expression_of, marks_of, outcome_of, selector_of, so_far, stack_of, weight};
 
 use crate::prepared::Prepared;
 use crate::series::{series_named, series_unnamed};
@@ -195,7 +196,7 @@ impl<'a> Prepared<'a> {
         if work.unmarked == 0 {
             return Ok(false);
         }
-        match self.first_fitting(work.marked.as_slice(), name, &texts) {
+        match self.first_fitting(&work.marked, name, &texts) {
             Some(number) => {
                 self.enter(number, texts, work)?;
                 Ok(true)
@@ -208,6 +209,7 @@ impl<'a> Prepared<'a> {
     fn enter(&self, number: usize, mut texts: LabelTexts, work: &mut Work<'a>) -> Result<(), Memory>
         requires known { IsPrepared self.now }
         requires number { number < length self.now.rules.now }
+        requires free { is_marked (marks_of work.old) number ≡ false }
         requires unmarked { 0 < work.old.unmarked }
         requires few { work.old.made.selectors < 2 ^ 64 - 1 }
         requires texts { (D : Given) × Stands (universe_of self.now) texts D }
@@ -225,7 +227,7 @@ impl<'a> Prepared<'a> {
         };
         work.made.add_selector();
         work.unmarked -= 1;
-        work.marked.push(number)?;
+        work.marked.put(number)?;
         work.stack.push(Pending::Finish)?;
         work.stack.push(Pending::Visit { spot, texts })?;
         Ok(())

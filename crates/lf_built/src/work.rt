@@ -3,6 +3,7 @@ ghost use Rattle.std.specs.Prelude.{◌≡◌, ◌++◌, reverse, IfOk, OnOk};
 ghost use Rattle.lf_built.specs.views.Works.{stack_of, tasks_of};
 
 use crate::made::Made;
+use crate::marks::Marks;
 use crate::spots::Spot;
 use lf_base::Memory;
 use lf_candidates::LabelTexts;
@@ -36,7 +37,7 @@ pub enum Parts<'a> {
 pub struct Work<'a> {
     pub stack: Vec<Pending<'a>>,
     /// The numbers of the rules whose expressions are being built, the first one's at first.
-    pub marked: Vec<usize>,
+    pub marked: Marks,
     /// How many rules aren't marked.
     pub unmarked: usize,
     pub made: Made,

@@ -1,11 +1,11 @@
 -- Rounds over rules put those in line that are ready.
-use Rattle.std.proofs.Common.{◌≡◌, ◌<◌, ◌⊎◌, inl, inr, ℕ, suc, ◌+◌, Bool, true, false, not, ◌&&◌, ◌||◌, cond, nat_lt, get_or, List, [], ◌∷◌, ◌++◌, length, Option, Some, None, refl, sym, ◌∙◌, ap, subst, true≢false, arith, length-append}
+use Rattle.std.proofs.Common.{◌≡◌, ◌<◌, ◌⊎◌, inl, inr, ℕ, suc, ◌+◌, Bool, true, false, not, ◌&&◌, ◌||◌, cond, nat_lt, get_or, List, [], ◌∷◌, ◌++◌, length, reverse, Option, Some, None, refl, sym, ◌∙◌, ap, subst, true≢false, arith, length-append}
 use Rattle.std.specs.Prelude.{slice_get}
 use Rattle.std.specs.List.{Contains}
 use Rattle.std.specs.Str.{bytes_eq}
 use Rattle.std.proofs.lemmas.Bool.{cases_lt}
 use Rattle.std.proofs.lemmas.Bool.Decides.{nat_tests}
-use Rattle.std.proofs.lemmas.List.{get_or-append-add, get_or_append_left}
+use Rattle.std.proofs.lemmas.List.{get_or-append-add, get_or_append_left, reverse-append}
 use Rattle.std.proofs.lemmas.List.Elements.{Contains-append_cases, Contains-append_left, Contains-append_right}
 use Rattle.lf_laws.proofs.Members.{behind, first_or_behind, here, none_in, only_one}
 use Rattle.lf_ast.specs.Labels.{Bytes}
@@ -190,3 +190,22 @@ module _ (rules : List RuleTree) where
             | inr settled ↦ inl (settled_still before.names after.names k round.stays settled)
           ];
         }
+
+-- what stands in a list stands in it the other way round
+
+reversed_first : (k : ℕ) (ks : List ℕ) → reverse (k ∷ ks) ≡ reverse ks ++ k ∷ []
+reversed_first k ks = reverse-append (k ∷ []) ks
+
+pub turned : (ks : List ℕ) (k : ℕ) → Contains ks k → Contains (reverse ks) k
+turned [] k there = absurd (none_in k there)
+turned (j ∷ js) k there = subst (λ (ls : List ℕ). Contains ls k) (sym (reversed_first j js)) (elim (first_or_behind j js k there) [
+  | inl e ↦ Contains-append_right (reverse js) (j ∷ []) k (subst (λ (n : ℕ). Contains (j ∷ []) n) e (here j []))
+  | inr behind_it ↦ Contains-append_left (reverse js) (j ∷ []) k (turned js k behind_it)
+])
+
+pub turned_back : (ks : List ℕ) (k : ℕ) → Contains (reverse ks) k → Contains ks k
+turned_back [] k there = absurd (none_in k there)
+turned_back (j ∷ js) k there = elim (Contains-append_cases (reverse js) (j ∷ []) k (subst (λ (ls : List ℕ). Contains ls k) (reversed_first j js) there)) [
+  | inl among ↦ behind j js k (turned_back js k among)
+  | inr last ↦ subst (λ (n : ℕ). Contains (j ∷ js) n) (only_one j k last) (here j js)
+]

@@ -31,7 +31,8 @@ impl Model for Line {
 impl Line {
     /// The line of the rules of some numbers. Those that read a cyclic name aren't in line.
     ///
-    /// It goes over the numbers in rounds, and ends with a round in which no rule is ready that wasn't: rules that stand behind those that they read need two.
+    /// It goes over the numbers in rounds, forwards and backwards in turn, and ends with a round in which no rule is ready that wasn't. So rules that stand behind those that
+    /// they read need two, and rules that stand before them three.
     pub fn of(
         alloc: Global,
         rules: &Seq<Rule>,
@@ -50,10 +51,11 @@ impl Line {
         };
         let mut left = Vec::from_slice(alloc, numbers)?;
         loop {
-            let later = line.round(alloc, rules, firsts, sources, left.as_slice())?;
+            let mut later = line.round(alloc, rules, firsts, sources, left.as_slice())?;
             if later.len() == left.len() {
                 return Ok(line);
             }
+            later.reverse();
             left = later;
         }
     }

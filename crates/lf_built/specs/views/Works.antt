@@ -33,7 +33,7 @@ abbrev pub stack_of : Work → List Pending
 stack_of w = reverse w.stack.items
 
 abbrev pub marks_of : Work → List ℕ
-marks_of w = reverse w.marked.items
+marks_of w = reverse w.marked
 
 -- each is one of these tasks, whose texts are given by classes
 abbrev pub AreTasks : Prepared → List Pending → List Task → Type 0
@@ -83,7 +83,7 @@ pub record IsEntered (p : Prepared) (k : ℕ) (D : Given) (before after : Work) 
   pub texts : List (Option ℕ)
   pub stands : Stands (universe_of p) texts (losing (λ name. is_metric name || sets_label rule name) D)
   pub stack : after.stack.items ≡ (before.stack.items ++ T.Finish ∷ []) ++ T.Visit spot texts ∷ []
-  pub marked : after.marked.items ≡ before.marked.items ++ k ∷ []
+  pub marked : after.marked ≡ before.marked ++ k ∷ []
   pub unmarked : before.unmarked ≡ suc after.unmarked
   pub made : so_far after.made ≡ both (so_far before.made) (record { series = []; steps = []; selectors = 1 })
 

@@ -19,7 +19,7 @@ returns c D r stands is =
     let same : rule_tree c.get.result.now ≡ r = same_Some (rule_tree c.get.result.now) r (sym own ∙ is) in
     let expr = ap (λ (x : RuleTree). x.expr) same in
     let at = subst (λ (t : Tree). StandsFrom (nodes r.expr) 0 t) (sym expr) (at_first r.expr) in (
-      begun p c.args.number r D _ c.args.texts (record { stack = c.in_ok-stack.stack; marked = c.in_ok-marked.marked; unmarked = c.len.result; made = c.nothing.result }) c.in_ok-stack.ensures.items (r, is, at) expr stands c.in_ok-marked.ensures.items
+      begun p c.args.number r D _ c.args.texts (record { stack = c.in_ok-stack.stack; marked = c.in_ok-marked.marked; unmarked = c.len.result; made = c.nothing.result }) c.in_ok-stack.ensures.items (r, is, at) expr stands c.in_ok-marked.ensures
           (c.len.ensures ∙ sym (length-map p.rules.now rule_tree)) c.nothing.ensures,
       ap (λ (b : Building). b.selectors) c.nothing.ensures,
     )

@@ -21,4 +21,4 @@ returns c D stands =
     let is : slice_get (trees_of p) c.args.number ≡ Some r = slice_get-map rule_tree p.rules.now c.args.number ∙ ap (option_map rule_tree) c.get-rule.ensures.value in
     let lost = c.lose.ensures.texts u D c.requires.known.within (c.as_slice-2.ensures.value ∙ c.requires.known.names) stands in
     let texts = subst (λ (ls : List RuleLabel). Stands u c.lose.new.self (losing (λ name. is_metric name || list_any (λ (l : RuleLabel). bytes_eq l.key name) ls) D)) c.as_slice.ensures lost in
-    entry_of p c.args.number D c.args.work.now _ r is _ c.lose.new.self (r, is, at_first r.expr) refl texts _ _ c.in_ok-push-3.ensures.items c.in_ok-push-2.ensures.items c.in_ok-push.ensures.items (omega (arith, c.requires.unmarked)) c.add_selector.ensures refl
+    entry_of p c.args.number D c.args.work.now _ r is _ c.lose.new.self (r, is, at_first r.expr) refl texts _ _ c.in_ok-push-2.ensures.items c.in_ok-push.ensures.items c.in_ok-put.ensures (omega (arith, c.requires.unmarked)) c.add_selector.ensures refl

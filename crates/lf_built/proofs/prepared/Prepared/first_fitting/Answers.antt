@@ -17,7 +17,7 @@ use Rattle.lf_built.specs.views.Fitting.{IsFirstRule}
 use Rattle.lf_built.proofs.Fits.{fits_by, none_fit, number_within, recorded_at, some_fits}
 use Rattle.lf_built.proofs.StandingParts.{recorded_shape}
 use Rattle.lf_built.proofs.prepared.Prepared.first_fitting.Goals as goal
-use Rattle.lf_built.proofs.prepared.Prepared.first_fitting.Goals.{else-not-is_marked-via-then-not-is_marked+else-is_held_by, else-not-is_marked-via-else-not-is_marked}
+use Rattle.lf_built.proofs.prepared.Prepared.first_fitting.Goals.{else-not-has-via-then-not-has+else-is_held_by, else-not-has-via-else-not-has}
 
 -- what is known of the number at an index
 module _ (p : Rattle.lf_built.specs.declared.prepared.Prepared.Prepared) (known : Rattle.lf_built.specs.views.Indexed.IsPrepared p) (name : Bytes) (items : List ℕ) (is : items ≡ numbers_of (records name) 0 (trees_of p)) (i : ℕ) (less : i < length items) where
@@ -40,8 +40,8 @@ is_held_by-requires-clause-shape c =
     let f = rule_at p c.requires.known c.args.name.now items (c.of_name-number-items.ensures (trees_of p) c.requires.known.recorders) i (omega (arith, c.loop-number-test.true)) in
     recorded_shape p c.requires.known f.0 c.recorded_row.result.now (c.recorded_row.ensures f.0 f.1)
 
-pub returns-then-is_held_by : goal.returns-then-is_held_by
-returns-then-is_held_by c D stands =
+pub returns-then-is_held_by-clause-first : goal.returns-then-is_held_by-clause-first
+returns-then-is_held_by-clause-first c D stands =
     let p = c.args.self.now in
     let name : Bytes = c.args.name.now in
     let items : List ℕ = c.of_name-number-items.result.now in
@@ -52,7 +52,7 @@ returns-then-is_held_by c D stands =
     let k : ℕ = get_or items i 0 in
     let row = c.recorded_row.ensures f.0 f.1 ∙ sym (recorded_at p c.requires.known k f.0 [] f.1) in
     let held : holds_texts (universe_of p) (get_or p.recorded.items k []) D ≡ true = sym (c.is_held_by.ensures D stands ∙ ap (λ (x : Sets). holds_texts (universe_of p) x D) row) ∙ c.if-is_held_by.true in
-    let unmarked : is_marked (reverse c.args.marked.now) k ≡ false = sym c.is_marked.ensures ∙ c.if-not-is_marked.true in
+    let unmarked : is_marked (reverse c.args.marked.now) k ≡ false = sym c.has.ensures ∙ c.if-not-has.true in
     let here : fits_by p c.args.marked.now D k ≡ true = ap (λ b. not b && holds_texts (universe_of p) (get_or p.recorded.items k []) D) unmarked ∙ held in
     let P : List ℕ → Type 0 = λ l. (j : ℕ) → j < i → fits_by p c.args.marked.now D (get_or l j 0) ≡ false in
     let Q : List ℕ → Type 0 = λ l. fits_by p c.args.marked.now D (get_or l i 0) ≡ true in
@@ -60,8 +60,8 @@ returns-then-is_held_by c D stands =
     let S : List ℕ → Type 0 = λ l. IsFirstRule (trees_of p) (first_rule (fits (universe_of p) (env_of p) (trees_of p) (forks_of p) (reverse c.args.marked.now) name D) 0 (trees_of p)) (Some (get_or l i 0)) in
     subst S (sym is) (some_fits p c.requires.known c.args.marked.now name D i (subst R is less) (subst P is (c.loop-number.invariant D stands)) (subst Q is here))
 
-pub returns : goal.returns
-returns c D stands =
+pub returns-clause-first : goal.returns-clause-first
+returns-clause-first c D stands =
     let p = c.args.self.now in
     let items : List ℕ = c.of_name-number-items.result.now in
     let is = c.of_name-number-items.ensures (trees_of p) c.requires.known.recorders in
@@ -84,9 +84,9 @@ loop-number-preserved c D stands =
     let f = rule_at p c.requires.known c.args.name.now items is i (omega (arith, c.loop-number-test.true)) in
     let k : ℕ = get_or items i 0 in
     below_more _ _ (c.loop-number.invariant D stands)
-    (elim c.else-not-is_marked.branch [
-      | else-not-is_marked-via-then-not-is_marked+else-is_held_by w ↦
+    (elim c.else-not-has.branch [
+      | else-not-has-via-then-not-has+else-is_held_by w ↦
           let row = w.recorded_row.ensures f.0 f.1 ∙ sym (recorded_at p c.requires.known k f.0 [] f.1) in
           held_no (not (is_marked (reverse c.args.marked.now) k)) (holds_texts (universe_of p) (get_or p.recorded.items k []) D) (sym (w.is_held_by.ensures D stands ∙ ap (λ (x : Sets). holds_texts (universe_of p) x D) row) ∙ w.if-is_held_by.false)
-      | else-not-is_marked-via-else-not-is_marked w ↦ unmarked_no c.args.marked.now k (holds_texts (universe_of p) (get_or p.recorded.items k []) D) (sym c.is_marked.ensures ∙ w.if-not-is_marked.false)
+      | else-not-has-via-else-not-has w ↦ unmarked_no c.args.marked.now k (holds_texts (universe_of p) (get_or p.recorded.items k []) D) (sym c.has.ensures ∙ w.if-not-has.false)
     ])

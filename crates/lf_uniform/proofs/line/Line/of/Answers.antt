@@ -1,8 +1,8 @@
-use Rattle.std.proofs.Common.{◌≡◌, ℕ, List, length, sym, ap, subst, arith, inl}
+use Rattle.std.proofs.Common.{◌≡◌, ◌⊎◌, ℕ, List, length, sym, ap, subst, arith, inl, inr}
 use Rattle.std.specs.List.{Contains}
 use Rattle.lf_ast.specs.Rules.{rule_trees}
 use Rattle.lf_uniform.specs.views.Lines.{IsRound}
-use Rattle.lf_uniform.proofs.Rounds.{each_later, last_round, no_entries}
+use Rattle.lf_uniform.proofs.Rounds.{each_later, last_round, no_entries, turned, turned_back}
 use Rattle.lf_uniform.proofs.line.Line.of.Goals as goal
 
 pub loop-left-init : goal.loop-left-init
@@ -30,8 +30,9 @@ loop-left-preserved c =
     let left : List ℕ = c.loop-left.left.items in
     let later : List ℕ = c.in_ok-later.later.items in
     let round = subst (λ (xs : List ℕ). IsRound rules c.loop-left.line xs c.round.new.self later) c.as_slice.ensures.value c.in_ok-later.ensures in
+    let stay = each_later rules c.args.numbers.now left later c.loop-left.line c.round.new.self round c.loop-left.invariant.each in
     record {
       entries = round.entries c.loop-left.invariant.entries;
-      each = each_later rules c.args.numbers.now left later c.loop-left.line c.round.new.self round c.loop-left.invariant.each;
-      below = λ k there. c.loop-left.invariant.below k (round.among k there);
+      each = λ k there. elim (stay k there) [ | inl waits ↦ inl (subst (λ (xs : List ℕ). Contains xs k) (sym c.reverse.ensures.items) (turned later k waits)) | inr settled ↦ inr settled ];
+      below = λ k there. c.loop-left.invariant.below k (round.among k (turned_back later k (subst (λ (xs : List ℕ). Contains xs k) c.reverse.ensures.items there)));
     }
