@@ -1,0 +1,5 @@
+pub mod Operands
+pub mod Scalars
+pub mod NamesSaid
+pub mod Dependence
+mod WorkedDependence
