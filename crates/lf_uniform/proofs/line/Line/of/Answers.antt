@@ -1,4 +1,4 @@
-use Rattle.std.proofs.Common.{◌≡◌, ◌⊎◌, ℕ, List, length, sym, ap, subst, arith, inl, inr}
+use Rattle.std.proofs.Common.{◌≡◌, ℕ, List, length, sym, ap, subst, arith, inl, inr}
 use Rattle.std.specs.List.{Contains}
 use Rattle.lf_ast.specs.Rules.{rule_trees}
 use Rattle.lf_uniform.specs.views.Lines.{IsRound}
@@ -33,6 +33,6 @@ loop-left-preserved c =
     let stay = each_later rules c.args.numbers.now left later c.loop-left.line c.round.new.self round c.loop-left.invariant.each in
     record {
       entries = round.entries c.loop-left.invariant.entries;
-      each = λ k there. elim (stay k there) [ | inl waits ↦ inl (subst (λ (xs : List ℕ). Contains xs k) (sym c.reverse.ensures.items) (turned later k waits)) | inr settled ↦ inr settled ];
+      each = λ k there. elim (stay k there) [ inl waits ↦ inl (subst (λ (xs : List ℕ). Contains xs k) (sym c.reverse.ensures.items) (turned later k waits)) | inr settled ↦ inr settled ];
       below = λ k there. c.loop-left.invariant.below k (round.among k (turned_back later k (subst (λ (xs : List ℕ). Contains xs k) c.reverse.ensures.items there)));
     }
