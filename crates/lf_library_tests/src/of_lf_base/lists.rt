@@ -61,6 +61,28 @@ fn copies_of_a_text_stay_as_they_were(rt: HostRuntime) -> Result<(), Fail> {
     Ok(())
 }
 
+// Up to 24 bytes take no memory of their own.
+#[test]
+fn texts_grow_from_few_bytes_to_many(rt: HostRuntime) -> Result<(), Fail> {
+    for (front, back, whole) in [
+        ("", "", ""),
+        ("", "twenty-four letters long", "twenty-four letters long"),
+        ("twenty-four letters long", "", "twenty-four letters long"),
+        ("twenty-two letters lon", "é", "twenty-two letters loné"),
+        ("twenty-three letters lo", "é", "twenty-three letters loé"),
+        ("twenty-four letters long", "er", "twenty-four letters longer"),
+        ("more than twenty-four letters", ", by far", "more than twenty-four letters, by far"),
+    ] {
+        let mut text = Text::of(rt.alloc(), front)?;
+        text.push(back)?;
+        assert_eq!(rt; text.as_str(), whole);
+        assert_eq!(rt; text.len(), whole.len());
+        let copy = text.copy()?;
+        assert!(rt; copy.is(&text));
+    }
+    Ok(())
+}
+
 #[test]
 fn a_text_is_made_of_a_string(rt: HostRuntime) -> Result<(), Fail> {
     let taken = Text::from_string(String::from_str(rt.alloc(), "é")?);
