@@ -11,6 +11,8 @@ pub mod PatternPlaces
 pub mod Places
 pub mod Puts
 pub mod RecordedNames
+pub mod RowWordOrder
+pub mod RowWords
 pub mod Seen
 pub mod TextClasses
 pub mod Unread

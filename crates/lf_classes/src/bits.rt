@@ -2,6 +2,8 @@
 ghost use Rattle.std.specs.Prelude.{◌≡◌, ℕ, ◌+◌, ◌<◌, ◌≤◌, ◌^◌, length, replicate, slice_index_or, slice_set, false, true, ◌&&◌, IfOk};
 ghost use Rattle.lf_classes.specs.views.Bits.{changed};
 
+mod words;
+
 use crate::range::{change_words, fill_words, has_all, has_any};
 use crate::word::{Change, whole, with_bit};
 use lf_base::Memory;

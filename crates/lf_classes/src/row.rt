@@ -7,6 +7,8 @@ ghost use Rattle.lf_semantics.specs.RowTable.{has_class};
 ghost use Rattle.std.specs.List.{sum};
 ghost use Rattle.lf_classes.specs.views.Cut.{cut};
 
+mod words;
+
 use crate::bits::{Bits, narrow, put};
 use crate::shape::Shape;
 use crate::universe::Universe;

@@ -15,4 +15,5 @@ mod sources;
 pub use name_graph::NameGraph;
 pub use ordering::{order, order_of};
 pub use reading::{apart, apart_of, cyclic, cyclic_of, reach, reach_of};
+pub use selecting::selectors;
 pub use sources::Sources;

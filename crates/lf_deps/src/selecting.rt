@@ -14,7 +14,7 @@ use lf_base::{Memory, Seq, Text};
 use std::alloc::Global;
 
 /// The selectors of an expression: the name that each selects, or none where it says no name. Nothing within a scalar is looked at.
-pub(crate) fn selectors(alloc: Global, expr: &Expr) -> Result<Seq<Option<Text>>, Memory>
+pub fn selectors(alloc: Global, expr: &Expr) -> Result<Seq<Option<Text>>, Memory>
     ensures { IfOk result (λ found. found ≡ selectors (tree expr.now)) }
 {
     let mut selecting = Selecting {

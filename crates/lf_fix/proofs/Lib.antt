@@ -3,5 +3,4 @@ pub mod Missing
 pub mod Raising
 pub mod Rounds
 pub mod SameRows
-pub mod ScalarRows
 pub mod Steps

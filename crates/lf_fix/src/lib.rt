@@ -5,5 +5,5 @@ mod dependents;
 mod recording;
 mod solving;
 
-pub use recording::rule_row;
+pub use recording::{recorded_row, rule_row};
 pub use solving::solve;

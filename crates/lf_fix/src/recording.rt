@@ -41,7 +41,7 @@ fn row_in(alloc: Global, universe: &Universe, env: &Env, rule: &Rule) -> Result<
 }
 
 /// The row of what a recording rule stores: that of the rule, with its name and its labels set.
-pub(crate) fn recorded_row(
+pub fn recorded_row(
     alloc: Global,
     universe: &Universe,
     env: &Env,

@@ -12,6 +12,9 @@ pub mod Narrowed
 pub mod PartRows
 pub mod PassingRows
 pub mod PatternSets
+pub mod ReadNumbers
+pub mod SameRows
+pub mod ScalarRows
 pub mod Selected
 pub mod Sides
 pub mod SoughtSets

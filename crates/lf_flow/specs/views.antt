@@ -3,3 +3,4 @@ pub mod Absence
 pub mod Chosen
 pub mod ClassSets
 pub mod Kept
+pub mod Reading

@@ -6,6 +6,8 @@ ghost use Rattle.lf_semantics.specs.Environments.{Leq, recorded_names};
 ghost use Rattle.lf_semantics.specs.RowTable.{row_named};
 ghost use Rattle.lf_flow.specs.Raising.{joined};
 
+mod numbers;
+
 use lf_ast::Rule;
 use lf_base::{Memory, Seq};
 use lf_classes::{Row, TextSet, Universe, recorded_names};
@@ -54,7 +56,7 @@ impl Env {
     }
 
     /// The recorded names.
-    pub(crate) fn names(&self) -> &TextSet
+    pub(crate) fn recorded(&self) -> &TextSet
         ensures { result.now ≡ map (λ entry. entry.0) self.now }
     {
         &self.names

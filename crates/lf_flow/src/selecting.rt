@@ -108,7 +108,7 @@ fn scraped(alloc: Global, universe: &Universe, env: &Env) -> Result<Row, Memory>
 {
     let mut row = Row::full(alloc, universe)?;
     let label = universe.label_of("__name__");
-    let on = unrecorded(alloc, universe, label, env.names())?;
+    let on = unrecorded(alloc, universe, label, env.recorded())?;
     row.set_classes(label, &on);
     Ok(row)
 }

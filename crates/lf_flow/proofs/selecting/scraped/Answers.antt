@@ -29,6 +29,6 @@ returns c =
     ∙ ap (replaced (λ l. eqb label l) (λ l k. get_or c.in_ok-on.on.items k false)) c.in_ok-row.ensures
     ∙ set_is label c.in_ok-on.on.items n test (top u)
     (retested n _ (test label) c.in_ok-on.on.items
-    (λ class h. ap (λ names. not (eqb class 0) && not (list_any (λ (name : Bytes). eqb (class_of u label name) class) names)) c.names.ensures ∙ ap (λ b. not (eqb class 0) && not b) (recorded_test u env label class)) c.in_ok-on.ensures)
+    (λ class h. ap (λ names. not (eqb class 0) && not (list_any (λ (name : Bytes). eqb (class_of u label name) class) names)) c.recorded.ensures ∙ ap (λ b. not (eqb class 0) && not b) (recorded_test u env label class)) c.in_ok-on.ensures)
     (set_length u (top u) (shape_top u) label c.label_of-label.ensures.within)
     ∙ ap (λ k. replaced (λ l. eqb k l) test (top u)) c.label_of-label.ensures.number

@@ -1,8 +1,10 @@
-use Rattle.std.proofs.Common.{map, sym, ◌∙◌, ap}
-use Rattle.lf_ast.specs.Labels.{Bytes}
-use Rattle.lf_semantics.specs.ClassRows.{Sets}
-use Rattle.lf_flow.proofs.Entries.{each_name}
+use Rattle.std.proofs.Common.{◌∙◌, arith}
+use Rattle.lf_flow.proofs.ReadNumbers.{kept_count}
 use Rattle.lf_flow.proofs.env.Env.names.Goals as goal
 
+pub overflow_cast-result : goal.overflow_cast-result
+overflow_cast-result c =
+    omega (arith, c.requires, c.len.ensures.count, kept_count c.self.inside.names c.self.inside.rows.items c.args.self.now c.self.view_is c.self.invariant.count)
+
 pub returns : goal.returns
-returns c = sym (each_name c.self.inside.names c.self.inside.rows.items c.self.invariant.count) ∙ ap (map (λ (entry : Bytes × Sets). entry.0)) c.self.view_is
+returns c = c.len.ensures.count ∙ kept_count c.self.inside.names c.self.inside.rows.items c.args.self.now c.self.view_is c.self.invariant.count

@@ -1,0 +1,47 @@
+//! Recorded names by their numbers.
+ghost use Rattle.std.specs.Prelude.{◌≡◌, ◌<◌, ◌^◌, length};
+ghost use Rattle.lf_flow.specs.Reads.{name_at, number_of, with_row};
+
+use super::Env;
+use lf_base::Text;
+use lf_classes::Row;
+
+impl Env {
+    /// How many recorded names there are.
+    pub fn names(&self) -> u32
+        requires { length self.now < 2 ^ 32 }
+        ensures { result ≡ length self.now }
+    {
+        self.names.len() as u32
+    }
+
+    /// The recorded name with the number `k`, counted from 0 in the order in which the names come first.
+    pub fn name(&self, k: u32) -> &Text
+        requires { k < length self.now }
+        ensures { result.now ≡ name_at self.now k }
+    {
+        self.names.get(k as usize)
+    }
+
+    /// The number of a name, and how many names there are where no rule records it.
+    pub(crate) fn number(&self, name: &str) -> usize
+        ensures { result ≡ number_of self.now name.now }
+    {
+        self.names.place(name)
+    }
+
+    /// How many recorded names there are.
+    pub(crate) fn count(&self) -> usize
+        ensures { result ≡ length self.now }
+    {
+        self.names.len()
+    }
+
+    /// Gives the recorded name with the number `k` another row, in place of its own.
+    pub fn put(&mut self, k: u32, row: Row)
+        requires { k < length self.old }
+        ensures { self.new ≡ with_row k row self.old }
+    {
+        self.rows[k as usize] = row;
+    }
+}
