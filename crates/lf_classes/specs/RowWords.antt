@@ -1,11 +1,9 @@
 -- Rows in words of 64 bits: a bit for each class of each label, numbered from 0 over the labels and their classes in order.
-use Rattle.std.specs.Prelude.{ℕ, ◌+◌, ◌*◌, ◌/◌, ◌≤◌, Bool, cond, List, [], ◌∷◌, map, take, drop, slice_index}
+use Rattle.std.specs.Prelude.{ℕ, ◌+◌, ◌*◌, ◌/◌, ◌%◌, ◌≤◌, Bool, cond, eqb, List, [], ◌∷◌, map, take, drop, slice_index}
 use Rattle.std.specs.Int.{bit_at}
 use Rattle.std.specs.List.{flat_map, range_with_len}
 use Rattle.lf_semantics.specs.ClassRows.{Sets, normalized}
 use Rattle.lf_semantics.specs.Listing.{Listing, class_count, class_counts}
-use Rattle.lf_classes.specs.views.Bits.{bits_of}
-use Rattle.lf_classes.specs.views.Cut.{cut}
 
 -- how many words so many bits fill
 abbrev pub words_for : ℕ → ℕ
@@ -27,6 +25,23 @@ number_of (on ∷ bits) = cond on 1 0 + 2 * number_of bits
 -- a word of a row; past the last class its bits are 0
 abbrev pub row_word : Sets → ℕ → ℕ
 row_word row k = number_of (take 64 (drop (64 * k) (in_order row)))
+
+-- the bit of a word at a place
+abbrev pub bit : ℕ → ℕ → Bool
+bit word place = eqb (bit_at word place) 1
+
+-- the bit at a place in a list of words
+abbrev pub bit_of : List ℕ → ℕ → Bool
+bit_of words k = bit (slice_index words (k / 64)) (k % 64)
+
+-- the first bits of words
+abbrev pub bits_of : List ℕ → ℕ → List Bool
+bits_of words len = map (bit_of words) (range_with_len 0 len)
+
+-- bits cut into the sets of labels that have as many classes
+abbrev pub cut : List ℕ → List Bool → Sets
+cut [] bits = []
+cut (n ∷ counts) bits = take n bits ∷ cut counts (drop n bits)
 
 -- the row of words: the classes whose bits are set. It is the empty row where some label has none
 abbrev pub row_of_words : Listing → List ℕ → Sets

@@ -1,12 +1,8 @@
 -- The sets of a row in one list of bits: those of the first label first.
-use Rattle.std.specs.Prelude.{◌≡◌, ℕ, ◌+◌, ◌<◌, ◌≤◌, ◌^◌, Bool, true, cond, List, [], ◌∷◌, length, slice_index, take, drop}
+use Rattle.std.specs.Prelude.{◌≡◌, ℕ, ◌+◌, ◌<◌, ◌≤◌, ◌^◌, Bool, true, cond, List, length, slice_index, take}
 use Rattle.std.specs.List.{sum}
 use Rattle.lf_semantics.specs.ClassRows.{Sets, emptied, is_live}
-
--- the sets of labels that have as many classes
-abbrev pub cut : List ℕ → List Bool → Sets
-cut [] bits = []
-cut (n ∷ counts) bits = take n bits ∷ cut counts (drop n bits)
+pub use Rattle.lf_classes.specs.RowWords.{cut}
 
 -- where the classes of a label begin
 abbrev pub start : List ℕ → ℕ → ℕ
