@@ -163,7 +163,9 @@ module _ (u : Listing) (some : 0 < length (class_counts u)) where
   pub leq_words : (row : Sets) (words : List ℕ) → IsRow u row → ((k : ℕ) → k < word_count u → WordLeq (row_word row k) (get_or words k 0)) → Leq row (row_of_words u words)
   leq_words row words is all =
       let P : Sets → Type 0 = λ x. Leq x (row_of_words u words) in
-      subst P (words_back row is) (words_leq (words_of_row u row) words record { at = λ k. elim (cases_lt k (word_count u)) [
-        | inl h ↦ (let Q : ℕ → Type 0 = λ w. WordLeq w (get_or words k 0) in subst Q (sym (word_at u row k h)) (all k h))
-        | inr h ↦ (let Q : ℕ → Type 0 = λ w. WordLeq w (get_or words k 0) in subst Q (sym (get_or_past (words_of_row u row) k 0 (omega (arith, h, length-words u row)))) (zero_leq (get_or words k 0)))
-      ] })
+      subst P (words_back row is) (words_leq (words_of_row u row) words record {
+        at = λ k. elim (cases_lt k (word_count u)) [
+          | inl h ↦ (let Q : ℕ → Type 0 = λ w. WordLeq w (get_or words k 0) in subst Q (sym (word_at u row k h)) (all k h))
+          | inr h ↦ (let Q : ℕ → Type 0 = λ w. WordLeq w (get_or words k 0) in subst Q (sym (get_or_past (words_of_row u row) k 0 (omega (arith, h, length-words u row)))) (zero_leq (get_or words k 0)))
+        ];
+      })

@@ -70,8 +70,16 @@ fn texts_grow_from_few_bytes_to_many(rt: HostRuntime) -> Result<(), Fail> {
         ("twenty-four letters long", "", "twenty-four letters long"),
         ("twenty-two letters lon", "é", "twenty-two letters loné"),
         ("twenty-three letters lo", "é", "twenty-three letters loé"),
-        ("twenty-four letters long", "er", "twenty-four letters longer"),
-        ("more than twenty-four letters", ", by far", "more than twenty-four letters, by far"),
+        (
+            "twenty-four letters long",
+            "er",
+            "twenty-four letters longer",
+        ),
+        (
+            "more than twenty-four letters",
+            ", by far",
+            "more than twenty-four letters, by far",
+        ),
     ] {
         let mut text = Text::of(rt.alloc(), front)?;
         text.push(back)?;
