@@ -1,6 +1,7 @@
 //! Tests of lf_classes: that calls succeed which no file that is linted reaches.
 
-ghost use Rattle.std.specs.Prelude.{◌≡◌, ◌∷◌, [], true, false, IfOk};
+ghost use Rattle.std.specs.Prelude.{◌≡◌, ◌∷◌, [], length, true, false, IfOk};
+ghost use Rattle.lf_classes.specs.RowWords.{in_order, row_of_words, row_word};
 ghost use Rattle.lf_semantics.specs.Listing.{universe_of};
 
 use crate::deep::deepest;
@@ -102,6 +103,38 @@ fn a_row_follows_its_label(rt: HostRuntime) -> Result<(), Fail> {
     assert!(&rt; other.is_empty() && empty.is_empty() && !row.is_empty());
     row.keep(1, 1, false);
     assert!(&rt; row.is_empty());
+    Ok(())
+}
+
+/// The row of one word, of the universe of no rules.
+fn row_of(alloc: Global, universe: &Universe, word: u64) -> Result<Row, Memory>
+    requires { universe.now ≡ universe_of [] }
+    ensures { IfOk result (λ row. row ≡ row_of_words universe.now (word ∷ [])) }
+{
+    let mut words = Seq::new(alloc);
+    words.push(word)?;
+    Row::from_words(alloc, universe, &words)
+}
+
+/// The only word of a row of the universe of no rules.
+fn word_of(row: &Row) -> u64
+    requires { length (in_order row.now) ≡ 4 }
+    ensures { result ≡ row_word row.now 0 }
+{
+    row.word(0)
+}
+
+// `__name__` has the bits 0 and 1, and `*` the bits 2 and 3.
+#[test]
+fn a_row_is_made_of_its_words(rt: HostRuntime) -> Result<(), Fail> {
+    let alloc = rt.alloc();
+    let universe = Universe::build(alloc, &Seq::new(alloc))?;
+    assert_eq!(rt; universe.words(), 1);
+    for (word, row_word) in [(15, 15), (9, 9), (6, 6), (3, 0), (12, 0), (0, 0), (256 + 9, 9)] {
+        let row = row_of(alloc, &universe, word)?;
+        assert_eq!(rt; word_of(&row), row_word);
+        assert_eq!(rt; row.is_empty(), row_word == 0);
+    }
     Ok(())
 }
 
