@@ -1,5 +1,5 @@
 -- Environments as the program keeps them, and what joining a row to that of a name makes of one.
-use Rattle.std.specs.Prelude.{◌≡◌, List, [], ◌∷◌, cond, length, map}
+use Rattle.std.specs.Prelude.{◌≡◌, ◌<◌, ◌^◌, List, [], ◌∷◌, cond, length, map}
 use Rattle.std.specs.Str.{bytes_eq}
 use Rattle.lf_ast.specs.Labels.{Bytes}
 use Rattle.lf_semantics.specs.ClassRows.{Sets, join}
@@ -12,10 +12,11 @@ entries [] rows = []
 entries (name ∷ names) [] = []
 entries (name ∷ names) (row ∷ rows) = (name, row) ∷ entries names rows
 
--- no name stands twice, and each has a row
+-- no name stands twice, each has a row, and their numbers have 32 bits
 pub record AreEntries (names : List Bytes) (rows : List Sets) : Type 0 where
   pub once : StandOnce names
   pub count : length names ≡ length rows
+  pub few : length names < 2 ^ 32
 
 -- the row is joined to that of the name, and the others stay
 abbrev pub joined : Bytes → Sets → Environment → Environment

@@ -14,6 +14,9 @@ use lf_classes::{Row, TextSet, Universe, recorded_names};
 use std::alloc::Global;
 use std::marker::Model;
 
+/// The most recorded names that numbers of 32 bits tell apart.
+const MOST_NAMES: usize = 4_294_967_295;
+
 /// A row for each recorded name, in the order in which the names come first. Where a name stands is looked up by its hash.
 #[derive(Drop)]
 pub struct Env {
@@ -33,12 +36,16 @@ impl Model for Env {
 }
 
 impl Env {
-    /// The environment of rules in which no recorded name has a sample.
+    /// The environment of rules in which no recorded name has a sample. Want of memory where the number of a name doesn't fit a `u32`.
     pub fn bottom(alloc: Global, universe: &Universe, rules: &Seq<Rule>) -> Result<Env, Memory>
         ensures { IfOk result (λ env. env ≡ map (λ name. (name, bottom universe.now)) (recorded_names (rule_trees rules.now))) }
     {
         let names = recorded_names(alloc, rules.as_slice())?;
-        let rows = empty_rows(alloc, universe, names.len())?;
+        let count = names.len();
+        if count > MOST_NAMES {
+            return Err(Memory);
+        }
+        let rows = empty_rows(alloc, universe, count)?;
         Ok(Env { names, rows })
     }
 

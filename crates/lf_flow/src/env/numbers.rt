@@ -1,5 +1,5 @@
 //! Recorded names by their numbers.
-ghost use Rattle.std.specs.Prelude.{◌≡◌, ◌<◌, ◌^◌, length};
+ghost use Rattle.std.specs.Prelude.{◌≡◌, ◌<◌, length};
 ghost use Rattle.lf_flow.specs.Reads.{name_at, number_of, with_row};
 
 use super::Env;
@@ -9,7 +9,6 @@ use lf_classes::Row;
 impl Env {
     /// How many recorded names there are.
     pub fn names(&self) -> u32
-        requires { length self.now < 2 ^ 32 }
         ensures { result ≡ length self.now }
     {
         self.names.len() as u32

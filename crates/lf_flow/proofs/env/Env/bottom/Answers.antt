@@ -1,4 +1,4 @@
-use Rattle.std.proofs.Common.{length, map, sym, ◌∙◌, ap, subst}
+use Rattle.std.proofs.Common.{length, map, sym, ◌∙◌, ap, subst, arith}
 use Rattle.std.proofs.lemmas.List.{length-replicate}
 use Rattle.lf_ast.specs.Labels.{Bytes}
 use Rattle.lf_ast.specs.Rules.{rule_trees}
@@ -13,12 +13,13 @@ use Rattle.lf_flow.proofs.env.Env.bottom.Goals as goal
 pub invariant_of-result : goal.invariant_of-result
 invariant_of-result c = record {
   once = subst StandOnce (sym c.in_ok-names.ensures.names) (apart _ (first_seen_distinct (names_recorded (rule_trees c.as_slice.result.now))));
-  count = sym c.len.ensures.count ∙ sym (length-replicate c.len.result (bottom c.args.universe.now)) ∙ ap length (sym c.in_ok-rows.ensures);
+  count = sym c.len-count.ensures.count ∙ sym (length-replicate c.len-count.result (bottom c.args.universe.now)) ∙ ap length (sym c.in_ok-rows.ensures);
+  few = omega (arith, c.if-count-gt-MOST_NAMES.false, c.len-count.ensures.count);
 }
 
 pub returns : goal.returns
 returns c =
     let row = bottom c.args.universe.now in
     ap (entries c.in_ok-names.names) c.in_ok-rows.ensures
-    ∙ entries_same c.in_ok-names.names c.len.result row c.len.ensures.count
+    ∙ entries_same c.in_ok-names.names c.len-count.result row c.len-count.ensures.count
     ∙ ap (map (λ (name : Bytes). (name, row))) (c.in_ok-names.ensures.names ∙ ap (λ rules. recorded_names (rule_trees rules)) c.as_slice.ensures)
