@@ -6,8 +6,6 @@ use Rattle.std.proofs.lemmas.List.{length-append}
 use Rattle.std.proofs.lemmas.Option.{slice_get_within}
 use Rattle.lf_ast.specs.Rules.{RuleTree}
 use Rattle.lf_open.specs.declared.open_at.OpenAt.{OpenAt}
-use Rattle.lf_open.specs.declared.opens.Opens.{Opens}
-use Rattle.lf_open.specs.views.Opens.{AreOpens}
 use Rattle.lf_worlds.specs.views.Told.{rule_verdict}
 use Rattle.lf_judge.specs.Judged.{IsFirstOpen, has_unresolved}
 use Rattle.lf_judge.specs.declared.rule_found.RuleFound.{RuleFound}
@@ -46,20 +44,20 @@ none_of p (y ∷ ys) (suc i) x none at is = none_of p ys i x (later (p y) (list_
     later true c e = cc
     later false c e = e
 
--- it is named for the rule, if a label of it stays unresolved
-abbrev IsNamed : Opens → ℕ → RuleFound → Option OpenAt → Type 0
-IsNamed opens i x first = (rules : List RuleTree) → AreOpens rules opens → has_unresolved (rule_verdict x.known) ≡ true → IsFirstOpen rules i first
+module _ (rules : List RuleTree) (found : List RuleFound) where
+  -- it is named for the rule, if a label of it stays unresolved
+  abbrev pub IsNamed : ℕ → RuleFound → Option OpenAt → Type 0
+  IsNamed i x first = has_unresolved (rule_verdict x.known) ≡ true → IsFirstOpen rules i first
 
-module _ (opens : Opens) (found : List RuleFound) where
   -- it is named at each of the first rules that need it
   pub record NameUpTo (k : ℕ) (firsts : List (Option OpenAt)) : Type 0 where
     pub count : length firsts ≡ k
-    pub each : (i : ℕ) (x : RuleFound) → i < k → slice_get found i ≡ Some x → IsNamed opens i x (first_at firsts i)
+    pub each : (i : ℕ) (x : RuleFound) → i < k → slice_get found i ≡ Some x → IsNamed i x (first_at firsts i)
 
   pub names_none : (firsts : List (Option OpenAt)) → firsts ≡ [] → NameUpTo 0 firsts
   names_none firsts none = record { count = ap length none; each = λ i x lt at. absurd (omega (arith, lt)) }
 
-  pub names_more : (k : ℕ) (firsts pushed : List (Option OpenAt)) (first : Option OpenAt) (x : RuleFound) → slice_get found k ≡ Some x → NameUpTo k firsts → pushed ≡ firsts ++ first ∷ [] → IsNamed opens k x first
+  pub names_more : (k : ℕ) (firsts pushed : List (Option OpenAt)) (first : Option OpenAt) (x : RuleFound) → slice_get found k ≡ Some x → NameUpTo k firsts → pushed ≡ firsts ++ first ∷ [] → IsNamed k x first
       → NameUpTo (k + 1) pushed
   names_more k firsts pushed first x at named pushes is = record {
     count = ap length pushes ∙ length-append firsts (first ∷ []) ∙ ap (λ n. n + 1) named.count;
@@ -69,15 +67,15 @@ module _ (opens : Opens) (found : List RuleFound) where
       joined : Option (Option OpenAt) → Option OpenAt
       joined o = option_and_then (λ z. z) o
 
-      by : (i : ℕ) (y : RuleFound) → slice_get found i ≡ Some y → (i < k) ⊎ (i ≡ k) → IsNamed opens i y (first_at pushed i)
+      by : (i : ℕ) (y : RuleFound) → slice_get found i ≡ Some y → (i < k) ⊎ (i ≡ k) → IsNamed i y (first_at pushed i)
       by i y there (inl less) =
           let e : first_at pushed i ≡ first_at firsts i = ap (λ l. first_at l i) pushes ∙ ap joined (before_end firsts first i (omega (arith, less, named.count))) in
-          subst (IsNamed opens i y) (sym e) (named.each i y less there)
+          subst (IsNamed i y) (sym e) (named.each i y less there)
       by i y there (inr same) =
           let here : slice_get pushed i ≡ Some first = ap (λ l. slice_get l i) pushes ∙ ap (λ n. slice_get (firsts ++ first ∷ []) n) (same ∙ sym named.count) ∙ at_end firsts first in
           let e : first_at pushed i ≡ first = ap joined here in
           let y_is : x ≡ y = the_same x y (sym at ∙ ap (slice_get found) (sym same) ∙ there) in
-          subst (IsNamed opens i y) (sym e) (subst (λ z. IsNamed opens i z first) y_is (subst (λ n. IsNamed opens n x first) (sym same) is))
+          subst (IsNamed i y) (sym e) (subst (λ z. IsNamed i z first) y_is (subst (λ n. IsNamed n x first) (sym same) is))
 
-  pub all_named : (k : ℕ) (firsts : List (Option OpenAt)) → length found ≤ k → NameUpTo k firsts → (rules : List RuleTree) → AreOpens rules opens → NameFirsts rules found firsts
-  all_named k firsts all named rules are i x at = named.each i x (omega (arith, all, slice_get_within found i x at)) at rules are
+  pub all_named : (k : ℕ) (firsts : List (Option OpenAt)) → length found ≤ k → NameUpTo k firsts → NameFirsts rules found firsts
+  all_named k firsts all named i x at = named.each i x (omega (arith, all, slice_get_within found i x at)) at

@@ -1,8 +1,8 @@
 //! What stands open first for rules with a label that stays unresolved.
 ghost use Rattle.std.specs.List.{list_any};
-ghost use Rattle.std.specs.Prelude.{◌≡◌, ◌≤◌, ◌<◌, List, true, length, IfOk};
-ghost use Rattle.lf_ast.specs.Rules.{RuleTree, rule_trees};
-ghost use Rattle.lf_open.specs.views.Opens.{AreOpens, AreReady, rules_at};
+ghost use Rattle.std.specs.Prelude.{◌≡◌, ◌≤◌, ◌<◌, true, length, IfOk};
+ghost use Rattle.lf_ast.specs.Rules.{rule_trees};
+ghost use Rattle.lf_open.specs.views.Firsts.{AreFirstsReady, rules_in};
 ghost use Rattle.lf_worlds.specs.views.Told.{rule_verdict};
 ghost use Rattle.lf_judge.specs.Judged.{IsFirstOpen, has_unresolved};
 ghost use Rattle.lf_judge.specs.Limits.{most_rules};
@@ -12,7 +12,7 @@ use crate::rule_found::RuleFound;
 use crate::verdicts::has_unresolved;
 use lf_ast::Rule;
 use lf_base::{Memory, Seq};
-use lf_open::{OpenAt, Opens};
+use lf_open::{OpenAt, OpenFirsts, Opens};
 use lf_worlds::RuleVerdicts;
 use std::alloc::Global;
 
@@ -31,7 +31,8 @@ pub fn firsts_of(
         return Ok(Seq::new(alloc));
     }
     let opens = Opens::of(alloc, rules)?;
-    let firsts = firsts_by(alloc, &opens, found)?;
+    let mut open_firsts = OpenFirsts::of(alloc, &opens)?;
+    let firsts = firsts_by(alloc, &mut open_firsts, found)?;
     Ok(firsts)
 }
 
@@ -42,20 +43,20 @@ fn any_unresolved(found: &[RuleFound]) -> bool
     found.iter().any(|rule| has_unresolved(&rule.known))
 }
 
-/// The same, by what stands open in the rules.
+/// The same, by what stands open first in the rules.
 fn firsts_by(
     alloc: Global,
-    opens: &Opens<'_>,
+    open_firsts: &mut OpenFirsts<'_>,
     found: &Seq<RuleFound>,
 ) -> Result<Seq<Option<OpenAt>>, Memory>
-    requires opens { AreReady opens.now }
+    requires ready { AreFirstsReady open_firsts.old }
     requires few { length found.now ≤ most_rules }
-    requires count { length found.now ≡ length (rules_at opens.now) }
-    ensures { (rules : List RuleTree) → AreOpens rules opens.now → IfOk result (NameFirsts rules found.now) }
+    requires count { length found.now ≡ length (rules_in open_firsts.old) }
+    ensures { IfOk result (NameFirsts (rules_in open_firsts.old) found.now) }
 {
     let mut firsts = Seq::new(alloc);
     for k in 0..found.len() {
-        let first = open_for(alloc, opens, &found.get(k).known, k as u32)?;
+        let first = open_for(alloc, open_firsts, &found.get(k).known, k as u32)?;
         firsts.push(first)?;
     }
     Ok(firsts)
@@ -64,16 +65,18 @@ fn firsts_by(
 /// The first construct that stands open for the rule with this number, where its verdicts leave a label unresolved. Elsewhere it isn't looked for.
 fn open_for(
     alloc: Global,
-    opens: &Opens<'_>,
+    open_firsts: &mut OpenFirsts<'_>,
     known: &RuleVerdicts,
     number: u32,
 ) -> Result<Option<OpenAt>, Memory>
-    requires opens { AreReady opens.now }
-    requires within { number < length (rules_at opens.now) }
-    ensures { IfOk result (λ first. (rules : List RuleTree) → AreOpens rules opens.now → has_unresolved (rule_verdict known.now) ≡ true → IsFirstOpen rules number first) }
+    requires ready { AreFirstsReady open_firsts.old }
+    requires within { number < length (rules_in open_firsts.old) }
+    ensures first { IfOk result (λ first. has_unresolved (rule_verdict known.now) ≡ true → IsFirstOpen (rules_in open_firsts.old) number first) }
+    ensures ready { AreFirstsReady open_firsts.new }
+    ensures same { rules_in open_firsts.new ≡ rules_in open_firsts.old }
 {
     if has_unresolved(known) {
-        return opens.first(alloc, number);
+        return open_firsts.first(alloc, number);
     }
     Ok(None)
 }
