@@ -6,8 +6,7 @@ use Rattle.lf_ast.specs.Rules.{RuleTree}
 use Rattle.lf_ast.specs.declared.verdict.RuleVerdicts.TheVariants as told_rule
 use Rattle.lf_ast.specs.declared.verdict.Verdict.TheVariants as told
 use Rattle.lf_open.specs.declared.open_at.OpenAt.{OpenAt}
-use Rattle.lf_open.specs.declared.opens.Opens.{Opens}
-use Rattle.lf_open.specs.views.Opens.{AreOpens, IsFirst}
+use Rattle.lf_open.specs.views.Opens.{IsFirst}
 use Rattle.lf_open.proofs.OneList.{one_list}
 use Rattle.lf_trials.specs.Verdicts.{Empty, Labels, LabelVerdict, RuleVerdict}
 use Rattle.lf_trials.specs.Verdicts as verdict
@@ -19,10 +18,9 @@ first_open rules i first ([], are, is) = subst (IsFirstOpen rules i) (sym is) ar
 first_open rules i first (o ∷ later, are, is) = subst (IsFirstOpen rules i) (sym is) (later, are)
 
 -- the answer that there is of it
-pub first_of_opens : {E : Type 0} (Q : Type 0) (opens : Opens) (i : ℕ) (r : Result (Option OpenAt) E) → ((rules : List RuleTree) → AreOpens rules opens → IfOk r (IsFirst rules i))
-    → IfOk r (λ first. (rules : List RuleTree) → AreOpens rules opens → Q → IsFirstOpen rules i first)
-first_of_opens Q opens i (Ok first) h = λ rules are some. first_open rules i first (h rules are)
-first_of_opens Q opens i (Err e) h = tt
+pub first_answered : {E : Type 0} (Q : Type 0) (rules : List RuleTree) (i : ℕ) (r : Result (Option OpenAt) E) → IfOk r (IsFirst rules i) → IfOk r (λ first. Q → IsFirstOpen rules i first)
+first_answered Q rules i (Ok first) h = λ some. first_open rules i first h
+first_answered Q rules i (Err e) h = tt
 
 -- what stands open first is one
 pub one_first : (rules : List RuleTree) (i : ℕ) (o p : Option OpenAt) → IsFirstOpen rules i o → IsFirstOpen rules i p → o ≡ p

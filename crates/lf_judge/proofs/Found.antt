@@ -7,7 +7,7 @@ use Rattle.std.proofs.lemmas.List.Folds.{flat_map-map}
 use Rattle.lf_checks.specs.Files.{File}
 use Rattle.lf_ast.specs.Rules.{RuleTree}
 use Rattle.lf_report.specs.declared.report.Refused.{Refused as Refusal}
-use Rattle.lf_judge.specs.Founds.{AreContents, Content, Holds, accepted, rules_in}
+use Rattle.lf_judge.specs.Founds.{AreContents, Holds, accepted, rules_in}
 use Rattle.lf_judge.specs.declared.accepting.Found.{Found}
 use Rattle.lf_judge.specs.views.Accepting.{IsFoundIn, content_of, refusal_in}
 use Rattle.lf_judge.proofs.Pieces.{mapped_at}

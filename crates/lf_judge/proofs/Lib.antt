@@ -3,6 +3,8 @@ pub mod Contents
 pub mod FirstOpen
 pub mod Found
 pub mod NameSpots
+pub mod Named
+pub mod Numbered
 pub mod OneLeast
 pub mod OneReport
 pub mod Pieces
@@ -12,4 +14,5 @@ pub mod Shared
 pub mod SoFar
 pub mod Sourced
 pub mod Told
+pub mod Waiting
 mod Worked

@@ -2,12 +2,11 @@
 use Rattle.std.proofs.Common.{◌≡◌, ℕ, ◌+◌, zero, suc, Bool, List, [], ◌∷◌, length, map, Some, refl, sym, ap, ap₂, subst, ◌∙◌, arith}
 use Rattle.std.specs.Prelude.{slice_get}
 use Rattle.std.proofs.lemmas.List.{length-map}
-use Rattle.std.proofs.lemmas.Option.{slice_get_within}
 use Rattle.lf_ast.specs.Rules.{RuleTree}
 use Rattle.lf_checks.specs.Files.{File}
 use Rattle.lf_report.specs.declared.report.RuleReport.{RuleReport}
 use Rattle.lf_semantics.specs.RowTable.{Environment}
-use Rattle.lf_judge.specs.Judged.{Checked, ToldRule, rule_in, rule_told, rules_told}
+use Rattle.lf_judge.specs.Judged.{Checked, ToldRule, rule_in, rules_told}
 use Rattle.lf_judge.specs.views.Checking.{IsCheckedAt, TellsRule, TellsRules}
 use Rattle.lf_judge.proofs.Contents.{same_list}
 use Rattle.lf_judge.proofs.Pieces.{mapped_at}

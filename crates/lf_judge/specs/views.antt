@@ -2,4 +2,5 @@
 pub mod Accepting
 pub mod AtHand
 pub mod Checking
+pub mod RulesFound
 pub mod Spots

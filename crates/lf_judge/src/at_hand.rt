@@ -8,6 +8,9 @@ use lf_classes::Universe;
 use lf_flow::Env;
 use lf_report::Spot;
 
+/// The phase in which workers tell of rules, a piece being a rule.
+pub const TELLING: u8 = 2;
+
 /// What is at hand to tell of the rules of files. Workers share it.
 #[derive(Drop)]
 pub struct AtHand<'a> {

@@ -4,11 +4,13 @@
 mod accepting;
 mod at_hand;
 mod findings;
+mod firsts;
 mod judge_end;
 mod judging;
 mod measuring;
 mod moving;
 mod name_spots;
+mod rule_found;
 mod source;
 mod telling;
 mod verdicts;

@@ -3,35 +3,34 @@ ghost use Rattle.std.specs.Prelude.{◌≡◌, ◌≤◌, ◌<◌, ℕ, Bool, tr
 ghost use Rattle.lf_ast.specs.Rules.{rule_tree, rule_trees};
 ghost use Rattle.lf_checks.specs.AlertTemplate.{HaveSources};
 ghost use Rattle.lf_checks.specs.Files.{StandIn};
-ghost use Rattle.lf_open.specs.views.Opens.{AreOpens};
 ghost use Rattle.lf_semantics.specs.Environments.{IsLeast};
 ghost use Rattle.lf_semantics.specs.Listing.{universe_of};
-ghost use Rattle.lf_worlds.specs.views.Readings.{AreReadingsOf};
-ghost use Rattle.lf_judge.specs.Judged.{Checked, files_of, finding_in, finding_told, is_empty, rule_in, rule_told, verdicts_told};
+ghost use Rattle.lf_worlds.specs.views.Told.{rule_verdict};
+ghost use Rattle.lf_judge.specs.Judged.{Checked, IsFirstOpen, files_of, finding_in, finding_told, has_unresolved, is_empty, rule_in, rule_told, verdicts_told};
 ghost use Rattle.lf_judge.specs.Limits.{most_rules};
-ghost use Rattle.lf_judge.specs.views.AtHand.{AreTrialsAt, IsReady, TellsRuleAt, TellsRulesAt, rules_at};
+ghost use Rattle.lf_judge.specs.views.AtHand.{IsReady, TellsRuleAt, TellsRulesAt, rules_at};
 ghost use Rattle.lf_judge.specs.views.Checking.{TellsRules};
+ghost use Rattle.lf_judge.specs.views.RulesFound.{AreFoundAt, IsFoundAt, NameFirsts};
 ghost use Rattle.lf_judge.specs.views.Spots.{AreNameSpots};
 
 use crate::Source;
-use crate::at_hand::AtHand;
+use crate::at_hand::{AtHand, TELLING};
 use crate::findings::findings_of;
+use crate::firsts::{first_at, firsts_of};
+use crate::moving::taken_out;
 use crate::name_spots::name_spots;
-use crate::verdicts::{is_empty, verdicts_of};
+use crate::rule_found::{RuleFound, find_rules};
+use crate::verdicts::{is_empty, rule_told};
 use lf_ast::{Rule, RuleVerdicts};
 use lf_base::{Gate, Memory, Seq};
 use lf_board::map_pieces;
 use lf_checks::Checker;
 use lf_classes::Universe;
 use lf_flow::Env;
-use lf_open::Opens;
+use lf_open::OpenAt;
 use lf_report::{Finding, RuleReport, Spot};
-use lf_worlds::{Readings, Trials};
 use std::alloc::Global;
 use std::thread::Threads;
-
-/// The phase in which workers tell of rules, a piece being a rule.
-const TELLING: u8 = 2;
 
 /// What is told of the rules of files, by their universe and least environment; the verdicts on their labels where `labels` asks for them.
 pub fn tell_rules<R: Threads + Sync, G: Gate + Sync>(
@@ -113,7 +112,7 @@ fn tell_at_hand<R: Threads + Sync, G: Gate + Sync>(
     each_without_labels(rt, alloc, hand, workers, gate)
 }
 
-/// What is told of rules with the verdicts on their labels.
+/// What is told of rules with the verdicts on their labels. Workers find what is known of each rule; what stands open first is named afterwards, for the rules that need it.
 fn tell_with_labels<R: Threads + Sync, G: Gate + Sync>(
     rt: &R,
     alloc: Global,
@@ -125,102 +124,50 @@ fn tell_with_labels<R: Threads + Sync, G: Gate + Sync>(
     requires workers { (0 < workers) × (workers ≤ 64) }
     ensures { IfOk result (TellsRulesAt hand.now true) }
 {
-    let opens = Opens::of(alloc, hand.rules)?;
-    let told = tell_opened(rt, alloc, hand, &opens, workers, gate)?;
+    let found = find_rules(rt, alloc, hand, workers, gate)?;
+    let firsts = firsts_of(alloc, hand.rules, &found)?;
+    reports_of(alloc, hand, found, firsts.as_slice())
+}
+
+/// What is told of rules, by what was found of them and by what stands open first. What was found isn't copied.
+fn reports_of(
+    alloc: Global,
+    hand: &AtHand,
+    found: Seq<RuleFound>,
+    firsts: &[Option<OpenAt>],
+) -> Result<Seq<RuleReport>, Memory>
+    requires few { length hand.now.rules.now ≤ most_rules }
+    requires found { AreFoundAt hand.now found }
+    requires firsts { NameFirsts (rules_at hand.now) found firsts.now }
+    ensures { IfOk result (TellsRulesAt hand.now true) }
+{
+    let mut taken = taken_out(alloc, found)?;
+    let mut told = Seq::new(alloc);
+    while let Some(next) = taken.pop() {
+        let number = told.len();
+        let first = first_at(firsts, number);
+        let report = rule_with_labels(alloc, hand, next, first, number as u32)?;
+        told.push(report)?;
+    }
     Ok(told)
 }
 
-/// The same, with what stands open in the rules.
-fn tell_opened<R: Threads + Sync, G: Gate + Sync>(
-    rt: &R,
-    alloc: Global,
-    hand: &AtHand,
-    opens: &Opens<'_>,
-    workers: u32,
-    gate: &G,
-) -> Result<Seq<RuleReport>, Memory>
-    requires ready { IsReady hand.now }
-    requires opens { AreOpens (rules_at hand.now) opens.now }
-    requires workers { (0 < workers) × (workers ≤ 64) }
-    ensures { IfOk result (TellsRulesAt hand.now true) }
-{
-    let readings = Readings::of(alloc, hand.rules)?;
-    let told = tell_read(rt, alloc, hand, opens, &readings, workers, gate)?;
-    Ok(told)
-}
-
-/// The same, with what the rules read.
-fn tell_read<R: Threads + Sync, G: Gate + Sync>(
-    rt: &R,
-    alloc: Global,
-    hand: &AtHand,
-    opens: &Opens<'_>,
-    readings: &Readings,
-    workers: u32,
-    gate: &G,
-) -> Result<Seq<RuleReport>, Memory>
-    requires ready { IsReady hand.now }
-    requires opens { AreOpens (rules_at hand.now) opens.now }
-    requires readings { AreReadingsOf (rules_at hand.now) readings.now }
-    requires workers { (0 < workers) × (workers ≤ 64) }
-    ensures { IfOk result (TellsRulesAt hand.now true) }
-{
-    let trials = Trials::new(alloc, hand.universe, hand.env, hand.rules, readings)?;
-    let told = each_with_labels(rt, alloc, hand, opens, &trials, workers, gate)?;
-    Ok(told)
-}
-
-/// Each rule with the verdicts on its labels, by trials of the rules. The worlds that the verdicts show are kept in what is told.
-fn each_with_labels<R: Threads + Sync, G: Gate + Sync>(
-    rt: &R,
-    alloc: Global,
-    hand: &AtHand,
-    opens: &Opens<'_>,
-    trials: &Trials,
-    workers: u32,
-    gate: &G,
-) -> Result<Seq<RuleReport>, Memory>
-    requires ready { IsReady hand.now }
-    requires opens { AreOpens (rules_at hand.now) opens.now }
-    requires trials { AreTrialsAt hand.now trials.now }
-    requires workers { (0 < workers) × (workers ≤ 64) }
-    ensures { IfOk result (TellsRulesAt hand.now true) }
-{
-    let tell_one = |number: u32| -> Result<RuleReport, Memory>
-        requires ready { IsReady hand.now }
-        requires opens { AreOpens (rules_at hand.now) opens.now }
-        requires trials { AreTrialsAt hand.now trials.now }
-        requires rule { number < length hand.now.rules.now }
-        ensures { IfOk result (TellsRuleAt hand.entry.now true number) }
-    { rule_with_labels(alloc, hand, opens, trials, number) };
-    map_pieces(
-        rt,
-        alloc,
-        hand.rules.len() as u32,
-        workers,
-        gate,
-        TELLING,
-        &tell_one,
-    )
-}
-
-/// What is told of the rule with this number, with the verdicts on its labels.
+/// What is told of the rule with this number, by what was found of it and by the first construct that stands open for it, where a label of it stays unresolved.
 fn rule_with_labels(
     alloc: Global,
     hand: &AtHand,
-    opens: &Opens<'_>,
-    trials: &Trials,
+    found: RuleFound,
+    first: Option<OpenAt>,
     number: u32,
 ) -> Result<RuleReport, Memory>
-    requires ready { IsReady hand.now }
-    requires opens { AreOpens (rules_at hand.now) opens.now }
-    requires trials { AreTrialsAt hand.now trials.now }
     requires rule { number < length hand.now.rules.now }
+    requires found { IsFoundAt hand.now number found }
+    requires first { has_unresolved (rule_verdict found.known) ≡ true → IsFirstOpen (rules_at hand.now) number first }
     ensures { IfOk result (TellsRuleAt hand.now true number) }
 {
+    let RuleFound { known, findings } = found;
     let rule = hand.rules.get(number as usize);
-    let findings = findings_of(alloc, hand, number)?;
-    let verdicts = verdicts_of(alloc, trials, opens, rule, number)?;
+    let verdicts = rule_told(alloc, known, first, number, rule.expr_span)?;
     let empty = are_empty(&verdicts);
     report_of(rule, Some(verdicts), empty, findings)
 }

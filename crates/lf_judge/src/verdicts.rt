@@ -2,12 +2,11 @@
 ghost use Rattle.std.specs.List.{list_any};
 ghost use Rattle.std.specs.Prelude.{◌≡◌, ◌<◌, List, Some, true, length, map, not, slice_get, IfOk};
 ghost use Rattle.lf_ast.specs.Rules.{RuleTree, rule_tree, rule_trees};
-ghost use Rattle.lf_open.specs.views.Opens.{AreOpens, AreReady, rules_at};
 ghost use Rattle.lf_semantics.specs.Environments.{IsLeast};
 ghost use Rattle.lf_semantics.specs.Listing.{universe_of};
 ghost use Rattle.lf_worlds.specs.views.Told.{label_verdict, rule_verdict};
-ghost use Rattle.lf_judge.specs.Judged.{IsFirstOpen, has_unresolved, is_unresolved, unresolved_told, verdict_told, verdicts_told, world_told};
-ghost use Rattle.lf_judge.specs.views.Checking.{TellsEmpty, TellsVerdicts};
+ghost use Rattle.lf_judge.specs.Judged.{has_unresolved, is_unresolved, unresolved_told, verdict_told, verdicts_told, world_told};
+ghost use Rattle.lf_judge.specs.views.Checking.{TellsEmpty};
 
 use crate::moving::taken_out;
 use lf_ast::{Rule, RuleVerdicts, Verdict, World};
@@ -15,48 +14,12 @@ use lf_base::{Memory, Seq, Span};
 use lf_classes::Universe;
 use lf_fix::rule_row;
 use lf_flow::Env;
-use lf_open::{OpenAt, Opens};
-use lf_worlds::{RuleVerdicts as RuleKnown, Trials, Verdict as Known, World as Shown};
+use lf_open::OpenAt;
+use lf_worlds::{RuleVerdicts as RuleKnown, Verdict as Known, World as Shown};
 use std::alloc::Global;
 
-/// What is known of the labels of the rule with this number, counted from 0, by trials of the rules and by what stands open in them.
-pub fn verdicts_of(
-    alloc: Global,
-    trials: &Trials,
-    opens: &Opens<'_>,
-    rule: &Rule,
-    number: u32,
-) -> Result<RuleVerdicts, Memory>
-    requires universe { trials.now.universe ≡ universe_of (rule_trees trials.now.rules) }
-    requires opens { AreOpens (rule_trees trials.now.rules) opens.now }
-    requires within { number < length trials.now.rules }
-    requires rule { slice_get trials.now.rules number ≡ Some rule.now }
-    ensures { IfOk result (TellsVerdicts (rule_trees trials.now.rules) trials.now.env number (rule_tree rule.now)) }
-{
-    let known = trials.rule(alloc, number)?;
-    let first = open_for(alloc, opens, &known, number)?;
-    rule_told(alloc, known, first, number, rule.expr_span)
-}
-
-/// The first construct that stands open for the rule with this number, where its verdicts leave a label unresolved. Elsewhere it isn't looked for.
-fn open_for(
-    alloc: Global,
-    opens: &Opens<'_>,
-    known: &RuleKnown,
-    number: u32,
-) -> Result<Option<OpenAt>, Memory>
-    requires opens { AreReady opens.now }
-    requires within { number < length (rules_at opens.now) }
-    ensures { IfOk result (λ first. (rules : List RuleTree) → AreOpens rules opens.now → has_unresolved (rule_verdict known.now) ≡ true → IsFirstOpen rules number first) }
-{
-    if has_unresolved(known) {
-        return opens.first(alloc, number);
-    }
-    Ok(None)
-}
-
 /// Whether a label of the rule stays unresolved.
-fn has_unresolved(known: &RuleKnown) -> bool
+pub fn has_unresolved(known: &RuleKnown) -> bool
     ensures { result ≡ has_unresolved (rule_verdict known.now) }
 {
     match known {
@@ -83,7 +46,7 @@ fn is_unresolved(known: &Known) -> bool
 }
 
 /// Verdicts on the rule with a number, whose expression has this span, as a report tells them, by the first construct that stands open for it.
-fn rule_told(
+pub fn rule_told(
     alloc: Global,
     known: RuleKnown,
     first: Option<OpenAt>,

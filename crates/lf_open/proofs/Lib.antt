@@ -5,6 +5,7 @@ pub mod Beneath
 pub mod ByOperator
 pub mod ByParts
 pub mod Chosen
+pub mod FirstOfEach
 pub mod Grown
 pub mod Held
 pub mod Joined

@@ -2,6 +2,7 @@
 pub mod Absence
 pub mod Adding
 pub mod Choosing
+pub mod Firsts
 pub mod Holding
 pub mod InOrder
 pub mod Known

@@ -6,6 +6,7 @@ mod adding;
 mod calls;
 mod choosing;
 mod construct;
+mod firsts;
 mod forms;
 mod holding;
 mod known;
@@ -26,5 +27,6 @@ mod telling;
 mod told;
 
 pub use construct::Construct;
+pub use firsts::OpenFirsts;
 pub use open_at::OpenAt;
 pub use opens::{Opens, open_constructs};

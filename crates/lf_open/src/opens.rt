@@ -1,11 +1,11 @@
 //! What stands open in rules, for each rule and for all that it reads.
-ghost use Rattle.std.specs.Prelude.{◌≡◌, ◌<◌, ◌++◌, ◌∷◌, [], ℕ, length, List, IfOk, OnOk, slice_get};
+ghost use Rattle.std.specs.Prelude.{◌≡◌, ◌<◌, ◌++◌, ◌∷◌, [], ℕ, length, List, IfOk, OnOk};
 ghost use Rattle.std.specs.List.{Contains};
 ghost use Rattle.lf_ast.specs.Rules.{RuleTree, rule_trees};
 ghost use Rattle.lf_deps.specs.Ordering.{without};
 ghost use Rattle.lf_open.specs.OpenList.{AreOpen, AreOpenOf};
 ghost use Rattle.lf_open.specs.views.Known.{IsKnown, rules_of};
-ghost use Rattle.lf_open.specs.views.Opens.{AreMarked, AreOpens, AreReads, AreReady, IsFirst, IsListOf, rules_at};
+ghost use Rattle.lf_open.specs.views.Opens.{AreMarked, AreOpens, AreReads, AreReady, IsListOf, rules_at};
 
 use crate::adding::push_all;
 use crate::choosing::number;
@@ -36,7 +36,7 @@ pub fn open_constructs(alloc: Global, rules: &Seq<Rule>, i: u32) -> Result<Seq<O
 /// most rules have an answer for each of their labels.
 #[derive(Drop)]
 pub struct Opens<'a> {
-    rules: &'a Seq<Rule>,
+    pub(crate) rules: &'a Seq<Rule>,
     reads: Reads,
     marked: Marked,
 }
@@ -71,16 +71,6 @@ impl<'a> Opens<'a> {
         })
     }
 
-    /// The first open construct of the rule of number `i`, if there is one.
-    pub fn first(&self, alloc: Global, i: u32) -> Result<Option<OpenAt>, Memory>
-        requires opens { AreReady self.now }
-        requires rule { i < length (rules_at self.now) }
-        ensures { (rules : List RuleTree) → AreOpens rules self.now → IfOk result (IsFirst rules i) }
-    {
-        let list = self.list(alloc, i)?;
-        Ok(first_of(list.as_slice()))
-    }
-
     /// The open constructs of the rule of number `i`.
     pub fn list(&self, alloc: Global, i: u32) -> Result<Seq<OpenAt>, Memory>
         requires opens { AreReady self.now }
@@ -95,7 +85,7 @@ impl<'a> Opens<'a> {
     }
 
     /// What is known of the rules.
-    fn known(&self) -> Known<'_>
+    pub(crate) fn known(&self) -> Known<'_>
         requires { AreReady self.now }
         ensures { IsKnown result × (rules_of result ≡ rules_at self.now) }
     {
@@ -140,16 +130,6 @@ impl Marked {
     }
 }
 
-/// The first of open constructs, if there is one.
-fn first_of(list: &[OpenAt]) -> Option<OpenAt>
-    ensures { result ≡ slice_get list.now 0 }
-{
-    match list.get(0) {
-        Some(first) => Some(*first),
-        None => None,
-    }
-}
-
 /// Puts what stands open in the expressions of the rules of some numbers behind others, but for one of these rules.
 fn push_others(
     known: &Known<'_>,
@@ -182,7 +162,7 @@ fn other_list(known: &Known<'_>, alloc: Global, number: u32, i: u32) -> Result<S
 }
 
 /// What stands open in the expression of the rule of a number.
-fn own_list(known: &Known<'_>, alloc: Global, k: usize) -> Result<Seq<OpenAt>, Memory>
+pub(crate) fn own_list(known: &Known<'_>, alloc: Global, k: usize) -> Result<Seq<OpenAt>, Memory>
     requires known { IsKnown known.now }
     requires rule { k < length known.now.rules.now }
     ensures { IfOk result (AreOpenOf (rules_of known.now) k) }

@@ -1,11 +1,9 @@
 -- What the code tells of rules, one after another.
-use Rattle.std.specs.Prelude.{◌≡◌, ℕ, Bool, true, List, map, Option, Some, slice_get}
+use Rattle.std.specs.Prelude.{◌≡◌, ℕ, Bool, true, List, map, Some, slice_get}
 use Rattle.lf_ast.specs.Rules.{RuleTree}
-use Rattle.lf_ast.specs.declared.verdict.RuleVerdicts.{RuleVerdicts}
 use Rattle.lf_checks.specs.Files.{File}
 use Rattle.lf_checks.specs.Finding.{Finding}
 use Rattle.lf_checks.specs.Findings.{AreFindings}
-use Rattle.lf_open.specs.declared.open_at.OpenAt.{OpenAt}
 use Rattle.lf_report.specs.declared.report.Finding.{Finding as ReportFinding}
 use Rattle.lf_report.specs.declared.report.Report.{Report}
 use Rattle.lf_report.specs.declared.report.RuleReport.{RuleReport}
@@ -13,7 +11,7 @@ use Rattle.lf_semantics.specs.Listing.{Listing, universe_of}
 use Rattle.lf_semantics.specs.RowTable.{Environment}
 use Rattle.lf_trials.specs.Verdicts.{IsRuleVerdict, RuleVerdict}
 use Rattle.lf_judge.specs.Founds.{Content}
-use Rattle.lf_judge.specs.Judged.{AreChecked, Checked, IsFirstOpen, files_told, finding_in, finding_told, has_unresolved, is_empty, labels_of, rule_in, rule_told, rules_told, verdicts_told}
+use Rattle.lf_judge.specs.Judged.{AreChecked, Checked, IsFirstOpen, files_told, finding_in, finding_told, has_unresolved, is_empty, labels_of, rule_in, rule_told, rules_told}
 
 module _ (files : List File) (rules : List RuleTree) (env : Environment) where
   -- these are findings of the rule with a number
@@ -34,12 +32,6 @@ module _ (files : List File) (rules : List RuleTree) (env : Environment) where
   -- this is told of the rules
   abbrev pub TellsRules : Bool → List RuleReport → Type 0
   TellsRules labels told = (checked : List Checked) × AreChecked files labels rules env checked × (map rule_in told ≡ rules_told labels 0 checked)
-
--- these are told as the verdicts on the rule with a number, by the first construct that stands open for it where a label stays unresolved
-abbrev pub TellsVerdicts : List RuleTree → Environment → ℕ → RuleTree → RuleVerdicts → Type 0
-TellsVerdicts rules env i r told =
-    (verdict : RuleVerdict) × (first : Option OpenAt) × IsRuleVerdict (universe_of rules) env rules i r verdict × (has_unresolved verdict ≡ true → IsFirstOpen rules i first)
-    × (told ≡ verdicts_told first i r verdict)
 
 -- the rule with a number is called empty so
 abbrev pub TellsEmpty : List RuleTree → Environment → ℕ → RuleTree → Bool → Type 0
