@@ -130,7 +130,15 @@ fn a_row_is_made_of_its_words(rt: HostRuntime) -> Result<(), Fail> {
     let alloc = rt.alloc();
     let universe = Universe::build(alloc, &Seq::new(alloc))?;
     assert_eq!(rt; universe.words(), 1);
-    for (word, row_word) in [(15, 15), (9, 9), (6, 6), (3, 0), (12, 0), (0, 0), (256 + 9, 9)] {
+    for (word, row_word) in [
+        (15, 15),
+        (9, 9),
+        (6, 6),
+        (3, 0),
+        (12, 0),
+        (0, 0),
+        (256 + 9, 9),
+    ] {
         let row = row_of(alloc, &universe, word)?;
         assert_eq!(rt; word_of(&row), row_word);
         assert_eq!(rt; row.is_empty(), row_word == 0);
