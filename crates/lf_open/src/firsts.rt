@@ -1,5 +1,5 @@
 //! What stands open first in rules, where what stands open in the expression of a rule is looked for once.
-ghost use Rattle.std.specs.Prelude.{◌≡◌, ◌<◌, ◌∷◌, [], ℕ, List, Some, length, IfOk, slice_get, slice_index_or, slice_set};
+ghost use Rattle.std.specs.Prelude.{◌≡◌, ◌<◌, ◌∷◌, [], ℕ, Some, length, IfOk, slice_get, slice_index_or, slice_set};
 ghost use Rattle.std.specs.List.{Contains};
 ghost use Rattle.lf_deps.specs.Ordering.{without};
 ghost use Rattle.lf_open.specs.views.Firsts.{AreFirstsReady, AreKept, IsFirstOfEach, IsOwnFirst, earlier, rules_in};
