@@ -1,0 +1,10 @@
+pub mod Allowed
+pub mod Environments
+pub mod Events
+pub mod Loading
+pub mod Pieces
+pub mod Raising
+pub mod Reading
+pub mod Seated
+pub mod WordSteps
+pub mod Working

@@ -1,0 +1,3 @@
+-- How contracts see the code's own data: nobody has to believe it, and no definition uses it.
+pub mod Kept
+pub mod Working
