@@ -1,7 +1,9 @@
 pub mod Allowed
+pub mod Closing
 pub mod Environments
 pub mod Events
 pub mod Loading
+pub mod Making
 pub mod Pieces
 pub mod Raising
 pub mod Reading

@@ -1,9 +1,11 @@
 -- The pieces are the recording rules, and what they store lies in each post-fixed point.
-use Rattle.std.proofs.Common.{◌≡◌, ℕ, zero, suc, ◌+◌, ◌*◌, ◌<◌, ◌≤◌, Bool, true, false, not, cond, List, [], ◌∷◌, map, length, get_or, take, drop, Option, Some, None, inl, inr, refl, sym, ◌∙◌, ap, subst, arith}
+use Rattle.std.proofs.Common.{◌≡◌, ℕ, zero, suc, ◌+◌, ◌*◌, ◌<◌, ◌≤◌, Bool, true, false, not, cond, List, [], ◌∷◌, ◌++◌, map, length, get_or, take, drop, Option, Some, None, inl, inr, refl, sym, ◌∙◌, ap, subst, arith}
 use Rattle.std.specs.Prelude.{option_and_then, slice_get}
 use Rattle.std.specs.Option.{option_map_or}
 use Rattle.std.specs.List.{AllByRecursion, Contains, filter}
 use Rattle.std.specs.Str.{bytes_eq}
+use Rattle.std.proofs.lemmas.List.{append-nil, take_more}
+use Rattle.std.proofs.lemmas.List.Elements.{filter-append}
 use Rattle.std.proofs.lemmas.Option.{get_or_from_slice_get, same_Some, slice_get-get_or, slice_get_within}
 use Rattle.lf_ast.specs.Labels.{Bytes}
 use Rattle.lf_ast.specs.Rules.{RuleTree}
@@ -128,3 +130,16 @@ least_words t is words held below = record {
       (λ k h. let P : ℕ → Type 0 = λ w. WordLeq (row_word stored k) w in subst P (sym (word_of_part words at n k h)) (held r c e k h))));
   least = λ other of closed. stands_below t is words other of (below other of closed);
 }
+
+-- numbers that are looked through
+
+abbrev pub next_piece : (ℕ → Bool) → ℕ → List ℕ → List ℕ
+next_piece test x found = cond (test x) (found ++ x ∷ []) found
+
+pub filter_next : (test : ℕ → Bool) (xs : List ℕ) (i : ℕ) → i < length xs → next_piece test (get_or xs i 0) (filter test (take i xs)) ≡ filter test (take (i + 1) xs)
+filter_next test xs i h =
+    by (test (get_or xs i 0)) refl ∙ sym (ap (filter test) (take_more xs i 0 h) ∙ filter-append test (take i xs) (get_or xs i 0 ∷ []))
+  where
+    by : (b : Bool) → test (get_or xs i 0) ≡ b → cond (test (get_or xs i 0)) (filter test (take i xs) ++ get_or xs i 0 ∷ []) (filter test (take i xs)) ≡ filter test (take i xs) ++ cond (test (get_or xs i 0)) (get_or xs i 0 ∷ []) []
+    by true e = rw e refl
+    by false e = rw e (sym (append-nil (filter test (take i xs))))

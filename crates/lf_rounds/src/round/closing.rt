@@ -48,9 +48,17 @@ impl Round {
         let words = row_words(alloc, &closed, start.len());
         closed.free();
         let words = words?;
-        let changed = words.as_slice() != start.as_slice();
+        let changed = differ(words.as_slice(), start.as_slice());
         Ok(RoundEnd { words, changed })
     }
+}
+
+/// Whether some word isn't the same.
+fn differ(words: &[u64], start: &[u64]) -> bool
+    ensures differ { IsTrue result ↔ (words.now ≢ start.now) }
+    ensures same { result ≡ false → words.now ≡ start.now }
+{
+    words != start
 }
 
 /// The row words of a table that was closed, which stand behind the claim word.

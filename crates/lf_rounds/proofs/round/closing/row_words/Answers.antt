@@ -19,4 +19,4 @@ one_more xs i x e = rw add-one (after xs i x (rw add-one at e))
 
 pub loop-k-preserved : goal.loop-k-preserved
 loop-k-preserved c =
-    c.in_ok-push.ensures ∙ ap (λ (l : List ℕ). l ++ c.word.result ∷ []) c.loop-k.invariant ∙ one_more (slots_items c.args.closed.now.words) c.loop-k.k c.word.result c.word.ensures
+    c.in_ok-push.ensures.ok ∙ ap (λ (l : List ℕ). l ++ c.word.result ∷ []) c.loop-k.invariant ∙ one_more (slots_items c.args.closed.now.words) c.loop-k.k c.word.result c.word.ensures
