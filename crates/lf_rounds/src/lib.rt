@@ -3,5 +3,7 @@
 
 mod round;
 pub mod rule;
+mod solving;
 
 pub use round::{Round, RoundEnd, RoundSeat};
+pub use solving::solve_shared;

@@ -6,6 +6,7 @@ ghost use Rattle.lf_classes.specs.RowWords.{WordsLeq};
 ghost use Rattle.lf_semantics.specs.Environments.{IsLeast};
 ghost use Rattle.lf_ast.specs.Rules.{rule_trees};
 ghost use Rattle.lf_rounds.specs.Facts.{task};
+ghost use Rattle.lf_rounds.specs.Words.{AreWords};
 ghost use Rattle.lf_rounds.specs.Tasks.{HoldRules, IsBelowLeast, stands_for};
 
 use super::{Round, RoundSeat};
@@ -30,6 +31,7 @@ impl Round {
         // Each piece was claimed once.
         ensures claims { AreNumbersBelow self.board.pieces seat.claims }
         ensures len { IfOk result (λ end. length end.words ≡ length self.start) }
+        ensures fit { IfOk result (λ end. AreWords end.words) }
         ensures above { IfOk result (λ end. WordsLeq self.start end.words) }
         ensures rules { IfOk result (λ end. HoldRules self.universe (rule_trees self.rules) end.words self.start) }
         ensures below { IfOk result (λ end. IsBelowLeast self.universe (rule_trees self.rules) end.words) }
@@ -64,7 +66,8 @@ fn differ(words: &[u64], start: &[u64]) -> bool
 /// The row words of a table that was closed, which stand behind the claim word.
 fn row_words(alloc: Global, closed: &Closed<(), Global>, count: usize) -> Result<Seq<u64>, Memory>
     requires { IsFull closed.now.words × (slots_len closed.now.words ≡ count + 1) }
-    ensures { IfOk result (λ words. words ≡ drop 1 (slots_items closed.now.words)) }
+    ensures words { IfOk result (λ words. words ≡ drop 1 (slots_items closed.now.words)) }
+    ensures fit { IfOk result AreWords }
 {
     let mut words = Seq::new(alloc);
     for k in 0..count {

@@ -54,7 +54,7 @@ returns-clause-rules c =
     let shut = missed_some v.board.missed c.seat.inside.is_open c.seat.invariant.2 (ap (λ (f : RoundSeatFacts). f.is_open) seat ∙ c.requires.shut.0) in
     let room = ap (λ (f : RoundSeatFacts). f.room) seat ∙ c.requires.last ∙ sym (ap (λ (f : RoundFacts). f.board.seats - 1) shown) in
     let count = ap (λ (l : List ℕ). length l) c.self.invariant.pieces ∙ sym c.self.invariant.count in
-    let end = ends_round k s.id v last.0.words c.in_ok-words.words last.0.views c.self.invariant.task count (c.in_ok-words.ensures ∙ ap (drop 1) (sym last.2)) last.1.0 last.1.1 idle c.seat.invariant.0 room shut in
+    let end = ends_round k s.id v last.0.words c.in_ok-words.words last.0.views c.self.invariant.task count (c.in_ok-words.ensures.words ∙ ap (drop 1) (sym last.2)) last.1.0 last.1.1 idle c.seat.invariant.0 room shut in
     let H : RoundFacts → Type 0 = λ f. HoldRules f.universe (rule_trees f.rules) c.in_ok-words.words f.start in
     subst H shown end.held
 
@@ -70,7 +70,7 @@ returns-clause-below c =
     let shut = missed_some v.board.missed c.seat.inside.is_open c.seat.invariant.2 (ap (λ (f : RoundSeatFacts). f.is_open) seat ∙ c.requires.shut.0) in
     let room = ap (λ (f : RoundSeatFacts). f.room) seat ∙ c.requires.last ∙ sym (ap (λ (f : RoundFacts). f.board.seats - 1) shown) in
     let count = ap (λ (l : List ℕ). length l) c.self.invariant.pieces ∙ sym c.self.invariant.count in
-    let end = ends_round k s.id v last.0.words c.in_ok-words.words last.0.views c.self.invariant.task count (c.in_ok-words.ensures ∙ ap (drop 1) (sym last.2)) last.1.0 last.1.1 idle c.seat.invariant.0 room shut in
+    let end = ends_round k s.id v last.0.words c.in_ok-words.words last.0.views c.self.invariant.task count (c.in_ok-words.ensures.words ∙ ap (drop 1) (sym last.2)) last.1.0 last.1.1 idle c.seat.invariant.0 room shut in
     let B : RoundFacts → Type 0 = λ f. IsBelowLeast f.universe (rule_trees f.rules) c.in_ok-words.words in
     subst B shown end.below
 
@@ -86,7 +86,7 @@ returns-clause-least c still =
     let shut = missed_some v.board.missed c.seat.inside.is_open c.seat.invariant.2 (ap (λ (f : RoundSeatFacts). f.is_open) seat ∙ c.requires.shut.0) in
     let room = ap (λ (f : RoundSeatFacts). f.room) seat ∙ c.requires.last ∙ sym (ap (λ (f : RoundFacts). f.board.seats - 1) shown) in
     let count = ap (λ (l : List ℕ). length l) c.self.invariant.pieces ∙ sym c.self.invariant.count in
-    let end = ends_round k s.id v last.0.words c.in_ok-words.words last.0.views c.self.invariant.task count (c.in_ok-words.ensures ∙ ap (drop 1) (sym last.2)) last.1.0 last.1.1 idle c.seat.invariant.0 room shut in
+    let end = ends_round k s.id v last.0.words c.in_ok-words.words last.0.views c.self.invariant.task count (c.in_ok-words.ensures.words ∙ ap (drop 1) (sym last.2)) last.1.0 last.1.1 idle c.seat.invariant.0 room shut in
     let round = c.args.self in
     let T : RoundFacts → Type 0 = λ f. IsTask (task f) in
     let is : IsTask (task round) = subst T shown c.self.invariant.task in

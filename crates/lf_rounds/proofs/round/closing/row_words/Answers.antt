@@ -1,8 +1,10 @@
-use Rattle.std.proofs.Common.{◌≡◌, ℕ, zero, suc, ◌+◌, ◌<◌, List, [], ◌∷◌, ◌++◌, take, drop, length, refl, sym, ap, ◌∙◌, add-one, arith, rules}
+use Rattle.std.proofs.Common.{◌≡◌, ℕ, zero, suc, ◌+◌, ◌<◌, List, [], ◌∷◌, ◌++◌, take, drop, length, refl, sym, ap, ◌∙◌, subst, add-one}
 use Rattle.std.proofs.lemmas.Grind.{common_steps}
 use mathlib.Core.Option.{some, some-injective, some-ne-none}
 use lib.ListN.{get_elem?}
 use Rattle.std.specs.Slots.{slots_items}
+use Rattle.lf_rounds.specs.Words.{AreWords}
+use Rattle.lf_rounds.proofs.Bits.{word_more}
 use Rattle.lf_rounds.proofs.round.closing.row_words.Goals as goal
 
 one_more : (xs : List ℕ) (i x : ℕ) → get_elem? xs (i + 1) ≡ some x → take i (drop 1 xs) ++ x ∷ [] ≡ take (i + 1) (drop 1 xs)
@@ -19,4 +21,8 @@ one_more xs i x e = rw add-one (after xs i x (rw add-one at e))
 
 pub loop-k-preserved : goal.loop-k-preserved
 loop-k-preserved c =
-    c.in_ok-push.ensures.ok ∙ ap (λ (l : List ℕ). l ++ c.word.result ∷ []) c.loop-k.invariant ∙ one_more (slots_items c.args.closed.now.words) c.loop-k.k c.word.result c.word.ensures
+    let P : List ℕ → Type 0 = λ l. AreWords l in
+    record {
+      words = c.in_ok-push.ensures.ok ∙ ap (λ (l : List ℕ). l ++ c.word.result ∷ []) c.loop-k.invariant.words ∙ one_more (slots_items c.args.closed.now.words) c.loop-k.k c.word.result c.word.ensures;
+      fit = subst P (sym c.in_ok-push.ensures.ok) (word_more c.loop-k.words c.word.result c.loop-k.invariant.fit c.word.type_inv);
+    }
