@@ -30,11 +30,13 @@ some_label u p = omega (arith, length-map u.named (λ named. length named + 2), 
 -- parts of words
 
 take_leq : (n : ℕ) (xs ys : List ℕ) → WordsLeq xs ys → WordsLeq (take n xs) (take n ys)
-take_leq n xs ys leq = record { at = λ k. elim (cases_lt k n) [
-  | inl h ↦ (let P : ℕ × ℕ → Type 0 = λ w. WordLeq w.0 w.1 in subst P (λ i. (sym (get_or-take n xs k 0 h) i, sym (get_or-take n ys k 0 h) i)) (leq.at k))
-  | inr h ↦ (let P : ℕ × ℕ → Type 0 = λ w. WordLeq w.0 w.1 in
-      subst P (λ i. (sym (get_or_past (take n xs) k 0 (omega (arith, h, length-take n xs))) i, sym (get_or_past (take n ys) k 0 (omega (arith, h, length-take n ys))) i)) (word_refl 0))
-] }
+take_leq n xs ys leq = record {
+  at = λ k. elim (cases_lt k n) [
+    | inl h ↦ (let P : ℕ × ℕ → Type 0 = λ w. WordLeq w.0 w.1 in subst P (λ i. (sym (get_or-take n xs k 0 h) i, sym (get_or-take n ys k 0 h) i)) (leq.at k))
+    | inr h ↦ (let P : ℕ × ℕ → Type 0 = λ w. WordLeq w.0 w.1 in
+        subst P (λ i. (sym (get_or_past (take n xs) k 0 (omega (arith, h, length-take n xs))) i, sym (get_or_past (take n ys) k 0 (omega (arith, h, length-take n ys))) i)) (word_refl 0))
+  ];
+}
 
 drop_leq : (n : ℕ) (xs ys : List ℕ) → WordsLeq xs ys → WordsLeq (drop n xs) (drop n ys)
 drop_leq n xs ys leq = record { at = λ k. let P : ℕ × ℕ → Type 0 = λ w. WordLeq w.0 w.1 in subst P (λ i. (sym (get_or-drop n xs k 0) i, sym (get_or-drop n ys k 0) i)) (leq.at (n + k)) }

@@ -9,5 +9,6 @@ pub mod Pieces
 pub mod Raising
 pub mod Reading
 pub mod Seated
+pub mod Looping
 pub mod WordSteps
 pub mod Working

@@ -43,9 +43,6 @@ place_in (x ∷ xs) t c = by (bytes_eq x t) refl (place_in xs t)
 pub name_within : (t : Task) (r : RuleTree) → Contains t.rules r → r.alert ≡ false → place (names t) r.name < length (names t)
 name_within t r c e = place_in (names t) r.name (in_first_seen (names_recorded t.rules) r.name (in_names t.rules r c e))
 
-
-
-
 -- pieces and rules
 
 rule_found : (rules : List RuleTree) (o : Option ℕ) (r : RuleTree) → option_and_then (λ number. slice_get rules number) o ≡ Some r → (number : ℕ) × (o ≡ Some number) × (slice_get rules number ≡ Some r)
@@ -124,10 +121,12 @@ least_words t is words held below = record {
       let at = place (names t) r.name * n in
       let row : Sets = row_of_words u (take n (drop at words)) in
       let ok = (words_of_rules u is.listing t.rules words is.covers).environment in
-      let stored : Sets = recorded_row u (stands_for t words) r in
-      (row, named_row u is.listing (names t) words r.name (name_within t r c e),
-      leq_words u (some_label u is.listing) stored (take n (drop at words)) (recorded_row_is u is.listing (stands_for t words) ok r)
-      (λ k h. let P : ℕ → Type 0 = λ w. WordLeq (row_word stored k) w in subst P (sym (word_of_part words at n k h)) (held r c e k h))));
+      let stored : Sets = recorded_row u (stands_for t words) r in (
+        row,
+        named_row u is.listing (names t) words r.name (name_within t r c e),
+        leq_words u (some_label u is.listing) stored (take n (drop at words)) (recorded_row_is u is.listing (stands_for t words) ok r)
+            (λ k h. let P : ℕ → Type 0 = λ w. WordLeq (row_word stored k) w in subst P (sym (word_of_part words at n k h)) (held r c e k h)),
+      ));
   least = λ other of closed. stands_below t is words other of (below other of closed);
 }
 

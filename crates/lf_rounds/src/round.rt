@@ -9,13 +9,12 @@ mod working;
 
 use crate::rule::{About, Cut, Merge, Rising, RoundView};
 use atomic_table::{Seat, Table};
+pub use closing::RoundEnd;
 use lf_base::Seq;
 use lf_board::rule::Cutting;
 use lf_classes::TextSet;
 use std::alloc::Global;
 use std::marker::{Brand, Model};
-
-pub use closing::RoundEnd;
 
 /// A round over the recording rules of rules: each is computed once, from rows that only grow while others raise them, and its row is raised in turn. Any number of threads
 /// may share it.
@@ -31,7 +30,6 @@ pub struct Round {
 impl Model for Round {
     ghost use Rattle.lf_rounds.specs.Facts.{RoundFacts};
     ghost use Rattle.lf_rounds.specs.views.Kept.{IsKept, round_facts};
-
     ghost use Rattle.lf_ast.specs.contracts.expr.Expr as expr;
     ghost use Rattle.std.specs.Coded.{codes};
 

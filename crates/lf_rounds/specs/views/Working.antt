@@ -3,16 +3,18 @@ use Rattle.std.specs.Prelude.{◌≡◌, ℕ, suc, ◌+◌, ◌-◌, ◌⊎◌, 
 use Rattle.std.specs.List.{Contains}
 use Rattle.atomic_table.specs.Seated.{TableId}
 use Rattle.atomic_table.specs.Table.{Me}
+use Rattle.lf_ast.specs.Labels.{Bytes}
 use Rattle.lf_board.specs.declared.rule.View.{View}
 use Rattle.lf_classes.specs.RowWords.{row_word}
 use Rattle.lf_flow.specs.Reads.{names_of, rows_of}
 use Rattle.lf_semantics.specs.Environments.{IsEnvironmentOf}
 use Rattle.lf_semantics.specs.ClassRows.{Sets}
+use Rattle.lf_semantics.specs.Listing.{Listing}
 use Rattle.lf_semantics.specs.RowTable.{Environment}
 use Rattle.lf_rounds.specs.Facts.{RoundFacts}
 use Rattle.lf_rounds.specs.Rounds.{noted}
 use Rattle.lf_rounds.specs.Tasks.{Task, place_of, stands_for, stored_word, width}
-use Rattle.lf_rounds.specs.declared.rule.Load.{Load}
+use Rattle.lf_rounds.specs.Words.{environment_of}
 use Rattle.lf_rounds.specs.declared.rule.RoundView.{RoundView}
 use Rattle.lf_rounds.specs.views.Kept.{board_at}
 
@@ -82,3 +84,8 @@ pub record IsRaising (v : RoundView) (count : ℕ) (w : RoundView) : Type 0 wher
 abbrev pub left_of : ℕ → Option ℕ → RoundView → ℕ
 left_of count None v = 0
 left_of count (Some piece) v = suc (count - length v.board.claims)
+
+-- an environment of these names, whose first rows are those for which words stand
+pub record IsMade (u : Listing) (ns : List Bytes) (words : List ℕ) (count : ℕ) (env : Environment) : Type 0 where
+  pub names : names_of env ≡ ns
+  pub rows : (k : ℕ) → k < count → slice_index_or (rows_of env) k [] ≡ slice_index_or (rows_of (environment_of u ns words)) k []

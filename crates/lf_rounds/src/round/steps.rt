@@ -61,8 +61,6 @@ impl Round {
         ensures used { IsUsed self.now seat.new.table_id seat.new.me }
         ensures finished { (added : Bool) × (seat.new.me.0 ≡ finished_view seat.old.me.0 added) }
     {
-        self.table
-            .shared
-            .fetch_or::<Finish>(seat, place + 1, word);
+        self.table.shared.fetch_or::<Finish>(seat, place + 1, word);
     }
 }

@@ -19,9 +19,11 @@ fetch_or-requires c =
     let place : c.args.place ≡ place_of (task_of k) v.piece v.raised = c.requires.place ∙ sym (ap (λ (f : RoundFacts). place_of (task f) v.piece v.raised) c.self.view_is) in
     let word : c.args.word ≡ stored_word (task_of k) v.piece (noted (task_of k).start v.loads) v.raised =
     c.requires.word ∙ sym (ap (λ (f : RoundFacts). stored_word (task f) v.piece (noted f.start v.loads) v.raised) c.self.view_is) in
-    let wide = ap (λ (f : RoundFacts). width (task f)) c.self.view_is in
-    (ap (λ (b : BoardFacts). b.table) own, omega (arith, c.requires.within, long, kept, c.self.invariant.words),
-    may_raise k s.id s.me c.args.place within c.requires.work.0 c.self.invariant.task c.requires.used.live c.args.word place word r.table_id.slots (c.args.place + 1) (omega arith) (omega (arith, wide, c.requires.work.1)))
+    let wide = ap (λ (f : RoundFacts). width (task f)) c.self.view_is in (
+      ap (λ (b : BoardFacts). b.table) own,
+      omega (arith, c.requires.within, long, kept, c.self.invariant.words),
+      may_raise k s.id s.me c.args.place within c.requires.work.0 c.self.invariant.task c.requires.used.live c.args.word place word r.table_id.slots (c.args.place + 1) (omega arith) (omega (arith, wide, c.requires.work.1)),
+    )
 
 pub overflow_add-place : goal.overflow_add-place
 overflow_add-place c =
