@@ -48,6 +48,9 @@ zeros_fit n k d h =
 pub zeros_are : (words : List ℕ) (n : ℕ) → words ≡ zeros n → (length words ≡ n) × AreWords words
 zeros_are words n e = (ap length e ∙ length-zeros n, subst AreWords (sym e) (zeros_fit n))
 
+pub zeros_count : (words : List ℕ) (n : ℕ) → words ≡ zeros n → words ≡ replicate (length words) 0
+zeros_count words n e = e ∙ ap zeros (sym (ap length e ∙ length-zeros n))
+
 -- an environment that is made row by row
 
 bottom_names : (u : Listing) (ns : List Bytes) → names_of (map (λ (name : Bytes). (name, bottom u)) ns) ≡ ns

@@ -1,5 +1,5 @@
 //! The least environment by rounds.
-ghost use Rattle.std.specs.Prelude.{◌≡◌, true, false, ◌*◌, ◌+◌, ◌<◌, ◌≤◌, drop, length, replicate, take, IfOk};
+ghost use Rattle.std.specs.Prelude.{◌≡◌, true, false, ◌*◌, ◌+◌, ◌<◌, ◌≤◌, drop, length, take, IfOk};
 ghost use Rattle.std.specs.Thread.{IsSync};
 ghost use Rattle.lf_ast.specs.Rules.{rule_trees};
 ghost use Rattle.lf_classes.specs.RowWords.{row_of_words, word_count};
@@ -7,10 +7,10 @@ ghost use Rattle.lf_semantics.specs.Environments.{CoversRules, IsLeast, recorded
 ghost use Rattle.lf_rounds.specs.Words.{environment_of};
 ghost use Rattle.lf_rounds.specs.views.Workers.{HasRoomFor, IsFresh, IsOf, IsShut};
 
-use crate::{Round, RoundSeat};
+use crate::{Round, RoundSeat, first_words};
 use lf_ast::Rule;
 use lf_base::{Gate, Memory, Seq};
-use lf_classes::{Row, Universe, recorded_names};
+use lf_classes::{Row, Universe};
 use lf_flow::Env;
 use std::alloc::Global;
 use std::thread::{Threads, join};
@@ -29,7 +29,7 @@ pub fn solve_shared<R: Threads + Sync, G: Gate + Sync>(
     requires covers { CoversRules universe.now (rule_trees rules.now) }
     ensures { IfOk result (IsLeast universe.now (rule_trees rules.now)) }
 {
-    let mut words = no_bits(alloc, universe, rules)?;
+    let mut words = first_words(alloc, universe, rules)?;
     loop {
         let (round, seat) = Round::new(alloc, universe, rules, &words, workers)?;
         let seat = run(rt, alloc, &round, seat, universe, rules, workers, gate)?;
@@ -80,18 +80,6 @@ fn run<R: Threads + Sync, G: Gate + Sync>(
     let mut mine = back?;
     round.join(&mut mine, other);
     Ok(mine)
-}
-
-/// The words of rows in which no recorded name has a class.
-fn no_bits(alloc: Global, universe: &Universe, rules: &Seq<Rule>) -> Result<Seq<u64>, Memory>
-    ensures { IfOk result (λ words. words ≡ replicate (length (recorded_names (rule_trees rules.now)) * word_count universe.now) 0) }
-{
-    let names = recorded_names(alloc, rules.as_slice())?;
-    let Some(count) = names.len().checked_mul(universe.words() as usize) else {
-        return Err(Memory);
-    };
-    let words = vec![in alloc; 0; count]?;
-    Ok(Seq::from_vec(words))
 }
 
 /// The environment for which words stand. Want of memory where the number of a name doesn't fit a `u32`.
