@@ -1,0 +1,14 @@
+pub mod Allowed
+pub mod Bits
+pub mod Closing
+pub mod Environments
+pub mod Events
+pub mod Loading
+pub mod Making
+pub mod Pieces
+pub mod Raising
+pub mod Reading
+pub mod Seated
+pub mod Looping
+pub mod WordSteps
+pub mod Working

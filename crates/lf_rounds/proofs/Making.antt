@@ -1,0 +1,50 @@
+-- A round that is made.
+use Rattle.std.proofs.Common.{◌≡◌, ℕ, ◌+◌, ◌*◌, ◌<◌, ◌≤◌, ◌^◌, List, [], ◌∷◌, length, refl, sym, ◌∙◌, ap, subst}
+use Rattle.atomic_table.specs.Seated.{TableId}
+use Rattle.lf_ast.specs.Labels.{Bytes}
+use Rattle.lf_ast.specs.Rules.{RuleTree, rule_trees}
+use Rattle.lf_ast.specs.declared.rule.Rule.{Rule}
+use Rattle.lf_classes.specs.RowWords.{word_count}
+use Rattle.lf_semantics.specs.Environments.{CoversRules, recorded_names}
+use Rattle.lf_semantics.specs.Listing.{IsListing, Listing}
+use Rattle.lf_rounds.specs.Rounds.{HoldsWords, opening_view, task_of}
+use Rattle.lf_rounds.specs.Tasks.{ArePieces, IsBelowLeast, IsTask}
+use Rattle.lf_rounds.specs.declared.rule.About.{About}
+use Rattle.lf_rounds.specs.views.Kept.{IsKept}
+use Rattle.lf_rounds.proofs.Events.{begins}
+
+module _ (k : About) (u : Listing) (rules : List Rule) (numbers words : List ℕ) (eu : k.universe.value ≡ u) (er : k.rules.value ≡ rules) (ep : k.pieces.value ≡ numbers) (es : k.start.value ≡ words) where
+  task_over : IsListing u → CoversRules u (rule_trees rules) → ArePieces (rule_trees rules) numbers → length words ≡ length (recorded_names (rule_trees rules)) * word_count u → IsTask (task_of k)
+  task_over p covers pieces count =
+      let C : Listing × List Rule → Type 0 = λ x. CoversRules x.0 (rule_trees x.1) in
+      let P : List Rule × List ℕ → Type 0 = λ x. ArePieces (rule_trees x.0) x.1 in
+      record {
+        listing = subst IsListing (sym eu) p;
+        covers = subst C (λ i. (sym eu i, sym er i)) covers;
+        pieces = subst P (λ i. (sym er i, sym ep i)) pieces;
+        words = ap length es ∙ count ∙ (λ i. length (recorded_names (rule_trees (sym er i))) * word_count (sym eu i));
+      }
+
+  pub kept_over : (table : TableId) (recorded : List Bytes) (wide : ℕ) → IsListing u → CoversRules u (rule_trees rules) → ArePieces (rule_trees rules) numbers → length words ≡ length (recorded_names (rule_trees rules)) * word_count u
+      → k.counts.pieces ≡ length numbers → length numbers < 2 ^ 32 → k.counts.seats ≤ 64 → table.words ≡ length words + 1 → length words + 1 < 2 ^ 64 → table.slots ≡ 0
+      → recorded ≡ recorded_names (rule_trees rules) → wide ≡ word_count u → IsKept k table recorded numbers words wide
+  kept_over table recorded wide p covers pieces count counted few seats wordy fits slots names width = record {
+    task = task_over p covers pieces count;
+    pieces = ep;
+    start = es;
+    count = counted;
+    few = few;
+    seats = seats;
+    words = wordy;
+    fits = fits;
+    slots = slots;
+    names = names ∙ ap (λ rs. recorded_names (rule_trees rs)) (sym er);
+    width = width ∙ ap word_count (sym eu);
+  }
+
+  -- the rule holds of a table with the claim word at 0 and these words behind it
+  pub opens_over : (table : List ℕ) → table ≡ 0 ∷ words → IsBelowLeast u (rule_trees rules) words → HoldsWords k table (opening_view k ∷ [])
+  opens_over table e below =
+      let P : List ℕ → Type 0 = λ ws. HoldsWords k ws (opening_view k ∷ []) in
+      let B : Listing × List Rule × List ℕ → Type 0 = λ x. IsBelowLeast x.0 (rule_trees x.1) x.2 in
+      subst P (sym (e ∙ ap (λ ws. 0 ∷ ws) (sym es))) (begins k (subst B (λ i. (sym eu i, sym er i, sym es i)) below))

@@ -1,0 +1,51 @@
+use Rattle.std.proofs.Common.{◌≡◌, ◌≢◌, ◌+◌, ◌*◌, ◌<◌, ◌≤◌, ℕ, List, length, get_or, set, ap, sym, ◌∙◌, subst, arith}
+use Rattle.lf_rounds.specs.Facts.{RoundFacts, task}
+use Rattle.lf_rounds.specs.Rounds.{noted}
+use Rattle.lf_rounds.specs.Tasks.{IsTask, width}
+use Rattle.lf_rounds.specs.declared.rule.RoundView.{RoundView}
+use Rattle.lf_rounds.specs.views.Working.{seen}
+use Rattle.lf_rounds.proofs.Loading.{all_read, length_more, noted_same, others_more, read_more, row_within}
+use Rattle.lf_rounds.proofs.WordSteps.{length-noted}
+use Rattle.lf_rounds.proofs.round.Round.load_words.Goals as goal
+
+pub loop-k-preserved : goal.loop-k-preserved
+loop-k-preserved c =
+    let round = c.args.self.now in
+    let l = c.loop-k in
+    let inv = l.invariant in
+    let number = c.args.number in
+    let wide = c.self.inside.width in
+    let at = number * wide in
+    let same : wide ≡ width (task round) = c.self.invariant.width ∙ ap (λ (f : RoundFacts). width (task f)) c.self.view_is in
+    let T : RoundFacts → Type 0 = λ f. IsTask (task f) in
+    let is : IsTask (task round) = subst T c.self.view_is c.self.invariant.task in
+    let before = seen round l.seat.me in
+    let after = seen round c.load.new.seat.me in
+    let long : length before ≡ length round.start = length-noted round.start l.seat.me.0.loads in
+    let part : at + wide ≤ length round.start = omega (arith, row_within round is number c.requires.number, ap (λ n. number * n) same, same) in
+    let within : at + l.k < length before = omega (arith, part, long, c.loop-k-test.true) in
+    let eq : after ≡ set before (at + l.k) c.load.result = ap (λ (v : RoundView). noted round.start v.loads) c.load.ensures.noted in
+    let h : l.k < width (task round) = omega (arith, c.loop-k-test.true, same) in
+    record {
+      used = c.load.ensures.used;
+      same = noted_same c.args.seat.now.me.0 l.seat.me.0 c.load.new.seat.me.0 (at + l.k) c.load.result inv.same c.load.ensures.noted;
+      others = others_more before after (seen round c.args.seat.now.me) l.words c.push.new.self at l.k (width (task round)) c.load.result eq within h c.in_ok-push.ensures.ok inv.len inv.others;
+      len = length_more before after (seen round c.args.seat.now.me) l.words c.push.new.self at l.k (width (task round)) c.load.result eq within h c.in_ok-push.ensures.ok inv.len;
+      read = read_more before after (seen round c.args.seat.now.me) l.words c.push.new.self at l.k (width (task round)) c.load.result eq within h c.in_ok-push.ensures.ok inv.len inv.read;
+    }
+
+pub returns-clause-words : goal.returns-clause-words
+returns-clause-words c =
+    let round = c.args.self.now in
+    let l = c.loop-k in
+    let inv = l.invariant in
+    let number = c.args.number in
+    let wide = c.self.inside.width in
+    let same : wide ≡ width (task round) = c.self.invariant.width ∙ ap (λ (f : RoundFacts). width (task f)) c.self.view_is in
+    let T : RoundFacts → Type 0 = λ f. IsTask (task f) in
+    let is : IsTask (task round) = subst T c.self.view_is c.self.invariant.task in
+    let all = seen round l.seat.me in
+    let long : length all ≡ length round.start = length-noted round.start l.seat.me.0.loads in
+    let full : length l.words ≡ width (task round) = omega (arith, inv.len, c.loop-k-test.false, l.auto.k-end, same) in
+    all_read l.words all (number * width (task round)) (width (task round)) full (omega (arith, row_within round is number c.requires.number, long))
+    (λ j h. inv.read j (omega (arith, h, full, inv.len)) ∙ ap (λ w. get_or all (number * w + j) 0) same)

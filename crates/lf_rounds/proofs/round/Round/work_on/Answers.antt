@@ -1,0 +1,42 @@
+use Rattle.std.proofs.Common.{◌≡◌, ◌*◌, ℕ, List, ap, sym, ◌∙◌, subst}
+use Rattle.lf_ast.specs.Labels.{Bytes}
+use Rattle.lf_ast.specs.Rules.{rule_tree}
+use Rattle.lf_semantics.proofs.NormalizedRows.{recorded_row_is}
+use Rattle.lf_semantics.specs.ClassRows.{HasShape, Sets}
+use Rattle.lf_semantics.specs.Environments.{recorded_row}
+use Rattle.lf_semantics.specs.Listing.{IsListing, Listing, place}
+use Rattle.lf_rounds.specs.Facts.{RoundFacts, task}
+use Rattle.lf_rounds.specs.Tasks.{IsTask, names, width}
+use Rattle.lf_rounds.specs.views.Working.{IsStored, seen}
+use Rattle.lf_rounds.proofs.Working.{is_stored}
+use Rattle.lf_rounds.proofs.round.Round.work_on.Goals as goal
+
+pub recorded_row-requires-clause-listing : goal.recorded_row-requires-clause-listing
+recorded_row-requires-clause-listing c =
+    let round = c.args.self.now in
+    let T : RoundFacts → Type 0 = λ f. IsTask (task f) in
+    let is : IsTask (task round) = subst T c.self.view_is c.self.invariant.task in
+    subst IsListing (sym c.requires.over.0) is.listing
+
+pub raise_row-requires-clause-row : goal.raise_row-requires-clause-row
+raise_row-requires-clause-row c =
+    let round = c.args.self.now in
+    let T : RoundFacts → Type 0 = λ f. IsTask (task f) in
+    let is : IsTask (task round) = subst T c.self.view_is c.self.invariant.task in
+    let S : Sets → Type 0 = λ row. HasShape round.universe row in
+    let made : c.in_ok-row.row ≡ recorded_row round.universe c.load_read.new.env (rule_tree c.rule_of-rule.result.now) =
+    c.in_ok-row.ensures ∙ ap (λ (u : Listing). recorded_row u c.load_read.new.env (rule_tree c.rule_of-rule.result.now)) c.requires.over.0 in
+    subst S (sym made) (recorded_row_is round.universe is.listing c.load_read.new.env c.in_ok-load_read.ensures.env.environment (rule_tree c.rule_of-rule.result.now)).0
+
+pub raise_row-requires-clause-stored : goal.raise_row-requires-clause-stored
+raise_row-requires-clause-stored c =
+    let round = c.args.self.now in
+    let t = task round in
+    let r = rule_tree c.rule_of-rule.result.now in
+    let made : c.in_ok-row.row ≡ recorded_row round.universe c.load_read.new.env r = c.in_ok-row.ensures ∙ ap (λ (u : Listing). recorded_row u c.load_read.new.env r) c.requires.over.0 in
+    let kept = c.self.invariant.names ∙ ap (λ (f : RoundFacts). names (task f)) c.self.view_is in
+    let named : c.place-name.result ≡ place (names t) r.name = c.place-name.ensures.place ∙ ap (λ (text : Bytes). place c.self.inside.names text) c.as_str.ensures ∙ ap (λ (xs : List Bytes). place xs r.name) kept in
+    let words = seen round c.load_read.new.seat.me in
+    let P : ℕ → Type 0 = λ p. IsStored t p words c.in_ok-row.row (c.place-name.result * width t) in
+    subst P (sym (c.load_read.ensures.same.piece ∙ c.requires.begins.piece))
+    (is_stored t c.args.piece r words c.in_ok-row.row c.place-name.result c.rule_of-rule.ensures.rule (made ∙ c.in_ok-load_read.ensures.read) named)

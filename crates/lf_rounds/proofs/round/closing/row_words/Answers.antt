@@ -1,0 +1,28 @@
+use Rattle.std.proofs.Common.{◌≡◌, ℕ, zero, suc, ◌+◌, ◌<◌, List, [], ◌∷◌, ◌++◌, take, drop, length, refl, sym, ap, ◌∙◌, subst, add-one}
+use Rattle.std.proofs.lemmas.Grind.{common_steps}
+use mathlib.Core.Option.{some, some-injective, some-ne-none}
+use lib.ListN.{get_elem?}
+use Rattle.std.specs.Slots.{slots_items}
+use Rattle.lf_rounds.specs.Words.{AreWords}
+use Rattle.lf_rounds.proofs.Bits.{word_more}
+use Rattle.lf_rounds.proofs.round.closing.row_words.Goals as goal
+
+one_more : (xs : List ℕ) (i x : ℕ) → get_elem? xs (i + 1) ≡ some x → take i (drop 1 xs) ++ x ∷ [] ≡ take (i + 1) (drop 1 xs)
+one_more xs i x e = rw add-one (after xs i x (rw add-one at e))
+  where
+    within : (ys : List ℕ) (j y : ℕ) → get_elem? ys j ≡ some y → take j ys ++ y ∷ [] ≡ take (suc j) ys
+    within [] j y h = absurd (some-ne-none y (sym h))
+    within (z ∷ ys) zero y h = ap (λ (w : ℕ). w ∷ []) (sym (some-injective z y h))
+    within (z ∷ ys) (suc j) y h = ap (λ (l : List ℕ). z ∷ l) (within ys j y h)
+
+    after : (ys : List ℕ) (j y : ℕ) → get_elem? ys (suc j) ≡ some y → take j (drop 1 ys) ++ y ∷ [] ≡ take (suc j) (drop 1 ys)
+    after [] j y h = absurd (some-ne-none y (sym h))
+    after (z ∷ ys) j y h = within ys j y h
+
+pub loop-k-preserved : goal.loop-k-preserved
+loop-k-preserved c =
+    let P : List ℕ → Type 0 = λ l. AreWords l in
+    record {
+      words = c.in_ok-push.ensures.ok ∙ ap (λ (l : List ℕ). l ++ c.word.result ∷ []) c.loop-k.invariant.words ∙ one_more (slots_items c.args.closed.now.words) c.loop-k.k c.word.result c.word.ensures;
+      fit = subst P (sym c.in_ok-push.ensures.ok) (word_more c.loop-k.words c.word.result c.loop-k.invariant.fit c.word.type_inv);
+    }

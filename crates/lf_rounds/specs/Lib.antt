@@ -1,0 +1,5 @@
+pub mod Facts
+pub mod Rounds
+pub mod Tasks
+pub mod views
+pub mod Words

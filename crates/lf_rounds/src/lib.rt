@@ -1,0 +1,11 @@
+//! The least environment of rules by rounds over shared words, which any number of workers raise at once.
+#![tactic(auto)]
+
+mod beginning;
+mod round;
+pub mod rule;
+mod solving;
+
+pub use beginning::first_words;
+pub use round::{Round, RoundEnd, RoundSeat};
+pub use solving::solve_shared;

@@ -1,0 +1,77 @@
+//! The end of a round.
+ghost use Rattle.std.specs.Prelude.{◌≡◌, ◌≢◌, ◌↔◌, ◌+◌, ◌-◌, true, false, drop, length, IfOk, IsTrue};
+ghost use Rattle.std.specs.Slots.{IsFull, slots_items, slots_len};
+ghost use Rattle.lf_board.specs.Numbers.{AreNumbersBelow};
+ghost use Rattle.lf_classes.specs.RowWords.{WordsLeq};
+ghost use Rattle.lf_semantics.specs.Environments.{IsLeast};
+ghost use Rattle.lf_ast.specs.Rules.{rule_trees};
+ghost use Rattle.lf_rounds.specs.Facts.{task};
+ghost use Rattle.lf_rounds.specs.Words.{AreWords};
+ghost use Rattle.lf_rounds.specs.Tasks.{HoldRules, IsBelowLeast, stands_for};
+
+use super::{Round, RoundSeat};
+use atomic_table::Closed;
+use lf_base::{Memory, Seq};
+use std::alloc::Global;
+
+/// The words at the end of a round, and whether one of them differs from the start.
+#[derive(Drop)]
+pub struct RoundEnd {
+    pub words: Seq<u64>,
+    pub changed: bool,
+}
+
+impl Round {
+    /// Ends the round with the only seat that is left, when all pieces are done. The words hold those at the start, and what each recording rule stores over the environment
+    /// for which these stand. Where none changed, they stand for the least environment.
+    pub fn close(self, alloc: Global, seat: RoundSeat) -> Result<RoundEnd, Memory>
+        requires own { seat.board ≡ self.board }
+        requires last { seat.room ≡ self.board.seats - 1 }
+        requires shut { (seat.is_open ≡ false) × (seat.is_whole ≡ true) }
+        // Each piece was claimed once.
+        ensures claims { AreNumbersBelow self.board.pieces seat.claims }
+        ensures len { IfOk result (λ end. length end.words ≡ length self.start) }
+        ensures fit { IfOk result (λ end. AreWords end.words) }
+        ensures above { IfOk result (λ end. WordsLeq self.start end.words) }
+        ensures rules { IfOk result (λ end. HoldRules self.universe (rule_trees self.rules) end.words self.start) }
+        ensures below { IfOk result (λ end. IsBelowLeast self.universe (rule_trees self.rules) end.words) }
+        ensures changed { IfOk result (λ end. IsTrue end.changed ↔ (end.words ≢ self.start)) }
+        ensures least { IfOk result (λ end. end.changed ≡ false → IsLeast self.universe (rule_trees self.rules) (stands_for (task self) end.words)) }
+    {
+        let Round {
+            table,
+            start,
+            names: _,
+            pieces: _,
+            width: _,
+        } = self;
+        let RoundSeat { seat, is_open: _ } = seat;
+        let closed = table.close_with(seat);
+        let words = row_words(alloc, &closed, start.len());
+        closed.free();
+        let words = words?;
+        let changed = differ(words.as_slice(), start.as_slice());
+        Ok(RoundEnd { words, changed })
+    }
+}
+
+/// Whether some word isn't the same.
+fn differ(words: &[u64], start: &[u64]) -> bool
+    ensures differ { IsTrue result ↔ (words.now ≢ start.now) }
+    ensures same { result ≡ false → words.now ≡ start.now }
+{
+    words != start
+}
+
+/// The row words of a table that was closed, which stand behind the claim word.
+fn row_words(alloc: Global, closed: &Closed<(), Global>, count: usize) -> Result<Seq<u64>, Memory>
+    requires { IsFull closed.now.words × (slots_len closed.now.words ≡ count + 1) }
+    ensures words { IfOk result (λ words. words ≡ drop 1 (slots_items closed.now.words)) }
+    ensures fit { IfOk result AreWords }
+{
+    let mut words = Seq::new(alloc);
+    for k in 0..count {
+        words.push(closed.word(k + 1))?;
+    }
+    Ok(words)
+}

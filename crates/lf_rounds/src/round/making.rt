@@ -1,0 +1,111 @@
+//! How a round is made.
+ghost use Rattle.std.specs.Prelude.{◌≡◌, ◌*◌, ◌<◌, ◌≤◌, ◌^◌, ◌∷◌, ◌++◌, [], cond, length, IfOk, OnOk};
+ghost use Rattle.lf_ast.specs.Rules.{rule_trees};
+ghost use Rattle.lf_classes.specs.RowWords.{word_count};
+ghost use Rattle.lf_semantics.specs.Environments.{CoversRules, recorded_names};
+ghost use Rattle.lf_rounds.specs.Facts.{IsOver, first_seat};
+ghost use Rattle.lf_rounds.specs.Tasks.{ArePieces, IsBelowLeast, is_recording};
+
+use super::{Round, RoundSeat};
+use crate::rule::About;
+use atomic_table::Table;
+use lf_ast::Rule;
+use lf_base::{Memory, Seq};
+use lf_board::rule::Counts;
+use lf_classes::{Universe, recorded_names};
+use lf_deps::order;
+use std::alloc::Global;
+use std::snapshot::Snapshot;
+
+impl Round {
+    /// A round over rules and the words of rows, and its first seat, from which the others are split off; there are 1 to 64 seats.
+    ///
+    /// There are words for each recorded name, in the order in which the names come first, as by `Row::word`. They needn't be those of a row, and each bit set in them is in
+    /// the least environment.
+    pub fn new(
+        alloc: Global,
+        universe: &Universe,
+        rules: &Seq<Rule>,
+        words: &Seq<u64>,
+        seats: u32,
+    ) -> Result<(Round, RoundSeat), Memory>
+        requires seats { (0 < seats) × (seats ≤ 64) }
+        requires covers { CoversRules universe.now (rule_trees rules.now) }
+        requires words { length words.now ≡ length (recorded_names (rule_trees rules.now)) * word_count universe.now }
+        requires below { IsBelowLeast universe.now (rule_trees rules.now) words.now }
+        ensures round { IfOk result (λ made. IsOver universe.now rules.now words.now seats made.0) }
+        ensures seat { IfOk result (λ made. made.1 ≡ first_seat made.0) }
+    {
+        let _labels = universe.labels();
+        let names = recorded_names(alloc, rules.as_slice())?;
+        let pieces = recording_rules(alloc, rules)?;
+        let start = words.copy()?;
+        let about = About {
+            counts: Counts {
+                pieces: count(&pieces)?,
+                seats,
+            },
+            universe: Snapshot::of(universe),
+            rules: Snapshot::of(rules),
+            pieces: Snapshot::of(&pieces),
+            start: Snapshot::of(&start),
+        };
+        let opening = behind_claims(alloc, start.as_slice())?;
+        let (table, seat) = Table::of_words(alloc, opening.as_slice(), &about)?;
+        let round = Round {
+            table,
+            names,
+            pieces,
+            start,
+            width: universe.words(),
+        };
+        let seat = RoundSeat {
+            seat,
+            is_open: true,
+        };
+        Ok((round, seat))
+    }
+}
+
+/// The numbers of the recording rules, in the order of the rules.
+fn recording_rules(alloc: Global, rules: &Seq<Rule>) -> Result<Seq<u32>, Memory>
+    ensures { IfOk result (ArePieces (rule_trees rules.now)) }
+{
+    let order = order(alloc, rules)?;
+    let mut pieces = Seq::new(alloc);
+    for number in order.as_slice() {
+        add_recording(rules, *number, &mut pieces)?;
+    }
+    Ok(pieces)
+}
+
+/// Adds the number of a rule, if it is a recording rule.
+fn add_recording(rules: &Seq<Rule>, number: u32, pieces: &mut Seq<u32>) -> Result<(), Memory>
+    requires { number < length rules.now }
+    ensures { OnOk result (pieces.new ≡ cond (is_recording (rule_trees rules.now) number) (pieces.old ++ number ∷ []) pieces.old) }
+{
+    if rules.get(number as usize).alert {
+        return Ok(());
+    }
+    pieces.push(number)
+}
+
+/// How many there are. Want of memory where it doesn't fit a `u32`.
+fn count(pieces: &Seq<u32>) -> Result<u32, Memory>
+    ensures { IfOk result (λ count. (count ≡ length pieces.now) × (count < 2 ^ 32)) }
+{
+    match u32::try_from(pieces.len()) {
+        Ok(count) => Ok(count),
+        Err(_) => Err(Memory),
+    }
+}
+
+/// The words of a table at the start: the claim word, and behind it the row words.
+fn behind_claims(alloc: Global, start: &[u64]) -> Result<Vec<u64>, Memory>
+    ensures { IfOk result (λ words. words.items ≡ 0 ∷ start.now) }
+{
+    let mut words = Vec::new(alloc);
+    words.push(0)?;
+    words.extend_from_slice(start)?;
+    Ok(words)
+}

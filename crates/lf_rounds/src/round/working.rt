@@ -1,0 +1,261 @@
+//! Work on the pieces of a round.
+ghost use Rattle.std.specs.Prelude.{◌≡◌, ℕ, true, false, ◌*◌, ◌<◌, ◌++◌, List, length, IfErr, IfOk, Some, take, drop};
+ghost use Rattle.std.specs.List.{Contains};
+ghost use Rattle.lf_ast.specs.Rules.{rule_tree, rule_trees};
+ghost use Rattle.lf_classes.specs.RowWords.{row_of_words};
+ghost use Rattle.lf_flow.specs.Reads.{Ascend};
+ghost use Rattle.lf_semantics.specs.ClassRows.{HasShape};
+ghost use Rattle.lf_semantics.specs.Environments.{IsEnvironmentOf, recorded_row};
+ghost use Rattle.lf_semantics.specs.Listing.{place};
+ghost use Rattle.lf_rounds.specs.Facts.{task};
+ghost use Rattle.lf_rounds.specs.Tasks.{names, rule_of, stands_for, width};
+ghost use Rattle.lf_rounds.specs.views.Working.{Begins, ChangedAt, HasRead, HasWorked, IsAsBefore, IsStored, IsUsed, seen};
+
+use super::{Round, RoundSeat};
+use crate::rule::RoundView;
+use atomic_table::Seat;
+use lf_ast::Rule;
+use lf_base::{Gate, Memory, Seq};
+use lf_classes::{Row, Universe};
+use lf_fix::recorded_row;
+use lf_flow::{Env, reads};
+use std::alloc::Global;
+
+/// The phase of the rounds, which the gate is told.
+const ROUNDS: u8 = 1;
+
+impl Round {
+    /// Claims until nothing is left, and works on each piece: it loads the rows that the rule reads, and raises the words of the row that the rule stores over them. Between
+    /// the claim of a piece and the work on it passes the gate.
+    ///
+    /// After want of memory a piece is left in work, and no call takes the seat any more.
+    pub fn work<G: Gate>(
+        &self,
+        alloc: Global,
+        seat: &mut RoundSeat,
+        universe: &Universe,
+        rules: &Seq<Rule>,
+        gate: &G,
+    ) -> Result<(), Memory>
+        requires own { seat.old.board ≡ self.now.board }
+        requires open { (seat.old.is_open ≡ true) × (seat.old.is_whole ≡ true) }
+        requires over { (universe.now ≡ self.now.universe) × (rules.now ≡ self.now.rules) }
+        ensures worked { IfOk result (λ _. (claims : List ℕ) × (seat.new ≡ record seat.old { is_open = false; claims = seat.old.claims ++ claims })) }
+        ensures memory { IfErr result (λ _. seat.new.is_whole ≡ false) }
+    {
+        self.work_all(alloc, &mut seat.seat, universe, rules, gate)?;
+        seat.is_open = false;
+        Ok(())
+    }
+
+    /// Claims until nothing is left, and works on each piece.
+    fn work_all<G: Gate>(
+        &self,
+        alloc: Global,
+        seat: &mut Seat<(), RoundView>,
+        universe: &Universe,
+        rules: &Seq<Rule>,
+        gate: &G,
+    ) -> Result<(), Memory>
+        requires used { IsUsed self.now seat.old.table_id seat.old.me }
+        requires open { (seat.old.me.0.busy ≡ false) × (seat.old.me.0.board.missed ≡ 0) }
+        requires over { (universe.now ≡ self.now.universe) × (rules.now ≡ self.now.rules) }
+        ensures used { IsUsed self.now seat.new.table_id seat.new.me }
+        ensures worked { IfOk result (λ _. HasWorked seat.old.me.0 seat.new.me.0) }
+        ensures memory { IfErr result (λ _. (seat.new.me.0.busy ≡ true) × (seat.new.me.0.board.missed ≡ 0)) }
+    {
+        match self.claim(seat) {
+            Some(piece) => self.work_on_from(alloc, seat, universe, rules, gate, piece),
+            None => Ok(()),
+        }
+    }
+
+    /// Works on a piece that was claimed, and on each that it claims.
+    fn work_on_from<G: Gate>(
+        &self,
+        alloc: Global,
+        seat: &mut Seat<(), RoundView>,
+        universe: &Universe,
+        rules: &Seq<Rule>,
+        gate: &G,
+        first: u32,
+    ) -> Result<(), Memory>
+        requires used { IsUsed self.now seat.old.table_id seat.old.me }
+        requires begins { Begins first seat.old.me.0 }
+        requires piece { first < self.now.board.pieces }
+        requires over { (universe.now ≡ self.now.universe) × (rules.now ≡ self.now.rules) }
+        ensures used { IsUsed self.now seat.new.table_id seat.new.me }
+        ensures worked { IfOk result (λ _. HasWorked seat.old.me.0 seat.new.me.0) }
+        ensures memory { IfErr result (λ _. (seat.new.me.0.busy ≡ true) × (seat.new.me.0.board.missed ≡ 0)) }
+    {
+        // For what is known of a round.
+        let _width = self.width;
+        let mut env = Env::bottom(alloc, universe, rules)?;
+        let mut next = Some(first);
+        while let Some(piece) = next {
+            gate.pass(ROUNDS, piece);
+            self.work_on(alloc, seat, universe, rules, &mut env, piece)?;
+            next = self.claim(seat);
+        }
+        Ok(())
+    }
+
+    /// Works on a piece. The rows of the names that its rule doesn't read are left as they are in the environment.
+    fn work_on(
+        &self,
+        alloc: Global,
+        seat: &mut Seat<(), RoundView>,
+        universe: &Universe,
+        rules: &Seq<Rule>,
+        env: &mut Env,
+        piece: u32,
+    ) -> Result<(), Memory>
+        requires used { IsUsed self.now seat.old.table_id seat.old.me }
+        requires begins { Begins piece seat.old.me.0 }
+        requires piece { piece < self.now.board.pieces }
+        requires over { (universe.now ≡ self.now.universe) × (rules.now ≡ self.now.rules) }
+        requires env { IsEnvironmentOf self.now.universe (rule_trees self.now.rules) env.old }
+        ensures used { IsUsed self.now seat.new.table_id seat.new.me }
+        ensures env { IfOk result (λ _. IsEnvironmentOf self.now.universe (rule_trees self.now.rules) env.new) }
+        ensures board { seat.new.me.0.board ≡ seat.old.me.0.board }
+        ensures done { IfOk result (λ _. seat.new.me.0.busy ≡ false) }
+        ensures memory { IfErr result (λ _. seat.new.me.0.busy ≡ true) }
+    {
+        // For what is known of a round.
+        let _width = self.width;
+        let rule = self.rule_of(rules, piece);
+        self.load_read(alloc, seat, universe, env, rule)?;
+        let row = recorded_row(alloc, universe, env, rule)?;
+        let name = self.names.place(rule.name.as_str());
+        self.raise_row(seat, name, &row);
+        Ok(())
+    }
+
+    /// The rule of a piece.
+    fn rule_of<'a>(&self, rules: &'a Seq<Rule>, piece: u32) -> &'a Rule
+        requires over { rules.now ≡ self.now.rules }
+        requires piece { piece < self.now.board.pieces }
+        ensures rule { rule_of (task self.now) piece ≡ Some (rule_tree result.now) }
+        ensures name { place (names (task self.now)) result.now.name < length (names (task self.now)) }
+    {
+        let number = *self.pieces.get(piece as usize);
+        rules.get(number as usize)
+    }
+
+    /// Loads the rows that a rule reads. What it stores over the environment is what it stores over that for which the words stand that are noted.
+    fn load_read(
+        &self,
+        alloc: Global,
+        seat: &mut Seat<(), RoundView>,
+        universe: &Universe,
+        env: &mut Env,
+        rule: &Rule,
+    ) -> Result<(), Memory>
+        requires used { IsUsed self.now seat.old.table_id seat.old.me }
+        requires work { (seat.old.me.0.busy ≡ true) × (seat.old.me.0.raised ≡ 0) }
+        requires over { universe.now ≡ self.now.universe }
+        requires env { IsEnvironmentOf self.now.universe (rule_trees self.now.rules) env.old }
+        ensures used { IsUsed self.now seat.new.table_id seat.new.me }
+        ensures same { IsAsBefore seat.old.me.0 seat.new.me.0 }
+        ensures env { IfOk result (λ _. IsEnvironmentOf self.now.universe (rule_trees self.now.rules) env.new) }
+        ensures read { IfOk result (λ _. recorded_row self.now.universe env.new (rule_tree rule.now) ≡ recorded_row self.now.universe (stands_for (task self.now) (seen self.now seat.new.me)) (rule_tree rule.now)) }
+    {
+        // For what is known of a round.
+        let _width = self.width;
+        let numbers = reads(alloc, env, &rule.expr)?;
+        self.load_rows(alloc, seat, universe, env, numbers.as_slice())?;
+        Ok(())
+    }
+
+    /// Loads the rows of the names with these numbers.
+    fn load_rows(
+        &self,
+        alloc: Global,
+        seat: &mut Seat<(), RoundView>,
+        universe: &Universe,
+        env: &mut Env,
+        numbers: &[u32],
+    ) -> Result<(), Memory>
+        requires used { IsUsed self.now seat.old.table_id seat.old.me }
+        requires work { (seat.old.me.0.busy ≡ true) × (seat.old.me.0.raised ≡ 0) }
+        requires over { universe.now ≡ self.now.universe }
+        requires env { IsEnvironmentOf self.now.universe (rule_trees self.now.rules) env.old }
+        requires ascend { Ascend numbers.now }
+        requires within { (k : ℕ) → Contains numbers.now k → k < length env.old }
+        ensures used { IsUsed self.now seat.new.table_id seat.new.me }
+        ensures same { IsAsBefore seat.old.me.0 seat.new.me.0 }
+        ensures env { IfOk result (λ _. IsEnvironmentOf self.now.universe (rule_trees self.now.rules) env.new) }
+        ensures read { IfOk result (λ _. HasRead (task self.now) (seen self.now seat.new.me) numbers.now env.new) }
+    {
+        // For what is known of a round.
+        let _width = self.width;
+        for number in numbers {
+            let row = self.load_row(alloc, seat, universe, *number)?;
+            env.put(*number, row);
+        }
+        Ok(())
+    }
+
+    /// Loads the row of the name with a number.
+    fn load_row(
+        &self,
+        alloc: Global,
+        seat: &mut Seat<(), RoundView>,
+        universe: &Universe,
+        number: u32,
+    ) -> Result<Row, Memory>
+        requires used { IsUsed self.now seat.old.table_id seat.old.me }
+        requires work { (seat.old.me.0.busy ≡ true) × (seat.old.me.0.raised ≡ 0) }
+        requires over { universe.now ≡ self.now.universe }
+        requires number { number < length (names (task self.now)) }
+        ensures used { IsUsed self.now seat.new.table_id seat.new.me }
+        ensures same { IsAsBefore seat.old.me.0 seat.new.me.0 }
+        ensures others { ChangedAt (number * width (task self.now)) (width (task self.now)) (seen self.now seat.old.me) (seen self.now seat.new.me) }
+        ensures row { IfOk result (λ row. row ≡ row_of_words self.now.universe (take (width (task self.now)) (drop (number * width (task self.now)) (seen self.now seat.new.me)))) }
+    {
+        let words = self.load_words(alloc, seat, number)?;
+        Row::from_words(alloc, universe, &words)
+    }
+
+    /// Loads the words of the row of the name with a number.
+    fn load_words(
+        &self,
+        alloc: Global,
+        seat: &mut Seat<(), RoundView>,
+        number: u32,
+    ) -> Result<Seq<u64>, Memory>
+        requires used { IsUsed self.now seat.old.table_id seat.old.me }
+        requires work { (seat.old.me.0.busy ≡ true) × (seat.old.me.0.raised ≡ 0) }
+        requires number { number < length (names (task self.now)) }
+        ensures used { IsUsed self.now seat.new.table_id seat.new.me }
+        ensures same { IsAsBefore seat.old.me.0 seat.new.me.0 }
+        ensures others { ChangedAt (number * width (task self.now)) (width (task self.now)) (seen self.now seat.old.me) (seen self.now seat.new.me) }
+        ensures words { IfOk result (λ words. words ≡ take (width (task self.now)) (drop (number * width (task self.now)) (seen self.now seat.new.me))) }
+        ensures len { IfOk result (λ words. length words ≡ width (task self.now)) }
+    {
+        let at = number as usize * self.width as usize;
+        let mut words = Seq::new(alloc);
+        for k in 0..self.width {
+            words.push(self.load(seat, at + k as usize))?;
+        }
+        Ok(words)
+    }
+
+    /// Raises the words of the row of the name with a number, and with the last one the piece is done.
+    fn raise_row(&self, seat: &mut Seat<(), RoundView>, name: usize, row: &Row)
+        requires used { IsUsed self.now seat.old.table_id seat.old.me }
+        requires work { (seat.old.me.0.busy ≡ true) × (seat.old.me.0.raised ≡ 0) }
+        requires name { name < length (names (task self.now)) }
+        requires row { HasShape self.now.universe row.now }
+        requires stored { IsStored (task self.now) seat.old.me.0.piece (seen self.now seat.old.me) row.now (name * width (task self.now)) }
+        ensures used { IsUsed self.now seat.new.table_id seat.new.me }
+        ensures done { (seat.new.me.0.busy ≡ false) × (seat.new.me.0.board ≡ seat.old.me.0.board) }
+    {
+        let at = name * self.width as usize;
+        let last = self.width - 1;
+        for k in 0..last {
+            self.raise(seat, at + k as usize, row.word(k));
+        }
+        self.finish(seat, at + last as usize, row.word(last));
+    }
+}
