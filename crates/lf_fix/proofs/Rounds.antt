@@ -37,7 +37,7 @@ rule_within (x ∷ rules) (suc k) r e = let h = rule_within rules k r e in omega
 
 -- a recorded name has a row
 
-pub in_names : (rules : List RuleTree) (r : RuleTree) → Contains rules r → r.alert ≡ false → Contains (names_recorded rules) r.name
+in_names : (rules : List RuleTree) (r : RuleTree) → Contains rules r → r.alert ≡ false → Contains (names_recorded rules) r.name
 in_names [] r c e = absurd (none_in r c)
 in_names (x ∷ rules) r c e = by x.alert refl (in_names rules r)
   where

@@ -13,11 +13,11 @@ use Rattle.lf_classes.specs.RowWords.{WordLeq, WordsLeq, row_of_words, row_word,
 use Rattle.lf_classes.proofs.RowWordOrder.{leq_words, word_leq, zero_leq}
 use Rattle.lf_deps.proofs.Numbered.{at_number, number_of}
 use Rattle.lf_deps.proofs.OrderLaws.{each_ordered}
-use Rattle.lf_fix.proofs.Rounds.{in_names, one_named}
-use Rattle.lf_laws.proofs.Members.{first_or_behind, none_in, same_true}
+use Rattle.lf_fix.proofs.Rounds.{one_named}
+use Rattle.lf_laws.proofs.Members.{behind, first_or_behind, here, none_in, same_true}
 use Rattle.lf_semantics.proofs.LeqLaws.{leq_trans}
 use Rattle.lf_semantics.proofs.ListingLaws.{in_first_seen}
-use Rattle.lf_semantics.proofs.Members.{in_filter, of_filter}
+use Rattle.lf_semantics.proofs.Members.{clash, in_filter, of_filter}
 use Rattle.lf_semantics.proofs.NormalizedRows.{recorded_row_is}
 use Rattle.lf_semantics.proofs.RowsGrow.{recorded_grows}
 use Rattle.lf_semantics.specs.ClassRows.{Sets}
@@ -27,6 +27,18 @@ use Rattle.lf_semantics.specs.RowTable.{Environment, row_named}
 use Rattle.lf_rounds.specs.Tasks.{HoldRules, IsBelowLeast, IsTask, Raised, Task, is_recording, names, place_of, rule_of, stands_for, stored_word, width}
 use Rattle.lf_rounds.specs.Words.{environment_of, words_of}
 use Rattle.lf_rounds.proofs.Environments.{environment_leq, named_row, named_word, some_label, word_of_part, words_of_rules, words_stand}
+
+-- the name of a recording rule is recorded
+in_names : (rules : List RuleTree) (r : RuleTree) → Contains rules r → r.alert ≡ false → Contains (names_recorded rules) r.name
+in_names [] r c e = absurd (none_in r c)
+in_names (x ∷ rules) r c e = by x.alert refl (in_names rules r)
+  where
+    by : (b : Bool) → x.alert ≡ b → (Contains rules r → r.alert ≡ false → Contains (names_recorded rules) r.name) → Contains (cond b (names_recorded rules) (x.name ∷ names_recorded rules)) r.name
+    by true f rest = elim (first_or_behind x rules r c) [ inl q ↦ absurd (clash f (ap (λ (y : RuleTree). y.alert) q ∙ e)) | inr d ↦ rest d e ]
+    by false f rest = elim (first_or_behind x rules r c) [
+      | inl q ↦ let P : RuleTree → Type 0 = λ y. Contains (x.name ∷ names_recorded rules) y.name in subst P q (here x.name _)
+      | inr d ↦ behind x.name _ r.name (rest d e)
+    ]
 
 -- a text that is there has a place
 place_in : (xs : List Bytes) (t : Bytes) → Contains xs t → place xs t < length xs
