@@ -126,22 +126,30 @@ fn word_of(row: &Row) -> u64
 
 // `__name__` has the bits 0 and 1, and `*` the bits 2 and 3.
 #[test]
-fn a_row_is_made_of_its_words(rt: HostRuntime) -> Result<(), Fail> {
-    let alloc = rt.alloc();
-    let universe = Universe::build(alloc, &Seq::new(alloc))?;
+fn a_row_has_its_words(rt: HostRuntime) -> Result<(), Fail> {
+    let universe = Universe::build(rt.alloc(), &Seq::new(rt.alloc()))?;
+    let (full, empty) = rows(rt.alloc(), &universe)?;
     assert_eq!(rt; universe.words(), 1);
-    for (word, row_word) in [
-        (15, 15),
-        (9, 9),
-        (6, 6),
-        (3, 0),
-        (12, 0),
-        (0, 0),
-        (256 + 9, 9),
+    assert_eq!(rt; word_of(&full), 15);
+    assert_eq!(rt; word_of(&empty), 0);
+    Ok(())
+}
+
+// A row in which a label has no class is the empty one, and the bits from 4 on aren't looked at.
+#[test]
+fn a_row_is_made_of_its_words(rt: HostRuntime) -> Result<(), Fail> {
+    let universe = Universe::build(rt.alloc(), &Seq::new(rt.alloc()))?;
+    for (word, is_empty) in [
+        (15, false),
+        (9, false),
+        (6, false),
+        (249, false),
+        (3, true),
+        (12, true),
+        (240, true),
     ] {
-        let row = row_of(alloc, &universe, word)?;
-        assert_eq!(rt; word_of(&row), row_word);
-        assert_eq!(rt; row.is_empty(), row_word == 0);
+        let row = row_of(rt.alloc(), &universe, word)?;
+        assert_eq!(rt; row.is_empty(), is_empty);
     }
     Ok(())
 }
