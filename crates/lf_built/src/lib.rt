@@ -14,7 +14,6 @@ mod part_rows;
 mod parts;
 mod prepared;
 mod recorders;
-mod recording;
 mod scalars;
 mod series;
 mod sides;

@@ -1,6 +1,6 @@
 //! What the built worlds of rules share.
 ghost use Rattle.std.specs.Prelude.{◌≡◌, ◌+◌, ◌<◌, ◌≤◌, ◌^◌, List, Some, length, map, slice_get, IfOk};
-ghost use Rattle.lf_ast.specs.Rules.{RuleTree, rule_trees};
+ghost use Rattle.lf_ast.specs.Rules.{RuleTree, rule_tree, rule_trees};
 ghost use Rattle.lf_ast.specs.views.Walks.{nodes};
 ghost use Rattle.lf_deps.specs.views.Sources.{IsSourcesOf};
 ghost use Rattle.lf_semantics.specs.Environments.{CoversRules, IsEnvironment, recorded_row as row_recorded, rule_row as row_of_rule};
@@ -16,14 +16,13 @@ ghost use Rattle.lf_built.specs.views.Spots.{IsSpot, tree_at};
 
 use crate::part_rows::PartRows;
 use crate::recorders::Recorders;
-use crate::recording::recorded_row;
 use crate::spots::Spot;
 use lf_ast::Rule;
 use lf_base::{Memory, Seq, Text};
 use lf_candidates::{NamedRow, label_names};
 use lf_classes::{Row, Universe};
 use lf_deps::Sources;
-use lf_fix::rule_row;
+use lf_fix::{make_recorded, rule_row_by};
 use lf_flow::Env;
 use lf_forks::Forks;
 use std::alloc::Global;
@@ -47,11 +46,20 @@ pub struct Prepared<'a> {
     pub(crate) recorded: Vec<Row>,
 }
 
-/// The rows of rules, and of what they store.
+/// What is told of the parts of rules' expressions, and the rows of the rules and of what they store.
 #[derive(Drop)]
 struct RuleRows {
+    parts: Vec<PartRows>,
     own: Vec<Row>,
     recorded: Vec<Row>,
+}
+
+/// The same of one rule.
+#[derive(Drop)]
+struct RuleRow {
+    parts: PartRows,
+    own: Row,
+    recorded: Row,
 }
 
 impl<'a> Prepared<'a> {
@@ -72,8 +80,11 @@ impl<'a> Prepared<'a> {
         let _labels = universe.labels();
         let names = label_names(alloc, universe)?;
         let recorders = Recorders::of(alloc, rules)?;
-        let parts = part_rows(alloc, universe, env, sources, forks, rules.as_slice())?;
-        let RuleRows { own, recorded } = rule_rows(alloc, universe, env, rules.as_slice())?;
+        let RuleRows {
+            parts,
+            own,
+            recorded,
+        } = rule_rows(alloc, universe, env, sources, forks, rules.as_slice())?;
         Ok(Prepared {
             universe,
             env,
@@ -155,26 +166,66 @@ impl<'a> Prepared<'a> {
     }
 }
 
-/// What is told of the parts of each rule's expression.
-fn part_rows(
+/// What is told of the parts of each rule's expression, the row of each rule, and of what each stores.
+fn rule_rows(
     alloc: Global,
     universe: &Universe,
     env: &Env,
     sources: &Sources,
     forks: &Forks,
     rules: &[Rule],
-) -> Result<Vec<PartRows>, Memory>
-    requires environment { IsEnvironment universe.now env.now }
+) -> Result<RuleRows, Memory>
+    requires listing { IsListing universe.now }
+    requires env { IsEnvironment universe.now env.now }
     requires sources { IsSourcesOf (rule_trees rules.now) sources.now }
-    ensures { IfOk result (λ parts. parts.items ≡ map (λ (r : RuleTree). rows_of_parts universe.now env.now (has_passing (test_of forks.now)) (nodes r.expr)) (rule_trees rules.now)) }
+    ensures parts { IfOk result (λ rows. rows.parts.items ≡ map (λ (r : RuleTree). rows_of_parts universe.now env.now (has_passing (test_of forks.now)) (nodes r.expr)) (rule_trees rules.now)) }
+    ensures own { IfOk result (λ rows. rows.own.items ≡ map (row_of_rule universe.now env.now) (rule_trees rules.now)) }
+    ensures recorded { IfOk result (λ rows. rows.recorded.items ≡ map (row_recorded universe.now env.now) (rule_trees rules.now)) }
 {
-    let mut parts = Vec::new(alloc);
+    let mut rows = RuleRows {
+        parts: Vec::new(alloc),
+        own: Vec::new(alloc),
+        recorded: Vec::new(alloc),
+    };
     for k in 0..rules.len() {
         let likely = likely_names(alloc, universe, sources.selected_by(k))?;
-        let likely = likely.as_slice();
-        parts.push(PartRows::of(alloc, universe, env, forks, &rules[k].expr, likely)?)?;
+        let row = rule_row(alloc, universe, env, forks, &rules[k], likely.as_slice())?;
+        let RuleRow {
+            parts,
+            own,
+            recorded,
+        } = row;
+        rows.parts.push(parts)?;
+        rows.own.push(own)?;
+        rows.recorded.push(recorded)?;
     }
-    Ok(parts)
+    Ok(rows)
+}
+
+/// The same of one rule. Its own row is that of its whole expression, which stands first among those of the parts.
+fn rule_row(
+    alloc: Global,
+    universe: &Universe,
+    env: &Env,
+    forks: &Forks,
+    rule: &Rule,
+    likely: &[u32],
+) -> Result<RuleRow, Memory>
+    requires listing { IsListing universe.now }
+    requires env { IsEnvironment universe.now env.now }
+    ensures parts { IfOk result (λ row. row.parts ≡ rows_of_parts universe.now env.now (has_passing (test_of forks.now)) (nodes (rule_tree rule.now).expr)) }
+    ensures own { IfOk result (λ row. row.own ≡ row_of_rule universe.now env.now (rule_tree rule.now)) }
+    ensures recorded { IfOk result (λ row. row.recorded ≡ row_recorded universe.now env.now (rule_tree rule.now)) }
+{
+    let parts = PartRows::of(alloc, universe, env, forks, &rule.expr, likely)?;
+    let own = rule_row_by(alloc, universe, rule, parts.row(0))?;
+    let mut recorded = own.copy()?;
+    make_recorded(universe, &mut recorded, rule);
+    Ok(RuleRow {
+        parts,
+        own,
+        recorded,
+    })
 }
 
 /// The classes of the names that a rule selects, at most one for each. Rows of its parts are likely to have them, and which these are changes only how long it takes.
@@ -194,26 +245,4 @@ fn likely_names(
         }
     }
     Ok(likely)
-}
-
-/// The row of each rule, and of what each stores.
-fn rule_rows(
-    alloc: Global,
-    universe: &Universe,
-    env: &Env,
-    rules: &[Rule],
-) -> Result<RuleRows, Memory>
-    requires listing { IsListing universe.now }
-    requires env { IsEnvironment universe.now env.now }
-    ensures own { IfOk result (λ rows. rows.own.items ≡ map (row_of_rule universe.now env.now) (rule_trees rules.now)) }
-    ensures recorded { IfOk result (λ rows. rows.recorded.items ≡ map (row_recorded universe.now env.now) (rule_trees rules.now)) }
-{
-    let mut own = Vec::new(alloc);
-    let mut recorded = Vec::new(alloc);
-    for rule in rules {
-        let row = rule_row(alloc, universe, env, rule)?;
-        recorded.push(recorded_row(universe, &row, rule)?)?;
-        own.push(row)?;
-    }
-    Ok(RuleRows { own, recorded })
 }

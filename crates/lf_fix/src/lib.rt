@@ -5,5 +5,5 @@ mod dependents;
 mod recording;
 mod solving;
 
-pub use recording::{recorded_row, rule_row};
+pub use recording::{make_recorded, recorded_row, rule_row, rule_row_by};
 pub use solving::solve;

@@ -2,11 +2,13 @@
 ghost use Rattle.std.specs.Prelude.{◌≡◌, List, IfOk};
 ghost use Rattle.lf_ast.specs.Functions.{function_named};
 ghost use Rattle.lf_ast.specs.Rules.{RuleTree, rule_tree};
+ghost use Rattle.lf_ast.specs.Selectors.{metric};
 ghost use Rattle.lf_ast.specs.Tree.{tree};
 ghost use Rattle.lf_semantics.specs.ClassRows.{HasShape};
 ghost use Rattle.lf_semantics.specs.Environments.{CoversRules, IsEnvironment, IsLeast, recorded_row as row_recorded, rule_row as row_of_rule, with_text, with_texts};
 ghost use Rattle.lf_semantics.specs.Laws.{RepresentsRule, SetNoNames};
 ghost use Rattle.lf_semantics.specs.Listing.{IsListing};
+ghost use Rattle.lf_semantics.specs.RowTable.{Environment, row_of};
 ghost use Rattle.lf_semantics.specs.Parts.{given_by, is_evaluated, type_by_form};
 
 use lf_ast::{Expr, ExprType, Function, Rule, RuleLabel};
@@ -40,6 +42,21 @@ fn row_in(alloc: Global, universe: &Universe, env: &Env, rule: &Rule) -> Result<
     }
 }
 
+/// The row of a rule, of that of its expression: the same where the expression is a scalar or a vector, and else the empty one.
+pub fn rule_row_by(
+    alloc: Global,
+    universe: &Universe,
+    rule: &Rule,
+    row: &Row,
+) -> Result<Row, Memory>
+    ensures { (e : Environment) → row.now ≡ row_of universe.now e (rule_tree rule.now).expr → IfOk result (λ own. own ≡ row_of_rule universe.now e (rule_tree rule.now)) }
+{
+    if !is_evaluated(&rule.expr) {
+        return Row::empty(alloc, universe);
+    }
+    row.copy()
+}
+
 /// The row of what a recording rule stores: that of the rule, with its name and its labels set.
 pub fn recorded_row(
     alloc: Global,
@@ -52,9 +69,18 @@ pub fn recorded_row(
     ensures { IfOk result (λ row. row ≡ row_recorded universe.now env.now (rule_tree rule.now)) }
 {
     let mut row = row_in(alloc, universe, env, rule)?;
-    set_text(universe, &mut row, "__name__", rule.name.as_str());
-    set_labels(universe, &mut row, rule.labels.as_slice());
+    make_recorded(universe, &mut row, rule);
     Ok(row)
+}
+
+/// Makes of the row of a rule the row of what it stores: its name and its labels are set. The empty row stays empty.
+pub fn make_recorded(universe: &Universe, row: &mut Row, rule: &Rule)
+    requires listing { IsListing universe.now }
+    requires shape { HasShape universe.now row.old }
+    ensures { row.new ≡ with_texts universe.now (rule_tree rule.now).labels (with_text universe.now metric (rule_tree rule.now).name row.old) }
+{
+    set_text(universe, row, "__name__", rule.name.as_str());
+    set_labels(universe, row, rule.labels.as_slice());
 }
 
 /// Whether an expression is a scalar or a vector, so that a rule of it gives samples.

@@ -24,8 +24,8 @@ returns c =
         sources = c.requires.sources;
         names = c.in_ok-names.ensures;
         recorders = c.in_ok-recorders.ensures;
-        parts = c.in_ok-parts.ensures ∙ ap (λ (rs : List Rule). map (λ (r : RuleTree). part_rows u env (has_passing (test_of c.args.forks.now)) (nodes r.expr)) (rule_trees rs)) c.as_slice.ensures;
-        rows = c.in_ok-own.ensures.own ∙ ap (λ (rs : List Rule). map (rule_row u env) (rule_trees rs)) c.as_slice-2.ensures;
-        recorded = c.in_ok-own.ensures.recorded ∙ ap (λ (rs : List Rule). map (recorded_row u env) (rule_trees rs)) c.as_slice-2.ensures;
+        parts = c.in_ok-parts.ensures.parts ∙ ap (λ (rs : List Rule). map (λ (r : RuleTree). part_rows u env (has_passing (test_of c.args.forks.now)) (nodes r.expr)) (rule_trees rs)) c.as_slice.ensures;
+        rows = c.in_ok-parts.ensures.own ∙ ap (λ (rs : List Rule). map (rule_row u env) (rule_trees rs)) c.as_slice.ensures;
+        recorded = c.in_ok-parts.ensures.recorded ∙ ap (λ (rs : List Rule). map (recorded_row u env) (rule_trees rs)) c.as_slice.ensures;
       };
     }

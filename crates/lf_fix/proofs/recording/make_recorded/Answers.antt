@@ -6,16 +6,13 @@ use Rattle.lf_semantics.specs.ClassRows.{HasShape, Sets}
 use Rattle.lf_semantics.specs.Environments.{with_text, with_texts}
 use Rattle.lf_ast.specs.Selectors.{metric}
 use Rattle.lf_semantics.proofs.SamplesRepresented.{shape_with_text}
-use Rattle.lf_built.proofs.recording.recorded_row.Goals as goal
-
-pub set_text-requires-clause-shape : goal.set_text-requires-clause-shape
-set_text-requires-clause-shape c = let S : Sets → Type 0 = λ row. HasShape c.args.universe.now row in subst S (sym c.in_ok-recorded.ensures) c.requires.shape
+use Rattle.lf_fix.proofs.recording.make_recorded.Goals as goal
 
 pub set_labels-requires-clause-shape : goal.set_labels-requires-clause-shape
 set_labels-requires-clause-shape c =
     let u = c.args.universe.now in
     let S : Sets → Type 0 = λ row. HasShape u row in
-    subst S (sym c.set_text.ensures) (shape_with_text u c.requires.listing metric c.as_str.result.now c.in_ok-recorded.recorded (subst S (sym c.in_ok-recorded.ensures) c.requires.shape))
+    subst S (sym c.set_text.ensures) (shape_with_text u c.requires.listing metric c.as_str.result.now c.args.row.now c.requires.shape)
 
 pub returns : goal.returns
 returns c =
@@ -23,5 +20,4 @@ returns c =
     let r = rule_tree c.args.rule.now in
     c.set_labels.ensures
     ∙ ap (λ (labels : List RuleLabel). with_texts u labels c.set_text.new.row) c.as_slice.ensures
-    ∙ ap (λ (row : Sets). with_texts u r.labels row)
-    (c.set_text.ensures ∙ ap (λ (text : Bytes). with_text u metric text c.in_ok-recorded.recorded) c.as_str.ensures ∙ ap (λ (row : Sets). with_text u metric r.name row) c.in_ok-recorded.ensures)
+    ∙ ap (λ (row : Sets). with_texts u r.labels row) (c.set_text.ensures ∙ ap (λ (text : Bytes). with_text u metric text c.args.row.now) c.as_str.ensures)
