@@ -189,7 +189,7 @@ fn rule_rows(
     };
     for k in 0..rules.len() {
         let likely = likely_names(alloc, universe, sources.selected_by(k))?;
-        let row = rule_row(alloc, universe, env, forks, &rules[k], likely.as_slice())?;
+        let row = rows_of_rule(alloc, universe, env, forks, &rules[k], likely.as_slice())?;
         let RuleRow {
             parts,
             own,
@@ -203,7 +203,7 @@ fn rule_rows(
 }
 
 /// The same of one rule. Its own row is that of its whole expression, which stands first among those of the parts.
-fn rule_row(
+fn rows_of_rule(
     alloc: Global,
     universe: &Universe,
     env: &Env,
