@@ -7,7 +7,6 @@ use std::alloc::{AllocError, Global};
 use std::thread::Threads;
 
 mod deepest;
-mod deepest_rows;
 mod ends;
 mod parts;
 mod reports;

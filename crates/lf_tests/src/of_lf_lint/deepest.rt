@@ -9,7 +9,7 @@ use std::thread::{Threads, join};
 
 /// A way of nesting. A hundred pairs of parentheses may stand in one another, with a hundred signs and operators right inside each.
 #[derive(Clone, Copy)]
-pub struct Nesting {
+struct Nesting {
     /// What opens a level.
     opening: &'static str,
     /// The signs or operators before what a level holds, as often as told.
@@ -22,7 +22,7 @@ pub struct Nesting {
     levels: usize,
 }
 
-pub const NESTINGS: [Nesting; 6] = [
+const NESTINGS: [Nesting; 6] = [
     // Signs.
     Nesting {
         opening: "(",
@@ -87,7 +87,7 @@ const VERDICTS: &str =
     "r.yml:4:13: rule rec:0\n  __name__: impossible\n  *: possible\nfiles 1, refused 0, rules 1, problems 0, notes 0\nverdicts guaranteed 0, impossible 1, possible 1, unresolved 0, empty 0\n";
 
 /// A file with one rule, whose expression nests a selector in this way.
-pub fn nested(alloc: Global, nesting: &Nesting) -> Result<String, AllocError> {
+fn nested(alloc: Global, nesting: &Nesting) -> Result<String, AllocError> {
     let before = nesting.before.repeat(alloc, nesting.often)?;
     let behind = nesting.behind.repeat(alloc, nesting.often)?;
     let front = format!(in alloc; "{}{before}", nesting.opening)?;

@@ -1,9 +1,0 @@
-use Rattle.std.proofs.Common.{sym, subst}
-use Rattle.lf_ast.specs.Rules.{rule_trees}
-use Rattle.lf_semantics.specs.Environments.{CoversRules}
-use Rattle.lf_semantics.specs.Listing.{Listing}
-use Rattle.lf_semantics.proofs.ListingLaws.{universe_covers}
-use Rattle.lf_tests.proofs.of_lf_lint.deepest_rows.prepared_universe.Goals as goal
-
-pub returns : goal.returns
-returns c = let P : Listing → Type 0 = λ u. CoversRules u (rule_trees c.args.rules.now) in subst P (sym c.in_ok-universe.ensures.found) (universe_covers (rule_trees c.args.rules.now))
