@@ -15,8 +15,14 @@ use lf_flow::Env;
 use std::alloc::Global;
 use std::thread::{Threads, join};
 
+/// Of so many rounds the last has one worker.
+const TURNS: u32 = 4;
+
 /// The least environment of rules, by 1 to 64 workers: round by round they raise the words of the rows, until a round changes none. It is the same for every number of
 /// workers, whoever of them computes which rule and when.
+///
+/// Each fourth round is made by one worker, who takes the rules in their order. Where several take them, one may come to a rule while another is still at what it reads, and
+/// a long chain of such rules would take as many rounds.
 pub fn solve_shared<R: Threads + Sync, G: Gate + Sync>(
     rt: &R,
     alloc: Global,
@@ -30,15 +36,26 @@ pub fn solve_shared<R: Threads + Sync, G: Gate + Sync>(
     ensures { IfOk result (IsLeast universe.now (rule_trees rules.now)) }
 {
     let mut words = first_words(alloc, universe, rules)?;
-    loop {
-        let (round, seat) = Round::new(alloc, universe, rules, &words, workers)?;
-        let seat = run(rt, alloc, &round, seat, universe, rules, workers, gate)?;
+    let mut turn = 0;
+    'rounds: loop {
+        let seats = seats_in(turn, workers);
+        let (round, seat) = Round::new(alloc, universe, rules, &words, seats)?;
+        let seat = run(rt, alloc, &round, seat, universe, rules, seats, gate)?;
         let end = round.close(alloc, seat)?;
         words = end.words;
         if !end.changed {
             return environment(alloc, universe, rules, &words);
         }
+        turn = (turn % TURNS + 1) % TURNS;
     }
+}
+
+/// How many workers make the round of a turn, which are counted from 0.
+fn seats_in(turn: u32, workers: u32) -> u32
+    requires { (0 < workers) × (workers ≤ 64) }
+    ensures { (0 < result) × (result ≤ 64) }
+{
+    if turn == TURNS - 1 { 1 } else { workers }
 }
 
 /// Halves the workers until each has a thread of its own, where one can be made. Seats are joined after their workers.

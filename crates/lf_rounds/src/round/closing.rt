@@ -69,7 +69,7 @@ fn row_words(alloc: Global, closed: &Closed<(), Global>, count: usize) -> Result
     ensures words { IfOk result (λ words. words ≡ drop 1 (slots_items closed.now.words)) }
     ensures fit { IfOk result AreWords }
 {
-    let mut words = Seq::new(alloc);
+    let mut words = Seq::from_vec(Vec::with_capacity(alloc, count)?);
     for k in 0..count {
         words.push(closed.word(k + 1))?;
     }

@@ -104,7 +104,7 @@ fn count(pieces: &Seq<u32>) -> Result<u32, Memory>
 fn behind_claims(alloc: Global, start: &[u64]) -> Result<Vec<u64>, Memory>
     ensures { IfOk result (λ words. words.items ≡ 0 ∷ start.now) }
 {
-    let mut words = Vec::new(alloc);
+    let mut words = Vec::with_capacity(alloc, start.len() + 1)?;
     words.push(0)?;
     words.extend_from_slice(start)?;
     Ok(words)

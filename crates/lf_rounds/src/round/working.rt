@@ -234,7 +234,7 @@ impl Round {
         ensures len { IfOk result (λ words. length words ≡ width (task self.now)) }
     {
         let at = number as usize * self.width as usize;
-        let mut words = Seq::new(alloc);
+        let mut words = Seq::from_vec(Vec::with_capacity(alloc, self.width as usize)?);
         for k in 0..self.width {
             words.push(self.load(seat, at + k as usize))?;
         }
