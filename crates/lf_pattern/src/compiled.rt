@@ -4,6 +4,7 @@ ghost use Rattle.regex.specs.Patterns.{default_config};
 ghost use Rattle.regex.specs.Strings.{regex_source, regex_config, IsReadFromSource};
 ghost use Rattle.std.specs.List.{flat_map};
 ghost use Rattle.regex.specs.Strings.{captures_span};
+ghost use Rattle.lf_pattern.specs.views.Form.{FindsAs};
 ghost use Rattle.lf_pattern.specs.views.Groups.{IsFew, captured_text, group_of_match};
 ghost use Rattle.lf_pattern.specs.Read.{anchored, finds, found_group, reading};
 ghost use Rattle.lf_pattern.specs.reading.Expansion.{expanded, piece_text};
@@ -12,7 +13,7 @@ ghost use Rattle.lf_pattern.specs.reading.Replacement.{greatest};
 use crate::error::PatternError;
 use crate::replacement::Piece;
 use lf_base::{Memory, Text};
-use regex::{Captures, Error, Regex, RegexBuilder};
+use regex::{Captures, Error, Matcher, Regex, RegexBuilder};
 use std::alloc::{AllocError, Global};
 
 /// About how many bytes a compiled pattern may take: far above every pattern in use, and little enough that a hostile pattern is refused before the system ends the
@@ -48,12 +49,19 @@ pub fn compile(alloc: Global, text: &Text) -> Result<Regex, PatternError>
     }
 }
 
-/// Whether the pattern has a match in the value.
-pub fn finds(alloc: Global, regex: &Regex, value: &str) -> Result<bool, Memory>
-    ensures { (p : List ℕ) → regex_source regex.now ≡ anchored p → regex_config regex.now ≡ default_config → IsReadFromSource regex.now → IfOk result (λ found. found ≡ finds p value.now) }
+/// What searches values for the pattern.
+pub fn matcher(alloc: Global, regex: &Regex) -> Result<Matcher<'_>, Memory>
+    ensures { (p : List ℕ) → regex_source regex.now ≡ anchored p → regex_config regex.now ≡ default_config → IsReadFromSource regex.now → IfOk result (FindsAs p) }
 {
-    let mut matcher = regex.matcher(alloc)?;
-    Ok(matcher.is_match(value))
+    Ok(regex.matcher(alloc)?)
+}
+
+/// Whether the pattern has a match in the value.
+pub fn finds(matcher: &mut Matcher<'_>, value: &str) -> bool
+    ensures found { (p : List ℕ) → FindsAs p matcher.old → result ≡ finds p value.now }
+    ensures same { (p : List ℕ) → FindsAs p matcher.old → FindsAs p matcher.new }
+{
+    matcher.is_match(value)
 }
 
 /// The expansion of a replacement's pieces where the pattern has a match in the value, or None.

@@ -6,9 +6,10 @@ ghost use Rattle.lf_pattern.specs.Matching.{IsRead, Matches, matches};
 ghost use Rattle.lf_pattern.specs.reading.Expansion.{expanded, expansion, plain_group};
 ghost use Rattle.lf_pattern.specs.Replacement.{HasPieces, IsExpansion, IsPlainReplacement};
 
-use crate::compiled::{compile, expand, finds};
+use crate::compiled::{compile, expand};
 use crate::error::PatternError;
 use crate::plain::{in_pair, plain_alternatives};
+use crate::probe::Probe;
 use crate::replacement::{Piece, pieces};
 use crate::writing::write_plain;
 use lf_base::{Memory, Seq, Text};
@@ -72,10 +73,15 @@ impl Pattern {
         ensures meaning { IfOk result (λ found. IsTrue found ↔ Matches self.old text.now) }
         ensures same { self.new ≡ self.old }
     {
-        match &self.form {
-            Form::Plain { alternatives, .. } => Ok(contains(alternatives, text)),
-            Form::Other(regex) => finds(alloc, regex, text.as_str()),
-        }
+        let mut probe = self.probe(alloc)?;
+        Ok(probe.matches(text))
+    }
+
+    /// The pattern, to be tried on one value after another: what `regex` learns of it at one value is kept for the next.
+    pub fn probe(&self, alloc: Global) -> Result<Probe<'_>, Memory>
+        ensures { IfOk result (λ probe. probe ≡ self.now) }
+    {
+        Probe::new(alloc, &self.text, &self.form)
     }
 
     /// What a plain replacement expands to where the pattern matches the value, or None where it doesn't. `$$` gives `$`, and `$n` and `${n}` give the

@@ -6,6 +6,7 @@ ghost use Rattle.lf_pattern.specs.SampleScan.{added, both_added};
 
 use crate::error::PatternError;
 use crate::pattern::{Pattern, contains};
+use crate::probe::Probe;
 use crate::sample::Both;
 use crate::shape::read_shape;
 use lf_base::{Memory, Seq, Text};
@@ -19,37 +20,33 @@ pub fn samples(alloc: Global, text: &Text) -> Result<Seq<Text>, PatternError>
     ensures read { IfOk result (λ _. IsRead text.now) }
     ensures bad { IfErr result (λ e. e ≡ PatternError.BadPattern → IsRead text.now → ⊥) }
 {
-    let mut pattern = Pattern::new(alloc, text)?;
+    let pattern = Pattern::new(alloc, text)?;
     match read_shape(alloc, text)? {
         None => Ok(Seq::new(alloc)),
-        Some(both) => Ok(kept(alloc, &mut pattern, both)?),
+        Some(both) => Ok(kept(alloc, &pattern, both)?),
     }
 }
 
 /// Those of the two samples that are kept, or one where they are equal.
-fn kept(alloc: Global, pattern: &mut Pattern, both: Both) -> Result<Seq<Text>, Memory>
-    ensures { IfOk result (λ list. list ≡ both_added pattern.old both) }
+fn kept(alloc: Global, pattern: &Pattern, both: Both) -> Result<Seq<Text>, Memory>
+    ensures { IfOk result (λ list. list ≡ both_added pattern.now both) }
 {
+    let mut probe = pattern.probe(alloc)?;
     let mut list = Seq::new(alloc);
-    keep(alloc, pattern, both.low.into_text(), &mut list)?;
-    keep(alloc, pattern, both.high.into_text(), &mut list)?;
+    keep(&mut probe, both.low.into_text(), &mut list)?;
+    keep(&mut probe, both.high.into_text(), &mut list)?;
     Ok(list)
 }
 
 /// Appends a sample where it is kept and isn't in the list.
-fn keep(
-    alloc: Global,
-    pattern: &mut Pattern,
-    sample: Option<Text>,
-    list: &mut Seq<Text>,
-) -> Result<(), Memory>
-    ensures added { OnOk result (list.new ≡ added pattern.old list.old sample) }
-    ensures same { pattern.new ≡ pattern.old }
+fn keep(probe: &mut Probe<'_>, sample: Option<Text>, list: &mut Seq<Text>) -> Result<(), Memory>
+    ensures added { OnOk result (list.new ≡ added probe.old list.old sample) }
+    ensures same { probe.new ≡ probe.old }
 {
     let Some(text) = sample else {
         return Ok(());
     };
-    if text.len() == 0 || contains(list, &text) || !pattern.matches(alloc, &text)? {
+    if text.len() == 0 || contains(list, &text) || !probe.matches(&text) {
         return Ok(());
     }
     list.push(text)
