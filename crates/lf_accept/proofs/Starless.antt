@@ -14,11 +14,7 @@ use Rattle.lf_semantics.proofs.ListingLaws.{of_first_seen}
 use Rattle.lf_semantics.proofs.Members.{one_of, here, behind}
 use Rattle.lf_accept.specs.Accepted.{IsAccepted, IsRule}
 use Rattle.lf_accept.proofs.AcceptedRules.{accepted_rule}
-use Rattle.lf_accept.proofs.StarlessTrees.{NoneStar, none_star_append, metric_differs, star, starless}
-
-star_is_none : is_label_name star ≡ true → ⊥
-unfolding is_label_name begins_label is_letter
-star_is_none e = cc
+use Rattle.lf_accept.proofs.StarlessTrees.{NoneStar, none_star_append, metric_differs, star, starless, star_is_none}
 
 set_labels_free : (ls : List RuleLabel) → AllByRecursion (λ l. is_label_name l.key ≡ true) ls → NoneStar (map (λ l. mention l.key (l.value ∷ [])) ls)
 set_labels_free [] h = tt

@@ -271,7 +271,7 @@ modifier_starless m f =
 
 -- ---- strings that name labels
 
-star_is_none : is_label_name star ≡ true → ⊥
+pub star_is_none : is_label_name star ≡ true → ⊥
 unfolding is_label_name begins_label is_letter
 star_is_none e = cc
 
@@ -300,9 +300,6 @@ text_differs s k (Next e es) fit (suc j) wants =
 sources_free : (texts : List Bytes) → ((j : ℕ) → text_at texts j ≢ star) → NoneStar (map (λ source. mention source []) texts)
 sources_free [] h = tt
 sources_free (x ∷ texts) h = (h 0, sources_free texts (λ j. h (suc j)))
-
-none_at : (j : ℕ) → text_at [] j ≢ star
-none_at j = none_differs
 
 behind_three : (texts : List Bytes) → ((j : ℕ) → text_at texts (suc (suc (suc j))) ≢ star) → NoneStar (map (λ source. mention source []) (drop 3 texts))
 behind_three [] h = tt

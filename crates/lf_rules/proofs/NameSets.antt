@@ -13,18 +13,6 @@ use Rattle.lf_yaml.specs.Tree.{Tree}
 use Rattle.lf_rules.specs.reading.Files.{name_of, with_name, names_faults, again_faults, least_from, lesser}
 use Rattle.lf_rules.proofs.Folded.{least_both}
 
-swapped : (a b c : Bool) → (a || (b || c)) ≡ (b || (a || c))
-swapped true true c = refl
-swapped true false c = refl
-swapped false b c = refl
-
-any_more : (p : Bytes → Bool) (names : List Bytes) (x : Bytes) → list_any p (names ++ x ∷ []) ≡ (p x || list_any p names)
-any_more p [] x = refl
-any_more p (n ∷ names) x = ap (λ b. p n || b) (any_more p names x) ∙ swapped (p n) (p x) (list_any p names)
-
-pub holds_more : (old now : NameSet) (names : List Bytes) (name : Bytes) → HasNames old names → ((other : List ℕ) → has now other ≡ (bytes_eq other name || has old other)) → HasNames now (names ++ name ∷ [])
-holds_more old now names name h m = λ other. m other ∙ ap (λ b. bytes_eq other name || b) (h other) ∙ sym (any_more (bytes_eq other) names name)
-
 -- the fault of a name that was added, by whether it was new
 again_if : (old : NameSet) (names : List Bytes) (v : Value) (b : Bool) → HasNames old names → b ≡ not (has old v.text) → again_faults names (Some v) ≡ cond b [] (fault DoubleGroup v.span ∷ [])
 again_if old names v b h e = by (list_any (bytes_eq v.text) names) (e ∙ ap not (h v.text))

@@ -12,9 +12,6 @@ use Rattle.lf_rules.specs.reading.Files.{setting_faults, settings_faults, rule_f
 use Rattle.lf_rules.specs.reading.Files as reading
 use Rattle.lf_rules.proofs.Folded.{pairs_back, trees_back}
 
-pub scalar_tree : (of : Scalar) → tree (Node.Scalar of) ≡ leaf (value of)
-scalar_tree of = search (rules, the_lemmas)
-
 pub map_tree : (entries : List Entry) (span : Span) → tree (Node.Map entries span) ≡ mapping (entries_of (map pair entries)) span
 map_tree entries span = search (rules, the_lemmas)
 

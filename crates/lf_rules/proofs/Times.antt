@@ -28,9 +28,6 @@ duration_in : (t : Bytes) → IsDuration t → is_duration t ≡ true
 duration_in [] d = absurd (let l : 0 < length {A = ℕ} [] = duration_some [] d in omega arith)
 duration_in (b ∷ bs) d = rw (ordered (b ∷ bs) d) refl
 
-pub duration_decides : Decides is_duration IsDuration
-duration_decides = (duration_out, duration_in)
-
 pub time_decides : Decides is_time IsTime
 time_decides = ((λ t e. by t (or_cases (is_duration t) (bytes_eq t (codes "0")) e)), back)
   where

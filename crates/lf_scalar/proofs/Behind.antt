@@ -6,11 +6,7 @@ use Rattle.std.proofs.lemmas.List.{drop_all, length-drop}
 use Rattle.lf_scalar.specs.Cells.{Cell, cell, cells}
 use Rattle.lf_scalar.specs.Lines.{is_blank, after_blanks}
 use Rattle.lf_scalar.specs.reading.Quoted.{wrong_behind}
-use Rattle.lf_scalar.proofs.Cells.{cells-drop}
-
-cells-length : (at : ℕ) (xs : List ℕ) → length (cells at xs) ≡ length xs
-cells-length at [] = refl
-cells-length at (x ∷ xs) = ap suc (cells-length (suc at) xs)
+use Rattle.lf_scalar.proofs.Cells.{cells-drop, cells-length}
 
 nothing-blank : (b : Bool) (cs : List Cell) → after_blanks cs ≡ [] → wrong_behind b cs ≡ None
 nothing-blank b [] e = refl

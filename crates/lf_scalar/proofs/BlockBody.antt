@@ -1,7 +1,8 @@
 -- The text of a block scalar's body is the one that the definition has.
-use Rattle.std.proofs.Common.{◌≡◌, ◌≢◌, ℕ, suc, ◌+◌, Bool, true, false, List, [], ◌∷◌, ◌++◌, length, refl, ap, arith, sym, ◌∙◌, subst, ◌⊎◌, inl, inr, ◌&&◌}
+use Rattle.std.proofs.Common.{◌≡◌, ◌≢◌, ℕ, suc, ◌+◌, Bool, true, false, List, [], ◌∷◌, ◌++◌, length, refl, ap, arith, sym, ◌∙◌, subst, inl, inr, ◌&&◌}
 use Rattle.std.specs.List.{flat_map, list_all, AllByRecursion}
 use Rattle.std.proofs.lemmas.List.Concat.{flat_map-cons}
+use Rattle.std.proofs.lemmas.Bool.{cases_Bool, and_parts}
 use Rattle.lf_scalar.specs.declared.block.Chomp.{Chomp}
 use Rattle.lf_scalar.specs.Cells.{Cell, cell}
 use Rattle.lf_scalar.specs.Lines.{Line}
@@ -9,10 +10,6 @@ use Rattle.lf_scalar.specs.Folding.{trimmed}
 use Rattle.lf_scalar.specs.Block.{EndsFull, AreEmpty, breaks, chomped, joined, Stretch, IsStretch, whole, folded, IsFolded, IsJoined, IsBlockText}
 use Rattle.lf_scalar.specs.reading.Block.{is_empty_text, is_empty, empties, between_of, stretch_of, folded_of, block_text}
 use Rattle.lf_scalar.proofs.Tails.{true-false}
-
-by-test : (b : Bool) → (b ≡ true) ⊎ (b ≡ false)
-by-test true = inl refl
-by-test false = inr refl
 
 empty-true : (l : Line) → l.text ≡ [] → is_empty l ≡ true
 empty-true l e = rw e refl
@@ -38,13 +35,9 @@ all-empty : (ls : List Line) → AreEmpty ls → list_all is_empty ls ≡ true
 all-empty [] h = refl
 all-empty (l ∷ ls) h = rw (empty-true l h.0) (all-empty ls h.1)
 
-and-both : (a b : Bool) → (a && b) ≡ true → (a ≡ true) × (b ≡ true)
-and-both true b h = (refl, h)
-and-both false b h = true-false false h refl
-
 empty-all : (ls : List Line) → list_all is_empty ls ≡ true → AreEmpty ls
 empty-all [] h = tt
-empty-all (l ∷ ls) h = let b = and-both (is_empty l) (list_all is_empty ls) h in (true-empty l b.0, empty-all ls b.1)
+empty-all (l ∷ ls) h = let b = and_parts (is_empty l) (list_all is_empty ls) h in (true-empty l b.0, empty-all ls b.1)
 
 -- ---- the lines up to the last that isn't empty, and the empty ones
 
@@ -81,14 +74,10 @@ trim-last l ls h = (rw h refl, rw h refl)
 trim-more : (l : Line) (ls : List Line) → (is_empty l && list_all is_empty ls) ≡ false → (trimmed is_empty (l ∷ ls) ≡ l ∷ trimmed is_empty ls) × (empties (l ∷ ls) ≡ empties ls)
 trim-more l ls h = (rw h refl, rw h refl)
 
-all-trimmed : (ls : List Line) → list_all is_empty ls ≡ true → trimmed is_empty ls ≡ []
-all-trimmed [] h = refl
-all-trimmed (l ∷ ls) h = (trim-last l ls h).0
-
 trimmed-all : (ls : List Line) → trimmed is_empty ls ≡ [] → list_all is_empty ls ≡ true
 trimmed-all [] h = refl
 trimmed-all (l ∷ ls) h =
-    elim (by-test (is_empty l && list_all is_empty ls)) [
+    elim (cases_Bool (is_empty l && list_all is_empty ls)) [
       | inl a ↦ a
       | inr a ↦ absurd (none (sym (trim-more l ls a).0 ∙ h))
     ]
@@ -103,7 +92,7 @@ full-cons l (m ∷ ls) h n = h
 pub split : (body : List Line) → Split body
 split [] = record { source = refl; ends_full = tt; are_empty = tt }
 split (l ∷ ls) =
-    elim (by-test (is_empty l && list_all is_empty ls)) [
+    elim (cases_Bool (is_empty l && list_all is_empty ls)) [
       | inl a ↦
           let t = trim-last l ls a in
           record { source = rw (t.0, t.1) refl; ends_full = subst EndsFull (sym t.0) tt; are_empty = subst AreEmpty (sym t.1) (empty-all (l ∷ ls) a) }
@@ -173,7 +162,7 @@ parts : (ls : List Line) → Parts ls
 parts [] = record { empty = []; stretches = []; source = refl; are_empty = tt; are_stretches = tt }
 parts (l ∷ ls) =
     let p = parts ls in
-    elim (by-test (is_empty l)) [
+    elim (cases_Bool (is_empty l)) [
       | inl a ↦ record { empty = l ∷ p.empty; stretches = p.stretches; source = ap (λ (x : List Line). l ∷ x) p.source; are_empty = (true-empty l a, p.are_empty); are_stretches = p.are_stretches }
       | inr a ↦
           let s : Stretch = record { full = l; behind = p.empty } in

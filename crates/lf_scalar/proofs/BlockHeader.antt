@@ -1,6 +1,6 @@
 -- Reading a block scalar's header is the definition, in both directions, and what it stops at is the first wrong character.
 use Rattle.std.proofs.Common.{◌≡◌, ℕ, suc, ◌-◌, Bool, true, false, eqb, List, [], ◌∷◌, ◌++◌, Option, Some, None, Ok, Err, refl, ap, arith, sym, ◌∙◌, subst, ◌⊎◌, inl, inr}
-use Rattle.std.proofs.lemmas.Bool.{ne_eqb}
+use Rattle.std.proofs.lemmas.Bool.{ne_eqb, cases_Bool}
 use Rattle.std.proofs.lemmas.Bool.Decides.{eqb_tells, leb_tells}
 use Rattle.lf_scalar.specs.declared.block.Chomp.{Chomp}
 use Rattle.lf_scalar.specs.declared.block.Chomp.TheVariants.{Strip, Clip, Keep}
@@ -73,7 +73,7 @@ pub step-end : (s : Option Chomp) (d : Option ℕ) (c : Cell) (cs : List Cell) �
 unfolding header_from
 step-end s d c cs p q = rw (p, q) refl
 
-step-nil : (s : Option Chomp) (d : Option ℕ) → header_from s d [] ≡ Ok (chomp_or s, d)
+pub step-nil : (s : Option Chomp) (d : Option ℕ) → header_from s d [] ≡ Ok (chomp_or s, d)
 unfolding header_from
 step-nil s d = refl
 
@@ -257,10 +257,6 @@ stops s d (c ∷ cs) w e =
         let i : c ≡ w = cc in
         (rw (← i) p, rw (← i) q)
 
-by-test : (b : Bool) → (b ≡ true) ⊎ (b ≡ false)
-by-test true = inl refl
-by-test false = inr refl
-
 set-wrong : {X : Type 0} (w u : Cell) (o : Option X) (x : Got) (later : Header) → once w o (got x) ≡ wrong u → once w o later ≡ wrong w
 set-wrong w u None x later e = got-wrong x u e
 set-wrong w u (Some y) x later e = refl
@@ -271,7 +267,7 @@ wrong-by s d [] w u more x before here =
     elim (mark w) [
       | sign chomp h ↦ step-sign s d w more chomp h ∙ set-wrong w u s (chomp, d) (header_from (Some chomp) d more) (ap (once w s) (sym (step-nil (Some chomp) d)) ∙ sym (step-sign s d w [] chomp h) ∙ here)
       | numeral n h ↦ step-digit s d w more n h ∙ set-wrong w u d (chomp_or s, Some n) (header_from s (Some n) more) (ap (once w d) (sym (step-nil s (Some n))) ∙ sym (step-digit s d w [] n h) ∙ here)
-      | neither p q ↦ elim (by-test (is_tail false (w ∷ []))) [
+      | neither p q ↦ elim (cases_Bool (is_tail false (w ∷ []))) [
         | inl t ↦ got-wrong (chomp_or s, d) u (sym (tail-read s d (w ∷ []) t) ∙ here)
         | inr f ↦ tail-wrong s d [] w more refl f (λ n. (p, q))
       ]
@@ -288,7 +284,7 @@ wrong-by s d (c ∷ front) w u more x before here =
           to (front ++ w ∷ more) ∙ wrong-by s (Some n) front w u more x o.1 (sym (to (front ++ w ∷ [])) ∙ here)
       | neither p q ↦
           let o = ended-none s d (wrong_behind false (c ∷ front)) x (sym (step-end s d c front p q) ∙ before) in
-          elim (by-test (is_tail false (c ∷ front ++ w ∷ []))) [
+          elim (cases_Bool (is_tail false (c ∷ front ++ w ∷ []))) [
             | inl t ↦ got-wrong (chomp_or s, d) u (sym (tail-read s d (c ∷ front ++ w ∷ []) t) ∙ here)
             | inr f ↦ tail-wrong s d (c ∷ front) w more (told-tail false (c ∷ front) o.0) f (λ n. none n)
           ]

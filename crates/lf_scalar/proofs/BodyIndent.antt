@@ -6,7 +6,8 @@ use Rattle.std.proofs.lemmas.Bool.Decides.{leb_tells}
 use Rattle.lf_scalar.specs.Cells.{cells}
 use Rattle.lf_scalar.specs.Lines.{line, lines, lines_at, indent_of}
 use Rattle.lf_scalar.specs.Block.{told_indent}
-use Rattle.lf_scalar.proofs.BodyLines.{are-spaces, have-text, cells-length}
+use Rattle.lf_scalar.proofs.BodyLines.{are-spaces, have-text}
+use Rattle.lf_scalar.proofs.Cells.{cells-length}
 
 module _ (above longest at : ℕ) (bytes : List ℕ) (place text feed n : ℕ) (so_far : told_indent above above (lines_at at bytes) ≡ told_indent above longest (lines_at (at + place) (drop place bytes)))
     (first : lines_at (at + place) (drop place bytes) ≡ line (cells (at + place) (take text (drop place bytes))) (at + (place + feed)) ∷ lines_at (at + (place + (feed + 1))) (drop (place + (feed + 1)) bytes))

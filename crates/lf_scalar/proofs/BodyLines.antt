@@ -1,5 +1,5 @@
 -- What a line is to a block scalar's body, by its spaces.
-use Rattle.std.proofs.Common.{◌≡◌, ◌==◌, ℕ, suc, ◌+◌, ◌<◌, ◌≤◌, Bool, true, false, leb, nat_lt, ◌&&◌, List, [], ◌∷◌, Some, None, length, refl, ap, arith, ◌∙◌, inl, inr}
+use Rattle.std.proofs.Common.{◌≡◌, ◌==◌, ℕ, suc, ◌+◌, ◌<◌, ◌≤◌, Bool, true, false, leb, nat_lt, ◌&&◌, List, [], ◌∷◌, Some, None, length, refl, arith, ◌∙◌, inl, inr}
 use Rattle.lf_base.specs.declared.kind.Kind.TheVariants.{BadIndent}
 use Rattle.lf_base.specs.Faults.{span, fault}
 use Rattle.std.specs.List.{list_all}
@@ -9,10 +9,7 @@ use Rattle.lf_scalar.specs.Lines.{Line, line, start_of, indent_of, is_spaces}
 use Rattle.lf_scalar.specs.Plain.{has_tab}
 use Rattle.lf_scalar.specs.Block.{in_body, body_fault}
 use Rattle.lf_scalar.proofs.Tails.{true-false}
-
-pub cells-length : (at : ℕ) (bytes : List ℕ) → length (cells at bytes) ≡ length bytes
-cells-length at [] = refl
-cells-length at (x ∷ xs) = ap suc (cells-length (suc at) xs)
+use Rattle.lf_scalar.proofs.Cells.{cells-length}
 
 abbrev all_spaces : List Cell → Bool
 all_spaces cs = list_all (λ c. c.byte == 32) cs
@@ -52,9 +49,6 @@ module _ (at : ℕ) (bytes : List ℕ) (n feed : ℕ) (e : n ≡ indent_of (cell
 
   abbrev l : Line
   l = line (cells at bytes) feed
-
-  long-is : length (cells at bytes) ≡ length bytes
-  long-is = cells-length at bytes
 
   module _ (leads : Bool) (above k : ℕ) where
     pub spaces-role : length bytes ≤ n → (leads && nat_lt k (length bytes)) ≡ false → (in_body k l ≡ true) × ((ls : List Line) → body_fault leads above k (l ∷ ls) ≡ body_fault leads above k ls)

@@ -4,6 +4,7 @@ use Rattle.std.specs.List.{list_all}
 use Rattle.std.proofs.lemmas.List.{append-nil, length-append, map-append, length-drop, length-take, drop_all}
 use Rattle.std.proofs.lemmas.List.Sums.{take_while-cons}
 use Rattle.std.proofs.lemmas.Bool.Decides.{leb_tells}
+use Rattle.std.proofs.lemmas.Bool.{and_parts}
 use Rattle.lf_base.specs.declared.refusal.Refusal.{Refusal}
 use Rattle.lf_base.specs.declared.refusal.Refusal.TheVariants as refusal_of
 use Rattle.lf_base.specs.Answers.{IfAt}
@@ -15,7 +16,7 @@ use Rattle.lf_scalar.specs.Block.{EndsFull, AreEmpty, line_end, last_end, in_bod
 use Rattle.lf_scalar.specs.reading.Block.{is_empty, empties}
 use Rattle.lf_scalar.specs.reading.Body.{contents, break_of, body_with, IsBody}
 use Rattle.lf_scalar.proofs.BlockBody.{split-again}
-use Rattle.lf_scalar.proofs.BodyLines.{cells-length}
+use Rattle.lf_scalar.proofs.Cells.{cells-length}
 
 -- ---- one line more at the end
 
@@ -165,19 +166,11 @@ abbrev pub Ends : ℕ → List Line → Type 0
 Ends k [] = Unit {0}
 Ends k (l ∷ ls) = in_body k l ≡ false
 
-and-left : (a b : Bool) → (a && b) ≡ true → a ≡ true
-and-left true b h = refl
-and-left false b h = h
-
-and-right : (a b : Bool) → (a && b) ≡ true → b ≡ true
-and-right true b h = h
-and-right false b h = let e : false ≡ true = h in absurd cc
-
 takes : (k : ℕ) (xs left : List Line) → list_all (in_body k) xs ≡ true → Ends k left → take_while (in_body k) (xs ++ left) ≡ xs
 takes k [] [] h e = refl
 takes k [] (l ∷ ls) h e = rw e refl
 takes k (x ∷ xs) left h e =
-    take_while-cons (in_body k) x (xs ++ left) ∙ rw (and-left (in_body k x) (list_all (in_body k) xs) h) (ap (λ (t : List Line). x ∷ t) (takes k xs left (and-right (in_body k x) (list_all (in_body k) xs) h) e))
+    take_while-cons (in_body k) x (xs ++ left) ∙ rw (and_parts (in_body k x) (list_all (in_body k) xs) h).0 (ap (λ (t : List Line). x ∷ t) (takes k xs left (and_parts (in_body k x) (list_all (in_body k) xs) h).1 e))
 
 pub found : (k at : ℕ) (bytes : List ℕ) (b : Body) (place : ℕ) → Seen k at bytes b place → Ends k (lines_at (at + place) (drop place bytes)) → IsBody k at bytes b
 found k at bytes b place s ends =

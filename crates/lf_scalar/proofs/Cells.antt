@@ -2,6 +2,19 @@
 use Rattle.std.proofs.Common.{◌≡◌, ℕ, zero, suc, ◌+◌, ◌<◌, List, [], ◌∷◌, ◌++◌, length, get_or, take, drop, refl, ap, arith, add-one, drop-cons, ◌∙◌}
 use Rattle.lf_scalar.specs.Cells.{Cell, cell, cells, bytes_of}
 
+pub cells-length : (at : ℕ) (bytes : List ℕ) → length (cells at bytes) ≡ length bytes
+cells-length at [] = refl
+cells-length at (x ∷ xs) = ap suc (cells-length (suc at) xs)
+
+pub no-cell : (c : Cell) (cs : List Cell) → [] ≡ c ∷ cs → ⊥
+no-cell c cs e = cc
+
+pub same-cell : (c d : Cell) (cs ds : List Cell) → c ∷ cs ≡ d ∷ ds → c ≡ d
+same-cell c d cs ds e = cc
+
+pub same-cells : (c d : Cell) (cs ds : List Cell) → c ∷ cs ≡ d ∷ ds → cs ≡ ds
+same-cells c d cs ds e = cc
+
 pub cells-drop : (at : ℕ) (line : List ℕ) (i : ℕ) → i < length line → cells (at + i) (drop i line) ≡ cell (get_or line i 0) (at + i) ∷ cells (at + (i + 1)) (drop (i + 1) line)
 cells-drop at line i lt =
     let e : at + (i + 1) ≡ suc (at + i) = omega arith in

@@ -1,5 +1,5 @@
 -- Offsets that never fall, by recursion.
-use Rattle.std.proofs.Common.{◌≡◌, ℕ, zero, suc, ◌+◌, ◌<◌, ◌≤◌, List, [], ◌∷◌, ◌++◌, length, get_or, arith}
+use Rattle.std.proofs.Common.{◌≡◌, ℕ, zero, suc, ◌+◌, ◌<◌, ◌≤◌, List, [], ◌∷◌, length, get_or, arith}
 use Rattle.lf_base.specs.declared.place.Span.{Span}
 use Rattle.lf_scalar.specs.Offsets.{NeverFall, AreOffsets}
 
@@ -7,11 +7,6 @@ use Rattle.lf_scalar.specs.Offsets.{NeverFall, AreOffsets}
 abbrev pub Climbs : ℕ → List ℕ → ℕ → Type 0
 Climbs low [] high = low ≤ high
 Climbs low (at ∷ offsets) high = (low ≤ at) × Climbs at offsets high
-
-pub climbs-append : (low mid high : ℕ) (xs ys : List ℕ) → Climbs low xs mid → Climbs mid ys high → Climbs low (xs ++ ys) high
-climbs-append low mid high [] [] a b = omega (arith, a, b)
-climbs-append low mid high [] (y ∷ ys) a b = (omega (arith, a, b.0), b.1)
-climbs-append low mid high (x ∷ xs) ys a b = (a.0, climbs-append x mid high xs ys a.1 b)
 
 climbs-at : (low high : ℕ) (xs : List ℕ) (j : ℕ) → Climbs low xs high → j < length xs → (low ≤ get_or xs j 0) × (get_or xs j 0 ≤ high)
 climbs-at low high [] j h lt = absurd (omega arith)

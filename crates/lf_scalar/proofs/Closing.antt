@@ -25,7 +25,7 @@ behind-are : (b e : Cell) (o : Option Closing) → behind b (behind e o) ≡ ahe
 behind-are b e None = refl
 behind-are b e (Some x) = refl
 
-no-quote : (b : ℕ) → b ≡ 92 → eqb b 34 ≡ false
+pub no-quote : (b : ℕ) → b ≡ 92 → eqb b 34 ≡ false
 no-quote b h = rw h refl
 
 pub closing-one : (kind : Quotes) (r : Raw) (src : List Cell) → IsRaw kind r → closing_of kind 0 (raw r ++ src) ≡ ahead (raw r) (closing_of kind 0 src)

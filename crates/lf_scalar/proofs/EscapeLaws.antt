@@ -9,10 +9,7 @@ use lib.Utf8.{scalar}
 use Rattle.lf_scalar.specs.Cells.{Cell, cell, cells}
 use Rattle.lf_scalar.specs.Quoted.{width_of}
 use Rattle.lf_scalar.specs.reading.Quoted.{told, number_if, number_of, escape_of, as_piece, as_character, as_escape}
-
-pub length-cells : (at : ℕ) (xs : List ℕ) → length (cells at xs) ≡ length xs
-length-cells at [] = refl
-length-cells at (x ∷ xs) = ap suc (length-cells (suc at) xs)
+use Rattle.lf_scalar.proofs.Cells.{cells-length}
 
 pub take-cells : (n at : ℕ) (xs : List ℕ) → take n (cells at xs) ≡ cells at (take n xs)
 take-cells zero at xs = refl
@@ -22,12 +19,12 @@ take-cells (suc n) at (x ∷ xs) = ap (λ (cs : List Cell). cell x at ∷ cs) (t
 module _ (b e : Cell) (w at : ℕ) (xs : List ℕ) where
   pub number-short : length xs < w → option_map as_piece (number_of b e w (cells at xs)) ≡ None
   number-short lt =
-      let n : eqb (length (take w (cells at xs))) w ≡ false = ne_eqb _ w (λ h. omega (arith, length-take w (cells at xs), length-cells at xs, h)) in
+      let n : eqb (length (take w (cells at xs))) w ≡ false = ne_eqb _ w (λ h. omega (arith, length-take w (cells at xs), cells-length at xs, h)) in
       rw n refl
 
   number-long : w ≤ length xs → number_of b e w (cells at xs) ≡ number_if b e (cells at (take w xs)) (told 0 (cells at (take w xs)))
   number-long le =
-      let n : eqb (length (cells at (take w xs))) w ≡ true = eq-eqb _ w (omega (arith, length-cells at (take w xs), length-take w xs)) in
+      let n : eqb (length (cells at (take w xs))) w ≡ true = eq-eqb _ w (omega (arith, cells-length at (take w xs), length-take w xs)) in
       rw (take-cells w at xs, n) refl
 
   pub number-none : w ≤ length xs → told 0 (cells at (take w xs)) ≡ None → option_map as_piece (number_of b e w (cells at xs)) ≡ None
@@ -37,7 +34,7 @@ module _ (b e : Cell) (w at : ℕ) (xs : List ℕ) where
   number-some n r le t h = rw (number-long le, t) (sym (by r h))
     where
       count : suc (length (cells at (take w xs))) ≡ 1 + w
-      count = omega (arith, length-cells at (take w xs), length-take w xs, le)
+      count = omega (arith, cells-length at (take w xs), length-take w xs, le)
 
       no : (s : Bool) → scalar n ≡ s → (scalar n ≡ true → ⊥) → scalar n ≡ false
       no true e h = absurd (h e)

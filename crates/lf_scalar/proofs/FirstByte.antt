@@ -5,11 +5,12 @@ use Rattle.std.proofs.lemmas.Bool.Decides.{eqb_tells}
 use Rattle.lf_scalar.specs.declared.scalar.Style.{Style}
 use Rattle.lf_scalar.specs.declared.scalar.Style.TheVariants as style
 use Rattle.lf_scalar.specs.Cells.{Cell, cell, cells}
-use Rattle.lf_scalar.specs.Lines.{Line, lines, first_text, begins_with, lengthen}
+use Rattle.lf_scalar.specs.Lines.{Line, lines, first_text, begins_with}
 use Rattle.lf_scalar.specs.Plain.{is_plain_byte, is_sign, before_blank}
 use Rattle.lf_scalar.specs.Scalars.{begins}
 use Rattle.lf_scalar.specs.reading.Begins.{first_byte_of, is_full_byte, begins_by}
-use Rattle.lf_scalar.proofs.LineSteps.{lines-nil, lines-feed, lines-return, lines-other, line-step, IsOther}
+use Rattle.lf_scalar.proofs.LineSteps.{lines-nil, lines-feed, lines-return, lines-other, line-step, IsOther, not-feed, first-lengthen}
+use Rattle.lf_scalar.proofs.LineLaws.{begins-at}
 
 abbrev first_of : ℕ → List Cell → Option ℕ
 first_of end src = first_byte_of (first_text (lines end src))
@@ -22,21 +23,10 @@ pub of-feed : (at end : ℕ) (rest : List ℕ) → 0 < length rest → get_or re
 of-feed at end [] lt e = absurd (omega arith)
 of-feed at end (x ∷ xs) lt e = sym (ap (λ (ls : List Line). first_byte_of (first_text ls)) (lines-feed end (cell x at) (cells (suc at) xs) e))
 
-lengthen-first : (end : ℕ) (c : Cell) (ls : List Line) → first_text (lengthen end c ls) ≡ c ∷ first_text ls
-lengthen-first end c [] = refl
-lengthen-first end c (l ∷ ls) = refl
-
-begins-at : (at : ℕ) (xs : List ℕ) → begins_with 10 (cells at xs) ≡ eqb (get_or xs 0 0) 10
-begins-at at [] = refl
-begins-at at (x ∷ xs) = refl
-
 return-first : (end : ℕ) (c : Cell) (src : List Cell) → eqb c.byte 10 ≡ false → eqb c.byte 13 ≡ true → begins_with 10 src ≡ true → None ≡ first_of end (c ∷ src)
 unfolding lines
 return-first end c [] a b d = absurd cc
 return-first end c (e ∷ src) a b d = rw (a, b, d) refl
-
-not-feed : (b : ℕ) → b ≡ 13 → eqb b 10 ≡ false
-not-feed b e = rw e refl
 
 pub of-return : (at end : ℕ) (rest : List ℕ) → 0 < length rest → get_or rest 0 0 ≡ 13 → eqb (get_or rest 1 0) 10 ≡ true → None ≡ first_of end (cells at rest)
 of-return at end [] lt e f = absurd (omega arith)
@@ -49,7 +39,7 @@ is-other at x xs n r = record { no_feed = ne_eqb x 10 n; no_return = elim (eqb_t
 pub of-other : (at end : ℕ) (rest : List ℕ) → 0 < length rest → get_or rest 0 0 ≢ 10 → (get_or rest 0 0 ≡ 13 → eqb (get_or rest 1 0) 10 ≡ false) → Some (get_or rest 0 0) ≡ first_of end (cells at rest)
 of-other at end [] lt n r = absurd (omega arith)
 of-other at end (x ∷ xs) lt n r =
-    sym (ap (λ (ls : List Line). first_byte_of (first_text ls)) (lines-other end (cell x at) (cells (suc at) xs) (is-other at x xs n r)) ∙ ap first_byte_of (lengthen-first end (cell x at) (lines end (cells (suc at) xs))))
+    sym (ap (λ (ls : List Line). first_byte_of (first_text ls)) (lines-other end (cell x at) (cells (suc at) xs) (is-other at x xs n r)) ∙ ap first_byte_of (first-lengthen end (cell x at) (lines end (cells (suc at) xs))))
 
 -- ---- how a scalar begins
 
@@ -76,7 +66,7 @@ begins-step s end at x xs =
     elim (line-step (cell x at) (cells (suc at) xs)) [
       | inl a ↦ rw (lines-feed end (cell x at) (cells (suc at) xs) a) (begins-none s (first_of end (cells (suc at) xs)))
       | inr (inl r) ↦ rw (lines-return end (cell x at) (cells (suc at) xs) r) (begins-none s (first_of end (cells (suc at) xs)))
-      | inr (inr o) ↦ rw (lines-other end (cell x at) (cells (suc at) xs) o, lengthen-first end (cell x at) (lines end (cells (suc at) xs))) (begins-cons s (cell x at) (first_text (lines end (cells (suc at) xs))))
+      | inr (inr o) ↦ rw (lines-other end (cell x at) (cells (suc at) xs) o, first-lengthen end (cell x at) (lines end (cells (suc at) xs))) (begins-cons s (cell x at) (first_text (lines end (cells (suc at) xs))))
     ]
 
 pub begins-is : (s : Style) (end at : ℕ) (rest behind : List ℕ) (first second : Option ℕ) (b : Bool) → behind ≡ drop 1 rest → first ≡ first_of end (cells at rest) → second ≡ first_of end (cells (suc at) behind) → b ≡ begins_by s first second

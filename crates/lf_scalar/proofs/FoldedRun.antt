@@ -1,27 +1,24 @@
 -- Folding a body's lines one after the other.
-use Rattle.std.proofs.Common.{◌≡◌, ℕ, zero, suc, ◌<◌, Bool, true, false, eqb, List, [], ◌∷◌, ◌++◌, length, get_or, Option, Some, None, refl, ap, arith, sym, ◌∙◌, append_assoc, add-one, ◌⊎◌, inl, inr}
+use Rattle.std.proofs.Common.{◌≡◌, ℕ, zero, suc, ◌<◌, Bool, true, false, eqb, List, [], ◌∷◌, ◌++◌, length, get_or, Option, Some, None, refl, ap, arith, sym, ◌∙◌, append_assoc, add-one, inl, inr}
 use Rattle.std.specs.Prelude.{IfSome}
 use Rattle.std.proofs.lemmas.List.{append-nil}
+use Rattle.std.proofs.lemmas.Bool.{cases_Bool}
 use Rattle.lf_scalar.specs.declared.joined.LastLine.{LastLine}
 use Rattle.lf_scalar.specs.Cells.{Cell, cell, cells}
 use Rattle.lf_scalar.specs.Lines.{Line, line, is_blank}
 use Rattle.lf_scalar.specs.Block.{begins_blank}
 use Rattle.lf_scalar.specs.reading.Block.{is_empty, stretch_of, folded_of}
-use Rattle.lf_scalar.specs.reading.Body.{between_last, last_behind, folded_behind, one_more, FewBehind}
+use Rattle.lf_scalar.specs.reading.Body.{between_last, last_behind, folded_behind, FewBehind}
 
 -- a line that isn't empty, with k empty ones behind it
 abbrev last_of : Line → ℕ → LastLine
 last_of l k = record { feed = l.break; blank = begins_blank l.text; empty = k }
 
-by-test : (b : Bool) → (b ≡ true) ⊎ (b ≡ false)
-by-test true = inl refl
-by-test false = inr refl
-
 stretch-step : (l : Line) (k : ℕ) (ls : List Line) → stretch_of l k ls ≡ l.text ++ last_behind (last_of l k) ls
 unfolding stretch_of
 stretch-step l k [] = sym (append-nil l.text)
 stretch-step l k (m ∷ ls) =
-    elim (by-test (is_empty m)) [
+    elim (cases_Bool (is_empty m)) [
       | inl a ↦ rw a (stretch-step l (suc k) ls ∙ ap (λ (n : ℕ). l.text ++ last_behind (last_of l n) ls) (sym (add-one k)))
       | inr a ↦ rw a refl
     ]
@@ -36,10 +33,6 @@ abbrev Gave : List Cell → List Cell → Option LastLine → Option LastLine �
 Gave old now last after at text feed ls = now ++ folded_behind after ls ≡ old ++ folded_behind last (line (cells at text) feed ∷ ls)
 
 module _ (old now : List Cell) (at feed : ℕ) where
-  pub empty-open : (text : List ℕ) (o : LastLine) (ls : List Line) → length text ≡ 0 → Gave old old (Some o) (Some (one_more o)) at text feed ls
-  empty-open [] o ls e = refl
-  empty-open (x ∷ xs) o ls e = absurd (omega (arith, e))
-
   pub empty-first : (text : List ℕ) (ls : List Line) → length text ≡ 0 → now ≡ old ++ cell 10 feed ∷ [] → Gave old now None None at text feed ls
   unfolding folded_of
   empty-first [] ls e h = ap (λ (cs : List Cell). cs ++ folded_of ls) h ∙ append_assoc old (cell 10 feed ∷ []) (folded_of ls)

@@ -1,14 +1,15 @@
 -- Reading a header byte by byte.
-use Rattle.std.proofs.Common.{◌≡◌, ℕ, ◌+◌, ◌<◌, ◌≤◌, false, List, [], ◌∷◌, length, get_or, drop, Option, Some, None, Ok, Err, refl, ap, arith, sym, ◌∙◌}
+use Rattle.std.proofs.Common.{◌≡◌, ℕ, ◌+◌, ◌<◌, ◌≤◌, false, List, ◌∷◌, length, get_or, drop, Option, Some, None, Ok, Err, refl, ap, sym, ◌∙◌}
 use Rattle.std.specs.Prelude.{option_map}
 use Rattle.std.proofs.lemmas.List.{drop_all}
 use Rattle.lf_scalar.specs.declared.block.Chomp.{Chomp}
 use Rattle.lf_scalar.specs.declared.header.Mark.TheVariants as mark
 use Rattle.lf_scalar.specs.Cells.{Cell, cell, cells}
 use Rattle.lf_scalar.specs.reading.Quoted.{wrong_behind}
-use Rattle.lf_scalar.specs.reading.Block.{Header as HeaderRead, chomp_of, mark_digit, chomp_or, ends_header, once, header_from}
+use Rattle.lf_scalar.specs.reading.Block.{Header as HeaderRead, chomp_of, mark_digit, ends_header, once, header_from}
 use Rattle.lf_scalar.specs.reading.Body.{IsMark, header_with, header_told}
 use Rattle.lf_scalar.proofs.Cells.{cells-drop}
+use Rattle.lf_scalar.proofs.BlockHeader.{step-end, step-nil}
 
 -- the header from a place on, behind marks
 abbrev pub header_at : ℕ → List ℕ → Option Chomp → Option ℕ → ℕ → HeaderRead
@@ -16,11 +17,6 @@ header_at at bytes s d i = header_from s d (cells (at + i) (drop i bytes))
 
 abbrev pub SoFar : List ℕ → Option Chomp → Option ℕ → ℕ → Type 0
 SoFar bytes s d i = (at : ℕ) → header_from None None (cells at bytes) ≡ header_at at bytes s d i
-
-pub so-far-start : (bytes : List ℕ) → SoFar bytes None None 0
-so-far-start bytes at =
-    let z : at ≡ at + 0 = omega arith in
-    ap (λ (n : ℕ). header_from None None (cells n bytes)) z
 
 sign-step : (s : Option Chomp) (d : Option ℕ) (c : Cell) (cs : List Cell) (chomp : Chomp) → chomp_of c.byte ≡ Some chomp → header_from s d (c ∷ cs) ≡ once c s (header_from (Some chomp) d cs)
 unfolding header_from
@@ -30,21 +26,7 @@ digit-step : (s : Option Chomp) (d : Option ℕ) (c : Cell) (cs : List Cell) (n 
 unfolding header_from
 digit-step s d c cs n p q = rw (p, q) refl
 
-neither-step : (s : Option Chomp) (d : Option ℕ) (c : Cell) (cs : List Cell) → chomp_of c.byte ≡ None → mark_digit c.byte ≡ None → header_from s d (c ∷ cs) ≡ ends_header s d (wrong_behind false (c ∷ cs))
-unfolding header_from
-neither-step s d c cs p q = rw (p, q) refl
-
-nil-step : (s : Option Chomp) (d : Option ℕ) → header_from s d [] ≡ Ok (chomp_or s, d)
-unfolding header_from
-nil-step s d = refl
-
 module _ (bytes : List ℕ) (s : Option Chomp) (d : Option ℕ) (i : ℕ) (lt : i < length bytes) (h : SoFar bytes s d i) where
-  here : ℕ → Cell
-  here at = cell (get_or bytes i 0) (at + i)
-
-  behind : ℕ → List Cell
-  behind at = cells (at + (i + 1)) (drop (i + 1) bytes)
-
   split : (at : ℕ) → cells (at + i) (drop i bytes) ≡ cell (get_or bytes i 0) (at + i) ∷ cells (at + (i + 1)) (drop (i + 1) bytes)
   split at = cells-drop at bytes i lt
 
@@ -61,10 +43,10 @@ module _ (bytes : List ℕ) (s : Option Chomp) (d : Option ℕ) (i : ℕ) (lt : 
   digit-twice n other at m e = sym (h at ∙ ap (header_from s d) (split at) ∙ digit-step s d (cell (get_or bytes i 0) (at + i)) (cells (at + (i + 1)) (drop (i + 1) bytes)) n m.0 m.1 ∙ rw e refl)
 
   pub marks-end : (at : ℕ) → IsMark (get_or bytes i 0) mark.Neither → ends_header s d (wrong_behind false (cells (at + i) (drop i bytes))) ≡ header_from None None (cells at bytes)
-  marks-end at m = sym (h at ∙ ap (header_from s d) (split at) ∙ neither-step s d (cell (get_or bytes i 0) (at + i)) (cells (at + (i + 1)) (drop (i + 1) bytes)) m.0 m.1 ∙ ap (λ (cs : List Cell). ends_header s d (wrong_behind false cs)) (sym (split at)))
+  marks-end at m = sym (h at ∙ ap (header_from s d) (split at) ∙ step-end s d (cell (get_or bytes i 0) (at + i)) (cells (at + (i + 1)) (drop (i + 1) bytes)) m.0 m.1 ∙ ap (λ (cs : List Cell). ends_header s d (wrong_behind false cs)) (sym (split at)))
 
 pub header-ends : (bytes : List ℕ) (s : Option Chomp) (d : Option ℕ) (i : ℕ) → length bytes ≤ i → SoFar bytes s d i → (at : ℕ) → header_told at bytes (Ok (header_with s d)) ≡ header_from None None (cells at bytes)
-header-ends bytes s d i le h at = sym (h at ∙ ap (λ (x : List ℕ). header_from s d (cells (at + i) x)) (drop_all i bytes le) ∙ nil-step s d)
+header-ends bytes s d i le h at = sym (h at ∙ ap (λ (x : List ℕ). header_from s d (cells (at + i) x)) (drop_all i bytes le) ∙ step-nil s d)
 
 -- ---- what stands behind the marks
 

@@ -1,6 +1,6 @@
 -- The lines between quotes: nothing closes in a line before the last, and the last ends with the quote that closes.
-use Rattle.std.proofs.Common.{◌≡◌, ◌≢◌, ℕ, zero, suc, ◌<◌, Bool, true, false, eqb, List, [], ◌∷◌, Option, Some, None, length, eq-eqb, refl, ap, arith, sym, ◌∙◌, subst, ◌⊎◌, inl, inr}
-use Rattle.std.proofs.lemmas.Bool.{ne_eqb}
+use Rattle.std.proofs.Common.{◌≡◌, ◌≢◌, ℕ, zero, suc, ◌<◌, true, false, eqb, List, [], ◌∷◌, Option, Some, None, length, eq-eqb, refl, ap, arith, sym, ◌∙◌, subst, ◌⊎◌, inl, inr}
+use Rattle.std.proofs.lemmas.Bool.{ne_eqb, cases_Bool}
 use Rattle.std.proofs.lemmas.Bool.Decides.{eqb_tells}
 use Rattle.lf_scalar.specs.Cells.{Cell}
 use Rattle.lf_scalar.specs.Lines.{Line, line, begins_with, lengthen, lines}
@@ -138,16 +138,12 @@ nothing-found : (kind : Quotes) (k : ℕ) → closing_of kind k [] ≡ None
 unfolding closing_of
 nothing-found kind k = refl
 
-by-test : (b : Bool) → (b ≡ true) ⊎ (b ≡ false)
-by-test true = inl refl
-by-test false = inr refl
-
 other-lines : (kind : Quotes) (end k : ℕ) (c closing : Cell) (src inside : List Cell) → k < 2 → IsOther c src → closing_of kind k (c ∷ src) ≡ Some (inside, (closing, [])) → ((j : ℕ) → j < 2 → Inner kind end j closing src) → LinesOk kind k closing (lines end (c ∷ src))
 other-lines kind end (suc zero) c closing src inside small o e later = longer kind end 1 0 c closing src inside o (steps-skip kind c src) e (later 0 (omega arith))
 other-lines kind end (suc (suc k)) c closing src inside small o e later = absurd (omega arith)
 other-lines Single end zero c closing src inside small o e later =
     elim (eqb_tells c.byte 39) [
-      | inl a ↦ elim (by-test (begins_with 39 src)) [
+      | inl a ↦ elim (cases_Bool (begins_with 39 src)) [
         | inl b ↦ longer Single end 0 1 c closing src inside o (steps-twice c src a.1 b) e (later 1 (omega arith))
         | inr b ↦ ends-here Single end c closing src inside o (closes-single c src a.1 b) e
       ]

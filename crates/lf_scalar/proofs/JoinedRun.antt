@@ -10,10 +10,10 @@ use Rattle.lf_scalar.specs.Lines.{Line, line, lines_at}
 use Rattle.lf_scalar.specs.Block.{joined}
 use Rattle.lf_scalar.specs.reading.Block.{folded_of}
 use Rattle.lf_scalar.specs.reading.Body.{contents, joins_of, literal_behind, joined_behind}
-use Rattle.lf_scalar.proofs.BodyLines.{cells-length}
 use Rattle.lf_scalar.proofs.BodyRun.{line_there}
 use Rattle.lf_scalar.proofs.Walk.{lines_left, left-start, left-end}
 use Rattle.lf_scalar.proofs.Reaching.{drop-cells}
+use Rattle.lf_scalar.proofs.Cells.{cells-length}
 
 -- ---- one line of a literal scalar
 

@@ -47,7 +47,7 @@ abbrev pub Told : Style → ℕ → ℕ → List Cell → Result Value Fault →
 Told s above end src (Ok v) = IsOfStyle s above end src v
 Told s above end src (Err f) = BreaksStyle s above end src f
 
-begins-nothing : (s : Style) → begins s [] ≡ false
+pub begins-nothing : (s : Style) → begins s [] ≡ false
 begins-nothing style.Plain = refl
 begins-nothing style.Single = refl
 begins-nothing style.Double = refl

@@ -17,7 +17,7 @@ after-return : (at : ℕ) (rest : List ℕ) → 0 < length rest → get_or rest 
 after-return at [] lt e = absurd (omega arith)
 after-return at (x ∷ xs) lt e = ap (λ (b : ℕ). cell b at ∷ cells (suc at) xs) e
 
-begins-at : (at : ℕ) (rest : List ℕ) → begins_with 10 (cells at rest) ≡ eqb (get_or rest 0 0) 10
+pub begins-at : (at : ℕ) (rest : List ℕ) → begins_with 10 (cells at rest) ≡ eqb (get_or rest 0 0) 10
 begins-at at [] = refl
 begins-at at (x ∷ xs) = refl
 

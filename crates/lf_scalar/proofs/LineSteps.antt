@@ -1,8 +1,8 @@
 -- The lines of a source by its first cell.
-use Rattle.std.proofs.Common.{◌≡◌, ℕ, ◌<◌, true, false, eqb, List, [], ◌∷◌, length, eq-eqb, refl, ap, ◌∙◌, ◌⊎◌, inl, inr, ◌&&◌}
+use Rattle.std.proofs.Common.{◌≡◌, ℕ, true, false, eqb, List, [], ◌∷◌, eq-eqb, refl, ap, ◌∙◌, ◌⊎◌, inl, inr, ◌&&◌}
 use Rattle.std.proofs.lemmas.Bool.Decides.{eqb_tells}
 use Rattle.lf_scalar.specs.Cells.{Cell}
-use Rattle.lf_scalar.specs.Lines.{Line, line, begins_with, lengthen, lines}
+use Rattle.lf_scalar.specs.Lines.{Line, line, begins_with, lengthen, lines, first_text}
 
 -- a carriage return before a line feed
 pub record IsReturn (c : Cell) (src : List Cell) : Type 0 where
@@ -43,7 +43,7 @@ pub lines-feed : (end : ℕ) (c : Cell) (src : List Cell) → c.byte ≡ 10 → 
 unfolding lines
 lines-feed end c src e = rw (eq-eqb c.byte 10 e) refl
 
-not-feed : (b : ℕ) → b ≡ 13 → eqb b 10 ≡ false
+pub not-feed : (b : ℕ) → b ≡ 13 → eqb b 10 ≡ false
 not-feed b e = rw e refl
 
 return-feed : (end : ℕ) (c d : Cell) (rest : List Cell) → c.byte ≡ 13 → d.byte ≡ 10 → lines end (c ∷ d ∷ rest) ≡ line [] d.at ∷ lines end rest
@@ -57,15 +57,7 @@ pub lines-other : (end : ℕ) (c : Cell) (src : List Cell) → IsOther c src →
 unfolding lines
 lines-other end c src o = rw (o.no_feed, o.no_return) refl
 
--- some cells have some lines
-pub some-line : (end : ℕ) (n : ℕ) (c : Cell) (src : List Cell) → length src < n → (l : Line) × (ls : List Line) × (lines end (c ∷ src) ≡ l ∷ ls)
-some-line end n c src lt =
-    elim (line-step c src) [
-      | inl a ↦ (line [] c.at, lines end src, lines-feed end c src a)
-      | inr (inl r) ↦ (line [] r.feed.at, lines end r.rest, lines-return end c src r)
-      | inr (inr o) ↦ longer (lines end src) (lines-other end c src o)
-    ]
-  where
-    longer : (ls : List Line) → lines end (c ∷ src) ≡ lengthen end c ls → (l : Line) × (ms : List Line) × (lines end (c ∷ src) ≡ l ∷ ms)
-    longer [] e = (line (c ∷ []) end, [], e)
-    longer (m ∷ ls) e = (line (c ∷ m.text) m.break, ls, e)
+-- the first line of a source that goes on
+pub first-lengthen : (end : ℕ) (c : Cell) (ls : List Line) → first_text (lengthen end c ls) ≡ c ∷ first_text ls
+first-lengthen end c [] = refl
+first-lengthen end c (l ∷ ls) = refl

@@ -18,10 +18,6 @@ use Rattle.lf_scalar.specs.views.Built.{TextAnswers}
 use Rattle.lf_scalar.proofs.LineSteps.{lines-nil}
 use Rattle.lf_scalar.proofs.Tails.{true-false}
 
-pub front-nil : (read : Result (List Cell) Fault) → front [] read ≡ read
-front-nil (Ok cs) = refl
-front-nil (Err f) = refl
-
 pub front-front : (a b : List Cell) (read : Result (List Cell) Fault) → front a (front b read) ≡ front (a ++ b) read
 front-front a b (Ok cs) = ap (λ (x : List Cell). Ok x) (sym (append_assoc a b cs))
 front-front a b (Err f) = refl
@@ -51,9 +47,6 @@ pub record Left (kind : Quotes) (whole : Result (List Cell) Fault) (old now : Li
   pub out : List Cell
   pub text : now ≡ old ++ out
   pub whole_is : whole ≡ front out (lines_behind kind b k ls)
-
-pub starts : (kind : Quotes) (old : List Cell) (b : Break) (k : ℕ) (ls : List Line) → Left kind (lines_behind kind b k ls) old old b k ls
-starts kind old b k ls = record { out = []; text = sym (append-nil old); whole_is = sym (front-nil (lines_behind kind b k ls)) }
 
 module _ (kind : Quotes) (whole : Result (List Cell) Fault) (old now : List Cell) (b : Break) (k : ℕ) (l : Line) (ls : List Line) (left : Left kind whole old now b k (l ∷ ls)) where
   pub one-blank : is_blank_line l ≡ true → Left kind whole old now b (suc k) ls

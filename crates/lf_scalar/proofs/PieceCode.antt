@@ -7,9 +7,6 @@ use Rattle.lf_scalar.specs.Lines.{is_blank}
 use Rattle.lf_scalar.specs.Quoted.{Single, Double}
 use Rattle.lf_scalar.specs.reading.Quoted.{escape_of, piece_of, as_piece, piece_at}
 
-Seen : Type 0
-Seen = List Cell × (Bool × ℕ)
-
 abbrev pub some : List Cell → Bool → ℕ → Option (List Cell × (Bool × ℕ))
 some cs blank k = Some (cs, (blank, k))
 

@@ -1,18 +1,16 @@
 -- Reading a line piece by piece finds the pieces that stand there, all of them and no others.
-use Rattle.std.proofs.Common.{◌≡◌, ℕ, zero, suc, ◌+◌, ◌*◌, ◌<◌, Bool, true, false, eqb, List, [], ◌∷◌, ◌++◌, Option, Some, None, length, take, drop, eq-eqb, refl, ap, arith, append_assoc, sym, ◌∙◌, subst, ◌⊎◌, inl, inr}
+use Rattle.std.proofs.Common.{◌≡◌, ℕ, zero, suc, ◌+◌, ◌*◌, ◌<◌, true, eqb, List, [], ◌∷◌, ◌++◌, Option, Some, None, length, take, drop, eq-eqb, refl, ap, arith, append_assoc, sym, ◌∙◌, subst, ◌⊎◌, inl, inr}
 use Rattle.std.specs.List.{flat_map, AllByRecursion}
 use Rattle.std.proofs.lemmas.List.{length-append, take-append-drop}
 use Rattle.std.proofs.lemmas.List.Concat.{flat_map-cons}
-use Rattle.std.proofs.lemmas.Bool.{ne_eqb, eqb-true}
+use Rattle.std.proofs.lemmas.Bool.{ne_eqb, eqb-true, cases_Bool}
 use Rattle.std.proofs.lemmas.Bool.Decides.{eqb_tells}
 use Rattle.std.proofs.Math.Seq.{take-append_seam}
+use Rattle.std.proofs.lemmas.Option.{none-some}
 use lib.Utf8.{scalar}
 use Rattle.lf_scalar.specs.Cells.{Cell}
 use Rattle.lf_scalar.specs.Quoted.{Quotes, Single, Double, letter_of, width_of, digit_of, Tells, Piece, Bare, Twice, Letter, Number, spelled, IsPiece}
 use Rattle.lf_scalar.specs.reading.Quoted.{told_on, told, piece_of, scan}
-
-none-some : {A : Type 0} (x : A) → None ≡ Some x → ⊥
-none-some x e = cc
 
 pub told-tells : (before : ℕ) (cs : List Cell) (n : ℕ) → told before cs ≡ Some n → Tells before cs n
 told-tells before [] n e = let h : before ≡ n = cc in sym h
@@ -80,10 +78,6 @@ pub record Starts (kind : Quotes) (src : List Cell) : Type 0 where
   pub rest : List Cell
   pub source : src ≡ spelled piece ++ rest
 
-by-test : (b : Bool) → (b ≡ true) ⊎ (b ≡ false)
-by-test true = inl refl
-by-test false = inr refl
-
 -- a piece stands there, or none is found
 pub starts : (kind : Quotes) (c : Cell) (src : List Cell) → Starts kind (c ∷ src) ⊎ (piece_of kind c src ≡ None)
 unfolding piece_of
@@ -113,7 +107,7 @@ starts Double c src =
         → Starts Double (c ∷ e ∷ src) ⊎ (piece_of Double c (e ∷ src) ≡ None)
     numbers e src width None a w l t = inr (rw (a.0, w, l, t) refl)
     numbers e src width (Some n) a w l t =
-        elim (by-test (scalar n)) [
+        elim (cases_Bool (scalar n)) [
           | inl s ↦ inl (record {
             piece = Number c e (take width src) n;
             is_piece = (a.1, w ∙ ap (λ (k : ℕ). Some k) (sym (eqb-true _ _ l)), told-tells 0 (take width src) n t, s);
@@ -127,7 +121,7 @@ starts Double c src =
     escape e src None None a p q = inr (rw (a.0, p, q) refl)
     escape e src None (Some n) a p q = inl (record { piece = Letter c e n; is_piece = (a.1, q); rest = src; source = refl })
     escape e src (Some width) o a p q =
-        elim (by-test (eqb (length (take width src)) width)) [
+        elim (cases_Bool (eqb (length (take width src)) width)) [
           | inl l ↦ numbers e src width (told 0 (take width src)) a p l refl
           | inr l ↦ inr (rw (a.0, p, l) refl)
         ]

@@ -1,6 +1,6 @@
 -- The lines behind a plain scalar's first line, one by one.
 use Rattle.std.proofs.Common.{◌≡◌, ℕ, ◌+◌, ◌≤◌, Bool, true, false, cond, List, [], ◌∷◌, ◌++◌, Option, Some, None, Result, Ok, Err, length, take, drop, refl, ap, arith, append_assoc, sym, ◌∙◌, subst}
-use Rattle.std.proofs.lemmas.List.{append-nil, drop-drop, drop_all}
+use Rattle.std.proofs.lemmas.List.{append-nil, drop_all}
 use Rattle.lf_base.specs.declared.kind.Kind.TheVariants.{BadIndent}
 use Rattle.lf_base.specs.declared.refusal.Refusal.{Refusal}
 use Rattle.lf_base.specs.declared.refusal.Refusal.TheVariants as refusal_of
@@ -29,7 +29,7 @@ no f = Err f
 pub yes-is : (x y : List Cell) → yes x ≡ yes y → x ≡ y
 yes-is x y e = cc
 
-yes-no : (x : List Cell) (f : Fault) → yes x ≡ no f → ⊥
+pub yes-no : (x : List Cell) (f : Fault) → yes x ≡ no f → ⊥
 yes-no x f e = cc
 
 -- ---- cells before what is read
@@ -101,21 +101,7 @@ pub record Onto (above feed : ℕ) (all : List Line) (old now : List Cell) (fold
   pub grown : now ≡ old ++ part
   pub same : plain_behind above feed 0 None all ≡ front part (plain_behind above folded.at folded.blank folded.tab left)
 
-pub onto-start : (above feed : ℕ) (all : List Line) (old : List Cell) (folded : Folded) → folded.at ≡ feed → folded.blank ≡ 0 → folded.tab ≡ None → Onto above feed all old old folded all
-onto-start above feed all old folded a b t = record { part = []; grown = sym (append-nil old); same = front-nil (plain_behind above feed 0 None all) ∙ rw (a, b, t) refl }
-
 module _ (above feed : ℕ) (all : List Line) (old now : List Cell) (folded : Folded) (l : Line) (left : List Line) (h : Onto above feed all old now folded (l ∷ left)) where
-  pub onto-more : (next : Folded) (new : List Cell) → Steps above folded l (Ok (Some next)) now new → Onto above feed all old new next left
-  onto-more next new (part, n, e) =
-      record {
-        part = h.part ++ part;
-        grown = n ∙ ap (λ (x : List Cell). x ++ part) h.grown ∙ append_assoc old h.part part;
-        same = h.same ∙ ap (front h.part) (e left) ∙ front-twice h.part part (plain_behind above next.at next.blank next.tab left);
-      }
-
-  pub onto-last : (new : List Cell) → Steps above folded l (Ok None) now new → (part : List Cell) × (plain_behind above feed 0 None all ≡ Ok part) × (new ≡ old ++ part)
-  onto-last new (part, n, e) = (h.part ++ part, h.same ∙ ap (front h.part) (e left), n ∙ ap (λ (x : List Cell). x ++ part) h.grown ∙ append_assoc old h.part part)
-
   pub onto-wrong : (e : Refusal) (new : List Cell) → Steps above folded l (Err e) now new → Fails e (plain_behind above feed 0 None all)
   onto-wrong refusal_of.Memory new s = tt
   onto-wrong (refusal_of.At kind span) new s = h.same ∙ ap (front h.part) (s left)
@@ -125,11 +111,6 @@ unfolding plain_behind
 onto-end above feed all old now folded h = (h.part, h.same ∙ ap yes (append-nil h.part), h.grown)
 
 -- ---- the bytes left behind some lines
-
-pub lines-left : (at place feed : ℕ) (rest : List ℕ) → lines_at ((at + place) + (feed + 1)) (drop (feed + 1) (drop place rest)) ≡ lines_at (at + (place + (feed + 1))) (drop (place + (feed + 1)) rest)
-lines-left at place feed rest =
-    let e : (at + place) + (feed + 1) ≡ at + (place + (feed + 1)) = omega arith in
-    ap (λ (n : ℕ). lines_at n (drop (feed + 1) (drop place rest))) e ∙ ap (λ (xs : List ℕ). lines_at (at + (place + (feed + 1))) xs) (drop-drop (feed + 1) place rest)
 
 pub lines-none : (at place : ℕ) (rest : List ℕ) → length rest ≤ place → lines_at (at + place) (drop place rest) ≡ []
 lines-none at place rest le = ap (λ (xs : List ℕ). lines_at (at + place) xs) (drop_all place rest le) ∙ lines-nil ((at + place) + 0)

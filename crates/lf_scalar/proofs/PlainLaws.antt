@@ -1,6 +1,7 @@
 -- Reading a plain scalar is the definition, in both directions, and its fault is the breach.
 use Rattle.std.proofs.Common.{◌≡◌, ℕ, zero, suc, ◌+◌, ◌<◌, Bool, true, false, cond, List, [], ◌∷◌, ◌++◌, Option, Some, None, Result, Ok, Err, length, refl, ap, arith, sym, ◌∙◌, subst, ◌⊎◌, inl, inr}
 use Rattle.std.proofs.lemmas.List.{append-nil, length-append}
+use Rattle.std.proofs.lemmas.Bool.{cases_Bool}
 use Rattle.lf_base.specs.declared.kind.Kind.TheVariants.{BadIndent, NotANode}
 use Rattle.lf_base.specs.declared.fault.Fault.{Fault}
 use Rattle.lf_scalar.specs.Cells.{Cell, Value, byte_fault, front, ◌>>=◌}
@@ -10,14 +11,8 @@ use Rattle.lf_scalar.specs.Plain.{plain_text, is_commented, key_sign, continues,
 use Rattle.lf_scalar.specs.reading.Plain.{plain_line, tab_with, plain_behind, plain_from, begun_with, plain_lines, plain_of}
 use Rattle.lf_scalar.proofs.Tails.{true-false}
 
-Read : Type 0
-Read = Result (List Cell) Fault
-
 line-good : (l : Line) → key_sign (plain_text l) ≡ None → plain_line l ≡ Ok (plain_text l)
 line-good l e = rw e refl
-
-line-bad : (l : Line) (c : Cell) → key_sign (plain_text l) ≡ Some c → plain_line l ≡ Err (byte_fault NotANode c.at)
-line-bad l c e = rw e refl
 
 -- ---- tabs behind the spaces of lines
 
@@ -33,14 +28,10 @@ stays : (at : ℕ) (ls : List Line) → tab_after (some-place at) ls ≡ Some at
 stays at [] = refl
 stays at (l ∷ ls) = stays at ls
 
-by-test : (b : Bool) → (b ≡ true) ⊎ (b ≡ false)
-by-test true = inl refl
-by-test false = inr refl
-
 first-is : (ls : List Line) → tab_after None ls ≡ first_tab ls
 first-is [] = refl
 first-is (l ∷ ls) =
-    elim (by-test (has_tab l)) [
+    elim (cases_Bool (has_tab l)) [
       | inl a ↦ rw a (stays (start_of l) ls)
       | inr a ↦ rw a (first-is ls)
     ]
@@ -150,12 +141,12 @@ pub record Go (above : ℕ) (ls : List Line) : Type 0 where
 stop-or-go : (above : ℕ) (ls : List Line) → Stop above ls ⊎ Go above ls
 stop-or-go above [] = inl (record { blank = []; rest = []; source = refl; are_blank = tt; stops_at = tt })
 stop-or-go above (l ∷ ls) =
-    elim (by-test (is_blank_line l)) [
+    elim (cases_Bool (is_blank_line l)) [
       | inl a ↦ elim (stop-or-go above ls) [
         | inl s ↦ inl (record { blank = l ∷ s.blank; rest = s.rest; source = ap (λ (x : List Line). l ∷ x) s.source; are_blank = (a, s.are_blank); stops_at = s.stops_at })
         | inr g ↦ inr (record { blank = l ∷ g.blank; next = g.next; rest = g.rest; source = ap (λ (x : List Line). l ∷ x) g.source; are_blank = (a, g.are_blank); goes_on = g.goes_on })
       ]
-      | inr a ↦ elim (by-test (continues above l)) [
+      | inr a ↦ elim (cases_Bool (continues above l)) [
         | inl c ↦ inr (record { blank = []; next = l; rest = ls; source = refl; are_blank = tt; goes_on = c })
         | inr c ↦ inl (record { blank = []; rest = l ∷ ls; source = refl; are_blank = tt; stops_at = (a, c) })
       ]
@@ -196,7 +187,7 @@ plain-tells above (suc n) l ls lt = by (key_sign (plain_text l)) refl (λ g. pla
     by : (o : Option Cell) → key_sign (plain_text l) ≡ o → ((g : Go above ls) → Answers above g.next g.rest (plain_from above g.next g.rest)) → Answers above l ls (plain_from above l ls)
     by (Some c) e below = subst (Answers above l ls) (sym (plain-breaks above l ls (byte_fault NotANode c.at) (key ls e))) (key ls e)
     by None e below =
-        elim (by-test (is_commented l)) [
+        elim (cases_Bool (is_commented l)) [
           | inl c ↦ subst (Answers above l ls) (sym (plain-again above l ls (plain_text l) (last e (inl c)))) (last e (inl c))
           | inr c ↦ bare-line above l ls e c below
         ]

@@ -13,6 +13,7 @@ use Rattle.lf_scalar.proofs.PlainCode.{yes, yes-is}
 use Rattle.lf_scalar.proofs.PlainOffsets.{plain-climbs}
 use Rattle.lf_scalar.proofs.Rising.{LinesRise, cells-rise, lines-rise, climbs-end}
 use Rattle.lf_scalar.proofs.Tails.{true-false}
+use Rattle.lf_scalar.proofs.Cells.{same-cell, no-cell}
 
 pub some-bytes : (at : ℕ) (rest : List ℕ) → begins_plain (first_text (lines_at at rest)) ≡ true → 0 < length rest
 some-bytes at [] h = true-false (begins_plain (first_text (lines_at at []))) h (ap (λ (ls : List Line). begins_plain (first_text ls)) (lines-nil (at + 0)))
@@ -30,12 +31,6 @@ within-file above at rest part e =
     text-end above at (at + length rest) (lines_at at rest) part (omega arith) (lines-rise (suc (length (cells at rest))) (at + length rest) at (cells at rest) (omega arith) (cells-rise at rest)) e
 
 -- ---- the value
-
-same-cell : (c d : Cell) (cs ds : List Cell) → c ∷ cs ≡ d ∷ ds → c ≡ d
-same-cell c d cs ds e = cc
-
-no-cell : (c : Cell) (cs : List Cell) → [] ≡ c ∷ cs → ⊥
-no-cell c cs e = cc
 
 -- the first cell of a source stands at its offset
 pub first-at : (at : ℕ) (rest : List ℕ) (c : Cell) (cs : List Cell) → cells at rest ≡ c ∷ cs → c.at ≡ at

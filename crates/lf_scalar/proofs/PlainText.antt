@@ -3,6 +3,7 @@ use Rattle.std.proofs.Common.{◌≡◌, ℕ, zero, suc, ◌+◌, ◌<◌, ◌�
 use Rattle.std.specs.List.{list_all}
 use Rattle.std.proofs.lemmas.List.{drop_all}
 use Rattle.std.proofs.lemmas.Bool.{ne_eqb}
+use Rattle.std.proofs.Math.Bool.{and-false}
 use Rattle.lf_scalar.specs.Cells.{Cell, cell, cells}
 use Rattle.lf_scalar.specs.Lines.{begins_with, is_blank}
 use Rattle.lf_scalar.specs.Folding.{trimmed}
@@ -50,10 +51,6 @@ no-comment at (x ∷ xs) none = rw (comment-test at x xs, none 0 (omega arith)) 
 all-blank : (at : ℕ) (text : List ℕ) → ((k : ℕ) → k < length text → is_blank (cell (get_or text k 0) 0) ≡ true) → list_all is_blank (cells at text) ≡ true
 all-blank at [] all = refl
 all-blank at (x ∷ xs) all = rw (all 0 (omega arith)) (all-blank (suc at) xs (λ k h. all (suc k) (omega arith)))
-
-and-false : (b : Bool) → (b && false) ≡ false
-and-false true = refl
-and-false false = refl
 
 not-all : (at : ℕ) (text : List ℕ) (n : ℕ) → n < length text → is_blank (cell (get_or text n 0) 0) ≡ false → list_all is_blank (cells at text) ≡ false
 not-all at [] n lt e = absurd (omega arith)

@@ -1,8 +1,9 @@
 -- Reading the lines between quotes is the definition, in both directions, and its fault is the breach.
-use Rattle.std.proofs.Common.{◌≡◌, ◌≢◌, ℕ, zero, suc, ◌+◌, ◌<◌, Bool, true, false, eqb, List, [], ◌∷◌, ◌++◌, Option, Some, None, Result, Ok, Err, length, eq-eqb, refl, ap, arith, sym, ◌∙◌, subst, ◌⊎◌, inl, inr, ◌&&◌}
+use Rattle.std.proofs.Common.{◌≡◌, ◌≢◌, ℕ, zero, suc, ◌+◌, ◌<◌, Bool, true, false, eqb, List, [], ◌∷◌, ◌++◌, Option, Some, None, Result, Ok, Err, length, eq-eqb, refl, ap, arith, sym, ◌∙◌, subst, ◌⊎◌, inl, inr}
 use Rattle.std.specs.List.{flat_map, AllByRecursion, list_all}
 use Rattle.std.proofs.lemmas.List.{append-nil, length-append}
 use Rattle.std.proofs.lemmas.Bool.Decides.{eqb_tells}
+use Rattle.std.proofs.lemmas.Bool.{cases_Bool, and_parts}
 use Rattle.lf_base.specs.declared.kind.Kind.TheVariants.{BadEscape, LeftOut}
 use Rattle.lf_base.specs.declared.fault.Fault.{Fault}
 use Rattle.lf_scalar.specs.Cells.{Cell, byte_fault, front, ◌>>=◌}
@@ -104,9 +105,6 @@ breaks-again kind l _ _ (later {next = next} {ls = ls} {f = f} part break blank 
 
 abbrev some-closing : Closing → Option Closing
 some-closing x = Some x
-
-ok-is : (x y : Read) → good x.0 x.1 ≡ good y.0 y.1 → x ≡ y
-ok-is x y e = cc
 
 abbrev bad : Fault → Result Read Fault
 bad f = Err f
@@ -245,14 +243,6 @@ pub record Behind (kind : Quotes) (end : Cell) (ls : List Line) : Type 0 where
   pub follows : Follows blank next
   pub ok : LinesOk kind 0 end (next ∷ rest)
 
-and-left : (a b : Bool) → (a && b) ≡ true → a ≡ true
-and-left true b h = refl
-and-left false b h = h
-
-and-right : (a b : Bool) → (a && b) ≡ true → b ≡ true
-and-right true b h = h
-and-right false b h = true-false false h refl
-
 blank-is : (c : Cell) → is_blank c ≡ true → (c.byte ≡ 32) ⊎ (c.byte ≡ 9)
 blank-is c h =
     elim (eqb_tells c.byte 32) [
@@ -269,20 +259,16 @@ blank-passed kind c src h = let n = blank-bare c.byte (blank-is c h) in passed k
 
 blank-closes : (kind : Quotes) (cs : List Cell) → list_all is_blank cs ≡ true → closing_of kind 0 cs ≡ None
 blank-closes kind [] h = nothing-closes kind
-blank-closes kind (c ∷ cs) h = blank-passed kind c cs (and-left _ _ h) ∙ behind-none c (closing_of kind 0 cs) (blank-closes kind cs (and-right _ _ h))
-
-by-test : (b : Bool) → (b ≡ true) ⊎ (b ≡ false)
-by-test true = inl refl
-by-test false = inr refl
+blank-closes kind (c ∷ cs) h = blank-passed kind c cs (and_parts _ _ h).0 ∙ behind-none c (closing_of kind 0 cs) (blank-closes kind cs (and_parts _ _ h).1)
 
 pub blanks-behind : (kind : Quotes) (end : Cell) (l : Line) (ls : List Line) → LinesOk kind 0 end (l ∷ ls) → Behind kind end (l ∷ ls)
 blanks-behind kind end l [] ok =
-    elim (by-test (is_blank_line l)) [
+    elim (cases_Bool (is_blank_line l)) [
       | inl a ↦ absurd (no-some (ok.0, (end, [])) (sym (blank-closes kind l.text a) ∙ ok.1))
       | inr a ↦ record { blank = []; next = l; rest = []; source = refl; follows = record { are_blank = tt; is_full = a }; ok = ok }
     ]
 blanks-behind kind end l (m ∷ ms) ok =
-    elim (by-test (is_blank_line l)) [
+    elim (cases_Bool (is_blank_line l)) [
       | inl a ↦
           let b = blanks-behind kind end m ms ok.1 in
           record { blank = l ∷ b.blank; next = b.next; rest = b.rest; source = ap (λ (x : List Line). l ∷ x) b.source; follows = record { are_blank = (a, b.follows.are_blank); is_full = b.follows.is_full }; ok = b.ok }
@@ -296,7 +282,7 @@ none-was c (Some x) e = absurd (no-some (c ∷ x.0, x.1) (sym e))
 after-none : (kind : Quotes) (cs : List Cell) → closing_of kind 0 cs ≡ None → closing_of kind 0 (after_blanks cs) ≡ None
 after-none kind [] h = h
 after-none kind (c ∷ cs) h =
-    elim (by-test (is_blank c)) [
+    elim (cases_Bool (is_blank c)) [
       | inl a ↦ rw a (after-none kind cs (none-was c (closing_of kind 0 cs) (sym (blank-passed kind c cs a) ∙ h)))
       | inr a ↦ rw a h
     ]
@@ -304,7 +290,7 @@ after-none kind (c ∷ cs) h =
 after-some : (kind : Quotes) (cs within : List Cell) (x : Cell × List Cell) → closing_of kind 0 cs ≡ Some (within, x) → (left : List Cell) × (closing_of kind 0 (after_blanks cs) ≡ Some (left, x))
 after-some kind [] within x h = (within, h)
 after-some kind (c ∷ cs) within x h =
-    elim (by-test (is_blank c)) [
+    elim (cases_Bool (is_blank c)) [
       | inl a ↦
           let was = behind-was c (closing_of kind 0 cs) within x (sym (blank-passed kind c cs a) ∙ h) in
           rw a (after-some kind cs was.0 x was.1)
@@ -334,7 +320,7 @@ middle-line : (kind : Quotes) (end : Cell) (l : Line) (ls : List Line) (b : Behi
     → Answers kind l ls (read >>= λ x. front x.0 (lines_behind kind x.1 0 ls))
 middle-line kind end l ls b (Err f) (c, h, e) below = subst (QuotedBreaks kind l ls) (sym e) (escape ls h)
 middle-line kind end l ls b (Ok x) broken below =
-    subst (λ (y : List Line). Answers kind l y (front x.0 (lines_behind kind x.1 0 y))) (sym b.source) (elim (by-test (is_marker b.next)) [
+    subst (λ (y : List Line). Answers kind l y (front x.0 (lines_behind kind x.1 0 y))) (sym b.source) (elim (cases_Bool (is_marker b.next)) [
       | inl a ↦ subst (λ (r : Result (List Cell) Fault). Answers kind l (b.blank ++ b.next ∷ b.rest) (front x.0 r)) (sym (behind-is kind x.1 b.blank b.next b.rest true b.follows a))
           (marker x.0 x.1 b.blank b.rest broken b.follows a)
       | inr a ↦ subst (λ (r : Result (List Cell) Fault). Answers kind l (b.blank ++ b.next ∷ b.rest) (front x.0 r)) (sym (behind-is kind x.1 b.blank b.next b.rest false b.follows a))

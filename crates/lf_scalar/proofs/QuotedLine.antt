@@ -13,9 +13,6 @@ use Rattle.lf_scalar.specs.Quoted.{Quotes, Piece, given, is_bare_blank, Break, F
 use Rattle.lf_scalar.specs.reading.Quoted.{scan, Reaches, ended, line_of, line_at}
 use Rattle.lf_scalar.proofs.Cells.{cells-drop}
 
-Read : Type 0
-Read = List Cell × Break
-
 abbrev pub good : List Cell → Break → Result (List Cell × Break) Fault
 good part break = Ok (part, break)
 

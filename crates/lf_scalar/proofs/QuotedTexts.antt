@@ -14,6 +14,7 @@ use Rattle.lf_scalar.specs.Quoted.{Quotes, Single, Double, quote_of, letters, lo
 use Rattle.lf_scalar.proofs.Parts.{Utf8, utf8-before, utf8-behind, part-utf8, after-blanks-part, blank-low, BeginsLow}
 use Rattle.lf_scalar.proofs.Utf8Lines.{utf8-nil, utf8-append, utf8-low, feeds-utf8, fold-utf8, LinesUtf8, lines-utf8-behind}
 use Rattle.lf_scalar.proofs.Rising.{Rises, Climbs, LinesRise, rises-le, rises-front, rises-back, rises-before, rises-behind, rises-part, climbs-low, climbs-high, climbs-append, feeds-climb, fold-climbs, lines-behind}
+use Rattle.lf_scalar.proofs.Tails.{some-is}
 
 -- ---- escapes
 
@@ -26,16 +27,13 @@ none = None
 not-none : (n : ℕ) → none ≡ some n → ⊥
 not-none n e = cc
 
-same-some : (m n : ℕ) → some m ≡ some n → m ≡ n
-same-some m n e = cc
-
 letters-are : (byte n : ℕ) (pairs : List (ℕ × ℕ)) → AllByRecursion (λ p. (p.0 < 128) × IsScalar p.1) pairs → looked_up byte pairs ≡ some n → (byte < 128) × IsScalar n
 letters-are byte n [] h e = absurd (not-none n e)
 letters-are byte n (pair ∷ pairs) h e =
     elim (cases_Bool (eqb byte pair.0)) [
       | inl a ↦
           let k : some pair.1 ≡ some n = rw a at e in
-          (omega (arith, eqb-true byte pair.0 a, h.0.0), subst IsScalar (same-some pair.1 n k) h.0.1)
+          (omega (arith, eqb-true byte pair.0 a, h.0.0), subst IsScalar (some-is pair.1 n k) h.0.1)
       | inr a ↦ letters-are byte n pairs h.1 (rw a at e)
     ]
 

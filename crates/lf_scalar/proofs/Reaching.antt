@@ -2,7 +2,7 @@
 use Rattle.std.proofs.Common.{◌≡◌, ℕ, zero, suc, ◌+◌, ◌≤◌, Bool, true, false, cond, List, [], ◌∷◌, ◌++◌, Option, Some, None, length, drop, refl, ap, arith, append_assoc, sym, ◌∙◌, inl, inr, ◌&&◌}
 use Rattle.std.specs.Prelude.{option_map}
 use Rattle.std.specs.List.{flat_map, list_all, AllByRecursion}
-use Rattle.std.proofs.lemmas.List.{append-nil, length-append, drop_all}
+use Rattle.std.proofs.lemmas.List.{append-nil, length-append, drop_all, drop-drop}
 use Rattle.std.proofs.lemmas.List.Concat.{flat_map-cons}
 use Rattle.std.proofs.lemmas.Grind.{flat_map-append}
 use Rattle.std.proofs.Math.Seq.{drop-append_seam}
@@ -13,9 +13,6 @@ use Rattle.lf_scalar.specs.Folding.{trimmed}
 use Rattle.lf_scalar.specs.Quoted.{Quotes, Piece, spelled, given, IsPiece, is_bare_blank}
 use Rattle.lf_scalar.specs.reading.Quoted.{piece_of, piece_at, as_piece, shown, is_blank_given, scan, Reaches}
 use Rattle.lf_scalar.proofs.Pieces.{Starts, starts, head_of, tail_of, spelled-is, piece-one, NoPiece, scan-again}
-
-Seen : Type 0
-Seen = List Cell × (Bool × ℕ)
 
 abbrev seen : List Cell × (Bool × ℕ) → Option (List Cell × (Bool × ℕ))
 seen x = Some x
@@ -121,12 +118,6 @@ pub record SoFar (kind : Quotes) (at : ℕ) (line : List ℕ) (old now : List Ce
   pub text : now ≡ old ++ flat_map given pieces
   pub kept_is : kept ≡ length old + length (flat_map given (trimmed is_bare_blank pieces))
 
-pub nothing-yet : (kind : Quotes) (at : ℕ) (line : List ℕ) (old : List Cell) → SoFar kind at line old old (length old) 0
-nothing-yet kind at line old = record { pieces = []; each = tt; source = ap (λ (k : ℕ). cells k line) (zero-more at); text = sym (append-nil old); kept_is = zero-more (length old) }
-  where
-    zero-more : (k : ℕ) → k ≡ k + 0
-    zero-more k = omega arith
-
 pub all-of : (kind : Quotes) (at : ℕ) (line : List ℕ) (old now : List Cell) (kept stop : ℕ) → SoFar kind at line old now kept stop → NoPiece kind (cells (at + stop) (drop stop line)) → Reaches kind (cells at line) old now kept (cells (at + stop) (drop stop line))
 all-of kind at line old now kept stop r none =
     let s : scan kind 0 (cells at line) ≡ (r.pieces, cells (at + stop) (drop stop line)) = ap (scan kind 0) r.source ∙ scan-again kind r.pieces (cells (at + stop) (drop stop line)) r.each none in
@@ -142,17 +133,6 @@ all-push : (kind : Quotes) (ps : List Piece) (p : Piece) → AllByRecursion (IsP
 all-push kind [] p each h = (h, tt)
 all-push kind (q ∷ ps) p each h = (each.0, all-push kind ps p each.1 h)
 
-drop-twice : (m n : ℕ) (xs : List ℕ) → drop n (drop m xs) ≡ drop (m + n) xs
-drop-twice zero n xs = ap (λ (k : ℕ). drop k xs) (zero-and n)
-  where
-    zero-and : (k : ℕ) → k ≡ 0 + k
-    zero-and k = omega arith
-drop-twice (suc m) n [] = drop_all n [] (omega arith) ∙ sym (drop_all (suc m + n) [] (omega arith))
-drop-twice (suc m) n (x ∷ xs) = drop-twice m n xs ∙ ap (λ (k : ℕ). drop k (x ∷ xs)) (suc-and m n)
-  where
-    suc-and : (m n : ℕ) → suc (m + n) ≡ suc m + n
-    suc-and m n = omega arith
-
 pub one-more : (kind : Quotes) (at : ℕ) (line : List ℕ) (old now after : List Cell) (kept new stop : ℕ) (g : Given) (k : ℕ) → SoFar kind at line old now kept stop → Front kind (at + stop) (drop stop line) g k
     → after ≡ now ++ (shown (at + stop) (g, 0)).0 → new ≡ cond (is_blank_given g) kept (length after) → SoFar kind at line old after new (stop + (1 + k))
 one-more kind at line old now after kept new stop g k r f a n =
@@ -161,7 +141,7 @@ one-more kind at line old now after kept new stop g k r f a n =
     ∙ ap (λ (x : List Cell). old ++ (flat_map given r.pieces ++ x)) (sym f.gives) ∙ ap (λ (x : List Cell). old ++ x) (sym (flat-push given r.pieces f.piece)) in
     let p : at + stop + (1 + k) ≡ at + (stop + (1 + k)) = omega arith in
     let left : cells (at + stop + (1 + k)) (drop (1 + k) (drop stop line)) ≡ cells (at + (stop + (1 + k))) (drop (stop + (1 + k)) line) =
-    ap (λ (m : ℕ). cells m (drop (1 + k) (drop stop line))) p ∙ ap (cells (at + (stop + (1 + k)))) (drop-twice stop (1 + k) line) in
+    ap (λ (m : ℕ). cells m (drop (1 + k) (drop stop line))) p ∙ ap (cells (at + (stop + (1 + k)))) (drop-drop (1 + k) stop line) in
     record {
       pieces = r.pieces ++ f.piece ∷ [];
       each = all-push kind r.pieces f.piece r.each f.is_piece;

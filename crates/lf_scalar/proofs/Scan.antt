@@ -1,5 +1,5 @@
 -- Going over bytes one by one, to the quote that closes.
-use Rattle.std.proofs.Common.{◌≡◌, ◌≢◌, ℕ, zero, suc, ◌+◌, ◌<◌, ◌≤◌, false, eqb, List, [], ◌∷◌, ◌++◌, Option, Some, None, length, get_or, take, drop, refl, ap, arith, append_assoc, sym, ◌∙◌, eq-eqb}
+use Rattle.std.proofs.Common.{◌≡◌, ◌≢◌, ℕ, zero, suc, ◌+◌, ◌<◌, ◌≤◌, eqb, List, [], ◌∷◌, ◌++◌, Option, Some, None, length, get_or, take, drop, refl, ap, arith, append_assoc, sym, ◌∙◌, eq-eqb}
 use Rattle.std.proofs.lemmas.List.{append-nil, drop_all}
 use Rattle.std.proofs.lemmas.Bool.{ne_eqb}
 use Rattle.lf_scalar.specs.declared.quotes.Step.TheVariants as step
@@ -8,7 +8,7 @@ use Rattle.lf_scalar.specs.Lines.{begins_with}
 use Rattle.lf_scalar.specs.Quoted.{Quotes, Single, Double}
 use Rattle.lf_scalar.specs.reading.Quoted.{Closing, behind, closing_of, split_of, IsStep}
 use Rattle.lf_scalar.proofs.Cells.{cells-drop, cells-take}
-use Rattle.lf_scalar.proofs.Closing.{ahead}
+use Rattle.lf_scalar.proofs.Closing.{ahead, no-quote}
 
 ahead-behind : (cs : List Cell) (c : Cell) (o : Option Closing) → ahead cs (behind c o) ≡ ahead (cs ++ c ∷ []) o
 ahead-behind cs c None = refl
@@ -26,9 +26,6 @@ scanned kind at line i k = ahead (cells at (take i line)) (closing_of kind k (ce
 
 not-zero : ◌≢◌ {A = ℕ} 39 0
 not-zero e = omega arith
-
-no-quote : (b : ℕ) → b ≡ 92 → eqb b 34 ≡ false
-no-quote b h = rw h refl
 
 module _ (kind : Quotes) (at : ℕ) (line : List ℕ) (i : ℕ) (lt : i < length line) where
   pub scanned-skip : scanned kind at line i 1 ≡ scanned kind at line (i + 1) 0

@@ -1,6 +1,7 @@
 -- Blanks, and the blank before a comment, are ASCII bytes.
-use Rattle.std.proofs.Common.{◌≡◌, ℕ, zero, suc, ◌<◌, Bool, true, false, eqb, ◌&&◌, List, [], ◌∷◌, get_or, refl, arith, inl, inr}
+use Rattle.std.proofs.Common.{◌≡◌, ℕ, zero, suc, ◌<◌, true, false, eqb, List, [], ◌∷◌, get_or, arith, inl, inr}
 use Rattle.std.proofs.lemmas.Bool.Decides.{eqb_tells}
+use Rattle.std.proofs.lemmas.Bool.{and_parts}
 use Rattle.lf_scalar.specs.Cells.{cell}
 use Rattle.lf_scalar.specs.Lines.{is_blank}
 use Rattle.lf_scalar.specs.reading.Plain.{comment_at}
@@ -18,12 +19,8 @@ small-blank x at h =
     never : false ≡ true → ⊥
     never e = cc
 
-and-left : (a b : Bool) → (a && b) ≡ true → a ≡ true
-and-left true b h = refl
-and-left false b h = h
-
 -- the blank before a comment
 pub small-comment : (line : List ℕ) (i : ℕ) → comment_at line i ≡ true → get_or line i 0 < 128
 small-comment [] i h = omega arith
-small-comment (b ∷ line) zero h = small-blank b 0 (and-left (is_blank (cell b 0)) (eqb (get_or line 0 0) 35) h)
+small-comment (b ∷ line) zero h = small-blank b 0 (and_parts (is_blank (cell b 0)) (eqb (get_or line 0 0) 35) h).0
 small-comment (b ∷ line) (suc i) h = small-comment line i h

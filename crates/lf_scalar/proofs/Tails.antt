@@ -1,5 +1,6 @@
 -- What may stand behind a scalar on its line, and the first cell that may not.
-use Rattle.std.proofs.Common.{◌≡◌, Bool, true, false, eqb, List, [], ◌∷◌, ◌++◌, Option, Some, None, refl, ap, sym, ◌∙◌, ◌⊎◌, inl, inr, ◌&&◌}
+use Rattle.std.proofs.Common.{◌≡◌, Bool, true, false, eqb, List, [], ◌∷◌, ◌++◌, Some, None, refl, ap, sym, ◌∙◌, ◌⊎◌, inl, inr, ◌&&◌}
+use Rattle.std.proofs.lemmas.Option.{none-some}
 use Rattle.lf_scalar.specs.Cells.{Cell}
 use Rattle.lf_scalar.specs.Lines.{is_blank, is_tail}
 use Rattle.lf_scalar.specs.Quoted.{WrongBehind}
@@ -8,14 +9,8 @@ use Rattle.lf_scalar.specs.reading.Quoted.{wrong_behind}
 pub true-false : {X : Type 0} (b : Bool) → b ≡ true → b ≡ false → X
 true-false b p q = let h : true ≡ false = sym p ∙ q in absurd cc
 
-abbrev some : Cell → Option Cell
-some c = Some c
-
-some-is : (c d : Cell) → some c ≡ some d → c ≡ d
-some-is c d e = cc
-
-none-some : (c : Cell) → None ≡ some c → ⊥
-none-some c e = cc
+pub some-is : {A : Type 0} (x y : A) → Some x ≡ Some y → x ≡ y
+some-is x y e = cc
 
 -- the same behind a blank or not
 pub record WrongFrom (behind : Bool) (cs : List Cell) (wrong : Cell) : Type 0 where

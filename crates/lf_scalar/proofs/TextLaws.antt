@@ -17,7 +17,7 @@ use Rattle.lf_scalar.specs.Block.{IsJoined, IsFolded, IsBlock, content_indent, b
 use Rattle.std.specs.List.{flat_map}
 use Rattle.lf_scalar.specs.Scalars.{least_above, begins, source_at, BeginsAt, IsOfStyle, IsQuotedAt, IsScalarAt}
 use Rattle.lf_scalar.specs.Offsets.{AreOffsets}
-use Rattle.lf_scalar.proofs.Cells.{cells-bytes}
+use Rattle.lf_scalar.proofs.Cells.{cells-bytes, same-cell}
 use Rattle.lf_scalar.proofs.Climbing as list
 use Rattle.lf_scalar.proofs.LineCuts.{has-line, first-line-of}
 use Rattle.lf_scalar.proofs.Parts.{Utf8, utf8-before, utf8-behind}
@@ -30,9 +30,6 @@ use Rattle.lf_scalar.proofs.BlockTexts.{body-utf8, body-rises, KeepsUtf8, joins-
 use Rattle.lf_scalar.proofs.Tails.{true-false}
 
 -- ---- the first cell
-
-same-cell : (c d : Cell) (cs ds : List Cell) → c ∷ cs ≡ d ∷ ds → c ≡ d
-same-cell c d cs ds e = cc
 
 -- a source whose first line begins with a byte
 pub first-byte : (end b : ℕ) (c : Cell) (src : List Cell) → begins_with b (first_text (lines end (c ∷ src))) ≡ true → c.byte ≡ b

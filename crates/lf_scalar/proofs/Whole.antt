@@ -1,5 +1,5 @@
 -- Reading a scalar in a file: from what the readers of the styles return to what the file has.
-use Rattle.std.proofs.Common.{◌≡◌, true, false, ℕ, zero, suc, SFits, to_z, of_z, w32, ◌+◌, ◌<◌, ◌≤◌, List, [], ◌∷◌, Result, Ok, Err, length, drop, refl, ap, arith, sym, ◌∙◌, subst}
+use Rattle.std.proofs.Common.{◌≡◌, true, ℕ, zero, suc, SFits, to_z, of_z, w32, ◌+◌, ◌<◌, ◌≤◌, List, [], ◌∷◌, Result, Ok, Err, length, drop, refl, ap, arith, sym, ◌∙◌, subst}
 use Rattle.std.specs.Prelude.{ℤ, pos, negsuc, IfOk}
 use Rattle.std.specs.Str.{IsUtf8}
 use Rattle.std.proofs.lemmas.List.{length-drop}
@@ -8,7 +8,6 @@ use Rattle.lf_base.specs.declared.refusal.Refusal.{Refusal}
 use Rattle.lf_scalar.specs.declared.raw_scalar.RawScalar.{RawScalar}
 use Rattle.lf_scalar.specs.declared.scalar.Scalar.{Scalar}
 use Rattle.lf_scalar.specs.declared.scalar.Style.{Style}
-use Rattle.lf_scalar.specs.declared.scalar.Style.TheVariants as style
 use Rattle.lf_base.specs.Answers.{AnswersAs, Found, Only, Refused, Breach}
 use Rattle.lf_base.proofs.Answering.{Decides}
 use Rattle.lf_base.proofs.Answering as answering
@@ -20,15 +19,8 @@ use Rattle.lf_scalar.specs.views.Built.{built, shown}
 use Rattle.lf_scalar.specs.reading.Styles.{reading}
 use Rattle.lf_scalar.proofs.LineSteps.{lines-nil}
 use Rattle.lf_scalar.proofs.Tails.{true-false}
-use Rattle.lf_scalar.proofs.Laws.{decides}
+use Rattle.lf_scalar.proofs.Laws.{decides, begins-nothing}
 use Rattle.lf_scalar.proofs.TextLaws.{utf8-text, offsets}
-
-begins-nothing : (s : Style) → begins s [] ≡ false
-begins-nothing style.Plain = refl
-begins-nothing style.Single = refl
-begins-nothing style.Double = refl
-begins-nothing style.Literal = refl
-begins-nothing style.Folded = refl
 
 pub some-rest : (s : Style) (end at : ℕ) (rest : List ℕ) → begins s (first_text (lines end (cells at rest))) ≡ true → 0 < length rest
 some-rest s end at [] h = true-false _ h (ap (λ (ls : List Line). begins s (first_text ls)) (lines-nil end) ∙ begins-nothing s)

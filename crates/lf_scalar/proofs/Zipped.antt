@@ -4,6 +4,7 @@ use Rattle.std.specs.Prelude.{slice_get}
 use Rattle.lf_scalar.specs.Cells.{Cell, cell, cells, bytes_of, offsets_of, end_of, zipped}
 use Rattle.lf_scalar.specs.Folding.{feeds}
 use Rattle.lf_scalar.proofs.Cells.{cells-take}
+use Rattle.lf_scalar.proofs.Tails.{some-is}
 
 pub zipped-length : (xs ys : List ℕ) → length xs ≡ length ys → length (zipped xs ys) ≡ length xs
 zipped-length [] ys e = refl
@@ -63,14 +64,11 @@ nothing = None
 not-nothing : (x : ℕ) → some x ≡ nothing → ⊥
 not-nothing x e = cc
 
-same-some : (x y : ℕ) → some x ≡ some y → x ≡ y
-same-some x y e = cc
-
 pub end-zipped : (none : ℕ) (xs ys : List ℕ) (x : ℕ) → length xs ≡ length ys → some x ≡ slice_get ys (length ys - 1) → end_of none (zipped xs ys) ≡ x + 1
 end-zipped none [] [] x e h = absurd (not-nothing x h)
 end-zipped none [] (y ∷ ys) x e h = absurd (omega (arith, e))
 end-zipped none (b ∷ xs) [] x e h = absurd (omega (arith, e))
-end-zipped none (b ∷ []) (y ∷ []) x e h = rw (same-some x y h) (sym (add-one y))
+end-zipped none (b ∷ []) (y ∷ []) x e h = rw (some-is x y h) (sym (add-one y))
 end-zipped none (b ∷ []) (y ∷ z ∷ ys) x e h = absurd (omega (arith, e))
 end-zipped none (b ∷ c ∷ xs) (y ∷ []) x e h = absurd (omega (arith, e))
 end-zipped none (b ∷ c ∷ xs) (y ∷ z ∷ ys) x e h =

@@ -1,12 +1,11 @@
 -- Offsets one after the other, and the scalar that is a part of one line as it stands.
-use Rattle.std.proofs.Common.{◌≡◌, ℕ, zero, suc, ◌+◌, ◌<◌, ◌≤◌, List, [], ◌∷◌, ◌++◌, length, get_or, take, length-take, true, false, Result, Ok, refl, ap, arith, sym, ◌∙◌}
+use Rattle.std.proofs.Common.{◌≡◌, ℕ, zero, suc, ◌+◌, ◌<◌, ◌≤◌, List, [], ◌∷◌, ◌++◌, length, get_or, take, length-take, Result, Ok, refl, ap, arith, sym, ◌∙◌}
 use Rattle.lf_base.specs.declared.place.Span.{Span}
 use Rattle.lf_base.specs.Faults.{span}
 use Rattle.lf_scalar.specs.Cells.{Cell, cells, Value, made, bytes_of, offsets_of}
 use Rattle.lf_scalar.specs.Offsets.{AreOffsets}
 use Rattle.lf_base.specs.declared.fault.Fault.{Fault}
 use Rattle.lf_scalar.specs.Cells.{end_of}
-use Rattle.lf_scalar.specs.Plain.{is_null, value_of}
 use Rattle.lf_scalar.proofs.Cells.{cells-bytes}
 use Rattle.lf_yaml.specs.Heads.{Bare}
 use Rattle.lf_yaml.specs.reading.Trees.{key_of}
@@ -77,26 +76,3 @@ bare-key first rest at len part text e le h =
 -- plain scalars in flow collections
 abbrev pub good : Value → Result Value Fault
 good v = Ok v
-
-end-at : (first : Cell) (at len : ℕ) (text : List ℕ) → first.at ≡ at → len ≤ length text → end_of first.at (cells at (take len text)) ≡ at + len
-end-at first at len text e le = let n : length (take len text) ≡ len = omega (arith, length-take len text) in end-of-cells first.at at (take len text) e ∙ omega (arith, n)
-
-pub value-null : (first : Cell) (at len : ℕ) (text : List ℕ) → first.at ≡ at → len ≤ length text → is_null (cells at (take len text)) ≡ true
-    → good (made (cells (at + len) []) (at + len + length {A = ℕ} []) (span at (at + len))) ≡ good (value_of first (cells at (take len text)))
-value-null first at len text e le h =
-    let end : at + len ≡ end_of first.at (cells at (take len text)) = sym (end-at first at len text e le) in
-    let z : at + len + 0 ≡ at + len = omega arith in
-    rw h
-    (ap (λ (m : ℕ). good (made [] m (span at (at + len)))) (z ∙ end) ∙ ap (λ (m : ℕ). good (made [] (end_of first.at (cells at (take len text))) (span at m))) end
-    ∙ ap (λ (m : ℕ). good (made [] (end_of first.at (cells at (take len text))) (span m (end_of first.at (cells at (take len text)))))) (sym e))
-
-pub value-text : (first : Cell) (at len : ℕ) (part text : List ℕ) → first.at ≡ at → len ≤ length text → part ≡ take len text → is_null (cells at (take len text)) ≡ false
-    → good (made (cells at part) (at + length part) (span at (at + len))) ≡ good (value_of first (cells at (take len text)))
-value-text first at len part text e le p h =
-    let n : length (take len text) ≡ len = omega (arith, length-take len text) in
-    let end : at + len ≡ end_of first.at (cells at (take len text)) = sym (end-at first at len text e le) in
-    let whole : at + length (take len text) ≡ end_of first.at (cells at (take len text)) = sym (end-of-cells first.at at (take len text) e) in
-    ap (λ (xs : List ℕ). good (made (cells at xs) (at + length xs) (span at (at + len)))) p
-    ∙ rw h
-    (ap (λ (m : ℕ). good (made (cells at (take len text)) m (span at (at + len)))) whole ∙ ap (λ (m : ℕ). good (made (cells at (take len text)) (end_of first.at (cells at (take len text))) (span at m))) end
-    ∙ ap (λ (m : ℕ). good (made (cells at (take len text)) (end_of first.at (cells at (take len text))) (span m (end_of first.at (cells at (take len text)))))) (sym e))

@@ -2,7 +2,7 @@
 use Rattle.std.proofs.Common.{◌≡◌, ℕ, zero, suc, ◌<◌, Bool, true, false, cond, eqb, ltb, List, [], ◌∷◌, ◌++◌, Option, Some, None, Result, Ok, Err, length, refl, ap, arith, sym, ◌∙◌, subst, append_assoc, inl, inr, ◌&&◌}
 use Rattle.std.specs.Prelude.{Contains}
 use Rattle.std.specs.List.{flat_map}
-use Rattle.std.proofs.lemmas.Bool.{ltb-true, ltb-false, eqb-true}
+use Rattle.std.proofs.lemmas.Bool.{ltb-true, ltb-false, eqb-true, cases_Bool}
 use Rattle.lf_base.specs.declared.fault.Fault.{Fault}
 use Rattle.lf_scalar.specs.Cells.{Cell, Value}
 use Rattle.lf_scalar.specs.Lines.{is_blank, after_blanks}
@@ -18,7 +18,7 @@ use Rattle.lf_yaml.specs.Breaches.{NodeBreaks, BlockBreaks, ItemsBreak, ItemValu
 use Rattle.lf_yaml.specs.Breaches as breaks
 use Rattle.lf_yaml.specs.reading.Trees.{Read, Head, item_next, item_at, unless_tab, item_value, with_item, items_behind, items, key_of, entry_of, entry_next, entry_at, entry_value, with_entry, entries_behind, key_read, entries_on, entries, as_sequence, as_mapping, value_on, node_at}
 use Rattle.lf_yaml.proofs.Ends.{end-length, end-holds}
-use Rattle.lf_yaml.proofs.HeadLaws.{tells, entry-view, KeyTold, key-tells, has-tells, opens-view, block-view}
+use Rattle.lf_yaml.proofs.HeadLaws.{entry-view, KeyTold, key-tells, has-tells, opens-view, block-view}
 use Rattle.lf_yaml.proofs.HeadLaws as heads
 use Rattle.lf_yaml.proofs.FlowKeys.{split-source}
 use Rattle.lf_yaml.proofs.Values.{ValueTold, value-tells}
@@ -36,7 +36,7 @@ Keys = List (List ℕ)
 pub blanks-suffix : (cs : List Cell) → (front : List Cell) × (cs ≡ front ++ after_blanks cs)
 blanks-suffix [] = ([], refl)
 blanks-suffix (c ∷ cs) =
-    elim (tells (is_blank c)) [
+    elim (cases_Bool (is_blank c)) [
       | inl a ↦ let k = blanks-suffix cs in (c ∷ k.0, rw a (ap (λ (xs : List Cell). c ∷ xs) k.1))
       | inr a ↦ ([], rw a refl)
     ]
@@ -335,7 +335,7 @@ module _ (bytes : List ℕ) where
           | inr (n, t) ↦ value-node-told above zero r rs n here
         ]
     node-tells (suc d) above r rs here placed =
-        elim (tells (is_item r)) [
+        elim (cases_Bool (is_item r)) [
           | inl i ↦ block-told above (suc d) r rs (node_at bytes (suc d) false above r rs) (items-node-told above d false r rs (λ a x xs. node-tells d a x xs) i here placed)
           | inr i ↦ elim (entry-view r) [
             | inl (k, colon, behind, b, t) ↦

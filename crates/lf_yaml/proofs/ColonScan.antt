@@ -1,10 +1,11 @@
 -- Going over the text of a plain scalar, to a `:` that can't stand in it.
-use Rattle.std.proofs.Common.{◌≡◌, ◌≢◌, ℕ, zero, suc, ◌+◌, ◌-◌, ◌<◌, ◌≤◌, Bool, true, false, eqb, List, [], ◌∷◌, ◌++◌, Option, Some, None, length, get_or, take, drop, refl, ap, arith, sym, ◌∙◌, ◌&&◌, eq-eqb, ne_eqb, take-append-drop, length-drop, length-take}
+use Rattle.std.proofs.Common.{◌≡◌, ◌≢◌, ℕ, zero, suc, ◌+◌, ◌-◌, ◌<◌, ◌≤◌, Bool, true, false, eqb, List, [], ◌∷◌, ◌++◌, Option, Some, length, get_or, take, drop, refl, ap, arith, sym, ◌∙◌, ◌&&◌, eq-eqb, ne_eqb, take-append-drop, length-drop, length-take}
+use Rattle.std.proofs.lemmas.List.{drop-drop}
+use Rattle.std.proofs.Math.Bool.{and-false}
 use Rattle.lf_scalar.specs.Cells.{Cell, cell, cells}
 use Rattle.lf_scalar.specs.Plain.{before_blank}
 use Rattle.lf_scalar.proofs.Cells.{cells-append}
 use Rattle.lf_yaml.specs.Flow.{colon_in}
-use Rattle.lf_yaml.proofs.Placed.{drops}
 
 -- from a place on
 abbrev pub colon_from : ℕ → List ℕ → ℕ → ℕ → Option Cell
@@ -31,7 +32,7 @@ follows at len i text lt le =
     let whole : (i + 1) + n ≡ len = omega arith in
     let size : length (take n ys) ≡ n = omega (arith, length-take n ys, length-drop (i + 1) text) in
     let place : at + len ≡ (at + (i + 1)) + length (take n ys) = omega (arith, size) in
-    let rest : drop len text ≡ drop n ys = ap (λ (m : ℕ). drop m text) (sym whole) ∙ sym (drops (i + 1) n text) in
+    let rest : drop len text ≡ drop n ys = ap (λ (m : ℕ). drop m text) (sym whole) ∙ sym (drop-drop n (i + 1) text) in
     ap (λ (xs : List ℕ). cells (at + (i + 1)) (take n ys) ++ cells (at + len) xs) rest ∙ ap (λ (m : ℕ). cells (at + (i + 1)) (take n ys) ++ cells m (drop n ys)) place
     ∙ sym (cells-append (at + (i + 1)) (take n ys) (drop n ys)) ∙ ap (cells (at + (i + 1))) (take-append-drop n ys)
 
@@ -52,21 +53,8 @@ module _ (at len i : ℕ) (text : List ℕ) (lt : i < len) (le : len ≤ length 
   pub colon-later : (eqb (get_or text i 0) 58 && before_blank (cells (at + (i + 1)) (drop (i + 1) text))) ≡ false → colon_from at text len i ≡ colon_from at text len (i + 1)
   colon-later h = first ∙ rw (tested false h) refl
 
-pub colon-end : (at len i : ℕ) (text : List ℕ) → len ≤ i → colon_from at text len i ≡ None
-colon-end at len i text le = let z : len - i ≡ 0 = omega arith in ap (λ (n : ℕ). colon_in (cells (at + i) (take n (drop i text))) (cells (at + len) (drop len text))) z
-
-pub colon-start : (at len : ℕ) (text : List ℕ) → colon_from at text len 0 ≡ colon_in (cells at (take len text)) (cells (at + len) (drop len text))
-colon-start at len text =
-    let n : len - 0 ≡ len = omega arith in
-    let z : at + 0 ≡ at = omega arith in
-    ap (λ (m : ℕ). colon_in (cells m (take (len - 0) text)) (cells (at + len) (drop len text))) z ∙ ap (λ (m : ℕ). colon_in (cells at (take m text)) (cells (at + len) (drop len text))) n
-
 pub not-apart : (x : ℕ) (b : Bool) → b ≡ false → (eqb x 58 && b) ≡ false
 not-apart x b h = rw h (and-false (eqb x 58))
-  where
-    and-false : (a : Bool) → (a && false) ≡ false
-    and-false true = refl
-    and-false false = refl
 
 pub not-colon : (x : ℕ) (b : Bool) → x ≢ 58 → (eqb x 58 && b) ≡ false
 not-colon x b h = rw (ne_eqb x 58 h) refl

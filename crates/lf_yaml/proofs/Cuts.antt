@@ -1,26 +1,26 @@
 -- Where a line may be cut: its parts are UTF-8.
-use Rattle.std.proofs.Common.{◌≡◌, ℕ, zero, suc, ◌+◌, ◌-◌, ◌<◌, ◌≤◌, Bool, true, false, eqb, List, [], ◌∷◌, length, get_or, take, drop, refl, ap, arith, sym, ◌∙◌, subst, inl, inr, length-drop, length-take, ◌||◌}
+use Rattle.std.proofs.Common.{◌≡◌, ℕ, zero, suc, ◌+◌, ◌-◌, ◌<◌, ◌≤◌, Bool, true, false, eqb, List, [], ◌∷◌, length, get_or, take, drop, ap, arith, sym, ◌∙◌, subst, inl, inr, length-drop, length-take, ◌||◌}
 use Rattle.std.specs.Str.{IsCharBoundary, IsUtf8}
 use Rattle.std.proofs.lemmas.Bool.Decides.{eqb_tells}
-use Rattle.std.proofs.lemmas.Bool.{cases_lt}
+use Rattle.std.proofs.lemmas.Bool.{cases_lt, cases_Bool}
 use Rattle.std.proofs.lemmas.List.{get_or-take}
 use Rattle.std.proofs.lemmas.Str.{IsCharBoundary-start, IsCharBoundary-after_ascii, IsUtf8-take, IsUtf8-drop}
 use Rattle.lf_scalar.specs.Cells.{Cell, cell, cells}
 use Rattle.lf_scalar.specs.Lines.{lines, first_text, is_blank, after_blanks}
 use Rattle.lf_scalar.specs.declared.quotes.Quotes.{Quotes}
-use Rattle.lf_scalar.specs.declared.quotes.Quotes.TheVariants.{Single, Double}
 use Rattle.lf_scalar.specs.Quoted.{quote_of}
 use Rattle.lf_yaml.specs.Flow.{is_flow_sign}
-use Rattle.lf_scalar.proofs.LineSteps.{line-step, lines-other}
+use Rattle.lf_scalar.proofs.LineSteps.{line-step, lines-other, first-lengthen}
 use Rattle.lf_scalar.proofs.SmallBytes.{small-blank}
+use Rattle.lf_scalar.proofs.Cells.{cells-length}
 use Rattle.lf_yaml.specs.views.Shown.{shown}
 use Rattle.lf_yaml.specs.views.Cursor.{IsRowOf, rows_after}
 use Rattle.lf_yaml.specs.Rows.{Row}
 use Rattle.lf_yaml.specs.declared.row.Row.{Row as CodeRow}
-use Rattle.lf_yaml.proofs.HeadLaws.{tells}
-use Rattle.lf_yaml.proofs.Placed.{FirstCell, first-cell, first-lengthen}
+use Rattle.lf_yaml.proofs.Placed.{FirstCell, first-cell}
 use Rattle.lf_yaml.proofs.RowCode.{text-shown}
 use Rattle.lf_yaml.proofs.RowsAfter.{placed-first, get-drop}
+use Rattle.lf_yaml.proofs.ReadScalars.{small-quote}
 
 -- a byte more in front
 pub boundary-more : (x k : ℕ) (xs : List ℕ) → IsCharBoundary xs k → IsCharBoundary (x ∷ xs) (suc k)
@@ -63,15 +63,11 @@ next-utf8 bytes from r rs utf8 full e b t = row-utf8 bytes r utf8 full (record {
 
 -- ---- behind blanks
 
-pub cells-length : (at : ℕ) (xs : List ℕ) → length (cells at xs) ≡ length xs
-cells-length at [] = refl
-cells-length at (x ∷ xs) = ap suc (cells-length (suc at) xs)
-
 pub blanks-cut : (at k : ℕ) (xs : List ℕ) → k ≤ length xs → IsUtf8 xs → after_blanks (cells at xs) ≡ cells (at + k) (drop k xs) → IsCharBoundary xs k
 blanks-cut at zero xs le utf8 e = IsCharBoundary-start xs utf8
 blanks-cut at (suc k) [] le utf8 e = absurd (omega arith)
 blanks-cut at (suc k) (x ∷ xs) le utf8 e =
-    elim (tells (is_blank (cell x at))) [
+    elim (cases_Bool (is_blank (cell x at))) [
       | inl a ↦
           let z : at + suc k ≡ suc at + k = omega arith in
           let tail : IsUtf8 xs = IsUtf8-drop (x ∷ xs) 1 utf8 (IsCharBoundary-after_ascii (x ∷ xs) 0 utf8 (omega arith) (small-blank x at a)) in
@@ -116,11 +112,6 @@ small-within n len text part e n_le len_le inner outer lt =
     ]
 
 -- ---- parts of a line
-
--- behind the quote that closes
-small-quote : (kind : Quotes) (b : ℕ) → b ≡ quote_of kind → b < 128
-small-quote Single b e = omega (arith, e)
-small-quote Double b e = omega (arith, e)
 
 pub quote-cut : (kind : Quotes) (text inside : List ℕ) (k : ℕ) → inside ≡ drop 1 text → k < length inside → get_or inside k 0 ≡ quote_of kind → IsUtf8 text → IsCharBoundary text (k + 2)
 quote-cut kind text inside k e lt q utf8 =

@@ -1,10 +1,12 @@
 -- The edges of a document, as the code finds them.
-use Rattle.std.proofs.Common.{◌≡◌, ℕ, zero, suc, ◌<◌, Bool, true, false, List, [], ◌∷◌, ◌++◌, length, take, drop, Some, None, Ok, Err, eq-eqb, rules, refl, ap, arith, sym, ◌∙◌, inl, inr}
+use Rattle.std.proofs.Common.{◌≡◌, ℕ, ◌<◌, Bool, true, false, List, [], ◌∷◌, ◌++◌, length, take, drop, Some, None, Ok, Err, eq-eqb, refl, ap, arith, sym, ◌∙◌, inl, inr}
 use Rattle.std.specs.Prelude.{bytes_eq}
 use Rattle.std.specs.Str.{IsCharBoundary, IsUtf8}
 use lib.Utf8.{encode}
 use Rattle.std.proofs.lemmas.Slice.Eq.{bytes_eq-Decides}
 use Rattle.std.proofs.lemmas.Str.{IsCharBoundary-start, IsCharBoundary-past_char}
+use Rattle.std.proofs.lemmas.Bool.{cases_Bool}
+use Rattle.std.proofs.lemmas.List.{take-append-drop}
 use Rattle.lf_scalar.specs.Cells.{Cell, cells, Fails, ◌>>=◌}
 use Rattle.lf_scalar.specs.Lines.{is_tail}
 use Rattle.lf_scalar.specs.reading.Quoted.{wrong_behind}
@@ -21,29 +23,20 @@ use Rattle.lf_yaml.specs.views.Cursor.{rows_after}
 use Rattle.lf_yaml.specs.reading.BlockTurns.{behind_fault}
 use Rattle.lf_yaml.specs.declared.row.Row.{Row as CodeRow}
 use Rattle.lf_yaml.proofs.RowCode.{text-shown}
-use Rattle.lf_yaml.proofs.HeadLaws.{tells}
 
 -- ---- a byte order mark
 
 abbrev mark : List ℕ
 mark = 0xEF ∷ 0xBB ∷ 0xBF ∷ []
 
-whole : (n : ℕ) (xs : List ℕ) → xs ≡ take n xs ++ drop n xs
-whole zero xs = refl
-whole (suc n) [] = refl
-whole (suc n) (x ∷ xs) = ap (λ (ys : List ℕ). x ∷ ys) (whole n xs)
-
-bytes_eq-true : (xs ys : List ℕ) → bytes_eq xs ys ≡ true → xs ≡ ys
-bytes_eq-true xs ys h = search (rules, bytes_eq-Decides)
-
 -- behind it a character begins
 pub mark-start : (bytes : List ℕ) → IsUtf8 bytes → IsCharBoundary bytes (mark_length bytes)
 unfolding encode
 mark-start bytes utf8 =
-    elim (tells (bytes_eq (take 3 bytes) mark)) [
+    elim (cases_Bool (bytes_eq (take 3 bytes) mark)) [
       | inl h ↦
-          let e : take 3 bytes ≡ mark = bytes_eq-true (take 3 bytes) mark h in
-          let p : drop 0 bytes ≡ encode 65279 ++ drop 3 bytes = whole 3 bytes ∙ ap (λ (xs : List ℕ). xs ++ drop 3 bytes) e in
+          let e : take 3 bytes ≡ mark = (bytes_eq-Decides (take 3 bytes) mark).0 h in
+          let p : drop 0 bytes ≡ encode 65279 ++ drop 3 bytes = sym (take-append-drop 3 bytes) ∙ ap (λ (xs : List ℕ). xs ++ drop 3 bytes) e in
           rw h (IsCharBoundary-past_char bytes (drop 3 bytes) 0 65279 (omega arith) utf8 p)
       | inr h ↦ rw h (IsCharBoundary-start bytes utf8)
     ]
@@ -55,7 +48,7 @@ some-none c e = cc
 
 pub no-tail : (cs : List Cell) (wrong : Cell) → Some wrong ≡ wrong_behind false cs → false ≡ is_tail false cs
 no-tail cs wrong e =
-    elim (tells (is_tail false cs)) [
+    elim (cases_Bool (is_tail false cs)) [
       | inl h ↦ absurd (some-none wrong (e ∙ tail-told false cs h))
       | inr h ↦ sym h
     ]
@@ -108,7 +101,7 @@ root-followed bytes r next rs left later t h k e =
   where
     told : behind_root r (t, next ∷ later) ≡ Err (behind_fault r next)
     told =
-        elim (tells (begins_block r)) [
+        elim (cases_Bool (begins_block r)) [
           | inl b ↦ rw b refl
           | inr b ↦ rw b refl
         ]

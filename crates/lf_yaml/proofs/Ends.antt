@@ -10,9 +10,6 @@ IsEnd rs ss = (front : List Row) × (rs ≡ front ++ ss)
 pub end-all : (rs : List Row) → IsEnd rs rs
 end-all rs = ([], refl)
 
-pub end-is : (rs ss : List Row) → rs ≡ ss → IsEnd rs ss
-end-is rs ss e = ([], e)
-
 pub end-behind : (r : Row) (rs ss : List Row) → IsEnd rs ss → IsEnd (r ∷ rs) ss
 end-behind r rs ss h = (r ∷ h.0, ap (λ (xs : List Row). r ∷ xs) h.1)
 

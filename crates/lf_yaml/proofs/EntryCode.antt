@@ -1,13 +1,11 @@
 -- Entries, as the code finds them.
-use Rattle.std.proofs.Common.{◌≡◌, ℕ, zero, suc, ◌+◌, ◌<◌, ◌≤◌, Bool, false, cond, not, List, [], ◌∷◌, Option, Some, None, length, get_or, take, drop, refl, ap, arith, sym, ◌∙◌, ◌&&◌, ◌||◌}
+use Rattle.std.proofs.Common.{◌≡◌, ℕ, zero, suc, ◌+◌, ◌<◌, ◌≤◌, Bool, false, cond, not, List, [], ◌∷◌, Option, Some, None, length, get_or, take, drop, refl, ap, arith, ◌∙◌, ◌&&◌, ◌||◌}
 use Rattle.lf_scalar.specs.Cells.{Cell, cell, cells}
 use Rattle.lf_scalar.specs.Lines.{is_blank}
 use Rattle.lf_scalar.specs.Folding.{trimmed}
 use Rattle.lf_scalar.specs.Plain.{before_blank, begins_plain, is_plain_byte, is_sign}
-use Rattle.lf_scalar.specs.declared.quotes.Quotes.{Quotes}
-use Rattle.lf_scalar.specs.reading.Quoted.{Closing, closing_of, split_of}
-use Rattle.lf_yaml.specs.Heads.{Split, key_in, never, Bare, Between}
-use Rattle.lf_yaml.specs.reading.Trees.{bare_head, entry_by, quoted_head, quoted_sign, sign_behind}
+use Rattle.lf_yaml.specs.Heads.{Split, key_in, never, Bare}
+use Rattle.lf_yaml.specs.reading.Trees.{bare_head, entry_by}
 use Rattle.lf_yaml.specs.views.Signs.{stops_of, split_at}
 use Rattle.lf_yaml.specs.views.Shown.{shown}
 use Rattle.lf_yaml.specs.declared.row.Row.{Row as CodeRow}
@@ -42,14 +40,3 @@ head-of-split at k len text e t =
     ∙ ap (λ (n : ℕ). Some (Bare (cells at (take len text)), cell 58 (at + k), cells n (drop (k + 1) text))) z
 
 -- ---- keys between quotes
-
-pub quoted-by : (r : CodeRow) (kind : Quotes) (inside : List ℕ) (o : Option Closing) → inside ≡ drop 1 r.text.now → o ≡ closing_of kind 0 (cells (r.at + 1) inside) → entry_by (shown r) (Some kind) ≡ quoted_head kind o
-quoted-by r kind inside o e h =
-    let z : suc r.at ≡ r.at + 1 = omega arith in
-    ap (λ (n : ℕ). quoted_head kind (closing_of kind 0 (cells n (drop 1 r.text.now)))) z ∙ ap (λ (xs : List ℕ). quoted_head kind (closing_of kind 0 (cells (r.at + 1) xs))) (sym e) ∙ ap (quoted_head kind) (sym h)
-
-pub sign-by : (kind : Quotes) (at k : ℕ) (inside text : List ℕ) (o : Option (Cell × List Cell)) → text ≡ drop (k + 1) inside → o ≡ sign_behind (cells (at + (k + 1)) text) → quoted_head kind (Some (split_of at inside k)) ≡ quoted_sign kind o
-sign-by kind at k inside text o e h = ap (λ (xs : List ℕ). quoted_sign kind (sign_behind (cells (at + (k + 1)) xs))) (sym e) ∙ ap (quoted_sign kind) (sym h)
-
-pub apart-by : (kind : Quotes) (colon : ℕ) (behind : List ℕ) (b : Bool) → b ≡ before_blank (cells (suc colon) behind) → quoted_sign kind (Some (cell 58 colon, cells (suc colon) behind)) ≡ cond b (Some (Between kind, cell 58 colon, cells (suc colon) behind)) None
-apart-by kind colon behind b h = ap (λ (q : Bool). cond q (Some (Between kind, cell 58 colon, cells (suc colon) behind)) None) (sym h)

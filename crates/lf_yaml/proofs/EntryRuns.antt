@@ -1,7 +1,7 @@
 -- Runs of entries, as a loop reads them.
 use Rattle.std.proofs.Common.{◌≡◌, ℕ, zero, suc, ◌<◌, ◌≤◌, Bool, true, false, ltb, cond, List, [], ◌∷◌, ◌++◌, length, map, Option, Some, None, Result, Ok, Err, refl, ap, arith, sym, ◌∙◌, subst, append_assoc, inl, inr}
 use Rattle.std.proofs.lemmas.List.{map_push}
-use Rattle.std.proofs.lemmas.Bool.{ltb-true, ltb-false}
+use Rattle.std.proofs.lemmas.Bool.{ltb-true, ltb-false, cases_Bool}
 use Rattle.lf_base.specs.declared.refusal.Refusal.{Refusal}
 use Rattle.lf_base.specs.declared.refusal.Refusal.TheVariants as refusal_of
 use Rattle.lf_base.specs.declared.fault.Fault.{Fault}
@@ -15,7 +15,6 @@ use Rattle.lf_yaml.proofs.BlockRows.{entry-value-rows}
 use Rattle.lf_yaml.proofs.BlockTells.{EntryValueTold, entry-value-told, node-tells, own-tells}
 use Rattle.lf_yaml.proofs.Ends.{end-length}
 use Rattle.lf_yaml.proofs.HeadCode.{entry-split}
-use Rattle.lf_yaml.proofs.HeadLaws.{tells}
 use Rattle.lf_yaml.proofs.Placed.{IsPlaced, ArePlaced}
 use Rattle.lf_yaml.proofs.Steps.{at-indent, at-deeper, entries-end}
 
@@ -114,7 +113,7 @@ fails f = Err f
 -- what a row that begins no entry is told of
 none-on : (value : EntryValues) (later : List (List ℕ) → List Row → Read Entries) (keys : List (List ℕ)) (r : Row) (rs : List Row) → entries_on value later keys r rs None ≡ fails (no_entry_fault r)
 none-on value later keys r rs =
-    elim (tells (opens_quote r.first r.rest)) [
+    elim (cases_Bool (opens_quote r.first r.rest)) [
       | inl b ↦ rw b refl
       | inr b ↦ rw b refl
     ]
@@ -149,7 +148,7 @@ value-is later keys v (Err f) = refl
 keyed-is : (value : EntryValues) (later : Keys → List Row → Read Entries) (keys : Keys) (r : Row) (rs : List Row) (h : Head) (v : Value)
     → keyed value later keys r rs h.1 h.2 v ≡ with_one later keys (if_new keys v >>= λ v. with_key v (value r.begin h.1 h.2 rs))
 keyed-is value later keys r rs h v =
-    elim (tells (has keys v.text)) [
+    elim (cases_Bool (has keys v.text)) [
       | inl b ↦ rw b refl
       | inr b ↦ rw b (value-is later keys v (value r.begin h.1 h.2 rs))
     ]

@@ -9,7 +9,7 @@ use Rattle.lf_scalar.specs.Cells.{Cell, Value, Fails, ◌>>=◌}
 use Rattle.lf_yaml.specs.Tree.{Tree, Entries, no_entries, entries_of, pair}
 use Rattle.lf_yaml.specs.Flow.{next_on}
 use Rattle.lf_yaml.specs.reading.Trees.{FlowRead, Later, Signed, Valued, has, flow_key, flow_value, mapping_sign, value_behind, key_behind, mapping_in}
-use Rattle.lf_yaml.specs.reading.FlowTurns.{with_pair, turned_entries, new_key, entry_at, closed_entries}
+use Rattle.lf_yaml.specs.reading.FlowTurns.{with_pair, turned_entries, entry_at, closed_entries}
 use Rattle.lf_yaml.specs.views.Shown.{shown}
 use Rattle.lf_yaml.specs.declared.node.Entry.{Entry}
 use Rattle.lf_yaml.specs.declared.row.Row.{Row as CodeRow}
@@ -62,22 +62,6 @@ module _ (bytes : List ℕ) (later : Later) (keys : Keys) where
   pub entry-goes : (c : Cell) (cs : List Cell) (x : Found) → entry_at bytes keys c cs ≡ Ok x
       → key_behind bytes later keys (flow_key bytes c cs) ≡ mapping_sign (λ next. later (keys ++ x.0.text ∷ []) next) x.0 x.1 (next_on bytes x.2)
   entry-goes c cs x e = entry-behind c cs ∙ ap behind_entry e
-
--- a key is new, or it stands among those before it
-pub key-new : (bytes : List ℕ) (keys : Keys) (c : Cell) (cs : List Cell) (k : Signed) → flow_key bytes c cs ≡ Ok k → has keys k.0.text ≡ false → new_key bytes keys c cs ≡ Ok k
-key-new bytes keys c cs k e h =
-    ap (λ (r : Result Signed Fault). r >>= λ j. cond (has keys j.0.text) (Err (record { kind = DoubleKey; span = j.0.span })) (Ok j)) e
-    ∙ ap (λ (b : Bool). (let r : Result Signed Fault = cond b (Err (record { kind = DoubleKey; span = k.0.span })) (Ok k) in r)) h
-
-pub key-twice : (bytes : List ℕ) (keys : Keys) (c : Cell) (cs : List Cell) (k : Signed) → flow_key bytes c cs ≡ Ok k → has keys k.0.text ≡ true → new_key bytes keys c cs ≡ Err (record { kind = DoubleKey; span = k.0.span })
-key-twice bytes keys c cs k e h =
-    ap (λ (r : Result Signed Fault). r >>= λ j. cond (has keys j.0.text) (Err (record { kind = DoubleKey; span = j.0.span })) (Ok j)) e
-    ∙ ap (λ (b : Bool). (let r : Result Signed Fault = cond b (Err (record { kind = DoubleKey; span = k.0.span })) (Ok k) in r)) h
-
-pub key-fails : (bytes : List ℕ) (keys : Keys) (c : Cell) (cs : List Cell) (e : Refusal) → Fails e (flow_key bytes c cs) → Fails e (new_key bytes keys c cs)
-key-fails bytes keys c cs refusal_of.Memory h = tt
-key-fails bytes keys c cs (refusal_of.At kind span) h =
-    ap (λ (r : Result Signed Fault). r >>= λ j. cond (has keys j.0.text) (Err (record { kind = DoubleKey; span = j.0.span })) (Ok j)) h
 
 -- ---- what is read behind some entries
 

@@ -5,6 +5,8 @@ use Rattle.std.specs.List.{flat_map}
 use Rattle.std.proofs.lemmas.List.Sums.{take_while-cons}
 use Rattle.std.proofs.lemmas.Bool.{lt-ltb, le-ltb}
 use Rattle.std.proofs.lemmas.Bool.Decides.{eqb_tells}
+use Rattle.std.proofs.lemmas.Option.{none-some}
+use Rattle.std.proofs.Math.Bool.{and-false}
 use Rattle.lf_scalar.specs.declared.quotes.Quotes.{Quotes}
 use Rattle.lf_scalar.specs.declared.quotes.Quotes.TheVariants.{Single, Double}
 use Rattle.lf_scalar.specs.Cells.{Cell, cell, cells}
@@ -12,13 +14,13 @@ use Rattle.lf_scalar.specs.Lines.{after_blanks}
 use Rattle.lf_scalar.specs.Markers.{is_thrice}
 use Rattle.lf_scalar.specs.Plain.{before_blank}
 use Rattle.lf_scalar.specs.Quoted.{quote_of, raw, Closes}
-use Rattle.lf_scalar.specs.reading.Quoted.{Closing, behind, closing_of, split_of}
+use Rattle.lf_scalar.specs.reading.Quoted.{Closing, behind, closing_of}
 use Rattle.lf_scalar.proofs.Closing.{closes-again}
 use Rattle.lf_yaml.specs.Keys.{Split, behind_cell, closed_in, quotes_of, is_too_far, before_offset, has_far_sign, is_far_behind, is_far_between, has_bare_left_out, has_far_key}
 use Rattle.lf_yaml.specs.Rows.{Row, row, text_of, indent, is_property, is_mark, is_left_out}
 use Rattle.lf_yaml.specs.Heads.{IsSignBehind}
 use Rattle.lf_yaml.specs.reading.Trees.{sign_if, sign_behind, behind_closing}
-use Rattle.lf_yaml.proofs.HeadLaws.{none-some, quotes-is, sign-is}
+use Rattle.lf_yaml.proofs.HeadLaws.{quotes-is, sign-is}
 
 -- ---- what closes
 
@@ -117,20 +119,6 @@ far-at at colon text front b le f e =
 abbrev pub sign_in : Quotes → ℕ → List ℕ → Option (Cell × List Cell)
 sign_in kind at text = sign_behind (behind_closing (closing_of kind 0 (cells (suc at) (drop 1 text))))
 
-inside-at : (kind : Quotes) (at : ℕ) (text inside : List ℕ) → inside ≡ drop 1 text → sign_behind (behind_closing (closing_of kind 0 (cells (at + 1) inside))) ≡ sign_in kind at text
-inside-at kind at text inside i =
-    let z : at + 1 ≡ suc at = omega arith in
-    ap (λ (xs : List ℕ). sign_behind (behind_closing (closing_of kind 0 (cells (at + 1) xs)))) i ∙ ap (λ (m : ℕ). sign_behind (behind_closing (closing_of kind 0 (cells m (drop 1 text))))) z
-
-pub sign-at : (kind : Quotes) (at k : ℕ) (text inside rest : List ℕ) (o : Option (Cell × List Cell)) → inside ≡ drop 1 text → Some (split_of (at + 1) inside k) ≡ closing_of kind 0 (cells (at + 1) inside) → rest ≡ drop (k + 1) inside
-    → o ≡ sign_behind (cells (at + (k + 2)) rest) → o ≡ sign_in kind at text
-sign-at kind at k text inside rest o i e r s =
-    let y : at + (k + 2) ≡ at + 1 + (k + 1) = omega arith in
-    s ∙ ap (λ (m : ℕ). sign_behind (cells m rest)) y ∙ ap (λ (xs : List ℕ). sign_behind (cells (at + 1 + (k + 1)) xs)) r ∙ ap (λ (p : Option Closing). sign_behind (behind_closing p)) e ∙ inside-at kind at text inside i
-
-pub no-sign-at : (kind : Quotes) (at : ℕ) (text inside : List ℕ) → inside ≡ drop 1 text → None ≡ closing_of kind 0 (cells (at + 1) inside) → None ≡ sign_in kind at text
-no-sign-at kind at text inside i e = ap (λ (p : Option Closing). sign_behind (behind_closing p)) e ∙ inside-at kind at text inside i
-
 far-by : (at : ℕ) (text : List ℕ) (o : Option Quotes) → 0 < length text → o ≡ quotes_of (cell (get_or text 0 0) at) → has_far_key (cells at text) ≡ is_far_between (cells at text) (cells (suc at) (drop 1 text)) o
 far-by at [] o lt e = absurd (omega arith)
 far-by at (b ∷ text) o lt e = ap (is_far_between (cell b at ∷ cells (suc at) text) (cells (suc at) text)) (sym e)
@@ -143,10 +131,6 @@ quote-far kind at text o b lt e s h =
     h ∙ ap (far_apart (cells at text)) s ∙ sym (far-behind (cells at text) (cells (suc at) (drop 1 text)) kind) ∙ sym (far-by at text (Some kind) lt e)
 
 -- ---- as the definitions say it
-
-and-false : (b : Bool) → (b && false) ≡ false
-and-false true = refl
-and-false false = refl
 
 far-key-is : (r : Row) (kind : Quotes) (c : Closes kind r.rest) (colon : Cell) (rest : List Cell) → r.first.byte ≡ quote_of kind → IsSignBehind c.rest colon rest
     → has_far_key (text_of r) ≡ (before_blank rest && is_too_far (before_offset colon.at (text_of r)))

@@ -1,6 +1,6 @@
 -- The characters of a file are allowed, or one is the first that isn't.
-use Rattle.std.proofs.Common.{◌≡◌, ℕ, zero, suc, ◌+◌, ◌<◌, ◌≤◌, true, false, eqb, ◌||◌, List, [], ◌∷◌, length, length-drop, get_or, drop, take, refl, ap, arith, sym, ◌∙◌, subst, ◌⊎◌, inl, inr, rules}
-use Rattle.std.specs.Prelude.{bytes_eq, nat_lt}
+use Rattle.std.proofs.Common.{◌≡◌, ℕ, zero, suc, ◌+◌, ◌<◌, ◌≤◌, true, false, eqb, ◌||◌, List, [], ◌∷◌, length, length-drop, get_or, drop, take, refl, ap, arith, sym, ◌∙◌, subst, ◌⊎◌, inl, inr}
+use Rattle.std.specs.Prelude.{nat_lt}
 use Rattle.std.specs.Str.{IsUtf8, is_utf8, IsValidUpTo, continuation_len}
 use Rattle.std.proofs.lemmas.Bool.{cases_Bool, cases_lt, or_cases, and_parts, ltb-true, eqb-true, lt-ltb}
 use Rattle.std.proofs.lemmas.Slice.Eq.{bytes_eq-Decides}
@@ -111,11 +111,8 @@ module _ (bytes : List ℕ) where
       high (x ∷ y ∷ xs) e = let k : x ≡ 0xC2 = eqb-true x 0xC2 (and_parts (eqb x 0xC2) _ e).0 in rw k (omega arith)
 
       three : (a b d : ℕ) (xs : List ℕ) → continuation_len a ≡ 2 → begins (a ∷ b ∷ d ∷ []) xs ≡ true → 1 + continuation_len (get_or xs 0 0) ≤ length xs
-      three a b d xs long e = by xs (bytes_eq-true (take 3 xs) (a ∷ b ∷ d ∷ []) e)
+      three a b d xs long e = by xs ((bytes_eq-Decides (take 3 xs) (a ∷ b ∷ d ∷ [])).0 e)
         where
-          bytes_eq-true : (xs ys : List ℕ) → bytes_eq xs ys ≡ true → xs ≡ ys
-          bytes_eq-true xs ys h = search (rules, bytes_eq-Decides)
-
           by : (xs : List ℕ) → take 3 xs ≡ a ∷ b ∷ d ∷ [] → 1 + continuation_len (get_or xs 0 0) ≤ length xs
           by [] e = absurd cc
           by (x ∷ []) e = absurd cc

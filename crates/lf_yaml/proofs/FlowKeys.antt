@@ -1,6 +1,6 @@
 -- Keys and values of flow mappings are read.
 use Rattle.std.proofs.Common.{◌≡◌, ℕ, suc, ◌≤◌, Bool, true, false, cond, eqb, List, [], ◌∷◌, ◌++◌, append_assoc, Option, Some, None, Result, Ok, Err, length, eq-eqb, refl, ap, arith, sym, ◌∙◌, subst, inl, inr, ◌&&◌, ◌||◌}
-use Rattle.std.proofs.lemmas.Bool.{eqb-true}
+use Rattle.std.proofs.lemmas.Bool.{eqb-true, cases_Bool}
 use Rattle.lf_base.specs.declared.kind.Kind.TheVariants.{OpenQuote, LeftOut}
 use Rattle.lf_scalar.specs.declared.quotes.Quotes.{Quotes}
 use Rattle.lf_base.specs.declared.fault.Fault.{Fault}
@@ -21,7 +21,7 @@ use Rattle.lf_yaml.specs.Spans.{empty_at}
 use Rattle.lf_yaml.specs.Flow.{Next, at_part, broken, next_on, is_flow_sign, begins_flow, line_on, left_on, FlowScalar, begins_part, part_fault, FlowKey, NoSign, FlowKeyBreaks, EndsValue, FlowValue, FlowValueBreaks}
 use Rattle.lf_yaml.specs.Flow as flow
 use Rattle.lf_yaml.specs.reading.Trees.{sign_behind, behind_closing, Part, flow_scalar, Signed, no_sign, signed, signed_behind, far_sign, bare_key, plain_key, quoted_key as key_between, flow_key_by, flow_key, Valued, scalar_part, value_part, flow_value}
-use Rattle.lf_yaml.proofs.HeadLaws.{tells, quotes-is, quotes-view, between-view, single_line, BetweenTold, between-tells, between-is, between-breaks, sign-is, sign-view}
+use Rattle.lf_yaml.proofs.HeadLaws.{quotes-is, quotes-view, between-view, single_line, BetweenTold, between-tells, between-is, between-breaks, sign-is, sign-view}
 use Rattle.lf_yaml.proofs.FlowParts.{part-within, part-is, part-breaks, PartTold, part-tells, part-begins, quote-begins, flow-begins, part-no-sign, flow-quotes, no-part-quotes, no-part-flow, part-flow, scalar-within}
 
 -- ---- the text before a `:`
@@ -29,7 +29,7 @@ use Rattle.lf_yaml.proofs.FlowParts.{part-within, part-is, part-breaks, PartTold
 -- no key begins with a `:`
 no-colon : (c : Cell) (cs : List Cell) → begins_flow c cs ≡ true → eqb c.byte 58 ≡ false
 no-colon c cs p =
-    elim (tells (eqb c.byte 58)) [
+    elim (cases_Bool (eqb c.byte 58)) [
       | inl a ↦ true-false (begins_flow c cs) p (ap (λ (b : ℕ). begins_flow (cell b c.at) cs) (eqb-true c.byte 58 a))
       | inr a ↦ a
     ]
@@ -175,7 +175,7 @@ module _ (bytes : List ℕ) where
 
   closed-told : (kind : Quotes) (c : Cell) (cs : List Cell) (between : Closes kind cs) → c.byte ≡ quote_of kind → FlowKeyTold c cs (flow_key bytes c cs)
   closed-told kind c cs between e =
-      elim (tells (far_sign (c ∷ cs) (sign_behind between.rest))) [
+      elim (cases_Bool (far_sign (c ∷ cs) (sign_behind between.rest))) [
         | inl far ↦ subst (FlowKeyTold c cs) (sym (far-key kind c cs between e far)) (far-told kind c cs between e far)
         | inr near ↦ subst (FlowKeyTold c cs) (sym (quoted-key kind c cs between e near)) (between-told kind c cs between e near (single_line kind c between) (between-tells kind c cs between))
       ]
@@ -199,7 +199,7 @@ module _ (bytes : List ℕ) where
           | inl (between, e) ↦ closed-told kind c cs between q
           | inr (n, e) ↦ let h : OpensQuote c cs = record { kind = kind; is_quote = q; unclosed = e } in subst (FlowKeyTold c cs) (sym (open-key c cs h)) (flow.FlowKeyBreaks.open_quote h)
         ]
-        | inr (q, n) ↦ elim (tells (begins_flow c cs)) [
+        | inr (q, n) ↦ elim (cases_Bool (begins_flow c cs)) [
           | inl p ↦ subst (FlowKeyTold c cs) (sym (plain-key c cs (key_in is_flow_sign before_blank (c ∷ cs)) p refl)) (plain-told c cs p (key_in is_flow_sign before_blank (c ∷ cs)) refl)
           | inr p ↦ subst (FlowKeyTold c cs) (sym (no-key c cs (part-flow c cs n p))) (flow.FlowKeyBreaks.no_key (part-flow c cs n p))
         ]
@@ -228,7 +228,7 @@ module _ (bytes : List ℕ) where
 
   not-ends : (c : Cell) → (EndsValue c → ⊥) → (eqb c.byte 44 || eqb c.byte 125) ≡ false
   not-ends c n =
-      elim (tells (eqb c.byte 44 || eqb c.byte 125)) [
+      elim (cases_Bool (eqb c.byte 44 || eqb c.byte 125)) [
         | inl h ↦ absurd (n (ends-told c h))
         | inr h ↦ h
       ]

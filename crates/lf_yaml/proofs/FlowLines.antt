@@ -3,7 +3,7 @@ use Rattle.std.proofs.Common.{◌≡◌, ℕ, zero, suc, ◌+◌, ◌<◌, ◌�
 use Rattle.std.specs.Prelude.{take_while}
 use Rattle.std.specs.List.{AllByRecursion, list_all, prefix_len}
 use Rattle.std.specs.Str.{IsCharBoundary}
-use Rattle.std.proofs.lemmas.List.{append-nil}
+use Rattle.std.proofs.lemmas.List.{append-nil, drop-drop}
 use Rattle.std.proofs.lemmas.Bool.{cases_Bool}
 use Rattle.std.proofs.lemmas.Str.{IsCharBoundary-end, IsCharBoundary-before_ascii}
 use Rattle.std.proofs.Math.Seq.{drop-append_seam}
@@ -23,8 +23,6 @@ use Rattle.lf_yaml.specs.Rows.{content_row}
 use Rattle.lf_yaml.specs.Flow.{first_line, later_lines, lines_on, line_on, lines_below, is_flow_sign, flow_text, behind_text, line_text, line_left, line_colon, is_bare, is_spaces, goes_on, Onward, onward, following, left_on, PlainFrom, last, more, PlainBreaks, colon, later}
 use Rattle.lf_yaml.specs.reading.Trees.{Folded, before_text, plain_behind, plain_from}
 use Rattle.lf_yaml.proofs.Cuts.{small-sign}
-use Rattle.lf_yaml.proofs.HeadLaws.{tells}
-use Rattle.lf_yaml.proofs.Placed.{drops}
 use Rattle.lf_yaml.proofs.RowsAfter.{get-drop}
 
 -- ---- reading is the definition
@@ -41,9 +39,9 @@ behind-is : (break k : ℕ) (ls : List Line) → plain_behind break k ls ≡ rea
 unfolding plain_behind onward
 behind-is break k [] = refl
 behind-is break k (l ∷ ls) =
-    elim (tells (is_spaces l)) [
+    elim (cases_Bool (is_spaces l)) [
       | inl a ↦ rw a (behind-is break (suc k) ls)
-      | inr a ↦ elim (tells (goes_on (content_row l))) [
+      | inr a ↦ elim (cases_Bool (goes_on (content_row l))) [
         | inl b ↦ rw (a, b) refl
         | inr b ↦ rw (a, b) refl
       ]
@@ -51,7 +49,7 @@ behind-is break k (l ∷ ls) =
 
 on-is : (l : Line) (ls : List Line) → cond (is_bare l) (plain_behind l.break 0 ls) (good [] (left_on l)) ≡ read_on l.break (left_on l) (following l ls)
 on-is l ls =
-    elim (tells (is_bare l)) [
+    elim (cases_Bool (is_bare l)) [
       | inl a ↦ rw a (behind-is l.break 0 ls)
       | inr a ↦ rw a refl
     ]
@@ -84,9 +82,9 @@ onward-shorter : (k : ℕ) (ls : List Line) (x : Onward) → onward k ls ≡ Som
 unfolding onward
 onward-shorter k [] x e = none-onward x e
 onward-shorter k (l ∷ ls) x e =
-    elim (tells (is_spaces l)) [
+    elim (cases_Bool (is_spaces l)) [
       | inl a ↦ let h = onward-shorter (suc k) ls x (rw a at e) in omega (arith, h)
-      | inr a ↦ elim (tells (goes_on (content_row l))) [
+      | inr a ↦ elim (cases_Bool (goes_on (content_row l))) [
         | inl b ↦ let h : (k, l, ls) ≡ x = some-onward (k, l, ls) x (rw (a, b) at e) in omega (arith, ap (λ (y : Onward). length y.2) h)
         | inr b ↦ none-onward x (rw (a, b) at e)
       ]
@@ -194,9 +192,9 @@ onward-all : (P : Line → Type 0) (k : ℕ) (ls : List Line) (x : Onward) → o
 unfolding onward
 onward-all P k [] x e h = none-onward x e
 onward-all P k (l ∷ ls) x e h =
-    elim (tells (is_spaces l)) [
+    elim (cases_Bool (is_spaces l)) [
       | inl a ↦ onward-all P (suc k) ls x (rw a at e) h.1
-      | inr a ↦ elim (tells (goes_on (content_row l))) [
+      | inr a ↦ elim (cases_Bool (goes_on (content_row l))) [
         | inl b ↦ subst (λ (y : Onward). AllByRecursion P (y.1 ∷ y.2)) (some-onward (k, l, ls) x (rw (a, b) at e)) h
         | inr b ↦ none-onward x (rw (a, b) at e)
       ]
@@ -206,9 +204,9 @@ pub onward-rises : (k lo hi : ℕ) (ls : List Line) (x : Onward) → onward k ls
 unfolding onward
 onward-rises k lo hi [] x e h = none-onward x e
 onward-rises k lo hi (l ∷ ls) x e h =
-    elim (tells (is_spaces l)) [
+    elim (cases_Bool (is_spaces l)) [
       | inl a ↦ let le = rises-le lo l.text l.break h.0 in lines-low (suc l.break) lo (x.1 ∷ x.2) hi (omega (arith, le)) (onward-rises (suc k) (suc l.break) hi ls x (rw a at e) h.2)
-      | inr a ↦ elim (tells (goes_on (content_row l))) [
+      | inr a ↦ elim (cases_Bool (goes_on (content_row l))) [
         | inl b ↦ subst (λ (y : Onward). LinesRise lo (y.1 ∷ y.2) hi) (some-onward (k, l, ls) x (rw (a, b) at e)) h
         | inr b ↦ none-onward x (rw (a, b) at e)
       ]
@@ -281,7 +279,7 @@ short-drop at x xs bytes e =
     let s : at + 1 ≡ suc at = omega arith in (
       omega (arith, n, length-drop at bytes),
       ap (λ (k : ℕ). get_or bytes k 0) (sym z) ∙ sym (get-drop at 0 bytes) ∙ ap (λ (ys : List ℕ). get_or ys 0 0) e,
-      ap (λ (k : ℕ). drop k bytes) (sym s) ∙ sym (drops at 1 bytes) ∙ ap (drop 1) e,
+      ap (λ (k : ℕ). drop k bytes) (sym s) ∙ sym (drop-drop 1 at bytes) ∙ ap (drop 1) e,
     )
 
 pub cells-in : (bytes : List ℕ) (at : ℕ) (xs : List ℕ) → drop at bytes ≡ xs → AllByRecursion (InFile bytes) (cells at xs)
@@ -314,7 +312,7 @@ break-boundary bytes l (h, inr (lt, e)) = IsCharBoundary-before_ascii bytes l.br
 
 pub left-boundary : (bytes : List ℕ) (l : Line) → LineInFile bytes l → IsCharBoundary bytes (left_on l)
 left-boundary bytes l h =
-    elim (tells (is_bare l)) [
+    elim (cases_Bool (is_bare l)) [
       | inl b ↦ rw b (break-boundary bytes l h)
       | inr b ↦ rw b (by (line_left l) refl (left-low l) (all-left (InFile bytes) l h.0) b)
     ]

@@ -2,7 +2,7 @@
 use Rattle.std.proofs.Common.{◌≡◌, ℕ, suc, ◌+◌, ◌<◌, ◌≤◌, Bool, true, false, cond, eqb, List, [], ◌∷◌, ◌++◌, Some, None, Result, Ok, Err, length, eq-eqb, refl, ap, arith, sym, ◌∙◌, subst, inl, inr, ◌&&◌, ◌||◌}
 use Rattle.std.specs.List.{flat_map, AllByRecursion}
 use Rattle.std.specs.Str.{IsCharBoundary, IsUtf8}
-use Rattle.std.proofs.lemmas.Bool.{cases_lt}
+use Rattle.std.proofs.lemmas.Bool.{cases_lt, cases_Bool}
 use Rattle.std.proofs.lemmas.Bool.Decides.{eqb_tells}
 use Rattle.std.proofs.lemmas.List.{drop_all}
 use Rattle.std.proofs.lemmas.Str.{IsCharBoundary-after_ascii}
@@ -28,7 +28,7 @@ use Rattle.lf_yaml.specs.Heads.{OpensQuote}
 use Rattle.lf_yaml.specs.Flow.{first_line, later_lines, lines_on, line_on, lines_below, Next, at_part, broken, on_line, next_part, next_on, begins_flow, FlowScalar, quoted, plain, begins_part, part_fault, FlowScalarBreaks, no_scalar, open_quote, inside, plain_lines}
 use Rattle.lf_yaml.specs.reading.Trees.{quotes_of, Folded, plain_from, Part, plain_part, with_after, quoted_part, part_by, flow_scalar}
 use Rattle.lf_yaml.proofs.FlowLines.{PlainTold, plain-again, plain-breaks, plain-told, plain-within, plain-boundary, InFile, source-in, lines-here, source-rises, lines-rise-here}
-use Rattle.lf_yaml.proofs.HeadLaws.{tells, NoQuote, quotes-is, quotes-view, not-quote, between-view, single_line, BetweenTold, between-tells, between-is, between-breaks}
+use Rattle.lf_yaml.proofs.HeadLaws.{NoQuote, quotes-is, quotes-view, not-quote, between-view, single_line, BetweenTold, between-tells, between-is, between-breaks}
 
 -- ---- the next part stands further on
 
@@ -64,9 +64,9 @@ NextLow lo hi (at_part c cs) = (lo ≤ c.at) × Rises c.at (c ∷ cs) hi
 on-line-low : (end lo hi : ℕ) (rs : List Row) → FirstRow lo hi rs → NextLow lo hi (on_line end rs)
 on-line-low end lo hi [] h = tt
 on-line-low end lo hi (r ∷ rs) h =
-    elim (tells (eqb r.first.byte 9)) [
+    elim (cases_Bool (eqb r.first.byte 9)) [
       | inl a ↦ rw a tt
-      | inr a ↦ elim (tells (is_mark r)) [
+      | inr a ↦ elim (cases_Bool (is_mark r)) [
         | inl b ↦ rw (a, b) tt
         | inr b ↦ rw (a, b) h
       ]
@@ -76,9 +76,9 @@ next-low : (end : ℕ) (blank : Bool) (lo hi : ℕ) (cs : List Cell) (rs : List 
 unfolding next_part
 next-low end blank lo hi [] rs h rows = on-line-low end lo hi rs rows
 next-low end blank lo hi (c ∷ cs) rs h rows =
-    elim (tells (is_blank c)) [
+    elim (cases_Bool (is_blank c)) [
       | inl a ↦ rw a (next-low end true lo hi cs rs (rises-low (suc c.at) lo cs hi (let at = h.0 in omega (arith, at)) h.1) rows)
-      | inr a ↦ elim (tells (blank && eqb c.byte 35)) [
+      | inr a ↦ elim (cases_Bool (blank && eqb c.byte 35)) [
         | inl b ↦ rw (a, b) (on-line-low end lo hi rs rows)
         | inr b ↦ rw (a, b) (h.0, (omega arith, h.1))
       ]
@@ -209,7 +209,7 @@ part-tells bytes c cs =
             let h : OpensQuote c (source_at bytes (suc c.at)) = record { kind = kind; is_quote = q; unclosed = e } in
             subst (PartTold bytes c cs) (sym (open-part bytes c cs h)) (open_quote h)
       ]
-      | inr (q, n) ↦ elim (tells (begins_flow c cs)) [
+      | inr (q, n) ↦ elim (cases_Bool (begins_flow c cs)) [
         | inl p ↦
             subst (PartTold bytes c cs) (sym (plain-lines bytes c cs p))
             (plain-tells bytes c cs p (plain_from (line_on bytes c.at) (lines_below bytes c.at)) (plain-told (line_on bytes c.at) (lines_below bytes c.at)))

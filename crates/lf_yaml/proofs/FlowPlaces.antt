@@ -1,18 +1,19 @@
 -- Where the code reads on in a flow collection: the rest of a line from an offset on, and the lines behind it.
 use Rattle.std.proofs.Common.{◌≡◌, ℕ, zero, suc, ◌+◌, ◌-◌, ◌<◌, ◌≤◌, false, List, [], ◌∷◌, length, get_or, take, drop, refl, ap, arith, sym, ◌∙◌, subst, inl, inr, length-drop}
 use Rattle.std.specs.Str.{IsCharBoundary, IsUtf8}
-use Rattle.std.proofs.lemmas.List.{drop_all, get_or-take}
+use Rattle.std.proofs.lemmas.List.{drop_all, get_or-take, drop-drop}
 use Rattle.std.proofs.lemmas.Str.{IsCharBoundary-after_ascii, IsUtf8-take, IsUtf8-drop}
 use Rattle.lf_scalar.specs.Cells.{Cell, cell, cells}
 use Rattle.lf_scalar.specs.Lines.{Line, lines, lengthen, first_text}
 use Rattle.lf_scalar.specs.Scalars.{source_at}
-use Rattle.lf_scalar.proofs.LineSteps.{line-step, lines-nil, lines-feed, lines-return, lines-other}
+use Rattle.lf_scalar.proofs.LineSteps.{line-step, lines-nil, lines-feed, lines-return, lines-other, first-lengthen}
+use Rattle.lf_scalar.proofs.Cells.{same-cells}
 use Rattle.lf_yaml.specs.Rows.{rows_of}
 use Rattle.lf_yaml.specs.Flow.{first_line, later_lines, lines_on, line_on, lines_below, next_part, next_on}
 use Rattle.lf_yaml.specs.views.Cursor.{rows_after}
 use Rattle.lf_yaml.specs.views.Places.{IsIn}
 use Rattle.lf_yaml.proofs.Cuts.{line-ends}
-use Rattle.lf_yaml.proofs.Placed.{drops, first-lengthen, nil-cons}
+use Rattle.lf_yaml.proofs.Placed.{nil-cons}
 use Rattle.lf_yaml.proofs.RowsAfter.{part-of-file, get-drop, rows-past}
 
 -- ---- further on in a line
@@ -20,9 +21,6 @@ use Rattle.lf_yaml.proofs.RowsAfter.{part-of-file, get-drop, rows-past}
 later-lengthen : (end : ℕ) (c : Cell) (ls : List Line) → later_lines (lengthen end c ls) ≡ later_lines ls
 later-lengthen end c [] = refl
 later-lengthen end c (l ∷ ls) = refl
-
-cons-tail : (x y : Cell) (xs ys : List Cell) → x ∷ xs ≡ y ∷ ys → xs ≡ ys
-cons-tail x y xs ys e = cc
 
 -- a cell further
 one-further : (end at b : ℕ) (bs : List ℕ) (x : Cell) (xs : List Cell) → first_text (lines end (cells at (b ∷ bs))) ≡ x ∷ xs
@@ -34,7 +32,7 @@ one-further end at b bs x xs e =
       | inr (inr o) ↦
           let same = lines-other end (cell b at) (cells (suc at) bs) o in
           let text : cell b at ∷ first_text (lines end (cells (suc at) bs)) ≡ x ∷ xs = sym (first-lengthen end (cell b at) (lines end (cells (suc at) bs))) ∙ sym (ap first_text same) ∙ e in
-          (cons-tail (cell b at) x (first_text (lines end (cells (suc at) bs))) xs text, sym (later-lengthen end (cell b at) (lines end (cells (suc at) bs))) ∙ sym (ap later_lines same))
+          (same-cells (cell b at) x (first_text (lines end (cells (suc at) bs))) xs text, sym (later-lengthen end (cell b at) (lines end (cells (suc at) bs))) ∙ sym (ap later_lines same))
     ]
 
 pub further : (end at k : ℕ) (bs text : List ℕ) → first_text (lines end (cells at bs)) ≡ cells at text → k ≤ length text
@@ -58,7 +56,7 @@ first-of end (l ∷ ls) = refl
 
 module _ (bytes : List ℕ) (at k : ℕ) (text : List ℕ) (is : cells at text ≡ (line_on bytes at).text) (le : k ≤ length text) where
   source-further : source_at bytes (at + k) ≡ cells (at + k) (drop k (drop at bytes))
-  source-further = ap (cells (at + k)) (sym (drops at k bytes))
+  source-further = ap (cells (at + k)) (sym (drop-drop k at bytes))
 
   behind : (first_text (lines (length bytes) (cells (at + k) (drop k (drop at bytes)))) ≡ cells (at + k) (drop k text)) × (later_lines (lines (length bytes) (cells (at + k) (drop k (drop at bytes)))) ≡ lines_below bytes at)
   behind = further (length bytes) at k (drop at bytes) text (sym (first-of (length bytes) (lines_on bytes at)) ∙ sym is) le

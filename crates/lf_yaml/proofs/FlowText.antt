@@ -1,14 +1,10 @@
 -- The text of a plain scalar in a flow collection, byte by byte.
-use Rattle.std.proofs.Common.{◌≡◌, ℕ, zero, suc, ◌+◌, ◌<◌, ◌≤◌, true, false, not, List, [], ◌∷◌, length, get_or, take, length-take, refl, ap, arith, sym, ◌∙◌, inl, inr}
+use Rattle.std.proofs.Common.{◌≡◌, ℕ, zero, suc, ◌+◌, ◌<◌, ◌≤◌, true, false, not, List, [], ◌∷◌, length, get_or, take, refl, ap, arith, sym, ◌∙◌, inl, inr}
 use Rattle.std.specs.Prelude.{take_while}
 use Rattle.std.specs.List.{prefix_len}
 use Rattle.std.proofs.lemmas.Bool.{cases_lt}
 use Rattle.lf_scalar.specs.Cells.{Cell, cell, cells}
-use Rattle.lf_scalar.specs.Lines.{is_blank}
-use Rattle.lf_scalar.specs.Folding.{trimmed}
-use Rattle.lf_scalar.specs.Plain.{before_comment}
-use Rattle.lf_yaml.specs.Flow.{is_flow_sign, flow_text}
-use Rattle.lf_yaml.proofs.EntryCode.{take-within}
+use Rattle.lf_yaml.specs.Flow.{is_flow_sign}
 
 abbrev pub NoSigns : List ℕ → ℕ → Type 0
 NoSigns text n = (k : ℕ) → k < n → is_flow_sign (cell (get_or text k 0) 0) ≡ false
@@ -29,12 +25,3 @@ no-more-signs text i none here k lt =
       | inl less ↦ none k less
       | inr le ↦ let same : i ≡ k = omega (arith, le, lt) in ap (λ (n : ℕ). is_flow_sign (cell (get_or text n 0) 0)) (sym same) ∙ here
     ]
-
--- the three cuts of a text
-pub cuts : (at n len : ℕ) (text one two : List ℕ) → take_while (λ c. not (is_flow_sign c)) (cells at text) ≡ cells at (take n text) → n ≤ length text → one ≡ take n text → before_comment (cells at one) ≡ cells at two → two ≡ take (length two) one
-    → length two ≤ length one → trimmed is_blank (cells at two) ≡ cells at (take len two) → len ≤ length two → flow_text (cells at text) ≡ cells at (take len text)
-cuts at n len text one two sign n_le is comment front shorter trim len_le =
-    let l : length one ≤ n = omega (arith, ap length is, length-take n text) in
-    let first : take len two ≡ take len one = ap (take len) front ∙ take-within len (length two) one len_le in
-    let second : take len one ≡ take len text = ap (take len) is ∙ take-within len n text (omega arith) in
-    ap (λ (cs : List Cell). trimmed is_blank (before_comment cs)) (sign ∙ ap (cells at) (sym is)) ∙ ap (trimmed is_blank) comment ∙ trim ∙ ap (cells at) (first ∙ second)

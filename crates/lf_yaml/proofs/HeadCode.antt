@@ -2,13 +2,13 @@
 use Rattle.std.proofs.Common.{◌≡◌, ℕ, zero, suc, ◌+◌, ◌-◌, ◌<◌, ◌≤◌, Bool, true, false, eqb, List, [], ◌∷◌, ◌++◌, length, get_or, take, drop, length-drop, length-take, Option, Some, None, refl, ap, arith, sym, ◌∙◌, subst, append_assoc, inl, inr}
 use Rattle.std.specs.Str.{IsCharBoundary, IsUtf8}
 use Rattle.std.specs.List.{flat_map}
-use Rattle.std.proofs.lemmas.List.{get_or-take}
-use Rattle.std.proofs.lemmas.Bool.{eqb-true}
+use Rattle.std.proofs.lemmas.List.{get_or-take, drop-drop}
+use Rattle.std.proofs.lemmas.Bool.{eqb-true, cases_Bool}
 use Rattle.std.proofs.lemmas.Str.{IsCharBoundary-after_ascii}
 use Rattle.lf_scalar.specs.Cells.{Cell, cell, cells, bytes_of}
 use Rattle.lf_scalar.specs.Lines.{is_blank}
 use Rattle.lf_scalar.specs.Quoted.{raw}
-use Rattle.lf_scalar.proofs.Tails.{true-false}
+use Rattle.lf_scalar.proofs.Tails.{true-false, some-is}
 use Rattle.lf_yaml.specs.Rows.{Row, row, text_of, left_of}
 use Rattle.lf_yaml.specs.Heads.{Key, BeginsEntry}
 use Rattle.lf_yaml.specs.Heads as head
@@ -19,9 +19,9 @@ use Rattle.lf_yaml.specs.views.Headed.{headed}
 use Rattle.lf_yaml.specs.reading.BlockTurns.{IsBehind}
 use Rattle.lf_yaml.specs.declared.row.Row.{Row as CodeRow}
 use Rattle.lf_yaml.specs.declared.entries.Head.{Head as CodeHead}
-use Rattle.lf_scalar.proofs.Cells.{cells-bytes}
-use Rattle.lf_yaml.proofs.HeadLaws.{tells, entry-view}
-use Rattle.lf_yaml.proofs.Placed.{placed-left, drops}
+use Rattle.lf_scalar.proofs.Cells.{cells-bytes, no-cell}
+use Rattle.lf_yaml.proofs.HeadLaws.{entry-view}
+use Rattle.lf_yaml.proofs.Placed.{placed-left, cons-cells, none-row}
 use Rattle.lf_yaml.proofs.RowCode.{text-shown}
 use Rattle.lf_yaml.proofs.RowsAfter.{part-of-file, get-drop}
 use Rattle.lf_yaml.proofs.BlockTells.{blanks-suffix}
@@ -65,15 +65,9 @@ pub record Stands (at : ℕ) (text : List ℕ) (n byte place : ℕ) (behind : Li
   pub same_byte : get_or text n 0 ≡ byte
   pub same_rest : behind ≡ drop (suc n) text
 
-cons-cells : (x y : Cell) (xs ys : List Cell) → x ∷ xs ≡ y ∷ ys → (x ≡ y) × (xs ≡ ys)
-cons-cells x y xs ys e = (cc, cc)
-
-nil-cells : (x : Cell) (xs : List Cell) → [] ≡ x ∷ xs → ⊥
-nil-cells x xs e = cc
-
 pub cells-stand : (at : ℕ) (text : List ℕ) (front : List Cell) (byte place : ℕ) (behind : List ℕ) → cells at text ≡ front ++ cell byte place ∷ cells (suc place) behind → Stands at text (length front) byte place behind
-cells-stand at [] [] byte place behind e = absurd (nil-cells (cell byte place) (cells (suc place) behind) e)
-cells-stand at [] (x ∷ front) byte place behind e = absurd (nil-cells x (front ++ cell byte place ∷ cells (suc place) behind) e)
+cells-stand at [] [] byte place behind e = absurd (no-cell (cell byte place) (cells (suc place) behind) e)
+cells-stand at [] (x ∷ front) byte place behind e = absurd (no-cell x (front ++ cell byte place ∷ cells (suc place) behind) e)
 cells-stand at (b ∷ text) [] byte place behind e =
     let h = cons-cells (cell b at) (cell byte place) (cells (suc at) text) (cells (suc place) behind) e in
     let z : at ≡ at + 0 = omega arith in
@@ -114,16 +108,10 @@ pub record LeftAt (at : ℕ) (text : List ℕ) (left : Row) : Type 0 where
   pub text_left : text_of left ≡ cells (at + skipped) (drop skipped text)
   pub behind_blank : 0 < skipped → is_blank (cell (get_or text (skipped - 1) 0) 0) ≡ true
 
-some-row : (r s : Row) → Some r ≡ Some s → r ≡ s
-some-row r s e = cc
-
-none-row : {X : Type 0} (s : Row) → None ≡ Some s → X
-none-row s e = absurd cc
-
 pub left-at : (begin at : ℕ) (text : List ℕ) (left : Row) → left_of begin (cells at text) ≡ Some left → LeftAt at text left
 left-at begin at [] left e = none-row left e
 left-at begin at (b ∷ text) left e =
-    elim (tells (is_blank (cell b 0))) [
+    elim (cases_Bool (is_blank (cell b 0))) [
       | inl a ↦
           let k = left-at begin (suc at) text left (rw a at e) in
           let z : suc at + k.skipped ≡ at + suc k.skipped = omega arith in
@@ -133,10 +121,10 @@ left-at begin at (b ∷ text) left e =
             text_left = k.text_left ∙ ap (λ (n : ℕ). cells n (drop k.skipped text)) z;
             behind_blank = λ lt. blank-before b text k.skipped a k.behind_blank;
           }
-      | inr a ↦ elim (tells (eqb b 35)) [
+      | inr a ↦ elim (cases_Bool (eqb b 35)) [
         | inl h ↦ none-row left (rw (a, h) at e)
         | inr h ↦
-            let same : row begin (cell b at) (cells (suc at) text) ≡ left = some-row (row begin (cell b at) (cells (suc at) text)) left (rw (a, h) at e) in
+            let same : row begin (cell b at) (cells (suc at) text) ≡ left = some-is (row begin (cell b at) (cells (suc at) text)) left (rw (a, h) at e) in
             let z : at ≡ at + 0 = omega arith in
             record {
               skipped = 0;
@@ -169,9 +157,6 @@ cells-split at (suc n) (b ∷ text) =
     let z : suc at + n ≡ at + suc n = omega arith in
     ap (λ (cs : List Cell). cell b at ∷ cs) (cells-split (suc at) n text ∙ ap (λ (m : ℕ). cells (suc at) (take n text) ++ cells m (drop n text)) z)
 
-drop-drop : (m n : ℕ) (xs : List ℕ) → drop n (drop m xs) ≡ drop (m + n) xs
-drop-drop m n xs = drops m n xs
-
 -- a byte of a row is that of the file
 byte-of-file : (bytes : List ℕ) (r : CodeRow) (i : ℕ) → IsRowOf bytes r → i < length r.text.now → (get_or r.text.now i 0 ≡ get_or bytes (r.at + i) 0) × (r.at + i < length bytes)
 byte-of-file bytes r i h lt =
@@ -189,7 +174,7 @@ left-row bytes r left sign utf8 h full full2 lt ascii e =
     let k = left-at r.begin from behind (shown left) e in
     let text : left.text.now ≡ drop k.skipped behind =
     sym (cells-bytes left.at left.text.now) ∙ ap bytes_of (sym (text-shown left full2) ∙ k.text_left) ∙ cells-bytes (from + k.skipped) (drop k.skipped behind) in
-    let whole : left.text.now ≡ drop (sign + 1 + k.skipped) r.text.now = text ∙ drop-drop (sign + 1) k.skipped r.text.now in
+    let whole : left.text.now ≡ drop (sign + 1 + k.skipped) r.text.now = text ∙ drop-drop k.skipped (sign + 1) r.text.now in
     let n : left.at - r.at ≡ sign + 1 + k.skipped = omega (arith, k.place) in
     let last : sign + 1 + k.skipped ≤ length r.text.now = omega (arith, full2, ap length whole, length-drop (sign + 1 + k.skipped) r.text.now) in
     let before : get_or r.text.now (sign + k.skipped) 0 < 128 = byte-before r.text.now sign k.skipped ascii k.behind_blank in

@@ -1,10 +1,13 @@
 -- How a row begins is read: keys and their signs, scalars between quotes, keys that stand before.
-use Rattle.std.proofs.Common.{◌≡◌, ◌≢◌, ℕ, zero, suc, ◌+◌, Bool, true, false, cond, eqb, List, [], ◌∷◌, Option, Some, None, Result, Ok, Err, length, eq-eqb, refl, ap, arith, sym, ◌∙◌, subst, ◌⊎◌, inl, inr, ◌&&◌, ◌||◌}
+use Rattle.std.proofs.Common.{◌≡◌, ◌≢◌, ℕ, zero, suc, ◌+◌, Bool, true, false, cond, eqb, List, [], ◌∷◌, Option, Some, None, Result, Ok, Err, length, eq-eqb, refl, ap, arith, sym, ◌∙◌, subst, ◌⊎◌, inl, inr, ◌||◌}
 use Rattle.std.specs.Prelude.{Contains, bytes_eq}
 use Rattle.std.specs.List.{flat_map}
 use Rattle.std.proofs.lemmas.Bool.Decides.{eqb_tells}
 use Rattle.std.proofs.lemmas.Slice.Eq.{bytes_eq-Decides}
 use Rattle.std.proofs.lemmas.List.Elements.{Contains-append_left, Contains-append_right, Contains-append_cases}
+use Rattle.std.proofs.lemmas.Bool.{cases_Bool}
+use Rattle.std.proofs.lemmas.Option.{none-some}
+use Rattle.std.proofs.Math.Bool.{and-false}
 use Rattle.lf_scalar.specs.declared.quotes.Quotes.{Quotes}
 use Rattle.lf_scalar.specs.declared.quotes.Quotes.TheVariants.{Single, Double}
 use Rattle.lf_base.specs.declared.fault.Fault.{Fault}
@@ -20,14 +23,6 @@ use Rattle.lf_scalar.proofs.Tails.{true-false}
 use Rattle.lf_yaml.specs.Rows.{Row, text_of, is_left_out}
 use Rattle.lf_yaml.specs.Heads.{is_item, Split, key_in, never, Key, Bare, Between, up_to, IsBetween, BetweenBreaks, IsKey, KeyBreaks, IsSignBehind, BeginsEntry, bare, quoted, NoEntry, BeginsBlock, BeginsNoBlock, OpensQuote}
 use Rattle.lf_yaml.specs.reading.Trees.{quotes_of, Head, sign_if, sign_behind, quoted_sign, quoted_head, bare_head, entry_by, entry_of, between_of, key_of, opens_by, opens_quote, has, begins_block}
-
--- a test passes or not
-pub tells : (b : Bool) → (b ≡ true) ⊎ (b ≡ false)
-tells true = inl refl
-tells false = inr refl
-
-pub none-some : {X : Type 0} (x : X) → None ≡ Some x → ⊥
-none-some x e = cc
 
 -- ---- quotes
 
@@ -164,7 +159,7 @@ missing r e = inr (e, no-entry r e)
 
 bare-view : (r : Row) → quotes_of r.first ≡ None → is_left_out r ≡ false → EntryView r
 bare-view r q l =
-    elim (tells (begins_plain (text_of r))) [
+    elim (cases_Bool (begins_plain (text_of r))) [
       | inl p ↦ by p (key_in never before_blank (text_of r)) refl
       | inr p ↦ missing r (kept r l ∙ ap (entry_by r) q ∙ rw p refl)
     ]
@@ -177,7 +172,7 @@ quoted-view : (r : Row) (kind : Quotes) → r.first.byte ≡ quote_of kind → i
 quoted-view r kind q l =
     elim (between-view kind r.rest) [
       | inl (c, h) ↦ elim (sign-view c.rest) [
-        | inl (colon, rest, s, t) ↦ elim (tells (before_blank rest)) [
+        | inl (colon, rest, s, t) ↦ elim (cases_Bool (before_blank rest)) [
           | inl b ↦ there r (Between kind) colon rest (quoted kind c q l s b)
           | inr b ↦ missing r (kept r l ∙ ap (entry_by r) (quotes-is r.first kind q) ∙ ap (quoted_head kind) h ∙ ap (quoted_sign kind) t ∙ rw b refl)
         ]
@@ -188,7 +183,7 @@ quoted-view r kind q l =
 
 pub entry-view : (r : Row) → EntryView r
 entry-view r =
-    elim (tells (is_left_out r)) [
+    elim (cases_Bool (is_left_out r)) [
       | inl l ↦ missing r (left-out r l)
       | inr l ↦ elim (quotes-view r.first) [
         | inl (kind, q, s) ↦ quoted-view r kind q l
@@ -218,7 +213,7 @@ begins-no-block r h =
 
 pub block-view : (r : Row) → BlockView r
 block-view r =
-    elim (tells (is_item r)) [
+    elim (cases_Bool (is_item r)) [
       | inl i ↦ inl (inl i, begins-block r (inl i))
       | inr i ↦ elim (entry-view r) [
         | inl (k, colon, rest, b, e) ↦ inl (inr (k, colon, rest, b), begins-block r (inr (k, colon, rest, b)))
@@ -232,10 +227,6 @@ no-item r b e h = rw (ap (λ (x : ℕ). eqb x 45) e ∙ h) refl
 
 bare-item : (r : Row) (b : Bool) → before_blank r.rest ≡ b → begins_plain (text_of r) ≡ true → is_item r ≡ false
 bare-item r false e p = rw e (and-false (eqb r.first.byte 45))
-  where
-    and-false : (b : Bool) → (b && false) ≡ false
-    and-false true = refl
-    and-false false = refl
 bare-item r true e p =
     elim (eqb_tells r.first.byte 45) [
       | inl a ↦ true-false (begins_plain (text_of r)) p (ap (λ (b : ℕ). begins_plain (cell b r.first.at ∷ r.rest)) a.1 ∙ rw e refl)
@@ -312,7 +303,7 @@ one-contains x k (suc n, lt, e) = absurd (omega arith)
 pub has-tells : (xs : List (List ℕ)) (k : List ℕ) → ((has xs k ≡ true) × Contains xs k) ⊎ ((has xs k ≡ false) × (Contains xs k → ⊥))
 has-tells [] k = inr (refl, λ c. let h = c.1 in absurd (omega arith))
 has-tells (x ∷ xs) k =
-    elim (tells (bytes_eq x k)) [
+    elim (cases_Bool (bytes_eq x k)) [
       | inl a ↦ inl (rw a refl, Contains-append_left (x ∷ []) xs k (0, omega arith, (bytes_eq-Decides x k).0 a))
       | inr a ↦ elim (has-tells xs k) [
         | inl b ↦ inl (rw (a, b.0) refl, Contains-append_right (x ∷ []) xs k b.1)

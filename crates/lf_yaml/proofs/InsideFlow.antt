@@ -16,7 +16,7 @@ use Rattle.lf_scalar.proofs.Characters.{byte_lies}
 use Rattle.lf_scalar.proofs.Parts.{utf8-behind, blank-low, after-blanks-part, after-spaces-part}
 use Rattle.lf_scalar.proofs.QuotedTexts.{quote-low}
 use Rattle.lf_scalar.proofs.Rising.{rises-le, rises-low}
-use Rattle.lf_scalar.proofs.Utf8Lines.{LinesUtf8, utf8-nil, lines-utf8}
+use Rattle.lf_scalar.proofs.Utf8Lines.{lines-utf8}
 use Rattle.lf_scalar.proofs.Within.{rises_high}
 use Rattle.lf_yaml.specs.Rows.{Row, text_of, is_mark, headed, content_row, rows_of}
 use Rattle.lf_yaml.specs.Heads.{Key}
@@ -29,6 +29,7 @@ use Rattle.lf_yaml.proofs.FlowKeys.{split-source, key-within}
 use Rattle.lf_yaml.proofs.FlowParts.{part-bounds, part-within, ascii-boundary, scalar-within, scalar-boundary}
 use Rattle.lf_yaml.proofs.InsideRows.{AreRowsIn, rows_low, rows_in, first_lies, indent_lies, source_utf8}
 use Rattle.lf_yaml.proofs.InsideScalars.{LeftIn, split_sign, flow_scalar_in, flow_scalar_lies, flow_key_from, escape_lies, part_lies, no_part_lies, no_sign_lies, empty_inside}
+use Rattle.lf_yaml.proofs.PartPlaces.{first-utf8}
 
 -- ---- the next part: its line's cells are those of the file
 
@@ -146,10 +147,6 @@ no-sign-boundary bytes c cs _ utf8 (flow.NoSign.bare p e) are = left-boundary by
 
 -- ---- where a collection is read on
 
-first_utf8 : (end : ℕ) (ls : List Line) → LinesUtf8 ls → LinesUtf8 (first_line end ls ∷ later_lines ls)
-first_utf8 end [] h = (utf8-nil, tt)
-first_utf8 end (l ∷ ls) h = h
-
 module _ (bytes : List ℕ) where
   abbrev n : ℕ
   n = length bytes
@@ -219,7 +216,7 @@ module _ (bytes : List ℕ) where
     line_in at b =
         let le : at ≤ n = b.0 in
         let r = lines-rise-here bytes at le in
-        let u = first_utf8 n (lines_on bytes at) (lines-utf8 (suc (length (source_at bytes at))) n (source_at bytes at) (omega arith) (source_utf8 bytes utf8 at b)) in
+        let u = first-utf8 n (lines_on bytes at) (lines-utf8 (suc (length (source_at bytes at))) n (source_at bytes at) (omega arith) (source_utf8 bytes utf8 at b)) in
         (rises_high at (line_on bytes at).text (line_on bytes at).break n r.1 r.0, u.0)
 
     next_here : (at : ℕ) → IsCharBoundary bytes at → NextIn n at (next_on bytes at)
@@ -227,7 +224,7 @@ module _ (bytes : List ℕ) where
     next_here at b =
         let le : at ≤ n = b.0 in
         let r = lines-rise-here bytes at le in
-        let u = first_utf8 n (lines_on bytes at) (lines-utf8 (suc (length (source_at bytes at))) n (source_at bytes at) (omega arith) (source_utf8 bytes utf8 at b)) in
+        let u = first-utf8 n (lines_on bytes at) (lines-utf8 (suc (length (source_at bytes at))) n (source_at bytes at) (omega arith) (source_utf8 bytes utf8 at b)) in
         let low = rises-le at (line_on bytes at).text (line_on bytes at).break r.0 in
         next_in n false at (line_on bytes at).text (rows_of (lines_below bytes at)) (line_in at b)
         (rows_low n (suc (line_on bytes at).break) at (rows_of (lines_below bytes at)) (omega (arith, low)) (rows_in n (suc (line_on bytes at).break) (lines_below bytes at) u.1 r.2))

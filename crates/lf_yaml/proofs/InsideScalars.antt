@@ -139,10 +139,6 @@ module _ (bytes : List ℕ) where
   flow_inside_lies : (c : Cell) (kind : Quotes) (f : Fault) → suc c.at ≤ end → Utf8 (c ∷ source_at bytes (suc c.at)) → c.byte ≡ quote_of kind → BetweenBreaks kind c (source_at bytes (suc c.at)) f → LiesIn end f.span
   flow_inside_lies c kind f le u q b = escape_lies end kind c (source_at bytes (suc c.at)) f (quoted_rises c le) u q b
 
--- a `:` is one byte long
-pub sign_lies : (n : ℕ) (c : Cell) (kind : Kind) → c.byte ≡ 58 → suc c.at ≤ n → LiesIn n (character_fault kind c).span
-sign_lies n c kind e le = rw e (omega arith, omega (arith, le))
-
 colon_lies : (n lo : ℕ) (text behind : List Cell) (w : Cell) → colon_in text behind ≡ Some w → Rises lo text n → (w.byte ≡ 58) × (suc w.at ≤ n)
 colon_lies n lo [] behind w e r = none e
   where

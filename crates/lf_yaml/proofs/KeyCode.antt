@@ -1,5 +1,6 @@
 -- Keys of flow mappings, as the code reads them.
 use Rattle.std.proofs.Common.{◌≡◌, ℕ, zero, suc, ◌+◌, ◌≤◌, Bool, true, false, cond, eqb, List, [], ◌∷◌, Option, Some, None, Result, Ok, Err, length, get_or, take, drop, length-take, eq-eqb, refl, ap, arith, sym, ◌∙◌}
+use Rattle.std.proofs.lemmas.List.{drop-drop}
 use Rattle.lf_base.specs.declared.fault.Fault.{Fault}
 use Rattle.lf_base.specs.declared.kind.Kind.TheVariants.{LeftOut}
 use Rattle.lf_scalar.specs.Plain.{before_blank}
@@ -13,7 +14,6 @@ use Rattle.lf_yaml.specs.Keys.{is_key_left_out}
 use Rattle.lf_yaml.specs.Flow.{line_on, left_on, next_on, begins_flow, is_flow_sign}
 use Rattle.lf_yaml.specs.views.Signs.{stops_of, split_at}
 use Rattle.lf_yaml.specs.reading.Trees.{Part, after_closing, with_after, quoted_part, between_of, behind_closing, sign_if, sign_behind, Signed, signed, signed_behind, far_sign, no_sign, plain_key, bare_key, flow_key_by}
-use Rattle.lf_yaml.proofs.Placed.{drops}
 use Rattle.lf_yaml.proofs.EntryCode.{take-within}
 
 -- ---- between quotes
@@ -43,9 +43,6 @@ by-far : (bytes : List ℕ) (kind : Quotes) (c : Cell) (cs : List Cell) (b : Boo
 by-far bytes kind c cs b e =
     ap (λ (q : Bool). cond q (Err (character_fault LeftOut c)) (signed_behind bytes (after_closing (closing_of kind 0 cs)) (behind_closing (closing_of kind 0 cs)) (between_of kind c (closing_of kind 0 cs)))) e
 
-pub quoted-far : (bytes : List ℕ) (kind : Quotes) (c : Cell) (cs : List Cell) → is_far kind c cs ≡ true → flow_key_by bytes c cs (Some kind) ≡ Err (character_fault LeftOut c)
-quoted-far bytes kind c cs e = by-far bytes kind c cs true e
-
 pub quoted-near : (bytes : List ℕ) (kind : Quotes) (c : Cell) (cs : List Cell) → is_far kind c cs ≡ false
     → flow_key_by bytes c cs (Some kind) ≡ signed_behind bytes (after_closing (closing_of kind 0 cs)) (behind_closing (closing_of kind 0 cs)) (between_of kind c (closing_of kind 0 cs))
 quoted-near bytes kind c cs e = by-far bytes kind c cs false e
@@ -74,7 +71,7 @@ module _ (at len k : ℕ) (text : List ℕ) (after : after_blanks (cells (at + l
   sign-at : sign_behind (cells (at + len) (drop len text)) ≡ sign_if (cells (at + (len + k)) (drop (len + k) text))
   sign-at =
       let z : at + len + k ≡ at + (len + k) = omega arith in
-      ap sign_if after ∙ ap (λ (xs : List ℕ). sign_if (cells (at + len + k) xs)) (drops len k text) ∙ ap (λ (n : ℕ). sign_if (cells n (drop (len + k) text))) z
+      ap sign_if after ∙ ap (λ (xs : List ℕ). sign_if (cells (at + len + k) xs)) (drop-drop k len text) ∙ ap (λ (n : ℕ). sign_if (cells n (drop (len + k) text))) z
 
   pub quoted-found : (bytes : List ℕ) (kind : Quotes) (c : Cell) (cs : List Cell) (v : Value) → is_far kind c cs ≡ false
       → quoted_part kind c (closing_of kind 0 cs) ≡ Ok (v, at + len) → behind_closing (closing_of kind 0 cs) ≡ cells (at + len) (drop len text) → get_or text (len + k) 0 ≡ 58

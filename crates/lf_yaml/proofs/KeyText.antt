@@ -1,12 +1,12 @@
 -- The text of a key without quotes, as the code finds it.
 use Rattle.std.proofs.Common.{◌≡◌, ℕ, suc, ◌+◌, ◌<◌, ◌≤◌, Bool, true, false, cond, List, [], ◌∷◌, Option, Some, None, length, get_or, take, drop, refl, ap, arith, sym, ◌∙◌, inl, inr}
 use Rattle.std.proofs.lemmas.List.{drop_all}
+use Rattle.std.proofs.lemmas.Bool.{cases_Bool}
 use Rattle.lf_scalar.specs.Cells.{Cell, cell, cells}
 use Rattle.lf_scalar.specs.Plain.{before_blank, begins_plain}
 use Rattle.lf_scalar.proofs.Cells.{cells-drop}
 use Rattle.lf_yaml.specs.Keys.{Split, key_in, never, begins_character, characters, is_key_left_out, has_bare_left_out}
 use Rattle.lf_yaml.specs.views.Signs.{stops_of, split_at}
-use Rattle.lf_yaml.proofs.HeadLaws.{tells}
 
 -- ---- how many characters
 
@@ -14,7 +14,7 @@ use Rattle.lf_yaml.proofs.HeadLaws.{tells}
 pub characters-at : (a b : ℕ) (text : List ℕ) → characters (cells a text) ≡ characters (cells b text)
 characters-at a b [] = refl
 characters-at a b (x ∷ xs) =
-    elim (tells (begins_character (cell x 0))) [
+    elim (cases_Bool (begins_character (cell x 0))) [
       | inl h ↦ rw h (ap suc (characters-at (suc a) (suc b) xs))
       | inr h ↦ rw h (characters-at (suc a) (suc b) xs)
     ]
@@ -26,7 +26,7 @@ left_at text i = characters (cells (0 + i) (drop i text))
 pub one-counted : (text : List ℕ) (i n : ℕ) → i < length text → n ≡ cond (begins_character (cell (get_or text i 0) 0)) 1 0 → left_at text i ≡ n + left_at text (i + 1)
 one-counted text i n lt e =
     ap characters (cells-drop 0 text i lt)
-    ∙ elim (tells (begins_character (cell (get_or text i 0) 0))) [
+    ∙ elim (cases_Bool (begins_character (cell (get_or text i 0) 0))) [
       | inl h ↦ rw (e, h) (omega arith)
       | inr h ↦ rw (e, h) (omega arith)
     ]

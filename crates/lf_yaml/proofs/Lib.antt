@@ -14,7 +14,6 @@ pub mod BlockBreaks
 pub mod BlockTells
 pub mod Laws
 pub mod RowCode
-pub mod LineRows
 pub mod RowsAfter
 pub mod SignScan
 pub mod EntryCode

@@ -1,6 +1,6 @@
 -- The line at an offset of a file and the lines behind it, as the code finds them.
 use Rattle.std.proofs.Common.{◌≡◌, ℕ, ◌+◌, ◌<◌, List, [], ◌∷◌, length, take, drop, ap, arith, sym, ◌∙◌, length-drop, inl, inr}
-use Rattle.std.proofs.lemmas.List.{drop_all}
+use Rattle.std.proofs.lemmas.List.{drop_all, drop-drop}
 use Rattle.lf_scalar.specs.Cells.{cells}
 use Rattle.lf_scalar.specs.Lines.{Line, line, lines, lines_at}
 use Rattle.lf_scalar.specs.Scalars.{source_at}
@@ -8,7 +8,6 @@ use Rattle.lf_scalar.proofs.LineSteps.{lines-nil}
 use Rattle.lf_yaml.specs.Rows.{rows_of}
 use Rattle.lf_yaml.specs.Flow.{first_line, later_lines, lines_on, line_on, lines_below}
 use Rattle.lf_yaml.specs.views.Cursor.{rows_after}
-use Rattle.lf_yaml.proofs.Placed.{drops}
 use Rattle.lf_yaml.proofs.RowsAfter.{Behind, lines-from}
 
 abbrev IsFirst : ℕ → ℕ → ℕ → List ℕ → Type 0
@@ -29,7 +28,7 @@ lines-below-at bytes from t f rest lt e first = ap later_lines (first-on bytes f
 -- the lines behind it begin where the code says
 behind-lines : (bytes : List ℕ) (from f behind : ℕ) (rest : List ℕ) → from < length bytes → rest ≡ drop from bytes → Behind bytes from rest f behind → lines_at (from + (f + 1)) (drop (f + 1) rest) ≡ lines (length bytes) (source_at bytes behind)
 behind-lines bytes from f behind rest lt e (inl (within, p)) =
-    let d : drop (f + 1) rest ≡ drop behind bytes = ap (drop (f + 1)) e ∙ drops from (f + 1) bytes ∙ ap (λ (n : ℕ). drop n bytes) (omega (arith, p)) in
+    let d : drop (f + 1) rest ≡ drop behind bytes = ap (drop (f + 1)) e ∙ drop-drop (f + 1) from bytes ∙ ap (λ (n : ℕ). drop n bytes) (omega (arith, p)) in
     let z : from + (f + 1) ≡ behind = omega (arith, p) in
     ap (λ (xs : List ℕ). lines_at (from + (f + 1)) xs) d ∙ ap (λ (n : ℕ). lines_at n (drop behind bytes)) z ∙ lines-from bytes behind (omega (arith, p, within, ap length e, length-drop from bytes))
 behind-lines bytes from f behind rest lt e (inr (within, p)) =

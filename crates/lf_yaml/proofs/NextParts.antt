@@ -1,11 +1,12 @@
 -- The next part of a flow collection, as the code finds it: behind the blanks.
 use Rattle.std.proofs.Common.{◌≡◌, ◌≢◌, ℕ, suc, ◌+◌, ◌-◌, ◌<◌, ◌≤◌, Bool, true, false, cond, eqb, ltb, List, [], ◌∷◌, length, get_or, drop, refl, ap, arith, sym, ◌∙◌, length-drop, ◌&&◌, ◌||◌, eq-eqb, ne_eqb, ◌⊎◌, inl, inr}
-use Rattle.std.proofs.lemmas.Bool.{le-ltb, lt-ltb}
+use Rattle.std.proofs.lemmas.Bool.{le-ltb, lt-ltb, cases_Bool}
+use Rattle.std.proofs.Math.Bool.{and-false}
 use Rattle.lf_scalar.specs.Cells.{Cell, cell, cells}
 use Rattle.lf_scalar.specs.Lines.{is_blank, after_blanks}
+use Rattle.lf_scalar.proofs.Cells.{cells-length}
 use Rattle.lf_yaml.specs.Rows.{Row}
 use Rattle.lf_yaml.specs.Flow.{Next, at_part, on_line, next_part, begins_blank}
-use Rattle.lf_yaml.proofs.HeadLaws.{tells}
 
 -- behind the blanks, by whether there were some
 abbrev pub part_after : ℕ → Bool → List Cell → List Row → Next
@@ -24,19 +25,15 @@ pub next-is : (end : ℕ) (blank : Bool) (cs : List Cell) (rs : List Row) → ne
 unfolding next_part
 next-is end blank [] rs = refl
 next-is end blank (c ∷ cs) rs =
-    elim (tells (is_blank c)) [
+    elim (cases_Bool (is_blank c)) [
       | inl a ↦ rw a (next-is end true cs rs ∙ ap (λ (b : Bool). part_after end b (after_blanks cs) rs) (or-true blank))
       | inr a ↦ rw a (ap (λ (b : Bool). part_after end b (c ∷ cs) rs) (or-false blank))
     ]
 
-cells-length : (at : ℕ) (xs : List ℕ) → length (cells at xs) ≡ length xs
-cells-length at [] = refl
-cells-length at (x ∷ xs) = ap suc (cells-length (suc at) xs)
-
 after-length : (cs : List Cell) → length (after_blanks cs) ≤ length cs
 after-length [] = omega arith
 after-length (c ∷ cs) =
-    elim (tells (is_blank c)) [
+    elim (cases_Bool (is_blank c)) [
       | inl a ↦ rw a (omega (arith, after-length cs))
       | inr a ↦ rw a (omega arith)
     ]
@@ -46,7 +43,7 @@ pub skipped-blank : (at k : ℕ) (text : List ℕ) → k ≤ length text → aft
 skipped-blank at k [] le e = sym (le-ltb 0 k (omega arith))
 skipped-blank at k (x ∷ xs) le e =
     let n : length (cells (at + k) (drop k (x ∷ xs))) ≡ suc (length xs) - k = cells-length (at + k) (drop k (x ∷ xs)) ∙ length-drop k (x ∷ xs) in
-    elim (tells (is_blank (cell x at))) [
+    elim (cases_Bool (is_blank (cell x at))) [
       | inl a ↦
           let f : after_blanks (cells (suc at) xs) ≡ cells (at + k) (drop k (x ∷ xs)) = rw a at e in
           let m : length (cells (suc at) xs) ≡ length xs = cells-length (suc at) xs in
@@ -80,10 +77,6 @@ module _ (end at k : ℕ) (text part : List ℕ) (rs : List Row) (le : k ≤ len
   pub next-here : 0 < length part → (k ≤ 0) ⊎ (get_or part 0 0 ≢ 35) → next_part end false (cells at text) rs ≡ at_part (cell (get_or part 0 0) (at + k)) (cells (suc (at + k)) (drop 1 part))
   next-here lt h = whole ∙ by part lt h
     where
-      and-false : (b : Bool) → (b && false) ≡ false
-      and-false true = refl
-      and-false false = refl
-
       by : (xs : List ℕ) → 0 < length xs → (k ≤ 0) ⊎ (get_or xs 0 0 ≢ 35) → part_after end (ltb 0 k) (cells (at + k) xs) rs ≡ at_part (cell (get_or xs 0 0) (at + k)) (cells (suc (at + k)) (drop 1 xs))
       by [] lt h = absurd (omega arith)
       by (x ∷ xs) lt (inl none) = rw (le-ltb 0 k none) refl

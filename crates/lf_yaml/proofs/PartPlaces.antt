@@ -45,7 +45,7 @@ part-start bytes (x ∷ xs) at utf8 e full within = by (drop at bytes) refl e
 
 -- ---- plain scalars
 
-first-utf8 : (end : ℕ) (ls : List Line) → LinesUtf8 ls → LinesUtf8 (first_line end ls ∷ later_lines ls)
+pub first-utf8 : (end : ℕ) (ls : List Line) → LinesUtf8 ls → LinesUtf8 (first_line end ls ∷ later_lines ls)
 first-utf8 end [] h = (utf8-nil, tt)
 first-utf8 end (l ∷ ls) h = h
 

@@ -1,29 +1,27 @@
 -- The rows of a file stand where they say: from a row's first cell on, its text is the rest of a line of the file.
-use Rattle.std.proofs.Common.{◌≡◌, ℕ, zero, suc, ◌+◌, Bool, true, false, eqb, cond, List, [], ◌∷◌, ◌++◌, length, drop, Some, None, refl, ap, arith, sym, ◌∙◌, subst, append_assoc, inl, inr}
+use Rattle.std.proofs.Common.{◌≡◌, ℕ, suc, ◌+◌, Bool, true, false, eqb, cond, List, [], ◌∷◌, ◌++◌, length, drop, Some, None, refl, ap, arith, sym, ◌∙◌, subst, append_assoc, inl, inr}
 use Rattle.std.specs.List.{AllByRecursion}
+use Rattle.std.proofs.lemmas.Bool.{cases_Bool}
+use Rattle.std.proofs.lemmas.List.{drop-drop}
 use Rattle.lf_scalar.specs.Cells.{Cell, cell, cells}
 use Rattle.lf_scalar.specs.Lines.{Line, line, lengthen, lines, first_text, begins_with, is_blank, after_spaces}
 use Rattle.lf_scalar.specs.Scalars.{source_at}
-use Rattle.lf_scalar.proofs.LineSteps.{line-step, lines-nil, lines-feed, lines-return, lines-other}
+use Rattle.lf_scalar.proofs.LineSteps.{line-step, lines-nil, lines-feed, lines-return, lines-other, first-lengthen}
 use Rattle.lf_scalar.specs.Lines.{start_of}
+use Rattle.lf_scalar.proofs.Tails.{some-is}
 use Rattle.lf_yaml.specs.Rows.{Row, row, text_of, headed, content_row, rows_of, left_of}
 pub use Rattle.lf_yaml.specs.views.Cursor.{IsPlaced}
-use Rattle.lf_yaml.proofs.HeadLaws.{tells}
 
 abbrev pub ArePlaced : List ℕ → List Row → Type 0
 ArePlaced bytes rs = AllByRecursion (IsPlaced bytes) rs
 
 -- ---- the first line of a source, cell by cell
 
-pub first-lengthen : (end : ℕ) (c : Cell) (ls : List Line) → first_text (lengthen end c ls) ≡ c ∷ first_text ls
-first-lengthen end c [] = refl
-first-lengthen end c (l ∷ ls) = refl
-
 pub nil-cons : {X : Type 0} {Y : Type 0} (x : X) (xs : List X) → [] ≡ x ∷ xs → Y
 nil-cons x xs e = absurd cc
 
-cons-head : (x y : Cell) (xs ys : List Cell) → x ∷ xs ≡ y ∷ ys → (x ≡ y) × (xs ≡ ys)
-cons-head x y xs ys e = (cc, cc)
+pub cons-cells : (x y : Cell) (xs ys : List Cell) → x ∷ xs ≡ y ∷ ys → (x ≡ y) × (xs ≡ ys)
+cons-cells x y xs ys e = (cc, cc)
 
 pub record FirstCell (end at : ℕ) (bs : List ℕ) (x : Cell) (more : List Cell) : Type 0 where
   pub later : List ℕ
@@ -40,7 +38,7 @@ first-cell end at (b ∷ bs) x more e =
       | inr (inr o) ↦
           let text : cell b at ∷ first_text (lines end (cells (suc at) bs)) ≡ x ∷ more =
           sym (first-lengthen end (cell b at) (lines end (cells (suc at) bs))) ∙ sym (ap first_text (lines-other end (cell b at) (cells (suc at) bs) o)) ∙ e in
-          let h = cons-head (cell b at) x (first_text (lines end (cells (suc at) bs))) more text in
+          let h = cons-cells (cell b at) x (first_text (lines end (cells (suc at) bs))) more text in
           record { later = bs; bytes = ap (λ (c : Cell). c.byte ∷ bs) h.0; place = sym (ap (λ (c : Cell). c.at) h.0); text = h.1 }
     ]
 
@@ -63,20 +61,11 @@ suffix end at bs (x ∷ front) c rest e =
 
 -- ---- what stands further on in a row
 
-nothing-drops : (n : ℕ) → drop {A = ℕ} n [] ≡ []
-nothing-drops zero = refl
-nothing-drops (suc n) = refl
-
-pub drops : (m n : ℕ) (bs : List ℕ) → drop n (drop m bs) ≡ drop (m + n) bs
-drops zero n bs = let z : 0 + n ≡ n = omega arith in ap (λ (k : ℕ). drop k bs) (sym z)
-drops (suc m) n [] = nothing-drops n ∙ sym (nothing-drops (suc m + n))
-drops (suc m) n (b ∷ bs) = let z : suc m + n ≡ suc (m + n) = omega arith in drops m n bs ∙ ap (λ (k : ℕ). drop k (b ∷ bs)) (sym z)
-
 pub placed-behind : (bytes : List ℕ) (r : Row) (begin : ℕ) (front : List Cell) (c : Cell) (rest : List Cell) → IsPlaced bytes r → text_of r ≡ front ++ c ∷ rest → IsPlaced bytes (row begin c rest)
 placed-behind bytes r begin front c rest h e =
     let k = suffix (length bytes) r.first.at (drop r.first.at bytes) front c rest (h ∙ e) in
     let d : source_at bytes c.at ≡ cells (r.first.at + length front) (drop (length front) (drop r.first.at bytes)) =
-    ap (λ (n : ℕ). cells n (drop n bytes)) k.place ∙ ap (λ (xs : List ℕ). cells (r.first.at + length front) xs) (sym (drops r.first.at (length front) bytes)) in
+    ap (λ (n : ℕ). cells n (drop n bytes)) k.place ∙ ap (λ (xs : List ℕ). cells (r.first.at + length front) xs) (sym (drop-drop (length front) r.first.at bytes)) in
     ap (λ (xs : List Cell). first_text (lines (length bytes) xs)) d ∙ k.text
 
 pub record Left (begin : ℕ) (cs : List Cell) (left : Row) : Type 0 where
@@ -84,23 +73,20 @@ pub record Left (begin : ℕ) (cs : List Cell) (left : Row) : Type 0 where
   pub source : cs ≡ front ++ text_of left
   pub same_begin : left.begin ≡ begin
 
-some-row : (r s : Row) → Some r ≡ Some s → r ≡ s
-some-row r s e = cc
-
-none-row : {X : Type 0} (s : Row) → None ≡ Some s → X
+pub none-row : {X : Type 0} (s : Row) → None ≡ Some s → X
 none-row s e = absurd cc
 
 pub left-suffix : (begin : ℕ) (cs : List Cell) (left : Row) → left_of begin cs ≡ Some left → Left begin cs left
 left-suffix begin [] left e = none-row left e
 left-suffix begin (c ∷ cs) left e =
-    elim (tells (is_blank c)) [
+    elim (cases_Bool (is_blank c)) [
       | inl a ↦
           let k = left-suffix begin cs left (rw a at e) in
           record { front = c ∷ k.front; source = ap (λ (xs : List Cell). c ∷ xs) k.source; same_begin = k.same_begin }
-      | inr a ↦ elim (tells (eqb c.byte 35)) [
+      | inr a ↦ elim (cases_Bool (eqb c.byte 35)) [
         | inl b ↦ none-row left (rw (a, b) at e)
         | inr b ↦
-            let same : row begin c cs ≡ left = some-row (row begin c cs) left (rw (a, b) at e) in
+            let same : row begin c cs ≡ left = some-is (row begin c cs) left (rw (a, b) at e) in
             record { front = []; source = ap text_of same; same_begin = ap (λ (x : Row). x.begin) (sym same) }
       ]
     ]
@@ -158,7 +144,7 @@ lines-stand end at (b ∷ bs) =
 pub after-suffix : (cs : List Cell) → (front : List Cell) × (cs ≡ front ++ after_spaces cs)
 after-suffix [] = ([], refl)
 after-suffix (c ∷ cs) =
-    elim (tells (eqb c.byte 32)) [
+    elim (cases_Bool (eqb c.byte 32)) [
       | inl a ↦ let k = after-suffix cs in (c ∷ k.0, rw a (ap (λ (xs : List Cell). c ∷ xs) k.1))
       | inr a ↦ ([], rw a refl)
     ]
@@ -174,11 +160,11 @@ row-placed bytes at l h = by (begins_with 35 (after_spaces l.text)) (after_space
         first : (front : List Cell) → l.text ≡ front ++ c ∷ cs → IsPlaced bytes (row (start_of l) c cs)
         first [] e =
             let k = h c cs e in
-            let d : source_at bytes c.at ≡ cells (at + k.0) (drop k.0 (drop at bytes)) = ap (λ (n : ℕ). cells n (drop n bytes)) k.1 ∙ ap (λ (xs : List ℕ). cells (at + k.0) xs) (sym (drops at k.0 bytes)) in
+            let d : source_at bytes c.at ≡ cells (at + k.0) (drop k.0 (drop at bytes)) = ap (λ (n : ℕ). cells n (drop n bytes)) k.1 ∙ ap (λ (xs : List ℕ). cells (at + k.0) xs) (sym (drop-drop k.0 at bytes)) in
             ap (λ (xs : List Cell). first_text (lines (length bytes) xs)) d ∙ k.2
         first (x ∷ front) e =
             let k = h x (front ++ c ∷ cs) e in
-            let d : source_at bytes x.at ≡ cells (at + k.0) (drop k.0 (drop at bytes)) = ap (λ (n : ℕ). cells n (drop n bytes)) k.1 ∙ ap (λ (xs : List ℕ). cells (at + k.0) xs) (sym (drops at k.0 bytes)) in
+            let d : source_at bytes x.at ≡ cells (at + k.0) (drop k.0 (drop at bytes)) = ap (λ (n : ℕ). cells n (drop n bytes)) k.1 ∙ ap (λ (xs : List ℕ). cells (at + k.0) xs) (sym (drop-drop k.0 at bytes)) in
             let whole : IsPlaced bytes (row 0 x (front ++ c ∷ cs)) = ap (λ (xs : List Cell). first_text (lines (length bytes) xs)) d ∙ k.2 in
             placed-behind bytes (row 0 x (front ++ c ∷ cs)) (start_of l) (x ∷ front) c cs whole refl
 

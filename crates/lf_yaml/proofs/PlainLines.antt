@@ -12,17 +12,13 @@ use Rattle.lf_scalar.specs.Lines.{Line, line, start_of, is_blank, after_blanks, 
 use Rattle.lf_scalar.specs.Folding.{fold}
 use Rattle.lf_scalar.specs.reading.Plain.{unless_key}
 use Rattle.lf_scalar.specs.reading.Quoted.{line_at}
-use Rattle.lf_scalar.proofs.PlainCode.{Read, yes, no, yes-is}
+use Rattle.lf_scalar.proofs.PlainCode.{Read, yes, no, yes-is, yes-no}
 use Rattle.lf_yaml.specs.Rows.{Row, is_mark, content_row}
 use Rattle.lf_yaml.specs.Flow.{line_on, flow_text, line_text, line_left, line_colon, colon_in, is_bare, is_nothing, is_spaces, is_flow_sign, goes_on, left_on}
 use Rattle.lf_yaml.specs.reading.Trees.{plain_line, Folded, before_text, plain_behind, plain_from}
 use Rattle.lf_yaml.specs.reading.FlowLines.{Steps, FoldsAs}
 use Rattle.lf_yaml.specs.declared.flow_plain.Folded.{Folded as Waiting}
-use Rattle.lf_yaml.specs.declared.flow_plain.Step.TheVariants as step
 use Rattle.lf_yaml.proofs.PartCode.{behind-is}
-
-yes-no : (x : List Cell) (f : Fault) → yes x ≡ no f → ⊥
-yes-no x f e = cc
 
 -- ---- one line
 
@@ -159,21 +155,7 @@ pub record Onto (feed : ℕ) (all : List Line) (old now : List Cell) (folded : W
   pub grown : now ≡ old ++ part
   pub same : plain_behind feed 0 all ≡ before_text part (plain_behind folded.at folded.blank left)
 
-pub onto-start : (feed : ℕ) (all : List Line) (old : List Cell) (folded : Waiting) → folded.at ≡ feed → folded.blank ≡ 0 → Onto feed all old old folded all
-onto-start feed all old folded a b = record { part = []; grown = sym (append-nil old); same = before-nil (plain_behind feed 0 all) ∙ rw (a, b) refl }
-
 module _ (feed : ℕ) (all : List Line) (old now : List Cell) (folded : Waiting) (l : Line) (left : List Line) (h : Onto feed all old now folded (l ∷ left)) where
-  pub onto-more : (next : Waiting) (new : List Cell) → Steps folded l (Ok (step.On next)) now new → Onto feed all old new next left
-  onto-more next new (part, n, e) =
-      record {
-        part = h.part ++ part;
-        grown = n ∙ ap (λ (x : List Cell). x ++ part) h.grown ∙ append_assoc old h.part part;
-        same = h.same ∙ ap (before_text h.part) (e left) ∙ before-twice h.part part (plain_behind next.at next.blank left);
-      }
-
-  pub onto-last : (after : ℕ) (new : List Cell) → Steps folded l (Ok (step.Ends after)) now new → (part : List Cell) × (plain_behind feed 0 all ≡ good part after) × (new ≡ old ++ part)
-  onto-last after new (part, n, e) = (h.part ++ part, h.same ∙ ap (before_text h.part) (e left), n ∙ ap (λ (x : List Cell). x ++ part) h.grown ∙ append_assoc old h.part part)
-
   pub onto-wrong : (e : Refusal) (new : List Cell) → Steps folded l (Err e) now new → Fails e (plain_behind feed 0 all)
   onto-wrong refusal_of.Memory new s = tt
   onto-wrong (refusal_of.At kind place) new s = h.same ∙ ap (before_text h.part) (s left)

@@ -1,7 +1,7 @@
 -- The rows from an offset on, line by line.
 use Rattle.std.proofs.Common.{◌≡◌, ℕ, zero, suc, ◌+◌, ◌-◌, ◌<◌, ◌≤◌, List, [], ◌∷◌, ◌++◌, length, get_or, drop, take, refl, ap, arith, sym, ◌∙◌, subst, length-drop, ◌⊎◌, inl, inr}
 use Rattle.std.specs.Str.{IsCharBoundary, IsUtf8}
-use Rattle.std.proofs.lemmas.List.{drop_all, get_or-take}
+use Rattle.std.proofs.lemmas.List.{drop_all, get_or-take, drop-drop}
 use Rattle.std.proofs.lemmas.Str.{IsCharBoundary-after_ascii, IsCharBoundary-end}
 use Rattle.lf_scalar.specs.Cells.{cells}
 use Rattle.lf_scalar.specs.Lines.{Line, line, lines, lines_at}
@@ -9,7 +9,7 @@ use Rattle.lf_scalar.specs.Scalars.{source_at}
 use Rattle.lf_scalar.proofs.LineSteps.{lines-nil}
 use Rattle.lf_yaml.specs.Rows.{Row, content_row, rows_of}
 use Rattle.lf_yaml.specs.views.Cursor.{rows_after, IsPlaced}
-use Rattle.lf_yaml.proofs.Placed.{drops, ArePlaced, file-placed}
+use Rattle.lf_yaml.proofs.Placed.{ArePlaced, file-placed}
 
 nil-rows : (end : ℕ) (ls : List Line) → ls ≡ [] → rows_of ls ≡ []
 unfolding rows_of
@@ -37,7 +37,7 @@ pub rows-line : (bytes : List ℕ) (from t f behind : ℕ) → from < length byt
     → rows_after bytes from ≡ content_row (line (cells from (take t (drop from bytes))) (from + f)) ++ rows_after bytes behind
 unfolding rows_after
 rows-line bytes from t f behind lt within e first =
-    let d : drop (f + 1) (drop from bytes) ≡ drop behind bytes = drops from (f + 1) bytes ∙ ap (λ (n : ℕ). drop n bytes) (omega arith) in
+    let d : drop (f + 1) (drop from bytes) ≡ drop behind bytes = drop-drop (f + 1) from bytes ∙ ap (λ (n : ℕ). drop n bytes) (omega arith) in
     let p : from + (f + 1) ≡ behind = omega arith in
     let later : lines_at (from + (f + 1)) (drop (f + 1) (drop from bytes)) ≡ lines (length bytes) (source_at bytes behind) =
     ap (λ (xs : List ℕ). lines_at (from + (f + 1)) xs) d ∙ ap (λ (n : ℕ). lines_at n (drop behind bytes)) p ∙ lines-from bytes behind (omega (arith, length-drop from bytes)) in
@@ -84,15 +84,6 @@ behind-start bytes from f behind rest utf8 e (inl (within, p)) feed =
     after-feed bytes from f behind utf8 (omega (arith, within, ap length e)) p (sym (ap (λ (xs : List ℕ). get_or xs f 0) e) ∙ feed within)
 behind-start bytes from f behind rest utf8 e (inr (within, p)) feed = subst (IsCharBoundary bytes) (sym p) (IsCharBoundary-end bytes)
 
--- a row of a line is the next row
-pub found-row : (bytes : List ℕ) (from behind : ℕ) (text : List ℕ) (r : Row) → (feed : ℕ) × (rows_after bytes from ≡ content_row (line (cells from text) feed) ++ rows_after bytes behind) → ((feed : ℕ) → content_row (line (cells from text) feed) ≡ r ∷ [])
-    → rows_after bytes from ≡ r ∷ rows_after bytes behind
-found-row bytes from behind text r h row = h.1 ∙ ap (λ (rs : List Row). rs ++ rows_after bytes behind) (row h.0)
-
-pub no-row : (bytes : List ℕ) (from behind : ℕ) (text : List ℕ) → (feed : ℕ) × (rows_after bytes from ≡ content_row (line (cells from text) feed) ++ rows_after bytes behind) → ((feed : ℕ) → content_row (line (cells from text) feed) ≡ [])
-    → rows_after bytes from ≡ rows_after bytes behind
-no-row bytes from behind text h none = h.1 ∙ ap (λ (rs : List Row). rs ++ rows_after bytes behind) (none h.0)
-
 -- ---- what is known of the next row
 
 pub placed-first : (bytes : List ℕ) (from : ℕ) (r : Row) (rs : List Row) → rows_after bytes from ≡ r ∷ rs → IsPlaced bytes r
@@ -125,7 +116,7 @@ drop-of-take (suc n) (suc k) (x ∷ xs) = let z : suc k - suc n ≡ k - n = omeg
 pub part-of-file : (bytes : List ℕ) (from at : ℕ) (text part : List ℕ) → from ≤ at → text ≡ take (length text) (drop from bytes) → part ≡ drop (at - from) text → part ≡ take (length part) (drop at bytes)
 part-of-file bytes from at text part le e p =
     let z : from + (at - from) ≡ at = omega arith in
-    let d : drop (at - from) (drop from bytes) ≡ drop at bytes = drops from (at - from) bytes ∙ ap (λ (m : ℕ). drop m bytes) z in
+    let d : drop (at - from) (drop from bytes) ≡ drop at bytes = drop-drop (at - from) from bytes ∙ ap (λ (m : ℕ). drop m bytes) z in
     let whole : part ≡ take (length text - (at - from)) (drop at bytes) =
     p ∙ ap (drop (at - from)) e ∙ drop-of-take (at - from) (length text) (drop from bytes) ∙ ap (take (length text - (at - from))) d in
     let n : length part ≡ length text - (at - from) = ap length p ∙ length-drop (at - from) text in

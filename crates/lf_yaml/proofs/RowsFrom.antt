@@ -1,8 +1,8 @@
 -- The rows from an offset on that begin at another or behind it.
-use Rattle.std.proofs.Common.{◌≡◌, ℕ, ◌<◌, ◌≤◌, Bool, true, false, cond, List, [], ◌∷◌, ◌++◌, length, drop, refl, ap, arith, sym, ◌∙◌}
+use Rattle.std.proofs.Common.{◌≡◌, ℕ, ◌≤◌, Bool, true, false, cond, List, [], ◌∷◌, ◌++◌, length, drop, refl, ap, arith, sym, ◌∙◌}
 use Rattle.std.specs.List.{AllByRecursion}
-use Rattle.std.proofs.lemmas.Bool.{le-ltb, lt-ltb}
-use Rattle.lf_scalar.specs.Cells.{Cell, cells}
+use Rattle.std.proofs.lemmas.Bool.{le-ltb}
+use Rattle.lf_scalar.specs.Cells.{Cell}
 use Rattle.lf_scalar.specs.Lines.{Line, line, lines, begins_with, after_spaces}
 use Rattle.lf_scalar.specs.Scalars.{source_at}
 use Rattle.lf_scalar.specs.Lines.{start_of}
@@ -12,25 +12,6 @@ use Rattle.lf_yaml.proofs.Placed.{Stands, AllStand, lines-stand, after-suffix}
 use Rattle.lf_yaml.proofs.RowsAfter.{rows-past}
 
 -- ---- a line before the offset gives none of them
-
-dropped : (offset begin : ℕ) (cs : List Cell) (rs : List Row) → begin < offset → rows_from offset (headed begin cs ++ rs) ≡ rows_from offset rs
-dropped offset begin [] rs lt = refl
-dropped offset begin (c ∷ cs) rs lt = rw (lt-ltb begin offset lt) refl
-
-no-cells : (from feed : ℕ) (text : List ℕ) (rs : List Row) (offset : ℕ) → from < offset → rows_from offset (headed (start_of (line (cells from text) feed)) (after_spaces (cells from text)) ++ rs) ≡ rows_from offset rs
-no-cells from feed [] rs offset lt = refl
-no-cells from feed (x ∷ xs) rs offset lt = dropped offset from (after_spaces (cells from (x ∷ xs))) rs lt
-
-pub line-before : (from feed : ℕ) (text : List ℕ) (rs : List Row) (offset : ℕ) → from < offset → rows_from offset (content_row (line (cells from text) feed) ++ rs) ≡ rows_from offset rs
-line-before from feed text rs offset lt = by (begins_with 35 (after_spaces (cells from text)))
-  where
-    by : (b : Bool) → rows_from offset (cond b [] (headed (start_of (line (cells from text) feed)) (after_spaces (cells from text))) ++ rs) ≡ rows_from offset rs
-    by true = refl
-    by false = no-cells from feed text rs offset lt
-
-pub step-from : (bytes : List ℕ) (from next behind offset : ℕ) (text : List ℕ) → next < offset → (feed : ℕ) × (rows_after bytes next ≡ content_row (line (cells next text) feed) ++ rows_after bytes behind)
-    → rows_from offset (rows_after bytes next) ≡ rows_from offset (rows_after bytes from) → rows_from offset (rows_after bytes behind) ≡ rows_from offset (rows_after bytes from)
-step-from bytes from next behind offset text lt h inv = sym (line-before next h.0 text (rows_after bytes behind) offset lt) ∙ ap (rows_from offset) (sym h.1) ∙ inv
 
 -- ---- the rows of lines from an offset on begin at it or behind it
 

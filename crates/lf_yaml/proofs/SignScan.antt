@@ -1,5 +1,5 @@
 -- Going over a key byte by byte, to the `:` that ends it.
-use Rattle.std.proofs.Common.{◌≡◌, ℕ, ◌+◌, ◌<◌, ◌≤◌, Bool, true, false, eqb, List, [], ◌∷◌, ◌++◌, Option, Some, None, length, get_or, take, drop, refl, ap, arith, append_assoc, sym, ◌∙◌, ◌&&◌, subst}
+use Rattle.std.proofs.Common.{◌≡◌, ℕ, ◌+◌, ◌<◌, ◌≤◌, Bool, true, false, eqb, List, [], ◌∷◌, ◌++◌, Option, Some, None, length, get_or, take, drop, refl, ap, append_assoc, sym, ◌∙◌, ◌&&◌, subst}
 use Rattle.std.proofs.lemmas.List.{append-nil, drop_all}
 use Rattle.lf_scalar.specs.Cells.{Cell, cell, cells}
 use Rattle.lf_scalar.specs.Lines.{is_blank, begins_with}
@@ -19,15 +19,6 @@ ahead-behind cs c (Some x) = ap (λ (xs : List Cell). Some (xs, x.1, x.2)) (sym 
 -- what ends a key, where the first bytes are passed
 abbrev pub key_from : Bool → ℕ → List ℕ → ℕ → Option Split
 key_from flow at text i = ahead (cells at (take i text)) (key_in (stops_of flow) before_blank (cells (at + i) (drop i text)))
-
-pub key-start : (flow : Bool) (at : ℕ) (text : List ℕ) → key_from flow at text 0 ≡ key_in (stops_of flow) before_blank (cells at text)
-key-start flow at text =
-    let z : at + 0 ≡ at = omega arith in
-    ap (λ (n : ℕ). ahead [] (key_in (stops_of flow) before_blank (cells n text))) z ∙ same (key_in (stops_of flow) before_blank (cells at text))
-  where
-    same : (o : Option Split) → ahead [] o ≡ o
-    same None = refl
-    same (Some x) = refl
 
 module _ (flow : Bool) (at : ℕ) (text : List ℕ) (i : ℕ) (lt : i < length text) where
   abbrev here : Cell

@@ -1,6 +1,7 @@
 -- How reading goes on at one row.
-use Rattle.std.proofs.Common.{◌≡◌, ℕ, zero, suc, ◌<◌, Bool, true, false, eqb, List, [], ◌∷◌, Ok, Err, length, eq-eqb, refl, arith, ◌∙◌, inl, inr, ◌&&◌}
+use Rattle.std.proofs.Common.{◌≡◌, ℕ, zero, suc, ◌<◌, Bool, true, false, eqb, List, [], ◌∷◌, Ok, Err, length, eq-eqb, refl, arith, ◌∙◌, inl, inr}
 use Rattle.std.proofs.lemmas.Bool.{le-ltb, lt-ltb}
+use Rattle.std.proofs.Math.Bool.{and-false}
 use Rattle.lf_base.specs.declared.kind.Kind.TheVariants.{TooDeep}
 use Rattle.lf_scalar.specs.Cells.{character_fault}
 use Rattle.lf_yaml.specs.Rows.{Row, indent, indent_fault}
@@ -63,10 +64,6 @@ item-nothing node m at (r ∷ rs) h = rw (le-ltb m (indent r) h) refl
 
 pub item-below : (node : Reader) (m at : ℕ) (r : Row) (rs : List Row) → m < indent r → item_next node m at (r ∷ rs) ≡ node (suc m) r rs
 item-below node m at r rs lt = rw (lt-ltb m (indent r) lt) refl
-
-and-false : (b : Bool) → (b && false) ≡ false
-and-false true = refl
-and-false false = refl
 
 no-eqb : (a b : ℕ) → a < b → eqb a b ≡ false
 no-eqb a b lt = grind arith

@@ -1,9 +1,9 @@
 -- How a row begins as a scalar, by its first byte.
-use Rattle.std.proofs.Common.{◌≡◌, ◌≢◌, ℕ, suc, ◌<◌, Bool, true, false, ◌∷◌, length, get_or, drop, refl, ap, sym, ◌∙◌, ◌&&◌}
+use Rattle.std.proofs.Common.{◌≡◌, ◌≢◌, ◌<◌, Bool, length, get_or, refl, ap, sym, ◌∙◌}
 use Rattle.std.proofs.lemmas.Bool.{ne_eqb}
 use Rattle.lf_scalar.specs.declared.scalar.Style.{Style}
 use Rattle.lf_scalar.specs.declared.scalar.Style.TheVariants as style
-use Rattle.lf_scalar.specs.Cells.{Cell, cell, cells}
+use Rattle.lf_scalar.specs.Cells.{Cell, cells}
 use Rattle.lf_scalar.specs.Plain.{begins_plain}
 use Rattle.lf_scalar.specs.Scalars.{begins}
 use Rattle.lf_yaml.specs.Rows.{text_of}
@@ -12,12 +12,6 @@ use Rattle.lf_yaml.specs.views.Shown.{shown}
 use Rattle.lf_yaml.specs.declared.row.Row.{Row as CodeRow}
 use Rattle.lf_yaml.proofs.RowCode.{text-shown}
 
-abbrev styled : CodeRow → ℕ → Bool
-styled r b = begins (style_of (cell b r.at)) (cell b r.at ∷ cells (suc r.at) (drop 1 r.text.now))
-
-pub styled-by : (r : CodeRow) (b : ℕ) → get_or r.text.now 0 0 ≡ b → begins (style_of (cell b r.at)) (cell b r.at ∷ cells (suc r.at) (drop 1 r.text.now)) ≡ true → true ≡ begins (style_of (shown r).first) (text_of (shown r))
-styled-by r b e h = sym (ap (styled r) e ∙ h)
-
 plain-style : (c : Cell) → c.byte ≢ 124 → c.byte ≢ 62 → c.byte ≢ 39 → c.byte ≢ 34 → style_of c ≡ style.Plain
 plain-style c p q s t = rw (ne_eqb c.byte 124 p, ne_eqb c.byte 62 q, ne_eqb c.byte 39 s, ne_eqb c.byte 34 t) refl
 
@@ -25,7 +19,3 @@ pub styled-plain : (r : CodeRow) (result : Bool) → 0 < length r.text.now → g
     → result ≡ begins_plain (cells r.at r.text.now) → result ≡ begins (style_of (shown r).first) (text_of (shown r))
 styled-plain r result lt p q s t h =
     h ∙ ap begins_plain (sym (text-shown r lt)) ∙ ap (λ (x : Style). begins x (text_of (shown r))) (sym (plain-style (shown r).first p q s t))
-
-pub and-left : (a b : Bool) → (a && b) ≡ true → a ≡ true
-and-left true b h = refl
-and-left false b h = h

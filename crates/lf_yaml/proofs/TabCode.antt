@@ -1,10 +1,9 @@
 -- A tab behind an item's sign, as the code finds it.
 use Rattle.std.proofs.Common.{◌≡◌, ℕ, zero, suc, ◌+◌, true, false, eqb, List, [], ◌∷◌, Option, Some, None, get_or, drop, refl, ap, sym, ◌∙◌, inl, inr, if◌then◌else◌}
-use Rattle.std.proofs.lemmas.Bool.{eqb-true}
+use Rattle.std.proofs.lemmas.Bool.{eqb-true, cases_Bool}
 use Rattle.lf_scalar.specs.Cells.{Cell, cell, cells}
 use Rattle.lf_scalar.specs.Lines.{after_spaces}
 use Rattle.lf_yaml.specs.Rows.{tab_in}
-use Rattle.lf_yaml.proofs.HeadLaws.{tells}
 
 abbrev head_tab : List Cell → Option Cell
 head_tab [] = None
@@ -13,7 +12,7 @@ head_tab (c ∷ cs) = if eqb c.byte 9 then Some c else None
 tab-is : (cs : List Cell) → tab_in cs ≡ head_tab (after_spaces cs)
 tab-is [] = refl
 tab-is (c ∷ cs) =
-    elim (tells (eqb c.byte 32)) [
+    elim (cases_Bool (eqb c.byte 32)) [
       | inl a ↦ rw a (tab-is cs)
       | inr a ↦ rw a refl
     ]

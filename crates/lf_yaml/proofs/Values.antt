@@ -1,7 +1,7 @@
 -- Scalars and flow collections on a row are read: what stands is read, a breach is answered, and what is answered is one of both.
-use Rattle.std.proofs.Common.{◌≡◌, ℕ, zero, suc, Bool, true, false, eqb, not, List, [], ◌∷◌, Option, Some, None, Result, Ok, Err, length, eq-eqb, refl, ap, sym, ◌∙◌, subst, ◌⊎◌, inl, inr, ◌&&◌, ◌||◌}
+use Rattle.std.proofs.Common.{◌≡◌, ℕ, zero, suc, Bool, true, false, eqb, not, List, [], ◌∷◌, Option, Some, None, Result, Ok, Err, length, eq-eqb, refl, ap, sym, ◌∙◌, subst, ◌⊎◌, inl, inr, ◌||◌}
 use Rattle.std.specs.Prelude.{nat_lt}
-use Rattle.std.proofs.lemmas.Bool.{eqb-true}
+use Rattle.std.proofs.lemmas.Bool.{eqb-true, cases_Bool, and_parts}
 use Rattle.lf_base.specs.declared.kind.Kind.TheVariants.{TooDeep}
 use Rattle.lf_base.specs.declared.fault.Fault.{Fault}
 use Rattle.lf_base.specs.Faults.{span}
@@ -21,7 +21,6 @@ use Rattle.lf_yaml.specs.Nodes as nodes
 use Rattle.lf_yaml.specs.Breaches as breaches
 use Rattle.lf_yaml.specs.reading.Trees.{FlowRead, sequence_in, mapping_in, Read, alone, closed_list, flow_list, closed_map, flow_map, scalar_on, scalar_value, value_on}
 use Rattle.lf_yaml.proofs.Ends.{IsEnd, end-all, end-behind}
-use Rattle.lf_yaml.proofs.HeadLaws.{tells}
 use Rattle.lf_yaml.proofs.Sequences.{sequence-is, sequence-breaks, SequenceTold, sequence-tells, always-enough}
 use Rattle.lf_yaml.proofs.Mappings.{mapping-is, mapping-breaks, MappingTold, mapping-tells}
 use Rattle.lf_yaml.proofs.Placed.{IsPlaced}
@@ -108,14 +107,10 @@ module _ (bytes : List ℕ) (above : ℕ) where
   scalar-told d r rs b (Ok v) h = nodes.ValueAt.scalar rs b h
   scalar-told d r rs b (Err f) h = breaches.ValueBreaks.scalar rs b h
 
-  and-left : (a b : Bool) → (a && b) ≡ true → a ≡ true
-  and-left true b h = refl
-  and-left false b h = h
-
   scalar-tells : (d : ℕ) (r : Row) (rs : List Row) → IsPlaced bytes r → begins_scalar r ≡ true → ValueTold d r rs (scalar_value rs (scalar_on bytes above r))
   scalar-tells d r rs placed b =
       let h : begins (style_of r.first) (first_text (lines end (source_at bytes r.first.at))) ≡ true =
-      ap (begins (style_of r.first)) placed ∙ and-left (begins (style_of r.first) (text_of r)) (not (is_left_out r)) b in
+      ap (begins (style_of r.first)) placed ∙ (and_parts (begins (style_of r.first) (text_of r)) (not (is_left_out r)) b).0 in
       scalar-told d r rs b (scalar_on bytes above r) (scalars.tells (style_of r.first) above end (source_at bytes r.first.at) h)
 
   list-told : (d : ℕ) (r : Row) (rs : List Row) → r.first.byte ≡ 91 → (read : FlowRead Items) → SequenceTold bytes (suc r.first.at) read → ValueTold (suc d) r rs (closed_list bytes r rs read)
@@ -145,9 +140,9 @@ module _ (bytes : List ℕ) (above : ℕ) where
   pub value-tells : (d : ℕ) (r : Row) (rs : List Row) → IsPlaced bytes r → ValueTold d r rs (value_on bytes above d r rs)
   unfolding value_on
   value-tells d r rs placed =
-      elim (tells (begins_scalar r)) [
+      elim (cases_Bool (begins_scalar r)) [
         | inl b ↦ rw b (scalar-tells d r rs placed b)
-        | inr b ↦ elim (tells (is_bracket r.first)) [
+        | inr b ↦ elim (cases_Bool (is_bracket r.first)) [
           | inl k ↦ elim (bracket-cases r.first k) [
             | inl e ↦ subst (ValueTold d r rs) (sym (list-on d r rs e)) (list-tells d r rs e k)
             | inr e ↦ subst (ValueTold d r rs) (sym (map-on d r rs e)) (map-tells d r rs e k)
@@ -161,7 +156,7 @@ module _ (bytes : List ℕ) (above : ℕ) where
   pub from-end : (at : ℕ) (rs : List Row) → IsEnd rs (rows_from at rs)
   from-end at [] = end-all []
   from-end at (r ∷ rs) =
-      elim (tells (nat_lt r.begin at)) [
+      elim (cases_Bool (nat_lt r.begin at)) [
         | inl h ↦ rw h (end-behind r rs (rows_from at rs) (from-end at rs))
         | inr h ↦ rw h (end-all (r ∷ rs))
       ]

@@ -14,6 +14,7 @@ use crate::entries::{Below, EntryRow};
 use crate::head::{byte_fault, indent, is_item, left};
 use crate::row::Row;
 use crate::rows::next_row;
+use crate::source::Source;
 use lf_base::{Kind, Refusal};
 use lf_scalar::lines::{past, spaces};
 
@@ -51,29 +52,25 @@ fn is_tab(text: &[u8], place: usize) -> bool
 }
 
 /// The next row of a file from the start of a line on, and where the line behind it begins.
-pub fn first_row(bytes: &[u8], next: usize) -> Option<(Row<'_>, usize)>
-    requires text { IsUtf8 bytes.now }
-    requires room { length bytes.now ≤ 2 ^ 31 }
-    requires start { IsCharBoundary bytes.now next }
-    ensures rows { MatchOption result (rows_after bytes.entry.now next ≡ []) (λ x. rows_after bytes.entry.now next ≡ shown x.0 ∷ rows_after bytes.entry.now x.1) }
-    ensures row { IfSome result (λ x. IsRowOf bytes.entry.now x.0) }
-    ensures start { IfSome result (λ x. IsCharBoundary bytes.entry.now x.1) }
+pub fn first_row(source: Source<'_>, next: usize) -> Option<(Row<'_>, usize)>
+    requires start { IsCharBoundary source.bytes.now next }
+    ensures rows { MatchOption result (rows_after source.entry.bytes.now next ≡ []) (λ x. rows_after source.entry.bytes.now next ≡ shown x.0 ∷ rows_after source.entry.bytes.now x.1) }
+    ensures row { IfSome result (λ x. IsRowOf source.entry.bytes.now x.0) }
+    ensures start { IfSome result (λ x. IsCharBoundary source.entry.bytes.now x.1) }
     ensures further { IfSome result (λ x. next < x.1) }
 {
-    next_row(bytes, next)
+    next_row(source, next)
 }
 
 /// The row on which the value of an item at an indent begins, where it stands below the item.
-pub fn row_below(bytes: &[u8], column: u32, next: usize) -> Option<(Row<'_>, usize)>
-    requires text { IsUtf8 bytes.now }
-    requires room { length bytes.now ≤ 2 ^ 31 }
-    requires start { IsCharBoundary bytes.now next }
-    ensures rows { MatchOption result (NoneBelow column (rows_after bytes.entry.now next)) (λ x. (column < indent_of (shown x.0)) × (rows_after bytes.entry.now next ≡ shown x.0 ∷ rows_after bytes.entry.now x.1)) }
-    ensures row { IfSome result (λ x. IsRowOf bytes.entry.now x.0) }
-    ensures start { IfSome result (λ x. IsCharBoundary bytes.entry.now x.1) }
+pub fn row_below(source: Source<'_>, column: u32, next: usize) -> Option<(Row<'_>, usize)>
+    requires start { IsCharBoundary source.bytes.now next }
+    ensures rows { MatchOption result (NoneBelow column (rows_after source.entry.bytes.now next)) (λ x. (column < indent_of (shown x.0)) × (rows_after source.entry.bytes.now next ≡ shown x.0 ∷ rows_after source.entry.bytes.now x.1)) }
+    ensures row { IfSome result (λ x. IsRowOf source.entry.bytes.now x.0) }
+    ensures start { IfSome result (λ x. IsCharBoundary source.entry.bytes.now x.1) }
     ensures further { IfSome result (λ x. next < x.1) }
 {
-    match first_row(bytes, next) {
+    match first_row(source, next) {
         Some((row, behind)) => {
             if column < indent(row) {
                 Some((row, behind))
@@ -86,16 +83,14 @@ pub fn row_below(bytes: &[u8], column: u32, next: usize) -> Option<(Row<'_>, usi
 }
 
 /// The row on which the value of an entry begins below the entry, where one does: with a larger indent, or an item at the same.
-pub fn row_beside(bytes: &[u8], column: u32, next: usize) -> Option<Below<'_>>
-    requires text { IsUtf8 bytes.now }
-    requires room { length bytes.now ≤ 2 ^ 31 }
-    requires start { IsCharBoundary bytes.now next }
-    ensures rows { MatchOption result (NothingBelow column (rows_after bytes.entry.now next)) (λ b. IsBelow b.own column (shown b.row) × (rows_after bytes.entry.now next ≡ shown b.row ∷ rows_after bytes.entry.now b.behind)) }
-    ensures row { IfSome result (λ b. IsRowOf bytes.entry.now b.row) }
-    ensures start { IfSome result (λ b. IsCharBoundary bytes.entry.now b.behind) }
+pub fn row_beside(source: Source<'_>, column: u32, next: usize) -> Option<Below<'_>>
+    requires start { IsCharBoundary source.bytes.now next }
+    ensures rows { MatchOption result (NothingBelow column (rows_after source.entry.bytes.now next)) (λ b. IsBelow b.own column (shown b.row) × (rows_after source.entry.bytes.now next ≡ shown b.row ∷ rows_after source.entry.bytes.now b.behind)) }
+    ensures row { IfSome result (λ b. IsRowOf source.entry.bytes.now b.row) }
+    ensures start { IfSome result (λ b. IsCharBoundary source.entry.bytes.now b.behind) }
     ensures further { IfSome result (λ b. next < b.behind) }
 {
-    match first_row(bytes, next) {
+    match first_row(source, next) {
         Some((row, behind)) => {
             if indent(row) > column {
                 let own = false;

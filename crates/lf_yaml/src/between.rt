@@ -1,6 +1,5 @@
 //! Scalars between quotes that close on their line.
 ghost use Rattle.std.specs.Prelude.{◌≡◌, ℕ, ◌+◌, ◌<◌, ◌≤◌, ◌^◌, ◌∷◌, length, get_or, take, drop, Some};
-ghost use Rattle.std.specs.Str.{IsUtf8};
 ghost use Rattle.lf_base.specs.Answers.{AnswersAs};
 ghost use Rattle.lf_scalar.specs.Cells.{cell};
 ghost use Rattle.lf_scalar.specs.Quoted.{quote_of};
@@ -9,11 +8,11 @@ ghost use Rattle.lf_scalar.specs.views.Built.{shown};
 ghost use Rattle.lf_yaml.specs.reading.Trees.{between_of};
 ghost use Rattle.lf_yaml.specs.views.Quoting.{style_of_quotes};
 
+use crate::source::Source;
 use lf_base::Refusal;
 use lf_base::bytes::before;
 use lf_scalar::quotes::Quotes;
 use lf_scalar::{Scalar, Style, read_scalar};
-use std::alloc::Global;
 
 /// The style of a scalar between these quotes.
 fn style_of(quote: Quotes) -> Style
@@ -27,22 +26,19 @@ fn style_of(quote: Quotes) -> Style
 
 /// The scalar between quotes that begins at an offset of a file. `inside` is what stands behind its quote on the line, where the closing quote is at a place.
 pub fn quoted_scalar(
-    alloc: Global,
-    bytes: &[u8],
+    source: Source<'_>,
     at: u32,
     inside: &[u8],
     quote: Quotes,
     closing: usize,
 ) -> Result<Scalar, Refusal>
-    requires text { IsUtf8 bytes.now }
-    requires room { length bytes.now ≤ 2 ^ 31 }
-    requires quote { get_or bytes.now at 0 ≡ quote_of quote }
-    requires inside { get_or bytes.now at 0 ∷ inside.now ≡ take (length inside.now + 1) (drop at bytes.now) }
+    requires quote { get_or source.bytes.now at 0 ≡ quote_of quote }
+    requires inside { get_or source.bytes.now at 0 ∷ inside.now ≡ take (length inside.now + 1) (drop at source.bytes.now) }
     requires closing { closing < length inside.now }
     requires closes { get_or inside.now closing 0 ≡ quote_of quote }
-    requires within { at + length inside.now + 1 ≤ length bytes.now }
-    ensures { AnswersAs shown result (between_of quote (cell (get_or bytes.now at 0) at) (Some (split_of (at + 1) inside.now closing))) }
+    requires within { at + length inside.now + 1 ≤ length source.bytes.now }
+    ensures { AnswersAs shown result (between_of quote (cell (get_or source.entry.bytes.now at 0) at) (Some (split_of (at + 1) inside.now closing))) }
 {
-    let cut = before(bytes, at as usize + closing + 2);
-    read_scalar(alloc, cut, at, -1, style_of(quote))
+    let cut = before(source.bytes, at as usize + closing + 2);
+    read_scalar(source.alloc, cut, at, -1, style_of(quote))
 }

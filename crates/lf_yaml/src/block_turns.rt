@@ -1,6 +1,6 @@
 //! What the rows behind a part of a block collection are: its next part, its end, or what breaks it.
 ghost use Rattle.std.specs.Prelude.{◌≡◌, ℕ, ◌<◌, ◌≤◌, ◌^◌, List, length, MatchOption, None, Some, IfOk, IfSome, option_map};
-ghost use Rattle.std.specs.Str.{IsCharBoundary, IsUtf8};
+ghost use Rattle.std.specs.Str.{IsCharBoundary};
 ghost use Rattle.lf_base.specs.Answers.{AnswersAs};
 ghost use Rattle.lf_scalar.specs.views.Built.{refused};
 ghost use Rattle.lf_yaml.specs.reading.Trees.{entry_of, begins_block as begins_block_of};
@@ -14,6 +14,7 @@ use crate::entries::EntryRow;
 use crate::entry::{find_entry, opens_quote};
 use crate::head::{byte_fault, indent, indent_fault, is_item, row_fault};
 use crate::row::Row;
+use crate::source::Source;
 use lf_base::{Kind, Refusal};
 
 /// Whether a row begins a block sequence or a block mapping.
@@ -27,20 +28,18 @@ pub fn begins_block(row: Row<'_>) -> bool
 /// around it, its own, ends before a row there that is no item.
 #[tactic(auto, unfolding(crate::specs::reading::BlockTurns::item_turn))]
 pub fn next_item(
-    bytes: &[u8],
+    source: Source<'_>,
     own: bool,
     column: u32,
     next: usize,
 ) -> Result<Option<(Row<'_>, usize)>, Refusal>
-    requires text { IsUtf8 bytes.now }
-    requires room { length bytes.now ≤ 2 ^ 31 }
-    requires start { IsCharBoundary bytes.now next }
-    ensures turn { AnswersAs (option_map (λ x. (shown x.0, rows_after bytes.entry.now x.1))) result (item_turn own column (rows_after bytes.entry.now next)) }
-    ensures row { IfOk result (λ o. IfSome o (λ x. IsRowOf bytes.entry.now x.0)) }
-    ensures start { IfOk result (λ o. IfSome o (λ x. IsCharBoundary bytes.entry.now x.1)) }
+    requires start { IsCharBoundary source.bytes.now next }
+    ensures turn { AnswersAs (option_map (λ x. (shown x.0, rows_after source.entry.bytes.now x.1))) result (item_turn own column (rows_after source.entry.bytes.now next)) }
+    ensures row { IfOk result (λ o. IfSome o (λ x. IsRowOf source.entry.bytes.now x.0)) }
+    ensures start { IfOk result (λ o. IfSome o (λ x. IsCharBoundary source.entry.bytes.now x.1)) }
     ensures further { IfOk result (λ o. IfSome o (λ x. next < x.1)) }
 {
-    match first_row(bytes, next) {
+    match first_row(source, next) {
         Some((row, behind)) => {
             if column < indent(row) {
                 return Err(indent_fault(row));
@@ -82,15 +81,17 @@ fn no_entry(row: Row<'_>) -> Refusal
 
 /// The next entry of a mapping at an indent; none where the mapping ends.
 #[tactic(auto, unfolding(crate::specs::reading::BlockTurns::entry_turn))]
-pub fn next_entry(bytes: &[u8], column: u32, next: usize) -> Result<Option<EntryRow<'_>>, Refusal>
-    requires text { IsUtf8 bytes.now }
-    requires room { length bytes.now ≤ 2 ^ 31 }
-    requires start { IsCharBoundary bytes.now next }
-    ensures turn { AnswersAs (option_map (entry_shown bytes.entry.now)) result (entry_turn column (rows_after bytes.entry.now next)) }
-    ensures entry { IfOk result (λ o. IfSome o (IsEntryRow bytes.entry.now)) }
+pub fn next_entry(
+    source: Source<'_>,
+    column: u32,
+    next: usize,
+) -> Result<Option<EntryRow<'_>>, Refusal>
+    requires start { IsCharBoundary source.bytes.now next }
+    ensures turn { AnswersAs (option_map (entry_shown source.entry.bytes.now)) result (entry_turn column (rows_after source.entry.bytes.now next)) }
+    ensures entry { IfOk result (λ o. IfSome o (IsEntryRow source.entry.bytes.now)) }
     ensures further { IfOk result (λ o. IfSome o (λ e. next < e.behind)) }
 {
-    match first_row(bytes, next) {
+    match first_row(source, next) {
         Some((row, behind)) => {
             if indent(row) > column {
                 return Err(indent_fault(row));

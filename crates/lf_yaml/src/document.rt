@@ -1,6 +1,6 @@
 //! A file and its tree.
 ghost use Rattle.std.specs.Prelude.{◌≡◌, ℕ, [], ◌∷◌, ◌≤◌, ◌^◌, length, false, MatchOption, IfOk, IfSome};
-ghost use Rattle.std.specs.Str.{IsCharBoundary, IsUtf8};
+ghost use Rattle.std.specs.Str.{IsCharBoundary};
 ghost use Rattle.lf_base.specs.Answers.{AnswersAs, Found, Only, Refused, Breach, RefusedIn};
 ghost use Rattle.lf_scalar.specs.Cells.{cells};
 ghost use Rattle.lf_scalar.specs.views.Built.{refused};
@@ -22,6 +22,7 @@ use crate::made::empty;
 use crate::nested::node;
 use crate::node::Node;
 use crate::row::Row;
+use crate::source::Source;
 use lf_base::Refusal;
 use lf_scalar::lines::wrong_behind;
 use std::alloc::Global;
@@ -46,22 +47,20 @@ pub fn read_tree(alloc: Global, bytes: &[u8]) -> Result<Node, Refusal>
     ensures inside { IfOk result (λ n. Inside (length bytes.now) (tree n)) }
 {
     match check_characters(bytes) {
-        Ok(_) => document(alloc, bytes),
+        Ok(_) => document(Source { alloc, bytes }),
         Err(refusal) => Err(refusal),
     }
 }
 
 /// The tree of a file whose characters are allowed.
-fn document(alloc: Global, bytes: &[u8]) -> Result<Node, Refusal>
-    requires text { IsUtf8 bytes.now }
-    requires room { length bytes.now ≤ 2 ^ 31 }
-    ensures { AnswersAs tree result (document_of bytes.now (document_rows bytes.now)) }
+fn document(source: Source<'_>) -> Result<Node, Refusal>
+    ensures { AnswersAs tree result (document_of source.entry.bytes.now (document_rows source.entry.bytes.now)) }
 {
-    match root_row(bytes) {
-        None => empty(alloc, 0),
+    match root_row(source) {
+        None => empty(source.alloc, 0),
         Some((row, behind)) => {
-            let (root, left) = node(alloc, bytes, 16, false, 0, row, behind)?;
-            match first_row(bytes, left) {
+            let (root, left) = node(source, 16, false, 0, row, behind)?;
+            match first_row(source, left) {
                 None => Ok(root),
                 Some((next, _)) => Err(behind_root(row, next)),
             }
@@ -70,17 +69,15 @@ fn document(alloc: Global, bytes: &[u8]) -> Result<Node, Refusal>
 }
 
 /// The row on which the root begins, and where the line behind it begins.
-fn root_row(bytes: &[u8]) -> Option<(Row<'_>, usize)>
-    requires text { IsUtf8 bytes.now }
-    requires room { length bytes.now ≤ 2 ^ 31 }
-    ensures rows { MatchOption result (document_rows bytes.entry.now ≡ []) (λ x. document_rows bytes.entry.now ≡ shown x.0 ∷ rows_after bytes.entry.now x.1) }
-    ensures row { IfSome result (λ x. IsRowOf bytes.entry.now x.0) }
-    ensures start { IfSome result (λ x. IsCharBoundary bytes.entry.now x.1) }
+fn root_row(source: Source<'_>) -> Option<(Row<'_>, usize)>
+    ensures rows { MatchOption result (document_rows source.entry.bytes.now ≡ []) (λ x. document_rows source.entry.bytes.now ≡ shown x.0 ∷ rows_after source.entry.bytes.now x.1) }
+    ensures row { IfSome result (λ x. IsRowOf source.entry.bytes.now x.0) }
+    ensures start { IfSome result (λ x. IsCharBoundary source.entry.bytes.now x.1) }
 {
-    match first_row(bytes, mark_length(bytes)) {
+    match first_row(source, mark_length(source.bytes)) {
         Some((row, behind)) => {
             if is_opening(row) {
-                first_row(bytes, behind)
+                first_row(source, behind)
             } else {
                 Some((row, behind))
             }

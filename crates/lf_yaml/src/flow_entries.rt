@@ -1,6 +1,5 @@
 //! Flow mappings.
 ghost use Rattle.std.specs.Prelude.{◌≡◌, ℕ, suc, ◌<◌, ◌≤◌, ◌^◌, List, [], ◌∷◌, ◌++◌, length, get_or, IfOk};
-ghost use Rattle.std.specs.Str.{IsUtf8};
 ghost use Rattle.lf_base.specs.Answers.{AnswersAs};
 ghost use Rattle.lf_scalar.specs.views.Built.{shown as scalar_shown};
 ghost use Rattle.lf_yaml.specs.Tree.{leaf, pair};
@@ -20,10 +19,10 @@ use crate::node::Entry;
 use crate::parts::{behind, next_part};
 use crate::place::Place;
 use crate::row::Row;
+use crate::source::Source;
 use crate::turn::Turn;
 use lf_base::{Kind, Refusal, Seq};
 use lf_scalar::Scalar;
-use std::alloc::Global;
 
 /// The entry of a key whose value is a scalar.
 fn scalar_entry(key: Scalar, of: Scalar) -> Entry
@@ -37,21 +36,18 @@ fn scalar_entry(key: Scalar, of: Scalar) -> Entry
 
 /// The key that a part begins, and the place of its `:` in the part. It is put into the set of the keys before it, to which it is new.
 fn new_key(
-    alloc: Global,
-    bytes: &[u8],
+    source: Source<'_>,
     keys: &mut KeySet,
     part: Row<'_>,
     next: usize,
 ) -> Result<(Scalar, usize), Refusal>
-    requires utf8 { IsUtf8 bytes.now }
-    requires room { length bytes.now ≤ 2 ^ 31 }
-    requires part { IsPartIn bytes.now part next }
-    ensures gives { (before : List (List ℕ)) → HasKeys keys.old before → AnswersAs (signed part.entry) result (new_key_of bytes.now before (shown part.entry).first (shown part.entry).rest) }
+    requires part { IsPartIn source.bytes.now part next }
+    ensures gives { (before : List (List ℕ)) → HasKeys keys.old before → AnswersAs (signed part.entry) result (new_key_of source.entry.bytes.now before (shown part.entry).first (shown part.entry).rest) }
     ensures keys { (before : List (List ℕ)) → HasKeys keys.old before → IfOk result (λ x. HasKeys keys.new (before ++ x.0.text ∷ [])) }
     ensures within { IfOk result (λ x. x.1 < length part.entry.text.now) }
     ensures sign { IfOk result (λ x. get_or part.entry.text.now x.1 0 ≡ 58) }
 {
-    match flow_key(alloc, bytes, part, next) {
+    match flow_key(source, part, next) {
         Ok((key, place)) => {
             if keys.contains(key.text.as_str()) {
                 return Err(Refusal::At {
@@ -70,24 +66,21 @@ fn new_key(
 
 /// The entry that a part begins, and the place behind it.
 fn entry_from<'a>(
-    alloc: Global,
-    bytes: &'a [u8],
+    source: Source<'a>,
     keys: &mut KeySet,
     part: Row<'a>,
     next: usize,
 ) -> Result<(Entry, Place<'a>), Refusal>
-    requires utf8 { IsUtf8 bytes.now }
-    requires room { length bytes.now ≤ 2 ^ 31 }
-    requires part { IsPartIn bytes.now part next }
-    ensures gives { (before : List (List ℕ)) → HasKeys keys.old before → AnswersAs left_behind result (entry_at bytes.entry.now before (shown part.entry).first (shown part.entry).rest) }
+    requires part { IsPartIn source.bytes.now part next }
+    ensures gives { (before : List (List ℕ)) → HasKeys keys.old before → AnswersAs left_behind result (entry_at source.entry.bytes.now before (shown part.entry).first (shown part.entry).rest) }
     ensures keys { (before : List (List ℕ)) → HasKeys keys.old before → IfOk result (λ x. HasKeys keys.new (before ++ (pair x.0).0.text ∷ [])) }
-    ensures place { IfOk result (λ x. IsPlaceIn bytes.entry.now x.1) }
+    ensures place { IfOk result (λ x. IsPlaceIn source.entry.bytes.now x.1) }
     ensures further { IfOk result (λ x. part.entry.at ≤ x.1.at) }
 {
-    match new_key(alloc, bytes, keys, part, next) {
+    match new_key(source, keys, part, next) {
         Ok((key, colon)) => {
             let at = part.at + colon as u32;
-            match flow_value(alloc, bytes, at, behind(part, colon + 1, next)) {
+            match flow_value(source, at, behind(part, colon + 1, next)) {
                 Ok((of, place)) => Ok((scalar_entry(key, of), place)),
                 Err(refusal) => Err(refusal),
             }
@@ -98,19 +91,17 @@ fn entry_from<'a>(
 
 /// What stands behind an entry: a comma, or the bracket that closes.
 fn entry_sign<'a>(
-    bytes: &'a [u8],
+    source: Source<'a>,
     found: Entry,
     place: Place<'a>,
 ) -> Result<Turn<'a, Entry>, Refusal>
-    requires utf8 { IsUtf8 bytes.now }
-    requires room { length bytes.now ≤ 2 ^ 31 }
-    requires place { IsPlaceIn bytes.now place }
+    requires place { IsPlaceIn source.bytes.now place }
     ensures gives { (later : Later) (before : List (List ℕ)) → TurnsEntries later before result
-        (mapping_sign (λ at. later (before ++ (pair found).0.text ∷ []) at) (pair found).0 (pair found).1 (next_on bytes.entry.now place.entry.at)) }
-    ensures turn { IfOk result (λ t. IsTurnIn bytes.entry.now place.entry.at t) }
+        (mapping_sign (λ at. later (before ++ (pair found).0.text ∷ []) at) (pair found).0 (pair found).1 (next_on source.entry.bytes.now place.entry.at)) }
+    ensures turn { IfOk result (λ t. IsTurnIn source.entry.bytes.now place.entry.at t) }
     ensures found { (set : KeySet) (before : List (List ℕ)) → HasKeys set (before ++ (pair found).0.text ∷ []) → IfOk result (λ t. HasTurned set before t) }
 {
-    match next_part(bytes, place) {
+    match next_part(source, place) {
         Ok((part, next)) => match part.text[0] {
             b',' => Ok(Turn::More {
                 found,
@@ -129,22 +120,19 @@ fn entry_sign<'a>(
 
 /// The entry that a part begins, and what stands behind it. The lines behind the part's own begin at `next`.
 fn entry_on<'a>(
-    alloc: Global,
-    bytes: &'a [u8],
+    source: Source<'a>,
     keys: &mut KeySet,
     part: Row<'a>,
     next: usize,
 ) -> Result<Turn<'a, Entry>, Refusal>
-    requires utf8 { IsUtf8 bytes.now }
-    requires room { length bytes.now ≤ 2 ^ 31 }
-    requires part { IsPartIn bytes.now part next }
+    requires part { IsPartIn source.bytes.now part next }
     ensures gives { (later : Later) (before : List (List ℕ)) → HasKeys keys.old before → TurnsEntries later before result
-        (key_behind bytes.entry.now later before (flow_key_of bytes.entry.now (shown part.entry).first (shown part.entry).rest)) }
+        (key_behind source.entry.bytes.now later before (flow_key_of source.entry.bytes.now (shown part.entry).first (shown part.entry).rest)) }
     ensures keys { (before : List (List ℕ)) → HasKeys keys.old before → IfOk result (λ t. HasTurned keys.new before t) }
-    ensures turn { IfOk result (λ t. IsTurnIn bytes.entry.now part.entry.at t) }
+    ensures turn { IfOk result (λ t. IsTurnIn source.entry.bytes.now part.entry.at t) }
 {
-    match entry_from(alloc, bytes, keys, part, next) {
-        Ok((found, place)) => entry_sign(bytes, found, place),
+    match entry_from(source, keys, part, next) {
+        Ok((found, place)) => entry_sign(source, found, place),
         Err(refusal) => Err(refusal),
     }
 }
@@ -152,19 +140,16 @@ fn entry_on<'a>(
 /// What stands at a place of a flow mapping where an entry may begin.
 #[tactic(auto, unfolding(crate::specs::reading::Trees::mapping_in))]
 fn entry_turn<'a>(
-    alloc: Global,
-    bytes: &'a [u8],
+    source: Source<'a>,
     keys: &mut KeySet,
     place: Place<'a>,
 ) -> Result<Turn<'a, Entry>, Refusal>
-    requires utf8 { IsUtf8 bytes.now }
-    requires room { length bytes.now ≤ 2 ^ 31 }
-    requires place { IsPlaceIn bytes.now place }
-    ensures gives { (m : ℕ) (before : List (List ℕ)) → HasKeys keys.old before → TurnsEntries (λ ks at. mapping_in bytes.entry.now m ks at) before result (mapping_in bytes.entry.now (suc m) before place.entry.at) }
+    requires place { IsPlaceIn source.bytes.now place }
+    ensures gives { (m : ℕ) (before : List (List ℕ)) → HasKeys keys.old before → TurnsEntries (λ ks at. mapping_in source.entry.bytes.now m ks at) before result (mapping_in source.entry.bytes.now (suc m) before place.entry.at) }
     ensures keys { (before : List (List ℕ)) → HasKeys keys.old before → IfOk result (λ t. HasTurned keys.new before t) }
-    ensures turn { IfOk result (λ t. IsTurnIn bytes.entry.now place.entry.at t) }
+    ensures turn { IfOk result (λ t. IsTurnIn source.entry.bytes.now place.entry.at t) }
 {
-    match next_part(bytes, place) {
+    match next_part(source, place) {
         Ok((part, next)) => {
             if part.text[0] == b'}' {
                 return Ok(Turn::Ends {
@@ -172,7 +157,7 @@ fn entry_turn<'a>(
                     next,
                 });
             }
-            entry_on(alloc, bytes, keys, part, next)
+            entry_on(source, keys, part, next)
         }
         Err(refusal) => Err(refusal),
     }
@@ -180,21 +165,18 @@ fn entry_turn<'a>(
 
 /// The entries of a flow mapping from the place behind its opening bracket on, its closing bracket, and where the lines behind that begin.
 pub fn flow_entries<'a>(
-    alloc: Global,
-    bytes: &'a [u8],
+    source: Source<'a>,
     place: Place<'a>,
 ) -> Result<(Seq<Entry>, Row<'a>, usize), Refusal>
-    requires utf8 { IsUtf8 bytes.now }
-    requires room { length bytes.now ≤ 2 ^ 31 }
-    requires place { IsPlaceIn bytes.now place }
-    ensures gives { AnswersAs (λ x. closed_entries (x.0, x.1)) result (mapping_in bytes.entry.now (suc (length bytes.entry.now)) [] place.entry.at) }
-    ensures part { IfOk result (λ x. IsPartIn bytes.entry.now x.1 x.2) }
+    requires place { IsPlaceIn source.bytes.now place }
+    ensures gives { AnswersAs (λ x. closed_entries (x.0, x.1)) result (mapping_in source.entry.bytes.now (suc (length source.entry.bytes.now)) [] place.entry.at) }
+    ensures part { IfOk result (λ x. IsPartIn source.entry.bytes.now x.1 x.2) }
 {
-    let mut entries = Seq::new(alloc);
-    let mut keys = KeySet::new(alloc);
+    let mut entries = Seq::new(source.alloc);
+    let mut keys = KeySet::new(source.alloc);
     let mut at = place;
     'entries: loop {
-        match entry_turn(alloc, bytes, &mut keys, at) {
+        match entry_turn(source, &mut keys, at) {
             Ok(Turn::Ends { closing, next }) => return Ok((entries, closing, next)),
             Ok(
                 Turn::Last {

@@ -1,6 +1,5 @@
 //! Flow sequences.
 ghost use Rattle.std.specs.Prelude.{◌≡◌, ℕ, suc, ◌≤◌, ◌^◌, length, IfOk};
-ghost use Rattle.std.specs.Str.{IsUtf8};
 ghost use Rattle.lf_base.specs.Answers.{AnswersAs};
 ghost use Rattle.lf_scalar.specs.views.Built.{shown as scalar_shown};
 ghost use Rattle.lf_yaml.specs.Tree.{leaf, tree, Items};
@@ -16,10 +15,10 @@ use crate::part_scalar::read_part;
 use crate::parts::{behind, next_part};
 use crate::place::Place;
 use crate::row::Row;
+use crate::source::Source;
 use crate::turn::Turn;
 use lf_base::{Refusal, Seq};
 use lf_scalar::Scalar;
-use std::alloc::Global;
 
 /// The node of a scalar.
 pub fn scalar_node(of: Scalar) -> Node
@@ -29,14 +28,16 @@ pub fn scalar_node(of: Scalar) -> Node
 }
 
 /// What stands behind an item: a comma, or the bracket that closes.
-fn item_sign<'a>(bytes: &'a [u8], item: Scalar, place: Place<'a>) -> Result<Turn<'a, Node>, Refusal>
-    requires utf8 { IsUtf8 bytes.now }
-    requires room { length bytes.now ≤ 2 ^ 31 }
-    requires place { IsPlaceIn bytes.now place }
-    ensures gives { (later : ℕ → FlowRead Items) → TurnsItems later result (sequence_sign later (scalar_shown item) (next_on bytes.entry.now place.entry.at)) }
-    ensures turn { IfOk result (λ t. IsTurnIn bytes.entry.now place.entry.at t) }
+fn item_sign<'a>(
+    source: Source<'a>,
+    item: Scalar,
+    place: Place<'a>,
+) -> Result<Turn<'a, Node>, Refusal>
+    requires place { IsPlaceIn source.bytes.now place }
+    ensures gives { (later : ℕ → FlowRead Items) → TurnsItems later result (sequence_sign later (scalar_shown item) (next_on source.entry.bytes.now place.entry.at)) }
+    ensures turn { IfOk result (λ t. IsTurnIn source.entry.bytes.now place.entry.at t) }
 {
-    match next_part(bytes, place) {
+    match next_part(source, place) {
         Ok((part, next)) => match part.text[0] {
             b',' => Ok(Turn::More {
                 found: scalar_node(item),
@@ -54,38 +55,25 @@ fn item_sign<'a>(bytes: &'a [u8], item: Scalar, place: Place<'a>) -> Result<Turn
 }
 
 /// The item that a part begins, and what stands behind it. The lines behind the part's own begin at `next`.
-fn item_on<'a>(
-    alloc: Global,
-    bytes: &'a [u8],
-    part: Row<'a>,
-    next: usize,
-) -> Result<Turn<'a, Node>, Refusal>
-    requires utf8 { IsUtf8 bytes.now }
-    requires room { length bytes.now ≤ 2 ^ 31 }
-    requires part { IsPartIn bytes.now part next }
-    ensures gives { (later : ℕ → FlowRead Items) → TurnsItems later result (sequence_behind bytes.entry.now later (flow_scalar bytes.entry.now (shown part.entry).first (shown part.entry).rest)) }
-    ensures turn { IfOk result (λ t. IsTurnIn bytes.entry.now part.entry.at t) }
+fn item_on<'a>(source: Source<'a>, part: Row<'a>, next: usize) -> Result<Turn<'a, Node>, Refusal>
+    requires part { IsPartIn source.bytes.now part next }
+    ensures gives { (later : ℕ → FlowRead Items) → TurnsItems later result (sequence_behind source.entry.bytes.now later (flow_scalar source.entry.bytes.now (shown part.entry).first (shown part.entry).rest)) }
+    ensures turn { IfOk result (λ t. IsTurnIn source.entry.bytes.now part.entry.at t) }
 {
-    match read_part(alloc, bytes, part, next) {
-        Ok((scalar, place)) => item_sign(bytes, scalar, place),
+    match read_part(source, part, next) {
+        Ok((scalar, place)) => item_sign(source, scalar, place),
         Err(refusal) => Err(refusal),
     }
 }
 
 /// What stands at a place of a flow sequence where an item may begin.
 #[tactic(auto, unfolding(crate::specs::reading::Trees::sequence_in))]
-fn item_turn<'a>(
-    alloc: Global,
-    bytes: &'a [u8],
-    place: Place<'a>,
-) -> Result<Turn<'a, Node>, Refusal>
-    requires utf8 { IsUtf8 bytes.now }
-    requires room { length bytes.now ≤ 2 ^ 31 }
-    requires place { IsPlaceIn bytes.now place }
-    ensures gives { (m : ℕ) → TurnsItems (λ at. sequence_in bytes.entry.now m at) result (sequence_in bytes.entry.now (suc m) place.entry.at) }
-    ensures turn { IfOk result (λ t. IsTurnIn bytes.entry.now place.entry.at t) }
+fn item_turn<'a>(source: Source<'a>, place: Place<'a>) -> Result<Turn<'a, Node>, Refusal>
+    requires place { IsPlaceIn source.bytes.now place }
+    ensures gives { (m : ℕ) → TurnsItems (λ at. sequence_in source.entry.bytes.now m at) result (sequence_in source.entry.bytes.now (suc m) place.entry.at) }
+    ensures turn { IfOk result (λ t. IsTurnIn source.entry.bytes.now place.entry.at t) }
 {
-    match next_part(bytes, place) {
+    match next_part(source, place) {
         Ok((part, next)) => {
             if part.text[0] == b']' {
                 return Ok(Turn::Ends {
@@ -93,7 +81,7 @@ fn item_turn<'a>(
                     next,
                 });
             }
-            item_on(alloc, bytes, part, next)
+            item_on(source, part, next)
         }
         Err(refusal) => Err(refusal),
     }
@@ -101,20 +89,17 @@ fn item_turn<'a>(
 
 /// The items of a flow sequence from the place behind its opening bracket on, its closing bracket, and where the lines behind that begin.
 pub fn flow_items<'a>(
-    alloc: Global,
-    bytes: &'a [u8],
+    source: Source<'a>,
     place: Place<'a>,
 ) -> Result<(Seq<Node>, Row<'a>, usize), Refusal>
-    requires utf8 { IsUtf8 bytes.now }
-    requires room { length bytes.now ≤ 2 ^ 31 }
-    requires place { IsPlaceIn bytes.now place }
-    ensures gives { AnswersAs (λ x. closed_items (x.0, x.1)) result (sequence_in bytes.entry.now (suc (length bytes.entry.now)) place.entry.at) }
-    ensures part { IfOk result (λ x. IsPartIn bytes.entry.now x.1 x.2) }
+    requires place { IsPlaceIn source.bytes.now place }
+    ensures gives { AnswersAs (λ x. closed_items (x.0, x.1)) result (sequence_in source.entry.bytes.now (suc (length source.entry.bytes.now)) place.entry.at) }
+    ensures part { IfOk result (λ x. IsPartIn source.entry.bytes.now x.1 x.2) }
 {
-    let mut items = Seq::new(alloc);
+    let mut items = Seq::new(source.alloc);
     let mut at = place;
     'items: loop {
-        match item_turn(alloc, bytes, at) {
+        match item_turn(source, at) {
             Ok(Turn::Ends { closing, next }) => return Ok((items, closing, next)),
             Ok(
                 Turn::Last {

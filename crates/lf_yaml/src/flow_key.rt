@@ -25,6 +25,7 @@ use crate::parts::{behind, next_part, place_from};
 use crate::place::Place;
 use crate::plain::slice_scalar;
 use crate::row::Row;
+use crate::source::Source;
 use lf_base::bytes::before;
 use lf_base::{Kind, Refusal, Span};
 use lf_scalar::Scalar;
@@ -33,13 +34,11 @@ use lf_scalar::quotes::{Quotes, find_closing};
 use std::alloc::Global;
 
 /// What is told where no `:` stands behind a key: what is broken before the next part, or this part.
-fn no_sign(bytes: &[u8], place: Place<'_>) -> Refusal
-    requires utf8 { IsUtf8 bytes.now }
-    requires room { length bytes.now ≤ 2 ^ 31 }
-    requires place { IsPlaceIn bytes.now place }
-    ensures { Fails result (no_sign_of (next_on bytes.now place.entry.at)) }
+fn no_sign(source: Source<'_>, place: Place<'_>) -> Refusal
+    requires place { IsPlaceIn source.bytes.now place }
+    ensures { Fails result (no_sign_of (next_on source.entry.bytes.now place.entry.at)) }
 {
-    match next_part(bytes, place) {
+    match next_part(source, place) {
         Ok((part, _)) => sign_fault(part),
         Err(refusal) => refusal,
     }
@@ -66,16 +65,9 @@ fn bare_scalar(alloc: Global, part: Row<'_>, place: usize) -> Result<Scalar, Ref
 }
 
 /// The key without quotes that a part begins, and the place of its `:` in the part. Some are left out. The lines behind the part's own begin at `next`.
-fn bare_key(
-    alloc: Global,
-    bytes: &[u8],
-    part: Row<'_>,
-    next: usize,
-) -> Result<(Scalar, usize), Refusal>
-    requires utf8 { IsUtf8 bytes.now }
-    requires room { length bytes.now ≤ 2 ^ 31 }
-    requires part { IsPartIn bytes.now part next }
-    ensures gives { AnswersAs (signed part.entry) result (flow_key_by bytes.now (shown part.entry).first (shown part.entry).rest None) }
+fn bare_key(source: Source<'_>, part: Row<'_>, next: usize) -> Result<(Scalar, usize), Refusal>
+    requires part { IsPartIn source.bytes.now part next }
+    ensures gives { AnswersAs (signed part.entry) result (flow_key_by source.entry.bytes.now (shown part.entry).first (shown part.entry).rest None) }
     ensures within { IfOk result (λ x. x.1 < length part.entry.text.now) }
     ensures sign { IfOk result (λ x. get_or part.entry.text.now x.1 0 ≡ 58) }
 {
@@ -87,28 +79,25 @@ fn bare_key(
             if is_key_left_out(before(part.text, place)) {
                 return Err(first_fault(Kind::LeftOut, part));
             }
-            match bare_scalar(alloc, part, place) {
+            match bare_scalar(source.alloc, part, place) {
                 Ok(scalar) => Ok((scalar, place)),
                 Err(refusal) => Err(refusal),
             }
         }
         None => {
-            let after = text_left(bytes, part);
-            Err(no_sign(bytes, place_from(bytes, part, next, after)))
+            let after = text_left(source.bytes, part);
+            Err(no_sign(source, place_from(source, part, next, after)))
         }
     }
 }
 
 /// The scalar between quotes that a part begins and that closes on its line, and how many bytes of the part it takes.
 fn quoted_scalar_on(
-    alloc: Global,
-    bytes: &[u8],
+    source: Source<'_>,
     part: Row<'_>,
     quote: Quotes,
 ) -> Result<(Scalar, usize), Refusal>
-    requires utf8 { IsUtf8 bytes.now }
-    requires room { length bytes.now ≤ 2 ^ 31 }
-    requires part { IsTextOf bytes.now part }
+    requires part { IsTextOf source.bytes.now part }
     requires quote { get_or part.text.now 0 0 ≡ quote_byte quote }
     ensures gives { AnswersAs (λ x. (scalar_shown x.0, part.entry.at + x.1)) result (quoted_part quote (shown part.entry).first (closing_of quote 0 (shown part.entry).rest)) }
     ensures left { IfOk result (λ x. behind_closing (closing_of quote 0 (shown part.entry).rest) ≡ cells (part.entry.at + x.1) (drop x.1 part.entry.text.now)) }
@@ -117,7 +106,7 @@ fn quoted_scalar_on(
     let inside = past(part.text, 1);
     match find_closing(quote, inside, part.at + 1) {
         None => Err(byte_fault(Kind::OpenQuote, part.at)),
-        Some(closing) => match quoted_scalar(alloc, bytes, part.at, inside, quote, closing) {
+        Some(closing) => match quoted_scalar(source, part.at, inside, quote, closing) {
             Ok(scalar) => Ok((scalar, closing + 2)),
             Err(refusal) => Err(refusal),
         },
@@ -126,30 +115,27 @@ fn quoted_scalar_on(
 
 /// The key between quotes that a part begins, and the place of its `:` in the part. It is left out where the `:` stands too far behind, whatever is between the quotes.
 fn quoted_key(
-    alloc: Global,
-    bytes: &[u8],
+    source: Source<'_>,
     part: Row<'_>,
     next: usize,
     quote: Quotes,
 ) -> Result<(Scalar, usize), Refusal>
-    requires utf8 { IsUtf8 bytes.now }
-    requires room { length bytes.now ≤ 2 ^ 31 }
-    requires part { IsPartIn bytes.now part next }
+    requires part { IsPartIn source.bytes.now part next }
     requires quote { get_or part.text.now 0 0 ≡ quote_byte quote }
-    ensures gives { AnswersAs (signed part.entry) result (flow_key_by bytes.now (shown part.entry).first (shown part.entry).rest (Some quote)) }
+    ensures gives { AnswersAs (signed part.entry) result (flow_key_by source.entry.bytes.now (shown part.entry).first (shown part.entry).rest (Some quote)) }
     ensures within { IfOk result (λ x. x.1 < length part.entry.text.now) }
     ensures sign { IfOk result (λ x. get_or part.entry.text.now x.1 0 ≡ 58) }
 {
     if is_far_part(part, quote) {
         return Err(first_fault(Kind::LeftOut, part));
     }
-    match quoted_scalar_on(alloc, bytes, part, quote) {
+    match quoted_scalar_on(source, part, quote) {
         Ok((scalar, len)) => {
             let place = len + blanks(past(part.text, len));
             if is_colon(part.text, place) {
                 Ok((scalar, place))
             } else {
-                Err(no_sign(bytes, behind(part, len, next)))
+                Err(no_sign(source, behind(part, len, next)))
             }
         }
         Err(refusal) => Err(refusal),
@@ -165,21 +151,14 @@ fn is_colon(text: &[u8], place: usize) -> bool
 
 /// The key that a part of a flow mapping begins, and the place of its `:` in the part. The lines behind the part's own begin at `next`.
 #[tactic(auto, unfolding(crate::specs::reading::Trees::flow_key))]
-pub fn flow_key(
-    alloc: Global,
-    bytes: &[u8],
-    part: Row<'_>,
-    next: usize,
-) -> Result<(Scalar, usize), Refusal>
-    requires utf8 { IsUtf8 bytes.now }
-    requires room { length bytes.now ≤ 2 ^ 31 }
-    requires part { IsPartIn bytes.now part next }
-    ensures gives { AnswersAs (signed part.entry) result (flow_key_of bytes.now (shown part.entry).first (shown part.entry).rest) }
+pub fn flow_key(source: Source<'_>, part: Row<'_>, next: usize) -> Result<(Scalar, usize), Refusal>
+    requires part { IsPartIn source.bytes.now part next }
+    ensures gives { AnswersAs (signed part.entry) result (flow_key_of source.entry.bytes.now (shown part.entry).first (shown part.entry).rest) }
     ensures within { IfOk result (λ x. x.1 < length part.entry.text.now) }
     ensures sign { IfOk result (λ x. get_or part.entry.text.now x.1 0 ≡ 58) }
 {
     match quote_of(part.text[0]) {
-        Some(quote) => quoted_key(alloc, bytes, part, next, quote),
-        None => bare_key(alloc, bytes, part, next),
+        Some(quote) => quoted_key(source, part, next, quote),
+        None => bare_key(source, part, next),
     }
 }

@@ -1,6 +1,6 @@
 //! Flow collections on a row, and what may stand behind them.
 ghost use Rattle.std.specs.Prelude.{false, ◌≡◌, ℕ, suc, ◌+◌, ◌<◌, ◌≤◌, ◌^◌, [], length, get_or, map, None, Some, IfOk, MatchOption};
-ghost use Rattle.std.specs.Str.{IsCharBoundary, IsUtf8};
+ghost use Rattle.std.specs.Str.{IsCharBoundary};
 ghost use Rattle.lf_base.specs.declared.kind.Kind.TheVariants.{NotANode};
 ghost use Rattle.lf_base.specs.Answers.{AnswersAs};
 ghost use Rattle.lf_scalar.specs.Cells.{Cell, character_fault as fault_at_of};
@@ -18,9 +18,9 @@ use crate::node::{Entry, Node};
 use crate::parts::place_on;
 use crate::row::Row;
 use crate::rows::lines_from;
+use crate::source::Source;
 use lf_base::{Kind, Refusal, Seq, Span};
 use lf_scalar::lines::{fault_at, past, wrong_behind};
-use std::alloc::Global;
 
 /// A sequence.
 pub fn list_node(items: Seq<Node>, span: Span) -> Node
@@ -58,26 +58,19 @@ fn closed_span(row: Row<'_>, closing: Row<'_>) -> Span
 }
 
 /// The flow sequence whose opening bracket a row begins with, and where the line behind it begins.
-fn closed_sequence(
-    alloc: Global,
-    bytes: &[u8],
-    row: Row<'_>,
-    next: usize,
-) -> Result<(Node, usize), Refusal>
-    requires utf8 { IsUtf8 bytes.now }
-    requires room { length bytes.now ≤ 2 ^ 31 }
-    requires row { IsRowOf bytes.now row }
-    requires start { IsCharBoundary bytes.now next }
+fn closed_sequence(source: Source<'_>, row: Row<'_>, next: usize) -> Result<(Node, usize), Refusal>
+    requires row { IsRowOf source.bytes.now row }
+    requires start { IsCharBoundary source.bytes.now next }
     requires bracket { get_or row.text.now 0 0 ≡ 91 }
-    ensures gives { AnswersAs (λ x. (tree x.0, rows_after bytes.now x.1)) result (closed_list bytes.now (shown row.entry) (rows_after bytes.now next) (sequence_in bytes.now (suc (length bytes.now)) (suc row.entry.at))) }
-    ensures start { IfOk result (λ x. IsCharBoundary bytes.now x.1) }
+    ensures gives { AnswersAs (λ x. (tree x.0, rows_after source.entry.bytes.now x.1)) result (closed_list source.entry.bytes.now (shown row.entry) (rows_after source.entry.bytes.now next) (sequence_in source.entry.bytes.now (suc (length source.entry.bytes.now)) (suc row.entry.at))) }
+    ensures start { IfOk result (λ x. IsCharBoundary source.entry.bytes.now x.1) }
     ensures further { IfOk result (λ x. next ≤ x.1) }
 {
-    match flow_items(alloc, bytes, place_on(bytes, row.at + 1)) {
+    match flow_items(source, place_on(source, row.at + 1)) {
         Ok((items, closing, _)) => match wrong_after(closing) {
             Some(refusal) => Err(refusal),
             None => {
-                let left = lines_from(bytes, next, closing.at as usize + 1);
+                let left = lines_from(source, next, closing.at as usize + 1);
                 Ok((list_node(items, closed_span(row, closing)), left))
             }
         },
@@ -86,26 +79,19 @@ fn closed_sequence(
 }
 
 /// The flow mapping whose opening bracket a row begins with, and where the line behind it begins.
-fn closed_mapping(
-    alloc: Global,
-    bytes: &[u8],
-    row: Row<'_>,
-    next: usize,
-) -> Result<(Node, usize), Refusal>
-    requires utf8 { IsUtf8 bytes.now }
-    requires room { length bytes.now ≤ 2 ^ 31 }
-    requires row { IsRowOf bytes.now row }
-    requires start { IsCharBoundary bytes.now next }
+fn closed_mapping(source: Source<'_>, row: Row<'_>, next: usize) -> Result<(Node, usize), Refusal>
+    requires row { IsRowOf source.bytes.now row }
+    requires start { IsCharBoundary source.bytes.now next }
     requires bracket { get_or row.text.now 0 0 ≡ 123 }
-    ensures gives { AnswersAs (λ x. (tree x.0, rows_after bytes.now x.1)) result (closed_map bytes.now (shown row.entry) (rows_after bytes.now next) (mapping_in bytes.now (suc (length bytes.now)) [] (suc row.entry.at))) }
-    ensures start { IfOk result (λ x. IsCharBoundary bytes.now x.1) }
+    ensures gives { AnswersAs (λ x. (tree x.0, rows_after source.entry.bytes.now x.1)) result (closed_map source.entry.bytes.now (shown row.entry) (rows_after source.entry.bytes.now next) (mapping_in source.entry.bytes.now (suc (length source.entry.bytes.now)) [] (suc row.entry.at))) }
+    ensures start { IfOk result (λ x. IsCharBoundary source.entry.bytes.now x.1) }
     ensures further { IfOk result (λ x. next ≤ x.1) }
 {
-    match flow_entries(alloc, bytes, place_on(bytes, row.at + 1)) {
+    match flow_entries(source, place_on(source, row.at + 1)) {
         Ok((entries, closing, _)) => match wrong_after(closing) {
             Some(refusal) => Err(refusal),
             None => {
-                let left = lines_from(bytes, next, closing.at as usize + 1);
+                let left = lines_from(source, next, closing.at as usize + 1);
                 Ok((map_node(entries, closed_span(row, closing)), left))
             }
         },
@@ -115,46 +101,40 @@ fn closed_mapping(
 
 /// The flow sequence that a row begins. It is `TooDeep` where no collection may stand any more.
 pub fn flow_list(
-    alloc: Global,
-    bytes: &[u8],
+    source: Source<'_>,
     depth: u32,
     row: Row<'_>,
     next: usize,
 ) -> Result<(Node, usize), Refusal>
-    requires utf8 { IsUtf8 bytes.now }
-    requires room { length bytes.now ≤ 2 ^ 31 }
-    requires row { IsRowOf bytes.now row }
-    requires start { IsCharBoundary bytes.now next }
+    requires row { IsRowOf source.bytes.now row }
+    requires start { IsCharBoundary source.bytes.now next }
     requires bracket { get_or row.text.now 0 0 ≡ 91 }
-    ensures gives { AnswersAs (λ x. (tree x.0, rows_after bytes.now x.1)) result (flow_list_of bytes.now depth (shown row.entry) (rows_after bytes.now next)) }
-    ensures start { IfOk result (λ x. IsCharBoundary bytes.now x.1) }
+    ensures gives { AnswersAs (λ x. (tree x.0, rows_after source.entry.bytes.now x.1)) result (flow_list_of source.entry.bytes.now depth (shown row.entry) (rows_after source.entry.bytes.now next)) }
+    ensures start { IfOk result (λ x. IsCharBoundary source.entry.bytes.now x.1) }
     ensures further { IfOk result (λ x. next ≤ x.1) }
 {
     if depth == 0 {
         return Err(first_fault(Kind::TooDeep, row));
     }
-    closed_sequence(alloc, bytes, row, next)
+    closed_sequence(source, row, next)
 }
 
 /// The flow mapping that a row begins. It is `TooDeep` where no collection may stand any more.
 pub fn flow_map(
-    alloc: Global,
-    bytes: &[u8],
+    source: Source<'_>,
     depth: u32,
     row: Row<'_>,
     next: usize,
 ) -> Result<(Node, usize), Refusal>
-    requires utf8 { IsUtf8 bytes.now }
-    requires room { length bytes.now ≤ 2 ^ 31 }
-    requires row { IsRowOf bytes.now row }
-    requires start { IsCharBoundary bytes.now next }
+    requires row { IsRowOf source.bytes.now row }
+    requires start { IsCharBoundary source.bytes.now next }
     requires bracket { get_or row.text.now 0 0 ≡ 123 }
-    ensures gives { AnswersAs (λ x. (tree x.0, rows_after bytes.now x.1)) result (flow_map_of bytes.now depth (shown row.entry) (rows_after bytes.now next)) }
-    ensures start { IfOk result (λ x. IsCharBoundary bytes.now x.1) }
+    ensures gives { AnswersAs (λ x. (tree x.0, rows_after source.entry.bytes.now x.1)) result (flow_map_of source.entry.bytes.now depth (shown row.entry) (rows_after source.entry.bytes.now next)) }
+    ensures start { IfOk result (λ x. IsCharBoundary source.entry.bytes.now x.1) }
     ensures further { IfOk result (λ x. next ≤ x.1) }
 {
     if depth == 0 {
         return Err(first_fault(Kind::TooDeep, row));
     }
-    closed_mapping(alloc, bytes, row, next)
+    closed_mapping(source, row, next)
 }

@@ -1,6 +1,5 @@
 //! Values of flow mappings, and the places behind them.
 ghost use Rattle.std.specs.Prelude.{◌≡◌, ◌||◌, eqb, suc, ◌<◌, ◌≤◌, ◌^◌, length, Ok, IfOk};
-ghost use Rattle.std.specs.Str.{IsUtf8};
 ghost use Rattle.lf_base.specs.Answers.{AnswersAs};
 ghost use Rattle.lf_scalar.specs.Cells.{cell};
 ghost use Rattle.lf_scalar.specs.views.Built.{shown as scalar_shown};
@@ -13,6 +12,7 @@ use crate::part_scalar::read_part;
 use crate::parts::next_part;
 use crate::place::Place;
 use crate::plain::slice_scalar;
+use crate::source::Source;
 use lf_base::{Refusal, Span};
 use lf_scalar::Scalar;
 use std::alloc::Global;
@@ -35,29 +35,26 @@ pub fn missing_value(alloc: Global, at: u32) -> Result<Scalar, Refusal>
 /// The value of an entry of a flow mapping whose `:` stands at an offset, and the place behind it. A value that is missing, before a `,` or a `}`, is the empty text.
 #[tactic(auto, unfolding(crate::specs::reading::Trees::flow_value))]
 pub fn flow_value<'a>(
-    alloc: Global,
-    bytes: &'a [u8],
+    source: Source<'a>,
     colon: u32,
     place: Place<'a>,
 ) -> Result<(Scalar, Place<'a>), Refusal>
-    requires utf8 { IsUtf8 bytes.now }
-    requires room { length bytes.now ≤ 2 ^ 31 }
     requires colon { colon < 2 ^ 31 }
-    requires place { IsPlaceIn bytes.now place }
+    requires place { IsPlaceIn source.bytes.now place }
     requires behind { place.at ≡ suc colon }
-    ensures gives { AnswersAs (λ x. (leaf (scalar_shown x.0), x.1.at)) result (flow_value_of bytes.entry.now (cell 58 colon)) }
-    ensures place { IfOk result (λ x. IsPlaceIn bytes.entry.now x.1) }
+    ensures gives { AnswersAs (λ x. (leaf (scalar_shown x.0), x.1.at)) result (flow_value_of source.entry.bytes.now (cell 58 colon)) }
+    ensures place { IfOk result (λ x. IsPlaceIn source.entry.bytes.now x.1) }
     ensures further { IfOk result (λ x. place.entry.at ≤ x.1.at) }
 {
-    match next_part(bytes, place) {
+    match next_part(source, place) {
         Ok((part, next)) => {
             if ends_value(part.text[0]) {
-                match missing_value(alloc, colon + 1) {
+                match missing_value(source.alloc, colon + 1) {
                     Ok(scalar) => Ok((scalar, place)),
                     Err(refusal) => Err(refusal),
                 }
             } else {
-                read_part(alloc, bytes, part, next)
+                read_part(source, part, next)
             }
         }
         Err(refusal) => Err(refusal),

@@ -33,6 +33,7 @@ mod row;
 mod row_value;
 mod rows;
 mod scalars;
+mod source;
 mod text_builder;
 mod turn;
 mod uniqueness;

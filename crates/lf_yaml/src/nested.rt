@@ -1,6 +1,6 @@
 //! Nodes by their rows: block sequences and block mappings, one in another.
 ghost use Rattle.std.specs.Prelude.{◌≡◌, ℕ, suc, ◌+◌, ◌<◌, ◌≤◌, ◌^◌, List, length, map, true, Some, IfOk};
-ghost use Rattle.std.specs.Str.{IsCharBoundary, IsUtf8};
+ghost use Rattle.std.specs.Str.{IsCharBoundary};
 ghost use Rattle.lf_base.specs.Answers.{AnswersAs};
 ghost use Rattle.lf_scalar.specs.Cells.{cell, cells};
 ghost use Rattle.lf_yaml.specs.Rows.{indent as indent_of};
@@ -23,8 +23,8 @@ use crate::new_keys::new_key;
 use crate::node::{Entry, Node};
 use crate::row::Row;
 use crate::row_value::value;
+use crate::source::Source;
 use lf_base::{Kind, Refusal, Seq};
-use std::alloc::Global;
 
 /// The node that begins on a row of a file, and where the line behind it begins. The lines behind the row's own begin at `next`.
 ///
@@ -32,28 +32,25 @@ use std::alloc::Global;
 /// sequence at the indent of the mapping around it.
 #[cycle(read)]
 pub fn node(
-    alloc: Global,
-    bytes: &[u8],
+    source: Source<'_>,
     depth: u32,
     own: bool,
     above: u32,
     row: Row<'_>,
     next: usize,
 ) -> Result<(Node, usize), Refusal>
-    requires text { IsUtf8 bytes.now }
-    requires room { length bytes.now ≤ 2 ^ 31 }
-    requires row { IsRowOf bytes.now row }
-    requires start { IsCharBoundary bytes.now next }
+    requires row { IsRowOf source.bytes.now row }
+    requires start { IsCharBoundary source.bytes.now next }
     requires above { above ≤ 2 ^ 31 }
-    ensures gives { AnswersAs (λ x. (tree x.0, rows_after bytes.now x.1)) result (node_at bytes.now depth own above (shown row.entry) (rows_after bytes.now next)) }
-    ensures start { IfOk result (λ x. IsCharBoundary bytes.now x.1) }
+    ensures gives { AnswersAs (λ x. (tree x.0, rows_after source.entry.bytes.now x.1)) result (node_at source.entry.bytes.now depth own above (shown row.entry) (rows_after source.entry.bytes.now next)) }
+    ensures start { IfOk result (λ x. IsCharBoundary source.entry.bytes.now x.1) }
     ensures further { IfOk result (λ x. next ≤ x.1) }
 {
     if is_item(row) {
         if depth == 0 {
             return Err(first_fault(Kind::TooDeep, row));
         }
-        let (found, left) = items(alloc, bytes, depth - 1, own, row, next)?;
+        let (found, left) = items(source, depth - 1, own, row, next)?;
         return Ok((list_node(row.at, found), left));
     }
     match entry_on(row, next) {
@@ -61,29 +58,26 @@ pub fn node(
             if depth == 0 {
                 return Err(first_fault(Kind::TooDeep, row));
             }
-            let (found, left) = entries(alloc, bytes, depth - 1, entry)?;
+            let (found, left) = entries(source, depth - 1, entry)?;
             Ok((map_node(row.at, found), left))
         }
-        None => value(alloc, bytes, row, next, above, depth),
+        None => value(source, row, next, above, depth),
     }
 }
 
 /// The value of an item at an indent. What stands behind its sign on the row may itself be an item or an entry; else the next row decides.
 #[cycle(read)]
 fn item_value(
-    alloc: Global,
-    bytes: &[u8],
+    source: Source<'_>,
     depth: u32,
     row: Row<'_>,
     next: usize,
 ) -> Result<(Node, usize), Refusal>
-    requires text { IsUtf8 bytes.now }
-    requires room { length bytes.now ≤ 2 ^ 31 }
-    requires row { IsRowOf bytes.now row }
-    requires start { IsCharBoundary bytes.now next }
+    requires row { IsRowOf source.bytes.now row }
+    requires start { IsCharBoundary source.bytes.now next }
     requires item { is_item_of (shown row) ≡ true }
-    ensures gives { AnswersAs (λ x. (tree x.0, rows_after bytes.now x.1)) result (item_value_of (inner bytes.now depth) (indent_of (shown row.entry)) (shown row.entry) (rows_after bytes.now next)) }
-    ensures start { IfOk result (λ x. IsCharBoundary bytes.now x.1) }
+    ensures gives { AnswersAs (λ x. (tree x.0, rows_after source.entry.bytes.now x.1)) result (item_value_of (inner source.entry.bytes.now depth) (indent_of (shown row.entry)) (shown row.entry) (rows_after source.entry.bytes.now next)) }
+    ensures start { IfOk result (λ x. IsCharBoundary source.entry.bytes.now x.1) }
     ensures further { IfOk result (λ x. next ≤ x.1) }
 {
     let column = indent(row);
@@ -91,10 +85,10 @@ fn item_value(
         return Err(refusal);
     }
     match left_behind(row, 0) {
-        Some(left) => node(alloc, bytes, depth, false, column + 1, left, next),
-        None => match row_below(bytes, column, next) {
-            Some((below, behind)) => node(alloc, bytes, depth, false, column + 1, below, behind),
-            None => Ok((empty(alloc, row.at + 1)?, next)),
+        Some(left) => node(source, depth, false, column + 1, left, next),
+        None => match row_below(source, column, next) {
+            Some((below, behind)) => node(source, depth, false, column + 1, below, behind),
+            None => Ok((empty(source.alloc, row.at + 1)?, next)),
         },
     }
 }
@@ -102,28 +96,25 @@ fn item_value(
 /// The items of a sequence from a row on, and where the line behind them begins.
 #[cycle(read)]
 fn items(
-    alloc: Global,
-    bytes: &[u8],
+    source: Source<'_>,
     depth: u32,
     own: bool,
     row: Row<'_>,
     next: usize,
 ) -> Result<(Seq<Node>, usize), Refusal>
-    requires text { IsUtf8 bytes.now }
-    requires room { length bytes.now ≤ 2 ^ 31 }
-    requires row { IsRowOf bytes.now row }
-    requires start { IsCharBoundary bytes.now next }
+    requires row { IsRowOf source.bytes.now row }
+    requires start { IsCharBoundary source.bytes.now next }
     requires item { is_item_of (shown row) ≡ true }
-    ensures gives { AnswersAs (λ x. (items_of (map tree x.0), rows_after bytes.now x.1)) result (run_items bytes.now depth own (indent_of (shown row.entry)) (shown row.entry) (rows_after bytes.now next)) }
-    ensures start { IfOk result (λ x. IsCharBoundary bytes.now x.1) }
+    ensures gives { AnswersAs (λ x. (items_of (map tree x.0), rows_after source.entry.bytes.now x.1)) result (run_items source.entry.bytes.now depth own (indent_of (shown row.entry)) (shown row.entry) (rows_after source.entry.bytes.now next)) }
+    ensures start { IfOk result (λ x. IsCharBoundary source.entry.bytes.now x.1) }
     ensures further { IfOk result (λ x. next ≤ x.1) }
 {
     let column = indent(row);
-    let mut found = Seq::new(alloc);
-    let (first, mut left) = item_value(alloc, bytes, depth, row, next)?;
+    let mut found = Seq::new(source.alloc);
+    let (first, mut left) = item_value(source, depth, row, next)?;
     found.push(first)?;
-    'rows: while let Some((row, behind)) = next_item(bytes, own, column, left)? {
-        let (item, rest) = item_value(alloc, bytes, depth, row, behind)?;
+    'rows: while let Some((row, behind)) = next_item(source, own, column, left)? {
+        let (item, rest) = item_value(source, depth, row, behind)?;
         found.push(item)?;
         left = rest;
     }
@@ -132,60 +123,53 @@ fn items(
 
 /// A scalar or a flow collection on the row of its key. An item or an entry may not begin there.
 fn value_here(
-    alloc: Global,
-    bytes: &[u8],
+    source: Source<'_>,
     depth: u32,
     column: u32,
     left: Row<'_>,
     next: usize,
 ) -> Result<(Node, usize), Refusal>
-    requires text { IsUtf8 bytes.now }
-    requires room { length bytes.now ≤ 2 ^ 31 }
-    requires row { IsRowOf bytes.now left }
-    requires start { IsCharBoundary bytes.now next }
+    requires row { IsRowOf source.bytes.now left }
+    requires start { IsCharBoundary source.bytes.now next }
     requires column { column < 2 ^ 31 }
-    ensures gives { AnswersAs (λ x. (tree x.0, rows_after bytes.now x.1)) result (entry_at bytes.now depth (owned bytes.now depth) column 0 (rows_after bytes.now next) (Some (shown left.entry))) }
-    ensures start { IfOk result (λ x. IsCharBoundary bytes.now x.1) }
+    ensures gives { AnswersAs (λ x. (tree x.0, rows_after source.entry.bytes.now x.1)) result (entry_at source.entry.bytes.now depth (owned source.entry.bytes.now depth) column 0 (rows_after source.entry.bytes.now next) (Some (shown left.entry))) }
+    ensures start { IfOk result (λ x. IsCharBoundary source.entry.bytes.now x.1) }
     ensures further { IfOk result (λ x. next ≤ x.1) }
 {
     if begins_block(left) {
         Err(first_fault(Kind::NotANode, left))
     } else {
-        value(alloc, bytes, left, next, column + 1, depth)
+        value(source, left, next, column + 1, depth)
     }
 }
 
 /// The value of an entry of a mapping at an indent. What stands behind its `:` on the row is a scalar or a flow collection; else the next row decides.
 #[cycle(read)]
 fn entry_value(
-    alloc: Global,
-    bytes: &[u8],
+    source: Source<'_>,
     depth: u32,
     column: u32,
     entry: EntryRow<'_>,
 ) -> Result<(Node, usize), Refusal>
-    requires text { IsUtf8 bytes.now }
-    requires room { length bytes.now ≤ 2 ^ 31 }
-    requires entry { IsEntryRow bytes.now entry }
+    requires entry { IsEntryRow source.bytes.now entry }
     requires column { column < 2 ^ 31 }
-    ensures gives { AnswersAs (λ x. (tree x.0, rows_after bytes.now x.1)) result (values bytes.now depth column entry.entry.row.begin (cell 58 entry.entry.head.colon) (cells (suc entry.entry.head.colon) entry.entry.head.behind.now) (rows_after bytes.now entry.entry.behind)) }
-    ensures start { IfOk result (λ x. IsCharBoundary bytes.now x.1) }
+    ensures gives { AnswersAs (λ x. (tree x.0, rows_after source.entry.bytes.now x.1)) result (values source.entry.bytes.now depth column entry.entry.row.begin (cell 58 entry.entry.head.colon) (cells (suc entry.entry.head.colon) entry.entry.head.behind.now) (rows_after source.entry.bytes.now entry.entry.behind)) }
+    ensures start { IfOk result (λ x. IsCharBoundary source.entry.bytes.now x.1) }
     ensures further { IfOk result (λ x. entry.entry.behind ≤ x.1) }
 {
     let next = entry.behind;
     match left_of_entry(entry) {
-        Some(left) => value_here(alloc, bytes, depth, column, left, next),
-        None => match row_beside(bytes, column, next) {
+        Some(left) => value_here(source, depth, column, left, next),
+        None => match row_beside(source, column, next) {
             Some(below) => node(
-                alloc,
-                bytes,
+                source,
                 depth,
                 below.own,
                 column + 1,
                 below.row,
                 below.behind,
             ),
-            None => Ok((empty(alloc, entry.head.colon + 1)?, next)),
+            None => Ok((empty(source.alloc, entry.head.colon + 1)?, next)),
         },
     }
 }
@@ -193,49 +177,43 @@ fn entry_value(
 /// An entry of a mapping at an indent, whose key is none of those before.
 #[cycle(read)]
 fn one_entry(
-    alloc: Global,
-    bytes: &[u8],
+    source: Source<'_>,
     depth: u32,
     column: u32,
     keys: &KeySet,
     entry: EntryRow<'_>,
 ) -> Result<(Entry, usize), Refusal>
-    requires text { IsUtf8 bytes.now }
-    requires room { length bytes.now ≤ 2 ^ 31 }
-    requires entry { IsEntryRow bytes.now entry }
+    requires entry { IsEntryRow source.bytes.now entry }
     requires column { column < 2 ^ 31 }
-    ensures gives { (texts : List (List ℕ)) → HasKeys keys.now texts → AnswersAs (λ x. (pair x.0, rows_after bytes.now x.1)) result (one_entry_of (values bytes.now depth column) texts (shown entry.entry.row) (headed entry.entry.row.at entry.entry.row.text.now entry.entry.head) (rows_after bytes.now entry.entry.behind)) }
-    ensures start { IfOk result (λ x. IsCharBoundary bytes.now x.1) }
+    ensures gives { (texts : List (List ℕ)) → HasKeys keys.now texts → AnswersAs (λ x. (pair x.0, rows_after source.entry.bytes.now x.1)) result (one_entry_of (values source.entry.bytes.now depth column) texts (shown entry.entry.row) (headed entry.entry.row.at entry.entry.row.text.now entry.entry.head) (rows_after source.entry.bytes.now entry.entry.behind)) }
+    ensures start { IfOk result (λ x. IsCharBoundary source.entry.bytes.now x.1) }
     ensures further { IfOk result (λ x. entry.entry.behind ≤ x.1) }
 {
-    let key = new_key(alloc, bytes, keys, entry)?;
-    let (value, left) = entry_value(alloc, bytes, depth, column, entry)?;
+    let key = new_key(source, keys, entry)?;
+    let (value, left) = entry_value(source, depth, column, entry)?;
     Ok((entry_node(key, value), left))
 }
 
 /// The entries of a mapping from one on, and where the line behind them begins.
 #[cycle(read)]
 fn entries(
-    alloc: Global,
-    bytes: &[u8],
+    source: Source<'_>,
     depth: u32,
     entry: EntryRow<'_>,
 ) -> Result<(Seq<Entry>, usize), Refusal>
-    requires text { IsUtf8 bytes.now }
-    requires room { length bytes.now ≤ 2 ^ 31 }
-    requires entry { IsEntryRow bytes.now entry }
-    ensures gives { AnswersAs (λ x. (entries_of (map pair x.0), rows_after bytes.now x.1)) result (run_entries bytes.now depth (indent_of (shown entry.entry.row)) (shown entry.entry.row) (rows_after bytes.now entry.entry.behind)) }
-    ensures start { IfOk result (λ x. IsCharBoundary bytes.now x.1) }
+    requires entry { IsEntryRow source.bytes.now entry }
+    ensures gives { AnswersAs (λ x. (entries_of (map pair x.0), rows_after source.entry.bytes.now x.1)) result (run_entries source.entry.bytes.now depth (indent_of (shown entry.entry.row)) (shown entry.entry.row) (rows_after source.entry.bytes.now entry.entry.behind)) }
+    ensures start { IfOk result (λ x. IsCharBoundary source.entry.bytes.now x.1) }
     ensures further { IfOk result (λ x. entry.entry.behind ≤ x.1) }
 {
     let column = indent(entry.row);
-    let mut found = Seq::new(alloc);
-    let mut keys = KeySet::new(alloc);
-    let (first, mut left) = one_entry(alloc, bytes, depth, column, &keys, entry)?;
+    let mut found = Seq::new(source.alloc);
+    let mut keys = KeySet::new(source.alloc);
+    let (first, mut left) = one_entry(source, depth, column, &keys, entry)?;
     keys.add(first.key.text.as_str())?;
     found.push(first)?;
-    'rows: while let Some(row) = next_entry(bytes, column, left)? {
-        let (entry, rest) = one_entry(alloc, bytes, depth, column, &keys, row)?;
+    'rows: while let Some(row) = next_entry(source, column, left)? {
+        let (entry, rest) = one_entry(source, depth, column, &keys, row)?;
         keys.add(entry.key.text.as_str())?;
         found.push(entry)?;
         left = rest;

@@ -1,6 +1,5 @@
 //! Keys that stand once in their mapping.
 ghost use Rattle.std.specs.Prelude.{◌≡◌, ℕ, List, ◌+◌, ◌≤◌, ◌^◌, length};
-ghost use Rattle.std.specs.Str.{IsUtf8};
 ghost use Rattle.lf_base.specs.Answers.{AnswersAs};
 ghost use Rattle.lf_scalar.specs.views.Built.{shown as scalar_shown};
 ghost use Rattle.lf_yaml.specs.views.Shown.{shown};
@@ -11,24 +10,17 @@ ghost use Rattle.lf_yaml.specs.reading.BlockTurns.{new_key as new_key_of, IsEntr
 use crate::entries::EntryRow;
 use crate::held::key_scalar;
 use crate::key_set::KeySet;
+use crate::source::Source;
 use lf_base::{Kind, Refusal};
 use lf_scalar::Scalar;
-use std::alloc::Global;
 
 /// The key of an entry, whose text is none of those before. A text that is one of them is a `DoubleKey` at the key.
 #[tactic(auto, unfolding(crate::specs::reading::BlockTurns::new_key))]
-pub fn new_key(
-    alloc: Global,
-    bytes: &[u8],
-    keys: &KeySet,
-    entry: EntryRow<'_>,
-) -> Result<Scalar, Refusal>
-    requires text { IsUtf8 bytes.now }
-    requires room { length bytes.now ≤ 2 ^ 31 }
-    requires entry { IsEntryRow bytes.now entry }
+pub fn new_key(source: Source<'_>, keys: &KeySet, entry: EntryRow<'_>) -> Result<Scalar, Refusal>
+    requires entry { IsEntryRow source.bytes.now entry }
     ensures { (texts : List (List ℕ)) → HasKeys keys.now texts → AnswersAs scalar_shown result (new_key_of texts (shown entry.entry.row) (headed entry.entry.row.at entry.entry.row.text.now entry.entry.head)) }
 {
-    match key_scalar(alloc, bytes, entry.row, entry.head.key) {
+    match key_scalar(source, entry.row, entry.head.key) {
         Ok(key) => {
             if keys.contains(key.text.as_str()) {
                 Err(Refusal::At {

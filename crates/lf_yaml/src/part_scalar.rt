@@ -1,6 +1,5 @@
 //! Scalars that are parts of flow collections.
 ghost use Rattle.std.specs.Prelude.{◌≡◌, ◌+◌, ◌<◌, ◌≤◌, ◌^◌, length, get_or, Some, None, IfOk};
-ghost use Rattle.std.specs.Str.{IsUtf8};
 ghost use Rattle.lf_base.specs.Answers.{AnswersAs};
 ghost use Rattle.lf_scalar.specs.Cells.{cells};
 ghost use Rattle.lf_scalar.specs.views.Built.{shown as scalar_shown};
@@ -19,36 +18,33 @@ use crate::head::byte_fault;
 use crate::parts::place_from;
 use crate::place::Place;
 use crate::row::Row;
+use crate::source::Source;
 use crate::text_builder::{TextBuilder, plain_scalar};
 use lf_base::{Kind, Refusal};
 use lf_scalar::Scalar;
 use lf_scalar::lines::{line_end, past};
 use lf_scalar::quotes::{Quotes, find_closing};
-use std::alloc::Global;
 
 /// The scalar between quotes that a part begins, and the place behind it. It may close on a later line.
 fn quoted_part<'a>(
-    alloc: Global,
-    bytes: &'a [u8],
+    source: Source<'a>,
     part: Row<'a>,
     next: usize,
     quote: Quotes,
 ) -> Result<(Scalar, Place<'a>), Refusal>
-    requires utf8 { IsUtf8 bytes.now }
-    requires room { length bytes.now ≤ 2 ^ 31 }
-    requires part { IsPartIn bytes.now part next }
+    requires part { IsPartIn source.bytes.now part next }
     requires quote { get_or part.text.now 0 0 ≡ quote_byte quote }
-    ensures gives { AnswersAs (λ x. (scalar_shown x.0, x.1.at)) result (part_by bytes.entry.now (shown part.entry).first (shown part.entry).rest (Some quote)) }
-    ensures place { IfOk result (λ x. IsPlaceIn bytes.entry.now x.1) }
+    ensures gives { AnswersAs (λ x. (scalar_shown x.0, x.1.at)) result (part_by source.entry.bytes.now (shown part.entry).first (shown part.entry).rest (Some quote)) }
+    ensures place { IfOk result (λ x. IsPlaceIn source.entry.bytes.now x.1) }
     ensures further { IfOk result (λ x. part.entry.at ≤ x.1.at) }
 {
-    let inside = past(bytes, part.at as usize + 1);
+    let inside = past(source.bytes, part.at as usize + 1);
     match find_closing(quote, inside, part.at + 1) {
         None => Err(byte_fault(Kind::OpenQuote, part.at)),
-        Some(closing) => match quoted_scalar(alloc, bytes, part.at, inside, quote, closing) {
+        Some(closing) => match quoted_scalar(source, part.at, inside, quote, closing) {
             Ok(scalar) => {
                 let after = part.at + (closing as u32 + 2);
-                Ok((scalar, place_from(bytes, part, next, after)))
+                Ok((scalar, place_from(source, part, next, after)))
             }
             Err(refusal) => Err(refusal),
         },
@@ -56,17 +52,15 @@ fn quoted_part<'a>(
 }
 
 /// Appends what the lines of a plain scalar give that a part begins, and tells where the collection is read on.
-fn push_plain(builder: &mut TextBuilder, bytes: &[u8], part: Row<'_>) -> Result<u32, Refusal>
-    requires utf8 { IsUtf8 bytes.now }
-    requires room { length bytes.now ≤ 2 ^ 31 }
-    requires within { part.at < length bytes.now }
-    requires rest { cells part.at part.text.now ≡ (line_on bytes.now part.at).text }
-    ensures { FoldsAs result builder.old builder.new (plain_from (line_on bytes.now part.entry.at) (lines_below bytes.now part.entry.at)) }
+fn push_plain(builder: &mut TextBuilder, source: Source<'_>, part: Row<'_>) -> Result<u32, Refusal>
+    requires within { part.at < length source.bytes.now }
+    requires rest { cells part.at part.text.now ≡ (line_on source.bytes.now part.at).text }
+    ensures { FoldsAs result builder.old builder.new (plain_from (line_on source.entry.bytes.now part.entry.at) (lines_below source.entry.bytes.now part.entry.at)) }
 {
     match push_line(builder, part.text, part.at) {
         Ok(Some(after)) => Ok(after),
         Ok(None) => {
-            let rest = past(bytes, part.at as usize);
+            let rest = past(source.bytes, part.at as usize);
             let end = line_end(rest);
             let feed = part.at + end.feed as u32;
             push_behind(builder, past(rest, end.feed + 1), feed + 1, feed)
@@ -77,25 +71,22 @@ fn push_plain(builder: &mut TextBuilder, bytes: &[u8], part: Row<'_>) -> Result<
 
 /// The plain scalar that a part begins, and the place behind it. It may go on over later lines.
 fn plain_part<'a>(
-    alloc: Global,
-    bytes: &'a [u8],
+    source: Source<'a>,
     part: Row<'a>,
     next: usize,
 ) -> Result<(Scalar, Place<'a>), Refusal>
-    requires utf8 { IsUtf8 bytes.now }
-    requires room { length bytes.now ≤ 2 ^ 31 }
-    requires part { IsPartIn bytes.now part next }
-    ensures gives { AnswersAs (λ x. (scalar_shown x.0, x.1.at)) result (part_by bytes.entry.now (shown part.entry).first (shown part.entry).rest None) }
-    ensures place { IfOk result (λ x. IsPlaceIn bytes.entry.now x.1) }
+    requires part { IsPartIn source.bytes.now part next }
+    ensures gives { AnswersAs (λ x. (scalar_shown x.0, x.1.at)) result (part_by source.entry.bytes.now (shown part.entry).first (shown part.entry).rest None) }
+    ensures place { IfOk result (λ x. IsPlaceIn source.entry.bytes.now x.1) }
     ensures further { IfOk result (λ x. part.entry.at ≤ x.1.at) }
 {
     if !begins_flow_bytes(part.text[0], past(part.text, 1)) {
         return Err(part_fault(part));
     }
-    let mut builder = TextBuilder::new(alloc);
-    match push_plain(&mut builder, bytes, part) {
-        Ok(after) => match plain_scalar(alloc, builder, part.at, bytes.len() as u32) {
-            Ok(scalar) => Ok((scalar, place_from(bytes, part, next, after))),
+    let mut builder = TextBuilder::new(source.alloc);
+    match push_plain(&mut builder, source, part) {
+        Ok(after) => match plain_scalar(source.alloc, builder, part.at, source.bytes.len() as u32) {
+            Ok(scalar) => Ok((scalar, place_from(source, part, next, after))),
             Err(refusal) => Err(refusal),
         },
         Err(refusal) => Err(refusal),
@@ -105,20 +96,17 @@ fn plain_part<'a>(
 /// The scalar that a part of a flow collection begins, and the place behind it. The lines behind the part's own begin at `next`.
 #[tactic(auto, unfolding(crate::specs::reading::Trees::flow_scalar))]
 pub fn read_part<'a>(
-    alloc: Global,
-    bytes: &'a [u8],
+    source: Source<'a>,
     part: Row<'a>,
     next: usize,
 ) -> Result<(Scalar, Place<'a>), Refusal>
-    requires utf8 { IsUtf8 bytes.now }
-    requires room { length bytes.now ≤ 2 ^ 31 }
-    requires part { IsPartIn bytes.now part next }
-    ensures gives { AnswersAs (λ x. (scalar_shown x.0, x.1.at)) result (flow_scalar bytes.entry.now (shown part.entry).first (shown part.entry).rest) }
-    ensures place { IfOk result (λ x. IsPlaceIn bytes.entry.now x.1) }
+    requires part { IsPartIn source.bytes.now part next }
+    ensures gives { AnswersAs (λ x. (scalar_shown x.0, x.1.at)) result (flow_scalar source.entry.bytes.now (shown part.entry).first (shown part.entry).rest) }
+    ensures place { IfOk result (λ x. IsPlaceIn source.entry.bytes.now x.1) }
     ensures further { IfOk result (λ x. part.entry.at ≤ x.1.at) }
 {
     match quote_of(part.text[0]) {
-        Some(quote) => quoted_part(alloc, bytes, part, next, quote),
-        None => plain_part(alloc, bytes, part, next),
+        Some(quote) => quoted_part(source, part, next, quote),
+        None => plain_part(source, part, next),
     }
 }

@@ -10,20 +10,19 @@ use crate::head::{first_fault, indent_fault, is_mark};
 use crate::place::Place;
 use crate::row::Row;
 use crate::rows::{line_of, next_row};
+use crate::source::Source;
 use lf_base::{Kind, Refusal, Span};
 use lf_scalar::lines::{blanks, past};
 
 /// The part that begins on a later line, at its first character. The line may have any indent, but no tab behind it, and is no mark. The file doesn't end before it.
-pub fn on_line(bytes: &[u8], next: usize) -> Result<(Row<'_>, usize), Refusal>
-    requires text { IsUtf8 bytes.now }
-    requires room { length bytes.now ≤ 2 ^ 31 }
-    requires start { IsCharBoundary bytes.now next }
-    ensures next { IsNext result (on_line_of (length bytes.entry.now) (rows_after bytes.entry.now next)) }
-    ensures part { IfOk result (λ x. IsPartIn bytes.entry.now x.0 x.1) }
+pub fn on_line(source: Source<'_>, next: usize) -> Result<(Row<'_>, usize), Refusal>
+    requires start { IsCharBoundary source.bytes.now next }
+    ensures next { IsNext result (on_line_of (length source.entry.bytes.now) (rows_after source.entry.bytes.now next)) }
+    ensures part { IfOk result (λ x. IsPartIn source.entry.bytes.now x.0 x.1) }
 {
-    match next_row(bytes, next) {
+    match next_row(source, next) {
         None => {
-            let end = bytes.len() as u32;
+            let end = source.bytes.len() as u32;
             Err(Refusal::At {
                 kind: Kind::NotANode,
                 span: Span { start: end, end },
@@ -43,20 +42,18 @@ pub fn on_line(bytes: &[u8], next: usize) -> Result<(Row<'_>, usize), Refusal>
 
 /// The next part from a place on, and where the lines behind its own begin: blanks are skipped, and a comment, whose `#` stands behind a blank.
 #[tactic(auto, unfolding(crate::specs::Flow::next_on))]
-pub fn next_part<'a>(bytes: &'a [u8], place: Place<'a>) -> Result<(Row<'a>, usize), Refusal>
-    requires utf8 { IsUtf8 bytes.now }
-    requires room { length bytes.now ≤ 2 ^ 31 }
-    requires place { IsPlaceIn bytes.now place }
-    ensures next { IsNext result (next_on bytes.entry.now place.entry.at) }
-    ensures part { IfOk result (λ x. IsPartIn bytes.entry.now x.0 x.1) }
+pub fn next_part<'a>(source: Source<'a>, place: Place<'a>) -> Result<(Row<'a>, usize), Refusal>
+    requires place { IsPlaceIn source.bytes.now place }
+    ensures next { IsNext result (next_on source.entry.bytes.now place.entry.at) }
+    ensures part { IfOk result (λ x. IsPartIn source.entry.bytes.now x.0 x.1) }
     ensures further { IfOk result (λ x. place.entry.at ≤ x.0.at) }
 {
     let skipped = blanks(place.text);
     match past(place.text, skipped) {
-        [] => on_line(bytes, place.next),
+        [] => on_line(source, place.next),
         [first, ..] => {
             if skipped > 0 && *first == b'#' {
-                return on_line(bytes, place.next);
+                return on_line(source, place.next);
             }
             let row = Row {
                 begin: place.begin,
@@ -84,15 +81,13 @@ pub fn behind(part: Row<'_>, len: usize, next: usize) -> Place<'_>
 }
 
 /// The place at an offset of a file where a character begins.
-pub fn place_on(bytes: &[u8], at: u32) -> Place<'_>
-    requires utf8 { IsUtf8 bytes.now }
-    requires room { length bytes.now ≤ 2 ^ 31 }
-    requires start { IsCharBoundary bytes.now at }
+pub fn place_on(source: Source<'_>, at: u32) -> Place<'_>
+    requires start { IsCharBoundary source.bytes.now at }
     ensures at { result.at ≡ at }
-    ensures place { IsPlaceIn bytes.entry.now result }
+    ensures place { IsPlaceIn source.entry.bytes.now result }
 {
-    if (at as usize) < bytes.len() {
-        let line = line_of(bytes, at as usize);
+    if (at as usize) < source.bytes.len() {
+        let line = line_of(source, at as usize);
         return Place {
             begin: at,
             at,
@@ -104,24 +99,22 @@ pub fn place_on(bytes: &[u8], at: u32) -> Place<'_>
         begin: at,
         at,
         text: &[],
-        next: bytes.len(),
+        next: source.bytes.len(),
     }
 }
 
 /// The place at an offset behind a part's first byte, on the part's line or on a later one. The lines behind the part's own begin at `next`.
-pub fn place_from<'a>(bytes: &'a [u8], part: Row<'a>, next: usize, at: u32) -> Place<'a>
-    requires utf8 { IsUtf8 bytes.now }
-    requires room { length bytes.now ≤ 2 ^ 31 }
-    requires part { IsPartIn bytes.now part next }
+pub fn place_from<'a>(source: Source<'a>, part: Row<'a>, next: usize, at: u32) -> Place<'a>
+    requires part { IsPartIn source.bytes.now part next }
     requires order { part.at ≤ at }
-    requires start { IsCharBoundary bytes.now at }
+    requires start { IsCharBoundary source.bytes.now at }
     ensures at { result.at ≡ at }
-    ensures place { IsPlaceIn bytes.entry.now result }
+    ensures place { IsPlaceIn source.entry.bytes.now result }
 {
     let len = (at - part.at) as usize;
     if len <= part.text.len() {
         behind(part, len, next)
     } else {
-        place_on(bytes, at)
+        place_on(source, at)
     }
 }

@@ -1,6 +1,6 @@
 //! Values on a row: scalars and flow collections.
 ghost use Rattle.std.specs.Prelude.{true, ◌≡◌, ℕ, ◌+◌, ◌≤◌, ◌^◌, length, IfOk};
-ghost use Rattle.std.specs.Str.{IsCharBoundary, IsUtf8};
+ghost use Rattle.std.specs.Str.{IsCharBoundary};
 ghost use Rattle.lf_base.specs.Answers.{AnswersAs};
 ghost use Rattle.lf_scalar.specs.Scalars.{least_above};
 ghost use Rattle.lf_yaml.specs.Heads.{begins_scalar as begins_scalar_of};
@@ -16,8 +16,8 @@ use crate::node::Node;
 use crate::row::Row;
 use crate::rows::lines_from;
 use crate::scalars::{begins_scalar, scalar};
+use crate::source::Source;
 use lf_base::Refusal;
-use std::alloc::Global;
 
 /// The indent of a parent whose values have at least so many spaces on their later lines, -1 where they need none.
 fn parent_of(above: u32) -> i32
@@ -29,25 +29,22 @@ fn parent_of(above: u32) -> i32
 
 /// The scalar that a row begins, and where the line begins behind it.
 fn scalar_value(
-    alloc: Global,
-    bytes: &[u8],
+    source: Source<'_>,
     row: Row<'_>,
     next: usize,
     above: u32,
 ) -> Result<(Node, usize), Refusal>
-    requires text { IsUtf8 bytes.now }
-    requires room { length bytes.now ≤ 2 ^ 31 }
-    requires row { IsRowOf bytes.now row }
-    requires start { IsCharBoundary bytes.now next }
+    requires row { IsRowOf source.bytes.now row }
+    requires start { IsCharBoundary source.bytes.now next }
     requires above { above ≤ 2 ^ 31 }
     requires begins { begins_scalar_of (shown row) ≡ true }
-    ensures gives { AnswersAs (λ x. (tree x.0, rows_after bytes.now x.1)) result (scalar_value_of (rows_after bytes.now next) (scalar_on bytes.now above (shown row.entry))) }
-    ensures start { IfOk result (λ x. IsCharBoundary bytes.now x.1) }
+    ensures gives { AnswersAs (λ x. (tree x.0, rows_after source.entry.bytes.now x.1)) result (scalar_value_of (rows_after source.entry.bytes.now next) (scalar_on source.entry.bytes.now above (shown row.entry))) }
+    ensures start { IfOk result (λ x. IsCharBoundary source.entry.bytes.now x.1) }
     ensures further { IfOk result (λ x. next ≤ x.1) }
 {
-    match scalar(alloc, bytes, row, parent_of(above)) {
+    match scalar(source, row, parent_of(above)) {
         Ok(of) => {
-            let behind = lines_from(bytes, next, of.span.end as usize);
+            let behind = lines_from(source, next, of.span.end as usize);
             Ok((scalar_node(of), behind))
         }
         Err(refusal) => Err(refusal),
@@ -59,28 +56,25 @@ fn scalar_value(
 /// The later lines of a plain or block scalar have at least `above` spaces, and `depth` is how many collections may stand one in another from here on: a flow collection is `TooDeep` where that is 0.
 #[tactic(auto, unfolding(crate::specs::reading::Trees::value_on))]
 pub fn value(
-    alloc: Global,
-    bytes: &[u8],
+    source: Source<'_>,
     row: Row<'_>,
     next: usize,
     above: u32,
     depth: u32,
 ) -> Result<(Node, usize), Refusal>
-    requires text { IsUtf8 bytes.now }
-    requires room { length bytes.now ≤ 2 ^ 31 }
-    requires row { IsRowOf bytes.now row }
-    requires start { IsCharBoundary bytes.now next }
+    requires row { IsRowOf source.bytes.now row }
+    requires start { IsCharBoundary source.bytes.now next }
     requires above { above ≤ 2 ^ 31 }
-    ensures gives { AnswersAs (λ x. (tree x.0, rows_after bytes.now x.1)) result (value_on bytes.now above depth (shown row.entry) (rows_after bytes.now next)) }
-    ensures start { IfOk result (λ x. IsCharBoundary bytes.now x.1) }
+    ensures gives { AnswersAs (λ x. (tree x.0, rows_after source.entry.bytes.now x.1)) result (value_on source.entry.bytes.now above depth (shown row.entry) (rows_after source.entry.bytes.now next)) }
+    ensures start { IfOk result (λ x. IsCharBoundary source.entry.bytes.now x.1) }
     ensures further { IfOk result (λ x. next ≤ x.1) }
 {
     if begins_scalar(row) {
-        return scalar_value(alloc, bytes, row, next, above);
+        return scalar_value(source, row, next, above);
     }
     match row.text[0] {
-        b'[' => flow_list(alloc, bytes, depth, row, next),
-        b'{' => flow_map(alloc, bytes, depth, row, next),
+        b'[' => flow_list(source, depth, row, next),
+        b'{' => flow_map(source, depth, row, next),
         _ => Err(row_fault(row)),
     }
 }

@@ -1,6 +1,6 @@
 //! The rows of a file, one after the other.
 ghost use Rattle.std.specs.Prelude.{◌≡◌, ℕ, ◌+◌, ◌<◌, ◌≤◌, ◌^◌, ◌∷◌, ◌-◌, [], length, get_or, take, drop, MatchOption, ◌++◌, IfSome};
-ghost use Rattle.std.specs.Str.{IsCharBoundary, IsUtf8};
+ghost use Rattle.std.specs.Str.{IsCharBoundary};
 ghost use Rattle.lf_scalar.specs.Cells.{cells};
 ghost use Rattle.lf_scalar.specs.Lines.{line};
 ghost use Rattle.lf_yaml.specs.Flow.{line_on, lines_below};
@@ -9,6 +9,7 @@ ghost use Rattle.lf_yaml.specs.views.Shown.{shown};
 ghost use Rattle.lf_yaml.specs.views.Cursor.{rows_after, IsRowOf};
 
 use crate::row::Row;
+use crate::source::Source;
 use lf_base::bytes::before;
 use lf_scalar::lines::{line_end, past, spaces};
 
@@ -42,24 +43,22 @@ pub struct LineOf<'a> {
 }
 
 /// The line that begins at an offset of a file.
-pub fn line_of(bytes: &[u8], from: usize) -> LineOf<'_>
-    requires text { IsUtf8 bytes.now }
-    requires room { length bytes.now ≤ 2 ^ 31 }
-    requires within { from < length bytes.now }
-    ensures rows { (feed : ℕ) × (rows_after bytes.entry.now from ≡ content_row (line (cells from result.text.now) feed) ++ rows_after bytes.entry.now result.behind) }
-    ensures rest { cells from result.text.now ≡ (line_on bytes.entry.now from).text }
-    ensures below { rows_after bytes.entry.now result.behind ≡ rows_of (lines_below bytes.entry.now from) }
-    ensures text { result.text.now ≡ take (length result.text.now) (drop from bytes.entry.now) }
-    ensures start { IsCharBoundary bytes.entry.now result.behind }
+pub fn line_of(source: Source<'_>, from: usize) -> LineOf<'_>
+    requires within { from < length source.bytes.now }
+    ensures rows { (feed : ℕ) × (rows_after source.entry.bytes.now from ≡ content_row (line (cells from result.text.now) feed) ++ rows_after source.entry.bytes.now result.behind) }
+    ensures rest { cells from result.text.now ≡ (line_on source.entry.bytes.now from).text }
+    ensures below { rows_after source.entry.bytes.now result.behind ≡ rows_of (lines_below source.entry.bytes.now from) }
+    ensures text { result.text.now ≡ take (length result.text.now) (drop from source.entry.bytes.now) }
+    ensures start { IsCharBoundary source.entry.bytes.now result.behind }
     ensures further { from < result.behind }
-    ensures room { from + length result.text.now ≤ length bytes.entry.now }
+    ensures room { from + length result.text.now ≤ length source.entry.bytes.now }
 {
-    let rest = past(bytes, from);
+    let rest = past(source.bytes, from);
     let end = line_end(rest);
     let behind = if end.feed < rest.len() {
         from + end.feed + 1
     } else {
-        bytes.len()
+        source.bytes.len()
     };
     LineOf {
         text: before(rest, end.text),
@@ -68,21 +67,19 @@ pub fn line_of(bytes: &[u8], from: usize) -> LineOf<'_>
 }
 
 /// The next row from an offset on, at which a line begins, and where the line behind it begins. None where no row is left.
-pub fn next_row(bytes: &[u8], from: usize) -> Option<(Row<'_>, usize)>
-    requires text { IsUtf8 bytes.now }
-    requires room { length bytes.now ≤ 2 ^ 31 }
-    requires start { IsCharBoundary bytes.now from }
-    ensures rows { MatchOption result (rows_after bytes.entry.now from ≡ []) (λ x. rows_after bytes.entry.now from ≡ shown x.0 ∷ rows_after bytes.entry.now x.1) }
-    ensures boundary { IfSome result (λ x. IsCharBoundary bytes.entry.now x.0.at) }
-    ensures text { IfSome result (λ x. x.0.text.now ≡ take (length x.0.text.now) (drop x.0.at bytes.entry.now)) }
-    ensures rest { IfSome result (λ x. cells x.0.at x.0.text.now ≡ (line_on bytes.entry.now x.0.at).text) }
-    ensures below { IfSome result (λ x. rows_after bytes.entry.now x.1 ≡ rows_of (lines_below bytes.entry.now x.0.at)) }
-    ensures start { IfSome result (λ x. IsCharBoundary bytes.entry.now x.1) }
+pub fn next_row(source: Source<'_>, from: usize) -> Option<(Row<'_>, usize)>
+    requires start { IsCharBoundary source.bytes.now from }
+    ensures rows { MatchOption result (rows_after source.entry.bytes.now from ≡ []) (λ x. rows_after source.entry.bytes.now from ≡ shown x.0 ∷ rows_after source.entry.bytes.now x.1) }
+    ensures boundary { IfSome result (λ x. IsCharBoundary source.entry.bytes.now x.0.at) }
+    ensures text { IfSome result (λ x. x.0.text.now ≡ take (length x.0.text.now) (drop x.0.at source.entry.bytes.now)) }
+    ensures rest { IfSome result (λ x. cells x.0.at x.0.text.now ≡ (line_on source.entry.bytes.now x.0.at).text) }
+    ensures below { IfSome result (λ x. rows_after source.entry.bytes.now x.1 ≡ rows_of (lines_below source.entry.bytes.now x.0.at)) }
+    ensures start { IfSome result (λ x. IsCharBoundary source.entry.bytes.now x.1) }
     ensures further { IfSome result (λ x. from < x.1) }
 {
     let mut next = from;
-    while next < bytes.len() {
-        let line = line_of(bytes, next);
+    while next < source.bytes.len() {
+        let line = line_of(source, next);
         match line_row(line.text, next as u32) {
             Some(row) => return Some((row, line.behind)),
             None => next = line.behind,
@@ -92,17 +89,15 @@ pub fn next_row(bytes: &[u8], from: usize) -> Option<(Row<'_>, usize)>
 }
 
 /// Where the first line begins at an offset or behind it, from the start of a line on.
-pub fn lines_from(bytes: &[u8], from: usize, offset: usize) -> usize
-    requires text { IsUtf8 bytes.now }
-    requires room { length bytes.now ≤ 2 ^ 31 }
-    requires start { IsCharBoundary bytes.now from }
-    ensures rows { rows_after bytes.now result ≡ rows_from offset (rows_after bytes.now from) }
-    ensures start { IsCharBoundary bytes.now result }
+pub fn lines_from(source: Source<'_>, from: usize, offset: usize) -> usize
+    requires start { IsCharBoundary source.bytes.now from }
+    ensures rows { rows_after source.entry.bytes.now result ≡ rows_from offset (rows_after source.entry.bytes.now from) }
+    ensures start { IsCharBoundary source.entry.bytes.now result }
     ensures further { from ≤ result }
 {
     let mut next = from;
-    while next < offset && next < bytes.len() {
-        next = line_of(bytes, next).behind;
+    while next < offset && next < source.bytes.len() {
+        next = line_of(source, next).behind;
     }
     next
 }

@@ -1,6 +1,5 @@
 //! Scalars on a row.
 ghost use Rattle.std.specs.Prelude.{true, ◌≡◌, ℕ, ◌+◌, ◌≤◌, ◌^◌, length};
-ghost use Rattle.std.specs.Str.{IsUtf8};
 ghost use Rattle.lf_base.specs.Answers.{AnswersAs};
 ghost use Rattle.lf_scalar.specs.Cells.{cell};
 ghost use Rattle.lf_scalar.specs.Scalars.{least_above, begins};
@@ -14,9 +13,9 @@ ghost use Rattle.lf_yaml.specs.views.Cursor.{IsRowOf};
 use crate::entry::begins_plain;
 use crate::head::is_left_out;
 use crate::row::Row;
+use crate::source::Source;
 use lf_base::Refusal;
 use lf_scalar::{Scalar, Style, read_scalar};
-use std::alloc::Global;
 
 /// The style of a scalar by its first byte.
 fn style_by(byte: u8) -> Style
@@ -52,12 +51,16 @@ pub fn begins_scalar(row: Row<'_>) -> bool
 }
 
 /// The scalar that a row begins, as a value whose parent has an indent, -1 at the root.
-pub fn scalar(alloc: Global, bytes: &[u8], row: Row<'_>, parent: i32) -> Result<Scalar, Refusal>
-    requires text { IsUtf8 bytes.now }
-    requires room { length bytes.now ≤ 2 ^ 31 }
-    requires row { IsRowOf bytes.now row }
+pub fn scalar(source: Source<'_>, row: Row<'_>, parent: i32) -> Result<Scalar, Refusal>
+    requires row { IsRowOf source.bytes.now row }
     requires begins { begins_scalar_of (shown row) ≡ true }
-    ensures { AnswersAs scalar_shown result (scalar_on bytes.now (least_above parent) (shown row.entry)) }
+    ensures { AnswersAs scalar_shown result (scalar_on source.entry.bytes.now (least_above parent) (shown row.entry)) }
 {
-    read_scalar(alloc, bytes, row.at, parent, style_by(row.text[0]))
+    read_scalar(
+        source.alloc,
+        source.bytes,
+        row.at,
+        parent,
+        style_by(row.text[0]),
+    )
 }

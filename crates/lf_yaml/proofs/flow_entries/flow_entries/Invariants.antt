@@ -7,7 +7,7 @@ use Rattle.lf_yaml.proofs.flow_entries.flow_entries.Given as goal
 
 abbrev pub invariant-entries : goal.invariant-entries
 invariant-entries l =
-    (after_entries (map pair l.entries) (all_from l.bytes (texts_of (map pair l.entries)) l.at.at) ≡ all_from l.bytes [] l.fn.place.at) × IsPlaceIn l.bytes l.at × HasKeys l.keys (texts_of (map pair l.entries))
+    (after_entries (map pair l.entries) (all_from l.source.bytes.now (texts_of (map pair l.entries)) l.at.at) ≡ all_from l.source.bytes.now [] l.fn.place.at) × IsPlaceIn l.source.bytes.now l.at × HasKeys l.keys (texts_of (map pair l.entries))
 
 abbrev pub decreases-entries : goal.decreases-entries
 decreases-entries l = 2 ^ 31 - l.at.at

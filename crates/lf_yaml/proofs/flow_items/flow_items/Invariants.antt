@@ -5,7 +5,7 @@ use Rattle.lf_yaml.proofs.ItemCode.{after_items, all_from}
 use Rattle.lf_yaml.proofs.flow_items.flow_items.Given as goal
 
 abbrev pub invariant-items : goal.invariant-items
-invariant-items l = (after_items (map tree l.items) (all_from l.bytes l.at.at) ≡ all_from l.bytes l.fn.place.at) × IsPlaceIn l.bytes l.at
+invariant-items l = (after_items (map tree l.items) (all_from l.source.bytes.now l.at.at) ≡ all_from l.source.bytes.now l.fn.place.at) × IsPlaceIn l.source.bytes.now l.at
 
 abbrev pub decreases-items : goal.decreases-items
 decreases-items l = 2 ^ 31 - l.at.at

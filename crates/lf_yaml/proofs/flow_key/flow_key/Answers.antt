@@ -9,5 +9,5 @@ use Rattle.lf_yaml.proofs.flow_key.flow_key.Goals as goal
 pub returns-in-None-clause-gives : goal.returns-in-None-clause-gives
 unfolding flow_key
 returns-in-None-clause-gives c =
-    subst (λ (o : Option Quotes). AnswersAs (signed c.args.part) c.bare_key.result (flow_key_by c.args.bytes.now (shown c.args.part).first (shown c.args.part).rest o))
+    subst (λ (o : Option Quotes). AnswersAs (signed c.args.part) c.bare_key.result (flow_key_by c.args.source.bytes.now (shown c.args.part).first (shown c.args.part).rest o))
     (c.in-None.ensures.kind c.args.part.at) c.bare_key.ensures.gives

@@ -1,6 +1,6 @@
 use Rattle.std.proofs.Common.{sym, refl, subst, length, ◌≤◌}
 use Rattle.std.specs.Str.{IsCharBoundary, IsUtf8}
-use Rattle.std.proofs.lemmas.Str.{IsUtf8-take}
+use Rattle.std.proofs.lemmas.Str.{IsUtf8-take, IsUtf8-had}
 use Rattle.lf_base.specs.Answers.{AnswersAs}
 use Rattle.lf_scalar.specs.views.Built.{shown as scalar_shown}
 use Rattle.lf_yaml.specs.reading.Trees.{key_of}
@@ -21,4 +21,4 @@ returns-in-Bare c =
 pub slice_scalar-requires-clause-utf8 : goal.slice_scalar-requires-clause-utf8
 slice_scalar-requires-clause-utf8 c =
     let cut : IsCharBoundary c.args.row.text.now c.in-Bare.len = subst (λ (k : Key). IsKeyIn c.args.row.at c.args.row.text.now k) c.in-Bare.is c.requires.key in
-    subst IsUtf8 (sym c.before-in-Bare.ensures) (IsUtf8-take c.args.row.text.now c.in-Bare.len (row-utf8 c.args.bytes.now c.args.row c.requires.text c.args.row.full c.requires.row) cut)
+    subst IsUtf8 (sym c.before-in-Bare.ensures) (IsUtf8-take c.args.row.text.now c.in-Bare.len (row-utf8 c.args.source.bytes.now c.args.row (IsUtf8-had c.args.source.bytes.now c.args.source.utf8) c.args.row.full c.requires.row) cut)

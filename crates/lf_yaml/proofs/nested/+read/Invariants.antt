@@ -21,13 +21,13 @@ decreases-items l = 4 * l.depth + 2
 
 abbrev pub invariant-items-rows : goal.invariant-items-rows
 invariant-items-rows l = record {
-  run : ItemsLeft l.bytes l.depth l.own l.column (map tree l.found) (rows_after l.bytes l.left) (run_items l.bytes l.depth l.own (indent (shown l.fn.row)) (shown l.fn.row) (rows_after l.bytes l.next));
-  start : IsCharBoundary l.bytes l.left;
+  run : ItemsLeft l.source.bytes.now l.depth l.own l.column (map tree l.found) (rows_after l.source.bytes.now l.left) (run_items l.source.bytes.now l.depth l.own (indent (shown l.fn.row)) (shown l.fn.row) (rows_after l.source.bytes.now l.next));
+  start : IsCharBoundary l.source.bytes.now l.left;
   further : l.next ≤ l.left;
 }
 
 abbrev pub decreases-items-rows : goal.decreases-items-rows
-decreases-items-rows l = length l.bytes - l.left
+decreases-items-rows l = length l.source.bytes.now - l.left
 
 abbrev pub decreases-entry_value : goal.decreases-entry_value
 decreases-entry_value l = 4 * l.depth + 1
@@ -40,11 +40,11 @@ decreases-entries l = 4 * l.depth + 3
 
 abbrev pub invariant-entries-rows : goal.invariant-entries-rows
 invariant-entries-rows l = record {
-  run : EntriesLeft l.bytes l.depth l.column (map pair l.found) (rows_after l.bytes l.left) (run_entries l.bytes l.depth (indent (shown l.fn.entry.row)) (shown l.fn.entry.row) (rows_after l.bytes l.fn.entry.behind));
+  run : EntriesLeft l.source.bytes.now l.depth l.column (map pair l.found) (rows_after l.source.bytes.now l.left) (run_entries l.source.bytes.now l.depth (indent (shown l.fn.entry.row)) (shown l.fn.entry.row) (rows_after l.source.bytes.now l.fn.entry.behind));
   known : HasKeys l.keys (texts_of (map pair l.found));
-  start : IsCharBoundary l.bytes l.left;
+  start : IsCharBoundary l.source.bytes.now l.left;
   further : l.fn.entry.behind ≤ l.left;
 }
 
 abbrev pub decreases-entries-rows : goal.decreases-entries-rows
-decreases-entries-rows l = length l.bytes - l.left
+decreases-entries-rows l = length l.source.bytes.now - l.left
