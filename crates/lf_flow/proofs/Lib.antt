@@ -6,6 +6,7 @@ pub mod Entries
 pub mod HasClass
 pub mod KeptRows
 pub mod Layered
+pub mod ListedSets
 pub mod MadeRows
 pub mod MatcherSets
 pub mod Narrowed

@@ -55,7 +55,7 @@ module _ (u : Listing) (p : IsListing u) (label : ℕ) where
       let texts = class_texts u label in
       position_or_len_is (λ x. bytes_eq x (get_or texts c [])) texts c [] (omega arith) (λ k b. other_false _ _ (apart k c b (omega arith))) (λ b. same_true (get_or texts c []) _ refl)
 
-  test_own : (text : Bytes) (c : ℕ) → c < other_class u label → bytes_eq (text_of u label c) text ≡ eqb c (class_of u label text)
+  pub test_own : (text : Bytes) (c : ℕ) → c < other_class u label → bytes_eq (text_of u label c) text ≡ eqb c (class_of u label text)
   test_own text c h =
       let e = own_class c h in
       let P : ℕ → Type 0 = λ k. k < other_class u label in

@@ -90,12 +90,6 @@ has_class_same u test other set same =
 pub has_class_of : (u : Listing) (n : ℕ) (test : ℕ → Bool) (on set : List Bool) → IsSet n test on → length set ≡ n → has_class u (λ class. get_or on class false) set ≡ has_class u test set
 has_class_of u n test on set is e = has_class_same u _ test set (λ class h. is.each class (omega (arith, e)))
 
-pub negated : (a b : Bool) → a ≡ not b → b ≡ not a
-negated true true e = absurd (cc)
-negated true false e = refl
-negated false true e = refl
-negated false false e = absurd (cc)
-
 -- a source that is a label name has a class that passes
 pub met : (u : Listing) (row : Sets) (source : Bytes) (label : ℕ) (on items : List Bool) (test : ℕ → ℕ → Bool) → HasShape u row → label < length u.named → label ≡ label_of u source → on ≡ items
     → IsSet (length (named_at u label) + 2) (test label) items → is_label_name source ≡ true

@@ -6,11 +6,10 @@ ghost use Rattle.lf_semantics.specs.Listing.{IsListing, named_at};
 ghost use Rattle.lf_semantics.specs.RowTable.{is_label, passes_class};
 ghost use Rattle.lf_flow.specs.views.ClassSets.{IsSet};
 
-use crate::replacing::{asked, failed, matched, unread};
+use crate::replacing::{failed, matched, matched_if_read, unread};
 use lf_ast::{MatchOp, Matcher};
 use lf_base::{Memory, Text};
 use lf_classes::{Row, Universe};
-use lf_pattern::{Pattern, PatternError, plain_alternatives};
 use std::alloc::Global;
 
 /// Leaves the label of a matcher the classes that pass it. Those that pass a pattern are looked for only where the universe doesn't remember them.
@@ -110,13 +109,8 @@ fn unmatched(
     requires label { label < length universe.now.named }
     ensures { IfOk result (λ on. IsSet (length (named_at universe.now label) + 2) (passes_class universe.now NotMatches pattern.now label) on.items) }
 {
-    let other = plain_alternatives(alloc, pattern)?.is_none();
-    match Pattern::new(alloc, pattern) {
-        Ok(mut read) => {
-            let matched = asked(alloc, universe, label, &mut read, other)?;
-            failed(alloc, &matched)
-        }
-        Err(PatternError::BadPattern) => unread(alloc, universe.classes(label), true),
-        Err(PatternError::Memory) => Err(Memory),
+    match matched_if_read(alloc, universe, label, pattern)? {
+        Some(matched) => failed(alloc, &matched),
+        None => unread(alloc, universe.classes(label), true),
     }
 }

@@ -1,15 +1,15 @@
 //! The row of `label_replace`.
-ghost use Rattle.std.specs.Prelude.{◌≡◌, ◌+◌, ◌<◌, ◌&&◌, ◌||◌, ◌==◌, [], cond, eqb, false, length, nat_lt, not, true, slice_index_or, IfOk, OnOk};
+ghost use Rattle.std.specs.Prelude.{◌≡◌, ◌+◌, ◌<◌, ◌&&◌, ◌||◌, ◌==◌, [], cond, eqb, false, length, nat_lt, not, true, slice_index_or, IfNone, IfOk, IfSome, OnOk};
 ghost use Rattle.std.specs.List.{list_any};
-ghost use Rattle.lf_pattern.specs.Matching.{matches};
+ghost use Rattle.lf_pattern.specs.Matching.{IsRead, matches};
 ghost use Rattle.lf_semantics.specs.ClassRows.{HasShape, holds};
-ghost use Rattle.lf_semantics.specs.Listing.{label_of, named_at};
+ghost use Rattle.lf_semantics.specs.Listing.{IsListing, label_of, named_at};
 ghost use Rattle.lf_ast.specs.Tree.{trees};
 ghost use Rattle.lf_ast.specs.Arguments.{texts_of};
 ghost use Rattle.lf_semantics.specs.Passing.{is_plain};
 ghost use Rattle.lf_semantics.specs.RowTable.{has_class, is_expansion, is_other, may_fail, may_match, replacing_row, set_at, source_set};
 ghost use Rattle.lf_semantics.specs.Strings.{replacing};
-ghost use Rattle.lf_flow.specs.views.ClassSets.{IsSet};
+ghost use Rattle.lf_flow.specs.views.ClassSets.{IsSet, is_listed};
 
 use lf_ast::{Expr, has_dollar, text_at};
 use lf_base::names::is_label_name;
@@ -119,33 +119,91 @@ pub fn matched(
     requires label { label < length universe.now.named }
     ensures { IfOk result (λ on. IsSet (length (named_at universe.now label) + 2) (may_match universe.now pattern.now label) on.items) }
 {
-    let other = plain_alternatives(alloc, pattern)?.is_none();
+    match matched_if_read(alloc, universe, label, pattern)? {
+        Some(on) => Ok(on),
+        None => unread(alloc, universe.classes(label), true),
+    }
+}
+
+/// The classes of a label that may match a text, if that is a pattern. The alternatives of a plain one are looked up, and any other is tried on each class.
+pub fn matched_if_read(
+    alloc: Global,
+    universe: &Universe,
+    label: u32,
+    pattern: &Text,
+) -> Result<Option<Vec<bool>>, Memory>
+    requires label { label < length universe.now.named }
+    ensures set { IfOk result (λ found. IfSome found (λ on. IsSet (length (named_at universe.now label) + 2) (may_match universe.now pattern.now label) on.items)) }
+    ensures read { IfOk result (λ found. IfSome found (λ _. IsRead pattern.now)) }
+    ensures unread { IfOk result (λ found. IfNone found (IsRead pattern.now → ⊥)) }
+{
+    let _labels = universe.labels();
+    match plain_alternatives(alloc, pattern)? {
+        Some(alternatives) => Ok(Some(listed(alloc, universe, label, alternatives.as_slice())?)),
+        None => tried(alloc, universe, label, pattern),
+    }
+}
+
+/// The classes of a label whose texts are among some.
+fn listed(
+    alloc: Global,
+    universe: &Universe,
+    label: u32,
+    texts: &[Text],
+) -> Result<Vec<bool>, Memory>
+    requires listing { IsListing universe.now }
+    requires label { label < length universe.now.named }
+    ensures { IfOk result (λ on. IsSet (length (named_at universe.now label) + 2) (is_listed universe.now label texts.now) on.items) }
+{
+    let count = universe.classes(label);
+    let mut on = vec![in alloc; false; count as usize]?;
+    for text in texts {
+        let class = universe.class_of(label, text.as_str());
+        on[class as usize] = true;
+    }
+    on[count as usize - 1] = false;
+    Ok(on)
+}
+
+/// The classes of a label that may match a text that isn't plain, if it is a pattern.
+fn tried(
+    alloc: Global,
+    universe: &Universe,
+    label: u32,
+    pattern: &Text,
+) -> Result<Option<Vec<bool>>, Memory>
+    requires label { label < length universe.now.named }
+    requires other { is_plain pattern.now ≡ false }
+    ensures set { IfOk result (λ found. IfSome found (λ on. IsSet (length (named_at universe.now label) + 2) (may_match universe.now pattern.now label) on.items)) }
+    ensures read { IfOk result (λ found. IfSome found (λ _. IsRead pattern.now)) }
+    ensures unread { IfOk result (λ found. IfNone found (IsRead pattern.now → ⊥)) }
+{
     match Pattern::new(alloc, pattern) {
-        Ok(mut read) => asked(alloc, universe, label, &mut read, other),
-        Err(PatternError::BadPattern) => unread(alloc, universe.classes(label), other),
+        Ok(read) => Ok(Some(asked(alloc, universe, label, &read)?)),
+        Err(PatternError::BadPattern) => Ok(None),
         Err(PatternError::Memory) => Err(Memory),
     }
 }
 
-/// The classes whose texts match a pattern that was read, and 'any other text' where it may.
-pub fn asked(
+/// The classes whose texts match a pattern that isn't plain, and 'any other text'.
+fn asked(
     alloc: Global,
     universe: &Universe,
     label: u32,
-    pattern: &mut Pattern,
-    other: bool,
+    pattern: &Pattern,
 ) -> Result<Vec<bool>, Memory>
     requires label { label < length universe.now.named }
-    requires other { other ≡ not (is_plain pattern.old) }
-    ensures { IfOk result (λ on. IsSet (length (named_at universe.now label) + 2) (may_match universe.now pattern.old label) on.items) }
+    requires other { is_plain pattern.now ≡ false }
+    ensures { IfOk result (λ on. IsSet (length (named_at universe.now label) + 2) (may_match universe.now pattern.now label) on.items) }
 {
+    let mut probe = pattern.probe(alloc)?;
     let mut on = Vec::new(alloc);
     for class in 0..universe.classes(label) {
-        let matches = match universe.class_text(label, class) {
-            Some(text) => pattern.matches(alloc, text)?,
-            None => other,
+        let found = match universe.class_text(label, class) {
+            Some(text) => probe.matches(text),
+            None => true,
         };
-        on.push(matches)?;
+        on.push(found)?;
     }
     Ok(on)
 }

@@ -5,6 +5,6 @@ use Rattle.lf_flow.proofs.replacing.asked.Given as goal
 
 abbrev pub invariant-loop-class : goal.invariant-loop-class
 invariant-loop-class l = record {
-  same : l.pattern ≡ l.initial.pattern;
-  set : IsSet l.class (may_match l.universe l.initial.pattern l.label) l.on.items;
+  same : l.probe ≡ l.pattern;
+  set : IsSet l.class (may_match l.universe l.pattern l.label) l.on.items;
 }

@@ -1,21 +1,22 @@
-use Rattle.std.proofs.Common.{◌+◌, ◌&&◌, eqb, length, sym, ◌∙◌, ap}
-use Rattle.std.specs.Prelude.{is_some}
+use Rattle.std.proofs.Common.{◌+◌, ◌&&◌, eqb, length, true}
 use Rattle.std.proofs.lemmas.Result.{IfOk-weaker}
+use Rattle.lf_pattern.specs.Matching.{IsRead}
+use Rattle.lf_classes.proofs.Unread.{unread}
 use Rattle.lf_semantics.specs.Listing.{named_at}
 use Rattle.lf_semantics.specs.RowTable.{may_match}
 use Rattle.lf_flow.specs.views.ClassSets.{IsSet}
-use Rattle.lf_flow.proofs.PatternSets.{negated, unread_set}
+use Rattle.lf_flow.proofs.ListedSets.{unread_other}
+use Rattle.lf_flow.proofs.PatternSets.{unread_set}
 use Rattle.lf_flow.proofs.replacing.matched.Goals as goal
 
-pub returns-in-Err-BadPattern : goal.returns-in-Err-BadPattern
-returns-in-Err-BadPattern c =
+pub returns-in-None : goal.returns-in-None
+returns-in-None c =
     let u = c.args.universe.now in
     let pattern = c.args.pattern.now in
     let label = c.args.label in
+    let none : IsRead pattern → ⊥ = rw c.in-None.is at c.in_ok-on.ensures.unread in
     IfOk-weaker c.unread.result
-    (λ on. IsSet c.classes.result (λ class. eqb (class + 1) c.classes.result && c.is_none-other.result) on.items)
+    (λ on. IsSet c.classes.result (λ class. eqb (class + 1) c.classes.result && true) on.items)
     (λ on. IsSet (length (named_at u label) + 2) (may_match u pattern label) on.items)
-    (λ on set. unread_set u pattern label c.classes.result c.is_none-other.result on.items c.classes.ensures
-    (negated _ _ (ap is_some (sym c.in_ok-plain_alternatives.ensures.value) ∙ c.is_none-other.ensures))
-    (c.in-Err-BadPattern.ensures.bad c.in-Err-BadPattern.field-0-is) set)
+    (λ on set. unread_set u pattern label c.classes.result true on.items c.classes.ensures (unread_other u label pattern (unread pattern none)) none set)
     c.unread.ensures
