@@ -6,7 +6,7 @@ use Rattle.lf_ast.specs.Labels.{Bytes}
 use Rattle.lf_ast.specs.Rules.{RuleTree}
 use Rattle.lf_ast.specs.declared.rule.RuleLabel.{RuleLabel}
 use Rattle.lf_rules.specs.Sources.{Source}
-use Rattle.lf_base.specs.Names.{begins_label, is_label_name, is_letter}
+use Rattle.lf_base.specs.Names.{is_label_name}
 use Rattle.lf_semantics.specs.Listing.{universe_of}
 use Rattle.lf_ast.specs.Selectors.{metric}
 use Rattle.lf_semantics.specs.Mentions.{Mention, mention, rule_mentions, rules_mentions, mentions}

@@ -2,11 +2,10 @@
 use Rattle.std.proofs.Common.{◌≡◌, [], ◌++◌, Bool, List, Some, map, rules, refl, ap, ◌∙◌, codes}
 use Rattle.std.specs.List.{flat_map}
 use Rattle.lf_base.specs.declared.place.Span.{Span}
-use Rattle.lf_scalar.specs.declared.scalar.Scalar.{Scalar}
 use Rattle.lf_yaml.specs.declared.node.Entry.{Entry}
 use Rattle.lf_yaml.specs.declared.node.Node as Node
 use Rattle.lf_yaml.specs.declared.node.Node.{Node, the_lemmas}
-use Rattle.lf_yaml.specs.Tree.{Tree, tree, pair, value, leaf, sequence, mapping, entries_of, items_of}
+use Rattle.lf_yaml.specs.Tree.{Tree, tree, pair, leaf, sequence, mapping, entries_of, items_of}
 use Rattle.lf_rules.specs.Mappings.{entry_at, given}
 use Rattle.lf_rules.specs.reading.Files.{setting_faults, settings_faults, rule_faults, rule_tree_faults, rules_faults, group_faults, group_tree_faults, names_faults, groups_faults, file_faults, faults}
 use Rattle.lf_rules.specs.reading.Files as reading
