@@ -27,14 +27,27 @@ pub fn print_solving<T: Threads + Sync>(
     let Ok(universe) = prepared(rt.alloc(), rules) else {
         bail!("there is no universe")
     };
+    print_time(rt, threads, &universe, rules, workers)
+}
+
+/// The same, in this universe. What takes long to let go is let go in functions of their own, since proving that at each of many ends takes long too.
+fn print_time<T: Threads + Sync>(
+    rt: &HostRuntime,
+    threads: &T,
+    universe: &Universe,
+    rules: &Seq<Rule>,
+    workers: Option<u32>,
+) -> Result<()>
+    requires covers { CoversRules universe.now (rule_trees rules.now) }
+    requires workers { IfSome workers (λ n. (0 < n) × (n ≤ 64)) }
+{
     let waiting = Instant::now(rt)?;
     let begun = rt.process_cpu_time()?;
-    let Ok(env) = environment(threads, rt.alloc(), &universe, rules, workers) else {
+    let Ok(names) = names_solved(threads, rt.alloc(), universe, rules, workers) else {
         bail!("out of memory")
     };
     let taken = rt.process_cpu_time()?.saturating_sub(begun);
     let waited = waiting.elapsed(rt)?;
-    let names = env.names();
     let words = universe.words();
     let (seconds, micros) = (taken.as_secs(), taken.subsec_micros());
     let (waited, behind) = (waited.as_secs(), waited.subsec_micros());
@@ -42,6 +55,21 @@ pub fn print_solving<T: Threads + Sync>(
         "{names} names, {words} words, {seconds}.{micros:06} s, {waited}.{behind:06} s waited"
     )?;
     Ok(())
+}
+
+/// How many names the least environment of rules has, which is found and let go.
+fn names_solved<T: Threads + Sync>(
+    threads: &T,
+    alloc: Global,
+    universe: &Universe,
+    rules: &Seq<Rule>,
+    workers: Option<u32>,
+) -> Result<u32, Memory>
+    requires covers { CoversRules universe.now (rule_trees rules.now) }
+    requires workers { IfSome workers (λ n. (0 < n) × (n ≤ 64)) }
+{
+    let env = environment(threads, alloc, universe, rules, workers)?;
+    Ok(env.names())
 }
 
 /// The universe of rules, with the classes of their patterns.
