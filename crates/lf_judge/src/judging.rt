@@ -3,7 +3,7 @@ ghost use Rattle.std.specs.Prelude.{◌≡◌, ◌≤◌, ◌<◌, ◌^◌, ℕ,
 ghost use Rattle.lf_ast.specs.Rules.{rule_trees};
 ghost use Rattle.lf_checks.specs.Files.{File};
 ghost use Rattle.lf_report.specs.declared.report.Report.{Report};
-ghost use Rattle.lf_semantics.specs.Environments.{CoversRules, IsLeast};
+ghost use Rattle.lf_semantics.specs.Environments.{IsLeast};
 ghost use Rattle.lf_semantics.specs.Listing.{universe_of};
 ghost use Rattle.lf_judge.specs.Founds.{Content};
 ghost use Rattle.lf_judge.specs.Judged.{IsReportOn, TellTheSame, files_of, files_told, labels_of};
@@ -16,17 +16,15 @@ use crate::accepting::{Accepted, accept_all};
 use crate::measuring::measure;
 use crate::telling::tell_rules;
 use crate::{JudgeEnd, Source};
-use lf_ast::Rule;
 use lf_base::{Gate, Memory, Seq, Text};
 use lf_classes::Universe;
+use lf_fix::solve;
 use lf_flow::{Env, prepare};
 use lf_report::{FileReport, Refused, Report, RuleReport};
-use lf_rounds::solve_shared;
 use std::alloc::Global;
 use std::thread::Threads;
 
-/// The report on files, with the verdicts on labels where `labels` asks for them. It is the same for any number of workers, who accept the files,
-/// compute the rows of recorded names, and tell of the rules.
+/// The report on files, with the verdicts on labels where `labels` asks for them. It is the same for any number of workers, who accept the files, and tell of the rules.
 ///
 /// Files whose rules pass a limit have none. One limit is on the verdicts that are asked for, and the others don't depend on them.
 pub fn judge<R: Threads + Sync, G: Gate + Sync>(
@@ -117,19 +115,12 @@ fn judge_prepared<R: Threads + Sync, G: Gate + Sync>(
     requires workers { (0 < workers) × (workers ≤ 64) }
     ensures { IfOk result (IsReportOn (files_of files.now) labels) }
 {
-    covers(universe, &accepted.rules);
-    let env = solve_shared(rt, alloc, universe, &accepted.rules, workers, gate)?;
+    let env = solve(alloc, universe, &accepted.rules)?;
     let report = judge_solved(
         rt, alloc, files, accepted, universe, &env, labels, workers, gate,
     )?;
     Ok(report)
 }
-
-/// The universe of rules covers them, which is asked for where their environment is sought.
-fn covers(universe: &Universe, rules: &Seq<Rule>)
-    requires { universe.now ≡ universe_of (rule_trees rules.now) }
-    ensures { CoversRules universe.now (rule_trees rules.now) }
-{}
 
 /// The same, by the least environment.
 fn judge_solved<R: Threads + Sync, G: Gate + Sync>(
