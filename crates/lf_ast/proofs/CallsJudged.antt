@@ -11,7 +11,8 @@ use Rattle.lf_ast.specs.Breaches.{Breaks, BreaksAny, HasBadArgument, IsBadArgume
 use Rattle.lf_ast.specs.reading.Judging.{Judged, argument_fault, arguments_fault, call_judged, counted, given, is_wanted, judged, own_fault, unless}
 use Rattle.lf_ast.specs.declared.expr.ExprType.{ExprType}
 use Rattle.lf_base.proofs.Least.{Least, least_either, least_same, none_of_first, not_itself}
-use Rattle.lf_ast.proofs.Sides.{Good, IsGiven, Stands, clash, least_argument, least_unjudged, stands_unless, wanted-is, wanted-seen}
+use Rattle.lf_laws.proofs.Booleans.{clash}
+use Rattle.lf_ast.proofs.Sides.{Good, IsGiven, Stands, least_argument, least_unjudged, stands_unless, wanted-is, wanted-seen}
 
 abbrev pub AllGood : Trees → Type 0
 AllGood Nil = Unit {0}

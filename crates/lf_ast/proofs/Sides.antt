@@ -1,5 +1,7 @@
 -- What is judged of one operand, one modifier and one argument.
 use Rattle.std.proofs.Common.{◌≡◌, ◌⊎◌, inl, inr, ℕ, Bool, true, false, cond, ◌&&◌, ◌||◌, Option, Some, None, Ok, Err, refl, sym, ◌∙◌, ap}
+use Rattle.std.proofs.lemmas.Bool.{or_cases, or_left, or_right}
+use Rattle.lf_laws.proofs.Booleans.{clash}
 use Rattle.lf_base.specs.declared.kind.Kind.TheVariants.{WrongType, BadModifier, BadLabel}
 use Rattle.lf_base.specs.declared.place.Span.{Span}
 use Rattle.lf_ast.specs.Functions.{Signature}
@@ -46,9 +48,6 @@ the_type e t good u has = let same : Ok t ≡ Ok u = good.found u has in cc
 pub no_type : (e : Tree) (f : Fault) → Good e (Err f) → (u : ExprType) → HasType e u → ⊥
 no_type e f good u has = let same : Err f ≡ Ok u = good.found u has in cc
 
-pub clash : (b : Bool) → b ≡ true → b ≡ false → ⊥
-clash b t f = cc
-
 -- an operand
 
 pub least_side : (takes : ExprType → Bool) (e : Tree) (v : Judged) → Good e v → Least (λ f. Breaks e f ⊎ IsOther takes e f) (side_fault takes (span_of e) v)
@@ -71,18 +70,6 @@ side_taken takes span (Ok t) e = by (takes t) e where
   by false e = cc
 
 -- a modifier
-
-pub or_left : (a b : Bool) → a ≡ true → (a || b) ≡ true
-or_left true b e = refl
-or_left false b e = cc
-
-pub or_right : (a b : Bool) → b ≡ true → (a || b) ≡ true
-or_right true b e = refl
-or_right false b e = e
-
-pub or_cases : (a b : Bool) → (a || b) ≡ true → (a ≡ true) ⊎ (b ≡ true)
-or_cases true b e = inl refl
-or_cases false b e = inr e
 
 pub neither : (a b : Bool) → (a || b) ≡ false → (a ≡ false) × (b ≡ false)
 neither true b e = absurd (cc)

@@ -1,5 +1,5 @@
 -- Expressions as trees: without the addresses that the code's boxes have.
-use Rattle.std.specs.Prelude.{ℕ, ◌+◌, Bool, List, [], ◌∷◌, Option}
+use Rattle.std.specs.Prelude.{ℕ, ◌+◌, Bool, List, [], ◌∷◌, ◌++◌, Option}
 use Rattle.lf_base.specs.declared.place.Span.{Span}
 use Rattle.lf_ast.specs.Labels.{Bytes}
 use Rattle.lf_ast.specs.declared.expr.Agg.{Agg}
@@ -67,6 +67,23 @@ parts_of (Unary minus of span) = of ∷ []
 parts_of (Binary op m left right span) = left ∷ right ∷ []
 parts_of (Call name args span) = list args
 parts_of (Aggregate op grouping args span) = list args
+
+abbrev mutual
+  -- an expression and all parts in it, each before its own
+  pub nodes : Tree → List Tree
+  nodes (Number text span) = Number text span ∷ []
+  nodes (Str text span) = Str text span ∷ []
+  nodes (Selector name matchers sight span) = Selector name matchers sight span ∷ []
+  nodes (Subquery of sight span) = Subquery of sight span ∷ nodes of
+  nodes (Paren of span) = Paren of span ∷ nodes of
+  nodes (Unary minus of span) = Unary minus of span ∷ nodes of
+  nodes (Binary op m left right span) = Binary op m left right span ∷ (nodes left ++ nodes right)
+  nodes (Call name args span) = Call name args span ∷ nodes_in args
+  nodes (Aggregate op grouping args span) = Aggregate op grouping args span ∷ nodes_in args
+
+  pub nodes_in : Trees → List Tree
+  nodes_in Nil = []
+  nodes_in (Next x xs) = nodes x ++ nodes_in xs
 
 -- ---- what the code's expressions stand for: the addresses of boxes, and the form that lists of arguments have in memory, are left out
 

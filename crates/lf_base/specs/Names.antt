@@ -1,5 +1,5 @@
 -- The names of labels and metrics, and the bytes that they are made of. Letters and digits are those of ASCII.
-use Rattle.std.specs.Prelude.{ℕ, Bool, false, ◌&&◌, ◌||◌, ◌==◌, nat_le, List, [], ◌∷◌, codes}
+use Rattle.std.specs.Prelude.{ℕ, ◌-◌, Bool, false, Option, Some, None, if◌then◌else◌, ◌&&◌, ◌||◌, ◌==◌, nat_le, List, [], ◌∷◌, codes}
 use Rattle.std.specs.List.{list_all}
 
 abbrev pub Bytes : Type 0
@@ -16,6 +16,11 @@ is_letter b = (nat_le 65 b && nat_le b 90) || (nat_le 97 b && nat_le b 122)
 -- a digit, A to F, a to f
 unfoldable pub is_hexadecimal : ℕ → Bool
 is_hexadecimal b = is_digit b || (nat_le 65 b && nat_le b 70) || (nat_le 97 b && nat_le b 102)
+
+-- what a digit of a hexadecimal number is worth
+unfoldable pub hexadecimal_value : ℕ → Option ℕ
+hexadecimal_value b =
+    if nat_le 48 b && nat_le b 57 then Some (b - 48) else if nat_le 65 b && nat_le b 70 then Some (b - 55) else if nat_le 97 b && nat_le b 102 then Some (b - 87) else None
 
 -- a letter or an underscore
 unfoldable pub begins_label : ℕ → Bool

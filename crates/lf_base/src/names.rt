@@ -1,5 +1,5 @@
 //! The names of labels and metrics, as Prometheus' documentation on its data model has them, and the bytes that they are made of. Letters and digits are those of ASCII.
-ghost use Rattle.std.specs.Prelude.{◌≡◌};
+ghost use Rattle.std.specs.Prelude.{◌≡◌, ◌<◌, IfSome};
 ghost use Rattle.std.specs.List.{list_all};
 ghost use Rattle.lf_base.specs.Names as names;
 
@@ -25,6 +25,20 @@ pub fn is_hexadecimal(byte: u8) -> bool
     ensures { result ≡ names.is_hexadecimal byte }
 {
     is_digit(byte) || (65 <= byte && byte <= 70) || (97 <= byte && byte <= 102)
+}
+
+/// What a digit of a hexadecimal number is worth, none of another byte.
+#[tactic(auto, unfolding(crate::specs::Names::hexadecimal_value))]
+pub fn hexadecimal_value(byte: u8) -> Option<u8>
+    ensures value { result ≡ names.hexadecimal_value byte }
+    ensures small { IfSome result (λ n. n < 16) }
+{
+    match byte {
+        b'0'..=b'9' => Some(byte - 48),
+        b'A'..=b'F' => Some(byte - 55),
+        b'a'..=b'f' => Some(byte - 87),
+        _ => None,
+    }
 }
 
 /// Whether a label name may begin with the byte: a letter or `_`.

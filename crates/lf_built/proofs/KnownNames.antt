@@ -11,14 +11,13 @@ use Rattle.lf_ast.specs.Functions.{Signature, function_named}
 use Rattle.lf_ast.specs.Labels.{Bytes}
 use Rattle.lf_ast.specs.Rules.{RuleTree}
 use Rattle.lf_ast.specs.Selectors.{first_equal_name, is_equal, metric, selected_name}
-use Rattle.lf_ast.specs.Tree.{Tree, Trees, Number, Str, Selector, Subquery, Paren, Unary, Binary, Call, Aggregate, Nil, Next}
+use Rattle.lf_ast.specs.Tree.{Tree, Trees, Number, Str, Selector, Subquery, Paren, Unary, Binary, Call, Aggregate, Nil, Next, nodes, nodes_in}
 use Rattle.lf_ast.specs.declared.expr.Matcher.{Matcher}
 use Rattle.lf_ast.specs.declared.expr.MatchOp.{MatchOp}
 use Rattle.lf_ast.specs.declared.expr.MatchOp.TheVariants.{Equal, NotEqual, Matches, NotMatches}
 use Rattle.lf_ast.specs.declared.expr.Sight.{Sight}
 use Rattle.lf_ast.specs.declared.functions.LabelEffect.{LabelEffect}
 use Rattle.lf_ast.specs.declared.functions.LabelEffect.TheVariants.{HistogramQuantile}
-use Rattle.lf_ast.specs.views.Walks.{nodes, nodes_in}
 use Rattle.lf_classes.specs.Limits.{IsWithin}
 use Rattle.lf_semantics.specs.Environments.{Covers, CoversRules, IsKnown}
 use Rattle.lf_semantics.specs.Listing.{Listing, class_of, label_of, other_class}

@@ -2,8 +2,7 @@
 use Rattle.std.proofs.Common.{◌≡◌, ◌+◌, ℕ, List, [], ◌∷◌, length, map, sum, refl, ap, arith}
 use Rattle.std.proofs.lemmas.List.{length-append}
 use Rattle.std.proofs.lemmas.List.Sums.{sum_by-cons}
-use Rattle.lf_ast.specs.Tree.{Tree, parts_of}
-use Rattle.lf_ast.specs.views.Walks.{nodes}
+use Rattle.lf_ast.specs.Tree.{Tree, parts_of, nodes}
 use Rattle.lf_ast.proofs.Listing.{nodes_all, nodes_parts}
 use Rattle.lf_built.specs.views.Places.{size}
 

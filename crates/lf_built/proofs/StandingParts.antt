@@ -8,8 +8,7 @@ use Rattle.std.proofs.lemmas.List.{get_or-map, length-map}
 use Rattle.std.proofs.lemmas.List.Sums.{sum_by_push}
 use Rattle.std.proofs.lemmas.Option.{get_or_from_slice_get, slice_get-get_or, slice_get_within}
 use Rattle.lf_ast.specs.Rules.{RuleTree}
-use Rattle.lf_ast.specs.Tree.{Tree, parts_of}
-use Rattle.lf_ast.specs.views.Walks.{nodes}
+use Rattle.lf_ast.specs.Tree.{Tree, parts_of, nodes}
 use Rattle.lf_semantics.specs.ClassRows.{HasShape, Sets}
 use Rattle.lf_semantics.specs.Environments.{Covers, recorded_row}
 use Rattle.lf_semantics.specs.Parts.{is_scalar_part}

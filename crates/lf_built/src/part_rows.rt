@@ -1,8 +1,7 @@
 //! The rows of all parts of an expression.
 ghost use Rattle.std.specs.Prelude.{◌≡◌, ◌<◌, ◌^◌, length, IfOk, false, slice_index_or, []};
 ghost use Rattle.std.specs.List.{All};
-ghost use Rattle.lf_ast.specs.Tree.{tree};
-ghost use Rattle.lf_ast.specs.views.Walks.{nodes};
+ghost use Rattle.lf_ast.specs.Tree.{tree, nodes};
 ghost use Rattle.lf_classes.specs.Limits.{IsWithin};
 ghost use Rattle.lf_semantics.specs.ClassRows.{HasShape};
 ghost use Rattle.lf_semantics.specs.Environments.{IsEnvironment};

@@ -1,9 +1,8 @@
 //! Which expressions are scalars.
 ghost use Rattle.std.specs.Prelude.{◌≡◌, ◌&&◌, ◌∷◌, [], Bool, length, map, IfOk};
 ghost use Rattle.lf_ast.specs.Functions.{function_named};
-ghost use Rattle.lf_ast.specs.Tree.{parts_of, tree};
+ghost use Rattle.lf_ast.specs.Tree.{parts_of, tree, nodes};
 ghost use Rattle.lf_ast.specs.Types.{is_scalar};
-ghost use Rattle.lf_ast.specs.views.Walks.{nodes};
 ghost use Rattle.lf_semantics.specs.Parts.{given_by, is_scalar_part};
 
 use lf_ast::walk::{Fold, Parts};

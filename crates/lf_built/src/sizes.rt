@@ -1,7 +1,6 @@
 //! How many parts there are in expressions.
 ghost use Rattle.std.specs.Prelude.{◌≡◌, ◌+◌, map, sum, IfOk};
-ghost use Rattle.lf_ast.specs.Tree.{parts_of, tree};
-ghost use Rattle.lf_ast.specs.views.Walks.{nodes};
+ghost use Rattle.lf_ast.specs.Tree.{parts_of, tree, nodes};
 ghost use Rattle.lf_built.specs.views.Places.{size};
 
 use crate::bound::add;

@@ -7,7 +7,7 @@ use Rattle.std.specs.Option.{option_map}
 use Rattle.lf_ast.specs.Labels.{Bytes}
 use Rattle.lf_ast.specs.Rules.{RuleTree}
 use Rattle.lf_ast.specs.Spanless.{nowhere, spanless, spanless_each, spanless_grouping, spanless_matcher, spanless_matching, spanless_name, spanless_names, spanless_sight}
-use Rattle.lf_ast.specs.Tree.{Tree, Trees, Number, Str, Selector, Subquery, Paren, Unary, Binary, Call, Aggregate, Nil, Next, count}
+use Rattle.lf_ast.specs.Tree.{Tree, Trees, Number, Str, Selector, Subquery, Paren, Unary, Binary, Call, Aggregate, Nil, Next, count, nodes, nodes_in}
 use Rattle.lf_ast.specs.declared.expr.Agg.{Agg}
 use Rattle.lf_ast.specs.declared.expr.Grouping.{Grouping}
 use Rattle.lf_ast.specs.declared.expr.Grouping.TheVariants.{None as Ungrouped, By, Without}
@@ -17,7 +17,6 @@ use Rattle.lf_ast.specs.declared.expr.Name.{Name}
 use Rattle.lf_ast.specs.declared.expr.Op.{Op}
 use Rattle.lf_ast.specs.declared.expr.Sight.{Sight}
 use Rattle.lf_ast.specs.declared.rule.RuleLabel.{RuleLabel}
-use Rattle.lf_ast.specs.views.Walks.{nodes, nodes_in}
 use Rattle.lf_checks.specs.RuleDuplicate.{pairs_of}
 use Rattle.lf_checks.specs.views.Keys.{agg_mark, count_code, expr_code, flag_code, grouping_code, key_of, label_code, list_code, matcher_code, matching_code, name_code, names_code, node_code, op_mark, option_code, sight_code, text_code}
 use Rattle.lf_checks.proofs.Codes.{pair_of, agg_same, cons_same, counts, flags, groupings, label_lists, matcher_lists, matchings, op_same, optional_text, sights, texts}

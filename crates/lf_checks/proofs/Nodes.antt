@@ -3,10 +3,10 @@ use Rattle.std.proofs.Common.{◌≡◌, ◌≤◌, ℕ, List, ◌∷◌, ◌++�
 use Rattle.std.proofs.lemmas.List.{take_all}
 use Rattle.std.specs.Borrow.{Bor}
 use Rattle.std.specs.List.{Contains}
-use Rattle.lf_ast.specs.Tree.{Tree, Trees, Number, Str, Selector, Subquery, Paren, Unary, Binary, Call, Aggregate, Nil, Next, tree}
+use Rattle.lf_ast.specs.Tree.{Tree, Trees, Number, Str, Selector, Subquery, Paren, Unary, Binary, Call, Aggregate, Nil, Next, tree, nodes, nodes_in}
 use Rattle.lf_ast.specs.declared.expr.Expr.{Expr}
 use Rattle.lf_ast.specs.declared.verdict.Finding.{Finding as Row}
-use Rattle.lf_ast.specs.views.Walks.{nodes, nodes_in, trees_at}
+use Rattle.lf_ast.specs.views.Walks.{trees_at}
 use Rattle.lf_laws.proofs.Members.{in_map, map_member}
 use Rattle.lf_checks.specs.Finding.{Finding}
 use Rattle.lf_checks.specs.Subexpressions.{arguments_subexpressions, subexpressions}

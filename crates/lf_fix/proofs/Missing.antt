@@ -13,7 +13,7 @@ use Rattle.lf_semantics.specs.RowTable.{Environment, row_named}
 use Rattle.lf_semantics.proofs.RowLaws.{shape_join}
 use Rattle.lf_semantics.proofs.RowSets.{emptied_holds}
 use Rattle.lf_semantics.proofs.NormalizedRows.{normalized_join}
-use Rattle.lf_semantics.proofs.Members.{clash}
+use Rattle.lf_laws.proofs.Booleans.{clash}
 use Rattle.lf_semantics.proofs.LeqLaws.{live_more, same_length, leq_trans, leq_join_left, leq_join_right}
 use Rattle.lf_fix.specs.views.Rounds.{missing, missing_in, missing_of}
 
@@ -24,7 +24,7 @@ missing_le [] [] n h = omega arith
 missing_le [] (y ∷ ys) n h = absurd (omega arith)
 missing_le (x ∷ xs) [] n h = absurd (omega arith)
 missing_le (true ∷ xs) (true ∷ ys) n h = missing_le xs ys (omega arith) (λ i e. h (suc i) e)
-missing_le (true ∷ xs) (false ∷ ys) n h = absurd (clash (h 0 refl) refl)
+missing_le (true ∷ xs) (false ∷ ys) n h = absurd (clash _ (h 0 refl) refl)
 missing_le (false ∷ xs) (true ∷ ys) n h = let r = missing_le xs ys (omega arith) (λ i e. h (suc i) e) in omega arith
 missing_le (false ∷ xs) (false ∷ ys) n h = let r = missing_le xs ys (omega arith) (λ i e. h (suc i) e) in omega arith
 
@@ -34,7 +34,7 @@ missing_same [] (y ∷ ys) n h e i k = absurd (omega arith)
 missing_same (x ∷ xs) [] n h e i k = absurd (omega arith)
 missing_same (true ∷ xs) (y ∷ ys) n h e zero k = refl
 missing_same (true ∷ xs) (true ∷ ys) n h e (suc i) k = missing_same xs ys (omega arith) (λ j f. h (suc j) f) e i k
-missing_same (true ∷ xs) (false ∷ ys) n h e (suc i) k = absurd (clash (h 0 refl) refl)
+missing_same (true ∷ xs) (false ∷ ys) n h e (suc i) k = absurd (clash _ (h 0 refl) refl)
 missing_same (false ∷ xs) (true ∷ ys) n h e i k = let r = missing_le xs ys (omega arith) (λ j f. h (suc j) f) in absurd (omega arith)
 missing_same (false ∷ xs) (false ∷ ys) n h e zero k = k
 missing_same (false ∷ xs) (false ∷ ys) n h e (suc i) k = missing_same xs ys (omega arith) (λ j f. h (suc j) f) (omega arith) i k
@@ -76,7 +76,7 @@ live_if row is l c h = by (is_live row) refl
     by false e =
         let empty : row ≡ emptied row = sym is ∙ ap (λ b. cond b row (emptied row)) e in
         let P : Sets → Type 0 = λ x. holds x l c ≡ true in
-        absurd (clash (subst P empty h) (emptied_holds row l c))
+        absurd (clash _ (subst P empty h) (emptied_holds row l c))
 
 module _ (u : Listing) (row other : Sets) (is : IsRow u row) (is' : IsRow u other) (under : Leq row other) where
   same_shape : map length row ≡ map length other

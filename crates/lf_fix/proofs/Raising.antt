@@ -13,7 +13,7 @@ use Rattle.lf_semantics.specs.RowTable.{Environment, row_named}
 use Rattle.lf_ast.specs.Selectors.{metric}
 use Rattle.lf_semantics.proofs.ListingLaws.{AreDistinct, first_seen_distinct}
 use Rattle.lf_laws.proofs.Members.{behind, here, true_same}
-use Rattle.lf_semantics.proofs.Members.{clash}
+use Rattle.lf_laws.proofs.Booleans.{clash}
 use Rattle.lf_semantics.proofs.RowLaws.{shape_join}
 use Rattle.lf_semantics.proofs.RowsGrow.{recorded_grows}
 use Rattle.lf_semantics.proofs.NormalizedRows.{normalized_join}
@@ -46,7 +46,7 @@ each_named name P (e ∷ env) top distinct is h = by (bytes_eq e.0 name) refl is
     by true f g rest =
         let N : Bytes → Type 0 = λ x. Contains (names_of env) x → ⊥ in
         (λ same. subst P (sym (same_Some e.1 top g)) h, none_here name P env (subst N (true_same e.0 name f) distinct.0))
-    by false f g rest = (λ same. absurd (clash same f), rest g)
+    by false f g rest = (λ same. absurd (clash _ same f), rest g)
 
 module _ (name : Bytes) (row : Sets) where
   names_joined : (env : Environment) → names_of (joined name row env) ≡ names_of env

@@ -16,7 +16,8 @@ use Rattle.lf_semantics.specs.RowTable.{Environment, row_named}
 use Rattle.lf_ast.specs.Selectors.{metric}
 use Rattle.lf_semantics.specs.Mentions.{mention, rule_mentions, mentions}
 use Rattle.lf_laws.proofs.Members.{behind, first_or_behind, here, none_in, same_true}
-use Rattle.lf_semantics.proofs.Members.{all_back, all_of, clash}
+use Rattle.lf_laws.proofs.Booleans.{clash}
+use Rattle.lf_semantics.proofs.Members.{all_back, all_of}
 use Rattle.lf_semantics.proofs.ListingLaws.{in_first_seen, of_first_seen}
 use Rattle.lf_semantics.proofs.RowLaws.{shape_bottom}
 use Rattle.lf_semantics.proofs.NormalizedRows.{recorded_row_is, normalized_bottom}
@@ -42,7 +43,7 @@ in_names [] r c e = absurd (none_in r c)
 in_names (x ∷ rules) r c e = by x.alert refl (in_names rules r)
   where
     by : (b : Bool) → x.alert ≡ b → (Contains rules r → r.alert ≡ false → Contains (names_recorded rules) r.name) → Contains (cond b (names_recorded rules) (x.name ∷ names_recorded rules)) r.name
-    by true f rest = elim (first_or_behind x rules r c) [ inl q ↦ absurd (clash f (ap (λ (y : RuleTree). y.alert) q ∙ e)) | inr d ↦ rest d e ]
+    by true f rest = elim (first_or_behind x rules r c) [ inl q ↦ absurd (clash _ f (ap (λ (y : RuleTree). y.alert) q ∙ e)) | inr d ↦ rest d e ]
     by false f rest = elim (first_or_behind x rules r c) [
       | inl q ↦ let P : RuleTree → Type 0 = λ y. Contains (x.name ∷ names_recorded rules) y.name in subst P q (here x.name _)
       | inr d ↦ behind x.name _ r.name (rest d e)
@@ -54,7 +55,7 @@ row_in (e ∷ env) n c = by (bytes_eq e.0 n) refl (row_in env n)
   where
     by : (b : Bool) → bytes_eq e.0 n ≡ b → (Contains (names_of env) n → (row : Sets) × (row_named env n ≡ Some row)) → (row : Sets) × (cond b (Some e.1) (row_named env n) ≡ Some row)
     by true f rest = (e.1, refl)
-    by false f rest = elim (first_or_behind e.0 (names_of env) n c) [ inl q ↦ absurd (clash (same_true e.0 n q) f) | inr d ↦ rest d ]
+    by false f rest = elim (first_or_behind e.0 (names_of env) n c) [ inl q ↦ absurd (clash _ (same_true e.0 n q) f) | inr d ↦ rest d ]
 
 -- of the rows of an environment
 pub one_named : (P : Sets → Type 0) (env : Environment) (n : Bytes) (row : Sets) → AllByRecursion (λ entry. P entry.1) env → row_named env n ≡ Some row → P row
@@ -102,7 +103,7 @@ tells_more u rules order n k env mid later dirty after again changed at h t = re
     less true true e f i = let a = h.less e in let b = t.less f in omega arith
     less true false e f i = let P : Environment → Type 0 = λ z. missing z < missing env in subst P (sym (t.same f)) (h.less e)
     less false true e f i = let P : Environment → Type 0 = λ z. missing later < missing z in subst P (h.same e) (t.less f)
-    less false false e f i = absurd (clash i (ap (λ b. b || changed) e ∙ f))
+    less false false e f i = absurd (clash _ i (ap (λ b. b || changed) e ∙ f))
 
 module _ (u : Listing) (p : IsListing u) (rules : List RuleTree) where
   pub rises_none : (env : Environment) → IsEnvironmentOf u rules env → Rises u rules env env
@@ -117,7 +118,7 @@ module _ (u : Listing) (p : IsListing u) (rules : List RuleTree) where
     rises = rises_none env h;
     less = λ f. absurd (cc);
     same = λ f. refl;
-    holds = λ f s i g. absurd (clash e (ap (λ (y : RuleTree). y.alert) (same_rule rules k r s is i) ∙ g));
+    holds = λ f s i g. absurd (clash _ e (ap (λ (y : RuleTree). y.alert) (same_rule rules k r s is i) ∙ g));
     joins = λ f. absurd (cc);
   }
 
@@ -142,7 +143,7 @@ module _ (u : Listing) (p : IsListing u) (rules : List RuleTree) where
             subst P (sym made) (record { of_rules = environment_joined r.name (recorded_row u env r) u own rules env h; below = λ other o d b. step_under u p rules env other r h o d (at_number rules k r is) e b });
         less = λ f.
             let P : Environment → Type 0 = λ x. missing x < missing env in
-            subst P (sym made) (joined_less u r.name (recorded_row u env r) own env h.environment.rows at.0 at.1 (λ under. clash f ((tells at.0 at.1).1 under)));
+            subst P (sym made) (joined_less u r.name (recorded_row u env r) own env h.environment.rows at.0 at.1 (λ under. clash _ f ((tells at.0 at.1).1 under)));
         same = kept;
         holds = λ f s i g.
             let Q : RuleTree → Type 0 = λ y. (row : Sets) × (row_named env y.name ≡ Some row) × Leq (recorded_row u env y) row in

@@ -4,14 +4,14 @@ use Rattle.std.specs.Prelude.{slice_get, slice_index_or, slice_set}
 use Rattle.std.specs.List.{Contains}
 use Rattle.std.proofs.lemmas.List.{get_or-set_other, get_or-set_same}
 use Rattle.std.proofs.lemmas.Bool.{cases_eq}
-use Rattle.lf_laws.proofs.Booleans.{not_true}
+use Rattle.lf_laws.proofs.Booleans.{clash, not_true}
 use Rattle.lf_ast.specs.Labels.{Bytes}
 use Rattle.lf_ast.specs.Rules.{RuleTree}
 use Rattle.lf_flow.specs.Raising.{joined}
 use Rattle.lf_semantics.specs.Environments.{IsEnvironmentOf, recorded_row}
 use Rattle.lf_semantics.specs.Listing.{IsListing, Listing}
 use Rattle.lf_semantics.specs.RowTable.{Environment}
-use Rattle.lf_semantics.proofs.Members.{one_of, clash}
+use Rattle.lf_semantics.proofs.Members.{one_of}
 use Rattle.lf_semantics.proofs.NormalizedRows.{recorded_row_is}
 use Rattle.lf_deps.specs.Reading.{selectors}
 use Rattle.lf_fix.specs.views.Dependents.{Index, IsIndexOf, IsListed, SelectsRow}
@@ -30,8 +30,8 @@ module _ (u : Listing) (p : IsListing u) (rules : List RuleTree) (k : ℕ) (env 
     done = λ f. e;
     still = λ f j g. g;
     again = λ j r rule at is c a. elim (cases_eq j k) [
-      | inl q ↦ let A : ℕ → Type 0 = λ i. slice_index_or dirty i true ≡ true in absurd (clash (subst A q a) e)
-      | inr n ↦ absurd (clash a (sym (get_or-set_other dirty k j false true n) ∙ c))
+      | inl q ↦ let A : ℕ → Type 0 = λ i. slice_index_or dirty i true ≡ true in absurd (clash _ (subst A q a) e)
+      | inr n ↦ absurd (clash _ a (sym (get_or-set_other dirty k j false true n) ∙ c))
     ];
   }
 
@@ -56,7 +56,7 @@ module _ (u : Listing) (p : IsListing u) (rules : List RuleTree) (k : ℕ) (env 
         | inl q ↦ let A : ℕ → Type 0 = λ i. slice_index_or (slice_set dirty k false) i true ≡ false in subst A (sym q) (get_or-set_same dirty k false true within)
         | inr n ↦ get_or-set_other dirty k j false true n ∙ g
       ];
-      again = λ j r rule at is c a. absurd (clash a c);
+      again = λ j r rule at is c a. absurd (clash _ a c);
     }
 
     -- A class was added: each rule that selects the name is dirty again, and no other.
@@ -64,7 +64,7 @@ module _ (u : Listing) (p : IsListing u) (rules : List RuleTree) (k : ℕ) (env 
         (marked : (j : ℕ) (r : RuleTree) → slice_get rules j ≡ Some r → SelectsRow r.expr rule.name → slice_index_or after j true ≡ true)
         (only : (j : ℕ) (r : RuleTree) → slice_get rules j ≡ Some r → slice_index_or after j true ≡ true → (slice_index_or cleared j true ≡ true) ⊎ SelectsRow r.expr rule.name) where
       free_before : (j : ℕ) → slice_index_or after j true ≡ false → slice_index_or cleared j true ≡ false
-      free_before j free = not_true (slice_index_or cleared j true) (λ e. clash (kept j e) free)
+      free_before j free = not_true (slice_index_or cleared j true) (λ e. clash _ (kept j e) free)
 
       pub step_added : added ≡ true → StepTells u rules k env later dirty after added
       step_added e =
@@ -81,15 +81,15 @@ module _ (u : Listing) (p : IsListing u) (rules : List RuleTree) (k : ℕ) (env 
                   let N : RuleTree → Type 0 = λ x. SelectsRow x.expr rule.name → ⊥ in
                   let H : RuleTree → Type 0 = λ x. HoldsRule u (joined rule.name (recorded_row u env rule) env) x in
                   let row = has_row u p rules env k rule of is j.0 in
-                  subst H same (holds_own u p rules env of rule row.0 row.1 (subst N (sym same) (λ looks. clash (marked i r at looks) free)))
+                  subst H same (holds_own u p rules env of rule row.0 row.1 (subst N (sym same) (λ looks. clash _ (marked i r at looks) free)))
               | inr n ↦
-                  holds_without u p rules env of rule.name (recorded_row u env rule) (recorded_row_is u p env of.environment rule) r (λ looks. clash (marked i r at looks) free)
+                  holds_without u p rules env of rule.name (recorded_row u env rule) (recorded_row_is u p env of.environment rule) r (λ looks. clash _ (marked i r at looks) free)
                   (hold i r at (sym (get_or-set_other dirty k i false true n) ∙ free_before i free))
             ]);
-            done = λ f. absurd (clash e f);
-            still = λ f. absurd (clash e f);
+            done = λ f. absurd (clash _ e f);
+            still = λ f. absurd (clash _ e f);
             again = λ j r other at same c a. elim (only j r at a) [
-              | inl t ↦ absurd (clash t c)
+              | inl t ↦ absurd (clash _ t c)
               | inr s ↦ let N : RuleTree → Type 0 = λ x. SelectsRow r.expr x.name in (e, subst N (same_rule rules k rule other is same) s)
             ];
           }

@@ -1,7 +1,6 @@
 //! The rows of all parts of an expression.
 ghost use Rattle.std.specs.Prelude.{◌≡◌, map, IfOk};
-ghost use Rattle.lf_ast.specs.Tree.{tree};
-ghost use Rattle.lf_ast.specs.views.Walks.{nodes};
+ghost use Rattle.lf_ast.specs.Tree.{tree, nodes};
 ghost use Rattle.lf_semantics.specs.Environments.{IsEnvironment};
 ghost use Rattle.lf_semantics.specs.Listing.{IsListing};
 ghost use Rattle.lf_semantics.specs.RowTable.{row_of};

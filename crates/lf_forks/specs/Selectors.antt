@@ -1,8 +1,7 @@
 -- How many selectors an expression has.
 use Rattle.std.specs.Prelude.{ℕ, Bool, true, false}
 use Rattle.std.specs.List.{count_by}
-use Rattle.lf_ast.specs.Tree.{Tree, Selector}
-use Rattle.lf_ast.specs.views.Walks.{nodes}
+use Rattle.lf_ast.specs.Tree.{Tree, Selector, nodes}
 
 abbrev pub is_selector : Tree → Bool
 is_selector (Selector name matchers sight span) = true

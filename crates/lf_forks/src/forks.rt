@@ -2,8 +2,7 @@
 ghost use Rattle.std.specs.Prelude.{◌≡◌, Some, map, IfOk};
 ghost use Rattle.std.specs.Option.{option_copied};
 ghost use Rattle.lf_ast.specs.Rules.{rule_trees};
-ghost use Rattle.lf_ast.specs.Tree.{tree};
-ghost use Rattle.lf_ast.specs.views.Walks.{nodes};
+ghost use Rattle.lf_ast.specs.Tree.{tree, nodes};
 ghost use Rattle.lf_deps.specs.views.Sources.{IsSourcesOf};
 ghost use Rattle.lf_forks.specs.views.ForkTests.{TellsSelectors, has_passing};
 ghost use Rattle.lf_forks.specs.views.Holding.{test_of};

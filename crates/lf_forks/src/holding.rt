@@ -2,9 +2,8 @@
 ghost use Rattle.std.specs.Prelude.{◌≡◌, ◌∷◌, [], length, map, IfOk};
 ghost use Rattle.std.specs.List.{list_any};
 ghost use Rattle.lf_ast.specs.Functions.{function_named};
-ghost use Rattle.lf_ast.specs.Tree.{parts_of, tree};
+ghost use Rattle.lf_ast.specs.Tree.{parts_of, tree, nodes};
 ghost use Rattle.lf_ast.specs.Types.{is_scalar};
-ghost use Rattle.lf_ast.specs.views.Walks.{nodes};
 ghost use Rattle.lf_semantics.specs.Parts.{given_by};
 ghost use Rattle.lf_trials.specs.Forks.{is_or};
 ghost use Rattle.lf_forks.specs.views.ForkTests.{has_passing};

@@ -7,7 +7,7 @@ use Rattle.lf_semantics.specs.ClassRows.{Sets, emptied, holds, is_live, normaliz
 use Rattle.lf_semantics.specs.Environments.{EnvironmentLeq, IsLeast, IsRow, Leq}
 use Rattle.lf_semantics.specs.Listing.{Listing}
 use Rattle.lf_semantics.specs.RowTable.{Environment}
-use Rattle.lf_semantics.proofs.Members.{clash}
+use Rattle.lf_laws.proofs.Booleans.{clash}
 use Rattle.lf_semantics.proofs.RowSets.{emptied_same, same_sets}
 
 same_bit : (a b : Bool) → (a ≡ true → b ≡ true) → (b ≡ true → a ≡ true) → a ≡ b
@@ -34,7 +34,7 @@ module _ (u : Listing) where
       by false e = is_emptied row p.1 e ∙ emptied_same row other shape ∙ sym (is_emptied other q.1 (other_dead (is_live other) refl))
         where
           other_dead : (b : Bool) → is_live other ≡ b → is_live other ≡ false
-          other_dead true f = absurd (clash (k f).0 e)
+          other_dead true f = absurd (clash _ (k f).0 e)
           other_dead false f = f
 
   same_environment : (env other : Environment) → AllByRecursion (λ entry. IsRow u entry.1) env → AllByRecursion (λ entry. IsRow u entry.1) other → EnvironmentLeq env other → EnvironmentLeq other env → env ≡ other

@@ -1,2 +1,4 @@
 pub mod Booleans
 pub mod Members
+pub mod Options
+pub mod Slices

@@ -1,10 +1,10 @@
 -- Members of lists, and texts that are told apart.
-use Rattle.std.proofs.Common.{◌≡◌, ◌≢◌, ℕ, zero, suc, ◌<◌, true, false, List, [], ◌∷◌, map, length, get_or, ◌⊎◌, inl, inr, refl, sym, ap, subst, true≢false, arith}
+use Rattle.std.proofs.Common.{◌≡◌, ◌≢◌, ℕ, zero, suc, ◌<◌, Bool, true, false, List, [], ◌∷◌, ◌++◌, map, length, get_or, ◌⊎◌, inl, inr, refl, sym, ap, ◌∙◌, subst, true≢false, arith}
 use Rattle.std.specs.List.{Contains, flat_map, list_any, AllByRecursion}
 use Rattle.std.specs.Str.{bytes_eq}
 use Rattle.std.proofs.lemmas.Slice.Eq.{bytes_eq-Decides}
 use Rattle.std.proofs.lemmas.List.Elements.{Contains-append_left, Contains-append_right, Contains-append_cases}
-use Rattle.std.proofs.lemmas.Bool.{or_cases, or_right}
+use Rattle.std.proofs.lemmas.Bool.{or_cases, or_left, or_right}
 use Rattle.lf_laws.proofs.Booleans.{not_true}
 
 pub here : {X : Type 0} (x : X) (xs : List X) → Contains (x ∷ xs) x
@@ -39,6 +39,37 @@ each_member {X = X} P (z ∷ xs) x all c = by (first_or_behind z xs x c) (each_m
     by : (z ≡ x) ⊎ Contains xs x → (Contains xs x → P x) → P x
     by (inl e) later = subst P e all.0
     by (inr m) later = later m
+
+-- what holds of each element of a list holds of each of its parts, and the other way round
+pub all_front : {X : Type 0} (P : X → Type 0) (xs ys : List X) → AllByRecursion P (xs ++ ys) → AllByRecursion P xs
+all_front P [] ys all = tt
+all_front P (x ∷ xs) ys all = (all.0, all_front P xs ys all.1)
+
+pub all_back : {X : Type 0} (P : X → Type 0) (xs ys : List X) → AllByRecursion P (xs ++ ys) → AllByRecursion P ys
+all_back P [] ys all = all
+all_back P (x ∷ xs) ys all = all_back P xs ys all.1
+
+pub all_append : {X : Type 0} (P : X → Type 0) (xs ys : List X) → AllByRecursion P xs → AllByRecursion P ys → AllByRecursion P (xs ++ ys)
+all_append P [] ys front back = back
+all_append P (x ∷ xs) ys front back = (front.0, all_append P xs ys front.1 back)
+
+-- ---- tests of members
+
+-- a test that passes somewhere passes on a member
+pub some_has : {X : Type 0} (test : X → Bool) (xs : List X) → list_any test xs ≡ true → (x : X) × Contains xs x × (test x ≡ true)
+some_has test [] e = absurd (true≢false (sym e))
+some_has test (y ∷ xs) e = elim (or_cases (test y) (list_any test xs) e) [
+  | inl first ↦ (y, here y xs, first)
+  | inr later ↦ let found = some_has test xs later in (found.0, behind y xs found.0 found.1, found.2)
+]
+
+-- and where it passes on a member it passes somewhere
+pub any_has : {X : Type 0} (test : X → Bool) (xs : List X) (x : X) → Contains xs x → test x ≡ true → list_any test xs ≡ true
+any_has test [] x there passes = absurd (none_in x there)
+any_has test (y ∷ xs) x there passes = elim (first_or_behind y xs x there) [
+  | inl same ↦ or_left (test y) (list_any test xs) (ap test same ∙ passes)
+  | inr later ↦ or_right (test y) (list_any test xs) (any_has test xs x later passes)
+]
 
 -- ---- lists made of others
 
@@ -88,17 +119,7 @@ pub other_false : (x t : List ℕ) → x ≢ t → bytes_eq x t ≡ false
 other_false x t h = not_true (bytes_eq x t) (λ e. h (true_same x t e))
 
 pub any_out : (k : List ℕ) (keys : List (List ℕ)) → list_any (bytes_eq k) keys ≡ true → Contains keys k
-any_out k [] e = absurd (true≢false (sym e))
-any_out k (key ∷ keys) e = by (or_cases (bytes_eq k key) (list_any (bytes_eq k) keys) e) (any_out k keys)
-  where
-    by : (bytes_eq k key ≡ true) ⊎ (list_any (bytes_eq k) keys ≡ true) → (list_any (bytes_eq k) keys ≡ true → Contains keys k) → Contains (key ∷ keys) k
-    by (inl h) later = subst (λ w. Contains (w ∷ keys) k) (true_same k key h) (here k keys)
-    by (inr h) later = behind key keys k (later h)
+any_out k keys e = let found = some_has (bytes_eq k) keys e in subst (Contains keys) (sym (true_same k found.0 found.2)) found.1
 
 pub any_in : (k : List ℕ) (keys : List (List ℕ)) → Contains keys k → list_any (bytes_eq k) keys ≡ true
-any_in k [] c = absurd (none_in k c)
-any_in k (key ∷ keys) c = by (first_or_behind key keys k c) (any_in k keys)
-  where
-    by : (key ≡ k) ⊎ Contains keys k → (Contains keys k → list_any (bytes_eq k) keys ≡ true) → list_any (bytes_eq k) (key ∷ keys) ≡ true
-    by (inl e) later = rw (same_true k key (sym e)) refl
-    by (inr m) later = or_right (bytes_eq k key) (list_any (bytes_eq k) keys) (later m)
+any_in k keys c = any_has (bytes_eq k) keys k c (same_true k k refl)

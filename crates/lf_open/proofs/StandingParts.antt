@@ -6,11 +6,11 @@ use Rattle.std.proofs.lemmas.List.Sums.{sum_by-append, sum_by-cons, sum_by_push}
 use Rattle.std.specs.Borrow.{Bor}
 use Rattle.std.specs.List.{Contains, filter, flat_map, sum_by}
 use Rattle.lf_ast.specs.Labels.{Bytes}
-use Rattle.lf_ast.specs.Tree.{Tree, Trees, Number, Str, Selector, Subquery, Paren, Unary, Binary, Call, Aggregate, Nil, Next, list, parts_of, tree}
+use Rattle.lf_ast.specs.Tree.{Tree, Trees, Number, Str, Selector, Subquery, Paren, Unary, Binary, Call, Aggregate, Nil, Next, list, parts_of, tree, nodes, nodes_in}
 use Rattle.lf_ast.specs.Types.{is_scalar, selected}
 use Rattle.lf_ast.specs.declared.expr.Expr.{Expr}
 use Rattle.lf_ast.specs.declared.expr.ExprType.TheVariants.{Scalar, Vector}
-use Rattle.lf_ast.specs.views.Walks.{nodes, nodes_in, trees_at}
+use Rattle.lf_ast.specs.views.Walks.{trees_at}
 use Rattle.lf_deps.specs.views.Selecting.{is_scalar_call}
 use Rattle.lf_laws.proofs.Members.{none_in}
 use Rattle.lf_semantics.proofs.Members.{in_filter, of_filter}

@@ -1,8 +1,7 @@
 -- What stands of an expression behind some of its parts, which were gone by from the first on.
 use Rattle.std.proofs.Common.{◌≡◌, ◌≤◌, ℕ, zero, suc, List, [], ◌∷◌, ◌++◌, length, map, reverse, take, drop, refl, ap, sym, ◌∙◌, append-nil, arith}
 use Rattle.std.proofs.lemmas.List.{append_assoc, drop_at, length-append, length-map, length-reverse, map-append, reverse-append, reverse-reverse, take_at}
-use Rattle.lf_ast.specs.Tree.{Tree, parts_of}
-use Rattle.lf_ast.specs.views.Walks.{nodes}
+use Rattle.lf_ast.specs.Tree.{Tree, parts_of, nodes}
 use Rattle.lf_ast.proofs.Listing.{nodes_all, nodes_parts}
 
 -- in place of the first of some expressions its parts

@@ -1,7 +1,6 @@
 //! Values of an expression and of all parts in it, each made of those of its parts.
 ghost use Rattle.std.specs.Prelude.{◌≡◌, map, IfOk};
-ghost use Rattle.lf_ast.specs.Tree.{parts_of, tree};
-ghost use Rattle.lf_ast.specs.views.Walks.{nodes};
+ghost use Rattle.lf_ast.specs.Tree.{parts_of, tree, nodes};
 
 use crate::choosing::{choose, take_last};
 use crate::counting::part_count;

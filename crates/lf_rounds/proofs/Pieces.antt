@@ -17,7 +17,8 @@ use Rattle.lf_fix.proofs.Rounds.{one_named}
 use Rattle.lf_laws.proofs.Members.{behind, first_or_behind, here, none_in, same_true}
 use Rattle.lf_semantics.proofs.LeqLaws.{leq_trans}
 use Rattle.lf_semantics.proofs.ListingLaws.{in_first_seen}
-use Rattle.lf_semantics.proofs.Members.{clash, in_filter, of_filter}
+use Rattle.lf_laws.proofs.Booleans.{clash}
+use Rattle.lf_semantics.proofs.Members.{in_filter, of_filter}
 use Rattle.lf_semantics.proofs.NormalizedRows.{recorded_row_is}
 use Rattle.lf_semantics.proofs.RowsGrow.{recorded_grows}
 use Rattle.lf_semantics.specs.ClassRows.{Sets}
@@ -34,7 +35,7 @@ in_names [] r c e = absurd (none_in r c)
 in_names (x ∷ rules) r c e = by x.alert refl (in_names rules r)
   where
     by : (b : Bool) → x.alert ≡ b → (Contains rules r → r.alert ≡ false → Contains (names_recorded rules) r.name) → Contains (cond b (names_recorded rules) (x.name ∷ names_recorded rules)) r.name
-    by true f rest = elim (first_or_behind x rules r c) [ inl q ↦ absurd (clash f (ap (λ (y : RuleTree). y.alert) q ∙ e)) | inr d ↦ rest d e ]
+    by true f rest = elim (first_or_behind x rules r c) [ inl q ↦ absurd (clash _ f (ap (λ (y : RuleTree). y.alert) q ∙ e)) | inr d ↦ rest d e ]
     by false f rest = elim (first_or_behind x rules r c) [
       | inl q ↦ let P : RuleTree → Type 0 = λ y. Contains (x.name ∷ names_recorded rules) y.name in subst P q (here x.name _)
       | inr d ↦ behind x.name _ r.name (rest d e)

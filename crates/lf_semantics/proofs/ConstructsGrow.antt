@@ -26,7 +26,7 @@ use Rattle.lf_semantics.specs.Strings.{Joining, Replacing, joining, replacing, s
 use Rattle.lf_semantics.proofs.EffectsRepresent.{has_class_at, shape_grouped}
 use Rattle.lf_semantics.proofs.PairsRepresent.{shape_matched, shape_nameless_if, shape_taken}
 use Rattle.lf_semantics.proofs.RowLaws.{get_or-indexed, in_range, length-indexed}
-use Rattle.lf_semantics.proofs.Members.{clash}
+use Rattle.lf_laws.proofs.Booleans.{clash}
 use Rattle.lf_semantics.proofs.LeqLaws.{bottom_dead, leq_join, leq_narrowed, leq_only_empty, leq_refl, leq_replaced}
 use Rattle.lf_semantics.proofs.RowSets.{live_at, some_on}
 
@@ -68,7 +68,7 @@ module _ (u : Listing) (p : IsListing u) (row other : Sets) (s : HasShape u row)
   -- a row behind a test that grows
   guarded : (a b : Bool) (x y : Sets) → (is_live x ≡ true → a ≡ true → b ≡ true) → Leq x y → Leq (cond a x (bottom u)) (cond b y (bottom u))
   guarded true b x y h k e = let q : b ≡ true = h e refl in let P : Bool → Type 0 = λ z. (is_live (cond z y (bottom u)) ≡ true) × ((l c : ℕ) → holds x l c ≡ true → holds (cond z y (bottom u)) l c ≡ true) in subst P (sym q) (k e)
-  guarded false b x y h k e = absurd (clash e (bottom_dead u p))
+  guarded false b x y h k e = absurd (clash _ e (bottom_dead u p))
 
   of_replaced : (chosen : ℕ → Bool) (test : ℕ → ℕ → Bool) → is_live (replaced chosen test row) ≡ true → is_live row ≡ true
   of_replaced chosen test e = by (is_live row) refl e
@@ -96,8 +96,8 @@ module _ (u : Listing) (p : IsListing u) (row other : Sets) (s : HasShape u row)
 
   and_grows : (a a' b b' : Bool) → (a ≡ true → a' ≡ true) → (b ≡ true → b' ≡ true) → (a && b) ≡ true → (a' && b') ≡ true
   and_grows true a' true b' f g e = rw (f refl, g refl) refl
-  and_grows true a' false b' f g e = absurd (clash e refl)
-  and_grows false a' b b' f g e = absurd (clash e refl)
+  and_grows true a' false b' f g e = absurd (clash _ e refl)
+  and_grows false a' b b' f g e = absurd (clash _ e refl)
 
   replacing_grows : (r : Replacing) → Leq (replacing_row u r row) (replacing_row u r other)
   replacing_grows r =
@@ -112,7 +112,7 @@ module _ (u : Listing) (p : IsListing u) (row other : Sets) (s : HasShape u row)
   -- `label_join`
 
   not_back : (a b : Bool) → (a ≡ true → b ≡ true) → not b ≡ true → not a ≡ true
-  not_back true b h e = absurd (clash e (ap not (h refl)))
+  not_back true b h e = absurd (clash _ e (ap not (h refl)))
   not_back false b h e = refl
 
   none_back : Holds → (sources : List Bytes) → list_all (λ source. not (may_be_present u other source)) sources ≡ true → list_all (λ source. not (may_be_present u row source)) sources ≡ true
@@ -134,11 +134,11 @@ module _ (u : Listing) (p : IsListing u) (row other : Sets) (s : HasShape u row)
       by r.0 r.2
     where
       by : (c : ℕ) → holds row (label_of u x) c ≡ true → ⊥
-      by zero h = clash h no_absence
-      by (suc c) h = let some : eqb (suc c) 0 ≡ false = grind (arith, nat_tests) in clash (has_class_at u (λ class. not (eqb class 0)) row (label_of u x) (suc c) h (ap not some)) no_presence
+      by zero h = clash _ h no_absence
+      by (suc c) h = let some : eqb (suc c) 0 ≡ false = grind (arith, nat_tests) in clash _ (has_class_at u (λ class. not (eqb class 0)) row (label_of u x) (suc c) h (ap not some)) no_presence
 
   none_and_some : is_live row ≡ true → Holds → (sources : List Bytes) → list_all (λ source. not (may_be_present u row source)) sources ≡ true → list_any (λ source. not (may_be_absent u other source)) sources ≡ true → ⊥
-  none_and_some live more [] e f = clash f refl
+  none_and_some live more [] e f = clash _ f refl
   none_and_some live more (x ∷ sources) e f =
       let k = and_parts (not (may_be_present u row x)) _ e in
       by (not (may_be_absent u other x)) refl f (none_and_some live more sources k.1) k.0
@@ -156,10 +156,10 @@ module _ (u : Listing) (p : IsListing u) (row other : Sets) (s : HasShape u row)
   join_grows false true true some some' empty f g h e = e
   join_grows false true false some true empty f g h e = absurd (h refl refl)
   join_grows false true false some false empty f g h e = refl
-  join_grows false false true some some' empty f g h e = absurd (clash (f refl) refl)
+  join_grows false false true some some' empty f g h e = absurd (clash _ (f refl) refl)
   join_grows false false false some false empty f g h e = refl
   join_grows false false false true true empty f g h e = e
-  join_grows false false false false true empty f g h e = absurd (clash (g refl) refl)
+  join_grows false false false false true empty f g h e = absurd (clash _ (g refl) refl)
 
   joining_grows : (j : Joining) → Leq (joining_row u j row) (joining_row u j other)
   joining_grows j =
@@ -213,7 +213,7 @@ module _ (u : Listing) (p : IsListing u) (left left' right right' : Sets) (s : H
       test x l c = not (signs_label u m l) || holds x l c
 
       by : (b : Bool) → is_live right ≡ b → Leq (cond b (narrowed (test right) left) (bottom u)) (matched_row u m left' right')
-      by false f e = absurd (clash e (bottom_dead u p))
+      by false f e = absurd (clash _ e (bottom_dead u p))
       by true f e =
           let k = leq' f in
           let P : Bool → Type 0 = λ b. (is_live (cond b (narrowed (test right') left') (bottom u)) ≡ true) × ((l c : ℕ) → holds (narrowed (test right) left) l c ≡ true → holds (cond b (narrowed (test right') left') (bottom u)) l c ≡ true) in
@@ -224,7 +224,7 @@ module _ (u : Listing) (p : IsListing u) (left left' right right' : Sets) (s : H
   taken_grows names = by (is_live right) refl
     where
       by : (b : Bool) → is_live right ≡ b → Leq (cond b (replaced (is_label_among u names) (holds right) left) (bottom u)) (taken_row u right' names left')
-      by false f e = absurd (clash e (bottom_dead u p))
+      by false f e = absurd (clash _ e (bottom_dead u p))
       by true f e =
           let k = leq' f in
           let P : Bool → Type 0 = λ b.

@@ -5,7 +5,7 @@ use Rattle.std.proofs.lemmas.Bool.{or_cases, or_left, or_right}
 use Rattle.lf_semantics.specs.ClassRows.{HasShape, Sets, bottom, emptied, holds, indexed_from, is_live, join, narrowed, normalized, only_empty, remade, replaced, top}
 use Rattle.lf_semantics.specs.Environments.{Leq}
 use Rattle.lf_semantics.specs.Listing.{IsListing, Listing}
-use Rattle.lf_semantics.proofs.Members.{clash}
+use Rattle.lf_laws.proofs.Booleans.{clash}
 use Rattle.lf_semantics.proofs.RowLaws.{get_or-indexed, holds-remade, holds_within, length-indexed, length_row, live_when, shape_remade, shape_top}
 use Rattle.lf_semantics.proofs.RowSets.{emptied_dead, live_at}
 
@@ -17,7 +17,7 @@ leq_trans a b c h k e = let f = h e in let g = k f.0 in (g.0, λ l x i. g.1 l x 
 
 -- the empty row is at most each
 pub leq_dead : (row other : Sets) → is_live row ≡ false → Leq row other
-leq_dead row other f e = absurd (clash e f)
+leq_dead row other f e = absurd (clash _ e f)
 
 -- what has each class of a row that isn't empty isn't empty
 pub live_more : (row other : Sets) → length row ≡ length other → ((l c : ℕ) → holds row l c ≡ true → holds other l c ≡ true) → is_live row ≡ true → is_live other ≡ true
@@ -36,7 +36,7 @@ live_normalized row e = by row (is_live row) refl e
     by : (row : Sets) (b : Bool) → is_live row ≡ b → is_live (cond b row (emptied row)) ≡ true → is_live row ≡ true
     by row true f e = f
     by [] false f e = refl
-    by (set ∷ row) false f e = absurd (clash e (emptied_dead (set ∷ row) (omega arith)))
+    by (set ∷ row) false f e = absurd (clash _ e (emptied_dead (set ∷ row) (omega arith)))
 
 pub normalized_live : (row : Sets) → is_live row ≡ true → normalized row ≡ row
 normalized_live row e = ap (λ b. cond b row (emptied row)) e
@@ -87,7 +87,7 @@ module _ (u : Listing) (row other : Sets) (s : HasShape u row) (t : HasShape u o
     where
       front : (a b : Bool) → (a && b) ≡ true → a ≡ true
       front true b e = refl
-      front false b e = absurd (clash e refl)
+      front false b e = absurd (clash _ e refl)
 
   pub leq_narrowed : (test test' : ℕ → ℕ → Bool) → (is_live row ≡ true → (l c : ℕ) → test l c ≡ true → test' l c ≡ true) → Leq row other → Leq (narrowed test row) (narrowed test' other)
   leq_narrowed test test' more h e =
@@ -97,8 +97,8 @@ module _ (u : Listing) (row other : Sets) (s : HasShape u row) (t : HasShape u o
     where
       both : (a b a' b' : Bool) → (a ≡ true → a' ≡ true) → (b ≡ true → b' ≡ true) → (a && b) ≡ true → (a' && b') ≡ true
       both true true a' b' f g h = rw (f refl, g refl) refl
-      both true false a' b' f g h = absurd (clash h refl)
-      both false b a' b' f g h = absurd (clash h refl)
+      both true false a' b' f g h = absurd (clash _ h refl)
+      both false b a' b' f g h = absurd (clash _ h refl)
 
   pub leq_replaced : (chosen : ℕ → Bool) (test test' : ℕ → ℕ → Bool) → (is_live row ≡ true → (l c : ℕ) → test l c ≡ true → test' l c ≡ true) → Leq row other → Leq (replaced chosen test row) (replaced chosen test' other)
   leq_replaced chosen test test' more h e = by (is_live row) refl e
@@ -123,7 +123,7 @@ module _ (u : Listing) (row other : Sets) (s : HasShape u row) (t : HasShape u o
           subst (λ x. Q x (is_live other)) (sym f) (subst (Q true) (sym k.0)
           (leq_remade (λ l c on. cond (chosen l) (test l c) on) (λ l c on. cond (chosen l) (test' l c) on)
           (λ l c. either_case (chosen l) (test l c) (test' l c) (holds row l c) (holds other l c) (more f l c) (k.1 l c)) e))
-      by false f e = absurd (clash e f)
+      by false f e = absurd (clash _ e f)
 
   pub leq_only_empty : (chosen : ℕ → Bool) → Leq row other → Leq (only_empty chosen row) (only_empty chosen other)
   leq_only_empty chosen h = leq_replaced chosen (λ l c. eqb c 0) (λ l c. eqb c 0) (λ live l c e. e) h

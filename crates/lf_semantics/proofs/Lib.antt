@@ -16,6 +16,7 @@ pub mod PatternFaults
 pub mod PatternTexts
 pub mod PatternsInside
 pub mod Places
+pub mod Recorded
 pub mod Restricted
 pub mod RowLaws
 pub mod RowSets

@@ -3,10 +3,7 @@ use Rattle.std.proofs.Common.{◌≡◌, Bool, true, false, cond, List, [], ◌�
 use Rattle.std.specs.List.{AllByRecursion, Contains, filter}
 pub use Rattle.std.proofs.lemmas.Bool.{or_cases}
 pub use Rattle.lf_laws.proofs.Booleans.{not_true}
-pub use Rattle.lf_laws.proofs.Members.{behind, each_member as one_of, first_or_behind, here, in_flat_map, in_map, map_member, none_in, other_false, same_true, true_same}
-
-pub clash : {b : Bool} → b ≡ true → b ≡ false → ⊥
-clash e f = cc
+pub use Rattle.lf_laws.proofs.Members.{all_back, all_front, behind, each_member as one_of, first_or_behind, here, in_flat_map, in_map, map_member, none_in, other_false, same_true, true_same}
 
 pub all_of : {X : Type 0} (P : X → Type 0) (xs : List X) → ((x : X) → Contains xs x → P x) → AllByRecursion P xs
 all_of P [] h = tt
@@ -32,11 +29,3 @@ of_filter test (y ∷ xs) x c = by (test y) refl c (of_filter test xs x)
       | inr g ↦ let k = rest g in (behind y xs x k.0, k.1)
     ]
     by false e d rest = let k = rest d in (behind y xs x k.0, k.1)
-
-pub all_front : {X : Type 0} (P : X → Type 0) (xs ys : List X) → AllByRecursion P (xs ++ ys) → AllByRecursion P xs
-all_front P [] ys all = tt
-all_front P (x ∷ xs) ys all = (all.0, all_front P xs ys all.1)
-
-pub all_back : {X : Type 0} (P : X → Type 0) (xs ys : List X) → AllByRecursion P (xs ++ ys) → AllByRecursion P ys
-all_back P [] ys all = all
-all_back P (x ∷ xs) ys all = all_back P xs ys all.1

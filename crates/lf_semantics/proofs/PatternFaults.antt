@@ -12,11 +12,11 @@ use Rattle.lf_pattern.proofs.GroupLaws.{read_is}
 use Rattle.lf_semantics.specs.Passing.{Passes, passes}
 use Rattle.lf_semantics.specs.PatternBreaches.{NamesNoMetric, TellsPattern, is_empty_name, names_twice}
 use Rattle.lf_semantics.specs.reading.Selectors.{passes_empty}
-use Rattle.lf_semantics.proofs.Members.{clash}
+use Rattle.lf_laws.proofs.Booleans.{clash}
 use Rattle.lf_semantics.proofs.PatternTexts.{passes_is}
 
 pub unread_is : (pattern : Bytes) → (is_read pattern ≡ false) ↔ (IsRead pattern → ⊥)
-unread_is pattern = (λ e read. clash ((read_is pattern).1 read) e, λ none. false_from_ne_true (is_read pattern) (λ e. none ((read_is pattern).0 e)))
+unread_is pattern = (λ e read. clash _ ((read_is pattern).1 read) e, λ none. false_from_ne_true (is_read pattern) (λ e. none ((read_is pattern).0 e)))
 
 each_passes_empty : (matchers : List Matcher) → (list_all (λ (m : Matcher). passes m.op m.value []) matchers ≡ true) ↔ AllByRecursion (λ (m : Matcher). Passes m.op m.value []) matchers
 each_passes_empty [] = (λ e. tt, λ all. refl)

@@ -19,15 +19,16 @@ use Rattle.lf_pattern.proofs.PlainLaws.{found, is_found}
 use Rattle.lf_pattern.proofs.SampleLaws.{samples_none, samples_only, samples_read}
 use Rattle.lf_semantics.specs.Mentions.{AreTextsOf, alternatives_or_samples, pattern_texts, samples_of}
 use Rattle.lf_semantics.specs.Passing.{Passes, is_plain, passes}
-use Rattle.lf_semantics.proofs.Members.{clash, other_false, same_true, true_same}
+use Rattle.lf_laws.proofs.Booleans.{clash}
+use Rattle.lf_semantics.proofs.Members.{other_false, same_true, true_same}
 
 -- a matcher passes a text where the function says so
 pub passes_is : (op : MatchOp) (value text : Bytes) → (passes op value text ≡ true) ↔ Passes op value text
 passes_is Equal value text = (true_same text value, same_true text value)
-passes_is NotEqual value text = (λ e same. clash (same_true text value same) (not-true _ e), λ h. ap not (other_false text value h))
+passes_is NotEqual value text = (λ e same. clash _ (same_true text value same) (not-true _ e), λ h. ap not (other_false text value h))
 passes_is Matches value text = matches_is value text
 passes_is NotMatches value text = (
-  λ e. let both = and_parts _ _ e in ((read_is value).0 both.0, λ m. clash ((matches_is value text).1 m) (not-true _ both.1)),
+  λ e. let both = and_parts _ _ e in ((read_is value).0 both.0, λ m. clash _ ((matches_is value text).1 m) (not-true _ both.1)),
   λ h. and_from _ _ ((read_is value).1 h.0) (ap not (false_from_ne_true _ (λ e. h.1 ((matches_is value text).0 e)))),
 )
 
@@ -38,7 +39,7 @@ plain_is pattern = (λ e. by (alternatives_of pattern) refl e, λ plain. ap is_s
   where
     by : (o : Option (List Bytes)) → alternatives_of pattern ≡ o → is_some o ≡ true → IsPlainPattern pattern
     by (Some alternatives) e h = (alternatives, is_found pattern alternatives e)
-    by None e h = absurd (clash h refl)
+    by None e h = absurd (clash _ h refl)
 
 -- samples
 

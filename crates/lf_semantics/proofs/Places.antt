@@ -1,8 +1,10 @@
 -- Labels and classes by their numbers.
 use Rattle.std.proofs.Common.{◌≡◌, ◌≢◌, ℕ, zero, suc, ◌+◌, ◌<◌, ◌≤◌, Bool, true, false, not, cond, eqb, List, [], ◌∷◌, ◌++◌, length, get_or, refl, sym, ◌∙◌, ap, subst, arith, length-append, inl, inr}
+use Rattle.std.specs.List.{Contains}
 use Rattle.std.specs.Str.{bytes_eq}
 use Rattle.std.proofs.lemmas.Slice.Eq.{bytes_eq-Decides}
 use Rattle.std.proofs.lemmas.List.{get_or-map}
+use Rattle.std.proofs.lemmas.List.Elements.{Contains-get_or}
 use Rattle.std.proofs.lemmas.List.Sums.{position_or_len_is, passes_at_first}
 use Rattle.std.proofs.lemmas.Bool.{cases_lt}
 use Rattle.std.proofs.lemmas.Bool.Decides.{same_from_decides, Decides-eqb}
@@ -26,6 +28,10 @@ place_at xs l h d =
 -- the text at its place
 pub at_place : (xs : List Bytes) (t : Bytes) → place xs t < length xs → get_or xs (place xs t) [] ≡ t
 at_place xs t h = true_same _ _ (passes_at_first (λ x. bytes_eq x t) xs [] h)
+
+-- a text that has a place is there
+pub placed_there : (xs : List Bytes) (t : Bytes) → place xs t < length xs → Contains xs t
+placed_there xs t h = subst (Contains xs) (at_place xs t h) (Contains-get_or xs (place xs t) [] h)
 
 -- a text whose place is the first one is the first text, and any other text stands behind it
 

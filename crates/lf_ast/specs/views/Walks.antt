@@ -1,7 +1,7 @@
 -- Walks over expressions: which parts of an expression are gone into, and what is done there.
-use Rattle.std.specs.Prelude.{◌≡◌, ◌<◌, ◌+◌, ◌^◌, ℕ, List, [], ◌∷◌, ◌++◌, Option, Some, None, map, take, drop}
+use Rattle.std.specs.Prelude.{◌≡◌, ◌<◌, ◌+◌, ◌^◌, ℕ, List, [], ◌∷◌, Option, Some, None, map, take, drop}
 use Rattle.std.specs.Borrow.{Bor}
-use Rattle.lf_ast.specs.Tree.{Tree, Trees, Number, Str, Selector, Subquery, Paren, Unary, Binary, Call, Aggregate, Nil, Next, tree}
+use Rattle.lf_ast.specs.Tree.{Tree, tree}
 use Rattle.lf_ast.specs.declared.expr.Expr.{Expr}
 use Rattle.lf_ast.specs.declared.walk.choosing.Parts.{Parts}
 use Rattle.lf_ast.specs.declared.walk.choosing.Parts.TheVariants.{All, From, Only, Nothing}
@@ -28,23 +28,6 @@ module _ {S : Type 0} (visited between : S → Tree → S) (x : Tree) where
   abbrev pub along : List Tree → S → S
   along [] s = s
   along (p ∷ ps) s = further ps (visited s p)
-
-abbrev mutual
-  -- an expression and all parts in it, each before its own
-  pub nodes : Tree → List Tree
-  nodes (Number text span) = Number text span ∷ []
-  nodes (Str text span) = Str text span ∷ []
-  nodes (Selector name matchers sight span) = Selector name matchers sight span ∷ []
-  nodes (Subquery of sight span) = Subquery of sight span ∷ nodes of
-  nodes (Paren of span) = Paren of span ∷ nodes of
-  nodes (Unary minus of span) = Unary minus of span ∷ nodes of
-  nodes (Binary op m left right span) = Binary op m left right span ∷ (nodes left ++ nodes right)
-  nodes (Call name args span) = Call name args span ∷ nodes_in args
-  nodes (Aggregate op grouping args span) = Aggregate op grouping args span ∷ nodes_in args
-
-  pub nodes_in : Trees → List Tree
-  nodes_in Nil = []
-  nodes_in (Next x xs) = nodes x ++ nodes_in xs
 
 -- the trees of borrowed expressions
 abbrev pub trees_at : List (Bor Expr) → List Tree

@@ -1,7 +1,7 @@
 //! An expression with all parts in it.
 ghost use Rattle.std.specs.Prelude.{◌≡◌, IfOk};
-ghost use Rattle.lf_ast.specs.Tree.{tree};
-ghost use Rattle.lf_ast.specs.views.Walks.{nodes, trees_at};
+ghost use Rattle.lf_ast.specs.Tree.{tree, nodes};
+ghost use Rattle.lf_ast.specs.views.Walks.{trees_at};
 
 use crate::Expr;
 use crate::walk::choosing::{Frame, Parts, split_first};

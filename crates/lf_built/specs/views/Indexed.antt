@@ -1,9 +1,8 @@
 -- What the built worlds of rules share: how contracts see the code. It defines nothing.
 use Rattle.std.specs.Prelude.{◌≡◌, Bool, List, map}
 use Rattle.lf_ast.specs.Rules.{RuleTree, rule_trees}
-use Rattle.lf_ast.specs.Tree.{Tree}
+use Rattle.lf_ast.specs.Tree.{Tree, nodes}
 use Rattle.lf_ast.specs.declared.rule.Rule.{Rule}
-use Rattle.lf_ast.specs.views.Walks.{nodes}
 use Rattle.lf_classes.specs.Limits.{IsWithin}
 use Rattle.lf_deps.specs.views.Sources.{IsSourcesOf}
 use Rattle.lf_semantics.specs.Environments.{CoversRules, IsEnvironment, recorded_row, rule_row}

@@ -1,8 +1,7 @@
 -- Where the parts of an expression stand among all parts in it, each before its own: how contracts see the code. It defines nothing.
 use Rattle.std.specs.Prelude.{◌≡◌, ℕ, List, ◌++◌, length}
 use Rattle.std.proofs.Common.{drop}
-use Rattle.lf_ast.specs.Tree.{Tree}
-use Rattle.lf_ast.specs.views.Walks.{nodes}
+use Rattle.lf_ast.specs.Tree.{Tree, nodes}
 
 -- the expression and all parts in it stand in a list from a place on
 abbrev pub StandsFrom : List Tree → ℕ → Tree → Type 0

@@ -2,11 +2,10 @@
 use Rattle.std.specs.Prelude.{◌≡◌, List, Option, Some, None, slice_get}
 use Rattle.lf_ast.specs.Rules.{RuleTree}
 use Rattle.lf_ast.specs.Labels.{Bytes}
-use Rattle.lf_ast.specs.Tree.{Tree, Selector, tree}
+use Rattle.lf_ast.specs.Tree.{Tree, Selector, tree, nodes}
 use Rattle.lf_ast.specs.declared.expr.Matcher.{Matcher}
 use Rattle.lf_ast.specs.declared.expr.Sight.{Sight}
 use Rattle.lf_base.specs.declared.place.Span.{Span}
-use Rattle.lf_ast.specs.views.Walks.{nodes}
 use Rattle.lf_built.specs.declared.spots.Spot.{Spot}
 use Rattle.lf_built.specs.views.Places.{StandsFrom}
 

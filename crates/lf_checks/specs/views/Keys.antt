@@ -3,7 +3,7 @@ use Rattle.std.specs.Prelude.{ℕ, Bool, cond, List, [], ◌∷◌, ◌++◌, Op
 use Rattle.std.specs.List.{flat_map}
 use Rattle.lf_ast.specs.Labels.{Bytes}
 use Rattle.lf_ast.specs.Rules.{RuleTree}
-use Rattle.lf_ast.specs.Tree.{Tree, Number, Str, Selector, Subquery, Paren, Unary, Binary, Call, Aggregate, count}
+use Rattle.lf_ast.specs.Tree.{Tree, Number, Str, Selector, Subquery, Paren, Unary, Binary, Call, Aggregate, count, nodes}
 use Rattle.lf_ast.specs.declared.expr.Agg.{Agg}
 use Rattle.lf_ast.specs.declared.expr.Agg.TheVariants as A
 use Rattle.lf_ast.specs.declared.expr.Group.{Group}
@@ -19,7 +19,6 @@ use Rattle.lf_ast.specs.declared.expr.Op.{Op}
 use Rattle.lf_ast.specs.declared.expr.Op.TheVariants as O
 use Rattle.lf_ast.specs.declared.expr.Sight.{Sight}
 use Rattle.lf_ast.specs.declared.rule.RuleLabel.{RuleLabel}
-use Rattle.lf_ast.specs.views.Walks.{nodes}
 
 -- `1` as often, and `0`
 abbrev pub count_code : ℕ → Bytes

@@ -3,8 +3,7 @@ use Rattle.std.specs.Prelude.{option_map, slice_get}
 use Rattle.std.proofs.lemmas.List.{length-map}
 use Rattle.std.proofs.lemmas.Option.{same_Some, slice_get-map}
 use Rattle.lf_ast.specs.Rules.{RuleTree, rule_tree}
-use Rattle.lf_ast.specs.Tree.{Tree}
-use Rattle.lf_ast.specs.views.Walks.{nodes}
+use Rattle.lf_ast.specs.Tree.{Tree, nodes}
 use Rattle.lf_trials.specs.Building.{Building}
 use Rattle.lf_built.specs.views.Indexed.{trees_of}
 use Rattle.lf_built.specs.views.Places.{StandsFrom}

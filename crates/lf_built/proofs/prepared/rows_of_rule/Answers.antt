@@ -3,8 +3,7 @@ use Rattle.std.specs.List.{flat_map}
 use Rattle.std.specs.Prelude.{slice_index_or}
 use Rattle.lf_ast.specs.Rules.{rule_tree}
 use Rattle.lf_ast.specs.Selectors.{metric}
-use Rattle.lf_ast.specs.Tree.{Tree, parts_of}
-use Rattle.lf_ast.specs.views.Walks.{nodes}
+use Rattle.lf_ast.specs.Tree.{Tree, parts_of, nodes}
 use Rattle.lf_semantics.specs.ClassRows.{HasShape, Sets}
 use Rattle.lf_semantics.specs.Environments.{with_text, with_texts}
 use Rattle.lf_semantics.specs.Listing.{Listing}

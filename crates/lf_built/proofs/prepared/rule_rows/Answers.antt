@@ -1,6 +1,6 @@
 use Rattle.std.proofs.Common.{◌<◌, ℕ, length, arith}
+use Rattle.lf_ast.specs.Tree.{nodes}
 use Rattle.lf_ast.specs.Rules.{RuleTree}
-use Rattle.lf_ast.specs.views.Walks.{nodes}
 use Rattle.lf_semantics.specs.Environments.{recorded_row, rule_row}
 use Rattle.lf_forks.specs.views.ForkTests.{has_passing}
 use Rattle.lf_forks.specs.views.Holding.{test_of}

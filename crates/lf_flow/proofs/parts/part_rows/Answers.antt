@@ -1,7 +1,6 @@
 use Rattle.std.proofs.Common.{◌≡◌, List, map, ap, ◌∙◌, subst}
 use Rattle.std.specs.Prelude.{IfOk}
-use Rattle.lf_ast.specs.Tree.{tree}
-use Rattle.lf_ast.specs.views.Walks.{nodes}
+use Rattle.lf_ast.specs.Tree.{tree, nodes}
 use Rattle.lf_semantics.specs.ClassRows.{Sets}
 use Rattle.lf_flow.specs.declared.given.Given.{Given}
 use Rattle.lf_flow.specs.views.Kept.{made_row}

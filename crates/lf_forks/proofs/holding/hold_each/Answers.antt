@@ -1,7 +1,6 @@
 use Rattle.std.proofs.Common.{◌≡◌, Bool, List, map, ap, ◌∙◌, subst}
 use Rattle.std.specs.Prelude.{IfOk}
-use Rattle.lf_ast.specs.Tree.{tree}
-use Rattle.lf_ast.specs.views.Walks.{nodes}
+use Rattle.lf_ast.specs.Tree.{tree, nodes}
 use Rattle.lf_forks.specs.declared.holding.Held.{Held}
 use Rattle.lf_forks.proofs.HeldParts.{found_in_each}
 use Rattle.lf_forks.proofs.holding.hold_each.Goals as goal

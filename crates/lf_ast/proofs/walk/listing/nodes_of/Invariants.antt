@@ -1,7 +1,7 @@
 use Rattle.std.proofs.Common.{◌≡◌, ◌++◌, reverse}
 use Rattle.std.specs.List.{sum_by}
-use Rattle.lf_ast.specs.Tree.{tree}
-use Rattle.lf_ast.specs.views.Walks.{nodes, trees_at}
+use Rattle.lf_ast.specs.Tree.{tree, nodes}
+use Rattle.lf_ast.specs.views.Walks.{trees_at}
 use Rattle.lf_ast.proofs.Listing.{to_find}
 use Rattle.lf_ast.proofs.Walks.{work}
 use Rattle.lf_ast.proofs.walk.listing.nodes_of.Given as goal

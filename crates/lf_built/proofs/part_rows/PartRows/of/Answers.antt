@@ -1,7 +1,6 @@
 use Rattle.std.proofs.Common.{get_or}
 use Rattle.std.proofs.lemmas.List.Elements.{All-map, All-same}
-use Rattle.lf_ast.specs.Tree.{tree}
-use Rattle.lf_ast.specs.views.Walks.{nodes}
+use Rattle.lf_ast.specs.Tree.{tree, nodes}
 use Rattle.lf_semantics.specs.ClassRows.{HasShape}
 use Rattle.lf_semantics.specs.RowTable.{row_of}
 use Rattle.lf_semantics.proofs.NormalizedRows.{row_is}

@@ -1,7 +1,7 @@
 use Rattle.std.proofs.Common.{List, map, refl, ap, ◌∙◌}
+use Rattle.lf_ast.specs.Tree.{nodes}
 use Rattle.lf_ast.specs.Rules.{RuleTree, rule_trees}
 use Rattle.lf_ast.specs.declared.rule.Rule.{Rule}
-use Rattle.lf_ast.specs.views.Walks.{nodes}
 use Rattle.lf_semantics.specs.Environments.{recorded_row, rule_row}
 use Rattle.lf_forks.specs.views.ForkTests.{has_passing}
 use Rattle.lf_forks.specs.views.Holding.{test_of}

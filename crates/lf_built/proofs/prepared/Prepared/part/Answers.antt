@@ -1,7 +1,6 @@
 use Rattle.std.proofs.Common.{◌≡◌, ℕ, Option, Some, None, refl, sym, subst}
 use Rattle.std.specs.Prelude.{slice_get}
-use Rattle.lf_ast.specs.Tree.{Tree, parts_of, tree}
-use Rattle.lf_ast.specs.views.Walks.{nodes}
+use Rattle.lf_ast.specs.Tree.{Tree, parts_of, tree, nodes}
 use Rattle.lf_built.specs.views.Indexed.{trees_of}
 use Rattle.lf_built.specs.views.Places.{StandsFrom}
 use Rattle.lf_built.specs.views.Spots.{IsPartSpot, tree_at}
