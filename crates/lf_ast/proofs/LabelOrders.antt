@@ -1,11 +1,9 @@
 -- The order of lists of entries, pair by pair.
-use Rattle.std.proofs.Common.{◌≡◌, ◌<◌, ◌+◌, ℕ, zero, suc, min, List, [], ◌∷◌, drop, get_or, length, map, refl, sym, ap, ap₂, ◌∙◌, arith}
+use Rattle.std.proofs.Common.{◌≡◌, ℕ, zero, suc, min, List, [], ◌∷◌, drop, length, map, refl, ◌∙◌, arith}
 use Rattle.std.proofs.lemmas.Bool.Decides.{nat_tests}
 use Rattle.std.specs.declared.cmp.Ordering.{Ordering}
 use Rattle.std.specs.declared.cmp.Ordering.TheVariants.{Less, Equal, Greater}
 use Rattle.std.specs.Ordering.{nat_cmp, ordering_then}
-use Rattle.std.specs.Cmp.Lexicographic.{slice_cmp}
-use Rattle.std.proofs.lemmas.List.{drop_more}
 use Rattle.lf_ast.specs.Labels.{Bytes}
 use Rattle.lf_ast.specs.LabelOrder.{pair_of, pairs_cmp}
 
@@ -17,14 +15,6 @@ then_nothing Greater = refl
 -- the order of what is left from a place on
 abbrev pub order_from : ℕ → List (Bytes × Bytes) → List (Bytes × Bytes) → Ordering
 order_from k es fs = pairs_cmp (map pair_of (drop k es)) (map pair_of (drop k fs))
-
-from : (es : List (Bytes × Bytes)) (k : ℕ) (e : Bytes × Bytes) → k < length es → e ≡ get_or es k e → drop k es ≡ e ∷ drop (k + 1) es
-from es k e lt is = drop_more es k e lt ∙ ap (λ x. x ∷ drop (k + 1) es) (sym is)
-
--- the entries there, and then what is left behind them
-pub one_further : (es fs : List (Bytes × Bytes)) (k : ℕ) (e f : Bytes × Bytes) → k < length es → k < length fs → e ≡ get_or es k e → f ≡ get_or fs k f
-    → order_from k es fs ≡ ordering_then (slice_cmp (slice_cmp nat_cmp) (pair_of e) (pair_of f)) (order_from (k + 1) es fs)
-one_further es fs k e f lt below is so = ap₂ (λ (xs ys : List (Bytes × Bytes)). pairs_cmp (map pair_of xs) (map pair_of ys)) (from es k e lt is) (from fs k f below so)
 
 both_more : (n m : ℕ) → nat_cmp n m ≡ nat_cmp (suc n) (suc m)
 both_more n m = grind (arith, nat_tests)

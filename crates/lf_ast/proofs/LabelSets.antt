@@ -1,5 +1,5 @@
 -- Entries of label sets: what a look-up finds in them, and what they are after one is put in or taken out.
-use Rattle.std.proofs.Common.{◌≡◌, ◌≢◌, ◌<◌, ◌≤◌, ℕ, zero, suc, ◌+◌, Bool, true, false, cond, not, List, [], ◌∷◌, ◌++◌, take, drop, get_or, length, set, Option, Some, None, refl, sym, ap, ◌∙◌, subst, add-one, append_assoc, arith}
+use Rattle.std.proofs.Common.{◌≡◌, ◌≢◌, ◌<◌, ℕ, zero, suc, ◌+◌, Bool, true, false, cond, not, List, [], ◌∷◌, ◌++◌, take, drop, get_or, length, set, Option, Some, None, refl, sym, ap, ◌∙◌, subst, add-one, arith}
 use Rattle.std.specs.Prelude.{IfSome, IsTrue}
 use Rattle.std.specs.List.{filter}
 use Rattle.std.specs.Option.{option_copied}
@@ -10,7 +10,7 @@ use Rattle.std.specs.Cmp.{eq_by_cmp_equiv}
 use Rattle.std.specs.Cmp.Lexicographic.{nat_list_cmp_total, slice_cmp}
 use Rattle.std.specs.FinMap.{empty, empty_of_len, entries, entries-from_sorted, entries-insert, find, from_sorted, get, get-from_sorted, get-remove, get-retain_keys, insert, is_sorted, len-entries, nat_cmp-IsAntisymmetric, put, remove, retain_keys, same_entries_map, same_map, slice_cmp-IsAntisymmetric}
 use Rattle.std.specs.FinMap.Entries.{by_order, find-where_key, is_sorted-put, is_sorted-where_key}
-use Rattle.std.proofs.lemmas.List.{drop_all, drop_more, get_or_default, set_split, take_more}
+use Rattle.std.proofs.lemmas.List.{drop_more, get_or_default, set_split}
 use Rattle.std.specs.Str.{bytes_eq}
 use denote.Ref.{Bor}
 use lib.Dec.{T}
@@ -123,12 +123,6 @@ module _ (n : Bytes) (es : List (Bytes × Bytes)) (k : ℕ) where
       → put (slice_cmp nat_cmp) n t es ≡ take k es ++ by_order (slice_cmp nat_cmp n e.0) ((n, t) ∷ e ∷ drop (k + 1) es) ((e.0, t) ∷ drop (k + 1) es) (e ∷ put (slice_cmp nat_cmp) n t (drop (k + 1) es))
   put_here e lt is passed t = passed t ∙ ap (λ rest. take k es ++ put (slice_cmp nat_cmp) n t rest) (drop_more es k e lt ∙ ap (λ x. x ∷ drop (k + 1) es) (sym is))
 
-  pub put_before : (e : Bytes × Bytes) → k < length es → e ≡ get_or es k e → slice_cmp nat_cmp n e.0 ≡ Less → IsPassed → (t : Bytes) → put (slice_cmp nat_cmp) n t es ≡ take k es ++ (n, t) ∷ drop k es
-  put_before e lt is less passed t =
-      put_here e lt is passed t
-      ∙ ap (λ o. take k es ++ by_order o ((n, t) ∷ e ∷ drop (k + 1) es) ((e.0, t) ∷ drop (k + 1) es) (e ∷ put (slice_cmp nat_cmp) n t (drop (k + 1) es))) less
-      ∙ ap (λ rest. take k es ++ (n, t) ∷ rest) (sym (drop_more es k e lt ∙ ap (λ x. x ∷ drop (k + 1) es) (sym is)))
-
   pub put_at : (e : Bytes × Bytes) → k < length es → e ≡ get_or es k e → slice_cmp nat_cmp n e.0 ≡ Equal → IsPassed → (t : Bytes) (d : Bytes × Bytes)
       → put (slice_cmp nat_cmp) n t es ≡ set es k ((get_or es k d).0, t)
   put_at e lt is equal passed t d =
@@ -136,17 +130,6 @@ module _ (n : Bytes) (es : List (Bytes × Bytes)) (k : ℕ) where
       ∙ ap (λ o. take k es ++ by_order o ((n, t) ∷ e ∷ drop (k + 1) es) ((e.0, t) ∷ drop (k + 1) es) (e ∷ put (slice_cmp nat_cmp) n t (drop (k + 1) es))) equal
       ∙ sym (set_split es k (e.0, t) lt ∙ ap (λ j. take k es ++ (e.0, t) ∷ drop j es) (sym (add-one k)))
       ∙ ap (λ (x : Bytes × Bytes). set es k (x.0, t)) (is ∙ get_or_default es k e d lt)
-
-  pub put_later : (e : Bytes × Bytes) → k < length es → e ≡ get_or es k e → slice_cmp nat_cmp n e.0 ≡ Greater → IsPassed → (t : Bytes)
-      → put (slice_cmp nat_cmp) n t es ≡ take (k + 1) es ++ put (slice_cmp nat_cmp) n t (drop (k + 1) es)
-  put_later e lt is greater passed t =
-      put_here e lt is passed t
-      ∙ ap (λ o. take k es ++ by_order o ((n, t) ∷ e ∷ drop (k + 1) es) ((e.0, t) ∷ drop (k + 1) es) (e ∷ put (slice_cmp nat_cmp) n t (drop (k + 1) es))) greater
-      ∙ sym (append_assoc (take k es) (e ∷ []) (put (slice_cmp nat_cmp) n t (drop (k + 1) es)))
-      ∙ ap (λ front. front ++ put (slice_cmp nat_cmp) n t (drop (k + 1) es)) (sym (take_more es k e lt ∙ ap (λ x. take k es ++ x ∷ []) (sym is)))
-
-  pub put_last : length es ≤ k → IsPassed → (t : Bytes) → put (slice_cmp nat_cmp) n t es ≡ take k es ++ (n, t) ∷ drop k es
-  put_last end passed t = passed t ∙ ap (λ rest. take k es ++ put (slice_cmp nat_cmp) n t rest) (drop_all k es end) ∙ ap (λ rest. take k es ++ (n, t) ∷ rest) (sym (drop_all k es end))
 
 -- texts that are empty or not
 

@@ -1,5 +1,5 @@
 -- What an option holds.
-use Rattle.std.proofs.Common.{◌≡◌, Option, None, Some, sym, ◌∙◌}
+use Rattle.std.proofs.Common.{◌≡◌, Option, Some, sym, ◌∙◌}
 
 -- equal options hold the same
 pub the_same : {X : Type 0} (x y : X) → Some x ≡ Some y → x ≡ y
