@@ -1,6 +1,7 @@
 pub mod Constructs
 pub mod ConstructsGrow
 pub mod EffectsRepresent
+pub mod FreeTexts
 pub mod GivenTexts
 pub mod Kept
 pub mod LabelTexts
@@ -12,6 +13,7 @@ pub mod NormalizedRows
 pub mod Numbered
 pub mod Operands
 pub mod PairsRepresent
+pub mod PartsCovered
 pub mod PatternFaults
 pub mod PatternTexts
 pub mod PatternsInside
@@ -22,6 +24,7 @@ pub mod RowLaws
 pub mod RowSets
 pub mod RowsGrow
 pub mod SamplesRepresented
+pub mod ScalarCalls
 pub mod SelectorsRepresent
 pub mod Soundness
 pub mod StringsRepresent
