@@ -6,7 +6,7 @@ use Rattle.lf_base.specs.declared.place.Span.{Span}
 use Rattle.lf_ast.specs.Functions.{aggregation}
 use Rattle.lf_ast.specs.Labels.{Bytes}
 use Rattle.lf_ast.specs.Rules.{RuleTree}
-use Rattle.lf_ast.specs.Tree.{Tree, Trees, Binary, Aggregate, Nil, Next, list, parts_of}
+use Rattle.lf_ast.specs.Tree.{Aggregate, Binary, Next, Nil, Tree, Trees, list, nodes, parts_of}
 use Rattle.lf_ast.specs.declared.expr.Agg.{Agg}
 use Rattle.lf_ast.specs.declared.expr.Group.{Group}
 use Rattle.lf_ast.specs.declared.expr.Group.TheVariants.{One, Left, Right}
@@ -23,7 +23,6 @@ use Rattle.lf_semantics.specs.RowTable.{Environment, row_of}
 use Rattle.lf_checks.specs.Finding.{Finding, MatchLabel, finding}
 use Rattle.lf_checks.specs.Judged.{IsImpossible}
 use Rattle.lf_checks.specs.MatchLabel.{IsFound, Seeks, one_side, says_never}
-use Rattle.lf_checks.specs.Subexpressions.{subexpressions}
 use Rattle.lf_checks.specs.views.Adding.{Adds, OfSome}
 use Rattle.lf_checks.specs.views.Sought.{IsNever, IsOfMatch, IsOfOperand, IsOfPart, for_left, for_right, labels_by}
 use Rattle.lf_checks.proofs.Added.{adds_as, adds_none}
@@ -130,11 +129,11 @@ module _ (u : Listing) where
 
     -- ---- a whole rule
 
-    pub of_rule : (r : RuleTree) (new : List Row) → Adds (OfSome (IsOfPart u env) (subexpressions r.expr)) [] new → Adds (IsFound u env r) [] new
-    of_rule r new a = adds_as (OfSome (IsOfPart u env) (subexpressions r.expr)) (IsFound u env r) [] new a to from
+    pub of_rule : (r : RuleTree) (new : List Row) → Adds (OfSome (IsOfPart u env) (nodes r.expr)) [] new → Adds (IsFound u env r) [] new
+    of_rule r new a = adds_as (OfSome (IsOfPart u env) (nodes r.expr)) (IsFound u env r) [] new a to from
       where
-        to : (f : Finding) → OfSome (IsOfPart u env) (subexpressions r.expr) f → IsFound u env r f
+        to : (f : Finding) → OfSome (IsOfPart u env) (nodes r.expr) f → IsFound u env r f
         to f (x, c, (label, operand, seeks, never)) = (x, label, operand, c, seeks, never.0, never.1)
 
-        from : (f : Finding) → IsFound u env r f → OfSome (IsOfPart u env) (subexpressions r.expr) f
+        from : (f : Finding) → IsFound u env r f → OfSome (IsOfPart u env) (nodes r.expr) f
         from f (x, label, operand, c, seeks, never, e) = (x, c, (label, operand, seeks, (never, e)))
