@@ -1,5 +1,6 @@
 -- The row of a rule, and whether the rule is a scalar or a vector.
 use Rattle.std.proofs.Common.{◌≡◌, ◌<◌, ℕ, zero, suc, Bool, true, false, not, cond, List, [], ◌∷◌, length, Some, refl, sym, ap, ◌∙◌, subst, slice_get, arith}
+use Rattle.lf_laws.proofs.Options.{same_option}
 use Rattle.lf_laws.proofs.Booleans.{clash}
 use Rattle.lf_ast.specs.Rules.{RuleTree, rule_tree, rule_trees}
 use Rattle.lf_ast.specs.declared.rule.Rule.{Rule}
@@ -11,13 +12,7 @@ use Rattle.lf_semantics.specs.Parts.{is_evaluated, type_by_form}
 use Rattle.lf_semantics.specs.RowTable.{Environment, row_of}
 use Rattle.lf_semantics.proofs.LeqLaws.{bottom_dead}
 use Rattle.lf_semantics.proofs.NormalizedRows.{rule_row_is}
-use Rattle.lf_trials.proofs.OneVerdict.{same_option}
 use Rattle.lf_worlds.specs.views.Tried.{IsEvaluatedAt}
-
-pub some_at : {X : Type 0} (xs : List X) (k : ℕ) → k < length xs → (x : X) × (slice_get xs k ≡ Some x)
-some_at [] k less = absurd (omega (arith, less))
-some_at (x ∷ xs) zero less = (x, refl)
-some_at (x ∷ xs) (suc k) less = some_at xs k (omega (arith, less))
 
 dead_by_test : (b : Bool) → not b ≡ true → b ≡ false
 dead_by_test true e = sym e
