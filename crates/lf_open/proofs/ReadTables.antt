@@ -15,9 +15,9 @@ use Rattle.lf_classes.specs.views.TextSets.{with_text}
 use Rattle.lf_deps.specs.Reading.{selectors}
 use Rattle.lf_deps.specs.views.Search.{Grows}
 use Rattle.lf_deps.specs.views.Sources.{IsSourcesOf, Sources}
-use Rattle.lf_open.proofs.Grown.{grows_none, grows_text, kept_in}
 use Rattle.lf_deps.proofs.LookedUp.{selected_count, selected_is}
 use Rattle.lf_deps.proofs.Numbered.{number_of}
+use Rattle.lf_deps.proofs.Followed.{grows_none, grows_text, kept_in}
 use Rattle.lf_semantics.specs.Environments.{names_recorded, recorded_names}
 use Rattle.lf_semantics.specs.Listing.{place}
 use Rattle.lf_semantics.proofs.ListingLaws.{in_first_seen, place_within}
