@@ -64,7 +64,7 @@ bare_texts R w r c = subst HasTexts (sym (w.1 r c)) bare_has_texts
 loses_name : Keeps-texts LosesName
 loses_name s r e h = subst HasTexts (sym e) (restricted_has_texts _ s h)
 
-absent_has_texts : (sought : Option Sought) (r : Labels) → IsAbsent sought r → HasTexts r
+pub absent_has_texts : (sought : Option Sought) (r : Labels) → IsAbsent sought r → HasTexts r
 absent_has_texts None r is = subst HasTexts (sym is) bare_has_texts
 absent_has_texts (Some sought) r (inl has) = has.0
 absent_has_texts (Some sought) r (inr none) = subst HasTexts (sym none.1) bare_has_texts

@@ -1,6 +1,7 @@
 pub mod Constructs
 pub mod ConstructsGrow
 pub mod EffectsRepresent
+pub mod FreeTexts
 pub mod GivenTexts
 pub mod Kept
 pub mod LabelTexts
@@ -22,6 +23,7 @@ pub mod RowLaws
 pub mod RowSets
 pub mod RowsGrow
 pub mod SamplesRepresented
+pub mod ScalarCalls
 pub mod SelectorsRepresent
 pub mod Soundness
 pub mod StringsRepresent

@@ -1,6 +1,6 @@
 use Rattle.std.proofs.Common.{◌∙◌}
 use Rattle.lf_classes.proofs.PatternPlaces.{row_found}
-use Rattle.lf_classes.proofs.remembered.PatternRows.get.Goals as goal
+use Rattle.lf_classes.proofs.pattern_cache.PatternRows.get.Goals as goal
 
 pub returns : goal.returns
 returns c row_of are =

@@ -1,4 +1,4 @@
--- Rows of the classes that pass patterns, as they are remembered.
+-- Rows of the classes that pass patterns, as they are cached.
 use Rattle.std.specs.Prelude.{◌≡◌, ℕ, ◌||◌, not, eqb, map, Some, slice_get}
 use Rattle.lf_ast.specs.Labels.{Bytes}
 use Rattle.lf_ast.specs.declared.expr.MatchOp.{MatchOp}
@@ -6,9 +6,9 @@ use Rattle.lf_ast.specs.declared.expr.MatchOp.TheVariants.{Matches, NotMatches}
 use Rattle.lf_semantics.specs.ClassRows.{Sets, top, narrowed}
 use Rattle.lf_semantics.specs.Listing.{Listing}
 use Rattle.lf_semantics.specs.RowTable.{passes_class}
-use Rattle.lf_classes.specs.declared.remembered.LabelRows.{LabelRows}
-use Rattle.lf_classes.specs.declared.remembered.PatternRows.{PatternRows}
-use Rattle.lf_classes.specs.declared.remembered.Remembered.{Remembered}
+use Rattle.lf_classes.specs.declared.pattern_cache.LabelRows.{LabelRows}
+use Rattle.lf_classes.specs.declared.pattern_cache.PatternRows.{PatternRows}
+use Rattle.lf_classes.specs.declared.pattern_cache.PatternCache.{PatternCache}
 
 -- the classes of a label that pass a matcher, beside every class of each other label
 abbrev pub passing_row : Listing → ℕ → MatchOp → Bytes → Sets
@@ -24,5 +24,5 @@ pub record HasRows (u : Listing) (label : ℕ) (rows : LabelRows) : Type 0 where
   pub failing : AreRows (passing_row u label NotMatches) rows.failing
 
 -- each label has rows of its own patterns
-abbrev pub AreRemembered : Listing → Remembered → Type 0
-AreRemembered u r = (label : ℕ) (rows : LabelRows) → slice_get r.labels.items label ≡ Some rows → HasRows u label rows
+abbrev pub IsPatternCache : Listing → PatternCache → Type 0
+IsPatternCache u r = (label : ℕ) (rows : LabelRows) → slice_get r.labels.items label ≡ Some rows → HasRows u label rows

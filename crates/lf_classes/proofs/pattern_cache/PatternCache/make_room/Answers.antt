@@ -1,8 +1,8 @@
 use Rattle.std.proofs.Common.{◌∙◌, ap, sym}
 use Rattle.std.specs.Prelude.{slice_get}
-use Rattle.lf_classes.specs.views.Remembered.{HasRows}
+use Rattle.lf_classes.specs.views.PatternCache.{HasRows}
 use Rattle.lf_classes.proofs.PatternPlaces.{each_push}
-use Rattle.lf_classes.proofs.remembered.Remembered.make_room.Goals as goal
+use Rattle.lf_classes.proofs.pattern_cache.PatternCache.make_room.Goals as goal
 
 pub loop-alloc-preserved : goal.loop-alloc-preserved
 loop-alloc-preserved c u are k rows e =

@@ -1,9 +1,9 @@
 use Rattle.std.proofs.Common.{◌≡◌, sym, subst}
 use Rattle.std.specs.Prelude.{IfSome}
 use Rattle.lf_ast.specs.declared.expr.MatchOp.{MatchOp}
-use Rattle.lf_classes.specs.views.Remembered.{passing_row}
+use Rattle.lf_classes.specs.views.PatternCache.{passing_row}
 use Rattle.lf_ast.specs.declared.expr.MatchOp.TheVariants.{Matches, NotMatches}
-use Rattle.lf_classes.proofs.remembered.LabelRows.get.Goals as goal
+use Rattle.lf_classes.proofs.pattern_cache.LabelRows.get.Goals as goal
 
 pub returns-in-Matches : goal.returns-in-Matches
 returns-in-Matches c u label are =

@@ -1,6 +1,6 @@
 use Rattle.std.proofs.Common.{sym, ap, ◌∙◌}
-use Rattle.lf_classes.specs.views.Remembered.{passing_row}
-use Rattle.lf_classes.proofs.universe.Universe.remember.Goals as goal
+use Rattle.lf_classes.specs.views.PatternCache.{passing_row}
+use Rattle.lf_classes.proofs.universe.Universe.cache_row.Goals as goal
 
 pub invariant_of-self : goal.invariant_of-self
 invariant_of-self c =
@@ -10,5 +10,5 @@ invariant_of-self c =
       star = c.self.invariant.star;
       empty = c.self.invariant.empty;
       shape = c.self.invariant.shape;
-      remembered = c.add.ensures _ c.self.invariant.remembered is;
+      patterns = c.add.ensures _ c.self.invariant.patterns is;
     }

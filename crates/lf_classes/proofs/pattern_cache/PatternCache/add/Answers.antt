@@ -1,8 +1,8 @@
 use Rattle.std.proofs.Common.{◌<◌, length, refl}
 use Rattle.std.proofs.lemmas.Option.{slice_get_read}
-use Rattle.lf_classes.specs.views.Remembered.{HasRows}
+use Rattle.lf_classes.specs.views.PatternCache.{HasRows}
 use Rattle.lf_classes.proofs.PatternPlaces.{each_set}
-use Rattle.lf_classes.proofs.remembered.Remembered.add.Goals as goal
+use Rattle.lf_classes.proofs.pattern_cache.PatternCache.add.Goals as goal
 
 pub returns : goal.returns
 returns c u are is =

@@ -1,6 +1,6 @@
 use Rattle.std.proofs.Common.{◌≡◌, ◌<◌, length, refl, get_or, ◌∙◌, ap, arith}
 use Rattle.std.proofs.lemmas.Option.{slice_get_read}
-use Rattle.lf_classes.proofs.remembered.Remembered.get.Goals as goal
+use Rattle.lf_classes.proofs.pattern_cache.PatternCache.get.Goals as goal
 
 pub returns : goal.returns
 returns c u are =

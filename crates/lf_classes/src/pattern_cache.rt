@@ -3,7 +3,7 @@ ghost use Rattle.std.specs.Prelude.{◌≡◌, ℕ, ◌<◌, ◌^◌, length, If
 ghost use Rattle.lf_ast.specs.Labels.{Bytes};
 ghost use Rattle.lf_semantics.specs.ClassRows.{Sets};
 ghost use Rattle.lf_semantics.specs.Listing.{Listing};
-ghost use Rattle.lf_classes.specs.views.Remembered.{AreRemembered, AreRows, HasRows, passing_row};
+ghost use Rattle.lf_classes.specs.views.PatternCache.{IsPatternCache, AreRows, HasRows, passing_row};
 
 use crate::row::Row;
 use crate::text_set::TextSet;
@@ -29,14 +29,14 @@ impl PatternRows {
         }
     }
 
-    /// The row of a pattern, if it is remembered.
+    /// The row of a pattern, if it is cached.
     fn get(&self, pattern: &str) -> Option<&Row>
         ensures { (row_of : Bytes → Sets) → AreRows row_of self.now → IfSome result (λ row. row.now ≡ row_of pattern.now) }
     {
         self.rows.get(self.patterns.place(pattern))
     }
 
-    /// Remembers the row of a pattern, unless it is remembered already.
+    /// Caches the row of a pattern, unless it is cached already.
     fn add(&mut self, alloc: Global, pattern: &str, row: Row) -> Result<(), Memory>
         ensures { (row_of : Bytes → Sets) → AreRows row_of self.old → row ≡ row_of pattern.now → AreRows row_of self.new }
     {
@@ -68,7 +68,7 @@ impl LabelRows {
         }
     }
 
-    /// The row of an operator and a pattern, if it is remembered.
+    /// The row of an operator and a pattern, if it is cached.
     fn get(&self, op: MatchOp, pattern: &str) -> Option<&Row>
         ensures { (u : Listing) (label : ℕ) → HasRows u label self.now → IfSome result (λ row. row.now ≡ passing_row u label op pattern.now) }
     {
@@ -79,7 +79,7 @@ impl LabelRows {
         }
     }
 
-    /// Remembers the row of an operator and a pattern. Those of `=` and `!=`, which take no pattern, aren't remembered.
+    /// Caches the row of an operator and a pattern. Those of `=` and `!=`, which take no pattern, aren't cached.
     fn add(&mut self, alloc: Global, op: MatchOp, pattern: &str, row: Row) -> Result<(), Memory>
         ensures { (u : Listing) (label : ℕ) → HasRows u label self.old → row ≡ passing_row u label op pattern.now → HasRows u label self.new }
     {
@@ -93,29 +93,29 @@ impl LabelRows {
 
 /// The rows of the patterns of each label, from the first label on; behind the last of them no label has any.
 #[derive(Drop)]
-pub struct Remembered {
+pub struct PatternCache {
     labels: Vec<LabelRows>,
 }
 
-impl Remembered {
+impl PatternCache {
     /// Nothing.
-    pub fn new(alloc: Global) -> Remembered
-        ensures { (u : Listing) → AreRemembered u result }
+    pub fn new(alloc: Global) -> PatternCache
+        ensures { (u : Listing) → IsPatternCache u result }
     {
-        Remembered {
+        PatternCache {
             labels: Vec::new(alloc),
         }
     }
 
-    /// The row of a label, an operator and a pattern, if it is remembered.
+    /// The row of a label, an operator and a pattern, if it is cached.
     pub fn get(&self, label: usize, op: MatchOp, pattern: &str) -> Option<&Row>
-        ensures { (u : Listing) → AreRemembered u self.now → IfSome result (λ row. row.now ≡ passing_row u label op pattern.now) }
+        ensures { (u : Listing) → IsPatternCache u self.now → IfSome result (λ row. row.now ≡ passing_row u label op pattern.now) }
     {
         let rows = self.labels.get(label)?;
         rows.get(op, pattern)
     }
 
-    /// Remembers the row of a label, an operator and a pattern.
+    /// Caches the row of a label, an operator and a pattern.
     pub fn add(
         &mut self,
         alloc: Global,
@@ -125,7 +125,7 @@ impl Remembered {
         row: Row,
     ) -> Result<(), Memory>
         requires { label < 2 ^ 32 }
-        ensures { (u : Listing) → AreRemembered u self.old → row ≡ passing_row u label op pattern.now → AreRemembered u self.new }
+        ensures { (u : Listing) → IsPatternCache u self.old → row ≡ passing_row u label op pattern.now → IsPatternCache u self.new }
     {
         self.make_room(alloc, label)?;
         let rows = &mut self.labels[label];
@@ -136,7 +136,7 @@ impl Remembered {
     fn make_room(&mut self, alloc: Global, label: usize) -> Result<(), Memory>
         requires { label < 2 ^ 32 }
         ensures room { OnOk result (label < length self.new.labels.items) }
-        ensures rows { (u : Listing) → AreRemembered u self.old → AreRemembered u self.new }
+        ensures rows { (u : Listing) → IsPatternCache u self.old → IsPatternCache u self.new }
     {
         while self.labels.len() <= label {
             self.labels.push(LabelRows::new(alloc))?;

@@ -1,7 +1,7 @@
 use Rattle.std.proofs.Common.{◌∙◌, ap}
 use Rattle.lf_ast.specs.declared.expr.MatchOp.TheVariants.{Matches, NotMatches}
-use Rattle.lf_classes.specs.views.Remembered.{passing_row}
-use Rattle.lf_classes.proofs.remembered.LabelRows.add.Goals as goal
+use Rattle.lf_classes.specs.views.PatternCache.{passing_row}
+use Rattle.lf_classes.proofs.pattern_cache.LabelRows.add.Goals as goal
 
 pub returns-in-Matches : goal.returns-in-Matches
 returns-in-Matches c u label are is = record {
