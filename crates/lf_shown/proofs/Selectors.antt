@@ -1,6 +1,6 @@
 -- What is built for a selector that says its name.
 use Rattle.std.proofs.Common.{◌≡◌, ◌≢◌, ◌<◌, ◌⊎◌, inl, inr, ℕ, Bool, true, false, not, ◌&&◌, ◌||◌, cond, eqb, List, [], ◌∷◌, length, Option, Some, None, refl, sym, ◌∙◌, ap, subst, arith, option_map}
-use Rattle.std.proofs.lemmas.Bool.{eqb-true}
+use Rattle.std.proofs.lemmas.Bool.{eq-eqb, eqb-true}
 use Rattle.std.proofs.lemmas.Bool.Decides.{nat_tests}
 use Rattle.std.specs.Prelude.{nat_lt, unwrap_or}
 use Rattle.std.specs.List.{AllByRecursion, Contains}
@@ -25,7 +25,7 @@ use Rattle.lf_semantics.specs.Texts.{value_of}
 use Rattle.lf_semantics.proofs.LeqLaws.{bottom_dead}
 use Rattle.lf_semantics.proofs.Numbered.{metric_label}
 use Rattle.lf_semantics.proofs.PatternTexts.{passes_is}
-use Rattle.lf_semantics.proofs.Places.{eqb-other, eqb-same, metric_listed, place_le, same_text, text_at_class}
+use Rattle.lf_semantics.proofs.Places.{eqb-other, metric_listed, place_le, same_text, text_at_class}
 use Rattle.lf_semantics.proofs.SelectorsRepresent.{plain_not_other}
 use Rattle.lf_semantics.proofs.RowLaws.{represents_narrowed}
 use Rattle.lf_witness.specs.Strict.{AreSelected, IsSet, Outcomes}
@@ -119,7 +119,7 @@ module _ (u : Listing) where
   classes_pass (m ∷ matchers) s known plain h = (
     (passes_is m.op m.value (value_of s m.label)).0
         (class_means m.op (label_of u m.label) m.value (value_of s m.label) known.0.1 plain.0
-        (sym (ap (λ b. not b || passes_class u m.op m.value (label_of u m.label) (class_of u (label_of u m.label) (value_of s m.label))) (eqb-same (label_of u m.label)))
+        (sym (ap (λ b. not b || passes_class u m.op m.value (label_of u m.label) (class_of u (label_of u m.label) (value_of s m.label))) (eq-eqb (label_of u m.label) (label_of u m.label) refl))
         ∙ and_left (not (is_label u m.label (label_of u m.label)) || passes_class u m.op m.value (label_of u m.label) (class_of u (label_of u m.label) (value_of s m.label))) (passes_matchers u matchers (label_of u m.label) (class_of u (label_of u m.label) (value_of s m.label))) (h m.label))),
     classes_pass matchers s known.1 plain.1 (λ name. and_right (not (is_label u m.label (label_of u name)) || passes_class u m.op m.value (label_of u name) (class_of u (label_of u name) (value_of s name))) _ (h name)),
   )
