@@ -1,7 +1,7 @@
 use Rattle.std.proofs.Common.{Some, ap, sym, ◌∙◌}
 use Rattle.std.proofs.lemmas.Option.{slice_get-get_or}
-use Rattle.lf_report.proofs.Marked.{lt_from}
-use Rattle.lf_report.proofs.spot.mark_before.Goals as goal
+use Rattle.lf_report.proofs.LineIndexes.{lt_from}
+use Rattle.lf_report.proofs.line_index.position_before.Goals as goal
 
 pub returns-in-Some : goal.returns-in-Some
 returns-in-Some c =

@@ -1,6 +1,6 @@
 use Rattle.std.proofs.Common.{◌≡◌}
 use Rattle.lf_base.specs.Places.{line_at, column_at}
-use Rattle.lf_report.proofs.spot.moved.Given as goal
+use Rattle.lf_report.proofs.line_index.moved.Given as goal
 
 abbrev pub invariant-loop-k : goal.invariant-loop-k
 invariant-loop-k l = record {
