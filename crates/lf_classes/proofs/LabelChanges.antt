@@ -1,11 +1,11 @@
 -- What a change of one label's classes makes of a row.
 use Rattle.std.proofs.Common.{◌≡◌, ◌≢◌, ℕ, suc, ◌+◌, ◌-◌, ◌<◌, ◌≤◌, Bool, true, false, not, ◌&&◌, ◌||◌, cond, eqb, List, [], ◌∷◌, length, get_or, map, take, inl, inr, refl, sym, ◌∙◌, ap, subst, arith}
 use Rattle.std.specs.List.{sum}
-use Rattle.std.proofs.lemmas.Bool.{cases_eq, cases_lt}
+use Rattle.std.proofs.lemmas.Bool.{cases_eq, cases_lt, eq-eqb}
 use Rattle.std.proofs.lemmas.List.Sums.{sum_by-cons}
 use Rattle.lf_semantics.specs.ClassRows.{Sets, emptied, holds, is_live, narrowed, remade, replaced, set_to, normalized}
 use Rattle.lf_semantics.specs.Environments.{Leq}
-use Rattle.lf_semantics.proofs.Places.{eqb-other, eqb-same}
+use Rattle.lf_semantics.proofs.Places.{eqb-other}
 use Rattle.lf_semantics.proofs.RowLaws.{holds-remade, holds_within, shape_emptied, shape_remade}
 use Rattle.lf_classes.specs.views.Cut.{cut, shown, start}
 use Rattle.lf_semantics.proofs.RowSets.{count_at, dead_when, emptied_dead, emptied_holds, emptied_remade, emptied_twice, label_in, live_at, remade_same}
@@ -77,13 +77,13 @@ abbrev pub replacing : (ℕ → ℕ → Bool) → ℕ → ℕ → ℕ → Bool �
 replacing test label l c on = cond (eqb label l) (test l c) on
 
 pub narrowing_here : (test : ℕ → ℕ → Bool) (label c : ℕ) (on : Bool) → narrowing test label label c on ≡ (on && test label c)
-narrowing_here test label c on = ap (λ b. on && (not b || test label c)) (eqb-same label)
+narrowing_here test label c on = ap (λ b. on && (not b || test label c)) (eq-eqb label label refl)
 
 pub narrowing_there : (test : ℕ → ℕ → Bool) (label l c : ℕ) (on : Bool) → l ≢ label → narrowing test label l c on ≡ on
 narrowing_there test label l c on n = ap (λ b. on && (not b || test l c)) (eqb-other label l (λ q. n (sym q))) ∙ and_true on
 
 pub replacing_here : (test : ℕ → ℕ → Bool) (label c : ℕ) (on : Bool) → replacing test label label c on ≡ test label c
-replacing_here test label c on = ap (λ b. cond b (test label c) on) (eqb-same label)
+replacing_here test label c on = ap (λ b. cond b (test label c) on) (eq-eqb label label refl)
 
 pub replacing_there : (test : ℕ → ℕ → Bool) (label l c : ℕ) (on : Bool) → l ≢ label → replacing test label l c on ≡ on
 replacing_there test label l c on n = ap (λ b. cond b (test l c) on) (eqb-other label l (λ q. n (sym q)))

@@ -3,6 +3,6 @@ pub mod Bits
 pub mod Cut
 pub mod Mentioned
 pub mod MentionedAlong
-pub mod Remembered
+pub mod PatternCache
 pub mod TextSets
 pub mod UniverseParts

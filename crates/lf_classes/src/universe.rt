@@ -4,13 +4,13 @@ ghost use Rattle.lf_ast.specs.Rules.{rule_trees};
 ghost use Rattle.lf_semantics.specs.Listing.{IsCandidate, class_count, class_counts, class_of, class_texts, label_count, label_of, named_at, other_class, universe_of};
 ghost use Rattle.lf_classes.specs.Limits.{Exceeds, IsWithin, Passes, most_classes, most_labels};
 ghost use Rattle.lf_classes.specs.views.Mentioned.{with_star};
-ghost use Rattle.lf_classes.specs.views.Remembered.{passing_row};
+ghost use Rattle.lf_classes.specs.views.PatternCache.{passing_row};
 ghost use Rattle.lf_classes.specs.declared.class_error.ClassError.TheVariants as ClassError;
 
 use crate::class_error::ClassError;
 use crate::classes::Classes;
 use crate::mentions::Mentions;
-use crate::remembered::Remembered;
+use crate::pattern_cache::PatternCache;
 use crate::row::Row;
 use crate::shape::Shape;
 use crate::text_set::TextSet;
@@ -30,7 +30,7 @@ const MOST_CLASSES: u64 = 65536;
 /// Labels are numbered from 0 in the order in which they come first: `__name__`, those that the rules mention, and `*` for every other name. The classes of a label are
 /// numbered too: the empty text, the texts that are mentioned with the label, in the order in which they come first, and 'any other text'.
 ///
-/// It may remember which classes of a label pass a pattern, which changes nothing of what it is.
+/// It may cache which classes of a label pass a pattern, which changes nothing of what it is.
 #[derive(Drop)]
 pub struct Universe {
     names: TextSet,
@@ -38,7 +38,7 @@ pub struct Universe {
     star: Text,
     empty: Text,
     shape: Shape,
-    remembered: Remembered,
+    patterns: PatternCache,
 }
 
 impl Model for Universe {
@@ -49,7 +49,7 @@ impl Model for Universe {
 
     ghost view = { λ u. record { names = u.names; named = u.named } };
 
-    ghost invariant = { λ u. HasParts (record { names = u.names; named = u.named }) u.star u.empty u.shape u.remembered };
+    ghost invariant = { λ u. HasParts (record { names = u.names; named = u.named }) u.star u.empty u.shape u.patterns };
 }
 
 impl Universe {
@@ -165,8 +165,8 @@ impl Universe {
         self.shape.total() as u32
     }
 
-    /// Remembers the row of the classes of a label that pass a `=~` or `!~`, for `remembered`. For the other operators nothing is remembered.
-    pub fn remember(
+    /// Caches the row of the classes of a label that pass a `=~` or `!~`, for `cached_row`. For the other operators nothing is cached.
+    pub fn cache_row(
         &mut self,
         alloc: Global,
         label: u32,
@@ -177,14 +177,14 @@ impl Universe {
         requires { row ≡ passing_row self.old label op pattern.now }
         ensures { self.new ≡ self.old }
     {
-        self.remembered.add(alloc, label as usize, op, pattern, row)
+        self.patterns.add(alloc, label as usize, op, pattern, row)
     }
 
-    /// The row of the classes of a label that pass a `=~` or `!~`, beside every class of each other label, if it is remembered.
-    pub fn remembered(&self, label: u32, op: MatchOp, pattern: &str) -> Option<&Row>
+    /// The row of the classes of a label that pass a `=~` or `!~`, beside every class of each other label, if it is cached.
+    pub fn cached_row(&self, label: u32, op: MatchOp, pattern: &str) -> Option<&Row>
         ensures { IfSome result (λ row. row.now ≡ passing_row self.now label op pattern.now) }
     {
-        self.remembered.get(label as usize, op, pattern)
+        self.patterns.get(label as usize, op, pattern)
     }
 
     /// The universe of what was mentioned.
@@ -204,7 +204,7 @@ impl Universe {
             star,
             empty,
             shape,
-            remembered: Remembered::new(alloc),
+            patterns: PatternCache::new(alloc),
         })
     }
 }

@@ -6,7 +6,7 @@ use Rattle.std.proofs.lemmas.Bool.{cases_eq, cases_lt, eq-eqb, eqb-true}
 use Rattle.std.proofs.lemmas.List.{drop_more, get_or-set_other, get_or-set_same, take-append-drop, take_more}
 use Rattle.std.proofs.lemmas.List.Elements.{Contains-append_cases, Contains-append_left, Contains-append_right}
 use Rattle.lf_laws.proofs.Members.{behind, first_or_behind, here, none_in}
-use Rattle.lf_semantics.proofs.Places.{eqb-other, eqb-same}
+use Rattle.lf_semantics.proofs.Places.{eqb-other}
 use Rattle.lf_deps.specs.views.Queue.{CountsDown, IsLeft, count_left, occurs, occurs_in}
 
 pub occurs-append : (s : ℕ) (xs ys : List ℕ) → occurs s (xs ++ ys) ≡ occurs s xs + occurs s ys
@@ -28,7 +28,7 @@ occurs_in_more s xs i h =
 
 -- a number is in a list of it alone once, and no other is
 pub once : (s : ℕ) → occurs s (s ∷ []) ≡ 1
-once s = ap (λ (b : Bool). cond b 1 0 + 0) (eqb-same s)
+once s = ap (λ (b : Bool). cond b 1 0 + 0) (eq-eqb s s refl)
 
 pub never : (s x : ℕ) → s ≢ x → occurs s (x ∷ []) ≡ 0
 never s x h = ap (λ (b : Bool). cond b 1 0 + 0) (eqb-other x s (λ e. h (sym e)))
@@ -39,7 +39,7 @@ occurs_front xs i h =
     let x : ℕ = get_or xs i 0 in
     let whole = ap (occurs x) (sym (take-append-drop i xs)) ∙ occurs-append x (take i xs) (drop i xs) in
     let rest : occurs x (drop i xs) ≡ cond (eqb x x) 1 0 + occurs x (drop (i + 1) xs) = ap (occurs x) (drop_more xs i 0 h) in
-    let one : ◌≡◌ {A = ℕ} (cond (eqb x x) 1 0) 1 = ap (λ (b : Bool). cond b 1 0) (eqb-same x) in
+    let one : ◌≡◌ {A = ℕ} (cond (eqb x x) 1 0) 1 = ap (λ (b : Bool). cond b 1 0) (eq-eqb x x refl) in
     omega (arith, whole, rest, one)
 
 pub occurs_there : (s : ℕ) (xs : List ℕ) → Contains xs s → 0 < occurs s xs

@@ -1,4 +1,4 @@
--- Rows of the classes that pass patterns, as they are remembered.
+-- Rows of the classes that pass patterns, as they are cached.
 use Rattle.std.proofs.Common.{◌≡◌, ℕ, ◌+◌, ◌<◌, Bool, true, false, not, ◌&&◌, ◌||◌, cond, eqb, [], map, length, get_or, refl, sym, ◌∙◌, ap, subst, arith}
 use Rattle.std.specs.Prelude.{replicate}
 use Rattle.std.proofs.lemmas.Bool.Decides.{Decides-eqb}
@@ -10,7 +10,7 @@ use Rattle.lf_semantics.specs.ClassRows.{HasShape, Sets, emptied, top, holds, is
 use Rattle.lf_semantics.specs.Listing.{Listing, class_counts, named_at}
 use Rattle.lf_semantics.specs.RowTable.{passes_class}
 use Rattle.lf_semantics.proofs.RowLaws.{holds-remade, live_when, shape_top, shape_narrowed, shape_remade}
-use Rattle.lf_classes.specs.views.Remembered.{passing_row}
+use Rattle.lf_classes.specs.views.PatternCache.{passing_row}
 use Rattle.lf_semantics.proofs.RowSets.{emptied_holds, remade_same}
 use Rattle.lf_flow.proofs.ClassSets.{row_length, set_length}
 

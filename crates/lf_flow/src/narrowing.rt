@@ -12,7 +12,7 @@ use lf_base::{Memory, Text};
 use lf_classes::{Row, Universe};
 use std::alloc::Global;
 
-/// Leaves the label of a matcher the classes that pass it. Those that pass a pattern are looked for only where the universe doesn't remember them.
+/// Leaves the label of a matcher the classes that pass it. Those that pass a pattern are looked for only where the universe hasn't cached them.
 pub fn narrow(
     alloc: Global,
     universe: &Universe,
@@ -24,7 +24,7 @@ pub fn narrow(
     ensures { OnOk result (row.new ≡ narrowed (λ label class. not (is_label universe.now matcher.now.label label) || passes_class universe.now matcher.now.op matcher.now.value label class) row.old) }
 {
     let label = universe.label_of(matcher.label.as_str());
-    match universe.remembered(label, matcher.op, matcher.value.as_str()) {
+    match universe.cached_row(label, matcher.op, matcher.value.as_str()) {
         Some(passing) => {
             row.meet_label(label, passing);
             Ok(())

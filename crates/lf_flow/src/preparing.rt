@@ -2,7 +2,7 @@
 ghost use Rattle.std.specs.Prelude.{◌≡◌, IfOk};
 ghost use Rattle.lf_semantics.specs.Listing.{label_of};
 ghost use Rattle.lf_semantics.specs.PatternBreaches.{takes_pattern};
-ghost use Rattle.lf_classes.specs.views.Remembered.{passing_row};
+ghost use Rattle.lf_classes.specs.views.PatternCache.{passing_row};
 
 use crate::narrowing::narrow;
 use lf_ast::walk::nodes_of;
@@ -11,17 +11,17 @@ use lf_base::{Memory, Seq};
 use lf_classes::{Row, Universe};
 use std::alloc::Global;
 
-/// The most words that all remembered rows may have together: 32 MiB.
-const MOST_REMEMBERED_WORDS: u32 = 4_194_304;
+/// The most words that all cached rows may have together: 32 MiB.
+const MOST_CACHED_WORDS: u32 = 4_194_304;
 
-/// Finds which classes pass each `=~` and `!~` of rules, and has the universe remember them, so that `flow` needs no pattern again. It changes nothing of what the
+/// Finds which classes pass each `=~` and `!~` of rules, and has the universe cache them, so that `flow` needs no pattern again. It changes nothing of what the
 /// universe is.
 ///
-/// The rows that are remembered have 32 MiB together at most. A pattern beyond them is matched anew wherever it stands.
+/// The rows that are cached have 32 MiB together at most. A pattern beyond them is matched anew wherever it stands.
 pub fn prepare(alloc: Global, universe: &mut Universe, rules: &Seq<Rule>) -> Result<(), Memory>
     ensures { universe.new ≡ universe.old }
 {
-    let mut room = MOST_REMEMBERED_WORDS;
+    let mut room = MOST_CACHED_WORDS;
     for rule in rules.as_slice() {
         prepare_expr(alloc, universe, &mut room, &rule.expr)?;
     }
@@ -61,7 +61,7 @@ fn prepare_matchers(
     Ok(())
 }
 
-/// Has the universe remember which classes pass a matcher with a pattern, unless it does, or a row has more words than there is room for. `room` is how many words the
+/// Has the universe cache which classes pass a matcher with a pattern, unless it has, or a row has more words than there is room for. `room` is how many words the
 /// rows may still have.
 fn prepare_matcher(
     alloc: Global,
@@ -72,12 +72,12 @@ fn prepare_matcher(
     ensures { universe.new ≡ universe.old }
 {
     let words = universe.class_count().div_ceil(64);
-    if words > *room || !takes_pattern(matcher.op) || is_remembered(universe, matcher) {
+    if words > *room || !takes_pattern(matcher.op) || is_cached(universe, matcher) {
         return Ok(());
     }
     let row = passing(alloc, universe, matcher)?;
     let label = universe.label_of(matcher.label.as_str());
-    universe.remember(alloc, label, matcher.op, matcher.value.as_str(), row)?;
+    universe.cache_row(alloc, label, matcher.op, matcher.value.as_str(), row)?;
     *room -= words;
     Ok(())
 }
@@ -92,11 +92,11 @@ fn takes_pattern(op: MatchOp) -> bool
     }
 }
 
-/// Whether the classes that pass a matcher are remembered.
-fn is_remembered(universe: &Universe, matcher: &Matcher) -> bool {
+/// Whether the classes that pass a matcher are cached.
+fn is_cached(universe: &Universe, matcher: &Matcher) -> bool {
     let label = universe.label_of(matcher.label.as_str());
     universe
-        .remembered(label, matcher.op, matcher.value.as_str())
+        .cached_row(label, matcher.op, matcher.value.as_str())
         .is_some()
 }
 

@@ -1,5 +1,5 @@
 mod Closing
-mod Held
+pub mod Held
 pub mod Inserting
 mod Joining
 mod Leading

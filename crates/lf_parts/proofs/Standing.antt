@@ -1,5 +1,6 @@
 -- What stands of an expression behind some of its parts, which were gone by from the first on.
-use Rattle.std.proofs.Common.{◌≡◌, ◌≤◌, ℕ, zero, suc, List, [], ◌∷◌, ◌++◌, length, map, reverse, take, drop, refl, ap, sym, ◌∙◌, append-nil, arith}
+use Rattle.std.proofs.Common.{◌≡◌, ◌≤◌, ℕ, zero, suc, List, [], ◌∷◌, ◌++◌, length, map, Option, Some, None, IfNone, rules, reverse, take, drop, refl, ap, sym, ◌∙◌, append-nil, arith}
+use Rattle.std.specs.Option.{IsSome}
 use Rattle.std.proofs.lemmas.List.{append_assoc, drop_at, length-append, length-map, length-reverse, map-append, reverse-append, reverse-reverse, take_at}
 use Rattle.lf_ast.specs.Tree.{Tree, parts_of, nodes}
 use Rattle.lf_ast.proofs.Listing.{nodes_all, nodes_parts}
@@ -47,18 +48,22 @@ none_standing : (xs : List Tree) → nodes_all xs ≡ [] → xs ≡ []
 none_standing [] e = refl
 none_standing (x ∷ xs) e = absurd (not_none x (nodes_all (parts_of x ++ xs)) (sym (nodes_first x xs) ∙ e))
 
--- the parts up to a place are to be gone by, from the last on, and those behind it have their values; on a stack, whose top is its last, are the values of what stands
-pub record IsFolded {V : Type 0} (value : Tree → V) (e : Tree) (left : List Tree) (stack values : List V) : Type 0 where
+-- the parts up to a place are to be gone by, from the last on, and something is made of those behind it; on a stack, whose top is its last, are the values of what stands
+pub record IsFolded {V W : Type 0} (value : Tree → V) (made_of : Tree → W) (e : Tree) (left : List Tree) (stack : List V) (values : List W) : Type 0 where
   pub behind : List Tree
   pub all : left ++ behind ≡ nodes e
   pub stacked : reverse stack ≡ map value (standing (length left) (e ∷ []))
-  pub made : reverse values ≡ map value behind
+  pub made : reverse values ≡ map made_of behind
 
-module _ {V : Type 0} (value : Tree → V) (e : Tree) where
+module _ {V W : Type 0} (value : Tree → V) (made_of : Tree → W) (e : Tree) where
+  -- where none is to be gone by, something is made of all
+  pub all_made : (stack : List V) (values : List W) (left : List Tree) → IsFolded value made_of e left stack values → left ≡ [] → reverse values ≡ map made_of (nodes e)
+  all_made stack values left f none = f.made ∙ ap (map made_of) (ap (λ l. l ++ f.behind) (sym none) ∙ f.all)
+
   whole : nodes_all (e ∷ []) ≡ nodes e
   whole = append-nil (nodes e)
 
-  pub begun : (left : List Tree) (stack values : List V) → left ≡ nodes e → stack ≡ [] → values ≡ [] → IsFolded value e left stack values
+  pub begun : (left : List Tree) (stack : List V) (values : List W) → left ≡ nodes e → stack ≡ [] → values ≡ [] → IsFolded value made_of e left stack values
   begun left stack values is none empty = record {
     behind = [];
     all = append-nil left ∙ is;
@@ -67,7 +72,7 @@ module _ {V : Type 0} (value : Tree → V) (e : Tree) where
   }
 
   -- one more
-  module _ (old front : List Tree) (x : Tree) (stack values : List V) (taken : old ≡ front ++ x ∷ []) (f : IsFolded value e old stack values) where
+  module _ (old front : List Tree) (x : Tree) (stack : List V) (values : List W) (taken : old ≡ front ++ x ∷ []) (f : IsFolded value made_of e old stack values) where
     all_now : front ++ x ∷ f.behind ≡ nodes e
     all_now = sym (append_assoc front (x ∷ []) f.behind) ∙ ap (λ l. l ++ f.behind) (sym taken) ∙ f.all
 
@@ -104,10 +109,39 @@ module _ {V : Type 0} (value : Tree → V) (e : Tree) where
       below_is : reverse below ≡ map value others
       below_is = sym (drop_at parts (reverse below) (length parts) refl) ∙ ap (drop (length parts)) both ∙ drop_at (map value (parts_of x)) (map value others) (length parts) same
 
-      pub goes_on : (v w : V) (stack_after values_after : List V) → v ≡ value x → w ≡ v → values_after ≡ values ++ w ∷ [] → stack_after ≡ below ++ v ∷ [] → IsFolded value e front stack_after values_after
-      goes_on v w stack_after values_after is copy more again = record {
+      pub goes_on : (v : V) (w : W) (stack_after : List V) (values_after : List W) → v ≡ value x → w ≡ made_of x → values_after ≡ values ++ w ∷ [] → stack_after ≡ below ++ v ∷ []
+          → IsFolded value made_of e front stack_after values_after
+      goes_on v w stack_after values_after is is_made more again = record {
         behind = x ∷ f.behind;
         all = all_now;
         stacked = ap reverse again ∙ reverse-append below (v ∷ []) ∙ ap (λ l. v ∷ l) below_is ∙ ap (λ z. z ∷ map value others) is ∙ ap (map value) (sym stands);
-        made = ap reverse more ∙ reverse-append values (w ∷ []) ∙ ap (λ l. w ∷ l) f.made ∙ ap (λ z. z ∷ map value f.behind) (copy ∙ is);
+        made = ap reverse more ∙ reverse-append values (w ∷ []) ∙ ap (λ l. w ∷ l) f.made ∙ ap (λ z. z ∷ map made_of f.behind) is_made;
       }
+
+-- the parts up to a place are to be gone by, and their values are left; those behind it have the values of their own parts
+pub record IsGrouped {V : Type 0} (value : Tree → V) (e : Tree) (left : List Tree) (stack values : List V) (groups : List (List V)) : Type 0 where
+  pub folded : IsFolded value (λ x. map value (parts_of x)) e left stack groups
+  pub unmoved : values ≡ map value left
+
+module _ {V : Type 0} (value : Tree → V) (front : List Tree) (x : Tree) (old : List Tree) (taken : old ≡ front ++ x ∷ []) (values : List V) (unmoved : values ≡ map value old) where
+  -- there is a value where there is a part
+  pub some_left : values ≡ [] → ⊥
+  some_left none =
+      let a = length-append front (x ∷ []) in
+      let b : length values ≡ length old = ap length unmoved ∙ length-map old value in
+      let c : length old ≡ length (front ++ x ∷ []) = ap length taken in
+      let d : length values ≡ 0 = ap length none in
+      omega (arith, a, b, c, d)
+
+  pub value_there : (o : Option V) (rest : List V) → IfNone o ((values ≡ []) × (rest ≡ [])) → IsSome o
+  value_there None rest none = absurd (some_left none.0)
+  value_there (Some v) rest none = search rules
+
+  -- and the last is that of the last
+  pub last_value : (rest : List V) (v : V) → values ≡ rest ++ v ∷ [] → (rest ≡ map value front) × (v ≡ value x)
+  last_value rest v split =
+      let both : map value front ++ value x ∷ [] ≡ rest ++ v ∷ [] = sym (map-append value front (x ∷ [])) ∙ sym (ap (map value) taken) ∙ sym unmoved ∙ split in
+      let turned : value x ∷ reverse (map value front) ≡ v ∷ reverse rest = sym (reverse-append (map value front) (value x ∷ [])) ∙ ap reverse both ∙ reverse-append rest (v ∷ []) in
+      let heads : value x ≡ v = cc in
+      let tails : reverse (map value front) ≡ reverse rest = cc in
+      (sym (reverse-reverse rest) ∙ ap reverse (sym tails) ∙ reverse-reverse (map value front), sym heads)

@@ -4,5 +4,7 @@
 mod choosing;
 mod counting;
 mod folding;
+mod grouping;
 
 pub use folding::{Copied, fold_parts};
+pub use grouping::by_parts;

@@ -12,11 +12,6 @@ appended_two start one two e f = f ∙ ap (λ l. l ++ two) e ∙ append_assoc st
 pub appended_pair : (start one two three : List ℕ) {first second : List ℕ} → first ≡ start ++ (one ++ two) → second ≡ first ++ three → second ≡ start ++ (one ++ (two ++ three))
 appended_pair start one two three e f = appended_two start (one ++ two) three e f ∙ ap (λ l. start ++ l) (append_assoc one two three)
 
--- three pieces
-pub appended_three : (start one two three : List ℕ) {first second third : List ℕ} → first ≡ start ++ one → second ≡ first ++ two → third ≡ second ++ three
-    → third ≡ start ++ (one ++ two ++ three)
-appended_three start one two three e f g = appended_two start (one ++ two) three (appended_two start one two e f) g
-
 -- two groups of lines
 pub appended_lines : (start : Bytes) (one two : List Bytes) {first second : Bytes} → first ≡ start ++ lines_text one → second ≡ first ++ lines_text two → second ≡ start ++ lines_text (one ++ two)
 appended_lines start one two e f =
@@ -29,12 +24,6 @@ built_two one two n e f = f ∙ ap (λ l. l ++ lines_text two) (e ∙ ap (λ l. 
 -- one more group of lines
 pub built_more : (some more : List Bytes) {before now : Bytes} → before ≡ lines_text some → now ≡ before ++ lines_text more → now ≡ lines_text (some ++ more)
 built_more some more e f = f ∙ ap (λ l. l ++ lines_text more) e ∙ sym (flat_map-append (λ line. line ++ 10 ∷ []) some more)
-
--- a report of lines and two totals
-pub built_report : (total verdicts : Bytes) (lines : List Bytes) {start first second third : Bytes} → start ≡ [] → first ≡ start ++ lines_text lines
-    → second ≡ first ++ lines_text (total ∷ []) → third ≡ second ++ lines_text (verdicts ∷ []) → third ≡ lines_text (lines ++ total ∷ verdicts ∷ [])
-built_report total verdicts lines n e f g =
-    built_more (lines ++ total ∷ []) (verdicts ∷ []) (built_two lines (total ∷ []) n e f) g ∙ ap lines_text (append_assoc lines (total ∷ []) (verdicts ∷ []))
 
 -- the line of a finding, whose parts were joined from the right
 pub finding_joined : (place severity check said : Bytes) → place ++ (codes ": " ++ (severity ++ (codes " [" ++ (check ++ (codes "] " ++ (said ++ 10 ∷ []))))))

@@ -1,9 +1,9 @@
 -- Counts over lists of lists, list by list.
-use Rattle.std.proofs.Common.{◌≡◌, ℕ, ◌+◌, ◌<◌, Bool, cond, List, [], ◌∷◌, ◌++◌, take, length, get_or, refl, ap, sym, ◌∙◌, arith, append-nil, min}
+use Rattle.std.proofs.Common.{◌≡◌, ℕ, ◌+◌, ◌<◌, Bool, cond, List, [], ◌∷◌, ◌++◌, take, length, get_or, refl, ap, sym, ◌∙◌, arith, append-nil}
 use Rattle.std.specs.List.{count_by, flat_map, fold}
 use Rattle.std.proofs.lemmas.List.{take_more}
 use Rattle.std.proofs.lemmas.List.Concat.{flat_map-append}
-use Rattle.lf_report.specs.Counts.{empty_count, findings_of, is_empty, is_guaranteed, is_impossible, is_note, is_possible, is_problem, is_unresolved}
+use Rattle.lf_report.specs.Counts.{empty_count, is_empty, is_guaranteed, is_impossible, is_note, is_possible, is_problem, is_unresolved}
 use Rattle.lf_report.specs.Numbers.{labels_of}
 use Rattle.lf_report.specs.declared.counting.Totals.{Totals}
 use Rattle.lf_report.specs.declared.report.RuleReport.{RuleReport}
@@ -63,9 +63,3 @@ totals_more rules k rule before after h is are with = record {
   unresolved_are = omega (arith, with.unresolved_are, are.unresolved_are, count_flat_more (λ (r : RuleReport). labels_of r.verdicts) is_unresolved rules k rule h is);
   empty_are = omega (arith, with.empty_are, are.empty_are, empty_more rules k rule h is);
 }
-
--- a sum that stays at the greatest number
-pub problems_more : (rules : List RuleReport) (k : ℕ) (rule : RuleReport) (top before one after : ℕ) → k < length rules → rule ≡ get_or rules k rule
-    → before ≡ min (count_by is_problem (findings_of (take k rules))) top → one ≡ count_by is_problem rule.findings → after ≡ min (before + one) top
-    → after ≡ min (count_by is_problem (findings_of (take (k + 1) rules))) top
-problems_more rules k rule top before one after h is e f g = omega (arith, e, f, g, count_flat_more (λ (r : RuleReport). r.findings) is_problem rules k rule h is)

@@ -1,5 +1,5 @@
 -- A report's JSON has no float.
-use Rattle.std.proofs.Common.{◌≡◌, ℕ, Bool, true, false, List, [], ◌∷◌, map, Option, Some, None, refl, ap, ◌∙◌, ◌||◌, codes}
+use Rattle.std.proofs.Common.{◌≡◌, ℕ, Bool, true, false, List, [], ◌∷◌, map, Option, Some, None, refl, ap, ◌∙◌, ◌||◌}
 use Rattle.std.specs.FinMap as map_of
 use Rattle.std.specs.List.{fold}
 use Rattle.std.specs.Ordering.{match_ordering, nat_cmp}
@@ -10,7 +10,7 @@ use Rattle.serde_json.specs.Data.{Data, Members, member, no_members, put, string
 use Rattle.serde_json.specs.View.{items_of}
 use Rattle.serde_json.specs.Written.{has_float, items_have_float, members_have_float}
 use Rattle.lf_ast.specs.Labels.{Bytes, Labels as LabelMap}
-use Rattle.lf_report.specs.Json.{count_data, list_data, refusal_data, set_data, set_members, summary_data}
+use Rattle.lf_report.specs.Json.{count_data, list_data, refusal_data, set_data, summary_data}
 use Rattle.lf_report.specs.declared.report.FileReport.{FileReport}
 use Rattle.lf_report.specs.declared.report.Refused.{Refused}
 use Rattle.lf_report.specs.declared.report.Report.{Report}

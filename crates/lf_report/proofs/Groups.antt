@@ -1,9 +1,8 @@
 -- The numbers of the rules of each file, as a report's rules are gone through.
 use Rattle.std.proofs.Common.{◌≡◌, ◌⊎◌, inl, inr, ℕ, zero, suc, ◌+◌, ◌<◌, ◌≤◌, ◌==◌, true, false, cond, List, [], ◌∷◌, ◌++◌, length, map, take, get_or, set, Some, refl, ap, sym, subst, ◌∙◌, arith, append-nil, length-append}
 use Rattle.std.specs.Prelude.{slice_get, slice_index_or, slice_set}
-use Rattle.std.specs.List.{filter}
 use Rattle.std.proofs.lemmas.Bool.Decides.{nat_tests}
-use Rattle.std.proofs.lemmas.List.{length-map, map-append, length-set, take_more}
+use Rattle.std.proofs.lemmas.List.{length-map, map-append, length-set, take_all, take_more}
 use Rattle.std.proofs.lemmas.List.Elements.{filter_more}
 use Rattle.std.proofs.lemmas.Option.{get_or_from_slice_get, slice_get-get_or, slice_get_within}
 use Rattle.lf_report.specs.declared.report.FileReport.{FileReport}
@@ -60,9 +59,6 @@ groups_more files rules k rule old new inside is within before pushed =
           ];
     }
 
-pub groups_none : (rules : List RuleReport) → AreGroups [] rules [] []
-groups_none rules = record { each_file = refl; each_rule = λ file numbers e. cc }
-
 pub groups_push : (files : List FileReport) (file : FileReport) (rules : List RuleReport) (old new : List (List ℕ)) → AreGroups files rules [] old → new ≡ old ++ [] ∷ [] → AreGroups (files ++ file ∷ []) rules [] new
 groups_push files file rules old new before pushed = record {
   each_file = ap length pushed ∙ length-append old ([] ∷ []) ∙ ap (λ n. n + 1) before.each_file ∙ sym (length-append files (file ∷ []));
@@ -108,11 +104,5 @@ module _ (rules some : List RuleReport) (numbers : List ℕ) (e : map (slice_get
       let there : slice_get some k ≡ Some rule = found.2 ∙ sym found.1 ∙ at in
       (slice_get_within some k rule there, sym (get_or_from_slice_get some k rule rule there))
 
-pub take_whole : {A : Type 0} (xs : List A) (k : ℕ) → length xs ≤ k → take k xs ≡ xs
-take_whole [] zero h = refl
-take_whole [] (suc k) h = refl
-take_whole (x ∷ xs) zero h = absurd (omega arith)
-take_whole (x ∷ xs) (suc k) h = ap (λ l. x ∷ l) (take_whole xs k (omega arith))
-
 pub all_taken : (rules some : List RuleReport) (numbers : List ℕ) (k : ℕ) → map (slice_get rules) numbers ≡ map Some some → length numbers ≤ k → take k some ≡ some
-all_taken rules some numbers k e h = take_whole some k (omega (arith, h, numbers_length rules some numbers e))
+all_taken rules some numbers k e h = take_all k some (omega (arith, h, numbers_length rules some numbers e))

@@ -3,11 +3,11 @@ pub mod Counted
 pub mod Floats
 pub mod Groups
 pub mod Lines
-pub mod Marked
+pub mod LineIndexes
 pub mod Pieces
 pub mod Sets
 pub mod ShownNames
-pub mod Spotted
+pub mod Positions
 pub mod Worked
 pub mod WorkedLabels
 pub mod WorkedNames

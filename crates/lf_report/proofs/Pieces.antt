@@ -1,5 +1,5 @@
 -- The JSON of a report, of a file, of a rule, of a label and of a world, piece by piece.
-use Rattle.std.proofs.Common.{◌≡◌, ℕ, ◌+◌, ◌<◌, Bool, true, false, ◌||◌, nat_lt, List, [], ◌∷◌, ◌++◌, map, length, take, get_or, refl, ap, sym, ◌∙◌, arith, append-nil, append_assoc, Some, codes, ◌≤◌, zero, suc, length-take}
+use Rattle.std.proofs.Common.{◌≡◌, ℕ, ◌+◌, ◌<◌, Bool, true, false, ◌||◌, nat_lt, List, [], ◌∷◌, ◌++◌, map, length, take, get_or, refl, ap, sym, ◌∙◌, arith, append-nil, append_assoc, codes, ◌≤◌, zero, suc, length-take}
 use Rattle.serde_json.proofs.OnLiterals.{serde_json_on_literals}
 use Rattle.serde_json.specs.Data.{Data, boolean, string}
 use Rattle.serde_json.specs.View.{items_of}
@@ -181,6 +181,3 @@ labels_items_all report (l ∷ ls) [] (suc k) h i end = absurd (omega arith)
 labels_items_all report (l ∷ ls) (v ∷ vs) zero h i end = absurd (end (omega arith) (omega arith))
 labels_items_all report (l ∷ ls) (v ∷ vs) (suc k) h i end =
     ap (λ (r : List Data). label_data report l v ∷ r) (labels_items_all report ls vs k (omega arith) (omega arith) (λ a b. end (omega arith) (omega arith)))
-
-pub some_same : {A : Type 0} (x y : A) → Some x ≡ Some y → x ≡ y
-some_same x y e = cc

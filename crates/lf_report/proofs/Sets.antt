@@ -1,13 +1,12 @@
 -- The members of a label set's object, label by label.
-use Rattle.std.proofs.Common.{◌≡◌, ℕ, ◌+◌, ◌<◌, ◌≤◌, List, [], ◌∷◌, ◌++◌, length, take, get_or, Some, refl, ap, sym, ◌∙◌}
+use Rattle.std.proofs.Common.{◌≡◌, ℕ, ◌+◌, ◌<◌, ◌≤◌, List, [], ◌∷◌, ◌++◌, length, take, Some, refl, ap, sym, ◌∙◌}
 use Rattle.std.specs.Prelude.{slice_get}
 use Rattle.std.specs.List.{fold}
-use Rattle.std.proofs.lemmas.List.{take_more}
+use Rattle.std.proofs.lemmas.List.{take_all, take_more}
 use Rattle.std.proofs.lemmas.Option.{get_or_from_slice_get, slice_get_within}
 use Rattle.serde_json.specs.Data.{Members, no_members, put, string}
 use Rattle.lf_ast.specs.Labels.{Bytes}
 use Rattle.lf_report.specs.Json.{set_members}
-use Rattle.lf_report.proofs.Groups.{take_whole}
 
 abbrev one_more : Members → Bytes × Bytes → Members
 one_more ms entry = put entry.0 (string entry.1) ms
@@ -25,4 +24,4 @@ set_more entries k name text {old} at before pushed =
     ∙ sym (ap set_members (take_more entries k e inside ∙ ap (λ (x : Bytes × Bytes). take k entries ++ x ∷ []) (get_or_from_slice_get entries k e e at)) ∙ set_push no_members (take k entries) e)
 
 pub set_all : (entries : List (Bytes × Bytes)) (k : ℕ) → length entries ≤ k → set_members (take k entries) ≡ set_members entries
-set_all entries k h = ap set_members (take_whole entries k h)
+set_all entries k h = ap set_members (take_all k entries h)

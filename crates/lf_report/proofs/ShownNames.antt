@@ -1,8 +1,8 @@
 -- How the shown form of a name goes with its characters.
-use Rattle.std.proofs.Common.{◌≡◌, ℕ, ◌+◌, ◌/◌, ◌%◌, ◌<◌, ◌≤◌, Bool, true, false, cond, nat_lt, List, [], ◌∷◌, ◌++◌, map, refl, sym, ap, ◌∙◌, codes, arith, append-nil}
+use Rattle.std.proofs.Common.{◌≡◌, ℕ, ◌+◌, ◌/◌, ◌%◌, ◌≤◌, Bool, true, false, cond, nat_lt, List, [], ◌∷◌, ◌++◌, map, refl, sym, ap, ◌∙◌, codes, arith, append-nil}
 use Rattle.std.proofs.lemmas.Bool.Decides.{nat_tests}
 use Rattle.std.proofs.lemmas.List.Concat.{flat_map-append}
-use Rattle.std.proofs.lemmas.Str.{encode_ascii, encodes-append, encodes-chars}
+use Rattle.std.proofs.lemmas.Str.{encodes-append, encodes-chars}
 use Rattle.std.specs.Char.{IsAsciiControl, IsNotAsciiControl}
 use Rattle.std.specs.Fmt.{digit_glyph}
 use Rattle.std.specs.Str.{IsUtf8, chars}
@@ -21,12 +21,6 @@ shown_byte-other b h = grind (arith, nat_tests)
 -- a byte of a character that isn't ASCII
 pub shown_byte-high : (b : ℕ) → 128 ≤ b → shown_byte b ≡ b ∷ []
 shown_byte-high b h = grind (arith, nat_tests)
-
--- a control character
-pub shown-control : (c : ℕ) → IsAsciiControl c → shown (encode c) ≡ codes "\\x" ++ digit_glyph false (c / 16) ∷ digit_glyph false (c % 16) ∷ []
-shown-control c h =
-    let small : c < 128 = grind arith in
-    ap shown (encode_ascii c small) ∙ append-nil (shown_byte c) ∙ shown_byte-control c h
 
 -- one more byte that is shown as it is
 plain_more : (b : ℕ) (bs : Bytes) → shown_byte b ≡ b ∷ [] → shown bs ≡ bs → shown (b ∷ bs) ≡ b ∷ bs

@@ -1,5 +1,5 @@
 -- The definitions of the text and the JSON on worked reports whose labels are told, by computation: unresolved labels, an empty rule, files that are refused beside one that isn't.
-use Rattle.std.proofs.Common.{◌≡◌, ℕ, false, true, List, [], ◌∷◌, ◌++◌, Option, None, Some, codes, refl}
+use Rattle.std.proofs.Common.{◌≡◌, ℕ, false, true, List, [], ◌∷◌, ◌++◌, None, Some, codes, refl}
 use denote.Bor.{Bor}
 use Rattle.std.specs.Fmt.{digits}
 use Rattle.serde_json.proofs.OnLiterals.{serde_json_on_literals}

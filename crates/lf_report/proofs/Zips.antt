@@ -10,12 +10,6 @@ module _ {A B : Type 0} (R : A → B → Type 0) where
   zip_push (u ∷ xs) [] x y h k = absurd h
   zip_push (u ∷ xs) (v ∷ ys) x y h k = (h.0, zip_push xs ys x y h.1 k)
 
-  pub zip_length : (xs : List A) (ys : List B) → AllZip R xs ys → length xs ≡ length ys
-  zip_length [] [] h = refl
-  zip_length [] (v ∷ ys) h = absurd h
-  zip_length (u ∷ xs) [] h = absurd h
-  zip_length (u ∷ xs) (v ∷ ys) h = ap (λ n. suc n) (zip_length xs ys h.1)
-
   pub zip_at : (xs : List A) (ys : List B) (k : ℕ) (d : B) → AllZip R xs ys → k < length ys → (x : A) × (slice_get xs k ≡ Some x) × R x (get_or ys k d)
   zip_at [] [] k d h lt = absurd (omega arith)
   zip_at [] (v ∷ ys) k d h lt = absurd h
@@ -24,12 +18,6 @@ module _ {A B : Type 0} (R : A → B → Type 0) where
   zip_at (u ∷ xs) (v ∷ ys) (suc k) d h lt = zip_at xs ys k d h.1 (omega arith)
 
 module _ {A : Type 0} where
-  -- each place within a list has something
-  pub some_at : (xs : List A) (k : ℕ) → k < length xs → (x : A) × (slice_get xs k ≡ Some x)
-  some_at [] k h = absurd (omega arith)
-  some_at (x ∷ xs) zero h = (x, refl)
-  some_at (x ∷ xs) (suc k) h = some_at xs k (omega arith)
-
   -- what stands at a place of a list that grew by one stood there before, or is that one
   pub at_push : (xs : List A) (x : A) (k : ℕ) (y : A) → slice_get (xs ++ x ∷ []) k ≡ Some y → (slice_get xs k ≡ Some y) ⊎ ((k ≡ length xs) × (y ≡ x))
   at_push [] x zero y e = inr (refl, cc)

@@ -1,5 +1,5 @@
 -- How contracts see the code's own data: nobody has to believe it, and no definition uses it.
 pub mod Lookups
 pub mod Pieces
-pub mod Spots
+pub mod LineIndex
 pub mod Totals

@@ -128,7 +128,7 @@ fn push_file_head(
         "{\"name\":",
         report.files.get(file).name.as_str(),
     )?;
-    let refusal = refusal_value(alloc, report, lookup.marks.as_slice(), file)?;
+    let refusal = refusal_value(alloc, report, lookup.indexes.as_slice(), file)?;
     text.push(",\"refusal\":")?;
     push_value(alloc, text, &refusal)?;
     text.push(",\"rules\":[")
@@ -173,5 +173,5 @@ fn push_rule_at(
     ensures { (it : FileReport) (this : RuleReport) → slice_get report.now.files file ≡ Some it → slice_get report.now.rules rule ≡ Some this → OnOk result (text.new ≡ text.old ++ compact_text (rule_data report.now it this)) }
 {
     let rule = report.rules.get(rule);
-    push_rule(alloc, text, report, lookup.marks.as_slice(), file, rule)
+    push_rule(alloc, text, report, lookup.indexes.as_slice(), file, rule)
 }

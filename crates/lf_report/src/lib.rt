@@ -3,13 +3,13 @@
 
 mod counting;
 mod json;
+mod line_index;
 mod places;
 mod report;
 mod shown;
-mod spot;
 mod text;
 
 pub use json::json_of;
+pub use line_index::{Position, place_at, position_from};
 pub use report::{FileReport, Finding, Refused, Report, RuleReport, Severity};
-pub use spot::{Spot, place_at, spot_from};
 pub use text::text_of;

@@ -3,19 +3,19 @@ ghost use Rattle.std.specs.Prelude.{◌≡◌, ◌<◌, ◌++◌, ◌∷◌, [],
 ghost use Rattle.lf_report.specs.Numbers.{StandInFiles};
 ghost use Rattle.lf_report.specs.Places.{place_in, place_in_rule};
 ghost use Rattle.lf_report.specs.views.Lookups.{AreGroups, IsLookup, told_by};
-ghost use Rattle.lf_report.specs.views.Spots.{AreMarked};
+ghost use Rattle.lf_report.specs.views.LineIndex.{AreIndexed};
 
 use crate::Report;
+use crate::line_index::{LineIndex, line_indexes_of, place_at, position_in};
 use crate::shown::shown_name;
-use crate::spot::{Marks, marks_of_files, place_at, spot_in};
 use lf_base::{Memory, Seq, Text};
 use std::alloc::Global;
 
 /// By what the places and the rules of files are looked up.
 #[derive(Drop)]
 pub struct Lookup {
-    /// The marks of each file, at its number.
-    pub marks: Vec<Marks>,
+    /// The line index of each file, at its number.
+    pub indexes: Vec<LineIndex>,
     /// The numbers of the rules of each file, at its number.
     pub rules: Vec<Seq<usize>>,
 }
@@ -26,9 +26,9 @@ impl Lookup {
         requires { StandInFiles report.now }
         ensures { IfOk result (IsLookup report.now) }
     {
-        let marks = marks_of_files(alloc, report.files.as_slice())?;
+        let indexes = line_indexes_of(alloc, report.files.as_slice())?;
         let rules = rules_by_file(alloc, report)?;
-        Ok(Lookup { marks, rules })
+        Ok(Lookup { indexes, rules })
     }
 }
 
@@ -63,35 +63,39 @@ fn told_name(alloc: Global, naming: Naming, name: &str) -> Result<Text, Memory>
 pub fn place_in(
     alloc: Global,
     report: &Report,
-    marks: &[Marks],
+    indexes: &[LineIndex],
     naming: Naming,
     file: usize,
     offset: u32,
 ) -> Result<Text, Memory>
     requires file { file < length report.now.files }
-    requires marks { AreMarked report.now.files marks.now }
+    requires indexes { AreIndexed report.now.files indexes.now }
     ensures { IfOk result (λ place. place ≡ place_in (told_by naming) report.now file offset) }
 {
     let name = told_name(alloc, naming, report.files.get(file).name.as_str())?;
-    place_at(alloc, name.as_str(), spot_in(report, marks, file, offset))
+    place_at(
+        alloc,
+        name.as_str(),
+        position_in(report, indexes, file, offset),
+    )
 }
 
 /// `FILE:LINE:COLUMN` of an offset in the rule with this number.
 pub fn place_in_rule(
     alloc: Global,
     report: &Report,
-    marks: &[Marks],
+    indexes: &[LineIndex],
     naming: Naming,
     rule: u32,
     offset: u32,
 ) -> Result<Text, Memory>
     requires files { StandInFiles report.now }
     requires rule { rule < length report.now.rules }
-    requires marks { AreMarked report.now.files marks.now }
+    requires indexes { AreIndexed report.now.files indexes.now }
     ensures { IfOk result (λ place. place ≡ place_in_rule (told_by naming) report.now rule offset) }
 {
     let file = report.rules.get(rule as usize).file as usize;
-    place_in(alloc, report, marks, naming, file, offset)
+    place_in(alloc, report, indexes, naming, file, offset)
 }
 
 /// The numbers of the rules of each file, in ascending order, each list at the number of its file.

@@ -6,16 +6,16 @@ ghost use Rattle.lf_report.specs.Shown.{shown};
 ghost use Rattle.lf_report.specs.Text.{file_lines, files_lines, finding_line, lines_text, report_text, rule_line, rule_lines, said_lines, totals_lines, verdict_lines};
 ghost use Rattle.lf_report.specs.declared.report.FileReport.{FileReport};
 ghost use Rattle.lf_report.specs.views.Lookups.{IsLookup};
-ghost use Rattle.lf_report.specs.views.Spots.{AreMarked};
+ghost use Rattle.lf_report.specs.views.LineIndex.{AreIndexed};
 ghost use Rattle.lf_report.specs.views.Totals.{AreTotals};
 
 mod labels;
 mod lines;
 
 use crate::counting::Totals;
+use crate::line_index::LineIndex;
 use crate::places::{Lookup, Naming, numbers_at, place_in};
 use crate::shown::{shown_name, shown_names};
-use crate::spot::Marks;
 use crate::{Finding, Report, RuleReport};
 use labels::push_labels;
 use lf_ast::RuleVerdicts;
@@ -89,8 +89,8 @@ fn push_file(
     match &report.files.get(file).refusal {
         None => push_rules(alloc, text, report, lookup, labels, file),
         Some(why) => {
-            let marks = lookup.marks.as_slice();
-            let place = place_in(alloc, report, marks, Naming::Shown, file, why.span.start)?;
+            let indexes = lookup.indexes.as_slice();
+            let place = place_in(alloc, report, indexes, Naming::Shown, file, why.span.start)?;
             push_refused_line(alloc, text, place.as_str(), why.kind)
         }
     }
@@ -113,10 +113,10 @@ fn push_rules(
     ensures { (it : FileReport) → slice_get report.now.files file ≡ Some it → OnOk result (text.new ≡ text.old ++ lines_text (flat_map (rule_lines report.now it) (rules_of report.now file))) }
 {
     let numbers = numbers_at(lookup, file);
-    let marks = lookup.marks.as_slice();
+    let indexes = lookup.indexes.as_slice();
     for k in 0..numbers.len() {
         let rule = report.rules.get(*numbers.get(k));
-        push_rule(alloc, text, report, marks, labels, file, rule)?;
+        push_rule(alloc, text, report, indexes, labels, file, rule)?;
     }
     Ok(())
 }
@@ -126,7 +126,7 @@ fn push_rule(
     alloc: Global,
     text: &mut Text,
     report: &Report,
-    marks: &[Marks],
+    indexes: &[LineIndex],
     labels: &[Text],
     file: usize,
     rule: &RuleReport,
@@ -134,12 +134,12 @@ fn push_rule(
     requires file { file < length report.now.files }
     requires files { StandInFiles report.now }
     requires rules { NameRulesBelow (length report.now.rules) (labels_of rule.now.verdicts) }
-    requires marks { AreMarked report.now.files marks.now }
+    requires indexes { AreIndexed report.now.files indexes.now }
     requires labels { labels.now ≡ map shown report.now.universe }
     ensures { (it : FileReport) → slice_get report.now.files file ≡ Some it → OnOk result (text.new ≡ text.old ++ lines_text (rule_lines report.now it rule.now)) }
 {
-    push_verdicts(alloc, text, report, marks, labels, file, rule)?;
-    push_findings(alloc, text, report, marks, file, rule.findings.as_slice())
+    push_verdicts(alloc, text, report, indexes, labels, file, rule)?;
+    push_findings(alloc, text, report, indexes, file, rule.findings.as_slice())
 }
 
 /// Appends the verdicts on a rule, where they are told.
@@ -147,7 +147,7 @@ fn push_verdicts(
     alloc: Global,
     text: &mut Text,
     report: &Report,
-    marks: &[Marks],
+    indexes: &[LineIndex],
     labels: &[Text],
     file: usize,
     rule: &RuleReport,
@@ -155,15 +155,15 @@ fn push_verdicts(
     requires file { file < length report.now.files }
     requires files { StandInFiles report.now }
     requires rules { NameRulesBelow (length report.now.rules) (labels_of rule.now.verdicts) }
-    requires marks { AreMarked report.now.files marks.now }
+    requires indexes { AreIndexed report.now.files indexes.now }
     requires labels { labels.now ≡ map shown report.now.universe }
     ensures { (it : FileReport) → slice_get report.now.files file ≡ Some it → OnOk result (text.new ≡ text.old ++ lines_text (verdict_lines report.now it rule.now rule.now.verdicts)) }
 {
     match &rule.verdicts {
         None => Ok(()),
         Some(verdicts) => {
-            push_head(alloc, text, report, marks, file, rule)?;
-            push_said(alloc, text, report, marks, labels, verdicts)
+            push_head(alloc, text, report, indexes, file, rule)?;
+            push_said(alloc, text, report, indexes, labels, verdicts)
         }
     }
 }
@@ -173,20 +173,20 @@ fn push_said(
     alloc: Global,
     text: &mut Text,
     report: &Report,
-    marks: &[Marks],
+    indexes: &[LineIndex],
     labels: &[Text],
     verdicts: &RuleVerdicts,
 ) -> Result<(), Memory>
     requires files { StandInFiles report.now }
     requires rules { NameRulesBelow (length report.now.rules) (labels_in verdicts.now) }
-    requires marks { AreMarked report.now.files marks.now }
+    requires indexes { AreIndexed report.now.files indexes.now }
     requires labels { labels.now ≡ map shown report.now.universe }
     ensures { OnOk result (text.new ≡ text.old ++ lines_text (said_lines report.now verdicts.now)) }
 {
     match verdicts {
         RuleVerdicts::Empty => text.push("  empty\n"),
         RuleVerdicts::Labels { of } => {
-            push_labels(alloc, text, report, marks, labels, of.as_slice())
+            push_labels(alloc, text, report, indexes, labels, of.as_slice())
         }
     }
 }
@@ -196,18 +196,18 @@ fn push_head(
     alloc: Global,
     text: &mut Text,
     report: &Report,
-    marks: &[Marks],
+    indexes: &[LineIndex],
     file: usize,
     rule: &RuleReport,
 ) -> Result<(), Memory>
     requires file { file < length report.now.files }
-    requires marks { AreMarked report.now.files marks.now }
+    requires indexes { AreIndexed report.now.files indexes.now }
     ensures { (it : FileReport) → slice_get report.now.files file ≡ Some it → OnOk result (text.new ≡ text.old ++ lines_text (rule_line it rule.now ∷ [])) }
 {
     let place = place_in(
         alloc,
         report,
-        marks,
+        indexes,
         Naming::Shown,
         file,
         rule.name_span.start,
@@ -220,16 +220,16 @@ fn push_findings(
     alloc: Global,
     text: &mut Text,
     report: &Report,
-    marks: &[Marks],
+    indexes: &[LineIndex],
     file: usize,
     findings: &[Finding],
 ) -> Result<(), Memory>
     requires file { file < length report.now.files }
-    requires marks { AreMarked report.now.files marks.now }
+    requires indexes { AreIndexed report.now.files indexes.now }
     ensures { (it : FileReport) → slice_get report.now.files file ≡ Some it → OnOk result (text.new ≡ text.old ++ lines_text (map (finding_line it) findings.now)) }
 {
     for finding in findings {
-        push_finding(alloc, text, report, marks, file, finding)?;
+        push_finding(alloc, text, report, indexes, file, finding)?;
     }
     Ok(())
 }
@@ -239,18 +239,18 @@ fn push_finding(
     alloc: Global,
     text: &mut Text,
     report: &Report,
-    marks: &[Marks],
+    indexes: &[LineIndex],
     file: usize,
     finding: &Finding,
 ) -> Result<(), Memory>
     requires file { file < length report.now.files }
-    requires marks { AreMarked report.now.files marks.now }
+    requires indexes { AreIndexed report.now.files indexes.now }
     ensures { (it : FileReport) → slice_get report.now.files file ≡ Some it → OnOk result (text.new ≡ text.old ++ lines_text (finding_line it finding.now ∷ [])) }
 {
     let place = place_in(
         alloc,
         report,
-        marks,
+        indexes,
         Naming::Shown,
         file,
         finding.span.start,

@@ -2,7 +2,7 @@
 use Rattle.std.proofs.Common.{◌≡◌, ℕ, ◌+◌, ◌<◌, Bool, true, false, not, ◌&&◌, ◌||◌, cond, eqb, List, [], ◌∷◌, length, get_or, codes, Option, Some, None, inl, inr, refl, sym, ◌∙◌, ap, subst, arith}
 use Rattle.std.specs.List.{Contains, AllByRecursion, filter, list_any}
 use Rattle.std.specs.Str.{bytes_eq}
-use Rattle.std.proofs.lemmas.Bool.{not-false, not-true, or_left, or_right}
+use Rattle.std.proofs.lemmas.Bool.{eq-eqb, not-false, not-true, or_left, or_right}
 use Rattle.lf_ast.specs.Labels.{Bytes, Labels}
 use Rattle.lf_ast.specs.declared.expr.Grouping.{Grouping}
 use Rattle.lf_ast.specs.declared.expr.Matcher.{Matcher}
@@ -19,7 +19,7 @@ use Rattle.lf_semantics.specs.Mentions.{group_names, matchers_mentions}
 use Rattle.lf_semantics.proofs.LabelTexts.{value-bare, value-with_label, value-without_name}
 use Rattle.lf_semantics.proofs.Members.{first_or_behind, none_in, true_same}
 use Rattle.lf_semantics.proofs.Numbered.{AreKnown, group_label, metric_label}
-use Rattle.lf_semantics.proofs.Places.{class_of_some, eqb-same, label_test, symmetric}
+use Rattle.lf_semantics.proofs.Places.{class_of_some, label_test, symmetric}
 use Rattle.lf_semantics.proofs.Restricted.{value-restricted}
 use Rattle.lf_semantics.proofs.RowLaws.{any_at, get_or-indexed, holds_within, represents_only_empty, represents_replaced, represents_top, shape_bottom, shape_replaced, shape_top}
 
@@ -144,12 +144,12 @@ module _ (u : Listing) (p : IsListing u) where
   any_class : (l : ℕ) (texts : List Bytes) (text : Bytes) → Contains texts text → list_any (λ t. eqb (class_of u l t) (class_of u l text)) texts ≡ true
   any_class l [] text c = absurd (none_in text c)
   any_class l (t ∷ texts) text c = elim (first_or_behind t texts text c) [
-    | inl e ↦ or_left _ _ (ap (λ x. eqb (class_of u l x) (class_of u l text)) e ∙ eqb-same (class_of u l text))
+    | inl e ↦ or_left _ _ (ap (λ x. eqb (class_of u l x) (class_of u l text)) e ∙ eq-eqb _ _ refl)
     | inr d ↦ or_right _ _ (any_class l texts text d)
   ]
 
   -- the matchers on a label by its number are those by its name
-  same_matchers : (matchers : List Matcher) (name : Bytes) → AllByRecursion (IsKnown u) (matchers_mentions matchers) → filter (λ m. is_label u m.label (label_of u name)) matchers ≡ filter (λ m. bytes_eq m.label name) matchers
+  pub same_matchers : (matchers : List Matcher) (name : Bytes) → AllByRecursion (IsKnown u) (matchers_mentions matchers) → filter (λ m. is_label u m.label (label_of u name)) matchers ≡ filter (λ m. bytes_eq m.label name) matchers
   same_matchers [] name known = refl
   same_matchers (m ∷ matchers) name known = rw (label_test u m.label name known.0.0, same_matchers matchers name known.1) refl
 
@@ -163,7 +163,7 @@ module _ (u : Listing) (p : IsListing u) where
     where
       by : (b : Bool) → is_metric name ≡ b
           → list_any (λ text. eqb (class_of u (label_of u name) text) (class_of u (label_of u name) (value_of r name))) (cond b ([] ∷ []) (absent_texts (filter (λ m. is_label u m.label (label_of u name)) sought.matchers))) ≡ true
-      by true e = or_left _ _ (ap (λ t. eqb (class_of u (label_of u name) []) (class_of u (label_of u name) t)) (has.1 name e) ∙ eqb-same (class_of u (label_of u name) []))
+      by true e = or_left _ _ (ap (λ t. eqb (class_of u (label_of u name) []) (class_of u (label_of u name) t)) (has.1 name e) ∙ eq-eqb (class_of u (label_of u name) []) (class_of u (label_of u name) []) refl)
       by false e =
           rw (same_matchers sought.matchers name known) (any_class (label_of u name) (absent_texts (filter (λ m. bytes_eq m.label name) sought.matchers)) (value_of r name) (has.2 name e))
 

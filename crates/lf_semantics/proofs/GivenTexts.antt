@@ -32,14 +32,16 @@ HaveTexts R = (s : Labels) → Contains R s → HasTexts s
 abbrev pub GivesTexts : Results → Type 0
 GivesTexts gives = (R : List Labels) → gives R → HaveTexts R
 
-bare_has_texts : HasTexts bare
+-- the texts of what samples become aren't empty
+
+pub bare_has_texts : HasTexts bare
 bare_has_texts name text e = let n : None ≡ Some text = sym (get-empty (slice_cmp nat_cmp) name) ∙ e in absurd (cc)
 
-taken_has_texts : (one : Labels) (names : List Name) (s : Labels) → HasTexts s → HasTexts (taken_from one names s)
+pub taken_has_texts : (one : Labels) (names : List Name) (s : Labels) → HasTexts s → HasTexts (taken_from one names s)
 taken_has_texts one [] s h = h
 taken_has_texts one (n ∷ names) s h = with_label_has_texts n.text (value_of one n.text) (taken_from one names s) (taken_has_texts one names s h)
 
-without_if_has_texts : (drops : Bool) (s : Labels) → HasTexts s → HasTexts (without_name_if drops s)
+pub without_if_has_texts : (drops : Bool) (s : Labels) → HasTexts s → HasTexts (without_name_if drops s)
 without_if_has_texts true s h = restricted_has_texts _ s h
 without_if_has_texts false s h = h
 

@@ -5,7 +5,7 @@ use Rattle.std.proofs.lemmas.Bool.{or_cases, or_left, or_right}
 use Rattle.lf_semantics.specs.ClassRows.{HasShape, Sets, bottom, emptied, holds, indexed_from, is_live, join, narrowed, normalized, only_empty, remade, replaced, top}
 use Rattle.lf_semantics.specs.Environments.{Leq}
 use Rattle.lf_semantics.specs.Listing.{IsListing, Listing}
-use Rattle.lf_laws.proofs.Booleans.{clash}
+use Rattle.lf_laws.proofs.Booleans.{and_left, clash}
 use Rattle.lf_semantics.proofs.RowLaws.{get_or-indexed, holds-remade, holds_within, length-indexed, length_row, live_when, shape_remade, shape_top}
 use Rattle.lf_semantics.proofs.RowSets.{emptied_dead, live_at}
 
@@ -30,7 +30,7 @@ same_length u row other s t = sym (length-map row length) ∙ ap length (s ∙ s
 pub bottom_dead : (u : Listing) → IsListing u → is_live (bottom u) ≡ false
 bottom_dead u p = emptied_dead (top u) (omega (arith, length_row u p (top u) (shape_top u)))
 
-live_normalized : (row : Sets) → is_live (normalized row) ≡ true → is_live row ≡ true
+pub live_normalized : (row : Sets) → is_live (normalized row) ≡ true → is_live row ≡ true
 live_normalized row e = by row (is_live row) refl e
   where
     by : (row : Sets) (b : Bool) → is_live row ≡ b → is_live (cond b row (emptied row)) ≡ true → is_live row ≡ true
@@ -43,7 +43,7 @@ normalized_live row e = ap (λ b. cond b row (emptied row)) e
 
 -- rows made anew
 
-of_remade : (f : ℕ → ℕ → Bool → Bool) (row : Sets) (l c : ℕ) → holds (remade f row) l c ≡ true → (l < length row) × (c < length (get_or row l [])) × (f l c (holds row l c) ≡ true)
+pub of_remade : (f : ℕ → ℕ → Bool → Bool) (row : Sets) (l c : ℕ) → holds (remade f row) l c ≡ true → (l < length row) × (c < length (get_or row l [])) × (f l c (holds row l c) ≡ true)
 of_remade f row l c e =
     let w = holds_within (remade f row) l c e in
     let b : l < length row = omega (arith, w.0, length-indexed (λ l set. indexed_from (λ c on. f l c on) 0 set) 0 row) in
@@ -83,11 +83,7 @@ module _ (u : Listing) (row other : Sets) (s : HasShape u row) (t : HasShape u o
   of_narrowed : (test : ℕ → ℕ → Bool) → is_live (narrowed test row) ≡ true → is_live row ≡ true
   of_narrowed test e =
       let new : Sets = remade (λ l c on. on && test l c) row in
-      live_more new row (same_length u new row (shape_remade (λ l c on. on && test l c) 0 row ∙ s) s) (λ l c h. front (holds row l c) (test l c) (of_remade (λ l c on. on && test l c) row l c h).2) (live_normalized new e)
-    where
-      front : (a b : Bool) → (a && b) ≡ true → a ≡ true
-      front true b e = refl
-      front false b e = absurd (clash _ e refl)
+      live_more new row (same_length u new row (shape_remade (λ l c on. on && test l c) 0 row ∙ s) s) (λ l c h. and_left (holds row l c) (test l c) (of_remade (λ l c on. on && test l c) row l c h).2) (live_normalized new e)
 
   pub leq_narrowed : (test test' : ℕ → ℕ → Bool) → (is_live row ≡ true → (l c : ℕ) → test l c ≡ true → test' l c ≡ true) → Leq row other → Leq (narrowed test row) (narrowed test' other)
   leq_narrowed test test' more h e =

@@ -13,6 +13,7 @@ pub mod NormalizedRows
 pub mod Numbered
 pub mod Operands
 pub mod PairsRepresent
+pub mod PartsCovered
 pub mod PatternFaults
 pub mod PatternTexts
 pub mod PatternsInside

@@ -1,5 +1,5 @@
 -- Members of lists. Those of lf_laws go by this file too.
-use Rattle.std.proofs.Common.{◌≡◌, Bool, true, false, cond, List, [], ◌∷◌, ◌++◌, ◌⊎◌, inl, inr, refl, sym, ◌∙◌, ap, subst}
+use Rattle.std.proofs.Common.{◌≡◌, Bool, true, false, cond, List, [], ◌∷◌, ◌⊎◌, inl, inr, refl, sym, ◌∙◌, ap, subst}
 use Rattle.std.specs.List.{AllByRecursion, Contains, filter}
 pub use Rattle.std.proofs.lemmas.Bool.{or_cases}
 pub use Rattle.lf_laws.proofs.Booleans.{not_true}

@@ -14,9 +14,6 @@ use Rattle.lf_ast.specs.Selectors.{metric}
 use Rattle.lf_semantics.specs.Listing.{IsListing, Listing, class_counts, class_of, class_texts, label_of, named_at, other_class, place}
 use Rattle.lf_semantics.proofs.Members.{other_false, same_true, true_same}
 
-pub eqb-same : (n : ℕ) → eqb n n ≡ true
-eqb-same n = (Decides-eqb n n).1 refl
-
 pub place_le : (xs : List Bytes) (t : Bytes) → place xs t ≤ length xs
 place_le [] t = omega arith
 place_le (x ∷ xs) t = elim (bytes_eq x t) as (λ b. cond (not b) (1 + place xs t) 0 ≤ suc (length xs)) [ true ↦ omega arith | false ↦ omega (arith, place_le xs t) ]

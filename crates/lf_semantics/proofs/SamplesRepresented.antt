@@ -2,6 +2,7 @@
 use Rattle.std.proofs.Common.{◌≡◌, ◌≢◌, ◌<◌, Bool, true, false, cond, eqb, List, [], ◌∷◌, ◌++◌, map, length, Some, None, inl, inr, refl, sym, ◌∙◌, ap, subst}
 use Rattle.std.specs.List.{AllByRecursion, Contains}
 use Rattle.std.specs.Str.{bytes_eq}
+use Rattle.std.proofs.lemmas.Bool.{eq-eqb}
 use Rattle.std.proofs.lemmas.List.Elements.{Contains-append_cases}
 use Rattle.lf_ast.specs.Labels.{Bytes, Labels}
 use Rattle.lf_ast.specs.Rules.{RuleTree}
@@ -21,7 +22,8 @@ use Rattle.lf_semantics.proofs.GivenTexts.{evaluates_gives_texts}
 use Rattle.lf_semantics.proofs.Kept.{with_label_has_texts}
 use Rattle.lf_semantics.proofs.LabelTexts.{value-with_label}
 use Rattle.lf_semantics.proofs.ListingLaws.{of_first_seen}
-use Rattle.lf_semantics.proofs.Places.{eqb-same, metric_listed}
+use Rattle.lf_semantics.proofs.Places.{metric_listed}
+use Rattle.lf_semantics.proofs.Recorded.{recorder}
 use Rattle.lf_semantics.proofs.RowLaws.{shape_bottom, shape_replaced}
 use Rattle.lf_semantics.proofs.Soundness.{shape_of_row, sound}
 
@@ -35,7 +37,7 @@ module _ (u : Listing) (p : IsListing u) where
 
   represents_with_text : (name text : Bytes) (row : Sets) (s : Labels) → label_of u name < length u.names → HasShape u row → Represents u row s → Represents u (with_text u name text row) (with_label name text s)
   represents_with_text name text row s listed shape represents =
-      represents_with_label u p name text (λ l c. eqb c (class_of u (label_of u name) text)) row s listed shape represents (eqb-same (class_of u (label_of u name) text))
+      represents_with_label u p name text (λ l c. eqb c (class_of u (label_of u name) text)) row s listed shape represents (eq-eqb _ _ refl)
 
   represents_with_texts : (labels : List RuleLabel) (row : Sets) (s : Labels) → AllByRecursion (IsKnown u) (map (λ l. mention l.key (l.value ∷ [])) labels) → HasShape u row → Represents u row s
       → Represents u (with_texts u labels row) (with_labels labels s)
@@ -76,24 +78,6 @@ name_of_stored r s other =
 
 -- recorded names
 
--- a recorded name is that of a recording rule
-abbrev Records : List RuleTree → Bytes → Type 0
-Records rules name = (r : RuleTree) × Contains rules r × (r.alert ≡ false) × (r.name ≡ name)
-
-later : (r : RuleTree) (rules : List RuleTree) (name : Bytes) → Records rules name → Records (r ∷ rules) name
-later r rules name h = (h.0, behind r rules h.0 h.1, h.2, h.3)
-
-of_names : (rules : List RuleTree) (name : Bytes) → Contains (names_recorded rules) name → Records rules name
-of_names [] name c = absurd (none_in name c)
-of_names (r ∷ rules) name c = by r.alert refl c (of_names rules name)
-  where
-    by : (b : Bool) → r.alert ≡ b → Contains (cond b (names_recorded rules) (r.name ∷ names_recorded rules)) name → (Contains (names_recorded rules) name → Records rules name) → Records (r ∷ rules) name
-    by true e d rest = later r rules name (rest d)
-    by false e d rest = elim (first_or_behind r.name (names_recorded rules) name d) [
-      | inl f ↦ (r, here r rules, e, f)
-      | inr g ↦ later r rules name (rest g)
-    ]
-
 pub none_named : (env : Environment) (name : Bytes) → ((x : Bytes) → Contains (map (λ (entry : Bytes × Sets). entry.0) env) x → x ≢ name) → row_named env name ≡ None
 none_named [] name h = refl
 none_named (entry ∷ env) name h = by (bytes_eq entry.0 name) refl (none_named env name (λ x c. h x (behind entry.0 _ x c)))
@@ -109,10 +93,10 @@ represents_leq u row other s leq represents = let g = leq represents.0 in (g.0, 
 
 module _ (u : Listing) (p : IsListing u) (rules : List RuleTree) (covers : CoversRules u rules) (named : (r : RuleTree) → Contains rules r → SetsNoName r) (env : Environment) (of : IsEnvironmentOf u rules env) (closed : IsPostFixedPoint u rules env) where
   -- each recorded sample has no empty text and is represented by the row of its name
-  abbrev AllRepresented : List Labels → Type 0
+  abbrev pub AllRepresented : List Labels → Type 0
   AllRepresented N = (s : Labels) → Contains N s → HasTexts s × (row : Sets) × (row_named env (value_of s metric) ≡ Some row) × Represents u row s
 
-  shape_rule : (r : RuleTree) → HasShape u (rule_row u env r)
+  pub shape_rule : (r : RuleTree) → HasShape u (rule_row u env r)
   shape_rule r = elim (is_evaluated (type_by_form r.expr)) as (λ b. HasShape u (cond b (row_of u env r.expr) (bottom u))) [ true ↦ shape_of_row u p env of.environment r.expr | false ↦ shape_bottom u ]
 
   module _ (S : List Labels) (scraped : AreScraped rules S) where
@@ -120,23 +104,23 @@ module _ (u : Listing) (p : IsListing u) (rules : List RuleTree) (covers : Cover
     unrecorded s c =
         none_named env (value_of s metric)
         (λ x e f. let P : List Bytes → Type 0 = λ names. Contains names x in
-        let r = of_names rules x (of_first_seen (names_recorded rules) x (subst P of.names e)) in
+        let r = recorder rules x (of_first_seen (names_recorded rules) x (subst P of.names e)) in
         (scraped s c).2 r.0 r.1 r.2 (sym f ∙ sym r.3))
 
-    admits : (N : List Labels) → AllRepresented N → Admits u env S N
+    pub admits : (N : List Labels) → AllRepresented N → Admits u env S N
     admits N each = record { scraped = λ s c. ((scraped s c).0, (scraped s c).1, unrecorded s c); recorded = each }
 
     -- what a rule gives in a step has no empty text
-    step_texts : (N : List Labels) → AllRepresented N → (r : RuleTree) (R : List Labels) → RuleGives S N r R → (s : Labels) → Contains R s → HasTexts s
+    pub step_texts : (N : List Labels) → AllRepresented N → (r : RuleTree) (R : List Labels) → RuleGives S N r R → (s : Labels) → Contains R s → HasTexts s
     step_texts N each r R w s inside = evaluates_gives_texts S N (λ x c. (scraped x c).0) (λ x c. (each x c).0) r.expr R w.1 s inside
 
     -- the rule's row represents what a rule gives in a step
-    step_represents : (N : List Labels) → AllRepresented N → (r : RuleTree) → Contains rules r → (R : List Labels) → RuleGives S N r R → (s : Labels) → Contains R s → Represents u (rule_row u env r) s
+    pub step_represents : (N : List Labels) → AllRepresented N → (r : RuleTree) → Contains rules r → (R : List Labels) → RuleGives S N r R → (s : Labels) → Contains R s → Represents u (rule_row u env r) s
     step_represents N each r c R w s inside =
         let L : Bool → Type 0 = λ b. Represents u (cond b (row_of u env r.expr) (bottom u)) s in
         subst L (sym w.0) (sound u p env of.environment S N (admits N each) r.expr (all_front (IsKnown u) (mentions r.expr) _ (covers r c)) R s w.1 inside)
 
-    added_represented : (N : List Labels) → AllRepresented N → (step : Step) → Contains rules step.rule → RuleGives S N step.rule step.gives → AllRepresented (added step)
+    pub added_represented : (N : List Labels) → AllRepresented N → (step : Step) → Contains rules step.rule → RuleGives S N step.rule step.gives → AllRepresented (added step)
     added_represented N each step c w s i = by step.rule.alert refl i
       where
         by : (b : Bool) → step.rule.alert ≡ b → Contains (cond b [] (map (stored step.rule) step.gives)) s → HasTexts s × (row : Sets) × (row_named env (value_of s metric) ≡ Some row) × Represents u row s
@@ -153,7 +137,7 @@ module _ (u : Listing) (p : IsListing u) (rules : List RuleTree) (covers : Cover
               subst L (sym m.2) (represents_leq u _ k.0 (stored step.rule m.0) k.2 represents),
             )
 
-    both_represented : (N M : List Labels) → AllRepresented N → AllRepresented M → AllRepresented (N ++ M)
+    pub both_represented : (N M : List Labels) → AllRepresented N → AllRepresented M → AllRepresented (N ++ M)
     both_represented N M k l s i = elim (Contains-append_cases N M s i) [ inl a ↦ k s a | inr b ↦ l s b ]
 
     run_represents : (N : List Labels) (steps : List Step) → AllRepresented N → IsRunFrom rules S N steps → (step : Step) → Contains steps step → (s : Labels) → Contains step.gives s → Represents u (rule_row u env step.rule) s

@@ -4,7 +4,7 @@ use Rattle.std.specs.List.{Contains, AllByRecursion, list_any}
 use Rattle.std.specs.Option.{option_map_or}
 use Rattle.std.specs.Str.{bytes_eq}
 use Rattle.std.proofs.lemmas.Bool.Decides.{nat_tests}
-use Rattle.std.proofs.lemmas.Bool.{or_cases}
+use Rattle.std.proofs.lemmas.Bool.{eq-eqb, or_cases}
 use Rattle.std.proofs.lemmas.Option.{none-some, same_Some}
 use Rattle.lf_ast.specs.Labels.{Bytes, Labels}
 use Rattle.lf_ast.specs.declared.expr.Matcher.{Matcher}
@@ -21,10 +21,10 @@ use Rattle.lf_semantics.specs.Passing.{HasName, PassesEach, is_plain, passes, pa
 use Rattle.lf_semantics.specs.RowTable.{Environment, is_metric_label, is_recorded, passes_class, passes_matchers, row_named, row_or_series, scraped_row, seen_row, selector_row, series_row, text_of, with_recorded}
 use Rattle.lf_semantics.specs.Texts.{value_of}
 use Rattle.lf_semantics.specs.Mentions.{alternatives_or_samples, matcher_texts, matchers_mentions, pattern_texts}
-use Rattle.lf_semantics.proofs.Members.{other_false, true_same}
+use Rattle.lf_semantics.proofs.Members.{not_true, other_false, true_same}
 use Rattle.lf_semantics.proofs.Numbered.{metric_label}
 use Rattle.lf_semantics.proofs.PatternTexts.{passes_is}
-use Rattle.lf_semantics.proofs.Places.{class_of_some, class_test, eqb-same, label_test, text_at_class}
+use Rattle.lf_semantics.proofs.Places.{class_of_some, class_test, label_test, text_at_class}
 use Rattle.lf_semantics.proofs.RowLaws.{represents_join_left, represents_join_right, represents_narrowed, represents_replaced, represents_top, shape_bottom, shape_join, shape_narrowed, shape_replaced, shape_top}
 
 -- matchers
@@ -44,10 +44,6 @@ plain_within value text (Some alternatives) e k h P all =
     within value text alternatives (sym (ap M e) ∙ h) P all
 plain_within value text None e k h P all = absurd (cc)
 
-pub not_plain : (b : Bool) → (b ≡ true → ⊥) → not b ≡ true
-not_plain true h = absurd (h refl)
-not_plain false h = refl
-
 module _ (u : Listing) where
   -- texts of a label that are classes of their own
   abbrev pub AreOwn : ℕ → List Bytes → Type 0
@@ -62,7 +58,7 @@ module _ (u : Listing) where
 
   pub plain_not_other : (l : ℕ) (value text : Bytes) → AreOwn l (pattern_texts value) → IsOther l text → matches value text ≡ true → not (is_plain value) ≡ true
   plain_not_other l value text own other h =
-      not_plain (is_plain value) (λ plain. not_own l text other (plain_within value text (alternatives_of value) refl plain h (λ t. class_of u l t < other_class u l) own))
+      ap not (not_true (is_plain value) (λ plain. not_own l text other (plain_within value text (alternatives_of value) refl plain h (λ t. class_of u l t < other_class u l) own)))
 
   passes_any_other : (op : MatchOp) (l : ℕ) (value text : Bytes) → AreOwn l (matcher_texts op value) → IsOther l text → passes op value text ≡ true → passes_other op value ≡ true
   passes_any_other Equal l value text own other h =
@@ -109,18 +105,14 @@ first_name_by : (m : Matcher) (rest : Option Bytes) (s : Labels) (n : Bytes) (b 
 first_name_by m rest s n true e h k f = says m s e h ∙ same_Some m.value n f
 first_name_by m rest s n false e h k f = k f
 
-module _ (u : Listing) where
-  first_name_is : (matchers : List Matcher) (s : Labels) (n : Bytes) → PassesEach matchers s → first_equal_name matchers ≡ Some n → value_of s metric ≡ n
-  first_name_is [] s n h e = absurd (cc)
-  first_name_is (m ∷ matchers) s n h e = first_name_by m (first_equal_name matchers) s n _ refl ((passes_is m.op m.value (value_of s m.label)).1 h.0) (first_name_is matchers s n h.1) e
+first_name_is : (matchers : List Matcher) (s : Labels) (n : Bytes) → PassesEach matchers s → first_equal_name matchers ≡ Some n → value_of s metric ≡ n
+first_name_is [] s n h e = absurd (cc)
+first_name_is (m ∷ matchers) s n h e = first_name_by m (first_equal_name matchers) s n _ refl ((passes_is m.op m.value (value_of s m.label)).1 h.0) (first_name_is matchers s n h.1) e
 
-  -- what a selector sees has the name that it says
-  selected_name_is : (name : Option Bytes) (matchers : List Matcher) (s : Labels) (n : Bytes) → HasName name s → PassesEach matchers s → selected_name name matchers ≡ Some n → value_of s metric ≡ n
-  selected_name_is None matchers s n h k e = first_name_is matchers s n k e
-  selected_name_is (Some m) matchers s n h k e = h ∙ same_Some m n e
-
-no_row : Option Sets
-no_row = None
+-- what a selector sees has the name that it says
+pub selected_name_is : (name : Option Bytes) (matchers : List Matcher) (s : Labels) (n : Bytes) → HasName name s → PassesEach matchers s → selected_name name matchers ≡ Some n → value_of s metric ≡ n
+selected_name_is None matchers s n h k e = first_name_is matchers s n k e
+selected_name_is (Some m) matchers s n h k e = h ∙ same_Some m n e
 
 module _ (u : Listing) (p : IsListing u) (env : Environment) (ok : IsEnvironment u env) where
   -- shapes
@@ -168,7 +160,7 @@ module _ (u : Listing) (p : IsListing u) (env : Environment) (ok : IsEnvironment
         at_name name e =
             let same : name ≡ metric = true_same name metric (sym (metric_label u p name) ∙ e) in
             let P : Bytes → Type 0 = λ x. eqb (class_of u (label_of u name) (value_of s x)) (class_of u (label_of u name) (value_of s metric)) ≡ true in
-            subst P (sym same) (eqb-same (class_of u (label_of u name) (value_of s metric)))
+            subst P (sym same) (eq-eqb _ _ refl)
 
     represents_named : (s : Labels) (o : Option Sets) → row_named env (value_of s metric) ≡ o → Contains S s ⊎ Contains N s → Represents u (row_or_series u o (value_of s metric)) s
     represents_named s (Some row) e (inl c) = absurd (none-some row (sym (admits.scraped s c).2 ∙ e))
@@ -240,4 +232,4 @@ module _ (u : Listing) (p : IsListing u) (env : Environment) (ok : IsEnvironment
         → Represents u (selector_row u env name matchers) s
     represents_selector name matchers s known c h k =
         represents_narrowed u p (passes_matchers u matchers) (seen_row u env (selected_name name matchers)) s (shape_seen (selected_name name matchers)) (λ label. each_passes u matchers s label known k)
-        (represents_seen s (selected_name name matchers) (λ n e. selected_name_is u name matchers s n h k e) c)
+        (represents_seen s (selected_name name matchers) (λ n e. selected_name_is name matchers s n h k e) c)

@@ -3,8 +3,7 @@ use Rattle.std.proofs.Common.{◌≡◌, ◌≢◌, ℕ, suc, ◌<◌, ◌≤◌
 use Rattle.std.specs.List.{AllByRecursion, list_all, list_any}
 use Rattle.std.specs.Str.{bytes_eq}
 use Rattle.std.proofs.lemmas.Bool.Decides.{nat_tests}
-use Rattle.std.proofs.lemmas.Bool.{and_parts, or_right, true≢false, false_from_ne_true}
-use Rattle.std.proofs.lemmas.Bool.{or_cases}
+use Rattle.std.proofs.lemmas.Bool.{and_parts, eq-eqb, false_from_ne_true, not-true, or_cases, or_right, true≢false}
 use Rattle.lf_ast.specs.Labels.{Bytes, Labels}
 use Rattle.lf_base.specs.Names.{is_label_name}
 use Rattle.lf_pattern.specs.Matching.{matches}
@@ -20,7 +19,7 @@ use Rattle.lf_semantics.specs.Texts.{value_of}
 use Rattle.lf_semantics.specs.Mentions.{joining_mentions, mention, pattern_texts, replacing_mentions}
 use Rattle.lf_semantics.proofs.EffectsRepresent.{has_class_at, represents_with_label}
 use Rattle.lf_semantics.proofs.Members.{same_true, true_same}
-use Rattle.lf_semantics.proofs.Places.{class_of_some, eqb-same, text_at_class}
+use Rattle.lf_semantics.proofs.Places.{class_of_some, text_at_class}
 use Rattle.lf_semantics.proofs.RowLaws.{represents_replaced, shape_replaced}
 use Rattle.lf_semantics.proofs.SelectorsRepresent.{AreOwn, plain_not_other}
 
@@ -124,10 +123,6 @@ module _ (u : Listing) (p : IsListing u) (row : Sets) (s : Labels) (shape : HasS
         by true f g = inl (true_same j.separator [] f)
         by false f g = let few : length j.sources ≤ 1 = grind (arith, nat_tests, g) in inr (omega (arith, few, length_values j.sources))
 
-    not_true_is : (b : Bool) → not b ≡ true → b ≡ false
-    not_true_is true e = absurd (true≢false (sym e))
-    not_true_is false e = refl
-
     is_join_of : is_join u j row (class_of u (label_of u j.target) joined) ≡ true
     is_join_of = by (not (shows j) && list_all (λ source. not (may_be_present u row source)) j.sources) refl
       where
@@ -147,7 +142,7 @@ module _ (u : Listing) (p : IsListing u) (row : Sets) (s : Labels) (shape : HasS
             (cond (shows j || list_any (λ source. not (may_be_absent u row source)) j.sources) (not (eqb (class_of u (label_of u j.target) (joined_by j.separator (values j.sources))) 0)) true) ≡ true
         by true e =
             let k = and_parts (not (shows j)) _ e in
-            let none : joined_by j.separator (values j.sources) ≡ [] = joined_nothing j.separator (values j.sources) (shows_none (not_true_is (shows j) k.0)) (all_none j.sources k.1) in
+            let none : joined_by j.separator (values j.sources) ≡ [] = joined_nothing j.separator (values j.sources) (shows_none (not-true (shows j) k.0)) (all_none j.sources k.1) in
             ap (λ t. eqb (class_of u (label_of u j.target) t) 0) none
         by false e = second _ refl
 
@@ -204,7 +199,7 @@ module _ (u : Listing) (p : IsListing u) (row : Sets) (s : Labels) (shape : HasS
 
     expanded : (text : Bytes) → Expands r value text → is_expansion u r.replacement (label_of u r.target) (class_of u (label_of u r.target) text) ≡ true
     expanded text (inl same) =
-        or_right _ _ (ap (λ t. eqb (class_of u (label_of u r.target) t) (class_of u (label_of u r.target) r.replacement)) same.1 ∙ eqb-same (class_of u (label_of u r.target) r.replacement))
+        or_right _ _ (ap (λ t. eqb (class_of u (label_of u r.target) t) (class_of u (label_of u r.target) r.replacement)) same.1 ∙ eq-eqb _ _ refl)
     expanded text (inr any) = rw any.0 refl
 
     pub represents_replacing : (t : Labels) → IsReplaced r s t → Represents u (replacing_row u r row) t

@@ -3,13 +3,13 @@ use Rattle.std.specs.Prelude.{◌≡◌, ℕ, List, [], codes}
 use Rattle.lf_ast.specs.Labels.{Bytes}
 use Rattle.lf_semantics.specs.Listing.{Listing, class_counts}
 use Rattle.lf_classes.specs.Limits.{IsWithin}
-use Rattle.lf_classes.specs.views.Remembered.{AreRemembered}
-use Rattle.lf_classes.specs.declared.remembered.Remembered.{Remembered}
+use Rattle.lf_classes.specs.views.PatternCache.{IsPatternCache}
+use Rattle.lf_classes.specs.declared.pattern_cache.PatternCache.{PatternCache}
 
 -- a universe beside what is kept with it: the name of `*`, the empty text, how many classes each label has, and rows of patterns
-pub record HasParts (u : Listing) (other_name no_text : Bytes) (counts : List ℕ) (rows : Remembered) : Type 0 where
+pub record HasParts (u : Listing) (other_name no_text : Bytes) (counts : List ℕ) (rows : PatternCache) : Type 0 where
   pub within : IsWithin u
   pub star : other_name ≡ codes "*"
   pub empty : no_text ≡ []
   pub shape : counts ≡ class_counts u
-  pub remembered : AreRemembered u rows
+  pub patterns : IsPatternCache u rows

@@ -9,7 +9,7 @@ use Rattle.lf_report.specs.declared.places.Naming.TheVariants.{Shown, Plain}
 use Rattle.lf_report.specs.declared.report.FileReport.{FileReport}
 use Rattle.lf_report.specs.declared.report.Report.{Report}
 use Rattle.lf_report.specs.declared.report.RuleReport.{RuleReport}
-use Rattle.lf_report.specs.views.Spots.{AreMarked}
+use Rattle.lf_report.specs.views.LineIndex.{AreIndexed}
 
 -- how a name is told
 abbrev pub told_by : Naming → Bytes → Bytes
@@ -27,5 +27,5 @@ pub record AreGroups (files : List FileReport) (rules some : List RuleReport) (g
 
 -- these are the look-ups of a report
 pub record IsLookup (report : Report) (lookup : Lookup) : Type 0 where
-  pub marks_are : AreMarked report.files lookup.marks.items
+  pub indexes_are : AreIndexed report.files lookup.indexes.items
   pub rules_are : AreGroups report.files report.rules report.rules lookup.rules.items

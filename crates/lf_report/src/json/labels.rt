@@ -6,12 +6,12 @@ ghost use Rattle.serde_json.specs.Written.{compact_text};
 ghost use Rattle.lf_report.specs.Json.{label_data, labels_data, labels_items, list_data, plain_data, possible_data, said_items, unresolved_data};
 ghost use Rattle.lf_report.specs.Numbers.{NameRulesBelow, NamesRuleBelow, StandInFiles, labels_in, labels_of};
 ghost use Rattle.lf_report.specs.views.Pieces.{listed, possible_head};
-ghost use Rattle.lf_report.specs.views.Spots.{AreMarked};
+ghost use Rattle.lf_report.specs.views.LineIndex.{AreIndexed};
 
 use crate::json::pieces::{push_comma, push_text, push_value};
 use crate::json::worlds::push_world;
+use crate::line_index::LineIndex;
 use crate::places::{Naming, place_in_rule};
-use crate::spot::Marks;
 use crate::{Report, RuleReport};
 use lf_ast::{RuleVerdicts, Verdict, World};
 use lf_base::{Memory, Text};
@@ -23,17 +23,17 @@ pub fn push_labels(
     alloc: Global,
     text: &mut Text,
     report: &Report,
-    marks: &[Marks],
+    indexes: &[LineIndex],
     rule: &RuleReport,
 ) -> Result<(), Memory>
     requires files { StandInFiles report.now }
     requires rules { NameRulesBelow (length report.now.rules) (labels_of rule.now.verdicts) }
-    requires marks { AreMarked report.now.files marks.now }
+    requires indexes { AreIndexed report.now.files indexes.now }
     ensures { OnOk result (text.new ≡ text.old ++ compact_text (labels_data report.now rule.now.verdicts)) }
 {
     match &rule.verdicts {
         None => text.push("null"),
-        Some(verdicts) => push_said(alloc, text, report, marks, verdicts),
+        Some(verdicts) => push_said(alloc, text, report, indexes, verdicts),
     }
 }
 
@@ -42,17 +42,17 @@ fn push_said(
     alloc: Global,
     text: &mut Text,
     report: &Report,
-    marks: &[Marks],
+    indexes: &[LineIndex],
     verdicts: &RuleVerdicts,
 ) -> Result<(), Memory>
     requires files { StandInFiles report.now }
     requires rules { NameRulesBelow (length report.now.rules) (labels_in verdicts.now) }
-    requires marks { AreMarked report.now.files marks.now }
+    requires indexes { AreIndexed report.now.files indexes.now }
     ensures { OnOk result (text.new ≡ text.old ++ compact_text (list_data (said_items report.now verdicts.now))) }
 {
     match verdicts {
         RuleVerdicts::Empty => text.push("[]"),
-        RuleVerdicts::Labels { of } => push_told(alloc, text, report, marks, of.as_slice()),
+        RuleVerdicts::Labels { of } => push_told(alloc, text, report, indexes, of.as_slice()),
     }
 }
 
@@ -61,16 +61,16 @@ fn push_told(
     alloc: Global,
     text: &mut Text,
     report: &Report,
-    marks: &[Marks],
+    indexes: &[LineIndex],
     verdicts: &[Verdict],
 ) -> Result<(), Memory>
     requires files { StandInFiles report.now }
     requires rules { NameRulesBelow (length report.now.rules) verdicts.now }
-    requires marks { AreMarked report.now.files marks.now }
+    requires indexes { AreIndexed report.now.files indexes.now }
     ensures { OnOk result (text.new ≡ text.old ++ compact_text (list_data (labels_items report.now report.now.universe verdicts.now))) }
 {
     text.push("[")?;
-    push_each(alloc, text, report, marks, verdicts)?;
+    push_each(alloc, text, report, indexes, verdicts)?;
     text.push("]")
 }
 
@@ -79,18 +79,18 @@ fn push_each(
     alloc: Global,
     text: &mut Text,
     report: &Report,
-    marks: &[Marks],
+    indexes: &[LineIndex],
     verdicts: &[Verdict],
 ) -> Result<(), Memory>
     requires files { StandInFiles report.now }
     requires rules { NameRulesBelow (length report.now.rules) verdicts.now }
-    requires marks { AreMarked report.now.files marks.now }
+    requires indexes { AreIndexed report.now.files indexes.now }
     ensures { OnOk result (text.new ≡ text.old ++ listed false (labels_items report.now report.now.universe verdicts.now)) }
 {
     for k in 0..report.universe.len().min(verdicts.len()) {
         push_comma(text, k)?;
         let label = report.universe.get(k).as_str();
-        push_label(alloc, text, report, marks, label, &verdicts[k])?;
+        push_label(alloc, text, report, indexes, label, &verdicts[k])?;
     }
     Ok(())
 }
@@ -100,13 +100,13 @@ fn push_label(
     alloc: Global,
     text: &mut Text,
     report: &Report,
-    marks: &[Marks],
+    indexes: &[LineIndex],
     label: &str,
     verdict: &Verdict,
 ) -> Result<(), Memory>
     requires files { StandInFiles report.now }
     requires rule { NamesRuleBelow (length report.now.rules) verdict.now }
-    requires marks { AreMarked report.now.files marks.now }
+    requires indexes { AreIndexed report.now.files indexes.now }
     ensures { OnOk result (text.new ≡ text.old ++ compact_text (label_data report.now label.now verdict.now)) }
 {
     match verdict {
@@ -118,7 +118,7 @@ fn push_label(
             rule,
             span,
         } => {
-            let place = place_in_rule(alloc, report, marks, Naming::Plain, *rule, span.start)?;
+            let place = place_in_rule(alloc, report, indexes, Naming::Plain, *rule, span.start)?;
             push_unresolved(alloc, text, label, *construct, place.as_str())
         }
     }

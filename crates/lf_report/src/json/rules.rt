@@ -6,11 +6,11 @@ ghost use Rattle.lf_report.specs.Json.{finding_data, kind_name, refusal_data, ru
 ghost use Rattle.lf_report.specs.Numbers.{NameRulesBelow, StandInFiles, labels_of};
 ghost use Rattle.lf_report.specs.declared.report.FileReport.{FileReport};
 ghost use Rattle.lf_report.specs.views.Pieces.{listed, rule_end, rule_head, rule_kind};
-ghost use Rattle.lf_report.specs.views.Spots.{AreMarked};
+ghost use Rattle.lf_report.specs.views.LineIndex.{AreIndexed};
 
 use crate::json::labels::push_labels;
 use crate::json::pieces::{push_comma, push_count, push_text, push_value};
-use crate::spot::{Marks, Spot, spot_in};
+use crate::line_index::{LineIndex, Position, position_in};
 use crate::{Finding, Report, RuleReport};
 use lf_base::{Memory, Text};
 use serde_json::{Value, json};
@@ -20,22 +20,22 @@ use std::alloc::{AllocError, Global};
 pub fn refusal_value(
     alloc: Global,
     report: &Report,
-    marks: &[Marks],
+    indexes: &[LineIndex],
     file: usize,
 ) -> Result<Value, AllocError>
     requires file { file < length report.now.files }
-    requires marks { AreMarked report.now.files marks.now }
+    requires indexes { AreIndexed report.now.files indexes.now }
     ensures { (it : FileReport) → slice_get report.now.files file ≡ Some it → IfOk result (λ value. view value ≡ refusal_data it it.refusal) }
 {
     match &report.files.get(file).refusal {
         None => Ok(Value::Null),
         Some(why) => {
-            let spot = spot_in(report, marks, file, why.span.start);
+            let position = position_in(report, indexes, file, why.span.start);
             json!(in alloc; {
-                "column": spot.column,
+                "column": position.column,
                 "end": why.span.end,
                 "kind": why.kind.name(),
-                "line": spot.line,
+                "line": position.line,
                 "start": why.span.start,
                 "text": why.kind.text()
             })
@@ -48,34 +48,34 @@ pub fn push_rule(
     alloc: Global,
     text: &mut Text,
     report: &Report,
-    marks: &[Marks],
+    indexes: &[LineIndex],
     file: usize,
     rule: &RuleReport,
 ) -> Result<(), Memory>
     requires file { file < length report.now.files }
     requires files { StandInFiles report.now }
     requires rules { NameRulesBelow (length report.now.rules) (labels_of rule.now.verdicts) }
-    requires marks { AreMarked report.now.files marks.now }
+    requires indexes { AreIndexed report.now.files indexes.now }
     ensures { (it : FileReport) → slice_get report.now.files file ≡ Some it → OnOk result (text.new ≡ text.old ++ compact_text (rule_data report.now it rule.now)) }
 {
-    let spot = spot_in(report, marks, file, rule.name_span.start);
-    push_rule_head(alloc, text, spot, rule)?;
-    push_findings(alloc, text, report, marks, file, rule.findings.as_slice())?;
+    let position = position_in(report, indexes, file, rule.name_span.start);
+    push_rule_head(alloc, text, position, rule)?;
+    push_findings(alloc, text, report, indexes, file, rule.findings.as_slice())?;
     push_rule_kind(alloc, text, kind_name(rule.alert))?;
-    push_labels(alloc, text, report, marks, rule)?;
-    push_rule_end(alloc, text, spot, rule)
+    push_labels(alloc, text, report, indexes, rule)?;
+    push_rule_end(alloc, text, position, rule)
 }
 
-/// Appends a rule whose name stands at this spot, up to its findings.
+/// Appends a rule whose name stands at this position, up to its findings.
 fn push_rule_head(
     alloc: Global,
     text: &mut Text,
-    spot: Spot,
+    position: Position,
     rule: &RuleReport,
 ) -> Result<(), Memory>
-    ensures { OnOk result (text.new ≡ text.old ++ rule_head spot.column rule.now.empty) }
+    ensures { OnOk result (text.new ≡ text.old ++ rule_head position.column rule.now.empty) }
 {
-    push_count(alloc, text, "{\"column\":", spot.column)?;
+    push_count(alloc, text, "{\"column\":", position.column)?;
     text.push(",\"empty\":")?;
     push_value(alloc, text, &Value::from(rule.empty))?;
     text.push(",\"findings\":[")
@@ -93,12 +93,12 @@ fn push_rule_kind(alloc: Global, text: &mut Text, kind: &str) -> Result<(), Memo
 fn push_rule_end(
     alloc: Global,
     text: &mut Text,
-    spot: Spot,
+    position: Position,
     rule: &RuleReport,
 ) -> Result<(), Memory>
-    ensures { OnOk result (text.new ≡ text.old ++ rule_end spot.line rule.now.name) }
+    ensures { OnOk result (text.new ≡ text.old ++ rule_end position.line rule.now.name) }
 {
-    push_count(alloc, text, ",\"line\":", spot.line)?;
+    push_count(alloc, text, ",\"line\":", position.line)?;
     push_text(alloc, text, ",\"name\":", rule.name.as_str())?;
     text.push("}")
 }
@@ -115,17 +115,17 @@ fn push_findings(
     alloc: Global,
     text: &mut Text,
     report: &Report,
-    marks: &[Marks],
+    indexes: &[LineIndex],
     file: usize,
     findings: &[Finding],
 ) -> Result<(), Memory>
     requires file { file < length report.now.files }
-    requires marks { AreMarked report.now.files marks.now }
+    requires indexes { AreIndexed report.now.files indexes.now }
     ensures { (it : FileReport) → slice_get report.now.files file ≡ Some it → OnOk result (text.new ≡ text.old ++ listed false (map (finding_data it) findings.now)) }
 {
     for k in 0..findings.len() {
         push_comma(text, k)?;
-        push_finding(alloc, text, report, marks, file, &findings[k])?;
+        push_finding(alloc, text, report, indexes, file, &findings[k])?;
     }
     Ok(())
 }
@@ -135,15 +135,15 @@ fn push_finding(
     alloc: Global,
     text: &mut Text,
     report: &Report,
-    marks: &[Marks],
+    indexes: &[LineIndex],
     file: usize,
     finding: &Finding,
 ) -> Result<(), Memory>
     requires file { file < length report.now.files }
-    requires marks { AreMarked report.now.files marks.now }
+    requires indexes { AreIndexed report.now.files indexes.now }
     ensures { (it : FileReport) → slice_get report.now.files file ≡ Some it → OnOk result (text.new ≡ text.old ++ compact_text (finding_data it finding.now)) }
 {
-    let value = finding_value(alloc, report, marks, file, finding)?;
+    let value = finding_value(alloc, report, indexes, file, finding)?;
     push_value(alloc, text, &value)
 }
 
@@ -151,20 +151,20 @@ fn push_finding(
 fn finding_value(
     alloc: Global,
     report: &Report,
-    marks: &[Marks],
+    indexes: &[LineIndex],
     file: usize,
     finding: &Finding,
 ) -> Result<Value, AllocError>
     requires file { file < length report.now.files }
-    requires marks { AreMarked report.now.files marks.now }
+    requires indexes { AreIndexed report.now.files indexes.now }
     ensures { (it : FileReport) → slice_get report.now.files file ≡ Some it → IfOk result (λ value. view value ≡ finding_data it finding.now) }
 {
-    let spot = spot_in(report, marks, file, finding.span.start);
+    let position = position_in(report, indexes, file, finding.span.start);
     json!(in alloc; {
         "check": finding.check,
-        "column": spot.column,
+        "column": position.column,
         "end": finding.span.end,
-        "line": spot.line,
+        "line": position.line,
         "severity": finding.severity.name(),
         "start": finding.span.start,
         "text": finding.text.as_str()

@@ -4,11 +4,11 @@ ghost use Rattle.std.specs.Fmt.{decimal};
 ghost use Rattle.lf_report.specs.Numbers.{NameRulesBelow, NamesRuleBelow, StandInFiles};
 ghost use Rattle.lf_report.specs.Shown.{shown};
 ghost use Rattle.lf_report.specs.Text.{label_line, label_lines, lines_text, verdict_text};
-ghost use Rattle.lf_report.specs.views.Spots.{AreMarked};
+ghost use Rattle.lf_report.specs.views.LineIndex.{AreIndexed};
 
 use crate::Report;
+use crate::line_index::LineIndex;
 use crate::places::{Naming, place_in_rule};
-use crate::spot::Marks;
 use lf_ast::Verdict;
 use lf_base::{Memory, Text};
 use std::alloc::Global;
@@ -18,18 +18,18 @@ pub fn push_labels(
     alloc: Global,
     text: &mut Text,
     report: &Report,
-    marks: &[Marks],
+    indexes: &[LineIndex],
     labels: &[Text],
     verdicts: &[Verdict],
 ) -> Result<(), Memory>
     requires files { StandInFiles report.now }
     requires rules { NameRulesBelow (length report.now.rules) verdicts.now }
-    requires marks { AreMarked report.now.files marks.now }
+    requires indexes { AreIndexed report.now.files indexes.now }
     ensures { (names : List (List ℕ)) → labels.now ≡ map shown names → OnOk result (text.new ≡ text.old ++ lines_text (label_lines report.now names verdicts.now)) }
 {
     for k in 0..labels.len().min(verdicts.len()) {
         let label = labels[k].as_str();
-        push_label(alloc, text, report, marks, label, &verdicts[k])?;
+        push_label(alloc, text, report, indexes, label, &verdicts[k])?;
     }
     Ok(())
 }
@@ -39,19 +39,19 @@ fn push_label(
     alloc: Global,
     text: &mut Text,
     report: &Report,
-    marks: &[Marks],
+    indexes: &[LineIndex],
     label: &str,
     verdict: &Verdict,
 ) -> Result<(), Memory>
     requires files { StandInFiles report.now }
     requires rule { NamesRuleBelow (length report.now.rules) verdict.now }
-    requires marks { AreMarked report.now.files marks.now }
+    requires indexes { AreIndexed report.now.files indexes.now }
     ensures { (name : List ℕ) → label.now ≡ shown name → OnOk result (text.new ≡ text.old ++ lines_text (label_line report.now name verdict.now ∷ [])) }
 {
     text.push("  ")?;
     text.push(label)?;
     text.push(": ")?;
-    push_verdict(alloc, text, report, marks, verdict)?;
+    push_verdict(alloc, text, report, indexes, verdict)?;
     text.push("\n")
 }
 
@@ -60,12 +60,12 @@ fn push_verdict(
     alloc: Global,
     text: &mut Text,
     report: &Report,
-    marks: &[Marks],
+    indexes: &[LineIndex],
     verdict: &Verdict,
 ) -> Result<(), Memory>
     requires files { StandInFiles report.now }
     requires rule { NamesRuleBelow (length report.now.rules) verdict.now }
-    requires marks { AreMarked report.now.files marks.now }
+    requires indexes { AreIndexed report.now.files indexes.now }
     ensures { OnOk result (text.new ≡ text.old ++ verdict_text report.now verdict.now) }
 {
     match verdict {
@@ -77,7 +77,7 @@ fn push_verdict(
             rule,
             span,
         } => {
-            let place = place_in_rule(alloc, report, marks, Naming::Shown, *rule, span.start)?;
+            let place = place_in_rule(alloc, report, indexes, Naming::Shown, *rule, span.start)?;
             push_unresolved(alloc, text, *construct, place.as_str())
         }
     }

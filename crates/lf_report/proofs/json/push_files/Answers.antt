@@ -1,7 +1,7 @@
 use Rattle.std.proofs.Common.{◌<◌, length, sym, arith}
 use Rattle.std.proofs.lemmas.Option.{get_or_from_slice_get}
 use Rattle.lf_report.proofs.Pieces.{files_json_more}
-use Rattle.lf_report.proofs.Zips.{some_at}
+use Rattle.lf_laws.proofs.Slices.{some_at}
 use Rattle.lf_report.proofs.json.push_files.Goals as goal
 
 pub loop-k-preserved : goal.loop-k-preserved

@@ -17,5 +17,5 @@ invariant_of-result c = record {
   star = search rules;
   empty = search rules;
   shape = search rules;
-  remembered = c.new.ensures _;
+  patterns = c.new.ensures _;
 }

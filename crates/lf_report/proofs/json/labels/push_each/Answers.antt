@@ -1,4 +1,4 @@
-use Rattle.std.proofs.Common.{◌≡◌, ◌<◌, ◌≤◌, ◌++◌, false, length, get_or, ap, sym, ◌∙◌, arith}
+use Rattle.std.proofs.Common.{◌<◌, ◌≤◌, ◌++◌, false, length, get_or, ap, sym, ◌∙◌, arith}
 use Rattle.lf_report.specs.views.Pieces.{listed}
 use Rattle.lf_report.proofs.Pieces.{labels_items_all, labels_json_more}
 use Rattle.lf_report.proofs.json.labels.push_each.Goals as goal

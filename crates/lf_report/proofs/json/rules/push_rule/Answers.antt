@@ -15,12 +15,12 @@ returns c = λ it at.
     let start = c.args.text.now in
     let column = column_at it.source rule.name_span.start in
     let line = line_at it.source rule.name_span.start in
-    let spot = c.spot_in-spot.ensures it at in
-    let head = c.in_ok-push_rule_head.ensures ∙ ap (λ (n : ℕ). start ++ rule_head n rule.empty) spot.column_is in
+    let position = c.position_in-position.ensures it at in
+    let head = c.in_ok-push_rule_head.ensures ∙ ap (λ (n : ℕ). start ++ rule_head n rule.empty) position.column_is in
     let findings = c.in_ok-push_findings.ensures it at ∙ ap (λ l. c.push_rule_head.new.text ++ listed false (map (finding_data it) l)) c.as_slice.ensures in
     let kind = c.in_ok-push_rule_kind.ensures ∙ ap (λ l. c.push_findings.new.text ++ rule_kind l) c.kind_name.ensures in
     on_ok_weaker c.push_rule_end.result
     (λ e. appended_five start (rule_head column rule.empty) (listed false (map (finding_data it) rule.findings)) (rule_kind (kind_name rule.alert)) (compact_text (labels_data report rule.verdicts))
-    (rule_end line rule.name) head findings kind c.in_ok-push_labels.ensures (e ∙ ap (λ (n : ℕ). c.push_labels.new.text ++ rule_end n rule.name) spot.line_is)
+    (rule_end line rule.name) head findings kind c.in_ok-push_labels.ensures (e ∙ ap (λ (n : ℕ). c.push_labels.new.text ++ rule_end n rule.name) position.line_is)
     ∙ ap (λ l. start ++ l) (sym (rule_json report it rule)))
     c.push_rule_end.ensures

@@ -8,7 +8,7 @@ use Rattle.lf_report.proofs.json.rules.push_rule_end.Goals as goal
 
 pub returns : goal.returns
 returns c =
-    let line = compact_text (count_data c.args.spot.line) in
+    let line = compact_text (count_data c.args.position.line) in
     let name = compact_text (string c.args.rule.now.name) in
     let said = c.in_ok-push_text.ensures ∙ ap (λ l. c.push_count.new.text ++ (codes ",\"name\":" ++ compact_text (string l))) c.as_str.ensures in
     on_ok_weaker c.push.result

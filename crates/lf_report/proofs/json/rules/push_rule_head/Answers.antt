@@ -8,7 +8,7 @@ use Rattle.lf_report.proofs.json.rules.push_rule_head.Goals as goal
 
 pub returns : goal.returns
 returns c =
-    let column = compact_text (count_data c.args.spot.column) in
+    let column = compact_text (count_data c.args.position.column) in
     let empty = compact_text (boolean c.args.rule.now.empty) in
     let said = c.in_ok-push_value.ensures (boolean c.args.rule.now.empty) c.from.ensures refl in
     on_ok_weaker c.push-2.result

@@ -1,4 +1,4 @@
-use Rattle.std.proofs.Common.{◌≤◌, length, ap, ◌∙◌, arith}
+use Rattle.std.proofs.Common.{ap, ◌∙◌, arith}
 use Rattle.std.specs.FinMap as map_of
 use Rattle.serde_json.specs.Data.{object, put, string}
 use Rattle.serde_json.specs.View.{members_view}

@@ -1,8 +1,0 @@
-use Rattle.std.proofs.Common.{◌≡◌, min, length, arith}
-use Rattle.lf_report.proofs.Spotted.{spot_is}
-use Rattle.lf_report.proofs.spot.spot_from.Goals as goal
-
-pub returns-clause-of : goal.returns-clause-of
-returns-clause-of c =
-    let at : c.moved.result.offset ≡ min c.args.offset (length c.args.bytes.now) = omega (arith, c.moved.ensures.offset, c.min-end.ensures) in
-    spot_is c.args.bytes.now c.args.offset c.moved.result c.moved.ensures.spot at
