@@ -5,8 +5,9 @@ use Rattle.std.specs.Fmt.{digits}
 use Rattle.std.specs.List.{Contains, list_any}
 use Rattle.std.specs.Str.{bytes_eq}
 use Rattle.lf_laws.proofs.Booleans.{clash}
-use Rattle.lf_laws.proofs.Members.{first_or_behind, here, only_one, same_true}
+use Rattle.lf_laws.proofs.Members.{any_has, first_or_behind, here, only_one, same_true}
 use Rattle.lf_laws.proofs.Slices.{member_at}
+use Rattle.lf_laws.proofs.Options.{same_option}
 use Rattle.lf_ast.specs.Labels.{Bytes, Labels}
 use Rattle.lf_ast.specs.Rules.{RuleTree}
 use Rattle.lf_ast.specs.Selectors.{metric}
@@ -27,8 +28,7 @@ use Rattle.lf_trials.specs.Reached.{IsReach, Trial, rules_at}
 use Rattle.lf_trials.specs.Trials.{IsNotShown, Shown, ShowsBuilt, ShowsUniform}
 use Rattle.lf_trials.specs.Uniform.{IsUniform}
 use Rattle.lf_trials.specs.Verdicts.{IsLabelVerdict, Unresolved}
-use Rattle.lf_trials.proofs.MadeSeries.{any_has}
-use Rattle.lf_trials.proofs.OneVerdict.{same_option, uniform_trial}
+use Rattle.lf_trials.proofs.OneVerdict.{uniform_trial}
 use Rattle.lf_trials.proofs.ShownInWorlds.{found_in}
 use Rattle.lf_trials.proofs.WorkedBuilt.{labelled}
 use Rattle.lf_trials.proofs.WorkedEmptyRow.{conjoined, either, left, never, rule, u}
