@@ -6,13 +6,12 @@ use Rattle.std.proofs.lemmas.Bool.{cases_lt}
 use Rattle.std.proofs.lemmas.List.{get_or-append-add, get_or_append_left, get_or_past, length-map}
 use Rattle.std.proofs.lemmas.List.Sums.{get_or-le-sum_by, sum-map}
 use Rattle.std.proofs.lemmas.List.Elements.{Contains-get_or}
-use Rattle.lf_laws.proofs.Members.{in_map}
 use Rattle.lf_ast.specs.Labels.{Bytes}
 use Rattle.lf_ast.specs.Selectors.{metric}
 use Rattle.lf_semantics.specs.Listing.{IsFirstFree, IsOtherName, Listing, label_of, named_at, place}
+use Rattle.lf_semantics.proofs.FreeTexts.{one_free}
 use Rattle.lf_semantics.proofs.Places.{at_place, place_at, place_le}
 use Rattle.lf_classes.specs.Limits.{IsWithin}
-use Rattle.lf_classes.proofs.Free.{one_free}
 use Rattle.lf_trials.specs.Candidates.{other_name}
 use Rattle.lf_trials.proofs.FirstFree.{other_name_is}
 use Rattle.lf_candidates.specs.views.ClassTexts.{name_at}
@@ -76,11 +75,6 @@ some_label u within = omega (arith, within.listing.count)
 pub metric_number : (u : Listing) → IsWithin u → label_of u metric ≡ 0
 metric_number u within = ap (label_of u) (sym (metric_first u within)) ∙ label_at u within 0 (some_label u within)
 
--- of one more names `x1`, `x2`, .. than there are names, one is none of them: it is so of `v1`, `v2`, ..
+-- of one more names `x1`, `x2`, .. than there are names, one is none of them
 pub some_other_name : (u : Listing) → IsWithin u → ((j : ℕ) → j < length u.names + 1 → Contains u.names (codes "x" ++ decimal (j + 1))) → ⊥
-some_other_name u within all =
-    one_free (map as_text u.names) (let count = length-map u.names as_text in let small = few u within in omega (arith, count, small))
-    (λ j h. in_map as_text u.names (codes "x" ++ decimal (j + 1)) (all j (let count = length-map u.names as_text in omega (arith, count, h))))
-  where
-    as_text : Bytes → Bytes
-    as_text name = codes "v" ++ drop 1 name
+some_other_name u within all = one_free 120 u.names (few u within) all

@@ -1,6 +1,7 @@
 -- Rules are marked once each, so that they don't run out of marks: while a rule is still to be found, some rule isn't counted as marked.
 use Rattle.std.proofs.Common.{◌≡◌, ◌<◌, ◌≤◌, ℕ, ◌+◌, Bool, true, false, ◌||◌, eqb, List, [], ◌∷◌, length, refl, sym, subst, arith, true≢false}
 use Rattle.std.specs.List.{AllByRecursion, IsDistinct}
+use Rattle.std.proofs.lemmas.Bool.{eqb-true}
 use Rattle.std.proofs.lemmas.Map.Keys.{IsDistinct-cons}
 use Rattle.std.proofs.lemmas.Map.Steps.{length-le_from_distinct_below}
 use Rattle.lf_trials.specs.Reached.{is_marked}
@@ -9,9 +10,6 @@ use Rattle.lf_trials.specs.Reached.{is_marked}
 pub record AreMarks (n : ℕ) (marked : List ℕ) : Type 0 where
   pub once : IsDistinct eqb marked
   pub below : (k : ℕ) → is_marked marked k ≡ true → k < n
-
-equal_numbers : (x y : ℕ) → eqb x y ≡ true → x ≡ y
-equal_numbers x y h = grind arith
 
 apart : (k : ℕ) (marked : List ℕ) → is_marked marked k ≡ false → AllByRecursion (λ j. eqb k j ≡ false) marked
 apart k [] none = tt
@@ -32,7 +30,7 @@ one_mark_more n k marked less none are = record {
 }
   where
     by : (j : ℕ) (b : Bool) → eqb j k ≡ b → (b || is_marked marked j) ≡ true → j < n
-    by j true is h = subst (λ i. i < n) (sym (equal_numbers j k is)) less
+    by j true is h = subst (λ i. i < n) (sym (eqb-true j k is)) less
     by j false is h = are.below j h
 
 pub few_marks : (n : ℕ) (marked : List ℕ) → AreMarks n marked → length marked ≤ n

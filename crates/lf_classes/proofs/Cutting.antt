@@ -9,7 +9,8 @@ use Rattle.lf_semantics.proofs.RowLaws.{any_at, holds-remade, shape_remade}
 use Rattle.lf_semantics.proofs.RowSets.{count_at, dead_when, emptied_same, same_sets}
 use Rattle.lf_classes.specs.views.Cut.{cut, start}
 
-sum_cons : (n : ℕ) (ns : List ℕ) → sum (n ∷ ns) ≡ n + sum ns
+-- a sum from its first number on
+pub sum_cons : (n : ℕ) (ns : List ℕ) → sum (n ∷ ns) ≡ n + sum ns
 sum_cons n ns = sum_by-cons (λ x. x) n ns
 
 pub length-cut : (counts : List ℕ) (bits : List Bool) → length (cut counts bits) ≡ length counts

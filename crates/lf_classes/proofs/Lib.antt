@@ -3,7 +3,6 @@ pub mod Changes
 pub mod Covered
 pub mod Cutting
 pub mod FaultsFound
-pub mod Free
 pub mod Keys
 pub mod LabelChanges
 pub mod Listed

@@ -7,7 +7,6 @@ use Rattle.std.specs.List.{sum}
 use Rattle.std.proofs.lemmas.Bool.{cases_lt, eq-eqb, eqb-true}
 use Rattle.std.proofs.lemmas.List.{ext_get_or, get_or-append_right, get_or_append_left, get_or_past, length-take}
 use Rattle.std.proofs.lemmas.List.FromFn.{get_or-map-range_with_len, length-map-range_with_len}
-use Rattle.std.proofs.lemmas.List.Sums.{sum_by-cons}
 use Rattle.std.proofs.lemmas.Nat.Bits.{bit_at-lt, bit_at-zero}
 use Rattle.lf_semantics.specs.ClassRows.{Sets, emptied, holds, is_live, normalized}
 use Rattle.lf_semantics.specs.Environments.{IsRow, Leq}
@@ -19,7 +18,7 @@ use Rattle.lf_semantics.proofs.RowSets.{count_at, emptied_dead}
 use Rattle.lf_classes.specs.RowWords.{WordLeq, WordsLeq, in_order, row_of_words, row_word, word_count, words_of_row}
 use Rattle.lf_classes.specs.views.Bits.{bit, bits_of}
 use Rattle.lf_classes.specs.views.Cut.{cut, start}
-use Rattle.lf_classes.proofs.Cutting.{holds-cut, length-cut, shape_cut, start_within}
+use Rattle.lf_classes.proofs.Cutting.{holds-cut, length-cut, shape_cut, start_within, sum_cons}
 use Rattle.lf_classes.proofs.RowWords.{bit_number, bit_row_word, emptied_in_order}
 use Rattle.lf_classes.proofs.WordLists.{get_bits, length_bits}
 
@@ -53,9 +52,6 @@ pub bits_of_leq : (a b : ℕ) → WordLeq a b → (i : ℕ) → bit a i ≡ true
 bits_of_leq a b leq i on = eq-eqb (bit_at b i) 1 (omega (arith, leq i, eqb-true (bit_at a i) 1 on, bit_at-lt b i))
 
 -- sets in order
-
-sum_cons : (n : ℕ) (ns : List ℕ) → sum (n ∷ ns) ≡ n + sum ns
-sum_cons n ns = sum_by-cons (λ x. x) n ns
 
 pub length-in_order : (row : Sets) → length (in_order row) ≡ sum (map length row)
 length-in_order [] = refl

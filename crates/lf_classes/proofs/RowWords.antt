@@ -5,11 +5,11 @@ use Rattle.std.specs.Int.{bit_at}
 use Rattle.std.specs.List.{sum}
 use Rattle.std.proofs.lemmas.Grind.{pow_more}
 use Rattle.std.proofs.lemmas.List.{get_or-take, get_or-drop, length-take, same_lists, take-append-drop}
-use Rattle.std.proofs.lemmas.List.Sums.{sum_by-cons}
 use Rattle.std.proofs.lemmas.Nat.Bits.{bit_at-lt, bit_at-suc, bit_at-zero, bit_at_lowest, same_from_bits_below}
 use Rattle.lf_semantics.specs.ClassRows.{Sets, emptied}
 use Rattle.lf_classes.specs.RowWords.{in_order, number_of, row_word, words_for}
 use Rattle.lf_classes.specs.views.Bits.{bit, bits_of}
+use Rattle.lf_classes.proofs.Cutting.{sum_cons}
 use Rattle.lf_classes.proofs.WordLists.{get_bits, length_bits}
 use Rattle.lf_classes.specs.views.Cut.{cut}
 
@@ -41,9 +41,6 @@ number_below zero (on ∷ bits) h = absurd (omega arith)
 number_below (suc n) [] h = omega (arith, twice n, number_below n [] (omega arith))
 number_below (suc n) (on ∷ bits) h = omega (arith, twice n, digit on, number_below n bits (omega arith))
 
-pub word_below : (row : Sets) (k : ℕ) → row_word row k < 2 ^ 64
-word_below row k = number_below 64 (take 64 (drop (64 * k) (in_order row))) (omega (arith, length-take 64 (drop (64 * k) (in_order row))))
-
 same_digit : (x y : ℕ) → x < 2 → y < 2 → eqb x 1 ≡ eqb y 1 → x ≡ y
 same_digit zero zero h k e = refl
 same_digit zero (suc zero) h k e = absurd (cc)
@@ -68,9 +65,6 @@ pub bit_row_word : (row : Sets) (k i : ℕ) → i < 64 → bit (row_word row k) 
 bit_row_word row k i h = bit_part (in_order row) (64 * k) i h
 
 -- the classes of all labels in order
-
-sum_cons : (n : ℕ) (ns : List ℕ) → sum (n ∷ ns) ≡ n + sum ns
-sum_cons n ns = sum_by-cons (λ x. x) n ns
 
 nothing : (bits : List Bool) → length bits ≡ 0 → [] ≡ bits
 nothing [] h = refl

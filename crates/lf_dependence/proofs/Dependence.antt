@@ -11,15 +11,14 @@ use Rattle.lf_ast.specs.Tree.{Tree, Trees, Number, Str, Selector, Subquery, Pare
 use Rattle.lf_ast.specs.declared.expr.Grouping.TheVariants.{None as Ungrouped}
 use Rattle.lf_ast.specs.declared.expr.Matcher.{Matcher}
 use Rattle.lf_semantics.specs.Parts.{is_scalar_part}
+use Rattle.lf_semantics.proofs.SelectorsRepresent.{selected_name_is}
 use Rattle.lf_witness.specs.Strict.{AreSelected, ArgumentStrictlyEvaluates, IsSet, StrictlyEvaluates}
 use Rattle.lf_witness.specs.StrictRuns.{IsStrictAnswer}
-use Rattle.lf_witness.proofs.SameSamples.{Into}
+use Rattle.lf_witness.proofs.SameSamples.{Into, binary_into, call_into, sign_into}
 use Rattle.lf_deps.specs.Reading.{selectors, selectors_in, arguments_selectors, Reads}
 use Rattle.lf_shown.specs.Agreement.{AgreeOn, Names}
-use Rattle.lf_shown.proofs.Selectors.{said_is}
 use Rattle.lf_dependence.specs.Dependence.{DependsOnRead, DependsOnOwn, EachSaysName, OwnNames}
 use Rattle.lf_dependence.proofs.NamesSaid.{each_says}
-use Rattle.lf_dependence.proofs.Operands.{of_call, of_sides, of_sign}
 use Rattle.lf_dependence.proofs.Scalars.{of_scalar}
 
 module _ (W V : List Labels) where
@@ -44,8 +43,8 @@ module _ (W V : List Labels) where
   of_selector : (name : Option Bytes) (matchers : List Matcher) → IsAgreed (selected_name name matchers) → Into (IsSet (AreSelected W name matchers)) (IsSet (AreSelected V name matchers))
   of_selector name matchers agreed None is = is
   of_selector name matchers (said, says, same) (Some R) is = (
-    λ s c named passes. is.0 s ((same s (said_is name matchers s said named passes says)).1 c) named passes,
-    λ s c. let found = is.1 s c in ((same s (said_is name matchers s said found.1 found.2 says)).0 found.0, found.1, found.2),
+    λ s c named passes. is.0 s ((same s (selected_name_is name matchers s said named passes says)).1 c) named passes,
+    λ s c. let found = is.1 s c in ((same s (selected_name_is name matchers s said found.1 found.2 says)).0 found.0, found.1, found.2),
   )
 
   -- nothing need agree for a scalar
@@ -63,13 +62,13 @@ module _ (W V : List Labels) where
     carries (Selector name matchers sight span) agreed = of_selector name matchers (agreed (selected_name name matchers) (here (selected_name name matchers) []))
     carries (Subquery of sight span) agreed = of_part of (carries of) agreed
     carries (Paren of span) agreed = of_part of (carries of) agreed
-    carries (Unary minus of span) agreed = of_sign (StrictlyEvaluates W of) (StrictlyEvaluates V of) (of_part of (carries of) agreed) minus
+    carries (Unary minus of span) agreed = sign_into (StrictlyEvaluates W of) (StrictlyEvaluates V of) (of_part of (carries of) agreed) minus
     carries (Binary op m left right span) agreed =
-        of_sides op m (StrictlyEvaluates W left) (StrictlyEvaluates V left) (StrictlyEvaluates W right) (StrictlyEvaluates V right)
+        binary_into op m (StrictlyEvaluates W left) (StrictlyEvaluates V left) (StrictlyEvaluates W right) (StrictlyEvaluates V right)
         (of_part left (carries left) (agreed_front (selectors left) (selectors right) agreed)) (of_part right (carries right) (agreed_back (selectors left) (selectors right) agreed))
         (is_scalar_part left) (is_scalar_part right)
-    carries (Call name args span) agreed = of_call (function_named name) Ungrouped args (ArgumentStrictlyEvaluates W args) (ArgumentStrictlyEvaluates V args) (carries_argument args agreed)
-    carries (Aggregate op grouping args span) agreed = of_call (Some (aggregation op)) grouping args (ArgumentStrictlyEvaluates W args) (ArgumentStrictlyEvaluates V args) (carries_argument args agreed)
+    carries (Call name args span) agreed = call_into (function_named name) Ungrouped args (ArgumentStrictlyEvaluates W args) (ArgumentStrictlyEvaluates V args) (carries_argument args agreed)
+    carries (Aggregate op grouping args span) agreed = call_into (Some (aggregation op)) grouping args (ArgumentStrictlyEvaluates W args) (ArgumentStrictlyEvaluates V args) (carries_argument args agreed)
 
     carries_argument : (args : Trees) → AreAgreed (arguments_selectors args) → (k : ℕ) → Into (ArgumentStrictlyEvaluates W args k) (ArgumentStrictlyEvaluates V args k)
     carries_argument Nil agreed k = λ o is. is

@@ -1,4 +1,3 @@
-pub mod Operands
 pub mod Scalars
 pub mod NamesSaid
 pub mod Dependence

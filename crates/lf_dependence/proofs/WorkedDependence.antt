@@ -19,7 +19,7 @@ use Rattle.lf_semantics.proofs.Written.{asks, between, call, matching, record_ru
 use Rattle.lf_witness.specs.Ascending.{IsAscending}
 use Rattle.lf_witness.specs.Strict.{StrictlyEvaluates}
 use Rattle.lf_witness.specs.StrictRuns.{IsStrictAnswer}
-use Rattle.lf_witness.proofs.AscendingLists.{ascends_behind}
+use Rattle.lf_witness.proofs.AscendingLists.{alone_ascends}
 use Rattle.lf_deps.specs.Reading.{Reads}
 use Rattle.lf_open.specs.Constructs.{SaysNoName}
 use Rattle.lf_open.specs.Standing.{standing}
@@ -42,9 +42,6 @@ job = codes "job"
 -- `{job="a"}`, which leaves the metric name open
 abbrev nameless : Tree
 nameless = selects None (asks job Equal (codes "a") ∷ []) (sight None None)
-
-one_ascends : (s : Labels) → IsAscending (s ∷ [])
-one_ascends s = ascends_behind s [] (λ i j t u less first second. absurd (cc)) (λ t c. absurd (none_in t c))
 
 foo_is_no_bar : codes "foo" ≢ codes "bar"
 foo_is_no_bar e = true≢false (sym (same_true (codes "foo") (codes "bar") e))
@@ -126,7 +123,7 @@ module _ (x b z : Labels) (x_is : value_of x metric ≡ codes "foo") (b_is : val
   -- over the one samples the answer is the sample of foo
   gives_guarded : IsStrictAnswer W guarded (Some (x ∷ []))
   unfolding function_named functions
-  gives_guarded = (inr (x ∷ [], gives_foo, inr (b ∷ [], gives_bar, (λ s c partner. c, λ s c. (c, (b, here b [], alike s b))))), one_ascends x)
+  gives_guarded = (inr (x ∷ [], gives_foo, inr (b ∷ [], gives_bar, (λ s c partner. c, λ s c. (c, (b, here b [], alike s b))))), alone_ascends x)
 
   -- and so it is over the other, by the law
   gives_guarded_too : IsStrictAnswer V guarded (Some (x ∷ []))
@@ -160,7 +157,7 @@ module _ (x z : Labels) (x_is : value_of x metric ≡ codes "a:foo") (z_is : val
   )
 
   gives_recorded : IsStrictAnswer (x ∷ []) recorded (Some (x ∷ []))
-  gives_recorded = ((λ s c named passes. c, λ s c. (c, subst (λ t. value_of t metric ≡ codes "a:foo") (only_one x s c) x_is, tt)), one_ascends x)
+  gives_recorded = ((λ s c named passes. c, λ s c. (c, subst (λ t. value_of t metric ≡ codes "a:foo") (only_one x s c) x_is, tt)), alone_ascends x)
 
   gives_recorded_too : IsStrictAnswer (x ∷ z ∷ []) recorded (Some (x ∷ []))
   gives_recorded_too = (depends_on_own (recording_rule ∷ []) recorded recorded_says (x ∷ []) (x ∷ z ∷ []) agree_on_recorded (Some (x ∷ []))).0 gives_recorded
@@ -188,7 +185,7 @@ abbrev more : Labels
 more = of_name (codes "bar")
 
 gives_nameless : IsStrictAnswer (one ∷ []) nameless (Some (one ∷ []))
-gives_nameless = ((λ s c named passes. c, λ s c. (c, tt, (subst (λ t. value_of t job ≡ codes "a") (only_one one s c) (has_job (codes "foo")), tt))), one_ascends one)
+gives_nameless = ((λ s c named passes. c, λ s c. (c, tt, (subst (λ t. value_of t job ≡ codes "a") (only_one one s c) (has_job (codes "foo")), tt))), alone_ascends one)
 
 needs_names : DependsOnlyOn (Reads [] nameless) nameless → ⊥
 needs_names depends =

@@ -5,9 +5,9 @@ use Rattle.std.specs.List.{Contains, filter}
 use Rattle.std.specs.Str.{bytes_eq}
 use Rattle.std.proofs.lemmas.List.Filters.{length-filter_more}
 use Rattle.std.proofs.lemmas.Option.{get_or_from_slice_get, slice_get_within}
+use Rattle.lf_laws.proofs.Slices.{member_at}
 use Rattle.lf_ast.specs.Labels.{Bytes}
 use Rattle.lf_ast.specs.Rules.{RuleTree}
-use Rattle.lf_deps.proofs.Numbered.{at_number}
 use Rattle.lf_semantics.specs.Environments.{recorded_names}
 use Rattle.lf_semantics.specs.Listing.{place}
 use Rattle.lf_semantics.proofs.Places.{place_test}
@@ -36,7 +36,7 @@ module _ (rules : List RuleTree) (names : List Bytes) (are : names ≡ recorded_
       let up = more k h in
       let step = length-filter_more (records (get_or names k [])) rules i r within in
       let one : ◌≡◌ {A = ℕ} (cond (not r.alert && eqb (place names r.name) k) 1 0) (cond (records (get_or names k []) (get_or rules i r)) 1 0) =
-      ap (λ (b : Bool). cond b 1 0) (counted r k (at_number rules i r at) h ∙ ap (records (get_or names k [])) (sym (get_or_from_slice_get rules i r r at))) in
+      ap (λ (b : Bool). cond b 1 0) (counted r k (member_at rules i r at) h ∙ ap (records (get_or names k [])) (sym (get_or_from_slice_get rules i r r at))) in
       up ∙ ap (λ (n : ℕ). n + cond (not r.alert && eqb (place names r.name) k) 1 0) was ∙ ap (λ (n : ℕ). count_at (take i rules) k + n) one ∙ sym step
 
 -- lists that agree at each place

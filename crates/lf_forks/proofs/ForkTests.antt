@@ -1,18 +1,21 @@
 -- A test of selectors tells which expressions hold a fork.
 use Rattle.std.proofs.Common.{inl, inr, ◌≡◌, Bool, true, false, not, ◌&&◌, ◌||◌, cond, List, [], ◌∷◌, ◌++◌, Option, Some, None, refl, sym, ◌∙◌, ap, subst, true≢false}
 use Rattle.std.specs.List.{Contains, list_any}
-use Rattle.lf_laws.proofs.Members.{behind, here}
+use Rattle.std.proofs.Math.Bool.{or_assoc}
+use Rattle.std.proofs.lemmas.Bool.{or_right}
+use Rattle.std.proofs.lemmas.List.Folds.{list_any-append}
+use Rattle.lf_laws.proofs.Booleans.{or_false}
+use Rattle.lf_laws.proofs.Members.{any_has, some_has}
 use Rattle.lf_ast.specs.Labels.{Bytes}
 use Rattle.lf_ast.specs.Rules.{RuleTree}
 use Rattle.lf_ast.specs.Selectors.{selected_name}
 use Rattle.lf_ast.specs.Tree.{Tree, Trees, Number, Str, Selector, Subquery, Paren, Unary, Binary, Call, Aggregate, Nil, Next}
 use Rattle.lf_semantics.specs.Parts.{is_scalar_part}
+use Rattle.lf_semantics.proofs.Recorded.{recorded}
 use Rattle.lf_deps.specs.Reading.{Reads, arguments_selectors, outside_scalars, selectors, selectors_in}
 use Rattle.lf_deps.specs.Reading.Reads.{selected, through}
 use Rattle.lf_trials.specs.Forks.{HoldsFork, TellsForks, fork_in, fork_in_arguments, has_own_fork, is_forked_selector, is_or, unless_scalar}
-use Rattle.lf_trials.proofs.MadeSeries.{any_has}
 use Rattle.lf_forks.specs.views.ForkTests.{IsForkRule, SelectsFork, TellsSelectors, has_passing, passes_in, passes_in_arguments}
-use Rattle.lf_forks.proofs.Recorded.{named}
 
 -- a fork of its own is a selector that passes that test, or one that tells the same
 
@@ -58,18 +61,6 @@ module _ (test : Option Bytes → Bool) where
   or_split false true false d = refl
   or_split false false c d = refl
 
-  or_behind : (o a b : Bool) → (o || (a || b)) ≡ ((o || a) || b)
-  or_behind true a b = refl
-  or_behind false a b = refl
-
-  any_append : (xs ys : List (Option Bytes)) → list_any test (xs ++ ys) ≡ (list_any test xs || list_any test ys)
-  any_append [] ys = refl
-  any_append (x ∷ xs) ys = ap (λ (b : Bool). test x || b) (any_append xs ys) ∙ or_behind (test x) (list_any test xs) (list_any test ys)
-
-  or_nothing : (b : Bool) → b ≡ (b || false)
-  or_nothing true = refl
-  or_nothing false = refl
-
   part : (e : Tree) → Passes e → unless_scalar e (passes_in test e) ≡ (unless_scalar e (passes_in none e) || list_any test (outside_scalars e (selectors_in e)))
   part e is = by (is_scalar_part e)
     where
@@ -83,8 +74,8 @@ module _ (test : Option Bytes → Bool) where
       ap (λ (z : Bool). o || (z || b)) p
       ∙ ap (λ (z : Bool). o || ((unless_scalar x (passes_in none x) || list_any test xs) || z)) q
       ∙ ap (λ (z : Bool). o || z) (or_split (unless_scalar x (passes_in none x)) (list_any test xs) (unless_scalar y (passes_in none y)) (list_any test ys))
-      ∙ or_behind o (unless_scalar x (passes_in none x) || unless_scalar y (passes_in none y)) (list_any test xs || list_any test ys)
-      ∙ ap (λ (z : Bool). (o || (unless_scalar x (passes_in none x) || unless_scalar y (passes_in none y))) || z) (sym (any_append xs ys))
+      ∙ sym (or_assoc o (unless_scalar x (passes_in none x) || unless_scalar y (passes_in none y)) (list_any test xs || list_any test ys))
+      ∙ ap (λ (z : Bool). (o || (unless_scalar x (passes_in none x) || unless_scalar y (passes_in none y))) || z) (sym (list_any-append test xs ys))
 
   one_more : (x : Tree) (xs : List (Option Bytes)) (a b c : Bool) → (a ≡ (unless_scalar x (passes_in none x) || list_any test (outside_scalars x (selectors_in x)))) → (b ≡ (c || list_any test xs))
       → (a || b) ≡ ((unless_scalar x (passes_in none x) || c) || list_any test (outside_scalars x (selectors_in x) ++ xs))
@@ -92,13 +83,13 @@ module _ (test : Option Bytes → Bool) where
       ap (λ (z : Bool). z || b) p
       ∙ ap (λ (z : Bool). (unless_scalar x (passes_in none x) || list_any test (outside_scalars x (selectors_in x))) || z) q
       ∙ or_split (unless_scalar x (passes_in none x)) (list_any test (outside_scalars x (selectors_in x))) c (list_any test xs)
-      ∙ ap (λ (z : Bool). (unless_scalar x (passes_in none x) || c) || z) (sym (any_append (outside_scalars x (selectors_in x)) xs))
+      ∙ ap (λ (z : Bool). (unless_scalar x (passes_in none x) || c) || z) (sym (list_any-append test (outside_scalars x (selectors_in x)) xs))
 
   mutual
     split_in : (e : Tree) → Passes e
     split_in (Number text span) = refl
     split_in (Str text span) = refl
-    split_in (Selector name matchers sight span) = or_nothing _
+    split_in (Selector name matchers sight span) = sym (or_false _)
     split_in (Subquery of sight span) = part of (split_in of)
     split_in (Paren of span) = part of (split_in of)
     split_in (Unary minus of span) = part of (split_in of)
@@ -116,14 +107,6 @@ module _ (test : Option Bytes → Bool) where
   pub split : (e : Tree) → has_passing test e ≡ (has_passing none e || list_any test (selectors e))
   split e = part e (split_in e)
 
-some_has : {X : Type 0} (test : X → Bool) (xs : List X) → list_any test xs ≡ true → (x : X) × Contains xs x × (test x ≡ true)
-some_has test [] e = absurd (true≢false (sym e))
-some_has {X = X} test (y ∷ xs) e = by (test y) refl (some_has test xs) e
-  where
-    by : (b : Bool) → test y ≡ b → (list_any test xs ≡ true → (x : X) × Contains xs x × (test x ≡ true)) → (b || list_any test xs) ≡ true → (x : X) × Contains (y ∷ xs) x × (test x ≡ true)
-    by true is later h = (y, here y xs, is)
-    by false is later h = let rest = later h in (rest.0, behind y xs rest.0 rest.1, rest.2)
-
 -- so a test of selectors that tells forks tells which expressions hold one
 
 module _ (rules : List RuleTree) (test : Option Bytes → Bool) (tells : TellsSelectors rules test) where
@@ -132,10 +115,6 @@ module _ (rules : List RuleTree) (test : Option Bytes → Bool) (tells : TellsSe
 
   has : (e : Tree) → (has_passing none e || list_any test (selectors e)) ≡ true → has_passing test e ≡ true
   has e h = split test e ∙ h
-
-  or_right : (a b : Bool) → b ≡ true → (a || b) ≡ true
-  or_right true b e = refl
-  or_right false b e = e
 
   a_selector : (e : Tree) (o : Option Bytes) → Contains (selectors e) o → SelectsFork rules o → has_passing test e ≡ true
   a_selector e o c is = has e (or_right (has_passing none e) (list_any test (selectors e)) (any_has test (selectors e) o c ((tells o).1 is)))
@@ -162,7 +141,7 @@ module _ (rules : List RuleTree) (test : Option Bytes → Bool) (tells : TellsSe
   -- and one that passes holds a fork
 
   selected_fork : (e : Tree) (o : Option Bytes) → Contains (selectors e) o → SelectsFork rules o → HoldsFork rules e
-  selected_fork e None c (r, fork) = inr (r, fork.rule, (fork.recording, selected (inr (c, named rules r fork.rule fork.recording))), fork.fork)
+  selected_fork e None c (r, fork) = inr (r, fork.rule, (fork.recording, selected (inr (c, recorded rules r fork.rule fork.recording))), fork.fork)
   selected_fork e (Some name) c (inl several) = inl (own_fork rules e ∙ split own e ∙ or_right (has_passing none e) (list_any own (selectors e)) (any_has own (selectors e) (Some name) c several))
   selected_fork e (Some name) c (inr (r, fork, inl same)) = inr (r, fork.rule, (fork.recording, selected (inl (subst (λ n. Contains (selectors e) (Some n)) (sym same) c))), fork.fork)
   selected_fork e (Some name) c (inr (r, fork, inr (s, there, (recording, same), reads))) =

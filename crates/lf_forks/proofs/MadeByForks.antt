@@ -8,15 +8,17 @@ use Rattle.lf_ast.specs.Tree.{Tree}
 use Rattle.lf_deps.specs.Reading.{Reads, SelectsBy, selectors}
 use Rattle.lf_deps.specs.Reading.Reads.{selected, through}
 use Rattle.lf_deps.specs.views.Links.{source_of}
+use Rattle.lf_deps.proofs.Ordered.{named_source, source_named}
 use Rattle.lf_graph.specs.Paths.{IsGraph, IsReached, Leads, after}
 use Rattle.lf_graph.specs.Paths.Leads.{along, nowhere}
 use Rattle.lf_graph.proofs.Paths.{by_edge}
 use Rattle.lf_semantics.specs.Environments.{recorded_names}
 use Rattle.lf_semantics.specs.Listing.{place}
 use Rattle.lf_semantics.proofs.Places.{same_text}
+use Rattle.lf_semantics.proofs.Recorded.{recorded}
 use Rattle.lf_forks.specs.views.ForkTests.{IsForkRule, IsMadeByFork}
 use Rattle.lf_forks.specs.views.Uses.{AreUses}
-use Rattle.lf_forks.proofs.Recorded.{named, named_source, placed, source_named}
+use Rattle.lf_forks.proofs.Recorded.{placed}
 
 module _ (rules : List RuleTree) (names : List Bytes) (are : names ≡ recorded_names rules) where
   -- what a selector selects is made by a fork
@@ -52,7 +54,7 @@ module _ (rules : List RuleTree) (names : List Bytes) (are : names ≡ recorded_
           ]
 
       reads_fork : (s : RuleTree) (o : Option Bytes) → Contains (selectors s.expr) o → IsMade o → (r : RuleTree) × IsForkRule rules r × Reads rules s.expr r.name
-      reads_fork s None c (r, fork) = (r, fork, selected (inr (c, named rules r fork.rule fork.recording)))
+      reads_fork s None c (r, fork) = (r, fork, selected (inr (c, recorded rules r fork.rule fork.recording)))
       reads_fork s (Some name) c (r, fork, inl same) = (r, fork, selected (inl (subst (λ n. Contains (selectors s.expr) (Some n)) (sym same) c)))
       reads_fork s (Some name) c (r, fork, inr (t, there, (recording, same), rest)) =
           (r, fork, through t there recording (inl (subst (λ n. Contains (selectors s.expr) (Some n)) (sym same) c)) rest)

@@ -2,7 +2,7 @@
 use Rattle.std.proofs.Common.{◌≡◌, ◌<◌, ◌≤◌, ◌+◌, ◌⊎◌, ◌↔◌, ℕ, Bool, true, false, not, List, [], ◌∷◌, ◌++◌, take, length, get_or, replicate, Some, inl, inr, refl, sym, ◌∙◌, ap, subst, arith, true≢false}
 use Rattle.std.specs.Prelude.{slice_get, slice_set}
 use Rattle.std.specs.List.{Contains, flat_map}
-use Rattle.std.proofs.lemmas.Bool.{cases_eq, cases_lt}
+use Rattle.std.proofs.lemmas.Bool.{cases_eq, cases_lt, not-true}
 use Rattle.std.proofs.lemmas.Grind.{flat_map-append}
 use Rattle.std.proofs.lemmas.List.{append-nil, get_or-replicate, get_or-set_other, get_or-set_same, get_or_past, length-replicate, length-set, take_more}
 use Rattle.std.proofs.lemmas.List.Elements.{Contains-append_cases, Contains-append_left, Contains-append_right}
@@ -18,15 +18,6 @@ use Rattle.lf_semantics.specs.Listing.{place}
 use Rattle.lf_forks.specs.views.Uses.{AreUses, IsUse, Marks, Puts}
 
 -- numbers that are put into lists
-
-pub puts_none : (put : Bool) (number : ℕ) (lists : List (List ℕ)) → Puts put [] number lists lists
-puts_none put number lists = record { count = refl; members = λ v u. (λ c. inl c, λ s. elim s [ inl c ↦ c | inr d ↦ absurd (none_in v d.1) ]) }
-
-pub puts_not : (put : Bool) → put ≡ false → (nodes : List ℕ) (number : ℕ) (lists : List (List ℕ)) → Puts put nodes number lists lists
-puts_not put off nodes number lists = record {
-  count = refl;
-  members = λ v u. (λ c. inl c, λ s. elim s [ inl c ↦ c | inr d ↦ absurd (true≢false (sym d.0 ∙ off)) ]);
-}
 
 pub puts_one : (node number : ℕ) (lists after : List (List ℕ)) → node < length lists → after ≡ put_at lists node number → Puts true (node ∷ []) number lists after
 puts_one node number lists after within is = record {
@@ -117,7 +108,7 @@ uses_then rules names r a b is puts = record {
   members = λ v u. (
     λ c. elim ((puts.members v u).0 c) [
       | inl d ↦ let was = (is.members v u).0 d in (was.0, Contains-append_left rules (r ∷ []) was.0 was.1, was.2)
-      | inr d ↦ (r, Contains-append_right rules (r ∷ []) r (here r []), (recording r.alert d.0, d.2, d.1))
+      | inr d ↦ (r, Contains-append_right rules (r ∷ []) r (here r []), (not-true r.alert d.0, d.2, d.1))
     ],
     λ it. (puts.members v u).1 (elim (Contains-append_cases rules (r ∷ []) it.0 it.1) [
       | inl c ↦ inl ((is.members v u).1 (it.0, c, it.2))
@@ -125,10 +116,6 @@ uses_then rules names r a b is puts = record {
     ]),
   );
 }
-  where
-    recording : (b : Bool) → not b ≡ true → b ≡ false
-    recording true e = sym e
-    recording false e = refl
 
 pub uses_next : (rules : List RuleTree) (names : List Bytes) (i : ℕ) (r : RuleTree) (a b : List (List ℕ)) → slice_get rules i ≡ Some r → AreUses (take i rules) names a
     → Puts (not r.alert) (flat_map (source_of names) (selectors r.expr)) (place names r.name) a b → AreUses (take (i + 1) rules) names b
@@ -138,27 +125,6 @@ uses_next rules names i r a b at is puts =
     subst P (sym more) (uses_then (take i rules) names r a b is puts)
 
 -- places that are marked
-
-pub marks_none : (marks : List Bool) → Marks [] marks marks
-marks_none marks = record { count = refl; marked = λ k h. (λ e. inl e, λ s. elim s [ inl e ↦ e | inr c ↦ absurd (none_in k c) ]) }
-
-pub marks_past : (node : ℕ) (marks : List Bool) → length marks ≤ node → Marks (node ∷ []) marks marks
-marks_past node marks past = record { count = refl; marked = λ k h. (λ e. inl e, λ s. elim s [ inl e ↦ e | inr c ↦ let e = only_one node k c in absurd (omega (arith, e, past, h)) ]) }
-
-pub marks_one : (node : ℕ) (marks after : List Bool) → node < length marks → after ≡ slice_set marks node true → Marks (node ∷ []) marks after
-marks_one node marks after within is = record {
-  count = ap length is ∙ length-set marks node true;
-  marked = λ k h. elim (cases_eq k node) [
-    | inl e ↦
-        let now : get_or after node false ≡ true = ap (λ (l : List Bool). get_or l node false) is ∙ get_or-set_same marks node true false within in
-        let P : ℕ → Type 0 = λ j. get_or after j false ≡ true in
-        let Q : ℕ → Type 0 = λ j. Contains (node ∷ []) j in
-        (λ t. inr (subst Q (sym e) (here node [])), λ s. subst P (sym e) now)
-    | inr n ↦
-        let still : get_or after k false ≡ get_or marks k false = ap (λ (l : List Bool). get_or l k false) is ∙ get_or-set_other marks node k true false n in
-        (λ t. inl (sym still ∙ t), λ s. elim s [ inl t ↦ still ∙ t | inr c ↦ absurd (n (sym (only_one node k c))) ])
-  ];
-}
 
 pub marks_then : (xs ys : List ℕ) (a b c : List Bool) → Marks xs a b → Marks ys b c → Marks (xs ++ ys) a c
 marks_then xs ys a b c g h = record {

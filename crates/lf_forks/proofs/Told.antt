@@ -19,7 +19,8 @@ use Rattle.lf_forks.specs.views.Holding.{Forks, test_of}
 use Rattle.lf_forks.specs.views.Uses.{AreOwn, AreUses, Marks, fork_nodes}
 use Rattle.lf_forks.proofs.ForkTests.{own_fork_by}
 use Rattle.lf_forks.proofs.MadeByForks.{IsStart, all_reached, made_reached, reached_made}
-use Rattle.lf_forks.proofs.Recorded.{named_source, placed, several_placed}
+use Rattle.lf_forks.proofs.Recorded.{placed, several_placed}
+use Rattle.lf_deps.proofs.Ordered.{named_source}
 
 module _ (rules : List RuleTree) (own : Forks) (is : AreOwn rules own) where
   -- the forks of the rules' own expressions are found

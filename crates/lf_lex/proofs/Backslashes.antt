@@ -6,10 +6,11 @@ use Rattle.std.proofs.lemmas.Str.{IsUtf8-append, IsUtf8-encode, IsUtf8-drop, enc
 use Rattle.std.specs.List.{flat_map, AllByRecursion}
 use Rattle.std.specs.Str.{IsUtf8, IsCharBoundary}
 use lib.Utf8.{encode, encodes, scalar, scalars}
-use Rattle.lf_lex.specs.Strings.{IsQuote, byte_of_letter, hexadecimal_value, octal_value, Tell, IsEscape, a_letter, the_quote, octal_byte, hexadecimal_byte, short_character, long_character, Piece, Bare, Escape, piece_text, meant, IsPiece}
+use Rattle.lf_lex.specs.Strings.{IsQuote, byte_of_letter, octal_value, Tell, IsEscape, a_letter, the_quote, octal_byte, hexadecimal_byte, short_character, long_character, Piece, Bare, Escape, piece_text, meant, IsPiece}
 use Rattle.lf_lex.specs.Parts.{IsLongest}
 use Rattle.lf_lex.specs.Breaches.{BeginsNoEscape}
 use Rattle.lf_lex.proofs.Options.{none_some}
+use Rattle.lf_base.specs.Names.{hexadecimal_value}
 
 abbrev AreHigh : List ℕ → Type 0
 AreHigh bs = AllByRecursion (λ b. 128 ≤ b) bs

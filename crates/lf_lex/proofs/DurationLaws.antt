@@ -1,7 +1,7 @@
 -- The reading of runs is the grammar of durations.
 use Rattle.std.proofs.Common.{◌≡◌, ℕ, zero, suc, ◌+◌, ◌<◌, ◌≤◌, Bool, true, false, ◌&&◌, cond, eqb, leb, List, [], ◌∷◌, ◌++◌, map, Option, Some, None, length, get_or, take, drop, refl, ap, arith, append_assoc, sym, ◌∙◌, subst, ◌⊎◌, inl, inr, length-drop}
 use Rattle.std.proofs.lemmas.Option.{same_Some}
-use Rattle.std.proofs.lemmas.Bool.{ne_eqb, cases_lt, false≢true, and_parts}
+use Rattle.std.proofs.lemmas.Bool.{ne_eqb, cases_lt, false≢true, and_parts, le-leb}
 use Rattle.std.proofs.lemmas.Bool.Decides.{eqb_tells, nat_tests}
 use Rattle.std.proofs.lemmas.List.{take-append-drop}
 use Rattle.std.proofs.lemmas.List.Concat.{flat_map-cons}
@@ -216,12 +216,9 @@ rise_climb least (p ∷ q ∷ places) h =
     below : (p q : ℕ) → leb (suc p) q ≡ true → p < q
     below p q h = grind (arith, nat_tests)
 
-leb_of : (m n : ℕ) → m ≤ n → leb m n ≡ true
-leb_of m n h = grind (arith, nat_tests)
-
 climb_from : (least p : ℕ) (places : List ℕ) → least ≤ p → Climb (p ∷ places) → rise least (p ∷ places) ≡ true
-climb_from least p [] le h = rw (leb_of least p le) refl
-climb_from least p (q ∷ places) le h = rw (leb_of least p le) (climb_from (suc p) q places h.0 h.1)
+climb_from least p [] le h = rw (le-leb least p le) refl
+climb_from least p (q ∷ places) le h = rw (le-leb least p le) (climb_from (suc p) q places h.0 h.1)
 
 climb_rise : (places : List ℕ) → Climb places → rise 0 places ≡ true
 climb_rise [] h = refl

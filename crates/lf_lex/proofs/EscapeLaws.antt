@@ -5,8 +5,8 @@ use Rattle.std.proofs.lemmas.Bool.{false≢true, ne_eqb, eq-eqb, ltb-true, lt-lt
 use Rattle.std.proofs.lemmas.Bool.Decides.{eqb_tells, nat_tests}
 use Rattle.std.specs.Char.{IsScalar}
 use Rattle.lf_lex.specs.Bytes.{is_octal}
-use Rattle.lf_base.specs.Names.{is_digit}
-use Rattle.lf_lex.specs.Strings.{IsQuote, byte_of_letter, hexadecimal_value, octal_value, Tell, IsEscape, a_letter, the_quote, octal_byte as octal_escape, hexadecimal_byte, short_character, long_character}
+use Rattle.lf_base.specs.Names.{is_digit, hexadecimal_value}
+use Rattle.lf_lex.specs.Strings.{IsQuote, byte_of_letter, octal_value, Tell, IsEscape, a_letter, the_quote, octal_byte as octal_escape, hexadecimal_byte, short_character, long_character}
 use Rattle.lf_lex.specs.reading.Strings.{both, two_digits, four_digits, eight_digits, octal_byte, is_scalar, as_byte, as_character, escape}
 use Rattle.lf_lex.proofs.Options.{none_some}
 

@@ -4,6 +4,7 @@ use Rattle.std.proofs.lemmas.List.{take_at, drop_at}
 use Rattle.std.proofs.lemmas.Str.{IsUtf8-drop, IsUtf8-take, IsCharBoundary-before_ascii, IsCharBoundary-after_ascii}
 use Rattle.std.specs.List.{flat_map}
 use Rattle.std.specs.Str.{IsUtf8}
+use Rattle.std.proofs.lemmas.List.Concat.{flat_map-append}
 use Rattle.lf_base.specs.declared.kind.Kind.{Kind}
 use Rattle.lf_base.specs.declared.kind.Kind.TheVariants.{BadEscape}
 use Rattle.lf_lex.specs.Strings.{IsQuote, Piece, Bare, Escape, piece_text, meant}
@@ -37,10 +38,6 @@ wrong_slash : (quote : ℕ) (inner xs rest : List ℕ) → inner ≡ xs ++ rest 
 wrong_slash quote inner xs [] e w = absurd w
 wrong_slash quote inner xs (b ∷ rest) e w = slash_behind inner xs rest (e ∙ ap (λ (x : ℕ). xs ++ x ∷ rest) w.0)
 
-flat_append : (f : Piece → List ℕ) (ps qs : List Piece) → flat_map f (ps ++ qs) ≡ flat_map f ps ++ flat_map f qs
-flat_append f [] qs = refl
-flat_append f (p ∷ ps) qs = ap (λ (x : List ℕ). f p ++ x) (flat_append f ps qs) ∙ sym (append_assoc (f p) (flat_map f ps) (flat_map f qs))
-
 abbrev tail_of : List ℕ → List ℕ
 tail_of [] = []
 tail_of (b ∷ bs) = bs
@@ -55,7 +52,7 @@ module _ (quote : ℕ) (q : IsQuote quote) (inner : List ℕ) (u : IsUtf8 inner)
       IsLongest IsUtf8 (flat_map meant before ++ front) (byte ∷ (back ++ flat_map meant later)) → IsSlash inner (length (flat_map piece_text before))
   piece_slash before (Escape tail bytes) later rest front byte back r m longest =
       slash_behind inner (flat_map piece_text before) ((tail ++ flat_map piece_text later) ++ rest)
-      (r.source ∙ ap (λ (x : List ℕ). x ++ rest) (flat_append piece_text before (Escape tail bytes ∷ later)) ∙ append_assoc (flat_map piece_text before) (92 ∷ (tail ++ flat_map piece_text later)) rest)
+      (r.source ∙ ap (λ (x : List ℕ). x ++ rest) (flat_map-append piece_text before (Escape tail bytes ∷ later)) ∙ append_assoc (flat_map piece_text before) (92 ∷ (tail ++ flat_map piece_text later)) rest)
   piece_slash before (Bare b) later rest [] byte back r m longest =
       let byte_is : byte ≡ b = sym (ap first m) in
       let none : back ≡ [] = sym (ap tail_of m) in

@@ -1,7 +1,7 @@
 -- Blanks, comments, words, signs, strings in back quotes and unknown characters at the front of a text.
 use Rattle.std.proofs.Common.{◌≡◌, ◌≢◌, ℕ, zero, suc, ◌+◌, ◌-◌, ◌<◌, ◌≤◌, Bool, true, false, not, eqb, ltb, List, [], ◌∷◌, ◌++◌, length, take, drop, Option, Some, None, refl, ap, arith, append_assoc, append-nil, sym, ◌∙◌, subst, ◌⊎◌, inl, inr, length-append, length-take-le, take-append-drop}
 use Rattle.std.proofs.lemmas.List.{take_at}
-use Rattle.std.proofs.lemmas.Bool.{cases_lt, and_parts, or_from, false≢true, false_from_ne_true, ne_eqb, eqb-true, lt-ltb, le-ltb}
+use Rattle.std.proofs.lemmas.Bool.{cases_lt, and_parts, or_from, false≢true, false_from_ne_true, ne_eqb, eqb-true, lt-ltb, le-ltb, not-false}
 use Rattle.std.specs.List.{prefix_len, list_all}
 use Rattle.lf_base.specs.declared.kind.Kind.TheVariants.{BadByte, OpenString}
 use Rattle.lf_lex.specs.declared.token.Sign.{Sign}
@@ -31,11 +31,7 @@ comment_stops (b ∷ rest) h = ap not h
 
 comment_ends : (rest : List ℕ) → Stops is_no_line_break rest → EndsComment rest
 comment_ends [] h = tt
-comment_ends (b ∷ rest) h = not-false' (is_line_break b) h
-  where
-    not-false' : (t : Bool) → not t ≡ false → t ≡ true
-    not-false' true h = refl
-    not-false' false h = absurd (false≢true (sym h))
+comment_ends (b ∷ rest) h = not-false (is_line_break b) h
 
 hash_no_break : is_no_line_break 35 ≡ true
 unfolding is_line_break
@@ -190,13 +186,9 @@ module _ (inside : Bool) where
           fails OpenString 0 1 (refl, refl, open_back_quotes src refl (subst (λ (x : List ℕ). Each is_no_back_quote x) (sym all) (row_all is_no_back_quote src)))
       by (b ∷ rest) e h =
           let s : is_no_back_quote b ≡ false = rw e at h in
-          let q : b ≡ 96 = eqb-true b 96 (not_false (eqb b 96) s) in
+          let q : b ≡ 96 = eqb-true b 96 (not-false (eqb b 96) s) in
           let whole : 96 ∷ src ≡ (96 ∷ (value ++ 96 ∷ [])) ++ rest = ap (λ (x : List ℕ). 96 ∷ x) (sym (take-append-drop (prefix_len is_no_back_quote src) src) ∙ ap (λ (x : List ℕ). value ++ x) (e ∙ ap (λ (x : ℕ). x ∷ rest) q) ∙ sym (append_assoc value (96 ∷ []) rest)) in
           stands (Written (kinds.Str value) (96 ∷ (value ++ 96 ∷ []))) rest whole (in_back_quotes refl (row_all is_no_back_quote src))
-        where
-          not_false : (t : Bool) → not t ≡ false → t ≡ true
-          not_false true h = refl
-          not_false false h = absurd (false≢true (sym h))
 
   module _ (b : ℕ) (src : List ℕ) (blank : is_blank b ≡ false) (hash : b ≢ 35) (word : begins_word inside b ≡ false) (run : begins_run (b ∷ src) ≡ false) (double : b ≢ 34) (single : b ≢ 39) (back : b ≢ 96) where
     colon_inside : (t : Bool) → inside ≡ t → b ≡ 58 → t ≡ true

@@ -1,8 +1,8 @@
 -- What stands between quotes is read as pieces, as far as its escapes are right.
 use Rattle.std.proofs.Common.{◌≡◌, ℕ, zero, suc, ◌+◌, ◌/◌, ◌%◌, ◌<◌, ◌≤◌, Bool, true, false, cond, eqb, ltb, List, [], ◌∷◌, ◌++◌, take, drop, Option, Some, None, length, refl, ap, arith, append_assoc, sym, ◌∙◌, subst, ◌⊎◌, inl, inr, length-drop}
 use Rattle.std.proofs.lemmas.Option.{same_Some}
-use Rattle.std.proofs.lemmas.Bool.{and_parts}
-use Rattle.std.proofs.lemmas.Bool.Decides.{eqb_tells, nat_tests}
+use Rattle.std.proofs.lemmas.Bool.{and_parts, ltb-true}
+use Rattle.std.proofs.lemmas.Bool.Decides.{eqb_tells}
 use Rattle.std.proofs.lemmas.List.{take-append-drop}
 use Rattle.std.proofs.lemmas.List.{length-take-le}
 use Rattle.std.specs.List.{flat_map, AllByRecursion}
@@ -14,37 +14,27 @@ use Rattle.lf_lex.specs.reading.Strings.{both, two_digits, four_digits, eight_di
 use Rattle.lf_lex.specs.Strings.{byte_of_letter}
 use Rattle.lf_lex.proofs.ValueLaws.{IsRead, bytes_first, value_one}
 use Rattle.lf_lex.proofs.Options.{none_some}
+use Rattle.lf_laws.proofs.Members.{all_append}
 
 -- ---- no UTF-8 has the byte 255
 
 abbrev pub AreBytes : List ℕ → Type 0
 AreBytes bs = AllByRecursion (λ b. b < 255) bs
 
-both_bytes : (xs ys : List ℕ) → AreBytes xs → AreBytes ys → AreBytes (xs ++ ys)
-both_bytes [] ys a b = b
-both_bytes (x ∷ xs) ys a b = (a.0, both_bytes xs ys a.1 b)
-
-pub later_bytes : (xs ys : List ℕ) → AreBytes (xs ++ ys) → AreBytes ys
-later_bytes [] ys a = a
-later_bytes (x ∷ xs) ys a = later_bytes xs ys a.1
-
-below : (c n : ℕ) → ltb c n ≡ true → c < n
-below c n h = grind (arith, nat_tests)
-
 one_character : (c : ℕ) → c < 1114112 → AreBytes (encode c)
 unfolding encode
 one_character c lt = one (ltb c 128) refl
   where
     three : (t : Bool) → ltb c 65536 ≡ t → AreBytes (cond t ((224 + c / 4096) ∷ (128 + c / 64 % 64) ∷ (128 + c % 64) ∷ []) ((240 + c / 262144) ∷ (128 + c / 4096 % 64) ∷ (128 + c / 64 % 64) ∷ (128 + c % 64) ∷ []))
-    three true e = let l = below c 65536 e in (omega arith, (omega arith, (omega arith, tt)))
+    three true e = let l = ltb-true c 65536 e in (omega arith, (omega arith, (omega arith, tt)))
     three false e = (omega arith, (omega arith, (omega arith, (omega arith, tt))))
 
     two : (t : Bool) → ltb c 2048 ≡ t → AreBytes (cond t ((192 + c / 64) ∷ (128 + c % 64) ∷ []) (cond (ltb c 65536) ((224 + c / 4096) ∷ (128 + c / 64 % 64) ∷ (128 + c % 64) ∷ []) ((240 + c / 262144) ∷ (128 + c / 4096 % 64) ∷ (128 + c / 64 % 64) ∷ (128 + c % 64) ∷ [])))
-    two true e = let l = below c 2048 e in (omega arith, (omega arith, tt))
+    two true e = let l = ltb-true c 2048 e in (omega arith, (omega arith, tt))
     two false e = three (ltb c 65536) refl
 
     one : (t : Bool) → ltb c 128 ≡ t → AreBytes (cond t (c ∷ []) (cond (ltb c 2048) ((192 + c / 64) ∷ (128 + c % 64) ∷ []) (cond (ltb c 65536) ((224 + c / 4096) ∷ (128 + c / 64 % 64) ∷ (128 + c % 64) ∷ []) ((240 + c / 262144) ∷ (128 + c / 4096 % 64) ∷ (128 + c / 64 % 64) ∷ (128 + c % 64) ∷ []))))
-    one true e = let l = below c 128 e in (omega arith, tt)
+    one true e = let l = ltb-true c 128 e in (omega arith, tt)
     one false e = two (ltb c 2048) refl
 
 characters : (cs : List ℕ) → scalars cs ≡ true → AreBytes (encodes cs)
@@ -52,7 +42,7 @@ characters [] h = tt
 characters (c ∷ cs) h =
     let b = and_parts (scalar c) (scalars cs) h in
     let small : c < 1114112 = elim (scalar_cases c b.0) [ inl l ↦ omega arith | inr l ↦ l.1 ] in
-    both_bytes (encode c) (encodes cs) (one_character c small) (characters cs b.1)
+    all_append (λ b. b < 255) (encode c) (encodes cs) (one_character c small) (characters cs b.1)
 
 pub utf8_bytes : (bs : List ℕ) → IsUtf8 bs → AreBytes bs
 utf8_bytes bs (cs, u) = subst AreBytes u.1 (characters cs u.0)

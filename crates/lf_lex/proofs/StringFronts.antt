@@ -6,6 +6,7 @@ use Rattle.std.proofs.lemmas.Bool.{ne_eqb, eq-eqb}
 use Rattle.std.specs.List.{flat_map, AllByRecursion}
 use Rattle.std.specs.Str.{IsUtf8}
 use Rattle.std.specs.Str.Lossy.{utf8_valid_len}
+use Rattle.std.proofs.lemmas.List.Concat.{flat_map-append}
 use Rattle.lf_base.specs.declared.kind.Kind.TheVariants.{OpenString, BadEscape}
 use Rattle.lf_lex.specs.declared.token.TokenKind.TheVariants as kinds
 use Rattle.lf_lex.specs.Strings.{IsQuote, Raw, raw, IsRaw, IsInner, IsEscape, Piece, Bare, Escape, piece_text, meant, IsPiece, HasValue}
@@ -22,6 +23,7 @@ use Rattle.lf_lex.proofs.Given.{places-past, places-here}
 use Rattle.lf_lex.proofs.Fronts.{value_utf8, value_wrong}
 use Rattle.lf_lex.proofs.Dispatch.{front_quoted}
 use Rattle.lf_lex.proofs.Options.{none_some}
+use Rattle.lf_laws.proofs.Members.{all_front, all_back}
 
 pub quote_no_slash : (q : ℕ) → IsQuote q → q ≢ 92
 quote_no_slash q (inl e) f = absurd (omega (arith, e, f))
@@ -150,18 +152,6 @@ module _ (quote : ℕ) (q : IsQuote quote) where
 
   -- ---- an escape that is wrong
 
-  pub flat_append : (f : Piece → List ℕ) (ps qs : List Piece) → flat_map f (ps ++ qs) ≡ flat_map f ps ++ flat_map f qs
-  flat_append f [] qs = refl
-  flat_append f (p ∷ ps) qs = ap (λ (x : List ℕ). f p ++ x) (flat_append f ps qs) ∙ sym (append_assoc (f p) (flat_map f ps) (flat_map f qs))
-
-  front_all : (ps qs : List Piece) → AllByRecursion (IsRead quote) (ps ++ qs) → AllByRecursion (IsRead quote) ps
-  front_all [] qs h = tt
-  front_all (p ∷ ps) qs h = (h.0, front_all ps qs h.1)
-
-  back_all : (ps qs : List Piece) → AllByRecursion (IsRead quote) (ps ++ qs) → AllByRecursion (IsRead quote) qs
-  back_all [] qs h = h
-  back_all (p ∷ ps) qs h = back_all ps qs h.1
-
   -- the value is no UTF-8, and the byte with which it ceases to be that has this place
   pub record WrongValue (inner : List ℕ) (place : ℕ) : Type 0 where
     pub not_utf : IsUtf8 (value_of quote inner) → ⊥
@@ -198,17 +188,17 @@ module _ (quote : ℕ) (q : IsQuote quote) where
       let good = flat_map meant before ++ front in
       let more = byte ∷ (back ++ flat_map meant later) in
       let all : flat_map meant (before ++ p ∷ later) ≡ good ++ more =
-      flat_append meant before (p ∷ later) ∙ ap (λ (x : List ℕ). flat_map meant before ++ (x ++ flat_map meant later)) m ∙ ap (λ (x : List ℕ). flat_map meant before ++ x) (append_assoc front (byte ∷ back) (flat_map meant later)) ∙ sym (append_assoc (flat_map meant before) front more) in
+      flat_map-append meant before (p ∷ later) ∙ ap (λ (x : List ℕ). flat_map meant before ++ (x ++ flat_map meant later)) m ∙ ap (λ (x : List ℕ). flat_map meant before ++ x) (append_assoc front (byte ∷ back) (flat_map meant later)) ∙ sym (append_assoc (flat_map meant before) front more) in
       let value : value_of quote inner ≡ good ++ (more ++ tail) =
       ap (value_of quote) r.source ∙ pieces_value quote (before ++ p ∷ later) rest each ∙ ap (λ (x : List ℕ). x ++ tail) all ∙ append_assoc good more tail in
       let text : inner ≡ flat_map piece_text before ++ (piece_text p ++ (flat_map piece_text later ++ rest)) =
-      r.source ∙ ap (λ (x : List ℕ). x ++ rest) (flat_append piece_text before (p ∷ later)) ∙ append_assoc (flat_map piece_text before) (piece_text p ++ flat_map piece_text later) rest
+      r.source ∙ ap (λ (x : List ℕ). x ++ rest) (flat_map-append piece_text before (p ∷ later)) ∙ append_assoc (flat_map piece_text before) (piece_text p ++ flat_map piece_text later) rest
       ∙ ap (λ (x : List ℕ). flat_map piece_text before ++ x) (append_assoc (piece_text p) (flat_map piece_text later) rest) in
       let n_is : length (flat_map meant before) + length front ≡ length good = sym (length-append (flat_map meant before) front) in
       let lm = ap length m ∙ length-append front (byte ∷ back) in
-      let h = back_all before (p ∷ later) each in
+      let h = all_back (IsRead quote) before (p ∷ later) each in
       wrong_value_by inner (length (flat_map piece_text before)) (length (flat_map meant before) + length front) good more tail value longest (tail_is rest r.stops) (omega arith) n_is
-      (sym (place_in before p (flat_map piece_text later ++ rest) (length front) (front_all before (p ∷ later) each) h.0 (omega arith)) ∙ ap (λ (x : List ℕ). get_or (places_of (gives quote 0 0 x)) (length (flat_map meant before) + length front) 0) (sym text))
+      (sym (place_in before p (flat_map piece_text later ++ rest) (length front) (all_front (IsRead quote) before (p ∷ later) each) h.0 (omega arith)) ∙ ap (λ (x : List ℕ). get_or (places_of (gives quote 0 0 x)) (length (flat_map meant before) + length front) 0) (sym text))
 
   wrong_at : (inner : List ℕ) (place : ℕ) → IsWrongAt quote inner place → WrongValue inner place
   wrong_at inner place (no_escape pieces rest r w u e) = subst (WrongValue inner) (sym e) (wrong_escape inner pieces rest r w u)

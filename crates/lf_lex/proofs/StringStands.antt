@@ -7,6 +7,7 @@ use Rattle.std.proofs.lemmas.List.{drop_more, take_at, drop_at}
 use Rattle.std.specs.List.{flat_map, AllByRecursion}
 use Rattle.std.specs.Str.{IsUtf8}
 use Rattle.std.specs.Str.Lossy.{utf8_valid_len}
+use Rattle.std.proofs.lemmas.List.Concat.{flat_map-append}
 use Rattle.lf_base.specs.declared.kind.Kind.TheVariants.{OpenString, BadEscape}
 use Rattle.lf_lex.specs.declared.token.TokenKind.TheVariants as kinds
 use Rattle.lf_lex.specs.Strings.{IsQuote, Raw, One, Pair, raw, IsRaw, IsInner, Piece, piece_text, meant, in_quotes}
@@ -17,7 +18,7 @@ use Rattle.lf_lex.proofs.Longest.{greatest_longest}
 use Rattle.lf_lex.proofs.Quotes.{closes_told}
 use Rattle.lf_lex.proofs.PieceLaws.{IsReadWrong, ReadTo, read_to}
 use Rattle.lf_lex.proofs.Utf8Fronts.{utf8_greatest}
-use Rattle.lf_lex.proofs.StringFronts.{quote_no_slash, flat_append, read_all, read_wrong}
+use Rattle.lf_lex.proofs.StringFronts.{quote_no_slash, read_all, read_wrong}
 use Rattle.lf_lex.proofs.Standing.{Standing, stands, fails}
 use Rattle.lf_lex.proofs.Options.{none_some}
 
@@ -172,7 +173,7 @@ module _ (quote : ℕ) (q : IsQuote quote) (inside : Bool) (src inner rest : Lis
         let good = flat_map meant f.before ++ f.front in
         let more = f.byte ∷ (f.back ++ flat_map meant f.later) in
         let all : v ≡ good ++ more =
-        ap (flat_map meant) f.split ∙ flat_append quote q meant f.before (f.piece ∷ f.later) ∙ ap (λ (x : List ℕ). flat_map meant f.before ++ (x ++ flat_map meant f.later)) f.gave
+        ap (flat_map meant) f.split ∙ flat_map-append meant f.before (f.piece ∷ f.later) ∙ ap (λ (x : List ℕ). flat_map meant f.before ++ (x ++ flat_map meant f.later)) f.gave
         ∙ ap (λ (x : List ℕ). flat_map meant f.before ++ x) (append_assoc f.front (f.byte ∷ f.back) (flat_map meant f.later)) ∙ sym (append_assoc (flat_map meant f.before) f.front more) in
         let len : length good ≡ n = length-append (flat_map meant f.before) f.front ∙ sym f.n_is in
         let front : take n v ≡ good = ap (take n) all ∙ take_at good more n len in

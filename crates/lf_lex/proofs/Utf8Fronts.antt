@@ -7,7 +7,8 @@ use Rattle.std.specs.Str.{IsUtf8, is_utf8, IsValidUpTo}
 use Rattle.std.specs.Str.Lossy.{utf8_valid_len, valid_len_up_to}
 use Rattle.lf_lex.specs.Parts.{IsLongest}
 use Rattle.lf_lex.proofs.Longest.{Greatest, take_on}
-use Rattle.lf_lex.proofs.PieceLaws.{utf8_bytes, later_bytes}
+use Rattle.lf_lex.proofs.PieceLaws.{utf8_bytes}
+use Rattle.lf_laws.proofs.Members.{all_back}
 
 -- ---- the length of the longest front
 
@@ -50,7 +51,7 @@ pub data Tail (tail : List ℕ) : Type 0 where
   wrong_tail : (more : List ℕ) → tail ≡ 255 ∷ more → Tail tail
 
 no_255 : (xs more : List ℕ) → IsUtf8 (xs ++ 255 ∷ more) → ⊥
-no_255 xs more u = let a = later_bytes xs (255 ∷ more) (utf8_bytes (xs ++ 255 ∷ more) u) in let c : 255 < 255 = a.0 in omega arith
+no_255 xs more u = let a = all_back (λ b. b < 255) xs (255 ∷ more) (utf8_bytes (xs ++ 255 ∷ more) u) in let c : 255 < 255 = a.0 in omega arith
 
 module _ (good rest tail : List ℕ) (longest : IsLongest IsUtf8 good rest) (is_tail : Tail tail) (some : 0 < length rest + length tail) where
   past : (m k : ℕ) → m ≡ length good + k → 0 < k → (k ≤ length rest) ⊎ (length rest < k) → IsUtf8 (take m (good ++ (rest ++ tail))) → ⊥

@@ -14,11 +14,11 @@ use Rattle.lf_lex.specs.declared.token.Token.{Token}
 use Rattle.lf_lex.specs.declared.token.TokenKind.{TokenKind}
 use Rattle.lf_lex.specs.declared.token.TokenKind.TheVariants as kinds
 use Rattle.lf_lex.specs.Bytes.{is_dot, is_exponent, is_plus_minus, is_in_run, is_in_mantissa, is_blank, is_octal, begins_word, is_in_word, is_line_break}
-use Rattle.lf_base.specs.Names.{is_letter, is_digit, is_hexadecimal, begins_label}
+use Rattle.lf_base.specs.Names.{is_letter, is_digit, is_hexadecimal, begins_label, hexadecimal_value}
 use Rattle.lf_lex.specs.Signs.{spelling}
 use Rattle.lf_lex.specs.Runs.{begins_run, IsRun, IsNumber, lower_x, no_dot, one_dot, no_exponent, unsigned_exponent, signed_exponent, hexadecimal_number, decimal_number}
 use Rattle.lf_lex.specs.Durations.{Hours, Minutes, Seconds, Amount, AreAmounts, IsDuration, IsDisordered}
-use Rattle.lf_lex.specs.Strings.{IsString, in_quotes, in_back_quotes, One, Pair, IsRaw, Escape, Bare, byte_of_letter, hexadecimal_value, hexadecimal_byte}
+use Rattle.lf_lex.specs.Strings.{IsString, in_quotes, in_back_quotes, One, Pair, IsRaw, Escape, Bare, byte_of_letter, hexadecimal_byte}
 use Rattle.lf_lex.specs.Parts.{IsLongest, IsWord, IsSomeSign, Blank, Comment, Written, IsPart}
 use Rattle.lf_lex.specs.Breaches.{BeginsNothing, in_quotes as open_quotes, line_ends, BeginsNoEscape, no_escape, no_utf8}
 use Rattle.lf_lex.specs.Tokens.{Tokens, Breaks}

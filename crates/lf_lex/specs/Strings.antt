@@ -4,6 +4,7 @@ use Rattle.std.specs.List.{flat_map, AllByRecursion}
 use Rattle.std.specs.Char.{IsScalar}
 use Rattle.std.specs.Str.{IsUtf8}
 use Rattle.lf_lex.specs.Bytes.{Each, is_no_back_quote}
+use Rattle.lf_base.specs.Names.{hexadecimal_value}
 
 -- the quotes " and '
 abbrev pub IsQuote : ℕ → Type 0
@@ -37,11 +38,6 @@ pub record IsInner (quote : ℕ) (inner : List ℕ) : Type 0 where
 unfoldable pub byte_of_letter : ℕ → Option ℕ
 byte_of_letter e =
     if e == 97 then Some 7 else if e == 98 then Some 8 else if e == 102 then Some 12 else if e == 110 then Some 10 else if e == 114 then Some 13 else if e == 116 then Some 9 else if e == 118 then Some 11 else if e == 92 then Some 92 else None
-
--- what a digit is worth
-unfoldable pub hexadecimal_value : ℕ → Option ℕ
-hexadecimal_value b =
-    if nat_le 48 b && nat_le b 57 then Some (b - 48) else if nat_le 65 b && nat_le b 70 then Some (b - 55) else if nat_le 97 b && nat_le b 102 then Some (b - 87) else None
 
 unfoldable pub octal_value : ℕ → Option ℕ
 octal_value b = if nat_le 48 b && nat_le b 55 then Some (b - 48) else None

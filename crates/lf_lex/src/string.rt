@@ -1,13 +1,13 @@
 //! Strings in quotes: where they close, and what their escapes give.
 ghost use Rattle.std.specs.Prelude.{◌≡◌, ℕ, ◌+◌, ◌≤◌, ◌<◌, ◌^◌, ◌++◌, length, drop, take, Option, Some, None, IfSome, IfOk, OnOk, encode_utf8, slice_index, not, ◌&&◌, ◌==◌};
-ghost use Rattle.lf_lex.specs.Strings.{byte_of_letter, hexadecimal_value};
+ghost use Rattle.lf_lex.specs.Strings.{byte_of_letter};
 ghost use Rattle.lf_lex.specs.reading.Strings as strings;
 ghost use Rattle.lf_lex.specs.reading.Escapes.{told_of, given_by};
 
 use crate::bytes::is_octal;
 use lf_base::Memory;
 use lf_base::bytes::after;
-use lf_base::names::is_digit;
+use lf_base::names::{hexadecimal_value, is_digit};
 use std::alloc::Global;
 
 /// How many bytes stand before the quote that closes, where one does on the line.
@@ -55,19 +55,6 @@ fn byte_of_letter(letter: u8) -> Option<u8>
         b't' => Some(9),
         b'v' => Some(11),
         b'\\' => Some(92),
-        _ => None,
-    }
-}
-
-#[tactic(auto, unfolding(crate::specs::Strings::hexadecimal_value))]
-fn hexadecimal_value(byte: u8) -> Option<u8>
-    ensures value { result ≡ hexadecimal_value byte }
-    ensures small { IfSome result (λ n. n < 16) }
-{
-    match byte {
-        b'0'..=b'9' => Some(byte - 48),
-        b'A'..=b'F' => Some(byte - 55),
-        b'a'..=b'f' => Some(byte - 87),
         _ => None,
     }
 }

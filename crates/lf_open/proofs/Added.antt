@@ -56,9 +56,3 @@ some_more {X} is xs i d old mid new lt a b =
       | inl c ↦ inl (h.0, c, h.2)
       | inr e ↦ inr (subst (λ (x : X). is x o) (sym e) h.2)
     ]
-
--- ---- what a call that succeeds has done
-
-pub on_ok : {X E : Type 0} (P Q : Type 0) (r : Result X E) → (P → Q) → OnOk r P → OnOk r Q
-on_ok P Q (Ok x) go p = go p
-on_ok P Q (Err e) go p = p

@@ -2,7 +2,7 @@
 use Rattle.std.proofs.Common.{◌≡◌, ◌⊎◌, ◌↔◌, inl, inr, ℕ, Bool, true, false, true≢false, cond, ◌&&◌, ◌||◌, IsTrue, List, [], ◌∷◌, ◌++◌, map, Option, Some, None, refl, sym, ap, ◌∙◌, subst}
 use Rattle.std.proofs.lemmas.List.Elements.{Contains-append_cases, Contains-append_left, Contains-append_right}
 use Rattle.std.specs.List.{Contains, list_any}
-use Rattle.lf_laws.proofs.Members.{behind, here, in_map, map_member, none_in, only_one}
+use Rattle.lf_laws.proofs.Members.{any_has, behind, here, in_map, map_member, none_in, only_one, some_has}
 use Rattle.lf_base.specs.declared.place.Span.{Span}
 use Rattle.lf_ast.specs.Labels.{Bytes}
 use Rattle.lf_ast.specs.Rules.{RuleTree}
@@ -15,7 +15,6 @@ use Rattle.lf_ast.specs.declared.functions.LabelEffect.{LabelEffect}
 use Rattle.lf_ast.specs.declared.functions.LabelEffect.TheVariants.{Absent, Bare, CountValues, Date, Groups, HistogramQuantile, Keeps, LabelJoin, LabelReplace, Maps}
 use Rattle.lf_forks.specs.views.ForkTests.{TellsSelectors}
 use Rattle.lf_forks.specs.views.Holding.{test_of}
-use Rattle.lf_trials.proofs.MadeSeries.{any_has}
 use Rattle.lf_trials.specs.Forks.{HoldsFork, is_or}
 use Rattle.lf_open.specs.Constructs.{AreVectors, IsArgument, IsLoudOr, IsLoudUnless, IsQuantileOfFork, IsQuantileOfNamed, JoinsFork, ReadInCommon, SharesMetric, effect_of}
 use Rattle.lf_open.specs.Holding.{CannotBeSilent, NamesLe, arguments_of, has_own_source, names_le}
@@ -30,7 +29,6 @@ use Rattle.lf_open.specs.views.Sides.{is_unless}
 use Rattle.lf_open.specs.views.Told.{Facts, are_vectors, call_opens, joins, opened, own_opens, shares, told}
 use Rattle.lf_open.proofs.Beneath.{either_tells}
 use Rattle.lf_open.proofs.ByOperator.{joins_by, or_by, unless_by}
-use Rattle.lf_open.proofs.Held.{some_has}
 use Rattle.lf_open.proofs.OwnOpens.{bucket_is, fork_is, loud_is, vectors_are}
 use Rattle.lf_open.proofs.ToldLaws.{parts_told}
 

@@ -1,19 +1,18 @@
 -- Rules that pass a test, or read a rule that does.
 use Rattle.std.proofs.Common.{◌≡◌, ◌+◌, ◌<◌, ◌≤◌, ◌⊎◌, ◌↔◌, inl, inr, ℕ, Bool, true, false, true≢false, ◌||◌, List, [], ◌∷◌, ◌++◌, length, get_or, Some, refl, sym, ap, ◌∙◌, arith, slice_get, map}
 use Rattle.std.proofs.Math.Seq.{get_or-append_seam}
-use Rattle.std.proofs.lemmas.Bool.{cases_lt}
+use Rattle.std.proofs.lemmas.Bool.{cases_lt, or_cases, or_left, or_right}
 use Rattle.std.proofs.lemmas.List.{get_or_append_left}
 use Rattle.std.proofs.lemmas.Option.{get_or_from_slice_get, slice_get-get_or, slice_get-map, slice_get_within}
 use Rattle.std.specs.Prelude.{option_map}
 use Rattle.std.specs.List.{Contains, list_any}
+use Rattle.lf_laws.proofs.Members.{any_has, some_has}
 use Rattle.lf_ast.specs.Rules.{RuleTree, rule_tree, rule_trees}
 use Rattle.lf_ast.specs.declared.rule.Rule.{Rule}
 use Rattle.lf_deps.proofs.RuleTrees.{map_trees}
 use Rattle.lf_deps.specs.Reading.{Reaches}
-use Rattle.lf_trials.proofs.MadeSeries.{any_has}
 use Rattle.lf_open.specs.views.Choosing.{ArePassing, TellsRead}
 use Rattle.lf_open.specs.views.Marks.{AreChosenBy}
-use Rattle.lf_open.proofs.Held.{some_has}
 
 -- of the rules reached one passes
 pub tells_read : (rules : List RuleTree) (of_rule : RuleTree → Bool) (passing : List Bool) → ArePassing rules of_rule passing → (i : ℕ) (found : List ℕ)
@@ -42,18 +41,6 @@ ChosenUpTo rules of_rule i found =
     (k : ℕ) (r : RuleTree) → k < i → slice_get rules k ≡ Some r → (get_or found k false ≡ true) ↔ ((of_rule r ≡ true) ⊎ ((s : RuleTree) × Contains rules s × Reaches rules r.expr s × (of_rule s ≡ true)))
 
 module _ (rules : List RuleTree) (of_rule : RuleTree → Bool) (passing : List Bool) (are : ArePassing rules of_rule passing) where
-  or_cases : (a b : Bool) → (a || b) ≡ true → (a ≡ true) ⊎ (b ≡ true)
-  or_cases true b e = inl refl
-  or_cases false b e = inr e
-
-  or_left : (a b : Bool) → a ≡ true → (a || b) ≡ true
-  or_left true b e = refl
-  or_left false b e = absurd (true≢false (sym e))
-
-  or_right : (a b : Bool) → b ≡ true → (a || b) ≡ true
-  or_right true b e = refl
-  or_right false b e = e
-
   pub chosen_more : (i : ℕ) (old new : List Bool) (on reads : Bool) → length old ≡ i → on ≡ get_or passing i false → TellsRead rules of_rule i reads → new ≡ old ++ (on || reads) ∷ [] → ChosenUpTo rules of_rule i old
       → ChosenUpTo rules of_rule (i + 1) new
   chosen_more i old new on reads count is tells e upto k r less at = by (cases_lt k i)

@@ -1,14 +1,15 @@
 -- Marks tell what expressions hold, in themselves or in the rules that they read.
 use Rattle.std.proofs.Common.{◌≡◌, ◌⊎◌, ◌↔◌, inl, inr, Bool, true, false, true≢false, cond, ◌||◌, List, [], ◌∷◌, ◌++◌, Option, Some, None, length, nat_eq, refl, sym, ap, ap₂, ◌∙◌, subst}
 use Rattle.std.proofs.Math.Dec.{eqb-suc-zero}
-use Rattle.std.proofs.lemmas.List.{append_assoc}
 use Rattle.std.specs.List.{Contains, flat_map, list_any}
-use Rattle.lf_laws.proofs.Members.{behind, here, in_flat_map, none_in, of_flat_map, only_one}
+use Rattle.lf_laws.proofs.Members.{any_has, behind, here, in_flat_map, none_in, of_flat_map, only_one, some_has}
 use Rattle.lf_ast.specs.Labels.{Bytes}
 use Rattle.lf_ast.specs.Rules.{RuleTree}
 use Rattle.lf_ast.specs.Selectors.{selected_name}
 use Rattle.lf_ast.specs.Tree.{Tree, Trees, Number, Str, Selector, Subquery, Paren, Unary, Binary, Call, Aggregate, Nil, Next, tree, trees}
 use Rattle.std.specs.Borrow.{Bor}
+use Rattle.std.proofs.lemmas.Grind.{flat_map-append}
+use Rattle.std.proofs.lemmas.Bool.{or_cases, or_left, or_right}
 use Rattle.lf_ast.specs.declared.expr.Expr.{Expr}
 use Rattle.lf_ast.specs.views.Walks.{trees_at}
 use Rattle.lf_semantics.specs.Parts.{is_scalar_part}
@@ -16,17 +17,12 @@ use Rattle.lf_deps.specs.Reading.{Reads, SelectsBy, arguments_selectors, outside
 use Rattle.lf_deps.specs.Reading.Reads.{selected, through}
 use Rattle.lf_deps.specs.views.Search.{ReadsBy}
 use Rattle.lf_deps.specs.views.Selecting.{own_selectors}
-use Rattle.lf_trials.proofs.MadeSeries.{any_has}
 use Rattle.lf_open.specs.Holding.{Holds, has_no_argument, is_source, matches_le}
 use Rattle.lf_open.specs.Standing.{arguments_standing, standing, standing_in, unless_scalar}
 use Rattle.lf_open.specs.views.Marks.{Marks, TellsReading, has_mark, marks_tree}
 use Rattle.lf_open.specs.views.Speaking.{AreSpeaking, speaks}
 
 -- the selectors of an expression are those that stand in it
-
-flat_append : (xs ys : List Tree) → flat_map own_selectors (xs ++ ys) ≡ flat_map own_selectors xs ++ flat_map own_selectors ys
-flat_append [] ys = refl
-flat_append (x ∷ xs) ys = ap (λ (l : List (Option Bytes)). own_selectors x ++ l) (flat_append xs ys) ∙ sym (append_assoc (own_selectors x) (flat_map own_selectors xs) (flat_map own_selectors ys))
 
 part : (e : Tree) → selectors_in e ≡ flat_map own_selectors (standing_in e) → outside_scalars e (selectors_in e) ≡ flat_map own_selectors (unless_scalar e (standing_in e))
 part e is = by (is_scalar_part e)
@@ -44,27 +40,17 @@ mutual
   within (Paren of span) = part of (within of)
   within (Unary minus of span) = part of (within of)
   within (Binary op m left right span) =
-      ap₂ (λ (l r : List (Option Bytes)). l ++ r) (part left (within left)) (part right (within right)) ∙ sym (flat_append (unless_scalar left (standing_in left)) (unless_scalar right (standing_in right)))
+      ap₂ (λ (l r : List (Option Bytes)). l ++ r) (part left (within left)) (part right (within right)) ∙ sym (flat_map-append own_selectors (unless_scalar left (standing_in left)) (unless_scalar right (standing_in right)))
   within (Call name args span) = within_arguments args
   within (Aggregate op grouping args span) = within_arguments args
 
   within_arguments : (args : Trees) → arguments_selectors args ≡ flat_map own_selectors (arguments_standing args)
   within_arguments Nil = refl
   within_arguments (Next x xs) =
-      ap₂ (λ (l r : List (Option Bytes)). l ++ r) (part x (within x)) (within_arguments xs) ∙ sym (flat_append (unless_scalar x (standing_in x)) (arguments_standing xs))
+      ap₂ (λ (l r : List (Option Bytes)). l ++ r) (part x (within x)) (within_arguments xs) ∙ sym (flat_map-append own_selectors (unless_scalar x (standing_in x)) (arguments_standing xs))
 
 pub selectors_stand : (e : Tree) → selectors e ≡ flat_map own_selectors (standing e)
 selectors_stand e = part e (within e)
-
--- lists
-
-pub some_has : {X : Type 0} (test : X → Bool) (xs : List X) → list_any test xs ≡ true → (x : X) × Contains xs x × (test x ≡ true)
-some_has test [] e = absurd (true≢false (sym e))
-some_has {X = X} test (y ∷ xs) e = by (test y) refl (some_has test xs) e
-  where
-    by : (b : Bool) → test y ≡ b → (list_any test xs ≡ true → (x : X) × Contains xs x × (test x ≡ true)) → (b || list_any test xs) ≡ true → (x : X) × Contains (y ∷ xs) x × (test x ≡ true)
-    by true is later h = (y, here y xs, is)
-    by false is later h = let rest = later h in (rest.0, behind y xs rest.0 rest.1, rest.2)
 
 -- a test of what speaks finds something in what stands in an expression exactly where it does among what speaks there
 pub same_any : (test : Tree → Bool) → ((x : Tree) → test x ≡ true → speaks x ≡ true) → (e : Tree) (found : List Tree) → AreSpeaking e found → list_any test found ≡ list_any test (standing e)
@@ -106,20 +92,6 @@ any_trees test (p ∷ parts) = ap (λ (b : Bool). test (tree p.now) || b) (any_t
 pub no_arguments : (args : List Expr) → nat_eq (length args) 0 ≡ has_no_argument (trees args)
 no_arguments [] = refl
 no_arguments (e ∷ args) = eqb-suc-zero (length args)
-
--- what is held
-
-or_cases : (a b : Bool) → (a || b) ≡ true → (a ≡ true) ⊎ (b ≡ true)
-or_cases true b e = inl refl
-or_cases false b e = inr e
-
-or_left : (a b : Bool) → a ≡ true → (a || b) ≡ true
-or_left true b e = refl
-or_left false b e = absurd (true≢false (sym e))
-
-or_right : (a b : Bool) → b ≡ true → (a || b) ≡ true
-or_right true b e = refl
-or_right false b e = e
 
 -- of one selector of an expression the expression reads what it reads
 selects_by : (rules : List RuleTree) (e : Tree) (o : Option Bytes) (name : Bytes) → Contains (selectors e) o → SelectsBy rules (o ∷ []) name → SelectsBy rules (selectors e) name

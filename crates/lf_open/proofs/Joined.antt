@@ -4,31 +4,14 @@ use Rattle.std.proofs.lemmas.List.{append-nil, append_assoc, take_more}
 use Rattle.std.proofs.lemmas.Option.{slice_get_within}
 use Rattle.std.specs.List.{Contains}
 use Rattle.std.specs.Prelude.{slice_index_or}
-use Rattle.lf_laws.proofs.Members.{behind, here}
+use Rattle.std.proofs.lemmas.List.Elements.{filter-append}
+use Rattle.lf_laws.proofs.Slices.{some_at}
 use Rattle.lf_ast.specs.Rules.{RuleTree}
 use Rattle.lf_deps.specs.Ordering.{without}
 use Rattle.lf_deps.specs.Reading.{Reaches}
 use Rattle.lf_open.specs.OpenList.{AreOpen, AreOpenOf, AreOpenOfEach}
 use Rattle.lf_open.specs.declared.open_at.OpenAt.{OpenAt}
 use Rattle.lf_open.specs.views.Opens.{IsListOf}
-
-pub member_at : (xs : List ℕ) (k d : ℕ) → k < length xs → Contains xs (get_or xs k d)
-member_at [] k d lt = absurd (omega (arith, lt))
-member_at (x ∷ xs) zero d lt = here x xs
-member_at (x ∷ xs) (suc k) d lt = behind x xs (get_or xs k d) (member_at xs k d (omega (arith, lt)))
-
-without_append : (i : ℕ) (xs ys : List ℕ) → without i (xs ++ ys) ≡ without i xs ++ without i ys
-without_append i [] ys = refl
-without_append i (x ∷ xs) ys = by (eqb x i) (without_append i xs ys)
-  where
-    by : (b : Bool) → without i (xs ++ ys) ≡ without i xs ++ without i ys → cond (not b) (x ∷ without i (xs ++ ys)) (without i (xs ++ ys)) ≡ cond (not b) (x ∷ without i xs) (without i xs) ++ without i ys
-    by true rest = rest
-    by false rest = ap (λ (l : List ℕ). x ∷ l) rest
-
-pub some_at : {X : Type 0} (xs : List X) (i : ℕ) → i < length xs → (x : X) × (slice_get xs i ≡ Some x)
-some_at [] i lt = absurd (omega (arith, lt))
-some_at (x ∷ xs) zero lt = (x, refl)
-some_at (x ∷ xs) (suc i) lt = some_at xs i (omega (arith, lt))
 
 module _ (rules : List RuleTree) where
   each_append : (xs ys : List ℕ) (a b : List OpenAt) → AreOpenOfEach rules xs a → AreOpenOfEach rules ys b → AreOpenOfEach rules (xs ++ ys) (a ++ b)
@@ -55,7 +38,7 @@ module _ (rules : List RuleTree) where
   )
     where
       step : without i (take (k + 1) numbers) ≡ without i (take k numbers) ++ without i (n ∷ [])
-      step = ap (without i) (take_more numbers k d lt) ∙ ap (λ (z : ℕ). without i (take k numbers ++ z ∷ [])) (sym at) ∙ without_append i (take k numbers) (n ∷ [])
+      step = ap (without i) (take_more numbers k d lt) ∙ ap (λ (z : ℕ). without i (take k numbers ++ z ∷ [])) (sym at) ∙ filter-append (λ x. not (eqb x i)) (take k numbers) (n ∷ [])
 
   abbrev Members : ℕ → List ℕ → Type 0
   Members i reach = (of : RuleTree) → slice_get rules i ≡ Some of → (k : ℕ) → Contains reach k ↔ ((r : RuleTree) × (slice_get rules k ≡ Some r) × Reaches rules of.expr r)

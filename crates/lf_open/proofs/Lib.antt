@@ -1,4 +1,3 @@
-pub mod Absences
 pub mod Added
 pub mod AllParts
 pub mod Beneath
@@ -6,7 +5,6 @@ pub mod ByOperator
 pub mod ByParts
 pub mod Chosen
 pub mod FirstOfEach
-pub mod Grown
 pub mod Held
 pub mod Joined
 pub mod MarkedNames

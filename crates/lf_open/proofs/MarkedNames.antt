@@ -1,12 +1,14 @@
 -- Marks, rule by rule; and that those of chosen rules tell which selectors read a rule that passes a test.
 use Rattle.std.proofs.Common.{◌≡◌, ◌<◌, ◌≤◌, ◌+◌, ◌⊎◌, inl, inr, ℕ, zero, suc, Bool, true, false, true≢false, not, ◌&&◌, ◌||◌, List, [], ◌∷◌, length, replicate, get_or, Option, Some, None, refl, sym, ap, ◌∙◌, subst, arith, slice_get}
 use Rattle.std.specs.Prelude.{IfOk, Result, Ok, Err}
-use Rattle.std.proofs.lemmas.Bool.{cases_lt}
+use Rattle.std.proofs.lemmas.Bool.{and_from, cases_lt, not-true, not_from_false, or_right}
 use Rattle.std.proofs.lemmas.List.{get_or_past, length-replicate}
 use Rattle.std.proofs.lemmas.Option.{get_or_from_slice_get, slice_get-get_or, slice_get_within}
 use Rattle.std.specs.List.{Contains}
 use Rattle.lf_laws.proofs.Booleans.{and_left, and_right}
 use Rattle.lf_laws.proofs.Members.{here, only_one}
+use Rattle.lf_laws.proofs.Options.{the_same}
+use Rattle.lf_laws.proofs.Slices.{member_at, number_of}
 use Rattle.lf_ast.specs.Labels.{Bytes}
 use Rattle.lf_ast.specs.Rules.{RuleTree}
 use Rattle.lf_deps.specs.Reading.{Reaches, SelectsBy}
@@ -14,12 +16,9 @@ use Rattle.lf_deps.specs.views.Search.{ReadsBy}
 use Rattle.lf_semantics.specs.Environments.{recorded_names}
 use Rattle.lf_semantics.specs.Listing.{place}
 use Rattle.lf_semantics.proofs.Places.{at_place}
-use Rattle.lf_forks.proofs.Recorded.{named, placed}
+use Rattle.lf_forks.proofs.Recorded.{placed}
+use Rattle.lf_semantics.proofs.Recorded.{recorded}
 use Rattle.lf_open.specs.views.Marks.{AreChosenBy, AreMarks, AreMarksUpTo, IsChosen, Marked, Marks, TellsReading}
-
-not_true_false : (b : Bool) → not b ≡ true → b ≡ false
-not_true_false true e = sym e
-not_true_false false e = refl
 
 module _ (rules : List RuleTree) (chosen : List Bool) where
   -- a chosen rule among the first j records the name at the place
@@ -32,15 +31,7 @@ module _ (rules : List RuleTree) (chosen : List Bool) where
 
   module _ (i : ℕ) (r : RuleTree) (at : slice_get rules i ≡ Some r) (on : Bool) (on_is : on ≡ get_or chosen i false) where
     this : (on && not r.alert) ≡ true → IsChosen rules chosen (i + 1) i r
-    this e = record { before = omega arith; at = at; recording = not_true_false r.alert (and_right on (not r.alert) e); picked = sym on_is ∙ and_left on (not r.alert) e }
-
-    same_some : (x y : RuleTree) → Some x ≡ Some y → x ≡ y
-    same_some x y e = ap (λ (o : Option RuleTree). elim o [ None ↦ x | Some z ↦ z ]) e
-
-    both : (a b : Bool) → a ≡ true → b ≡ false → (a && not b) ≡ true
-    both true false e f = refl
-    both true true e f = absurd (true≢false f)
-    both false b e f = absurd (true≢false (sym e))
+    this e = record { before = omega arith; at = at; recording = not-true r.alert (and_right on (not r.alert) e); picked = sym on_is ∙ and_left on (not r.alert) e }
 
     earlier : (k : ℕ) (s : RuleTree) → IsChosen rules chosen (i + 1) k s → IsChosen rules chosen i k s ⊎ (((on && not r.alert) ≡ true) × (r ≡ s))
     earlier k s is = by (cases_lt k i)
@@ -50,8 +41,8 @@ module _ (rules : List RuleTree) (chosen : List Bool) where
         by (inr more) =
             let b = is.before in
             let same : k ≡ i = omega (arith, more, b) in
-            let it : r ≡ s = same_some r s (sym at ∙ ap (slice_get rules) (sym same) ∙ is.at) in
-            inr (both on r.alert (on_is ∙ ap (λ (n : ℕ). get_or chosen n false) (sym same) ∙ is.picked) (ap (λ (z : RuleTree). z.alert) it ∙ is.recording), it)
+            let it : r ≡ s = the_same r s (sym at ∙ ap (slice_get rules) (sym same) ∙ is.at) in
+            inr (and_from on (not r.alert) (on_is ∙ ap (λ (n : ℕ). get_or chosen n false) (sym same) ∙ is.picked) (not_from_false r.alert (ap (λ (z : RuleTree). z.alert) it ∙ is.recording)), it)
 
     pub one_more : (old new : Marks) → AreMarksUpTo rules chosen i old → Marked (on && not r.alert) r.name old new → AreMarksUpTo rules chosen (i + 1) new
     one_more old new are m = record {
@@ -85,21 +76,11 @@ module _ (rules : List RuleTree) (chosen : List Bool) where
         from_without : ((k : ℕ) × (s : RuleTree) × IsChosen rules chosen (i + 1) k s) → new.without_name ≡ true
         from_without (k, s, is) = m.without_name ∙ by (earlier k s is)
           where
-            or_true : (a b : Bool) → b ≡ true → (a || b) ≡ true
-            or_true true b e = refl
-            or_true false b e = e
-
             by : IsChosen rules chosen i k s ⊎ (((on && not r.alert) ≡ true) × (r ≡ s)) → (old.without_name || (on && not r.alert)) ≡ true
             by (inl was) = ap (λ (b : Bool). b || (on && not r.alert)) (are.without_name.1 (k, s, was))
-            by (inr it) = or_true old.without_name (on && not r.alert) it.0
+            by (inr it) = or_right old.without_name (on && not r.alert) it.0
 
 -- ---- what they tell
-
-in_rules : (rules : List RuleTree) (k : ℕ) (r : RuleTree) → slice_get rules k ≡ Some r → Contains rules r
-in_rules rules k r at = (k, slice_get_within rules k r at, get_or_from_slice_get rules k r r at)
-
-at_rules : (rules : List RuleTree) (r : RuleTree) (c : Contains rules r) → slice_get rules c.0 ≡ Some r
-at_rules rules r c = slice_get-get_or rules c.0 r c.1 ∙ ap Some c.2
 
 pub begins : (rules : List RuleTree) (chosen : List Bool) (m : Marks) → m.names ≡ recorded_names rules → m.marked ≡ replicate (length m.names) false → m.without_name ≡ false → AreMarksUpTo rules chosen 0 m
 begins rules chosen m names marked without = record {
@@ -129,15 +110,15 @@ module _ (rules : List RuleTree) (of_rule : RuleTree → Bool) (chosen : List Bo
   selected_chosen o k r is selects = by ((by_test k r is.at).0 is.picked)
     where
       by : Passing r → ReadsPassing o
-      by (inl own) = (r, in_rules rules k r is.at, is.recording, inl selects, own)
-      by (inr (s, there, (recording, reads), own)) = (s, there, recording, inr (r, in_rules rules k r is.at, is.recording, selects, reads), own)
+      by (inl own) = (r, member_at rules k r is.at, is.recording, inl selects, own)
+      by (inr (s, there, (recording, reads), own)) = (s, there, recording, inr (r, member_at rules k r is.at, is.recording, selects, reads), own)
 
   -- a rule that is read is chosen, or the one that is selected
   read_chosen : (o : Option Bytes) → ReadsPassing o → (k : ℕ) × (r : RuleTree) × IsChosen rules chosen (length rules) k r × SelectsBy rules (o ∷ []) r.name
   read_chosen o (r, there, recording, inl selects, own) =
-      (there.0, r, record { before = there.1; at = at_rules rules r there; recording = recording; picked = (by_test there.0 r (at_rules rules r there)).1 (inl own) }, selects)
+      (there.0, r, record { before = there.1; at = (number_of rules r there).2; recording = recording; picked = (by_test there.0 r (number_of rules r there).2).1 (inl own) }, selects)
   read_chosen o (r, there, recording, inr (s, here_too, too, selects, reads), own) =
-      (here_too.0, s, record { before = here_too.1; at = at_rules rules s here_too; recording = too; picked = (by_test here_too.0 s (at_rules rules s here_too)).1 (inr (r, there, (recording, reads), own)) }, selects)
+      (here_too.0, s, record { before = here_too.1; at = (number_of rules s here_too).2; recording = too; picked = (by_test here_too.0 s (number_of rules s here_too).2).1 (inr (r, there, (recording, reads), own)) }, selects)
 
   the_name : (name other : Bytes) → SelectsBy rules (Some name ∷ []) other → name ≡ other
   the_name name other (inl c) = ap (λ (o : Option Bytes). elim o [ None ↦ name | Some z ↦ z ]) (only_one (Some name) (Some other) c)
@@ -147,7 +128,7 @@ module _ (rules : List RuleTree) (of_rule : RuleTree → Bool) (chosen : List Bo
   tells_reading None = (to, from)
     where
       to : m.without_name ≡ true → ReadsPassing None
-      to e = let w = are.without_name.0 e in selected_chosen None w.0 w.1 w.2 (inr (here None [], named rules w.1 (in_rules rules w.0 w.1 w.2.at) w.2.recording))
+      to e = let w = are.without_name.0 e in selected_chosen None w.0 w.1 w.2 (inr (here None [], recorded rules w.1 (member_at rules w.0 w.1 w.2.at) w.2.recording))
 
       from : ReadsPassing None → m.without_name ≡ true
       from h = let w = read_chosen None h in are.without_name.1 (w.0, w.1, w.2)
@@ -162,7 +143,7 @@ module _ (rules : List RuleTree) (of_rule : RuleTree → Bool) (chosen : List Bo
               let k : ℕ = w.0 in
               let r : RuleTree = w.1 in
               let is : IsChosen rules chosen (length rules) k r = w.2 in
-              let own : get_or m.names (place m.names r.name) [] ≡ r.name = at_place m.names r.name (placed rules m.names are.names r (in_rules rules k r is.at) is.recording) in
+              let own : get_or m.names (place m.names r.name) [] ≡ r.name = at_place m.names r.name (placed rules m.names are.names r (member_at rules k r is.at) is.recording) in
               let same : r.name ≡ name = sym own ∙ ap (λ (n : ℕ). get_or m.names n []) w.3 ∙ at_place m.names name (subst (λ n. place m.names name < n) are.count less) in
               selected_chosen (Some name) k r is (inl (subst (λ n. Contains (Some name ∷ []) (Some n)) (sym same) (here (Some name) [])))
           by (inr past) = absurd (true≢false (sym e ∙ get_or_past m.marked (place m.names name) false past))
@@ -173,10 +154,6 @@ module _ (rules : List RuleTree) (of_rule : RuleTree → Bool) (chosen : List Bo
           let r : RuleTree = w.1 in
           let is : IsChosen rules chosen (length rules) w.0 r = w.2 in
           let same : name ≡ r.name = the_name name r.name w.3 in
-          let placed_r : place m.names r.name < length m.names = placed rules m.names are.names r (in_rules rules w.0 r is.at) is.recording in
+          let placed_r : place m.names r.name < length m.names = placed rules m.names are.names r (member_at rules w.0 r is.at) is.recording in
           let within : place m.names name < length m.marked = subst (λ n. place m.names name < n) (sym are.count) (subst (λ n. place m.names n < length m.names) (sym same) placed_r) in
           (are.marked (place m.names name) within).1 (w.0, r, is, ap (place m.names) (sym same))
-
-pub all_ok : {X E : Type 0} (P Q : X → Type 0) (r : Result X E) → ((x : X) → P x → Q x) → IfOk r P → IfOk r Q
-all_ok P Q (Ok x) go p = go x p
-all_ok P Q (Err e) go p = p

@@ -15,6 +15,7 @@ use Rattle.std.specs.Prelude.{slice_get, slice_index_or}
 use Rattle.std.specs.declared.cmp.Ordering.{Ordering}
 use Rattle.std.specs.declared.cmp.Ordering.TheVariants.{Less, Greater, Equal}
 use Rattle.lf_laws.proofs.Members.{in_map, map_member}
+use Rattle.lf_laws.proofs.Slices.{member_at, of_map_at}
 use Rattle.lf_open.specs.Constructs.{number_of}
 use Rattle.lf_open.specs.OpenList.{key_of, open_cmp}
 use Rattle.lf_open.specs.declared.construct.Construct.{Construct}
@@ -22,6 +23,7 @@ use Rattle.lf_open.specs.declared.construct.Construct.TheVariants.{SharedMetric,
 use Rattle.lf_open.specs.declared.open_at.OpenAt.{OpenAt}
 use Rattle.lf_open.specs.declared.ordering.Keyed.{Keyed}
 use Rattle.lf_open.specs.views.InOrder.{AreOfRule, IsInOrder, items_of, keyed, keyed_cmp}
+use Rattle.lf_witness.proofs.Decided.{tied}
 
 -- ---- what has the same key and rule is the same
 
@@ -58,26 +60,8 @@ equal_same rule o p first second e = sym (by_key rule o first) ∙ ap (from_key 
 
 -- ---- lists
 
-at_map : {X Y : Type 0} (h : X → Y) (xs : List X) (k : ℕ) (y : Y) → slice_get (map h xs) k ≡ Some y → (x : X) × (slice_get xs k ≡ Some x) × (y ≡ h x)
-at_map {X} {Y} h xs k y e = by (slice_get xs k) refl
-  where
-    is : option_map h (slice_get xs k) ≡ Some y
-    is = sym (slice_get-map h xs k) ∙ e
-
-    by : (o : Option X) → slice_get xs k ≡ o → (x : X) × (slice_get xs k ≡ Some x) × (y ≡ h x)
-    by None en = let P : Option X → Type 0 = λ o. option_map h o ≡ Some y in let clash : None ≡ Some y = subst P en is in absurd (let no_way : None ≡ Some y = clash in cc)
-    by (Some x) es = let P : Option X → Type 0 = λ o. option_map h o ≡ Some y in let found : Some (h x) ≡ Some y = subst P es is in (x, es, (let back : Some (h x) ≡ Some y = found in cc))
-
 total : IsTotalOrder keyed_cmp
 total = on_total items_of nat_list_cmp_total
-
-tie : (p q : Keyed) → eq_by_cmp keyed_cmp p q ≡ true → keyed_cmp p q ≡ Equal
-tie p q e = by (keyed_cmp p q) refl
-  where
-    by : (o : Ordering) → keyed_cmp p q ≡ o → keyed_cmp p q ≡ Equal
-    by Equal is = is
-    by Less is = absurd (true≢false (sym e ∙ rw is refl))
-    by Greater is = absurd (true≢false (sym e ∙ rw is refl))
 
 module _ (found : List OpenAt) (sorted : List Keyed) (moved : IsPermutation (map keyed found) sorted) (up : IsSorted keyed_cmp sorted) (rule : ℕ) (of_rule : AreOfRule rule found) where
   left : List Keyed
@@ -98,15 +82,15 @@ module _ (found : List OpenAt) (sorted : List Keyed) (moved : IsPermutation (map
   -- what stands at a place
   at_place : (j : ℕ) (o : OpenAt) → slice_get opens j ≡ Some o → slice_get left j ≡ Some (keyed o)
   unfolding opens
-  at_place j o e = further (at_map (λ (k : Keyed). k.item) left j o e)
+  at_place j o e = further (of_map_at (λ (k : Keyed). k.item) left j o e)
     where
       named : (k : Keyed) → slice_get left j ≡ Some k → o ≡ k.item → (a : OpenAt) × Contains found a × (k ≡ keyed a) → slice_get left j ≡ Some (keyed o)
       named k there own (a, c, same) =
           let back : a ≡ o = sym (own ∙ ap (λ (l : Keyed). l.item) {x = k} {y = keyed a} same) in
           there ∙ ap (λ (l : Keyed). Some l) same ∙ ap (λ (z : OpenAt). Some (keyed z)) back
 
-      further : (k : Keyed) × (slice_get left j ≡ Some k) × (o ≡ k.item) → slice_get left j ≡ Some (keyed o)
-      further (k, there, own) = named k there own (from k (j, slice_get_within left j k there, get_or_from_slice_get left j k k there))
+      further : (k : Keyed) × (slice_get left j ≡ Some k) × (k.item ≡ o) → slice_get left j ≡ Some (keyed o)
+      further (k, there, own) = named k there (sym own) (from k (member_at left j k there))
 
   ascending : (j k : ℕ) (o p : OpenAt) → j < k → slice_get opens j ≡ Some o → slice_get opens k ≡ Some p → open_cmp o p ≡ Less
   ascending j k o p lt eo ep =
@@ -133,7 +117,7 @@ module _ (found : List OpenAt) (sorted : List Keyed) (moved : IsPermutation (map
       by (k, y, below, at, e) = further (from y (k, below, at))
         where
           further : (b : OpenAt) × Contains found b × (y ≡ keyed b) → Contains opens a
-          further (b, cb, is) = tied a b ca cb y (k, below, at) (tie (keyed a) y e) is
+          further (b, cb, is) = tied a b ca cb y (k, below, at) (tied (keyed_cmp (keyed a) y) e) is
 
   only : (a : OpenAt) → Contains opens a → Contains found a
   unfolding opens

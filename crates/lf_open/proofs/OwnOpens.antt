@@ -3,7 +3,7 @@ use Rattle.std.proofs.Common.{◌≡◌, ◌<◌, ◌⊎◌, ◌↔◌, inl, inr
 use Rattle.std.specs.BTreeMap.{is_at}
 use Rattle.std.specs.List.{Contains, flat_map, list_any}
 use Rattle.std.specs.Ordering.{nat_cmp}
-use Rattle.lf_laws.proofs.Members.{behind, first_or_behind, here, in_flat_map, in_map, map_member, none_in, of_flat_map, only_one}
+use Rattle.lf_laws.proofs.Members.{any_has, behind, first_or_behind, here, in_flat_map, in_map, map_member, none_in, of_flat_map, only_one, some_has}
 use Rattle.lf_ast.specs.Labels.{Bytes}
 use Rattle.lf_ast.specs.Rules.{RuleTree}
 use Rattle.lf_ast.specs.Selectors.{selected_name}
@@ -19,7 +19,6 @@ use Rattle.lf_semantics.specs.Environments.{names_recorded}
 use Rattle.lf_semantics.specs.Listing.{place}
 use Rattle.lf_semantics.specs.Parts.{is_scalar_part}
 use Rattle.lf_semantics.proofs.Places.{same_text}
-use Rattle.lf_trials.proofs.MadeSeries.{any_has}
 use Rattle.lf_trials.specs.Forks.{HoldsFork}
 use Rattle.lf_open.specs.Constructs.{AreVectors, ReadInCommon}
 use Rattle.lf_open.specs.Holding.{CannotBeSilent, NamesLe, has_own_source, is_source, matches_le, names_le}
@@ -27,10 +26,10 @@ use Rattle.lf_open.specs.Standing.{standing}
 use Rattle.lf_open.specs.views.Marks.{TellsReading}
 use Rattle.lf_open.specs.views.ReadNames.{AreNumbersBy, HaveNames, IsPlaced}
 use Rattle.lf_open.specs.views.Told.{Facts, are_vectors, has_any, numbers_by, own_numbers, shares, told}
-use Rattle.lf_open.proofs.Held.{by_selector, holds_by, reads_by, selectors_stand, some_has}
-use Rattle.lf_open.proofs.NumberSets.{held, holds}
+use Rattle.lf_open.proofs.Held.{by_selector, holds_by, reads_by, selectors_stand}
 use Rattle.lf_open.proofs.StandingParts.{of_other, of_scalar}
 use Rattle.lf_open.proofs.ToldLaws.{is_told}
+use Rattle.lf_graph.proofs.Held.{held, holds}
 
 -- what stands in an expression that stands in another stands in that
 

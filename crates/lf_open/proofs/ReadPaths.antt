@@ -8,7 +8,7 @@ use Rattle.lf_ast.specs.Tree.{Tree}
 use Rattle.lf_deps.specs.Reading.{Reads, SelectsBy, selectors}
 use Rattle.lf_deps.specs.Reading.Reads.{selected, through}
 use Rattle.lf_deps.specs.views.Search.{ReadsBy}
-use Rattle.lf_open.proofs.Grown.{reads_on}
+use Rattle.lf_deps.proofs.Followed.{reads_on}
 use Rattle.lf_graph.specs.Components.{AreComponents, Components}
 use Rattle.lf_graph.specs.Paths.{IsGraph, IsReached, Leads, after}
 use Rattle.lf_graph.specs.Paths.Leads.{along, nowhere}
@@ -16,31 +16,8 @@ use Rattle.lf_graph.proofs.Paths.{onwards}
 use Rattle.lf_semantics.specs.Environments.{names_recorded}
 use Rattle.lf_semantics.specs.Listing.{place}
 use Rattle.lf_semantics.proofs.Places.{same_text}
+use Rattle.lf_semantics.proofs.Recorded.{recorded, recorder}
 use Rattle.lf_open.specs.views.ReadNames.{AreEdges, AreNumbersBy, HaveNames, IsNumberBy, IsPlaced, Links, node_of}
-
--- recorded names are those of rules
-
-pub recorder : (rules : List RuleTree) (n : Bytes) → Contains (names_recorded rules) n → (r : RuleTree) × Contains rules r × (r.alert ≡ false) × (r.name ≡ n)
-recorder [] n c = absurd (none_in n c)
-recorder (x ∷ rules) n c = by x.alert refl c (recorder rules n)
-  where
-    later : (r : RuleTree) × Contains rules r × (r.alert ≡ false) × (r.name ≡ n) → (r : RuleTree) × Contains (x ∷ rules) r × (r.alert ≡ false) × (r.name ≡ n)
-    later (r, there, recording, same) = (r, behind x rules r there, recording, same)
-
-    by : (b : Bool) → x.alert ≡ b → Contains (cond b (names_recorded rules) (x.name ∷ names_recorded rules)) n → (Contains (names_recorded rules) n → (r : RuleTree) × Contains rules r × (r.alert ≡ false) × (r.name ≡ n))
-        → (r : RuleTree) × Contains (x ∷ rules) r × (r.alert ≡ false) × (r.name ≡ n)
-    by true is d rest = later (rest d)
-    by false is d rest = elim (first_or_behind x.name (names_recorded rules) n d) [ inl same ↦ (x, here x rules, is, same) | inr f ↦ later (rest f) ]
-
-pub recorded : (rules : List RuleTree) (r : RuleTree) → Contains rules r → r.alert ≡ false → Contains (names_recorded rules) r.name
-recorded [] r c a = absurd (none_in r c)
-recorded (x ∷ rules) r c a = by x.alert refl (first_or_behind x rules r c) (recorded rules r)
-  where
-    by : (b : Bool) → x.alert ≡ b → (x ≡ r) ⊎ Contains rules r → (Contains rules r → r.alert ≡ false → Contains (names_recorded rules) r.name) → Contains (cond b (names_recorded rules) (x.name ∷ names_recorded rules)) r.name
-    by true is (inl same) rest = absurd (true≢false (sym is ∙ ap (λ (z : RuleTree). z.alert) same ∙ a))
-    by true is (inr d) rest = rest d a
-    by false is (inl same) rest = let P : Bytes → Type 0 = λ z. Contains (x.name ∷ names_recorded rules) z in subst P (ap (λ (z : RuleTree). z.name) same) (here x.name (names_recorded rules))
-    by false is (inr d) rest = behind x.name (names_recorded rules) r.name (rest d a)
 
 module _ (rules : List RuleTree) (names : List Bytes) (have : HaveNames rules names) (edges : List (List ℕ)) (are : AreEdges rules names edges) where
   -- a node stands for a name: its own, or that of all recorded names

@@ -9,15 +9,15 @@ use Rattle.std.proofs.lemmas.List.{get_or_append_left, length-append}
 use Rattle.std.proofs.lemmas.List.Elements.{Contains-get_or}
 use Rattle.std.proofs.lemmas.Option.{slice_get_within}
 use Rattle.lf_laws.proofs.Members.{here, in_flat_map}
+use Rattle.lf_laws.proofs.Slices.{number_of}
 use Rattle.lf_ast.specs.Labels.{Bytes}
 use Rattle.lf_ast.specs.Rules.{RuleTree}
 use Rattle.lf_classes.specs.views.TextSets.{with_text}
 use Rattle.lf_deps.specs.Reading.{selectors}
 use Rattle.lf_deps.specs.views.Search.{Grows}
 use Rattle.lf_deps.specs.views.Sources.{IsSourcesOf, Sources}
-use Rattle.lf_open.proofs.Grown.{grows_none, grows_text, kept_in}
 use Rattle.lf_deps.proofs.LookedUp.{selected_count, selected_is}
-use Rattle.lf_deps.proofs.Numbered.{number_of}
+use Rattle.lf_deps.proofs.Followed.{grows_none, grows_text, kept_in}
 use Rattle.lf_semantics.specs.Environments.{names_recorded, recorded_names}
 use Rattle.lf_semantics.specs.Listing.{place}
 use Rattle.lf_semantics.proofs.ListingLaws.{in_first_seen, place_within}
@@ -32,10 +32,10 @@ have_names rules s is old new was grows = record {
   recorded = λ n c. place_within new n (kept_in (flat_map said_names s.selected) old new grows n (let P : List Bytes → Type 0 = λ l. Contains l n in subst P (sym was) (in_first_seen (names_recorded rules) n c)));
   selected = λ r n there c.
       let k = number_of rules r there in
-      let own : get_or s.selected k.0 [] ≡ selectors r.expr = selected_is rules s is k.0 r k.1 in
+      let own : get_or s.selected k.0 [] ≡ selectors r.expr = selected_is rules s is k.0 r k.2 in
       let P : List (Option Bytes) → Type 0 = λ l. Contains l (Some n) in
       let said : Contains (said_names (get_or s.selected k.0 [])) n = in_flat_map said_name (get_or s.selected k.0 []) (Some n) n (subst P (sym own) c) (here n []) in
-      let at : Contains s.selected (get_or s.selected k.0 []) = within k.0 r k.1 in
+      let at : Contains s.selected (get_or s.selected k.0 []) = within k.0 r k.2 in
       place_within new n (grows.3 n (in_flat_map said_names s.selected (get_or s.selected k.0 []) n at said));
 }
   where

@@ -1,10 +1,11 @@
 -- The selectors, calls and aggregations that stand in an expression: itself, if it is one, and those in its parts. And how much is left to be looked at.
 use Rattle.std.proofs.Common.{◌≡◌, ◌+◌, ◌<◌, ◌⊎◌, ◌↔◌, inl, inr, ℕ, Bool, true, false, true≢false, ◌&&◌, cond, List, [], ◌∷◌, ◌++◌, length, Option, Some, None, refl, sym, ap, ap₂, ◌∙◌, subst, arith}
 use Rattle.std.proofs.lemmas.List.{append-nil, append_assoc, length-append, map-append}
-use Rattle.std.proofs.lemmas.List.Elements.{Contains-append_cases, Contains-append_left, Contains-append_right}
+use Rattle.std.proofs.lemmas.List.Elements.{Contains-append_cases, Contains-append_left, Contains-append_right, filter-append}
 use Rattle.std.proofs.lemmas.List.Sums.{sum_by-append, sum_by-cons, sum_by_push}
 use Rattle.std.specs.Borrow.{Bor}
 use Rattle.std.specs.List.{Contains, filter, flat_map, sum_by}
+use Rattle.std.proofs.lemmas.Grind.{flat_map-append}
 use Rattle.lf_ast.specs.Labels.{Bytes}
 use Rattle.lf_ast.specs.Tree.{Tree, Trees, Number, Str, Selector, Subquery, Paren, Unary, Binary, Call, Aggregate, Nil, Next, list, parts_of, tree, nodes, nodes_in}
 use Rattle.lf_ast.specs.Types.{is_scalar, selected}
@@ -49,20 +50,9 @@ of_other e is = ap (λ (b : Bool). cond b [] (standing_in e)) is ∙ within e
 abbrev pub speaking : Tree → List Tree
 speaking e = filter speaks (standing e)
 
-filter_cons : (x : Tree) (xs : List Tree) → filter speaks (x ∷ xs) ≡ cond (speaks x) (x ∷ filter speaks xs) (filter speaks xs)
-filter_cons x xs = refl
-
-filter_both : (xs ys : List Tree) → filter speaks (xs ++ ys) ≡ filter speaks xs ++ filter speaks ys
-filter_both [] ys = refl
-filter_both (x ∷ xs) ys = by (speaks x) (filter_both xs ys)
-  where
-    by : (b : Bool) → filter speaks (xs ++ ys) ≡ filter speaks xs ++ filter speaks ys → cond b (x ∷ filter speaks (xs ++ ys)) (filter speaks (xs ++ ys)) ≡ cond b (x ∷ filter speaks xs) (filter speaks xs) ++ filter speaks ys
-    by true is = ap (λ (l : List Tree). x ∷ l) is
-    by false is = is
-
 speak_arguments : (args : Trees) → filter speaks (arguments_standing args) ≡ flat_map speaking (list args)
 speak_arguments Nil = refl
-speak_arguments (Next x xs) = filter_both (standing x) (arguments_standing xs) ∙ ap (λ (l : List Tree). speaking x ++ l) (speak_arguments xs)
+speak_arguments (Next x xs) = filter-append speaks (standing x) (arguments_standing xs) ∙ ap (λ (l : List Tree). speaking x ++ l) (speak_arguments xs)
 
 of_only : (e : Tree) → speaking e ≡ flat_map speaking (e ∷ [])
 of_only e = sym (append-nil (speaking e))
@@ -100,7 +90,7 @@ of_parts (Subquery of sight span) is = of_only of
 of_parts (Paren of span) is = of_same (is_scalar_part of) (Paren of span) (standing_in of) refl ∙ of_only of
 of_parts (Unary minus of span) is = of_same (is_scalar_part of) (Unary minus of span) (standing_in of) refl ∙ of_only of
 of_parts (Binary op m left right span) is =
-    of_sides (is_scalar_part left) (is_scalar_part right) (Binary op m left right span) (standing_in left) (standing_in right) refl ∙ filter_both (standing left) (standing right)
+    of_sides (is_scalar_part left) (is_scalar_part right) (Binary op m left right span) (standing_in left) (standing_in right) refl ∙ filter-append speaks (standing left) (standing right)
     ∙ ap (λ (l : List Tree). speaking left ++ l) (of_only right)
 of_parts (Call name args span) is = ap (λ (b : Bool). filter speaks (cond b [] (standing_in (Call name args span)))) is ∙ ap (λ (l : List Tree). Call name args span ∷ l) (speak_arguments args)
 of_parts (Aggregate op grouping args span) is = ap (λ (l : List Tree). Aggregate op grouping args span ∷ l) (speak_arguments args)
@@ -137,12 +127,8 @@ begins e x = (λ c. inr (subst (λ (l : List Tree). Contains l x) (of_only e) c)
     from (inl c) = absurd (none_in x c)
     from (inr c) = subst (λ (l : List Tree). Contains l x) (sym (of_only e)) c
 
-flat_append : (left more : List Tree) → flat_map speaking (left ++ more) ≡ flat_map speaking left ++ flat_map speaking more
-flat_append [] more = refl
-flat_append (q ∷ left) more = ap (λ (l : List Tree). speaking q ++ l) (flat_append left more) ∙ sym (append_assoc (speaking q) (flat_map speaking left) (flat_map speaking more))
-
 flat_push : (left : List Tree) (p : Tree) → flat_map speaking (left ++ p ∷ []) ≡ flat_map speaking left ++ speaking p
-flat_push left p = flat_append left (p ∷ []) ∙ ap (λ (l : List Tree). flat_map speaking left ++ l) (append-nil (speaking p))
+flat_push left p = flat_map-append speaking left (p ∷ []) ∙ ap (λ (l : List Tree). flat_map speaking left ++ l) (append-nil (speaking p))
 
 module _ (e : Tree) (found left : List Tree) (p : Tree) (walked : Walked e found (left ++ p ∷ [])) where
   -- a scalar call is passed over
@@ -166,7 +152,7 @@ module _ (e : Tree) (found left : List Tree) (p : Tree) (walked : Walked e found
       same = flat_push left p ∙ ap (λ (l : List Tree). (flat_map speaking left) ++ l) (of_parts p is)
 
       now : flat_map speaking (left ++ parts_of p) ≡ (flat_map speaking left) ++ (flat_map speaking (parts_of p))
-      now = flat_append left (parts_of p)
+      now = flat_map-append speaking left (parts_of p)
 
       split : Contains (flat_map speaking left) x ⊎ Contains (own_speaking p ++ (flat_map speaking (parts_of p))) x → Contains (found ++ own_speaking p) x ⊎ Contains ((flat_map speaking left) ++ (flat_map speaking (parts_of p))) x
       split (inl c) = inr (Contains-append_left (flat_map speaking left) (flat_map speaking (parts_of p)) x c)

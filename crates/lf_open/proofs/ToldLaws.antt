@@ -4,6 +4,8 @@ use Rattle.std.proofs.lemmas.List.Elements.{Contains-append_cases, Contains-appe
 use Rattle.std.specs.BTreeSet.{insert_key}
 use Rattle.std.specs.List.{Contains, flat_map, list_all, list_any}
 use Rattle.std.specs.Ordering.{nat_cmp}
+use Rattle.std.proofs.Math.Bool.{or_assoc}
+use Rattle.std.proofs.lemmas.List.Folds.{list_any-append}
 use Rattle.lf_graph.proofs.Inserting.{comes_in, put_in, stays_in}
 use Rattle.lf_laws.proofs.Booleans.{or_false}
 use Rattle.lf_laws.proofs.Members.{behind, first_or_behind, here, in_flat_map, in_map, map_member, none_in, of_flat_map, only_one}
@@ -65,10 +67,6 @@ in_appended a b o = by (nat_lt (length a) (length b))
 
 -- of what is told at once
 
-or_assoc : (a b c : Bool) → ((a || b) || c) ≡ (a || (b || c))
-or_assoc true b c = refl
-or_assoc false b c = refl
-
 module _ (field : Told → Bool) (law : (a b : Told) → field (beside a b) ≡ (field a || field b)) where
   pub gathered_any : (a : Told) (ts : List Told) → field (gathered a ts) ≡ (field a || list_any field ts)
   gathered_any a [] = sym (or_false (field a))
@@ -99,11 +97,7 @@ module _ {X : Type 0} (field : Told → List X) (law : (a b : Told) (x : X) → 
 
 any_flat : (test : Tree → Bool) (ps : List Tree) → list_any test (flat_map standing ps) ≡ list_any (λ p. list_any test (standing p)) ps
 any_flat test [] = refl
-any_flat test (p ∷ ps) = any_both (standing p) (flat_map standing ps) ∙ ap (λ (b : Bool). list_any test (standing p) || b) (any_flat test ps)
-  where
-    any_both : (xs ys : List Tree) → list_any test (xs ++ ys) ≡ (list_any test xs || list_any test ys)
-    any_both [] ys = refl
-    any_both (x ∷ xs) ys = ap (λ (b : Bool). test x || b) (any_both xs ys) ∙ sym (or_assoc (test x) (list_any test xs) (list_any test ys))
+any_flat test (p ∷ ps) = list_any-append test (standing p) (flat_map standing ps) ∙ ap (λ (b : Bool). list_any test (standing p) || b) (any_flat test ps)
 
 any_told : (value : Tree → Told) (field : Told → Bool) (test : Tree → Bool) (ps : List Tree) → ((p : Tree) → Contains ps p → field (value p) ≡ test p) → list_any field (map value ps) ≡ list_any test ps
 any_told value field test [] each = refl

@@ -10,7 +10,7 @@ use Rattle.lf_deps.specs.Reading.{Reads, Reaches, Selects}
 use Rattle.lf_deps.specs.Reading.Reads.{selected, through}
 use Rattle.lf_semantics.specs.Environments.{names_recorded}
 use Rattle.lf_trials.specs.Reached.{IsReach}
-use Rattle.lf_forks.proofs.Recorded.{named}
+use Rattle.lf_semantics.proofs.Recorded.{recorded}
 
 -- no name that the expression selects is recorded
 abbrev pub SelectsScraped : List RuleTree → Tree → Type 0
@@ -20,10 +20,10 @@ module _ (rules : List RuleTree) (e : Tree) (scraped : SelectsScraped rules e) w
   -- so it reads what it selects
   pub reads_selected : (name : Bytes) → Reads rules e name → Selects rules e name
   reads_selected name (selected s) = s
-  reads_selected name (through r there recording s rest) = absurd (scraped r.name s (named rules r there recording))
+  reads_selected name (through r there recording s rest) = absurd (scraped r.name s (recorded rules r there recording))
 
   pub reaches_none : (r : RuleTree) → Contains rules r → Reaches rules e r → ⊥
-  reaches_none r there (recording, reads) = scraped r.name (reads_selected r.name reads) (named rules r there recording)
+  reaches_none r there (recording, reads) = scraped r.name (reads_selected r.name reads) (recorded rules r there recording)
 
   pub has_no_reach : IsReach rules e []
   has_no_reach = record {

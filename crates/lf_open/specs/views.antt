@@ -1,5 +1,4 @@
 -- How contracts see the code's own data. It defines nothing.
-pub mod Absence
 pub mod Adding
 pub mod Choosing
 pub mod Firsts

@@ -6,7 +6,7 @@ ghost use Rattle.lf_ast.specs.Tree.{tree, trees};
 ghost use Rattle.lf_semantics.specs.Grouped.{is_metric};
 ghost use Rattle.lf_semantics.specs.Parts.{sought_by, sought_in};
 ghost use Rattle.lf_witness.specs.Strict.{IsOpenAbsent};
-ghost use Rattle.lf_open.specs.views.Absence.{has_two, is_twice};
+ghost use Rattle.lf_witness.specs.views.Absence.{has_two, is_twice};
 
 use lf_ast::{Expr, Matcher, Sight};
 use std::marker::Model;

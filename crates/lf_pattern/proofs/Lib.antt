@@ -1,4 +1,5 @@
 pub mod Capping
+pub mod Digits
 pub mod ShapeFound
 pub mod ShapeGiven
 pub mod SampleLaws

@@ -11,13 +11,9 @@ use Rattle.lf_pattern.specs.declared.replacement.Piece.TheVariants.{Char, Group}
 use Rattle.lf_pattern.specs.declared.plainness.Check.{Check}
 use Rattle.lf_pattern.specs.declared.plainness.Check.TheVariants.{Text, Dollar, Zero, Number, Brace, BracedZero, Braced, Wrong}
 use Rattle.lf_pattern.specs.Replacement.{IsNumber, BeginsApart, Reads, end, other, dollar, number, braced}
-use Rattle.lf_pattern.specs.reading.Plainness.{is_word, is_digit, checked, may_end, passes}
-
-digit-is : (c : ℕ) → digit_value c < 10 → is_digit c ≡ true
-digit-is c h = grind (arith, nat_tests)
-
-digit-below : (c : ℕ) → is_digit c ≡ true → digit_value c < 10
-digit-below c h = grind (arith, nat_tests)
+use Rattle.lf_pattern.specs.reading.Plainness.{is_word, checked, may_end, passes}
+use Rattle.lf_pattern.specs.ShapeScan.{is_digit}
+use Rattle.lf_pattern.proofs.Digits.{digit-is, digit-below}
 
 -- ---- what is plain passes
 

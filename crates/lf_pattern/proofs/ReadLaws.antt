@@ -1,5 +1,5 @@
 -- What the clauses of `regex` say of `reading`.
-use Rattle.std.proofs.Common.{true≢false, ne_eqb, cond, ◌==◌, ◌*◌, ◌+◌, zero, suc, ap₂, option_map, ◌≡◌, ℕ, length, ◌<◌, ◌≤◌, true, false, List, [], Option, None, Some, is_some, IsSomeAnd, IfSome, refl, sym, ap, ◌∙◌, inl, inr, arith, get_or, nat_le}
+use Rattle.std.proofs.Common.{ne_eqb, cond, ◌==◌, ◌*◌, ◌+◌, zero, suc, ap₂, option_map, ◌≡◌, ℕ, length, ◌<◌, ◌≤◌, true, false, List, [], Option, None, Some, is_some, IsSomeAnd, IfSome, refl, sym, ap, ◌∙◌, inl, inr, arith, get_or, nat_le}
 use Rattle.std.specs.Str.{chars}
 use Rattle.std.proofs.lemmas.Option.{same_Some}
 use Rattle.std.specs.Prelude.{option_and_then}
@@ -67,10 +67,6 @@ pub found_by : (r : Regex) (p value : List ℕ) → regex_source r ≡ anchored 
 found_by r p value s c h bytes =
     let (re, e, same) = reads_reading r p s c h in
     is_match_alike same value bytes true 0 ∙ sym (ap (λ (o : Option Re). option_map_or (λ re. is_some (find_str re value 0)) o false) e)
-
-none_of : {X : Type 0} (o : Option X) → is_some o ≡ false → o ≡ None
-none_of None h = refl
-none_of (Some x) h = absurd (true≢false h)
 
 -- ---- groups
 

@@ -3,7 +3,8 @@ use Rattle.std.proofs.Common.{◌≡◌, ◌≢◌, ℕ, Bool, true, false, cond
 use Rattle.std.specs.List.{list_any, filter}
 use Rattle.std.specs.Option.{option_map_or}
 use Rattle.std.specs.Str.{bytes_eq, chars}
-use Rattle.std.proofs.lemmas.Bool.{cases_Bool, cond-true, cond-false, false_from_ne_true}
+use Rattle.std.proofs.Math.Bool.{and-false}
+use Rattle.std.proofs.lemmas.Bool.{cases_Bool, and_parts, cond-true, cond-false, false_from_ne_true}
 use Rattle.std.proofs.lemmas.Bool.Decides.{nat_tests}
 use Rattle.std.proofs.lemmas.Option.{none-some}
 use Rattle.std.proofs.lemmas.Slice.Eq.{bytes_eq-Decides}
@@ -17,10 +18,6 @@ use Rattle.lf_pattern.proofs.Capping.{fits, capped-fits, capped-long}
 use Rattle.lf_pattern.proofs.MatchLaws.{matches_is}
 use Rattle.lf_pattern.proofs.ShapeFound.{found_shape}
 use Rattle.lf_pattern.proofs.ShapeGiven.{given_shape}
-
-and-false : (b : Bool) → (b && false) ≡ false
-and-false true = refl
-and-false false = refl
 
 -- the two tests of a sample agree, by whether it is empty and whether it is matched
 same_test : (empty matched : Bool) (x y : List (List ℕ)) → cond ((empty || false) || not matched) y x ≡ cond ((not empty && true) && matched) x y
@@ -100,14 +97,10 @@ module _ (p low high : List ℕ) where
 
 -- ---- which texts are kept
 
-and_both : (a b : Bool) → (a && b) ≡ true → (a ≡ true) × (b ≡ true)
-and_both true b h = (refl, h)
-and_both false b h = absurd (true≢false (sym h))
-
 kept_from_test : (p s : List ℕ) → is_kept p s ≡ true → IsKept p s
 kept_from_test p s h =
-    let (front, matched) = and_both (nat_lt 0 (length s) && nat_le (length s) 256) (matches p s) h in
-    let (some, short) = and_both (nat_lt 0 (length s)) (nat_le (length s) 256) front in
+    let (front, matched) = and_parts (nat_lt 0 (length s) && nat_le (length s) 256) (matches p s) h in
+    let (some, short) = and_parts (nat_lt 0 (length s)) (nat_le (length s) 256) front in
     (λ e. true≢false (sym some ∙ ap (λ (l : List ℕ). nat_lt 0 (length l)) e), grind (arith, nat_tests), (matches_is p s).0 matched)
 
 some_bytes : (s : List ℕ) → s ≢ [] → nat_lt 0 (length s) ≡ true

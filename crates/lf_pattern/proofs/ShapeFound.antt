@@ -1,6 +1,7 @@
 -- What has the shape is read with its samples.
 use Rattle.std.proofs.Common.{◌≡◌, ◌≢◌, ℕ, ◌+◌, ◌*◌, ◌≤◌, ◌<◌, Bool, true, false, cond, ◌==◌, ◌||◌, not, nat_le, List, [], ◌∷◌, ◌++◌, Option, Some, None, refl, sym, ap, ap₂, ◌∙◌, arith, true≢false, encode_utf8, All, suc}
 use Rattle.std.specs.Prelude.{unwrap_or}
+use Rattle.std.proofs.Math.Bool.{or-false, or_assoc}
 use Rattle.std.proofs.lemmas.Bool.{cond-true, cond-false}
 use Rattle.std.proofs.lemmas.Bool.Decides.{nat_tests}
 use Rattle.std.specs.List.{list_any}
@@ -17,6 +18,7 @@ use Rattle.lf_pattern.specs.declared.shape.Part.{Part}
 use Rattle.lf_pattern.specs.declared.shape.Part.TheVariants as part
 use Rattle.lf_pattern.specs.ShapeScan.{State, nothing_read, pair, followed_by, counted_by, value_of, with_row, flushed, part_of, begun_with, begun, is_hidden, class_pair, is_digit, stepped, start, may_end, ended, read_from}
 use Rattle.lf_pattern.proofs.Capping.{fits, cut, both_of, capped-fits, followed-cut, counted-cut, followed-followed, followed-nothing, nothing-cut}
+use Rattle.lf_pattern.proofs.Digits.{digit-is}
 
 abbrev pub st : Mode → Both → Frame → List Frame → State
 st m P F S = record { mode = m; piece = P; frame = F; stack = S }
@@ -80,14 +82,6 @@ encoded-fits c = let e = length-encode c in grind (arith, nat_tests)
 pub encoded-cut : (c d : ℕ) → pair (encode_utf8 c) (encode_utf8 d) ≡ cut (record { low = encode_utf8 c; high = encode_utf8 d })
 encoded-cut c d = ap₂ both_of (sym (capped-fits (encode_utf8 c) (encoded-fits c))) (sym (capped-fits (encode_utf8 d) (encoded-fits d)))
 
-pub or-false : (b : Bool) → (b || false) ≡ b
-or-false true = refl
-or-false false = refl
-
-pub or-or : (a b c : Bool) → ((a || b) || c) ≡ (a || (b || c))
-or-or true b c = refl
-or-or false b c = refl
-
 all_head : (d : ℕ) (ds : List ℕ) → All (λ m. m ≢ 93) (d ∷ ds) → d ≢ 93
 all_head d ds h = h 0 d (omega arith)
 
@@ -101,9 +95,6 @@ class-cut first members false e =
     cond-false (is_opaque first members) _ _ e ∙ encoded-cut first (last_of first members) ∙ sym (ap cut (cond-false (is_opaque first members) _ _ e))
 
 -- ---- counts
-
-digit-is : (c : ℕ) → digit_value c < 10 → is_digit c ≡ true
-digit-is c h = grind (arith, nat_tests)
 
 digit-fits : (v : ℕ) → v ≤ 64 → nat_le v 64 ≡ true
 digit-fits v h = grind (arith, nat_tests)
@@ -182,7 +173,7 @@ module _ (P : Both) (F : Frame) (S : List Frame) where
   class-members first last opaque (d ∷ ds) rest h =
       at_step (st (mode.Class first last opaque) P F S) _ d (ds ++ 93 ∷ rest) (class-step first last opaque d (all_head d ds h))
       ∙ class-members first d (opaque || is_hidden d) ds rest (all_tail d ds h)
-      ∙ ap (λ (b : Bool). read_from (st mode.Atom (class_pair first (last_of d ds) b) F S) rest) (or-or opaque (is_hidden d) (list_any is_hidden ds))
+      ∙ ap (λ (b : Bool). read_from (st mode.Atom (class_pair first (last_of d ds) b) F S) rest) (or_assoc opaque (is_hidden d) (list_any is_hidden ds))
 
   class-first : (first : ℕ) → first ≢ 94 → stepped (st mode.ClassStart P F S) first ≡ st (mode.Class first first (is_hidden first)) P F S
   unfolding stepped

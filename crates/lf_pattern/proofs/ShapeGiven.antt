@@ -1,6 +1,7 @@
 -- What is read has the shape, with these samples.
-use Rattle.std.proofs.Common.{◌≡◌, ◌≢◌, ℕ, ◌+◌, ◌*◌, ◌≤◌, ◌<◌, Bool, true, false, cond, ◌==◌, ◌||◌, not, nat_lt, nat_le, List, [], ◌∷◌, ◌++◌, length, Option, Some, None, refl, sym, ap, ap₂, subst, ◌∙◌, arith, inl, inr, ◌⊎◌, encode_utf8, All, append_assoc, length-append}
+use Rattle.std.proofs.Common.{◌≡◌, ◌≢◌, ℕ, ◌+◌, ◌*◌, ◌≤◌, Bool, true, false, cond, ◌==◌, ◌||◌, not, nat_lt, nat_le, List, [], ◌∷◌, ◌++◌, length, Option, Some, None, refl, sym, ap, ap₂, subst, ◌∙◌, arith, inl, inr, ◌⊎◌, encode_utf8, All, append_assoc, length-append}
 use Rattle.std.specs.Prelude.{unwrap_or}
+use Rattle.std.proofs.Math.Bool.{or-false, or_assoc}
 use Rattle.std.proofs.lemmas.Bool.{cases_Bool, cond_both, eqb-true}
 use Rattle.std.proofs.lemmas.Bool.Decides.{nat_tests}
 use Rattle.std.proofs.lemmas.Option.{none-some, same_Some}
@@ -20,7 +21,8 @@ use Rattle.lf_pattern.specs.declared.shape.Part.{Part}
 use Rattle.lf_pattern.specs.declared.shape.Part.TheVariants as part
 use Rattle.lf_pattern.specs.ShapeScan.{State, nothing_read, pair, followed_by, counted_by, value_of, with_row, flushed, part_of, begun_with, begun, behind_atom, escaped_by, in_class, in_least, in_most, is_hidden, class_pair, is_digit, stepped, start, may_end, ended, read_from}
 use Rattle.lf_pattern.proofs.Capping.{cut, followed-cut, counted-cut, followed-followed, followed-nothing, nothing-cut}
-use Rattle.lf_pattern.proofs.ShapeFound.{st, begun-mode, encoded-cut, class-cut, or-false, or-or, fresh, value_with}
+use Rattle.lf_pattern.proofs.Digits.{digit-below}
+use Rattle.lf_pattern.proofs.ShapeFound.{st, begun-mode, encoded-cut, class-cut, fresh, value_with}
 
 -- what a character is, by its part
 abbrev IsPart : Part → ℕ → Type 0
@@ -60,11 +62,8 @@ last-push first (d ∷ ds) c = last-push d ds c
 
 opaque-push : (first : ℕ) (members : List ℕ) (c : ℕ) → (is_opaque first members || is_hidden c) ≡ is_opaque first (members ++ c ∷ [])
 opaque-push first members c =
-    or-or (is_hidden first) (list_any is_hidden members) (is_hidden c)
+    or_assoc (is_hidden first) (list_any is_hidden members) (is_hidden c)
     ∙ ap (λ (b : Bool). is_hidden first || b) (ap (λ (b : Bool). list_any is_hidden members || b) (sym (or-false (is_hidden c))) ∙ sym (list_any-append is_hidden members (c ∷ [])))
-
-digit-below : (c : ℕ) → is_digit c ≡ true → digit_value c < 10
-digit-below c h = grind (arith, nat_tests)
 
 numeral-one : (c : ℕ) → is_digit c ≡ true → IsNumeral 10 (c ∷ [])
 numeral-one c h = (omega arith, (digit-below c h, tt))
@@ -106,9 +105,6 @@ module _ (E : Both → List ℕ → Type 0) where
   -- an atom, and what is behind it
   abbrev pub AtomThen : Frame → List ℕ → Type 0
   AtomThen F cs = (p : Samples) × (us : List ℕ) × Atom cs p us × AfterAtom (cut p) F us
-
-  frame_of : Option (Option (List ℕ)) → Both → Frame
-  frame_of first row = record { first = first; row = row }
 
   same_frame : (X : Frame) (R Q : Both) → R ≡ Q → (ws : List ℕ) → After (record { first = X.first; row = R }) ws → After (record { first = X.first; row = Q }) ws
   same_frame X R Q e ws a = let P : Both → Type 0 = λ r. After (record { first = X.first; row = r }) ws in subst P e a

@@ -14,6 +14,7 @@ use std::alloc::Global;
 use std::sync::atomic::AtomicU64;
 use std::sync::atomic::Ordering::SeqCst;
 use std::test::Fail;
+use std::thread::Threads;
 
 /// Two rules that read one another: one sums the other by a label, and the other has what the first has, or the samples of a metric.
 const READ_ONE_ANOTHER: &str =
@@ -50,31 +51,42 @@ fn one_round(
     Ok(end)
 }
 
+/// Whether each of three rounds in turn changed a word, and whether the last one left the words as they were.
+fn three_rounds(
+    alloc: Global,
+    universe: &Universe,
+    rules: &Seq<Rule>,
+) -> Result<([bool; 3], bool), Memory>
+    requires covers { CoversRules universe.now (rule_trees rules.now) }
+{
+    let words = first_words(alloc, universe, rules)?;
+    let first = one_round(alloc, universe, rules, &words)?;
+    let second = one_round(alloc, universe, rules, &first.words)?;
+    let third = one_round(alloc, universe, rules, &second.words)?;
+    let same = third.words.as_slice() == second.words.as_slice();
+    Ok(([first.changed, second.changed, third.changed], same))
+}
+
+/// The same, of rules alone.
+fn rounds_of(alloc: Global, rules: &Seq<Rule>) -> Result<([bool; 3], bool), ClassError> {
+    let universe = universe_of(alloc, rules)?;
+    let told = three_rounds(alloc, &universe, rules)?;
+    Ok(told)
+}
+
 #[test]
 fn a_round_in_order_needs_no_other(rt: HostRuntime) -> Result<(), Fail> {
-    let alloc = rt.alloc();
-    let rules = accept(alloc, OF_ONE_NAME.as_bytes(), 0)?;
-    let universe = universe_of(alloc, &rules)?;
-    let words = first_words(alloc, &universe, &rules)?;
-    let first = one_round(alloc, &universe, &rules, &words)?;
-    assert!(rt; first.changed);
-    let second = one_round(alloc, &universe, &rules, &first.words)?;
-    assert!(rt; !second.changed);
-    assert_eq!(rt; second.words.as_slice(), first.words.as_slice());
+    let rules = accept(rt.alloc(), OF_ONE_NAME.as_bytes(), 0)?;
+    let told = rounds_of(rt.alloc(), &rules)?;
+    assert_eq!(rt; told, ([true, false, false], true));
     Ok(())
 }
 
 #[test]
 fn rules_that_read_one_another_need_a_round_more(rt: HostRuntime) -> Result<(), Fail> {
-    let alloc = rt.alloc();
-    let rules = accept(alloc, READ_ONE_ANOTHER.as_bytes(), 0)?;
-    let universe = universe_of(alloc, &rules)?;
-    let words = first_words(alloc, &universe, &rules)?;
-    let first = one_round(alloc, &universe, &rules, &words)?;
-    let second = one_round(alloc, &universe, &rules, &first.words)?;
-    assert!(rt; second.changed);
-    let third = one_round(alloc, &universe, &rules, &second.words)?;
-    assert!(rt; !third.changed);
+    let rules = accept(rt.alloc(), READ_ONE_ANOTHER.as_bytes(), 0)?;
+    let told = rounds_of(rt.alloc(), &rules)?;
+    assert_eq!(rt; told, ([true, true, false], true));
     Ok(())
 }
 
@@ -99,17 +111,27 @@ impl Gate for Meeting {
     }
 }
 
+/// Whether a name has a row in the least environment, which two workers find at a gate.
+fn has_row<R: Threads + Sync, G: Gate + Sync>(
+    rt: &R,
+    alloc: Global,
+    rules: &Seq<Rule>,
+    name: &str,
+    gate: &G,
+) -> Result<bool, ClassError> {
+    let universe = universe_of(alloc, rules)?;
+    let env = solve_shared(rt, alloc, &universe, rules, 2, gate)?;
+    Ok(env.row(name).is_some())
+}
+
 #[test]
 fn two_workers_meet_in_a_round(rt: HostRuntime) -> Result<(), Fail> {
-    let alloc = rt.alloc();
-    let rules = accept(alloc, OF_ONE_NAME.as_bytes(), 0)?;
-    let universe = universe_of(alloc, &rules)?;
+    let rules = accept(rt.alloc(), OF_ONE_NAME.as_bytes(), 0)?;
     let gate = Meeting {
         came: AtomicU64::new(0),
         gave_up: AtomicU64::new(0),
     };
-    let env = solve_shared(&rt, alloc, &universe, &rules, 2, &gate)?;
-    assert!(rt; env.row("a:t").is_some());
+    assert!(rt; has_row(&rt, rt.alloc(), &rules, "a:t", &gate)?);
     assert_eq!(rt; gate.gave_up.load(SeqCst), 0);
     Ok(())
 }

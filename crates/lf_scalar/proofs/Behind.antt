@@ -1,8 +1,9 @@
 -- What may stand behind a scalar on its line, by the blanks that come first.
-use Rattle.std.proofs.Common.{◌≡◌, ◌≢◌, ℕ, zero, suc, ◌+◌, ◌<◌, ◌≤◌, Bool, true, false, List, [], ◌∷◌, Some, None, length, get_or, drop, refl, ap, arith, ◌∙◌, eq-eqb, ◌⊎◌, inl, inr, ◌&&◌}
+use Rattle.std.proofs.Common.{◌≡◌, ◌≢◌, ℕ, zero, suc, ◌+◌, ◌<◌, ◌≤◌, Bool, true, false, List, [], ◌∷◌, Some, None, length, get_or, drop, refl, ap, arith, ◌∙◌, eq-eqb, ◌⊎◌, inl, inr}
 use Rattle.std.proofs.lemmas.Bool.{ne_eqb}
 use Rattle.std.proofs.lemmas.Bool.Decides.{eqb_tells}
 use Rattle.std.proofs.lemmas.List.{drop_all, length-drop}
+use Rattle.std.proofs.Math.Bool.{and-false}
 use Rattle.lf_scalar.specs.Cells.{Cell, cell, cells}
 use Rattle.lf_scalar.specs.Lines.{is_blank, after_blanks}
 use Rattle.lf_scalar.specs.reading.Quoted.{wrong_behind}
@@ -23,16 +24,12 @@ not-comment : (b : Bool) (cs : List Cell) (c : Cell) (more : List Cell) → afte
 not-comment b [] c more e n = absurd cc
 not-comment b (d ∷ cs) c more e n = by (is_blank d) refl (λ f. not-comment true cs c more f n)
   where
-    both : (b : Bool) → (b && false) ≡ false
-    both true = refl
-    both false = refl
-
     by : (t : Bool) → is_blank d ≡ t → (after_blanks cs ≡ c ∷ more → wrong_behind true cs ≡ Some c) → wrong_behind b (d ∷ cs) ≡ Some c
     by true t later = rw t (later (rw t at e))
     by false t later =
         let f : d ∷ cs ≡ c ∷ more = rw t at e in
         let g : d ≡ c = cc in
-        rw (t, g, ne_eqb c.byte 35 n, both b) refl
+        rw (t, g, ne_eqb c.byte 35 n, and-false b) refl
 
 -- a `#` behind a blank
 comment : (b : Bool) (cs : List Cell) (c : Cell) (more : List Cell) → after_blanks cs ≡ c ∷ more → c.byte ≡ 35 → (b ≡ true) ⊎ (suc (length more) < length cs) → wrong_behind b cs ≡ None

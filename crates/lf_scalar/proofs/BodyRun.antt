@@ -5,6 +5,8 @@ use Rattle.std.proofs.lemmas.List.{append-nil, length-append, map-append, length
 use Rattle.std.proofs.lemmas.List.Sums.{take_while-cons}
 use Rattle.std.proofs.lemmas.Bool.Decides.{leb_tells}
 use Rattle.std.proofs.lemmas.Bool.{and_parts}
+use Rattle.std.proofs.Math.Bool.{and-true}
+use Rattle.std.proofs.lemmas.List.Folds.{list_all-append}
 use Rattle.lf_base.specs.declared.refusal.Refusal.{Refusal}
 use Rattle.lf_base.specs.declared.refusal.Refusal.TheVariants as refusal_of
 use Rattle.lf_base.specs.Answers.{IfAt}
@@ -21,16 +23,7 @@ use Rattle.lf_scalar.proofs.Cells.{cells-length}
 -- ---- one line more at the end
 
 all-push : {X : Type 0} (p : X → Bool) (xs : List X) (x : X) → list_all p (xs ++ x ∷ []) ≡ (list_all p xs && p x)
-all-push p [] x = and-true (p x)
-  where
-    and-true : (b : Bool) → (b && true) ≡ b
-    and-true true = refl
-    and-true false = refl
-all-push p (y ∷ ys) x = ap (λ (b : Bool). p y && b) (all-push p ys x) ∙ and-assoc (p y) (list_all p ys) (p x)
-  where
-    and-assoc : (a b c : Bool) → (a && (b && c)) ≡ ((a && b) && c)
-    and-assoc true b c = refl
-    and-assoc false b c = refl
+all-push p xs x = list_all-append p xs (x ∷ []) ∙ ap (λ (b : Bool). list_all p xs && b) (and-true (p x))
 
 ends-push : (k : ℕ) (xs : List Line) (l : Line) → (content k l).text ≢ [] → EndsFull (contents k (xs ++ l ∷ []))
 ends-push k [] l h = h

@@ -6,8 +6,9 @@ use Rattle.std.proofs.lemmas.List.Concat.{flat_map-cons}
 use Rattle.std.proofs.lemmas.Bool.{ne_eqb}
 use Rattle.std.proofs.lemmas.Bool.Decides.{eqb_tells}
 use Rattle.lf_scalar.specs.Cells.{Cell}
-use Rattle.lf_scalar.specs.Quoted.{Quotes, Single, Double, quote_of, digit_of, Tells, Piece, Bare, Twice, Letter, Number, spelled, IsPiece, Raw, One, Pair, raw, IsRaw, ClosesBefore, Closes}
+use Rattle.lf_scalar.specs.Quoted.{Quotes, Single, Double, quote_of, Tells, Piece, Bare, Twice, Letter, Number, spelled, IsPiece, Raw, One, Pair, raw, IsRaw, ClosesBefore, Closes}
 use Rattle.lf_scalar.specs.reading.Quoted.{Closing, behind, closing_of}
+use Rattle.lf_base.specs.Names.{hexadecimal_value}
 
 abbrev pub ahead : List Cell → Option Closing → Option Closing
 ahead cs None = None
@@ -44,8 +45,9 @@ closing-ones [] src each = nothing (closing_of Double 0 src)
     nothing (Some x) = refl
 closing-ones (c ∷ cs) src each = closing-one Double (One c) (cs ++ src) each.0 ∙ ap (ahead (c ∷ [])) (closing-ones cs src each.1) ∙ ahead-ahead (c ∷ []) cs (closing_of Double 0 src)
 
-digit-bare : (b d : ℕ) → digit_of b ≡ Some d → (b ≢ 34) × (b ≢ 92)
-digit-bare b d h = (λ e. none (subst (λ (k : ℕ). digit_of k ≡ Some d) e h), λ e. none (subst (λ (k : ℕ). digit_of k ≡ Some d) e h))
+digit-bare : (b d : ℕ) → hexadecimal_value b ≡ Some d → (b ≢ 34) × (b ≢ 92)
+unfolding hexadecimal_value
+digit-bare b d h = (λ e. none (subst (λ (k : ℕ). hexadecimal_value k ≡ Some d) e h), λ e. none (subst (λ (k : ℕ). hexadecimal_value k ≡ Some d) e h))
   where
     none : None ≡ Some d → ⊥
     none e = cc

@@ -1,5 +1,5 @@
 -- Folding a body's lines one after the other.
-use Rattle.std.proofs.Common.{◌≡◌, ℕ, zero, suc, ◌<◌, Bool, true, false, eqb, List, [], ◌∷◌, ◌++◌, length, get_or, Option, Some, None, refl, ap, arith, sym, ◌∙◌, append_assoc, add-one, inl, inr}
+use Rattle.std.proofs.Common.{◌≡◌, ℕ, suc, ◌<◌, Bool, List, [], ◌∷◌, ◌++◌, length, get_or, Option, Some, None, refl, ap, arith, sym, ◌∙◌, append_assoc, add-one, inl, inr}
 use Rattle.std.specs.Prelude.{IfSome}
 use Rattle.std.proofs.lemmas.List.{append-nil}
 use Rattle.std.proofs.lemmas.Bool.{cases_Bool}
@@ -22,10 +22,6 @@ stretch-step l k (m ∷ ls) =
       | inl a ↦ rw a (stretch-step l (suc k) ls ∙ ap (λ (n : ℕ). l.text ++ last_behind (last_of l n) ls) (sym (add-one k)))
       | inr a ↦ rw a refl
     ]
-
-pub not-empty : (n : ℕ) (b : Bool) → b ≡ eqb n 0 → b ≡ false → 0 < n
-not-empty zero b e f = let h : true ≡ false = sym e ∙ f in absurd cc
-not-empty (suc n) b e f = omega arith
 
 -- ---- one line
 

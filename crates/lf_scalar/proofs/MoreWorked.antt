@@ -1,5 +1,5 @@
 -- More worked scalars and breaches, straight by the definitions: offsets and spans written out by hand.
-use Rattle.std.proofs.Common.{◌≡◌, ◌≢◌, ℕ, ◌+◌, ◌<◌, ◌≤◌, true, false, List, [], ◌∷◌, ◌++◌, Option, Some, None, length, refl, ap, arith, sym, ◌∙◌, ◌⊎◌, inl, inr}
+use Rattle.std.proofs.Common.{◌≡◌, ◌≢◌, ℕ, ◌+◌, ◌<◌, ◌≤◌, true, false, List, [], ◌∷◌, ◌++◌, Option, Some, None, length, refl, ap, arith, sym, ◌∙◌, inl, inr}
 use Rattle.std.specs.Prelude.{pos, negsuc, codes}
 use Rattle.std.proofs.lemmas.Bool.{true≢false}
 use Rattle.std.specs.List.{AllByRecursion, flat_map}
@@ -7,22 +7,16 @@ use Rattle.lf_base.specs.declared.kind.Kind.TheVariants.{BadEscape, OpenQuote, B
 use Rattle.lf_scalar.specs.declared.scalar.Style.TheVariants as style
 use Rattle.lf_scalar.specs.declared.block.Chomp.{Chomp}
 use Rattle.lf_scalar.specs.declared.block.Chomp.TheVariants.{Strip, Clip, Keep}
-use Rattle.lf_base.specs.declared.place.Span.{Span}
 use Rattle.lf_base.specs.Faults.{span, fault}
-use Rattle.lf_scalar.specs.Cells.{Cell, cell, Value, byte_fault}
+use Rattle.lf_scalar.specs.Cells.{Cell, cell, byte_fault}
 use Rattle.lf_scalar.specs.Lines.{line, lines, is_tail}
 use Rattle.lf_scalar.specs.Plain.{last, more}
 use Rattle.lf_scalar.specs.Quoted.{Quotes, Single, Double, Piece, Bare, Twice, Letter, Number, IsPiece, spelled, letter_of, width_of, Raw, One, Pair, raw, Closes, Break, Folds, Drops, IsBadEscape, HasBadEscape, open_quote, inside, outside}
 use Rattle.lf_scalar.specs.Quoted as quoted
 use Rattle.lf_scalar.specs.Block.{AreMarks, IsChomp, body_fault, header, body}
 use Rattle.lf_scalar.specs.Scalars.{IsScalarAt, BreaksAt}
-
-abbrev value : List ℕ → List ℕ → Span → Value
-value text from place = record { text = text; from = from; span = place }
-
-differ : (m n : ℕ) → (m < n) ⊎ (n < m) → m ≢ n
-differ m n (inl h) e = omega arith
-differ m n (inr h) e = omega arith
+use Rattle.lf_scalar.proofs.Cells.{no-cell, same-cells}
+use Rattle.lf_scalar.proofs.Worked.{value, differ, some, a_space}
 
 -- ---- plain
 
@@ -53,9 +47,6 @@ a_letter n low high = (differ n 34 (inr (omega arith)), differ n 92 (inr (omega 
 
 a_feed : (◌≢◌ {A = ℕ} 10 34) × (◌≢◌ {A = ℕ} 10 92)
 a_feed = (differ 10 34 (inl (omega arith)), differ 10 92 (inl (omega arith)))
-
-a_space : (◌≢◌ {A = ℕ} 32 34) × (◌≢◌ {A = ℕ} 32 92)
-a_space = (differ 32 34 (inl (omega arith)), differ 32 92 (inl (omega arith)))
 
 b : (◌≢◌ {A = ℕ} 98 34) × (◌≢◌ {A = ℕ} 98 92)
 b = a_letter 98 (omega arith) (omega arith)
@@ -104,15 +95,6 @@ no-letter n e = not-nothing n e
 no-width : (n : ℕ) → width_of 113 ≡ something n → ⊥
 no-width n e = not-nothing n e
 
-nil-cons : (c : Cell) (cs : List Cell) → [] ≡ c ∷ cs → ⊥
-nil-cons c cs e = cc
-
-tails : (c d : Cell) (cs ds : List Cell) → c ∷ cs ≡ d ∷ ds → cs ≡ ds
-tails c d cs ds e = cc
-
-some : (c : Cell) (cs : List Cell) → c ∷ cs ≢ []
-some c cs e = cc
-
 first-byte : (c d : Cell) (cs ds : List Cell) → c ∷ cs ≡ d ∷ ds → c.byte ≡ d.byte
 first-byte c d cs ds e = cc
 
@@ -139,10 +121,10 @@ no_escape = inside
 
 -- some cells, none of which is a single quote
 others : (cs before rest : List Cell) (d : Cell) → AllByRecursion (λ x. x.byte ≢ 39) cs → cs ≡ before ++ d ∷ rest → d.byte ≡ 39 → ⊥
-others [] [] rest d h e q = absurd (nil-cons d rest e)
-others [] (x ∷ before) rest d h e q = absurd (nil-cons x (before ++ d ∷ rest) e)
+others [] [] rest d h e q = absurd (no-cell d rest e)
+others [] (x ∷ before) rest d h e q = absurd (no-cell x (before ++ d ∷ rest) e)
 others (c ∷ cs) [] rest d h e q = h.0 (first-byte c d cs rest e ∙ q)
-others (c ∷ cs) (x ∷ before) rest d h e q = others cs before rest d h.1 (tails c x cs (before ++ d ∷ rest) e) q
+others (c ∷ cs) (x ∷ before) rest d h e q = others cs before rest d h.1 (same-cells c x cs (before ++ d ∷ rest) e) q
 
 -- a quote that doesn't close, told at it
 no_quote : BreaksAt (codes "a: 'b\n") 3 (pos 0) style.Single (byte_fault OpenQuote 3)
@@ -197,7 +179,7 @@ not-marks (m ∷ []) tail chomp None e h t = no-sign m chomp (sym (first-byte (c
 not-marks (m ∷ []) tail Strip (Some d) e h t = h
 not-marks (m ∷ []) tail Clip (Some d) e h t = no-digit d h.1 (first-byte (cell 120 4) m [] tail e ∙ h.2)
 not-marks (m ∷ []) tail Keep (Some d) e h t = h
-not-marks (m ∷ n ∷ marks) tail chomp digit e h t = nil-cons n (marks ++ tail) (tails (cell 120 4) m [] (n ∷ (marks ++ tail)) e)
+not-marks (m ∷ n ∷ marks) tail chomp digit e h t = no-cell n (marks ++ tail) (same-cells (cell 120 4) m [] (n ∷ (marks ++ tail)) e)
 
 -- a header with another character, told at it
 no_header : BreaksAt (codes "a: |x\n") 3 (pos 0) style.Literal (byte_fault BadHeader 4)

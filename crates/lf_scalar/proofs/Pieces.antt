@@ -9,14 +9,15 @@ use Rattle.std.proofs.Math.Seq.{take-append_seam}
 use Rattle.std.proofs.lemmas.Option.{none-some}
 use lib.Utf8.{scalar}
 use Rattle.lf_scalar.specs.Cells.{Cell}
-use Rattle.lf_scalar.specs.Quoted.{Quotes, Single, Double, letter_of, width_of, digit_of, Tells, Piece, Bare, Twice, Letter, Number, spelled, IsPiece}
+use Rattle.lf_scalar.specs.Quoted.{Quotes, Single, Double, letter_of, width_of, Tells, Piece, Bare, Twice, Letter, Number, spelled, IsPiece}
 use Rattle.lf_scalar.specs.reading.Quoted.{told_on, told, piece_of, scan}
+use Rattle.lf_base.specs.Names.{hexadecimal_value}
 
 pub told-tells : (before : ℕ) (cs : List Cell) (n : ℕ) → told before cs ≡ Some n → Tells before cs n
 told-tells before [] n e = let h : before ≡ n = cc in sym h
-told-tells before (c ∷ cs) n e = by (digit_of c.byte) refl e (λ d. told-tells (16 * before + d) cs n)
+told-tells before (c ∷ cs) n e = by (hexadecimal_value c.byte) refl e (λ d. told-tells (16 * before + d) cs n)
   where
-    by : (o : Option ℕ) → digit_of c.byte ≡ o → told_on before o (λ n. told n cs) ≡ Some n → ((d : ℕ) → told (16 * before + d) cs ≡ Some n → Tells (16 * before + d) cs n) → Tells before (c ∷ cs) n
+    by : (o : Option ℕ) → hexadecimal_value c.byte ≡ o → told_on before o (λ n. told n cs) ≡ Some n → ((d : ℕ) → told (16 * before + d) cs ≡ Some n → Tells (16 * before + d) cs n) → Tells before (c ∷ cs) n
     by None p e later = absurd (none-some n e)
     by (Some d) p e later = (d, p, later d e)
 

@@ -103,13 +103,13 @@ breaks-again kind l _ _ (later {next = next} {ls = ls} {f = f} part break blank 
 
 -- ---- what is read is told by the definition: one line
 
-abbrev some-closing : Closing → Option Closing
+abbrev pub some-closing : Closing → Option Closing
 some-closing x = Some x
 
 abbrev bad : Fault → Result Read Fault
 bad f = Err f
 
-no-some : (x : Closing) → None ≡ some-closing x → ⊥
+pub no-some : (x : Closing) → None ≡ some-closing x → ⊥
 no-some x e = cc
 
 -- where no piece stands: a backslash, or a quote that closes

@@ -4,17 +4,20 @@ use Rattle.std.specs.Str.{IsUtf8}
 use Rattle.std.specs.Char.{IsScalar, encode_utf8}
 use Rattle.std.specs.List.{flat_map, list_all, AllByRecursion}
 use Rattle.std.proofs.lemmas.List.{append-nil}
-use Rattle.std.proofs.lemmas.Bool.{and_parts, le-ltb, cases_lt, cases_Bool, true≢false}
+use Rattle.std.proofs.lemmas.Bool.{and_parts, cases_Bool, true≢false}
 use Rattle.std.proofs.lemmas.Grind.{flat_map-append}
 use Rattle.std.proofs.lemmas.Str.{IsUtf8-encode}
+use Rattle.std.proofs.lemmas.Bool.Decides.{nat_tests}
+use Rattle.std.proofs.lemmas.Option.{same_Some}
 use Rattle.lf_scalar.specs.Cells.{Cell, cell, bytes_of}
 use Rattle.lf_scalar.specs.Lines.{Line, after_blanks}
 use Rattle.lf_scalar.specs.Folding.{trimmed}
-use Rattle.lf_scalar.specs.Quoted.{Quotes, Single, Double, quote_of, letters, looked_up, letter_of, width_of, digit_of, Tells, Piece, Bare, Twice, Letter, Number, spelled, char_cells, given, IsPiece, is_bare_blank, Break, Folds, Drops, filled, IsBroken, unindented, QuotedFrom, last, more}
+use Rattle.lf_scalar.specs.Quoted.{Quotes, Single, Double, quote_of, letters, looked_up, letter_of, width_of, Tells, Piece, Bare, Twice, Letter, Number, spelled, char_cells, given, IsPiece, is_bare_blank, Break, Folds, Drops, filled, IsBroken, unindented, QuotedFrom, last, more}
 use Rattle.lf_scalar.proofs.Parts.{Utf8, utf8-before, utf8-behind, part-utf8, after-blanks-part, blank-low, BeginsLow}
 use Rattle.lf_scalar.proofs.Utf8Lines.{utf8-nil, utf8-append, utf8-low, feeds-utf8, fold-utf8, LinesUtf8, lines-utf8-behind}
 use Rattle.lf_scalar.proofs.Rising.{Rises, Climbs, LinesRise, rises-le, rises-front, rises-back, rises-before, rises-behind, rises-part, climbs-low, climbs-high, climbs-append, feeds-climb, fold-climbs, lines-behind}
-use Rattle.lf_scalar.proofs.Tails.{some-is}
+use Rattle.lf_base.specs.Names.{hexadecimal_value}
+use Rattle.lf_laws.proofs.Members.{all_front}
 
 -- ---- escapes
 
@@ -33,7 +36,7 @@ letters-are byte n (pair ∷ pairs) h e =
     elim (cases_Bool (eqb byte pair.0)) [
       | inl a ↦
           let k : some pair.1 ≡ some n = rw a at e in
-          (omega (arith, eqb-true byte pair.0 a, h.0.0), subst IsScalar (some-is pair.1 n k) h.0.1)
+          (omega (arith, eqb-true byte pair.0 a, h.0.0), subst IsScalar (same_Some pair.1 n k) h.0.1)
       | inr a ↦ letters-are byte n pairs h.1 (rw a at e)
     ]
 
@@ -83,14 +86,9 @@ width-low byte n e =
       ]
     ]
 
-digit-low : (byte d : ℕ) → digit_of byte ≡ some d → byte < 128
-digit-low byte d e =
-    elim (cases_lt byte 128) [
-      | inl lt ↦ lt
-      | inr le ↦
-          let k : none ≡ some d = rw (le-ltb byte 48 (omega arith), le-ltb byte 58 (omega arith), le-ltb byte 65 (omega arith), le-ltb byte 71 (omega arith), le-ltb byte 97 (omega arith), le-ltb byte 103 (omega arith)) at e in
-          absurd (not-none d k)
-    ]
+digit-low : (byte d : ℕ) → hexadecimal_value byte ≡ some d → byte < 128
+unfolding hexadecimal_value
+digit-low byte d e = grind (arith, nat_tests)
 
 abbrev pub AreLow : List Cell → Type 0
 AreLow cs = AllByRecursion (λ c. c.byte < 128) cs
@@ -187,10 +185,6 @@ trimmed-pieces (p ∷ ps) =
     longer : FrontPieces ps (trimmed is_bare_blank ps) → FrontPieces (p ∷ ps) (p ∷ trimmed is_bare_blank ps)
     longer f = record { back = f.back; source = ap (λ (qs : List Piece). p ∷ qs) f.source; begins_low = f.begins_low }
 
-all-front : (P : Piece → Type 0) (xs ys : List Piece) → AllByRecursion P (xs ++ ys) → AllByRecursion P xs
-all-front P [] ys h = tt
-all-front P (x ∷ xs) ys h = (h.0, all-front P xs ys h.1)
-
 module _ (ps : List Piece) where
   spelled-parts : flat_map spelled ps ≡ flat_map spelled (trimmed is_bare_blank ps) ++ flat_map spelled (trimmed-pieces ps).back
   spelled-parts = ap (flat_map spelled) (trimmed-pieces ps).source ∙ flat_map-append spelled (trimmed is_bare_blank ps) (trimmed-pieces ps).back
@@ -201,7 +195,7 @@ module _ (ps : List Piece) where
 
   pub trimmed-utf8 : (kind : Quotes) → AllByRecursion (IsPiece kind) ps → Utf8 (flat_map spelled ps) → Utf8 (flat_map given (trimmed is_bare_blank ps))
   trimmed-utf8 kind h u =
-      pieces-utf8 kind (trimmed is_bare_blank ps) (all-front (IsPiece kind) (trimmed is_bare_blank ps) (trimmed-pieces ps).back (subst (AllByRecursion (IsPiece kind)) (trimmed-pieces ps).source h))
+      pieces-utf8 kind (trimmed is_bare_blank ps) (all_front (IsPiece kind) (trimmed is_bare_blank ps) (trimmed-pieces ps).back (subst (AllByRecursion (IsPiece kind)) (trimmed-pieces ps).source h))
       (cut-utf8 (flat_map spelled (trimmed is_bare_blank ps)) (flat_map spelled (trimmed-pieces ps).back) (trimmed-pieces ps).begins_low (subst Utf8 spelled-parts u))
 
   pub trimmed-climbs : (lo hi : ℕ) → Rises lo (flat_map spelled ps) hi → Climbs lo (flat_map given (trimmed is_bare_blank ps)) hi

@@ -6,14 +6,11 @@ use Rattle.lf_base.specs.Faults.{span}
 use Rattle.lf_scalar.specs.Cells.{Cell, Value, made, ◌>>=◌}
 use Rattle.lf_scalar.specs.Lines.{Line}
 use Rattle.lf_scalar.specs.Quoted.{Quotes, raw, Closes, inner_lines, IsClosed, behind, IsQuoted, BreaksQuoted, open_quote, inside, outside}
-use Rattle.lf_scalar.specs.reading.Quoted.{Closing, lines_of, lines_from, wrong_behind, alone, closed, quoted_of}
+use Rattle.lf_scalar.specs.reading.Quoted.{lines_of, lines_from, wrong_behind, alone, closed, quoted_of}
 use Rattle.lf_scalar.proofs.Closing.{closes-again, inner-again, closes-or-none}
 use Rattle.lf_scalar.proofs.InnerLines.{LinesOk, inner-lines}
 use Rattle.lf_scalar.proofs.Tails.{tail-told, told-tail, wrong-told, told-wrong, from-front, to-front}
-use Rattle.lf_scalar.proofs.QuotedLaws.{from-again, breaks-again, from-tells, Answers}
-
-abbrev some-closing : Closing → Option Closing
-some-closing x = Some x
+use Rattle.lf_scalar.proofs.QuotedLaws.{from-again, breaks-again, from-tells, Answers, no-some}
 
 module _ (kind : Quotes) (end : ℕ) (opening : Cell) (src : List Cell) where
   abbrev value_of : Closes kind src → List Cell → Value
@@ -52,9 +49,6 @@ module _ (kind : Quotes) (end : ℕ) (opening : Cell) (src : List Cell) where
   Told (Ok v) = IsQuoted kind end opening src v
   Told (Err f) = BreaksQuoted kind end opening src f
 
-  none-some : (x : Closing) → None ≡ some-closing x → ⊥
-  none-some x e = cc
-
   judged-tells : (v : Value) (h : IsClosed kind opening src v) (o : Option Cell) → wrong_behind false (behind end h.between) ≡ o → Told (alone v o)
   judged-tells v h None e = record { closed = h; alone = told-tail false (behind end h.between) e }
   judged-tells v h (Some w) e = outside h (to-front (behind end h.between) w (told-wrong false (behind end h.between) w e))
@@ -76,5 +70,5 @@ module _ (kind : Quotes) (end : ℕ) (opening : Cell) (src : List Cell) where
         | inl c ↦
             let cs = flat_map raw c.raws ++ c.closing ∷ [] in
             subst Told (sym (read-is c)) (inner-tell c (inner_lines c) refl (inner-lines kind (c.closing.at + 1) (suc (length cs)) 0 c.closing cs (flat_map raw c.raws) (omega arith) (omega arith) (inner-again kind src c)))
-        | inr n ↦ subst Told (sym (ap (closed kind end opening) n)) (open_quote (λ c. none-some (flat_map raw c.raws, (c.closing, c.rest)) (sym n ∙ closes-again kind src c)))
+        | inr n ↦ subst Told (sym (ap (closed kind end opening) n)) (open_quote (λ c. no-some (flat_map raw c.raws, (c.closing, c.rest)) (sym n ∙ closes-again kind src c)))
       ]

@@ -6,6 +6,7 @@ use Rattle.std.proofs.lemmas.List.{append-nil, length-append, drop_all, drop-dro
 use Rattle.std.proofs.lemmas.List.Concat.{flat_map-cons}
 use Rattle.std.proofs.lemmas.Grind.{flat_map-append}
 use Rattle.std.proofs.Math.Seq.{drop-append_seam}
+use Rattle.std.proofs.Math.Bool.{and-false}
 use Rattle.lf_scalar.specs.declared.escapes.Given.{Given}
 use Rattle.lf_scalar.specs.declared.escapes.Given.TheVariants as given_of
 use Rattle.lf_scalar.specs.Cells.{Cell, cell, cells}
@@ -13,6 +14,7 @@ use Rattle.lf_scalar.specs.Folding.{trimmed}
 use Rattle.lf_scalar.specs.Quoted.{Quotes, Piece, spelled, given, IsPiece, is_bare_blank}
 use Rattle.lf_scalar.specs.reading.Quoted.{piece_of, piece_at, as_piece, shown, is_blank_given, scan, Reaches}
 use Rattle.lf_scalar.proofs.Pieces.{Starts, starts, head_of, tail_of, spelled-is, piece-one, NoPiece, scan-again}
+use Rattle.lf_laws.proofs.Members.{all_append}
 
 abbrev seen : List Cell × (Bool × ℕ) → Option (List Cell × (Bool × ℕ))
 seen x = Some x
@@ -91,11 +93,7 @@ all-blank t (y ∷ ys) x h = ap (λ (b : Bool). t y && b) (all-blank t ys x h)
 
 all-full : {X : Type 0} (t : X → Bool) (xs : List X) (x : X) → t x ≡ false → list_all t (xs ++ x ∷ []) ≡ false
 all-full t [] x h = rw h refl
-all-full t (y ∷ ys) x h = rw (all-full t ys x h) (both (t y))
-  where
-    both : (b : Bool) → (b && false) ≡ false
-    both true = refl
-    both false = refl
+all-full t (y ∷ ys) x h = rw (all-full t ys x h) (and-false (t y))
 
 trimmed-blank : {X : Type 0} (t : X → Bool) (xs : List X) (x : X) → t x ≡ true → trimmed t (xs ++ x ∷ []) ≡ trimmed t xs
 trimmed-blank t [] x h = rw h refl
@@ -103,11 +101,7 @@ trimmed-blank t (y ∷ ys) x h = rw (all-blank t ys x h, trimmed-blank t ys x h)
 
 trimmed-full : {X : Type 0} (t : X → Bool) (xs : List X) (x : X) → t x ≡ false → trimmed t (xs ++ x ∷ []) ≡ xs ++ x ∷ []
 trimmed-full t [] x h = rw h refl
-trimmed-full t (y ∷ ys) x h = rw (all-full t ys x h, trimmed-full t ys x h) (both (t y))
-  where
-    both : (b : Bool) → cond (b && false) [] (y ∷ ys ++ x ∷ []) ≡ y ∷ ys ++ x ∷ []
-    both true = refl
-    both false = refl
+trimmed-full t (y ∷ ys) x h = rw (all-full t ys x h, trimmed-full t ys x h, and-false (t y)) refl
 
 -- ---- so far
 
@@ -129,10 +123,6 @@ nothing-left kind at stop line le = rw (drop_all stop line le) tt
 flat-push : (f : Piece → List Cell) (ps : List Piece) (p : Piece) → flat_map f (ps ++ p ∷ []) ≡ flat_map f ps ++ f p
 flat-push f ps p = flat_map-append f ps (p ∷ []) ∙ ap (λ (x : List Cell). flat_map f ps ++ x) (flat_map-cons f p [] ∙ append-nil (f p))
 
-all-push : (kind : Quotes) (ps : List Piece) (p : Piece) → AllByRecursion (IsPiece kind) ps → IsPiece kind p → AllByRecursion (IsPiece kind) (ps ++ p ∷ [])
-all-push kind [] p each h = (h, tt)
-all-push kind (q ∷ ps) p each h = (each.0, all-push kind ps p each.1 h)
-
 pub one-more : (kind : Quotes) (at : ℕ) (line : List ℕ) (old now after : List Cell) (kept new stop : ℕ) (g : Given) (k : ℕ) → SoFar kind at line old now kept stop → Front kind (at + stop) (drop stop line) g k
     → after ≡ now ++ (shown (at + stop) (g, 0)).0 → new ≡ cond (is_blank_given g) kept (length after) → SoFar kind at line old after new (stop + (1 + k))
 one-more kind at line old now after kept new stop g k r f a n =
@@ -144,7 +134,7 @@ one-more kind at line old now after kept new stop g k r f a n =
     ap (λ (m : ℕ). cells m (drop (1 + k) (drop stop line))) p ∙ ap (cells (at + (stop + (1 + k)))) (drop-drop (1 + k) stop line) in
     record {
       pieces = r.pieces ++ f.piece ∷ [];
-      each = all-push kind r.pieces f.piece r.each f.is_piece;
+      each = all_append (IsPiece kind) r.pieces (f.piece ∷ []) r.each (f.is_piece, tt);
       source = r.source ∙ ap (λ (x : List Cell). flat_map spelled r.pieces ++ x) (f.source ∙ ap (λ (x : List Cell). spelled f.piece ++ x) left)
           ∙ sym (append_assoc (flat_map spelled r.pieces) (spelled f.piece) (cells (at + (stop + (1 + k))) (drop (stop + (1 + k)) line)))
           ∙ ap (λ (x : List Cell). x ++ cells (at + (stop + (1 + k))) (drop (stop + (1 + k)) line)) (sym (flat-push spelled r.pieces f.piece));

@@ -1,7 +1,7 @@
 -- Blanks, and the blank before a comment, are ASCII bytes.
-use Rattle.std.proofs.Common.{◌≡◌, ℕ, zero, suc, ◌<◌, true, false, eqb, List, [], ◌∷◌, get_or, arith, inl, inr}
+use Rattle.std.proofs.Common.{◌≡◌, ℕ, zero, suc, ◌<◌, true, eqb, List, [], ◌∷◌, get_or, arith, inl, inr}
 use Rattle.std.proofs.lemmas.Bool.Decides.{eqb_tells}
-use Rattle.std.proofs.lemmas.Bool.{and_parts}
+use Rattle.std.proofs.lemmas.Bool.{and_parts, false≢true}
 use Rattle.lf_scalar.specs.Cells.{cell}
 use Rattle.lf_scalar.specs.Lines.{is_blank}
 use Rattle.lf_scalar.specs.reading.Plain.{comment_at}
@@ -12,12 +12,9 @@ small-blank x at h =
       | inl a ↦ omega (arith, a.1)
       | inr a ↦ elim (eqb_tells x 9) [
         | inl b ↦ omega (arith, b.1)
-        | inr b ↦ absurd (never (rw (a.0, b.0) at h))
+        | inr b ↦ absurd (false≢true (rw (a.0, b.0) at h))
       ]
     ]
-  where
-    never : false ≡ true → ⊥
-    never e = cc
 
 -- the blank before a comment
 pub small-comment : (line : List ℕ) (i : ℕ) → comment_at line i ≡ true → get_or line i 0 < 128

@@ -1,6 +1,6 @@
 -- What may stand behind a scalar on its line, and the first cell that may not.
 use Rattle.std.proofs.Common.{◌≡◌, Bool, true, false, eqb, List, [], ◌∷◌, ◌++◌, Some, None, refl, ap, sym, ◌∙◌, ◌⊎◌, inl, inr, ◌&&◌}
-use Rattle.std.proofs.lemmas.Option.{none-some}
+use Rattle.std.proofs.lemmas.Option.{none-some, same_Some}
 use Rattle.lf_scalar.specs.Cells.{Cell}
 use Rattle.lf_scalar.specs.Lines.{is_blank, is_tail}
 use Rattle.lf_scalar.specs.Quoted.{WrongBehind}
@@ -8,9 +8,6 @@ use Rattle.lf_scalar.specs.reading.Quoted.{wrong_behind}
 
 pub true-false : {X : Type 0} (b : Bool) → b ≡ true → b ≡ false → X
 true-false b p q = let h : true ≡ false = sym p ∙ q in absurd cc
-
-pub some-is : {A : Type 0} (x y : A) → Some x ≡ Some y → x ≡ y
-some-is x y e = cc
 
 -- the same behind a blank or not
 pub record WrongFrom (behind : Bool) (cs : List Cell) (wrong : Cell) : Type 0 where
@@ -76,7 +73,7 @@ told-wrong behind (c ∷ cs) w e =
           record { front = c ∷ r.front; more = r.more; source = ap (λ (x : List Cell). c ∷ x) r.source; before = rw p r.before; here = rw p r.here }
       | inr (inl p) ↦ absurd (none-some w (sym (tail-told behind (c ∷ cs) (rw (p.0, p.1) refl)) ∙ e))
       | inr (inr p) ↦
-          let i : c ≡ w = some-is c w (rw (p.0, p.1) at e) in
+          let i : c ≡ w = same_Some c w (rw (p.0, p.1) at e) in
           record { front = []; more = cs; source = ap (λ (x : Cell). x ∷ cs) i; before = refl; here = rw (← i, p.0, p.1) refl }
     ]
 

@@ -6,7 +6,7 @@ use Rattle.std.specs.List.{flat_map}
 use Rattle.std.proofs.lemmas.Bool.{cases_Bool, and_parts}
 use Rattle.std.proofs.lemmas.List.{length-drop}
 use Rattle.std.proofs.lemmas.Str.{IsUtf8-drop}
-use Rattle.std.proofs.lemmas.Option.{none-some}
+use Rattle.std.proofs.lemmas.Option.{none-some, same_Some}
 use Rattle.lf_base.specs.declared.kind.Kind.{Kind}
 use Rattle.lf_base.specs.declared.kind.Kind.TheVariants.{BadHeader, NotANode}
 use Rattle.lf_base.specs.declared.fault.Fault.{Fault}
@@ -33,7 +33,7 @@ use Rattle.lf_scalar.proofs.Parts.{Utf8, utf8-before, utf8-behind, part-utf8, bl
 use Rattle.lf_scalar.proofs.PlainOffsets.{plain-text-rises}
 use Rattle.lf_scalar.proofs.QuotedTexts.{quote-low}
 use Rattle.lf_scalar.proofs.Rising.{Rises, LinesRise, rises-le, rises-part, rises-before, rises-behind, climbs-from, climbs-end, cells-rise, lines-rise, lines-behind}
-use Rattle.lf_scalar.proofs.Tails.{true-false, wrong-told, from-front, some-is}
+use Rattle.lf_scalar.proofs.Tails.{true-false, wrong-told, from-front}
 use Rattle.lf_scalar.proofs.TextLaws.{first-byte, rises-push}
 use Rattle.lf_scalar.proofs.Utf8Lines.{utf8-nil, utf8-append, utf8-low, LinesUtf8, lines-utf8, lines-utf8-behind}
 
@@ -63,7 +63,7 @@ key_lies : (cs : List Cell) (c : Cell) (lo hi : ℕ) → key_sign cs ≡ some c 
 key_lies [] c lo hi e r = absurd (none-some c e)
 key_lies (d ∷ cs) c lo hi e r =
     elim (cases_Bool (eqb d.byte 58 && before_blank cs)) [
-      | inl a ↦ subst (λ (x : Cell). suc x.at ≤ hi) (some-is d c (rw a at e)) (rises-le (suc d.at) cs hi r.1)
+      | inl a ↦ subst (λ (x : Cell). suc x.at ≤ hi) (same_Some d c (rw a at e)) (rises-le (suc d.at) cs hi r.1)
       | inr a ↦ key_lies cs c (suc d.at) hi (rw a at e) r.1
     ]
 
@@ -118,7 +118,7 @@ wrong_lies blank (c ∷ cs) w lo hi e u r kind =
       | inl a ↦ wrong_lies true cs w (suc c.at) hi (rw a at e) (utf8-behind [] c cs u (blank-low c a)) r.1 kind
       | inr a ↦ elim (cases_Bool (blank && eqb c.byte 35)) [
         | inl b ↦ absurd (none-some w (rw (a, b) at e))
-        | inr b ↦ subst (λ (x : Cell). LiesIn hi (character_fault kind x).span) (some-is c w (rw (a, b) at e)) (character_lies lo c cs hi u r kind)
+        | inr b ↦ subst (λ (x : Cell). LiesIn hi (character_fault kind x).span) (same_Some c w (rw (a, b) at e)) (character_lies lo c cs hi u r kind)
       ]
     ]
 

@@ -14,7 +14,7 @@ use Rattle.lf_scalar.specs.Quoted as quoted
 use Rattle.lf_scalar.specs.Block.{body_fault}
 use Rattle.lf_scalar.specs.Scalars.{IsScalarAt, BreaksAt}
 
-abbrev value : List ℕ → List ℕ → Span → Value
+abbrev pub value : List ℕ → List ℕ → Span → Value
 value text from place = record { text = text; from = from; span = place }
 
 -- a plain scalar over two lines: one space between them, with the offset of the line feed
@@ -43,7 +43,7 @@ second_tab = (
   tab (line [] 5 ∷ []) [] refl (record { bare = refl; are_blank = (refl, tt); goes_on = refl }) refl,
 )
 
-differ : (m n : ℕ) → (m < n) ⊎ (n < m) → m ≢ n
+pub differ : (m n : ℕ) → (m < n) ⊎ (n < m) → m ≢ n
 differ m n (inl h) e = omega arith
 differ m n (inr h) e = omega arith
 
@@ -63,7 +63,7 @@ quote_in_quotes = record {
   alone = refl;
 }
 
-a_space : (◌≢◌ {A = ℕ} 32 34) × (◌≢◌ {A = ℕ} 32 92)
+pub a_space : (◌≢◌ {A = ℕ} 32 34) × (◌≢◌ {A = ℕ} 32 92)
 a_space = (differ 32 34 (inl (omega arith)), differ 32 92 (inl (omega arith)))
 
 -- a backslash at a line's end with a blank line behind it: one line feed, with the offset of the line break that is dropped
@@ -94,7 +94,7 @@ dropped_break = record {
   alone = refl;
 }
 
-some : (c : Cell) (cs : List Cell) → c ∷ cs ≢ []
+pub some : (c : Cell) (cs : List Cell) → c ∷ cs ≢ []
 some c cs e = cc
 
 -- a literal scalar that keeps the empty lines at its end, one of them of one space

@@ -1,10 +1,10 @@
 -- A builder's bytes and offsets side by side.
 use Rattle.std.proofs.Common.{◌≡◌, ℕ, zero, suc, ◌+◌, ◌-◌, ◌<◌, ◌≤◌, min, Option, Some, None, List, [], ◌∷◌, ◌++◌, length, map, take, get_or, refl, ap, arith, sym, ◌∙◌, append_assoc, add-one}
 use Rattle.std.specs.Prelude.{slice_get}
+use Rattle.std.proofs.lemmas.Option.{same_Some}
 use Rattle.lf_scalar.specs.Cells.{Cell, cell, cells, bytes_of, offsets_of, end_of, zipped}
 use Rattle.lf_scalar.specs.Folding.{feeds}
 use Rattle.lf_scalar.proofs.Cells.{cells-take}
-use Rattle.lf_scalar.proofs.Tails.{some-is}
 
 pub zipped-length : (xs ys : List ℕ) → length xs ≡ length ys → length (zipped xs ys) ≡ length xs
 zipped-length [] ys e = refl
@@ -68,7 +68,7 @@ pub end-zipped : (none : ℕ) (xs ys : List ℕ) (x : ℕ) → length xs ≡ len
 end-zipped none [] [] x e h = absurd (not-nothing x h)
 end-zipped none [] (y ∷ ys) x e h = absurd (omega (arith, e))
 end-zipped none (b ∷ xs) [] x e h = absurd (omega (arith, e))
-end-zipped none (b ∷ []) (y ∷ []) x e h = rw (some-is x y h) (sym (add-one y))
+end-zipped none (b ∷ []) (y ∷ []) x e h = rw (same_Some x y h) (sym (add-one y))
 end-zipped none (b ∷ []) (y ∷ z ∷ ys) x e h = absurd (omega (arith, e))
 end-zipped none (b ∷ c ∷ xs) (y ∷ []) x e h = absurd (omega (arith, e))
 end-zipped none (b ∷ c ∷ xs) (y ∷ z ∷ ys) x e h =

@@ -1,5 +1,5 @@
 -- Scalars between single or double quotes, over one line or several.
-use Rattle.std.specs.Prelude.{◌≡◌, ◌≢◌, ℕ, ◌+◌, ◌*◌, ◌-◌, List, [], ◌∷◌, ◌++◌, map, length, Bool, true, false, Option, Some, None, nat_lt, ◌==◌, if◌then◌else◌}
+use Rattle.std.specs.Prelude.{◌≡◌, ◌≢◌, ℕ, ◌+◌, ◌*◌, List, [], ◌∷◌, ◌++◌, map, length, Bool, true, false, Option, Some, None, ◌==◌, if◌then◌else◌}
 use Rattle.std.specs.List.{flat_map, AllByRecursion}
 use Rattle.std.specs.Char.{IsScalar, encode_utf8}
 use Rattle.lf_base.specs.declared.kind.Kind.TheVariants.{BadEscape, OpenQuote, LeftOut, NotANode}
@@ -11,6 +11,7 @@ use Rattle.lf_scalar.specs.Cells.{Cell, cell, Value, made, byte_fault, character
 use Rattle.lf_scalar.specs.Lines.{Line, line, lines, start_of, first_text, begins_with, is_blank, after_blanks, is_blank_line, AreBlank, is_tail}
 use Rattle.lf_scalar.specs.Markers.{is_marker}
 use Rattle.lf_scalar.specs.Folding.{fold, feeds, trimmed}
+use Rattle.lf_base.specs.Names.{hexadecimal_value}
 
 abbrev pub quote_of : Quotes → ℕ
 quote_of Single = 39
@@ -35,13 +36,10 @@ letter_of byte = looked_up byte letters
 abbrev pub width_of : ℕ → Option ℕ
 width_of byte = if byte == 120 then Some 2 else if byte == 117 then Some 4 else if byte == 85 then Some 8 else None
 
-abbrev pub digit_of : ℕ → Option ℕ
-digit_of b = if nat_lt b 48 then None else if nat_lt b 58 then Some (b - 48) else if nat_lt b 65 then None else if nat_lt b 71 then Some (b - 55) else if nat_lt b 97 then None else if nat_lt b 103 then Some (b - 87) else None
-
 -- the number that digits tell, behind those that told a number before
 abbrev pub Tells : ℕ → List Cell → ℕ → Type 0
 Tells before [] n = n ≡ before
-Tells before (c ∷ cs) n = (d : ℕ) × (digit_of c.byte ≡ Some d) × Tells (16 * before + d) cs n
+Tells before (c ∷ cs) n = (d : ℕ) × (hexadecimal_value c.byte ≡ Some d) × Tells (16 * before + d) cs n
 
 -- ---- what stands between quotes
 

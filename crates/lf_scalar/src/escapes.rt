@@ -1,13 +1,14 @@
 //! Escapes of double-quoted scalars.
 ghost use Rattle.std.specs.Prelude.{◌≡◌, ℕ, ◌+◌, ◌<◌, ◌≤◌, ◌^◌, ◌++◌, take, length, drop, IfSome, IfOk, OnOk, option_map};
 ghost use Rattle.lf_scalar.specs.Cells.{Cell, cell, cells};
-ghost use Rattle.lf_scalar.specs.Quoted.{Single, Double, letter_of, width_of, digit_of};
+ghost use Rattle.lf_scalar.specs.Quoted.{Single, Double, letter_of, width_of};
 ghost use Rattle.lf_scalar.specs.reading.Quoted.{told, number_of, escape_of, as_character, as_escape, as_piece, shown, piece_at};
 
 use crate::builder::{ScalarBuilder, push_char};
 use crate::lines::past;
 use crate::quotes::Quotes;
 use lf_base::Memory;
+use lf_base::names::hexadecimal_value;
 
 /// The character that a backslash and a letter stand for.
 #[tactic(auto, unfolding(crate::specs::Quoted::letter_of))]
@@ -50,19 +51,6 @@ pub fn width(byte: u8) -> Option<usize>
     }
 }
 
-/// The value of a hexadecimal digit.
-pub fn digit(byte: u8) -> Option<u8>
-    ensures value { result ≡ digit_of byte }
-    ensures small { IfSome result (λ n. n < 16) }
-{
-    match byte {
-        b'0'..=b'9' => Some(byte - 48),
-        b'A'..=b'F' => Some(byte - 55),
-        b'a'..=b'f' => Some(byte - 87),
-        _ => None,
-    }
-}
-
 /// The number that up to eight hexadecimal digits tell, none where a byte isn't one.
 pub fn number(digits: &[u8], at: u32) -> Option<u32>
     requires { length digits.now ≤ 8 }
@@ -70,7 +58,7 @@ pub fn number(digits: &[u8], at: u32) -> Option<u32>
 {
     let mut value: u32 = 0;
     for byte in digits {
-        let Some(next) = digit(*byte) else {
+        let Some(next) = hexadecimal_value(*byte) else {
             return None;
         };
         value = 16 * value + u32::from(next);

@@ -5,6 +5,7 @@ use Rattle.std.specs.Option.{option_map_or, option_or}
 use Rattle.std.proofs.lemmas.List.{get_or-map}
 use Rattle.lf_laws.proofs.Booleans.{and_left, and_right}
 use Rattle.lf_laws.proofs.Members.{behind, first_or_behind, here, none_in}
+use Rattle.lf_laws.proofs.Options.{the_same}
 use Rattle.lf_ast.specs.Labels.{Bytes}
 use Rattle.lf_semantics.specs.ClassRows.{HasShape, HoldsText, Sets, is_live}
 use Rattle.lf_semantics.specs.Listing.{IsListing, Listing, label_of, named_at}
@@ -55,9 +56,6 @@ module _ (u : Listing) where
   -- at most one label has a text
   abbrev pub AtMostOne : Given → Type 0
   AtMostOne D = (label : Bytes) × ((name text : Bytes) → In name → Gave D name text → name ≡ label)
-
-  test_at : Sets → Given → Bytes → Bool
-  test_at row D name = option_map_or (holds_text u row name) (D name) true
 
   pub holds_by_test : (row : Sets) (D : Given) → holds_texts u row D ≡ true → HoldsGiven row D
   holds_by_test row D e =
@@ -129,9 +127,6 @@ module _ (u : Listing) where
 
       pub completed_holds : HoldsGiven row (completed_by u row D)
       completed_holds = record { live = h.live; held = λ name text there given. let t = by_row name there in let q : t.0 ≡ text = the_same (t.0) text (sym t.1 ∙ given) in subst (λ x. HoldsText u row name x) q t.2 }
-        where
-          the_same : (a b : Bytes) → Some a ≡ Some b → a ≡ b
-          the_same a b e = cc
 
     -- and what was given is given
     pub completed_keeps : (row : Sets) (D : Given) (name text : Bytes) → Gave D name text → Gave (completed_by u row D) name text

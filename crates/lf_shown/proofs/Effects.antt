@@ -6,7 +6,7 @@ use Rattle.std.specs.Str.{bytes_eq}
 use Rattle.std.proofs.lemmas.Bool.{or_cases}
 use Rattle.std.proofs.lemmas.List.Elements.{Contains-append_left}
 use Rattle.lf_laws.proofs.Booleans.{and_left, clash}
-use Rattle.lf_laws.proofs.Members.{first_or_behind, here, none_in, only_one, other_false, same_true, true_same}
+use Rattle.lf_laws.proofs.Members.{first_or_behind, here, none_in, only_one, other_false, same_true, some_has, true_same}
 use Rattle.lf_ast.specs.Labels.{Bytes, Labels}
 use Rattle.lf_ast.specs.Rules.{RuleTree}
 use Rattle.lf_ast.specs.Tree.{Nil}
@@ -26,15 +26,17 @@ use Rattle.lf_semantics.specs.Parts.{Sought}
 use Rattle.lf_semantics.specs.RowTable.{bare_row, effect_row, is_label, is_metric_label, is_group_label, may_be_present}
 use Rattle.lf_semantics.specs.Strings.{absent_texts}
 use Rattle.lf_semantics.specs.Texts.{HasTexts, restricted, value_of}
-use Rattle.lf_semantics.proofs.EffectsRepresent.{represents_absent, represents_quantile, shape_bare}
+use Rattle.lf_semantics.proofs.EffectsRepresent.{represents_absent, represents_quantile, same_matchers, shape_bare}
 use Rattle.lf_semantics.proofs.Kept.{restricted_has_texts}
 use Rattle.lf_semantics.proofs.LabelTexts.{value-bare, value-without_name}
 use Rattle.lf_semantics.proofs.LeqLaws.{bottom_dead}
 use Rattle.lf_semantics.proofs.Numbered.{AreKnown, group_label, metric_label}
 use Rattle.lf_semantics.proofs.Places.{at_place, label_test, same_text, symmetric}
 use Rattle.lf_semantics.proofs.Restricted.{value-restricted}
+use Rattle.lf_semantics.proofs.GivenTexts.{absent_has_texts, bare_has_texts}
 use Rattle.lf_witness.specs.Strict.{From, IsOpenAbsent, IsSet, MadeApart, MadeTogether, Outcomes, StrictEffect, last_buckets}
-use Rattle.lf_witness.proofs.SomeSample.{absent_some, full_bare}
+use Rattle.lf_witness.proofs.SomeSample.{absent_some}
+use Rattle.lf_witness.proofs.OneSample.{one_text}
 use Rattle.lf_trials.specs.Building.{Builder, nothing}
 use Rattle.lf_trials.specs.Given.{Given, giving, losing}
 use Rattle.lf_trials.specs.Operands.{losing_name}
@@ -215,11 +217,6 @@ module _ (u : Listing) (rules : List RuleTree) (p : IsListing u) (small : IsSmal
   -- ---- `absent`
 
   module _ (sought : Option Sought) (shut : IsOpenAbsent sought → ⊥) (known : (s : Sought) → sought ≡ Some s → AllByRecursion (IsKnown u) (matchers_mentions s.matchers)) (quiet : silent ≡ true) where
-    -- the matchers on a label by its number are those by its name
-    same_matchers : (matchers : List Matcher) (name : Bytes) → AllByRecursion (IsKnown u) (matchers_mentions matchers) → filter (λ m. is_label u m.label (label_of u name)) matchers ≡ filter (λ m. bytes_eq m.label name) matchers
-    same_matchers [] name known = refl
-    same_matchers (m ∷ matchers) name known = rw (label_test u m.label name known.0.0, same_matchers matchers name known.1) refl
-
     -- a text that is sought is of a class of its own
     own_class : (matchers : List Matcher) (name : Bytes) → AllByRecursion (IsKnown u) (matchers_mentions matchers) → (t : Bytes) → Contains (absent_texts (filter (λ m. bytes_eq m.label name) matchers)) t
         → (1 < length (filter (λ m. bytes_eq m.label name) matchers) → ⊥) → class_of u (label_of u name) t < other_class u (label_of u name)
@@ -250,21 +247,6 @@ module _ (u : Listing) (rules : List RuleTree) (p : IsListing u) (small : IsSmal
         by true is c few rest = the_one later is c few
         by false is c few rest = rest c few
 
-    one_listed : (matchers : List Matcher) (x y : Bytes) → (1 < length matchers → ⊥) → Contains (absent_texts matchers) x → Contains (absent_texts matchers) y → x ≡ y
-    one_listed [] x y few a c = sym (only_one [] x a) ∙ only_one [] y c
-    one_listed (m ∷ []) x y few a c = sym (only_one _ x a) ∙ only_one _ y c
-    one_listed (m ∷ n ∷ matchers) x y few a c = absurd (few (omega arith))
-
-    -- one of some texts has the class
-    some_class : (l : ℕ) (texts : List Bytes) (c : ℕ) → list_any (λ text. eqb (class_of u l text) c) texts ≡ true → (t : Bytes) × Contains texts t × (eqb (class_of u l t) c ≡ true)
-    some_class l [] c e = absurd (cc)
-    some_class l (x ∷ texts) c e = by (or_cases (eqb (class_of u l x) c) _ e) (some_class l texts c)
-      where
-        by : (eqb (class_of u l x) c ≡ true) ⊎ (list_any (λ text. eqb (class_of u l text) c) texts ≡ true) → (list_any (λ text. eqb (class_of u l text) c) texts ≡ true → (t : Bytes) × Contains texts t × (eqb (class_of u l t) c ≡ true))
-            → (t : Bytes) × Contains (x ∷ texts) t × (eqb (class_of u l t) c ≡ true)
-        by (inl e) rest = (x, here x texts, e)
-        by (inr e) rest = let r = rest e in (r.0, Rattle.lf_laws.proofs.Members.behind x texts r.0 r.1, r.2)
-
     -- the sample has what the row leaves
     agreed : (o : Option Sought) → sought ≡ o → (one : Labels) → IsAbsent o one → (D : Given) → HoldsGiven u (Rattle.lf_semantics.specs.RowTable.absent_row u o) D → (name text : Bytes) → In u name → Gave D name text → value_of one name ≡ text
     agreed None is one absent D h name text inside given =
@@ -287,21 +269,16 @@ module _ (u : Listing) (rules : List RuleTree) (p : IsListing u) (small : IsSmal
         by : (k : Bool) → is_metric name ≡ k → is_metric_label u (label_of u name) ≡ is_metric name → list_any (λ t. eqb (class_of u (label_of u name) t) (class_of u (label_of u name) text)) (Texts (is_metric_label u (label_of u name))) ≡ true
             → value_of one name ≡ text
         by true ism same e =
-            let found = some_class (label_of u name) (Texts true) (class_of u (label_of u name) text) (subst (λ k. list_any (λ t. eqb (class_of u (label_of u name) t) (class_of u (label_of u name) text)) (Texts k) ≡ true) (same ∙ ism) e) in
+            let found = some_has (λ t. eqb (class_of u (label_of u name) t) (class_of u (label_of u name) text)) (Texts true) (subst (λ k. list_any (λ t. eqb (class_of u (label_of u name) t) (class_of u (label_of u name) text)) (Texts k) ≡ true) (same ∙ ism) e) in
             let t : found.0 ≡ [] = sym (only_one [] found.0 found.1) in
             has.1 name ism ∙ same_text (Rattle.lf_semantics.specs.Listing.class_texts u (label_of u name)) [] text (omega arith) (eqb-true _ _ (subst (λ x. eqb (class_of u (label_of u name) x) (class_of u (label_of u name) text) ≡ true) t found.2))
         by false ism same e =
-            let found = some_class (label_of u name) (Texts false) (class_of u (label_of u name) text) (subst (λ k. list_any (λ t. eqb (class_of u (label_of u name) t) (class_of u (label_of u name) text)) (Texts k) ≡ true) (same ∙ ism) e) in
+            let found = some_has (λ t. eqb (class_of u (label_of u name) t) (class_of u (label_of u name) text)) (Texts false) (subst (λ k. list_any (λ t. eqb (class_of u (label_of u name) t) (class_of u (label_of u name) text)) (Texts k) ≡ true) (same ∙ ism) e) in
             let few : 1 < length (filter (λ m. bytes_eq m.label name) s.matchers) → ⊥ = λ two. shut (subst IsOpenAbsent (sym is) (inr (name, ism, two))) in
-            let inside' : Contains (absent_texts (filter (λ m. bytes_eq m.label name) s.matchers)) found.0 = subst (λ ms. Contains (absent_texts ms) found.0) (same_matchers s.matchers name (known s is)) found.1 in
+            let inside' : Contains (absent_texts (filter (λ m. bytes_eq m.label name) s.matchers)) found.0 = subst (λ ms. Contains (absent_texts ms) found.0) (same_matchers u p s.matchers name (known s is)) found.1 in
             let own = own_class s.matchers name (known s is) found.0 inside' few in
-            one_listed (filter (λ m. bytes_eq m.label name) s.matchers) (value_of one name) found.0 few (has.2 name ism) inside'
+            one_text (filter (λ m. bytes_eq m.label name) s.matchers) (value_of one name) found.0 few (has.2 name ism) inside'
             ∙ same_text (Rattle.lf_semantics.specs.Listing.class_texts u (label_of u name)) found.0 text (omega (arith, own)) (eqb-true _ _ found.2)
-
-    full : (o : Option Sought) (one : Labels) → IsAbsent o one → HasTexts one
-    full None one absent = subst HasTexts (sym absent) full_bare
-    full (Some s) one (inl has) = has.0
-    full (Some s) one (inr none) = subst HasTexts (sym none.1) full_bare
 
     -- no matcher is on a label beyond the universe
     no_matcher : (matchers : List Matcher) (name : Bytes) → AllByRecursion (IsKnown u) (matchers_mentions matchers) → (In u name → ⊥) → filter (λ m. bytes_eq m.label name) matchers ≡ []
@@ -329,7 +306,7 @@ module _ (u : Listing) (rules : List RuleTree) (p : IsListing u) (small : IsSmal
             is_built = refl;
             one = some.0;
             represented = represents_absent u p sought some.0 known some.1;
-            full = full sought some.0 some.1;
+            full = absent_has_texts sought some.0 some.1;
             within = within sought refl some.0 some.1;
             agrees = agreed sought refl some.0 some.1 D h;
             gives = gives_nothing u rules p small Read count (λ X. Rattle.lf_witness.specs.Strict.StrictAbsent sought (f X)) some.0

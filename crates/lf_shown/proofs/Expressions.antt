@@ -28,6 +28,7 @@ use Rattle.lf_semantics.specs.Mentions.{matchers_mentions, mention, mentions, na
 use Rattle.lf_semantics.specs.Parts.{given_by}
 use Rattle.lf_semantics.specs.RowTable.{bare_row, binary_row, call_row, effect_row}
 use Rattle.lf_semantics.proofs.EffectsRepresent.{shape_bare}
+use Rattle.lf_semantics.proofs.ScalarCalls.{IsBareIfScalar}
 use Rattle.lf_witness.specs.Strict.{IsSet, Outcomes, StrictBinary, StrictCall, StrictEffect}
 use Rattle.lf_trials.specs.Building.{Builder, nothing}
 use Rattle.lf_trials.specs.Given.{Given}
@@ -64,32 +65,6 @@ module _ (u : Listing) (rules : List RuleTree) where
 
 -- ---- scalars
 
-abbrev pub is_bare : LabelEffect → Bool
-is_bare Bare = true
-is_bare _ = false
-
-abbrev pub is_bare_if_scalar : Signature → Bool
-is_bare_if_scalar s = not (is_scalar s.gives) || is_bare s.labels
-
-each_function : list_all (λ (row : Row). is_bare_if_scalar row.signature) functions ≡ true
-unfolding functions
-each_function = refl
-
--- what is looked up in a table passes the test that each row passes
-pub found_passes : (test : Signature → Bool) (name : Bytes) (rows : List Row) → list_all (λ (row : Row). test row.signature) rows ≡ true → (s : Signature) → looked_up name rows ≡ Some s → test s ≡ true
-found_passes test name [] all s found = absurd (cc)
-found_passes test name (row ∷ rows) all s found =
-    let b = and_parts (test row.signature) (list_all (λ (row : Row). test row.signature) rows) all in
-    by (list_any (bytes_eq name) row.names) found b.0 (found_passes test name rows b.1 s)
-  where
-    by : (here : Bool) → cond here (Some row.signature) (looked_up name rows) ≡ Some s → test row.signature ≡ true → (looked_up name rows ≡ Some s → test s ≡ true) → test s ≡ true
-    by true found passes rest = let same : row.signature ≡ s = cc in ap test (sym same) ∙ passes
-    by false found passes rest = rest found
-
-pub named_passes : (name : Bytes) (s : Signature) → function_named name ≡ Some s → is_bare_if_scalar s ≡ true
-unfolding function_named
-named_passes name s found = found_passes is_bare_if_scalar name functions each_function s found
-
 module _ (u : Listing) (rules : List RuleTree) (p : IsListing u) (small : IsSmall u) where
   -- no label
   pub bare_raw : (Read : Names) (count : ℕ) (fork : Bool) → IsRaw u rules (bare_row u) Read count (λ X. IsSet IsBare) (λ D. nothing) fork false
@@ -99,28 +74,13 @@ module _ (u : Listing) (rules : List RuleTree) (p : IsListing u) (small : IsSmal
     is_silent = λ e W lacks. absurd (clash _ e refl);
   }
 
-  bare_effect : (Read : Names) (count : ℕ) (fork : Bool) (effect : LabelEffect) (grouping : Grouping) (args : Trees) (row : Sets) (outcomes : List Labels → Outcomes) (b : Builder) (silent : Bool) → is_bare effect ≡ true
-      → IsRaw u rules (effect_row u effect grouping args row) Read count (λ X. StrictEffect effect grouping args (outcomes X)) (build_effect effect grouping args b) fork (effect_can_be_silent effect args silent)
-  bare_effect Read count fork Bare grouping args row outcomes b silent e = bare_raw Read count fork
-  bare_effect Read count fork Maps grouping args row outcomes b silent e = absurd (cc)
-  bare_effect Read count fork Keeps grouping args row outcomes b silent e = absurd (cc)
-  bare_effect Read count fork Groups grouping args row outcomes b silent e = absurd (cc)
-  bare_effect Read count fork CountValues grouping args row outcomes b silent e = absurd (cc)
-  bare_effect Read count fork Date grouping args row outcomes b silent e = absurd (cc)
-  bare_effect Read count fork Absent grouping args row outcomes b silent e = absurd (cc)
-  bare_effect Read count fork LabelReplace grouping args row outcomes b silent e = absurd (cc)
-  bare_effect Read count fork LabelJoin grouping args row outcomes b silent e = absurd (cc)
-  bare_effect Read count fork HistogramQuantile grouping args row outcomes b silent e = absurd (cc)
-
-  pub bare_call : (Read : Names) (count : ℕ) (fork : Bool) (o : Option Signature) → ((s : Signature) → o ≡ Some s → is_bare_if_scalar s ≡ true) → is_scalar (given_by o) ≡ true → (grouping : Grouping) (args : Trees) (rows : ℕ → Sets) (outcomes : List Labels → ℕ → Outcomes)
+  pub bare_call : (Read : Names) (count : ℕ) (fork : Bool) (o : Option Signature) → ((s : Signature) → o ≡ Some s → IsBareIfScalar s) → is_scalar (given_by o) ≡ true → (grouping : Grouping) (args : Trees) (rows : ℕ → Sets) (outcomes : List Labels → ℕ → Outcomes)
       (b : ℕ → Builder) (silent : ℕ → Bool) → IsRaw u rules (call_row u o grouping args rows) Read count (λ X. StrictCall o grouping args (outcomes X)) (build_call o grouping args b) fork (call_can_be_silent o args silent)
-  bare_call Read count fork None passes e grouping args rows outcomes b silent = absurd (cc)
-  bare_call Read count fork (Some s) passes e grouping args rows outcomes b silent =
-      bare_effect Read count fork s.labels grouping args _ _ _ _ (second (is_scalar s.gives) (is_bare s.labels) (passes s refl) e)
-    where
-      second : (a b : Bool) → (not a || b) ≡ true → a ≡ true → b ≡ true
-      second true b e f = e
-      second false b e f = absurd (cc)
+  bare_call Read count fork None bare e grouping args rows outcomes b silent = absurd (cc)
+  bare_call Read count fork (Some s) bare e grouping args rows outcomes b silent =
+      let k = operand_place s in
+      subst (λ (effect : LabelEffect). IsRaw u rules (effect_row u effect grouping args (rows k)) Read count (λ X. StrictEffect effect grouping args (outcomes X k)) (build_effect effect grouping args (b k)) fork (effect_can_be_silent effect args (silent k)))
+      (sym (bare s refl e)) (bare_raw Read count fork)
 
   pub bare_binary : (Read : Names) (count : ℕ) (fork : Bool) (op : Op) (m : Matching) (x y : Bool) → is_scalar (cond (x && y) Scalar Vector) ≡ true → (left right : Sets) (f g : List Labels → Outcomes) (bl br : Builder) (a b : Bool)
       → IsRaw u rules (binary_row u op m x y left right) Read count (λ X. StrictBinary op m x y (f X) (g X)) (build_binary u op m x y left right bl br) fork (binary_can_be_silent x y a b)
@@ -130,14 +90,6 @@ module _ (u : Listing) (rules : List RuleTree) (p : IsListing u) (small : IsSmal
   bare_binary Read count fork op m false false e left right f g bl br a b = absurd (cc)
 
 -- ---- the name that a selector says is known
-
-no_selector : (range : Option Bytes) → is_scalar (selected range) ≡ true → ⊥
-no_selector None e = absurd (cc)
-no_selector (Some duration) e = absurd (cc)
-
-pub selector_is_no_scalar : (range : Option Bytes) → is_scalar (selected range) ≡ false
-selector_is_no_scalar None = refl
-selector_is_no_scalar (Some duration) = refl
 
 module _ (u : Listing) where
   abbrev IsOwn : Bytes → Type 0

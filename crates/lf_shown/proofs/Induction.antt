@@ -4,8 +4,10 @@ use Rattle.std.proofs.lemmas.Bool.{or_right}
 use Rattle.std.proofs.lemmas.Bool.{or_left}
 use Rattle.std.specs.List.{AllByRecursion, Contains, filter}
 use Rattle.std.proofs.lemmas.List.Elements.{Contains-append_left, Contains-append_right}
+use Rattle.std.proofs.lemmas.Option.{none-some}
 use Rattle.lf_laws.proofs.Booleans.{clash}
 use Rattle.lf_laws.proofs.Members.{here, none_in, only_one, same_true}
+use Rattle.lf_laws.proofs.Options.{the_same}
 use Rattle.lf_ast.specs.Functions.{Signature, aggregation, function_named}
 use Rattle.lf_ast.specs.Arguments.{texts_of}
 use Rattle.lf_ast.specs.Labels.{Bytes, Labels}
@@ -36,6 +38,7 @@ use Rattle.lf_semantics.proofs.Members.{all_back, all_front}
 use Rattle.lf_semantics.proofs.Numbered.{AreKnown}
 use Rattle.lf_semantics.proofs.RowLaws.{shape_bottom}
 use Rattle.lf_semantics.proofs.Soundness.{grouped_known, shape_of_row}
+use Rattle.lf_semantics.proofs.ScalarCalls.{named_is_bare, selector_is_no_scalar}
 use Rattle.lf_witness.specs.Strict.{ArgumentStrictlyEvaluates, Outcomes, StrictBinary, StrictCall, StrictlyEvaluates}
 use Rattle.lf_deps.specs.Reading.{IsCyclic, Reaches, Reads, arguments_selectors, selectors, selectors_in}
 use Rattle.lf_trials.specs.Building.{Builder}
@@ -51,7 +54,7 @@ use Rattle.lf_shown.specs.Silence.{argument_can_be_silent, binary_can_be_silent,
 use Rattle.lf_shown.proofs.Choices.{IsSmall}
 use Rattle.lf_shown.proofs.Constructs.{EffectFits, raw_beside, raw_effect, raw_sign}
 use Rattle.lf_shown.proofs.Effects.{raw_same}
-use Rattle.lf_shown.proofs.Expressions.{bare_binary, bare_call, bare_raw, made_more, named_passes, said_known, selector_is_no_scalar}
+use Rattle.lf_shown.proofs.Expressions.{bare_binary, bare_call, bare_raw, made_more, said_known}
 use Rattle.lf_shown.proofs.Made.{IsMade, IsRaw, made_of_raw}
 use Rattle.lf_shown.proofs.Operators.{SidesFit, raw_operator}
 use Rattle.lf_shown.proofs.Reached.{none_unrecorded, row_of_recorded}
@@ -64,9 +67,6 @@ AllKnown u items = AllByRecursion (IsKnown u) items
 
 -- ---- the selector that `absent` looks for is known
 
-same_sought : (a b : Sought) → Some a ≡ Some b → a ≡ b
-same_sought a b e = cc
-
 module _ (u : Listing) where
   abbrev SoughtKnown : Option Sought → Type 0
   SoughtKnown o = (s : Sought) → o ≡ Some s → AllKnown u (matchers_mentions s.matchers)
@@ -76,10 +76,10 @@ module _ (u : Listing) where
 
   within_parentheses : (o : Option Sought) → SoughtKnown o → SoughtKnown (option_map (λ sought. record { matchers = sought.matchers; may_be_bare = true }) o)
   within_parentheses None known = none_known
-  within_parentheses (Some t) known = λ s e. subst (λ (x : Sought). AllKnown u (matchers_mentions x.matchers)) (same_sought _ s e) (known t refl)
+  within_parentheses (Some t) known = λ s e. subst (λ (x : Sought). AllKnown u (matchers_mentions x.matchers)) (the_same _ s e) (known t refl)
 
   sought_known : (e : Tree) → Covers u e → SoughtKnown (sought_by e)
-  sought_known (Selector name matchers sight span) known = λ s e. subst (λ (x : Sought). AllKnown u (matchers_mentions x.matchers)) (same_sought _ s e) (all_back (IsKnown u) (name_mentions name) (matchers_mentions matchers) known)
+  sought_known (Selector name matchers sight span) known = λ s e. subst (λ (x : Sought). AllKnown u (matchers_mentions x.matchers)) (the_same _ s e) (all_back (IsKnown u) (name_mentions name) (matchers_mentions matchers) known)
   sought_known (Paren of span) known = within_parentheses (sought_by of) (sought_known of known)
   sought_known (Number text span) known = none_known
   sought_known (Str text span) known = none_known
@@ -162,7 +162,7 @@ module _ (u : Listing) (rules : List RuleTree) (p : IsListing u) (small : IsSmal
         raw_sign u rules p small (Reads rules (Unary minus of span)) (length (selectors (Unary minus of span))) (row_of u env of) (λ X. StrictlyEvaluates X of) (build u env rules holds_fork of (builder u env rules holds_fork build_rule of)) (holds_fork (Unary minus of span)) (can_be_silent of)
         (operand of (Unary minus of span) (scalar_part of (Unary minus of span) is) (made_raw of (scalar of is))) minus
     scalar (Binary op m left right span) is = bare_binary u rules p small _ _ _ op m (is_scalar_part left) (is_scalar_part right) is (row_of u env left) (row_of u env right) _ _ _ _ _ _
-    scalar (Call name args span) is = bare_call u rules p small _ _ _ (function_named name) (named_passes name) is Ungrouped args (row_at u env args) (λ X. ArgumentStrictlyEvaluates X args) (argument_builder u env rules holds_fork build_rule args) (argument_can_be_silent args)
+    scalar (Call name args span) is = bare_call u rules p small _ _ _ (function_named name) (named_is_bare name) is Ungrouped args (row_at u env args) (λ X. ArgumentStrictlyEvaluates X args) (argument_builder u env rules holds_fork build_rule args) (argument_can_be_silent args)
     scalar (Aggregate op grouping args span) is = absurd (cc)
 
     pub from_raw : (e : Tree) → (is_scalar_part e ≡ false → IsClosedIn rules e → Raw e) → IsClosed rules e → Made e
@@ -253,23 +253,14 @@ module _ (u : Listing) (rules : List RuleTree) (p : IsListing u) (small : IsSmal
       never_forks none (inr r) = clash _ (there r.0 r.1 r.2.0 (only r.0.name r.2.1)) none
         where
           there : (r : RuleTree) → Contains rules r → r.alert ≡ false → r.name ≡ n → is_recorded rules n ≡ true
-          there r c recording e = Rattle.lf_trials.proofs.MadeSeries.any_has (Rattle.lf_trials.specs.Reached.records n) rules r c (rw (recording, same_true r.name n e) refl)
-
-          the_name : (x y : Bytes) → Some x ≡ Some y → x ≡ y
-          the_name x y e = cc
+          there r c recording e = Rattle.lf_laws.proofs.Members.any_has (Rattle.lf_trials.specs.Reached.records n) rules r c (rw (recording, same_true r.name n e) refl)
 
           -- nothing but the name is read
           only : (x : Bytes) → Reads rules e x → x ≡ n
-          only x (Reads.selected (inl c)) = sym (the_name n x (only_one (Some n) (Some x) (subst (λ xs. Contains xs (Some x)) selectors_are c)))
-          only x (Reads.selected (inr c)) = absurd (none_some n (only_one (Some n) None (subst (λ xs. Contains xs None) selectors_are c.0)))
-            where
-              none_some : (y : Bytes) → Some y ≡ None → ⊥
-              none_some y e = cc
-          only x (Reads.through q d recording (inl c) reads) = absurd (clash _ (there q d recording (sym (the_name n q.name (only_one (Some n) (Some q.name) (subst (λ xs. Contains xs (Some q.name)) selectors_are c))))) none)
-          only x (Reads.through q d recording (inr c) reads) = absurd (none_some n (only_one (Some n) None (subst (λ xs. Contains xs None) selectors_are c.0)))
-            where
-              none_some : (y : Bytes) → Some y ≡ None → ⊥
-              none_some y e = cc
+          only x (Reads.selected (inl c)) = sym (the_same n x (only_one (Some n) (Some x) (subst (λ xs. Contains xs (Some x)) selectors_are c)))
+          only x (Reads.selected (inr c)) = absurd (none-some n (sym (only_one (Some n) None (subst (λ xs. Contains xs None) selectors_are c.0))))
+          only x (Reads.through q d recording (inl c) reads) = absurd (clash _ (there q d recording (sym (the_same n q.name (only_one (Some n) (Some q.name) (subst (λ xs. Contains xs (Some q.name)) selectors_are c))))) none)
+          only x (Reads.through q d recording (inr c) reads) = absurd (none-some n (sym (only_one (Some n) None (subst (λ xs. Contains xs None) selectors_are c.0))))
 
       matchers_known : AllKnown u (matchers_mentions matchers)
       matchers_known = all_back (IsKnown u) (name_mentions name) (matchers_mentions matchers) known

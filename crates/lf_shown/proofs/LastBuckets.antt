@@ -1,6 +1,6 @@
 -- Rows beneath which no matcher and no rule's label names `le`: one that holds a text of `le` holds `+Inf`.
 use Rattle.std.proofs.Common.{◌≡◌, inl, inr, ℕ, zero, suc, Bool, true, false, not, ◌&&◌, ◌||◌, cond, eqb, List, [], ◌∷◌, ◌++◌, map, Option, Some, None, refl, sym, ◌∙◌, ap, subst, arith, codes}
-use Rattle.std.proofs.lemmas.Bool.{or_parts}
+use Rattle.std.proofs.lemmas.Bool.{not-true, or_parts}
 use Rattle.std.specs.List.{AllByRecursion, Contains, filter, list_any}
 use Rattle.std.specs.Option.{option_map_or}
 use Rattle.std.specs.Str.{bytes_eq}
@@ -9,6 +9,7 @@ use Rattle.std.specs.Prelude.{is_some}
 use Rattle.std.proofs.lemmas.List.Elements.{Contains-append_left, Contains-append_right}
 use Rattle.lf_laws.proofs.Booleans.{and_left, and_right, clash}
 use Rattle.lf_laws.proofs.Members.{here}
+use Rattle.lf_laws.proofs.Options.{the_same}
 use Rattle.lf_ast.specs.Arguments.{texts_of}
 use Rattle.lf_ast.specs.Functions.{Signature, aggregation, function_named}
 use Rattle.lf_ast.specs.Labels.{Bytes}
@@ -43,6 +44,7 @@ use Rattle.lf_semantics.proofs.Places.{label_test, metric_listed}
 use Rattle.lf_semantics.proofs.PairsRepresent.{shape_matched, shape_nameless_if}
 use Rattle.lf_semantics.proofs.RowLaws.{in_range, holds-remade, top_holds}
 use Rattle.lf_semantics.proofs.Soundness.{grouped_known, shape_of_row}
+use Rattle.lf_semantics.proofs.ScalarCalls.{IsBareIfScalar, named_is_bare, selector_is_no_scalar}
 use Rattle.lf_deps.specs.Reading.{Reaches, Reads, Records, Selects, selectors, selectors_in}
 use Rattle.lf_trials.specs.Built.{sets_label}
 use Rattle.lf_shown.proofs.Rows.{Held, in_narrowed, in_replaced, join_held, narrowed_held, narrowed_passes, narrowed_was_live, replaced_held, replaced_passes, replaced_was_live}
@@ -256,25 +258,9 @@ module _ (u : Listing) where
 
     -- ---- scalars have no label
 
-    bare_effect : (effect : LabelEffect) (grouping : Grouping) (args : Trees) (row : Sets) → Rattle.lf_shown.proofs.Expressions.is_bare effect ≡ true → HasLast (effect_row u effect grouping args row)
-    bare_effect Bare grouping args row e = last_bare
-    bare_effect Maps grouping args row e = absurd (cc)
-    bare_effect Keeps grouping args row e = absurd (cc)
-    bare_effect Groups grouping args row e = absurd (cc)
-    bare_effect CountValues grouping args row e = absurd (cc)
-    bare_effect Date grouping args row e = absurd (cc)
-    bare_effect Absent grouping args row e = absurd (cc)
-    bare_effect LabelReplace grouping args row e = absurd (cc)
-    bare_effect LabelJoin grouping args row e = absurd (cc)
-    bare_effect HistogramQuantile grouping args row e = absurd (cc)
-
-    bare_call : (o : Option Signature) → ((s : Signature) → o ≡ Some s → Rattle.lf_shown.proofs.Expressions.is_bare_if_scalar s ≡ true) → is_scalar (Rattle.lf_semantics.specs.Parts.given_by o) ≡ true → (grouping : Grouping) (args : Trees) (rows : ℕ → Sets) → HasLast (call_row u o grouping args rows)
-    bare_call None passes e grouping args rows = absurd (cc)
-    bare_call (Some s) passes e grouping args rows = bare_effect s.labels grouping args _ (second (is_scalar s.gives) (Rattle.lf_shown.proofs.Expressions.is_bare s.labels) (passes s refl) e)
-      where
-        second : (a b : Bool) → (not a || b) ≡ true → a ≡ true → b ≡ true
-        second true b e f = e
-        second false b e f = absurd (cc)
+    bare_call : (o : Option Signature) → ((s : Signature) → o ≡ Some s → IsBareIfScalar s) → is_scalar (Rattle.lf_semantics.specs.Parts.given_by o) ≡ true → (grouping : Grouping) (args : Trees) (rows : ℕ → Sets) → HasLast (call_row u o grouping args rows)
+    bare_call None bare e grouping args rows = absurd (cc)
+    bare_call (Some s) bare e grouping args rows = subst (λ (effect : LabelEffect). HasLast (effect_row u effect grouping args (rows (Rattle.lf_semantics.specs.Parts.operand_place s)))) (sym (bare s refl e)) last_bare
 
     bare_binary : (op : Op) (m : Matching) (x y : Bool) → is_scalar (cond (x && y) Rattle.lf_ast.specs.declared.expr.ExprType.TheVariants.Scalar Rattle.lf_ast.specs.declared.expr.ExprType.TheVariants.Vector) ≡ true → (left right : Sets) → HasLast (binary_row u op m x y left right)
     bare_binary op m true true e left right = last_bare
@@ -285,22 +271,15 @@ module _ (u : Listing) where
     scalar_last : (env : Environment) (e : Tree) → is_scalar_part e ≡ true → HasLast (row_of u env e)
     scalar_last env (Number text span) is = last_bare
     scalar_last env (Str text span) is = absurd (cc)
-    scalar_last env (Selector name matchers sight span) is = absurd (clash _ is (Rattle.lf_shown.proofs.Expressions.selector_is_no_scalar sight.range))
+    scalar_last env (Selector name matchers sight span) is = absurd (clash _ is (selector_is_no_scalar sight.range))
     scalar_last env (Subquery of sight span) is = absurd (cc)
     scalar_last env (Paren of span) is = scalar_last env of is
     scalar_last env (Unary minus of span) is = last_sign minus (row_of u env of) (scalar_last env of is)
     scalar_last env (Binary op m left right span) is = bare_binary op m (is_scalar_part left) (is_scalar_part right) is (row_of u env left) (row_of u env right)
-    scalar_last env (Call name args span) is = bare_call (function_named name) (Rattle.lf_shown.proofs.Expressions.named_passes name) is Ungrouped args (row_at u env args)
+    scalar_last env (Call name args span) is = bare_call (function_named name) (named_is_bare name) is Ungrouped args (row_at u env args)
     scalar_last env (Aggregate op grouping args span) is = absurd (cc)
 
     -- ---- the matchers that `absent` looks for
-
-    same_sought : (a b : Sought) → Some a ≡ Some b → a ≡ b
-    same_sought a b e = cc
-
-    not_one : (b : Bool) → not b ≡ true → b ≡ false
-    not_one true e = absurd (cc)
-    not_one false e = refl
 
     or_false_left : (a b : Bool) → (a || b) ≡ true → a ≡ false → b ≡ true
     or_false_left true b e f = absurd (cc)
@@ -311,10 +290,10 @@ module _ (u : Listing) where
 
     within_parentheses : (o : Option Sought) → CleanSought o → CleanSought (Rattle.std.specs.Prelude.option_map (λ sought. record { matchers = sought.matchers; may_be_bare = true }) o)
     within_parentheses None clean = λ s e. absurd (cc)
-    within_parentheses (Some t) clean = λ s e. subst (λ (x : Sought). OnOthers x.matchers) (same_sought _ s e) (clean t refl)
+    within_parentheses (Some t) clean = λ s e. subst (λ (x : Sought). OnOthers x.matchers) (the_same _ s e) (clean t refl)
 
     scalar_seeks : (e : Tree) → is_scalar_part e ≡ true → CleanSought (sought_by e)
-    scalar_seeks (Selector name matchers sight span) is = absurd (clash _ is (Rattle.lf_shown.proofs.Expressions.selector_is_no_scalar sight.range))
+    scalar_seeks (Selector name matchers sight span) is = absurd (clash _ is (selector_is_no_scalar sight.range))
     scalar_seeks (Paren of span) is = within_parentheses (sought_by of) (scalar_seeks of is)
     scalar_seeks (Number text span) is = λ s e. absurd (cc)
     scalar_seeks (Str text span) is = λ s e. absurd (cc)
@@ -325,7 +304,7 @@ module _ (u : Listing) where
     scalar_seeks (Aggregate op grouping args span) is = λ s e. absurd (cc)
 
     clean_seeks : (e : Tree) → is_clean_in e ≡ true → CleanSought (sought_by e)
-    clean_seeks (Selector name matchers sight span) clean = λ s e. subst (λ (x : Sought). OnOthers x.matchers) (same_sought _ s e) (not_one _ (and_right (is_some (selected_name name matchers)) _ clean))
+    clean_seeks (Selector name matchers sight span) clean = λ s e. subst (λ (x : Sought). OnOthers x.matchers) (the_same _ s e) (not-true _ (and_right (is_some (selected_name name matchers)) _ clean))
     clean_seeks (Paren of span) clean = within_parentheses (sought_by of) (elim (or_cases (is_scalar_part of) (is_clean_in of) clean) [ inl s ↦ scalar_seeks of s | inr c ↦ clean_seeks of c ])
     clean_seeks (Number text span) clean = λ s e. absurd (cc)
     clean_seeks (Str text span) clean = λ s e. absurd (cc)
@@ -354,7 +333,7 @@ module _ (u : Listing) where
           → HasLast (narrowed (passes_matchers u matchers) (seen_row u env o))
       last_selected name matchers known None clean names = absurd (cc)
       last_selected name matchers known (Some n) clean names =
-          last_narrowed (passes_matchers u matchers) (seen_row u env (Some n)) (λ c held passes some. passes_le matchers known (not_one _ clean) last_class)
+          last_narrowed (passes_matchers u matchers) (seen_row u env (Some n)) (λ c held passes some. passes_le matchers known (not-true _ clean) last_class)
           (last_named (row_named env n) n (λ row e. names n row e (here (Some n) [])))
 
       sub : (x : Tree) (found : List (Option Bytes)) → (is_clean_in x ≡ true → NamesLast found → HasLast (row_of u env x)) → is_clean x ≡ true → NamesLast (cond (is_scalar_part x) [] found) → HasLast (row_of u env x)

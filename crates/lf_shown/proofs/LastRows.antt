@@ -1,6 +1,6 @@
 -- In the least environment an expression without open constructs, beneath which nothing names `le`, has a row that holds `+Inf` where it holds a text of `le`.
 use Rattle.std.proofs.Common.{◌≡◌, ◌<◌, inl, inr, ℕ, ◌+◌, Bool, true, false, not, ◌&&◌, ◌||◌, cond, eqb, List, [], ◌∷◌, length, get_or, Option, Some, None, refl, sym, ◌∙◌, ap, subst, arith, codes}
-use Rattle.std.proofs.lemmas.Bool.{not-true}
+use Rattle.std.proofs.lemmas.Bool.{and_from, eq-eqb, not-false, not-true}
 use Rattle.std.proofs.lemmas.Bool.{or_parts}
 use Rattle.std.proofs.lemmas.Bool.{or_right}
 use Rattle.std.proofs.lemmas.Bool.{eqb-true}
@@ -11,7 +11,8 @@ use Rattle.std.specs.Str.{bytes_eq}
 use Rattle.std.proofs.lemmas.Bool.{or_cases}
 use Rattle.std.proofs.lemmas.List.Elements.{Contains-append_left, Contains-append_right}
 use Rattle.lf_laws.proofs.Booleans.{and_left, and_right, clash, not_true}
-use Rattle.lf_laws.proofs.Members.{here, same_true, true_same}
+use Rattle.lf_laws.proofs.Members.{any_has, here, same_true, some_has, true_same}
+use Rattle.lf_laws.proofs.Slices.{member_at, number_of}
 use Rattle.lf_ast.specs.Functions.{Signature, aggregation, function_named}
 use Rattle.lf_ast.specs.Labels.{Bytes}
 use Rattle.lf_ast.specs.Rules.{RuleTree}
@@ -32,12 +33,10 @@ use Rattle.lf_deps.specs.Reading.{Reaches, Reads, Selects, selectors}
 use Rattle.lf_trials.specs.Built.{sets_label}
 use Rattle.lf_trials.specs.Reached.{records}
 use Rattle.lf_trials.specs.Selected.{Selected, selected_in, selected_in_arguments, selectors_of}
-use Rattle.lf_trials.proofs.MadeSeries.{any_has}
 use Rattle.lf_trials.proofs.Reachable.{reaches, reaches_is}
 use Rattle.lf_shown.specs.NoneOpen.{ArgumentsAreClosed, CallIsClosed, EffectIsClosed, HasNoneOpen, IsClosed, IsClosedIn, MatchesBucket, NamesBucket}
 use Rattle.lf_shown.proofs.LastBuckets.{HasLast, NamesLast, are_clean, is_clean, is_clean_in, last_of, last_recorded}
-use Rattle.lf_shown.proofs.Least.{some_has, all_pass, narrower, narrower_below, narrower_is}
-use Rattle.lf_shown.proofs.Recorded.{rule_number, rule_there}
+use Rattle.lf_shown.proofs.Least.{all_pass, narrower, narrower_below, narrower_is}
 use Rattle.lf_shown.proofs.Rows.{Held, in_narrowed, narrowed_passes}
 
 module _ (u : Listing) (p : IsListing u) (rules : List RuleTree) where
@@ -67,20 +66,16 @@ module _ (u : Listing) (p : IsListing u) (rules : List RuleTree) where
           let recording : r.alert ≡ false = not-true r.alert (and_left (not r.alert) (bytes_eq r.name n) (and_left (records n r) _ is)) in
           let name : r.name ≡ n = true_same r.name n (and_right (not r.alert) (bytes_eq r.name n) (and_left (records n r) _ is)) in
           let selects : Selects rules e r.name = inl (subst (λ x. Contains (selectors e) (Some x)) (sym name) c) in
-          let at = rule_number rules r d in
+          let at = number_of rules r d in
           elim (or_cases (dirty 0 r) (reaches rules dirty r.expr) (and_right (records n r) _ is)) [
-            | inl bad ↦ clash _ ((reaches_is rules dirty e).1 (at.0, r, at.1, (recording, Reads.selected selects), bad)) clean
+            | inl bad ↦ clash _ ((reaches_is rules dirty e).1 (at.0, r, at.2, (recording, Reads.selected selects), bad)) clean
             | inr bad ↦
                 let found = (reaches_is rules dirty r.expr).0 bad in
                 clash _ ((reaches_is rules dirty e).1 (found.0, found.1, found.2, (found.3.0, Reads.through r d recording selects found.3.1), found.4)) clean
           ]
 
   clean_of : (r : RuleTree) → dirty 0 r ≡ false → (is_clean u p r.expr ≡ true) × (sets_label r (codes "le") ≡ false)
-  clean_of r e = let b = or_parts (not (is_clean u p r.expr)) (sets_label r (codes "le")) e in (one (is_clean u p r.expr) b.0, b.1)
-    where
-      one : (b : Bool) → not b ≡ false → b ≡ true
-      one true e = refl
-      one false e = absurd (cc)
+  clean_of r e = let b = or_parts (not (is_clean u p r.expr)) (sets_label r (codes "le")) e in (not-false (is_clean u p r.expr) b.0, b.1)
 
   -- ---- the least environment, with no text of `le` in the rows of such names that lack `+Inf`
 
@@ -98,14 +93,11 @@ module _ (u : Listing) (p : IsListing u) (rules : List RuleTree) where
     abbrev left : Bytes → ℕ → ℕ → Bool
     left n label class = (is_tainted n || not (eqb label (label_of u (codes "le")))) || (eqb class 0 || has_last n)
 
-    eqb-same : (k : ℕ) → eqb k k ≡ true
-    eqb-same k = grind arith
-
     -- what is left of `le` to a name that isn't tainted
     left_last : (n : Bytes) (c : ℕ) → is_tainted n ≡ false → left n l c ≡ true → eqb c 0 ≡ false → has_last n ≡ true
     left_last n c clean passes some =
         second (eqb c 0) (has_last n) some
-        (second (is_tainted n || not (eqb l l)) (eqb c 0 || has_last n) (ap (λ b. b || not (eqb l l)) clean ∙ ap not (eqb-same l)) passes)
+        (second (is_tainted n || not (eqb l l)) (eqb c 0 || has_last n) (ap (λ b. b || not (eqb l l)) clean ∙ ap not (eq-eqb l l refl)) passes)
       where
         second : (a b : Bool) → a ≡ false → (a || b) ≡ true → b ≡ true
         second true b e f = absurd (cc)
@@ -180,9 +172,6 @@ module _ (u : Listing) (p : IsListing u) (rules : List RuleTree) where
     leaves_call None e args shut = refl
     leaves_call (Some s) e args shut = leaves s.labels e args (operand_place s) shut
 
-    both : {a b : Bool} → a ≡ true → b ≡ true → (a && b) ≡ true
-    both e f = rw (e, f) refl
-
     sub : (x : Tree) → (IsClosedIn rules x → ((s : Selected) → Contains (selected_in x) s → unmatched s) → is_clean_in u p x ≡ true) → IsClosed rules x → ((s : Selected) → Contains (cond (is_scalar_part x) [] (selected_in x)) s → unmatched s) → is_clean u p x ≡ true
     sub x each shut others = by (is_scalar_part x) refl shut others
       where
@@ -196,20 +185,20 @@ module _ (u : Listing) (p : IsListing u) (rules : List RuleTree) where
       clean_in (Number text span) shut others = refl
       clean_in (Str text span) shut others = refl
       clean_in (Selector name matchers sight span) shut others =
-          both (ap is_some shut.says) (ap not (others (record { name = selected_name name matchers; matchers = matchers }) (here (record { name = selected_name name matchers; matchers = matchers }) [])))
+          and_from _ _ (ap is_some shut.says) (ap not (others (record { name = selected_name name matchers; matchers = matchers }) (here (record { name = selected_name name matchers; matchers = matchers }) [])))
       clean_in (Subquery of sight span) shut others = sub of (λ h o. clean_in of h o) shut others
       clean_in (Paren of span) shut others = sub of (λ h o. clean_in of h o) shut others
       clean_in (Unary minus of span) shut others = sub of (λ h o. clean_in of h o) shut others
       clean_in (Binary op m left right span) shut others =
-          both (sub left (λ h o. clean_in left h o) shut.0 (λ s c. others s (Contains-append_left (selectors_of left) (selectors_of right) s c)))
+          and_from _ _ (sub left (λ h o. clean_in left h o) shut.0 (λ s c. others s (Contains-append_left (selectors_of left) (selectors_of right) s c)))
           (sub right (λ h o. clean_in right h o) shut.1 (λ s c. others s (Contains-append_right (selectors_of left) (selectors_of right) s c)))
-      clean_in (Call name args span) shut others = both (leaves_call (function_named name) (Call name args span) args shut.1) (clean_arguments args shut.0 others)
-      clean_in (Aggregate op grouping args span) shut others = both (leaves_call (Some (aggregation op)) (Aggregate op grouping args span) args shut.1) (clean_arguments args shut.0 others)
+      clean_in (Call name args span) shut others = and_from _ _ (leaves_call (function_named name) (Call name args span) args shut.1) (clean_arguments args shut.0 others)
+      clean_in (Aggregate op grouping args span) shut others = and_from _ _ (leaves_call (Some (aggregation op)) (Aggregate op grouping args span) args shut.1) (clean_arguments args shut.0 others)
 
       clean_arguments : (args : Trees) → ArgumentsAreClosed rules args → ((s : Selected) → Contains (selected_in_arguments args) s → unmatched s) → are_clean u p args ≡ true
       clean_arguments Nil shut others = refl
       clean_arguments (Next x xs) shut others =
-          both (sub x (λ h o. clean_in x h o) shut.0 (λ s c. others s (Contains-append_left (selectors_of x) (selected_in_arguments xs) s c)))
+          and_from _ _ (sub x (λ h o. clean_in x h o) shut.0 (λ s c. others s (Contains-append_left (selectors_of x) (selected_in_arguments xs) s c)))
           (clean_arguments xs shut.1 (λ s c. others s (Contains-append_right (selectors_of x) (selected_in_arguments xs) s c)))
 
     no_matcher : (e : Tree) → (MatchesBucket e → ⊥) → (s : Selected) → Contains (selectors_of e) s → unmatched s
@@ -226,7 +215,7 @@ module _ (u : Listing) (p : IsListing u) (rules : List RuleTree) where
 
     nothing_dirty : (e : Tree) → HasNoneOpen rules e → (NamesBucket rules e → ⊥) → reaches rules dirty e ≡ false
     nothing_dirty e clear none =
-        not_true (reaches rules dirty e) (λ bad. let found = (reaches_is rules dirty e).0 bad in clash _ found.4 (clean_rule e clear none found.1 (rule_there rules found.0 found.1 found.2) found.3))
+        not_true (reaches rules dirty e) (λ bad. let found = (reaches_is rules dirty e).0 bad in clash _ found.4 (clean_rule e clear none found.1 (member_at rules found.0 found.1 found.2) found.3))
 
     row_last : (e : Tree) → Covers u e → HasNoneOpen rules e → (NamesBucket rules e → ⊥) → HasLast u (row_of u env e)
     row_last e known clear none =

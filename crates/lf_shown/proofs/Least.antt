@@ -5,7 +5,7 @@ use Rattle.std.proofs.lemmas.Bool.{not-true}
 use Rattle.std.specs.List.{AllByRecursion, Contains, list_any}
 use Rattle.std.specs.Str.{bytes_eq}
 use Rattle.lf_laws.proofs.Booleans.{and_left, and_right}
-use Rattle.lf_laws.proofs.Members.{behind, here, same_true, true_same}
+use Rattle.lf_laws.proofs.Members.{any_has, same_true, some_has, true_same}
 use Rattle.lf_ast.specs.Labels.{Bytes}
 use Rattle.lf_ast.specs.Rules.{RuleTree}
 use Rattle.lf_semantics.specs.ClassRows.{HasShape, Sets, holds, is_live, narrowed, remade}
@@ -19,17 +19,7 @@ use Rattle.lf_semantics.proofs.RowLaws.{shape_narrowed, shape_remade}
 use Rattle.lf_semantics.proofs.RowsGrow.{OptionUnder, named_leq, recorded_grows}
 use Rattle.lf_deps.specs.Reading.{Records}
 use Rattle.lf_trials.specs.Reached.{records}
-use Rattle.lf_trials.proofs.MadeSeries.{any_has}
 use Rattle.lf_shown.proofs.Rows.{Held, in_remade, narrowed_held, narrowed_passes, narrowed_was_live}
-
--- a list in which something passes
-pub some_has : {X : Type 0} (test : X → Bool) (xs : List X) → list_any test xs ≡ true → (x : X) × Contains xs x × (test x ≡ true)
-some_has test [] e = absurd (cc)
-some_has {X = X} test (y ∷ xs) e = by (test y) refl (some_has test xs) e
-  where
-    by : (b : Bool) → test y ≡ b → (list_any test xs ≡ true → (x : X) × Contains xs x × (test x ≡ true)) → (b || list_any test xs) ≡ true → (x : X) × Contains (y ∷ xs) x × (test x ≡ true)
-    by true is later h = (y, here y xs, is)
-    by false is later h = let rest = later h in (rest.0, behind y xs rest.0 rest.1, rest.2)
 
 -- a row lies in a narrower one if it lies in the row and each of its classes passes
 leq_into : (u : Listing) (test : ℕ → ℕ → Bool) (x row : Sets) → HasShape u x → HasShape u row → Leq x row → (is_live x ≡ true → (l c : ℕ) → Held x l c → test l c ≡ true) → Leq x (narrowed test row)

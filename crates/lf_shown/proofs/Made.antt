@@ -16,9 +16,9 @@ use Rattle.lf_semantics.proofs.EffectsRepresent.{represents_bare}
 use Rattle.lf_semantics.proofs.LabelTexts.{value-bare}
 use Rattle.lf_semantics.proofs.Places.{class_of_some}
 use Rattle.lf_semantics.proofs.RowLaws.{represents_only_empty}
+use Rattle.lf_semantics.proofs.GivenTexts.{bare_has_texts}
 use Rattle.lf_witness.specs.Strict.{MadeApart, Outcomes}
 use Rattle.lf_witness.proofs.SameSets.{same_itself}
-use Rattle.lf_witness.proofs.SomeSample.{full_bare}
 use Rattle.lf_trials.specs.Building.{Builder, Building, nothing}
 use Rattle.lf_trials.specs.Given.{Given, completed, completed_by, losing}
 use Rattle.lf_shown.specs.Agreement.{Gives, Names}
@@ -168,7 +168,7 @@ module _ (u : Listing) (rules : List RuleTree) where
       is_built = refl;
       one = bare;
       represented = represents_bare u p;
-      full = full_bare;
+      full = bare_has_texts;
       within = λ name out. value-bare name;
       agrees = λ name text there given.
           value-bare name ∙ sym (empty_text u (label_of u name) text (replaced_passes (λ label. true) (λ l c. eqb c 0) (top u) h.live (label_of u name) (class_of u (label_of u name) text) (h.held name text there given) refl));

@@ -1,11 +1,12 @@
 -- What is built for an expression without open constructs gives one sample: the induction over the rules that aren't marked.
 use Rattle.std.proofs.Common.{◌≡◌, ◌≤◌, ◌<◌, ◌⊎◌, inl, inr, ℕ, zero, suc, ◌+◌, Bool, true, false, not, ◌||◌, cond, eqb, List, [], ◌∷◌, length, Some, refl, sym, ◌∙◌, ap, subst, arith, slice_get, codes}
-use Rattle.std.proofs.lemmas.Bool.{eqb-true}
+use Rattle.std.proofs.lemmas.Bool.{eq-eqb, eqb-true}
 use Rattle.std.specs.List.{Contains, filter, range_with_len}
-use Rattle.std.proofs.lemmas.Bool.{cases_eq}
 use Rattle.std.proofs.lemmas.List.FromFn.{length-range_with_len}
-use Rattle.lf_laws.proofs.Booleans.{clash}
+use Rattle.std.proofs.lemmas.Option.{slice_get_within}
+use Rattle.lf_laws.proofs.Booleans.{clash, or_false}
 use Rattle.lf_laws.proofs.Members.{behind, first_or_behind, here, none_in}
+use Rattle.lf_laws.proofs.Slices.{member_at, number_of, one_at}
 use Rattle.lf_ast.specs.Labels.{Bytes}
 use Rattle.lf_ast.specs.Rules.{RuleTree}
 use Rattle.lf_ast.specs.Tree.{Tree}
@@ -17,6 +18,7 @@ use Rattle.lf_semantics.specs.RowTable.{Environment, may_be_present, row_of}
 use Rattle.lf_semantics.specs.Worlds.{SetsNoName}
 use Rattle.lf_semantics.proofs.Members.{all_front, in_filter}
 use Rattle.lf_deps.specs.Reading.{IsCyclic, Reads, Records, selectors}
+use Rattle.lf_deps.proofs.Ascending.{in_range}
 use Rattle.lf_trials.specs.Built.{build_by_rule}
 use Rattle.lf_trials.specs.Forks.{TellsForks}
 use Rattle.lf_trials.specs.Reached.{is_marked}
@@ -25,7 +27,7 @@ use Rattle.lf_shown.specs.Silence.{can_be_silent}
 use Rattle.lf_shown.proofs.Choices.{IsSmall}
 use Rattle.lf_shown.proofs.Induction.{Made, NamesBuilt, from_raw, raw}
 use Rattle.lf_shown.proofs.Reached.{none_behind, read_acyclic, some_recorded}
-use Rattle.lf_shown.proofs.Recorded.{one_at, IsUnion, answers_name, rule_number, rule_there}
+use Rattle.lf_shown.proofs.Recorded.{IsUnion, answers_name}
 
 -- ---- how many numbers aren't marked
 
@@ -61,28 +63,14 @@ one_fewer some less (x ∷ xs) k into c a b = by (less x) refl (some x) refl (fi
     by false isl true iss (inr d) h rest = let g = rest d in omega (arith, g)
     by false isl false iss (inr d) h rest = rest d
 
-below : (a n k : ℕ) → a ≤ k → k < a + n → Contains (range_with_len a n) k
-below a zero k least less = absurd (omega (arith, least, less))
-below a (suc n) k least less = elim (cases_eq a k) [
-  | inl e ↦ subst (Contains (range_with_len a (suc n))) e (here a (range_with_len (a + 1) n))
-  | inr other ↦ behind a (range_with_len (a + 1) n) k (below (a + 1) n k (omega (arith, least, other)) (omega (arith, less)))
-]
-
 abbrev unmarked : List ℕ → ℕ → Bool
 unmarked marked k = not (is_marked marked k)
-
-eqb-same : (k : ℕ) → eqb k k ≡ true
-eqb-same k = grind arith
 
 -- a rule without open constructs isn't read by its own expression
 pub rule_is_free : (rules : List RuleTree) (i : ℕ) (r : RuleTree) → slice_get rules i ≡ Some r → HasNoneOpen rules r.expr → (k : ℕ) (q : RuleTree) → is_marked (i ∷ []) k ≡ true → slice_get rules k ≡ Some q → q.alert ≡ false → Reads rules r.expr q.name → ⊥
 rule_is_free rules i r at none k q m at' recording reads =
-    let same : q ≡ r = one_at rules _ q r (subst (λ z. slice_get rules z ≡ Some q) (eqb-true k i (only (eqb k i) m)) at') at in
-    read_acyclic rules r.expr none q.name reads (r, rule_there rules i r at, (subst (λ (z : RuleTree). z.alert ≡ false) same recording, ap (λ (z : RuleTree). z.name) (sym same)), reads)
-  where
-    only : (b : Bool) → (b || false) ≡ true → b ≡ true
-    only true e = refl
-    only false e = e
+    let same : q ≡ r = one_at rules _ q r (subst (λ z. slice_get rules z ≡ Some q) (eqb-true k i (sym (or_false (eqb k i)) ∙ m)) at') at in
+    read_acyclic rules r.expr none q.name reads (r, member_at rules i r at, (subst (λ (z : RuleTree). z.alert ≡ false) same recording, ap (λ (z : RuleTree). z.name) (sym same)), reads)
 
 module _ (u : Listing) (rules : List RuleTree) (p : IsListing u) (small : IsSmall u) (env : Environment) (holds_fork : Tree → Bool) (tells : TellsForks rules holds_fork)
     (covers : CoversRules u rules) (unnamed : (r : RuleTree) → Contains rules r → SetsNoName r) (of : IsEnvironmentOf u rules env)
@@ -100,11 +88,11 @@ module _ (u : Listing) (rules : List RuleTree) (p : IsListing u) (small : IsSmal
   MadeBy room marked e = Made u rules p small env holds_fork tells covers unnamed of union closed last (build_by_rule u env rules holds_fork room marked) e
 
   number_in : (k : ℕ) (r : RuleTree) → slice_get rules k ≡ Some r → Contains (range_with_len 0 (length rules)) k
-  number_in k r at = let h = Rattle.std.proofs.lemmas.Option.slice_get_within rules k r at in below 0 (length rules) k (omega arith) (omega (arith, h))
+  number_in k r at = in_range (length rules) k (slice_get_within rules k r at)
 
   room_left : (room : ℕ) (marked : List ℕ) (k : ℕ) (r : RuleTree) → slice_get rules k ≡ Some r → is_marked marked k ≡ false → HasRoom (suc room) marked → HasRoom room (k ∷ marked)
   room_left room marked k r at free h =
-      let less = one_fewer (unmarked marked) (unmarked (k ∷ marked)) (range_with_len 0 (length rules)) k (λ j e. drop_one (eqb j k) (is_marked marked j) e) (number_in k r at) (ap not free) (ap (λ b. not (b || is_marked marked k)) (eqb-same k)) in
+      let less = one_fewer (unmarked marked) (unmarked (k ∷ marked)) (range_with_len 0 (length rules)) k (λ j e. drop_one (eqb j k) (is_marked marked j) e) (number_in k r at) (ap not free) (ap (λ b. not (b || is_marked marked k)) (eq-eqb k k refl)) in
       omega (arith, less, h)
     where
       drop_one : (a b : Bool) → not (a || b) ≡ true → not b ≡ true
@@ -135,8 +123,8 @@ module _ (u : Listing) (rules : List RuleTree) (p : IsListing u) (small : IsSmal
       by : (b : Bool) → eqb j k ≡ b → (b || is_marked marked j) ≡ true → ⊥
       by true e m =
           let same : q ≡ r = one_at rules _ q r (subst (λ z. slice_get rules z ≡ Some q) (eqb-true j k e) at') at in
-          acyclic (r, rule_there rules k r at, (recording, refl), subst (λ (z : RuleTree). Reads rules r.expr z.name) same reads)
-      by false e m = free j q m at' recording' (Reads.through r (rule_there rules k r at) recording (inl selects) reads)
+          acyclic (r, member_at rules k r at, (recording, refl), subst (λ (z : RuleTree). Reads rules r.expr z.name) same reads)
+      by false e m = free j q m at' recording' (Reads.through r (member_at rules k r at) recording (inl selects) reads)
 
   same_records : (r : RuleTree) (n : Bytes) (e : Tree) → Records r n → Contains (selectors e) (Some n) → Contains (selectors e) (Some r.name)
   same_records r n e is c = subst (λ x. Contains (selectors e) (Some x)) (sym is.1) c
@@ -148,8 +136,8 @@ module _ (u : Listing) (rules : List RuleTree) (p : IsListing u) (small : IsSmal
         read = none.read;
         built = λ n c recorded acyclic.
             let r = some_recorded rules n recorded in
-            let at = rule_number rules r.0 r.1 in
-            absurd (no_room marked at.0 r.0 at.1 (is_free marked e n free (Reads.selected (inl c)) at.0 r.0 at.1 r.2) room);
+            let at = number_of rules r.0 r.1 in
+            absurd (no_room marked at.0 r.0 at.2 (is_free marked e n free (Reads.selected (inl c)) at.0 r.0 at.2 r.2) room);
       } in
       from_raw u rules p small env holds_fork tells covers unnamed of union closed last (build_by_rule u env rules holds_fork zero marked) e
       (λ s shut. raw u rules p small env holds_fork tells covers unnamed of union closed last (build_by_rule u env rules holds_fork zero marked) e s known shut names) none.own
@@ -160,7 +148,7 @@ module _ (u : Listing) (rules : List RuleTree) (p : IsListing u) (small : IsSmal
             answers_name u rules p small env holds_fork tells covers unnamed of union closed n row is room marked (is_free marked e n free (Reads.selected (inl c))) acyclic
             (λ k r at records. (
               can_be_silent r.expr,
-              made_by room (k ∷ marked) r.expr (covered r (rule_there rules k r at)) (none_behind rules e none r (rule_there rules k r at) (records.0, Reads.selected (inl (same_records r n e records c))))
+              made_by room (k ∷ marked) r.expr (covered r (member_at rules k r at)) (none_behind rules e none r (member_at rules k r at) (records.0, Reads.selected (inl (same_records r n e records c))))
                   (room_left room marked k r at (is_free marked e n free (Reads.selected (inl c)) k r at records) has)
                   (still_free marked e free k r at records.0 (same_records r n e records c) (λ cyclic. acyclic (subst (IsCyclic rules) records.1 cyclic))),
             ));
@@ -171,5 +159,5 @@ module _ (u : Listing) (rules : List RuleTree) (p : IsListing u) (small : IsSmal
   -- of a rule, which is marked itself
   pub made_of_rule : (i : ℕ) (r : RuleTree) → slice_get rules i ≡ Some r → HasNoneOpen rules r.expr → MadeBy (length rules) (i ∷ []) r.expr
   made_of_rule i r at none =
-      made_by (length rules) (i ∷ []) r.expr (covered r (rule_there rules i r at)) none (let h = most_left (unmarked (i ∷ [])) (range_with_len 0 (length rules)) in let g = length-range_with_len 0 (length rules) in omega (arith, h, g))
+      made_by (length rules) (i ∷ []) r.expr (covered r (member_at rules i r at)) none (let h = most_left (unmarked (i ∷ [])) (range_with_len 0 (length rules)) in let g = length-range_with_len 0 (length rules) in omega (arith, h, g))
       (rule_is_free rules i r at none)

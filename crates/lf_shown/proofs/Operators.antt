@@ -2,8 +2,11 @@
 use Rattle.std.proofs.Common.{◌≡◌, ◌≤◌, ◌⊎◌, inl, inr, ℕ, ◌+◌, Bool, true, false, not, ◌&&◌, ◌||◌, cond, eqb, List, [], ◌∷◌, Option, Some, None, is_some, refl, sym, ◌∙◌, ap, subst, arith}
 use Rattle.std.specs.List.{Contains}
 use Rattle.std.specs.Option.{option_or}
+use Rattle.std.proofs.lemmas.Bool.{and_from}
+use Rattle.std.proofs.lemmas.Option.{none-some}
 use Rattle.lf_laws.proofs.Booleans.{and_left, and_right, clash}
 use Rattle.lf_laws.proofs.Members.{any_in, any_out, here, none_in, only_one}
+use Rattle.lf_laws.proofs.Options.{the_same}
 use Rattle.lf_ast.specs.Labels.{Bytes, Labels}
 use Rattle.lf_ast.specs.Rules.{RuleTree}
 use Rattle.lf_ast.specs.Selectors.{metric}
@@ -27,6 +30,7 @@ use Rattle.lf_semantics.proofs.Numbered.{AreKnown, among_label, keep_label, metr
 use Rattle.lf_semantics.proofs.PairsRepresent.{represents_matched, represents_paired, shape_matched}
 use Rattle.lf_semantics.proofs.Restricted.{value-restricted}
 use Rattle.lf_semantics.proofs.RowLaws.{represents_join_left, represents_join_right}
+use Rattle.lf_semantics.proofs.GivenTexts.{taken_has_texts, without_if_has_texts}
 use Rattle.lf_witness.specs.Strict.{From, IsAmbiguous, IsSet, HasTwoAlike, Outcomes, StrictCombines, StrictPairs}
 use Rattle.lf_trials.specs.Building.{Builder, Building, and_then, both}
 use Rattle.lf_trials.specs.Candidates.{candidates_in_both, first, in_row, is_one_of, labels_in}
@@ -81,16 +85,13 @@ one_value false a true tm to = refl
 one_value false true false tm to = refl
 one_value false false false tm to = refl
 
-nameless_texts : (drops : Bool) (s : Labels) → HasTexts s → HasTexts (without_name_if drops s)
-nameless_texts true s full = restricted_has_texts (λ label. not (is_metric label)) s full
-nameless_texts false s full = full
-
-taken_texts : (one : Labels) (names : List Name) (s : Labels) → HasTexts s → HasTexts (taken_from one names s)
-taken_texts one [] s full = full
-taken_texts one (n ∷ names) s full = with_label_has_texts n.text (value_of one n.text) (taken_from one names s) (taken_texts one names s full)
+many_is : (op : Op) (m : Matching) (s t : Labels) (n : Bytes) → value_of (many_to_one op m s t) n ≡ cond (m.bool_mod && is_metric n) [] (cond (is_among m.include n) (value_of t n) (cond (is_arithmetic op && is_metric n) [] (value_of s n)))
+many_is op m s t n =
+    value-without_name_if m.bool_mod (taken_from t m.include (without_name_if (is_arithmetic op) s)) n
+    ∙ ap (λ v. cond (m.bool_mod && is_metric n) [] v) (value-taken_from t m.include (without_name_if (is_arithmetic op) s) n ∙ ap (λ v. cond (is_among m.include n) (value_of t n) v) (value-without_name_if (is_arithmetic op) s n))
 
 many_texts : (op : Op) (m : Matching) (many one : Labels) → HasTexts many → HasTexts (many_to_one op m many one)
-many_texts op m many one full = nameless_texts m.bool_mod (taken_from one m.include (without_name_if (is_arithmetic op) many)) (taken_texts one m.include (without_name_if (is_arithmetic op) many) (nameless_texts (is_arithmetic op) many full))
+many_texts op m many one full = without_if_has_texts m.bool_mod (taken_from one m.include (without_name_if (is_arithmetic op) many)) (taken_has_texts one m.include (without_name_if (is_arithmetic op) many) (without_if_has_texts (is_arithmetic op) many full))
 
 module _ (u : Listing) (p : IsListing u) where
   -- ---- rows without the name
@@ -285,15 +286,10 @@ module _ (u : Listing) (p : IsListing u) where
               let l = one_live op m include ml mr live in
               (matched_held right left l (label_of u n) c h, λ is. partner_held right left l n c h is);
           no_held = λ live n c held e f. none_held op m include ml mr live n c held f e;
-          values = λ s t n. many_is s t n ∙ many_value (m.bool_mod && is_metric n) (is_arithmetic op && is_metric n) (is_among m.include n) (value_of s n) (value_of t n);
+          values = λ s t n. many_is op m s t n ∙ many_value (m.bool_mod && is_metric n) (is_arithmetic op && is_metric n) (is_among m.include n) (value_of s n) (value_of t n);
           fulls = λ s t full other. many_texts op m s t full;
           lies = lies_paired Left;
         }
-          where
-            many_is : (s t : Labels) (n : Bytes) → value_of (many_to_one op m s t) n ≡ cond (m.bool_mod && is_metric n) [] (cond (is_among m.include n) (value_of t n) (cond (is_arithmetic op && is_metric n) [] (value_of s n)))
-            many_is s t n =
-                value-without_name_if m.bool_mod (taken_from t m.include (without_name_if (is_arithmetic op) s)) n
-                ∙ ap (λ v. cond (m.bool_mod && is_metric n) [] v) (value-taken_from t m.include (without_name_if (is_arithmetic op) s) n ∙ ap (λ v. cond (is_among m.include n) (value_of t n) v) (value-without_name_if (is_arithmetic op) s n))
         pair_match Right = record {
           left_live = λ live. matched_live left right (one_live op m include mr ml live);
           right_live = λ live. matched_live right left (many_live op m include mr ml live);
@@ -307,15 +303,10 @@ module _ (u : Listing) (p : IsListing u) where
               let l = many_live op m include mr ml live in
               (matched_held right left l (label_of u n) c h, λ is. partner_held right left l n c h is);
           no_held = λ live n c held e f. none_held op m include mr ml live n c held e f;
-          values = λ s t n. many_is t s n ∙ one_value (m.bool_mod && is_metric n) (is_arithmetic op && is_metric n) (is_among m.include n) (value_of t n) (value_of s n);
+          values = λ s t n. many_is op m t s n ∙ one_value (m.bool_mod && is_metric n) (is_arithmetic op && is_metric n) (is_among m.include n) (value_of t n) (value_of s n);
           fulls = λ s t full other. many_texts op m t s other;
           lies = lies_paired Right;
         }
-          where
-            many_is : (s t : Labels) (n : Bytes) → value_of (many_to_one op m s t) n ≡ cond (m.bool_mod && is_metric n) [] (cond (is_among m.include n) (value_of t n) (cond (is_arithmetic op && is_metric n) [] (value_of s n)))
-            many_is s t n =
-                value-without_name_if m.bool_mod (taken_from t m.include (without_name_if (is_arithmetic op) s)) n
-                ∙ ap (λ v. cond (m.bool_mod && is_metric n) [] v) (value-taken_from t m.include (without_name_if (is_arithmetic op) s) n ∙ ap (λ v. cond (is_among m.include n) (value_of t n) v) (value-without_name_if (is_arithmetic op) s n))
 
   -- ---- strict matches of two samples
 
@@ -365,15 +356,12 @@ module _ (u : Listing) (p : IsListing u) where
           | inl live ↦
               let c = class_at u p small (matched_row u m left right) n (shape_matched u p m left right of_left.shape) live in
               some_candidate u p n (small (label_of u n)) (λ class. in_row u left n class && in_row u right n class) c.0 c.1
-              (both_true (matched_held m on ignoring left right live (label_of u n) c.0 c.2) (partner_held m on ignoring left right live n c.0 c.2 signed))
+              (and_from _ _ (matched_held m on ignoring left right live (label_of u n) c.0 c.2) (partner_held m on ignoring left right live n c.0 c.2 signed))
           | inr live ↦
               let c = class_at u p small (matched_row u m right left) n (shape_matched u p m right left of_right.shape) live in
               some_candidate u p n (small (label_of u n)) (λ class. in_row u left n class && in_row u right n class) c.0 c.1
-              (both_true (partner_held m on ignoring right left live n c.0 c.2 signed) (matched_held m on ignoring right left live (label_of u n) c.0 c.2))
+              (and_from _ _ (partner_held m on ignoring right left live n c.0 c.2 signed) (matched_held m on ignoring right left live (label_of u n) c.0 c.2))
         ]
-          where
-            both_true : {a b : Bool} → a ≡ true → b ≡ true → (a && b) ≡ true
-            both_true e f = rw (e, f) refl
 
         -- the text of a label of the signature: both sides hold it, and it is the one that is given where the result has the label
         abbrev IsSigned : Bytes → Option Bytes → Type 0
@@ -404,9 +392,6 @@ module _ (u : Listing) (p : IsListing u) where
             by : (n : Bytes) → In u n → (b : Bool) → signs m n ≡ b → (not b || is_some (signature_text u op m left right D n)) ≡ true
             by n there true signed = let t = signed_text n there signed in ap is_some t.1
             by n there false signed = refl
-
-        the_same : (a b : Bytes) → Some a ≡ Some b → a ≡ b
-        the_same a b e = cc
 
         holds_left : HoldsGiven u left (side u (left_gives op m) op m left right D)
         holds_left = record { live = is.left_live h.live; held = λ n t there given. by n t there (signs m n) refl (left_gives op m n) refl given }
@@ -542,9 +527,6 @@ module _ (u : Listing) (p : IsListing u) where
       either_holds : (D : Given) → AtMostOne u D → HoldsGiven u (join left right) D → HoldsGiven u left D ⊎ HoldsGiven u right D
       either_holds D few h = by (is_one_of (labels_in u) few.0) refl (D few.0) refl
         where
-          the_same : (a b : Bytes) → Some a ≡ Some b → a ≡ b
-          the_same a b e = cc
-
           -- nothing is given
           vacuous : ((n t : Bytes) → In u n → Gave D n t → ⊥) → HoldsGiven u left D ⊎ HoldsGiven u right D
           vacuous none = elim (join_was_live left right h.live) [
@@ -563,10 +545,7 @@ module _ (u : Listing) (p : IsListing u) where
 
           by : (b : Bool) → is_one_of (labels_in u) few.0 ≡ b → (o : Option Bytes) → D few.0 ≡ o → HoldsGiven u left D ⊎ HoldsGiven u right D
           by false out o e = vacuous (λ n t there given. clash _ (any_in few.0 (labels_in u) (subst (In u) (few.1 n t there given) there)) out)
-          by true is None e = vacuous (λ n t there given. absurd (none (sym (ap D (few.1 n t there given) ∙ e) ∙ given)))
-            where
-              none : {t : Bytes} → None ≡ Some t → ⊥
-              none e = cc
+          by true is None e = vacuous (λ n t there given. absurd (none-some t (sym (ap D (few.1 n t there given) ∙ e) ∙ given)))
           by true is (Some t) e =
               elim (join_held left right h.live (label_of u few.0) (class_of u (label_of u few.0) t) (h.held few.0 t (any_out few.0 (labels_in u) is) e)) [
                 | inl k ↦ inl (alone left t e k.0 k.1)

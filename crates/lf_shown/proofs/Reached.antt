@@ -5,8 +5,10 @@ use Rattle.std.proofs.lemmas.Bool.{or_right}
 use Rattle.std.specs.List.{Contains}
 use Rattle.std.specs.Str.{bytes_eq}
 use Rattle.std.proofs.lemmas.List.Elements.{Contains-append_cases}
+use Rattle.std.proofs.lemmas.Option.{none-some}
 use Rattle.lf_laws.proofs.Booleans.{and_left, and_right, clash}
-use Rattle.lf_laws.proofs.Members.{behind, first_or_behind, here, none_in, only_one, same_true, true_same}
+use Rattle.lf_laws.proofs.Members.{any_has, behind, first_or_behind, here, none_in, only_one, same_true, some_has, true_same}
+use Rattle.lf_laws.proofs.Options.{the_same}
 use Rattle.lf_ast.specs.Labels.{Bytes}
 use Rattle.lf_ast.specs.Rules.{RuleTree}
 use Rattle.lf_ast.specs.Tree.{Tree, Trees, Number, Str, Selector, Subquery, Paren, Unary, Binary, Call, Aggregate, Nil, Next}
@@ -17,6 +19,7 @@ use Rattle.lf_semantics.specs.Parts.{is_scalar_part}
 use Rattle.lf_semantics.specs.RowTable.{Environment, row_named}
 use Rattle.lf_semantics.proofs.ListingLaws.{in_first_seen, of_first_seen}
 use Rattle.lf_semantics.proofs.SamplesRepresented.{none_named}
+use Rattle.lf_semantics.proofs.Recorded.{recorded, recorder}
 use Rattle.lf_deps.specs.Reading.{IsCyclic, Reaches, Reads, Records, arguments_selectors, outside_scalars, selectors, selectors_in}
 use Rattle.lf_trials.specs.Reached.{is_recorded, records}
 use Rattle.lf_shown.specs.NoneOpen.{ArgumentsAreClosed, HasNoneOpen, IsClosed, IsClosedIn}
@@ -61,9 +64,6 @@ module _ (rules : List RuleTree) where
   pub fit_selector : (e : Tree) → IsClosed rules e → (o : Option Bytes) → Contains (selectors e) o → IsFit o
   fit_selector e closed o c = out_of_scalar e (selectors_in e) (IsClosedIn rules e) (fit_in e) closed o c
 
-  same_name : (n m : Bytes) → Some n ≡ Some m → n ≡ m
-  same_name n m e = cc
-
   -- a rule that an expression selects has no open construct where the expression has none
   pub none_behind : (e : Tree) → HasNoneOpen rules e → (r : RuleTree) → Contains rules r → Reaches rules e r → HasNoneOpen rules r.expr
   none_behind e none r c reach = record {
@@ -79,43 +79,21 @@ module _ (rules : List RuleTree) where
   pub read_acyclic : (e : Tree) → HasNoneOpen rules e → (n : Bytes) → Reads rules e n → IsCyclic rules n → ⊥
   read_acyclic e none n (Reads.selected (inl c)) cyclic =
       let fit = fit_selector e none.own (Some n) c in
-      fit.2 (subst (IsCyclic rules) (same_name n fit.0 fit.1) cyclic)
-  read_acyclic e none n (Reads.selected (inr c)) cyclic = let fit = fit_selector e none.own None c.0 in absurd (none_some fit.0 fit.1)
-    where
-      none_some : (x : Bytes) → None ≡ Some x → ⊥
-      none_some x e = cc
+      fit.2 (subst (IsCyclic rules) (the_same n fit.0 fit.1) cyclic)
+  read_acyclic e none n (Reads.selected (inr c)) cyclic = let fit = fit_selector e none.own None c.0 in absurd (none-some fit.0 fit.1)
   read_acyclic e none n (Reads.through r c recording s reads) cyclic = read_acyclic r.expr (none_behind e none r c (recording, Reads.selected s)) n reads cyclic
 
 -- ---- recorded names have rows
 
 pub some_recorded : (rules : List RuleTree) (n : Bytes) → is_recorded rules n ≡ true → (r : RuleTree) × Contains rules r × Records r n
-some_recorded [] n e = absurd (cc)
-some_recorded (x ∷ rules) n e = by (records n x) refl e (some_recorded rules n)
-  where
-    by : (b : Bool) → records n x ≡ b → (b || is_recorded rules n) ≡ true → (is_recorded rules n ≡ true → (r : RuleTree) × Contains rules r × Records r n) → (r : RuleTree) × Contains (x ∷ rules) r × Records r n
-    by true is e rest = (x, here x rules, (not-true x.alert (and_left (not x.alert) _ is), true_same x.name n (and_right (not x.alert) _ is)))
-    by false is e rest = let r = rest e in (r.0, behind x rules r.0 r.1, r.2)
-
-pub recorded_there : (rules : List RuleTree) (r : RuleTree) → Contains rules r → r.alert ≡ false → Contains (names_recorded rules) r.name
-recorded_there [] r c recording = absurd (none_in r c)
-recorded_there (x ∷ rules) r c recording = by x.alert refl (first_or_behind x rules r c) (recorded_there rules r)
-  where
-    by : (b : Bool) → x.alert ≡ b → (x ≡ r) ⊎ Contains rules r → (Contains rules r → r.alert ≡ false → Contains (names_recorded rules) r.name) → Contains (cond b (names_recorded rules) (x.name ∷ names_recorded rules)) r.name
-    by true is (inl e) rest = absurd (clash _ is (ap (λ (z : RuleTree). z.alert) e ∙ recording))
-    by true is (inr d) rest = rest d recording
-    by false is (inl e) rest = subst (Contains (x.name ∷ names_recorded rules)) (ap (λ (z : RuleTree). z.name) e) (here x.name (names_recorded rules))
-    by false is (inr d) rest = behind x.name (names_recorded rules) r.name (rest d recording)
+some_recorded rules n e =
+    let r = some_has (records n) rules e in
+    (r.0, r.1, (not-true r.0.alert (and_left (not r.0.alert) (bytes_eq r.0.name n) r.2), true_same r.0.name n (and_right (not r.0.alert) (bytes_eq r.0.name n) r.2)))
 
 of_recorded : (rules : List RuleTree) (n : Bytes) → Contains (names_recorded rules) n → is_recorded rules n ≡ true
-of_recorded [] n c = absurd (none_in n c)
-of_recorded (x ∷ rules) n c = by x.alert refl c (of_recorded rules n)
-  where
-    by : (b : Bool) → x.alert ≡ b → Contains (cond b (names_recorded rules) (x.name ∷ names_recorded rules)) n → (Contains (names_recorded rules) n → is_recorded rules n ≡ true) → ((not x.alert && bytes_eq x.name n) || is_recorded rules n) ≡ true
-    by true is d rest = or_right _ _ (rest d)
-    by false is d rest = elim (first_or_behind x.name (names_recorded rules) n d) [
-      | inl e ↦ rw (is, same_true x.name n e) refl
-      | inr f ↦ or_right _ _ (rest f)
-    ]
+of_recorded rules n c =
+    let r = recorder rules n c in
+    any_has (records n) rules r.0 r.1 (ap (λ (b : Bool). not b && bytes_eq r.0.name n) r.2 ∙ same_true r.0.name n r.3)
 
 some_named : (env : Environment) (n : Bytes) → Contains (map (λ (entry : Bytes × Sets). entry.0) env) n → (row : Sets) × (row_named env n ≡ Some row)
 some_named [] n c = absurd (none_in n c)
@@ -131,7 +109,7 @@ module _ (u : Listing) (rules : List RuleTree) (env : Environment) (of : IsEnvir
   pub row_of_recorded : (n : Bytes) → is_recorded rules n ≡ true → (row : Sets) × (row_named env n ≡ Some row)
   row_of_recorded n e =
       let r = some_recorded rules n e in
-      let c = recorded_there rules r.0 r.1 r.2.0 in
+      let c = recorded rules r.0 r.1 r.2.0 in
       some_named env n (subst (λ xs. Contains xs n) (sym of.names) (in_first_seen (names_recorded rules) n (subst (Contains (names_recorded rules)) r.2.1 c)))
 
   pub none_unrecorded : (n : Bytes) → is_recorded rules n ≡ false → row_named env n ≡ None

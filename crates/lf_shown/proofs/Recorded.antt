@@ -8,8 +8,11 @@ use Rattle.std.specs.List.{AllByRecursion, Contains, filter, list_any, sum}
 use Rattle.std.specs.Str.{bytes_eq}
 use Rattle.std.proofs.lemmas.Bool.Decides.{nat_tests}
 use Rattle.std.proofs.lemmas.List.Elements.{Contains-append_left, Contains-append_right, Contains-append_cases}
+use Rattle.std.proofs.lemmas.Option.{none-some}
 use Rattle.lf_laws.proofs.Booleans.{and_left, and_right, clash}
 use Rattle.lf_laws.proofs.Members.{any_in, any_out, here, none_in, only_one, other_false, same_true, true_same}
+use Rattle.lf_laws.proofs.Slices.{member_at, number_of, one_at}
+use Rattle.lf_laws.proofs.Options.{the_same}
 use Rattle.lf_ast.specs.Labels.{Bytes, Labels}
 use Rattle.lf_ast.specs.Rules.{RuleTree}
 use Rattle.lf_ast.specs.Selectors.{metric}
@@ -123,16 +126,6 @@ first_found test k (x ∷ rs) j r at passes = by (test k x) refl j at passes (λ
         let f = rest j at (ap (λ z. test z r) e ∙ passes) in
         let g : suc k + f.0 ≡ k + suc f.0 = omega arith in
         (suc f.0, f.1, ap (λ b. cond b (Some (k, x)) (first_rule test (suc k) rs)) is ∙ f.2 ∙ ap (λ z. Some (z, f.1)) g, f.3, ap (λ z. test z f.1) (sym g) ∙ f.4)
-
-pub rule_there : (rules : List RuleTree) (k : ℕ) (r : RuleTree) → slice_get rules k ≡ Some r → Contains rules r
-rule_there rules k r at = (k, Rattle.std.proofs.lemmas.Option.slice_get_within rules k r at, Rattle.std.proofs.lemmas.Option.get_or_from_slice_get rules k r r at)
-
-pub rule_number : (rules : List RuleTree) (r : RuleTree) → Contains rules r → (k : ℕ) × (slice_get rules k ≡ Some r)
-rule_number rules r c = (c.0, Rattle.std.proofs.lemmas.Option.slice_get_read rules (length rules) c.0 r refl c.1 (sym c.2))
-
--- one rule at a number
-pub one_at : (rules : List RuleTree) (k : ℕ) (r q : RuleTree) → slice_get rules k ≡ Some r → slice_get rules k ≡ Some q → r ≡ q
-one_at rules k r q a b = ap (λ (o : Option RuleTree). elim o [ None ↦ r | Some z ↦ z ]) (sym a ∙ b)
 
 -- a name that not several rules record is recorded by one alone
 pub one_rule : (rules : List RuleTree) (n : Bytes) → has_several_rules rules n ≡ false → (r q : RuleTree) → Contains rules r → Contains rules q → Records r n → Records q n → r ≡ q
@@ -394,9 +387,6 @@ module _ (u : Listing) (rules : List RuleTree) (p : IsListing u) (small : IsSmal
         )
     holder D h (inr few) = by (is_one_of (labels_in u) few.0) refl (D few.0) refl
       where
-        the_same : (a b : Bytes) → Some a ≡ Some b → a ≡ b
-        the_same a b e = cc
-
         vacuous : ((x t : Bytes) → In u x → Gave D x t → ⊥) → Holder D
         vacuous none =
             let c = some_class h.live in
@@ -405,10 +395,7 @@ module _ (u : Listing) (rules : List RuleTree) (p : IsListing u) (small : IsSmal
 
         by : (b : Bool) → is_one_of (labels_in u) few.0 ≡ b → (o : Option Bytes) → D few.0 ≡ o → Holder D
         by false out o e = vacuous (λ x t there given. clash _ (any_in few.0 (labels_in u) (subst (In u) (few.1 x t there given) there)) out)
-        by true inside None e = vacuous (λ x t there given. none_some (sym (ap D (few.1 x t there given) ∙ e) ∙ given))
-          where
-            none_some : {t : Bytes} → None ≡ Some t → ⊥
-            none_some e = cc
+        by true inside None e = vacuous (λ x t there given. none-some t (sym (ap D (few.1 x t there given) ∙ e) ∙ given))
         by true inside (Some t) e =
             let r = union n row is h.live (label_of u few.0) (class_of u (label_of u few.0) t) (h.held few.0 t (any_out few.0 (labels_in u) inside) e) in (
               r.0,
@@ -437,7 +424,7 @@ module _ (u : Listing) (rules : List RuleTree) (p : IsListing u) (small : IsSmal
       answers_found : (D : Given) (i : ℕ) (q : RuleTree) → slice_get rules i ≡ Some q → fitting D i q ≡ true → IsHanded rules u n D → Answers u rules row (NameReads rules n) 0 (λ X. IsSet (AreSelected X (Some n) [])) (by_found D (i, q)) D
       answers_found D i q at passes handed =
           let records_it : Records q n = (not-true q.alert (and_left (not q.alert) (bytes_eq q.name n) (and_left (records n q) _ passes)), true_same q.name n (and_right (not q.alert) (bytes_eq q.name n) (and_left (records n q) _ passes))) in
-          let there = rule_there rules i q at in
+          let there = member_at rules i q at in
           let held : HoldsGiven u (recorded_row u env q) D = holds_by_test u (recorded_row u env q) D (and_right (not (is_marked marked i)) (holds_texts u (recorded_row u env q) D) (and_right (records n q) _ passes)) in
           let expr = made i q at records_it in
           let cyclic : Reads rules q.expr q.name → ⊥ = λ reads. acyclic (q, there, records_it, subst (Reads rules q.expr) records_it.1 reads) in
@@ -476,8 +463,8 @@ module _ (u : Listing) (rules : List RuleTree) (p : IsListing u) (small : IsSmal
       pub answers_name : (D : Given) → HoldsGiven u row D → IsHanded rules u n D → Named D (build_by_rule u env rules holds_fork (suc fuel) marked n D)
       answers_name D h handed =
           let one = holder D h handed in
-          let at = rule_number rules one.0 one.1 in
-          let unmarked = free at.0 one.0 at.1 one.2 in
+          let at = number_of rules one.0 one.1 in
+          let unmarked = free at.0 one.0 at.2 one.2 in
           let there : fitting D at.0 one.0 ≡ true = rw (one.2.0, same_true one.0.name n one.2.1, unmarked, test_by_holds u (recorded_row u env one.0) D one.3) refl in
-          let found = first_found (fitting D) 0 rules at.0 one.0 at.1 (fits_at D at.0 (0 + at.0) one.0 (omega arith) there) in
+          let found = first_found (fitting D) 0 rules at.0 one.0 at.2 (fits_at D at.0 (0 + at.0) one.0 (omega arith) there) in
           found_name D found.0 found.1 found.2 found.3 found.4 handed

@@ -2,6 +2,7 @@
 -- where something stands open.
 use Rattle.std.proofs.Common.{◌≡◌, ◌≢◌, ◌≤◌, ◌<◌, ◌+◌, ◌^◌, ℕ, zero, suc, true, List, [], ◌∷◌, map, length, get_or, Some, subst, arith, slice_get}
 use Rattle.std.specs.List.{Contains, sum}
+use Rattle.lf_laws.proofs.Slices.{member_at}
 use Rattle.lf_ast.specs.Labels.{Bytes}
 use Rattle.lf_ast.specs.Rules.{RuleTree}
 use Rattle.lf_semantics.specs.ClassRows.{is_live}
@@ -23,7 +24,6 @@ use Rattle.lf_shown.specs.Laws.{GivesEachAlone, ShowsAllLeft}
 use Rattle.lf_shown.specs.NoneOpen.{HasNoneOpen}
 use Rattle.lf_shown.proofs.Choices.{IsSmall}
 use Rattle.lf_shown.proofs.Marks.{rule_is_free}
-use Rattle.lf_shown.proofs.Recorded.{rule_there}
 use Rattle.lf_shown.proofs.Settled.{AreTyped, none_open}
 use Rattle.lf_shown.proofs.Showing.{all_shown, alone, never_unresolved}
 use Rattle.lf_shown.proofs.Worlds.{sum_front}
@@ -44,7 +44,7 @@ module _ (rules : List RuleTree) (typed : AreTyped rules) (unnamed : SetNoNames 
 
   module _ (i : ℕ) (r : RuleTree) (at : slice_get rules i ≡ Some r) where
     none : AreOpen rules i [] → HasNoneOpen rules r.expr
-    none empty = let t = typed r (rule_there rules i r at) in none_open rules typed r.expr t.0 t.1 (settled rules i r at empty)
+    none empty = let t = typed r (member_at rules i r at) in none_open rules typed r.expr t.0 t.1 (settled rules i r at empty)
 
     -- Where nothing stands open for the rule, and its row isn't empty, the built world shows each presence that the row leaves to a label.
     pub all_is_shown : AreOpen rules i [] → is_live (rule_row u env r) ≡ true → ShowsAllLeft u env rules i r
@@ -59,4 +59,4 @@ module _ (rules : List RuleTree) (typed : AreTyped rules) (unnamed : SetNoNames 
     pub choice_is_alone : AreOpen rules i [] → (HoldsFork rules r.expr → ⊥) → GivesEachAlone u env rules (fork_test rules) (i ∷ []) r.expr
     choice_is_alone empty no_fork D total held =
         alone u (universe_is_listing rules) (small_by_count u few) rules (universe_covers rules) unnamed env least (fork_test rules) (tells_forks rules) (i ∷ []) r.expr
-        (all_front (IsKnown u) (mentions r.expr) _ (universe_covers rules r (rule_there rules i r at))) (none empty) no_fork (rule_is_free rules i r at (none empty)) D total held
+        (all_front (IsKnown u) (mentions r.expr) _ (universe_covers rules r (member_at rules i r at))) (none empty) no_fork (rule_is_free rules i r at (none empty)) D total held

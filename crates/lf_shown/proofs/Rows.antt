@@ -4,7 +4,7 @@ use Rattle.std.proofs.lemmas.Bool.{or_cases}
 use Rattle.lf_laws.proofs.Booleans.{and_left, and_right, clash}
 use Rattle.lf_semantics.specs.ClassRows.{Sets, emptied, holds, indexed_from, is_live, join, narrowed, normalized, remade, replaced, top}
 use Rattle.lf_semantics.specs.Listing.{IsListing, Listing}
-use Rattle.lf_semantics.proofs.LeqLaws.{live_more, normalized_live}
+use Rattle.lf_semantics.proofs.LeqLaws.{live_more, live_normalized, normalized_live, of_remade}
 use Rattle.lf_semantics.proofs.Places.{name_of}
 use Rattle.lf_semantics.proofs.RowLaws.{get_or-indexed, holds-remade, holds_within, length-indexed, length_remade, top_holds}
 use Rattle.lf_semantics.proofs.RowSets.{emptied_dead}
@@ -14,30 +14,13 @@ Held row l c = holds row l c ≡ true
 
 -- ---- rows made anew
 
-pub of_remade : (f : ℕ → ℕ → Bool → Bool) (row : Sets) (l c : ℕ) → Held (remade f row) l c → f l c (holds row l c) ≡ true
-of_remade f row l c e =
-    let w = holds_within (remade f row) l c e in
-    let b : l < length row = omega (arith, w.0, length-indexed (λ l set. indexed_from (λ c on. f l c on) 0 set) 0 row) in
-    let n : length (get_or (remade f row) l []) ≡ length (get_or row l []) =
-    ap length (get_or-indexed (λ l set. indexed_from (λ c on. f l c on) 0 set) 0 row l [] [] b) ∙ length-indexed (λ c on. f (0 + l) c on) 0 (get_or row l []) in
-    let d : c < length (get_or row l []) = omega (arith, w.1, n) in
-    sym (holds-remade f row l c b d) ∙ e
-
 -- a class that was held is left where it passes
 pub in_remade : (f : ℕ → ℕ → Bool → Bool) (row : Sets) (l c : ℕ) → Held row l c → f l c true ≡ true → Held (remade f row) l c
 in_remade f row l c held passes = let w = holds_within row l c held in holds-remade f row l c w.0 w.1 ∙ ap (f l c) held ∙ passes
 
-pub normalized_was_live : (row : Sets) → is_live (normalized row) ≡ true → is_live row ≡ true
-normalized_was_live row e = by row (is_live row) refl e
-  where
-    by : (row : Sets) (b : Bool) → is_live row ≡ b → is_live (cond b row (emptied row)) ≡ true → is_live row ≡ true
-    by row true f e = f
-    by [] false f e = refl
-    by (set ∷ row) false f e = absurd (clash _ e (emptied_dead (set ∷ row) (omega arith)))
-
 -- a live row that was normalized is as it was
 pub normalized_same : (row : Sets) → is_live (normalized row) ≡ true → normalized row ≡ row
-normalized_same row e = normalized_live row (normalized_was_live row e)
+normalized_same row e = normalized_live row (live_normalized row e)
 
 -- ---- narrowed rows
 
@@ -49,14 +32,14 @@ module _ (test : ℕ → ℕ → Bool) (row : Sets) (live : is_live (narrowed te
   narrowed_is = normalized_same left_over live
 
   pub narrowed_held : (l c : ℕ) → Held (narrowed test row) l c → Held row l c
-  narrowed_held l c e = and_left (holds row l c) (test l c) (of_remade (λ l c on. on && test l c) row l c (subst (λ x. Held x l c) narrowed_is e))
+  narrowed_held l c e = and_left (holds row l c) (test l c) (of_remade (λ l c on. on && test l c) row l c (subst (λ x. Held x l c) narrowed_is e)).2
 
   pub narrowed_passes : (l c : ℕ) → Held (narrowed test row) l c → test l c ≡ true
-  narrowed_passes l c e = and_right (holds row l c) (test l c) (of_remade (λ l c on. on && test l c) row l c (subst (λ x. Held x l c) narrowed_is e))
+  narrowed_passes l c e = and_right (holds row l c) (test l c) (of_remade (λ l c on. on && test l c) row l c (subst (λ x. Held x l c) narrowed_is e)).2
 
   pub narrowed_was_live : is_live row ≡ true
   narrowed_was_live =
-      live_more left_over row (length_remade _ row) (λ l c e. narrowed_held l c (subst (λ x. Held x l c) (sym narrowed_is) e)) (normalized_was_live left_over live)
+      live_more left_over row (length_remade _ row) (λ l c e. narrowed_held l c (subst (λ x. Held x l c) (sym narrowed_is) e)) (live_normalized left_over live)
 
   pub in_narrowed : (l c : ℕ) → Held row l c → test l c ≡ true → Held (narrowed test row) l c
   in_narrowed l c e passes = subst (λ x. Held x l c) (sym narrowed_is) (in_remade (λ l c on. on && test l c) row l c e passes)
@@ -80,7 +63,7 @@ module _ (chosen : ℕ → Bool) (test : ℕ → ℕ → Bool) (row : Sets) (liv
       e ∙ normalized_same new (ap is_live (sym e) ∙ live)
 
   replaced_cond : (l c : ℕ) → Held (replaced chosen test row) l c → cond (chosen l) (test l c) (holds row l c) ≡ true
-  replaced_cond l c e = of_remade (λ l c on. cond (chosen l) (test l c) on) row l c (subst (λ x. Held x l c) replaced_is e)
+  replaced_cond l c e = (of_remade (λ l c on. cond (chosen l) (test l c) on) row l c (subst (λ x. Held x l c) replaced_is e)).2
 
   pub replaced_held : (l c : ℕ) → Held (replaced chosen test row) l c → chosen l ≡ false → Held row l c
   replaced_held l c e other = sym (ap (λ b. cond b (test l c) (holds row l c)) other) ∙ replaced_cond l c e
@@ -112,7 +95,7 @@ module _ (row other : Sets) (live : is_live (join row other) ≡ true) where
   join_held l c h = by (is_live row) (is_live other) refl refl live h
     where
       by : (a b : Bool) → is_live row ≡ a → is_live other ≡ b → is_live (cond a (cond b joined row) other) ≡ true → Held (cond a (cond b joined row) other) l c → ((is_live row ≡ true) × Held row l c) ⊎ ((is_live other ≡ true) × Held other l c)
-      by true true e f k h = elim (or_cases (holds row l c) (holds other l c) (of_remade (λ l c on. on || holds other l c) row l c h)) [ inl x ↦ inl (e, x) | inr y ↦ inr (f, y) ]
+      by true true e f k h = elim (or_cases (holds row l c) (holds other l c) (of_remade (λ l c on. on || holds other l c) row l c h).2) [ inl x ↦ inl (e, x) | inr y ↦ inr (f, y) ]
       by true false e f k h = inl (e, h)
       by false b e f k h = inr (k, h)
 

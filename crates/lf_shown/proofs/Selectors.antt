@@ -26,7 +26,7 @@ use Rattle.lf_semantics.proofs.LeqLaws.{bottom_dead}
 use Rattle.lf_semantics.proofs.Numbered.{metric_label}
 use Rattle.lf_semantics.proofs.PatternTexts.{passes_is}
 use Rattle.lf_semantics.proofs.Places.{eqb-other, metric_listed, place_le, same_text, text_at_class}
-use Rattle.lf_semantics.proofs.SelectorsRepresent.{plain_not_other}
+use Rattle.lf_semantics.proofs.SelectorsRepresent.{plain_not_other, selected_name_is}
 use Rattle.lf_semantics.proofs.RowLaws.{represents_narrowed}
 use Rattle.lf_witness.specs.Strict.{AreSelected, IsSet, Outcomes}
 use Rattle.lf_witness.proofs.SameSets.{same_itself}
@@ -37,36 +37,14 @@ use Rattle.lf_trials.specs.Candidates.{is_one_of, labels_in}
 use Rattle.lf_trials.specs.Forks.{HoldsFork}
 use Rattle.lf_trials.specs.Given.{Given, giving, label_set}
 use Rattle.lf_trials.specs.Reached.{has_several_rules, is_recorded}
+use Rattle.lf_trials.proofs.MadeSeries.{full_set}
 use Rattle.lf_shown.specs.Agreement.{Gives, Names}
 use Rattle.lf_shown.specs.NoneOpen.{IsPlainMatcher}
 use Rattle.lf_shown.proofs.Rows.{HasOthers, Held, narrowed_held, narrowed_passes, narrowed_was_live, others_narrowed, others_replaced, others_top, replaced_passes}
 use Rattle.lf_shown.proofs.Choices.{AtMostOne, Gave, HoldsGiven, In, IsSmall, IsTotal}
 use Rattle.lf_shown.proofs.Effects.{listed_in}
-use Rattle.lf_shown.proofs.Texts.{set_full, set_has, set_lacks}
+use Rattle.lf_shown.proofs.Texts.{set_has, set_lacks}
 use Rattle.lf_shown.proofs.Made.{Answers, IsRaw, Lacks}
-
--- ---- the name that is said
-
-first_name_is : (matchers : List Matcher) (s : Labels) (n : Bytes) → PassesEach matchers s → first_equal_name matchers ≡ Some n → value_of s metric ≡ n
-first_name_is [] s n h e = absurd (cc)
-first_name_is (m ∷ matchers) s n h e = by m.op refl (bytes_eq m.label metric) refl e (first_name_is matchers s n h.1)
-  where
-    equal : m.op ≡ Equal → bytes_eq m.label metric ≡ true → Some m.value ≡ Some n → value_of s metric ≡ n
-    equal is same f =
-        let p : Passes Equal m.value (value_of s m.label) = subst (λ op. Passes op m.value (value_of s m.label)) is h.0 in
-        let q : m.value ≡ n = cc in
-        ap (value_of s) (sym (true_same m.label metric same)) ∙ p ∙ q
-
-    by : (op : MatchOp) → m.op ≡ op → (b : Bool) → bytes_eq m.label metric ≡ b → cond (is_equal op && b) (Some m.value) (first_equal_name matchers) ≡ Some n → (first_equal_name matchers ≡ Some n → value_of s metric ≡ n) → value_of s metric ≡ n
-    by Equal is true same f rest = equal is same f
-    by Equal is false same f rest = rest f
-    by NotEqual is b same f rest = rest f
-    by Matches is b same f rest = rest f
-    by NotMatches is b same f rest = rest f
-
-pub said_is : (name : Option Bytes) (matchers : List Matcher) (s : Labels) (n : Bytes) → HasName name s → PassesEach matchers s → selected_name name matchers ≡ Some n → value_of s metric ≡ n
-said_is None matchers s n h k e = first_name_is matchers s n k e
-said_is (Some m) matchers s n h k e = let q : m ≡ n = cc in h ∙ q
 
 module _ (u : Listing) where
   -- ---- matchers
@@ -189,7 +167,7 @@ module _ (rules : List RuleTree) where
 
     silent : (W : List Labels) → Lacks Read W → outcome W (Some [])
     silent W lacks = (
-      λ s c h k. absurd (lacks s c (subst Read (sym (said_is name matchers s n h k says)) reads)),
+      λ s c h k. absurd (lacks s c (subst Read (sym (selected_name_is name matchers s n h k says)) reads)),
       λ s c. absurd (none_in s c),
     )
 
@@ -275,7 +253,7 @@ module _ (rules : List RuleTree) where
             same_itself W,
             record { kept = λ s c. c; further = λ s c. inl c },
             λ X agrees. (
-              λ s c k l. let r : Read (value_of s metric) = subst Read (sym (said_is name matchers s n k l says)) reads in (agree s r).0 ((agrees s r).0 c),
+              λ s c k l. let r : Read (value_of s metric) = subst Read (sym (selected_name_is name matchers s n k l says)) reads in (agree s r).0 ((agrees s r).0 c),
               λ s c.
                   let e = only_one one s c in
                   let P : Labels → Type 0 = λ x. Contains X x × HasName name x × PassesEach matchers x in
@@ -291,7 +269,7 @@ module _ (rules : List RuleTree) where
           is_built = rw (unrecorded, some_name) refl;
           one = one;
           represented = (h.live, holds_one);
-          full = set_full (labels_in u) (giving metric n D);
+          full = full_set (labels_in u) (giving metric n D);
           within = λ x out. set_lacks (labels_in u) (giving metric n D) x out;
           agrees = value_is;
           gives = gives_series;
@@ -336,7 +314,7 @@ module _ (rules : List RuleTree) where
 
           selects : (X : List Labels) → AreSelected X (Some n) [] (a.one ∷ []) → AreSelected X name matchers (a.one ∷ [])
           selects X is = (
-            λ s c k l. is.0 s c (said_is name matchers s n k l says) tt,
+            λ s c k l. is.0 s c (selected_name_is name matchers s n k l says) tt,
             λ s c.
                 let e = only_one a.one s c in
                 let P : Labels → Type 0 = λ x. Contains X x × HasName name x × PassesEach matchers x in

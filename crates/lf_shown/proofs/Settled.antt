@@ -30,6 +30,7 @@ use Rattle.lf_semantics.specs.Grouped.{is_metric}
 use Rattle.lf_semantics.specs.Parts.{is_scalar_part, operand_place}
 use Rattle.lf_semantics.specs.Passing.{is_plain}
 use Rattle.lf_semantics.specs.PatternBreaches.{takes_pattern}
+use Rattle.lf_semantics.proofs.Members.{all_of}
 use Rattle.lf_deps.specs.Reading.{AreApart, Reads, Records, arguments_selectors, selectors}
 use Rattle.lf_trials.specs.Built.{sets_label}
 use Rattle.lf_trials.specs.Forks.{HoldsFork, fork_in, fork_in_arguments, has_own_fork, is_or}
@@ -170,10 +171,6 @@ module _ (rules : List RuleTree) where
       by NotMatches e true is = inr (inr is)
       by Matches e false is = absurd (open_not (ap takes_pattern e) is)
       by NotMatches e false is = absurd (open_not (ap takes_pattern e) is)
-
-  all_of : {X : Type 0} (P : X → Type 0) (xs : List X) → ((x : X) → Contains xs x → P x) → AllByRecursion P xs
-  all_of P [] h = tt
-  all_of P (x ∷ xs) h = (h x (here x xs), all_of P xs (λ y c. h y (behind x xs y c)))
 
   -- a fork beneath a selector is in the making of its name
   selector_forks : (name : Option Bytes) (matchers : List Matcher) (sight : Sight) (span : Span) (n : Bytes) → selected_name name matchers ≡ Some n → HoldsFork rules (Selector name matchers sight span)

@@ -10,6 +10,7 @@ use Rattle.std.proofs.lemmas.Bool.Decides.{nat_tests}
 use Rattle.std.proofs.lemmas.List.Elements.{Contains-append_left, Contains-append_right, Contains-append_cases}
 use Rattle.lf_laws.proofs.Booleans.{clash}
 use Rattle.lf_laws.proofs.Members.{any_in, any_out, behind, first_or_behind, here, none_in, only_one, true_same}
+use Rattle.lf_laws.proofs.Slices.{member_at}
 use Rattle.lf_ast.specs.Labels.{Bytes, Labels}
 use Rattle.lf_ast.specs.LabelOrder.{labels_cmp}
 use Rattle.lf_ast.specs.Rules.{RuleTree}
@@ -26,8 +27,8 @@ use Rattle.lf_semantics.proofs.LeqLaws.{bottom_dead}
 use Rattle.lf_semantics.proofs.Members.{all_front, in_filter}
 use Rattle.lf_witness.specs.Ascending.{IsAscending}
 use Rattle.lf_witness.specs.Strict.{StrictlyEvaluates}
-use Rattle.lf_witness.proofs.AscendingLists.{in_order}
-use Rattle.lf_witness.proofs.Decided.{equal_same}
+use Rattle.lf_witness.proofs.AscendingLists.{alone_ascends, in_order}
+use Rattle.lf_witness.proofs.Decided.{told_same}
 use Rattle.lf_witness.proofs.OneSample.{same_texts}
 use Rattle.lf_witness.proofs.SameResults.{run_same}
 use Rattle.lf_deps.specs.Reading.{Reads, selectors}
@@ -42,6 +43,7 @@ use Rattle.lf_trials.specs.Verdicts.{leaves}
 use Rattle.lf_trials.proofs.BuiltSeries.{once_there}
 use Rattle.lf_trials.proofs.Reachable.{fork_test, is_reach_of, reach_of, tells_forks}
 use Rattle.lf_trials.proofs.ShownInWorlds.{found_in}
+use Rattle.lf_trials.proofs.MadeSeries.{full_set}
 use Rattle.lf_shown.specs.Agreement.{AgreeOn, Gives, StandOnce}
 use Rattle.lf_shown.specs.Alone.{GivesAlone, ReadsUnmarked}
 use Rattle.lf_shown.specs.Laws.{GivesEachAlone, ResolvesEach, ShowsAllLeft}
@@ -53,8 +55,7 @@ use Rattle.lf_shown.proofs.Made.{Answers}
 use Rattle.lf_shown.proofs.Marks.{most_left, made_by, made_of_rule}
 use Rattle.lf_shown.proofs.Reached.{read_acyclic}
 use Rattle.lf_shown.proofs.Reading.{no_fork}
-use Rattle.lf_shown.proofs.Recorded.{rule_there}
-use Rattle.lf_shown.proofs.Texts.{of_candidates, set_full, set_has, set_lacks}
+use Rattle.lf_shown.proofs.Texts.{of_candidates, set_has, set_lacks}
 use Rattle.lf_shown.proofs.Worlds.{count_both, sum_front}
 
 -- ---- each series once
@@ -66,22 +67,9 @@ once_in (x ∷ xs) s c = elim (first_or_behind x xs s c) [
   | inr d ↦ by (is_eq (labels_cmp s x)) refl (once_in xs s d)
 ]
   where
-    same : Rattle.std.specs.Ordering.is_eq (labels_cmp s x) ≡ true → s ≡ x
-    same e = equal_same s x (by (labels_cmp s x) e)
-      where
-        by : (o : Rattle.std.specs.declared.cmp.Ordering.Ordering) → is_eq o ≡ true → o ≡ Rattle.std.specs.declared.cmp.Ordering.TheVariants.Equal
-        by Rattle.std.specs.declared.cmp.Ordering.TheVariants.Less e = absurd (cc)
-        by Rattle.std.specs.declared.cmp.Ordering.TheVariants.Equal e = refl
-        by Rattle.std.specs.declared.cmp.Ordering.TheVariants.Greater e = absurd (cc)
-
     by : (b : Bool) → is_eq (labels_cmp s x) ≡ b → Contains (each_once xs) s → Contains (x ∷ filter (λ t. not (is_eq (labels_cmp t x))) (each_once xs)) s
-    by true e rest = subst (Contains (x ∷ filter (λ t. not (is_eq (labels_cmp t x))) (each_once xs))) (sym (same e)) (here x _)
+    by true e rest = subst (Contains (x ∷ filter (λ t. not (is_eq (labels_cmp t x))) (each_once xs))) (sym (told_same s x e)) (here x _)
     by false e rest = behind x _ s (in_filter (λ t. not (is_eq (labels_cmp t x))) (each_once xs) s rest (ap not e))
-
-pub one_ascends : (s : Labels) → IsAscending (s ∷ [])
-one_ascends s zero zero a b less x y = absurd (omega (arith, less))
-one_ascends s zero (suc j) a b less x y = absurd (cc)
-one_ascends s (suc i) j a b less x y = absurd (cc)
 
 -- ---- how many selectors there are
 
@@ -145,7 +133,7 @@ module _ (u : Listing) (p : IsListing u) (small : IsSmall u) (rules : List RuleT
         let listed = in_order run.0 in (
           listed.0,
           (run_same (rules_at rules b.steps) (each_once b.series) run.0 listed.0 listed.1 run.1, listed.2),
-          λ X agrees. (run.3 X (λ s read. let both = agrees s read in ((λ c. listed.1.1 s (both.0 c)), λ c. both.1 (listed.1.0 s c))), one_ascends one),
+          λ X agrees. (run.3 X (λ s read. let both = agrees s read in ((λ c. listed.1.1 s (both.0 c)), λ c. both.1 (listed.1.0 s c))), alone_ascends one),
         )
 
   -- ---- a choice of texts is given alone
@@ -157,7 +145,7 @@ module _ (u : Listing) (p : IsListing u) (small : IsSmall u) (rules : List RuleT
     -- the sample has each text that is given, and no other
     is_choice : (D : Given) → IsTotal u D → (one : Labels) → Rattle.lf_semantics.specs.Texts.HasTexts one → ((name : Bytes) → (In u name → ⊥) → value_of one name ≡ []) → ((name text : Bytes) → In u name → Gave D name text → value_of one name ≡ text)
         → one ≡ label_set (labels_in u) D
-    is_choice D total one full within agrees = same_texts one (label_set (labels_in u) D) full (set_full (labels_in u) D) (λ name. by name (Rattle.lf_trials.specs.Candidates.is_one_of (labels_in u) name) refl)
+    is_choice D total one full within agrees = same_texts one (label_set (labels_in u) D) full (full_set (labels_in u) D) (λ name. by name (Rattle.lf_trials.specs.Candidates.is_one_of (labels_in u) name) refl)
       where
         by : (name : Bytes) (b : Bool) → Rattle.lf_trials.specs.Candidates.is_one_of (labels_in u) name ≡ b → value_of one name ≡ value_of (label_set (labels_in u) D) name
         by name true e =
@@ -241,7 +229,7 @@ module _ (u : Listing) (p : IsListing u) (small : IsSmall u) (rules : List RuleT
             let q = gives.steps_read i c in
             let same : q.0 ≡ r = one_rule i q.0 refl q.1 in
             let reads : Reads rules r.expr r.name = subst (λ (x : RuleTree). Reads rules r.expr x.name) same q.3 in
-            read_acyclic rules r.expr none r.name reads (r, rule_there rules i r at, (subst (λ (x : RuleTree). x.alert ≡ false) same q.2, refl), reads)
+            read_acyclic rules r.expr none r.name reads (r, member_at rules i r at, (subst (λ (x : RuleTree). x.alert ≡ false) same q.2, refl), reads)
 
         bounded : (b : Building) (one : Labels) → Gives rules (Reads rules r.expr) (length (selectors r.expr)) b (λ X. StrictlyEvaluates X r.expr) one → b.selectors ≤ 4 * selector_count rules (with_reach i (reach_of rules r.expr))
         bounded b one gives =
@@ -287,7 +275,7 @@ module _ (u : Listing) (p : IsListing u) (small : IsSmall u) (rules : List RuleT
                   stored = alone.0;
                   is_stored = alone.1;
                   samples = a.one ∷ [];
-                  are_samples = (inr (evaluated, (alone.2 alone.0 (λ s read. ((λ c. c), λ c. c))).0), one_ascends a.one);
+                  are_samples = (inr (evaluated, (alone.2 alone.0 (λ s read. ((λ c. c), λ c. c))).0), alone_ascends a.one);
                   is_sample = ap (λ b. cond b (Some a.one) None) (ap (has_presence presence) value ∙ start_there.1);
                 },
               ),

@@ -25,9 +25,9 @@ use Rattle.lf_ast.specs.declared.operands.Operands.{Operands}
 use Rattle.lf_ast.specs.declared.operands.Operands.TheVariants.{Vectors, Numbers}
 use Rattle.lf_semantics.specs.Parts.{is_scalar_part, operand_place, takes_samples}
 use Rattle.lf_semantics.proofs.TypeForms.{type_is_form}
+use Rattle.lf_semantics.proofs.ScalarCalls.{found_passes}
 use Rattle.lf_open.specs.Holding.{gives_by_itself, has_no_argument, is_source}
 use Rattle.lf_open.specs.Standing.{arguments_standing, standing_in, unless_scalar}
-use Rattle.lf_shown.proofs.Expressions.{found_passes}
 use Rattle.lf_shown.specs.Silence.{argument_can_be_silent, can_be_silent, effect_can_be_silent}
 
 -- ---- lists in which nothing passes

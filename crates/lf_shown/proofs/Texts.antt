@@ -12,21 +12,11 @@ use Rattle.lf_semantics.specs.Listing.{IsListing, Listing, class_of, class_texts
 use Rattle.lf_semantics.specs.Texts.{HasTexts, value_of}
 use Rattle.lf_semantics.proofs.LabelTexts.{value-bare, value-with_label}
 use Rattle.lf_semantics.proofs.Places.{at_place, place_at, place_le}
-use Rattle.lf_witness.proofs.SomeSample.{full_bare, full_with}
 use Rattle.lf_trials.specs.Candidates.{candidates, candidates_of, chosen_from, first, is_one_of}
 use Rattle.lf_trials.specs.Given.{Given, label_set, with_text}
 use Rattle.lf_trials.proofs.FirstFree.{candidate_is}
 
 -- ---- label sets
-
-pub set_full : (names : List Bytes) (D : Given) → HasTexts (label_set names D)
-set_full [] D = full_bare
-set_full (n ∷ names) D = by (D n) (set_full names D)
-  where
-    by : (o : Option Bytes) → HasTexts (label_set names D) → HasTexts (option_map_or (λ text. with_text n text (label_set names D)) o (label_set names D))
-    by None full = full
-    by (Some []) full = full
-    by (Some (c ∷ text)) full = full_with n (c ∷ text) (label_set names D) full
 
 -- a label that isn't listed has no text
 pub set_lacks : (names : List Bytes) (D : Given) (name : Bytes) → (Contains names name → ⊥) → value_of (label_set names D) name ≡ []

@@ -4,6 +4,7 @@ use Rattle.std.specs.List.{AllByRecursion}
 use Rattle.std.specs.Str.{bytes_eq}
 use Rattle.lf_laws.proofs.Booleans.{clash}
 use Rattle.lf_laws.proofs.Members.{each_member, same_true}
+use Rattle.lf_laws.proofs.Slices.{number_of}
 use Rattle.lf_ast.specs.Functions.{function_named, functions}
 use Rattle.lf_ast.specs.Labels.{Bytes}
 use Rattle.lf_ast.specs.Rules.{RuleTree}
@@ -16,7 +17,6 @@ use Rattle.lf_trials.proofs.Reachable.{fork_test, reaches, reaches_is, tells_for
 use Rattle.lf_trials.proofs.WorkedBuilt.{chain, three}
 use Rattle.lf_shown.specs.NoneOpen.{HasNoneOpen, IsClosed, SidesAreClosed}
 use Rattle.lf_shown.specs.Silence.{can_be_silent}
-use Rattle.lf_shown.proofs.Recorded.{rule_number}
 
 abbrev foo : Tree
 foo = selector (codes "foo") []
@@ -68,8 +68,8 @@ module _ (rules : List RuleTree) where
       by : (bytes_eq r.name n ≡ false) ⊎ (reaches rules (of_name n) r.expr ≡ false) → ⊥
       by (inl other) = clash _ (same_true r.name n name) other
       by (inr none) =
-          let at = rule_number rules r c in
-          clash _ ((reaches_is rules (of_name n) r.expr).1 (at.0, r, at.1, (recording, subst (Reads rules r.expr) (sym name) reads), same_true r.name n name)) none
+          let at = number_of rules r c in
+          clash _ ((reaches_is rules (of_name n) r.expr).1 (at.0, r, at.2, (recording, subst (Reads rules r.expr) (sym name) reads), same_true r.name n name)) none
 
   pub no_fork : (e : Tree) → fork_test rules e ≡ false → HoldsFork rules e → ⊥
   no_fork e none fork = clash _ ((tells_forks rules e).1 fork) none

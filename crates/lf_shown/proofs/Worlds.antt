@@ -2,6 +2,7 @@
 use Rattle.std.proofs.Common.{◌≡◌, inl, inr, ◌≤◌, ◌+◌, ℕ, List, [], ◌∷◌, ◌++◌, length, map, Option, Some, None, refl, sym, ◌∙◌, ap, subst, arith, slice_get}
 use Rattle.std.specs.List.{Contains, flat_map, fold, sum}
 use Rattle.std.proofs.lemmas.List.Elements.{Contains-append_left, Contains-append_right, Contains-append_cases}
+use Rattle.std.proofs.lemmas.Grind.{flat_map-append}
 use Rattle.lf_laws.proofs.Members.{behind, here}
 use Rattle.lf_ast.specs.Labels.{Bytes, Labels}
 use Rattle.lf_ast.specs.Rules.{RuleTree}
@@ -10,8 +11,9 @@ use Rattle.lf_semantics.specs.Texts.{value_of}
 use Rattle.lf_deps.specs.Reading.{selectors}
 use Rattle.lf_witness.specs.Strict.{AreSame, Outcomes}
 use Rattle.lf_witness.specs.StrictRuns.{StepAdds, StoredOf, RuleStrictlyGives, StrictlyStored}
-use Rattle.lf_witness.proofs.SameSets.{chained, same_front}
+use Rattle.lf_witness.proofs.SameSets.{chained, same_front, turned}
 use Rattle.lf_witness.proofs.SameSamples.{Into, from_into, rule_into}
+use Rattle.lf_witness.proofs.Answers.{stored_into}
 use Rattle.lf_trials.specs.Building.{Building, both}
 use Rattle.lf_trials.specs.Built.{selector_count}
 use Rattle.lf_trials.specs.Reached.{listed, rules_at}
@@ -19,29 +21,15 @@ use Rattle.lf_shown.specs.Agreement.{AgreeOn, Extends, Gives, Names, StandOnce}
 
 -- ---- stored samples
 
-step_into : (W V : List Labels) → AreSame W V → (r : RuleTree) → Into (StepAdds W r) (StepAdds V r)
-step_into W V same r = from_into (RuleStrictlyGives W r) (RuleStrictlyGives V r) (StoredOf r r.alert) (StoredOf r r.alert) (rule_into W V same r) (λ P o is. is)
-
--- the same samples let the same be stored
-pub stored_into : (rules : List RuleTree) (W V T : List Labels) → AreSame W V → StrictlyStored V rules (Some T) → StrictlyStored W rules (Some T)
-stored_into [] W V T same is = chained W V T same is
-stored_into (r ∷ later) W V T same (inl none) = absurd none.1
-stored_into (r ∷ later) W V T same (inr some) =
-    inr (some.0, step_into V W (same.1, same.0) r (Some some.0) some.1, stored_into later (W ++ some.0) (V ++ some.0) T (same_front W V some.0 same) some.2)
-
 pub stored_then : (rules later : List RuleTree) (W V T : List Labels) → StrictlyStored W rules (Some V) → StrictlyStored V later (Some T) → StrictlyStored W (rules ++ later) (Some T)
-stored_then [] later W V T is then = stored_into later W V T is then
+stored_then [] later W V T is then = stored_into later V W (turned W V is) (Some T) then
 stored_then (r ∷ rules) later W V T (inl none) then = absurd none.1
 stored_then (r ∷ rules) later W V T (inr some) then = inr (some.0, some.1, stored_then rules later (W ++ some.0) V T some.2 then)
 
 -- ---- numbers
 
-pub flat_append : {X Y : Type 0} (f : X → List Y) (xs ys : List X) → flat_map f (xs ++ ys) ≡ flat_map f xs ++ flat_map f ys
-flat_append f [] ys = refl
-flat_append f (x ∷ xs) ys = ap (λ zs. f x ++ zs) (flat_append f xs ys) ∙ sym (Rattle.std.proofs.lemmas.List.append_assoc (f x) (flat_map f xs) (flat_map f ys))
-
 pub rules_both : (rules : List RuleTree) (ks js : List ℕ) → rules_at rules (ks ++ js) ≡ rules_at rules ks ++ rules_at rules js
-rules_both rules ks js = flat_append (λ k. listed (slice_get rules k)) ks js
+rules_both rules ks js = flat_map-append (λ k. listed (slice_get rules k)) ks js
 
 fold_from : (a : ℕ) (xs : List ℕ) → fold ◌+◌ a xs ≡ a + fold ◌+◌ 0 xs
 fold_from a [] = omega arith

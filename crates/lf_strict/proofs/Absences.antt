@@ -1,103 +1,11 @@
--- Which `absent` is open, and where its sample is given.
-use Rattle.std.proofs.Common.{◌≡◌, inl, inr, ◌<◌, Bool, true, false, not, ◌&&◌, ◌||◌, nat_lt, List, [], ◌∷◌, length, Option, Some, None, Result, Ok, Err, option_map, refl, sym, ap, ◌∙◌, subst, true≢false, arith}
-use Rattle.std.specs.Prelude.{◌↔◌, IfOk, IsTrue}
-use Rattle.std.proofs.lemmas.Bool.{or_cases}
-use Rattle.std.proofs.lemmas.Bool.Decides.{nat_tests}
-use Rattle.std.specs.List.{Contains, filter, list_any}
-use Rattle.std.specs.Str.{bytes_eq}
-use Rattle.lf_laws.proofs.Members.{behind, first_or_behind, here, none_in}
-use Rattle.lf_ast.specs.Labels.{Bytes, Labels}
-use Rattle.lf_ast.specs.declared.expr.Matcher.{Matcher}
-use Rattle.lf_semantics.proofs.Members.{of_filter, true_same}
+-- What an `absent` that isn't open gives.
+use Rattle.std.proofs.Common.{inr, List, Option, Some, None, Result, Ok, Err}
+use Rattle.std.specs.Prelude.{IfOk}
+use Rattle.lf_ast.specs.Labels.{Labels}
 use Rattle.lf_semantics.specs.Evaluation.{IsAbsent}
-use Rattle.lf_semantics.specs.Grouped.{is_metric}
 use Rattle.lf_semantics.specs.Parts.{Sought}
 use Rattle.lf_witness.specs.Strict.{From, IsOnlyWhereEmpty, IsOpenAbsent, IsSet, Outcomes, StrictAbsent}
 use Rattle.lf_witness.specs.StrictRuns.{InOrder}
-use Rattle.lf_strict.specs.views.Absence.{also_bare, has_two, is_twice}
-
--- selectors in parentheses
-
-pub not_outside : (sought : Option Sought) → also_bare false sought ≡ sought
-not_outside None = refl
-not_outside (Some s) = refl
-
-pub in_parentheses : (outside : Bool) (sought : Option Sought) → also_bare true sought ≡ also_bare outside (option_map (λ s. record { matchers = s.matchers; may_be_bare = true }) sought)
-in_parentheses true None = refl
-in_parentheses false None = refl
-in_parentheses true (Some s) = refl
-in_parentheses false (Some s) = refl
-
--- two matchers on a label
-
-any_of : {X : Type 0} (p : X → Bool) (xs : List X) → list_any p xs ≡ true → (x : X) × Contains xs x × (p x ≡ true)
-any_of p [] e = absurd (true≢false (sym e))
-any_of p (x ∷ xs) e = elim (or_cases (p x) (list_any p xs) e) [
-  | inl first ↦ (x, here x xs, first)
-  | inr later ↦ (let found = any_of p xs later in (found.0, behind x xs found.0 found.1, found.2))
-]
-
-or_right : (a b : Bool) → b ≡ true → (a || b) ≡ true
-or_right true b e = refl
-or_right false b e = e
-
-or_left : (a b : Bool) → a ≡ true → (a || b) ≡ true
-or_left true b e = refl
-or_left false b e = absurd (true≢false (sym e))
-
-any_in : {X : Type 0} (p : X → Bool) (xs : List X) (x : X) → Contains xs x → p x ≡ true → list_any p xs ≡ true
-any_in p [] x c e = absurd (none_in x c)
-any_in p (y ∷ xs) x c e = elim (first_or_behind y xs x c) [
-  | inl same ↦ or_left (p y) (list_any p xs) (subst (λ z. p z ≡ true) (sym same) e)
-  | inr later ↦ or_right (p y) (list_any p xs) (any_in p xs x later e)
-]
-
--- the matchers on a label
-abbrev on : Bytes → List Matcher → List Matcher
-on label matchers = filter (λ m. bytes_eq m.label label) matchers
-
-twice_is : (b : Bool) (n : _) → (not b && nat_lt 1 n) ≡ true → (b ≡ false) × (1 < n)
-twice_is true n e = absurd (true≢false (sym e))
-twice_is false n e = (refl, grind (arith, nat_tests, e))
-
-twice : (b : Bool) (n : _) → b ≡ false → 1 < n → (not b && nat_lt 1 n) ≡ true
-twice true n e lt = absurd (true≢false e)
-twice false n e lt = grind (arith, nat_tests, lt)
-
--- some matcher is on a label that has two
-on_one : (matchers : List Matcher) (label : Bytes) → 1 < length (on label matchers) → (m : Matcher) × Contains matchers m × (m.label ≡ label)
-on_one matchers label two = by (on label matchers) two (λ m c. of_filter (λ m. bytes_eq m.label label) matchers m c)
-  where
-    by : (found : List Matcher) → 1 < length found → ((m : Matcher) → Contains found m → Contains matchers m × (bytes_eq m.label label ≡ true)) → (m : Matcher) × Contains matchers m × (m.label ≡ label)
-    by [] more of = absurd (omega (arith, more))
-    by (m ∷ found) more of = let is = of m (here m found) in (m, is.0, true_same m.label label is.1)
-
-pub opens : (matchers : List Matcher) (bare : Bool) → IsTrue (bare || has_two matchers) ↔ IsOpenAbsent (Some (record { matchers = matchers; may_be_bare = bare }))
-opens matchers bare = (
-  λ e. elim (or_cases bare (has_two matchers) e) [
-    | inl may ↦ inl may
-    | inr two ↦ (
-        let found = any_of (λ m. is_twice matchers m.label) matchers two in
-        let is = twice_is (is_metric found.0.label) (length (on found.0.label matchers)) found.2 in
-        inr (found.0.label, is.0, is.1)
-        )
-  ],
-  λ is_open. elim is_open [
-    | inl may ↦ or_left bare (has_two matchers) may
-    | inr two ↦ (
-        let at = on_one matchers two.0 two.2 in
-        let same = subst (λ label. is_twice matchers label ≡ true) (sym at.2) (twice (is_metric two.0) (length (on two.0 matchers)) two.1 two.2) in
-        or_right bare (has_two matchers) (any_in (λ m. is_twice matchers m.label) matchers at.0 at.1 same)
-        )
-  ],
-)
-
--- of one that isn't open for its parentheses or its `@`
-pub opens_by : (sought : Sought) (bare found : Bool) → bare ≡ sought.may_be_bare → bare ≡ false → found ≡ has_two sought.matchers → IsTrue found ↔ IsOpenAbsent (Some sought)
-opens_by sought bare found is not two =
-    subst (λ b. IsTrue b ↔ IsOpenAbsent (Some sought)) (ap (λ b. b || has_two sought.matchers) (sym is ∙ not) ∙ sym two) (opens sought.matchers sought.may_be_bare)
-
--- what is given
 
 shut_answer : (sought : Option Sought) (operand : Outcomes) → (IsOpenAbsent sought → ⊥) → (one : Labels) → IsAbsent sought one → (o : Option (List Labels))
     → InOrder (From operand (λ P. IsSet (IsOnlyWhereEmpty one P))) o → InOrder (StrictAbsent sought operand) o

@@ -19,9 +19,6 @@ pub given : (f : Outcomes) (o : Option (List Labels)) → InOrder f o → f o
 given f None is = is
 given f (Some R) is = is.0
 
-pub from_none : (operand : Outcomes) (by : List Labels → Outcomes) → InOrder operand None → InOrder (From operand by) None
-from_none operand by none = inl (none, tt)
-
 pub from_some : (operand : Outcomes) (by : List Labels → Outcomes) (P : List Labels) → InOrder operand (Some P) → (o : Option (List Labels)) → InOrder (by P) o → InOrder (From operand by) o
 from_some operand by P some None is = inr (P, some.0, is)
 from_some operand by P some (Some R) is = (inr (P, some.0, is.0), is.1)

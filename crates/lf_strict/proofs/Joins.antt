@@ -1,6 +1,6 @@
 -- Texts of sources, joined one after the other.
 use Rattle.std.proofs.Common.{◌≡◌, ◌<◌, ◌+◌, ℕ, zero, suc, false, List, [], ◌∷◌, ◌++◌, cond, eqb, get_or, length, map, take, refl, sym, ap, ◌∙◌, arith}
-use Rattle.std.proofs.lemmas.List.{append_assoc, map-append, take_more}
+use Rattle.std.proofs.lemmas.List.{append_assoc, length-map, length-take-le, map-append, take_more}
 use Rattle.std.proofs.lemmas.Bool.Decides.{nat_tests}
 use Rattle.lf_ast.specs.Arguments.{text_of, texts_of}
 use Rattle.lf_ast.specs.Labels.{Bytes}
@@ -36,15 +36,6 @@ length_texts : (es : List Expr) → length (texts_of (trees es)) ≡ length es
 length_texts [] = refl
 length_texts (e ∷ es) = ap suc (length_texts es)
 
-length_map : (f : Bytes → Bytes) (xs : List Bytes) → length (map f xs) ≡ length xs
-length_map f [] = refl
-length_map f (x ∷ xs) = ap suc (length_map f xs)
-
-length_take : {X : Type 0} (k : ℕ) (xs : List X) → k < length xs → length (take k xs) ≡ k
-length_take zero xs lt = refl
-length_take (suc k) [] lt = absurd (omega (arith, lt))
-length_take (suc k) (x ∷ xs) lt = ap suc (length_take k xs (omega (arith, lt)))
-
 -- a loop goes one source further
 pub joined_more : (separator : Bytes) (f : Bytes → Bytes) (es : List Expr) (k : ℕ) (e : Expr) → k < length es → e ≡ get_or es k e
     → joined_by separator (map f (texts_of (trees (take (k + 1) es)))) ≡ joined_by separator (map f (texts_of (trees (take k es)))) ++ cond (eqb k 0) [] separator ++ f (text_of (tree e))
@@ -54,4 +45,4 @@ joined_more separator f es k e lt is =
     ∙ ap (λ (l : List Bytes). joined_by separator (map f l)) (texts_more before e)
     ∙ ap (joined_by separator) (map-append f (texts_of (trees before)) (text_of (tree e) ∷ []))
     ∙ joined_last separator (map f (texts_of (trees before))) (f (text_of (tree e)))
-    ∙ ap (λ n. joined_by separator (map f (texts_of (trees before))) ++ cond (eqb n 0) [] separator ++ f (text_of (tree e))) (length_map f (texts_of (trees before)) ∙ length_texts before ∙ length_take k es lt)
+    ∙ ap (λ n. joined_by separator (map f (texts_of (trees before))) ++ cond (eqb n 0) [] separator ++ f (text_of (tree e))) (length-map (texts_of (trees before)) f ∙ length_texts before ∙ length-take-le k es (omega (arith, lt)))

@@ -10,7 +10,8 @@ use Rattle.lf_witness.specs.Strict.{AreSame, MadeApart, MadeTogether}
 use Rattle.lf_witness.specs.StrictRuns.{InOrder}
 use Rattle.lf_witness.proofs.AscendingLists.{head_less, less_itself, tail_ascends}
 use Rattle.lf_strict.specs.views.Apart.{AreApart, times}
-use Rattle.lf_strict.proofs.Times.{counted_member, member_counted, same_told, told_same}
+use Rattle.lf_strict.proofs.Times.{counted_member, member_counted}
+use Rattle.lf_witness.proofs.Decided.{same_told, told_same}
 
 module _ (becomes : Labels → Labels → Type 0) where
   -- what a sample becomes is made

@@ -25,7 +25,7 @@ use Rattle.lf_witness.specs.StrictRuns.{InOrder}
 use Rattle.lf_witness.proofs.AscendingLists.{head_less, less_itself, tail_ascends}
 use Rattle.lf_strict.specs.views.Paired.{IsIndex, ManyPairs, result_of, signature_of, with_partner}
 use Rattle.lf_strict.proofs.Signatures.{one_signature, same_signature}
-use Rattle.lf_strict.proofs.Times.{told_same}
+use Rattle.lf_witness.proofs.Decided.{told_same}
 
 -- the one side, a sample more
 

@@ -1,6 +1,7 @@
 -- What is kept of the parts of an expression is what they give.
 use Rattle.std.proofs.Common.{◌≡◌, ◌≤◌, ℕ, zero, suc, List, [], ◌∷◌, length, map, take, drop, Option, None, Some, Result, Ok, Err, refl, sym, ap, ap₂, subst, arith}
 use Rattle.std.specs.Prelude.{IfOk, IfSome}
+use Rattle.std.proofs.lemmas.Result.{IfOk-weaker}
 use Rattle.lf_ast.specs.Functions.{Signature}
 use Rattle.lf_ast.specs.Labels.{Labels}
 use Rattle.lf_ast.specs.Tree.{Tree, Trees, Str, Nil, Next, list}
@@ -26,10 +27,6 @@ argument_tree Nil k = Str [] (record { start = 0; end = 0 })
 argument_tree (Next x xs) zero = x
 argument_tree (Next x xs) (suc k) = argument_tree xs k
 
-pub if_ok : {X E : Type 0} {P Q : X → Type 0} (r : Result X E) → ((x : X) → P x → Q x) → IfOk r P → IfOk r Q
-if_ok (Ok x) f p = f x p
-if_ok (Err e) f p = tt
-
 pub both_ok : {X E : Type 0} {P Q C : X → Type 0} (r : Result X E) → ((x : X) → P x → Q x → C x) → IfOk r P → IfOk r Q → IfOk r C
 both_ok (Ok x) f p q = f x p q
 both_ok (Err e) f p q = tt
@@ -47,9 +44,6 @@ module _ (W : List Labels) where
 
   pub kept_answer : (e : Tree) (kept : Evaluated) → kept ≡ evaluated W e → IsStrictAnswer W e kept.answer
   kept_answer e kept is = subst (λ (k : Evaluated). IsStrictAnswer W e k.answer) (sym is) (answers W e)
-
-  pub kept_ascends : (e : Tree) (kept : Evaluated) → kept ≡ evaluated W e → IfSome kept.answer IsAscending
-  kept_ascends e kept is = in_order_ascends (StrictlyEvaluates W e) kept.answer (kept_answer e kept is)
 
   -- the parts of an expression
 
@@ -97,9 +91,6 @@ module _ (W : List Labels) where
   operand_is None args = tt
   operand_is (Some s) args = operand_answer args (operand_place s)
 
-  pub operand_ascends : (o : Option Signature) (args : Trees) → IfSome (operand_of (of_call o args)) IsAscending
-  operand_ascends o args = in_order_ascends (StrictlyEvaluates W (operand_tree o args)) (operand_of (of_call o args)) (operand_is o args)
-
   pub call_is : (o : Option Signature) (grouping : Grouping) (args : Trees) (given : Option (List Labels)) → InOrder (StrictCall o grouping args (λ place. StrictlyEvaluates W (operand_tree o args))) given
       → InOrder (StrictCall o grouping args (ArgumentStrictlyEvaluates W args)) given
   call_is None grouping args given is = is
@@ -111,7 +102,7 @@ module _ (W : List Labels) where
       → IfOk r (λ made. InOrder (StrictCall p grouping args (ArgumentStrictlyEvaluates W args)) made.answer)
   call_answer o p grouping args r same given =
       subst (λ (q : Option Signature). IfOk r (λ made. InOrder (StrictCall q grouping args (ArgumentStrictlyEvaluates W args)) made.answer)) same
-      (if_ok r (λ made is. call_is o grouping args made.answer is) given)
+      (IfOk-weaker r _ _ (λ made is. call_is o grouping args made.answer is) given)
 
   abbrev kept : Option (List Labels) → ExprType → Evaluated
   kept a f = record { answer = a; form = f }

@@ -90,10 +90,6 @@ set_replaced p s made new value target text o copied same aimed some is e =
     subst (IsReplaced p s) (sym (e ∙ ap (with_label target text) copied ∙ ap (λ x. with_label x text s) aimed))
     (replaced_with p s text (subst (λ x. IsExpanded p x (Some text)) same (subst (IsExpanded p value) some is)))
 
-pub kept_as_is : (p : Replacing) (s made : Labels) (value : Bytes) (o : Option Bytes) → made ≡ s → value ≡ source_value p s → o ≡ None → IsExpanded p value o → IsReplaced p s made
-kept_as_is p s made value o copied same none is =
-    subst (IsReplaced p s) (sym copied) (stays p s (subst (λ x. IsExpanded p x None) same (subst (IsExpanded p value) none is)))
-
 -- what a plain replacement gives of an operand
 
 pub plain_answer : {E : Type 0} (p : Replacing) (operand : Outcomes) (P : List Labels) (r : Result (Option (List Labels)) E) → IsPlainReplacement p.replacement → InOrder operand (Some P) → IfOk r (InOrder (MadeApart (IsReplaced p) P))

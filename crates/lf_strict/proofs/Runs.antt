@@ -3,8 +3,8 @@ use Rattle.std.proofs.Common.{◌≡◌, inl, inr, ◌+◌, ◌<◌, ◌++◌, �
 use Rattle.std.specs.List.{Contains}
 use Rattle.std.specs.Prelude.{slice_get, IfSome}
 use Rattle.std.proofs.lemmas.List.{take_more}
-use Rattle.std.proofs.lemmas.Option.{get_or_from_slice_get, slice_get_within}
 use Rattle.lf_laws.proofs.Members.{first_or_behind, none_in}
+use Rattle.lf_laws.proofs.Slices.{member_at}
 use Rattle.lf_ast.specs.Labels.{Labels}
 use Rattle.lf_ast.specs.Rules.{RuleTree}
 use Rattle.lf_semantics.specs.Parts.{is_evaluated, type_by_form}
@@ -12,41 +12,18 @@ use Rattle.lf_semantics.specs.Worlds.{AreScraped, World}
 use Rattle.lf_witness.specs.Ascending.{IsAscending}
 use Rattle.lf_witness.specs.Strict.{AreSame, From, Outcomes}
 use Rattle.lf_witness.specs.StrictRuns.{InOrder, IsRuleAnswer, IsRunAnswer, IsStrictAnswer, IsStrictRun, RuleStrictlyGives, StepAdds, StoredOf, StrictlyStored}
-use Rattle.lf_witness.proofs.AscendingLists.{at_place}
-use Rattle.lf_witness.proofs.SameSamples.{from_into, rule_into}
-use Rattle.lf_witness.proofs.SameSets.{chained, same_front, turned}
+use Rattle.lf_witness.proofs.Answers.{stored_into}
+use Rattle.lf_witness.proofs.SameSets.{turned}
 use Rattle.lf_witness.proofs.StrictRunIsRun.{world_of}
 use Rattle.lf_strict.specs.Steps.{rules_at, with_rule}
 use Rattle.lf_strict.specs.views.Running.{IsStep, IsStretch}
 
 -- a rule
 
-pub rule_given : (W : List Labels) (r : RuleTree) → is_evaluated (type_by_form r.expr) ≡ true → (o : Option (List Labels)) → IsStrictAnswer W r.expr o → IsRuleAnswer W r o
-rule_given W r e None is = inr (e, is)
-rule_given W r e (Some R) is = (inr (e, is.0), is.1)
-
 pub rule_none : (W : List Labels) (r : RuleTree) → is_evaluated (type_by_form r.expr) ≡ false → IsRuleAnswer W r None
 rule_none W r e = inl (e, tt)
 
--- an alert stores nothing
-pub nothing_stored : (r : RuleTree) (P R : List Labels) → r.alert ≡ true → R ≡ [] → InOrder (StoredOf r r.alert P) (Some R)
-nothing_stored r P R alert is = (
-  subst (λ b. StoredOf r b P (Some R)) (sym alert) is,
-  subst IsAscending (sym is) (λ i j s t less a b. absurd (none_in s (at_place [] i s a))),
-)
-
-pub from_answer : (f : Outcomes) (by : List Labels → Outcomes) (P : List Labels) → InOrder f (Some P) → (o : Option (List Labels)) → InOrder (by P) o → InOrder (From f by) o
-from_answer f by P some None is = inr (P, some.0, is)
-from_answer f by P some (Some R) is = (inr (P, some.0, is.0), is.1)
-
--- stretches over the same samples
-
-stored_into : (rules : List RuleTree) (W V : List Labels) → AreSame W V → (o : Option (List Labels)) → StrictlyStored W rules o → StrictlyStored V rules o
-stored_into [] W V same None is = is
-stored_into [] W V same (Some R) is = chained V W R (turned W V same) is
-stored_into (r ∷ later) W V same o is =
-    from_into (StepAdds W r) (StepAdds V r) (λ A. StrictlyStored (W ++ A) later) (λ A. StrictlyStored (V ++ A) later)
-    (from_into (RuleStrictlyGives W r) (RuleStrictlyGives V r) (StoredOf r r.alert) (StoredOf r r.alert) (rule_into W V same r) (λ P p given. given)) (λ A p given. stored_into later (W ++ A) (V ++ A) (same_front W V A same) p given) o is
+-- stretches
 
 pub no_step : (W : List Labels) → IsStretch W [] W true
 no_step W later o is = is
@@ -63,9 +40,6 @@ step_none W V U rules later r before none = before (r ∷ later) None (inl (none
 with_rule_append : (o : Option RuleTree) (A B : List RuleTree) → with_rule o A ++ B ≡ with_rule o (A ++ B)
 with_rule_append None A B = refl
 with_rule_append (Some r) A B = refl
-
-member_at : (rules : List RuleTree) (k : ℕ) (r : RuleTree) → slice_get rules k ≡ Some r → Contains rules r
-member_at rules k r e = (k, slice_get_within rules k r e, get_or_from_slice_get rules k r r e)
 
 module _ (rules : List RuleTree) where
   pub rules_at_push : (steps : List ℕ) (x : ℕ) (r : RuleTree) → slice_get rules x ≡ Some r → rules_at rules (steps ++ x ∷ []) ≡ rules_at rules steps ++ r ∷ []

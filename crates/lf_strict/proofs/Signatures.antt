@@ -9,16 +9,10 @@ use Rattle.lf_ast.specs.declared.expr.Matching.{Matching}
 use Rattle.lf_semantics.specs.Grouped.{SameSignature, signs}
 use Rattle.lf_semantics.specs.Texts.{HasTexts, restricted, value_of}
 use Rattle.lf_semantics.proofs.Restricted.{value-restricted}
+use Rattle.lf_witness.proofs.OneSample.{same_text}
 
 pub has_texts : (s : Labels) → HasNoEmptyText (entries s) → HasTexts s
 has_texts s h name text e = found_is_not_empty name (entries s) h text (sym e ∙ get-entries s name)
-
--- texts that aren't empty are told apart by their values
-same_text : (a b : Option Bytes) → ((t : Bytes) → a ≡ Some t → t ≢ []) → ((t : Bytes) → b ≡ Some t → t ≢ []) → unwrap_or a [] ≡ unwrap_or b [] → a ≡ b
-same_text None None f g e = refl
-same_text None (Some t) f g e = absurd (g t refl (sym e))
-same_text (Some t) None f g e = absurd (f t refl e)
-same_text (Some t) (Some u) f g e = ap Some e
 
 module _ (m : Matching) (s t : Labels) where
   pub one_signature : HasTexts s → HasTexts t → SameSignature m s t → restricted (signs m) s ≡ restricted (signs m) t

@@ -23,14 +23,10 @@ use Rattle.lf_semantics.specs.Passing.{HasName, PassesEach}
 use Rattle.lf_semantics.specs.Texts.{value_of}
 use Rattle.lf_strict.specs.views.Stored.{AreUnderNames, samples_of}
 use Rattle.lf_witness.specs.Strict.{AreSame, AreSelected}
+use Rattle.lf_witness.proofs.Decided.{tied}
 use Rattle.lf_strict.proofs.SampleSets.{IsWith, pushed_with, with_pushed}
 
 -- the name of a key is the one that is sought
-
-tied : (o : Ordering) → is_eq o ≡ true → o ≡ Equal
-tied Less e = cc
-tied Equal e = refl
-tied Greater e = cc
 
 names_same : (n m : Bytes) → slice_cmp nat_cmp n m ≡ Equal → n ≡ m
 names_same n m e = slice_cmp-IsAntisymmetric nat_cmp-IsAntisymmetric n m e
@@ -233,7 +229,3 @@ selected_of W V name ms R inside all is = (
   λ s c named each. is.0 s (all s c named each) named each,
   λ s c. let from = is.1 s c in (inside s from.0, from.1, from.2),
 )
-
-pub if_ok : {X E : Type 0} {P Q : X → Type 0} (r : Result X E) → ((x : X) → P x → Q x) → IfOk r P → IfOk r Q
-if_ok (Ok x) f p = f x p
-if_ok (Err e) f p = tt

@@ -12,25 +12,13 @@ use Rattle.std.proofs.lemmas.Cmp.{on_total}
 use Rattle.std.proofs.lemmas.Option.{get_or_from_slice_get, slice_get-get_or, slice_get_within}
 use Rattle.std.specs.Cmp.{IsTotalOrder}
 use Rattle.lf_laws.proofs.Members.{behind, each_member, first_or_behind, here, none_in}
+use Rattle.lf_laws.proofs.Slices.{member_at}
 use Rattle.lf_ast.specs.Labels.{Labels}
 use Rattle.lf_witness.specs.Ascending.{IsAscending, labels_cmp, pairs_of}
 use Rattle.lf_witness.specs.Strict.{AreSame}
-use Rattle.lf_witness.proofs.AscendingLists.{ascends_behind, at_place, head_less, less_itself, tail_ascends, total}
-use Rattle.lf_witness.proofs.Decided.{equal_itself, equal_same}
+use Rattle.lf_witness.proofs.AscendingLists.{alone_ascends, ascends_behind, head_less, less_itself, none_ascends, tail_ascends, total}
+use Rattle.lf_witness.proofs.Decided.{equal_itself, equal_same, same_told, told_same}
 use Rattle.lf_strict.specs.views.Apart.{IsRepeated, times}
-
--- equal by the test
-
-tied : (o : Ordering) → is_eq o ≡ true → o ≡ Equal
-tied Less e = cc
-tied Equal e = refl
-tied Greater e = cc
-
-pub told_same : (s t : Labels) → eq_by_cmp labels_cmp s t ≡ true → s ≡ t
-told_same s t e = equal_same s t (tied (labels_cmp s t) e)
-
-pub same_told : (s t : Labels) → s ≡ t → eq_by_cmp labels_cmp s t ≡ true
-same_told s t e = subst (λ z. eq_by_cmp labels_cmp s z ≡ true) e (ap is_eq (equal_itself s))
 
 -- a member stands there once at least
 
@@ -68,10 +56,10 @@ once s (t ∷ R) ascends = by (eq_by_cmp labels_cmp t s) refl (once s R (tail_as
 
 -- two that stand beside one another
 pub twice_there : (M : List Labels) (k : ℕ) (s t : Labels) → slice_get M k ≡ Some s → slice_get M (suc k) ≡ Some t → s ≡ t → 1 < times s M
-twice_there [] k s t a b e = absurd (none_in s (at_place [] k s a))
+twice_there [] k s t a b e = absurd (none_in s (member_at [] k s a))
 twice_there (x ∷ M) zero s t a b e =
     let first : x ≡ s = (let i : Some x ≡ Some s = a in cc) in
-    let rest = member_counted s M (subst (Contains M) (sym e) (at_place M zero t b)) in
+    let rest = member_counted s M (subst (Contains M) (sym e) (member_at M zero t b)) in
     subst (λ c. 1 < cond c 1 0 + times s M) (sym (same_told x s first)) (omega arith)
 twice_there (x ∷ M) (suc k) s t a b e = let rest = twice_there M k s t a b e in omega arith
 
@@ -108,8 +96,8 @@ abbrev pub AreRising : List Labels → Type 0
 AreRising R = (k : ℕ) (s t : Labels) → slice_get R k ≡ Some s → slice_get R (suc k) ≡ Some t → labels_cmp s t ≡ Less
 
 pub rising_ascends : (R : List Labels) → AreRising R → IsAscending R
-rising_ascends [] rises = λ i j s t lt a b. absurd (none_in s (at_place [] i s a))
-rising_ascends (x ∷ []) rises = ascends_behind x [] (rising_ascends [] (λ k s t a b. absurd (none_in s (at_place [] k s a)))) (λ t c. absurd (none_in t c))
+rising_ascends [] rises = none_ascends
+rising_ascends (x ∷ []) rises = alone_ascends x
 rising_ascends (x ∷ y ∷ R) rises =
     let rest = rising_ascends (y ∷ R) (λ k s t a b. rises (suc k) s t a b) in
     let first = rises zero x y refl refl in
@@ -127,7 +115,7 @@ sorted_rises R sorted others k s t a b =
 
 pub strictly_ascends : (R : List Labels) → IsStrictlySortedBy labels_cmp R → IsAscending R
 unfolding IsStrictlySortedBy
-strictly_ascends [] sorted = λ i j s t lt a b. absurd (none_in s (at_place [] i s a))
+strictly_ascends [] sorted = none_ascends
 strictly_ascends (x ∷ R) sorted = ascends_behind x R (strictly_ascends R sorted.1) (λ t c. each_member (λ y. labels_cmp x y ≡ Less) R t sorted.0 c)
 
 pub labels_total : IsTotalOrder labels_cmp

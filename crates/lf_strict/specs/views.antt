@@ -1,5 +1,4 @@
 -- How contracts see the code: lists before they are put in order, and what is kept of the parts of an expression. They define nothing of strict evaluation.
-pub mod Absence
 pub mod Apart
 pub mod Paired
 pub mod Evaluated

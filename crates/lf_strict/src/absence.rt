@@ -11,7 +11,7 @@ ghost use Rattle.lf_semantics.specs.Texts.{with_label};
 ghost use Rattle.lf_witness.specs.Strict.{From, IsOnlyWhereEmpty, IsOpenAbsent, IsSet, StrictAbsent, StrictlyEvaluates};
 ghost use Rattle.lf_witness.specs.StrictRuns.{InOrder, IsStrictAnswer};
 ghost use Rattle.lf_witness.proofs.SomeSample.{sought_labels};
-ghost use Rattle.lf_strict.specs.views.Absence.{has_two, is_twice};
+ghost use Rattle.lf_witness.specs.views.Absence.{has_two, is_twice};
 
 use lf_ast::{Expr, LabelSet, MatchOp, Matcher, Sight};
 use lf_base::{Memory, Seq, Text};

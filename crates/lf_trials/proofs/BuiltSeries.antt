@@ -4,7 +4,9 @@ use Rattle.std.specs.List.{Contains, find}
 use Rattle.std.specs.Option.{option_or}
 use Rattle.std.specs.Str.{bytes_eq}
 use Rattle.std.proofs.lemmas.List.Elements.{Contains-append_cases}
+use Rattle.lf_laws.proofs.Booleans.{and_left}
 use Rattle.lf_laws.proofs.Members.{behind, first_or_behind, here, none_in, only_one}
+use Rattle.lf_laws.proofs.Options.{the_same}
 use Rattle.lf_ast.specs.Functions.{Signature, aggregation, function_named}
 use Rattle.lf_ast.specs.Labels.{Bytes, Labels}
 use Rattle.lf_ast.specs.Rules.{RuleTree}
@@ -69,19 +71,12 @@ module _ (u : Listing) (env : Environment) (rules : List RuleTree) (listing : Is
   passing_name test [] name e = absurd (true≢false (sym (ap (λ (o : Option Bytes). elim o [ None ↦ false | Some z ↦ true ]) e)))
   passing_name test (text ∷ texts) name e = by (test text) refl (passing_name test texts name) e
     where
-      the_text : Some text ≡ Some name → text ≡ name
-      the_text same = ap (λ (o : Option Bytes). elim o [ None ↦ text | Some z ↦ z ]) same
-
       by : (b : Bool) → test text ≡ b → (find test texts ≡ Some name → test name ≡ true) → cond b (Some text) (find test texts) ≡ Some name → test name ≡ true
-      by true is later same = ap test (sym (the_text same)) ∙ is
+      by true is later same = ap test (sym (the_same text name same)) ∙ is
       by false is later same = later same
 
   pub named_for : (matchers : List Matcher) (name : Bytes) → name_for u rules matchers ≡ Some name → IsScrapedName rules name
-  named_for matchers name found = scraped_by_test rules name (front (is_scraped_name rules name) (passes_as_name matchers name) (passing_name (λ text. is_scraped_name rules text && passes_as_name matchers text) (candidates u metric) name found))
-    where
-      front : (a b : Bool) → (a && b) ≡ true → a ≡ true
-      front true b e = refl
-      front false b e = e
+  named_for matchers name found = scraped_by_test rules name (and_left (is_scraped_name rules name) (passes_as_name matchers name) (passing_name (λ text. is_scraped_name rules text && passes_as_name matchers text) (candidates u metric) name found))
 
   sought_scraped : (matchers : List Matcher) (D : Given) → AreScrapedIn (series_named u rules (name_for u rules matchers) D)
   sought_scraped matchers D = by (name_for u rules matchers) refl

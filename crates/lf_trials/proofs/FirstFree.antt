@@ -1,20 +1,13 @@
 -- The first of `v1`, `v2`, .. that isn't taken is found among one more than there are taken ones; so candidates and the name for `*` are what the universe says.
 use Rattle.std.proofs.Common.{inl, inr, ◌≡◌, ◌<◌, ◌≤◌, ◌^◌, ◌⊎◌, ℕ, zero, suc, ◌+◌, Bool, true, false, not, cond, eqb, List, [], ◌∷◌, ◌++◌, get_or, drop, map, length, Some, refl, sym, ap, subst, ◌∙◌, codes, arith, true≢false}
 use Rattle.std.specs.Prelude.{decimal, unwrap_or, slice_index_or}
-use Rattle.std.specs.List.{Contains, IsDistinct, find, list_any, range_with_len}
-use Rattle.std.proofs.lemmas.Bool.{cases_lt}
-use Rattle.std.proofs.lemmas.Fmt.{decimal_injective}
-use Rattle.std.proofs.lemmas.List.{get_or-append-add, get_or_append_left, length-map}
-use Rattle.std.proofs.lemmas.List.FromFn.{get_or-map-range_with_len, length-range_with_len}
-use Rattle.std.proofs.lemmas.Map.Keys.{IsDistinct-from_apart}
-use Rattle.std.proofs.lemmas.Map.Steps.{length-le_from_distinct_below}
-use Rattle.lf_laws.proofs.Booleans.{not_true}
+use Rattle.std.specs.List.{Contains, find, range_with_len}
+use Rattle.std.proofs.lemmas.Bool.{cases_lt, not-false}
+use Rattle.std.proofs.lemmas.List.{get_or-append-add, get_or_append_left}
 use Rattle.lf_laws.proofs.Members.{any_in, any_out}
-use Rattle.std.proofs.lemmas.Map.Views.{Contains-from_any}
 use Rattle.lf_ast.specs.Labels.{Bytes}
-use Rattle.lf_semantics.specs.Listing.{IsCandidate, IsFirstFree, IsOtherName, Listing, class_texts, label_of, named_at, other_class, place}
-use Rattle.lf_semantics.proofs.ListingLaws.{place_within}
-use Rattle.lf_semantics.proofs.Places.{same_text}
+use Rattle.lf_semantics.specs.Listing.{IsCandidate, IsFirstFree, IsOtherName, Listing, class_texts, label_of, named_at, other_class}
+use Rattle.lf_semantics.proofs.FreeTexts.{numbered, one_free}
 use Rattle.lf_trials.specs.Candidates.{candidates, first_free, is_one_of, other_name}
 
 -- the first of some numbered texts that passes, or none of them does
@@ -49,50 +42,9 @@ find_first f test a (suc n) = by (test (f a)) refl (find_first f test (a + 1) n)
 
 -- one of them is free
 
-equal_numbers : (x y : ℕ) → eqb x y ≡ true → x ≡ y
-equal_numbers x y h = grind arith
-
 module _ (letter : ℕ) (taken : List Bytes) (small : length taken < 2 ^ 63) where
   abbrev text : ℕ → Bytes
-  text j = letter ∷ decimal (j + 1)
-
-  module _ (all : (j : ℕ) → j < length taken + 1 → Contains taken (text j)) where
-    abbrev at : ℕ → ℕ
-    at j = place taken (text j)
-
-    abbrev places : List ℕ
-    places = map at (range_with_len 0 (length taken + 1))
-
-    count : length places ≡ length taken + 1
-    count = length-map (range_with_len 0 (length taken + 1)) at ∙ length-range_with_len 0 (length taken + 1)
-
-    within : (j : ℕ) → j < length taken + 1 → at j < length taken
-    within j h = place_within taken (text j) (all j h)
-
-    read : (i d : ℕ) → i < length taken + 1 → get_or places i d ≡ at i
-    read i d h = get_or-map-range_with_len at 0 (length taken + 1) i i d h (omega arith)
-
-    apart : (i j : ℕ) → i < j → j < length taken + 1 → at i ≡ at j → ⊥
-    apart i j less h e =
-        let same : text i ≡ text j = same_text taken (text i) (text j) (within i (omega (arith, less, h))) e in
-        let numbers : i + 1 ≡ j + 1 = decimal_injective (i + 1) (j + 1) (omega (arith, less, h, small)) (omega (arith, h, small)) (ap (drop 1) same) in
-        absurd (omega (arith, less, numbers))
-
-    distinct : IsDistinct eqb places
-    distinct =
-        IsDistinct-from_apart eqb places
-        (λ i j d less h. let under : j < length taken + 1 = omega (arith, h, count) in
-        not_true (eqb (get_or places i d) (get_or places j d))
-        (λ e. apart i j less under (sym (read i d (omega (arith, less, under))) ∙ equal_numbers (get_or places i d) (get_or places j d) e ∙ read j d under)))
-
-    below : (q : ℕ) → list_any (eqb q) places ≡ true → q < length taken
-    below q h =
-        let c = Contains-from_any {eq = eqb} equal_numbers q places h in
-        let under : c.0 < length taken + 1 = let k = c.1 in omega (arith, k, count) in
-        subst (λ x. x < length taken) (sym (read c.0 q under) ∙ c.2) (within c.0 under)
-
-    one_free : ⊥
-    one_free = let most = length-le_from_distinct_below places (length taken) distinct below in absurd (omega (arith, most, count))
+  text = numbered letter
 
   abbrev is_free : Bytes → Bool
   is_free t = not (is_one_of taken t)
@@ -101,16 +53,12 @@ module _ (letter : ℕ) (taken : List Bytes) (small : length taken < 2 ^ 63) whe
   free_is_new t free c = true≢false (sym free ∙ ap not (any_in t taken c))
 
   other_is_there : (t : Bytes) → is_free t ≡ false → Contains taken t
-  other_is_there t taken_is = any_out t taken (by (is_one_of taken t) taken_is)
-    where
-      by : (b : Bool) → not b ≡ false → b ≡ true
-      by true e = refl
-      by false e = absurd (true≢false e)
+  other_is_there t taken_is = any_out t taken (not-false (is_one_of taken t) taken_is)
 
   found : IsFound text is_free 0 (length taken + 1)
   found = elim (find_first text is_free 0 (length taken + 1)) [
     | inl is ↦ is
-    | inr none ↦ absurd (one_free (λ j h. other_is_there (text j) (none j (omega arith) (omega (arith, h)))))
+    | inr none ↦ absurd (one_free letter taken small (λ j h. other_is_there (text j) (none j (omega arith) (omega (arith, h)))))
   ]
 
   pub first_free_is : IsFirstFree (letter ∷ []) taken (first_free (letter ∷ []) taken)

@@ -5,29 +5,30 @@ use Rattle.std.specs.List.{Contains, list_any}
 use Rattle.std.specs.Option.{option_map_or}
 use Rattle.std.specs.Str.{bytes_eq}
 use Rattle.lf_laws.proofs.Booleans.{clash}
-use Rattle.lf_laws.proofs.Members.{first_or_behind, here, none_in, same_true, true_same}
+use Rattle.lf_laws.proofs.Members.{any_has, first_or_behind, here, none_in, same_true, true_same}
 use Rattle.lf_ast.specs.Labels.{Bytes, Labels}
 use Rattle.lf_ast.specs.Rules.{RuleTree}
 use Rattle.lf_ast.specs.Selectors.{metric}
 use Rattle.lf_semantics.specs.Listing.{IsListing, Listing}
 use Rattle.lf_semantics.specs.Texts.{HasTexts, value_of}
+use Rattle.lf_semantics.proofs.GivenTexts.{bare_has_texts}
+use Rattle.lf_semantics.proofs.Kept.{with_label_has_texts}
 use Rattle.lf_semantics.proofs.LabelTexts.{value-with_label}
 use Rattle.lf_trials.specs.Candidates.{labels_in, other_name}
 use Rattle.lf_trials.specs.Given.{Given, giving, label_set, with_text}
 use Rattle.lf_trials.specs.Names.{is_scraped_name}
 use Rattle.lf_trials.specs.Reached.{is_recorded, records}
-use Rattle.lf_witness.proofs.SomeSample.{full_bare, full_with}
 
 -- label sets by texts
 
-full_set : (names : List Bytes) (D : Given) → HasTexts (label_set names D)
-full_set [] D = full_bare
+pub full_set : (names : List Bytes) (D : Given) → HasTexts (label_set names D)
+full_set [] D = bare_has_texts
 full_set (n ∷ names) D = by (D n) (full_set names D)
   where
     by : (o : Option Bytes) → HasTexts (label_set names D) → HasTexts (option_map_or (λ text. with_text n text (label_set names D)) o (label_set names D))
     by None full = full
     by (Some []) full = full
-    by (Some (c ∷ text)) full = full_with n (c ∷ text) (label_set names D) full
+    by (Some (c ∷ text)) full = with_label_has_texts n (c ∷ text) (label_set names D) full
 
 -- a label of which a text is said has it
 set_has : (names : List Bytes) (D : Given) (label : Bytes) (c : ℕ) (text : Bytes) → D label ≡ Some (c ∷ text) → Contains names label → value_of (label_set names D) label ≡ c ∷ text
@@ -52,15 +53,6 @@ set_has (n ∷ names) D label c text is there = by (bytes_eq n label) refl (set_
     by false differs later = other (D n) differs (later (behind differs))
 
 -- names
-
-pub any_has : {X : Type 0} (test : X → Bool) (xs : List X) (x : X) → Contains xs x → test x ≡ true → list_any test xs ≡ true
-any_has test [] x there passes = absurd (none_in x there)
-any_has test (y ∷ xs) x there passes = by (test y) refl (first_or_behind y xs x there) (λ later. any_has test xs x later passes)
-  where
-    by : (b : Bool) → test y ≡ b → (y ≡ x) ⊎ Contains xs x → (Contains xs x → list_any test xs ≡ true) → (test y || list_any test xs) ≡ true
-    by true is _ rest = ap (λ b. b || list_any test xs) is
-    by false is (inl e) rest = absurd (clash (test y) (ap test e ∙ passes) is)
-    by false is (inr later) rest = ap (λ b. b || list_any test xs) is ∙ rest later
 
 -- a name that scraped series may have
 pub record IsScrapedName (rules : List RuleTree) (name : Bytes) : Type 0 where

@@ -3,23 +3,23 @@ use Rattle.std.proofs.Common.{◌≡◌, ◌≢◌, ◌<◌, ◌≤◌, ◌↔�
 use Rattle.std.specs.List.{Contains, filter, list_any, range_with_len}
 use Rattle.std.specs.Option.{option_map_or}
 use Rattle.std.specs.Str.{bytes_eq}
-use Rattle.std.proofs.lemmas.Bool.{cases_eq, eq-eqb}
+use Rattle.std.proofs.lemmas.Bool.{cases_eq, eq-eqb, eqb-true, not-true, or_left, or_right}
 use Rattle.std.proofs.lemmas.List.FromFn.{length-range_with_len}
-use Rattle.std.proofs.lemmas.Option.{get_or_from_slice_get, slice_get_read, slice_get_within}
+use Rattle.std.proofs.lemmas.Option.{slice_get_within}
 use Rattle.lf_laws.proofs.Booleans.{and_left, and_right, clash}
-use Rattle.lf_laws.proofs.Members.{behind, first_or_behind, here, none_in, same_true, true_same}
+use Rattle.lf_laws.proofs.Members.{any_has, behind, first_or_behind, here, none_in, same_true, some_has, true_same}
+use Rattle.lf_laws.proofs.Options.{same_option}
+use Rattle.lf_laws.proofs.Slices.{member_at, number_of}
 use Rattle.lf_ast.specs.Labels.{Bytes}
 use Rattle.lf_ast.specs.Rules.{RuleTree}
 use Rattle.lf_ast.specs.Tree.{Tree}
-use Rattle.lf_deps.proofs.Ascending.{Ascends, filter_ascends, range_ascends}
+use Rattle.lf_deps.proofs.Ascending.{Ascends, filter_ascends, in_range, in_without, of_without, range_ascends}
 use Rattle.lf_deps.specs.Ordering.{without}
 use Rattle.lf_deps.specs.Reading.{Reaches, Reads, Selects, selectors}
-use Rattle.lf_semantics.specs.Environments.{names_recorded}
 use Rattle.lf_semantics.proofs.Members.{in_filter, of_filter}
-use Rattle.lf_semantics.proofs.Places.{eqb-other}
+use Rattle.lf_semantics.proofs.Recorded.{recorded}
 use Rattle.lf_trials.specs.Forks.{HoldsFork, TellsForks, has_own_fork}
 use Rattle.lf_trials.specs.Reached.{IsReach}
-use Rattle.lf_trials.proofs.MadeSeries.{any_has}
 
 -- lists
 
@@ -39,41 +39,6 @@ fewer k (x ∷ xs) c = by (eqb x k) refl (fewer k xs) (shorter (λ j. not (eqb j
     by true is later most there = omega (arith, most)
     by false is later most (inl e) = absurd (clash (eqb x k) (eq-eqb x k e) is)
     by false is later most (inr rest) = let less = later rest in omega (arith, less)
-
-in_without : (k j : ℕ) (xs : List ℕ) → Contains xs j → j ≢ k → Contains (without k xs) j
-in_without k j xs c other = in_filter (λ i. not (eqb i k)) xs j c (ap not (eqb-other j k other))
-
-of_without : (k j : ℕ) (xs : List ℕ) → Contains (without k xs) j → Contains xs j
-of_without k j xs c = (of_filter (λ i. not (eqb i k)) xs j c).0
-
-some_has : {X : Type 0} (test : X → Bool) (xs : List X) → list_any test xs ≡ true → (x : X) × Contains xs x × (test x ≡ true)
-some_has test [] e = absurd (true≢false (sym e))
-some_has {X = X} test (y ∷ xs) e = by (test y) refl (some_has test xs) e
-  where
-    by : (b : Bool) → test y ≡ b → (list_any test xs ≡ true → (x : X) × Contains xs x × (test x ≡ true)) → (b || list_any test xs) ≡ true → (x : X) × Contains (y ∷ xs) x × (test x ≡ true)
-    by true is later h = (y, here y xs, is)
-    by false is later h = let rest = later h in (rest.0, behind y xs rest.0 rest.1, rest.2)
-
-equal_numbers : (x y : ℕ) → eqb x y ≡ true → x ≡ y
-equal_numbers x y h = grind arith
-
--- the numbers below another
-below : (a n k : ℕ) → a ≤ k → k < a + n → Contains (range_with_len a n) k
-below a zero k least less = absurd (omega (arith, least, less))
-below a (suc n) k least less = elim (cases_eq a k) [
-  | inl e ↦ subst (Contains (range_with_len a (suc n))) e (here a (range_with_len (a + 1) n))
-  | inr other ↦ behind a (range_with_len (a + 1) n) k (below (a + 1) n k (omega (arith, least, other)) (omega (arith, less)))
-]
-
-same_option : {X : Type 0} (o : Option X) (x y : X) → o ≡ Some x → o ≡ Some y → x ≡ y
-same_option {X = X} o x y a b = ap (λ (z : Option X). elim z [ None ↦ x | Some w ↦ w ]) (sym a ∙ b)
-
--- a rule among the rules, and its number
-pub numbered : (rules : List RuleTree) (r : RuleTree) → Contains rules r → (k : ℕ) × (k < length rules) × (slice_get rules k ≡ Some r)
-numbered rules r c = (c.0, c.1, slice_get_read rules (length rules) c.0 r refl c.1 (sym c.2))
-
-rule_at : (rules : List RuleTree) (k : ℕ) (r : RuleTree) → slice_get rules k ≡ Some r → Contains rules r
-rule_at rules k r at = (k, slice_get_within rules k r at, get_or_from_slice_get rules k r r at)
 
 -- a rule that an expression selects
 record Steps (rules : List RuleTree) (e : Tree) (k : ℕ) (r : RuleTree) : Type 0 where
@@ -123,28 +88,14 @@ module _ (rules : List RuleTree) (target : ℕ → RuleTree → Bool) where
   search zero left e = false
   search (suc n) left e = list_any (λ k. option_map_or (λ r. steps e r && (target k r || search n (without k left) r.expr)) (slice_get rules k) false) left
 
-  recorded_among : (all : List RuleTree) (r : RuleTree) → Contains all r → r.alert ≡ false → Contains (names_recorded all) r.name
-  recorded_among [] r c records = absurd (none_in r c)
-  recorded_among (x ∷ all) r c records = by x.alert refl (recorded_among all r) (first_or_behind x all r c)
-    where
-      by : (b : Bool) → x.alert ≡ b → (Contains all r → r.alert ≡ false → Contains (names_recorded all) r.name) → (x ≡ r) ⊎ Contains all r → Contains (cond b (names_recorded all) (x.name ∷ names_recorded all)) r.name
-      by true is later (inl e) = absurd (clash x.alert is (ap (λ (z : RuleTree). z.alert) e ∙ records))
-      by true is later (inr rest) = later rest records
-      by false is later (inl e) = subst (λ n. Contains (x.name ∷ names_recorded all) n) (ap (λ (z : RuleTree). z.name) e) (here x.name (names_recorded all))
-      by false is later (inr rest) = behind x.name (names_recorded all) r.name (later rest records)
-
   steps_out : (e : Tree) (k : ℕ) (r : RuleTree) → slice_get rules k ≡ Some r → steps e r ≡ true → Steps rules e k r
-  steps_out e k r at is = record { at = at; records = recording r.alert (and_left (not r.alert) (selects (selectors e) r.name) is); selects = by found.0 found.1 found.2 }
+  steps_out e k r at is = record { at = at; records = not-true r.alert (and_left (not r.alert) (selects (selectors e) r.name) is); selects = by found.0 found.1 found.2 }
     where
       found : (o : Option Bytes) × Contains (selectors e) o × (option_map_or (bytes_eq r.name) o true ≡ true)
       found = some_has (λ o. option_map_or (bytes_eq r.name) o true) (selectors e) (and_right (not r.alert) (selects (selectors e) r.name) is)
 
-      recording : (b : Bool) → not b ≡ true → b ≡ false
-      recording true h = absurd (true≢false (sym h))
-      recording false h = refl
-
       by : (o : Option Bytes) → Contains (selectors e) o → option_map_or (bytes_eq r.name) o true ≡ true → Selects rules e r.name
-      by None c h = inr (c, recorded_among rules r (rule_at rules k r at) (recording r.alert (and_left (not r.alert) (selects (selectors e) r.name) is)))
+      by None c h = inr (c, recorded rules r (member_at rules k r at) (not-true r.alert (and_left (not r.alert) (selects (selectors e) r.name) is)))
       by (Some name) c h = inl (subst (λ n. Contains (selectors e) (Some n)) (sym (true_same r.name name h)) c)
 
   steps_in : (e : Tree) (k : ℕ) (r : RuleTree) → Steps rules e k r → steps e r ≡ true
@@ -160,7 +111,7 @@ module _ (rules : List RuleTree) (target : ℕ → RuleTree → Bool) where
     where
       last : (k : ℕ) → Contains left k → (r : RuleTree) → Steps rules e k r → (b : Bool) → target k r ≡ b → (b || search n (without k left) r.expr) ≡ true → (search n (without k left) r.expr ≡ true → Path rules target (without k left) r.expr) → Path rules target left e
       last k c r step true is h later = Path.ends k r c step is
-      last k c r step false is h later = Path.goes k r c step (wider (without k left) left (λ j. of_without k j left) r.expr (later h))
+      last k c r step false is h later = Path.goes k r c step (wider (without k left) left (λ j c. (of_without k j left c).0) r.expr (later h))
 
       by : (k : ℕ) → Contains left k → (o : Option RuleTree) → slice_get rules k ≡ o → option_map_or (λ r. steps e r && (target k r || search n (without k left) r.expr)) o false ≡ true → ((x : Tree) → search n (without k left) x ≡ true → Path rules target (without k left) x) → Path rules target left e
       by k c None at h later = absurd (true≢false (sym h))
@@ -186,10 +137,9 @@ module _ (rules : List RuleTree) (target : ℕ → RuleTree → Bool) where
       tries : ℕ → RuleTree → Bool
       tries k r = steps e r && (target k r || search n (without k left) r.expr)
 
-      passes : (k : ℕ) (r : RuleTree) → (a b : Bool) → (a ≡ true) ⊎ (b ≡ true) → (a || b) ≡ true
-      passes k r true b either = refl
-      passes k r false b (inl h) = absurd (true≢false (sym h))
-      passes k r false b (inr h) = h
+      passes : (a b : Bool) → (a ≡ true) ⊎ (b ≡ true) → (a || b) ≡ true
+      passes a b (inl h) = or_left a b h
+      passes a b (inr h) = or_right a b h
 
       by : (k : ℕ) (r : RuleTree) → Contains left k → Steps rules e k r → (target k r ≡ true) ⊎ Path rules target (without k left) r.expr → ((less : List ℕ) (x : Tree) → length less ≤ n → Path rules target less x → search n less x ≡ true) → search (suc n) left e ≡ true
       by k r c step behind later =
@@ -197,7 +147,7 @@ module _ (rules : List RuleTree) (target : ℕ → RuleTree → Bool) where
           let either : (target k r ≡ true) ⊎ (search n (without k left) r.expr ≡ true) = elim behind [ inl t ↦ inl t | inr path ↦ inr (later (without k left) r.expr few path) ] in
           any_has (λ k. option_map_or (λ r. steps e r && (target k r || search n (without k left) r.expr)) (slice_get rules k) false) left k c
           (ap (λ (o : Option RuleTree). option_map_or (λ r. steps e r && (target k r || search n (without k left) r.expr)) o false) step.at
-          ∙ ap (λ (b : Bool). b && (target k r || search n (without k left) r.expr)) (steps_in e k r step) ∙ passes k r (target k r) (search n (without k left) r.expr) either)
+          ∙ ap (λ (b : Bool). b && (target k r || search n (without k left) r.expr)) (steps_in e k r step) ∙ passes (target k r) (search n (without k left) r.expr) either)
 
   -- over all rules
 
@@ -205,12 +155,12 @@ module _ (rules : List RuleTree) (target : ℕ → RuleTree → Bool) where
   reaches e = search (length rules) (range_with_len 0 (length rules)) e
 
   in_all : (k : ℕ) (r : RuleTree) → slice_get rules k ≡ Some r → Contains (range_with_len 0 (length rules)) k
-  in_all k r at = let h = slice_get_within rules k r at in below 0 (length rules) k (omega arith) (omega (arith, h))
+  in_all k r at = in_range (length rules) k (slice_get_within rules k r at)
 
   reads_path : (k : ℕ) (r : RuleTree) → slice_get rules k ≡ Some r → r.alert ≡ false → target k r ≡ true → (e : Tree) (name : Bytes) → Reads rules e name → name ≡ r.name → Path rules target (range_with_len 0 (length rules)) e
   reads_path k r at records t e name (Reads.selected s) same = Path.ends k r (in_all k r at) (record { at = at; records = records; selects = subst (Selects rules e) same s }) t
   reads_path k r at records t e name (Reads.through q c recording s reads) same =
-      let there = numbered rules q c in
+      let there = number_of rules q c in
       Path.goes there.0 q (in_all there.0 q there.2) (record { at = there.2; records = recording; selects = s }) (reads_path k r at records t q.expr name reads same)
 
   -- a rule that the expression reaches passes the test
@@ -221,7 +171,7 @@ module _ (rules : List RuleTree) (target : ℕ → RuleTree → Bool) where
   path_reads left e (Path.ends k r c step t) = (k, r, step.at, (step.records, Reads.selected step.selects), t)
   path_reads left e (Path.goes k r c step rest) =
       let found = path_reads left r.expr rest in
-      (found.0, found.1, found.2, (found.3.0, Reads.through r (rule_at rules k r step.at) step.records step.selects found.3.1), found.4)
+      (found.0, found.1, found.2, (found.3.0, Reads.through r (member_at rules k r step.at) step.records step.selects found.3.1), found.4)
 
   pub reaches_is : (e : Tree) → (reaches e ≡ true) ↔ ReachesSome e
   reaches_is e = (
@@ -246,15 +196,11 @@ module _ (rules : List RuleTree) where
     where
       out : (b : Bool) → has_own_fork rules e ≡ b → (b || reaches rules forked e) ≡ true → HoldsFork rules e
       out true is h = inl is
-      out false is h = let found = (reaches_is rules forked e).0 h in inr (found.1, rule_at rules found.0 found.1 found.2, found.3, found.4)
-
-      or_right : (a b : Bool) → b ≡ true → (a || b) ≡ true
-      or_right true b h = refl
-      or_right false b h = h
+      out false is h = let found = (reaches_is rules forked e).0 h in inr (found.1, member_at rules found.0 found.1 found.2, found.3, found.4)
 
       into : HoldsFork rules e → fork_test e ≡ true
       into (inl own) = ap (λ (b : Bool). b || reaches rules forked e) own
-      into (inr (r, c, reach, own)) = let there = numbered rules r c in or_right (has_own_fork rules e) (reaches rules forked e) ((reaches_is rules forked e).1 (there.0, r, there.2, reach, own))
+      into (inr (r, c, reach, own)) = let there = number_of rules r c in or_right (has_own_fork rules e) (reaches rules forked e) ((reaches_is rules forked e).1 (there.0, r, there.2, reach, own))
 
   -- and a reach of each expression
 
@@ -280,7 +226,7 @@ module _ (rules : List RuleTree) where
     ascending = rising 0 (reach_of e) (filter_ascends (λ k. reaches rules (is_number k) e) 0 (range_with_len 0 (length rules)) (range_ascends 0 (length rules)));
     members = λ k. (
       λ c. let found = (reaches_is rules (is_number k) e).0 (of_filter (λ k. reaches rules (is_number k) e) (range_with_len 0 (length rules)) k c).1 in
-          (found.1, subst (λ j. slice_get rules j ≡ Some found.1) (equal_numbers found.0 k found.4) found.2, found.3),
-      λ (r, at, reach). in_filter (λ k. reaches rules (is_number k) e) (range_with_len 0 (length rules)) k (let h = slice_get_within rules k r at in below 0 (length rules) k (omega arith) (omega (arith, h))) ((reaches_is rules (is_number k) e).1 (k, r, at, reach, eq-eqb k k refl)),
+          (found.1, subst (λ j. slice_get rules j ≡ Some found.1) (eqb-true found.0 k found.4) found.2, found.3),
+      λ (r, at, reach). in_filter (λ k. reaches rules (is_number k) e) (range_with_len 0 (length rules)) k (in_range (length rules) k (slice_get_within rules k r at)) ((reaches_is rules (is_number k) e).1 (k, r, at, reach, eq-eqb k k refl)),
     );
   }

@@ -3,8 +3,9 @@
 use Rattle.std.proofs.Common.{◌≡◌, ◌≢◌, inl, inr, ℕ, Bool, true, false, cond, List, [], ◌∷◌, Option, Some, None, is_some, refl, sym, ap, ◌∙◌, subst, true≢false, option_and_then, slice_get}
 use Rattle.std.specs.List.{Contains, find, flat_map}
 use Rattle.std.proofs.lemmas.List.Elements.{Contains-append_cases}
-use Rattle.std.proofs.lemmas.Option.{get_or_from_slice_get, slice_get_within}
 use Rattle.lf_laws.proofs.Members.{behind, here, map_member, none_in, of_flat_map, only_one, true_same, same_true}
+use Rattle.lf_laws.proofs.Options.{the_same}
+use Rattle.lf_laws.proofs.Slices.{member_at}
 use Rattle.lf_ast.specs.Labels.{Bytes}
 use Rattle.lf_ast.specs.Rules.{RuleTree}
 use Rattle.lf_ast.specs.Selectors.{metric}
@@ -27,16 +28,13 @@ use Rattle.lf_trials.proofs.BuiltSeries.{AreScrapedIn, building_scraped, named_f
 use Rattle.lf_trials.proofs.MadeSeries.{IsScraped, IsScrapedName, made_is_scraped, scraped_by_test}
 use Rattle.lf_witness.proofs.StrictRunIsRun.{samples_behind}
 
-pub at_number : {X : Type 0} (xs : List X) (k : ℕ) (x : X) → slice_get xs k ≡ Some x → Contains xs x
-at_number xs k x is = (k, slice_get_within xs k x is, get_or_from_slice_get xs k x x is)
-
-of_listed : {X : Type 0} (o : Option X) (x : X) → Contains (listed o) x → o ≡ Some x
+pub of_listed : {X : Type 0} (o : Option X) (x : X) → Contains (listed o) x → o ≡ Some x
 of_listed None x there = absurd (none_in x there)
 of_listed (Some y) x there = ap Some (only_one y x there)
 
 -- the steps of a trial are of the rules
-steps_among : (rules : List RuleTree) (numbers : List ℕ) (r : RuleTree) → Contains (rules_at rules numbers) r → Contains rules r
-steps_among rules numbers r there = let from = of_flat_map (λ k. listed (slice_get rules k)) numbers r there in at_number rules from.0 r (of_listed (slice_get rules from.0) r from.2)
+pub steps_among : (rules : List RuleTree) (numbers : List ℕ) (r : RuleTree) → Contains (rules_at rules numbers) r → Contains rules r
+steps_among rules numbers r there = let from = of_flat_map (λ k. listed (slice_get rules k)) numbers r there in member_at rules from.0 r (of_listed (slice_get rules from.0) r from.2)
 
 -- what is found is there, and passes
 abbrev pub IsIn : {X : Type 0} → (X → Bool) → List X → X → Type 0
@@ -46,11 +44,8 @@ pub found_in : {X : Type 0} (test : X → Bool) (xs : List X) (x : X) → find t
 found_in test [] x e = absurd (true≢false (sym (ap is_some e)))
 found_in {X = X} test (y ∷ xs) x e = by (test y) refl (found_in test xs x) e
   where
-    the_first : Some y ≡ Some x → y ≡ x
-    the_first same = ap (λ (o : Option X). elim o [ None ↦ y | Some z ↦ z ]) same
-
     by : (b : Bool) → test y ≡ b → (find test xs ≡ Some x → IsIn test xs x) → cond b (Some y) (find test xs) ≡ Some x → IsIn test (y ∷ xs) x
-    by true is later same = (subst (Contains (y ∷ xs)) (the_first same) (here y xs), ap test (sym (the_first same)) ∙ is)
+    by true is later same = (subst (Contains (y ∷ xs)) (the_same y x same) (here y xs), ap test (sym (the_same y x same)) ∙ is)
     by false is later same = let rest = later same in (behind y xs x rest.0, rest.1)
 
 module _ (u : Listing) (env : Environment) (rules : List RuleTree) (listing : IsListing u) where
@@ -61,7 +56,7 @@ module _ (u : Listing) (env : Environment) (rules : List RuleTree) (listing : Is
   said_is_scraped (Some n) name e = by (is_scraped_name rules n) refl e
     where
       by : (b : Bool) → is_scraped_name rules n ≡ b → cond b (Some n) None ≡ Some name → IsScrapedName rules name
-      by true is same = subst (IsScrapedName rules) (ap (λ (o : Option Bytes). elim o [ None ↦ n | Some z ↦ z ]) same) (scraped_by_test rules n is)
+      by true is same = subst (IsScrapedName rules) (the_same n name same) (scraped_by_test rules n is)
       by false is same = absurd (true≢false (sym (ap is_some same)))
 
   unsaid_is_scraped : (s : Selected) (name : Bytes) → name_unsaid u rules s ≡ Some name → IsScrapedName rules name
@@ -115,16 +110,16 @@ module _ (u : Listing) (env : Environment) (rules : List RuleTree) (listing : Is
         let is = shows shown first in
         let trial = shown.trial in
         let found = found_in (λ s. has_presence presence (value_of s label)) is.samples shown.sample is.is_sample in
-        let made = samples_behind rules trial.series (trial_is_scraped shown first) (rules_at rules trial.steps) (steps_among rules trial.steps) is.stored is.is_stored.0 is.rule is.samples (at_number rules i is.rule is.is_rule) is.are_samples.0 in
+        let made = samples_behind rules trial.series (trial_is_scraped shown first) (rules_at rules trial.steps) (steps_among rules trial.steps) is.stored is.is_stored.0 is.rule is.samples (member_at rules i is.rule is.is_rule) is.are_samples.0 in
         record { world = made.0; series = made.1; rule = is.rule; is_rule = is.is_rule; sample = made.2 shown.sample found.0; present = found.1 }
 
 -- presence and absence
 
-is_there : (text : Bytes) → has_presence true text ≡ true → text ≢ []
+pub is_there : (text : Bytes) → has_presence true text ≡ true → text ≢ []
 is_there [] e = absurd (true≢false (sym e))
 is_there (c ∷ text) e = λ empty. true≢false (sym (same_true (c ∷ text) [] empty))
 
-is_lacking : (text : Bytes) → has_presence false text ≡ true → text ≡ []
+pub is_lacking : (text : Bytes) → has_presence false text ≡ true → text ≡ []
 is_lacking text e = true_same text [] e
 
 -- a label that is called possible

@@ -2,9 +2,11 @@
 use Rattle.std.proofs.Common.{◌≡◌, ◌≤◌, ◌*◌, ◌↔◌, ◌⊎◌, inl, inr, ℕ, Bool, true, false, not, ◌&&◌, List, [], ◌∷◌, length, Option, Some, None, is_some, refl, sym, ap, ap₂, ◌∙◌, subst, true≢false, slice_get, arith}
 use Rattle.std.specs.List.{Contains, find}
 use Rattle.std.specs.Str.{bytes_eq}
-use Rattle.std.proofs.lemmas.Bool.{cases_lt}
+use Rattle.std.proofs.lemmas.Bool.{cases_lt, not-true}
 use Rattle.lf_laws.proofs.Booleans.{and_left, and_right}
 use Rattle.lf_laws.proofs.Members.{same_true, true_same}
+use Rattle.lf_laws.proofs.Options.{same_option, the_same}
+use Rattle.lf_laws.proofs.Slices.{number_of}
 use Rattle.lf_ast.specs.Labels.{Bytes, Labels}
 use Rattle.lf_ast.specs.Rules.{RuleTree}
 use Rattle.lf_ast.specs.Tree.{Tree}
@@ -23,8 +25,8 @@ use Rattle.lf_trials.specs.Selected.{Selected, selected_by}
 use Rattle.lf_trials.specs.Uniform.{IsUniform, SelectsCyclic, has_texts, uniform_texts}
 use Rattle.lf_trials.specs.Verdicts.{AreLabelVerdicts, Empty, Guaranteed, Impossible, IsLabelVerdict, IsRuleVerdict, LabelVerdict, Possible, RuleVerdict, Unresolved, leaves}
 use Rattle.lf_trials.specs.Verdicts as verdict
-use Rattle.lf_trials.proofs.OneVerdict.{one_built, one_reach, one_test, one_uniform, same_option, the_one, trial_of, uniform_trial}
-use Rattle.lf_trials.proofs.Reachable.{fork_test, is_reach_of, numbered, reach_of, reaches, reaches_is, tells_forks}
+use Rattle.lf_trials.proofs.OneVerdict.{one_built, one_reach, one_test, one_uniform, trial_of, uniform_trial}
+use Rattle.lf_trials.proofs.Reachable.{fork_test, is_reach_of, reach_of, reaches, reaches_is, tells_forks}
 use Rattle.lf_witness.proofs.Answers.{one_rule_answer, one_run_answer, some_rule_answer, some_run_answer}
 use Rattle.lf_witness.proofs.Decided.{Decided, by_test, decided_both, decided_map, some_member}
 use Rattle.lf_witness.specs.StrictRuns.{IsRuleAnswer, IsRunAnswer}
@@ -37,13 +39,9 @@ at_most m n = elim (cases_lt n m) [ inl more ↦ inr (λ h. omega (arith, h, mor
 module _ (rules : List RuleTree) where
   records_is : (name : Bytes) (r : RuleTree) → (records name r ≡ true) ↔ Records r name
   records_is name r = (
-    λ h. (recording r.alert (and_left (not r.alert) (bytes_eq r.name name) h), true_same r.name name (and_right (not r.alert) (bytes_eq r.name name) h)),
+    λ h. (not-true r.alert (and_left (not r.alert) (bytes_eq r.name name) h), true_same r.name name (and_right (not r.alert) (bytes_eq r.name name) h)),
     λ (recording, e). ap (λ (b : Bool). not b && bytes_eq r.name name) recording ∙ same_true r.name name e,
   )
-    where
-      recording : (b : Bool) → not b ≡ true → b ≡ false
-      recording true h = absurd (true≢false (sym h))
-      recording false h = refl
 
   abbrev by_name : Bytes → ℕ → RuleTree → Bool
   by_name name k r = records name r
@@ -53,7 +51,7 @@ module _ (rules : List RuleTree) where
   reads_decided name r c recorded e =
       by_test (Reads rules e name) (reaches rules (by_name name) e)
       (λ h. let found = (reaches_is rules (by_name name) e).0 h in subst (Reads rules e) ((records_is name found.1).0 found.4).1 found.3.1)
-      (λ reads. let there = numbered rules r c in (reaches_is rules (by_name name) e).1 (there.0, r, there.2, (recorded.0, subst (Reads rules e) (sym recorded.1) reads), (records_is name r).1 recorded))
+      (λ reads. let there = number_of rules r c in (reaches_is rules (by_name name) e).1 (there.0, r, there.2, (recorded.0, subst (Reads rules e) (sym recorded.1) reads), (records_is name r).1 recorded))
 
   abbrev InItsMaking : Bytes → RuleTree → Type 0
   InItsMaking name r = Records r name × Reads rules r.expr name
@@ -70,7 +68,7 @@ module _ (rules : List RuleTree) where
 
   said_decided : (said : Option Bytes) → Decided (OfCyclic said)
   said_decided None = inr (λ (name, e, cyclic). true≢false (sym (ap is_some e)))
-  said_decided (Some n) = decided_map (IsCyclic rules n) (OfCyclic (Some n)) (λ cyclic. (n, refl, cyclic)) (λ (name, e, cyclic). subst (IsCyclic rules) (sym (the_one n name e)) cyclic) (cyclic_decided n)
+  said_decided (Some n) = decided_map (IsCyclic rules n) (OfCyclic (Some n)) (λ cyclic. (n, refl, cyclic)) (λ (name, e, cyclic). subst (IsCyclic rules) (sym (the_same n name e)) cyclic) (cyclic_decided n)
 
   selects_decided : (numbers : List ℕ) → Decided (SelectsCyclic rules numbers)
   selects_decided numbers =
@@ -106,7 +104,7 @@ module _ (u : Listing) (env : Environment) (rules : List RuleTree) (i : ℕ) (r 
         record { holds_fork = fork_test rules; tells_forks = tells_forks rules; rule = r; is_rule = at; reach = reach; is_reach = is_reach_of rules r.expr; built = b; is_built = is; bounded = few; is_trial = refl },
       )
       within b is (inr many) = inr (λ (t, other).
-          let same : other.built ≡ b = the_one other.built b (sym (of_built t other) ∙ is) in
+          let same : other.built ≡ b = the_same other.built b (sym (of_built t other) ∙ is) in
           many (subst (λ (js : List ℕ). b.selectors ≤ 4 * selector_count rules (with_reach i js)) (reach_is other.rule other.reach other.is_rule other.is_reach) (subst (λ (z : Building). z.selectors ≤ 4 * selector_count rules (with_reach i other.reach)) same other.bounded)))
 
       by : (o : Option Building) → building ≡ o → Decided Made
@@ -145,11 +143,11 @@ module _ (u : Listing) (env : Environment) (rules : List RuleTree) (i : ℕ) (r 
       same_given : (V : List Labels) (o : Option (List Labels)) → IsRunAnswer t.series (rules_at rules t.steps) (Some V) → IsRuleAnswer V r o → (found : ShowsSome t) → o ≡ Some found.1.samples
       same_given V o is gives found =
           one_rule_answer V r o (Some found.1.samples) gives
-          (subst (λ (W : List Labels). IsRuleAnswer W r (Some found.1.samples)) (sym (the_one V found.1.stored (same_stored (Some V) is found))) (subst (λ (q : RuleTree). IsRuleAnswer found.1.stored q (Some found.1.samples)) (same_option (slice_get rules i) found.1.rule r found.1.is_rule at) found.1.are_samples))
+          (subst (λ (W : List Labels). IsRuleAnswer W r (Some found.1.samples)) (sym (the_same V found.1.stored (same_stored (Some V) is found))) (subst (λ (q : RuleTree). IsRuleAnswer found.1.stored q (Some found.1.samples)) (same_option (slice_get rules i) found.1.rule r found.1.is_rule at) found.1.are_samples))
 
       by_sample : (V P : List Labels) → IsRunAnswer t.series (rules_at rules t.steps) (Some V) → IsRuleAnswer V r (Some P) → (o : Option Labels) → find (λ s. has_presence presence (value_of s label)) P ≡ o → Decided (ShowsSome t)
       by_sample V P is gives None none =
-          inr (λ found. true≢false (sym (ap is_some (sym none ∙ ap (λ (l : List Labels). find (λ s. has_presence presence (value_of s label)) l) (the_one P found.1.samples (same_given V (Some P) is gives found)) ∙ found.1.is_sample))))
+          inr (λ found. true≢false (sym (ap is_some (sym none ∙ ap (λ (l : List Labels). find (λ s. has_presence presence (value_of s label)) l) (the_same P found.1.samples (same_given V (Some P) is gives found)) ∙ found.1.is_sample))))
       by_sample V P is gives (Some s) there = inl (s, record { rule = r; is_rule = at; stored = V; is_stored = is; samples = P; are_samples = gives; is_sample = there })
 
       by_rule : (V : List Labels) → IsRunAnswer t.series (rules_at rules t.steps) (Some V) → (o : Option (List Labels)) → IsRuleAnswer V r o → Decided (ShowsSome t)

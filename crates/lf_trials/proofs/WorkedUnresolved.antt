@@ -5,7 +5,9 @@ use Rattle.std.specs.Fmt.{digits}
 use Rattle.std.specs.List.{Contains, list_any}
 use Rattle.std.specs.Str.{bytes_eq}
 use Rattle.lf_laws.proofs.Booleans.{clash}
-use Rattle.lf_laws.proofs.Members.{first_or_behind, here, only_one, same_true}
+use Rattle.lf_laws.proofs.Members.{any_has, first_or_behind, here, only_one, same_true}
+use Rattle.lf_laws.proofs.Slices.{member_at}
+use Rattle.lf_laws.proofs.Options.{same_option}
 use Rattle.lf_ast.specs.Labels.{Bytes, Labels}
 use Rattle.lf_ast.specs.Rules.{RuleTree}
 use Rattle.lf_ast.specs.Selectors.{metric}
@@ -26,9 +28,8 @@ use Rattle.lf_trials.specs.Reached.{IsReach, Trial, rules_at}
 use Rattle.lf_trials.specs.Trials.{IsNotShown, Shown, ShowsBuilt, ShowsUniform}
 use Rattle.lf_trials.specs.Uniform.{IsUniform}
 use Rattle.lf_trials.specs.Verdicts.{IsLabelVerdict, Unresolved}
-use Rattle.lf_trials.proofs.MadeSeries.{any_has}
-use Rattle.lf_trials.proofs.OneVerdict.{same_option, uniform_trial}
-use Rattle.lf_trials.proofs.ShownInWorlds.{at_number, found_in}
+use Rattle.lf_trials.proofs.OneVerdict.{uniform_trial}
+use Rattle.lf_trials.proofs.ShownInWorlds.{found_in}
 use Rattle.lf_trials.proofs.WorkedBuilt.{labelled}
 use Rattle.lf_trials.proofs.WorkedEmptyRow.{conjoined, either, left, never, rule, u}
 use Rattle.lf_witness.specs.Strict.{AreSame}
@@ -59,7 +60,7 @@ reaches_none e none r c reaches = reads_none e none (subst (Reads rules e) (name
 
 reach_is : (reach : List ℕ) → IsReach rules rule.expr reach → reach ≡ []
 reach_is [] is = refl
-reach_is (k ∷ reach) is = let m = (is.members k).0 (here k reach) in absurd (reaches_none rule.expr refl m.0 (at_number rules k m.0 m.1) m.2)
+reach_is (k ∷ reach) is = let m = (is.members k).0 (here k reach) in absurd (reaches_none rule.expr refl m.0 (member_at rules k m.0 m.1) m.2)
 
 -- the uniform world
 

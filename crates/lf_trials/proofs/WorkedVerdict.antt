@@ -27,7 +27,7 @@ use Rattle.lf_trials.specs.Verdicts as verdict
 use Rattle.lf_trials.proofs.WorkedBuilt.{labelled, sum, sum_u}
 use Rattle.lf_witness.specs.Ascending.{IsAscending}
 use Rattle.lf_witness.specs.StrictRuns.{IsRuleAnswer, IsRunAnswer}
-use Rattle.lf_witness.proofs.AscendingLists.{ascends_behind, at_place}
+use Rattle.lf_witness.proofs.AscendingLists.{alone_ascends}
 use Rattle.lf_witness.proofs.SameSets.{same_itself}
 use Rattle.lf_witness.proofs.WorkedStrict.{made}
 
@@ -87,12 +87,6 @@ reach = record {
 
 -- one series
 
-none_ascends : IsAscending []
-none_ascends i j s t less at_i at_j = absurd (none_in s (at_place [] i s at_i))
-
-one_ascends : (s : Labels) → IsAscending (s ∷ [])
-one_ascends s = ascends_behind s [] none_ascends (λ t c. absurd (none_in t c))
-
 abbrev pub sample_of : Labels → Labels
 sample_of s = group_of (By (names 8 (job ∷ []))) s
 
@@ -101,7 +95,7 @@ pub sample_is : (s : Labels) (name : Bytes) → value_of (sample_of s) name ≡ 
 sample_is s name = value-restricted (is_grouped_by (By (names 8 (job ∷ [])))) s name
 
 runs : (s : Labels) → IsRunAnswer (s ∷ []) [] (Some (s ∷ []))
-runs s = (same_itself (s ∷ []), one_ascends s)
+runs s = (same_itself (s ∷ []), alone_ascends s)
 
 module _ (s : Labels) (named : value_of s metric ≡ codes "foo") (of_env : value_of s env_label ≡ codes "p") where
   gives : IsRuleAnswer (s ∷ []) sum (Some (sample_of s ∷ []))
@@ -114,7 +108,7 @@ module _ (s : Labels) (named : value_of s metric ≡ codes "foo") (of_env : valu
         made (group_of (By (names 8 (job ∷ [])))) (s ∷ []),
       ),
     ),
-    one_ascends (sample_of s),
+    alone_ascends (sample_of s),
   )
 
 abbrev with_job : Labels

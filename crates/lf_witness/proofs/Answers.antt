@@ -10,7 +10,7 @@ use Rattle.lf_semantics.specs.Worlds.{stored}
 use Rattle.lf_witness.specs.Strict.{AreSame, HasOneOutcome, IsSameOutcome, Outcomes, StrictlyEvaluates, HasOutcome}
 use Rattle.lf_witness.specs.StrictRuns.{InOrder, IsRuleAnswer, IsRunAnswer, IsStored, IsStrictAnswer, RuleStrictlyGives, StepAdds, StoredOf, StrictlyStored}
 use Rattle.lf_witness.proofs.OneOutcome.{Respects, both_none, apart_respects, from_one, one_outcome, set_respects}
-use Rattle.lf_witness.proofs.SameSets.{chained, same_behind, same_front, same_itself}
+use Rattle.lf_witness.proofs.SameSets.{chained, same_behind, same_front, same_itself, turned}
 use Rattle.lf_witness.proofs.SameSamples.{Into, from_into, rule_into}
 use Rattle.lf_witness.proofs.SameResults.{TakesSame, evaluates_same, rule_same, run_same}
 use Rattle.lf_witness.proofs.SomeOutcome.{apart_some, from_some, some_outcome}
@@ -48,8 +48,15 @@ stored_respects r false = apart_respects (IsStored r) (λ s t u a b. a ∙ sym b
 step_outcome : (W : List Labels) (r : RuleTree) → HasOneOutcome (StepAdds W r)
 step_outcome W r = from_one (RuleStrictlyGives W r) (StoredOf r r.alert) (rule_outcome W r) (stored_respects r r.alert)
 
-step_into : (W V : List Labels) → AreSame W V → (r : RuleTree) → Into (StepAdds W r) (StepAdds V r)
+pub step_into : (W V : List Labels) → AreSame W V → (r : RuleTree) → Into (StepAdds W r) (StepAdds V r)
 step_into W V same r = from_into (RuleStrictlyGives W r) (RuleStrictlyGives V r) (StoredOf r r.alert) (StoredOf r r.alert) (rule_into W V same r) (λ P o is. is)
+
+-- what is stored over some samples is stored over the same samples
+pub stored_into : (rules : List RuleTree) (W V : List Labels) → AreSame W V → Into (StrictlyStored W rules) (StrictlyStored V rules)
+stored_into [] W V same None is = is
+stored_into [] W V same (Some R) is = chained V W R (turned W V same) is
+stored_into (r ∷ later) W V same o is =
+    from_into (StepAdds W r) (StepAdds V r) (λ A. StrictlyStored (W ++ A) later) (λ A. StrictlyStored (V ++ A) later) (step_into W V same r) (λ A. stored_into later (W ++ A) (V ++ A) (same_front W V A same)) o is
 
 run_respects : (rules : List RuleTree) (W V : List Labels) → AreSame W V → (o p : Option (List Labels)) → StrictlyStored W rules o → StrictlyStored V rules p → IsSameOutcome o p
 run_respects [] W V same o p a b = set_respects AreSame (λ P Q R T both a b s c. b.0 s (both.0 s (a.1 s c))) W V same o p a b

@@ -1,15 +1,15 @@
 -- A set has one list in ascending order.
-use Rattle.std.proofs.Common.{◌≡◌, ◌⊎◌, inl, inr, zero, suc, List, [], ◌∷◌, Some, refl, sym, ap, ap₂, ◌∙◌, subst, arith, ℕ}
+use Rattle.std.proofs.Common.{◌≡◌, ◌⊎◌, inl, inr, zero, suc, List, [], ◌∷◌, Some, refl, sym, ap, ap₂, ◌∙◌, subst, arith}
 use Rattle.std.proofs.lemmas.Cmp.{lists_total, tied_itself}
-use Rattle.std.proofs.lemmas.Option.{slice_get-get_or, get_or_from_slice_get, slice_get_within}
+use Rattle.std.proofs.lemmas.Option.{slice_get-get_or}
 use Rattle.std.specs.List.{Contains}
 use Rattle.std.specs.declared.cmp.Ordering.TheVariants.{Less, Greater, Equal}
 use Rattle.std.specs.Ordering.{nat_cmp, ordering_reverse}
 use Rattle.std.specs.Cmp.{IsTotalOrder}
 use Rattle.std.specs.Cmp.Lexicographic.{slice_cmp, nat_list_cmp_total}
-use Rattle.std.specs.Prelude.{slice_get}
 use Rattle.std.specs.declared.cmp.Ordering.{Ordering}
 use Rattle.lf_laws.proofs.Members.{behind, first_or_behind, here, none_in, only_one}
+use Rattle.lf_laws.proofs.Slices.{member_at}
 use Rattle.lf_ast.specs.Labels.{Labels}
 use Rattle.lf_witness.specs.Ascending.{IsAscending, labels_cmp, pairs_of}
 use Rattle.lf_witness.specs.Strict.{AreSame}
@@ -57,12 +57,12 @@ one_list (s ∷ P) (t ∷ R) one another same =
     ap₂ (λ (z : Labels) (l : List Labels). z ∷ l) e
     (one_list P R (tail_ascends s P one) (tail_ascends t R another) (tail_within s P R one together.0, tail_within s R P too together.1))
 
-pub at_place : (R : List Labels) (k : ℕ) (t : Labels) → slice_get R k ≡ Some t → Contains R t
-at_place R k t e = (k, slice_get_within R k t e, get_or_from_slice_get R k t t e)
+pub none_ascends : IsAscending []
+none_ascends i j t u lt a b = absurd (none_in t (member_at [] i t a))
 
 pub ascends_behind : (s : Labels) (R : List Labels) → IsAscending R → ((t : Labels) → Contains R t → labels_cmp s t ≡ Less) → IsAscending (s ∷ R)
 ascends_behind s R ascends less zero zero t u lt a b = absurd (omega (arith, lt))
-ascends_behind s R ascends less zero (suc j) t u lt a b = let same : s ≡ t = (let e : Some s ≡ Some t = a in cc) in subst (λ z. labels_cmp z u ≡ Less) same (less u (at_place R j u b))
+ascends_behind s R ascends less zero (suc j) t u lt a b = let same : s ≡ t = (let e : Some s ≡ Some t = a in cc) in subst (λ z. labels_cmp z u ≡ Less) same (less u (member_at R j u b))
 ascends_behind s R ascends less (suc i) zero t u lt a b = absurd (omega (arith, lt))
 ascends_behind s R ascends less (suc i) (suc j) t u lt a b = ascends i j t u (omega (arith, lt)) a b
 
@@ -70,8 +70,8 @@ ascends_behind s R ascends less (suc i) (suc j) t u lt a b = ascends i j t u (om
 abbrev IsPut : Labels → List Labels → List Labels → Type 0
 IsPut s R T = IsAscending T × Contains T s × ((t : Labels) → Contains R t → Contains T t) × ((t : Labels) → Contains T t → (s ≡ t) ⊎ Contains R t)
 
-alone_ascends : (s : Labels) → IsAscending (s ∷ [])
-alone_ascends s = ascends_behind s [] (λ i j t u lt a b. absurd (none_in t (at_place [] i t a))) (λ t c. absurd (none_in t c))
+pub alone_ascends : (s : Labels) → IsAscending (s ∷ [])
+alone_ascends s = ascends_behind s [] none_ascends (λ t c. absurd (none_in t c))
 
 -- in front of a list whose first is greater
 put_first : (s t : Labels) (R : List Labels) → IsAscending (t ∷ R) → labels_cmp s t ≡ Less → IsPut s (t ∷ R) (s ∷ t ∷ R)
@@ -115,7 +115,7 @@ put s (t ∷ R) ascends = by (labels_cmp s t) refl (put s R (tail_ascends t R as
     by Greater e rest = (t ∷ rest.0, put_behind s t R rest.0 ascends (total.antisymm (pairs_of t) (pairs_of s) ∙ ap ordering_reverse e) rest.1)
 
 pub in_order : (R : List Labels) → (T : List Labels) × AreSame R T × IsAscending T
-in_order [] = ([], same_itself [], λ i j t u lt a b. absurd (none_in t (at_place [] i t a)))
+in_order [] = ([], same_itself [], none_ascends)
 in_order (s ∷ R) =
     let rest = in_order R in
     let placed = put s rest.0 rest.2 in (

@@ -5,7 +5,7 @@ use Rattle.std.proofs.lemmas.List.Elements.{Contains-append_left, Contains-appen
 use Rattle.std.proofs.lemmas.Map.Text.{is_eq-slice_cmp}
 use Rattle.std.specs.declared.cmp.Ordering.{Ordering}
 use Rattle.std.specs.declared.cmp.Ordering.TheVariants.{Less, Equal, Greater}
-use Rattle.std.specs.Ordering.{eq_by_cmp, nat_cmp}
+use Rattle.std.specs.Ordering.{eq_by_cmp, is_eq, nat_cmp}
 use Rattle.std.specs.Cmp.Lexicographic.{slice_cmp, nat_list_cmp_total}
 use Rattle.std.specs.FinMap.{entries, find, get, get-entries, nat_cmp-IsAntisymmetric, same_entries_map, slice_cmp-IsAntisymmetric}
 use Rattle.std.specs.List.{AllByRecursion, Contains}
@@ -112,6 +112,18 @@ equal_same s t e =
 
 pub equal_itself : (s : Labels) → labels_cmp s s ≡ Equal
 equal_itself s = tied_itself (lists_total (lists_total nat_list_cmp_total)) (pairs_of s)
+
+pub tied : (o : Ordering) → is_eq o ≡ true → o ≡ Equal
+tied Less e = cc
+tied Equal e = refl
+tied Greater e = cc
+
+-- so the test of the order tells which label sets are one
+pub told_same : (s t : Labels) → eq_by_cmp labels_cmp s t ≡ true → s ≡ t
+told_same s t e = equal_same s t (tied (labels_cmp s t) e)
+
+pub same_told : (s t : Labels) → s ≡ t → eq_by_cmp labels_cmp s t ≡ true
+same_told s t e = subst (λ z. eq_by_cmp labels_cmp s z ≡ true) e (ap is_eq (equal_itself s))
 
 pub same_labels : (s t : Labels) → Decided (s ≡ t)
 same_labels s t = by (labels_cmp s t) refl

@@ -6,6 +6,7 @@ pub mod StrictRunIsRun
 pub mod OnePieces
 pub mod OneSample
 pub mod OneOutcome
+pub mod OpenAbsences
 pub mod Decided
 pub mod SomeSample
 pub mod SomeOutcome

@@ -53,7 +53,7 @@ replaced_one p plain s r t (inr one) (inr another) =
 
 -- label sets without an empty text that have the same text of each label are one
 
-same_text : (o p : Option Bytes) → ((text : Bytes) → o ≡ Some text → text ≢ []) → ((text : Bytes) → p ≡ Some text → text ≢ []) → unwrap_or o [] ≡ unwrap_or p [] → o ≡ p
+pub same_text : (o p : Option Bytes) → ((text : Bytes) → o ≡ Some text → text ≢ []) → ((text : Bytes) → p ≡ Some text → text ≢ []) → unwrap_or o [] ≡ unwrap_or p [] → o ≡ p
 same_text None None full too e = refl
 same_text None (Some y) full too e = absurd (too y refl (sym e))
 same_text (Some x) None full too e = absurd (full x refl e)
@@ -65,7 +65,7 @@ same_texts r t full too same =
 
 -- `absent`
 
-one_text : (matchers : List Matcher) (x y : Bytes) → (1 < length matchers → ⊥) → Contains (absent_texts matchers) x → Contains (absent_texts matchers) y → x ≡ y
+pub one_text : (matchers : List Matcher) (x y : Bytes) → (1 < length matchers → ⊥) → Contains (absent_texts matchers) x → Contains (absent_texts matchers) y → x ≡ y
 one_text [] x y few one another = sym (only_one [] x one) ∙ only_one [] y another
 one_text (m ∷ []) x y few one another = sym (only_one _ x one) ∙ only_one _ y another
 one_text (m ∷ n ∷ matchers) x y few one another = absurd (few (omega arith))

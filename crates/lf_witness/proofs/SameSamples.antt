@@ -58,19 +58,19 @@ module _ (f g : Outcomes) (into : Into f g) where
   beside_into true o is = into o is
   beside_into false o is = by_into (MadeApart LosesName) o is
 
-  sign_into : (minus : Bool) → Into (StrictSign minus f) (StrictSign minus g)
+  pub sign_into : (minus : Bool) → Into (StrictSign minus f) (StrictSign minus g)
   sign_into true o is = by_into (MadeApart LosesName) o is
   sign_into false o is = into o is
 
 module _ (op : Op) (m : Matching) (left left_too right right_too : Outcomes) (lefts : Into left left_too) (rights : Into right right_too) where
-  binary_into : (scalar_left scalar_right : Bool) → Into (StrictBinary op m scalar_left scalar_right left right) (StrictBinary op m scalar_left scalar_right left_too right_too)
+  pub binary_into : (scalar_left scalar_right : Bool) → Into (StrictBinary op m scalar_left scalar_right left right) (StrictBinary op m scalar_left scalar_right left_too right_too)
   binary_into true true o is = is
   binary_into false true o is = beside_into left left_too lefts (is_filter op m) o is
   binary_into true false o is = beside_into right right_too rights (is_filter op m) o is
   binary_into false false o is =
       from_into left left_too (λ P. From right (StrictCombines op m P)) (λ P. From right_too (StrictCombines op m P)) lefts (λ P. by_into right right_too rights (StrictCombines op m P)) o is
 
-call_into : (signature : Option Signature) (grouping : Grouping) (args : Trees) (f g : ℕ → Outcomes) → ((k : ℕ) → Into (f k) (g k)) → Into (StrictCall signature grouping args f) (StrictCall signature grouping args g)
+pub call_into : (signature : Option Signature) (grouping : Grouping) (args : Trees) (f g : ℕ → Outcomes) → ((k : ℕ) → Into (f k) (g k)) → Into (StrictCall signature grouping args f) (StrictCall signature grouping args g)
 call_into None grouping args f g into o is = is
 call_into (Some s) grouping args f g into o is = effect_into (f (operand_place s)) (g (operand_place s)) (into (operand_place s)) s.labels grouping args o is
 

@@ -1,11 +1,7 @@
 -- What a sample becomes exists: by a plain replacement, and the sample of `absent` where it is not open.
-use Rattle.std.proofs.Common.{◌≡◌, ◌≢◌, ◌⊎◌, inl, inr, ◌<◌, ◌≤◌, Bool, true, false, List, [], ◌∷◌, length, Option, Some, None, cond, refl, sym, ap, ◌∙◌, subst, true≢false, arith}
-use Rattle.std.proofs.lemmas.Bool.{cases_lt}
+use Rattle.std.proofs.Common.{◌≡◌, inl, inr, ◌<◌, Bool, true, false, ◌||◌, List, [], ◌∷◌, length, Option, Some, None, cond, refl, sym, ap, ◌∙◌, subst, true≢false, arith}
 use Rattle.std.specs.List.{Contains, filter, flat_map}
 use Rattle.std.specs.Str.{bytes_eq, chars}
-use Rattle.std.specs.Cmp.Lexicographic.{nat_list_cmp_total, slice_cmp}
-use Rattle.std.specs.FinMap.{get, get-empty, get-insert, get-remove, insert, remove}
-use Rattle.std.specs.Ordering.{nat_cmp, eq_by_cmp}
 use Rattle.lf_laws.proofs.Members.{here}
 use Rattle.lf_ast.specs.Labels.{Bytes, Labels}
 use Rattle.lf_ast.specs.declared.expr.Matcher.{Matcher}
@@ -22,10 +18,14 @@ use Rattle.lf_semantics.specs.Grouped.{is_metric}
 use Rattle.lf_semantics.specs.Parts.{Sought}
 use Rattle.lf_semantics.specs.Strings.{Expands, Replacing, absent_texts}
 use Rattle.lf_semantics.specs.Texts.{HasTexts, value_of, with_label}
+use Rattle.lf_semantics.proofs.GivenTexts.{bare_has_texts}
+use Rattle.lf_semantics.proofs.Kept.{with_label_has_texts}
 use Rattle.lf_semantics.proofs.LabelTexts.{value-bare, value-with_label}
-use Rattle.lf_semantics.proofs.Members.{of_filter, other_false, same_true, true_same}
+use Rattle.lf_semantics.proofs.Members.{other_false, true_same}
 use Rattle.lf_witness.specs.Strict.{IsOpenAbsent}
-use Rattle.lf_witness.proofs.Decided.{Decided, by_test, decided_both, some_member}
+use Rattle.lf_witness.specs.views.Absence.{has_two}
+use Rattle.lf_witness.proofs.Decided.{Decided, by_test}
+use Rattle.lf_witness.proofs.OpenAbsences.{opens}
 
 -- replacements
 
@@ -57,31 +57,13 @@ abbrev pub sought_labels : List Matcher → Labels
 sought_labels [] = bare
 sought_labels (m ∷ matchers) = cond (is_metric m.label) (sought_labels matchers) (with_label m.label (cond (is_equal m.op) m.value []) (sought_labels matchers))
 
-pub full_bare : HasTexts bare
-full_bare name text e = absurd (let clash = sym (get-empty (slice_cmp nat_cmp) name) ∙ e in cc)
-
-pub full_with : (name text : Bytes) (s : Labels) → HasTexts s → HasTexts (with_label name text s)
-full_with name text s full = by (bytes_eq text []) refl
-  where
-    removed : (q t : Bytes) (b : Bool) → cond b None (get s q) ≡ Some t → t ≢ []
-    removed q t true e = absurd (cc)
-    removed q t false e = full q t e
-
-    inserted : (q t : Bytes) (b : Bool) → bytes_eq text [] ≡ false → cond b (Some text) (get s q) ≡ Some t → t ≢ []
-    inserted q t true not e = λ empty. let same : text ≡ t = (let f : Some text ≡ Some t = e in cc) in true≢false (sym (same_true text [] (same ∙ empty)) ∙ not)
-    inserted q t false not e = full q t e
-
-    by : (b : Bool) → bytes_eq text [] ≡ b → HasTexts (cond b (remove s name) (insert s name text))
-    by true e q t found = removed q t (eq_by_cmp (slice_cmp nat_cmp) q name) (sym (get-remove nat_list_cmp_total s name q) ∙ found)
-    by false e q t found = inserted q t (eq_by_cmp (slice_cmp nat_cmp) q name) e (sym (get-insert nat_list_cmp_total s name text q) ∙ found)
-
 full_sought : (matchers : List Matcher) → HasTexts (sought_labels matchers)
-full_sought [] = full_bare
+full_sought [] = bare_has_texts
 full_sought (m ∷ matchers) = by (is_metric m.label) (full_sought matchers)
   where
     by : (b : Bool) → HasTexts (sought_labels matchers) → HasTexts (cond b (sought_labels matchers) (with_label m.label (cond (is_equal m.op) m.value []) (sought_labels matchers)))
     by true full = full
-    by false full = full_with m.label (cond (is_equal m.op) m.value []) (sought_labels matchers) full
+    by false full = with_label_has_texts m.label (cond (is_equal m.op) m.value []) (sought_labels matchers) full
 
 no_name : (matchers : List Matcher) (label : Bytes) → is_metric label ≡ true → value_of (sought_labels matchers) label ≡ []
 no_name [] label e = value-bare label
@@ -129,38 +111,8 @@ absent_some (Some sought) shut = (sought_labels sought.matchers, sought_sample s
 
 -- whether an `absent` is open
 
--- two matchers on a label are on the label of one of them
-on_one : (matchers : List Matcher) (label : Bytes) → 1 < length (filter (λ m. bytes_eq m.label label) matchers) → (m : Matcher) × Contains matchers m × (m.label ≡ label)
-on_one matchers label two = by (filter (λ m. bytes_eq m.label label) matchers) two (λ m c. of_filter (λ m. bytes_eq m.label label) matchers m c)
-  where
-    by : (found : List Matcher) → 1 < length found → ((m : Matcher) → Contains found m → Contains matchers m × (bytes_eq m.label label ≡ true)) → (m : Matcher) × Contains matchers m × (m.label ≡ label)
-    by [] two of = absurd (omega (arith, two))
-    by (m ∷ found) two of = let is = of m (here m found) in (m, is.0, true_same m.label label is.1)
-
--- a label other than the name has two matchers or more
-abbrev Twice : List Matcher → Bytes → Type 0
-Twice matchers label = (is_metric label ≡ false) × (1 < length (filter (λ m. bytes_eq m.label label) matchers))
-
-twice_decided : (matchers : List Matcher) (label : Bytes) → Decided (Twice matchers label)
-twice_decided matchers label = decided_both (is_metric label ≡ false) (1 < length (filter (λ m. bytes_eq m.label label) matchers)) (not_name (is_metric label)) (more (cases_lt 1 (length (filter (λ m. bytes_eq m.label label) matchers))))
-  where
-    not_name : (b : Bool) → Decided (b ≡ false)
-    not_name true = inr true≢false
-    not_name false = inl refl
-
-    more : (1 < length (filter (λ m. bytes_eq m.label label) matchers)) ⊎ (length (filter (λ m. bytes_eq m.label label) matchers) ≤ 1) → Decided (1 < length (filter (λ m. bytes_eq m.label label) matchers))
-    more (inl lt) = inl lt
-    more (inr ge) = inr (λ lt. omega (arith, lt, ge))
-
 pub open_decided : (sought : Option Sought) → Decided (IsOpenAbsent sought)
 open_decided None = inr (λ no. no)
-open_decided (Some sought) = elim (some_member (λ m. Twice sought.matchers m.label) sought.matchers (λ m. twice_decided sought.matchers m.label)) [
-  | inl found ↦ inl (inr (found.0.label, found.2.0, found.2.1))
-  | inr none ↦ elim (by_test (sought.may_be_bare ≡ true) sought.may_be_bare (λ e. e) (λ e. e)) [
-    | inl may ↦ inl (inl may)
-    | inr not ↦ inr (λ is_open. elim is_open [
-      | inl may ↦ not may
-      | inr twice ↦ (let at = on_one sought.matchers twice.0 twice.2 in none (at.0, at.1, subst (Twice sought.matchers) (sym at.2) (twice.1, twice.2)))
-    ])
-  ]
-]
+open_decided (Some sought) =
+    let law = opens sought.matchers sought.may_be_bare in
+    by_test (IsOpenAbsent (Some sought)) (sought.may_be_bare || has_two sought.matchers) law.0 law.1

@@ -13,12 +13,13 @@ use Rattle.lf_semantics.specs.Evaluation.{bare}
 use Rattle.lf_semantics.specs.Grouped.{out, without_name}
 use Rattle.lf_semantics.specs.Texts.{HasTexts, value_of, with_label}
 use Rattle.lf_semantics.specs.Worlds.{AreScraped, IsSample, Step, World, stored}
+use Rattle.lf_semantics.proofs.GivenTexts.{bare_has_texts}
+use Rattle.lf_semantics.proofs.Kept.{with_label_has_texts}
 use Rattle.lf_semantics.proofs.LabelTexts.{value-with_label, value-without_name}
 use Rattle.lf_semantics.proofs.Written.{between, call, record_rule, selector, text}
 use Rattle.lf_witness.specs.Strict.{Coincide, StrictlyEvaluates}
 use Rattle.lf_witness.specs.StrictRuns.{AreStrictSteps, StrictlyStored}
 use Rattle.lf_witness.proofs.SameSets.{same_itself}
-use Rattle.lf_witness.proofs.SomeSample.{full_bare, full_with}
 use Rattle.lf_witness.proofs.StrictRunIsRun.{step_of, strict_steps_run}
 use Rattle.lf_witness.proofs.WorkedStrict.{apart, gives_abs, gives_foo, gives_joined, gives_sum, joined, made, many}
 
@@ -215,10 +216,10 @@ each_rule P of_a of_b of_c r c = elim (first_or_behind rule_a (rule_b ∷ rule_c
 ]
 
 full_job : (j : Bytes) → HasTexts (of_job j)
-full_job j = full_with metric (codes "foo") (with_label job j bare) (full_with job j bare full_bare)
+full_job j = with_label_has_texts metric (codes "foo") (with_label job j bare) (with_label_has_texts job j bare bare_has_texts)
 
 full_series : (s : Labels) → Contains series s → HasTexts s
-full_series = each_series HasTexts (full_job (codes "a")) (full_job (codes "b")) (full_with metric (codes "bar") bare full_bare)
+full_series = each_series HasTexts (full_job (codes "a")) (full_job (codes "b")) (with_label_has_texts metric (codes "bar") bare bare_has_texts)
 
 no_c : Nowhere series (codes "c:foo")
 no_c = not_scraped (codes "c:foo") (different _ _ refl) (different _ _ refl)

@@ -1,3 +1,4 @@
 pub mod Ascending
 pub mod Strict
 pub mod StrictRuns
+pub mod views

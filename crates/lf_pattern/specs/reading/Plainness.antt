@@ -1,15 +1,12 @@
 -- A way of testing whether a replacement is plain, from left to right. It defines nothing: `is_plain_replacement` ensures that it passes exactly the plain ones.
-use Rattle.std.specs.Prelude.{ℕ, Bool, true, false, ◌==◌, nat_lt, List, [], ◌∷◌, if◌then◌else◌}
-use Rattle.std.specs.Char.{digit_value}
+use Rattle.std.specs.Prelude.{ℕ, Bool, true, false, ◌==◌, List, [], ◌∷◌, if◌then◌else◌}
 use Rattle.lf_pattern.specs.Replacement as of
+use Rattle.lf_pattern.specs.ShapeScan.{is_digit}
 use Rattle.lf_pattern.specs.declared.plainness.Check.{Check}
 use Rattle.lf_pattern.specs.declared.plainness.Check.TheVariants.{Text, Dollar, Zero, Number, Brace, BracedZero, Braced, Wrong}
 
 abbrev pub is_word : ℕ → Bool
 is_word c = of.is_word c
-
-abbrev pub is_digit : ℕ → Bool
-is_digit c = nat_lt (digit_value c) 10
 
 -- what is read behind a character
 unfoldable pub checked : Check → ℕ → Check

@@ -16,7 +16,8 @@ use Rattle.lf_scalar.specs.Cells.{Cell, cell, cells, Value, made, byte_fault, ch
 use Rattle.lf_scalar.specs.Lines.{Line, line, lines, start_of, first_text, begins_with, is_blank, is_blank_line}
 use Rattle.lf_scalar.specs.Markers.{is_marker}
 use Rattle.lf_scalar.specs.Folding.{trimmed}
-use Rattle.lf_scalar.specs.Quoted.{Quotes, Single, Double, Piece, Bare, Twice, Letter, Number, given, char_cells, letter_of, width_of, digit_of, is_bare_blank, Break, Folds, Drops, filled, unindented}
+use Rattle.lf_scalar.specs.Quoted.{Quotes, Single, Double, Piece, Bare, Twice, Letter, Number, given, char_cells, letter_of, width_of, is_bare_blank, Break, Folds, Drops, filled, unindented}
+use Rattle.lf_base.specs.Names.{hexadecimal_value}
 
 -- the number that digits tell behind those that told a number before, where all are digits
 abbrev pub told_on : ℕ → Option ℕ → (ℕ → Option ℕ) → Option ℕ
@@ -25,7 +26,7 @@ told_on before (Some d) later = later (16 * before + d)
 
 abbrev pub told : ℕ → List Cell → Option ℕ
 told before [] = Some before
-told before (c ∷ cs) = told_on before (digit_of c.byte) (λ n. told n cs)
+told before (c ∷ cs) = told_on before (hexadecimal_value c.byte) (λ n. told n cs)
 
 -- a piece and how many cells behind its first it takes
 abbrev pub number_if : Cell → Cell → List Cell → Option ℕ → Option (Piece × ℕ)

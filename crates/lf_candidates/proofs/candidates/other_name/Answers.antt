@@ -2,7 +2,8 @@ use Rattle.std.proofs.Common.{◌≡◌, ◌<◌, ◌+◌, ◌++◌, codes, leng
 use Rattle.std.specs.Prelude.{decimal}
 use Rattle.std.specs.List.{Contains}
 use Rattle.lf_semantics.specs.Listing.{place}
-use Rattle.lf_classes.proofs.Free.{has_place, taken_text}
+use Rattle.lf_semantics.proofs.ListingLaws.{place_within}
+use Rattle.lf_semantics.proofs.Places.{placed_there}
 use Rattle.lf_candidates.proofs.Labelled.{is_other_name, some_other_name}
 use Rattle.lf_candidates.proofs.candidates.other_name.Goals as goal
 
@@ -13,7 +14,7 @@ returns-then-label_of-star c =
     let last : place u.names c.in_ok-name.name ≡ length u.names =
     ap (place u.names) (sym c.as_str.ensures) ∙ (let at = c.label_of.ensures.number in let is = c.if-label_of-star.true in let all = c.labels-star.ensures.count in let more = within.listing.count in omega (arith, at, is, all, more)) in
     is_other_name u within c.in_ok-name.name
-    (c.loop-number.number, c.in_ok-name.ensures, (λ there. let less = taken_text u.names c.in_ok-name.name there in absurd (omega (arith, less, last))), c.loop-number.invariant)
+    (c.loop-number.number, c.in_ok-name.ensures, (λ there. let less = place_within u.names c.in_ok-name.name there in absurd (omega (arith, less, last))), c.loop-number.invariant)
 
 pub loop-number-preserved : goal.loop-number-preserved
 loop-number-preserved c =
@@ -21,7 +22,7 @@ loop-number-preserved c =
     let at : place u.names c.in_ok-name.name ≡ c.label_of.result = ap (place u.names) (sym c.as_str.ensures) ∙ sym c.label_of.ensures.number in
     let less : place u.names c.in_ok-name.name < length u.names =
     (let no = c.if-label_of-star.false in let most = c.label_of.ensures.within in let all = c.labels-star.ensures.count in let more = c.labels-star.ensures.within.listing.count in omega (arith, at, no, most, all, more)) in
-    below_more (λ j. Contains u.names (codes "x" ++ decimal (j + 1))) c.loop-number.number c.loop-number.invariant (subst (Contains u.names) c.in_ok-name.ensures (has_place u.names c.in_ok-name.name less))
+    below_more (λ j. Contains u.names (codes "x" ++ decimal (j + 1))) c.loop-number.number c.loop-number.invariant (subst (Contains u.names) c.in_ok-name.ensures (placed_there u.names c.in_ok-name.name less))
 
 pub unreachable-requires : goal.unreachable-requires
 unreachable-requires c =

@@ -1,15 +1,12 @@
 use Rattle.std.proofs.Common.{◌≡◌, true, ℕ, List, [], ◌∷◌, Option, sym, subst, arith}
 use Rattle.std.specs.Prelude.{OnOk, Result, Ok, Err}
+use Rattle.std.proofs.lemmas.Result.{on_ok_weaker}
 use Rattle.lf_ast.specs.Labels.{Bytes}
 use Rattle.lf_deps.specs.views.Links.{source_of}
 use Rattle.lf_graph.specs.views.Buckets.{put_at}
 use Rattle.lf_forks.specs.views.Uses.{Puts}
 use Rattle.lf_forks.proofs.Puts.{puts_one}
 use Rattle.lf_forks.proofs.uses.put.Goals as goal
-
-on_ok : {X E : Type 0} (P Q : Type 0) (r : Result X E) → (P → Q) → OnOk r P → OnOk r Q
-on_ok P Q (Ok x) h p = h p
-on_ok P Q (Err e) h p = tt
 
 pub returns-in-None : goal.returns-in-None
 returns-in-None c =
@@ -20,4 +17,4 @@ returns-in-None c =
     let Q : Option Bytes → Type 0 = λ o. Puts true (source_of names o) c.args.place uses later in
     let put : later ≡ put_at uses c.len.result c.args.place → Q c.args.selector.now = λ is.
     subst Q (sym c.in-None.is) (subst P c.len.ensures.count (puts_one c.len.result c.args.place uses later (omega (arith, c.len.ensures.count, c.requires)) is)) in
-    on_ok (later ≡ put_at uses c.len.result c.args.place) (Q c.args.selector.now) c.push.result put c.push.ensures
+    on_ok_weaker c.push.result put c.push.ensures

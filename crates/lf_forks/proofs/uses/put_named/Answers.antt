@@ -1,16 +1,13 @@
 use Rattle.std.proofs.Common.{◌≡◌, ◌<◌, true, ℕ, List, [], ◌∷◌, cond, nat_lt, Bool, length, sym, ◌∙◌, ap, subst, arith}
 use Rattle.std.specs.Prelude.{OnOk, Result, Ok, Err}
 use Rattle.std.proofs.lemmas.Bool.{lt-ltb}
+use Rattle.std.proofs.lemmas.Result.{on_ok_weaker}
 use Rattle.lf_ast.specs.Labels.{Bytes}
 use Rattle.lf_graph.specs.views.Buckets.{put_at}
 use Rattle.lf_semantics.specs.Listing.{place}
 use Rattle.lf_forks.specs.views.Uses.{Puts}
 use Rattle.lf_forks.proofs.Puts.{puts_one}
 use Rattle.lf_forks.proofs.uses.put_named.Goals as goal
-
-on_ok : {X E : Type 0} (P Q : Type 0) (r : Result X E) → (P → Q) → OnOk r P → OnOk r Q
-on_ok P Q (Ok x) h p = h p
-on_ok P Q (Err e) h p = tt
 
 pub returns-then-node-len : goal.returns-then-node-len
 returns-then-node-len c =
@@ -24,4 +21,4 @@ returns-then-node-len c =
     let Q : Bool → Type 0 = λ b. Puts true (cond b (place names c.args.name.now ∷ []) []) c.args.place uses later in
     let put : later ≡ put_at uses node c.args.place → Q (nat_lt (place names c.args.name.now) (length names)) = λ is.
     subst Q (sym (lt-ltb (place names c.args.name.now) (length names) within)) (subst P at (puts_one node c.args.place uses later (omega (arith, at, within, c.requires)) is)) in
-    on_ok (later ≡ put_at uses node c.args.place) (Q (nat_lt (place names c.args.name.now) (length names))) c.push.result put c.push.ensures
+    on_ok_weaker c.push.result put c.push.ensures

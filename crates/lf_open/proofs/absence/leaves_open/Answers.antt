@@ -1,8 +1,8 @@
 use Rattle.std.proofs.Common.{ap}
 use Rattle.lf_semantics.specs.Parts.{Sought}
 use Rattle.std.proofs.Common.{◌∙◌}
-use Rattle.lf_open.specs.views.Absence.{has_two}
-use Rattle.lf_open.proofs.Absences.{opens_by}
+use Rattle.lf_witness.specs.views.Absence.{has_two}
+use Rattle.lf_witness.proofs.OpenAbsences.{opens_by}
 use Rattle.lf_open.proofs.absence.leaves_open.Goals as goal
 
 pub returns-else-sought : goal.returns-else-sought

@@ -2,7 +2,7 @@ use Rattle.std.proofs.Common.{◌≡◌}
 use Rattle.lf_ast.specs.Tree.{tree}
 use Rattle.lf_ast.proofs.Walks.{weight}
 use Rattle.lf_semantics.specs.Parts.{sought_by}
-use Rattle.lf_open.specs.views.Absence.{also_bare}
+use Rattle.lf_witness.specs.views.Absence.{also_bare}
 use Rattle.lf_open.proofs.absence.sought_by.Given as goal
 
 abbrev pub invariant-loop-inner : goal.invariant-loop-inner

@@ -1,14 +1,14 @@
 use Rattle.std.proofs.Common.{ℕ, List, get_or, refl}
+use Rattle.std.proofs.lemmas.List.Elements.{Contains-get_or}
 use Rattle.lf_open.specs.views.Known.{rules_of}
 use Rattle.lf_open.proofs.FirstOfEach.{first_more}
-use Rattle.lf_open.proofs.Joined.{member_at}
 use Rattle.lf_open.proofs.firsts.first_of_others.Goals as goal
 
 pub other_first-requires-clause-rule : goal.other_first-requires-clause-rule
 other_first-requires-clause-rule c =
     let numbers : List ℕ = c.args.numbers.now in
     let k : ℕ = c.loop-number.number-index in
-    c.requires.rules (get_or numbers k 0) (member_at numbers k 0 c.loop-number-test.true)
+    c.requires.rules (get_or numbers k 0) (Contains-get_or numbers k 0 c.loop-number-test.true)
 
 pub loop-number-preserved : goal.loop-number-preserved
 loop-number-preserved c =

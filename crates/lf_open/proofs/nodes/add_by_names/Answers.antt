@@ -1,4 +1,5 @@
 use Rattle.std.proofs.Common.{◌≡◌, ◌⊎◌, IsTrue, List, Some, subst}
+use Rattle.std.proofs.lemmas.Result.{on_ok_weaker}
 use Rattle.lf_base.specs.declared.place.Span.{Span}
 use Rattle.lf_ast.specs.Rules.{RuleTree}
 use Rattle.lf_ast.specs.Tree.{Tree, tree}
@@ -11,7 +12,7 @@ use Rattle.lf_open.specs.declared.construct.Construct.TheVariants.{CyclicName, F
 use Rattle.lf_open.specs.declared.open_at.OpenAt.{OpenAt}
 use Rattle.lf_open.specs.views.Adding.{Adds, IsAt, IsByNames}
 use Rattle.lf_open.specs.views.Known.{rules_of}
-use Rattle.lf_open.proofs.Added.{adds_both, on_ok}
+use Rattle.lf_open.proofs.Added.{adds_both}
 use Rattle.lf_open.proofs.NodeLaws.{one_at}
 use Rattle.lf_open.proofs.nodes.add_by_names.Goals as goal
 
@@ -31,7 +32,7 @@ returns c =
     let b : Adds (IsAt rules k e (NarrowsFork rules e) Forked) first second =
     one_at rules k Forked e (NarrowsFork rules e) c.in_ok-narrowed.narrowed first second c.in_ok-narrowed.ensures
     (subst (λ (s : Span). Adds (λ o. IsTrue c.in_ok-narrowed.narrowed × (o ≡ record { construct = Forked; rule = k; span = s })) first second) c.span_of-span.ensures c.in_ok-add_if-2.ensures) in
-    on_ok (Adds (λ o. IsTrue c.is_open_absent-absent.result × (o ≡ record { construct = OpenAbsent; rule = k; span = c.span_of-span.result })) second new) (Adds (IsByNames rules k e) old new) c.add_if-3.result
+    on_ok_weaker {P = Adds (λ o. IsTrue c.is_open_absent-absent.result × (o ≡ record { construct = OpenAbsent; rule = k; span = c.span_of-span.result })) second new} {Q = Adds (IsByNames rules k e) old new} c.add_if-3.result
     (λ added.
     let d : Adds (IsAt rules k e Leaves OpenAbsent) second new =
     one_at rules k OpenAbsent e Leaves c.is_open_absent-absent.result second new c.is_open_absent-absent.ensures

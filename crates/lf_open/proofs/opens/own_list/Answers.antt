@@ -1,7 +1,7 @@
 use Rattle.std.proofs.Common.{◌≡◌, ℕ, List, Some, refl, sym, ◌∙◌, subst, slice_get}
+use Rattle.lf_laws.proofs.Slices.{member_at}
 use Rattle.lf_ast.specs.Rules.{RuleTree, rule_tree}
 use Rattle.lf_deps.proofs.LookedUp.{selected_is}
-use Rattle.lf_deps.proofs.Numbered.{at_number}
 use Rattle.lf_deps.proofs.RuleTrees.{tree_at}
 use Rattle.lf_open.specs.OpenList.{AreOpenOf}
 use Rattle.lf_open.specs.declared.open_at.OpenAt.{OpenAt}
@@ -21,7 +21,7 @@ pub open_in-requires-clause-rule : goal.open_in-requires-clause-rule
 open_in-requires-clause-rule c =
     let rules : List RuleTree = rules_of c.args.known.now in
     let r : RuleTree = rule_tree c.get.result.now in
-    (r, at_number rules c.args.k r (tree_at c.args.known.now.rules.now c.args.k c.get.result.now c.get.ensures.value), refl)
+    (r, member_at rules c.args.k r (tree_at c.args.known.now.rules.now c.args.k c.get.result.now c.get.ensures.value), refl)
 
 pub returns : goal.returns
 returns c =

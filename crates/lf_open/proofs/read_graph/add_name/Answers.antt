@@ -2,7 +2,7 @@ use Rattle.std.proofs.Common.{◌∷◌, [], List, Option, sym, ◌∙◌, ap, s
 use Rattle.lf_ast.specs.Labels.{Bytes}
 use Rattle.lf_classes.specs.views.TextSets.{with_text}
 use Rattle.lf_deps.specs.views.Search.{Grows}
-use Rattle.lf_open.proofs.Grown.{grows_text}
+use Rattle.lf_deps.proofs.Followed.{grows_text}
 use Rattle.lf_open.specs.views.ReadNames.{said_name}
 use Rattle.lf_open.proofs.read_graph.add_name.Goals as goal
 

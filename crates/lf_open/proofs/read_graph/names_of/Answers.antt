@@ -3,7 +3,7 @@ use Rattle.std.specs.List.{flat_map}
 use Rattle.lf_ast.specs.Labels.{Bytes}
 use Rattle.lf_ast.specs.Rules.{rule_trees}
 use Rattle.lf_deps.specs.views.Search.{Grows}
-use Rattle.lf_open.proofs.Grown.{grows_more, grows_none, grows_whole}
+use Rattle.lf_deps.proofs.Followed.{grows_more, grows_none, grows_whole}
 use Rattle.lf_semantics.specs.Environments.{recorded_names}
 use Rattle.lf_open.specs.views.ReadNames.{said_names}
 use Rattle.lf_open.proofs.ReadTables.{have_names}

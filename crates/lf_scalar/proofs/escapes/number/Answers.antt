@@ -16,4 +16,4 @@ none-of None h = refl
 none-of (Some x) h = absurd (h x refl)
 
 pub returns-in_default : goal.returns-in_default
-returns-in_default c = sym (c.loop-byte.invariant.1 ∙ told-none c.args.at c.args.digits.now c.loop-byte.byte-index c.loop-byte-test.true c.loop-byte.value (none-of c.digit.result c.in_default.not-Some ∙ c.digit.ensures.value))
+returns-in_default c = sym (c.loop-byte.invariant.1 ∙ told-none c.args.at c.args.digits.now c.loop-byte.byte-index c.loop-byte-test.true c.loop-byte.value (none-of c.hexadecimal_value.result c.in_default.not-Some ∙ c.hexadecimal_value.ensures.value))

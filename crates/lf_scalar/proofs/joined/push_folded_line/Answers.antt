@@ -1,5 +1,6 @@
-use Rattle.std.proofs.Common.{eqb-true, sym, ◌∙◌, ◌<◌, length}
-use Rattle.lf_scalar.proofs.FoldedRun.{not-empty, empty-first, full-open, full-first}
+use Rattle.std.proofs.Common.{eqb-true, sym, ◌∙◌, ◌<◌, length, arith}
+use Rattle.std.proofs.lemmas.Bool.Decides.{nat_tests}
+use Rattle.lf_scalar.proofs.FoldedRun.{empty-first, full-open, full-first}
 use Rattle.lf_scalar.proofs.joined.push_folded_line.Goals as goal
 use Rattle.lf_scalar.proofs.joined.push_folded_line.Goals.{in-Some-last+in_ok-push_between-in-Some-last, in-None-last}
 
@@ -9,7 +10,7 @@ returns-in_ok-push-in-None-clause-value c = λ ls.
 
 pub returns-clause-value : goal.returns-clause-value
 returns-clause-value c = λ ls.
-    let lt : 0 < length c.args.text.now = not-empty (length c.args.text.now) c.is_empty.result c.is_empty.ensures c.if-is_empty.false in
+    let lt : 0 < length c.args.text.now = grind (arith, nat_tests) in
     elim c.match-last-2.branch [
       | in-Some-last+in_ok-push_between-in-Some-last w ↦ rw w.in-Some-last.is (full-open c.args.builder.now c.copy.new.builder c.args.at c.args.feed c.args.text.now w.in-Some-last.last c.is_blank_byte-blank.result w.push_between.new.builder ls lt c.is_blank_byte-blank.ensures
           w.in_ok-push_between-in-Some-last.ensures (rw w.builder-is at c.in_ok-copy.ensures))

@@ -4,7 +4,8 @@ use Rattle.std.specs.Ordering.{eq_by_cmp}
 use Rattle.lf_ast.specs.Labels.{Labels}
 use Rattle.lf_ast.specs.LabelOrder.{labels_cmp}
 use Rattle.lf_strict.specs.views.Apart.{AreApart}
-use Rattle.lf_strict.proofs.Times.{none_repeated, repeated_moved, rising_ascends, same_moved, sorted_rises, told_same, twice_there}
+use Rattle.lf_strict.proofs.Times.{none_repeated, repeated_moved, rising_ascends, same_moved, sorted_rises, twice_there}
+use Rattle.lf_witness.proofs.Decided.{told_same}
 use Rattle.lf_strict.proofs.apart.apart.Goals as goal
 
 pub returns-then-has_equal_neighbours : goal.returns-then-has_equal_neighbours

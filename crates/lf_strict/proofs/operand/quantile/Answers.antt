@@ -1,6 +1,7 @@
 use Rattle.std.proofs.Common.{Option, List, Result, Ok, Err, Some, sym, ◌∙◌, ap, subst}
 use Rattle.std.specs.Prelude.{IfOk, IfSome, codes}
 use Rattle.std.specs.Str.{bytes_eq}
+use Rattle.std.proofs.lemmas.Result.{IfOk-weaker}
 use Rattle.lf_ast.specs.Labels.{Labels}
 use Rattle.lf_semantics.specs.Evaluation.{IsQuantile}
 use Rattle.lf_semantics.specs.Texts.{value_of}
@@ -12,10 +13,6 @@ use Rattle.lf_strict.proofs.Filtered.{ascending_filter}
 use Rattle.lf_strict.proofs.LastBuckets.{IsUnbucketed, quantile_apart}
 use Rattle.lf_strict.proofs.operand.quantile.Goals as goal
 
-if_ok : {X E : Type 0} {P Q : X → Type 0} (r : Result X E) → ((x : X) → P x → Q x) → IfOk r P → IfOk r Q
-if_ok (Ok x) f p = f x p
-if_ok (Err e) f p = tt
-
 pub made_apart-requires : goal.made_apart-requires
 made_apart-requires c =
     let is = c.in_ok-last-in-Some.ensures ∙ ap last_buckets c.as_slice.ensures in
@@ -26,6 +23,6 @@ returns-in_ok-last-in-Some c = λ W e given.
     let P : List Labels = c.in-Some.samples in
     let is = c.in_ok-last-in-Some.ensures ∙ ap last_buckets c.as_slice.ensures in
     let some : InOrder (StrictlyEvaluates W e) (Some P) = subst (IsStrictAnswer W e) c.in-Some.is given in
-    if_ok c.made_apart.result
+    IfOk-weaker c.made_apart.result _ _
     (λ o made. from_some (StrictlyEvaluates W e) (λ P. MadeApart IsQuantile (last_buckets P)) P some o (quantile_apart P o (subst (λ (l : List Labels). InOrder (MadeApart IsUnbucketed l) o) is made)))
     c.made_apart.ensures

@@ -1,10 +1,10 @@
 use Rattle.std.proofs.Common.{sym, subst}
 use Rattle.std.specs.Prelude.{IfOk}
+use Rattle.std.proofs.lemmas.Result.{IfOk-weaker}
 use Rattle.lf_ast.specs.declared.expr.Op.{Op}
 use Rattle.lf_witness.specs.Strict.{From, StrictCombines, StrictPairs, StrictlyEvaluates}
 use Rattle.lf_witness.specs.StrictRuns.{InOrder}
 use Rattle.lf_strict.proofs.ManySide.{from_more, pairs_combine}
-use Rattle.lf_strict.proofs.StoredSamples.{if_ok}
 use Rattle.lf_strict.proofs.pairs.combine.Goals as goal
 
 pub returns-in-And : goal.returns-in-And
@@ -26,6 +26,6 @@ pub returns-in_default : goal.returns-in_default
 returns-in_default c = λ W d e left right.
     let op = c.args.op in
     let m = c.args.matching.now in
-    if_ok c.joined.result
+    IfOk-weaker c.joined.result _ _
     (from_more (StrictlyEvaluates W d) (StrictlyEvaluates W e) (StrictPairs op m) (StrictCombines op m) (λ P Q. pairs_combine op m P Q c.in_default.not-And c.in_default.not-Or c.in_default.not-Unless))
     (c.joined.ensures W d e left right)

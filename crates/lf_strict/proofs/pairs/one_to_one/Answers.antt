@@ -1,5 +1,6 @@
 use Rattle.std.proofs.Common.{inl, inr, Result, List, Option, refl, sym, subst}
 use Rattle.std.specs.Prelude.{IfOk}
+use Rattle.std.proofs.lemmas.Result.{IfOk-weaker}
 use Rattle.lf_ast.specs.Labels.{Labels}
 use Rattle.lf_ast.specs.declared.expr.Group.{Group}
 use Rattle.lf_ast.specs.declared.expr.Group.TheVariants.{One}
@@ -8,7 +9,6 @@ use Rattle.lf_witness.specs.Strict.{HasTwoAlike, IsAmbiguous, StrictPairs}
 use Rattle.lf_witness.specs.StrictRuns.{InOrder}
 use Rattle.lf_strict.specs.views.Paired.{AreIndexed, IsIndex}
 use Rattle.lf_strict.proofs.ManySide.{from_left, none_alike, same_out}
-use Rattle.lf_strict.proofs.StoredSamples.{if_ok}
 use Rattle.lf_strict.proofs.pairs.one_to_one.Goals as goal
 use Rattle.lf_strict.proofs.pairs.one_to_one.Goals.{in-None, in-Some}
 
@@ -32,6 +32,6 @@ returns c =
             | inr two ↦ two
           ] in
           subst fine (sym w.result-is)
-          (if_ok w.many_to_one.result (from_left op m P Q (same_out op m P Q One c.requires.group (λ s t. refl)) (λ two. subst ambiguous (sym c.requires.group) (inr two)) back) w.many_to_one.ensures)
+          (IfOk-weaker w.many_to_one.result _ _ (from_left op m P Q (same_out op m P Q One c.requires.group (λ s t. refl)) (λ two. subst ambiguous (sym c.requires.group) (inr two)) back) w.many_to_one.ensures)
           )
     ]

@@ -1,12 +1,12 @@
 use Rattle.std.proofs.Common.{◌≡◌, ◌<◌, ℕ, true, false, List, None, length, sym, subst}
 use Rattle.std.specs.List.{Contains}
+use Rattle.std.proofs.lemmas.Result.{IfOk-weaker}
 use Rattle.lf_ast.specs.Labels.{Labels}
 use Rattle.lf_ast.specs.Rules.{rule_trees}
 use Rattle.lf_ast.specs.Tree.{tree}
 use Rattle.lf_ast.specs.declared.rule.Rule.{Rule}
 use Rattle.lf_strict.specs.Steps.{IsAnswerAfter, rules_at}
 use Rattle.lf_strict.proofs.AfterRuns.{answer_after, none_after, stretch}
-use Rattle.lf_strict.proofs.Operands.{if_ok}
 use Rattle.lf_strict.proofs.running.strict_after.Goals as goal
 
 pub run_steps-requires : goal.run_steps-requires
@@ -19,7 +19,7 @@ returns-then-branch c =
     let rules : List Rule = c.args.rules.now in
     let steps : List ℕ = c.args.steps.now in
     let ran = stretch W V rules c.as_slice.result.now steps c.as_slice-2.result.now c.in_ok-run_steps.field-0 true c.as_slice.ensures c.as_slice-2.ensures c.if-branch.true c.in_ok-run_steps.ensures in
-    if_ok c.evaluate.result (λ told is. answer_after c.args.series.now W V (rules_at (rule_trees rules) steps) (tree c.args.expr.now) c.in_ok-store.ensures ran told is) c.evaluate.ensures
+    IfOk-weaker c.evaluate.result _ _ (λ told is. answer_after c.args.series.now W V (rules_at (rule_trees rules) steps) (tree c.args.expr.now) c.in_ok-store.ensures ran told is) c.evaluate.ensures
 
 pub returns : goal.returns
 returns c =

@@ -1,12 +1,12 @@
 use Rattle.std.proofs.Common.{◌≡◌, ◌<◌, ◌+◌, ◌↔◌, ◌∷◌, [], ℕ, List, Option, Some, None, length, refl, sym, ◌∙◌, ap, subst, arith}
 use Rattle.std.specs.List.{Contains}
+use Rattle.std.proofs.lemmas.Result.{IfOk-weaker}
 use Rattle.lf_ast.specs.Labels.{Bytes}
 use Rattle.lf_ast.specs.Rules.{RuleTree}
 use Rattle.lf_graph.specs.Components.{AreComponents, Components}
 use Rattle.lf_graph.specs.Paths.{IsReached}
 use Rattle.lf_semantics.specs.Listing.{place}
 use Rattle.lf_open.specs.views.ReadNames.{AreNumbersBy, IsPlaced, IsReadGraph, ReadGraph}
-use Rattle.lf_open.proofs.MarkedNames.{all_ok}
 use Rattle.lf_open.proofs.ReadPaths.{node_numbered, numbers_are}
 use Rattle.lf_open.proofs.read_graph.ReadGraph.numbers_by.Goals as goal
 
@@ -30,7 +30,7 @@ returns c = λ rules of.
     let edges : List (List ℕ) = is.edges.0 in
     let placed : IsPlaced names name = subst (λ (g : ReadGraph). IsPlaced g.names name) (sym c.self.view_is) c.requires.placed in
     let own : (m : Bytes) → Some name ≡ Some m → IsPlaced names m = λ m e. subst (IsPlaced names) (ap (λ (o : Option Bytes). elim o [ None ↦ name | Some x ↦ x ]) e) placed in
-    all_ok (λ found. (e : List (List ℕ)) → AreComponents e c.self.inside.graph → (k : ℕ) → Contains found k ↔ ((k < c.len.result) × IsReached e (c.place.result ∷ []) k)) (λ found. AreNumbersBy rules c.args.self.now.names (Some name) found) c.reached_names.result
+    IfOk-weaker c.reached_names.result (λ found. (e : List (List ℕ)) → AreComponents e c.self.inside.graph → (k : ℕ) → Contains found k ↔ ((k < c.len.result) × IsReached e (c.place.result ∷ []) k)) (λ found. AreNumbersBy rules c.args.self.now.names (Some name) found)
     (λ found h. subst (λ (g : ReadGraph). AreNumbersBy rules g.names (Some name) found) c.self.view_is
     (numbers_are rules names is.names edges is.edges.1 (Some name) own found
     (λ k. subst (λ (n : ℕ). Contains found k ↔ ((k < n) × IsReached edges (place names name ∷ []) k)) c.len.ensures.count

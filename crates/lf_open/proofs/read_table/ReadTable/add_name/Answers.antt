@@ -1,11 +1,11 @@
 use Rattle.std.proofs.Common.{◌≡◌, ◌<◌, ◌∷◌, ◌++◌, [], ℕ, List, length, sym, ◌∙◌, subst}
+use Rattle.std.proofs.lemmas.Result.{on_ok_weaker}
 use Rattle.lf_ast.specs.Labels.{Bytes}
 use Rattle.lf_ast.specs.Rules.{RuleTree}
 use Rattle.lf_classes.specs.views.TextSets.{with_text}
 use Rattle.lf_semantics.specs.Listing.{place}
 use Rattle.lf_open.specs.declared.read_table.ReadTable.{ReadTable}
 use Rattle.lf_open.specs.views.ReadNames.{AreRead, IsReadGraph}
-use Rattle.lf_open.proofs.Added.{on_ok}
 use Rattle.lf_open.proofs.ReadTables.{more_read, text_kept, text_new}
 use Rattle.lf_open.proofs.read_table.ReadTable.add_name.Goals as goal
 
@@ -17,7 +17,7 @@ returns-in_ok-read-clause-read c =
     let all : List Bytes = c.args.graph.now.names in
     let at : place old.names name ≡ length old.names = sym c.in_ok-place.ensures.place ∙ c.if-place-len.true ∙ c.len.ensures ∙ c.requires.count in
     let names : c.add.new.self ≡ old.names ++ name ∷ [] = c.in_ok-place.ensures.ok ∙ text_new old.names name at in
-    on_ok (c.push.new.self ≡ old.reads ++ c.in_ok-read.read ∷ []) ((rules : List RuleTree) → IsReadGraph rules c.args.graph.now → AreRead rules all old → AreRead rules all new) c.push.result
+    on_ok_weaker {P = c.push.new.self ≡ old.reads ++ c.in_ok-read.read ∷ []} {Q = (rules : List RuleTree) → IsReadGraph rules c.args.graph.now → AreRead rules all old → AreRead rules all new} c.push.result
     (λ reads rules is are. more_read rules all name old new c.in_ok-read.read c.requires.count names reads (c.in_ok-read.ensures rules is) are) c.push.ensures.ok
 
 pub returns-else-place-len-clause-read : goal.returns-else-place-len-clause-read

@@ -1,8 +1,9 @@
 use Rattle.std.proofs.Common.{List, sym, subst}
+use Rattle.std.proofs.lemmas.Result.{IfOk-weaker}
 use Rattle.lf_ast.specs.Labels.{Labels}
 use Rattle.lf_witness.specs.Ascending.{IsAscending}
 use Rattle.lf_witness.specs.Strict.{AreSelected}
-use Rattle.lf_strict.proofs.StoredSamples.{if_ok, selected_of}
+use Rattle.lf_strict.proofs.StoredSamples.{selected_of}
 use Rattle.lf_strict.proofs.store.Store.select.Goals as goal
 
 pub select-requires : goal.select-requires
@@ -14,6 +15,6 @@ returns-in_ok-all-in-None c =
     let V : List Labels = c.in_ok-all-in-None.all in
     let name = c.args.name.now in
     let ms = c.args.matchers.now in
-    if_ok c.select.result
+    IfOk-weaker c.select.result _ _
     (λ R is. (selected_of W V name ms R c.in_ok-all-in-None.ensures.same.1 (λ s d named each. c.in_ok-all-in-None.ensures.same.0 s d) (subst (λ (l : List Labels). AreSelected l name ms R) c.as_slice.ensures is.0), is.1))
     c.select.ensures

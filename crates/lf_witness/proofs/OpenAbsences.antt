@@ -1,54 +1,18 @@
--- Which `absent` is open.
-use Rattle.std.proofs.Common.{◌≡◌, inl, inr, ◌<◌, Bool, true, false, not, ◌&&◌, ◌||◌, nat_lt, List, [], ◌∷◌, length, Option, Some, None, option_map, refl, sym, ap, ◌∙◌, subst, true≢false, arith}
+-- An `absent` is open where its sample may be bare, or two matchers are on one label.
+use Rattle.std.proofs.Common.{◌≡◌, inl, inr, ◌<◌, Bool, true, false, not, ◌&&◌, ◌||◌, nat_lt, List, [], ◌∷◌, length, Some, refl, sym, ap, ◌∙◌, subst, true≢false, arith}
 use Rattle.std.specs.Prelude.{◌↔◌, IsTrue}
-use Rattle.std.proofs.lemmas.Bool.{or_cases}
+use Rattle.std.proofs.lemmas.Bool.{or_cases, or_left, or_right}
 use Rattle.std.proofs.lemmas.Bool.Decides.{nat_tests}
-use Rattle.std.specs.List.{Contains, filter, list_any}
+use Rattle.std.specs.List.{Contains, filter}
 use Rattle.std.specs.Str.{bytes_eq}
-use Rattle.lf_laws.proofs.Members.{behind, first_or_behind, here, none_in}
+use Rattle.lf_laws.proofs.Members.{any_has, here, some_has}
 use Rattle.lf_ast.specs.Labels.{Bytes}
 use Rattle.lf_ast.specs.declared.expr.Matcher.{Matcher}
 use Rattle.lf_semantics.proofs.Members.{of_filter, true_same}
 use Rattle.lf_semantics.specs.Grouped.{is_metric}
 use Rattle.lf_semantics.specs.Parts.{Sought}
 use Rattle.lf_witness.specs.Strict.{IsOpenAbsent}
-use Rattle.lf_open.specs.views.Absence.{also_bare, has_two, is_twice}
-
--- selectors in parentheses
-
-pub not_outside : (sought : Option Sought) → also_bare false sought ≡ sought
-not_outside None = refl
-not_outside (Some s) = refl
-
-pub in_parentheses : (outside : Bool) (sought : Option Sought) → also_bare true sought ≡ also_bare outside (option_map (λ s. record { matchers = s.matchers; may_be_bare = true }) sought)
-in_parentheses true None = refl
-in_parentheses false None = refl
-in_parentheses true (Some s) = refl
-in_parentheses false (Some s) = refl
-
--- two matchers on a label
-
-any_of : {X : Type 0} (p : X → Bool) (xs : List X) → list_any p xs ≡ true → (x : X) × Contains xs x × (p x ≡ true)
-any_of p [] e = absurd (true≢false (sym e))
-any_of p (x ∷ xs) e = elim (or_cases (p x) (list_any p xs) e) [
-  | inl first ↦ (x, here x xs, first)
-  | inr later ↦ (let found = any_of p xs later in (found.0, behind x xs found.0 found.1, found.2))
-]
-
-or_right : (a b : Bool) → b ≡ true → (a || b) ≡ true
-or_right true b e = refl
-or_right false b e = e
-
-or_left : (a b : Bool) → a ≡ true → (a || b) ≡ true
-or_left true b e = refl
-or_left false b e = absurd (true≢false (sym e))
-
-any_in : {X : Type 0} (p : X → Bool) (xs : List X) (x : X) → Contains xs x → p x ≡ true → list_any p xs ≡ true
-any_in p [] x c e = absurd (none_in x c)
-any_in p (y ∷ xs) x c e = elim (first_or_behind y xs x c) [
-  | inl same ↦ or_left (p y) (list_any p xs) (subst (λ z. p z ≡ true) (sym same) e)
-  | inr later ↦ or_right (p y) (list_any p xs) (any_in p xs x later e)
-]
+use Rattle.lf_witness.specs.views.Absence.{has_two, is_twice}
 
 -- the matchers on a label
 abbrev on : Bytes → List Matcher → List Matcher
@@ -75,7 +39,7 @@ opens matchers bare = (
   λ e. elim (or_cases bare (has_two matchers) e) [
     | inl may ↦ inl may
     | inr two ↦ (
-        let found = any_of (λ m. is_twice matchers m.label) matchers two in
+        let found = some_has (λ m. is_twice matchers m.label) matchers two in
         let is = twice_is (is_metric found.0.label) (length (on found.0.label matchers)) found.2 in
         inr (found.0.label, is.0, is.1)
         )
@@ -85,7 +49,7 @@ opens matchers bare = (
     | inr two ↦ (
         let at = on_one matchers two.0 two.2 in
         let same = subst (λ label. is_twice matchers label ≡ true) (sym at.2) (twice (is_metric two.0) (length (on two.0 matchers)) two.1 two.2) in
-        or_right bare (has_two matchers) (any_in (λ m. is_twice matchers m.label) matchers at.0 at.1 same)
+        or_right bare (has_two matchers) (any_has (λ m. is_twice matchers m.label) matchers at.0 at.1 same)
         )
   ],
 )
