@@ -44,14 +44,36 @@ pub(crate) fn match_label(
     let nodes = nodes_of(alloc, &rule.expr)?;
     let rows = rows_by_parts(alloc, universe, env, &rule.expr)?;
     let conditions = conditions_by_parts(alloc, &rule.expr)?;
+    let parts = nodes.as_slice();
+    let parts_rows = rows.as_slice();
+    let parts_conditions = conditions.as_slice();
+    judge_parts(alloc, universe, parts, parts_rows, parts_conditions)
+}
+
+/// What is told of the labels that parts seek on their operands, by the rows of the own parts of each, and by what these are.
+fn judge_parts(
+    alloc: Global,
+    universe: &Universe,
+    parts: &[&Expr],
+    rows: &[Seq<Row>],
+    conditions: &[Seq<Condition>],
+) -> Result<Vec<Finding>, Memory>
+    requires listing { IsListing universe.now }
+    requires rows { (env : Environment) × IsEnvironment universe.now env × (rows.now ≡ map (λ x. map (row_of universe.now env) (parts_of x)) (trees_at parts.now)) }
+    requires conditions { conditions.now ≡ map (λ x. map condition_of (parts_of x)) (trees_at parts.now) }
+    ensures { (env : Environment) → rows.now ≡ map (λ x. map (row_of universe.now env) (parts_of x)) (trees_at parts.now) → IfOk result (λ found. Adds (OfSome (IsOfPart universe.now env) (trees_at parts.now)) [] found.items) }
+{
     let mut found = Vec::new(alloc);
-    for k in 0..nodes.len() {
+    for k in 0..parts.len() {
+        let part = node_at(parts, k);
+        let own_rows = group_at(rows, k);
+        let own_conditions = group_at(conditions, k);
         judge_part(
             alloc,
             universe,
-            node_at(nodes.as_slice(), k),
-            group_at(rows.as_slice(), k),
-            group_at(conditions.as_slice(), k),
+            part,
+            own_rows,
+            own_conditions,
             &mut found,
         )?;
     }
