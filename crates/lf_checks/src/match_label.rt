@@ -68,14 +68,7 @@ fn judge_parts(
         let part = node_at(parts, k);
         let own_rows = group_at(rows, k);
         let own_conditions = group_at(conditions, k);
-        judge_part(
-            alloc,
-            universe,
-            part,
-            own_rows,
-            own_conditions,
-            &mut found,
-        )?;
+        judge_part(alloc, universe, part, own_rows, own_conditions, &mut found)?;
     }
     Ok(found)
 }

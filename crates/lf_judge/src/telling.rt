@@ -28,7 +28,7 @@ use lf_checks::Checker;
 use lf_classes::Universe;
 use lf_flow::Env;
 use lf_open::OpenAt;
-use lf_report::{Finding, RuleReport, Position};
+use lf_report::{Finding, Position, RuleReport};
 use std::alloc::Global;
 use std::thread::Threads;
 
