@@ -44,5 +44,5 @@ pub returns : goal.returns
 returns c = λ env are.
     let all = trees_at c.args.parts.now in
     let count = length-map c.args.parts.now (λ (b : Bor Expr). tree b.now) in
-    let end : length all ≤ c.loop-k.k = omega (arith, count, c.loop-k-test.false, c.len-k-end.ensures) in
+    let end : length all ≤ c.loop-k.k = omega (arith, count, c.loop-k-test.false) in
     subst (λ (xs : List Tree). Adds (OfSome (IsOfPart c.args.universe.now env) xs) [] c.loop-k.found.items) (take_all c.loop-k.k all end) (c.loop-k.invariant env are)
