@@ -2,6 +2,7 @@
 use Rattle.std.proofs.Common.{◌≡◌, ◌≤◌, ◌<◌, ◌*◌, ℕ, zero, suc, Bool, List, [], ◌∷◌, length, Option, Some, None, refl, sym, ap, ap₂, ◌∙◌, subst, arith}
 use Rattle.std.specs.Prelude.{option_and_then, slice_get}
 use Rattle.std.specs.List.{find}
+use Rattle.lf_laws.proofs.Options.{same_option}
 use Rattle.lf_ast.specs.Labels.{Bytes}
 use Rattle.lf_ast.specs.Rules.{RuleTree}
 use Rattle.lf_ast.specs.Tree.{Tree}
@@ -11,17 +12,12 @@ use Rattle.lf_trials.specs.Built.{IsBuilt, building_of, selector_count, start_te
 use Rattle.lf_trials.specs.Candidates.{candidates_in, has_presence}
 use Rattle.lf_trials.specs.Given.{giving, nothing_given}
 use Rattle.lf_trials.specs.Reached.{IsReach, Trial, with_reach}
-use Rattle.lf_trials.proofs.OneVerdict.{one_reach, one_test, same_option}
+use Rattle.lf_trials.proofs.OneVerdict.{one_reach, one_test}
 use Rattle.lf_candidates.specs.views.Told.{AnswersFor}
 use Rattle.lf_built.specs.declared.prepared.Prepared.{Prepared}
 use Rattle.lf_built.specs.views.Begun.{IsTrialOf, begun_of}
 use Rattle.lf_built.specs.views.Built.{IsOfRule}
 use Rattle.lf_built.specs.views.Indexed.{env_of, forks_of, trees_of, universe_of}
-
-pub some_rule : (rules : List RuleTree) (k : ℕ) → k < length rules → (r : RuleTree) × (slice_get rules k ≡ Some r)
-some_rule [] k less = absurd (omega (arith, less))
-some_rule (r ∷ rules) zero less = (r, refl)
-some_rule (r ∷ rules) (suc k) less = some_rule rules k (omega (arith, less))
 
 module _ (p : Prepared) (i : ℕ) (row : Sets) (most : ℕ) (of : IsOfRule p i row most) (label : Bytes) (presence : Bool) (text : Bytes) (found : find (has_presence presence) (candidates_in (universe_of p) row label) ≡ Some text) where
   abbrev whole : Option Building

@@ -25,12 +25,6 @@ one_less most s t large e less =
     let times : (most - s) * large ≡ (k + 1) * large = ap (λ n. n * large) up in
     omega (arith, times)
 
-pub selector_less : (p : Prepared) (most : ℕ) (before after : Work) → after.made.selectors ≡ before.made.selectors + 1 → before.made.selectors < most → stack_of after ≡ stack_of before → effort p most after ≤ effort p most before
-selector_less p most before after e less stack =
-    let a = one_less most before.made.selectors after.made.selectors (largest (trees_of p)) e less in
-    let b : sum_by weight (stack_of after) ≡ sum_by weight (stack_of before) = ap (sum_by weight) stack in
-    omega (arith, a, b)
-
 pub parts_less : (p : Prepared) (most n : ℕ) (parts : Parts) (before after : Work) → sum_by weight (tasks_of parts) + 1 ≤ n → after.made.selectors ≡ before.made.selectors → stack_of after ≡ tasks_of parts ++ stack_of before
     → effort p most after + 1 ≤ effort p most before + n
 parts_less p most n parts before after less made stack =
@@ -46,12 +40,6 @@ entered_less p most k r visit finish before after is v f e less stack =
     let b : sum_by weight (stack_of after) ≡ weight visit + (weight finish + sum_by weight (stack_of before)) =
     ap (sum_by weight) stack ∙ sum_by-cons weight visit (finish ∷ stack_of before) ∙ ap (λ n. weight visit + n) (sum_by-cons weight finish (stack_of before)) in
     omega (arith, a, b, fits, v, f)
-
-pub same_less : (p : Prepared) (most : ℕ) (before after : Work) → after.made.selectors ≡ before.made.selectors → stack_of after ≡ stack_of before → effort p most after ≤ effort p most before
-same_less p most before after made stack =
-    let a : (most - after.made.selectors) * largest (trees_of p) ≡ (most - before.made.selectors) * largest (trees_of p) = ap (λ k. (most - k) * largest (trees_of p)) made in
-    let b : sum_by weight (stack_of after) ≡ sum_by weight (stack_of before) = ap (sum_by weight) stack in
-    omega (arith, a, b)
 
 pub popped_less : (p : Prepared) (most : ℕ) (task : Pending) (before rest : Work) → rest.made.selectors ≡ before.made.selectors → stack_of before ≡ task ∷ stack_of rest → effort p most rest + weight task ≡ effort p most before
 popped_less p most task before rest made stack =

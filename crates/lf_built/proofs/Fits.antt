@@ -23,17 +23,11 @@ abbrev pub fits_by : Prepared → List ℕ → Given → ℕ → Bool
 fits_by p marked D k = not (is_marked (reverse marked) k) && holds_texts (universe_of p) (get_or p.recorded.items k []) D
 
 module _ (p : Prepared) (known : IsPrepared p) where
-  pub recorded_count : length p.recorded.items ≡ length (trees_of p)
-  recorded_count = ap length known.recorded ∙ length-map (trees_of p) (recorded_row (universe_of p) (env_of p))
-
   pub recorded_at : (k : ℕ) (r : RuleTree) (d : Sets) → slice_get (trees_of p) k ≡ Some r → get_or p.recorded.items k d ≡ recorded_row (universe_of p) (env_of p) r
   recorded_at k r d is =
       ap (λ (xs : List Sets). get_or xs k d) known.recorded
       ∙ get_or-map (recorded_row (universe_of p) (env_of p)) (trees_of p) k r d (slice_get_within (trees_of p) k r is)
       ∙ ap (recorded_row (universe_of p) (env_of p)) (get_or_from_slice_get (trees_of p) k r r is)
-
-  pub row_count : length p.rows.items ≡ length (trees_of p)
-  row_count = ap length known.rows ∙ length-map (trees_of p) (rule_row (universe_of p) (env_of p))
 
   pub row_at : (k : ℕ) (r : RuleTree) (d : Sets) → slice_get (trees_of p) k ≡ Some r → get_or p.rows.items k d ≡ rule_row (universe_of p) (env_of p) r
   row_at k r d is =

@@ -12,7 +12,6 @@ pub mod OneMore
 pub mod PartSizes
 pub mod PartSpots
 pub mod Places
-pub mod RulesIndexed
 pub mod SeriesNames
 pub mod SideTexts
 pub mod StandingParts

@@ -36,15 +36,3 @@ last_flag numbers front flags n are popped = elim (cases_lt n (length flags)) [
       let marks : reverse numbers ≡ n ∷ reverse front = ap reverse popped ∙ reverse-append front (n ∷ []) in
       absurd (true≢false (sym (ap (λ (l : List ℕ). is_marked l n) marks ∙ first_marked (reverse front) n) ∙ sym (are.told n) ∙ get_or_past flags n false most))
 ]
-
-pub take_mark : (numbers front : List ℕ) (flags : List Bool) (n : ℕ) → AreMarks numbers flags → numbers ≡ front ++ n ∷ [] → AreMarks front (set flags n false)
-take_mark numbers front flags n are popped =
-    let marks : reverse numbers ≡ n ∷ reverse front = ap reverse popped ∙ reverse-append front (n ∷ []) in
-    let once : IsEachOnce (n ∷ reverse front) = subst IsEachOnce marks are.once in
-    record {
-      once = once.1;
-      told = λ k. elim (cases_eq k n) [
-        | inl e ↦ subst (λ j. get_or (set flags n false) j false ≡ is_marked (reverse front) j) (sym e) (get_or-set_same flags n false false (last_flag numbers front flags n are popped) ∙ sym once.0)
-        | inr other ↦ get_or-set_other flags n k false false other ∙ are.told k ∙ ap (λ (l : List ℕ). is_marked l k) marks ∙ others_marked (reverse front) k n other
-      ];
-    }

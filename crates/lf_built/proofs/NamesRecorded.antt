@@ -10,7 +10,7 @@ use Rattle.lf_deps.specs.Reading.{selectors}
 use Rattle.lf_deps.specs.views.Makers.{with_maker}
 use Rattle.lf_deps.specs.views.Search.{numbers_of}
 use Rattle.lf_deps.specs.views.Sources.{IsSourcesOf, Sources}
-use Rattle.lf_built.proofs.RulesIndexed.{none_record, numbers_at, sources_more}
+use Rattle.lf_deps.proofs.Indexed.{none_record, numbers_at, sources_more}
 use Rattle.lf_semantics.specs.Environments.{names_recorded, recorded_names}
 use Rattle.lf_semantics.specs.Listing.{place}
 use Rattle.lf_semantics.proofs.ListingLaws.{in_first_seen, place_within}

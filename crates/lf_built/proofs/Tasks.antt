@@ -176,10 +176,6 @@ module _ (u : Listing) (env : Environment) (rules : List RuleTree) (holds_fork :
       let first : Option Building = build u env rules holds_fork w.expr (builder u env rules holds_fork (by_rule n marked) w.expr) w.texts in
       ap (and_then first) (visits n marked wanted tasks) ∙ sym (and_assoc first (built_for u env rules holds_fork (by_rule n marked) wanted) (left n marked tasks))
 
-  -- there is no world where an expression can't be completed, or has no parts that could be built
-  pub not_handed : (n : ℕ) (marked : List ℕ) (w : Wanted) (tasks : List Task) → handed u env rules holds_fork w.expr w.texts ≡ None → left n marked (Visit w ∷ tasks) ≡ None
-  not_handed n marked w tasks is = ap (λ (o : Option Given). and_then (option_and_then (builder u env rules holds_fork (by_rule n marked) w.expr) o) (left n marked tasks)) is
-
   handed_to : (n : ℕ) (marked : List ℕ) (w : Wanted) (D : Given) (tasks : List Task) → handed u env rules holds_fork w.expr w.texts ≡ Some D → left n marked (Visit w ∷ tasks) ≡ and_then (builder u env rules holds_fork (by_rule n marked) w.expr D) (left n marked tasks)
   handed_to n marked w D tasks is = ap (λ (o : Option Given). and_then (option_and_then (builder u env rules holds_fork (by_rule n marked) w.expr) o) (left n marked tasks)) is
 

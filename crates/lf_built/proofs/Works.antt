@@ -29,10 +29,6 @@ use Rattle.lf_built.proofs.Tasks.{and_assoc, recorded, visits}
 
 -- texts that stand for what may be given
 
-pub stands_none : (u : Listing) (o : Option Given) → StandsFor u None o → o ≡ None
-stands_none u None h = refl
-stands_none u (Some D) h = absurd h
-
 pub stands_some : (u : Listing) (texts : List (Option ℕ)) (o : Option Given) → StandsFor u (Some texts) o → (D : Given) × (o ≡ Some D) × Stands u texts D
 stands_some u texts None h = absurd h
 stands_some u texts (Some D) h = (D, refl, h)
@@ -147,12 +143,6 @@ module _ (p : Prepared) where
   pub next_visit : (whole : Option Building) (spot : Spot) (texts : List (Option ℕ)) (w : Work) → Leaves p whole (T.Visit spot texts ∷ stack_of w) w → NextVisit whole spot texts w
   next_visit whole spot texts w left = visit_in whole spot texts w left.tasks left.are left.rest
 
-  -- it is built from what it is handed
-  pub handed_none : (most : ℕ) (whole : Option Building) (spot : Spot) (texts : List (Option ℕ)) (w : Work) (next : NextVisit whole spot texts w)
-      → StandsFor (universe_of p) None (handed (universe_of p) (env_of p) (trees_of p) (forks_of p) (tree_at spot) next.given) → NoWorld most whole
-  handed_none most whole spot texts w next none =
-      nothing_built p most whole _ w (ap (option_and_then (builder (universe_of p) (env_of p) (trees_of p) (forks_of p) (by_rule_of p w) (tree_at spot))) (stands_none (universe_of p) _ none)) next.left
-
   pub handed_some : (whole : Option Building) (spot : Spot) (texts made : List (Option ℕ)) (w : Work) (next : NextVisit whole spot texts w)
       → StandsFor (universe_of p) (Some made) (handed (universe_of p) (env_of p) (trees_of p) (forks_of p) (tree_at spot) next.given)
       → (D : Given) × Stands (universe_of p) made D × LeavesBehind p whole (builder (universe_of p) (env_of p) (trees_of p) (forks_of p) (by_rule_of p w) (tree_at spot) D) w
@@ -217,21 +207,6 @@ module _ (p : Prepared) where
             ∙ ap (λ (m : List ℕ). and_then (Some (so_far after.made)) (outcome u env rules forks n m (visit ∷ Finish ∷ tasks))) (sym marks);
       }
 
-  pub none_fits : (most : ℕ) (whole : Option Building) (name : Bytes) (D : Given) (n : ℕ) (w : Work) → w.unmarked ≡ suc n
-      → first_rule (fits (universe_of p) (env_of p) (trees_of p) (forks_of p) (marks_of w) name D) 0 (trees_of p) ≡ None → LeavesBehind p whole (option_map one_more (by_rule_of p w name D)) w → NoWorld most whole
-  none_fits most whole name D n w unmarked none left =
-      let u = universe_of p in
-      let env = env_of p in
-      let rules = trees_of p in
-      let forks = forks_of p in
-      let is : build_by_rule u env rules forks (suc n) (marks_of w) name D ≡ None =
-      ap (λ (o : Option (ℕ × RuleTree)). option_and_then (λ (f : ℕ × RuleTree). option_map (Rattle.lf_trials.specs.Building.with_step f.0) (build u env rules forks f.1.expr (builder u env rules forks (build_by_rule u env rules forks n (f.0 ∷ marks_of w)) f.1.expr) (before_recording u env rules forks f.1 D))) o) none in
-      nothing_built p most whole _ w (ap (option_map one_more) (ap (λ (m : ℕ). build_by_rule u env rules forks m (marks_of w) name D) unmarked ∙ is)) left
-
-  pub all_marked : (most : ℕ) (whole : Option Building) (name : Bytes) (D : Given) (w : Work) → w.unmarked ≡ 0 → LeavesBehind p whole (option_map one_more (by_rule_of p w name D)) w → NoWorld most whole
-  all_marked most whole name D w unmarked left =
-      nothing_built p most whole _ w (ap (λ (m : ℕ). option_map one_more (build_by_rule (universe_of p) (env_of p) (trees_of p) (forks_of p) m (marks_of w) name D)) unmarked) left
-
   -- the mark of a rule is taken off, and its step is added
 
   finish_in : (whole : Option Building) (k : ℕ) (before after : Work) (tasks : List Task) → stack_of after ≡ stack_of before → marks_of before ≡ k ∷ marks_of after → after.unmarked ≡ suc before.unmarked
@@ -258,15 +233,6 @@ module _ (p : Prepared) where
   pub finished : (whole : Option Building) (k : ℕ) (before after : Work) → stack_of after ≡ stack_of before → marks_of before ≡ k ∷ marks_of after → after.unmarked ≡ suc before.unmarked
       → so_far after.made ≡ both (so_far before.made) (record { series = []; steps = k ∷ []; selectors = 0 }) → Leaves p whole (T.Finish ∷ stack_of before) before → Builds p whole after
   finished whole k before after stack marks unmarked made left = finish_in whole k before after left.tasks stack marks unmarked made left.are left.rest
-
-  unfinished_in : (most : ℕ) (whole : Option Building) (w : Work) (tasks : List Task) → marks_of w ≡ [] → AreTasks p (T.Finish ∷ stack_of w) tasks → whole ≡ and_then (Some (so_far w.made)) (outcome_of p w tasks) → NoWorld most whole
-  unfinished_in most whole w [] marks are rest = absurd are
-  unfinished_in most whole w (Visit v ∷ tasks) marks are rest = absurd are
-  unfinished_in most whole w (Finish ∷ tasks) marks are rest =
-      none_at_all most whole (rest ∙ ap (λ (m : List ℕ). and_then (Some (so_far w.made)) (outcome (universe_of p) (env_of p) (trees_of p) (forks_of p) w.unmarked m (Finish ∷ tasks))) marks)
-
-  pub unfinished : (most : ℕ) (whole : Option Building) (w : Work) → marks_of w ≡ [] → Leaves p whole (T.Finish ∷ stack_of w) w → NoWorld most whole
-  unfinished most whole w marks left = unfinished_in most whole w left.tasks marks left.are left.rest
 
   -- where no task is left, all is built
 

@@ -8,6 +8,7 @@ use Rattle.std.proofs.lemmas.List.Elements.{All-cons, All-nil}
 use Rattle.std.proofs.lemmas.List.Folds.{position_or_len_push}
 use Rattle.std.proofs.lemmas.Option.{slice_get_within}
 use Rattle.std.proofs.Math.Nat.{eq-or-lt_of_le}
+use Rattle.lf_laws.proofs.Slices.{at_end}
 use Rattle.lf_ast.specs.Labels.{Bytes}
 use Rattle.lf_ast.specs.Rules.{RuleTree}
 use Rattle.lf_semantics.specs.Listing.{place}
@@ -36,10 +37,6 @@ get_left {X} [] y x j e = let no_way : None ≡ Some x = e in absurd (cc)
 get_left {X} (z ∷ xs) y x zero e = e
 get_left {X} (z ∷ xs) y x (suc j) e = get_left xs y x j e
 
-get_last : {X : Type 0} (xs : List X) (y : X) → slice_get (xs ++ y ∷ []) (length xs) ≡ Some y
-get_last {X} [] y = refl
-get_last {X} (x ∷ xs) y = get_last xs y
-
 get_cases : {X : Type 0} (xs : List X) (y x : X) (j : ℕ) → slice_get (xs ++ y ∷ []) j ≡ Some x → (slice_get xs j ≡ Some x) ⊎ ((j ≡ length xs) × (y ≡ x))
 get_cases {X} [] y x zero e = inr (refl, (let same : Some y ≡ Some x = e in cc))
 get_cases {X} [] y x (suc j) e = let no_way : None ≡ Some x = e in absurd (cc)
@@ -64,18 +61,7 @@ new_text texts t le = ap (λ b. cond b texts (texts ++ t ∷ [])) (le-ltb (place
 
 -- ---- what is kept
 
-pub kept_none : AreKept [] [] []
-kept_none = record {
-  count = refl;
-  each = λ p lt. absurd (omega (arith, lt));
-  all = λ j r e alert. let no_way : None ≡ Some r = e in absurd (cc);
-}
-
 module _ (rules : List RuleTree) (keys : List Bytes) (numbers : List ℕ) (kept : AreKept rules keys numbers) (r : RuleTree) where
-  -- an alert is the same as none, and isn't kept
-  pub alert_first : r.alert ≡ true → HaveNone rules r
-  alert_first alert j s e same = let no_way : true ≡ false = sym alert ∙ same.0 in cc
-
   pub alert_kept : r.alert ≡ true → AreKept (rules ++ r ∷ []) keys numbers
   alert_kept alert = record {
     count = kept.count;
@@ -166,7 +152,7 @@ module _ (rules : List RuleTree) (keys : List Bytes) (numbers : List ℕ) (kept 
         at_most p lt = let long = length-append keys (key_of r ∷ []) in omega (arith, lt, long)
 
         last : (p : ℕ) → p ≡ length keys → slice_get (rules ++ r ∷ []) (get_or (numbers ++ length rules ∷ []) p 0) ≡ Some r
-        last p e = subst (λ (n : ℕ). slice_get (rules ++ r ∷ []) n ≡ Some r) (sym (end numbers (length rules) 0 p (e ∙ sym kept.count))) (get_last rules r)
+        last p e = subst (λ (n : ℕ). slice_get (rules ++ r ∷ []) n ≡ Some r) (sym (end numbers (length rules) 0 p (e ∙ sym kept.count))) (at_end rules r)
 
 -- ---- one more rule, written as this text, which has this place among those that are kept
 
@@ -202,9 +188,6 @@ module _ (rules : List RuleTree) (keys : List Bytes) (numbers : List ℕ) (kept 
 
 -- ---- the first rules of all
 
-pub firsts_none : AreFirsts [] []
-firsts_none = record { count = refl; each = λ i r e. let no_way : None ≡ Some r = e in absurd (cc) }
-
 pub firsts_more : (rules : List RuleTree) (firsts : List (Option ℕ)) (r : RuleTree) (first : Option ℕ) → AreFirsts rules firsts → IsFirstOf rules r first → AreFirsts (rules ++ r ∷ []) (firsts ++ first ∷ [])
 firsts_more rules firsts r first old one = record {
   count = length-append firsts (first ∷ []) ∙ ap (λ n. n + 1) old.count ∙ sym (length-append rules (r ∷ []));
@@ -221,10 +204,6 @@ firsts_more rules firsts r first old one = record {
         subst (λ (l : List RuleTree). IsFirstOf l s (get_or (firsts ++ first ∷ []) i None)) (sym same) (subst (λ (o : Option ℕ). IsFirstOf rules s o) (sym at) (subst (λ (x : RuleTree). IsFirstOf rules x first) h.1 one))
   ];
 }
-
--- one more rule of the code's
-pub one_more : (rules : List Rule) (k : ℕ) (r : Rule) → k < length rules → r ≡ get_or rules k r → rule_trees (take k rules) ++ rule_tree r ∷ [] ≡ rule_trees (take (k + 1) rules)
-one_more rules k r lt is = sym (map-append rule_tree (take k rules) (r ∷ [])) ∙ ap (λ (x : Rule). rule_trees (take k rules ++ x ∷ [])) is ∙ ap rule_trees (sym (take_more rules k r lt))
 
 pub as_many : (rules : List Rule) (k : ℕ) → k ≤ length rules → length (rule_trees (take k rules)) ≡ k
 as_many rules k le = length-map (take k rules) rule_tree ∙ length-take-le k rules le

@@ -10,11 +10,11 @@ pub mod Nodes
 pub mod OneAnswer
 pub mod OneList
 pub mod Ordered
-pub mod PartsCovered
 pub mod PatternLaws
 pub mod RecordedLaws
 pub mod RunsAdmitted
 pub mod SomeList
+pub mod SoughtCovered
 pub mod SoughtLaws
 pub mod TemplateCases
 pub mod TrueFindings

@@ -84,12 +84,6 @@ numbered_both one other found a b e files rules i =
 
 -- ---- what is found along a list, of each of its elements
 
-pub along_none : {X : Type 0} (P : X → Finding → Type 0) → ListsAlone (Along P []) []
-along_none P = record {
-  lists = λ files rules. record { each = λ f c. absurd (none_in f c); all = λ f h. absurd (none_in h.0 h.1) };
-  numbers = numbered_none;
-}
-
 lists_more : {X : Type 0} (P : X → Finding → Type 0) (xs : List X) (x : X) (found more : List Row) → ((files : List File) (rules : List RuleTree) → Lists files rules (Along P xs) found) → ((files : List File) (rules : List RuleTree) → Lists files rules (P x) more)
     → (files : List File) (rules : List RuleTree) → Lists files rules (Along P (xs ++ x ∷ [])) (found ++ more)
 lists_more {X} P xs x found more before here_now files rules =

@@ -28,7 +28,7 @@ use Rattle.lf_checks.specs.declared.ordering.Keyed.{Keyed}
 use Rattle.lf_checks.specs.views.Cases.{check_at, said}
 use Rattle.lf_checks.specs.views.InOrder.{IsInOrder, OneDuplicate, items_of, keyed, keyed_cmp, row_key}
 use Rattle.lf_checks.specs.views.Shown.{all_shown, place_of, shown}
-use Rattle.lf_checks.proofs.SomeList.{equal_same}
+use Rattle.lf_checks.proofs.SomeList.{at_rank, equal_same}
 
 -- ---- the place of a rule has a part in the text of one check alone
 
@@ -61,17 +61,6 @@ wherever ExprEmpty case label p q e = refl
 wherever ExprType case label p q e = refl
 wherever RuleLabel zero label p q e = refl
 wherever RuleLabel (suc k) label p q e = refl
-
-at_rank : (c : Check) → check_at (rank c) ≡ c
-at_rank AlertComparison = refl
-at_rank AlertTemplate = refl
-at_rank RuleDuplicate = refl
-at_rank RuleDependency = refl
-at_rank PromqlRegexp = refl
-at_rank MatchLabel = refl
-at_rank ExprEmpty = refl
-at_rank ExprType = refl
-at_rank RuleLabel = refl
 
 other_ranks : (c d : Check) (x y : Bool) → is_duplicate c ≡ x → is_duplicate d ≡ y → x ≢ y → rank c ≢ rank d
 other_ranks c d x y ex ey other e = other (sym ex ∙ ap is_duplicate (sym (at_rank c) ∙ ap check_at e ∙ at_rank d) ∙ ey)

@@ -5,14 +5,13 @@ use Rattle.std.proofs.lemmas.List.{take_more, get_or-take, get_or_append_left, l
 use Rattle.std.specs.List.{Contains}
 use Rattle.lf_ast.specs.Labels.{Bytes}
 use Rattle.lf_ast.specs.Rules.{RuleTree}
-use Rattle.lf_ast.specs.Tree.{Tree, Number, Str, Selector, Subquery, Paren, Unary, Binary, Call, Aggregate}
+use Rattle.lf_ast.specs.Tree.{Aggregate, Binary, Call, Number, Paren, Selector, Str, Subquery, Tree, Unary, nodes}
 use Rattle.lf_ast.specs.declared.expr.Matcher.{Matcher}
 use Rattle.lf_ast.specs.declared.verdict.Finding.{Finding as Row}
 use Rattle.lf_pattern.specs.Plain.{HasAlternatives}
 use Rattle.lf_semantics.specs.PatternBreaches.{takes_pattern}
 use Rattle.lf_checks.specs.Finding.{Finding, PromqlRegexp, finding}
 use Rattle.lf_checks.specs.PromqlRegexp.{BeginsAnchored, EndsAnchored, IsFound, IsOneText, says_anchored, says_plain}
-use Rattle.lf_checks.specs.Subexpressions.{subexpressions}
 use Rattle.lf_checks.specs.views.Adding.{Adds, OfSome}
 use Rattle.lf_checks.specs.views.Patterns.{IsOfMatcher, IsOfPart}
 use Rattle.lf_checks.proofs.Added.{adds_as, adds_both}
@@ -84,7 +83,7 @@ of_matcher m plain anchored old mid new takes one ends a b = adds_as _ (IsOfMatc
     from f (_, inl (t, e)) = inl (one.1 t, e)
     from f (_, inr (t, e)) = inr (ends.1 t, e)
 
-found_in : (r : RuleTree) (f : Finding) (x : Tree) → Contains (subexpressions r.expr) x → IsOfPart x f → IsFound r f
+found_in : (r : RuleTree) (f : Finding) (x : Tree) → Contains (nodes r.expr) x → IsOfPart x f → IsFound r f
 found_in r f (Number text span) c told = absurd told
 found_in r f (Str text span) c told = absurd told
 found_in r f (Selector name matchers sight span) c (m, d, (takes, inl (one, e))) = inl (m, (name, matchers, sight, span, c, d, takes), one, e)
@@ -96,9 +95,9 @@ found_in r f (Binary op m left right span) c told = absurd told
 found_in r f (Call name args span) c told = absurd told
 found_in r f (Aggregate op grouping args span) c told = absurd told
 
-pub of_parts : (r : RuleTree) (new : List Row) → Adds (OfSome IsOfPart (subexpressions r.expr)) [] new → Adds (IsFound r) [] new
-of_parts r new a = adds_as (OfSome IsOfPart (subexpressions r.expr)) (IsFound r) [] new a (λ f h. found_in r f h.0 h.1 h.2) from
+pub of_parts : (r : RuleTree) (new : List Row) → Adds (OfSome IsOfPart (nodes r.expr)) [] new → Adds (IsFound r) [] new
+of_parts r new a = adds_as (OfSome IsOfPart (nodes r.expr)) (IsFound r) [] new a (λ f h. found_in r f h.0 h.1 h.2) from
   where
-    from : (f : Finding) → IsFound r f → OfSome IsOfPart (subexpressions r.expr) f
+    from : (f : Finding) → IsFound r f → OfSome IsOfPart (nodes r.expr) f
     from f (inl (m, (name, matchers, sight, span, c, d, takes), one, e)) = (Selector name matchers sight span, c, (m, d, (takes, inl (one, e))))
     from f (inr (m, (name, matchers, sight, span, c, d, takes), ends, e)) = (Selector name matchers sight span, c, (m, d, (takes, inr (ends, e))))

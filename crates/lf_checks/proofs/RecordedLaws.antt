@@ -8,7 +8,7 @@ use Rattle.lf_base.specs.declared.place.Span.{Span}
 use Rattle.lf_ast.specs.Labels.{Bytes}
 use Rattle.lf_ast.specs.Rules.{RuleTree}
 use Rattle.lf_ast.specs.Selectors.{selected_name}
-use Rattle.lf_ast.specs.Tree.{Tree, Number, Str, Selector, Subquery, Paren, Unary, Binary, Call, Aggregate}
+use Rattle.lf_ast.specs.Tree.{Aggregate, Binary, Call, Number, Paren, Selector, Str, Subquery, Tree, Unary, nodes}
 use Rattle.lf_ast.specs.declared.expr.Matcher.{Matcher}
 use Rattle.lf_ast.specs.declared.expr.Sight.{Sight}
 use Rattle.lf_ast.specs.declared.verdict.Finding.{Finding as Row}
@@ -19,7 +19,6 @@ use Rattle.lf_semantics.proofs.ListingLaws.{in_first_seen, of_first_seen, place_
 use Rattle.lf_semantics.proofs.Places.{at_place}
 use Rattle.lf_checks.specs.Finding.{Finding, RuleDependency, finding}
 use Rattle.lf_checks.specs.RuleDependency.{IsFound, has_colon, says_cyclic, says_unrecorded}
-use Rattle.lf_checks.specs.Subexpressions.{subexpressions}
 use Rattle.lf_checks.specs.views.Adding.{Adds, OfSome}
 use Rattle.lf_checks.specs.views.Recorded.{IsLacking, IsOfName, IsOfSelector}
 use Rattle.lf_checks.proofs.Added.{adds_as, adds_both, adds_none}
@@ -87,7 +86,7 @@ module _ (rules : List RuleTree) where
 
   -- ---- a whole rule
 
-  found_in : (r : RuleTree) (f : Finding) (x : Tree) → Contains (subexpressions r.expr) x → IsOfSelector rules x f → IsFound rules r f
+  found_in : (r : RuleTree) (f : Finding) (x : Tree) → Contains (nodes r.expr) x → IsOfSelector rules x f → IsFound rules r f
   found_in r f (Number text span) c told = absurd told
   found_in r f (Str text span) c told = absurd told
   found_in r f (Selector before matchers sight span) c (name, is, inl ((colon, lack), e)) = inl (name, span, (before, matchers, sight, c, is), colon, lack, e)
@@ -99,9 +98,9 @@ module _ (rules : List RuleTree) where
   found_in r f (Call name args span) c told = absurd told
   found_in r f (Aggregate op grouping args span) c told = absurd told
 
-  pub of_rule : (r : RuleTree) (new : List Row) → Adds (OfSome (IsOfSelector rules) (subexpressions r.expr)) [] new → Adds (IsFound rules r) [] new
-  of_rule r new a = adds_as (OfSome (IsOfSelector rules) (subexpressions r.expr)) (IsFound rules r) [] new a (λ f h. found_in r f h.0 h.1 h.2) from
+  pub of_rule : (r : RuleTree) (new : List Row) → Adds (OfSome (IsOfSelector rules) (nodes r.expr)) [] new → Adds (IsFound rules r) [] new
+  of_rule r new a = adds_as (OfSome (IsOfSelector rules) (nodes r.expr)) (IsFound rules r) [] new a (λ f h. found_in r f h.0 h.1 h.2) from
     where
-      from : (f : Finding) → IsFound rules r f → OfSome (IsOfSelector rules) (subexpressions r.expr) f
+      from : (f : Finding) → IsFound rules r f → OfSome (IsOfSelector rules) (nodes r.expr) f
       from f (inl (name, span, (before, matchers, sight, c, is), colon, lack, e)) = (Selector before matchers sight span, c, (name, is, inl ((colon, lack), e)))
       from f (inr (name, span, (before, matchers, sight, c, is), cyclic, e)) = (Selector before matchers sight span, c, (name, is, inr (cyclic, e)))

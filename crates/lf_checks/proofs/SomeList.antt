@@ -1,6 +1,5 @@
 -- Where the findings of a rule stand in any list, in whatever order and however often, the rule has its list of findings.
 use Rattle.std.proofs.Common.{◌≡◌, ◌⊎◌, inl, inr, ℕ, zero, suc, List, [], ◌∷◌, Some, refl, sym, ap, ◌∙◌, subst, arith}
-use Rattle.std.proofs.lemmas.Option.{get_or_from_slice_get, slice_get_within}
 use Rattle.std.specs.FinMap.{nat_cmp-IsAntisymmetric, slice_cmp-IsAntisymmetric}
 use Rattle.std.specs.List.{Contains}
 use Rattle.std.specs.Prelude.{slice_get, slice_index_or}
@@ -8,6 +7,8 @@ use Rattle.std.specs.declared.cmp.Ordering.{Ordering}
 use Rattle.std.specs.declared.cmp.Ordering.TheVariants.{Less, Greater, Equal}
 use Rattle.std.specs.Ordering.{ordering_reverse}
 use Rattle.std.specs.Cmp.Lexicographic.{nat_list_cmp_total}
+use Rattle.lf_checks.specs.views.Cases.{check_at}
+use Rattle.lf_laws.proofs.Slices.{member_at}
 use Rattle.lf_laws.proofs.Members.{behind, first_or_behind, here, none_in, only_one}
 use Rattle.lf_base.specs.Faults.{span}
 use Rattle.lf_ast.specs.Rules.{RuleTree}
@@ -20,14 +21,7 @@ use Rattle.lf_checks.proofs.OneList.{Ascends, head_less, tail_ascends}
 
 -- ---- findings that neither comes before the other are one
 
-checks : List Check
-checks = RuleLabel ∷ AlertComparison ∷ AlertTemplate ∷ RuleDuplicate ∷ RuleDependency ∷ PromqlRegexp ∷ MatchLabel ∷ ExprEmpty ∷ ExprType ∷ RuleLabel ∷ []
-
-check_at : ℕ → Check
-check_at k = slice_index_or checks k RuleLabel
-
-at_rank : (c : Check) → check_at (rank c) ≡ c
-unfolding check_at checks
+pub at_rank : (c : Check) → check_at (rank c) ≡ c
 at_rank AlertComparison = refl
 at_rank AlertTemplate = refl
 at_rank RuleDuplicate = refl
@@ -51,17 +45,14 @@ equal_same f g e = sym (from_key f) ∙ ap finding_from (slice_cmp-IsAntisymmetr
 
 -- ---- one finding more
 
-at_place : (found : List Finding) (k : ℕ) (f : Finding) → slice_get found k ≡ Some f → Contains found f
-at_place found k f e = (k, slice_get_within found k f e, get_or_from_slice_get found k f f e)
-
 ascends_behind : (f : Finding) (found : List Finding) → Ascends found → ((g : Finding) → Contains found g → finding_cmp f g ≡ Less) → Ascends (f ∷ found)
 ascends_behind f found ascends less zero zero g h lt a b = absurd (omega (arith, lt))
-ascends_behind f found ascends less zero (suc k) g h lt a b = let same : f ≡ g = (let e : Some f ≡ Some g = a in cc) in subst (λ z. finding_cmp z h ≡ Less) same (less h (at_place found k h b))
+ascends_behind f found ascends less zero (suc k) g h lt a b = let same : f ≡ g = (let e : Some f ≡ Some g = a in cc) in subst (λ z. finding_cmp z h ≡ Less) same (less h (member_at found k h b))
 ascends_behind f found ascends less (suc j) zero g h lt a b = absurd (omega (arith, lt))
 ascends_behind f found ascends less (suc j) (suc k) g h lt a b = ascends j k g h (omega (arith, lt)) a b
 
 none_ascends : Ascends []
-none_ascends j k g h lt a b = absurd (none_in g (at_place [] j g a))
+none_ascends j k g h lt a b = absurd (none_in g (member_at [] j g a))
 
 -- `IsPut f found more`: more ascends and has what is found, and f
 abbrev IsPut : Finding → List Finding → List Finding → Type 0

@@ -4,6 +4,7 @@ use Rattle.std.specs.Prelude.{slice_get, slice_index_or}
 use Rattle.std.specs.List.{Contains}
 use Rattle.std.proofs.lemmas.List.{append_cancel_left, append_cancel_right}
 use Rattle.std.proofs.lemmas.Option.{get_or_from_slice_get, slice_get_within}
+use Rattle.lf_laws.proofs.Members.{all_front}
 use Rattle.lf_ast.specs.Labels.{Bytes, Labels}
 use Rattle.lf_ast.specs.Rules.{RuleTree}
 use Rattle.lf_semantics.specs.ClassRows.{Represents, Sets, bottom, is_live}
@@ -18,7 +19,6 @@ use Rattle.lf_semantics.specs.Worlds.{IsSample, World}
 use Rattle.lf_semantics.proofs.LeqLaws.{bottom_dead}
 use Rattle.lf_semantics.proofs.ListingLaws.{universe_covers, universe_is_listing}
 use Rattle.lf_semantics.proofs.SamplesRepresented.{sample_represented}
-use Rattle.lf_semantics.proofs.Members.{all_front}
 use Rattle.lf_semantics.proofs.Soundness.{sound}
 use Rattle.lf_semantics.proofs.Told.{is_absent, is_present, not_empty}
 use Rattle.lf_checks.specs.AlertTemplate as alert_template
@@ -29,7 +29,8 @@ use Rattle.lf_checks.specs.Judged.{IsGuaranteed, IsImpossible}
 use Rattle.lf_checks.specs.MatchLabel as match_label
 use Rattle.lf_checks.specs.RuleLabel as rule_label
 use Rattle.lf_checks.specs.Truths.{HasNoSample, IsNeverGiven, IsOnEach, IsOnNone, IsTrue, recorded}
-use Rattle.lf_checks.proofs.PartsCovered.{part_covered, sought_covered}
+use Rattle.lf_semantics.proofs.PartsCovered.{part_covered}
+use Rattle.lf_checks.proofs.SoughtCovered.{sought_covered}
 use Rattle.lf_checks.proofs.RunsAdmitted.{world_admitted}
 
 -- ---- texts

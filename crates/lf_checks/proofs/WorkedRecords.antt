@@ -13,7 +13,7 @@ use Rattle.lf_base.specs.declared.place.Span.{Span}
 use Rattle.lf_ast.specs.Labels.{Bytes}
 use Rattle.lf_ast.specs.Rules.{RuleTree}
 use Rattle.lf_ast.specs.Selectors.{selected_name}
-use Rattle.lf_ast.specs.Tree.{Tree, Selector}
+use Rattle.lf_ast.specs.Tree.{Selector, Tree, nodes}
 use Rattle.lf_ast.specs.declared.expr.Group.TheVariants.{Left, One}
 use Rattle.lf_ast.specs.declared.expr.Matcher.{Matcher}
 use Rattle.lf_ast.specs.declared.expr.MatchOp.TheVariants.{Equal, Matches}
@@ -44,7 +44,6 @@ use Rattle.lf_checks.specs.RuleDependency as rule_dependency
 use Rattle.lf_checks.specs.RuleDependency.{SelectsAt, has_colon}
 use Rattle.lf_checks.specs.RuleDuplicate as rule_duplicate
 use Rattle.lf_checks.specs.RuleLabel as rule_label
-use Rattle.lf_checks.specs.Subexpressions.{subexpressions}
 use Rattle.lf_checks.proofs.TrueFindings.{last_behind, last_of}
 
 -- a rule named `r:r`, alone, and its row, as it reads no recorded name
@@ -213,7 +212,7 @@ from_either label operand (_, _, inr (c, e)) = named 0 (codes "env") operand lab
 of_grouping : (label : Name) (operand : Tree) → Seeks foo_by_job label operand → MayHave operand label.text
 of_grouping label operand (c, e) = named 8 (codes "job") operand label c (some_operand (foo []) operand (codes "job") e refl)
 
-each_may : (e : Tree) (label : Name) (operand : Tree) → Contains (subexpressions (with_env foo_by_job bar)) e → Seeks e label operand → MayHave operand label.text
+each_may : (e : Tree) (label : Name) (operand : Tree) → Contains (nodes (with_env foo_by_job bar)) e → Seeks e label operand → MayHave operand label.text
 each_may e label operand c seeks = elim (first_or_behind (with_env foo_by_job bar) (foo_by_job ∷ foo [] ∷ bar ∷ []) e c) [
   | inl is ↦ from_either label operand (subst (λ z. Seeks z label operand) (sym is) seeks)
   | inr c ↦ elim (first_or_behind foo_by_job (foo [] ∷ bar ∷ []) e c) [
@@ -240,7 +239,7 @@ colon_in None = false
 colon_in (Some name) = has_colon name
 
 -- a selector in an expression that is one selector is of its name
-one_name : (e : Tree) (name : Bytes) (span : Span) → subexpressions e ≡ e ∷ [] → SelectsAt e name span → selected_by e ≡ Some name
+one_name : (e : Tree) (name : Bytes) (span : Span) → nodes e ≡ e ∷ [] → SelectsAt e name span → selected_by e ≡ Some name
 one_name e name span alone (before, matchers, sight, c, is) = ap selected_by (only_one e _ (subst (λ (l : List Tree). Contains l (Selector before matchers sight span)) alone c)) ∙ is
 
 -- `a:x` is `b:x`, which no rule records
@@ -268,7 +267,7 @@ read_in_its_making : rule_dependency.IsFound (of_itself ∷ []) of_itself (findi
 read_in_its_making = inr (codes "a:a", place_at 20, (Some (codes "a:a"), [], sight None None, here of_itself.expr [], refl), reads_itself, refl)
 
 -- `a:x` is `foo`, or `foo[5m]`: a name without a colon, that no rule records
-scraped : (e : Tree) → subexpressions e ≡ e ∷ [] → selected_by e ≡ Some (codes "foo") → (f : Finding) → rule_dependency.IsFound (record_rule (codes "a:x") [] e ∷ []) (record_rule (codes "a:x") [] e) f → ⊥
+scraped : (e : Tree) → nodes e ≡ e ∷ [] → selected_by e ≡ Some (codes "foo") → (f : Finding) → rule_dependency.IsFound (record_rule (codes "a:x") [] e ∷ []) (record_rule (codes "a:x") [] e) f → ⊥
 scraped e alone selects f (inl (name, span, at, colon, none, is)) = true≢false (sym colon ∙ ap colon_in (sym (one_name e name span alone at) ∙ selects))
 scraped e alone selects f (inr (name, span, at, (r, c, (recording, records), reads), is)) =
     let r_is : record_rule (codes "a:x") [] e ≡ r = only_one (record_rule (codes "a:x") [] e) r c in

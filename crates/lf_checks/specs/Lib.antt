@@ -1,7 +1,6 @@
 pub mod Finding
 pub mod Files
 pub mod Judged
-pub mod Subexpressions
 pub mod AlertComparison
 pub mod AlertTemplate
 pub mod RuleDuplicate

@@ -4,7 +4,7 @@ use Rattle.std.specs.List.{Contains}
 use Rattle.lf_ast.specs.Functions.{aggregation}
 use Rattle.lf_ast.specs.Labels.{Bytes}
 use Rattle.lf_ast.specs.Rules.{RuleTree}
-use Rattle.lf_ast.specs.Tree.{Tree, Trees, Binary, Aggregate}
+use Rattle.lf_ast.specs.Tree.{Aggregate, Binary, Tree, Trees, nodes}
 use Rattle.lf_ast.specs.Types.{is_vector, names_at}
 use Rattle.lf_ast.specs.declared.expr.Agg.{Agg}
 use Rattle.lf_ast.specs.declared.expr.Group.{Group}
@@ -17,7 +17,6 @@ use Rattle.lf_semantics.specs.Parts.{argument_at, operand_place, type_by_form}
 use Rattle.lf_semantics.specs.RowTable.{Environment, row_of}
 use Rattle.lf_checks.specs.Finding.{Finding, MatchLabel, Note, Severity, finding}
 use Rattle.lf_checks.specs.Judged.{IsImpossible}
-use Rattle.lf_checks.specs.Subexpressions.{subexpressions}
 
 -- how grave it is
 abbrev pub severity : Severity
@@ -52,5 +51,5 @@ Seeks _ label operand = ⊥
 -- a label that is sought on an operand, in the expression or in a part, and is impossible by the row of the operand, which isn't empty; at the label
 abbrev pub IsFound : Listing → Environment → RuleTree → Finding → Type 0
 IsFound u env r f =
-    (e : Tree) × (label : Name) × (operand : Tree) × Contains (subexpressions r.expr) e × Seeks e label operand × IsImpossible u (row_of u env operand) label.text
+    (e : Tree) × (label : Name) × (operand : Tree) × Contains (nodes r.expr) e × Seeks e label operand × IsImpossible u (row_of u env operand) label.text
     × (f ≡ finding MatchLabel label.span (says_never label.text))

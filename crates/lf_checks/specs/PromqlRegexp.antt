@@ -4,13 +4,12 @@ use Rattle.std.specs.List.{Contains}
 use Rattle.lf_base.specs.declared.place.Span.{Span}
 use Rattle.lf_ast.specs.Labels.{Bytes}
 use Rattle.lf_ast.specs.Rules.{RuleTree}
-use Rattle.lf_ast.specs.Tree.{Tree, Selector}
+use Rattle.lf_ast.specs.Tree.{Selector, Tree, nodes}
 use Rattle.lf_ast.specs.declared.expr.Matcher.{Matcher}
 use Rattle.lf_ast.specs.declared.expr.Sight.{Sight}
 use Rattle.lf_pattern.specs.Plain.{HasAlternatives}
 use Rattle.lf_semantics.specs.PatternBreaches.{takes_pattern}
 use Rattle.lf_checks.specs.Finding.{Finding, Note, PromqlRegexp, Severity, finding}
-use Rattle.lf_checks.specs.Subexpressions.{subexpressions}
 
 -- how grave it is
 abbrev pub severity : Severity
@@ -27,7 +26,7 @@ says_anchored = codes "the pattern is anchored already"
 -- a selector in the expression has this matcher, which takes a pattern
 abbrev pub MatchesBy : Tree → Matcher → Type 0
 MatchesBy e m =
-    (name : Option Bytes) × (matchers : List Matcher) × (sight : Sight) × (span : Span) × Contains (subexpressions e) (Selector name matchers sight span)
+    (name : Option Bytes) × (matchers : List Matcher) × (sight : Sight) × (span : Span) × Contains (nodes e) (Selector name matchers sight span)
     × Contains matchers m × (takes_pattern m.op ≡ true)
 
 -- a plain pattern with one alternative

@@ -5,13 +5,12 @@ use Rattle.lf_base.specs.declared.place.Span.{Span}
 use Rattle.lf_ast.specs.Labels.{Bytes}
 use Rattle.lf_ast.specs.Rules.{RuleTree}
 use Rattle.lf_ast.specs.Selectors.{selected_name}
-use Rattle.lf_ast.specs.Tree.{Tree, Selector}
+use Rattle.lf_ast.specs.Tree.{Selector, Tree, nodes}
 use Rattle.lf_ast.specs.declared.expr.Matcher.{Matcher}
 use Rattle.lf_ast.specs.declared.expr.Sight.{Sight}
 use Rattle.lf_deps.specs.Reading.{IsCyclic}
 use Rattle.lf_semantics.specs.Environments.{names_recorded}
 use Rattle.lf_checks.specs.Finding.{Finding, Note, RuleDependency, Severity, finding}
-use Rattle.lf_checks.specs.Subexpressions.{subexpressions}
 
 -- how grave it is
 abbrev pub severity : Severity
@@ -32,7 +31,7 @@ has_colon name = list_any (λ b. b == 58) name
 -- a selector in the expression, with this span, is of the name: the one before its braces, or that of its first `=` on the metric name
 abbrev pub SelectsAt : Tree → Bytes → Span → Type 0
 SelectsAt e name span =
-    (before : Option Bytes) × (matchers : List Matcher) × (sight : Sight) × Contains (subexpressions e) (Selector before matchers sight span) × (selected_name before matchers ≡ Some name)
+    (before : Option Bytes) × (matchers : List Matcher) × (sight : Sight) × Contains (nodes e) (Selector before matchers sight span) × (selected_name before matchers ≡ Some name)
 
 -- a selector of a name with a colon that no rule records, at the selector
 abbrev pub IsUnrecorded : List RuleTree → RuleTree → Finding → Type 0

@@ -3,7 +3,7 @@ use Rattle.std.specs.Prelude.{◌≡◌, List, [], ◌∷◌, ◌++◌}
 use Rattle.std.specs.List.{Contains}
 use Rattle.lf_ast.specs.Labels.{Bytes, Labels}
 use Rattle.lf_ast.specs.Rules.{RuleTree}
-use Rattle.lf_ast.specs.Tree.{Tree}
+use Rattle.lf_ast.specs.Tree.{Tree, nodes}
 use Rattle.lf_ast.specs.declared.expr.Name.{Name}
 use Rattle.lf_semantics.specs.Evaluation.{Evaluates}
 use Rattle.lf_semantics.specs.Texts.{Has}
@@ -12,7 +12,6 @@ use Rattle.lf_checks.specs.AlertTemplate as alert_template
 use Rattle.lf_checks.specs.Finding.{Check, AlertTemplate, MatchLabel, ExprEmpty, ExprType, RuleLabel, Finding}
 use Rattle.lf_checks.specs.MatchLabel as match_label
 use Rattle.lf_checks.specs.RuleLabel as rule_label
-use Rattle.lf_checks.specs.Subexpressions.{subexpressions}
 
 -- no sample of the rule, in any world, has the label
 abbrev pub IsOnNone : List RuleTree → RuleTree → Bytes → Type 0
@@ -39,7 +38,7 @@ IsNeverGiven rules e label =
 
 -- in the rule's expression the label is sought on an operand that never gives it
 abbrev pub IsSoughtInVain : List RuleTree → RuleTree → Bytes → Type 0
-IsSoughtInVain rules r label = (e : Tree) × (sought : Name) × (operand : Tree) × Contains (subexpressions r.expr) e × match_label.Seeks e sought operand × (sought.text ≡ label) × IsNeverGiven rules operand label
+IsSoughtInVain rules r label = (e : Tree) × (sought : Name) × (operand : Tree) × Contains (nodes r.expr) e × match_label.Seeks e sought operand × (sought.text ≡ label) × IsNeverGiven rules operand label
 
 -- what a finding of the check claims by its text. The checks that aren't named here speak of the text of rules alone
 abbrev pub Claims : List RuleTree → RuleTree → Check → Bytes → Type 0

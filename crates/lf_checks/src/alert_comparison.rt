@@ -4,7 +4,7 @@ ghost use Rattle.std.specs.List.{list_any};
 ghost use Rattle.std.specs.Option.{option_map};
 ghost use Rattle.lf_ast.specs.Functions.{signature_of};
 ghost use Rattle.lf_ast.specs.Rules.{rule_tree};
-ghost use Rattle.lf_ast.specs.Tree.{parts_of, tree};
+ghost use Rattle.lf_ast.specs.Tree.{parts_of, tree, nodes};
 ghost use Rattle.lf_semantics.specs.Parts.{given_by, takes_samples};
 ghost use Rattle.lf_checks.specs.AlertComparison.{IsFound, is_absent_function, is_conditional, joins_conditions, looks_for_absence};
 ghost use Rattle.lf_checks.specs.views.Conditions.{counts, condition_of};
@@ -17,6 +17,7 @@ use lf_ast::{
     selected,
 };
 use lf_base::Memory;
+use lf_parts::{Copied, fold_parts};
 use std::alloc::Global;
 
 /// An alert whose expression isn't conditional. `compares` says whether it is.
@@ -44,6 +45,19 @@ pub(crate) fn condition_of(alloc: Global, expr: &Expr) -> Result<Condition, Memo
     ensures { IfOk result (λ made. made ≡ condition_of (tree expr.now)) }
 {
     fold_up(alloc, &Conditions, expr)
+}
+
+/// The same of an expression and of each part in it, each before its own parts.
+pub(crate) fn part_conditions(alloc: Global, expr: &Expr) -> Result<Vec<Condition>, Memory>
+    ensures { IfOk result (λ conditions. conditions.items ≡ map condition_of (nodes (tree expr.now))) }
+{
+    fold_parts(alloc, &Conditions, expr)
+}
+
+impl Copied for Condition {
+    fn copied(&self, _alloc: Global) -> Result<Condition, Memory> {
+        Ok(*self)
+    }
 }
 
 impl Condition {

@@ -1,27 +1,33 @@
 //! match/label: groupings and matches that name a label which no sample of their operand has.
-ghost use Rattle.std.specs.Prelude.{◌≡◌, IfOk, OnOk};
+//!
+//! The rows of all parts of an expression are made in one walk, and so are their types: the time is linear in the number of parts.
+ghost use Rattle.std.specs.Prelude.{◌≡◌, ◌<◌, ◌∷◌, ◌&&◌, [], List, Some, None, length, map, slice_get, IfOk, IfSome, IfNone, OnOk};
 ghost use Rattle.lf_ast.specs.Functions.{aggregation};
 ghost use Rattle.lf_ast.specs.Rules.{rule_tree};
-ghost use Rattle.lf_ast.specs.Tree.{tree};
+ghost use Rattle.lf_ast.specs.Tree.{Tree, parts_of, tree, nodes};
 ghost use Rattle.lf_ast.specs.Types.{is_vector, names_at};
+ghost use Rattle.lf_ast.specs.views.Walks.{trees_at};
 ghost use Rattle.lf_semantics.specs.ClassRows.{HasShape};
 ghost use Rattle.lf_semantics.specs.Environments.{IsEnvironment};
 ghost use Rattle.lf_semantics.specs.Listing.{IsListing};
 ghost use Rattle.lf_semantics.specs.Parts.{operand_place, type_by_form};
+ghost use Rattle.lf_semantics.specs.RowTable.{Environment, row_of};
 ghost use Rattle.lf_checks.specs.MatchLabel.{IsFound};
 ghost use Rattle.lf_checks.specs.views.Adding.{Adds, OfSome};
+ghost use Rattle.lf_checks.specs.views.Conditions.{condition_of};
 ghost use Rattle.lf_checks.specs.views.Shown.{ListsAlone};
-ghost use Rattle.lf_checks.specs.views.Sought.{IsNever, IsOfMatch, IsOfOperand, IsOfPart, IsOfSides, for_left, for_right, labels_by};
+ghost use Rattle.lf_checks.specs.views.Sought.{IsNever, IsOfMatch, IsOfPart, IsOfRow, IsOfSides, for_left, for_right, labels_by};
 
-use crate::alert_comparison::condition_of;
+use crate::alert_comparison::{Condition, part_conditions};
 use crate::case::Case;
 use crate::judged::is_impossible;
 use crate::telling::tell_if;
-use lf_ast::walk::{nodes_of, part_at};
+use lf_ast::walk::nodes_of;
 use lf_ast::{Agg, Expr, Finding, Group, Grouping, Matching, Name, Rule, is_vector};
 use lf_base::{Memory, Seq};
 use lf_classes::{Row, Universe};
-use lf_flow::{Env, flow};
+use lf_flow::{Env, part_rows};
+use lf_parts::by_parts;
 use std::alloc::Global;
 
 /// What the check finds of a rule, by the rows of operands in the environment.
@@ -35,49 +41,111 @@ pub(crate) fn match_label(
     requires env { IsEnvironment universe.now env.now }
     ensures { IfOk result (λ found. ListsAlone (IsFound universe.now env.now (rule_tree rule.now)) found.items) }
 {
-    let mut found = Vec::new(alloc);
     let nodes = nodes_of(alloc, &rule.expr)?;
-    for node in &nodes {
-        judge_part(alloc, universe, env, node, &mut found)?;
+    let rows = rows_by_parts(alloc, universe, env, &rule.expr)?;
+    let conditions = conditions_by_parts(alloc, &rule.expr)?;
+    let parts = nodes.as_slice();
+    let parts_rows = rows.as_slice();
+    let parts_conditions = conditions.as_slice();
+    judge_parts(alloc, universe, parts, parts_rows, parts_conditions)
+}
+
+/// What is told of the labels that parts seek on their operands, by the rows of the own parts of each, and by what these are.
+fn judge_parts(
+    alloc: Global,
+    universe: &Universe,
+    parts: &[&Expr],
+    rows: &[Seq<Row>],
+    conditions: &[Seq<Condition>],
+) -> Result<Vec<Finding>, Memory>
+    requires listing { IsListing universe.now }
+    requires rows { (env : Environment) × IsEnvironment universe.now env × (rows.now ≡ map (λ x. map (row_of universe.now env) (parts_of x)) (trees_at parts.now)) }
+    requires conditions { conditions.now ≡ map (λ x. map condition_of (parts_of x)) (trees_at parts.now) }
+    ensures { (env : Environment) → rows.now ≡ map (λ x. map (row_of universe.now env) (parts_of x)) (trees_at parts.now) → IfOk result (λ found. Adds (OfSome (IsOfPart universe.now env) (trees_at parts.now)) [] found.items) }
+{
+    let mut found = Vec::new(alloc);
+    for k in 0..parts.len() {
+        let part = node_at(parts, k);
+        let own_rows = group_at(rows, k);
+        let own_conditions = group_at(conditions, k);
+        judge_part(alloc, universe, part, own_rows, own_conditions, &mut found)?;
     }
     Ok(found)
 }
 
-/// Tells of the labels that a part seeks on its operands.
-fn judge_part(
+/// For an expression and each part in it the rows of its own parts.
+fn rows_by_parts(
     alloc: Global,
     universe: &Universe,
     env: &Env,
+    expr: &Expr,
+) -> Result<Vec<Seq<Row>>, Memory>
+    requires { IsEnvironment universe.now env.now }
+    ensures { IfOk result (λ groups. groups.items ≡ map (λ x. map (row_of universe.now env.now) (parts_of x)) (nodes (tree expr.now))) }
+{
+    let rows = part_rows(alloc, universe, env, expr)?;
+    by_parts(alloc, expr, rows)
+}
+
+/// For an expression and each part in it what its own parts are by their form.
+fn conditions_by_parts(alloc: Global, expr: &Expr) -> Result<Vec<Seq<Condition>>, Memory>
+    ensures { IfOk result (λ groups. groups.items ≡ map (λ x. map condition_of (parts_of x)) (nodes (tree expr.now))) }
+{
+    let conditions = part_conditions(alloc, expr)?;
+    by_parts(alloc, expr, conditions)
+}
+
+/// The expression at a number.
+fn node_at<'a>(nodes: &[&'a Expr], k: usize) -> &'a Expr
+    requires { k < length nodes.now }
+    ensures { slice_get (trees_at nodes.now) k ≡ Some (tree result.now) }
+{
+    nodes[k]
+}
+
+/// The values at a number.
+fn group_at<T>(groups: &[Seq<T>], k: usize) -> &[T]
+    requires { k < length groups.now }
+    ensures { slice_get groups.entry.now k ≡ Some result.now }
+{
+    groups[k].as_slice()
+}
+
+/// Tells of the labels that a part seeks on its operands, by the rows of its own parts and by what they are.
+fn judge_part(
+    alloc: Global,
+    universe: &Universe,
     part: &Expr,
+    rows: &[Row],
+    conditions: &[Condition],
     found: &mut Vec<Finding>,
 ) -> Result<(), Memory>
     requires listing { IsListing universe.now }
-    requires env { IsEnvironment universe.now env.now }
-    ensures { OnOk result (Adds (IsOfPart universe.now env.now (tree part.now)) found.old.items found.new.items) }
+    requires rows { (env : Environment) × IsEnvironment universe.now env × (rows.now ≡ map (row_of universe.now env) (parts_of (tree part.now))) }
+    requires conditions { conditions.now ≡ map condition_of (parts_of (tree part.now)) }
+    ensures { (env : Environment) → rows.now ≡ map (row_of universe.now env) (parts_of (tree part.now)) → OnOk result (Adds (IsOfPart universe.now env (tree part.now)) found.old.items found.new.items) }
 {
     match part {
-        Expr::Aggregate { op, grouping, .. } => match part_at(part, operand_place(*op)) {
-            Some(operand) => {
-                judge_operand(
-                    alloc,
-                    universe,
-                    env,
-                    operand,
-                    labels_by(grouping),
-                    &[],
-                    found,
-                )
-            }
+        Expr::Aggregate { op, grouping, .. } => match row_at(rows, operand_place(*op)) {
+            Some(row) => judge_operand(alloc, universe, row, labels_by(grouping), &[], found),
             None => Ok(()),
         },
-        Expr::Binary {
-            modifier,
-            left,
-            right,
-            ..
-        } => judge_match(alloc, universe, env, modifier, left, right, found),
+        Expr::Binary { modifier, .. } => {
+            let vectors = are_vectors(conditions);
+            judge_match(
+                alloc, universe, modifier, vectors, &rows[0], &rows[1], found,
+            )
+        }
         _ => Ok(()),
     }
+}
+
+/// The row at a place, if there is one.
+fn row_at(rows: &[Row], place: usize) -> Option<&Row>
+    ensures some { IfSome result (λ row. slice_get rows.entry.now place ≡ Some row.now) }
+    ensures none { IfNone result (slice_get rows.entry.now place ≡ None) }
+{
+    rows.get(place)
 }
 
 /// The labels of `by`, if it is there.
@@ -108,56 +176,50 @@ fn operand_place(op: Agg) -> usize
     }
 }
 
-/// Tells of the labels that a match seeks on its sides, if it seeks any and these are vectors.
+/// Whether both sides of an operator are vectors, by what they are.
+fn are_vectors(sides: &[Condition]) -> bool
+    requires { length sides.now ≡ 2 }
+    ensures { (left right : Tree) → sides.now ≡ condition_of left ∷ condition_of right ∷ [] → result ≡ (is_vector (type_by_form left) && is_vector (type_by_form right)) }
+{
+    is_vector(sides[0].form) && is_vector(sides[1].form)
+}
+
+/// Tells of the labels that a match seeks on its sides, if these are vectors.
 fn judge_match(
     alloc: Global,
     universe: &Universe,
-    env: &Env,
     matching: &Matching,
-    left: &Expr,
-    right: &Expr,
+    vectors: bool,
+    left: &Row,
+    right: &Row,
     found: &mut Vec<Finding>,
 ) -> Result<(), Memory>
-    requires listing { IsListing universe.now }
-    requires env { IsEnvironment universe.now env.now }
-    ensures { OnOk result (Adds (IsOfMatch universe.now env.now matching.now (tree left.now) (tree right.now)) found.old.items found.new.items) }
+    requires left { HasShape universe.now left.now }
+    requires right { HasShape universe.now right.now }
+    ensures { OnOk result (Adds (IsOfMatch universe.now vectors matching.now left.now right.now) found.old.items found.new.items) }
 {
-    if names_at(&matching.on).is_empty() && matching.include.as_slice().is_empty() {
+    if !vectors {
         return Ok(());
     }
-    if !is_vector_part(alloc, left)? {
-        return Ok(());
-    }
-    if !is_vector_part(alloc, right)? {
-        return Ok(());
-    }
-    judge_sides(alloc, universe, env, matching, left, right, found)
-}
-
-/// Whether an expression is a vector, by its form.
-fn is_vector_part(alloc: Global, expr: &Expr) -> Result<bool, Memory>
-    ensures { IfOk result (λ is. is ≡ is_vector (type_by_form (tree expr.now))) }
-{
-    Ok(is_vector(condition_of(alloc, expr)?.form))
+    judge_sides(alloc, universe, matching, left, right, found)
 }
 
 /// Tells of the labels that a match seeks on its sides: those of `on` on both, and those of a group list on the one side.
 fn judge_sides(
     alloc: Global,
     universe: &Universe,
-    env: &Env,
     matching: &Matching,
-    left: &Expr,
-    right: &Expr,
+    left: &Row,
+    right: &Row,
     found: &mut Vec<Finding>,
 ) -> Result<(), Memory>
-    requires listing { IsListing universe.now }
-    requires env { IsEnvironment universe.now env.now }
-    ensures { OnOk result (Adds (IsOfSides universe.now env.now matching.now (tree left.now) (tree right.now)) found.old.items found.new.items) }
+    requires left { HasShape universe.now left.now }
+    requires right { HasShape universe.now right.now }
+    ensures { OnOk result (Adds (IsOfSides universe.now matching.now left.now right.now) found.old.items found.new.items) }
 {
     let on = names_at(&matching.on);
-    judge_operand(alloc, universe, env, left, on, for_left(matching), found)?;
-    judge_operand(alloc, universe, env, right, on, for_right(matching), found)
+    judge_operand(alloc, universe, left, on, for_left(matching), found)?;
+    judge_operand(alloc, universe, right, on, for_right(matching), found)
 }
 
 /// The names of a list, if there is one.
@@ -190,26 +252,20 @@ fn for_right(matching: &Matching) -> &[Name]
     }
 }
 
-/// Tells which of two lists of labels are never on an operand, whose row is made once, and only where there is a label.
+/// Tells which of two lists of labels are never on an operand, by its row.
 fn judge_operand(
     alloc: Global,
     universe: &Universe,
-    env: &Env,
-    operand: &Expr,
+    row: &Row,
     labels: &[Name],
     others: &[Name],
     found: &mut Vec<Finding>,
 ) -> Result<(), Memory>
-    requires listing { IsListing universe.now }
-    requires env { IsEnvironment universe.now env.now }
-    ensures { OnOk result (Adds (IsOfOperand universe.now env.now (tree operand.now) labels.now others.now) found.old.items found.new.items) }
+    requires { HasShape universe.now row.now }
+    ensures { OnOk result (Adds (IsOfRow universe.now row.now labels.now others.now) found.old.items found.new.items) }
 {
-    if labels.is_empty() && others.is_empty() {
-        return Ok(());
-    }
-    let row = flow(alloc, universe, env, operand)?;
-    judge_labels(alloc, universe, &row, labels, found)?;
-    judge_labels(alloc, universe, &row, others, found)
+    judge_labels(alloc, universe, row, labels, found)?;
+    judge_labels(alloc, universe, row, others, found)
 }
 
 /// Tells which labels are never on the samples of a row.

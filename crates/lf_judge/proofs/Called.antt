@@ -1,6 +1,8 @@
 -- A rule is called empty exactly where its row is, whatever the verdicts on its labels are.
 use Rattle.std.proofs.Common.{◌≡◌, ℕ, Bool, not, List, Some, sym, ap, ◌∙◌}
 use Rattle.std.specs.Prelude.{slice_get}
+use Rattle.lf_deps.proofs.RuleTrees.{tree_at}
+use Rattle.lf_laws.proofs.Options.{the_same}
 use Rattle.lf_ast.specs.Rules.{RuleTree, rule_tree, rule_trees}
 use Rattle.lf_ast.specs.declared.rule.Rule.{Rule}
 use Rattle.lf_semantics.specs.ClassRows.{is_live}
@@ -11,7 +13,6 @@ use Rattle.lf_trials.specs.Verdicts.{IsRuleVerdict, RuleVerdict, Empty, Labels}
 use Rattle.lf_trials.proofs.SomeVerdict.{some_verdict}
 use Rattle.lf_judge.specs.Judged.{is_empty}
 use Rattle.lf_judge.specs.views.Checking.{TellsEmpty}
-use Rattle.lf_judge.proofs.Places.{the_same, tree_at}
 
 called_empty : (u : Listing) (env : Environment) (rules : List RuleTree) (i : ℕ) (r : RuleTree) (v : RuleVerdict) → IsRuleVerdict u env rules i r v → not (is_live (rule_row u env r)) ≡ is_empty v
 called_empty u env rules i r Empty h = ap not h

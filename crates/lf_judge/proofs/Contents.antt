@@ -3,6 +3,8 @@ use Rattle.std.proofs.Common.{◌≡◌, ◌⊎◌, inl, inr, ℕ, ◌+◌, zero
 use Rattle.std.specs.Prelude.{slice_get}
 use Rattle.std.specs.List.{Contains}
 use Rattle.std.proofs.lemmas.Option.{slice_get-get_or, slice_get_within}
+use Rattle.lf_laws.proofs.Slices.{some_at}
+use Rattle.lf_laws.proofs.Options.{the_same}
 use Rattle.lf_base.specs.declared.fault.Fault.{Fault}
 use Rattle.lf_base.specs.Faults.{fault}
 use Rattle.lf_laws.proofs.Members.{none_in, of_flat_map}
@@ -13,8 +15,6 @@ use Rattle.lf_checks.specs.AlertTemplate.{HaveSources}
 use Rattle.lf_checks.specs.Files.{File, StandIn}
 use Rattle.lf_judge.specs.Founds.{AreContents, Content, Holds, Refused, Rules, accepted, rules_in}
 use Rattle.lf_judge.proofs.Sourced.{IsSourced, sourced}
-use Rattle.lf_judge.proofs.Places.{the_same}
-use Rattle.lf_report.proofs.Zips.{some_at}
 
 -- ---- one
 

@@ -4,19 +4,19 @@ use Rattle.std.specs.List.{flat_map}
 use Rattle.std.specs.Prelude.{slice_get}
 use Rattle.std.proofs.lemmas.List.{append-nil, append_assoc, length-map, reverse-append, reverse-reverse}
 use Rattle.std.proofs.lemmas.List.Folds.{flat_map-map}
+use Rattle.lf_laws.proofs.Slices.{of_map_at}
 use Rattle.lf_checks.specs.Files.{File}
 use Rattle.lf_ast.specs.Rules.{RuleTree}
 use Rattle.lf_report.specs.declared.report.Refused.{Refused as Refusal}
 use Rattle.lf_judge.specs.Founds.{AreContents, Holds, accepted, rules_in}
 use Rattle.lf_judge.specs.declared.accepting.Found.{Found}
 use Rattle.lf_judge.specs.views.Accepting.{IsFoundIn, content_of, refusal_in}
-use Rattle.lf_judge.proofs.Pieces.{mapped_at}
 use Rattle.lf_judge.proofs.Places.{map_twice, moved_all}
 
 pub all_found : (files : List File) (found : List Found) → length found ≡ length files → ((i : ℕ) (x : Found) → slice_get found i ≡ Some x → IsFoundIn files i x) → AreContents files (map content_of found)
 all_found files found n each = record {
   count = length-map found content_of ∙ n;
-  each = λ k file content there at. (let x = mapped_at content_of found k content at in subst (Holds k file) x.2 (each k x.0 x.1 file there));
+  each = λ k file content there at. (let x = of_map_at content_of found k content at in subst (Holds k file) x.2 (each k x.0 x.1 file there));
 }
 
 abbrev pub refusal_of : Found → Option Refusal

@@ -2,7 +2,7 @@ pub mod Called
 pub mod Contents
 pub mod FirstOpen
 pub mod Found
-pub mod NameSpots
+pub mod NamePositions
 pub mod Named
 pub mod Numbered
 pub mod OneLeast

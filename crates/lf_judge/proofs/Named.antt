@@ -4,23 +4,20 @@ use Rattle.std.specs.List.{list_any}
 use Rattle.std.specs.Prelude.{◌||◌, option_and_then, slice_get}
 use Rattle.std.proofs.lemmas.List.{length-append}
 use Rattle.std.proofs.lemmas.Option.{slice_get_within}
+use Rattle.lf_laws.proofs.Slices.{at_end}
+use Rattle.lf_laws.proofs.Options.{the_same}
 use Rattle.lf_ast.specs.Rules.{RuleTree}
 use Rattle.lf_open.specs.declared.open_at.OpenAt.{OpenAt}
 use Rattle.lf_worlds.specs.views.Told.{rule_verdict}
 use Rattle.lf_judge.specs.Judged.{IsFirstOpen, has_unresolved}
 use Rattle.lf_judge.specs.declared.rule_found.RuleFound.{RuleFound}
 use Rattle.lf_judge.specs.views.RulesFound.{NameFirsts, first_at}
-use Rattle.lf_judge.proofs.Places.{the_same}
 
 -- what stands at a place, and what is put behind
 before_end : {A : Type 0} (xs : List A) (y : A) (i : ℕ) → i < length xs → slice_get (xs ++ y ∷ []) i ≡ slice_get xs i
 before_end [] y i lt = absurd (omega (arith, lt))
 before_end (x ∷ xs) y zero lt = refl
 before_end (x ∷ xs) y (suc i) lt = before_end xs y i (omega (arith, lt))
-
-at_end : {A : Type 0} (xs : List A) (y : A) → slice_get (xs ++ y ∷ []) (length xs) ≡ Some y
-at_end [] y = refl
-at_end (x ∷ xs) y = at_end xs y
 
 below_or_last : (i k : ℕ) → i < k + 1 → (i < k) ⊎ (i ≡ k)
 below_or_last zero zero lt = inr refl

@@ -2,7 +2,7 @@
 use Rattle.std.proofs.Common.{◌≡◌, ℕ, ◌+◌, ◌<◌, zero, suc, List, ◌++◌, [], ◌∷◌, length, Some, refl, ap, ◌∙◌, subst, arith, reverse}
 use Rattle.std.specs.Prelude.{slice_get}
 use Rattle.std.proofs.lemmas.List.{length-append, reverse-append}
-use Rattle.lf_judge.proofs.Places.{the_same}
+use Rattle.lf_laws.proofs.Options.{the_same}
 
 module _ {A : Type 0} (P : ℕ → A → Type 0) where
   -- something holds of each element, by its number from one on

@@ -2,8 +2,8 @@
 use Rattle.std.proofs.Common.{◌≡◌, ℕ, ◌<◌, zero, suc, List, [], ◌∷◌, map, Some, Ok, refl, sym, subst, ◌∙◌}
 use Rattle.std.specs.Prelude.{slice_get}
 use Rattle.std.proofs.lemmas.Option.{slice_get_within}
+use Rattle.lf_laws.proofs.Options.{the_same}
 use Rattle.lf_board.specs.Pieces.{IsMapOf, Work}
-use Rattle.lf_judge.proofs.Places.{the_same}
 
 module _ {F T : Type 0} (g : Work F T) (work : F) (n : ℕ) (P : ℕ → T → Type 0) where
   pub each_value : ((i : ℕ) (x : T) → i < n → g.post work (i, tt) (Ok x) → P i x) → (values : List T) → IsMapOf g work n values → (i : ℕ) (x : T) → slice_get values i ≡ Some x → P i x
@@ -11,9 +11,3 @@ module _ {F T : Type 0} (g : Work F T) (work : F) (n : ℕ) (P : ℕ → T → T
       let inside : i < n = subst (λ k. i < k) is.count (slice_get_within values i x at) in
       let y = is.each i inside in
       subst (P i) (the_same y.0 x (sym y.1 ∙ at)) (gives i y.0 inside y.2)
-
--- what stands in a mapped list is of what stands at its place
-pub mapped_at : {A B : Type 0} (f : A → B) (xs : List A) (k : ℕ) (y : B) → slice_get (map f xs) k ≡ Some y → (x : A) × (slice_get xs k ≡ Some x) × (f x ≡ y)
-mapped_at f [] k y e = cc
-mapped_at f (x ∷ xs) zero y e = (x, refl, the_same (f x) y e)
-mapped_at f (x ∷ xs) (suc k) y e = mapped_at f xs k y e

@@ -1,29 +1,19 @@
 -- Files and rules of the code at their places.
-use Rattle.std.proofs.Common.{◌≡◌, ℕ, ◌<◌, List, ◌++◌, [], ◌∷◌, length, map, get_or, Option, Some, refl, sym, ap, ◌∙◌, arith, reverse}
+use Rattle.std.proofs.Common.{◌≡◌, ℕ, ◌<◌, List, ◌++◌, [], ◌∷◌, length, map, get_or, Option, Some, refl, sym, ap, ◌∙◌, append-nil, append_assoc, arith, reverse}
 use Rattle.std.specs.Prelude.{slice_get}
 use Rattle.std.specs.Option.{option_map}
 use Rattle.std.proofs.lemmas.List.{length-map, reverse-append, reverse-reverse}
 use Rattle.std.proofs.lemmas.Option.{get_or_from_slice_get, slice_get-get_or, slice_get-map, slice_get_within}
+use Rattle.lf_deps.proofs.RuleTrees.{tree_at}
 use Rattle.lf_ast.specs.Rules.{rule_tree, rule_trees}
 use Rattle.lf_ast.specs.declared.rule.Rule.{Rule}
 use Rattle.lf_checks.specs.Files.{StandIn}
 use Rattle.lf_judge.specs.Judged.{file_of, files_of}
 use Rattle.lf_judge.specs.declared.source.Source.{Source}
 
-pub the_same : {X : Type 0} (x y : X) → Some x ≡ Some y → x ≡ y
-the_same x y e = cc
-
-pub map_append : {A B : Type 0} (f : A → B) (xs ys : List A) → map f (xs ++ ys) ≡ map f xs ++ map f ys
-map_append f [] ys = refl
-map_append f (x ∷ xs) ys = ap (λ l. f x ∷ l) (map_append f xs ys)
-
 pub map_twice : {A B D : Type 0} (g : B → D) (f : A → B) (xs : List A) → map g (map f xs) ≡ map (λ x. g (f x)) xs
 map_twice g f [] = refl
 map_twice g f (x ∷ xs) = ap (λ l. g (f x) ∷ l) (map_twice g f xs)
-
--- a rule at its place, as a tree
-pub tree_at : (rules : List Rule) (k : ℕ) (r : Rule) → slice_get rules k ≡ Some r → slice_get (rule_trees rules) k ≡ Some (rule_tree r)
-tree_at rules k r e = slice_get-map rule_tree rules k ∙ ap (λ (o : Option Rule). option_map rule_tree o) e
 
 -- a file at its place
 pub file_at : (files : List Source) (k : ℕ) (s : Source) → slice_get files k ≡ Some s → slice_get (files_of files) k ≡ Some (file_of s)
@@ -46,17 +36,9 @@ module _ {A B : Type 0} (f : A → B) where
   pub moved_more : (told pushed whole : List B) (old new : List A) (x : A) (one : B) → old ≡ new ++ x ∷ [] → one ≡ f x → pushed ≡ told ++ one ∷ [] → told ++ map f (reverse old) ≡ whole
       → pushed ++ map f (reverse new) ≡ whole
   moved_more told pushed whole old new x one e is pushes before =
-      ap (λ (l : List B). l ++ map f (reverse new)) (pushes ∙ ap (λ y. told ++ y ∷ []) is) ∙ append_one told (f x) (map f (reverse new))
+      ap (λ (l : List B). l ++ map f (reverse new)) (pushes ∙ ap (λ y. told ++ y ∷ []) is) ∙ append_assoc told (f x ∷ []) (map f (reverse new))
       ∙ ap (λ l. told ++ map f l) (sym (reverse-append new (x ∷ []))) ∙ ap (λ l. told ++ map f (reverse l)) (sym e) ∙ before
-    where
-      append_one : (xs : List B) (y : B) (ys : List B) → (xs ++ y ∷ []) ++ ys ≡ xs ++ y ∷ ys
-      append_one [] y ys = refl
-      append_one (x ∷ xs) y ys = ap (λ l. x ∷ l) (append_one xs y ys)
 
   pub moved_all : (told : List B) (left taken whole : List A) → left ≡ [] → taken ≡ reverse whole → told ++ map f (reverse left) ≡ map f (reverse taken) → told ≡ map f whole
   moved_all told left taken whole none is e =
-      sym (append_none told) ∙ ap (λ l. told ++ map f (reverse l)) (sym none) ∙ e ∙ ap (λ l. map f (reverse l)) is ∙ ap (map f) (reverse-reverse whole)
-    where
-      append_none : (xs : List B) → xs ++ [] ≡ xs
-      append_none [] = refl
-      append_none (x ∷ xs) = ap (λ l. x ∷ l) (append_none xs)
+      sym (append-nil told) ∙ ap (λ l. told ++ map f (reverse l)) (sym none) ∙ e ∙ ap (λ l. map f (reverse l)) is ∙ ap (map f) (reverse-reverse whole)

@@ -2,6 +2,8 @@
 use Rattle.std.proofs.Common.{◌≡◌, ℕ, ◌+◌, zero, suc, Bool, List, [], ◌∷◌, length, map, Some, refl, sym, ap, ap₂, subst, ◌∙◌, arith}
 use Rattle.std.specs.Prelude.{slice_get}
 use Rattle.std.proofs.lemmas.List.{length-map}
+use Rattle.lf_laws.proofs.Slices.{of_map_at}
+use Rattle.lf_laws.proofs.Options.{the_same}
 use Rattle.lf_ast.specs.Rules.{RuleTree}
 use Rattle.lf_checks.specs.Files.{File}
 use Rattle.lf_report.specs.declared.report.RuleReport.{RuleReport}
@@ -9,8 +11,6 @@ use Rattle.lf_semantics.specs.RowTable.{Environment}
 use Rattle.lf_judge.specs.Judged.{Checked, ToldRule, rule_in, rules_told}
 use Rattle.lf_judge.specs.views.Checking.{IsCheckedAt, TellsRule, TellsRules}
 use Rattle.lf_judge.proofs.Contents.{same_list}
-use Rattle.lf_judge.proofs.Pieces.{mapped_at}
-use Rattle.lf_judge.proofs.Places.{the_same}
 
 module _ (files : List File) (rules : List RuleTree) (env : Environment) (labels : Bool) where
   -- the rules that are told of from one number on, each with its verdict and findings
@@ -52,7 +52,7 @@ module _ (files : List File) (rules : List RuleTree) (env : Environment) (labels
         checked,
         record {
           each_rule = same_list (map (λ (c : Checked). c.rule) checked) rules (length-map checked (λ (c : Checked). c.rule) ∙ are.count ∙ n)
-              (λ i r s at there. (let c = mapped_at (λ (d : Checked). d.rule) checked i r at in sym c.2 ∙ the_same c.0.rule s (sym (each i c.0 c.1).rule ∙ there)));
+              (λ i r s at there. (let c = of_map_at (λ (d : Checked). d.rule) checked i r at in sym c.2 ∙ the_same c.0.rule s (sym (each i c.0 c.1).rule ∙ there)));
           each_verdict = λ i c at. (each i c at).verdict;
           each_open = λ on i c at. (each i c at).first on;
           each_list = λ i c at. (each i c at).list;

@@ -3,4 +3,4 @@ pub mod Accepting
 pub mod AtHand
 pub mod Checking
 pub mod RulesFound
-pub mod Spots
+pub mod NamePositions

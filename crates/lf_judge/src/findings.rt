@@ -11,7 +11,7 @@ use crate::wording::{check_name, severity};
 use lf_ast::Finding as Found;
 use lf_base::{Memory, Seq, Text};
 use lf_checks::text_of;
-use lf_report::{Finding, Spot, place_at};
+use lf_report::{Finding, Position, place_at};
 use std::alloc::Global;
 
 /// The findings of the rule with this number.
@@ -64,11 +64,11 @@ fn other_place(alloc: Global, hand: &AtHand, other: Option<u32>) -> Result<Text,
     }
     let file = hand.rules.get(at).file as usize;
     let name = hand.files.get(file).name.as_str();
-    place_at(alloc, name, spot_at(hand.names, at))
+    place_at(alloc, name, position_at(hand.names, at))
 }
 
-/// The spot with this number, counted from 0.
-fn spot_at(names: &[Spot], number: usize) -> Spot
+/// The position with this number, counted from 0.
+fn position_at(names: &[Position], number: usize) -> Position
     requires { number < length names.now }
     ensures { result ≡ slice_index_or names.now number result }
 {

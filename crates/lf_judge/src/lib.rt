@@ -9,7 +9,7 @@ mod judge_end;
 mod judging;
 mod measuring;
 mod moving;
-mod name_spots;
+mod name_positions;
 mod rule_found;
 mod source;
 mod telling;

@@ -11,14 +11,14 @@ ghost use Rattle.lf_judge.specs.Limits.{most_rules};
 ghost use Rattle.lf_judge.specs.views.AtHand.{IsReady, TellsRuleAt, TellsRulesAt, rules_at};
 ghost use Rattle.lf_judge.specs.views.Checking.{TellsRules};
 ghost use Rattle.lf_judge.specs.views.RulesFound.{AreFoundAt, IsFoundAt, NameFirsts};
-ghost use Rattle.lf_judge.specs.views.Spots.{AreNameSpots};
+ghost use Rattle.lf_judge.specs.views.NamePositions.{AreNamePositions};
 
 use crate::Source;
 use crate::at_hand::{AtHand, TELLING};
 use crate::findings::findings_of;
 use crate::firsts::{first_at, firsts_of};
 use crate::moving::taken_out;
-use crate::name_spots::name_spots;
+use crate::name_positions::name_positions;
 use crate::rule_found::{RuleFound, find_rules};
 use crate::verdicts::{is_empty, rule_told};
 use lf_ast::{Rule, RuleVerdicts};
@@ -28,7 +28,7 @@ use lf_checks::Checker;
 use lf_classes::Universe;
 use lf_flow::Env;
 use lf_open::OpenAt;
-use lf_report::{Finding, RuleReport, Spot};
+use lf_report::{Finding, Position, RuleReport};
 use std::alloc::Global;
 use std::thread::Threads;
 
@@ -52,20 +52,20 @@ pub fn tell_rules<R: Threads + Sync, G: Gate + Sync>(
     requires workers { (0 < workers) × (workers ≤ 64) }
     ensures { IfOk result (TellsRules (files_of files.now) (rule_trees rules.now) env.now labels) }
 {
-    let names = name_spots(alloc, files, rules)?;
+    let names = name_positions(alloc, files, rules)?;
     let names = names.as_slice();
     tell_named(
         rt, alloc, files, rules, names, universe, env, labels, workers, gate,
     )
 }
 
-/// The same, where the names of the rules stand at these spots.
+/// The same, where the names of the rules stand at these positions.
 fn tell_named<R: Threads + Sync, G: Gate + Sync>(
     rt: &R,
     alloc: Global,
     files: &Seq<Source>,
     rules: &Seq<Rule>,
-    names: &[Spot],
+    names: &[Position],
     universe: &Universe,
     env: &Env,
     labels: bool,
@@ -77,7 +77,7 @@ fn tell_named<R: Threads + Sync, G: Gate + Sync>(
     requires sources { HaveSources (rule_trees rules.now) }
     requires stand { StandIn (files_of files.now) (rule_trees rules.now) }
     requires few { length rules.now ≤ most_rules }
-    requires names { AreNameSpots (files_of files.now) (rule_trees rules.now) names.now }
+    requires names { AreNamePositions (files_of files.now) (rule_trees rules.now) names.now }
     requires workers { (0 < workers) × (workers ≤ 64) }
     ensures { IfOk result (TellsRules (files_of files.now) (rule_trees rules.now) env.now labels) }
 {

@@ -3,6 +3,7 @@ use Rattle.std.proofs.Common.{◌≡◌, ℕ, inl, inr, List, ◌∷◌, map, So
 use Rattle.std.specs.Prelude.{slice_get}
 use Rattle.std.specs.List.{Contains}
 use Rattle.std.proofs.lemmas.Option.{slice_get_within}
+use Rattle.lf_laws.proofs.Slices.{number_of, some_at}
 use Rattle.lf_laws.proofs.Members.{behind, first_or_behind, in_flat_map, in_map, map_member, none_in, of_flat_map}
 use Rattle.lf_ast.specs.Rules.{RuleTree}
 use Rattle.lf_ast.specs.Selectors.{metric}
@@ -16,7 +17,6 @@ use Rattle.lf_accept.proofs.AcceptedRules.{accepted_rule, sets_no_name}
 use Rattle.lf_accept.proofs.Starless.{no_star}
 use Rattle.lf_judge.specs.Founds.{AreContents, Content, Rules, Refused, accepted, rules_in}
 use Rattle.lf_shown.proofs.Settled.{AreTyped}
-use Rattle.lf_lint.proofs.ToldRules.{number_of, there_is}
 
 -- the rule is one of those with which the file with this number is accepted
 pub record IsOfFile (files : List File) (r : RuleTree) : Type 0 where
@@ -31,13 +31,13 @@ module _ (files : List File) (contents : List Content) (are : AreContents files 
   of_content : (r : RuleTree) (k : ℕ) (content : Content) → slice_get contents k ≡ Some content → Contains (rules_in content) r → IsOfFile files r
   of_content r k (Refused kind span) at c = absurd (none_in r c)
   of_content r k (Rules rules) at c =
-      let (file, is_file) = there_is files k (omega (arith, slice_get_within contents k (Rules rules) at, are.count)) in
+      let (file, is_file) = some_at files k (omega (arith, slice_get_within contents k (Rules rules) at, are.count)) in
       record { number = k; file = file; rules = rules; is_file = is_file; is_accepted = are.each k file (Rules rules) is_file at; is_one = c }
 
   pub of_file : (r : RuleTree) → Contains (accepted contents) r → IsOfFile files r
   of_file r c =
       let (content, there, inside) = of_flat_map rules_in contents r c in
-      let (k, at) = number_of contents content there in
+      let (k, _, at) = number_of contents content there in
       of_content r k content at inside
 
   pub set_no_name : (r : RuleTree) → Contains (accepted contents) r → SetsNoName r

@@ -6,6 +6,7 @@ use Rattle.std.proofs.lemmas.Bool.Decides.{nat_tests}
 use Rattle.std.proofs.lemmas.List.{length-map, map-append, take_more}
 use Rattle.std.proofs.lemmas.Option.{slice_get_within}
 use Rattle.std.proofs.lemmas.List.Sums.{sum_by-append, sum_by-cons}
+use Rattle.std.proofs.lemmas.Slice.Zip.{AllZip-long}
 use Rattle.lf_ast.specs.Labels.{Bytes}
 use Rattle.lf_checks.specs.Files.{File}
 use Rattle.lf_judge.specs.Judged.{file_of, files_of}
@@ -60,10 +61,6 @@ pub record AreGatheredSoFar (held : Bytes → Option Bytes) (names : List Bytes)
   pub count : length sources ≡ k
 
 module _ (held : Bytes → Option Bytes) (names : List Bytes) where
-  pub none_gathered : (sources : List Source) → sources ≡ [] → AreGatheredSoFar held names 0 sources 0
-  none_gathered [] e = record { read = tt; short = record { each = tt; together = omega arith }; total = refl; count = refl }
-  none_gathered (s ∷ sources) e = cc
-
   pub one_gathered : (k : ℕ) (name : Bytes) (sources later : List Source) (source : Source) (before count : ℕ) → k < length names → name ≡ slice_index_or names k name → AreGatheredSoFar held names k sources before
       → later ≡ sources ++ source ∷ [] → IsRead held name (file_of source) → length source.bytes ≡ count → count ≤ room_behind before → AreGatheredSoFar held names (k + 1) later (before + count)
   one_gathered k name sources later source before count less is so_far grown read counted fits =
@@ -141,14 +138,8 @@ each_at P (s ∷ sources) all (suc k) source e = each_at P sources all.1 k sourc
 pub short_each : (sources : List Source) → AreShort (files_of sources) → (k : ℕ) (source : Source) → slice_get sources k ≡ Some source → length source.bytes ≤ most_bytes
 short_each sources short = each_at (λ (f : File). length f.bytes ≤ most_bytes) sources short.each
 
-zip_length : (R : Bytes → File → Type 0) (xs : List Bytes) (ys : List File) → AllZip R xs ys → length ys ≡ length xs
-zip_length R [] [] are = refl
-zip_length R [] (y ∷ ys) are = absurd are
-zip_length R (x ∷ xs) [] are = absurd are
-zip_length R (x ∷ xs) (y ∷ ys) are = ap (λ k. suc k) (zip_length R xs ys are.1)
-
 few_files : (held : Bytes → Option Bytes) (options : Options) (files : List File) → AreGathered held options files → length files ≤ most_files
-few_files held (Lint workers json labels names) files are = omega (arith, are.few, zip_length (IsRead held) names files are.are_files)
+few_files held (Lint workers json labels names) files are = omega (arith, are.few, AllZip-long (IsRead held) names files are.are_files)
 few_files held (Gen n) files are = let one : length files ≡ 1 = ap length are.are_files in omega (arith, one)
 
 pub few_sources : (held : Bytes → Option Bytes) (options : Options) (sources : List Source) → AreGathered held options (files_of sources) → length sources ≤ most_files

@@ -5,7 +5,8 @@ use Rattle.std.specs.List.{Contains}
 use Rattle.std.proofs.lemmas.List.{length-map}
 use Rattle.std.proofs.lemmas.List.Elements.{Contains-append_cases}
 use Rattle.std.proofs.lemmas.Option.{slice_get_within}
-use Rattle.lf_laws.proofs.Members.{here, none_in}
+use Rattle.lf_laws.proofs.Slices.{member_at, of_map_at, to_map_at}
+use Rattle.lf_laws.proofs.Members.{any_has, here, none_in}
 use Rattle.lf_ast.specs.Rules.{RuleTree}
 use Rattle.lf_ast.specs.declared.verdict.RuleVerdicts.{RuleVerdicts}
 use Rattle.lf_ast.specs.declared.verdict.Verdict.{Verdict}
@@ -14,8 +15,6 @@ use Rattle.lf_base.specs.declared.place.Span.{Span}
 use Rattle.lf_checks.specs.Files.{File}
 use Rattle.lf_deps.specs.Ordering.{without}
 use Rattle.lf_trials.specs.Verdicts.{LabelVerdict, RuleVerdict, Empty, Labels, Guaranteed, Impossible, Possible, Unresolved}
-use Rattle.lf_trials.proofs.MadeSeries.{any_has}
-use Rattle.lf_trials.proofs.ShownInWorlds.{at_number}
 use Rattle.lf_judge.specs.Founds.{Content, accepted}
 use Rattle.lf_judge.specs.Judged.{Checked, IsFirstOpen, IsReportOn, ToldRule, files_told, has_unresolved, is_unresolved, rule_in, rule_told, unresolved_told, verdict_told, verdicts_told}
 use Rattle.lf_open.specs.OpenList.{AreOpenOfEach}
@@ -24,7 +23,7 @@ use Rattle.lf_report.specs.Numbers.{NameRules, StandInFiles, labels_of}
 use Rattle.lf_report.specs.declared.report.Report.{Report}
 use Rattle.lf_report.specs.declared.report.RuleReport.{RuleReport}
 use Rattle.lf_judge.proofs.Contents.{stand_in}
-use Rattle.lf_lint.proofs.ToldRules.{of_map, to_map, told_at, told_count}
+use Rattle.lf_lint.proofs.ToldRules.{told_at, told_count}
 
 told_files_count : (files : List File) (contents : List Content) → length contents ≡ length files → length (files_told files contents) ≡ length files
 told_files_count [] contents n = refl
@@ -59,19 +58,19 @@ module _ (rules : List RuleTree) where
   named_in false k r first v within is_first l construct number span e = absurd cc
   named_in true k r first Empty within is_first l construct number span e = absurd cc
   named_in true k r first (Labels verdicts) within is_first l construct number span e =
-      let (v, at, is) = of_map (verdict_told first k r) verdicts l (told.Unresolved construct number span) e in
-      of_label k r first v within (λ f. is_first refl (any_has is_unresolved verdicts v (at_number verdicts l v at) f)) construct number span is
+      let (v, at, is) = of_map_at (verdict_told first k r) verdicts l (told.Unresolved construct number span) e in
+      of_label k r first v within (λ f. is_first refl (any_has is_unresolved verdicts v (member_at verdicts l v at) f)) construct number span is
 
 module _ (files : List File) (labels : Bool) (report : Report) (on : IsReportOn files labels report) where
   -- what is told of the rule with a number
   told_of : (k : ℕ) (rule : RuleReport) → slice_get report.rules k ≡ Some rule → (c : Checked) × (slice_get on.checked k ≡ Some c) × (rule_told labels k c ≡ rule_in rule)
   told_of k rule at =
-      let told = told_at labels 0 on.checked k (rule_in rule) (ap (λ l. slice_get l k) (sym on.rules_are) ∙ to_map rule_in report.rules k rule at) in
+      let told = told_at labels 0 on.checked k (rule_in rule) (ap (λ l. slice_get l k) (sym on.rules_are) ∙ to_map_at rule_in report.rules k rule at) in
       let same : 0 + k ≡ k = omega arith in
       (told.0, told.1, ap (λ i. rule_told labels i told.0) (sym same) ∙ told.2)
 
   rule_at : (k : ℕ) (c : Checked) → slice_get on.checked k ≡ Some c → slice_get (accepted on.contents) k ≡ Some c.rule
-  rule_at k c is = ap (λ l. slice_get l k) (sym on.are_checked.each_rule) ∙ to_map (λ (x : Checked). x.rule) on.checked k c is
+  rule_at k c is = ap (λ l. slice_get l k) (sym on.are_checked.each_rule) ∙ to_map_at (λ (x : Checked). x.rule) on.checked k c is
 
   -- the report tells of as many rules as there are
   as_many : length report.rules ≡ length (accepted on.contents)
@@ -83,7 +82,7 @@ module _ (files : List File) (labels : Bool) (report : Report) (on : IsReportOn 
       let (c, is, tells) = told_of k rule at in
       let file : c.rule.file ≡ rule.file = ap (λ (t : ToldRule). t.file) tells in
       let count : length report.files ≡ length files = ap length on.files_are ∙ told_files_count files on.contents on.are_contents.count in
-      let of_file = stand_in files on.contents on.are_contents c.rule (at_number (accepted on.contents) k c.rule (rule_at k c is)) in
+      let of_file = stand_in files on.contents on.are_contents c.rule (member_at (accepted on.contents) k c.rule (rule_at k c is)) in
       omega (arith, file, count, slice_get_within files c.rule.file of_file.0 of_file.1)
 
   pub name_rules : NameRules report

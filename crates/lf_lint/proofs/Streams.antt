@@ -25,12 +25,6 @@ IsReadSoFar None left bytes = Unit {0}
 IsReadSoFar (Some held) None bytes = ⊥
 IsReadSoFar (Some held) (Some left) bytes = held ≡ bytes ++ left
 
--- at first nothing was read
-pub read_none : (held left : Option (List ℕ)) → left ≡ held → IsReadSoFar held left []
-read_none None left e = tt
-read_none (Some held) None e = cc
-read_none (Some held) (Some left) e = cc
-
 -- what was read grows by the bytes that a call gives
 pub read_more : (held left later : Option (List ℕ)) (old new : List ℕ) (filled count : ℕ) → IsReadSoFar held left (take filled old) → take filled new ≡ take filled old
     → Reads left later (drop filled new) count → IsReadSoFar held later (take (filled + count) new)

@@ -4,6 +4,8 @@ use Rattle.std.specs.Prelude.{slice_get, slice_index_or}
 use Rattle.std.specs.List.{Contains}
 use Rattle.std.proofs.lemmas.List.{length-map}
 use Rattle.std.proofs.lemmas.List.Elements.{Contains-append_right, Contains-get_or}
+use Rattle.lf_laws.proofs.Options.{same_option}
+use Rattle.lf_laws.proofs.Slices.{member_at, of_map_at, to_map_at}
 use Rattle.lf_ast.specs.Labels.{Bytes, Labels as LabelTexts}
 use Rattle.lf_ast.specs.Rules.{RuleTree}
 use Rattle.lf_semantics.specs.ClassRows.{HasShape, Represents, Sets, holds, is_live}
@@ -23,13 +25,12 @@ use Rattle.lf_checks.specs.Findings.{AreFindings}
 use Rattle.lf_checks.specs.Truths.{IsTrue as IsTrueFinding}
 use Rattle.lf_checks.proofs.TrueFindings.{finding_is_true}
 use Rattle.lf_laws.proofs.Booleans.{clash}
-use Rattle.lf_laws.proofs.Members.{here, none_in, of_flat_map, only_one, same_true, true_same}
+use Rattle.lf_laws.proofs.Members.{any_has, here, none_in, of_flat_map, only_one, same_true, true_same}
 use Rattle.lf_trials.specs.Candidates.{has_presence, labels_in, other_name}
 use Rattle.lf_trials.specs.Reached.{listed, rules_at}
 use Rattle.lf_trials.specs.Trials.{IsFirstShown, Shown, Shows}
 use Rattle.lf_trials.specs.Verdicts.{AreLabelVerdicts, IsLabelVerdict, IsRuleVerdict, LabelVerdict, RuleVerdict, Empty, Labels, Guaranteed, Impossible, Possible, Unresolved, leaves}
-use Rattle.lf_trials.proofs.MadeSeries.{any_has}
-use Rattle.lf_trials.proofs.ShownInWorlds.{at_number, built_is_scraped, found_in, uniform_is_scraped}
+use Rattle.lf_trials.proofs.ShownInWorlds.{built_is_scraped, found_in, is_lacking, is_there, steps_among, uniform_is_scraped}
 use Rattle.lf_witness.specs.StrictRuns.{RuleStrictlyGives}
 use Rattle.lf_witness.proofs.StrictRunIsRun.{step_of, world_behind}
 use Rattle.lf_judge.specs.Founds.{accepted}
@@ -46,24 +47,9 @@ use Rattle.lf_lint.specs.Headline.{IsInWorld, IsTrue, IsTrueEmptiness, IsTrueRep
 use Rattle.lf_lint.proofs.Accepted.{are_typed, no_star_in, set_no_name}
 use Rattle.lf_lint.proofs.Leaves.{few_named, label_for_at, label_for_same, leaves_absent, leaves_present}
 use Rattle.lf_lint.proofs.Shapes.{shape_rule}
-use Rattle.lf_lint.proofs.ToldRules.{of_map, to_map, told_at, told_count}
+use Rattle.lf_lint.proofs.ToldRules.{told_at, told_count}
 
 -- ---- worlds
-
-is_there : (text : Bytes) → has_presence true text ≡ true → text ≢ []
-is_there [] e = absurd (true≢false (sym e))
-is_there (c ∷ text) e = λ empty. true≢false (sym (same_true (c ∷ text) [] empty))
-
-is_lacking : (text : Bytes) → has_presence false text ≡ true → text ≡ []
-is_lacking text e = true_same text [] e
-
-of_listed : {X : Type 0} (o : Option X) (x : X) → Contains (listed o) x → o ≡ Some x
-of_listed None x there = absurd (none_in x there)
-of_listed (Some y) x there = ap Some (only_one y x there)
-
--- the steps of a trial are of the rules
-steps_among : (rules : List RuleTree) (numbers : List ℕ) (r : RuleTree) → Contains (rules_at rules numbers) r → Contains rules r
-steps_among rules numbers r there = let from = of_flat_map (λ k. listed (slice_get rules k)) numbers r there in at_number rules from.0 r (of_listed (slice_get rules from.0) r from.2)
 
 module _ (rules : List RuleTree) (env : Environment) (i : ℕ) (r : RuleTree) (at : slice_get rules i ≡ Some r) (label : Bytes) (presence : Bool) where
   shows : (shown : Shown) → IsFirstShown (universe_of rules) env rules i label presence shown → Shows rules i label presence shown
@@ -78,11 +64,11 @@ module _ (rules : List RuleTree) (env : Environment) (i : ℕ) (r : RuleTree) (a
   in_world : (shown : Shown) → IsFirstShown (universe_of rules) env rules i label presence shown → IsInWorld rules i r label presence (world_told shown) × (has_presence presence (value_of shown.sample label) ≡ true)
   in_world shown first =
       let is = shows shown first in
-      let same : is.rule ≡ r = (let e : Some is.rule ≡ Some r = sym is.is_rule ∙ at in cc) in
+      let same : is.rule ≡ r = same_option (slice_get rules i) is.rule r is.is_rule at in
       let gives : RuleStrictlyGives is.stored r (Some is.samples) = subst (λ (x : RuleTree). RuleStrictlyGives is.stored x (Some is.samples)) same is.are_samples.0 in
       let found = found_in (λ s. has_presence presence (value_of s label)) is.samples shown.sample is.is_sample in
       let trial = shown.trial in
-      let made = world_behind rules trial.series (is_scraped shown first) (rules_at rules trial.steps) (steps_among rules trial.steps) is.stored is.is_stored.0 r is.samples (at_number rules i r at) gives in
+      let made = world_behind rules trial.series (is_scraped shown first) (rules_at rules trial.steps) (steps_among rules trial.steps) is.stored is.is_stored.0 r is.samples (member_at rules i r at) gives in
       let last : Contains made.0.steps (step_of r is.samples) =
       subst (λ (l : List Step). Contains l (step_of r is.samples)) (sym made.3) (Contains-append_right made.1 (step_of r is.samples ∷ []) (step_of r is.samples) (here (step_of r is.samples) [])) in (
         record {
@@ -223,8 +209,8 @@ module _ (rules : List RuleTree) (named : (r : RuleTree) → Contains rules r �
         let k = label_of u name in
         let found = verdict_at rules env shape labels_few classes_few i r at (lies r) (stands i r at is.0) (labels_in u) verdicts is.1 k (omega (arith, within name, label_total)) in
         let of_label = subst (λ (l : Bytes). IsLabelVerdict u env rules i (rule_row u env r) l found.0) (label_for_at u (omega (arith, labels_few)) name) found.2 in
-        let open_of : is_unresolved found.0 ≡ true → IsFirstOpen rules i first = λ e. is_first refl (any_has is_unresolved verdicts found.0 (at_number verdicts k found.0 found.1) e) in
-        (verdict_told first i r found.0, to_map (verdict_told first i r) verdicts k found.0 found.1, true_verdict rules env shape labels_few classes_few i r at (lies r) (stands i r at is.0) name first found.0 open_of of_label),
+        let open_of : is_unresolved found.0 ≡ true → IsFirstOpen rules i first = λ e. is_first refl (any_has is_unresolved verdicts found.0 (member_at verdicts k found.0 found.1) e) in
+        (verdict_told first i r found.0, to_map_at (verdict_told first i r) verdicts k found.0 found.1, true_verdict rules env shape labels_few classes_few i r at (lies r) (stands i r at is.0) name first found.0 open_of of_label),
   )
 
   -- the findings of a rule are true of it
@@ -237,9 +223,9 @@ module _ (rules : List RuleTree) (named : (r : RuleTree) → Contains rules r �
   true_finding : (files : List File) (i : ℕ) (c : Checked) (told : RuleReport) → slice_get rules i ≡ Some c.rule → AreFindings files rules env i c.found → map finding_in told.findings ≡ map finding_told c.found → (k : ℕ) (finding : ReportFinding)
       → slice_get told.findings k ≡ Some finding → IsTrueToldFinding rules c.rule finding
   true_finding files i c told at are same k finding here =
-      let there : slice_get (map finding_told c.found) k ≡ Some (finding_in finding) = ap (λ l. slice_get l k) (sym same) ∙ to_map finding_in told.findings k finding here in
-      let (f, is, tells) = of_map finding_told c.found k (finding_in finding) there in
-      (f, tells, found_true files i c at are f (at_number c.found k f is))
+      let there : slice_get (map finding_told c.found) k ≡ Some (finding_in finding) = ap (λ l. slice_get l k) (sym same) ∙ to_map_at finding_in told.findings k finding here in
+      let (f, is, tells) = of_map_at finding_told c.found k (finding_in finding) there in
+      (f, tells, found_true files i c at are f (member_at c.found k f is))
 
   speaks : (files : List File) (labels : Bool) (i : ℕ) (c : Checked) (told : RuleReport) → slice_get rules i ≡ Some c.rule → IsRuleVerdict u env rules i c.rule c.verdict
       → (labels ≡ true → has_unresolved c.verdict ≡ true → IsFirstOpen rules i c.first) → AreFindings files rules env i c.found → rule_in told ≡ rule_told labels i c → SpeaksTruth rules env labels i c.rule told
@@ -254,12 +240,12 @@ module _ (rules : List RuleTree) (named : (r : RuleTree) → Contains rules r �
   }
 
   rule_at : (checked : List Checked) (i : ℕ) (c : Checked) → map (λ (x : Checked). x.rule) checked ≡ rules → slice_get checked i ≡ Some c → slice_get rules i ≡ Some c.rule
-  rule_at checked i c each at = ap (λ l. slice_get l i) (sym each) ∙ to_map (λ (x : Checked). x.rule) checked i c at
+  rule_at checked i c each at = ap (λ l. slice_get l i) (sym each) ∙ to_map_at (λ (x : Checked). x.rule) checked i c at
 
   all_speak : (files : List File) (labels : Bool) (checked : List Checked) (reports : List RuleReport) → AreChecked files labels rules env checked → map rule_in reports ≡ rules_told labels 0 checked → (i : ℕ) (r : RuleTree) (told : RuleReport)
       → slice_get rules i ≡ Some r → slice_get reports i ≡ Some told → SpeaksTruth rules env labels i r told
   all_speak files labels checked reports are tell i r told at here =
-      let there : slice_get (rules_told labels 0 checked) i ≡ Some (rule_in told) = ap (λ l. slice_get l i) (sym tell) ∙ to_map rule_in reports i told here in
+      let there : slice_get (rules_told labels 0 checked) i ≡ Some (rule_in told) = ap (λ l. slice_get l i) (sym tell) ∙ to_map_at rule_in reports i told here in
       let (c, is, numbered) = told_at labels 0 checked i (rule_in told) there in
       let zero : 0 + i ≡ i = omega arith in
       let tells : rule_told labels i c ≡ rule_in told = ap (λ k. rule_told labels k c) (sym zero) ∙ numbered in

@@ -8,6 +8,7 @@ use Rattle.std.proofs.lemmas.Bool.Decides.{nat_tests}
 use Rattle.std.proofs.lemmas.List.{get_or-append-add, get_or_append_left, reverse-append}
 use Rattle.std.proofs.lemmas.List.Elements.{Contains-append_cases, Contains-append_left, Contains-append_right}
 use Rattle.lf_laws.proofs.Members.{behind, first_or_behind, here, none_in, only_one}
+use Rattle.lf_laws.proofs.Options.{same_option}
 use Rattle.lf_ast.specs.Labels.{Bytes}
 use Rattle.lf_ast.specs.Rules.{RuleTree}
 use Rattle.lf_deps.specs.Reading.{selectors}
@@ -39,9 +40,6 @@ isnt_in_means names name fails h = let t : nat_lt (place names name) (length nam
 
 pub as_in : (names : List Bytes) (name : Bytes) → IsIn names name → is_in names name ≡ true
 as_in names name h = grind (arith, nat_tests)
-
-pub one_option : {X : Type 0} (o : Option X) (x y : X) → o ≡ Some x → o ≡ Some y → x ≡ y
-one_option o x y e f = let g : Some x ≡ Some y = sym e ∙ f in cc
 
 module _ (rules : List RuleTree) where
   pub settled_still : (before after : List Bytes) (k : ℕ) → Stays before after → IsSettled rules before k → IsSettled rules after k
@@ -130,7 +128,7 @@ module _ (rules : List RuleTree) where
       fewer = omega arith;
       among = λ j c. absurd (none_in j c);
       each = λ j c. inr (λ q at_j found. let e : k ≡ j = only_one k j c in
-          let same : r ≡ q = one_option (slice_get rules k) r q at (ap (slice_get rules) e ∙ at_j) in
+          let same : r ≡ q = same_option (slice_get rules k) r q at (ap (slice_get rules) e ∙ at_j) in
           subst (λ (z : RuleTree). IsIn (line.names ++ r.name ∷ []) z.name) same (in_last line.names r.name));
       still = λ e. absurd (omega (arith, e));
     }

@@ -4,8 +4,11 @@ use Rattle.std.specs.Prelude.{option_and_then, slice_get}
 use Rattle.std.specs.List.{Contains}
 use Rattle.std.specs.Option.{option_map}
 use Rattle.std.specs.Str.{bytes_eq}
+use Rattle.std.proofs.lemmas.List.{get_or-take}
 use Rattle.std.proofs.lemmas.Option.{get_or_from_slice_get, slice_get_within}
+use Rattle.lf_laws.proofs.Options.{the_same}
 use Rattle.lf_laws.proofs.Members.{true_same}
+use Rattle.lf_laws.proofs.Slices.{member_at}
 use Rattle.lf_ast.specs.Labels.{Bytes}
 use Rattle.lf_ast.specs.Rules.{RuleTree}
 use Rattle.lf_ast.specs.Tree.{Tree}
@@ -24,17 +27,11 @@ use Rattle.lf_uniform.proofs.WithReach.{in_with_reach, own_with_reach}
 
 -- rules by their numbers
 
-rule_at : (rules : List RuleTree) (k : ℕ) (r : RuleTree) → slice_get rules k ≡ Some r → Contains rules r
-rule_at rules k r at = (k, slice_get_within rules k r at, get_or_from_slice_get rules k r r at)
-
-one_pair : (p q : ℕ × RuleTree) → Some p ≡ Some q → p ≡ q
-one_pair p q e = cc
-
 pub same_number : (k : ℕ) (r : RuleTree) (l : ℕ) (q : RuleTree) → ◌≡◌ {A = Option (ℕ × RuleTree)} (Some (k, r)) (Some (l, q)) → k ≡ l
-same_number k r l q e = ap (λ (p : ℕ × RuleTree). p.0) (one_pair (k, r) (l, q) e)
+same_number k r l q e = ap (λ (p : ℕ × RuleTree). p.0) (the_same (k, r) (l, q) e)
 
 pub same_rule : (k : ℕ) (r : RuleTree) (l : ℕ) (q : RuleTree) → ◌≡◌ {A = Option (ℕ × RuleTree)} (Some (k, r)) (Some (l, q)) → r ≡ q
-same_rule k r l q e = ap (λ (p : ℕ × RuleTree). p.1) (one_pair (k, r) (l, q) e)
+same_rule k r l q e = ap (λ (p : ℕ × RuleTree). p.1) (the_same (k, r) (l, q) e)
 
 -- the first rule that passes is a rule that passes
 pub record IsFound (test : ℕ → RuleTree → Bool) (start : ℕ) (rules : List RuleTree) (k : ℕ) (r : RuleTree) : Type 0 where
@@ -102,13 +99,6 @@ module _ (u : Listing) (rules : List RuleTree) (label given : Bytes) (line : Lin
     value_count : length values ≡ length line.names
     value_count = are_values.count_is ∙ is_line.entries.count
 
-    get_taken : {X : Type 0} (xs : List X) (j k : ℕ) (d : X) → k < j → get_or (take j xs) k d ≡ get_or xs k d
-    get_taken [] zero k d h = absurd (omega (arith, h))
-    get_taken [] (suc j) k d h = refl
-    get_taken (x ∷ xs) zero k d h = absurd (omega (arith, h))
-    get_taken (x ∷ xs) (suc j) zero d h = refl
-    get_taken (x ∷ xs) (suc j) (suc k) d h = get_taken xs j k d (omega (arith, h))
-
     -- what is told of a name in line is what its first rule gives
     fixed : (name : Bytes) → IsIn line.names name → (k : ℕ) (r : RuleTree) → first_of rules name ≡ Some (k, r) → known name ≡ option_map (recorded_text label r) (followed_in r.expr)
     fixed name inside k r first =
@@ -123,7 +113,7 @@ module _ (u : Listing) (rules : List RuleTree) (label given : Bytes) (line : Lin
         are_values.each p (omega (arith, inside, value_count, are_values.count_is)) r there
         ∙ ap (option_map (recorded_text label r))
         (agrees u rules label given (known_by line.names (take p values)) known r.expr
-        (λ n c recorded. get_taken values p (place line.names n) None (entry.before n (subst (λ (z : RuleTree). Contains (selectors z.expr) (Some n)) (sym one) c) recorded)))
+        (λ n c recorded. get_or-take p values (place line.names n) None (entry.before n (subst (λ (z : RuleTree). Contains (selectors z.expr) (Some n)) (sym one) c) recorded)))
 
     module _ (uncyclic : IsUncyclic rules (with_reach i reach)) (in_reach : (k : ℕ) → Contains reach k → Contains (with_reach i reach) k) (own_in : Contains (with_reach i reach) i) where
       -- the rules that are marked while a name is followed: each reads the name
@@ -143,7 +133,7 @@ module _ (u : Listing) (rules : List RuleTree) (label given : Bytes) (line : Lin
         where
           by : (b : Bool) → is_marked marked k ≡ b → b ≡ false
           by false e = refl
-          by true e = let two = recording r.alert (bytes_eq r.name name) does in absurd (is.uncircled (r, rule_at rules k r there, (two.0, true_same r.name name two.1), is.read k e r there))
+          by true e = let two = recording r.alert (bytes_eq r.name name) does in absurd (is.uncircled (r, member_at rules k r there, (two.0, true_same r.name name two.1), is.read k e r there))
 
       -- the rule that is found is the first of the name
       finds : (marked : List ℕ) (name : Bytes) → IsFollowed marked name → first_rule (λ k r. records name r && not (is_marked marked k)) 0 rules ≡ first_of rules name
@@ -172,7 +162,7 @@ module _ (u : Listing) (rules : List RuleTree) (label given : Bytes) (line : Lin
         next_is next c recorded = record {
           marks = one_mark_more (length rules) k marked (slice_get_within rules k r there) fresh is.marks;
           read = λ j m q at_j. by j (eqb j k) refl m q at_j;
-          own_reads = reads_on rules own.expr name is.own_reads r (rule_at rules k r there) does.0 same_name next (inl c);
+          own_reads = reads_on rules own.expr name is.own_reads r (member_at rules k r there) does.0 same_name next (inl c);
           uncircled = uncyclic k (in_reach k reached) r there next c;
           recorded = recorded;
         }
@@ -185,7 +175,7 @@ module _ (u : Listing) (rules : List RuleTree) (label given : Bytes) (line : Lin
                 let one : Some r ≡ Some q = sym there ∙ ap (slice_get rules) (sym (equal_numbers j k e)) ∙ at_j in
                 let same : r ≡ q = cc in
                 subst (λ (z : RuleTree). Reads rules z.expr next) same (selected (inl c))
-            by j false e m q at_j = reads_on rules q.expr name (is.read j m q at_j) r (rule_at rules k r there) does.0 same_name next (inl c)
+            by j false e m q at_j = reads_on rules q.expr name (is.read j m q at_j) r (member_at rules k r there) does.0 same_name next (inl c)
 
         ready_in : (unmarked : ℕ) → ((next : Bytes) → Contains (selectors r.expr) (Some next) → is_recorded rules next ≡ true → IsSame unmarked (k ∷ marked) next) → IsIn line.names name
         ready_in unmarked later = elim (is_line.closed k reached) [

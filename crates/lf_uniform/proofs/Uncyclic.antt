@@ -54,8 +54,3 @@ in_more {X = X} xs k x less y c = elim (Contains-append_cases (take k xs) (get_o
   | inl front ↦ inl front
   | inr last ↦ inr (only_one (get_or xs k x) y last)
 ]
-
-pub some_at : {X : Type 0} (xs : List X) (k : ℕ) → k < length xs → (x : X) × (slice_get xs k ≡ Some x)
-some_at [] k less = absurd (omega (arith, less))
-some_at (x ∷ xs) zero less = (x, refl)
-some_at (x ∷ xs) (suc k) less = some_at xs k (omega (arith, less))

@@ -6,6 +6,7 @@ use Rattle.std.specs.List.{find}
 use Rattle.std.specs.Option.{option_map_or}
 use Rattle.std.specs.Str.{bytes_eq}
 use Rattle.std.proofs.lemmas.Bool.{cases_eq}
+use Rattle.lf_laws.proofs.Options.{same_option}
 use Rattle.lf_laws.proofs.Members.{other_false, same_true}
 use Rattle.lf_ast.specs.Labels.{Bytes, Labels}
 use Rattle.lf_ast.specs.Rules.{RuleTree}
@@ -19,7 +20,7 @@ use Rattle.lf_trials.specs.Given.{Given}
 use Rattle.lf_trials.specs.Reached.{IsReach, Trial, with_reach}
 use Rattle.lf_trials.specs.Selected.{selected_by}
 use Rattle.lf_trials.specs.Uniform.{IsUniform, SelectsCyclic, has_texts, is_taken, passes_over, uniform_series, uniform_texts}
-use Rattle.lf_trials.proofs.OneVerdict.{one_reach, same_option}
+use Rattle.lf_trials.proofs.OneVerdict.{one_reach}
 use Rattle.lf_uniform.specs.declared.texts.Wanted.TheVariants.{Anything}
 use Rattle.lf_uniform.specs.views.Texts.{comes_out, first_texts, is_followed, wanted_for}
 use Rattle.lf_uniform.specs.views.Worlds.{IsSharedBy}

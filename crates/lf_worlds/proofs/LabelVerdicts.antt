@@ -27,9 +27,6 @@ module _ (u : Listing) (env : Environment) (rules : List RuleTree) (i : ℕ) (ro
   abbrev pub AreTold : ℕ → List Verdict → Type 0
   AreTold label told = AreLabelVerdicts u env rules i row (take label (labels_in u)) (map label_verdict told)
 
-  pub none_told : AreTold 0 []
-  none_told = tt
-
   module _ (within : IsWithin u) where
     pub one_told : (label : ℕ) (told : List Verdict) (v : Verdict) → label < length u.named → AreTold label told → IsLabelVerdict u env rules i row (name_at u label) (label_verdict v) → AreTold (label + 1) (told ++ v ∷ [])
     one_told label told v less are is =

@@ -69,9 +69,6 @@ module _ (count : ℕ → ℕ) (i : ℕ) where
 
 -- sums and products up to a greatest number
 
-pub sum_up_to : (a b most : ℕ) → min (min a most + b) most ≡ min (a + b) most
-sum_up_to a b most = grind arith
-
 pub sums_up_to : (a b most : ℕ) → min (min a most + min b most) most ≡ min (a + b) most
 sums_up_to a b most = grind arith
 

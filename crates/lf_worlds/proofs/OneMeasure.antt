@@ -3,7 +3,7 @@ use Rattle.std.proofs.Common.{◌≡◌, ◌<◌, ◌+◌, ◌*◌, ℕ, List, [
 use Rattle.std.specs.List.{Contains, range_with_len, sum_by}
 use Rattle.std.specs.Option.{option_map_or}
 use Rattle.std.proofs.lemmas.List.Sums.{sum_by-cons}
-use Rattle.std.proofs.lemmas.Option.{slice_get_cases}
+use Rattle.lf_laws.proofs.Slices.{some_at}
 use Rattle.lf_laws.proofs.Members.{behind, here}
 use Rattle.lf_ast.specs.Rules.{RuleTree}
 use Rattle.lf_semantics.specs.Listing.{Listing}
@@ -28,14 +28,11 @@ same_sums : {X : Type 0} (f g : X → ℕ) (xs : List X) → ((x : X) → Contai
 same_sums f g [] same = refl
 same_sums f g (x ∷ xs) same = sum_by-cons f x xs ∙ ap₂ (λ (m n : ℕ). m + n) (same x (here x xs)) (same_sums f g xs (λ y there. same y (behind x xs y there))) ∙ sym (sum_by-cons g x xs)
 
-pub rule_at : (rules : List RuleTree) (i : ℕ) → i < length rules → (r : RuleTree) × (slice_get rules i ≡ Some r)
-rule_at rules i less = elim (slice_get_cases rules i).1 [ inl inside ↦ (inside.0, inside.2) | inr past ↦ absurd (omega (arith, less, past.0)) ]
-
 pub same_tried : (rules : List RuleTree) (f g : ℕ → List ℕ) → AreReaches rules f → AreReaches rules g → selectors_tried rules f ≡ selectors_tried rules g
 same_tried rules f g one other = same_sums _ _ (range_with_len 0 (length rules)) (λ i there. ap (λ (js : List ℕ). selectors_at rules (with_reach i js)) (same i (of_range (length rules) i there)))
   where
     same : (i : ℕ) → i < length rules → f i ≡ g i
-    same i less = let r = rule_at rules i less in one_reach rules r.0.expr (f i) (g i) (one i r.0 r.1) (other i r.0 r.1)
+    same i less = let r = some_at rules i less in one_reach rules r.0.expr (f i) (g i) (one i r.0 r.1) (other i r.0 r.1)
 
 pub one_measure : (u : Listing) (rules : List RuleTree) (m n : ℕ) → IsLabelSelectors u rules m → IsLabelSelectors u rules n → m ≡ n
 one_measure u rules m n a b = a.is_product ∙ ap (λ (k : ℕ). length (labels_in u) * k) (same_tried rules a.reach b.reach a.are_reaches b.are_reaches) ∙ sym b.is_product

@@ -4,6 +4,7 @@ use Rattle.std.specs.Prelude.{slice_index_or}
 use Rattle.std.specs.List.{Contains, range_with_len, sum_by}
 use Rattle.std.proofs.lemmas.List.Sums.{sum_by_push}
 use Rattle.std.proofs.lemmas.Option.{slice_get_within}
+use Rattle.lf_laws.proofs.Slices.{some_at}
 use Rattle.lf_ast.specs.Rules.{RuleTree}
 use Rattle.lf_deps.proofs.Ascending.{range_more}
 use Rattle.lf_deps.specs.Reading.{Reaches}
@@ -12,7 +13,6 @@ use Rattle.lf_trials.specs.Reached.{IsReach, with_reach}
 use Rattle.lf_trials.proofs.OneVerdict.{one_reach}
 use Rattle.lf_worlds.specs.Measure.{AreReaches, selectors_at}
 use Rattle.lf_worlds.proofs.Measured.{counts_at, sums_up_to}
-use Rattle.lf_worlds.proofs.OneMeasure.{rule_at}
 
 -- the greatest number
 abbrev most : ℕ
@@ -30,11 +30,11 @@ module _ (rules : List RuleTree) (i : ℕ) (found : List ℕ) where
 
   -- its members are numbers of rules
   pub reach_within : i < length rules → AreMembers → (k : ℕ) → Contains found k → k < length rules
-  reach_within less members k there = let r = rule_at rules i less in let member = (members r.0 r.1 k).0 there in slice_get_within rules k member.0 member.1
+  reach_within less members k there = let r = some_at rules i less in let member = (members r.0 r.1 k).0 there in slice_get_within rules k member.0 member.1
 
   -- and it is the reach
   pub same_reach : i < length rules → AreMembers → Ascend → (reach : ℕ → List ℕ) → AreReaches rules reach → found ≡ reach i
-  same_reach less members ascending reach are = let r = rule_at rules i less in one_reach rules r.0.expr found (reach i) (is_reach members ascending r.0 r.1) (are i r.0 r.1)
+  same_reach less members ascending reach are = let r = some_at rules i less in one_reach rules r.0.expr found (reach i) (is_reach members ascending r.0 r.1) (are i r.0 r.1)
 
 module _ (rules : List RuleTree) (reach : ℕ → List ℕ) where
   abbrev pub tried_at : ℕ → ℕ

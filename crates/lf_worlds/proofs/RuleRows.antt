@@ -1,5 +1,7 @@
 -- The row of a rule, and whether the rule is a scalar or a vector.
 use Rattle.std.proofs.Common.{◌≡◌, ◌<◌, ℕ, zero, suc, Bool, true, false, not, cond, List, [], ◌∷◌, length, Some, refl, sym, ap, ◌∙◌, subst, slice_get, arith}
+use Rattle.std.proofs.lemmas.Bool.{not-false, not-true}
+use Rattle.lf_laws.proofs.Options.{same_option}
 use Rattle.lf_laws.proofs.Booleans.{clash}
 use Rattle.lf_ast.specs.Rules.{RuleTree, rule_tree, rule_trees}
 use Rattle.lf_ast.specs.declared.rule.Rule.{Rule}
@@ -11,31 +13,17 @@ use Rattle.lf_semantics.specs.Parts.{is_evaluated, type_by_form}
 use Rattle.lf_semantics.specs.RowTable.{Environment, row_of}
 use Rattle.lf_semantics.proofs.LeqLaws.{bottom_dead}
 use Rattle.lf_semantics.proofs.NormalizedRows.{rule_row_is}
-use Rattle.lf_trials.proofs.OneVerdict.{same_option}
 use Rattle.lf_worlds.specs.views.Tried.{IsEvaluatedAt}
-
-pub some_at : {X : Type 0} (xs : List X) (k : ℕ) → k < length xs → (x : X) × (slice_get xs k ≡ Some x)
-some_at [] k less = absurd (omega (arith, less))
-some_at (x ∷ xs) zero less = (x, refl)
-some_at (x ∷ xs) (suc k) less = some_at xs k (omega (arith, less))
-
-dead_by_test : (b : Bool) → not b ≡ true → b ≡ false
-dead_by_test true e = sym e
-dead_by_test false e = refl
-
-live_by_test : (b : Bool) → not b ≡ false → b ≡ true
-live_by_test true e = refl
-live_by_test false e = sym e
 
 module _ (u : Listing) (env : Environment) (rules : List Rule) (i : ℕ) (rule : Rule) (value : slice_get rules i ≡ Some rule) (row : Sets) (is_row : row ≡ rule_row u env (rule_tree rule)) where
   pub of_tree : (r : RuleTree) → slice_get (rule_trees rules) i ≡ Some r → row ≡ rule_row u env r
   of_tree r at = is_row ∙ ap (rule_row u env) (same_option (slice_get (rule_trees rules) i) (rule_tree rule) r (tree_at rules i rule value) at)
 
   pub is_dead : (empty : Bool) → empty ≡ not (is_live row) → empty ≡ true → (r : RuleTree) → slice_get (rule_trees rules) i ≡ Some r → is_live (rule_row u env r) ≡ false
-  is_dead empty e is r at = ap is_live (sym (of_tree r at)) ∙ dead_by_test (is_live row) (sym e ∙ is)
+  is_dead empty e is r at = ap is_live (sym (of_tree r at)) ∙ not-true (is_live row) (sym e ∙ is)
 
   pub is_alive : (empty : Bool) → empty ≡ not (is_live row) → empty ≡ false → is_live row ≡ true
-  is_alive empty e is = live_by_test (is_live row) (sym e ∙ is)
+  is_alive empty e is = not-false (is_live row) (sym e ∙ is)
 
   -- a rule of another type has the empty row
   pub evaluated_at : IsListing u → is_live row ≡ true → IsEvaluatedAt (rule_trees rules) i

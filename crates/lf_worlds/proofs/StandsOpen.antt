@@ -2,6 +2,7 @@
 use Rattle.std.proofs.Common.{◌≡◌, inl, inr, ℕ, List, [], ◌∷◌, Some, subst, slice_get, arith}
 use Rattle.std.specs.List.{Contains}
 use Rattle.lf_laws.proofs.Members.{behind, first_or_behind, here, none_in}
+use Rattle.lf_laws.proofs.Slices.{member_at}
 use Rattle.lf_ast.specs.Labels.{Bytes}
 use Rattle.lf_ast.specs.Rules.{RuleTree}
 use Rattle.lf_classes.specs.Limits.{IsWithin}
@@ -14,7 +15,6 @@ use Rattle.lf_trials.specs.Candidates.{labels_in}
 use Rattle.lf_trials.specs.Verdicts.{AreLabelVerdicts, Empty, IsLabelVerdict, IsRuleVerdict, LabelVerdict, Labels, RuleVerdict, Unresolved}
 use Rattle.lf_open.specs.OpenList.{AreOpen}
 use Rattle.lf_open.proofs.Settled.{settled}
-use Rattle.lf_shown.proofs.Recorded.{rule_there}
 use Rattle.lf_shown.proofs.Resolved.{small_by_count}
 use Rattle.lf_shown.proofs.Settled.{none_open}
 use Rattle.lf_shown.proofs.Showing.{never_unresolved}
@@ -37,6 +37,6 @@ module _ (u : Listing) (env : Environment) (rules : List RuleTree) (i : ℕ) whe
     open_if_unresolved Empty is typed unnamed = tt
     open_if_unresolved (Labels verdicts) is typed unnamed = λ c found open_of empty.
         let w = unresolved_label (rule_row u env r) (labels_in u) verdicts is.1 c in
-        let t = typed r (rule_there rules i r at) in
+        let t = typed r (member_at rules i r at) in
         let none = none_open rules typed r.expr t.0 t.1 (settled rules i r at (subst (AreOpen rules i) empty open_of)) in
         never_unresolved u within.listing (small_by_count u (omega (arith, within.classes))) rules covers unnamed env least i r at none is.0 w.0 w.1 w.2

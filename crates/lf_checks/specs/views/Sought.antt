@@ -1,7 +1,7 @@
--- What match/label tells of labels that are sought on an operand, of a match, and of one part of an expression.
-use Rattle.std.specs.Prelude.{◌≡◌, ◌⊎◌, true, List, []}
+-- What match/label tells of labels that are sought on an operand, by its row, of a match, and of one part of an expression.
+use Rattle.std.specs.Prelude.{◌≡◌, ◌⊎◌, Bool, true, List, []}
 use Rattle.lf_ast.specs.Tree.{Tree}
-use Rattle.lf_ast.specs.Types.{is_vector, names_at}
+use Rattle.lf_ast.specs.Types.{names_at}
 use Rattle.lf_ast.specs.declared.expr.Group.{Group}
 use Rattle.lf_ast.specs.declared.expr.Group.TheVariants.{Left, Right}
 use Rattle.lf_ast.specs.declared.expr.Grouping.{Grouping}
@@ -10,7 +10,6 @@ use Rattle.lf_ast.specs.declared.expr.Matching.{Matching}
 use Rattle.lf_ast.specs.declared.expr.Name.{Name}
 use Rattle.lf_semantics.specs.ClassRows.{Sets}
 use Rattle.lf_semantics.specs.Listing.{Listing}
-use Rattle.lf_semantics.specs.Parts.{type_by_form}
 use Rattle.lf_semantics.specs.RowTable.{Environment, row_of}
 use Rattle.lf_checks.specs.Finding.{Finding, MatchLabel, finding}
 use Rattle.lf_checks.specs.Judged.{IsImpossible}
@@ -37,19 +36,18 @@ module _ (u : Listing) where
   abbrev pub IsNever : Sets → Name → Finding → Type 0
   IsNever row label f = IsImpossible u row label.text × (f ≡ finding MatchLabel label.span (says_never label.text))
 
-  module _ (env : Environment) where
-    -- a label of one of these lists is never on the operand
-    abbrev pub IsOfOperand : Tree → List Name → List Name → Finding → Type 0
-    IsOfOperand operand labels others f = OfSome (IsNever (row_of u env operand)) labels f ⊎ OfSome (IsNever (row_of u env operand)) others f
+  -- a label of one of these lists is never on the samples of the row
+  abbrev pub IsOfRow : Sets → List Name → List Name → Finding → Type 0
+  IsOfRow row labels others f = OfSome (IsNever row) labels f ⊎ OfSome (IsNever row) others f
 
-    -- of either side the labels of `on`, and of the one side those of a group list
-    abbrev pub IsOfSides : Matching → Tree → Tree → Finding → Type 0
-    IsOfSides m left right f = IsOfOperand left (names_at m.on) (for_left m.group m.include) f ⊎ IsOfOperand right (names_at m.on) (for_right m.group m.include) f
+  -- of the row of either side the labels of `on`, and of that of the one side those of a group list
+  abbrev pub IsOfSides : Matching → Sets → Sets → Finding → Type 0
+  IsOfSides m left right f = IsOfRow left (names_at m.on) (for_left m.group m.include) f ⊎ IsOfRow right (names_at m.on) (for_right m.group m.include) f
 
-    -- of sides that are vectors
-    abbrev pub IsOfMatch : Matching → Tree → Tree → Finding → Type 0
-    IsOfMatch m left right f = (is_vector (type_by_form left) ≡ true) × (is_vector (type_by_form right) ≡ true) × IsOfSides m left right f
+  -- of sides that are vectors
+  abbrev pub IsOfMatch : Bool → Matching → Sets → Sets → Finding → Type 0
+  IsOfMatch vectors m left right f = (vectors ≡ true) × IsOfSides m left right f
 
-    -- a label that the part seeks is never on its operand
-    abbrev pub IsOfPart : Tree → Finding → Type 0
-    IsOfPart x f = (label : Name) × (operand : Tree) × Seeks x label operand × IsNever (row_of u env operand) label f
+  -- a label that the part seeks is never on its operand
+  abbrev pub IsOfPart : Environment → Tree → Finding → Type 0
+  IsOfPart env x f = (label : Name) × (operand : Tree) × Seeks x label operand × IsNever (row_of u env operand) label f

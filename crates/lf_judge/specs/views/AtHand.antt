@@ -12,7 +12,7 @@ use Rattle.lf_judge.specs.Judged.{files_of}
 use Rattle.lf_judge.specs.Limits.{most_rules}
 use Rattle.lf_judge.specs.declared.at_hand.AtHand.{AtHand}
 use Rattle.lf_judge.specs.views.Checking.{TellsFindings, TellsRule, TellsRules}
-use Rattle.lf_judge.specs.views.Spots.{AreNameSpots}
+use Rattle.lf_judge.specs.views.NamePositions.{AreNamePositions}
 
 -- the files and the rules
 abbrev pub files_at : AtHand → List File
@@ -21,12 +21,12 @@ files_at h = files_of h.files.now
 abbrev pub rules_at : AtHand → List RuleTree
 rules_at h = rule_trees h.rules.now
 
--- All is as it is to be: the rules are few and stand in the files, and the spots of their names, the universe, the environment and the checker are theirs
+-- All is as it is to be: the rules are few and stand in the files, and the positions of their names, the universe, the environment and the checker are theirs
 pub record IsReady (h : AtHand) : Type 0 where
   pub few : length h.rules.now ≤ most_rules
   pub stand : StandIn (files_at h) (rules_at h)
   pub sources : HaveSources (rules_at h)
-  pub names : AreNameSpots (files_at h) (rules_at h) h.names.now
+  pub names : AreNamePositions (files_at h) (rules_at h) h.names.now
   pub universe : h.universe.now ≡ universe_of (rules_at h)
   pub least : IsLeast (universe_of (rules_at h)) (rules_at h) h.env.now
   pub checker : h.checker.now ≡ record { universe = universe_of (rules_at h); env = h.env.now; rules = h.rules.now }

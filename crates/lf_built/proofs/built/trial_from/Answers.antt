@@ -1,5 +1,6 @@
 use Rattle.std.proofs.Common.{◌<◌, ℕ, Option, sym, subst, arith}
 use Rattle.std.proofs.lemmas.List.{length-map}
+use Rattle.lf_laws.proofs.Slices.{some_at}
 use Rattle.lf_ast.specs.Rules.{rule_tree}
 use Rattle.lf_trials.specs.Given.{Given, giving, nothing_given}
 use Rattle.lf_candidates.specs.views.ClassTexts.{name_at, text_at}
@@ -7,7 +8,6 @@ use Rattle.lf_built.specs.declared.made.Made.{Made}
 use Rattle.lf_built.specs.views.Begun.{begun_of}
 use Rattle.lf_built.specs.views.Indexed.{trees_of, universe_of}
 use Rattle.lf_built.specs.views.Works.{IsOutcome, so_far}
-use Rattle.lf_built.proofs.BuiltTrials.{some_rule}
 use Rattle.lf_built.proofs.built.trial_from.Goals as goal
 
 pub build-requires-clause-few : goal.build-requires-clause-few
@@ -16,7 +16,7 @@ build-requires-clause-few c =
     let u = universe_of p in
     let D : Given = giving (name_at u c.args.label) (text_at u c.args.label c.args.class) nothing_given in
     let stands = c.give.ensures u nothing_given c.requires.known.within c.requires.class c.in_ok-texts.ensures in
-    let r = some_rule (trees_of p) c.args.number (subst (λ (n : ℕ). c.args.number < n) (sym (length-map p.rules.now rule_tree)) c.requires.number) in
+    let r = some_at (trees_of p) c.args.number (subst (λ (n : ℕ). c.args.number < n) (sym (length-map p.rules.now rule_tree)) c.requires.number) in
     let h = c.in_ok-work.ensures D r.0 stands r.1 in
     omega (arith, h.1)
 
@@ -26,7 +26,7 @@ build-requires-clause-builds c =
     let u = universe_of p in
     let D : Given = giving (name_at u c.args.label) (text_at u c.args.label c.args.class) nothing_given in
     let stands = c.give.ensures u nothing_given c.requires.known.within c.requires.class c.in_ok-texts.ensures in
-    let r = some_rule (trees_of p) c.args.number (subst (λ (n : ℕ). c.args.number < n) (sym (length-map p.rules.now rule_tree)) c.requires.number) in
+    let r = some_at (trees_of p) c.args.number (subst (λ (n : ℕ). c.args.number < n) (sym (length-map p.rules.now rule_tree)) c.requires.number) in
     let h = c.in_ok-work.ensures D r.0 stands r.1 in
     (begun_of p c.args.number r.0 D, h.0)
 

@@ -1,7 +1,8 @@
 use Rattle.std.proofs.Common.{◌<◌, ◌≤◌, ◌++◌, ◌∷◌, [], ℕ, List, Option, length, take, sym, subst, arith}
+use Rattle.lf_deps.proofs.RuleTrees.{trees_more}
 use Rattle.lf_ast.specs.Rules.{RuleTree, rule_tree, rule_trees}
 use Rattle.lf_checks.specs.views.Duplicates.{AreFirsts, AreKept}
-use Rattle.lf_checks.proofs.DuplicateLaws.{as_many, firsts_more, one_more}
+use Rattle.lf_checks.proofs.DuplicateLaws.{as_many, firsts_more}
 use Rattle.lf_checks.proofs.rule_duplicate.first_rules.Goals as goal
 
 pub loop-place-preserved : goal.loop-place-preserved
@@ -12,7 +13,7 @@ loop-place-preserved c =
     let before = rule_trees (take k rules) in
     let lt : k < length rules = omega (arith, c.loop-place-test.true, c.len-place-end.ensures) in
     let le : k ≤ length rules = omega (arith, lt) in
-    let more = one_more rules k r lt c.get.ensures.read in
+    let more = trees_more rules k r lt c.get.ensures.read in
     let count = as_many rules k le in (
       subst (λ (l : List RuleTree). AreKept l c.first.new.self.keys c.first.new.self.numbers.items) more (c.in_ok-first.ensures.kept before count c.loop-place.invariant.0),
       subst (λ (l : List RuleTree). AreFirsts l c.push.new.self.items) more

@@ -1,9 +1,9 @@
 use Rattle.std.proofs.Common.{Some, true, ap, refl}
 use Rattle.std.proofs.lemmas.Result.{IfOk-weaker}
+use Rattle.lf_deps.proofs.RuleTrees.{tree_at}
 use Rattle.lf_ast.specs.Rules.{rule_tree}
 use Rattle.lf_worlds.specs.views.Told.{rule_verdict}
 use Rattle.lf_judge.specs.Judged.{Checked}
-use Rattle.lf_judge.proofs.Places.{tree_at}
 use Rattle.lf_judge.proofs.telling.rule_with_labels.Goals as goal
 
 pub returns : goal.returns

@@ -1,11 +1,11 @@
 use Rattle.std.proofs.Common.{None, false, refl, subst, sym}
 use Rattle.std.proofs.lemmas.Result.{IfOk-weaker}
+use Rattle.lf_deps.proofs.RuleTrees.{tree_at}
 use Rattle.lf_ast.specs.Rules.{rule_tree}
 use Rattle.lf_semantics.specs.Environments.{IsLeast}
 use Rattle.lf_semantics.specs.Listing.{Listing}
 use Rattle.lf_judge.specs.Judged.{Checked}
 use Rattle.lf_judge.specs.views.AtHand.{rules_at}
-use Rattle.lf_judge.proofs.Places.{tree_at}
 use Rattle.lf_judge.proofs.telling.rule_without_labels.Goals as goal
 
 pub is_empty-requires-clause-least : goal.is_empty-requires-clause-least

@@ -10,7 +10,7 @@ use Rattle.lf_trials.specs.Selected.{selected_by}
 use Rattle.lf_uniform.specs.views.Naming.{said_all, said_by, with_each}
 use Rattle.lf_uniform.specs.views.Settings.{Setting}
 use Rattle.lf_uniform.proofs.SeriesNames.{said_more}
-use Rattle.lf_uniform.proofs.Uncyclic.{some_at}
+use Rattle.lf_laws.proofs.Slices.{some_at}
 use Rattle.lf_uniform.proofs.naming.said.Goals as goal
 
 pub selected_by-requires : goal.selected_by-requires

@@ -5,7 +5,8 @@ use Rattle.std.proofs.lemmas.List.{take_all}
 use Rattle.std.proofs.lemmas.List.Elements.{Contains-get_or}
 use Rattle.lf_deps.proofs.LookedUp.{selected_count, selected_is}
 use Rattle.lf_uniform.specs.views.Ways.{IsCyclicIn, IsUncyclic}
-use Rattle.lf_uniform.proofs.Uncyclic.{in_more, selects_some, some_at}
+use Rattle.lf_laws.proofs.Slices.{some_at}
+use Rattle.lf_uniform.proofs.Uncyclic.{in_more, selects_some}
 use Rattle.lf_uniform.proofs.reaching.selects_cyclic.Goals as goal
 
 pub selected_by-requires : goal.selected_by-requires

@@ -11,7 +11,7 @@ use Rattle.lf_trials.specs.Uniform.{series_names}
 use Rattle.lf_uniform.specs.views.Lines.{IsLineOf}
 use Rattle.lf_uniform.specs.views.Ways.{IsUncyclic}
 use Rattle.lf_uniform.proofs.Preparing.{all_within, reach_within}
-use Rattle.lf_uniform.proofs.Uncyclic.{some_at}
+use Rattle.lf_laws.proofs.Slices.{some_at}
 use Rattle.lf_uniform.proofs.uniform.prepared.Goals as goal
 
 pub of-requires-clause-numbers : goal.of-requires-clause-numbers

@@ -7,7 +7,8 @@ use Rattle.lf_trials.specs.Reached.{with_reach}
 use Rattle.lf_trials.specs.Uniform.{SelectsCyclic}
 use Rattle.lf_uniform.specs.views.Ways.{IsUncyclic}
 use Rattle.lf_uniform.proofs.Preparing.{all_within}
-use Rattle.lf_uniform.proofs.Uncyclic.{none_selected, some_at}
+use Rattle.lf_laws.proofs.Slices.{some_at}
+use Rattle.lf_uniform.proofs.Uncyclic.{none_selected}
 use Rattle.lf_uniform.proofs.uniform.shared_by.Goals as goal
 
 pub returns-then-reach-gt-MOST_RULES : goal.returns-then-reach-gt-MOST_RULES

@@ -1,11 +1,11 @@
 use Rattle.std.proofs.Common.{◌≡◌, ℕ, List, Option, sym, ◌∙◌, ap, subst}
 use Rattle.std.specs.Prelude.{slice_get}
 use Rattle.std.specs.List.{find}
+use Rattle.lf_laws.proofs.Options.{same_option}
 use Rattle.lf_ast.specs.Rules.{RuleTree, rule_trees}
 use Rattle.lf_candidates.specs.views.ClassTexts.{Stands, name_at}
 use Rattle.lf_trials.specs.Candidates.{candidates}
 use Rattle.lf_trials.specs.Uniform.{uniform_texts}
-use Rattle.lf_trials.proofs.OneVerdict.{same_option}
 use Rattle.lf_uniform.specs.declared.texts.Wanted.{Wanted}
 use Rattle.lf_uniform.specs.views.Texts.{first_texts, is_followed}
 use Rattle.lf_uniform.proofs.UniformWorlds.{stands_with}

@@ -5,9 +5,10 @@ use Rattle.lf_ast.specs.Rules.{RuleTree, rule_tree, rule_trees}
 use Rattle.lf_deps.specs.Reading.{selectors}
 use Rattle.lf_deps.proofs.LookedUp.{selected_is}
 use Rattle.lf_deps.proofs.RuleTrees.{tree_at}
+use Rattle.lf_laws.proofs.Options.{same_option}
 use Rattle.lf_uniform.specs.views.Lines.{IsRound, IsReady, Line, is_ready}
 use Rattle.lf_uniform.proofs.FirstNumbers.{tells_recorded}
-use Rattle.lf_uniform.proofs.Rounds.{added_round, means_ready, one_option, ready_means, waiting_round}
+use Rattle.lf_uniform.proofs.Rounds.{added_round, means_ready, ready_means, waiting_round}
 use Rattle.lf_uniform.proofs.line.Line.put.Goals as goal
 
 pub returns-then-not-is_ready : goal.returns-then-not-is_ready
@@ -23,7 +24,7 @@ returns-then-not-is_ready c =
     ∙ ap (is_ready recorded line.names) (c.selected_by.ensures ∙ selected_is rules c.args.sources.now c.requires.sources k r at) in
     waiting_round rules line k
     (λ q at_q ready.
-    let same : r ≡ q = one_option (slice_get rules k) r q at at_q in
+    let same : r ≡ q = same_option (slice_get rules k) r q at at_q in
     let holds : c.is_ready.result ≡ true = told ∙ means_ready rules recorded line.names r (tells_recorded rules recorded c.requires.firsts.names) (subst (IsReady rules line.names) (sym same) ready) in
     true≢false (sym holds ∙ c.if-not-is_ready.true))
 

@@ -1,4 +1,5 @@
 use Rattle.std.proofs.Common.{◌≡◌, Some, map, subst, slice_get}
+use Rattle.lf_laws.proofs.Slices.{some_at}
 use Rattle.lf_ast.specs.Rules.{RuleTree, rule_tree, rule_trees}
 use Rattle.lf_ast.specs.declared.rule.Rule.{Rule}
 use Rattle.lf_deps.proofs.RuleTrees.{tree_at}
@@ -9,7 +10,7 @@ use Rattle.lf_trials.specs.Candidates.{labels_in}
 use Rattle.lf_trials.specs.Verdicts.{AreLabelVerdicts, Labels}
 use Rattle.lf_worlds.specs.views.Told.{label_verdict}
 use Rattle.lf_worlds.specs.views.Tried.{Tried}
-use Rattle.lf_worlds.proofs.RuleRows.{evaluated_at, is_alive, is_dead, live_row, of_tree, row_shape, some_at}
+use Rattle.lf_worlds.proofs.RuleRows.{evaluated_at, is_alive, is_dead, live_row, of_tree, row_shape}
 use Rattle.lf_worlds.proofs.StandsOpen.{open_if_unresolved}
 use Rattle.lf_worlds.proofs.each_rule.Trials.rule.Goals as goal
 
