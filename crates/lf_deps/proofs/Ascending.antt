@@ -25,9 +25,6 @@ filter_ascends test least (x ∷ xs) a = by (test x) (filter_ascends test (x + 1
     by true r = (a.0, r)
     by false r = ascends_below least (x + 1) (filter test xs) (omega (arith, a.0)) r
 
-pub without_ascends : (k least : ℕ) (xs : List ℕ) → Ascends least xs → Ascends least (without k xs)
-without_ascends k least xs a = filter_ascends (λ j. not (eqb j k)) least xs a
-
 -- what stands behind a number isn't it
 none_dropped : (k least : ℕ) (xs : List ℕ) → k < least → Ascends least xs → without k xs ≡ xs
 none_dropped k least [] h a = refl

@@ -121,9 +121,6 @@ module _ (listed : List (List ℕ)) where
     only = λ k c. elim (Contains-append_cases due (get_or listed x []) k c) [ inl d ↦ inl d | inr d ↦ inr (x, d) ];
   }
 
-  pub down_none : (counts due : List ℕ) → CountsDown listed [] counts counts due due
-  down_none counts due = record { counted = λ s. omega arith; kept = λ k c. c; moved = λ s k was none c. absurd (omega (arith, was, none)); only = λ k c. inl c }
-
   pub down_more : (xs : List ℕ) (x : ℕ) (c0 c1 c2 d0 d1 d2 : List ℕ) → CountsDown listed xs c0 c1 d0 d1 → CountsDown listed (x ∷ []) c1 c2 d1 d2 → CountsDown listed (xs ++ x ∷ []) c0 c2 d0 d2
   down_more xs x c0 c1 c2 d0 d1 d2 a b = record {
     counted = λ s. let e = a.counted s in let f = b.counted s in let o = occurs-append s xs (x ∷ []) in omega (arith, e, f, o);

@@ -57,7 +57,7 @@ none_record name (x ∷ rules) j h = by x.alert h (none_record name rules (j + 1
 records_alert : (name : Bytes) (r : RuleTree) → r.alert ≡ true → records name r ≡ false
 records_alert name r a = ap (λ b. not b && bytes_eq r.name name) a
 
-records_own : (r : RuleTree) → r.alert ≡ false → records r.name r ≡ true
+pub records_own : (r : RuleTree) → r.alert ≡ false → records r.name r ≡ true
 records_own r a = ap (λ b. not b && bytes_eq r.name r.name) a ∙ same_true r.name r.name refl
 
 records_other : (name : Bytes) (r : RuleTree) → r.alert ≡ false → name ≢ r.name → records name r ≡ false

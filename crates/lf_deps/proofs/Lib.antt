@@ -1,12 +1,12 @@
 pub mod Ascending
 mod Counting
-mod Followed
-mod Indexed
+pub mod Followed
+pub mod Indexed
 pub mod LookedUp
 mod NamePaths
 pub mod Numbered
 pub mod OrderLaws
-mod Ordered
+pub mod Ordered
 mod Reached
 pub mod RuleTrees
 mod Settling

@@ -1,37 +1,25 @@
 -- What is looked up in the index of rules.
-use Rattle.std.proofs.Common.{◌≡◌, ℕ, zero, suc, ◌<◌, ◌≤◌, Bool, true, false, not, ◌&&◌, List, [], ◌∷◌, map, length, get_or, Option, Some, None, inl, inr, refl, sym, ◌∙◌, ap, subst, arith}
+use Rattle.std.proofs.Common.{◌≡◌, ℕ, ◌<◌, ◌≤◌, false, not, List, [], length, get_or, Option, Some, None, inl, inr, sym, ◌∙◌, ap, subst, arith}
 use Rattle.std.specs.Prelude.{slice_get}
 use Rattle.std.specs.List.{Contains}
 use Rattle.std.specs.Str.{bytes_eq}
-use Rattle.std.proofs.lemmas.Bool.{cases_lt}
+use Rattle.std.proofs.lemmas.Bool.{and_parts, cases_lt, not-true}
 use Rattle.std.proofs.lemmas.List.{length-map, get_or_past}
 use Rattle.lf_ast.specs.Labels.{Bytes}
 use Rattle.lf_ast.specs.Rules.{RuleTree}
 use Rattle.lf_semantics.specs.Environments.{names_recorded, recorded_names}
 use Rattle.lf_semantics.specs.Listing.{place}
 use Rattle.lf_semantics.proofs.ListingLaws.{in_first_seen, of_first_seen, place_within}
-use Rattle.lf_laws.proofs.Members.{in_flat_map, here, same_true, true_same, of_flat_map, only_one}
+use Rattle.lf_laws.proofs.Members.{in_flat_map, here, true_same, of_flat_map, only_one}
+use Rattle.lf_laws.proofs.Slices.{member_at, number_of}
 use Rattle.lf_deps.specs.views.Index.{IsIndex, chosen_by, makers_of}
 use Rattle.lf_deps.specs.Reading.{SelectsBy, selectors}
 use Rattle.lf_deps.specs.views.Search.{chosen, chosen_all, making, numbers_of}
 use Rattle.lf_deps.specs.views.Sources.{IsSourcesOf, Sources, records}
 use Rattle.lf_deps.proofs.Followed.{making_from, making_to}
-use Rattle.lf_deps.proofs.Indexed.{none_record, numbers_at, sources_full}
-use Rattle.lf_deps.proofs.Numbered.{at_number, in_numbers, number_of, of_numbers}
+use Rattle.lf_deps.proofs.Indexed.{none_record, numbers_at, records_own, sources_full}
+use Rattle.lf_deps.proofs.Numbered.{at_made, in_numbers, of_numbers}
 use Rattle.std.proofs.lemmas.Option.{slice_get_within}
-
-selected_in : (rules : List RuleTree) (k : ℕ) (r : RuleTree) → slice_get rules k ≡ Some r → get_or (map (λ (x : RuleTree). selectors x.expr) rules) k [] ≡ selectors r.expr
-selected_in [] k r e = absurd (cc)
-selected_in (x ∷ rules) zero r e = let f : x ≡ r = cc in ap (λ (z : RuleTree). selectors z.expr) f
-selected_in (x ∷ rules) (suc k) r e = selected_in rules k r e
-
-is_recorded : (a b : Bool) → (not a && b) ≡ true → (a ≡ false) × (b ≡ true)
-is_recorded true b f = absurd (cc)
-is_recorded false b f = (refl, f)
-
-of_recorded : (a b : Bool) → a ≡ false → b ≡ true → (not a && b) ≡ true
-of_recorded true b f g = absurd (cc)
-of_recorded false b f g = g
 
 module _ (rules : List RuleTree) (s : Sources) (is : IsSourcesOf rules s) where
   no_place : (name : Bytes) → length s.names ≤ place s.names name → Contains (names_recorded rules) name → ⊥
@@ -52,17 +40,17 @@ module _ (rules : List RuleTree) (s : Sources) (is : IsSourcesOf rules s) where
       let f = of_numbers (records name) rules 0 k (subst P (makers_is name) c) in
       let Q : ℕ → Type 0 = λ z. slice_get rules z ≡ Some f.2 in
       let e : f.0 ≡ k = omega (arith, f.1) in
-      let b = is_recorded f.2.alert (bytes_eq f.2.name name) f.4 in
-      (f.2, subst Q e f.3, b.0, true_same f.2.name name b.1)
+      let b = and_parts (not f.2.alert) (bytes_eq f.2.name name) f.4 in
+      (f.2, subst Q e f.3, not-true f.2.alert b.0, true_same f.2.name name b.1)
 
   pub recorded_from : (r : RuleTree) (k : ℕ) → slice_get rules k ≡ Some r → r.alert ≡ false → Contains (makers_of s r.name) k
   recorded_from r k e a =
       let P : List ℕ → Type 0 = λ l. Contains l k in
-      subst P (sym (makers_is r.name)) (in_numbers (records r.name) rules 0 k k r (omega arith) e (of_recorded r.alert (bytes_eq r.name r.name) a (same_true r.name r.name refl)))
+      subst P (sym (makers_is r.name)) (in_numbers (records r.name) rules 0 k k r (omega arith) e (records_own r a))
 
   -- what the rule of a number selects
   pub selected_is : (k : ℕ) (r : RuleTree) → slice_get rules k ≡ Some r → get_or s.selected k [] ≡ selectors r.expr
-  selected_is k r e = ap (λ (l : List (List (Option Bytes))). get_or l k []) is.selected ∙ selected_in rules k r e
+  selected_is k r e = ap (λ (l : List (List (Option Bytes))). get_or l k []) is.selected ∙ at_made (λ (x : RuleTree). selectors x.expr) rules k r e
 
   pub selected_count : length s.selected ≡ length rules
   selected_count = ap length is.selected ∙ length-map rules (λ (x : RuleTree). selectors x.expr)
@@ -92,7 +80,7 @@ module _ (rules : List RuleTree) (s : Sources) (is : IsSourcesOf rules s) where
       let f = of_flat_map chosen_at (makers_of s name) n c in
       let m = recorded_to name f.0 f.1 in
       let P : List (Option Bytes) → Type 0 = λ l. Contains (chosen_all s.names l) n in
-      making_from rules name n m.0 (at_number rules f.0 m.0 m.1) m.2 m.3 (chosen_to (selectors m.0.expr) n (subst P (selected_is f.0 m.0 m.1) f.2))
+      making_from rules name n m.0 (member_at rules f.0 m.0 m.1) m.2 m.3 (chosen_to (selectors m.0.expr) n (subst P (selected_is f.0 m.0 m.1) f.2))
 
   pub made_from : (name n : Bytes) → SelectsBy rules (making rules name) n → Contains (chosen_by s (makers_of s name)) n
   made_from name n h =
@@ -100,7 +88,7 @@ module _ (rules : List RuleTree) (s : Sources) (is : IsSourcesOf rules s) where
       let k = number_of rules m.0 m.1 in
       let P : List (Option Bytes) → Type 0 = λ l. Contains (chosen_all s.names l) n in
       let Q : Bytes → Type 0 = λ z. Contains (makers_of s z) k.0 in
-      in_flat_map chosen_at (makers_of s name) k.0 n (subst Q m.3 (recorded_from m.0 k.0 k.1 m.2)) (subst P (sym (selected_is k.0 m.0 k.1)) (chosen_from (selectors m.0.expr) n m.4))
+      in_flat_map chosen_at (makers_of s name) k.0 n (subst Q m.3 (recorded_from m.0 k.0 k.2 m.2)) (subst P (sym (selected_is k.0 m.0 k.2)) (chosen_from (selectors m.0.expr) n m.4))
 
   makers_in : (name : Bytes) (k : ℕ) → Contains (makers_of s name) k → k < length s.selected
   makers_in name k c = let r = recorded_to name k c in let w = slice_get_within rules k r.0 r.1 in omega (arith, w, selected_count)

@@ -16,7 +16,9 @@ use Rattle.lf_semantics.specs.Environments.{names_recorded, recorded_names}
 use Rattle.lf_semantics.specs.Listing.{StandOnce, place}
 use Rattle.lf_semantics.proofs.ListingLaws.{apart, first_seen_distinct, in_first_seen, of_first_seen, place_within}
 use Rattle.lf_laws.proofs.Members.{in_flat_map, here, none_in, of_flat_map}
-use Rattle.lf_semantics.proofs.Places.{place_at, same_text}
+use Rattle.lf_laws.proofs.Slices.{member_at, number_of}
+use Rattle.lf_semantics.proofs.Places.{place_at, placed_there, same_text}
+use Rattle.lf_semantics.proofs.Recorded.{recorded}
 use Rattle.lf_deps.specs.views.Index.{IsIndex, makers_at, makers_of}
 use Rattle.lf_deps.specs.views.Links.{source_of}
 use Rattle.lf_deps.specs.views.Names.{IsNameGraphOf, edges_of, nodes_by, nodes_of}
@@ -28,10 +30,9 @@ use Rattle.lf_deps.proofs.Ascending.{in_range, of_range}
 use Rattle.lf_deps.proofs.Followed.{reads_on}
 use Rattle.lf_deps.proofs.Indexed.{sources_full}
 use Rattle.lf_deps.proofs.LookedUp.{recorded_from, recorded_to, selected_count, selected_is}
-use Rattle.lf_deps.proofs.Numbered.{at_number, number_of}
 use Rattle.std.proofs.lemmas.Option.{slice_get_within}
-use Rattle.lf_deps.proofs.Ordered.{named_source, recorded_in, source_below, source_named}
-use Rattle.lf_deps.proofs.Reached.{in_at, reads_to}
+use Rattle.lf_deps.proofs.Ordered.{named_source, source_below, source_named}
+use Rattle.lf_deps.proofs.Reached.{reads_to}
 
 -- a node stands for a name: its own, or that of all names
 abbrev Means : List Bytes → ℕ → Bytes → Type 0
@@ -52,12 +53,11 @@ module _ (rules : List RuleTree) (s : Sources) (is : IsSourcesOf rules s) where
 
   placed : (r : RuleTree) → Contains rules r → r.alert ≡ false → IsPlaced r.name
   placed r c a =
-      let k = number_of rules r c in
       let P : List Bytes → Type 0 = λ l. place l r.name < length l in
-      subst P (sym is.names) (place_within (recorded_names rules) r.name (in_first_seen (names_recorded rules) r.name (recorded_in rules k.0 r k.1 a)))
+      subst P (sym is.names) (place_within (recorded_names rules) r.name (in_first_seen (names_recorded rules) r.name (recorded rules r c a)))
 
   known : (n : Bytes) → IsPlaced n → Contains (names_recorded rules) n
-  known n h = let P : List Bytes → Type 0 = λ l. Contains l n in of_first_seen (names_recorded rules) n (subst P is.names (in_at s.names n h))
+  known n h = let P : List Bytes → Type 0 = λ l. Contains l n in of_first_seen (names_recorded rules) n (subst P is.names (placed_there s.names n h))
 
   stand_once : StandOnce s.names
   stand_once = let P : List Bytes → Type 0 = λ l. StandOnce l in subst P (sym is.names) (apart (recorded_names rules) (first_seen_distinct (names_recorded rules)))
@@ -111,7 +111,7 @@ module _ (rules : List RuleTree) (s : Sources) (is : IsSourcesOf rules s) where
     | inl h ↦
         let P : List ℕ → Type 0 = λ l. Contains l k in
         let r = recorded_to rules s is (get_or s.names u []) k (subst P (makers_is u h) c) in
-        (r.0, r.1, (at_number rules k r.0 r.1, r.2, ap (place s.names) r.3 ∙ own_place u h))
+        (r.0, r.1, (member_at rules k r.0 r.1, r.2, ap (place s.names) r.3 ∙ own_place u h))
     | inr h ↦
         let P : List ℕ → Type 0 = λ l. Contains l k in
         let full = sources_full rules s is in
@@ -152,7 +152,7 @@ module _ (rules : List RuleTree) (s : Sources) (is : IsSourcesOf rules s) where
       let P : List ℕ → Type 0 = λ l. Contains l v in
       let Q : List (Option Bytes) → Type 0 = λ l. Contains (nodes s.names l) v in
       let led : Contains (nodes_by s (makers_of s r.name)) v =
-      in_flat_map (nodes_of s) (makers_of s r.name) k.0 v (recorded_from rules s is r k.0 k.1 a) (subst Q (sym (selected_is rules s is k.0 r k.1)) d) in
+      in_flat_map (nodes_of s) (makers_of s r.name) k.0 v (recorded_from rules s is r k.0 k.2 a) (subst Q (sym (selected_is rules s is k.0 r k.2)) d) in
       subst P (sym (after_name (place s.names r.name) (placed r c a))) led
 
   edge_all : (n : Bytes) → IsPlaced n → Contains (after (edges_of s) (length s.names)) (place s.names n)
@@ -236,7 +236,7 @@ module _ (rules : List RuleTree) (s : Sources) (is : IsSourcesOf rules s) where
     pub reached_from : (k : ℕ) → IsRule k → IsMaker k
     reached_from k h =
         let u : ℕ = place s.names h.0.name in
-        (u, (led u).1 (reads_led e h.0.name (placed h.0 (at_number rules k h.0 h.1) h.2.0) h.2.1), recorded_from rules s is h.0 k h.1 h.2.0)
+        (u, (led u).1 (reads_led e h.0.name (placed h.0 (member_at rules k h.0 h.1) h.2.0) h.2.1), recorded_from rules s is h.0 k h.1 h.2.0)
 
 -- the graph of an index
 module _ (s : Sources) (index : IsIndex s) where

@@ -1,8 +1,7 @@
 -- The numbers of the rules that pass a test.
-use Rattle.std.proofs.Common.{◌≡◌, ℕ, zero, suc, ◌+◌, ◌<◌, Bool, true, false, cond, List, [], ◌∷◌, length, Some, inl, inr, refl, sym, ◌∙◌, ap, subst, arith}
+use Rattle.std.proofs.Common.{◌≡◌, ℕ, zero, suc, ◌+◌, Bool, true, false, cond, List, [], ◌∷◌, get_or, map, Some, inl, inr, refl, sym, ◌∙◌, ap, subst, arith}
 use Rattle.std.specs.Prelude.{slice_get}
 use Rattle.std.specs.List.{Contains}
-use Rattle.std.proofs.lemmas.Option.{get_or_from_slice_get, slice_get_within}
 use Rattle.lf_ast.specs.Rules.{RuleTree}
 use Rattle.lf_laws.proofs.Members.{behind, first_or_behind, here, none_in}
 use Rattle.lf_deps.specs.views.Search.{numbers_of}
@@ -36,12 +35,14 @@ module _ (test : RuleTree → Bool) where
       by true t d rest = elim (first_or_behind j (numbers_of test (j + 1) rules) k d) [ inl e ↦ (0, omega (arith, e), x, refl, t) | inr g ↦ later (rest g) ]
       by false t d rest = later (rest d)
 
--- rules and their numbers
+-- lists that are made from rules, at the number of a rule
 
--- what a list has at a place stands in it
-pub at_number : {X : Type 0} (xs : List X) (k : ℕ) (x : X) → slice_get xs k ≡ Some x → Contains xs x
-at_number xs k x e = (k, slice_get_within xs k x e, get_or_from_slice_get xs k x x e)
+pub made_at : {X : Type 0} (f : RuleTree → List X) (rules : List RuleTree) (k : ℕ) (x : X) → Contains (get_or (map f rules) k []) x → (r : RuleTree) × (slice_get rules k ≡ Some r) × Contains (f r) x
+made_at f [] k x c = absurd (none_in x c)
+made_at f (r ∷ rules) zero x c = (r, refl, c)
+made_at f (r ∷ rules) (suc k) x c = made_at f rules k x c
 
-pub number_of : (rules : List RuleTree) (r : RuleTree) → Contains rules r → (k : ℕ) × (slice_get rules k ≡ Some r)
-number_of [] r c = absurd (none_in r c)
-number_of (x ∷ rules) r c = elim (first_or_behind x rules r c) [ inl e ↦ (0, ap (λ (z : RuleTree). Some z) e) | inr d ↦ let n = number_of rules r d in (suc n.0, n.1) ]
+pub at_made : {X : Type 0} (f : RuleTree → List X) (rules : List RuleTree) (k : ℕ) (r : RuleTree) → slice_get rules k ≡ Some r → get_or (map f rules) k [] ≡ f r
+at_made f [] k r e = absurd (cc)
+at_made f (x ∷ rules) zero r e = let g : x ≡ r = cc in ap f g
+at_made f (x ∷ rules) (suc k) r e = at_made f rules k r e

@@ -1,9 +1,9 @@
 -- The order that rules are taken in.
-use Rattle.std.proofs.Common.{◌≡◌, ℕ, zero, suc, ◌+◌, ◌<◌, ◌⊎◌, Bool, true, false, not, ◌&&◌, cond, eqb, nat_lt, List, [], ◌∷◌, ◌++◌, map, length, get_or, replicate, Option, Some, None, inl, inr, refl, sym, ◌∙◌, ap, subst, arith}
+use Rattle.std.proofs.Common.{◌≡◌, ℕ, ◌+◌, ◌<◌, ◌⊎◌, Bool, true, false, not, ◌&&◌, cond, eqb, nat_lt, List, [], ◌∷◌, ◌++◌, length, get_or, replicate, Option, Some, None, inl, inr, refl, sym, ◌∙◌, ap, subst, arith}
 use Rattle.std.specs.Prelude.{slice_get, slice_set}
 use Rattle.std.specs.List.{Contains, filter, flat_map, range_with_len}
 use Rattle.std.proofs.lemmas.Bool.{and_right, cases_eq, eq-eqb, lt-ltb, ltb-true, not-true}
-use Rattle.std.proofs.lemmas.List.{get_or-replicate, get_or-set_other, get_or-set_same, length-map}
+use Rattle.std.proofs.lemmas.List.{append-nil, append_assoc, get_or-replicate, get_or-set_other, get_or-set_same, length-map}
 use Rattle.std.proofs.lemmas.List.Elements.{Contains-get_or}
 use Rattle.lf_laws.proofs.Booleans.{and_true}
 use Rattle.lf_ast.specs.Labels.{Bytes}
@@ -11,9 +11,11 @@ use Rattle.lf_ast.specs.Rules.{RuleTree}
 use Rattle.lf_semantics.specs.Environments.{names_recorded, recorded_names}
 use Rattle.lf_semantics.specs.Listing.{place}
 use Rattle.lf_laws.proofs.Members.{in_flat_map, behind, first_or_behind, here, none_in, of_flat_map, only_one}
+use Rattle.lf_laws.proofs.Slices.{member_at}
 use Rattle.lf_semantics.proofs.Members.{in_filter, of_filter}
 use Rattle.lf_semantics.proofs.ListingLaws.{in_first_seen, place_within}
 use Rattle.lf_semantics.proofs.Places.{eqb-other, place_le, same_text}
+use Rattle.lf_semantics.proofs.Recorded.{recorded}
 use Rattle.lf_deps.specs.views.Links.{IsLinksOf, recorded_at, recorded_by, source_of, waited_by}
 use Rattle.lf_deps.specs.Ordering.{IsNext, IsOrderOf, Waits, without}
 use Rattle.lf_deps.specs.views.Queue.{IsHeld, IsLeft, IsNextOf, IsReady, IsWhole, TakesNext}
@@ -21,19 +23,8 @@ use Rattle.lf_deps.specs.Reading.{SelectsBy, selectors}
 use Rattle.lf_deps.specs.declared.links.Links.{Links}
 use Rattle.lf_deps.specs.declared.queue.Queue.{Queue}
 use Rattle.lf_deps.proofs.Ascending.{filter_ascends, in_range, of_range, one_fewer, range_ascends}
+use Rattle.lf_deps.proofs.Numbered.{at_made, made_at}
 use Rattle.lf_deps.proofs.Taking.{left_within}
-
--- a list made from rules, at a place
-
-made_at : (f : RuleTree → List ℕ) (rules : List RuleTree) (k s : ℕ) → Contains (get_or (map f rules) k []) s → (r : RuleTree) × (slice_get rules k ≡ Some r) × Contains (f r) s
-made_at f [] k s c = absurd (none_in s c)
-made_at f (r ∷ rules) zero s c = (r, refl, c)
-made_at f (r ∷ rules) (suc k) s c = made_at f rules k s c
-
-at_made : (f : RuleTree → List ℕ) (rules : List RuleTree) (k : ℕ) (r : RuleTree) → slice_get rules k ≡ Some r → get_or (map f rules) k [] ≡ f r
-at_made f [] k r e = absurd (cc)
-at_made f (x ∷ rules) zero r e = let g : x ≡ r = cc in ap f g
-at_made f (x ∷ rules) (suc k) r e = at_made f rules k r e
 
 -- the source of a selector
 
@@ -64,20 +55,6 @@ recorded_source names r s c = by r.alert refl c
 
 source_recorded : (names : List Bytes) (r : RuleTree) (s : ℕ) → r.alert ≡ false → Contains (place names r.name ∷ length names ∷ []) s → Contains (recorded_at names r) s
 source_recorded names r s e c = let P : Bool → Type 0 = λ b. Contains (cond b [] (place names r.name ∷ length names ∷ [])) s in subst P (sym e) c
-
-pub recorded_in : (rules : List RuleTree) (j : ℕ) (r : RuleTree) → slice_get rules j ≡ Some r → r.alert ≡ false → Contains (names_recorded rules) r.name
-recorded_in [] j r e a = absurd (cc)
-recorded_in (x ∷ rules) zero r e a =
-    let f : x ≡ r = cc in
-    let g : x.alert ≡ false = ap (λ (y : RuleTree). y.alert) f ∙ a in
-    let P : Bool → Type 0 = λ b. Contains (cond b (names_recorded rules) (x.name ∷ names_recorded rules)) r.name in
-    let Q : RuleTree → Type 0 = λ y. Contains (x.name ∷ names_recorded rules) y.name in
-    subst P (sym g) (subst Q f (here x.name (names_recorded rules)))
-recorded_in (x ∷ rules) (suc j) r e a = by x.alert (recorded_in rules j r e a)
-  where
-    by : (b : Bool) → Contains (names_recorded rules) r.name → Contains (cond b (names_recorded rules) (x.name ∷ names_recorded rules)) r.name
-    by true c = c
-    by false c = behind x.name (names_recorded rules) r.name c
 
 module _ (rules : List RuleTree) (links : Links) (is : IsLinksOf rules links) where
   abbrev names : List Bytes
@@ -115,7 +92,7 @@ module _ (rules : List RuleTree) (links : Links) (is : IsLinksOf rules links) wh
     waits_held still w =
         let other : RuleTree = w.2.2 in
         let j : ℕ = w.2.0 in
-        let known : Contains names other.name = in_first_seen (names_recorded rules) other.name (recorded_in rules j other w.2.3 w.2.4) in
+        let known : Contains names other.name = in_first_seen (names_recorded rules) other.name (recorded rules other (member_at rules j other w.2.3) w.2.4) in
         let h = place_within names other.name known in
         let P : ℕ → List (List ℕ) → Type 0 = λ s l. Contains (get_or l k []) s in
         let Q : ℕ → List (List ℕ) → Type 0 = λ s l. Contains (get_or l j []) s in
@@ -149,7 +126,7 @@ module _ (rules : List RuleTree) (links : Links) (is : IsLinksOf rules links) wh
         let o = of_flat_map (source_of names) (selectors w.0.expr) h.0 w.2 in
         let r = recorded_for h.2 h.0 h.4 in
         let at = recorded_source names r.0 h.0 r.2 in
-        (w.0, w.1, (h.2, still h.2 h.3, r.0, r.1, at.0, selects (selectors w.0.expr) o.0 o.1 h.0 o.2 r.0 (recorded_in rules h.2 r.0 r.1 at.0) at.1))
+        (w.0, w.1, (h.2, still h.2 h.3, r.0, r.1, at.0, selects (selectors w.0.expr) o.0 o.1 h.0 o.2 r.0 (recorded rules r.0 (member_at rules h.2 r.0 r.1) at.0) at.1))
       where
         selects : (found : List (Option Bytes)) (o : Option Bytes) → Contains found o → (s : ℕ) → Contains (source_of names o) s → (other : RuleTree) → Contains (names_recorded rules) other.name → (place names other.name ≡ s) ⊎ (length names ≡ s)
             → SelectsBy rules found other.name
@@ -215,19 +192,11 @@ all_left n = filter_all (λ j. not (get_or (replicate n false) j true)) (range_w
 abbrev pub OrderGoesOn : List RuleTree → List ℕ → List ℕ → List ℕ → Type 0
 OrderGoesOn rules all order left = (rest : List ℕ) → IsOrderOf rules left rest → IsOrderOf rules all (order ++ rest)
 
-one_behind : (order rest : List ℕ) (k : ℕ) → order ++ k ∷ rest ≡ (order ++ k ∷ []) ++ rest
-one_behind [] rest k = refl
-one_behind (x ∷ order) rest k = ap (λ (l : List ℕ). x ∷ l) (one_behind order rest k)
-
-none_behind : (order : List ℕ) → order ++ [] ≡ order
-none_behind [] = refl
-none_behind (x ∷ order) = ap (λ (l : List ℕ). x ∷ l) (none_behind order)
-
 pub order_goes_on : (rules : List RuleTree) (all order left : List ℕ) (k : ℕ) → OrderGoesOn rules all order left → IsNext rules left k → OrderGoesOn rules all (order ++ k ∷ []) (without k left)
-order_goes_on rules all order left k g next rest is = let P : List ℕ → Type 0 = λ l. IsOrderOf rules all l in subst P (one_behind order rest k) (g (k ∷ rest) (next, is))
+order_goes_on rules all order left k g next rest is = let P : List ℕ → Type 0 = λ l. IsOrderOf rules all l in subst P (sym (append_assoc order (k ∷ []) rest)) (g (k ∷ rest) (next, is))
 
 pub order_ends : (rules : List RuleTree) (all order : List ℕ) → OrderGoesOn rules all order [] → IsOrderOf rules all order
-order_ends rules all order g = let P : List ℕ → Type 0 = λ l. IsOrderOf rules all l in subst P (none_behind order) (g [] refl)
+order_ends rules all order g = let P : List ℕ → Type 0 = λ l. IsOrderOf rules all l in subst P (append-nil order) (g [] refl)
 
 -- one rule more
 

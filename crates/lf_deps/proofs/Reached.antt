@@ -1,20 +1,13 @@
 -- What expressions read, and what they read in common.
-use Rattle.std.proofs.Common.{◌≡◌, ℕ, suc, ◌<◌, List, [], ◌∷◌, length, get_or, inl, inr, subst, arith}
+use Rattle.std.proofs.Common.{◌≡◌, ℕ, ◌<◌, List, [], length, get_or, inl, inr, ◌∙◌}
 use Rattle.std.specs.List.{Contains}
+use Rattle.std.proofs.lemmas.List.{get_or_default}
 use Rattle.lf_ast.specs.Labels.{Bytes}
 use Rattle.lf_ast.specs.Tree.{Tree}
 use Rattle.lf_ast.specs.Rules.{RuleTree}
-use Rattle.lf_semantics.specs.Listing.{place}
-use Rattle.lf_laws.proofs.Members.{first_or_behind, none_in}
-use Rattle.lf_semantics.proofs.Places.{at_place}
 use Rattle.lf_deps.specs.Reading.{AreApart, Reads, selectors}
 use Rattle.lf_deps.specs.Reading.Reads.{selected, through}
 use Rattle.lf_deps.specs.views.Search.{AreRead, ReadsBy}
-use Rattle.std.proofs.lemmas.List.Elements.{Contains-get_or}
-
--- a text has a place among texts if it is one of them
-pub in_at : (texts : List Bytes) (n : Bytes) → place texts n < length texts → Contains texts n
-in_at texts n h = let P : Bytes → Type 0 = λ z. Contains texts z in subst P (at_place texts n h) (Contains-get_or texts (place texts n) [] h)
 
 -- what an expression reads is what its selectors read
 
@@ -35,5 +28,4 @@ none_read rules e f l r left right apart n a b = apart n (reads_to rules e n ((l
 
 -- where a text stands
 pub text_place : (texts : List Bytes) (n : Bytes) → Contains texts n → (k : ℕ) × (k < length texts) × (get_or texts k [] ≡ n)
-text_place [] n c = absurd (none_in n c)
-text_place (x ∷ texts) n c = elim (first_or_behind x texts n c) [ inl e ↦ (0, omega arith, e) | inr d ↦ let r = text_place texts n d in (suc r.0, omega (arith, r.1), r.2) ]
+text_place texts n c = (c.0, c.1, get_or_default texts c.0 [] n c.1 ∙ c.2)

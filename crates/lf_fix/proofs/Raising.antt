@@ -6,6 +6,7 @@ use Rattle.std.proofs.lemmas.Option.{none-some, same_Some}
 use Rattle.lf_ast.specs.Labels.{Bytes}
 use Rattle.lf_ast.specs.Rules.{RuleTree}
 use Rattle.lf_flow.specs.Raising.{joined}
+use Rattle.lf_flow.specs.Reads.{names_of}
 use Rattle.lf_semantics.specs.ClassRows.{Sets, bottom, join}
 use Rattle.lf_semantics.specs.Environments.{EnvironmentLeq, IsPostFixedPoint, IsEnvironmentOf, IsRow, Leq, names_recorded, recorded_names, recorded_row}
 use Rattle.lf_semantics.specs.Listing.{IsListing, Listing, class_of, label_of, other_class}
@@ -23,9 +24,6 @@ use Rattle.lf_fix.specs.views.Rounds.{start}
 pub environment_refl : (env : Environment) → EnvironmentLeq env env
 environment_refl [] = tt
 environment_refl (e ∷ env) = (refl, leq_refl e.1, environment_refl env)
-
-abbrev pub names_of : Environment → List Bytes
-names_of env = map (λ entry. entry.0) env
 
 -- what holds of the rows of a name
 abbrev pub EachNamed : Bytes → (Sets → Type 0) → Environment → Type 0

@@ -4,11 +4,11 @@ use Rattle.std.specs.Prelude.{slice_get, slice_index_or}
 use Rattle.std.specs.List.{AllByRecursion, Contains}
 use Rattle.std.specs.Str.{bytes_eq}
 use Rattle.std.proofs.Math.Seq.{take-length}
-use Rattle.std.proofs.lemmas.Option.{slice_get_within}
 use Rattle.std.proofs.lemmas.Bool.{or_parts}
 use Rattle.lf_ast.specs.Labels.{Bytes}
 use Rattle.lf_ast.specs.Rules.{RuleTree}
 use Rattle.lf_flow.specs.Raising.{joined}
+use Rattle.lf_flow.specs.Reads.{names_of}
 use Rattle.lf_semantics.specs.ClassRows.{Sets, bottom}
 use Rattle.lf_semantics.specs.Environments.{CoversRules, IsEnvironmentOf, IsKnown, IsLeast, IsRow, Leq, names_recorded, recorded_names, recorded_row}
 use Rattle.lf_semantics.specs.Listing.{IsListing, Listing, class_of, label_of, other_class}
@@ -17,37 +17,20 @@ use Rattle.lf_ast.specs.Selectors.{metric}
 use Rattle.lf_semantics.specs.Mentions.{mention, rule_mentions, mentions}
 use Rattle.lf_laws.proofs.Members.{behind, first_or_behind, here, none_in, same_true}
 use Rattle.lf_laws.proofs.Booleans.{clash}
-use Rattle.lf_semantics.proofs.Members.{all_back, all_of}
+use Rattle.lf_laws.proofs.Slices.{member_at, number_of, one_at}
+use Rattle.lf_laws.proofs.Members.{all_back}
+use Rattle.lf_semantics.proofs.Members.{all_of}
+use Rattle.lf_semantics.proofs.Recorded.{recorded, recorder}
 use Rattle.lf_semantics.proofs.ListingLaws.{in_first_seen, of_first_seen}
 use Rattle.lf_semantics.proofs.RowLaws.{shape_bottom}
 use Rattle.lf_semantics.proofs.NormalizedRows.{recorded_row_is, normalized_bottom}
 use Rattle.lf_deps.specs.Ordering.{IsOrder}
-use Rattle.lf_deps.proofs.Numbered.{at_number, number_of}
 use Rattle.lf_deps.proofs.OrderLaws.{each_ordered}
 use Rattle.lf_fix.specs.views.Rounds.{OthersHold, Rises, StepTells, Tells, TellsOf, missing, start}
 use Rattle.lf_fix.proofs.Missing.{joined_less}
-use Rattle.lf_fix.proofs.Raising.{environment_joined, names_of, step_under, under_start}
-
-pub same_rule : (rules : List RuleTree) (k : ℕ) (r s : RuleTree) → slice_get rules k ≡ Some r → slice_get rules k ≡ Some s → r ≡ s
-same_rule rules k r s e f = let a : Some r ≡ Some s = sym e ∙ f in cc
-
-pub rule_within : (rules : List RuleTree) (k : ℕ) (r : RuleTree) → slice_get rules k ≡ Some r → k < length rules
-rule_within [] k r e = absurd (cc)
-rule_within (x ∷ rules) zero r e = omega arith
-rule_within (x ∷ rules) (suc k) r e = let h = rule_within rules k r e in omega (arith, h)
+use Rattle.lf_fix.proofs.Raising.{environment_joined, step_under, under_start}
 
 -- a recorded name has a row
-
-in_names : (rules : List RuleTree) (r : RuleTree) → Contains rules r → r.alert ≡ false → Contains (names_recorded rules) r.name
-in_names [] r c e = absurd (none_in r c)
-in_names (x ∷ rules) r c e = by x.alert refl (in_names rules r)
-  where
-    by : (b : Bool) → x.alert ≡ b → (Contains rules r → r.alert ≡ false → Contains (names_recorded rules) r.name) → Contains (cond b (names_recorded rules) (x.name ∷ names_recorded rules)) r.name
-    by true f rest = elim (first_or_behind x rules r c) [ inl q ↦ absurd (clash _ f (ap (λ (y : RuleTree). y.alert) q ∙ e)) | inr d ↦ rest d e ]
-    by false f rest = elim (first_or_behind x rules r c) [
-      | inl q ↦ let P : RuleTree → Type 0 = λ y. Contains (x.name ∷ names_recorded rules) y.name in subst P q (here x.name _)
-      | inr d ↦ behind x.name _ r.name (rest d e)
-    ]
 
 row_in : (env : Environment) (n : Bytes) → Contains (names_of env) n → (row : Sets) × (row_named env n ≡ Some row)
 row_in [] n c = absurd (none_in n c)
@@ -105,6 +88,11 @@ tells_more u rules order n k env mid later dirty after again changed at h t = re
     less false true e f i = let P : Environment → Type 0 = λ z. missing later < missing z in subst P (h.same e) (t.less f)
     less false false e f i = absurd (clash _ i (ap (λ b. b || changed) e ∙ f))
 
+-- the environment without samples has the names of which it is made
+pub start_names : (u : Listing) (names : List Bytes) → names_of (map (λ (name : Bytes). (name, bottom u)) names) ≡ names
+start_names u [] = refl
+start_names u (n ∷ names) = ap (λ (xs : List Bytes). n ∷ xs) (start_names u names)
+
 module _ (u : Listing) (p : IsListing u) (rules : List RuleTree) where
   pub rises_none : (env : Environment) → IsEnvironmentOf u rules env → Rises u rules env env
   rises_none env h = record { of_rules = h; below = λ other o d b. b }
@@ -118,14 +106,14 @@ module _ (u : Listing) (p : IsListing u) (rules : List RuleTree) where
     rises = rises_none env h;
     less = λ f. absurd (cc);
     same = λ f. refl;
-    holds = λ f s i g. absurd (clash _ e (ap (λ (y : RuleTree). y.alert) (same_rule rules k r s is i) ∙ g));
+    holds = λ f s i g. absurd (clash _ e (ap (λ (y : RuleTree). y.alert) (one_at rules k r s is i) ∙ g));
     joins = λ f. absurd (cc);
   }
 
   pub has_row : (env : Environment) (k : ℕ) (r : RuleTree) → IsEnvironmentOf u rules env → slice_get rules k ≡ Some r → r.alert ≡ false → (row : Sets) × (row_named env r.name ≡ Some row)
   has_row env k r h is e =
       let P : List Bytes → Type 0 = λ names. Contains names r.name in
-      row_in env r.name (subst P (sym h.names) (in_first_seen (names_recorded rules) r.name (in_names rules r (at_number rules k r is) e)))
+      row_in env r.name (subst P (sym h.names) (in_first_seen (names_recorded rules) r.name (recorded rules r (member_at rules k r is) e)))
 
   -- rows of the universe have one shape
   pub same_shape : (env : Environment) (n : Bytes) (row other : Sets) → IsEnvironmentOf u rules env → IsRow u row → row_named env n ≡ Some other → map length other ≡ map length row
@@ -140,15 +128,15 @@ module _ (u : Listing) (p : IsListing u) (rules : List RuleTree) where
       record {
         rises =
             let P : Environment → Type 0 = λ x. Rises u rules env x in
-            subst P (sym made) (record { of_rules = environment_joined r.name (recorded_row u env r) u own rules env h; below = λ other o d b. step_under u p rules env other r h o d (at_number rules k r is) e b });
+            subst P (sym made) (record { of_rules = environment_joined r.name (recorded_row u env r) u own rules env h; below = λ other o d b. step_under u p rules env other r h o d (member_at rules k r is) e b });
         less = λ f.
             let P : Environment → Type 0 = λ x. missing x < missing env in
             subst P (sym made) (joined_less u r.name (recorded_row u env r) own env h.environment.rows at.0 at.1 (λ under. clash _ f ((tells at.0 at.1).1 under)));
         same = kept;
         holds = λ f s i g.
             let Q : RuleTree → Type 0 = λ y. (row : Sets) × (row_named env y.name ≡ Some row) × Leq (recorded_row u env y) row in
-            subst Q (same_rule rules k r s is i) (at.0, at.1, (tells at.0 at.1).0 f);
-        joins = λ f s i. let Q : RuleTree → Type 0 = λ y. (y.alert ≡ false) × (later ≡ joined y.name (recorded_row u env y) env) in subst Q (same_rule rules k r s is i) (e, made);
+            subst Q (one_at rules k r s is i) (at.0, at.1, (tells at.0 at.1).0 f);
+        joins = λ f s i. let Q : RuleTree → Type 0 = λ y. (y.alert ≡ false) × (later ≡ joined y.name (recorded_row u env y) env) in subst Q (one_at rules k r s is i) (e, made);
       }
 
   -- all rules of an order have been stepped
@@ -160,7 +148,7 @@ module _ (u : Listing) (p : IsListing u) (rules : List RuleTree) where
       → Tells u rules order (length order) env later after again → again ≡ false → IsLeast u rules later
   least_of order env later after again is h t e = record {
     of_rules = t.rises.of_rules;
-    closed = λ r c f. let i = number_of rules r c in t.hold i.0 r i.1 (t.done e i.0 (all_taken order i.0 (each_ordered rules order is i.0 (slice_get_within rules i.0 r i.1)))) f;
+    closed = λ r c f. let i = number_of rules r c in t.hold i.0 r i.2 (t.done e i.0 (all_taken order i.0 (each_ordered rules order is i.0 i.1))) f;
     least = λ other o d. t.rises.below other o d (h.below other o d (under_start u p rules other o));
   }
 
@@ -169,10 +157,6 @@ module _ (u : Listing) (p : IsListing u) (rules : List RuleTree) where
   rises_more order env later after again h t = rises_on u rules (start u rules) env later h t.rises
 
   -- the start is an environment of the rules
-
-  start_names : (names : List Bytes) → map (λ (entry : Bytes × Sets). entry.0) (map (λ (name : Bytes). (name, bottom u)) names) ≡ names
-  start_names [] = refl
-  start_names (n ∷ names) = ap (λ (xs : List Bytes). n ∷ xs) (start_names names)
 
   start_rows : (names : List Bytes) → AllByRecursion (λ (entry : Bytes × Sets). IsRow u entry.1) (map (λ (name : Bytes). (name, bottom u)) names)
   start_rows [] = tt
@@ -192,12 +176,7 @@ module _ (u : Listing) (p : IsListing u) (rules : List RuleTree) where
       (subst P e (all_back (IsKnown u) (mentions r.expr) _ known)).0.1.0
 
   names_are_classes : (rs : List RuleTree) → CoversRules u rs → (name : Bytes) → Contains (names_recorded rs) name → IsClass name
-  names_are_classes [] covers name c = absurd (none_in name c)
-  names_are_classes (r ∷ rs) covers name c = by r.alert refl c (names_are_classes rs (λ x i. covers x (behind r rs x i)) name)
-    where
-      by : (b : Bool) → r.alert ≡ b → Contains (cond b (names_recorded rs) (r.name ∷ names_recorded rs)) name → (Contains (names_recorded rs) name → IsClass name) → IsClass name
-      by true e d rest = rest d
-      by false e d rest = elim (first_or_behind r.name (names_recorded rs) name d) [ inl q ↦ subst IsClass q (name_is_class r (covers r (here r rs)) e) | inr i ↦ rest i ]
+  names_are_classes rs covers name c = let f = recorder rs name c in subst IsClass f.3 (name_is_class f.0 (covers f.0 f.1) f.2)
 
   pub start_is : CoversRules u rules → IsEnvironmentOf u rules (start u rules)
   start_is covers = record {
@@ -205,7 +184,7 @@ module _ (u : Listing) (p : IsListing u) (rules : List RuleTree) where
       rows = start_rows (recorded_names rules);
       classes = start_classes (recorded_names rules) (all_of IsClass (recorded_names rules) (λ name c. names_are_classes rules covers name (of_first_seen (names_recorded rules) name c)));
     };
-    names = start_names (recorded_names rules);
+    names = start_names u (recorded_names rules);
   }
 
   pub rises_start : (env : Environment) → CoversRules u rules → env ≡ start u rules → Rises u rules (start u rules) env

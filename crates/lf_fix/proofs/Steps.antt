@@ -5,6 +5,7 @@ use Rattle.std.specs.List.{Contains}
 use Rattle.std.proofs.lemmas.List.{get_or-set_other, get_or-set_same}
 use Rattle.std.proofs.lemmas.Bool.{cases_eq}
 use Rattle.lf_laws.proofs.Booleans.{clash, not_true}
+use Rattle.lf_laws.proofs.Slices.{one_at}
 use Rattle.lf_ast.specs.Labels.{Bytes}
 use Rattle.lf_ast.specs.Rules.{RuleTree}
 use Rattle.lf_flow.specs.Raising.{joined}
@@ -16,7 +17,7 @@ use Rattle.lf_semantics.proofs.NormalizedRows.{recorded_row_is}
 use Rattle.lf_deps.specs.Reading.{selectors}
 use Rattle.lf_fix.specs.views.Dependents.{Index, IsIndexOf, IsListed, SelectsRow}
 use Rattle.lf_fix.specs.views.Rounds.{HoldsRule, OthersHold, StepTells, TellsOf}
-use Rattle.lf_fix.proofs.Rounds.{has_row, rises_none, same_rule}
+use Rattle.lf_fix.proofs.Rounds.{has_row, rises_none}
 use Rattle.lf_fix.proofs.SameRows.{holds_own, holds_without}
 
 module _ (u : Listing) (p : IsListing u) (rules : List RuleTree) (k : ℕ) (env : Environment) (of : IsEnvironmentOf u rules env) (dirty : List Bool) (hold : OthersHold u rules env dirty) where
@@ -77,7 +78,7 @@ module _ (u : Listing) (p : IsListing u) (rules : List RuleTree) (k : ℕ) (env 
             hold = subst P (sym j.1) (λ i r at free. elim (cases_eq i k) [
               | inl q ↦
                   let A : ℕ → Type 0 = λ x. slice_get rules x ≡ Some r in
-                  let same : rule ≡ r = same_rule rules k rule r is (subst A q at) in
+                  let same : rule ≡ r = one_at rules k rule r is (subst A q at) in
                   let N : RuleTree → Type 0 = λ x. SelectsRow x.expr rule.name → ⊥ in
                   let H : RuleTree → Type 0 = λ x. HoldsRule u (joined rule.name (recorded_row u env rule) env) x in
                   let row = has_row u p rules env k rule of is j.0 in
@@ -90,7 +91,7 @@ module _ (u : Listing) (p : IsListing u) (rules : List RuleTree) (k : ℕ) (env 
             still = λ f. absurd (clash _ e f);
             again = λ j r other at same c a. elim (only j r at a) [
               | inl t ↦ absurd (clash _ t c)
-              | inr s ↦ let N : RuleTree → Type 0 = λ x. SelectsRow r.expr x.name in (e, subst N (same_rule rules k rule other is same) s)
+              | inr s ↦ let N : RuleTree → Type 0 = λ x. SelectsRow r.expr x.name in (e, subst N (one_at rules k rule other is same) s)
             ];
           }
 
@@ -104,8 +105,8 @@ pub selects : (rules : List RuleTree) (index : Index) (j : ℕ) (r : RuleTree) (
 selects rules index j r name is at (inl l) =
     let o = is.only j (Some name) l in
     let P : RuleTree → Type 0 = λ x. Contains (selectors x.expr) (Some name) in
-    inl (subst P (same_rule rules j o.0 r o.1 at) o.2)
+    inl (subst P (one_at rules j o.0 r o.1 at) o.2)
 selects rules index j r name is at (inr l) =
     let o = is.only j None l in
     let P : RuleTree → Type 0 = λ x. Contains (selectors x.expr) None in
-    inr (subst P (same_rule rules j o.0 r o.1 at) o.2)
+    inr (subst P (one_at rules j o.0 r o.1 at) o.2)

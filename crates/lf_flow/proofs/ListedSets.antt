@@ -5,7 +5,7 @@ use Rattle.std.specs.Prelude.{replicate}
 use Rattle.std.specs.Option.{option_map_or}
 use Rattle.std.specs.List.{list_any}
 use Rattle.std.specs.Str.{bytes_eq}
-use Rattle.std.proofs.lemmas.Bool.{cases_eq}
+use Rattle.std.proofs.lemmas.Bool.{cases_eq, or_right}
 use Rattle.std.proofs.lemmas.Bool.Decides.{Decides-eqb, nat_tests}
 use Rattle.std.proofs.lemmas.List.{get_or-replicate, get_or-set_other, get_or-set_same, length-replicate}
 use Rattle.std.proofs.lemmas.List.Folds.{list_any_more}
@@ -31,10 +31,6 @@ none_on n on is = record {
   each = λ c h. ap (λ xs. get_or xs c false) is ∙ get_or-replicate n c false false h;
 }
 
-or_true : (a : Bool) → (a || true) ≡ true
-or_true true = refl
-or_true false = refl
-
 put_on : (n k : ℕ) (test : ℕ → Bool) (on : List Bool) → k < n → IsSet n test on → IsSet n (λ c. test c || eqb k c) (set on k true)
 put_on n k test on h s = record {
   count = length-set on k true ∙ s.count;
@@ -43,7 +39,7 @@ put_on n k test on h s = record {
   where
     by : (c : ℕ) → c < n → (k ≡ c) ⊎ (k ≢ c) → get_or (set on k true) c false ≡ (test c || eqb k c)
     by c b (inl e) =
-        ap (λ m. get_or (set on k true) m false) (sym e) ∙ get_or-set_same on k true false (omega (arith, s.count)) ∙ sym (or_true (test c)) ∙ ap (λ x. test c || x) (sym ((Decides-eqb k c).1 e))
+        ap (λ m. get_or (set on k true) m false) (sym e) ∙ get_or-set_same on k true false (omega (arith, s.count)) ∙ sym (or_right (test c) true refl) ∙ ap (λ x. test c || x) (sym ((Decides-eqb k c).1 e))
     by c b (inr d) = get_or-set_other on k c true false (λ e. d (sym e)) ∙ s.each c b ∙ sym (or_false (test c)) ∙ ap (λ x. test c || x) (sym (eqb-other k c d))
 
 module _ (u : Listing) (label : ℕ) where

@@ -1,18 +1,21 @@
 -- Rows of the classes that pass patterns, as they are cached.
-use Rattle.std.proofs.Common.{◌≡◌, ℕ, ◌+◌, ◌<◌, Bool, true, false, not, ◌&&◌, ◌||◌, cond, eqb, [], map, length, get_or, refl, sym, ◌∙◌, ap, subst, arith}
+use Rattle.std.proofs.Common.{◌≡◌, ℕ, ◌+◌, ◌<◌, Bool, true, false, not, ◌&&◌, ◌||◌, cond, eqb, List, [], map, length, get_or, refl, sym, ◌∙◌, ap, subst, arith}
 use Rattle.std.specs.Prelude.{replicate}
 use Rattle.std.proofs.lemmas.Bool.Decides.{Decides-eqb}
 use Rattle.std.proofs.lemmas.List.{get_or-map, get_or-replicate, length-map}
 use Rattle.lf_ast.specs.Labels.{Bytes}
 use Rattle.lf_ast.specs.declared.expr.MatchOp.{MatchOp}
+use Rattle.lf_ast.specs.declared.expr.MatchOp.TheVariants.{Matches}
 use Rattle.lf_laws.proofs.Booleans.{clash, not_true}
 use Rattle.lf_semantics.specs.ClassRows.{HasShape, Sets, emptied, top, holds, is_live, narrowed, remade, normalized}
 use Rattle.lf_semantics.specs.Listing.{Listing, class_counts, named_at}
-use Rattle.lf_semantics.specs.RowTable.{passes_class}
+use Rattle.lf_semantics.specs.RowTable.{may_match, passes_class}
 use Rattle.lf_semantics.proofs.RowLaws.{holds-remade, live_when, shape_top, shape_narrowed, shape_remade}
 use Rattle.lf_classes.specs.views.PatternCache.{passing_row}
 use Rattle.lf_semantics.proofs.RowSets.{emptied_holds, remade_same}
+use Rattle.lf_flow.specs.views.ClassSets.{IsSet}
 use Rattle.lf_flow.proofs.ClassSets.{row_length, set_length}
+use Rattle.lf_flow.proofs.PatternSets.{retested}
 
 -- every class is in the full row
 full_at : (u : Listing) (l c : ℕ) → l < length u.named → c < length (named_at u l) + 2 → holds (top u) l c ≡ true
@@ -73,3 +76,9 @@ met_passing u label op pattern passing row within shape is = ap normalized (rema
 pub shape_passing : (u : Listing) (label : ℕ) (op : MatchOp) (pattern : Bytes) (passing row : Sets) → HasShape u row → passing ≡ passing_row u label op pattern → map length row ≡ map length passing
 shape_passing u label op pattern passing row shape is =
     shape ∙ sym (ap (map length) is ∙ shape_narrowed (λ l c. not (eqb label l) || passes_class u op pattern l c) (top u) ∙ shape_top u)
+
+-- and has at the label the classes that may match a pattern behind `=~`
+pub row_matching : (u : Listing) (label : ℕ) (pattern : Bytes) (passing : Sets) (on : List Bool) → label < length u.named → passing ≡ passing_row u label Matches pattern
+    → IsSet (length (named_at u label) + 2) (holds passing label) on → IsSet (length (named_at u label) + 2) (may_match u pattern label) on
+row_matching u label pattern passing on within is set =
+    retested _ _ _ on (λ c k. ap (λ r. holds r label c) is ∙ holds_own u label (passes_class u Matches pattern) within c k) set

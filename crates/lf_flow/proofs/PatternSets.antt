@@ -39,13 +39,6 @@ module _ (u : Listing) (pattern : Bytes) (label class : ℕ) where
 pub retested : (n : ℕ) (test other : ℕ → Bool) (on : List Bool) → ((class : ℕ) → class < n → test class ≡ other class) → IsSet n test on → IsSet n other on
 retested n test other on same set = record { count = set.count; each = λ class h. set.each class h ∙ same class h }
 
-last_or : (class n : ℕ) (b : Bool) → class < n → ((class + 1 ≡ n) → b ≡ true) → (class + 1 < n → b ≡ false) → eqb (class + 1) n ≡ b
-last_or class n b h last before = by (eqb (class + 1) n) refl
-  where
-    by : (t : Bool) → eqb (class + 1) n ≡ t → t ≡ b
-    by true f = sym (last ((Decides-eqb (class + 1) n).0 f))
-    by false f = sym (before (grind (arith, nat_tests, f)))
-
 module _ (u : Listing) (pattern : Bytes) (label : ℕ) where
   abbrev size : ℕ
   size = length (named_at u label) + 2

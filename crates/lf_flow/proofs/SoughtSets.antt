@@ -3,14 +3,13 @@ use Rattle.std.proofs.Common.{◌≡◌, ◌≢◌, ℕ, ◌+◌, ◌<◌, ◌�
 use Rattle.std.specs.Prelude.{replicate}
 use Rattle.std.specs.List.{count_by, filter, list_any}
 use Rattle.std.proofs.Math.ListN.{set}
-use Rattle.std.proofs.lemmas.Bool.{cases_eq}
+use Rattle.std.proofs.lemmas.Bool.{cases_eq, not-true, or_right}
 use Rattle.std.proofs.lemmas.Bool.Decides.{Decides-eqb, nat_tests}
 use Rattle.std.proofs.lemmas.List.{get_or-replicate, get_or-set_other, get_or-set_same, length-replicate}
 use Rattle.std.proofs.lemmas.List.Folds.{list_any_more}
 use Rattle.std.proofs.lemmas.List.Sums.{count_by_more_no, count_by_more_yes, length-filter}
 use Rattle.lf_ast.specs.Labels.{Bytes}
 use Rattle.lf_ast.specs.declared.expr.Matcher.{Matcher}
-use Rattle.std.proofs.lemmas.Bool.{not-true}
 use Rattle.lf_laws.proofs.Booleans.{and_false, and_true, or_false}
 use Rattle.lf_semantics.specs.ClassRows.{holds, kept}
 use Rattle.lf_semantics.specs.Listing.{Listing, class_of, class_texts, label_of, named_at}
@@ -33,10 +32,6 @@ filtered_any p q (x ∷ xs) = by (p x) refl (filtered_any p q xs)
     by true e rest = rw e (ap (λ b. q x || b) rest)
     by false e rest = rw e rest
 
-or_true : (a : Bool) → (a || true) ≡ true
-or_true true = refl
-or_true false = refl
-
 no_matcher : (t z : Bool) → t ≡ z → (t || false) ≡ (z && true)
 no_matcher true true e = refl
 no_matcher false false e = refl
@@ -50,7 +45,7 @@ one_matcher false true = refl
 one_matcher false false = refl
 
 several_matchers : (z t some has one : Bool) → t ≡ z → one ≡ false → (z ≡ false → some ≡ has) → (t || some) ≡ (has || (z && not one))
-several_matchers true t some has one e f h = rw (e, f) (sym (or_true has))
+several_matchers true t some has one e f h = rw (e, f) (sym (or_right has true refl))
 several_matchers false t some has one e f h = rw e (h refl ∙ sym (or_false has))
 
 module _ (u : Listing) (label class : ℕ) where
@@ -184,7 +179,7 @@ module _ (u : Listing) (label : ℕ) where
       by true e =
           let r = alone ms ((Decides-eqb (count_by (is_on_label u label) ms) 1).0 e) in
           (r.0, r.1, ap (λ b. b || (eqb r.0 0 && (bare || not (eqb (count_by (is_on_label u label) ms) 1)))) (r.2 r.0 ∙ (Decides-eqb r.0 r.0).1 refl))
-      by false e = (0, omega arith, ap (λ b. given ms 0 || (bare || not b)) e ∙ ap (λ b. given ms 0 || b) (or_true bare) ∙ or_true (given ms 0))
+      by false e = (0, omega arith, ap (λ b. given ms 0 || (bare || not b)) e ∙ ap (λ b. given ms 0 || b) (or_right bare true refl) ∙ or_right (given ms 0) true refl)
 
 -- the next matcher
 
@@ -365,9 +360,9 @@ module _ (u : Listing) (ms : List Matcher) where
 
 -- which the sample may also lack, by what stands outside
 
-pub none_outside : (sought : Option Sought) → also_bare false sought ≡ sought
-none_outside None = refl
-none_outside (Some s) = refl
+pub not_outside : (sought : Option Sought) → also_bare false sought ≡ sought
+not_outside None = refl
+not_outside (Some s) = refl
 
 pub in_parentheses : (outside : Bool) (sought : Option Sought) → also_bare true sought ≡ also_bare outside (option_map (λ s. record { matchers = s.matchers; may_be_bare = true }) sought)
 in_parentheses true None = refl

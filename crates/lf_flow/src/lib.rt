@@ -2,6 +2,7 @@
 #![tactic(auto)]
 
 mod absence;
+mod budget;
 mod counting;
 mod effects;
 mod env;
@@ -14,7 +15,7 @@ mod narrowing;
 mod operating;
 mod operators;
 mod parts;
-mod preparing;
+mod patterns;
 mod reading;
 mod replacing;
 mod rows;
@@ -22,6 +23,6 @@ mod selecting;
 
 pub use env::Env;
 pub use parts::part_rows;
-pub use preparing::prepare;
+pub use patterns::match_patterns;
 pub use reading::reads;
 pub use rows::flow;

@@ -29,39 +29,40 @@ pub fn narrow(
             row.meet_label(label, passing);
             Ok(())
         }
-        None => narrow_anew(alloc, universe, label, matcher, row),
+        None => narrow_label(alloc, universe, label, matcher.op, &matcher.value, row),
     }
 }
 
-/// Leaves a label the classes that pass a matcher.
-fn narrow_anew(
+/// Leaves a label the classes that pass an operator and a value, which are looked for.
+pub fn narrow_label(
     alloc: Global,
     universe: &Universe,
     label: u32,
-    matcher: &Matcher,
+    op: MatchOp,
+    value: &Text,
     row: &mut Row,
 ) -> Result<(), Memory>
     requires listing { IsListing universe.now }
     requires label { label < length universe.now.named }
     requires shape { HasShape universe.now row.old }
-    ensures { OnOk result (row.new ≡ narrowed (λ l class. not (eqb label l) || passes_class universe.now matcher.now.op matcher.now.value l class) row.old) }
+    ensures { OnOk result (row.new ≡ narrowed (λ l class. not (eqb label l) || passes_class universe.now op value.now l class) row.old) }
 {
-    match matcher.op {
+    match op {
         MatchOp::Equal => {
-            keep_text(universe, label, matcher.value.as_str(), row);
+            keep_text(universe, label, value.as_str(), row);
             Ok(())
         }
         MatchOp::NotEqual => {
-            drop_text(universe, label, matcher.value.as_str(), row);
+            drop_text(universe, label, value.as_str(), row);
             Ok(())
         }
         MatchOp::Matches => {
-            let on = matched(alloc, universe, label, &matcher.value)?;
+            let on = matched(alloc, universe, label, value)?;
             row.narrow_classes(label, &on);
             Ok(())
         }
         MatchOp::NotMatches => {
-            let on = unmatched(alloc, universe, label, &matcher.value)?;
+            let on = unmatched(alloc, universe, label, value)?;
             row.narrow_classes(label, &on);
             Ok(())
         }

@@ -11,7 +11,7 @@ ghost use Rattle.lf_semantics.specs.RowTable.{has_class, is_expansion, is_other,
 ghost use Rattle.lf_semantics.specs.Strings.{replacing};
 ghost use Rattle.lf_flow.specs.views.ClassSets.{IsSet, is_listed};
 
-use lf_ast::{Expr, has_dollar, text_at};
+use lf_ast::{Expr, MatchOp, has_dollar, text_at};
 use lf_base::names::is_label_name;
 use lf_base::{Memory, Text};
 use lf_classes::{Row, Universe};
@@ -79,7 +79,7 @@ fn outcomes_of(
     ensures fails { IfOk result (λ o. o.may_fail ≡ has_class universe.now (may_fail universe.now pattern.now (label_of universe.now source.now)) (source_set universe.now row.now source.now)) }
 {
     let label = universe.label_of(source);
-    let matched = matched(alloc, universe, label, pattern)?;
+    let matched = matched_once(alloc, universe, label, pattern)?;
     let failed = failed(alloc, &matched)?;
     if is_label_name(source.as_bytes()) {
         let may_match = meets(universe, row, label, &matched);
@@ -107,6 +107,40 @@ fn meets(universe: &Universe, row: &Row, label: u32, on: &[bool]) -> bool
         found = found || (row.has(label, class) && on[class as usize]);
     }
     found
+}
+
+/// The classes of a label that may match a pattern. They are looked for only where the universe hasn't cached them.
+fn matched_once(
+    alloc: Global,
+    universe: &Universe,
+    label: u32,
+    pattern: &Text,
+) -> Result<Vec<bool>, Memory>
+    requires label { label < length universe.now.named }
+    ensures { IfOk result (λ on. IsSet (length (named_at universe.now label) + 2) (may_match universe.now pattern.now label) on.items) }
+{
+    match universe.cached_row(label, MatchOp::Matches, pattern.as_str()) {
+        Some(passing) => classes_in(alloc, universe, label, passing),
+        None => matched(alloc, universe, label, pattern),
+    }
+}
+
+/// The classes that a label has in a row.
+fn classes_in(
+    alloc: Global,
+    universe: &Universe,
+    label: u32,
+    row: &Row,
+) -> Result<Vec<bool>, Memory>
+    requires label { label < length universe.now.named }
+    requires shape { HasShape universe.now row.now }
+    ensures { IfOk result (λ on. IsSet (length (named_at universe.now label) + 2) (holds row.now label) on.items) }
+{
+    let mut on = Vec::new(alloc);
+    for class in 0..universe.classes(label) {
+        on.push(row.has(label, class))?;
+    }
+    Ok(on)
 }
 
 /// The classes of a label that may match a pattern. 'Any other text' may match one that isn't plain, and what is no pattern is matched by no text of its own.

@@ -1,12 +1,11 @@
 -- Lines of texts.
-use Rattle.std.proofs.Common.{◌≡◌, ◌≢◌, ◌≤◌, ◌<◌, ◌⊎◌, inl, inr, ℕ, Bool, true, false, cond, zero, suc, ◌+◌, ◌-◌, List, [], ◌∷◌, ◌++◌, Option, Some, length, take, drop, map, get_or, eqb, refl, sym, ap, ap₂, ◌∙◌, subst, append_assoc, append-nil, arith}
-use Rattle.std.proofs.lemmas.Bool.{cases_lt, ne_eqb}
-use Rattle.std.proofs.lemmas.List.{drop-append-le, drop-map, drop_at, drop_more, get_or-drop, get_or-take, length-append, length-drop, length-map, length-take-le, take-append-drop, take_at}
+use Rattle.std.proofs.Common.{◌≡◌, ◌≢◌, ◌≤◌, ◌<◌, inl, inr, ℕ, Bool, true, false, cond, zero, suc, ◌+◌, ◌-◌, List, [], ◌∷◌, ◌++◌, Option, Some, length, take, drop, map, get_or, eqb, refl, sym, ap, ap₂, ◌∙◌, subst, append_assoc, append-nil, arith}
+use Rattle.std.proofs.lemmas.Bool.{ne_eqb}
+use Rattle.std.proofs.lemmas.List.{drop-append-le, drop-map, drop_at, drop_more, get_or-drop, length-append, length-drop, length-map, length-take-le, take-append-drop, take_at}
 use Rattle.std.proofs.lemmas.List.Concat.{concat_is}
 use Rattle.std.proofs.lemmas.List.Folds.{flat_map-map}
 use Rattle.std.specs.List.{AllByRecursion, concat}
 use Rattle.std.specs.Option.{MatchOption}
-use Rattle.std.specs.Str.{IsCharBoundary}
 use Rattle.lf_gen.specs.Lines.{AreLines, Bytes, begun, last_lines, lines_of, lines_text}
 use Rattle.lf_gen.specs.views.Ends.{BeginsLastLine, IsWithoutFeed}
 
@@ -142,20 +141,6 @@ pub begins_behind_last_feed : (text body : Bytes) (k : ℕ) → IsWithoutFeed te
 begins_behind_last_feed text body k without (within, at, none) = begins_behind_feed text body k without within at none
 
 -- ---- the last two lines
-
-pub boundary_before : (text : Bytes) (last before : ℕ) → IsCharBoundary text last → IsCharBoundary (take last text) before → IsCharBoundary text before
-boundary_before text last before (within, at) (less, there) = by (cases_lt before last)
-  where
-    count : length (take last text) ≡ last
-    count = length-take-le last text within
-
-    by : (before < last) ⊎ (last ≤ before) → IsCharBoundary text before
-    by (inl h) =
-        let same : get_or (take last text) before 0 ≡ get_or text before 0 = get_or-take last text before 0 h in (
-          omega (arith, h, within),
-          λ inside. subst (λ (b : ℕ). 128 ≤ b → 192 ≤ b) same (there (omega (arith, h, count))),
-        )
-    by (inr h) = let e : before ≡ last = omega (arith, h, less, count) in subst (IsCharBoundary text) (sym e) (within, at)
 
 pub last_two : (text : Bytes) (last before : ℕ) → last ≤ length text → before ≤ length (take last text) → BeginsLastLine text last → BeginsLastLine (take last text) before → drop before text ≡ last_lines 2 text
 last_two text last before within less one other = by text refl (take last text) refl

@@ -19,7 +19,7 @@ use crate::{JudgeEnd, Source};
 use lf_base::{Gate, Memory, Seq, Text};
 use lf_classes::Universe;
 use lf_fix::solve;
-use lf_flow::{Env, prepare};
+use lf_flow::{Env, match_patterns};
 use lf_report::{FileReport, Refused, Report, RuleReport};
 use std::alloc::Global;
 use std::thread::Threads;
@@ -94,7 +94,7 @@ fn judge_within<R: Threads + Sync, G: Gate + Sync>(
     requires workers { (0 < workers) × (workers ≤ 64) }
     ensures { IfOk result (IsReportOn (files_of files.now) labels) }
 {
-    prepare(alloc, universe, &accepted.rules)?;
+    match_patterns(alloc, universe, &accepted.rules)?;
     judge_prepared(rt, alloc, files, accepted, universe, labels, workers, gate)
 }
 

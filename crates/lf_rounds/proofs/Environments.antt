@@ -12,6 +12,7 @@ use Rattle.lf_ast.specs.Rules.{RuleTree}
 use Rattle.lf_ast.specs.Selectors.{metric}
 use Rattle.lf_classes.specs.RowWords.{WordLeq, WordsLeq, row_of_words, row_word, word_count, words_of_row}
 use Rattle.lf_classes.proofs.RowWordOrder.{length-words, shape_of_words, word_at, word_refl, words_back, words_leq}
+use Rattle.lf_flow.specs.Reads.{names_of}
 use Rattle.lf_semantics.specs.ClassRows.{Sets}
 use Rattle.lf_semantics.specs.Environments.{CoversRules, EnvironmentLeq, IsEnvironmentOf, IsRow, recorded_names}
 use Rattle.lf_semantics.specs.Listing.{IsListing, Listing, class_counts, class_of, label_of, other_class, place}
@@ -19,9 +20,6 @@ use Rattle.lf_semantics.specs.RowTable.{Environment, row_named}
 use Rattle.lf_fix.proofs.Rounds.{start_is}
 use Rattle.lf_fix.specs.views.Rounds.{start}
 use Rattle.lf_rounds.specs.Words.{environment_of, words_of}
-
-abbrev names_in : Environment → List Bytes
-names_in env = map (λ entry. entry.0) env
 
 -- a universe has a label
 pub some_label : (u : Listing) → IsListing u → 0 < length (class_counts u)
@@ -42,7 +40,7 @@ drop_leq : (n : ℕ) (xs ys : List ℕ) → WordsLeq xs ys → WordsLeq (drop n 
 drop_leq n xs ys leq = record { at = λ k. let P : ℕ × ℕ → Type 0 = λ w. WordLeq w.0 w.1 in subst P (λ i. (sym (get_or-drop n xs k 0) i, sym (get_or-drop n ys k 0) i)) (leq.at (n + k)) }
 
 module _ (u : Listing) (p : IsListing u) where
-  pub names_of_words : (names : List Bytes) (words : List ℕ) → names_in (environment_of u names words) ≡ names
+  pub names_of_words : (names : List Bytes) (words : List ℕ) → names_of (environment_of u names words) ≡ names
   names_of_words [] words = refl
   names_of_words (name ∷ names) words = ap (λ (xs : List Bytes). name ∷ xs) (names_of_words names (drop (word_count u) words))
 
@@ -57,7 +55,7 @@ module _ (u : Listing) (p : IsListing u) where
       let n = word_count u in
       (refl, words_leq u (some_label u p) (take n xs) (take n ys) (take_leq n xs ys leq), environment_leq names (drop n xs) (drop n ys) (drop_leq n xs ys leq))
 
-  classes_by : (P : Bytes → Type 0) (env other : Environment) → names_in env ≡ names_in other → AllByRecursion (λ entry. P entry.0) env → AllByRecursion (λ entry. P entry.0) other
+  classes_by : (P : Bytes → Type 0) (env other : Environment) → names_of env ≡ names_of other → AllByRecursion (λ entry. P entry.0) env → AllByRecursion (λ entry. P entry.0) other
   classes_by P [] [] e h = tt
   classes_by P [] (o ∷ other) e h = absurd (cc)
   classes_by P (x ∷ env) [] e h = absurd (cc)
@@ -78,7 +76,7 @@ module _ (u : Listing) (p : IsListing u) where
       }
 
   -- the words of an environment stand for it
-  pub words_stand : (env : Environment) → AllByRecursion (λ entry. IsRow u entry.1) env → environment_of u (names_in env) (words_of u env) ≡ env
+  pub words_stand : (env : Environment) → AllByRecursion (λ entry. IsRow u entry.1) env → environment_of u (names_of env) (words_of u env) ≡ env
   words_stand [] h = refl
   words_stand (entry ∷ env) h =
       let row = words_of_row u entry.1 in
@@ -86,19 +84,19 @@ module _ (u : Listing) (p : IsListing u) where
       let n = word_count u in
       let first : take n (row ++ rest) ≡ row = ap (λ k. take k (row ++ rest)) (sym (length-words u entry.1)) ∙ take-append_seam row rest in
       let behind : drop n (row ++ rest) ≡ rest = ap (λ k. drop k (row ++ rest)) (sym (length-words u entry.1)) ∙ drop-append_seam row rest in
-      ap (λ (words : List ℕ). (entry.0, row_of_words u words) ∷ environment_of u (names_in env) (drop n (row ++ rest))) first
-      ∙ ap (λ (words : List ℕ). (entry.0, row_of_words u row) ∷ environment_of u (names_in env) words) behind
-      ∙ ap (λ (r : Sets). (entry.0, r) ∷ environment_of u (names_in env) rest) (words_back u (some_label u p) entry.1 h.0)
+      ap (λ (words : List ℕ). (entry.0, row_of_words u words) ∷ environment_of u (names_of env) (drop n (row ++ rest))) first
+      ∙ ap (λ (words : List ℕ). (entry.0, row_of_words u row) ∷ environment_of u (names_of env) words) behind
+      ∙ ap (λ (r : Sets). (entry.0, r) ∷ environment_of u (names_of env) rest) (words_back u (some_label u p) entry.1 h.0)
       ∙ ap (λ (others : Environment). entry ∷ others) (words_stand env h.1)
 
   -- the words of the row of a name
-  pub named_word : (env : Environment) (name : Bytes) (row : Sets) (j : ℕ) → row_named env name ≡ Some row → j < word_count u → get_or (words_of u env) (place (names_in env) name * word_count u + j) 0 ≡ row_word row j
+  pub named_word : (env : Environment) (name : Bytes) (row : Sets) (j : ℕ) → row_named env name ≡ Some row → j < word_count u → get_or (words_of u env) (place (names_of env) name * word_count u + j) 0 ≡ row_word row j
   named_word [] name row j e h = absurd (cc)
   named_word (entry ∷ env) name row j e h = by (bytes_eq entry.0 name) e (λ f. named_word env name row j f h)
     where
       by : (b : Bool) → cond b (Some entry.1) (row_named env name) ≡ Some row
-          → (row_named env name ≡ Some row → get_or (words_of u env) (place (names_in env) name * word_count u + j) 0 ≡ row_word row j)
-          → get_or (words_of_row u entry.1 ++ words_of u env) (cond (not b) (1 + place (names_in env) name) 0 * word_count u + j) 0 ≡ row_word row j
+          → (row_named env name ≡ Some row → get_or (words_of u env) (place (names_of env) name * word_count u + j) 0 ≡ row_word row j)
+          → get_or (words_of_row u entry.1 ++ words_of u env) (cond (not b) (1 + place (names_of env) name) 0 * word_count u + j) 0 ≡ row_word row j
       by true f rest =
           let first : 0 * word_count u + j ≡ j = omega (arith, zero-mul (word_count u)) in
           let same : entry.1 ≡ row = same_Some entry.1 row f in
@@ -106,7 +104,7 @@ module _ (u : Listing) (p : IsListing u) where
           ∙ get_or_append_left (words_of_row u entry.1) (words_of u env) 0 j (omega (arith, h, length-words u entry.1)) ∙ word_at u entry.1 j h ∙ ap (λ r. row_word r j) same
       by false f rest =
           let n = word_count u in
-          let k = place (names_in env) name in
+          let k = place (names_of env) name in
           let more : (1 + k) * n ≡ n + k * n = ap (λ m. m * n) (let q : 1 + k ≡ suc k = omega arith in q) ∙ suc-mul k n ∙ omega arith in
           let left : (1 + k) * n + j - n ≡ k * n + j = omega (arith, more) in
           get_or-append_right (words_of_row u entry.1) (words_of u env) n ((1 + k) * n + j) 0 (length-words u entry.1) (omega (arith, more))

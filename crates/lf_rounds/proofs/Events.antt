@@ -1,6 +1,7 @@
 -- Each of the five steps keeps the rule.
-use Rattle.std.proofs.Common.{◌≡◌, ◌≢◌, ◌⊎◌, ℕ, zero, suc, ◌+◌, ◌-◌, ◌<◌, ◌≤◌, Bool, true, false, true≢false, not, ◌||◌, ◌==◌, ◌*◌, if◌then◌else◌, eqb, eq-eqb, ne_eqb, eqb-true, List, [], ◌∷◌, ◌++◌, map, length, get_or, set, bit_or, refl, sym, ap, ◌∙◌, subst, ⊎_elim, arith, length-set, get_or-set_same, append_assoc, append-nil}
+use Rattle.std.proofs.Common.{◌≡◌, ◌≢◌, ◌⊎◌, ℕ, zero, suc, ◌+◌, ◌-◌, ◌<◌, ◌≤◌, Bool, true, false, not, ◌||◌, ◌==◌, ◌*◌, if◌then◌else◌, eqb, eq-eqb, ne_eqb, eqb-true, List, [], ◌∷◌, ◌++◌, map, length, get_or, set, bit_or, refl, sym, ap, ◌∙◌, subst, ⊎_elim, arith, length-set, get_or-set_same, append_assoc, append-nil}
 use Rattle.std.specs.List.{sum_by}
+use Rattle.std.proofs.lemmas.Bool.{false≢true}
 use Rattle.std.proofs.lemmas.Grind.{common_steps}
 use Rattle.std.proofs.lemmas.List.{set-get_or}
 use Rattle.std.proofs.lemmas.List.Sums.{sum_by_push, sum_by-cons}
@@ -42,9 +43,6 @@ fits_set t words now views id w up others mine j u e = ⊎_elim (λ (c : (j ≡ 
       spent = h.spent;
     })
     (at_set views id j w u e)
-
-off : false ≡ true → ⊥
-off e = true≢false (sym e)
 
 module _ (k : About) (n id : ℕ) (words : List ℕ) (views : List RoundView) (v : RoundView) (h : Holds k n words views) (at : get_elem? views id ≡ some v) where
   abbrev t : Task
@@ -222,7 +220,7 @@ module _ (k : About) (is : IsTask (task_of k)) (n id : ℕ) (words : List ℕ) (
       rises k n id words views v w h at i x within refl refl (within_closed (omega arith)) record {
         listed = f.listed ∙ ap (λ (l : List ℕ). map (λ (d : Done). d.piece) v.done ++ l) piece_listed ∙ sym (map-append (λ (d : Done). d.piece) v.done (last ∷ [])) ∙ sym (append-nil (map (λ (d : Done). d.piece) (v.done ++ last ∷ [])));
         done = done_append task new_words v.done (last ∷ []) (done_on task words new_words v.done grown f.done) (subst (Stands task new_words v.piece v.loads) all (one_more within), tt);
-        work = λ b. absurd (off b);
+        work = λ b. absurd (false≢true b);
         spent = λ none_left. absurd (omega arith);
       }
 
@@ -235,10 +233,6 @@ either_mark false false = (omega arith, omega arith)
 
 idle_list : (v : RoundView) → v.busy ≡ false → v.board.claims ≡ map (λ (d : Done). d.piece) v.done ++ in_work v → v.board.claims ≡ map (λ (d : Done). d.piece) v.done
 idle_list v idle listed = listed ∙ ap (λ (b : Bool). map (λ (d : Done). d.piece) v.done ++ in_work (record v { busy = b })) idle ∙ append-nil (map (λ (d : Done). d.piece) v.done)
-
-sum_map : (f : View → ℕ) (views : List RoundView) → sum_by f (map board_of views) ≡ sum_by (λ (v : RoundView). f v.board) views
-sum_map f [] = refl
-sum_map f (v ∷ views) = sum_by-cons f v.board (map board_of views) ∙ ap (λ (m : ℕ). f v.board + m) (sum_map f views) ∙ sym (sum_by-cons (λ (w : RoundView). f w.board) v views)
 
 -- the row of a piece that is done, over the start
 done_over : (t : Task) → IsTask t → (words : List ℕ) (ds : List Done) → AllDone t words ds → (p : ℕ) → 0 < times p (map (λ (d : Done). d.piece) ds) → Raised t words p t.start (width t)
@@ -267,7 +261,7 @@ module _ (k : About) (n id : ℕ) (words : List ℕ) (views : List RoundView) (v
         marked = λ z. h.marked (omega arith);
         fits = λ j y e. ⊎_elim
             (λ there. fits_set (task_of k) words words views id w (words_refl words) h.fits record { listed = f.listed; done = f.done; work = f.work; spent = λ none_left. absurd (omega arith) } j y there)
-            (λ (same : u ≡ y). subst (Fits (task_of k) words) same record { listed = refl; done = tt; work = λ c. absurd (off c); spent = λ _. refl })
+            (λ (same : u ≡ y). subst (Fits (task_of k) words) same record { listed = refl; done = tt; work = λ c. absurd (false≢true c); spent = λ _. refl })
             (at_snoc l u y j e);
       }
 
@@ -294,9 +288,9 @@ module _ (k : About) (n id : ℕ) (words : List ℕ) (views : List RoundView) (v
         fits = fits_set (task_of k) words words l other spent_view (words_refl words) (fits_set (task_of k) words words views id w (words_refl words) h.fits record {
           listed = ap (λ (m : List ℕ). m ++ u.board.claims) (idle_list v idle f.listed) ∙ ap (λ (m : List ℕ). map (λ (d : Done). d.piece) v.done ++ m) (idle_list u idle' g.listed) ∙ sym (map-append (λ (d : Done). d.piece) v.done u.done) ∙ sym (append-nil (map (λ (d : Done). d.piece) (v.done ++ u.done)));
           done = done_append (task_of k) words v.done u.done f.done g.done;
-          work = λ c. absurd (off c);
+          work = λ c. absurd (false≢true c);
           spent = λ none_left. absurd (omega arith);
-        }) record { listed = refl; done = tt; work = λ c. absurd (off c); spent = λ _. refl };
+        }) record { listed = refl; done = tt; work = λ c. absurd (false≢true c); spent = λ _. refl };
       }
 
   -- the end: the last seat, whole and closed
@@ -322,5 +316,5 @@ begins k below = record {
 }
   where
     first : (id : ℕ) (v : RoundView) → get_elem? (opening_view k ∷ []) id ≡ some v → Fits (task_of k) (task_of k).start v
-    first zero v e = subst (Fits (task_of k) (task_of k).start) (some-injective (opening_view k) v e) record { listed = refl; done = tt; work = λ c. absurd (off c); spent = λ _. refl }
+    first zero v e = subst (Fits (task_of k) (task_of k).start) (some-injective (opening_view k) v e) record { listed = refl; done = tt; work = λ c. absurd (false≢true c); spent = λ _. refl }
     first (suc id) v e = absurd (some-ne-none v (sym e))

@@ -9,6 +9,7 @@ use Rattle.lf_ast.specs.Rules.{RuleTree}
 use Rattle.lf_classes.specs.RowWords.{WordLeq, WordsLeq, row_of_words, word_count}
 use Rattle.lf_classes.proofs.RowWordOrder.{zero_leq}
 use Rattle.lf_deps.proofs.Ascending.{in_range, of_range}
+use Rattle.lf_fix.proofs.Rounds.{start_names}
 use Rattle.lf_flow.proofs.ReadNumbers.{equal_all}
 use Rattle.lf_flow.specs.Reads.{names_of, rows_of, with_row}
 use Rattle.lf_semantics.specs.ClassRows.{Sets, bottom}
@@ -53,12 +54,8 @@ zeros_count words n e = e ∙ ap zeros (sym (ap length e ∙ length-zeros n))
 
 -- an environment that is made row by row
 
-bottom_names : (u : Listing) (ns : List Bytes) → names_of (map (λ (name : Bytes). (name, bottom u)) ns) ≡ ns
-bottom_names u [] = refl
-bottom_names u (n ∷ ns) = ap (λ (rest : List Bytes). n ∷ rest) (bottom_names u ns)
-
 pub none_made : (u : Listing) (ns : List Bytes) (words : List ℕ) (env : Environment) → env ≡ map (λ (name : Bytes). (name, bottom u)) ns → IsMade u ns words 0 env
-none_made u ns words env e = record { names = ap names_of e ∙ bottom_names u ns; rows = λ k h. absurd (omega arith) }
+none_made u ns words env e = record { names = ap names_of e ∙ start_names u ns; rows = λ k h. absurd (omega arith) }
 
 count_of : (env : Environment) (ns : List Bytes) → names_of env ≡ ns → length env ≡ length ns
 count_of env ns e = sym (length-map env (λ (entry : Bytes × Sets). entry.0)) ∙ ap length e

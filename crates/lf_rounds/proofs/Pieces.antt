@@ -4,20 +4,20 @@ use Rattle.std.specs.Prelude.{option_and_then, slice_get}
 use Rattle.std.specs.Option.{option_map_or}
 use Rattle.std.specs.List.{AllByRecursion, Contains, filter}
 use Rattle.std.specs.Str.{bytes_eq}
+use Rattle.std.proofs.lemmas.Bool.{not-true}
 use Rattle.std.proofs.lemmas.List.{append-nil, take_more}
 use Rattle.std.proofs.lemmas.List.Elements.{filter-append}
-use Rattle.std.proofs.lemmas.Option.{get_or_from_slice_get, same_Some, slice_get-get_or, slice_get_within}
+use Rattle.std.proofs.lemmas.Option.{get_or_from_slice_get, same_Some, slice_get-get_or}
 use Rattle.lf_ast.specs.Labels.{Bytes}
 use Rattle.lf_ast.specs.Rules.{RuleTree}
 use Rattle.lf_classes.specs.RowWords.{WordLeq, WordsLeq, row_of_words, row_word, word_count}
 use Rattle.lf_classes.proofs.RowWordOrder.{leq_words, word_leq, zero_leq}
-use Rattle.lf_deps.proofs.Numbered.{at_number, number_of}
 use Rattle.lf_deps.proofs.OrderLaws.{each_ordered}
 use Rattle.lf_fix.proofs.Rounds.{one_named}
-use Rattle.lf_laws.proofs.Members.{behind, first_or_behind, here, none_in, same_true}
+use Rattle.lf_laws.proofs.Slices.{member_at, number_of}
 use Rattle.lf_semantics.proofs.LeqLaws.{leq_trans}
-use Rattle.lf_semantics.proofs.ListingLaws.{in_first_seen}
-use Rattle.lf_laws.proofs.Booleans.{clash}
+use Rattle.lf_semantics.proofs.ListingLaws.{in_first_seen, place_within}
+use Rattle.lf_semantics.proofs.Recorded.{recorded}
 use Rattle.lf_semantics.proofs.Members.{in_filter, of_filter}
 use Rattle.lf_semantics.proofs.NormalizedRows.{recorded_row_is}
 use Rattle.lf_semantics.proofs.RowsGrow.{recorded_grows}
@@ -29,32 +29,9 @@ use Rattle.lf_rounds.specs.Tasks.{HoldRules, IsBelowLeast, IsTask, Raised, Task,
 use Rattle.lf_rounds.specs.Words.{environment_of, words_of}
 use Rattle.lf_rounds.proofs.Environments.{environment_leq, named_row, named_word, some_label, word_of_part, words_of_rules, words_stand}
 
--- the name of a recording rule is recorded
-in_names : (rules : List RuleTree) (r : RuleTree) → Contains rules r → r.alert ≡ false → Contains (names_recorded rules) r.name
-in_names [] r c e = absurd (none_in r c)
-in_names (x ∷ rules) r c e = by x.alert refl (in_names rules r)
-  where
-    by : (b : Bool) → x.alert ≡ b → (Contains rules r → r.alert ≡ false → Contains (names_recorded rules) r.name) → Contains (cond b (names_recorded rules) (x.name ∷ names_recorded rules)) r.name
-    by true f rest = elim (first_or_behind x rules r c) [ inl q ↦ absurd (clash _ f (ap (λ (y : RuleTree). y.alert) q ∙ e)) | inr d ↦ rest d e ]
-    by false f rest = elim (first_or_behind x rules r c) [
-      | inl q ↦ let P : RuleTree → Type 0 = λ y. Contains (x.name ∷ names_recorded rules) y.name in subst P q (here x.name _)
-      | inr d ↦ behind x.name _ r.name (rest d e)
-    ]
-
--- a text that is there has a place
-place_in : (xs : List Bytes) (t : Bytes) → Contains xs t → place xs t < length xs
-place_in [] t c = absurd (none_in t c)
-place_in (x ∷ xs) t c = by (bytes_eq x t) refl (place_in xs t)
-  where
-    by : (b : Bool) → bytes_eq x t ≡ b → (Contains xs t → place xs t < length xs) → cond (not b) (1 + place xs t) 0 < suc (length xs)
-    by true e rest = omega arith
-    by false e rest = elim (first_or_behind x xs t c) [
-      | inl same ↦ absurd (let no : true ≡ false = sym (same_true x t same) ∙ e in cc)
-      | inr there ↦ omega (arith, rest there)
-    ]
-
+-- the name of a recording rule has a place
 pub name_within : (t : Task) (r : RuleTree) → Contains t.rules r → r.alert ≡ false → place (names t) r.name < length (names t)
-name_within t r c e = place_in (names t) r.name (in_first_seen (names_recorded t.rules) r.name (in_names t.rules r c e))
+name_within t r c e = place_within (names t) r.name (in_first_seen (names_recorded t.rules) r.name (recorded t.rules r c e))
 
 -- pieces and rules
 
@@ -62,29 +39,25 @@ rule_found : (rules : List RuleTree) (o : Option ℕ) (r : RuleTree) → option_
 rule_found rules None r e = absurd (cc)
 rule_found rules (Some number) r e = (number, refl, e)
 
-recording : (b : Bool) → not b ≡ true → b ≡ false
-recording true e = absurd (cc)
-recording false e = refl
-
 module _ (t : Task) (is : IsTask t) where
   pub piece_is : (p : ℕ) (r : RuleTree) → rule_of t p ≡ Some r → (r.alert ≡ false) × Contains t.rules r
   piece_is p r e =
       let f = rule_found t.rules (slice_get t.pieces p) r e in
       let order = is.pieces.0 in
       let P : List ℕ → Type 0 = λ xs. Contains xs f.0 in
-      let member : Contains (filter (is_recording t.rules) order) f.0 = subst P is.pieces.2 (at_number t.pieces p f.0 f.1) in
+      let member : Contains (filter (is_recording t.rules) order) f.0 = subst P is.pieces.2 (member_at t.pieces p f.0 f.1) in
       let passes : not r.alert ≡ true = ap (λ (o : Option RuleTree). option_map_or (λ (x : RuleTree). not x.alert) o false) (sym f.2) ∙ (of_filter (is_recording t.rules) order f.0 member).1 in
-      (recording r.alert passes, at_number t.rules f.0 r f.2)
+      (not-true r.alert passes, member_at t.rules f.0 r f.2)
 
   pub piece_of : (r : RuleTree) → Contains t.rules r → r.alert ≡ false → (p : ℕ) × (p < length t.pieces) × (rule_of t p ≡ Some r)
   piece_of r c e =
       let f = number_of t.rules r c in
       let order = is.pieces.0 in
       let P : List ℕ → Type 0 = λ xs. Contains xs f.0 in
-      let passes : is_recording t.rules f.0 ≡ true = ap (λ (o : Option RuleTree). option_map_or (λ (x : RuleTree). not x.alert) o false) f.1 ∙ ap not e in
-      let member : Contains t.pieces f.0 = subst P (sym is.pieces.2) (in_filter (is_recording t.rules) order f.0 (each_ordered t.rules order is.pieces.1 f.0 (slice_get_within t.rules f.0 r f.1)) passes) in
+      let passes : is_recording t.rules f.0 ≡ true = ap (λ (o : Option RuleTree). option_map_or (λ (x : RuleTree). not x.alert) o false) f.2 ∙ ap not e in
+      let member : Contains t.pieces f.0 = subst P (sym is.pieces.2) (in_filter (is_recording t.rules) order f.0 (each_ordered t.rules order is.pieces.1 f.0 f.1) passes) in
       let at : slice_get t.pieces member.0 ≡ Some f.0 = slice_get-get_or t.pieces member.0 f.0 member.1 ∙ ap Some member.2 in
-      (member.0, member.1, ap (option_and_then (λ number. slice_get t.rules number)) at ∙ f.1)
+      (member.0, member.1, ap (option_and_then (λ number. slice_get t.rules number)) at ∙ f.2)
 
   -- greater environments
 

@@ -4,12 +4,14 @@ use Rattle.std.proofs.Math.Nat.{zero-mul, suc-mul}
 use lib.Seq.{map-set}
 use Rattle.std.specs.List.{AllByRecursion, Contains}
 use Rattle.std.proofs.lemmas.Bool.{cases_eq, cases_lt}
-use Rattle.std.proofs.lemmas.List.{drop-drop, ext_get_or, get_or-take, length-map, length-take-le, set-get_or}
+use Rattle.std.proofs.lemmas.List.{drop-drop, ext_get_or, get_or-map, get_or-take, length-map, length-take-le, set-get_or}
+use Rattle.std.proofs.lemmas.List.Elements.{Contains-get_or}
 use Rattle.std.proofs.lemmas.Grind.{get_or_default_zero}
 use Rattle.lf_ast.specs.Labels.{Bytes}
 use Rattle.lf_ast.specs.Rules.{RuleTree}
 use Rattle.lf_ast.specs.Selectors.{metric}
 use Rattle.lf_classes.specs.RowWords.{row_of_words, word_count}
+use Rattle.lf_laws.proofs.Members.{each_member}
 use Rattle.lf_flow.specs.Reads.{Ascend, name_at, names_of, rows_of, with_row}
 use Rattle.lf_semantics.specs.ClassRows.{Sets}
 use Rattle.lf_semantics.specs.Environments.{IsEnvironmentOf, IsRow}
@@ -37,16 +39,6 @@ all_set P [] k x all h = tt
 all_set P (y ∷ xs) zero x all h = (h, all.1)
 all_set P (y ∷ xs) (suc k) x all h = (all.0, all_set P xs k x all.1 h)
 
-all_at : {X : Type 0} (P : X → Type 0) (xs : List X) (k : ℕ) (d : X) → AllByRecursion P xs → k < length xs → P (get_or xs k d)
-all_at P [] k d all h = absurd (omega arith)
-all_at P (x ∷ xs) zero d all h = all.0
-all_at P (x ∷ xs) (suc k) d all h = all_at P xs k d all.1 (omega arith)
-
-name_of_entry : (env : Environment) (k : ℕ) (d : Bytes × Sets) → k < length env → name_at env k ≡ (get_or env k d).0
-name_of_entry [] k d h = absurd (omega arith)
-name_of_entry (entry ∷ env) zero d h = refl
-name_of_entry (entry ∷ env) (suc k) d h = name_of_entry env k d (omega arith)
-
 module _ (env : Environment) (k : ℕ) (row : Sets) (h : k < length env) where
   pub names_put : names_of (with_row k row env) ≡ names_of env
   names_put = map-set (λ (entry : Bytes × Sets). entry.0) env k (name_at env k, row) ∙ set-get_or (names_of env) k []
@@ -64,7 +56,7 @@ module _ (env : Environment) (k : ℕ) (row : Sets) (h : k < length env) where
   environment_put u rules of is =
       let IsClass : Bytes → Type 0 = λ name. class_of u (label_of u metric) name < other_class u (label_of u metric) in
       let d : Bytes × Sets = (name_at env k, row) in
-      let named : IsClass (name_at env k) = subst IsClass (sym (name_of_entry env k d h)) (all_at (λ (entry : Bytes × Sets). IsClass entry.0) env k d of.environment.classes h) in
+      let named : IsClass (name_at env k) = subst IsClass (sym (get_or-map (λ (entry : Bytes × Sets). entry.0) env k d [] h)) (each_member (λ (entry : Bytes × Sets). IsClass entry.0) env (get_or env k d) of.environment.classes (Contains-get_or env k d h)) in
       record {
         environment = record {
           rows = all_set (λ (entry : Bytes × Sets). IsRow u entry.1) env k (name_at env k, row) of.environment.rows is;

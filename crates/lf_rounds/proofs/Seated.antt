@@ -2,13 +2,5 @@
 use Rattle.std.proofs.Common.{◌≡◌, ℕ, ◌<◌, ◌==◌, Bool, true, false, not, IsTrue, refl, arith}
 use Rattle.std.proofs.lemmas.Grind.{common_steps}
 
-pub is_idle : (busy : Bool) → not busy ≡ true → busy ≡ false
-is_idle true e = absurd (cc)
-is_idle false e = refl
-
 pub missed_some : (n : ℕ) (b : Bool) → b ≡ (n == 0) → b ≡ false → 0 < n
 missed_some n b is shut = grind (arith, common_steps)
-
-pub was_true : (b : Bool) → not b ≡ false → IsTrue b
-was_true true e = refl
-was_true false e = absurd (cc)

@@ -14,7 +14,8 @@ use Rattle.lf_board.specs.declared.rule.View.{View}
 use Rattle.lf_classes.specs.RowWords.{row_word}
 use Rattle.lf_fix.proofs.Rounds.{start_is}
 use Rattle.lf_fix.specs.views.Rounds.{start}
-use Rattle.lf_deps.proofs.Numbered.{at_number}
+use Rattle.lf_deps.proofs.RuleTrees.{tree_at}
+use Rattle.lf_laws.proofs.Slices.{member_at}
 use Rattle.lf_flow.proofs.ReadNumbers.{equal_rows}
 use Rattle.lf_flow.specs.Reads.{AreEqualAt, ReadsNumber, names_of, number_of}
 use Rattle.lf_semantics.proofs.Members.{of_filter}
@@ -27,13 +28,6 @@ use Rattle.lf_rounds.specs.Tasks.{IsTask, Task, is_recording, names, place_of, r
 use Rattle.lf_rounds.specs.views.Working.{HasRead, IsStored, claims_more}
 use Rattle.lf_rounds.proofs.Environments.{words_of_rules}
 
--- rules by their numbers
-
-pub tree_at : (rules : List Rule) (k : ℕ) (r : Rule) → slice_get rules k ≡ Some r → slice_get (rule_trees rules) k ≡ Some (rule_tree r)
-tree_at [] k r e = absurd (cc)
-tree_at (x ∷ rules) zero r e = let same : x ≡ r = cc in ap (λ (y : Rule). Some (rule_tree y)) same
-tree_at (x ∷ rules) (suc k) r e = tree_at rules k r e
-
 module _ (t : Task) (is : IsTask t) (p : ℕ) (h : p < length t.pieces) where
   abbrev pub number : ℕ
   number = get_or t.pieces p 0
@@ -45,7 +39,7 @@ module _ (t : Task) (is : IsTask t) (p : ℕ) (h : p < length t.pieces) where
   recording_there =
       let order = is.pieces.0 in
       let P : List ℕ → Type 0 = λ xs. Contains xs number in
-      (of_filter (is_recording t.rules) order number (subst P is.pieces.2 (at_number t.pieces p number number_at))).1
+      (of_filter (is_recording t.rules) order number (subst P is.pieces.2 (member_at t.pieces p number number_at))).1
 
   pub number_within : number < length t.rules
   number_within = by (slice_get t.rules number) refl recording_there

@@ -6,7 +6,7 @@ use Rattle.std.specs.Str.{bytes_eq}
 use Rattle.std.proofs.lemmas.Bool.{or_cases}
 use Rattle.std.proofs.lemmas.List.Elements.{Contains-append_left}
 use Rattle.lf_laws.proofs.Booleans.{and_left, clash}
-use Rattle.lf_laws.proofs.Members.{first_or_behind, here, none_in, only_one, other_false, same_true, some_has, true_same}
+use Rattle.lf_laws.proofs.Members.{here, only_one, other_false, same_true, some_has, true_same}
 use Rattle.lf_ast.specs.Labels.{Bytes, Labels}
 use Rattle.lf_ast.specs.Rules.{RuleTree}
 use Rattle.lf_ast.specs.Tree.{Nil}
@@ -33,7 +33,7 @@ use Rattle.lf_semantics.proofs.LeqLaws.{bottom_dead}
 use Rattle.lf_semantics.proofs.Numbered.{AreKnown, group_label, metric_label}
 use Rattle.lf_semantics.proofs.Places.{at_place, label_test, same_text, symmetric}
 use Rattle.lf_semantics.proofs.Restricted.{value-restricted}
-use Rattle.lf_semantics.proofs.GivenTexts.{absent_has_texts, bare_has_texts}
+use Rattle.lf_semantics.proofs.GivenTexts.{absent_has_texts}
 use Rattle.lf_witness.specs.Strict.{From, IsOpenAbsent, IsSet, MadeApart, MadeTogether, Outcomes, StrictEffect, last_buckets}
 use Rattle.lf_witness.proofs.SomeSample.{absent_some}
 use Rattle.lf_witness.proofs.OneSample.{one_text}

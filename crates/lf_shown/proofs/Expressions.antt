@@ -1,16 +1,15 @@
 -- What is built for an expression without open constructs gives one sample: by induction over the expression, and over the rules that aren't marked.
-use Rattle.std.proofs.Common.{◌≡◌, ◌≤◌, ◌<◌, inl, inr, ℕ, Bool, true, false, not, ◌&&◌, ◌||◌, cond, List, [], ◌∷◌, ◌++◌, Option, Some, None, refl, sym, ◌∙◌, ap, subst}
-use Rattle.std.specs.List.{AllByRecursion, list_all, list_any}
+use Rattle.std.proofs.Common.{◌≡◌, ◌≤◌, ◌<◌, inl, inr, ℕ, Bool, true, false, ◌&&◌, cond, List, [], ◌∷◌, ◌++◌, Option, Some, None, refl, sym, subst}
+use Rattle.std.specs.List.{AllByRecursion}
 use Rattle.std.specs.Str.{bytes_eq}
-use Rattle.std.proofs.lemmas.Bool.{and_parts}
 use Rattle.lf_laws.proofs.Booleans.{clash}
 use Rattle.lf_laws.proofs.Members.{here, only_one, true_same}
-use Rattle.lf_ast.specs.Functions.{Row, Signature, function_named, functions, looked_up}
+use Rattle.lf_ast.specs.Functions.{Signature}
 use Rattle.lf_ast.specs.Labels.{Bytes, Labels}
 use Rattle.lf_ast.specs.Rules.{RuleTree}
 use Rattle.lf_ast.specs.Selectors.{first_equal_name, is_equal, metric, selected_name}
 use Rattle.lf_ast.specs.Tree.{Trees}
-use Rattle.lf_ast.specs.Types.{is_scalar, selected}
+use Rattle.lf_ast.specs.Types.{is_scalar}
 use Rattle.lf_ast.specs.declared.expr.ExprType.TheVariants.{Scalar, Vector}
 use Rattle.lf_ast.specs.declared.expr.Grouping.{Grouping}
 use Rattle.lf_ast.specs.declared.expr.Matcher.{Matcher}
@@ -19,13 +18,12 @@ use Rattle.lf_ast.specs.declared.expr.MatchOp.TheVariants.{Equal, NotEqual, Matc
 use Rattle.lf_ast.specs.declared.expr.Matching.{Matching}
 use Rattle.lf_ast.specs.declared.expr.Op.{Op}
 use Rattle.lf_ast.specs.declared.functions.LabelEffect.{LabelEffect}
-use Rattle.lf_ast.specs.declared.functions.LabelEffect.TheVariants.{Maps, Keeps, Groups, CountValues, Date, Absent, LabelReplace, LabelJoin, HistogramQuantile, Bare}
 use Rattle.lf_semantics.specs.ClassRows.{Sets}
 use Rattle.lf_semantics.specs.Environments.{IsKnown}
 use Rattle.lf_semantics.specs.Evaluation.{IsBare, bare}
 use Rattle.lf_semantics.specs.Listing.{IsListing, Listing, class_of, label_of, other_class}
 use Rattle.lf_semantics.specs.Mentions.{matchers_mentions, mention, mentions, name_mentions}
-use Rattle.lf_semantics.specs.Parts.{given_by}
+use Rattle.lf_semantics.specs.Parts.{given_by, operand_place}
 use Rattle.lf_semantics.specs.RowTable.{bare_row, binary_row, call_row, effect_row}
 use Rattle.lf_semantics.proofs.EffectsRepresent.{shape_bare}
 use Rattle.lf_semantics.proofs.ScalarCalls.{IsBareIfScalar}

@@ -23,7 +23,7 @@ use Rattle.lf_semantics.specs.Listing.{IsListing, Listing, class_of, label_of}
 use Rattle.lf_semantics.specs.RowTable.{combined_row, is_label_among, is_metric_label, keeps_label, many_to_one_row, matched_row, nameless_if, paired_row, signs_label, taken_row}
 use Rattle.lf_semantics.specs.Texts.{HasTexts, value_of}
 use Rattle.lf_semantics.proofs.Constructs.{shape_combined}
-use Rattle.lf_semantics.proofs.Kept.{restricted_has_texts, with_label_has_texts}
+use Rattle.lf_semantics.proofs.Kept.{restricted_has_texts}
 use Rattle.lf_semantics.proofs.LabelTexts.{value-taken_from, value-without_name_if}
 use Rattle.lf_semantics.proofs.LeqLaws.{bottom_dead}
 use Rattle.lf_semantics.proofs.Numbered.{AreKnown, among_label, keep_label, metric_label, sign_label}

@@ -1,13 +1,12 @@
 -- The names that an expression without open constructs reads, and the rows of recorded names.
-use Rattle.std.proofs.Common.{◌≡◌, ◌⊎◌, inl, inr, Bool, true, false, not, ◌&&◌, ◌||◌, cond, List, [], ◌∷◌, map, Option, Some, None, refl, sym, ◌∙◌, ap, subst}
+use Rattle.std.proofs.Common.{◌≡◌, ◌⊎◌, inl, inr, Bool, true, false, not, ◌&&◌, cond, List, [], ◌∷◌, map, Option, Some, None, refl, sym, ◌∙◌, ap, subst}
 use Rattle.std.proofs.lemmas.Bool.{not-true}
-use Rattle.std.proofs.lemmas.Bool.{or_right}
 use Rattle.std.specs.List.{Contains}
 use Rattle.std.specs.Str.{bytes_eq}
 use Rattle.std.proofs.lemmas.List.Elements.{Contains-append_cases}
 use Rattle.std.proofs.lemmas.Option.{none-some}
 use Rattle.lf_laws.proofs.Booleans.{and_left, and_right, clash}
-use Rattle.lf_laws.proofs.Members.{any_has, behind, first_or_behind, here, none_in, only_one, same_true, some_has, true_same}
+use Rattle.lf_laws.proofs.Members.{any_has, first_or_behind, none_in, only_one, same_true, some_has, true_same}
 use Rattle.lf_laws.proofs.Options.{the_same}
 use Rattle.lf_ast.specs.Labels.{Bytes}
 use Rattle.lf_ast.specs.Rules.{RuleTree}

@@ -1,13 +1,12 @@
 -- What is held by rows that are made of rows was held by these, and which rows hold the empty text of `*`.
-use Rattle.std.proofs.Common.{◌≡◌, ◌<◌, ◌⊎◌, inl, inr, ℕ, ◌+◌, Bool, true, false, ◌&&◌, ◌||◌, cond, [], ◌∷◌, length, get_or, refl, sym, ◌∙◌, ap, subst, arith}
+use Rattle.std.proofs.Common.{◌≡◌, ◌⊎◌, inl, inr, ℕ, Bool, true, false, ◌&&◌, ◌||◌, cond, [], length, refl, sym, ◌∙◌, ap, subst, arith}
 use Rattle.std.proofs.lemmas.Bool.{or_cases}
-use Rattle.lf_laws.proofs.Booleans.{and_left, and_right, clash}
-use Rattle.lf_semantics.specs.ClassRows.{Sets, emptied, holds, indexed_from, is_live, join, narrowed, normalized, remade, replaced, top}
+use Rattle.lf_laws.proofs.Booleans.{and_left, and_right}
+use Rattle.lf_semantics.specs.ClassRows.{Sets, holds, is_live, join, narrowed, normalized, remade, replaced, top}
 use Rattle.lf_semantics.specs.Listing.{IsListing, Listing}
 use Rattle.lf_semantics.proofs.LeqLaws.{live_more, live_normalized, normalized_live, of_remade}
 use Rattle.lf_semantics.proofs.Places.{name_of}
-use Rattle.lf_semantics.proofs.RowLaws.{get_or-indexed, holds-remade, holds_within, length-indexed, length_remade, top_holds}
-use Rattle.lf_semantics.proofs.RowSets.{emptied_dead}
+use Rattle.lf_semantics.proofs.RowLaws.{holds-remade, holds_within, length_remade, top_holds}
 
 abbrev pub Held : Sets → ℕ → ℕ → Type 0
 Held row l c = holds row l c ≡ true

@@ -1,5 +1,5 @@
 -- What is built for a selector that says its name.
-use Rattle.std.proofs.Common.{◌≡◌, ◌≢◌, ◌<◌, ◌⊎◌, inl, inr, ℕ, Bool, true, false, not, ◌&&◌, ◌||◌, cond, eqb, List, [], ◌∷◌, length, Option, Some, None, refl, sym, ◌∙◌, ap, subst, arith, option_map}
+use Rattle.std.proofs.Common.{◌≡◌, ◌≢◌, ◌<◌, ◌⊎◌, inl, inr, ℕ, Bool, true, false, not, ◌||◌, cond, eqb, List, [], ◌∷◌, length, Option, Some, None, refl, sym, ◌∙◌, ap, subst, arith, option_map}
 use Rattle.std.proofs.lemmas.Bool.{eq-eqb, eqb-true}
 use Rattle.std.proofs.lemmas.Bool.Decides.{nat_tests}
 use Rattle.std.specs.Prelude.{nat_lt, unwrap_or}
@@ -10,7 +10,7 @@ use Rattle.lf_laws.proofs.Booleans.{and_left, and_right, clash}
 use Rattle.lf_laws.proofs.Members.{any_in, any_out, here, none_in, only_one, other_false, same_true, true_same}
 use Rattle.lf_ast.specs.Labels.{Bytes, Labels}
 use Rattle.lf_ast.specs.Rules.{RuleTree}
-use Rattle.lf_ast.specs.Selectors.{first_equal_name, is_equal, metric, selected_name}
+use Rattle.lf_ast.specs.Selectors.{metric, selected_name}
 use Rattle.lf_ast.specs.declared.expr.Matcher.{Matcher}
 use Rattle.lf_ast.specs.declared.expr.MatchOp.{MatchOp}
 use Rattle.lf_ast.specs.declared.expr.MatchOp.TheVariants.{Equal, NotEqual, Matches, NotMatches}
@@ -19,7 +19,7 @@ use Rattle.lf_semantics.specs.Environments.{IsKnown}
 use Rattle.lf_semantics.specs.Grouped.{is_metric}
 use Rattle.lf_semantics.specs.Listing.{IsListing, Listing, class_of, label_of, other_class}
 use Rattle.lf_semantics.specs.Mentions.{matcher_texts, matchers_mentions}
-use Rattle.lf_semantics.specs.Passing.{HasName, Passes, PassesEach, is_plain, passes, passes_other}
+use Rattle.lf_semantics.specs.Passing.{HasName, PassesEach, is_plain, passes, passes_other}
 use Rattle.lf_semantics.specs.RowTable.{Environment, is_label, is_metric_label, passes_class, passes_matchers, row_named, selector_row, seen_row, series_row}
 use Rattle.lf_semantics.specs.Texts.{value_of}
 use Rattle.lf_semantics.proofs.LeqLaws.{bottom_dead}

@@ -1,6 +1,6 @@
 -- In the least environment: where no construct is open, each choice of texts that the row of an expression without forks holds is given alone by the world that is built for it, and the
 -- built world of a rule shows each presence that the row leaves to a label.
-use Rattle.std.proofs.Common.{◌≡◌, ◌≤◌, inl, inr, ℕ, zero, suc, ◌+◌, ◌*◌, Bool, true, false, not, cond, List, [], ◌∷◌, ◌++◌, map, length, Option, Some, None, refl, sym, ◌∙◌, ap, subst, arith, option_and_then, slice_get}
+use Rattle.std.proofs.Common.{◌≡◌, ◌≤◌, inl, inr, ℕ, ◌+◌, ◌*◌, Bool, true, false, not, cond, List, [], ◌∷◌, ◌++◌, map, length, Option, Some, None, refl, sym, ◌∙◌, ap, subst, arith, option_and_then, slice_get}
 use Rattle.std.specs.Prelude.{is_some, nat_lt, unwrap_or}
 use Rattle.std.specs.List.{Contains, filter, find, sum}
 use Rattle.std.specs.Ordering.{is_eq}
@@ -25,7 +25,6 @@ use Rattle.lf_semantics.specs.RowTable.{Environment, row_of}
 use Rattle.lf_semantics.specs.Texts.{value_of}
 use Rattle.lf_semantics.proofs.LeqLaws.{bottom_dead}
 use Rattle.lf_semantics.proofs.Members.{all_front, in_filter}
-use Rattle.lf_witness.specs.Ascending.{IsAscending}
 use Rattle.lf_witness.specs.Strict.{StrictlyEvaluates}
 use Rattle.lf_witness.proofs.AscendingLists.{alone_ascends, in_order}
 use Rattle.lf_witness.proofs.Decided.{told_same}

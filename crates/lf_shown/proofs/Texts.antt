@@ -9,7 +9,7 @@ use Rattle.lf_laws.proofs.Booleans.{clash}
 use Rattle.lf_laws.proofs.Members.{any_in, any_out, behind, first_or_behind, here, none_in, same_true, true_same}
 use Rattle.lf_ast.specs.Labels.{Bytes}
 use Rattle.lf_semantics.specs.Listing.{IsListing, Listing, class_of, class_texts, label_of, named_at, other_class, place}
-use Rattle.lf_semantics.specs.Texts.{HasTexts, value_of}
+use Rattle.lf_semantics.specs.Texts.{value_of}
 use Rattle.lf_semantics.proofs.LabelTexts.{value-bare, value-with_label}
 use Rattle.lf_semantics.proofs.Places.{at_place, place_at, place_le}
 use Rattle.lf_trials.specs.Candidates.{candidates, candidates_of, chosen_from, first, is_one_of}

@@ -1,6 +1,6 @@
 -- Steps one after the other, and what is given by worlds that are put together.
-use Rattle.std.proofs.Common.{◌≡◌, inl, inr, ◌≤◌, ◌+◌, ℕ, List, [], ◌∷◌, ◌++◌, length, map, Option, Some, None, refl, sym, ◌∙◌, ap, subst, arith, slice_get}
-use Rattle.std.specs.List.{Contains, flat_map, fold, sum}
+use Rattle.std.proofs.Common.{◌≡◌, inl, inr, ◌≤◌, ◌+◌, ℕ, List, [], ◌∷◌, ◌++◌, length, map, Option, Some, None, sym, ◌∙◌, ap, subst, arith, slice_get}
+use Rattle.std.specs.List.{Contains, fold, sum}
 use Rattle.std.proofs.lemmas.List.Elements.{Contains-append_left, Contains-append_right, Contains-append_cases}
 use Rattle.std.proofs.lemmas.Grind.{flat_map-append}
 use Rattle.lf_laws.proofs.Members.{behind, here}
@@ -9,10 +9,9 @@ use Rattle.lf_ast.specs.Rules.{RuleTree}
 use Rattle.lf_ast.specs.Selectors.{metric}
 use Rattle.lf_semantics.specs.Texts.{value_of}
 use Rattle.lf_deps.specs.Reading.{selectors}
-use Rattle.lf_witness.specs.Strict.{AreSame, Outcomes}
-use Rattle.lf_witness.specs.StrictRuns.{StepAdds, StoredOf, RuleStrictlyGives, StrictlyStored}
-use Rattle.lf_witness.proofs.SameSets.{chained, same_front, turned}
-use Rattle.lf_witness.proofs.SameSamples.{Into, from_into, rule_into}
+use Rattle.lf_witness.specs.Strict.{Outcomes}
+use Rattle.lf_witness.specs.StrictRuns.{StrictlyStored}
+use Rattle.lf_witness.proofs.SameSets.{turned}
 use Rattle.lf_witness.proofs.Answers.{stored_into}
 use Rattle.lf_trials.specs.Building.{Building, both}
 use Rattle.lf_trials.specs.Built.{selector_count}

@@ -8,7 +8,7 @@ use lf_ast::Rule;
 use lf_base::{Memory, OpenGate, Seq};
 use lf_classes::{ClassError, Universe};
 use lf_fix::solve;
-use lf_flow::{Env, prepare};
+use lf_flow::{Env, match_patterns};
 use lf_rounds::solve_shared;
 use std::alloc::Global;
 use std::thread::Threads;
@@ -77,7 +77,7 @@ fn prepared(alloc: Global, rules: &Seq<Rule>) -> Result<Universe, ClassError>
     ensures { IfOk result (λ universe. CoversRules universe (rule_trees rules.now)) }
 {
     let mut universe = Universe::build(alloc, rules)?;
-    prepare(alloc, &mut universe, rules)?;
+    match_patterns(alloc, &mut universe, rules)?;
     Ok(universe)
 }
 

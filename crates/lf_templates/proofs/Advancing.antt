@@ -1,6 +1,7 @@
 -- From one piece of a text to the next.
 use Rattle.std.proofs.Common.{◌≡◌, ℕ, ◌+◌, ◌<◌, ◌≤◌, Bool, true, false, List, [], ◌∷◌, Some, None, Result, Ok, Err, length, get_or, drop, refl, ap, arith, sym, ◌∙◌, subst, add-one, drop-cons, length-drop}
 use Rattle.std.specs.Prelude.{reverse}
+use Rattle.std.proofs.lemmas.List.{drop-drop}
 use Rattle.lf_base.specs.declared.refusal.Refusal.{Refusal}
 use Rattle.lf_base.specs.declared.refusal.Refusal.TheVariants.{At, Memory}
 use Rattle.lf_templates.specs.declared.token.Place.TheVariants as places
@@ -12,7 +13,6 @@ use Rattle.lf_base.specs.declared.fault.Fault.{Fault}
 use Rattle.lf_templates.specs.Templates.{opens, Action}
 use Rattle.lf_templates.specs.reading.Templates.{Acts, acts_of, before, action_at, total, lexed, outcome, ending, reading}
 use Rattle.lf_templates.specs.views.Steps.{outcome_of, Steps, answer_at, Advances}
-use Rattle.lf_templates.proofs.Lists.{drop_drop}
 use Rattle.lf_templates.proofs.Outcomes.{outcome_judged}
 use Rattle.lf_templates.proofs.Acts.{acts_end, acts_byte, acts_open, acts_action}
 
@@ -27,13 +27,13 @@ module _ (from text : List ℕ) (state : State) (at : ℕ) (lt : at < length tex
 
   pub open_stops : opens (drop at text) ≡ true → None ≡ lexed places.Start 0 (drop (at + 2) text) → answer_at from text state at ≡ ending from (reverse state.bodies) state.flaw state.found (Some at)
   unfolding outcome
-  open_stops e f = ap (of_acts from text state) (acts_open at (drop at text) e (ap (lexed places.Start 0) (drop_drop 2 at text) ∙ sym f))
+  open_stops e f = ap (of_acts from text state) (acts_open at (drop at text) e (ap (lexed places.Start 0) (drop-drop 2 at text) ∙ sym f))
 
   module _ (ls : List Lexeme) (end : ℕ) (begins : opens (drop at text) ≡ true) (found : Some ls ≡ lexed places.Start 0 (drop (at + 2) text)) (ends : end ≡ at + (total ls + 4)) (within : end ≤ length text) where
     here : acts_of at 0 (drop at text) ≡ before (action_at at ls) (acts_of end 0 (drop end text))
     here =
         let l = length-drop at text in
-        rw ends (acts_action at (drop at text) ls begins (ap (lexed places.Start 0) (drop_drop 2 at text) ∙ sym found) (omega arith) ∙ ap (λ (x : List ℕ). before (action_at at ls) (acts_of (at + (total ls + 4)) 0 x)) (drop_drop (total ls + 4) at text))
+        rw ends (acts_action at (drop at text) ls begins (ap (lexed places.Start 0) (drop-drop 2 at text) ∙ sym found) (omega arith) ∙ ap (λ (x : List ℕ). before (action_at at ls) (acts_of (at + (total ls + 4)) 0 x)) (drop-drop (total ls + 4) at text))
 
     pub action_advances : (next : State) → Steps from text state (action_at at ls) (Ok next) → answer_at from text state at ≡ answer_at from text next end
     action_advances next h = ap (of_acts from text state) here ∙ h (acts_of end 0 (drop end text)).actions (acts_of end 0 (drop end text)).endless

@@ -5,6 +5,7 @@ use Rattle.std.specs.List.{list_all}
 use Rattle.std.specs.Str.{IsAscii}
 use Rattle.std.proofs.lemmas.Bool.{and_parts}
 use Rattle.std.proofs.lemmas.Bool.Decides.{nat_tests}
+use Rattle.std.proofs.lemmas.List.{drop-drop}
 use Rattle.lf_templates.specs.declared.token.Token.{Token}
 use Rattle.lf_templates.specs.declared.token.Token.TheVariants as tokens
 use Rattle.lf_templates.specs.declared.token.Place.{Place}
@@ -16,7 +17,7 @@ use Rattle.lf_templates.specs.Bytes.{beginning, sign_begins, alone, Each}
 use Rattle.lf_templates.specs.Tokens.{IsName, IsToken, one_byte, in_quotes, in_back_quotes, a_word, a_variable, a_field, a_number, declares, a_colon, a_comment, a_slash, a_minus, is_trim, closes, behind}
 use Rattle.lf_templates.specs.Actions.{is_field}
 use Rattle.lf_templates.specs.reading.Templates.{front, lexed, total, Named}
-use Rattle.lf_templates.proofs.Lists.{drop_drop, take_same}
+use Rattle.lf_templates.proofs.Lists.{take_same}
 use Rattle.lf_templates.proofs.Standing.{front_stands, choose}
 
 drop_none : {X : Type 0} (n : ℕ) → drop {A = X} n [] ≡ []
@@ -153,7 +154,7 @@ named_one : (place : Place) (text : List ℕ) (at : ℕ) (l : Lexeme) → front 
 named_one place text at l e h =
     let s = front_stands place (drop at text) l e in
     let a = field_ascii place l.token s.text s.rest s.is h in
-    let d : drop (at + 1) text ≡ drop 1 (s.text ++ s.rest) = sym (drop_drop 1 at text) ∙ ap (λ (x : List ℕ). drop 1 x) s.source in
+    let d : drop (at + 1) text ≡ drop 1 (s.text ++ s.rest) = sym (drop-drop 1 at text) ∙ ap (λ (x : List ℕ). drop 1 x) s.source in
     let k = s.len in
     rw d (by s.text (l.len - 1) (omega arith) s.some a)
   where
@@ -172,7 +173,7 @@ module _ (bytes : List ℕ) (start at : ℕ) (place : Place) (ts : List Lexeme) 
   pub same_on : (whole : Option (List Lexeme)) → behind_tokens ts (lexed place 0 (drop at bytes)) ≡ whole → behind_tokens more (lexed next 0 (drop (at + l.len) bytes)) ≡ whole
   same_on whole same =
       let e = ap (behind_tokens ts) (lexed_step place (drop at bytes) l stays found) ∙ behind_push ts l (lexed (behind place l.token) 0 (drop l.len (drop at bytes))) in
-      rw (pushed, behind_it) (ap (λ (x : List ℕ). behind_tokens (ts ++ l ∷ []) (lexed (behind place l.token) 0 x)) (sym (drop_drop l.len at bytes)) ∙ sym e ∙ same)
+      rw (pushed, behind_it) (ap (λ (x : List ℕ). behind_tokens (ts ++ l ∷ []) (lexed (behind place l.token) 0 x)) (sym (drop-drop l.len at bytes)) ∙ sym e ∙ same)
 
   pub end_on : at ≡ start + total ts → at + l.len ≡ start + total more
   end_on e = rw pushed (let t = total_push ts l in omega arith)

@@ -18,9 +18,6 @@ end_of at (inl e) = None
 end_of at (inr o) = Some at
 
 module _ (from text : List ℕ) (pieces : List Piece) (rest : List ℕ) (source : text ≡ piece_texts pieces ++ rest) (are : ArePieces pieces rest) where
-  end : ℕ
-  end = length (piece_texts pieces)
-
   rest_acts : (stops : (rest ≡ []) ⊎ IsOpen rest) (at : ℕ) → acts_of at 0 rest ≡ no_acts (end_of at stops)
   rest_acts (inl e) at = ap (acts_of at 0) e ∙ acts_end at 0 [] (omega arith)
   rest_acts (inr o) at = ap (acts_of at 0) o.source ∙ acts_open at (123 ∷ 123 ∷ o.inner) refl (open_lexed o.inner o.endless)

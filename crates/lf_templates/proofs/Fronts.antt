@@ -1,17 +1,16 @@
 -- What stands at the front between braces is one token, and it is read as that.
-use Rattle.std.proofs.Common.{◌≡◌, ◌≢◌, ℕ, suc, ◌+◌, ◌<◌, ◌≤◌, Bool, true, false, cond, List, [], ◌∷◌, ◌++◌, Option, Some, length, take, drop, refl, ap, arith, sym, ◌∙◌, append_assoc, length-append, lt-ltb}
+use Rattle.std.proofs.Common.{◌≡◌, ◌≢◌, ℕ, suc, ◌+◌, ◌<◌, ◌≤◌, Bool, true, false, cond, List, [], ◌∷◌, ◌++◌, Some, length, take, drop, refl, ap, arith, sym, ◌∙◌, append_assoc, length-append, lt-ltb}
 use Rattle.std.specs.List.{prefix_len}
 use Rattle.std.proofs.lemmas.List.Sums.{prefix_len-le-length}
 use Rattle.lf_templates.specs.declared.token.Token.{Token}
 use Rattle.lf_templates.specs.declared.token.Token.TheVariants as tokens
 use Rattle.lf_templates.specs.declared.token.Place.{Place}
 use Rattle.lf_templates.specs.declared.token.Lexeme.{Lexeme}
-use Rattle.lf_templates.specs.declared.token.Beginning.{Beginning}
 use Rattle.lf_templates.specs.declared.token.Beginning.TheVariants as begins
 use Rattle.lf_base.specs.Names.{is_letter, begins_label, is_digit, is_in_label}
 use Rattle.lf_templates.specs.Bytes.{beginning, sign_begins, is_in_number, is_no_back_quote, Each, Stops}
 use Rattle.lf_templates.specs.Tokens.{IsName, IsInner, IsToken, one_byte, in_quotes, in_back_quotes, a_word, a_variable, a_field, a_number, declares, a_colon, a_comment, a_slash, a_minus, takes_comment, ends_comment, FreeOf, word_of, variable_of, field_of}
-use Rattle.lf_templates.specs.reading.Templates.{token, name_len, string_front, raw_front, word_front, variable_front, field_front, number_front, colon_front, slash_front, minus_front, front_by, front}
+use Rattle.lf_templates.specs.reading.Templates.{token, name_len, string_front, raw_front, word_front, variable_front, field_front, number_front, colon_front, slash_front, minus_front, front}
 use Rattle.lf_templates.proofs.Lists.{take_same, row_all, row_is, row_then}
 use Rattle.lf_templates.proofs.Quotes.{string_read, comment_read}
 
@@ -56,9 +55,6 @@ comment_length inner = let l = length-append inner (42 ∷ 47 ∷ []) in omega a
 no_backslash : (quote : ℕ) → beginning quote ≡ begins.Quote → quote ≢ 92
 unfolding beginning sign_begins begins_label is_letter is_digit
 no_backslash quote e f = let g : beginning 92 ≡ begins.Quote = ap beginning (sym f) ∙ e in cc
-
-front_read : (place : Place) (b : ℕ) (src : List ℕ) (k : Beginning) (l : Option Lexeme) → beginning b ≡ k → front_by place b src k ≡ l → front place (b ∷ src) ≡ l
-front_read place b src k l e f = ap (front_by place b src) e ∙ f
 
 letter_begins : (b : ℕ) → begins_label b ≡ true → beginning b ≡ begins.Letter
 unfolding beginning

@@ -1,5 +1,5 @@
 -- The spans of references and of breaches lie in the source.
-use Rattle.std.proofs.Common.{◌≡◌, ℕ, ◌+◌, ◌-◌, ◌≤◌, Bool, true, false, cond, ◌&&◌, ◌||◌, List, [], ◌∷◌, ◌++◌, map, Some, None, Result, Ok, Err, length, ap, arith, sym, ◌∙◌, subst, length-append}
+use Rattle.std.proofs.Common.{◌≡◌, ℕ, ◌+◌, ◌-◌, ◌≤◌, Bool, true, false, cond, ◌&&◌, ◌||◌, List, [], ◌∷◌, map, Some, None, Result, Ok, Err, length, ap, arith, sym, ◌∙◌, subst, length-append}
 use Rattle.std.specs.Prelude.{IfOk, IfErr}
 use Rattle.std.specs.List.{AllByRecursion, list_any}
 use Rattle.std.specs.List.Sorted.{IsNonDecreasing}
@@ -16,10 +16,7 @@ use Rattle.lf_templates.specs.Actions.{tokens_of, goes_on, is_root, is_labels_fi
 use Rattle.lf_templates.specs.Templates.{Piece, Byte, Braced, piece_text, piece_texts, Action, actions_of, word_of_action, is_flawed, first_flawed, bodies_behind, bodies_round, hides, IsBreach, flawed, unended, Breaks, References, reference, references_in, references_of}
 use Rattle.lf_templates.specs.reading.Templates.{total}
 use Rattle.lf_templates.proofs.Pieces.{braced_length}
-
-both : {X : Type 0} (P : X → Type 0) (xs ys : List X) → AllByRecursion P xs → AllByRecursion P ys → AllByRecursion P (xs ++ ys)
-both P [] ys h k = k
-both P (x ∷ xs) ys h k = (h.0, both P xs ys h.1 k)
+use Rattle.lf_laws.proofs.Members.{all_append}
 
 -- ---- rows
 
@@ -45,7 +42,7 @@ here_below inside at (l ∷ m ∷ o ∷ ls) n le = by (is_root l.token && is_lab
 
 rows_below : (ls : List Lexeme) (inside : Bool) (at n : ℕ) → at + total ls ≤ n → AllByRecursion (IsBelow n) (rows inside at ls)
 rows_below [] inside at n le = tt
-rows_below (l ∷ ls) inside at n le = both (IsBelow n) (as_list (row_here inside at (l ∷ ls))) (rows (goes_on l.token) (at + l.len) ls) (here_below inside at (l ∷ ls) n le) (rows_below ls (goes_on l.token) (at + l.len) n (omega arith))
+rows_below (l ∷ ls) inside at n le = all_append (IsBelow n) (as_list (row_here inside at (l ∷ ls))) (rows (goes_on l.token) (at + l.len) ls) (here_below inside at (l ∷ ls) n le) (rows_below ls (goes_on l.token) (at + l.len) n (omega arith))
 
 -- ---- actions
 
@@ -85,7 +82,7 @@ module _ (from text : List ℕ) (count : length from ≡ length text + 1) (rises
   of_lie (a ∷ later) bodies renamed h =
       let gone = renamed || sets_labels (tokens_of a.lexemes) in
       let hidden = gone || list_any hides (bodies_round (word_of_action a) bodies) in
-      both LiesHere (references_in from text hidden a) (references_of from text (bodies_behind (word_of_action a) bodies) gone later) (in_lie hidden a h.0) (of_lie later (bodies_behind (word_of_action a) bodies) gone h.1)
+      all_append LiesHere (references_in from text hidden a) (references_of from text (bodies_behind (word_of_action a) bodies) gone later) (in_lie hidden a h.0) (of_lie later (bodies_behind (word_of_action a) bodies) gone h.1)
 
   pub references_lie : (found : List Reference) → References from text found → AllByRecursion LiesHere found
   references_lie found r =

@@ -1,5 +1,5 @@
 -- Parts of lists, and rows of bytes of a class.
-use Rattle.std.proofs.Common.{◌≡◌, ℕ, zero, suc, ◌+◌, ◌≤◌, Bool, true, false, cond, List, [], ◌∷◌, ◌++◌, length, take, drop, refl, arith, sym, subst, length-take-le, take-append-drop}
+use Rattle.std.proofs.Common.{◌≡◌, ℕ, suc, ◌+◌, Bool, true, false, cond, List, [], ◌∷◌, ◌++◌, length, take, drop, refl, arith, subst}
 use Rattle.std.proofs.Math.Seq.{drop-append_seam, take-append_seam}
 use Rattle.std.proofs.lemmas.Bool.{and_parts}
 use Rattle.std.specs.List.{prefix_len, list_all}
@@ -10,15 +10,6 @@ take_same n text rest e = subst (λ (k : ℕ). take k (text ++ rest) ≡ text) e
 
 pub drop_same : (n : ℕ) (text rest : List ℕ) → length text ≡ n → drop n (text ++ rest) ≡ rest
 drop_same n text rest e = subst (λ (k : ℕ). drop k (text ++ rest) ≡ rest) e (drop-append_seam text rest)
-
-drop_nil : (n : ℕ) → drop {A = ℕ} n [] ≡ []
-drop_nil zero = refl
-drop_nil (suc n) = refl
-
-pub drop_drop : (n at : ℕ) (bs : List ℕ) → drop n (drop at bs) ≡ drop (at + n) bs
-drop_drop n zero bs = let e : 0 + n ≡ n = omega arith in rw e refl
-drop_drop n (suc at) [] = rw (drop_nil n, drop_nil (suc at + n)) refl
-drop_drop n (suc at) (b ∷ bs) = let e : suc at + n ≡ suc (at + n) = omega arith in rw e (drop_drop n at bs)
 
 -- ---- rows of one class
 
@@ -48,10 +39,3 @@ row_then p (b ∷ src) = by (row_then p src) (p b) refl
     by : Stops p (drop (prefix_len p src) src) → (t : Bool) → p b ≡ t → Stops p (drop (cond (p b) (1 + prefix_len p src) 0) (b ∷ src))
     by again true e = let k : 1 + prefix_len p src ≡ suc (prefix_len p src) = omega arith in rw (e, k) again
     by again false e = rw e e
-
--- the front of a text and what follows it
-pub front_length : (n : ℕ) (src : List ℕ) → n ≤ length src → length (take n src) ≡ n
-front_length n src le = length-take-le n src le
-
-pub front_split : (n : ℕ) (src : List ℕ) → src ≡ take n src ++ drop n src
-front_split n src = sym (take-append-drop n src)

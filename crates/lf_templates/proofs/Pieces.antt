@@ -2,6 +2,7 @@
 use Rattle.std.proofs.Common.{◌≡◌, ◌⊎◌, inl, inr, ℕ, zero, suc, ◌+◌, ◌-◌, ◌≤◌, Bool, true, false, cond, List, [], ◌∷◌, ◌++◌, map, Option, Some, None, length, drop, refl, ap, arith, sym, ◌∙◌, subst, append_assoc, length-append}
 use Rattle.std.specs.Prelude.{option_map}
 use Rattle.std.specs.Option.{option_and_then}
+use Rattle.std.proofs.Math.Seq.{drop-nil}
 use Rattle.lf_templates.specs.declared.token.Place.{Place}
 use Rattle.lf_templates.specs.declared.token.Place.TheVariants as places
 use Rattle.lf_templates.specs.declared.token.Lexeme.{Lexeme}
@@ -137,10 +138,6 @@ pub record Cut (src : List ℕ) : Type 0 where
   pub are : ArePieces pieces rest
   pub stops : (rest ≡ []) ⊎ IsOpen rest
 
-drop_nothing : (n : ℕ) → drop {A = ℕ} n [] ≡ []
-drop_nothing zero = refl
-drop_nothing (suc n) = refl
-
 nothing_cut : (src : List ℕ) → src ≡ [] → Cut src
 nothing_cut src e = record { pieces = []; rest = []; source = e; are = tt; stops = inl refl }
 
@@ -187,7 +184,7 @@ braced_cut src ls e f c =
     }
 
 pub pieces_stand : (src : List ℕ) (skip : ℕ) → Cut (drop skip src)
-pieces_stand [] skip = nothing_cut (drop skip []) (drop_nothing skip)
+pieces_stand [] skip = nothing_cut (drop skip []) (drop-nil skip)
 pieces_stand (b ∷ src) (suc skip) = pieces_stand src skip
 pieces_stand (b ∷ src) zero = by (opens (b ∷ src)) (lexed places.Start 0 (drop 2 (b ∷ src))) refl refl (λ k. pieces_stand src k)
   where

@@ -6,9 +6,6 @@ use Rattle.lf_templates.specs.Bytes.{starts_with}
 use Rattle.lf_templates.specs.Tokens.{IsInner, nothing, itself, pair, ends_comment, FreeOf}
 use Rattle.lf_templates.specs.reading.Templates.{closing, comment_len}
 
-abbrev lengthened : Option ℕ → Option ℕ
-lengthened o = option_map suc o
-
 -- ---- strings
 
 pub string_read : (quote : ℕ) (inner rest : List ℕ) → quote ≢ 92 → IsInner quote inner → closing quote false (inner ++ quote ∷ rest) ≡ Some (length inner)

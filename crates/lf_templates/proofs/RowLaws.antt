@@ -1,15 +1,14 @@
 -- The references in an action, found one by one.
-use Rattle.std.proofs.Common.{◌≡◌, ℕ, ◌+◌, ◌-◌, ◌<◌, ◌≤◌, Bool, true, false, cond, ◌&&◌, List, [], ◌∷◌, ◌++◌, map, Option, Some, None, length, get_or, take, drop, refl, ap, arith, sym, ◌∙◌, subst, append_assoc}
+use Rattle.std.proofs.Common.{◌≡◌, ℕ, ◌+◌, ◌-◌, ◌<◌, ◌≤◌, Bool, true, false, cond, ◌&&◌, List, [], ◌∷◌, map, Some, length, take, drop, refl, arith, subst}
 use Rattle.std.specs.Str.{IsAscii}
 use Rattle.std.proofs.lemmas.Bool.{and_parts}
-use Rattle.std.proofs.lemmas.List.{map-append}
+use Rattle.std.proofs.lemmas.Option.{cond_some}
 use Rattle.lf_templates.specs.declared.token.Lexeme.{Lexeme}
 use Rattle.lf_templates.specs.declared.token.Row.{Row}
 use Rattle.lf_templates.specs.declared.reference.Reference.{Reference}
-use Rattle.lf_templates.specs.Actions.{goes_on, is_field, is_root, is_labels_field, begins_row, row_to, row_of_two, row_here, as_list, rows}
+use Rattle.lf_templates.specs.Actions.{is_field, is_root, is_labels_field, begins_row, row_to, row_of_two, row_here}
 use Rattle.lf_templates.specs.Templates.{reference}
 use Rattle.lf_templates.specs.reading.Templates.{total, Named, IsRowIn}
-use Rattle.lf_templates.proofs.TokenLoops.{split}
 
 -- ---- where they stand
 
@@ -19,14 +18,10 @@ field_row text at before len lt le a =
     let e : at + before + len - (at + before + 1) ≡ len - 1 = omega arith in
     record { order = omega arith; name = omega arith; within = le; ascii = rw e a }
 
-guarded : (t : Bool) (x r : Row) → cond t (Some x) None ≡ Some r → (t ≡ true) × (x ≡ r)
-guarded true x r e = (refl, cc)
-guarded false x r e = cc
-
 module _ (text : List ℕ) (inside : Bool) (at : ℕ) where
   two_known : (l m : Lexeme) (ls : List Lexeme) (r : Row) → row_of_two inside at l m ≡ Some r → Named text at (l ∷ m ∷ ls) → at + total (l ∷ m ∷ ls) ≤ length text → IsRowIn text r
   two_known l m ls r e n le =
-      let g = guarded (begins_row inside l.token && is_field m.token) (row_to at l.len m.len) r e in
+      let g = cond_some (begins_row inside l.token && is_field m.token) (row_to at l.len m.len) r e in
       let f = (and_parts (begins_row inside l.token) (is_field m.token) g.0).1 in
       subst (IsRowIn text) g.1 (field_row text at l.len m.len n.2.0 (omega arith) (n.2.1 f))
 
@@ -52,20 +47,3 @@ module _ (text : List ℕ) (inside : Bool) (at : ℕ) where
 
 abbrev pub told : List ℕ → List ℕ → List Row → List Reference
 told from text rs = map (reference from text) rs
-
-module _ (from text : List ℕ) (ls : List Lexeme) (i : ℕ) (l : Lexeme) (lt : i < length ls) (is : get_or ls i l ≡ l) (inside : Bool) (at : ℕ) where
-  here : drop i ls ≡ l ∷ drop (i + 1) ls
-  here = split ls i l lt ∙ ap (λ (x : Lexeme). x ∷ drop (i + 1) ls) is
-
-  pub told_on : (found new : List Reference) (o : Option Row) → row_here inside at (drop i ls) ≡ o → new ≡ found ++ told from text (as_list o) →
-      new ++ told from text (rows (goes_on l.token) (at + l.len) (drop (i + 1) ls)) ≡ found ++ told from text (rows inside at (drop i ls))
-  told_on found new o e f =
-      let later = rows (goes_on l.token) (at + l.len) (drop (i + 1) ls) in
-      let whole : rows inside at (drop i ls) ≡ as_list o ++ later = ap (rows inside at) here ∙ ap (λ (x : Option Row). as_list x ++ later) (sym (ap (row_here inside at) here) ∙ e) in
-      rw (f, whole, map-append (reference from text) (as_list o) later) (append_assoc found (told from text (as_list o)) (told from text later))
-
-  pub room_on : at + total (drop i ls) ≤ length text → at + l.len + total (drop (i + 1) ls) ≤ length text
-  room_on le = let e = ap total here in omega arith
-
-  pub named_on : Named text at (drop i ls) → Named text (at + l.len) (drop (i + 1) ls)
-  named_on n = let m : Named text at (l ∷ drop (i + 1) ls) = subst (Named text at) here n in m.2

@@ -1,5 +1,5 @@
 -- What is read at the front between braces is a token by the definitions.
-use Rattle.std.proofs.Common.{◌≡◌, ℕ, suc, ◌+◌, ◌<◌, Bool, true, false, not, ◌&&◌, cond, eqb, List, [], ◌∷◌, ◌++◌, Option, Some, None, length, take, drop, refl, ap, arith, sym, ◌∙◌, subst, append_assoc, length-append, length-drop}
+use Rattle.std.proofs.Common.{◌≡◌, ℕ, suc, ◌+◌, ◌<◌, Bool, true, false, not, ◌&&◌, cond, eqb, List, [], ◌∷◌, ◌++◌, Option, Some, None, length, take, drop, refl, ap, arith, sym, ◌∙◌, subst, append_assoc, length-append, length-drop, length-take-le, take-append-drop}
 use Rattle.std.specs.Prelude.{option_map, nat_lt}
 use Rattle.std.specs.List.{prefix_len}
 use Rattle.std.proofs.lemmas.Bool.{eqb-true}
@@ -15,7 +15,7 @@ use Rattle.lf_base.specs.Names.{begins_label, is_digit, is_in_label}
 use Rattle.lf_templates.specs.Bytes.{beginning, sign_begins, is_in_number, is_no_back_quote, starts, Stops}
 use Rattle.lf_templates.specs.Tokens.{IsToken, one_byte, in_quotes, in_back_quotes, a_word, a_variable, a_field, a_number, declares, a_colon, a_comment, a_slash, a_minus, takes_comment}
 use Rattle.lf_templates.specs.reading.Templates.{token, name_len, closing, comment_len, string_front, raw_front, word_front, variable_front, field_front, number_front, colon_front, slash_front, minus_front, front_by, front}
-use Rattle.lf_templates.proofs.Lists.{row_all, row_then, front_length, front_split}
+use Rattle.lf_templates.proofs.Lists.{row_all, row_then}
 use Rattle.lf_templates.proofs.Quotes.{string_stands, comment_stands}
 use Rattle.lf_templates.proofs.Fronts.{name_le, name_stands}
 
@@ -98,11 +98,11 @@ module _ (place : Place) (b : ℕ) (src : List ℕ) where
       let f : n ≡ suc (prefix_len is_in_label src) = omega arith in
       let le = prefix_len-le-length is_in_label src in
       let more = take (prefix_len is_in_label src) src in
-      let ml = front_length (prefix_len is_in_label src) src le in
+      let ml = length-take-le (prefix_len is_in_label src) src le in
       rw (w, f) (record {
         text = b ∷ more;
         rest = drop (prefix_len is_in_label src) src;
-        source = ap (λ (xs : List ℕ). b ∷ xs) (front_split (prefix_len is_in_label src) src);
+        source = ap (λ (xs : List ℕ). b ∷ xs) (sym (take-append-drop (prefix_len is_in_label src) src));
         len = omega arith;
         some = omega arith;
         is = a_word b more refl (w, row_all is_in_label src, row_then is_in_label src) refl;
@@ -112,11 +112,11 @@ module _ (place : Place) (b : ℕ) (src : List ℕ) where
   unfolding number_front
   number_at k =
       let le = prefix_len-le-length is_in_number src in
-      let ml = front_length (prefix_len is_in_number src) src le in
+      let ml = length-take-le (prefix_len is_in_number src) src le in
       record {
         text = b ∷ take (prefix_len is_in_number src) src;
         rest = drop (prefix_len is_in_number src) src;
-        source = ap (λ (xs : List ℕ). b ∷ xs) (front_split (prefix_len is_in_number src) src);
+        source = ap (λ (xs : List ℕ). b ∷ xs) (sym (take-append-drop (prefix_len is_in_number src) src));
         len = omega arith;
         some = omega arith;
         is = a_number b _ refl k (row_all is_in_number src) (row_then is_in_number src) refl;
@@ -140,11 +140,11 @@ module _ (place : Place) (src : List ℕ) where
   variable_at : Stands place (36 ∷ src) (variable_front src)
   unfolding variable_front
   variable_at =
-      let ml = front_length (name_len src) src (name_le src) in
+      let ml = length-take-le (name_len src) src (name_le src) in
       record {
         text = 36 ∷ take (name_len src) src;
         rest = drop (name_len src) src;
-        source = ap (λ (xs : List ℕ). 36 ∷ xs) (front_split (name_len src) src);
+        source = ap (λ (xs : List ℕ). 36 ∷ xs) (sym (take-append-drop (name_len src) src));
         len = omega arith;
         some = omega arith;
         is = a_variable (take (name_len src) src) refl (name_stands src) refl;
@@ -153,11 +153,11 @@ module _ (place : Place) (src : List ℕ) where
   field_at : Stands place (46 ∷ src) (field_front src)
   unfolding field_front
   field_at =
-      let ml = front_length (name_len src) src (name_le src) in
+      let ml = length-take-le (name_len src) src (name_le src) in
       record {
         text = 46 ∷ take (name_len src) src;
         rest = drop (name_len src) src;
-        source = ap (λ (xs : List ℕ). 46 ∷ xs) (front_split (name_len src) src);
+        source = ap (λ (xs : List ℕ). 46 ∷ xs) (sym (take-append-drop (name_len src) src));
         len = omega arith;
         some = omega arith;
         is = a_field (take (name_len src) src) refl (name_stands src) refl;
@@ -173,12 +173,12 @@ module _ (place : Place) (src : List ℕ) where
           let k = prefix_len is_no_back_quote src in
           let lt : k < length src = grind (arith, nat_tests) in
           let rest = behind_row (drop k src) (omega (arith, length-drop k src)) (row_then is_no_back_quote src) in
-          let ml = front_length k src (omega arith) in
+          let ml = length-take-le k src (omega arith) in
           let len = length-append (take k src) (96 ∷ []) in
           made (token tokens.Plain (k + 2)) l e (record {
             text = 96 ∷ (take k src ++ 96 ∷ []);
             rest = rest.0;
-            source = ap (λ (xs : List ℕ). 96 ∷ xs) (front_split k src ∙ ap (λ (xs : List ℕ). take k src ++ xs) rest.1 ∙ sym (append_assoc (take k src) (96 ∷ []) rest.0));
+            source = ap (λ (xs : List ℕ). 96 ∷ xs) (sym (take-append-drop k src) ∙ ap (λ (xs : List ℕ). take k src ++ xs) rest.1 ∙ sym (append_assoc (take k src) (96 ∷ []) rest.0));
             len = omega arith;
             some = omega arith;
             is = in_back_quotes (take k src) refl (row_all is_no_back_quote src) refl;

@@ -1,12 +1,8 @@
 -- Going over the tokens of an action one by one.
-use Rattle.std.proofs.Common.{◌≡◌, ℕ, ◌+◌, ◌<◌, Bool, false, not, ◌&&◌, ◌||◌, List, [], ◌∷◌, length, get_or, drop, refl, add-one, drop-cons}
+use Rattle.std.proofs.Common.{Bool, false, not, ◌&&◌, ◌||◌, List, [], ◌∷◌}
 use Rattle.std.specs.Prelude.{filter}
 use Rattle.lf_templates.specs.declared.token.Token.{Token}
-use Rattle.lf_templates.specs.declared.token.Lexeme.{Lexeme}
 use Rattle.lf_templates.specs.Actions.{is_blank, is_setting, sets_labels}
-
-pub split : (ls : List Lexeme) (i : ℕ) (l : Lexeme) → i < length ls → drop i ls ≡ get_or ls i l ∷ drop (i + 1) ls
-split ls i l lt = rw (add-one, drop-cons ls i l) refl
 
 -- ---- whether $labels is set anew, behind a token that is perhaps $labels
 

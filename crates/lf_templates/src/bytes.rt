@@ -107,10 +107,8 @@ pub fn row_len(bytes: &[u8], class: Class) -> usize
     ensures within { result ≤ length bytes.now }
     ensures row { result ≡ prefix_len (is_in_class class) bytes.now }
 {
-    for (i, byte) in bytes.iter().enumerate() {
-        if !is_in_class(class, *byte) {
-            return i;
-        }
-    }
-    bytes.len()
+    bytes
+        .iter()
+        .take_while(|byte| is_in_class(class, **byte))
+        .count()
 }

@@ -1,6 +1,6 @@
 -- The first of `v1`, `v2`, .. that isn't taken is found among one more than there are taken ones; so candidates and the name for `*` are what the universe says.
-use Rattle.std.proofs.Common.{inl, inr, ◌≡◌, ◌<◌, ◌≤◌, ◌^◌, ◌⊎◌, ℕ, zero, suc, ◌+◌, Bool, true, false, not, cond, eqb, List, [], ◌∷◌, ◌++◌, get_or, drop, map, length, Some, refl, sym, ap, subst, ◌∙◌, codes, arith, true≢false}
-use Rattle.std.specs.Prelude.{decimal, unwrap_or, slice_index_or}
+use Rattle.std.proofs.Common.{inl, inr, ◌≡◌, ◌<◌, ◌≤◌, ◌^◌, ◌⊎◌, ℕ, zero, suc, ◌+◌, Bool, true, false, not, cond, List, [], ◌∷◌, ◌++◌, get_or, map, length, Some, refl, sym, ap, subst, ◌∙◌, codes, arith, true≢false}
+use Rattle.std.specs.Prelude.{unwrap_or, slice_index_or}
 use Rattle.std.specs.List.{Contains, find, range_with_len}
 use Rattle.std.proofs.lemmas.Bool.{cases_lt, not-false}
 use Rattle.std.proofs.lemmas.List.{get_or-append-add, get_or_append_left}
@@ -44,7 +44,7 @@ find_first f test a (suc n) = by (test (f a)) refl (find_first f test (a + 1) n)
 
 module _ (letter : ℕ) (taken : List Bytes) (small : length taken < 2 ^ 63) where
   abbrev text : ℕ → Bytes
-  text = numbered letter
+  text = numbered letter taken small
 
   abbrev is_free : Bytes → Bool
   is_free t = not (is_one_of taken t)

@@ -7,7 +7,7 @@ use Rattle.std.proofs.lemmas.Bool.{cases_eq, eq-eqb, eqb-true, not-true, or_left
 use Rattle.std.proofs.lemmas.List.FromFn.{length-range_with_len}
 use Rattle.std.proofs.lemmas.Option.{slice_get_within}
 use Rattle.lf_laws.proofs.Booleans.{and_left, and_right, clash}
-use Rattle.lf_laws.proofs.Members.{any_has, behind, first_or_behind, here, none_in, same_true, some_has, true_same}
+use Rattle.lf_laws.proofs.Members.{any_has, behind, first_or_behind, none_in, same_true, some_has, true_same}
 use Rattle.lf_laws.proofs.Options.{same_option}
 use Rattle.lf_laws.proofs.Slices.{member_at, number_of}
 use Rattle.lf_ast.specs.Labels.{Bytes}

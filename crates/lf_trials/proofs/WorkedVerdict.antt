@@ -25,7 +25,6 @@ use Rattle.lf_trials.specs.Trials.{Shown, Shows}
 use Rattle.lf_trials.specs.Verdicts.{Guaranteed, Impossible, IsRuleVerdict, Possible, RuleVerdict}
 use Rattle.lf_trials.specs.Verdicts as verdict
 use Rattle.lf_trials.proofs.WorkedBuilt.{labelled, sum, sum_u}
-use Rattle.lf_witness.specs.Ascending.{IsAscending}
 use Rattle.lf_witness.specs.StrictRuns.{IsRuleAnswer, IsRunAnswer}
 use Rattle.lf_witness.proofs.AscendingLists.{alone_ascends}
 use Rattle.lf_witness.proofs.SameSets.{same_itself}

@@ -1,5 +1,5 @@
 -- The forms of words.
-use Rattle.std.proofs.Common.{◌≡◌, ℕ, suc, Bool, true, false, not, ◌==◌, List, [], ◌∷◌, ◌++◌, Option, None, Some, codes, refl, ◌∙◌, ap, sym, subst, inl, inr, ◌⊎◌, arith, slice_get, take, drop, ◌+◌, ap₂}
+use Rattle.std.proofs.Common.{◌≡◌, ℕ, suc, true, false, not, ◌==◌, List, [], ◌∷◌, ◌++◌, Option, None, Some, codes, refl, ◌∙◌, ap, sym, subst, inl, inr, ◌⊎◌, arith, slice_get, take, drop, ◌+◌, ap₂}
 use Rattle.std.specs.Bool.{nat_eq}
 use Rattle.std.specs.List.{starts_with, before_first, after_first, position_or_len}
 use Rattle.std.specs.Str.{bytes_eq, chars, IsUtf8}
@@ -44,9 +44,6 @@ plain_of (x ∷ xs) (inl e) =
       | inr f ↦ f
     ]
 
-abbrev is_equals : ℕ → Bool
-is_equals x = x == 61
-
 abbrev before : Text → Text
 before t = before_first (λ x. x == 61) t
 
@@ -90,10 +87,6 @@ cut (x ∷ xs) = elim (cases_Bool (x == 61)) [
 
 unknown_long : (n : Text) → bytes_eq (codes "workers") n ≡ false → bytes_eq (codes "format") n ≡ false → bytes_eq (codes "labels") n ≡ false → arg_by_long rules n ≡ None
 unknown_long n a b c = rw (a, b, c) refl
-
--- a word that begins with two hyphens
-abbrev Long : Text → Text → Option Text → Type 0
-Long w n o = (h : Held) → long_fault rules false (arg_by_long rules n) o h ≡ [] → ⊥
 
 unknown_bad : (n : Text) (o : Option Text) → arg_by_long rules n ≡ None → (h : Held) → long_fault rules false (arg_by_long rules n) o h ≡ [] → ⊥
 unknown_bad n o e h q = let bad = rw e at q in cc

@@ -1,5 +1,5 @@
 -- Clap's definition takes exactly the words of the grammar.
-use Rattle.std.proofs.Common.{◌≡◌, ◌≢◌, Bool, true, false, cond, List, [], ◌∷◌, ◌++◌, Option, None, Some, is_some, option_map, fold, codes, slice_get, drop, String, string_bytes, ◌||◌, refl, ◌∙◌, ap, ap₂, sym, subst, inl, inr, true≢false}
+use Rattle.std.proofs.Common.{◌≡◌, ◌≢◌, Bool, true, false, cond, List, [], ◌∷◌, ◌++◌, Option, None, Some, is_some, option_map, fold, codes, slice_get, drop, String, string_bytes, ◌||◌, refl, ◌∙◌, ap, ap₂, sym, subst, inl, inr, true≢false, append_assoc}
 use Rattle.std.specs.Str.{bytes_eq, IsUtf8}
 use Rattle.std.proofs.lemmas.Bool.{cond-true, cond-false, cond_both, or_right, cases_Bool}
 use Rattle.std.specs.Prelude.{option_and_then}
@@ -7,6 +7,7 @@ use Rattle.clap.specs.Words.{Text, Row, Rule, Kinds, built, first_of}
 use Rattle.clap.proofs.FaultLemmas.{leaf_fault}
 use Rattle.lf_words.specs.views.Commands.{lint_app, says_true, all_values, first_value, texts_of}
 use Rattle.std.proofs.lemmas.Str.{IsUtf8-had}
+use Rattle.std.proofs.lemmas.List.{append-nil}
 use Rattle.clap.specs.Walk.{Walk, Waiting, idle, positional, option, walked, settled, used, reading_by, has_row, with_values, with_default, default_rows, nothing_held}
 use Rattle.clap.specs.Faults.{turn_fault, settle_fault, use_fault, walk_fault, defaults_fault, default_fault, check_fault, fault_of}
 use Rattle.clap.specs.Kinds.{or_else}
@@ -166,9 +167,6 @@ option_faultless R Format v e = rw (has_row-is (codes "format") R, e) refl
 labels_faultless : (R : List Row) → row_at (codes "labels") R ≡ None → use_fault false labels [] R ≡ []
 labels_faultless R e = rw (has_row-is (codes "labels") R, e) refl
 
-files_faultless : (R : List Row) (w : Text) → pending_fault R (Some (codes "files", w ∷ [])) ≡ []
-files_faultless R w = refl
-
 -- ---- what the words give is read
 
 no_value : (k : Valued) (R : List Row) (a : Given) → Shows R a → row_at (name_of k) R ≡ None → value_of k a ≡ None
@@ -269,23 +267,15 @@ go_on w next x f ws c t e ih =
 value_row : (R : List Row) (a : Given) (k : Valued) → Shows R a → value_of k a ≡ None → row_at (name_of k) R ≡ None
 value_row R a k s n = s.options k ∙ ap (option_map (option_row k)) n
 
-append_one : (files ws : List Text) (w : Text) → (files ++ w ∷ []) ++ ws ≡ files ++ w ∷ ws
-append_one [] ws w = refl
-append_one (f ∷ fs) ws w = ap (λ (l : List Text). f ∷ l) (append_one fs ws w)
-
-append_none : (files : List Text) → files ++ [] ≡ files
-append_none [] = refl
-append_none (f ∷ fs) = ap (λ (l : List Text). f ∷ l) (append_none fs)
-
 accepts_files : (ws : List Text) (a : Given) (r : List Row) (p : Pending) (wt : Waiting) → pending_fault r p ≡ [] → Shows (after r p) a →
     Accepted (state r p wt true) ws (with_files ws a)
 accepts_files [] a r p wt e s =
     let S : List Text → Type 0 = λ l. Shows (after r p) (record a { files = l }) in
-    (body_end r p wt true ∙ e, subst S (sym (append_none a.files)) s)
+    (body_end r p wt true ∙ e, subst S (sym (append-nil a.files)) s)
 accepts_files (w ∷ ws) a r p wt e s =
     let S : List Text → Type 0 = λ l. Accepted (state (after r p) (Some (codes "files", w ∷ [])) positional true) ws (record a { files = l }) in
     go_on _ _ w _ ws (with_files (w ∷ ws) a) (turn_after r p wt w) e
-    (subst S (append_one a.files ws w) (accepts_files ws (with_files (w ∷ []) a) (after r p) (Some (codes "files", w ∷ [])) positional refl (show_file (after r p) a w s)))
+    (subst S (append_assoc a.files (w ∷ []) ws) (accepts_files ws (with_files (w ∷ []) a) (after r p) (Some (codes "files", w ∷ [])) positional refl (show_file (after r p) a w s)))
 
 accepts : {a c : Given} {ws : List Text} → Gives a ws c → (r : List Row) (p : Pending) (wt : Waiting) → Open wt → pending_fault r p ≡ [] → Shows (after r p) a →
     Accepted (state r p wt false) ws c
@@ -440,10 +430,6 @@ texts_are (s ∷ ss) = more (IsUtf8-had _ s.ok) (texts_are ss)
 rest_is : {Z : Type 0} (ss : List (String Z)) → Texts (drop 1 (texts_of ss))
 rest_is [] = none
 rest_is (s ∷ ss) = texts_are ss
-
-pub refused_none : (words : List Text) (c : Given) → Whole (drop 1 words) c → fault_of lint_app words ≡ []
-refused_none [] c g = taken [] [] c g
-refused_none (l ∷ ws) c g = taken l ws c g
 
 pub taken_gives : {Z : Type 0} (ss : List (String Z)) → fault_of lint_app (texts_of ss) ≡ [] → (c : Given) × Whole (drop 1 (texts_of ss)) c × Means (texts_of ss) c
 taken_gives [] e = let (c, g) = given_by [] [] none e in (c, g, means [] c g)

@@ -4,8 +4,9 @@ use Rattle.std.proofs.lemmas.Bool.{cases_lt}
 use Rattle.lf_ast.specs.Labels.{Bytes}
 use Rattle.lf_semantics.specs.Listing.{place}
 use Rattle.lf_semantics.proofs.ListingLaws.{place_within}
+use Rattle.lf_semantics.proofs.Places.{placed_there}
 use Rattle.std.proofs.lemmas.List.Elements.{Contains-get_or}
-use Rattle.lf_deps.proofs.Reached.{in_at, text_place}
+use Rattle.lf_deps.proofs.Reached.{text_place}
 use Rattle.lf_deps.proofs.reaching.have_none_common.Goals as goal
 
 pub returns-then-place-len-clause-common : goal.returns-then-place-len-clause-common
@@ -16,7 +17,7 @@ returns-then-place-len-clause-common c told =
     let e : c.place.result ≡ place right name = c.place.ensures.place ∙ ap (place right) (c.as_str.ensures ∙ c.get.ensures) in
     let n = c.len.ensures.count in
     let t = c.if-place-len.true in
-    (name, Contains-get_or left c.loop-k.k [] (omega (arith, c.loop-k-test.true, c.len-k-end.ensures.count)), in_at right name (omega (arith, e, n, t)))
+    (name, Contains-get_or left c.loop-k.k [] (omega (arith, c.loop-k-test.true, c.len-k-end.ensures.count)), placed_there right name (omega (arith, e, n, t)))
 
 pub loop-k-preserved : goal.loop-k-preserved
 loop-k-preserved c j h d =

@@ -7,12 +7,8 @@ use Rattle.lf_semantics.specs.ClassRows.{Sets}
 use Rattle.lf_semantics.specs.Parts.{Sought, sought_by}
 use Rattle.lf_semantics.specs.RowTable.{absent_row}
 use Rattle.lf_flow.specs.views.Absence.{also_bare}
-use Rattle.lf_flow.proofs.SoughtSets.{in_parentheses}
+use Rattle.lf_flow.proofs.SoughtSets.{in_parentheses, not_outside}
 use Rattle.lf_flow.proofs.absence.absent_of.Goals as goal
-
-not_outside : (sought : Option Sought) → also_bare false sought ≡ sought
-not_outside None = refl
-not_outside (Some s) = refl
 
 pub loop-inner-init : goal.loop-inner-init
 loop-inner-init c = not_outside (sought_by (tree c.args.expr.now))

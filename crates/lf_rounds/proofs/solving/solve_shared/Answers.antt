@@ -5,7 +5,7 @@ use Rattle.lf_classes.specs.RowWords.{WordsLeq}
 use Rattle.lf_semantics.specs.Listing.{Listing}
 use Rattle.lf_rounds.specs.Tasks.{IsBelowLeast}
 use Rattle.lf_rounds.proofs.Bits.{bits_more, bits_most}
-use Rattle.lf_rounds.proofs.Seated.{was_true}
+use Rattle.std.proofs.lemmas.Bool.{not-false}
 use Rattle.lf_rounds.proofs.solving.solve_shared.Goals as goal
 
 pub rounds-smaller : goal.rounds-smaller
@@ -17,7 +17,7 @@ rounds-smaller g c =
     let len : length old ≡ length next = sym (end.len ∙ ap length over.start) in
     let A : List ℕ → Type 0 = λ l. WordsLeq l next in
     let N : List ℕ → Type 0 = λ l. next ≢ l in
-    let more = bits_more old next len c.rounds.invariant.fit end.fit (subst A over.start end.above) (subst N over.start (end.changed.0 (was_true c.in_ok-end.end.changed c.if-not-end.false))) in
+    let more = bits_more old next len c.rounds.invariant.fit end.fit (subst A over.start end.above) (subst N over.start (end.changed.0 (not-false c.in_ok-end.end.changed c.if-not-end.false))) in
     omega (arith, more, bits_most next, len)
 
 pub rounds-preserved : goal.rounds-preserved

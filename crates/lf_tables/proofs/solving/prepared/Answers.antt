@@ -6,4 +6,4 @@ use Rattle.lf_semantics.proofs.ListingLaws.{universe_covers}
 use Rattle.lf_tables.proofs.solving.prepared.Goals as goal
 
 pub returns : goal.returns
-returns c = let P : Listing → Type 0 = λ u. CoversRules u (rule_trees c.args.rules.now) in subst P (sym (c.prepare.ensures ∙ c.in_ok-universe.ensures.found)) (universe_covers (rule_trees c.args.rules.now))
+returns c = let P : Listing → Type 0 = λ u. CoversRules u (rule_trees c.args.rules.now) in subst P (sym (c.match_patterns.ensures ∙ c.in_ok-universe.ensures.found)) (universe_covers (rule_trees c.args.rules.now))

@@ -4,8 +4,8 @@ use Rattle.std.proofs.lemmas.List.Elements.{Contains-append_left, Contains-appen
 use Rattle.std.proofs.lemmas.List.{take_all, take_more}
 use Rattle.lf_ast.specs.Labels.{Bytes}
 use Rattle.lf_fix.specs.views.Dependents.{Index, IsListed}
-use Rattle.lf_laws.proofs.Members.{here}
-use Rattle.lf_fix.proofs.Listing.{all_append, all_map}
+use Rattle.lf_laws.proofs.Members.{all_append, here}
+use Rattle.lf_fix.proofs.Listing.{all_map}
 use Rattle.lf_fix.proofs.dependents.Dependents.list_all.Goals as goal
 
 pub loop-k-preserved : goal.loop-k-preserved

@@ -2,14 +2,15 @@ use Rattle.std.proofs.Common.{◌≡◌, ◌<◌, ℕ, zero, suc, List, [], ◌�
 use Rattle.std.specs.Prelude.{slice_get}
 use Rattle.std.specs.List.{AllByRecursion, Contains}
 use Rattle.std.proofs.lemmas.Bool.{cases_lt}
+use Rattle.std.proofs.lemmas.Option.{slice_get_within}
 use Rattle.lf_ast.specs.Labels.{Bytes}
 use Rattle.lf_ast.specs.Rules.{RuleTree}
 use Rattle.lf_laws.proofs.Members.{none_in}
+use Rattle.lf_laws.proofs.Slices.{some_at}
 use Rattle.lf_deps.specs.views.Sources.{Sources}
 use Rattle.lf_deps.proofs.LookedUp.{selected_count, selected_is}
 use Rattle.lf_fix.specs.views.Dependents.{Index, IsListed}
 use Rattle.lf_fix.proofs.Listing.{all_map}
-use Rattle.lf_fix.proofs.Rounds.{rule_within}
 use Rattle.lf_fix.proofs.dependents.Dependents.of.Goals as goal
 
 pub list_all-requires : goal.list_all-requires
@@ -44,24 +45,19 @@ selected_within [] j o c = absurd (none_in o c)
 selected_within (x ∷ xs) zero o c = omega arith
 selected_within (x ∷ xs) (suc j) o c = let h = selected_within xs j o c in omega (arith, h)
 
-rule_at : (rules : List RuleTree) (k : ℕ) → k < length rules → (r : RuleTree) × (slice_get rules k ≡ Some r)
-rule_at [] k h = absurd (omega arith)
-rule_at (r ∷ rules) zero h = (r, refl)
-rule_at (r ∷ rules) (suc k) h = rule_at rules k (omega arith)
-
 pub returns : goal.returns
 returns c rules is =
     let s : Sources = c.args.sources.now in
     let count = selected_count rules s is in
     record {
       all = λ j r at.
-          let within = rule_within rules j r at in
+          let within = slice_get_within rules j r at in
           let P : List (Option Bytes) → Type 0 = λ found. AllByRecursion (IsListed c.loop-k.dependents j) found in
           subst P (selected_is rules s is j r at) (c.loop-k.invariant.1 j (omega (arith, within, count, c.loop-k-test.false)));
       only = λ j o l.
           let b = c.loop-k.invariant.2 j o l in
           let within = selected_within s.selected j o b in
-          let r = rule_at rules j (omega (arith, within, count)) in
+          let r = some_at rules j (omega (arith, within, count)) in
           let P : List (Option Bytes) → Type 0 = λ found. Contains found o in
           (r.0, r.1, subst P (selected_is rules s is j r.0 r.1) b);
     }

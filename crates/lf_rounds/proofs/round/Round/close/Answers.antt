@@ -5,7 +5,8 @@ use Rattle.lf_rounds.specs.Facts.{RoundFacts, RoundSeatFacts, task}
 use Rattle.lf_rounds.specs.Tasks.{HoldRules, IsBelowLeast, IsTask}
 use Rattle.lf_rounds.proofs.Closing.{ends_round}
 use Rattle.lf_rounds.proofs.Pieces.{least_words}
-use Rattle.lf_rounds.proofs.Seated.{is_idle, missed_some}
+use Rattle.std.proofs.lemmas.Bool.{not-true}
+use Rattle.lf_rounds.proofs.Seated.{missed_some}
 use Rattle.lf_rounds.proofs.round.Round.close.Goals as goal
 
 pub returns-in_err-words-clause-claims : goal.returns-in_err-words-clause-claims
@@ -16,7 +17,7 @@ returns-in_err-words-clause-claims c =
     let v = s.me.0 in
     let shown = c.self.view_is in
     let seat = c.seat.view_is in
-    let idle = is_idle v.busy (ap (λ (f : RoundSeatFacts). f.is_whole) seat ∙ c.requires.shut.1) in
+    let idle = not-true v.busy (ap (λ (f : RoundSeatFacts). f.is_whole) seat ∙ c.requires.shut.1) in
     let shut = missed_some v.board.missed c.seat.inside.is_open c.seat.invariant.2 (ap (λ (f : RoundSeatFacts). f.is_open) seat ∙ c.requires.shut.0) in
     let room = ap (λ (f : RoundSeatFacts). f.room) seat ∙ c.requires.last ∙ sym (ap (λ (f : RoundFacts). f.board.seats - 1) shown) in
     let count = ap (λ (l : List ℕ). length l) c.self.invariant.pieces ∙ sym c.self.invariant.count in
@@ -33,7 +34,7 @@ returns-clause-claims c =
     let v = s.me.0 in
     let shown = c.self.view_is in
     let seat = c.seat.view_is in
-    let idle = is_idle v.busy (ap (λ (f : RoundSeatFacts). f.is_whole) seat ∙ c.requires.shut.1) in
+    let idle = not-true v.busy (ap (λ (f : RoundSeatFacts). f.is_whole) seat ∙ c.requires.shut.1) in
     let shut = missed_some v.board.missed c.seat.inside.is_open c.seat.invariant.2 (ap (λ (f : RoundSeatFacts). f.is_open) seat ∙ c.requires.shut.0) in
     let room = ap (λ (f : RoundSeatFacts). f.room) seat ∙ c.requires.last ∙ sym (ap (λ (f : RoundFacts). f.board.seats - 1) shown) in
     let count = ap (λ (l : List ℕ). length l) c.self.invariant.pieces ∙ sym c.self.invariant.count in
@@ -50,7 +51,7 @@ returns-clause-rules c =
     let v = s.me.0 in
     let shown = c.self.view_is in
     let seat = c.seat.view_is in
-    let idle = is_idle v.busy (ap (λ (f : RoundSeatFacts). f.is_whole) seat ∙ c.requires.shut.1) in
+    let idle = not-true v.busy (ap (λ (f : RoundSeatFacts). f.is_whole) seat ∙ c.requires.shut.1) in
     let shut = missed_some v.board.missed c.seat.inside.is_open c.seat.invariant.2 (ap (λ (f : RoundSeatFacts). f.is_open) seat ∙ c.requires.shut.0) in
     let room = ap (λ (f : RoundSeatFacts). f.room) seat ∙ c.requires.last ∙ sym (ap (λ (f : RoundFacts). f.board.seats - 1) shown) in
     let count = ap (λ (l : List ℕ). length l) c.self.invariant.pieces ∙ sym c.self.invariant.count in
@@ -66,7 +67,7 @@ returns-clause-below c =
     let v = s.me.0 in
     let shown = c.self.view_is in
     let seat = c.seat.view_is in
-    let idle = is_idle v.busy (ap (λ (f : RoundSeatFacts). f.is_whole) seat ∙ c.requires.shut.1) in
+    let idle = not-true v.busy (ap (λ (f : RoundSeatFacts). f.is_whole) seat ∙ c.requires.shut.1) in
     let shut = missed_some v.board.missed c.seat.inside.is_open c.seat.invariant.2 (ap (λ (f : RoundSeatFacts). f.is_open) seat ∙ c.requires.shut.0) in
     let room = ap (λ (f : RoundSeatFacts). f.room) seat ∙ c.requires.last ∙ sym (ap (λ (f : RoundFacts). f.board.seats - 1) shown) in
     let count = ap (λ (l : List ℕ). length l) c.self.invariant.pieces ∙ sym c.self.invariant.count in
@@ -82,7 +83,7 @@ returns-clause-least c still =
     let v = s.me.0 in
     let shown = c.self.view_is in
     let seat = c.seat.view_is in
-    let idle = is_idle v.busy (ap (λ (f : RoundSeatFacts). f.is_whole) seat ∙ c.requires.shut.1) in
+    let idle = not-true v.busy (ap (λ (f : RoundSeatFacts). f.is_whole) seat ∙ c.requires.shut.1) in
     let shut = missed_some v.board.missed c.seat.inside.is_open c.seat.invariant.2 (ap (λ (f : RoundSeatFacts). f.is_open) seat ∙ c.requires.shut.0) in
     let room = ap (λ (f : RoundSeatFacts). f.room) seat ∙ c.requires.last ∙ sym (ap (λ (f : RoundFacts). f.board.seats - 1) shown) in
     let count = ap (λ (l : List ℕ). length l) c.self.invariant.pieces ∙ sym c.self.invariant.count in

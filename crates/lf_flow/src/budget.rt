@@ -1,0 +1,56 @@
+//! How much a run may spend on its patterns.
+
+use lf_base::Memory;
+
+/// The most tries of a run: some two seconds, on a machine that tries a pattern on some 8 million classes in a second.
+///
+/// A pattern that isn't plain is tried on each class of its label, and makes up to two classes there. So the tries grow with the square of the number of such patterns on
+/// one label: with the classes that they make, 2,500 of them are within the budget, and 3,600 that make a class each are beyond it.
+const MOST_TRIES: u64 = 16_000_000;
+
+/// As many tries as take the time of reading a pattern, some 125 microseconds on that machine. So a run has less than 16,000 rows of patterns that aren't plain, and
+/// these have less than 125 MiB together: 8 KiB each at most, a bit for each of the 65,536 classes that there may be.
+const TRIES_OF_READING: u64 = 1_000;
+
+/// The most words that the cached rows of plain patterns may have together: 32 MiB.
+const MOST_WORDS: u32 = 4_194_304;
+
+/// What is left of the tries and of the room that the patterns of a run may have.
+#[derive(Drop)]
+pub struct PatternBudget {
+    tries: u64,
+    words: u32,
+}
+
+impl PatternBudget {
+    /// The budget of a run.
+    pub fn new() -> PatternBudget {
+        PatternBudget {
+            tries: MOST_TRIES,
+            words: MOST_WORDS,
+        }
+    }
+
+    /// Takes the tries of a pattern that is read and tried on so many classes. `Memory` where there aren't as many left; then none is taken.
+    pub fn take_tries(&mut self, classes: u32) -> Result<(), Memory> {
+        let tries = TRIES_OF_READING + u64::from(classes);
+        match self.tries.checked_sub(tries) {
+            Some(left) => {
+                self.tries = left;
+                Ok(())
+            }
+            None => Err(Memory),
+        }
+    }
+
+    /// Takes the words of a plain pattern's row, if there are as many left.
+    pub fn take_words(&mut self, words: u32) -> bool {
+        match self.words.checked_sub(words) {
+            Some(left) => {
+                self.words = left;
+                true
+            }
+            None => false,
+        }
+    }
+}

@@ -1,0 +1,166 @@
+//! Patterns that are matched once, before any row is computed.
+ghost use Rattle.std.specs.Prelude.{◌≡◌, ◌<◌, length, IfOk};
+ghost use Rattle.lf_semantics.specs.PatternBreaches.{takes_pattern};
+ghost use Rattle.lf_classes.specs.views.PatternCache.{passing_row};
+
+use crate::budget::PatternBudget;
+use crate::narrowing::narrow_label;
+use lf_ast::walk::nodes_of;
+use lf_ast::{Expr, Function, LabelEffect, MatchOp, Matcher, Rule, text_at};
+use lf_base::{Memory, Seq, Text};
+use lf_classes::{Row, Universe};
+use lf_pattern::plain_alternatives;
+use std::alloc::Global;
+
+/// Finds which classes match each pattern of rules, and has the universe cache them, so that `flow` tries none again: the patterns behind `=~` and `!~`, and those of
+/// `label_replace`. It changes nothing of what the universe is.
+///
+/// A run has a budget of tries: where the patterns need more of them, `Memory` is answered. A plain pattern needs none; the rows of plain patterns that are cached have
+/// 32 MiB together at most, and one beyond them is looked up anew wherever it stands.
+pub fn match_patterns(
+    alloc: Global,
+    universe: &mut Universe,
+    rules: &Seq<Rule>,
+) -> Result<(), Memory>
+    ensures { universe.new ≡ universe.old }
+{
+    let mut budget = PatternBudget::new();
+    for rule in rules.as_slice() {
+        match_in(alloc, universe, &mut budget, &rule.expr)?;
+    }
+    Ok(())
+}
+
+/// Finds which classes match the patterns of an expression.
+fn match_in(
+    alloc: Global,
+    universe: &mut Universe,
+    budget: &mut PatternBudget,
+    expr: &Expr,
+) -> Result<(), Memory>
+    ensures { universe.new ≡ universe.old }
+{
+    let nodes = nodes_of(alloc, expr)?;
+    for node in nodes.as_slice() {
+        match_node(alloc, universe, budget, node)?;
+    }
+    Ok(())
+}
+
+/// Finds which classes match the patterns of a selector's matchers, or that of a `label_replace`.
+fn match_node(
+    alloc: Global,
+    universe: &mut Universe,
+    budget: &mut PatternBudget,
+    node: &Expr,
+) -> Result<(), Memory>
+    ensures { universe.new ≡ universe.old }
+{
+    match node {
+        Expr::Selector { matchers, .. } => {
+            match_each(alloc, universe, budget, matchers.as_slice())
+        }
+        Expr::Call { args, .. } if replaces_label(node) => {
+            let pattern = Text::of(alloc, text_at(args.as_slice(), 4))?;
+            let source = text_at(args.as_slice(), 3);
+            match_pattern(alloc, universe, budget, source, MatchOp::Matches, &pattern)
+        }
+        _ => Ok(()),
+    }
+}
+
+/// Whether an expression is a call of `label_replace`.
+fn replaces_label(node: &Expr) -> bool {
+    match Function::called_by(node) {
+        Some(function) => matches!(function.labels, LabelEffect::LabelReplace),
+        None => false,
+    }
+}
+
+/// Finds which classes pass matchers with a pattern.
+fn match_each(
+    alloc: Global,
+    universe: &mut Universe,
+    budget: &mut PatternBudget,
+    matchers: &[Matcher],
+) -> Result<(), Memory>
+    ensures { universe.new ≡ universe.old }
+{
+    for matcher in matchers {
+        let label = matcher.label.as_str();
+        match_pattern(alloc, universe, budget, label, matcher.op, &matcher.value)?;
+    }
+    Ok(())
+}
+
+/// Has the universe cache which classes of a label pass an operator and a pattern, unless it has, or it isn't worth a row.
+fn match_pattern(
+    alloc: Global,
+    universe: &mut Universe,
+    budget: &mut PatternBudget,
+    name: &str,
+    op: MatchOp,
+    pattern: &Text,
+) -> Result<(), Memory>
+    ensures { universe.new ≡ universe.old }
+{
+    let label = universe.label_of(name);
+    if !takes_pattern(op) || is_cached(universe, label, op, pattern) {
+        return Ok(());
+    }
+    if reserve_row(alloc, universe, budget, label, pattern)? {
+        let row = passing(alloc, universe, label, op, pattern)?;
+        universe.cache_row(alloc, label, op, pattern.as_str(), row)?;
+    }
+    Ok(())
+}
+
+/// Whether what stands behind an operator is a pattern.
+fn takes_pattern(op: MatchOp) -> bool
+    ensures { result ≡ takes_pattern op }
+{
+    match op {
+        MatchOp::Equal | MatchOp::NotEqual => false,
+        MatchOp::Matches | MatchOp::NotMatches => true,
+    }
+}
+
+/// Whether the classes that pass an operator and a pattern are cached.
+fn is_cached(universe: &Universe, label: u32, op: MatchOp, pattern: &Text) -> bool {
+    universe.cached_row(label, op, pattern.as_str()).is_some()
+}
+
+/// Takes from the budget what the row of a pattern costs: the words of a plain one, and the tries of any other. It answers whether the row is to be made, which that of a
+/// plain pattern isn't where there is no room left. `Memory` where there aren't as many tries left.
+fn reserve_row(
+    alloc: Global,
+    universe: &Universe,
+    budget: &mut PatternBudget,
+    label: u32,
+    pattern: &Text,
+) -> Result<bool, Memory>
+    requires { label < length universe.now.named }
+{
+    if plain_alternatives(alloc, pattern)?.is_some() {
+        return Ok(budget.take_words(universe.class_count().div_ceil(64)));
+    }
+    budget.take_tries(universe.classes(label))?;
+    Ok(true)
+}
+
+/// The classes of a label that pass an operator and a pattern, beside every class of each other label.
+fn passing(
+    alloc: Global,
+    universe: &Universe,
+    label: u32,
+    op: MatchOp,
+    pattern: &Text,
+) -> Result<Row, Memory>
+    requires { label < length universe.now.named }
+    ensures { IfOk result (λ row. row ≡ passing_row universe.now label op pattern.now) }
+{
+    let _labels = universe.labels();
+    let mut row = Row::full(alloc, universe)?;
+    narrow_label(alloc, universe, label, op, pattern, &mut row)?;
+    Ok(row)
+}
