@@ -1,17 +1,16 @@
 -- Where the universe covers rules, it covers the expression of each, and of an expression that it covers it has the name that a selector says, and the last bucket of `histogram_quantile`.
-use Rattle.std.proofs.Common.{◌≡◌, inl, inr, ◌<◌, Bool, true, false, ◌&&◌, cond, List, [], ◌∷◌, ◌++◌, Option, Some, None, subst, refl}
+use Rattle.std.proofs.Common.{◌≡◌, ◌<◌, Bool, true, false, ◌&&◌, cond, List, [], ◌∷◌, ◌++◌, Option, Some, None, subst, refl}
 use Rattle.std.specs.List.{AllByRecursion, Contains}
 use Rattle.std.specs.Str.{bytes_eq}
-use Rattle.std.proofs.lemmas.List.Elements.{Contains-append_cases}
 use Rattle.std.proofs.lemmas.Option.{same_Some}
-use Rattle.lf_laws.proofs.Members.{all_front, first_or_behind, none_in, only_one, true_same}
+use Rattle.lf_laws.proofs.Members.{all_front, true_same}
 use Rattle.lf_base.specs.declared.place.Span.{Span}
 use Rattle.lf_ast.specs.Arguments.{texts_of}
 use Rattle.lf_ast.specs.Functions.{Signature, function_named}
 use Rattle.lf_ast.specs.Labels.{Bytes}
 use Rattle.lf_ast.specs.Rules.{RuleTree}
 use Rattle.lf_ast.specs.Selectors.{first_equal_name, is_equal, metric, selected_name}
-use Rattle.lf_ast.specs.Tree.{Tree, Trees, Number, Str, Selector, Subquery, Paren, Unary, Binary, Call, Aggregate, Nil, Next, nodes, nodes_in}
+use Rattle.lf_ast.specs.Tree.{Trees, Selector, Call}
 use Rattle.lf_ast.specs.declared.expr.Matcher.{Matcher}
 use Rattle.lf_ast.specs.declared.expr.MatchOp.{MatchOp}
 use Rattle.lf_ast.specs.declared.expr.MatchOp.TheVariants.{Equal, NotEqual, Matches, NotMatches}
@@ -21,9 +20,9 @@ use Rattle.lf_ast.specs.declared.functions.LabelEffect.TheVariants.{HistogramQua
 use Rattle.lf_classes.specs.Limits.{IsWithin}
 use Rattle.lf_semantics.specs.Environments.{Covers, CoversRules, IsKnown}
 use Rattle.lf_semantics.specs.Listing.{Listing, class_of, label_of, other_class}
-use Rattle.lf_semantics.specs.Mentions.{arguments_mentions, call_mentions, effect_mentions, matcher_texts, matchers_mentions, mentions, modifier_mentions, name_mentions}
-use Rattle.lf_semantics.proofs.Constructs.{AllKnown, operands_known}
-use Rattle.lf_semantics.proofs.Operands.{aggregate_known, call_known}
+use Rattle.lf_semantics.specs.Mentions.{arguments_mentions, effect_mentions, matcher_texts, matchers_mentions, mentions, name_mentions}
+use Rattle.lf_semantics.proofs.Constructs.{AllKnown}
+use Rattle.lf_semantics.proofs.Operands.{call_known}
 use Rattle.lf_candidates.specs.views.ClassTexts.{KnowsBuckets, KnowsName}
 use Rattle.lf_candidates.proofs.Labelled.{metric_number}
 

@@ -1,10 +1,7 @@
 -- Where the universe covers an expression, it covers the operands on which it seeks labels.
-use Rattle.std.proofs.Common.{◌≡◌, inl, inr, ℕ, zero, suc, ◌++◌, Option, Some, None, sym, subst}
-use Rattle.std.specs.List.{Contains}
-use Rattle.std.proofs.lemmas.List.Elements.{Contains-append_cases}
+use Rattle.std.proofs.Common.{◌≡◌, inl, inr, ℕ, zero, suc, ◌++◌, Some, sym, subst}
 use Rattle.lf_laws.proofs.Members.{all_back, all_front}
-use Rattle.lf_ast.specs.Arguments.{texts_of}
-use Rattle.lf_ast.specs.Functions.{Signature, aggregation, function_named}
+use Rattle.lf_ast.specs.Functions.{aggregation}
 use Rattle.lf_ast.specs.Tree.{Tree, Trees, Number, Str, Selector, Subquery, Paren, Unary, Binary, Call, Aggregate, Nil, Next}
 use Rattle.lf_ast.specs.declared.expr.Group.{Group}
 use Rattle.lf_ast.specs.declared.expr.Group.TheVariants.{One, Left, Right}
@@ -12,9 +9,9 @@ use Rattle.lf_ast.specs.declared.expr.Grouping.TheVariants.{None as Ungrouped, B
 use Rattle.lf_ast.specs.declared.expr.Name.{Name}
 use Rattle.lf_semantics.specs.Environments.{Covers, IsKnown}
 use Rattle.lf_semantics.specs.Listing.{Listing}
-use Rattle.lf_semantics.specs.Mentions.{arguments_mentions, call_mentions, mentions, modifier_mentions}
+use Rattle.lf_semantics.specs.Mentions.{arguments_mentions, mentions, modifier_mentions}
 use Rattle.lf_semantics.specs.Parts.{argument_at, operand_place}
-use Rattle.lf_semantics.proofs.Constructs.{AllKnown, operands_known}
+use Rattle.lf_semantics.proofs.Constructs.{AllKnown}
 use Rattle.lf_semantics.proofs.Operands.{aggregate_known}
 use Rattle.lf_checks.specs.MatchLabel.{MatchSeeks, Seeks, one_side}
 

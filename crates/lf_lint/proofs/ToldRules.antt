@@ -1,8 +1,6 @@
 -- What a report tells of the rule with a number.
-use Rattle.std.proofs.Common.{◌≡◌, ◌<◌, ℕ, zero, suc, ◌+◌, Bool, inl, inr, List, [], ◌∷◌, map, length, Some, refl, ◌∙◌, ap, arith}
+use Rattle.std.proofs.Common.{◌≡◌, ℕ, zero, suc, ◌+◌, Bool, List, [], ◌∷◌, length, Some, refl, ◌∙◌, ap, arith}
 use Rattle.std.specs.Prelude.{slice_get}
-use Rattle.std.specs.List.{Contains}
-use Rattle.lf_laws.proofs.Members.{first_or_behind, none_in}
 use Rattle.lf_judge.specs.Judged.{Checked, ToldRule, rule_told, rules_told}
 
 -- what is told of the rule with a number

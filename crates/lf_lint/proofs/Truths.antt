@@ -1,5 +1,5 @@
 -- What a report says of rules is true, and so is what its findings claim.
-use Rattle.std.proofs.Common.{◌≡◌, ◌≢◌, inl, inr, ℕ, zero, suc, ◌+◌, ◌<◌, ◌≤◌, ◌^◌, Bool, true, false, not, eqb, List, [], ◌∷◌, map, length, get_or, length-append, Option, Some, None, if◌then◌else◌, refl, sym, ◌∙◌, ap, subst, true≢false, arith, codes}
+use Rattle.std.proofs.Common.{◌≡◌, inl, inr, ℕ, zero, suc, ◌+◌, ◌<◌, ◌≤◌, ◌^◌, Bool, true, false, not, eqb, List, [], ◌∷◌, map, length, get_or, length-append, Option, Some, None, if◌then◌else◌, refl, sym, ◌∙◌, ap, subst, arith, codes}
 use Rattle.std.specs.Prelude.{slice_get, slice_index_or}
 use Rattle.std.specs.List.{Contains}
 use Rattle.std.proofs.lemmas.List.{length-map}
@@ -25,7 +25,7 @@ use Rattle.lf_checks.specs.Findings.{AreFindings}
 use Rattle.lf_checks.specs.Truths.{IsTrue as IsTrueFinding}
 use Rattle.lf_checks.proofs.TrueFindings.{finding_is_true}
 use Rattle.lf_laws.proofs.Booleans.{clash}
-use Rattle.lf_laws.proofs.Members.{any_has, here, none_in, of_flat_map, only_one, same_true, true_same}
+use Rattle.lf_laws.proofs.Members.{any_has, here}
 use Rattle.lf_trials.specs.Candidates.{has_presence, labels_in, other_name}
 use Rattle.lf_trials.specs.Reached.{listed, rules_at}
 use Rattle.lf_trials.specs.Trials.{IsFirstShown, Shown, Shows}

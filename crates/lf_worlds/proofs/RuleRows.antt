@@ -1,5 +1,5 @@
 -- The row of a rule, and whether the rule is a scalar or a vector.
-use Rattle.std.proofs.Common.{◌≡◌, ◌<◌, ℕ, zero, suc, Bool, true, false, not, cond, List, [], ◌∷◌, length, Some, refl, sym, ap, ◌∙◌, subst, slice_get, arith}
+use Rattle.std.proofs.Common.{◌≡◌, ℕ, Bool, true, false, not, cond, List, Some, refl, sym, ap, ◌∙◌, subst, slice_get}
 use Rattle.std.proofs.lemmas.Bool.{not-false, not-true}
 use Rattle.lf_laws.proofs.Options.{same_option}
 use Rattle.lf_laws.proofs.Booleans.{clash}

@@ -1,7 +1,6 @@
-use Rattle.std.proofs.Common.{◌≡◌, ◌∷◌, ◌∙◌, List, [], None, get_or, map, sym, ap, subst}
+use Rattle.std.proofs.Common.{◌≡◌, ◌∙◌, List, [], None, get_or, map, sym, ap, subst}
 use Rattle.std.specs.Prelude.{slice_get}
 use Rattle.lf_laws.proofs.Slices.{of_map_at}
-use Rattle.lf_ast.specs.Functions.{aggregation}
 use Rattle.lf_ast.specs.Tree.{parts_of, tree}
 use Rattle.lf_ast.specs.declared.expr.Expr.{Expr}
 use Rattle.lf_semantics.specs.ClassRows.{HasShape, Sets}

@@ -1,4 +1,4 @@
-use Rattle.std.proofs.Common.{◌≡◌, List, [], map, take}
+use Rattle.std.proofs.Common.{◌≡◌, [], map, take}
 use Rattle.lf_ast.specs.Tree.{Tree, parts_of}
 use Rattle.lf_ast.specs.views.Walks.{trees_at}
 use Rattle.lf_semantics.specs.RowTable.{Environment, row_of}

@@ -1,15 +1,13 @@
-use Rattle.std.proofs.Common.{◌≡◌, ◌∙◌, List, [], map, ap, sym, subst}
-use Rattle.std.specs.Prelude.{IfOk}
+use Rattle.std.proofs.Common.{◌∙◌, List, [], map, ap, sym, subst}
 use Rattle.std.specs.Borrow.{Bor}
 use Rattle.lf_ast.specs.Rules.{rule_tree}
-use Rattle.lf_ast.specs.Tree.{Tree, parts_of, tree}
+use Rattle.lf_ast.specs.Tree.{Tree, parts_of}
 use Rattle.lf_ast.specs.declared.expr.Expr.{Expr}
 use Rattle.lf_ast.specs.views.Walks.{trees_at}
 use Rattle.lf_semantics.specs.RowTable.{row_of}
 use Rattle.lf_checks.specs.MatchLabel.{IsFound}
 use Rattle.lf_checks.specs.views.Adding.{Adds, OfSome}
 use Rattle.lf_checks.specs.views.Conditions.{condition_of}
-use Rattle.lf_checks.specs.views.Shown.{ListsAlone}
 use Rattle.lf_checks.specs.views.Sought.{IsOfPart}
 use Rattle.lf_checks.proofs.Added.{adds_all, if_ok}
 use Rattle.lf_checks.proofs.SoughtLaws.{of_rule}
