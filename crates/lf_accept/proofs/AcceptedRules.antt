@@ -19,6 +19,7 @@ use Rattle.lf_semantics.proofs.Members.{all_of, first_or_behind, none_in}
 use Rattle.lf_yaml.specs.Tree.{Tree, leaf, sequence, mapping, Entries}
 use Rattle.lf_accept.specs.Accepted.{IsAccepted, IsRule, label_of}
 use Rattle.lf_accept.proofs.DistinctKeys.{EntriesDiffer, GivenDiffers, KeysDiffer, given_differs, key_of, keys_differ, keys_distinct, trees_differ}
+use Rattle.lf_laws.proofs.Members.{all_append}
 
 -- ---- what the tree says of a rule
 
@@ -103,14 +104,10 @@ of_group number (leaf v) name ss d h = absurd h
 of_group number (sequence items span) name ss d h = absurd h
 of_group number (mapping es span) name ss d h = of_rules number _ ss (given_differs (codes "rules") es [] d) h.rules
 
-all_joined : (xs ys : List Source) → AllByRecursion IsNamed xs → AllByRecursion IsNamed ys → AllByRecursion IsNamed (xs ++ ys)
-all_joined [] ys h k = k
-all_joined (x ∷ xs) ys h k = (h.0, all_joined xs ys h.1 k)
-
 of_groups : (number : ℕ) (ts : List Tree) (names : List Bytes) (ss : List Source) → AllByRecursion KeysDiffer ts → AreGroups number ts names ss → AllByRecursion IsNamed ss
 of_groups number [] names ss d h = none_named ss h.1
 of_groups number (t ∷ ts) names ss d (name, others, front, later, names_are, are, here, behind) =
-    subst (AllByRecursion IsNamed) (sym are) (all_joined front later (of_group number t name front d.0 here) (of_groups (suc number) ts others later d.1 behind))
+    subst (AllByRecursion IsNamed) (sym are) (all_append IsNamed front later (of_group number t name front d.0 here) (of_groups (suc number) ts others later d.1 behind))
 
 of_file : (given_as : Option Tree) (ss : List Source) → GivenDiffers given_as → AreFileGroups given_as ss → AllByRecursion IsNamed ss
 of_file None ss d h = none_named ss h

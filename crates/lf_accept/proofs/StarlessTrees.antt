@@ -35,6 +35,7 @@ use Rattle.lf_ast.specs.Arguments.{text_at, texts_of}
 use Rattle.lf_semantics.specs.Strings.{replacing}
 use Rattle.lf_ast.specs.Selectors.{metric}
 use Rattle.lf_semantics.specs.Mentions.{Mention, arguments_mentions, call_mentions, effect_mentions, group_names, grouped_mentions, matchers_mentions, mention, modifier_mentions, name_mentions, names_mentions, pattern_texts, stands_first, mentions}
+use Rattle.lf_laws.proofs.Members.{all_append}
 
 -- ---- the label that stands for every other in a report
 
@@ -83,15 +84,11 @@ last_free : (xs : Trees) (e : Tree) → TreesFree xs → TreeFree e → TreesFre
 last_free Nil e h k = (k, tt)
 last_free (Next x xs) e h k = (h.0, last_free xs e h.1 k)
 
-all_push : {A : Type 0} (P : A → Type 0) (xs : List A) (x : A) → AllByRecursion P xs → P x → AllByRecursion P (xs ++ x ∷ [])
-all_push P [] x h k = (k, tt)
-all_push P (y ∷ xs) x h k = (h.0, all_push P xs x h.1 k)
-
 labels_free : {xs : List Name} {ts rest : List Tok} → LabelsAt xs ts rest → AreFree ts → NamesFree xs × AreFree rest
 labels_free G.one_label f = ((f.0, tt), f.1)
 labels_free (G.next_label {c} {w} {xs} {p} l) f =
     let k = labels_free l f in
-    (all_push (λ n. n.text ≢ star) xs (G.name w p) k.0 k.1.1.0, k.1.1.1)
+    (all_append (λ n. n.text ≢ star) xs (G.name w p ∷ []) k.0 (k.1.1.0, tt), k.1.1.1)
 
 names_free : {xs : List Name} {p : Span} {ts rest : List Tok} → NamesAt xs p ts rest → AreFree ts → NamesFree xs × AreFree rest
 names_free G.no_names f = (tt, f.1.1)
@@ -124,7 +121,7 @@ matchers_free : {xs : List Matcher} {ts rest : List Tok} → MatchersAt xs ts re
 matchers_free (G.one_matcher e) f = ((f.0, tt), f.1.1.1)
 matchers_free (G.next_matcher {c} {w} {v} {s} {o} {xs} {p} {q} {r} e l) f =
     let k = matchers_free l f in
-    (all_push (λ m. m.label ≢ star) xs (G.matcher (G.name w p) o v r) k.0 k.1.1.0, k.1.1.1.1.1)
+    (all_append (λ m. m.label ≢ star) xs (G.matcher (G.name w p) o v r ∷ []) k.0 (k.1.1.0, tt), k.1.1.1.1.1)
 
 braces_free : {xs : List Matcher} {c : Span} {ts rest : List Tok} → BracesAt xs c ts rest → AreFree ts → MatchersFree xs × AreFree rest
 braces_free G.no_matchers f = (tt, f.1)

@@ -16,7 +16,6 @@ use Rattle.lf_semantics.specs.Grouped.{SameSignature}
 use Rattle.lf_semantics.specs.Texts.{value_of, with_label}
 use Rattle.lf_semantics.proofs.LabelTexts.{value-with_label}
 use Rattle.lf_semantics.proofs.Written.{asks, between, call, matching, record_rule, selector, selects, sight, unmodified}
-use Rattle.lf_witness.specs.Ascending.{IsAscending}
 use Rattle.lf_witness.specs.Strict.{StrictlyEvaluates}
 use Rattle.lf_witness.specs.StrictRuns.{IsStrictAnswer}
 use Rattle.lf_witness.proofs.AscendingLists.{alone_ascends}

@@ -4,6 +4,7 @@ use Rattle.std.proofs.lemmas.List.{append-nil, at_drop_more, at_drop_all}
 use Rattle.std.specs.List.Sorted.{IsNonDecreasingBy}
 use Rattle.std.specs.Option.{option_and_then}
 use Rattle.std.proofs.Math.Seq.{take-length}
+use Rattle.std.proofs.lemmas.Bool.{cases_order, cases_lt}
 use Rattle.lf_base.specs.declared.kind.Kind.TheVariants.{TooDeep, Syntax}
 use Rattle.lf_base.specs.declared.refusal.Refusal.{Refusal}
 use Rattle.lf_base.specs.declared.refusal.Refusal.TheVariants.{At}
@@ -116,29 +117,17 @@ syntax_told ts k h = go (subst (Tells 0 start ts) h (tells ts 0 start))
 parses_told : (ts : List Token) (e : Tree) → read ts ≡ Ok e → Parses ts e
 parses_told ts e h = sound (map shown ts) e (subst (Tells 0 start ts) h (tells ts 0 start))
 
-le_split : (m n : ℕ) → m ≤ n → (m < n) ⊎ (m ≡ n)
-le_split zero zero h = inr refl
-le_split zero (suc n) h = inl (omega arith)
-le_split (suc m) zero h = absurd (omega arith)
-le_split (suc m) (suc n) h = elim (le_split m n (omega arith)) [ inl l ↦ inl (omega arith) | inr e ↦ inr (omega arith) ]
-
-apart : (m n : ℕ) → (m ≡ n) ⊎ ((m < n) ⊎ (n < m))
-apart zero zero = inl refl
-apart zero (suc n) = inr (inl (omega arith))
-apart (suc m) zero = inr (inr (omega arith))
-apart (suc m) (suc n) = elim (apart m n) [ inl e ↦ inl (omega arith) | inr u ↦ elim u [ inl l ↦ inr (inl (omega arith)) | inr l ↦ inr (inr (omega arith)) ] ]
-
 -- two places are one
 syntax_before : (ts : List Token) (j k : ℕ) → SyntaxAt ts j → SyntaxAt ts k → j < k → ⊥
 syntax_before ts j k a b l = a.here (omega (arith, b.within)) (viable_take (j + 1) k ts (omega arith) b.before)
 
 syntax_once : (ts : List Token) (j k : ℕ) → SyntaxAt ts j → SyntaxAt ts k → j ≡ k
-syntax_once ts j k a b = elim (apart j k) [ inl e ↦ e | inr u ↦ elim u [ inl l ↦ absurd (syntax_before ts j k a b l) | inr l ↦ absurd (syntax_before ts k j b a l) ] ]
+syntax_once ts j k a b = elim (cases_order j k) [ inl e ↦ e | inr u ↦ elim u [ inl l ↦ absurd (syntax_before ts j k a b l) | inr l ↦ absurd (syntax_before ts k j b a l) ] ]
 
 -- no place stands in an expression
 syntax_none : (ts : List Token) (e : Tree) (k : ℕ) → Parses ts e → SyntaxAt ts k → ⊥
 syntax_none ts e k d a =
-    let w : (k < length ts) ⊎ (k ≡ length ts) = le_split k (length ts) a.within in
+    let w : (k < length ts) ⊎ (k ≡ length ts) = elim (cases_lt k (length ts)) [ inl l ↦ inl l | inr e ↦ inr (omega (arith, a.within)) ] in
     elim w [
       | inl l ↦ a.here l (viable_take (k + 1) (length ts) ts (omega arith) (subst IsViable (sym (take-length ts)) (viable_parse ts e d)))
       | inr l ↦ a.end l e d
@@ -154,7 +143,7 @@ deep_before : (ts : List Token) (j k : ℕ) → TooDeepAt ts j → TooDeepAt ts 
 deep_before ts j k a b l = let p = sym a.here ∙ b.before (j + 1) (omega arith) in cc
 
 deep_once : (ts : List Token) (j k : ℕ) → TooDeepAt ts j → TooDeepAt ts k → j ≡ k
-deep_once ts j k a b = elim (apart j k) [ inl e ↦ e | inr u ↦ elim u [ inl l ↦ absurd (deep_before ts j k a b l) | inr l ↦ absurd (deep_before ts k j b a l) ] ]
+deep_once ts j k a b = elim (cases_order j k) [ inl e ↦ e | inr u ↦ elim u [ inl l ↦ absurd (deep_before ts j k a b l) | inr l ↦ absurd (deep_before ts k j b a l) ] ]
 
 deep_bounded : (ts : List Token) (k : ℕ) → TooDeepAt ts k → IsBounded ts → ⊥
 deep_bounded ts k a b = let p = sym a.here ∙ b (k + 1) (omega (arith, a.within)) in cc
@@ -257,9 +246,6 @@ reads_step ts k t s o h i r e =
     let same = ap (λ x. stepped k (map shown (drop (k + 1) ts)) (step s (shown x))) i in
     ap (stepped k (map shown (drop (k + 1) ts))) e ∙ same ∙ sym here ∙ r
 
-pub reads_more : (ts : List Token) (k : ℕ) (t : Token) (s s' : State) → k < length ts → t ≡ get_or ts k t → ReadsFrom ts k s → Some s' ≡ step s (shown t) → ReadsFrom ts (k + 1) s'
-reads_more ts k t s s' h i r e = reads_step ts k t s (Some s') h i r e
-
 pub answer_stuck : (ts : List Token) (end k : ℕ) (t : Token) (s : State) → k < length ts → t ≡ get_or ts k t → ReadsFrom ts k s → None ≡ step s (shown t) → answer ts end ≡ Err (fault Syntax t.span)
 answer_stuck ts end k t s h i r e =
     let here = ap (placed ts end) (reads_step ts k t s None h i r e) in
@@ -268,9 +254,6 @@ answer_stuck ts end k t s h i r e =
 
 reads_end : (ts : List Token) (k : ℕ) (s : State) (o : Option Tree) → length ts ≤ k → ReadsFrom ts k s → o ≡ finish s → at_end k o ≡ reading (map shown ts)
 reads_end ts k s o h r e = ap (at_end k) e ∙ sym (at_drop_all (λ l. reading_from k s (map shown l)) ts k h) ∙ r
-
-pub answer_found : (ts : List Token) (end k : ℕ) (s : State) (e : Tree) → length ts ≤ k → ReadsFrom ts k s → Some e ≡ finish s → answer ts end ≡ Ok e
-answer_found ts end k s e h r i = sym (ap (placed ts end) (reads_end ts k s (Some e) h r i))
 
 pub answer_end : (ts : List Token) (end k : ℕ) (s : State) → length ts ≤ k → ReadsFrom ts k s → None ≡ finish s → answer ts end ≡ Err (fault Syntax (record { start = end; end = end }))
 answer_end ts end k s h r i = sym (ap (λ p. Err (fault Syntax p)) (sym (place_end ts end k h)) ∙ ap (placed ts end) (reads_end ts k s None h r i))

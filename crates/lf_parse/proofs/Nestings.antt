@@ -7,10 +7,6 @@ use Rattle.lf_lex.specs.declared.token.Sign.TheVariants.{OpenParen, CloseParen, 
 use Rattle.lf_parse.specs.Tokens.{Sign, Tok, ◌at◌, shown}
 use Rattle.lf_parse.specs.Depth.{IsBounded, Nesting, TooDeepAt, closed, nested, surface, nesting, is_too_deep}
 
--- within the bounds few operators count
-pub few : (n : Nesting) → is_too_deep n ≡ false → n.here ≤ 100
-few n h = grind (arith, nat_tests)
-
 closed_braces : (ks : List ℕ) (n : Nesting) → (closed ks n).braces ≤ n.braces + 1
 closed_braces [] n = omega arith
 closed_braces (k ∷ ks) n = omega arith

@@ -1,6 +1,6 @@
 -- Going over the text of a plain scalar, to a `:` that can't stand in it.
 use Rattle.std.proofs.Common.{◌≡◌, ◌≢◌, ℕ, zero, suc, ◌+◌, ◌-◌, ◌<◌, ◌≤◌, Bool, true, false, eqb, List, [], ◌∷◌, ◌++◌, Option, Some, length, get_or, take, drop, refl, ap, arith, sym, ◌∙◌, ◌&&◌, eq-eqb, ne_eqb, take-append-drop, length-drop, length-take}
-use Rattle.std.proofs.lemmas.List.{drop-drop}
+use Rattle.std.proofs.lemmas.List.{drop-drop, drop_more}
 use Rattle.std.proofs.Math.Bool.{and-false}
 use Rattle.lf_scalar.specs.Cells.{Cell, cell, cells}
 use Rattle.lf_scalar.specs.Plain.{before_blank}
@@ -11,17 +11,12 @@ use Rattle.lf_yaml.specs.Flow.{colon_in}
 abbrev pub colon_from : ℕ → List ℕ → ℕ → ℕ → Option Cell
 colon_from at text len i = colon_in (cells (at + i) (take (len - i) (drop i text))) (cells (at + len) (drop len text))
 
-drop-get : (i : ℕ) (xs : List ℕ) → i < length xs → drop i xs ≡ get_or xs i 0 ∷ drop (i + 1) xs
-drop-get i [] lt = absurd (omega arith)
-drop-get zero (x ∷ xs) lt = refl
-drop-get (suc i) (x ∷ xs) lt = let z : i + 1 ≡ suc i = omega arith in let w : suc i + 1 ≡ suc (i + 1) = omega arith in drop-get i xs (omega arith) ∙ ap (λ (n : ℕ). get_or xs i 0 ∷ drop n (x ∷ xs)) (sym w)
-
 -- the text from a place on
 text-at : (at len i : ℕ) (text : List ℕ) → i < len → len ≤ length text → cells (at + i) (take (len - i) (drop i text)) ≡ cell (get_or text i 0) (at + i) ∷ cells (at + (i + 1)) (take (len - (i + 1)) (drop (i + 1) text))
 text-at at len i text lt le =
     let n : len - i ≡ suc (len - (i + 1)) = omega arith in
     let z : suc (at + i) ≡ at + (i + 1) = omega arith in
-    ap (λ (m : ℕ). cells (at + i) (take m (drop i text))) n ∙ ap (λ (xs : List ℕ). cells (at + i) (take (suc (len - (i + 1))) xs)) (drop-get i text (omega arith))
+    ap (λ (m : ℕ). cells (at + i) (take m (drop i text))) n ∙ ap (λ (xs : List ℕ). cells (at + i) (take (suc (len - (i + 1))) xs)) (drop_more text i 0 (omega arith))
     ∙ ap (λ (m : ℕ). cell (get_or text i 0) (at + i) ∷ cells m (take (len - (i + 1)) (drop (i + 1) text))) z
 
 -- what follows a place, in the text and behind it

@@ -2,7 +2,7 @@
 use Rattle.std.proofs.Common.{◌≡◌, ℕ, zero, suc, ◌+◌, ◌-◌, ◌<◌, ◌≤◌, Bool, true, false, eqb, List, [], ◌∷◌, length, get_or, take, drop, ap, arith, sym, ◌∙◌, subst, inl, inr, length-drop, length-take, ◌||◌}
 use Rattle.std.specs.Str.{IsCharBoundary, IsUtf8}
 use Rattle.std.proofs.lemmas.Bool.Decides.{eqb_tells}
-use Rattle.std.proofs.lemmas.Bool.{cases_lt, cases_Bool}
+use Rattle.std.proofs.lemmas.Bool.{cases_lt, cases_Bool, false≢true}
 use Rattle.std.proofs.lemmas.List.{get_or-take}
 use Rattle.std.proofs.lemmas.Str.{IsCharBoundary-start, IsCharBoundary-after_ascii, IsUtf8-take, IsUtf8-drop}
 use Rattle.lf_scalar.specs.Cells.{Cell, cell, cells}
@@ -91,10 +91,7 @@ small-or b sign r small later h =
 -- a sign of flow collections
 pub small-sign : (b at : ℕ) → is_flow_sign (cell b at) ≡ true → b < 128
 small-sign b at h =
-    small-or b 44 _ (omega arith) (small-or b 91 _ (omega arith) (small-or b 93 _ (omega arith) (small-or b 123 _ (omega arith) (small-or b 125 _ (omega arith) (small-or b 63 false (omega arith) (λ e. absurd (never e))))))) h
-  where
-    never : false ≡ true → ⊥
-    never e = cc
+    small-or b 44 _ (omega arith) (small-or b 91 _ (omega arith) (small-or b 93 _ (omega arith) (small-or b 123 _ (omega arith) (small-or b 125 _ (omega arith) (small-or b 63 false (omega arith) (λ e. absurd (false≢true e))))))) h
 
 abbrev pub IsSmallAt : List ℕ → ℕ → Type 0
 IsSmallAt text k = k < length text → get_or text k 0 < 128

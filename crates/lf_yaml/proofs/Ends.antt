@@ -2,6 +2,7 @@
 use Rattle.std.proofs.Common.{◌≡◌, ◌≤◌, List, [], ◌∷◌, ◌++◌, length, refl, ap, arith, sym, ◌∙◌, subst, append_assoc, length-append}
 use Rattle.std.specs.List.{AllByRecursion}
 use Rattle.lf_yaml.specs.Rows.{Row}
+use Rattle.lf_laws.proofs.Members.{all_back}
 
 -- some rows end with others
 abbrev pub IsEnd : List Row → List Row → Type 0
@@ -19,10 +20,6 @@ end-trans rs ss ts h k = (h.0 ++ k.0, h.1 ∙ ap (λ (xs : List Row). h.0 ++ xs)
 pub end-length : (rs ss : List Row) → IsEnd rs ss → length ss ≤ length rs
 end-length rs ss h = omega (arith, ap length h.1, length-append h.0 ss)
 
-back-all : (P : Row → Type 0) (front ss : List Row) → AllByRecursion P (front ++ ss) → AllByRecursion P ss
-back-all P [] ss h = h
-back-all P (r ∷ front) ss h = back-all P front ss h.1
-
 -- what holds of all rows holds of the last of them
 pub end-holds : (P : Row → Type 0) (rs ss : List Row) → IsEnd rs ss → AllByRecursion P rs → AllByRecursion P ss
-end-holds P rs ss h all = back-all P h.0 ss (subst (AllByRecursion P) h.1 all)
+end-holds P rs ss h all = all_back P h.0 ss (subst (AllByRecursion P) h.1 all)

@@ -24,12 +24,6 @@ entry-bare r b o lt e g =
     ∙ ap (λ (q : Bool). cond q (bare_head (key_in never before_blank (cells r.at r.text.now))) None) e
     ∙ ap (λ (q : Option Split). cond b (bare_head q) None) g
 
-pub take-within : (n k : ℕ) (xs : List ℕ) → n ≤ k → take n (take k xs) ≡ take n xs
-take-within zero k xs le = refl
-take-within (suc n) zero xs le = absurd (omega arith)
-take-within (suc n) (suc k) [] le = refl
-take-within (suc n) (suc k) (x ∷ xs) le = ap (λ (ys : List ℕ). x ∷ ys) (take-within n k xs (omega arith))
-
 -- the entry that a split makes
 pub head-of-split : (at k len : ℕ) (text : List ℕ) → get_or text k 0 ≡ 58 → trimmed is_blank (cells at (take k text)) ≡ cells at (take len text)
     → bare_head (Some (split_at at text k)) ≡ Some (Bare (cells at (take len text)), cell 58 (at + k), cells (suc (at + k)) (drop (k + 1) text))

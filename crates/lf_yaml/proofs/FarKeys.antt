@@ -3,7 +3,7 @@ use Rattle.std.proofs.Common.{◌≡◌, ℕ, zero, suc, ◌+◌, ◌-◌, ◌<�
 use Rattle.std.specs.Prelude.{nat_lt}
 use Rattle.std.specs.List.{flat_map}
 use Rattle.std.proofs.lemmas.List.Sums.{take_while-cons}
-use Rattle.std.proofs.lemmas.Bool.{lt-ltb, le-ltb}
+use Rattle.std.proofs.lemmas.Bool.{lt-ltb, le-ltb, and_from}
 use Rattle.std.proofs.lemmas.Bool.Decides.{eqb_tells}
 use Rattle.std.proofs.lemmas.Option.{none-some}
 use Rattle.std.proofs.Math.Bool.{and-false}
@@ -143,11 +143,8 @@ pub far-left-out : (r : Row) (kind : Quotes) (c : Closes kind r.rest) (colon : C
     → is_too_far (before_offset colon.at (text_of r)) ≡ true → is_left_out r ≡ true
 far-left-out r kind c colon rest e s b far = rw is-far (or-true (is_property r.first r.rest) (is_mark r) (has_bare_left_out (text_of r)))
   where
-    both : (x y : Bool) → x ≡ true → y ≡ true → (x && y) ≡ true
-    both x y p q = rw (p, q) refl
-
     is-far : has_far_key (text_of r) ≡ true
-    is-far = far-key-is r kind c colon rest e s ∙ both (before_blank rest) (is_too_far (before_offset colon.at (text_of r))) b far
+    is-far = far-key-is r kind c colon rest e s ∙ and_from (before_blank rest) (is_too_far (before_offset colon.at (text_of r))) b far
 
     or-true : (a b d : Bool) → (a || (b || (d || true))) ≡ true
     or-true true b d = refl

@@ -6,6 +6,8 @@ use Rattle.lf_scalar.specs.declared.quotes.Quotes.{Quotes}
 use Rattle.lf_base.specs.declared.fault.Fault.{Fault}
 use Rattle.lf_scalar.specs.Plain.{before_blank}
 use Rattle.std.specs.List.{flat_map}
+use Rattle.std.proofs.lemmas.Option.{same_Some}
+use Rattle.std.proofs.Math.Bool.{or-true}
 use Rattle.lf_scalar.specs.Cells.{Cell, cell, Value, byte_fault, character_fault}
 use Rattle.lf_scalar.specs.Lines.{is_blank, after_blanks, begins_with}
 use Rattle.lf_scalar.specs.Folding.{trimmed}
@@ -43,10 +45,7 @@ key-front c cs x p e = by (is_flow_sign c) (is_blank c && begins_with 35 cs) (ke
     by true b o h = absurd cc
     by false true o h = absurd cc
     by false false None h = absurd cc
-    by false false (Some y) h = (y.0, ap (λ (z : Split). z.0) (sym (some-is (c ∷ y.0, y.1, y.2) x h)))
-      where
-        some-is : (y z : Split) → Some y ≡ Some z → y ≡ z
-        some-is y z e = cc
+    by false false (Some y) h = (y.0, ap (λ (z : Split). z.0) (sym (same_Some (c ∷ y.0, y.1, y.2) x h)))
 
 -- what stands behind a key's sign ends its line
 abbrev joined : Option Split → List Cell
@@ -210,10 +209,6 @@ module _ (bytes : List ℕ) where
   ends-value : (c : Cell) → EndsValue c → (eqb c.byte 44 || eqb c.byte 125) ≡ true
   ends-value c (inl h) = rw (eq-eqb c.byte 44 h) refl
   ends-value c (inr h) = rw (eq-eqb c.byte 125 h) (or-true (eqb c.byte 44))
-    where
-      or-true : (b : Bool) → (b || true) ≡ true
-      or-true true = refl
-      or-true false = refl
 
   ends-told : (c : Cell) → (eqb c.byte 44 || eqb c.byte 125) ≡ true → EndsValue c
   ends-told c h = by (eqb c.byte 44) (eqb c.byte 125) refl refl h

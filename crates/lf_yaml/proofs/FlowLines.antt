@@ -4,7 +4,7 @@ use Rattle.std.specs.Prelude.{take_while}
 use Rattle.std.specs.List.{AllByRecursion, list_all, prefix_len}
 use Rattle.std.specs.Str.{IsCharBoundary}
 use Rattle.std.proofs.lemmas.List.{append-nil, drop-drop}
-use Rattle.std.proofs.lemmas.Bool.{cases_Bool}
+use Rattle.std.proofs.lemmas.Bool.{cases_Bool, false≢true}
 use Rattle.std.proofs.lemmas.Str.{IsCharBoundary-end, IsCharBoundary-before_ascii}
 use Rattle.std.proofs.Math.Seq.{drop-append_seam}
 use Rattle.lf_base.specs.declared.kind.Kind.TheVariants.{NotANode}
@@ -24,6 +24,7 @@ use Rattle.lf_yaml.specs.Flow.{first_line, later_lines, lines_on, line_on, lines
 use Rattle.lf_yaml.specs.reading.Trees.{Folded, before_text, plain_behind, plain_from}
 use Rattle.lf_yaml.proofs.Cuts.{small-sign}
 use Rattle.lf_yaml.proofs.RowsAfter.{get-drop}
+use Rattle.lf_laws.proofs.Members.{all_front, all_back}
 
 -- ---- reading is the definition
 
@@ -155,20 +156,12 @@ behind_back cs = ap (drop (length (flow_text cs))) (flow_front cs).source ∙ dr
 
 -- ---- what holds of a line's cells holds of its text and of what is left
 
-pub all-front : {X : Type 0} (P : X → Type 0) (xs ys : List X) → AllByRecursion P (xs ++ ys) → AllByRecursion P xs
-all-front P [] ys h = tt
-all-front P (x ∷ xs) ys h = (h.0, all-front P xs ys h.1)
-
-pub all-back : {X : Type 0} (P : X → Type 0) (xs ys : List X) → AllByRecursion P (xs ++ ys) → AllByRecursion P ys
-all-back P [] ys h = h
-all-back P (x ∷ xs) ys h = all-back P xs ys h.1
-
 all-left : (P : Cell → Type 0) (l : Line) → AllByRecursion P l.text → AllByRecursion P (line_left l)
 all-left P l h =
     let p = after-blanks-part l.text in
     let f = flow_front (after_blanks l.text) in
-    let after : AllByRecursion P (after_blanks l.text) = all-front P (after_blanks l.text) p.back (all-back P p.front (after_blanks l.text ++ p.back) (subst (AllByRecursion P) p.source h)) in
-    subst (AllByRecursion P) (sym (behind_back (after_blanks l.text))) (all-back P (line_text l) f.back (subst (AllByRecursion P) f.source after))
+    let after : AllByRecursion P (after_blanks l.text) = all_front P (after_blanks l.text) p.back (all_back P p.front (after_blanks l.text ++ p.back) (subst (AllByRecursion P) p.source h)) in
+    subst (AllByRecursion P) (sym (behind_back (after_blanks l.text))) (all_back P (line_text l) f.back (subst (AllByRecursion P) f.source after))
 
 after-rises : (lo hi : ℕ) (l : Line) → Rises lo l.text hi → Rises lo (after_blanks l.text) hi
 after-rises lo hi l r = rises-part lo l.text (after_blanks l.text) hi (after-blanks-part l.text) r
@@ -301,10 +294,7 @@ lines-here bytes at = first-in bytes (lines_on bytes at) (file-lines bytes at)
 
 -- a collection is read on where a character begins
 bare-all : (l : Line) → is_bare l ≡ false → line_left l ≡ [] → ⊥
-bare-all l b e = absurd (never (sym b ∙ ap (list_all is_blank) e))
-  where
-    never : false ≡ true → ⊥
-    never e = cc
+bare-all l b e = absurd (false≢true (sym b ∙ ap (list_all is_blank) e))
 
 break-boundary : (bytes : List ℕ) (l : Line) → LineInFile bytes l → IsCharBoundary bytes l.break
 break-boundary bytes l (h, inl e) = subst (IsCharBoundary bytes) (sym e) (IsCharBoundary-end bytes)

@@ -6,6 +6,7 @@ use Rattle.std.proofs.lemmas.Bool.{cases_lt, cases_Bool}
 use Rattle.std.proofs.lemmas.Bool.Decides.{eqb_tells}
 use Rattle.std.proofs.lemmas.List.{drop_all}
 use Rattle.std.proofs.lemmas.Str.{IsCharBoundary-after_ascii}
+use Rattle.std.proofs.Math.Bool.{or-true}
 use Rattle.lf_base.specs.declared.kind.Kind.TheVariants.{OpenQuote}
 use Rattle.lf_scalar.specs.declared.quotes.Quotes.{Quotes}
 use Rattle.lf_scalar.specs.declared.quotes.Quotes.TheVariants.{Single, Double}
@@ -29,6 +30,7 @@ use Rattle.lf_yaml.specs.Flow.{first_line, later_lines, lines_on, line_on, lines
 use Rattle.lf_yaml.specs.reading.Trees.{quotes_of, Folded, plain_from, Part, plain_part, with_after, quoted_part, part_by, flow_scalar}
 use Rattle.lf_yaml.proofs.FlowLines.{PlainTold, plain-again, plain-breaks, plain-told, plain-within, plain-boundary, InFile, source-in, lines-here, source-rises, lines-rise-here}
 use Rattle.lf_yaml.proofs.HeadLaws.{NoQuote, quotes-is, quotes-view, not-quote, between-view, single_line, BetweenTold, between-tells, between-is, between-breaks}
+use Rattle.lf_laws.proofs.Members.{all_back}
 
 -- ---- the next part stands further on
 
@@ -222,10 +224,6 @@ part-tells bytes c cs =
 pub quote-begins : (c : Cell) (cs : List Cell) (kind : Quotes) → c.byte ≡ quote_of kind → begins_part c cs ≡ true
 quote-begins c cs Single e = rw (eq-eqb c.byte 39 e) refl
 quote-begins c cs Double e = rw (eq-eqb c.byte 34 e) (or-true (eqb c.byte 39))
-  where
-    or-true : (b : Bool) → (b || true) ≡ true
-    or-true true = refl
-    or-true false = refl
 
 pub flow-begins : (c : Cell) (cs : List Cell) → begins_flow c cs ≡ true → begins_part c cs ≡ true
 flow-begins c cs p = by (eqb c.byte 39) (eqb c.byte 34) (begins_flow c cs) p
@@ -263,10 +261,6 @@ scalar-within bytes c cs _ after le (plain {text = text} p l) =
     plain-within (line_on bytes c.at) (lines_below bytes c.at) text after l c.at (length bytes) (lines-rise-here bytes c.at (omega (arith, le)))
 
 -- a character begins there
-all-at : (bytes : List ℕ) (xs : List Cell) (c : Cell) (ys : List Cell) → AllByRecursion (InFile bytes) (xs ++ c ∷ ys) → InFile bytes c
-all-at bytes [] c ys h = h.0
-all-at bytes (x ∷ xs) c ys h = all-at bytes xs c ys h.1
-
 pub ascii-boundary : (bytes : List ℕ) (c : Cell) → IsUtf8 bytes → InFile bytes c → c.byte < 128 → IsCharBoundary bytes (suc c.at)
 ascii-boundary bytes c utf8 h low =
     let z : c.at + 1 ≡ suc c.at = omega arith in
@@ -275,6 +269,6 @@ ascii-boundary bytes c utf8 h low =
 
 pub scalar-boundary : (bytes : List ℕ) (c : Cell) (cs : List Cell) (v : Value) (after : ℕ) → IsUtf8 bytes → FlowScalar bytes c cs v after → IsCharBoundary bytes after
 scalar-boundary bytes c cs _ _ utf8 (quoted kind between e h) =
-    ascii-boundary bytes between.closing utf8 (all-at bytes (flat_map raw between.raws) between.closing between.rest (subst (AllByRecursion (InFile bytes)) between.source (source-in bytes (suc c.at))))
+    ascii-boundary bytes between.closing utf8 (all_back (InFile bytes) (flat_map raw between.raws) (between.closing ∷ between.rest) (subst (AllByRecursion (InFile bytes)) between.source (source-in bytes (suc c.at)))).0
     (quote-low kind between.closing between.closes)
 scalar-boundary bytes c cs _ after utf8 (plain {text = text} p l) = plain-boundary bytes (line_on bytes c.at) (lines_below bytes c.at) text after l (lines-here bytes c.at)

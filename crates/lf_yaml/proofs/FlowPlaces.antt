@@ -3,6 +3,7 @@ use Rattle.std.proofs.Common.{◌≡◌, ℕ, zero, suc, ◌+◌, ◌-◌, ◌<�
 use Rattle.std.specs.Str.{IsCharBoundary, IsUtf8}
 use Rattle.std.proofs.lemmas.List.{drop_all, get_or-take, drop-drop}
 use Rattle.std.proofs.lemmas.Str.{IsCharBoundary-after_ascii, IsUtf8-take, IsUtf8-drop}
+use Rattle.std.proofs.Math.Seq.{take-nil}
 use Rattle.lf_scalar.specs.Cells.{Cell, cell, cells}
 use Rattle.lf_scalar.specs.Lines.{Line, lines, lengthen, first_text}
 use Rattle.lf_scalar.specs.Scalars.{source_at}
@@ -109,16 +110,12 @@ no-rows ls e = ap (λ (ms : List Line). rows_of (later_lines ms)) e
 pub in-nothing : (bytes text : List ℕ) (at next : ℕ) → IsUtf8 text → text ≡ [] → length bytes ≤ at → IsCharBoundary bytes next → next ≡ length bytes → IsIn bytes at text next
 in-nothing bytes text at next utf8 e le start n =
     record {
-      text_is = e ∙ sym (ap (take (length text)) (drop_all at bytes le) ∙ nil (length text));
+      text_is = e ∙ sym (ap (take (length text)) (drop_all at bytes le) ∙ take-nil (length text));
       utf8 = utf8;
       start = start;
       rest = ap (cells at) e ∙ sym (ap (λ (ls : List Line). (first_line (length bytes) ls).text) (nothing-on bytes at le));
       below = rows-past bytes next (omega (arith, n)) ∙ sym (no-rows (lines_on bytes at) (nothing-on bytes at le));
     }
-  where
-    nil : (n : ℕ) → take {A = ℕ} n [] ≡ []
-    nil zero = refl
-    nil (suc n) = refl
 
 -- a row of a later line
 pub row-rest : (bytes : List ℕ) (from at : ℕ) (text part : List ℕ) → from ≤ at → cells from text ≡ (line_on bytes from).text → part ≡ drop (at - from) text → 0 < length part
@@ -146,10 +143,6 @@ behind-byte bytes text at utf8 e full within low =
 pub row-within : (bytes text : List ℕ) (at : ℕ) → text ≡ take (length text) (drop at bytes) → 0 < length text → at < length bytes
 row-within bytes text at e full = by (drop at bytes) refl e
   where
-    nil : (n : ℕ) → take {A = ℕ} n [] ≡ []
-    nil zero = refl
-    nil (suc n) = refl
-
     by : (rest : List ℕ) → drop at bytes ≡ rest → text ≡ take (length text) rest → at < length bytes
-    by [] d h = absurd (omega (arith, full, ap length (h ∙ nil (length text))))
+    by [] d h = absurd (omega (arith, full, ap length (h ∙ take-nil (length text))))
     by (x ∷ xs) d h = omega (arith, ap length d, length-drop at bytes)

@@ -5,10 +5,11 @@ use Rattle.std.specs.List.{flat_map}
 use Rattle.std.proofs.lemmas.List.{get_or-take, drop-drop}
 use Rattle.std.proofs.lemmas.Bool.{eqb-true, cases_Bool}
 use Rattle.std.proofs.lemmas.Str.{IsCharBoundary-after_ascii}
+use Rattle.std.proofs.lemmas.Option.{same_Some}
 use Rattle.lf_scalar.specs.Cells.{Cell, cell, cells, bytes_of}
 use Rattle.lf_scalar.specs.Lines.{is_blank}
 use Rattle.lf_scalar.specs.Quoted.{raw}
-use Rattle.lf_scalar.proofs.Tails.{true-false, some-is}
+use Rattle.lf_scalar.proofs.Tails.{true-false}
 use Rattle.lf_yaml.specs.Rows.{Row, row, text_of, left_of}
 use Rattle.lf_yaml.specs.Heads.{Key, BeginsEntry}
 use Rattle.lf_yaml.specs.Heads as head
@@ -124,7 +125,7 @@ left-at begin at (b ∷ text) left e =
       | inr a ↦ elim (cases_Bool (eqb b 35)) [
         | inl h ↦ none-row left (rw (a, h) at e)
         | inr h ↦
-            let same : row begin (cell b at) (cells (suc at) text) ≡ left = some-is (row begin (cell b at) (cells (suc at) text)) left (rw (a, h) at e) in
+            let same : row begin (cell b at) (cells (suc at) text) ≡ left = same_Some (row begin (cell b at) (cells (suc at) text)) left (rw (a, h) at e) in
             let z : at ≡ at + 0 = omega arith in
             record {
               skipped = 0;

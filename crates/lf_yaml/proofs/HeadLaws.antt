@@ -7,7 +7,7 @@ use Rattle.std.proofs.lemmas.Slice.Eq.{bytes_eq-Decides}
 use Rattle.std.proofs.lemmas.List.Elements.{Contains-append_left, Contains-append_right, Contains-append_cases}
 use Rattle.std.proofs.lemmas.Bool.{cases_Bool}
 use Rattle.std.proofs.lemmas.Option.{none-some}
-use Rattle.std.proofs.Math.Bool.{and-false}
+use Rattle.std.proofs.Math.Bool.{and-false, or-true}
 use Rattle.lf_scalar.specs.declared.quotes.Quotes.{Quotes}
 use Rattle.lf_scalar.specs.declared.quotes.Quotes.TheVariants.{Single, Double}
 use Rattle.lf_base.specs.declared.fault.Fault.{Fault}
@@ -199,10 +199,6 @@ BlockView r = (BeginsBlock r × (begins_block r ≡ true)) ⊎ (BeginsNoBlock r 
 pub begins-block : (r : Row) → BeginsBlock r → begins_block r ≡ true
 begins-block r (inl h) = rw h refl
 begins-block r (inr (k, colon, rest, h)) = rw (entry-is r k colon rest h) (or-true (is_item r))
-  where
-    or-true : (b : Bool) → (b || true) ≡ true
-    or-true true = refl
-    or-true false = refl
 
 pub begins-no-block : (r : Row) → BeginsNoBlock r → begins_block r ≡ false
 begins-no-block r h =

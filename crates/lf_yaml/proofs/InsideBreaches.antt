@@ -3,6 +3,7 @@ use Rattle.std.proofs.Common.{◌≡◌, ℕ, suc, ◌+◌, ◌<◌, ◌≤◌, 
 use Rattle.std.specs.Str.{IsUtf8, IsCharBoundary}
 use Rattle.std.proofs.lemmas.Bool.{and_parts, cases_Bool}
 use Rattle.std.proofs.lemmas.Str.{IsCharBoundary-start, IsCharBoundary-from_rest}
+use Rattle.std.proofs.lemmas.Option.{none-some, same_Some}
 use Rattle.lf_base.specs.declared.kind.Kind.TheVariants.{TooDeep, NotANode}
 use Rattle.lf_base.specs.declared.fault.Fault.{Fault}
 use Rattle.lf_base.specs.Faults.{LiesIn}
@@ -113,30 +114,15 @@ left_entry lo stop r left k colon behind b e row =
 
 -- a tab among the blanks behind an item's sign stands on its line
 tab_lies : (lo : ℕ) (cs : List Cell) (tab : Cell) (hi : ℕ) → tab_in cs ≡ Some tab → Rises lo cs hi → suc tab.at ≤ hi
-tab_lies lo [] tab hi e r = absurd (none e)
-  where
-    some : Cell → Option Cell
-    some c = Some c
-
-    none : None ≡ some tab → ⊥
-    none e = cc
+tab_lies lo [] tab hi e r = absurd (none-some tab e)
 tab_lies lo (c ∷ cs) tab hi e r =
     elim (cases_Bool (eqb c.byte 32)) [
       | inl a ↦ tab_lies (suc c.at) cs tab hi (rw a at e) r.1
       | inr a ↦ elim (cases_Bool (eqb c.byte 9)) [
-        | inl b ↦ (let same : c ≡ tab = is (rw (a, b) at e) in let k : suc c.at ≤ hi = rises-le (suc c.at) cs hi r.1 in omega (arith, k, ap (λ (x : Cell). x.at) same))
-        | inr b ↦ absurd (none (rw (a, b) at e))
+        | inl b ↦ (let same : c ≡ tab = same_Some c tab (rw (a, b) at e) in let k : suc c.at ≤ hi = rises-le (suc c.at) cs hi r.1 in omega (arith, k, ap (λ (x : Cell). x.at) same))
+        | inr b ↦ absurd (none-some tab (rw (a, b) at e))
       ]
     ]
-  where
-    some : Cell → Option Cell
-    some c = Some c
-
-    none : None ≡ some tab → ⊥
-    none e = cc
-
-    is : some c ≡ some tab → c ≡ tab
-    is e = cc
 
 mutual
   node_breach : (bytes : List ℕ) (utf8 : IsUtf8 bytes) (above d lo : ℕ) (r : Row) (rs : List Row) (f : Fault) → NodeBreaks bytes above d r rs f → RowsAt bytes lo r rs → LiesIn (length bytes) f.span

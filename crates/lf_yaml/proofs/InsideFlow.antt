@@ -24,12 +24,13 @@ use Rattle.lf_yaml.specs.Tree.{Tree, Items, Entries}
 use Rattle.lf_yaml.specs.Flow.{first_line, later_lines, lines_on, line_on, lines_below, Next, at_part, broken, on_line, next_part, next_on, is_flow_sign, sign_fault, FlowScalar, FlowScalarBreaks, SequenceIn, SequenceBreaks, FlowKey, NoSign, FlowKeyBreaks, FlowValue, FlowValueBreaks, FlowEntry, MappingIn, MappingBreaks}
 use Rattle.lf_yaml.specs.Flow as flow
 use Rattle.lf_yaml.specs.Insides.{ScalarInside, Inside, ItemsInside, EntriesInside}
-use Rattle.lf_yaml.proofs.FlowLines.{all-front, all-back, InFile, LinesInFile, left-boundary, lines-here, lines-rise-here}
+use Rattle.lf_yaml.proofs.FlowLines.{InFile, LinesInFile, left-boundary, lines-here, lines-rise-here}
 use Rattle.lf_yaml.proofs.FlowKeys.{split-source, key-within}
 use Rattle.lf_yaml.proofs.FlowParts.{part-bounds, part-within, ascii-boundary, scalar-within, scalar-boundary}
 use Rattle.lf_yaml.proofs.InsideRows.{AreRowsIn, rows_low, rows_in, first_lies, indent_lies, source_utf8}
 use Rattle.lf_yaml.proofs.InsideScalars.{LeftIn, split_sign, flow_scalar_in, flow_scalar_lies, flow_key_from, escape_lies, part_lies, no_part_lies, no_sign_lies, empty_inside}
 use Rattle.lf_yaml.proofs.PartPlaces.{first-utf8}
+use Rattle.lf_laws.proofs.Members.{all_front, all_back}
 
 -- ---- the next part: its line's cells are those of the file
 
@@ -45,7 +46,7 @@ row_first : (bytes : List ℕ) (l : Line) (rs : List Row) → AreIn bytes l.text
 row_first bytes l rs are below = by (begins_with 35 (after_spaces l.text)) (after_spaces l.text) rest
   where
     rest : AreIn bytes (after_spaces l.text)
-    rest = let p = after-spaces-part l.text in all-front (InFile bytes) (after_spaces l.text) p.back (all-back (InFile bytes) p.front (after_spaces l.text ++ p.back) (subst (AreIn bytes) p.source are))
+    rest = let p = after-spaces-part l.text in all_front (InFile bytes) (after_spaces l.text) p.back (all_back (InFile bytes) p.front (after_spaces l.text ++ p.back) (subst (AreIn bytes) p.source are))
 
     by : (b : Bool) (cs : List Cell) → AreIn bytes cs → FirstIn bytes (cond b [] (headed (start_of l) cs) ++ rs)
     by true cs h = below
@@ -121,25 +122,21 @@ next_in n blank lo (c ∷ cs) rs h rows =
     ]
 
 -- the sign of a key is a cell of its line
-all_at : (bytes : List ℕ) (xs : List Cell) (c : Cell) (ys : List Cell) → AreIn bytes (xs ++ c ∷ ys) → InFile bytes c
-all_at bytes [] c ys h = h.0
-all_at bytes (x ∷ xs) c ys h = all_at bytes xs c ys h.1
-
 key-cell : (bytes : List ℕ) (c : Cell) (cs : List Cell) (k : Key) (colon : Cell) → FlowKey c cs k colon → AreIn bytes (c ∷ cs) → InFile bytes colon × (colon.byte ≡ 58)
 key-cell bytes c cs _ _ (flow.FlowKey.quoted {rest = rest} {colon = colon} kind between e s near) are =
     let all : AreIn bytes ((flat_map raw between.raws ++ between.closing ∷ []) ++ between.rest) =
     subst (AreIn bytes) (between.source ∙ sym (append_assoc (flat_map raw between.raws) (between.closing ∷ []) between.rest)) are.1 in
-    let behind : AreIn bytes between.rest = all-back (InFile bytes) (flat_map raw between.raws ++ between.closing ∷ []) between.rest all in
+    let behind : AreIn bytes between.rest = all_back (InFile bytes) (flat_map raw between.raws ++ between.closing ∷ []) between.rest all in
     let p = after-blanks-part between.rest in
-    let sign : AreIn bytes (after_blanks between.rest) = all-front (InFile bytes) (after_blanks between.rest) p.back (all-back (InFile bytes) p.front (after_blanks between.rest ++ p.back) (subst (AreIn bytes) p.source behind)) in
+    let sign : AreIn bytes (after_blanks between.rest) = all_front (InFile bytes) (after_blanks between.rest) p.back (all_back (InFile bytes) p.front (after_blanks between.rest ++ p.back) (subst (AreIn bytes) p.source behind)) in
     let cut : AreIn bytes (colon ∷ rest) = subst (AreIn bytes) s.0 sign in
     (cut.0, s.1)
 key-cell bytes c cs _ _ (flow.FlowKey.bare {front = front} {rest = rest} {colon = colon} p e n) are =
-    (all_at bytes (c ∷ front) colon rest (subst (AreIn bytes) (split-source is_flow_sign before_blank (c ∷ cs) (c ∷ front, colon, rest) e) are), split_sign is_flow_sign before_blank (c ∷ cs) (c ∷ front, colon, rest) e)
+    ((all_back (InFile bytes) (c ∷ front) (colon ∷ rest) (subst (AreIn bytes) (split-source is_flow_sign before_blank (c ∷ cs) (c ∷ front, colon, rest) e) are)).0, split_sign is_flow_sign before_blank (c ∷ cs) (c ∷ front, colon, rest) e)
 
 -- so is the quote that closes
 closing-cell : (bytes : List ℕ) (kind : Quotes) (c : Cell) (cs : List Cell) (between : Closes kind cs) → AreIn bytes (c ∷ cs) → InFile bytes between.closing
-closing-cell bytes kind c cs between are = all_at bytes (flat_map raw between.raws) between.closing between.rest (subst (AreIn bytes) between.source are.1)
+closing-cell bytes kind c cs between are = (all_back (InFile bytes) (flat_map raw between.raws) (between.closing ∷ between.rest) (subst (AreIn bytes) between.source are.1)).0
 
 no-sign-boundary : (bytes : List ℕ) (c : Cell) (cs : List Cell) (after : ℕ) → IsUtf8 bytes → NoSign bytes c cs after → AreIn bytes (c ∷ cs) → IsCharBoundary bytes after
 no-sign-boundary bytes c cs _ utf8 (flow.NoSign.quoted kind between v q b none) are = ascii-boundary bytes between.closing utf8 (closing-cell bytes kind c cs between are) (quote-low kind between.closing between.closes)

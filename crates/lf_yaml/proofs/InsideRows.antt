@@ -4,13 +4,14 @@ use Rattle.std.specs.Str.{IsUtf8, IsCharBoundary}
 use Rattle.std.proofs.lemmas.List.{length-drop}
 use Rattle.std.proofs.lemmas.Bool.{cases_Bool}
 use Rattle.std.proofs.lemmas.Str.{IsUtf8-drop}
+use Rattle.std.proofs.lemmas.Option.{none-some, same_Some}
 use Rattle.lf_base.specs.declared.kind.Kind.{Kind}
 use Rattle.lf_base.specs.declared.kind.Kind.TheVariants.{BadIndent, LeftOut, NotANode}
 use Rattle.lf_base.specs.Faults.{LiesIn}
 use Rattle.lf_scalar.specs.Cells.{Cell, cells, character_fault}
 use Rattle.lf_scalar.specs.Lines.{Line, line, lines, begins_with, is_blank, after_spaces}
 use Rattle.lf_scalar.specs.Scalars.{source_at}
-use Rattle.lf_scalar.proofs.Cells.{cells-bytes}
+use Rattle.lf_scalar.proofs.Cells.{cells-bytes, same-cell}
 use Rattle.lf_scalar.proofs.Characters.{character_lies, byte_lies, lies_further}
 use Rattle.lf_scalar.proofs.Parts.{Utf8, part-utf8, utf8-behind, blank-low, after-spaces-part}
 use Rattle.lf_scalar.proofs.Rising.{Rises, LinesRise, rises-le, rises-part, cells-rise, lines-rise}
@@ -39,26 +40,17 @@ row_behind lo stop r h = rises-le (suc r.first.at) r.rest stop h.rises.1
 
 -- what is left of a line behind a sign
 pub left_in : (begin : ℕ) (cs : List Cell) (left : Row) (lo stop : ℕ) → left_of begin cs ≡ Some left → begin ≤ lo → Utf8 cs → Rises lo cs stop → IsRowIn lo stop left
-left_in begin [] left lo stop e le u r = none left e
-  where
-    none : (x : Row) → None ≡ Some x → IsRowIn lo stop x
-    none x e = absurd cc
+left_in begin [] left lo stop e le u r = absurd (none-some left e)
 left_in begin (c ∷ cs) left lo stop e le u r =
     elim (cases_Bool (is_blank c)) [
       | inl a ↦
           let k : IsRowIn (suc c.at) stop left = left_in begin cs left (suc c.at) stop (rw a at e) (omega (arith, le, r.0)) (utf8-behind [] c cs u (blank-low c a)) r.1 in
           row_low (suc c.at) lo stop left (omega (arith, r.0)) k
       | inr a ↦ elim (cases_Bool (eqb c.byte 35)) [
-        | inl b ↦ none left (rw (a, b) at e)
-        | inr b ↦ subst (IsRowIn lo stop) (same (row begin c cs) left (rw (a, b) at e)) (record { low = r.0; begin = omega (arith, le, r.0); rises = (omega arith, r.1); utf8 = u })
+        | inl b ↦ absurd (none-some left (rw (a, b) at e))
+        | inr b ↦ subst (IsRowIn lo stop) (same_Some (row begin c cs) left (rw (a, b) at e)) (record { low = r.0; begin = omega (arith, le, r.0); rises = (omega arith, r.1); utf8 = u })
       ]
     ]
-  where
-    none : (x : Row) → None ≡ Some x → IsRowIn lo stop x
-    none x e = absurd cc
-
-    same : (x y : Row) → Some x ≡ Some y → x ≡ y
-    same x y e = cc
 
 -- ---- what is told of a row
 
@@ -118,11 +110,8 @@ start_before lo (x ∷ text) break c cs e r =
       | inl a ↦
           let k : Rises (suc x.at) (c ∷ cs) break = subst (λ (ys : List Cell). Rises (suc x.at) ys break) (rw a at e) (rises-part (suc x.at) text (after_spaces text) break (after-spaces-part text) r.1) in
           omega (arith, k.0)
-      | inr a ↦ let same : x ≡ c = head x c text cs (rw a at e) in omega (arith, ap (λ (y : Cell). y.at) same)
+      | inr a ↦ let same : x ≡ c = same-cell x c text cs (rw a at e) in omega (arith, ap (λ (y : Cell). y.at) same)
     ]
-  where
-    head : (x c : Cell) (xs cs : List Cell) → x ∷ xs ≡ c ∷ cs → x ≡ c
-    head x c xs cs e = cc
 
 line_rows : (n lo : ℕ) (l : Line) (rs : List Row) → Utf8 l.text → Rises lo l.text l.break → l.break ≤ n → AreRowsIn n (suc l.break) rs → AreRowsIn n lo (content_row l ++ rs)
 line_rows n lo l rs u r le later = by (begins_with 35 (after_spaces l.text)) (after_spaces l.text) refl

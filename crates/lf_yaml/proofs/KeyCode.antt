@@ -1,6 +1,6 @@
 -- Keys of flow mappings, as the code reads them.
 use Rattle.std.proofs.Common.{◌≡◌, ℕ, zero, suc, ◌+◌, ◌≤◌, Bool, true, false, cond, eqb, List, [], ◌∷◌, Option, Some, None, Result, Ok, Err, length, get_or, take, drop, length-take, eq-eqb, refl, ap, arith, sym, ◌∙◌}
-use Rattle.std.proofs.lemmas.List.{drop-drop}
+use Rattle.std.proofs.lemmas.List.{drop-drop, take-take}
 use Rattle.lf_base.specs.declared.fault.Fault.{Fault}
 use Rattle.lf_base.specs.declared.kind.Kind.TheVariants.{LeftOut}
 use Rattle.lf_scalar.specs.Plain.{before_blank}
@@ -14,7 +14,6 @@ use Rattle.lf_yaml.specs.Keys.{is_key_left_out}
 use Rattle.lf_yaml.specs.Flow.{line_on, left_on, next_on, begins_flow, is_flow_sign}
 use Rattle.lf_yaml.specs.views.Signs.{stops_of, split_at}
 use Rattle.lf_yaml.specs.reading.Trees.{Part, after_closing, with_after, quoted_part, between_of, behind_closing, sign_if, sign_behind, Signed, signed, signed_behind, far_sign, no_sign, plain_key, bare_key, flow_key_by}
-use Rattle.lf_yaml.proofs.EntryCode.{take-within}
 
 -- ---- between quotes
 
@@ -107,4 +106,4 @@ module _ (bytes : List ℕ) (c : Cell) (cs : List Cell) (at : ℕ) (text : List 
 pub trimmed-key : (at k len : ℕ) (text front : List ℕ) → front ≡ take k text → len ≤ length front → trimmed is_blank (cells at front) ≡ cells at (take len front) → trimmed is_blank (cells at (take k text)) ≡ cells at (take len text)
 trimmed-key at k len text front e le t =
     let n : len ≤ k = omega (arith, ap length e, length-take k text) in
-    ap (λ (xs : List ℕ). trimmed is_blank (cells at xs)) (sym e) ∙ t ∙ ap (λ (xs : List ℕ). cells at (take len xs)) e ∙ ap (cells at) (take-within len k text n)
+    ap (λ (xs : List ℕ). trimmed is_blank (cells at xs)) (sym e) ∙ t ∙ ap (λ (xs : List ℕ). cells at (take len xs)) e ∙ ap (cells at) (take-take len k text n)

@@ -1,7 +1,7 @@
 -- The next part of a flow collection, as the code finds it: behind the blanks.
 use Rattle.std.proofs.Common.{◌≡◌, ◌≢◌, ℕ, suc, ◌+◌, ◌-◌, ◌<◌, ◌≤◌, Bool, true, false, cond, eqb, ltb, List, [], ◌∷◌, length, get_or, drop, refl, ap, arith, sym, ◌∙◌, length-drop, ◌&&◌, ◌||◌, eq-eqb, ne_eqb, ◌⊎◌, inl, inr}
 use Rattle.std.proofs.lemmas.Bool.{le-ltb, lt-ltb, cases_Bool}
-use Rattle.std.proofs.Math.Bool.{and-false}
+use Rattle.std.proofs.Math.Bool.{and-false, or-true}
 use Rattle.lf_scalar.specs.Cells.{Cell, cell, cells}
 use Rattle.lf_scalar.specs.Lines.{is_blank, after_blanks}
 use Rattle.lf_scalar.proofs.Cells.{cells-length}
@@ -13,10 +13,6 @@ abbrev pub part_after : ℕ → Bool → List Cell → List Row → Next
 part_after end blank [] rs = on_line end rs
 part_after end blank (c ∷ cs) rs = cond (blank && eqb c.byte 35) (on_line end rs) (at_part c cs)
 
-or-true : (b : Bool) → true ≡ (b || true)
-or-true true = refl
-or-true false = refl
-
 or-false : (b : Bool) → b ≡ (b || false)
 or-false true = refl
 or-false false = refl
@@ -26,7 +22,7 @@ unfolding next_part
 next-is end blank [] rs = refl
 next-is end blank (c ∷ cs) rs =
     elim (cases_Bool (is_blank c)) [
-      | inl a ↦ rw a (next-is end true cs rs ∙ ap (λ (b : Bool). part_after end b (after_blanks cs) rs) (or-true blank))
+      | inl a ↦ rw a (next-is end true cs rs ∙ ap (λ (b : Bool). part_after end b (after_blanks cs) rs) (sym (or-true blank)))
       | inr a ↦ rw a (ap (λ (b : Bool). part_after end b (c ∷ cs) rs) (or-false blank))
     ]
 

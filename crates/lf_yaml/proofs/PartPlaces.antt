@@ -1,7 +1,7 @@
 -- Scalars of flow collections in the file, as the code reads them.
 use Rattle.std.proofs.Common.{◌≡◌, ℕ, zero, suc, true, ◌+◌, ◌<◌, ◌≤◌, List, [], ◌∷◌, ◌++◌, Option, Some, None, Result, Ok, Err, length, get_or, take, drop, refl, ap, arith, sym, ◌∙◌, subst, length-drop}
 use Rattle.std.specs.Str.{IsCharBoundary, IsUtf8}
-use Rattle.std.proofs.lemmas.List.{take_all}
+use Rattle.std.proofs.lemmas.List.{take_all, drop_more}
 use Rattle.std.proofs.lemmas.Str.{IsCharBoundary-start, IsCharBoundary-from_rest, IsCharBoundary-after_ascii, IsUtf8-drop}
 use Rattle.lf_base.specs.declared.fault.Fault.{Fault}
 use Rattle.lf_base.specs.Faults.{span}
@@ -125,12 +125,7 @@ module _ (bytes text inside : List ℕ) (at : ℕ) (quote : Quotes) (within : at
   pub inside-is : get_or bytes at 0 ∷ inside ≡ take (length inside + 1) (drop at bytes)
   inside-is =
       let all : take (length inside + 1) (drop at bytes) ≡ drop at bytes = take_all (length inside + 1) (drop at bytes) (omega (arith, inside-length, length-drop at bytes)) in
-      ap (λ (xs : List ℕ). get_or bytes at 0 ∷ xs) rest ∙ sym (drop-get at bytes within) ∙ sym all
-    where
-      drop-get : (i : ℕ) (xs : List ℕ) → i < length xs → drop i xs ≡ get_or xs i 0 ∷ drop (i + 1) xs
-      drop-get i [] lt = absurd (omega arith)
-      drop-get zero (x ∷ xs) lt = refl
-      drop-get (suc i) (x ∷ xs) lt = let z : suc i + 1 ≡ suc (i + 1) = omega arith in drop-get i xs (omega arith) ∙ ap (λ (n : ℕ). get_or xs i 0 ∷ drop n (x ∷ xs)) (sym z)
+      ap (λ (xs : List ℕ). get_or bytes at 0 ∷ xs) rest ∙ sym (drop_more bytes at 0 within) ∙ sym all
 
   pub source-is : source_at bytes (suc at) ≡ cells (at + 1) inside
   source-is = let z : suc at ≡ at + 1 = omega arith in ap (λ (n : ℕ). cells n (drop n bytes)) z ∙ ap (cells (at + 1)) (sym rest)

@@ -3,14 +3,15 @@ use Rattle.std.proofs.Common.{◌≡◌, ℕ, suc, ◌+◌, Bool, true, false, e
 use Rattle.std.specs.List.{AllByRecursion}
 use Rattle.std.proofs.lemmas.Bool.{cases_Bool}
 use Rattle.std.proofs.lemmas.List.{drop-drop}
+use Rattle.std.proofs.lemmas.Option.{same_Some}
 use Rattle.lf_scalar.specs.Cells.{Cell, cell, cells}
 use Rattle.lf_scalar.specs.Lines.{Line, line, lengthen, lines, first_text, begins_with, is_blank, after_spaces}
 use Rattle.lf_scalar.specs.Scalars.{source_at}
 use Rattle.lf_scalar.proofs.LineSteps.{line-step, lines-nil, lines-feed, lines-return, lines-other, first-lengthen}
 use Rattle.lf_scalar.specs.Lines.{start_of}
-use Rattle.lf_scalar.proofs.Tails.{some-is}
 use Rattle.lf_yaml.specs.Rows.{Row, row, text_of, headed, content_row, rows_of, left_of}
 pub use Rattle.lf_yaml.specs.views.Cursor.{IsPlaced}
+use Rattle.lf_laws.proofs.Members.{all_append}
 
 abbrev pub ArePlaced : List ℕ → List Row → Type 0
 ArePlaced bytes rs = AllByRecursion (IsPlaced bytes) rs
@@ -86,7 +87,7 @@ left-suffix begin (c ∷ cs) left e =
       | inr a ↦ elim (cases_Bool (eqb c.byte 35)) [
         | inl b ↦ none-row left (rw (a, b) at e)
         | inr b ↦
-            let same : row begin c cs ≡ left = some-is (row begin c cs) left (rw (a, b) at e) in
+            let same : row begin c cs ≡ left = same_Some (row begin c cs) left (rw (a, b) at e) in
             record { front = []; source = ap text_of same; same_begin = ap (λ (x : Row). x.begin) (sym same) }
       ]
     ]
@@ -172,14 +173,10 @@ row-placed bytes at l h = by (begins_with 35 (after_spaces l.text)) (after_space
     by true cs f = tt
     by false cs f = text cs f
 
-append-placed : (bytes : List ℕ) (rs ss : List Row) → ArePlaced bytes rs → ArePlaced bytes ss → ArePlaced bytes (rs ++ ss)
-append-placed bytes [] ss h k = k
-append-placed bytes (r ∷ rs) ss h k = (h.0, append-placed bytes rs ss h.1 k)
-
 pub rows-placed : (bytes : List ℕ) (at : ℕ) (ls : List Line) → AllStand (length bytes) at (drop at bytes) ls → ArePlaced bytes (rows_of ls)
 unfolding rows_of
 rows-placed bytes at [] h = tt
-rows-placed bytes at (l ∷ ls) h = append-placed bytes (content_row l) (rows_of ls) (row-placed bytes at l h.0) (rows-placed bytes at ls h.1)
+rows-placed bytes at (l ∷ ls) h = all_append (IsPlaced bytes) (content_row l) (rows_of ls) (row-placed bytes at l h.0) (rows-placed bytes at ls h.1)
 
 -- the rows of a file's lines from an offset on
 pub file-placed : (bytes : List ℕ) (at : ℕ) → ArePlaced bytes (rows_of (lines (length bytes) (source_at bytes at)))

@@ -20,7 +20,7 @@ use Rattle.lf_scalar.proofs.LineSteps.{IsOther, lines-other}
 use Rattle.lf_yaml.specs.reading.Trees.{between_of}
 use Rattle.lf_yaml.specs.views.Quoting.{style_of_quotes}
 use Rattle.lf_yaml.proofs.RowsAfter.{drop-of-take, get-drop}
-use Rattle.std.proofs.lemmas.List.{get_or-take}
+use Rattle.std.proofs.lemmas.List.{get_or-take, take-take}
 
 pub gives-reading : {X : Type 0} (view : X → Value) (s : Style) (above end : ℕ) (src : List Cell) (r : Result X Refusal) → begins s (first_text (lines end src)) ≡ true
     → ((v : Value) → IsOfStyle s above end src v → AnswersAs view r (Ok v)) → ((f : Fault) → BreaksStyle s above end src f → AnswersAs view r (Err f)) → AnswersAs view r (reading s above end src)
@@ -37,14 +37,8 @@ pub cut-source : (bytes inside : List ℕ) (at k q : ℕ) → q ∷ inside ≡ t
 cut-source bytes inside at k q e lt =
     let n : (at + k + 2) - at ≡ k + 2 = omega arith in
     let two : k + 2 ≡ suc (k + 1) = omega arith in
-    let a : take (k + 2) (drop at bytes) ≡ take (k + 2) (take (length inside + 1) (drop at bytes)) = sym (within (k + 2) (length inside + 1) (drop at bytes) (omega arith)) in
+    let a : take (k + 2) (drop at bytes) ≡ take (k + 2) (take (length inside + 1) (drop at bytes)) = sym (take-take (k + 2) (length inside + 1) (drop at bytes) (omega arith)) in
     drop-of-take at (at + k + 2) bytes ∙ ap (λ (m : ℕ). take m (drop at bytes)) n ∙ a ∙ ap (take (k + 2)) (sym e) ∙ ap (λ (m : ℕ). take m (q ∷ inside)) two
-  where
-    within : (n m : ℕ) (xs : List ℕ) → n ≤ m → take n (take m xs) ≡ take n xs
-    within zero m xs le = refl
-    within (suc n) zero xs le = absurd (omega arith)
-    within (suc n) (suc m) [] le = refl
-    within (suc n) (suc m) (x ∷ xs) le = ap (λ (ys : List ℕ). x ∷ ys) (within n m xs (omega arith))
 
 no-feed : (kind : Quotes) (q : ℕ) → q ≡ quote_of kind → eqb q 10 ≡ false
 no-feed Single q e = rw e refl

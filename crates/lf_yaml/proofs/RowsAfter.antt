@@ -3,6 +3,7 @@ use Rattle.std.proofs.Common.{◌≡◌, ℕ, zero, suc, ◌+◌, ◌-◌, ◌<�
 use Rattle.std.specs.Str.{IsCharBoundary, IsUtf8}
 use Rattle.std.proofs.lemmas.List.{drop_all, get_or-take, drop-drop}
 use Rattle.std.proofs.lemmas.Str.{IsCharBoundary-after_ascii, IsCharBoundary-end}
+use Rattle.std.proofs.Math.Seq.{take-nil}
 use Rattle.lf_scalar.specs.Cells.{cells}
 use Rattle.lf_scalar.specs.Lines.{Line, line, lines, lines_at}
 use Rattle.lf_scalar.specs.Scalars.{source_at}
@@ -106,10 +107,6 @@ pub drop-of-take : (n k : ℕ) (xs : List ℕ) → drop n (take k xs) ≡ take (
 drop-of-take zero k xs = let z : k - 0 ≡ k = omega arith in ap (λ (m : ℕ). take m xs) (sym z)
 drop-of-take (suc n) zero xs = let z : 0 - suc n ≡ 0 = omega arith in ap (λ (m : ℕ). take m (drop (suc n) xs)) (sym z)
 drop-of-take (suc n) (suc k) [] = let a : take (suc k - suc n) (drop {A = ℕ} (suc n) []) ≡ [] = take-nil (suc k - suc n) in sym a
-  where
-    take-nil : (m : ℕ) → take {A = ℕ} m [] ≡ []
-    take-nil zero = refl
-    take-nil (suc m) = refl
 drop-of-take (suc n) (suc k) (x ∷ xs) = let z : suc k - suc n ≡ k - n = omega arith in drop-of-take n k xs ∙ ap (λ (m : ℕ). take m (drop n xs)) (sym z)
 
 -- a part of a line is a part of the file

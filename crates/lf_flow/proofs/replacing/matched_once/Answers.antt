@@ -25,5 +25,5 @@ returns-in-Some c =
     IfOk-weaker c.classes_in.result
     (λ on. IsSet (length (named_at u label) + 2) (holds passing label) on.items)
     (λ on. IsSet (length (named_at u label) + 2) (may_match u pattern label) on.items)
-    (λ on set. row_matching u label pattern passing on.items c.requires is set)
+    (λ on set. row_matching u label pattern passing on.items c.requires.label is set)
     c.classes_in.ensures
