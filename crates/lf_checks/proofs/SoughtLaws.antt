@@ -1,18 +1,22 @@
 -- What is told of labels that are sought on operands: of one label, of a grouping, of a match and of a whole rule.
-use Rattle.std.proofs.Common.{◌≡◌, ◌↔◌, ◌⊎◌, inl, inr, ℕ, zero, suc, Bool, true, ◌&&◌, List, [], ◌∷◌, map, Some, None, refl, sym, subst, ap, ◌∙◌, IsTrue}
+use Rattle.std.proofs.Common.{◌≡◌, ◌↔◌, ◌⊎◌, inl, inr, ℕ, zero, suc, ◌==◌, Bool, true, false, not, ◌&&◌, List, [], ◌∷◌, length, map, Some, None, refl, sym, subst, ap, ◌∙◌, IsTrue, true≢false}
+use Rattle.std.proofs.Math.Dec.{eqb-suc-zero}
+use Rattle.std.proofs.lemmas.Bool.{or_left, or_right}
+use Rattle.std.specs.Borrow.{Bor}
 use Rattle.std.specs.Prelude.{slice_get}
-use Rattle.std.specs.List.{Contains}
+use Rattle.std.specs.List.{Contains, list_any}
 use Rattle.lf_laws.proofs.Booleans.{and_left, and_right}
 use Rattle.lf_laws.proofs.Slices.{to_map_at}
 use Rattle.lf_laws.proofs.Options.{same_option}
-use Rattle.lf_ast.specs.Types.{is_vector}
-use Rattle.lf_laws.proofs.Members.{none_in}
+use Rattle.lf_ast.specs.Types.{is_vector, names_at}
+use Rattle.lf_laws.proofs.Members.{any_has, map_member, none_in}
 use Rattle.lf_base.specs.declared.place.Span.{Span}
 use Rattle.lf_ast.specs.Functions.{aggregation}
 use Rattle.lf_ast.specs.Labels.{Bytes}
 use Rattle.lf_ast.specs.Rules.{RuleTree}
-use Rattle.lf_ast.specs.Tree.{Aggregate, Binary, Next, Nil, Tree, Trees, list, nodes, parts_of}
+use Rattle.lf_ast.specs.Tree.{Aggregate, Binary, Call, Next, Nil, Number, Paren, Selector, Str, Subquery, Tree, Trees, Unary, list, nodes, parts_of, tree}
 use Rattle.lf_ast.specs.declared.expr.Agg.{Agg}
+use Rattle.lf_ast.specs.declared.expr.Expr.{Expr}
 use Rattle.lf_ast.specs.declared.expr.Group.{Group}
 use Rattle.lf_ast.specs.declared.expr.Group.TheVariants.{One, Left, Right}
 use Rattle.lf_ast.specs.declared.expr.Grouping.{Grouping}
@@ -21,6 +25,7 @@ use Rattle.lf_ast.specs.declared.expr.Matching.{Matching}
 use Rattle.lf_ast.specs.declared.expr.Name.{Name}
 use Rattle.lf_ast.specs.declared.expr.Op.{Op}
 use Rattle.lf_ast.specs.declared.verdict.Finding.{Finding as Row}
+use Rattle.lf_ast.specs.views.Walks.{trees_at}
 use Rattle.lf_semantics.specs.ClassRows.{Sets}
 use Rattle.lf_semantics.specs.Listing.{Listing}
 use Rattle.lf_semantics.specs.Parts.{argument_at, operand_place, type_by_form}
@@ -29,7 +34,7 @@ use Rattle.lf_checks.specs.Finding.{Finding, MatchLabel, finding}
 use Rattle.lf_checks.specs.Judged.{IsImpossible}
 use Rattle.lf_checks.specs.MatchLabel.{IsFound, Seeks, one_side, says_never}
 use Rattle.lf_checks.specs.views.Adding.{Adds, OfSome}
-use Rattle.lf_checks.specs.views.Sought.{IsNever, IsOfMatch, IsOfPart, IsOfRow, for_left, for_right, labels_by}
+use Rattle.lf_checks.specs.views.Sought.{IsNever, IsOfMatch, IsOfPart, IsOfRow, for_left, for_right, labels_by, seeks_labels}
 use Rattle.lf_checks.proofs.Added.{adds_as, adds_none}
 
 -- ---- arguments by their places
@@ -53,6 +58,26 @@ none_of_map f (x ∷ xs) (suc k) e = none_of_map f xs k e
 -- what is told of an expression at a number
 pub told_at : {X : Type 0} (f : Tree → X) (all : List Tree) (groups : List X) (k : ℕ) (x : Tree) (group : X) → groups ≡ map f all → slice_get all k ≡ Some x → slice_get groups k ≡ Some group → group ≡ f x
 told_at f all groups k x group are at is = same_option (slice_get groups k) group (f x) is (ap (λ l. slice_get l k) are ∙ to_map_at f all k x at)
+
+-- ---- a part that seeks a label
+
+is_filled : (names : List Name) (label : Name) → Contains names label → not (length names == 0) ≡ true
+is_filled [] label c = absurd (none_in label c)
+is_filled (name ∷ names) label c = ap not (eqb-suc-zero (length names))
+
+is_seeking : (x : Tree) (label : Name) (operand : Tree) → Seeks x label operand → seeks_labels x ≡ true
+is_seeking (Number text span) label operand seeks = absurd seeks
+is_seeking (Str text span) label operand seeks = absurd seeks
+is_seeking (Selector name matchers sight span) label operand seeks = absurd seeks
+is_seeking (Subquery of sight span) label operand seeks = absurd seeks
+is_seeking (Paren of span) label operand seeks = absurd seeks
+is_seeking (Unary minus of span) label operand seeks = absurd seeks
+is_seeking (Call name args span) label operand seeks = absurd seeks
+is_seeking (Aggregate op Ungrouped args span) label operand seeks = absurd seeks
+is_seeking (Aggregate op (Without labels) args span) label operand seeks = absurd seeks
+is_seeking (Aggregate op (By labels) args span) label operand seeks = is_filled labels label seeks.0
+is_seeking (Binary op m left right span) label operand (_, _, inl (c, side)) = or_left (not (length (names_at m.on) == 0)) (not (length m.include == 0)) (is_filled (names_at m.on) label c)
+is_seeking (Binary op m left right span) label operand (_, _, inr (c, side)) = or_right (not (length (names_at m.on) == 0)) (not (length m.include == 0)) (is_filled m.include label c)
 
 module _ (u : Listing) where
   pub of_label : (row : Sets) (label : Name) (name : Bytes) (never : Bool) (old new : List Row) → name ≡ label.text → IsTrue never ↔ IsImpossible u row name
@@ -160,3 +185,12 @@ module _ (u : Listing) where
 
         from : (f : Finding) → IsFound u env r f → OfSome (IsOfPart u env) (nodes r.expr) f
         from f (x, label, operand, c, seeks, never, e) = (x, c, (label, operand, seeks, (never, e)))
+
+    -- where no part seeks a label nothing is found
+    pub of_none : (r : RuleTree) (parts : List (Bor Expr)) → list_any (λ part. seeks_labels (tree part.now)) parts ≡ false → trees_at parts ≡ nodes r.expr → Adds (IsFound u env r) [] []
+    of_none r parts lacking are = of_rule r [] (adds_none (OfSome (IsOfPart u env) (nodes r.expr)) [] none)
+      where
+        none : (f : Finding) → OfSome (IsOfPart u env) (nodes r.expr) f → ⊥
+        none f (x, c, (label, operand, seeks, never)) =
+            let at = map_member (λ (part : Bor Expr). tree part.now) parts x (subst (λ (xs : List Tree). Contains xs x) (sym are) c) in
+            true≢false (sym (any_has (λ (part : Bor Expr). seeks_labels (tree part.now)) parts at.0 at.1 (ap seeks_labels (sym at.2) ∙ is_seeking x label operand seeks)) ∙ lacking)

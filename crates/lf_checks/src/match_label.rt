@@ -1,7 +1,9 @@
 //! match/label: groupings and matches that name a label which no sample of their operand has.
 //!
-//! The rows of all parts of an expression are made in one walk, and so are their types: the time is linear in the number of parts.
+//! The rows of all parts of an expression are made in one walk, and so are their types: the time is linear in the number of parts. They are made only where some part
+//! seeks a label.
 ghost use Rattle.std.specs.Prelude.{◌≡◌, ◌<◌, ◌∷◌, ◌&&◌, [], List, Some, None, length, map, slice_get, IfOk, IfSome, IfNone, OnOk};
+ghost use Rattle.std.specs.List.{list_any};
 ghost use Rattle.lf_ast.specs.Functions.{aggregation};
 ghost use Rattle.lf_ast.specs.Rules.{rule_tree};
 ghost use Rattle.lf_ast.specs.Tree.{Tree, parts_of, tree, nodes};
@@ -16,7 +18,7 @@ ghost use Rattle.lf_checks.specs.MatchLabel.{IsFound};
 ghost use Rattle.lf_checks.specs.views.Adding.{Adds, OfSome};
 ghost use Rattle.lf_checks.specs.views.Conditions.{condition_of};
 ghost use Rattle.lf_checks.specs.views.Shown.{ListsAlone};
-ghost use Rattle.lf_checks.specs.views.Sought.{IsNever, IsOfMatch, IsOfPart, IsOfRow, IsOfSides, for_left, for_right, labels_by};
+ghost use Rattle.lf_checks.specs.views.Sought.{IsNever, IsOfMatch, IsOfPart, IsOfRow, IsOfSides, for_left, for_right, labels_by, seeks_labels};
 
 use crate::alert_comparison::{Condition, part_conditions};
 use crate::case::Case;
@@ -42,9 +44,48 @@ pub(crate) fn match_label(
     ensures { IfOk result (λ found. ListsAlone (IsFound universe.now env.now (rule_tree rule.now)) found.items) }
 {
     let nodes = nodes_of(alloc, &rule.expr)?;
-    let rows = rows_by_parts(alloc, universe, env, &rule.expr)?;
-    let conditions = conditions_by_parts(alloc, &rule.expr)?;
     let parts = nodes.as_slice();
+    if !any_seeks(parts) {
+        return Ok(Vec::new(alloc));
+    }
+    judge_nodes(alloc, universe, env, &rule.expr, parts)
+}
+
+/// Whether one of these parts seeks a label.
+fn any_seeks(parts: &[&Expr]) -> bool
+    ensures { result ≡ list_any (λ part. seeks_labels (tree part.now)) parts.now }
+{
+    parts.iter().any(|part| seeks_labels(part))
+}
+
+/// Whether a part seeks labels: an aggregation those of `by`, and an operator those of its match.
+fn seeks_labels(part: &Expr) -> bool
+    ensures { result ≡ seeks_labels (tree part.now) }
+{
+    match part {
+        Expr::Aggregate { grouping, .. } => !labels_by(grouping).is_empty(),
+        Expr::Binary { modifier, .. } => {
+            !names_at(&modifier.on).is_empty() || !modifier.include.as_slice().is_empty()
+        }
+        _ => false,
+    }
+}
+
+/// What is told of the labels that an expression and the parts in it seek on their operands, by the rows of all parts.
+fn judge_nodes(
+    alloc: Global,
+    universe: &Universe,
+    env: &Env,
+    expr: &Expr,
+    parts: &[&Expr],
+) -> Result<Vec<Finding>, Memory>
+    requires listing { IsListing universe.now }
+    requires env { IsEnvironment universe.now env.now }
+    requires parts { trees_at parts.now ≡ nodes (tree expr.now) }
+    ensures { IfOk result (λ found. Adds (OfSome (IsOfPart universe.now env.now) (nodes (tree expr.now))) [] found.items) }
+{
+    let rows = rows_by_parts(alloc, universe, env, expr)?;
+    let conditions = conditions_by_parts(alloc, expr)?;
     let parts_rows = rows.as_slice();
     let parts_conditions = conditions.as_slice();
     judge_parts(alloc, universe, parts, parts_rows, parts_conditions)

@@ -1,6 +1,6 @@
 -- What match/label tells of labels that are sought on an operand, by its row, of a match, and of one part of an expression.
-use Rattle.std.specs.Prelude.{◌≡◌, ◌⊎◌, Bool, true, List, []}
-use Rattle.lf_ast.specs.Tree.{Tree}
+use Rattle.std.specs.Prelude.{◌≡◌, ◌⊎◌, ◌==◌, ◌||◌, Bool, true, false, not, List, [], length}
+use Rattle.lf_ast.specs.Tree.{Aggregate, Binary, Tree}
 use Rattle.lf_ast.specs.Types.{names_at}
 use Rattle.lf_ast.specs.declared.expr.Group.{Group}
 use Rattle.lf_ast.specs.declared.expr.Group.TheVariants.{Left, Right}
@@ -21,6 +21,12 @@ abbrev pub labels_by : Grouping → List Name
 labels_by Ungrouped = []
 labels_by (By labels) = labels
 labels_by (Without labels) = []
+
+-- whether labels are named on an operand: in `by`, or in `on` or the list of a group modifier
+abbrev pub seeks_labels : Tree → Bool
+seeks_labels (Aggregate op grouping args span) = not (length (labels_by grouping) == 0)
+seeks_labels (Binary op m left right span) = not (length (names_at m.on) == 0) || not (length m.include == 0)
+seeks_labels _ = false
 
 -- the list of a group modifier, where the left side is the one side, and where the right one is
 abbrev pub for_left : Group → List Name → List Name

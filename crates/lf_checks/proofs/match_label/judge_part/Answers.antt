@@ -4,7 +4,6 @@ use Rattle.lf_laws.proofs.Slices.{of_map_at}
 use Rattle.lf_ast.specs.Tree.{parts_of, tree}
 use Rattle.lf_ast.specs.declared.expr.Expr.{Expr}
 use Rattle.lf_semantics.specs.ClassRows.{HasShape, Sets}
-use Rattle.lf_semantics.specs.Parts.{operand_place}
 use Rattle.lf_semantics.specs.RowTable.{row_of}
 use Rattle.lf_semantics.proofs.NormalizedRows.{row_is}
 use Rattle.lf_checks.specs.views.Adding.{Adds}
