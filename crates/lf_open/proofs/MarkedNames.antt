@@ -116,9 +116,9 @@ module _ (rules : List RuleTree) (of_rule : RuleTree → Bool) (chosen : List Bo
   -- a rule that is read is chosen, or the one that is selected
   read_chosen : (o : Option Bytes) → ReadsPassing o → (k : ℕ) × (r : RuleTree) × IsChosen rules chosen (length rules) k r × SelectsBy rules (o ∷ []) r.name
   read_chosen o (r, there, recording, inl selects, own) =
-      (there.0, r, record { before = there.1; at = (number_of rules r there).2; recording = recording; picked = (by_test there.0 r (number_of rules r there).2).1 (inl own) }, selects)
+      let at = number_of rules r there in (at.0, r, record { before = at.1; at = at.2; recording = recording; picked = (by_test at.0 r at.2).1 (inl own) }, selects)
   read_chosen o (r, there, recording, inr (s, here_too, too, selects, reads), own) =
-      (here_too.0, s, record { before = here_too.1; at = (number_of rules s here_too).2; recording = too; picked = (by_test here_too.0 s (number_of rules s here_too).2).1 (inr (r, there, (recording, reads), own)) }, selects)
+      let at = number_of rules s here_too in (at.0, s, record { before = at.1; at = at.2; recording = too; picked = (by_test at.0 s at.2).1 (inr (r, there, (recording, reads), own)) }, selects)
 
   the_name : (name other : Bytes) → SelectsBy rules (Some name ∷ []) other → name ≡ other
   the_name name other (inl c) = ap (λ (o : Option Bytes). elim o [ None ↦ name | Some z ↦ z ]) (only_one (Some name) (Some other) c)

@@ -23,7 +23,7 @@ use Rattle.lf_open.specs.declared.construct.Construct.TheVariants.{SharedMetric,
 use Rattle.lf_open.specs.declared.open_at.OpenAt.{OpenAt}
 use Rattle.lf_open.specs.declared.ordering.Keyed.{Keyed}
 use Rattle.lf_open.specs.views.InOrder.{AreOfRule, IsInOrder, items_of, keyed, keyed_cmp}
-use Rattle.lf_witness.proofs.Decided.{tied}
+use Rattle.lf_witness.proofs.Decided.{tied as tie}
 
 -- ---- what has the same key and rule is the same
 
@@ -117,7 +117,7 @@ module _ (found : List OpenAt) (sorted : List Keyed) (moved : IsPermutation (map
       by (k, y, below, at, e) = further (from y (k, below, at))
         where
           further : (b : OpenAt) × Contains found b × (y ≡ keyed b) → Contains opens a
-          further (b, cb, is) = tied a b ca cb y (k, below, at) (tied (keyed_cmp (keyed a) y) e) is
+          further (b, cb, is) = tied a b ca cb y (k, below, at) (tie (keyed_cmp (keyed a) y) e) is
 
   only : (a : OpenAt) → Contains opens a → Contains found a
   unfolding opens
