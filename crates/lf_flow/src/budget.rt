@@ -1,4 +1,6 @@
 //! How much a run may spend on its patterns.
+ghost use Rattle.std.specs.Prelude.{◌≡◌, ◌<◌, OnErr, OnOk};
+ghost use Rattle.lf_flow.specs.views.Budget.{TakesTries, TakesWords, most_tries, most_words, tries_of};
 
 use lf_base::Memory;
 
@@ -24,7 +26,9 @@ pub struct PatternBudget {
 
 impl PatternBudget {
     /// The budget of a run.
-    pub fn new() -> PatternBudget {
+    pub fn new() -> PatternBudget
+        ensures { result ≡ record { tries = most_tries; words = most_words } }
+    {
         PatternBudget {
             tries: MOST_TRIES,
             words: MOST_WORDS,
@@ -32,7 +36,11 @@ impl PatternBudget {
     }
 
     /// Takes the tries of a pattern that is read and tried on so many classes. `Memory` where there aren't as many left; then none is taken.
-    pub fn take_tries(&mut self, classes: u32) -> Result<(), Memory> {
+    pub fn take_tries(&mut self, classes: u32) -> Result<(), Memory>
+        ensures taken { OnOk result (TakesTries (tries_of classes) self.old self.new) }
+        ensures refused { OnErr result (self.old.tries < tries_of classes) }
+        ensures kept { OnErr result (self.new ≡ self.old) }
+    {
         let tries = TRIES_OF_READING + u64::from(classes);
         match self.tries.checked_sub(tries) {
             Some(left) => {
@@ -43,8 +51,10 @@ impl PatternBudget {
         }
     }
 
-    /// Takes the words of a plain pattern's row, if there are as many left.
-    pub fn take_words(&mut self, words: u32) -> bool {
+    /// Takes the words of a plain pattern's row, and answers whether there are as many left; if not, none is taken.
+    pub fn take_words(&mut self, words: u32) -> bool
+        ensures { TakesWords words result self.old self.new }
+    {
         match self.words.checked_sub(words) {
             Some(left) => {
                 self.words = left;

@@ -17,7 +17,7 @@ use std::marker::Model;
 /// The most recorded names that numbers of 32 bits tell apart.
 const MOST_NAMES: usize = 4_294_967_295;
 
-/// A row for each recorded name, in the order in which the names come first. Where a name stands is looked up by its hash.
+/// A row for each recorded name, in the order in which the names come first. Where a name stands is looked up in a map.
 #[derive(Drop)]
 pub struct Env {
     names: TextSet,

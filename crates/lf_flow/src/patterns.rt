@@ -1,7 +1,11 @@
 //! Patterns that are matched once, before any row is computed.
-ghost use Rattle.std.specs.Prelude.{◌≡◌, ◌<◌, length, IfOk};
+ghost use Rattle.std.specs.Prelude.{◌≡◌, ◌<◌, ◌+◌, true, false, length, IfOk, OnOk};
+ghost use Rattle.std.specs.Int.{div_ceil};
+ghost use Rattle.lf_semantics.specs.Listing.{class_count, named_at};
+ghost use Rattle.lf_semantics.specs.Passing.{is_plain};
 ghost use Rattle.lf_semantics.specs.PatternBreaches.{takes_pattern};
 ghost use Rattle.lf_classes.specs.views.PatternCache.{passing_row};
+ghost use Rattle.lf_flow.specs.views.Budget.{TakesTries, TakesWords, tries_of};
 
 use crate::budget::PatternBudget;
 use crate::narrowing::narrow_label;
@@ -140,6 +144,9 @@ fn reserve_row(
     pattern: &Text,
 ) -> Result<bool, Memory>
     requires { label < length universe.now.named }
+    ensures plain { is_plain pattern.now ≡ true → IfOk result (λ made. TakesWords (div_ceil (class_count universe.now) 64) made budget.old budget.new) }
+    ensures other { is_plain pattern.now ≡ false → IfOk result (λ made. made ≡ true) }
+    ensures tries { is_plain pattern.now ≡ false → OnOk result (TakesTries (tries_of (length (named_at universe.now label) + 2)) budget.old budget.new) }
 {
     if plain_alternatives(alloc, pattern)?.is_some() {
         return Ok(budget.take_words(universe.class_count().div_ceil(64)));
