@@ -1,14 +1,13 @@
--- Where the universe covers rules, it covers the expression of each, and of an expression that it covers it has the name that a selector says, and the last bucket of `histogram_quantile`.
+-- Of an expression that the universe covers it has the name that a selector says, and the last bucket of `histogram_quantile`.
 use Rattle.std.proofs.Common.{◌≡◌, ◌<◌, Bool, true, false, ◌&&◌, cond, List, [], ◌∷◌, ◌++◌, Option, Some, None, subst, refl}
-use Rattle.std.specs.List.{AllByRecursion, Contains}
+use Rattle.std.specs.List.{AllByRecursion}
 use Rattle.std.specs.Str.{bytes_eq}
 use Rattle.std.proofs.lemmas.Option.{same_Some}
-use Rattle.lf_laws.proofs.Members.{all_front, true_same}
+use Rattle.lf_laws.proofs.Members.{true_same}
 use Rattle.lf_base.specs.declared.place.Span.{Span}
 use Rattle.lf_ast.specs.Arguments.{texts_of}
 use Rattle.lf_ast.specs.Functions.{Signature, function_named}
 use Rattle.lf_ast.specs.Labels.{Bytes}
-use Rattle.lf_ast.specs.Rules.{RuleTree}
 use Rattle.lf_ast.specs.Selectors.{first_equal_name, is_equal, metric, selected_name}
 use Rattle.lf_ast.specs.Tree.{Trees, Selector, Call}
 use Rattle.lf_ast.specs.declared.expr.Matcher.{Matcher}
@@ -18,19 +17,15 @@ use Rattle.lf_ast.specs.declared.expr.Sight.{Sight}
 use Rattle.lf_ast.specs.declared.functions.LabelEffect.{LabelEffect}
 use Rattle.lf_ast.specs.declared.functions.LabelEffect.TheVariants.{HistogramQuantile}
 use Rattle.lf_classes.specs.Limits.{IsWithin}
-use Rattle.lf_semantics.specs.Environments.{Covers, CoversRules, IsKnown}
+use Rattle.lf_semantics.specs.Environments.{Covers}
 use Rattle.lf_semantics.specs.Listing.{Listing, class_of, label_of, other_class}
-use Rattle.lf_semantics.specs.Mentions.{arguments_mentions, effect_mentions, matcher_texts, matchers_mentions, mentions, name_mentions}
+use Rattle.lf_semantics.specs.Mentions.{arguments_mentions, effect_mentions, matcher_texts, matchers_mentions, name_mentions}
 use Rattle.lf_semantics.proofs.Constructs.{AllKnown}
 use Rattle.lf_semantics.proofs.Operands.{call_known}
 use Rattle.lf_candidates.specs.views.ClassTexts.{KnowsBuckets, KnowsName}
 use Rattle.lf_candidates.proofs.Labelled.{metric_number}
 
 module _ (u : Listing) where
-  -- of rules that are covered, a part of the expression of one is
-  pub rule_covered : (rules : List RuleTree) → CoversRules u rules → (r : RuleTree) → Contains rules r → Covers u r.expr
-  rule_covered rules covers r c = all_front (IsKnown u) (mentions r.expr) _ (covers r c)
-
   -- the last bucket
   pub buckets_known : (name : Bytes) (args : Trees) (span : Span) (s : Signature) → function_named name ≡ Some s → s.labels ≡ HistogramQuantile → Covers u (Call name args span) → KnowsBuckets u
   buckets_known name args span s is effect known =

@@ -1,38 +1,49 @@
 -- One mark more, and one mark less.
-use Rattle.std.proofs.Common.{inl, inr, ◌≡◌, ◌<◌, ℕ, Bool, true, false, ◌||◌, List, [], ◌∷◌, ◌++◌, length, reverse, set, get_or, refl, sym, ◌∙◌, ap, subst, eq-eqb, true≢false}
-use Rattle.std.proofs.lemmas.Bool.{cases_eq, cases_lt}
-use Rattle.std.proofs.lemmas.List.{get_or-set_other, get_or-set_same, get_or_past, reverse-append}
-use Rattle.lf_semantics.proofs.Places.{eqb-other}
+use Rattle.std.proofs.Common.{◌≡◌, ℕ, Bool, true, false, ◌||◌, cond, eqb, List, [], ◌∷◌, ◌++◌, reverse, refl, sym, ◌∙◌, ap, subst}
+use Rattle.std.specs.BTreeMap.{is_at}
+use Rattle.std.specs.BTreeSet.{BTreeSet, contains}
+use Rattle.std.specs.Cmp.{unsigned_ties}
+use Rattle.std.specs.Ordering.{nat_cmp}
+use Rattle.std.proofs.lemmas.Bool.{eqb-true}
+use Rattle.std.proofs.lemmas.List.{reverse-append}
+use Rattle.lf_flow.proofs.ClassSets.{eqb-turn}
 use Rattle.lf_trials.specs.Reached.{is_marked}
 use Rattle.lf_built.specs.views.Marked.{AreMarks, IsEachOnce}
 
--- a number is marked or another one
-first_marked : (marks : List ℕ) (k : ℕ) → is_marked (k ∷ marks) k ≡ true
-first_marked marks k = ap (λ (b : Bool). b || is_marked marks k) (eq-eqb k k refl)
+-- a number is another one's equal either way
+same_at : (n k : ℕ) → is_at (nat_cmp n) k ≡ eqb k n
+same_at n k = sym (unsigned_ties n k) ∙ eqb-turn n k
 
-others_marked : (marks : List ℕ) (k n : ℕ) → (k ≡ n → ⊥) → is_marked (n ∷ marks) k ≡ is_marked marks k
-others_marked marks k n other = ap (λ (b : Bool). b || is_marked marks k) (eqb-other k n other)
+or_is : (a b : Bool) → cond a true b ≡ (a || b)
+or_is true b = refl
+or_is false b = refl
 
 -- a mark is put behind the others
-pub put_mark : (numbers more : List ℕ) (old flags : List Bool) (n : ℕ) → AreMarks numbers old → ((k : ℕ) → get_or flags k false ≡ get_or old k false) → n < length flags → is_marked (reverse numbers) n ≡ false → more ≡ numbers ++ n ∷ []
-    → AreMarks more (set flags n true)
-put_mark numbers more old flags n are same less free pushed =
+pub put_mark : (numbers more : List ℕ) (old new : BTreeSet ℕ) (n : ℕ) → AreMarks numbers old → ((k : ℕ) → contains nat_cmp new k ≡ cond (is_at (nat_cmp n) k) true (contains nat_cmp old k)) → is_marked (reverse numbers) n ≡ false
+    → more ≡ numbers ++ n ∷ [] → AreMarks more new
+put_mark numbers more old new n are updates free pushed =
     let marks : reverse more ≡ n ∷ reverse numbers = ap reverse pushed ∙ reverse-append numbers (n ∷ []) in
     record {
       once = subst IsEachOnce (sym marks) (free, are.once);
-      told = λ k. elim (cases_eq k n) [
-        | inl e ↦ subst (λ j. get_or (set flags n true) j false ≡ is_marked (reverse more) j) (sym e) (get_or-set_same flags n true false less ∙ sym (ap (λ (l : List ℕ). is_marked l n) marks ∙ first_marked (reverse numbers) n))
-        | inr other ↦
-            get_or-set_other flags n k true false other ∙ same k ∙ are.told k ∙ sym (ap (λ (l : List ℕ). is_marked l k) marks ∙ others_marked (reverse numbers) k n other)
-      ];
+      told = λ k.
+          updates k
+          ∙ ap (λ (b : Bool). cond b true (contains nat_cmp old k)) (same_at n k)
+          ∙ ap (cond (eqb k n) true) (are.told k)
+          ∙ or_is (eqb k n) (is_marked (reverse numbers) k)
+          ∙ sym (ap (λ (l : List ℕ). is_marked l k) marks);
     }
 
 -- the last mark is taken off
-
-pub last_flag : (numbers front : List ℕ) (flags : List Bool) (n : ℕ) → AreMarks numbers flags → numbers ≡ front ++ n ∷ [] → n < length flags
-last_flag numbers front flags n are popped = elim (cases_lt n (length flags)) [
-  | inl less ↦ less
-  | inr most ↦
-      let marks : reverse numbers ≡ n ∷ reverse front = ap reverse popped ∙ reverse-append front (n ∷ []) in
-      absurd (true≢false (sym (ap (λ (l : List ℕ). is_marked l n) marks ∙ first_marked (reverse front) n) ∙ sym (are.told n) ∙ get_or_past flags n false most))
-]
+pub drop_mark : (numbers front : List ℕ) (old new : BTreeSet ℕ) (n : ℕ) → AreMarks numbers old → ((k : ℕ) → contains nat_cmp new k ≡ cond (is_at (nat_cmp n) k) false (contains nat_cmp old k)) → numbers ≡ front ++ n ∷ [] → AreMarks front new
+drop_mark numbers front old new n are updates popped =
+    let marks : reverse numbers ≡ n ∷ reverse front = ap reverse popped ∙ reverse-append front (n ∷ []) in
+    let once : IsEachOnce (n ∷ reverse front) = subst IsEachOnce marks are.once in
+    let told : (k : ℕ) → contains nat_cmp old k ≡ (eqb k n || is_marked (reverse front) k) = λ k. are.told k ∙ ap (λ (l : List ℕ). is_marked l k) marks in
+    record {
+      once = once.1;
+      told = λ k. updates k ∙ ap (λ (b : Bool). cond b false (contains nat_cmp old k)) (same_at n k) ∙ by k (eqb k n) refl (told k) once.0;
+    }
+  where
+    by : (k : ℕ) (same : Bool) → eqb k n ≡ same → contains nat_cmp old k ≡ (same || is_marked (reverse front) k) → is_marked (reverse front) n ≡ false → cond same false (contains nat_cmp old k) ≡ is_marked (reverse front) k
+    by k true is told free = sym (subst (λ (m : ℕ). is_marked (reverse front) m ≡ false) (sym (eqb-true k n is)) free)
+    by k false is told free = told

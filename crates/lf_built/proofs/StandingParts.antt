@@ -20,8 +20,7 @@ use Rattle.lf_built.specs.views.Indexed.{IsPrepared, env_of, forks_of, trees_of,
 use Rattle.lf_built.specs.views.PartRows.{PartRows, part_rows}
 use Rattle.lf_built.specs.views.Places.{StandsFrom, size}
 use Rattle.lf_built.specs.views.Spots.{IsSpot, tree_at}
-use Rattle.lf_semantics.proofs.PartsCovered.{part_covered}
-use Rattle.lf_built.proofs.KnownNames.{rule_covered}
+use Rattle.lf_semantics.proofs.PartsCovered.{part_covered, rule_covered}
 use Rattle.lf_built.proofs.Places.{part_stands, stands_at, stands_within}
 
 module _ (p : Prepared) (known : IsPrepared p) where

@@ -31,7 +31,7 @@ use std::marker::Model;
 pub struct Built<'a> {
     prepared: &'a Prepared<'a>,
     number: u32,
-    row: Row,
+    row: &'a Row,
     most: usize,
 }
 
@@ -47,7 +47,7 @@ impl<'a> Model for Built<'a> {
 
     ghost view = { λ b. record { universe = universe_of b.prepared.now; env = env_of b.prepared.now; rules = b.prepared.now.rules.now; number = b.number } };
 
-    ghost invariant = { λ b. IsOfRule b.prepared.now b.number b.row b.most };
+    ghost invariant = { λ b. IsOfRule b.prepared.now b.number b.row.now b.most };
 }
 
 impl<'a> Built<'a> {
@@ -64,12 +64,11 @@ impl<'a> Built<'a> {
         requires reach { (r : RuleTree) → slice_get (trees_of prepared.now) i ≡ Some r → IsReach (trees_of prepared.now) r.expr reach.now }
         ensures { IfOk result (λ built. built ≡ record { universe = universe_of prepared.now; env = env_of prepared.now; rules = prepared.now.rules.now; number = i }) }
     {
-        let row = prepared.rule_row(i as usize).copy()?;
         let most = most_selectors(prepared.sources, reach, i)?;
         Ok(Built {
             prepared,
             number: i,
-            row,
+            row: prepared.rule_row(i as usize),
             most,
         })
     }
@@ -79,7 +78,7 @@ impl<'a> Built<'a> {
         requires { label < length self.now.universe.named }
         ensures { IfOk result (AnswersFor (IsBuilt self.now.universe self.now.env (rule_trees self.now.rules) self.now.number (name_at self.now.universe label) presence)) }
     {
-        match first_class_with(self.prepared.universe, &self.row, label, presence) {
+        match first_class_with(self.prepared.universe, self.row, label, presence) {
             Some(class) => {
                 trial_from(alloc, self.prepared, self.number, self.most, label, class)
             },

@@ -1,18 +1,19 @@
 //! The marked rules of a building.
-ghost use Rattle.std.specs.Prelude.{◌≡◌, ◌<◌, ◌++◌, ◌∷◌, [], ℕ, false, length, reverse, slice_index_or, IfNone, IfOk, OnOk};
+ghost use Rattle.std.specs.Prelude.{◌≡◌, ◌++◌, ◌∷◌, [], false, reverse, IfNone, IfOk, OnOk};
 ghost use Rattle.std.specs.Option.{option_to_list};
 ghost use Rattle.lf_trials.specs.Reached.{is_marked};
 
 use lf_base::Memory;
-use lf_graph::one_more;
 use std::alloc::Global;
+use std::collections::BTreeSet;
 use std::marker::Model;
 
-/// The numbers of the marked rules, in the order in which they were marked. Whether a rule is marked is looked up by its number, since as many may be marked as there are rules.
+/// The numbers of the marked rules, in the order in which they were marked. Whether a rule is marked is looked up in a set of them: few are marked in most buildings, and as
+/// many as there are rules may be.
 #[derive(Drop)]
 pub struct Marks {
     numbers: Vec<usize>,
-    flags: Vec<bool>,
+    set: BTreeSet<usize>,
 }
 
 impl Model for Marks {
@@ -23,7 +24,7 @@ impl Model for Marks {
 
     ghost view = { λ m. m.numbers.items };
 
-    ghost invariant = { λ m. AreMarks m.numbers.items m.flags.items };
+    ghost invariant = { λ m. AreMarks m.numbers.items m.set };
 }
 
 impl Marks {
@@ -42,7 +43,7 @@ impl Marks {
     {
         Marks {
             numbers: Vec::new(alloc),
-            flags: Vec::new(alloc),
+            set: BTreeSet::new(alloc),
         }
     }
 
@@ -50,17 +51,19 @@ impl Marks {
     pub fn has(&self, number: usize) -> bool
         ensures { result ≡ is_marked (reverse self.now) number }
     {
-        number < self.flags.len() && self.flags[number]
+        self.set.contains(&number)
     }
 
-    /// Marks a rule that isn't marked. Want of memory where its number is the greatest that there is.
+    /// Marks a rule that isn't marked.
     pub fn put(&mut self, number: usize) -> Result<(), Memory>
         requires { is_marked (reverse self.old) number ≡ false }
         ensures { OnOk result (self.new ≡ self.old ++ number ∷ []) }
     {
-        make_room(&mut self.flags, number)?;
         self.numbers.push(number)?;
-        self.flags[number] = true;
+        if self.set.insert(number).is_err() {
+            let _ = self.numbers.pop();
+            return Err(Memory);
+        }
         Ok(())
     }
 
@@ -71,23 +74,10 @@ impl Marks {
     {
         match self.numbers.pop() {
             Some(number) => {
-                self.flags[number] = false;
+                let _ = self.set.remove(&number);
                 Some(number)
             }
             None => None,
         }
     }
-}
-
-/// Makes a place for the flag of a number, if there is none.
-fn make_room(flags: &mut Vec<bool>, number: usize) -> Result<(), Memory>
-    ensures room { OnOk result (number < length flags.new.items) }
-    ensures same { (k : ℕ) → slice_index_or flags.new.items k false ≡ slice_index_or flags.old.items k false }
-{
-    if number < flags.len() {
-        return Ok(());
-    }
-    let count = one_more(number)?;
-    flags.resize(count, false)?;
-    Ok(())
 }

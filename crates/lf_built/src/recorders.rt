@@ -14,7 +14,7 @@ use lf_graph::Buckets;
 use std::alloc::Global;
 use std::marker::Model;
 
-/// The recorded names, and for each the numbers of the rules that record it, in ascending order. Where a name stands is looked up by its hash.
+/// The recorded names, and for each the numbers of the rules that record it, in ascending order. Where a name stands is looked up in a map.
 #[derive(Drop)]
 pub struct Recorders {
     names: TextSet,

@@ -1,5 +1,5 @@
 -- Lists of findings that grow by the findings that meet a condition.
-use Rattle.std.proofs.Common.{IfOk, OnOk, Result, Ok, Err, ◌≡◌, ◌+◌, ◌<◌, ◌⊎◌, inl, inr, ℕ, List, [], ◌∷◌, ◌++◌, length, take, get_or, refl, sym, subst}
+use Rattle.std.proofs.Common.{◌≡◌, ◌+◌, ◌<◌, ◌⊎◌, inl, inr, ℕ, List, [], ◌∷◌, ◌++◌, length, take, get_or, refl, sym, subst}
 use Rattle.std.proofs.lemmas.List.{map-append, take_more}
 use Rattle.std.proofs.lemmas.List.Elements.{Contains-append_left, Contains-push, Contains-push_cases}
 use Rattle.std.specs.List.{Contains}
@@ -85,13 +85,3 @@ some_more {X} is xs i d old mid new lt a b =
       | inl c ↦ inl (h.0, c, h.2)
       | inr e ↦ inr (subst (λ (x : X). is x f) (sym e) h.2)
     ]
-
--- where there is a value, what follows from what is known of it
-pub on_ok : {X E : Type 0} (P Q : Type 0) (r : Result X E) → (P → Q) → OnOk r P → OnOk r Q
-on_ok P Q (Ok x) go p = go p
-on_ok P Q (Err e) go p = p
-
--- and what follows from what is known of the value
-pub if_ok : {X E : Type 0} {P Q : X → Type 0} (r : Result X E) → ((x : X) → P x → Q x) → IfOk r P → IfOk r Q
-if_ok (Ok x) go p = go x p
-if_ok (Err e) go p = p

@@ -6,6 +6,7 @@ pub mod DuplicateLaws
 pub mod KeyLaws
 pub mod LabelCases
 pub mod Lists
+pub mod MadeRows
 pub mod Nodes
 pub mod OneAnswer
 pub mod OneList

@@ -1,33 +1,38 @@
 //! What is found of a rule.
-ghost use Rattle.std.specs.Prelude.{◌≡◌, ◌<◌, ◌+◌, ◌++◌, List, Some, length, slice_get, IfOk};
-ghost use Rattle.std.specs.List.{Contains};
+ghost use Rattle.std.specs.Prelude.{◌≡◌, ◌<◌, ◌+◌, ◌++◌, List, Some, false, length, map, slice_get, IfNone, IfOk, IfSome};
+ghost use Rattle.std.specs.List.{Contains, list_any};
 ghost use Rattle.std.specs.List.Sorted.{IsNonDecreasing};
 ghost use Rattle.lf_ast.specs.Rules.{RuleTree, rule_tree, rule_trees};
+ghost use Rattle.lf_ast.specs.Tree.{nodes, tree};
 ghost use Rattle.lf_ast.specs.declared.rule.Template.{Template};
+ghost use Rattle.lf_ast.specs.views.Walks.{trees_at};
 ghost use Rattle.lf_semantics.specs.ClassRows.{HasShape};
-ghost use Rattle.lf_semantics.specs.Environments.{IsEnvironment, IsLeast};
+ghost use Rattle.lf_semantics.specs.Environments.{IsEnvironment, IsLeast, rule_row as row_of_rule};
 ghost use Rattle.lf_semantics.specs.Listing.{IsListing};
 ghost use Rattle.lf_checks.specs.AlertTemplate.{HaveSources};
 ghost use Rattle.lf_checks.specs.Files.{File, StandIn};
 ghost use Rattle.lf_checks.specs.Findings.{AreFindingsIn, IsFindingIn};
 ghost use Rattle.lf_checks.specs.views.Checked.{IsOfParts, IsOfRule};
 ghost use Rattle.lf_checks.specs.views.Recorded.{AreOf, AreOfSome};
+ghost use Rattle.lf_semantics.specs.RowTable.{Environment, row_of};
+ghost use Rattle.lf_checks.specs.views.Sought.{seeks_labels};
 ghost use Rattle.lf_checks.specs.views.Shown.{AreNumbered, Lists, ListsAlone, all_shown};
 
 use crate::alert_comparison::{alert_comparison, condition_of};
 use crate::alert_template::alert_template;
 use crate::expr_empty::expr_empty;
 use crate::expr_type::expr_type;
-use crate::match_label::match_label;
+use crate::match_label::{match_label, sought_rows};
 use crate::ordering::in_order;
 use crate::promql_regexp::promql_regexp;
 use crate::rule_dependency::{RecordedNames, rule_dependency};
 use crate::rule_duplicate::{first_rules, rule_duplicate};
 use crate::rule_label::rule_label;
-use lf_ast::{Finding, Rule};
+use lf_ast::walk::nodes_of;
+use lf_ast::{Expr, Finding, Rule};
 use lf_base::{Memory, Seq};
 use lf_classes::{Row, Universe};
-use lf_fix::rule_row;
+use lf_fix::{rule_row, rule_row_by};
 use lf_flow::Env;
 use std::alloc::Global;
 use std::marker::Model;
@@ -104,12 +109,33 @@ impl<'a> Checker<'a> {
         ensures numbers { (files : List File) → IfOk result (λ found. AreNumbered files (rule_trees self.now.rules) i found.items) }
     {
         let rule = self.rules.get(i as usize);
-        let row = rule_row(alloc, self.universe, self.env, rule)?;
+        let nodes = nodes_of(alloc, &rule.expr)?;
+        let exprs = nodes.as_slice();
+        let rows = sought_rows(alloc, self.universe, self.env, rule, exprs)?;
+        let row = own_row(alloc, self.universe, self.env, rule, &rows)?;
         let own = of_rule(alloc, self.universe, &row, rule)?;
-        let parts = of_parts(alloc, self.universe, self.env, &self.recorded, rule)?;
+        let parts = of_parts(alloc, self.universe, &self.recorded, rule, exprs, rows)?;
         let same = rule_duplicate(alloc, self.firsts[i as usize], rule)?;
         let found = both(own, parts)?;
         both(found, same)
+    }
+}
+
+/// The row of a rule, by those of its expression and of all parts in it, if they were made.
+fn own_row(
+    alloc: Global,
+    universe: &Universe,
+    env: &Env,
+    rule: &Rule,
+    rows: &Option<Vec<Row>>,
+) -> Result<Row, Memory>
+    requires env { IsEnvironment universe.now env.now }
+    requires rows { IfSome rows.now (λ all. all.items ≡ map (row_of universe.now env.now) (nodes (rule_tree rule.now).expr)) }
+    ensures { IfOk result (λ row. row ≡ row_of_rule universe.now env.now (rule_tree rule.now)) }
+{
+    match rows {
+        Some(rows) => rule_row_by(alloc, universe, rule, &rows[0]),
+        None => rule_row(alloc, universe, env, rule),
     }
 }
 
@@ -136,22 +162,25 @@ fn of_rule(
     both(four, labels)
 }
 
-/// What is found by the parts of a rule's expression.
+/// What is found by a rule's expression and all parts in it, by their rows where one seeks a label.
 fn of_parts(
     alloc: Global,
     universe: &Universe,
-    env: &Env,
     recorded: &RecordedNames,
     rule: &Rule,
+    exprs: &[&Expr],
+    rows: Option<Vec<Row>>,
 ) -> Result<Vec<Finding>, Memory>
     requires listing { IsListing universe.now }
-    requires env { IsEnvironment universe.now env.now }
     requires recorded { AreOfSome recorded.now }
-    ensures { (rules : List RuleTree) → AreOf rules recorded.now → IfOk result (λ found. ListsAlone (IsOfParts universe.now env.now rules (rule_tree rule.now)) found.items) }
+    requires parts { trees_at exprs.now ≡ nodes (rule_tree rule.now).expr }
+    requires some { IfSome rows (λ all. (env : Environment) × IsEnvironment universe.now env × (all.items ≡ map (row_of universe.now env) (nodes (rule_tree rule.now).expr))) }
+    requires none { IfNone rows (list_any (λ part. seeks_labels (tree part.now)) exprs.now ≡ false) }
+    ensures { (env : Environment) → IfSome rows (λ all. all.items ≡ map (row_of universe.now env) (nodes (rule_tree rule.now).expr)) → (rules : List RuleTree) → AreOf rules recorded.now → IfOk result (λ found. ListsAlone (IsOfParts universe.now env rules (rule_tree rule.now)) found.items) }
 {
-    let dependencies = rule_dependency(alloc, recorded, rule)?;
-    let patterns = promql_regexp(alloc, rule)?;
-    let labels = match_label(alloc, universe, env, rule)?;
+    let dependencies = rule_dependency(alloc, recorded, rule, exprs)?;
+    let patterns = promql_regexp(alloc, rule, exprs)?;
+    let labels = match_label(alloc, universe, rule, exprs, rows)?;
     let two = both(dependencies, patterns)?;
     both(two, labels)
 }

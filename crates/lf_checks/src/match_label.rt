@@ -1,8 +1,8 @@
 //! match/label: groupings and matches that name a label which no sample of their operand has.
 //!
 //! The rows of all parts of an expression are made in one walk, and so are their types: the time is linear in the number of parts. They are made only where some part
-//! seeks a label.
-ghost use Rattle.std.specs.Prelude.{◌≡◌, ◌<◌, ◌∷◌, ◌&&◌, [], List, Some, None, length, map, slice_get, IfOk, IfSome, IfNone, OnOk};
+//! seeks a label, and the row of the rule is taken from them.
+ghost use Rattle.std.specs.Prelude.{◌≡◌, ◌<◌, ◌∷◌, ◌&&◌, [], List, Some, None, false, length, map, slice_get, IfOk, IfSome, IfNone, OnOk};
 ghost use Rattle.std.specs.List.{list_any};
 ghost use Rattle.lf_ast.specs.Functions.{aggregation};
 ghost use Rattle.lf_ast.specs.Rules.{rule_tree};
@@ -24,7 +24,6 @@ use crate::alert_comparison::{Condition, part_conditions};
 use crate::case::Case;
 use crate::judged::is_impossible;
 use crate::telling::tell_if;
-use lf_ast::walk::nodes_of;
 use lf_ast::{Agg, Expr, Finding, Group, Grouping, Matching, Name, Rule, is_vector};
 use lf_base::{Memory, Seq};
 use lf_classes::{Row, Universe};
@@ -32,23 +31,44 @@ use lf_flow::{Env, part_rows};
 use lf_parts::by_parts;
 use std::alloc::Global;
 
-/// What the check finds of a rule, by the rows of operands in the environment.
-pub(crate) fn match_label(
+/// The rows of a rule's expression and of all parts in it, where one of these parts seeks a label. Elsewhere they aren't made.
+pub(crate) fn sought_rows(
     alloc: Global,
     universe: &Universe,
     env: &Env,
     rule: &Rule,
+    parts: &[&Expr],
+) -> Result<Option<Vec<Row>>, Memory>
+    requires env { IsEnvironment universe.now env.now }
+    requires parts { trees_at parts.now ≡ nodes (rule_tree rule.now).expr }
+    ensures some { IfOk result (λ rows. IfSome rows (λ all. all.items ≡ map (row_of universe.now env.now) (nodes (rule_tree rule.now).expr))) }
+    ensures none { IfOk result (λ rows. IfNone rows (list_any (λ part. seeks_labels (tree part.now)) parts.now ≡ false)) }
+{
+    if !any_seeks(parts) {
+        return Ok(None);
+    }
+    let rows = part_rows(alloc, universe, env, &rule.expr)?;
+    Ok(Some(rows))
+}
+
+/// What the check finds of a rule, by the rows of its expression and of all parts in it, which aren't there where no part seeks a label.
+pub(crate) fn match_label(
+    alloc: Global,
+    universe: &Universe,
+    rule: &Rule,
+    parts: &[&Expr],
+    rows: Option<Vec<Row>>,
 ) -> Result<Vec<Finding>, Memory>
     requires listing { IsListing universe.now }
-    requires env { IsEnvironment universe.now env.now }
-    ensures { IfOk result (λ found. ListsAlone (IsFound universe.now env.now (rule_tree rule.now)) found.items) }
+    requires parts { trees_at parts.now ≡ nodes (rule_tree rule.now).expr }
+    requires some { IfSome rows (λ all. (env : Environment) × IsEnvironment universe.now env × (all.items ≡ map (row_of universe.now env) (nodes (rule_tree rule.now).expr))) }
+    requires none { IfNone rows (list_any (λ part. seeks_labels (tree part.now)) parts.now ≡ false) }
+    ensures { (env : Environment) → IfSome rows (λ all. all.items ≡ map (row_of universe.now env) (nodes (rule_tree rule.now).expr)) → IfOk result (λ found. ListsAlone (IsFound universe.now env (rule_tree rule.now)) found.items) }
 {
-    let nodes = nodes_of(alloc, &rule.expr)?;
-    let parts = nodes.as_slice();
-    if !any_seeks(parts) {
-        return Ok(Vec::new(alloc));
+    match rows {
+        Some(rows) => judge_nodes(alloc, universe, &rule.expr, parts, rows),
+        None => Ok(Vec::new(alloc)),
     }
-    judge_nodes(alloc, universe, env, &rule.expr, parts)
 }
 
 /// Whether one of these parts seeks a label.
@@ -75,16 +95,16 @@ fn seeks_labels(part: &Expr) -> bool
 fn judge_nodes(
     alloc: Global,
     universe: &Universe,
-    env: &Env,
     expr: &Expr,
     parts: &[&Expr],
+    rows: Vec<Row>,
 ) -> Result<Vec<Finding>, Memory>
     requires listing { IsListing universe.now }
-    requires env { IsEnvironment universe.now env.now }
     requires parts { trees_at parts.now ≡ nodes (tree expr.now) }
-    ensures { IfOk result (λ found. Adds (OfSome (IsOfPart universe.now env.now) (nodes (tree expr.now))) [] found.items) }
+    requires rows { (env : Environment) × IsEnvironment universe.now env × (rows.items ≡ map (row_of universe.now env) (nodes (tree expr.now))) }
+    ensures { (env : Environment) → rows.items ≡ map (row_of universe.now env) (nodes (tree expr.now)) → IfOk result (λ found. Adds (OfSome (IsOfPart universe.now env) (nodes (tree expr.now))) [] found.items) }
 {
-    let rows = rows_by_parts(alloc, universe, env, expr)?;
+    let rows = by_parts(alloc, expr, rows)?;
     let conditions = conditions_by_parts(alloc, expr)?;
     let parts_rows = rows.as_slice();
     let parts_conditions = conditions.as_slice();
@@ -112,20 +132,6 @@ fn judge_parts(
         judge_part(alloc, universe, part, own_rows, own_conditions, &mut found)?;
     }
     Ok(found)
-}
-
-/// For an expression and each part in it the rows of its own parts.
-fn rows_by_parts(
-    alloc: Global,
-    universe: &Universe,
-    env: &Env,
-    expr: &Expr,
-) -> Result<Vec<Seq<Row>>, Memory>
-    requires { IsEnvironment universe.now env.now }
-    ensures { IfOk result (λ groups. groups.items ≡ map (λ x. map (row_of universe.now env.now) (parts_of x)) (nodes (tree expr.now))) }
-{
-    let rows = part_rows(alloc, universe, env, expr)?;
-    by_parts(alloc, expr, rows)
 }
 
 /// For an expression and each part in it what its own parts are by their form.

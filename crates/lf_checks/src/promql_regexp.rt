@@ -1,7 +1,8 @@
 //! promql/regexp: patterns of matchers that are one plain text, or that anchor themselves.
 ghost use Rattle.std.specs.Prelude.{◌≡◌, ◌⊎◌, ◌↔◌, IsTrue, IfOk, OnOk};
 ghost use Rattle.lf_ast.specs.Rules.{rule_tree};
-ghost use Rattle.lf_ast.specs.Tree.{tree};
+ghost use Rattle.lf_ast.specs.Tree.{nodes, tree};
+ghost use Rattle.lf_ast.specs.views.Walks.{trees_at};
 ghost use Rattle.lf_semantics.specs.PatternBreaches.{takes_pattern};
 ghost use Rattle.lf_checks.specs.PromqlRegexp.{BeginsAnchored, EndsAnchored, IsFound, IsOneText, says_anchored, says_plain};
 ghost use Rattle.lf_checks.specs.views.Adding.{Adds, OfSome};
@@ -10,20 +11,23 @@ ghost use Rattle.lf_checks.specs.views.Shown.{ListsAlone};
 
 use crate::case::Case;
 use crate::telling::tell_if;
-use lf_ast::walk::nodes_of;
 use lf_ast::{Expr, Finding, MatchOp, Matcher, Rule};
 use lf_base::{Memory, Text};
 use lf_pattern::plain_alternatives;
 use std::alloc::Global;
 
-/// What the check finds of a rule.
-pub(crate) fn promql_regexp(alloc: Global, rule: &Rule) -> Result<Vec<Finding>, Memory>
+/// What the check finds of a rule, by its expression and all parts in it.
+pub(crate) fn promql_regexp(
+    alloc: Global,
+    rule: &Rule,
+    parts: &[&Expr],
+) -> Result<Vec<Finding>, Memory>
+    requires { trees_at parts.now ≡ nodes (rule_tree rule.now).expr }
     ensures { IfOk result (λ found. ListsAlone (IsFound (rule_tree rule.now)) found.items) }
 {
     let mut found = Vec::new(alloc);
-    let nodes = nodes_of(alloc, &rule.expr)?;
-    for node in &nodes {
-        judge_part(alloc, node, &mut found)?;
+    for part in parts {
+        judge_part(alloc, part, &mut found)?;
     }
     Ok(found)
 }

@@ -2,7 +2,8 @@
 ghost use Rattle.std.specs.Prelude.{◌≡◌, ◌↔◌, ◌==◌, true, List, IsTrue, IfOk, OnOk};
 ghost use Rattle.std.specs.List.{Contains, list_any};
 ghost use Rattle.lf_ast.specs.Rules.{RuleTree, rule_tree, rule_trees};
-ghost use Rattle.lf_ast.specs.Tree.{tree};
+ghost use Rattle.lf_ast.specs.Tree.{nodes, tree};
+ghost use Rattle.lf_ast.specs.views.Walks.{trees_at};
 ghost use Rattle.lf_deps.specs.Reading.{IsCyclic};
 ghost use Rattle.lf_semantics.specs.Environments.{names_recorded};
 ghost use Rattle.lf_checks.specs.RuleDependency.{IsFound, has_colon};
@@ -12,7 +13,6 @@ ghost use Rattle.lf_checks.specs.views.Shown.{ListsAlone};
 
 use crate::case::Case;
 use crate::telling::tell_if;
-use lf_ast::walk::nodes_of;
 use lf_ast::{Expr, Finding, Rule, selected_name};
 use lf_base::{Memory, Seq, Span, Text};
 use lf_classes::{TextSet, recorded_names};
@@ -58,19 +58,20 @@ impl RecordedNames {
     }
 }
 
-/// What the check finds of a rule, by the recorded names of all rules.
+/// What the check finds of a rule, by its expression and all parts in it, and by the recorded names of all rules.
 pub(crate) fn rule_dependency(
     alloc: Global,
     recorded: &RecordedNames,
     rule: &Rule,
+    parts: &[&Expr],
 ) -> Result<Vec<Finding>, Memory>
-    requires { AreOfSome recorded.now }
+    requires recorded { AreOfSome recorded.now }
+    requires parts { trees_at parts.now ≡ nodes (rule_tree rule.now).expr }
     ensures { (rules : List RuleTree) → AreOf rules recorded.now → IfOk result (λ found. ListsAlone (IsFound rules (rule_tree rule.now)) found.items) }
 {
     let mut found = Vec::new(alloc);
-    let nodes = nodes_of(alloc, &rule.expr)?;
-    for node in &nodes {
-        judge_part(alloc, recorded, node, &mut found)?;
+    for part in parts {
+        judge_part(alloc, recorded, part, &mut found)?;
     }
     Ok(found)
 }

@@ -13,8 +13,8 @@ use lf_base::{Memory, Seq};
 use lf_classes::TextSet;
 use std::alloc::Global;
 
-/// For each rule the number of the first one before it that is the same, if there is one. It takes about as long as the rules are long: each is written out once, and
-/// looked up by its hash. A number that doesn't fit is answered like want of memory.
+/// For each rule the number of the first one before it that is the same, if there is one. Each rule is written out once, and
+/// looked up in a map, so it takes about as long as the rules are long, times the logarithm of their number. A number that doesn't fit is answered like want of memory.
 pub(crate) fn first_rules(alloc: Global, rules: &Seq<Rule>) -> Result<Vec<Option<u32>>, Memory>
     ensures { IfOk result (λ firsts. AreFirsts (rule_trees rules.now) firsts.items) }
 {

@@ -11,7 +11,7 @@ ghost use Rattle.lf_strict.specs.views.Paired.{ManyPairs};
 use crate::becoming::made_apart;
 use crate::partners::{Paired, indexed};
 use crate::sets::{difference, intersection, union};
-use crate::signature::matched;
+use crate::signature::{are_apart, matched};
 use lf_ast::{Group, LabelSet, Matching, Op};
 use lf_base::{Memory, Seq};
 use std::alloc::Global;
@@ -89,9 +89,11 @@ fn one_to_one(
     requires right { IsAscending right.now }
     ensures { IfOk result (InOrder (StrictPairs op matching.now left.now right.now)) }
 {
-    match indexed(alloc, matching, left.as_slice())? {
-        None => Ok(None),
-        Some(_) => many_to_one(alloc, op, matching, left, right),
+    let apart = are_apart(alloc, matching, left)?;
+    if apart {
+        many_to_one(alloc, op, matching, left, right)
+    } else {
+        Ok(None)
     }
 }
 

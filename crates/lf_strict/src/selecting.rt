@@ -37,20 +37,24 @@ pub fn passing_each(
     ensures { IfOk result (λ passed. passed.items ≡ passing matchers.now kept.items) }
 {
     for matcher in matchers {
-        kept = passing(alloc, matcher, kept.as_slice())?;
+        kept = passing(alloc, matcher, kept)?;
     }
     Ok(kept)
 }
 
 /// The samples that pass a matcher.
-fn passing(alloc: Global, matcher: &Matcher, samples: &[LabelSet]) -> Result<Vec<LabelSet>, Memory>
-    ensures { IfOk result (λ kept. kept.items ≡ filter (passes_by matcher.now) samples.now) }
+fn passing(
+    alloc: Global,
+    matcher: &Matcher,
+    samples: Vec<LabelSet>,
+) -> Result<Vec<LabelSet>, Memory>
+    ensures { IfOk result (λ kept. kept.items ≡ filter (passes_by matcher.now) samples.items) }
 {
     match matcher.op {
-        MatchOp::Equal => compared(alloc, matcher, samples, true),
-        MatchOp::NotEqual => compared(alloc, matcher, samples, false),
-        MatchOp::Matches => tried(alloc, matcher, samples, true),
-        MatchOp::NotMatches => tried(alloc, matcher, samples, false),
+        MatchOp::Equal => Ok(compared(matcher, samples, true)),
+        MatchOp::NotEqual => Ok(compared(matcher, samples, false)),
+        MatchOp::Matches => tried(alloc, matcher, samples.as_slice(), true),
+        MatchOp::NotMatches => tried(alloc, matcher, samples.as_slice(), false),
     }
 }
 
@@ -87,25 +91,22 @@ pub fn text_of<'a>(sample: &'a LabelSet, label: &str) -> &'a str
     }
 }
 
-/// The samples whose text is the matcher's, or whose text isn't.
-fn compared(
-    alloc: Global,
-    matcher: &Matcher,
-    samples: &[LabelSet],
-    wanted: bool,
-) -> Result<Vec<LabelSet>, Memory>
-    ensures { IfOk result (λ kept. kept.items ≡ filter (λ s. as_wanted wanted (bytes_eq (value_of s matcher.now.label) matcher.now.value)) samples.now) }
+/// The samples whose text is the matcher's, or whose text isn't. The others are taken out.
+fn compared(matcher: &Matcher, mut samples: Vec<LabelSet>, wanted: bool) -> Vec<LabelSet>
+    ensures { result.items ≡ filter (λ s. as_wanted wanted (bytes_eq (value_of s matcher.now.label) matcher.now.value)) samples.items }
 {
-    let mut kept = Vec::new(alloc);
-    for sample in samples {
-        if as_wanted(
-            wanted,
-            text_of(sample, matcher.label.as_str()) == matcher.value.as_str(),
-        ) {
-            kept.push(sample.copy()?)?;
-        }
-    }
-    Ok(kept)
+    samples.retain(|sample| is_compared(matcher, sample, wanted));
+    samples
+}
+
+/// Whether the text of a sample is the matcher's, or isn't.
+fn is_compared(matcher: &Matcher, sample: &LabelSet, wanted: bool) -> bool
+    ensures { result ≡ as_wanted wanted (bytes_eq (value_of sample.now matcher.now.label) matcher.now.value) }
+{
+    as_wanted(
+        wanted,
+        text_of(sample, matcher.label.as_str()) == matcher.value.as_str(),
+    )
 }
 
 /// An answer as it is, or turned round where the other is wanted.

@@ -10,10 +10,10 @@ ghost use Rattle.lf_semantics.specs.Texts.{HasTexts, restricted};
 ghost use Rattle.lf_witness.specs.Ascending.{IsAscending};
 ghost use Rattle.lf_witness.specs.Strict.{IsSet};
 ghost use Rattle.lf_witness.specs.StrictRuns.{InOrder};
-ghost use Rattle.lf_strict.specs.views.Signed.{is_one_of, is_signed};
+ghost use Rattle.lf_strict.specs.views.Signed.{TellsApart, is_one_of, is_signed};
 
 use crate::apart::together;
-use crate::becoming::{Becoming, made_together};
+use crate::becoming::{Becoming, made_apart, made_together};
 use crate::choosing::SignatureLabels;
 use lf_ast::{LabelSet, Matching};
 use lf_base::{Memory, Seq};
@@ -35,6 +35,19 @@ impl<'a> Becoming for Signed<'a> {
         let matching = self.matching;
         sample.kept(&SignatureLabels { matching })
     }
+}
+
+/// Whether no two of the samples have equal signatures.
+pub fn are_apart(
+    alloc: Global,
+    matching: &Matching,
+    samples: &Seq<LabelSet>,
+) -> Result<bool, Memory>
+    requires { IsAscending samples.now }
+    ensures { IfOk result (TellsApart matching.now samples.now) }
+{
+    let made = made_apart(alloc, &Signed { matching }, samples)?;
+    Ok(made.is_some())
 }
 
 /// The left samples that have a partner on the right, in ascending order.

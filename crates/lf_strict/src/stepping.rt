@@ -20,7 +20,7 @@ pub fn step(alloc: Global, store: &mut Store, rule: &Rule) -> Result<bool, Memor
 {
     match added(alloc, store, rule)? {
         Some(samples) => {
-            store.add(alloc, samples.as_slice())?;
+            store.take(alloc, samples)?;
             Ok(true)
         }
         None => Ok(false),

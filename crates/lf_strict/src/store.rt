@@ -69,6 +69,16 @@ impl Store {
         Ok(())
     }
 
+    /// Puts samples among the others, of which equal ones count once, without copying them. It may have put some where it fails.
+    pub fn take(&mut self, alloc: Global, mut samples: Seq<LabelSet>) -> Result<(), Memory>
+        ensures { OnOk result (AreSame (self.old ++ samples) self.new) }
+    {
+        while let Some(sample) = samples.pop() {
+            self.put(alloc, sample)?;
+        }
+        Ok(())
+    }
+
     /// Puts a sample among those of its name, unless it is there.
     fn put(&mut self, alloc: Global, sample: LabelSet) -> Result<(), Memory>
         ensures { OnOk result (AreSame (self.old ++ sample ∷ []) self.new) }

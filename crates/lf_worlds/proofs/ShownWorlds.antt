@@ -1,6 +1,7 @@
 -- What trials show, step by step.
 use Rattle.std.proofs.Common.{◌≡◌, inl, inr, ℕ, Bool, true, List, length, Option, Some, None, is_some, refl, sym, ap, ◌∙◌, subst, true≢false, slice_get}
-use Rattle.lf_laws.proofs.Options.{same_option, the_same}
+use Rattle.std.proofs.lemmas.Option.{same_Some}
+use Rattle.lf_laws.proofs.Options.{same_option}
 use Rattle.lf_ast.specs.Labels.{Bytes, Labels}
 use Rattle.lf_ast.specs.Rules.{RuleTree}
 use Rattle.lf_semantics.specs.Listing.{Listing}
@@ -24,7 +25,7 @@ module _ (rules : List RuleTree) (i : ℕ) (r : RuleTree) (at : slice_get rules 
   given_is_shown stored is (Some s) given = record { rule = r; is_rule = at; stored = stored; is_stored = is; samples = given.0; are_samples = given.1; is_sample = given.2 }
   given_is_shown stored is None none = λ s shows.
       let same : shows.rule ≡ r = same_option (slice_get rules i) shows.rule r shows.is_rule at in
-      let run : shows.stored ≡ stored = the_same shows.stored stored (one_run_answer trial.series (rules_at rules trial.steps) (Some shows.stored) (Some stored) shows.is_stored is) in
+      let run : shows.stored ≡ stored = same_Some shows.stored stored (one_run_answer trial.series (rules_at rules trial.steps) (Some shows.stored) (Some stored) shows.is_stored is) in
       let over : IsRuleAnswer stored r (Some shows.samples) =
       subst (λ (W : List Labels). IsRuleAnswer W r (Some shows.samples)) run (subst (λ (q : RuleTree). IsRuleAnswer shows.stored q (Some shows.samples)) same shows.are_samples) in
       true≢false (sym (ap is_some (sym (none shows.samples over) ∙ shows.is_sample)))
@@ -45,7 +46,7 @@ module _ (stored : List Labels) (r : RuleTree) (evaluated : is_evaluated (type_b
       where
         by : (o : Option Labels) → first_with label presence samples ≡ o → IsGiven stored r label presence o
         by (Some s) there = (samples, rule_answer (Some samples) is, there)
-        by None there = λ other gives. ap (first_with label presence) (the_same other samples (one_rule_answer stored r (Some other) (Some samples) gives (rule_answer (Some samples) is))) ∙ there
+        by None there = λ other gives. ap (first_with label presence) (same_Some other samples (one_rule_answer stored r (Some other) (Some samples) gives (rule_answer (Some samples) is))) ∙ there
 
     pub none_is_given : IsStrictAnswer stored r.expr None → IsGiven stored r label presence None
     none_is_given is = λ other gives. absurd (true≢false (sym (ap is_some (one_rule_answer stored r None (Some other) (rule_answer None is) gives))))

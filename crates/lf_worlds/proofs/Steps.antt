@@ -3,8 +3,7 @@ use Rattle.std.proofs.Common.{◌≡◌, ◌<◌, inl, inr, ℕ, zero, suc, ◌+
 use Rattle.std.specs.List.{Contains}
 use Rattle.std.specs.Str.{bytes_eq}
 use Rattle.std.proofs.lemmas.List.Elements.{Contains-append_cases}
-use Rattle.std.proofs.lemmas.Option.{slice_get_within}
-use Rattle.lf_laws.proofs.Options.{the_same}
+use Rattle.std.proofs.lemmas.Option.{slice_get_within, same_Some}
 use Rattle.lf_laws.proofs.Members.{none_in, of_flat_map, only_one}
 use Rattle.lf_ast.specs.Functions.{Signature, aggregation, function_named}
 use Rattle.lf_ast.specs.Labels.{Bytes}
@@ -38,7 +37,7 @@ first_within test k [] found e = absurd (true≢false (sym (ap is_some e)))
 first_within test k (r ∷ rules) found e = by (test k r) e (first_within test (suc k) rules found)
   where
     by : (b : Bool) → cond b (Some (k, r)) (first_rule test (suc k) rules) ≡ Some found → (first_rule test (suc k) rules ≡ Some found → found.0 < suc k + length rules) → found.0 < k + suc (length rules)
-    by true same later = let is : k ≡ found.0 = ap (λ (x : ℕ × RuleTree). x.0) (the_same (k, r) found same) in omega (arith, is)
+    by true same later = let is : k ≡ found.0 = ap (λ (x : ℕ × RuleTree). x.0) (same_Some (k, r) found same) in omega (arith, is)
     by false same later = let h = later same in omega (arith, h)
 
 module _ (u : Listing) (env : Environment) (rules : List RuleTree) where

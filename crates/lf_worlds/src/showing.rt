@@ -1,7 +1,6 @@
 //! What a trial shows.
-ghost use Rattle.std.specs.Prelude.{◌≡◌, ◌<◌, ℕ, true, length, IfOk};
-ghost use Rattle.std.specs.List.{Contains, find};
-ghost use Rattle.std.specs.Option.{option_copied};
+ghost use Rattle.std.specs.Prelude.{◌≡◌, ◌<◌, ℕ, cond, length, IfOk, Some};
+ghost use Rattle.std.specs.List.{Contains};
 ghost use Rattle.lf_ast.specs.Rules.{rule_trees};
 ghost use Rattle.lf_semantics.specs.Texts.{value_of};
 ghost use Rattle.lf_trials.specs.Candidates.{has_presence};
@@ -78,29 +77,34 @@ fn sample_of(
 {
     let rule = rules.get(i as usize);
     match strict_after(alloc, &trial.series, rules, &trial.steps, &rule.expr)? {
-        Some(samples) => copy_of(first_with(samples.as_slice(), label.as_str(), presence)),
+        Some(samples) => Ok(first_with(samples, label.as_str(), presence)),
         None => Ok(None),
     }
 }
 
-/// The first sample with a presence of a label.
-fn first_with<'a>(samples: &'a [LabelSet], label: &str, presence: bool) -> Option<&'a LabelSet>
-    ensures { option_copied result ≡ first_with label.now presence samples.entry.now }
+/// The first sample with a presence of a label, taken out of the samples, which are gone through from the last one on.
+fn first_with(mut samples: Seq<LabelSet>, label: &str, presence: bool) -> Option<LabelSet>
+    ensures { result ≡ first_with label.now presence samples }
 {
-    for sample in samples {
-        if sample.get(label).is_some() == presence {
-            return Some(sample);
-        }
+    let mut first = None;
+    while let Some(sample) = samples.pop() {
+        first = this_or(sample, label, presence, first);
     }
-    None
+    first
 }
 
-/// An equal one.
-fn copy_of(sample: Option<&LabelSet>) -> Result<Option<LabelSet>, Memory>
-    ensures { IfOk result (λ copied. copied ≡ option_copied sample.entry) }
+/// A sample where it has a presence of a label, and else what there was before.
+fn this_or(
+    sample: LabelSet,
+    label: &str,
+    presence: bool,
+    before: Option<LabelSet>,
+) -> Option<LabelSet>
+    ensures { result ≡ cond (has_presence presence (value_of sample label.now)) (Some sample) before }
 {
-    match sample {
-        Some(sample) => Ok(Some(sample.copy()?)),
-        None => Ok(None),
+    if sample.get(label).is_some() == presence {
+        Some(sample)
+    } else {
+        before
     }
 }

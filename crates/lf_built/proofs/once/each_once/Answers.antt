@@ -1,11 +1,11 @@
-use Rattle.std.proofs.Common.{◌≡◌, ◌<◌, ◌+◌, ℕ, suc, Bool, true, false, not, ◌||◌, cond, List, [], ◌∷◌, ◌++◌, length, take, refl, sym, ◌∙◌, ap, arith}
+use Rattle.std.proofs.Common.{◌≡◌, ◌<◌, ◌+◌, ℕ, suc, Bool, true, false, not, ◌||◌, cond, List, [], ◌∷◌, ◌++◌, length, take, refl, sym, ◌∙◌, ap, subst, arith}
 use Rattle.std.specs.BTreeSet.{contains}
 use Rattle.std.specs.Ordering.{is_eq}
 use Rattle.std.proofs.Math.Seq.{take-suc}
 use Rattle.lf_ast.specs.LabelOrder.{labels_cmp}
 use Rattle.lf_ast.specs.Labels.{Labels}
 use Rattle.lf_trials.specs.Building.{each_once}
-use Rattle.lf_built.proofs.EachOnce.{either_way, few_once, is_in, one_more_in, one_more_once, when_new}
+use Rattle.lf_built.proofs.EachOnce.{either_way, is_in, one_more_in, one_more_once, when_new}
 use Rattle.lf_built.proofs.once.each_once.Goals as goal
 
 or_is : (b x : Bool) → cond b true x ≡ (b || x)
@@ -39,5 +39,5 @@ loop-series-preserved c =
           ∙ ap (λ (l : List Labels). is_in l t) (sym next);
     }
 
-pub returns-then-len-lt2 : goal.returns-then-len-lt2
-returns-then-len-lt2 c = c.from_vec.ensures ∙ few_once c.args.all.items (omega (arith, c.if-len-lt2.true, c.len.ensures, c.args.all.ok))
+pub returns-then-stand_once : goal.returns-then-stand_once
+returns-then-stand_once c = c.from_vec.ensures ∙ subst (λ (l : List Labels). l ≡ each_once l) c.as_slice.ensures.value (c.stand_once.ensures c.if-stand_once.true)

@@ -13,9 +13,8 @@ use Rattle.lf_checks.proofs.Lists.{alone_both}
 use Rattle.lf_checks.proofs.checker.of_parts.Goals as goal
 
 pub returns : goal.returns
-returns c rules are =
+returns c env rows rules are =
     let u = c.args.universe.now in
-    let env = c.args.env.now in
     let r = rule_tree c.args.rule.now in
     let A : Finding → Type 0 = rule_dependency.IsFound rules r in
     let B : Finding → Type 0 = promql_regexp.IsFound r in
@@ -24,4 +23,4 @@ returns c rules are =
     let more : List Row = c.in_ok-labels.labels.items in
     let first = alone_both A B c.in_ok-dependencies.dependencies.items c.in_ok-patterns.patterns.items two (c.in_ok-dependencies.ensures rules are) c.in_ok-patterns.ensures c.in_ok-two.ensures in
     IfOk-weaker c.both-2.result (λ all. all.items ≡ two ++ more) (λ all. ListsAlone (IsOfParts u env rules r) all.items)
-    (λ all e. alone_both (λ f. A f ⊎ B f) C two more all.items first c.in_ok-labels.ensures e) c.both-2.ensures
+    (λ all e. alone_both (λ f. A f ⊎ B f) C two more all.items first (c.in_ok-labels.ensures env rows) e) c.both-2.ensures

@@ -1,5 +1,6 @@
 use Rattle.std.proofs.Common.{sym, ◌∙◌, true≢false}
-use Rattle.lf_checks.proofs.Added.{adds_as, adds_none, on_ok}
+use Rattle.std.proofs.lemmas.Result.{on_ok_weaker}
+use Rattle.lf_checks.proofs.Added.{adds_as, adds_none}
 use Rattle.lf_checks.proofs.match_label.judge_match.Goals as goal
 
 pub returns-then-not-vectors : goal.returns-then-not-vectors
@@ -7,6 +8,6 @@ returns-then-not-vectors c = adds_none _ c.args.found.now.items (λ f h. true≢
 
 pub returns : goal.returns
 returns c =
-    on_ok _ _ c.judge_sides.result
+    on_ok_weaker c.judge_sides.result
     (λ a. adds_as _ _ c.args.found.now.items c.judge_sides.new.found.items a (λ f h. (c.if-not-vectors.false, h)) (λ f h. h.1))
     c.judge_sides.ensures

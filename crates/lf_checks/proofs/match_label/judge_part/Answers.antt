@@ -9,7 +9,7 @@ use Rattle.lf_semantics.proofs.NormalizedRows.{row_is}
 use Rattle.lf_checks.specs.views.Adding.{Adds}
 use Rattle.lf_checks.specs.views.Conditions.{condition_of}
 use Rattle.lf_checks.specs.views.Sought.{IsOfMatch, IsOfPart, IsOfRow, labels_by}
-use Rattle.lf_checks.proofs.Added.{on_ok}
+use Rattle.std.proofs.lemmas.Result.{on_ok_weaker}
 use Rattle.lf_checks.proofs.SoughtLaws.{none_of_map, of_grouping, of_match, of_no_operand}
 use Rattle.lf_checks.proofs.match_label.judge_part.Goals as goal
 
@@ -31,7 +31,7 @@ returns-in-Some c = λ env are.
     let place = c.operand_place.result in
     let row = c.in-Some.row.now in
     let x = of_map_at (row_of u env) (parts_of (tree c.args.part.now)) place row (ap (λ (l : List Sets). slice_get l place) (sym are) ∙ c.in-Some.ensures.some) in
-    on_ok _ _ c.judge_operand.result
+    on_ok_weaker c.judge_operand.result
     (λ a. of_grouping u env (tree c.args.part.now) c.in-Aggregate.op grouping _ c.in-Aggregate.span x.0 place old new (ap tree c.in-Aggregate.is) c.operand_place.ensures x.1
     (subst (λ (r : Sets). Adds (IsOfRow u r (labels_by grouping) []) old new) (sym x.2) (subst (λ names. Adds (IsOfRow u row names []) old new) c.labels_by.ensures a)))
     c.judge_operand.ensures
@@ -76,7 +76,7 @@ returns-in-Binary c = λ env are.
     let forms = c.requires.conditions ∙ ap (λ (e : Expr). map condition_of (parts_of (tree e))) c.in-Binary.is in
     let one_is = c.index-rows-0.is ∙ ap (λ (l : List Sets). get_or l 0 one) sides in
     let other_is = c.index-rows-1.is ∙ ap (λ (l : List Sets). get_or l 1 other) sides in
-    on_ok _ _ c.judge_match.result
+    on_ok_weaker c.judge_match.result
     (λ a. subst (λ e. Adds (IsOfPart u env (tree e)) old new) (sym c.in-Binary.is)
     (of_match u env c.in-Binary.op m left right c.in-Binary.span vectors old new (c.are_vectors-vectors.ensures left right forms)
     (subst (λ (r : Sets). Adds (IsOfMatch u vectors m r (row_of u env right)) old new) one_is

@@ -1,7 +1,4 @@
-use Rattle.std.proofs.Common.{◌∙◌, List, [], ap, subst}
-use Rattle.std.specs.Borrow.{Bor}
-use Rattle.lf_ast.specs.declared.expr.Expr.{Expr}
-use Rattle.lf_ast.specs.views.Walks.{trees_at}
+use Rattle.std.proofs.Common.{[], subst}
 use Rattle.lf_ast.specs.Rules.{rule_tree}
 use Rattle.lf_ast.specs.Tree.{tree}
 use Rattle.lf_checks.specs.PromqlRegexp.{IsFound}
@@ -12,13 +9,13 @@ use Rattle.lf_checks.proofs.Nodes.{of_each}
 use Rattle.lf_checks.proofs.PatternLaws.{of_parts}
 use Rattle.lf_checks.proofs.promql_regexp.promql_regexp.Goals as goal
 
-pub loop-node-preserved : goal.loop-node-preserved
-loop-node-preserved c =
-    some_more (λ x. IsOfPart (tree x.now)) c.deref-node-items.result.now c.loop-node.node-index c.node-item.result [] c.loop-node.found.items c.judge_part.new.found.items c.loop-node-test.true c.loop-node.invariant
-    (subst (λ x. Adds (IsOfPart (tree x.now)) c.loop-node.found.items c.judge_part.new.found.items) c.node-item.is c.in_ok-judge_part.ensures)
+pub loop-part-preserved : goal.loop-part-preserved
+loop-part-preserved c =
+    some_more (λ x. IsOfPart (tree x.now)) c.args.parts.now c.loop-part.part-index c.part-item.result [] c.loop-part.found.items c.judge_part.new.found.items c.loop-part-test.true c.loop-part.invariant
+    (subst (λ x. Adds (IsOfPart (tree x.now)) c.loop-part.found.items c.judge_part.new.found.items) c.part-item.is c.in_ok-judge_part.ensures)
 
 pub returns : goal.returns
 returns c =
-    let e = tree c.args.rule.now.expr in
-    adds_all (IsFound (rule_tree c.args.rule.now)) c.loop-node.found.items (of_parts (rule_tree c.args.rule.now) c.loop-node.found.items
-    (of_each IsOfPart c.deref-node-items.result.now e c.loop-node.node-index [] c.loop-node.found.items (ap (λ (l : List (Bor Expr)). trees_at l) c.deref-node-items.ensures.value ∙ c.in_ok-nodes.ensures) c.loop-node-test.false c.loop-node.invariant))
+    let r = rule_tree c.args.rule.now in
+    adds_all (IsFound r) c.loop-part.found.items (of_parts r c.loop-part.found.items
+    (of_each IsOfPart c.args.parts.now r.expr c.loop-part.part-index [] c.loop-part.found.items c.requires c.loop-part-test.false c.loop-part.invariant))

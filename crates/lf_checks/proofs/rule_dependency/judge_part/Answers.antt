@@ -3,7 +3,7 @@ use Rattle.lf_ast.specs.Selectors.{selected_name}
 use Rattle.lf_ast.specs.Tree.{tree}
 use Rattle.lf_checks.specs.views.Adding.{Adds}
 use Rattle.lf_checks.specs.views.Recorded.{IsOfSelector}
-use Rattle.lf_checks.proofs.Added.{on_ok}
+use Rattle.std.proofs.lemmas.Result.{on_ok_weaker}
 use Rattle.lf_checks.proofs.RecordedLaws.{of_nameless, of_selector}
 use Rattle.lf_checks.proofs.rule_dependency.judge_part.Goals as goal
 
@@ -13,7 +13,7 @@ returns-in-Some c rules are =
     let new = c.judge_name.new.found.items in
     let s = c.in-Selector in
     let is = subst (λ matchers. selected_name s.name matchers ≡ Some c.in-Some.name.now) c.as_slice.ensures (sym c.in-Some.ensures) in
-    on_ok _ _ c.judge_name.result
+    on_ok_weaker c.judge_name.result
     (λ a. subst (λ e. Adds (IsOfSelector rules (tree e)) old new) (sym s.is) (of_selector rules s.name s.matchers s.sight s.span c.in-Some.name.now old new is a))
     (c.judge_name.ensures rules are)
 

@@ -5,5 +5,5 @@ use Rattle.lf_checks.specs.views.Adding.{Adds, OfSome}
 use Rattle.lf_checks.specs.views.Recorded.{AreOf, IsOfSelector}
 use Rattle.lf_checks.proofs.rule_dependency.rule_dependency.Given as goal
 
-abbrev pub invariant-loop-node : goal.invariant-loop-node
-invariant-loop-node l = (rules : List RuleTree) → AreOf rules l.recorded → Adds (OfSome (λ x. IsOfSelector rules (tree x.now)) (take l.node-index l.node-items)) [] l.found.items
+abbrev pub invariant-loop-part : goal.invariant-loop-part
+invariant-loop-part l = (rules : List RuleTree) → AreOf rules l.recorded → Adds (OfSome (λ x. IsOfSelector rules (tree x.now)) (take l.part-index l.parts)) [] l.found.items

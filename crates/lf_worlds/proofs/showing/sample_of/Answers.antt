@@ -1,7 +1,5 @@
-use Rattle.std.proofs.Common.{◌≡◌, List, None, Option, Some, ap₂, sym, ◌∙◌, subst, slice_get}
+use Rattle.std.proofs.Common.{◌≡◌, List, None, Option, Some, ap, sym, ◌∙◌, subst, slice_get}
 use Rattle.std.specs.List.{Contains}
-use Rattle.std.specs.Option.{option_copied}
-use Rattle.std.proofs.lemmas.Result.{IfOk-weaker}
 use Rattle.lf_ast.specs.Labels.{Bytes, Labels}
 use Rattle.lf_ast.specs.Rules.{RuleTree, rule_tree, rule_trees}
 use Rattle.lf_deps.proofs.RuleTrees.{tree_at}
@@ -33,9 +31,8 @@ returns-in-Some c =
     let inner : Trial = record { series = c.trial.inside.series; steps = c.trial.inside.steps } in
     let answer : IsAnswerAfter inner.series (strict.rules_at trees inner.steps) r.expr (Some samples) = subst (IsAnswerAfter inner.series (strict.rules_at trees inner.steps) r.expr) c.in-Some.is c.in_ok-samples.ensures in
     let shown = some_after trees c.args.i r at (c.requires.evaluated r at) label presence c.args.trial.now samples (behind trees r inner c.args.trial.now (Some samples) c.trial.view_is answer) in
-    let first : option_copied c.first_with.result ≡ first_with label presence samples = c.first_with.ensures ∙ ap₂ (λ (n : Bytes) (l : List Labels). first_with n presence l) c.as_str.ensures c.as_slice.ensures in
-    IfOk-weaker c.copy_of.result (λ copied. copied ≡ option_copied c.first_with.result) (IsSampleShown trees c.args.i label presence c.args.trial.now)
-    (λ copied same. subst (IsSampleShown trees c.args.i label presence c.args.trial.now) (sym (same ∙ first)) shown) c.copy_of.ensures
+    let first : c.first_with.result ≡ first_with label presence samples = c.first_with.ensures ∙ ap (λ (n : Bytes). first_with n presence samples) c.as_str.ensures in
+    subst (IsSampleShown trees c.args.i label presence c.args.trial.now) (sym first) shown
 
 pub returns-in-None : goal.returns-in-None
 returns-in-None c =

@@ -1,4 +1,4 @@
-use Rattle.std.proofs.Common.{◌<◌, sym, ◌∙◌, subst}
+use Rattle.std.proofs.Common.{◌<◌, sym, subst}
 use Rattle.std.proofs.lemmas.List.{length-map}
 use Rattle.lf_laws.proofs.Slices.{some_at}
 use Rattle.lf_ast.specs.Rules.{rule_tree}
@@ -18,6 +18,6 @@ invariant_of-result c =
       is_rule = own.1;
       reach = c.args.reach.now;
       is_reach = c.requires.reach own.0 own.1;
-      is_row = c.in_ok-row.ensures ∙ c.rule_row.ensures own.0 own.1;
+      is_row = c.rule_row.ensures own.0 own.1;
       is_most = c.in_ok-most.ensures (trees_of p) c.requires.prepared.sources;
     }

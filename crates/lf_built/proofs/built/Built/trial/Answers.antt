@@ -38,4 +38,4 @@ returns-in-Some c =
     let text = text_at u c.args.label c.in-Some.class in
     subst (λ (v : OfRule). IfOk c.trial_from.result (AnswersFor (IsBuilt v.universe v.env (rule_trees v.rules) v.number (name_at v.universe c.args.label) c.args.presence))) c.self.view_is
     (IfOk-weaker c.trial_from.result (IsTrialOf c.self.inside.most (begun_of p i of.rule (giving label text nothing_given))) (AnswersFor (IsBuilt u (env_of p) (trees_of p) i label c.args.presence))
-    (told p i c.self.inside.row c.self.inside.most of label c.args.presence text (sym c.in-Some.ensures.candidate)) (c.trial_from.ensures of.rule of.is_rule))
+    (told p i c.self.inside.row.now c.self.inside.most of label c.args.presence text (sym c.in-Some.ensures.candidate)) (c.trial_from.ensures of.rule of.is_rule))

@@ -26,7 +26,7 @@ of_rule-requires-clause-shape c =
     let u : Listing = c.self.inside.universe.now in
     let ok = subst (λ (v : Checked). IsEnvironment v.universe v.env) (sym c.self.view_is) c.requires.env in
     let listing : IsListing u = c.self.invariant.0 in
-    subst (λ (row : Sets). HasShape u row) (sym c.in_ok-row.ensures.row) (rule_row_is u listing c.self.inside.env.now ok (rule_tree c.get-rule.result.now)).0
+    subst (λ (row : Sets). HasShape u row) (sym c.in_ok-row.ensures) (rule_row_is u listing c.self.inside.env.now ok (rule_tree c.get-rule.result.now)).0
 
 pub of_rule-requires-clause-sources : goal.of_rule-requires-clause-sources
 of_rule-requires-clause-sources c t k =
@@ -66,13 +66,14 @@ returns-clause-findings c =
     (λ all e files stand.
     let here = subst (λ (v : Checked). StandIn files (rule_trees v.rules)) (sym c.self.view_is) stand in
     subst (λ (v : Checked). Lists files (rule_trees v.rules) (IsFindingIn files v.universe (rule_trees v.rules) v.env i) all.items) c.self.view_is
-    (of_three files u trees env i r at c.in_ok-row.row c.in_ok-row.ensures.row c.in_ok-own.own.items c.in_ok-parts.parts.items same two all.items c.in_ok-own.ensures
-    (c.in_ok-parts.ensures trees c.self.invariant.1) (c.in_ok-same.ensures.findings files trees i here at first) c.in_ok-found.ensures e))
+    (of_three files u trees env i r at c.in_ok-row.row c.in_ok-row.ensures c.in_ok-own.own.items c.in_ok-parts.parts.items same two all.items c.in_ok-own.ensures
+    (c.in_ok-parts.ensures env c.in_ok-rows.ensures.some trees c.self.invariant.1) (c.in_ok-same.ensures.findings files trees i here at first) c.in_ok-found.ensures e))
     c.both-2.ensures
 
 pub returns-clause-numbers : goal.returns-clause-numbers
 returns-clause-numbers c files =
     let i = c.args.i in
+    let env = c.self.inside.env.now in
     let rules : List Rule = c.self.inside.rules.now in
     let trees : List RuleTree = rule_trees rules in
     let rule : Rule = c.get-rule.result.now in
@@ -84,6 +85,6 @@ returns-clause-numbers c files =
     IfOk-weaker c.both-2.result (λ all. all.items ≡ two ++ same) (λ all. AreNumbered files (rule_trees c.args.self.now.rules) i all.items)
     (λ all e.
     subst (λ (v : Checked). AreNumbered files (rule_trees v.rules) i all.items) c.self.view_is
-    (numbered_three files trees i c.in_ok-own.own.items c.in_ok-parts.parts.items same two all.items c.in_ok-own.ensures.numbers (c.in_ok-parts.ensures trees c.self.invariant.1).numbers
+    (numbered_three files trees i c.in_ok-own.own.items c.in_ok-parts.parts.items same two all.items c.in_ok-own.ensures.numbers (c.in_ok-parts.ensures env c.in_ok-rows.ensures.some trees c.self.invariant.1).numbers
     (c.in_ok-same.ensures.numbers files trees i at first) c.in_ok-found.ensures e))
     c.both-2.ensures
