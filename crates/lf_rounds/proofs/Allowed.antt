@@ -1,22 +1,23 @@
 -- The steps of a table, by the events.
-use Rattle.std.proofs.Common.{◌≡◌, ◌≢◌, ℕ, zero, suc, ◌+◌, ◌-◌, ◌%◌, ◌^◌, ◌<◌, ◌≤◌, Bool, true, false, not, ◌||◌, ◌==◌, List, [], ◌∷◌, ◌++◌, map, length, get_or, set, drop, bit_or, refl, sym, ap, ◌∙◌, subst, arith, lt_of_not-le}
+use Rattle.std.proofs.Common.{◌≡◌, ℕ, suc, ◌+◌, ◌-◌, ◌%◌, ◌^◌, ◌<◌, ◌≤◌, true, false, ◌||◌, List, [], ◌∷◌, ◌++◌, map, length, get_or, set, drop, bit_or, refl, sym, ap, ◌∙◌, subst, arith, lt_of_not-le}
 use Rattle.std.proofs.lemmas.List.{set-get_or}
 use mathlib.Core.Logic.{dite}
 use mathlib.Core.Option.{some, none}
 use native.Mathlib.Decide.{dec_le}
 use lib.ListN.{get_elem?}
-use Rattle.atomic_table.specs.Table.{State, Me, step, keeps, Allows, Splits, Joins, Seen}
+use Rattle.atomic_table.specs.Table.{Me, step, keeps, Allows, Splits, Joins}
 use Rattle.atomic_table.proofs.Lists.{at_map}
 use Rattle.lf_board.specs.declared.rule.View.{View}
-use Rattle.lf_board.specs.Claims as board
 use Rattle.lf_board.specs.Numbers.{AreNumbersBelow}
 use Rattle.lf_board.proofs.Sums.{one-le-sum_by}
 use Rattle.lf_rounds.specs.declared.rule.About.{About}
+use Rattle.lf_rounds.specs.declared.rule.Loaded.{Loaded}
 use Rattle.lf_rounds.specs.declared.rule.RoundView.{RoundView}
-use Rattle.lf_rounds.specs.Rounds.{Holds, HoldsWords, Kept, adds, board_of, both_of, claimed, finished, left_of, loaded, noted, raised, right_of, spent_view, task_of}
-use Rattle.lf_rounds.specs.Tasks.{IsBelowLeast, IsTask, Raised, Task, place_of, stored_word, width}
+use Rattle.lf_rounds.specs.views.Noting.{AreMadeBy, AreNoted}
+use Rattle.lf_rounds.specs.Rounds.{Holds, HoldsWords, IsSummed, Kept, adds, board_of, both_of, claimed, finished, left_of, loaded, noted, raised, right_of, spent_view, task_of}
+use Rattle.lf_rounds.specs.Tasks.{IsBelowLeast, IsTask, Raised, place_of, stored_word, width}
 use Rattle.lf_classes.specs.RowWords.{WordsLeq}
-use Rattle.lf_rounds.proofs.Events.{claims_none, claims_piece, ends, finishes, joins, loads, raises, splits}
+use Rattle.lf_rounds.proofs.Events.{claims_none, claims_piece, ends, finishes, joins, loads, noted_made, raises, splits}
 
 abbrev pub Mine : Type 0
 Mine = Me (Unit {0}) RoundView
@@ -76,19 +77,19 @@ module _ (k : About) (id : ℕ) (me : Mine) where
       may_raise slots word is more = subst (λ (z : ℕ). Allows (Kept k) slots id me z (λ n. bit_or n x) (raised (step slots z x 0 none) me)) (sym is)
           (λ s h homes at fits. let r = raise_at more s.words s.views h at in (r.0, keeps, tt, r.1, (refl, r.2)))
 
-      finish_at : me.0.raised + 1 ≡ width (task_of k) → (ws : List ℕ) (views : List RoundView) → HoldsWords k ws views → get_elem? views id ≡ some me.0
+      finish_at : me.0.raised + 1 ≡ width (task_of k) → IsSummed (task_of k) (record { piece = me.0.piece; loads = me.0.loads }) → (ws : List ℕ) (views : List RoundView) → HoldsWords k ws views → get_elem? views id ≡ some me.0
           → (w : RoundView) × HoldsWords k (set ws (suc i) (bit_or (get_or ws (suc i) 0) x)) (set views id w)
           × (w ≡ record me.0 { done = me.0.done ++ record { piece = me.0.piece; loads = me.0.loads } ∷ []; busy = false; changed = me.0.changed || adds x (get_or ws (suc i) 0) })
-      finish_at all [] views h at = absurd h
-      finish_at all (n ∷ words) views h at =
+      finish_at all summed [] views h at = absurd h
+      finish_at all summed (n ∷ words) views h at =
           let wide = h.wide in
           let w = λ (j y : ℕ). record me.0 { done = me.0.done ++ record { piece = me.0.piece; loads = me.0.loads } ∷ []; busy = false; changed = me.0.changed || adds y (get_or words j 0) } in
           let P : ℕ × ℕ → Type 0 = λ z. Holds k n (set words z.0 (bit_or (get_or words z.0 0) z.1)) (set views id (w z.0 z.1)) in
-          (w i x, subst P (λ t. (sym place t, sym value t)) (finishes k task n id words views me.0 h at busy live all (omega arith)), refl)
+          (w i x, subst P (λ t. (sym place t, sym value t)) (finishes k task n id words views me.0 h at busy live all (omega arith) summed), refl)
 
-      pub may_finish : (slots word : ℕ) → word ≡ suc i → me.0.raised + 1 ≡ width (task_of k) → Allows (Kept k) slots id me word (λ n. bit_or n x) (finished (step slots word x 0 none) me)
-      may_finish slots word is all = subst (λ (z : ℕ). Allows (Kept k) slots id me z (λ n. bit_or n x) (finished (step slots z x 0 none) me)) (sym is)
-          (λ s h homes at fits. let r = finish_at all s.words s.views h at in (r.0, keeps, tt, r.1, (refl, r.2)))
+      pub may_finish : (slots word : ℕ) → word ≡ suc i → me.0.raised + 1 ≡ width (task_of k) → IsSummed (task_of k) (record { piece = me.0.piece; loads = me.0.loads }) → Allows (Kept k) slots id me word (λ n. bit_or n x) (finished (step slots word x 0 none) me)
+      may_finish slots word is all summed = subst (λ (z : ℕ). Allows (Kept k) slots id me z (λ n. bit_or n x) (finished (step slots z x 0 none) me)) (sym is)
+          (λ s h homes at fits. let r = finish_at all summed s.words s.views h at in (r.0, keeps, tt, r.1, (refl, r.2)))
 
 -- the end of a round: the row words stand behind the claim word
 
@@ -96,6 +97,10 @@ pub ends_words : (k : About) (id : ℕ) (v : RoundView) (ws : List ℕ) (views :
     → AreNumbersBelow k.counts.pieces v.board.claims × ((p : ℕ) → p < k.counts.pieces → Raised (task_of k) (drop 1 ws) p (task_of k).start (width (task_of k)))
 ends_words k id v [] views task h at idle live all shut = absurd h
 ends_words k id v (n ∷ words) views task h at idle live all shut = ends k n id words views v h at task idle live all shut
+
+pub made_words : (k : About) (id : ℕ) (v : RoundView) (ws : List ℕ) (views : List RoundView) → HoldsWords k ws views → get_elem? views id ≡ some v → (notes : List Loaded) → AreNoted v.done notes → AreMadeBy (task_of k) (drop 1 ws) notes
+made_words k id v [] views h at notes listed = absurd h
+made_words k id v (n ∷ words) views h at notes listed = noted_made k n id words views v h at notes listed
 
 pub rises_words : (k : About) (ws : List ℕ) (views : List RoundView) → HoldsWords k ws views
     → (length (drop 1 ws) ≡ length (task_of k).start) × WordsLeq (task_of k).start (drop 1 ws) × IsBelowLeast (task_of k).universe (task_of k).rules (drop 1 ws)

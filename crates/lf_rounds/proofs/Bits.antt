@@ -1,5 +1,5 @@
 -- How many bits of words are set.
-use Rattle.std.proofs.Common.{◌≡◌, ◌≢◌, ℕ, zero, suc, ◌+◌, ◌*◌, ◌<◌, ◌≤◌, ◌^◌, All, List, [], ◌∷◌, ◌++◌, length, get_or, refl, sym, ◌∙◌, ap, subst, inl, inr, arith}
+use Rattle.std.proofs.Common.{◌≡◌, ◌≢◌, ℕ, zero, suc, ◌*◌, ◌<◌, ◌≤◌, ◌^◌, List, [], ◌∷◌, ◌++◌, length, refl, sym, subst, inl, inr, arith}
 use Rattle.std.specs.Int.{bit_at}
 use Rattle.std.proofs.lemmas.Bool.{cases_lt}
 use Rattle.std.proofs.lemmas.Grind.{common_steps}
@@ -32,7 +32,7 @@ pub bits_most : (words : List ℕ) → bits_set words ≤ 64 * length words
 bits_most [] = omega arith
 bits_most (w ∷ words) = omega (arith, ones_most 64 w, bits_most words)
 
-rest_leq : (x y : ℕ) (xs ys : List ℕ) → WordsLeq (x ∷ xs) (y ∷ ys) → WordsLeq xs ys
+pub rest_leq : (x y : ℕ) (xs ys : List ℕ) → WordsLeq (x ∷ xs) (y ∷ ys) → WordsLeq xs ys
 rest_leq x y xs ys leq = record { at = λ k. leq.at (suc k) }
 
 bits_rise : (xs ys : List ℕ) → length xs ≡ length ys → WordsLeq xs ys → bits_set xs ≤ bits_set ys

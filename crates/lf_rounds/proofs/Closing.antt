@@ -1,8 +1,7 @@
 -- The end of a round, as its last seat sees it.
-use Rattle.std.proofs.Common.{◌≡◌, ℕ, ◌-◌, ◌<◌, false, List, drop, length, sym, ◌∙◌, ap, subst, arith}
+use Rattle.std.proofs.Common.{◌≡◌, ℕ, ◌-◌, ◌<◌, false, List, drop, length, sym, subst, arith}
 use mathlib.Core.Option.{some}
 use lib.ListN.{get_elem?}
-use Rattle.lf_ast.specs.Rules.{rule_trees}
 use Rattle.lf_board.specs.Numbers.{AreNumbersBelow}
 use Rattle.lf_classes.specs.RowWords.{WordsLeq}
 use Rattle.lf_rounds.specs.Rounds.{HoldsWords, task_of}
@@ -31,6 +30,6 @@ ends_round k id v ws words views is count e h at idle live all shut =
       claims_all = last.0;
       wide = rose.0;
       above = rose.1;
-      held = rules_held t is (drop 1 ws) t.start (λ p b. last.1 p (omega (arith, b, count)));
+      held = rules_held t is (drop 1 ws) rose.1 (λ p b. last.1 p (omega (arith, b, count)));
       below = rose.2;
     })

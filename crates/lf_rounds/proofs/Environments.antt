@@ -1,9 +1,9 @@
 -- The environments for which words stand, and the words of environments.
-use Rattle.std.proofs.Common.{◌≡◌, ℕ, zero, suc, ◌+◌, ◌-◌, ◌*◌, ◌<◌, ◌≤◌, Bool, true, false, cond, not, List, [], ◌∷◌, ◌++◌, map, length, get_or, take, drop, Option, Some, None, inl, inr, refl, sym, ◌∙◌, ap, subst, arith}
+use Rattle.std.proofs.Common.{◌≡◌, ℕ, suc, ◌+◌, ◌-◌, ◌*◌, ◌<◌, Bool, true, false, cond, not, List, [], ◌∷◌, ◌++◌, length, get_or, take, drop, Some, inl, inr, refl, sym, ◌∙◌, ap, subst, arith}
 use Rattle.std.proofs.Math.Nat.{suc-mul, zero-mul}
 use Rattle.std.proofs.Math.Seq.{drop-append_seam, take-append_seam}
 use Rattle.std.proofs.lemmas.Option.{same_Some}
-use Rattle.std.specs.List.{AllByRecursion, Contains}
+use Rattle.std.specs.List.{AllByRecursion}
 use Rattle.std.specs.Str.{bytes_eq}
 use Rattle.std.proofs.lemmas.Bool.{cases_lt}
 use Rattle.std.proofs.lemmas.List.{get_or-take, get_or-drop, get_or-append_right, get_or_append_left, get_or_past, drop-drop, length-map, length-take}
@@ -27,7 +27,7 @@ some_label u p = omega (arith, length-map u.named (λ named. length named + 2), 
 
 -- parts of words
 
-take_leq : (n : ℕ) (xs ys : List ℕ) → WordsLeq xs ys → WordsLeq (take n xs) (take n ys)
+pub take_leq : (n : ℕ) (xs ys : List ℕ) → WordsLeq xs ys → WordsLeq (take n xs) (take n ys)
 take_leq n xs ys leq = record {
   at = λ k. elim (cases_lt k n) [
     | inl h ↦ (let P : ℕ × ℕ → Type 0 = λ w. WordLeq w.0 w.1 in subst P (λ i. (sym (get_or-take n xs k 0 h) i, sym (get_or-take n ys k 0 h) i)) (leq.at k))
@@ -36,7 +36,7 @@ take_leq n xs ys leq = record {
   ];
 }
 
-drop_leq : (n : ℕ) (xs ys : List ℕ) → WordsLeq xs ys → WordsLeq (drop n xs) (drop n ys)
+pub drop_leq : (n : ℕ) (xs ys : List ℕ) → WordsLeq xs ys → WordsLeq (drop n xs) (drop n ys)
 drop_leq n xs ys leq = record { at = λ k. let P : ℕ × ℕ → Type 0 = λ w. WordLeq w.0 w.1 in subst P (λ i. (sym (get_or-drop n xs k 0) i, sym (get_or-drop n ys k 0) i)) (leq.at (n + k)) }
 
 module _ (u : Listing) (p : IsListing u) where

@@ -1,10 +1,9 @@
 -- Each of the five steps keeps the rule.
-use Rattle.std.proofs.Common.{◌≡◌, ◌≢◌, ◌⊎◌, ℕ, zero, suc, ◌+◌, ◌-◌, ◌<◌, ◌≤◌, Bool, true, false, not, ◌||◌, ◌==◌, ◌*◌, if◌then◌else◌, eqb, eq-eqb, ne_eqb, eqb-true, List, [], ◌∷◌, ◌++◌, map, length, get_or, set, bit_or, refl, sym, ap, ◌∙◌, subst, ⊎_elim, arith, length-set, get_or-set_same, append_assoc, append-nil}
-use Rattle.std.specs.List.{sum_by}
+use Rattle.std.proofs.Common.{◌≡◌, ◌≢◌, ℕ, zero, suc, ◌+◌, ◌-◌, ◌<◌, ◌≤◌, Bool, true, false, not, ◌||◌, ◌==◌, ◌*◌, if◌then◌else◌, eq-eqb, ne_eqb, List, [], ◌∷◌, ◌++◌, map, length, get_or, set, bit_or, Option, refl, sym, ap, ◌∙◌, subst, ⊎_elim, arith, length-set, get_or-set_same, append-nil}
 use Rattle.std.proofs.lemmas.Bool.{false≢true}
 use Rattle.std.proofs.lemmas.Grind.{common_steps}
 use Rattle.std.proofs.lemmas.List.{set-get_or}
-use Rattle.std.proofs.lemmas.List.Sums.{sum_by_push, sum_by-cons}
+use Rattle.std.proofs.lemmas.List.Sums.{sum_by_push}
 use mathlib.Core.Logic.{dite}
 use mathlib.Core.List.{map-append}
 use mathlib.Core.Option.{some, some-ne-none, some-injective}
@@ -14,21 +13,27 @@ use lib.Seq.{map-set}
 use Rattle.atomic_table.proofs.Lists.{at_set, at_snoc, at_map, set_again, set_else}
 use Rattle.lf_board.specs.declared.rule.View.{View}
 use Rattle.lf_board.specs.Claims as board
-use Rattle.lf_board.specs.Numbers.{AreNumbersBelow, times, once_below}
-use Rattle.lf_board.proofs.Sums.{alone, one-le-sum_by, once_below_inside, sum_by-set_at, times_miss}
+use Rattle.lf_board.specs.Numbers.{AreNumbersBelow, times}
+use Rattle.lf_board.proofs.Sums.{one-le-sum_by, once_below_inside, sum_by-set_at, times_miss}
 use Rattle.lf_board.proofs.Steps.{cuts, gets, lasts, merges, misses, opens}
-use Rattle.lf_classes.specs.RowWords.{WordLeq, WordsLeq}
+use Rattle.lf_ast.specs.Rules.{RuleTree}
+use Rattle.lf_classes.specs.RowWords.{WordLeq, WordsLeq, row_word}
 use Rattle.lf_classes.proofs.RowWordOrder.{word_refl, word_trans, words_refl, words_trans}
-use Rattle.lf_semantics.specs.Environments.{IsEnvironmentOf, IsPostFixedPoint}
+use Rattle.lf_semantics.specs.Environments.{IsEnvironmentOf, IsPostFixedPoint, recorded_row}
+use Rattle.lf_semantics.specs.Listing.{place}
+use Rattle.std.specs.Option.{option_map_or}
 use Rattle.lf_semantics.specs.RowTable.{Environment}
 use Rattle.lf_rounds.specs.declared.rule.About.{About}
 use Rattle.lf_rounds.specs.declared.rule.Done.{Done}
-use Rattle.lf_rounds.specs.declared.rule.Load.{Load}
+use Rattle.lf_rounds.specs.declared.rule.Loaded.{Loaded}
 use Rattle.lf_rounds.specs.declared.rule.RoundView.{RoundView}
-use Rattle.lf_rounds.specs.Rounds.{AllDone, Fits, Holds, Stands, adds, board_of, both_of, claimed_view, in_work, left_of, marks, missed_view, noted, opening_view, right_of, spent_view, task_of}
-use Rattle.lf_rounds.specs.Tasks.{IsBelowLeast, IsTask, Raised, Task, place_of, stored_word, width}
+use Rattle.lf_rounds.specs.Rounds.{AllDone, Fits, Holds, IsSummed, Stands, adds, board_of, both_of, claimed_view, in_work, left_of, marks, missed_view, noted, opening_view, right_of, spent_view, task_of}
+use Rattle.lf_rounds.specs.Sums.{sum_of_rows}
+use Rattle.lf_rounds.specs.Tasks.{IsBelowLeast, IsTask, Raised, Task, names, place_of, read_by, rule_of, stands_for, stored_word, width}
+use Rattle.lf_rounds.specs.views.Noting.{AreMadeBy, AreNoted}
 use Rattle.lf_rounds.specs.Words.{words_of}
 use Rattle.lf_rounds.proofs.Pieces.{stored_below}
+use Rattle.lf_laws.proofs.Members.{all_append, each_member}
 use Rattle.lf_rounds.proofs.WordSteps.{done_append, done_on, length-noted, or_least, or_left, or_right, same_words, set_left, set_right, stands_on, stored_grows}
 
 -- each view stands where the words grow and one view changes
@@ -40,6 +45,7 @@ fits_set t words now views id w up others mine j u e = ⊎_elim (λ (c : (j ≡ 
       listed = h.listed;
       done = done_on t words now u.done up h.done;
       work = λ b. stands_on t words now u.piece u.loads u.raised up (h.work b);
+      summed = h.summed;
       spent = h.spent;
     })
     (at_set views id j w u e)
@@ -80,13 +86,14 @@ module _ (k : About) (n id : ℕ) (words : List ℕ) (views : List RoundView) (v
         listed = ap (λ (l : List ℕ). l ++ n ∷ []) list;
         done = f.done;
         work = λ _. (words_refl t.start, h.above, λ j l. absurd (omega arith));
+        summed = f.summed;
         spent = f.spent;
       }
 
   pub claims_none : v.busy ≡ false → 0 < v.board.share → v.board.missed ≡ 0 → k.counts.pieces ≤ n → Holds k (n + 1) words (set views id (missed_view v))
   claims_none idle live still_open full =
       let f = h.fits id v at in
-      stays (n + 1) (missed_view v) (misses k.counts n id (map board_of views) v.board h.board board_at live still_open full) refl record { listed = f.listed; done = f.done; work = f.work; spent = f.spent }
+      stays (n + 1) (missed_view v) (misses k.counts n id (map board_of views) v.board h.board board_at live still_open full) refl record { listed = f.listed; done = f.done; summed = f.summed; work = f.work; spent = f.spent }
 
   -- a load of the row word i, before the first or
   pub loads : (i : ℕ) → i < length words → v.busy ≡ true → v.raised ≡ 0 → Holds k n words (set views id (record v { loads = record { place = i; word = get_or words i 0 } ∷ v.loads }))
@@ -101,6 +108,7 @@ module _ (k : About) (n id : ℕ) (words : List ℕ) (views : List RoundView) (v
         listed = f.listed;
         done = f.done;
         work = λ _. (set_right t.start seen i (get_or words i 0) (omega arith) s.0 (h.above.at i), set_left seen words i (get_or words i 0) (omega arith) s.1 (word_refl (get_or words i 0)), λ j l. absurd (omega arith));
+        summed = f.summed;
         spent = f.spent;
       }
 
@@ -207,11 +215,12 @@ module _ (k : About) (is : IsTask (task_of k)) (n id : ℕ) (words : List ℕ) (
         listed = f.listed;
         done = done_on task words new_words v.done grown f.done;
         work = λ _. one_more within;
+        summed = f.summed;
         spent = λ none_left. absurd (omega arith);
       }
 
-  pub finishes : v.raised + 1 ≡ width task → i < length words → Holds k n new_words (set views id (record v { done = v.done ++ record { piece = v.piece; loads = v.loads } ∷ []; busy = false; changed = mark }))
-  finishes all within =
+  pub finishes : v.raised + 1 ≡ width task → i < length words → IsSummed task (record { piece = v.piece; loads = v.loads }) → Holds k n new_words (set views id (record v { done = v.done ++ record { piece = v.piece; loads = v.loads } ∷ []; busy = false; changed = mark }))
+  finishes all within sums =
       let f = h.fits id v at in
       let last : Done = record { piece = v.piece; loads = v.loads } in
       let w : RoundView = record v { done = v.done ++ last ∷ []; busy = false; changed = mark } in
@@ -220,6 +229,7 @@ module _ (k : About) (is : IsTask (task_of k)) (n id : ℕ) (words : List ℕ) (
       rises k n id words views v w h at i x within refl refl (within_closed (omega arith)) record {
         listed = f.listed ∙ ap (λ (l : List ℕ). map (λ (d : Done). d.piece) v.done ++ l) piece_listed ∙ sym (map-append (λ (d : Done). d.piece) v.done (last ∷ [])) ∙ sym (append-nil (map (λ (d : Done). d.piece) (v.done ++ last ∷ [])));
         done = done_append task new_words v.done (last ∷ []) (done_on task words new_words v.done grown f.done) (subst (Stands task new_words v.piece v.loads) all (one_more within), tt);
+        summed = all_append (IsSummed task) v.done (last ∷ []) f.summed (sums, tt);
         work = λ b. absurd (false≢true b);
         spent = λ none_left. absurd (omega arith);
       }
@@ -260,8 +270,8 @@ module _ (k : About) (n id : ℕ) (words : List ℕ) (views : List RoundView) (v
         unmarked = λ z. h.unmarked (omega arith);
         marked = λ z. h.marked (omega arith);
         fits = λ j y e. ⊎_elim
-            (λ there. fits_set (task_of k) words words views id w (words_refl words) h.fits record { listed = f.listed; done = f.done; work = f.work; spent = λ none_left. absurd (omega arith) } j y there)
-            (λ (same : u ≡ y). subst (Fits (task_of k) words) same record { listed = refl; done = tt; work = λ c. absurd (false≢true c); spent = λ _. refl })
+            (λ there. fits_set (task_of k) words words views id w (words_refl words) h.fits record { listed = f.listed; done = f.done; summed = f.summed; work = f.work; spent = λ none_left. absurd (omega arith) } j y there)
+            (λ (same : u ≡ y). subst (Fits (task_of k) words) same record { listed = refl; done = tt; summed = tt; work = λ c. absurd (false≢true c); spent = λ _. refl })
             (at_snoc l u y j e);
       }
 
@@ -288,9 +298,30 @@ module _ (k : About) (n id : ℕ) (words : List ℕ) (views : List RoundView) (v
         fits = fits_set (task_of k) words words l other spent_view (words_refl words) (fits_set (task_of k) words words views id w (words_refl words) h.fits record {
           listed = ap (λ (m : List ℕ). m ++ u.board.claims) (idle_list v idle f.listed) ∙ ap (λ (m : List ℕ). map (λ (d : Done). d.piece) v.done ++ m) (idle_list u idle' g.listed) ∙ sym (map-append (λ (d : Done). d.piece) v.done u.done) ∙ sym (append-nil (map (λ (d : Done). d.piece) (v.done ++ u.done)));
           done = done_append (task_of k) words v.done u.done f.done g.done;
+          summed = all_append (IsSummed (task_of k)) v.done u.done f.summed g.summed;
           work = λ c. absurd (false≢true c);
           spent = λ none_left. absurd (omega arith);
-        }) record { listed = refl; done = tt; work = λ c. absurd (false≢true c); spent = λ _. refl };
+        }) record { listed = refl; done = tt; summed = tt; work = λ c. absurd (false≢true c); spent = λ _. refl };
+      }
+
+  -- what a seat did, as its notes tell it
+  pub noted_made : (notes : List Loaded) → AreNoted v.done notes → AreMadeBy (task_of k) words notes
+  noted_made notes listed note c r e =
+      let t = task_of k in
+      let f = h.fits id v at in
+      let n = listed note c in
+      let d = n.0 in
+      let done = each_member (λ (x : Done). Stands t words x.piece x.loads (width t)) v.done d f.done n.1 in
+      let summed = each_member (IsSummed t) v.done d f.summed n.1 in
+      let seen = noted t.start d.loads in
+      record {
+        seen = seen;
+        wide = length-noted t.start d.loads ∙ sym h.wide;
+        leq = done.1;
+        held = λ j l.
+            (let P : Option RuleTree → Type 0 = λ o. WordLeq (option_map_or (λ x. row_word (recorded_row t.universe (stands_for t seen) x) j) o 0) (get_or words (option_map_or (λ x. place (names t) x.name * width t + j) o 0) 0) in
+            subst P (ap (rule_of t) (sym n.2) ∙ e) (done.2 j l));
+        summed = n.3 ∙ summed ∙ ap (λ (p : ℕ). sum_of_rows (width t) seen (read_by t p)) (sym n.2);
       }
 
   -- the end: the last seat, whole and closed
@@ -316,5 +347,5 @@ begins k below = record {
 }
   where
     first : (id : ℕ) (v : RoundView) → get_elem? (opening_view k ∷ []) id ≡ some v → Fits (task_of k) (task_of k).start v
-    first zero v e = subst (Fits (task_of k) (task_of k).start) (some-injective (opening_view k) v e) record { listed = refl; done = tt; work = λ c. absurd (false≢true c); spent = λ _. refl }
+    first zero v e = subst (Fits (task_of k) (task_of k).start) (some-injective (opening_view k) v e) record { listed = refl; done = tt; summed = tt; work = λ c. absurd (false≢true c); spent = λ _. refl }
     first (suc id) v e = absurd (some-ne-none v (sym e))

@@ -1,12 +1,16 @@
 -- Words that are loaded one after the other.
-use Rattle.std.proofs.Common.{◌≡◌, ◌≢◌, ◌⊎◌, ℕ, suc, ◌+◌, ◌-◌, ◌*◌, ◌<◌, ◌≤◌, List, [], ◌∷◌, ◌++◌, length, get_or, set, take, drop, inl, inr, refl, sym, ◌∙◌, ap, subst, arith, get_or-set_same, get_or-set_other, length-append, length-drop}
+use Rattle.std.proofs.Common.{◌≡◌, ◌≢◌, ℕ, suc, ◌+◌, ◌-◌, ◌*◌, ◌<◌, ◌≤◌, List, [], ◌∷◌, ◌++◌, length, get_or, set, take, drop, inl, inr, sym, ◌∙◌, ap, arith, get_or-set_same, get_or-set_other, length-append, length-drop}
 use Rattle.std.proofs.Math.Nat.{add-mul, suc-mul}
 use Rattle.std.proofs.Math.Seq.{get_or-append_seam}
 use Rattle.std.proofs.lemmas.Bool.{cases_eq}
 use Rattle.std.proofs.lemmas.List.{ext_get_or, get_or_append_left, length-take-le}
+use Rattle.std.specs.List.{sum}
+use Rattle.std.proofs.lemmas.List.Sums.{sum_by-cons, sum_by_push}
 use Rattle.lf_rounds.specs.Facts.{RoundFacts, task}
 use Rattle.lf_rounds.specs.Rounds.{noted_view}
+use Rattle.lf_rounds.specs.Sums.{sum_of_loads}
 use Rattle.lf_rounds.specs.Tasks.{IsTask, names, width}
+use Rattle.lf_rounds.specs.declared.rule.Load.{Load}
 use Rattle.lf_rounds.specs.declared.rule.RoundView.{RoundView}
 use Rattle.lf_rounds.specs.views.Working.{ChangedAt, IsAsBefore}
 use Rattle.lf_rounds.proofs.Environments.{word_of_part}
@@ -46,6 +50,11 @@ all_read words all at wide len within read =
     ext_get_or 0 words (take wide (drop at all)) (len ∙ sym (length-take-le wide (drop at all) (omega (arith, within, length-drop at all))))
     (λ j h. let b : j < wide = omega (arith, h, len) in read j b ∙ sym (word_of_part all at wide j b))
 
+-- the sum of the loads grows by the words
+pub loads_more : (before w place : ℕ) (loads : List Load) (words more : List ℕ) → more ≡ words ++ w ∷ [] → sum_of_loads loads ≡ before + sum words → sum_of_loads (record { place = place; word = w } ∷ loads) ≡ before + sum more
+loads_more before w place loads words more pushed e =
+    omega (arith, e, sum_by-cons (λ (l : Load). l.word) (record { place = place; word = w }) loads, ap sum pushed, sum_by_push (λ (x : ℕ). x) words w)
+
 -- a load leaves the rest of the view
 pub noted_same : (v w u : RoundView) (place word : ℕ) → IsAsBefore v w → u ≡ noted_view w place word → IsAsBefore v u
 noted_same v w u place word h e = record {
@@ -53,7 +62,8 @@ noted_same v w u place word h e = record {
   busy = ap (λ (x : RoundView). x.busy) e ∙ h.busy;
   piece = ap (λ (x : RoundView). x.piece) e ∙ h.piece;
   raised = ap (λ (x : RoundView). x.raised) e ∙ h.raised;
+  done = ap (λ (x : RoundView). x.done) e ∙ h.done;
 }
 
 pub as_before : (v w u : RoundView) → IsAsBefore v w → IsAsBefore w u → IsAsBefore v u
-as_before v w u h k = record { board = k.board ∙ h.board; busy = k.busy; piece = k.piece ∙ h.piece; raised = k.raised ∙ h.raised }
+as_before v w u h k = record { board = k.board ∙ h.board; busy = k.busy; piece = k.piece ∙ h.piece; raised = k.raised ∙ h.raised; done = k.done ∙ h.done }

@@ -1,18 +1,17 @@
 -- The loop of rounds: how it begins and ends.
-use Rattle.std.proofs.Common.{◌≡◌, ℕ, zero, suc, ◌+◌, ◌*◌, ◌/◌, ◌<◌, ◌≤◌, ◌^◌, List, [], ◌∷◌, map, length, get_or, take, drop, inl, inr, refl, sym, ◌∙◌, ap, subst, arith, lit<}
+use Rattle.std.proofs.Common.{◌≡◌, ℕ, ◌+◌, ◌*◌, ◌<◌, ◌^◌, List, [], ◌∷◌, length, get_or, take, drop, inl, inr, refl, sym, ◌∙◌, ap, subst, arith, lit<}
 use Rattle.std.specs.Prelude.{replicate}
-use Rattle.std.specs.List.{Contains, range_with_len}
+use Rattle.std.specs.List.{range_with_len}
 use Rattle.std.proofs.lemmas.Bool.{cases_eq, cases_lt}
 use Rattle.std.proofs.lemmas.List.{get_or-replicate, get_or_past, length-map, length-replicate}
 use Rattle.lf_ast.specs.Labels.{Bytes}
 use Rattle.lf_ast.specs.Rules.{RuleTree}
-use Rattle.lf_classes.specs.RowWords.{WordLeq, WordsLeq, row_of_words, word_count}
+use Rattle.lf_classes.specs.RowWords.{WordLeq, row_of_words, word_count}
 use Rattle.lf_classes.proofs.RowWordOrder.{zero_leq}
 use Rattle.lf_deps.proofs.Ascending.{in_range, of_range}
-use Rattle.lf_fix.proofs.Rounds.{start_names}
 use Rattle.lf_flow.proofs.ReadNumbers.{equal_all}
 use Rattle.lf_flow.specs.Reads.{names_of, rows_of, with_row}
-use Rattle.lf_semantics.specs.ClassRows.{Sets, bottom}
+use Rattle.lf_semantics.specs.ClassRows.{Sets}
 use Rattle.lf_semantics.specs.Listing.{Listing}
 use Rattle.lf_semantics.specs.RowTable.{Environment}
 use Rattle.lf_rounds.specs.Tasks.{IsBelowLeast}
@@ -54,8 +53,8 @@ zeros_count words n e = e ∙ ap zeros (sym (ap length e ∙ length-zeros n))
 
 -- an environment that is made row by row
 
-pub none_made : (u : Listing) (ns : List Bytes) (words : List ℕ) (env : Environment) → env ≡ map (λ (name : Bytes). (name, bottom u)) ns → IsMade u ns words 0 env
-none_made u ns words env e = record { names = ap names_of e ∙ start_names u ns; rows = λ k h. absurd (omega arith) }
+pub none_made : (u : Listing) (words : List ℕ) (env : Environment) → IsMade u (names_of env) words 0 env
+none_made u words env = record { names = refl; rows = λ k h. absurd (omega arith) }
 
 count_of : (env : Environment) (ns : List Bytes) → names_of env ≡ ns → length env ≡ length ns
 count_of env ns e = sym (length-map env (λ (entry : Bytes × Sets). entry.0)) ∙ ap length e

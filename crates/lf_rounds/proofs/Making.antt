@@ -1,35 +1,43 @@
 -- A round that is made.
-use Rattle.std.proofs.Common.{◌≡◌, ℕ, ◌+◌, ◌*◌, ◌<◌, ◌≤◌, ◌^◌, List, [], ◌∷◌, length, refl, sym, ◌∙◌, ap, subst}
+use Rattle.std.proofs.Common.{◌≡◌, ℕ, ◌+◌, ◌*◌, ◌<◌, ◌≤◌, ◌^◌, List, [], ◌∷◌, length, sym, ◌∙◌, ap, subst}
 use Rattle.atomic_table.specs.Seated.{TableId}
 use Rattle.lf_ast.specs.Labels.{Bytes}
-use Rattle.lf_ast.specs.Rules.{RuleTree, rule_trees}
+use Rattle.lf_ast.specs.Rules.{rule_trees}
 use Rattle.lf_ast.specs.declared.rule.Rule.{Rule}
 use Rattle.lf_classes.specs.RowWords.{word_count}
 use Rattle.lf_semantics.specs.Environments.{CoversRules, recorded_names}
 use Rattle.lf_semantics.specs.Listing.{IsListing, Listing}
 use Rattle.lf_rounds.specs.Rounds.{HoldsWords, opening_view, task_of}
-use Rattle.lf_rounds.specs.Tasks.{ArePieces, IsBelowLeast, IsTask}
+use Rattle.lf_rounds.specs.Tasks.{AreReads, AreRecording, IsBelowLeast, IsTask, OthersHold}
 use Rattle.lf_rounds.specs.declared.rule.About.{About}
 use Rattle.lf_rounds.specs.views.Kept.{IsKept}
+use Rattle.lf_rounds.specs.views.Noting.{IsKnown}
 use Rattle.lf_rounds.proofs.Events.{begins}
 
-module _ (k : About) (u : Listing) (rules : List Rule) (numbers words : List ℕ) (eu : k.universe.value ≡ u) (er : k.rules.value ≡ rules) (ep : k.pieces.value ≡ numbers) (es : k.start.value ≡ words) where
-  task_over : IsListing u → CoversRules u (rule_trees rules) → ArePieces (rule_trees rules) numbers → length words ≡ length (recorded_names (rule_trees rules)) * word_count u → IsTask (task_of k)
-  task_over p covers pieces count =
+module _ (k : About) (u : Listing) (rules : List Rule) (reads : List (List ℕ)) (numbers words : List ℕ) (eu : k.universe.value ≡ u) (er : k.rules.value ≡ rules) (ed : k.reads.value ≡ reads) (ep : k.pieces.value ≡ numbers) (es : k.start.value ≡ words) where
+  task_over : IsListing u → CoversRules u (rule_trees rules) → AreReads (rule_trees rules) reads → AreRecording (rule_trees rules) numbers → OthersHold u (rule_trees rules) numbers words
+      → length words ≡ length (recorded_names (rule_trees rules)) * word_count u → IsTask (task_of k)
+  task_over p covers read recording others count =
       let C : Listing × List Rule → Type 0 = λ x. CoversRules x.0 (rule_trees x.1) in
-      let P : List Rule × List ℕ → Type 0 = λ x. ArePieces (rule_trees x.0) x.1 in
+      let D : List Rule × List (List ℕ) → Type 0 = λ x. AreReads (rule_trees x.0) x.1 in
+      let P : List Rule × List ℕ → Type 0 = λ x. AreRecording (rule_trees x.0) x.1 in
+      let O : Listing × List Rule × List ℕ × List ℕ → Type 0 = λ x. OthersHold x.0 (rule_trees x.1) x.2 x.3 in
       record {
         listing = subst IsListing (sym eu) p;
         covers = subst C (λ i. (sym eu i, sym er i)) covers;
-        pieces = subst P (λ i. (sym er i, sym ep i)) pieces;
+        reads = subst D (λ i. (sym er i, sym ed i)) read;
+        recording = subst P (λ i. (sym er i, sym ep i)) recording;
+        others = subst O (λ i. (sym eu i, sym er i, sym ep i, sym es i)) others;
         words = ap length es ∙ count ∙ (λ i. length (recorded_names (rule_trees (sym er i))) * word_count (sym eu i));
       }
 
-  pub kept_over : (table : TableId) (recorded : List Bytes) (wide : ℕ) → IsListing u → CoversRules u (rule_trees rules) → ArePieces (rule_trees rules) numbers → length words ≡ length (recorded_names (rule_trees rules)) * word_count u
+  pub kept_over : (table : TableId) (recorded : List Bytes) (wide : ℕ) → IsListing u → CoversRules u (rule_trees rules) → IsKnown (rule_trees rules) recorded reads → AreRecording (rule_trees rules) numbers → OthersHold u (rule_trees rules) numbers words
+      → length words ≡ length (recorded_names (rule_trees rules)) * word_count u
       → k.counts.pieces ≡ length numbers → length numbers < 2 ^ 32 → k.counts.seats ≤ 64 → table.words ≡ length words + 1 → length words + 1 < 2 ^ 64 → table.slots ≡ 0
-      → recorded ≡ recorded_names (rule_trees rules) → wide ≡ word_count u → IsKept k table recorded numbers words wide
-  kept_over table recorded wide p covers pieces count counted few seats wordy fits slots names width = record {
-    task = task_over p covers pieces count;
+      → wide ≡ word_count u → IsKept k table recorded reads numbers words wide
+  kept_over table recorded wide p covers known recording others count counted few seats wordy fits slots width = record {
+    task = task_over p covers known.reads recording others count;
+    reads = ed;
     pieces = ep;
     start = es;
     count = counted;
@@ -38,7 +46,7 @@ module _ (k : About) (u : Listing) (rules : List Rule) (numbers words : List ℕ
     words = wordy;
     fits = fits;
     slots = slots;
-    names = names ∙ ap (λ rs. recorded_names (rule_trees rs)) (sym er);
+    names = known.names ∙ ap (λ rs. recorded_names (rule_trees rs)) (sym er);
     width = width ∙ ap word_count (sym eu);
   }
 

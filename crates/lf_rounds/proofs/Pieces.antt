@@ -1,17 +1,15 @@
 -- The pieces are the recording rules, and what they store lies in each post-fixed point.
-use Rattle.std.proofs.Common.{◌≡◌, ℕ, zero, suc, ◌+◌, ◌*◌, ◌<◌, ◌≤◌, Bool, true, false, not, cond, List, [], ◌∷◌, ◌++◌, map, length, get_or, take, drop, Option, Some, None, inl, inr, refl, sym, ◌∙◌, ap, subst, arith}
+use Rattle.std.proofs.Common.{◌≡◌, ℕ, ◌+◌, ◌*◌, ◌<◌, Bool, true, false, not, cond, List, [], ◌∷◌, ◌++◌, length, get_or, take, drop, Option, Some, None, ⊎_elim, refl, sym, ◌∙◌, ap, subst}
 use Rattle.std.specs.Prelude.{option_and_then, slice_get}
 use Rattle.std.specs.Option.{option_map_or}
-use Rattle.std.specs.List.{AllByRecursion, Contains, filter}
-use Rattle.std.specs.Str.{bytes_eq}
+use Rattle.std.specs.List.{Contains, filter}
 use Rattle.std.proofs.lemmas.Bool.{not-true}
 use Rattle.std.proofs.lemmas.List.{append-nil, take_more}
 use Rattle.std.proofs.lemmas.List.Elements.{filter-append}
-use Rattle.std.proofs.lemmas.Option.{get_or_from_slice_get, same_Some, slice_get-get_or}
-use Rattle.lf_ast.specs.Labels.{Bytes}
+use Rattle.std.proofs.lemmas.Option.{get_or_from_slice_get, slice_get-get_or, slice_get_within}
 use Rattle.lf_ast.specs.Rules.{RuleTree}
-use Rattle.lf_classes.specs.RowWords.{WordLeq, WordsLeq, row_of_words, row_word, word_count}
-use Rattle.lf_classes.proofs.RowWordOrder.{leq_words, word_leq, zero_leq}
+use Rattle.lf_classes.specs.RowWords.{WordLeq, WordsLeq, row_of_words, row_word}
+use Rattle.lf_classes.proofs.RowWordOrder.{leq_words, word_leq, word_trans, zero_leq}
 use Rattle.lf_deps.proofs.OrderLaws.{each_ordered}
 use Rattle.lf_fix.proofs.Rounds.{one_named}
 use Rattle.lf_laws.proofs.Slices.{member_at, number_of}
@@ -22,10 +20,10 @@ use Rattle.lf_semantics.proofs.Members.{in_filter, of_filter}
 use Rattle.lf_semantics.proofs.NormalizedRows.{recorded_row_is}
 use Rattle.lf_semantics.proofs.RowsGrow.{recorded_grows}
 use Rattle.lf_semantics.specs.ClassRows.{Sets}
-use Rattle.lf_semantics.specs.Environments.{EnvironmentLeq, IsEnvironmentOf, IsLeast, IsPostFixedPoint, IsRow, Leq, names_recorded, recorded_names, recorded_row}
+use Rattle.lf_semantics.specs.Environments.{EnvironmentLeq, IsEnvironmentOf, IsLeast, IsPostFixedPoint, IsRow, Leq, names_recorded, recorded_row}
 use Rattle.lf_semantics.specs.Listing.{place}
-use Rattle.lf_semantics.specs.RowTable.{Environment, row_named}
-use Rattle.lf_rounds.specs.Tasks.{HoldRules, IsBelowLeast, IsTask, Raised, Task, is_recording, names, place_of, rule_of, stands_for, stored_word, width}
+use Rattle.lf_semantics.specs.RowTable.{Environment}
+use Rattle.lf_rounds.specs.Tasks.{ArePieces, AreReadBy, AreRecording, HoldRules, HoldsRule, IsBelowLeast, IsTask, Raised, Task, is_recording, names, place_of, read_by, rule_of, stands_for, stored_word, width}
 use Rattle.lf_rounds.specs.Words.{environment_of, words_of}
 use Rattle.lf_rounds.proofs.Environments.{environment_leq, named_row, named_word, some_label, word_of_part, words_of_rules, words_stand}
 
@@ -43,21 +41,15 @@ module _ (t : Task) (is : IsTask t) where
   pub piece_is : (p : ℕ) (r : RuleTree) → rule_of t p ≡ Some r → (r.alert ≡ false) × Contains t.rules r
   piece_is p r e =
       let f = rule_found t.rules (slice_get t.pieces p) r e in
-      let order = is.pieces.0 in
-      let P : List ℕ → Type 0 = λ xs. Contains xs f.0 in
-      let member : Contains (filter (is_recording t.rules) order) f.0 = subst P is.pieces.2 (member_at t.pieces p f.0 f.1) in
-      let passes : not r.alert ≡ true = ap (λ (o : Option RuleTree). option_map_or (λ (x : RuleTree). not x.alert) o false) (sym f.2) ∙ (of_filter (is_recording t.rules) order f.0 member).1 in
+      let passes : not r.alert ≡ true = ap (λ (o : Option RuleTree). option_map_or (λ (x : RuleTree). not x.alert) o false) (sym f.2) ∙ is.recording f.0 (member_at t.pieces p f.0 f.1) in
       (not-true r.alert passes, member_at t.rules f.0 r f.2)
 
-  pub piece_of : (r : RuleTree) → Contains t.rules r → r.alert ≡ false → (p : ℕ) × (p < length t.pieces) × (rule_of t p ≡ Some r)
-  piece_of r c e =
-      let f = number_of t.rules r c in
-      let order = is.pieces.0 in
-      let P : List ℕ → Type 0 = λ xs. Contains xs f.0 in
-      let passes : is_recording t.rules f.0 ≡ true = ap (λ (o : Option RuleTree). option_map_or (λ (x : RuleTree). not x.alert) o false) f.2 ∙ ap not e in
-      let member : Contains t.pieces f.0 = subst P (sym is.pieces.2) (in_filter (is_recording t.rules) order f.0 (each_ordered t.rules order is.pieces.1 f.0 f.1) passes) in
-      let at : slice_get t.pieces member.0 ≡ Some f.0 = slice_get-get_or t.pieces member.0 f.0 member.1 ∙ ap Some member.2 in
-      (member.0, member.1, ap (option_and_then (λ number. slice_get t.rules number)) at ∙ f.2)
+  -- the numbers of the names that the rule of a piece reads
+  pub reads_of_piece : (p : ℕ) (r : RuleTree) → rule_of t p ≡ Some r → AreReadBy t.rules r (read_by t p)
+  reads_of_piece p r e =
+      let f = rule_found t.rules (slice_get t.pieces p) r e in
+      let P : ℕ → Type 0 = λ number. AreReadBy t.rules r (get_or t.reads number []) in
+      subst P (sym (get_or_from_slice_get t.pieces p f.0 0 f.1)) (is.reads.each f.0 r f.2 (piece_is p r e).0)
 
   -- greater environments
 
@@ -90,12 +82,31 @@ module _ (t : Task) (is : IsTask t) where
           ap (λ ns. get_or (words_of u env) (place ns r.name * width t + j) 0) (sym of.names) ∙ named_word u is.listing env r.name top.0 j top.1 h in
           subst P (sym at) (word_leq stored top.0 (shape.0 ∙ sym there.0) shape.1 grown j)
 
-  -- what all pieces store, each rule stores
-  pub rules_held : (words over : List ℕ) → ((p : ℕ) → p < length t.pieces → Raised t words p over (width t)) → HoldRules t.universe t.rules words over
-  rules_held words over raised r c e j h =
-      let p = piece_of r c e in
-      let P : Option RuleTree → Type 0 = λ o. WordLeq (option_map_or (λ r. row_word (recorded_row t.universe (stands_for t over) r) j) o 0) (get_or words (option_map_or (λ r. place (names t) r.name * width t + j) o 0) 0) in
-      subst P p.2 (raised p.0 p.1 j h)
+  -- what all pieces store over the start, each rule stores, since the others are held by the start
+  pub rules_held : (words : List ℕ) → WordsLeq t.start words → ((p : ℕ) → p < length t.pieces → Raised t words p t.start (width t)) → HoldRules t.universe t.rules words t.start
+  rules_held words up raised r c e j h =
+      let f = number_of t.rules r c in
+      let stored = row_word (recorded_row t.universe (stands_for t t.start) r) j in
+      let at = place (names t) r.name * width t + j in
+      ⊎_elim
+      (λ (m : Contains t.pieces f.0).
+      let P : Option RuleTree → Type 0 = λ o. WordLeq (option_map_or (λ x. row_word (recorded_row t.universe (stands_for t t.start) x) j) o 0) (get_or words (option_map_or (λ x. place (names t) x.name * width t + j) o 0) 0) in
+      let piece : slice_get t.pieces m.0 ≡ Some f.0 = slice_get-get_or t.pieces m.0 f.0 m.1 ∙ ap Some m.2 in
+      subst P (ap (option_and_then (λ number. slice_get t.rules number)) piece ∙ f.2) (raised m.0 m.1 j h))
+      (λ (held : HoldsRule t.universe t.rules t.start t.start r). word_trans stored (get_or t.start at 0) (get_or words at 0) (held j h) (up.at at))
+      (is.others f.0 r f.2 e)
+
+-- where all recording rules are pieces, no other one is left
+pub pieces_recording : (rules : List RuleTree) (pieces : List ℕ) → ArePieces rules pieces → AreRecording rules pieces
+pieces_recording rules pieces are number c =
+    let P : List ℕ → Type 0 = λ xs. Contains xs number in
+    (of_filter (is_recording rules) are.0 number (subst P are.2 c)).1
+
+pub pieces_all : (rules : List RuleTree) (pieces : List ℕ) → ArePieces rules pieces → (number : ℕ) (r : RuleTree) → slice_get rules number ≡ Some r → r.alert ≡ false → Contains pieces number
+pieces_all rules pieces are number r at e =
+    let P : List ℕ → Type 0 = λ xs. Contains xs number in
+    let passes : is_recording rules number ≡ true = ap (λ (o : Option RuleTree). option_map_or (λ (x : RuleTree). not x.alert) o false) at ∙ ap not e in
+    subst P (sym are.2) (in_filter (is_recording rules) are.0 number (each_ordered rules are.0 are.1 number (slice_get_within rules number r at)) passes)
 
 -- words that hold what each rule stores over them stand for the least environment, if they lie in it
 pub least_words : (t : Task) → IsTask t → (words : List ℕ) → HoldRules t.universe t.rules words words → IsBelowLeast t.universe t.rules words → IsLeast t.universe t.rules (stands_for t words)

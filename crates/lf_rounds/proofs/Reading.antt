@@ -1,9 +1,10 @@
 -- Rows that are loaded one after the other.
-use Rattle.std.proofs.Common.{◌≡◌, ◌≢◌, ◌⊎◌, ℕ, zero, suc, ◌+◌, ◌*◌, ◌<◌, ◌≤◌, List, [], ◌∷◌, map, length, get_or, set, take, drop, inl, inr, refl, sym, ◌∙◌, ap, subst, arith, get_or-set_same, get_or-set_other, length-drop}
+use Rattle.std.proofs.Common.{◌≡◌, ◌≢◌, ◌⊎◌, ℕ, zero, suc, ◌+◌, ◌*◌, ◌<◌, ◌≤◌, List, [], ◌∷◌, length, get_or, set, take, drop, inl, inr, refl, sym, ◌∙◌, ap, subst, arith, get_or-set_same, get_or-set_other, length-drop}
 use Rattle.std.proofs.Math.Nat.{zero-mul, suc-mul}
 use lib.Seq.{map-set}
-use Rattle.std.specs.List.{AllByRecursion, Contains}
-use Rattle.std.proofs.lemmas.Bool.{cases_eq, cases_lt}
+use Rattle.std.specs.List.{AllByRecursion, Contains, sum, sum_by}
+use Rattle.std.proofs.lemmas.List.Sums.{sum_by-cons, sum_by_more}
+use Rattle.std.proofs.lemmas.Bool.{cases_lt}
 use Rattle.std.proofs.lemmas.List.{drop-drop, ext_get_or, get_or-map, get_or-take, length-map, length-take-le, set-get_or}
 use Rattle.std.proofs.lemmas.List.Elements.{Contains-get_or}
 use Rattle.std.proofs.lemmas.Grind.{get_or_default_zero}
@@ -11,12 +12,13 @@ use Rattle.lf_ast.specs.Labels.{Bytes}
 use Rattle.lf_ast.specs.Rules.{RuleTree}
 use Rattle.lf_ast.specs.Selectors.{metric}
 use Rattle.lf_classes.specs.RowWords.{row_of_words, word_count}
-use Rattle.lf_laws.proofs.Members.{each_member}
+use Rattle.lf_laws.proofs.Members.{behind, each_member, here}
 use Rattle.lf_flow.specs.Reads.{Ascend, name_at, names_of, rows_of, with_row}
 use Rattle.lf_semantics.specs.ClassRows.{Sets}
 use Rattle.lf_semantics.specs.Environments.{IsEnvironmentOf, IsRow}
 use Rattle.lf_semantics.specs.Listing.{Listing, class_of, label_of, other_class}
 use Rattle.lf_semantics.specs.RowTable.{Environment}
+use Rattle.lf_rounds.specs.Sums.{sum_of_row, sum_of_rows}
 use Rattle.lf_rounds.specs.Tasks.{Task, names, stands_for, width}
 use Rattle.lf_rounds.specs.Words.{environment_of}
 use Rattle.lf_rounds.specs.views.Working.{ChangedAt, HasRead}
@@ -104,13 +106,18 @@ others_before numbers i m ascend h c e =
     let r = taken_in numbers i m (omega (arith, h)) c in
     absurd (omega (arith, ascend r.0 i r.1 h, r.2, e))
 
-one_more : (numbers : List ℕ) (i m : ℕ) → i < length numbers → Contains (take (i + 1) numbers) m → Contains (take i numbers) m ⊎ (get_or numbers i 0 ≡ m)
+pub one_more : (numbers : List ℕ) (i m : ℕ) → i < length numbers → Contains (take (i + 1) numbers) m → Contains (take i numbers) m ⊎ (get_or numbers i 0 ≡ m)
 one_more numbers i m h c =
     let r = taken_in numbers (i + 1) m (omega (arith, h)) c in
     elim (cases_lt r.0 i) [
       | inl b ↦ inl (in_taken numbers i r.0 m (omega (arith, h)) b r.2)
       | inr b ↦ inr (let e : i ≡ r.0 = omega (arith, b, r.1) in ap (λ j. get_or numbers j 0) e ∙ r.2)
     ]
+
+-- equal summands
+sum_same : (f g : ℕ → ℕ) (xs : List ℕ) → ((x : ℕ) → Contains xs x → f x ≡ g x) → sum_by f xs ≡ sum_by g xs
+sum_same f g [] h = refl
+sum_same f g (x ∷ xs) h = omega (arith, sum_by-cons f x xs, sum_by-cons g x xs, h x (here x xs), sum_same f g xs (λ y c. h y (behind x xs y c)))
 
 -- a row more is read
 module _ (t : Task) (old new numbers : List ℕ) (i : ℕ) (env : Environment) (row : Sets) (ascend : Ascend numbers) (h : i < length numbers) (count : length env ≡ length (names t)) (len : length new ≡ length old)
@@ -131,3 +138,11 @@ module _ (t : Task) (old new numbers : List ℕ) (i : ℕ) (env : Environment) (
     | inr e ↦ (let P : ℕ → Type 0 = λ k. get_or (rows_of (with_row number row env)) k [] ≡ get_or (rows_of (stands_for t new)) k [] in
         subst P e (own_row env number row number_within ∙ is ∙ sym (row_at t.universe (names t) new number (omega (arith, number_within, count)))))
   ]
+
+  -- and summed up
+  pub sum_one : ChangedAt (number * width t) (width t) old new → sum_of_rows (width t) new (take (i + 1) numbers) ≡ sum_of_rows (width t) old (take i numbers) + sum_of_row (width t) new number
+  sum_one changed =
+      let same : sum_of_rows (width t) new (take i numbers) ≡ sum_of_rows (width t) old (take i numbers) =
+      sum_same (sum_of_row (width t) new) (sum_of_row (width t) old) (take i numbers)
+      (λ m c. ap sum (same_part old new number m (width t) (length (names t)) len all changed (omega (arith, within m (in_all numbers i m (omega (arith, h)) c), count)) (others_before numbers i m ascend h c))) in
+      omega (arith, same, sum_by_more (sum_of_row (width t) new) numbers i 0 h)

@@ -1,12 +1,10 @@
 -- Words of which one is raised, and what a piece stores over greater words.
-use Rattle.std.proofs.Common.{◌≡◌, ℕ, zero, suc, ◌+◌, ◌*◌, ◌<◌, ◌≤◌, max, false, List, [], ◌∷◌, ◌++◌, length, get_or, set, bit_or, Option, Some, None, refl, sym, ◌∙◌, ap, subst, arith, get_or-set_same, get_or-set_other, length-set}
-use Rattle.std.specs.Prelude.{option_and_then, slice_get}
-use Rattle.std.specs.Int.{bit_at}
+use Rattle.std.proofs.Common.{◌≡◌, ℕ, suc, ◌<◌, List, [], ◌∷◌, ◌++◌, length, get_or, set, bit_or, Option, Some, None, refl, sym, ◌∙◌, subst, arith, get_or-set_same, get_or-set_other, length-set}
 use Rattle.std.specs.Option.{option_map_or}
-use Rattle.std.specs.List.{Contains}
 use Rattle.std.proofs.lemmas.Nat.Bits.{bit_at_or, same_from_bits}
 use mathlib.Core.Logic.{dite}
 use native.Mathlib.Decide.{ℕ_discrete}
+use Rattle.lf_laws.proofs.Members.{all_append}
 use Rattle.lf_ast.specs.Rules.{RuleTree}
 use Rattle.lf_classes.specs.RowWords.{WordLeq, WordsLeq, row_word}
 use Rattle.lf_classes.proofs.RowWordOrder.{word_leq, word_refl, word_trans, words_trans}
@@ -16,7 +14,7 @@ use Rattle.lf_semantics.proofs.RowsGrow.{recorded_grows}
 use Rattle.lf_rounds.specs.declared.rule.Done.{Done}
 use Rattle.lf_rounds.specs.declared.rule.Load.{Load}
 use Rattle.lf_rounds.specs.Rounds.{AllDone, Stands, noted}
-use Rattle.lf_rounds.specs.Tasks.{IsTask, Raised, Task, names, place_of, rule_of, stands_for, stored_word, width}
+use Rattle.lf_rounds.specs.Tasks.{IsTask, Task, names, place_of, rule_of, stands_for, stored_word, width}
 use Rattle.lf_rounds.proofs.Environments.{environment_leq, words_of_rules}
 
 -- ors
@@ -92,5 +90,4 @@ done_on t words now [] up h = tt
 done_on t words now (d ∷ ds) up h = (stands_on t words now d.piece d.loads (width t) up h.0, done_on t words now ds up h.1)
 
 pub done_append : (t : Task) (words : List ℕ) (ds es : List Done) → AllDone t words ds → AllDone t words es → AllDone t words (ds ++ es)
-done_append t words [] es p q = q
-done_append t words (d ∷ ds) es p q = (p.0, done_append t words ds es p.1 q)
+done_append t words ds es p q = all_append (λ (d : Done). Stands t words d.piece d.loads (width t)) ds es p q

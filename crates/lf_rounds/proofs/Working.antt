@@ -1,11 +1,10 @@
 -- The work on a piece.
-use Rattle.std.proofs.Common.{◌≡◌, ◌⊎◌, ℕ, zero, suc, ◌+◌, ◌*◌, ◌<◌, Bool, true, false, not, cond, List, [], ◌∷◌, map, length, get_or, Option, Some, None, inl, inr, refl, sym, ◌∙◌, ap, subst, arith}
-use Rattle.std.specs.Prelude.{option_and_then, slice_get}
+use Rattle.std.proofs.Common.{◌≡◌, ℕ, ◌+◌, ◌*◌, ◌<◌, ◌++◌, true, false, not, cond, List, [], ◌∷◌, length, get_or, Option, Some, None, refl, sym, ◌∙◌, ap, subst, arith, append_assoc, length-append}
+use Rattle.std.specs.Prelude.{option_and_then, slice_get, IfSome, MatchOption}
 use Rattle.std.specs.Option.{option_map_or}
-use Rattle.std.specs.List.{Contains, filter}
-use Rattle.std.proofs.lemmas.List.{append-nil, length-map}
+use Rattle.std.specs.List.{Contains}
+use Rattle.std.proofs.lemmas.List.{append-nil}
 use Rattle.std.proofs.lemmas.Option.{slice_get-get_or, slice_get_within}
-use Rattle.lf_ast.specs.Labels.{Bytes}
 use Rattle.lf_ast.specs.Rules.{RuleTree, rule_tree, rule_trees}
 use Rattle.lf_ast.specs.Selectors.{metric}
 use Rattle.lf_ast.specs.Tree.{Tree}
@@ -17,15 +16,16 @@ use Rattle.lf_fix.specs.views.Rounds.{start}
 use Rattle.lf_deps.proofs.RuleTrees.{tree_at}
 use Rattle.lf_laws.proofs.Slices.{member_at}
 use Rattle.lf_flow.proofs.ReadNumbers.{equal_rows}
-use Rattle.lf_flow.specs.Reads.{AreEqualAt, ReadsNumber, names_of, number_of}
-use Rattle.lf_semantics.proofs.Members.{of_filter}
+use Rattle.lf_flow.specs.Reads.{ReadsNumber}
 use Rattle.lf_semantics.specs.ClassRows.{Sets, bottom}
 use Rattle.lf_semantics.specs.Environments.{IsEnvironmentOf, recorded_row, with_text, with_texts}
 use Rattle.lf_semantics.specs.Listing.{Listing, place}
 use Rattle.lf_semantics.specs.Parts.{is_evaluated, type_by_form}
 use Rattle.lf_semantics.specs.RowTable.{Environment, row_of}
-use Rattle.lf_rounds.specs.Tasks.{IsTask, Task, is_recording, names, place_of, rule_of, stands_for, stored_word, width}
-use Rattle.lf_rounds.specs.views.Working.{HasRead, IsStored, claims_more}
+use Rattle.lf_rounds.specs.Tasks.{IsTask, Task, is_recording, names, rule_of, stands_for, width}
+use Rattle.lf_rounds.specs.Rounds.{claimed_view, missed_view}
+use Rattle.lf_rounds.specs.declared.rule.RoundView.{RoundView}
+use Rattle.lf_rounds.specs.views.Working.{HasRead, IsNext, IsStored, claims_more, left_of}
 use Rattle.lf_rounds.proofs.Environments.{words_of_rules}
 
 module _ (t : Task) (is : IsTask t) (p : ℕ) (h : p < length t.pieces) where
@@ -36,10 +36,7 @@ module _ (t : Task) (is : IsTask t) (p : ℕ) (h : p < length t.pieces) where
   number_at = slice_get-get_or t.pieces p 0 h
 
   recording_there : is_recording t.rules number ≡ true
-  recording_there =
-      let order = is.pieces.0 in
-      let P : List ℕ → Type 0 = λ xs. Contains xs number in
-      (of_filter (is_recording t.rules) order number (subst P is.pieces.2 (member_at t.pieces p number number_at))).1
+  recording_there = is.recording number (member_at t.pieces p number number_at)
 
   pub number_within : number < length t.rules
   number_within = by (slice_get t.rules number) refl recording_there
@@ -65,22 +62,12 @@ is_stored t p r words row at e same named = record {
   place = λ n. ap (λ m. m * width t + n) named ∙ sym (ap (λ (o : Option RuleTree). option_map_or (λ (x : RuleTree). place (names t) x.name * width t + n) o 0) e);
 }
 
--- what an expression reads depends on the names alone
-reads_by_names : (env other : Environment) (e : Tree) (k : ℕ) → names_of env ≡ names_of other → ReadsNumber env e k → ReadsNumber other e k
-reads_by_names env other e k same r = (
-  omega (arith, r.0, ap length same, length-map env (λ (entry : Bytes × Sets). entry.0), length-map other (λ (entry : Bytes × Sets). entry.0)),
-  elim r.1 [
-    | inl n ↦ inl (n.0, n.1, ap (λ names. place names n.0) (sym same) ∙ n.2)
-    | inr n ↦ inr n
-  ],
-)
-
 -- an environment that has the rows that the expression reads
-pub read_rows : (t : Task) → IsTask t → (words numbers : List ℕ) (before env : Environment) (e : Tree) → IsEnvironmentOf t.universe t.rules before → IsEnvironmentOf t.universe t.rules env
-    → ((k : ℕ) → ReadsNumber before e k → Contains numbers k) → HasRead t words numbers env → row_of t.universe env e ≡ row_of t.universe (stands_for t words) e
-read_rows t is words numbers before env e of of' listed read =
+pub read_rows : (t : Task) → IsTask t → (words numbers : List ℕ) (env : Environment) (e : Tree) → IsEnvironmentOf t.universe t.rules env
+    → ((k : ℕ) → ReadsNumber env e k → Contains numbers k) → HasRead t words numbers env → row_of t.universe env e ≡ row_of t.universe (stands_for t words) e
+read_rows t is words numbers env e of listed read =
     let stands = words_of_rules t.universe is.listing t.rules words is.covers in
-    equal_rows env e numbers (λ k r. listed k (reads_by_names env before e k (of'.names ∙ sym of.names) r)) t.universe (stands_for t words) (of'.names ∙ sym stands.names, read)
+    equal_rows env e numbers listed t.universe (stands_for t words) (of.names ∙ sym stands.names, read)
 
 -- no claim more
 pub none_more : (v : View) → v ≡ claims_more v []
@@ -91,3 +78,33 @@ pub bottom_is : (t : Task) → IsTask t → (u : Listing) (rules : List RuleTree
 bottom_is t is u rules env same over e =
     let P : Environment → Type 0 = λ x. IsEnvironmentOf t.universe t.rules x in
     subst P (sym (e ∙ ap (λ (v : Listing). start v rules) same ∙ ap (start t.universe) over)) (start_is t.universe is.listing t.rules is.covers)
+
+-- the next claim of a seat that did a piece
+
+pub claimed_done : (u x : RoundView) (count : ℕ) (n : Option ℕ) → MatchOption n (x ≡ missed_view u) (λ m. (m < count) × (x ≡ claimed_view u m)) → x.done ≡ u.done
+claimed_done u x count None e = ap (λ (y : RoundView). y.done) e
+claimed_done u x count (Some m) e = ap (λ (y : RoundView). y.done) e.1
+
+module _ (count : ℕ) (v w u x : RoundView) (piece : ℕ) (was : IsNext count v (Some piece) w) (same : u.board ≡ w.board) (idle : u.busy ≡ false) where
+  pub next_after : (n : Option ℕ) → MatchOption n (x ≡ missed_view u) (λ m. (m < count) × (x ≡ claimed_view u m)) → IsNext count v n x
+  next_after None e =
+      (was.2, ap (λ (y : RoundView). y.board) e ∙ ap (λ (b : View). record b { missed = b.missed + 1 }) (same ∙ was.3), ap (λ (y : RoundView). y.busy) e ∙ idle)
+  next_after (Some m) e = (
+    e.0,
+    record {
+      busy = ap (λ (y : RoundView). y.busy) e.1;
+      piece = ap (λ (y : RoundView). y.piece) e.1;
+      loads = ap (λ (y : RoundView). y.loads) e.1;
+      raised = ap (λ (y : RoundView). y.raised) e.1;
+      missed = ap (λ (y : RoundView). y.board.missed) e.1 ∙ ap (λ (b : View). b.missed) same ∙ was.1.missed;
+    },
+    was.2 ++ m ∷ [],
+    ap (λ (y : RoundView). y.board) e.1 ∙ ap (λ (b : View). record b { claims = b.claims ++ m ∷ [] }) (same ∙ was.3) ∙ ap (λ (claims : List ℕ). record v.board { claims = claims }) (append_assoc v.board.claims was.2 (m ∷ [])),
+  )
+
+  pub fewer_left : (n : Option ℕ) → MatchOption n (x ≡ missed_view u) (λ m. (m < count) × (x ≡ claimed_view u m)) → IfSome n (λ _. length u.board.claims < count) → left_of count n x < left_of count (Some piece) w
+  fewer_left None e less = omega arith
+  fewer_left (Some m) e less =
+      let more : length x.board.claims ≡ length u.board.claims + 1 = ap (λ (y : RoundView). length y.board.claims) e.1 ∙ length-append u.board.claims (m ∷ []) in
+      let like : length u.board.claims ≡ length w.board.claims = ap (λ (b : View). length b.claims) same in
+      omega (arith, less, more, like)

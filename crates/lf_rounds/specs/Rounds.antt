@@ -5,6 +5,7 @@ use mathlib.Core.Option.{some}
 use lib.ListN.{get_elem?}
 use Rattle.atomic_table.specs.Table.{State, Me, Step}
 use Rattle.lf_ast.specs.Rules.{rule_trees}
+use Rattle.std.specs.List.{AllByRecursion}
 use Rattle.lf_board.specs.declared.rule.View.{View}
 use Rattle.lf_board.specs.Claims as board
 use Rattle.lf_classes.specs.RowWords.{WordsLeq}
@@ -12,11 +13,12 @@ use Rattle.lf_rounds.specs.declared.rule.About.{About}
 use Rattle.lf_rounds.specs.declared.rule.Done.{Done}
 use Rattle.lf_rounds.specs.declared.rule.Load.{Load}
 use Rattle.lf_rounds.specs.declared.rule.RoundView.{RoundView}
-use Rattle.lf_rounds.specs.Tasks.{IsBelowLeast, Raised, Task, width}
+use Rattle.lf_rounds.specs.Sums.{sum_of_loads, sum_of_rows}
+use Rattle.lf_rounds.specs.Tasks.{IsBelowLeast, Raised, Task, read_by, width}
 
 -- what the round is over
 abbrev pub task_of : About → Task
-task_of k = record { universe = k.universe.value; rules = rule_trees k.rules.value; pieces = k.pieces.value; start = k.start.value }
+task_of k = record { universe = k.universe.value; rules = rule_trees k.rules.value; reads = k.reads.value; pieces = k.pieces.value; start = k.start.value }
 
 -- the words at the start with each word that was noted in its place, the newest note last
 abbrev pub noted : List ℕ → List Load → List ℕ
@@ -29,8 +31,11 @@ Stands t words piece loads count = WordsLeq t.start (noted t.start loads) × Wor
 
 -- Of a piece that is done all words do.
 abbrev pub AllDone : Task → List ℕ → List Done → Type 0
-AllDone t words [] = Unit {0}
-AllDone t words (d ∷ done) = Stands t words d.piece d.loads (width t) × AllDone t words done
+AllDone t words done = AllByRecursion (λ (d : Done). Stands t words d.piece d.loads (width t)) done
+
+-- What was loaded for a piece that is done are the rows that its rule reads, each word once: so the loads have the sum of these rows, over the noted ones.
+abbrev pub IsSummed : Task → Done → Type 0
+IsSummed t d = sum_of_loads d.loads ≡ sum_of_rows (width t) (noted t.start d.loads) (read_by t d.piece)
 
 abbrev pub in_work : RoundView → List ℕ
 in_work v = if v.busy then v.piece ∷ [] else []
@@ -39,10 +44,11 @@ in_work v = if v.busy then v.piece ∷ [] else []
 abbrev pub marks : RoundView → ℕ
 marks v = if v.changed then 1 else 0
 
--- What holds of each seat: its claims are the pieces done and the one in work, its loads and words stand, and one that was joined to another has no mark.
+-- What holds of each seat: its claims are the pieces done and the one in work, its loads and words stand, its loads are summed, and one that was joined to another has no mark.
 pub record Fits (t : Task) (words : List ℕ) (v : RoundView) : Type 0 where
   pub listed : v.board.claims ≡ map (λ (d : Done). d.piece) v.done ++ in_work v
   pub done : AllDone t words v.done
+  pub summed : AllByRecursion (IsSummed t) v.done
   pub work : v.busy ≡ true → Stands t words v.piece v.loads v.raised
   pub spent : v.board.share ≡ 0 → v.changed ≡ false
 

@@ -2,9 +2,13 @@
 #![tactic(auto)]
 
 mod beginning;
+mod between;
+mod due;
+mod known;
 mod round;
 pub mod rule;
 mod solving;
+mod sums;
 
 pub use beginning::first_words;
 pub use round::{Round, RoundEnd, RoundSeat};

@@ -1,5 +1,5 @@
 //! A round and its seats.
-ghost use Rattle.std.specs.Prelude.{◌≡◌, true, false, ◌&&◌, ◌+◌, ◌-◌, ◌<◌, ◌≤◌, [], ◌++◌};
+ghost use Rattle.std.specs.Prelude.{◌≡◌, true, false, ◌&&◌, ◌+◌, ◌-◌, ◌<◌, ◌≤◌, [], ◌++◌, OnOk};
 ghost use Rattle.lf_rounds.specs.Facts.{RoundFacts, RoundSeatFacts};
 
 mod closing;
@@ -7,21 +7,23 @@ mod making;
 mod steps;
 mod working;
 
-use crate::rule::{About, Cut, Merge, Rising, RoundView};
+use crate::known::Known;
+use crate::rule::{About, Cut, Loaded, Merge, Rising, RoundView};
 use atomic_table::{Seat, Table};
 pub use closing::RoundEnd;
-use lf_base::Seq;
+pub(crate) use closing::{Settled, differ};
+use lf_base::{Memory, Seq};
 use lf_board::rule::Cutting;
-use lf_classes::TextSet;
+pub(crate) use making::recording_rules;
 use std::alloc::Global;
 use std::marker::{Brand, Model};
 
-/// A round over the recording rules of rules: each is computed once, from rows that only grow while others raise them, and its row is raised in turn. Any number of threads
+/// A round over recording rules, its pieces: each is computed once, from rows that only grow while others raise them, and its row is raised in turn. Any number of threads
 /// may share it.
 #[derive(Drop)]
 pub struct Round {
     table: Table<(), RoundView, About, Rising, Global>,
-    names: TextSet,
+    known: Known,
     pieces: Seq<u32>,
     start: Seq<u64>,
     width: u32,
@@ -39,26 +41,28 @@ impl Model for Round {
 
     ghost view = { λ r. round_facts r.table.shared.key r.table.shared.table_id r.pieces };
 
-    ghost invariant = { λ r. IsKept r.table.shared.key r.table.shared.table_id r.names r.pieces r.start r.width };
+    ghost invariant = { λ r. IsKept r.table.shared.key r.table.shared.table_id r.known.names r.known.reads r.pieces r.start r.width };
 }
 
-/// A place in a round, with which one worker claims and works.
+/// A place in a round, with which one worker claims and works. Of pieces that it did it has notes.
 #[derive(Drop)]
 pub struct RoundSeat {
     seat: Seat<(), RoundView>,
     is_open: bool,
+    notes: Vec<Loaded>,
 }
 
 impl Model for RoundSeat {
     ghost use Rattle.std.specs.Prelude.{◌≡◌, ◌-◌, ◌<◌, [], ◌==◌, not};
     ghost use Rattle.lf_rounds.specs.Facts.{RoundSeatFacts};
     ghost use Rattle.lf_rounds.specs.views.Kept.{board_at};
+    ghost use Rattle.lf_rounds.specs.views.Noting.{AreNoted};
 
     ghost Value = { RoundSeatFacts };
 
     ghost view = { λ s. record { board = board_at s.seat.table_id s.seat.me.0; is_open = s.is_open; is_whole = not s.seat.me.0.busy; room = s.seat.me.0.board.share - 1; claims = s.seat.me.0.board.claims } };
 
-    ghost invariant = { λ s. (0 < s.seat.me.0.board.share) × (s.seat.me.1 ≡ []) × (s.is_open ≡ (s.seat.me.0.board.missed == 0)) };
+    ghost invariant = { λ s. (0 < s.seat.me.0.board.share) × (s.seat.me.1 ≡ []) × (s.is_open ≡ (s.seat.me.0.board.missed == 0)) × AreNoted s.seat.me.0.done s.notes.items };
 }
 
 impl Round {
@@ -86,10 +90,12 @@ impl Round {
         RoundSeat {
             seat: part,
             is_open: true,
+            notes: Vec::new(*seat.notes.allocator()),
         }
     }
 
-    /// Gives this seat what the other has: its claims, behind its own, and its room and place. It stays open where both are. It takes no memory.
+    /// Gives this seat what the other has: its claims, behind its own, and its room and place. It stays open where both are. It takes no memory, so the other's notes are
+    /// let go.
     pub fn join(&self, seat: &mut RoundSeat, other: RoundSeat)
         requires own { (seat.old.board ≡ self.now.board) × (other.board ≡ self.now.board) }
         requires whole { (seat.old.is_whole ≡ true) × (other.is_whole ≡ true) }
@@ -98,8 +104,33 @@ impl Round {
         let RoundSeat {
             seat: part,
             is_open,
+            notes: _,
         } = other;
         self.table.shared.join_seat::<Merge>(&mut seat.seat, part);
-        seat.is_open = seat.is_open && is_open;
+        seat.is_open = both(seat.is_open, is_open);
     }
+
+    /// The same, with the other's notes.
+    pub(crate) fn join_all(&self, seat: &mut RoundSeat, other: RoundSeat) -> Result<(), Memory>
+        requires own { (seat.old.board ≡ self.now.board) × (other.board ≡ self.now.board) }
+        requires whole { (seat.old.is_whole ≡ true) × (other.is_whole ≡ true) }
+        ensures { OnOk result (seat.new ≡ record seat.old { is_open = seat.old.is_open && other.is_open; room = seat.old.room + (other.room + 1); claims = seat.old.claims ++ other.claims }) }
+    {
+        let RoundSeat {
+            seat: part,
+            is_open,
+            notes,
+        } = other;
+        self.table.shared.join_seat::<Merge>(&mut seat.seat, part);
+        seat.is_open = both(seat.is_open, is_open);
+        seat.notes.extend_from_slice(notes.as_slice())?;
+        Ok(())
+    }
+}
+
+/// Whether both are true.
+fn both(a: bool, b: bool) -> bool
+    ensures { result ≡ (a && b) }
+{
+    a && b
 }

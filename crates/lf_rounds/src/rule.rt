@@ -16,6 +16,7 @@ pub struct About {
     pub counts: Counts,
     pub universe: Snapshot<Universe>,
     pub rules: Snapshot<Seq<Rule>>,
+    pub reads: Snapshot<Seq<Seq<u32>>>,
     pub pieces: Snapshot<Seq<u32>>,
     pub start: Snapshot<Seq<u64>>,
 }
@@ -30,6 +31,13 @@ pub struct Load {
 pub struct Done {
     pub piece: u32,
     pub loads: LinkedList<Load>,
+}
+
+/// What is kept of a piece that is done, and isn't only spoken of: the sum of the words that were loaded for it.
+#[derive(Clone, Copy)]
+pub struct Loaded {
+    pub piece: u32,
+    pub sum: u128,
 }
 
 /// What a seat knows: what it knows of claims, the pieces that it has done, whether a piece is in work, and then which, the loads noted for it and how many words of its

@@ -1,13 +1,18 @@
 //! The least environment by rounds.
-ghost use Rattle.std.specs.Prelude.{◌≡◌, true, false, ◌*◌, ◌+◌, ◌<◌, ◌≤◌, drop, length, take, IfOk};
+ghost use Rattle.std.specs.Prelude.{◌≡◌, ◌≢◌, ◌⊎◌, true, false, ◌*◌, ◌+◌, ◌<◌, ◌≤◌, drop, length, take, IfOk};
 ghost use Rattle.std.specs.Thread.{IsSync};
 ghost use Rattle.lf_ast.specs.Rules.{rule_trees};
 ghost use Rattle.lf_classes.specs.RowWords.{row_of_words, word_count};
-ghost use Rattle.lf_semantics.specs.Environments.{CoversRules, IsLeast, recorded_names};
+ghost use Rattle.lf_flow.specs.Reads.{names_of};
+ghost use Rattle.lf_semantics.specs.Environments.{CoversRules, IsEnvironmentOf, IsLeast};
+ghost use Rattle.lf_rounds.specs.Tasks.{ArePieces};
 ghost use Rattle.lf_rounds.specs.Words.{environment_of};
+ghost use Rattle.lf_rounds.specs.views.Standings.{IsStanding, Rises};
 ghost use Rattle.lf_rounds.specs.views.Workers.{HasRoomFor, IsFresh, IsOf, IsShut};
 
-use crate::{Round, RoundSeat, first_words};
+use crate::between::Standing;
+use crate::round::{differ, recording_rules};
+use crate::{Round, RoundSeat};
 use lf_ast::Rule;
 use lf_base::{Gate, Memory, Seq};
 use lf_classes::{Row, Universe};
@@ -16,13 +21,14 @@ use std::alloc::Global;
 use std::thread::{Threads, join};
 
 /// Of so many rounds the last has one worker.
-const TURNS: u32 = 4;
+const TURNS: u32 = 2;
 
-/// The least environment of rules, by 1 to 64 workers: round by round they raise the words of the rows, until a round changes none. It is the same for every number of
-/// workers, whoever of them computes which rule and when.
+/// The least environment of rules, by 1 to 64 workers: round by round they raise the words of the rows, until a round changes none, or leaves no rule due. It is the same for
+/// every number of workers, whoever of them computes which rule and when.
 ///
-/// Each fourth round is made by one worker, who takes the rules in their order. Where several take them, one may come to a rule while another is still at what it reads, and
-/// a long chain of such rules would take as many rounds.
+/// The first round takes all recording rules, and each later one those that are due, since a row that they read was raised after they were computed last, and those that read what
+/// a rule taken before them records. Each second round is made by one worker, who takes the rules in their order. Where several take them, one may come to a rule while another is still at what it reads, and a long chain of such rules
+/// would take as many rounds.
 pub fn solve_shared<R: Threads + Sync, G: Gate + Sync>(
     rt: &R,
     alloc: Global,
@@ -35,19 +41,96 @@ pub fn solve_shared<R: Threads + Sync, G: Gate + Sync>(
     requires covers { CoversRules universe.now (rule_trees rules.now) }
     ensures { IfOk result (IsLeast universe.now (rule_trees rules.now)) }
 {
-    let mut words = first_words(alloc, universe, rules)?;
+    // For what its contract says of the universe.
+    let _labels = universe.labels();
+    let mut env = Env::bottom(alloc, universe, rules)?;
+    let all = recording_rules(alloc, rules)?;
+    let mut standing = Standing::first(alloc, universe, rules, &all, &env)?;
     let mut turn = 0;
     'rounds: loop {
         let seats = seats_in(turn, workers);
-        let (round, seat) = Round::new(alloc, universe, rules, &words, seats)?;
-        let seat = run(rt, alloc, &round, seat, universe, rules, seats, gate)?;
-        let end = round.close(alloc, seat)?;
-        words = end.words;
-        if !end.changed {
-            return environment(alloc, universe, rules, &words);
+        let (next, before) = behind_round(
+            rt, alloc, universe, rules, &all, standing, seats, &mut env, gate,
+        )?;
+        standing = next;
+        if is_last(&standing, &before) {
+            let env = environment(alloc, universe, env, &standing.words)?;
+            return Ok(env);
         }
         turn = (turn % TURNS + 1) % TURNS;
     }
+}
+
+/// Whether no further round is needed behind one with these words at its start: no rule is due, or no word changed.
+fn is_last(standing: &Standing, before: &Seq<u64>) -> bool
+    ensures last { result ≡ true → (length standing.now.due ≡ 0) ⊎ (standing.now.words ≡ before.now) }
+    ensures more { result ≡ false → standing.now.words ≢ before.now }
+{
+    if standing.due.len() == 0 {
+        return true;
+    }
+    !differ(standing.words.as_slice(), before.as_slice())
+}
+
+/// What a round leaves that takes the rules that are due, and the words at its start.
+fn behind_round<R: Threads + Sync, G: Gate + Sync>(
+    rt: &R,
+    alloc: Global,
+    universe: &Universe,
+    rules: &Seq<Rule>,
+    all: &Seq<u32>,
+    before: Standing,
+    seats: u32,
+    env: &mut Env,
+    gate: &G,
+) -> Result<(Standing, Seq<u64>), Memory>
+    requires seats { (0 < seats) × (seats ≤ 64) }
+    requires covers { CoversRules universe.now (rule_trees rules.now) }
+    requires all { ArePieces (rule_trees rules.now) all.now }
+    requires before { IsStanding universe.now (rule_trees rules.now) before }
+    requires env { IsEnvironmentOf universe.now (rule_trees rules.now) env.old }
+    ensures standing { IfOk result (λ next. IsStanding universe.now (rule_trees rules.now) next.0) }
+    ensures rises { IfOk result (λ next. Rises universe.now (rule_trees rules.now) before.words next.0.words) }
+    ensures start { IfOk result (λ next. next.1 ≡ before.words) }
+    ensures env { IfOk result (λ _. IsEnvironmentOf universe.now (rule_trees rules.now) env.new) }
+{
+    let Standing {
+        known,
+        words,
+        sums,
+        due,
+    } = before;
+    let (round, seat) = Round::of_due(alloc, universe, rules, known, due, words, seats)?;
+    let seat = make(rt, alloc, &round, seat, universe, rules, seats, env, gate)?;
+    let settled = round.settle(alloc, seat)?;
+    let next = Standing::after(alloc, universe, rules, all, sums, settled)?;
+    Ok(next)
+}
+
+/// All work of a round. One worker does it in the environment that is at hand.
+fn make<R: Threads + Sync, G: Gate + Sync>(
+    rt: &R,
+    alloc: Global,
+    round: &Round,
+    mut seat: RoundSeat,
+    universe: &Universe,
+    rules: &Seq<Rule>,
+    workers: u32,
+    env: &mut Env,
+    gate: &G,
+) -> Result<RoundSeat, Memory>
+    requires over { IsOf round.now universe.now rules.now }
+    requires fresh { IsFresh round.now seat }
+    requires workers { HasRoomFor workers seat }
+    requires env { IsEnvironmentOf round.now.universe (rule_trees round.now.rules) env.old }
+    ensures shut { IfOk result (IsShut seat) }
+    ensures env { IfOk result (λ _. IsEnvironmentOf round.now.universe (rule_trees round.now.rules) env.new) }
+{
+    if workers == 1 {
+        round.work_in(alloc, &mut seat, universe, rules, env, gate)?;
+        return Ok(seat);
+    }
+    run(rt, alloc, round, seat, universe, rules, workers, gate)
 }
 
 /// How many workers make the round of a turn, which are counted from 0.
@@ -95,27 +178,23 @@ fn run<R: Threads + Sync, G: Gate + Sync>(
     let (front, back) = join(rt, front, back);
     let other = front?;
     let mut mine = back?;
-    round.join(&mut mine, other);
+    round.join_all(&mut mine, other)?;
     Ok(mine)
 }
 
-/// The environment for which words stand. Want of memory where the number of a name doesn't fit a `u32`.
+/// An environment in which the rows are those for which words stand.
 fn environment(
     alloc: Global,
     universe: &Universe,
-    rules: &Seq<Rule>,
+    mut env: Env,
     words: &Seq<u64>,
 ) -> Result<Env, Memory>
-    requires { length words.now ≡ length (recorded_names (rule_trees rules.now)) * word_count universe.now }
-    ensures { IfOk result (λ env. env ≡ environment_of universe.now (recorded_names (rule_trees rules.now)) words.now) }
+    requires { length words.now ≡ length env * word_count universe.now }
+    ensures { IfOk result (λ made. made ≡ environment_of universe.now (names_of env) words.now) }
 {
     let _labels = universe.labels();
     let width = universe.words();
-    let mut env = Env::bottom(alloc, universe, rules)?;
-    let Ok(names) = u32::try_from(words.len() / width as usize) else {
-        return Err(Memory);
-    };
-    for name in 0..names {
+    for name in 0..env.names() {
         let row = row_at(alloc, universe, words, name, width)?;
         env.put(name, row);
     }

@@ -1,5 +1,5 @@
 -- How a round and its seats are kept.
-use Rattle.std.specs.Prelude.{◌≡◌, ℕ, ◌+◌, ◌-◌, ◌<◌, ◌≤◌, ◌^◌, not, List, length}
+use Rattle.std.specs.Prelude.{◌≡◌, ℕ, ◌+◌, ◌<◌, ◌≤◌, ◌^◌, List, length}
 use Rattle.atomic_table.specs.Seated.{TableId}
 use Rattle.lf_ast.specs.Labels.{Bytes}
 use Rattle.lf_board.specs.Seats.{BoardFacts}
@@ -10,8 +10,9 @@ use Rattle.lf_rounds.specs.declared.rule.About.{About}
 use Rattle.lf_rounds.specs.declared.rule.RoundView.{RoundView}
 
 -- a round beside its table: what it is over is told when it is made, and the table has the claim word and the row words
-pub record IsKept (k : About) (table : TableId) (recorded : List Bytes) (numbers words_before : List ℕ) (wide : ℕ) : Type 0 where
+pub record IsKept (k : About) (table : TableId) (recorded : List Bytes) (read : List (List ℕ)) (numbers words_before : List ℕ) (wide : ℕ) : Type 0 where
   pub task : IsTask (task_of k)
+  pub reads : k.reads.value ≡ read
   pub pieces : k.pieces.value ≡ numbers
   pub start : k.start.value ≡ words_before
   pub count : k.counts.pieces ≡ length numbers
@@ -24,7 +25,7 @@ pub record IsKept (k : About) (table : TableId) (recorded : List Bytes) (numbers
   pub width : wide ≡ width (task_of k)
 
 abbrev pub round_facts : About → TableId → List ℕ → RoundFacts
-round_facts k table pieces = record { board = record { table = table; pieces = length pieces; seats = k.counts.seats }; universe = k.universe.value; rules = k.rules.value; pieces = k.pieces.value; start = k.start.value }
+round_facts k table pieces = record { board = record { table = table; pieces = length pieces; seats = k.counts.seats }; universe = k.universe.value; rules = k.rules.value; reads = k.reads.value; pieces = k.pieces.value; start = k.start.value }
 
 -- the board that a seat is of
 abbrev pub board_at : TableId → RoundView → BoardFacts

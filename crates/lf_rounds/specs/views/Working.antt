@@ -7,13 +7,12 @@ use Rattle.lf_ast.specs.Labels.{Bytes}
 use Rattle.lf_board.specs.declared.rule.View.{View}
 use Rattle.lf_classes.specs.RowWords.{row_word}
 use Rattle.lf_flow.specs.Reads.{names_of, rows_of}
-use Rattle.lf_semantics.specs.Environments.{IsEnvironmentOf}
 use Rattle.lf_semantics.specs.ClassRows.{Sets}
 use Rattle.lf_semantics.specs.Listing.{Listing}
 use Rattle.lf_semantics.specs.RowTable.{Environment}
 use Rattle.lf_rounds.specs.Facts.{RoundFacts}
 use Rattle.lf_rounds.specs.Rounds.{noted}
-use Rattle.lf_rounds.specs.Tasks.{Task, place_of, stands_for, stored_word, width}
+use Rattle.lf_rounds.specs.Tasks.{Task, place_of, stands_for, stored_word}
 use Rattle.lf_rounds.specs.Words.{environment_of}
 use Rattle.lf_rounds.specs.declared.rule.RoundView.{RoundView}
 use Rattle.lf_rounds.specs.views.Kept.{board_at}
@@ -37,6 +36,7 @@ pub record IsAsBefore (v w : RoundView) : Type 0 where
   pub busy : w.busy ≡ true
   pub piece : w.piece ≡ v.piece
   pub raised : w.raised ≡ v.raised
+  pub done : w.done ≡ v.done
 
 -- only words from a place on changed, so many of them
 abbrev pub ChangedAt : ℕ → ℕ → List ℕ → List ℕ → Type 0
@@ -79,6 +79,7 @@ pub record IsRaising (v : RoundView) (count : ℕ) (w : RoundView) : Type 0 wher
   pub piece : w.piece ≡ v.piece
   pub loads : w.loads ≡ v.loads
   pub raised : w.raised ≡ count
+  pub done : w.done ≡ v.done
 
 -- how many claims and pieces of work are left at most
 abbrev pub left_of : ℕ → Option ℕ → RoundView → ℕ

@@ -8,8 +8,12 @@ ghost use Rattle.lf_ast.specs.Rules.{rule_trees};
 ghost use Rattle.lf_rounds.specs.Facts.{task};
 ghost use Rattle.lf_rounds.specs.Words.{AreWords};
 ghost use Rattle.lf_rounds.specs.Tasks.{HoldRules, IsBelowLeast, stands_for};
+ghost use Rattle.lf_rounds.specs.views.Ending.{EndsRound};
+ghost use Rattle.lf_rounds.specs.views.Noting.{AreMadeBy, IsKnown};
 
 use super::{Round, RoundSeat};
+use crate::known::Known;
+use crate::rule::Loaded;
 use atomic_table::Closed;
 use lf_base::{Memory, Seq};
 use std::alloc::Global;
@@ -19,6 +23,16 @@ use std::alloc::Global;
 pub struct RoundEnd {
     pub words: Seq<u64>,
     pub changed: bool,
+}
+
+/// All that a round leaves: the words at its end and at its start, what it was over, and notes of its pieces.
+#[derive(Drop)]
+pub(crate) struct Settled {
+    pub(crate) words: Seq<u64>,
+    pub(crate) start: Seq<u64>,
+    pub(crate) known: Known,
+    pub(crate) pieces: Seq<u32>,
+    pub(crate) notes: Vec<Loaded>,
 }
 
 impl Round {
@@ -38,25 +52,52 @@ impl Round {
         ensures changed { IfOk result (λ end. IsTrue end.changed ↔ (end.words ≢ self.start)) }
         ensures least { IfOk result (λ end. end.changed ≡ false → IsLeast self.universe (rule_trees self.rules) (stands_for (task self) end.words)) }
     {
+        let Settled { words, start, .. } = self.settle(alloc, seat)?;
+        let changed = differ(words.as_slice(), start.as_slice());
+        Ok(RoundEnd { words, changed })
+    }
+
+    /// The same, but that nothing is compared, with all that the round leaves.
+    pub(crate) fn settle(self, alloc: Global, seat: RoundSeat) -> Result<Settled, Memory>
+        requires own { seat.board ≡ self.board }
+        requires last { seat.room ≡ self.board.seats - 1 }
+        requires shut { (seat.is_open ≡ false) × (seat.is_whole ≡ true) }
+        ensures claims { AreNumbersBelow self.board.pieces seat.claims }
+        ensures ends { IfOk result (λ settled. EndsRound self settled.words) }
+        ensures fit { IfOk result (λ settled. AreWords settled.words) }
+        ensures start { IfOk result (λ settled. settled.start ≡ self.start) }
+        ensures known { IfOk result (λ settled. IsKnown (rule_trees self.rules) settled.known.names settled.known.reads) }
+        ensures over { IfOk result (λ settled. (settled.known.reads ≡ self.reads) × (settled.pieces ≡ self.pieces)) }
+        ensures made { IfOk result (λ settled. AreMadeBy (task self) settled.words settled.notes.items) }
+    {
         let Round {
             table,
+            known,
+            pieces,
             start,
-            names: _,
-            pieces: _,
             width: _,
         } = self;
-        let RoundSeat { seat, is_open: _ } = seat;
+        let RoundSeat {
+            seat,
+            is_open: _,
+            notes,
+        } = seat;
         let closed = table.close_with(seat);
         let words = row_words(alloc, &closed, start.len());
         closed.free();
         let words = words?;
-        let changed = differ(words.as_slice(), start.as_slice());
-        Ok(RoundEnd { words, changed })
+        Ok(Settled {
+            words,
+            start,
+            known,
+            pieces,
+            notes,
+        })
     }
 }
 
 /// Whether some word isn't the same.
-fn differ(words: &[u64], start: &[u64]) -> bool
+pub(crate) fn differ(words: &[u64], start: &[u64]) -> bool
     ensures differ { IsTrue result ↔ (words.now ≢ start.now) }
     ensures same { result ≡ false → words.now ≡ start.now }
 {

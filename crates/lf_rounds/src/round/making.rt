@@ -3,17 +3,20 @@ ghost use Rattle.std.specs.Prelude.{◌≡◌, ◌*◌, ◌<◌, ◌≤◌, ◌^
 ghost use Rattle.lf_ast.specs.Rules.{rule_trees};
 ghost use Rattle.lf_classes.specs.RowWords.{word_count};
 ghost use Rattle.lf_semantics.specs.Environments.{CoversRules, recorded_names};
-ghost use Rattle.lf_rounds.specs.Facts.{IsOver, first_seat};
-ghost use Rattle.lf_rounds.specs.Tasks.{ArePieces, IsBelowLeast, is_recording};
+ghost use Rattle.lf_rounds.specs.Facts.{IsOver, IsOverDue, first_seat};
+ghost use Rattle.lf_rounds.specs.Tasks.{ArePieces, AreRecording, IsBelowLeast, OthersHold, is_recording};
+ghost use Rattle.lf_rounds.specs.views.Noting.{IsKnown};
 
 use super::{Round, RoundSeat};
+use crate::known::Known;
 use crate::rule::About;
 use atomic_table::Table;
 use lf_ast::Rule;
 use lf_base::{Memory, Seq};
 use lf_board::rule::Counts;
-use lf_classes::{Universe, recorded_names};
+use lf_classes::Universe;
 use lf_deps::order;
+use lf_flow::Env;
 use std::alloc::Global;
 use std::snapshot::Snapshot;
 
@@ -36,10 +39,35 @@ impl Round {
         ensures round { IfOk result (λ made. IsOver universe.now rules.now words.now seats made.0) }
         ensures seat { IfOk result (λ made. made.1 ≡ first_seat made.0) }
     {
-        let _labels = universe.labels();
-        let names = recorded_names(alloc, rules.as_slice())?;
+        let env = Env::bottom(alloc, universe, rules)?;
+        let known = Known::of(alloc, rules, &env)?;
         let pieces = recording_rules(alloc, rules)?;
         let start = words.copy()?;
+        let made = Round::of_due(alloc, universe, rules, known, pieces, start, seats)?;
+        Ok(made)
+    }
+
+    /// A round over those recording rules that are due. The words hold each other one already.
+    pub(crate) fn of_due(
+        alloc: Global,
+        universe: &Universe,
+        rules: &Seq<Rule>,
+        known: Known,
+        pieces: Seq<u32>,
+        start: Seq<u64>,
+        seats: u32,
+    ) -> Result<(Round, RoundSeat), Memory>
+        requires seats { (0 < seats) × (seats ≤ 64) }
+        requires covers { CoversRules universe.now (rule_trees rules.now) }
+        requires known { IsKnown (rule_trees rules.now) known.names known.reads }
+        requires recording { AreRecording (rule_trees rules.now) pieces }
+        requires others { OthersHold universe.now (rule_trees rules.now) pieces start }
+        requires words { length start ≡ length (recorded_names (rule_trees rules.now)) * word_count universe.now }
+        requires below { IsBelowLeast universe.now (rule_trees rules.now) start }
+        ensures round { IfOk result (λ made. IsOverDue universe.now rules.now known.reads pieces start seats made.0) }
+        ensures seat { IfOk result (λ made. made.1 ≡ first_seat made.0) }
+    {
+        let _labels = universe.labels();
         let about = About {
             counts: Counts {
                 pieces: count(&pieces)?,
@@ -47,6 +75,7 @@ impl Round {
             },
             universe: Snapshot::of(universe),
             rules: Snapshot::of(rules),
+            reads: Snapshot::of(&known.reads),
             pieces: Snapshot::of(&pieces),
             start: Snapshot::of(&start),
         };
@@ -54,7 +83,7 @@ impl Round {
         let (table, seat) = Table::of_words(alloc, opening.as_slice(), &about)?;
         let round = Round {
             table,
-            names,
+            known,
             pieces,
             start,
             width: universe.words(),
@@ -62,13 +91,14 @@ impl Round {
         let seat = RoundSeat {
             seat,
             is_open: true,
+            notes: Vec::new(alloc),
         };
         Ok((round, seat))
     }
 }
 
 /// The numbers of the recording rules, in the order of the rules.
-fn recording_rules(alloc: Global, rules: &Seq<Rule>) -> Result<Seq<u32>, Memory>
+pub(crate) fn recording_rules(alloc: Global, rules: &Seq<Rule>) -> Result<Seq<u32>, Memory>
     ensures { IfOk result (ArePieces (rule_trees rules.now)) }
 {
     let order = order(alloc, rules)?;

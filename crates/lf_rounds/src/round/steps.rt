@@ -1,7 +1,7 @@
 //! The steps of a seat at work: each is a single atomic step on a word of the table.
 ghost use Rattle.std.specs.Prelude.{◌≡◌, true, false, ◌+◌, ◌<◌, length, Bool, IfSome, MatchOption};
 ghost use Rattle.lf_rounds.specs.Facts.{task};
-ghost use Rattle.lf_rounds.specs.Rounds.{claimed_view, finished_view, missed_view, noted_view, raised_view};
+ghost use Rattle.lf_rounds.specs.Rounds.{IsSummed, claimed_view, finished_view, missed_view, noted_view, raised_view};
 ghost use Rattle.lf_rounds.specs.Tasks.{place_of, stored_word, width};
 ghost use Rattle.lf_rounds.specs.views.Working.{IsUsed, seen};
 
@@ -58,6 +58,7 @@ impl Round {
         requires within { place < length self.now.start }
         requires place { place ≡ place_of (task self.now) seat.old.me.0.piece seat.old.me.0.raised }
         requires word { word ≡ stored_word (task self.now) seat.old.me.0.piece (seen self.now seat.old.me) seat.old.me.0.raised }
+        requires summed { IsSummed (task self.now) (record { piece = seat.old.me.0.piece; loads = seat.old.me.0.loads }) }
         ensures used { IsUsed self.now seat.new.table_id seat.new.me }
         ensures finished { (added : Bool) × (seat.new.me.0 ≡ finished_view seat.old.me.0 added) }
     {

@@ -1,24 +1,27 @@
 //! Work on the pieces of a round.
-ghost use Rattle.std.specs.Prelude.{◌≡◌, ℕ, true, false, ◌*◌, ◌<◌, ◌++◌, List, length, IfErr, IfOk, Some, take, drop};
+ghost use Rattle.std.specs.Prelude.{◌≡◌, ℕ, true, false, ◌+◌, ◌*◌, ◌<◌, ◌++◌, List, [], ◌∷◌, length, sum, IfErr, IfOk, Some, take, drop};
 ghost use Rattle.std.specs.List.{Contains};
 ghost use Rattle.lf_ast.specs.Rules.{rule_tree, rule_trees};
-ghost use Rattle.lf_classes.specs.RowWords.{row_of_words};
 ghost use Rattle.lf_flow.specs.Reads.{Ascend};
 ghost use Rattle.lf_semantics.specs.ClassRows.{HasShape};
 ghost use Rattle.lf_semantics.specs.Environments.{IsEnvironmentOf, recorded_row};
 ghost use Rattle.lf_semantics.specs.Listing.{place};
 ghost use Rattle.lf_rounds.specs.Facts.{task};
-ghost use Rattle.lf_rounds.specs.Tasks.{names, rule_of, stands_for, width};
+ghost use Rattle.lf_rounds.specs.Rounds.{IsSummed};
+ghost use Rattle.lf_rounds.specs.Sums.{sum_of_loads, sum_of_rows};
+ghost use Rattle.lf_rounds.specs.Tasks.{names, read_by, rule_of, stands_for, width};
+ghost use Rattle.lf_rounds.specs.views.Noting.{AreNoted, DidMore, IsNoted};
 ghost use Rattle.lf_rounds.specs.views.Working.{Begins, ChangedAt, HasRead, HasWorked, IsAsBefore, IsStored, IsUsed, seen};
 
 use super::{Round, RoundSeat};
-use crate::rule::RoundView;
+use crate::rule::{Loaded, RoundView};
+use crate::sums::with_words;
 use atomic_table::Seat;
 use lf_ast::Rule;
 use lf_base::{Gate, Memory, Seq};
 use lf_classes::{Row, Universe};
 use lf_fix::recorded_row;
-use lf_flow::{Env, reads};
+use lf_flow::Env;
 use std::alloc::Global;
 
 /// The phase of the rounds, which the gate is told.
@@ -43,7 +46,41 @@ impl Round {
         ensures worked { IfOk result (λ _. (claims : List ℕ) × (seat.new ≡ record seat.old { is_open = false; claims = seat.old.claims ++ claims })) }
         ensures memory { IfErr result (λ _. seat.new.is_whole ≡ false) }
     {
-        self.work_all(alloc, &mut seat.seat, universe, rules, gate)?;
+        self.work_all(
+            alloc,
+            &mut seat.seat,
+            &mut seat.notes,
+            universe,
+            rules,
+            gate,
+        )?;
+        seat.is_open = false;
+        Ok(())
+    }
+
+    /// The same, in an environment of the rules that is at hand.
+    pub(crate) fn work_in<G: Gate>(
+        &self,
+        alloc: Global,
+        seat: &mut RoundSeat,
+        universe: &Universe,
+        rules: &Seq<Rule>,
+        env: &mut Env,
+        gate: &G,
+    ) -> Result<(), Memory>
+        requires own { seat.old.board ≡ self.now.board }
+        requires open { (seat.old.is_open ≡ true) × (seat.old.is_whole ≡ true) }
+        requires over { (universe.now ≡ self.now.universe) × (rules.now ≡ self.now.rules) }
+        requires env { IsEnvironmentOf self.now.universe (rule_trees self.now.rules) env.old }
+        ensures worked { IfOk result (λ _. (claims : List ℕ) × (seat.new ≡ record seat.old { is_open = false; claims = seat.old.claims ++ claims })) }
+        ensures env { IfOk result (λ _. IsEnvironmentOf self.now.universe (rule_trees self.now.rules) env.new) }
+    {
+        let RoundSeat {
+            seat: own,
+            notes,
+            ..
+        } = seat;
+        self.work_all_in(alloc, own, notes, universe, rules, env, gate)?;
         seat.is_open = false;
         Ok(())
     }
@@ -53,6 +90,7 @@ impl Round {
         &self,
         alloc: Global,
         seat: &mut Seat<(), RoundView>,
+        notes: &mut Vec<Loaded>,
         universe: &Universe,
         rules: &Seq<Rule>,
         gate: &G,
@@ -60,21 +98,54 @@ impl Round {
         requires used { IsUsed self.now seat.old.table_id seat.old.me }
         requires open { (seat.old.me.0.busy ≡ false) × (seat.old.me.0.board.missed ≡ 0) }
         requires over { (universe.now ≡ self.now.universe) × (rules.now ≡ self.now.rules) }
+        requires noted { AreNoted seat.old.me.0.done notes.old.items }
         ensures used { IsUsed self.now seat.new.table_id seat.new.me }
         ensures worked { IfOk result (λ _. HasWorked seat.old.me.0 seat.new.me.0) }
         ensures memory { IfErr result (λ _. (seat.new.me.0.busy ≡ true) × (seat.new.me.0.board.missed ≡ 0)) }
+        ensures noted { AreNoted seat.new.me.0.done notes.new.items }
     {
         match self.claim(seat) {
-            Some(piece) => self.work_on_from(alloc, seat, universe, rules, gate, piece),
+            Some(piece) => self.work_anew(alloc, seat, notes, universe, rules, gate, piece),
             None => Ok(()),
         }
     }
 
-    /// Works on a piece that was claimed, and on each that it claims.
-    fn work_on_from<G: Gate>(
+    /// The same, in an environment that is at hand.
+    fn work_all_in<G: Gate>(
         &self,
         alloc: Global,
         seat: &mut Seat<(), RoundView>,
+        notes: &mut Vec<Loaded>,
+        universe: &Universe,
+        rules: &Seq<Rule>,
+        env: &mut Env,
+        gate: &G,
+    ) -> Result<(), Memory>
+        requires used { IsUsed self.now seat.old.table_id seat.old.me }
+        requires open { (seat.old.me.0.busy ≡ false) × (seat.old.me.0.board.missed ≡ 0) }
+        requires over { (universe.now ≡ self.now.universe) × (rules.now ≡ self.now.rules) }
+        requires noted { AreNoted seat.old.me.0.done notes.old.items }
+        requires env { IsEnvironmentOf self.now.universe (rule_trees self.now.rules) env.old }
+        ensures used { IsUsed self.now seat.new.table_id seat.new.me }
+        ensures worked { IfOk result (λ _. HasWorked seat.old.me.0 seat.new.me.0) }
+        ensures memory { IfErr result (λ _. (seat.new.me.0.busy ≡ true) × (seat.new.me.0.board.missed ≡ 0)) }
+        ensures noted { AreNoted seat.new.me.0.done notes.new.items }
+        ensures env { IfOk result (λ _. IsEnvironmentOf self.now.universe (rule_trees self.now.rules) env.new) }
+    {
+        match self.claim(seat) {
+            Some(piece) => {
+                self.work_on_from(alloc, seat, notes, universe, rules, env, gate, piece)
+            }
+            None => Ok(()),
+        }
+    }
+
+    /// Works on a piece that was claimed, and on each that it claims, in an environment of its own.
+    fn work_anew<G: Gate>(
+        &self,
+        alloc: Global,
+        seat: &mut Seat<(), RoundView>,
+        notes: &mut Vec<Loaded>,
         universe: &Universe,
         rules: &Seq<Rule>,
         gate: &G,
@@ -84,23 +155,55 @@ impl Round {
         requires begins { Begins first seat.old.me.0 }
         requires piece { first < self.now.board.pieces }
         requires over { (universe.now ≡ self.now.universe) × (rules.now ≡ self.now.rules) }
+        requires noted { AreNoted seat.old.me.0.done notes.old.items }
         ensures used { IsUsed self.now seat.new.table_id seat.new.me }
         ensures worked { IfOk result (λ _. HasWorked seat.old.me.0 seat.new.me.0) }
         ensures memory { IfErr result (λ _. (seat.new.me.0.busy ≡ true) × (seat.new.me.0.board.missed ≡ 0)) }
+        ensures noted { AreNoted seat.new.me.0.done notes.new.items }
     {
         // For what is known of a round.
         let _width = self.width;
         let mut env = Env::bottom(alloc, universe, rules)?;
+        self.work_on_from(alloc, seat, notes, universe, rules, &mut env, gate, first)
+    }
+
+    /// Works on a piece that was claimed, and on each that it claims. A note that finds no memory is left out: its rule counts as due again.
+    fn work_on_from<G: Gate>(
+        &self,
+        alloc: Global,
+        seat: &mut Seat<(), RoundView>,
+        notes: &mut Vec<Loaded>,
+        universe: &Universe,
+        rules: &Seq<Rule>,
+        env: &mut Env,
+        gate: &G,
+        first: u32,
+    ) -> Result<(), Memory>
+        requires used { IsUsed self.now seat.old.table_id seat.old.me }
+        requires begins { Begins first seat.old.me.0 }
+        requires piece { first < self.now.board.pieces }
+        requires over { (universe.now ≡ self.now.universe) × (rules.now ≡ self.now.rules) }
+        requires noted { AreNoted seat.old.me.0.done notes.old.items }
+        requires env { IsEnvironmentOf self.now.universe (rule_trees self.now.rules) env.old }
+        ensures used { IsUsed self.now seat.new.table_id seat.new.me }
+        ensures worked { IfOk result (λ _. HasWorked seat.old.me.0 seat.new.me.0) }
+        ensures memory { IfErr result (λ _. (seat.new.me.0.busy ≡ true) × (seat.new.me.0.board.missed ≡ 0)) }
+        ensures noted { AreNoted seat.new.me.0.done notes.new.items }
+        ensures env { IfOk result (λ _. IsEnvironmentOf self.now.universe (rule_trees self.now.rules) env.new) }
+    {
+        // For what is known of a round.
+        let _width = self.width;
         let mut next = Some(first);
         while let Some(piece) = next {
             gate.pass(ROUNDS, piece);
-            self.work_on(alloc, seat, universe, rules, &mut env, piece)?;
+            let note = self.work_on(alloc, seat, universe, rules, env, piece)?;
+            let _ = notes.push(note);
             next = self.claim(seat);
         }
         Ok(())
     }
 
-    /// Works on a piece. The rows of the names that its rule doesn't read are left as they are in the environment.
+    /// Works on a piece, and notes what was loaded. The rows of the names that its rule doesn't read are left as they are in the environment.
     fn work_on(
         &self,
         alloc: Global,
@@ -109,7 +212,7 @@ impl Round {
         rules: &Seq<Rule>,
         env: &mut Env,
         piece: u32,
-    ) -> Result<(), Memory>
+    ) -> Result<Loaded, Memory>
         requires used { IsUsed self.now seat.old.table_id seat.old.me }
         requires begins { Begins piece seat.old.me.0 }
         requires piece { piece < self.now.board.pieces }
@@ -118,17 +221,19 @@ impl Round {
         ensures used { IsUsed self.now seat.new.table_id seat.new.me }
         ensures env { IfOk result (λ _. IsEnvironmentOf self.now.universe (rule_trees self.now.rules) env.new) }
         ensures board { seat.new.me.0.board ≡ seat.old.me.0.board }
+        ensures did { DidMore seat.old.me.0 seat.new.me.0 }
         ensures done { IfOk result (λ _. seat.new.me.0.busy ≡ false) }
+        ensures noted { IfOk result (IsNoted seat.new.me.0.done) }
         ensures memory { IfErr result (λ _. seat.new.me.0.busy ≡ true) }
     {
         // For what is known of a round.
         let _width = self.width;
         let rule = self.rule_of(rules, piece);
-        self.load_read(alloc, seat, universe, env, rule)?;
+        let sum = self.load_read(alloc, seat, universe, env, rule, piece)?;
         let row = recorded_row(alloc, universe, env, rule)?;
-        let name = self.names.place(rule.name.as_str());
+        let name = self.known.names.place(rule.name.as_str());
         self.raise_row(seat, name, &row);
-        Ok(())
+        Ok(Loaded { piece, sum })
     }
 
     /// The rule of a piece.
@@ -142,7 +247,17 @@ impl Round {
         rules.get(number as usize)
     }
 
-    /// Loads the rows that a rule reads. What it stores over the environment is what it stores over that for which the words stand that are noted.
+    /// The numbers of the names that the rule of a piece reads.
+    fn read_by(&self, piece: u32) -> &Seq<u32>
+        requires { piece < self.now.board.pieces }
+        ensures { result.now ≡ read_by (task self.now) piece }
+    {
+        let number = *self.pieces.get(piece as usize);
+        self.known.reads.get(number as usize)
+    }
+
+    /// Loads the rows that the rule of a piece reads, and sums up their words. What the rule stores over the environment is what it stores over that for which the words stand
+    /// that are noted.
     fn load_read(
         &self,
         alloc: Global,
@@ -150,24 +265,29 @@ impl Round {
         universe: &Universe,
         env: &mut Env,
         rule: &Rule,
-    ) -> Result<(), Memory>
+        piece: u32,
+    ) -> Result<u128, Memory>
         requires used { IsUsed self.now seat.old.table_id seat.old.me }
         requires work { (seat.old.me.0.busy ≡ true) × (seat.old.me.0.raised ≡ 0) }
         requires over { universe.now ≡ self.now.universe }
         requires env { IsEnvironmentOf self.now.universe (rule_trees self.now.rules) env.old }
+        requires piece { piece < self.now.board.pieces }
+        requires rule { rule_of (task self.now) piece ≡ Some (rule_tree rule.now) }
         ensures used { IsUsed self.now seat.new.table_id seat.new.me }
         ensures same { IsAsBefore seat.old.me.0 seat.new.me.0 }
         ensures env { IfOk result (λ _. IsEnvironmentOf self.now.universe (rule_trees self.now.rules) env.new) }
         ensures read { IfOk result (λ _. recorded_row self.now.universe env.new (rule_tree rule.now) ≡ recorded_row self.now.universe (stands_for (task self.now) (seen self.now seat.new.me)) (rule_tree rule.now)) }
+        ensures loads { IfOk result (λ sum. sum_of_loads seat.new.me.0.loads ≡ sum_of_loads seat.old.me.0.loads + sum) }
+        ensures rows { IfOk result (λ sum. sum ≡ sum_of_rows (width (task self.now)) (seen self.now seat.new.me) (read_by (task self.now) piece)) }
     {
         // For what is known of a round.
         let _width = self.width;
-        let numbers = reads(alloc, env, &rule.expr)?;
-        self.load_rows(alloc, seat, universe, env, numbers.as_slice())?;
-        Ok(())
+        let numbers = self.read_by(piece);
+        let sum = self.load_rows(alloc, seat, universe, env, numbers.as_slice())?;
+        Ok(sum)
     }
 
-    /// Loads the rows of the names with these numbers.
+    /// Loads the rows of the names with these numbers, and sums up their words.
     fn load_rows(
         &self,
         alloc: Global,
@@ -175,7 +295,7 @@ impl Round {
         universe: &Universe,
         env: &mut Env,
         numbers: &[u32],
-    ) -> Result<(), Memory>
+    ) -> Result<u128, Memory>
         requires used { IsUsed self.now seat.old.table_id seat.old.me }
         requires work { (seat.old.me.0.busy ≡ true) × (seat.old.me.0.raised ≡ 0) }
         requires over { universe.now ≡ self.now.universe }
@@ -186,35 +306,19 @@ impl Round {
         ensures same { IsAsBefore seat.old.me.0 seat.new.me.0 }
         ensures env { IfOk result (λ _. IsEnvironmentOf self.now.universe (rule_trees self.now.rules) env.new) }
         ensures read { IfOk result (λ _. HasRead (task self.now) (seen self.now seat.new.me) numbers.now env.new) }
+        ensures loads { IfOk result (λ sum. sum_of_loads seat.new.me.0.loads ≡ sum_of_loads seat.old.me.0.loads + sum) }
+        ensures rows { IfOk result (λ sum. sum ≡ sum_of_rows (width (task self.now)) (seen self.now seat.new.me) numbers.now) }
     {
         // For what is known of a round.
         let _width = self.width;
+        let mut sum = 0;
         for number in numbers {
-            let row = self.load_row(alloc, seat, universe, *number)?;
+            let words = self.load_words(alloc, seat, *number)?;
+            sum = with_words(sum, words.as_slice())?;
+            let row = Row::from_words(alloc, universe, &words)?;
             env.put(*number, row);
         }
-        Ok(())
-    }
-
-    /// Loads the row of the name with a number.
-    fn load_row(
-        &self,
-        alloc: Global,
-        seat: &mut Seat<(), RoundView>,
-        universe: &Universe,
-        number: u32,
-    ) -> Result<Row, Memory>
-        requires used { IsUsed self.now seat.old.table_id seat.old.me }
-        requires work { (seat.old.me.0.busy ≡ true) × (seat.old.me.0.raised ≡ 0) }
-        requires over { universe.now ≡ self.now.universe }
-        requires number { number < length (names (task self.now)) }
-        ensures used { IsUsed self.now seat.new.table_id seat.new.me }
-        ensures same { IsAsBefore seat.old.me.0 seat.new.me.0 }
-        ensures others { ChangedAt (number * width (task self.now)) (width (task self.now)) (seen self.now seat.old.me) (seen self.now seat.new.me) }
-        ensures row { IfOk result (λ row. row ≡ row_of_words self.now.universe (take (width (task self.now)) (drop (number * width (task self.now)) (seen self.now seat.new.me)))) }
-    {
-        let words = self.load_words(alloc, seat, number)?;
-        Row::from_words(alloc, universe, &words)
+        Ok(sum)
     }
 
     /// Loads the words of the row of the name with a number.
@@ -232,6 +336,7 @@ impl Round {
         ensures others { ChangedAt (number * width (task self.now)) (width (task self.now)) (seen self.now seat.old.me) (seen self.now seat.new.me) }
         ensures words { IfOk result (λ words. words ≡ take (width (task self.now)) (drop (number * width (task self.now)) (seen self.now seat.new.me))) }
         ensures len { IfOk result (λ words. length words ≡ width (task self.now)) }
+        ensures loads { IfOk result (λ words. sum_of_loads seat.new.me.0.loads ≡ sum_of_loads seat.old.me.0.loads + sum words) }
     {
         let at = number as usize * self.width as usize;
         let mut words = Seq::from_vec(Vec::with_capacity(alloc, self.width as usize)?);
@@ -248,8 +353,10 @@ impl Round {
         requires name { name < length (names (task self.now)) }
         requires row { HasShape self.now.universe row.now }
         requires stored { IsStored (task self.now) seat.old.me.0.piece (seen self.now seat.old.me) row.now (name * width (task self.now)) }
+        requires summed { IsSummed (task self.now) (record { piece = seat.old.me.0.piece; loads = seat.old.me.0.loads }) }
         ensures used { IsUsed self.now seat.new.table_id seat.new.me }
         ensures done { (seat.new.me.0.busy ≡ false) × (seat.new.me.0.board ≡ seat.old.me.0.board) }
+        ensures did { seat.new.me.0.done ≡ seat.old.me.0.done ++ record { piece = seat.old.me.0.piece; loads = seat.old.me.0.loads } ∷ [] }
     {
         let at = name * self.width as usize;
         let last = self.width - 1;

@@ -1,33 +1,59 @@
-use Rattle.std.proofs.Common.{◌≡◌, ◌≢◌, ◌<◌, ℕ, List, length, ap, sym, ◌∙◌, subst, arith}
+use Rattle.std.proofs.Common.{◌≡◌, ◌≢◌, ◌*◌, ℕ, List, length, ⊎_elim, ap, sym, ◌∙◌, subst, arith}
+use Rattle.std.proofs.lemmas.List.{length-map}
+use Rattle.lf_ast.specs.Labels.{Bytes}
 use Rattle.lf_ast.specs.Rules.{rule_trees}
-use Rattle.lf_ast.specs.declared.rule.Rule.{Rule}
-use Rattle.lf_classes.specs.RowWords.{WordsLeq}
-use Rattle.lf_semantics.specs.Listing.{Listing}
-use Rattle.lf_rounds.specs.Tasks.{IsBelowLeast}
+use Rattle.lf_classes.specs.RowWords.{word_count}
+use Rattle.lf_fix.proofs.Rounds.{start_is, start_names}
+use Rattle.lf_flow.specs.Reads.{names_of}
+use Rattle.lf_semantics.specs.ClassRows.{Sets}
+use Rattle.lf_semantics.specs.Environments.{IsEnvironmentOf, IsLeast, recorded_names}
+use Rattle.lf_semantics.specs.RowTable.{Environment}
+use Rattle.lf_rounds.specs.Tasks.{HoldRules}
+use Rattle.lf_rounds.specs.Words.{environment_of}
 use Rattle.lf_rounds.proofs.Bits.{bits_more, bits_most}
-use Rattle.std.proofs.lemmas.Bool.{not-false}
+use Rattle.lf_rounds.proofs.Standings.{least_at_end, none_due}
 use Rattle.lf_rounds.proofs.solving.solve_shared.Goals as goal
+
+pub first-requires-clause-names : goal.first-requires-clause-names
+first-requires-clause-names g c = ap names_of c.in_ok-env.ensures ∙ start_names c.args.universe.now (recorded_names (rule_trees c.args.rules.now))
+
+pub rounds-init : goal.rounds-init
+rounds-init g c =
+    let u = c.args.universe.now in
+    let rules = rule_trees c.args.rules.now in
+    let E : Environment → Type 0 = λ env. IsEnvironmentOf u rules env in
+    record { standing = c.in_ok-standing.ensures; env = subst E (sym c.in_ok-env.ensures) (start_is u c.labels-labels.ensures.within.listing rules c.requires.covers) }
 
 pub rounds-smaller : goal.rounds-smaller
 rounds-smaller g c =
-    let over = c.in_ok-round.ensures.round in
-    let end = c.in_ok-end.ensures in
-    let next : List ℕ = c.in_ok-end.end.words in
-    let old : List ℕ = c.rounds.words in
-    let len : length old ≡ length next = sym (end.len ∙ ap length over.start) in
-    let A : List ℕ → Type 0 = λ l. WordsLeq l next in
+    let rises = c.in_ok-next.ensures.rises in
+    let next : List ℕ = c.in_ok-next.next.words in
+    let old : List ℕ = c.rounds.standing.words in
+    let len : length old ≡ length next = sym rises.wide in
     let N : List ℕ → Type 0 = λ l. next ≢ l in
-    let more = bits_more old next len c.rounds.invariant.fit end.fit (subst A over.start end.above) (subst N over.start (end.changed.0 (not-false c.in_ok-end.end.changed c.if-not-end.false))) in
+    let more = bits_more old next len c.rounds.invariant.standing.fit c.in_ok-next.ensures.standing.fit rises.above (subst N c.in_ok-next.ensures.start (c.is_last.ensures.more c.if-is_last.false)) in
     omega (arith, more, bits_most next, len)
 
-pub rounds-preserved : goal.rounds-preserved
-rounds-preserved g c =
-    let over = c.in_ok-round.ensures.round in
-    let end = c.in_ok-end.ensures in
-    let next : List ℕ = c.in_ok-end.end.words in
-    let B : Listing × List Rule → Type 0 = λ x. IsBelowLeast x.0 (rule_trees x.1) next in
-    record {
-      long = end.len ∙ ap length over.start ∙ c.rounds.invariant.long;
-      fit = end.fit;
-      below = subst B (λ i. (over.universe i, over.rules i)) end.below;
-    }
+pub environment-requires : goal.environment-requires
+environment-requires g c =
+    let is = c.in_ok-next.ensures.standing in
+    let named = c.in_ok-next.ensures.env.names in
+    let env = c.behind_round.new.env in
+    is.long ∙ ap (λ (n : ℕ). n * word_count c.args.universe.now) (sym (ap length named) ∙ length-map env (λ (entry : Bytes × Sets). entry.0))
+
+pub returns-then-is_last : goal.returns-then-is_last
+returns-then-is_last g c =
+    let u = c.args.universe.now in
+    let rules = rule_trees c.args.rules.now in
+    let is = c.in_ok-next.ensures.standing in
+    let rises = c.in_ok-next.ensures.rises in
+    let next = c.in_ok-next.next in
+    let words : List ℕ = next.words in
+    let H : List ℕ → Type 0 = λ over. HoldRules u rules words over in
+    let held : HoldRules u rules words words = ⊎_elim
+    (λ (none : length next.due ≡ 0). none_due u rules next.due words is.others none)
+    (λ (same : words ≡ c.in_ok-next.before). subst H (sym c.in_ok-next.ensures.start ∙ sym same) rises.held)
+    (c.is_last.ensures.last c.if-is_last.true) in
+    let least = least_at_end u rules next.known.reads next.due words c.labels-labels.ensures.within.listing c.requires.covers is.known.reads is.recording is.others is.long held is.below in
+    let L : Environment → Type 0 = λ env. IsLeast u rules env in
+    subst L (sym (c.in_ok-env-2.ensures ∙ ap (λ names. environment_of u names words) c.in_ok-next.ensures.env.names)) least

@@ -1,4 +1,4 @@
-use Rattle.std.proofs.Common.{◌^◌, ◌<◌, ap, sym, ◌∙◌, arith}
+use Rattle.std.proofs.Common.{◌<◌, ap, sym, ◌∙◌, arith}
 use Rattle.lf_board.specs.Seats.{BoardFacts}
 use Rattle.lf_rounds.specs.Facts.{RoundFacts}
 use Rattle.lf_rounds.proofs.Allowed.{may_claim}

@@ -1,8 +1,11 @@
-use Rattle.std.proofs.Common.{ap, sym, ◌∙◌, arith}
+use Rattle.std.proofs.Common.{◌==◌, ◌++◌, ap, sym, ◌∙◌, arith}
 use Rattle.lf_board.specs.Seats.{BoardFacts}
 use Rattle.lf_rounds.specs.Facts.{RoundFacts, RoundSeatFacts}
+use Rattle.lf_rounds.specs.views.Working.{Mine}
 use Rattle.lf_rounds.proofs.Allowed.{may_join}
+use Rattle.lf_rounds.proofs.Noting.{noted_left, noted_same}
 use Rattle.std.proofs.lemmas.Bool.{not-true}
+use Rattle.lf_rounds.proofs.Seated.{both_open}
 use Rattle.lf_rounds.proofs.round.Round.join.Goals as goal
 
 pub join_seat-requires : goal.join_seat-requires
@@ -16,3 +19,15 @@ join_seat-requires c =
     let idle = not-true s.me.0.busy (ap (λ (f : RoundSeatFacts). f.is_whole) c.seat.view_is ∙ c.requires.whole.0) in
     let idle' = not-true o.me.0.busy (ap (λ (f : RoundSeatFacts). f.is_whole) c.other.view_is ∙ c.requires.whole.1) in
     (ap (λ (b : BoardFacts). b.table) mine, ap (λ (b : BoardFacts). b.table) theirs, c.other.invariant.1, omega (arith, c.self.invariant.words), may_join k s.id s.me.0 o.id o.me.0 c.seat.invariant.0 idle idle')
+
+pub invariant_of-seat : goal.invariant_of-seat
+invariant_of-seat c =
+    let v = c.seat.inside.seat.me.0 in
+    let w = c.other.inside.seat.me.0 in
+    let me = c.join_seat.ensures.2 in (
+      omega (arith, ap (λ (m : Mine). m.0.board.share) me, c.seat.invariant.0),
+      ap (λ (m : Mine). m.1) me ∙ c.seat.invariant.1,
+      c.both-seat-inside.ensures ∙ both_open c.seat.inside.is_open c.other.inside.is_open v.board.missed w.board.missed c.seat.invariant.2 c.other.invariant.2 ∙ sym (ap (λ (m : Mine). m.0.board.missed == 0) me),
+      noted_same (v.done ++ w.done) c.join_seat.new.seat.me.0.done c.seat.inside.notes.items (ap (λ (m : Mine). m.0.done) me)
+          (noted_left v.done w.done c.seat.inside.notes.items c.seat.invariant.3),
+    )

@@ -1,24 +1,27 @@
-use Rattle.std.proofs.Common.{◌≡◌, ◌+◌, ◌*◌, ◌<◌, ◌≤◌, ℕ, List, length, get_or, take, ap, sym, ◌∙◌, subst, arith}
-use Rattle.std.specs.List.{Contains}
+use Rattle.std.proofs.Common.{◌≡◌, ◌+◌, ◌*◌, ◌<◌, ◌≤◌, ℕ, List, length, get_or, take, drop, ap, sym, ◌∙◌, subst, arith}
+use Rattle.std.specs.List.{Contains, sum}
 use Rattle.std.proofs.lemmas.Grind.{get_or_default_zero}
 use Rattle.std.proofs.lemmas.List.{length-map, take_all}
 use Rattle.lf_ast.specs.Labels.{Bytes}
 use Rattle.lf_ast.specs.Rules.{rule_trees}
 use Rattle.lf_classes.proofs.RowWordOrder.{shape_of_words}
+use Rattle.lf_classes.specs.RowWords.{row_of_words}
+use Rattle.lf_semantics.specs.Listing.{Listing}
 use Rattle.lf_semantics.specs.ClassRows.{Sets}
 use Rattle.lf_semantics.specs.Environments.{IsEnvironmentOf, IsRow}
 use Rattle.lf_semantics.specs.RowTable.{Environment}
 use Rattle.lf_rounds.specs.Facts.{RoundFacts, task}
+use Rattle.lf_rounds.specs.Sums.{sum_of_rows}
 use Rattle.lf_rounds.specs.Tasks.{IsTask, names, width}
-use Rattle.lf_rounds.specs.views.Working.{HasRead, IsAsBefore, seen}
+use Rattle.lf_rounds.specs.views.Working.{HasRead, seen}
 use Rattle.lf_rounds.proofs.Environments.{some_label}
 use Rattle.lf_rounds.proofs.Loading.{as_before}
-use Rattle.lf_rounds.proofs.Reading.{environment_put, number_within, read_one}
+use Rattle.lf_rounds.proofs.Reading.{environment_put, number_within, read_one, sum_one}
 use Rattle.lf_rounds.proofs.WordSteps.{length-noted}
 use Rattle.lf_rounds.proofs.round.Round.load_rows.Goals as goal
 
-pub load_row-requires-clause-number : goal.load_row-requires-clause-number
-load_row-requires-clause-number c =
+pub load_words-requires-clause-number : goal.load_words-requires-clause-number
+load_words-requires-clause-number c =
     let numbers : List ℕ = c.args.numbers.now in
     let i : ℕ = c.loop-number.number-index in
     let env : Environment = c.loop-number.env in
@@ -46,22 +49,29 @@ loop-number-preserved c =
     let env : Environment = l.env in
     let row : Sets = c.in_ok-row.row in
     let old = seen round l.seat.me in
-    let new = seen round c.load_row.new.seat.me in
+    let new = seen round c.load_words.new.seat.me in
     let h : i < length numbers = c.loop-number-test.true in
     let count : length env ≡ length (names (task round)) = sym (length-map env (λ (entry : Bytes × Sets). entry.0)) ∙ ap length l.invariant.env.names in
     let first = sym (length-map c.args.env.now (λ (entry : Bytes × Sets). entry.0)) ∙ ap length c.requires.env.names in
-    let len : length new ≡ length old = length-noted round.start c.load_row.new.seat.me.0.loads ∙ sym (length-noted round.start l.seat.me.0.loads) in
+    let len : length new ≡ length old = length-noted round.start c.load_words.new.seat.me.0.loads ∙ sym (length-noted round.start l.seat.me.0.loads) in
     let all : length (names (task round)) * width (task round) ≤ length old = omega (arith, length-noted round.start l.seat.me.0.loads, is.words) in
     let within : (k : ℕ) → Contains numbers k → k < length env = λ k d. omega (arith, c.requires.within k d, first, count) in
+    let words : List ℕ = c.in_ok-words.words in
+    let number = get_or numbers i 0 in
+    let part = c.in_ok-words.ensures.words in
+    let made : row ≡ row_of_words round.universe (take (width (task round)) (drop (number * width (task round)) new)) = c.in_ok-row.ensures ∙ ap (λ (x : Listing × List ℕ). row_of_words x.0 x.1) (λ j. (c.requires.over j, part j)) in
+    let sums = sum_one (task round) old new numbers i env row c.requires.ascend h count len all within c.load_words.ensures.others in
     let R : Sets → Type 0 = λ x. IsRow round.universe x in
-    let shaped = subst R (sym c.in_ok-row.ensures.row) (shape_of_words round.universe (some_label round.universe is.listing) _) in
+    let shaped = subst R (sym made) (shape_of_words round.universe (some_label round.universe is.listing) _) in
     let E : Environment → Type 0 = λ x. IsEnvironmentOf round.universe (rule_trees round.rules) x in
     let H : Environment → Type 0 = λ x. HasRead (task round) new (take (i + 1) numbers) x in
     record {
-      used = c.load_row.ensures.used;
-      same = as_before c.args.seat.now.me.0 l.seat.me.0 c.load_row.new.seat.me.0 l.invariant.same c.load_row.ensures.same;
+      loads = omega (arith, c.in_ok-words.ensures.loads, c.in_ok-sum.ensures, ap sum c.as_slice.ensures, l.invariant.loads);
+      rows = omega (arith, sums, c.in_ok-sum.ensures, ap sum c.as_slice.ensures, ap sum part, l.invariant.rows);
+      used = c.load_words.ensures.used;
+      same = as_before c.args.seat.now.me.0 l.seat.me.0 c.load_words.new.seat.me.0 l.invariant.same c.load_words.ensures.same;
       env = subst E (sym c.put.ensures) (environment_put env (get_or numbers i 0) row (number_within (task round) old new numbers i env row c.requires.ascend h count len all within) round.universe (rule_trees round.rules) l.invariant.env shaped);
-      read = subst H (sym c.put.ensures) (read_one (task round) old new numbers i env row c.requires.ascend h count len all within c.load_row.ensures.others c.in_ok-row.ensures.row l.invariant.read);
+      read = subst H (sym c.put.ensures) (read_one (task round) old new numbers i env row c.requires.ascend h count len all within c.load_words.ensures.others made l.invariant.read);
     }
 
 pub returns-clause-read : goal.returns-clause-read
@@ -69,3 +79,9 @@ returns-clause-read c =
     let round = c.args.self.now in
     let H : List ℕ → Type 0 = λ numbers. HasRead (task round) (seen round c.loop-number.seat.me) numbers c.loop-number.env in
     subst H (take_all c.loop-number.number-index c.args.numbers.now c.loop-number-test.false) c.loop-number.invariant.read
+
+pub returns-clause-rows : goal.returns-clause-rows
+returns-clause-rows c =
+    let round = c.args.self.now in
+    let H : List ℕ → Type 0 = λ numbers. c.loop-number.sum ≡ sum_of_rows (width (task round)) (seen round c.loop-number.seat.me) numbers in
+    subst H (take_all c.loop-number.number-index c.args.numbers.now c.loop-number-test.false) c.loop-number.invariant.rows

@@ -1,10 +1,11 @@
-use Rattle.std.proofs.Common.{◌≡◌, ◌≢◌, ◌+◌, ◌*◌, ◌<◌, ◌≤◌, ℕ, List, length, get_or, set, ap, sym, ◌∙◌, subst, arith}
+use Rattle.std.proofs.Common.{◌≡◌, ◌+◌, ◌*◌, ◌<◌, ◌≤◌, length, get_or, set, ap, ◌∙◌, subst, arith}
 use Rattle.lf_rounds.specs.Facts.{RoundFacts, task}
 use Rattle.lf_rounds.specs.Rounds.{noted}
+use Rattle.lf_rounds.specs.Sums.{sum_of_loads}
 use Rattle.lf_rounds.specs.Tasks.{IsTask, width}
 use Rattle.lf_rounds.specs.declared.rule.RoundView.{RoundView}
 use Rattle.lf_rounds.specs.views.Working.{seen}
-use Rattle.lf_rounds.proofs.Loading.{all_read, length_more, noted_same, others_more, read_more, row_within}
+use Rattle.lf_rounds.proofs.Loading.{all_read, length_more, loads_more, noted_same, others_more, read_more, row_within}
 use Rattle.lf_rounds.proofs.WordSteps.{length-noted}
 use Rattle.lf_rounds.proofs.round.Round.load_words.Goals as goal
 
@@ -27,6 +28,8 @@ loop-k-preserved c =
     let eq : after ≡ set before (at + l.k) c.load.result = ap (λ (v : RoundView). noted round.start v.loads) c.load.ensures.noted in
     let h : l.k < width (task round) = omega (arith, c.loop-k-test.true, same) in
     record {
+      loads = ap (λ (v : RoundView). sum_of_loads v.loads) c.load.ensures.noted
+          ∙ loads_more (sum_of_loads c.args.seat.now.me.0.loads) c.load.result (at + l.k) l.seat.me.0.loads l.words c.push.new.self c.in_ok-push.ensures.ok inv.loads;
       used = c.load.ensures.used;
       same = noted_same c.args.seat.now.me.0 l.seat.me.0 c.load.new.seat.me.0 (at + l.k) c.load.result inv.same c.load.ensures.noted;
       others = others_more before after (seen round c.args.seat.now.me) l.words c.push.new.self at l.k (width (task round)) c.load.result eq within h c.in_ok-push.ensures.ok inv.len inv.others;

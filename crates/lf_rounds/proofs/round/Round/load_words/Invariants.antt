@@ -1,5 +1,7 @@
-use Rattle.std.proofs.Common.{◌≡◌, ◌+◌, ◌*◌, ◌<◌, ℕ, length, slice_index}
+use Rattle.std.proofs.Common.{◌≡◌, ◌+◌, ◌<◌, ℕ, length, slice_index}
+use Rattle.std.specs.List.{sum}
 use Rattle.lf_rounds.specs.Facts.{task}
+use Rattle.lf_rounds.specs.Sums.{sum_of_loads}
 use Rattle.lf_rounds.specs.Tasks.{width}
 use Rattle.lf_rounds.specs.views.Working.{ChangedAt, IsAsBefore, IsUsed, seen}
 use Rattle.lf_rounds.proofs.round.Round.load_words.Given as goal
@@ -10,5 +12,6 @@ invariant-loop-k l = record {
   same : IsAsBefore l.initial.seat.me.0 l.seat.me.0;
   others : ChangedAt l.at (width (task l.self)) (seen l.self l.initial.seat.me) (seen l.self l.seat.me);
   len : length l.words ≡ l.k;
+  loads : sum_of_loads l.seat.me.0.loads ≡ sum_of_loads l.initial.seat.me.0.loads + sum l.words;
   read : (j : ℕ) → j < l.k → slice_index l.words j ≡ slice_index (seen l.self l.seat.me) (l.at + j);
 }

@@ -1,29 +1,38 @@
-use Rattle.std.proofs.Common.{◌≡◌, ◌+◌, ◌<◌, ℕ, List, ◌∷◌, length, sym, ◌∙◌, ap, arith}
+use Rattle.std.proofs.Common.{ℕ, List, inl, length, sym, ◌∙◌, ap, subst}
 use Rattle.lf_ast.specs.Rules.{rule_trees}
-use Rattle.lf_ast.specs.declared.rule.Rule.{Rule}
+use Rattle.lf_fix.proofs.Rounds.{start_names}
+use Rattle.lf_flow.specs.Reads.{names_of}
 use Rattle.lf_semantics.specs.Environments.{recorded_names}
-use Rattle.lf_rounds.specs.declared.rule.About.{About}
-use Rattle.lf_rounds.proofs.Making.{kept_over, opens_over}
+use Rattle.lf_rounds.specs.Tasks.{ArePieces, IsBelowLeast}
+use Rattle.lf_rounds.proofs.Pieces.{pieces_all, pieces_recording}
 use Rattle.lf_rounds.proofs.round.Round.new.Goals as goal
 
-pub of_words-requires : goal.of_words-requires
-of_words-requires c =
-    let k : About = record { counts = record { pieces = c.in_ok-count.field-0; seats = c.args.seats }; universe = c.of.result; rules = c.of-2.result; pieces = c.of-3.result; start = c.of-4.result } in
-    let start : c.in_ok-start.start ≡ c.args.words.now = c.in_ok-start.ensures in
-    opens_over k c.args.universe.now c.args.rules.now c.in_ok-pieces.pieces c.args.words.now c.of.ensures c.of-2.ensures c.of-3.ensures (c.of-4.ensures ∙ start)
-    c.as_slice-3.result.now (c.as_slice-3.ensures.value ∙ c.in_ok-opening.ensures ∙ ap (λ (l : List ℕ). 0 ∷ l) (c.as_slice-2.ensures ∙ start)) c.requires.below
+pub of-requires : goal.of-requires
+of-requires c = ap names_of c.in_ok-env.ensures ∙ start_names c.args.universe.now (recorded_names (rule_trees c.args.rules.now))
 
-pub invariant_of-round : goal.invariant_of-round
-invariant_of-round c =
-    let k : About = c.in_ok-table.table.shared.key in
-    let made = c.in_ok-table.ensures in
-    let key = made.5 in
-    let start : c.in_ok-start.start ≡ c.args.words.now = c.in_ok-start.ensures in
-    let opening = c.in_ok-opening.opening in
-    let long : length opening.items ≡ length c.in_ok-start.start + 1 = omega (arith, ap length c.in_ok-opening.ensures, ap length c.as_slice-2.ensures) in
-    kept_over k c.args.universe.now c.args.rules.now c.in_ok-pieces.pieces c.in_ok-start.start
-    (ap (λ (a : About). a.universe.value) key ∙ c.of.ensures) (ap (λ (a : About). a.rules.value) key ∙ c.of-2.ensures) (ap (λ (a : About). a.pieces.value) key ∙ c.of-3.ensures) (ap (λ (a : About). a.start.value) key ∙ c.of-4.ensures)
-    c.in_ok-table.table.shared.table_id c.in_ok-names.names c.words.result
-    c.labels-labels.ensures.within.listing c.requires.covers c.in_ok-pieces.ensures (ap length start ∙ c.requires.words)
-    (ap (λ (a : About). a.counts.pieces) key ∙ c.in_ok-count.ensures.0) (omega (arith, c.in_ok-count.ensures.0, c.in_ok-count.ensures.1)) (omega (arith, ap (λ (a : About). a.counts.seats) key, c.requires.seats.1))
-    (made.0 ∙ ap length c.as_slice-3.ensures.value ∙ long) (omega (arith, long, opening.ok.0)) made.1 (c.in_ok-names.ensures.names ∙ ap (λ (rs : List Rule). recorded_names (rule_trees rs)) c.as_slice.ensures) c.words.ensures
+pub of_due-requires-clause-recording : goal.of_due-requires-clause-recording
+of_due-requires-clause-recording c = pieces_recording (rule_trees c.args.rules.now) c.in_ok-pieces.pieces c.in_ok-pieces.ensures
+
+pub of_due-requires-clause-others : goal.of_due-requires-clause-others
+of_due-requires-clause-others c = λ number r at e. inl (pieces_all (rule_trees c.args.rules.now) c.in_ok-pieces.pieces c.in_ok-pieces.ensures number r at e)
+
+pub of_due-requires-clause-words : goal.of_due-requires-clause-words
+of_due-requires-clause-words c = ap length c.in_ok-start.ensures ∙ c.requires.words
+
+pub of_due-requires-clause-below : goal.of_due-requires-clause-below
+of_due-requires-clause-below c =
+    let B : List ℕ → Type 0 = λ words. IsBelowLeast c.args.universe.now (rule_trees c.args.rules.now) words in
+    subst B (sym c.in_ok-start.ensures) c.requires.below
+
+pub returns-clause-round : goal.returns-clause-round
+returns-clause-round c =
+    let over = c.in_ok-made.ensures.round in
+    let P : List ℕ → Type 0 = λ pieces. ArePieces (rule_trees c.args.rules.now) pieces in
+    record {
+      universe = over.universe;
+      rules = over.rules;
+      start = over.start ∙ c.in_ok-start.ensures;
+      pieces = subst P (sym over.pieces) c.in_ok-pieces.ensures;
+      count = over.count;
+      seats = over.seats;
+    }

@@ -1,4 +1,4 @@
-use Rattle.std.proofs.Common.{◌≡◌, ℕ, ap, ◌∙◌, subst, arith}
+use Rattle.std.proofs.Common.{◌≡◌, ap, ◌∙◌, subst, arith}
 use Rattle.lf_rounds.specs.Facts.{RoundFacts, task}
 use Rattle.lf_rounds.specs.Tasks.{IsTask, width}
 use Rattle.lf_rounds.proofs.Raising.{shape_words, some_word}

@@ -1,4 +1,3 @@
-use Rattle.std.proofs.Common.{◌≡◌}
 use Rattle.lf_rounds.specs.views.Working.{IsRaising, IsUsed}
 use Rattle.lf_rounds.proofs.round.Round.raise_row.Given as goal
 

@@ -1,4 +1,4 @@
-use Rattle.std.proofs.Common.{◌≡◌, ◌*◌, ℕ, List, ap, sym, ◌∙◌, subst}
+use Rattle.std.proofs.Common.{◌≡◌, ◌*◌, ℕ, List, [], ◌∷◌, ◌++◌, ap, sym, ◌∙◌, subst, arith}
 use Rattle.lf_ast.specs.Labels.{Bytes}
 use Rattle.lf_ast.specs.Rules.{rule_tree}
 use Rattle.lf_semantics.proofs.NormalizedRows.{recorded_row_is}
@@ -6,7 +6,10 @@ use Rattle.lf_semantics.specs.ClassRows.{HasShape, Sets}
 use Rattle.lf_semantics.specs.Environments.{recorded_row}
 use Rattle.lf_semantics.specs.Listing.{IsListing, Listing, place}
 use Rattle.lf_rounds.specs.Facts.{RoundFacts, task}
-use Rattle.lf_rounds.specs.Tasks.{IsTask, names, width}
+use Rattle.lf_rounds.specs.Sums.{sum_of_loads, sum_of_rows}
+use Rattle.lf_rounds.specs.Tasks.{IsTask, names, read_by, width}
+use Rattle.lf_rounds.specs.declared.rule.Done.{Done}
+use Rattle.lf_rounds.proofs.Noting.{last_noted}
 use Rattle.lf_rounds.specs.views.Working.{IsStored, seen}
 use Rattle.lf_rounds.proofs.Working.{is_stored}
 use Rattle.lf_rounds.proofs.round.Round.work_on.Goals as goal
@@ -26,7 +29,7 @@ raise_row-requires-clause-row c =
     let S : Sets → Type 0 = λ row. HasShape round.universe row in
     let made : c.in_ok-row.row ≡ recorded_row round.universe c.load_read.new.env (rule_tree c.rule_of-rule.result.now) =
     c.in_ok-row.ensures ∙ ap (λ (u : Listing). recorded_row u c.load_read.new.env (rule_tree c.rule_of-rule.result.now)) c.requires.over.0 in
-    subst S (sym made) (recorded_row_is round.universe is.listing c.load_read.new.env c.in_ok-load_read.ensures.env.environment (rule_tree c.rule_of-rule.result.now)).0
+    subst S (sym made) (recorded_row_is round.universe is.listing c.load_read.new.env c.in_ok-sum.ensures.env.environment (rule_tree c.rule_of-rule.result.now)).0
 
 pub raise_row-requires-clause-stored : goal.raise_row-requires-clause-stored
 raise_row-requires-clause-stored c =
@@ -35,8 +38,32 @@ raise_row-requires-clause-stored c =
     let r = rule_tree c.rule_of-rule.result.now in
     let made : c.in_ok-row.row ≡ recorded_row round.universe c.load_read.new.env r = c.in_ok-row.ensures ∙ ap (λ (u : Listing). recorded_row u c.load_read.new.env r) c.requires.over.0 in
     let kept = c.self.invariant.names ∙ ap (λ (f : RoundFacts). names (task f)) c.self.view_is in
-    let named : c.place-name.result ≡ place (names t) r.name = c.place-name.ensures.place ∙ ap (λ (text : Bytes). place c.self.inside.names text) c.as_str.ensures ∙ ap (λ (xs : List Bytes). place xs r.name) kept in
+    let named : c.place-name.result ≡ place (names t) r.name = c.place-name.ensures.place ∙ ap (λ (text : Bytes). place c.self.inside.known.names text) c.as_str.ensures ∙ ap (λ (xs : List Bytes). place xs r.name) kept in
     let words = seen round c.load_read.new.seat.me in
     let P : ℕ → Type 0 = λ p. IsStored t p words c.in_ok-row.row (c.place-name.result * width t) in
     subst P (sym (c.load_read.ensures.same.piece ∙ c.requires.begins.piece))
-    (is_stored t c.args.piece r words c.in_ok-row.row c.place-name.result c.rule_of-rule.ensures.rule (made ∙ c.in_ok-load_read.ensures.read) named)
+    (is_stored t c.args.piece r words c.in_ok-row.row c.place-name.result c.rule_of-rule.ensures.rule (made ∙ c.in_ok-sum.ensures.read) named)
+
+pub load_read-requires-clause-piece : goal.load_read-requires-clause-piece
+load_read-requires-clause-piece c = c.requires.piece
+
+pub raise_row-requires-clause-summed : goal.raise_row-requires-clause-summed
+raise_row-requires-clause-summed c =
+    let round = c.args.self.now in
+    let t = task round in
+    let v = c.load_read.new.seat.me.0 in
+    let piece : v.piece ≡ c.args.piece = c.load_read.ensures.same.piece ∙ c.requires.begins.piece in
+    let none : sum_of_loads c.args.seat.now.me.0.loads ≡ 0 = ap sum_of_loads c.requires.begins.loads in
+    let sums : sum_of_loads v.loads ≡ c.in_ok-sum.sum = omega (arith, c.in_ok-sum.ensures.loads, none) in
+    sums ∙ c.in_ok-sum.ensures.rows ∙ ap (λ (p : ℕ). sum_of_rows (width t) (seen round c.load_read.new.seat.me) (read_by t p)) (sym piece)
+
+pub returns-clause-did : goal.returns-clause-did
+returns-clause-did c =
+    let v = c.load_read.new.seat.me.0 in
+    (record { piece = v.piece; loads = v.loads } ∷ [], c.raise_row.ensures.did ∙ ap (λ (done : List Done). done ++ record { piece = v.piece; loads = v.loads } ∷ []) c.load_read.ensures.same.done)
+
+pub returns-clause-noted : goal.returns-clause-noted
+returns-clause-noted c =
+    let v = c.load_read.new.seat.me.0 in
+    let none : sum_of_loads c.args.seat.now.me.0.loads ≡ 0 = ap sum_of_loads c.requires.begins.loads in
+    last_noted v.done c.raise_row.new.seat.me.0.done v.piece v.loads _ c.raise_row.ensures.did (sym (c.load_read.ensures.same.piece ∙ c.requires.begins.piece)) (omega (arith, c.in_ok-sum.ensures.loads, none))

@@ -1,0 +1,127 @@
+//! What rounds leave to those behind them.
+ghost use Rattle.std.specs.Prelude.{◌≡◌, ℕ, List, length, replicate, None, IfOk};
+ghost use Rattle.std.specs.List.{Contains};
+ghost use Rattle.lf_ast.specs.Rules.{RuleTree, rule_trees};
+ghost use Rattle.lf_classes.specs.RowWords.{word_count};
+ghost use Rattle.lf_flow.specs.Reads.{names_of};
+ghost use Rattle.lf_semantics.specs.Environments.{CoversRules, recorded_names};
+ghost use Rattle.lf_semantics.specs.Listing.{Listing};
+ghost use Rattle.lf_rounds.specs.Facts.{RoundFacts, task};
+ghost use Rattle.lf_rounds.specs.Tasks.{ArePieces, Task};
+ghost use Rattle.lf_rounds.specs.views.Ending.{EndsRound};
+ghost use Rattle.lf_rounds.specs.views.Noting.{AreMadeBy, AreRemembered, IsMadeBy};
+ghost use Rattle.lf_rounds.specs.views.Standings.{IsSettledOf, IsStanding};
+
+use crate::due::due_of;
+use crate::first_words;
+use crate::known::Known;
+use crate::round::Settled;
+use crate::rule::Loaded;
+use lf_ast::Rule;
+use lf_base::{Memory, Seq};
+use lf_classes::Universe;
+use lf_flow::Env;
+use std::alloc::Global;
+
+/// What is known of the rules, the words of all rows, of each rule the sum of the words that were loaded when it was computed last, and the rules that are due: whose row may
+/// have grown since.
+#[derive(Drop)]
+pub(crate) struct Standing {
+    pub(crate) known: Known,
+    pub(crate) words: Seq<u64>,
+    pub(crate) sums: Vec<Option<u128>>,
+    pub(crate) due: Seq<u32>,
+}
+
+impl Standing {
+    /// In front of the first round, in which all recording rules are due.
+    pub(crate) fn first(
+        alloc: Global,
+        universe: &Universe,
+        rules: &Seq<Rule>,
+        all: &Seq<u32>,
+        env: &Env,
+    ) -> Result<Standing, Memory>
+        requires all { ArePieces (rule_trees rules.now) all.now }
+        requires names { names_of env.now ≡ recorded_names (rule_trees rules.now) }
+        ensures { IfOk result (IsStanding universe.now (rule_trees rules.now)) }
+    {
+        let known = Known::of(alloc, rules, env)?;
+        let words = first_words(alloc, universe, rules)?;
+        let sums = no_sums(alloc, rules.len())?;
+        let due = all.copy()?;
+        Ok(Standing {
+            known,
+            words,
+            sums,
+            due,
+        })
+    }
+
+    /// Behind a round, of which this is left, and the words at its start. The sums are those that there were before it.
+    pub(crate) fn after(
+        alloc: Global,
+        universe: &Universe,
+        rules: &Seq<Rule>,
+        all: &Seq<u32>,
+        mut sums: Vec<Option<u128>>,
+        settled: Settled,
+    ) -> Result<(Standing, Seq<u64>), Memory>
+        requires all { ArePieces (rule_trees rules.now) all.now }
+        requires settled { IsSettledOf universe.now (rule_trees rules.now) sums.items settled }
+        ensures standing { IfOk result (λ next. IsStanding universe.now (rule_trees rules.now) next.0) }
+        ensures words { IfOk result (λ next. next.0.words ≡ settled.words) }
+        ensures start { IfOk result (λ next. next.1 ≡ settled.start) }
+    {
+        let _labels = universe.labels();
+        let Settled {
+            words,
+            start,
+            known,
+            pieces,
+            notes,
+        } = settled;
+        remember(&mut sums, &pieces, notes.as_slice());
+        let width = universe.words();
+        let due = due_of(alloc, rules, &known, all, sums.as_slice(), &words, width)?;
+        let standing = Standing {
+            known,
+            words,
+            sums,
+            due,
+        };
+        Ok((standing, start))
+    }
+}
+
+/// As many sums that aren't known.
+fn no_sums(alloc: Global, count: usize) -> Result<Vec<Option<u128>>, Memory>
+    ensures { IfOk result (λ sums. sums.items ≡ replicate count None) }
+{
+    let sums = vec![in alloc; None; count]?;
+    Ok(sums)
+}
+
+/// Keeps the sums that were noted in a round over these pieces.
+fn remember(sums: &mut Vec<Option<u128>>, pieces: &Seq<u32>, notes: &[Loaded])
+    ensures kept { (t : Task) (words : List ℕ) → t.pieces ≡ pieces.now → AreMadeBy t words notes.now → AreRemembered t.universe t.rules t.reads words sums.old.items → AreRemembered t.universe t.rules t.reads words sums.new.items }
+    ensures len { length sums.new.items ≡ length sums.old.items }
+{
+    for note in notes {
+        remember_one(sums, pieces, *note);
+    }
+}
+
+/// Keeps a sum that was noted, if there is such a piece.
+fn remember_one(sums: &mut Vec<Option<u128>>, pieces: &Seq<u32>, note: Loaded)
+    ensures kept { (t : Task) (words : List ℕ) → t.pieces ≡ pieces.now → IsMadeBy t words note → AreRemembered t.universe t.rules t.reads words sums.old.items → AreRemembered t.universe t.rules t.reads words sums.new.items }
+    ensures len { length sums.new.items ≡ length sums.old.items }
+{
+    let piece = note.piece as usize;
+    if piece < pieces.len() {
+        let number = *pieces.get(piece) as usize;
+        if number < sums.len() {
+            sums[number] = Some(note.sum);
+        }
+    }
+}
