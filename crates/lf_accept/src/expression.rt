@@ -9,6 +9,7 @@ ghost use Rattle.lf_yaml.specs.Tree.{value};
 ghost use Rattle.lf_accept.specs.Accepted.{BreaksExpr, IsExpr};
 ghost use Rattle.lf_accept.specs.views.Checked.{AreJudged, BreakJudged, BreaksJudged, IsJudged};
 
+use crate::sizes::ask_sizes;
 use lf_ast::{Expr, type_of};
 use lf_base::{Refusal, Seq};
 use lf_classes::check_patterns;
@@ -51,5 +52,6 @@ fn judge(alloc: Global, expr: &Expr) -> Result<(), Refusal>
     ensures refused_inside { (n : ℕ) → Inside n (tree expr.now) → RefusedIn n result }
 {
     let _ = type_of(alloc, expr)?;
+    ask_sizes(alloc, expr)?;
     check_patterns(alloc, expr)
 }

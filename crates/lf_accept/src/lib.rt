@@ -5,5 +5,6 @@
 mod accepting;
 mod expression;
 mod rules;
+mod sizes;
 
 pub use accepting::{accept, one_file};
