@@ -3,6 +3,7 @@ use Rattle.std.proofs.Common.{◌≡◌, ◌∙◌, inl, inr, ◌+◌, ◌<◌, 
 use Rattle.std.specs.List.{AllZip}
 use Rattle.std.proofs.Math.Seq.{split_at}
 use Rattle.std.proofs.lemmas.List.{map-append, take_more}
+use Rattle.lf_laws.proofs.Slices.{zip_push}
 use Rattle.lf_laws.proofs.Members.{each_member, in_map}
 use Rattle.lf_base.specs.declared.fault.Fault.{Fault}
 use Rattle.lf_base.specs.declared.refusal.Refusal.{Refusal}
@@ -73,12 +74,6 @@ module _ (v : Value) (ts : List Token) (end : ℕ) (is : end ≡ end_of v) (h : 
   refuses_expr = refused_by (BreakJudged ts end) (BreaksExpr v) breaks_read
 
 -- ---- rules
-
-zip_push : {A B : Type 0} (R : A → B → Type 0) (xs : List A) (ys : List B) (x : A) (y : B) → AllZip R xs ys → R x y → AllZip R (xs ++ x ∷ []) (ys ++ y ∷ [])
-zip_push R [] [] x y h k = (k, tt)
-zip_push R [] (b ∷ ys) x y h k = absurd h
-zip_push R (a ∷ xs) [] x y h k = absurd h
-zip_push R (a ∷ xs) (b ∷ ys) x y h k = (h.0, zip_push R xs ys x y h.1 k)
 
 module _ (file : ℕ) (sources : List RuleSource) (i : ℕ) (s : RuleSource) (inside : i < length sources) (is : s ≡ get_or sources i s) (rules : List Rule)
     (h : AllZip (IsRule file) (map source (take i sources)) (rule_trees rules)) where

@@ -13,10 +13,10 @@ pub record Decides {Y : Type 0} (Stands : Y → Type 0) (Breaks : Fault → Type
   pub breaks : (f : Fault) → reading ≡ Err f → Breaks f
   pub told : (f : Fault) → Breaks f → reading ≡ Err f
 
-same_value : {Y : Type 0} (x y : Y) → ◌≡◌ {A = Result Y Fault} (Ok x) (Ok y) → x ≡ y
+pub same_value : {Y : Type 0} (x y : Y) → ◌≡◌ {A = Result Y Fault} (Ok x) (Ok y) → x ≡ y
 same_value x y e = cc
 
-same_fault : {Y : Type 0} (f g : Fault) → ◌≡◌ {A = Result Y Fault} (Err f) (Err g) → f ≡ g
+pub same_fault : {Y : Type 0} (f g : Fault) → ◌≡◌ {A = Result Y Fault} (Err f) (Err g) → f ≡ g
 same_fault f g e = cc
 
 never_both : {Y : Type 0} (y : Y) (f : Fault) → ◌≡◌ {A = Result Y Fault} (Ok y) (Err f) → ⊥

@@ -1,3 +1,5 @@
 pub mod Answering
 pub mod FileList
 pub mod Least
+pub mod Rows
+pub mod Digits

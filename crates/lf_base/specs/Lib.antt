@@ -7,5 +7,6 @@ pub mod MemSink
 pub mod Names
 pub mod Outside
 pub mod Places
+pub mod Rows
 pub mod formers
 pub mod views

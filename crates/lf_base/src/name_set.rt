@@ -5,12 +5,13 @@ ghost use Rattle.lf_base.specs.views.NameSets.{has};
 
 use crate::Memory;
 use std::alloc::Global;
-use std::collections::HashSet;
+use std::collections::BTreeSet;
 
-/// A set of names, which it borrows. It hashes them, since a file may have a hundred thousand groups or keys, and a list of labels a million names.
+/// A set of names, which it borrows. It keeps them in order, since a file may have a hundred thousand groups and a list of labels a million names, and names can be chosen so
+/// that a table of hashes finds all of them in one place.
 #[derive(Drop)]
 pub struct NameSet<'a> {
-    names: HashSet<&'a str>,
+    names: BTreeSet<&'a str>,
 }
 
 impl<'a> NameSet<'a> {
@@ -19,7 +20,7 @@ impl<'a> NameSet<'a> {
         ensures { (other : List ℕ) → has result other ≡ false }
     {
         NameSet {
-            names: HashSet::new(alloc),
+            names: BTreeSet::new(alloc),
         }
     }
 

@@ -7,7 +7,7 @@ use Rattle.std.proofs.lemmas.Bool.{cases_lt}
 use Rattle.std.proofs.lemmas.List.{get_or-map, length-map}
 use Rattle.std.proofs.lemmas.List.Elements.{Contains-get_or}
 use Rattle.std.proofs.lemmas.List.Sums.{fails_before_first, passes_at_first}
-use Rattle.lf_laws.proofs.Booleans.{and_false, and_true}
+use Rattle.std.proofs.Math.Bool.{and-true, and-false}
 use Rattle.lf_laws.proofs.Members.{other_false}
 use Rattle.lf_ast.specs.Labels.{Bytes}
 use Rattle.lf_semantics.specs.ClassRows.{HasShape, Sets, holds}
@@ -79,8 +79,8 @@ no_text row label none class = by (holds row label class) refl (not (eqb class 0
 
 -- a row without the absence of a label
 pub no_absence : (row : Sets) (label : ℕ) → holds row label 0 ≡ false → (class : ℕ) → (holds row label class && eqb class 0) ≡ false
-no_absence row label none zero = and_true (holds row label 0) ∙ none
-no_absence row label none (suc k) = ap (λ (b : Bool). holds row label (suc k) && b) (eqb-other (suc k) 0 (λ e. absurd (omega (arith, e)))) ∙ and_false (holds row label (suc k))
+no_absence row label none zero = and-true (holds row label 0) ∙ none
+no_absence row label none (suc k) = ap (λ (b : Bool). holds row label (suc k) && b) (eqb-other (suc k) 0 (λ e. absurd (omega (arith, e)))) ∙ and-false (holds row label (suc k))
 
 -- all texts are chosen
 pub all_chosen : (k : ℕ) (texts : List Bytes) → chosen_from (λ class. true) k texts ≡ texts
@@ -155,12 +155,12 @@ module _ (u : Listing) (within : IsWithin u) (label : ℕ) (h : label < length u
 
   pub first_in_row : (row : Sets) (class : ℕ) → class < length (named_at u label) + 2 → holds row label class ≡ true → ((j : ℕ) → j < class → holds row label j ≡ false) → Some (text_at u label class) ≡ first (candidates_in u row name)
   first_in_row row class less is none =
-      in_set (λ text. true) row (Some (text_at u label class)) (found_is (λ text. true) (holds row label) class less is refl (λ j before. and_true (holds row label j) ∙ none j before))
+      in_set (λ text. true) row (Some (text_at u label class)) (found_is (λ text. true) (holds row label) class less is refl (λ j before. and-true (holds row label j) ∙ none j before))
       ∙ first_is_found (candidates_in u row name)
 
   pub none_in_row : (row : Sets) → ((j : ℕ) → j < length (named_at u label) + 2 → holds row label j ≡ false) → None ≡ first (candidates_in u row name)
   none_in_row row none =
-      in_set (λ text. true) row None (none_is (λ text. true) (holds row label) (λ j before. and_true (holds row label j) ∙ none j before))
+      in_set (λ text. true) row None (none_is (λ text. true) (holds row label) (λ j before. and-true (holds row label j) ∙ none j before))
       ∙ first_is_found (candidates_in u row name)
 
   -- by the first class that the row has
@@ -182,12 +182,12 @@ module _ (u : Listing) (within : IsWithin u) (label : ℕ) (h : label < length u
   first_in_both row other class less is too none =
       let both : ℕ → Bool = λ class. holds row label class && holds other label class in
       let here : both class ≡ true = ap (λ (b : Bool). b && holds other label class) is ∙ too in
-      in_sets row other (Some (text_at u label class)) (found_is (λ text. true) both class less here refl (λ j before. and_true (both j) ∙ none j before) ∙ first_is_found (candidates_of u name both))
+      in_sets row other (Some (text_at u label class)) (found_is (λ text. true) both class less here refl (λ j before. and-true (both j) ∙ none j before) ∙ first_is_found (candidates_of u name both))
 
   pub none_in_both : (row other : Sets) → ((j : ℕ) → j < length (named_at u label) + 2 → (holds row label j && holds other label j) ≡ false) → None ≡ first (candidates_in_both u row other name)
   none_in_both row other none =
       let both : ℕ → Bool = λ class. holds row label class && holds other label class in
-      in_sets row other None (none_is (λ text. true) both (λ j before. and_true (both j) ∙ none j before) ∙ first_is_found (candidates_of u name both))
+      in_sets row other None (none_is (λ text. true) both (λ j before. and-true (both j) ∙ none j before) ∙ first_is_found (candidates_of u name both))
 
   pub first_with : (presence : Bool) (row : Sets) (class : ℕ) → class < length (named_at u label) + 2 → holds row label class ≡ true → cond presence (not (eqb class 0)) (eqb class 0) ≡ true
       → ((j : ℕ) → j < class → (holds row label j && has_presence presence (text_at u label j)) ≡ false) → Some (text_at u label class) ≡ find (has_presence presence) (candidates_in u row name)

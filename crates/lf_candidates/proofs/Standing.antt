@@ -7,7 +7,7 @@ use Rattle.std.specs.Str.{bytes_eq}
 use Rattle.std.proofs.lemmas.Bool.{cases_eq, cases_lt}
 use Rattle.std.proofs.lemmas.List.{get_or_append_left, get_or_default, get_or-set_other, get_or-set_same, length-set}
 use Rattle.std.proofs.lemmas.List.Elements.{Contains-get_or}
-use Rattle.lf_laws.proofs.Booleans.{and_false}
+use Rattle.std.proofs.Math.Bool.{and-false}
 use Rattle.lf_laws.proofs.Members.{first_or_behind, other_false, same_true}
 use Rattle.lf_ast.specs.Labels.{Bytes, Labels}
 use Rattle.lf_semantics.specs.ClassRows.{Sets, holds}
@@ -135,7 +135,7 @@ same_all p q (a ∷ xs) (b ∷ ys) x y count same =
 pub fails_at : {X : Type 0} (p : X → Bool) (xs : List X) (x : X) (k : ℕ) → k < length xs → p (get_or xs k x) ≡ false → list_all p xs ≡ false
 fails_at p [] x k h fails = absurd (omega (arith, h))
 fails_at p (a ∷ xs) x zero h fails = ap (λ (z : Bool). z && list_all p xs) fails
-fails_at p (a ∷ xs) x (suc k) h fails = ap (λ (z : Bool). p a && z) (fails_at p xs x k (omega (arith, h)) fails) ∙ and_false (p a)
+fails_at p (a ∷ xs) x (suc k) h fails = ap (λ (z : Bool). p a && z) (fails_at p xs x k (omega (arith, h)) fails) ∙ and-false (p a)
 
 module _ (u : Listing) (within : IsWithin u) where
   same_some : (label : ℕ) (class : Option ℕ) → is_some class ≡ is_some (option_map (text_at u label) class)

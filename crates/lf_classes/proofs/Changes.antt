@@ -12,7 +12,7 @@ use Rattle.lf_semantics.proofs.RowLaws.{holds-remade, length_remade, live_when, 
 use Rattle.lf_classes.specs.views.Cut.{cut, shown, start}
 use Rattle.lf_semantics.proofs.RowSets.{count_at, dead_when, emptied_dead, emptied_holds, emptied_remade, emptied_same, emptied_twice, label_in, live_at}
 use Rattle.lf_classes.proofs.Cutting.{cut_remade, empty_cut, found_class, full_cut, full_live, holds-cut, length-cut, no_class, shape_cut, start_before, start_within}
-use Rattle.lf_laws.proofs.Booleans.{and_false}
+use Rattle.std.proofs.Math.Bool.{and-false}
 
 pub shape_shown : (live : Bool) (counts : List ℕ) (bits : List Bool) → sum counts ≤ length bits → map length (shown live (cut counts bits)) ≡ counts
 shape_shown true counts bits h = shape_cut counts bits h
@@ -199,7 +199,7 @@ union_none row other h e = rw (emptied_dead row h) (emptied_same row other e)
 
 pub common_right : (row other : Sets) → 0 < length row → emptied row ≡ meet row (emptied other)
 common_right row other h =
-    sym (dead_remade (λ l c b. b && holds (emptied other) l c) row h (λ l c. ap (λ b. holds row l c && b) (emptied_holds other l c) ∙ and_false (holds row l c)))
+    sym (dead_remade (λ l c b. b && holds (emptied other) l c) row h (λ l c. ap (λ b. holds row l c && b) (emptied_holds other l c) ∙ and-false (holds row l c)))
 
 pub common_left : (row other : Sets) → 0 < length row → emptied row ≡ meet (emptied row) other
 common_left row other h =

@@ -1,23 +1,13 @@
--- Where a text stands among the keys of a set.
-use Rattle.std.proofs.Common.{◌≡◌, ◌≤◌, ℕ, ◌+◌, Bool, true, false, not, cond, List, [], ◌∷◌, ◌++◌, map, length, ltb, Option, Some, None, refl, sym, ap, ◌∙◌, ◌||◌, if◌then◌else◌, arith}
-use Rattle.std.specs.List.{list_any, position_or_len}
+-- Where a text stands among texts, and what one more text changes of it.
+use Rattle.std.proofs.Common.{◌≡◌, ◌≤◌, ℕ, ◌+◌, Bool, true, false, cond, List, [], ◌∷◌, ◌++◌, length, ltb, Option, Some, None, refl, sym, ap, ◌∙◌, subst, arith}
+use Rattle.std.specs.List.{position_from}
 use Rattle.std.specs.Option.{option_map_or}
-use Rattle.std.specs.Prelude.{string_bytes}
+use Rattle.std.specs.Prelude.{position}
 use Rattle.std.specs.Str.{bytes_eq}
-use Rattle.std.specs.declared.string.String.{String}
-use Rattle.std.proofs.lemmas.List.{length-map, map-append}
-use Rattle.lf_semantics.proofs.Places.{symmetric}
-use Rattle.indexmap.specs.IndexSet.{insert_key}
+use Rattle.std.proofs.lemmas.Iterator.Adapters.{position_from-zero}
+use Rattle.std.proofs.lemmas.Slice.Eq.{bytes_eq-Decides}
 use Rattle.lf_ast.specs.Labels.{Bytes}
 use Rattle.lf_semantics.specs.Listing.{place}
-
-module _ {A : Type 0} (t : Bytes) where
-  abbrev pub is_key : String A → Bool
-  is_key key = bytes_eq t (string_bytes key)
-
-  pub place_keys : (keys : List (String A)) → place (map string_bytes keys) t ≡ position_or_len is_key keys
-  place_keys [] = refl
-  place_keys (k ∷ keys) = ap (λ b. cond (not b) (1 + place (map string_bytes keys) t) 0) (symmetric (string_bytes k) t) ∙ ap (λ n. cond (not (is_key k)) (1 + n) 0) (place_keys keys)
 
 -- where it is found
 pub found_at : (p n : ℕ) (b : Bool) (i : ℕ) → ltb p n ≡ b → cond b (Some p) None ≡ Some i → i ≡ p
@@ -28,22 +18,45 @@ pub found_none : (p n : ℕ) (b : Bool) → ltb p n ≡ b → ◌≡◌ {A = Opt
 found_none p n true e h = absurd (cc)
 found_none p n false e h = grind arith
 
--- a text with no place is none of the keys
-pub no_key : {X : Type 0} (test : X → Bool) (xs : List X) → position_or_len test xs ≡ length xs → list_any test xs ≡ false
-no_key test [] e = refl
-no_key test (x ∷ xs) e = by (test x) refl (no_key test xs)
+not_found : (p n : ℕ) (b : Bool) → ltb p n ≡ b → n ≤ p → ◌≡◌ {A = Option ℕ} (cond b (Some p) None) None
+not_found p n true e h = absurd (grind arith)
+not_found p n false e h = refl
+
+-- a text with no place is none of the texts
+pub absent : (texts : List Bytes) (text : Bytes) → length texts ≤ place texts text → position (λ other. bytes_eq other text) texts ≡ None
+absent texts text h = not_found (place texts text) (length texts) (ltb (place texts text) (length texts)) refl h
+
+-- what is found first, or else the last
+abbrev or_last : Option ℕ → Option ℕ → Option ℕ
+or_last None last = last
+or_last (Some k) last = Some k
+
+-- with one more behind, whose place is n
+pushed : {X : Type 0} (test : X → Bool) (xs : List X) (y : X) (i n : ℕ) → n ≡ i + length xs → or_last (position_from test i xs) (cond (test y) (Some n) None) ≡ position_from test i (xs ++ y ∷ [])
+pushed test [] y i n e = ap (λ k. cond (test y) (Some k) None) (omega (arith, e))
+pushed test (x ∷ xs) y i n e = by (test x) (pushed test xs y (i + 1) n (omega (arith, e)))
   where
-    by : (b : Bool) → test x ≡ b → (position_or_len test xs ≡ length xs → list_any test xs ≡ false) → list_any test (x ∷ xs) ≡ false
-    by true h rest = absurd (let f : 0 ≡ length (x ∷ xs) = sym (ap (λ b. cond (not b) (1 + position_or_len test xs) 0) h) ∙ e in omega (arith, f))
-    by false h rest = let f : 1 + position_or_len test xs ≡ length (x ∷ xs) = sym (ap (λ b. cond (not b) (1 + position_or_len test xs) 0) h) ∙ e in ap (λ b. b || list_any test xs) h ∙ rest (omega (arith, f))
+    by : (b : Bool) → or_last (position_from test (i + 1) xs) (cond (test y) (Some n) None) ≡ position_from test (i + 1) (xs ++ y ∷ [])
+        → or_last (cond b (Some i) (position_from test (i + 1) xs)) (cond (test y) (Some n) None) ≡ cond b (Some i) (position_from test (i + 1) (xs ++ y ∷ []))
+    by true rest = refl
+    by false rest = rest
 
-abbrev pub same_key : {A : Type 0} → String A → String A → Bool
-same_key a b = bytes_eq (string_bytes a) (string_bytes b)
+or_none : (found : Option ℕ) → found ≡ or_last found None
+or_none None = refl
+or_none (Some k) = refl
 
--- a text that is no key goes behind the keys
-pub keys_more : {A : Type 0} (keys new : List (String A)) (key : String A) (texts : List Bytes) (text : Bytes) → texts ≡ map string_bytes keys → string_bytes key ≡ text
-    → place texts text ≡ length texts → new ≡ insert_key same_key keys key → texts ++ text ∷ [] ≡ map string_bytes new
-keys_more keys new key texts text same is none e =
-    let absent : list_any (is_key text) keys ≡ false = no_key (is_key text) keys (sym (place_keys text keys) ∙ ap (λ xs. place xs text) (sym same) ∙ none ∙ ap length same ∙ length-map keys string_bytes) in
-    let new_is : new ≡ keys ++ key ∷ [] = e ∙ ap (λ t. if list_any (is_key t) keys then keys else keys ++ key ∷ []) is ∙ ap (λ b. if b then keys else keys ++ key ∷ []) absent in
-    sym (ap (map string_bytes) new_is ∙ map-append string_bytes keys (key ∷ []) ∙ ap (λ xs. xs ++ string_bytes key ∷ []) (sym same) ∙ ap (λ t. texts ++ t ∷ []) is)
+-- where texts stand once one that isn't there is put behind them
+pub position_more : (texts : List Bytes) (new text : Bytes) → length texts ≤ place texts new
+    → cond (bytes_eq new text) (Some (length texts)) (position (λ other. bytes_eq other text) texts) ≡ position (λ other. bytes_eq other text) (texts ++ new ∷ [])
+position_more texts new text h =
+    by (bytes_eq new text) refl
+    ∙ ap (λ found. or_last found (cond (bytes_eq new text) (Some (length texts)) None)) (position_from-zero test texts)
+    ∙ pushed test texts new 0 (length texts) (omega arith)
+    ∙ sym (position_from-zero test (texts ++ new ∷ []))
+  where
+    test : Bytes → Bool
+    test other = bytes_eq other text
+
+    by : (b : Bool) → bytes_eq new text ≡ b → cond b (Some (length texts)) (position test texts) ≡ or_last (position test texts) (cond b (Some (length texts)) None)
+    by true e = ap (λ found. or_last found (Some (length texts))) (sym (subst (λ t. position (λ other. bytes_eq other t) texts ≡ None) ((bytes_eq-Decides new text).0 e) (absent texts new h)))
+    by false e = or_none (position test texts)

@@ -11,7 +11,8 @@ use Rattle.lf_classes.specs.views.Cut.{cut, shown, start}
 use Rattle.lf_semantics.proofs.RowSets.{count_at, dead_when, emptied_dead, emptied_holds, emptied_remade, emptied_twice, label_in, live_at, remade_same}
 use Rattle.lf_classes.proofs.Cutting.{cut_remade, holds-cut, length-cut, shape_cut, start_before}
 use Rattle.lf_classes.proofs.Changes.{class_within, dead_remade, label_within, live_remade, live_view, same_counts, same_total, settled_as, shape_view}
-use Rattle.lf_laws.proofs.Booleans.{and_false, and_true, clash}
+use Rattle.std.proofs.Math.Bool.{and-true, and-false}
+use Rattle.lf_laws.proofs.Booleans.{clash}
 
 -- the bits of one label are made anew, and those of the others are as they were
 module _ (counts : List ℕ) (old new : List Bool) (label : ℕ) (f : ℕ → ℕ → Bool → Bool) (total : length old ≡ sum counts) (h : label < length counts) (len : length new ≡ length old)
@@ -80,7 +81,7 @@ pub narrowing_here : (test : ℕ → ℕ → Bool) (label c : ℕ) (on : Bool) �
 narrowing_here test label c on = ap (λ b. on && (not b || test label c)) (eq-eqb label label refl)
 
 pub narrowing_there : (test : ℕ → ℕ → Bool) (label l c : ℕ) (on : Bool) → l ≢ label → narrowing test label l c on ≡ on
-narrowing_there test label l c on n = ap (λ b. on && (not b || test l c)) (eqb-other label l (λ q. n (sym q))) ∙ and_true on
+narrowing_there test label l c on n = ap (λ b. on && (not b || test l c)) (eqb-other label l (λ q. n (sym q))) ∙ and-true on
 
 pub replacing_here : (test : ℕ → ℕ → Bool) (label c : ℕ) (on : Bool) → replacing test label label c on ≡ test label c
 replacing_here test label c on = ap (λ b. cond b (test label c) on) (eq-eqb label label refl)
@@ -302,13 +303,13 @@ module _ (row : Sets) (label class : ℕ) where
   same_here : (c : ℕ) → holds row label class ≡ true → eqb c class ≡ (holds row label c && eqb c class)
   same_here c on = elim (cases_eq c class) [
     | inl e ↦ ap (λ b. b && eqb c class) (sym (ap (holds row label) e ∙ on))
-    | inr n ↦ (let q : eqb c class ≡ false = eqb-other c class n in q ∙ sym (ap (λ b. holds row label c && b) q ∙ and_false (holds row label c)))
+    | inr n ↦ (let q : eqb c class ≡ false = eqb-other c class n in q ∙ sym (ap (λ b. holds row label c && b) q ∙ and-false (holds row label c)))
   ]
 
   off_here : (c : ℕ) → holds row label class ≡ false → (holds row label c && eqb c class) ≡ false
   off_here c off = elim (cases_eq c class) [
     | inl e ↦ ap (λ b. b && eqb c class) (ap (holds row label) e ∙ off)
-    | inr n ↦ ap (λ b. holds row label c && b) (eqb-other c class n) ∙ and_false (holds row label c)
+    | inr n ↦ ap (λ b. holds row label c && b) (eqb-other c class n) ∙ and-false (holds row label c)
   ]
 
   same_class : holds row label class ≡ true → (l c : ℕ) → replacing alone label l c (holds row l c) ≡ narrowing alone label l c (holds row l c)

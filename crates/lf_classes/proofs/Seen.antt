@@ -8,7 +8,7 @@ use Rattle.std.proofs.lemmas.Bool.Decides.{same_from_decides}
 use Rattle.std.proofs.lemmas.List.Elements.{Contains-get_or, filter-append}
 use Rattle.std.proofs.lemmas.List.Folds.{list_any_at}
 use Rattle.std.proofs.lemmas.Bool.{lt-ltb, ltb-true}
-use Rattle.indexmap.proofs.CallerLemmas.{Contains-list_any}
+use Rattle.std.proofs.lemmas.Map.Views.{Contains-from_any}
 use Rattle.lf_ast.specs.Labels.{Bytes}
 use Rattle.lf_semantics.specs.Listing.{first_seen, place}
 use Rattle.lf_semantics.proofs.ListingLaws.{in_first_seen, of_first_seen, place_within}
@@ -20,7 +20,7 @@ abbrev among : List Bytes → Bytes → Bool
 among xs t = list_any (bytes_eq t) xs
 
 among-Decides : (xs : List Bytes) (t : Bytes) → Decides (among xs t) (Contains xs t)
-among-Decides xs t = (Contains-list_any bytes_eq true_same xs t, λ c. list_any_at (bytes_eq t) xs c.0 t c.1 (same_true t (get_or xs c.0 t) (sym c.2)))
+among-Decides xs t = (Contains-from_any true_same t xs, λ c. list_any_at (bytes_eq t) xs c.0 t c.1 (same_true t (get_or xs c.0 t) (sym c.2)))
 
 place-Decides : (xs : List Bytes) (t : Bytes) → Decides (ltb (place xs t) (length xs)) (Contains xs t)
 place-Decides xs t = (

@@ -1,7 +1,7 @@
 -- Whether a label has a class other than that of the empty text.
 use Rattle.std.proofs.Common.{◌≡◌, ℕ, suc, ◌+◌, ◌-◌, ◌<◌, ◌≤◌, Bool, true, false, not, ◌&&◌, ◌||◌, eqb, List, [], ◌∷◌, length, get_or, inl, inr, refl, sym, ◌∙◌, ap, arith}
 use Rattle.std.specs.List.{list_any, sum}
-use Rattle.std.proofs.lemmas.Bool.{cases_eq}
+use Rattle.std.proofs.lemmas.Bool.{cases_eq, false_from_ne_true}
 use Rattle.std.proofs.lemmas.Bool.Decides.{Decides-eqb}
 use Rattle.lf_semantics.specs.ClassRows.{Sets, indexed_from}
 use Rattle.lf_semantics.specs.Listing.{Listing}
@@ -11,7 +11,6 @@ use Rattle.lf_semantics.proofs.Places.{eqb-other}
 use Rattle.lf_classes.specs.views.Cut.{cut, shown, start}
 use Rattle.lf_classes.proofs.Changes.{class_within, label_within}
 use Rattle.lf_classes.proofs.LabelChanges.{class_bit, empty_holds}
-use Rattle.lf_laws.proofs.Booleans.{not_true}
 
 abbrev pub is_text : ℕ → Bool
 is_text class = not (eqb class 0)
@@ -27,7 +26,7 @@ none_set test (on ∷ set) k none =
 
     by : (b : Bool) → on ≡ b → list_any (λ on. on) (indexed_from (λ class on. on && test class) (suc k) set) ≡ false
         → ((b && test k) || list_any (λ on. on) (indexed_from (λ class on. on && test class) (suc k) set)) ≡ false
-    by true e rest = rw (not_true (test k) (first e)) rest
+    by true e rest = rw (false_from_ne_true (test k) (first e)) rest
     by false e rest = rest
 
 some_text : (c : ℕ) → 0 < c → is_text c ≡ true

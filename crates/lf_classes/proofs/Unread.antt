@@ -6,23 +6,20 @@ use Rattle.std.specs.Str.{bytes_eq}
 use Rattle.lf_base.specs.declared.kind.Kind.TheVariants.{BadPattern}
 use Rattle.lf_base.specs.declared.place.Span.{Span}
 use Rattle.lf_base.specs.Faults.{fault, when}
+use Rattle.lf_semantics.proofs.PatternFaults.{unread_is}
 use Rattle.lf_classes.specs.reading.Checking.{unread_fault}
 use Rattle.lf_pattern.specs.Matching.{IsRead, is_read, matches}
 use Rattle.lf_pattern.specs.Read.{reading}
 use Rattle.lf_pattern.specs.Scan.{alternatives_of}
 use Rattle.lf_pattern.proofs.GroupLaws.{read_is}
-use Rattle.lf_laws.proofs.Booleans.{clash, not_true}
+use Rattle.lf_laws.proofs.Booleans.{clash}
 
 neither : {A B : Type 0} (f : A → Bool) (g : B → Bool) (a : Option A) (b : Option B) → (is_some a || is_some b) ≡ false → option_map_or f a (option_map_or g b false) ≡ false
 neither f g None None e = refl
 neither f g None (Some y) e = absurd (clash true refl e)
 neither f g (Some x) b e = absurd (clash true refl e)
 
--- a pattern that can't be read
-pub unread : (p : List ℕ) → (IsRead p → ⊥) → is_read p ≡ false
-unread p n = not_true (is_read p) (λ e. n ((read_is p).0 e))
-
--- it matches nothing
+-- a pattern that can't be read matches nothing
 pub unread_matches : (p value : List ℕ) → is_read p ≡ false → matches p value ≡ false
 unread_matches p value e = neither (λ alternatives. list_any (λ a. bytes_eq a value) alternatives) _ (alternatives_of p) (reading p) e
 
@@ -40,4 +37,4 @@ pub no_fault : (p : List ℕ) (span : Span) → IsRead p → None ≡ unread_fau
 no_fault p span r = sym (ap (λ b. when (not b) (fault BadPattern span)) ((read_is p).1 r))
 
 pub own_fault : (p : List ℕ) (span : Span) → (IsRead p → ⊥) → Some (fault BadPattern span) ≡ unread_fault p span
-own_fault p span n = sym (ap (λ b. when (not b) (fault BadPattern span)) (unread p n))
+own_fault p span n = sym (ap (λ b. when (not b) (fault BadPattern span)) ((unread_is p).1 n))

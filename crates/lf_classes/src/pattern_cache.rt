@@ -11,7 +11,7 @@ use lf_ast::MatchOp;
 use lf_base::Memory;
 use std::alloc::Global;
 
-/// Patterns, each with its row, which stands at the same place. Where a pattern stands is looked up by its hash.
+/// Patterns, each with its row, which stands at the same place. Where a pattern stands is looked up in a map.
 #[derive(Drop)]
 pub struct PatternRows {
     patterns: TextSet,

@@ -3,27 +3,28 @@ ghost use Rattle.std.specs.Prelude.{◌≡◌, ◌<◌, ◌≤◌, ◌^◌, [], 
 ghost use Rattle.lf_semantics.specs.Listing.{place};
 ghost use Rattle.lf_classes.specs.views.TextSets.{with_text};
 
-use indexmap::IndexSet;
-use lf_base::{Memory, Seq, Text};
+use lf_base::{Memory, Text};
 use std::alloc::Global;
+use std::collections::BTreeMap;
 use std::marker::Model;
 
-/// Texts, each once, in the order in which they came first. Where one stands is looked up by its hash.
+/// Texts, each once, in the order in which they came first. Where one stands is looked up in a map in the order of their bytes, since files may have a million texts, and texts can be
+/// chosen so that a table of hashes finds all of them in one place.
 #[derive(Drop)]
 pub struct TextSet {
-    texts: Seq<Text>,
-    places: IndexSet<String>,
+    texts: Vec<Text>,
+    places: BTreeMap<String, usize>,
 }
 
 impl Model for TextSet {
     ghost use Rattle.std.specs.Prelude.{List, ℕ};
-    ghost use Rattle.lf_classes.specs.views.TextSets.{AreKeys};
+    ghost use Rattle.lf_classes.specs.views.TextSets.{HasPlaces};
 
     ghost Value = { List (List ℕ) };
 
-    ghost view = { λ s. s.texts };
+    ghost view = { λ s. s.texts.items };
 
-    ghost invariant = { λ s. AreKeys s.places s.texts };
+    ghost invariant = { λ s. HasPlaces s.places s.texts.items };
 }
 
 impl TextSet {
@@ -32,8 +33,8 @@ impl TextSet {
         ensures { result ≡ [] }
     {
         TextSet {
-            texts: Seq::new(alloc),
-            places: IndexSet::new(alloc),
+            texts: Vec::new(alloc),
+            places: BTreeMap::new(alloc),
         }
     }
 
@@ -50,7 +51,7 @@ impl TextSet {
         requires { place < length self.now }
         ensures { result.now ≡ slice_index_or self.now place [] }
     {
-        self.texts.get(place)
+        &self.texts[place]
     }
 
     /// The place of a text, and behind the last one where it isn't there.
@@ -58,8 +59,8 @@ impl TextSet {
         ensures place { result ≡ place self.now text.now }
         ensures within { result ≤ length self.now }
     {
-        match self.places.get_index_of(text) {
-            Some(place) => place,
+        match self.places.get(text) {
+            Some(place) => *place,
             None => self.places.len(),
         }
     }
@@ -75,9 +76,9 @@ impl TextSet {
         if place == self.places.len() {
             let key = String::from_str(alloc, text)?;
             let text = Text::of(alloc, text)?;
-            self.places.reserve(1)?;
-            self.texts.push(text)?;
-            let _ = self.places.insert(key).unwrap();
+            self.texts.reserve(1)?;
+            let _ = self.places.insert(key, place)?;
+            self.texts.push(text).unwrap();
         }
         Ok(place)
     }

@@ -1,5 +1,5 @@
 -- What a search from selectors meets is what they read.
-use Rattle.std.proofs.Common.{◌≡◌, ℕ, zero, suc, ◌+◌, ◌<◌, ◌≤◌, Bool, true, false, not, ◌&&◌, cond, nat_lt, List, [], ◌∷◌, ◌++◌, take, length, get_or, Option, Some, None, inl, inr, refl, sym, ◌∙◌, ap, subst, arith}
+use Rattle.std.proofs.Common.{◌≡◌, ℕ, ◌+◌, ◌<◌, ◌≤◌, Bool, true, false, not, ◌&&◌, cond, nat_lt, List, [], ◌∷◌, ◌++◌, take, length, get_or, Option, Some, None, inl, inr, refl, sym, ◌∙◌, ap, subst, arith}
 use Rattle.std.specs.List.{Contains, flat_map}
 use Rattle.std.specs.Str.{bytes_eq}
 use Rattle.std.proofs.lemmas.Bool.{cases_lt}
@@ -11,7 +11,8 @@ use Rattle.lf_ast.specs.Tree.{Tree}
 use Rattle.lf_ast.specs.Rules.{RuleTree}
 use Rattle.lf_classes.specs.views.TextSets.{with_text}
 use Rattle.lf_semantics.specs.Listing.{place}
-use Rattle.lf_laws.proofs.Members.{in_flat_map, behind, here, none_in, same_true, true_same, of_flat_map, only_one}
+use Rattle.lf_laws.proofs.Members.{in_flat_map, none_in, same_true, true_same, of_flat_map, only_one}
+use Rattle.lf_laws.proofs.Slices.{take_none}
 use Rattle.lf_semantics.proofs.Places.{at_place}
 use Rattle.lf_graph.proofs.Prefixes.{flat_map_next, prefix_next}
 use Rattle.lf_deps.specs.Reading.{Reads, Selects, SelectsBy, selectors}
@@ -19,10 +20,6 @@ use Rattle.lf_deps.specs.Reading.Reads.{selected, through}
 use Rattle.lf_deps.specs.views.Search.{AreRead, Grows, IsSearch, ReadsBy, made_by, making}
 
 -- lists
-
-take_none : (xs : List Bytes) → take 0 xs ≡ []
-take_none [] = refl
-take_none (x ∷ xs) = refl
 
 take_next : (xs more : List Bytes) (k : ℕ) → k < length xs → take (k + 1) (xs ++ more) ≡ take k xs ++ get_or xs k [] ∷ []
 take_next xs more k h = take-append-le (k + 1) xs more (omega arith) ∙ take_more xs k [] h

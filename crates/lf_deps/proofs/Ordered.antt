@@ -5,7 +5,7 @@ use Rattle.std.specs.List.{Contains, filter, flat_map, range_with_len}
 use Rattle.std.proofs.lemmas.Bool.{and_right, cases_eq, eq-eqb, lt-ltb, ltb-true, not-true}
 use Rattle.std.proofs.lemmas.List.{append-nil, append_assoc, get_or-replicate, get_or-set_other, get_or-set_same, length-map}
 use Rattle.std.proofs.lemmas.List.Elements.{Contains-get_or}
-use Rattle.lf_laws.proofs.Booleans.{and_true}
+use Rattle.std.proofs.Math.Bool.{and-true}
 use Rattle.lf_ast.specs.Labels.{Bytes}
 use Rattle.lf_ast.specs.Rules.{RuleTree}
 use Rattle.lf_semantics.specs.Environments.{names_recorded, recorded_names}
@@ -178,7 +178,7 @@ left_without taken n k l = filter_twice (λ j. not (get_or (slice_set taken k tr
           subst P (sym e) it
       | inr f ↦
           ap not (get_or-set_other taken k j true true f)
-          ∙ sym (ap (λ (b : Bool). not (get_or taken j true) && not b) (eqb-other j k f) ∙ and_true (not (get_or taken j true)))
+          ∙ sym (ap (λ (b : Bool). not (get_or taken j true) && not b) (eqb-other j k f) ∙ and-true (not (get_or taken j true)))
     ]
 
 filter_all : (test : ℕ → Bool) (xs : List ℕ) → ((x : ℕ) → Contains xs x → test x ≡ true) → filter test xs ≡ xs

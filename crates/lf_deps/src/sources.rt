@@ -14,7 +14,7 @@ use lf_graph::Buckets;
 use std::alloc::Global;
 use std::marker::Model;
 
-/// What each rule selects, and which rules record each name. Where a name stands is looked up by its hash.
+/// What each rule selects, and which rules record each name. Where a name stands is looked up in a map.
 ///
 /// Who asks of all rules what they read makes it once.
 #[derive(Drop)]

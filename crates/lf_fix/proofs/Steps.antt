@@ -3,8 +3,8 @@ use Rattle.std.proofs.Common.{◌≡◌, ℕ, ◌<◌, Bool, true, false, List, 
 use Rattle.std.specs.Prelude.{slice_get, slice_index_or, slice_set}
 use Rattle.std.specs.List.{Contains}
 use Rattle.std.proofs.lemmas.List.{get_or-set_other, get_or-set_same}
-use Rattle.std.proofs.lemmas.Bool.{cases_eq}
-use Rattle.lf_laws.proofs.Booleans.{clash, not_true}
+use Rattle.std.proofs.lemmas.Bool.{cases_eq, false_from_ne_true}
+use Rattle.lf_laws.proofs.Booleans.{clash}
 use Rattle.lf_laws.proofs.Slices.{one_at}
 use Rattle.lf_ast.specs.Labels.{Bytes}
 use Rattle.lf_ast.specs.Rules.{RuleTree}
@@ -65,7 +65,7 @@ module _ (u : Listing) (p : IsListing u) (rules : List RuleTree) (k : ℕ) (env 
         (marked : (j : ℕ) (r : RuleTree) → slice_get rules j ≡ Some r → SelectsRow r.expr rule.name → slice_index_or after j true ≡ true)
         (only : (j : ℕ) (r : RuleTree) → slice_get rules j ≡ Some r → slice_index_or after j true ≡ true → (slice_index_or cleared j true ≡ true) ⊎ SelectsRow r.expr rule.name) where
       free_before : (j : ℕ) → slice_index_or after j true ≡ false → slice_index_or cleared j true ≡ false
-      free_before j free = not_true (slice_index_or cleared j true) (λ e. clash _ (kept j e) free)
+      free_before j free = false_from_ne_true (slice_index_or cleared j true) (λ e. clash _ (kept j e) free)
 
       pub step_added : added ≡ true → StepTells u rules k env later dirty after added
       step_added e =

@@ -3,7 +3,7 @@ use Rattle.std.proofs.Common.{◌≡◌, ℕ, ◌+◌, ◌<◌, Bool, true, fals
 use Rattle.std.specs.Prelude.{nat_lt}
 use Rattle.std.proofs.lemmas.Bool.{cases_eq}
 use Rattle.std.proofs.lemmas.Bool.Decides.{nat_tests}
-use Rattle.lf_laws.proofs.Booleans.{and_true}
+use Rattle.std.proofs.Math.Bool.{and-true}
 use Rattle.lf_semantics.specs.ClassRows.{Sets, holds, is_live, narrowed, replaced, normalized}
 use Rattle.lf_semantics.proofs.LeqLaws.{normalized_live}
 use Rattle.lf_semantics.proofs.RowSets.{same_row}
@@ -61,7 +61,7 @@ module _ (chosen : ℕ → Bool) (test : ℕ → ℕ → Bool) (row : Sets) wher
 
   pub narrowed_first : is_live row ≡ true → narrowed (passing 0) row ≡ row
   narrowed_first e =
-      ap normalized (same_row (λ l c on. on && passing 0 l c) row (λ l c. ap (λ b. holds row l c && (not b || test l c)) (below_none chosen l) ∙ and_true (holds row l c)))
+      ap normalized (same_row (λ l c on. on && passing 0 l c) row (λ l c. ap (λ b. holds row l c && (not b || test l c)) (below_none chosen l) ∙ and-true (holds row l c)))
       ∙ normalized_live row e
 
   or_both : (a b t : Bool) → ((not a || t) && (not b || t)) ≡ (not (a || b) || t)

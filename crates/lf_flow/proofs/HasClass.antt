@@ -1,8 +1,8 @@
 -- Whether some class in a set passes a test, from one class on.
-use Rattle.std.proofs.Common.{◌≡◌, ℕ, suc, ◌+◌, ◌<◌, ◌≤◌, Bool, true, false, ◌&&◌, ◌||◌, List, length, get_or, drop, refl, ◌∙◌, ap, drop-cons, add-one}
+use Rattle.std.proofs.Common.{◌≡◌, ℕ, suc, ◌+◌, ◌<◌, ◌≤◌, Bool, true, false, ◌&&◌, ◌||◌, List, length, get_or, drop, refl, sym, ◌∙◌, ap, drop-cons, add-one}
 use Rattle.std.specs.List.{list_any}
 use Rattle.std.proofs.lemmas.List.{drop_all}
-use Rattle.lf_laws.proofs.Booleans.{or_false}
+use Rattle.std.proofs.Math.Bool.{or-false, or_assoc}
 use Rattle.lf_semantics.specs.ClassRows.{indexed_from}
 use Rattle.lf_semantics.specs.Listing.{Listing}
 use Rattle.lf_semantics.specs.RowTable.{has_class}
@@ -10,10 +10,6 @@ use Rattle.lf_semantics.specs.RowTable.{has_class}
 -- a class from k on is in the set and passes
 abbrev pub passes_from : (ℕ → Bool) → List Bool → ℕ → Bool
 passes_from test set k = list_any (λ on. on) (indexed_from (λ class on. on && test class) k (drop k set))
-
-or_assoc : (a b c : Bool) → (a || (b || c)) ≡ ((a || b) || c)
-or_assoc true b c = refl
-or_assoc false b c = refl
 
 step : (test : ℕ → Bool) (set : List Bool) (k : ℕ) → k < length set → passes_from test set k ≡ ((get_or set k false && test k) || passes_from test set (suc k))
 step test set k h = rw (drop-cons set k false h) refl
@@ -27,10 +23,10 @@ module _ (u : Listing) (test : ℕ → Bool) (set : List Bool) where
 
   pub found_more : (k : ℕ) (found passes : Bool) → k < length set → passes ≡ (get_or set k false && test k)
       → has_class u test set ≡ (found || passes_from test set k) → has_class u test set ≡ ((found || passes) || passes_from test set (k + 1))
-  found_more k found passes h e is = rw (add-one, e) (is ∙ ap (λ b. found || b) (step test set k h) ∙ or_assoc found (get_or set k false && test k) (passes_from test set (suc k)))
+  found_more k found passes h e is = rw (add-one, e) (is ∙ ap (λ b. found || b) (step test set k h) ∙ sym (or_assoc found (get_or set k false && test k) (passes_from test set (suc k))))
 
   pub found_all : (k : ℕ) (found : Bool) → length set ≤ k → has_class u test set ≡ (found || passes_from test set k) → has_class u test set ≡ found
-  found_all k found h is = is ∙ ap (λ b. found || b) (none_left test set k h) ∙ or_false found
+  found_all k found h is = is ∙ ap (λ b. found || b) (none_left test set k h) ∙ or-false found
 
 -- what is found by the branches of `found || (on && passes)`
 

@@ -1,6 +1,8 @@
 -- What is kept of the parts of an expression has their rows.
 use Rattle.std.proofs.Common.{◌≡◌, ◌≤◌, ℕ, zero, suc, List, [], ◌∷◌, length, map, take, drop, Option, None, Some, refl, sym, ◌∙◌, ap, subst, arith}
 use Rattle.std.specs.Prelude.{option_to_list}
+use Rattle.std.proofs.lemmas.List.{length-map}
+use Rattle.lf_laws.proofs.Slices.{one_taken}
 use Rattle.lf_ast.specs.Functions.{Signature}
 use Rattle.lf_ast.specs.Tree.{Tree, Trees, Number, Str, Selector, Subquery, Paren, Unary, Binary, Call, Aggregate, Nil, Next, list}
 use Rattle.lf_ast.specs.declared.expr.Grouping.{Grouping}
@@ -27,10 +29,6 @@ module _ (u : Listing) (env : Environment) where
   made_is (Binary op m left right span) = refl
   made_is (Call name args span) = refl
   made_is (Aggregate op grouping args span) = refl
-
-  take_none : {X : Type 0} (xs : List X) → take 0 xs ≡ []
-  take_none [] = refl
-  take_none (x ∷ xs) = refl
 
   pub made_shape : IsListing u → IsEnvironment u env → (e : Tree) (given : Given) → given ≡ given_of u env e → HasShape u (made_row u given.row)
   made_shape listing environment e given is =
@@ -62,12 +60,6 @@ module _ (u : Listing) (env : Environment) where
   operand_is (Next x xs) zero (Some g) e = let same : given_of u env x ≡ g = cc in sym (made_is x) ∙ ap (λ (h : Given). made_row u h.row) same
   operand_is (Next x xs) (suc k) o e = operand_is xs k o e
 
-  one_operand : (args : Trees) (k : ℕ) → length (operands args k) ≤ 1
-  one_operand Nil zero = omega arith
-  one_operand Nil (suc k) = omega arith
-  one_operand (Next x xs) zero = let none : length (map (given_of u env) (take 0 (list xs))) ≡ 0 = ap (λ ys. length (map (given_of u env) ys)) (take_none (list xs)) in omega (arith, none)
-  one_operand (Next x xs) (suc k) = one_operand xs k
-
   -- what is kept of the parts of a call
 
   abbrev pub of_call : Option Signature → Trees → List Given
@@ -75,7 +67,11 @@ module _ (u : Listing) (env : Environment) where
 
   pub one_of_call : (o : Option Signature) (args : Trees) → length (of_call o args) ≤ 1
   one_of_call None args = omega arith
-  one_of_call (Some s) args = one_operand args (operand_place s)
+  one_of_call (Some s) args =
+      let few = drop (operand_place s) (list args) in
+      let same = length-map (take 1 few) (given_of u env) in
+      let one = one_taken few in
+      omega (arith, same, one)
 
   pub row_of_call : (o : Option Signature) (grouping : Grouping) (args : Trees) (operand : Option Given) → of_call o args ≡ option_to_list operand
       → call_row u o grouping args (λ place. operand_row u operand) ≡ call_row u o grouping args (row_at u env args)

@@ -13,7 +13,7 @@ use Rattle.lf_ast.specs.Labels.{Bytes}
 use Rattle.lf_pattern.specs.Matching.{is_read, matches}
 use Rattle.lf_pattern.specs.Read.{finds, reading}
 use Rattle.lf_pattern.specs.Scan.{alternatives_of}
-use Rattle.lf_laws.proofs.Booleans.{and_false, and_true, or_false}
+use Rattle.std.proofs.Math.Bool.{and-true, and-false, or-false}
 use Rattle.lf_semantics.specs.Listing.{IsListing, Listing, class_of, named_at, other_class}
 use Rattle.lf_semantics.specs.Passing.{is_plain}
 use Rattle.lf_semantics.specs.RowTable.{may_match, text_of}
@@ -40,7 +40,7 @@ put_on n k test on h s = record {
     by : (c : ℕ) → c < n → (k ≡ c) ⊎ (k ≢ c) → get_or (set on k true) c false ≡ (test c || eqb k c)
     by c b (inl e) =
         ap (λ m. get_or (set on k true) m false) (sym e) ∙ get_or-set_same on k true false (omega (arith, s.count)) ∙ sym (or_right (test c) true refl) ∙ ap (λ x. test c || x) (sym ((Decides-eqb k c).1 e))
-    by c b (inr d) = get_or-set_other on k c true false (λ e. d (sym e)) ∙ s.each c b ∙ sym (or_false (test c)) ∙ ap (λ x. test c || x) (sym (eqb-other k c d))
+    by c b (inr d) = get_or-set_other on k c true false (λ e. d (sym e)) ∙ s.each c b ∙ sym (or-false (test c)) ∙ ap (λ x. test c || x) (sym (eqb-other k c d))
 
 module _ (u : Listing) (label : ℕ) where
   abbrev pub is_class : ℕ → Bytes → Bool
@@ -72,10 +72,10 @@ module _ (u : Listing) (label : ℕ) where
           let own : c < other_class u label = grind (arith, nat_tests) in
           let q : eqb k c ≡ false = grind (arith, nat_tests, own, last, count) in
           rw q
-          (and_true (list_any (is_class c) texts)
+          (and-true (list_any (is_class c) texts)
           ∙ any_same (is_class c) (λ text. bytes_eq text (text_of u label c)) texts
           (λ text. eqb-turn (class_of u label text) c ∙ sym (test_own u p label text c own) ∙ symmetric (text_of u label c) text))
-      by c h false e = let q : eqb k c ≡ true = grind (arith, nat_tests, e, h, last, count) in rw q (and_false (list_any (is_class c) texts))
+      by c h false e = let q : eqb k c ≡ true = grind (arith, nat_tests, e, h, last, count) in rw q (and-false (list_any (is_class c) texts))
 
 -- ---- what is said of a pattern
 

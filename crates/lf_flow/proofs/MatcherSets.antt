@@ -12,10 +12,11 @@ use Rattle.lf_ast.specs.declared.expr.MatchOp.TheVariants.{Equal, NotEqual, NotM
 use Rattle.lf_pattern.specs.Matching.{IsRead, is_read, matches}
 use Rattle.lf_semantics.specs.Listing.{IsListing, Listing, class_of, class_texts, named_at, other_class}
 use Rattle.lf_semantics.specs.RowTable.{may_fail, passes_class, text_of}
-use Rattle.lf_laws.proofs.Booleans.{and_false}
+use Rattle.std.proofs.Math.Bool.{and-false}
 use Rattle.lf_laws.proofs.Members.{other_false, same_true}
 use Rattle.lf_semantics.proofs.Places.{class_test, eqb-other}
-use Rattle.lf_classes.proofs.Unread.{read_passes, unread, unread_passes}
+use Rattle.lf_semantics.proofs.PatternFaults.{unread_is}
+use Rattle.lf_classes.proofs.Unread.{read_passes, unread_passes}
 use Rattle.lf_flow.specs.views.ClassSets.{IsSet}
 use Rattle.lf_flow.proofs.PatternSets.{retested}
 
@@ -31,13 +32,13 @@ get_one n k c before on h j =
 not_last : (c k other : ℕ) → k ≡ other → (nat_lt c other && eqb c k) ≡ false
 not_last c k other e = elim (cases_eq c k) [
   | inl f ↦ (let q : nat_lt c other ≡ false = grind (arith, nat_tests) in rw q refl)
-  | inr d ↦ (let q : eqb c k ≡ false = eqb-other c k d in rw q (and_false (nat_lt c other)))
+  | inr d ↦ (let q : eqb c k ≡ false = eqb-other c k d in rw q (and-false (nat_lt c other)))
 ]
 
 one_own : (c k other : ℕ) → k < other → (nat_lt c other && eqb c k) ≡ eqb c k
 one_own c k other h = elim (cases_eq c k) [
   | inl e ↦ (let q : nat_lt c other ≡ true = grind (arith, nat_tests) in rw q refl)
-  | inr d ↦ (let r : eqb c k ≡ false = eqb-other c k d in rw r (and_false (nat_lt c other)))
+  | inr d ↦ (let r : eqb c k ≡ false = eqb-other c k d in rw r (and-false (nat_lt c other)))
 ]
 
 module _ (u : Listing) (p : IsListing u) (label : ℕ) where
@@ -122,5 +123,5 @@ module _ (u : Listing) (label : ℕ) (pattern : Bytes) where
           → (eqb (c + 1) (length (named_at u label) + 2) && true) ≡ cond (not b) true (is_read pattern && not (matches pattern (text_of u label c)))
       by c h true e =
           let q : eqb (c + 1) (length (named_at u label) + 2) ≡ false = grind (arith, nat_tests) in
-          rw q (sym (unread_passes pattern (text_of u label c) (unread pattern none)))
+          rw q (sym (unread_passes pattern (text_of u label c) ((unread_is pattern).1 none)))
       by c h false e = let q : eqb (c + 1) (length (named_at u label) + 2) ≡ true = grind (arith, nat_tests) in rw q refl

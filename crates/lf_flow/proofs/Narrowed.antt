@@ -2,7 +2,7 @@
 use Rattle.std.proofs.Common.{◌≡◌, ◌≢◌, ℕ, ◌<◌, Bool, true, false, not, ◌&&◌, ◌||◌, cond, eqb, List, [], length, get_or, inl, inr, refl, sym, ◌∙◌, ap, subst, arith}
 use Rattle.std.proofs.lemmas.Bool.{cases_eq}
 use Rattle.std.proofs.lemmas.Bool.Decides.{Decides-eqb}
-use Rattle.lf_laws.proofs.Booleans.{and_false, and_true}
+use Rattle.std.proofs.Math.Bool.{and-true, and-false}
 use Rattle.lf_semantics.specs.ClassRows.{Sets, emptied, holds, is_live, kept, narrowed, remade, normalized}
 use Rattle.lf_semantics.proofs.Places.{eqb-other}
 use Rattle.lf_classes.proofs.LabelChanges.{emptied_label, narrowing, narrowing_here, narrowing_there}
@@ -24,7 +24,7 @@ narrowed_at label n on test row set e = ap normalized (remade_same _ _ row (λ l
 
 -- a row that every class passes stays as it is
 pub narrowed_none : (row : Sets) → normalized row ≡ row → narrowed (λ l c. true) row ≡ row
-narrowed_none row is = ap normalized (same_row (λ l c on. on && true) row (λ l c. and_true (holds row l c))) ∙ is
+narrowed_none row is = ap normalized (same_row (λ l c on. on && true) row (λ l c. and-true (holds row l c))) ∙ is
 
 -- a label that is narrowed by another test that says the same
 pub narrowed_as : (label : ℕ) (s t : ℕ → ℕ → Bool) (row : Sets) → ((c : ℕ) → s label c ≡ t label c)
@@ -37,7 +37,7 @@ narrowed_as label s t row same = same_narrowed _ _ row (λ l c h. (elim (cases_e
 -- a label none of whose classes passes
 pub narrowed_off : (label : ℕ) (t : ℕ → ℕ → Bool) (row : Sets) → label < length row → ((c : ℕ) → t label c ≡ false) → emptied row ≡ narrowed (λ l c. not (eqb label l) || t l c) row
 narrowed_off label t row h off =
-    emptied_label (narrowing t label) row label h (λ c. narrowing_here t label c (holds row label c) ∙ ap (λ b. holds row label c && b) (off c) ∙ and_false (holds row label c))
+    emptied_label (narrowing t label) row label h (λ c. narrowing_here t label c (holds row label c) ∙ ap (λ b. holds row label c && b) (off c) ∙ and-false (holds row label c))
 
 -- a label each of whose classes passes
 pub narrowed_on : (label : ℕ) (t : ℕ → ℕ → Bool) (row : Sets) → normalized row ≡ row → ((c : ℕ) → t label c ≡ true) → row ≡ narrowed (λ l c. not (eqb label l) || t l c) row
@@ -45,7 +45,7 @@ narrowed_on label t row is on = sym (ap normalized (same_row (narrowing t label)
   where
     each : (l c : ℕ) → narrowing t label l c (holds row l c) ≡ holds row l c
     each l c = elim (cases_eq label l) [
-      | inl e ↦ (let P : ℕ → Type 0 = λ m. narrowing t label m c (holds row m c) ≡ holds row m c in subst P e (narrowing_here t label c (holds row label c) ∙ ap (λ b. holds row label c && b) (on c) ∙ and_true (holds row label c)))
+      | inl e ↦ (let P : ℕ → Type 0 = λ m. narrowing t label m c (holds row m c) ≡ holds row m c in subst P e (narrowing_here t label c (holds row label c) ∙ ap (λ b. holds row label c && b) (on c) ∙ and-true (holds row label c)))
       | inr n ↦ narrowing_there t label l c (holds row l c) (λ q. n (sym q))
     ]
 

@@ -6,7 +6,8 @@ use Rattle.std.proofs.lemmas.List.{get_or-map, get_or-replicate, length-map}
 use Rattle.lf_ast.specs.Labels.{Bytes}
 use Rattle.lf_ast.specs.declared.expr.MatchOp.{MatchOp}
 use Rattle.lf_ast.specs.declared.expr.MatchOp.TheVariants.{Matches}
-use Rattle.lf_laws.proofs.Booleans.{clash, not_true}
+use Rattle.std.proofs.lemmas.Bool.{false_from_ne_true}
+use Rattle.lf_laws.proofs.Booleans.{clash}
 use Rattle.lf_semantics.specs.ClassRows.{HasShape, Sets, emptied, top, holds, is_live, narrowed, remade, normalized}
 use Rattle.lf_semantics.specs.Listing.{Listing, class_counts, named_at}
 use Rattle.lf_semantics.specs.RowTable.{may_match, passes_class}
@@ -58,7 +59,7 @@ module _ (u : Listing) (label : ℕ) (pass : ℕ → ℕ → Bool) (within : lab
     where
       by : (b : Bool) → is_live made ≡ b → holds (cond b made (emptied made)) label c ≡ pass label c
       by true e = own c k
-      by false e = emptied_holds made label c ∙ sym (not_true (pass label c) (λ p. clash (is_live made) (live_when made (each c k p)) e))
+      by false e = emptied_holds made label c ∙ sym (false_from_ne_true (pass label c) (λ p. clash (is_live made) (live_when made (each c k p)) e))
 
 -- a row that meets the row of a pattern keeps the classes that pass
 pub met_passing : (u : Listing) (label : ℕ) (op : MatchOp) (pattern : Bytes) (passing row : Sets) → label < length u.named → HasShape u row → passing ≡ passing_row u label op pattern

@@ -9,7 +9,8 @@ use Rattle.lf_semantics.specs.ClassRows.{HasShape, Sets}
 use Rattle.lf_semantics.specs.Listing.{Listing, class_texts, label_of, named_at, other_class}
 use Rattle.lf_semantics.specs.Passing.{is_plain}
 use Rattle.lf_semantics.specs.RowTable.{has_class, is_other, may_fail, may_match, set_at, source_set}
-use Rattle.lf_classes.proofs.Unread.{unread, unread_matches}
+use Rattle.lf_semantics.proofs.PatternFaults.{unread_is}
+use Rattle.lf_classes.proofs.Unread.{unread_matches}
 use Rattle.lf_flow.specs.views.ClassSets.{IsSet}
 use Rattle.lf_flow.proofs.ClassSets.{indexed_same, set_length}
 
@@ -51,7 +52,7 @@ module _ (u : Listing) (pattern : Bytes) (label : ℕ) where
       by true f = let e : class + 1 ≡ size = (Decides-eqb (class + 1) size).0 f in sym (match_other u pattern label class (omega arith))
       by false f =
           let h : class < other_class u label = grind (arith, nat_tests, f) in
-          sym (match_named u pattern label class _ h refl ∙ unread_matches pattern _ (unread pattern none))
+          sym (match_named u pattern label class _ h refl ∙ unread_matches pattern _ ((unread_is pattern).1 none))
 
   pub unread_set : (n : ℕ) (other : Bool) (on : List Bool) → n ≡ size → other ≡ not (is_plain pattern) → (IsRead pattern → ⊥) → IsSet n (λ class. eqb (class + 1) n && other) on → IsSet size (may_match u pattern label) on
   unread_set n other on count e none set =

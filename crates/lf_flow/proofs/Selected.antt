@@ -11,7 +11,7 @@ use Rattle.std.proofs.lemmas.List.Folds.{list_all_more, list_any_more}
 use Rattle.std.proofs.lemmas.Option.{same_Some}
 use Rattle.lf_ast.specs.Labels.{Bytes}
 use Rattle.lf_ast.specs.declared.expr.Matcher.{Matcher}
-use Rattle.lf_laws.proofs.Booleans.{and_false, and_true}
+use Rattle.std.proofs.Math.Bool.{and-true, and-false}
 use Rattle.lf_semantics.specs.ClassRows.{HasShape, Sets, top, narrowed, bottom, replaced, set_to, join}
 use Rattle.lf_semantics.specs.Environments.{IsEnvironment, IsRow}
 use Rattle.lf_semantics.specs.Listing.{IsListing, Listing, class_of, label_of}
@@ -85,8 +85,8 @@ put_off n k test on h s = record {
   where
     by : (c : ℕ) → c < n → (k ≡ c) ⊎ (k ≢ c) → get_or (set on k false) c false ≡ (test c && not (eqb k c))
     by c b (inl e) =
-        ap (λ m. get_or (set on k false) m false) (sym e) ∙ get_or-set_same on k false false (omega (arith, s.count)) ∙ sym (and_false (test c)) ∙ ap (λ x. test c && not x) (sym ((Decides-eqb k c).1 e))
-    by c b (inr d) = get_or-set_other on k c false false (λ e. d (sym e)) ∙ s.each c b ∙ sym (and_true (test c)) ∙ ap (λ x. test c && not x) (sym (eqb-other k c d))
+        ap (λ m. get_or (set on k false) m false) (sym e) ∙ get_or-set_same on k false false (omega (arith, s.count)) ∙ sym (and-false (test c)) ∙ ap (λ x. test c && not x) (sym ((Decides-eqb k c).1 e))
+    by c b (inr d) = get_or-set_other on k c false false (λ e. d (sym e)) ∙ s.each c b ∙ sym (and-true (test c)) ∙ ap (λ x. test c && not x) (sym (eqb-other k c d))
 
 one_less : (a b k : Bool) → ((a && not b) && not k) ≡ (a && not (b || k))
 one_less true true k = refl

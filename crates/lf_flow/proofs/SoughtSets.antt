@@ -10,7 +10,7 @@ use Rattle.std.proofs.lemmas.List.Folds.{list_any_more}
 use Rattle.std.proofs.lemmas.List.Sums.{count_by_more_no, count_by_more_yes, length-filter}
 use Rattle.lf_ast.specs.Labels.{Bytes}
 use Rattle.lf_ast.specs.declared.expr.Matcher.{Matcher}
-use Rattle.lf_laws.proofs.Booleans.{and_false, and_true, or_false}
+use Rattle.std.proofs.Math.Bool.{and-true, and-false, or-false}
 use Rattle.lf_semantics.specs.ClassRows.{holds, kept}
 use Rattle.lf_semantics.specs.Listing.{Listing, class_of, class_texts, label_of, named_at}
 use Rattle.lf_ast.specs.Selectors.{is_equal, metric}
@@ -46,7 +46,7 @@ one_matcher false false = refl
 
 several_matchers : (z t some has one : Bool) → t ≡ z → one ≡ false → (z ≡ false → some ≡ has) → (t || some) ≡ (has || (z && not one))
 several_matchers true t some has one e f h = rw (e, f) (sym (or_right has true refl))
-several_matchers false t some has one e f h = rw e (h refl ∙ sym (or_false has))
+several_matchers false t some has one e f h = rw e (h refl ∙ sym (or-false has))
 
 module _ (u : Listing) (label class : ℕ) where
   abbrev is_text : Bytes → Bool
@@ -145,7 +145,7 @@ sought_row u bare ms =
 
 -- before any matcher each label has the empty text alone
 pub sought_none : (u : Listing) → bare_row u ≡ made u (λ label. is_class_sought u label true [])
-sought_none u = made_same u (λ l c. eqb c 0) (λ label. is_class_sought u label true []) (λ l c h. sym (and_true (eqb c 0)))
+sought_none u = made_same u (λ l c. eqb c 0) (λ label. is_class_sought u label true []) (λ l c h. sym (and-true (eqb c 0)))
 
 pub counts_none : (u : Listing) (counts : List ℕ) → counts ≡ replicate (length u.named) 0 → AreCounts u [] counts
 counts_none u counts is = record {
@@ -164,7 +164,7 @@ module _ (u : Listing) (label : ℕ) where
 
   alone_in : (fs : List Matcher) → length fs ≡ 1 → (x : ℕ) × (x < size) × ((c : ℕ) → list_any (has_text u label c) fs ≡ eqb x c)
   alone_in [] e = absurd (omega (arith, e))
-  alone_in (m ∷ []) e = (class_of u label (sought_text m), omega (arith, place_le (class_texts u label) (sought_text m)), λ c. or_false (has_text u label c m))
+  alone_in (m ∷ []) e = (class_of u label (sought_text m), omega (arith, place_le (class_texts u label) (sought_text m)), λ c. or-false (has_text u label c m))
   alone_in (m ∷ n ∷ fs) e = absurd (omega (arith, e))
 
   alone : (ms : List Matcher) → count_by (is_on_label u label) ms ≡ 1 → (x : ℕ) × (x < size) × ((c : ℕ) → given ms c ≡ eqb x c)
@@ -185,7 +185,7 @@ module _ (u : Listing) (label : ℕ) where
 
 module _ (u : Listing) (label : ℕ) (m : Matcher) (is_of : label ≡ label_of u m.label) where
   on_other : (l : ℕ) → l ≢ label → is_on_label u l m ≡ false
-  on_other l n = ap (λ b. not (is_metric_label u l) && b) (eqb-other (label_of u m.label) l (λ e. n (sym e ∙ sym is_of))) ∙ and_false (not (is_metric_label u l))
+  on_other l n = ap (λ b. not (is_metric_label u l) && b) (eqb-other (label_of u m.label) l (λ e. n (sym e ∙ sym is_of))) ∙ and-false (not (is_metric_label u l))
 
   on_metric : label ≡ label_of u metric → (l : ℕ) → is_on_label u l m ≡ false
   on_metric q l = elim (cases_eq l label) [
@@ -207,7 +207,7 @@ module _ (u : Listing) (label : ℕ) (m : Matcher) (is_of : label ≡ label_of u
     sought_passed q l c =
         sym (ap (λ b. b || (eqb c 0 && true)) (more l c
         ∙ ap (λ b. list_any (gives_class u l c) (take k ms) || (b && eqb (class_of u l (sought_text m)) c)) (on_metric q l)
-        ∙ or_false (list_any (gives_class u l c) (take k ms))))
+        ∙ or-false (list_any (gives_class u l c) (take k ms))))
 
     pub counts_passed : (counts : List ℕ) → label ≡ label_of u metric → AreCounts u (take k ms) counts → AreCounts u (take (k + 1) ms) counts
     counts_passed counts q before = record {
@@ -231,7 +231,7 @@ module _ (u : Listing) (label : ℕ) (m : Matcher) (is_of : label ≡ label_of u
               ∙ sym (ap (λ b. cond (b && eqb c class) true (before || none)) ((Decides-eqb l label).1 e))
           | inr d ↦
               ap (λ b. (before || (b && eqb (class_of u l (sought_text m)) c)) || none) (on_other l d)
-              ∙ ap (λ b. b || none) (or_false before)
+              ∙ ap (λ b. b || none) (or-false before)
               ∙ sym (ap (λ b. cond (b && eqb c class) true (before || none)) (eqb-other l label d))
         ])
       where

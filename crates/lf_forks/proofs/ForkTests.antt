@@ -1,10 +1,9 @@
 -- A test of selectors tells which expressions hold a fork.
-use Rattle.std.proofs.Common.{inl, inr, ◌≡◌, Bool, true, false, not, ◌&&◌, ◌||◌, cond, List, [], ◌∷◌, ◌++◌, Option, Some, None, refl, sym, ◌∙◌, ap, subst, true≢false}
+use Rattle.std.proofs.Common.{inl, inr, ◌≡◌, Bool, true, false, not, ◌&&◌, ◌||◌, cond, List, [], ◌++◌, Option, Some, None, refl, sym, ◌∙◌, ap, subst, true≢false}
 use Rattle.std.specs.List.{Contains, list_any}
-use Rattle.std.proofs.Math.Bool.{or_assoc}
+use Rattle.std.proofs.Math.Bool.{or_assoc, or-false}
 use Rattle.std.proofs.lemmas.Bool.{or_right}
 use Rattle.std.proofs.lemmas.List.Folds.{list_any-append}
-use Rattle.lf_laws.proofs.Booleans.{or_false}
 use Rattle.lf_laws.proofs.Members.{any_has, some_has}
 use Rattle.lf_ast.specs.Labels.{Bytes}
 use Rattle.lf_ast.specs.Rules.{RuleTree}
@@ -89,7 +88,7 @@ module _ (test : Option Bytes → Bool) where
     split_in : (e : Tree) → Passes e
     split_in (Number text span) = refl
     split_in (Str text span) = refl
-    split_in (Selector name matchers sight span) = sym (or_false _)
+    split_in (Selector name matchers sight span) = sym (or-false _)
     split_in (Subquery of sight span) = part of (split_in of)
     split_in (Paren of span) = part of (split_in of)
     split_in (Unary minus of span) = part of (split_in of)

@@ -5,7 +5,7 @@ use Rattle.lf_base.specs.declared.place.Span.{Span}
 use Rattle.lf_ast.specs.Functions.{function_named}
 use Rattle.lf_ast.specs.Labels.{Bytes}
 use Rattle.lf_ast.specs.Selectors.{selected_name}
-use Rattle.lf_ast.specs.Tree.{Tree, Trees, Selector, Paren, Unary, Binary, Call, Aggregate, Nil, Next, list}
+use Rattle.lf_ast.specs.Tree.{Tree, Trees, Selector, Paren, Binary, Call, Aggregate, Nil, Next, list}
 use Rattle.lf_ast.specs.Types.{is_scalar, selected}
 use Rattle.lf_ast.specs.declared.expr.Agg.{Agg}
 use Rattle.lf_ast.specs.declared.expr.ExprType.TheVariants.{Scalar, Vector}
@@ -37,9 +37,6 @@ module _ (s : Forks) where
 
   pub of_paren : (of : Tree) (span : Span) → holds s of ≡ holds s (Paren of span)
   of_paren of span = ap (told (is_scalar_part of)) (sym (twice (is_scalar_part of) (passes_in (test_of s) of)))
-
-  pub of_sign : (minus : Bool) (of : Tree) (span : Span) → holds s of ≡ holds s (Unary minus of span)
-  of_sign minus of span = ap (told (is_scalar_part of)) (sym (twice (is_scalar_part of) (passes_in (test_of s) of)))
 
   pub of_operator : (op : Op) (m : Matching) (left right : Tree) (span : Span) → beside op (holds s left) (holds s right) ≡ holds s (Binary op m left right span)
   of_operator op m left right span = by (is_scalar_part left) (is_scalar_part right)

@@ -1,10 +1,9 @@
 -- What is marked tells which selectors are forks, or are made by one.
 use Rattle.std.proofs.Common.{◌≡◌, ◌<◌, ◌+◌, ◌⊎◌, ◌↔◌, ℕ, Bool, true, false, cond, nat_lt, List, [], ◌∷◌, length, get_or, Option, Some, None, inl, inr, refl, sym, ◌∙◌, ap, subst, arith, true≢false}
 use Rattle.std.specs.List.{Contains, flat_map}
-use Rattle.std.proofs.lemmas.Bool.{cases_lt, lt-ltb, ltb-true}
+use Rattle.std.proofs.lemmas.Bool.{cases_lt, lt-ltb, ltb-true, false_from_ne_true}
 use Rattle.std.proofs.lemmas.List.{get_or_past}
 use Rattle.std.proofs.lemmas.List.Elements.{Contains-get_or}
-use Rattle.lf_laws.proofs.Booleans.{not_true}
 use Rattle.lf_laws.proofs.Members.{behind, first_or_behind, here, in_flat_map, none_in, of_flat_map, only_one}
 use Rattle.lf_ast.specs.Labels.{Bytes}
 use Rattle.lf_ast.specs.Rules.{RuleTree}
@@ -31,7 +30,7 @@ module _ (rules : List RuleTree) (own : Forks) (is : AreOwn rules own) where
     | inl h ↦ sym (is.found (place own.names name) h ∙ ap (has_several_rules rules) (at_place own.names name h))
     | inr h ↦
         let past : get_or own.found (place own.names name) false ≡ false = get_or_past own.found (place own.names name) false (omega (arith, h, is.count)) in
-        not_true (has_several_rules rules name) (λ e. let w = several_placed rules own.names is.names name e in omega (arith, w, h)) ∙ sym past
+        false_from_ne_true (has_several_rules rules name) (λ e. let w = several_placed rules own.names is.names name e in omega (arith, w, h)) ∙ sym past
   ]
 
   own_is : (e : Tree) → has_own_fork rules e ≡ has_passing (test_of own) e

@@ -2,7 +2,7 @@
 use Rattle.std.proofs.Common.{◌≡◌, ℕ, Bool, not, List, Some, sym, ap, ◌∙◌}
 use Rattle.std.specs.Prelude.{slice_get}
 use Rattle.lf_deps.proofs.RuleTrees.{tree_at}
-use Rattle.lf_laws.proofs.Options.{the_same}
+use Rattle.std.proofs.lemmas.Option.{same_Some}
 use Rattle.lf_ast.specs.Rules.{RuleTree, rule_tree, rule_trees}
 use Rattle.lf_ast.specs.declared.rule.Rule.{Rule}
 use Rattle.lf_semantics.specs.ClassRows.{is_live}
@@ -24,5 +24,5 @@ pub tells_empty : (rules : List Rule) (env : Environment) (i : ℕ) (rule : Rule
 tells_empty rules env i rule r empty at there is =
     let u = universe_of (rule_trees rules) in
     let v = some_verdict u env (rule_trees rules) i r there in
-    let same : rule_tree rule ≡ r = the_same (rule_tree rule) r (sym (tree_at rules i rule at) ∙ there) in
+    let same : rule_tree rule ≡ r = same_Some (rule_tree rule) r (sym (tree_at rules i rule at) ∙ there) in
     (v.0, v.1, is ∙ ap (λ (x : RuleTree). not (is_live (rule_row u env x))) same ∙ called_empty u env (rule_trees rules) i r v.0 v.1)

@@ -2,9 +2,8 @@
 use Rattle.std.proofs.Common.{◌≡◌, ◌⊎◌, inl, inr, ℕ, ◌+◌, zero, suc, List, [], ◌∷◌, length, Some, refl, sym, ap, ap₂, subst, ◌∙◌, arith}
 use Rattle.std.specs.Prelude.{slice_get}
 use Rattle.std.specs.List.{Contains}
-use Rattle.std.proofs.lemmas.Option.{slice_get-get_or, slice_get_within}
+use Rattle.std.proofs.lemmas.Option.{slice_get-get_or, slice_get_within, same_Some}
 use Rattle.lf_laws.proofs.Slices.{some_at}
-use Rattle.lf_laws.proofs.Options.{the_same}
 use Rattle.lf_base.specs.declared.fault.Fault.{Fault}
 use Rattle.lf_base.specs.Faults.{fault}
 use Rattle.lf_laws.proofs.Members.{none_in, of_flat_map}
@@ -64,7 +63,7 @@ some_from k (f ∷ files) =
         → (i j : ℕ) (file : File) (content : Content) → j ≡ k + i → slice_get (f ∷ files) i ≡ Some file → slice_get (c ∷ contents) i ≡ Some content → Holds j file content
     by c is contents later zero j file content e there found =
         let place : k ≡ j = omega (arith, e) in
-        subst (λ n. Holds n file content) place (subst (λ d. Holds k file d) (the_same c content found) (subst (λ g. Holds k g c) (the_same f file there) is))
+        subst (λ n. Holds n file content) place (subst (λ d. Holds k file d) (same_Some c content found) (subst (λ g. Holds k g c) (same_Some f file there) is))
     by c is contents later (suc i) j file content e there found = later i j file content (omega (arith, e)) there found
 
 pub some_contents : (files : List File) → (contents : List Content) × AreContents files contents

@@ -5,7 +5,7 @@ use Rattle.std.specs.Fmt.{decimal}
 use Rattle.std.specs.Option.{option_map_or}
 use Rattle.std.proofs.lemmas.List.{map_more}
 use Rattle.std.proofs.lemmas.Slice.Zip.{AllZip-long}
-use Rattle.lf_laws.proofs.Options.{the_same}
+use Rattle.std.proofs.lemmas.Option.{same_Some}
 use Rattle.lf_base.specs.Places.{line_at}
 use Rattle.lf_ast.specs.Rules.{RuleTree, rule_tree, rule_trees}
 use Rattle.lf_ast.specs.declared.rule.Rule.{Rule}
@@ -13,7 +13,8 @@ use Rattle.lf_checks.specs.Files.{File, place_in}
 use Rattle.lf_checks.specs.views.Shown.{name_place, place_of}
 use Rattle.lf_report.specs.declared.line_index.Position.{Position}
 use Rattle.lf_report.specs.views.LineIndex.{IsPositionOf}
-use Rattle.lf_report.proofs.Zips.{zip_at, zip_push}
+use Rattle.lf_laws.proofs.Slices.{zip_push}
+use Rattle.lf_report.proofs.Zips.{zip_at}
 use Rattle.lf_judge.specs.views.NamePositions.{AreNamePositions, IsNamePosition}
 
 module _ (files : List File) where
@@ -33,7 +34,7 @@ module _ (files : List File) where
         → file.name ++ codes ":" ++ decimal position.line ++ codes ":" ++ decimal position.column ≡ place_of files rules (Some k)
     place_found k r file position at stands inside is =
         let found = zip_at (IsNamePosition files) rules names k position are inside in
-        let same : found.0 ≡ r = the_same found.0 r (sym found.1 ∙ at) in
+        let same : found.0 ≡ r = same_Some found.0 r (sym found.1 ∙ at) in
         let those : IsNamePosition files r (get_or names k position) = subst (λ (x : RuleTree). IsNamePosition files x (get_or names k position)) same found.2 in
         let here : IsPositionOf file.bytes r.name_span.start position = subst (λ (s : Position). IsPositionOf file.bytes r.name_span.start s) (sym is) (those file stands) in
         ap (λ n. file.name ++ codes ":" ++ decimal n ++ codes ":" ++ decimal position.column) here.line_is

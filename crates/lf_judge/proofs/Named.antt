@@ -3,9 +3,8 @@ use Rattle.std.proofs.Common.{◌≡◌, ◌⊎◌, inl, inr, ℕ, ◌+◌, ◌<
 use Rattle.std.specs.List.{list_any}
 use Rattle.std.specs.Prelude.{◌||◌, option_and_then, slice_get}
 use Rattle.std.proofs.lemmas.List.{length-append}
-use Rattle.std.proofs.lemmas.Option.{slice_get_within}
+use Rattle.std.proofs.lemmas.Option.{slice_get_within, same_Some}
 use Rattle.lf_laws.proofs.Slices.{at_end}
-use Rattle.lf_laws.proofs.Options.{the_same}
 use Rattle.lf_ast.specs.Rules.{RuleTree}
 use Rattle.lf_open.specs.declared.open_at.OpenAt.{OpenAt}
 use Rattle.lf_worlds.specs.views.Told.{rule_verdict}
@@ -32,7 +31,7 @@ below_or_last (suc i) (suc k) lt = elim (below_or_last i k (omega (arith, lt))) 
 pub none_of : {A : Type 0} (p : A → Bool) (xs : List A) (i : ℕ) (x : A) → list_any p xs ≡ false → slice_get xs i ≡ Some x → p x ≡ true → ⊥
 none_of p [] i x none at is = cc
 none_of p (y ∷ ys) zero x none at is =
-    let here : p y ≡ true = ap p (the_same y x at) ∙ is in
+    let here : p y ≡ true = ap p (same_Some y x at) ∙ is in
     let any : list_any p (y ∷ ys) ≡ true = ap (λ b. b || list_any p ys) here in
     let clash : true ≡ false = sym any ∙ none in cc
 none_of p (y ∷ ys) (suc i) x none at is = none_of p ys i x (later (p y) (list_any p ys) none) at is
@@ -71,7 +70,7 @@ module _ (rules : List RuleTree) (found : List RuleFound) where
       by i y there (inr same) =
           let here : slice_get pushed i ≡ Some first = ap (λ l. slice_get l i) pushes ∙ ap (λ n. slice_get (firsts ++ first ∷ []) n) (same ∙ sym named.count) ∙ at_end firsts first in
           let e : first_at pushed i ≡ first = ap joined here in
-          let y_is : x ≡ y = the_same x y (sym at ∙ ap (slice_get found) (sym same) ∙ there) in
+          let y_is : x ≡ y = same_Some x y (sym at ∙ ap (slice_get found) (sym same) ∙ there) in
           subst (IsNamed i y) (sym e) (subst (λ z. IsNamed i z first) y_is (subst (λ n. IsNamed n x first) (sym same) is))
 
   pub all_named : (k : ℕ) (firsts : List (Option OpenAt)) → length found ≤ k → NameUpTo k firsts → NameFirsts rules found firsts

@@ -2,7 +2,7 @@
 use Rattle.std.proofs.Common.{◌≡◌, ℕ, ◌+◌, ◌<◌, zero, suc, List, ◌++◌, [], ◌∷◌, length, Some, refl, ap, ◌∙◌, subst, arith, reverse}
 use Rattle.std.specs.Prelude.{slice_get}
 use Rattle.std.proofs.lemmas.List.{length-append, reverse-append}
-use Rattle.lf_laws.proofs.Options.{the_same}
+use Rattle.std.proofs.lemmas.Option.{same_Some}
 
 module _ {A : Type 0} (P : ℕ → A → Type 0) where
   -- something holds of each element, by its number from one on
@@ -28,7 +28,7 @@ module _ {A : Type 0} (P : ℕ → A → Type 0) where
   -- one more behind
   pub one_more : (n i : ℕ) (told : List A) (one : A) → i ≡ n + length told → EachFrom n told → P i one → EachFrom n (told ++ one ∷ [])
   one_more n i [] one e each is zero m x e' at =
-      let same : i ≡ m = omega (arith, e, e') in subst (P m) (the_same one x at) (subst (λ j. P j one) same is)
+      let same : i ≡ m = omega (arith, e, e') in subst (P m) (same_Some one x at) (subst (λ j. P j one) same is)
   one_more n i [] one e each is (suc k) m x e' at = cc
   one_more n i (y ∷ told) one e each is zero m x e' at = each zero m x e' at
   one_more n i (y ∷ told) one e each is (suc k) m x e' at =

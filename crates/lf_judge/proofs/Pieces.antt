@@ -1,8 +1,7 @@
 -- What the work on each piece ensures holds of the value at its place.
 use Rattle.std.proofs.Common.{◌≡◌, ℕ, ◌<◌, List, Some, Ok, sym, subst, ◌∙◌}
 use Rattle.std.specs.Prelude.{slice_get}
-use Rattle.std.proofs.lemmas.Option.{slice_get_within}
-use Rattle.lf_laws.proofs.Options.{the_same}
+use Rattle.std.proofs.lemmas.Option.{slice_get_within, same_Some}
 use Rattle.lf_board.specs.Pieces.{IsMapOf, Work}
 
 module _ {F T : Type 0} (g : Work F T) (work : F) (n : ℕ) (P : ℕ → T → Type 0) where
@@ -10,4 +9,4 @@ module _ {F T : Type 0} (g : Work F T) (work : F) (n : ℕ) (P : ℕ → T → T
   each_value gives values is i x at =
       let inside : i < n = subst (λ k. i < k) is.count (slice_get_within values i x at) in
       let y = is.each i inside in
-      subst (P i) (the_same y.0 x (sym y.1 ∙ at)) (gives i y.0 inside y.2)
+      subst (P i) (same_Some y.0 x (sym y.1 ∙ at)) (gives i y.0 inside y.2)

@@ -3,7 +3,7 @@ use Rattle.std.proofs.Common.{◌≡◌, ℕ, ◌+◌, zero, suc, Bool, List, []
 use Rattle.std.specs.Prelude.{slice_get}
 use Rattle.std.proofs.lemmas.List.{length-map}
 use Rattle.lf_laws.proofs.Slices.{of_map_at}
-use Rattle.lf_laws.proofs.Options.{the_same}
+use Rattle.std.proofs.lemmas.Option.{same_Some}
 use Rattle.lf_ast.specs.Rules.{RuleTree}
 use Rattle.lf_checks.specs.Files.{File}
 use Rattle.lf_report.specs.declared.report.RuleReport.{RuleReport}
@@ -40,7 +40,7 @@ module _ (files : List File) (rules : List RuleTree) (env : Environment) (labels
           → (k n : ℕ) (d : Checked) → n ≡ i + k → slice_get (c ∷ checked) k ≡ Some d → IsCheckedAt files rules env labels n d
       by c is checked later zero n d e at =
           let place : i ≡ n = omega (arith, e) in
-          subst (λ m. IsCheckedAt files rules env labels m d) place (subst (IsCheckedAt files rules env labels i) (the_same c d at) is)
+          subst (λ m. IsCheckedAt files rules env labels m d) place (subst (IsCheckedAt files rules env labels i) (same_Some c d at) is)
       by c is checked later (suc k) n d e at = later k n d (omega (arith, e)) at
 
   pub all_told : (told : List RuleReport) → length told ≡ length rules → ((i : ℕ) (x : RuleReport) → slice_get told i ≡ Some x → TellsRule files rules env labels i x) → TellsRules files rules env labels told
@@ -52,7 +52,7 @@ module _ (files : List File) (rules : List RuleTree) (env : Environment) (labels
         checked,
         record {
           each_rule = same_list (map (λ (c : Checked). c.rule) checked) rules (length-map checked (λ (c : Checked). c.rule) ∙ are.count ∙ n)
-              (λ i r s at there. (let c = of_map_at (λ (d : Checked). d.rule) checked i r at in sym c.2 ∙ the_same c.0.rule s (sym (each i c.0 c.1).rule ∙ there)));
+              (λ i r s at there. (let c = of_map_at (λ (d : Checked). d.rule) checked i r at in sym c.2 ∙ same_Some c.0.rule s (sym (each i c.0 c.1).rule ∙ there)));
           each_verdict = λ i c at. (each i c at).verdict;
           each_open = λ on i c at. (each i c at).first on;
           each_list = λ i c at. (each i c at).list;

@@ -10,14 +10,6 @@ not_true false h = refl
 
 -- both
 
-pub and_true : (b : Bool) → (b && true) ≡ b
-and_true true = refl
-and_true false = refl
-
-pub and_false : (b : Bool) → (b && false) ≡ false
-and_false true = refl
-and_false false = refl
-
 pub and_left : (a b : Bool) → (a && b) ≡ true → a ≡ true
 and_left true b e = refl
 and_left false b e = e
@@ -27,10 +19,6 @@ and_right true b e = e
 and_right false b e = absurd (true≢false (sym e))
 
 -- one of two
-
-pub or_false : (b : Bool) → (b || false) ≡ b
-or_false true = refl
-or_false false = refl
 
 pub or_from_cond : (b x : Bool) → cond b true x ≡ (b || x)
 or_from_cond true x = refl

@@ -4,8 +4,7 @@ use Rattle.std.specs.List.{Contains, flat_map, list_any, AllByRecursion}
 use Rattle.std.specs.Str.{bytes_eq}
 use Rattle.std.proofs.lemmas.Slice.Eq.{bytes_eq-Decides}
 use Rattle.std.proofs.lemmas.List.Elements.{Contains-append_left, Contains-append_right, Contains-append_cases}
-use Rattle.std.proofs.lemmas.Bool.{or_cases, or_left, or_right}
-use Rattle.lf_laws.proofs.Booleans.{not_true}
+use Rattle.std.proofs.lemmas.Bool.{or_cases, or_left, or_right, false_from_ne_true}
 
 pub here : {X : Type 0} (x : X) (xs : List X) → Contains (x ∷ xs) x
 here x xs = (0, omega arith, refl)
@@ -116,7 +115,7 @@ pub true_same : (x t : List ℕ) → bytes_eq x t ≡ true → x ≡ t
 true_same x t e = (bytes_eq-Decides x t).0 e
 
 pub other_false : (x t : List ℕ) → x ≢ t → bytes_eq x t ≡ false
-other_false x t h = not_true (bytes_eq x t) (λ e. h (true_same x t e))
+other_false x t h = false_from_ne_true (bytes_eq x t) (λ e. h (true_same x t e))
 
 pub any_out : (k : List ℕ) (keys : List (List ℕ)) → list_any (bytes_eq k) keys ≡ true → Contains keys k
 any_out k keys e = let found = some_has (bytes_eq k) keys e in subst (Contains keys) (sym (true_same k found.0 found.2)) found.1

@@ -1,6 +1,6 @@
--- What stands at a number of a list.
-use Rattle.std.proofs.Common.{◌≡◌, ℕ, zero, suc, ◌<◌, List, [], ◌∷◌, ◌++◌, length, map, Some, slice_get, refl, ap, ◌∙◌, arith}
-use Rattle.std.specs.List.{Contains}
+-- What stands at a number of a list, and lists side by side.
+use Rattle.std.proofs.Common.{◌≡◌, ℕ, zero, suc, ◌<◌, ◌≤◌, List, [], ◌∷◌, ◌++◌, length, map, take, Some, slice_get, refl, ap, ◌∙◌, arith}
+use Rattle.std.specs.List.{Contains, AllZip}
 use Rattle.std.proofs.lemmas.Option.{slice_get-get_or, slice_get_within, get_or_from_slice_get}
 use Rattle.lf_laws.proofs.Options.{same_option}
 
@@ -37,3 +37,20 @@ pub to_map_at : {X Y : Type 0} (f : X → Y) (xs : List X) (k : ℕ) (x : X) →
 to_map_at f [] k x e = absurd cc
 to_map_at f (y ∷ xs) zero x e = (let same : y ≡ x = cc in ap (λ z. Some (f z)) same)
 to_map_at f (y ∷ xs) (suc k) x e = to_map_at f xs k x e
+
+-- none of a list
+pub take_none : {X : Type 0} (xs : List X) → take 0 xs ≡ []
+take_none [] = refl
+take_none (x ∷ xs) = refl
+
+-- and at most one
+pub one_taken : {X : Type 0} (xs : List X) → length (take 1 xs) ≤ 1
+one_taken [] = omega arith
+one_taken (x ∷ xs) = let none = ap length (take_none xs) in omega (arith, none)
+
+-- two lists side by side that grow by one each
+pub zip_push : {A B : Type 0} (R : A → B → Type 0) (xs : List A) (ys : List B) (x : A) (y : B) → AllZip R xs ys → R x y → AllZip R (xs ++ x ∷ []) (ys ++ y ∷ [])
+zip_push R [] [] x y h k = (k, tt)
+zip_push R [] (b ∷ ys) x y h k = absurd h
+zip_push R (a ∷ xs) [] x y h k = absurd h
+zip_push R (a ∷ xs) (b ∷ ys) x y h k = (h.0, zip_push R xs ys x y h.1 k)

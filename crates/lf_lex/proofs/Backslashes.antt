@@ -11,6 +11,7 @@ use Rattle.lf_lex.specs.Parts.{IsLongest}
 use Rattle.lf_lex.specs.Breaches.{BeginsNoEscape}
 use Rattle.lf_lex.proofs.Options.{none_some}
 use Rattle.lf_base.specs.Names.{hexadecimal_value}
+use Rattle.lf_base.proofs.Digits.{digit_low}
 
 abbrev AreHigh : List ℕ → Type 0
 AreHigh bs = AllByRecursion (λ b. 128 ≤ b) bs
@@ -121,10 +122,6 @@ letter_low e = pick e 97 7 _ (omega arith) (pick e 98 8 _ (omega arith) (pick e 
 between : (a b d : ℕ) → (leb a d && leb d b) ≡ true → d ≤ b
 between a b d h = leb-true d b (and_parts (leb a d) (leb d b) h).1
 
-hexadecimal_low : (d : ℕ) → IsLow d (hexadecimal_value d)
-unfolding hexadecimal_value
-hexadecimal_low d = cond_low d _ _ _ (λ t. some_low d _ (let k = between 48 57 d t in omega arith)) (cond_low d _ _ _ (λ t. some_low d _ (let k = between 65 70 d t in omega arith)) (cond_low d _ _ _ (λ t. some_low d _ (let k = between 97 102 d t in omega arith)) (none_low d)))
-
 octal_low : (d : ℕ) → IsLow d (octal_value d)
 unfolding octal_value
 octal_low d = cond_low d _ _ _ (λ t. some_low d _ (let k = between 48 55 d t in omega arith)) (none_low d)
@@ -141,9 +138,9 @@ escape_low : (quote : ℕ) (tail bytes : List ℕ) → IsQuote quote → IsEscap
 escape_low quote tail bytes q (a_letter e b t f g) = subst AreLow (sym t) (letter_low e b f, tt)
 escape_low quote tail bytes q (the_quote t g) = subst AreLow (sym t) (quote_low quote q, tt)
 escape_low quote tail bytes q (octal_byte n l t lt g) = digits_low 8 octal_value octal_low 0 tail n t
-escape_low quote tail bytes q (hexadecimal_byte digits n t l h g) = subst AreLow (sym t) (omega arith, digits_low 16 hexadecimal_value hexadecimal_low 0 digits n h)
-escape_low quote tail bytes q (short_character digits c t l h s g) = subst AreLow (sym t) (omega arith, digits_low 16 hexadecimal_value hexadecimal_low 0 digits c h)
-escape_low quote tail bytes q (long_character digits c t l h s g) = subst AreLow (sym t) (omega arith, digits_low 16 hexadecimal_value hexadecimal_low 0 digits c h)
+escape_low quote tail bytes q (hexadecimal_byte digits n t l h g) = subst AreLow (sym t) (omega arith, digits_low 16 hexadecimal_value digit_low 0 digits n h)
+escape_low quote tail bytes q (short_character digits c t l h s g) = subst AreLow (sym t) (omega arith, digits_low 16 hexadecimal_value digit_low 0 digits c h)
+escape_low quote tail bytes q (long_character digits c t l h s g) = subst AreLow (sym t) (omega arith, digits_low 16 hexadecimal_value digit_low 0 digits c h)
 
 -- ---- ASCII at the front of a text
 

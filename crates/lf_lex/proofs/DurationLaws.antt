@@ -12,7 +12,7 @@ use Rattle.lf_base.specs.Names.{is_digit}
 use Rattle.lf_lex.specs.Durations.{Measure, Years, Weeks, Days, Hours, Minutes, Seconds, Milliseconds, letters, place, Amount, amount_text, AreAmounts, Climb, IsDuration, IsDisordered}
 use Rattle.lf_lex.specs.reading.Runs.{place_of_letter, one_letter, unit_at, before, units, rise, duration_order}
 use Rattle.lf_lex.proofs.Units.{unit_first, units-digits, units-none, units-unit, row-stops}
-use Rattle.lf_lex.proofs.Longest.{row_all}
+use Rattle.lf_base.proofs.Rows.{row_all}
 use Rattle.lf_lex.proofs.Options.{none_some}
 
 -- The run is amounts, none perhaps, and their units have these places.

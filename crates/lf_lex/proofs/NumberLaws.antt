@@ -11,7 +11,8 @@ use Rattle.lf_lex.specs.Bytes.{are_some, is_dot, is_exponent, is_plus_minus, is_
 use Rattle.lf_base.specs.Names.{is_digit, is_hexadecimal}
 use Rattle.lf_lex.specs.Runs.{IsHexadecimal, lower_x, upper_x, IsMantissa, no_dot, one_dot, IsExponent, no_exponent, unsigned_exponent, signed_exponent, IsNumber, hexadecimal_number, decimal_number}
 use Rattle.lf_lex.specs.reading.Runs.{is_hexadecimal_number, is_mantissa, are_signed, is_exponent_part, is_decimal_number, is_number, place_of_letter, before, with_unit, units}
-use Rattle.lf_lex.proofs.Longest.{Stops, row_all, row_is}
+use Rattle.lf_base.proofs.Rows.{row_all, row_is}
+use Rattle.lf_base.specs.Rows.{Stops}
 use Rattle.lf_lex.proofs.RunLaws.{all_are, exponent_ends_mantissa}
 
 digit_in_mantissa : (b : ℕ) → is_digit b ≡ true → is_in_mantissa b ≡ true
@@ -149,7 +150,7 @@ exponent_read back (unsigned_exponent e digits s h k) = rw (s, h) (signed_digits
 exponent_read back (signed_exponent e sign digits s h g k) = rw (s, h, g) k
 
 exponent_stops : (back : List ℕ) → IsExponent back → Stops is_in_mantissa back
-exponent_stops back (no_exponent e) = rw e tt
+exponent_stops back (no_exponent e) = rw e refl
 exponent_stops back (unsigned_exponent e digits s h k) = rw s (exponent_ends_mantissa e h)
 exponent_stops back (signed_exponent e sign digits s h g k) = rw s (exponent_ends_mantissa e h)
 

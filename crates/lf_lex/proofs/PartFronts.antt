@@ -16,7 +16,9 @@ use Rattle.lf_lex.specs.Parts.{IsLongest, IsWord, IsSign, IsSomeSign, Blank, Com
 use Rattle.lf_lex.specs.Breaches.{IsBeginning, a_blank, a_comment, a_word, a_run, a_quote, a_back_quote, a_sign, IsCharacter, BeginsNothing, in_back_quotes as open_back_quotes}
 use Rattle.lf_lex.specs.reading.Signs.{sign_at}
 use Rattle.lf_lex.specs.reading.Steps.{Front, gap, token, breach, comment_front, word_front, raw_front, sign_front, next_token}
-use Rattle.lf_lex.proofs.Longest.{Greatest, Stops, greatest_longest, longest_length, row_all, row_is, row_then, take_on}
+use Rattle.lf_base.proofs.Rows.{row_all, row_is, row_then}
+use Rattle.lf_base.specs.Rows.{Stops}
+use Rattle.lf_lex.proofs.Longest.{Greatest, greatest_longest, longest_length, take_on}
 use Rattle.lf_lex.proofs.Words.{word_greatest, no_word, character_greatest}
 use Rattle.lf_lex.proofs.RunLaws.{no_run, run_greatest}
 use Rattle.lf_lex.proofs.SignLaws.{SignAt, sign_is_at, no_sign_there, same_sign, some_sign}
@@ -26,7 +28,7 @@ use Rattle.lf_lex.proofs.Standing.{Standing, stands, fails}
 -- ---- comments
 
 comment_stops : (rest : List ℕ) → EndsComment rest → Stops is_no_line_break rest
-comment_stops [] h = tt
+comment_stops [] h = refl
 comment_stops (b ∷ rest) h = ap not h
 
 comment_ends : (rest : List ℕ) → Stops is_no_line_break rest → EndsComment rest

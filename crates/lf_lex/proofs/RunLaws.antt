@@ -9,7 +9,8 @@ use Rattle.lf_lex.specs.Bytes.{is_dot, is_exponent, is_plus_minus, is_in_run, is
 use Rattle.lf_base.specs.Names.{is_digit, is_letter}
 use Rattle.lf_lex.specs.Runs.{begins_run, IsRow, plain_row, signed_row, IsRun}
 use Rattle.lf_lex.specs.reading.Runs.{begins_signed, run_len}
-use Rattle.lf_lex.proofs.Longest.{Greatest, row_all, row_past, row_is, row_bound}
+use Rattle.lf_base.proofs.Rows.{row_all, row_past, row_is, row_bound}
+use Rattle.lf_lex.proofs.Longest.{Greatest}
 
 -- ---- classes
 

@@ -5,7 +5,8 @@ use Rattle.std.specs.List.{prefix_len, list_all}
 use Rattle.lf_lex.specs.Bytes.{begins_word, is_in_word, is_continuation}
 use Rattle.lf_lex.specs.Parts.{IsWord}
 use Rattle.lf_lex.specs.Breaches.{IsCharacter}
-use Rattle.lf_lex.proofs.Longest.{Greatest, row_all, row_bound}
+use Rattle.lf_base.proofs.Rows.{row_all, row_bound}
+use Rattle.lf_lex.proofs.Longest.{Greatest}
 
 pub begins_in_word : (inside : Bool) (b : ℕ) → begins_word inside b ≡ true → is_in_word inside b ≡ true
 unfolding is_in_word

@@ -7,7 +7,7 @@ use Rattle.std.proofs.lemmas.Bool.{cases_lt}
 use Rattle.std.proofs.lemmas.List.{get_or-append-add, get_or_append_left, get_or_past}
 use Rattle.std.proofs.lemmas.List.Sums.{get_or-le-sum_by, sum-map}
 use Rattle.std.proofs.lemmas.List.Elements.{Contains-get_or}
-use Rattle.lf_laws.proofs.Booleans.{and_false, and_true, or_false}
+use Rattle.std.proofs.Math.Bool.{and-true, and-false, or-false}
 use Rattle.lf_laws.proofs.Members.{any_in, any_out, other_false}
 use Rattle.lf_ast.specs.Labels.{Bytes}
 use Rattle.lf_semantics.specs.ClassRows.{HasShape, Sets, indexed_from}
@@ -54,11 +54,11 @@ any_chosen passes test chosen a (text ∷ texts) (on ∷ set) n is same =
 none_later : (k : ℕ) (set : List Bool) → list_any (λ on. on) (indexed_from (λ class on. on && eqb class 0) (suc k) set) ≡ false
 none_later k [] = refl
 none_later k (on ∷ set) =
-    ap₂ (λ (b r : Bool). (on && b) || r) (eqb-other (suc k) 0 (λ e. absurd (omega (arith, e)))) (none_later (suc k) set) ∙ or_false (on && false) ∙ and_false on
+    ap₂ (λ (b r : Bool). (on && b) || r) (eqb-other (suc k) 0 (λ e. absurd (omega (arith, e)))) (none_later (suc k) set) ∙ or-false (on && false) ∙ and-false on
 
 first_alone : (set : List Bool) → list_any (λ on. on) (indexed_from (λ class on. on && eqb class 0) 0 set) ≡ get_or set 0 false
 first_alone [] = refl
-first_alone (on ∷ set) = ap (λ (r : Bool). (on && true) || r) (none_later 0 set) ∙ or_false (on && true) ∙ and_true on
+first_alone (on ∷ set) = ap (λ (r : Bool). (on && true) || r) (none_later 0 set) ∙ or-false (on && true) ∙ and-true on
 
 module _ (u : Listing) (listing : IsListing u) (name : Bytes) (few : length (named_at u (label_of u name)) < 2 ^ 63) where
   abbrev label : ℕ

@@ -1,13 +1,11 @@
 -- Marks, rule by rule; and that those of chosen rules tell which selectors read a rule that passes a test.
 use Rattle.std.proofs.Common.{◌≡◌, ◌<◌, ◌≤◌, ◌+◌, ◌⊎◌, inl, inr, ℕ, zero, suc, Bool, true, false, true≢false, not, ◌&&◌, ◌||◌, List, [], ◌∷◌, length, replicate, get_or, Option, Some, None, refl, sym, ap, ◌∙◌, subst, arith, slice_get}
-use Rattle.std.specs.Prelude.{IfOk, Result, Ok, Err}
 use Rattle.std.proofs.lemmas.Bool.{and_from, cases_lt, not-true, not_from_false, or_right}
 use Rattle.std.proofs.lemmas.List.{get_or_past, length-replicate}
-use Rattle.std.proofs.lemmas.Option.{get_or_from_slice_get, slice_get-get_or, slice_get_within}
+use Rattle.std.proofs.lemmas.Option.{same_Some}
 use Rattle.std.specs.List.{Contains}
 use Rattle.lf_laws.proofs.Booleans.{and_left, and_right}
 use Rattle.lf_laws.proofs.Members.{here, only_one}
-use Rattle.lf_laws.proofs.Options.{the_same}
 use Rattle.lf_laws.proofs.Slices.{member_at, number_of}
 use Rattle.lf_ast.specs.Labels.{Bytes}
 use Rattle.lf_ast.specs.Rules.{RuleTree}
@@ -41,7 +39,7 @@ module _ (rules : List RuleTree) (chosen : List Bool) where
         by (inr more) =
             let b = is.before in
             let same : k ≡ i = omega (arith, more, b) in
-            let it : r ≡ s = the_same r s (sym at ∙ ap (slice_get rules) (sym same) ∙ is.at) in
+            let it : r ≡ s = same_Some r s (sym at ∙ ap (slice_get rules) (sym same) ∙ is.at) in
             inr (and_from on (not r.alert) (on_is ∙ ap (λ (n : ℕ). get_or chosen n false) (sym same) ∙ is.picked) (not_from_false r.alert (ap (λ (z : RuleTree). z.alert) it ∙ is.recording)), it)
 
     pub one_more : (old new : Marks) → AreMarksUpTo rules chosen i old → Marked (on && not r.alert) r.name old new → AreMarksUpTo rules chosen (i + 1) new

@@ -2,12 +2,11 @@
 use Rattle.std.proofs.Common.{◌≡◌, ◌⊎◌, ◌↔◌, inl, inr, ℕ, Bool, true, false, true≢false, cond, not, nat_lt, ◌&&◌, ◌||◌, List, [], ◌∷◌, ◌++◌, length, map, Option, Some, None, refl, sym, ap, ap₂, ◌∙◌, subst}
 use Rattle.std.proofs.lemmas.List.Elements.{Contains-append_cases, Contains-append_left, Contains-append_right}
 use Rattle.std.specs.BTreeSet.{insert_key}
-use Rattle.std.specs.List.{Contains, flat_map, list_all, list_any}
+use Rattle.std.specs.List.{Contains, flat_map, list_any}
 use Rattle.std.specs.Ordering.{nat_cmp}
-use Rattle.std.proofs.Math.Bool.{or_assoc}
+use Rattle.std.proofs.Math.Bool.{or_assoc, or-false}
 use Rattle.std.proofs.lemmas.List.Folds.{list_any-append}
 use Rattle.lf_graph.proofs.Inserting.{comes_in, put_in, stays_in}
-use Rattle.lf_laws.proofs.Booleans.{or_false}
 use Rattle.lf_laws.proofs.Members.{behind, first_or_behind, here, in_flat_map, in_map, map_member, none_in, of_flat_map, only_one}
 use Rattle.lf_ast.specs.Labels.{Bytes}
 use Rattle.lf_ast.specs.Tree.{Tree, Trees, Number, Str, Selector, Subquery, Paren, Unary, Binary, Call, Aggregate, Nil, Next, list, parts_of}
@@ -69,7 +68,7 @@ in_appended a b o = by (nat_lt (length a) (length b))
 
 module _ (field : Told → Bool) (law : (a b : Told) → field (beside a b) ≡ (field a || field b)) where
   pub gathered_any : (a : Told) (ts : List Told) → field (gathered a ts) ≡ (field a || list_any field ts)
-  gathered_any a [] = sym (or_false (field a))
+  gathered_any a [] = sym (or-false (field a))
   gathered_any a (t ∷ ts) = gathered_any (beside a t) ts ∙ ap (λ (b : Bool). b || list_any field ts) (law a t) ∙ or_assoc (field a) (field t) (list_any field ts)
 
 pub gathered_push : (a : Told) (ts : List Told) (t : Told) → gathered a (ts ++ t ∷ []) ≡ beside (gathered a ts) t
@@ -171,12 +170,12 @@ module _ (f : Facts) where
   fork_parts : (e : Tree) → is_scalar_part e ≡ false → has_passing (test_of f.forks) e ≡ (own_fork f e || list_any (has_passing (test_of f.forks)) (parts_of e))
   fork_parts (Number text span) is = absurd (true≢false is)
   fork_parts (Str text span) is = refl
-  fork_parts (Selector name matchers sight span) is = sym (or_false (has_passing (test_of f.forks) (Selector name matchers sight span)))
-  fork_parts (Subquery of sight span) is = sym (or_false (has_passing (test_of f.forks) of))
-  fork_parts (Paren of span) is = unless_not (Paren of span) is ∙ sym (or_false (has_passing (test_of f.forks) of))
-  fork_parts (Unary minus of span) is = unless_not (Unary minus of span) is ∙ sym (or_false (has_passing (test_of f.forks) of))
+  fork_parts (Selector name matchers sight span) is = sym (or-false (has_passing (test_of f.forks) (Selector name matchers sight span)))
+  fork_parts (Subquery of sight span) is = sym (or-false (has_passing (test_of f.forks) of))
+  fork_parts (Paren of span) is = unless_not (Paren of span) is ∙ sym (or-false (has_passing (test_of f.forks) of))
+  fork_parts (Unary minus of span) is = unless_not (Unary minus of span) is ∙ sym (or-false (has_passing (test_of f.forks) of))
   fork_parts (Binary op m left right span) is =
-      unless_not (Binary op m left right span) is ∙ ap (λ (b : Bool). is_or op || (has_passing (test_of f.forks) left || b)) (sym (or_false (has_passing (test_of f.forks) right)))
+      unless_not (Binary op m left right span) is ∙ ap (λ (b : Bool). is_or op || (has_passing (test_of f.forks) left || b)) (sym (or-false (has_passing (test_of f.forks) right)))
   fork_parts (Call name args span) is = unless_not (Call name args span) is ∙ any_passing args
   fork_parts (Aggregate op grouping args span) is = any_passing args
 

@@ -9,8 +9,9 @@ use Rattle.lf_report.specs.declared.report.FileReport.{FileReport}
 use Rattle.lf_report.specs.declared.line_index.LineIndex.{LineIndex}
 use Rattle.lf_report.specs.declared.line_index.Position.{Position}
 use Rattle.lf_report.specs.views.LineIndex.{AreIndexed, ArePositions, IsPosition}
-use Rattle.lf_laws.proofs.Options.{the_same}
-use Rattle.lf_report.proofs.Zips.{at_push, zip_at, zip_push}
+use Rattle.std.proofs.lemmas.Option.{same_Some}
+use Rattle.lf_laws.proofs.Slices.{zip_push}
+use Rattle.lf_report.proofs.Zips.{at_push, zip_at}
 
 pub lt_from : (k n : ℕ) → true ≡ nat_lt k n → k < n
 lt_from k n e = grind (arith, nat_tests)
@@ -36,7 +37,7 @@ index_at files indexes k m are inside is =
     let found = zip_at R files indexes k m are within in (
       within,
       λ file e. let same : Some found.0 ≡ Some file = sym found.1 ∙ e in
-          let one : found.0 ≡ file = the_same found.0 file same in
+          let one : found.0 ≡ file = same_Some found.0 file same in
           subst (λ (f : FileReport). ArePositions f.source m.positions.items) one (subst (R found.0) (sym is) found.2),
     )
 

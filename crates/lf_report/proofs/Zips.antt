@@ -4,12 +4,6 @@ use Rattle.std.specs.List.{AllZip}
 use Rattle.std.specs.Prelude.{slice_get}
 
 module _ {A B : Type 0} (R : A → B → Type 0) where
-  pub zip_push : (xs : List A) (ys : List B) (x : A) (y : B) → AllZip R xs ys → R x y → AllZip R (xs ++ x ∷ []) (ys ++ y ∷ [])
-  zip_push [] [] x y h k = (k, tt)
-  zip_push [] (v ∷ ys) x y h k = absurd h
-  zip_push (u ∷ xs) [] x y h k = absurd h
-  zip_push (u ∷ xs) (v ∷ ys) x y h k = (h.0, zip_push xs ys x y h.1 k)
-
   pub zip_at : (xs : List A) (ys : List B) (k : ℕ) (d : B) → AllZip R xs ys → k < length ys → (x : A) × (slice_get xs k ≡ Some x) × R x (get_or ys k d)
   zip_at [] [] k d h lt = absurd (omega arith)
   zip_at [] (v ∷ ys) k d h lt = absurd h

@@ -5,7 +5,7 @@ use Rattle.std.specs.List.{Contains}
 use Rattle.lf_base.specs.declared.fault.Fault.{Fault}
 use Rattle.lf_base.specs.declared.refusal.Refusal.{Refusal}
 use Rattle.lf_base.specs.Answers.{AnswersAs, OneAnswer}
-use Rattle.lf_base.proofs.Answering.{Decides}
+use Rattle.lf_base.proofs.Answering.{Decides, same_fault, same_value}
 use Rattle.lf_base.proofs.Least.{Least, only_one}
 use Rattle.lf_base.proofs.Answering as answering
 use Rattle.lf_laws.proofs.Members.{here, none_in}
@@ -29,17 +29,11 @@ no_faults t e = by (faults t) (λ f c. none f (breaks_out time_decides limit_dec
     by [] h = refl
     by (f ∷ fs) h = absurd (h f (here f fs))
 
-same_rules : (a b : List Source) → ◌≡◌ {A = Result (List Source) Fault} (Ok a) (Ok b) → a ≡ b
-same_rules a b h = cc
-
-same_fault : (a b : Fault) → ◌≡◌ {A = Result (List Source) Fault} (Err a) (Err b) → a ≡ b
-same_fault a b h = cc
-
 reading_stands : (t : Tree) (rs : List Source) → reading t ≡ Ok rs → IsRules t rs
 reading_stands t rs e = by (least_from None (faults t)) refl e
   where
     by : (first : Option Fault) → least_from None (faults t) ≡ first → reading_from t first ≡ Ok rs → IsRules t rs
-    by None is h = subst (IsRules t) (same_rules (sources t) rs h) (file_stands time_decides limit_decides t (no_faults t is))
+    by None is h = subst (IsRules t) (same_value (sources t) rs h) (file_stands time_decides limit_decides t (no_faults t is))
     by (Some f) is h = absurd (cc)
 
 reading_rules : (t : Tree) (rs : List Source) → IsRules t rs → reading t ≡ Ok rs

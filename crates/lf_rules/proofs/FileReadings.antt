@@ -15,8 +15,7 @@ use Rattle.lf_rules.specs.Rules.{IsRuleTree, AreRules, IsGroup, IsGroupTree, Are
 use Rattle.lf_base.specs.Faults.{fault}
 use Rattle.lf_rules.specs.reading.Files.{is_time, is_limit, text_faults, scalar_faults, unknown_faults, missing_faults, rule_tree_faults, rules_faults, group_parts, group_faults, group_tree_faults, scalar_of, name_of, again_faults, with_name, names_faults, groups_faults, file_parts, faults, text_of, rule_source, entries_of, items_of, group_sources, groups_sources, sources}
 use Rattle.lf_laws.proofs.Members.{same_true, true_same}
-use Rattle.std.proofs.lemmas.Bool.{or_parts}
-use Rattle.lf_laws.proofs.Booleans.{not_true}
+use Rattle.std.proofs.lemmas.Bool.{or_parts, false_from_ne_true}
 use Rattle.lf_rules.proofs.Parts.{Decides}
 use Rattle.lf_rules.proofs.Stands.{both_empty, empty_both, part_is_empty, parts_are_empty, text_stands, text_clean, scalar_stands, scalar_clean, keys_stand, keys_clean}
 use Rattle.lf_rules.proofs.Readings.{rule_stands, rule_clean, not_missing, leaf_there}
@@ -32,13 +31,13 @@ abbrev pub AreNew : List Bytes → List Bytes → Type 0
 AreNew seen ns = AllByRecursion (λ n. list_any (bytes_eq n) seen ≡ false) ns
 
 not_any_both : (n m : Bytes) (seen : List Bytes) → list_any (bytes_eq n) (seen ++ m ∷ []) ≡ false → (list_any (bytes_eq n) seen ≡ false) × (bytes_eq m n ≡ false)
-not_any_both n m [] e = (refl, not_true (bytes_eq m n) (λ h. true≢false (sym (same_true n m (sym (true_same m n h))) ∙ (or_parts (bytes_eq n m) false e).0)))
+not_any_both n m [] e = (refl, false_from_ne_true (bytes_eq m n) (λ h. true≢false (sym (same_true n m (sym (true_same m n h))) ∙ (or_parts (bytes_eq n m) false e).0)))
 not_any_both n m (s ∷ seen) e =
     let later : (list_any (bytes_eq n) seen ≡ false) × (bytes_eq m n ≡ false) = not_any_both n m seen ((or_parts (bytes_eq n s) (list_any (bytes_eq n) (seen ++ m ∷ [])) e).1) in
     (rw ((or_parts (bytes_eq n s) (list_any (bytes_eq n) (seen ++ m ∷ [])) e).0, later.0) refl, later.1)
 
 any_both : (n m : Bytes) (seen : List Bytes) → list_any (bytes_eq n) seen ≡ false → bytes_eq m n ≡ false → list_any (bytes_eq n) (seen ++ m ∷ []) ≡ false
-any_both n m [] e h = rw (not_true (bytes_eq n m) (λ t. true≢false (sym (same_true m n (sym (true_same n m t))) ∙ h))) refl
+any_both n m [] e h = rw (false_from_ne_true (bytes_eq n m) (λ t. true≢false (sym (same_true m n (sym (true_same n m t))) ∙ h))) refl
 any_both n m (s ∷ seen) e h = rw ((or_parts (bytes_eq n s) (list_any (bytes_eq n) seen) e).0, any_both n m seen ((or_parts (bytes_eq n s) (list_any (bytes_eq n) seen) e).1) h) refl
 
 new_both : (m : Bytes) (seen ns : List Bytes) → AreNew (seen ++ m ∷ []) ns → AreNew seen ns × AllByRecursion (λ y. bytes_eq m y ≡ false) ns

@@ -14,7 +14,7 @@ use Rattle.lf_rules.specs.Breaches.{IsNoScalar, IsNoMapping, NoScalarAt, WrongTe
 use Rattle.lf_base.specs.Faults.{fault}
 use Rattle.lf_rules.specs.reading.Files.{scalar_faults, text_faults, unknown_faults, value_faults, is_setting_name, setting_faults, settings_faults}
 use Rattle.lf_laws.proofs.Members.{here, none_in, only_one, in_flat_map, of_flat_map, any_in, any_out, same_true, true_same}
-use Rattle.lf_laws.proofs.Booleans.{not_true}
+use Rattle.std.proofs.lemmas.Bool.{false_from_ne_true}
 use Rattle.std.proofs.lemmas.List.Elements.{Contains-append_left, Contains-append_right, Contains-append_cases}
 
 -- ---- nodes of a kind
@@ -83,7 +83,7 @@ text_in_kind is kind key es f n = subst (λ g. Contains (text_faults is kind g) 
 
 pub text_in_text : (is : Bytes → Bool) (P : Bytes → Type 0) (kind : Kind) (key : Bytes) (es : List Pairing) (f : Fault) → Decides is P → WrongTextAt key P kind es f → Contains (text_faults is kind (given key es)) f
 text_in_text is P kind key es f d w =
-    let wrong : is w.0.text ≡ false = not_true (is w.0.text) (λ h. w.2 (d.0 w.0.text h)) in
+    let wrong : is w.0.text ≡ false = false_from_ne_true (is w.0.text) (λ h. w.2 (d.0 w.0.text h)) in
     subst (λ g. Contains (text_faults is kind g) f) (sym w.1) (subst (Contains (text_faults is kind (Some (leaf w.0)))) (sym w.3) (rw wrong (here (fault kind w.0.span) [])))
 
 -- ---- keys
@@ -97,7 +97,7 @@ unknown_out keys es f c = let m : (e : Pairing) × Contains es e × Contains (un
 
 pub unknown_in : (keys : List Bytes) (es : List Pairing) (f : Fault) → UnknownIn keys es f → Contains (flat_map (unknown_faults keys) es) f
 unknown_in keys es f u =
-    let known : list_any (bytes_eq u.0.text) keys ≡ false = not_true (list_any (bytes_eq u.0.text) keys) (λ h. u.3 (any_out u.0.text keys h)) in
+    let known : list_any (bytes_eq u.0.text) keys ≡ false = false_from_ne_true (list_any (bytes_eq u.0.text) keys) (λ h. u.3 (any_out u.0.text keys h)) in
     in_flat_map (unknown_faults keys) es (u.0, u.1) f u.2 (rw known (subst (Contains (fault UnknownKey u.0.span ∷ [])) (sym u.4) (here (fault UnknownKey u.0.span) [])))
 
 -- ---- labels and annotations

@@ -7,7 +7,6 @@ use Rattle.std.proofs.lemmas.List.{append-nil}
 use Rattle.std.proofs.lemmas.Bool.{and_parts, cases_Bool, true≢false}
 use Rattle.std.proofs.lemmas.Grind.{flat_map-append}
 use Rattle.std.proofs.lemmas.Str.{IsUtf8-encode}
-use Rattle.std.proofs.lemmas.Bool.Decides.{nat_tests}
 use Rattle.std.proofs.lemmas.Option.{same_Some}
 use Rattle.lf_scalar.specs.Cells.{Cell, cell, bytes_of}
 use Rattle.lf_scalar.specs.Lines.{Line, after_blanks}
@@ -16,7 +15,7 @@ use Rattle.lf_scalar.specs.Quoted.{Quotes, Single, Double, quote_of, letters, lo
 use Rattle.lf_scalar.proofs.Parts.{Utf8, utf8-before, utf8-behind, part-utf8, after-blanks-part, blank-low, BeginsLow}
 use Rattle.lf_scalar.proofs.Utf8Lines.{utf8-nil, utf8-append, utf8-low, feeds-utf8, fold-utf8, LinesUtf8, lines-utf8-behind}
 use Rattle.lf_scalar.proofs.Rising.{Rises, Climbs, LinesRise, rises-le, rises-front, rises-back, rises-before, rises-behind, rises-part, climbs-low, climbs-high, climbs-append, feeds-climb, fold-climbs, lines-behind}
-use Rattle.lf_base.specs.Names.{hexadecimal_value}
+use Rattle.lf_base.proofs.Digits.{digit_low}
 use Rattle.lf_laws.proofs.Members.{all_front}
 
 -- ---- escapes
@@ -86,16 +85,12 @@ width-low byte n e =
       ]
     ]
 
-digit-low : (byte d : ℕ) → hexadecimal_value byte ≡ some d → byte < 128
-unfolding hexadecimal_value
-digit-low byte d e = grind (arith, nat_tests)
-
 abbrev pub AreLow : List Cell → Type 0
 AreLow cs = AllByRecursion (λ c. c.byte < 128) cs
 
 digits-low : (before : ℕ) (cs : List Cell) (n : ℕ) → Tells before cs n → AreLow cs
 digits-low before [] n h = tt
-digits-low before (c ∷ cs) n (d, e, h) = (digit-low c.byte d e, digits-low (16 * before + d) cs n h)
+digits-low before (c ∷ cs) n (d, e, h) = (digit_low c.byte d e, digits-low (16 * before + d) cs n h)
 
 behind-low : (cs rest : List Cell) → AreLow cs → Utf8 (cs ++ rest) → Utf8 rest
 behind-low [] rest h u = u

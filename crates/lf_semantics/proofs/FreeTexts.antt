@@ -2,14 +2,13 @@
 use Rattle.std.proofs.Common.{◌≡◌, ◌<◌, ◌^◌, ℕ, ◌+◌, eqb, true, List, ◌∷◌, get_or, drop, map, length, sym, ap, subst, ◌∙◌, arith}
 use Rattle.std.specs.Prelude.{decimal}
 use Rattle.std.specs.List.{Contains, IsDistinct, list_any, range_with_len}
-use Rattle.std.proofs.lemmas.Bool.{eqb-true}
+use Rattle.std.proofs.lemmas.Bool.{eqb-true, false_from_ne_true}
 use Rattle.std.proofs.lemmas.Fmt.{decimal_injective}
 use Rattle.std.proofs.lemmas.List.{length-map}
 use Rattle.std.proofs.lemmas.List.FromFn.{get_or-map-range_with_len, length-range_with_len}
 use Rattle.std.proofs.lemmas.Map.Keys.{IsDistinct-from_apart}
 use Rattle.std.proofs.lemmas.Map.Steps.{length-le_from_distinct_below}
 use Rattle.std.proofs.lemmas.Map.Views.{Contains-from_any}
-use Rattle.lf_laws.proofs.Booleans.{not_true}
 use Rattle.lf_ast.specs.Labels.{Bytes}
 use Rattle.lf_semantics.specs.Listing.{place}
 use Rattle.lf_semantics.proofs.ListingLaws.{place_within}
@@ -45,7 +44,7 @@ module _ (letter : ℕ) (taken : List Bytes) (small : length taken < 2 ^ 63) whe
     distinct =
         IsDistinct-from_apart eqb places
         (λ i j d less h. let under : j < length taken + 1 = omega (arith, h, count) in
-        not_true (eqb (get_or places i d) (get_or places j d))
+        false_from_ne_true (eqb (get_or places i d) (get_or places j d))
         (λ e. apart i j less under (sym (read i d (omega (arith, less, under))) ∙ eqb-true (get_or places i d) (get_or places j d) e ∙ read j d under)))
 
     below : (q : ℕ) → list_any (eqb q) places ≡ true → q < length taken

@@ -2,7 +2,6 @@
 use Rattle.std.proofs.Common.{◌≡◌, Bool, true, false, cond, List, [], ◌∷◌, ◌⊎◌, inl, inr, refl, sym, ◌∙◌, ap, subst}
 use Rattle.std.specs.List.{AllByRecursion, Contains, filter}
 pub use Rattle.std.proofs.lemmas.Bool.{or_cases}
-pub use Rattle.lf_laws.proofs.Booleans.{not_true}
 pub use Rattle.lf_laws.proofs.Members.{all_back, all_front, behind, each_member as one_of, first_or_behind, here, in_flat_map, in_map, map_member, none_in, other_false, same_true, true_same}
 
 pub all_of : {X : Type 0} (P : X → Type 0) (xs : List X) → ((x : X) → Contains xs x → P x) → AllByRecursion P xs

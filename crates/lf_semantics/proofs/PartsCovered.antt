@@ -1,16 +1,21 @@
--- Where the universe covers an expression, it covers the parts in it.
-use Rattle.std.proofs.Common.{inl, inr, ◌++◌, Option, Some, None, subst}
+-- Where the universe covers rules, it covers the expression of each, and where it covers an expression, the parts in it.
+use Rattle.std.proofs.Common.{inl, inr, List, ◌++◌, Option, Some, None, subst}
 use Rattle.std.specs.List.{Contains}
 use Rattle.std.proofs.lemmas.List.Elements.{Contains-append_cases}
 use Rattle.lf_laws.proofs.Members.{all_back, all_front, first_or_behind, none_in, only_one}
 use Rattle.lf_ast.specs.Arguments.{texts_of}
 use Rattle.lf_ast.specs.Functions.{Signature, function_named}
+use Rattle.lf_ast.specs.Rules.{RuleTree}
 use Rattle.lf_ast.specs.Tree.{Tree, Trees, Number, Str, Selector, Subquery, Paren, Unary, Binary, Call, Aggregate, Nil, Next, nodes, nodes_in}
-use Rattle.lf_semantics.specs.Environments.{Covers, IsKnown}
+use Rattle.lf_semantics.specs.Environments.{Covers, CoversRules, IsKnown}
 use Rattle.lf_semantics.specs.Listing.{Listing}
 use Rattle.lf_semantics.specs.Mentions.{arguments_mentions, call_mentions, mentions, modifier_mentions}
 use Rattle.lf_semantics.proofs.Constructs.{AllKnown, operands_known}
 use Rattle.lf_semantics.proofs.Operands.{aggregate_known}
+
+-- the expression of a rule among rules that are covered
+pub rule_covered : (u : Listing) (rules : List RuleTree) → CoversRules u rules → (r : RuleTree) → Contains rules r → Covers u r.expr
+rule_covered u rules covers r c = all_front (IsKnown u) (mentions r.expr) _ (covers r c)
 
 module _ (u : Listing) where
   call_operands : (o : Option Signature) (args : Trees) → AllKnown u (call_mentions o (texts_of args) (arguments_mentions args)) → AllKnown u (arguments_mentions args)

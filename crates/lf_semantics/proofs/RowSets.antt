@@ -3,7 +3,7 @@ use Rattle.std.proofs.Common.{◌≡◌, ℕ, zero, suc, ◌<◌, Bool, true, fa
 use Rattle.std.specs.List.{list_any}
 use Rattle.std.proofs.lemmas.Bool.{and_parts}
 use Rattle.std.proofs.lemmas.List.{get_or-map, length-map}
-use Rattle.lf_laws.proofs.Booleans.{and_false}
+use Rattle.std.proofs.Math.Bool.{and-false}
 use Rattle.lf_semantics.specs.ClassRows.{Sets, emptied, holds, is_live, remade}
 use Rattle.lf_semantics.proofs.RowLaws.{holds-remade, length_remade, shape_emptied, shape_remade}
 
@@ -55,7 +55,7 @@ live_at (set ∷ row) (suc l) e h = live_at row l (and_parts (list_any (λ on. o
 pub dead_when : (row : Sets) (l : ℕ) → l < length row → ((c : ℕ) → c < length (get_or row l []) → holds row l c ≡ false) → is_live row ≡ false
 dead_when [] l h none = absurd (omega arith)
 dead_when (set ∷ row) zero h none = rw (none_on set none) refl
-dead_when (set ∷ row) (suc l) h none = ap (λ b. list_any (λ on. on) set && b) (dead_when row l (omega arith) none) ∙ and_false (list_any (λ on. on) set)
+dead_when (set ∷ row) (suc l) h none = ap (λ b. list_any (λ on. on) set && b) (dead_when row l (omega arith) none) ∙ and-false (list_any (λ on. on) set)
 
 none_any : (set : List Bool) → list_any (λ on. on) (map (λ on. false) set) ≡ false
 none_any [] = refl

@@ -4,7 +4,7 @@ use Rattle.std.specs.List.{Contains, AllByRecursion, list_any}
 use Rattle.std.specs.Option.{option_map_or}
 use Rattle.std.specs.Str.{bytes_eq}
 use Rattle.std.proofs.lemmas.Bool.Decides.{nat_tests}
-use Rattle.std.proofs.lemmas.Bool.{eq-eqb, or_cases}
+use Rattle.std.proofs.lemmas.Bool.{eq-eqb, or_cases, false_from_ne_true}
 use Rattle.std.proofs.lemmas.Option.{none-some, same_Some}
 use Rattle.lf_ast.specs.Labels.{Bytes, Labels}
 use Rattle.lf_ast.specs.declared.expr.Matcher.{Matcher}
@@ -21,7 +21,7 @@ use Rattle.lf_semantics.specs.Passing.{HasName, PassesEach, is_plain, passes, pa
 use Rattle.lf_semantics.specs.RowTable.{Environment, is_metric_label, is_recorded, passes_class, passes_matchers, row_named, row_or_series, scraped_row, seen_row, selector_row, series_row, text_of, with_recorded}
 use Rattle.lf_semantics.specs.Texts.{value_of}
 use Rattle.lf_semantics.specs.Mentions.{alternatives_or_samples, matcher_texts, matchers_mentions, pattern_texts}
-use Rattle.lf_semantics.proofs.Members.{not_true, other_false, true_same}
+use Rattle.lf_semantics.proofs.Members.{other_false, true_same}
 use Rattle.lf_semantics.proofs.Numbered.{metric_label}
 use Rattle.lf_semantics.proofs.PatternTexts.{passes_is}
 use Rattle.lf_semantics.proofs.Places.{class_of_some, class_test, label_test, text_at_class}
@@ -58,7 +58,7 @@ module _ (u : Listing) where
 
   pub plain_not_other : (l : ℕ) (value text : Bytes) → AreOwn l (pattern_texts value) → IsOther l text → matches value text ≡ true → not (is_plain value) ≡ true
   plain_not_other l value text own other h =
-      ap not (not_true (is_plain value) (λ plain. not_own l text other (plain_within value text (alternatives_of value) refl plain h (λ t. class_of u l t < other_class u l) own)))
+      ap not (false_from_ne_true (is_plain value) (λ plain. not_own l text other (plain_within value text (alternatives_of value) refl plain h (λ t. class_of u l t < other_class u l) own)))
 
   passes_any_other : (op : MatchOp) (l : ℕ) (value text : Bytes) → AreOwn l (matcher_texts op value) → IsOther l text → passes op value text ≡ true → passes_other op value ≡ true
   passes_any_other Equal l value text own other h =

@@ -5,7 +5,7 @@ use Rattle.std.specs.Option.{option_map_or, option_or}
 use Rattle.std.proofs.lemmas.List.{get_or-map}
 use Rattle.lf_laws.proofs.Booleans.{and_left, and_right}
 use Rattle.lf_laws.proofs.Members.{behind, first_or_behind, here, none_in}
-use Rattle.lf_laws.proofs.Options.{the_same}
+use Rattle.std.proofs.lemmas.Option.{same_Some}
 use Rattle.lf_ast.specs.Labels.{Bytes}
 use Rattle.lf_semantics.specs.ClassRows.{HasShape, HoldsText, Sets, is_live}
 use Rattle.lf_semantics.specs.Listing.{IsListing, Listing, label_of, named_at}
@@ -126,7 +126,7 @@ module _ (u : Listing) where
       completed_total name there = let t = by_row name there in (t.0, t.1)
 
       pub completed_holds : HoldsGiven row (completed_by u row D)
-      completed_holds = record { live = h.live; held = λ name text there given. let t = by_row name there in let q : t.0 ≡ text = the_same (t.0) text (sym t.1 ∙ given) in subst (λ x. HoldsText u row name x) q t.2 }
+      completed_holds = record { live = h.live; held = λ name text there given. let t = by_row name there in let q : t.0 ≡ text = same_Some (t.0) text (sym t.1 ∙ given) in subst (λ x. HoldsText u row name x) q t.2 }
 
     -- and what was given is given
     pub completed_keeps : (row : Sets) (D : Given) (name text : Bytes) → Gave D name text → Gave (completed_by u row D) name text

@@ -4,10 +4,9 @@ use Rattle.std.proofs.lemmas.Bool.{or_right}
 use Rattle.std.proofs.lemmas.Bool.{or_left}
 use Rattle.std.specs.List.{AllByRecursion, Contains, filter}
 use Rattle.std.proofs.lemmas.List.Elements.{Contains-append_left, Contains-append_right}
-use Rattle.std.proofs.lemmas.Option.{none-some}
+use Rattle.std.proofs.lemmas.Option.{none-some, same_Some}
 use Rattle.lf_laws.proofs.Booleans.{clash}
 use Rattle.lf_laws.proofs.Members.{here, none_in, only_one, same_true}
-use Rattle.lf_laws.proofs.Options.{the_same}
 use Rattle.lf_ast.specs.Functions.{Signature, aggregation, function_named}
 use Rattle.lf_ast.specs.Arguments.{texts_of}
 use Rattle.lf_ast.specs.Labels.{Bytes, Labels}
@@ -30,7 +29,7 @@ use Rattle.lf_semantics.specs.Grouped.{is_filter}
 use Rattle.lf_semantics.specs.Listing.{IsListing, Listing}
 use Rattle.lf_semantics.specs.Mentions.{Mention, arguments_mentions, call_mentions, effect_mentions, group_names, matchers_mentions, mentions, modifier_mentions, name_mentions, names_mentions, stands_first}
 use Rattle.lf_semantics.specs.Parts.{Sought, argument_at, is_scalar_part, operand_place, sought_by, sought_in}
-use Rattle.lf_semantics.specs.RowTable.{Environment, binary_row, call_row, may_be_present, row_at, row_named, row_of, selector_row}
+use Rattle.lf_semantics.specs.RowTable.{Environment, binary_row, call_row, may_be_present, row_at, row_of, selector_row}
 use Rattle.lf_semantics.specs.Worlds.{SetsNoName}
 use Rattle.lf_semantics.proofs.Constructs.{operands_known}
 use Rattle.lf_semantics.proofs.LeqLaws.{bottom_dead}
@@ -46,7 +45,7 @@ use Rattle.lf_trials.specs.Built.{argument_builder, build, builder}
 use Rattle.lf_trials.specs.Forks.{HoldsFork, TellsForks, fork_in, has_own_fork}
 use Rattle.lf_trials.specs.Matched.{build_binary}
 use Rattle.lf_trials.specs.Operands.{build_call}
-use Rattle.lf_trials.specs.Reached.{has_several_rules, is_marked, is_recorded}
+use Rattle.lf_trials.specs.Reached.{has_several_rules, is_recorded}
 use Rattle.lf_trials.specs.Selected.{Selected, selected_in, selected_in_arguments, selectors_of}
 use Rattle.lf_shown.specs.Agreement.{Names}
 use Rattle.lf_shown.specs.NoneOpen.{ArgumentsAreClosed, CallIsClosed, EffectIsClosed, HasNoneOpen, HoldsNoFork, IsClosed, IsClosedIn, NamesBucket, OperatorIsClosed, SidesAreClosed, UnlessScalar}
@@ -76,10 +75,10 @@ module _ (u : Listing) where
 
   within_parentheses : (o : Option Sought) → SoughtKnown o → SoughtKnown (option_map (λ sought. record { matchers = sought.matchers; may_be_bare = true }) o)
   within_parentheses None known = none_known
-  within_parentheses (Some t) known = λ s e. subst (λ (x : Sought). AllKnown u (matchers_mentions x.matchers)) (the_same _ s e) (known t refl)
+  within_parentheses (Some t) known = λ s e. subst (λ (x : Sought). AllKnown u (matchers_mentions x.matchers)) (same_Some _ s e) (known t refl)
 
   sought_known : (e : Tree) → Covers u e → SoughtKnown (sought_by e)
-  sought_known (Selector name matchers sight span) known = λ s e. subst (λ (x : Sought). AllKnown u (matchers_mentions x.matchers)) (the_same _ s e) (all_back (IsKnown u) (name_mentions name) (matchers_mentions matchers) known)
+  sought_known (Selector name matchers sight span) known = λ s e. subst (λ (x : Sought). AllKnown u (matchers_mentions x.matchers)) (same_Some _ s e) (all_back (IsKnown u) (name_mentions name) (matchers_mentions matchers) known)
   sought_known (Paren of span) known = within_parentheses (sought_by of) (sought_known of known)
   sought_known (Number text span) known = none_known
   sought_known (Str text span) known = none_known
@@ -257,9 +256,9 @@ module _ (u : Listing) (rules : List RuleTree) (p : IsListing u) (small : IsSmal
 
           -- nothing but the name is read
           only : (x : Bytes) → Reads rules e x → x ≡ n
-          only x (Reads.selected (inl c)) = sym (the_same n x (only_one (Some n) (Some x) (subst (λ xs. Contains xs (Some x)) selectors_are c)))
+          only x (Reads.selected (inl c)) = sym (same_Some n x (only_one (Some n) (Some x) (subst (λ xs. Contains xs (Some x)) selectors_are c)))
           only x (Reads.selected (inr c)) = absurd (none-some n (sym (only_one (Some n) None (subst (λ xs. Contains xs None) selectors_are c.0))))
-          only x (Reads.through q d recording (inl c) reads) = absurd (clash _ (there q d recording (sym (the_same n q.name (only_one (Some n) (Some q.name) (subst (λ xs. Contains xs (Some q.name)) selectors_are c))))) none)
+          only x (Reads.through q d recording (inl c) reads) = absurd (clash _ (there q d recording (sym (same_Some n q.name (only_one (Some n) (Some q.name) (subst (λ xs. Contains xs (Some q.name)) selectors_are c))))) none)
           only x (Reads.through q d recording (inr c) reads) = absurd (none-some n (sym (only_one (Some n) None (subst (λ xs. Contains xs None) selectors_are c.0))))
 
       matchers_known : AllKnown u (matchers_mentions matchers)

@@ -2,14 +2,13 @@
 use Rattle.std.proofs.Common.{◌≡◌, inl, inr, ℕ, zero, suc, Bool, true, false, not, ◌&&◌, ◌||◌, cond, eqb, List, [], ◌∷◌, ◌++◌, map, Option, Some, None, refl, sym, ◌∙◌, ap, subst, arith, codes}
 use Rattle.std.proofs.lemmas.Bool.{not-true, or_parts}
 use Rattle.std.specs.List.{AllByRecursion, Contains, filter, list_any}
-use Rattle.std.specs.Option.{option_map_or}
 use Rattle.std.specs.Str.{bytes_eq}
 use Rattle.std.proofs.lemmas.Bool.{or_cases}
 use Rattle.std.specs.Prelude.{is_some}
 use Rattle.std.proofs.lemmas.List.Elements.{Contains-append_left, Contains-append_right}
 use Rattle.lf_laws.proofs.Booleans.{and_left, and_right, clash}
 use Rattle.lf_laws.proofs.Members.{here}
-use Rattle.lf_laws.proofs.Options.{the_same}
+use Rattle.std.proofs.lemmas.Option.{same_Some}
 use Rattle.lf_ast.specs.Arguments.{texts_of}
 use Rattle.lf_ast.specs.Functions.{Signature, aggregation, function_named}
 use Rattle.lf_ast.specs.Labels.{Bytes}
@@ -34,8 +33,8 @@ use Rattle.lf_semantics.specs.Environments.{Covers, IsEnvironment, IsKnown, reco
 use Rattle.lf_semantics.specs.Grouped.{is_arithmetic, is_filter}
 use Rattle.lf_semantics.specs.Listing.{IsListing, Listing, class_of, label_of}
 use Rattle.lf_semantics.specs.Mentions.{arguments_mentions, effect_mentions, group_names, matchers_mentions, mention, mentions, modifier_mentions, name_mentions, names_mentions, rule_mentions, stands_first}
-use Rattle.lf_semantics.specs.Parts.{Sought, argument_at, is_evaluated, is_scalar_part, operand_place, sought_by, sought_in, type_by_form}
-use Rattle.lf_semantics.specs.RowTable.{Environment, absent_row, bare_row, beside_scalar_row, binary_row, call_row, combined_row, effect_row, is_label, is_label_among, is_metric_label, is_sought, keeps_label, many_to_one_row, matched_row, may_be_present, nameless, nameless_if, paired_row, passes_matchers, quantile_row, row_at, row_named, row_of, row_or_series, scraped_row, seen_row, selector_row, series_row, sign_row, signs_label, taken_row, with_recorded}
+use Rattle.lf_semantics.specs.Parts.{Sought, is_evaluated, is_scalar_part, operand_place, sought_by, sought_in, type_by_form}
+use Rattle.lf_semantics.specs.RowTable.{Environment, absent_row, bare_row, beside_scalar_row, binary_row, call_row, combined_row, effect_row, is_label, is_label_among, is_metric_label, is_sought, keeps_label, many_to_one_row, matched_row, may_be_present, nameless_if, paired_row, passes_matchers, quantile_row, row_at, row_named, row_of, row_or_series, scraped_row, seen_row, series_row, sign_row, signs_label, taken_row}
 use Rattle.lf_semantics.specs.Strings.{absent_texts}
 use Rattle.lf_semantics.proofs.Constructs.{operands_known}
 use Rattle.lf_semantics.proofs.LeqLaws.{bottom_dead, leq_join_left, leq_join_right}
@@ -45,7 +44,7 @@ use Rattle.lf_semantics.proofs.PairsRepresent.{shape_matched, shape_nameless_if}
 use Rattle.lf_semantics.proofs.RowLaws.{in_range, holds-remade, top_holds}
 use Rattle.lf_semantics.proofs.Soundness.{grouped_known, shape_of_row}
 use Rattle.lf_semantics.proofs.ScalarCalls.{IsBareIfScalar, named_is_bare, selector_is_no_scalar}
-use Rattle.lf_deps.specs.Reading.{Reaches, Reads, Records, Selects, selectors, selectors_in}
+use Rattle.lf_deps.specs.Reading.{selectors, selectors_in}
 use Rattle.lf_trials.specs.Built.{sets_label}
 use Rattle.lf_shown.proofs.Rows.{Held, in_narrowed, in_replaced, join_held, narrowed_held, narrowed_passes, narrowed_was_live, replaced_held, replaced_passes, replaced_was_live}
 
@@ -290,7 +289,7 @@ module _ (u : Listing) where
 
     within_parentheses : (o : Option Sought) → CleanSought o → CleanSought (Rattle.std.specs.Prelude.option_map (λ sought. record { matchers = sought.matchers; may_be_bare = true }) o)
     within_parentheses None clean = λ s e. absurd (cc)
-    within_parentheses (Some t) clean = λ s e. subst (λ (x : Sought). OnOthers x.matchers) (the_same _ s e) (clean t refl)
+    within_parentheses (Some t) clean = λ s e. subst (λ (x : Sought). OnOthers x.matchers) (same_Some _ s e) (clean t refl)
 
     scalar_seeks : (e : Tree) → is_scalar_part e ≡ true → CleanSought (sought_by e)
     scalar_seeks (Selector name matchers sight span) is = absurd (clash _ is (selector_is_no_scalar sight.range))
@@ -304,7 +303,7 @@ module _ (u : Listing) where
     scalar_seeks (Aggregate op grouping args span) is = λ s e. absurd (cc)
 
     clean_seeks : (e : Tree) → is_clean_in e ≡ true → CleanSought (sought_by e)
-    clean_seeks (Selector name matchers sight span) clean = λ s e. subst (λ (x : Sought). OnOthers x.matchers) (the_same _ s e) (not-true _ (and_right (is_some (selected_name name matchers)) _ clean))
+    clean_seeks (Selector name matchers sight span) clean = λ s e. subst (λ (x : Sought). OnOthers x.matchers) (same_Some _ s e) (not-true _ (and_right (is_some (selected_name name matchers)) _ clean))
     clean_seeks (Paren of span) clean = within_parentheses (sought_by of) (elim (or_cases (is_scalar_part of) (is_clean_in of) clean) [ inl s ↦ scalar_seeks of s | inr c ↦ clean_seeks of c ])
     clean_seeks (Number text span) clean = λ s e. absurd (cc)
     clean_seeks (Str text span) clean = λ s e. absurd (cc)

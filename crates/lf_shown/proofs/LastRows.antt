@@ -1,6 +1,6 @@
 -- In the least environment an expression without open constructs, beneath which nothing names `le`, has a row that holds `+Inf` where it holds a text of `le`.
 use Rattle.std.proofs.Common.{◌≡◌, ◌<◌, inl, inr, ℕ, ◌+◌, Bool, true, false, not, ◌&&◌, ◌||◌, cond, eqb, List, [], ◌∷◌, length, get_or, Option, Some, None, refl, sym, ◌∙◌, ap, subst, arith, codes}
-use Rattle.std.proofs.lemmas.Bool.{and_from, eq-eqb, not-false, not-true}
+use Rattle.std.proofs.lemmas.Bool.{and_from, eq-eqb, not-false, not-true, false_from_ne_true}
 use Rattle.std.proofs.lemmas.Bool.{or_parts}
 use Rattle.std.proofs.lemmas.Bool.{or_right}
 use Rattle.std.proofs.lemmas.Bool.{eqb-true}
@@ -10,7 +10,7 @@ use Rattle.std.specs.Option.{option_map_or}
 use Rattle.std.specs.Str.{bytes_eq}
 use Rattle.std.proofs.lemmas.Bool.{or_cases}
 use Rattle.std.proofs.lemmas.List.Elements.{Contains-append_left, Contains-append_right}
-use Rattle.lf_laws.proofs.Booleans.{and_left, and_right, clash, not_true}
+use Rattle.lf_laws.proofs.Booleans.{and_left, and_right, clash}
 use Rattle.lf_laws.proofs.Members.{any_has, here, same_true, some_has, true_same}
 use Rattle.lf_laws.proofs.Slices.{member_at, number_of}
 use Rattle.lf_ast.specs.Functions.{Signature, aggregation, function_named}
@@ -35,7 +35,7 @@ use Rattle.lf_trials.specs.Reached.{records}
 use Rattle.lf_trials.specs.Selected.{Selected, selected_in, selected_in_arguments, selectors_of}
 use Rattle.lf_trials.proofs.Reachable.{reaches, reaches_is}
 use Rattle.lf_shown.specs.NoneOpen.{ArgumentsAreClosed, CallIsClosed, EffectIsClosed, HasNoneOpen, IsClosed, IsClosedIn, MatchesBucket, NamesBucket}
-use Rattle.lf_shown.proofs.LastBuckets.{HasLast, NamesLast, are_clean, is_clean, is_clean_in, last_of, last_recorded}
+use Rattle.lf_shown.proofs.LastBuckets.{HasLast, are_clean, is_clean, is_clean_in, last_of, last_recorded}
 use Rattle.lf_shown.proofs.Least.{all_pass, narrower, narrower_below, narrower_is}
 use Rattle.lf_shown.proofs.Rows.{Held, in_narrowed, narrowed_passes}
 
@@ -56,10 +56,10 @@ module _ (u : Listing) (p : IsListing u) (rules : List RuleTree) where
   untainted_rule : (r : RuleTree) → Contains rules r → r.alert ≡ false → is_tainted r.name ≡ false → (dirty 0 r ≡ false) × (reaches rules dirty r.expr ≡ false)
   untainted_rule r c recording clean =
       or_parts (dirty 0 r) (reaches rules dirty r.expr)
-      (not_true _ (λ bad. clash _ (any_has (taints r.name) rules r c (rw (recording, same_true r.name r.name refl) bad)) clean))
+      (false_from_ne_true _ (λ bad. clash _ (any_has (taints r.name) rules r c (rw (recording, same_true r.name r.name refl) bad)) clean))
 
   untainted_selected : (e : Tree) → reaches rules dirty e ≡ false → (n : Bytes) → Contains (selectors e) (Some n) → is_tainted n ≡ false
-  untainted_selected e clean n c = not_true (is_tainted n) (λ bad. by (some_has (taints n) rules bad))
+  untainted_selected e clean n c = false_from_ne_true (is_tainted n) (λ bad. by (some_has (taints n) rules bad))
     where
       by : ((r : RuleTree) × Contains rules r × (taints n r ≡ true)) → ⊥
       by (r, d, is) =
@@ -202,7 +202,7 @@ module _ (u : Listing) (p : IsListing u) (rules : List RuleTree) where
           (clean_arguments xs shut.1 (λ s c. others s (Contains-append_right (selectors_of x) (selected_in_arguments xs) s c)))
 
     no_matcher : (e : Tree) → (MatchesBucket e → ⊥) → (s : Selected) → Contains (selectors_of e) s → unmatched s
-    no_matcher e none s c = not_true (list_any (λ (m : Matcher). bytes_eq m.label (codes "le")) s.matchers) (λ is. none (s, c, is))
+    no_matcher e none s c = false_from_ne_true (list_any (λ (m : Matcher). bytes_eq m.label (codes "le")) s.matchers) (λ is. none (s, c, is))
 
     clean_expr : (e : Tree) → IsClosed rules e → (MatchesBucket e → ⊥) → is_clean u p e ≡ true
     clean_expr e shut none = sub e (λ h o. clean_in e h o) shut (no_matcher e none)
@@ -211,11 +211,11 @@ module _ (u : Listing) (p : IsListing u) (rules : List RuleTree) where
     clean_rule : (e : Tree) → HasNoneOpen rules e → (NamesBucket rules e → ⊥) → (r : RuleTree) → Contains rules r → Reaches rules e r → dirty 0 r ≡ false
     clean_rule e clear none r c reach =
         let expr = clean_expr r.expr (clear.read r c reach) (λ m. none (inr (r, c, reach, inl m))) in
-        rw (expr, not_true (sets_label r (codes "le")) (λ s. none (inr (r, c, reach, inr s)))) refl
+        rw (expr, false_from_ne_true (sets_label r (codes "le")) (λ s. none (inr (r, c, reach, inr s)))) refl
 
     nothing_dirty : (e : Tree) → HasNoneOpen rules e → (NamesBucket rules e → ⊥) → reaches rules dirty e ≡ false
     nothing_dirty e clear none =
-        not_true (reaches rules dirty e) (λ bad. let found = (reaches_is rules dirty e).0 bad in clash _ found.4 (clean_rule e clear none found.1 (member_at rules found.0 found.1 found.2) found.3))
+        false_from_ne_true (reaches rules dirty e) (λ bad. let found = (reaches_is rules dirty e).0 bad in clash _ found.4 (clean_rule e clear none found.1 (member_at rules found.0 found.1 found.2) found.3))
 
     row_last : (e : Tree) → Covers u e → HasNoneOpen rules e → (NamesBucket rules e → ⊥) → HasLast u (row_of u env e)
     row_last e known clear none =

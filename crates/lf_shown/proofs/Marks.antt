@@ -4,19 +4,20 @@ use Rattle.std.proofs.lemmas.Bool.{eq-eqb, eqb-true}
 use Rattle.std.specs.List.{Contains, filter, range_with_len}
 use Rattle.std.proofs.lemmas.List.FromFn.{length-range_with_len}
 use Rattle.std.proofs.lemmas.Option.{slice_get_within}
-use Rattle.lf_laws.proofs.Booleans.{clash, or_false}
+use Rattle.std.proofs.Math.Bool.{or-false}
+use Rattle.lf_laws.proofs.Booleans.{clash}
 use Rattle.lf_laws.proofs.Members.{first_or_behind, none_in}
 use Rattle.lf_laws.proofs.Slices.{member_at, number_of, one_at}
 use Rattle.lf_ast.specs.Labels.{Bytes}
 use Rattle.lf_ast.specs.Rules.{RuleTree}
 use Rattle.lf_ast.specs.Tree.{Tree}
+use Rattle.lf_semantics.proofs.PartsCovered.{rule_covered}
 use Rattle.lf_semantics.specs.ClassRows.{HoldsText, is_live}
-use Rattle.lf_semantics.specs.Environments.{Covers, CoversRules, IsEnvironmentOf, IsKnown, IsPostFixedPoint}
+use Rattle.lf_semantics.specs.Environments.{Covers, CoversRules, IsEnvironmentOf, IsPostFixedPoint}
 use Rattle.lf_semantics.specs.Listing.{IsListing, Listing}
-use Rattle.lf_semantics.specs.Mentions.{mentions}
 use Rattle.lf_semantics.specs.RowTable.{Environment, may_be_present, row_of}
 use Rattle.lf_semantics.specs.Worlds.{SetsNoName}
-use Rattle.lf_semantics.proofs.Members.{all_front, in_filter}
+use Rattle.lf_semantics.proofs.Members.{in_filter}
 use Rattle.lf_deps.specs.Reading.{IsCyclic, Reads, Records, selectors}
 use Rattle.lf_deps.proofs.Ascending.{in_range}
 use Rattle.lf_trials.specs.Built.{build_by_rule}
@@ -69,7 +70,7 @@ unmarked marked k = not (is_marked marked k)
 -- a rule without open constructs isn't read by its own expression
 pub rule_is_free : (rules : List RuleTree) (i : ℕ) (r : RuleTree) → slice_get rules i ≡ Some r → HasNoneOpen rules r.expr → (k : ℕ) (q : RuleTree) → is_marked (i ∷ []) k ≡ true → slice_get rules k ≡ Some q → q.alert ≡ false → Reads rules r.expr q.name → ⊥
 rule_is_free rules i r at none k q m at' recording reads =
-    let same : q ≡ r = one_at rules _ q r (subst (λ z. slice_get rules z ≡ Some q) (eqb-true k i (sym (or_false (eqb k i)) ∙ m)) at') at in
+    let same : q ≡ r = one_at rules _ q r (subst (λ z. slice_get rules z ≡ Some q) (eqb-true k i (sym (or-false (eqb k i)) ∙ m)) at') at in
     read_acyclic rules r.expr none q.name reads (r, member_at rules i r at, (subst (λ (z : RuleTree). z.alert ≡ false) same recording, ap (λ (z : RuleTree). z.name) (sym same)), reads)
 
 module _ (u : Listing) (rules : List RuleTree) (p : IsListing u) (small : IsSmall u) (env : Environment) (holds_fork : Tree → Bool) (tells : TellsForks rules holds_fork)
@@ -104,9 +105,6 @@ module _ (u : Listing) (rules : List RuleTree) (p : IsListing u) (small : IsSmal
       let c = in_filter (unmarked marked) (range_with_len 0 (length rules)) k (number_in k r at) (ap not free) in
       let w = c.1 in
       omega (arith, w, h)
-
-  covered : (r : RuleTree) → Contains rules r → Covers u r.expr
-  covered r c = all_front (IsKnown u) (mentions r.expr) _ (covers r c)
 
   -- a rule of a name that is selected isn't marked
   is_free : (marked : List ℕ) (e : Tree) (n : Bytes) → IsFree marked e → Reads rules e n → (k : ℕ) (r : RuleTree) → slice_get rules k ≡ Some r → Records r n → is_marked marked k ≡ false
@@ -148,7 +146,7 @@ module _ (u : Listing) (rules : List RuleTree) (p : IsListing u) (small : IsSmal
             answers_name u rules p small env holds_fork tells covers unnamed of union closed n row is room marked (is_free marked e n free (Reads.selected (inl c))) acyclic
             (λ k r at records. (
               can_be_silent r.expr,
-              made_by room (k ∷ marked) r.expr (covered r (member_at rules k r at)) (none_behind rules e none r (member_at rules k r at) (records.0, Reads.selected (inl (same_records r n e records c))))
+              made_by room (k ∷ marked) r.expr (rule_covered u rules covers r (member_at rules k r at)) (none_behind rules e none r (member_at rules k r at) (records.0, Reads.selected (inl (same_records r n e records c))))
                   (room_left room marked k r at (is_free marked e n free (Reads.selected (inl c)) k r at records) has)
                   (still_free marked e free k r at records.0 (same_records r n e records c) (λ cyclic. acyclic (subst (IsCyclic rules) records.1 cyclic))),
             ));
@@ -159,5 +157,5 @@ module _ (u : Listing) (rules : List RuleTree) (p : IsListing u) (small : IsSmal
   -- of a rule, which is marked itself
   pub made_of_rule : (i : ℕ) (r : RuleTree) → slice_get rules i ≡ Some r → HasNoneOpen rules r.expr → MadeBy (length rules) (i ∷ []) r.expr
   made_of_rule i r at none =
-      made_by (length rules) (i ∷ []) r.expr (covered r (member_at rules i r at)) none (let h = most_left (unmarked (i ∷ [])) (range_with_len 0 (length rules)) in let g = length-range_with_len 0 (length rules) in omega (arith, h, g))
+      made_by (length rules) (i ∷ []) r.expr (rule_covered u rules covers r (member_at rules i r at)) none (let h = most_left (unmarked (i ∷ [])) (range_with_len 0 (length rules)) in let g = length-range_with_len 0 (length rules) in omega (arith, h, g))
       (rule_is_free rules i r at none)

@@ -3,10 +3,9 @@ use Rattle.std.proofs.Common.{◌≡◌, ◌≤◌, ◌⊎◌, inl, inr, ℕ, �
 use Rattle.std.specs.List.{Contains}
 use Rattle.std.specs.Option.{option_or}
 use Rattle.std.proofs.lemmas.Bool.{and_from}
-use Rattle.std.proofs.lemmas.Option.{none-some}
+use Rattle.std.proofs.lemmas.Option.{none-some, same_Some}
 use Rattle.lf_laws.proofs.Booleans.{and_left, and_right, clash}
 use Rattle.lf_laws.proofs.Members.{any_in, any_out, here, none_in, only_one}
-use Rattle.lf_laws.proofs.Options.{the_same}
 use Rattle.lf_ast.specs.Labels.{Bytes, Labels}
 use Rattle.lf_ast.specs.Rules.{RuleTree}
 use Rattle.lf_ast.specs.Selectors.{metric}
@@ -397,7 +396,7 @@ module _ (u : Listing) (p : IsListing u) where
         holds_left = record { live = is.left_live h.live; held = λ n t there given. by n t there (signs m n) refl (left_gives op m n) refl given }
           where
             by : (n t : Bytes) → In u n → (a : Bool) → signs m n ≡ a → (b : Bool) → left_gives op m n ≡ b → cond a (signature_text u op m left right D n) (cond b (D n) None) ≡ Some t → HoldsText u left n t
-            by n t there true isa b isb e = let k = signed_text n there isa in subst (λ x. HoldsText u left n x) (the_same k.0 t (sym k.1 ∙ e)) k.2
+            by n t there true isa b isb e = let k = signed_text n there isa in subst (λ x. HoldsText u left n x) (same_Some k.0 t (sym k.1 ∙ e)) k.2
             by n t there false isa true isb e = (is.left_held h.live n (class_of u (label_of u n) t) (h.held n t there e) isb).0
             by n t there false isa false isb e = absurd (cc)
 
@@ -405,7 +404,7 @@ module _ (u : Listing) (p : IsListing u) where
         holds_right = record { live = is.right_live h.live; held = λ n t there given. by n t there (signs m n) refl (right_gives op m n) refl given }
           where
             by : (n t : Bytes) → In u n → (a : Bool) → signs m n ≡ a → (b : Bool) → right_gives op m n ≡ b → cond a (signature_text u op m left right D n) (cond b (D n) None) ≡ Some t → HoldsText u right n t
-            by n t there true isa b isb e = let k = signed_text n there isa in subst (λ x. HoldsText u right n x) (the_same k.0 t (sym k.1 ∙ e)) k.3
+            by n t there true isa b isb e = let k = signed_text n there isa in subst (λ x. HoldsText u right n x) (same_Some k.0 t (sym k.1 ∙ e)) k.3
             by n t there false isa true isb e = (is.right_held h.live n (class_of u (label_of u n) t) (h.held n t there e) isb).0
             by n t there false isa false isb e = absurd (cc)
 
@@ -539,7 +538,7 @@ module _ (u : Listing) (p : IsListing u) where
             live = live;
             held = λ n x there given.
                 let q : n ≡ few.0 = few.1 n x there given in
-                let v : t ≡ x = the_same t x (sym e ∙ sym (ap D q) ∙ given) in
+                let v : t ≡ x = same_Some t x (sym e ∙ sym (ap D q) ∙ given) in
                 subst (λ z. HoldsText u row z x) (sym q) (subst (λ z. HoldsText u row few.0 z) v held);
           }
 

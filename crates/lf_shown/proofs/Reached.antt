@@ -4,10 +4,9 @@ use Rattle.std.proofs.lemmas.Bool.{not-true}
 use Rattle.std.specs.List.{Contains}
 use Rattle.std.specs.Str.{bytes_eq}
 use Rattle.std.proofs.lemmas.List.Elements.{Contains-append_cases}
-use Rattle.std.proofs.lemmas.Option.{none-some}
+use Rattle.std.proofs.lemmas.Option.{none-some, same_Some}
 use Rattle.lf_laws.proofs.Booleans.{and_left, and_right, clash}
 use Rattle.lf_laws.proofs.Members.{any_has, first_or_behind, none_in, only_one, same_true, some_has, true_same}
-use Rattle.lf_laws.proofs.Options.{the_same}
 use Rattle.lf_ast.specs.Labels.{Bytes}
 use Rattle.lf_ast.specs.Rules.{RuleTree}
 use Rattle.lf_ast.specs.Tree.{Tree, Trees, Number, Str, Selector, Subquery, Paren, Unary, Binary, Call, Aggregate, Nil, Next}
@@ -78,7 +77,7 @@ module _ (rules : List RuleTree) where
   pub read_acyclic : (e : Tree) → HasNoneOpen rules e → (n : Bytes) → Reads rules e n → IsCyclic rules n → ⊥
   read_acyclic e none n (Reads.selected (inl c)) cyclic =
       let fit = fit_selector e none.own (Some n) c in
-      fit.2 (subst (IsCyclic rules) (the_same n fit.0 fit.1) cyclic)
+      fit.2 (subst (IsCyclic rules) (same_Some n fit.0 fit.1) cyclic)
   read_acyclic e none n (Reads.selected (inr c)) cyclic = let fit = fit_selector e none.own None c.0 in absurd (none-some fit.0 fit.1)
   read_acyclic e none n (Reads.through r c recording s reads) cyclic = read_acyclic r.expr (none_behind e none r c (recording, Reads.selected s)) n reads cyclic
 

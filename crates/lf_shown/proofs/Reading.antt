@@ -1,10 +1,10 @@
 -- What a part of an expression reads the expression reads, and a fork beneath a part is beneath the expression.
 use Rattle.std.proofs.Common.{◌≡◌, ◌≤◌, inl, inr, ℕ, zero, suc, Bool, true, false, not, ◌&&◌, cond, List, [], length, Option, Some, None, sym, ◌∙◌, ap, subst, arith, length-append}
-use Rattle.std.proofs.lemmas.Bool.{or_right}
+use Rattle.std.proofs.lemmas.Bool.{or_right, false_from_ne_true}
 use Rattle.std.proofs.lemmas.Bool.{or_left}
 use Rattle.std.specs.List.{Contains}
 use Rattle.std.proofs.lemmas.List.Elements.{Contains-append_left, Contains-append_right}
-use Rattle.lf_laws.proofs.Booleans.{clash, not_true}
+use Rattle.lf_laws.proofs.Booleans.{clash}
 use Rattle.lf_ast.specs.Labels.{Bytes}
 use Rattle.lf_ast.specs.Rules.{RuleTree}
 use Rattle.lf_ast.specs.Tree.{Tree, Trees, Nil, Next}
@@ -87,7 +87,7 @@ module _ (rules : List RuleTree) where
 
   module _ (holds_fork : Tree → Bool) (tells : TellsForks rules holds_fork) where
     pub no_fork : (e : Tree) → (HoldsFork rules e → ⊥) → holds_fork e ≡ false
-    no_fork e none = not_true (holds_fork e) (λ h. none ((tells e).0 h))
+    no_fork e none = false_from_ne_true (holds_fork e) (λ h. none ((tells e).0 h))
 
     pub part_forks : (x e : Tree) → IsPart rules x e → holds_fork e ≡ false → holds_fork x ≡ false
-    part_forks x e part none = not_true (holds_fork x) (λ h. clash _ ((tells e).1 (forks_more x e part ((tells x).0 h))) none)
+    part_forks x e part none = false_from_ne_true (holds_fork x) (λ h. clash _ ((tells e).1 (forks_more x e part ((tells x).0 h))) none)

@@ -8,11 +8,10 @@ use Rattle.std.specs.List.{AllByRecursion, Contains, filter, list_any, sum}
 use Rattle.std.specs.Str.{bytes_eq}
 use Rattle.std.proofs.lemmas.Bool.Decides.{nat_tests}
 use Rattle.std.proofs.lemmas.List.Elements.{Contains-append_left, Contains-append_right, Contains-append_cases}
-use Rattle.std.proofs.lemmas.Option.{none-some}
+use Rattle.std.proofs.lemmas.Option.{none-some, same_Some}
 use Rattle.lf_laws.proofs.Booleans.{and_left, and_right, clash}
 use Rattle.lf_laws.proofs.Members.{any_in, any_out, here, none_in, only_one, other_false, same_true, true_same}
 use Rattle.lf_laws.proofs.Slices.{member_at, number_of, one_at}
-use Rattle.lf_laws.proofs.Options.{the_same}
 use Rattle.lf_ast.specs.Labels.{Bytes, Labels}
 use Rattle.lf_ast.specs.Rules.{RuleTree}
 use Rattle.lf_ast.specs.Selectors.{metric}
@@ -45,12 +44,13 @@ use Rattle.lf_trials.specs.Given.{Given, holds_texts, losing}
 use Rattle.lf_trials.specs.Reached.{first_rule, has_several_rules, is_marked, listed, records, rules_at}
 use Rattle.lf_shown.specs.Agreement.{AgreeOn, Gives, Names}
 use Rattle.lf_shown.proofs.Rows.{Held, replaced_held, replaced_passes, replaced_was_live}
-use Rattle.lf_shown.proofs.Choices.{AtMostOne, Gave, HoldsGiven, In, IsSmall, IsTotal, few_lost, holds_by_test, of_losing, test_by_holds}
+use Rattle.lf_shown.proofs.Choices.{AtMostOne, Gave, HoldsGiven, In, IsSmall, few_lost, holds_by_test, of_losing, test_by_holds}
 use Rattle.lf_shown.proofs.Effects.{listed_in}
 use Rattle.lf_shown.proofs.Made.{Answers, IsMade, one_apart}
 use Rattle.lf_shown.proofs.Reading.{no_fork}
 use Rattle.lf_shown.proofs.Selectors.{IsHanded, NameReads}
-use Rattle.lf_shown.proofs.Worlds.{agree_less, count_both, once_both, rules_both, stored_then, sum_front}
+use Rattle.lf_classes.proofs.Cutting.{sum_cons}
+use Rattle.lf_shown.proofs.Worlds.{agree_less, count_both, once_both, rules_both, stored_then}
 
 -- ---- the labels of a rule
 
@@ -214,7 +214,7 @@ module _ (u : Listing) (rules : List RuleTree) (p : IsListing u) (small : IsSmal
       one_count : selector_count rules (k ∷ []) ≡ length (selectors r.expr)
       one_count =
           let e : rules_at rules (k ∷ []) ≡ r ∷ [] = ap (λ (o : Option RuleTree). listed o ++ []) at in
-          ap (λ rs. sum (map (λ r. length (selectors r.expr)) rs)) e ∙ (let f = sum_front (length (selectors r.expr)) [] in omega (arith, f))
+          ap (λ rs. sum (map (λ r. length (selectors r.expr)) rs)) e ∙ (let f = sum_cons (length (selectors r.expr)) [] in omega (arith, f))
 
       adds : (V : List Labels) → StrictlyEvaluates V r.expr (Some (one ∷ [])) → StepAdds V r (Some (kept ∷ []))
       adds V given =
@@ -381,7 +381,7 @@ module _ (u : Listing) (rules : List RuleTree) (p : IsListing u) (small : IsSmal
             live = r.3;
             held = λ name text there given.
                 let q = union n row is h.live (label_of u name) (class_of u (label_of u name) text) (h.held name text there given) in
-                let same : q.0 ≡ r.0 = one_rule rules n (Rattle.lf_laws.proofs.Booleans.not_true (has_several_rules rules n) (λ several. none (inl several))) q.0 r.0 q.1 r.1 q.2 r.2 in
+                let same : q.0 ≡ r.0 = one_rule rules n (Rattle.std.proofs.lemmas.Bool.false_from_ne_true (has_several_rules rules n) (λ several. none (inl several))) q.0 r.0 q.1 r.1 q.2 r.2 in
                 subst (λ x. Held (recorded_row u env x) (label_of u name) (class_of u (label_of u name) text)) same q.4;
           },
         )
@@ -405,7 +405,7 @@ module _ (u : Listing) (rules : List RuleTree) (p : IsListing u) (small : IsSmal
                 live = r.3;
                 held = λ x v there given.
                     let q : x ≡ few.0 = few.1 x v there given in
-                    let w : t ≡ v = the_same t v (sym e ∙ sym (ap D q) ∙ given) in
+                    let w : t ≡ v = same_Some t v (sym e ∙ sym (ap D q) ∙ given) in
                     subst (λ z. HoldsText u (recorded_row u env r.0) z v) (sym q) (subst (λ z. HoldsText u (recorded_row u env r.0) few.0 z) w r.4);
               },
             )

@@ -26,13 +26,13 @@ use Rattle.lf_shown.proofs.Choices.{IsSmall}
 use Rattle.lf_shown.proofs.Marks.{rule_is_free}
 use Rattle.lf_shown.proofs.Settled.{AreTyped, none_open}
 use Rattle.lf_shown.proofs.Showing.{all_shown, alone, never_unresolved}
-use Rattle.lf_shown.proofs.Worlds.{sum_front}
+use Rattle.lf_classes.proofs.Cutting.{sum_cons}
 
 -- the texts of one label are no more than all classes together
 one_of_all : (named : List (List Bytes)) (label : ℕ) → length (get_or named label []) ≤ sum (map (λ texts. length texts + 2) named)
 one_of_all [] label = omega arith
-one_of_all (texts ∷ named) zero = let e = sum_front (length texts + 2) (map (λ texts. length texts + 2) named) in omega (arith, e)
-one_of_all (texts ∷ named) (suc label) = let e = sum_front (length texts + 2) (map (λ texts. length texts + 2) named) in let h = one_of_all named label in omega (arith, e, h)
+one_of_all (texts ∷ named) zero = let e = sum_cons (length texts + 2) (map (λ texts. length texts + 2) named) in omega (arith, e)
+one_of_all (texts ∷ named) (suc label) = let e = sum_cons (length texts + 2) (map (λ texts. length texts + 2) named) in let h = one_of_all named label in omega (arith, e, h)
 
 pub small_by_count : (u : Listing) → class_count u < 2 ^ 63 → IsSmall u
 small_by_count u few label = let h = one_of_all u.named label in omega (arith, h, few)

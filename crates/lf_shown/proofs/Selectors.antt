@@ -78,7 +78,7 @@ module _ (u : Listing) where
       differs less other = other_false text value (λ e. not_own l text other (subst (λ x. class_of u l x < other_class u l) (sym e) less))
 
       unmatched : AreOwn l (Rattle.lf_semantics.specs.Mentions.pattern_texts value) → nat_lt (class_of u l text) (other_class u l) ≡ false → is_plain value ≡ true → Rattle.lf_pattern.specs.Matching.matches value text ≡ false
-      unmatched own other plain = Rattle.lf_laws.proofs.Booleans.not_true (Rattle.lf_pattern.specs.Matching.matches value text) (λ is. clash _ (plain_not_other u l value text own other is) (ap not plain))
+      unmatched own other plain = Rattle.std.proofs.lemmas.Bool.false_from_ne_true (Rattle.lf_pattern.specs.Matching.matches value text) (λ is. clash _ (plain_not_other u l value text own other is) (ap not plain))
 
       beyond : (op : MatchOp) → AreOwn l (matcher_texts op value) → (op ≡ Equal) ⊎ ((op ≡ NotEqual) ⊎ (is_plain value ≡ true)) → nat_lt (class_of u l text) (other_class u l) ≡ false → passes_other op value ≡ true → passes op value text ≡ true
       beyond Equal own plain other h = absurd (cc)

@@ -2,9 +2,9 @@
 use Rattle.std.proofs.Common.{◌≡◌, ◌⊎◌, inl, inr, ℕ, ◌+◌, Bool, true, false, not, ◌&&◌, ◌||◌, cond, List, [], ◌∷◌, ◌++◌, Option, Some, None, refl, sym, ◌∙◌, ap, subst, codes}
 use Rattle.std.specs.List.{Contains, list_any}
 use Rattle.std.specs.Str.{bytes_eq}
-use Rattle.std.proofs.lemmas.Bool.{or_parts}
+use Rattle.std.proofs.lemmas.Bool.{or_parts, false_from_ne_true}
 use Rattle.std.proofs.lemmas.List.Elements.{Contains-append_left, Contains-append_right, Contains-append_cases}
-use Rattle.lf_laws.proofs.Booleans.{clash, not_true}
+use Rattle.lf_laws.proofs.Booleans.{clash}
 use Rattle.lf_laws.proofs.Members.{behind, first_or_behind, here, none_in, only_one}
 use Rattle.lf_base.specs.declared.place.Span.{Span}
 use Rattle.lf_ast.specs.Functions.{Signature, aggregation, function_named}
@@ -12,7 +12,7 @@ use Rattle.lf_ast.specs.Labels.{Bytes}
 use Rattle.lf_ast.specs.Rules.{RuleTree}
 use Rattle.lf_ast.specs.Selectors.{selected_name}
 use Rattle.lf_ast.specs.Tree.{Tree, Trees, Number, Str, Selector, Subquery, Paren, Unary, Binary, Call, Aggregate, Nil, Next, list, span_of}
-use Rattle.lf_ast.specs.Types.{Fit, HasType, is_scalar, takes_side}
+use Rattle.lf_ast.specs.Types.{Fit, HasType, takes_side}
 use Rattle.lf_ast.specs.declared.expr.Agg.{Agg}
 use Rattle.lf_ast.specs.declared.expr.Agg.TheVariants.{Sum, Min, Max, Avg, Group, Stddev, Stdvar, Count, Quantile, CountValues as CountingValues, Topk, Bottomk}
 use Rattle.lf_ast.specs.declared.expr.ExprType.{ExprType}
@@ -33,18 +33,18 @@ use Rattle.lf_semantics.specs.PatternBreaches.{takes_pattern}
 use Rattle.lf_semantics.proofs.Members.{all_of}
 use Rattle.lf_deps.specs.Reading.{AreApart, Reads, Records, arguments_selectors, selectors}
 use Rattle.lf_trials.specs.Built.{sets_label}
-use Rattle.lf_trials.specs.Forks.{HoldsFork, fork_in, fork_in_arguments, has_own_fork, is_or}
+use Rattle.lf_trials.specs.Forks.{HoldsFork, fork_in_arguments, has_own_fork, is_or}
 use Rattle.lf_trials.specs.Selected.{Selected, selected_in, selected_in_arguments, selectors_of}
 use Rattle.lf_open.specs.Constructs.{IsOpenAt}
 use Rattle.lf_open.specs.Holding.{CannotBeSilent, NamesLe, has_own_le, has_own_source, is_source, matches_le}
-use Rattle.lf_open.specs.OpenList.{AreOpen, IsSettled}
+use Rattle.lf_open.specs.OpenList.{IsSettled}
 use Rattle.lf_open.specs.Standing.{arguments_standing, standing, standing_in, unless_scalar}
 use Rattle.lf_open.specs.declared.construct.Construct.{Construct}
 use Rattle.lf_open.specs.declared.construct.Construct.TheVariants.{SharedMetric, UnnamedSelector, ComplexPattern, MadeLabel, Forked, LoudUnless, CyclicName, NamedBucket, OpenAbsent}
 use Rattle.lf_open.proofs.Settled.{settled}
 use Rattle.lf_shown.specs.NoneOpen.{ArgumentsAreClosed, CallIsClosed, EffectIsClosed, HasNoneOpen, IsClosed, IsClosedIn, IsPlainMatcher, MatchesBucket, NamesBucket, SelectorIsClosed, SidesAreClosed, UnlessScalar}
 use Rattle.lf_shown.specs.Silence.{argument_can_be_silent, can_be_silent}
-use Rattle.lf_shown.proofs.Silent.{IsSampled, none_append, silent_argument, silent_by_type}
+use Rattle.lf_shown.proofs.Silent.{silent_by_type}
 
 -- ---- what is read, by one of the arguments
 
@@ -260,7 +260,7 @@ module _ (rules : List RuleTree) where
 
   no_source : (x : Tree) → is_scalar_part x ≡ false → (CannotBeSilent rules x → ⊥) → list_any is_source (standing_in x) ≡ false
   no_source x is silent =
-      sym (ap (λ b. list_any is_source (cond b [] (standing_in x))) is) ∙ not_true (has_own_source x) (λ e. silent (inl e))
+      sym (ap (λ b. list_any is_source (cond b [] (standing_in x))) is) ∙ false_from_ne_true (has_own_source x) (λ e. silent (inl e))
 
   -- a side of an operator between vectors is silent, by its type
   side_silent : (op : Op) (x : Tree) (t : ExprType) → HasType x t → takes_side op t ≡ true → is_scalar_part x ≡ false → (CannotBeSilent rules x → ⊥) → can_be_silent x ≡ true
@@ -324,7 +324,7 @@ module _ (rules : List RuleTree) where
   arguments_silent : (args : Trees) → ((x : Tree) → Contains (list args) x → CannotBeSilent rules x → ⊥) → list_any is_source (arguments_standing args) ≡ false
   arguments_silent Nil none = refl
   arguments_silent (Next x xs) none =
-      none_both (unless_scalar x (standing_in x)) (arguments_standing xs) (not_true (has_own_source x) (λ e. none x (here x (list xs)) (inl e))) (arguments_silent xs (λ y c. none y (behind x (list xs) y c)))
+      none_both (unless_scalar x (standing_in x)) (arguments_standing xs) (false_from_ne_true (has_own_source x) (λ e. none x (here x (list xs)) (inl e))) (arguments_silent xs (λ y c. none y (behind x (list xs) y c)))
     where
       none_both : (ys zs : List Tree) → list_any is_source ys ≡ false → list_any is_source zs ≡ false → list_any is_source (ys ++ zs) ≡ false
       none_both [] zs e f = f

@@ -2,29 +2,28 @@
 -- built world of a rule shows each presence that the row leaves to a label.
 use Rattle.std.proofs.Common.{◌≡◌, ◌≤◌, inl, inr, ℕ, ◌+◌, ◌*◌, Bool, true, false, not, cond, List, [], ◌∷◌, ◌++◌, map, length, Option, Some, None, refl, sym, ◌∙◌, ap, subst, arith, option_and_then, slice_get}
 use Rattle.std.specs.Prelude.{is_some, nat_lt, unwrap_or}
-use Rattle.std.specs.List.{Contains, filter, find, sum}
+use Rattle.std.specs.List.{Contains, filter, sum}
 use Rattle.std.specs.Ordering.{is_eq}
 use Rattle.std.specs.Str.{bytes_eq}
 use Rattle.std.proofs.lemmas.Bool.{cases_lt}
 use Rattle.std.proofs.lemmas.Bool.Decides.{nat_tests}
 use Rattle.std.proofs.lemmas.List.Elements.{Contains-append_left, Contains-append_right, Contains-append_cases}
 use Rattle.lf_laws.proofs.Booleans.{clash}
-use Rattle.lf_laws.proofs.Members.{any_in, any_out, behind, first_or_behind, here, none_in, only_one, true_same}
+use Rattle.lf_laws.proofs.Members.{any_in, any_out, behind, first_or_behind, here, none_in, true_same}
 use Rattle.lf_laws.proofs.Slices.{member_at}
 use Rattle.lf_ast.specs.Labels.{Bytes, Labels}
 use Rattle.lf_ast.specs.LabelOrder.{labels_cmp}
 use Rattle.lf_ast.specs.Rules.{RuleTree}
 use Rattle.lf_ast.specs.Tree.{Tree}
 use Rattle.lf_semantics.specs.ClassRows.{HoldsText, bottom, is_live}
-use Rattle.lf_semantics.specs.Environments.{Covers, CoversRules, IsKnown, IsLeast, rule_row}
+use Rattle.lf_semantics.specs.Environments.{Covers, CoversRules, IsLeast, rule_row}
 use Rattle.lf_semantics.specs.Laws.{SetNoNames}
 use Rattle.lf_semantics.specs.Listing.{IsListing, Listing, label_of}
-use Rattle.lf_semantics.specs.Mentions.{mentions}
 use Rattle.lf_semantics.specs.Parts.{is_evaluated, type_by_form}
 use Rattle.lf_semantics.specs.RowTable.{Environment, row_of}
 use Rattle.lf_semantics.specs.Texts.{value_of}
 use Rattle.lf_semantics.proofs.LeqLaws.{bottom_dead}
-use Rattle.lf_semantics.proofs.Members.{all_front, in_filter}
+use Rattle.lf_semantics.proofs.Members.{in_filter}
 use Rattle.lf_witness.specs.Strict.{StrictlyEvaluates}
 use Rattle.lf_witness.proofs.AscendingLists.{alone_ascends, in_order}
 use Rattle.lf_witness.proofs.Decided.{told_same}
@@ -36,7 +35,7 @@ use Rattle.lf_trials.specs.Built.{build, build_by_rule, builder, selector_count,
 use Rattle.lf_trials.specs.Candidates.{candidates_in, has_presence, in_row, labels_in}
 use Rattle.lf_trials.specs.Forks.{HoldsFork, TellsForks}
 use Rattle.lf_trials.specs.Given.{Given, giving, label_set, nothing_given}
-use Rattle.lf_trials.specs.Reached.{IsReach, Trial, rules_at, with_reach}
+use Rattle.lf_trials.specs.Reached.{Trial, rules_at, with_reach}
 use Rattle.lf_trials.specs.Trials.{Shown, ShowsBuilt}
 use Rattle.lf_trials.specs.Verdicts.{leaves}
 use Rattle.lf_trials.proofs.BuiltSeries.{once_there}
@@ -55,7 +54,8 @@ use Rattle.lf_shown.proofs.Marks.{most_left, made_by, made_of_rule}
 use Rattle.lf_shown.proofs.Reached.{read_acyclic}
 use Rattle.lf_shown.proofs.Reading.{no_fork}
 use Rattle.lf_shown.proofs.Texts.{of_candidates, set_has, set_lacks}
-use Rattle.lf_shown.proofs.Worlds.{count_both, sum_front}
+use Rattle.lf_classes.proofs.Cutting.{sum_cons}
+use Rattle.lf_shown.proofs.Worlds.{count_both}
 
 -- ---- each series once
 
@@ -117,9 +117,6 @@ module _ (rules : List RuleTree) where
   self_in_reach i reach = Contains-append_right (filter (λ j. nat_lt j i) reach) _ i (here i _)
 
 module _ (u : Listing) (p : IsListing u) (small : IsSmall u) (rules : List RuleTree) (covers : CoversRules u rules) (unnamed : SetNoNames rules) (env : Environment) (least : IsLeast u rules env) where
-  covered : (r : RuleTree) → Contains rules r → Covers u r.expr
-  covered r c = all_front (IsKnown u) (mentions r.expr) _ (covers r c)
-
   -- ---- what is built runs strictly, and gives the sample over all samples that agree
 
   module _ (e : Tree) (count : ℕ) (b : Building) (one : Labels) (gives : Gives rules (Reads rules e) count b (λ X. StrictlyEvaluates X e) one) where
@@ -236,7 +233,7 @@ module _ (u : Listing) (p : IsListing u) (small : IsSmall u) (rules : List RuleT
             let most = count_most rules (i ∷ b.steps) (with_reach i (reach_of rules r.expr)) (not_itself b one gives, gives.steps_once) (λ k c. inside k c) in
             let front = count_front rules i b.steps in
             let own : selector_count rules (i ∷ []) ≡ length (selectors r.expr) =
-            ap (λ (o : Option RuleTree). sum (map (λ r. length (selectors r.expr)) (Rattle.lf_trials.specs.Reached.listed o ++ []))) at ∙ (let f = sum_front (length (selectors r.expr)) [] in omega (arith, f)) in
+            ap (λ (o : Option RuleTree). sum (map (λ r. length (selectors r.expr)) (Rattle.lf_trials.specs.Reached.listed o ++ []))) at ∙ (let f = sum_cons (length (selectors r.expr)) [] in omega (arith, f)) in
             let few = gives.few in
             omega (arith, most, front, own, few)
           where

@@ -1,8 +1,9 @@
 -- Steps one after the other, and what is given by worlds that are put together.
 use Rattle.std.proofs.Common.{◌≡◌, inl, inr, ◌≤◌, ◌+◌, ℕ, List, [], ◌∷◌, ◌++◌, length, map, Option, Some, None, sym, ◌∙◌, ap, subst, arith, slice_get}
-use Rattle.std.specs.List.{Contains, fold, sum}
+use Rattle.std.specs.List.{Contains, sum}
 use Rattle.std.proofs.lemmas.List.Elements.{Contains-append_left, Contains-append_right, Contains-append_cases}
 use Rattle.std.proofs.lemmas.Grind.{flat_map-append}
+use Rattle.std.proofs.lemmas.List.Sums.{sum_by-append}
 use Rattle.lf_laws.proofs.Members.{behind, here}
 use Rattle.lf_ast.specs.Labels.{Bytes, Labels}
 use Rattle.lf_ast.specs.Rules.{RuleTree}
@@ -30,22 +31,11 @@ stored_then (r ∷ rules) later W V T (inr some) then = inr (some.0, some.1, sto
 pub rules_both : (rules : List RuleTree) (ks js : List ℕ) → rules_at rules (ks ++ js) ≡ rules_at rules ks ++ rules_at rules js
 rules_both rules ks js = flat_map-append (λ k. listed (slice_get rules k)) ks js
 
-fold_from : (a : ℕ) (xs : List ℕ) → fold ◌+◌ a xs ≡ a + fold ◌+◌ 0 xs
-fold_from a [] = omega arith
-fold_from a (x ∷ xs) = let e = fold_from (a + x) xs in let f = fold_from (0 + x) xs in omega (arith, e, f)
-
-pub sum_front : (x : ℕ) (xs : List ℕ) → sum (x ∷ xs) ≡ x + sum xs
-sum_front x xs = let e = fold_from (0 + x) xs in omega (arith, e)
-
-pub sum_append : (xs ys : List ℕ) → sum (xs ++ ys) ≡ sum xs + sum ys
-sum_append [] ys = omega arith
-sum_append (x ∷ xs) ys = let e = sum_append xs ys in let f = sum_front x (xs ++ ys) in let g = sum_front x xs in omega (arith, e, f, g)
-
 pub count_both : (rules : List RuleTree) (ks js : List ℕ) → selector_count rules (ks ++ js) ≡ selector_count rules ks + selector_count rules js
 count_both rules ks js =
     ap (λ rs. sum (map (λ r. length (selectors r.expr)) rs)) (rules_both rules ks js)
     ∙ ap sum (Rattle.std.proofs.lemmas.List.map-append (λ r. length (selectors r.expr)) (rules_at rules ks) (rules_at rules js))
-    ∙ sum_append (map (λ r. length (selectors r.expr)) (rules_at rules ks)) (map (λ r. length (selectors r.expr)) (rules_at rules js))
+    ∙ sum_by-append (λ n. n) (map (λ r. length (selectors r.expr)) (rules_at rules ks)) (map (λ r. length (selectors r.expr)) (rules_at rules js))
 
 pub once_both : (ks js : List ℕ) → StandOnce ks → StandOnce js → ((k : ℕ) → Contains ks k → Contains js k → ⊥) → StandOnce (ks ++ js)
 once_both [] js a b apart = b

@@ -1,5 +1,5 @@
 -- Answers of an expression from those of its parts.
-use Rattle.std.proofs.Common.{◌≡◌, inl, inr, List, Option, Some, None}
+use Rattle.std.proofs.Common.{◌≡◌, inr, List, Option, Some, None}
 use Rattle.lf_ast.specs.Labels.{Labels}
 use Rattle.lf_ast.specs.Tree.{Tree}
 use Rattle.lf_witness.specs.Strict.{AreSame, From, Outcomes}

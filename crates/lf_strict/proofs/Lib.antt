@@ -13,4 +13,5 @@ pub mod Runs
 pub mod SampleSets
 pub mod Selected
 pub mod Signatures
+pub mod SignaturesApart
 pub mod StoredSamples

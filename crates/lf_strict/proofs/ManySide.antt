@@ -8,7 +8,7 @@ use Rattle.std.specs.Ordering.{is_eq}
 use Rattle.std.specs.declared.cmp.Ordering.TheVariants as ordering
 use Rattle.std.proofs.lemmas.List.{take_more}
 use Rattle.std.proofs.lemmas.List.Elements.{Contains-append_left, Contains-push, Contains-push_cases}
-use Rattle.lf_laws.proofs.Booleans.{not_true}
+use Rattle.std.proofs.lemmas.Bool.{false_from_ne_true}
 use Rattle.lf_laws.proofs.Members.{behind, first_or_behind, here, none_in}
 use Rattle.lf_ast.specs.Labels.{Labels}
 use Rattle.lf_ast.specs.declared.expr.Group.{Group}
@@ -66,7 +66,7 @@ module _ (m : Matching) (xs : List Labels) (k : ℕ) (x : Labels) (lt : k < leng
     λ t c. elim (Contains-push_cases (take k xs) x t (subst (λ (l : List Labels). Contains l t) took c)) [
       | inl old ↦ (
           let before = index.1 t old in
-          let other = not_true (is_eq (labels_cmp (signature_of m x) (signature_of m t))) (λ e. none_some t (sym none ∙ subst (λ z. get labels_cmp ones z ≡ Some t) (sym (told_same (signature_of m x) (signature_of m t) e)) before.1)) in
+          let other = false_from_ne_true (is_eq (labels_cmp (signature_of m x) (signature_of m t))) (λ e. none_some t (sym none ∙ subst (λ z. get labels_cmp ones z ≡ Some t) (sym (told_same (signature_of m x) (signature_of m t) e)) before.1)) in
           (before.0, updates.0 (signature_of m t) ∙ ap (λ b. cond b (Some x) (get labels_cmp ones (signature_of m t))) other ∙ before.1)
           )
       | inr new ↦ subst (λ z. HasTexts z × (get labels_cmp more (signature_of m z) ≡ Some z)) new (full, updates.1)

@@ -1,7 +1,9 @@
 -- What is kept of the parts of an expression is what they give.
-use Rattle.std.proofs.Common.{◌≡◌, ◌≤◌, ℕ, zero, suc, List, [], ◌∷◌, length, map, take, drop, Option, None, Some, Result, Ok, Err, refl, sym, ap, ap₂, subst, arith}
-use Rattle.std.specs.Prelude.{IfOk, IfSome}
+use Rattle.std.proofs.Common.{◌≡◌, ◌≤◌, ℕ, zero, suc, List, [], ◌∷◌, length, map, take, drop, Option, None, Some, Result, Ok, Err, refl, sym, ap₂, subst, arith}
+use Rattle.std.specs.Prelude.{IfOk}
 use Rattle.std.proofs.lemmas.Result.{IfOk-weaker}
+use Rattle.std.proofs.lemmas.List.{length-map}
+use Rattle.lf_laws.proofs.Slices.{one_taken}
 use Rattle.lf_ast.specs.Functions.{Signature}
 use Rattle.lf_ast.specs.Labels.{Labels}
 use Rattle.lf_ast.specs.Tree.{Tree, Trees, Str, Nil, Next, list}
@@ -9,17 +11,11 @@ use Rattle.lf_ast.specs.views.Walks.{chosen}
 use Rattle.lf_ast.specs.declared.expr.Grouping.{Grouping}
 use Rattle.lf_ast.specs.declared.expr.ExprType.{ExprType}
 use Rattle.lf_semantics.specs.Parts.{operand_place, type_by_form}
-use Rattle.lf_witness.specs.Ascending.{IsAscending}
 use Rattle.lf_witness.specs.Strict.{ArgumentStrictlyEvaluates, Outcomes, StrictCall, StrictEffect, StrictlyEvaluates}
 use Rattle.lf_witness.specs.StrictRuns.{InOrder, IsStrictAnswer}
 use Rattle.lf_strict.specs.declared.evaluated.Evaluated.{Evaluated}
 use Rattle.lf_strict.specs.views.Evaluated.{evaluated, operand_of, operand_part}
 use Rattle.lf_strict.proofs.Answered.{answers, is_answer}
-
--- answers ascend
-pub in_order_ascends : (f : Outcomes) (o : Option (List Labels)) → InOrder f o → IfSome o IsAscending
-in_order_ascends f None is = tt
-in_order_ascends f (Some R) is = is.1
 
 -- a string stands for an argument that isn't there: it is None too
 abbrev argument_tree : Trees → ℕ → Tree
@@ -37,10 +33,6 @@ module _ (W : List Labels) where
   same_argument Nil k = refl
   same_argument (Next x xs) zero = refl
   same_argument (Next x xs) (suc k) = same_argument xs k
-
-  take_none : {X : Type 0} (xs : List X) → take 0 xs ≡ []
-  take_none [] = refl
-  take_none (x ∷ xs) = refl
 
   pub kept_answer : (e : Tree) (kept : Evaluated) → kept ≡ evaluated W e → IsStrictAnswer W e kept.answer
   kept_answer e kept is = subst (λ (k : Evaluated). IsStrictAnswer W e k.answer) (sym is) (answers W e)
@@ -61,12 +53,6 @@ module _ (W : List Labels) where
   abbrev operands : Trees → ℕ → List Evaluated
   operands args k = map (evaluated W) (take 1 (drop k (list args)))
 
-  one_operand : (args : Trees) (k : ℕ) → length (operands args k) ≤ 1
-  one_operand Nil zero = omega arith
-  one_operand Nil (suc k) = omega arith
-  one_operand (Next x xs) zero = let none : length (map (evaluated W) (take 0 (list xs))) ≡ 0 = ap (λ ys. length (map (evaluated W) ys)) (take_none (list xs)) in omega (arith, none)
-  one_operand (Next x xs) (suc k) = one_operand xs k
-
   operand_answer : (args : Trees) (k : ℕ) → IsStrictAnswer W (argument_tree args k) (operand_of (operands args k))
   operand_answer Nil zero = tt
   operand_answer Nil (suc k) = tt
@@ -80,7 +66,11 @@ module _ (W : List Labels) where
 
   pub one_of_call : (o : Option Signature) (args : Trees) → length (of_call o args) ≤ 1
   one_of_call None args = omega arith
-  one_of_call (Some s) args = one_operand args (operand_place s)
+  one_of_call (Some s) args =
+      let few = drop (operand_place s) (list args) in
+      let same = length-map (take 1 few) (evaluated W) in
+      let one = one_taken few in
+      omega (arith, same, one)
 
   -- the expression of a call's operand
   abbrev pub operand_tree : Option Signature → Trees → Tree

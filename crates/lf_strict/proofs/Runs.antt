@@ -10,8 +10,8 @@ use Rattle.lf_ast.specs.Rules.{RuleTree}
 use Rattle.lf_semantics.specs.Parts.{is_evaluated, type_by_form}
 use Rattle.lf_semantics.specs.Worlds.{AreScraped, World}
 use Rattle.lf_witness.specs.Ascending.{IsAscending}
-use Rattle.lf_witness.specs.Strict.{AreSame, From, Outcomes}
-use Rattle.lf_witness.specs.StrictRuns.{InOrder, IsRuleAnswer, IsRunAnswer, IsStrictAnswer, IsStrictRun, RuleStrictlyGives, StepAdds, StoredOf, StrictlyStored}
+use Rattle.lf_witness.specs.Strict.{AreSame}
+use Rattle.lf_witness.specs.StrictRuns.{IsRuleAnswer, IsRunAnswer, IsStrictRun, StrictlyStored}
 use Rattle.lf_witness.proofs.Answers.{stored_into}
 use Rattle.lf_witness.proofs.SameSets.{turned}
 use Rattle.lf_witness.proofs.StrictRunIsRun.{world_of}

@@ -5,7 +5,7 @@ use Rattle.std.specs.List.{Contains}
 use Rattle.std.specs.Ordering.{match_ordering}
 use Rattle.std.specs.declared.cmp.Ordering.{Ordering}
 use Rattle.std.specs.declared.cmp.Ordering.TheVariants.{Less, Equal, Greater}
-use Rattle.std.proofs.lemmas.List.Elements.{Contains-append_left, Contains-append_right, Contains-push_cases}
+use Rattle.std.proofs.lemmas.List.Elements.{Contains-append_cases, Contains-append_left, Contains-append_right, Contains-push_cases}
 use Rattle.lf_laws.proofs.Members.{behind, first_or_behind, here, none_in}
 use Rattle.lf_ast.specs.Labels.{Labels}
 use Rattle.lf_witness.specs.Ascending.{labels_cmp}
@@ -60,3 +60,25 @@ with_key s (x ∷ R) = by (labels_cmp s x) refl (with_key s R)
       ],
       behind x (insert_key labels_cmp R s) s rest.2,
     )
+
+-- the last of some samples is put among others, and the rest is still to be put
+pub taken_over : (old new samples front : List Labels) (x : Labels) → samples ≡ front ++ x ∷ [] → AreSame (old ++ x ∷ []) new → AreSame (old ++ samples) (new ++ front)
+taken_over old new samples front x taken put = subst (λ (l : List Labels). AreSame (old ++ l) (new ++ front)) (sym taken) (forth, back)
+  where
+    forth : (s : Labels) → Contains (old ++ (front ++ x ∷ [])) s → Contains (new ++ front) s
+    forth s c = elim (Contains-append_cases old (front ++ x ∷ []) s c) [
+      | inl before ↦ Contains-append_left new front s (put.0 s (Contains-append_left old (x ∷ []) s before))
+      | inr more ↦ elim (Contains-append_cases front (x ∷ []) s more) [
+        | inl left ↦ Contains-append_right new front s left
+        | inr last ↦ Contains-append_left new front s (put.0 s (Contains-append_right old (x ∷ []) s last))
+      ]
+    ]
+
+    back : (s : Labels) → Contains (new ++ front) s → Contains (old ++ (front ++ x ∷ [])) s
+    back s c = elim (Contains-append_cases new front s c) [
+      | inl made ↦ elim (Contains-append_cases old (x ∷ []) s (put.1 s made)) [
+        | inl before ↦ Contains-append_left old (front ++ x ∷ []) s before
+        | inr last ↦ Contains-append_right old (front ++ x ∷ []) s (Contains-append_right front (x ∷ []) s last)
+      ]
+      | inr left ↦ Contains-append_right old (front ++ x ∷ []) s (Contains-append_left front (x ∷ []) s left)
+    ]

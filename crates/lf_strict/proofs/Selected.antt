@@ -2,7 +2,6 @@
 use Rattle.std.proofs.Common.{◌≡◌, ◌<◌, ◌+◌, ◌++◌, ℕ, Bool, true, false, cond, List, [], ◌∷◌, Option, Some, None, get_or, length, take, refl, sym, ap, ◌∙◌}
 use Rattle.std.specs.List.{Contains, filter}
 use Rattle.std.proofs.lemmas.List.{take_more}
-use Rattle.lf_laws.proofs.Booleans.{not_true}
 use Rattle.lf_ast.specs.Labels.{Bytes, Labels}
 use Rattle.lf_ast.specs.Selectors.{metric}
 use Rattle.lf_ast.specs.declared.expr.Matcher.{Matcher}
@@ -19,9 +18,6 @@ use Rattle.lf_strict.proofs.Filtered.{ascending_filter}
 
 pub read : (p : Bytes) → IsRead p → is_read p ≡ true
 read p r = (read_is p).1 r
-
-pub unread : (p : Bytes) → (IsRead p → ⊥) → is_read p ≡ false
-unread p none = not_true (is_read p) (λ e. none ((read_is p).0 e))
 
 pub none_kept : {X : Type 0} (p : X → Bool) (xs : List X) → ((x : X) → p x ≡ false) → filter p xs ≡ []
 none_kept p [] none = refl

@@ -1,6 +1,5 @@
 -- Signatures as label sets: they are one exactly where the samples have the same signature, since no text is empty.
-use Rattle.std.proofs.Common.{◌≡◌, ◌≢◌, Bool, true, false, cond, [], Option, Some, None, refl, sym, ap, ◌∙◌}
-use Rattle.std.specs.Option.{unwrap_or}
+use Rattle.std.proofs.Common.{◌≡◌, Bool, true, false, cond, [], None, refl, sym, ap, ◌∙◌}
 use Rattle.std.specs.Cmp.Lexicographic.{nat_list_cmp_total}
 use Rattle.std.specs.FinMap.{entries, get, get-entries, get-retain_keys, nat_cmp-IsAntisymmetric, same_map, slice_cmp-IsAntisymmetric}
 use Rattle.lf_ast.specs.Labels.{Bytes, HasNoEmptyText, Labels}

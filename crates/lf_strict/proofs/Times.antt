@@ -17,7 +17,7 @@ use Rattle.lf_ast.specs.Labels.{Labels}
 use Rattle.lf_witness.specs.Ascending.{IsAscending, labels_cmp, pairs_of}
 use Rattle.lf_witness.specs.Strict.{AreSame}
 use Rattle.lf_witness.proofs.AscendingLists.{alone_ascends, ascends_behind, head_less, less_itself, none_ascends, tail_ascends, total}
-use Rattle.lf_witness.proofs.Decided.{equal_itself, equal_same, same_told, told_same}
+use Rattle.lf_witness.proofs.Decided.{same_told, told_same}
 use Rattle.lf_strict.specs.views.Apart.{IsRepeated, times}
 
 -- a member stands there once at least

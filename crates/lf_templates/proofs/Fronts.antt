@@ -8,10 +8,12 @@ use Rattle.lf_templates.specs.declared.token.Place.{Place}
 use Rattle.lf_templates.specs.declared.token.Lexeme.{Lexeme}
 use Rattle.lf_templates.specs.declared.token.Beginning.TheVariants as begins
 use Rattle.lf_base.specs.Names.{is_letter, begins_label, is_digit, is_in_label}
-use Rattle.lf_templates.specs.Bytes.{beginning, sign_begins, is_in_number, is_no_back_quote, Each, Stops}
+use Rattle.lf_base.specs.Rows.{Stops}
+use Rattle.lf_templates.specs.Bytes.{beginning, sign_begins, is_in_number, is_no_back_quote, Each}
 use Rattle.lf_templates.specs.Tokens.{IsName, IsInner, IsToken, one_byte, in_quotes, in_back_quotes, a_word, a_variable, a_field, a_number, declares, a_colon, a_comment, a_slash, a_minus, takes_comment, ends_comment, FreeOf, word_of, variable_of, field_of}
 use Rattle.lf_templates.specs.reading.Templates.{token, name_len, string_front, raw_front, word_front, variable_front, field_front, number_front, colon_front, slash_front, minus_front, front}
-use Rattle.lf_templates.proofs.Lists.{take_same, row_all, row_is, row_then}
+use Rattle.lf_base.proofs.Rows.{row_all, row_is, row_then}
+use Rattle.lf_templates.proofs.Lists.{take_same}
 use Rattle.lf_templates.proofs.Quotes.{string_read, comment_read}
 
 -- ---- names

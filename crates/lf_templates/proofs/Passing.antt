@@ -3,16 +3,9 @@ use Rattle.std.proofs.Common.{◌≡◌, ℕ, suc, ◌+◌, ◌<◌, ◌≤◌, 
 use Rattle.std.specs.Prelude.{option_map}
 use Rattle.std.proofs.lemmas.List.{drop_all}
 use Rattle.lf_templates.specs.Bytes.{starts_with}
+use Rattle.lf_laws.proofs.Options.{place_from_start, place_more}
 use Rattle.lf_templates.specs.Tokens.{ends_comment}
 use Rattle.lf_templates.specs.reading.Templates.{closing, comment_len}
-
-one_more : (i : ℕ) (o : Option ℕ) → option_map (λ n. i + n) (option_map suc o) ≡ option_map (λ n. i + 1 + n) o
-one_more i None = refl
-one_more i (Some n) = ap (λ (k : ℕ). Some k) (omega arith)
-
-none_more : (o : Option ℕ) → option_map (λ n. 0 + n) o ≡ o
-none_more None = refl
-none_more (Some n) = ap (λ (k : ℕ). Some k) (omega arith)
 
 -- ---- strings
 
@@ -33,7 +26,7 @@ module _ (quote : ℕ) (rest : List ℕ) (i : ℕ) (lt : i < length rest) where
   passed-closes skip e = rw (here skip, e) (ap (λ (k : ℕ). Some k) (omega arith))
 
   pub passed-moves : (skip : Bool) → (not skip && eqb (get_or rest i 0) quote) ≡ false → passed quote rest i skip ≡ passed quote rest (i + 1) (not skip && eqb (get_or rest i 0) 92)
-  passed-moves skip e = rw (here skip, e) (one_more i _)
+  passed-moves skip e = rw (here skip, e) (place_more i _)
 
 pub passed-ends : (quote : ℕ) (rest : List ℕ) (i : ℕ) (skip : Bool) → length rest ≤ i → passed quote rest i skip ≡ None
 unfolding closing
@@ -44,7 +37,7 @@ passed-ends quote rest i skip le = rw (drop_all i rest le) (nothing skip)
     nothing false = refl
 
 pub passed-start : (quote : ℕ) (rest : List ℕ) → passed quote rest 0 false ≡ closing quote false rest
-passed-start quote rest = none_more (closing quote false rest)
+passed-start quote rest = place_from_start (closing quote false rest)
 
 -- ---- comments
 
@@ -66,14 +59,14 @@ module _ (rest : List ℕ) (i : ℕ) (lt : i < length rest) where
   searched-ends e = rw (there, e) (ap (λ (k : ℕ). Some k) (omega arith))
 
   pub searched-moves : ends_comment (drop i rest) ≡ false → searched rest i ≡ searched rest (i + 1)
-  searched-moves e = rw (there, e) (one_more i _)
+  searched-moves e = rw (there, e) (place_more i _)
 
 pub searched-none : (rest : List ℕ) (i : ℕ) → length rest ≤ i → searched rest i ≡ None
 unfolding comment_len
 searched-none rest i le = rw (drop_all i rest le) refl
 
 pub searched-start : (rest : List ℕ) → searched rest 0 ≡ comment_len rest
-searched-start rest = none_more (comment_len rest)
+searched-start rest = place_from_start (comment_len rest)
 
 two_bytes : (b c : ℕ) (src : List ℕ) → starts_with b c src ≡ true → 2 ≤ length src
 two_bytes b c [] e = cc

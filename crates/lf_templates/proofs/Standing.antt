@@ -12,10 +12,11 @@ use Rattle.lf_templates.specs.declared.token.Lexeme.{Lexeme}
 use Rattle.lf_templates.specs.declared.token.Beginning.{Beginning}
 use Rattle.lf_templates.specs.declared.token.Beginning.TheVariants as begins
 use Rattle.lf_base.specs.Names.{begins_label, is_digit, is_in_label}
-use Rattle.lf_templates.specs.Bytes.{beginning, sign_begins, is_in_number, is_no_back_quote, starts, Stops}
+use Rattle.lf_base.specs.Rows.{starts, Stops}
+use Rattle.lf_templates.specs.Bytes.{beginning, sign_begins, is_in_number, is_no_back_quote}
 use Rattle.lf_templates.specs.Tokens.{IsToken, one_byte, in_quotes, in_back_quotes, a_word, a_variable, a_field, a_number, declares, a_colon, a_comment, a_slash, a_minus, takes_comment}
 use Rattle.lf_templates.specs.reading.Templates.{token, name_len, closing, comment_len, string_front, raw_front, word_front, variable_front, field_front, number_front, colon_front, slash_front, minus_front, front_by, front}
-use Rattle.lf_templates.proofs.Lists.{row_all, row_then}
+use Rattle.lf_base.proofs.Rows.{row_all, row_then}
 use Rattle.lf_templates.proofs.Quotes.{string_stands, comment_stands}
 use Rattle.lf_templates.proofs.Fronts.{name_le, name_stands}
 

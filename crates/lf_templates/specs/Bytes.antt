@@ -35,15 +35,6 @@ is b c = b == c
 abbrev pub Each : (ℕ → Bool) → List ℕ → Type 0
 Each test bs = list_all test bs ≡ true
 
--- whether a text begins with a byte of a class
-abbrev pub starts : (ℕ → Bool) → List ℕ → Bool
-starts test [] = false
-starts test (b ∷ rest) = test b
-
--- A row of bytes of a class ends here.
-abbrev pub Stops : (ℕ → Bool) → List ℕ → Type 0
-Stops test rest = starts test rest ≡ false
-
 -- whether a text begins with two bytes
 abbrev pub starts_with : ℕ → ℕ → List ℕ → Bool
 starts_with b c [] = false

@@ -12,7 +12,8 @@ use Rattle.lf_templates.specs.declared.token.Place.TheVariants as places
 use Rattle.lf_templates.specs.declared.token.Lexeme.{Lexeme}
 use Rattle.lf_templates.specs.declared.token.Beginning.TheVariants as begins
 use Rattle.lf_base.specs.Names.{begins_label, is_in_label}
-use Rattle.lf_templates.specs.Bytes.{beginning, is_in_number, is_no_back_quote, Each, starts, Stops, starts_with}
+use Rattle.lf_base.specs.Rows.{starts, Stops}
+use Rattle.lf_templates.specs.Bytes.{beginning, is_in_number, is_no_back_quote, Each, starts_with}
 
 -- ---- names
 

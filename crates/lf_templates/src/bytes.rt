@@ -1,6 +1,7 @@
 //! The classes of bytes that tokens are made of, and rows of them.
 ghost use Rattle.std.specs.Prelude.{◌≡◌, ◌≤◌, length};
 ghost use Rattle.std.specs.List.{prefix_len};
+ghost use Rattle.lf_base.specs.Rows.{starts as starts_of};
 ghost use Rattle.lf_templates.specs.Bytes as class_of;
 ghost use Rattle.lf_templates.specs.reading.Templates.{is_in_class};
 
@@ -94,7 +95,7 @@ pub fn starts_with(first: u8, second: u8, text: &[u8]) -> bool
 
 /// Whether a text begins with a byte.
 pub fn starts(first: u8, text: &[u8]) -> bool
-    ensures { result ≡ class_of.starts (λ b. class_of.is b first) text.now }
+    ensures { result ≡ starts_of (λ b. class_of.is b first) text.now }
 {
     match text {
         [] => false,

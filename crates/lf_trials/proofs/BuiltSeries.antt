@@ -6,7 +6,7 @@ use Rattle.std.specs.Str.{bytes_eq}
 use Rattle.std.proofs.lemmas.List.Elements.{Contains-append_cases}
 use Rattle.lf_laws.proofs.Booleans.{and_left}
 use Rattle.lf_laws.proofs.Members.{behind, first_or_behind, here, none_in, only_one}
-use Rattle.lf_laws.proofs.Options.{the_same}
+use Rattle.std.proofs.lemmas.Option.{same_Some}
 use Rattle.lf_ast.specs.Functions.{Signature, aggregation, function_named}
 use Rattle.lf_ast.specs.Labels.{Bytes, Labels}
 use Rattle.lf_ast.specs.Rules.{RuleTree}
@@ -72,7 +72,7 @@ module _ (u : Listing) (env : Environment) (rules : List RuleTree) (listing : Is
   passing_name test (text ∷ texts) name e = by (test text) refl (passing_name test texts name) e
     where
       by : (b : Bool) → test text ≡ b → (find test texts ≡ Some name → test name ≡ true) → cond b (Some text) (find test texts) ≡ Some name → test name ≡ true
-      by true is later same = ap test (sym (the_same text name same)) ∙ is
+      by true is later same = ap test (sym (same_Some text name same)) ∙ is
       by false is later same = later same
 
   pub named_for : (matchers : List Matcher) (name : Bytes) → name_for u rules matchers ≡ Some name → IsScrapedName rules name

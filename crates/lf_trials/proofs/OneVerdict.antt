@@ -1,10 +1,10 @@
 -- A rule has one verdict at most: one built world, one uniform world, and one sample that each of them shows.
 use Rattle.std.proofs.Common.{◌≡◌, ◌<◌, ◌↔◌, inl, inr, ℕ, suc, Bool, true, false, List, [], ◌∷◌, length, get_or, Some, refl, sym, ap, ap₂, ◌∙◌, subst, slice_get, arith}
 use Rattle.std.specs.List.{Contains, find}
-use Rattle.std.proofs.lemmas.Option.{get_or_from_slice_get, slice_get_read}
+use Rattle.std.proofs.lemmas.Option.{get_or_from_slice_get, slice_get_read, same_Some}
 use Rattle.lf_laws.proofs.Booleans.{clash}
 use Rattle.lf_laws.proofs.Members.{behind, first_or_behind, here, none_in}
-use Rattle.lf_laws.proofs.Options.{same_option, the_same}
+use Rattle.lf_laws.proofs.Options.{same_option}
 use Rattle.lf_ast.specs.Labels.{Bytes, Labels}
 use Rattle.lf_ast.specs.Rules.{RuleTree}
 use Rattle.lf_ast.specs.Tree.{Tree}
@@ -93,7 +93,7 @@ module _ (u : Listing) (env : Environment) (rules : List RuleTree) (i : ℕ) (la
       let test = one_test rules a.holds_fork b.holds_fork a.tells_forks b.tells_forks in
       let same : building_of u env rules a.holds_fork i a.rule label presence ≡ building_of u env rules b.holds_fork i b.rule label presence =
       ap₂ (λ (holds_fork : Tree → Bool) (r : RuleTree). building_of u env rules holds_fork i r label presence) test rule in
-      a.is_trial ∙ ap trial_of (the_same a.built b.built (sym a.is_built ∙ same ∙ b.is_built)) ∙ sym b.is_trial
+      a.is_trial ∙ ap trial_of (same_Some a.built b.built (sym a.is_built ∙ same ∙ b.is_built)) ∙ sym b.is_trial
 
   abbrev pub uniform_trial : RuleTree → List ℕ → Trial
   uniform_trial r reach = record { series = uniform_series u rules (selected_by rules (with_reach i reach)) (uniform_texts u rules i r label presence); steps = passes_over reach }
@@ -112,11 +112,11 @@ module _ (u : Listing) (env : Environment) (rules : List RuleTree) (i : ℕ) (la
   one_sample : (t : Trial) (x y : Labels) → ShowsBy t x → ShowsBy t y → x ≡ y
   one_sample t x y a b =
       let rule = same_option (slice_get rules i) a.rule b.rule a.is_rule b.is_rule in
-      let stored = the_same a.stored b.stored (one_run_answer t.series (rules_at rules t.steps) (Some a.stored) (Some b.stored) a.is_stored b.is_stored) in
+      let stored = same_Some a.stored b.stored (one_run_answer t.series (rules_at rules t.steps) (Some a.stored) (Some b.stored) a.is_stored b.is_stored) in
       let there : IsRuleAnswer b.stored b.rule (Some a.samples) =
       subst (λ (r : RuleTree). IsRuleAnswer b.stored r (Some a.samples)) rule (subst (λ (W : List Labels). IsRuleAnswer W a.rule (Some a.samples)) stored a.are_samples) in
-      let samples = the_same a.samples b.samples (one_rule_answer b.stored b.rule (Some a.samples) (Some b.samples) there b.are_samples) in
-      the_same x y (sym a.is_sample ∙ ap (λ (P : List Labels). find (λ s. has_presence presence (value_of s label)) P) samples ∙ b.is_sample)
+      let samples = same_Some a.samples b.samples (one_rule_answer b.stored b.rule (Some a.samples) (Some b.samples) there b.are_samples) in
+      same_Some x y (sym a.is_sample ∙ ap (λ (P : List Labels). find (λ s. has_presence presence (value_of s label)) P) samples ∙ b.is_sample)
 
   by_one_trial : (s t : Shown) → s.trial ≡ t.trial → Shows rules i label presence s → Shows rules i label presence t → s ≡ t
   by_one_trial s t same a b =

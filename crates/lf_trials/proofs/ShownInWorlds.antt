@@ -4,7 +4,7 @@ use Rattle.std.proofs.Common.{◌≡◌, ◌≢◌, inl, inr, ℕ, Bool, true, f
 use Rattle.std.specs.List.{Contains, find, flat_map}
 use Rattle.std.proofs.lemmas.List.Elements.{Contains-append_cases}
 use Rattle.lf_laws.proofs.Members.{behind, here, map_member, none_in, of_flat_map, only_one, true_same, same_true}
-use Rattle.lf_laws.proofs.Options.{the_same}
+use Rattle.std.proofs.lemmas.Option.{same_Some}
 use Rattle.lf_laws.proofs.Slices.{member_at}
 use Rattle.lf_ast.specs.Labels.{Bytes}
 use Rattle.lf_ast.specs.Rules.{RuleTree}
@@ -45,7 +45,7 @@ found_in test [] x e = absurd (true≢false (sym (ap is_some e)))
 found_in {X = X} test (y ∷ xs) x e = by (test y) refl (found_in test xs x) e
   where
     by : (b : Bool) → test y ≡ b → (find test xs ≡ Some x → IsIn test xs x) → cond b (Some y) (find test xs) ≡ Some x → IsIn test (y ∷ xs) x
-    by true is later same = (subst (Contains (y ∷ xs)) (the_same y x same) (here y xs), ap test (sym (the_same y x same)) ∙ is)
+    by true is later same = (subst (Contains (y ∷ xs)) (same_Some y x same) (here y xs), ap test (sym (same_Some y x same)) ∙ is)
     by false is later same = let rest = later same in (behind y xs x rest.0, rest.1)
 
 module _ (u : Listing) (env : Environment) (rules : List RuleTree) (listing : IsListing u) where
@@ -56,7 +56,7 @@ module _ (u : Listing) (env : Environment) (rules : List RuleTree) (listing : Is
   said_is_scraped (Some n) name e = by (is_scraped_name rules n) refl e
     where
       by : (b : Bool) → is_scraped_name rules n ≡ b → cond b (Some n) None ≡ Some name → IsScrapedName rules name
-      by true is same = subst (IsScrapedName rules) (the_same n name same) (scraped_by_test rules n is)
+      by true is same = subst (IsScrapedName rules) (same_Some n name same) (scraped_by_test rules n is)
       by false is same = absurd (true≢false (sym (ap is_some same)))
 
   unsaid_is_scraped : (s : Selected) (name : Bytes) → name_unsaid u rules s ≡ Some name → IsScrapedName rules name

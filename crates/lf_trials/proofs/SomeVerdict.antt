@@ -5,7 +5,8 @@ use Rattle.std.specs.Str.{bytes_eq}
 use Rattle.std.proofs.lemmas.Bool.{cases_lt, not-true}
 use Rattle.lf_laws.proofs.Booleans.{and_left, and_right}
 use Rattle.lf_laws.proofs.Members.{same_true, true_same}
-use Rattle.lf_laws.proofs.Options.{same_option, the_same}
+use Rattle.std.proofs.lemmas.Option.{same_Some}
+use Rattle.lf_laws.proofs.Options.{same_option}
 use Rattle.lf_laws.proofs.Slices.{number_of}
 use Rattle.lf_ast.specs.Labels.{Bytes, Labels}
 use Rattle.lf_ast.specs.Rules.{RuleTree}
@@ -68,7 +69,7 @@ module _ (rules : List RuleTree) where
 
   said_decided : (said : Option Bytes) → Decided (OfCyclic said)
   said_decided None = inr (λ (name, e, cyclic). true≢false (sym (ap is_some e)))
-  said_decided (Some n) = decided_map (IsCyclic rules n) (OfCyclic (Some n)) (λ cyclic. (n, refl, cyclic)) (λ (name, e, cyclic). subst (IsCyclic rules) (sym (the_same n name e)) cyclic) (cyclic_decided n)
+  said_decided (Some n) = decided_map (IsCyclic rules n) (OfCyclic (Some n)) (λ cyclic. (n, refl, cyclic)) (λ (name, e, cyclic). subst (IsCyclic rules) (sym (same_Some n name e)) cyclic) (cyclic_decided n)
 
   selects_decided : (numbers : List ℕ) → Decided (SelectsCyclic rules numbers)
   selects_decided numbers =
@@ -104,7 +105,7 @@ module _ (u : Listing) (env : Environment) (rules : List RuleTree) (i : ℕ) (r 
         record { holds_fork = fork_test rules; tells_forks = tells_forks rules; rule = r; is_rule = at; reach = reach; is_reach = is_reach_of rules r.expr; built = b; is_built = is; bounded = few; is_trial = refl },
       )
       within b is (inr many) = inr (λ (t, other).
-          let same : other.built ≡ b = the_same other.built b (sym (of_built t other) ∙ is) in
+          let same : other.built ≡ b = same_Some other.built b (sym (of_built t other) ∙ is) in
           many (subst (λ (js : List ℕ). b.selectors ≤ 4 * selector_count rules (with_reach i js)) (reach_is other.rule other.reach other.is_rule other.is_reach) (subst (λ (z : Building). z.selectors ≤ 4 * selector_count rules (with_reach i other.reach)) same other.bounded)))
 
       by : (o : Option Building) → building ≡ o → Decided Made
@@ -143,11 +144,11 @@ module _ (u : Listing) (env : Environment) (rules : List RuleTree) (i : ℕ) (r 
       same_given : (V : List Labels) (o : Option (List Labels)) → IsRunAnswer t.series (rules_at rules t.steps) (Some V) → IsRuleAnswer V r o → (found : ShowsSome t) → o ≡ Some found.1.samples
       same_given V o is gives found =
           one_rule_answer V r o (Some found.1.samples) gives
-          (subst (λ (W : List Labels). IsRuleAnswer W r (Some found.1.samples)) (sym (the_same V found.1.stored (same_stored (Some V) is found))) (subst (λ (q : RuleTree). IsRuleAnswer found.1.stored q (Some found.1.samples)) (same_option (slice_get rules i) found.1.rule r found.1.is_rule at) found.1.are_samples))
+          (subst (λ (W : List Labels). IsRuleAnswer W r (Some found.1.samples)) (sym (same_Some V found.1.stored (same_stored (Some V) is found))) (subst (λ (q : RuleTree). IsRuleAnswer found.1.stored q (Some found.1.samples)) (same_option (slice_get rules i) found.1.rule r found.1.is_rule at) found.1.are_samples))
 
       by_sample : (V P : List Labels) → IsRunAnswer t.series (rules_at rules t.steps) (Some V) → IsRuleAnswer V r (Some P) → (o : Option Labels) → find (λ s. has_presence presence (value_of s label)) P ≡ o → Decided (ShowsSome t)
       by_sample V P is gives None none =
-          inr (λ found. true≢false (sym (ap is_some (sym none ∙ ap (λ (l : List Labels). find (λ s. has_presence presence (value_of s label)) l) (the_same P found.1.samples (same_given V (Some P) is gives found)) ∙ found.1.is_sample))))
+          inr (λ found. true≢false (sym (ap is_some (sym none ∙ ap (λ (l : List Labels). find (λ s. has_presence presence (value_of s label)) l) (same_Some P found.1.samples (same_given V (Some P) is gives found)) ∙ found.1.is_sample))))
       by_sample V P is gives (Some s) there = inl (s, record { rule = r; is_rule = at; stored = V; is_stored = is; samples = P; are_samples = gives; is_sample = there })
 
       by_rule : (V : List Labels) → IsRunAnswer t.series (rules_at rules t.steps) (Some V) → (o : Option (List Labels)) → IsRuleAnswer V r o → Decided (ShowsSome t)

@@ -1,10 +1,9 @@
 -- What is followed depends on recorded names only as far as selectors say them, and a scalar has no label whatever they are.
 use Rattle.std.proofs.Common.{◌≡◌, ℕ, zero, suc, Bool, true, false, ◌&&◌, cond, List, [], ◌∷◌, ◌++◌, Option, Some, None, refl, sym, ◌∙◌, ap, ap₂, true≢false}
-use Rattle.std.specs.List.{Contains, list_any}
-use Rattle.std.specs.Str.{bytes_eq}
+use Rattle.std.specs.List.{Contains}
 use Rattle.std.proofs.lemmas.List.Elements.{Contains-append_left, Contains-append_right}
 use Rattle.lf_laws.proofs.Members.{here}
-use Rattle.lf_ast.specs.Functions.{Row, Signature, aggregation, function_named, functions, looked_up}
+use Rattle.lf_ast.specs.Functions.{Signature, aggregation, function_named}
 use Rattle.lf_ast.specs.Labels.{Bytes}
 use Rattle.lf_ast.specs.Rules.{RuleTree}
 use Rattle.lf_ast.specs.Selectors.{selected_name}
@@ -17,42 +16,13 @@ use Rattle.lf_ast.specs.declared.expr.Matcher.{Matcher}
 use Rattle.lf_ast.specs.declared.expr.Matching.{Matching}
 use Rattle.lf_ast.specs.declared.expr.Op.{Op}
 use Rattle.lf_ast.specs.declared.functions.LabelEffect.{LabelEffect}
-use Rattle.lf_ast.specs.declared.functions.LabelEffect.TheVariants.{Bare}
 use Rattle.lf_deps.specs.Reading.{arguments_selectors, outside_scalars, selectors, selectors_in}
 use Rattle.lf_semantics.specs.Grouped.{is_metric}
 use Rattle.lf_semantics.specs.Listing.{Listing}
 use Rattle.lf_semantics.specs.Parts.{given_by, is_scalar_part, operand_place}
+use Rattle.lf_semantics.proofs.ScalarCalls.{IsBareIfScalar, named_is_bare}
 use Rattle.lf_trials.specs.Follow.{Followed, follow, follow_argument, follow_binary, follow_call, follow_effect, follow_name, if_it_passes, lost, nameless_if, on_series}
 use Rattle.lf_trials.specs.Reached.{is_recorded}
-
--- a function that gives a scalar gives no label
-
-abbrev IsBareIfScalar : Signature → Type 0
-IsBareIfScalar s = is_scalar s.gives ≡ true → s.labels ≡ Bare
-
-abbrev AreBare : List Row → Type 0
-AreBare [] = Unit {0}
-AreBare (row ∷ rows) = IsBareIfScalar row.signature × AreBare rows
-
-found_bare : (name : Bytes) (rows : List Row) → AreBare rows → (s : Signature) → looked_up name rows ≡ Some s → IsBareIfScalar s
-found_bare name [] bare s e = absurd (cc)
-found_bare name (row ∷ rows) bare s e = by (list_any (bytes_eq name) row.names) e (found_bare name rows bare.1 s)
-  where
-    by : (b : Bool) → cond b (Some row.signature) (looked_up name rows) ≡ Some s → (looked_up name rows ≡ Some s → IsBareIfScalar s) → IsBareIfScalar s
-    by true found later = let same : row.signature ≡ s = cc in λ scalar. ap (λ (z : Signature). z.labels) (sym same) ∙ bare.0 (ap (λ (z : Signature). is_scalar z.gives) same ∙ scalar)
-    by false found later = later found
-
-no_scalar : (effect : LabelEffect) → false ≡ true → effect ≡ Bare
-no_scalar effect e = absurd (true≢false (sym e))
-
-all_bare : AreBare functions
-unfolding functions
-all_bare =
-    (no_scalar _, (no_scalar _, (no_scalar _, (no_scalar _, (no_scalar _, (no_scalar _, (no_scalar _, (no_scalar _, (no_scalar _, (no_scalar _, (no_scalar _, (no_scalar _, (no_scalar _, (no_scalar _, (no_scalar _, (no_scalar _, ((λ e. refl), (no_scalar _, ((λ e. refl), tt)))))))))))))))))))
-
-bare_scalar : (name : Bytes) (s : Signature) → function_named name ≡ Some s → IsBareIfScalar s
-unfolding function_named
-bare_scalar name s e = found_bare name functions all_bare s e
 
 module _ (u : Listing) (rules : List RuleTree) (label given : Bytes) where
   lost_still : (minus : Bool) → nameless_if label minus lost ≡ lost
@@ -87,7 +57,7 @@ module _ (u : Listing) (rules : List RuleTree) (label given : Bytes) where
   scalar_lost known (Unary minus of span) is = ap (nameless_if label minus) (scalar_lost known of is) ∙ lost_still minus
   scalar_lost known (Binary op m left right span) is =
       of_sides op m (is_scalar_part left) (is_scalar_part right) (follow u rules label given known left) (follow u rules label given known right) is
-  scalar_lost known (Call name args span) is = bare_call (function_named name) args (follow_argument u rules label given known args) is (bare_scalar name)
+  scalar_lost known (Call name args span) is = bare_call (function_named name) args (follow_argument u rules label given known args) is (named_is_bare name)
   scalar_lost known (Aggregate op grouping args span) is = absurd (true≢false (sym is))
 
   module _ (f g : Bytes → Followed) where

@@ -5,8 +5,7 @@ use Rattle.std.specs.List.{Contains}
 use Rattle.std.specs.Option.{option_map}
 use Rattle.std.specs.Str.{bytes_eq}
 use Rattle.std.proofs.lemmas.List.{get_or-take}
-use Rattle.std.proofs.lemmas.Option.{slice_get_within}
-use Rattle.lf_laws.proofs.Options.{the_same}
+use Rattle.std.proofs.lemmas.Option.{slice_get_within, same_Some}
 use Rattle.lf_laws.proofs.Members.{true_same}
 use Rattle.lf_laws.proofs.Slices.{member_at}
 use Rattle.lf_ast.specs.Labels.{Bytes}
@@ -28,10 +27,10 @@ use Rattle.lf_uniform.proofs.WithReach.{in_with_reach, own_with_reach}
 -- rules by their numbers
 
 pub same_number : (k : ℕ) (r : RuleTree) (l : ℕ) (q : RuleTree) → ◌≡◌ {A = Option (ℕ × RuleTree)} (Some (k, r)) (Some (l, q)) → k ≡ l
-same_number k r l q e = ap (λ (p : ℕ × RuleTree). p.0) (the_same (k, r) (l, q) e)
+same_number k r l q e = ap (λ (p : ℕ × RuleTree). p.0) (same_Some (k, r) (l, q) e)
 
 pub same_rule : (k : ℕ) (r : RuleTree) (l : ℕ) (q : RuleTree) → ◌≡◌ {A = Option (ℕ × RuleTree)} (Some (k, r)) (Some (l, q)) → r ≡ q
-same_rule k r l q e = ap (λ (p : ℕ × RuleTree). p.1) (the_same (k, r) (l, q) e)
+same_rule k r l q e = ap (λ (p : ℕ × RuleTree). p.1) (same_Some (k, r) (l, q) e)
 
 -- the first rule that passes is a rule that passes
 pub record IsFound (test : ℕ → RuleTree → Bool) (start : ℕ) (rules : List RuleTree) (k : ℕ) (r : RuleTree) : Type 0 where

@@ -9,7 +9,7 @@ use lf_classes::TextSet;
 use std::alloc::Global;
 use std::marker::Model;
 
-/// The recorded names, each once, with the number of the first rule that records it. Where a name stands is looked up by its hash.
+/// The recorded names, each once, with the number of the first rule that records it. Where a name stands is looked up in a map.
 ///
 /// Who asks of several rules makes it once.
 #[derive(Drop)]

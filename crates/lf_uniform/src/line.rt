@@ -13,7 +13,7 @@ use lf_deps::Sources;
 use std::alloc::Global;
 use std::marker::Model;
 
-/// Rules in line, each the first of its name: the recorded names that its selectors say come before it. Where a name stands is looked up by its hash.
+/// Rules in line, each the first of its name: the recorded names that its selectors say come before it. Where a name stands is looked up in a map.
 #[derive(Drop)]
 pub struct Line {
     numbers: Vec<u32>,

@@ -5,13 +5,14 @@ ghost use Rattle.lf_yaml.specs.views.KeySets.{HasKeys};
 
 use lf_base::Memory;
 use std::alloc::Global;
-use std::collections::HashSet;
+use std::collections::BTreeSet;
 
-/// The texts of the keys of a mapping that stand before. It hashes them, since a mapping may have a hundred thousand keys.
+/// The texts of the keys of a mapping that stand before. It keeps them in order, since a mapping may have a hundred thousand keys, and keys can be chosen so that a table of hashes finds all of
+/// them in one place.
 #[derive(Drop)]
 pub struct KeySet {
     alloc: Global,
-    texts: HashSet<String>,
+    texts: BTreeSet<String>,
 }
 
 impl KeySet {
@@ -21,7 +22,7 @@ impl KeySet {
     {
         KeySet {
             alloc,
-            texts: HashSet::new(alloc),
+            texts: BTreeSet::new(alloc),
         }
     }
 

@@ -23,7 +23,8 @@ use Rattle.lf_templates.specs.declared.reference.Reference.{Reference}
 use Rattle.lf_base.specs.declared.fault.Fault.{Fault}
 use Rattle.lf_templates.specs.Source.{in_source}
 use Rattle.lf_base.specs.Names.{begins_label, is_in_label}
-use Rattle.lf_templates.specs.Bytes.{beginning, is_in_number, is_no_back_quote, starts}
+use Rattle.lf_base.specs.Rows.{starts}
+use Rattle.lf_templates.specs.Bytes.{beginning, is_in_number, is_no_back_quote}
 use Rattle.lf_templates.specs.Tokens.{word_of, variable_of, field_of, takes_comment, ends_comment, closes, is_trim, behind}
 use Rattle.lf_templates.specs.Actions.{tokens_of, first, is_field, is_sound, sets_labels}
 use Rattle.lf_templates.specs.Templates.{opens, Action, word_of_action, opens_body, is_stray, hides, references_in, references_of, first_flawed, fault_at}

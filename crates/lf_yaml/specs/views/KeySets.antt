@@ -1,6 +1,6 @@
 -- The texts of keys, as the code holds them in a set. It defines nothing of trees.
 use Rattle.std.specs.Prelude.{◌≡◌, ℕ, List}
-use Rattle.std.specs.HashSet.{contains_text}
+use Rattle.std.specs.BTreeSet.{contains_text}
 use Rattle.lf_yaml.specs.reading.Trees.{has}
 use Rattle.lf_yaml.specs.declared.key_set.KeySet.{KeySet}
 

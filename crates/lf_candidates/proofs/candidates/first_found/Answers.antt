@@ -1,5 +1,5 @@
 use Rattle.std.proofs.Common.{◌≡◌, ◌&&◌, Bool, false, sym, ap, ◌∙◌, arith, below_more}
-use Rattle.lf_laws.proofs.Booleans.{and_false}
+use Rattle.std.proofs.Math.Bool.{and-false}
 use Rattle.lf_semantics.specs.ClassRows.{holds}
 use Rattle.lf_trials.specs.Candidates.{has_presence}
 use Rattle.lf_candidates.specs.views.ClassTexts.{text_at}
@@ -25,7 +25,7 @@ loop-class-preserved c =
     let Is : Type 0 = (holds c.args.row.now label class && has_presence c.args.presence (text_at u label class)) ≡ false in
     let here : Is =
     elim c.else-has.branch [
-      | else-has-via-then-has+else-is_with w ↦ ap (λ (b : Bool). holds c.args.row.now label class && b) (presence ∙ sym w.is_with.ensures ∙ w.if-is_with.false) ∙ and_false (holds c.args.row.now label class)
+      | else-has-via-then-has+else-is_with w ↦ ap (λ (b : Bool). holds c.args.row.now label class && b) (presence ∙ sym w.is_with.ensures ∙ w.if-is_with.false) ∙ and-false (holds c.args.row.now label class)
       | else-has-via-else-has w ↦ ap (λ (b : Bool). b && has_presence c.args.presence (text_at u label class)) (sym c.has.ensures ∙ w.if-has.false)
     ] in
     below_more (λ j. (holds c.args.row.now label j && has_presence c.args.presence (text_at u label j)) ≡ false) class c.loop-class.invariant here

@@ -1,7 +1,8 @@
 use Rattle.std.proofs.Common.{◌≡◌, Bool, true, false, not, refl, sym, ◌∙◌, ap}
 use Rattle.std.proofs.Math.Bool.{beq}
 use Rattle.lf_pattern.specs.Matching.{matches}
-use Rattle.lf_classes.proofs.Unread.{read_passes, unread, unread_matches, unread_passes}
+use Rattle.lf_semantics.proofs.PatternFaults.{unread_is}
+use Rattle.lf_classes.proofs.Unread.{read_passes, unread_matches, unread_passes}
 use Rattle.lf_classes.proofs.passing.found.Goals as goal
 
 beq_false : (b w : Bool) → w ≡ false → beq b w ≡ not b
@@ -16,7 +17,7 @@ returns-in_ok-matches-in-Ok-clause-no c = λ e.
     ∙ sym (read_passes c.args.pattern.now c.args.value.now c.in-Ok.ensures.read)
 
 pub returns-in-Err-BadPattern-clause-yes : goal.returns-in-Err-BadPattern-clause-yes
-returns-in-Err-BadPattern-clause-yes c = λ e. sym (unread_matches c.args.pattern.now c.args.value.now (unread c.args.pattern.now (c.in-Err-BadPattern.ensures.bad c.in-Err-BadPattern.field-0-is)))
+returns-in-Err-BadPattern-clause-yes c = λ e. sym (unread_matches c.args.pattern.now c.args.value.now ((unread_is c.args.pattern.now).1 (c.in-Err-BadPattern.ensures.bad c.in-Err-BadPattern.field-0-is)))
 
 pub returns-in-Err-BadPattern-clause-no : goal.returns-in-Err-BadPattern-clause-no
-returns-in-Err-BadPattern-clause-no c = λ e. sym (unread_passes c.args.pattern.now c.args.value.now (unread c.args.pattern.now (c.in-Err-BadPattern.ensures.bad c.in-Err-BadPattern.field-0-is)))
+returns-in-Err-BadPattern-clause-no c = λ e. sym (unread_passes c.args.pattern.now c.args.value.now ((unread_is c.args.pattern.now).1 (c.in-Err-BadPattern.ensures.bad c.in-Err-BadPattern.field-0-is)))

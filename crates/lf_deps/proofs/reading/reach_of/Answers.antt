@@ -1,6 +1,7 @@
 use Rattle.std.proofs.Common.{◌≡◌, ◌<◌, ◌↔◌, ℕ, List, Some, length, sym, ◌∙◌, ap, subst}
-use Rattle.std.specs.Prelude.{IfOk, Result, slice_get, Ok, Err}
+use Rattle.std.specs.Prelude.{slice_get}
 use Rattle.std.specs.List.{Contains}
+use Rattle.std.proofs.lemmas.Result.{IfOk-weaker}
 use Rattle.lf_ast.specs.Rules.{RuleTree}
 use Rattle.lf_graph.specs.Components.{Components}
 use Rattle.lf_graph.specs.Paths.{IsReached}
@@ -11,10 +12,6 @@ use Rattle.lf_deps.specs.views.Sources.{Sources}
 use Rattle.lf_deps.proofs.LookedUp.{selected_is}
 use Rattle.lf_deps.proofs.NamePaths.{nodes, nodes_numbered, reached_from, reached_to}
 use Rattle.lf_deps.proofs.reading.reach_of.Goals as goal
-
-if_ok : {E : Type 0} (P Q : List ℕ → Type 0) (r : Result (List ℕ) E) → ((l : List ℕ) → P l → Q l) → IfOk r P → IfOk r Q
-if_ok P Q (Ok l) h p = h l p
-if_ok P Q (Err e) h p = tt
 
 pub reached-requires-clause-start : goal.reached-requires-clause-start
 reached-requires-clause-start c u there =
@@ -40,4 +37,4 @@ returns-clause-members c rules is of here k =
     let all : B met = subst B c.as_slice-2.ensures c.in_ok-numbers.ensures in
     let Q : List ℕ → Type 0 = λ found. Contains found k ↔ ((r : RuleTree) × (slice_get rules k ≡ Some r) × Reaches rules of.expr r) in
     let reached : Q numbers = (λ m. reached_to rules s is of.expr met led k ((all k).0 m), λ r. (all k).1 (reached_from rules s is of.expr met led k r)) in
-    if_ok (λ found. found ≡ numbers) Q c.in_order.result (λ l e. subst Q (sym e) reached) c.in_order.ensures.members
+    IfOk-weaker c.in_order.result (λ found. found ≡ numbers) Q (λ l e. subst Q (sym e) reached) c.in_order.ensures.members

@@ -1,7 +1,7 @@
 use Rattle.std.proofs.Common.{◌+◌, ◌&&◌, eqb, length, true}
 use Rattle.std.proofs.lemmas.Result.{IfOk-weaker}
 use Rattle.lf_pattern.specs.Matching.{IsRead}
-use Rattle.lf_classes.proofs.Unread.{unread}
+use Rattle.lf_semantics.proofs.PatternFaults.{unread_is}
 use Rattle.lf_semantics.specs.Listing.{named_at}
 use Rattle.lf_semantics.specs.RowTable.{may_match}
 use Rattle.lf_flow.specs.views.ClassSets.{IsSet}
@@ -18,5 +18,5 @@ returns-in-None c =
     IfOk-weaker c.unread.result
     (λ on. IsSet c.classes.result (λ class. eqb (class + 1) c.classes.result && true) on.items)
     (λ on. IsSet (length (named_at u label) + 2) (may_match u pattern label) on.items)
-    (λ on set. unread_set u pattern label c.classes.result true on.items c.classes.ensures (unread_other u label pattern (unread pattern none)) none set)
+    (λ on set. unread_set u pattern label c.classes.result true on.items c.classes.ensures (unread_other u label pattern ((unread_is pattern).1 none)) none set)
     c.unread.ensures

@@ -1,5 +1,5 @@
 use Rattle.std.proofs.Common.{◌≡◌, ◌∙◌, ap, arith, get_or, length, sym, subst}
-use Rattle.lf_laws.proofs.Options.{the_same}
+use Rattle.std.proofs.lemmas.Option.{same_Some}
 use Rattle.lf_ast.specs.Labels.{Bytes}
 use Rattle.lf_checks.specs.Files.{File}
 use Rattle.lf_report.specs.views.LineIndex.{IsPosition, IsPositionOf}
@@ -31,13 +31,13 @@ loop-rule-preserved c =
     let position = c.position_from-at.result in
     record {
       position = λ file e.
-          let same : c.as_slice.result.now ≡ file.bytes = c.as_slice.ensures ∙ ap (λ (f : File). f.bytes) (the_same (file_of c.get.result.now) file (sym own ∙ e)) in
+          let same : c.as_slice.result.now ≡ file.bytes = c.as_slice.ensures ∙ ap (λ (f : File). f.bytes) (same_Some (file_of c.get.result.now) file (sym own ∙ e)) in
           subst (λ (bytes : Bytes). IsPosition bytes position) same c.position_from-at.ensures.position;
       positions_are =
           positions_more (files_of files) c.args.rules.now c.loop-rule.rule-index rule c.loop-rule.positions.items _ position (omega (arith, c.loop-rule-test.true, ap length c.as_slice-rule-items.ensures))
           (c.rule-item.is ∙ ap (λ l. get_or l c.loop-rule.rule-index rule) c.as_slice-rule-items.ensures) c.loop-rule.invariant.positions_are
           (λ file e.
-          let same : c.as_slice.result.now ≡ file.bytes = c.as_slice.ensures ∙ ap (λ (f : File). f.bytes) (the_same (file_of c.get.result.now) file (sym own ∙ e)) in
+          let same : c.as_slice.result.now ≡ file.bytes = c.as_slice.ensures ∙ ap (λ (f : File). f.bytes) (same_Some (file_of c.get.result.now) file (sym own ∙ e)) in
           subst (λ (bytes : Bytes). IsPositionOf bytes rule.name_span.start position) same c.position_from-at.ensures.of)
           c.in_ok-push.ensures.items;
     }

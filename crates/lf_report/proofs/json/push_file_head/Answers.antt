@@ -6,12 +6,12 @@ use Rattle.lf_report.specs.Json.{refusal_data}
 use Rattle.lf_report.specs.declared.report.FileReport.{FileReport}
 use Rattle.lf_report.proofs.Appends.{appended_pair, appended_two}
 use Rattle.lf_report.proofs.Floats.{refusal_floats}
-use Rattle.lf_laws.proofs.Options.{the_same}
+use Rattle.std.proofs.lemmas.Option.{same_Some}
 use Rattle.lf_report.proofs.json.push_file_head.Goals as goal
 
 pub returns : goal.returns
 returns c = λ it at.
-    let same : c.get.result.now ≡ it = the_same c.get.result.now it (sym c.get.ensures.value ∙ at) in
+    let same : c.get.result.now ≡ it = same_Some c.get.result.now it (sym c.get.ensures.value ∙ at) in
     let name = c.in_ok-push_text.ensures ∙ ap (λ l. c.args.text.now ++ (codes "{\"name\":" ++ compact_text (string l))) (c.as_str.ensures ∙ ap (λ (f : FileReport). f.name) same) in
     let refusal = c.in_ok-push_value.ensures (refusal_data it it.refusal) (c.in_ok-refusal.ensures it at) (refusal_floats it it.refusal) in
     let said = compact_text (refusal_data it it.refusal) in

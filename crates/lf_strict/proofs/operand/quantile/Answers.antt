@@ -1,5 +1,5 @@
-use Rattle.std.proofs.Common.{Option, List, Result, Ok, Err, Some, sym, ◌∙◌, ap, subst}
-use Rattle.std.specs.Prelude.{IfOk, IfSome, codes}
+use Rattle.std.proofs.Common.{Option, List, Some, sym, ◌∙◌, ap, subst}
+use Rattle.std.specs.Prelude.{IfSome, codes}
 use Rattle.std.specs.Str.{bytes_eq}
 use Rattle.std.proofs.lemmas.Result.{IfOk-weaker}
 use Rattle.lf_ast.specs.Labels.{Labels}

@@ -1,11 +1,11 @@
-use Rattle.std.proofs.Common.{◌≡◌, ◌<◌, ℕ, true, false, List, None, length, sym, subst}
+use Rattle.std.proofs.Common.{◌<◌, ℕ, true, false, List, length, sym, subst}
 use Rattle.std.specs.List.{Contains}
 use Rattle.std.proofs.lemmas.Result.{IfOk-weaker}
 use Rattle.lf_ast.specs.Labels.{Labels}
 use Rattle.lf_ast.specs.Rules.{rule_trees}
 use Rattle.lf_ast.specs.Tree.{tree}
 use Rattle.lf_ast.specs.declared.rule.Rule.{Rule}
-use Rattle.lf_strict.specs.Steps.{IsAnswerAfter, rules_at}
+use Rattle.lf_strict.specs.Steps.{rules_at}
 use Rattle.lf_strict.proofs.AfterRuns.{answer_after, none_after, stretch}
 use Rattle.lf_strict.proofs.running.strict_after.Goals as goal
 

@@ -1,11 +1,10 @@
-use Rattle.std.proofs.Common.{◌≡◌, ◌<◌, ℕ, Bool, true, false, List, Some, None, length, sym, subst}
+use Rattle.std.proofs.Common.{◌<◌, ℕ, true, false, List, Some, None, length, sym, subst}
 use Rattle.std.specs.List.{Contains}
 use Rattle.lf_ast.specs.Labels.{Labels}
 use Rattle.lf_ast.specs.Rules.{rule_trees}
 use Rattle.lf_ast.specs.declared.rule.Rule.{Rule}
 use Rattle.lf_witness.proofs.Answers.{one_run_answer}
 use Rattle.lf_strict.specs.Steps.{rules_at}
-use Rattle.lf_strict.specs.views.Running.{IsStretch}
 use Rattle.lf_strict.proofs.AfterRuns.{stretch}
 use Rattle.lf_strict.proofs.Runs.{run_answer, run_none, world_run}
 use Rattle.lf_strict.proofs.running.strict_run.Goals as goal

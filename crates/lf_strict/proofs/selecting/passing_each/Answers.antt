@@ -10,7 +10,7 @@ pub loop-matcher-preserved : goal.loop-matcher-preserved
 loop-matcher-preserved c =
     let W : List Labels = c.args.kept.items in
     c.in_ok-kept.ensures
-    ∙ ap (filter (passes_by c.matcher-item.result)) (c.as_slice.ensures.value ∙ c.loop-matcher.invariant)
+    ∙ ap (filter (passes_by c.matcher-item.result)) c.loop-matcher.invariant
     ∙ sym (passing_more c.args.matchers.now c.loop-matcher.matcher-index c.matcher-item.result W c.loop-matcher-test.true c.matcher-item.is)
 
 pub returns : goal.returns

@@ -3,9 +3,10 @@ use Rattle.std.specs.Prelude.{IfOk}
 use Rattle.std.specs.List.{filter}
 use Rattle.lf_ast.specs.Labels.{Bytes, Labels}
 use Rattle.lf_pattern.specs.Matching.{is_read, matches}
+use Rattle.lf_semantics.proofs.PatternFaults.{unread_is}
 use Rattle.lf_semantics.specs.Texts.{value_of}
 use Rattle.lf_strict.specs.views.Selected.{as_wanted}
-use Rattle.lf_strict.proofs.Selected.{none_kept, read, unread}
+use Rattle.lf_strict.proofs.Selected.{none_kept, read}
 use Rattle.lf_strict.proofs.selecting.tried.Goals as goal
 
 pub returns-in-Ok : goal.returns-in-Ok
@@ -21,5 +22,5 @@ pub returns-in-Err-BadPattern : goal.returns-in-Err-BadPattern
 returns-in-Err-BadPattern c =
     let m = c.args.matcher.now in
     let found : Labels → Bool = λ s. as_wanted c.args.wanted (matches m.value (value_of s m.label)) in
-    let fails = unread m.value (c.in-Err-BadPattern.ensures.bad c.in-Err-BadPattern.field-0-is) in
+    let fails = (unread_is m.value).1 (c.in-Err-BadPattern.ensures.bad c.in-Err-BadPattern.field-0-is) in
     c.new-in-Err-BadPattern.ensures.items ∙ sym (none_kept (λ s. is_read m.value && found s) c.args.samples.now (λ s. ap (λ b. b && found s) fails))

@@ -6,6 +6,7 @@ use Rattle.std.specs.Cmp.Lexicographic.{slice_cmp}
 use Rattle.std.specs.Str.{bytes_eq}
 use Rattle.std.specs.FinMap.{from_sorted, insert, put, remove}
 use Rattle.std.proofs.lemmas.List.{nil_from_length}
+use Rattle.std.proofs.lemmas.Result.{on_ok_weaker}
 use Rattle.lf_ast.specs.Labels.{Bytes, HasNoEmptyText, Labels}
 use Rattle.lf_ast.proofs.LabelSets.{IsInOrder, differs, full_text, put_has_texts, put_in_order, put_inserts, rest_has_texts, rest_in_order, rest_removes, tells_full}
 use Rattle.lf_ast.proofs.label_set.LabelSet.set.Goals as goal
@@ -39,15 +40,11 @@ invariant_of-self-else-len-eq0 c =
     either (λ new. IsInOrder new × HasNoEmptyText new) c.put.new.entries.items es (put (slice_cmp nat_cmp) n t es) c.put.result c.put.ensures.ok c.put.ensures.err
     (put_in_order n t es c.self.invariant.0, put_has_texts n t es full c.self.invariant.1) c.self.invariant
 
-on_ok : {X Y : Type 0} {P Q : Type 0} (r : Result X Y) → (P → Q) → OnOk r P → OnOk r Q
-on_ok (Ok x) f p = f p
-on_ok (Err x) f p = p
-
 pub returns-else-len-eq0-clause-ok : goal.returns-else-len-eq0-clause-ok
 returns-else-len-eq0-clause-ok c =
     let es = c.self.inside.entries.items in
     let n = c.args.name.now in
     let t = c.args.text.now in
     let full : bytes_eq t [] ≡ false = tells_full t (λ e. c.if-len-eq0.false (c.len.ensures ∙ e)) in
-    on_ok c.put.result (λ is. ap from_sorted is ∙ put_inserts n t es c.self.invariant.0 ∙ ap (λ (s : Labels). insert s n t) c.self.view_is
+    on_ok_weaker c.put.result (λ is. ap from_sorted is ∙ put_inserts n t es c.self.invariant.0 ∙ ap (λ (s : Labels). insert s n t) c.self.view_is
     ∙ sym (ap (λ b. cond b (remove c.args.self.now n) (insert c.args.self.now n t)) full)) c.put.ensures.ok

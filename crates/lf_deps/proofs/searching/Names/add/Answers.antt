@@ -1,12 +1,9 @@
-use Rattle.std.proofs.Common.{◌∷◌, [], List, OnOk, Result, Ok, Err, sym, ◌∙◌, ap, subst}
+use Rattle.std.proofs.Common.{◌∷◌, [], List, OnOk, sym, ◌∙◌, ap, subst}
+use Rattle.std.proofs.lemmas.Result.{on_ok_weaker}
 use Rattle.lf_ast.specs.Labels.{Bytes}
 use Rattle.lf_deps.specs.views.Search.{Grows, HasAll, chosen}
 use Rattle.lf_deps.proofs.Followed.{kept_in}
 use Rattle.lf_deps.proofs.searching.Names.add.Goals as goal
-
-on_ok : {X E : Type 0} (P Q : Type 0) (r : Result X E) → (P → Q) → OnOk r P → OnOk r Q
-on_ok P Q (Ok x) h p = h p
-on_ok P Q (Err e) h p = tt
 
 pub returns-in-Some-clause-grows : goal.returns-in-Some-clause-grows
 returns-in-Some-clause-grows c =
@@ -18,7 +15,7 @@ returns-in-Some-clause-all c =
     let name : List Bytes = c.in-Some.name ∷ [] in
     let old : List Bytes = c.args.self.now.texts in
     let new : List Bytes = c.add_text.new.texts in
-    on_ok (Grows name old new) (HasAll c.args.sources.now.names c.args.self.now.all new) c.add_text.result (λ g all n there. kept_in name old new g n (c.requires.all all n there)) c.add_text.ensures
+    on_ok_weaker {P = Grows name old new} {Q = HasAll c.args.sources.now.names c.args.self.now.all new} c.add_text.result (λ g all n there. kept_in name old new g n (c.requires.all all n there)) c.add_text.ensures
 
 pub returns-in-None-clause-grows : goal.returns-in-None-clause-grows
 returns-in-None-clause-grows c =

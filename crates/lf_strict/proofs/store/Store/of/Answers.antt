@@ -1,4 +1,4 @@
-use Rattle.std.proofs.Common.{◌++◌, [], List, ap₂, subst}
+use Rattle.std.proofs.Common.{◌++◌, List, ap₂, subst}
 use Rattle.lf_ast.specs.Labels.{Labels}
 use Rattle.lf_witness.specs.Strict.{AreSame}
 use Rattle.lf_strict.proofs.store.Store.of.Goals as goal
