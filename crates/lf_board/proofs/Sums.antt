@@ -1,5 +1,5 @@
 -- Sums over lists of which one element changes, and how often a number stands in a list.
-use Rattle.std.proofs.Common.{◌≡◌, ◌≢◌, ℕ, zero, suc, ◌+◌, ◌<◌, ◌≤◌, min, if◌then◌else◌, ◌==◌, List, [], ◌∷◌, ◌++◌, set, IsPermutation, refl, sym, ap, arith}
+use Rattle.std.proofs.Common.{◌≡◌, ◌≢◌, ℕ, zero, suc, ◌+◌, ◌<◌, ◌≤◌, min, Bool, false, if◌then◌else◌, ◌==◌, List, [], ◌∷◌, ◌++◌, set, IsPermutation, refl, sym, ap, arith}
 use Rattle.std.specs.List.{sum_by}
 use Rattle.std.proofs.lemmas.Grind.{common_steps}
 use Rattle.std.proofs.lemmas.List.Sums.{sum_by-cons, sum_by-append}
@@ -91,3 +91,7 @@ once_below-self n p h = grind (arith, common_steps)
 
 pub once_below_inside : (n x : ℕ) → x < n → once_below n x ≡ 1
 once_below_inside n x h = grind (arith, common_steps)
+
+-- what is shut has a claim that found nothing
+pub missed_some : (n : ℕ) (b : Bool) → b ≡ (n == 0) → b ≡ false → 0 < n
+missed_some n b is shut = grind (arith, common_steps)

@@ -1,10 +1,10 @@
 //! The parts of an expression that are to be built, with the texts that they get.
-ghost use Rattle.std.specs.Prelude.{◌≡◌, ◌∷◌, ◌+◌, [], Some, List, cond, not, slice_get, take, IfOk};
-ghost use Rattle.std.specs.List.{position_or_len, sum_by};
+ghost use Rattle.std.specs.Prelude.{◌≡◌, ◌∷◌, ◌+◌, [], Some, cond, not, slice_get, take, IfOk};
+ghost use Rattle.std.specs.List.{sum_by};
 ghost use Rattle.lf_ast.specs.Functions.{called_by};
 ghost use Rattle.lf_ast.specs.Tree.{Tree, list, parts_of, trees};
 ghost use Rattle.lf_semantics.specs.Grouped.{is_filter};
-ghost use Rattle.lf_semantics.specs.Parts.{is_scalar_part, takes_samples};
+ghost use Rattle.lf_semantics.specs.Parts.{is_scalar_part};
 ghost use Rattle.lf_semantics.specs.RowTable.{row_of};
 ghost use Rattle.lf_trials.specs.Given.{Given, holds_texts};
 ghost use Rattle.lf_candidates.specs.views.ClassTexts.{Stands};
@@ -20,9 +20,10 @@ use crate::sides::side_texts;
 use crate::spots::Spot;
 use crate::work::Parts;
 use lf_ast::walk::part_at;
-use lf_ast::{Expr, ExprType, Function, Grouping, Matching, Op, is_comparison};
+use lf_ast::{Expr, Function, Grouping, Matching, Op};
 use lf_base::Memory;
 use lf_candidates::LabelTexts;
+use lf_nodes::{is_filter, operand_place};
 
 impl<'a> Prepared<'a> {
     /// The parts of an expression, which is no selector, that are to be built where it is built from these texts, and none where there is no world.
@@ -244,33 +245,4 @@ impl<'a> Prepared<'a> {
         }
         place
     }
-}
-
-/// Which argument is the operand of a function that always takes these: the first that has samples, or else the first further one.
-fn operand_place(takes: &[ExprType]) -> usize
-    ensures { result ≡ position_or_len takes_samples takes.now }
-{
-    for (place, of) in takes.iter().enumerate() {
-        if takes_samples(*of) {
-            return place;
-        }
-    }
-    takes.len()
-}
-
-/// Whether an argument of this type has samples.
-fn takes_samples(of: ExprType) -> bool
-    ensures { result ≡ takes_samples of }
-{
-    match of {
-        ExprType::Vector | ExprType::Range => true,
-        ExprType::Scalar | ExprType::Str => false,
-    }
-}
-
-/// Whether the operator is a comparison without `bool`, which lets samples through as they are.
-fn is_filter(op: Op, matching: &Matching) -> bool
-    ensures { result ≡ is_filter op matching.now }
-{
-    is_comparison(op) && !matching.bool_mod
 }

@@ -1,13 +1,13 @@
 //! Which expressions are scalars.
 ghost use Rattle.std.specs.Prelude.{◌≡◌, ◌&&◌, ◌∷◌, [], Bool, length, map, IfOk};
-ghost use Rattle.lf_ast.specs.Functions.{function_named};
 ghost use Rattle.lf_ast.specs.Tree.{parts_of, tree, nodes};
 ghost use Rattle.lf_ast.specs.Types.{is_scalar};
-ghost use Rattle.lf_semantics.specs.Parts.{given_by, is_scalar_part};
+ghost use Rattle.lf_semantics.specs.Parts.{is_scalar_part};
 
 use lf_ast::walk::{Fold, Parts};
-use lf_ast::{Expr, Function, is_scalar};
+use lf_ast::{Expr, is_scalar};
 use lf_base::Memory;
+use lf_nodes::{gives_scalar, the_only};
 use lf_parts::fold_parts;
 use std::alloc::Global;
 
@@ -69,14 +69,6 @@ fn scalar_by(expr: &Expr, parts: Vec<bool>) -> bool
     }
 }
 
-/// The only one of these.
-fn the_only(mut parts: Vec<bool>) -> bool
-    requires { length parts.items ≡ 1 }
-    ensures { parts.items ≡ result ∷ [] }
-{
-    parts.pop().unwrap()
-}
-
 /// Whether both of two are true.
 fn are_both(mut sides: Vec<bool>) -> bool
     requires { length sides.items ≡ 2 }
@@ -85,14 +77,4 @@ fn are_both(mut sides: Vec<bool>) -> bool
     let right = sides.pop().unwrap();
     let left = sides.pop().unwrap();
     left && right
-}
-
-/// Whether a call of this name is a scalar.
-fn gives_scalar(name: &str) -> bool
-    ensures { result ≡ is_scalar (given_by (function_named name.now)) }
-{
-    match Function::named(name) {
-        Some(function) => is_scalar(function.gives),
-        None => false,
-    }
 }

@@ -12,8 +12,9 @@ ghost use Rattle.lf_built.specs.views.Sides.{AreSides};
 
 use lf_ast::{Matching, Op};
 use lf_base::{Memory, Text};
-use lf_candidates::{LabelTexts, drops, first_common_class, left_gives, right_gives, signs};
+use lf_candidates::{LabelTexts, drops, first_common_class, left_gives, right_gives};
 use lf_classes::{Row, Universe};
+use lf_nodes::signs;
 
 /// The texts that the left and the right side of a match get.
 #[derive(Drop)]

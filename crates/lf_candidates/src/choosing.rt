@@ -1,14 +1,13 @@
 //! Choices among labels: which labels an operand doesn't hand on, and which side of a match gives a label.
 ghost use Rattle.std.specs.Prelude.{◌≡◌, ◌&&◌, ◌||◌, not};
 ghost use Rattle.std.specs.Str.{bytes_eq};
-ghost use Rattle.lf_ast.specs.Types.{is_among, names_at};
-ghost use Rattle.lf_semantics.specs.Grouped.{is_arithmetic, is_grouped_by, is_metric, keeps, keeps_by, signs};
+ghost use Rattle.lf_ast.specs.Types.{is_among};
+ghost use Rattle.lf_semantics.specs.Grouped.{is_arithmetic, is_grouped_by, is_metric, keeps};
 ghost use Rattle.std.specs.List.{list_any};
 ghost use Rattle.lf_trials.specs.Sides.{drops, drops_last, left_gives, many_side_gives, one_side_gives, right_gives};
 
-use lf_ast::{
-    Group, Grouping, LabelChoice, Matching, Name, Op, RuleLabel, is_comparison, is_set_operator,
-};
+use lf_ast::{Group, Grouping, LabelChoice, Matching, Op, RuleLabel};
+use lf_nodes::{is_among, is_arithmetic, is_grouped_by, is_metric, keeps};
 
 /// The metric name.
 #[derive(Drop)]
@@ -84,76 +83,6 @@ fn sets_label(labels: &[RuleLabel], name: &str) -> bool
     ensures { result ≡ list_any (λ l. bytes_eq l.key name.now) labels.now }
 {
     labels.iter().any(|label| label.key.as_str() == name)
-}
-
-/// Whether an operator is arithmetic.
-pub fn is_arithmetic(op: Op) -> bool
-    ensures { result ≡ is_arithmetic op }
-{
-    !(is_comparison(op) || is_set_operator(op))
-}
-
-/// Whether a label is the metric name.
-pub fn is_metric(label: &str) -> bool
-    ensures { result ≡ is_metric label.now }
-{
-    label == "__name__"
-}
-
-/// Whether a label is one of a group: one of `by`, or none of `without` and not the metric name.
-pub fn is_grouped_by(grouping: &Grouping, label: &str) -> bool
-    ensures { result ≡ is_grouped_by grouping.now label.now }
-{
-    match grouping {
-        Grouping::None => false,
-        Grouping::By { labels } => is_among(labels.as_slice(), label),
-        Grouping::Without { labels } => !(is_among(labels.as_slice(), label) || is_metric(label)),
-    }
-}
-
-/// Whether a label is one of the signature: one of `on`, or else none of `ignoring` and not the metric name.
-pub fn signs(matching: &Matching, label: &str) -> bool
-    ensures { result ≡ signs matching.now label.now }
-{
-    match &matching.on {
-        Some(on) => is_among(on.as_slice(), label),
-        None => !(is_ignored(matching, label) || is_metric(label)),
-    }
-}
-
-/// Whether a label is one of `ignoring`.
-fn is_ignored(matching: &Matching, label: &str) -> bool
-    ensures { result ≡ is_among (names_at matching.now.ignoring) label.now }
-{
-    match &matching.ignoring {
-        Some(ignoring) => is_among(ignoring.as_slice(), label),
-        None => false,
-    }
-}
-
-/// Whether a label is one of these names.
-fn is_among(names: &[Name], label: &str) -> bool
-    ensures { result ≡ is_among names.now label.now }
-{
-    names.iter().any(|name| label == name.text.as_str())
-}
-
-/// Whether a match keeps a label of the left side one to one. Arithmetic and `bool` drop the metric name.
-fn keeps(op: Op, matching: &Matching, label: &str) -> bool
-    ensures { result ≡ keeps op matching.now label.now }
-{
-    let drops_name = is_arithmetic(op) || matching.bool_mod;
-    is_kept(matching, label) && !(drops_name && is_metric(label))
-}
-
-/// Whether `on` keeps a label, or `ignoring` doesn't drop it.
-fn is_kept(matching: &Matching, label: &str) -> bool
-    ensures { result ≡ keeps_by matching.now.on matching.now.ignoring label.now }
-{
-    match &matching.on {
-        Some(on) => is_among(on.as_slice(), label),
-        None => !is_ignored(matching, label),
-    }
 }
 
 /// Whether `bool` drops a label last.

@@ -11,8 +11,7 @@ mod trial;
 
 pub use candidates::{first_class, first_class_with, first_common_class, other_name};
 pub use choosing::{
-    MetricName, OneLabel, OutsideCount, OutsideGroup, SetByRule, drops, is_grouped_by, is_metric,
-    left_gives, right_gives, signs,
+    MetricName, OneLabel, OutsideCount, OutsideGroup, SetByRule, drops, left_gives, right_gives,
 };
 pub use given::LabelTexts;
 pub use labels::label_names;

@@ -1,7 +1,6 @@
 //! The names that scraped series may have.
-ghost use Rattle.std.specs.Prelude.{◌≡◌, ◌||◌, ◌&&◌, List, not, IfOk};
+ghost use Rattle.std.specs.Prelude.{◌≡◌, ◌||◌, ◌&&◌, List, IfOk};
 ghost use Rattle.std.specs.Option.{option_map};
-ghost use Rattle.std.specs.Str.{bytes_eq};
 ghost use Rattle.lf_ast.specs.Rules.{RuleTree};
 ghost use Rattle.lf_classes.specs.Limits.{IsWithin};
 ghost use Rattle.lf_semantics.specs.Environments.{recorded_names};
@@ -9,10 +8,10 @@ ghost use Rattle.lf_trials.specs.Names.{is_scraped_name, name_for, passes_as_nam
 ghost use Rattle.lf_trials.specs.Reached.{is_recorded};
 ghost use Rattle.lf_candidates.specs.views.ClassTexts.{IsClass, text_at};
 
-use crate::choosing::is_metric;
 use lf_ast::Matcher;
 use lf_base::{Memory, Text};
 use lf_classes::{TextSet, Universe, passes};
+use lf_nodes::is_metric;
 use std::alloc::Global;
 
 /// The number of the label `__name__`.

@@ -17,6 +17,7 @@ use lf_ast::{
     selected,
 };
 use lf_base::Memory;
+use lf_nodes::takes_samples;
 use lf_parts::{Copied, fold_parts};
 use std::alloc::Global;
 
@@ -188,14 +189,4 @@ fn any_counts(args: &[Condition]) -> bool
     ensures { result ≡ list_any counts args.now }
 {
     args.iter().any(|arg| arg.counts())
-}
-
-/// Whether an expression of this type has samples.
-fn takes_samples(of: ExprType) -> bool
-    ensures { result ≡ takes_samples of }
-{
-    match of {
-        ExprType::Vector | ExprType::Range => true,
-        ExprType::Scalar | ExprType::Str => false,
-    }
 }

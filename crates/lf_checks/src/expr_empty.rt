@@ -7,10 +7,10 @@ ghost use Rattle.lf_checks.specs.ExprEmpty.{IsFound};
 ghost use Rattle.lf_checks.specs.views.Shown.{ListsAlone};
 
 use crate::case::{Case, found_if};
-use crate::expr_type::is_evaluated;
 use lf_ast::{ExprType, Finding, Rule};
 use lf_base::Memory;
 use lf_classes::Row;
+use lf_nodes::is_rule_type;
 use std::alloc::Global;
 
 /// A rule that is a scalar or a vector, and whose row is empty. `form` is the type of its expression.
@@ -23,6 +23,6 @@ pub(crate) fn expr_empty(
     requires { form ≡ type_by_form (tree rule.now.expr) }
     ensures { IfOk result (λ found. ListsAlone (IsFound row.now (rule_tree rule.now)) found.items) }
 {
-    let is_found = is_evaluated(form) && row.is_empty();
+    let is_found = is_rule_type(form) && row.is_empty();
     found_if(alloc, is_found, Case::NoSample, rule.expr_span, "")
 }

@@ -2,13 +2,14 @@
 ghost use Rattle.std.specs.Prelude.{◌≡◌, IfOk};
 ghost use Rattle.lf_ast.specs.Rules.{rule_tree};
 ghost use Rattle.lf_ast.specs.Tree.{tree};
-ghost use Rattle.lf_semantics.specs.Parts.{is_evaluated, type_by_form};
+ghost use Rattle.lf_semantics.specs.Parts.{type_by_form};
 ghost use Rattle.lf_checks.specs.ExprType.{IsFound};
 ghost use Rattle.lf_checks.specs.views.Shown.{ListsAlone};
 
 use crate::case::{Case, found_if};
 use lf_ast::{ExprType, Finding, Rule};
 use lf_base::Memory;
+use lf_nodes::is_rule_type;
 use std::alloc::Global;
 
 /// A rule that is a string or a range vector. `form` is the type of its expression.
@@ -18,19 +19,9 @@ pub(crate) fn expr_type(alloc: Global, rule: &Rule, form: ExprType) -> Result<Ve
 {
     found_if(
         alloc,
-        !is_evaluated(form),
+        !is_rule_type(form),
         Case::WrongType,
         rule.expr_span,
         "",
     )
-}
-
-/// Whether a rule of this type is evaluated.
-pub(crate) fn is_evaluated(of: ExprType) -> bool
-    ensures { result ≡ is_evaluated of }
-{
-    match of {
-        ExprType::Scalar | ExprType::Vector => true,
-        ExprType::Str | ExprType::Range => false,
-    }
 }

@@ -7,6 +7,7 @@ mod NamePaths
 pub mod Numbered
 pub mod OrderLaws
 pub mod Ordered
+pub mod Outcomes
 mod Reached
 pub mod RuleTrees
 mod Settling

@@ -13,7 +13,7 @@ mod selecting;
 mod sources;
 
 pub use name_graph::NameGraph;
-pub use ordering::{order, order_of};
+pub use ordering::{order, order_of, rule_number};
 pub use reading::{apart, apart_of, cyclic, cyclic_of, reach, reach_of};
-pub use selecting::selectors;
+pub use selecting::{is_scalar_call, selectors};
 pub use sources::Sources;

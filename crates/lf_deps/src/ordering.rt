@@ -33,13 +33,13 @@ pub fn order_of(alloc: Global, sources: &Sources, rules: &Seq<Rule>) -> Result<S
     let mut order = Seq::new(alloc);
     for _place in 0..rules.len() {
         let next = queue.next(&links)?;
-        order.push(number(next)?)?;
+        order.push(rule_number(next)?)?;
     }
     Ok(order)
 }
 
-/// The number of a rule.
-fn number(rule: usize) -> Result<u32, Memory>
+/// The number of a rule, counted from 0. One that doesn't fit is answered like want of memory.
+pub fn rule_number(rule: usize) -> Result<u32, Memory>
     ensures { IfOk result (λ number. number ≡ rule) }
 {
     match u32::try_from(rule) {

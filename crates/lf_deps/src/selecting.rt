@@ -1,16 +1,15 @@
 //! What an expression selects.
 ghost use Rattle.std.specs.Prelude.{◌≡◌, ◌∷◌, ◌++◌, [], IfOk, OnOk};
-ghost use Rattle.lf_ast.specs.Functions.{function_named};
 ghost use Rattle.lf_ast.specs.Selectors.{selected_name};
 ghost use Rattle.lf_ast.specs.Tree.{tree};
 ghost use Rattle.lf_ast.specs.Types.{is_scalar};
-ghost use Rattle.lf_semantics.specs.Parts.{given_by};
 ghost use Rattle.lf_deps.specs.Reading.{selectors};
 ghost use Rattle.lf_deps.specs.views.Selecting.{is_scalar_call, own_selectors, parts_read};
 
 use lf_ast::walk::{Parts, Visitor, visit};
-use lf_ast::{Expr, Function, Matcher, is_scalar, selected_name};
+use lf_ast::{Expr, Matcher, is_scalar, selected_name};
 use lf_base::{Memory, Seq, Text};
+use lf_nodes::gives_scalar;
 use std::alloc::Global;
 
 /// The selectors of an expression: the name that each selects, or none where it says no name. Nothing within a scalar is looked at.
@@ -92,21 +91,11 @@ fn select(
 }
 
 /// Whether an expression is a call that is a scalar.
-fn is_scalar_call(expr: &Expr) -> bool
+pub fn is_scalar_call(expr: &Expr) -> bool
     ensures { result ≡ is_scalar_call (tree expr.now) }
 {
     match expr {
         Expr::Call { name, .. } => gives_scalar(name.as_str()),
         _ => false,
-    }
-}
-
-/// Whether a call of this name is a scalar.
-fn gives_scalar(name: &str) -> bool
-    ensures { result ≡ is_scalar (given_by (function_named name.now)) }
-{
-    match Function::named(name) {
-        Some(function) => is_scalar(function.gives),
-        None => false,
     }
 }

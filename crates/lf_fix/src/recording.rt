@@ -11,10 +11,11 @@ ghost use Rattle.lf_semantics.specs.Listing.{IsListing};
 ghost use Rattle.lf_semantics.specs.RowTable.{Environment, row_of};
 ghost use Rattle.lf_semantics.specs.Parts.{given_by, is_evaluated, type_by_form};
 
-use lf_ast::{Expr, ExprType, Function, Rule, RuleLabel};
+use lf_ast::{Expr, Function, Rule, RuleLabel};
 use lf_base::Memory;
 use lf_classes::{Row, Universe};
 use lf_flow::{Env, flow};
+use lf_nodes::is_rule_type;
 use std::alloc::Global;
 
 /// The row of a rule in an environment: that of its expression, and the empty row for a string or a range vector, of which nothing is recorded.
@@ -108,18 +109,8 @@ fn gives_samples(name: &str) -> bool
     ensures { result ≡ is_evaluated (given_by (function_named name.now)) }
 {
     match Function::named(name) {
-        Some(function) => is_sampled(function.gives),
+        Some(function) => is_rule_type(function.gives),
         None => true,
-    }
-}
-
-/// Whether a type is that of a scalar or a vector.
-fn is_sampled(of: ExprType) -> bool
-    ensures { result ≡ is_evaluated of }
-{
-    match of {
-        ExprType::Scalar | ExprType::Vector => true,
-        ExprType::Str | ExprType::Range => false,
     }
 }
 

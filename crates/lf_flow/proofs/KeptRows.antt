@@ -1,5 +1,5 @@
 -- What is kept of the parts of an expression has their rows.
-use Rattle.std.proofs.Common.{◌≡◌, ◌≤◌, ℕ, zero, suc, List, [], ◌∷◌, length, map, take, drop, Option, None, Some, refl, sym, ◌∙◌, ap, subst, arith}
+use Rattle.std.proofs.Common.{◌≡◌, ◌≤◌, ℕ, zero, suc, List, length, map, take, drop, Option, None, Some, refl, sym, ◌∙◌, ap, subst, arith}
 use Rattle.std.specs.Prelude.{option_to_list}
 use Rattle.std.proofs.lemmas.List.{length-map}
 use Rattle.lf_laws.proofs.Slices.{one_taken}
@@ -15,7 +15,8 @@ use Rattle.lf_semantics.specs.RowTable.{Environment, call_row, effect_row, row_a
 use Rattle.lf_semantics.proofs.RowLaws.{shape_bottom}
 use Rattle.lf_semantics.proofs.Soundness.{shape_of_row}
 use Rattle.lf_flow.specs.declared.given.Given.{Given}
-use Rattle.lf_flow.specs.views.Kept.{given_of, kept_row, made_row, operand_part, operand_row}
+use Rattle.lf_flow.specs.views.Kept.{given_of, kept_row, made_row, operand_row}
+use Rattle.lf_nodes.specs.views.Needed.{operand_part}
 
 module _ (u : Listing) (env : Environment) where
   -- the row that is kept of an expression is its own
@@ -36,15 +37,6 @@ module _ (u : Listing) (env : Environment) where
       subst P (sym (ap (λ (g : Given). made_row u g.row) is ∙ made_is e)) (shape_of_row u listing env environment e)
 
   -- the parts of an expression
-
-  pub only_is : (g : Given) (parts : List Given) (e : Tree) → parts ≡ g ∷ [] → parts ≡ given_of u env e ∷ [] → g ≡ given_of u env e
-  only_is g parts e is own = cc
-
-  pub left_is : (g h : Given) (parts : List Given) (left right : Tree) → parts ≡ g ∷ h ∷ [] → parts ≡ given_of u env left ∷ given_of u env right ∷ [] → g ≡ given_of u env left
-  left_is g h parts left right is own = cc
-
-  pub right_is : (g h : Given) (parts : List Given) (left right : Tree) → parts ≡ g ∷ h ∷ [] → parts ≡ given_of u env left ∷ given_of u env right ∷ [] → h ≡ given_of u env right
-  right_is g h parts left right is own = cc
 
   -- the operand among arguments
 

@@ -17,7 +17,8 @@ use Rattle.std.proofs.Math.Bool.{and-true, and-false, or-false}
 use Rattle.lf_semantics.specs.Listing.{IsListing, Listing, class_of, named_at, other_class}
 use Rattle.lf_semantics.specs.Passing.{is_plain}
 use Rattle.lf_semantics.specs.RowTable.{may_match, text_of}
-use Rattle.lf_semantics.proofs.Places.{eqb-other, symmetric}
+use Rattle.lf_semantics.proofs.Places.{eqb-other}
+use Rattle.lf_ast.proofs.LabelOrders.{symmetric}
 use Rattle.lf_flow.specs.views.ClassSets.{IsSet, is_listed}
 use Rattle.lf_flow.proofs.ClassSets.{eqb-turn}
 use Rattle.lf_flow.proofs.MatcherSets.{test_own}

@@ -1,5 +1,5 @@
 -- The classes that `absent` lets a label have, by the matchers on it.
-use Rattle.std.proofs.Common.{◌≡◌, ◌≢◌, ℕ, ◌+◌, ◌<◌, ◌≤◌, Bool, true, false, not, ◌&&◌, ◌||◌, cond, eqb, nat_lt, List, [], ◌∷◌, map, length, get_or, take, Option, Some, None, option_map, inl, inr, refl, sym, ◌∙◌, ap, subst, arith, length-set}
+use Rattle.std.proofs.Common.{◌≡◌, ◌≢◌, ℕ, ◌+◌, ◌<◌, ◌≤◌, Bool, true, false, not, ◌&&◌, ◌||◌, cond, eqb, nat_lt, List, [], ◌∷◌, map, length, get_or, take, Some, inl, inr, refl, sym, ◌∙◌, ap, subst, arith, length-set}
 use Rattle.std.specs.Prelude.{replicate}
 use Rattle.std.specs.List.{count_by, filter, list_any}
 use Rattle.std.proofs.Math.ListN.{set}
@@ -18,9 +18,8 @@ use Rattle.lf_semantics.specs.RowTable.{absent_row, bare_row, has_class, is_labe
 use Rattle.lf_semantics.specs.Strings.{absent_texts, equal_texts}
 use Rattle.lf_semantics.proofs.EffectsRepresent.{has_class_at}
 use Rattle.lf_semantics.proofs.Places.{eqb-other, place_le}
-use Rattle.lf_semantics.specs.Parts.{Sought}
 use Rattle.lf_classes.proofs.TextClasses.{none_set}
-use Rattle.lf_flow.specs.views.Absence.{AreCounts, also_bare, gives_class, is_class_sought, is_on_label, sought_text}
+use Rattle.lf_flow.specs.views.Absence.{AreCounts, gives_class, is_class_sought, is_on_label, sought_text}
 use Rattle.lf_flow.proofs.ClassSets.{eqb-turn, set_length}
 use Rattle.lf_flow.proofs.MadeRows.{HasSome, made, made_holds, made_kept, made_same, shape_made}
 
@@ -357,15 +356,3 @@ module _ (u : Listing) (ms : List Matcher) where
     certain_same found e told =
         made_same u (certain_below k) (certain_below (k + 1))
         (λ l c b. sym (step found told l c ∙ ap (λ t. cond (t && (eqb l k && eqb c 0)) false (certain_below k l c)) e))
-
--- which the sample may also lack, by what stands outside
-
-pub not_outside : (sought : Option Sought) → also_bare false sought ≡ sought
-not_outside None = refl
-not_outside (Some s) = refl
-
-pub in_parentheses : (outside : Bool) (sought : Option Sought) → also_bare true sought ≡ also_bare outside (option_map (λ s. record { matchers = s.matchers; may_be_bare = true }) sought)
-in_parentheses true None = refl
-in_parentheses false None = refl
-in_parentheses true (Some s) = refl
-in_parentheses false (Some s) = refl

@@ -1,62 +1,31 @@
 //! The row of `absent` and `absent_over_time`.
-ghost use Rattle.std.specs.Prelude.{◌≡◌, ◌<◌, ◌&&◌, ◌||◌, [], Some, eqb, not, true, is_some, length, IfOk, OnOk, slice_index_or};
-ghost use Rattle.lf_ast.specs.Tree.{tree, trees};
+ghost use Rattle.std.specs.Prelude.{◌≡◌, ◌<◌, ◌&&◌, [], Some, eqb, not, true, length, IfOk, OnOk, slice_index_or};
+ghost use Rattle.lf_ast.specs.Tree.{trees};
 ghost use Rattle.lf_semantics.specs.ClassRows.{top, replaced};
 ghost use Rattle.lf_semantics.specs.Listing.{Listing};
-ghost use Rattle.lf_semantics.specs.Parts.{sought_by, sought_in};
+ghost use Rattle.lf_semantics.specs.Parts.{sought_in};
 ghost use Rattle.lf_semantics.specs.RowTable.{absent_row, bare_row, has_class};
 ghost use Rattle.lf_flow.specs.views.Absence.{AreCounts, is_class_sought, sought_text};
 
 use crate::effects::bare;
-use lf_ast::{Expr, MatchOp, Matcher, Sight};
+use lf_ast::{Expr, MatchOp, Matcher};
 use lf_base::Memory;
 use lf_classes::{Row, Universe};
+use lf_nodes::sought_in;
 use std::alloc::Global;
 
 /// The row of the sample that is given where nothing was found: of a selector the texts that its matchers let each label take, and of any other argument no label.
 pub fn absent(alloc: Global, universe: &Universe, args: &[Expr]) -> Result<Row, Memory>
     ensures { IfOk result (λ row. row ≡ absent_row universe.now (sought_in (trees args.now))) }
 {
-    match args.get(0) {
-        Some(expr) => absent_of(alloc, universe, expr),
+    match sought_in(args) {
+        Some(sought) => sought_row(alloc, universe, sought.matchers, sought.may_be_bare),
         None => bare(alloc, universe),
     }
 }
 
-/// The row by one argument. The sample may also have no label where the selector stands in parentheses or has an `@`.
-fn absent_of(alloc: Global, universe: &Universe, expr: &Expr) -> Result<Row, Memory>
-    ensures { IfOk result (λ row. row ≡ absent_row universe.now (sought_by (tree expr.now))) }
-{
-    let mut inner = expr;
-    let mut outside = false;
-    loop {
-        match inner {
-            Expr::Selector {
-                matchers,
-                sight,
-                ..
-            } => {
-                let may_be_bare = may_be_bare(outside, sight);
-                return sought(alloc, universe, matchers.as_slice(), may_be_bare);
-            }
-            Expr::Paren { of, .. } => {
-                inner = of;
-                outside = true;
-            }
-            _ => return bare(alloc, universe),
-        }
-    }
-}
-
-/// Whether the sample may have no label, by what stands outside of the selector and by its `@`.
-fn may_be_bare(outside: bool, sight: &Sight) -> bool
-    ensures { result ≡ (outside || is_some sight.now.at) }
-{
-    outside || sight.at.is_some()
-}
-
 /// The row of what a selector with these matchers looks for. A label on which one matcher alone stands, which gives a text, is lacked only where the sample may be bare.
-fn sought(
+fn sought_row(
     alloc: Global,
     universe: &Universe,
     matchers: &[Matcher],

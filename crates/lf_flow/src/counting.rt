@@ -8,9 +8,10 @@ ghost use Rattle.lf_semantics.specs.RowTable.{counted_row};
 ghost use Rattle.lf_ast.specs.Types.{is_among};
 
 use crate::grouping::group;
-use lf_ast::{Expr, Grouping, Name, text_at};
+use lf_ast::{Expr, Grouping, text_at};
 use lf_base::Memory;
 use lf_classes::{Row, Universe};
+use lf_nodes::is_among;
 use std::alloc::Global;
 
 /// Makes the row of the operand that of `count_values`: grouped, and then the label that the first argument names has every text, and none only where it may be lacked.
@@ -40,11 +41,4 @@ fn may_be_lacked(grouping: &Grouping, label: &str) -> bool
         Grouping::Without { labels } => is_among(labels.as_slice(), label) || label == "__name__",
         _ => false,
     }
-}
-
-/// Whether one of the names is this text.
-fn is_among(names: &[Name], text: &str) -> bool
-    ensures { result ≡ is_among names.now text.now }
-{
-    names.iter().any(|name| text == name.text.as_str())
 }

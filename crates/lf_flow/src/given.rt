@@ -1,6 +1,5 @@
 //! What is told of an expression at once: its row and its type.
-ghost use Rattle.std.specs.Prelude.{◌≡◌, ◌≤◌, ◌∷◌, [], None, Some, length, option_to_list, IfOk};
-ghost use Rattle.std.specs.List.{position_or_len};
+ghost use Rattle.std.specs.Prelude.{◌≡◌, None, Some, IfOk};
 ghost use Rattle.std.specs.Option.{option_map};
 ghost use Rattle.lf_ast.specs.Functions.{signature_of};
 ghost use Rattle.lf_ast.specs.Tree.{trees};
@@ -8,7 +7,7 @@ ghost use Rattle.lf_ast.specs.Types.{is_scalar, joined, selected};
 ghost use Rattle.lf_semantics.specs.ClassRows.{HasShape, bottom};
 ghost use Rattle.lf_semantics.specs.Environments.{IsEnvironment};
 ghost use Rattle.lf_semantics.specs.Listing.{IsListing};
-ghost use Rattle.lf_semantics.specs.Parts.{given_by, takes_samples};
+ghost use Rattle.lf_semantics.specs.Parts.{given_by};
 ghost use Rattle.lf_semantics.specs.RowTable.{binary_row, call_row, selector_row, sign_row};
 ghost use Rattle.lf_flow.specs.views.Kept.{made_row, operand_row};
 
@@ -54,36 +53,6 @@ impl Copied for Given {
             form: self.form,
         })
     }
-}
-
-/// The only one of these.
-pub fn the_only(mut parts: Vec<Given>) -> Given
-    requires { length parts.items ≡ 1 }
-    ensures { parts.items ≡ result ∷ [] }
-{
-    parts.pop().unwrap()
-}
-
-/// The only one of these, if there is one.
-pub fn operand(parts: Vec<Given>) -> Option<Given>
-    requires { length parts.items ≤ 1 }
-    ensures { parts.items ≡ option_to_list result }
-{
-    if parts.is_empty() {
-        None
-    } else {
-        Some(the_only(parts))
-    }
-}
-
-/// The two of these.
-pub fn both(mut parts: Vec<Given>) -> (Given, Given)
-    requires { length parts.items ≡ 2 }
-    ensures { parts.items ≡ result.0 ∷ result.1 ∷ [] }
-{
-    let right = parts.pop().unwrap();
-    let left = parts.pop().unwrap();
-    (left, right)
 }
 
 /// A number.
@@ -195,28 +164,6 @@ pub fn binary(
         row: Some(row),
         form,
     })
-}
-
-/// Which argument is the operand of a function that always takes these: the first that has samples, or else the first further one.
-pub fn operand_place(takes: &[ExprType]) -> usize
-    ensures { result ≡ position_or_len takes_samples takes.now }
-{
-    for (place, of) in takes.iter().enumerate() {
-        if takes_samples(*of) {
-            return place;
-        }
-    }
-    takes.len()
-}
-
-/// Whether an argument of this type has samples.
-fn takes_samples(of: ExprType) -> bool
-    ensures { result ≡ takes_samples of }
-{
-    match of {
-        ExprType::Vector | ExprType::Range => true,
-        ExprType::Scalar | ExprType::Str => false,
-    }
 }
 
 /// A call of a function with this operand, if it has one. A call of no function gives no sample.

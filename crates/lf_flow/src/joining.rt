@@ -1,5 +1,5 @@
 //! The row of `label_join`.
-ghost use Rattle.std.specs.Prelude.{◌≡◌, ◌<◌, eqb, not, true, cond, length, map, drop, IfOk, OnOk};
+ghost use Rattle.std.specs.Prelude.{◌≡◌, ◌<◌, eqb, not, true, cond, IfOk, OnOk};
 ghost use Rattle.std.specs.List.{list_all, list_any};
 ghost use Rattle.lf_semantics.specs.ClassRows.{HasShape};
 ghost use Rattle.lf_ast.specs.Tree.{trees};
@@ -11,6 +11,7 @@ ghost use Rattle.lf_flow.specs.views.ClassSets.{IsSet};
 use lf_ast::{Expr, text_at, text_of};
 use lf_base::Memory;
 use lf_classes::{Row, Universe};
+use lf_nodes::joined_sources;
 use std::alloc::Global;
 
 /// Makes the row of the operand that of `label_join`, whose arguments these are.
@@ -42,7 +43,7 @@ fn joined(
     requires shape { HasShape universe.now row.now }
     ensures { IfOk result (λ on. IsSet count (is_join universe.now (joining (texts_of (trees args.now))) row.now) on.items) }
 {
-    let sources = sources(args);
+    let sources = joined_sources(args);
     if shows(args) {
         return texts(alloc, count, false, true);
     }
@@ -61,13 +62,6 @@ fn texts(alloc: Global, count: u32, empty: bool, some: bool) -> Result<Vec<bool>
         on.push(if class == 0 { empty } else { some })?;
     }
     Ok(on)
-}
-
-/// The arguments that name the sources.
-fn sources(args: &[Expr]) -> &[Expr]
-    ensures { result.now ≡ drop 3 args.now }
-{
-    &args[args.len().min(3)..]
 }
 
 /// Whether there is a separator between two sources.

@@ -13,7 +13,6 @@ mod labels;
 mod matching;
 mod narrowing;
 mod operating;
-mod operators;
 mod parts;
 mod patterns;
 mod reading;

@@ -5,10 +5,10 @@ ghost use Rattle.lf_semantics.specs.RowTable.{combined_row, keeps_label, keeps_l
 ghost use Rattle.lf_flow.specs.views.Chosen.{Chooses};
 
 use crate::labels::Labels;
-use crate::operators::is_arithmetic;
 use lf_ast::{Group, Matching, Name, Op};
 use lf_base::{Memory, Seq};
 use lf_classes::{Row, Universe};
+use lf_nodes::is_arithmetic;
 use std::alloc::Global;
 
 /// The row of an operator between two vectors, whose rows these are.

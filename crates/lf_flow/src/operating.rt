@@ -9,10 +9,10 @@ ghost use Rattle.lf_flow.specs.views.Kept.{made_row};
 use crate::effects::{bare, nameless};
 use crate::given::Given;
 use crate::matching::combine;
-use crate::operators::is_filter;
 use lf_ast::{Matching, Op, is_scalar};
 use lf_base::Memory;
 use lf_classes::{Row, Universe};
+use lf_nodes::is_filter;
 use std::alloc::Global;
 
 /// The row of an operator. The row of a scalar isn't looked at.

@@ -13,17 +13,16 @@ ghost use Rattle.lf_semantics.specs.Laws.{GrowsFrom};
 ghost use Rattle.lf_semantics.specs.Listing.{IsListing};
 ghost use Rattle.lf_semantics.specs.Parts.{type_by_form};
 ghost use Rattle.lf_semantics.specs.RowTable.{row_of};
-ghost use Rattle.lf_flow.specs.views.Kept.{given_of, kept_row, operand_part, parts_needed};
+ghost use Rattle.lf_flow.specs.views.Kept.{given_of, kept_row};
+ghost use Rattle.lf_nodes.specs.views.Needed.{parts_needed};
 
 use crate::Env;
-use crate::given::{
-    Given, binary, both, called, empty, number, operand, operand_place, ranged, selector, signed,
-    the_only, whole,
-};
+use crate::given::{Given, binary, called, empty, number, ranged, selector, signed, whole};
 use lf_ast::walk::{Fold, Parts, fold_up};
 use lf_ast::{Expr, ExprType, Function, Grouping};
 use lf_base::Memory;
 use lf_classes::{Row, Universe};
+use lf_nodes::{at_most_one, both, parts_needed, the_only};
 use std::alloc::Global;
 use std::marker::Model;
 
@@ -80,7 +79,8 @@ impl<'a> Fold for Rows<'a> {
     ghost use Rattle.std.specs.Prelude.{◌≡◌};
     ghost use Rattle.std.specs.Option.{option_map};
     ghost use Rattle.lf_ast.specs.Functions.{called_by, signature_of};
-    ghost use Rattle.lf_flow.specs.views.Kept.{given_of, parts_needed};
+    ghost use Rattle.lf_flow.specs.views.Kept.{given_of};
+    ghost use Rattle.lf_nodes.specs.views.Needed.{parts_needed};
 
     ghost value = { λ rows e. given_of rows.0 rows.1 e };
 
@@ -105,35 +105,6 @@ impl<'a> Fold for Rows<'a> {
         ensures { IfOk result (λ made. made ≡ given_of self.now.0 self.now.1 (tree expr.now)) }
     {
         given(alloc, self.universe, self.env, expr, function, values)
-    }
-}
-
-/// The parts that the row of an expression is made of, which calls this function, if any: of arguments only the operand.
-fn parts_needed(expr: &Expr, function: &Option<Function>) -> Parts
-    requires { option_map signature_of function.now ≡ called_by (tree expr.now) }
-    ensures { result ≡ parts_needed (tree expr.now) }
-{
-    match expr {
-        Expr::Call { .. } | Expr::Aggregate { .. } => operand_part(function),
-        Expr::Number { .. }
-        | Expr::Str { .. }
-        | Expr::Selector { .. }
-        | Expr::Subquery { .. }
-        | Expr::Paren { .. }
-        | Expr::Unary { .. }
-        | Expr::Binary { .. } => Parts::All,
-    }
-}
-
-/// The operand of a function among its arguments, and nothing where there is no function.
-fn operand_part(function: &Option<Function>) -> Parts
-    ensures { result ≡ operand_part (option_map signature_of function.now) }
-{
-    match function {
-        Some(function) => Parts::Only {
-            place: operand_place(function.takes),
-        },
-        None => Parts::Nothing,
     }
 }
 
@@ -182,7 +153,7 @@ fn given(
             function,
             &Grouping::None,
             args.as_slice(),
-            operand(parts),
+            at_most_one(parts),
         ),
         Expr::Aggregate { grouping, args, .. } => called(
             alloc,
@@ -190,7 +161,7 @@ fn given(
             function,
             grouping,
             args.as_slice(),
-            operand(parts),
+            at_most_one(parts),
         ),
     }
 }

@@ -1,18 +1,17 @@
 //! Which expressions hold a fork.
 ghost use Rattle.std.specs.Prelude.{◌≡◌, ◌∷◌, [], length, map, IfOk};
 ghost use Rattle.std.specs.List.{list_any};
-ghost use Rattle.lf_ast.specs.Functions.{function_named};
 ghost use Rattle.lf_ast.specs.Tree.{parts_of, tree, nodes};
 ghost use Rattle.lf_ast.specs.Types.{is_scalar};
-ghost use Rattle.lf_semantics.specs.Parts.{given_by};
 ghost use Rattle.lf_trials.specs.Forks.{is_or};
 ghost use Rattle.lf_forks.specs.views.ForkTests.{has_passing};
 ghost use Rattle.lf_forks.specs.views.Holding.{beside, called, holds, test_of};
 
 use crate::forks::Forks;
 use lf_ast::walk::{Fold, Parts, fold_up};
-use lf_ast::{Expr, Function, Op, is_scalar, selected_name};
+use lf_ast::{Expr, Op, is_scalar, selected_name};
 use lf_base::Memory;
+use lf_nodes::{gives_scalar, the_only};
 use lf_parts::{Copied, fold_parts};
 use std::alloc::Global;
 use std::marker::Model;
@@ -163,30 +162,12 @@ fn any_found(parts: &[Held]) -> bool
     parts.iter().any(|held| held.found)
 }
 
-/// The only one of these.
-fn the_only(mut parts: Vec<Held>) -> Held
-    requires { length parts.items ≡ 1 }
-    ensures { parts.items ≡ result ∷ [] }
-{
-    parts.pop().unwrap()
-}
-
 /// Whether the operator is `or`.
-fn is_or(op: Op) -> bool
+pub fn is_or(op: Op) -> bool
     ensures { result ≡ is_or op }
 {
     match op {
         Op::Or => true,
         _ => false,
-    }
-}
-
-/// Whether a call of this name is a scalar.
-fn gives_scalar(name: &str) -> bool
-    ensures { result ≡ is_scalar (given_by (function_named name.now)) }
-{
-    match Function::named(name) {
-        Some(function) => is_scalar(function.gives),
-        None => false,
     }
 }

@@ -93,7 +93,7 @@ fn put_named(names: &TextSet, name: &Text, place: usize, uses: &mut Buckets) -> 
 }
 
 /// Each of these lists.
-fn lists_of(alloc: Global, buckets: &Buckets) -> Result<Seq<Seq<usize>>, Memory>
+pub fn lists_of(alloc: Global, buckets: &Buckets) -> Result<Seq<Seq<usize>>, Memory>
     ensures { IfOk result (λ lists. lists ≡ buckets.now) }
 {
     let mut lists = Seq::new(alloc);

@@ -21,5 +21,5 @@ pub mod Settled
 pub mod StandingParts
 pub mod ToldLaws
 pub mod Unread
-mod WorkedConstructs
+pub mod WorkedConstructs
 mod WorkedLists

@@ -66,7 +66,7 @@ abbrev HoldsNoSource : Tree → Type 0
 HoldsNoSource e = has_own_source e ≡ false
 
 -- what is no call has no effect
-is_no_effect : {effect : LabelEffect} → None ≡ Some effect → ⊥
+pub is_no_effect : {effect : LabelEffect} → None ≡ Some effect → ⊥
 is_no_effect e = true≢false (sym (ap (λ (o : Option LabelEffect). elim o [ None ↦ false | Some z ↦ true ]) e))
 
 -- it stands at the expression itself

@@ -11,7 +11,6 @@ use Rattle.lf_ast.specs.Tree.{Tree, Binary, Paren}
 use Rattle.lf_ast.specs.declared.expr.MatchOp.TheVariants.{Matches}
 use Rattle.lf_ast.specs.declared.expr.Matcher.{Matcher}
 use Rattle.lf_ast.specs.declared.expr.Op.TheVariants.{Divide, Greater, Unless}
-use Rattle.lf_ast.specs.declared.functions.LabelEffect.{LabelEffect}
 use Rattle.lf_deps.specs.Ordering.{without}
 use Rattle.lf_deps.specs.Reading.Reads.{selected}
 use Rattle.lf_pattern.specs.Plain.{is_escapable, is_special}
@@ -20,6 +19,7 @@ use Rattle.std.specs.Char.{encode_utf8}
 use Rattle.std.specs.Str.{chars}
 use Rattle.lf_semantics.proofs.Written.{call, number, over_time, place_at, record_rule, selector, sum_by, unmodified}
 use Rattle.lf_trials.specs.Forks.{HoldsFork, has_own_fork}
+use Rattle.lf_open.proofs.WorkedConstructs.{is_no_effect}
 use Rattle.lf_open.specs.Constructs.{IsOpenAt}
 use Rattle.lf_open.specs.Holding.{CannotBeSilent, has_own_source}
 use Rattle.lf_open.specs.OpenList.{AreOpen, AreOpenOf, IsOpenIn, IsOpenOf, open_cmp}
@@ -89,22 +89,19 @@ at_unless = record { construct = SharedMetric; rule = 0; span = place_at 15 }
 abbrev Is : Construct → Span → Type 0
 Is construct span = (construct ≡ SharedMetric) × (span ≡ place_at 15)
 
-no_effect : {effect : LabelEffect} → None ≡ Some effect → ⊥
-no_effect e = true≢false (sym (ap (λ (o : Option LabelEffect). elim o [ None ↦ false | Some z ↦ true ]) e))
-
 of_operator : (construct : Construct) (span : Span) → IsOpenAt rules construct without_above span → Is construct span
 of_operator SharedMetric span h = (refl, h.1)
 of_operator UnnamedSelector span h = absurd h.0
 of_operator ComplexPattern span h = absurd h.1.0
-of_operator MadeLabel span h = elim h.0 [ inl e ↦ absurd (no_effect e) | inr (inl e) ↦ absurd (no_effect e) | inr (inr e) ↦ absurd (no_effect e) ]
+of_operator MadeLabel span h = elim h.0 [ inl e ↦ absurd (is_no_effect e) | inr (inl e) ↦ absurd (is_no_effect e) | inr (inr e) ↦ absurd (is_no_effect e) ]
 of_operator Forked span (inl h, e) = elim h.2 [ inl l ↦ absurd (no_fork foo scraped_foo refl l) | inr r ↦ absurd (no_fork (Paren above (place_at 22)) scraped_paren refl r) ]
-of_operator Forked span (inr (inl h), e) = absurd (no_effect h.0)
+of_operator Forked span (inr (inl h), e) = absurd (is_no_effect h.0)
 of_operator Forked span (inr (inr (inl h)), e) = absurd h.0.1
 of_operator Forked span (inr (inr (inr h)), e) = absurd h
 of_operator LoudUnless span h = absurd (no_source (Paren above (place_at 22)) scraped_paren refl h.0.1)
 of_operator CyclicName span h = absurd h.0.1
-of_operator NamedBucket span h = absurd (no_effect h.0.0)
-of_operator OpenAbsent span h = absurd (no_effect h.0.0)
+of_operator NamedBucket span h = absurd (is_no_effect h.0.0)
+of_operator OpenAbsent span h = absurd (is_no_effect h.0.0)
 
 some_name : {name : Bytes} → Some name ≡ None → ⊥
 some_name e = true≢false (ap (λ (o : Option Bytes). elim o [ None ↦ false | Some z ↦ true ]) e)
@@ -113,46 +110,46 @@ of_foo : (construct : Construct) (span : Span) → IsOpenAt rules construct foo 
 of_foo SharedMetric span h = h.0
 of_foo UnnamedSelector span h = some_name h.0
 of_foo ComplexPattern span h = none_in h.0 h.1.0
-of_foo MadeLabel span h = elim h.0 [ inl e ↦ no_effect e | inr (inl e) ↦ no_effect e | inr (inr e) ↦ no_effect e ]
+of_foo MadeLabel span h = elim h.0 [ inl e ↦ is_no_effect e | inr (inl e) ↦ is_no_effect e | inr (inr e) ↦ is_no_effect e ]
 of_foo Forked span (inl h, e) = h
-of_foo Forked span (inr (inl h), e) = no_effect h.0
+of_foo Forked span (inr (inl h), e) = is_no_effect h.0
 of_foo Forked span (inr (inr (inl h)), e) = none_in h.0.0 h.0.1
 of_foo Forked span (inr (inr (inr h)), e) = h
 of_foo LoudUnless span h = h.0
 of_foo CyclicName span ((name, says, (r, there, records, reads)), e) =
     let is : codes "foo" ≡ name = ap (λ (o : Option Bytes). elim o [ None ↦ codes "foo" | Some z ↦ z ]) says in
     true≢false (sym (same_true (codes "r:r") (codes "foo") (ap (λ (z : RuleTree). z.name) (only_one one_rule r there) ∙ records.1 ∙ sym is)))
-of_foo NamedBucket span h = no_effect h.0.0
-of_foo OpenAbsent span h = no_effect h.0.0
+of_foo NamedBucket span h = is_no_effect h.0.0
+of_foo OpenAbsent span h = is_no_effect h.0.0
 
 of_paren : (construct : Construct) (span : Span) → IsOpenAt rules construct (Paren above (place_at 22)) span → ⊥
 of_paren SharedMetric span h = h.0
 of_paren UnnamedSelector span h = h.0
 of_paren ComplexPattern span h = h.1.0
-of_paren MadeLabel span h = elim h.0 [ inl e ↦ no_effect e | inr (inl e) ↦ no_effect e | inr (inr e) ↦ no_effect e ]
+of_paren MadeLabel span h = elim h.0 [ inl e ↦ is_no_effect e | inr (inl e) ↦ is_no_effect e | inr (inr e) ↦ is_no_effect e ]
 of_paren Forked span (inl h, e) = h
-of_paren Forked span (inr (inl h), e) = no_effect h.0
+of_paren Forked span (inr (inl h), e) = is_no_effect h.0
 of_paren Forked span (inr (inr (inl h)), e) = h.0.1
 of_paren Forked span (inr (inr (inr h)), e) = h
 of_paren LoudUnless span h = h.0
 of_paren CyclicName span h = h.0.1
-of_paren NamedBucket span h = no_effect h.0.0
-of_paren OpenAbsent span h = no_effect h.0.0
+of_paren NamedBucket span h = is_no_effect h.0.0
+of_paren OpenAbsent span h = is_no_effect h.0.0
 
 -- beside a scalar nothing is matched
 of_above : (construct : Construct) (span : Span) → IsOpenAt rules construct above span → ⊥
 of_above SharedMetric span h = true≢false h.0.0.1
 of_above UnnamedSelector span h = h.0
 of_above ComplexPattern span h = h.1.0
-of_above MadeLabel span h = elim h.0 [ inl e ↦ no_effect e | inr (inl e) ↦ no_effect e | inr (inr e) ↦ no_effect e ]
+of_above MadeLabel span h = elim h.0 [ inl e ↦ is_no_effect e | inr (inl e) ↦ is_no_effect e | inr (inr e) ↦ is_no_effect e ]
 of_above Forked span (inl h, e) = true≢false h.1.1
-of_above Forked span (inr (inl h), e) = no_effect h.0
+of_above Forked span (inr (inl h), e) = is_no_effect h.0
 of_above Forked span (inr (inr (inl h)), e) = h.0.1
 of_above Forked span (inr (inr (inr h)), e) = h
 of_above LoudUnless span h = h.0
 of_above CyclicName span h = h.0.1
-of_above NamedBucket span h = no_effect h.0.0
-of_above OpenAbsent span h = no_effect h.0.0
+of_above NamedBucket span h = is_no_effect h.0.0
+of_above OpenAbsent span h = is_no_effect h.0.0
 
 stands : IsOpenOf rules 0 at_unless
 stands = (refl, (one_rule, refl, (without_above, here without_above (foo ∷ Paren above (place_at 22) ∷ above ∷ foo ∷ []), (((refl, refl), λ apart. apart (codes "foo") (selected (inl (here (Some (codes "foo")) []))) (selected (inl (here (Some (codes "foo")) [])))), refl))))

@@ -9,7 +9,7 @@ ghost use Rattle.lf_open.specs.views.Choosing.{ArePassing, TellsRead};
 ghost use Rattle.lf_open.specs.views.Marks.{AreChosenBy};
 
 use lf_base::Memory;
-use lf_deps::{NameGraph, Sources, reach_of};
+use lf_deps::{NameGraph, Sources, reach_of, rule_number};
 use std::alloc::Global;
 
 /// For each rule whether it passes, or reads one that does, by whether each passes. It takes as long as the rules' reaches are.
@@ -53,7 +53,7 @@ fn reads_passing(
     requires rule { rule < length sources.now.selected }
     ensures { IfOk result (λ reads. (rules : List RuleTree) (of_rule : RuleTree → Bool) → IsSourcesOf rules sources.now → ArePassing rules of_rule passing.now → TellsRead rules of_rule rule reads) }
 {
-    let reach = reach_of(alloc, sources, graph, number(rule)?)?;
+    let reach = reach_of(alloc, sources, graph, rule_number(rule)?)?;
     Ok(any_passing(passing, reach.as_slice()))
 }
 
@@ -70,14 +70,4 @@ fn passes(passing: &[bool], number: u32) -> bool
 {
     let place = number as usize;
     place < passing.len() && passing[place]
-}
-
-/// The number of a rule. One that doesn't fit is answered like want of memory.
-pub(crate) fn number(rule: usize) -> Result<u32, Memory>
-    ensures { IfOk result (λ number. number ≡ rule) }
-{
-    match u32::try_from(rule) {
-        Ok(number) => Ok(number),
-        Err(_) => Err(Memory),
-    }
 }

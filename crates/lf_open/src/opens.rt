@@ -1,5 +1,5 @@
 //! What stands open in rules, for each rule and for all that it reads.
-ghost use Rattle.std.specs.Prelude.{◌≡◌, ◌<◌, ◌++◌, ◌∷◌, [], ℕ, length, List, IfOk, OnOk};
+ghost use Rattle.std.specs.Prelude.{◌≡◌, ◌<◌, ◌∷◌, [], ℕ, length, List, IfOk, OnOk};
 ghost use Rattle.std.specs.List.{Contains};
 ghost use Rattle.lf_ast.specs.Rules.{RuleTree, rule_trees};
 ghost use Rattle.lf_deps.specs.Ordering.{without};
@@ -8,7 +8,6 @@ ghost use Rattle.lf_open.specs.views.Known.{IsKnown, rules_of};
 ghost use Rattle.lf_open.specs.views.Opens.{AreMarked, AreOpens, AreReads, AreReady, IsListOf, rules_at};
 
 use crate::adding::push_all;
-use crate::choosing::number;
 use crate::known::Known;
 use crate::marks::Marks;
 use crate::nodes::open_in;
@@ -18,7 +17,7 @@ use crate::read_graph::ReadGraph;
 use crate::reading::{le_marks, loud_marks};
 use lf_ast::Rule;
 use lf_base::{Memory, Seq};
-use lf_deps::{NameGraph, Sources, reach_of};
+use lf_deps::{NameGraph, Sources, reach_of, rule_number};
 use lf_forks::Forks;
 use std::alloc::Global;
 
@@ -167,7 +166,7 @@ pub(crate) fn own_list(known: &Known<'_>, alloc: Global, k: usize) -> Result<Seq
     requires rule { k < length known.now.rules.now }
     ensures { IfOk result (AreOpenOf (rules_of known.now) k) }
 {
-    let rule = number(k)?;
+    let rule = rule_number(k)?;
     let selected = known.sources.selected_by(k);
     let found = open_in(known, alloc, rule, selected, &known.rules.get(k).expr)?;
     let sorted = in_order(alloc, found)?;

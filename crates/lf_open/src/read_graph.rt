@@ -12,6 +12,7 @@ use lf_ast::Rule;
 use lf_base::{Memory, Seq, Text};
 use lf_classes::{TextSet, recorded_names};
 use lf_deps::Sources;
+use lf_forks::lists_of;
 use lf_graph::{Buckets, Components};
 use std::alloc::Global;
 use std::marker::Model;
@@ -191,15 +192,4 @@ fn node_of(names: &TextSet, selector: &Option<Text>) -> usize
         Some(name) => names.place(name.as_str()),
         None => names.len(),
     }
-}
-
-/// Each of these lists.
-fn lists_of(alloc: Global, buckets: &Buckets) -> Result<Seq<Seq<usize>>, Memory>
-    ensures { IfOk result (λ lists. lists ≡ buckets.now) }
-{
-    let mut lists = Seq::new(alloc);
-    for k in 0..buckets.len() {
-        lists.push(Seq::of(alloc, buckets.at(k))?)?;
-    }
-    Ok(lists)
 }

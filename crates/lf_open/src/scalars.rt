@@ -1,15 +1,12 @@
 //! Which expressions are scalars.
 ghost use Rattle.std.specs.Prelude.{◌≡◌};
 ghost use Rattle.std.specs.List.{list_all};
-ghost use Rattle.lf_ast.specs.Functions.{function_named};
 ghost use Rattle.lf_ast.specs.Tree.{tree};
-ghost use Rattle.lf_ast.specs.Types.{is_scalar};
-ghost use Rattle.lf_deps.specs.views.Selecting.{is_scalar_call};
-ghost use Rattle.lf_semantics.specs.Parts.{given_by};
 ghost use Rattle.lf_open.specs.views.Told.{scalar_by};
 
 use crate::told::Told;
-use lf_ast::{Expr, Function, is_scalar};
+use lf_ast::Expr;
+use lf_nodes::gives_scalar;
 
 /// Whether an expression is a scalar, by whether its parts are.
 pub(crate) fn is_scalar_by(expr: &Expr, parts: &[Told]) -> bool
@@ -29,24 +26,4 @@ fn are_scalars(parts: &[Told]) -> bool
     ensures { result ≡ list_all (λ t. t.scalar) parts.now }
 {
     parts.iter().all(|part| part.scalar)
-}
-
-/// Whether an expression is a call that is a scalar.
-pub(crate) fn is_scalar_call(expr: &Expr) -> bool
-    ensures { result ≡ is_scalar_call (tree expr.now) }
-{
-    match expr {
-        Expr::Call { name, .. } => gives_scalar(name.as_str()),
-        _ => false,
-    }
-}
-
-/// Whether a call of this name is a scalar.
-fn gives_scalar(name: &str) -> bool
-    ensures { result ≡ is_scalar (given_by (function_named name.now)) }
-{
-    match Function::named(name) {
-        Some(function) => is_scalar(function.gives),
-        None => false,
-    }
 }

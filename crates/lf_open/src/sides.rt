@@ -10,6 +10,7 @@ use crate::open_at::OpenAt;
 use crate::told::Told;
 use lf_ast::Op;
 use lf_base::{Memory, Seq, Span};
+use lf_forks::is_or;
 use std::alloc::Global;
 
 /// What is open at an operator: its sides read a common metric, it joins what a fork gives or is an `or` with a side that can't be silent, or it is an `unless` whose right
@@ -62,16 +63,6 @@ fn joins(op: Op, left: &Told, right: &Told) -> bool
         left.loud || right.loud
     } else {
         left.fork || right.fork
-    }
-}
-
-/// Whether an operator is an `or`.
-pub(crate) fn is_or(op: Op) -> bool
-    ensures { result ≡ is_or op }
-{
-    match op {
-        Op::Or => true,
-        _ => false,
     }
 }
 

@@ -4,10 +4,10 @@ ghost use Rattle.lf_ast.specs.Tree.{parts_of, tree};
 ghost use Rattle.lf_ast.specs.views.Walks.{trees_at};
 ghost use Rattle.lf_open.specs.views.Speaking.{AreSpeaking, own_speaking};
 
-use crate::scalars::is_scalar_call;
 use lf_ast::Expr;
 use lf_ast::walk::part_at;
 use lf_base::Memory;
+use lf_deps::is_scalar_call;
 use std::alloc::Global;
 
 /// The selectors, calls and aggregations that stand in an expression, in no order. Nothing within a scalar is looked at.

@@ -13,11 +13,12 @@ use crate::number_set::NumberSet;
 use crate::open_at::OpenAt;
 use crate::read_table::ReadTable;
 use crate::scalars::is_scalar_by;
-use crate::sides::{is_or, open_at_operator};
+use crate::sides::open_at_operator;
 use crate::told::Told;
 use lf_ast::walk::{Fold, Parts, fold_up};
 use lf_ast::{Expr, selected_name};
 use lf_base::{Memory, Seq, Text};
+use lf_forks::is_or;
 use std::alloc::Global;
 
 /// What is told of an expression of the rule of a number. Each part is looked at once.

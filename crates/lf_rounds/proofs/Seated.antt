@@ -1,9 +1,6 @@
 -- What the facts of a seat say of how it is kept.
-use Rattle.std.proofs.Common.{◌≡◌, ℕ, ◌+◌, ◌<◌, ◌==◌, ◌&&◌, Bool, false, arith}
+use Rattle.std.proofs.Common.{◌≡◌, ℕ, ◌+◌, ◌==◌, ◌&&◌, Bool, arith}
 use Rattle.std.proofs.lemmas.Grind.{common_steps}
-
-pub missed_some : (n : ℕ) (b : Bool) → b ≡ (n == 0) → b ≡ false → 0 < n
-missed_some n b is shut = grind (arith, common_steps)
 
 -- two seats are open where neither has a claim that found nothing
 pub both_open : (a b : Bool) (m n : ℕ) → a ≡ (m == 0) → b ≡ (n == 0) → (a && b) ≡ (m + n == 0)

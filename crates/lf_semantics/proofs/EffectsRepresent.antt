@@ -19,7 +19,8 @@ use Rattle.lf_semantics.specs.Mentions.{group_names, matchers_mentions}
 use Rattle.lf_semantics.proofs.LabelTexts.{value-bare, value-with_label, value-without_name}
 use Rattle.lf_semantics.proofs.Members.{first_or_behind, none_in, true_same}
 use Rattle.lf_semantics.proofs.Numbered.{AreKnown, group_label, metric_label}
-use Rattle.lf_semantics.proofs.Places.{class_of_some, label_test, symmetric}
+use Rattle.lf_semantics.proofs.Places.{class_of_some, label_test}
+use Rattle.lf_ast.proofs.LabelOrders.{symmetric}
 use Rattle.lf_semantics.proofs.Restricted.{value-restricted}
 use Rattle.lf_semantics.proofs.RowLaws.{any_at, get_or-indexed, holds_within, represents_only_empty, represents_replaced, represents_top, shape_bottom, shape_replaced, shape_top}
 

@@ -13,7 +13,7 @@ use Rattle.lf_semantics.specs.Evaluation.{bare}
 use Rattle.lf_semantics.specs.Grouped.{is_metric, taken_from, without_name, without_name_if}
 use Rattle.lf_semantics.specs.Texts.{value_of, with_label}
 use Rattle.lf_semantics.proofs.Members.{true_same}
-use Rattle.lf_semantics.proofs.Places.{symmetric}
+use Rattle.lf_ast.proofs.LabelOrders.{symmetric}
 use Rattle.lf_semantics.proofs.Restricted.{value-restricted}
 
 tied : (q name : Bytes) → eq_by_cmp (slice_cmp nat_cmp) q name ≡ bytes_eq name q

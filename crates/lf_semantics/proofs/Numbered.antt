@@ -14,7 +14,8 @@ use Rattle.lf_semantics.specs.Grouped.{is_grouped_by, is_metric, keeps, keeps_by
 use Rattle.lf_semantics.specs.Listing.{IsListing, Listing, label_of}
 use Rattle.lf_semantics.specs.RowTable.{is_group_label, is_label_among, is_metric_label, keeps_label, keeps_label_by, signs_label, signs_label_by}
 use Rattle.lf_semantics.specs.Mentions.{group_names, names_mentions}
-use Rattle.lf_semantics.proofs.Places.{label_test, metric_listed, symmetric}
+use Rattle.lf_semantics.proofs.Places.{label_test, metric_listed}
+use Rattle.lf_ast.proofs.LabelOrders.{symmetric}
 
 -- the names of a list are labels of the universe
 abbrev pub AreKnown : Listing → List Name → Type 0

@@ -78,9 +78,6 @@ eqb-other m n h = false_from_ne_true (eqb m n) (λ e. h ((Decides-eqb m n).0 e))
 pub class_of_some : (u : Listing) (l : ℕ) (t : Bytes) → t ≢ [] → eqb (class_of u l t) 0 ≡ false
 class_of_some u l t h = eqb-other (class_of u l t) 0 (λ e. h (sym (same_text (class_texts u l) [] t (omega arith) (sym e))))
 
-pub symmetric : (a b : Bytes) → bytes_eq a b ≡ bytes_eq b a
-symmetric a b = same_from_decides {P = a ≡ b} (bytes_eq a b) (bytes_eq b a) (bytes_eq-Decides a b) ((λ e. sym ((bytes_eq-Decides b a).0 e)), (λ e. (bytes_eq-Decides b a).1 (sym e)))
-
 -- the bytes of all texts together are more than those of each
 all_bytes : List Bytes → Bytes
 all_bytes [] = 0 ∷ []

@@ -31,7 +31,8 @@ use Rattle.lf_semantics.proofs.Kept.{restricted_has_texts}
 use Rattle.lf_semantics.proofs.LabelTexts.{value-bare, value-without_name}
 use Rattle.lf_semantics.proofs.LeqLaws.{bottom_dead}
 use Rattle.lf_semantics.proofs.Numbered.{AreKnown, group_label, metric_label}
-use Rattle.lf_semantics.proofs.Places.{at_place, label_test, same_text, symmetric}
+use Rattle.lf_semantics.proofs.Places.{at_place, label_test, same_text}
+use Rattle.lf_ast.proofs.LabelOrders.{symmetric}
 use Rattle.lf_semantics.proofs.Restricted.{value-restricted}
 use Rattle.lf_semantics.proofs.GivenTexts.{absent_has_texts}
 use Rattle.lf_witness.specs.Strict.{From, IsOpenAbsent, IsSet, MadeApart, MadeTogether, Outcomes, StrictEffect, last_buckets}

@@ -280,7 +280,7 @@ module _ (u : Listing) (rules : List RuleTree) (p : IsListing u) (small : IsSmal
           let parts = or_parts (is_metric name) (sets_label r name) left.0 in
           let k = texts_held u r.labels named name (class_of u (label_of u name) text) known_labels h.live (h.held name text there left.1) parts.1 in
           replaced_held (is_label u metric) (λ l c. eqb c (class_of u (label_of u metric) r.name)) (rule_row u env r) (named_live h.live) (label_of u name) (class_of u (label_of u name) text) k
-          (label_test u metric name (metric_listed u p) ∙ Rattle.lf_semantics.proofs.Places.symmetric metric name ∙ parts.0);
+          (label_test u metric name (metric_listed u p) ∙ Rattle.lf_ast.proofs.LabelOrders.symmetric metric name ∙ parts.0);
     }
 
     module _ (k : ℕ) (at : slice_get rules k ≡ Some r) (acyclic : Reads rules r.expr r.name → ⊥) (b : Builder) (silent : Bool)
@@ -324,7 +324,7 @@ module _ (u : Listing) (rules : List RuleTree) (p : IsListing u) (small : IsSmal
               not_set : (c : Bool) → bytes_eq metric name ≡ c → sets r.labels name ≡ false → Held named (label_of u name) (class_of u (label_of u name) text) → cond c r.name (value_of one name) ≡ text
               not_set true e none kept = of_name e kept
               not_set false e none kept =
-                  agrees (ap (λ b. cond (b || sets_label r name) None (D name)) (Rattle.lf_semantics.proofs.Places.symmetric name metric ∙ e) ∙ ap (λ b. cond b None (D name)) none ∙ given)
+                  agrees (ap (λ b. cond (b || sets_label r name) None (D name)) (Rattle.lf_ast.proofs.LabelOrders.symmetric name metric ∙ e) ∙ ap (λ b. cond b None (D name)) none ∙ given)
 
               -- a label that is set has the rule's text, and its class is the only one left
               if_set : sets r.labels name ≡ true → (labels : List RuleLabel) (row : Sets) (s : Labels) → LabelsKnown u labels → is_live (with_texts u labels row) ≡ true → sets labels name ≡ true → Held (with_texts u labels row) (label_of u name) (class_of u (label_of u name) text)

@@ -1,5 +1,5 @@
 -- What is kept of the parts of an expression is what they give.
-use Rattle.std.proofs.Common.{◌≡◌, ◌≤◌, ℕ, zero, suc, List, [], ◌∷◌, length, map, take, drop, Option, None, Some, Result, Ok, Err, refl, sym, ap₂, subst, arith}
+use Rattle.std.proofs.Common.{◌≡◌, ◌≤◌, ℕ, zero, suc, List, [], length, map, take, drop, Option, None, Some, Result, Ok, Err, refl, sym, ap₂, subst, arith}
 use Rattle.std.specs.Prelude.{IfOk}
 use Rattle.std.proofs.lemmas.Result.{IfOk-weaker}
 use Rattle.std.proofs.lemmas.List.{length-map}
@@ -14,7 +14,8 @@ use Rattle.lf_semantics.specs.Parts.{operand_place, type_by_form}
 use Rattle.lf_witness.specs.Strict.{ArgumentStrictlyEvaluates, Outcomes, StrictCall, StrictEffect, StrictlyEvaluates}
 use Rattle.lf_witness.specs.StrictRuns.{InOrder, IsStrictAnswer}
 use Rattle.lf_strict.specs.declared.evaluated.Evaluated.{Evaluated}
-use Rattle.lf_strict.specs.views.Evaluated.{evaluated, operand_of, operand_part}
+use Rattle.lf_strict.specs.views.Evaluated.{evaluated, operand_of}
+use Rattle.lf_nodes.specs.views.Needed.{operand_part}
 use Rattle.lf_strict.proofs.Answered.{answers, is_answer}
 
 -- a string stands for an argument that isn't there: it is None too
@@ -38,15 +39,6 @@ module _ (W : List Labels) where
   kept_answer e kept is = subst (λ (k : Evaluated). IsStrictAnswer W e k.answer) (sym is) (answers W e)
 
   -- the parts of an expression
-
-  pub only_is : (kept : Evaluated) (parts : List Evaluated) (e : Tree) → parts ≡ kept ∷ [] → parts ≡ evaluated W e ∷ [] → kept ≡ evaluated W e
-  only_is kept parts e is own = cc
-
-  pub left_is : (g h : Evaluated) (parts : List Evaluated) (left right : Tree) → parts ≡ g ∷ h ∷ [] → parts ≡ evaluated W left ∷ evaluated W right ∷ [] → g ≡ evaluated W left
-  left_is g h parts left right is own = cc
-
-  pub right_is : (g h : Evaluated) (parts : List Evaluated) (left right : Tree) → parts ≡ g ∷ h ∷ [] → parts ≡ evaluated W left ∷ evaluated W right ∷ [] → h ≡ evaluated W right
-  right_is g h parts left right is own = cc
 
   -- the operand among arguments
 

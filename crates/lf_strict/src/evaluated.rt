@@ -1,16 +1,15 @@
 //! What is kept of the parts of an expression until its own samples are made.
-ghost use Rattle.std.specs.Prelude.{◌≡◌, ◌≤◌, ◌∷◌, [], IfOk, IfSome, List, length};
-ghost use Rattle.std.specs.List.{position_or_len};
+ghost use Rattle.std.specs.Prelude.{◌≡◌, ◌≤◌, IfOk, IfSome, List, length};
 ghost use Rattle.std.specs.Option.{option_map};
-ghost use Rattle.lf_ast.specs.Functions.{called_by, signature_of};
+ghost use Rattle.lf_ast.specs.Functions.{signature_of};
 ghost use Rattle.lf_ast.specs.Labels.{Labels};
-ghost use Rattle.lf_ast.specs.Tree.{Tree, tree, trees};
+ghost use Rattle.lf_ast.specs.Tree.{Tree, trees};
 ghost use Rattle.lf_ast.specs.Types.{is_scalar, joined, selected};
-ghost use Rattle.lf_semantics.specs.Parts.{given_by, takes_samples};
+ghost use Rattle.lf_semantics.specs.Parts.{given_by};
 ghost use Rattle.lf_witness.specs.Ascending.{IsAscending};
 ghost use Rattle.lf_witness.specs.Strict.{AreSelected, IsSet, StrictBinary, StrictCall, StrictSign, StrictlyEvaluates};
 ghost use Rattle.lf_witness.specs.StrictRuns.{InOrder, IsStrictAnswer};
-ghost use Rattle.lf_strict.specs.views.Evaluated.{operand_of, operand_part, parts_needed};
+ghost use Rattle.lf_strict.specs.views.Evaluated.{operand_of};
 
 use crate::effects::called;
 use crate::operand::behind_sign;
@@ -22,6 +21,7 @@ use lf_ast::{
     selected,
 };
 use lf_base::{Memory, Seq, Text};
+use lf_nodes::the_only;
 use std::alloc::Global;
 
 /// What an expression gives, and the type that its form tells.
@@ -29,24 +29,6 @@ use std::alloc::Global;
 pub struct Evaluated {
     pub answer: Option<Seq<LabelSet>>,
     pub form: ExprType,
-}
-
-/// The only one of these.
-pub fn the_only(mut parts: Vec<Evaluated>) -> Evaluated
-    requires { length parts.items ≡ 1 }
-    ensures { parts.items ≡ result ∷ [] }
-{
-    parts.pop().unwrap()
-}
-
-/// The two of these.
-pub fn both(mut parts: Vec<Evaluated>) -> (Evaluated, Evaluated)
-    requires { length parts.items ≡ 2 }
-    ensures { parts.items ≡ result.0 ∷ result.1 ∷ [] }
-{
-    let right = parts.pop().unwrap();
-    let left = parts.pop().unwrap();
-    (left, right)
 }
 
 /// What the only one of these gives, and None where there is none.
@@ -140,56 +122,5 @@ fn given_by(function: &Option<Function>) -> ExprType
     match function {
         Some(function) => function.gives,
         None => ExprType::Vector,
-    }
-}
-
-/// The parts that what an expression gives is made of, which calls this function, if any: of arguments only the operand.
-pub fn parts_needed(expr: &Expr, function: &Option<Function>) -> Parts
-    requires { option_map signature_of function.now ≡ called_by (tree expr.now) }
-    ensures { result ≡ parts_needed (tree expr.now) }
-{
-    match expr {
-        Expr::Call { .. } | Expr::Aggregate { .. } => operand_part(function),
-        Expr::Number { .. }
-        | Expr::Str { .. }
-        | Expr::Selector { .. }
-        | Expr::Subquery { .. }
-        | Expr::Paren { .. }
-        | Expr::Unary { .. }
-        | Expr::Binary { .. } => Parts::All,
-    }
-}
-
-/// The operand of a function among its arguments, and nothing where there is no function.
-fn operand_part(function: &Option<Function>) -> Parts
-    ensures { result ≡ operand_part (option_map signature_of function.now) }
-{
-    match function {
-        Some(function) => Parts::Only {
-            place: operand_place(function.takes),
-        },
-        None => Parts::Nothing,
-    }
-}
-
-/// Which argument is the operand of a function that always takes these: the first that has samples, or else the first further one.
-fn operand_place(takes: &[ExprType]) -> usize
-    ensures { result ≡ position_or_len takes_samples takes.now }
-{
-    for (place, of) in takes.iter().enumerate() {
-        if takes_samples(*of) {
-            return place;
-        }
-    }
-    takes.len()
-}
-
-/// Whether an argument of this type has samples.
-fn takes_samples(of: ExprType) -> bool
-    ensures { result ≡ takes_samples of }
-{
-    match of {
-        ExprType::Vector | ExprType::Range => true,
-        ExprType::Scalar | ExprType::Str => false,
     }
 }

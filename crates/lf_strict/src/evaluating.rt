@@ -7,16 +7,16 @@ ghost use Rattle.lf_ast.specs.Tree.{parts_of, tree};
 ghost use Rattle.lf_ast.specs.views.Walks.{chosen};
 ghost use Rattle.lf_semantics.specs.Parts.{type_by_form};
 ghost use Rattle.lf_witness.specs.StrictRuns.{IsStrictAnswer};
-ghost use Rattle.lf_strict.specs.views.Evaluated.{evaluated, parts_needed};
+ghost use Rattle.lf_strict.specs.views.Evaluated.{evaluated};
+ghost use Rattle.lf_nodes.specs.views.Needed.{parts_needed};
 
-use crate::evaluated::{
-    Evaluated, binary, both, call, operand, parts_needed, selector, signed, the_only,
-};
+use crate::evaluated::{Evaluated, binary, call, operand, selector, signed};
 use crate::sets::bare;
 use crate::store::Store;
 use lf_ast::walk::{Fold, Parts, fold_up};
 use lf_ast::{Expr, ExprType, Function, Grouping, LabelSet};
 use lf_base::{Memory, Seq};
+use lf_nodes::{both, parts_needed, the_only};
 use std::alloc::Global;
 
 /// What an expression strictly gives over stored samples, of which equal ones count once: the samples in ascending order of their pairs of a label and its text, or None.
@@ -64,7 +64,8 @@ impl<'a> Fold for Evaluation<'a> {
     ghost use Rattle.std.specs.Prelude.{◌≡◌};
     ghost use Rattle.std.specs.Option.{option_map};
     ghost use Rattle.lf_ast.specs.Functions.{called_by, signature_of};
-    ghost use Rattle.lf_strict.specs.views.Evaluated.{evaluated, parts_needed};
+    ghost use Rattle.lf_strict.specs.views.Evaluated.{evaluated};
+    ghost use Rattle.lf_nodes.specs.views.Needed.{parts_needed};
 
     ghost value = { λ evaluation e. evaluated evaluation.store.now e };
 

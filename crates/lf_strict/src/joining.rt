@@ -1,5 +1,5 @@
 //! Samples under `label_join`.
-ghost use Rattle.std.specs.Prelude.{◌≡◌, [], cond, drop, eqb, map, IfOk};
+ghost use Rattle.std.specs.Prelude.{◌≡◌, [], cond, eqb, map, IfOk};
 ghost use Rattle.std.proofs.Common.{sym, ◌∙◌};
 ghost use Rattle.lf_ast.specs.Arguments.{texts_of};
 ghost use Rattle.lf_ast.specs.Tree.{trees};
@@ -11,6 +11,7 @@ use crate::becoming::Becoming;
 use crate::selecting::text_of as text_in;
 use lf_ast::{Expr, LabelSet, text_at, text_of};
 use lf_base::{Memory, Text};
+use lf_nodes::joined_sources;
 use std::alloc::Global;
 
 /// A sample gets the texts of the sources, joined, as the text of the target, which an empty one removes. These are the arguments of the `label_join`.
@@ -26,18 +27,16 @@ impl<'a> Becoming for Joined<'a> {
 
     fn of(&self, alloc: Global, sample: &LabelSet) -> Result<LabelSet, Memory> {
         let target = Text::of(alloc, text_at(self.args, 1))?;
-        let text = joined_texts(alloc, sample, text_at(self.args, 2), sources(self.args))?;
+        let text = joined_texts(
+            alloc,
+            sample,
+            text_at(self.args, 2),
+            joined_sources(self.args),
+        )?;
         let mut made = sample.copy()?;
         made.set(&target, &text)?;
         Ok(made)
     }
-}
-
-/// The arguments that name the sources.
-fn sources(args: &[Expr]) -> &[Expr]
-    ensures { result.now ≡ drop 3 args.now }
-{
-    &args[args.len().min(3)..]
 }
 
 /// The texts that a sample has of these sources, with a separator between each two.

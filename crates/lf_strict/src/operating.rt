@@ -1,5 +1,5 @@
 //! What operators give.
-ghost use Rattle.std.specs.Prelude.{◌≡◌, IfOk, IfSome, List};
+ghost use Rattle.std.specs.Prelude.{IfOk, IfSome, List};
 ghost use Rattle.lf_ast.specs.Labels.{Labels};
 ghost use Rattle.lf_ast.specs.Tree.{Tree};
 ghost use Rattle.lf_semantics.specs.Grouped.{is_filter};
@@ -10,8 +10,9 @@ ghost use Rattle.lf_witness.specs.StrictRuns.{InOrder, IsStrictAnswer};
 use crate::operand::beside_scalar;
 use crate::pairs::combine;
 use crate::sets::bare;
-use lf_ast::{LabelSet, Matching, Op, is_comparison};
+use lf_ast::{LabelSet, Matching, Op};
 use lf_base::{Memory, Seq};
+use lf_nodes::is_filter;
 use std::alloc::Global;
 
 /// What an operator gives between a left side, which is a scalar or isn't, and a right one. What a scalar gives isn't looked at.
@@ -38,11 +39,4 @@ pub fn operated(
         return beside_scalar(alloc, is_filter(op, matching), left);
     }
     combine(alloc, op, matching, &left, &right)
-}
-
-/// Whether the operator is a comparison without `bool`, which lets samples through as they are.
-fn is_filter(op: Op, matching: &Matching) -> bool
-    ensures { result ≡ is_filter op matching.now }
-{
-    is_comparison(op) && !matching.bool_mod
 }

@@ -4,9 +4,10 @@ ghost use Rattle.lf_semantics.specs.Grouped.{many_to_one, taken_from, without_na
 ghost use Rattle.lf_semantics.specs.Texts.{value_of, with_label};
 ghost use Rattle.lf_strict.specs.views.Paired.{result_of};
 
-use crate::choosing::{AllButName, PairLabels, is_arithmetic};
+use crate::choosing::{AllButName, PairLabels};
 use lf_ast::{Group, LabelSet, Matching, Name, Op};
 use lf_base::{Memory, Text};
+use lf_nodes::is_arithmetic;
 use std::alloc::Global;
 
 /// What a sample of the many side gives with one of the one side; one to one the left side is the many side.

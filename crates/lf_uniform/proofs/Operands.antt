@@ -10,7 +10,8 @@ use Rattle.lf_semantics.specs.Listing.{Listing}
 use Rattle.lf_semantics.specs.Parts.{operand_place}
 use Rattle.lf_trials.specs.Follow.{Followed, follow_argument, follow_call, follow_effect}
 use Rattle.lf_uniform.specs.declared.told.Told.{Told}
-use Rattle.lf_uniform.specs.views.Following.{followed_call, operand_of, operand_part, told_of}
+use Rattle.lf_uniform.specs.views.Following.{followed_call, operand_of, told_of}
+use Rattle.lf_nodes.specs.views.Needed.{operand_part}
 
 module _ (u : Listing) (rules : List RuleTree) (label given : Bytes) (known : Bytes → Followed) where
   operand_is : (args : Trees) (k : ℕ) → operand_of (map (told_of u rules label given known) (take 1 (drop k (list args)))) ≡ follow_argument u rules label given known args k

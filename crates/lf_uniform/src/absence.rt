@@ -12,7 +12,7 @@ ghost use Rattle.lf_trials.specs.Follow.{sought_text};
 ghost use Rattle.lf_uniform.specs.views.Following.{first_equal};
 
 use lf_ast::{Expr, MatchOp, Matcher};
-use lf_candidates::is_metric;
+use lf_nodes::is_metric;
 
 /// The text of the first `=` on a label, where the argument is a selector, also in parentheses; else none. The metric name has none.
 pub fn sought_text<'a>(args: &'a [Expr], label: &str) -> &'a str

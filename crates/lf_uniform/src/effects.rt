@@ -11,7 +11,7 @@ use crate::absence::sought_text;
 use crate::told::{empty, lost};
 use lf_ast::{Expr, Grouping, LabelEffect, text_at};
 use lf_base::{Memory, Text};
-use lf_candidates::{is_grouped_by, is_metric};
+use lf_nodes::{is_grouped_by, is_metric};
 use std::alloc::Global;
 
 /// The text that a label has behind a function or an aggregation with this effect, by the text on its operand.

@@ -11,20 +11,21 @@ ghost use Rattle.lf_ast.specs.views.Walks.{chosen};
 ghost use Rattle.lf_semantics.specs.Parts.{given_by, type_by_form};
 ghost use Rattle.lf_trials.specs.Follow.{follow, follow_binary, follow_name, if_it_passes, nameless_if, on_series, passes_on_label};
 ghost use Rattle.lf_trials.specs.Names.{name_for};
-ghost use Rattle.lf_uniform.specs.views.Following.{followed_call, known_by, parts_needed, told_of};
+ghost use Rattle.lf_uniform.specs.views.Following.{followed_call, known_by, told_of};
+ghost use Rattle.lf_nodes.specs.views.Needed.{parts_needed};
 
 use crate::effects::effect;
 use crate::operators::{self, nameless_if};
 use crate::setting::Setting;
-use crate::told::{Told, both, lost, operand, parts_needed, the_only};
+use crate::told::{Told, lost, operand};
 use lf_ast::walk::{Fold, Parts, fold_up};
 use lf_ast::{
     Expr, ExprType, Function, Grouping, Matcher, Matching, Op, is_scalar, joined, selected,
     selected_name,
 };
 use lf_base::{Memory, Text};
-use lf_candidates::is_metric;
 use lf_classes::{TextSet, passes};
+use lf_nodes::{both, is_metric, parts_needed, the_only};
 use std::alloc::Global;
 
 /// A label that is followed: the text that it has on all scraped series, and what is told of it on what the rules of some names give.
@@ -120,7 +121,8 @@ impl<'a> Fold for Following<'a> {
     ghost use Rattle.std.specs.Option.{option_map};
     ghost use Rattle.lf_ast.specs.Functions.{called_by, signature_of};
     ghost use Rattle.lf_ast.specs.Rules.{rule_trees};
-    ghost use Rattle.lf_uniform.specs.views.Following.{known_by, parts_needed, told_of};
+    ghost use Rattle.lf_uniform.specs.views.Following.{known_by, told_of};
+    ghost use Rattle.lf_nodes.specs.views.Needed.{parts_needed};
 
     ghost value = { λ f e. told_of f.setting.now.universe (rule_trees f.setting.now.rules) f.label.now f.given.now (known_by f.names.now f.values.now) e };
 

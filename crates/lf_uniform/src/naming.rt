@@ -1,23 +1,20 @@
 //! The names of the series of a uniform world.
 ghost use Rattle.std.specs.Prelude.{◌≡◌, ◌<◌, [], ℕ, IfOk, OnOk, length};
 ghost use Rattle.std.specs.List.{Contains};
-ghost use Rattle.lf_ast.specs.Functions.{function_named};
 ghost use Rattle.lf_ast.specs.Rules.{rule_trees};
-ghost use Rattle.lf_ast.specs.Tree.{tree};
 ghost use Rattle.lf_ast.specs.Types.{is_scalar};
 ghost use Rattle.lf_deps.specs.views.Selecting.{is_scalar_call};
 ghost use Rattle.lf_deps.specs.views.Sources.{IsSourcesOf};
-ghost use Rattle.lf_semantics.specs.Parts.{given_by};
 ghost use Rattle.lf_trials.specs.Selected.{selected_by};
 ghost use Rattle.lf_trials.specs.Uniform.{series_names};
 ghost use Rattle.lf_uniform.specs.views.Naming.{said_all, said_by, said_one, unsaid_by, unsaid_one, with_each};
 
 use crate::setting::Setting;
 use lf_ast::walk::{Parts, Visitor, visit};
-use lf_ast::{Expr, Function, Matcher, is_scalar, selected_name};
+use lf_ast::{Expr, Matcher, is_scalar, selected_name};
 use lf_base::{Memory, Text};
 use lf_classes::TextSet;
-use lf_deps::Sources;
+use lf_deps::{Sources, is_scalar_call};
 use std::alloc::Global;
 
 /// The names of the series for the selectors of some rules, each once: the scraped names that are said, and then those for selectors that say none.
@@ -171,24 +168,4 @@ impl<'a> Visitor for Naming<'a> {
     }
 
     ghost steps = { visits };
-}
-
-/// Whether an expression is a call that is a scalar.
-fn is_scalar_call(expr: &Expr) -> bool
-    ensures { result ≡ is_scalar_call (tree expr.now) }
-{
-    match expr {
-        Expr::Call { name, .. } => gives_scalar(name.as_str()),
-        _ => false,
-    }
-}
-
-/// Whether a call of this name is a scalar.
-fn gives_scalar(name: &str) -> bool
-    ensures { result ≡ is_scalar (given_by (function_named name.now)) }
-{
-    match Function::named(name) {
-        Some(function) => is_scalar(function.gives),
-        None => false,
-    }
 }

@@ -5,9 +5,10 @@ ghost use Rattle.lf_semantics.specs.Grouped.{is_filter};
 
 use crate::effects::nameless;
 use crate::told::{empty, lost};
-use lf_ast::{Matching, Op, is_comparison};
+use lf_ast::{Matching, Op};
 use lf_base::Text;
-use lf_candidates::{left_gives, right_gives, signs};
+use lf_candidates::{left_gives, right_gives};
+use lf_nodes::{is_filter, signs};
 use std::alloc::Global;
 
 /// The text of a label where the metric name is dropped or kept.
@@ -39,13 +40,6 @@ pub fn binary(
         (true, false) => nameless_if(alloc, label, !is_filter(op, matching), right),
         (false, false) => operator(alloc, label, op, matching, left, right),
     }
-}
-
-/// Whether an operator lets samples through as they are: a comparison without `bool`.
-fn is_filter(op: Op, matching: &Matching) -> bool
-    ensures { result ≡ is_filter op matching.now }
-{
-    is_comparison(op) && !matching.bool_mod
 }
 
 /// The text of a label behind an operator of two vectors. Of `unless` the left side alone counts, and of `or` the right one where the left one fails.

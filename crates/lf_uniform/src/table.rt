@@ -1,5 +1,5 @@
 //! What is told of a label on what the rules in line give, and on what a rule's expression gives.
-ghost use Rattle.std.specs.Prelude.{◌≡◌, ◌<◌, List, IfOk, Some, length, slice_get};
+ghost use Rattle.std.specs.Prelude.{◌≡◌, ◌<◌, IfOk, Some, length, slice_get};
 ghost use Rattle.std.specs.List.{find};
 ghost use Rattle.std.specs.Option.{option_copied, option_map};
 ghost use Rattle.std.specs.Str.{bytes_eq};
@@ -15,7 +15,7 @@ use crate::line::Line;
 use crate::setting::Setting;
 use lf_ast::{Rule, RuleLabel};
 use lf_base::{Memory, Text};
-use lf_candidates::is_metric;
+use lf_nodes::is_metric;
 use std::alloc::Global;
 
 /// The text that a label has on what a rule's expression gives, if it has one text on all scraped series, or that it can't be followed.

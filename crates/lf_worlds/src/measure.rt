@@ -1,5 +1,5 @@
 //! How much there is to try with rules.
-ghost use Rattle.std.specs.Prelude.{◌≡◌, ◌<◌, ◌+◌, ◌-◌, ◌^◌, ℕ, List, cond, eqb, length, map, min, slice_index_or, IfOk};
+ghost use Rattle.std.specs.Prelude.{◌≡◌, ◌<◌, ◌-◌, ◌^◌, ℕ, List, cond, eqb, length, map, min, slice_index_or, IfOk};
 ghost use Rattle.std.specs.List.{Contains, sum_by};
 ghost use Rattle.lf_ast.specs.Rules.{RuleTree, rule_trees};
 ghost use Rattle.lf_deps.specs.views.Names.{IsNameGraphOf};
@@ -11,7 +11,7 @@ ghost use Rattle.lf_worlds.specs.Measure.{AreReaches, IsLabelSelectors, selector
 use lf_ast::Rule;
 use lf_base::{Memory, Seq};
 use lf_classes::Universe;
-use lf_deps::{NameGraph, Sources, reach_of};
+use lf_deps::{NameGraph, Sources, reach_of, rule_number};
 use lf_forks::all_selectors;
 use std::alloc::Global;
 
@@ -54,7 +54,7 @@ fn selectors_tried(
 {
     let mut tried: u64 = 0;
     for i in 0..rules.len() {
-        let reach = reach_of(alloc, sources, graph, number(i)?)?;
+        let reach = reach_of(alloc, sources, graph, rule_number(i)?)?;
         tried = tried.saturating_add(count_with_reach(counts, i, reach.as_slice()));
     }
     Ok(tried)
@@ -79,14 +79,4 @@ fn count_beside(counts: &[u64], i: usize, k: usize) -> u64
     ensures { result ≡ cond (eqb k i) 0 (slice_index_or counts.now k 0) }
 {
     if k == i { 0 } else { counts[k] }
-}
-
-/// The number of a rule.
-fn number(rule: usize) -> Result<u32, Memory>
-    ensures { IfOk result (λ number. number ≡ rule) }
-{
-    match u32::try_from(rule) {
-        Ok(number) => Ok(number),
-        Err(_) => Err(Memory),
-    }
 }

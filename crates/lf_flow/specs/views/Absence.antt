@@ -1,16 +1,11 @@
 -- What `absent` looks for, as the program goes over the matchers.
-use Rattle.std.specs.Prelude.{◌≡◌, ◌<◌, ℕ, Bool, not, ◌&&◌, ◌||◌, cond, eqb, List, [], length, Option, option_map, slice_index_or}
+use Rattle.std.specs.Prelude.{◌≡◌, ◌<◌, ℕ, Bool, not, ◌&&◌, ◌||◌, cond, eqb, List, [], length, slice_index_or}
 use Rattle.std.specs.List.{count_by, list_any}
 use Rattle.lf_ast.specs.Labels.{Bytes}
 use Rattle.lf_ast.specs.declared.expr.Matcher.{Matcher}
 use Rattle.lf_semantics.specs.Listing.{Listing, class_of}
-use Rattle.lf_semantics.specs.Parts.{Sought}
 use Rattle.lf_ast.specs.Selectors.{is_equal}
 use Rattle.lf_semantics.specs.RowTable.{is_label, is_metric_label}
-
--- the sample may also have no label where it is said
-abbrev pub also_bare : Bool → Option Sought → Option Sought
-also_bare bare sought = option_map (λ s. record { matchers = s.matchers; may_be_bare = bare || s.may_be_bare }) sought
 
 -- of an `=` its text, and of any other matcher none
 abbrev pub sought_text : Matcher → Bytes

@@ -1,25 +1,11 @@
 -- What is kept of the parts of an expression until its own row is made: how contracts see the code. It defines nothing.
 use Rattle.std.specs.Prelude.{Option, Some, None}
-use Rattle.lf_ast.specs.Functions.{Signature, aggregation, function_named}
-use Rattle.lf_ast.specs.Tree.{Tree, Number, Call, Aggregate}
-use Rattle.lf_ast.specs.declared.walk.choosing.Parts.{Parts}
-use Rattle.lf_ast.specs.declared.walk.choosing.Parts.TheVariants.{All, Only, Nothing}
+use Rattle.lf_ast.specs.Tree.{Tree, Number}
 use Rattle.lf_semantics.specs.ClassRows.{Sets, bottom}
 use Rattle.lf_semantics.specs.Listing.{Listing}
-use Rattle.lf_semantics.specs.Parts.{operand_place, type_by_form}
+use Rattle.lf_semantics.specs.Parts.{type_by_form}
 use Rattle.lf_semantics.specs.RowTable.{Environment, bare_row, row_of}
 use Rattle.lf_flow.specs.declared.given.Given.{Given}
-
--- the argument that is the operand, if there is one
-abbrev pub operand_part : Option Signature → Parts
-operand_part None = Nothing
-operand_part (Some s) = Only (operand_place s)
-
--- the parts that the row of an expression is made of: of a call only the operand
-abbrev pub parts_needed : Tree → Parts
-parts_needed (Call name args span) = operand_part (function_named name)
-parts_needed (Aggregate op grouping args span) = operand_part (Some (aggregation op))
-parts_needed _ = All
 
 module _ (u : Listing) where
   -- a row that isn't made yet is that of the one sample without labels

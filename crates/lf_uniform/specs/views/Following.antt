@@ -1,30 +1,17 @@
 -- What is told of an expression where a label is followed, and what is known of recorded names.
-use Rattle.std.specs.Prelude.{◌&&◌, cond, List, [], ◌∷◌, Option, Some, None, slice_index_or}
+use Rattle.std.specs.Prelude.{◌&&◌, cond, List, [], ◌∷◌, Option, None, slice_index_or}
 use Rattle.std.specs.Str.{bytes_eq}
-use Rattle.lf_ast.specs.Functions.{Signature, aggregation, function_named}
+use Rattle.lf_ast.specs.Functions.{Signature}
 use Rattle.lf_ast.specs.Labels.{Bytes}
 use Rattle.lf_ast.specs.Rules.{RuleTree}
 use Rattle.lf_ast.specs.Selectors.{is_equal}
-use Rattle.lf_ast.specs.Tree.{Tree, Trees, Call, Aggregate}
+use Rattle.lf_ast.specs.Tree.{Tree, Trees}
 use Rattle.lf_ast.specs.declared.expr.Grouping.{Grouping}
 use Rattle.lf_ast.specs.declared.expr.Matcher.{Matcher}
-use Rattle.lf_ast.specs.declared.walk.choosing.Parts.{Parts}
-use Rattle.lf_ast.specs.declared.walk.choosing.Parts.TheVariants.{All, Only, Nothing}
 use Rattle.lf_semantics.specs.Listing.{Listing, place}
-use Rattle.lf_semantics.specs.Parts.{operand_place, type_by_form}
+use Rattle.lf_semantics.specs.Parts.{type_by_form}
 use Rattle.lf_trials.specs.Follow.{Followed, follow, follow_call}
 use Rattle.lf_uniform.specs.declared.told.Told.{Told}
-
--- the argument that is the operand, if there is one
-abbrev pub operand_part : Option Signature → Parts
-operand_part None = Nothing
-operand_part (Some s) = Only (operand_place s)
-
--- the parts that are looked at: of a call only the operand
-abbrev pub parts_needed : Tree → Parts
-parts_needed (Call name args span) = operand_part (function_named name)
-parts_needed (Aggregate op grouping args span) = operand_part (Some (aggregation op))
-parts_needed _ = All
 
 -- the text on what the rules of a recorded name give, by the names and what is told of each. Of a name that isn't there nothing is told
 abbrev pub known_by : List Bytes → List Followed → Bytes → Followed

@@ -7,10 +7,8 @@ use Rattle.std.proofs.lemmas.Map.Text.{is_eq-slice_cmp}
 use Rattle.std.proofs.lemmas.Slice.Eq.{bytes_eq-Decides}
 use Rattle.std.proofs.lemmas.Bool.Decides.{same_from_decides}
 use Rattle.lf_ast.specs.Labels.{Bytes}
+use Rattle.lf_ast.proofs.LabelOrders.{symmetric}
 use Rattle.lf_ast.proofs.label_set.find_in.Goals as goal
-
-symmetric : (a b : Bytes) → bytes_eq a b ≡ bytes_eq b a
-symmetric a b = same_from_decides {P = a ≡ b} (bytes_eq a b) (bytes_eq b a) (bytes_eq-Decides a b) ((λ e. sym ((bytes_eq-Decides b a).0 e)), (λ e. (bytes_eq-Decides b a).1 (sym e)))
 
 tied : (q x : Bytes) (b : Bool) → bytes_eq x q ≡ b → eq_by_cmp (slice_cmp nat_cmp) q x ≡ b
 tied q x b e = is_eq-slice_cmp q x ∙ symmetric q x ∙ e

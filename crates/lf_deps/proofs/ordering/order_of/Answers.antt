@@ -47,7 +47,7 @@ loop-place-preserved c =
     let P : List ℕ → Type 0 = λ o. OrderGoesOn rules (range_with_len 0 (length rules)) o (left_of c.next.new.self.taken.items (length rules)) in
     record {
       ready = takes.ready;
-      goes_on = subst P (sym (c.in_ok-push.ensures.ok ∙ ap (λ (k : ℕ). c.loop-place.order ++ k ∷ []) c.in_ok-number.ensures)) on;
+      goes_on = subst P (sym (c.in_ok-push.ensures.ok ∙ ap (λ (k : ℕ). c.loop-place.order ++ k ∷ []) c.in_ok-rule_number.ensures)) on;
       count = omega (arith, fewer, inv.count);
     }
 

@@ -11,9 +11,11 @@ use Rattle.lf_ast.proofs.TreeOf.{tree_aggregate, tree_call}
 use Rattle.lf_semantics.specs.ClassRows.{Sets}
 use Rattle.lf_semantics.specs.Parts.{is_scalar_part}
 use Rattle.lf_semantics.specs.RowTable.{binary_row, call_row, row_at, row_of, selector_row}
+use Rattle.lf_nodes.proofs.Parts.{first_of_two, second_of_two, the_one}
 use Rattle.lf_flow.specs.declared.given.Given.{Given}
-use Rattle.lf_flow.specs.views.Kept.{given_of, kept_row, made_row, operand_row, parts_needed}
-use Rattle.lf_flow.proofs.KeptRows.{left_is, made_is, made_shape, of_call, one_of_call, only_is, right_is, row_of_call, shape_of_call}
+use Rattle.lf_flow.specs.views.Kept.{given_of, kept_row, made_row, operand_row}
+use Rattle.lf_nodes.specs.views.Needed.{parts_needed}
+use Rattle.lf_flow.proofs.KeptRows.{made_is, made_shape, of_call, one_of_call, row_of_call, shape_of_call}
 use Rattle.lf_flow.proofs.rows.given.Goals as goal
 
 -- selectors
@@ -34,7 +36,7 @@ signed-requires c =
     let of : Tree = tree c.in-Unary.of.value in
     let own : c.args.parts.items ≡ given_of u env of ∷ [] =
     c.requires.parts ∙ ap (λ (e : Expr). map (given_of u env) (chosen (parts_needed (tree e)) (parts_of (tree e)))) c.in-Unary.is in
-    record { shape = made_shape u env c.requires.listing c.requires.env of _ (only_is u env c.the_only-in-Unary.result c.args.parts.items of c.the_only-in-Unary.ensures own) }
+    record { shape = made_shape u env c.requires.listing c.requires.env of _ (the_one c.the_only-in-Unary.ensures own) }
 
 pub binary-requires-clause-left : goal.binary-requires-clause-left
 binary-requires-clause-left c =
@@ -44,7 +46,7 @@ binary-requires-clause-left c =
     let right : Tree = tree c.in-Binary.right.value in
     let own : c.args.parts.items ≡ given_of u env left ∷ given_of u env right ∷ [] =
     c.requires.parts ∙ ap (λ (e : Expr). map (given_of u env) (chosen (parts_needed (tree e)) (parts_of (tree e)))) c.in-Binary.is in
-    made_shape u env c.requires.listing c.requires.env left _ (left_is u env _ _ c.args.parts.items left right c.both-left.ensures own)
+    made_shape u env c.requires.listing c.requires.env left _ (first_of_two c.both-left.ensures own)
 
 pub binary-requires-clause-right : goal.binary-requires-clause-right
 binary-requires-clause-right c =
@@ -54,7 +56,7 @@ binary-requires-clause-right c =
     let right : Tree = tree c.in-Binary.right.value in
     let own : c.args.parts.items ≡ given_of u env left ∷ given_of u env right ∷ [] =
     c.requires.parts ∙ ap (λ (e : Expr). map (given_of u env) (chosen (parts_needed (tree e)) (parts_of (tree e)))) c.in-Binary.is in
-    made_shape u env c.requires.listing c.requires.env right _ (right_is u env _ _ c.args.parts.items left right c.both-left.ensures own)
+    made_shape u env c.requires.listing c.requires.env right _ (second_of_two c.both-left.ensures own)
 
 pub returns-in-Binary-clause-row : goal.returns-in-Binary-clause-row
 returns-in-Binary-clause-row c =
@@ -68,8 +70,8 @@ returns-in-Binary-clause-row c =
     let row : Given → Given → Option Sets = λ l r. Some (binary_row u s.op s.modifier (is_scalar l.form) (is_scalar r.form) (made_row u l.row) (made_row u r.row)) in
     let P : Option Sets → Type 0 = λ x. IfOk c.binary.result (λ given. given.row ≡ x) in
     subst P
-    (ap (λ l. row l c.both-left.result.1) (left_is u env _ _ c.args.parts.items left right c.both-left.ensures own)
-    ∙ ap (row (given_of u env left)) (right_is u env _ _ c.args.parts.items left right c.both-left.ensures own)
+    (ap (λ l. row l c.both-left.result.1) (first_of_two c.both-left.ensures own)
+    ∙ ap (row (given_of u env left)) (second_of_two c.both-left.ensures own)
     ∙ ap (λ x. Some (binary_row u s.op s.modifier (is_scalar_part left) (is_scalar_part right) x (made_row u (kept_row u env right)))) (made_is u env left)
     ∙ ap (λ x. Some (binary_row u s.op s.modifier (is_scalar_part left) (is_scalar_part right) (row_of u env left) x)) (made_is u env right)
     ∙ sym (ap (λ (e : Expr). kept_row u env (tree e)) s.is))
@@ -77,8 +79,8 @@ returns-in-Binary-clause-row c =
 
 -- calls and aggregations
 
-pub operand-requires : goal.operand-requires
-operand-requires c =
+pub at_most_one-requires : goal.at_most_one-requires
+at_most_one-requires c =
     let u = c.args.universe.now in
     let env = c.args.env.now in
     let s = c.in-Call in
@@ -98,7 +100,7 @@ called-requires-clause-shape c =
     let is = tree_call c.args.expr.now s.name s.args s.span s.is in
     let own : c.args.parts.items ≡ of_call u env o (trees s.args) =
     c.requires.parts ∙ ap (λ (e : Tree). map (given_of u env) (chosen (parts_needed e) (parts_of e))) is ∙ ap (λ (o : Option Signature). of_call u env o (trees s.args)) (sym (c.requires.function ∙ ap called_by is)) in
-    shape_of_call u env c.requires.listing c.requires.env o (trees s.args) c.operand.result (sym own ∙ c.operand.ensures)
+    shape_of_call u env c.requires.listing c.requires.env o (trees s.args) c.at_most_one.result (sym own ∙ c.at_most_one.ensures)
 
 pub returns-in-Call-clause-row : goal.returns-in-Call-clause-row
 returns-in-Call-clause-row c =
@@ -112,14 +114,14 @@ returns-in-Call-clause-row c =
     c.requires.parts ∙ ap (λ (e : Tree). map (given_of u env) (chosen (parts_needed e) (parts_of e))) is ∙ ap (λ (o : Option Signature). of_call u env o (trees s.args)) (sym named) in
     let P : Option Sets → Type 0 = λ x. IfOk c.called.result (λ given. given.row ≡ x) in
     subst P
-    (ap (λ args. Some (call_row u o Ungrouped (trees args) (λ place. operand_row u c.operand.result))) c.as_slice-in-Call.ensures
-    ∙ ap (λ (x : Sets). Some x) (row_of_call u env o Ungrouped (trees s.args) c.operand.result (sym own ∙ c.operand.ensures))
+    (ap (λ args. Some (call_row u o Ungrouped (trees args) (λ place. operand_row u c.at_most_one.result))) c.as_slice-in-Call.ensures
+    ∙ ap (λ (x : Sets). Some x) (row_of_call u env o Ungrouped (trees s.args) c.at_most_one.result (sym own ∙ c.at_most_one.ensures))
     ∙ ap (λ (o : Option Signature). Some (call_row u o Ungrouped (trees s.args) (row_at u env (trees s.args)))) named
     ∙ sym (ap (kept_row u env) is))
     c.called.ensures.row
 
-pub operand-requires-in-Aggregate : goal.operand-requires-in-Aggregate
-operand-requires-in-Aggregate c =
+pub at_most_one-requires-in-Aggregate : goal.at_most_one-requires-in-Aggregate
+at_most_one-requires-in-Aggregate c =
     let u = c.args.universe.now in
     let env = c.args.env.now in
     let s = c.in-Aggregate in
@@ -139,7 +141,7 @@ called-requires-in-Aggregate-clause-shape c =
     let is = tree_aggregate c.args.expr.now s.op s.grouping s.args s.span s.is in
     let own : c.args.parts.items ≡ of_call u env o (trees s.args) =
     c.requires.parts ∙ ap (λ (e : Tree). map (given_of u env) (chosen (parts_needed e) (parts_of e))) is ∙ ap (λ (o : Option Signature). of_call u env o (trees s.args)) (sym (c.requires.function ∙ ap called_by is)) in
-    shape_of_call u env c.requires.listing c.requires.env o (trees s.args) c.operand-in-Aggregate.result (sym own ∙ c.operand-in-Aggregate.ensures)
+    shape_of_call u env c.requires.listing c.requires.env o (trees s.args) c.at_most_one-in-Aggregate.result (sym own ∙ c.at_most_one-in-Aggregate.ensures)
 
 pub returns-in-Aggregate-clause-row : goal.returns-in-Aggregate-clause-row
 returns-in-Aggregate-clause-row c =
@@ -153,8 +155,8 @@ returns-in-Aggregate-clause-row c =
     c.requires.parts ∙ ap (λ (e : Tree). map (given_of u env) (chosen (parts_needed e) (parts_of e))) is ∙ ap (λ (o : Option Signature). of_call u env o (trees s.args)) (sym named) in
     let P : Option Sets → Type 0 = λ x. IfOk c.called-in-Aggregate.result (λ given. given.row ≡ x) in
     subst P
-    (ap (λ args. Some (call_row u o s.grouping (trees args) (λ place. operand_row u c.operand-in-Aggregate.result))) c.as_slice-in-Aggregate.ensures
-    ∙ ap (λ (x : Sets). Some x) (row_of_call u env o s.grouping (trees s.args) c.operand-in-Aggregate.result (sym own ∙ c.operand-in-Aggregate.ensures))
+    (ap (λ args. Some (call_row u o s.grouping (trees args) (λ place. operand_row u c.at_most_one-in-Aggregate.result))) c.as_slice-in-Aggregate.ensures
+    ∙ ap (λ (x : Sets). Some x) (row_of_call u env o s.grouping (trees s.args) c.at_most_one-in-Aggregate.result (sym own ∙ c.at_most_one-in-Aggregate.ensures))
     ∙ ap (λ (o : Option Signature). Some (call_row u o s.grouping (trees s.args) (row_at u env (trees s.args)))) named
     ∙ sym (ap (kept_row u env) is))
     c.called-in-Aggregate.ensures.row

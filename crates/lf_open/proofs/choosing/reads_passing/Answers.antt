@@ -7,5 +7,5 @@ use Rattle.lf_open.proofs.choosing.reads_passing.Goals as goal
 pub returns : goal.returns
 returns c = λ rules of_rule sources are.
     tells_read rules of_rule c.args.passing.now are c.args.rule c.in_ok-reach.reach
-    (λ of at k. c.in_ok-reach.ensures.members rules sources of (ap (slice_get rules) c.in_ok-number.ensures ∙ at) k) c.any_passing.result
+    (λ of at k. c.in_ok-reach.ensures.members rules sources of (ap (slice_get rules) c.in_ok-rule_number.ensures ∙ at) k) c.any_passing.result
     (c.any_passing.ensures ∙ ap (λ (l : List ℕ). list_any (λ k. slice_index_or c.args.passing.now k false) l) c.as_slice.ensures)

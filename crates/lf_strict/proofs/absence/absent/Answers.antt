@@ -12,7 +12,7 @@ pub returns-in_ok-one-in-Some : goal.returns-in_ok-one-in-Some
 returns-in_ok-one-in-Some c = λ W e given.
     let s = c.in-Some.sought in
     let one = c.in_ok-one-in-Some.one in
-    let shut : IsOpenAbsent (Some s) → ⊥ = λ is_open. let yes = c.is_open.ensures.1 is_open in let no = c.if-is_open.false in cc in
+    let shut : IsOpenAbsent (Some s) → ⊥ = λ is_open. let yes = c.leaves_open.ensures.1 is_open in let no = c.if-leaves_open.false in cc in
     let is = subst (IsAbsent (Some s)) (sym (c.in_ok-one-in-Some.ensures ∙ ap (λ (s : Sought). sought_labels s.matchers) c.sought.view_is)) (sought_sample s shut) in
     subst (λ (sought : Option Sought). IfOk c.where_empty.result (InOrder (StrictAbsent sought (StrictlyEvaluates W e)))) (sym c.in-Some.is ∙ c.sought_in.ensures)
     (shut_ok (Some s) (StrictlyEvaluates W e) one c.where_empty.result shut is (c.where_empty.ensures W e given))

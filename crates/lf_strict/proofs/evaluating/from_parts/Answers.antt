@@ -12,9 +12,11 @@ use Rattle.lf_ast.proofs.TreeOf.{tree_aggregate, tree_call}
 use Rattle.lf_semantics.specs.Parts.{is_scalar_part}
 use Rattle.lf_witness.specs.Strict.{AreSelected, IsSet, StrictBinary, StrictCall, StrictlyEvaluates}
 use Rattle.lf_witness.specs.StrictRuns.{InOrder, IsStrictAnswer}
+use Rattle.lf_nodes.proofs.Parts.{first_of_two, second_of_two}
 use Rattle.lf_strict.specs.declared.evaluated.Evaluated.{Evaluated}
-use Rattle.lf_strict.specs.views.Evaluated.{evaluated, operand_of, parts_needed}
-use Rattle.lf_strict.proofs.Operands.{call_answer, kept_answer, left_is, of_call, operand_is, operand_tree, right_is}
+use Rattle.lf_strict.specs.views.Evaluated.{evaluated, operand_of}
+use Rattle.lf_nodes.specs.views.Needed.{parts_needed}
+use Rattle.lf_strict.proofs.Operands.{call_answer, kept_answer, of_call, operand_is, operand_tree}
 use Rattle.lf_strict.proofs.evaluating.from_parts.Goals as goal
 
 pub returns-in-Selector-clause-answer : goal.returns-in-Selector-clause-answer
@@ -33,8 +35,8 @@ returns-in-Binary-clause-answer c =
     let left : Tree = tree s.left.value in
     let right : Tree = tree s.right.value in
     let own : c.args.parts.items ≡ evaluated W left ∷ evaluated W right ∷ [] = c.requires.parts ∙ ap (λ (e : Expr). map (evaluated W) (chosen (parts_needed (tree e)) (parts_of (tree e)))) s.is in
-    let is_left = left_is W _ _ c.args.parts.items left right c.both-left.ensures own in
-    let is_right = right_is W _ _ c.args.parts.items left right c.both-left.ensures own in
+    let is_left = first_of_two c.both-left.ensures own in
+    let is_right = second_of_two c.both-left.ensures own in
     let P : Bool → Bool → Type 0 = λ x y. IfOk c.binary.result (λ made. InOrder (StrictBinary s.op s.modifier x y (StrictlyEvaluates W left) (StrictlyEvaluates W right)) made.answer) in
     let given = c.binary.ensures.answer W left right (kept_answer W left _ is_left) (kept_answer W right _ is_right) in
     subst (λ (e : Expr). IfOk c.binary.result (λ made. IsStrictAnswer W (tree e) made.answer)) (sym s.is)

@@ -10,7 +10,8 @@ use Rattle.lf_ast.specs.declared.expr.Grouping.TheVariants.{None as Ungrouped}
 use Rattle.lf_ast.specs.views.Walks.{chosen}
 use Rattle.lf_ast.proofs.TreeOf.{tree_aggregate, tree_call}
 use Rattle.lf_trials.specs.Follow.{follow, follow_argument, follow_call}
-use Rattle.lf_uniform.specs.views.Following.{followed_call, known_by, operand_of, parts_needed, told_of}
+use Rattle.lf_uniform.specs.views.Following.{followed_call, known_by, operand_of, told_of}
+use Rattle.lf_nodes.specs.views.Needed.{parts_needed}
 use Rattle.lf_uniform.proofs.Operands.{call_is, of_call}
 use Rattle.lf_uniform.proofs.following.from_parts.Goals as goal
 

@@ -3,10 +3,8 @@ use Rattle.std.proofs.lemmas.Grind.{common_steps}
 use Rattle.lf_board.specs.Numbers.{AreNumbersBelow}
 use Rattle.lf_board.specs.Seats.{BoardFacts, SeatFacts}
 use Rattle.lf_board.proofs.Steps.{ends}
+use Rattle.lf_board.proofs.Sums.{missed_some}
 use Rattle.lf_board.proofs.board.Board.close.Goals as goal
-
-missed_some : (n : ℕ) (b : Bool) → b ≡ (n == 0) → b ≡ false → 0 < n
-missed_some n b is shut = grind (arith, common_steps)
 
 pub returns : goal.returns
 returns c shut =

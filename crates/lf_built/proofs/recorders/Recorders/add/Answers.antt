@@ -1,16 +1,12 @@
 use Rattle.std.proofs.Common.{◌≡◌, ◌∷◌, ◌++◌, [], ℕ, List, cond, length, sym, ◌∙◌, ap, subst}
-use Rattle.std.specs.Prelude.{OnOk, Result, Ok, Err}
 use Rattle.lf_ast.specs.Labels.{Bytes}
 use Rattle.lf_ast.specs.Rules.{RuleTree, rule_tree}
 use Rattle.lf_classes.specs.views.TextSets.{with_text}
 use Rattle.lf_deps.specs.views.Makers.{with_maker}
 use Rattle.lf_built.specs.views.Recorders.{AreRecordersOf, Recorders}
+use Rattle.lf_deps.proofs.Outcomes.{on_both}
 use Rattle.lf_built.proofs.NamesRecorded.{one_rule_more}
 use Rattle.lf_built.proofs.recorders.Recorders.add.Goals as goal
-
-on_both : {X E : Type 0} (P Q R : Type 0) (r : Result X E) → (P → Q → R) → OnOk r P → OnOk r Q → OnOk r R
-on_both P Q R (Ok x) h p q = h p q
-on_both P Q R (Err e) h p q = tt
 
 recorders_as : {n m : List Bytes} {k l : List (List ℕ)} → n ≡ m → k ≡ l → ◌≡◌ {A = Recorders} (record { names = n; numbers = k }) (record { names = m; numbers = l })
 recorders_as f g = cc

@@ -1,16 +1,12 @@
 use Rattle.std.proofs.Common.{◌≡◌, ◌∷◌, ◌++◌, [], ℕ, List, Option, cond, length, sym, ◌∙◌, ap, subst}
-use Rattle.std.specs.Prelude.{OnOk, Result, Ok, Err}
 use Rattle.lf_ast.specs.Labels.{Bytes}
 use Rattle.lf_ast.specs.Rules.{RuleTree, rule_tree}
 use Rattle.lf_classes.specs.views.TextSets.{with_text}
 use Rattle.lf_deps.specs.views.Makers.{with_maker}
 use Rattle.lf_deps.specs.views.Sources.{IsSourcesOf, Sources}
+use Rattle.lf_deps.proofs.Outcomes.{on_both}
 use Rattle.lf_deps.proofs.Indexed.{sources_more}
 use Rattle.lf_deps.proofs.sources.Sources.add.Goals as goal
-
-on_both : {X E : Type 0} (P Q R : Type 0) (r : Result X E) → (P → Q → R) → OnOk r P → OnOk r Q → OnOk r R
-on_both P Q R (Ok x) h p q = h p q
-on_both P Q R (Err e) h p q = tt
 
 sources_as : {s t : List (List (Option Bytes))} {n m : List Bytes} {k l : List (List ℕ)} → s ≡ t → n ≡ m → k ≡ l
     → ◌≡◌ {A = Sources} (record { selected = s; names = n; makers = k }) (record { selected = t; names = m; makers = l })

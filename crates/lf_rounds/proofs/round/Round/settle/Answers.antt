@@ -8,7 +8,7 @@ use Rattle.lf_rounds.specs.views.Noting.{AreMadeBy}
 use Rattle.lf_rounds.proofs.Allowed.{made_words}
 use Rattle.lf_rounds.proofs.Closing.{ends_round}
 use Rattle.std.proofs.lemmas.Bool.{not-true}
-use Rattle.lf_rounds.proofs.Seated.{missed_some}
+use Rattle.lf_board.proofs.Sums.{missed_some}
 use Rattle.lf_rounds.proofs.round.Round.settle.Goals as goal
 
 pub returns-in_err-words-clause-claims : goal.returns-in_err-words-clause-claims

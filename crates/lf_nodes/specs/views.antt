@@ -1,0 +1,2 @@
+-- How contracts see the walks. It defines nothing.
+pub mod Needed
