@@ -20,16 +20,16 @@ use std::alloc::Global;
 fn whole_step(
     alloc: Global,
     stack: &mut Vec<Frame>,
-    operand: Expr,
+    operand: Box<Expr>,
     end: u32,
     follower: Follower,
     token: Seen,
 ) -> Result<Option<Mode>, Memory>
-    ensures { IfOk result (λ p. next stack.new.items p ≡ machine.whole_step (seen_frames stack.old.items) (tree operand) end follower (tok token.entry)) }
+    ensures { IfOk result (λ p. next stack.new.items p ≡ machine.whole_step (seen_frames stack.old.items) (tree operand.value) end follower (tok token.entry)) }
 {
     match follower {
         Follower::Bracket => { Ok(Some(Mode::AfterBracket(Operand::Whole(operand, end)))) }
-        _ => after(alloc, stack, operand, end, token),
+        _ => after(alloc, stack, Box::into_inner(operand), end, token),
     }
 }
 
@@ -61,13 +61,13 @@ fn bare_step(
         ))),
         Follower::Offset => Ok(Some(Mode::InMod(
             of_word(alloc, name),
-            blank(span),
+            Box::new(alloc, blank(span))?,
             span,
             Part::AfterOffset,
         ))),
         Follower::At => Ok(Some(Mode::InMod(
             of_word(alloc, name),
-            blank(span),
+            Box::new(alloc, blank(span))?,
             span,
             Part::AfterAt,
         ))),
@@ -99,13 +99,13 @@ fn selected_step(
         Follower::Bracket => Ok(Some(Mode::AfterBracket(Operand::Selected(name, matchers, span)))),
         Follower::Offset => Ok(Some(Mode::InMod(
             Subject::Selector(name, matchers),
-            blank(span),
+            Box::new(alloc, blank(span))?,
             span,
             Part::AfterOffset,
         ))),
         Follower::At => Ok(Some(Mode::InMod(
             Subject::Selector(name, matchers),
-            blank(span),
+            Box::new(alloc, blank(span))?,
             span,
             Part::AfterAt,
         ))),
@@ -155,13 +155,13 @@ fn seen_step(
     alloc: Global,
     stack: &mut Vec<Frame>,
     subject: Subject,
-    sight: Sight,
+    sight: Box<Sight>,
     span: Span,
     end: u32,
     follower: Follower,
     token: Seen,
 ) -> Result<Option<Mode>, Memory>
-    ensures { IfOk result (λ p. next stack.new.items p ≡ machine.seen_step (seen_frames stack.old.items) (seen_subject subject) sight span end follower (tok token.entry)) }
+    ensures { IfOk result (λ p. next stack.new.items p ≡ machine.seen_step (seen_frames stack.old.items) (seen_subject subject) sight.value span end follower (tok token.entry)) }
 {
     match follower {
         Follower::Bracket => Ok(Some(Mode::AfterBracket(Operand::Seen(subject, sight, span, end)))),
@@ -174,7 +174,7 @@ fn seen_step(
             Some(_) => Ok(None),
         },
         _ => {
-            let operand = subject_tree(alloc, subject, sight, span)?;
+            let operand = subject_tree(subject, sight, span);
             after(alloc, stack, operand, end, token)
         }
     }

@@ -1,5 +1,5 @@
 //! The groupings of aggregations.
-ghost use Rattle.std.specs.Prelude.{◌≡◌, List};
+ghost use Rattle.std.specs.Prelude.{◌≡◌, List, IfOk};
 ghost use Rattle.lf_parse.specs.declared.mode.Frame.{Frame};
 ghost use Rattle.lf_ast.specs.Tree.{trees};
 ghost use Rattle.lf_parse.specs.Grammar as grammar;
@@ -13,8 +13,9 @@ use crate::names::Names;
 use crate::seen::{Mark, Seen};
 use crate::step::Step;
 use lf_ast::{Agg, Expr, Grouping, Name};
-use lf_base::{Seq, Span};
+use lf_base::{Memory, Seq, Span};
 use lf_lex::Sign;
+use std::alloc::Global;
 
 /// Takes the token behind the name of an aggregation, which has a span: its arguments or its grouping begin. Any other token gives no place.
 pub fn after_aggregation(op: Agg, span: Span, token: Seen) -> Option<Mode>
@@ -67,20 +68,22 @@ pub fn after_grouping(op: Agg, span: Span, grouping: Grouping, token: Seen) -> O
 
 /// Goes on inside the labels of a grouping behind the arguments, by what they did with a token.
 pub fn in_grouping_behind(
+    alloc: Global,
     op: Agg,
     span: Span,
     args: Seq<Expr>,
     clause: Clause,
     taken: Step<Names, (Seq<Name>, Span)>,
-) -> Option<Mode>
-    ensures { (ps : List Frame) → next ps result ≡ machine.in_grouping_behind (seen_frames ps) op span (trees args) clause (step_of seen_names (λ v. v) taken) }
+) -> Result<Option<Mode>, Memory>
+    ensures { IfOk result (λ p. (ps : List Frame) → next ps p ≡ machine.in_grouping_behind (seen_frames ps) op span (trees args) clause (step_of seen_names (λ v. v) taken)) }
 {
     match taken {
-        Step::More(names) => Some(Mode::InGroupingBehind(op, span, args, clause, names)),
+        Step::More(names) => Ok(Some(Mode::InGroupingBehind(op, span, args, clause, names))),
         Step::Done((labels, close)) => {
             let whole = aggregation(op, grouping(clause, labels), args, span);
-            Some(Mode::ExpectOperator(Operand::Whole(whole, close.end)))
+            let whole = Box::new(alloc, whole)?;
+            Ok(Some(Mode::ExpectOperator(Operand::Whole(whole, close.end))))
         }
-        Step::DoneBefore(_) | Step::Reject => None,
+        Step::DoneBefore(_) | Step::Reject => Ok(None),
     }
 }

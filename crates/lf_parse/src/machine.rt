@@ -29,11 +29,11 @@ fn modified(
     stack: &mut Vec<Frame>,
     op: Op,
     span: Span,
-    left: Expr,
+    left: Box<Expr>,
     taken: Step<Stage, Matching>,
     token: Seen,
 ) -> Result<Option<Mode>, Memory>
-    ensures { IfOk result (λ p. next stack.new.items p ≡ machine.modified (seen_frames stack.old.items) op span (tree left) (tok token.entry) (step_of seen_stage (λ m. m) taken)) }
+    ensures { IfOk result (λ p. next stack.new.items p ≡ machine.modified (seen_frames stack.old.items) op span (tree left.value) (tok token.entry) (step_of seen_stage (λ m. m) taken)) }
 {
     match taken {
         Step::More(stage) => Ok(Some(Mode::Modifying(op, span, left, stage))),
@@ -68,34 +68,32 @@ fn in_braces(
     }
 }
 
-/// What stands behind a selector or a subquery, with one more offset or time.
-fn with_mod(sight: Sight, modifier: Mod) -> Sight
-    ensures { result ≡ grammar.with_mod sight (mod_of modifier) }
+/// Adds an offset or a time to what stands behind a selector or a subquery.
+fn add_mod(sight: &mut Sight, modifier: Mod)
+    ensures { sight.new ≡ grammar.with_mod sight.old (mod_of modifier) }
 {
     match modifier {
-        Mod::Offset(text) => Sight {
-            offset: Some(text),
-            ..sight
-        },
-        Mod::At(text) => Sight {
-            at: Some(text),
-            ..sight
-        },
+        Mod::Offset(text) => sight.offset = Some(text),
+        Mod::At(text) => sight.at = Some(text),
     }
 }
 
 /// Goes on inside an offset or a time, by what it did with a token.
-fn in_mod(subject: Subject, sight: Sight, span: Span, taken: Step<Part, (Mod, u32)>) -> Option<Mode>
-    ensures { (ps : List Frame) → next ps result ≡ machine.in_mod (seen_frames ps) (seen_subject subject) sight span (step_of seen_part seen_mod taken) }
+fn in_mod(
+    subject: Subject,
+    sight: Box<Sight>,
+    span: Span,
+    taken: Step<Part, (Mod, u32)>,
+) -> Option<Mode>
+    ensures { (ps : List Frame) → next ps result ≡ machine.in_mod (seen_frames ps) (seen_subject subject) sight.value span (step_of seen_part seen_mod taken) }
 {
     match taken {
         Step::More(part) => Some(Mode::InMod(subject, sight, span, part)),
-        Step::Done((modifier, end)) => Some(Mode::ExpectOperator(Operand::Seen(
-            subject,
-            with_mod(sight, modifier),
-            span,
-            end,
-        ))),
+        Step::Done((modifier, end)) => {
+            let mut sight = sight;
+            add_mod(&mut sight, modifier);
+            Some(Mode::ExpectOperator(Operand::Seen(subject, sight, span, end)))
+        }
         Step::DoneBefore(_) | Step::Reject => None,
     }
 }
@@ -131,7 +129,7 @@ pub fn advance(
             after_colon(alloc, of, range, range_span, token)
         }
         Mode::AfterStep(of, range, range_span, step) => {
-            Ok(after_step(of, range, range_span, step, token))
+            after_step(alloc, of, range, range_span, step, token)
         }
         Mode::AfterAggregation(op, span) => Ok(after_aggregation(op, span, token)),
         Mode::InGrouping(op, span, clause, names) => {
@@ -141,7 +139,7 @@ pub fn advance(
         Mode::AfterGrouping(op, span, grouping) => Ok(after_grouping(op, span, grouping, token)),
         Mode::InGroupingBehind(op, span, args, clause, names) => {
             let taken = names_step(alloc, names, token)?;
-            Ok(in_grouping_behind(op, span, args, clause, taken))
+            in_grouping_behind(alloc, op, span, args, clause, taken)
         }
     }
 }
@@ -165,7 +163,7 @@ pub fn finish(alloc: Global, stack: Vec<Frame>, mode: Mode) -> Result<Option<Exp
 {
     match operand_of(mode) {
         Some(operand) => {
-            let (operand, end) = operand_tree(alloc, operand)?;
+            let (operand, end) = operand_tree(alloc, operand);
             ended(alloc, stack, operand, end)
         }
         None => Ok(None),

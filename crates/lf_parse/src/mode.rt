@@ -1,5 +1,5 @@
 //! Where the parser is: its stack of what was begun, and what is expected next.
-ghost use Rattle.std.specs.Prelude.{◌≡◌, IfOk};
+ghost use Rattle.std.specs.Prelude.{◌≡◌};
 ghost use Rattle.lf_ast.specs.Tree as trees;
 ghost use Rattle.lf_parse.specs.Grammar as grammar;
 ghost use Rattle.lf_parse.specs.reading.Machine as machine;
@@ -13,7 +13,7 @@ use crate::part::Part;
 use crate::span::behind;
 use crate::stage::Stage;
 use lf_ast::{Agg, Expr, Grouping, Matcher, Matching, Op, Sight};
-use lf_base::{Memory, Seq, Span, Text};
+use lf_base::{Seq, Span, Text};
 use std::alloc::Global;
 
 /// What arguments belong to.
@@ -31,7 +31,7 @@ pub enum Head {
 #[derive(Drop)]
 pub enum Frame {
     /// An operator, its span and modifier, and its left operand.
-    LeftOf(Op, Span, Matching, Expr),
+    LeftOf(Op, Span, Matching, Box<Expr>),
     /// A sign before an operand: a minus sign, or else a plus sign.
     Signed(bool, Span),
     /// A parenthesis.
@@ -44,14 +44,14 @@ pub enum Frame {
 #[derive(Drop)]
 pub enum Subject {
     Selector(Option<Text>, Seq<Matcher>),
-    Subquery(Expr),
+    Subquery(Box<Expr>),
 }
 
-/// An operand. Where an offset in the source stands, it is that of its end.
+/// An operand. Where an offset in the source stands, it is that of its end. With each token one is moved several times, so what is large in it stands in a `Box`.
 #[derive(Drop)]
 pub enum Operand {
     /// One to which only a bracket comes.
-    Whole(Expr, u32),
+    Whole(Box<Expr>, u32),
     /// A word alone.
     Bare(Text, Span),
     /// A selector with braces.
@@ -59,10 +59,10 @@ pub enum Operand {
     /// An aggregation without a grouping.
     Aggregated(Agg, Seq<Expr>, Span, u32),
     /// A selector or a subquery with a range, an offset or a time.
-    Seen(Subject, Sight, Span, u32),
+    Seen(Subject, Box<Sight>, Span, u32),
 }
 
-/// What is expected next, by what was read last.
+/// What is expected next, by what was read last. It is kept small, as an operand is.
 #[derive(Drop)]
 pub enum Mode {
     /// An operand is expected.
@@ -72,19 +72,19 @@ pub enum Mode {
     /// An operand was read: an operator is expected, or what else may stand behind it.
     ExpectOperator(Operand),
     /// Behind an operator, in its modifier.
-    Modifying(Op, Span, Expr, Stage),
+    Modifying(Op, Span, Box<Expr>, Stage),
     /// In the braces of a selector that began with a span.
     InBraces(Option<Text>, Span, Braces),
     /// In an offset or a time.
-    InMod(Subject, Sight, Span, Part),
+    InMod(Subject, Box<Sight>, Span, Part),
     /// Behind `[`.
     AfterBracket(Operand),
     /// Behind the duration of a range, and its span.
     AfterRange(Operand, Text, Span),
     /// Behind the `:` of a subquery.
-    AfterColon(Expr, Text, Span),
+    AfterColon(Box<Expr>, Text, Span),
     /// Behind the step of a subquery.
-    AfterStep(Expr, Text, Span, Text),
+    AfterStep(Box<Expr>, Text, Span, Text),
     /// Behind the name of an aggregation.
     AfterAggregation(Agg, Span),
     /// In the labels of a grouping before the arguments, and behind them.
@@ -108,37 +108,29 @@ pub fn blank(span: Span) -> Sight
 }
 
 /// A selector or a subquery with what stands behind it.
-pub fn subject_tree(
-    alloc: Global,
-    subject: Subject,
-    sight: Sight,
-    span: Span,
-) -> Result<Expr, Memory>
-    ensures { IfOk result (λ e. trees.tree e ≡ machine.subject_tree (seen_subject subject) sight span) }
+pub fn subject_tree(subject: Subject, sight: Box<Sight>, span: Span) -> Expr
+    ensures { trees.tree result ≡ machine.subject_tree (seen_subject subject) sight.value span }
 {
+    let sight = Box::into_inner(sight);
     match subject {
-        Subject::Selector(name, matchers) => Ok(Expr::Selector {
+        Subject::Selector(name, matchers) => Expr::Selector {
             name,
             matchers,
             sight,
             span,
-        }),
-        Subject::Subquery(of) => Ok(Expr::Subquery {
-            of: Box::new(alloc, of)?,
-            sight,
-            span,
-        }),
+        },
+        Subject::Subquery(of) => Expr::Subquery { of, sight, span },
     }
 }
 
 /// The tree of an operand, with the offset of its end.
-pub fn operand_tree(alloc: Global, operand: Operand) -> Result<(Expr, u32), Memory>
-    ensures tree { IfOk result (λ e. trees.tree e.0 ≡ machine.operand_tree (seen_operand operand)) }
-    ensures end { IfOk result (λ e. e.1 ≡ machine.operand_end (seen_operand operand)) }
+pub fn operand_tree(alloc: Global, operand: Operand) -> (Expr, u32)
+    ensures tree { trees.tree result.0 ≡ machine.operand_tree (seen_operand operand) }
+    ensures end { result.1 ≡ machine.operand_end (seen_operand operand) }
 {
     match operand {
-        Operand::Whole(expr, end) => Ok((expr, end)),
-        Operand::Bare(name, span) => Ok((
+        Operand::Whole(expr, end) => (Box::into_inner(expr), end),
+        Operand::Bare(name, span) => (
             Expr::Selector {
                 name: Some(name),
                 matchers: Seq::new(alloc),
@@ -146,8 +138,8 @@ pub fn operand_tree(alloc: Global, operand: Operand) -> Result<(Expr, u32), Memo
                 span,
             },
             span.end,
-        )),
-        Operand::Selected(name, matchers, span) => Ok((
+        ),
+        Operand::Selected(name, matchers, span) => (
             Expr::Selector {
                 name,
                 matchers,
@@ -155,12 +147,10 @@ pub fn operand_tree(alloc: Global, operand: Operand) -> Result<(Expr, u32), Memo
                 span,
             },
             span.end,
-        )),
+        ),
         Operand::Aggregated(op, args, span, end) => {
-            Ok((aggregation(op, Grouping::None, args, span), end))
+            (aggregation(op, Grouping::None, args, span), end)
         }
-        Operand::Seen(subject, sight, span, end) => {
-            Ok((subject_tree(alloc, subject, sight, span)?, end))
-        }
+        Operand::Seen(subject, sight, span, end) => (subject_tree(subject, sight, span), end),
     }
 }

@@ -22,7 +22,7 @@ fn number(alloc: Global, token: Seen) -> Result<Operand, Memory>
         text: Text::of(alloc, token.text)?,
         span: token.span,
     };
-    Ok(Operand::Whole(number, token.span.end))
+    Ok(Operand::Whole(Box::new(alloc, number)?, token.span.end))
 }
 
 /// A string, without its quotes and escapes.
@@ -33,7 +33,7 @@ fn string(alloc: Global, token: Seen) -> Result<Operand, Memory>
         text: Text::of(alloc, token.text)?,
         span: token.span,
     };
-    Ok(Operand::Whole(string, token.span.end))
+    Ok(Operand::Whole(Box::new(alloc, string)?, token.span.end))
 }
 
 /// A word that names a metric or a function.
@@ -104,11 +104,10 @@ pub fn first(
     ensures { IfOk result (λ p. next stack.new.items p ≡ machine.first (seen_frames stack.old.items) (seen_head head) (tok token.entry)) }
 {
     match token.mark {
-        Mark::Sign(Sign::CloseParen) => Ok(Some(Mode::ExpectOperator(applied(
-            head,
-            Seq::new(alloc),
-            token.span,
-        )))),
+        Mark::Sign(Sign::CloseParen) => {
+            let operand = applied(alloc, head, Seq::new(alloc), token.span)?;
+            Ok(Some(Mode::ExpectOperator(operand)))
+        }
         _ => expect_operand_in(alloc, stack, Frame::Args(head, Seq::new(alloc)), token),
     }
 }

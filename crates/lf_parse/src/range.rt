@@ -49,23 +49,23 @@ fn range_of(
     range: Text,
     range_span: Span,
     close: Span,
-) -> Option<Mode>
-    ensures { (ps : List Frame) → next ps result ≡ machine.range_of (seen_frames ps) (seen_operand operand) range range_span close }
+) -> Result<Option<Mode>, Memory>
+    ensures { IfOk result (λ p. (ps : List Frame) → next ps p ≡ machine.range_of (seen_frames ps) (seen_operand operand) range range_span close) }
 {
     match operand {
-        Operand::Bare(name, span) => Some(Mode::ExpectOperator(Operand::Seen(
+        Operand::Bare(name, span) => Ok(Some(Mode::ExpectOperator(Operand::Seen(
             of_word(alloc, name),
-            ranged(range, None, range_span),
+            Box::new(alloc, ranged(range, None, range_span))?,
             to(span, close),
             close.end,
-        ))),
-        Operand::Selected(name, matchers, span) => Some(Mode::ExpectOperator(Operand::Seen(
+        )))),
+        Operand::Selected(name, matchers, span) => Ok(Some(Mode::ExpectOperator(Operand::Seen(
             Subject::Selector(name, matchers),
-            ranged(range, None, range_span),
+            Box::new(alloc, ranged(range, None, range_span))?,
             to(span, close),
             close.end,
-        ))),
-        _ => None,
+        )))),
+        _ => Ok(None),
     }
 }
 
@@ -80,39 +80,44 @@ pub fn after_range(
     ensures { IfOk result (λ p. (ps : List Frame) → next ps p ≡ machine.after_range (seen_frames ps) (seen_operand operand) range range_span (tok token.entry)) }
 {
     match token.mark {
-        Mark::Sign(Sign::CloseBracket) => {
-            Ok(range_of(alloc, operand, range, range_span, token.span))
-        }
+        Mark::Sign(Sign::CloseBracket) => range_of(alloc, operand, range, range_span, token.span),
         Mark::Sign(Sign::Colon) => {
-            let (of, _) = operand_tree(alloc, operand)?;
-            Ok(Some(Mode::AfterColon(of, range, range_span)))
+            let (of, _) = operand_tree(alloc, operand);
+            Ok(Some(Mode::AfterColon(Box::new(alloc, of)?, range, range_span)))
         }
         _ => Ok(None),
     }
 }
 
 /// Behind the `]` of a subquery.
-fn subquery(of: Expr, range: Text, range_span: Span, step: Option<Text>, close: Span) -> Mode
-    ensures { seen_mode result ≡ machine.ExpectOperator (machine.Seen (machine.OfSubquery (tree of)) (grammar.stepped range range_span step) (grammar.to (trees_of.span_of (tree of)) close) close.end) }
+fn subquery(
+    alloc: Global,
+    of: Box<Expr>,
+    range: Text,
+    range_span: Span,
+    step: Option<Text>,
+    close: Span,
+) -> Result<Mode, Memory>
+    ensures { IfOk result (λ m. seen_mode m ≡ machine.ExpectOperator (machine.Seen (machine.OfSubquery (tree of.value)) (grammar.stepped range range_span step) (grammar.to (trees_of.span_of (tree of.value)) close) close.end)) }
 {
     let span = to(span_of(&of), close);
-    Mode::ExpectOperator(Operand::Seen(
+    Ok(Mode::ExpectOperator(Operand::Seen(
         Subject::Subquery(of),
-        ranged(range, step, range_span),
+        Box::new(alloc, ranged(range, step, range_span))?,
         span,
         close.end,
-    ))
+    )))
 }
 
 /// Takes the token behind the `:` of a subquery: its step, or the `]`. Any other token gives no place.
 pub fn after_colon(
     alloc: Global,
-    of: Expr,
+    of: Box<Expr>,
     range: Text,
     range_span: Span,
     token: Seen,
 ) -> Result<Option<Mode>, Memory>
-    ensures { IfOk result (λ p. (ps : List Frame) → next ps p ≡ machine.after_colon (seen_frames ps) (tree of) range range_span (tok token.entry)) }
+    ensures { IfOk result (λ p. (ps : List Frame) → next ps p ≡ machine.after_colon (seen_frames ps) (tree of.value) range range_span (tok token.entry)) }
 {
     match token.mark {
         Mark::Duration => {
@@ -120,20 +125,29 @@ pub fn after_colon(
             Ok(Some(Mode::AfterStep(of, range, range_span, step)))
         }
         Mark::Sign(Sign::CloseBracket) => {
-            Ok(Some(subquery(of, range, range_span, None, token.span)))
+            let mode = subquery(alloc, of, range, range_span, None, token.span)?;
+            Ok(Some(mode))
         }
         _ => Ok(None),
     }
 }
 
 /// Takes the token behind the step of a subquery, which is the `]`. Any other token gives no place.
-pub fn after_step(of: Expr, range: Text, range_span: Span, step: Text, token: Seen) -> Option<Mode>
-    ensures { (ps : List Frame) → next ps result ≡ machine.after_step (seen_frames ps) (tree of) range range_span step (tok token.entry) }
+pub fn after_step(
+    alloc: Global,
+    of: Box<Expr>,
+    range: Text,
+    range_span: Span,
+    step: Text,
+    token: Seen,
+) -> Result<Option<Mode>, Memory>
+    ensures { IfOk result (λ p. (ps : List Frame) → next ps p ≡ machine.after_step (seen_frames ps) (tree of.value) range range_span step (tok token.entry)) }
 {
     match token.mark {
         Mark::Sign(Sign::CloseBracket) => {
-            Some(subquery(of, range, range_span, Some(step), token.span))
+            let mode = subquery(alloc, of, range, range_span, Some(step), token.span)?;
+            Ok(Some(mode))
         }
-        _ => None,
+        _ => Ok(None),
     }
 }

@@ -50,15 +50,15 @@ fn binary(
     op: Op,
     span: Span,
     modifier: Matching,
-    left: Expr,
+    left: Box<Expr>,
     right: Expr,
 ) -> Result<Expr, Memory>
-    ensures { IfOk result (λ e. tree e ≡ trees_of.Binary op modifier (tree left) (tree right) span) }
+    ensures { IfOk result (λ e. tree e ≡ trees_of.Binary op modifier (tree left.value) (tree right) span) }
 {
     Ok(Expr::Binary {
         op,
         modifier,
-        left: Box::new(alloc, left)?,
+        left,
         right: Box::new(alloc, right)?,
         span,
     })
@@ -96,14 +96,18 @@ fn with_last(args: Seq<Expr>, last: Expr) -> Result<Seq<Expr>, Memory>
 }
 
 /// A call or an aggregation with its arguments, whose `)` has a span.
-pub fn applied(head: Head, args: Seq<Expr>, close: Span) -> Operand
-    ensures { seen_operand result ≡ machine.applied (seen_head head) (trees args) close }
+pub fn applied(alloc: Global, head: Head, args: Seq<Expr>, close: Span) -> Result<Operand, Memory>
+    ensures { IfOk result (λ x. seen_operand x ≡ machine.applied (seen_head head) (trees args) close) }
 {
     match head {
-        Head::Call(name, span) => Operand::Whole(call(name, args, span), close.end),
-        Head::Aggregate(op, span) => Operand::Aggregated(op, args, span, close.end),
+        Head::Call(name, span) => {
+            let whole = Box::new(alloc, call(name, args, span))?;
+            Ok(Operand::Whole(whole, close.end))
+        }
+        Head::Aggregate(op, span) => Ok(Operand::Aggregated(op, args, span, close.end)),
         Head::Grouped(op, grouping, span) => {
-            Operand::Whole(aggregation(op, grouping, args, span), close.end)
+            let whole = Box::new(alloc, aggregation(op, grouping, args, span))?;
+            Ok(Operand::Whole(whole, close.end))
         }
     }
 }
@@ -122,11 +126,12 @@ fn close(
     match stack.pop() {
         Some(Frame::Paren(open)) => {
             let whole = paren(alloc, to(open, close), inner)?;
+            let whole = Box::new(alloc, whole)?;
             Ok(Some(Mode::ExpectOperator(Operand::Whole(whole, close.end))))
         }
         Some(Frame::Args(head, args)) => {
             let args = with_last(args, inner)?;
-            Ok(Some(Mode::ExpectOperator(applied(head, args, close))))
+            Ok(Some(Mode::ExpectOperator(applied(alloc, head, args, close)?)))
         }
         _ => Ok(None),
     }
@@ -167,6 +172,7 @@ fn joined(
         None => Ok(None),
         Some(op) => {
             let left = reduce(alloc, left_level(op), end, stack, operand)?;
+            let left = Box::new(alloc, left)?;
             Ok(Some(Mode::Modifying(op, span, left, Stage::Begin)))
         }
     }

@@ -119,7 +119,7 @@ seen_head (heads.Aggregate a p) = OfAggregate a p
 seen_head (heads.Grouped a g p) = OfGrouped a g p
 
 abbrev pub seen_frame : FrameOf → Frame
-seen_frame (frames.LeftOf o p m e) = LeftOf o p m (tree e)
+seen_frame (frames.LeftOf o p m e) = LeftOf o p m (tree e.value)
 seen_frame (frames.Signed neg p) = Signed neg p
 seen_frame (frames.Paren p) = InParen p
 seen_frame (frames.Args h es) = InArgs (seen_head h) (trees es)
@@ -130,26 +130,26 @@ seen_frames fs = map seen_frame (reverse fs)
 
 abbrev pub seen_subject : SubjectOf → Subject
 seen_subject (subjects.Selector nm ms) = OfSelector nm ms
-seen_subject (subjects.Subquery e) = OfSubquery (tree e)
+seen_subject (subjects.Subquery e) = OfSubquery (tree e.value)
 
 abbrev pub seen_operand : OperandOf → Operand
-seen_operand (operands.Whole e n) = Whole (tree e) n
+seen_operand (operands.Whole e n) = Whole (tree e.value) n
 seen_operand (operands.Bare w p) = Bare w p
 seen_operand (operands.Selected nm ms p) = Selected nm ms p
 seen_operand (operands.Aggregated a es p n) = Aggregated a (trees es) p n
-seen_operand (operands.Seen x s p n) = SeenOperand (seen_subject x) s p n
+seen_operand (operands.Seen x s p n) = SeenOperand (seen_subject x) s.value p n
 
 abbrev pub seen_mode : ModeOf → Mode
 seen_mode modes.ExpectOperand = ExpectOperand
 seen_mode (modes.First h) = First (seen_head h)
 seen_mode (modes.ExpectOperator x) = ExpectOperator (seen_operand x)
-seen_mode (modes.Modifying o p e st) = Modifying o p (tree e) (seen_stage st)
+seen_mode (modes.Modifying o p e st) = Modifying o p (tree e.value) (seen_stage st)
 seen_mode (modes.InBraces nm p b) = InBraces nm p (seen_braces b)
-seen_mode (modes.InMod x s p part) = InMod (seen_subject x) s p (seen_part part)
+seen_mode (modes.InMod x s p part) = InMod (seen_subject x) s.value p (seen_part part)
 seen_mode (modes.AfterBracket x) = AfterBracket (seen_operand x)
 seen_mode (modes.AfterRange x d q) = AfterRange (seen_operand x) d q
-seen_mode (modes.AfterColon e d q) = AfterColon (tree e) d q
-seen_mode (modes.AfterStep e d q x) = AfterStep (tree e) d q x
+seen_mode (modes.AfterColon e d q) = AfterColon (tree e.value) d q
+seen_mode (modes.AfterStep e d q x) = AfterStep (tree e.value) d q x
 seen_mode (modes.AfterAggregation a p) = AfterAggregation a p
 seen_mode (modes.InGrouping a p k n) = InGrouping a p k (seen_names n)
 seen_mode (modes.AfterGrouping a p g) = AfterGrouping a p g
