@@ -30,6 +30,10 @@ pub struct Nesting {
 pub fn first_too_deep(alloc: Global, tokens: &[Token]) -> Result<Option<usize>, Memory>
     ensures { IfOk result (λ found. MatchOption found (depth.IsBounded tokens.now) (depth.TooDeepAt tokens.now)) }
 {
+    // So few tokens pass no bound, and most expressions have no more.
+    if tokens.len() <= DEEPEST as usize {
+        return Ok(None);
+    }
     let mut nesting = Nesting {
         here: 0,
         around: Vec::new(alloc),

@@ -1,8 +1,11 @@
 use Rattle.std.proofs.Common.{◌≡◌, ◌+◌, ◌∙◌, sym, ap, take, false, arith}
 use Rattle.lf_parse.specs.Depth.{nesting, is_too_deep}
 use Rattle.lf_parse.specs.views.Values.{tok, nesting_of}
-use Rattle.lf_parse.proofs.Nestings.{step_more, shallow_more, braces_rise}
+use Rattle.lf_parse.proofs.Nestings.{few_bounded, step_more, shallow_more, braces_rise}
 use Rattle.lf_parse.proofs.nesting.first_too_deep.Goals as goal
+
+pub returns-then-tokens : goal.returns-then-tokens
+returns-then-tokens c = few_bounded c.args.tokens.now (omega (arith, c.if-tokens.true))
 
 pub loop-index-preserved : goal.loop-index-preserved
 loop-index-preserved c =
