@@ -12,6 +12,7 @@ use Rattle.lf_lex.specs.Breaches.{BeginsNoEscape}
 use Rattle.lf_lex.proofs.Options.{none_some}
 use Rattle.lf_base.specs.Names.{hexadecimal_value}
 use Rattle.lf_base.proofs.Digits.{digit_low}
+use Rattle.lf_lex.proofs.Heads.{first, tail_of}
 
 abbrev AreHigh : List ℕ → Type 0
 AreHigh bs = AllByRecursion (λ b. 128 ≤ b) bs
@@ -20,14 +21,6 @@ abbrev AreLow : List ℕ → Type 0
 AreLow bs = AllByRecursion (λ b. b < 128) bs
 
 -- ---- characters
-
-abbrev first : List ℕ → ℕ
-first [] = 0
-first (b ∷ bs) = b
-
-abbrev tail_of : List ℕ → List ℕ
-tail_of [] = []
-tail_of (b ∷ bs) = bs
 
 -- what begins a character of several bytes, and what goes on with it
 pub record IsLong (c : ℕ) : Type 0 where

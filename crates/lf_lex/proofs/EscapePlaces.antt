@@ -13,6 +13,7 @@ use Rattle.lf_lex.specs.Breaches.{BeginsNoEscape, ReadsUpTo, IsWrongAt, no_escap
 use Rattle.lf_lex.specs.Tokens.{in_source, Breaks}
 use Rattle.lf_base.specs.declared.fault.Fault.{Fault}
 use Rattle.lf_lex.proofs.Backslashes.{quote_low, no_bare}
+use Rattle.lf_lex.proofs.Heads.{first, tail_of}
 
 get_behind : (xs ys : List ℕ) (k : ℕ) → get_or (xs ++ ys) (length xs + k) 0 ≡ get_or ys k 0
 get_behind [] ys k = let e : 0 + k ≡ k = omega arith in ap (λ (n : ℕ). get_or ys n 0) e
@@ -37,14 +38,6 @@ slash_behind inner xs ys e =
 wrong_slash : (quote : ℕ) (inner xs rest : List ℕ) → inner ≡ xs ++ rest → BeginsNoEscape quote rest → IsSlash inner (length xs)
 wrong_slash quote inner xs [] e w = absurd w
 wrong_slash quote inner xs (b ∷ rest) e w = slash_behind inner xs rest (e ∙ ap (λ (x : ℕ). xs ++ x ∷ rest) w.0)
-
-abbrev tail_of : List ℕ → List ℕ
-tail_of [] = []
-tail_of (b ∷ bs) = bs
-
-abbrev first : List ℕ → ℕ
-first [] = 0
-first (b ∷ bs) = b
 
 module _ (quote : ℕ) (q : IsQuote quote) (inner : List ℕ) (u : IsUtf8 inner) where
   piece_slash : (before : List Piece) (p : Piece) (later : List Piece) (rest front : List ℕ) (byte : ℕ) (back : List ℕ) →

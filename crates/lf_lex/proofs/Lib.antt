@@ -1,3 +1,4 @@
+pub mod Heads
 pub mod Options
 pub mod Closing
 pub mod DurationLaws

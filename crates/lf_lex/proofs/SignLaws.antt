@@ -7,6 +7,7 @@ use Rattle.lf_lex.specs.declared.token.Sign.TheVariants as signs
 use Rattle.lf_lex.specs.Signs.{spelling}
 use Rattle.lf_lex.specs.reading.Signs.{sign_of_two, sign_of_one, one_byte, two_bytes, sign_at}
 use Rattle.lf_lex.proofs.Options.{clash, none_some}
+use Rattle.lf_lex.proofs.Heads.{tail_of}
 
 pub sign_at-spelling : (s : Sign) → sign_at (spelling s) ≡ Some (s, length (spelling s))
 unfolding sign_at sign_of_one sign_of_two
@@ -112,10 +113,6 @@ spelled_short text t e = let k = at_most_two (spelling t) t (length (spelling t)
 first_of_list : ℕ → List ℕ → ℕ
 first_of_list d [] = d
 first_of_list d (x ∷ xs) = x
-
-abbrev tail_of : List ℕ → List ℕ
-tail_of [] = []
-tail_of (x ∷ xs) = xs
 
 -- where two bytes are no sign, no sign is longer than one
 no_longer : (b c : ℕ) (more text left : List ℕ) (t : Sign) → sign_of_two b c ≡ None → b ∷ c ∷ more ≡ text ++ left → text ≡ spelling t → length text ≤ 1

@@ -34,6 +34,7 @@ use Rattle.lf_lex.proofs.DurationLaws.{no_amounts}
 use Rattle.lf_lex.proofs.PartFronts.{begins_nothing}
 use Rattle.lf_lex.proofs.StringFronts.{read_wrong}
 use Rattle.lf_lex.proofs.Utf8Fronts.{utf8_greatest}
+use Rattle.lf_lex.proofs.Heads.{first}
 
 -- ---- how far rows go
 
@@ -47,10 +48,6 @@ sign_ends : (inside : Bool) (src : List ℕ) (s : Sign) (n : ℕ) → sign_at sr
 sign_ends inside src s n h c =
     let a = sign_is_at src s n h in
     greatest_longest (IsSomeSign inside) src n (record { within = a.within; is = (s, (a.is, c)); bound = λ text left f k. a.bound text left k.0 f k.1.0 })
-
-abbrev first : List ℕ → ℕ
-first [] = 0
-first (b ∷ bs) = b
 
 no_colon : (inside : Bool) (s : Sign) → eqb (first (spelling s)) 58 ≡ false → s ≡ signs.Colon → inside ≡ true
 no_colon inside s n e = absurd (eqb-false (first (spelling s)) 58 n (ap (λ (x : Sign). first (spelling x)) e))
