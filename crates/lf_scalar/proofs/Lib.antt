@@ -13,6 +13,7 @@ pub mod BlockLaws
 pub mod Laws
 pub mod LineLaws
 pub mod Zipped
+pub mod Ascents
 pub mod Cells
 pub mod Characters
 pub mod Scan

@@ -4,18 +4,25 @@ use Rattle.std.specs.Prelude.{slice_get}
 use Rattle.std.proofs.lemmas.Option.{same_Some}
 use Rattle.lf_scalar.specs.Cells.{Cell, cell, cells, bytes_of, offsets_of, end_of, zipped}
 use Rattle.lf_scalar.specs.Folding.{feeds}
-use Rattle.lf_scalar.proofs.Cells.{cells-take}
+use Rattle.lf_scalar.specs.views.Ascending.{offsets_from}
 
 pub zipped-length : (xs ys : List ℕ) → length xs ≡ length ys → length (zipped xs ys) ≡ length xs
 zipped-length [] ys e = refl
 zipped-length (x ∷ xs) [] e = sym e
 zipped-length (x ∷ xs) (y ∷ ys) e = ap suc (zipped-length xs ys (omega (arith, e)))
 
-pub zipped-push : (xs ys : List ℕ) (x y : ℕ) → length xs ≡ length ys → zipped (xs ++ x ∷ []) (ys ++ y ∷ []) ≡ zipped xs ys ++ cell x y ∷ []
-zipped-push [] [] x y e = refl
-zipped-push [] (b ∷ ys) x y e = absurd (omega (arith, e))
-zipped-push (a ∷ xs) [] x y e = absurd (omega (arith, e))
-zipped-push (a ∷ xs) (b ∷ ys) x y e = ap (λ (cs : List Cell). cell a b ∷ cs) (zipped-push xs ys x y (omega (arith, e)))
+pub zipped-append : (xs ys us vs : List ℕ) → length xs ≡ length ys → zipped (xs ++ us) (ys ++ vs) ≡ zipped xs ys ++ zipped us vs
+zipped-append [] [] us vs e = refl
+zipped-append [] (b ∷ ys) us vs e = absurd (omega (arith, e))
+zipped-append (a ∷ xs) [] us vs e = absurd (omega (arith, e))
+zipped-append (a ∷ xs) (b ∷ ys) us vs e = ap (λ (cs : List Cell). cell a b ∷ cs) (zipped-append xs ys us vs (omega (arith, e)))
+
+zipped-cells : (at : ℕ) (bytes : List ℕ) → zipped bytes (offsets_from at (length bytes)) ≡ cells at bytes
+zipped-cells at [] = refl
+zipped-cells at (b ∷ bytes) = ap (λ (cs : List Cell). cell b at ∷ cs) (zipped-cells (suc at) bytes)
+
+pub zipped-copy : (xs ys : List ℕ) (at : ℕ) (bytes : List ℕ) → length xs ≡ length ys → zipped (xs ++ bytes) (ys ++ offsets_from at (length bytes)) ≡ zipped xs ys ++ cells at bytes
+zipped-copy xs ys at bytes e = zipped-append xs ys bytes (offsets_from at (length bytes)) e ∙ ap (λ (cs : List Cell). zipped xs ys ++ cs) (zipped-cells at bytes)
 
 pub zipped-take : (n : ℕ) (xs ys : List ℕ) → zipped (take n xs) (take n ys) ≡ take n (zipped xs ys)
 zipped-take zero xs ys = refl
@@ -29,10 +36,6 @@ feeds-more old now k at e = ap (λ (cs : List Cell). cs ++ cell 10 at ∷ []) e 
     turned : (k : ℕ) → feeds k at ++ cell 10 at ∷ [] ≡ feeds (suc k) at
     turned zero = refl
     turned (suc k) = ap (λ (cs : List Cell). cell 10 at ∷ cs) (turned k)
-
-pub cells-more : (old now : List Cell) (at : ℕ) (bytes : List ℕ) (i : ℕ) → i < length bytes → now ≡ old ++ cells at (take i bytes) → now ++ cell (get_or bytes i 0) (at + i) ∷ [] ≡ old ++ cells at (take (i + 1) bytes)
-cells-more old now at bytes i lt e =
-    ap (λ (cs : List Cell). cs ++ cell (get_or bytes i 0) (at + i) ∷ []) e ∙ append_assoc old (cells at (take i bytes)) (cell (get_or bytes i 0) (at + i) ∷ []) ∙ ap (λ (cs : List Cell). old ++ cs) (sym (cells-take at bytes i lt))
 
 pub given-more : (old now : List Cell) (at : ℕ) (bytes : List ℕ) (i : ℕ) → i < length bytes → now ≡ old ++ map (λ (b : ℕ). cell b at) (take i bytes) → now ++ cell (get_or bytes i 0) at ∷ [] ≡ old ++ map (λ (b : ℕ). cell b at) (take (i + 1) bytes)
 given-more old now at bytes i lt e =

@@ -1,10 +1,16 @@
-//! A text that is being made, with the source offset of each of its bytes.
-ghost use Rattle.std.specs.Prelude.{◌≡◌, ℕ, ◌+◌, ◌<◌, ◌^◌, ◌∷◌, ◌++◌, [], length, take, min, OnOk};
-ghost use Rattle.lf_scalar.specs.Cells.{cell, cells, bytes_of, offsets_of, end_of};
+//! A text that is being made, with the source offset of each of its bytes. It is public for the crates of this repository that fold scalars of their own.
+ghost use Rattle.std.specs.Prelude.{◌≡◌, ℕ, ◌+◌, ◌<◌, ◌^◌, ◌∷◌, ◌++◌, [], length, take, min, Ok, OnOk, OnErr};
+ghost use Rattle.std.specs.Str.{IsUtf8};
+ghost use Rattle.lf_base.specs.Answers.{AnswersAs};
+ghost use Rattle.lf_scalar.specs.Cells.{cell, cells, bytes_of, offsets_of, end_of, made};
 ghost use Rattle.lf_scalar.specs.Folding.{feeds, fold};
+ghost use Rattle.lf_scalar.specs.Offsets.{AreOffsets};
 ghost use Rattle.lf_scalar.specs.Quoted.{char_cells};
+ghost use Rattle.lf_scalar.specs.views.Ascending.{offsets_from};
+ghost use Rattle.lf_scalar.specs.views.Built.{shown};
 
-use lf_base::Memory;
+use crate::scalar::Scalar;
+use lf_base::{Memory, Refusal, Seq, Span, Text};
 use std::alloc::Global;
 use std::marker::Model;
 
@@ -75,8 +81,44 @@ impl ScalarBuilder {
         }
     }
 
+    /// Appends bytes of the source, the first of them at an offset.
+    pub fn copy(&mut self, bytes: &[u8], at: u32) -> Result<(), Memory>
+        requires { at + length bytes.now < 2 ^ 32 }
+        ensures { OnOk result (self.new ≡ self.old ++ cells at bytes.now) }
+    {
+        push_offsets(&mut self.from, at, bytes.len())?;
+        match self.text.extend_from_slice(bytes) {
+            Ok(()) => Ok(()),
+            Err(_) => {
+                self.from.truncate(self.text.len());
+                Err(Memory)
+            }
+        }
+    }
+
+    /// The scalar of this text, which is UTF-8, with the offset of its end and its place.
+    pub fn into_scalar(self, end: u32, span: Span) -> Result<Scalar, Refusal>
+        requires utf8 { IsUtf8 (bytes_of self) }
+        requires offsets { AreOffsets (bytes_of self) (offsets_of self ++ end ∷ []) span }
+        ensures { AnswersAs shown result (Ok (made self end span)) }
+    {
+        let (text, mut from) = self.into_parts();
+        match from.push(end) {
+            Ok(()) => {}
+            Err(_) => return Err(Refusal::Memory),
+        }
+        match String::from_utf8(text) {
+            Ok(text) => Ok(Scalar {
+                text: Text::from_string(text),
+                from: Seq::from_vec(from),
+                span,
+            }),
+            Err(_) => Err(Refusal::Memory),
+        }
+    }
+
     /// The bytes and their offsets.
-    pub fn into_parts(self) -> (Vec<u8>, Vec<u32>)
+    fn into_parts(self) -> (Vec<u8>, Vec<u32>)
         ensures { (result.0.items ≡ bytes_of self) × (result.1.items ≡ offsets_of self) }
     {
         (self.text, self.from)
@@ -91,13 +133,15 @@ impl ScalarBuilder {
     }
 }
 
-/// Appends bytes of the source, the first of them at an offset.
-pub fn copy(builder: &mut ScalarBuilder, bytes: &[u8], at: u32) -> Result<(), Memory>
-    requires { at + length bytes.now < 2 ^ 32 }
-    ensures { OnOk result (builder.new ≡ builder.old ++ cells at bytes.now) }
+/// Appends so many offsets, one after the other, and makes room for one more.
+pub fn push_offsets(from: &mut Vec<u32>, at: u32, count: usize) -> Result<(), Memory>
+    requires { at + count < 2 ^ 32 }
+    ensures ok { OnOk result (from.new.items ≡ from.old.items ++ offsets_from at count) }
+    ensures err { OnErr result (from.new.items ≡ from.old.items) }
 {
-    for (i, byte) in bytes.iter().enumerate() {
-        builder.push(*byte, at + i as u32)?;
+    from.reserve(count + 1)?;
+    for i in 0..count {
+        from.push_reserved(at + i as u32);
     }
     Ok(())
 }

@@ -5,7 +5,7 @@ ghost use Rattle.lf_scalar.specs.Lines.{Line, line as line_with, lines_at};
 ghost use Rattle.lf_scalar.specs.reading.Body.{contents, joins_of, between_last, literal_behind, folded_behind, joined_behind, FewBehind};
 
 use crate::body::line_from;
-use crate::builder::{ScalarBuilder, copy, feed, fold_break};
+use crate::builder::{ScalarBuilder, feed, fold_break};
 use crate::lines::{is_blank_byte, past};
 use lf_base::Memory;
 use lf_base::bytes::before;
@@ -72,7 +72,7 @@ fn push_folded_line(
         Some(last) => push_between(builder, last, blank)?,
         None => {}
     }
-    copy(builder, text, at)?;
+    builder.copy(text, at)?;
     Ok(Some(LastLine {
         feed,
         blank,
@@ -96,7 +96,7 @@ fn push_literal_line(
         Some(last) => builder.push(b'\n', last.feed)?,
         None => {}
     }
-    copy(builder, text, at)?;
+    builder.copy(text, at)?;
     Ok(Some(LastLine {
         feed,
         blank: false,

@@ -8,7 +8,7 @@ mod begins;
 mod block;
 mod body;
 mod breaks;
-mod builder;
+pub mod builder;
 pub mod comments;
 mod copied;
 mod escapes;

@@ -8,7 +8,7 @@ ghost use Rattle.lf_scalar.specs.reading.Quoted.{line_at};
 ghost use Rattle.lf_scalar.specs.views.Built.{TextAnswers};
 ghost use Rattle.lf_scalar.specs.reading.Plain.{key_at, unless_key, plain_line};
 
-use crate::builder::{ScalarBuilder, copy};
+use crate::builder::ScalarBuilder;
 use crate::comments::find_comment;
 use crate::lines::{blanks, is_blank_byte, past, trimmed_len};
 use lf_base::bytes::before;
@@ -77,7 +77,7 @@ pub fn push_bare(builder: &mut ScalarBuilder, text: &[u8], at: u32) -> Result<()
             },
         });
     }
-    match copy(builder, text, at) {
+    match builder.copy(text, at) {
         Ok(()) => Ok(()),
         Err(_) => Err(Refusal::Memory),
     }

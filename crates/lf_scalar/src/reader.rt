@@ -17,7 +17,7 @@ use crate::quoted_scalar::read_quoted;
 use crate::quotes::Quotes;
 use crate::raw_scalar::RawScalar;
 use crate::scalar::{Scalar, Style};
-use lf_base::{Refusal, Seq, Text};
+use lf_base::Refusal;
 use std::alloc::Global;
 
 /// Reads the scalar of a style that begins at an offset of a file, as a value outside flow collections whose parent has an indent, -1 at the root.
@@ -100,17 +100,5 @@ fn finish(built: RawScalar) -> Result<Scalar, Refusal>
     ensures { AnswersAs shown result (Ok (value_of built)) }
 {
     let RawScalar { builder, end, span } = built;
-    let (text, mut from) = builder.into_parts();
-    match from.push(end) {
-        Ok(()) => {}
-        Err(_) => return Err(Refusal::Memory),
-    }
-    match String::from_utf8(text) {
-        Ok(text) => Ok(Scalar {
-            text: Text::from_string(text),
-            from: Seq::from_vec(from),
-            span,
-        }),
-        Err(_) => Err(Refusal::Memory),
-    }
+    builder.into_scalar(end, span)
 }

@@ -1,4 +1,4 @@
--- Offsets one after the other, and the scalar that is a part of one line as it stands.
+-- The scalar that is a part of one line as it stands.
 use Rattle.std.proofs.Common.{◌≡◌, ℕ, zero, suc, ◌+◌, ◌<◌, ◌≤◌, List, [], ◌∷◌, ◌++◌, length, get_or, take, length-take, Result, Ok, refl, ap, arith, sym, ◌∙◌}
 use Rattle.lf_base.specs.declared.place.Span.{Span}
 use Rattle.lf_base.specs.Faults.{span}
@@ -6,22 +6,11 @@ use Rattle.lf_scalar.specs.Cells.{Cell, cells, Value, made, bytes_of, offsets_of
 use Rattle.lf_scalar.specs.Offsets.{AreOffsets}
 use Rattle.lf_base.specs.declared.fault.Fault.{Fault}
 use Rattle.lf_scalar.specs.Cells.{end_of}
+use Rattle.lf_scalar.proofs.Ascents.{offsets-push, cells-offsets, offsets-length}
 use Rattle.lf_scalar.proofs.Cells.{cells-bytes}
 use Rattle.lf_yaml.specs.Heads.{Bare}
 use Rattle.lf_yaml.specs.reading.Trees.{key_of}
-use Rattle.lf_yaml.specs.views.Ascending.{offsets_from}
-
-pub offsets-push : (at n : ℕ) → offsets_from at n ++ (at + n) ∷ [] ≡ offsets_from at (suc n)
-offsets-push at zero = let z : at + 0 ≡ at = omega arith in ap (λ (m : ℕ). m ∷ []) z
-offsets-push at (suc n) = let z : at + suc n ≡ suc at + n = omega arith in ap (λ (m : ℕ). at ∷ (offsets_from (suc at) n ++ m ∷ [])) z ∙ ap (λ (xs : List ℕ). at ∷ xs) (offsets-push (suc at) n)
-
-pub cells-offsets : (at : ℕ) (xs : List ℕ) → offsets_of (cells at xs) ≡ offsets_from at (length xs)
-cells-offsets at [] = refl
-cells-offsets at (x ∷ xs) = ap (λ (ys : List ℕ). at ∷ ys) (cells-offsets (suc at) xs)
-
-pub offsets-length : (at n : ℕ) → length (offsets_from at n) ≡ n
-offsets-length at zero = refl
-offsets-length at (suc n) = ap suc (offsets-length (suc at) n)
+use Rattle.lf_scalar.specs.views.Ascending.{offsets_from}
 
 pub offsets-get : (at n i : ℕ) → i < n → get_or (offsets_from at n) i 0 ≡ at + i
 offsets-get at zero i lt = absurd (omega arith)
@@ -50,11 +39,6 @@ ascending at xs place start end = (
   omega (arith, start, offsets-get at (length xs + 1) 0 (omega arith)),
   omega (arith, end, offsets-get at (length xs + 1) (length xs) (omega arith)),
 )
-
-pub offsets-more : (at i : ℕ) (old now : List ℕ) → now ≡ old ++ (at + i) ∷ [] → old ≡ offsets_from at i → now ≡ offsets_from at (i + 1)
-offsets-more at i old now e h =
-    let n : suc i ≡ i + 1 = omega arith in
-    e ∙ ap (λ (xs : List ℕ). xs ++ (at + i) ∷ []) h ∙ offsets-push at i ∙ ap (offsets_from at) n
 
 pub end-of-cells : (none at : ℕ) (xs : List ℕ) → none ≡ at → end_of none (cells at xs) ≡ at + length xs
 end-of-cells none at [] e = omega (arith, e)

@@ -1,5 +1,4 @@
 -- How contracts see the code's own data. They define nothing.
-pub mod Ascending
 pub mod Cursor
 pub mod Headed
 pub mod KeySets

@@ -16,9 +16,9 @@ use crate::head::{byte_fault, is_mark};
 use crate::keys::is_flow_sign;
 use crate::row::Row;
 use crate::rows::line_row;
-use crate::text_builder::{TextBuilder, copy, fold_break};
 use lf_base::bytes::before;
 use lf_base::{Kind, Refusal};
+use lf_scalar::builder::{ScalarBuilder, fold_break};
 use lf_scalar::lines::{blanks, line_end, past, spaces};
 
 /// Where something other than blanks is left of a line behind the text that it gives to a plain scalar, if something is.
@@ -39,7 +39,7 @@ pub fn line_left(line: &[u8], at: u32) -> Option<u32>
 }
 
 /// Appends what a line of a plain scalar gives, and tells where something other than blanks is left of it. It is refused where it has a `:` before a blank or its end.
-pub fn push_line(builder: &mut TextBuilder, line: &[u8], at: u32) -> Result<Option<u32>, Refusal>
+pub fn push_line(builder: &mut ScalarBuilder, line: &[u8], at: u32) -> Result<Option<u32>, Refusal>
     requires { at + length line.now ≤ 2 ^ 31 }
     ensures text { (break_at : ℕ) → TextAnswers result builder.old builder.new (plain_line (line_at at line.now break_at)) }
     ensures left { IfOk result (λ left. (break_at : ℕ) → IsLeft (line_at at line.now break_at) left) }
@@ -50,7 +50,7 @@ pub fn push_line(builder: &mut TextBuilder, line: &[u8], at: u32) -> Result<Opti
     let len = flow_text_len(text);
     match find_colon(text, len) {
         Some(place) => Err(byte_fault(Kind::NotANode, start + place as u32)),
-        None => match copy(builder, before(text, len), start) {
+        None => match builder.copy(before(text, len), start) {
             Ok(()) => Ok(line_left(line, at)),
             Err(_) => Err(Refusal::Memory),
         },
@@ -110,7 +110,7 @@ pub enum Step {
 
 /// Appends what a line break becomes and what the line behind it gives.
 fn push_next(
-    builder: &mut TextBuilder,
+    builder: &mut ScalarBuilder,
     folded: Folded,
     line: &[u8],
     at: u32,
@@ -127,7 +127,7 @@ fn push_next(
 
 /// Takes the line behind a line break. `feed` is where the line's own line break stands.
 pub fn push_step(
-    builder: &mut TextBuilder,
+    builder: &mut ScalarBuilder,
     folded: Folded,
     line: &[u8],
     at: u32,
@@ -161,7 +161,7 @@ pub fn push_step(
 /// Appends what the lines behind a line break give, as far as the scalar goes on over them, and tells where the collection is read on. `rest` is what stands behind the line
 /// break, `feed` where it stands.
 pub fn push_behind(
-    builder: &mut TextBuilder,
+    builder: &mut ScalarBuilder,
     rest: &[u8],
     at: u32,
     feed: u32,

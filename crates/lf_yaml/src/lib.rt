@@ -17,6 +17,7 @@ mod flow_plain;
 mod flow_scalar;
 mod flow_text;
 mod flow_value;
+mod folded;
 mod head;
 mod held;
 mod key_set;
@@ -34,7 +35,6 @@ mod row_value;
 mod rows;
 mod scalars;
 mod source;
-mod text_builder;
 mod turn;
 mod uniqueness;
 

@@ -14,14 +14,15 @@ use crate::between::quoted_scalar;
 use crate::entry::quote_of;
 use crate::flow_plain::{push_behind, push_line};
 use crate::flow_scalar::{begins_flow_bytes, part_fault};
+use crate::folded::plain_scalar;
 use crate::head::byte_fault;
 use crate::parts::place_from;
 use crate::place::Place;
 use crate::row::Row;
 use crate::source::Source;
-use crate::text_builder::{TextBuilder, plain_scalar};
 use lf_base::{Kind, Refusal};
 use lf_scalar::Scalar;
+use lf_scalar::builder::ScalarBuilder;
 use lf_scalar::lines::{line_end, past};
 use lf_scalar::quotes::{Quotes, find_closing};
 
@@ -52,7 +53,11 @@ fn quoted_part<'a>(
 }
 
 /// Appends what the lines of a plain scalar give that a part begins, and tells where the collection is read on.
-fn push_plain(builder: &mut TextBuilder, source: Source<'_>, part: Row<'_>) -> Result<u32, Refusal>
+fn push_plain(
+    builder: &mut ScalarBuilder,
+    source: Source<'_>,
+    part: Row<'_>,
+) -> Result<u32, Refusal>
     requires within { part.at < length source.bytes.now }
     requires rest { cells part.at part.text.now ≡ (line_on source.bytes.now part.at).text }
     ensures { FoldsAs result builder.old builder.new (plain_from (line_on source.entry.bytes.now part.entry.at) (lines_below source.entry.bytes.now part.entry.at)) }
@@ -83,7 +88,7 @@ fn plain_part<'a>(
     if !begins_flow_bytes(part.text[0], past(part.text, 1)) {
         return Err(part_fault(part));
     }
-    let mut builder = TextBuilder::new(source.alloc);
+    let mut builder = ScalarBuilder::new(source.alloc);
     match push_plain(&mut builder, source, part) {
         Ok(after) => match plain_scalar(source.alloc, builder, part.at, source.bytes.len() as u32) {
             Ok(scalar) => Ok((scalar, place_from(source, part, next, after))),

@@ -6,10 +6,11 @@ ghost use Rattle.lf_base.specs.Faults.{span as span_of};
 ghost use Rattle.lf_scalar.specs.Cells.{cells, made};
 ghost use Rattle.lf_scalar.specs.views.Built.{shown};
 ghost use Rattle.lf_base.specs.declared.refusal.Refusal.TheVariants as refusal_of;
-ghost use Rattle.lf_yaml.specs.views.Ascending.{offsets_from};
+ghost use Rattle.lf_scalar.specs.views.Ascending.{offsets_from};
 
 use lf_base::{Refusal, Seq, Span, Text};
 use lf_scalar::Scalar;
+use lf_scalar::builder::push_offsets;
 use std::alloc::Global;
 
 /// The offsets of so many bytes from one on, and of their end.
@@ -19,13 +20,7 @@ pub fn offsets(alloc: Global, at: u32, len: usize) -> Result<Seq<u32>, Refusal>
     ensures memory { IfErr result (λ e. e ≡ refusal_of.Memory) }
 {
     let mut from = Vec::new(alloc);
-    for i in 0..len {
-        match from.push(at + i as u32) {
-            Ok(()) => {}
-            Err(_) => return Err(Refusal::Memory),
-        }
-    }
-    match from.push(at + len as u32) {
+    match push_offsets(&mut from, at, len + 1) {
         Ok(()) => Ok(Seq::from_vec(from)),
         Err(_) => Err(Refusal::Memory),
     }

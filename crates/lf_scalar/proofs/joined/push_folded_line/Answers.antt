@@ -12,7 +12,7 @@ pub returns-clause-value : goal.returns-clause-value
 returns-clause-value c = λ ls.
     let lt : 0 < length c.args.text.now = grind (arith, nat_tests) in
     elim c.match-last-2.branch [
-      | in-Some-last+in_ok-push_between-in-Some-last w ↦ rw w.in-Some-last.is (full-open c.args.builder.now c.copy.new.builder c.args.at c.args.feed c.args.text.now w.in-Some-last.last c.is_blank_byte-blank.result w.push_between.new.builder ls lt c.is_blank_byte-blank.ensures
+      | in-Some-last+in_ok-push_between-in-Some-last w ↦ rw w.in-Some-last.is (full-open c.args.builder.now c.copy.new.self c.args.at c.args.feed c.args.text.now w.in-Some-last.last c.is_blank_byte-blank.result w.push_between.new.builder ls lt c.is_blank_byte-blank.ensures
           w.in_ok-push_between-in-Some-last.ensures (rw w.builder-is at c.in_ok-copy.ensures))
-      | in-None-last w ↦ rw w.in-None-last.is (full-first c.args.builder.now c.copy.new.builder c.args.at c.args.feed c.args.text.now c.is_blank_byte-blank.result ls lt c.is_blank_byte-blank.ensures (rw w.builder-is at c.in_ok-copy.ensures))
+      | in-None-last w ↦ rw w.in-None-last.is (full-first c.args.builder.now c.copy.new.self c.args.at c.args.feed c.args.text.now c.is_blank_byte-blank.result ls lt c.is_blank_byte-blank.ensures (rw w.builder-is at c.in_ok-copy.ensures))
     ]

@@ -1,7 +1,7 @@
 use Rattle.std.proofs.Common.{◌∙◌, ◌≡◌, ◌+◌, ap, sym, List, ℕ, length, subst, Ok}
 use Rattle.lf_scalar.specs.Cells.{Value}
 use Rattle.lf_scalar.specs.Offsets.{AreOffsets}
-use Rattle.lf_yaml.specs.views.Ascending.{offsets_from}
+use Rattle.lf_scalar.specs.views.Ascending.{offsets_from}
 use Rattle.lf_yaml.proofs.Ascents.{made-is, ascending}
 use Rattle.lf_yaml.proofs.plain.slice_scalar.Goals as goal
 

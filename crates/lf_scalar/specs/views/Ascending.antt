@@ -1,4 +1,4 @@
--- Offsets one after the other. It defines nothing of trees.
+-- Offsets one after the other. It defines nothing of scalars.
 use Rattle.std.specs.Prelude.{ℕ, zero, suc, List, [], ◌∷◌}
 
 -- so many offsets from one on
