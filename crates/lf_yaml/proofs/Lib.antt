@@ -34,6 +34,7 @@ pub mod Edges
 pub mod Whole
 pub mod FarKeys
 pub mod FileCharacters
+pub mod AsciiCharacters
 pub mod FileRows
 pub mod Cuts
 pub mod PartCode

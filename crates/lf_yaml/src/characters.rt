@@ -73,8 +73,11 @@ fn is_wrong_at(bytes: &[u8], offset: usize) -> bool
     requires { offset < length bytes.now }
     ensures { result ≡ is_wrong (drop offset bytes.now) }
 {
+    if bytes[offset] < 0x80 {
+        return is_control_at(bytes, offset);
+    }
     let rest = past(bytes, offset);
-    is_control_at(bytes, offset) || is_high_control(rest) || is_left_out(rest)
+    is_high_control(rest) || is_left_out(rest)
 }
 
 /// Whether a control character stands at an offset that isn't allowed there.
