@@ -9,7 +9,7 @@ use Rattle.lf_yaml.specs.Heads.{NoEntry, OpensQuote}
 use Rattle.lf_yaml.specs.Tree.{no_items, no_entries}
 use Rattle.lf_yaml.specs.Breaches.{NodeBreaks, BlockBreaks, ItemsBreak, ItemValueBreaks, EntriesBreak, EntryValueBreaks}
 use Rattle.lf_yaml.specs.Breaches as breaks
-use Rattle.lf_yaml.specs.reading.Trees.{quotes_of, Head, entry_by, quoted_head, opens_quote, item_at, item_value, with_item, items, entry_of, entry_at, entry_value, with_entry, entries_behind, keyed, key_read, entries_on, entries, as_sequence, as_mapping, node_at}
+use Rattle.lf_yaml.specs.reading.Trees.{quotes_of, Head, entry_by, quoted_head, opens_quote, item_at, item_value, with_item, items, entry_of, entry_at, entry_value, with_entry, entries_behind, keyed, key_read, entries_on, entries, as_sequence, as_mapping, node_at, Keys}
 use Rattle.lf_yaml.proofs.Ends.{end-length}
 use Rattle.lf_yaml.proofs.HeadLaws.{entry-is, key-is, key-breaks, has-tells, begins-block, begins-no-block, entry-view, opens-is, opens-view}
 use Rattle.lf_yaml.proofs.HeadLaws as heads
@@ -18,9 +18,6 @@ use Rattle.lf_yaml.proofs.BlockRows.{item-rows, entry-rows}
 use Rattle.lf_yaml.proofs.Steps.{inner, owned, values, value-node, sequence-node, mapping-node, deep-node, at-indent, at-deeper}
 use Rattle.lf_yaml.proofs.Steps as steps
 use Rattle.lf_yaml.proofs.Blocks.{new-key, at-item, at-entry, item-is, one-entry-is}
-
-abbrev Keys : Type 0
-Keys = List (List ℕ)
 
 -- a row that is no entry
 no-entry-of : (r : Row) → NoEntry r → entry_of r ≡ None

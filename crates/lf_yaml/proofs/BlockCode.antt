@@ -9,14 +9,14 @@ use Rattle.lf_scalar.specs.Cells.{Value, character_fault, Fails, ◌>>=◌}
 use Rattle.lf_yaml.specs.Rows.{Row, indent}
 use Rattle.lf_yaml.specs.Heads.{is_item}
 use Rattle.lf_yaml.specs.Tree.{Tree, Items, Entries, pair, value}
-use Rattle.lf_yaml.specs.reading.Trees.{Head, Read, EntryValues, entry_of, as_sequence, as_mapping, value_on, node_at}
+use Rattle.lf_yaml.specs.reading.Trees.{Head, Read, EntryValues, entry_of, as_sequence, as_mapping, value_on, node_at, Keys}
 use Rattle.lf_yaml.specs.views.Cursor.{rows_after}
 use Rattle.lf_yaml.specs.views.KeySets.{HasKeys}
 use Rattle.lf_yaml.specs.reading.BlockTurns.{new_key, with_key, one_entry, run_items, run_entries}
 use Rattle.lf_yaml.specs.declared.key_set.KeySet.{KeySet}
 use Rattle.lf_yaml.specs.declared.node.Node.{the_lemmas}
 use Rattle.lf_yaml.specs.declared.node.Entry.{Entry}
-use Rattle.lf_yaml.proofs.EntryRuns.{Keys, Pair, texts_of}
+use Rattle.lf_yaml.proofs.EntryRuns.{Pair, texts_of}
 use Rattle.lf_yaml.proofs.Steps.{sequence-node, mapping-node, deep-node}
 
 module _ (bytes : List ℕ) (own : Bool) (above : ℕ) (r : Row) (rs : List Row) where

@@ -16,7 +16,7 @@ use Rattle.lf_yaml.specs.Nodes.{NothingBelow, Ends, NodeAt, BlockAt, ItemsAt, It
 use Rattle.lf_yaml.specs.Nodes as nodes
 use Rattle.lf_yaml.specs.Breaches.{NodeBreaks, BlockBreaks, ItemsBreak, ItemValueBreaks, EntriesBreak, EntryValueBreaks}
 use Rattle.lf_yaml.specs.Breaches as breaks
-use Rattle.lf_yaml.specs.reading.Trees.{Read, Head, item_next, item_at, unless_tab, item_value, with_item, items_behind, items, key_of, entry_of, entry_next, entry_at, entry_value, with_entry, entries_behind, key_read, entries_on, entries, as_sequence, as_mapping, value_on, node_at}
+use Rattle.lf_yaml.specs.reading.Trees.{Read, Head, item_next, item_at, unless_tab, item_value, with_item, items_behind, items, key_of, entry_of, entry_next, entry_at, entry_value, with_entry, entries_behind, key_read, entries_on, entries, as_sequence, as_mapping, value_on, node_at, Keys}
 use Rattle.lf_yaml.proofs.Ends.{end-length, end-holds}
 use Rattle.lf_yaml.proofs.HeadLaws.{entry-view, KeyTold, key-tells, has-tells, opens-view, block-view}
 use Rattle.lf_yaml.proofs.HeadLaws as heads
@@ -27,9 +27,6 @@ use Rattle.lf_yaml.proofs.BlockRows.{item-rows, entry-value-rows}
 use Rattle.lf_yaml.proofs.Steps.{inner, owned, values, value-node, sequence-node, mapping-node, deep-node, at-indent, at-deeper, at-smaller}
 use Rattle.lf_yaml.proofs.Blocks.{at-item}
 use Rattle.lf_yaml.proofs.Sequences.{differs}
-
-abbrev Keys : Type 0
-Keys = List (List ℕ)
 
 -- ---- what stands behind a key's sign ends the row
 

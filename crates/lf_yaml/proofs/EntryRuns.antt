@@ -9,7 +9,7 @@ use Rattle.lf_scalar.specs.Cells.{Cell, Value, Fails, ◌>>=◌}
 use Rattle.lf_yaml.specs.Rows.{Row, text_of, indent, indent_fault}
 use Rattle.lf_yaml.specs.Tree.{Tree, Entries, no_entries, entries_of}
 use Rattle.lf_yaml.specs.Nodes.{Ends}
-use Rattle.lf_yaml.specs.reading.Trees.{Head, Read, EntryValues, entry_of, key_of, has, opens_quote, keyed, key_read, with_entry, entries_behind, entries_on, entries}
+use Rattle.lf_yaml.specs.reading.Trees.{Head, Read, EntryValues, entry_of, key_of, has, opens_quote, keyed, key_read, with_entry, entries_behind, entries_on, entries, Keys}
 use Rattle.lf_yaml.specs.reading.BlockTurns.{head_here, no_entry_fault, entry_turn, if_new, new_key, with_key, one_entry, values, run_entries}
 use Rattle.lf_yaml.proofs.BlockRows.{entry-value-rows}
 use Rattle.lf_yaml.proofs.BlockTells.{EntryValueTold, entry-value-told, node-tells, own-tells}
@@ -133,9 +133,6 @@ entries-wrong value n m keys (s ∷ ss) f e =
     here (Some k) e = absurd (some-wrong f s k ss e)
 
 -- ---- one entry, and then what is read behind it
-
-abbrev pub Keys : Type 0
-Keys = List (List ℕ)
 
 -- the entries behind one
 abbrev pub with_one : (Keys → List Row → Read Entries) → Keys → Read (Value × Tree) → Read Entries

@@ -8,7 +8,7 @@ use Rattle.lf_base.specs.declared.fault.Fault.{Fault}
 use Rattle.lf_scalar.specs.Cells.{Cell, Value, Fails, ◌>>=◌}
 use Rattle.lf_yaml.specs.Tree.{Tree, Entries, no_entries, entries_of, pair}
 use Rattle.lf_yaml.specs.Flow.{next_on}
-use Rattle.lf_yaml.specs.reading.Trees.{FlowRead, Later, Signed, Valued, has, flow_key, flow_value, mapping_sign, value_behind, key_behind, mapping_in}
+use Rattle.lf_yaml.specs.reading.Trees.{FlowRead, Later, Signed, Valued, has, flow_key, flow_value, mapping_sign, value_behind, key_behind, mapping_in, Keys}
 use Rattle.lf_yaml.specs.reading.FlowTurns.{with_pair, turned_entries, entry_at, closed_entries}
 use Rattle.lf_yaml.specs.views.Shown.{shown}
 use Rattle.lf_yaml.specs.declared.node.Entry.{Entry}
@@ -17,9 +17,6 @@ use Rattle.lf_yaml.specs.declared.place.Place.{Place}
 use Rattle.lf_yaml.specs.declared.turn.Turn.TheVariants as turn
 use Rattle.lf_yaml.proofs.Sequences.{Enough, always-enough}
 use Rattle.lf_yaml.proofs.Mappings.{mapping-is, mapping-breaks, MappingTold, mapping-tells}
-
-abbrev pub Keys : Type 0
-Keys = List (List ℕ)
 
 -- the texts of the keys of some entries
 abbrev pub texts_of : List (Value × Tree) → Keys

@@ -9,14 +9,11 @@ use Rattle.lf_yaml.specs.Heads.{Key, IsKey}
 use Rattle.lf_yaml.specs.Tree.{Tree, Entries, no_entries, entry}
 use Rattle.lf_yaml.specs.Flow.{Next, at_part, broken, next_on, sign_fault, FlowKey, FlowEntry, MappingIn, MappingBreaks}
 use Rattle.lf_yaml.specs.Flow as flow
-use Rattle.lf_yaml.specs.reading.Trees.{Signed, flow_key, Valued, flow_value, FlowRead, with_flow_entry, mapping_sign, value_behind, Later, new_entry, key_behind, mapping_part, mapping_in}
+use Rattle.lf_yaml.specs.reading.Trees.{Signed, flow_key, Valued, flow_value, FlowRead, with_flow_entry, mapping_sign, value_behind, Later, new_entry, key_behind, mapping_part, mapping_in, Keys}
 use Rattle.lf_yaml.proofs.HeadLaws.{has-tells}
 use Rattle.lf_yaml.proofs.FlowParts.{part-bounds, part-within, part-no-sign}
 use Rattle.lf_yaml.proofs.FlowKeys.{flow-key-is, flow-key-breaks, FlowKeyTold, flow-key-tells, flow-value-is, flow-value-breaks, FlowValueTold, flow-value-tells, key-within, key-begins, value-within}
 use Rattle.lf_yaml.proofs.Sequences.{differs, no-44, Enough, falls}
-
-abbrev pub Keys : Type 0
-Keys = List (List ℕ)
 
 module _ (bytes : List ℕ) where
   abbrev part_is : ℕ → Next → Type 0

@@ -5,8 +5,9 @@ use Rattle.std.proofs.Math.Bool.{and-false, or-true}
 use Rattle.lf_scalar.specs.Cells.{Cell, cell, cells}
 use Rattle.lf_scalar.specs.Lines.{is_blank, after_blanks}
 use Rattle.lf_scalar.proofs.Cells.{cells-length}
+use Rattle.lf_scalar.specs.Block.{begins_blank}
 use Rattle.lf_yaml.specs.Rows.{Row}
-use Rattle.lf_yaml.specs.Flow.{Next, at_part, on_line, next_part, begins_blank}
+use Rattle.lf_yaml.specs.Flow.{Next, at_part, on_line, next_part}
 
 -- behind the blanks, by whether there were some
 abbrev pub part_after : ℕ → Bool → List Cell → List Row → Next

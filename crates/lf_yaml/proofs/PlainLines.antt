@@ -18,6 +18,7 @@ use Rattle.lf_yaml.specs.Flow.{line_on, flow_text, line_text, line_left, line_co
 use Rattle.lf_yaml.specs.reading.Trees.{plain_line, Folded, before_text, plain_behind, plain_from}
 use Rattle.lf_yaml.specs.reading.FlowLines.{Steps, FoldsAs}
 use Rattle.lf_yaml.specs.declared.flow_plain.Folded.{Folded as Waiting}
+use Rattle.lf_yaml.proofs.FlowLines.{good}
 use Rattle.lf_yaml.proofs.PartCode.{behind-is}
 
 -- ---- one line
@@ -88,9 +89,6 @@ pub mark-tells : (r : Row) (rs : List Row) (b : Bool) → r.first.byte ≢ 9 →
 mark-tells r rs b ne s m = ap not m ∙ sym (rw (ne_eqb r.first.byte 9 ne, s) refl)
 
 -- ---- cells before what is read
-
-abbrev pub good : List Cell → ℕ → Folded
-good text after = Ok (text, after)
 
 abbrev pub bad : Fault → Folded
 bad f = Err f

@@ -6,6 +6,7 @@ use Rattle.lf_base.specs.declared.fault.Fault.{Fault}
 use Rattle.lf_base.specs.Faults.{span, fault}
 use Rattle.lf_scalar.specs.Cells.{Cell, Value, byte_fault, character_fault}
 use Rattle.lf_scalar.specs.Lines.{Line, line, lines, start_of, is_blank, after_blanks, after_spaces}
+use Rattle.lf_scalar.specs.Block.{begins_blank}
 use Rattle.lf_scalar.specs.Folding.{fold, trimmed}
 use Rattle.lf_scalar.specs.Plain.{before_blank, before_comment, is_plain_byte, value_of}
 use Rattle.lf_scalar.specs.Scalars.{source_at}
@@ -72,10 +73,6 @@ is_flow_sign c = is_one_of (codes ",[]{}?") c
 
 abbrev pub is_bracket : Cell → Bool
 is_bracket c = is_one_of (codes "[{") c
-
-abbrev pub begins_blank : List Cell → Bool
-begins_blank [] = false
-begins_blank (c ∷ cs) = is_blank c
 
 -- As a plain scalar begins elsewhere, but for `?` and `:`.
 abbrev pub begins_flow : Cell → List Cell → Bool

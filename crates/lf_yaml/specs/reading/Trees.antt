@@ -71,8 +71,12 @@ opens_by cs (Some kind) = is_none (closing_of kind 0 cs)
 unfoldable pub opens_quote : Cell → List Cell → Bool
 opens_quote c cs = opens_by cs (quotes_of c)
 
+-- the texts of some keys
+abbrev pub Keys : Type 0
+Keys = List (List ℕ)
+
 -- a text stands among some
-abbrev pub has : List (List ℕ) → List ℕ → Bool
+abbrev pub has : Keys → List ℕ → Bool
 has texts text = list_any (λ t. bytes_eq t text) texts
 
 -- ---- flow collections
