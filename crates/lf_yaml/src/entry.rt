@@ -112,9 +112,19 @@ pub fn find_entry(row: Row<'_>) -> Option<Head<'_>>
     ensures room { IfSome result (λ h. h.colon + 1 + length h.behind.now ≤ 2 ^ 31) }
     ensures key { IfSome result (λ h. IsKeyIn row.entry.at row.entry.text.now h.key) }
 {
-    if is_left_out(row) {
-        return None;
+    // Most rows of values have no sign of a key, and need no further look.
+    match head_of(row) {
+        Some(head) => { if is_left_out(row) { None } else { Some(head) } }
+        None => None,
     }
+}
+
+/// The key that a row begins, left out or not, blanks, `:`, and a blank or the line's end.
+fn head_of(row: Row<'_>) -> Option<Head<'_>>
+    ensures head { option_map (headed row.entry.at row.entry.text.now) result ≡ entry_by (shown row.entry) (quotes_of (shown row.entry).first) }
+    ensures room { IfSome result (λ h. h.colon + 1 + length h.behind.now ≤ 2 ^ 31) }
+    ensures key { IfSome result (λ h. IsKeyIn row.entry.at row.entry.text.now h.key) }
+{
     match quote_of(row.text[0]) {
         Some(quote) => quoted_entry(row, quote),
         None => bare_entry(row),
