@@ -43,7 +43,14 @@ pub fn given_entry<'a>(entries: &'a [Entry], key: &str) -> Option<&'a Entry>
 pub fn given<'a>(entries: &'a [Entry], key: &str) -> Option<&'a Node>
     ensures { option_map (λ t. tree t.now) result ≡ mappings.given key.now (map pair entries.now) }
 {
-    match given_entry(entries, key) {
+    value_of(given_entry(entries, key))
+}
+
+/// The value of an entry, where there is one.
+pub fn value_of<'a>(entry: Option<&'a Entry>) -> Option<&'a Node>
+    ensures { option_map (λ t. tree t.now) result ≡ option_map (λ e. e.1) (option_map (λ e. pair e.now) entry.entry) }
+{
+    match entry {
         Some(entry) => Some(&entry.value),
         None => None,
     }

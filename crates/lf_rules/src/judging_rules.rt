@@ -6,7 +6,7 @@ ghost use Rattle.lf_rules.specs.Mappings.{given_entry as given_at};
 ghost use Rattle.lf_rules.specs.reading.Files as reading;
 ghost use Rattle.lf_rules.specs.reading.Files.{least_from, least_each};
 
-use crate::entries::{given, given_entry};
+use crate::entries::{given, given_entry, value_of};
 use crate::judging::{
     Level, Wanted, judge_keys, judge_missing, judge_scalar, judge_settings, judge_text, note,
     note_at_start,
@@ -97,25 +97,40 @@ fn judge_alert_keys(
     }
 }
 
-/// The keys of a rule, and whether it records or alerts.
-fn judge_rule_keys(first: &mut Option<Fault>, span: Span, entries: &[Entry])
+/// The keys of a rule, and whether it records or alerts, by its entries of `record` and `alert`.
+fn judge_rule_keys(
+    first: &mut Option<Fault>,
+    span: Span,
+    entries: &[Entry],
+    recorded: Option<&Entry>,
+    alerted: Option<&Entry>,
+)
+    requires recorded { option_map (λ e. pair e.now) recorded ≡ given_at (codes "record") (map pair entries.now) }
+    requires alerted { option_map (λ e. pair e.now) alerted ≡ given_at (codes "alert") (map pair entries.now) }
     ensures { first.new ≡ least_each first.old (reading.rule_key_parts span (map pair entries.now)) }
 {
-    let recorded = given_entry(entries, "record");
-    let alerted = given_entry(entries, "alert");
     judge_keys(first, Level::Rule, entries);
     judge_kind(first, span, records_first(entries), recorded, alerted);
     judge_alert_keys(first, recorded, alerted, entries);
 }
 
-/// The name and the expression of a rule.
-fn judge_rule_texts(first: &mut Option<Fault>, span: Span, entries: &[Entry])
+/// The name of a rule, by its entries of `record` and `alert`, and its expression.
+fn judge_rule_texts(
+    first: &mut Option<Fault>,
+    span: Span,
+    entries: &[Entry],
+    recorded: Option<&Entry>,
+    alerted: Option<&Entry>,
+)
+    requires recorded { option_map (λ e. pair e.now) recorded ≡ given_at (codes "record") (map pair entries.now) }
+    requires alerted { option_map (λ e. pair e.now) alerted ≡ given_at (codes "alert") (map pair entries.now) }
     ensures { first.new ≡ least_each first.old (reading.rule_text_parts span (map pair entries.now)) }
 {
-    judge_text(first, Wanted::Metric, given(entries, "record"));
-    judge_scalar(first, given(entries, "alert"));
-    judge_missing(first, span, given_entry(entries, "expr"));
-    judge_scalar(first, given(entries, "expr"));
+    let expr = given_entry(entries, "expr");
+    judge_text(first, Wanted::Metric, value_of(recorded));
+    judge_scalar(first, value_of(alerted));
+    judge_missing(first, span, expr);
+    judge_scalar(first, value_of(expr));
 }
 
 /// The lengths of time, labels and annotations of a rule.
@@ -132,8 +147,10 @@ fn judge_rule_settings(first: &mut Option<Fault>, entries: &[Entry])
 fn judge_rule(first: &mut Option<Fault>, span: Span, entries: &[Entry])
     ensures { first.new ≡ least_from first.old (reading.rule_faults span (map pair entries.now)) }
 {
-    judge_rule_keys(first, span, entries);
-    judge_rule_texts(first, span, entries);
+    let recorded = given_entry(entries, "record");
+    let alerted = given_entry(entries, "alert");
+    judge_rule_keys(first, span, entries, recorded, alerted);
+    judge_rule_texts(first, span, entries, recorded, alerted);
     judge_rule_settings(first, entries);
 }
 
