@@ -1,0 +1,288 @@
+//! The size of a pattern, which is read from left to right.
+ghost use Rattle.std.specs.Prelude.{◌≡◌, IfOk, reverse};
+ghost use Rattle.lf_sizes.specs.Size.{begun, plus_each, closed, counted, in_brackets, in_count, in_mode, escaped_size, folding, is_flag, larger, opened, size_of, size_from, start, state_of, stepped, total, with_atom};
+
+use lf_base::{Memory, Seq};
+use std::alloc::Global;
+
+/// What `\w`, `\p` and their opposites count, and what may be anything: the letters of Unicode are some hundred ranges of characters, of up to four bytes each.
+const LETTERS: u64 = 512;
+
+/// What `\d` and `\D` count.
+const DIGITS: u64 = 64;
+
+/// What `\s` and `\S` count, a dot, and a class in brackets beside what stands in it.
+const FEW: u64 = 16;
+
+/// What a character counts where letters match their other cases too.
+const FOLDED: u64 = 8;
+
+/// Where the next byte stands.
+#[derive(Clone, Copy)]
+enum Mode {
+    /// Nowhere in particular.
+    Ready,
+    /// Behind a backslash.
+    Escape,
+    /// Behind a `(`.
+    Open,
+    /// Behind a `(?` and perhaps letters.
+    Flags,
+    /// In so many brackets, behind the `[` of the innermost.
+    Bracket(u64),
+    /// In so many brackets, behind the `[^` of the innermost.
+    Negated(u64),
+    /// In so many brackets.
+    Class(u64),
+    /// In so many brackets, behind a backslash.
+    ClassEscape(u64),
+    /// In braces, behind numbers of which this is the greatest, and digits of another.
+    Count { greatest: u64, number: u64 },
+    /// Behind the flag `x`, by which blanks and comments count as nothing.
+    Verbose,
+}
+
+/// What was read of a pattern.
+#[derive(Drop)]
+struct Reader {
+    mode: Mode,
+    /// The size of a character.
+    character: u64,
+    /// The size of what a count would count.
+    last: u64,
+    /// The size of what stands before that in its group.
+    sum: u64,
+    /// The sizes of what stands before each open group, in the group round it.
+    outer: Seq<u64>,
+}
+
+/// The size of a pattern: a character counts 1, and 8 behind the flag `i`; a dot 16, a class of Unicode's characters 16 to 512, and a class in brackets 16 and what stands in it. What
+/// stands before a number in braces counts as often as the number says. No size is greater than 2^64 - 1, which that of a pattern with a number in braces behind the flag `x` is.
+pub fn pattern_size(alloc: Global, pattern: &str) -> Result<u64, Memory>
+    ensures { IfOk result (λ size. size ≡ size_of pattern.now) }
+{
+    read(alloc, pattern.as_bytes())
+}
+
+/// The size of a pattern of these bytes.
+fn read(alloc: Global, bytes: &[u8]) -> Result<u64, Memory>
+    ensures { IfOk result (λ size. size ≡ size_from start bytes.now) }
+{
+    let mut reader = Reader::new(alloc);
+    for byte in bytes {
+        reader = reader.step(*byte)?;
+    }
+    Ok(reader.total())
+}
+
+impl Reader {
+    fn new(alloc: Global) -> Reader
+        ensures { state_of result ≡ start }
+    {
+        Reader {
+            mode: Mode::Ready,
+            character: 1,
+            last: 0,
+            sum: 0,
+            outer: Seq::new(alloc),
+        }
+    }
+
+    /// The size of all that was read.
+    fn total(self) -> u64
+        ensures { result ≡ total (state_of self) }
+    {
+        let mut outer = self.outer;
+        let mut size = self.sum.saturating_add(self.last);
+        while let Some(before) = outer.pop() {
+            size = size.saturating_add(before);
+        }
+        size
+    }
+
+    /// Reads a byte.
+    #[tactic(auto, unfolding(crate::specs::Size::stepped))]
+    fn step(self, byte: u8) -> Result<Reader, Memory>
+        ensures { IfOk result (λ r. state_of r ≡ stepped (state_of self) byte) }
+    {
+        match self.mode {
+            Mode::Ready => self.begin(byte),
+            Mode::Escape => Ok(self.with_atom(escaped_size(byte))),
+            Mode::Open if byte == b'?' => Ok(self.in_mode(Mode::Flags)),
+            Mode::Open => self.begin(byte),
+            Mode::Flags if byte == b'x' => Ok(self.in_mode(Mode::Verbose)),
+            Mode::Flags if byte == b'i' => Ok(self.folding()),
+            Mode::Flags if is_flag(byte) => Ok(self),
+            Mode::Flags => self.begin(byte),
+            Mode::Bracket(depth) if byte == b'^' => Ok(self.in_mode(Mode::Negated(depth))),
+            Mode::Bracket(depth) | Mode::Negated(depth) if byte == b']' => {
+                Ok(self.larger(1, Mode::Class(depth)))
+            }
+            Mode::Bracket(depth) | Mode::Negated(depth) | Mode::Class(depth) => {
+                Ok(self.in_brackets(depth, byte))
+            }
+            Mode::ClassEscape(depth) => Ok(self.larger(escaped_size(byte), Mode::Class(depth))),
+            Mode::Count { greatest, number } => Ok(self.in_count(greatest, number, byte)),
+            Mode::Verbose if byte == b'{' => Ok(self.counted(u64::MAX, Mode::Verbose)),
+            Mode::Verbose => Ok(self.larger(LETTERS, Mode::Verbose)),
+        }
+    }
+
+    fn in_mode(self, mode: Mode) -> Reader
+        ensures { state_of result ≡ in_mode mode (state_of self) }
+    {
+        Reader { mode, ..self }
+    }
+
+    /// Letters match their other cases from here on.
+    fn folding(self) -> Reader
+        ensures { state_of result ≡ folding (state_of self) }
+    {
+        Reader {
+            character: FOLDED,
+            ..self
+        }
+    }
+
+    /// An atom of this size was read.
+    fn with_atom(self, size: u64) -> Reader
+        ensures { state_of result ≡ with_atom size (state_of self) }
+    {
+        Reader {
+            mode: Mode::Ready,
+            character: self.character,
+            last: size,
+            sum: self.sum.saturating_add(self.last),
+            outer: self.outer,
+        }
+    }
+
+    /// What was read last is so much larger.
+    fn larger(self, size: u64, mode: Mode) -> Reader
+        ensures { state_of result ≡ larger size mode (state_of self) }
+    {
+        Reader {
+            mode,
+            last: self.last.saturating_add(size),
+            ..self
+        }
+    }
+
+    /// What was read last counts this often.
+    fn counted(self, times: u64, mode: Mode) -> Reader
+        ensures { state_of result ≡ counted times mode (state_of self) }
+    {
+        Reader {
+            mode,
+            last: self.last.saturating_mul(times.max(1)),
+            ..self
+        }
+    }
+
+    /// Reads a byte that stands nowhere in particular.
+    fn begin(self, byte: u8) -> Result<Reader, Memory>
+        ensures { IfOk result (λ r. state_of r ≡ begun (state_of self) byte) }
+    {
+        match byte {
+            b'(' => self.open(),
+            b')' => Ok(self.close()),
+            b'[' => Ok(self.with_atom(FEW).in_mode(Mode::Bracket(1))),
+            b'{' => Ok(self.in_mode(Mode::Count {
+                greatest: 0,
+                number: 0,
+            })),
+            b'\\' => Ok(self.in_mode(Mode::Escape)),
+            b'.' => Ok(self.with_atom(FEW)),
+            b'*' | b'+' | b'?' => Ok(self.larger(1, Mode::Ready)),
+            // A byte of a character behind its first.
+            0x80..=0xBF => Ok(self.larger(1, Mode::Ready)),
+            _ => {
+                let size = self.character;
+                Ok(self.with_atom(size))
+            }
+        }
+    }
+
+    /// Reads a `(`.
+    fn open(self) -> Result<Reader, Memory>
+        ensures { IfOk result (λ r. state_of r ≡ opened (state_of self)) }
+    {
+        let before = self.sum.saturating_add(self.last);
+        let mut outer = self.outer;
+        outer.push(before)?;
+        Ok(Reader {
+            mode: Mode::Open,
+            character: self.character,
+            last: 0,
+            sum: 0,
+            outer,
+        })
+    }
+
+    /// Reads a `)`. Where no group is open, it closes the one that is put round the pattern.
+    fn close(self) -> Reader
+        ensures { state_of result ≡ closed (state_of self) }
+    {
+        let last = self.sum.saturating_add(self.last).saturating_add(1);
+        let mut outer = self.outer;
+        let sum = outer.pop().unwrap_or(0);
+        Reader {
+            mode: Mode::Ready,
+            character: self.character,
+            last,
+            sum,
+            outer,
+        }
+    }
+
+    /// Reads a byte in so many brackets.
+    fn in_brackets(self, depth: u64, byte: u8) -> Reader
+        ensures { state_of result ≡ in_brackets depth (state_of self) byte }
+    {
+        match byte {
+            b'[' => self.in_mode(Mode::Bracket(depth.saturating_add(1))),
+            b']' if depth <= 1 => self.in_mode(Mode::Ready),
+            b']' => self.in_mode(Mode::Class(depth - 1)),
+            b'\\' => self.in_mode(Mode::ClassEscape(depth)),
+            _ => self.larger(1, Mode::Class(depth)),
+        }
+    }
+
+    /// Reads a byte in braces.
+    fn in_count(self, greatest: u64, number: u64, byte: u8) -> Reader
+        ensures { state_of result ≡ in_count greatest number (state_of self) byte }
+    {
+        match byte {
+            b'0'..=b'9' => self.in_mode(Mode::Count {
+                greatest,
+                number: number
+                    .saturating_mul(10)
+                    .saturating_add(u64::from(byte - b'0')),
+            }),
+            b'}' => self.counted(greatest.max(number), Mode::Ready),
+            _ => self.in_mode(Mode::Count {
+                greatest: greatest.max(number),
+                number: 0,
+            }),
+        }
+    }
+}
+
+/// What a byte behind a backslash counts: a class of Unicode's characters, or a character.
+fn escaped_size(byte: u8) -> u64
+    ensures { result ≡ escaped_size byte }
+{
+    match byte {
+        b'p' | b'P' | b'w' | b'W' => LETTERS,
+        b'd' | b'D' => DIGITS,
+        b's' | b'S' => FEW,
+        _ => 1,
+    }
+}
+
+/// Whether a byte behind a `(?` may be one of several flags.
+fn is_flag(byte: u8) -> bool
+    ensures { result ≡ is_flag byte }
+{
+    matches!(byte, b'-' | b'A'..=b'Z' | b'a'..=b'z')
+}
