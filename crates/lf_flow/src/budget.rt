@@ -7,12 +7,20 @@ use lf_base::Memory;
 /// The most tries of a run: some two seconds, on a machine that tries a pattern on some 8 million classes in a second.
 ///
 /// A pattern that isn't plain is tried on each class of its label, and makes up to two classes there. So the tries grow with the square of the number of such patterns on
-/// one label: with the classes that they make, 2,500 of them are within the budget, and 3,600 that make a class each are beyond it.
+/// one label: with the classes that they make, 1,800 patterns such as `service-17-.*` are within the budget.
 const MOST_TRIES: u64 = 16_000_000;
 
-/// As many tries as take the time of reading a pattern, some 125 microseconds on that machine. So a run has less than 16,000 rows of patterns that aren't plain, and
-/// these have less than 125 MiB together: 8 KiB each at most, a bit for each of the 65,536 classes that there may be.
+/// As many tries as take the time of reading a small pattern, some 125 microseconds on that machine: it is read when its rule is accepted, for its samples, and for its
+/// row. So a run has less than 16,000 rows of patterns that aren't plain, and these have less than 125 MiB together: 8 KiB each at most, a bit for each of the 65,536 classes
+/// that there may be.
 const TRIES_OF_READING: u64 = 1_000;
+
+/// As many as take the time of reading a character more, by the size of the pattern.
+const TRIES_OF_SIZE: u64 = 8;
+
+/// Of so many bytes, times the size of the pattern that is tried on them, each may take the time of a try. Mostly it takes far less, since what is learned of the pattern at
+/// one byte is kept for the next; but a pattern can be made so that there is something to learn at each.
+const STEPS_OF_TRY: u64 = 128;
 
 /// The most words that the cached rows of plain patterns may have together: 32 MiB.
 const MOST_WORDS: u32 = 4_194_304;
@@ -35,14 +43,14 @@ impl PatternBudget {
         }
     }
 
-    /// Takes the tries of a pattern that is read and tried on so many classes. `Memory` where there aren't as many left; then none is taken.
-    pub fn take_tries(&mut self, classes: u32) -> Result<(), Memory>
-        ensures taken { OnOk result (TakesTries (tries_of classes) self.old self.new) }
-        ensures refused { OnErr result (self.old.tries < tries_of classes) }
+    /// Takes the tries of a pattern of this size that is read, and tried on so many classes, whose texts have so many bytes. `Memory` where there aren't as many left; then
+    /// none is taken.
+    pub fn take_tries(&mut self, size: u64, classes: u32, bytes: u64) -> Result<(), Memory>
+        ensures taken { OnOk result (TakesTries (tries_of size classes bytes) self.old self.new) }
+        ensures refused { OnErr result (self.old.tries < tries_of size classes bytes) }
         ensures kept { OnErr result (self.new ≡ self.old) }
     {
-        let tries = TRIES_OF_READING + u64::from(classes);
-        match self.tries.checked_sub(tries) {
+        match self.tries.checked_sub(tries_of(size, classes, bytes)) {
             Some(left) => {
                 self.tries = left;
                 Ok(())
@@ -63,4 +71,15 @@ impl PatternBudget {
             None => false,
         }
     }
+}
+
+/// The tries that take as long as reading a pattern of this size, and trying it on so many classes, whose texts have so many bytes.
+fn tries_of(size: u64, classes: u32, bytes: u64) -> u64
+    ensures { result ≡ tries_of size classes bytes }
+{
+    let reading = size
+        .saturating_mul(TRIES_OF_SIZE)
+        .saturating_add(TRIES_OF_READING);
+    let trying = (size.saturating_mul(bytes) / STEPS_OF_TRY).saturating_add(u64::from(classes));
+    reading.saturating_add(trying)
 }

@@ -5,7 +5,9 @@ ghost use Rattle.lf_semantics.specs.Listing.{class_count, named_at};
 ghost use Rattle.lf_semantics.specs.Passing.{is_plain};
 ghost use Rattle.lf_semantics.specs.PatternBreaches.{takes_pattern};
 ghost use Rattle.lf_classes.specs.views.PatternCache.{passing_row};
-ghost use Rattle.lf_flow.specs.views.Budget.{TakesTries, TakesWords, tries_of};
+ghost use Rattle.lf_semantics.specs.RowTable.{text_of};
+ghost use Rattle.lf_sizes.specs.Size.{size_of};
+ghost use Rattle.lf_flow.specs.views.Budget.{TakesTries, TakesWords, bytes_of, tries_of};
 
 use crate::budget::PatternBudget;
 use crate::narrowing::narrow_label;
@@ -14,6 +16,7 @@ use lf_ast::{Expr, Function, LabelEffect, MatchOp, Matcher, Rule, text_at};
 use lf_base::{Memory, Seq, Text};
 use lf_classes::{Row, Universe};
 use lf_pattern::plain_alternatives;
+use lf_sizes::pattern_size;
 use std::alloc::Global;
 
 /// Finds which classes match each pattern of rules, and has the universe cache them, so that `flow` tries none again: the patterns behind `=~` and `!~`, and those of
@@ -146,13 +149,38 @@ fn reserve_row(
     requires { label < length universe.now.named }
     ensures plain { is_plain pattern.now ≡ true → IfOk result (λ made. TakesWords (div_ceil (class_count universe.now) 64) made budget.old budget.new) }
     ensures other { is_plain pattern.now ≡ false → IfOk result (λ made. made ≡ true) }
-    ensures tries { is_plain pattern.now ≡ false → OnOk result (TakesTries (tries_of (length (named_at universe.now label) + 2)) budget.old budget.new) }
+    ensures tries { is_plain pattern.now ≡ false → OnOk result (TakesTries (tries_of (size_of pattern.now) (length (named_at universe.now label) + 2) (bytes_of universe.now label)) budget.old budget.new) }
 {
     if plain_alternatives(alloc, pattern)?.is_some() {
         return Ok(budget.take_words(universe.class_count().div_ceil(64)));
     }
-    budget.take_tries(universe.classes(label))?;
+    let size = pattern_size(alloc, pattern.as_str())?;
+    budget.take_tries(size, universe.classes(label), text_bytes(universe, label))?;
     Ok(true)
+}
+
+/// How many bytes the texts of a label have together, but for 'any other text'.
+fn text_bytes(universe: &Universe, label: u32) -> u64
+    requires { label < length universe.now.named }
+    ensures { result ≡ bytes_of universe.now label }
+{
+    let mut bytes: u64 = 0;
+    for class in 0..universe.classes(label) {
+        bytes = bytes.saturating_add(class_bytes(universe, label, class));
+    }
+    bytes
+}
+
+/// How many bytes the text of a class has; 'any other text' has none.
+fn class_bytes(universe: &Universe, label: u32, class: u32) -> u64
+    requires label { label < length universe.now.named }
+    requires class { class < length (named_at universe.now label) + 2 }
+    ensures { result ≡ length (text_of universe.now label class) }
+{
+    match universe.class_text(label, class) {
+        Some(text) => text.len() as u64,
+        None => 0,
+    }
 }
 
 /// The classes of a label that pass an operator and a pattern, beside every class of each other label.

@@ -1,5 +1,8 @@
 -- How much a run may spend on its patterns, as the code counts it.
-use Rattle.std.specs.Prelude.{◌≡◌, ◌+◌, ◌-◌, ◌≤◌, ◌↔◌, ℕ, Bool, IsTrue, cond}
+use Rattle.std.specs.Prelude.{◌≡◌, ◌+◌, ◌-◌, ◌/◌, ◌≤◌, ◌↔◌, ℕ, zero, suc, Bool, IsTrue, cond, length}
+use Rattle.lf_semantics.specs.Listing.{Listing, named_at}
+use Rattle.lf_semantics.specs.RowTable.{text_of}
+use Rattle.lf_sizes.specs.Size.{plus, times}
 use Rattle.lf_flow.specs.declared.budget.PatternBudget.{PatternBudget}
 
 -- the tries of a run
@@ -10,9 +13,18 @@ most_tries = 16000000
 abbrev pub most_words : ℕ
 most_words = 4194304
 
--- the tries that reading a pattern and trying it on so many classes counts
-abbrev pub tries_of : ℕ → ℕ
-tries_of classes = 1000 + classes
+-- the tries that reading a pattern of a size counts, and trying it on so many classes, whose texts have so many bytes
+abbrev pub tries_of : ℕ → ℕ → ℕ → ℕ
+tries_of size classes bytes = plus (plus (times size 8) 1000) (plus (times size bytes / 128) classes)
+
+module _ (u : Listing) (label : ℕ) where
+  -- the bytes of the texts of so many classes of a label; 'any other text', the last class, has none
+  abbrev pub bytes_before : ℕ → ℕ
+  bytes_before zero = 0
+  bytes_before (suc n) = plus (bytes_before n) (length (text_of u label n))
+
+  abbrev pub bytes_of : ℕ
+  bytes_of = bytes_before (length (named_at u label) + 2)
 
 -- so many tries were left, and they are taken
 pub record TakesTries (tries : ℕ) (old new : PatternBudget) : Type 0 where
