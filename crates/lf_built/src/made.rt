@@ -1,10 +1,11 @@
 //! What was built.
-ghost use Rattle.std.specs.Prelude.{◌≡◌, ◌<◌, ◌-◌, ◌^◌, ◌∷◌, [], IfOk, OnOk};
+ghost use Rattle.std.specs.Prelude.{◌≡◌, ◌<◌, ◌-◌, ◌^◌, ◌∷◌, [], OnOk};
 ghost use Rattle.lf_trials.specs.Building.{both};
 ghost use Rattle.lf_built.specs.views.Works.{so_far};
 
 use lf_ast::LabelSet;
 use lf_base::Memory;
+use lf_deps::rule_number;
 use std::alloc::Global;
 
 /// Series and steps in the order in which they were added, and how many selectors were built.
@@ -49,18 +50,8 @@ impl Made {
     pub fn add_step(&mut self, number: usize) -> Result<(), Memory>
         ensures { OnOk result (so_far self.new ≡ both (so_far self.old) (record { series = []; steps = number ∷ []; selectors = 0 })) }
     {
-        let number = as_step(number)?;
+        let number = rule_number(number)?;
         self.steps.push(number)?;
         Ok(())
-    }
-}
-
-/// The number of a rule as a `u32`. Want of memory where it doesn't fit.
-fn as_step(number: usize) -> Result<u32, Memory>
-    ensures { IfOk result (λ step. step ≡ number) }
-{
-    match u32::try_from(number) {
-        Ok(step) => Ok(step),
-        Err(_) => Err(Memory),
     }
 }

@@ -1,5 +1,5 @@
 //! What the built worlds of rules share.
-ghost use Rattle.std.specs.Prelude.{◌≡◌, ◌+◌, ◌<◌, ◌≤◌, ◌^◌, List, Some, length, map, slice_get, IfOk};
+ghost use Rattle.std.specs.Prelude.{◌≡◌, ◌+◌, ◌<◌, ◌≤◌, ◌^◌, Some, length, map, slice_get, IfOk};
 ghost use Rattle.lf_ast.specs.Tree.{nodes};
 ghost use Rattle.lf_ast.specs.Rules.{RuleTree, rule_tree, rule_trees};
 ghost use Rattle.lf_deps.specs.views.Sources.{IsSourcesOf};
@@ -29,6 +29,9 @@ use std::alloc::Global;
 
 /// The number of the label `__name__`.
 const METRIC: u32 = 0;
+
+/// How many names of a rule are taken to be those of its rows. A row that has none of them takes a look at each in vain, and a rule may select thousands.
+const MOST_LIKELY: usize = 8;
 
 /// What the built worlds of rules share: the names of the labels, the rules of each recorded name, what is told of the parts of each rule's expression, and the rows of each
 /// rule and of what it stores.
@@ -228,20 +231,26 @@ fn rows_of_rule(
     })
 }
 
-/// The classes of the names that a rule selects, at most one for each. Rows of its parts are likely to have them, and which these are changes only how long it takes.
+/// The classes of the first few names that a rule selects, each once. Rows of its parts are likely to have them, and which these are changes only how long it takes.
 fn likely_names(
     alloc: Global,
     universe: &Universe,
     selected: &[Option<Text>],
 ) -> Result<Vec<u32>, Memory>
-    ensures { IfOk result (λ likely. length likely.items ≤ length selected.now) }
+    ensures { IfOk result (λ likely. length likely.items ≤ 8) }
 {
     // For what its contract says of the universe.
     let _labels = universe.labels();
-    let mut likely = Vec::new(alloc);
+    let mut likely: Vec<u32> = Vec::new(alloc);
     for name in selected {
+        if likely.len() == MOST_LIKELY {
+            break;
+        }
         if let Some(name) = name {
-            likely.push(universe.class_of(METRIC, name.as_str()))?;
+            let class = universe.class_of(METRIC, name.as_str());
+            if !likely.as_slice().contains(&class) {
+                likely.push(class)?;
+            }
         }
     }
     Ok(likely)

@@ -7,7 +7,7 @@ ghost use Rattle.lf_semantics.specs.Parts.{is_scalar_part};
 use lf_ast::walk::{Fold, Parts};
 use lf_ast::{Expr, is_scalar};
 use lf_base::Memory;
-use lf_nodes::{gives_scalar, the_only};
+use lf_nodes::{both, gives_scalar, the_only};
 use lf_parts::fold_parts;
 use std::alloc::Global;
 
@@ -70,11 +70,10 @@ fn scalar_by(expr: &Expr, parts: Vec<bool>) -> bool
 }
 
 /// Whether both of two are true.
-fn are_both(mut sides: Vec<bool>) -> bool
+fn are_both(sides: Vec<bool>) -> bool
     requires { length sides.items ≡ 2 }
     ensures { (l r : Bool) → sides.items ≡ l ∷ r ∷ [] → result ≡ (l && r) }
 {
-    let right = sides.pop().unwrap();
-    let left = sides.pop().unwrap();
+    let (left, right) = both(sides);
     left && right
 }

@@ -13,11 +13,10 @@ ghost use Rattle.lf_checks.specs.views.Shown.{ListsAlone};
 use crate::case::{Case, found_if};
 use lf_ast::walk::{Fold, Parts, fold_up};
 use lf_ast::{
-    Expr, ExprType, Finding, Function, LabelEffect, Matching, Op, Rule, is_comparison, joined,
-    selected,
+    Expr, ExprType, Finding, Function, LabelEffect, Matching, Op, Rule, joined, selected,
 };
 use lf_base::Memory;
-use lf_nodes::takes_samples;
+use lf_nodes::{is_filter, takes_samples};
 use lf_parts::{Copied, fold_parts};
 use std::alloc::Global;
 
@@ -153,7 +152,7 @@ fn joins_conditions(op: Op, matching: &Matching, left: bool, right: bool) -> boo
     match op {
         Op::Unless => true,
         Op::Or => left && right,
-        _ => is_comparison(op) && !matching.bool_mod || left || right,
+        _ => is_filter(op, matching) || left || right,
     }
 }
 

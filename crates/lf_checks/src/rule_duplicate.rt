@@ -11,6 +11,7 @@ use crate::rule_key::key_of;
 use lf_ast::{Finding, Rule};
 use lf_base::{Memory, Seq};
 use lf_classes::TextSet;
+use lf_deps::rule_number;
 use std::alloc::Global;
 
 /// For each rule the number of the first one before it that is the same, if there is one. Each rule is written out once, and
@@ -51,18 +52,8 @@ impl FirstRules {
         if at < self.numbers.len() {
             return Ok(Some(self.numbers[at]));
         }
-        self.numbers.push(number(place)?)?;
+        self.numbers.push(rule_number(place)?)?;
         Ok(None)
-    }
-}
-
-/// The number of a rule.
-fn number(place: usize) -> Result<u32, Memory>
-    ensures { IfOk result (λ number. number ≡ place) }
-{
-    match u32::try_from(place) {
-        Ok(number) => Ok(number),
-        Err(_) => Err(Memory),
     }
 }
 

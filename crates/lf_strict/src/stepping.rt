@@ -1,7 +1,6 @@
 //! What a step of a rule strictly adds to the stored samples.
-ghost use Rattle.std.specs.Prelude.{◌≡◌, IfOk};
+ghost use Rattle.std.specs.Prelude.{IfOk};
 ghost use Rattle.lf_ast.specs.Rules.{rule_tree};
-ghost use Rattle.lf_semantics.specs.Parts.{is_evaluated};
 ghost use Rattle.lf_witness.specs.Ascending.{IsAscending};
 ghost use Rattle.lf_witness.specs.StrictRuns.{InOrder, IsRuleAnswer, StepAdds, StoredOf};
 ghost use Rattle.lf_strict.specs.views.Running.{IsStep};
@@ -10,8 +9,9 @@ use crate::becoming::made_apart;
 use crate::evaluating::evaluated;
 use crate::store::Store;
 use crate::storing::Stored;
-use lf_ast::{ExprType, LabelSet, Rule};
+use lf_ast::{LabelSet, Rule};
 use lf_base::{Memory, Seq};
+use lf_nodes::is_rule_type;
 use std::alloc::Global;
 
 /// Adds what a step of a rule stores to the stored samples, and says whether the step isn't None. It may have added some where it fails.
@@ -58,19 +58,9 @@ fn rule_answer(alloc: Global, store: &Store, rule: &Rule) -> Result<Option<Seq<L
     ensures { IfOk result (IsRuleAnswer store.now (rule_tree rule.now)) }
 {
     let evaluated = evaluated(alloc, store, &rule.expr)?;
-    if is_evaluated(evaluated.form) {
+    if is_rule_type(evaluated.form) {
         Ok(evaluated.answer)
     } else {
         Ok(None)
-    }
-}
-
-/// Whether a rule of this type can be evaluated.
-fn is_evaluated(form: ExprType) -> bool
-    ensures { result ≡ is_evaluated form }
-{
-    match form {
-        ExprType::Scalar | ExprType::Vector => true,
-        ExprType::Str | ExprType::Range => false,
     }
 }

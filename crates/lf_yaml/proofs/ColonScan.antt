@@ -1,5 +1,5 @@
 -- Going over the text of a plain scalar, to a `:` that can't stand in it.
-use Rattle.std.proofs.Common.{◌≡◌, ◌≢◌, ℕ, zero, suc, ◌+◌, ◌-◌, ◌<◌, ◌≤◌, Bool, true, false, eqb, List, [], ◌∷◌, ◌++◌, Option, Some, length, get_or, take, drop, refl, ap, arith, sym, ◌∙◌, ◌&&◌, eq-eqb, ne_eqb, take-append-drop, length-drop, length-take}
+use Rattle.std.proofs.Common.{◌≡◌, ◌≢◌, ℕ, suc, ◌+◌, ◌-◌, ◌<◌, ◌≤◌, Bool, true, false, eqb, List, ◌∷◌, ◌++◌, Option, Some, length, get_or, take, drop, refl, ap, arith, sym, ◌∙◌, ◌&&◌, eq-eqb, ne_eqb, take-append-drop, length-drop, length-take}
 use Rattle.std.proofs.lemmas.List.{drop-drop, drop_more}
 use Rattle.std.proofs.Math.Bool.{and-false}
 use Rattle.lf_scalar.specs.Cells.{Cell, cell, cells}

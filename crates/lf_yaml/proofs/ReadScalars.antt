@@ -1,5 +1,5 @@
 -- What a reader of scalars returned is what reading gives, by its clauses.
-use Rattle.std.proofs.Common.{◌≡◌, ℕ, zero, suc, ◌+◌, ◌-◌, ◌<◌, ◌≤◌, true, false, eqb, List, [], ◌∷◌, ◌++◌, Some, Result, Ok, Err, length, get_or, take, drop, refl, ap, arith, sym, ◌∙◌, subst, length-take, eq-eqb}
+use Rattle.std.proofs.Common.{◌≡◌, ℕ, suc, ◌+◌, ◌-◌, ◌<◌, ◌≤◌, true, false, eqb, List, [], ◌∷◌, ◌++◌, Some, Result, Ok, Err, length, get_or, take, drop, refl, ap, arith, sym, ◌∙◌, subst, length-take, eq-eqb}
 use Rattle.std.specs.Str.{IsCharBoundary, IsUtf8}
 use Rattle.std.proofs.lemmas.Str.{IsCharBoundary-after_ascii, IsCharBoundary-before_ascii, IsUtf8-take}
 use Rattle.lf_base.specs.declared.refusal.Refusal.{Refusal}

@@ -1,5 +1,5 @@
-use Rattle.std.proofs.Common.{◌∙◌, arith}
-use Rattle.lf_yaml.proofs.AsciiCharacters.{ascii-wrong, other-wrong}
+use Rattle.std.proofs.Common.{◌∙◌}
+use Rattle.lf_yaml.proofs.AsciiCharacters.{ascii-wrong}
 use Rattle.lf_yaml.proofs.characters.is_wrong_at.Goals as goal
 
 pub returns-then-bytes-offset-lt128 : goal.returns-then-bytes-offset-lt128

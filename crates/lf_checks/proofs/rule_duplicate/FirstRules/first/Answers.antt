@@ -30,5 +30,5 @@ pub returns-clause-kept : goal.returns-clause-kept
 returns-clause-kept c rules count kept =
     let numbers = c.args.self.now.numbers.items in
     let past : length numbers ≤ c.in_ok-at.at = omega (arith, c.if-at-len.false, c.len.ensures) in
-    unfound_kept rules c.args.self.now.keys numbers kept (rule_tree c.args.rule.now) c.if-rule.false c.as_str.result.now (c.as_str.ensures.value ∙ c.in_ok-key.ensures) c.in_ok-at.at c.in_ok-at.ensures.place c.add.new.self c.push.new.self.items c.in_ok-number.field-0 past
-    c.in_ok-at.ensures.ok c.in_ok-push.ensures.items (c.in_ok-number.ensures ∙ sym count)
+    unfound_kept rules c.args.self.now.keys numbers kept (rule_tree c.args.rule.now) c.if-rule.false c.as_str.result.now (c.as_str.ensures.value ∙ c.in_ok-key.ensures) c.in_ok-at.at c.in_ok-at.ensures.place c.add.new.self c.push.new.self.items c.in_ok-rule_number.field-0 past
+    c.in_ok-at.ensures.ok c.in_ok-push.ensures.items (c.in_ok-rule_number.ensures ∙ sym count)
