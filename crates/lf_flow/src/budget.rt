@@ -7,7 +7,7 @@ use lf_base::Memory;
 /// The most tries of a run: some two seconds, on a machine that tries a pattern on some 8 million classes in a second.
 ///
 /// A pattern that isn't plain is tried on each class of its label, and makes up to two classes there. So the tries grow with the square of the number of such patterns on
-/// one label: with the classes that they make, 1,800 patterns such as `service-17-.*` are within the budget.
+/// one label: with the classes that they make, 1,800 patterns such as `t17-.*` are within the budget.
 const MOST_TRIES: u64 = 16_000_000;
 
 /// As many tries as take the time of reading a small pattern, some 125 microseconds on that machine: it is read when its rule is accepted, for its samples, and for its
@@ -18,8 +18,8 @@ const TRIES_OF_READING: u64 = 1_000;
 /// As many as take the time of reading a character more, by the size of the pattern.
 const TRIES_OF_SIZE: u64 = 8;
 
-/// Of so many bytes, times the size of the pattern that is tried on them, each may take the time of a try. Mostly it takes far less, since what is learned of the pattern at
-/// one byte is kept for the next; but a pattern can be made so that there is something to learn at each.
+/// How many states that are followed over a byte count as one try: a pattern's size times the bytes that it is tried on, divided by this. Mostly that takes far less time, since
+/// what is learned of the pattern at one byte is kept for the next; but a pattern can be made so that there is something to learn at each.
 const STEPS_OF_TRY: u64 = 128;
 
 /// The most words that the cached rows of plain patterns may have together: 32 MiB.

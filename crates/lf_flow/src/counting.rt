@@ -11,7 +11,7 @@ use crate::grouping::group;
 use lf_ast::{Expr, Grouping, text_at};
 use lf_base::Memory;
 use lf_classes::{Row, Universe};
-use lf_nodes::is_among;
+use lf_nodes::{is_among, is_metric};
 use std::alloc::Global;
 
 /// Makes the row of the operand that of `count_values`: grouped, and then the label that the first argument names has every text, and none only where it may be lacked.
@@ -38,7 +38,7 @@ fn may_be_lacked(grouping: &Grouping, label: &str) -> bool
     ensures { result ≡ may_be_lacked grouping.now label.now }
 {
     match grouping {
-        Grouping::Without { labels } => is_among(labels.as_slice(), label) || label == "__name__",
+        Grouping::Without { labels } => is_among(labels.as_slice(), label) || is_metric(label),
         _ => false,
     }
 }

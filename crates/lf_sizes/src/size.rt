@@ -1,6 +1,6 @@
 //! The size of a pattern, which is read from left to right.
 ghost use Rattle.std.specs.Prelude.{◌≡◌, IfOk, reverse};
-ghost use Rattle.lf_sizes.specs.Size.{begun, plus_each, closed, counted, in_brackets, in_count, in_mode, escaped_size, folding, is_flag, larger, opened, size_of, size_from, start, state_of, stepped, total, with_atom};
+ghost use Rattle.lf_sizes.specs.views.Size.{begun, plus_each, closed, counted, in_brackets, in_count, in_mode, escaped_size, folding, is_flag, larger, opened, size_of, size_from, start, state_of, stepped, total, with_atom};
 
 use lf_base::{Memory, Seq};
 use std::alloc::Global;
@@ -56,8 +56,9 @@ struct Reader {
     outer: Seq<u64>,
 }
 
-/// The size of a pattern: a character counts 1, and 8 behind the flag `i`; a dot 16, a class of Unicode's characters 16 to 512, and a class in brackets 16 and what stands in it. What
-/// stands before a number in braces counts as often as the number says. No size is greater than 2^64 - 1, which that of a pattern with a number in braces behind the flag `x` is.
+/// The size of a pattern, counted byte by byte: a character counts 1, one beyond ASCII a 1 more for each further byte, and a character behind a flag `i` 8; a dot 16, a class of
+/// Unicode's characters 16 to 512, and a class in brackets 16 and a 1 for each byte in it. What stands before a number in braces counts as often as the number says, and once at
+/// least; so does the `x` of `\x{41}`. No size is greater than 2^64 - 1, which that of a pattern with a number in braces behind the flag `x` is.
 pub fn pattern_size(alloc: Global, pattern: &str) -> Result<u64, Memory>
     ensures { IfOk result (λ size. size ≡ size_of pattern.now) }
 {
@@ -101,7 +102,7 @@ impl Reader {
     }
 
     /// Reads a byte.
-    #[tactic(auto, unfolding(crate::specs::Size::stepped))]
+    #[tactic(auto, unfolding(crate::specs::views::Size::stepped))]
     fn step(self, byte: u8) -> Result<Reader, Memory>
         ensures { IfOk result (λ r. state_of r ≡ stepped (state_of self) byte) }
     {

@@ -2,7 +2,7 @@
 use Rattle.std.specs.Prelude.{◌≡◌, ◌+◌, ◌-◌, ◌/◌, ◌≤◌, ◌↔◌, ℕ, zero, suc, Bool, IsTrue, cond, length}
 use Rattle.lf_semantics.specs.Listing.{Listing, named_at}
 use Rattle.lf_semantics.specs.RowTable.{text_of}
-use Rattle.lf_sizes.specs.Size.{plus, times}
+use Rattle.lf_sizes.specs.views.Size.{plus, times}
 use Rattle.lf_flow.specs.declared.budget.PatternBudget.{PatternBudget}
 
 -- the tries of a run
@@ -23,6 +23,7 @@ module _ (u : Listing) (label : ℕ) where
   bytes_before zero = 0
   bytes_before (suc n) = plus (bytes_before n) (length (text_of u label n))
 
+  -- the bytes of the texts of all its classes
   abbrev pub bytes_of : ℕ
   bytes_of = bytes_before (length (named_at u label) + 2)
 

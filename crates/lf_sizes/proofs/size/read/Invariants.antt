@@ -1,5 +1,5 @@
 use Rattle.std.proofs.Common.{◌≡◌, drop}
-use Rattle.lf_sizes.specs.Size.{size_from, start, state_of}
+use Rattle.lf_sizes.specs.views.Size.{size_from, start, state_of}
 use Rattle.lf_sizes.proofs.size.read.Given as goal
 
 abbrev pub invariant-loop-byte : goal.invariant-loop-byte

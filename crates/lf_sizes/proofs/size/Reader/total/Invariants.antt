@@ -1,5 +1,5 @@
 use Rattle.std.proofs.Common.{◌≡◌, reverse, length}
-use Rattle.lf_sizes.specs.Size.{plus_each, state_of, total}
+use Rattle.lf_sizes.specs.views.Size.{plus_each, state_of, total}
 use Rattle.lf_sizes.proofs.size.Reader.total.Given as goal
 
 abbrev pub invariant-loop-before : goal.invariant-loop-before
