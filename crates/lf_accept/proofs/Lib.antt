@@ -1,5 +1,6 @@
 pub mod AcceptedRules
 pub mod Chained
+pub mod Counts
 pub mod DistinctKeys
 pub mod OneExpr
 pub mod OneFile

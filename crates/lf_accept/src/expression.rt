@@ -1,5 +1,5 @@
 //! The expression of a rule.
-ghost use Rattle.std.specs.Prelude.{◌≤◌, ℕ, OnOk};
+ghost use Rattle.std.specs.Prelude.{◌≡◌, ◌≤◌, ℕ, false, OnOk};
 ghost use Rattle.std.specs.List.Sorted.{IsNonDecreasingBy};
 ghost use Rattle.lf_base.specs.Answers.{Found, Refused, RefusedIn};
 ghost use Rattle.lf_ast.specs.Inside.{Inside};
@@ -7,9 +7,10 @@ ghost use Rattle.lf_ast.specs.Tree.{tree};
 ghost use Rattle.lf_lex.specs.Tokens.{LieIn};
 ghost use Rattle.lf_yaml.specs.Tree.{value};
 ghost use Rattle.lf_accept.specs.Accepted.{BreaksExpr, IsExpr};
+ghost use Rattle.lf_accept.specs.Sizes.{has_large_pattern};
 ghost use Rattle.lf_accept.specs.views.Checked.{AreJudged, BreakJudged, BreaksJudged, IsJudged};
 
-use crate::sizes::ask_sizes;
+use crate::sizes::has_large_pattern;
 use lf_ast::{Expr, type_of};
 use lf_base::{Refusal, Seq};
 use lf_classes::check_patterns;
@@ -45,13 +46,17 @@ fn read_tokens(alloc: Global, tokens: &Seq<Token>, end: u32) -> Result<Expr, Ref
     }
 }
 
-/// Judges an expression: its types, and then its patterns and selectors.
+/// Judges an expression: its types, and then its patterns and selectors. A pattern that is too large to be read is as one for which memory ran out.
 fn judge(alloc: Global, expr: &Expr) -> Result<(), Refusal>
     ensures found { OnOk result (IsJudged (tree expr.now)) }
     ensures refused { Refused (BreaksJudged (tree expr.now)) result }
     ensures refused_inside { (n : ℕ) → Inside n (tree expr.now) → RefusedIn n result }
+    // No pattern is too large to be read.
+    ensures readable { OnOk result (has_large_pattern (tree expr.now) ≡ false) }
 {
     let _ = type_of(alloc, expr)?;
-    ask_sizes(alloc, expr)?;
+    if has_large_pattern(alloc, expr)? {
+        return Err(Refusal::Memory);
+    }
     check_patterns(alloc, expr)
 }
