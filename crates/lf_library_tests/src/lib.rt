@@ -30,6 +30,8 @@ mod of_lf_rules;
 #[cfg(test)]
 mod of_lf_scalar;
 #[cfg(test)]
+mod of_lf_sizes;
+#[cfg(test)]
 mod of_lf_templates;
 #[cfg(test)]
 mod of_lf_yaml;
