@@ -5,6 +5,10 @@ ghost use Rattle.lf_ast.specs.views.Walks.{IsPartAt, chosen};
 
 use crate::Expr;
 
+/// How deep walks go by calls of their own. What lies deeper is walked by frames, so that deep expressions need no deep calls. Few expressions are so deep, and calls take no
+/// memory from the allocator.
+pub(crate) const CALLS: usize = 16;
+
 /// Some parts of an expression, which are counted from 0.
 #[derive(Clone, Copy, Drop, Debug)]
 pub enum Parts {

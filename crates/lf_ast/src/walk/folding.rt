@@ -5,7 +5,7 @@ ghost use Rattle.lf_ast.specs.views.Walks.{chosen};
 ghost use Rattle.lf_ast.specs.declared.walk.choosing.Parts.{Parts};
 
 use crate::Expr;
-use crate::walk::choosing::{Frame, Parts, split_first};
+use crate::walk::choosing::{CALLS, Frame, Parts, split_first};
 use lf_base::Memory;
 use std::alloc::Global;
 
@@ -43,8 +43,37 @@ pub trait Fold {
         ensures { IfOk result (λ made. made ≡ value self.now (tree expr.now)) };
 }
 
-/// The value of an expression. It calls no deeper for deep ones. Each frame's mark is how many values there were before those of its parts.
+/// The value of an expression. It calls no deeper for deep ones.
 pub fn fold_up<F: Fold>(alloc: Global, fold: &F, expr: &Expr) -> Result<F::Value, Memory>
+    ensures { IfOk result (λ made. made ≡ F.value fold.now (tree expr.now)) }
+{
+    fold_within(alloc, fold, expr, CALLS)
+}
+
+/// The value of an expression by calls, so many deep at most. What lies deeper is walked by frames.
+fn fold_within<F: Fold>(
+    alloc: Global,
+    fold: &F,
+    expr: &Expr,
+    calls: usize,
+) -> Result<F::Value, Memory>
+    ensures { IfOk result (λ made. made ≡ F.value fold.now (tree expr.now)) }
+{
+    if calls == 0 {
+        return fold_by_frames(alloc, fold, expr);
+    }
+    let (parts, note) = fold.enter(expr);
+    let mut values = Vec::new(alloc);
+    let mut rest = parts;
+    'parts: while let Some((part, behind)) = split_first(rest, expr) {
+        values.push(fold_within(alloc, fold, part, calls - 1)?)?;
+        rest = behind;
+    }
+    fold.step(alloc, expr, note, values)
+}
+
+/// The value of an expression by frames, without calls. Each frame's mark is how many values there were before those of its parts.
+fn fold_by_frames<F: Fold>(alloc: Global, fold: &F, expr: &Expr) -> Result<F::Value, Memory>
     ensures { IfOk result (λ made. made ≡ F.value fold.now (tree expr.now)) }
 {
     let mut frames = Vec::new(alloc);

@@ -5,7 +5,7 @@ ghost use Rattle.lf_ast.specs.views.Walks.{along, chosen};
 ghost use Rattle.lf_ast.specs.declared.walk.choosing.Parts.{Parts};
 
 use crate::Expr;
-use crate::walk::choosing::{Frame, Parts, split_first};
+use crate::walk::choosing::{CALLS, Frame, Parts, split_first};
 use lf_base::Memory;
 use std::alloc::Global;
 
@@ -55,8 +55,40 @@ pub trait Visitor {
     ghost steps: { (state : Self) (x : Tree) → visited state x ≡ behind (along visited between x (chosen (needed x) (parts_of x)) (before state x)) x };
 }
 
-/// Visits an expression. It calls no deeper for deep ones. Each frame's mark is whether a part was visited.
+/// Visits an expression. It calls no deeper for deep ones.
 pub fn visit<V: Visitor>(alloc: Global, visitor: &mut V, expr: &Expr) -> Result<(), Memory>
+    ensures { OnOk result (visitor.new ≡ V.visited visitor.old (tree expr.now)) }
+{
+    visit_within(alloc, visitor, expr, CALLS)
+}
+
+/// Visits an expression by calls, so many deep at most. What lies deeper is visited by frames.
+fn visit_within<V: Visitor>(
+    alloc: Global,
+    visitor: &mut V,
+    expr: &Expr,
+    calls: usize,
+) -> Result<(), Memory>
+    ensures { OnOk result (visitor.new ≡ V.visited visitor.old (tree expr.now)) }
+{
+    if calls == 0 {
+        return visit_by_frames(alloc, visitor, expr);
+    }
+    let (parts, note) = visitor.enter(expr);
+    visitor.before(alloc, expr, &note)?;
+    let mut rest = parts;
+    let mut begun = false;
+    'parts: while let Some((part, behind)) = split_first(rest, expr) {
+        go_on(alloc, visitor, begun, expr)?;
+        visit_within(alloc, visitor, part, calls - 1)?;
+        begun = true;
+        rest = behind;
+    }
+    visitor.behind(alloc, expr, &note)
+}
+
+/// Visits an expression by frames, without calls. Each frame's mark is whether a part was visited.
+fn visit_by_frames<V: Visitor>(alloc: Global, visitor: &mut V, expr: &Expr) -> Result<(), Memory>
     ensures { OnOk result (visitor.new ≡ V.visited visitor.old (tree expr.now)) }
 {
     let mut frames = Vec::new(alloc);

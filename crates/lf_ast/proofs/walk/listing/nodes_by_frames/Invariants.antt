@@ -4,7 +4,7 @@ use Rattle.lf_ast.specs.Tree.{tree, nodes}
 use Rattle.lf_ast.specs.views.Walks.{trees_at}
 use Rattle.lf_ast.proofs.Listing.{to_find}
 use Rattle.lf_ast.proofs.Walks.{work}
-use Rattle.lf_ast.proofs.walk.listing.nodes_of.Given as goal
+use Rattle.lf_ast.proofs.walk.listing.nodes_by_frames.Given as goal
 
 abbrev pub invariant-loop-frame : goal.invariant-loop-frame
 invariant-loop-frame l = trees_at l.found.items ++ to_find (reverse l.open.items) ≡ nodes (tree l.expr)

@@ -1,5 +1,5 @@
 use Rattle.lf_ast.proofs.Walks.{falls}
-use Rattle.lf_ast.proofs.walk.folding.fold_up.Goals as goal
+use Rattle.lf_ast.proofs.walk.folding.fold_by_frames.Goals as goal
 
 pub loop-frame-smaller-in_ok-push-in-Some-split_first-2 : goal.loop-frame-smaller-in_ok-push-in-Some-split_first-2
 loop-frame-smaller-in_ok-push-in-Some-split_first-2 g c =

@@ -3,7 +3,7 @@ use Rattle.std.specs.List.{sum_by}
 use Rattle.lf_ast.specs.Tree.{tree}
 use Rattle.lf_ast.proofs.Folding.{Makes}
 use Rattle.lf_ast.proofs.Walks.{work}
-use Rattle.lf_ast.proofs.walk.folding.fold_up.Given as goal
+use Rattle.lf_ast.proofs.walk.folding.fold_by_frames.Given as goal
 
 abbrev pub invariant-loop-frame : goal.invariant-loop-frame
 invariant-loop-frame g l = Makes (g.F.Fold.value l.fold) (g.F.Fold.needed l.fold) g.F.Fold.notes (tree l.expr) (reverse l.frames.items) l.values.items

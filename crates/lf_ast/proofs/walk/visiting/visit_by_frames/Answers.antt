@@ -1,5 +1,5 @@
 use Rattle.lf_ast.proofs.Walks.{falls}
-use Rattle.lf_ast.proofs.walk.visiting.visit.Goals as goal
+use Rattle.lf_ast.proofs.walk.visiting.visit_by_frames.Goals as goal
 
 pub loop-frame-smaller-in-Continue-branch-6 : goal.loop-frame-smaller-in-Continue-branch-6
 loop-frame-smaller-in-Continue-branch-6 g c =

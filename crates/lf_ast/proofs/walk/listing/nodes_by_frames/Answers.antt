@@ -2,7 +2,7 @@ use Rattle.std.proofs.Common.{refl, rules, ◌∙◌}
 use Rattle.lf_ast.specs.Tree.{tree}
 use Rattle.lf_ast.proofs.Listing.{finds, starts}
 use Rattle.lf_ast.proofs.Walks.{falls}
-use Rattle.lf_ast.proofs.walk.listing.nodes_of.Goals as goal
+use Rattle.lf_ast.proofs.walk.listing.nodes_by_frames.Goals as goal
 
 pub loop-frame-init : goal.loop-frame-init
 loop-frame-init c = search (rules, starts (tree c.args.expr.now))
