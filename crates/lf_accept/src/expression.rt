@@ -5,7 +5,7 @@ ghost use Rattle.lf_base.specs.Answers.{Found, Refused, RefusedIn};
 ghost use Rattle.lf_ast.specs.Inside.{Inside};
 ghost use Rattle.lf_ast.specs.Tree.{tree};
 ghost use Rattle.lf_lex.specs.Tokens.{LieIn};
-ghost use Rattle.lf_yaml.specs.Tree.{value};
+ghost use Rattle.lf_scalar.specs.Scalars.{value};
 ghost use Rattle.lf_accept.specs.Accepted.{BreaksExpr, IsExpr};
 ghost use Rattle.lf_accept.specs.Sizes.{has_large_pattern};
 ghost use Rattle.lf_accept.specs.views.Checked.{AreJudged, BreakJudged, BreaksJudged, IsJudged};

@@ -7,7 +7,7 @@ ghost use Rattle.lf_base.specs.Answers.{Found, Refused, RefusedIn};
 ghost use Rattle.lf_ast.specs.Rules.{rule_tree, rule_trees};
 ghost use Rattle.lf_accept.specs.Accepted.{BreaksExpr, IsRule, label_of, template_of, templates_of as templates_in};
 ghost use Rattle.lf_accept.specs.views.Checked.{HasBreach};
-ghost use Rattle.lf_yaml.specs.Tree.{value};
+ghost use Rattle.lf_scalar.specs.Scalars.{value};
 
 use crate::expression::read_expr;
 use lf_ast::{Rule, RuleLabel, Template};

@@ -1,5 +1,6 @@
 -- What is judged of an expression is its type, or the breach that is told.
 use Rattle.std.proofs.Common.{◌≡◌, ◌⊎◌, inl, inr, Bool, true, false, cond, ◌||◌, Option, Some, None, Ok, Err, refl, sym, ◌∙◌, ap, subst}
+use Rattle.std.proofs.lemmas.Bool.{or_parts}
 use Rattle.lf_base.specs.declared.kind.Kind.TheVariants.{BadDuration, BadModifier, UnknownName}
 use Rattle.lf_base.specs.declared.place.Span.{Span}
 use Rattle.lf_ast.specs.Tree.{Tree, Trees, Number, Str as Text, Selector, Subquery, Paren, Unary, Binary, Call, Aggregate, Nil, Next, count, span_of}
@@ -17,7 +18,7 @@ use Rattle.lf_ast.specs.declared.expr.Op.{Op}
 use Rattle.lf_ast.specs.declared.expr.Sight.{Sight}
 use Rattle.lf_ast.proofs.CallsJudged.{AllGood, counted_found, counted_stands, least_own, some_fault}
 use Rattle.lf_base.proofs.Least.{Least, least_either, least_same, least_when, none_of_first, only_one}
-use Rattle.lf_ast.proofs.Sides.{Agrees, Good, IsGiven, IsTaken, Stands, least_modifier, least_side, neither, side_taken, stands_unless}
+use Rattle.lf_ast.proofs.Sides.{Agrees, Good, IsGiven, IsTaken, Stands, least_modifier, least_side, side_taken, stands_unless}
 
 -- ranges
 
@@ -130,7 +131,7 @@ module _ (op : Op) (m : Matching) (span : Span) (left right : Tree) (l r : Judge
       let sides = none_of_first left_fault right_fault outer.0 in
       let x = taken_type left l a (takes_side op) (side_taken (takes_side op) (span_of left) l sides.0) in
       let y = taken_type right r b (takes_side op) (side_taken (takes_side op) (span_of right) r sides.1) in
-      let fits = neither (is_misplaced op m) (is_unfit_at op m l r) (none_of_when (is_misplaced op m || is_unfit_at op m l r) (fault BadModifier span) outer.1) in (
+      let fits = or_parts (is_misplaced op m) (is_unfit_at op m l r) (none_of_when (is_misplaced op m || is_unfit_at op m l r) (fault BadModifier span) outer.1) in (
         x.0,
         y.0,
         x.1,

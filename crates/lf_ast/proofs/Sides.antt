@@ -71,10 +71,6 @@ side_taken takes span (Ok t) e = by (takes t) e where
 
 -- a modifier
 
-pub neither : (a b : Bool) → (a || b) ≡ false → (a ≡ false) × (b ≡ false)
-neither true b e = absurd (cc)
-neither false b e = (refl, e)
-
 module _ (op : Op) (m : Matching) (left right : Tree) where
   abbrev Unfit : Type 0
   Unfit = (l r : ExprType) × HasType left l × HasType right r × (is_unfit op m l r ≡ true)

@@ -2,6 +2,7 @@ pub mod Answers
 pub mod Calls
 pub mod Faults
 pub mod Kinds
+pub mod Lines
 pub mod MemFiles
 pub mod MemSink
 pub mod Names

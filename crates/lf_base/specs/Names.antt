@@ -1,6 +1,6 @@
 -- The names of labels and metrics, and the bytes that they are made of. Letters and digits are those of ASCII.
 use Rattle.std.specs.Prelude.{ℕ, ◌-◌, Bool, false, Option, Some, None, if◌then◌else◌, ◌&&◌, ◌||◌, ◌==◌, nat_le, List, [], ◌∷◌, codes}
-use Rattle.std.specs.List.{list_all}
+use Rattle.std.specs.List.{list_all, list_any}
 
 abbrev pub Bytes : Type 0
 Bytes = List ℕ
@@ -50,3 +50,7 @@ is_metric_name (b ∷ bs) = begins_metric b && list_all is_in_metric bs
 -- the label that holds the metric name
 abbrev pub metric : Bytes
 metric = codes "__name__"
+
+-- there is a colon in a name, as recorded names have one
+abbrev pub has_colon : Bytes → Bool
+has_colon name = list_any (λ b. b == 58) name

@@ -4,7 +4,9 @@
 
 pub mod bytes;
 mod calls;
+pub mod choice;
 mod fault;
+mod keyed;
 mod kind;
 mod mem_files;
 mod mem_sink;
@@ -18,6 +20,7 @@ mod seq;
 mod text;
 
 pub use fault::Fault;
+pub use keyed::Keyed;
 pub use kind::Kind;
 pub use mem_files::MemFiles;
 pub use mem_sink::MemSink;

@@ -1,6 +1,7 @@
 //! The names of labels and metrics, as Prometheus' documentation on its data model has them, and the bytes that they are made of. Letters and digits are those of ASCII.
 ghost use Rattle.std.specs.Prelude.{◌≡◌, ◌<◌, IfSome};
 ghost use Rattle.std.specs.List.{list_all};
+ghost use Rattle.std.specs.Str.{bytes_eq};
 ghost use Rattle.lf_base.specs.Names as names;
 
 /// Whether a byte is a digit, `0` to `9`.
@@ -112,4 +113,18 @@ pub fn are_digits(bytes: &[u8]) -> bool
     ensures { result ≡ list_all names.is_digit bytes.now }
 {
     bytes.iter().all(|byte| is_digit(*byte))
+}
+
+/// Whether a label is the one that holds the metric name, `__name__`.
+pub fn is_metric(label: &[u8]) -> bool
+    ensures { result ≡ bytes_eq label.now names.metric }
+{
+    label == b"__name__".as_slice()
+}
+
+/// Whether a word has a colon, so that it can only name a metric: label names have none.
+pub fn has_colon(name: &str) -> bool
+    ensures { result ≡ names.has_colon name.now }
+{
+    name.as_bytes().iter().any(|byte| *byte == b':')
 }

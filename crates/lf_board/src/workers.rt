@@ -63,7 +63,7 @@ fn run<R: Threads + Sync, T: Drop + Send, F: Fn(u32) -> Result<T, Memory> + Sync
     work: &F,
 ) -> Result<Done<T>, Memory>
     requires fresh { IsFresh board.now seat }
-    requires workers { HasRoomFor workers seat }
+    requires workers { HasRoomFor workers seat.room }
     requires work { MayWork F.Fn work.now board.now.pieces }
     ensures { IfOk result (λ done. IsDone F.Fn work.now seat done) }
 {
@@ -75,12 +75,12 @@ fn run<R: Threads + Sync, T: Drop + Send, F: Fn(u32) -> Result<T, Memory> + Sync
     let theirs = board.split(&mut seat, low - 1);
     let front = move || -> Result<Done<T>, Memory>
         requires threads { IsSync R.row × IsSync F.row × IsSend T.row }
-        requires run { IsFresh board.now theirs × HasRoomFor low theirs × MayWork F.Fn work.now board.now.pieces }
+        requires run { IsFresh board.now theirs × HasRoomFor low theirs.room × MayWork F.Fn work.now board.now.pieces }
         ensures { IfOk result (λ done. IsDone F.Fn work.entry.now theirs done) }
     { run(rt, alloc, board, theirs, low, work) };
     let back = move || -> Result<Done<T>, Memory>
         requires threads { IsSync R.row × IsSync F.row × IsSend T.row }
-        requires run { IsFresh board.now seat × HasRoomFor high seat × MayWork F.Fn work.now board.now.pieces }
+        requires run { IsFresh board.now seat × HasRoomFor high seat.room × MayWork F.Fn work.now board.now.pieces }
         ensures { IfOk result (λ done. IsDone F.Fn work.entry.now seat done) }
     { run(rt, alloc, board, seat, high, work) };
     let (front, back) = join(rt, front, back);

@@ -1,5 +1,5 @@
 -- One label set more among label sets that are kept once.
-use Rattle.std.proofs.Common.{◌≡◌, ◌<◌, Bool, true, false, not, ◌||◌, cond, List, [], ◌∷◌, ◌++◌, get_or, length, refl, sym, ◌∙◌, ap, ap₂, subst, arith}
+use Rattle.std.proofs.Common.{◌≡◌, ◌<◌, Bool, true, false, not, ◌||◌, cond, List, [], ◌∷◌, ◌++◌, length, refl, ◌∙◌, ap, subst, arith}
 use Rattle.std.specs.List.{filter, list_any}
 use Rattle.std.specs.Ordering.{is_eq}
 use Rattle.lf_ast.specs.LabelOrder.{labels_cmp}
@@ -14,15 +14,6 @@ pub few_once : (xs : List Labels) → length xs < 2 → xs ≡ each_once xs
 few_once [] few = refl
 few_once (x ∷ []) few = refl
 few_once (x ∷ y ∷ xs) few = absurd (omega (arith, few))
-
--- two that differ are there once each
-pub two_once : (xs : List Labels) (x y d e : Labels) → length xs ≡ 2 → y ≡ get_or xs 1 d → x ≡ get_or xs 0 e → is_eq (labels_cmp y x) ≡ false → xs ≡ each_once xs
-two_once [] x y d e two second first differ = absurd (omega (arith, two))
-two_once (a ∷ []) x y d e two second first differ = absurd (omega (arith, two))
-two_once (a ∷ b ∷ []) x y d e two second first differ =
-    let differ' : is_eq (labels_cmp b a) ≡ false = ap₂ (λ (s t : Labels). is_eq (labels_cmp s t)) (sym second) (sym first) ∙ differ in
-    ap (λ (z : Bool). a ∷ cond (not z) (b ∷ []) []) (sym differ')
-two_once (a ∷ b ∷ c ∷ xs) x y d e two second first differ = absurd (omega (arith, two))
 
 abbrev pub is_in : List Labels → Labels → Bool
 is_in xs s = list_any (λ t. is_eq (labels_cmp s t)) xs

@@ -5,7 +5,8 @@ use Rattle.std.specs.List.{find}
 use Rattle.lf_ast.specs.Labels.{Bytes}
 use Rattle.lf_ast.specs.Rules.{RuleTree}
 use Rattle.lf_deps.specs.views.Search.{numbers_of}
-use Rattle.lf_trials.specs.Reached.{first_rule, records}
+use Rattle.lf_semantics.specs.Environments.{records}
+use Rattle.lf_trials.specs.Reached.{first_rule}
 
 pub get_or_in : (xs : List ℕ) (i d e : ℕ) → i < length xs → get_or xs i d ≡ get_or xs i e
 get_or_in [] i d e less = absurd (omega (arith, less))

@@ -9,10 +9,10 @@ use Rattle.lf_ast.specs.Rules.{RuleTree}
 use Rattle.lf_deps.specs.views.Search.{numbers_of}
 use Rattle.lf_deps.proofs.Numbered.{of_numbers}
 use Rattle.lf_semantics.specs.ClassRows.{Sets}
-use Rattle.lf_semantics.specs.Environments.{recorded_row, rule_row}
+use Rattle.lf_semantics.specs.Environments.{records, recorded_row, rule_row}
 use Rattle.lf_trials.specs.Built.{fits}
 use Rattle.lf_trials.specs.Given.{Given, holds_texts}
-use Rattle.lf_trials.specs.Reached.{first_rule, is_marked, records}
+use Rattle.lf_trials.specs.Reached.{first_rule, is_marked}
 use Rattle.lf_built.specs.declared.prepared.Prepared.{Prepared}
 use Rattle.lf_built.specs.views.Fitting.{IsFirstRule}
 use Rattle.lf_built.specs.views.Indexed.{IsPrepared, env_of, forks_of, trees_of, universe_of}

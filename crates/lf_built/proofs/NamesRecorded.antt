@@ -11,10 +11,9 @@ use Rattle.lf_deps.specs.views.Makers.{with_maker}
 use Rattle.lf_deps.specs.views.Search.{numbers_of}
 use Rattle.lf_deps.specs.views.Sources.{IsSourcesOf, Sources}
 use Rattle.lf_deps.proofs.Indexed.{none_record, numbers_at, sources_more}
-use Rattle.lf_semantics.specs.Environments.{names_recorded, recorded_names}
+use Rattle.lf_semantics.specs.Environments.{records, names_recorded, recorded_names}
 use Rattle.lf_semantics.specs.Listing.{place}
 use Rattle.lf_semantics.proofs.ListingLaws.{in_first_seen, place_within}
-use Rattle.lf_trials.specs.Reached.{records}
 use Rattle.lf_built.specs.views.Recorders.{AreRecordersOf, Recorders}
 
 pub no_recorders : (names : List Bytes) (numbers : List (List ℕ)) → names ≡ [] → numbers ≡ [] → AreRecordersOf [] (record { names = names; numbers = numbers })

@@ -187,9 +187,6 @@ module _ (u : Listing) (env : Environment) (rules : List RuleTree) (holds_fork :
     pub some_parts : IsNoSelector w.expr → (wanted : List Wanted) → parts_wanted u env w.expr D ≡ Some wanted → left n marked (Visit w ∷ tasks) ≡ left n marked (map Visit wanted ++ tasks)
     some_parts other wanted e = parts_of_task other ∙ ap (λ (o : Option (List Wanted)). and_then (all u env rules holds_fork (by_rule n marked) o) (left n marked tasks)) e ∙ sym (visits n marked wanted tasks)
 
-    pub no_parts : IsNoSelector w.expr → parts_wanted u env w.expr D ≡ None → left n marked (Visit w ∷ tasks) ≡ None
-    no_parts other e = parts_of_task other ∙ ap (λ (o : Option (List Wanted)). and_then (all u env rules holds_fork (by_rule n marked) o) (left n marked tasks)) e
-
   -- a recorded name gives way to the expression of its rule, and the rule's step behind it
   pub recorded : (n : ℕ) (marked : List ℕ) (name : Bytes) (D : Given) (tasks : List Task) (k : ℕ) (r : RuleTree) → first_rule (fits u env rules holds_fork marked name D) 0 rules ≡ Some (k, r)
       → and_then (option_map one_more (by_rule (suc n) marked name D)) (left (suc n) marked tasks) ≡ and_then selector_only (left n (k ∷ marked) (Visit (want r.expr (before_recording u env rules holds_fork r D)) ∷ Finish ∷ tasks))

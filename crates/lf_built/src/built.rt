@@ -1,14 +1,14 @@
 //! The built worlds of a rule.
 ghost use Rattle.std.specs.Prelude.{◌≡◌, ◌<◌, Some, length, slice_get, IfOk};
 ghost use Rattle.lf_ast.specs.Rules.{RuleTree, rule_trees};
-ghost use Rattle.lf_trials.specs.Built.{IsBuilt};
+ghost use Rattle.lf_trials.specs.Built.{IsBuilt, built_trial};
 ghost use Rattle.lf_trials.specs.Given.{Given, giving, nothing_given};
 ghost use Rattle.lf_trials.specs.Reached.{IsReach};
 ghost use Rattle.lf_candidates.specs.views.ClassTexts.{IsClass, Stands, name_at, text_at};
 ghost use Rattle.lf_candidates.specs.views.Told.{AnswersFor};
 ghost use Rattle.lf_forks.specs.views.ForkTests.{TellsSelectors};
 ghost use Rattle.lf_forks.specs.views.Holding.{test_of};
-ghost use Rattle.lf_built.specs.views.Begun.{IsTrialOf, begun_of, built_trial};
+ghost use Rattle.lf_built.specs.views.Begun.{IsTrialOf, begun_of};
 ghost use Rattle.lf_built.specs.views.Built.{IsOfRule, OfRule};
 ghost use Rattle.lf_built.specs.views.Indexed.{IsPrepared, env_of, trees_of, universe_of};
 ghost use Rattle.lf_built.specs.views.Works.{Builds, so_far};

@@ -4,7 +4,7 @@ ghost use Rattle.lf_ast.specs.Rules.{RuleTree, rule_tree, rule_trees};
 ghost use Rattle.lf_classes.specs.views.TextSets.{with_text};
 ghost use Rattle.lf_deps.specs.views.Makers.{with_maker};
 ghost use Rattle.lf_deps.specs.views.Search.{numbers_of};
-ghost use Rattle.lf_trials.specs.Reached.{records};
+ghost use Rattle.lf_semantics.specs.Environments.{records};
 ghost use Rattle.lf_built.specs.views.Recorders.{AreRecordersOf};
 
 use lf_ast::Rule;

@@ -1,5 +1,5 @@
 -- A name is recorded where it is among the recorded names.
-use Rattle.std.proofs.Common.{inl, inr, ◌≡◌, ◌<◌, ◌≤◌, ◌⊎◌, arith, nat_lt, ℕ, Bool, true, false, not, ◌&&◌, ◌||◌, cond, List, [], ◌∷◌, length, refl, sym, ap, ◌∙◌, subst}
+use Rattle.std.proofs.Common.{◌≡◌, ◌<◌, ◌≤◌, arith, nat_lt, ℕ, Bool, true, false, not, ◌&&◌, List, length, refl, sym, ap, ◌∙◌, subst}
 use Rattle.std.specs.List.{Contains}
 use Rattle.std.specs.Str.{bytes_eq}
 use Rattle.std.proofs.lemmas.Bool.{and_parts, not-true}
@@ -7,12 +7,12 @@ use Rattle.std.proofs.lemmas.Bool.Decides.{nat_tests}
 use Rattle.lf_laws.proofs.Members.{any_has, same_true, some_has, true_same}
 use Rattle.lf_ast.specs.Labels.{Bytes}
 use Rattle.lf_ast.specs.Rules.{RuleTree}
-use Rattle.lf_semantics.specs.Environments.{names_recorded, recorded_names}
+use Rattle.lf_semantics.specs.Environments.{records, names_recorded, recorded_names}
 use Rattle.lf_semantics.specs.Listing.{place}
 use Rattle.lf_semantics.proofs.ListingLaws.{in_first_seen, of_first_seen, place_within}
 use Rattle.lf_semantics.proofs.Places.{placed_there}
 use Rattle.lf_semantics.proofs.Recorded.{recorded, recorder}
-use Rattle.lf_trials.specs.Reached.{is_recorded, records}
+use Rattle.lf_trials.specs.Reached.{is_recorded}
 
 module _ (name : Bytes) where
   in_names : (rules : List RuleTree) → is_recorded rules name ≡ true → Contains (names_recorded rules) name

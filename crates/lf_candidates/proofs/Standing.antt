@@ -120,9 +120,6 @@ module _ (u : Listing) (within : IsWithin u) where
         ap (λ l. holds row l (class_of u l text)) (label_at u within label h) ∙ ap (holds row label) (class_of_text class stands.0) in
         sym (ap (λ (o : Option Bytes). option_map_or (holds_text u row (name_at u label)) o true) stands.1 ∙ at)
 
-    pub holds_nothing : (row : Sets) (D : Given) → StandsAt u label None D → true ≡ option_map_or (holds_text u row (name_at u label)) (D (name_at u label)) true
-    holds_nothing row D stands = sym (ap (λ (o : Option Bytes). option_map_or (holds_text u row (name_at u label)) o true) stands.1)
-
 -- lists, element by element
 
 same_all : {X Y : Type 0} (p : X → Bool) (q : Y → Bool) (xs : List X) (ys : List Y) (x : X) (y : Y) → length xs ≡ length ys → ((k : ℕ) → k < length xs → p (get_or xs k x) ≡ q (get_or ys k y)) → list_all p xs ≡ list_all q ys

@@ -24,9 +24,10 @@ use Rattle.lf_ast.specs.declared.verdict.Finding.{Finding as Row}
 use Rattle.lf_checks.specs.Files.{File}
 use Rattle.lf_checks.specs.Finding.{Check, AlertComparison, AlertTemplate, RuleDuplicate, RuleDependency, PromqlRegexp, MatchLabel, ExprEmpty, ExprType, RuleLabel, Finding, finding, finding_cmp, rank}
 use Rattle.lf_checks.specs.RuleDuplicate.{says_where}
-use Rattle.lf_checks.specs.declared.ordering.Keyed.{Keyed}
+use Rattle.lf_base.specs.declared.keyed.Keyed.{Keyed}
 use Rattle.lf_checks.specs.views.Cases.{check_at, said}
-use Rattle.lf_checks.specs.views.InOrder.{IsInOrder, OneDuplicate, items_of, keyed, keyed_cmp, row_key}
+use Rattle.lf_base.specs.views.Keyed.{keyed_cmp, items_of}
+use Rattle.lf_checks.specs.views.InOrder.{IsInOrder, OneDuplicate, keyed, row_key}
 use Rattle.lf_checks.specs.views.Shown.{all_shown, place_of, shown}
 use Rattle.lf_checks.proofs.SomeList.{at_rank, equal_same}
 
@@ -136,15 +137,15 @@ module _ (files : List File) (rules : List RuleTree) where
       by None en = let P : Option X → Type 0 = λ o. option_map h o ≡ Some y in let clash : None ≡ Some y = subst P en is in absurd (let no_way : None ≡ Some y = clash in cc)
       by (Some x) es = let P : Option X → Type 0 = λ o. option_map h o ≡ Some y in let found : Some (h x) ≡ Some y = subst P es is in (x, es, (let back : Some (h x) ≡ Some y = found in cc))
 
-  total : IsTotalOrder keyed_cmp
+  total : IsTotalOrder (keyed_cmp {T = Row})
   total = on_total items_of nat_list_cmp_total
 
-  module _ (found : List Row) (sorted : List Keyed) (moved : IsPermutation (map keyed found) sorted) (up : IsSorted keyed_cmp sorted) (one : OneDuplicate (all_shown files rules found)) where
-    left : List Keyed
+  module _ (found : List Row) (sorted : List (Keyed Row)) (moved : IsPermutation (map keyed found) sorted) (up : IsSorted keyed_cmp sorted) (one : OneDuplicate (all_shown files rules found)) where
+    left : List (Keyed Row)
     left = dedup (eq_by_cmp keyed_cmp) sorted
 
     -- what is left was found
-    from : (k : Keyed) → Contains left k → (a : Row) × Contains found a × (k ≡ keyed a)
+    from : (k : Keyed Row) → Contains left k → (a : Row) × Contains found a × (k ≡ keyed a)
     unfolding left
     from k c = map_member keyed found k (Contains-permutation sorted (map keyed found) k (IsPermutation-sym (map keyed found) sorted moved) (Contains-from_dedup (eq_by_cmp keyed_cmp) sorted k c))
 
@@ -157,20 +158,20 @@ module _ (files : List File) (rules : List RuleTree) where
     strictly = IsStrictlySortedBy-dedup total (λ x y. refl) sorted up
 
     findings : List Row
-    findings = map (λ (k : Keyed). k.finding) left
+    findings = map (λ (k : Keyed Row). k.item) left
 
     -- what stands at a place
     at_place : (j : ℕ) (f : Finding) → slice_get (all_shown files rules findings) j ≡ Some f → (a : Row) × Contains found a × (f ≡ shown files rules a) × (slice_get left j ≡ Some (keyed a))
     unfolding findings
     at_place j f e = by (at_map (shown files rules) findings j f e)
       where
-        named : (x : Row) → f ≡ shown files rules x → (k : Keyed) → slice_get left j ≡ Some k → x ≡ k.finding → (a : Row) × Contains found a × (k ≡ keyed a) → (a : Row) × Contains found a × (f ≡ shown files rules a) × (slice_get left j ≡ Some (keyed a))
-        named x is k there own (a, c, same) = (a, c, is ∙ ap (shown files rules) {x = x} {y = a} (own ∙ ap (λ (l : Keyed). l.finding) {x = k} {y = keyed a} same), there ∙ ap (λ (l : Keyed). Some l) same)
+        named : (x : Row) → f ≡ shown files rules x → (k : Keyed Row) → slice_get left j ≡ Some k → x ≡ k.item → (a : Row) × Contains found a × (k ≡ keyed a) → (a : Row) × Contains found a × (f ≡ shown files rules a) × (slice_get left j ≡ Some (keyed a))
+        named x is k there own (a, c, same) = (a, c, is ∙ ap (shown files rules) {x = x} {y = a} (own ∙ ap (λ (l : Keyed Row). l.item) {x = k} {y = keyed a} same), there ∙ ap (λ (l : Keyed Row). Some l) same)
 
         by : (x : Row) × (slice_get findings j ≡ Some x) × (f ≡ shown files rules x) → (a : Row) × Contains found a × (f ≡ shown files rules a) × (slice_get left j ≡ Some (keyed a))
-        by (x, here_now, is) = further (at_map (λ (k : Keyed). k.finding) left j x here_now)
+        by (x, here_now, is) = further (at_map (λ (k : Keyed Row). k.item) left j x here_now)
           where
-            further : (k : Keyed) × (slice_get left j ≡ Some k) × (x ≡ k.finding) → (a : Row) × Contains found a × (f ≡ shown files rules a) × (slice_get left j ≡ Some (keyed a))
+            further : (k : Keyed Row) × (slice_get left j ≡ Some k) × (x ≡ k.item) → (a : Row) × Contains found a × (f ≡ shown files rules a) × (slice_get left j ≡ Some (keyed a))
             further (k, there, own) = named x is k there own (from k (j, slice_get_within left j k there, get_or_from_slice_get left j k k there))
 
     ascending : (j k : ℕ) (f g : Finding) → j < k → slice_get (all_shown files rules findings) j ≡ Some f → slice_get (all_shown files rules findings) k ≡ Some g → finding_cmp f g ≡ Less
@@ -182,11 +183,11 @@ module _ (files : List File) (rules : List RuleTree) where
             let other_key = get_or_from_slice_get left k (keyed b) (keyed a) kb in
             let less : keyed_cmp (get_or left j (keyed a)) (get_or left k (keyed a)) ≡ Less = Less-from_sorted keyed_cmp left j k (keyed a) strictly lt (slice_get_within left k (keyed b) kb) in
             let at_rows : keyed_cmp (keyed a) (keyed b) ≡ Less =
-            subst (λ (q : Keyed). keyed_cmp (keyed a) q ≡ Less) {x = get_or left k (keyed a)} {y = keyed b} other_key
-            (subst (λ (p : Keyed). keyed_cmp p (get_or left k (keyed a)) ≡ Less) {x = get_or left j (keyed a)} {y = keyed a} one_key less) in
+            subst (λ (q : Keyed Row). keyed_cmp (keyed a) q ≡ Less) {x = get_or left k (keyed a)} {y = keyed b} other_key
+            (subst (λ (p : Keyed Row). keyed_cmp p (get_or left k (keyed a)) ≡ Less) {x = get_or left j (keyed a)} {y = keyed a} one_key less) in
             less_as f g (shown files rules a) (shown files rules b) first second (less_shown a b (only_one_names a b ca cb) at_rows)
 
-    tie : (p q : Keyed) → eq_by_cmp keyed_cmp p q ≡ true → keyed_cmp p q ≡ Equal
+    tie : (p q : Keyed Row) → eq_by_cmp keyed_cmp p q ≡ true → keyed_cmp p q ≡ Equal
     tie p q e = by (keyed_cmp p q) refl
       where
         by : (o : Ordering) → keyed_cmp p q ≡ o → keyed_cmp p q ≡ Equal
@@ -195,15 +196,15 @@ module _ (files : List File) (rules : List RuleTree) where
         by Greater is = absurd (true≢false (sym e ∙ rw is refl))
 
     -- one that has the key of another, which is left
-    tied : (a b : Row) → Contains found a → Contains found b → (y : Keyed) → Contains left y → keyed_cmp (keyed a) y ≡ Equal → y ≡ keyed b → Contains (all_shown files rules findings) (shown files rules a)
+    tied : (a b : Row) → Contains found a → Contains found b → (y : Keyed Row) → Contains left y → keyed_cmp (keyed a) y ≡ Equal → y ≡ keyed b → Contains (all_shown files rules findings) (shown files rules a)
     unfolding findings
     tied a b ca cb y inside equal is =
-        let P : Keyed → Type 0 = λ q. keyed_cmp (keyed a) q ≡ Equal in
+        let P : Keyed Row → Type 0 = λ q. keyed_cmp (keyed a) q ≡ Equal in
         let same : shown files rules a ≡ shown files rules b = same_shown a b (only_one_names a b ca cb) (subst P {x = y} {y = keyed b} is equal) in
-        let own : y.finding ≡ b = ap (λ (l : Keyed). l.finding) {x = y} {y = keyed b} is in
-        let there : shown files rules y.finding ≡ shown files rules a = ap (shown files rules) {x = y.finding} {y = b} own ∙ sym same in
-        subst (Contains (all_shown files rules (map (λ (l : Keyed). l.finding) left))) there
-        (in_map (shown files rules) (map (λ (l : Keyed). l.finding) left) y.finding (in_map (λ (l : Keyed). l.finding) left y inside))
+        let own : y.item ≡ b = ap (λ (l : Keyed Row). l.item) {x = y} {y = keyed b} is in
+        let there : shown files rules y.item ≡ shown files rules a = ap (shown files rules) {x = y.item} {y = b} own ∙ sym same in
+        subst (Contains (all_shown files rules (map (λ (l : Keyed Row). l.item) left))) there
+        (in_map (shown files rules) (map (λ (l : Keyed Row). l.item) left) y.item (in_map (λ (l : Keyed Row). l.item) left y inside))
 
     kept_row : (a : Row) → Contains found a → Contains (all_shown files rules findings) (shown files rules a)
     unfolding left
@@ -225,21 +226,21 @@ module _ (files : List File) (rules : List RuleTree) where
     unfolding findings
     only f c =
         let row = map_member (shown files rules) findings f c in
-        let k = map_member (λ (k : Keyed). k.finding) left row.0 row.1 in
+        let k = map_member (λ (k : Keyed Row). k.item) left row.0 row.1 in
         let a = from k.0 k.1 in
-        let is : shown files rules a.0 ≡ f = sym (row.2 ∙ ap (shown files rules) (k.2 ∙ ap (λ (k : Keyed). k.finding) a.2)) in
+        let is : shown files rules a.0 ≡ f = sym (row.2 ∙ ap (shown files rules) (k.2 ∙ ap (λ (k : Keyed Row). k.item) a.2)) in
         subst (Contains (all_shown files rules found)) is (in_map (shown files rules) found a.0 a.1)
 
-    pub in_order : (rs : List Keyed) → rs ≡ dedup (eq_by_cmp keyed_cmp) sorted → IsInOrder (all_shown files rules found) (all_shown files rules (map (λ (k : Keyed). k.finding) rs))
+    pub in_order : (rs : List (Keyed Row)) → rs ≡ dedup (eq_by_cmp keyed_cmp) sorted → IsInOrder (all_shown files rules found) (all_shown files rules (map (λ (k : Keyed Row). k.item) rs))
     unfolding left findings
-    in_order rs is = subst (λ (ks : List Keyed). IsInOrder (all_shown files rules found) (all_shown files rules (map (λ (k : Keyed). k.finding) ks))) (sym is) (record { ascending = ascending; kept = kept; only = only })
+    in_order rs is = subst (λ (ks : List (Keyed Row)). IsInOrder (all_shown files rules found) (all_shown files rules (map (λ (k : Keyed Row). k.item) ks))) (sym is) (record { ascending = ascending; kept = kept; only = only })
 
 -- each that is left was found
-pub given : (found : List Row) (sorted rs : List Keyed) → IsPermutation (map keyed found) sorted → rs ≡ dedup (eq_by_cmp keyed_cmp) sorted → All (Contains found) (map (λ (k : Keyed). k.finding) rs)
-given found sorted rs moved is = All-map (Contains found) (λ (k : Keyed). k.finding) rs (All-weaker (Contains rs) (λ (k : Keyed). Contains found k.finding) from rs (All-contains_itself rs))
+pub given : (found : List Row) (sorted rs : List (Keyed Row)) → IsPermutation (map keyed found) sorted → rs ≡ dedup (eq_by_cmp keyed_cmp) sorted → All (Contains found) (map (λ (k : Keyed Row). k.item) rs)
+given found sorted rs moved is = All-map (Contains found) (λ (k : Keyed Row). k.item) rs (All-weaker (Contains rs) (λ (k : Keyed Row). Contains found k.item) from rs (All-contains_itself rs))
   where
-    from : (k : Keyed) → Contains rs k → Contains found k.finding
+    from : (k : Keyed Row) → Contains rs k → Contains found k.item
     from k c =
-        let kept : Contains sorted k = Contains-from_dedup (eq_by_cmp keyed_cmp) sorted k (subst (λ (l : List Keyed). Contains l k) is c) in
+        let kept : Contains sorted k = Contains-from_dedup (eq_by_cmp keyed_cmp) sorted k (subst (λ (l : List (Keyed Row)). Contains l k) is c) in
         let a = map_member keyed found k (Contains-permutation sorted (map keyed found) k (IsPermutation-sym (map keyed found) sorted moved) kept) in
-        subst (Contains found) (sym (ap (λ (l : Keyed). l.finding) {x = k} {y = keyed a.0} a.2)) a.1
+        subst (Contains found) (sym (ap (λ (l : Keyed Row). l.item) {x = k} {y = keyed a.0} a.2)) a.1

@@ -18,7 +18,8 @@ use Rattle.lf_semantics.specs.Listing.{place}
 use Rattle.lf_semantics.proofs.ListingLaws.{in_first_seen, of_first_seen, place_within}
 use Rattle.lf_semantics.proofs.Places.{at_place}
 use Rattle.lf_checks.specs.Finding.{Finding, RuleDependency, finding}
-use Rattle.lf_checks.specs.RuleDependency.{IsFound, has_colon, says_cyclic, says_unrecorded}
+use Rattle.lf_base.specs.Names.{has_colon}
+use Rattle.lf_checks.specs.RuleDependency.{IsFound, says_cyclic, says_unrecorded}
 use Rattle.lf_checks.specs.views.Adding.{Adds, OfSome}
 use Rattle.lf_checks.specs.views.Recorded.{IsLacking, IsOfName, IsOfSelector}
 use Rattle.lf_checks.proofs.Added.{adds_as, adds_both, adds_none}

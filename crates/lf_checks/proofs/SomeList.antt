@@ -10,13 +10,13 @@ use Rattle.lf_checks.specs.views.Cases.{check_at}
 use Rattle.lf_laws.proofs.Slices.{member_at}
 use Rattle.lf_laws.proofs.Members.{behind, first_or_behind, here, none_in, only_one}
 use Rattle.lf_base.specs.Faults.{span}
+use Rattle.lf_base.proofs.OneOrder.{Ascends, head_less, tail_ascends}
 use Rattle.lf_ast.specs.Rules.{RuleTree}
 use Rattle.lf_semantics.specs.Listing.{Listing}
 use Rattle.lf_semantics.specs.RowTable.{Environment}
 use Rattle.lf_checks.specs.Files.{File}
 use Rattle.lf_checks.specs.Finding.{Check, AlertComparison, AlertTemplate, RuleDuplicate, RuleDependency, PromqlRegexp, MatchLabel, ExprEmpty, ExprType, RuleLabel, Finding, finding, finding_cmp, key_of, rank}
 use Rattle.lf_checks.specs.Findings.{AreFindingsIn, IsFindingIn}
-use Rattle.lf_checks.proofs.OneList.{Ascends, head_less, tail_ascends}
 
 -- ---- findings that neither comes before the other are one
 
@@ -44,35 +44,35 @@ equal_same f g e = sym (from_key f) ∙ ap finding_from (slice_cmp-IsAntisymmetr
 
 -- ---- one finding more
 
-ascends_behind : (f : Finding) (found : List Finding) → Ascends found → ((g : Finding) → Contains found g → finding_cmp f g ≡ Less) → Ascends (f ∷ found)
+ascends_behind : (f : Finding) (found : List Finding) → Ascends key_of found → ((g : Finding) → Contains found g → finding_cmp f g ≡ Less) → Ascends key_of (f ∷ found)
 ascends_behind f found ascends less zero zero g h lt a b = absurd (omega (arith, lt))
 ascends_behind f found ascends less zero (suc k) g h lt a b = let same : f ≡ g = (let e : Some f ≡ Some g = a in cc) in subst (λ z. finding_cmp z h ≡ Less) same (less h (member_at found k h b))
 ascends_behind f found ascends less (suc j) zero g h lt a b = absurd (omega (arith, lt))
 ascends_behind f found ascends less (suc j) (suc k) g h lt a b = ascends j k g h (omega (arith, lt)) a b
 
-none_ascends : Ascends []
+none_ascends : Ascends key_of []
 none_ascends j k g h lt a b = absurd (none_in g (member_at [] j g a))
 
 -- `IsPut f found more`: more ascends and has what is found, and f
 abbrev IsPut : Finding → List Finding → List Finding → Type 0
-IsPut f found more = Ascends more × Contains more f × ((g : Finding) → Contains found g → Contains more g) × ((g : Finding) → Contains more g → (f ≡ g) ⊎ Contains found g)
+IsPut f found more = Ascends key_of more × Contains more f × ((g : Finding) → Contains found g → Contains more g) × ((g : Finding) → Contains more g → (f ≡ g) ⊎ Contains found g)
 
-put_first : (f g : Finding) (found : List Finding) → Ascends (g ∷ found) → finding_cmp f g ≡ Less → IsPut f (g ∷ found) (f ∷ g ∷ found)
+put_first : (f g : Finding) (found : List Finding) → Ascends key_of (g ∷ found) → finding_cmp f g ≡ Less → IsPut f (g ∷ found) (f ∷ g ∷ found)
 put_first f g found ascends less = (
   ascends_behind f (g ∷ found) ascends (λ h c. elim (first_or_behind g found h c) [
     | inl e ↦ subst (λ z. finding_cmp f z ≡ Less) e less
-    | inr later ↦ nat_list_cmp_total.trans (key_of f) (key_of g) (key_of h) less (head_less g h found ascends later)
+    | inr later ↦ nat_list_cmp_total.trans (key_of f) (key_of g) (key_of h) less (head_less key_of g h found ascends later)
   ]),
   here f (g ∷ found),
   λ h c. behind f (g ∷ found) h c,
   λ h c. first_or_behind f (g ∷ found) h c,
 )
 
-put_behind : (f g : Finding) (found more : List Finding) → Ascends (g ∷ found) → finding_cmp g f ≡ Less → IsPut f found more → IsPut f (g ∷ found) (g ∷ more)
+put_behind : (f g : Finding) (found more : List Finding) → Ascends key_of (g ∷ found) → finding_cmp g f ≡ Less → IsPut f found more → IsPut f (g ∷ found) (g ∷ more)
 put_behind f g found more ascends less put = (
   ascends_behind g more put.0 (λ h c. elim (put.3 h c) [
     | inl e ↦ subst (λ z. finding_cmp g z ≡ Less) e less
-    | inr old ↦ head_less g h found ascends old
+    | inr old ↦ head_less key_of g h found ascends old
   ]),
   behind g more f put.1,
   λ h c. elim (first_or_behind g found h c) [
@@ -88,9 +88,9 @@ put_behind f g found more ascends less put = (
   ],
 )
 
-put : (f : Finding) (found : List Finding) → Ascends found → (more : List Finding) × IsPut f found more
+put : (f : Finding) (found : List Finding) → Ascends key_of found → (more : List Finding) × IsPut f found more
 put f [] ascends = (f ∷ [], (ascends_behind f [] none_ascends (λ g c. absurd (none_in g c)), here f [], (λ g c. absurd (none_in g c)), (λ g c. inl (only_one f g c))))
-put f (g ∷ found) ascends = by (finding_cmp f g) refl (put f found (tail_ascends g found ascends))
+put f (g ∷ found) ascends = by (finding_cmp f g) refl (put f found (tail_ascends key_of g found ascends))
   where
     by : (o : Ordering) → finding_cmp f g ≡ o → (more : List Finding) × IsPut f found more → (more : List Finding) × IsPut f (g ∷ found) more
     by Less e rest = (f ∷ g ∷ found, put_first f g found ascends e)
@@ -100,7 +100,7 @@ put f (g ∷ found) ascends = by (finding_cmp f g) refl (put f found (tail_ascen
 -- ---- all of them
 
 abbrev IsInOrder : List Finding → List Finding → Type 0
-IsInOrder listed found = Ascends found × ((f : Finding) → Contains listed f → Contains found f) × ((f : Finding) → Contains found f → Contains listed f)
+IsInOrder listed found = Ascends key_of found × ((f : Finding) → Contains listed f → Contains found f) × ((f : Finding) → Contains found f → Contains listed f)
 
 in_order : (listed : List Finding) → (found : List Finding) × IsInOrder listed found
 in_order [] = ([], (none_ascends, (λ f c. c), (λ f c. c)))

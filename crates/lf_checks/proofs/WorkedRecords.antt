@@ -41,7 +41,8 @@ use Rattle.lf_checks.specs.Numbers.{HasNumbers, Says}
 use Rattle.lf_checks.specs.PromqlRegexp as promql_regexp
 use Rattle.lf_checks.specs.PromqlRegexp.{IsAnchored, MatchesBy}
 use Rattle.lf_checks.specs.RuleDependency as rule_dependency
-use Rattle.lf_checks.specs.RuleDependency.{SelectsAt, has_colon}
+use Rattle.lf_base.specs.Names.{has_colon}
+use Rattle.lf_checks.specs.RuleDependency.{SelectsAt}
 use Rattle.lf_checks.specs.RuleDuplicate as rule_duplicate
 use Rattle.lf_checks.specs.RuleLabel as rule_label
 use Rattle.lf_checks.proofs.TrueFindings.{last_behind, last_of}

@@ -1,6 +1,7 @@
 -- rule/dependency: a selector of a name with a colon that no rule records, or of a name that is read in its own making.
-use Rattle.std.specs.Prelude.{◌≡◌, ◌⊎◌, ◌==◌, Bool, true, List, ◌++◌, Option, Some, codes}
-use Rattle.std.specs.List.{Contains, list_any}
+use Rattle.std.specs.Prelude.{◌≡◌, ◌⊎◌, true, List, ◌++◌, Option, Some, codes}
+use Rattle.std.specs.List.{Contains}
+use Rattle.lf_base.specs.Names.{has_colon}
 use Rattle.lf_base.specs.declared.place.Span.{Span}
 use Rattle.lf_ast.specs.Labels.{Bytes}
 use Rattle.lf_ast.specs.Rules.{RuleTree}
@@ -23,10 +24,6 @@ says_unrecorded name = name ++ codes " is recorded by no accepted rule"
 -- what it says of a name that is read in its own making
 abbrev pub says_cyclic : Bytes → Bytes
 says_cyclic name = name ++ codes " is read in its own making"
-
--- by convention a metric name with a colon is a recorded one
-abbrev pub has_colon : Bytes → Bool
-has_colon name = list_any (λ b. b == 58) name
 
 -- a selector in the expression, with this span, is of the name: the one before its braces, or that of its first `=` on the metric name
 abbrev pub SelectsAt : Tree → Bytes → Span → Type 0

@@ -1,21 +1,17 @@
 //! The order of findings.
-ghost use Rattle.std.specs.Prelude.{◌≡◌, ◌++◌, List, [], map, refl, IfOk, OnOk};
+ghost use Rattle.std.specs.Prelude.{◌≡◌, ◌++◌, List, map, IfOk, OnOk};
 ghost use Rattle.std.specs.List.{All, Contains};
-ghost use Rattle.std.specs.Cmp.{eq_by_cmp_equiv, on_total, partial_equiv_from_equiv, partial_order_from_total};
-ghost use Rattle.std.specs.Cmp.Lexicographic.{nat_list_cmp_total};
-ghost use Rattle.std.specs.Ordering.{as_partial_cmp, eq_by_cmp};
 ghost use Rattle.lf_ast.specs.Rules.{RuleTree};
 ghost use Rattle.lf_checks.specs.Files.{File};
 ghost use Rattle.lf_checks.specs.Finding.{rank};
 ghost use Rattle.lf_checks.specs.views.Cases.{check_at};
-ghost use Rattle.lf_checks.specs.views.InOrder.{IsInOrder, OneDuplicate, items_of, keyed, keyed_cmp, row_key};
+ghost use Rattle.lf_checks.specs.views.InOrder.{IsInOrder, OneDuplicate, keyed, row_key};
 ghost use Rattle.lf_checks.specs.views.Shown.{all_shown};
 
 use crate::texts::text_of;
 use lf_ast::Finding;
-use lf_base::{Memory, Seq};
+use lf_base::{Keyed, Memory, Seq};
 use std::alloc::Global;
-use std::cmp::Ordering;
 
 /// The findings in their order, each once. Of one that names another rule the place of that rule isn't looked at: there is one at most.
 pub(crate) fn in_order(alloc: Global, found: Vec<Finding>) -> Result<Seq<Finding>, Memory>
@@ -29,59 +25,14 @@ pub(crate) fn in_order(alloc: Global, found: Vec<Finding>) -> Result<Seq<Finding
     Ok(Seq::from_vec(sorted))
 }
 
-/// A finding with what it is ordered by: the number of its check, where it starts and ends, and the bytes of its text.
-#[derive(Drop)]
-struct Keyed {
-    key: Seq<u32>,
-    finding: Finding,
-}
-
-impl PartialEq for Keyed {
-    ghost eq = { eq_by_cmp keyed_cmp };
-
-    ghost laws = { partial_equiv_from_equiv (eq_by_cmp_equiv (on_total items_of nat_list_cmp_total)) };
-
-    fn eq(&self, other: &Keyed) -> bool {
-        self.cmp(other).is_eq()
-    }
-}
-
-impl Eq for Keyed {
-    ghost laws = { eq_by_cmp_equiv (on_total items_of nat_list_cmp_total) };
-}
-
-impl PartialOrd for Keyed {
-    ghost partial_cmp = { as_partial_cmp keyed_cmp };
-
-    ghost laws = { partial_order_from_total (on_total items_of nat_list_cmp_total) };
-
-    fn partial_cmp(&self, other: &Keyed) -> Option<Ordering> {
-        Some(self.cmp(other))
-    }
-}
-
-impl Ord for Keyed {
-    ghost cmp = { keyed_cmp };
-
-    ghost total = { on_total items_of nat_list_cmp_total };
-
-    ghost matches_partial_cmp = { λ s t. refl };
-
-    ghost matches_eq = { λ s t. refl };
-
-    fn cmp(&self, other: &Keyed) -> Ordering {
-        self.key.as_slice().cmp(other.key.as_slice())
-    }
-}
-
 /// The findings with their keys.
-fn with_keys(alloc: Global, found: Vec<Finding>) -> Result<Vec<Keyed>, Memory>
+fn with_keys(alloc: Global, found: Vec<Finding>) -> Result<Vec<Keyed<Finding>>, Memory>
     ensures { IfOk result (λ all. all.items ≡ map keyed found.items) }
 {
     let mut all = Vec::new(alloc);
     for finding in found {
         let key = key_of(alloc, &finding)?;
-        all.push(Keyed { key, finding })?;
+        all.push(Keyed { key, item: finding })?;
     }
     Ok(all)
 }
@@ -120,9 +71,9 @@ fn rank(finding: &Finding) -> u8
 }
 
 /// The findings without their keys.
-fn findings_of(alloc: Global, keyed: Vec<Keyed>) -> Result<Vec<Finding>, Memory>
-    ensures { IfOk result (λ found. found.items ≡ map (λ k. k.finding) keyed.items) }
+fn findings_of(alloc: Global, keyed: Vec<Keyed<Finding>>) -> Result<Vec<Finding>, Memory>
+    ensures { IfOk result (λ found. found.items ≡ map (λ k. k.item) keyed.items) }
 {
-    let found = keyed.into_iter().map(|keyed| keyed.finding).collect(alloc)?;
+    let found = keyed.into_iter().map(|keyed| keyed.item).collect(alloc)?;
     Ok(found)
 }

@@ -3,16 +3,16 @@ ghost use Rattle.std.specs.Prelude.{◌≡◌, ◌⊎◌, ◌↔◌, IsTrue, IfO
 ghost use Rattle.lf_ast.specs.Rules.{rule_tree};
 ghost use Rattle.lf_ast.specs.Tree.{nodes, tree};
 ghost use Rattle.lf_ast.specs.views.Walks.{trees_at};
-ghost use Rattle.lf_semantics.specs.PatternBreaches.{takes_pattern};
-ghost use Rattle.lf_checks.specs.PromqlRegexp.{BeginsAnchored, EndsAnchored, IsFound, IsOneText, says_anchored, says_plain};
+ghost use Rattle.lf_checks.specs.PromqlRegexp.{BeginsAnchored, EndsAnchored, IsFound, IsOneText};
 ghost use Rattle.lf_checks.specs.views.Adding.{Adds, OfSome};
-ghost use Rattle.lf_checks.specs.views.Patterns.{IsAnchoredAt, IsOfMatcher, IsOfPart, IsPlainAt};
+ghost use Rattle.lf_checks.specs.views.Patterns.{IsOfMatcher, IsOfPart};
 ghost use Rattle.lf_checks.specs.views.Shown.{ListsAlone};
 
 use crate::case::Case;
 use crate::telling::tell_if;
-use lf_ast::{Expr, Finding, MatchOp, Matcher, Rule};
+use lf_ast::{Expr, Finding, Matcher, Rule};
 use lf_base::{Memory, Text};
+use lf_nodes::takes_pattern;
 use lf_pattern::plain_alternatives;
 use std::alloc::Global;
 
@@ -68,16 +68,6 @@ fn judge_matcher(alloc: Global, matcher: &Matcher, found: &mut Vec<Finding>) -> 
     tell_if(alloc, plain, Case::PlainPattern, span, "", found)?;
     let anchored = is_anchored(matcher.value.as_str().as_bytes());
     tell_if(alloc, anchored, Case::AnchoredPattern, span, "", found)
-}
-
-/// Whether a matcher takes a pattern.
-fn takes_pattern(op: MatchOp) -> bool
-    ensures { result ≡ takes_pattern op }
-{
-    match op {
-        MatchOp::Matches | MatchOp::NotMatches => true,
-        MatchOp::Equal | MatchOp::NotEqual => false,
-    }
 }
 
 /// Whether a pattern is plain and has one alternative.

@@ -1,12 +1,10 @@
 //! rule/dependency: selectors of names with a colon that no rule records, and of names that are read in their own making.
-ghost use Rattle.std.specs.Prelude.{◌≡◌, ◌↔◌, ◌==◌, true, List, IsTrue, IfOk, OnOk};
-ghost use Rattle.std.specs.List.{Contains, list_any};
+ghost use Rattle.std.specs.Prelude.{◌≡◌, ◌↔◌, ◌==◌, List, IsTrue, IfOk, OnOk};
 ghost use Rattle.lf_ast.specs.Rules.{RuleTree, rule_tree, rule_trees};
 ghost use Rattle.lf_ast.specs.Tree.{nodes, tree};
 ghost use Rattle.lf_ast.specs.views.Walks.{trees_at};
 ghost use Rattle.lf_deps.specs.Reading.{IsCyclic};
-ghost use Rattle.lf_semantics.specs.Environments.{names_recorded};
-ghost use Rattle.lf_checks.specs.RuleDependency.{IsFound, has_colon};
+ghost use Rattle.lf_checks.specs.RuleDependency.{IsFound};
 ghost use Rattle.lf_checks.specs.views.Adding.{Adds};
 ghost use Rattle.lf_checks.specs.views.Recorded.{AreOf, AreOfSome, IsLacking, IsOfName, IsOfSelector};
 ghost use Rattle.lf_checks.specs.views.Shown.{ListsAlone};
@@ -14,6 +12,7 @@ ghost use Rattle.lf_checks.specs.views.Shown.{ListsAlone};
 use crate::case::Case;
 use crate::telling::tell_if;
 use lf_ast::{Expr, Finding, Rule, selected_name};
+use lf_base::names::has_colon;
 use lf_base::{Memory, Seq, Span, Text};
 use lf_classes::{TextSet, recorded_names};
 use lf_deps::{NameGraph, Sources, cyclic_of};
@@ -115,11 +114,4 @@ fn judge_name(
     tell_if(alloc, lacking, Case::Unrecorded, span, name.as_str(), found)?;
     let cyclic = recorded.read_themselves(name);
     tell_if(alloc, cyclic, Case::Cyclic, span, name.as_str(), found)
-}
-
-/// Whether there is a colon in a name.
-fn has_colon(name: &str) -> bool
-    ensures { result ≡ has_colon name.now }
-{
-    name.as_bytes().iter().any(|byte| *byte == b':')
 }

@@ -7,6 +7,7 @@ use Rattle.std.proofs.lemmas.Grind.{pow_more}
 use Rattle.std.proofs.lemmas.List.{get_or-take, get_or-drop, length-take, same_lists, take-append-drop}
 use Rattle.std.proofs.lemmas.Nat.Bits.{bit_at-lt, bit_at-suc, bit_at-zero, bit_at_lowest, same_from_bits_below}
 use Rattle.lf_semantics.specs.ClassRows.{Sets, emptied}
+use Rattle.lf_semantics.proofs.RowSets.{none_at}
 use Rattle.lf_classes.specs.RowWords.{in_order, number_of, row_word, words_for}
 use Rattle.lf_classes.specs.views.Bits.{bit, bits_of}
 use Rattle.lf_classes.proofs.Cutting.{sum_cons}
@@ -78,11 +79,6 @@ cut_in_order (n ∷ counts) bits h =
 cleared : List Bool → List Bool
 cleared bits = map (λ on. false) bits
 
-clear_at : (bits : List Bool) (i : ℕ) → get_or (map (λ on. false) bits) i false ≡ false
-clear_at [] i = refl
-clear_at (on ∷ bits) zero = refl
-clear_at (on ∷ bits) (suc i) = clear_at bits i
-
 clear_append : (bits rest : List Bool) → ((i : ℕ) → get_or bits i false ≡ false) → ((i : ℕ) → get_or rest i false ≡ false) → (i : ℕ) → get_or (bits ++ rest) i false ≡ false
 clear_append [] rest none none' i = none' i
 clear_append (on ∷ bits) rest none none' zero = none 0
@@ -90,7 +86,7 @@ clear_append (on ∷ bits) rest none none' (suc i) = clear_append bits rest (λ 
 
 pub emptied_in_order : (row : Sets) (i : ℕ) → get_or (in_order (emptied row)) i false ≡ false
 emptied_in_order [] i = refl
-emptied_in_order (set ∷ row) i = clear_append (map (λ on. false) set) (in_order (emptied row)) (clear_at set) (emptied_in_order row) i
+emptied_in_order (set ∷ row) i = clear_append (map (λ on. false) set) (in_order (emptied row)) (none_at set) (emptied_in_order row) i
 
 -- the words of an empty row are 0
 pub empty_word : (row : Sets) (k : ℕ) → 0 ≡ row_word (emptied row) k

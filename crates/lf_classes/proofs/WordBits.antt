@@ -5,7 +5,7 @@ use Rattle.std.specs.Int.{bit_at, bit_not}
 use Rattle.std.specs.Prelude.{bit_and, bit_or}
 use Rattle.std.proofs.lemmas.Nat.Bits.{bit_at_and, bit_at_or, bit_at_not, bit_at-lt, bit_at-zero, same_from_bits_below}
 use Rattle.lf_classes.specs.views.Bits.{bit}
-use Rattle.std.proofs.lemmas.Bool.{and_parts}
+use Rattle.std.proofs.lemmas.Bool.{and_parts, and_right}
 
 both_on : (x y : ℕ) → x < 2 → y < 2 → eqb (min x y) 1 ≡ (eqb x 1 && eqb y 1)
 both_on zero zero h k = refl
@@ -103,10 +103,6 @@ other_in : (x y : Bool) → y ≡ true → (x && y) ≡ x
 other_in true y e = e
 other_in false y e = refl
 
-none_in : (x y : Bool) → y ≡ false → (x && y) ≡ false
-none_in true y e = e
-none_in false y e = refl
-
 left_alone : (x y : Bool) → y ≡ false → (x || y) ≡ x
 left_alone true y e = refl
 left_alone false y e = e
@@ -117,4 +113,4 @@ in_picked rest other mask i none on =
 
 pub out_picked : (word rest other mask i : ℕ) → bit rest i ≡ bit word i → bit mask i ≡ false → bit (bit_or rest (bit_and other mask)) i ≡ bit word i
 out_picked word rest other mask i same off =
-    bit-or rest (bit_and other mask) i ∙ left_alone (bit rest i) (bit (bit_and other mask) i) (bit-and other mask i ∙ none_in (bit other i) (bit mask i) off) ∙ same
+    bit-or rest (bit_and other mask) i ∙ left_alone (bit rest i) (bit (bit_and other mask) i) (bit-and other mask i ∙ and_right (bit other i) (bit mask i) off) ∙ same

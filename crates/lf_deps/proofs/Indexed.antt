@@ -10,16 +10,16 @@ use Rattle.lf_ast.specs.Labels.{Bytes}
 use Rattle.lf_ast.specs.Rules.{RuleTree}
 use Rattle.lf_classes.specs.views.TextSets.{with_text}
 use Rattle.lf_classes.proofs.RecordedNames.{recorded_more}
-use Rattle.lf_semantics.specs.Environments.{names_recorded, recorded_names}
-use Rattle.lf_semantics.specs.Listing.{place}
-use Rattle.lf_semantics.proofs.ListingLaws.{AreDistinct, first_seen_distinct, in_first_seen, place_within}
+use Rattle.lf_semantics.specs.Environments.{records, names_recorded, recorded_names}
+use Rattle.lf_semantics.specs.Listing.{AreDistinct, place}
+use Rattle.lf_semantics.proofs.ListingLaws.{first_seen_distinct, in_first_seen, place_within}
 use Rattle.lf_laws.proofs.Members.{behind, here, other_false, same_true, true_same}
 use Rattle.lf_semantics.proofs.Places.{at_place, first_is, later_is, place_last, place_le}
 use Rattle.lf_graph.specs.views.Buckets.{put_at}
 use Rattle.lf_deps.specs.views.Makers.{with_maker, with_room}
 use Rattle.lf_deps.specs.Reading.{selectors}
 use Rattle.lf_deps.specs.views.Search.{numbers_of}
-use Rattle.lf_deps.specs.views.Sources.{IsSourcesOf, Sources, records}
+use Rattle.lf_deps.specs.views.Sources.{IsSourcesOf, Sources}
 
 -- numbers of rules
 

@@ -7,7 +7,7 @@ use Rattle.std.proofs.lemmas.Bool.{and_parts, cases_lt, not-true}
 use Rattle.std.proofs.lemmas.List.{length-map, get_or_past}
 use Rattle.lf_ast.specs.Labels.{Bytes}
 use Rattle.lf_ast.specs.Rules.{RuleTree}
-use Rattle.lf_semantics.specs.Environments.{names_recorded, recorded_names}
+use Rattle.lf_semantics.specs.Environments.{records, names_recorded, recorded_names}
 use Rattle.lf_semantics.specs.Listing.{place}
 use Rattle.lf_semantics.proofs.ListingLaws.{in_first_seen, of_first_seen, place_within}
 use Rattle.lf_laws.proofs.Members.{in_flat_map, here, true_same, of_flat_map, only_one}
@@ -15,7 +15,7 @@ use Rattle.lf_laws.proofs.Slices.{member_at, number_of}
 use Rattle.lf_deps.specs.views.Index.{IsIndex, chosen_by, makers_of}
 use Rattle.lf_deps.specs.Reading.{SelectsBy, selectors}
 use Rattle.lf_deps.specs.views.Search.{chosen, chosen_all, making, numbers_of}
-use Rattle.lf_deps.specs.views.Sources.{IsSourcesOf, Sources, records}
+use Rattle.lf_deps.specs.views.Sources.{IsSourcesOf, Sources}
 use Rattle.lf_deps.proofs.Followed.{making_from, making_to}
 use Rattle.lf_deps.proofs.Indexed.{none_record, numbers_at, records_own, sources_full}
 use Rattle.lf_deps.proofs.Numbered.{at_made, in_numbers, of_numbers}

@@ -5,14 +5,11 @@ use Rattle.std.specs.List.{Contains}
 use Rattle.std.proofs.lemmas.Bool.{cases_eq, cases_lt}
 use Rattle.std.proofs.lemmas.List.{get_or-set_other, get_or-set_same, get_or_default, length-set}
 use Rattle.std.proofs.lemmas.List.Elements.{Contains-append_left, Contains-get_or, Contains-push, Contains-push_cases}
-use Rattle.lf_laws.proofs.Members.{first_or_behind, here, none_in}
+use Rattle.lf_laws.proofs.Members.{here, none_in, only_one}
 use Rattle.lf_deps.specs.views.Links.{waited_by}
 use Rattle.lf_deps.specs.views.Queue.{IsFree, IsLeft, IsQueue, IsWhole, Settles}
 use Rattle.lf_deps.specs.declared.links.Links.{Links}
 use Rattle.lf_deps.specs.declared.queue.Queue.{Queue}
-
-only_here : (k j : ℕ) → Contains (k ∷ []) j → k ≡ j
-only_here k j c = elim (first_or_behind k [] j c) [ inl e ↦ e | inr d ↦ absurd (none_in j d) ]
 
 at_default : (xs : List ℕ) (i s : ℕ) → i < length xs → get_or xs i s ≡ s → get_or xs i 0 ≡ s
 at_default xs i s h e = get_or_default xs i 0 s h ∙ e
@@ -131,7 +128,7 @@ module _ (links : Links) (whole : IsWhole links) (q : Queue) (k : ℕ) (a : IsQu
             | inl c ↦
                 let J : ℕ → Type 0 = λ y. (x : ℕ) × Contains (waited_by links y) x × (0 < get_or q.counts.items x 0) × Contains (get_or later.listed x []) y in
                 let there : Contains (get_or later.listed s []) k = subst (L s k) (sym lists) (subst (C k) (sym at_s) (Contains-push old k)) in
-                inr (inr (inr (subst J (only_here k j c) (s, own, some, there))))
+                inr (inr (inr (subst J (only_one k j c) (s, own, some, there))))
             | inr r ↦ elim r [
               | inl d ↦ inr (inl d)
               | inr f ↦ elim f [
@@ -176,7 +173,7 @@ module _ (links : Links) (whole : IsWhole links) (q : Queue) (k : ℕ) (a : IsQu
           seen = seen_on;
           free = λ j c. elim (only j c) [ inl e ↦ subst J e (left, free) | inr d ↦ a.free j d ];
           settled = λ j l. elim (a.settled j l) [
-            | inl c ↦ let F : ℕ → Type 0 = λ y. Contains later.free y in inr (inr (inl (subst F (only_here k j c) added)))
+            | inl c ↦ let F : ℕ → Type 0 = λ y. Contains later.free y in inr (inr (inl (subst F (only_one k j c) added)))
             | inr r ↦ elim r [
               | inl d ↦ inr (inl d)
               | inr f ↦ elim f [ inl g ↦ inr (inr (inl (kept j g))) | inr g ↦ inr (inr (inr g)) ]

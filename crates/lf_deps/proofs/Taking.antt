@@ -5,6 +5,7 @@ use Rattle.std.specs.List.{Contains, range_with_len}
 use Rattle.std.proofs.lemmas.Bool.{both_ways, cases_eq, cases_lt}
 use Rattle.std.proofs.lemmas.List.{get_or-replicate, get_or-set_other, get_or-set_same, get_or_past, get_or_read, length-replicate, length-set}
 use Rattle.lf_laws.proofs.Members.{behind, first_or_behind, here, none_in}
+use Rattle.lf_graph.proofs.Listed.{none_in_empty}
 use Rattle.lf_deps.specs.views.Links.{recorded_by, waited_by}
 use Rattle.lf_deps.specs.views.Queue.{AreCounts, CountsDown, IsHeld, IsLeft, IsNextOf, IsQueue, IsReady, IsWhole, count_left, occurs, occurs_in}
 use Rattle.lf_deps.specs.declared.links.Links.{Links}
@@ -172,14 +173,6 @@ module _ (links : Links) (whole : IsWhole links) (q : Queue) (ready : IsReady li
 
 -- at first each rule is due
 
-none_at : (n s k : ℕ) → Contains (get_or (replicate n []) s []) k → ⊥
-none_at n s k c =
-    let P : List ℕ → Type 0 = λ l. Contains l k in
-    elim (cases_lt s n) [
-      | inl b ↦ none_in k (subst P (get_or-replicate n s [] [] b) c)
-      | inr b ↦ let l : length (replicate n []) ≡ n = length-replicate {A = List ℕ} n [] in none_in k (subst P (get_or_past (replicate n []) s [] (omega (arith, l, b))) c)
-    ]
-
 zero_at : (n k : ℕ) → ◌≡◌ {A = ℕ} (get_or (replicate n 0) k 0) 0
 zero_at n k = elim (cases_lt k n) [
   | inl b ↦ get_or-replicate n k 0 0 b
@@ -203,7 +196,7 @@ start_queue links q counts listed seen due free taken least =
         listed = ap length listed ∙ length-replicate {A = List ℕ} links.sources [];
         seen = ap length seen ∙ length-replicate {A = ℕ} n 0;
         taken = ap length taken ∙ length-replicate n false;
-        listed_rules = λ s k c. let P : List (List ℕ) → Type 0 = λ l. Contains (get_or l s []) k in absurd (none_at links.sources s k (subst P listed c));
+        listed_rules = λ s k c. let P : List (List ℕ) → Type 0 = λ l. Contains (get_or l s []) k in absurd (none_in_empty links.sources s k (subst P listed c));
         due_rules = λ k c. let P : List ℕ → Type 0 = λ l. Contains l k in of_range n k (subst P due c);
       };
       seen = λ k i h b. let e = ap (λ (l : List ℕ). get_or l k 0) seen ∙ zero_at n k in absurd (omega (arith, h, e));

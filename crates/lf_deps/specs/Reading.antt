@@ -1,19 +1,15 @@
 -- Which names an expression reads, directly and through recorded names.
-use Rattle.std.specs.Prelude.{◌≡◌, ◌⊎◌, false, cond, List, [], ◌∷◌, ◌++◌, Option, Some, None}
+use Rattle.std.specs.Prelude.{◌≡◌, ◌⊎◌, false, List, [], ◌∷◌, ◌++◌, Option, Some, None}
 use Rattle.std.specs.List.{Contains}
 use Rattle.lf_ast.specs.Labels.{Bytes}
 use Rattle.lf_ast.specs.Rules.{RuleTree}
 use Rattle.lf_ast.specs.Selectors.{selected_name}
 use Rattle.lf_ast.specs.Tree.{Tree, Trees, Number, Str, Selector, Subquery, Paren, Unary, Binary, Call, Aggregate, Nil, Next}
 use Rattle.lf_semantics.specs.Environments.{names_recorded}
-use Rattle.lf_semantics.specs.Parts.{is_scalar_part}
+use Rattle.lf_semantics.specs.Parts.{outside_scalars}
 
 -- Selectors. Each says the name that it selects, by a name before the braces or by its first `=` on the metric name, or it says none. Nothing within a scalar is looked
 -- at.
-
--- what is found in an expression, but nothing where it is a scalar
-abbrev pub outside_scalars : Tree → List (Option Bytes) → List (Option Bytes)
-outside_scalars e found = cond (is_scalar_part e) [] found
 
 abbrev mutual
   -- the selectors of the parts of an expression, and a selector itself

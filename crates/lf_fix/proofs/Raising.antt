@@ -9,10 +9,10 @@ use Rattle.lf_flow.specs.Raising.{joined}
 use Rattle.lf_flow.specs.Reads.{names_of}
 use Rattle.lf_semantics.specs.ClassRows.{Sets, bottom, join}
 use Rattle.lf_semantics.specs.Environments.{EnvironmentLeq, IsPostFixedPoint, IsEnvironmentOf, IsRow, Leq, names_recorded, recorded_names, recorded_row}
-use Rattle.lf_semantics.specs.Listing.{IsListing, Listing, class_of, label_of, other_class}
+use Rattle.lf_semantics.specs.Listing.{AreDistinct, IsListing, Listing, class_of, label_of, other_class}
 use Rattle.lf_semantics.specs.RowTable.{Environment, row_named}
 use Rattle.lf_ast.specs.Selectors.{metric}
-use Rattle.lf_semantics.proofs.ListingLaws.{AreDistinct, first_seen_distinct}
+use Rattle.lf_semantics.proofs.ListingLaws.{first_seen_distinct}
 use Rattle.lf_laws.proofs.Members.{behind, here, true_same}
 use Rattle.lf_laws.proofs.Booleans.{clash}
 use Rattle.lf_semantics.proofs.RowLaws.{shape_join}

@@ -101,15 +101,6 @@ module _ (u : Listing) (p : IsListing u) (rules : List RuleTree) where
   pub tells_none : (order : List ℕ) (env : Environment) (dirty : List Bool) → IsEnvironmentOf u rules env → OthersHold u rules env dirty → Tells u rules order 0 env env dirty false
   tells_none order env dirty of hold = record { rises = rises_none env of; less = λ e. absurd (cc); same = λ e. refl; hold = hold; done = λ e k c. absurd (none_in k c) }
 
-  pub alert_tells : (env : Environment) (k : ℕ) (r : RuleTree) → IsEnvironmentOf u rules env → slice_get rules k ≡ Some r → r.alert ≡ true → TellsOf u rules k env env false
-  alert_tells env k r h is e = record {
-    rises = rises_none env h;
-    less = λ f. absurd (cc);
-    same = λ f. refl;
-    holds = λ f s i g. absurd (clash _ e (ap (λ (y : RuleTree). y.alert) (one_at rules k r s is i) ∙ g));
-    joins = λ f. absurd (cc);
-  }
-
   pub has_row : (env : Environment) (k : ℕ) (r : RuleTree) → IsEnvironmentOf u rules env → slice_get rules k ≡ Some r → r.alert ≡ false → (row : Sets) × (row_named env r.name ≡ Some row)
   has_row env k r h is e =
       let P : List Bytes → Type 0 = λ names. Contains names r.name in

@@ -1,5 +1,5 @@
 -- A step of a rule that is dirty, and the rules that it makes dirty again.
-use Rattle.std.proofs.Common.{◌≡◌, ℕ, ◌<◌, Bool, true, false, List, length, Some, None, ◌⊎◌, inl, inr, refl, sym, ◌∙◌, subst}
+use Rattle.std.proofs.Common.{◌≡◌, ℕ, ◌<◌, Bool, true, false, List, length, Some, None, ◌⊎◌, inl, inr, sym, ◌∙◌, subst}
 use Rattle.std.specs.Prelude.{slice_get, slice_index_or, slice_set}
 use Rattle.std.specs.List.{Contains}
 use Rattle.std.proofs.lemmas.List.{get_or-set_other, get_or-set_same}
@@ -17,25 +17,10 @@ use Rattle.lf_semantics.proofs.NormalizedRows.{recorded_row_is}
 use Rattle.lf_deps.specs.Reading.{selectors}
 use Rattle.lf_fix.specs.views.Dependents.{Index, IsIndexOf, IsListed, SelectsRow}
 use Rattle.lf_fix.specs.views.Rounds.{HoldsRule, OthersHold, StepTells, TellsOf}
-use Rattle.lf_fix.proofs.Rounds.{has_row, rises_none}
+use Rattle.lf_fix.proofs.Rounds.{has_row}
 use Rattle.lf_fix.proofs.SameRows.{holds_own, holds_without}
 
 module _ (u : Listing) (p : IsListing u) (rules : List RuleTree) (k : ℕ) (env : Environment) (of : IsEnvironmentOf u rules env) (dirty : List Bool) (hold : OthersHold u rules env dirty) where
-  -- a rule that isn't dirty is passed over
-  pub step_over : slice_index_or dirty k true ≡ false → StepTells u rules k env env dirty dirty false
-  step_over e = record {
-    rises = rises_none u p rules env of;
-    less = λ f. absurd (cc);
-    same = λ f. refl;
-    hold = hold;
-    done = λ f. e;
-    still = λ f j g. g;
-    again = λ j r rule at is c a. elim (cases_eq j k) [
-      | inl q ↦ let A : ℕ → Type 0 = λ i. slice_index_or dirty i true ≡ true in absurd (clash _ (subst A q a) e)
-      | inr n ↦ absurd (clash _ a (sym (get_or-set_other dirty k j false true n) ∙ c))
-    ];
-  }
-
   module _ (within : k < length dirty) (later : Environment) (added : Bool) (t : TellsOf u rules k env later added) where
     abbrev cleared : List Bool
     cleared = slice_set dirty k false

@@ -1,5 +1,5 @@
 //! The least environment, by rounds.
-ghost use Rattle.std.specs.Prelude.{◌≡◌, ◌<◌, ◌||◌, length, IfOk};
+ghost use Rattle.std.specs.Prelude.{◌≡◌, ◌<◌, length, IfOk};
 ghost use Rattle.lf_ast.specs.Rules.{rule_trees};
 ghost use Rattle.lf_semantics.specs.Environments.{CoversRules, IsEnvironmentOf, IsLeast};
 ghost use Rattle.lf_semantics.specs.Listing.{IsListing};
@@ -10,6 +10,7 @@ ghost use Rattle.lf_fix.specs.views.Rounds.{OthersHold, Rises, StepTells, Tells,
 use crate::dependents::Dependents;
 use crate::recording::recorded_row;
 use lf_ast::Rule;
+use lf_base::choice::either;
 use lf_base::{Memory, Seq};
 use lf_classes::Universe;
 use lf_deps::{Sources, order_of};
@@ -101,13 +102,6 @@ fn raise_all(
         added = either(added, one);
     }
     Ok(added)
-}
-
-/// Whether one of them is true.
-fn either(a: bool, b: bool) -> bool
-    ensures { result ≡ (a || b) }
-{
-    a || b
 }
 
 /// A step of a rule, where it is dirty: its row is joined to that of its name, and where this adds a class, each rule that selects the name becomes dirty, and no other. It

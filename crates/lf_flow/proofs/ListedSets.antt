@@ -1,8 +1,7 @@
--- The classes of texts that are looked up, and what they say of a plain pattern.
-use Rattle.std.proofs.Common.{◌≡◌, ◌≢◌, ℕ, ◌+◌, ◌<◌, Bool, true, false, not, ◌&&◌, ◌||◌, cond, eqb, nat_lt, List, [], ◌∷◌, length, get_or, take, Option, Some, is_some, ◌⊎◌, inl, inr, refl, sym, ◌∙◌, ap, ap₂, arith, length-set, true≢false}
+-- The classes of texts that are looked up, and what is no pattern.
+use Rattle.std.proofs.Common.{◌≡◌, ◌≢◌, ℕ, ◌+◌, ◌<◌, Bool, true, false, not, ◌&&◌, ◌||◌, eqb, nat_lt, List, [], ◌∷◌, length, get_or, take, is_some, ◌⊎◌, inl, inr, refl, sym, ◌∙◌, ap, ap₂, arith, length-set, true≢false}
 use Rattle.std.proofs.Math.ListN.{set}
 use Rattle.std.specs.Prelude.{replicate}
-use Rattle.std.specs.Option.{option_map_or}
 use Rattle.std.specs.List.{list_any}
 use Rattle.std.specs.Str.{bytes_eq}
 use Rattle.std.proofs.lemmas.Bool.{cases_eq, or_right}
@@ -10,13 +9,12 @@ use Rattle.std.proofs.lemmas.Bool.Decides.{Decides-eqb, nat_tests}
 use Rattle.std.proofs.lemmas.List.{get_or-replicate, get_or-set_other, get_or-set_same, length-replicate}
 use Rattle.std.proofs.lemmas.List.Folds.{list_any_more}
 use Rattle.lf_ast.specs.Labels.{Bytes}
-use Rattle.lf_pattern.specs.Matching.{is_read, matches}
-use Rattle.lf_pattern.specs.Read.{finds, reading}
-use Rattle.lf_pattern.specs.Scan.{alternatives_of}
+use Rattle.lf_pattern.specs.Matching.{is_read}
+use Rattle.lf_pattern.specs.Read.{reading}
 use Rattle.std.proofs.Math.Bool.{and-true, and-false, or-false}
 use Rattle.lf_semantics.specs.Listing.{IsListing, Listing, class_of, named_at, other_class}
 use Rattle.lf_semantics.specs.Passing.{is_plain}
-use Rattle.lf_semantics.specs.RowTable.{may_match, text_of}
+use Rattle.lf_semantics.specs.RowTable.{text_of}
 use Rattle.lf_semantics.proofs.Places.{eqb-other}
 use Rattle.lf_ast.proofs.LabelOrders.{symmetric}
 use Rattle.lf_flow.specs.views.ClassSets.{IsSet, is_listed}
@@ -81,18 +79,6 @@ module _ (u : Listing) (label : ℕ) where
 -- ---- what is said of a pattern
 
 module _ (u : Listing) (label : ℕ) (pattern : Bytes) where
-  abbrev size : ℕ
-  size = length (named_at u label) + 2
-
-  -- a plain pattern may match the classes of its alternatives
-  pub plain_set : (alternatives : List Bytes) (on : List Bool) → alternatives_of pattern ≡ Some alternatives → IsSet size (is_listed u label alternatives) on → IsSet size (may_match u pattern label) on
-  plain_set alternatives on plain set = retested size _ (may_match u pattern label) on (λ c h. by c (nat_lt c (other_class u label))) set
-    where
-      by : (c : ℕ) (b : Bool) → (b && list_any (λ text. bytes_eq text (text_of u label c)) alternatives) ≡ cond (not b) (not (is_plain pattern)) (matches pattern (text_of u label c))
-      by c true =
-          sym (ap (λ (o : Option (List Bytes)). option_map_or (λ texts. list_any (λ a. bytes_eq a (text_of u label c)) texts) o (finds pattern (text_of u label c))) plain)
-      by c false = sym (ap (λ (o : Option (List Bytes)). not (is_some o)) plain)
-
   -- what is no pattern isn't plain
   pub unread_other : is_read pattern ≡ false → true ≡ not (is_plain pattern)
   unread_other = by (is_plain pattern)

@@ -1,6 +1,6 @@
 //! How much a run may spend on its patterns.
 ghost use Rattle.std.specs.Prelude.{◌≡◌, ◌<◌, OnErr, OnOk};
-ghost use Rattle.lf_flow.specs.views.Budget.{TakesTries, TakesWords, most_tries, most_words, tries_of};
+ghost use Rattle.lf_flow.specs.views.Budget.{TakesTries, TakesWords, most_tries, most_cached_words, tries_of};
 
 use lf_base::Memory;
 
@@ -23,7 +23,7 @@ const TRIES_OF_SIZE: u64 = 8;
 const STEPS_OF_TRY: u64 = 128;
 
 /// The most words that the cached rows of plain patterns may have together: 32 MiB.
-const MOST_WORDS: u32 = 4_194_304;
+const MOST_CACHED_WORDS: u32 = 4_194_304;
 
 /// What is left of the tries and of the room that the patterns of a run may have.
 #[derive(Drop)]
@@ -35,11 +35,11 @@ pub struct PatternBudget {
 impl PatternBudget {
     /// The budget of a run.
     pub fn new() -> PatternBudget
-        ensures { result ≡ record { tries = most_tries; words = most_words } }
+        ensures { result ≡ record { tries = most_tries; words = most_cached_words } }
     {
         PatternBudget {
             tries: MOST_TRIES,
-            words: MOST_WORDS,
+            words: MOST_CACHED_WORDS,
         }
     }
 

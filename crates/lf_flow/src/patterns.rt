@@ -3,7 +3,6 @@ ghost use Rattle.std.specs.Prelude.{◌≡◌, ◌<◌, ◌+◌, true, false, le
 ghost use Rattle.std.specs.Int.{div_ceil};
 ghost use Rattle.lf_semantics.specs.Listing.{class_count, named_at};
 ghost use Rattle.lf_semantics.specs.Passing.{is_plain};
-ghost use Rattle.lf_semantics.specs.PatternBreaches.{takes_pattern};
 ghost use Rattle.lf_classes.specs.views.PatternCache.{passing_row};
 ghost use Rattle.lf_semantics.specs.RowTable.{text_of};
 ghost use Rattle.lf_sizes.specs.views.Size.{size_of};
@@ -15,6 +14,7 @@ use lf_ast::walk::nodes_of;
 use lf_ast::{Expr, Function, LabelEffect, MatchOp, Matcher, Rule, text_at};
 use lf_base::{Memory, Seq, Text};
 use lf_classes::{Row, Universe};
+use lf_nodes::takes_pattern;
 use lf_pattern::plain_alternatives;
 use lf_sizes::pattern_size;
 use std::alloc::Global;
@@ -120,16 +120,6 @@ fn match_pattern(
         universe.cache_row(alloc, label, op, pattern.as_str(), row)?;
     }
     Ok(())
-}
-
-/// Whether what stands behind an operator is a pattern.
-fn takes_pattern(op: MatchOp) -> bool
-    ensures { result ≡ takes_pattern op }
-{
-    match op {
-        MatchOp::Equal | MatchOp::NotEqual => false,
-        MatchOp::Matches | MatchOp::NotMatches => true,
-    }
 }
 
 /// Whether the classes that pass an operator and a pattern are cached.

@@ -8,10 +8,10 @@ use Rattle.std.proofs.lemmas.Option.{get_or_from_slice_get, slice_get_within}
 use Rattle.lf_laws.proofs.Slices.{member_at}
 use Rattle.lf_ast.specs.Labels.{Bytes}
 use Rattle.lf_ast.specs.Rules.{RuleTree}
-use Rattle.lf_semantics.specs.Environments.{recorded_names}
+use Rattle.lf_semantics.specs.Environments.{records, recorded_names}
 use Rattle.lf_semantics.specs.Listing.{place}
 use Rattle.lf_semantics.proofs.Places.{place_test}
-use Rattle.lf_trials.specs.Reached.{has_several_rules, records}
+use Rattle.lf_trials.specs.Reached.{has_several_rules}
 use Rattle.lf_forks.proofs.Recorded.{own_place, placed}
 
 module _ (rules : List RuleTree) (names : List Bytes) (are : names ≡ recorded_names rules) where

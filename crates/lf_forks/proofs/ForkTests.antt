@@ -9,9 +9,9 @@ use Rattle.lf_ast.specs.Labels.{Bytes}
 use Rattle.lf_ast.specs.Rules.{RuleTree}
 use Rattle.lf_ast.specs.Selectors.{selected_name}
 use Rattle.lf_ast.specs.Tree.{Tree, Trees, Number, Str, Selector, Subquery, Paren, Unary, Binary, Call, Aggregate, Nil, Next}
-use Rattle.lf_semantics.specs.Parts.{is_scalar_part}
+use Rattle.lf_semantics.specs.Parts.{is_scalar_part, outside_scalars}
 use Rattle.lf_semantics.proofs.Recorded.{recorded}
-use Rattle.lf_deps.specs.Reading.{Reads, arguments_selectors, outside_scalars, selectors, selectors_in}
+use Rattle.lf_deps.specs.Reading.{Reads, arguments_selectors, selectors, selectors_in}
 use Rattle.lf_deps.specs.Reading.Reads.{selected, through}
 use Rattle.lf_trials.specs.Forks.{HoldsFork, TellsForks, fork_in, fork_in_arguments, has_own_fork, is_forked_selector, is_or, unless_scalar}
 use Rattle.lf_forks.specs.views.ForkTests.{IsForkRule, SelectsFork, TellsSelectors, has_passing, passes_in, passes_in_arguments}

@@ -1,5 +1,5 @@
 -- Recorded names and their places.
-use Rattle.std.proofs.Common.{◌≡◌, ◌<◌, ℕ, Bool, true, false, not, cond, nat_lt, List, [], ◌∷◌, length, get_or, Some, inl, inr, refl, sym, ◌∙◌, ap, subst, arith}
+use Rattle.std.proofs.Common.{◌≡◌, ◌<◌, ℕ, true, false, not, List, [], ◌∷◌, length, get_or, sym, subst, arith}
 use Rattle.std.specs.List.{Contains, filter}
 use Rattle.std.specs.Str.{bytes_eq}
 use Rattle.std.proofs.lemmas.Bool.{ltb-true, not-true}
@@ -7,13 +7,13 @@ use Rattle.lf_laws.proofs.Booleans.{and_left, and_right}
 use Rattle.lf_laws.proofs.Members.{here, true_same}
 use Rattle.lf_ast.specs.Labels.{Bytes}
 use Rattle.lf_ast.specs.Rules.{RuleTree}
-use Rattle.lf_semantics.specs.Environments.{names_recorded, recorded_names}
+use Rattle.lf_semantics.specs.Environments.{records, names_recorded, recorded_names}
 use Rattle.lf_semantics.specs.Listing.{StandOnce, place}
 use Rattle.lf_semantics.proofs.ListingLaws.{apart, first_seen_distinct, in_first_seen, place_within}
 use Rattle.lf_semantics.proofs.Members.{of_filter}
 use Rattle.lf_semantics.proofs.Places.{place_at}
 use Rattle.lf_semantics.proofs.Recorded.{recorded}
-use Rattle.lf_trials.specs.Reached.{has_several_rules, records}
+use Rattle.lf_trials.specs.Reached.{has_several_rules}
 
 module _ (rules : List RuleTree) (names : List Bytes) (are : names ≡ recorded_names rules) where
   pub placed : (r : RuleTree) → Contains rules r → r.alert ≡ false → place names r.name < length names

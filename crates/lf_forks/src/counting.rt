@@ -2,9 +2,9 @@
 ghost use Rattle.std.specs.Prelude.{◌≡◌, ◌<◌, ◌+◌, ◌&&◌, [], not, ℕ, cond, eqb, nat_lt, length, map, slice_index_or, IfOk, OnOk};
 ghost use Rattle.std.specs.List.{filter};
 ghost use Rattle.lf_ast.specs.Rules.{rule_trees};
-ghost use Rattle.lf_semantics.specs.Environments.{recorded_names};
+ghost use Rattle.lf_semantics.specs.Environments.{records, recorded_names};
 ghost use Rattle.lf_semantics.specs.Listing.{place};
-ghost use Rattle.lf_trials.specs.Reached.{has_several_rules, records};
+ghost use Rattle.lf_trials.specs.Reached.{has_several_rules};
 
 use lf_ast::Rule;
 use lf_base::{Memory, Seq};

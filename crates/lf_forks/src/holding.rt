@@ -11,7 +11,7 @@ use crate::forks::Forks;
 use lf_ast::walk::{Fold, Parts, fold_up};
 use lf_ast::{Expr, Op, is_scalar, selected_name};
 use lf_base::Memory;
-use lf_nodes::{gives_scalar, the_only};
+use lf_nodes::{both, gives_scalar, the_only};
 use lf_parts::{Copied, fold_parts};
 use std::alloc::Global;
 use std::marker::Model;
@@ -132,12 +132,11 @@ fn told_of(forks: &Forks, expr: &Expr, parts: Vec<Held>) -> Held
 }
 
 /// What is told of an operator, by what is told of its sides: two scalars give a scalar, and within one nothing is looked at.
-fn beside(op: Op, mut sides: Vec<Held>) -> Held
+fn beside(op: Op, sides: Vec<Held>) -> Held
     requires { length sides.items ≡ 2 }
     ensures { (l r : Held) → sides.items ≡ l ∷ r ∷ [] → result ≡ beside op l r }
 {
-    let right = sides.pop().unwrap();
-    let left = sides.pop().unwrap();
+    let (left, right) = both(sides);
     let scalar = left.scalar && right.scalar;
     Held {
         scalar,

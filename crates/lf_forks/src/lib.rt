@@ -11,4 +11,3 @@ mod uses;
 pub use forks::Forks;
 pub use holding::is_or;
 pub use selectors::all_selectors;
-pub use uses::lists_of;

@@ -28,7 +28,7 @@ pub(crate) fn uses_of(
     for k in 0..rules.len() {
         put_rule(names, rules.get(k), sources.selected_by(k), &mut uses)?;
     }
-    lists_of(alloc, &uses)
+    Ok(uses.into_lists())
 }
 
 /// Puts the name of a rule into the lists of what it selects. An alert records none.
@@ -90,15 +90,4 @@ fn put_named(names: &TextSet, name: &Text, place: usize, uses: &mut Buckets) -> 
     } else {
         Ok(())
     }
-}
-
-/// Each of these lists.
-pub fn lists_of(alloc: Global, buckets: &Buckets) -> Result<Seq<Seq<usize>>, Memory>
-    ensures { IfOk result (λ lists. lists ≡ buckets.now) }
-{
-    let mut lists = Seq::new(alloc);
-    for k in 0..buckets.len() {
-        lists.push(Seq::of(alloc, buckets.at(k))?)?;
-    }
-    Ok(lists)
 }

@@ -6,7 +6,9 @@ use Rattle.std.proofs.lemmas.List.Concat.{concat_is}
 use Rattle.std.proofs.lemmas.List.Folds.{flat_map-map}
 use Rattle.std.specs.List.{AllByRecursion, concat}
 use Rattle.std.specs.Option.{MatchOption}
-use Rattle.lf_gen.specs.Lines.{AreLines, Bytes, begun, last_lines, lines_of, lines_text}
+use Rattle.lf_base.specs.Lines.{lines_text}
+use Rattle.lf_base.specs.Names.{Bytes}
+use Rattle.lf_gen.specs.Lines.{AreLines, begun, last_lines, lines_of}
 use Rattle.lf_gen.specs.views.Ends.{BeginsLastLine, IsWithoutFeed}
 
 -- bytes without a line feed

@@ -5,7 +5,8 @@ use Rattle.std.proofs.lemmas.List.Folds.{flat_map-map}
 use Rattle.std.proofs.lemmas.List.FromFn.{map-range_with_len_more}
 use Rattle.std.specs.List.{flat_map, range_with_len}
 use Rattle.lf_gen.specs.Generated.{generated, head_lines, kind_lines, lines_of_rule}
-use Rattle.lf_gen.specs.Lines.{Bytes, lines_text}
+use Rattle.lf_base.specs.Lines.{lines_text}
+use Rattle.lf_base.specs.Names.{Bytes}
 use Prim.Native.Nat.{◌%◌}
 
 pub lines_text-append : (lines more : List Bytes) → lines_text (lines ++ more) ≡ lines_text lines ++ lines_text more

@@ -2,7 +2,8 @@
 use Rattle.std.proofs.Common.{◌≡◌, ℕ, ◌-◌, [], ◌∷◌, ◌++◌, codes, sym, ap, ◌∙◌, append_assoc}
 use Rattle.std.specs.Fmt.{decimal}
 use Rattle.lf_gen.specs.Generated.{alert_lines, first_lines, second_lines, third_lines}
-use Rattle.lf_gen.specs.Lines.{Bytes, lines_text}
+use Rattle.lf_base.specs.Lines.{lines_text}
+use Rattle.lf_base.specs.Names.{Bytes}
 
 -- a line in two, three and four parts, and what follows it
 

@@ -3,7 +3,8 @@
 use Rattle.std.specs.Prelude.{ℕ, zero, suc, ◌-◌, ◌/◌, ◌%◌, ◌==◌, List, [], ◌∷◌, ◌++◌, codes, if◌then◌else◌}
 use Rattle.std.specs.Fmt.{decimal}
 use Rattle.std.specs.List.{flat_map, range_with_len}
-use Rattle.lf_gen.specs.Lines.{Bytes, lines_text}
+use Rattle.lf_base.specs.Lines.{lines_text}
+use Rattle.lf_base.specs.Names.{Bytes}
 
 -- the lines that begin group K
 abbrev pub group_lines : ℕ → List Bytes

@@ -1,13 +1,7 @@
 -- Texts and their lines.
-use Rattle.std.specs.Prelude.{◌≢◌, ℕ, ◌==◌, ◌-◌, List, [], ◌∷◌, ◌++◌, drop, length, if◌then◌else◌}
-use Rattle.std.specs.List.{AllByRecursion, concat, flat_map}
-
-abbrev pub Bytes : Type 0
-Bytes = List ℕ
-
--- each line ended by a line feed
-abbrev pub lines_text : List Bytes → Bytes
-lines_text lines = flat_map (λ line. line ++ 10 ∷ []) lines
+use Rattle.std.specs.Prelude.{◌≢◌, ℕ, ◌==◌, ◌-◌, List, [], ◌∷◌, drop, length, if◌then◌else◌}
+use Rattle.std.specs.List.{AllByRecursion, concat}
+use Rattle.lf_base.specs.Names.{Bytes}
 
 -- no line holds a line feed
 abbrev pub AreLines : List Bytes → Type 0

@@ -1,7 +1,9 @@
 //! The end of a text.
-ghost use Rattle.std.specs.Prelude.{◌≡◌, ◌≤◌, ◌-◌, List, drop, length};
+ghost use Rattle.std.specs.Prelude.{◌≡◌, ◌-◌, List, drop, length};
 ghost use Rattle.std.specs.Str.{IsCharBoundary};
-ghost use Rattle.lf_gen.specs.Lines.{AreLines, Bytes, last_lines, lines_text};
+ghost use Rattle.lf_base.specs.Lines.{lines_text};
+ghost use Rattle.lf_base.specs.Names.{Bytes};
+ghost use Rattle.lf_gen.specs.Lines.{AreLines, last_lines};
 ghost use Rattle.lf_gen.specs.views.Ends.{BeginsLastLine, IsWithoutFeed};
 
 /// The end of a text that holds its last two lines; the whole text where it has no more than two.

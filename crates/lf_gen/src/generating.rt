@@ -1,7 +1,7 @@
 //! The text of the generated rule file.
 ghost use Rattle.std.specs.Prelude.{◌≡◌, ◌≤◌, ◌<◌, ◌++◌, ◌%◌, string_bytes, IfOk, OnOk};
 ghost use Rattle.lf_gen.specs.Generated.{alert_lines, first_lines, generated, group_lines, head_lines, kind_lines, second_lines, third_lines};
-ghost use Rattle.lf_gen.specs.Lines.{lines_text};
+ghost use Rattle.lf_base.specs.Lines.{lines_text};
 
 use lf_base::{Memory, Text};
 use std::alloc::Global;

@@ -3,7 +3,7 @@ pub mod Held
 pub mod Inserting
 mod Joining
 mod Leading
-mod Listed
+pub mod Listed
 mod Lists
 mod Marks
 mod Meeting

@@ -10,7 +10,7 @@ use Rattle.lf_graph.specs.Paths.{IsGraph, after}
 use Rattle.lf_laws.proofs.Members.{in_map, map_member, none_in}
 
 -- an empty bucket has no element, and where there is no bucket there is none
-none_in_empty : (n k u : ℕ) → Contains (get_or (replicate n []) k []) u → ⊥
+pub none_in_empty : (n k u : ℕ) → Contains (get_or (replicate n []) k []) u → ⊥
 none_in_empty zero k u c = none_in u c
 none_in_empty (suc n) zero u c = none_in u c
 none_in_empty (suc n) (suc k) u c = none_in_empty n k u c

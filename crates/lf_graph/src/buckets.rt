@@ -60,6 +60,13 @@ impl Buckets {
         }
     }
 
+    /// The buckets as lists, which aren't copied.
+    pub fn into_lists(self) -> Seq<Seq<usize>>
+        ensures { result ≡ self }
+    {
+        Seq::from_vec(self.lists)
+    }
+
     /// Puts an element behind those in the bucket of a number.
     pub fn push(&mut self, number: usize, element: usize) -> Result<(), Memory>
         requires { number < length self.old }

@@ -4,10 +4,6 @@ use Rattle.std.proofs.Common.{◌≡◌, Bool, true, false, cond, ◌&&◌, ◌|
 pub clash : (b : Bool) → b ≡ true → b ≡ false → ⊥
 clash b e f = true≢false (sym e ∙ f)
 
-pub not_true : (b : Bool) → (b ≡ true → ⊥) → b ≡ false
-not_true true h = absurd (h refl)
-not_true false h = refl
-
 -- both
 
 pub and_left : (a b : Bool) → (a && b) ≡ true → a ≡ true

@@ -7,7 +7,7 @@ use Rattle.lf_base.specs.declared.kind.Kind.TheVariants.{BadByte, OpenString}
 use Rattle.lf_lex.specs.declared.token.Sign.{Sign}
 use Rattle.lf_lex.specs.declared.token.Sign.TheVariants.{Colon}
 use Rattle.lf_lex.specs.declared.token.TokenKind.TheVariants as kinds
-use Rattle.lf_lex.specs.Bytes.{Each, is_blank, is_line_break, is_no_line_break, is_no_back_quote, is_continuation, begins_word, is_in_word}
+use Rattle.lf_lex.specs.Bytes.{is_blank, is_line_break, is_no_line_break, is_continuation, begins_word, is_in_word}
 use Rattle.lf_base.specs.Names.{is_letter, begins_label}
 use Rattle.lf_lex.specs.Signs.{spelling}
 use Rattle.lf_lex.specs.Runs.{begins_run}
@@ -17,7 +17,7 @@ use Rattle.lf_lex.specs.Breaches.{IsBeginning, a_blank, a_comment, a_word, a_run
 use Rattle.lf_lex.specs.reading.Signs.{sign_at}
 use Rattle.lf_lex.specs.reading.Steps.{Front, gap, token, breach, comment_front, word_front, raw_front, sign_front, next_token}
 use Rattle.lf_base.proofs.Rows.{row_all, row_is, row_then}
-use Rattle.lf_base.specs.Rows.{Stops}
+use Rattle.lf_base.specs.Rows.{is_no_back_quote, Each, Stops}
 use Rattle.lf_lex.proofs.Longest.{Greatest, greatest_longest, longest_length, take_on}
 use Rattle.lf_lex.proofs.Words.{word_greatest, no_word, character_greatest}
 use Rattle.lf_lex.proofs.RunLaws.{no_run, run_greatest}

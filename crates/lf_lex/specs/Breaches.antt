@@ -5,7 +5,8 @@ use Rattle.std.specs.Str.{IsUtf8}
 use Rattle.lf_base.specs.declared.kind.Kind.{Kind}
 use Rattle.lf_base.specs.declared.kind.Kind.TheVariants.{BadByte, OpenString, BadEscape, BadNumber, BadDuration}
 use Rattle.lf_lex.specs.declared.token.Sign.{Sign}
-use Rattle.lf_lex.specs.Bytes.{Each, is_blank, is_continuation, is_no_back_quote}
+use Rattle.lf_base.specs.Rows.{is_no_back_quote, Each}
+use Rattle.lf_lex.specs.Bytes.{is_blank, is_continuation}
 use Rattle.lf_lex.specs.Signs.{spelling}
 use Rattle.lf_lex.specs.Runs.{IsRun, IsNumber}
 use Rattle.lf_lex.specs.Durations.{Amount, AreAmounts, IsDisordered}

@@ -3,10 +3,6 @@ use Rattle.std.specs.Prelude.{◌≡◌, ℕ, List, [], ◌∷◌, Bool, true, f
 use Rattle.std.specs.List.{list_all}
 use Rattle.lf_base.specs.Names.{is_digit, is_letter, begins_label}
 
--- Each byte is of a class.
-abbrev pub Each : (ℕ → Bool) → List ℕ → Type 0
-Each test bs = list_all test bs ≡ true
-
 -- There is a byte, and each is of a class.
 abbrev pub are_some : (ℕ → Bool) → List ℕ → Bool
 are_some test [] = false
@@ -25,9 +21,6 @@ is_line_break b = b == 10 || b == 13
 
 abbrev pub is_no_line_break : ℕ → Bool
 is_no_line_break b = not (is_line_break b)
-
-abbrev pub is_no_back_quote : ℕ → Bool
-is_no_back_quote b = not (b == 96)
 
 -- 0 to 7
 unfoldable pub is_octal : ℕ → Bool

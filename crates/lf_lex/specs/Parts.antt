@@ -5,7 +5,8 @@ use Rattle.lf_lex.specs.declared.token.Sign.{Sign}
 use Rattle.lf_lex.specs.declared.token.Sign.TheVariants.{OpenBracket, CloseBracket, Colon}
 use Rattle.lf_lex.specs.declared.token.TokenKind.{TokenKind}
 use Rattle.lf_lex.specs.declared.token.TokenKind.TheVariants as kinds
-use Rattle.lf_lex.specs.Bytes.{Each, is_blank, is_line_break, is_no_line_break, begins_word, is_in_word}
+use Rattle.lf_base.specs.Rows.{Each}
+use Rattle.lf_lex.specs.Bytes.{is_blank, is_line_break, is_no_line_break, begins_word, is_in_word}
 use Rattle.lf_lex.specs.Signs.{spelling}
 use Rattle.lf_lex.specs.Runs.{IsRun, IsNumber}
 use Rattle.lf_lex.specs.Durations.{IsDuration}

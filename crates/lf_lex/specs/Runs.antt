@@ -1,6 +1,7 @@
 -- Runs of digits and letters, and which of them are numbers.
 use Rattle.std.specs.Prelude.{◌≡◌, ℕ, ◌+◌, ◌<◌, List, [], ◌∷◌, ◌++◌, length, Bool, true, false, ◌||◌, ◌&&◌}
-use Rattle.lf_lex.specs.Bytes.{Each, AreSome, is_dot, is_exponent, is_plus_minus, is_in_run, is_in_mantissa}
+use Rattle.lf_base.specs.Rows.{Each}
+use Rattle.lf_lex.specs.Bytes.{AreSome, is_dot, is_exponent, is_plus_minus, is_in_run, is_in_mantissa}
 use Rattle.lf_base.specs.Names.{is_digit, is_hexadecimal}
 
 -- ---- runs

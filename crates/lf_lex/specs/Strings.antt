@@ -3,7 +3,7 @@ use Rattle.std.specs.Prelude.{◌≡◌, ◌≢◌, ◌⊎◌, ℕ, ◌+◌, ◌
 use Rattle.std.specs.List.{flat_map, AllByRecursion}
 use Rattle.std.specs.Char.{IsScalar}
 use Rattle.std.specs.Str.{IsUtf8}
-use Rattle.lf_lex.specs.Bytes.{Each, is_no_back_quote}
+use Rattle.lf_base.specs.Rows.{is_no_back_quote, Each}
 use Rattle.lf_base.specs.Names.{hexadecimal_value}
 
 -- the quotes " and '

@@ -1,12 +1,12 @@
 //! Strings in quotes: where they close, and what their escapes give.
-ghost use Rattle.std.specs.Prelude.{◌≡◌, ℕ, ◌+◌, ◌≤◌, ◌<◌, ◌^◌, ◌++◌, length, drop, take, Option, Some, None, IfSome, IfOk, OnOk, encode_utf8, slice_index, not, ◌&&◌, ◌==◌};
+ghost use Rattle.std.specs.Prelude.{◌≡◌, ◌+◌, ◌≤◌, ◌<◌, ◌++◌, length, Option, Some, None, IfSome, IfOk, OnOk, encode_utf8, slice_index, ◌&&◌, ◌==◌};
 ghost use Rattle.lf_lex.specs.Strings.{byte_of_letter};
 ghost use Rattle.lf_lex.specs.reading.Strings as strings;
 ghost use Rattle.lf_lex.specs.reading.Escapes.{told_of, given_by};
 
 use crate::bytes::is_octal;
 use lf_base::Memory;
-use lf_base::bytes::after;
+use lf_base::bytes::{after, is_bare};
 use lf_base::names::{hexadecimal_value, is_digit};
 use std::alloc::Global;
 
@@ -26,13 +26,6 @@ pub fn closing(quote: u8, rest: &[u8]) -> Option<usize>
         skip = is_bare(skip, *byte, b'\\');
     }
     None
-}
-
-/// Whether a byte is the one that is looked for, and stands behind no backslash.
-fn is_bare(skip: bool, byte: u8, wanted: u8) -> bool
-    ensures { result ≡ (not skip && byte == wanted) }
-{
-    !skip && byte == wanted
 }
 
 /// What an escape stands for.

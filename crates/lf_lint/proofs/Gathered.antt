@@ -7,6 +7,7 @@ use Rattle.std.proofs.lemmas.List.{length-map, map-append, take_more}
 use Rattle.std.proofs.lemmas.Option.{slice_get_within}
 use Rattle.std.proofs.lemmas.List.Sums.{sum_by-append, sum_by-cons}
 use Rattle.std.proofs.lemmas.Slice.Zip.{AllZip-long}
+use Rattle.lf_laws.proofs.Slices.{zip_push}
 use Rattle.lf_ast.specs.Labels.{Bytes}
 use Rattle.lf_checks.specs.Files.{File}
 use Rattle.lf_judge.specs.Judged.{file_of, files_of}
@@ -29,12 +30,6 @@ pub at_place : {X : Type 0} (xs : List X) (k : ℕ) (x : X) → k < length xs �
 at_place [] k x less is = absurd (omega (arith, less))
 at_place (y ∷ xs) zero x less is = ap Some (sym is)
 at_place (y ∷ xs) (suc k) x less is = at_place xs k x (omega (arith, less)) is
-
-zip_more : (R : Bytes → File → Type 0) (xs : List Bytes) (ys : List File) (x : Bytes) (y : File) → AllZip R xs ys → R x y → AllZip R (xs ++ x ∷ []) (ys ++ y ∷ [])
-zip_more R [] [] x y are is = (is, tt)
-zip_more R [] (z ∷ ys) x y are is = absurd are
-zip_more R (w ∷ xs) [] x y are is = absurd are
-zip_more R (w ∷ xs) (z ∷ ys) x y are is = (are.0, zip_more R xs ys x y are.1 is)
 
 all_more : (P : File → Type 0) (xs : List File) (x : File) → AllByRecursion P xs → P x → AllByRecursion P (xs ++ x ∷ [])
 all_more P [] x are is = (is, tt)
@@ -66,7 +61,7 @@ module _ (held : Bytes → Option Bytes) (names : List Bytes) where
   one_gathered k name sources later source before count less is so_far grown read counted fits =
       let files : files_of later ≡ files_of sources ++ file_of source ∷ [] = ap files_of grown ∙ map-append file_of sources (source ∷ []) in
       let front : take (k + 1) names ≡ take k names ++ name ∷ [] = take_more names k name less ∙ ap (λ (n : Bytes). take k names ++ n ∷ []) (sym is) in
-      let both = zip_more (IsRead held) (take k names) (files_of sources) name (file_of source) so_far.read read in
+      let both = zip_push (IsRead held) (take k names) (files_of sources) name (file_of source) so_far.read read in
       let of_front = subst (λ (l : List Bytes). AllZip (IsRead held) l (files_of sources ++ file_of source ∷ [])) (sym front) both in
       let short = short_more (files_of sources) (file_of source) so_far.short (omega (arith, so_far.total, counted, fits)) in
       let bytes = one_more (files_of sources) (file_of source) in

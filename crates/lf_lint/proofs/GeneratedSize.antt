@@ -8,7 +8,8 @@ use Rattle.lf_words.specs.declared.options.Options.{Options}
 use Rattle.lf_words.specs.declared.options.Options.TheVariants.{Gen}
 use Rattle.lf_lint.specs.Read.{AreShort}
 use Rattle.lf_gen.specs.Generated.{first_lines, generated, group_lines, head_lines, kind_lines, second_lines, third_lines}
-use Rattle.lf_gen.specs.Lines.{Bytes, lines_text}
+use Rattle.lf_base.specs.Lines.{lines_text}
+use Rattle.lf_base.specs.Names.{Bytes}
 use Rattle.lf_gen.proofs.RuleLaws.{generated_more}
 
 few_digits : (n : ℕ) → n < 4000 → length (decimal n) ≤ 4

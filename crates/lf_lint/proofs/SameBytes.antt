@@ -19,7 +19,8 @@ use Rattle.lf_report.specs.Json.{counts_data, summary_object, unresolved_data, f
 use Rattle.lf_report.specs.Numbers.{labels_of, numbered, rules_of}
 use Rattle.lf_report.specs.Places.{place, place_in, place_in_rule}
 use Rattle.lf_report.specs.Shown.{shown}
-use Rattle.lf_report.specs.Text.{file_lines, files_lines, finding_line, label_lines, lines_text, report_text, rule_line, rule_lines, said_lines, totals_line, totals_lines, verdict_lines, verdict_text, verdicts_line}
+use Rattle.lf_base.specs.Lines.{lines_text}
+use Rattle.lf_report.specs.Text.{file_lines, files_lines, finding_line, label_lines, report_text, rule_line, rule_lines, said_lines, totals_line, totals_lines, verdict_lines, verdict_text, verdicts_line}
 use Rattle.lf_report.specs.declared.report.FileReport.{FileReport}
 use Rattle.lf_report.specs.declared.report.Finding.{Finding}
 use Rattle.lf_report.specs.declared.report.Refused.{Refused}

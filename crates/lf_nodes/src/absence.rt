@@ -11,10 +11,12 @@ use crate::labels::is_metric;
 use lf_ast::{Expr, Matcher, Sight};
 use std::marker::Model;
 
-/// What an `absent` looks for: the matchers of its selector, and whether the sample may also have no label.
+/// What an `absent` looks for.
 #[derive(Drop)]
 pub struct Sought<'a> {
+    /// The matchers of its selector.
     pub matchers: &'a [Matcher],
+    /// Whether the sample may also have no label.
     pub may_be_bare: bool,
 }
 

@@ -5,6 +5,7 @@ ghost use Rattle.lf_semantics.specs.Grouped.{is_grouped_by, is_metric, keeps, ke
 
 use crate::operators::is_arithmetic;
 use lf_ast::{Grouping, Matching, Name, Op};
+use lf_base::names;
 
 /// Whether a label is one of a group: one of `by`, or none of `without` and not the metric name.
 pub fn is_grouped_by(grouping: &Grouping, label: &str) -> bool
@@ -66,5 +67,5 @@ pub fn is_among(names: &[Name], label: &str) -> bool
 pub fn is_metric(label: &str) -> bool
     ensures { result ≡ is_metric label.now }
 {
-    label == "__name__"
+    names::is_metric(label.as_bytes())
 }

@@ -12,19 +12,19 @@ use Rattle.std.proofs.lemmas.Grind.{flat_map-append}
 use Rattle.std.proofs.lemmas.Bool.{or_cases, or_left, or_right}
 use Rattle.lf_ast.specs.declared.expr.Expr.{Expr}
 use Rattle.lf_ast.specs.views.Walks.{trees_at}
-use Rattle.lf_semantics.specs.Parts.{is_scalar_part}
-use Rattle.lf_deps.specs.Reading.{Reads, SelectsBy, arguments_selectors, outside_scalars, selectors, selectors_in}
+use Rattle.lf_semantics.specs.Parts.{is_scalar_part, outside_scalars}
+use Rattle.lf_deps.specs.Reading.{Reads, SelectsBy, arguments_selectors, selectors, selectors_in}
 use Rattle.lf_deps.specs.Reading.Reads.{selected, through}
 use Rattle.lf_deps.specs.views.Search.{ReadsBy}
 use Rattle.lf_deps.specs.views.Selecting.{own_selectors}
 use Rattle.lf_open.specs.Holding.{Holds, has_no_argument, is_source, matches_le}
-use Rattle.lf_open.specs.Standing.{arguments_standing, standing, standing_in, unless_scalar}
+use Rattle.lf_open.specs.Standing.{arguments_standing, standing, standing_in}
 use Rattle.lf_open.specs.views.Marks.{Marks, TellsReading, has_mark, marks_tree}
 use Rattle.lf_open.specs.views.Speaking.{AreSpeaking, speaks}
 
 -- the selectors of an expression are those that stand in it
 
-part : (e : Tree) → selectors_in e ≡ flat_map own_selectors (standing_in e) → outside_scalars e (selectors_in e) ≡ flat_map own_selectors (unless_scalar e (standing_in e))
+part : (e : Tree) → selectors_in e ≡ flat_map own_selectors (standing_in e) → outside_scalars e (selectors_in e) ≡ flat_map own_selectors (outside_scalars e (standing_in e))
 part e is = by (is_scalar_part e)
   where
     by : (b : Bool) → cond b [] (selectors_in e) ≡ flat_map own_selectors (cond b [] (standing_in e))
@@ -40,14 +40,14 @@ mutual
   within (Paren of span) = part of (within of)
   within (Unary minus of span) = part of (within of)
   within (Binary op m left right span) =
-      ap₂ (λ (l r : List (Option Bytes)). l ++ r) (part left (within left)) (part right (within right)) ∙ sym (flat_map-append own_selectors (unless_scalar left (standing_in left)) (unless_scalar right (standing_in right)))
+      ap₂ (λ (l r : List (Option Bytes)). l ++ r) (part left (within left)) (part right (within right)) ∙ sym (flat_map-append own_selectors (outside_scalars left (standing_in left)) (outside_scalars right (standing_in right)))
   within (Call name args span) = within_arguments args
   within (Aggregate op grouping args span) = within_arguments args
 
   within_arguments : (args : Trees) → arguments_selectors args ≡ flat_map own_selectors (arguments_standing args)
   within_arguments Nil = refl
   within_arguments (Next x xs) =
-      ap₂ (λ (l r : List (Option Bytes)). l ++ r) (part x (within x)) (within_arguments xs) ∙ sym (flat_map-append own_selectors (unless_scalar x (standing_in x)) (arguments_standing xs))
+      ap₂ (λ (l r : List (Option Bytes)). l ++ r) (part x (within x)) (within_arguments xs) ∙ sym (flat_map-append own_selectors (outside_scalars x (standing_in x)) (arguments_standing xs))
 
 pub selectors_stand : (e : Tree) → selectors e ≡ flat_map own_selectors (standing e)
 selectors_stand e = part e (within e)

@@ -10,6 +10,7 @@ use Rattle.lf_ast.specs.Selectors.{selected_name}
 use Rattle.lf_ast.specs.Tree.{Tree, Trees, Number, Str, Selector, Subquery, Paren, Unary, Binary, Call, Aggregate, Nil, Next, list, parts_of}
 use Rattle.lf_deps.specs.Reading.{AreApart, Reads, SelectsBy, selectors}
 use Rattle.lf_deps.specs.Reading.Reads.{selected, through}
+use Rattle.lf_deps.specs.views.Names.{IsPlaced}
 use Rattle.lf_deps.specs.views.Search.{ReadsBy}
 use Rattle.lf_deps.specs.views.Selecting.{own_selectors}
 use Rattle.lf_forks.proofs.ForkTests.{tells_forks}
@@ -24,7 +25,7 @@ use Rattle.lf_open.specs.Constructs.{AreVectors, ReadInCommon}
 use Rattle.lf_open.specs.Holding.{CannotBeSilent, NamesLe, has_own_source, is_source, matches_le, names_le}
 use Rattle.lf_open.specs.Standing.{standing}
 use Rattle.lf_open.specs.views.Marks.{TellsReading}
-use Rattle.lf_open.specs.views.ReadNames.{AreNumbersBy, HaveNames, IsPlaced}
+use Rattle.lf_open.specs.views.ReadNames.{AreNumbersBy, HaveNames}
 use Rattle.lf_open.specs.views.Told.{Facts, are_vectors, has_any, numbers_by, own_numbers, shares, told}
 use Rattle.lf_open.proofs.Held.{by_selector, holds_by, reads_by, selectors_stand}
 use Rattle.lf_open.proofs.StandingParts.{of_other, of_scalar}

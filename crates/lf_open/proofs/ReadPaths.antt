@@ -7,6 +7,7 @@ use Rattle.lf_ast.specs.Rules.{RuleTree}
 use Rattle.lf_ast.specs.Tree.{Tree}
 use Rattle.lf_deps.specs.Reading.{Reads, SelectsBy, selectors}
 use Rattle.lf_deps.specs.Reading.Reads.{selected, through}
+use Rattle.lf_deps.specs.views.Names.{IsPlaced}
 use Rattle.lf_deps.specs.views.Search.{ReadsBy}
 use Rattle.lf_deps.proofs.Followed.{reads_on}
 use Rattle.lf_graph.specs.Components.{AreComponents, Components}
@@ -17,7 +18,7 @@ use Rattle.lf_semantics.specs.Environments.{names_recorded}
 use Rattle.lf_semantics.specs.Listing.{place}
 use Rattle.lf_semantics.proofs.Places.{same_text}
 use Rattle.lf_semantics.proofs.Recorded.{recorded, recorder}
-use Rattle.lf_open.specs.views.ReadNames.{AreEdges, AreNumbersBy, HaveNames, IsNumberBy, IsPlaced, Links, node_of}
+use Rattle.lf_open.specs.views.ReadNames.{AreEdges, AreNumbersBy, HaveNames, IsNumberBy, Links, node_of}
 
 module _ (rules : List RuleTree) (names : List Bytes) (have : HaveNames rules names) (edges : List (List ℕ)) (are : AreEdges rules names edges) where
   -- a node stands for a name: its own, or that of all recorded names

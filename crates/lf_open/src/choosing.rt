@@ -1,5 +1,5 @@
 //! Which rules pass a test, or read a rule that does.
-ghost use Rattle.std.specs.Prelude.{◌≡◌, ◌<◌, ◌||◌, Bool, false, length, List, IfOk, slice_index_or};
+ghost use Rattle.std.specs.Prelude.{◌≡◌, ◌<◌, Bool, false, length, List, IfOk, slice_index_or};
 ghost use Rattle.std.specs.List.{list_any};
 ghost use Rattle.lf_ast.specs.Rules.{RuleTree};
 ghost use Rattle.lf_deps.specs.views.Index.{IsIndex};
@@ -9,6 +9,7 @@ ghost use Rattle.lf_open.specs.views.Choosing.{ArePassing, TellsRead};
 ghost use Rattle.lf_open.specs.views.Marks.{AreChosenBy};
 
 use lf_base::Memory;
+use lf_base::choice::either;
 use lf_deps::{NameGraph, Sources, reach_of, rule_number};
 use std::alloc::Global;
 
@@ -31,13 +32,6 @@ pub(crate) fn chosen(
         found.push(either(passing[k], reads))?;
     }
     Ok(found)
-}
-
-/// Whether one of the two holds.
-fn either(own: bool, read: bool) -> bool
-    ensures { result ≡ (own || read) }
-{
-    own || read
 }
 
 /// Whether the rule of a number reads one that passes.

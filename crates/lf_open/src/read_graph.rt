@@ -2,17 +2,17 @@
 ghost use Rattle.std.specs.Prelude.{◌≡◌, ◌<◌, ◌↔◌, ◌+◌, ◌∷◌, [], ℕ, List, Some, length, map, nat_lt, IfOk, OnOk};
 ghost use Rattle.std.specs.List.{Contains, filter};
 ghost use Rattle.lf_ast.specs.Rules.{RuleTree, rule_tree, rule_trees};
+ghost use Rattle.lf_deps.specs.views.Names.{IsPlaced};
 ghost use Rattle.lf_deps.specs.views.Search.{Grows};
 ghost use Rattle.lf_deps.specs.views.Sources.{IsSourcesOf};
 ghost use Rattle.lf_graph.specs.Components.{AreComponents};
 ghost use Rattle.lf_graph.specs.Paths.{IsReached};
-ghost use Rattle.lf_open.specs.views.ReadNames.{AreEdges, AreNumbersBy, HaveNames, IsPlaced, IsReadGraph, PutsInto, PutsRule, node_of, said_name, said_names};
+ghost use Rattle.lf_open.specs.views.ReadNames.{AreEdges, AreNumbersBy, HaveNames, IsReadGraph, PutsInto, PutsRule, node_of, said_name, said_names};
 
 use lf_ast::Rule;
 use lf_base::{Memory, Seq, Text};
 use lf_classes::{TextSet, recorded_names};
 use lf_deps::Sources;
-use lf_forks::lists_of;
 use lf_graph::{Buckets, Components};
 use std::alloc::Global;
 use std::marker::Model;
@@ -147,7 +147,7 @@ fn edges_of(
     for k in 0..rules.len() {
         put_rule(names, rules.get(k), sources.selected_by(k), &mut edges)?;
     }
-    lists_of(alloc, &edges)
+    Ok(edges.into_lists())
 }
 
 /// Puts what a rule selects into the list of its name, and its name into that of all recorded names. An alert records none.

@@ -5,7 +5,8 @@ ghost use Rattle.lf_ast.specs.Labels.{Bytes};
 ghost use Rattle.lf_ast.specs.Rules.{RuleTree};
 ghost use Rattle.lf_classes.specs.views.TextSets.{with_text};
 ghost use Rattle.lf_semantics.specs.Listing.{place};
-ghost use Rattle.lf_open.specs.views.ReadNames.{AreRead, IsPlaced, IsReadGraph, IsTableOf, with_said};
+ghost use Rattle.lf_deps.specs.views.Names.{IsPlaced};
+ghost use Rattle.lf_open.specs.views.ReadNames.{AreRead, IsReadGraph, IsTableOf, with_said};
 
 use crate::read_graph::ReadGraph;
 use lf_base::{Memory, Seq, Text};

@@ -1,11 +1,11 @@
 //! Tokens as the grammar sees them.
-ghost use Rattle.std.specs.Prelude.{◌≡◌, ◌==◌};
-ghost use Rattle.std.specs.List.{list_any};
+ghost use Rattle.std.specs.Prelude.{◌≡◌};
 ghost use Rattle.lf_parse.specs.Tokens.{word_mark, shown};
 ghost use Rattle.lf_parse.specs.views.Values.{mark_with, tok};
 
 use crate::class::{Class, class_of};
 use lf_base::Span;
+use lf_base::names::has_colon;
 use lf_lex::{Sign, Token, TokenKind};
 
 /// What a token is.
@@ -59,11 +59,4 @@ fn word_mark(text: &str) -> Mark
     } else {
         Mark::Word(class_of(text))
     }
-}
-
-/// Whether a word has a colon, so that it can only name a metric.
-fn has_colon(text: &str) -> bool
-    ensures { result ≡ list_any (λ b. b == 58) text.now }
-{
-    text.as_bytes().iter().any(|byte| *byte == b':')
 }

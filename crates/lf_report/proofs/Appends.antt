@@ -2,7 +2,7 @@
 use Rattle.std.proofs.Common.{◌≡◌, ℕ, List, [], ◌∷◌, ◌++◌, codes, ap, ◌∙◌, append_assoc, sym}
 use Rattle.std.proofs.lemmas.List.Concat.{flat_map-append}
 use Rattle.lf_ast.specs.Labels.{Bytes}
-use Rattle.lf_report.specs.Text.{lines_text}
+use Rattle.lf_base.specs.Lines.{lines_text}
 
 -- two pieces
 pub appended_two : (start one two : List ℕ) {first second : List ℕ} → first ≡ start ++ one → second ≡ first ++ two → second ≡ start ++ (one ++ two)
@@ -16,14 +16,6 @@ appended_pair start one two three e f = appended_two start (one ++ two) three e 
 pub appended_lines : (start : Bytes) (one two : List Bytes) {first second : Bytes} → first ≡ start ++ lines_text one → second ≡ first ++ lines_text two → second ≡ start ++ lines_text (one ++ two)
 appended_lines start one two e f =
     appended_two start (lines_text one) (lines_text two) e f ∙ ap (λ l. start ++ l) (sym (flat_map-append (λ line. line ++ 10 ∷ []) one two))
-
--- the same, from no text on
-pub built_two : (one two : List Bytes) {start first second : Bytes} → start ≡ [] → first ≡ start ++ lines_text one → second ≡ first ++ lines_text two → second ≡ lines_text (one ++ two)
-built_two one two n e f = f ∙ ap (λ l. l ++ lines_text two) (e ∙ ap (λ l. l ++ lines_text one) n) ∙ sym (flat_map-append (λ line. line ++ 10 ∷ []) one two)
-
--- one more group of lines
-pub built_more : (some more : List Bytes) {before now : Bytes} → before ≡ lines_text some → now ≡ before ++ lines_text more → now ≡ lines_text (some ++ more)
-built_more some more e f = f ∙ ap (λ l. l ++ lines_text more) e ∙ sym (flat_map-append (λ line. line ++ 10 ∷ []) some more)
 
 -- the line of a finding, whose parts were joined from the right
 pub finding_joined : (place severity check said : Bytes) → place ++ (codes ": " ++ (severity ++ (codes " [" ++ (check ++ (codes "] " ++ (said ++ 10 ∷ []))))))

@@ -9,7 +9,8 @@ use Rattle.lf_ast.specs.declared.verdict.Verdict.{Verdict}
 use Rattle.lf_report.specs.Counts.{refused_count}
 use Rattle.lf_report.specs.Numbers.{numbered}
 use Rattle.lf_report.specs.Shown.{shown}
-use Rattle.lf_report.specs.Text.{file_lines, finding_line, label_line, label_lines, lines_text, rule_lines, totals_line, totals_lines, verdicts_line}
+use Rattle.lf_base.specs.Lines.{lines_text}
+use Rattle.lf_report.specs.Text.{file_lines, finding_line, label_line, label_lines, rule_lines, totals_line, totals_lines, verdicts_line}
 use Rattle.lf_report.specs.declared.counting.Totals.{Totals}
 use Rattle.lf_report.specs.declared.report.FileReport.{FileReport}
 use Rattle.lf_report.specs.declared.report.Finding.{Finding}

@@ -1,20 +1,15 @@
 -- How the shown form of a name goes with its characters.
-use Rattle.std.proofs.Common.{◌≡◌, ℕ, ◌+◌, ◌/◌, ◌%◌, ◌≤◌, Bool, true, false, cond, nat_lt, List, [], ◌∷◌, ◌++◌, map, refl, sym, ap, ◌∙◌, codes, arith, append-nil}
+use Rattle.std.proofs.Common.{◌≡◌, ℕ, ◌+◌, ◌/◌, ◌%◌, ◌≤◌, Bool, true, false, cond, nat_lt, List, [], ◌∷◌, ◌++◌, map, refl, sym, ap, ◌∙◌, arith, append-nil}
 use Rattle.std.proofs.lemmas.Bool.Decides.{nat_tests}
 use Rattle.std.proofs.lemmas.List.Concat.{flat_map-append}
 use Rattle.std.proofs.lemmas.Str.{encodes-append, encodes-chars}
-use Rattle.std.specs.Char.{IsAsciiControl, IsNotAsciiControl}
-use Rattle.std.specs.Fmt.{digit_glyph}
+use Rattle.std.specs.Char.{IsNotAsciiControl}
 use Rattle.std.specs.Str.{IsUtf8, chars}
 use lib.Utf8.{encode, encodes}
 use Rattle.lf_ast.specs.Labels.{Bytes}
 use Rattle.lf_report.specs.Shown.{shown, shown_byte}
 
--- a byte of a control character
-pub shown_byte-control : (b : ℕ) → IsAsciiControl b → shown_byte b ≡ codes "\\x" ++ digit_glyph false (b / 16) ∷ digit_glyph false (b % 16) ∷ []
-shown_byte-control b h = grind (arith, nat_tests)
-
--- any other byte
+-- a byte of a character that isn't a control character
 pub shown_byte-other : (b : ℕ) → IsNotAsciiControl b → shown_byte b ≡ b ∷ []
 shown_byte-other b h = grind (arith, nat_tests)
 

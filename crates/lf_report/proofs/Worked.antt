@@ -15,7 +15,8 @@ use Rattle.lf_base.specs.declared.kind.Kind.TheVariants.{LeftOut}
 use Rattle.lf_base.specs.declared.place.Span.{Span}
 use Rattle.lf_report.specs.Counts.{is_guaranteed, is_impossible, is_possible, is_unresolved}
 use Rattle.lf_report.specs.Json.{report_json}
-use Rattle.lf_report.specs.Text.{lines_text, report_text}
+use Rattle.lf_base.specs.Lines.{lines_text}
+use Rattle.lf_report.specs.Text.{report_text}
 use Rattle.lf_report.specs.declared.report.FileReport.{FileReport}
 use Rattle.lf_report.specs.declared.report.Report.{Report}
 use Rattle.lf_report.specs.declared.report.RuleReport.{RuleReport}

@@ -8,6 +8,7 @@ use Rattle.lf_ast.specs.declared.verdict.RuleVerdicts.TheVariants.{Empty, Labels
 use Rattle.lf_ast.specs.declared.verdict.Verdict.{Verdict}
 use Rattle.lf_ast.specs.declared.verdict.Verdict.TheVariants.{Guaranteed, Impossible, Possible, Unresolved}
 use Rattle.lf_base.specs.Kinds.{name_of, meaning_of}
+use Rattle.lf_base.specs.Lines.{lines_text}
 use Rattle.lf_report.specs.Counts.{empty_count, is_guaranteed, is_impossible, is_possible, is_unresolved, note_count, problem_count, refused_count, verdicts_of}
 use Rattle.lf_report.specs.Numbers.{numbered, rules_of}
 use Rattle.lf_report.specs.Places.{place, place_in_rule}
@@ -19,10 +20,6 @@ use Rattle.lf_report.specs.declared.report.Report.{Report}
 use Rattle.lf_report.specs.declared.report.RuleReport.{RuleReport}
 use Rattle.lf_report.specs.declared.report.Severity.{Severity}
 use Rattle.lf_report.specs.declared.report.Severity.TheVariants.{Problem, Note}
-
--- each line ended by a line feed
-abbrev pub lines_text : List Bytes → Bytes
-lines_text lines = flat_map (λ line. line ++ 10 ∷ []) lines
 
 -- `FILE:LINE:COLUMN: refused [KIND] TEXT`, at the start of what breaks the rule
 abbrev pub refused_line : FileReport → Refused → Bytes

@@ -15,7 +15,7 @@ pub fn shown_name(alloc: Global, name: &str) -> Result<Text, Memory>
     for c in name.chars() {
         push_shown(&mut text, c)?;
     }
-    Text::of(alloc, text.as_str())
+    Ok(Text::from_string(text))
 }
 
 /// Appends a character as a report shows it.

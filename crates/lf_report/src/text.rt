@@ -1,9 +1,10 @@
 //! The text of a report.
-ghost use Rattle.std.specs.Prelude.{◌≡◌, ◌<◌, ◌++◌, ◌∷◌, [], ℕ, List, length, map, slice_get, Some, IfOk, OnOk};
+ghost use Rattle.std.specs.Prelude.{◌≡◌, ◌<◌, ◌++◌, ◌∷◌, [], length, map, slice_get, Some, IfOk, OnOk};
 ghost use Rattle.std.specs.List.{flat_map};
 ghost use Rattle.lf_report.specs.Numbers.{NameRules, NameRulesBelow, StandInFiles, labels_in, labels_of, rules_of};
 ghost use Rattle.lf_report.specs.Shown.{shown};
-ghost use Rattle.lf_report.specs.Text.{file_lines, files_lines, finding_line, lines_text, report_text, rule_line, rule_lines, said_lines, totals_lines, verdict_lines};
+ghost use Rattle.lf_base.specs.Lines.{lines_text};
+ghost use Rattle.lf_report.specs.Text.{file_lines, files_lines, finding_line, report_text, rule_line, rule_lines, said_lines, totals_lines, verdict_lines};
 ghost use Rattle.lf_report.specs.declared.report.FileReport.{FileReport};
 ghost use Rattle.lf_report.specs.views.Lookups.{IsLookup};
 ghost use Rattle.lf_report.specs.views.LineIndex.{AreIndexed};

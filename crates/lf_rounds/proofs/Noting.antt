@@ -3,7 +3,7 @@ use Rattle.std.proofs.Common.{◌≡◌, ℕ, Bool, true, false, if◌then◌els
 use Rattle.std.specs.List.{Contains}
 use Rattle.std.proofs.lemmas.List.{append-nil}
 use Rattle.std.proofs.lemmas.List.Elements.{Contains-append_cases, Contains-append_left, Contains-append_right}
-use Rattle.lf_laws.proofs.Members.{here, none_in, only_one}
+use Rattle.lf_laws.proofs.Members.{here, only_one}
 use Rattle.lf_rounds.specs.declared.rule.Done.{Done}
 use Rattle.lf_rounds.specs.declared.rule.Load.{Load}
 use Rattle.lf_rounds.specs.declared.rule.Loaded.{Loaded}
@@ -37,9 +37,6 @@ noted_both done others notes theirs mine more x c = ⊎_elim
 
 pub noted_left : (done others : List Done) (notes : List Loaded) → AreNoted done notes → AreNoted (done ++ others) notes
 noted_left done others notes mine x c = let n = mine x c in (n.0, Contains-append_left done others n.0 n.1, n.2, n.3)
-
-pub none_noted : (done : List Done) → AreNoted done []
-none_noted done x c = absurd (none_in x c)
 
 -- a seat that did nothing more
 pub no_more : (v w : RoundView) → w.done ≡ v.done → DidMore v w

@@ -1,11 +1,9 @@
 -- What stands between rounds.
-use Rattle.std.proofs.Common.{◌≡◌, ◌⊎◌, ℕ, ◌*◌, ◌<◌, List, [], length, get_or, set, Option, Some, None, inl, inr, refl, sym, ◌∙◌, ap, subst, ⊎_elim, arith, get_or-set_same, get_or-set_other, length-set}
-use Rattle.std.specs.Prelude.{option_and_then, replicate, slice_get}
+use Rattle.std.proofs.Common.{◌≡◌, ◌⊎◌, ℕ, ◌*◌, ◌<◌, List, [], length, get_or, Option, Some, None, inl, inr, refl, sym, ◌∙◌, ap, subst, ⊎_elim, arith}
+use Rattle.std.specs.Prelude.{replicate}
 use Rattle.std.specs.List.{Contains}
 use Rattle.std.proofs.lemmas.List.{get_or-replicate, length-replicate}
-use Rattle.std.proofs.lemmas.Option.{get_or_from_slice_get, same_Some, slice_get-get_or, slice_get_within}
-use mathlib.Core.Logic.{dite}
-use native.Mathlib.Decide.{ℕ_discrete}
+use Rattle.std.proofs.lemmas.Option.{get_or_from_slice_get, slice_get_within}
 use Rattle.lf_ast.specs.Rules.{RuleTree, rule_trees}
 use Rattle.lf_ast.specs.declared.rule.Rule.{Rule}
 use Rattle.lf_classes.specs.RowWords.{WordsLeq, word_count}
@@ -15,34 +13,15 @@ use Rattle.lf_semantics.proofs.Members.{of_filter}
 use Rattle.lf_semantics.specs.Environments.{CoversRules, IsLeast, recorded_names}
 use Rattle.lf_semantics.specs.Listing.{IsListing, Listing}
 use Rattle.lf_rounds.specs.Facts.{IsOverDue, RoundFacts, task}
-use Rattle.lf_rounds.specs.Tasks.{ArePieces, AreReads, AreRecording, HoldRules, HoldsRule, IsBelowLeast, OthersHold, Task, is_recording, rule_of}
+use Rattle.lf_rounds.specs.Tasks.{ArePieces, AreReads, AreRecording, HoldRules, HoldsRule, IsBelowLeast, OthersHold, is_recording}
 use Rattle.lf_rounds.specs.Words.{AreWords, environment_of}
 use Rattle.lf_rounds.specs.declared.between.Standing.{Standing}
 use Rattle.lf_rounds.specs.declared.round.closing.Settled.{Settled}
 use Rattle.lf_rounds.specs.views.Ending.{EndsRound}
-use Rattle.lf_rounds.specs.declared.rule.Loaded.{Loaded}
-use Rattle.lf_rounds.specs.views.Noting.{AreMadeBy, AreRemembered, IsKnown, IsMadeBy, IsRemembered}
+use Rattle.lf_rounds.specs.views.Noting.{AreMadeBy, AreRemembered, IsKnown}
 use Rattle.lf_rounds.specs.views.Standings.{IsCurrent, IsSettledOf, IsStanding, Rises}
 use Rattle.lf_rounds.proofs.Pieces.{least_words, pieces_all}
 use Rattle.lf_rounds.proofs.SumLaws.{held_now, remembered_on}
-
--- a place of a list of sums
-at_place : (sums : List (Option ℕ)) (k : ℕ) (x : Option ℕ) → k < length sums → get_or sums k None ≡ x → slice_get sums k ≡ Some x
-at_place sums k x h e = slice_get-get_or sums k None h ∙ ap Some e
-
--- one sum more is kept
-pub one_kept : (t : Task) (words : List ℕ) (sums : List (Option ℕ)) (note : Loaded) (number : ℕ) → slice_get t.pieces note.piece ≡ Some number → number < length sums → IsMadeBy t words note
-    → AreRemembered t.universe t.rules t.reads words sums → AreRemembered t.universe t.rules t.reads words (set sums number (Some note.sum))
-one_kept t words sums note number at within made old k r s there e = dite (ℕ_discrete k number)
-    (λ same.
-    let now : Some note.sum ≡ Some s = sym (get_or-set_same sums number (Some note.sum) None within) ∙ ap (λ j. get_or (set sums number (Some note.sum)) j None) (sym same) ∙ get_or_from_slice_get (set sums number (Some note.sum)) k (Some s) None e in
-    let rule : rule_of t note.piece ≡ Some r = ap (option_and_then (λ j. slice_get t.rules j)) at ∙ ap (λ j. slice_get t.rules j) (sym same) ∙ there in
-    let P : ℕ × ℕ → Type 0 = λ x. IsRemembered t.universe t.rules words r (get_or t.reads x.0 []) x.1 in
-    subst P (λ i. ((get_or_from_slice_get t.pieces note.piece number 0 at ∙ sym same) i, same_Some note.sum s now i)) (made r rule))
-    (λ other.
-    let within' : k < length sums = omega (arith, slice_get_within (set sums number (Some note.sum)) k (Some s) e, length-set sums number (Some note.sum)) in
-    let before : get_or sums k None ≡ Some s = sym (get_or-set_other sums number k (Some note.sum) None other) ∙ get_or_from_slice_get (set sums number (Some note.sum)) k (Some s) None e in
-    old k r s there (at_place sums k (Some s) within' before))
 
 -- at first there is no sum
 pub none_kept : (u : Listing) (rules : List RuleTree) (reads : List (List ℕ)) (words : List ℕ) (sums : List (Option ℕ)) (n : ℕ) → sums ≡ replicate n None → AreRemembered u rules reads words sums

@@ -1,5 +1,5 @@
 //! Which rules are due in the next round.
-ghost use Rattle.std.specs.Prelude.{◌≡◌, ◌⊎◌, ◌||◌, ℕ, ◌<◌, ◌++◌, [], ◌∷◌, cond, List, length, slice_index_or, Some, false, true, IfOk, OnOk};
+ghost use Rattle.std.specs.Prelude.{◌≡◌, ◌⊎◌, ℕ, ◌<◌, ◌++◌, [], ◌∷◌, cond, List, length, Some, false, true, IfOk, OnOk};
 ghost use Rattle.std.specs.List.{Contains};
 ghost use Rattle.lf_rounds.specs.Sums.{sum_of_rows};
 ghost use Rattle.lf_rounds.specs.views.Standings.{AreRowSums, IsCurrent};
@@ -7,6 +7,7 @@ ghost use Rattle.lf_rounds.specs.views.Standings.{AreRowSums, IsCurrent};
 use crate::known::Known;
 use crate::sums::{row_sums, sum_at};
 use lf_ast::Rule;
+use lf_base::choice::either;
 use lf_base::{Memory, Seq};
 use std::alloc::Global;
 
@@ -56,13 +57,6 @@ fn due_by(
         mark_if(test, place, &mut marks);
     }
     Ok(due)
-}
-
-/// Whether one of them is true.
-fn either(a: bool, b: bool) -> bool
-    ensures { result ≡ (a || b) }
-{
-    a || b
 }
 
 /// Whether one of these numbers is marked. It is for speed alone which further rules a round takes, so no clause says it.

@@ -1,5 +1,5 @@
 //! A round and its seats.
-ghost use Rattle.std.specs.Prelude.{◌≡◌, true, false, ◌&&◌, ◌+◌, ◌-◌, ◌<◌, ◌≤◌, [], ◌++◌, OnOk};
+ghost use Rattle.std.specs.Prelude.{◌≡◌, ◌&&◌, true, ◌+◌, ◌-◌, ◌<◌, [], ◌++◌, OnOk};
 ghost use Rattle.lf_rounds.specs.Facts.{RoundFacts, RoundSeatFacts};
 
 mod closing;
@@ -12,6 +12,7 @@ use crate::rule::{About, Cut, Loaded, Merge, Rising, RoundView};
 use atomic_table::{Seat, Table};
 pub use closing::RoundEnd;
 pub(crate) use closing::{Settled, differ};
+use lf_base::choice::both;
 use lf_base::{Memory, Seq};
 use lf_board::rule::Cutting;
 pub(crate) use making::recording_rules;
@@ -126,11 +127,4 @@ impl Round {
         seat.notes.extend_from_slice(notes.as_slice())?;
         Ok(())
     }
-}
-
-/// Whether both are true.
-fn both(a: bool, b: bool) -> bool
-    ensures { result ≡ (a && b) }
-{
-    a && b
 }

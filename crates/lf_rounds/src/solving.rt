@@ -8,7 +8,8 @@ ghost use Rattle.lf_semantics.specs.Environments.{CoversRules, IsEnvironmentOf, 
 ghost use Rattle.lf_rounds.specs.Tasks.{ArePieces};
 ghost use Rattle.lf_rounds.specs.Words.{environment_of};
 ghost use Rattle.lf_rounds.specs.views.Standings.{IsStanding, Rises};
-ghost use Rattle.lf_rounds.specs.views.Workers.{HasRoomFor, IsFresh, IsOf, IsShut};
+ghost use Rattle.lf_board.specs.views.Workers.{HasRoomFor};
+ghost use Rattle.lf_rounds.specs.views.Workers.{IsFresh, IsOf, IsShut};
 
 use crate::between::Standing;
 use crate::round::{differ, recording_rules};
@@ -121,7 +122,7 @@ fn make<R: Threads + Sync, G: Gate + Sync>(
 ) -> Result<RoundSeat, Memory>
     requires over { IsOf round.now universe.now rules.now }
     requires fresh { IsFresh round.now seat }
-    requires workers { HasRoomFor workers seat }
+    requires workers { HasRoomFor workers seat.room }
     requires env { IsEnvironmentOf round.now.universe (rule_trees round.now.rules) env.old }
     ensures shut { IfOk result (IsShut seat) }
     ensures env { IfOk result (λ _. IsEnvironmentOf round.now.universe (rule_trees round.now.rules) env.new) }
@@ -155,7 +156,7 @@ fn run<R: Threads + Sync, G: Gate + Sync>(
 ) -> Result<RoundSeat, Memory>
     requires over { IsOf round.now universe.now rules.now }
     requires fresh { IsFresh round.now seat }
-    requires workers { HasRoomFor workers seat }
+    requires workers { HasRoomFor workers seat.room }
     ensures { IfOk result (IsShut seat) }
 {
     if workers == 1 {
@@ -167,12 +168,12 @@ fn run<R: Threads + Sync, G: Gate + Sync>(
     let theirs = round.split(&mut seat, low - 1);
     let front = move || -> Result<RoundSeat, Memory>
         requires threads { IsSync R.row × IsSync G.row }
-        requires run { IsOf round.now universe.now rules.now × IsFresh round.now theirs × HasRoomFor low theirs }
+        requires run { IsOf round.now universe.now rules.now × IsFresh round.now theirs × HasRoomFor low theirs.room }
         ensures { IfOk result (IsShut theirs) }
     { run(rt, alloc, round, theirs, universe, rules, low, gate) };
     let back = move || -> Result<RoundSeat, Memory>
         requires threads { IsSync R.row × IsSync G.row }
-        requires run { IsOf round.now universe.now rules.now × IsFresh round.now seat × HasRoomFor high seat }
+        requires run { IsOf round.now universe.now rules.now × IsFresh round.now seat × HasRoomFor high seat.room }
         ensures { IfOk result (IsShut seat) }
     { run(rt, alloc, round, seat, universe, rules, high, gate) };
     let (front, back) = join(rt, front, back);

@@ -2,7 +2,7 @@
 use Rattle.std.specs.Prelude.{ℕ, Bool, List, map}
 use Rattle.std.specs.List.{AllByRecursion}
 use Rattle.lf_scalar.specs.Cells.{Value}
-use Rattle.lf_yaml.specs.Tree.{value}
+use Rattle.lf_scalar.specs.Scalars.{value}
 use Rattle.lf_yaml.specs.Insides.{ScalarInside}
 use Rattle.lf_rules.specs.declared.source.Pair.{Pair}
 use Rattle.lf_rules.specs.declared.source.RuleSource.{RuleSource}

@@ -1,6 +1,7 @@
 //! The rules of a tree without faults.
 ghost use Rattle.std.specs.Prelude.{◌≡◌, ◌++◌, suc, [], Some, map, option_map, codes, IfOk, OnOk};
-ghost use Rattle.lf_yaml.specs.Tree.{tree, pair, value};
+ghost use Rattle.lf_scalar.specs.Scalars.{value};
+ghost use Rattle.lf_yaml.specs.Tree.{tree, pair};
 ghost use Rattle.lf_rules.specs.Mappings as mappings;
 ghost use Rattle.lf_rules.specs.reading.Files as reading;
 ghost use Rattle.lf_rules.specs.Sources as sources;

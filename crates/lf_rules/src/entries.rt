@@ -1,6 +1,7 @@
 //! The entries of a mapping, and which of its keys count as missing.
 ghost use Rattle.std.specs.Prelude.{◌≡◌, Some, map, option_map};
-ghost use Rattle.lf_yaml.specs.Tree.{tree, pair, value};
+ghost use Rattle.lf_scalar.specs.Scalars.{value};
+ghost use Rattle.lf_yaml.specs.Tree.{tree, pair};
 ghost use Rattle.lf_rules.specs.Mappings as mappings;
 ghost use Rattle.lf_rules.specs.reading.Files as reading;
 

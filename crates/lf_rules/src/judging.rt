@@ -1,5 +1,5 @@
 //! The faults of single keys and values.
-ghost use Rattle.std.specs.Prelude.{◌≡◌, ◌∷◌, [], Bool, Some, map, option_map};
+ghost use Rattle.std.specs.Prelude.{◌≡◌, Some, map, option_map};
 ghost use Rattle.std.specs.List.{flat_map, list_any};
 ghost use Rattle.std.specs.Str.{bytes_eq};
 ghost use Rattle.lf_yaml.specs.Tree.{tree, pair};
@@ -8,8 +8,8 @@ ghost use Rattle.lf_rules.specs.Breaches.{at_start};
 ghost use Rattle.lf_rules.specs.reading.Files as reading;
 ghost use Rattle.lf_rules.specs.reading.Files.{least_from};
 
-use crate::texts::{is_limit, is_metric, is_time};
-use lf_base::names::{is_label_name, is_metric_name};
+use crate::texts::{is_limit, is_time};
+use lf_base::names::{is_label_name, is_metric, is_metric_name};
 use lf_base::{Fault, Kind, Span, Text};
 use lf_yaml::{Entry, Node};
 

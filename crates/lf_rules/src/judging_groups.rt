@@ -2,7 +2,8 @@
 ghost use Rattle.std.specs.Prelude.{◌≡◌, ◌++◌, ℕ, List, [], Some, map, option_map, OnOk};
 ghost use Rattle.std.specs.List.{flat_map};
 ghost use Rattle.std.specs.Str.{bytes_eq};
-ghost use Rattle.lf_yaml.specs.Tree.{tree, pair, value};
+ghost use Rattle.lf_scalar.specs.Scalars.{value};
+ghost use Rattle.lf_yaml.specs.Tree.{tree, pair};
 ghost use Rattle.lf_base.specs.views.NameSets.{HasNames};
 ghost use Rattle.lf_rules.specs.reading.Files as reading;
 ghost use Rattle.lf_rules.specs.reading.Files.{least_from, least_each};

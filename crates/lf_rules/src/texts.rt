@@ -1,14 +1,9 @@
 //! The texts that the keys of a rule file take.
 ghost use Rattle.std.specs.Prelude.{◌≡◌};
-ghost use Rattle.std.specs.Str.{bytes_eq};
-ghost use Rattle.lf_base.specs.Names as names;
 ghost use Rattle.lf_rules.specs.reading.Files as reading;
 
 use lf_base::names::are_digits;
 use lf_lex::is_duration;
-
-/// The label that holds the metric name.
-const METRIC: &str = "__name__";
 
 /// Whether a text is a length of time: a duration, or a single `0`.
 #[tactic(auto, using(crate::proofs::Times::time_decides))]
@@ -23,11 +18,4 @@ pub fn is_limit(text: &[u8]) -> bool
     ensures { result ≡ reading.is_limit text.now }
 {
     are_digits(text) && 1 <= text.len() && text.len() <= 9
-}
-
-/// Whether a key of labels sets the metric name.
-pub fn is_metric(text: &[u8]) -> bool
-    ensures { result ≡ bytes_eq text.now names.metric }
-{
-    text == METRIC.as_bytes()
 }

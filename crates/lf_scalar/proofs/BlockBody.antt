@@ -5,10 +5,10 @@ use Rattle.std.proofs.lemmas.List.Concat.{flat_map-cons}
 use Rattle.std.proofs.lemmas.Bool.{cases_Bool, and_parts}
 use Rattle.lf_scalar.specs.declared.block.Chomp.{Chomp}
 use Rattle.lf_scalar.specs.Cells.{Cell, cell}
-use Rattle.lf_scalar.specs.Lines.{Line}
+use Rattle.lf_scalar.specs.Lines.{Line, is_empty_text}
 use Rattle.lf_scalar.specs.Folding.{trimmed}
 use Rattle.lf_scalar.specs.Block.{EndsFull, AreEmpty, breaks, chomped, joined, Stretch, IsStretch, whole, folded, IsFolded, IsJoined, IsBlockText}
-use Rattle.lf_scalar.specs.reading.Block.{is_empty_text, is_empty, empties, between_of, stretch_of, folded_of, block_text}
+use Rattle.lf_scalar.specs.reading.Block.{is_empty, empties, between_of, stretch_of, folded_of, block_text}
 use Rattle.lf_scalar.proofs.Tails.{true-false}
 
 empty-true : (l : Line) → l.text ≡ [] → is_empty l ≡ true

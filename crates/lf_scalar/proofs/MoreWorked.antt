@@ -17,6 +17,7 @@ use Rattle.lf_scalar.specs.Block.{AreMarks, IsChomp, body_fault, header, body}
 use Rattle.lf_scalar.specs.Scalars.{IsScalarAt, BreaksAt}
 use Rattle.lf_scalar.proofs.Cells.{no-cell, same-cells}
 use Rattle.lf_scalar.proofs.Worked.{value, differ, some, a_space}
+use Rattle.lf_scalar.proofs.Zipped.{not-nothing, some as something}
 
 -- ---- plain
 
@@ -79,21 +80,12 @@ blanks_and_backslash = record {
   alone = refl;
 }
 
-abbrev nothing : Option ℕ
-nothing = None
-
-abbrev something : ℕ → Option ℕ
-something n = Some n
-
-not-nothing : (n : ℕ) → nothing ≡ something n → ⊥
-not-nothing n e = cc
-
 no-letter : (n : ℕ) → letter_of 113 ≡ something n → ⊥
 unfolding letter_of
-no-letter n e = not-nothing n e
+no-letter n e = not-nothing n (sym e)
 
 no-width : (n : ℕ) → width_of 113 ≡ something n → ⊥
-no-width n e = not-nothing n e
+no-width n e = not-nothing n (sym e)
 
 first-byte : (c d : Cell) (cs ds : List Cell) → c ∷ cs ≡ d ∷ ds → c.byte ≡ d.byte
 first-byte c d cs ds e = cc

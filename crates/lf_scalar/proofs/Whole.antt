@@ -13,9 +13,9 @@ use Rattle.lf_base.proofs.Answering.{Decides}
 use Rattle.lf_base.proofs.Answering as answering
 use Rattle.lf_scalar.specs.Cells.{Cell, cells, Value, Fails}
 use Rattle.lf_scalar.specs.Lines.{Line, lines, lines_at, first_text}
-use Rattle.lf_scalar.specs.Scalars.{least_above, begins, source_at, IsOfStyle, BeginsAt, IsScalarAt, BreaksAt}
+use Rattle.lf_scalar.specs.Scalars.{least_above, begins, source_at, IsOfStyle, BeginsAt, IsScalarAt, BreaksAt, value}
 use Rattle.lf_scalar.specs.Offsets.{AreOffsets}
-use Rattle.lf_scalar.specs.views.Built.{built, shown}
+use Rattle.lf_scalar.specs.views.Built.{built}
 use Rattle.lf_scalar.specs.reading.Styles.{reading}
 use Rattle.lf_scalar.proofs.LineSteps.{lines-nil}
 use Rattle.lf_scalar.proofs.Tails.{true-false}
@@ -49,42 +49,42 @@ module _ (s : Style) (bytes : List ℕ) (at : ℕ) (begun : begins s (first_text
         whole-is : reading s above (length bytes) (source_at bytes at) ≡ Ok (built d)
         whole-is = sym reading-is ∙ given
 
-        pub whole-gives : (r : Result Scalar Refusal) → AnswersAs shown r (Ok (built d)) → AnswersAs shown r (reading s above (length bytes) (source_at bytes at))
-        whole-gives r h = subst (AnswersAs shown r) (sym whole-is) h
+        pub whole-gives : (r : Result Scalar Refusal) → AnswersAs value r (Ok (built d)) → AnswersAs value r (reading s above (length bytes) (source_at bytes at))
+        whole-gives r h = subst (AnswersAs value r) (sym whole-is) h
 
         pub whole-scalar : IsOfStyle s above (length bytes) (source_at bytes at) (built d)
         whole-scalar = (decides s above (length bytes) (source_at bytes at) begun).stands (built d) whole-is
 
 -- by the least number of spaces of an indent above a parent's
-pub by-indent : (s : Style) (end above : ℕ) (indent : ℤ) (src : List Cell) (r : Result Scalar Refusal) → SFits w32 indent → above ≡ least_above (to_z w32 (of_z w32 indent)) → AnswersAs shown r (reading s above end src) → AnswersAs shown r (reading s (least_above indent) end src)
+pub by-indent : (s : Style) (end above : ℕ) (indent : ℤ) (src : List Cell) (r : Result Scalar Refusal) → SFits w32 indent → above ≡ least_above (to_z w32 (of_z w32 indent)) → AnswersAs value r (reading s above end src) → AnswersAs value r (reading s (least_above indent) end src)
 by-indent s end above indent src r fits e h =
-    subst (λ (n : ℕ). AnswersAs shown r (reading s n end src)) (e ∙ ap least_above (to_z-of_z w32 indent fits)) h
+    subst (λ (n : ℕ). AnswersAs value r (reading s n end src)) (e ∙ ap least_above (to_z-of_z w32 indent fits)) h
 
 -- ---- the four clauses
 
 module _ (bytes : List ℕ) (at : ℕ) (indent : ℤ) (s : Style) (begun : BeginsAt bytes at s) (above : ℕ) (r : Result Scalar Refusal) (fits : SFits w32 indent) (above_is : above ≡ least_above (to_z w32 (of_z w32 indent)))
-    (given : AnswersAs shown r (reading s above (length bytes) (source_at bytes at))) where
+    (given : AnswersAs value r (reading s above (length bytes) (source_at bytes at))) where
   decided : Decides (IsScalarAt bytes at indent s) (BreaksAt bytes at indent s) (reading s (least_above indent) (length bytes) (source_at bytes at))
   decided = decides s (least_above indent) (length bytes) (source_at bytes at) begun.1
 
-  gives : AnswersAs shown r (reading s (least_above indent) (length bytes) (source_at bytes at))
+  gives : AnswersAs value r (reading s (least_above indent) (length bytes) (source_at bytes at))
   gives = by-indent s (length bytes) above indent (source_at bytes at) r fits above_is given
 
-  pub is-found : Found shown (IsScalarAt bytes at indent s) r
-  is-found = answering.found shown (IsScalarAt bytes at indent s) (BreaksAt bytes at indent s) (reading s (least_above indent) (length bytes) (source_at bytes at)) decided r gives
+  pub is-found : Found value (IsScalarAt bytes at indent s) r
+  is-found = answering.found value (IsScalarAt bytes at indent s) (BreaksAt bytes at indent s) (reading s (least_above indent) (length bytes) (source_at bytes at)) decided r gives
 
-  pub is-only : Only shown (IsScalarAt bytes at indent s) r
-  is-only = answering.only shown (IsScalarAt bytes at indent s) (BreaksAt bytes at indent s) (reading s (least_above indent) (length bytes) (source_at bytes at)) decided r gives
+  pub is-only : Only value (IsScalarAt bytes at indent s) r
+  is-only = answering.only value (IsScalarAt bytes at indent s) (BreaksAt bytes at indent s) (reading s (least_above indent) (length bytes) (source_at bytes at)) decided r gives
 
   pub is-refused : Refused (BreaksAt bytes at indent s) r
-  is-refused = answering.refused shown (IsScalarAt bytes at indent s) (BreaksAt bytes at indent s) (reading s (least_above indent) (length bytes) (source_at bytes at)) decided r gives
+  is-refused = answering.refused value (IsScalarAt bytes at indent s) (BreaksAt bytes at indent s) (reading s (least_above indent) (length bytes) (source_at bytes at)) decided r gives
 
-  pub is-breach : Breach shown (BreaksAt bytes at indent s) r
-  is-breach = answering.breach shown (IsScalarAt bytes at indent s) (BreaksAt bytes at indent s) (reading s (least_above indent) (length bytes) (source_at bytes at)) decided r gives
+  pub is-breach : Breach value (BreaksAt bytes at indent s) r
+  is-breach = answering.breach value (IsScalarAt bytes at indent s) (BreaksAt bytes at indent s) (reading s (least_above indent) (length bytes) (source_at bytes at)) decided r gives
 
 -- what holds of each value of some kind holds of the one that was found
-pub of-found : {P Q : Value → Type 0} → ((v : Value) → P v → Q v) → (r : Result Scalar Refusal) → IfOk r (λ s. P (shown s)) → IfOk r (λ s. Q (shown s))
-of-found law (Ok s) h = law (shown s) h
+pub of-found : {P Q : Value → Type 0} → ((v : Value) → P v → Q v) → (r : Result Scalar Refusal) → IfOk r (λ s. P (value s)) → IfOk r (λ s. Q (value s))
+of-found law (Ok s) h = law (value s) h
 of-found law (Err e) h = tt
 
 -- ---- the laws of texts and offsets, by the least number of spaces of an indent above the parent's

@@ -61,10 +61,10 @@ zipped-offsets (x ∷ xs) (y ∷ ys) e = ap (λ (bs : List ℕ). y ∷ bs) (zipp
 abbrev pub some : ℕ → Option ℕ
 some x = Some x
 
-abbrev nothing : Option ℕ
+abbrev pub nothing : Option ℕ
 nothing = None
 
-not-nothing : (x : ℕ) → some x ≡ nothing → ⊥
+pub not-nothing : (x : ℕ) → some x ≡ nothing → ⊥
 not-nothing x e = cc
 
 pub end-zipped : (none : ℕ) (xs ys : List ℕ) (x : ℕ) → length xs ≡ length ys → some x ≡ slice_get ys (length ys - 1) → end_of none (zipped xs ys) ≡ x + 1

@@ -24,6 +24,10 @@ abbrev pub begins_with : ℕ → List Cell → Bool
 begins_with byte [] = false
 begins_with byte (c ∷ cs) = c.byte == byte
 
+abbrev pub is_empty_text : List Cell → Bool
+is_empty_text [] = true
+is_empty_text (c ∷ cs) = false
+
 -- a cell more at the front of the first line
 abbrev pub lengthen : ℕ → Cell → List Line → List Line
 lengthen end c [] = line (c ∷ []) end ∷ []

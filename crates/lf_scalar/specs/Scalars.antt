@@ -1,6 +1,7 @@
 -- A scalar of each style at a place of a file, and what breaks one.
 use Rattle.std.specs.Prelude.{◌≡◌, ℕ, suc, List, [], ◌∷◌, length, drop, Bool, true, ℤ, pos, negsuc}
 use Rattle.std.specs.Str.{IsCharBoundary}
+use Rattle.lf_scalar.specs.declared.scalar.Scalar.{Scalar}
 use Rattle.lf_scalar.specs.declared.scalar.Style.{Style}
 use Rattle.lf_scalar.specs.declared.scalar.Style.TheVariants as style
 use Rattle.lf_base.specs.declared.fault.Fault.{Fault}
@@ -9,6 +10,10 @@ use Rattle.lf_scalar.specs.Lines.{lines, first_text, begins_with}
 use Rattle.lf_scalar.specs.Plain.{IsPlain, BreaksPlain, begins_plain}
 use Rattle.lf_scalar.specs.Quoted.{Quotes, Single, Double, IsQuoted, BreaksQuoted}
 use Rattle.lf_scalar.specs.Block.{IsBlock, BreaksBlock, IsJoined, IsFolded}
+
+-- a scalar without where it lies in memory
+abbrev pub value : Scalar → Value
+value s = record { text = s.text; from = s.from; span = s.span }
 
 -- how many spaces an indent above this one has at least; -1 stands for the indent of what is above the root, and so does any indent below it
 abbrev pub least_above : ℤ → ℕ

@@ -7,7 +7,7 @@ ghost use Rattle.lf_scalar.specs.Folding.{feeds, fold};
 ghost use Rattle.lf_scalar.specs.Offsets.{AreOffsets};
 ghost use Rattle.lf_scalar.specs.Quoted.{char_cells};
 ghost use Rattle.lf_scalar.specs.views.Ascending.{offsets_from};
-ghost use Rattle.lf_scalar.specs.views.Built.{shown};
+ghost use Rattle.lf_scalar.specs.Scalars.{value};
 
 use crate::scalar::Scalar;
 use lf_base::{Memory, Refusal, Seq, Span, Text};
@@ -100,7 +100,7 @@ impl ScalarBuilder {
     pub fn into_scalar(self, end: u32, span: Span) -> Result<Scalar, Refusal>
         requires utf8 { IsUtf8 (bytes_of self) }
         requires offsets { AreOffsets (bytes_of self) (offsets_of self ++ end ∷ []) span }
-        ensures { AnswersAs shown result (Ok (made self end span)) }
+        ensures { AnswersAs value result (Ok (made self end span)) }
     {
         let (text, mut from) = self.into_parts();
         match from.push(end) {

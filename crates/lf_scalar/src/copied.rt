@@ -1,6 +1,6 @@
 //! Copies of scalars.
 ghost use Rattle.std.specs.Prelude.{◌≡◌, IfOk};
-ghost use Rattle.lf_scalar.specs.views.Built.{shown};
+ghost use Rattle.lf_scalar.specs.Scalars.{value};
 
 use crate::Scalar;
 use lf_base::Memory;
@@ -8,7 +8,7 @@ use lf_base::Memory;
 impl Scalar {
     /// An equal scalar: the same text, from the same places.
     pub fn copy(&self) -> Result<Scalar, Memory>
-        ensures { IfOk result (λ s. shown s ≡ shown self.now) }
+        ensures { IfOk result (λ s. value s ≡ value self.now) }
     {
         let text = self.text.copy()?;
         let from = self.from.copy()?;

@@ -5,8 +5,8 @@ ghost use Rattle.lf_base.specs.Answers.{AnswersAs, Found, Only, Refused, Breach,
 ghost use Rattle.lf_scalar.specs.Cells.{bytes_of, cells};
 ghost use Rattle.lf_scalar.specs.Lines.{lines_at, first_text};
 ghost use Rattle.lf_scalar.specs.Offsets.{AreOffsets};
-ghost use Rattle.lf_scalar.specs.Scalars.{least_above, begins, source_at, BeginsAt, IsScalarAt, BreaksAt};
-ghost use Rattle.lf_scalar.specs.views.Built.{built as value_of, shown};
+ghost use Rattle.lf_scalar.specs.Scalars.{least_above, begins, source_at, BeginsAt, IsScalarAt, BreaksAt, value};
+ghost use Rattle.lf_scalar.specs.views.Built.{built as value_of};
 ghost use Rattle.lf_scalar.specs.reading.Styles.{reading};
 
 use crate::block::read_block;
@@ -33,10 +33,10 @@ pub fn read_scalar(
     requires text { IsUtf8 bytes.now }
     requires room { length bytes.now ≤ 2 ^ 31 }
     requires begins { BeginsAt bytes.now at style }
-    ensures found { Found shown (IsScalarAt bytes.now at indent style) result }
-    ensures only { Only shown (IsScalarAt bytes.now at indent style) result }
+    ensures found { Found value (IsScalarAt bytes.now at indent style) result }
+    ensures only { Only value (IsScalarAt bytes.now at indent style) result }
     ensures refused { Refused (BreaksAt bytes.now at indent style) result }
-    ensures breach { Breach shown (BreaksAt bytes.now at indent style) result }
+    ensures breach { Breach value (BreaksAt bytes.now at indent style) result }
     ensures refused_inside { RefusedIn (length bytes.now) result }
     ensures offsets { IfOk result (λ s. AreOffsets s.text s.from s.span × (s.span.end ≤ length bytes.now)) }
 {
@@ -55,7 +55,7 @@ fn read_whole(
     requires room { length bytes.now ≤ 2 ^ 31 }
     requires indent { above ≤ 2 ^ 31 }
     requires begins { BeginsAt bytes.now at style }
-    ensures { AnswersAs shown result (reading style above (length bytes.now) (source_at bytes.now at)) }
+    ensures { AnswersAs value result (reading style above (length bytes.now) (source_at bytes.now at)) }
 {
     match read_style(alloc, past(bytes, at as usize), at, above, style) {
         Ok(built) => finish(built),
@@ -97,7 +97,7 @@ fn read_style(
 fn finish(built: RawScalar) -> Result<Scalar, Refusal>
     requires text { IsUtf8 (bytes_of built.builder) }
     requires offsets { AreOffsets (value_of built).text (value_of built).from built.span }
-    ensures { AnswersAs shown result (Ok (value_of built)) }
+    ensures { AnswersAs value result (Ok (value_of built)) }
 {
     let RawScalar { builder, end, span } = built;
     builder.into_scalar(end, span)

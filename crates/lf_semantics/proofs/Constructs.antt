@@ -144,13 +144,13 @@ module _ (u : Listing) (p : IsListing u) where
   shape_combined Greater m left right h k = shape_pairs u p m Greater left right h k
 
   module _ (m : Matching) (known : AllKnown u (modifier_mentions m)) where
-    on_known : AreKnown u (names_at m.on)
+    pub on_known : AreKnown u (names_at m.on)
     on_known = all_front (IsKnown u) (names_mentions (names_at m.on)) _ known
 
-    ignoring_known : AreKnown u (names_at m.ignoring)
+    pub ignoring_known : AreKnown u (names_at m.ignoring)
     ignoring_known = all_front (IsKnown u) (names_mentions (names_at m.ignoring)) _ (all_back (IsKnown u) (names_mentions (names_at m.on)) _ known)
 
-    include_known : AreKnown u m.include
+    pub include_known : AreKnown u m.include
     include_known = all_back (IsKnown u) (names_mentions (names_at m.ignoring)) _ (all_back (IsKnown u) (names_mentions (names_at m.on)) _ known)
 
     module _ (left right : Sets) (W V : Results) (h : HasShape u left) (k : HasShape u right) (sound : IsSound u left W) (sound' : IsSound u right V) where

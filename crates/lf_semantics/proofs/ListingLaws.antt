@@ -8,16 +8,12 @@ use Rattle.lf_ast.specs.Labels.{Bytes}
 use Rattle.lf_ast.specs.Rules.{RuleTree}
 use Rattle.lf_ast.specs.Selectors.{metric}
 use Rattle.lf_semantics.specs.Environments.{CoversRules, IsKnown}
-use Rattle.lf_semantics.specs.Listing.{IsListing, Listing, StandOnce, class_of, first_seen, label_of, labels_mentioned, listing_of, named_at, other_class, place, texts_mentioned, universe_of}
+use Rattle.lf_semantics.specs.Listing.{AreDistinct, IsListing, Listing, StandOnce, class_of, first_seen, label_of, labels_mentioned, listing_of, named_at, other_class, place, texts_mentioned, universe_of}
 use Rattle.lf_semantics.specs.Mentions.{Mention, rule_mentions, rules_mentions}
 use Rattle.lf_semantics.proofs.Members.{all_of, behind, first_or_behind, here, in_filter, in_flat_map, in_map, none_in, of_filter, same_true, true_same}
 use Rattle.lf_semantics.proofs.Places.{at_place}
 
 -- texts in first-seen order
-
-abbrev pub AreDistinct : List Bytes → Type 0
-AreDistinct [] = Unit {0}
-AreDistinct (x ∷ xs) = (Contains xs x → ⊥) × AreDistinct xs
 
 filter_distinct : (test : Bytes → Bool) (xs : List Bytes) → AreDistinct xs → AreDistinct (filter test xs)
 filter_distinct test [] d = tt

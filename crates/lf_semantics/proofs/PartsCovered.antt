@@ -18,7 +18,8 @@ pub rule_covered : (u : Listing) (rules : List RuleTree) → CoversRules u rules
 rule_covered u rules covers r c = all_front (IsKnown u) (mentions r.expr) _ (covers r c)
 
 module _ (u : Listing) where
-  call_operands : (o : Option Signature) (args : Trees) → AllKnown u (call_mentions o (texts_of args) (arguments_mentions args)) → AllKnown u (arguments_mentions args)
+  -- what arguments name is known
+  pub call_operands : (o : Option Signature) (args : Trees) → AllKnown u (call_mentions o (texts_of args) (arguments_mentions args)) → AllKnown u (arguments_mentions args)
   call_operands None args known = known
   call_operands (Some s) args known = operands_known u s.labels (texts_of args) (arguments_mentions args) known
 

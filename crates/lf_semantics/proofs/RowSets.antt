@@ -65,7 +65,7 @@ pub emptied_dead : (row : Sets) → 0 < length row → is_live (emptied row) ≡
 emptied_dead [] h = absurd (omega arith)
 emptied_dead (set ∷ row) h = rw (none_any set) refl
 
-none_at : (set : List Bool) (c : ℕ) → get_or (map (λ on. false) set) c false ≡ false
+pub none_at : (set : List Bool) (c : ℕ) → get_or (map (λ on. false) set) c false ≡ false
 none_at [] c = refl
 none_at (x ∷ set) zero = refl
 none_at (x ∷ set) (suc c) = none_at set c

@@ -1,6 +1,7 @@
 -- Environments: a row for each recorded name. The post-fixed points of the rules, and the least of these.
-use Rattle.std.specs.Prelude.{◌≡◌, ◌≢◌, ◌<◌, ℕ, true, false, cond, List, [], ◌∷◌, map, length, Some, None}
+use Rattle.std.specs.Prelude.{◌≡◌, ◌≢◌, ◌<◌, ◌&&◌, ℕ, Bool, true, false, not, cond, List, [], ◌∷◌, map, length, Some, None}
 use Rattle.std.specs.List.{AllByRecursion, Contains}
+use Rattle.std.specs.Str.{bytes_eq}
 use Rattle.lf_ast.specs.Labels.{Bytes, Labels}
 use Rattle.lf_ast.specs.Rules.{RuleTree}
 use Rattle.lf_ast.specs.Tree.{Tree}
@@ -43,6 +44,10 @@ abbrev pub recorded_row : Listing → Environment → RuleTree → Sets
 recorded_row u env r = with_texts u r.labels (with_text u metric r.name (rule_row u env r))
 
 -- environments
+
+-- the rule records the name
+abbrev pub records : Bytes → RuleTree → Bool
+records name r = not r.alert && bytes_eq r.name name
 
 abbrev pub names_recorded : List RuleTree → List Bytes
 names_recorded [] = []

@@ -70,7 +70,12 @@ label_count u = length u.names
 abbrev pub class_count : Listing → ℕ
 class_count u = sum (class_counts u)
 
--- no text stands twice
+-- no member stands twice: none of a list stands again behind itself
+abbrev pub AreDistinct : {X : Type 0} → List X → Type 0
+AreDistinct [] = Unit {0}
+AreDistinct (x ∷ xs) = (Contains xs x → ⊥) × AreDistinct xs
+
+-- no text stands twice, by the places of the texts
 abbrev pub StandOnce : List Bytes → Type 0
 StandOnce xs = (k l : ℕ) → k < l → l < length xs → slice_index_or xs k [] ≢ slice_index_or xs l []
 

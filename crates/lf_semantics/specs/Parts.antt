@@ -1,5 +1,5 @@
 -- What is read off an expression: its type, which argument is the operand, and the selector that `absent` looks for.
-use Rattle.std.specs.Prelude.{ℕ, zero, suc, Bool, true, false, List, Option, Some, None, is_some, option_and_then, option_map}
+use Rattle.std.specs.Prelude.{ℕ, zero, suc, Bool, true, false, cond, List, [], Option, Some, None, is_some, option_and_then, option_map}
 use Rattle.std.specs.List.{position_or_len}
 use Rattle.lf_ast.specs.Functions.{Signature, function_named}
 use Rattle.lf_ast.specs.Tree.{Tree, Trees, Number, Str as Text, Selector, Subquery, Paren, Unary, Binary, Call, Aggregate, Nil, Next}
@@ -29,6 +29,10 @@ type_by_form (Aggregate op grouping args span) = Vector
 -- the expression is a scalar
 abbrev pub is_scalar_part : Tree → Bool
 is_scalar_part e = is_scalar (type_by_form e)
+
+-- what is found in an expression, but nothing where it is a scalar
+abbrev pub outside_scalars : {X : Type 0} → Tree → List X → List X
+outside_scalars e found = cond (is_scalar_part e) [] found
 
 -- a rule of the type can be evaluated: of a scalar or a vector, and not of a string or a range vector
 abbrev pub is_evaluated : ExprType → Bool

@@ -2,7 +2,7 @@
 use Rattle.std.proofs.Common.{◌≡◌, ◌<◌, inl, inr, ℕ, zero, suc, ◌+◌, Bool, true, false, not, ◌&&◌, ◌||◌, cond, List, [], ◌∷◌, ◌++◌, length, Option, Some, None, refl, sym, ◌∙◌, ap, subst, arith, option_map, codes, length-append}
 use Rattle.std.proofs.lemmas.Bool.{or_right}
 use Rattle.std.proofs.lemmas.Bool.{or_left}
-use Rattle.std.specs.List.{AllByRecursion, Contains, filter}
+use Rattle.std.specs.List.{Contains, filter}
 use Rattle.std.proofs.lemmas.List.Elements.{Contains-append_left, Contains-append_right}
 use Rattle.std.proofs.lemmas.Option.{none-some, same_Some}
 use Rattle.lf_laws.proofs.Booleans.{clash}
@@ -12,7 +12,6 @@ use Rattle.lf_ast.specs.Arguments.{texts_of}
 use Rattle.lf_ast.specs.Labels.{Bytes, Labels}
 use Rattle.lf_ast.specs.Rules.{RuleTree}
 use Rattle.lf_ast.specs.Tree.{Tree, Trees, Number, Str, Selector, Subquery, Paren, Unary, Binary, Call, Aggregate, Nil, Next}
-use Rattle.lf_ast.specs.Types.{names_at}
 use Rattle.lf_ast.specs.declared.expr.Grouping.{Grouping}
 use Rattle.lf_ast.specs.declared.expr.Grouping.TheVariants.{None as Ungrouped}
 use Rattle.lf_ast.specs.declared.expr.Matcher.{Matcher}
@@ -27,14 +26,15 @@ use Rattle.lf_semantics.specs.ClassRows.{HasShape, HoldsText, Sets, bottom, is_l
 use Rattle.lf_semantics.specs.Environments.{Covers, CoversRules, IsEnvironmentOf, IsKnown, IsPostFixedPoint}
 use Rattle.lf_semantics.specs.Grouped.{is_filter}
 use Rattle.lf_semantics.specs.Listing.{IsListing, Listing}
-use Rattle.lf_semantics.specs.Mentions.{Mention, arguments_mentions, call_mentions, effect_mentions, group_names, matchers_mentions, mentions, modifier_mentions, name_mentions, names_mentions, stands_first}
+use Rattle.lf_semantics.specs.Mentions.{arguments_mentions, call_mentions, effect_mentions, group_names, matchers_mentions, mentions, modifier_mentions, name_mentions, names_mentions, stands_first}
 use Rattle.lf_semantics.specs.Parts.{Sought, argument_at, is_scalar_part, operand_place, sought_by, sought_in}
 use Rattle.lf_semantics.specs.RowTable.{Environment, binary_row, call_row, may_be_present, row_at, row_of, selector_row}
 use Rattle.lf_semantics.specs.Worlds.{SetsNoName}
-use Rattle.lf_semantics.proofs.Constructs.{operands_known}
+use Rattle.lf_semantics.proofs.Constructs.{AllKnown, ignoring_known, include_known, on_known, operands_known}
 use Rattle.lf_semantics.proofs.LeqLaws.{bottom_dead}
 use Rattle.lf_semantics.proofs.Members.{all_back, all_front}
 use Rattle.lf_semantics.proofs.Numbered.{AreKnown}
+use Rattle.lf_semantics.proofs.PartsCovered.{call_operands}
 use Rattle.lf_semantics.proofs.RowLaws.{shape_bottom}
 use Rattle.lf_semantics.proofs.Soundness.{grouped_known, shape_of_row}
 use Rattle.lf_semantics.proofs.ScalarCalls.{named_is_bare, selector_is_no_scalar}
@@ -60,9 +60,6 @@ use Rattle.lf_shown.proofs.Reached.{none_unrecorded, row_of_recorded}
 use Rattle.lf_shown.proofs.Reading.{IsArgument, IsPart, argument_part, no_fork, part_forks, part_of, reads_more, same_part}
 use Rattle.lf_shown.proofs.Recorded.{IsUnion, name_class, named_row}
 use Rattle.lf_shown.proofs.Selectors.{NameForks, NameReads, RuleBuilds, raw_recorded, raw_scraped}
-
-abbrev AllKnown : Listing → List Mention → Type 0
-AllKnown u items = AllByRecursion (IsKnown u) items
 
 -- ---- the selector that `absent` looks for is known
 
@@ -91,12 +88,6 @@ module _ (u : Listing) where
   pub first_sought : (args : Trees) → AllKnown u (arguments_mentions args) → SoughtKnown (sought_in args)
   first_sought Nil known = none_known
   first_sought (Next x xs) known = sought_known x (all_front (IsKnown u) (mentions x) (arguments_mentions xs) known)
-
-module _ (u : Listing) where
-  -- what arguments name is known
-  pub call_known_inner : (o : Option Signature) (args : Trees) → AllKnown u (call_mentions o (texts_of args) (arguments_mentions args)) → AllKnown u (arguments_mentions args)
-  call_known_inner None args known = known
-  call_known_inner (Some s) args known = operands_known u s.labels (texts_of args) (arguments_mentions args) known
 
 -- ---- selectors with their matchers
 
@@ -238,12 +229,12 @@ module _ (u : Listing) (rules : List RuleTree) (p : IsListing u) (small : IsSmal
           several : has_several_rules rules n ≡ true → ⊥
           several e = clash _ (more rules e) none
             where
-              some : (xs : List RuleTree) → 0 < length (filter (Rattle.lf_trials.specs.Reached.records n) xs) → is_recorded xs n ≡ true
+              some : (xs : List RuleTree) → 0 < length (filter (Rattle.lf_semantics.specs.Environments.records n) xs) → is_recorded xs n ≡ true
               some [] h = absurd (omega (arith, h))
-              some (x ∷ xs) h = by (Rattle.lf_trials.specs.Reached.records n x) refl h (some xs)
+              some (x ∷ xs) h = by (Rattle.lf_semantics.specs.Environments.records n x) refl h (some xs)
                 where
-                  by : (b : Bool) → Rattle.lf_trials.specs.Reached.records n x ≡ b → 0 < length (cond b (x ∷ filter (Rattle.lf_trials.specs.Reached.records n) xs) (filter (Rattle.lf_trials.specs.Reached.records n) xs))
-                      → (0 < length (filter (Rattle.lf_trials.specs.Reached.records n) xs) → is_recorded xs n ≡ true) → (b || is_recorded xs n) ≡ true
+                  by : (b : Bool) → Rattle.lf_semantics.specs.Environments.records n x ≡ b → 0 < length (cond b (x ∷ filter (Rattle.lf_semantics.specs.Environments.records n) xs) (filter (Rattle.lf_semantics.specs.Environments.records n) xs))
+                      → (0 < length (filter (Rattle.lf_semantics.specs.Environments.records n) xs) → is_recorded xs n ≡ true) → (b || is_recorded xs n) ≡ true
                   by true is h rest = refl
                   by false is h rest = rest h
 
@@ -252,7 +243,7 @@ module _ (u : Listing) (rules : List RuleTree) (p : IsListing u) (small : IsSmal
       never_forks none (inr r) = clash _ (there r.0 r.1 r.2.0 (only r.0.name r.2.1)) none
         where
           there : (r : RuleTree) → Contains rules r → r.alert ≡ false → r.name ≡ n → is_recorded rules n ≡ true
-          there r c recording e = Rattle.lf_laws.proofs.Members.any_has (Rattle.lf_trials.specs.Reached.records n) rules r c (rw (recording, same_true r.name n e) refl)
+          there r c recording e = Rattle.lf_laws.proofs.Members.any_has (Rattle.lf_semantics.specs.Environments.records n) rules r c (rw (recording, same_true r.name n e) refl)
 
           -- nothing but the name is read
           only : (x : Bytes) → Reads rules e x → x ≡ n
@@ -321,20 +312,11 @@ module _ (u : Listing) (rules : List RuleTree) (p : IsListing u) (small : IsSmal
               (Rattle.lf_trials.specs.Operands.build_nameless_if (not (is_filter op m)) br) (holds_fork whole) (can_be_silent right)
           right_alone = raw_beside u rules p small (Reads rules whole) (length (selectors whole)) (row_of u env right) (λ X. StrictlyEvaluates X right) br (holds_fork whole) (can_be_silent right) (operand right whole right_part of_right) (is_filter op m)
 
-          on_known : AreKnown u (names_at m.on)
-          on_known = all_front (IsKnown u) (names_mentions (names_at m.on)) _ known
-
-          ignoring_known : AreKnown u (names_at m.ignoring)
-          ignoring_known = all_front (IsKnown u) (names_mentions (names_at m.ignoring)) _ (all_back (IsKnown u) (names_mentions (names_at m.on)) _ known)
-
-          include_known : AreKnown u m.include
-          include_known = all_back (IsKnown u) (names_mentions (names_at m.ignoring)) _ (all_back (IsKnown u) (names_mentions (names_at m.on)) _ known)
-
           module _ (fit : OperatorIsClosed rules op whole left right) where
             abbrev Fits : Op → Type 0
             Fits o =
                 SidesFit u p rules small (Reads rules left) (Reads rules right) (Reads rules whole) (reads_more rules left whole left_part.selects) (reads_more rules right whole right_part.selects) fit.0 (row_of u env left) (row_of u env right) (length (selectors left)) (length (selectors right))
-                (λ X. StrictlyEvaluates X left) (λ X. StrictlyEvaluates X right) bl br (holds_fork left) (holds_fork right) (can_be_silent left) (can_be_silent right) of_left of_right (holds_fork whole) m on_known ignoring_known include_known o
+                (λ X. StrictlyEvaluates X left) (λ X. StrictlyEvaluates X right) bl br (holds_fork left) (holds_fork right) (can_be_silent left) (can_be_silent right) of_left of_right (holds_fork whole) m (on_known u p m known) (ignoring_known u p m known) (include_known u p m known) o
 
             none_on : HoldsNoFork rules whole → (holds_fork left ≡ false) × (holds_fork right ≡ false)
             none_on none =
@@ -364,7 +346,7 @@ module _ (u : Listing) (rules : List RuleTree) (p : IsListing u) (small : IsSmal
                 raw_less _ (Reads rules whole) (length (selectors left) + length (selectors right)) (length (selectors whole)) _ _ _ _
                 (sym (ap (λ (xs : List (Option Bytes)). length xs) sides_are ∙ length-append (selectors left) (selectors right)))
                 (raw_operator u p rules small (Reads rules left) (Reads rules right) (Reads rules whole) (reads_more rules left whole left_part.selects) (reads_more rules right whole right_part.selects) fit.0 (row_of u env left) (row_of u env right) (length (selectors left)) (length (selectors right))
-                (λ X. StrictlyEvaluates X left) (λ X. StrictlyEvaluates X right) bl br (holds_fork left) (holds_fork right) (can_be_silent left) (can_be_silent right) of_left of_right (holds_fork whole) m on_known ignoring_known include_known op (fits op refl fit.1))
+                (λ X. StrictlyEvaluates X left) (λ X. StrictlyEvaluates X right) bl br (holds_fork left) (holds_fork right) (can_be_silent left) (can_be_silent right) of_left of_right (holds_fork whole) m (on_known u p m known) (ignoring_known u p m known) (include_known u p m known) op (fits op refl fit.1))
 
           raw_binary : UnlessScalar left (UnlessScalar right (OperatorIsClosed rules op whole left right)) → Raw whole
           raw_binary shut = by (is_scalar_part left) refl (is_scalar_part right) refl shut
@@ -464,7 +446,7 @@ module _ (u : Listing) (rules : List RuleTree) (p : IsListing u) (small : IsSmal
           shut.2
       raw (Call name args span) is known shut names =
           let e = Call name args span in
-          let inner = call_known_inner u (function_named name) args known in
+          let inner = call_operands u (function_named name) args known in
           raw_call e is args refl refl refl (function_named name) Ungrouped tt known inner shut.0 names.read shut.1 (arguments e args inner shut.0 (argument_of e is args refl refl refl) names)
       raw (Aggregate op grouping args span) is known shut names =
           let e = Aggregate op grouping args span in

@@ -41,6 +41,7 @@ use Rattle.lf_semantics.proofs.LeqLaws.{bottom_dead, leq_join_left, leq_join_rig
 use Rattle.lf_semantics.proofs.Members.{all_back, all_front}
 use Rattle.lf_semantics.proofs.Places.{label_test, metric_listed}
 use Rattle.lf_semantics.proofs.PairsRepresent.{shape_matched, shape_nameless_if}
+use Rattle.lf_semantics.proofs.PartsCovered.{call_operands}
 use Rattle.lf_semantics.proofs.RowLaws.{in_range, holds-remade, top_holds}
 use Rattle.lf_semantics.proofs.Soundness.{grouped_known, shape_of_row}
 use Rattle.lf_semantics.proofs.ScalarCalls.{IsBareIfScalar, named_is_bare, selector_is_no_scalar}
@@ -388,7 +389,7 @@ module _ (u : Listing) where
             (sub left (selectors_in left) (λ c n. last_in left (all_front (IsKnown u) (mentions left) _ known) c n) (and_left _ _ clean) (names_left (selectors left) (selectors right) names))
             (sub right (selectors_in right) (λ c n. last_in right (all_back (IsKnown u) (modifier_mentions m) (mentions right) (all_back (IsKnown u) (mentions left) _ known)) c n) (and_right _ _ clean) (names_right (selectors left) (selectors right) names))
         last_in (Call name args span) known clean names =
-            let inner = Rattle.lf_shown.proofs.Induction.call_known_inner u (function_named name) args known in
+            let inner = call_operands u (function_named name) args known in
             last_call (function_named name) Ungrouped args inner (and_left _ _ clean) (and_right (call_leaves (function_named name)) _ clean) (last_at args inner (and_right (call_leaves (function_named name)) _ clean) names)
         last_in (Aggregate op grouping args span) known clean names =
             let parts = grouped_known u (stands_first (group_names grouping) args) (names_mentions (group_names grouping)) (effect_mentions (aggregation op).labels (texts_of args) (arguments_mentions args)) known in

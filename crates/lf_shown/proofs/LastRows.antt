@@ -22,7 +22,7 @@ use Rattle.lf_ast.specs.declared.expr.Matcher.{Matcher}
 use Rattle.lf_ast.specs.declared.functions.LabelEffect.{LabelEffect}
 use Rattle.lf_ast.specs.declared.functions.LabelEffect.TheVariants.{Maps, Keeps, Groups, CountValues, Date, Absent, LabelReplace, LabelJoin, HistogramQuantile, Bare}
 use Rattle.lf_semantics.specs.ClassRows.{HoldsText, Sets, holds, indexed_from, is_live, narrowed}
-use Rattle.lf_semantics.specs.Environments.{Covers, CoversRules, IsLeast, recorded_row}
+use Rattle.lf_semantics.specs.Environments.{records, Covers, CoversRules, IsLeast, recorded_row}
 use Rattle.lf_semantics.specs.Listing.{IsListing, Listing, class_of, label_of}
 use Rattle.lf_semantics.specs.Parts.{is_scalar_part, operand_place}
 use Rattle.lf_semantics.specs.RowTable.{Environment, may_be_present, row_named, row_of, set_at}
@@ -31,7 +31,6 @@ use Rattle.lf_semantics.proofs.RowSets.{some_on}
 use Rattle.lf_semantics.proofs.RowsGrow.{recorded_grows}
 use Rattle.lf_deps.specs.Reading.{Reaches, Reads, Selects, selectors}
 use Rattle.lf_trials.specs.Built.{sets_label}
-use Rattle.lf_trials.specs.Reached.{records}
 use Rattle.lf_trials.specs.Selected.{Selected, selected_in, selected_in_arguments, selectors_of}
 use Rattle.lf_trials.proofs.Reachable.{reaches, reaches_is}
 use Rattle.lf_shown.specs.NoneOpen.{ArgumentsAreClosed, CallIsClosed, EffectIsClosed, HasNoneOpen, IsClosed, IsClosedIn, MatchesBucket, NamesBucket}

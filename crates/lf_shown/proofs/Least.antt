@@ -9,7 +9,7 @@ use Rattle.lf_laws.proofs.Members.{any_has, same_true, some_has, true_same}
 use Rattle.lf_ast.specs.Labels.{Bytes}
 use Rattle.lf_ast.specs.Rules.{RuleTree}
 use Rattle.lf_semantics.specs.ClassRows.{HasShape, Sets, holds, is_live, narrowed, remade}
-use Rattle.lf_semantics.specs.Environments.{EnvironmentLeq, IsEnvironment, IsEnvironmentOf, IsLeast, IsPostFixedPoint, IsRow, Leq, recorded_row}
+use Rattle.lf_semantics.specs.Environments.{records, EnvironmentLeq, IsEnvironment, IsEnvironmentOf, IsLeast, IsPostFixedPoint, IsRow, Leq, recorded_row}
 use Rattle.lf_semantics.specs.Listing.{IsListing, Listing, class_of, label_of, other_class}
 use Rattle.lf_ast.specs.Selectors.{metric}
 use Rattle.lf_semantics.specs.RowTable.{Environment, row_named}
@@ -18,7 +18,6 @@ use Rattle.lf_semantics.proofs.NormalizedRows.{normalized_narrowed, recorded_row
 use Rattle.lf_semantics.proofs.RowLaws.{shape_narrowed, shape_remade}
 use Rattle.lf_semantics.proofs.RowsGrow.{OptionUnder, named_leq, recorded_grows}
 use Rattle.lf_deps.specs.Reading.{Records}
-use Rattle.lf_trials.specs.Reached.{records}
 use Rattle.lf_shown.proofs.Rows.{Held, in_remade, narrowed_held, narrowed_passes, narrowed_was_live}
 
 -- a row lies in a narrower one if it lies in the row and each of its classes passes

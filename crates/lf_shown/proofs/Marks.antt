@@ -23,6 +23,7 @@ use Rattle.lf_deps.proofs.Ascending.{in_range}
 use Rattle.lf_trials.specs.Built.{build_by_rule}
 use Rattle.lf_trials.specs.Forks.{TellsForks}
 use Rattle.lf_trials.specs.Reached.{is_marked}
+use Rattle.lf_trials.proofs.Reachable.{shorter}
 use Rattle.lf_shown.specs.NoneOpen.{HasNoneOpen, NamesBucket}
 use Rattle.lf_shown.specs.Silence.{can_be_silent}
 use Rattle.lf_shown.proofs.Choices.{IsSmall}
@@ -31,14 +32,6 @@ use Rattle.lf_shown.proofs.Reached.{none_behind, read_acyclic, some_recorded}
 use Rattle.lf_shown.proofs.Recorded.{IsUnion, answers_name}
 
 -- ---- how many numbers aren't marked
-
-pub most_left : (test : ℕ → Bool) (xs : List ℕ) → length (filter test xs) ≤ length xs
-most_left test [] = omega arith
-most_left test (x ∷ xs) = by (test x) (most_left test xs)
-  where
-    by : (b : Bool) → length (filter test xs) ≤ length xs → length (cond b (x ∷ filter test xs) (filter test xs)) ≤ suc (length xs)
-    by true h = omega (arith, h)
-    by false h = omega (arith, h)
 
 fewer_left : (some less : ℕ → Bool) (xs : List ℕ) → ((k : ℕ) → less k ≡ true → some k ≡ true) → length (filter less xs) ≤ length (filter some xs)
 fewer_left some less [] into = omega arith
@@ -157,5 +150,5 @@ module _ (u : Listing) (rules : List RuleTree) (p : IsListing u) (small : IsSmal
   -- of a rule, which is marked itself
   pub made_of_rule : (i : ℕ) (r : RuleTree) → slice_get rules i ≡ Some r → HasNoneOpen rules r.expr → MadeBy (length rules) (i ∷ []) r.expr
   made_of_rule i r at none =
-      made_by (length rules) (i ∷ []) r.expr (rule_covered u rules covers r (member_at rules i r at)) none (let h = most_left (unmarked (i ∷ [])) (range_with_len 0 (length rules)) in let g = length-range_with_len 0 (length rules) in omega (arith, h, g))
+      made_by (length rules) (i ∷ []) r.expr (rule_covered u rules covers r (member_at rules i r at)) none (let h = shorter (unmarked (i ∷ [])) (range_with_len 0 (length rules)) in let g = length-range_with_len 0 (length rules) in omega (arith, h, g))
       (rule_is_free rules i r at none)

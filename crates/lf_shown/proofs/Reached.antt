@@ -11,15 +11,15 @@ use Rattle.lf_ast.specs.Labels.{Bytes}
 use Rattle.lf_ast.specs.Rules.{RuleTree}
 use Rattle.lf_ast.specs.Tree.{Tree, Trees, Number, Str, Selector, Subquery, Paren, Unary, Binary, Call, Aggregate, Nil, Next}
 use Rattle.lf_semantics.specs.ClassRows.{Sets}
-use Rattle.lf_semantics.specs.Environments.{IsEnvironmentOf, names_recorded}
+use Rattle.lf_semantics.specs.Environments.{records, IsEnvironmentOf, names_recorded}
 use Rattle.lf_semantics.specs.Listing.{Listing}
-use Rattle.lf_semantics.specs.Parts.{is_scalar_part}
+use Rattle.lf_semantics.specs.Parts.{is_scalar_part, outside_scalars}
 use Rattle.lf_semantics.specs.RowTable.{Environment, row_named}
 use Rattle.lf_semantics.proofs.ListingLaws.{in_first_seen, of_first_seen}
 use Rattle.lf_semantics.proofs.SamplesRepresented.{none_named}
 use Rattle.lf_semantics.proofs.Recorded.{recorded, recorder}
-use Rattle.lf_deps.specs.Reading.{IsCyclic, Reaches, Reads, Records, arguments_selectors, outside_scalars, selectors, selectors_in}
-use Rattle.lf_trials.specs.Reached.{is_recorded, records}
+use Rattle.lf_deps.specs.Reading.{IsCyclic, Reaches, Reads, Records, arguments_selectors, selectors, selectors_in}
+use Rattle.lf_trials.specs.Reached.{is_recorded}
 use Rattle.lf_shown.specs.NoneOpen.{ArgumentsAreClosed, HasNoneOpen, IsClosed, IsClosedIn}
 
 -- ---- each selector says a name that isn't read in its own making

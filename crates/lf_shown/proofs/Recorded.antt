@@ -18,7 +18,7 @@ use Rattle.lf_ast.specs.Selectors.{metric}
 use Rattle.lf_ast.specs.Tree.{Tree}
 use Rattle.lf_ast.specs.declared.rule.RuleLabel.{RuleLabel}
 use Rattle.lf_semantics.specs.ClassRows.{HasShape, HoldsText, Represents, Sets, bottom, is_live}
-use Rattle.lf_semantics.specs.Environments.{CoversRules, IsEnvironmentOf, IsKnown, IsPostFixedPoint, IsRow, recorded_row, rule_row, with_text, with_texts}
+use Rattle.lf_semantics.specs.Environments.{records, CoversRules, IsEnvironmentOf, IsKnown, IsPostFixedPoint, IsRow, recorded_row, rule_row, with_text, with_texts}
 use Rattle.lf_semantics.specs.Grouped.{is_metric}
 use Rattle.lf_semantics.specs.Listing.{IsListing, Listing, class_of, label_of, other_class}
 use Rattle.lf_semantics.specs.Mentions.{mention, mentions}
@@ -41,7 +41,7 @@ use Rattle.lf_trials.specs.Built.{before_recording, build, build_by_rule, builde
 use Rattle.lf_trials.specs.Candidates.{is_one_of, labels_in}
 use Rattle.lf_trials.specs.Forks.{TellsForks}
 use Rattle.lf_trials.specs.Given.{Given, holds_texts, losing}
-use Rattle.lf_trials.specs.Reached.{first_rule, has_several_rules, is_marked, listed, records, rules_at}
+use Rattle.lf_trials.specs.Reached.{first_rule, has_several_rules, is_marked, listed, rules_at}
 use Rattle.lf_shown.specs.Agreement.{AgreeOn, Gives, Names}
 use Rattle.lf_shown.proofs.Rows.{Held, replaced_held, replaced_passes, replaced_was_live}
 use Rattle.lf_shown.proofs.Choices.{AtMostOne, Gave, HoldsGiven, In, IsSmall, few_lost, holds_by_test, of_losing, test_by_holds}

@@ -27,7 +27,7 @@ use Rattle.lf_ast.specs.declared.expr.Op.TheVariants.{Add, Subtract, Multiply, D
 use Rattle.lf_ast.specs.declared.functions.LabelEffect.{LabelEffect}
 use Rattle.lf_ast.specs.declared.functions.LabelEffect.TheVariants.{Maps, Keeps, Groups, CountValues, Date, Absent, LabelReplace, LabelJoin, HistogramQuantile, Bare}
 use Rattle.lf_semantics.specs.Grouped.{is_metric}
-use Rattle.lf_semantics.specs.Parts.{is_scalar_part, operand_place}
+use Rattle.lf_semantics.specs.Parts.{is_scalar_part, operand_place, outside_scalars}
 use Rattle.lf_semantics.specs.Passing.{is_plain}
 use Rattle.lf_semantics.specs.PatternBreaches.{takes_pattern}
 use Rattle.lf_semantics.proofs.Members.{all_of}
@@ -38,7 +38,7 @@ use Rattle.lf_trials.specs.Selected.{Selected, selected_in, selected_in_argument
 use Rattle.lf_open.specs.Constructs.{IsOpenAt}
 use Rattle.lf_open.specs.Holding.{CannotBeSilent, NamesLe, has_own_le, has_own_source, is_source, matches_le}
 use Rattle.lf_open.specs.OpenList.{IsSettled}
-use Rattle.lf_open.specs.Standing.{arguments_standing, standing, standing_in, unless_scalar}
+use Rattle.lf_open.specs.Standing.{arguments_standing, standing, standing_in}
 use Rattle.lf_open.specs.declared.construct.Construct.{Construct}
 use Rattle.lf_open.specs.declared.construct.Construct.TheVariants.{SharedMetric, UnnamedSelector, ComplexPattern, MadeLabel, Forked, LoudUnless, CyclicName, NamedBucket, OpenAbsent}
 use Rattle.lf_open.proofs.Settled.{settled}
@@ -116,8 +116,8 @@ mutual
   le_in (Paren of span) s c is = le_sub of s (λ d. le_in of s d is) c
   le_in (Unary minus of span) s c is = le_sub of s (λ d. le_in of s d is) c
   le_in (Binary op m left right span) s c is = elim (Contains-append_cases (selectors_of left) (selectors_of right) s c) [
-    | inl d ↦ any_front (unless_scalar left (standing_in left)) (unless_scalar right (standing_in right)) (le_sub left s (λ d. le_in left s d is) d)
-    | inr d ↦ any_back (unless_scalar left (standing_in left)) (unless_scalar right (standing_in right)) (le_sub right s (λ d. le_in right s d is) d)
+    | inl d ↦ any_front (outside_scalars left (standing_in left)) (outside_scalars right (standing_in right)) (le_sub left s (λ d. le_in left s d is) d)
+    | inr d ↦ any_back (outside_scalars left (standing_in left)) (outside_scalars right (standing_in right)) (le_sub right s (λ d. le_in right s d is) d)
   ]
   le_in (Call name args span) s c is = le_arguments args s c is
   le_in (Aggregate op grouping args span) s c is = le_arguments args s c is
@@ -125,8 +125,8 @@ mutual
   le_arguments : (args : Trees) (s : Selected) → Contains (selected_in_arguments args) s → list_any (λ (m : Matcher). bytes_eq m.label (codes "le")) s.matchers ≡ true → list_any matches_le (arguments_standing args) ≡ true
   le_arguments Nil s c is = absurd (none_in s c)
   le_arguments (Next x xs) s c is = elim (Contains-append_cases (selectors_of x) (selected_in_arguments xs) s c) [
-    | inl d ↦ any_front (unless_scalar x (standing_in x)) (arguments_standing xs) (le_sub x s (λ d. le_in x s d is) d)
-    | inr d ↦ any_back (unless_scalar x (standing_in x)) (arguments_standing xs) (le_arguments xs s d is)
+    | inl d ↦ any_front (outside_scalars x (standing_in x)) (arguments_standing xs) (le_sub x s (λ d. le_in x s d is) d)
+    | inr d ↦ any_back (outside_scalars x (standing_in x)) (arguments_standing xs) (le_arguments xs s d is)
   ]
 
 own_le : (e : Tree) → MatchesBucket e → has_own_le e ≡ true
@@ -324,7 +324,7 @@ module _ (rules : List RuleTree) where
   arguments_silent : (args : Trees) → ((x : Tree) → Contains (list args) x → CannotBeSilent rules x → ⊥) → list_any is_source (arguments_standing args) ≡ false
   arguments_silent Nil none = refl
   arguments_silent (Next x xs) none =
-      none_both (unless_scalar x (standing_in x)) (arguments_standing xs) (false_from_ne_true (has_own_source x) (λ e. none x (here x (list xs)) (inl e))) (arguments_silent xs (λ y c. none y (behind x (list xs) y c)))
+      none_both (outside_scalars x (standing_in x)) (arguments_standing xs) (false_from_ne_true (has_own_source x) (λ e. none x (here x (list xs)) (inl e))) (arguments_silent xs (λ y c. none y (behind x (list xs) y c)))
     where
       none_both : (ys zs : List Tree) → list_any is_source ys ≡ false → list_any is_source zs ≡ false → list_any is_source (ys ++ zs) ≡ false
       none_both [] zs e f = f
@@ -374,7 +374,7 @@ module _ (rules : List RuleTree) where
 
   -- ---- each expression
 
-  sub : (x : Tree) → (AreShut (standing_in x) → IsClosedIn rules x) → AreShut (unless_scalar x (standing_in x)) → IsClosed rules x
+  sub : (x : Tree) → (AreShut (standing_in x) → IsClosedIn rules x) → AreShut (outside_scalars x (standing_in x)) → IsClosed rules x
   sub x each shut = by (is_scalar_part x) refl shut
     where
       by : (b : Bool) → is_scalar_part x ≡ b → AreShut (cond b [] (standing_in x)) → IsClosed rules x
@@ -395,15 +395,15 @@ module _ (rules : List RuleTree) where
     closed_in (Number text span) t typed shut = tt
     closed_in (Str text span) t typed shut = tt
     closed_in (Selector name matchers sight span) t typed shut = closed_selector name matchers sight span (shut (Selector name matchers sight span) (here (Selector name matchers sight span) []))
-    closed_in (Subquery of sight span) t typed shut = sub of (λ s. closed_in of Vector typed.0 s) (shut_later (Subquery of sight span) (unless_scalar of (standing_in of)) shut)
-    closed_in (Paren of span) t typed shut = sub of (λ s. closed_in of t typed s) (shut_later (Paren of span) (unless_scalar of (standing_in of)) shut)
-    closed_in (Unary minus of span) t typed shut = sub of (λ s. closed_in of t typed.0 s) (shut_later (Unary minus of span) (unless_scalar of (standing_in of)) shut)
+    closed_in (Subquery of sight span) t typed shut = sub of (λ s. closed_in of Vector typed.0 s) (shut_later (Subquery of sight span) (outside_scalars of (standing_in of)) shut)
+    closed_in (Paren of span) t typed shut = sub of (λ s. closed_in of t typed s) (shut_later (Paren of span) (outside_scalars of (standing_in of)) shut)
+    closed_in (Unary minus of span) t typed shut = sub of (λ s. closed_in of t typed.0 s) (shut_later (Unary minus of span) (outside_scalars of (standing_in of)) shut)
     closed_in (Binary op m left right span) t (l, r, tl, tr, kl, kr, placed, fit, is) shut =
         let e = Binary op m left right span in
-        let inner = shut_later e (unless_scalar left (standing_in left) ++ unless_scalar right (standing_in right)) shut in
-        let own = shut e (here e (unless_scalar left (standing_in left) ++ unless_scalar right (standing_in right))) in (
-          sub left (λ s. closed_in left l tl s) (shut_front (unless_scalar left (standing_in left)) (unless_scalar right (standing_in right)) inner),
-          sub right (λ s. closed_in right r tr s) (shut_back (unless_scalar left (standing_in left)) (unless_scalar right (standing_in right)) inner),
+        let inner = shut_later e (outside_scalars left (standing_in left) ++ outside_scalars right (standing_in right)) shut in
+        let own = shut e (here e (outside_scalars left (standing_in left) ++ outside_scalars right (standing_in right))) in (
+          sub left (λ s. closed_in left l tl s) (shut_front (outside_scalars left (standing_in left)) (outside_scalars right (standing_in right)) inner),
+          sub right (λ s. closed_in right r tr s) (shut_back (outside_scalars left (standing_in left)) (outside_scalars right (standing_in right)) inner),
           both_vectors op m left right span own l tl kl r tr kr,
         )
     closed_in (Call name args span) t (s, is, (counted, fit, gives)) shut =
@@ -420,8 +420,8 @@ module _ (rules : List RuleTree) where
     closed_arguments : (args : Trees) (s : Signature) (k : ℕ) → Fit args s k → AreShut (arguments_standing args) → ArgumentsAreClosed rules args
     closed_arguments Nil s k fit shut = tt
     closed_arguments (Next x xs) s k ((t, wanted, typed, named), later) shut = (
-      sub x (λ h. closed_in x t typed h) (shut_front (unless_scalar x (standing_in x)) (arguments_standing xs) shut),
-      closed_arguments xs s (k + 1) later (shut_back (unless_scalar x (standing_in x)) (arguments_standing xs) shut),
+      sub x (λ h. closed_in x t typed h) (shut_front (outside_scalars x (standing_in x)) (arguments_standing xs) shut),
+      closed_arguments xs s (k + 1) later (shut_back (outside_scalars x (standing_in x)) (arguments_standing xs) shut),
     )
 
   -- each rule has a type

@@ -18,7 +18,7 @@ use Rattle.lf_ast.specs.Tree.{Tree}
 use Rattle.lf_semantics.specs.ClassRows.{HoldsText, bottom, is_live}
 use Rattle.lf_semantics.specs.Environments.{Covers, CoversRules, IsLeast, rule_row}
 use Rattle.lf_semantics.specs.Laws.{SetNoNames}
-use Rattle.lf_semantics.specs.Listing.{IsListing, Listing, label_of}
+use Rattle.lf_semantics.specs.Listing.{AreDistinct, IsListing, Listing, label_of}
 use Rattle.lf_semantics.specs.Parts.{is_evaluated, type_by_form}
 use Rattle.lf_semantics.specs.RowTable.{Environment, row_of}
 use Rattle.lf_semantics.specs.Texts.{value_of}
@@ -31,7 +31,7 @@ use Rattle.lf_witness.proofs.OneSample.{same_texts}
 use Rattle.lf_witness.proofs.SameResults.{run_same}
 use Rattle.lf_deps.specs.Reading.{Reads, selectors}
 use Rattle.lf_trials.specs.Building.{Building, each_once}
-use Rattle.lf_trials.specs.Built.{build, build_by_rule, builder, selector_count, start_text}
+use Rattle.lf_trials.specs.Built.{build, build_by_rule, builder, built_trial, selector_count, start_text}
 use Rattle.lf_trials.specs.Candidates.{candidates_in, has_presence, in_row, labels_in}
 use Rattle.lf_trials.specs.Forks.{HoldsFork, TellsForks}
 use Rattle.lf_trials.specs.Given.{Given, giving, label_set, nothing_given}
@@ -39,10 +39,10 @@ use Rattle.lf_trials.specs.Reached.{Trial, rules_at, with_reach}
 use Rattle.lf_trials.specs.Trials.{Shown, ShowsBuilt}
 use Rattle.lf_trials.specs.Verdicts.{leaves}
 use Rattle.lf_trials.proofs.BuiltSeries.{once_there}
-use Rattle.lf_trials.proofs.Reachable.{fork_test, is_reach_of, reach_of, tells_forks}
+use Rattle.lf_trials.proofs.Reachable.{fork_test, is_reach_of, reach_of, shorter, tells_forks}
 use Rattle.lf_trials.proofs.ShownInWorlds.{found_in}
 use Rattle.lf_trials.proofs.MadeSeries.{full_set}
-use Rattle.lf_shown.specs.Agreement.{AgreeOn, Gives, StandOnce}
+use Rattle.lf_shown.specs.Agreement.{AgreeOn, Gives}
 use Rattle.lf_shown.specs.Alone.{GivesAlone, ReadsUnmarked}
 use Rattle.lf_shown.specs.Laws.{GivesEachAlone, ResolvesEach, ShowsAllLeft}
 use Rattle.lf_shown.specs.NoneOpen.{HasNoneOpen}
@@ -50,7 +50,7 @@ use Rattle.lf_shown.proofs.Choices.{Gave, HoldsGiven, In, IsSmall, IsTotal, hold
 use Rattle.lf_shown.proofs.LastRows.{last_is}
 use Rattle.lf_shown.proofs.Least.{is_union}
 use Rattle.lf_shown.proofs.Made.{Answers}
-use Rattle.lf_shown.proofs.Marks.{most_left, made_by, made_of_rule}
+use Rattle.lf_shown.proofs.Marks.{made_by, made_of_rule}
 use Rattle.lf_shown.proofs.Reached.{read_acyclic}
 use Rattle.lf_shown.proofs.Reading.{no_fork}
 use Rattle.lf_shown.proofs.Texts.{of_candidates, set_has, set_lacks}
@@ -85,7 +85,7 @@ module _ (rules : List RuleTree) where
   ]
 
   -- numbers that stand once have no more selectors than a list that has them all
-  count_most : (ks js : List ℕ) → StandOnce ks → ((k : ℕ) → Contains ks k → Contains js k) → selector_count rules ks ≤ selector_count rules js
+  count_most : (ks js : List ℕ) → AreDistinct ks → ((k : ℕ) → Contains ks k → Contains js k) → selector_count rules ks ≤ selector_count rules js
   count_most [] js once within = omega arith
   count_most (k ∷ ks) js once within =
       let at = split_at js k (within k (here k ks)) in
@@ -160,7 +160,7 @@ module _ (u : Listing) (p : IsListing u) (small : IsSmall u) (rules : List RuleT
       where
         room : (marked : List ℕ) → length (filter (λ k. not (Rattle.lf_trials.specs.Reached.is_marked marked k)) (Rattle.std.specs.List.range_with_len 0 (length rules))) ≤ length rules
         room marked =
-            let h = most_left (λ k. not (Rattle.lf_trials.specs.Reached.is_marked marked k)) (Rattle.std.specs.List.range_with_len 0 (length rules)) in
+            let h = shorter (λ (k : ℕ). not (Rattle.lf_trials.specs.Reached.is_marked marked k)) (Rattle.std.specs.List.range_with_len 0 (length rules)) in
             let g = Rattle.std.proofs.lemmas.List.FromFn.length-range_with_len 0 (length rules) in
             omega (arith, h, g)
 
@@ -250,7 +250,7 @@ module _ (u : Listing) (p : IsListing u) (small : IsSmall u) (rules : List RuleT
             let a = answers in
             let alone = gives_alone r.expr (length (selectors r.expr)) a.building a.one a.gives in
             let value : value_of a.one label ≡ text = a.agrees label text listed given in
-            let trial : Trial = record { series = each_once a.building.series; steps = a.building.steps } in (
+            let trial : Trial = built_trial a.building in (
               record { trial = trial; sample = a.one },
               (
                 record {

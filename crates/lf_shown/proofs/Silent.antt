@@ -23,11 +23,11 @@ use Rattle.lf_ast.specs.declared.functions.LabelEffect.{LabelEffect}
 use Rattle.lf_ast.specs.declared.functions.LabelEffect.TheVariants.{Maps, Keeps, Groups, CountValues, Date, Absent, LabelReplace, LabelJoin, HistogramQuantile, Bare}
 use Rattle.lf_ast.specs.declared.operands.Operands.{Operands}
 use Rattle.lf_ast.specs.declared.operands.Operands.TheVariants.{Vectors, Numbers}
-use Rattle.lf_semantics.specs.Parts.{is_scalar_part, operand_place, takes_samples}
+use Rattle.lf_semantics.specs.Parts.{is_scalar_part, operand_place, outside_scalars, takes_samples}
 use Rattle.lf_semantics.proofs.TypeForms.{type_is_form}
 use Rattle.lf_semantics.proofs.ScalarCalls.{found_passes}
 use Rattle.lf_open.specs.Holding.{gives_by_itself, has_no_argument, is_source}
-use Rattle.lf_open.specs.Standing.{arguments_standing, standing_in, unless_scalar}
+use Rattle.lf_open.specs.Standing.{arguments_standing, standing_in}
 use Rattle.lf_shown.specs.Silence.{argument_can_be_silent, can_be_silent, effect_can_be_silent}
 
 -- ---- lists in which nothing passes
@@ -121,7 +121,7 @@ less_by_test a b e = grind (arith, nat_tests)
 
 -- ---- what is no source
 
-no_sub : (x : Tree) → is_scalar_part x ≡ false → list_any is_source (unless_scalar x (standing_in x)) ≡ false → list_any is_source (standing_in x) ≡ false
+no_sub : (x : Tree) → is_scalar_part x ≡ false → list_any is_source (outside_scalars x (standing_in x)) ≡ false → list_any is_source (standing_in x) ≡ false
 no_sub x is e = sym (ap (λ b. list_any is_source (cond b [] (standing_in x))) is) ∙ e
 
 -- the operand is there: of a call that is no source itself
@@ -239,7 +239,7 @@ mutual
   silent_by_type (Unary minus of span) t typed sampled none =
       silent_by_type of t typed.0 sampled (no_sub of (scalar_by_type of t typed.0 ∙ sampled_is_no_scalar t sampled) none)
   silent_by_type (Binary op m left right span) t (l, r, tl, tr, takes_l, takes_r, placed, fit, is) sampled none =
-      let parts = none_append is_source (unless_scalar left (standing_in left)) (unless_scalar right (standing_in right)) none in
+      let parts = none_append is_source (outside_scalars left (standing_in left)) (outside_scalars right (standing_in right)) none in
       both_sides left right op l r (scalar_by_type left l tl) (scalar_by_type right r tr) takes_l takes_r (sym (ap is_scalar is) ∙ sampled_is_no_scalar t sampled)
       (λ s e. silent_by_type left l tl s (no_sub left e parts.0)) (λ s e. silent_by_type right r tr s (no_sub right e parts.1))
   silent_by_type (Call name args span) t (s, is, (counted, fit, gives)) sampled none =
@@ -264,11 +264,11 @@ mutual
   pub silent_argument : (args : Trees) (s : Signature) (k j : ℕ) → Fit args s j → k < count args → PlaceSampled s (j + k) → list_any is_source (arguments_standing args) ≡ false → argument_can_be_silent args k ≡ true
   silent_argument Nil s k j fit there sampled none = absurd (omega (arith, there))
   silent_argument (Next x xs) s zero j ((t, is, typed, named), later) there sampled none =
-      let parts = none_append is_source (unless_scalar x (standing_in x)) (arguments_standing xs) none in
+      let parts = none_append is_source (outside_scalars x (standing_in x)) (arguments_standing xs) none in
       let sample : takes_samples t ≡ true = wanted_sampled s j t is (subst (PlaceSampled s) (let q : j + 0 ≡ j = omega arith in q) sampled) in
       silent_by_type x t typed sample (no_sub x (scalar_by_type x t typed ∙ sampled_is_no_scalar t sample) parts.0)
   silent_argument (Next x xs) s (suc k) j (first, later) there sampled none =
-      let parts = none_append is_source (unless_scalar x (standing_in x)) (arguments_standing xs) none in
+      let parts = none_append is_source (outside_scalars x (standing_in x)) (arguments_standing xs) none in
       silent_argument xs s k (j + 1) later (omega (arith, there)) (subst (PlaceSampled s) (let q : j + suc k ≡ j + 1 + k = omega arith in q) sampled) parts.1
 
 -- the operand of a call that needs one, and isn't of dates, is silent where no argument holds a call that gives a sample by itself

@@ -8,6 +8,7 @@ use Rattle.lf_laws.proofs.Members.{behind, here}
 use Rattle.lf_ast.specs.Labels.{Bytes, Labels}
 use Rattle.lf_ast.specs.Rules.{RuleTree}
 use Rattle.lf_ast.specs.Selectors.{metric}
+use Rattle.lf_semantics.specs.Listing.{AreDistinct}
 use Rattle.lf_semantics.specs.Texts.{value_of}
 use Rattle.lf_deps.specs.Reading.{selectors}
 use Rattle.lf_witness.specs.Strict.{Outcomes}
@@ -17,7 +18,7 @@ use Rattle.lf_witness.proofs.Answers.{stored_into}
 use Rattle.lf_trials.specs.Building.{Building, both}
 use Rattle.lf_trials.specs.Built.{selector_count}
 use Rattle.lf_trials.specs.Reached.{listed, rules_at}
-use Rattle.lf_shown.specs.Agreement.{AgreeOn, Extends, Gives, Names, StandOnce}
+use Rattle.lf_shown.specs.Agreement.{AgreeOn, Extends, Gives, Names}
 
 -- ---- stored samples
 
@@ -37,7 +38,7 @@ count_both rules ks js =
     ∙ ap sum (Rattle.std.proofs.lemmas.List.map-append (λ r. length (selectors r.expr)) (rules_at rules ks) (rules_at rules js))
     ∙ sum_by-append (λ n. n) (map (λ r. length (selectors r.expr)) (rules_at rules ks)) (map (λ r. length (selectors r.expr)) (rules_at rules js))
 
-pub once_both : (ks js : List ℕ) → StandOnce ks → StandOnce js → ((k : ℕ) → Contains ks k → Contains js k → ⊥) → StandOnce (ks ++ js)
+pub once_both : (ks js : List ℕ) → AreDistinct ks → AreDistinct js → ((k : ℕ) → Contains ks k → Contains js k → ⊥) → AreDistinct (ks ++ js)
 once_both [] js a b apart = b
 once_both (k ∷ ks) js a b apart = (
   λ c. elim (Contains-append_cases ks js k c) [ inl d ↦ a.0 d | inr d ↦ apart k (here k ks) d ],

@@ -1,9 +1,8 @@
 //! The stored samples, by their metric names.
-ghost use Rattle.std.specs.Prelude.{◌≡◌, ◌++◌, ◌∷◌, [], IfOk, IfSome, OnOk, Some, true};
-ghost use Rattle.std.specs.List.{Contains};
+ghost use Rattle.std.specs.Prelude.{◌≡◌, ◌++◌, ◌∷◌, [], IfOk, IfSome, OnOk, Some};
 ghost use Rattle.lf_ast.specs.Labels.{Labels};
 ghost use Rattle.lf_ast.specs.Selectors.{metric};
-ghost use Rattle.lf_semantics.specs.Passing.{HasName, Passes, PassesEach};
+ghost use Rattle.lf_semantics.specs.Passing.{HasName, PassesEach};
 ghost use Rattle.lf_semantics.specs.Texts.{value_of};
 ghost use Rattle.lf_witness.specs.Ascending.{IsAscending};
 ghost use Rattle.lf_witness.specs.Strict.{AreSame, AreSelected, IsSet};
@@ -12,7 +11,7 @@ ghost use Rattle.lf_witness.specs.StrictRuns.{InOrder};
 use crate::apart::together;
 use crate::sample_set::SampleSet;
 use crate::selecting::{select, text_of};
-use lf_ast::{LabelSet, MatchOp, Matcher};
+use lf_ast::{LabelSet, Matcher, selected_name};
 use lf_base::{Memory, Seq, Text};
 use std::alloc::Global;
 use std::collections::BTreeMap;
@@ -146,31 +145,5 @@ impl Store {
 fn sought_name<'a>(name: &'a Option<Text>, matchers: &'a [Matcher]) -> Option<&'a Text>
     ensures { IfSome result (λ sought. (s : Labels) → HasName name.entry.now s → PassesEach matchers.entry.now s → value_of s metric ≡ sought.now) }
 {
-    match name {
-        Some(name) => Some(name),
-        None => sought_by(matchers),
-    }
-}
-
-/// The metric name that the first matcher `=` on it says, if there is one.
-fn sought_by(matchers: &[Matcher]) -> Option<&Text>
-    ensures { IfSome result (λ sought. (s : Labels) → PassesEach matchers.entry.now s → value_of s metric ≡ sought.now) }
-{
-    for k in 0..matchers.len() {
-        let matcher = &matchers[k];
-        if says_name(matcher) {
-            return Some(&matcher.value);
-        }
-    }
-    None
-}
-
-/// Whether a matcher is `=` on the metric name.
-fn says_name(matcher: &Matcher) -> bool
-    ensures { result ≡ true → (s : Labels) → Passes matcher.now.op matcher.now.value (value_of s matcher.now.label) → value_of s metric ≡ matcher.now.value }
-{
-    match matcher.op {
-        MatchOp::Equal => matcher.label.as_str() == "__name__",
-        MatchOp::NotEqual | MatchOp::Matches | MatchOp::NotMatches => false,
-    }
+    selected_name(name, matchers)
 }

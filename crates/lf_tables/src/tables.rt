@@ -9,7 +9,7 @@ use crate::reads::{write_cycles, write_order, write_pairs, write_reaches};
 use crate::totals::write_totals;
 use lf_ast::Rule;
 use lf_base::{Memory, Seq};
-use lf_classes::{ClassError, TextSet, Universe};
+use lf_classes::{ClassError, TextSet, Universe, recorded_names};
 use lf_fix::solve;
 use std::alloc::Global;
 
@@ -24,17 +24,6 @@ pub fn tables_of(alloc: Global, rules: &Seq<Rule>) -> Result<String, ClassError>
     write_least(alloc, &mut out, &universe, rules, &names)?;
     write_reads(alloc, &mut out, rules, &names)?;
     Ok(out)
-}
-
-/// The recorded names, each once, in the order in which they come first.
-pub fn recorded_names(alloc: Global, rules: &[Rule]) -> Result<TextSet, Memory> {
-    let mut names = TextSet::new(alloc);
-    for rule in rules {
-        if !rule.alert {
-            let _place = names.add(alloc, rule.name.as_str())?;
-        }
-    }
-    Ok(names)
 }
 
 /// Writes the least environment over the universe of the rules.

@@ -1,12 +1,11 @@
 //! How long it takes to tell what rules read.
 ghost use Rattle.std.specs.Prelude.{◌<◌, ◌^◌, length};
 
-use crate::tables::recorded_names;
 use crate::totals::{Totals, totals_of};
 use anyhow::{Result, bail};
 use lf_ast::Rule;
 use lf_base::{Memory, Seq};
-use lf_classes::TextSet;
+use lf_classes::{TextSet, recorded_names};
 use lf_deps::order;
 use std::alloc::Global;
 use std::rt::CpuClock;

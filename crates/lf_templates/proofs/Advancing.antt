@@ -4,7 +4,7 @@ use Rattle.std.specs.Prelude.{reverse}
 use Rattle.std.proofs.lemmas.List.{drop-drop}
 use Rattle.lf_base.specs.declared.refusal.Refusal.{Refusal}
 use Rattle.lf_base.specs.declared.refusal.Refusal.TheVariants.{At, Memory}
-use Rattle.lf_templates.specs.declared.token.Place.TheVariants as places
+use Rattle.lf_templates.specs.declared.token.TokenContext.TheVariants as places
 use Rattle.lf_templates.specs.declared.token.Lexeme.{Lexeme}
 use Rattle.lf_templates.specs.declared.reference.Reference.{Reference}
 use Rattle.lf_templates.specs.declared.state.State.{State}

@@ -8,12 +8,13 @@ use Rattle.std.proofs.lemmas.Bool.Decides.{nat_tests}
 use Rattle.std.proofs.lemmas.List.{drop-drop}
 use Rattle.lf_templates.specs.declared.token.Token.{Token}
 use Rattle.lf_templates.specs.declared.token.Token.TheVariants as tokens
-use Rattle.lf_templates.specs.declared.token.Place.{Place}
+use Rattle.lf_templates.specs.declared.token.TokenContext.{TokenContext}
 use Rattle.lf_templates.specs.declared.token.Lexeme.{Lexeme}
 use Rattle.lf_templates.specs.declared.token.Beginning.{Beginning}
 use Rattle.lf_templates.specs.declared.token.Beginning.TheVariants as begins
 use Rattle.lf_base.specs.Names.{is_letter, begins_label, is_digit, is_in_label}
-use Rattle.lf_templates.specs.Bytes.{beginning, sign_begins, alone, Each}
+use Rattle.lf_base.specs.Rows.{Each}
+use Rattle.lf_templates.specs.Bytes.{beginning, sign_begins, alone}
 use Rattle.lf_templates.specs.Tokens.{IsName, IsToken, one_byte, in_quotes, in_back_quotes, a_word, a_variable, a_field, a_number, declares, a_colon, a_comment, a_slash, a_minus, is_trim, closes, behind}
 use Rattle.lf_templates.specs.Actions.{is_field}
 use Rattle.lf_templates.specs.reading.Templates.{front, lexed, total, Named}
@@ -24,13 +25,13 @@ drop_none : {X : Type 0} (n : ℕ) → drop {A = X} n [] ≡ []
 drop_none zero = refl
 drop_none (suc n) = refl
 
-pub lexed_skip : (place : Place) (n : ℕ) (src : List ℕ) → lexed place n src ≡ lexed place 0 (drop n src)
+pub lexed_skip : (place : TokenContext) (n : ℕ) (src : List ℕ) → lexed place n src ≡ lexed place 0 (drop n src)
 unfolding lexed
 lexed_skip place zero src = refl
 lexed_skip place (suc n) [] = refl
 lexed_skip place (suc n) (b ∷ src) = lexed_skip place n src
 
-pub front_some : (place : Place) (src : List ℕ) (l : Lexeme) → front place src ≡ Some l → (0 < l.len) × (l.len ≤ length src)
+pub front_some : (place : TokenContext) (src : List ℕ) (l : Lexeme) → front place src ≡ Some l → (0 < l.len) × (l.len ≤ length src)
 front_some place src l e =
     let s = front_stands place src l e in
     let k = s.len in
@@ -43,7 +44,7 @@ front_some place src l e =
 abbrev pub with_token : Lexeme → Option (List Lexeme) → Option (List Lexeme)
 with_token l o = option_map (λ ls. l ∷ ls) o
 
-pub lexed_step : (place : Place) (src : List ℕ) (l : Lexeme) → closes src ≡ false → front place src ≡ Some l → lexed place 0 src ≡ with_token l (lexed (behind place l.token) 0 (drop l.len src))
+pub lexed_step : (place : TokenContext) (src : List ℕ) (l : Lexeme) → closes src ≡ false → front place src ≡ Some l → lexed place 0 src ≡ with_token l (lexed (behind place l.token) 0 (drop l.len src))
 unfolding lexed
 lexed_step place [] l c e = cc
 lexed_step place (b ∷ src) l c e =
@@ -52,17 +53,17 @@ lexed_step place (b ∷ src) l c e =
     let d : drop l.len (b ∷ src) ≡ drop (l.len - 1) src = ap (λ (k : ℕ). drop k (b ∷ src)) n in
     rw (c, e, d) (ap (with_token l) (lexed_skip (behind place l.token) (l.len - 1) src))
 
-pub lexed_closes : (place : Place) (src : List ℕ) → closes src ≡ true → lexed place 0 src ≡ Some []
+pub lexed_closes : (place : TokenContext) (src : List ℕ) → closes src ≡ true → lexed place 0 src ≡ Some []
 unfolding lexed
 lexed_closes place [] c = cc
 lexed_closes place (b ∷ src) c = rw c refl
 
-pub lexed_none : (place : Place) (src : List ℕ) → closes src ≡ false → front place src ≡ None → lexed place 0 src ≡ None
+pub lexed_none : (place : TokenContext) (src : List ℕ) → closes src ≡ false → front place src ≡ None → lexed place 0 src ≡ None
 unfolding lexed
 lexed_none place [] c e = refl
 lexed_none place (b ∷ src) c e = rw (c, e) refl
 
-pub lexed_end : (place : Place) (n : ℕ) (src : List ℕ) → length src ≤ n → lexed place 0 (drop n src) ≡ None
+pub lexed_end : (place : TokenContext) (n : ℕ) (src : List ℕ) → length src ≤ n → lexed place 0 (drop n src) ≡ None
 unfolding lexed
 lexed_end place n [] le = rw (drop_none {X = ℕ} n) refl
 lexed_end place zero (b ∷ src) le = absurd (omega arith)
@@ -136,7 +137,7 @@ no_field_minus : (t : Bool) → is_field (cond t tokens.Trim tokens.Plain) ≡ f
 no_field_minus true = refl
 no_field_minus false = refl
 
-pub field_ascii : (place : Place) (t : Token) (text rest : List ℕ) → IsToken place t text rest → is_field t ≡ true → IsAscii (drop 1 text)
+pub field_ascii : (place : TokenContext) (t : Token) (text rest : List ℕ) → IsToken place t text rest → is_field t ≡ true → IsAscii (drop 1 text)
 field_ascii place t text rest (one_byte b e k) h = let f : is_field t ≡ false = subst IsNoField k (no_field b) in cc
 field_ascii place t text rest (in_quotes quote inner e k i u) h = clash t tokens.Plain u refl h
 field_ascii place t text rest (in_back_quotes inner e i u) h = clash t tokens.Plain u refl h
@@ -150,7 +151,7 @@ field_ascii place t text rest (a_comment inner e p i u) h = clash t tokens.Comme
 field_ascii place t text rest (a_slash e s u) h = clash t tokens.Wrong u refl h
 field_ascii place t text rest (a_minus e u) h = clash t _ u (no_field_minus (is_trim place rest)) h
 
-named_one : (place : Place) (text : List ℕ) (at : ℕ) (l : Lexeme) → front place (drop at text) ≡ Some l → is_field l.token ≡ true → IsAscii (take (l.len - 1) (drop (at + 1) text))
+named_one : (place : TokenContext) (text : List ℕ) (at : ℕ) (l : Lexeme) → front place (drop at text) ≡ Some l → is_field l.token ≡ true → IsAscii (take (l.len - 1) (drop (at + 1) text))
 named_one place text at l e h =
     let s = front_stands place (drop at text) l e in
     let a = field_ascii place l.token s.text s.rest s.is h in
@@ -162,14 +163,14 @@ named_one place text at l e h =
     by [] n f lt a = absurd (omega arith)
     by (b ∷ x) n f lt a = rw (take_same n x (front_stands place (drop at text) l e).rest (omega arith)) a
 
-pub named_push : (place : Place) (text : List ℕ) (start at : ℕ) (ts : List Lexeme) (l : Lexeme) → Named text start ts → at ≡ start + total ts → front place (drop at text) ≡ Some l → Named text start (ts ++ l ∷ [])
+pub named_push : (place : TokenContext) (text : List ℕ) (start at : ℕ) (ts : List Lexeme) (l : Lexeme) → Named text start ts → at ≡ start + total ts → front place (drop at text) ≡ Some l → Named text start (ts ++ l ∷ [])
 named_push place text start at [] l n e f =
     let g : at ≡ start = omega arith in
     let some = front_some place (drop at text) l f in
     (some.0, λ h. subst (λ (k : ℕ). IsAscii (take (l.len - 1) (drop (k + 1) text))) g (named_one place text at l f h), tt)
 named_push place text start at (t ∷ ts) l n e f = (n.0, n.1, named_push place text (start + t.len) at ts l n.2 (omega arith) f)
 
-module _ (bytes : List ℕ) (start at : ℕ) (place : Place) (ts : List Lexeme) (l : Lexeme) (more : List Lexeme) (next : Place) (pushed : more ≡ ts ++ l ∷ []) (behind_it : next ≡ behind place l.token) (stays : closes (drop at bytes) ≡ false) (found : front place (drop at bytes) ≡ Some l) where
+module _ (bytes : List ℕ) (start at : ℕ) (place : TokenContext) (ts : List Lexeme) (l : Lexeme) (more : List Lexeme) (next : TokenContext) (pushed : more ≡ ts ++ l ∷ []) (behind_it : next ≡ behind place l.token) (stays : closes (drop at bytes) ≡ false) (found : front place (drop at bytes) ≡ Some l) where
   pub same_on : (whole : Option (List Lexeme)) → behind_tokens ts (lexed place 0 (drop at bytes)) ≡ whole → behind_tokens more (lexed next 0 (drop (at + l.len) bytes)) ≡ whole
   same_on whole same =
       let e = ap (behind_tokens ts) (lexed_step place (drop at bytes) l stays found) ∙ behind_push ts l (lexed (behind place l.token) 0 (drop l.len (drop at bytes))) in

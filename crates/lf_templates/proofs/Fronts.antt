@@ -4,12 +4,12 @@ use Rattle.std.specs.List.{prefix_len}
 use Rattle.std.proofs.lemmas.List.Sums.{prefix_len-le-length}
 use Rattle.lf_templates.specs.declared.token.Token.{Token}
 use Rattle.lf_templates.specs.declared.token.Token.TheVariants as tokens
-use Rattle.lf_templates.specs.declared.token.Place.{Place}
+use Rattle.lf_templates.specs.declared.token.TokenContext.{TokenContext}
 use Rattle.lf_templates.specs.declared.token.Lexeme.{Lexeme}
 use Rattle.lf_templates.specs.declared.token.Beginning.TheVariants as begins
 use Rattle.lf_base.specs.Names.{is_letter, begins_label, is_digit, is_in_label}
-use Rattle.lf_base.specs.Rows.{Stops}
-use Rattle.lf_templates.specs.Bytes.{beginning, sign_begins, is_in_number, is_no_back_quote, Each}
+use Rattle.lf_base.specs.Rows.{is_no_back_quote, Each, Stops}
+use Rattle.lf_templates.specs.Bytes.{beginning, sign_begins, is_in_number}
 use Rattle.lf_templates.specs.Tokens.{IsName, IsInner, IsToken, one_byte, in_quotes, in_back_quotes, a_word, a_variable, a_field, a_number, declares, a_colon, a_comment, a_slash, a_minus, takes_comment, ends_comment, FreeOf, word_of, variable_of, field_of}
 use Rattle.lf_templates.specs.reading.Templates.{token, name_len, string_front, raw_front, word_front, variable_front, field_front, number_front, colon_front, slash_front, minus_front, front}
 use Rattle.lf_base.proofs.Rows.{row_all, row_is, row_then}
@@ -67,7 +67,7 @@ unfolding string_front
 string_is quote inner rest n h = rw (append_assoc inner (quote ∷ []) rest, string_read quote inner rest n h) (same_len tokens.Plain _ _ (quoted_len quote inner))
 
 raw_is : (inner rest : List ℕ) → Each is_no_back_quote inner → raw_front ((inner ++ 96 ∷ []) ++ rest) ≡ Some (token tokens.Plain (length (96 ∷ (inner ++ 96 ∷ []))))
-unfolding raw_front is_no_back_quote
+unfolding raw_front
 raw_is inner rest h =
     let e : prefix_len is_no_back_quote (inner ++ 96 ∷ rest) ≡ length inner = row_is is_no_back_quote inner (96 ∷ rest) h refl in
     let l = length-append inner (96 ∷ rest) in
@@ -90,11 +90,11 @@ number_is : (d : ℕ) (more rest : List ℕ) → Each is_in_number more → Stop
 unfolding number_front
 number_is d more rest h s = rw (row_is is_in_number more rest h s) (same_len _ _ _ (omega arith))
 
-comment_is : (place : Place) (inner rest : List ℕ) → takes_comment place ≡ true → FreeOf ends_comment inner (42 ∷ 47 ∷ rest) → slash_front place (42 ∷ ((inner ++ 42 ∷ 47 ∷ []) ++ rest)) ≡ Some (token tokens.Comment (length (47 ∷ 42 ∷ (inner ++ 42 ∷ 47 ∷ []))))
+comment_is : (place : TokenContext) (inner rest : List ℕ) → takes_comment place ≡ true → FreeOf ends_comment inner (42 ∷ 47 ∷ rest) → slash_front place (42 ∷ ((inner ++ 42 ∷ 47 ∷ []) ++ rest)) ≡ Some (token tokens.Comment (length (47 ∷ 42 ∷ (inner ++ 42 ∷ 47 ∷ []))))
 unfolding slash_front
 comment_is place inner rest t h = rw (t, append_assoc inner (42 ∷ 47 ∷ []) rest, comment_read inner rest h) (same_len tokens.Comment _ _ (comment_length inner))
 
-pub token_read : (place : Place) (t : Token) (text rest : List ℕ) → IsToken place t text rest → front place (text ++ rest) ≡ Some (token t (length text))
+pub token_read : (place : TokenContext) (t : Token) (text rest : List ℕ) → IsToken place t text rest → front place (text ++ rest) ≡ Some (token t (length text))
 unfolding beginning sign_begins begins_label is_letter is_digit colon_front slash_front minus_front
 token_read place t text rest (one_byte b e k) = rw (e, k) refl
 token_read place t text rest (in_quotes quote inner e k h u) = rw (e, k, u) (string_is quote inner rest (no_backslash quote k) h)

@@ -7,11 +7,11 @@ use Rattle.lf_base.specs.declared.refusal.Refusal.{Refusal}
 use Rattle.lf_base.specs.declared.refusal.Refusal.TheVariants.{At, Memory}
 use Rattle.lf_templates.specs.declared.token.Word.{Word}
 use Rattle.lf_templates.specs.declared.token.Lexeme.{Lexeme}
-use Rattle.lf_templates.specs.declared.token.Row.{Row}
+use Rattle.lf_templates.specs.declared.token.ReferenceSpan.{ReferenceSpan}
 use Rattle.lf_templates.specs.declared.reference.Reference.{Reference}
 use Rattle.lf_base.specs.Answers.{IfAt}
 use Rattle.lf_base.specs.declared.fault.Fault.{Fault}
-use Rattle.lf_templates.specs.Source.{LiesIn, in_source}
+use Rattle.lf_templates.specs.Source.{LiesInSource, in_source}
 use Rattle.lf_templates.specs.Actions.{tokens_of, goes_on, is_root, is_labels_field, is_field, begins_row, row_to, row_of_two, row_here, as_list, rows, sets_labels}
 use Rattle.lf_templates.specs.Templates.{Piece, Byte, Braced, piece_text, piece_texts, Action, actions_of, word_of_action, is_flawed, first_flawed, bodies_behind, bodies_round, hides, IsBreach, flawed, unended, Breaks, References, reference, references_in, references_of}
 use Rattle.lf_templates.specs.reading.Templates.{total}
@@ -20,7 +20,7 @@ use Rattle.lf_laws.proofs.Members.{all_append}
 
 -- ---- rows
 
-abbrev IsBelow : ℕ → Row → Type 0
+abbrev IsBelow : ℕ → ReferenceSpan → Type 0
 IsBelow n r = (r.start ≤ r.end) × (r.end ≤ n)
 
 two_below : (inside : Bool) (at : ℕ) (l m : Lexeme) (n : ℕ) → at + l.len + m.len ≤ n → AllByRecursion (IsBelow n) (as_list (row_of_two inside at l m))
@@ -61,15 +61,15 @@ actions_end ((Braced parts) ∷ pieces) at n le =
     (record { order = omega arith; within = omega arith; tokens = omega arith }, actions_end pieces (at + length (piece_text (Braced parts))) n (omega arith))
 
 module _ (from text : List ℕ) (count : length from ≡ length text + 1) (rises : IsNonDecreasing from) where
-  lies : (start end : ℕ) → start ≤ end → end ≤ length text → LiesIn from (in_source from start end)
+  lies : (start end : ℕ) → start ≤ end → end ≤ length text → LiesInSource from (in_source from start end)
   lies start end order within =
       let e : length from - 1 ≡ length text = omega arith in
       (rises 0 start 0 (omega arith) (omega arith), rises start end 0 order (omega arith), rw e (rises end (length text) 0 within (omega arith)))
 
   abbrev LiesHere : Reference → Type 0
-  LiesHere r = LiesIn from r.span
+  LiesHere r = LiesInSource from r.span
 
-  told_lie : (rs : List Row) → AllByRecursion (IsBelow (length text)) rs → AllByRecursion LiesHere (map (reference from text) rs)
+  told_lie : (rs : List ReferenceSpan) → AllByRecursion (IsBelow (length text)) rs → AllByRecursion LiesHere (map (reference from text) rs)
   told_lie [] h = tt
   told_lie (r ∷ rs) h = (lies r.start r.end h.0.0 h.0.1, told_lie rs h.1)
 
@@ -97,27 +97,27 @@ module _ (from text : List ℕ) (count : length from ≡ length text + 1) (rises
       by true again e = let f : x ≡ a = cc in subst (EndsBy n) f h.0
       by false again e = again e
 
-  pub breach_lies : (fault : Fault) → Breaks from text fault → LiesIn from fault.span
+  pub breach_lies : (fault : Fault) → Breaks from text fault → LiesInSource from fault.span
   breach_lies fault b = by b.breach
     where
       size : length text ≡ length (piece_texts b.pieces) + length b.rest
       size = ap length b.source ∙ length-append (piece_texts b.pieces) b.rest
 
-      by : IsBreach from (length (piece_texts b.pieces)) b.rest (actions_of 0 b.pieces) fault → LiesIn from fault.span
+      by : IsBreach from (length (piece_texts b.pieces)) b.rest (actions_of 0 b.pieces) fault → LiesInSource from fault.span
       by (flawed a e f) =
           let s : length text ≡ length (piece_texts b.pieces) + length b.rest = ap length b.source ∙ length-append (piece_texts b.pieces) b.rest in
           let ends = flawed_ends (actions_of 0 b.pieces) [] a (length text) (actions_end b.pieces 0 (length text) (omega arith)) e in
-          subst (λ (x : Fault). LiesIn from x.span) (sym f) (lies a.start a.end ends.order ends.within)
+          subst (λ (x : Fault). LiesInSource from x.span) (sym f) (lies a.start a.end ends.order ends.within)
       by (unended e o f) =
           let s : length text ≡ length (piece_texts b.pieces) + length b.rest = ap length b.source ∙ length-append (piece_texts b.pieces) b.rest in
           let t = ap length o.source in
-          subst (λ (x : Fault). LiesIn from x.span) (sym f) (lies (length (piece_texts b.pieces)) (length (piece_texts b.pieces) + 2) (omega arith) (omega arith))
+          subst (λ (x : Fault). LiesInSource from x.span) (sym f) (lies (length (piece_texts b.pieces)) (length (piece_texts b.pieces) + 2) (omega arith) (omega arith))
 
   pub found_inside : (r : Result (List Reference) Refusal) → IfOk r (References from text) → IfOk r (AllByRecursion LiesHere)
   found_inside (Ok found) h = references_lie found h
   found_inside (Err e) h = tt
 
-  pub refused_inside : (r : Result (List Reference) Refusal) → IfErr r (λ refusal. IfAt refusal (Breaks from text)) → IfErr r (λ refusal. IfAt refusal (λ fault. LiesIn from fault.span))
+  pub refused_inside : (r : Result (List Reference) Refusal) → IfErr r (λ refusal. IfAt refusal (Breaks from text)) → IfErr r (λ refusal. IfAt refusal (λ fault. LiesInSource from fault.span))
   refused_inside (Ok found) h = tt
   refused_inside (Err Memory) h = tt
   refused_inside (Err (At kind span)) h = breach_lies (record { kind = kind; span = span }) h

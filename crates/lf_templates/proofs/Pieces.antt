@@ -3,8 +3,8 @@ use Rattle.std.proofs.Common.{◌≡◌, ◌⊎◌, inl, inr, ℕ, zero, suc, �
 use Rattle.std.specs.Prelude.{option_map}
 use Rattle.std.specs.Option.{option_and_then}
 use Rattle.std.proofs.Math.Seq.{drop-nil}
-use Rattle.lf_templates.specs.declared.token.Place.{Place}
-use Rattle.lf_templates.specs.declared.token.Place.TheVariants as places
+use Rattle.lf_templates.specs.declared.token.TokenContext.{TokenContext}
+use Rattle.lf_templates.specs.declared.token.TokenContext.TheVariants as places
 use Rattle.lf_templates.specs.declared.token.Lexeme.{Lexeme}
 use Rattle.lf_templates.specs.Tokens.{Part, texts, lexeme, AreParts, closes, behind}
 use Rattle.lf_templates.specs.Templates.{Piece, Byte, Braced, piece_text, piece_texts, opens, ArePieces, IsOpen, Action, actions_of}
@@ -18,7 +18,7 @@ use Rattle.lf_templates.proofs.Acts.{acts_byte, acts_action}
 
 -- ---- the tokens of an action
 
-pub parts_read : (parts : List Part) (place : Place) (rest : List ℕ) → AreParts place parts (125 ∷ 125 ∷ rest) → lexed place 0 (texts parts ++ 125 ∷ 125 ∷ rest) ≡ Some (map lexeme parts)
+pub parts_read : (parts : List Part) (place : TokenContext) (rest : List ℕ) → AreParts place parts (125 ∷ 125 ∷ rest) → lexed place 0 (texts parts ++ 125 ∷ 125 ∷ rest) ≡ Some (map lexeme parts)
 parts_read [] place rest h = lexed_closes place (125 ∷ 125 ∷ rest) refl
 parts_read (part ∷ parts) place rest h =
     let tail = texts parts ++ 125 ∷ 125 ∷ rest in
@@ -31,7 +31,7 @@ parts_read (part ∷ parts) place rest h =
     ∙ ap (λ (x : List ℕ). with_token l (lexed (behind place part.token) 0 x)) d
     ∙ ap (with_token l) again
 
-pub record Ended (place : Place) (src : List ℕ) (ls : List Lexeme) : Type 0 where
+pub record Ended (place : TokenContext) (src : List ℕ) (ls : List Lexeme) : Type 0 where
   pub parts : List Part
   pub rest : List ℕ
   pub source : src ≡ texts parts ++ 125 ∷ 125 ∷ rest
@@ -42,7 +42,7 @@ tokened : (l : Lexeme) (o : Option (List Lexeme)) (ls : List Lexeme) → with_to
 tokened l None ls e = cc
 tokened l (Some ms) ls e = (ms, refl, cc)
 
-one_more : (place : Place) (b : ℕ) (src : List ℕ) (l : Lexeme) (ms ls : List Lexeme) → closes (b ∷ src) ≡ false → front place (b ∷ src) ≡ Some l → ls ≡ l ∷ ms → Ended (behind place l.token) (drop (l.len - 1) src) ms → Ended place (b ∷ src) ls
+one_more : (place : TokenContext) (b : ℕ) (src : List ℕ) (l : Lexeme) (ms ls : List Lexeme) → closes (b ∷ src) ≡ false → front place (b ∷ src) ≡ Some l → ls ≡ l ∷ ms → Ended (behind place l.token) (drop (l.len - 1) src) ms → Ended place (b ∷ src) ls
 one_more place b src l ms ls c e f again =
     let s = front_stands place (b ∷ src) l e in
     let len = s.len in
@@ -62,13 +62,13 @@ one_more place b src l ms ls c e f again =
       lexemes = f ∙ ap (λ (x : List Lexeme). l ∷ x) again.lexemes ∙ ap (λ (x : Lexeme). x ∷ map lexeme again.parts) same;
     }
 
-pub parts_stand : (src : List ℕ) (place : Place) (skip : ℕ) (ls : List Lexeme) → lexed place skip src ≡ Some ls → Ended place (drop skip src) ls
+pub parts_stand : (src : List ℕ) (place : TokenContext) (skip : ℕ) (ls : List Lexeme) → lexed place skip src ≡ Some ls → Ended place (drop skip src) ls
 unfolding lexed
 parts_stand [] place skip ls e = cc
 parts_stand (b ∷ src) place (suc skip) ls e = parts_stand src place skip ls e
 parts_stand (b ∷ src) place zero ls e = by (closes (b ∷ src)) (front place (b ∷ src)) refl refl (λ p n ms f. parts_stand src p n ms f) e
   where
-    by : (t : Bool) (o : Option Lexeme) → closes (b ∷ src) ≡ t → front place (b ∷ src) ≡ o → ((p : Place) (n : ℕ) (ms : List Lexeme) → lexed p n src ≡ Some ms → Ended p (drop n src) ms) →
+    by : (t : Bool) (o : Option Lexeme) → closes (b ∷ src) ≡ t → front place (b ∷ src) ≡ o → ((p : TokenContext) (n : ℕ) (ms : List Lexeme) → lexed p n src ≡ Some ms → Ended p (drop n src) ms) →
         cond t (Some []) (option_and_then (λ l. option_map (λ ms. l ∷ ms) (lexed (behind place l.token) (l.len - 1) src)) o) ≡ Some ls → Ended place (b ∷ src) ls
     by true o c f again e = let t = two 125 125 (b ∷ src) c in record { parts = []; rest = t.0; source = t.1; are = tt; lexemes = cc }
     by false None c f again e = cc

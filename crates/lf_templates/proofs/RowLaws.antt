@@ -4,7 +4,7 @@ use Rattle.std.specs.Str.{IsAscii}
 use Rattle.std.proofs.lemmas.Bool.{and_parts}
 use Rattle.std.proofs.lemmas.Option.{cond_some}
 use Rattle.lf_templates.specs.declared.token.Lexeme.{Lexeme}
-use Rattle.lf_templates.specs.declared.token.Row.{Row}
+use Rattle.lf_templates.specs.declared.token.ReferenceSpan.{ReferenceSpan}
 use Rattle.lf_templates.specs.declared.reference.Reference.{Reference}
 use Rattle.lf_templates.specs.Actions.{is_field, is_root, is_labels_field, begins_row, row_to, row_of_two, row_here}
 use Rattle.lf_templates.specs.Templates.{reference}
@@ -19,13 +19,13 @@ field_row text at before len lt le a =
     record { order = omega arith; name = omega arith; within = le; ascii = rw e a }
 
 module _ (text : List ℕ) (inside : Bool) (at : ℕ) where
-  two_known : (l m : Lexeme) (ls : List Lexeme) (r : Row) → row_of_two inside at l m ≡ Some r → Named text at (l ∷ m ∷ ls) → at + total (l ∷ m ∷ ls) ≤ length text → IsRowIn text r
+  two_known : (l m : Lexeme) (ls : List Lexeme) (r : ReferenceSpan) → row_of_two inside at l m ≡ Some r → Named text at (l ∷ m ∷ ls) → at + total (l ∷ m ∷ ls) ≤ length text → IsRowIn text r
   two_known l m ls r e n le =
       let g = cond_some (begins_row inside l.token && is_field m.token) (row_to at l.len m.len) r e in
       let f = (and_parts (begins_row inside l.token) (is_field m.token) g.0).1 in
       subst (IsRowIn text) g.1 (field_row text at l.len m.len n.2.0 (omega arith) (n.2.1 f))
 
-  pub row_known : (ls : List Lexeme) (r : Row) → row_here inside at ls ≡ Some r → Named text at ls → at + total ls ≤ length text → IsRowIn text r
+  pub row_known : (ls : List Lexeme) (r : ReferenceSpan) → row_here inside at ls ≡ Some r → Named text at ls → at + total ls ≤ length text → IsRowIn text r
   row_known [] r e n le = cc
   row_known (l ∷ []) r e n le = cc
   row_known (l ∷ m ∷ []) r e n le = two_known l m [] r e n le
@@ -45,5 +45,5 @@ module _ (text : List ℕ) (inside : Bool) (at : ℕ) where
 
 -- ---- the loop
 
-abbrev pub told : List ℕ → List ℕ → List Row → List Reference
+abbrev pub told : List ℕ → List ℕ → List ReferenceSpan → List Reference
 told from text rs = map (reference from text) rs

@@ -7,13 +7,13 @@ use Rattle.std.proofs.lemmas.Bool.Decides.{nat_tests}
 use Rattle.std.proofs.lemmas.List.Sums.{prefix_len-le-length}
 use Rattle.lf_templates.specs.declared.token.Token.{Token}
 use Rattle.lf_templates.specs.declared.token.Token.TheVariants as tokens
-use Rattle.lf_templates.specs.declared.token.Place.{Place}
+use Rattle.lf_templates.specs.declared.token.TokenContext.{TokenContext}
 use Rattle.lf_templates.specs.declared.token.Lexeme.{Lexeme}
 use Rattle.lf_templates.specs.declared.token.Beginning.{Beginning}
 use Rattle.lf_templates.specs.declared.token.Beginning.TheVariants as begins
 use Rattle.lf_base.specs.Names.{begins_label, is_digit, is_in_label}
-use Rattle.lf_base.specs.Rows.{starts, Stops}
-use Rattle.lf_templates.specs.Bytes.{beginning, sign_begins, is_in_number, is_no_back_quote}
+use Rattle.lf_base.specs.Rows.{is_no_back_quote, starts, Stops}
+use Rattle.lf_templates.specs.Bytes.{beginning, sign_begins, is_in_number}
 use Rattle.lf_templates.specs.Tokens.{IsToken, one_byte, in_quotes, in_back_quotes, a_word, a_variable, a_field, a_number, declares, a_colon, a_comment, a_slash, a_minus, takes_comment}
 use Rattle.lf_templates.specs.reading.Templates.{token, name_len, closing, comment_len, string_front, raw_front, word_front, variable_front, field_front, number_front, colon_front, slash_front, minus_front, front_by, front}
 use Rattle.lf_base.proofs.Rows.{row_all, row_then}
@@ -21,7 +21,7 @@ use Rattle.lf_templates.proofs.Quotes.{string_stands, comment_stands}
 use Rattle.lf_templates.proofs.Fronts.{name_le, name_stands}
 
 -- `src` begins with the token that a lexeme says.
-pub record Stands (place : Place) (src : List ℕ) (l : Lexeme) : Type 0 where
+pub record Stands (place : TokenContext) (src : List ℕ) (l : Lexeme) : Type 0 where
   pub text : List ℕ
   pub rest : List ℕ
   pub source : src ≡ text ++ rest
@@ -29,7 +29,7 @@ pub record Stands (place : Place) (src : List ℕ) (l : Lexeme) : Type 0 where
   pub some : 0 < length text
   pub is : IsToken place l.token text rest
 
-made : {place : Place} {src : List ℕ} (x l : Lexeme) → Some x ≡ Some l → Stands place src x → Stands place src l
+made : {place : TokenContext} {src : List ℕ} (x l : Lexeme) → Some x ≡ Some l → Stands place src x → Stands place src l
 made {place} {src} x l e h = let f : x ≡ l = cc in subst (Stands place src) f h
 
 mapped : (f : ℕ → Lexeme) (o : Option ℕ) (l : Lexeme) → option_map f o ≡ Some l → (n : ℕ) × (o ≡ Some n) × (Some (f n) ≡ Some l)
@@ -71,7 +71,7 @@ told b k e = subst (Tells b) e (tells b)
 
 -- ---- each sort of token
 
-module _ (place : Place) (b : ℕ) (src : List ℕ) where
+module _ (place : TokenContext) (b : ℕ) (src : List ℕ) where
   alone_stands : (t : Token) → beginning b ≡ begins.Alone t → Stands place (b ∷ src) (token t 1)
   alone_stands t k = record { text = b ∷ []; rest = src; source = refl; len = refl; some = omega arith; is = one_byte b refl k }
 
@@ -125,7 +125,6 @@ module _ (place : Place) (b : ℕ) (src : List ℕ) where
 
 -- what isn't in a row of bytes other than back quotes is one
 behind_row : (rest : List ℕ) → 0 < length rest → Stops is_no_back_quote rest → (more : List ℕ) × (rest ≡ 96 ∷ more)
-unfolding is_no_back_quote
 behind_row [] lt h = absurd (omega arith)
 behind_row (b ∷ more) lt h = (more, ap (λ (k : ℕ). k ∷ more) (by (eqb b 96) refl h))
   where
@@ -137,7 +136,7 @@ star_first : (src : List ℕ) → starts (λ b. eqb b 42) src ≡ true → (more
 star_first [] e = cc
 star_first (b ∷ more) e = (more, ap (λ (k : ℕ). k ∷ more) (eqb-true b 42 e))
 
-module _ (place : Place) (src : List ℕ) where
+module _ (place : TokenContext) (src : List ℕ) where
   variable_at : Stands place (36 ∷ src) (variable_front src)
   unfolding variable_front
   variable_at =
@@ -232,7 +231,7 @@ module _ (place : Place) (src : List ℕ) where
 
 -- ---- the front
 
-pub front_stands : (place : Place) (src : List ℕ) (l : Lexeme) → front place src ≡ Some l → Stands place src l
+pub front_stands : (place : TokenContext) (src : List ℕ) (l : Lexeme) → front place src ≡ Some l → Stands place src l
 front_stands place [] l e = cc
 front_stands place (b ∷ src) l e = by (beginning b) refl e
   where

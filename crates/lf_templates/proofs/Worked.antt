@@ -6,7 +6,7 @@ use Rattle.lf_templates.specs.declared.token.Token.TheVariants as tokens
 use Rattle.lf_templates.specs.declared.token.Word.TheVariants as words
 use Rattle.lf_templates.specs.declared.token.Variable.TheVariants as variables
 use Rattle.lf_templates.specs.declared.token.Lexeme.{Lexeme}
-use Rattle.lf_templates.specs.declared.token.Row.{Row}
+use Rattle.lf_templates.specs.declared.token.ReferenceSpan.{ReferenceSpan}
 use Rattle.lf_templates.specs.declared.reference.Reference.{Reference}
 use Rattle.lf_templates.specs.Actions.{is_sound, head_word, sets_labels, rows}
 use Rattle.lf_templates.specs.Templates.{Action, first_flawed, references_of}
@@ -23,7 +23,7 @@ labels = tokens.Variable variables.Labels
 abbrev field : Token
 field = tokens.Field false
 
-abbrev row : ℕ → ℕ → ℕ → Row
+abbrev row : ℕ → ℕ → ℕ → ReferenceSpan
 row start name end = record { start = start; name = name; end = end }
 
 -- " $labels.x .Labels.y $.Labels.z " behind "{{", and "(f).Labels.x"

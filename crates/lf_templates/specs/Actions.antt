@@ -8,7 +8,7 @@ use Rattle.lf_templates.specs.declared.token.Word.{Word}
 use Rattle.lf_templates.specs.declared.token.Word.TheVariants as words
 use Rattle.lf_templates.specs.declared.token.Variable.TheVariants as variables
 use Rattle.lf_templates.specs.declared.token.Lexeme.{Lexeme}
-use Rattle.lf_templates.specs.declared.token.Row.{Row}
+use Rattle.lf_templates.specs.declared.token.ReferenceSpan.{ReferenceSpan}
 
 abbrev pub tokens_of : List Lexeme → List Token
 tokens_of ls = map (λ l. l.token) ls
@@ -135,15 +135,15 @@ abbrev pub begins_row : Bool → Token → Bool
 begins_row inside t = is_labels t || (is_labels_field t && not inside)
 
 -- the row whose first tokens have `before` bytes, and whose last has `len`: a dot and the name
-abbrev pub row_to : ℕ → ℕ → ℕ → Row
+abbrev pub row_to : ℕ → ℕ → ℕ → ReferenceSpan
 row_to at before len = record { start = at; name = at + before + 1; end = at + before + len }
 
-abbrev pub row_of_two : Bool → ℕ → Lexeme → Lexeme → Option Row
+abbrev pub row_of_two : Bool → ℕ → Lexeme → Lexeme → Option ReferenceSpan
 row_of_two inside at l m = if begins_row inside l.token && is_field m.token then Some (row_to at l.len m.len) else None
 
 -- The reference that begins with the first of these tokens, which stands at an offset: $labels.NAME, .Labels.NAME or $.Labels.NAME. `inside` says that fields go
 -- on here.
-abbrev pub row_here : Bool → ℕ → List Lexeme → Option Row
+abbrev pub row_here : Bool → ℕ → List Lexeme → Option ReferenceSpan
 row_here inside at [] = None
 row_here inside at (l ∷ []) = None
 row_here inside at (l ∷ m ∷ []) = row_of_two inside at l m
@@ -155,6 +155,6 @@ as_list None = []
 as_list (Some x) = x ∷ []
 
 -- all of them, in order
-abbrev pub rows : Bool → ℕ → List Lexeme → List Row
+abbrev pub rows : Bool → ℕ → List Lexeme → List ReferenceSpan
 rows inside at [] = []
 rows inside at (l ∷ ls) = as_list (row_here inside at (l ∷ ls)) ++ rows (goes_on l.token) (at + l.len) ls

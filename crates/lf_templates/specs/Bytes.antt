@@ -1,6 +1,5 @@
 -- The bytes that the tokens of an action are made of. Letters and digits are those of ASCII.
-use Rattle.std.specs.Prelude.{◌≡◌, ℕ, List, [], ◌∷◌, Bool, true, false, not, ◌==◌, ◌||◌, ◌&&◌, if◌then◌else◌}
-use Rattle.std.specs.List.{list_all}
+use Rattle.std.specs.Prelude.{ℕ, List, [], ◌∷◌, Bool, true, false, ◌==◌, ◌||◌, ◌&&◌, if◌then◌else◌}
 use Rattle.lf_base.specs.Names.{begins_label, is_in_label, is_digit}
 use Rattle.lf_templates.specs.declared.token.Token.{Token}
 use Rattle.lf_templates.specs.declared.token.Token.TheVariants as tokens
@@ -10,9 +9,6 @@ use Rattle.lf_templates.specs.declared.token.Beginning.TheVariants as begins
 -- what a number goes on with behind its first digit
 unfoldable pub is_in_number : ℕ → Bool
 is_in_number b = is_in_label b || b == 46
-
-unfoldable pub is_no_back_quote : ℕ → Bool
-is_no_back_quote b = not (b == 96)
 
 -- a space and a tab, the bytes of a line break, ( and ) and , and = and | and +; any other byte begins no token
 abbrev pub alone : ℕ → Token
@@ -30,10 +26,6 @@ beginning b = if begins_label b then begins.Letter else if is_digit b then begin
 -- to be a certain byte
 abbrev pub is : ℕ → ℕ → Bool
 is b c = b == c
-
--- Each byte is of a class.
-abbrev pub Each : (ℕ → Bool) → List ℕ → Type 0
-Each test bs = list_all test bs ≡ true
 
 -- whether a text begins with two bytes
 abbrev pub starts_with : ℕ → ℕ → List ℕ → Bool

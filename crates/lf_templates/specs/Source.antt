@@ -8,5 +8,5 @@ abbrev pub in_source : List ℕ → ℕ → ℕ → Span
 in_source from start end = record { start = slice_index from start; end = slice_index from end }
 
 -- A span lies between the source of the text's first byte and that of its end.
-abbrev pub LiesIn : List ℕ → Span → Type 0
-LiesIn from span = (slice_index from 0 ≤ span.start) × (span.start ≤ span.end) × (span.end ≤ slice_index from (length from - 1))
+abbrev pub LiesInSource : List ℕ → Span → Type 0
+LiesInSource from span = (slice_index from 0 ≤ span.start) × (span.start ≤ span.end) × (span.end ≤ slice_index from (length from - 1))

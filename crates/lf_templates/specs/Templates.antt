@@ -6,9 +6,9 @@ use Rattle.lf_base.specs.declared.kind.Kind.{Kind}
 use Rattle.lf_base.specs.declared.kind.Kind.TheVariants.{OpenAction, BadAction}
 use Rattle.lf_templates.specs.declared.token.Word.{Word}
 use Rattle.lf_templates.specs.declared.token.Word.TheVariants as words
-use Rattle.lf_templates.specs.declared.token.Place.TheVariants as places
+use Rattle.lf_templates.specs.declared.token.TokenContext.TheVariants as places
 use Rattle.lf_templates.specs.declared.token.Lexeme.{Lexeme}
-use Rattle.lf_templates.specs.declared.token.Row.{Row}
+use Rattle.lf_templates.specs.declared.token.ReferenceSpan.{ReferenceSpan}
 use Rattle.lf_templates.specs.declared.reference.Reference.{Reference}
 use Rattle.lf_base.specs.declared.fault.Fault.{Fault}
 use Rattle.lf_templates.specs.Source.{in_source}
@@ -149,7 +149,7 @@ abbrev pub bodies_round : Word → List Word → List Word
 bodies_round words.End bodies = drop 1 bodies
 bodies_round word bodies = bodies
 
-abbrev pub reference : List ℕ → List ℕ → Row → Reference
+abbrev pub reference : List ℕ → List ℕ → ReferenceSpan → Reference
 reference from text r = record { label = take (r.end - r.name) (drop r.name text); span = in_source from r.start r.end }
 
 -- those of an action, the first token of which stands at an offset, where nothing hides them

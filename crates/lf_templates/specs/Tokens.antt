@@ -7,13 +7,13 @@ use Rattle.lf_templates.specs.declared.token.Word.{Word}
 use Rattle.lf_templates.specs.declared.token.Word.TheVariants as words
 use Rattle.lf_templates.specs.declared.token.Variable.{Variable}
 use Rattle.lf_templates.specs.declared.token.Variable.TheVariants as variables
-use Rattle.lf_templates.specs.declared.token.Place.{Place}
-use Rattle.lf_templates.specs.declared.token.Place.TheVariants as places
+use Rattle.lf_templates.specs.declared.token.TokenContext.{TokenContext}
+use Rattle.lf_templates.specs.declared.token.TokenContext.TheVariants as places
 use Rattle.lf_templates.specs.declared.token.Lexeme.{Lexeme}
 use Rattle.lf_templates.specs.declared.token.Beginning.TheVariants as begins
 use Rattle.lf_base.specs.Names.{begins_label, is_in_label}
-use Rattle.lf_base.specs.Rows.{starts, Stops}
-use Rattle.lf_templates.specs.Bytes.{beginning, is_in_number, is_no_back_quote, Each, starts_with}
+use Rattle.lf_base.specs.Rows.{is_no_back_quote, Each, starts, Stops}
+use Rattle.lf_templates.specs.Bytes.{beginning, is_in_number, starts_with}
 
 -- ---- names
 
@@ -55,7 +55,7 @@ pub data IsInner (quote : ℕ) : List ℕ → Type 0 where
 -- ---- comments and trim marks
 
 -- A comment can stand right behind {{, or behind {{- and its blank.
-abbrev pub takes_comment : Place → Bool
+abbrev pub takes_comment : TokenContext → Bool
 takes_comment places.Start = true
 takes_comment places.Ready = true
 takes_comment _ = false
@@ -78,18 +78,18 @@ unfoldable pub is_inline : ℕ → Bool
 is_inline b = b == 32 || b == 9
 
 -- The - of {{- stands right behind the braces and before a space or a tab, that of -}} behind a space or a tab and right before the braces.
-abbrev pub is_trim : Place → List ℕ → Bool
+abbrev pub is_trim : TokenContext → List ℕ → Bool
 is_trim places.Start rest = starts is_inline rest
 is_trim places.Ready rest = closes rest
 is_trim places.Blanked rest = closes rest
 is_trim _ rest = false
 
 -- the place behind a token
-abbrev pub behind_blank : Place → Place
+abbrev pub behind_blank : TokenContext → TokenContext
 behind_blank places.Trimmed = places.Ready
 behind_blank _ = places.Blanked
 
-abbrev pub behind : Place → Token → Place
+abbrev pub behind : TokenContext → Token → TokenContext
 behind place (tokens.Blank inline) = if inline then behind_blank place else places.Inside
 behind place tokens.Trim = places.Trimmed
 behind place _ = places.Inside
@@ -97,7 +97,7 @@ behind place _ = places.Inside
 -- ---- tokens
 
 -- `IsToken place token text rest`: at this place of an action, `text` is this token, where `rest` stands behind it.
-pub data IsToken (place : Place) (token : Token) (text rest : List ℕ) : Type 0 where
+pub data IsToken (place : TokenContext) (token : Token) (text rest : List ℕ) : Type 0 where
   -- a blank, a sign of one byte, or a byte that begins nothing
   one_byte : (b : ℕ) → text ≡ b ∷ [] → beginning b ≡ begins.Alone token → IsToken place token text rest
   in_quotes : (quote : ℕ) (inner : List ℕ) →
@@ -132,7 +132,7 @@ abbrev pub lexeme : Part → Lexeme
 lexeme part = record { token = part.token; len = length part.text }
 
 -- The parts are tokens one behind the other, the first at a place of an action, before the rest. None begins where the action could end.
-abbrev pub AreParts : Place → List Part → List ℕ → Type 0
+abbrev pub AreParts : TokenContext → List Part → List ℕ → Type 0
 AreParts place [] rest = Unit {0}
 AreParts place (part ∷ parts) rest =
     (closes (part.text ++ (texts parts ++ rest)) ≡ false) × IsToken place part.token part.text (texts parts ++ rest) × AreParts (behind place part.token) parts rest

@@ -1,10 +1,10 @@
 //! The tokens of an action.
 ghost use Rattle.std.specs.Prelude.{◌≡◌, ◌+◌, ◌≤◌, length, drop, option_map, IfOk, IfSome};
 ghost use Rattle.lf_templates.specs.reading.Templates.{lexed, total, Named};
-ghost use Rattle.lf_templates.specs.declared.token.Place.TheVariants.{Start};
+ghost use Rattle.lf_templates.specs.declared.token.TokenContext.TheVariants.{Start};
 
 use crate::front::{behind, closes, front};
-use crate::token::{Lexeme, Place};
+use crate::token::{Lexeme, TokenContext};
 use lf_base::Memory;
 use lf_base::bytes::after;
 use std::alloc::Global;
@@ -27,7 +27,7 @@ pub fn read_action(alloc: Global, bytes: &[u8], start: usize) -> Result<Option<B
     ensures named { IfOk result (λ found. IfSome found (λ b. Named bytes.now start b.tokens.items)) }
 {
     let mut tokens = Vec::new(alloc);
-    let mut place = Place::Start;
+    let mut place = TokenContext::Start;
     let mut at = start;
     while at < bytes.len() {
         let rest = after(bytes, at);

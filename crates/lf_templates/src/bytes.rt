@@ -28,7 +28,6 @@ fn is_in_number(byte: u8) -> bool
 }
 
 /// Whether a byte is of a class.
-#[tactic(auto, unfolding(crate::specs::Bytes::is_no_back_quote))]
 fn is_in_class(class: Class, byte: u8) -> bool
     ensures { result ≡ is_in_class class byte }
 {

@@ -6,13 +6,18 @@ ghost use Rattle.lf_templates.specs.reading.Templates.{total, Named, IsRowIn};
 
 use crate::reference::Reference;
 use crate::rows::{goes_on, row_here};
-use crate::token::{Lexeme, Row};
+use crate::token::{Lexeme, ReferenceSpan};
 use lf_base::bytes::{after, before};
 use lf_base::{Memory, Seq, Span, Text};
 use std::alloc::Global;
 
 /// The reference that a row of fields is.
-fn reference_of(alloc: Global, text: &str, from: &[u32], row: Row) -> Result<Reference, Memory>
+fn reference_of(
+    alloc: Global,
+    text: &str,
+    from: &[u32],
+    row: ReferenceSpan,
+) -> Result<Reference, Memory>
     requires from { length from.now ≡ length text.now + 1 }
     requires row { IsRowIn text.now row }
     ensures { IfOk result (λ reference. reference ≡ templates.reference from.now text.now row) }

@@ -7,7 +7,7 @@ ghost use Rattle.lf_templates.specs.reading.Templates as reading;
 use crate::bytes::{Class, beginning, row_len, starts, starts_with};
 use crate::names::{field_of, name_len, variable_of, word_of};
 use crate::strings::{closing, comment_len};
-use crate::token::{Beginning, Lexeme, Place, Token};
+use crate::token::{Beginning, Lexeme, Token, TokenContext};
 use lf_base::bytes::{after, before};
 
 /// Whether the action ends here.
@@ -18,27 +18,27 @@ pub fn closes(rest: &[u8]) -> bool
 }
 
 /// Whether a comment can stand at a place.
-fn takes_comment(place: Place) -> bool
+fn takes_comment(place: TokenContext) -> bool
     ensures { result ≡ tokens.takes_comment place }
 {
     match place {
-        Place::Start => true,
-        Place::Ready => true,
+        TokenContext::Start => true,
+        TokenContext::Ready => true,
         _ => false,
     }
 }
 
 /// Whether a `-` at a place and before a text is that of a trim mark.
 #[tactic(auto, unfolding(crate::specs::Tokens::is_inline))]
-fn is_trim(place: Place, rest: &[u8]) -> bool
+fn is_trim(place: TokenContext, rest: &[u8]) -> bool
     ensures { result ≡ tokens.is_trim place rest.now }
 {
     match place {
-        Place::Start => starts_inline(rest),
-        Place::Ready => closes(rest),
-        Place::Blanked => closes(rest),
-        Place::Trimmed => false,
-        Place::Inside => false,
+        TokenContext::Start => starts_inline(rest),
+        TokenContext::Ready => closes(rest),
+        TokenContext::Blanked => closes(rest),
+        TokenContext::Trimmed => false,
+        TokenContext::Inside => false,
     }
 }
 
@@ -54,7 +54,7 @@ fn starts_inline(rest: &[u8]) -> bool
 }
 
 /// The place behind a token.
-pub fn behind(place: Place, token: Token) -> Place
+pub fn behind(place: TokenContext, token: Token) -> TokenContext
     ensures { result ≡ tokens.behind place token }
 {
     match token {
@@ -62,21 +62,21 @@ pub fn behind(place: Place, token: Token) -> Place
             if inline {
                 behind_blank(place)
             } else {
-                Place::Inside
+                TokenContext::Inside
             }
         }
-        Token::Trim => Place::Trimmed,
-        _ => Place::Inside,
+        Token::Trim => TokenContext::Trimmed,
+        _ => TokenContext::Inside,
     }
 }
 
 /// The place behind a space or a tab.
-fn behind_blank(place: Place) -> Place
+fn behind_blank(place: TokenContext) -> TokenContext
     ensures { result ≡ tokens.behind_blank place }
 {
     match place {
-        Place::Trimmed => Place::Ready,
-        _ => Place::Blanked,
+        TokenContext::Trimmed => TokenContext::Ready,
+        _ => TokenContext::Blanked,
     }
 }
 
@@ -176,7 +176,7 @@ fn colon(rest: &[u8]) -> Lexeme
 
 /// What a slash begins.
 #[tactic(auto, unfolding(crate::specs::reading::Templates::slash_front))]
-fn slash(place: Place, rest: &[u8]) -> Option<Lexeme>
+fn slash(place: TokenContext, rest: &[u8]) -> Option<Lexeme>
     ensures { result ≡ reading.slash_front place rest.now }
 {
     if takes_comment(place) && starts(b'*', rest) {
@@ -195,7 +195,7 @@ fn slash(place: Place, rest: &[u8]) -> Option<Lexeme>
 
 /// What a minus is.
 #[tactic(auto, unfolding(crate::specs::reading::Templates::minus_front))]
-fn minus(place: Place, rest: &[u8]) -> Lexeme
+fn minus(place: TokenContext, rest: &[u8]) -> Lexeme
     ensures { result ≡ reading.minus_front place rest.now }
 {
     let token = if is_trim(place, rest) {
@@ -207,7 +207,7 @@ fn minus(place: Place, rest: &[u8]) -> Lexeme
 }
 
 /// The token at the front, which stands at a place of an action. There is none at the end, and where a string or a comment doesn't close.
-pub fn front(place: Place, rest: &[u8]) -> Option<Lexeme>
+pub fn front(place: TokenContext, rest: &[u8]) -> Option<Lexeme>
     ensures { result ≡ reading.front place rest.now }
 {
     match rest {

@@ -3,7 +3,7 @@ ghost use Rattle.std.specs.Prelude.{◌≡◌, ◌+◌, ◌<◌, length, IfOk, I
 ghost use Rattle.std.specs.List.{AllByRecursion};
 ghost use Rattle.std.specs.List.Sorted.{IsNonDecreasing};
 ghost use Rattle.lf_base.specs.Answers.{Answers, Breach, Found, IfAt, Only, Refused};
-ghost use Rattle.lf_templates.specs.Source.{LiesIn};
+ghost use Rattle.lf_templates.specs.Source.{LiesInSource};
 ghost use Rattle.lf_templates.specs.Templates as templates;
 ghost use Rattle.lf_templates.specs.reading.Templates as reading;
 ghost use Rattle.lf_templates.specs.views.Steps.{Advances};
@@ -67,9 +67,9 @@ pub fn references(alloc: Global, template: &Template) -> Result<Seq<Reference>, 
     // It is refused, unless memory runs out; so no template has two breaches, nor one and references.
     ensures breach { Breach (λ found. found) (templates.Breaks template.now.from template.now.text) result }
     // The spans of the references lie in the source of the template's text.
-    ensures inside { IfOk result (AllByRecursion (λ reference. LiesIn template.now.from reference.span)) }
+    ensures inside { IfOk result (AllByRecursion (λ reference. LiesInSource template.now.from reference.span)) }
     // So does that of a refusal.
-    ensures refused_inside { IfErr result (λ refusal. IfAt refusal (λ fault. LiesIn template.now.from fault.span)) }
+    ensures refused_inside { IfErr result (λ refusal. IfAt refusal (λ fault. LiesInSource template.now.from fault.span)) }
 {
     read(alloc, template.text.as_str(), template.from.as_slice())
 }

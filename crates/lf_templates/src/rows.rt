@@ -4,7 +4,7 @@ ghost use Rattle.lf_templates.specs.Actions as actions;
 ghost use Rattle.lf_templates.specs.reading.Templates.{total};
 
 use crate::saying::is_labels;
-use crate::token::{Lexeme, Row, Token, Variable};
+use crate::token::{Lexeme, ReferenceSpan, Token, Variable};
 
 /// Whether a field that stands right behind a token goes on what the token begins or ends.
 pub fn goes_on(token: Token) -> bool
@@ -49,13 +49,13 @@ fn is_root(token: Token) -> bool
 }
 
 /// The reference of two tokens, `$labels.NAME` or `.Labels.NAME`, the first of which stands at an offset.
-fn row_of_two(inside: bool, at: usize, first: Lexeme, second: Lexeme) -> Option<Row>
+fn row_of_two(inside: bool, at: usize, first: Lexeme, second: Lexeme) -> Option<ReferenceSpan>
     requires { at + first.len + second.len < 2 ^ 63 }
     ensures { result ≡ actions.row_of_two inside at first second }
 {
     let begins = is_labels(first.token) || (is_labels_field(first.token) && !inside);
     if begins && is_field(second.token) {
-        Some(Row {
+        Some(ReferenceSpan {
             start: at,
             name: at + first.len + 1,
             end: at + first.len + second.len,
@@ -66,7 +66,7 @@ fn row_of_two(inside: bool, at: usize, first: Lexeme, second: Lexeme) -> Option<
 }
 
 /// The reference that begins with the first of these tokens, which stands at an offset. `inside` says that fields go on here.
-pub fn row_here(inside: bool, at: usize, tokens: &[Lexeme]) -> Option<Row>
+pub fn row_here(inside: bool, at: usize, tokens: &[Lexeme]) -> Option<ReferenceSpan>
     requires { at + total tokens.now < 2 ^ 63 }
     ensures { result ≡ actions.row_here inside at tokens.now }
 {
@@ -77,7 +77,7 @@ pub fn row_here(inside: bool, at: usize, tokens: &[Lexeme]) -> Option<Row>
         [first, second, third, ..] => {
             if is_root(first.token) && is_labels_field(second.token) && is_field(third.token) {
                 let before = first.len + second.len;
-                Some(Row {
+                Some(ReferenceSpan {
                     start: at,
                     name: at + before + 1,
                     end: at + before + third.len,

@@ -1,16 +1,9 @@
 //! How far strings and comments go.
-ghost use Rattle.std.specs.Prelude.{◌≡◌, ◌≤◌, ◌<◌, ◌+◌, length, not, false, ◌&&◌, ◌==◌, IfSome};
+ghost use Rattle.std.specs.Prelude.{◌≡◌, ◌≤◌, ◌<◌, ◌+◌, length, false, IfSome};
 ghost use Rattle.lf_templates.specs.reading.Templates as reading;
 
 use crate::bytes::starts_with;
-use lf_base::bytes::after;
-
-/// Whether a byte is the one that is looked for, and stands behind no backslash.
-fn is_bare(skip: bool, byte: u8, wanted: u8) -> bool
-    ensures { result ≡ (not skip && byte == wanted) }
-{
-    !skip && byte == wanted
-}
+use lf_base::bytes::{after, is_bare};
 
 /// How many bytes stand before the quote that closes, where one does.
 pub fn closing(quote: u8, rest: &[u8]) -> Option<usize>

@@ -61,7 +61,7 @@ pub struct Lexeme {
 
 /// A reference to a label, by offsets in the text.
 #[derive(Clone, Copy, PartialEq, Eq, Debug)]
-pub struct Row {
+pub struct ReferenceSpan {
     /// Where it begins.
     pub start: usize,
     /// Where the label's name begins.
@@ -72,7 +72,7 @@ pub struct Row {
 
 /// What stands before a token in its action, as far as the token depends on it.
 #[derive(Clone, Copy, PartialEq, Eq, Debug)]
-pub enum Place {
+pub enum TokenContext {
     /// Nothing: it comes right behind `{{`.
     Start,
     /// A trim mark.

@@ -17,7 +17,8 @@ use Rattle.lf_semantics.proofs.LabelTexts.{value-with_label}
 use Rattle.lf_trials.specs.Candidates.{labels_in, other_name}
 use Rattle.lf_trials.specs.Given.{Given, giving, label_set, with_text}
 use Rattle.lf_trials.specs.Names.{is_scraped_name}
-use Rattle.lf_trials.specs.Reached.{is_recorded, records}
+use Rattle.lf_semantics.specs.Environments.{records}
+use Rattle.lf_trials.specs.Reached.{is_recorded}
 
 -- label sets by texts
 

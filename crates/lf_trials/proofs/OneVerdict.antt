@@ -13,8 +13,7 @@ use Rattle.lf_semantics.specs.Environments.{rule_row}
 use Rattle.lf_semantics.specs.Listing.{Listing}
 use Rattle.lf_semantics.specs.RowTable.{Environment}
 use Rattle.lf_semantics.specs.Texts.{value_of}
-use Rattle.lf_trials.specs.Building.{Building, each_once}
-use Rattle.lf_trials.specs.Built.{IsBuilt, building_of}
+use Rattle.lf_trials.specs.Built.{IsBuilt, building_of, built_trial}
 use Rattle.lf_trials.specs.Candidates.{has_presence, labels_in}
 use Rattle.lf_trials.specs.Forks.{TellsForks}
 use Rattle.lf_trials.specs.Reached.{IsReach, Trial, rules_at, with_reach}
@@ -84,16 +83,13 @@ one_reach rules e js ks one other = one_ascending js ks one.ascending other.asce
 -- worlds
 
 module _ (u : Listing) (env : Environment) (rules : List RuleTree) (i : ℕ) (label : Bytes) (presence : Bool) where
-  abbrev pub trial_of : Building → Trial
-  trial_of b = record { series = each_once b.series; steps = b.steps }
-
   pub one_built : (t v : Trial) → IsBuilt u env rules i label presence t → IsBuilt u env rules i label presence v → t ≡ v
   one_built t v a b =
       let rule = same_option (slice_get rules i) a.rule b.rule a.is_rule b.is_rule in
       let test = one_test rules a.holds_fork b.holds_fork a.tells_forks b.tells_forks in
       let same : building_of u env rules a.holds_fork i a.rule label presence ≡ building_of u env rules b.holds_fork i b.rule label presence =
       ap₂ (λ (holds_fork : Tree → Bool) (r : RuleTree). building_of u env rules holds_fork i r label presence) test rule in
-      a.is_trial ∙ ap trial_of (same_Some a.built b.built (sym a.is_built ∙ same ∙ b.is_built)) ∙ sym b.is_trial
+      a.is_trial ∙ ap built_trial (same_Some a.built b.built (sym a.is_built ∙ same ∙ b.is_built)) ∙ sym b.is_trial
 
   abbrev pub uniform_trial : RuleTree → List ℕ → Trial
   uniform_trial r reach = record { series = uniform_series u rules (selected_by rules (with_reach i reach)) (uniform_texts u rules i r label presence); steps = passes_over reach }

@@ -23,7 +23,7 @@ use Rattle.lf_trials.specs.Reached.{IsReach}
 
 -- lists
 
-shorter : {X : Type 0} (test : X → Bool) (xs : List X) → length (filter test xs) ≤ length xs
+pub shorter : {X : Type 0} (test : X → Bool) (xs : List X) → length (filter test xs) ≤ length xs
 shorter test [] = omega arith
 shorter test (x ∷ xs) = by (test x) (shorter test xs)
   where

@@ -3,14 +3,14 @@ use Rattle.std.proofs.Common.{◌≡◌, Bool, true, false, cond, List, [], ◌+
 use Rattle.std.proofs.lemmas.List.{map-append}
 use Rattle.lf_ast.specs.Labels.{Bytes}
 use Rattle.lf_ast.specs.Tree.{Tree, Trees, Number, Str, Selector, Subquery, Paren, Unary, Binary, Call, Aggregate, Nil, Next}
-use Rattle.lf_deps.specs.Reading.{arguments_selectors, outside_scalars, selectors, selectors_in}
-use Rattle.lf_semantics.specs.Parts.{is_scalar_part}
-use Rattle.lf_trials.specs.Selected.{Selected, selected_in, selected_in_arguments, selectors_of, unless_scalar}
+use Rattle.lf_deps.specs.Reading.{arguments_selectors, selectors, selectors_in}
+use Rattle.lf_semantics.specs.Parts.{is_scalar_part, outside_scalars}
+use Rattle.lf_trials.specs.Selected.{Selected, selected_in, selected_in_arguments, selectors_of}
 
 abbrev said : List Selected → List (Option Bytes)
 said selected = map (λ s. s.name) selected
 
-unless_same : (e : Tree) (xs : List Selected) (ys : List (Option Bytes)) → said xs ≡ ys → said (unless_scalar e xs) ≡ outside_scalars e ys
+unless_same : (e : Tree) (xs : List Selected) (ys : List (Option Bytes)) → said xs ≡ ys → said (outside_scalars e xs) ≡ outside_scalars e ys
 unless_same e xs ys same = by (is_scalar_part e)
   where
     by : (b : Bool) → said (cond b [] xs) ≡ cond b [] ys

@@ -13,20 +13,20 @@ use Rattle.lf_ast.specs.Rules.{RuleTree}
 use Rattle.lf_ast.specs.Tree.{Tree}
 use Rattle.lf_deps.specs.Reading.{IsCyclic, Reads, Records}
 use Rattle.lf_semantics.specs.ClassRows.{Sets, is_live}
-use Rattle.lf_semantics.specs.Environments.{rule_row}
+use Rattle.lf_semantics.specs.Environments.{records, rule_row}
 use Rattle.lf_semantics.specs.Listing.{Listing}
 use Rattle.lf_semantics.specs.RowTable.{Environment}
 use Rattle.lf_semantics.specs.Texts.{value_of}
 use Rattle.lf_trials.specs.Building.{Building}
-use Rattle.lf_trials.specs.Built.{IsBuilt, building_of, selector_count}
+use Rattle.lf_trials.specs.Built.{IsBuilt, building_of, built_trial, selector_count}
 use Rattle.lf_trials.specs.Candidates.{has_presence, labels_in}
-use Rattle.lf_trials.specs.Reached.{IsReach, Trial, records, rules_at, with_reach}
+use Rattle.lf_trials.specs.Reached.{IsReach, Trial, rules_at, with_reach}
 use Rattle.lf_trials.specs.Trials.{IsFirstShown, IsNotShown, Shown, Shows, ShowsBuilt, ShowsUniform}
 use Rattle.lf_trials.specs.Selected.{Selected, selected_by}
 use Rattle.lf_trials.specs.Uniform.{IsUniform, SelectsCyclic, has_texts, uniform_texts}
 use Rattle.lf_trials.specs.Verdicts.{AreLabelVerdicts, Empty, Guaranteed, Impossible, IsLabelVerdict, IsRuleVerdict, LabelVerdict, Possible, RuleVerdict, Unresolved, leaves}
 use Rattle.lf_trials.specs.Verdicts as verdict
-use Rattle.lf_trials.proofs.OneVerdict.{one_built, one_reach, one_test, one_uniform, trial_of, uniform_trial}
+use Rattle.lf_trials.proofs.OneVerdict.{one_built, one_reach, one_test, one_uniform, uniform_trial}
 use Rattle.lf_trials.proofs.Reachable.{fork_test, is_reach_of, reach_of, reaches, reaches_is, tells_forks}
 use Rattle.lf_witness.proofs.Answers.{one_rule_answer, one_run_answer, some_rule_answer, some_run_answer}
 use Rattle.lf_witness.proofs.Decided.{Decided, by_test, decided_both, decided_map, some_member}
@@ -101,7 +101,7 @@ module _ (u : Listing) (env : Environment) (rules : List RuleTree) (i : ℕ) (r 
     where
       within : (b : Building) → building ≡ Some b → Decided (b.selectors ≤ 4 * selector_count rules (with_reach i reach)) → Decided Made
       within b is (inl few) = inl (
-        trial_of u env rules i label presence b,
+        built_trial b,
         record { holds_fork = fork_test rules; tells_forks = tells_forks rules; rule = r; is_rule = at; reach = reach; is_reach = is_reach_of rules r.expr; built = b; is_built = is; bounded = few; is_trial = refl },
       )
       within b is (inr many) = inr (λ (t, other).

@@ -11,7 +11,7 @@ use Rattle.lf_ast.specs.Tree.{Tree, Trees, Number, Str, Selector, Subquery, Pare
 use Rattle.lf_ast.specs.declared.expr.Grouping.TheVariants.{None as Ungrouped}
 use Rattle.lf_ast.specs.declared.expr.Matcher.{Matcher}
 use Rattle.lf_deps.specs.Reading.{selectors}
-use Rattle.lf_semantics.specs.Environments.{recorded_row, rule_row}
+use Rattle.lf_semantics.specs.Environments.{records, recorded_row, rule_row}
 use Rattle.lf_semantics.specs.Grouped.{is_metric}
 use Rattle.lf_semantics.specs.Listing.{Listing}
 use Rattle.lf_semantics.specs.Parts.{is_scalar_part}
@@ -23,7 +23,7 @@ use Rattle.lf_trials.specs.Given.{Given, completed, giving, holds_texts, label_s
 use Rattle.lf_trials.specs.Matched.{build_binary}
 use Rattle.lf_trials.specs.Names.{is_scraped_name, name_for}
 use Rattle.lf_trials.specs.Operands.{build_call, build_nameless_if}
-use Rattle.lf_trials.specs.Reached.{IsReach, Trial, first_rule, is_marked, is_recorded, records, rules_at, with_reach}
+use Rattle.lf_trials.specs.Reached.{IsReach, Trial, first_rule, is_marked, is_recorded, rules_at, with_reach}
 
 -- selectors
 
@@ -110,6 +110,10 @@ module _ (u : Listing) (env : Environment) (rules : List RuleTree) (holds_fork :
 abbrev pub selector_count : List RuleTree → List ℕ → ℕ
 selector_count rules numbers = sum (map (λ r. length (selectors r.expr)) (rules_at rules numbers))
 
+-- what was built as a trial: each series once
+abbrev pub built_trial : Building → Trial
+built_trial b = record { series = each_once b.series; steps = b.steps }
+
 -- The built world for a label and a presence. There is none where selectors, all of them together, are built more than four times as often as they stand in the rule and in its
 -- reach, outside scalars.
 pub record IsBuilt (u : Listing) (env : Environment) (rules : List RuleTree) (i : ℕ) (label : Bytes) (presence : Bool) (trial : Trial) : Type 0 where
@@ -122,4 +126,4 @@ pub record IsBuilt (u : Listing) (env : Environment) (rules : List RuleTree) (i 
   pub built : Building
   pub is_built : building_of u env rules holds_fork i rule label presence ≡ Some built
   pub bounded : built.selectors ≤ 4 * selector_count rules (with_reach i reach)
-  pub is_trial : trial ≡ record { series = each_once built.series; steps = built.steps }
+  pub is_trial : trial ≡ built_trial built

@@ -25,7 +25,8 @@ use Rattle.lf_semantics.specs.Passing.{passes}
 use Rattle.lf_semantics.specs.Strings.{equal_texts}
 use Rattle.lf_trials.specs.Candidates.{first}
 use Rattle.lf_trials.specs.Names.{name_for}
-use Rattle.lf_trials.specs.Reached.{first_rule, is_marked, is_recorded, records}
+use Rattle.lf_semantics.specs.Environments.{records}
+use Rattle.lf_trials.specs.Reached.{first_rule, is_marked, is_recorded}
 use Rattle.lf_trials.specs.Sides.{left_gives, right_gives}
 
 -- the text, or that there is none to tell: then the label can't be followed

@@ -1,15 +1,11 @@
 -- Rules by their numbers: which record a name, and which are read; and what is tried with them.
-use Rattle.std.specs.Prelude.{◌≡◌, ◌<◌, ◌↔◌, ℕ, suc, Bool, not, ◌&&◌, cond, eqb, nat_lt, List, [], ◌∷◌, ◌++◌, length, Option, Some, None, slice_get, slice_index_or}
+use Rattle.std.specs.Prelude.{◌≡◌, ◌<◌, ◌↔◌, ℕ, suc, Bool, cond, eqb, nat_lt, List, [], ◌∷◌, ◌++◌, length, Option, Some, None, slice_get, slice_index_or}
 use Rattle.std.specs.List.{Contains, filter, flat_map, list_any}
-use Rattle.std.specs.Str.{bytes_eq}
 use Rattle.lf_ast.specs.Labels.{Bytes, Labels}
 use Rattle.lf_ast.specs.Rules.{RuleTree}
 use Rattle.lf_ast.specs.Tree.{Tree}
 use Rattle.lf_deps.specs.Reading.{Reaches}
-
--- the rule records the name
-abbrev pub records : Bytes → RuleTree → Bool
-records name r = not r.alert && bytes_eq r.name name
+use Rattle.lf_semantics.specs.Environments.{records}
 
 -- some rule records the name
 abbrev pub is_recorded : List RuleTree → Bytes → Bool

@@ -1,15 +1,13 @@
 -- What `absent` gives a label.
-use Rattle.std.proofs.Common.{◌≡◌, Bool, true, false, ◌&&◌, cond, List, [], ◌∷◌, Option, Some, None, refl, sym, ◌∙◌, ap, map}
+use Rattle.std.proofs.Common.{◌≡◌, Bool, true, false, ◌&&◌, cond, List, [], ◌∷◌, refl, sym, ◌∙◌, ap, map}
 use Rattle.std.specs.List.{filter}
-use Rattle.std.specs.Option.{option_map, option_map_or}
+use Rattle.std.specs.Option.{option_map_or}
 use Rattle.std.specs.Str.{bytes_eq}
 use Rattle.lf_ast.specs.Labels.{Bytes}
 use Rattle.lf_ast.specs.Selectors.{is_equal}
 use Rattle.lf_ast.specs.declared.expr.Matcher.{Matcher}
-use Rattle.lf_semantics.specs.Parts.{Sought}
 use Rattle.lf_semantics.specs.Strings.{equal_texts}
 use Rattle.lf_trials.specs.Candidates.{first}
-use Rattle.lf_trials.specs.Follow.{sought_text}
 use Rattle.lf_uniform.specs.views.Following.{first_equal}
 
 -- the first `=` among the matchers on the label
@@ -23,8 +21,3 @@ equal_is label (m ∷ matchers) = by (is_equal m.op) (bytes_eq m.label label) re
     by true false is later = later
     by false false is later = later
     by false true is later = later ∙ sym (ap (λ (z : Bool). option_map_or (λ text. text) (first (map (λ (n : Matcher). n.value) (cond z (m ∷ filter (λ n. is_equal n.op) (filter (λ n. bytes_eq n.label label) matchers)) (filter (λ n. is_equal n.op) (filter (λ n. bytes_eq n.label label) matchers))))) []) is)
-
--- parentheses change nothing
-pub in_parentheses : (label : Bytes) (o : Option Sought) → sought_text label (option_map (λ s. record { matchers = s.matchers; may_be_bare = true }) o) ≡ sought_text label o
-in_parentheses label None = refl
-in_parentheses label (Some s) = refl

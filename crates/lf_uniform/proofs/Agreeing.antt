@@ -16,10 +16,10 @@ use Rattle.lf_ast.specs.declared.expr.Matcher.{Matcher}
 use Rattle.lf_ast.specs.declared.expr.Matching.{Matching}
 use Rattle.lf_ast.specs.declared.expr.Op.{Op}
 use Rattle.lf_ast.specs.declared.functions.LabelEffect.{LabelEffect}
-use Rattle.lf_deps.specs.Reading.{arguments_selectors, outside_scalars, selectors, selectors_in}
+use Rattle.lf_deps.specs.Reading.{arguments_selectors, selectors, selectors_in}
 use Rattle.lf_semantics.specs.Grouped.{is_metric}
 use Rattle.lf_semantics.specs.Listing.{Listing}
-use Rattle.lf_semantics.specs.Parts.{given_by, is_scalar_part, operand_place}
+use Rattle.lf_semantics.specs.Parts.{given_by, is_scalar_part, operand_place, outside_scalars}
 use Rattle.lf_semantics.proofs.ScalarCalls.{IsBareIfScalar, named_is_bare}
 use Rattle.lf_trials.specs.Follow.{Followed, follow, follow_argument, follow_binary, follow_call, follow_effect, follow_name, if_it_passes, lost, nameless_if, on_series}
 use Rattle.lf_trials.specs.Reached.{is_recorded}

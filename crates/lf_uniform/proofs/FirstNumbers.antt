@@ -10,12 +10,13 @@ use Rattle.lf_ast.specs.Labels.{Bytes}
 use Rattle.lf_ast.specs.Rules.{RuleTree}
 use Rattle.lf_classes.specs.views.TextSets.{with_text}
 use Rattle.lf_classes.proofs.RecordedNames.{recorded_more}
-use Rattle.lf_semantics.specs.Environments.{recorded_names}
+use Rattle.lf_semantics.specs.Environments.{records, recorded_names}
 use Rattle.lf_semantics.specs.Listing.{place}
 use Rattle.lf_semantics.proofs.Places.{at_place}
 use Rattle.lf_candidates.proofs.Recorded.{recorded_test}
-use Rattle.lf_trials.specs.Reached.{first_rule, is_recorded, records}
-use Rattle.lf_uniform.specs.views.Lines.{AreFirstsOf, Firsts, IsIn, first_of, is_in}
+use Rattle.lf_trials.specs.Reached.{first_rule, is_recorded}
+use Rattle.lf_deps.specs.views.Names.{IsPlaced}
+use Rattle.lf_uniform.specs.views.Lines.{AreFirstsOf, Firsts, first_of, is_in}
 use Rattle.lf_uniform.proofs.Rounds.{as_in, is_in_means}
 use Rattle.lf_uniform.proofs.Sound.{found_rule, some_first}
 
@@ -33,10 +34,10 @@ one_pair : (k : ℕ) (q r : RuleTree) → q ≡ r → ◌≡◌ {A = Option (ℕ
 one_pair k q r e = ap (λ (z : RuleTree). Some (k, z)) e
 
 module _ (rules : List RuleTree) (firsts : Firsts) (are : AreFirstsOf rules firsts) (k : ℕ) (r : RuleTree) (at : slice_get rules k ≡ Some r) where
-  number_here : IsIn firsts.names r.name → number_of rules r.name ≡ Some (get_or firsts.numbers (place firsts.names r.name) 0)
+  number_here : IsPlaced firsts.names r.name → number_of rules r.name ≡ Some (get_or firsts.numbers (place firsts.names r.name) 0)
   number_here inside = ap (number_of rules) (sym (at_place firsts.names r.name inside)) ∙ are.each (place firsts.names r.name) inside
 
-  pub first_from : IsIn firsts.names r.name → get_or firsts.numbers (place firsts.names r.name) 0 ≡ k → first_of rules r.name ≡ Some (k, r)
+  pub first_from : IsPlaced firsts.names r.name → get_or firsts.numbers (place firsts.names r.name) 0 ≡ k → first_of rules r.name ≡ Some (k, r)
   first_from inside same =
       let found = some_first r.name 0 rules (sym (tells_recorded rules firsts.names are.names r.name) ∙ as_in firsts.names r.name inside) in
       let number : found.0 ≡ k = one_number found.0 k (sym (ap (option_map (λ f. f.0)) found.2) ∙ number_here inside ∙ ap Some same) in
@@ -60,7 +61,7 @@ module _ (rules : List RuleTree) (firsts : Firsts) (are : AreFirstsOf rules firs
       by true e = refl
       by false e = let clash : ◌≡◌ {A = Option (ℕ × RuleTree)} (Some (k, r)) None = sym first ∙ none 0 rules e in absurd (cc)
 
-  pub first_to : first_of rules r.name ≡ Some (k, r) → IsIn firsts.names r.name × (get_or firsts.numbers (place firsts.names r.name) 0 ≡ k)
+  pub first_to : first_of rules r.name ≡ Some (k, r) → IsPlaced firsts.names r.name × (get_or firsts.numbers (place firsts.names r.name) 0 ≡ k)
   first_to first =
       let inside = is_in_means firsts.names r.name true (sym (tells_recorded rules firsts.names are.names r.name ∙ recorded_by first)) refl in
       (inside, one_number _ k (sym (number_here inside) ∙ ap (option_map (λ f. f.0)) first))
@@ -109,7 +110,7 @@ module _ (rules : List RuleTree) (firsts : Firsts) (are : AreFirstsOf rules firs
   names_with recording = recorded_more rules r ∙ ap (λ (b : Bool). cond b (recorded_names rules) (with_text (recorded_names rules) r.name)) recording ∙ ap (λ (xs : List Bytes). with_text xs r.name) (sym are.names)
 
   -- the name is there
-  pub known_firsts : r.alert ≡ false → IsIn firsts.names r.name → (names : List Bytes) → names ≡ with_text firsts.names r.name → AreFirstsOf (rules ++ r ∷ []) (record { names = names; numbers = firsts.numbers })
+  pub known_firsts : r.alert ≡ false → IsPlaced firsts.names r.name → (names : List Bytes) → names ≡ with_text firsts.names r.name → AreFirstsOf (rules ++ r ∷ []) (record { names = names; numbers = firsts.numbers })
   known_firsts recording inside names is =
       let same : with_text firsts.names r.name ≡ firsts.names = ap (λ (b : Bool). cond b firsts.names (firsts.names ++ r.name ∷ [])) (as_in firsts.names r.name inside) in
       subst (λ (ns : List Bytes). AreFirstsOf (rules ++ r ∷ []) (record { names = ns; numbers = firsts.numbers })) (sym (is ∙ same)) (same_firsts (names_with recording ∙ same))
@@ -118,7 +119,7 @@ module _ (rules : List RuleTree) (firsts : Firsts) (are : AreFirstsOf rules firs
   IsNumber names numbers j = number_of (rules ++ r ∷ []) (get_or names j []) ≡ Some (get_or numbers j 0)
 
   -- it is new
-  pub new_firsts : r.alert ≡ false → (IsIn firsts.names r.name → ⊥) → (names : List Bytes) → names ≡ with_text firsts.names r.name → (count : ℕ) → length rules ≡ count → AreFirstsOf (rules ++ r ∷ []) (record { names = names; numbers = firsts.numbers ++ count ∷ [] })
+  pub new_firsts : r.alert ≡ false → (IsPlaced firsts.names r.name → ⊥) → (names : List Bytes) → names ≡ with_text firsts.names r.name → (count : ℕ) → length rules ≡ count → AreFirstsOf (rules ++ r ∷ []) (record { names = names; numbers = firsts.numbers ++ count ∷ [] })
   new_firsts recording fresh names is count size = record {
     names = is ∙ sym (names_with recording);
     count = let m = length-append firsts.numbers (count ∷ []) in let n = length-append firsts.names (r.name ∷ []) in let e = ap length longer in omega (arith, m, n, e, are.count);

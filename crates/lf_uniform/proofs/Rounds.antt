@@ -12,33 +12,34 @@ use Rattle.lf_laws.proofs.Options.{same_option}
 use Rattle.lf_ast.specs.Labels.{Bytes}
 use Rattle.lf_ast.specs.Rules.{RuleTree}
 use Rattle.lf_deps.specs.Reading.{selectors}
+use Rattle.lf_deps.specs.views.Names.{IsPlaced}
 use Rattle.lf_semantics.specs.Listing.{place}
 use Rattle.lf_semantics.proofs.ListingLaws.{place_within}
 use Rattle.lf_trials.specs.Reached.{is_recorded}
-use Rattle.lf_uniform.specs.views.Lines.{AreEntries, IsEntry, IsIn, IsLineOf, IsReady, IsRound, IsSettled, IsWaiting, Line, Stays, first_of, is_in, is_no_wait, is_ready}
+use Rattle.lf_uniform.specs.views.Lines.{AreEntries, IsEntry, IsLineOf, IsReady, IsRound, IsSettled, IsWaiting, Line, Stays, first_of, is_in, is_no_wait, is_ready}
 
 -- places in a longer list
-pub place_front : (xs ys : List Bytes) (name : Bytes) → IsIn xs name → place (xs ++ ys) name ≡ place xs name
+pub place_front : (xs ys : List Bytes) (name : Bytes) → IsPlaced xs name → place (xs ++ ys) name ≡ place xs name
 place_front [] ys name h = absurd (omega (arith, h))
 place_front (x ∷ xs) ys name h = by (bytes_eq x name) h (place_front xs ys name)
   where
-    by : (b : Bool) → cond (not b) (1 + place xs name) 0 < suc (length xs) → (IsIn xs name → place (xs ++ ys) name ≡ place xs name) → cond (not b) (1 + place (xs ++ ys) name) 0 ≡ cond (not b) (1 + place xs name) 0
+    by : (b : Bool) → cond (not b) (1 + place xs name) 0 < suc (length xs) → (IsPlaced xs name → place (xs ++ ys) name ≡ place xs name) → cond (not b) (1 + place (xs ++ ys) name) 0 ≡ cond (not b) (1 + place xs name) 0
     by true h later = refl
     by false h later = let e = later (omega (arith, h)) in omega (arith, e)
 
-in_front : (xs ys : List Bytes) (name : Bytes) → IsIn xs name → IsIn (xs ++ ys) name
+in_front : (xs ys : List Bytes) (name : Bytes) → IsPlaced xs name → IsPlaced (xs ++ ys) name
 in_front xs ys name h = let e = place_front xs ys name h in let n = length-append xs ys in omega (arith, e, n, h)
 
-in_last : (xs : List Bytes) (name : Bytes) → IsIn (xs ++ name ∷ []) name
+in_last : (xs : List Bytes) (name : Bytes) → IsPlaced (xs ++ name ∷ []) name
 in_last xs name = place_within (xs ++ name ∷ []) name (Contains-append_right xs (name ∷ []) name (here name []))
 
-pub is_in_means : (names : List Bytes) (name : Bytes) (b : Bool) → b ≡ is_in names name → b ≡ true → IsIn names name
+pub is_in_means : (names : List Bytes) (name : Bytes) (b : Bool) → b ≡ is_in names name → b ≡ true → IsPlaced names name
 is_in_means names name b is holds = let t : nat_lt (place names name) (length names) ≡ true = sym is ∙ holds in grind (arith, nat_tests)
 
-pub isnt_in_means : (names : List Bytes) (name : Bytes) → is_in names name ≡ false → IsIn names name → ⊥
+pub isnt_in_means : (names : List Bytes) (name : Bytes) → is_in names name ≡ false → IsPlaced names name → ⊥
 isnt_in_means names name fails h = let t : nat_lt (place names name) (length names) ≡ true = grind (arith, nat_tests) in true≢false (sym t ∙ fails)
 
-pub as_in : (names : List Bytes) (name : Bytes) → IsIn names name → is_in names name ≡ true
+pub as_in : (names : List Bytes) (name : Bytes) → IsPlaced names name → is_in names name ≡ true
 as_in names name h = grind (arith, nat_tests)
 
 module _ (rules : List RuleTree) where
@@ -129,26 +130,26 @@ module _ (rules : List RuleTree) where
       among = λ j c. absurd (none_in j c);
       each = λ j c. inr (λ q at_j found. let e : k ≡ j = only_one k j c in
           let same : r ≡ q = same_option (slice_get rules k) r q at (ap (slice_get rules) e ∙ at_j) in
-          subst (λ (z : RuleTree). IsIn (line.names ++ r.name ∷ []) z.name) same (in_last line.names r.name));
+          subst (λ (z : RuleTree). IsPlaced (line.names ++ r.name ∷ []) z.name) same (in_last line.names r.name));
       still = λ e. absurd (omega (arith, e));
     }
 
   -- a test tells what is ready
 
-  ready_each : (recorded names : List Bytes) (found : List (Option Bytes)) → is_ready recorded names found ≡ true → (name : Bytes) → Contains found (Some name) → IsIn recorded name → IsIn names name
+  ready_each : (recorded names : List Bytes) (found : List (Option Bytes)) → is_ready recorded names found ≡ true → (name : Bytes) → Contains found (Some name) → IsPlaced recorded name → IsPlaced names name
   ready_each recorded names [] e name c h = absurd (none_in (Some name) c)
   ready_each recorded names (o ∷ found) e name c h = by (is_no_wait recorded names o) refl e (first_or_behind o found (Some name) c) (λ f d. ready_each recorded names found f name d h)
     where
-      own : (a : Bool) → is_in recorded name ≡ a → (not a || is_in names name) ≡ true → IsIn names name
+      own : (a : Bool) → is_in recorded name ≡ a → (not a || is_in names name) ≡ true → IsPlaced names name
       own true is e = is_in_means names name true (sym e) refl
       own false is e = absurd (isnt_in_means recorded name is h)
 
-      by : (b : Bool) → is_no_wait recorded names o ≡ b → (b && is_ready recorded names found) ≡ true → (o ≡ Some name) ⊎ Contains found (Some name) → (is_ready recorded names found ≡ true → Contains found (Some name) → IsIn names name) → IsIn names name
+      by : (b : Bool) → is_no_wait recorded names o ≡ b → (b && is_ready recorded names found) ≡ true → (o ≡ Some name) ⊎ Contains found (Some name) → (is_ready recorded names found ≡ true → Contains found (Some name) → IsPlaced names name) → IsPlaced names name
       by false is f there later = absurd (true≢false (sym f))
       by true is f (inl same) later = own (is_in recorded name) refl (ap (is_no_wait recorded names) (sym same) ∙ is)
       by true is f (inr rest) later = later f rest
 
-  some_waits : (recorded names : List Bytes) (found : List (Option Bytes)) → ((name : Bytes) → Contains found (Some name) → IsIn recorded name → IsIn names name) → is_ready recorded names found ≡ true
+  some_waits : (recorded names : List Bytes) (found : List (Option Bytes)) → ((name : Bytes) → Contains found (Some name) → IsPlaced recorded name → IsPlaced names name) → is_ready recorded names found ≡ true
   some_waits recorded names [] each = refl
   some_waits recorded names (o ∷ found) each = ap (λ (b : Bool). b && is_ready recorded names found) (first o (λ name e. each name (subst (λ (z : Option Bytes). Contains (o ∷ found) z) e (here o found))))
       ∙ some_waits recorded names found (λ name c. each name (behind o found (Some name) c))
@@ -157,7 +158,7 @@ module _ (rules : List RuleTree) where
       either true b h = h refl
       either false b h = refl
 
-      first : (o : Option Bytes) → ((name : Bytes) → o ≡ Some name → IsIn recorded name → IsIn names name) → is_no_wait recorded names o ≡ true
+      first : (o : Option Bytes) → ((name : Bytes) → o ≡ Some name → IsPlaced recorded name → IsPlaced names name) → is_no_wait recorded names o ≡ true
       first None each = refl
       first (Some name) each = either (is_in recorded name) (is_in names name) (λ holds. as_in names name (each name refl (is_in_means recorded name true (sym holds) refl)))
 

@@ -13,13 +13,15 @@ use Rattle.lf_ast.specs.Rules.{RuleTree}
 use Rattle.lf_ast.specs.Tree.{Tree}
 use Rattle.lf_deps.specs.Reading.{IsCyclic, Reads, Selects, selectors}
 use Rattle.lf_deps.specs.Reading.Reads.{selected, through}
+use Rattle.lf_deps.specs.views.Names.{IsPlaced}
 use Rattle.lf_semantics.specs.Listing.{Listing, place}
 use Rattle.lf_semantics.proofs.Places.{at_place}
 use Rattle.lf_candidates.proofs.Marks.{AreMarks, no_marks, one_mark_more, some_unmarked}
 use Rattle.lf_trials.specs.Follow.{Followed, follow, follow_by_rule, follow_from, recorded_text}
-use Rattle.lf_trials.specs.Reached.{IsReach, first_rule, is_marked, is_recorded, records, with_reach}
+use Rattle.lf_semantics.specs.Environments.{records}
+use Rattle.lf_trials.specs.Reached.{IsReach, first_rule, is_marked, is_recorded, with_reach}
 use Rattle.lf_uniform.specs.views.Following.{known_by}
-use Rattle.lf_uniform.specs.views.Lines.{AreValues, IsIn, IsLineOf, Line, first_of}
+use Rattle.lf_uniform.specs.views.Lines.{AreValues, IsLineOf, Line, first_of}
 use Rattle.lf_uniform.specs.views.Ways.{IsUncyclic, IsWay}
 use Rattle.lf_uniform.proofs.Agreeing.{agrees}
 use Rattle.lf_uniform.proofs.WithReach.{in_with_reach, own_with_reach}
@@ -99,7 +101,7 @@ module _ (u : Listing) (rules : List RuleTree) (label given : Bytes) (line : Lin
     value_count = are_values.count_is ∙ is_line.entries.count
 
     -- what is told of a name in line is what its first rule gives
-    fixed : (name : Bytes) → IsIn line.names name → (k : ℕ) (r : RuleTree) → first_of rules name ≡ Some (k, r) → known name ≡ option_map (recorded_text label r) (followed_in r.expr)
+    fixed : (name : Bytes) → IsPlaced line.names name → (k : ℕ) (r : RuleTree) → first_of rules name ≡ Some (k, r) → known name ≡ option_map (recorded_text label r) (followed_in r.expr)
     fixed name inside k r first =
         let p : ℕ = place line.names name in
         let entry = is_line.entries.each p inside in
@@ -124,7 +126,7 @@ module _ (u : Listing) (rules : List RuleTree) (label given : Bytes) (line : Lin
         recorded : is_recorded rules name ≡ true
 
       abbrev IsSame : ℕ → List ℕ → Bytes → Type 0
-      IsSame unmarked marked name = IsIn line.names name × (follow_by_rule u rules label given unmarked marked name ≡ known name)
+      IsSame unmarked marked name = IsPlaced line.names name × (follow_by_rule u rules label given unmarked marked name ≡ known name)
 
       -- no marked rule records the name
       none_marked : (marked : List ℕ) (name : Bytes) → IsFollowed marked name → (k : ℕ) (r : RuleTree) → slice_get rules k ≡ Some r → records name r ≡ true → is_marked marked k ≡ false
@@ -176,9 +178,9 @@ module _ (u : Listing) (rules : List RuleTree) (label given : Bytes) (line : Lin
                 subst (λ (z : RuleTree). Reads rules z.expr next) same (selected (inl c))
             by j false e m q at_j = reads_on rules q.expr name (is.read j m q at_j) r (member_at rules k r there) does.0 same_name next (inl c)
 
-        ready_in : (unmarked : ℕ) → ((next : Bytes) → Contains (selectors r.expr) (Some next) → is_recorded rules next ≡ true → IsSame unmarked (k ∷ marked) next) → IsIn line.names name
+        ready_in : (unmarked : ℕ) → ((next : Bytes) → Contains (selectors r.expr) (Some next) → is_recorded rules next ≡ true → IsSame unmarked (k ∷ marked) next) → IsPlaced line.names name
         ready_in unmarked later = elim (is_line.closed k reached) [
-          | inl settled ↦ subst (IsIn line.names) same_name (settled r there (ap (first_of rules) same_name ∙ first))
+          | inl settled ↦ subst (IsPlaced line.names) same_name (settled r there (ap (first_of rules) same_name ∙ first))
           | inr waits ↦ absurd (waits r there (λ next c recorded. (later next c recorded).0))
         ]
 

@@ -9,7 +9,7 @@ use Rattle.lf_ast.specs.Labels.{Bytes}
 use Rattle.lf_ast.specs.Rules.{RuleTree}
 use Rattle.lf_semantics.specs.Listing.{Listing}
 use Rattle.lf_trials.specs.Follow.{Followed, follow, recorded_text}
-use Rattle.lf_trials.specs.Reached.{records}
+use Rattle.lf_semantics.specs.Environments.{records}
 use Rattle.lf_uniform.specs.views.Following.{known_by}
 use Rattle.lf_uniform.specs.views.Lines.{AreEntries, AreValuesBefore, Line, ValueAt}
 use Rattle.lf_uniform.proofs.Sound.{found_rule}

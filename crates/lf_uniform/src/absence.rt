@@ -3,38 +3,24 @@ ghost use Rattle.std.specs.Prelude.{◌≡◌, [], cond};
 ghost use Rattle.std.specs.List.{filter};
 ghost use Rattle.std.specs.Option.{option_map_or};
 ghost use Rattle.std.specs.Str.{bytes_eq};
-ghost use Rattle.lf_ast.specs.Tree.{tree, trees};
+ghost use Rattle.lf_ast.specs.Tree.{trees};
 ghost use Rattle.lf_semantics.specs.Grouped.{is_metric};
-ghost use Rattle.lf_semantics.specs.Parts.{sought_by, sought_in};
+ghost use Rattle.lf_semantics.specs.Parts.{sought_in};
 ghost use Rattle.lf_semantics.specs.Strings.{equal_texts};
 ghost use Rattle.lf_trials.specs.Candidates.{first};
 ghost use Rattle.lf_trials.specs.Follow.{sought_text};
 ghost use Rattle.lf_uniform.specs.views.Following.{first_equal};
 
 use lf_ast::{Expr, MatchOp, Matcher};
-use lf_nodes::is_metric;
+use lf_nodes::{is_metric, sought_in};
 
 /// The text of the first `=` on a label, where the argument is a selector, also in parentheses; else none. The metric name has none.
 pub fn sought_text<'a>(args: &'a [Expr], label: &str) -> &'a str
     ensures { result.now ≡ sought_text label.now (sought_in (trees args.now)) }
 {
-    match args.get(0) {
-        Some(expr) => sought_by(expr, label),
+    match sought_in(args) {
+        Some(sought) => equal_text(sought.matchers, label),
         None => "",
-    }
-}
-
-/// The text by one argument.
-fn sought_by<'a>(expr: &'a Expr, label: &str) -> &'a str
-    ensures { result.now ≡ sought_text label.now (sought_by (tree expr.now)) }
-{
-    let mut inner = expr;
-    loop {
-        match inner {
-            Expr::Selector { matchers, .. } => return equal_text(matchers.as_slice(), label),
-            Expr::Paren { of, .. } => inner = of,
-            _ => return "",
-        }
     }
 }
 

@@ -1,7 +1,7 @@
--- Which test a character needs: one that is ASCII is wrong as a control character alone, and no other is such.
-use Rattle.std.proofs.Common.{◌≡◌, ℕ, suc, ◌<◌, ◌≤◌, Bool, false, ◌||◌, List, [], ◌∷◌, length, get_or, drop, refl, ap, arith, sym, ◌∙◌, drop-cons}
+-- Which test a character needs: one that is ASCII is wrong as a control character alone.
+use Rattle.std.proofs.Common.{◌≡◌, ℕ, suc, ◌<◌, Bool, false, ◌||◌, List, [], ◌∷◌, length, get_or, drop, refl, ap, arith, sym, ◌∙◌, drop-cons}
 use Rattle.std.proofs.Math.Bool.{or-false}
-use Rattle.std.proofs.lemmas.Bool.{ne_eqb, le-ltb}
+use Rattle.std.proofs.lemmas.Bool.{ne_eqb}
 use Rattle.lf_yaml.specs.Characters.{is_wrong, is_wrong_control, is_high_control, is_left_out}
 
 not-left-out : (b : ℕ) (bs : List ℕ) → b < 128 → is_left_out (b ∷ bs) ≡ false
@@ -11,14 +11,8 @@ not-high : (b : ℕ) (bs : List ℕ) → b < 128 → is_high_control (b ∷ bs) 
 not-high b [] lt = refl
 not-high b (c ∷ bs) lt = rw (ne_eqb b 0xC2 (λ e. omega (arith, e, lt))) refl
 
-not-control : (b : ℕ) (bs : List ℕ) → 128 ≤ b → is_wrong_control (b ∷ bs) ≡ false
-not-control b bs le = rw (le-ltb b 32 (omega (arith, le)), ne_eqb b 127 (λ e. omega (arith, e, le))) refl
-
 no-more : (x y z : Bool) → y ≡ false → z ≡ false → x ≡ (x || (y || z))
 no-more x y z e f = rw (e, f) (sym (or-false x))
-
-none-before : (x y : Bool) → x ≡ false → y ≡ (x || y)
-none-before x y e = rw e refl
 
 module _ (bytes : List ℕ) (k : ℕ) (lt : k < length bytes) where
   split : drop k bytes ≡ get_or bytes k 0 ∷ drop (suc k) bytes
@@ -29,9 +23,3 @@ module _ (bytes : List ℕ) (k : ℕ) (lt : k < length bytes) where
       let b = get_or bytes k 0 in
       let bs = drop (suc k) bytes in
       ap is_wrong_control split ∙ no-more (is_wrong_control (b ∷ bs)) (is_high_control (b ∷ bs)) (is_left_out (b ∷ bs)) (not-high b bs h) (not-left-out b bs h) ∙ sym (ap is_wrong split)
-
-  pub other-wrong : 128 ≤ get_or bytes k 0 → (is_high_control (drop k bytes) || is_left_out (drop k bytes)) ≡ is_wrong (drop k bytes)
-  other-wrong h =
-      let b = get_or bytes k 0 in
-      let bs = drop (suc k) bytes in
-      ap (λ (xs : List ℕ). is_high_control xs || is_left_out xs) split ∙ none-before (is_wrong_control (b ∷ bs)) (is_high_control (b ∷ bs) || is_left_out (b ∷ bs)) (not-control b bs h) ∙ sym (ap is_wrong split)

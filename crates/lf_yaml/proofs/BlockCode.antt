@@ -8,7 +8,8 @@ use Rattle.lf_base.specs.declared.fault.Fault.{Fault}
 use Rattle.lf_scalar.specs.Cells.{Value, character_fault, Fails, ◌>>=◌}
 use Rattle.lf_yaml.specs.Rows.{Row, indent}
 use Rattle.lf_yaml.specs.Heads.{is_item}
-use Rattle.lf_yaml.specs.Tree.{Tree, Items, Entries, pair, value}
+use Rattle.lf_scalar.specs.Scalars.{value}
+use Rattle.lf_yaml.specs.Tree.{Tree, Items, Entries, pair}
 use Rattle.lf_yaml.specs.reading.Trees.{Head, Read, EntryValues, entry_of, as_sequence, as_mapping, value_on, node_at, Keys}
 use Rattle.lf_yaml.specs.views.Cursor.{rows_after}
 use Rattle.lf_yaml.specs.views.KeySets.{HasKeys}

@@ -10,11 +10,11 @@ use Rattle.lf_yaml.specs.Flow.{line_on}
 use Rattle.lf_yaml.specs.reading.Trees.{FlowRead, Read, alone, closed_list, closed_map}
 use Rattle.lf_yaml.specs.views.Places.{IsPartIn}
 use Rattle.lf_yaml.specs.views.Shown.{shown}
-use Rattle.lf_yaml.specs.declared.row.Row.{Row as CodeRow}
+use Rattle.lf_yaml.specs.declared.row.ContentLine.{ContentLine}
 use Rattle.lf_yaml.proofs.FlowPlaces.{rest-further}
 
 -- what stands behind a part's first byte is the rest of the line there
-pub closing-rest : (bytes : List ℕ) (closing : CodeRow) (next : ℕ) → IsPartIn bytes closing next → 0 < length closing.text.now → (shown closing).rest ≡ (line_on bytes (suc closing.at)).text
+pub closing-rest : (bytes : List ℕ) (closing : ContentLine) (next : ℕ) → IsPartIn bytes closing next → 0 < length closing.text.now → (shown closing).rest ≡ (line_on bytes (suc closing.at)).text
 closing-rest bytes closing next is full =
     let z : closing.at + 1 ≡ suc closing.at = omega arith in
     ap (λ (n : ℕ). cells n (drop 1 closing.text.now)) (sym z) ∙ rest-further bytes closing.at 1 closing.text.now is.rest (omega (arith, full)) ∙ ap (λ (n : ℕ). (line_on bytes n).text) z

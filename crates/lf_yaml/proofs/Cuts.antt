@@ -16,7 +16,7 @@ use Rattle.lf_scalar.proofs.Cells.{cells-length}
 use Rattle.lf_yaml.specs.views.Shown.{shown}
 use Rattle.lf_yaml.specs.views.Cursor.{IsRowOf, rows_after}
 use Rattle.lf_yaml.specs.Rows.{Row}
-use Rattle.lf_yaml.specs.declared.row.Row.{Row as CodeRow}
+use Rattle.lf_yaml.specs.declared.row.ContentLine.{ContentLine}
 use Rattle.lf_yaml.proofs.Placed.{FirstCell, first-cell}
 use Rattle.lf_yaml.proofs.RowCode.{text-shown}
 use Rattle.lf_yaml.proofs.RowsAfter.{placed-first, get-drop}
@@ -52,13 +52,13 @@ line-ends end at bs (x ∷ xs) e =
     subst (λ (ys : List ℕ). IsCharBoundary ys (suc (length xs))) (sym h.bytes) (boundary-more x (length xs) h.later later)
 
 -- a row's text is UTF-8
-pub row-utf8 : (bytes : List ℕ) (r : CodeRow) → IsUtf8 bytes → 0 < length r.text.now → IsRowOf bytes r → IsUtf8 r.text.now
+pub row-utf8 : (bytes : List ℕ) (r : ContentLine) → IsUtf8 bytes → 0 < length r.text.now → IsRowOf bytes r → IsUtf8 r.text.now
 row-utf8 bytes r utf8 full is =
     let b : IsCharBoundary (drop r.at bytes) (length r.text.now) = line-ends (length bytes) r.at (drop r.at bytes) r.text.now (is.placed ∙ text-shown r full) in
     subst IsUtf8 (sym is.text) (IsUtf8-take (drop r.at bytes) (length r.text.now) (IsUtf8-drop bytes r.at utf8 is.boundary) b)
 
 -- the next row's text too
-pub next-utf8 : (bytes : List ℕ) (from : ℕ) (r : CodeRow) (rs : List Row) → IsUtf8 bytes → 0 < length r.text.now → rows_after bytes from ≡ shown r ∷ rs → IsCharBoundary bytes r.at → r.text.now ≡ take (length r.text.now) (drop r.at bytes) → IsUtf8 r.text.now
+pub next-utf8 : (bytes : List ℕ) (from : ℕ) (r : ContentLine) (rs : List Row) → IsUtf8 bytes → 0 < length r.text.now → rows_after bytes from ≡ shown r ∷ rs → IsCharBoundary bytes r.at → r.text.now ≡ take (length r.text.now) (drop r.at bytes) → IsUtf8 r.text.now
 next-utf8 bytes from r rs utf8 full e b t = row-utf8 bytes r utf8 full (record { placed = placed-first bytes from (shown r) rs e; boundary = b; text = t })
 
 -- ---- behind blanks

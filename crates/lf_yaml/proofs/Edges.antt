@@ -21,7 +21,7 @@ use Rattle.lf_yaml.specs.reading.Trees.{Read, begins_block, node_at, behind_root
 use Rattle.lf_yaml.specs.views.Shown.{shown}
 use Rattle.lf_yaml.specs.views.Cursor.{rows_after}
 use Rattle.lf_yaml.specs.reading.BlockTurns.{behind_fault}
-use Rattle.lf_yaml.specs.declared.row.Row.{Row as CodeRow}
+use Rattle.lf_yaml.specs.declared.row.ContentLine.{ContentLine}
 use Rattle.lf_yaml.proofs.RowCode.{text-shown}
 
 -- ---- a byte order mark
@@ -64,7 +64,7 @@ opening-short (x ∷ []) lt at = refl
 opening-short (x ∷ y ∷ []) lt at = refl
 opening-short (x ∷ y ∷ z ∷ xs) lt at = absurd (omega (arith, lt))
 
-pub opening-by : (r : CodeRow) (b : Bool) → 0 < length r.text.now → indent (shown r) ≡ 0 → b ≡ is_opening_text (cells r.at r.text.now) → b ≡ is_opening (shown r)
+pub opening-by : (r : ContentLine) (b : Bool) → 0 < length r.text.now → indent (shown r) ≡ 0 → b ≡ is_opening_text (cells r.at r.text.now) → b ≡ is_opening (shown r)
 opening-by r b lt e h = rw (eq-eqb (indent (shown r)) 0 e) (h ∙ ap is_opening_text (sym (text-shown r lt)))
 
 -- ---- the rows of the document

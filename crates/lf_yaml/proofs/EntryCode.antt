@@ -8,7 +8,7 @@ use Rattle.lf_yaml.specs.Heads.{Split, key_in, never, Bare}
 use Rattle.lf_yaml.specs.reading.Trees.{bare_head, entry_by}
 use Rattle.lf_yaml.specs.views.Signs.{stops_of, split_at}
 use Rattle.lf_yaml.specs.views.Shown.{shown}
-use Rattle.lf_yaml.specs.declared.row.Row.{Row as CodeRow}
+use Rattle.lf_yaml.specs.declared.row.ContentLine.{ContentLine}
 use Rattle.lf_yaml.proofs.RowCode.{text-shown}
 
 pub plain-by : (at : ℕ) (text : List ℕ) (p s d : Bool) → 0 < length text → is_plain_byte (cell (get_or text 0 0) at) ≡ p → is_sign (cell (get_or text 0 0) at) ≡ s → before_blank (cells (suc at) (drop 1 text)) ≡ d
@@ -17,7 +17,7 @@ plain-by at [] p s d lt e f g = absurd (omega arith)
 plain-by at (x ∷ xs) p s d lt e f g =
     ap (λ (q : Bool). q || (is_sign (cell x at) && not (before_blank (cells (suc at) xs)))) e ∙ ap (λ (q : Bool). p || (q && not (before_blank (cells (suc at) xs)))) f ∙ ap (λ (q : Bool). p || (s && not q)) g
 
-pub entry-bare : (r : CodeRow) (b : Bool) (o : Option Split) → 0 < length r.text.now → begins_plain (cells r.at r.text.now) ≡ b → key_in (stops_of false) before_blank (cells r.at r.text.now) ≡ o
+pub entry-bare : (r : ContentLine) (b : Bool) (o : Option Split) → 0 < length r.text.now → begins_plain (cells r.at r.text.now) ≡ b → key_in (stops_of false) before_blank (cells r.at r.text.now) ≡ o
     → entry_by (shown r) None ≡ cond b (bare_head o) None
 entry-bare r b o lt e g =
     ap (λ (cs : List Cell). cond (begins_plain cs) (bare_head (key_in never before_blank cs)) None) (text-shown r lt)

@@ -12,8 +12,8 @@ use Rattle.lf_yaml.specs.reading.Trees.{FlowRead, Later, Signed, Valued, has, fl
 use Rattle.lf_yaml.specs.reading.FlowTurns.{with_pair, turned_entries, entry_at, closed_entries}
 use Rattle.lf_yaml.specs.views.Shown.{shown}
 use Rattle.lf_yaml.specs.declared.node.Entry.{Entry}
-use Rattle.lf_yaml.specs.declared.row.Row.{Row as CodeRow}
-use Rattle.lf_yaml.specs.declared.place.Place.{Place}
+use Rattle.lf_yaml.specs.declared.row.ContentLine.{ContentLine}
+use Rattle.lf_yaml.specs.declared.place.FlowCursor.{FlowCursor}
 use Rattle.lf_yaml.specs.declared.turn.Turn.TheVariants as turn
 use Rattle.lf_yaml.proofs.Sequences.{Enough, always-enough}
 use Rattle.lf_yaml.proofs.Mappings.{mapping-is, mapping-breaks, MappingTold, mapping-tells}
@@ -105,10 +105,10 @@ module _ (bytes : List ℕ) where
     so-more : after_entries (map pair entries) (more_from before at) ≡ whole
     so-more = ap (after_entries (map pair entries)) (sym (one-more before at)) ∙ so_far
 
-    pub entries-end : (closing : CodeRow) (next : ℕ) → more_from before at ≡ turned_entries all_from before (turn.Ends closing next) → whole ≡ Ok (closed_entries (entries, closing))
+    pub entries-end : (closing : ContentLine) (next : ℕ) → more_from before at ≡ turned_entries all_from before (turn.Ends closing next) → whole ≡ Ok (closed_entries (entries, closing))
     entries-end closing next e = sym so-more ∙ ap (after_entries (map pair entries)) e ∙ all-entries (map pair entries) (shown closing).first
 
-    pub entries-last : (found : Entry) (now : List Entry) (closing : CodeRow) (next : ℕ) → now ≡ entries ++ found ∷ [] → more_from before at ≡ turned_entries all_from before (turn.Last found closing next) → whole ≡ Ok (closed_entries (now, closing))
+    pub entries-last : (found : Entry) (now : List Entry) (closing : ContentLine) (next : ℕ) → now ≡ entries ++ found ∷ [] → more_from before at ≡ turned_entries all_from before (turn.Last found closing next) → whole ≡ Ok (closed_entries (now, closing))
     entries-last found now closing next e t =
         let pushed : map pair now ≡ map pair entries ++ pair found ∷ [] = ap (map pair) e ∙ map_push pair entries found in
         sym so-more ∙ ap (after_entries (map pair entries)) t
@@ -116,7 +116,7 @@ module _ (bytes : List ℕ) where
         ∙ ap (λ (es : List (Value × Tree)). after_entries es (Ok (no_entries, (shown closing).first))) (sym pushed)
         ∙ all-entries (map pair now) (shown closing).first
 
-    pub entries-more : (found : Entry) (now : List Entry) (place : Place) → now ≡ entries ++ found ∷ [] → more_from before at ≡ turned_entries all_from before (turn.More found place)
+    pub entries-more : (found : Entry) (now : List Entry) (place : FlowCursor) → now ≡ entries ++ found ∷ [] → more_from before at ≡ turned_entries all_from before (turn.More found place)
         → after_entries (map pair now) (all_from (texts_of (map pair now)) place.at) ≡ whole
     entries-more found now place e t =
         let pushed : map pair now ≡ map pair entries ++ pair found ∷ [] = ap (map pair) e ∙ map_push pair entries found in

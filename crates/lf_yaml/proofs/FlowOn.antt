@@ -5,7 +5,7 @@ use Rattle.lf_yaml.specs.Flow.{next_on}
 use Rattle.lf_yaml.specs.reading.FlowTurns.{IsTurnIn}
 use Rattle.lf_yaml.specs.views.Parts.{IsNext}
 use Rattle.lf_yaml.specs.views.Shown.{shown}
-use Rattle.lf_yaml.specs.declared.row.Row.{Row as CodeRow}
+use Rattle.lf_yaml.specs.declared.row.ContentLine.{ContentLine}
 use Rattle.lf_yaml.specs.declared.turn.Turn.{Turn}
 use Rattle.lf_yaml.specs.declared.turn.Turn.TheVariants as turn
 use Rattle.lf_yaml.proofs.FlowParts.{part-within}
@@ -21,6 +21,6 @@ turns-low bytes from low le (Ok t) h = turn-low bytes from low le t h
 turns-low bytes from low le (Err e) h = tt
 
 -- no part stands before the offset that it is looked for from
-pub part-on : (bytes : List ℕ) (at : ℕ) (r : Result (CodeRow × ℕ) Refusal) → IsNext r (next_on bytes at) → IfOk r (λ x. at ≤ x.0.at)
+pub part-on : (bytes : List ℕ) (at : ℕ) (r : Result (ContentLine × ℕ) Refusal) → IsNext r (next_on bytes at) → IfOk r (λ x. at ≤ x.0.at)
 part-on bytes at (Ok x) e = (part-within bytes at (shown x.0).first (shown x.0).rest e).0
 part-on bytes at (Err e) h = tt

@@ -18,7 +18,7 @@ use Rattle.lf_yaml.specs.views.Shown.{shown}
 use Rattle.lf_yaml.specs.views.Cursor.{IsRowOf}
 use Rattle.lf_yaml.specs.views.Headed.{headed}
 use Rattle.lf_yaml.specs.reading.BlockTurns.{IsBehind}
-use Rattle.lf_yaml.specs.declared.row.Row.{Row as CodeRow}
+use Rattle.lf_yaml.specs.declared.row.ContentLine.{ContentLine}
 use Rattle.lf_yaml.specs.declared.entries.Head.{Head as CodeHead}
 use Rattle.lf_scalar.proofs.Cells.{cells-bytes, no-cell}
 use Rattle.lf_yaml.proofs.HeadLaws.{entry-view}
@@ -89,7 +89,7 @@ cells-stand at (b ∷ text) (x ∷ front) byte place behind e =
       same_rest = k.same_rest;
     }
 
-pub head-behind : (r : CodeRow) (h : CodeHead) → 0 < length r.text.now → entry_of (shown r) ≡ Some (headed r.at r.text.now h) → IsBehind r h.colon h.behind.now
+pub head-behind : (r : ContentLine) (h : CodeHead) → 0 < length r.text.now → entry_of (shown r) ≡ Some (headed r.at r.text.now h) → IsBehind r h.colon h.behind.now
 head-behind r h lt e =
     let s = entry-split (shown r) (headed r.at r.text.now h) e in
     let k = cells-stand r.at r.text.now s.0 58 h.colon h.behind.now (sym (text-shown r lt) ∙ s.1) in
@@ -159,7 +159,7 @@ cells-split at (suc n) (b ∷ text) =
     ap (λ (cs : List Cell). cell b at ∷ cs) (cells-split (suc at) n text ∙ ap (λ (m : ℕ). cells (suc at) (take n text) ++ cells m (drop n text)) z)
 
 -- a byte of a row is that of the file
-byte-of-file : (bytes : List ℕ) (r : CodeRow) (i : ℕ) → IsRowOf bytes r → i < length r.text.now → (get_or r.text.now i 0 ≡ get_or bytes (r.at + i) 0) × (r.at + i < length bytes)
+byte-of-file : (bytes : List ℕ) (r : ContentLine) (i : ℕ) → IsRowOf bytes r → i < length r.text.now → (get_or r.text.now i 0 ≡ get_or bytes (r.at + i) 0) × (r.at + i < length bytes)
 byte-of-file bytes r i h lt =
     let n = length r.text.now in
     let a : length r.text.now ≡ length (take n (drop r.at bytes)) = ap length h.text in (
@@ -167,7 +167,7 @@ byte-of-file bytes r i h lt =
       omega (arith, a, length-take n (drop r.at bytes), length-drop r.at bytes),
     )
 
-pub left-row : (bytes : List ℕ) (r left : CodeRow) (sign : ℕ) → IsUtf8 bytes → IsRowOf bytes r → 0 < length r.text.now → 0 < length left.text.now → sign < length r.text.now → get_or r.text.now sign 0 < 128
+pub left-row : (bytes : List ℕ) (r left : ContentLine) (sign : ℕ) → IsUtf8 bytes → IsRowOf bytes r → 0 < length r.text.now → 0 < length left.text.now → sign < length r.text.now → get_or r.text.now sign 0 < 128
     → left_of r.begin (cells (r.at + (sign + 1)) (drop (sign + 1) r.text.now)) ≡ Some (shown left) → IsRowOf bytes left
 left-row bytes r left sign utf8 h full full2 lt ascii e =
     let from = r.at + (sign + 1) in

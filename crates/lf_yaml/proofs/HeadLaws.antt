@@ -1,5 +1,5 @@
 -- How a row begins is read: keys and their signs, scalars between quotes, keys that stand before.
-use Rattle.std.proofs.Common.{◌≡◌, ◌≢◌, ℕ, zero, suc, ◌+◌, Bool, true, false, cond, eqb, List, [], ◌∷◌, Option, Some, None, Result, Ok, Err, length, eq-eqb, refl, ap, arith, sym, ◌∙◌, subst, ◌⊎◌, inl, inr}
+use Rattle.std.proofs.Common.{◌≡◌, ◌≢◌, ℕ, suc, ◌+◌, Bool, true, false, cond, eqb, List, [], ◌∷◌, Option, Some, None, Result, Ok, Err, length, eq-eqb, refl, ap, arith, sym, ◌∙◌, subst, ◌⊎◌, inl, inr}
 use Rattle.std.specs.Prelude.{Contains, bytes_eq}
 use Rattle.std.specs.List.{flat_map}
 use Rattle.std.proofs.lemmas.Bool.Decides.{eqb_tells}
@@ -11,6 +11,7 @@ use Rattle.std.proofs.Math.Bool.{and-false, or-true}
 use Rattle.lf_scalar.specs.declared.quotes.Quotes.{Quotes}
 use Rattle.lf_scalar.specs.declared.quotes.Quotes.TheVariants.{Single, Double}
 use Rattle.lf_base.specs.declared.fault.Fault.{Fault}
+use Rattle.lf_laws.proofs.Members.{only_one}
 use Rattle.lf_scalar.specs.Cells.{Cell, cell, Value}
 use Rattle.lf_scalar.specs.Lines.{is_blank, after_blanks}
 use Rattle.lf_scalar.specs.Folding.{trimmed}
@@ -292,10 +293,6 @@ opens-view c cs =
 
 -- ---- texts before
 
-one-contains : (x k : List ℕ) → Contains (x ∷ []) k → x ≡ k
-one-contains x k (zero, lt, e) = e
-one-contains x k (suc n, lt, e) = absurd (omega arith)
-
 pub has-tells : (xs : List (List ℕ)) (k : List ℕ) → ((has xs k ≡ true) × Contains xs k) ⊎ ((has xs k ≡ false) × (Contains xs k → ⊥))
 has-tells [] k = inr (refl, λ c. let h = c.1 in absurd (omega arith))
 has-tells (x ∷ xs) k =
@@ -303,6 +300,6 @@ has-tells (x ∷ xs) k =
       | inl a ↦ inl (rw a refl, Contains-append_left (x ∷ []) xs k (0, omega arith, (bytes_eq-Decides x k).0 a))
       | inr a ↦ elim (has-tells xs k) [
         | inl b ↦ inl (rw (a, b.0) refl, Contains-append_right (x ∷ []) xs k b.1)
-        | inr b ↦ inr (rw (a, b.0) refl, λ c. elim (Contains-append_cases (x ∷ []) xs k c) [ inl h ↦ true-false (bytes_eq x k) ((bytes_eq-Decides x k).1 (one-contains x k h)) a | inr h ↦ b.1 h ])
+        | inr b ↦ inr (rw (a, b.0) refl, λ c. elim (Contains-append_cases (x ∷ []) xs k c) [ inl h ↦ true-false (bytes_eq x k) ((bytes_eq-Decides x k).1 (only_one x k h)) a | inr h ↦ b.1 h ])
       ]
     ]

@@ -10,8 +10,8 @@ use Rattle.lf_yaml.specs.reading.Trees.{FlowRead, sequence_in}
 use Rattle.lf_yaml.specs.reading.FlowTurns.{with_tree, turned_items, closed_items}
 use Rattle.lf_yaml.specs.views.Shown.{shown}
 use Rattle.lf_yaml.specs.declared.node.Node.{Node}
-use Rattle.lf_yaml.specs.declared.row.Row.{Row as CodeRow}
-use Rattle.lf_yaml.specs.declared.place.Place.{Place}
+use Rattle.lf_yaml.specs.declared.row.ContentLine.{ContentLine}
+use Rattle.lf_yaml.specs.declared.place.FlowCursor.{FlowCursor}
 use Rattle.lf_yaml.specs.declared.turn.Turn.TheVariants as turn
 use Rattle.lf_yaml.proofs.Sequences.{sequence-is, sequence-breaks, SequenceTold, sequence-tells, Enough, always-enough}
 
@@ -54,10 +54,10 @@ module _ (bytes : List ℕ) where
     so-more : after_items (map tree items) (more_from at) ≡ whole
     so-more = ap (after_items (map tree items)) (sym (one-more at)) ∙ so_far
 
-    pub items-end : (closing : CodeRow) (next : ℕ) → more_from at ≡ turned_items all_from (turn.Ends closing next) → whole ≡ Ok (closed_items (items, closing))
+    pub items-end : (closing : ContentLine) (next : ℕ) → more_from at ≡ turned_items all_from (turn.Ends closing next) → whole ≡ Ok (closed_items (items, closing))
     items-end closing next e = sym so-more ∙ ap (after_items (map tree items)) e ∙ all-items (map tree items) (shown closing).first
 
-    pub items-last : (found : Node) (now : List Node) (closing : CodeRow) (next : ℕ) → now ≡ items ++ found ∷ [] → more_from at ≡ turned_items all_from (turn.Last found closing next) → whole ≡ Ok (closed_items (now, closing))
+    pub items-last : (found : Node) (now : List Node) (closing : ContentLine) (next : ℕ) → now ≡ items ++ found ∷ [] → more_from at ≡ turned_items all_from (turn.Last found closing next) → whole ≡ Ok (closed_items (now, closing))
     items-last found now closing next e t =
         let pushed : map tree now ≡ map tree items ++ tree found ∷ [] = ap (map tree) e ∙ map_push tree items found in
         sym so-more ∙ ap (after_items (map tree items)) t
@@ -65,7 +65,7 @@ module _ (bytes : List ℕ) where
         ∙ ap (λ (ts : List Tree). after_items ts (Ok (no_items, (shown closing).first))) (sym pushed)
         ∙ all-items (map tree now) (shown closing).first
 
-    pub items-more : (found : Node) (now : List Node) (place : Place) → now ≡ items ++ found ∷ [] → more_from at ≡ turned_items all_from (turn.More found place) → after_items (map tree now) (all_from place.at) ≡ whole
+    pub items-more : (found : Node) (now : List Node) (place : FlowCursor) → now ≡ items ++ found ∷ [] → more_from at ≡ turned_items all_from (turn.More found place) → after_items (map tree now) (all_from place.at) ≡ whole
     items-more found now place e t =
         let pushed : map tree now ≡ map tree items ++ tree found ∷ [] = ap (map tree) e ∙ map_push tree items found in
         ap (λ (ts : List Tree). after_items ts (all_from place.at)) pushed ∙ push-items (map tree items) (tree found) (all_from place.at)

@@ -8,13 +8,13 @@ use Rattle.lf_base.specs.declared.refusal.Refusal.{Refusal}
 use Rattle.lf_base.specs.declared.refusal.Refusal.TheVariants as refusal_of
 use Rattle.lf_base.specs.declared.fault.Fault.{Fault}
 use Rattle.lf_scalar.specs.Cells.{Cell, cell, cells, byte_fault, Fails, front, ◌>>=◌}
-use Rattle.lf_scalar.specs.Lines.{Line, line, start_of, is_blank, after_blanks, after_spaces}
+use Rattle.lf_scalar.specs.Lines.{Line, line, start_of, is_empty_text, is_blank, after_blanks, after_spaces}
 use Rattle.lf_scalar.specs.Folding.{fold}
 use Rattle.lf_scalar.specs.reading.Plain.{unless_key}
 use Rattle.lf_scalar.specs.reading.Quoted.{line_at}
 use Rattle.lf_scalar.proofs.PlainCode.{Read, yes, no, yes-is, yes-no}
 use Rattle.lf_yaml.specs.Rows.{Row, is_mark, content_row}
-use Rattle.lf_yaml.specs.Flow.{line_on, flow_text, line_text, line_left, line_colon, colon_in, is_bare, is_nothing, is_spaces, is_flow_sign, goes_on, left_on}
+use Rattle.lf_yaml.specs.Flow.{line_on, flow_text, line_text, line_left, line_colon, colon_in, is_bare, is_spaces, is_flow_sign, goes_on, left_on}
 use Rattle.lf_yaml.specs.reading.Trees.{plain_line, Folded, before_text, plain_behind, plain_from}
 use Rattle.lf_yaml.specs.reading.FlowLines.{Steps, FoldsAs}
 use Rattle.lf_yaml.specs.declared.flow_plain.Folded.{Folded as Waiting}
@@ -66,16 +66,16 @@ module _ (at skipped len b : ℕ) (bytes text : List ℕ) (after : after_blanks 
 -- ---- how a line begins
 
 pub spaces-none : (at k b : ℕ) (bytes part : List ℕ) → after_spaces (cells at bytes) ≡ cells (at + k) (drop k bytes) → part ≡ drop k bytes → length part < 1 → true ≡ is_spaces (line_at at bytes b)
-spaces-none at k b bytes part e p lt = sym (ap is_nothing (e ∙ ap (cells (at + k)) (sym p)) ∙ by part lt)
+spaces-none at k b bytes part e p lt = sym (ap is_empty_text (e ∙ ap (cells (at + k)) (sym p)) ∙ by part lt)
   where
-    by : (xs : List ℕ) → length xs < 1 → is_nothing (cells (at + k) xs) ≡ true
+    by : (xs : List ℕ) → length xs < 1 → is_empty_text (cells (at + k) xs) ≡ true
     by [] lt = refl
     by (x ∷ xs) lt = absurd (omega arith)
 
 pub spaces-some : (at k b : ℕ) (bytes part : List ℕ) → after_spaces (cells at bytes) ≡ cells (at + k) (drop k bytes) → part ≡ drop k bytes → 0 < length part → false ≡ is_spaces (line_at at bytes b)
-spaces-some at k b bytes part e p lt = sym (ap is_nothing (e ∙ ap (cells (at + k)) (sym p)) ∙ by part lt)
+spaces-some at k b bytes part e p lt = sym (ap is_empty_text (e ∙ ap (cells (at + k)) (sym p)) ∙ by part lt)
   where
-    by : (xs : List ℕ) → 0 < length xs → is_nothing (cells (at + k) xs) ≡ false
+    by : (xs : List ℕ) → 0 < length xs → is_empty_text (cells (at + k) xs) ≡ false
     by [] lt = absurd (omega arith)
     by (x ∷ xs) lt = refl
 

@@ -5,7 +5,7 @@ use Rattle.lf_base.specs.declared.kind.Kind.TheVariants.{OpenQuote, LeftOut, Dou
 use Rattle.lf_base.specs.declared.fault.Fault.{Fault}
 use Rattle.lf_base.specs.Faults.{span, fault}
 use Rattle.lf_scalar.specs.Cells.{Cell, Value, byte_fault, character_fault}
-use Rattle.lf_scalar.specs.Lines.{Line, line, lines, start_of, is_blank, after_blanks, after_spaces}
+use Rattle.lf_scalar.specs.Lines.{Line, line, lines, start_of, is_empty_text, is_blank, after_blanks, after_spaces}
 use Rattle.lf_scalar.specs.Block.{begins_blank}
 use Rattle.lf_scalar.specs.Folding.{fold, trimmed}
 use Rattle.lf_scalar.specs.Plain.{before_blank, before_comment, is_plain_byte, value_of}
@@ -104,13 +104,9 @@ line_colon l = colon_in (line_text l) (line_left l)
 abbrev pub is_bare : Line → Bool
 is_bare l = list_all is_blank (line_left l)
 
-abbrev pub is_nothing : List Cell → Bool
-is_nothing [] = true
-is_nothing (c ∷ cs) = false
-
 -- a line of spaces alone
 abbrev pub is_spaces : Line → Bool
-is_spaces l = is_nothing (after_spaces l.text)
+is_spaces l = is_empty_text (after_spaces l.text)
 
 -- A line goes on with a plain scalar: it is a row, and its first character is no tab, no sign of flow collections, and begins no mark.
 abbrev pub goes_on : List Row → Bool

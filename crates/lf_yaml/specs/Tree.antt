@@ -2,7 +2,7 @@
 use Rattle.std.specs.Prelude.{List, [], ◌∷◌}
 use Rattle.lf_base.specs.declared.place.Span.{Span}
 use Rattle.lf_scalar.specs.Cells.{Value}
-use Rattle.lf_scalar.specs.declared.scalar.Scalar.{Scalar}
+use Rattle.lf_scalar.specs.Scalars.{value}
 use Rattle.lf_yaml.specs.declared.node.Node.{Node, fold-Node}
 use Rattle.lf_yaml.specs.declared.node.Entry.{Entry, fold-Entry}
 use Rattle.lf_yaml.specs.declared.node.Node.TheOpen.{Node-F, Entry-F}
@@ -29,9 +29,6 @@ items_of (t ∷ ts) = item t (items_of ts)
 abbrev pub entries_of : List (Value × Tree) → Entries
 entries_of [] = no_entries
 entries_of (e ∷ es) = entry e.0 e.1 (entries_of es)
-
-abbrev pub value : Scalar → Value
-value s = record { text = s.text; from = s.from; span = s.span }
 
 abbrev pub entry_step : Entry-F Tree (Value × Tree) → Value × Tree
 entry_step e = (value e.key, e.value)

@@ -12,14 +12,14 @@ ghost use Rattle.lf_yaml.specs.reading.BlockTurns.{IsBehind, IsBelow};
 
 use crate::entries::{Below, EntryRow};
 use crate::head::{byte_fault, indent, is_item, left};
-use crate::row::Row;
+use crate::row::ContentLine;
 use crate::rows::next_row;
 use crate::source::Source;
 use lf_base::{Kind, Refusal};
 use lf_scalar::lines::{past, spaces};
 
 /// What is left of a row behind an ASCII byte at a place.
-pub fn left_behind(row: Row<'_>, sign: usize) -> Option<Row<'_>>
+pub fn left_behind(row: ContentLine<'_>, sign: usize) -> Option<ContentLine<'_>>
     requires within { sign < length row.text.now }
     ensures left { option_map shown result ≡ left_of row.entry.begin (cells (row.entry.at + (sign + 1)) (drop (sign + 1) row.entry.text.now)) }
     ensures row { (bytes : List ℕ) → IsUtf8 bytes → IsRowOf bytes row.entry → get_or row.entry.text.now sign 0 < 128 → IfSome result (λ r. IsRowOf bytes r) }
@@ -32,7 +32,7 @@ pub fn left_behind(row: Row<'_>, sign: usize) -> Option<Row<'_>>
 }
 
 /// The refusal of a tab that stands among the blanks behind an item's sign, where only spaces may stand.
-pub fn tab_behind(row: Row<'_>) -> Option<Refusal>
+pub fn tab_behind(row: ContentLine<'_>) -> Option<Refusal>
     ensures { MatchOption result (tab_in (shown row.entry).rest ≡ None) (λ e. (c : Cell) × (tab_in (shown row.entry).rest ≡ Some c) × (e ≡ refused (fault_of NotANode c.at))) }
 {
     let rest = past(row.text, 1);
@@ -52,7 +52,7 @@ fn is_tab(text: &[u8], place: usize) -> bool
 }
 
 /// The next row of a file from the start of a line on, and where the line behind it begins.
-pub fn first_row(source: Source<'_>, next: usize) -> Option<(Row<'_>, usize)>
+pub fn first_row(source: Source<'_>, next: usize) -> Option<(ContentLine<'_>, usize)>
     requires start { IsCharBoundary source.bytes.now next }
     ensures rows { MatchOption result (rows_after source.entry.bytes.now next ≡ []) (λ x. rows_after source.entry.bytes.now next ≡ shown x.0 ∷ rows_after source.entry.bytes.now x.1) }
     ensures row { IfSome result (λ x. IsRowOf source.entry.bytes.now x.0) }
@@ -63,7 +63,7 @@ pub fn first_row(source: Source<'_>, next: usize) -> Option<(Row<'_>, usize)>
 }
 
 /// The row on which the value of an item at an indent begins, where it stands below the item.
-pub fn row_below(source: Source<'_>, column: u32, next: usize) -> Option<(Row<'_>, usize)>
+pub fn row_below(source: Source<'_>, column: u32, next: usize) -> Option<(ContentLine<'_>, usize)>
     requires start { IsCharBoundary source.bytes.now next }
     ensures rows { MatchOption result (NoneBelow column (rows_after source.entry.bytes.now next)) (λ x. (column < indent_of (shown x.0)) × (rows_after source.entry.bytes.now next ≡ shown x.0 ∷ rows_after source.entry.bytes.now x.1)) }
     ensures row { IfSome result (λ x. IsRowOf source.entry.bytes.now x.0) }
@@ -107,7 +107,7 @@ pub fn row_beside(source: Source<'_>, column: u32, next: usize) -> Option<Below<
 }
 
 /// What is left of an entry's row behind its `:`.
-pub fn left_of_entry(entry: EntryRow<'_>) -> Option<Row<'_>>
+pub fn left_of_entry(entry: EntryRow<'_>) -> Option<ContentLine<'_>>
     requires behind { IsBehind entry.row entry.head.colon entry.head.behind.now }
     ensures left { option_map shown result ≡ left_of entry.entry.row.begin (cells (suc entry.entry.head.colon) entry.entry.head.behind.now) }
     ensures row { (bytes : List ℕ) → IsUtf8 bytes → IsRowOf bytes entry.entry.row → IfSome result (λ r. IsRowOf bytes r) }

@@ -4,7 +4,7 @@ ghost use Rattle.lf_base.specs.Answers.{AnswersAs};
 ghost use Rattle.lf_scalar.specs.Cells.{cell};
 ghost use Rattle.lf_scalar.specs.Quoted.{quote_of};
 ghost use Rattle.lf_scalar.specs.reading.Quoted.{split_of};
-ghost use Rattle.lf_scalar.specs.views.Built.{shown};
+ghost use Rattle.lf_scalar.specs.Scalars.{value as scalar_value};
 ghost use Rattle.lf_yaml.specs.reading.Trees.{between_of};
 ghost use Rattle.lf_yaml.specs.views.Quoting.{style_of_quotes};
 
@@ -37,7 +37,7 @@ pub fn quoted_scalar(
     requires closing { closing < length inside.now }
     requires closes { get_or inside.now closing 0 ≡ quote_of quote }
     requires within { at + length inside.now + 1 ≤ length source.bytes.now }
-    ensures { AnswersAs shown result (between_of quote (cell (get_or source.entry.bytes.now at 0) at) (Some (split_of (at + 1) inside.now closing))) }
+    ensures { AnswersAs scalar_value result (between_of quote (cell (get_or source.entry.bytes.now at 0) at) (Some (split_of (at + 1) inside.now closing))) }
 {
     let cut = before(source.bytes, at as usize + closing + 2);
     read_scalar(source.alloc, cut, at, -1, style_of(quote))

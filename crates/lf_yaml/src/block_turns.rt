@@ -13,12 +13,12 @@ use crate::below::first_row;
 use crate::entries::EntryRow;
 use crate::entry::{find_entry, opens_quote};
 use crate::head::{byte_fault, indent, indent_fault, is_item, row_fault};
-use crate::row::Row;
+use crate::row::ContentLine;
 use crate::source::Source;
 use lf_base::{Kind, Refusal};
 
 /// Whether a row begins a block sequence or a block mapping.
-pub fn begins_block(row: Row<'_>) -> bool
+pub fn begins_block(row: ContentLine<'_>) -> bool
     ensures { result ≡ begins_block_of (shown row.entry) }
 {
     is_item(row) || find_entry(row).is_some()
@@ -32,7 +32,7 @@ pub fn next_item(
     own: bool,
     column: u32,
     next: usize,
-) -> Result<Option<(Row<'_>, usize)>, Refusal>
+) -> Result<Option<(ContentLine<'_>, usize)>, Refusal>
     requires start { IsCharBoundary source.bytes.now next }
     ensures turn { AnswersAs (option_map (λ x. (shown x.0, rows_after source.entry.bytes.now x.1))) result (item_turn own column (rows_after source.entry.bytes.now next)) }
     ensures row { IfOk result (λ o. IfSome o (λ x. IsRowOf source.entry.bytes.now x.0)) }
@@ -57,7 +57,7 @@ pub fn next_item(
 }
 
 /// The entry that a row begins. The line behind the row begins at `behind`.
-pub fn entry_on(row: Row<'_>, behind: usize) -> Option<EntryRow<'_>>
+pub fn entry_on(row: ContentLine<'_>, behind: usize) -> Option<EntryRow<'_>>
     ensures head { MatchOption result (entry_of (shown row.entry) ≡ None) (λ e. entry_of (shown row.entry) ≡ Some (headed e.row.at e.row.text.now e.head)) }
     ensures place { IfSome result (λ e. (shown e.row ≡ shown row.entry) × (e.behind ≡ behind)) }
     ensures entry { (bytes : List ℕ) → IsRowOf bytes row.entry → IsCharBoundary bytes behind → IfSome result (IsEntryRow bytes) }
@@ -69,7 +69,7 @@ pub fn entry_on(row: Row<'_>, behind: usize) -> Option<EntryRow<'_>>
 }
 
 /// What is told of a row at the indent of a mapping that begins no entry.
-fn no_entry(row: Row<'_>) -> Refusal
+fn no_entry(row: ContentLine<'_>) -> Refusal
     ensures { result ≡ refused (no_entry_fault (shown row.entry)) }
 {
     if opens_quote(row) {

@@ -21,7 +21,7 @@ use crate::head::{indent, indent_fault, row_fault};
 use crate::made::empty;
 use crate::nested::node;
 use crate::node::Node;
-use crate::row::Row;
+use crate::row::ContentLine;
 use crate::source::Source;
 use lf_base::Refusal;
 use lf_scalar::lines::wrong_behind;
@@ -69,7 +69,7 @@ fn document(source: Source<'_>) -> Result<Node, Refusal>
 }
 
 /// The row on which the root begins, and where the line behind it begins.
-fn root_row(source: Source<'_>) -> Option<(Row<'_>, usize)>
+fn root_row(source: Source<'_>) -> Option<(ContentLine<'_>, usize)>
     ensures rows { MatchOption result (document_rows source.entry.bytes.now ≡ []) (λ x. document_rows source.entry.bytes.now ≡ shown x.0 ∷ rows_after source.entry.bytes.now x.1) }
     ensures row { IfSome result (λ x. IsRowOf source.entry.bytes.now x.0) }
     ensures start { IfSome result (λ x. IsCharBoundary source.entry.bytes.now x.1) }
@@ -97,7 +97,7 @@ fn is_tail(text: &[u8]) -> bool
 }
 
 /// Whether a row is `---` with nothing but blanks and a comment behind it, at indent 0.
-fn is_opening(row: Row<'_>) -> bool
+fn is_opening(row: ContentLine<'_>) -> bool
     ensures { result ≡ is_opening_of (shown row.entry) }
 {
     indent(row) == 0 && is_opening_text(row.text)
@@ -116,7 +116,7 @@ fn is_opening_text(text: &[u8]) -> bool
 }
 
 /// What is told of a row behind the root, which begins on another row.
-fn behind_root(root: Row<'_>, next: Row<'_>) -> Refusal
+fn behind_root(root: ContentLine<'_>, next: ContentLine<'_>) -> Refusal
     ensures { result ≡ refused (behind_fault (shown root.entry) (shown next.entry)) }
 {
     if begins_block(root) {

@@ -1,6 +1,6 @@
 //! Entries of block mappings: a key, and what stands behind its `:`.
 
-use crate::row::Row;
+use crate::row::ContentLine;
 use lf_scalar::quotes::Quotes;
 
 /// A key as it stands on its row.
@@ -25,7 +25,7 @@ pub struct Head<'a> {
 /// An entry that a row begins.
 #[derive(Clone, Copy)]
 pub struct EntryRow<'a> {
-    pub row: Row<'a>,
+    pub row: ContentLine<'a>,
     pub head: Head<'a>,
     /// Where the line behind the row begins.
     pub behind: usize,
@@ -36,7 +36,7 @@ pub struct EntryRow<'a> {
 pub struct Below<'a> {
     /// Whether it is an item at the indent of the entry's mapping.
     pub own: bool,
-    pub row: Row<'a>,
+    pub row: ContentLine<'a>,
     /// Where the line behind the row begins.
     pub behind: usize,
 }

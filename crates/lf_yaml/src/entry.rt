@@ -10,7 +10,7 @@ ghost use Rattle.lf_yaml.specs.views.Shown.{shown};
 use crate::entries::{Head, Key};
 use crate::head::is_left_out;
 use crate::keys::find_sign;
-use crate::row::Row;
+use crate::row::ContentLine;
 use lf_base::bytes::before;
 use lf_scalar::lines::{blanks, past, trimmed_len};
 use lf_scalar::markers::is_apart;
@@ -40,7 +40,7 @@ pub fn quote_of(byte: u8) -> Option<Quotes>
 }
 
 /// The entry that a row begins whose key has no quotes and isn't left out.
-fn bare_entry(row: Row<'_>) -> Option<Head<'_>>
+fn bare_entry(row: ContentLine<'_>) -> Option<Head<'_>>
     ensures head { option_map (headed row.entry.at row.entry.text.now) result ≡ entry_by (shown row.entry) None }
     ensures room { IfSome result (λ h. h.colon + 1 + length h.behind.now ≤ 2 ^ 31) }
     ensures key { IfSome result (λ h. IsKeyIn row.entry.at row.entry.text.now h.key) }
@@ -76,7 +76,7 @@ pub fn sign_behind(text: &[u8], at: u32) -> Option<(u32, &[u8])>
 }
 
 /// The entry that a row begins whose key stands between quotes and isn't left out.
-fn quoted_entry(row: Row<'_>, quote: Quotes) -> Option<Head<'_>>
+fn quoted_entry(row: ContentLine<'_>, quote: Quotes) -> Option<Head<'_>>
     requires quote { get_or row.text.now 0 0 ≡ quote_byte quote }
     ensures head { option_map (headed row.entry.at row.entry.text.now) result ≡ entry_by (shown row.entry) (Some quote) }
     ensures room { IfSome result (λ h. h.colon + 1 + length h.behind.now ≤ 2 ^ 31) }
@@ -107,7 +107,7 @@ fn quoted_entry(row: Row<'_>, quote: Quotes) -> Option<Head<'_>>
 
 /// The entry that a row begins: a key that isn't left out, blanks, `:`, and a blank or the line's end.
 #[tactic(auto, unfolding(crate::specs::reading::Trees::entry_of))]
-pub fn find_entry(row: Row<'_>) -> Option<Head<'_>>
+pub fn find_entry(row: ContentLine<'_>) -> Option<Head<'_>>
     ensures head { option_map (headed row.entry.at row.entry.text.now) result ≡ entry_of (shown row.entry) }
     ensures room { IfSome result (λ h. h.colon + 1 + length h.behind.now ≤ 2 ^ 31) }
     ensures key { IfSome result (λ h. IsKeyIn row.entry.at row.entry.text.now h.key) }
@@ -120,7 +120,7 @@ pub fn find_entry(row: Row<'_>) -> Option<Head<'_>>
 }
 
 /// The key that a row begins, left out or not, blanks, `:`, and a blank or the line's end.
-fn head_of(row: Row<'_>) -> Option<Head<'_>>
+fn head_of(row: ContentLine<'_>) -> Option<Head<'_>>
     ensures head { option_map (headed row.entry.at row.entry.text.now) result ≡ entry_by (shown row.entry) (quotes_of (shown row.entry).first) }
     ensures room { IfSome result (λ h. h.colon + 1 + length h.behind.now ≤ 2 ^ 31) }
     ensures key { IfSome result (λ h. IsKeyIn row.entry.at row.entry.text.now h.key) }
@@ -133,7 +133,7 @@ fn head_of(row: Row<'_>) -> Option<Head<'_>>
 
 /// Whether a row begins with a quote that nothing on the row closes.
 #[tactic(auto, unfolding(crate::specs::reading::Trees::opens_quote))]
-pub fn opens_quote(row: Row<'_>) -> bool
+pub fn opens_quote(row: ContentLine<'_>) -> bool
     ensures { result ≡ opens_quote_of (shown row.entry).first (shown row.entry).rest }
 {
     match quote_of(row.text[0]) {

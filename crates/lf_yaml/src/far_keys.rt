@@ -10,7 +10,7 @@ ghost use Rattle.lf_yaml.specs.views.Shown.{shown};
 
 use crate::entry::{quote_of, sign_behind};
 use crate::keys::is_too_far;
-use crate::row::Row;
+use crate::row::ContentLine;
 use lf_base::bytes::before;
 use lf_scalar::lines::past;
 use lf_scalar::markers::is_apart;
@@ -55,7 +55,7 @@ pub fn has_far_key(text: &[u8], at: u32) -> bool
 }
 
 /// Whether a part begins with a key between quotes of a flow mapping whose `:` stands too far behind the quote that opens.
-pub fn is_far_part(part: Row<'_>, quote: Quotes) -> bool
+pub fn is_far_part(part: ContentLine<'_>, quote: Quotes) -> bool
     ensures { result ≡ far_sign (text_of (shown part.entry)) (sign_behind_of (behind_closing (closing_of quote 0 (shown part.entry).rest))) }
 {
     match sign_of(quote, part.text, part.at) {

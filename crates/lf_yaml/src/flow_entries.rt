@@ -1,7 +1,7 @@
 //! Flow mappings.
 ghost use Rattle.std.specs.Prelude.{◌≡◌, ℕ, suc, ◌<◌, ◌≤◌, ◌^◌, List, [], ◌∷◌, ◌++◌, length, get_or, IfOk};
 ghost use Rattle.lf_base.specs.Answers.{AnswersAs};
-ghost use Rattle.lf_scalar.specs.views.Built.{shown as scalar_shown};
+ghost use Rattle.lf_scalar.specs.Scalars.{value as scalar_value};
 ghost use Rattle.lf_yaml.specs.Tree.{leaf, pair};
 ghost use Rattle.lf_yaml.specs.Flow.{next_on};
 ghost use Rattle.lf_yaml.specs.reading.Trees.{Later, flow_key as flow_key_of, mapping_sign, key_behind, mapping_in};
@@ -17,8 +17,8 @@ use crate::flow_value::flow_value;
 use crate::key_set::KeySet;
 use crate::node::Entry;
 use crate::parts::{behind, next_part};
-use crate::place::Place;
-use crate::row::Row;
+use crate::place::FlowCursor;
+use crate::row::ContentLine;
 use crate::source::Source;
 use crate::turn::Turn;
 use lf_base::{Kind, Refusal, Seq};
@@ -26,7 +26,7 @@ use lf_scalar::Scalar;
 
 /// The entry of a key whose value is a scalar.
 fn scalar_entry(key: Scalar, of: Scalar) -> Entry
-    ensures { pair result ≡ (scalar_shown key, leaf (scalar_shown of)) }
+    ensures { pair result ≡ (scalar_value key, leaf (scalar_value of)) }
 {
     Entry {
         key,
@@ -38,7 +38,7 @@ fn scalar_entry(key: Scalar, of: Scalar) -> Entry
 fn new_key(
     source: Source<'_>,
     keys: &mut KeySet,
-    part: Row<'_>,
+    part: ContentLine<'_>,
     next: usize,
 ) -> Result<(Scalar, usize), Refusal>
     requires part { IsPartIn source.bytes.now part next }
@@ -68,9 +68,9 @@ fn new_key(
 fn entry_from<'a>(
     source: Source<'a>,
     keys: &mut KeySet,
-    part: Row<'a>,
+    part: ContentLine<'a>,
     next: usize,
-) -> Result<(Entry, Place<'a>), Refusal>
+) -> Result<(Entry, FlowCursor<'a>), Refusal>
     requires part { IsPartIn source.bytes.now part next }
     ensures gives { (before : List (List ℕ)) → HasKeys keys.old before → AnswersAs left_behind result (entry_at source.entry.bytes.now before (shown part.entry).first (shown part.entry).rest) }
     ensures keys { (before : List (List ℕ)) → HasKeys keys.old before → IfOk result (λ x. HasKeys keys.new (before ++ (pair x.0).0.text ∷ [])) }
@@ -93,7 +93,7 @@ fn entry_from<'a>(
 fn entry_sign<'a>(
     source: Source<'a>,
     found: Entry,
-    place: Place<'a>,
+    place: FlowCursor<'a>,
 ) -> Result<Turn<'a, Entry>, Refusal>
     requires place { IsPlaceIn source.bytes.now place }
     ensures gives { (later : Later) (before : List (List ℕ)) → TurnsEntries later before result
@@ -122,7 +122,7 @@ fn entry_sign<'a>(
 fn entry_on<'a>(
     source: Source<'a>,
     keys: &mut KeySet,
-    part: Row<'a>,
+    part: ContentLine<'a>,
     next: usize,
 ) -> Result<Turn<'a, Entry>, Refusal>
     requires part { IsPartIn source.bytes.now part next }
@@ -142,7 +142,7 @@ fn entry_on<'a>(
 fn entry_turn<'a>(
     source: Source<'a>,
     keys: &mut KeySet,
-    place: Place<'a>,
+    place: FlowCursor<'a>,
 ) -> Result<Turn<'a, Entry>, Refusal>
     requires place { IsPlaceIn source.bytes.now place }
     ensures gives { (m : ℕ) (before : List (List ℕ)) → HasKeys keys.old before → TurnsEntries (λ ks at. mapping_in source.entry.bytes.now m ks at) before result (mapping_in source.entry.bytes.now (suc m) before place.entry.at) }
@@ -166,8 +166,8 @@ fn entry_turn<'a>(
 /// The entries of a flow mapping from the place behind its opening bracket on, its closing bracket, and where the lines behind that begin.
 pub fn flow_entries<'a>(
     source: Source<'a>,
-    place: Place<'a>,
-) -> Result<(Seq<Entry>, Row<'a>, usize), Refusal>
+    place: FlowCursor<'a>,
+) -> Result<(Seq<Entry>, ContentLine<'a>, usize), Refusal>
     requires place { IsPlaceIn source.bytes.now place }
     ensures gives { AnswersAs (λ x. closed_entries (x.0, x.1)) result (mapping_in source.entry.bytes.now (suc (length source.entry.bytes.now)) [] place.entry.at) }
     ensures part { IfOk result (λ x. IsPartIn source.entry.bytes.now x.1 x.2) }

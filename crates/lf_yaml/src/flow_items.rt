@@ -1,7 +1,7 @@
 //! Flow sequences.
 ghost use Rattle.std.specs.Prelude.{◌≡◌, ℕ, suc, ◌≤◌, ◌^◌, length, IfOk};
 ghost use Rattle.lf_base.specs.Answers.{AnswersAs};
-ghost use Rattle.lf_scalar.specs.views.Built.{shown as scalar_shown};
+ghost use Rattle.lf_scalar.specs.Scalars.{value as scalar_value};
 ghost use Rattle.lf_yaml.specs.Tree.{leaf, tree, Items};
 ghost use Rattle.lf_yaml.specs.Flow.{next_on};
 ghost use Rattle.lf_yaml.specs.reading.Trees.{FlowRead, flow_scalar, sequence_sign, sequence_behind, sequence_in};
@@ -13,8 +13,8 @@ use crate::flow_scalar::sign_fault;
 use crate::node::Node;
 use crate::part_scalar::read_part;
 use crate::parts::{behind, next_part};
-use crate::place::Place;
-use crate::row::Row;
+use crate::place::FlowCursor;
+use crate::row::ContentLine;
 use crate::source::Source;
 use crate::turn::Turn;
 use lf_base::{Refusal, Seq};
@@ -22,7 +22,7 @@ use lf_scalar::Scalar;
 
 /// The node of a scalar.
 pub fn scalar_node(of: Scalar) -> Node
-    ensures { tree result ≡ leaf (scalar_shown of) }
+    ensures { tree result ≡ leaf (scalar_value of) }
 {
     Node::Scalar { of }
 }
@@ -31,10 +31,10 @@ pub fn scalar_node(of: Scalar) -> Node
 fn item_sign<'a>(
     source: Source<'a>,
     item: Scalar,
-    place: Place<'a>,
+    place: FlowCursor<'a>,
 ) -> Result<Turn<'a, Node>, Refusal>
     requires place { IsPlaceIn source.bytes.now place }
-    ensures gives { (later : ℕ → FlowRead Items) → TurnsItems later result (sequence_sign later (scalar_shown item) (next_on source.entry.bytes.now place.entry.at)) }
+    ensures gives { (later : ℕ → FlowRead Items) → TurnsItems later result (sequence_sign later (scalar_value item) (next_on source.entry.bytes.now place.entry.at)) }
     ensures turn { IfOk result (λ t. IsTurnIn source.entry.bytes.now place.entry.at t) }
 {
     match next_part(source, place) {
@@ -55,7 +55,11 @@ fn item_sign<'a>(
 }
 
 /// The item that a part begins, and what stands behind it. The lines behind the part's own begin at `next`.
-fn item_on<'a>(source: Source<'a>, part: Row<'a>, next: usize) -> Result<Turn<'a, Node>, Refusal>
+fn item_on<'a>(
+    source: Source<'a>,
+    part: ContentLine<'a>,
+    next: usize,
+) -> Result<Turn<'a, Node>, Refusal>
     requires part { IsPartIn source.bytes.now part next }
     ensures gives { (later : ℕ → FlowRead Items) → TurnsItems later result (sequence_behind source.entry.bytes.now later (flow_scalar source.entry.bytes.now (shown part.entry).first (shown part.entry).rest)) }
     ensures turn { IfOk result (λ t. IsTurnIn source.entry.bytes.now part.entry.at t) }
@@ -68,7 +72,7 @@ fn item_on<'a>(source: Source<'a>, part: Row<'a>, next: usize) -> Result<Turn<'a
 
 /// What stands at a place of a flow sequence where an item may begin.
 #[tactic(auto, unfolding(crate::specs::reading::Trees::sequence_in))]
-fn item_turn<'a>(source: Source<'a>, place: Place<'a>) -> Result<Turn<'a, Node>, Refusal>
+fn item_turn<'a>(source: Source<'a>, place: FlowCursor<'a>) -> Result<Turn<'a, Node>, Refusal>
     requires place { IsPlaceIn source.bytes.now place }
     ensures gives { (m : ℕ) → TurnsItems (λ at. sequence_in source.entry.bytes.now m at) result (sequence_in source.entry.bytes.now (suc m) place.entry.at) }
     ensures turn { IfOk result (λ t. IsTurnIn source.entry.bytes.now place.entry.at t) }
@@ -90,8 +94,8 @@ fn item_turn<'a>(source: Source<'a>, place: Place<'a>) -> Result<Turn<'a, Node>,
 /// The items of a flow sequence from the place behind its opening bracket on, its closing bracket, and where the lines behind that begin.
 pub fn flow_items<'a>(
     source: Source<'a>,
-    place: Place<'a>,
-) -> Result<(Seq<Node>, Row<'a>, usize), Refusal>
+    place: FlowCursor<'a>,
+) -> Result<(Seq<Node>, ContentLine<'a>, usize), Refusal>
     requires place { IsPlaceIn source.bytes.now place }
     ensures gives { AnswersAs (λ x. closed_items (x.0, x.1)) result (sequence_in source.entry.bytes.now (suc (length source.entry.bytes.now)) place.entry.at) }
     ensures part { IfOk result (λ x. IsPartIn source.entry.bytes.now x.1 x.2) }

@@ -5,7 +5,7 @@ ghost use Rattle.lf_base.specs.Answers.{AnswersAs};
 ghost use Rattle.lf_scalar.specs.Cells.{cell, cells, Fails};
 ghost use Rattle.lf_scalar.specs.Lines.{is_blank};
 ghost use Rattle.lf_scalar.specs.Folding.{trimmed as trimmed_of};
-ghost use Rattle.lf_scalar.specs.views.Built.{shown as scalar_shown};
+ghost use Rattle.lf_scalar.specs.Scalars.{value as scalar_value};
 ghost use Rattle.lf_scalar.specs.Quoted.{quote_of as quote_byte};
 ghost use Rattle.lf_yaml.specs.Flow.{next_on};
 ghost use Rattle.lf_yaml.specs.reading.Trees.{quoted_part, behind_closing, no_sign as no_sign_of, flow_key as flow_key_of, flow_key_by, bare_key as bare_key_of};
@@ -22,9 +22,9 @@ use crate::flow_scalar::{begins_flow_bytes, part_fault, sign_fault};
 use crate::head::{byte_fault, first_fault};
 use crate::keys::{find_sign, is_key_left_out};
 use crate::parts::{behind, next_part, place_from};
-use crate::place::Place;
+use crate::place::FlowCursor;
 use crate::plain::slice_scalar;
-use crate::row::Row;
+use crate::row::ContentLine;
 use crate::source::Source;
 use lf_base::bytes::before;
 use lf_base::{Kind, Refusal, Span};
@@ -34,7 +34,7 @@ use lf_scalar::quotes::{Quotes, find_closing};
 use std::alloc::Global;
 
 /// What is told where no `:` stands behind a key: what is broken before the next part, or this part.
-fn no_sign(source: Source<'_>, place: Place<'_>) -> Refusal
+fn no_sign(source: Source<'_>, place: FlowCursor<'_>) -> Refusal
     requires place { IsPlaceIn source.bytes.now place }
     ensures { Fails result (no_sign_of (next_on source.entry.bytes.now place.entry.at)) }
 {
@@ -45,11 +45,11 @@ fn no_sign(source: Source<'_>, place: Place<'_>) -> Refusal
 }
 
 /// The scalar of a key without quotes, whose `:` stands at a place of its part.
-fn bare_scalar(alloc: Global, part: Row<'_>, place: usize) -> Result<Scalar, Refusal>
+fn bare_scalar(alloc: Global, part: ContentLine<'_>, place: usize) -> Result<Scalar, Refusal>
     requires utf8 { IsUtf8 part.text.now }
     requires within { place < length part.text.now }
     requires sign { get_or part.text.now place 0 ≡ 58 }
-    ensures { AnswersAs scalar_shown result (Ok (bare_key_of (shown part.entry).first (trimmed_of is_blank (cells part.entry.at (take place part.entry.text.now))))) }
+    ensures { AnswersAs scalar_value result (Ok (bare_key_of (shown part.entry).first (trimmed_of is_blank (cells part.entry.at (take place part.entry.text.now))))) }
 {
     let len = trimmed_len(before(part.text, place));
     let end = part.at + len as u32;
@@ -65,7 +65,11 @@ fn bare_scalar(alloc: Global, part: Row<'_>, place: usize) -> Result<Scalar, Ref
 }
 
 /// The key without quotes that a part begins, and the place of its `:` in the part. Some are left out. The lines behind the part's own begin at `next`.
-fn bare_key(source: Source<'_>, part: Row<'_>, next: usize) -> Result<(Scalar, usize), Refusal>
+fn bare_key(
+    source: Source<'_>,
+    part: ContentLine<'_>,
+    next: usize,
+) -> Result<(Scalar, usize), Refusal>
     requires part { IsPartIn source.bytes.now part next }
     ensures gives { AnswersAs (signed part.entry) result (flow_key_by source.entry.bytes.now (shown part.entry).first (shown part.entry).rest None) }
     ensures within { IfOk result (λ x. x.1 < length part.entry.text.now) }
@@ -94,12 +98,12 @@ fn bare_key(source: Source<'_>, part: Row<'_>, next: usize) -> Result<(Scalar, u
 /// The scalar between quotes that a part begins and that closes on its line, and how many bytes of the part it takes.
 fn quoted_scalar_on(
     source: Source<'_>,
-    part: Row<'_>,
+    part: ContentLine<'_>,
     quote: Quotes,
 ) -> Result<(Scalar, usize), Refusal>
     requires part { IsTextOf source.bytes.now part }
     requires quote { get_or part.text.now 0 0 ≡ quote_byte quote }
-    ensures gives { AnswersAs (λ x. (scalar_shown x.0, part.entry.at + x.1)) result (quoted_part quote (shown part.entry).first (closing_of quote 0 (shown part.entry).rest)) }
+    ensures gives { AnswersAs (λ x. (scalar_value x.0, part.entry.at + x.1)) result (quoted_part quote (shown part.entry).first (closing_of quote 0 (shown part.entry).rest)) }
     ensures left { IfOk result (λ x. behind_closing (closing_of quote 0 (shown part.entry).rest) ≡ cells (part.entry.at + x.1) (drop x.1 part.entry.text.now)) }
     ensures cut { IsUtf8 part.entry.text.now → IfOk result (λ x. IsCharBoundary part.entry.text.now x.1) }
 {
@@ -116,7 +120,7 @@ fn quoted_scalar_on(
 /// The key between quotes that a part begins, and the place of its `:` in the part. It is left out where the `:` stands too far behind, whatever is between the quotes.
 fn quoted_key(
     source: Source<'_>,
-    part: Row<'_>,
+    part: ContentLine<'_>,
     next: usize,
     quote: Quotes,
 ) -> Result<(Scalar, usize), Refusal>
@@ -151,7 +155,11 @@ fn is_colon(text: &[u8], place: usize) -> bool
 
 /// The key that a part of a flow mapping begins, and the place of its `:` in the part. The lines behind the part's own begin at `next`.
 #[tactic(auto, unfolding(crate::specs::reading::Trees::flow_key))]
-pub fn flow_key(source: Source<'_>, part: Row<'_>, next: usize) -> Result<(Scalar, usize), Refusal>
+pub fn flow_key(
+    source: Source<'_>,
+    part: ContentLine<'_>,
+    next: usize,
+) -> Result<(Scalar, usize), Refusal>
     requires part { IsPartIn source.bytes.now part next }
     ensures gives { AnswersAs (signed part.entry) result (flow_key_of source.entry.bytes.now (shown part.entry).first (shown part.entry).rest) }
     ensures within { IfOk result (λ x. x.1 < length part.entry.text.now) }

@@ -16,7 +16,7 @@ use crate::flow_items::flow_items;
 use crate::head::first_fault;
 use crate::node::{Entry, Node};
 use crate::parts::place_on;
-use crate::row::Row;
+use crate::row::ContentLine;
 use crate::rows::lines_from;
 use crate::source::Source;
 use lf_base::{Kind, Refusal, Seq, Span};
@@ -37,7 +37,7 @@ pub fn map_node(entries: Seq<Entry>, span: Span) -> Node
 }
 
 /// What is told of what stands behind the bracket that closes a collection, where that isn't blanks and a comment alone.
-fn wrong_after(closing: Row<'_>) -> Option<Refusal>
+fn wrong_after(closing: ContentLine<'_>) -> Option<Refusal>
     ensures { MatchOption result (wrong_behind_of false (shown closing.entry).rest ≡ None) (λ e. (c : Cell) × (wrong_behind_of false (shown closing.entry).rest ≡ Some c) × (e ≡ refused (fault_at_of NotANode c))) }
 {
     let rest = past(closing.text, 1);
@@ -48,7 +48,7 @@ fn wrong_after(closing: Row<'_>) -> Option<Refusal>
 }
 
 /// The span from a row's first byte to the end of the bracket that closes its collection.
-fn closed_span(row: Row<'_>, closing: Row<'_>) -> Span
+fn closed_span(row: ContentLine<'_>, closing: ContentLine<'_>) -> Span
     ensures { result ≡ record { start = row.entry.at; end = suc closing.entry.at } }
 {
     Span {
@@ -58,7 +58,11 @@ fn closed_span(row: Row<'_>, closing: Row<'_>) -> Span
 }
 
 /// The flow sequence whose opening bracket a row begins with, and where the line behind it begins.
-fn closed_sequence(source: Source<'_>, row: Row<'_>, next: usize) -> Result<(Node, usize), Refusal>
+fn closed_sequence(
+    source: Source<'_>,
+    row: ContentLine<'_>,
+    next: usize,
+) -> Result<(Node, usize), Refusal>
     requires row { IsRowOf source.bytes.now row }
     requires start { IsCharBoundary source.bytes.now next }
     requires bracket { get_or row.text.now 0 0 ≡ 91 }
@@ -79,7 +83,11 @@ fn closed_sequence(source: Source<'_>, row: Row<'_>, next: usize) -> Result<(Nod
 }
 
 /// The flow mapping whose opening bracket a row begins with, and where the line behind it begins.
-fn closed_mapping(source: Source<'_>, row: Row<'_>, next: usize) -> Result<(Node, usize), Refusal>
+fn closed_mapping(
+    source: Source<'_>,
+    row: ContentLine<'_>,
+    next: usize,
+) -> Result<(Node, usize), Refusal>
     requires row { IsRowOf source.bytes.now row }
     requires start { IsCharBoundary source.bytes.now next }
     requires bracket { get_or row.text.now 0 0 ≡ 123 }
@@ -103,7 +111,7 @@ fn closed_mapping(source: Source<'_>, row: Row<'_>, next: usize) -> Result<(Node
 pub fn flow_list(
     source: Source<'_>,
     depth: u32,
-    row: Row<'_>,
+    row: ContentLine<'_>,
     next: usize,
 ) -> Result<(Node, usize), Refusal>
     requires row { IsRowOf source.bytes.now row }
@@ -123,7 +131,7 @@ pub fn flow_list(
 pub fn flow_map(
     source: Source<'_>,
     depth: u32,
-    row: Row<'_>,
+    row: ContentLine<'_>,
     next: usize,
 ) -> Result<(Node, usize), Refusal>
     requires row { IsRowOf source.bytes.now row }

@@ -14,7 +14,7 @@ ghost use Rattle.lf_yaml.specs.reading.FlowLines.{IsLeft, IsFew, Steps, FoldsAs}
 use crate::flow_text::{find_colon, flow_text_len};
 use crate::head::{byte_fault, is_mark};
 use crate::keys::is_flow_sign;
-use crate::row::Row;
+use crate::row::ContentLine;
 use crate::rows::line_row;
 use lf_base::bytes::before;
 use lf_base::{Kind, Refusal};
@@ -68,7 +68,7 @@ fn is_spaces(line: &[u8]) -> bool
 }
 
 /// Whether a row goes on with a plain scalar: it begins with no tab and no sign of flow collections, and is no mark.
-fn row_goes_on(row: Row<'_>) -> bool
+fn row_goes_on(row: ContentLine<'_>) -> bool
     ensures { (rows : List RowOf) → result ≡ goes_on_of (shown row.entry ∷ rows) }
 {
     if row.text[0] == b'\t' {
@@ -188,7 +188,7 @@ pub fn push_behind(
 }
 
 /// Where a collection is read on behind the text that a part gives to a plain scalar on its line.
-pub fn text_left(bytes: &[u8], part: Row<'_>) -> u32
+pub fn text_left(bytes: &[u8], part: ContentLine<'_>) -> u32
     requires room { length bytes.now ≤ 2 ^ 31 }
     requires within { part.at < length bytes.now }
     requires rest { cells part.at part.text.now ≡ (line_on bytes.now part.at).text }

@@ -8,7 +8,7 @@ ghost use Rattle.lf_base.specs.declared.kind.Kind.TheVariants.{LeftOut, NotANode
 ghost use Rattle.lf_yaml.specs.views.Shown.{shown};
 
 use crate::head::first_fault;
-use crate::row::Row;
+use crate::row::ContentLine;
 use lf_base::{Kind, Refusal};
 use lf_scalar::lines::is_blank_byte;
 use lf_scalar::markers::is_apart;
@@ -63,21 +63,21 @@ fn is_flow_property(text: &[u8]) -> bool
 }
 
 /// Whether a part begins with a bracket, or as an anchor, an alias, a tag or a complex key.
-fn is_left_out_part(part: Row<'_>) -> bool
+fn is_left_out_part(part: ContentLine<'_>) -> bool
     ensures { result ≡ (is_bracket_of (shown part.entry).first || is_flow_property_of (shown part.entry).first (shown part.entry).rest) }
 {
     is_bracket(part.text[0]) || is_flow_property(part.text)
 }
 
 /// What is told of a part where a scalar or a key is wanted that can't begin one.
-pub fn part_fault(part: Row<'_>) -> Refusal
+pub fn part_fault(part: ContentLine<'_>) -> Refusal
     ensures { result ≡ refused (part_fault_of (shown part.entry).first (shown part.entry).rest) }
 {
     first_fault(fault_kind(is_left_out_part(part)), part)
 }
 
 /// What is told of a part where a sign is wanted.
-pub fn sign_fault(part: Row<'_>) -> Refusal
+pub fn sign_fault(part: ContentLine<'_>) -> Refusal
     ensures { result ≡ refused (sign_fault_of (shown part.entry).first) }
 {
     first_fault(fault_kind(is_bracket(part.text[0])), part)

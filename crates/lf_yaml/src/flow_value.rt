@@ -2,7 +2,7 @@
 ghost use Rattle.std.specs.Prelude.{◌≡◌, ◌||◌, eqb, suc, ◌<◌, ◌≤◌, ◌^◌, length, Ok, IfOk};
 ghost use Rattle.lf_base.specs.Answers.{AnswersAs};
 ghost use Rattle.lf_scalar.specs.Cells.{cell};
-ghost use Rattle.lf_scalar.specs.views.Built.{shown as scalar_shown};
+ghost use Rattle.lf_scalar.specs.Scalars.{value as scalar_value};
 ghost use Rattle.lf_yaml.specs.Tree.{leaf};
 ghost use Rattle.lf_yaml.specs.Spans.{empty_at};
 ghost use Rattle.lf_yaml.specs.reading.Trees.{flow_value as flow_value_of};
@@ -10,7 +10,7 @@ ghost use Rattle.lf_yaml.specs.views.Places.{IsPlaceIn};
 
 use crate::part_scalar::read_part;
 use crate::parts::next_part;
-use crate::place::Place;
+use crate::place::FlowCursor;
 use crate::plain::slice_scalar;
 use crate::source::Source;
 use lf_base::{Refusal, Span};
@@ -27,7 +27,7 @@ fn ends_value(byte: u8) -> bool
 /// The empty text at an offset, where a value is missing.
 pub fn missing_value(alloc: Global, at: u32) -> Result<Scalar, Refusal>
     requires { at ≤ 2 ^ 31 }
-    ensures { AnswersAs (λ s. leaf (scalar_shown s)) result (Ok (empty_at at)) }
+    ensures { AnswersAs (λ s. leaf (scalar_value s)) result (Ok (empty_at at)) }
 {
     slice_scalar(alloc, &[], at, Span { start: at, end: at })
 }
@@ -37,12 +37,12 @@ pub fn missing_value(alloc: Global, at: u32) -> Result<Scalar, Refusal>
 pub fn flow_value<'a>(
     source: Source<'a>,
     colon: u32,
-    place: Place<'a>,
-) -> Result<(Scalar, Place<'a>), Refusal>
+    place: FlowCursor<'a>,
+) -> Result<(Scalar, FlowCursor<'a>), Refusal>
     requires colon { colon < 2 ^ 31 }
     requires place { IsPlaceIn source.bytes.now place }
     requires behind { place.at ≡ suc colon }
-    ensures gives { AnswersAs (λ x. (leaf (scalar_shown x.0), x.1.at)) result (flow_value_of source.entry.bytes.now (cell 58 colon)) }
+    ensures gives { AnswersAs (λ x. (leaf (scalar_value x.0), x.1.at)) result (flow_value_of source.entry.bytes.now (cell 58 colon)) }
     ensures place { IfOk result (λ x. IsPlaceIn source.entry.bytes.now x.1) }
     ensures further { IfOk result (λ x. place.entry.at ≤ x.1.at) }
 {

@@ -5,7 +5,7 @@ ghost use Rattle.lf_base.specs.Answers.{AnswersAs};
 ghost use Rattle.lf_scalar.specs.Cells.{cell, bytes_of, offsets_of, end_of};
 ghost use Rattle.lf_scalar.specs.Offsets.{AreOffsets};
 ghost use Rattle.lf_scalar.specs.Plain.{value_of};
-ghost use Rattle.lf_scalar.specs.views.Built.{shown};
+ghost use Rattle.lf_scalar.specs.Scalars.{value as scalar_value};
 
 use crate::plain::slice_scalar;
 use lf_base::{Refusal, Span};
@@ -26,7 +26,7 @@ pub fn plain_scalar(
     requires room { most ≤ 2 ^ 31 }
     requires order { at ≤ end_of at builder }
     requires offsets { AreOffsets (bytes_of builder) (offsets_of builder ++ end_of at builder ∷ []) (record { start = at; end = end_of at builder }) }
-    ensures { (byte : ℕ) → AnswersAs shown result (Ok (value_of (cell byte at) builder)) }
+    ensures { (byte : ℕ) → AnswersAs scalar_value result (Ok (value_of (cell byte at) builder)) }
 {
     let end = builder.end(at, most);
     let span = Span { start: at, end };

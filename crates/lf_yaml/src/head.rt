@@ -7,20 +7,20 @@ ghost use Rattle.lf_yaml.specs.Heads.{is_item as is_item_of};
 ghost use Rattle.lf_yaml.specs.views.Shown.{shown};
 
 use crate::keys::has_key_left_out;
-use crate::row::Row;
+use crate::row::ContentLine;
 use lf_base::{Kind, Refusal, Span};
 use lf_scalar::lines::{char_len, is_blank_byte, past};
 use lf_scalar::markers::{is_apart, is_thrice};
 
 /// The column of a row's first character.
-pub fn indent(row: Row<'_>) -> u32
+pub fn indent(row: ContentLine<'_>) -> u32
     ensures { result ≡ indent_of (shown row.entry) }
 {
     row.at - row.begin
 }
 
 /// Whether a row begins an item: `-` before a blank or the line's end.
-pub fn is_item(row: Row<'_>) -> bool
+pub fn is_item(row: ContentLine<'_>) -> bool
     ensures { result ≡ is_item_of (shown row.entry) }
 {
     match row.text {
@@ -31,7 +31,7 @@ pub fn is_item(row: Row<'_>) -> bool
 }
 
 /// What is left of a line behind a sign, none where only blanks and a comment are. `text` stands at an offset of a line that begins at another.
-pub fn left<'a>(begin: u32, at: u32, text: &'a [u8]) -> Option<Row<'a>>
+pub fn left<'a>(begin: u32, at: u32, text: &'a [u8]) -> Option<ContentLine<'a>>
     requires order { begin ≤ at }
     requires room { at + length text.now ≤ 2 ^ 31 }
     ensures { option_map shown result ≡ left_of begin (cells at text.entry.now) }
@@ -41,7 +41,7 @@ pub fn left<'a>(begin: u32, at: u32, text: &'a [u8]) -> Option<Row<'a>>
             if *byte == b'#' {
                 return None;
             }
-            return Some(Row {
+            return Some(ContentLine {
                 begin,
                 at: at + i as u32,
                 text: past(text, i),
@@ -52,7 +52,7 @@ pub fn left<'a>(begin: u32, at: u32, text: &'a [u8]) -> Option<Row<'a>>
 }
 
 /// Whether a row is a line at indent 0 that begins with `---` or `...` and a blank or the line's end, or with `%`.
-pub fn is_mark(row: Row<'_>) -> bool
+pub fn is_mark(row: ContentLine<'_>) -> bool
     ensures { result ≡ is_mark_of (shown row.entry) }
 {
     if indent(row) != 0 {
@@ -81,7 +81,7 @@ pub fn is_property(text: &[u8]) -> bool
 }
 
 /// Whether a row begins with a form that the profile leaves out.
-pub fn is_left_out(row: Row<'_>) -> bool
+pub fn is_left_out(row: ContentLine<'_>) -> bool
     ensures { result ≡ is_left_out_of (shown row.entry) }
 {
     is_property(row.text) || is_mark(row) || has_key_left_out(row.text, row.at)
@@ -102,7 +102,7 @@ pub fn byte_fault(kind: Kind, at: u32) -> Refusal
 }
 
 /// The refusal of a kind whose span is a row's first character.
-pub fn first_fault(kind: Kind, row: Row<'_>) -> Refusal
+pub fn first_fault(kind: Kind, row: ContentLine<'_>) -> Refusal
     ensures { result ≡ refused (character_fault kind (shown row.entry).first) }
 {
     Refusal::At {
@@ -115,7 +115,7 @@ pub fn first_fault(kind: Kind, row: Row<'_>) -> Refusal
 }
 
 /// What is told of a row whose indent fits no open collection.
-pub fn indent_fault(row: Row<'_>) -> Refusal
+pub fn indent_fault(row: ContentLine<'_>) -> Refusal
     ensures { result ≡ refused (indent_fault_of (shown row.entry)) }
 {
     if row.text[0] == b'\t' {
@@ -126,7 +126,7 @@ pub fn indent_fault(row: Row<'_>) -> Refusal
 }
 
 /// What is told of a row that begins nothing that may stand there.
-pub fn row_fault(row: Row<'_>) -> Refusal
+pub fn row_fault(row: ContentLine<'_>) -> Refusal
     ensures { result ≡ refused (row_fault_of (shown row.entry)) }
 {
     if row.text[0] == b'\t' {

@@ -2,7 +2,7 @@
 ghost use Rattle.std.specs.Prelude.{◌≡◌, ℕ, ◌+◌, ◌≤◌, ◌^◌, length, map, Ok, IfOk};
 ghost use Rattle.lf_base.specs.Answers.{AnswersAs};
 ghost use Rattle.lf_base.specs.Faults.{span as span_at};
-ghost use Rattle.lf_scalar.specs.views.Built.{shown as scalar_shown};
+ghost use Rattle.lf_scalar.specs.Scalars.{value as scalar_value};
 ghost use Rattle.lf_yaml.specs.Tree.{tree, pair, sequence, mapping, items_of, entries_of};
 ghost use Rattle.lf_yaml.specs.Spans.{span_of, items_end, entries_end, empty_at};
 
@@ -74,7 +74,7 @@ pub fn map_node(start: u32, entries: Seq<Entry>) -> Node
 
 /// An entry of a key and its value.
 pub fn entry_node(key: Scalar, value: Node) -> Entry
-    ensures { pair result ≡ (scalar_shown key, tree value) }
+    ensures { pair result ≡ (scalar_value key, tree value) }
 {
     Entry { key, value }
 }

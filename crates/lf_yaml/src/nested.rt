@@ -21,7 +21,7 @@ use crate::key_set::KeySet;
 use crate::made::{empty, entry_node, list_node, map_node};
 use crate::new_keys::new_key;
 use crate::node::{Entry, Node};
-use crate::row::Row;
+use crate::row::ContentLine;
 use crate::row_value::value;
 use crate::source::Source;
 use lf_base::{Kind, Refusal, Seq};
@@ -36,7 +36,7 @@ pub fn node(
     depth: u32,
     own: bool,
     above: u32,
-    row: Row<'_>,
+    row: ContentLine<'_>,
     next: usize,
 ) -> Result<(Node, usize), Refusal>
     requires row { IsRowOf source.bytes.now row }
@@ -70,7 +70,7 @@ pub fn node(
 fn item_value(
     source: Source<'_>,
     depth: u32,
-    row: Row<'_>,
+    row: ContentLine<'_>,
     next: usize,
 ) -> Result<(Node, usize), Refusal>
     requires row { IsRowOf source.bytes.now row }
@@ -99,7 +99,7 @@ fn items(
     source: Source<'_>,
     depth: u32,
     own: bool,
-    row: Row<'_>,
+    row: ContentLine<'_>,
     next: usize,
 ) -> Result<(Seq<Node>, usize), Refusal>
     requires row { IsRowOf source.bytes.now row }
@@ -126,7 +126,7 @@ fn value_here(
     source: Source<'_>,
     depth: u32,
     column: u32,
-    left: Row<'_>,
+    left: ContentLine<'_>,
     next: usize,
 ) -> Result<(Node, usize), Refusal>
     requires row { IsRowOf source.bytes.now left }

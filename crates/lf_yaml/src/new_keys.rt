@@ -1,7 +1,7 @@
 //! Keys that stand once in their mapping.
 ghost use Rattle.std.specs.Prelude.{◌≡◌, ℕ, List, ◌+◌, ◌≤◌, ◌^◌, length};
 ghost use Rattle.lf_base.specs.Answers.{AnswersAs};
-ghost use Rattle.lf_scalar.specs.views.Built.{shown as scalar_shown};
+ghost use Rattle.lf_scalar.specs.Scalars.{value as scalar_value};
 ghost use Rattle.lf_yaml.specs.views.Shown.{shown};
 ghost use Rattle.lf_yaml.specs.views.Headed.{headed};
 ghost use Rattle.lf_yaml.specs.views.KeySets.{HasKeys};
@@ -18,7 +18,7 @@ use lf_scalar::Scalar;
 #[tactic(auto, unfolding(crate::specs::reading::BlockTurns::new_key))]
 pub fn new_key(source: Source<'_>, keys: &KeySet, entry: EntryRow<'_>) -> Result<Scalar, Refusal>
     requires entry { IsEntryRow source.bytes.now entry }
-    ensures { (texts : List (List ℕ)) → HasKeys keys.now texts → AnswersAs scalar_shown result (new_key_of texts (shown entry.entry.row) (headed entry.entry.row.at entry.entry.row.text.now entry.entry.head)) }
+    ensures { (texts : List (List ℕ)) → HasKeys keys.now texts → AnswersAs scalar_value result (new_key_of texts (shown entry.entry.row) (headed entry.entry.row.at entry.entry.row.text.now entry.entry.head)) }
 {
     match key_scalar(source, entry.row, entry.head.key) {
         Ok(key) => {

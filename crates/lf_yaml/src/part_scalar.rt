@@ -2,7 +2,7 @@
 ghost use Rattle.std.specs.Prelude.{◌≡◌, ◌+◌, ◌<◌, ◌≤◌, ◌^◌, length, get_or, Some, None, IfOk};
 ghost use Rattle.lf_base.specs.Answers.{AnswersAs};
 ghost use Rattle.lf_scalar.specs.Cells.{cells};
-ghost use Rattle.lf_scalar.specs.views.Built.{shown as scalar_shown};
+ghost use Rattle.lf_scalar.specs.Scalars.{value as scalar_value};
 ghost use Rattle.lf_scalar.specs.Quoted.{quote_of as quote_byte};
 ghost use Rattle.lf_yaml.specs.Flow.{line_on, lines_below};
 ghost use Rattle.lf_yaml.specs.reading.Trees.{part_by, flow_scalar, plain_from};
@@ -17,8 +17,8 @@ use crate::flow_scalar::{begins_flow_bytes, part_fault};
 use crate::folded::plain_scalar;
 use crate::head::byte_fault;
 use crate::parts::place_from;
-use crate::place::Place;
-use crate::row::Row;
+use crate::place::FlowCursor;
+use crate::row::ContentLine;
 use crate::source::Source;
 use lf_base::{Kind, Refusal};
 use lf_scalar::Scalar;
@@ -29,13 +29,13 @@ use lf_scalar::quotes::{Quotes, find_closing};
 /// The scalar between quotes that a part begins, and the place behind it. It may close on a later line.
 fn quoted_part<'a>(
     source: Source<'a>,
-    part: Row<'a>,
+    part: ContentLine<'a>,
     next: usize,
     quote: Quotes,
-) -> Result<(Scalar, Place<'a>), Refusal>
+) -> Result<(Scalar, FlowCursor<'a>), Refusal>
     requires part { IsPartIn source.bytes.now part next }
     requires quote { get_or part.text.now 0 0 ≡ quote_byte quote }
-    ensures gives { AnswersAs (λ x. (scalar_shown x.0, x.1.at)) result (part_by source.entry.bytes.now (shown part.entry).first (shown part.entry).rest (Some quote)) }
+    ensures gives { AnswersAs (λ x. (scalar_value x.0, x.1.at)) result (part_by source.entry.bytes.now (shown part.entry).first (shown part.entry).rest (Some quote)) }
     ensures place { IfOk result (λ x. IsPlaceIn source.entry.bytes.now x.1) }
     ensures further { IfOk result (λ x. part.entry.at ≤ x.1.at) }
 {
@@ -56,7 +56,7 @@ fn quoted_part<'a>(
 fn push_plain(
     builder: &mut ScalarBuilder,
     source: Source<'_>,
-    part: Row<'_>,
+    part: ContentLine<'_>,
 ) -> Result<u32, Refusal>
     requires within { part.at < length source.bytes.now }
     requires rest { cells part.at part.text.now ≡ (line_on source.bytes.now part.at).text }
@@ -77,11 +77,11 @@ fn push_plain(
 /// The plain scalar that a part begins, and the place behind it. It may go on over later lines.
 fn plain_part<'a>(
     source: Source<'a>,
-    part: Row<'a>,
+    part: ContentLine<'a>,
     next: usize,
-) -> Result<(Scalar, Place<'a>), Refusal>
+) -> Result<(Scalar, FlowCursor<'a>), Refusal>
     requires part { IsPartIn source.bytes.now part next }
-    ensures gives { AnswersAs (λ x. (scalar_shown x.0, x.1.at)) result (part_by source.entry.bytes.now (shown part.entry).first (shown part.entry).rest None) }
+    ensures gives { AnswersAs (λ x. (scalar_value x.0, x.1.at)) result (part_by source.entry.bytes.now (shown part.entry).first (shown part.entry).rest None) }
     ensures place { IfOk result (λ x. IsPlaceIn source.entry.bytes.now x.1) }
     ensures further { IfOk result (λ x. part.entry.at ≤ x.1.at) }
 {
@@ -102,11 +102,11 @@ fn plain_part<'a>(
 #[tactic(auto, unfolding(crate::specs::reading::Trees::flow_scalar))]
 pub fn read_part<'a>(
     source: Source<'a>,
-    part: Row<'a>,
+    part: ContentLine<'a>,
     next: usize,
-) -> Result<(Scalar, Place<'a>), Refusal>
+) -> Result<(Scalar, FlowCursor<'a>), Refusal>
     requires part { IsPartIn source.bytes.now part next }
-    ensures gives { AnswersAs (λ x. (scalar_shown x.0, x.1.at)) result (flow_scalar source.entry.bytes.now (shown part.entry).first (shown part.entry).rest) }
+    ensures gives { AnswersAs (λ x. (scalar_value x.0, x.1.at)) result (flow_scalar source.entry.bytes.now (shown part.entry).first (shown part.entry).rest) }
     ensures place { IfOk result (λ x. IsPlaceIn source.entry.bytes.now x.1) }
     ensures further { IfOk result (λ x. part.entry.at ≤ x.1.at) }
 {

@@ -7,15 +7,15 @@ ghost use Rattle.lf_yaml.specs.views.Parts.{IsNext};
 ghost use Rattle.lf_yaml.specs.views.Places.{IsPartIn, IsPlaceIn};
 
 use crate::head::{first_fault, indent_fault, is_mark};
-use crate::place::Place;
-use crate::row::Row;
+use crate::place::FlowCursor;
+use crate::row::ContentLine;
 use crate::rows::{line_of, next_row};
 use crate::source::Source;
 use lf_base::{Kind, Refusal, Span};
 use lf_scalar::lines::{blanks, past};
 
 /// The part that begins on a later line, at its first character. The line may have any indent, but no tab behind it, and is no mark. The file doesn't end before it.
-pub fn on_line(source: Source<'_>, next: usize) -> Result<(Row<'_>, usize), Refusal>
+pub fn on_line(source: Source<'_>, next: usize) -> Result<(ContentLine<'_>, usize), Refusal>
     requires start { IsCharBoundary source.bytes.now next }
     ensures next { IsNext result (on_line_of (length source.entry.bytes.now) (rows_after source.entry.bytes.now next)) }
     ensures part { IfOk result (λ x. IsPartIn source.entry.bytes.now x.0 x.1) }
@@ -42,7 +42,10 @@ pub fn on_line(source: Source<'_>, next: usize) -> Result<(Row<'_>, usize), Refu
 
 /// The next part from a place on, and where the lines behind its own begin: blanks are skipped, and a comment, whose `#` stands behind a blank.
 #[tactic(auto, unfolding(crate::specs::Flow::next_on))]
-pub fn next_part<'a>(source: Source<'a>, place: Place<'a>) -> Result<(Row<'a>, usize), Refusal>
+pub fn next_part<'a>(
+    source: Source<'a>,
+    place: FlowCursor<'a>,
+) -> Result<(ContentLine<'a>, usize), Refusal>
     requires place { IsPlaceIn source.bytes.now place }
     ensures next { IsNext result (next_on source.entry.bytes.now place.entry.at) }
     ensures part { IfOk result (λ x. IsPartIn source.entry.bytes.now x.0 x.1) }
@@ -55,7 +58,7 @@ pub fn next_part<'a>(source: Source<'a>, place: Place<'a>) -> Result<(Row<'a>, u
             if skipped > 0 && *first == b'#' {
                 return on_line(source, place.next);
             }
-            let row = Row {
+            let row = ContentLine {
                 begin: place.begin,
                 at: place.at + skipped as u32,
                 text: past(place.text, skipped),
@@ -66,13 +69,13 @@ pub fn next_part<'a>(source: Source<'a>, place: Place<'a>) -> Result<(Row<'a>, u
 }
 
 /// The place behind the first `len` bytes of a part, behind whose line the lines begin at `next`.
-pub fn behind(part: Row<'_>, len: usize, next: usize) -> Place<'_>
+pub fn behind(part: ContentLine<'_>, len: usize, next: usize) -> FlowCursor<'_>
     requires within { len ≤ length part.text.now }
     ensures at { result.at ≡ part.entry.at + len }
     ensures place { (bytes : List ℕ) → IsPartIn bytes part.entry next → IsCharBoundary part.entry.text.now len → IsPlaceIn bytes result }
     ensures from { (bytes : List ℕ) → IsUtf8 bytes → IsPartIn bytes part.entry next → IsCharBoundary bytes (part.entry.at + len) → IsPlaceIn bytes result }
 {
-    Place {
+    FlowCursor {
         begin: part.begin,
         at: part.at + len as u32,
         text: past(part.text, len),
@@ -81,21 +84,21 @@ pub fn behind(part: Row<'_>, len: usize, next: usize) -> Place<'_>
 }
 
 /// The place at an offset of a file where a character begins.
-pub fn place_on(source: Source<'_>, at: u32) -> Place<'_>
+pub fn place_on(source: Source<'_>, at: u32) -> FlowCursor<'_>
     requires start { IsCharBoundary source.bytes.now at }
     ensures at { result.at ≡ at }
     ensures place { IsPlaceIn source.entry.bytes.now result }
 {
     if (at as usize) < source.bytes.len() {
         let line = line_of(source, at as usize);
-        return Place {
+        return FlowCursor {
             begin: at,
             at,
             text: line.text,
             next: line.behind,
         };
     }
-    Place {
+    FlowCursor {
         begin: at,
         at,
         text: &[],
@@ -104,7 +107,12 @@ pub fn place_on(source: Source<'_>, at: u32) -> Place<'_>
 }
 
 /// The place at an offset behind a part's first byte, on the part's line or on a later one. The lines behind the part's own begin at `next`.
-pub fn place_from<'a>(source: Source<'a>, part: Row<'a>, next: usize, at: u32) -> Place<'a>
+pub fn place_from<'a>(
+    source: Source<'a>,
+    part: ContentLine<'a>,
+    next: usize,
+    at: u32,
+) -> FlowCursor<'a>
     requires part { IsPartIn source.bytes.now part next }
     requires order { part.at ≤ at }
     requires start { IsCharBoundary source.bytes.now at }

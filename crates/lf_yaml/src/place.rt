@@ -3,7 +3,7 @@ ghost use Rattle.std.specs.Prelude.{◌+◌, ◌≤◌, ◌^◌, length};
 
 /// What is left of a line behind a part of a flow collection, and where the lines behind it begin. Offsets are in bytes from 0.
 #[derive(Clone, Copy)]
-pub struct Place<'a> {
+pub struct FlowCursor<'a> {
     /// The offset of the line's first byte.
     pub begin: u32,
     /// The offset of the first byte that is left, or of the line's end.

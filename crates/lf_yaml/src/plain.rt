@@ -4,7 +4,7 @@ ghost use Rattle.std.specs.Str.{IsUtf8};
 ghost use Rattle.lf_base.specs.Answers.{AnswersAs};
 ghost use Rattle.lf_base.specs.Faults.{span as span_of};
 ghost use Rattle.lf_scalar.specs.Cells.{cells, made};
-ghost use Rattle.lf_scalar.specs.views.Built.{shown};
+ghost use Rattle.lf_scalar.specs.Scalars.{value as scalar_value};
 ghost use Rattle.lf_base.specs.declared.refusal.Refusal.TheVariants as refusal_of;
 ghost use Rattle.lf_scalar.specs.views.Ascending.{offsets_from};
 
@@ -43,7 +43,7 @@ pub fn slice_scalar(alloc: Global, text: &[u8], at: u32, span: Span) -> Result<S
     requires room { at + length text.now ≤ 2 ^ 31 }
     requires start { span.start ≤ at }
     requires end { at + length text.now ≤ span.end }
-    ensures { AnswersAs shown result (Ok (made (cells at text.now) (at + length text.now) span)) }
+    ensures { AnswersAs scalar_value result (Ok (made (cells at text.now) (at + length text.now) span)) }
 {
     let from = match offsets(alloc, at, text.len()) {
         Ok(from) => from,

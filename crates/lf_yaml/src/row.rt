@@ -3,7 +3,7 @@ ghost use Rattle.std.specs.Prelude.{◌+◌, ◌<◌, ◌≤◌, ◌^◌, length
 
 /// A content line from its first character that isn't a space, or what is left of one behind a sign from its first character that isn't a blank. Offsets are in bytes from 0.
 #[derive(Clone, Copy)]
-pub struct Row<'a> {
+pub struct ContentLine<'a> {
     /// The offset of the line's first byte.
     pub begin: u32,
     /// The offset of the row's first byte.

@@ -13,7 +13,7 @@ use crate::flow_items::scalar_node;
 use crate::flow_nodes::{flow_list, flow_map};
 use crate::head::row_fault;
 use crate::node::Node;
-use crate::row::Row;
+use crate::row::ContentLine;
 use crate::rows::lines_from;
 use crate::scalars::{begins_scalar, scalar};
 use crate::source::Source;
@@ -30,7 +30,7 @@ fn parent_of(above: u32) -> i32
 /// The scalar that a row begins, and where the line begins behind it.
 fn scalar_value(
     source: Source<'_>,
-    row: Row<'_>,
+    row: ContentLine<'_>,
     next: usize,
     above: u32,
 ) -> Result<(Node, usize), Refusal>
@@ -57,7 +57,7 @@ fn scalar_value(
 #[tactic(auto, unfolding(crate::specs::reading::Trees::value_on))]
 pub fn value(
     source: Source<'_>,
-    row: Row<'_>,
+    row: ContentLine<'_>,
     next: usize,
     above: u32,
     depth: u32,

@@ -8,13 +8,13 @@ ghost use Rattle.lf_yaml.specs.Rows.{content_row, rows_from, rows_of};
 ghost use Rattle.lf_yaml.specs.views.Shown.{shown};
 ghost use Rattle.lf_yaml.specs.views.Cursor.{rows_after, IsRowOf};
 
-use crate::row::Row;
+use crate::row::ContentLine;
 use crate::source::Source;
 use lf_base::bytes::before;
 use lf_scalar::lines::{line_end, past, spaces};
 
 /// The row of a line that stands at an offset, none where the line has spaces alone or is a comment line.
-pub fn line_row(text: &[u8], at: u32) -> Option<Row<'_>>
+pub fn line_row(text: &[u8], at: u32) -> Option<ContentLine<'_>>
     requires room { at + length text.now ≤ 2 ^ 31 }
     ensures row { (feed : ℕ) → MatchOption result (content_row (line (cells at text.entry.now) feed) ≡ []) (λ r. content_row (line (cells at text.entry.now) feed) ≡ shown r ∷ []) }
     ensures spaces { IfSome result (λ r. at < r.at → get_or text.entry.now (r.at - at - 1) 0 ≡ 32) }
@@ -25,7 +25,7 @@ pub fn line_row(text: &[u8], at: u32) -> Option<Row<'_>>
     match rest {
         [] => None,
         [b'#', ..] => None,
-        [_, ..] => Some(Row {
+        [_, ..] => Some(ContentLine {
             begin: at,
             at: at + indent as u32,
             text: rest,
@@ -67,7 +67,7 @@ pub fn line_of(source: Source<'_>, from: usize) -> LineOf<'_>
 }
 
 /// The next row from an offset on, at which a line begins, and where the line behind it begins. None where no row is left.
-pub fn next_row(source: Source<'_>, from: usize) -> Option<(Row<'_>, usize)>
+pub fn next_row(source: Source<'_>, from: usize) -> Option<(ContentLine<'_>, usize)>
     requires start { IsCharBoundary source.bytes.now from }
     ensures rows { MatchOption result (rows_after source.entry.bytes.now from ≡ []) (λ x. rows_after source.entry.bytes.now from ≡ shown x.0 ∷ rows_after source.entry.bytes.now x.1) }
     ensures boundary { IfSome result (λ x. IsCharBoundary source.entry.bytes.now x.0.at) }

@@ -2,9 +2,8 @@
 ghost use Rattle.std.specs.Prelude.{true, ◌≡◌, ℕ, ◌+◌, ◌≤◌, ◌^◌, length};
 ghost use Rattle.lf_base.specs.Answers.{AnswersAs};
 ghost use Rattle.lf_scalar.specs.Cells.{cell};
-ghost use Rattle.lf_scalar.specs.Scalars.{least_above, begins};
+ghost use Rattle.lf_scalar.specs.Scalars.{least_above, begins, value as scalar_value};
 ghost use Rattle.lf_yaml.specs.Rows.{text_of};
-ghost use Rattle.lf_scalar.specs.views.Built.{shown as scalar_shown};
 ghost use Rattle.lf_yaml.specs.Heads.{style_of as style_of_cell, begins_scalar as begins_scalar_of};
 ghost use Rattle.lf_yaml.specs.reading.Trees.{scalar_on};
 ghost use Rattle.lf_yaml.specs.views.Shown.{shown};
@@ -12,7 +11,7 @@ ghost use Rattle.lf_yaml.specs.views.Cursor.{IsRowOf};
 
 use crate::entry::begins_plain;
 use crate::head::is_left_out;
-use crate::row::Row;
+use crate::row::ContentLine;
 use crate::source::Source;
 use lf_base::Refusal;
 use lf_scalar::{Scalar, Style, read_scalar};
@@ -31,7 +30,7 @@ fn style_by(byte: u8) -> Style
 }
 
 /// Whether a row begins as a scalar of the style of its first byte does.
-fn begins_styled(row: Row<'_>) -> bool
+fn begins_styled(row: ContentLine<'_>) -> bool
     ensures { result ≡ begins (style_of_cell (shown row.entry).first) (text_of (shown row.entry)) }
 {
     match row.text[0] {
@@ -44,17 +43,17 @@ fn begins_styled(row: Row<'_>) -> bool
 }
 
 /// Whether a row begins a scalar of some style.
-pub fn begins_scalar(row: Row<'_>) -> bool
+pub fn begins_scalar(row: ContentLine<'_>) -> bool
     ensures { result ≡ begins_scalar_of (shown row.entry) }
 {
     begins_styled(row) && !is_left_out(row)
 }
 
 /// The scalar that a row begins, as a value whose parent has an indent, -1 at the root.
-pub fn scalar(source: Source<'_>, row: Row<'_>, parent: i32) -> Result<Scalar, Refusal>
+pub fn scalar(source: Source<'_>, row: ContentLine<'_>, parent: i32) -> Result<Scalar, Refusal>
     requires row { IsRowOf source.bytes.now row }
     requires begins { begins_scalar_of (shown row) ≡ true }
-    ensures { AnswersAs scalar_shown result (scalar_on source.entry.bytes.now (least_above parent) (shown row.entry)) }
+    ensures { AnswersAs scalar_value result (scalar_on source.entry.bytes.now (least_above parent) (shown row.entry)) }
 {
     read_scalar(
         source.alloc,

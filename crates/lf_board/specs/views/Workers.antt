@@ -9,9 +9,9 @@ use Rattle.lf_board.specs.Seats.{BoardFacts, SeatFacts}
 abbrev pub IsFresh : BoardFacts → SeatFacts → Type 0
 IsFresh board seat = (seat.board ≡ board) × (seat.is_open ≡ true) × (seat.claims ≡ [])
 
--- So many workers may be given seats by it, itself included.
-abbrev pub HasRoomFor : ℕ → SeatFacts → Type 0
-HasRoomFor workers seat = (0 < workers) × (workers ≤ seat.room + 1)
+-- So many workers may be given seats by a seat with this room, itself included.
+abbrev pub HasRoomFor : ℕ → ℕ → Type 0
+HasRoomFor workers room = (0 < workers) × (workers ≤ room + 1)
 
 -- The seat when these were its claims, and one more found nothing.
 abbrev pub closed_with : SeatFacts → List ℕ → SeatFacts

@@ -1,8 +1,8 @@
 -- A building as it begins and as it ends: how contracts see the code. It defines nothing.
 use Rattle.std.specs.Prelude.{◌≡◌, ◌≤◌, ◌∷◌, [], ℕ, length, Option, Some, None}
 use Rattle.lf_ast.specs.Rules.{RuleTree}
-use Rattle.lf_trials.specs.Building.{Building, each_once}
-use Rattle.lf_trials.specs.Built.{build, build_by_rule, builder}
+use Rattle.lf_trials.specs.Building.{Building}
+use Rattle.lf_trials.specs.Built.{build, build_by_rule, builder, built_trial}
 use Rattle.lf_trials.specs.Given.{Given}
 use Rattle.lf_trials.specs.Reached.{Trial}
 use Rattle.lf_built.specs.declared.prepared.Prepared.{Prepared}
@@ -14,10 +14,6 @@ abbrev pub begun_of : Prepared → ℕ → RuleTree → Given → Option Buildin
 begun_of p i r D =
     build (universe_of p) (env_of p) (trees_of p) (forks_of p) r.expr
     (builder (universe_of p) (env_of p) (trees_of p) (forks_of p) (build_by_rule (universe_of p) (env_of p) (trees_of p) (forks_of p) (length (trees_of p)) (i ∷ [])) r.expr) D
-
--- what was built as a trial
-abbrev pub built_trial : Building → Trial
-built_trial b = record { series = each_once b.series; steps = b.steps }
 
 -- the trial of what was built, or there is no world of so few selectors
 abbrev pub IsTrialOf : ℕ → Option Building → Option Trial → Type 0

@@ -3,8 +3,7 @@ use Rattle.std.specs.Prelude.{◌≡◌, ℕ, List, map}
 use Rattle.lf_ast.specs.Labels.{Bytes}
 use Rattle.lf_ast.specs.Rules.{RuleTree}
 use Rattle.lf_deps.specs.views.Search.{numbers_of}
-use Rattle.lf_semantics.specs.Environments.{recorded_names}
-use Rattle.lf_trials.specs.Reached.{records}
+use Rattle.lf_semantics.specs.Environments.{records, recorded_names}
 
 -- the recorded names, each once, and for each the numbers of its rules
 pub record Recorders : Type 0 where

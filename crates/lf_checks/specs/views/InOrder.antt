@@ -1,27 +1,18 @@
 -- Findings with what they are ordered by.
 use Rattle.std.specs.Prelude.{◌≡◌, ◌<◌, ℕ, List, [], Some, slice_get}
 use Rattle.std.specs.List.{Contains}
-use Rattle.std.specs.declared.cmp.Ordering.{Ordering}
 use Rattle.std.specs.declared.cmp.Ordering.TheVariants.{Less}
-use Rattle.std.specs.Ordering.{nat_cmp}
-use Rattle.std.specs.Cmp.Lexicographic.{slice_cmp}
 use Rattle.lf_ast.specs.declared.verdict.Finding.{Finding as Row}
 use Rattle.lf_checks.specs.Finding.{Finding, RuleDuplicate, finding_cmp, key_of}
-use Rattle.lf_checks.specs.declared.ordering.Keyed.{Keyed}
+use Rattle.lf_base.specs.declared.keyed.Keyed.{Keyed}
 use Rattle.lf_checks.specs.views.Shown.{shown}
 
 -- what a finding is ordered by, but for the place of the rule that it names
 abbrev pub row_key : Row → List ℕ
 row_key f = key_of (shown [] [] f)
 
-abbrev pub keyed : Row → Keyed
-keyed f = record { key = row_key f; finding = f }
-
-abbrev pub items_of : Keyed → List ℕ
-items_of k = k.key
-
-abbrev pub keyed_cmp : Keyed → Keyed → Ordering
-keyed_cmp k l = slice_cmp nat_cmp (items_of k) (items_of l)
+abbrev pub keyed : Row → Keyed Row
+keyed f = record { key = row_key f; item = f }
 
 -- of the findings there is one at most that says where the same rule stands
 abbrev pub OneDuplicate : List Finding → Type 0

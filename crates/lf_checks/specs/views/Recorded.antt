@@ -11,7 +11,8 @@ use Rattle.lf_deps.specs.views.Names.{IsNameGraphOf}
 use Rattle.lf_deps.specs.views.Sources.{IsSourcesOf}
 use Rattle.lf_semantics.specs.Environments.{names_recorded, recorded_names}
 use Rattle.lf_checks.specs.Finding.{Finding, RuleDependency, finding}
-use Rattle.lf_checks.specs.RuleDependency.{has_colon, says_cyclic, says_unrecorded}
+use Rattle.lf_base.specs.Names.{has_colon}
+use Rattle.lf_checks.specs.RuleDependency.{says_cyclic, says_unrecorded}
 use Rattle.lf_checks.specs.declared.rule_dependency.RecordedNames.{RecordedNames}
 
 -- they are those of the rules, with what the rules read

@@ -1,9 +1,15 @@
 -- The graph of recorded names. A recorded name is a node, by its place among the recorded names, and all recorded names together are the node behind these.
-use Rattle.std.specs.Prelude.{ℕ, List, [], ◌∷◌, ◌++◌, length, map, slice_index_or}
+use Rattle.std.specs.Prelude.{◌<◌, ℕ, List, [], ◌∷◌, ◌++◌, length, map, slice_index_or}
 use Rattle.std.specs.List.{flat_map, range_with_len}
+use Rattle.lf_ast.specs.Labels.{Bytes}
 use Rattle.lf_graph.specs.Components.{AreComponents, Components}
+use Rattle.lf_semantics.specs.Listing.{place}
 use Rattle.lf_deps.specs.views.Links.{source_of}
 use Rattle.lf_deps.specs.views.Sources.{Sources}
+
+-- the name has a place among these
+abbrev pub IsPlaced : List Bytes → Bytes → Type 0
+IsPlaced names name = place names name < length names
 
 -- the nodes of what the rule of a number selects: those of the names, and that of all names where a selector says none
 abbrev pub nodes_of : Sources → ℕ → List ℕ

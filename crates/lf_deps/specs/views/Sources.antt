@@ -1,9 +1,8 @@
 -- What each rule selects, and which rules record each name.
-use Rattle.std.specs.Prelude.{◌≡◌, ◌&&◌, ℕ, Bool, not, List, map, Option}
-use Rattle.std.specs.Str.{bytes_eq}
+use Rattle.std.specs.Prelude.{◌≡◌, ℕ, List, map, Option}
 use Rattle.lf_ast.specs.Labels.{Bytes}
 use Rattle.lf_ast.specs.Rules.{RuleTree}
-use Rattle.lf_semantics.specs.Environments.{recorded_names}
+use Rattle.lf_semantics.specs.Environments.{recorded_names, records}
 use Rattle.lf_deps.specs.Reading.{selectors}
 use Rattle.lf_deps.specs.views.Search.{numbers_of}
 
@@ -11,10 +10,6 @@ pub record Sources : Type 0 where
   pub selected : List (List (Option Bytes))
   pub names : List Bytes
   pub makers : List (List ℕ)
-
--- the rule records the name
-abbrev pub records : Bytes → RuleTree → Bool
-records name r = not r.alert && bytes_eq r.name name
 
 -- the selectors of each rule, the recorded names, each once, and the numbers of the rules that record each
 pub record IsSourcesOf (rules : List RuleTree) (s : Sources) : Type 0 where

@@ -10,8 +10,8 @@ abbrev pub most_tries : ℕ
 most_tries = 16000000
 
 -- the words that the cached rows of plain patterns may have together
-abbrev pub most_words : ℕ
-most_words = 4194304
+abbrev pub most_cached_words : ℕ
+most_cached_words = 4194304
 
 -- the tries that reading a pattern of a size counts, and trying it on so many classes, whose texts have so many bytes
 abbrev pub tries_of : ℕ → ℕ → ℕ → ℕ

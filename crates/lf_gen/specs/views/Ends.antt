@@ -1,6 +1,7 @@
 -- How the code finds the end of a text.
 use Rattle.std.specs.Prelude.{◌≡◌, ◌≢◌, ◌⊎◌, ℕ, [], ◌∷◌, ◌++◌, drop, take}
-use Rattle.lf_gen.specs.Lines.{Bytes, lines_of}
+use Rattle.lf_base.specs.Names.{Bytes}
+use Rattle.lf_gen.specs.Lines.{lines_of}
 
 -- the text is this one and a line feed; or it is this one, and ends with none
 abbrev pub IsWithoutFeed : Bytes → Bytes → Type 0

@@ -1,22 +1,13 @@
 -- Open constructs with what they are ordered by: how contracts see the code. It defines nothing.
 use Rattle.std.specs.Prelude.{◌≡◌, ◌<◌, ℕ, List, Some, slice_get}
-use Rattle.std.specs.Cmp.Lexicographic.{slice_cmp}
 use Rattle.std.specs.List.{Contains}
-use Rattle.std.specs.Ordering.{nat_cmp}
-use Rattle.std.specs.declared.cmp.Ordering.{Ordering}
 use Rattle.std.specs.declared.cmp.Ordering.TheVariants.{Less}
 use Rattle.lf_open.specs.OpenList.{key_of, open_cmp}
 use Rattle.lf_open.specs.declared.open_at.OpenAt.{OpenAt}
-use Rattle.lf_open.specs.declared.ordering.Keyed.{Keyed}
+use Rattle.lf_base.specs.declared.keyed.Keyed.{Keyed}
 
-abbrev pub keyed : OpenAt → Keyed
+abbrev pub keyed : OpenAt → Keyed OpenAt
 keyed o = record { key = key_of o; item = o }
-
-abbrev pub items_of : Keyed → List ℕ
-items_of k = k.key
-
-abbrev pub keyed_cmp : Keyed → Keyed → Ordering
-keyed_cmp k l = slice_cmp nat_cmp (items_of k) (items_of l)
 
 -- each is of the rule of this number
 abbrev pub AreOfRule : ℕ → List OpenAt → Type 0

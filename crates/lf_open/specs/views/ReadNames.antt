@@ -6,16 +6,13 @@ use Rattle.lf_ast.specs.Labels.{Bytes}
 use Rattle.lf_ast.specs.Rules.{RuleTree}
 use Rattle.lf_classes.specs.views.TextSets.{with_text}
 use Rattle.lf_deps.specs.Reading.{selectors}
+use Rattle.lf_deps.specs.views.Names.{IsPlaced}
 use Rattle.lf_deps.specs.views.Search.{ReadsBy}
 use Rattle.lf_graph.specs.Components.{AreComponents, Components}
 use Rattle.lf_graph.specs.Paths.{after}
 use Rattle.lf_semantics.specs.Environments.{names_recorded}
 use Rattle.lf_semantics.specs.Listing.{place}
 use Rattle.lf_open.specs.declared.read_table.ReadTable.{ReadTable}
-
--- the name has a place
-abbrev pub IsPlaced : List Bytes → Bytes → Type 0
-IsPlaced names name = place names name < length names
 
 -- the name that a selector says, and those of several
 abbrev pub said_name : Option Bytes → List Bytes

@@ -3,7 +3,8 @@ ghost use Rattle.std.specs.Prelude.{◌≡◌, ◌<◌, ℕ, List, ◌∷◌, []
 ghost use Rattle.std.specs.Fmt.{decimal};
 ghost use Rattle.lf_report.specs.Numbers.{NameRulesBelow, NamesRuleBelow, StandInFiles};
 ghost use Rattle.lf_report.specs.Shown.{shown};
-ghost use Rattle.lf_report.specs.Text.{label_line, label_lines, lines_text, verdict_text};
+ghost use Rattle.lf_base.specs.Lines.{lines_text};
+ghost use Rattle.lf_report.specs.Text.{label_line, label_lines, verdict_text};
 ghost use Rattle.lf_report.specs.views.LineIndex.{AreIndexed};
 
 use crate::Report;

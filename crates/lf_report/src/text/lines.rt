@@ -1,9 +1,9 @@
 //! The lines of a text, but for those of labels. Each function appends one.
-ghost use Rattle.std.specs.Prelude.{◌≡◌, [], ◌∷◌, ◌++◌, ℕ, codes, OnOk};
+ghost use Rattle.std.specs.Prelude.{◌≡◌, [], ◌∷◌, ◌++◌, codes, OnOk};
 ghost use Rattle.std.specs.Fmt.{decimal};
 ghost use Rattle.lf_base.specs.Kinds.{name_of, meaning_of};
 ghost use Rattle.lf_report.specs.Shown.{shown};
-ghost use Rattle.lf_report.specs.Text.{lines_text};
+ghost use Rattle.lf_base.specs.Lines.{lines_text};
 
 use crate::counting::Totals;
 use crate::shown::shown_name;

@@ -1,5 +1,5 @@
 -- What workers are given, and how they leave their seats.
-use Rattle.std.specs.Prelude.{◌≡◌, ℕ, ◌+◌, ◌<◌, ◌≤◌, true, false, List}
+use Rattle.std.specs.Prelude.{◌≡◌, true, false, List}
 use Rattle.lf_ast.specs.declared.rule.Rule.{Rule}
 use Rattle.lf_rounds.specs.Facts.{RoundFacts, RoundSeatFacts}
 use Rattle.lf_semantics.specs.Listing.{Listing}
@@ -11,10 +11,6 @@ IsOf round u rules = (u ≡ round.universe) × (rules ≡ round.rules)
 -- A seat of this round that may claim.
 abbrev pub IsFresh : RoundFacts → RoundSeatFacts → Type 0
 IsFresh round seat = (seat.board ≡ round.board) × (seat.is_open ≡ true) × (seat.is_whole ≡ true)
-
--- So many workers may be given seats by it, itself included.
-abbrev pub HasRoomFor : ℕ → RoundSeatFacts → Type 0
-HasRoomFor workers seat = (0 < workers) × (workers ≤ seat.room + 1)
 
 -- The seat is as before, but that a claim found nothing, and all that it claimed is done.
 abbrev pub IsShut : RoundSeatFacts → RoundSeatFacts → Type 0

@@ -1,5 +1,5 @@
 -- Reading a block scalar: its header, and its body line by line. A way of reading, which defines nothing: it is proved equal to what specs/Block defines.
-use Rattle.std.specs.Prelude.{ℕ, suc, ◌-◌, min, nat_lt, List, [], ◌∷◌, ◌++◌, Bool, true, false, Option, Some, None, is_none, Result, Ok, Err, ◌==◌, ◌&&◌, ◌||◌, if◌then◌else◌}
+use Rattle.std.specs.Prelude.{ℕ, suc, ◌-◌, min, nat_lt, List, [], ◌∷◌, ◌++◌, Bool, false, Option, Some, None, is_none, Result, Ok, Err, ◌==◌, ◌&&◌, ◌||◌, if◌then◌else◌}
 use Rattle.std.specs.List.{list_all}
 use Rattle.lf_base.specs.declared.kind.Kind.TheVariants.{BadHeader}
 use Rattle.lf_scalar.specs.declared.block.Chomp.{Chomp}
@@ -7,7 +7,7 @@ use Rattle.lf_scalar.specs.declared.block.Chomp.TheVariants.{Strip, Clip, Keep}
 use Rattle.lf_base.specs.declared.fault.Fault.{Fault}
 use Rattle.lf_base.specs.Faults.{span, fault}
 use Rattle.lf_scalar.specs.Cells.{Cell, cell, Value, made, end_of, character_fault, ◌>>=◌}
-use Rattle.lf_scalar.specs.Lines.{Line, lines}
+use Rattle.lf_scalar.specs.Lines.{Line, lines, is_empty_text}
 use Rattle.lf_scalar.specs.Folding.{fold, feeds, trimmed}
 use Rattle.lf_scalar.specs.Block.{content_indent, body_of, body_fault, chomped, begins_blank}
 use Rattle.lf_scalar.specs.reading.Quoted.{wrong_behind}
@@ -48,10 +48,6 @@ header_from chomp digit [] = Ok (chomp_or chomp, digit)
 header_from chomp digit (c ∷ cs) = header_step chomp digit c cs (chomp_of c.byte) (mark_digit c.byte) (λ chomp digit. header_from chomp digit cs)
 
 -- ---- the body
-
-abbrev pub is_empty_text : List Cell → Bool
-is_empty_text [] = true
-is_empty_text (c ∷ cs) = false
 
 abbrev pub is_empty : Line → Bool
 is_empty l = is_empty_text l.text

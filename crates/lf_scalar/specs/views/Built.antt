@@ -1,18 +1,13 @@
--- What the readers of the styles return. It defines nothing of scalars: a scalar that was read as a value, a fault as a refusal, and what a reader appends.
+-- What the readers of the styles return. It defines nothing of scalars: what was built as a value, a fault as a refusal, and what a reader appends.
 use Rattle.std.specs.Prelude.{◌≡◌, List, ◌++◌, Result, Ok, Err}
 use Rattle.lf_base.specs.declared.refusal.Refusal.{Refusal}
 use Rattle.lf_base.specs.declared.refusal.Refusal.TheVariants as refusal_of
 use Rattle.lf_scalar.specs.declared.raw_scalar.RawScalar.{RawScalar}
-use Rattle.lf_scalar.specs.declared.scalar.Scalar.{Scalar}
 use Rattle.lf_base.specs.declared.fault.Fault.{Fault}
 use Rattle.lf_scalar.specs.Cells.{Cell, Value, made, Fails}
 
 abbrev pub built : RawScalar → Value
 built d = made d.builder d.end d.span
-
--- a scalar without where it lies in memory
-abbrev pub shown : Scalar → Value
-shown s = record { text = s.text; from = s.from; span = s.span }
 
 -- the refusal that tells a fault
 abbrev pub refused : Fault → Refusal

@@ -10,10 +10,10 @@ use Rattle.lf_templates.specs.declared.token.Token.{Token}
 use Rattle.lf_templates.specs.declared.token.Token.TheVariants as tokens
 use Rattle.lf_templates.specs.declared.token.Word.{Word}
 use Rattle.lf_templates.specs.declared.token.Word.TheVariants as words
-use Rattle.lf_templates.specs.declared.token.Place.{Place}
-use Rattle.lf_templates.specs.declared.token.Place.TheVariants as places
+use Rattle.lf_templates.specs.declared.token.TokenContext.{TokenContext}
+use Rattle.lf_templates.specs.declared.token.TokenContext.TheVariants as places
 use Rattle.lf_templates.specs.declared.token.Lexeme.{Lexeme}
-use Rattle.lf_templates.specs.declared.token.Row.{Row}
+use Rattle.lf_templates.specs.declared.token.ReferenceSpan.{ReferenceSpan}
 use Rattle.lf_templates.specs.declared.token.Beginning.{Beginning}
 use Rattle.lf_templates.specs.declared.token.Beginning.TheVariants as begins
 use Rattle.lf_templates.specs.declared.bytes.Class.{Class}
@@ -23,8 +23,8 @@ use Rattle.lf_templates.specs.declared.reference.Reference.{Reference}
 use Rattle.lf_base.specs.declared.fault.Fault.{Fault}
 use Rattle.lf_templates.specs.Source.{in_source}
 use Rattle.lf_base.specs.Names.{begins_label, is_in_label}
-use Rattle.lf_base.specs.Rows.{starts}
-use Rattle.lf_templates.specs.Bytes.{beginning, is_in_number, is_no_back_quote}
+use Rattle.lf_base.specs.Rows.{is_no_back_quote, starts}
+use Rattle.lf_templates.specs.Bytes.{beginning, is_in_number}
 use Rattle.lf_templates.specs.Tokens.{word_of, variable_of, field_of, takes_comment, ends_comment, closes, is_trim, behind}
 use Rattle.lf_templates.specs.Actions.{tokens_of, first, is_field, is_sound, sets_labels}
 use Rattle.lf_templates.specs.Templates.{opens, Action, word_of_action, opens_body, is_stray, hides, references_in, references_of, first_flawed, fault_at}
@@ -77,14 +77,14 @@ number_front src = token tokens.Plain (prefix_len is_in_number src + 1)
 unfoldable pub colon_front : List ℕ → Lexeme
 colon_front src = if starts (λ b. b == 61) src then token tokens.Setting 2 else token tokens.Wrong 1
 
-unfoldable pub slash_front : Place → List ℕ → Option Lexeme
+unfoldable pub slash_front : TokenContext → List ℕ → Option Lexeme
 slash_front place src =
     if takes_comment place && starts (λ b. b == 42) src then option_map (λ n. token tokens.Comment (n + 4)) (comment_len (drop 1 src)) else Some (token tokens.Wrong 1)
 
-unfoldable pub minus_front : Place → List ℕ → Lexeme
+unfoldable pub minus_front : TokenContext → List ℕ → Lexeme
 minus_front place src = token (if is_trim place src then tokens.Trim else tokens.Plain) 1
 
-abbrev pub front_by : Place → ℕ → List ℕ → Beginning → Option Lexeme
+abbrev pub front_by : TokenContext → ℕ → List ℕ → Beginning → Option Lexeme
 front_by place b src (begins.Alone t) = Some (token t 1)
 front_by place b src begins.Quote = string_front b src
 front_by place b src begins.BackQuote = raw_front src
@@ -97,12 +97,12 @@ front_by place b src begins.Slash = slash_front place src
 front_by place b src begins.Minus = Some (minus_front place src)
 
 -- The token at the front, or none where a string or a comment doesn't close.
-abbrev pub front : Place → List ℕ → Option Lexeme
+abbrev pub front : TokenContext → List ℕ → Option Lexeme
 front place [] = None
 front place (b ∷ src) = front_by place b src (beginning b)
 
 -- The tokens up to }}, where it comes. `skip` bytes at the front are passed over.
-unfoldable pub lexed : Place → ℕ → List ℕ → Option (List Lexeme)
+unfoldable pub lexed : TokenContext → ℕ → List ℕ → Option (List Lexeme)
 lexed place skip [] = None
 lexed place (suc skip) (b ∷ src) = lexed place skip src
 lexed place zero (b ∷ src) =
@@ -245,7 +245,7 @@ Named text at [] = Unit {0}
 Named text at (l ∷ ls) = (0 < l.len) × (is_field l.token ≡ true → IsAscii (take (l.len - 1) (drop (at + 1) text))) × Named text (at + l.len) ls
 
 -- a reference that lies in the text, and whose label is ASCII
-pub record IsRowIn (text : List ℕ) (r : Row) : Type 0 where
+pub record IsRowIn (text : List ℕ) (r : ReferenceSpan) : Type 0 where
   pub order : r.start ≤ r.end
   pub name : r.name ≤ r.end
   pub within : r.end ≤ length text

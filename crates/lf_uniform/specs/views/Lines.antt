@@ -5,10 +5,11 @@ use Rattle.std.specs.Option.{option_map}
 use Rattle.lf_ast.specs.Labels.{Bytes}
 use Rattle.lf_ast.specs.Rules.{RuleTree}
 use Rattle.lf_deps.specs.Reading.{selectors}
-use Rattle.lf_semantics.specs.Environments.{recorded_names}
+use Rattle.lf_deps.specs.views.Names.{IsPlaced}
+use Rattle.lf_semantics.specs.Environments.{records, recorded_names}
 use Rattle.lf_semantics.specs.Listing.{Listing, place}
 use Rattle.lf_trials.specs.Follow.{Followed, follow, recorded_text}
-use Rattle.lf_trials.specs.Reached.{first_rule, is_recorded, records}
+use Rattle.lf_trials.specs.Reached.{first_rule, is_recorded}
 use Rattle.lf_uniform.specs.views.Following.{known_by}
 
 -- the first rule that records a name, with its number
@@ -30,13 +31,9 @@ pub record Line : Type 0 where
   pub numbers : List ℕ
   pub names : List Bytes
 
--- the name is in line
-abbrev pub IsIn : List Bytes → Bytes → Type 0
-IsIn names name = place names name < length names
-
 -- names that are in line stay there
 abbrev pub Stays : List Bytes → List Bytes → Type 0
-Stays before after = (name : Bytes) → IsIn before name → IsIn after name
+Stays before after = (name : Bytes) → IsPlaced before name → IsPlaced after name
 
 -- that a name is in line, as a test
 abbrev pub is_in : List Bytes → Bytes → Bool
@@ -53,7 +50,7 @@ is_ready recorded names selected = list_all (is_no_wait recorded names) selected
 module _ (rules : List RuleTree) where
   -- each recorded name that the selectors of a rule say is in line
   abbrev pub IsReady : List Bytes → RuleTree → Type 0
-  IsReady names r = (name : Bytes) → Contains (selectors r.expr) (Some name) → is_recorded rules name ≡ true → IsIn names name
+  IsReady names r = (name : Bytes) → Contains (selectors r.expr) (Some name) → is_recorded rules name ≡ true → IsPlaced names name
 
   -- the rule in line at a place is the first of its name, and each recorded name that its selectors say comes before it
   pub record IsEntry (line : Line) (j : ℕ) : Type 0 where
@@ -67,7 +64,7 @@ module _ (rules : List RuleTree) where
 
   -- the rule of a number is in line if it is the first of its name
   abbrev pub IsSettled : List Bytes → ℕ → Type 0
-  IsSettled names k = (r : RuleTree) → slice_get rules k ≡ Some r → first_of rules r.name ≡ Some (k, r) → IsIn names r.name
+  IsSettled names k = (r : RuleTree) → slice_get rules k ≡ Some r → first_of rules r.name ≡ Some (k, r) → IsPlaced names r.name
 
   -- the rule of a number isn't ready
   abbrev pub IsWaiting : List Bytes → ℕ → Type 0

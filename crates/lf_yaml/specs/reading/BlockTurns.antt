@@ -12,7 +12,7 @@ use Rattle.lf_yaml.specs.reading.Trees.{Head, begins_block, entry_of, key_of, ha
 use Rattle.lf_yaml.specs.views.Shown.{shown}
 use Rattle.lf_yaml.specs.views.Headed.{headed, IsKeyIn}
 use Rattle.lf_yaml.specs.views.Cursor.{rows_after, IsRowOf}
-use Rattle.lf_yaml.specs.declared.row.Row.{Row as CodeRow}
+use Rattle.lf_yaml.specs.declared.row.ContentLine.{ContentLine}
 use Rattle.lf_yaml.specs.declared.entries.EntryRow.{EntryRow}
 
 -- a row that is deeper, at a smaller indent, or at m
@@ -73,7 +73,7 @@ abbrev pub run_entries : List ℕ → ℕ → ℕ → Row → List Row → Read 
 run_entries bytes d m r rs = entries (values bytes d m) (suc (length (r ∷ rs))) m [] (r ∷ rs)
 
 -- what stands behind a key's `:` is the rest of its row
-pub record IsBehind (r : CodeRow) (colon : ℕ) (behind : List ℕ) : Type 0 where
+pub record IsBehind (r : ContentLine) (colon : ℕ) (behind : List ℕ) : Type 0 where
   pub order : r.at ≤ colon
   pub within : colon - r.at < length r.text.now
   pub sign : get_or r.text.now (colon - r.at) 0 ≡ 58

@@ -11,8 +11,8 @@ use Rattle.lf_yaml.specs.views.Places.{IsPartIn, IsPlaceIn}
 use Rattle.lf_yaml.specs.reading.Trees.{FlowRead, Later, Signed, has, flow_key, flow_value}
 use Rattle.lf_yaml.specs.views.KeySets.{HasKeys}
 use Rattle.lf_yaml.specs.declared.key_set.KeySet.{KeySet}
-use Rattle.lf_yaml.specs.declared.row.Row.{Row as CodeRow}
-use Rattle.lf_yaml.specs.declared.place.Place.{Place}
+use Rattle.lf_yaml.specs.declared.row.ContentLine.{ContentLine}
+use Rattle.lf_yaml.specs.declared.place.FlowCursor.{FlowCursor}
 use Rattle.lf_yaml.specs.declared.node.Node.{Node}
 use Rattle.lf_yaml.specs.declared.node.Entry.{Entry}
 use Rattle.lf_yaml.specs.declared.turn.Turn.{Turn}
@@ -40,7 +40,7 @@ TurnsItems later (Ok turn) read = read ≡ turned_items later turn
 TurnsItems later (Err e) read = Fails e read
 
 -- items with the bracket that closes them
-abbrev pub closed_items : List Node × CodeRow → Items × Cell
+abbrev pub closed_items : List Node × ContentLine → Items × Cell
 closed_items x = (items_of (map tree x.0), (shown x.1).first)
 
 -- ---- mappings
@@ -65,7 +65,7 @@ new_key bytes keys c cs = flow_key bytes c cs >>= λ k. if has keys k.0.text the
 abbrev pub entry_at : List ℕ → List (List ℕ) → Cell → List Cell → Result (Value × Tree × ℕ) Fault
 entry_at bytes keys c cs = new_key bytes keys c cs >>= λ k. flow_value bytes k.1 >>= λ x. Ok (k.0, x.0, x.1)
 
-abbrev pub left_behind : Entry × Place → Value × Tree × ℕ
+abbrev pub left_behind : Entry × FlowCursor → Value × Tree × ℕ
 left_behind x = ((pair x.0).0, (pair x.0).1, x.1.at)
 
 -- behind a comma the set has the text of the key too
@@ -74,5 +74,5 @@ HasTurned set keys (turn.Ends closing next) = Unit {0}
 HasTurned set keys (turn.Last found closing next) = Unit {0}
 HasTurned set keys (turn.More found place) = HasKeys set (keys ++ (pair found).0.text ∷ [])
 
-abbrev pub closed_entries : List Entry × CodeRow → Entries × Cell
+abbrev pub closed_entries : List Entry × ContentLine → Entries × Cell
 closed_entries x = (entries_of (map pair x.0), (shown x.1).first)

@@ -5,7 +5,7 @@ use Rattle.lf_scalar.specs.Lines.{lines, first_text}
 use Rattle.lf_scalar.specs.Scalars.{source_at}
 use Rattle.lf_yaml.specs.Rows.{Row, text_of, rows_of}
 use Rattle.lf_yaml.specs.views.Shown.{shown}
-use Rattle.lf_yaml.specs.declared.row.Row.{Row as CodeRow}
+use Rattle.lf_yaml.specs.declared.row.ContentLine.{ContentLine}
 
 -- the rows of the lines from an offset on
 unfoldable pub rows_after : List ℕ → ℕ → List Row
@@ -16,7 +16,7 @@ abbrev pub IsPlaced : List ℕ → Row → Type 0
 IsPlaced bytes r = first_text (lines (length bytes) (source_at bytes r.first.at)) ≡ text_of r
 
 -- a row of a file
-pub record IsRowOf (bytes : List ℕ) (r : CodeRow) : Type 0 where
+pub record IsRowOf (bytes : List ℕ) (r : ContentLine) : Type 0 where
   pub placed : IsPlaced bytes (shown r)
   pub boundary : IsCharBoundary bytes r.at
   pub text : r.text.now ≡ take (length r.text.now) (drop r.at bytes)

@@ -2,14 +2,14 @@
 use Rattle.std.specs.Prelude.{◌≡◌, ℕ, ◌+◌, List, length, take, drop}
 use Rattle.std.specs.Str.{IsCharBoundary, IsUtf8}
 use Rattle.lf_scalar.specs.Cells.{cell, cells}
-use Rattle.lf_scalar.specs.views.Built.{shown as scalar_shown}
+use Rattle.lf_scalar.specs.Scalars.{value as scalar_value}
 use Rattle.lf_scalar.specs.declared.scalar.Scalar.{Scalar}
 use Rattle.lf_yaml.specs.Flow.{line_on, lines_below}
 use Rattle.lf_yaml.specs.Rows.{rows_of}
 use Rattle.lf_yaml.specs.reading.Trees.{Signed}
 use Rattle.lf_yaml.specs.views.Cursor.{rows_after}
-use Rattle.lf_yaml.specs.declared.row.Row.{Row as CodeRow}
-use Rattle.lf_yaml.specs.declared.place.Place.{Place}
+use Rattle.lf_yaml.specs.declared.row.ContentLine.{ContentLine}
+use Rattle.lf_yaml.specs.declared.place.FlowCursor.{FlowCursor}
 
 -- the rest of a line of a file from an offset on, with the lines behind it
 pub record IsIn (bytes : List ℕ) (at : ℕ) (text : List ℕ) (next : ℕ) : Type 0 where
@@ -19,12 +19,12 @@ pub record IsIn (bytes : List ℕ) (at : ℕ) (text : List ℕ) (next : ℕ) : T
   pub rest : cells at text ≡ (line_on bytes at).text
   pub below : rows_after bytes next ≡ rows_of (lines_below bytes at)
 
-abbrev pub IsPlaceIn : List ℕ → Place → Type 0
+abbrev pub IsPlaceIn : List ℕ → FlowCursor → Type 0
 IsPlaceIn bytes p = IsIn bytes p.at p.text.now p.next
 
-abbrev pub IsPartIn : List ℕ → CodeRow → ℕ → Type 0
+abbrev pub IsPartIn : List ℕ → ContentLine → ℕ → Type 0
 IsPartIn bytes part next = IsIn bytes part.at part.text.now next
 
 -- a key that a part begins, and its `:`, which stands at a place of the part
-abbrev pub signed : CodeRow → Scalar × ℕ → Signed
-signed part x = (scalar_shown x.0, cell 58 (part.at + x.1))
+abbrev pub signed : ContentLine → Scalar × ℕ → Signed
+signed part x = (scalar_value x.0, cell 58 (part.at + x.1))

@@ -2,7 +2,7 @@ use Rattle.std.proofs.Common.{ℕ, List, ◌∙◌, ap}
 use Rattle.std.specs.Prelude.{slice_index}
 use Rattle.std.proofs.lemmas.List.Sorted.{IsNonDecreasingBy-from_default}
 use Rattle.std.proofs.lemmas.Result.{err_from_is_err_and}
-use Rattle.lf_yaml.specs.Tree.{value}
+use Rattle.lf_scalar.specs.Scalars.{value}
 use Rattle.lf_accept.proofs.Steps.{at_tokens, is_expr, refuses_expr}
 use Rattle.lf_accept.proofs.expression.read_expr.Goals as goal
 

@@ -4,8 +4,9 @@ use Rattle.std.specs.List.{All, Contains}
 use Rattle.std.specs.List.Sorted.{IsPermutation}
 use Rattle.std.specs.Ordering.{eq_by_cmp}
 use Rattle.lf_ast.specs.declared.verdict.Finding.{Finding as Row}
-use Rattle.lf_checks.specs.declared.ordering.Keyed.{Keyed}
-use Rattle.lf_checks.specs.views.InOrder.{IsInOrder, keyed, keyed_cmp}
+use Rattle.lf_base.specs.declared.keyed.Keyed.{Keyed}
+use Rattle.lf_base.specs.views.Keyed.{keyed_cmp}
+use Rattle.lf_checks.specs.views.InOrder.{IsInOrder, keyed}
 use Rattle.lf_checks.specs.views.Shown.{all_shown}
 use Rattle.lf_checks.proofs.Ordered.{given, in_order}
 use Rattle.lf_checks.proofs.ordering.in_order.Goals as goal
@@ -13,9 +14,9 @@ use Rattle.lf_checks.proofs.ordering.in_order.Goals as goal
 pub returns-clause-order : goal.returns-clause-order
 returns-clause-order c files rules one =
     let found : List Row = c.args.found.items in
-    let sorted : List Keyed = c.sort_unstable.new.self.items in
-    let left : List Keyed = c.dedup.new.self.items in
-    let P : List Keyed → Type 0 = λ ks. IsPermutation ks sorted in
+    let sorted : List (Keyed Row) = c.sort_unstable.new.self.items in
+    let left : List (Keyed Row) = c.dedup.new.self.items in
+    let P : List (Keyed Row) → Type 0 = λ ks. IsPermutation ks sorted in
     let moved : IsPermutation (map keyed found) sorted = subst P c.in_ok-keyed.ensures c.sort_unstable.ensures.permutation in
     let is = c.from_vec.ensures ∙ c.in_ok-sorted.ensures in
     subst (λ (l : List Row). IsInOrder (all_shown files rules found) (all_shown files rules l)) (sym is)
@@ -24,8 +25,8 @@ returns-clause-order c files rules one =
 pub returns-clause-given : goal.returns-clause-given
 returns-clause-given c =
     let found : List Row = c.args.found.items in
-    let sorted : List Keyed = c.sort_unstable.new.self.items in
-    let left : List Keyed = c.dedup.new.self.items in
-    let P : List Keyed → Type 0 = λ ks. IsPermutation ks sorted in
+    let sorted : List (Keyed Row) = c.sort_unstable.new.self.items in
+    let left : List (Keyed Row) = c.dedup.new.self.items in
+    let P : List (Keyed Row) → Type 0 = λ ks. IsPermutation ks sorted in
     let moved : IsPermutation (map keyed found) sorted = subst P c.in_ok-keyed.ensures c.sort_unstable.ensures.permutation in
     subst (All (Contains found)) (sym (c.from_vec.ensures ∙ c.in_ok-sorted.ensures)) (given found sorted left moved (dedup_is (eq_by_cmp keyed_cmp) sorted left c.dedup.ensures.filtered))

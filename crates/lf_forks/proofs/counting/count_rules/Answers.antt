@@ -5,7 +5,7 @@ use Rattle.lf_ast.specs.Labels.{Bytes}
 use Rattle.lf_ast.specs.Rules.{RuleTree, rule_tree, rule_trees}
 use Rattle.lf_deps.proofs.RuleTrees.{tree_at}
 use Rattle.lf_semantics.specs.Listing.{place}
-use Rattle.lf_trials.specs.Reached.{records}
+use Rattle.lf_semantics.specs.Environments.{records}
 use Rattle.lf_forks.proofs.Counts.{count_next}
 use Rattle.lf_forks.proofs.counting.count_rules.Goals as goal
 

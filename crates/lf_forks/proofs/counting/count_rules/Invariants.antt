@@ -1,7 +1,7 @@
 use Rattle.std.proofs.Common.{◌≡◌, ◌<◌, ℕ, [], get_or, length, take}
 use Rattle.std.specs.List.{filter}
 use Rattle.lf_ast.specs.Rules.{rule_trees}
-use Rattle.lf_trials.specs.Reached.{records}
+use Rattle.lf_semantics.specs.Environments.{records}
 use Rattle.lf_forks.proofs.counting.count_rules.Given as goal
 
 abbrev pub invariant-loop-k : goal.invariant-loop-k

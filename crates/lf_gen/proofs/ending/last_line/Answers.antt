@@ -1,7 +1,7 @@
 use Rattle.std.proofs.Common.{subst, arith}
 use Rattle.std.proofs.lemmas.Str.{IsCharBoundary-start}
 use Rattle.std.proofs.lemmas.Str.Pattern.{rfind_char}
-use Rattle.lf_gen.specs.Lines.{Bytes}
+use Rattle.lf_base.specs.Names.{Bytes}
 use Rattle.lf_gen.proofs.LineLaws.{IsLastFeed, begins_at_start, begins_behind_last_feed}
 use Rattle.lf_gen.proofs.ending.last_line.Goals as goal
 

@@ -1,5 +1,6 @@
 use Rattle.std.proofs.Common.{◌≡◌, ◌≤◌, ap, ◌∙◌, subst, length, take, arith}
-use Rattle.lf_gen.specs.Lines.{Bytes, last_lines}
+use Rattle.lf_base.specs.Names.{Bytes}
+use Rattle.lf_gen.specs.Lines.{last_lines}
 use Rattle.lf_gen.specs.views.Ends.{BeginsLastLine}
 use Rattle.lf_gen.proofs.LineLaws.{last_of_lines, last_two}
 use Rattle.lf_gen.proofs.ending.last_two_lines.Goals as goal

@@ -1,6 +1,6 @@
 use Rattle.std.proofs.Common.{◌++◌, ◌%◌, ap, ◌∙◌}
 use Rattle.lf_gen.specs.Generated.{head_lines, kind_lines}
-use Rattle.lf_gen.specs.Lines.{lines_text}
+use Rattle.lf_base.specs.Lines.{lines_text}
 use Rattle.lf_gen.proofs.RuleLaws.{generated_more}
 use Rattle.lf_gen.proofs.generating.gen_text.Goals as goal
 

@@ -3,7 +3,6 @@ use Rattle.std.specs.Char.{encode_utf8}
 use Rattle.lf_report.specs.Shown.{shown}
 use Rattle.std.proofs.lemmas.Iterator.{YieldsList-from_chars}
 use Rattle.std.proofs.lemmas.Iterator.Consumers.{YieldsList-end}
-use Rattle.std.proofs.lemmas.Result.{IfOk-weaker}
 use Rattle.lf_report.proofs.ShownNames.{shown_more, shown_all}
 use Rattle.lf_report.proofs.shown.shown_name.Goals as goal
 
@@ -13,4 +12,4 @@ loop-c-preserved c = c.in_ok-push_shown.ensures ∙ ap (λ l. l ++ shown (encode
 pub returns : goal.returns
 returns c =
     let all = YieldsList-end (YieldsList-from_chars c.args.name.now c.utf8.name cc) c.loop-c.yielded _ c.loop-c.yielded_by _ _ c.in-None.is c.next.ensures.steps in
-    IfOk-weaker c.of.result _ _ (λ text e. e ∙ c.as_str.ensures.value ∙ c.loop-c.invariant ∙ shown_all c.args.name.now c.loop-c.yielded c.utf8.name all.0) c.of.ensures
+    c.from_string.ensures ∙ c.loop-c.invariant ∙ shown_all c.args.name.now c.loop-c.yielded c.utf8.name all.0

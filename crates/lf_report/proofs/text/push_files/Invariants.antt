@@ -1,5 +1,5 @@
 use Rattle.std.proofs.Common.{◌≡◌, ◌++◌, take}
-use Rattle.lf_report.specs.Text.{lines_text}
+use Rattle.lf_base.specs.Lines.{lines_text}
 use Rattle.lf_report.proofs.Lines.{some_files_lines}
 use Rattle.lf_report.proofs.text.push_files.Given as goal
 

@@ -1,6 +1,7 @@
 use Rattle.std.proofs.Common.{◌≡◌, ◌++◌, Some, map, take}
 use Rattle.std.specs.Prelude.{slice_get}
-use Rattle.lf_report.specs.Text.{finding_line, lines_text}
+use Rattle.lf_base.specs.Lines.{lines_text}
+use Rattle.lf_report.specs.Text.{finding_line}
 use Rattle.lf_report.specs.declared.report.FileReport.{FileReport}
 use Rattle.lf_report.proofs.text.push_findings.Given as goal
 

@@ -1,6 +1,7 @@
 use Rattle.std.proofs.Common.{◌++◌, map, ap, ◌∙◌}
 use Rattle.std.proofs.lemmas.Result.{on_ok_weaker}
-use Rattle.lf_report.specs.Text.{finding_line, lines_text, verdict_lines}
+use Rattle.lf_base.specs.Lines.{lines_text}
+use Rattle.lf_report.specs.Text.{finding_line, verdict_lines}
 use Rattle.lf_report.proofs.Appends.{appended_lines}
 use Rattle.lf_report.proofs.text.push_rule.Goals as goal
 

@@ -1,7 +1,8 @@
 use Rattle.std.proofs.Common.{◌++◌, ap, ◌∙◌, arith}
 use Rattle.std.specs.List.{flat_map}
 use Rattle.lf_report.specs.Numbers.{rules_of}
-use Rattle.lf_report.specs.Text.{lines_text, rule_lines}
+use Rattle.lf_base.specs.Lines.{lines_text}
+use Rattle.lf_report.specs.Text.{rule_lines}
 use Rattle.lf_report.proofs.Groups.{all_taken, number_within, numbers_here, rule_at}
 use Rattle.lf_report.proofs.Lines.{rules_more}
 use Rattle.lf_report.proofs.text.push_rules.Goals as goal

@@ -1,6 +1,7 @@
 use Rattle.std.proofs.Common.{not, ap, ◌∙◌}
 use Rattle.lf_base.specs.views.NameSets.{has}
-use Rattle.lf_yaml.specs.Tree.{tree, value}
+use Rattle.lf_scalar.specs.Scalars.{value}
+use Rattle.lf_yaml.specs.Tree.{tree}
 use Rattle.lf_rules.specs.reading.Files.{name_of}
 use Rattle.lf_rules.proofs.NameSets.{again_noted, again_new, again_none}
 use Rattle.lf_rules.proofs.judging_groups.judge_name.Goals as goal

@@ -1,6 +1,6 @@
 use Rattle.std.proofs.Common.{◌≡◌, ◌+◌, ◌-◌, ◌≤◌, ◌++◌, length, drop}
 use Rattle.std.specs.Prelude.{option_map}
-use Rattle.lf_templates.specs.declared.token.Place.TheVariants.{Start}
+use Rattle.lf_templates.specs.declared.token.TokenContext.TheVariants.{Start}
 use Rattle.lf_templates.specs.reading.Templates.{lexed, total, Named}
 use Rattle.lf_templates.proofs.action.read_action.Given as goal
 

@@ -1,5 +1,5 @@
 use Rattle.std.proofs.Common.{◌≡◌, arith, true, false, drop, Some, None, ◌+◌, ◌≤◌, length}
-use Rattle.lf_templates.specs.declared.token.Place.TheVariants as places
+use Rattle.lf_templates.specs.declared.token.TokenContext.TheVariants as places
 use Rattle.lf_templates.specs.Templates.{opens}
 use Rattle.lf_templates.specs.reading.Templates.{lexed, total, action_at}
 use Rattle.lf_templates.proofs.Advancing.{byte_advances, open_stops, action_advances, action_stops, carried, after_is, steps_as}

@@ -5,7 +5,7 @@ use Rattle.lf_base.specs.Answers.{AnswersAs}
 use Rattle.lf_scalar.specs.Cells.{Cell, cells}
 use Rattle.lf_scalar.specs.Lines.{is_blank}
 use Rattle.lf_scalar.specs.Folding.{trimmed}
-use Rattle.lf_scalar.specs.views.Built.{shown as scalar_shown}
+use Rattle.lf_scalar.specs.Scalars.{value as scalar_value}
 use Rattle.lf_yaml.specs.reading.Trees.{key_of, bare_key}
 use Rattle.lf_yaml.specs.views.Shown.{shown}
 use Rattle.lf_yaml.proofs.Ascents.{good}
@@ -28,7 +28,7 @@ returns c =
     let le : c.trimmed_len-len.result ≤ length c.args.part.text.now = omega (arith, c.trimmed_len-len.ensures.within, ap length c.before-2.ensures, length-take c.args.place c.args.part.text.now, c.requires.within) in
     let same : trimmed is_blank (cells c.args.part.at (take c.args.place c.args.part.text.now)) ≡ cells c.args.part.at (take c.trimmed_len-len.result c.args.part.text.now) =
     trimmed-key c.args.part.at c.args.place c.trimmed_len-len.result c.args.part.text.now c.before-2.result.now c.before-2.ensures c.trimmed_len-len.ensures.within (c.trimmed_len-len.ensures.text c.args.part.at) in
-    subst (AnswersAs scalar_shown c.slice_scalar.result)
+    subst (AnswersAs scalar_value c.slice_scalar.result)
     (ascents.bare-key (shown c.args.part).first (shown c.args.part).rest c.args.part.at c.trimmed_len-len.result c.before-3.result.now c.args.part.text.now refl le c.before-3.ensures
     ∙ ap (λ (cs : List Cell). good (bare_key (shown c.args.part).first cs)) (sym same))
     c.slice_scalar.ensures

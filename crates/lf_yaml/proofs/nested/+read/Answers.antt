@@ -3,7 +3,7 @@ use Rattle.std.proofs.lemmas.Result.{err_from_is_err_and}
 use Rattle.std.proofs.lemmas.List.{map_push}
 use Rattle.std.proofs.lemmas.Str.{IsUtf8-had}
 use Rattle.lf_scalar.specs.Cells.{Fails}
-use Rattle.lf_scalar.specs.views.Built.{shown as scalar_shown}
+use Rattle.lf_scalar.specs.Scalars.{value as scalar_value}
 use Rattle.lf_yaml.specs.Rows.{indent}
 use Rattle.lf_yaml.specs.Tree.{Tree, tree, pair}
 use Rattle.lf_yaml.specs.reading.Trees.{as_sequence, as_mapping}
@@ -137,13 +137,13 @@ pub one_entry-returns-in_err-value-clause-gives : goal.one_entry-returns-in_err-
 one_entry-returns-in_err-value-clause-gives t c = λ texts known.
     let p = err_from_is_err_and c.from_residual-in_err-value.result c.from_residual-in_err-value.ensures.1 in
     let e = c.args.entry in
-    rw (p.1, p.2) (value-fails (values c.args.source.bytes.now c.args.depth c.args.column) texts (shown e.row) (headed e.row.at e.row.text.now e.head) (rows_after c.args.source.bytes.now e.behind) c.in_err-value.field-0.0 (scalar_shown c.in_ok-key.key)
+    rw (p.1, p.2) (value-fails (values c.args.source.bytes.now c.args.depth c.args.column) texts (shown e.row) (headed e.row.at e.row.text.now e.head) (rows_after c.args.source.bytes.now e.behind) c.in_err-value.field-0.0 (scalar_value c.in_ok-key.key)
     (c.in_ok-key.ensures texts known) c.in_err-value.ensures.gives)
 
 pub one_entry-returns-clause-gives : goal.one_entry-returns-clause-gives
 one_entry-returns-clause-gives t c = λ texts known.
     let e = c.args.entry in
-    entry-read (values c.args.source.bytes.now c.args.depth c.args.column) texts (shown e.row) (headed e.row.at e.row.text.now e.head) (rows_after c.args.source.bytes.now e.behind) (scalar_shown c.in_ok-key.key) (tree c.in_ok-value.value) (rows_after c.args.source.bytes.now c.in_ok-value.left)
+    entry-read (values c.args.source.bytes.now c.args.depth c.args.column) texts (shown e.row) (headed e.row.at e.row.text.now e.head) (rows_after c.args.source.bytes.now e.behind) (scalar_value c.in_ok-key.key) (tree c.in_ok-value.value) (rows_after c.args.source.bytes.now c.in_ok-value.left)
     (c.in_ok-key.ensures texts known) c.in_ok-value.ensures.gives
     ∙ ap (λ (x : Pair). Ok (x, rows_after c.args.source.bytes.now c.in_ok-value.left)) (sym c.entry_node.ensures)
 

@@ -6,9 +6,8 @@ use Rattle.std.proofs.lemmas.Str.{IsUtf8-had}
 use Rattle.lf_scalar.specs.declared.scalar.Style.{Style}
 use Rattle.lf_base.specs.Answers.{AnswersAs}
 use Rattle.lf_scalar.specs.Lines.{lines, first_text}
-use Rattle.lf_scalar.specs.Scalars.{source_at, begins, least_above}
+use Rattle.lf_scalar.specs.Scalars.{source_at, begins, least_above, value as scalar_value}
 use Rattle.lf_scalar.specs.reading.Styles.{reading}
-use Rattle.lf_scalar.specs.views.Built.{shown as scalar_shown}
 use Rattle.lf_yaml.specs.Rows.{text_of, is_left_out}
 use Rattle.lf_yaml.specs.Heads.{style_of}
 use Rattle.lf_yaml.specs.views.Shown.{shown}
@@ -32,7 +31,7 @@ returns c =
     ∙ ap (begins (style_of (shown c.args.row).first)) c.requires.row.placed ∙ (and_parts (begins (style_of (shown c.args.row).first) (text_of (shown c.args.row))) (not (is_left_out (shown c.args.row))) c.requires.begins).0 in
     let i : ℤ = to_z w32 (of_z w32 c.args.parent) in
     let same : i ≡ c.args.parent = to_z-of_z c.ranges.parent in
-    subst (AnswersAs scalar_shown c.read_scalar.result)
+    subst (AnswersAs scalar_value c.read_scalar.result)
     (ap (λ (s : Style). reading s (least_above i) (length c.args.source.bytes.now) (source_at c.args.source.bytes.now c.args.row.at)) (c.style_by.ensures c.args.row.at)
     ∙ ap (λ (n : ℤ). reading (style_of (shown c.args.row).first) (least_above n) (length c.args.source.bytes.now) (source_at c.args.source.bytes.now c.args.row.at)) same)
-    (gives-reading scalar_shown c.style_by.result (least_above i) (length c.args.source.bytes.now) (source_at c.args.source.bytes.now c.args.row.at) c.read_scalar.result b c.read_scalar.ensures.only c.read_scalar.ensures.breach)
+    (gives-reading scalar_value c.style_by.result (least_above i) (length c.args.source.bytes.now) (source_at c.args.source.bytes.now c.args.row.at) c.read_scalar.result b c.read_scalar.ensures.only c.read_scalar.ensures.breach)

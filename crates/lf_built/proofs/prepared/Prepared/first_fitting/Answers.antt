@@ -11,7 +11,8 @@ use Rattle.lf_built.specs.views.Indexed.{env_of, forks_of, trees_of, universe_of
 use Rattle.std.specs.List.{Contains}
 use Rattle.lf_deps.specs.views.Search.{numbers_of}
 use Rattle.lf_semantics.specs.ClassRows.{Sets}
-use Rattle.lf_trials.specs.Reached.{is_marked, records}
+use Rattle.lf_semantics.specs.Environments.{records}
+use Rattle.lf_trials.specs.Reached.{is_marked}
 use Rattle.lf_built.proofs.FirstRules.{get_or_in}
 use Rattle.lf_built.specs.views.Fitting.{IsFirstRule}
 use Rattle.lf_built.proofs.Fits.{fits_by, none_fit, number_within, recorded_at, some_fits}

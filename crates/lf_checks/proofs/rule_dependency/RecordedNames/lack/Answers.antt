@@ -1,5 +1,5 @@
 use Rattle.std.proofs.Common.{sym, ◌∙◌, ap}
-use Rattle.lf_checks.specs.RuleDependency.{has_colon}
+use Rattle.lf_base.specs.Names.{has_colon}
 use Rattle.lf_checks.proofs.RecordedLaws.{lacks_by}
 use Rattle.lf_checks.proofs.rule_dependency.RecordedNames.lack.Goals as goal
 

@@ -6,7 +6,8 @@ use Rattle.lf_ast.specs.Rules.{RuleTree}
 use Rattle.lf_graph.specs.Components.{AreComponents, Components}
 use Rattle.lf_graph.specs.Paths.{IsReached}
 use Rattle.lf_semantics.specs.Listing.{place}
-use Rattle.lf_open.specs.views.ReadNames.{AreNumbersBy, IsPlaced, IsReadGraph, ReadGraph}
+use Rattle.lf_deps.specs.views.Names.{IsPlaced}
+use Rattle.lf_open.specs.views.ReadNames.{AreNumbersBy, IsReadGraph, ReadGraph}
 use Rattle.lf_open.proofs.ReadPaths.{node_numbered, numbers_are}
 use Rattle.lf_open.proofs.read_graph.ReadGraph.numbers_by.Goals as goal
 

@@ -1,6 +1,7 @@
 use Rattle.std.proofs.Common.{◌≡◌, ◌++◌, ℕ, List, map, take}
 use Rattle.lf_report.specs.Shown.{shown}
-use Rattle.lf_report.specs.Text.{label_lines, lines_text}
+use Rattle.lf_base.specs.Lines.{lines_text}
+use Rattle.lf_report.specs.Text.{label_lines}
 use Rattle.lf_report.proofs.text.labels.push_labels.Given as goal
 
 abbrev pub invariant-loop-k : goal.invariant-loop-k

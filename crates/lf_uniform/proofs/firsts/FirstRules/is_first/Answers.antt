@@ -3,7 +3,8 @@ use Rattle.std.proofs.lemmas.Bool.Decides.{Decides-eqb, nat_tests}
 use Rattle.std.proofs.lemmas.List.{get_or_read}
 use Rattle.lf_ast.specs.Labels.{Bytes}
 use Rattle.lf_semantics.specs.Listing.{place}
-use Rattle.lf_uniform.specs.views.Lines.{AreFirstsOf, Firsts, IsIn}
+use Rattle.lf_deps.specs.views.Names.{IsPlaced}
+use Rattle.lf_uniform.specs.views.Lines.{AreFirstsOf, Firsts}
 use Rattle.lf_uniform.proofs.FirstNumbers.{first_from, first_to}
 use Rattle.lf_uniform.proofs.firsts.FirstRules.is_first.Goals as goal
 
@@ -14,7 +15,7 @@ returns-then-place-len c = λ rules are r at named.
     let firsts : Firsts = record { names = names; numbers = numbers } in
     let here : AreFirstsOf rules firsts = subst (AreFirstsOf rules) (sym c.self.view_is) are in
     let p : c.place-place.result ≡ place names r.name = c.place-place.ensures.place ∙ ap (place names) (sym named) in
-    let inside : IsIn names r.name = omega (arith, p, c.if-place-len.true, c.len.ensures.count) in
+    let inside : IsPlaced names r.name = omega (arith, p, c.if-place-len.true, c.len.ensures.count) in
     let read : c.index.result.now ≡ get_or numbers (place names r.name) 0 =
     get_or_read numbers c.place-place.result c.index.result.now (omega (arith, p, inside, here.count)) c.index.ensures 0 ∙ ap (λ j. get_or numbers j 0) p in (
       λ t. first_from rules firsts here c.args.number r at inside (sym read ∙ (Decides-eqb c.index.result.now c.args.number).0 t),
