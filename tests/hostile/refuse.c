@@ -1,15 +1,16 @@
 /* Stands before the C library for one run of the program, by LD_PRELOAD, and refuses it what a system may refuse.
 
-   REFUSE says what:
+   REFUSE says what, one or several with commas between them:
      memory:N       the N-th call for memory, from 1
      memory-from:N  that one and all behind it
-     read:N         the N-th read fails with EIO
+     call:N         the N-th call on files, an open or a read, fails with EIO
      write:N        the N-th write on standard output fails with ENOSPC
      short          each read and each write moves one byte at most
-   COUNT names a file for the numbers of calls, three words of eight bytes: memory, reads, writes on standard output. The program may end without a word to the C library, so they are
-   counted in the file's memory. */
+   COUNT names a file for the numbers of calls, four words of eight bytes: calls for memory, opens, opens and reads together, writes on standard output. The program may end without a word to
+   the C library, so they are counted in the file's memory. */
 #include <errno.h>
 #include <fcntl.h>
+#include <stdarg.h>
 #include <stdatomic.h>
 #include <stdlib.h>
 #include <string.h>
@@ -22,12 +23,11 @@ extern void *__libc_calloc(size_t, size_t);
 extern void *__libc_realloc(void *, size_t);
 extern void *__libc_memalign(size_t, size_t);
 
-enum what { NOTHING, MEMORY, MEMORY_FROM, READ, WRITE, SHORT };
+static unsigned long memory_at, memory_from, call_at, write_at;
+static int moves_one;
 
-static enum what refused = NOTHING;
-static unsigned long place = 0;
-static atomic_ulong here[3];
-/* the calls for memory, the reads and the writes so far */
+enum { ASKED, OPENS, CALLS, WRITES, COUNTS };
+static atomic_ulong here[COUNTS];
 static atomic_ulong *calls = here;
 
 static void count_in(const char *file)
@@ -42,28 +42,33 @@ static void count_in(const char *file)
     close(fd);
 }
 
+static void read_one(const char *told)
+{
+    static const struct {
+        const char *name;
+        unsigned long *place;
+    } numbered[] = {{"memory:", &memory_at}, {"memory-from:", &memory_from}, {"call:", &call_at}, {"write:", &write_at}};
+    for (int i = 0; i < 4; i++) {
+        size_t length = strlen(numbered[i].name);
+        if (!strncmp(told, numbered[i].name, length))
+            *numbered[i].place = strtoul(told + length, 0, 10);
+    }
+    if (!strncmp(told, "short", 5))
+        moves_one = 1;
+}
+
 __attribute__((constructor)) static void begin(void)
 {
-    static const char *names[] = {"memory:", "memory-from:", "read:", "write:"};
-    static const enum what kinds[] = {MEMORY, MEMORY_FROM, READ, WRITE};
-    const char *told = getenv("REFUSE");
     if (getenv("COUNT"))
         count_in(getenv("COUNT"));
-    if (!told)
-        return;
-    for (int i = 0; i < 4; i++)
-        if (!strncmp(told, names[i], strlen(names[i]))) {
-            place = strtoul(told + strlen(names[i]), 0, 10);
-            refused = kinds[i];
-        }
-    if (!strcmp(told, "short"))
-        refused = SHORT;
+    for (const char *told = getenv("REFUSE"); told; told = strchr(told, ',') ? strchr(told, ',') + 1 : 0)
+        read_one(told);
 }
 
 static int no_memory(void)
 {
-    unsigned long number = ++calls[0];
-    if ((refused == MEMORY && number == place) || (refused == MEMORY_FROM && number >= place)) {
+    unsigned long number = ++calls[ASKED];
+    if (number == memory_at || (memory_from && number >= memory_from)) {
         errno = ENOMEM;
         return 1;
     }
@@ -84,20 +89,38 @@ int posix_memalign(void **into, size_t align, size_t size)
     return 0;
 }
 
+static int no_call(void)
+{
+    if (++calls[CALLS] == call_at) {
+        errno = EIO;
+        return 1;
+    }
+    return 0;
+}
+
+int open(const char *path, int flags, ...)
+{
+    mode_t mode = 0;
+    if (flags & O_CREAT) {
+        va_list more;
+        va_start(more, flags);
+        mode = va_arg(more, mode_t);
+        va_end(more);
+    }
+    ++calls[OPENS];
+    return no_call() ? -1 : (int)syscall(SYS_openat, AT_FDCWD, path, flags, mode);
+}
+
 ssize_t read(int fd, void *into, size_t size)
 {
-    if (++calls[1] == place && refused == READ) {
-        errno = EIO;
-        return -1;
-    }
-    return syscall(SYS_read, fd, into, refused == SHORT && size > 1 ? 1 : size);
+    return no_call() ? -1 : syscall(SYS_read, fd, into, moves_one && size > 1 ? 1 : size);
 }
 
 ssize_t write(int fd, const void *from, size_t size)
 {
-    if (fd == 1 && ++calls[2] == place && refused == WRITE) {
+    if (fd == 1 && ++calls[WRITES] == write_at) {
         errno = ENOSPC;
         return -1;
     }
-    return syscall(SYS_write, fd, from, refused == SHORT && size > 1 ? 1 : size);
+    return syscall(SYS_write, fd, from, moves_one && size > 1 ? 1 : size);
 }
