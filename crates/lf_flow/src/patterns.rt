@@ -5,7 +5,7 @@ ghost use Rattle.lf_semantics.specs.Listing.{class_count, named_at};
 ghost use Rattle.lf_semantics.specs.Passing.{is_plain};
 ghost use Rattle.lf_classes.specs.views.PatternCache.{passing_row};
 ghost use Rattle.lf_semantics.specs.RowTable.{text_of};
-ghost use Rattle.lf_sizes.specs.views.Size.{size_of};
+ghost use Rattle.lf_sizes.specs.Sizes.{size_of};
 ghost use Rattle.lf_flow.specs.views.Budget.{TakesTries, TakesWords, bytes_of, tries_of};
 
 use crate::budget::PatternBudget;

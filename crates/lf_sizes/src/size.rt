@@ -1,17 +1,18 @@
 //! The size of a pattern, which is read from left to right.
 ghost use Rattle.std.specs.Prelude.{◌≡◌, IfOk, reverse};
-ghost use Rattle.lf_sizes.specs.views.Size.{begun, plus_each, closed, counted, in_brackets, in_count, in_mode, escaped_size, folding, is_flag, larger, opened, size_of, size_from, start, state_of, stepped, total, with_atom};
+ghost use Rattle.lf_sizes.specs.Sizes.{atom, class_size, closes, count, escaped_size, folded, is_flag, mark, more, no_mark, opens, said, said_in_braces, said_in_brackets, size_of};
+ghost use Rattle.lf_sizes.specs.views.Size.{plus_each, reads, size_from, start, state_of, stepped, total};
 
 use lf_base::{Memory, Seq};
 use std::alloc::Global;
 
-/// What `\w`, `\p` and their opposites count, and what may be anything: the letters of Unicode are some hundred ranges of characters, of up to four bytes each.
+/// What `\w`, `\p` and their opposites count, a class in brackets where letters match their other cases too, and what may be anything: the letters of Unicode are some hundred ranges of characters, of up to four bytes each.
 const LETTERS: u64 = 512;
 
 /// What `\d` and `\D` count.
 const DIGITS: u64 = 64;
 
-/// What `\s` and `\S` count, a dot, and a class in brackets beside what stands in it.
+/// What `\s` and `\S` count, a dot, and mostly a class in brackets.
 const FEW: u64 = 16;
 
 /// What a character counts where letters match their other cases too.
@@ -57,8 +58,9 @@ struct Reader {
 }
 
 /// The size of a pattern, counted byte by byte: a character counts 1, one beyond ASCII a 1 more for each further byte, and a character behind a flag `i` 8; a dot 16, a class of
-/// Unicode's characters 16 to 512, and a class in brackets 16 and a 1 for each byte in it. What stands before a number in braces counts as often as the number says, and once at
+/// Unicode's characters 16 to 512, and a class in brackets 16, or 512 behind that flag, and a 1 for each byte in it. What stands before a number in braces counts as often as the number says, and once at
 /// least; so does the `x` of `\x{41}`. No size is greater than 2^64 - 1, which that of a pattern with a number in braces behind the flag `x` is.
+#[tactic(auto, using(crate::proofs::Sizes::law))]
 pub fn pattern_size(alloc: Global, pattern: &str) -> Result<u64, Memory>
     ensures { IfOk result (λ size. size ≡ size_of pattern.now) }
 {
@@ -130,14 +132,14 @@ impl Reader {
     }
 
     fn in_mode(self, mode: Mode) -> Reader
-        ensures { state_of result ≡ in_mode mode (state_of self) }
+        ensures { state_of result ≡ reads (no_mark mode self.character) (state_of self) }
     {
         Reader { mode, ..self }
     }
 
     /// Letters match their other cases from here on.
     fn folding(self) -> Reader
-        ensures { state_of result ≡ folding (state_of self) }
+        ensures { state_of result ≡ reads (no_mark self.mode folded) (state_of self) }
     {
         Reader {
             character: FOLDED,
@@ -147,7 +149,7 @@ impl Reader {
 
     /// An atom of this size was read.
     fn with_atom(self, size: u64) -> Reader
-        ensures { state_of result ≡ with_atom size (state_of self) }
+        ensures { state_of result ≡ reads (mark (atom size) Mode.Ready self.character) (state_of self) }
     {
         Reader {
             mode: Mode::Ready,
@@ -160,7 +162,7 @@ impl Reader {
 
     /// What was read last is so much larger.
     fn larger(self, size: u64, mode: Mode) -> Reader
-        ensures { state_of result ≡ larger size mode (state_of self) }
+        ensures { state_of result ≡ reads (mark (more size) mode self.character) (state_of self) }
     {
         Reader {
             mode,
@@ -171,7 +173,7 @@ impl Reader {
 
     /// What was read last counts this often.
     fn counted(self, times: u64, mode: Mode) -> Reader
-        ensures { state_of result ≡ counted times mode (state_of self) }
+        ensures { state_of result ≡ reads (mark (count times) mode self.character) (state_of self) }
     {
         Reader {
             mode,
@@ -182,12 +184,15 @@ impl Reader {
 
     /// Reads a byte that stands nowhere in particular.
     fn begin(self, byte: u8) -> Result<Reader, Memory>
-        ensures { IfOk result (λ r. state_of r ≡ begun (state_of self) byte) }
+        ensures { IfOk result (λ r. state_of r ≡ reads (said self.character byte) (state_of self)) }
     {
         match byte {
             b'(' => self.open(),
             b')' => Ok(self.close()),
-            b'[' => Ok(self.with_atom(FEW).in_mode(Mode::Bracket(1))),
+            b'[' => {
+                let size = class_size(self.character);
+                Ok(self.with_atom(size).in_mode(Mode::Bracket(1)))
+            }
             b'{' => Ok(self.in_mode(Mode::Count {
                 greatest: 0,
                 number: 0,
@@ -206,7 +211,7 @@ impl Reader {
 
     /// Reads a `(`.
     fn open(self) -> Result<Reader, Memory>
-        ensures { IfOk result (λ r. state_of r ≡ opened (state_of self)) }
+        ensures { IfOk result (λ r. state_of r ≡ reads (mark opens Mode.Open self.character) (state_of self)) }
     {
         let before = self.sum.saturating_add(self.last);
         let mut outer = self.outer;
@@ -222,7 +227,7 @@ impl Reader {
 
     /// Reads a `)`. Where no group is open, it closes the one that is put round the pattern.
     fn close(self) -> Reader
-        ensures { state_of result ≡ closed (state_of self) }
+        ensures { state_of result ≡ reads (mark closes Mode.Ready self.character) (state_of self) }
     {
         let last = self.sum.saturating_add(self.last).saturating_add(1);
         let mut outer = self.outer;
@@ -238,10 +243,13 @@ impl Reader {
 
     /// Reads a byte in so many brackets.
     fn in_brackets(self, depth: u64, byte: u8) -> Reader
-        ensures { state_of result ≡ in_brackets depth (state_of self) byte }
+        ensures { state_of result ≡ reads (said_in_brackets depth self.character byte) (state_of self) }
     {
         match byte {
-            b'[' => self.in_mode(Mode::Bracket(depth.saturating_add(1))),
+            b'[' => {
+                let size = class_size(self.character);
+                self.larger(size, Mode::Bracket(depth.saturating_add(1)))
+            }
             b']' if depth <= 1 => self.in_mode(Mode::Ready),
             b']' => self.in_mode(Mode::Class(depth - 1)),
             b'\\' => self.in_mode(Mode::ClassEscape(depth)),
@@ -251,7 +259,7 @@ impl Reader {
 
     /// Reads a byte in braces.
     fn in_count(self, greatest: u64, number: u64, byte: u8) -> Reader
-        ensures { state_of result ≡ in_count greatest number (state_of self) byte }
+        ensures { state_of result ≡ reads (said_in_braces greatest number self.character byte) (state_of self) }
     {
         match byte {
             b'0'..=b'9' => self.in_mode(Mode::Count {
@@ -279,6 +287,13 @@ fn escaped_size(byte: u8) -> u64
         b's' | b'S' => FEW,
         _ => 1,
     }
+}
+
+/// What a class in brackets counts, beside each byte in it. Where letters match their other cases too, these are looked for in all of it.
+fn class_size(character: u64) -> u64
+    ensures { result ≡ class_size character }
+{
+    if character == FOLDED { LETTERS } else { FEW }
 }
 
 /// Whether a byte behind a `(?` may be one of several flags.

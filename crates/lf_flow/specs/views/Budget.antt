@@ -2,7 +2,7 @@
 use Rattle.std.specs.Prelude.{◌≡◌, ◌+◌, ◌-◌, ◌/◌, ◌≤◌, ◌↔◌, ℕ, zero, suc, Bool, IsTrue, cond, length}
 use Rattle.lf_semantics.specs.Listing.{Listing, named_at}
 use Rattle.lf_semantics.specs.RowTable.{text_of}
-use Rattle.lf_sizes.specs.views.Size.{plus, times}
+use Rattle.lf_sizes.specs.Sizes.{plus, times}
 use Rattle.lf_flow.specs.declared.budget.PatternBudget.{PatternBudget}
 
 -- the tries of a run

@@ -1,5 +1,5 @@
 use Rattle.std.proofs.Common.{◌≡◌, ◌+◌, suc, ap, ap₂, ◌∙◌, arith}
-use Rattle.lf_sizes.specs.views.Size.{plus}
+use Rattle.lf_sizes.specs.Sizes.{plus}
 use Rattle.lf_flow.specs.views.Budget.{bytes_before}
 use Rattle.lf_flow.proofs.patterns.text_bytes.Goals as goal
 
