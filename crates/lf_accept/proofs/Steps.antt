@@ -1,8 +1,9 @@
 -- Each step of the code finds what the definitions say.
-use Rattle.std.proofs.Common.{◌≡◌, ◌∙◌, inl, inr, ◌+◌, ◌<◌, ◌≤◌, ℕ, suc, List, [], ◌∷◌, ◌++◌, map, length, take, drop, get_or, Result, Ok, Err, sym, ap, subst}
-use Rattle.std.specs.List.{AllZip}
+use Rattle.std.proofs.Common.{◌≡◌, ◌∙◌, inl, inr, ◌+◌, ◌<◌, ◌≤◌, ℕ, suc, List, [], ◌∷◌, ◌++◌, map, length, take, drop, get_or, Result, Ok, Err, arith, sym, ap, subst}
+use Rattle.std.specs.List.{AllZip, sum_by}
 use Rattle.std.proofs.Math.Seq.{split_at}
 use Rattle.std.proofs.lemmas.List.{map-append, take_more}
+use Rattle.std.proofs.lemmas.List.Sums.{sum_by_push}
 use Rattle.lf_laws.proofs.Slices.{zip_push}
 use Rattle.lf_laws.proofs.Members.{each_member, in_map}
 use Rattle.lf_base.specs.declared.fault.Fault.{Fault}
@@ -29,6 +30,7 @@ use Rattle.lf_semantics.specs.PatternBreaches.{TellsPattern}
 use Rattle.lf_yaml.specs.Document.{IsTree, TreeBreaks}
 use Rattle.lf_yaml.specs.Tree.{Tree as FileTree}
 use Rattle.lf_accept.specs.Accepted.{BreaksExpr, IsAccepted, IsExpr, IsRule, RefusesFile, Says, bad_expression, bad_pattern, bad_tokens, end_of, no_expression, no_rules, no_tree, no_type}
+use Rattle.lf_accept.specs.Allowance.{count_of_rule, most}
 use Rattle.lf_accept.specs.views.Checked.{AreJudged, BreakJudged, BreaksJudged, HasBreach}
 use Rattle.lf_accept.proofs.OneFile.{all_have}
 
@@ -101,6 +103,12 @@ module _ (file : ℕ) (sources : List RuleSource) (i : ℕ) (s : RuleSource) (in
       is_here = k;
     },
   ))
+
+-- what the patterns of rules count, and what is left of the allowance, where a rule is read
+pub counted_more : (rules : List Rule) (r : Rule) (left now : ℕ) → sum_by count_of_rule (rule_trees rules) + left ≡ most → left ≡ count_of_rule (rule_tree r) + now → sum_by count_of_rule (rule_trees (rules ++ r ∷ [])) + now ≡ most
+counted_more rules r left now h k =
+    let more = ap (sum_by count_of_rule) (map-append rule_tree rules (r ∷ [])) ∙ sum_by_push count_of_rule (rule_trees rules) (rule_tree r) in
+    omega (arith, more, h, k)
 
 -- the scalar of a rule's expression ends in the file
 pub ends_inside : (n : ℕ) (sources : List RuleSource) (i : ℕ) (s : RuleSource) → i < length sources → s ≡ get_or sources i s → SourcesInside n (map source sources) → s.expr.span.end ≤ n

@@ -1,15 +1,10 @@
 -- Patterns that are too large to be read: it would take gigabytes, or minutes.
-use Rattle.std.specs.Prelude.{ℕ, ◌+◌, ◌==◌, nat_lt, Bool, false, not, ◌&&◌, ◌||◌, cond, [], ◌∷◌, length, Option, Some, None}
+use Rattle.std.specs.Prelude.{ℕ, ◌+◌, ◌==◌, nat_lt, Bool, false, not, ◌&&◌, ◌||◌, cond, [], ◌∷◌, length}
 use Rattle.std.specs.List.{list_any}
-use Rattle.lf_ast.specs.Arguments.{text_at, texts_of}
-use Rattle.lf_ast.specs.Functions.{Signature, function_named}
 use Rattle.lf_ast.specs.Labels.{Bytes}
-use Rattle.lf_ast.specs.Tree.{Tree, Selector, Call, nodes}
-use Rattle.lf_ast.specs.declared.expr.Matcher.{Matcher}
-use Rattle.lf_ast.specs.declared.functions.LabelEffect.{LabelEffect}
-use Rattle.lf_ast.specs.declared.functions.LabelEffect.TheVariants.{LabelReplace}
+use Rattle.lf_ast.specs.Tree.{Tree}
 use Rattle.lf_semantics.specs.Passing.{is_plain}
-use Rattle.lf_semantics.specs.PatternBreaches.{takes_pattern}
+use Rattle.lf_accept.specs.Patterns.{patterns_in}
 
 -- ---- what is counted of a pattern
 
@@ -37,31 +32,13 @@ marked_count (b ∷ bs) = cond (begins_marked (b ∷ bs)) 1 0 + marked_count bs
 
 -- ---- the bounds
 
--- more than 4,096 classes, or as many groups with a name or flags, or more than 524,288 bytes of a pattern that isn't plain
+-- more than 4,096 classes, more than 1,024 groups with a name or flags, or more than 524,288 bytes of a pattern that isn't plain
 abbrev pub is_too_large : Bytes → Bool
 is_too_large pattern =
-    nat_lt 4096 (class_count pattern) || (nat_lt 4096 (marked_count pattern) || (nat_lt 524288 (length pattern) && not (is_plain pattern)))
+    nat_lt 4096 (class_count pattern) || (nat_lt 1024 (marked_count pattern) || (nat_lt 524288 (length pattern) && not (is_plain pattern)))
 
 -- ---- the patterns of an expression
 
--- that behind a `=~` or `!~`
-abbrev pub is_large_matcher : Matcher → Bool
-is_large_matcher m = takes_pattern m.op && is_too_large m.value
-
--- that of a `label_replace`, its fifth argument
-abbrev pub is_large_argument : LabelEffect → Bytes → Bool
-is_large_argument LabelReplace pattern = is_too_large pattern
-is_large_argument _ pattern = false
-
-abbrev pub has_large_argument : Option Signature → Bytes → Bool
-has_large_argument None pattern = false
-has_large_argument (Some s) pattern = is_large_argument s.labels pattern
-
--- one of these is too large in an expression alone, without its parts
-abbrev pub has_large_here : Tree → Bool
-has_large_here (Selector name matchers sight span) = list_any is_large_matcher matchers
-has_large_here (Call name args span) = has_large_argument (function_named name) (text_at (texts_of args) 4)
-has_large_here _ = false
-
+-- one of them is too large
 abbrev pub has_large_pattern : Tree → Bool
-has_large_pattern e = list_any has_large_here (nodes e)
+has_large_pattern e = list_any is_too_large (patterns_in e)

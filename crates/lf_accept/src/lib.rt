@@ -3,7 +3,9 @@
 #![tactic(auto)]
 
 mod accepting;
+mod allowance;
 mod expression;
+mod patterns;
 mod rules;
 mod sizes;
 

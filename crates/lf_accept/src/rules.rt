@@ -1,44 +1,55 @@
 //! The rules of a file, each with its expression.
 ghost use Rattle.std.specs.Prelude.{◌≡◌, ◌++◌, ◌≤◌, ℕ, map, IfOk, OnOk};
-ghost use Rattle.std.specs.List.{AllZip};
+ghost use Rattle.std.specs.List.{AllZip, sum_by};
 ghost use Rattle.lf_ast.specs.declared.rule.RuleLabel.{RuleLabel};
 ghost use Rattle.lf_rules.specs.Sources.{SourcesInside, setting, source as source_of};
 ghost use Rattle.lf_base.specs.Answers.{Found, Refused, RefusedIn};
 ghost use Rattle.lf_ast.specs.Rules.{rule_tree, rule_trees};
 ghost use Rattle.lf_accept.specs.Accepted.{BreaksExpr, IsRule, label_of, template_of, templates_of as templates_in};
+ghost use Rattle.lf_accept.specs.Allowance.{Takes, count_of_rule, most};
 ghost use Rattle.lf_accept.specs.views.Checked.{HasBreach};
 ghost use Rattle.lf_scalar.specs.Scalars.{value};
 
+use crate::allowance::PatternAllowance;
 use crate::expression::read_expr;
 use lf_ast::{Rule, RuleLabel, Template};
 use lf_base::{Memory, Refusal, Seq};
 use lf_rules::{Pair, RuleSource};
 use std::alloc::Global;
 
-/// The rules as they stand in a file, each with its expression.
+/// The rules as they stand in a file, each with its expression. Where their patterns count more than those of a file may, memory is wanting.
 pub fn rules_of(alloc: Global, sources: &[RuleSource], file: u32) -> Result<Seq<Rule>, Refusal>
     ensures found { Found rule_trees (AllZip (IsRule file) (map source_of sources.now)) result }
     ensures refused { Refused (HasBreach (map source_of sources.now)) result }
     ensures refused_inside { (n : ℕ) → SourcesInside n (map source_of sources.now) → RefusedIn n result }
+    // The patterns of the rules count no more than those of a file may.
+    ensures allowed { IfOk result (λ rules. sum_by count_of_rule (rule_trees rules) ≤ most) }
 {
+    let mut allowance = PatternAllowance::of_file();
     let mut rules = Seq::new(alloc);
     for source in sources {
-        let rule = rule_of(alloc, source, file)?;
+        let rule = rule_of(alloc, &mut allowance, source, file)?;
         rules.push(rule)?;
     }
     Ok(rules)
 }
 
 /// A rule as it stands in a file, with its expression.
-fn rule_of(alloc: Global, source: &RuleSource, file: u32) -> Result<Rule, Refusal>
+fn rule_of(
+    alloc: Global,
+    allowance: &mut PatternAllowance,
+    source: &RuleSource,
+    file: u32,
+) -> Result<Rule, Refusal>
     ensures found { Found rule_tree (IsRule file (source_of source.now)) result }
     ensures refused { Refused (BreaksExpr (value source.now.expr)) result }
     ensures refused_inside { (n : ℕ) → source.now.expr.span.end ≤ n → RefusedIn n result }
+    ensures taken { IfOk result (λ rule. Takes (count_of_rule (rule_tree rule)) allowance.old allowance.new) }
 {
     let name = source.name.text.copy()?;
     let labels = labels_of(alloc, source.labels.as_slice())?;
     let templates = templates_of(alloc, source)?;
-    let expr = read_expr(alloc, &source.expr)?;
+    let expr = read_expr(alloc, allowance, &source.expr)?;
     Ok(Rule {
         file,
         alert: source.alert,

@@ -1,12 +1,9 @@
 //! Patterns that are too large to be read.
 ghost use Rattle.std.specs.Prelude.{◌≡◌, ◌+◌, ◌<◌, ◌^◌, ◌==◌, ◌&&◌, not, cond, IfOk};
 ghost use Rattle.std.specs.List.{list_any};
-ghost use Rattle.lf_ast.specs.Tree.{tree};
-ghost use Rattle.lf_ast.specs.views.Walks.{trees_at};
+ghost use Rattle.lf_accept.specs.Patterns.{texts_at};
 ghost use Rattle.lf_accept.specs.Sizes as sizes;
 
-use lf_ast::walk::nodes_of;
-use lf_ast::{Expr, Function, LabelEffect, MatchOp, Matcher, text_at};
 use lf_base::bytes::after;
 use lf_base::{Memory, Text};
 use lf_pattern::plain_alternatives;
@@ -19,74 +16,18 @@ const LONGEST: usize = 524_288;
 const MOST_CLASSES: usize = 4_096;
 
 /// The most groups with a name or flags in a pattern. Each name is compared with those before it.
-const MOST_MARKED_GROUPS: usize = 4_096;
+const MOST_MARKED_GROUPS: usize = 1_024;
 
-/// Whether a pattern of an expression is too large to be read: one behind a `=~` or `!~`, or that of a `label_replace`.
-pub fn has_large_pattern(alloc: Global, expr: &Expr) -> Result<bool, Memory>
-    ensures { IfOk result (λ found. found ≡ sizes.has_large_pattern (tree expr.now)) }
+/// Whether one of these patterns is too large to be read.
+pub fn is_some_too_large(alloc: Global, patterns: &[&str]) -> Result<bool, Memory>
+    ensures { IfOk result (λ found. found ≡ list_any sizes.is_too_large (texts_at patterns.now)) }
 {
-    let nodes = nodes_of(alloc, expr)?;
-    is_large_in_some(alloc, nodes.as_slice())
-}
-
-/// The same of several expressions, each without its parts.
-fn is_large_in_some(alloc: Global, nodes: &[&Expr]) -> Result<bool, Memory>
-    ensures { IfOk result (λ found. found ≡ list_any sizes.has_large_here (trees_at nodes.now)) }
-{
-    for node in nodes {
-        if has_large_here(alloc, node)? {
+    for pattern in patterns {
+        if is_too_large(alloc, pattern)? {
             return Ok(true);
         }
     }
     Ok(false)
-}
-
-/// The same of an expression without its parts.
-fn has_large_here(alloc: Global, node: &Expr) -> Result<bool, Memory>
-    ensures { IfOk result (λ found. found ≡ sizes.has_large_here (tree node.now)) }
-{
-    match node {
-        Expr::Selector { matchers, .. } => has_large_matcher(alloc, matchers.as_slice()),
-        Expr::Call { args, .. } => match Function::called_by(node) {
-            Some(function) => {
-                is_large_argument(alloc, function.labels, text_at(args.as_slice(), 4))
-            }
-            None => Ok(false),
-        },
-        _ => Ok(false),
-    }
-}
-
-/// The same of matchers.
-fn has_large_matcher(alloc: Global, matchers: &[Matcher]) -> Result<bool, Memory>
-    ensures { IfOk result (λ found. found ≡ list_any sizes.is_large_matcher matchers.now) }
-{
-    for matcher in matchers {
-        if is_large_matcher(alloc, matcher)? {
-            return Ok(true);
-        }
-    }
-    Ok(false)
-}
-
-/// The same of a matcher.
-fn is_large_matcher(alloc: Global, matcher: &Matcher) -> Result<bool, Memory>
-    ensures { IfOk result (λ found. found ≡ sizes.is_large_matcher matcher.now) }
-{
-    match matcher.op {
-        MatchOp::Equal | MatchOp::NotEqual => Ok(false),
-        MatchOp::Matches | MatchOp::NotMatches => is_too_large(alloc, matcher.value.as_str()),
-    }
-}
-
-/// The same of the fifth argument of a function, which is a pattern of `label_replace` alone.
-fn is_large_argument(alloc: Global, effect: LabelEffect, argument: &str) -> Result<bool, Memory>
-    ensures { IfOk result (λ found. found ≡ sizes.is_large_argument effect argument.now) }
-{
-    match effect {
-        LabelEffect::LabelReplace => is_too_large(alloc, argument),
-        _ => Ok(false),
-    }
 }
 
 /// Whether a pattern is too large to be read.
