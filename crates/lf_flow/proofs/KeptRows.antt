@@ -6,7 +6,6 @@ use Rattle.lf_laws.proofs.Slices.{one_taken}
 use Rattle.lf_ast.specs.Functions.{Signature}
 use Rattle.lf_ast.specs.Tree.{Tree, Trees, Number, Str, Selector, Subquery, Paren, Unary, Binary, Call, Aggregate, Nil, Next, list}
 use Rattle.lf_ast.specs.declared.expr.Grouping.{Grouping}
-use Rattle.lf_ast.specs.views.Walks.{chosen}
 use Rattle.lf_semantics.specs.ClassRows.{HasShape}
 use Rattle.lf_semantics.specs.Environments.{IsEnvironment}
 use Rattle.lf_semantics.specs.Listing.{IsListing, Listing}
@@ -15,8 +14,7 @@ use Rattle.lf_semantics.specs.RowTable.{Environment, call_row, effect_row, row_a
 use Rattle.lf_semantics.proofs.RowLaws.{shape_bottom}
 use Rattle.lf_semantics.proofs.Soundness.{shape_of_row}
 use Rattle.lf_flow.specs.declared.given.Given.{Given}
-use Rattle.lf_flow.specs.views.Kept.{given_of, kept_row, made_row, operand_row}
-use Rattle.lf_nodes.specs.views.Needed.{operand_part}
+use Rattle.lf_flow.specs.views.Kept.{given_of, kept_row, made_row, operand_given, operand_row}
 
 module _ (u : Listing) (env : Environment) where
   -- the row that is kept of an expression is its own
@@ -52,12 +50,9 @@ module _ (u : Listing) (env : Environment) where
   operand_is (Next x xs) zero (Some g) e = let same : given_of u env x ≡ g = cc in sym (made_is x) ∙ ap (λ (h : Given). made_row u h.row) same
   operand_is (Next x xs) (suc k) o e = operand_is xs k o e
 
-  -- what is kept of the parts of a call
+  -- what is kept of the operand of a call
 
-  abbrev pub of_call : Option Signature → Trees → List Given
-  of_call o args = map (given_of u env) (chosen (operand_part o) (list args))
-
-  pub one_of_call : (o : Option Signature) (args : Trees) → length (of_call o args) ≤ 1
+  pub one_of_call : (o : Option Signature) (args : Trees) → length (operand_given u env o args) ≤ 1
   one_of_call None args = omega arith
   one_of_call (Some s) args =
       let few = drop (operand_place s) (list args) in
@@ -65,7 +60,7 @@ module _ (u : Listing) (env : Environment) where
       let one = one_taken few in
       omega (arith, same, one)
 
-  pub row_of_call : (o : Option Signature) (grouping : Grouping) (args : Trees) (operand : Option Given) → of_call o args ≡ option_to_list operand
+  pub row_of_call : (o : Option Signature) (grouping : Grouping) (args : Trees) (operand : Option Given) → operand_given u env o args ≡ option_to_list operand
       → call_row u o grouping args (λ place. operand_row u operand) ≡ call_row u o grouping args (row_at u env args)
   row_of_call None grouping args operand e = refl
   row_of_call (Some s) grouping args operand e = ap (effect_row u s.labels grouping args) (sym (operand_is args (operand_place s) operand e))
@@ -76,7 +71,7 @@ module _ (u : Listing) (env : Environment) where
     shape_at (Next x xs) zero = shape_of_row u listing env environment x
     shape_at (Next x xs) (suc k) = shape_at xs k
 
-    pub shape_of_call : (o : Option Signature) (args : Trees) (operand : Option Given) → of_call o args ≡ option_to_list operand → HasShape u (operand_row u operand)
+    pub shape_of_call : (o : Option Signature) (args : Trees) (operand : Option Given) → operand_given u env o args ≡ option_to_list operand → HasShape u (operand_row u operand)
     shape_of_call None args None e = shape_bottom u
     shape_of_call None args (Some given) e = absurd (cc)
     shape_of_call (Some s) args operand e = subst (HasShape u) (operand_is args (operand_place s) operand e) (shape_at args (operand_place s))

@@ -1,26 +1,26 @@
 //! The row of an expression.
-ghost use Rattle.std.specs.Prelude.{◌≡◌, List, map, IfOk};
+ghost use Rattle.std.specs.Prelude.{◌≡◌, List, Some, map, IfOk};
 ghost use Rattle.std.specs.List.{Contains};
 ghost use Rattle.std.specs.Option.{option_map};
 ghost use Rattle.lf_ast.specs.Functions.{called_by, signature_of};
 ghost use Rattle.lf_ast.specs.Labels.{Labels};
-ghost use Rattle.lf_ast.specs.Tree.{parts_of, tree};
+ghost use Rattle.lf_ast.specs.Tree.{parts_of, tree, trees};
 ghost use Rattle.lf_ast.specs.views.Walks.{chosen};
 ghost use Rattle.lf_semantics.specs.ClassRows.{Represents};
 ghost use Rattle.lf_semantics.specs.Environments.{Admits, Covers, IsEnvironment};
 ghost use Rattle.lf_semantics.specs.Evaluation.{Evaluates};
 ghost use Rattle.lf_semantics.specs.Laws.{GrowsFrom};
 ghost use Rattle.lf_semantics.specs.Listing.{IsListing};
-ghost use Rattle.lf_semantics.specs.Parts.{type_by_form};
-ghost use Rattle.lf_semantics.specs.RowTable.{row_of};
-ghost use Rattle.lf_flow.specs.views.Kept.{given_of, kept_row};
+ghost use Rattle.lf_semantics.specs.Parts.{given_by, type_by_form};
+ghost use Rattle.lf_semantics.specs.RowTable.{Environment, call_row, row_at, row_of};
+ghost use Rattle.lf_flow.specs.views.Kept.{given_of, kept_row, operand_given};
 ghost use Rattle.lf_nodes.specs.views.Needed.{parts_needed};
 
 use crate::Env;
 use crate::given::{Given, binary, called, empty, number, ranged, selector, signed, whole};
 use lf_ast::walk::{Fold, Parts, fold_up};
 use lf_ast::{Expr, ExprType, Function, Grouping};
-use lf_base::Memory;
+use lf_base::{Memory, Seq};
 use lf_classes::{Row, Universe};
 use lf_nodes::{at_most_one, both, parts_needed, the_only};
 use std::alloc::Global;
@@ -147,21 +147,37 @@ fn given(
             let (left, right) = both(parts);
             binary(alloc, universe, *op, modifier, left, right)
         }
-        Expr::Call { args, .. } => called(
-            alloc,
-            universe,
-            function,
-            &Grouping::None,
-            args.as_slice(),
-            at_most_one(parts),
-        ),
-        Expr::Aggregate { grouping, args, .. } => called(
-            alloc,
-            universe,
-            function,
-            grouping,
-            args.as_slice(),
-            at_most_one(parts),
-        ),
+        Expr::Call { args, .. } => {
+            let grouping = &Grouping::None;
+            call(alloc, universe, function, grouping, args, parts)
+        }
+        Expr::Aggregate { grouping, args, .. } => {
+            call(alloc, universe, function, grouping, args, parts)
+        }
     }
+}
+
+/// The same of a call or an aggregation, whose parts are the operand, if it has one.
+fn call(
+    alloc: Global,
+    universe: &Universe,
+    function: Option<Function>,
+    grouping: &Grouping,
+    args: &Seq<Expr>,
+    parts: Vec<Given>,
+) -> Result<Given, Memory>
+    requires listing { IsListing universe.now }
+    requires parts { (env : Environment) × IsEnvironment universe.now env × (parts.items ≡ operand_given universe.now env (option_map signature_of function) (trees args.now)) }
+    ensures row { (env : Environment) → parts.items ≡ operand_given universe.now env (option_map signature_of function) (trees args.now) → IfOk result (λ given. given.row ≡ Some (call_row universe.now (option_map signature_of function) grouping.now (trees args.now) (row_at universe.now env (trees args.now)))) }
+    ensures form { IfOk result (λ given. given.form ≡ given_by (option_map signature_of function)) }
+{
+    let operand = at_most_one(parts);
+    called(
+        alloc,
+        universe,
+        function,
+        grouping,
+        args.as_slice(),
+        operand,
+    )
 }

@@ -1,6 +1,9 @@
 -- What is kept of the parts of an expression until its own row is made: how contracts see the code. It defines nothing.
-use Rattle.std.specs.Prelude.{Option, Some, None}
-use Rattle.lf_ast.specs.Tree.{Tree, Number}
+use Rattle.std.specs.Prelude.{List, map, Option, Some, None}
+use Rattle.lf_ast.specs.Functions.{Signature}
+use Rattle.lf_ast.specs.Tree.{Tree, Number, Trees, list}
+use Rattle.lf_ast.specs.views.Walks.{chosen}
+use Rattle.lf_nodes.specs.views.Needed.{operand_part}
 use Rattle.lf_semantics.specs.ClassRows.{Sets, bottom}
 use Rattle.lf_semantics.specs.Listing.{Listing}
 use Rattle.lf_semantics.specs.Parts.{type_by_form}
@@ -27,3 +30,7 @@ module _ (u : Listing) where
     -- what is told of an expression: its row, and the type that its form tells
     abbrev pub given_of : Tree → Given
     given_of e = record { row = kept_row e; form = type_by_form e }
+
+    -- what is told of the operand among the arguments of a call, if it has one
+    abbrev pub operand_given : Option Signature → Trees → List Given
+    operand_given called args = map given_of (chosen (operand_part called) (list args))

@@ -1,4 +1,4 @@
-use Rattle.std.proofs.Common.{◌≡◌, ◌≤◌, ◌∷◌, [], List, Option, Some, length, map, sym, ◌∙◌, ap, subst}
+use Rattle.std.proofs.Common.{◌≡◌, ◌∷◌, [], Option, Some, map, sym, ◌∙◌, ap, subst}
 use Rattle.std.specs.Prelude.{IfOk}
 use Rattle.std.specs.Option.{option_map}
 use Rattle.lf_ast.specs.Functions.{Signature, aggregation, called_by, function_named, signature_of}
@@ -13,9 +13,9 @@ use Rattle.lf_semantics.specs.Parts.{is_scalar_part}
 use Rattle.lf_semantics.specs.RowTable.{binary_row, call_row, row_at, row_of, selector_row}
 use Rattle.lf_nodes.proofs.Parts.{first_of_two, second_of_two, the_one}
 use Rattle.lf_flow.specs.declared.given.Given.{Given}
-use Rattle.lf_flow.specs.views.Kept.{given_of, kept_row, made_row, operand_row}
+use Rattle.lf_flow.specs.views.Kept.{given_of, kept_row, made_row, operand_given}
 use Rattle.lf_nodes.specs.views.Needed.{parts_needed}
-use Rattle.lf_flow.proofs.KeptRows.{made_is, made_shape, of_call, one_of_call, row_of_call, shape_of_call}
+use Rattle.lf_flow.proofs.KeptRows.{made_is, made_shape}
 use Rattle.lf_flow.proofs.rows.given.Goals as goal
 
 -- selectors
@@ -79,84 +79,42 @@ returns-in-Binary-clause-row c =
 
 -- calls and aggregations
 
-pub at_most_one-requires : goal.at_most_one-requires
-at_most_one-requires c =
+pub call-requires-clause-parts : goal.call-requires-clause-parts
+call-requires-clause-parts c =
     let u = c.args.universe.now in
     let env = c.args.env.now in
     let s = c.in-Call in
     let o = option_map signature_of c.args.function in
     let is = tree_call c.args.expr.now s.name s.args s.span s.is in
-    let own : c.args.parts.items ≡ of_call u env o (trees s.args) =
-    c.requires.parts ∙ ap (λ (e : Tree). map (given_of u env) (chosen (parts_needed e) (parts_of e))) is ∙ ap (λ (o : Option Signature). of_call u env o (trees s.args)) (sym (c.requires.function ∙ ap called_by is)) in
-    let P : List Given → Type 0 = λ parts. length parts ≤ 1 in
-    subst P (sym own) (one_of_call u env o (trees s.args))
-
-pub called-requires-clause-shape : goal.called-requires-clause-shape
-called-requires-clause-shape c =
-    let u = c.args.universe.now in
-    let env = c.args.env.now in
-    let s = c.in-Call in
-    let o = option_map signature_of c.args.function in
-    let is = tree_call c.args.expr.now s.name s.args s.span s.is in
-    let own : c.args.parts.items ≡ of_call u env o (trees s.args) =
-    c.requires.parts ∙ ap (λ (e : Tree). map (given_of u env) (chosen (parts_needed e) (parts_of e))) is ∙ ap (λ (o : Option Signature). of_call u env o (trees s.args)) (sym (c.requires.function ∙ ap called_by is)) in
-    shape_of_call u env c.requires.listing c.requires.env o (trees s.args) c.at_most_one.result (sym own ∙ c.at_most_one.ensures)
+    (env, c.requires.env, c.requires.parts ∙ ap (λ (e : Tree). map (given_of u env) (chosen (parts_needed e) (parts_of e))) is ∙ ap (λ (o : Option Signature). operand_given u env o (trees s.args)) (sym (c.requires.function ∙ ap called_by is)))
 
 pub returns-in-Call-clause-row : goal.returns-in-Call-clause-row
 returns-in-Call-clause-row c =
     let u = c.args.universe.now in
     let env = c.args.env.now in
     let s = c.in-Call in
-    let o = option_map signature_of c.args.function in
     let is = tree_call c.args.expr.now s.name s.args s.span s.is in
-    let named : o ≡ function_named s.name = c.requires.function ∙ ap called_by is in
-    let own : c.args.parts.items ≡ of_call u env o (trees s.args) =
-    c.requires.parts ∙ ap (λ (e : Tree). map (given_of u env) (chosen (parts_needed e) (parts_of e))) is ∙ ap (λ (o : Option Signature). of_call u env o (trees s.args)) (sym named) in
-    let P : Option Sets → Type 0 = λ x. IfOk c.called.result (λ given. given.row ≡ x) in
-    subst P
-    (ap (λ args. Some (call_row u o Ungrouped (trees args) (λ place. operand_row u c.at_most_one.result))) c.as_slice-in-Call.ensures
-    ∙ ap (λ (x : Sets). Some x) (row_of_call u env o Ungrouped (trees s.args) c.at_most_one.result (sym own ∙ c.at_most_one.ensures))
-    ∙ ap (λ (o : Option Signature). Some (call_row u o Ungrouped (trees s.args) (row_at u env (trees s.args)))) named
-    ∙ sym (ap (kept_row u env) is))
-    c.called.ensures.row
+    let named : option_map signature_of c.args.function ≡ function_named s.name = c.requires.function ∙ ap called_by is in
+    let own = c.requires.parts ∙ ap (λ (e : Tree). map (given_of u env) (chosen (parts_needed e) (parts_of e))) is ∙ ap (λ (o : Option Signature). operand_given u env o (trees s.args)) (sym named) in
+    let P : Option Sets → Type 0 = λ x. IfOk c.call.result (λ given. given.row ≡ x) in
+    subst P (ap (λ (o : Option Signature). Some (call_row u o Ungrouped (trees s.args) (row_at u env (trees s.args)))) named ∙ sym (ap (kept_row u env) is)) (c.call.ensures.row env own)
 
-pub at_most_one-requires-in-Aggregate : goal.at_most_one-requires-in-Aggregate
-at_most_one-requires-in-Aggregate c =
+pub call-requires-in-Aggregate-clause-parts : goal.call-requires-in-Aggregate-clause-parts
+call-requires-in-Aggregate-clause-parts c =
     let u = c.args.universe.now in
     let env = c.args.env.now in
     let s = c.in-Aggregate in
     let o = option_map signature_of c.args.function in
     let is = tree_aggregate c.args.expr.now s.op s.grouping s.args s.span s.is in
-    let own : c.args.parts.items ≡ of_call u env o (trees s.args) =
-    c.requires.parts ∙ ap (λ (e : Tree). map (given_of u env) (chosen (parts_needed e) (parts_of e))) is ∙ ap (λ (o : Option Signature). of_call u env o (trees s.args)) (sym (c.requires.function ∙ ap called_by is)) in
-    let P : List Given → Type 0 = λ parts. length parts ≤ 1 in
-    subst P (sym own) (one_of_call u env o (trees s.args))
-
-pub called-requires-in-Aggregate-clause-shape : goal.called-requires-in-Aggregate-clause-shape
-called-requires-in-Aggregate-clause-shape c =
-    let u = c.args.universe.now in
-    let env = c.args.env.now in
-    let s = c.in-Aggregate in
-    let o = option_map signature_of c.args.function in
-    let is = tree_aggregate c.args.expr.now s.op s.grouping s.args s.span s.is in
-    let own : c.args.parts.items ≡ of_call u env o (trees s.args) =
-    c.requires.parts ∙ ap (λ (e : Tree). map (given_of u env) (chosen (parts_needed e) (parts_of e))) is ∙ ap (λ (o : Option Signature). of_call u env o (trees s.args)) (sym (c.requires.function ∙ ap called_by is)) in
-    shape_of_call u env c.requires.listing c.requires.env o (trees s.args) c.at_most_one-in-Aggregate.result (sym own ∙ c.at_most_one-in-Aggregate.ensures)
+    (env, c.requires.env, c.requires.parts ∙ ap (λ (e : Tree). map (given_of u env) (chosen (parts_needed e) (parts_of e))) is ∙ ap (λ (o : Option Signature). operand_given u env o (trees s.args)) (sym (c.requires.function ∙ ap called_by is)))
 
 pub returns-in-Aggregate-clause-row : goal.returns-in-Aggregate-clause-row
 returns-in-Aggregate-clause-row c =
     let u = c.args.universe.now in
     let env = c.args.env.now in
     let s = c.in-Aggregate in
-    let o = option_map signature_of c.args.function in
     let is = tree_aggregate c.args.expr.now s.op s.grouping s.args s.span s.is in
-    let named : o ≡ Some (aggregation s.op) = c.requires.function ∙ ap called_by is in
-    let own : c.args.parts.items ≡ of_call u env o (trees s.args) =
-    c.requires.parts ∙ ap (λ (e : Tree). map (given_of u env) (chosen (parts_needed e) (parts_of e))) is ∙ ap (λ (o : Option Signature). of_call u env o (trees s.args)) (sym named) in
-    let P : Option Sets → Type 0 = λ x. IfOk c.called-in-Aggregate.result (λ given. given.row ≡ x) in
-    subst P
-    (ap (λ args. Some (call_row u o s.grouping (trees args) (λ place. operand_row u c.at_most_one-in-Aggregate.result))) c.as_slice-in-Aggregate.ensures
-    ∙ ap (λ (x : Sets). Some x) (row_of_call u env o s.grouping (trees s.args) c.at_most_one-in-Aggregate.result (sym own ∙ c.at_most_one-in-Aggregate.ensures))
-    ∙ ap (λ (o : Option Signature). Some (call_row u o s.grouping (trees s.args) (row_at u env (trees s.args)))) named
-    ∙ sym (ap (kept_row u env) is))
-    c.called-in-Aggregate.ensures.row
+    let named : option_map signature_of c.args.function ≡ Some (aggregation s.op) = c.requires.function ∙ ap called_by is in
+    let own = c.requires.parts ∙ ap (λ (e : Tree). map (given_of u env) (chosen (parts_needed e) (parts_of e))) is ∙ ap (λ (o : Option Signature). operand_given u env o (trees s.args)) (sym named) in
+    let P : Option Sets → Type 0 = λ x. IfOk c.call-in-Aggregate.result (λ given. given.row ≡ x) in
+    subst P (ap (λ (o : Option Signature). Some (call_row u o s.grouping (trees s.args) (row_at u env (trees s.args)))) named ∙ sym (ap (kept_row u env) is)) (c.call-in-Aggregate.ensures.row env own)
