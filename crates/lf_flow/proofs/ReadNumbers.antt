@@ -1,9 +1,9 @@
 -- The numbers of the names that an expression reads, and environments that are equal there.
-use Rattle.std.proofs.Common.{◌≡◌, ◌⊎◌, ℕ, zero, suc, ◌<◌, ◌≤◌, Bool, true, false, cond, nat_lt, List, [], ◌∷◌, map, length, get_or, Option, Some, None, inl, inr, refl, sym, ◌∙◌, ap, subst, arith}
+use Rattle.std.proofs.Common.{◌≡◌, ℕ, zero, suc, ◌<◌, ◌≤◌, Bool, true, false, cond, nat_lt, List, [], ◌∷◌, length, get_or, Option, Some, None, inl, inr, refl, sym, ◌∙◌, ap, subst, arith}
 use Rattle.std.proofs.Math.ListN.{set}
 use Rattle.std.proofs.lemmas.Bool.{cases_lt, lt-ltb, ltb-true}
 use Rattle.std.proofs.lemmas.List.{ext_get_or, length-map}
-use Rattle.std.specs.List.{AllByRecursion, Contains, flat_map, range_with_len}
+use Rattle.std.specs.List.{Contains, flat_map}
 use Rattle.lf_ast.specs.Labels.{Bytes}
 use Rattle.lf_ast.specs.Tree.{Tree}
 use Rattle.lf_deps.proofs.Ascending.{in_range, of_range}
@@ -15,7 +15,7 @@ use Rattle.lf_semantics.specs.ClassRows.{Sets}
 use Rattle.lf_semantics.specs.Listing.{Listing, place}
 use Rattle.lf_semantics.specs.RowTable.{Environment, row_named, row_of}
 use Rattle.lf_flow.specs.Raising.{entries}
-use Rattle.lf_flow.specs.Reads.{AreEqualAt, ReadsNumber, name_at, names_of, number_of, rows_of}
+use Rattle.lf_flow.specs.Reads.{AreEqualAt, ReadsNumber, names_of, number_of, rows_of}
 use Rattle.lf_flow.specs.views.Reading.{numbers_of}
 use Rattle.lf_flow.proofs.Entries.{each_name, named_row, none_named}
 use Rattle.lf_flow.proofs.SameRows.{SameAt, row_same}

@@ -1,4 +1,4 @@
-use Rattle.std.proofs.Common.{◌≡◌, ℕ, List, ◌+◌, ◌∷◌, [], sym, subst, arith}
+use Rattle.std.proofs.Common.{◌≡◌, ℕ, List, ◌∷◌, [], sym, subst, arith}
 use Rattle.std.specs.List.{range_with_len}
 use Rattle.lf_deps.proofs.Ascending.{range_more}
 use Rattle.lf_graph.specs.views.Listing.{Adds}

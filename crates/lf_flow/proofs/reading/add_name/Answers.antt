@@ -1,4 +1,4 @@
-use Rattle.std.proofs.Common.{ℕ, List, Bool, true, ◌∷◌, [], cond, nat_lt, Some, ap, subst, ◌∙◌, sym, arith}
+use Rattle.std.proofs.Common.{ℕ, List, true, ◌∷◌, [], ap, subst, ◌∙◌, arith}
 use Rattle.std.proofs.lemmas.Bool.{lt-ltb}
 use Rattle.std.specs.Prelude.{OnOk}
 use Rattle.lf_graph.specs.views.Listing.{Adds}

@@ -1,4 +1,4 @@
-use Rattle.std.proofs.Common.{ℕ, List, Some, None, Option, ap, subst, ◌∙◌, sym}
+use Rattle.std.proofs.Common.{ℕ, List, Some, Option, ap, subst, ◌∙◌, sym}
 use Rattle.std.specs.Prelude.{OnOk}
 use Rattle.std.specs.List.{range_with_len}
 use Rattle.lf_ast.specs.Labels.{Bytes}
