@@ -1,4 +1,4 @@
-//! How much the patterns of a file may count, so that reading them takes no longer than some second.
+//! How much the patterns of a file may count, so that reading them takes some two seconds at most.
 ghost use Rattle.std.specs.Prelude.{◌≡◌, ◌<◌, IfOk, OnErr, OnOk};
 ghost use Rattle.std.specs.List.{sum_by};
 ghost use Rattle.lf_accept.specs.Allowance.{Takes, count_of, most};
