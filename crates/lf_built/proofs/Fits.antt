@@ -11,11 +11,13 @@ use Rattle.lf_deps.proofs.Numbered.{of_numbers}
 use Rattle.lf_semantics.specs.ClassRows.{Sets}
 use Rattle.lf_semantics.specs.Environments.{records, recorded_row, rule_row}
 use Rattle.lf_trials.specs.Built.{fits}
+use Rattle.lf_trials.specs.Candidates.{labels_in}
 use Rattle.lf_trials.specs.Given.{Given, holds_texts}
 use Rattle.lf_trials.specs.Reached.{first_rule, is_marked}
 use Rattle.lf_built.specs.declared.prepared.Prepared.{Prepared}
 use Rattle.lf_built.specs.views.Fitting.{IsFirstRule}
 use Rattle.lf_built.specs.views.Indexed.{IsPrepared, env_of, forks_of, trees_of, universe_of}
+use Rattle.lf_built.specs.views.Marking.{set_by}
 use Rattle.lf_built.proofs.FirstRules.{first_is, found_at, none_at}
 
 -- the rule isn't marked, and its row, as it is recorded, holds the texts
@@ -34,6 +36,12 @@ module _ (p : Prepared) (known : IsPrepared p) where
       ap (λ (xs : List Sets). get_or xs k d) known.rows
       ∙ get_or-map (rule_row (universe_of p) (env_of p)) (trees_of p) k r d (slice_get_within (trees_of p) k r is)
       ∙ ap (rule_row (universe_of p) (env_of p)) (get_or_from_slice_get (trees_of p) k r r is)
+
+  pub set_at : (k : ℕ) (r : RuleTree) (d : List Bool) → slice_get (trees_of p) k ≡ Some r → get_or p.set.items k d ≡ set_by (labels_in (universe_of p)) r
+  set_at k r d is =
+      ap (λ (xs : List (List Bool)). get_or xs k d) known.set
+      ∙ get_or-map (set_by (labels_in (universe_of p))) (trees_of p) k r d (slice_get_within (trees_of p) k r is)
+      ∙ ap (set_by (labels_in (universe_of p))) (get_or_from_slice_get (trees_of p) k r r is)
 
   -- a number of a name is one of a rule
   pub number_within : (name : Bytes) (k : ℕ) → Contains (numbers_of (records name) 0 (trees_of p)) k → (r : RuleTree) × (slice_get (trees_of p) k ≡ Some r)

@@ -1,15 +1,20 @@
 -- One element more of a list that is made along another.
 use Rattle.std.proofs.Common.{◌≡◌, ◌<◌, ◌+◌, ℕ, List, [], ◌∷◌, ◌++◌, map, length, take, get_or, sym, ◌∙◌, ap}
-use Rattle.std.proofs.lemmas.List.{map-append}
-use Rattle.lf_ast.specs.Rules.{RuleTree, rule_tree, rule_trees}
-use Rattle.lf_ast.specs.declared.rule.Rule.{Rule}
-use Rattle.lf_deps.proofs.RuleTrees.{trees_more}
+use Rattle.std.proofs.lemmas.List.{map_more, map_push}
 
-pub rule_more : {X : Type 0} (f : RuleTree → X) (rules : List Rule) (k : ℕ) (r : Rule) (old new : List X) (x : X) → k < length rules → r ≡ get_or rules k r → old ≡ map f (rule_trees (take k rules)) → x ≡ f (rule_tree r) → new ≡ old ++ x ∷ []
-    → new ≡ map f (rule_trees (take (k + 1) rules))
-rule_more {X = X} f rules k r old new x less is had one pushed =
-    pushed
-    ∙ ap (λ (xs : List X). xs ++ x ∷ []) had
-    ∙ ap (λ (y : X). map f (rule_trees (take k rules)) ++ y ∷ []) one
-    ∙ sym (map-append f (rule_trees (take k rules)) (rule_tree r ∷ []))
-    ∙ ap (map f) (trees_more rules k r less is)
+module _ {X Y : Type 0} (g : X → Y) (xs : List X) (k : ℕ) (x : X) (less : k < length xs) (is : x ≡ get_or xs k x) where
+  image_next : map g (take k xs) ++ g x ∷ [] ≡ map g (take (k + 1) xs)
+  image_next = ap (λ (z : X). map g (take k xs) ++ g z ∷ []) is ∙ sym (map_more g xs k x less)
+
+  -- what is made of each
+  pub one_more : (old new : List Y) (y : Y) → old ≡ map g (take k xs) → y ≡ g x → new ≡ old ++ y ∷ [] → new ≡ map g (take (k + 1) xs)
+  one_more old new y had one pushed = pushed ∙ ap (λ (ys : List Y). ys ++ y ∷ []) had ∙ ap (λ (z : Y). map g (take k xs) ++ z ∷ []) one ∙ image_next
+
+  -- and what is made of that
+  pub one_image_more : {Z : Type 0} (f : Y → Z) (old new : List Z) (z : Z) → old ≡ map f (map g (take k xs)) → z ≡ f (g x) → new ≡ old ++ z ∷ [] → new ≡ map f (map g (take (k + 1) xs))
+  one_image_more {Z = Z} f old new z had one pushed =
+      pushed
+      ∙ ap (λ (zs : List Z). zs ++ z ∷ []) had
+      ∙ ap (λ (y : Z). map f (map g (take k xs)) ++ y ∷ []) one
+      ∙ sym (map_push f (map g (take k xs)) (g x))
+      ∙ ap (map f) image_next

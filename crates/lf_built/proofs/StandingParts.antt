@@ -14,9 +14,12 @@ use Rattle.lf_semantics.specs.Environments.{Covers, recorded_row}
 use Rattle.lf_semantics.specs.Parts.{is_scalar_part}
 use Rattle.lf_semantics.specs.RowTable.{row_of}
 use Rattle.lf_semantics.proofs.NormalizedRows.{recorded_row_is, row_is}
+use Rattle.lf_trials.specs.Candidates.{labels_in}
+use Rattle.lf_built.specs.declared.marking.NodeMarks.{NodeMarks}
 use Rattle.lf_built.specs.declared.prepared.Prepared.{Prepared}
 use Rattle.lf_built.specs.declared.spots.Spot.{Spot}
 use Rattle.lf_built.specs.views.Indexed.{IsPrepared, env_of, forks_of, trees_of, universe_of}
+use Rattle.lf_built.specs.views.Marking.{marks_at}
 use Rattle.lf_built.specs.views.PartRows.{PartRows, part_rows}
 use Rattle.lf_built.specs.views.Places.{StandsFrom, size}
 use Rattle.lf_built.specs.views.Spots.{IsSpot, tree_at}
@@ -78,6 +81,23 @@ module _ (p : Prepared) (known : IsPrepared p) where
 
       pub fork_told : get_or x.forks spot.place false ≡ forks_of p (tree_at spot)
       fork_told = ap (λ (y : PartRows). get_or y.forks spot.place false) (told x e) ∙ looked_up (forks_of p) false
+
+    -- what is marked for it
+    abbrev Marked : RuleTree → List NodeMarks
+    Marked r = map (marks_at (labels_in (universe_of p))) (nodes r.expr)
+
+    pub marked_there : spot.rule < length p.marks.items
+    marked_there = subst (λ (n : ℕ). spot.rule < n) (sym (ap length known.marks ∙ length-map (trees_of p) Marked)) in_trees
+
+    module _ (x : List NodeMarks) (e : x ≡ get_or p.marks.items spot.rule x) where
+      marked : x ≡ Marked is.0
+      marked = e ∙ ap (λ (xs : List (List NodeMarks)). get_or xs spot.rule x) known.marks ∙ get_or-map Marked (trees_of p) spot.rule is.0 x in_trees ∙ ap Marked (get_or_from_slice_get (trees_of p) spot.rule is.0 is.0 is.1)
+
+      pub marks_within : spot.place < length x
+      marks_within = subst (λ (y : List NodeMarks). spot.place < length y) (sym marked) (within_map (marks_at (labels_in (universe_of p))))
+
+      pub marks_told : (marks : NodeMarks) → marks ≡ get_or x spot.place marks → marks ≡ marks_at (labels_in (universe_of p)) (tree_at spot)
+      marks_told marks read = read ∙ ap (λ (y : List NodeMarks). get_or y spot.place marks) marked ∙ looked_up (marks_at (labels_in (universe_of p))) marks
 
     -- the universe covers it
     pub covered : Covers (universe_of p) (tree_at spot)

@@ -33,6 +33,10 @@ pub stands_some : (u : Listing) (texts : List (Option ℕ)) (o : Option Given) �
 stands_some u texts None h = absurd h
 stands_some u texts (Some D) h = (D, refl, h)
 
+pub stands_none : (u : Listing) (o : Option Given) → StandsFor u None o → o ≡ None
+stands_none u None h = refl
+stands_none u (Some D) h = absurd h
+
 -- no world
 
 pub none_at_all : (most : ℕ) (whole : Option Building) → whole ≡ None → NoWorld most whole

@@ -5,6 +5,7 @@ pub mod Counts
 pub mod Fitting
 pub mod Indexed
 pub mod Marked
+pub mod Marking
 pub mod PartRows
 pub mod Places
 pub mod Recorders

@@ -7,6 +7,7 @@ mod built;
 mod fitting;
 mod handing;
 mod made;
+mod marking;
 mod marks;
 mod once;
 mod operands;

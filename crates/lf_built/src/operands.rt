@@ -1,41 +1,46 @@
 //! The texts that operands get.
-ghost use Rattle.std.specs.Prelude.{◌≡◌, ◌||◌, not, codes, length};
+ghost use Rattle.std.specs.Prelude.{◌≡◌, Bool, codes, length, map};
 ghost use Rattle.std.specs.Str.{bytes_eq};
+ghost use Rattle.lf_ast.specs.Labels.{Bytes};
 ghost use Rattle.lf_ast.specs.Tree.{trees};
+ghost use Rattle.lf_ast.specs.declared.expr.Grouping.{Grouping};
 ghost use Rattle.lf_classes.specs.Limits.{IsWithin};
-ghost use Rattle.lf_semantics.specs.Grouped.{is_grouped_by};
 ghost use Rattle.lf_semantics.specs.Listing.{Listing};
 ghost use Rattle.lf_trials.specs.Candidates.{labels_in};
 ghost use Rattle.lf_trials.specs.Given.{Given, giving, losing};
 ghost use Rattle.lf_trials.specs.Operands.{losing_name};
 ghost use Rattle.lf_candidates.specs.views.ClassTexts.{KnowsBuckets, Stands, StandsFor};
+ghost use Rattle.lf_built.specs.views.Marking.{effect_lost};
 ghost use Rattle.lf_built.specs.views.Tasks.{effect_texts, nameless_if};
 
-use lf_ast::{Expr, Grouping, LabelEffect, text_at};
+use crate::sides::unless_dropped;
+use lf_ast::{Expr, LabelEffect, text_at};
 use lf_base::Text;
-use lf_candidates::{LabelTexts, MetricName, OneLabel, OutsideCount, OutsideGroup};
+use lf_candidates::{LabelTexts, MetricName, OneLabel};
 use lf_classes::Universe;
 
 /// The texts that the operand of a function or an aggregation with this effect gets, and none where nothing is built. The names are those of the labels, in their order.
+/// Where the effect goes by a group, the labels that the operand doesn't get are marked as lost.
 pub fn operand_texts(
     universe: &Universe,
     names: &[Text],
     effect: LabelEffect,
-    grouping: &Grouping,
+    lost: &[bool],
     args: &[Expr],
     texts: LabelTexts,
 ) -> Option<LabelTexts>
     requires universe { IsWithin universe.now }
     requires names { names.now ≡ labels_in universe.now }
     requires count { length texts ≡ length names.now }
+    requires lost { (grouping : Grouping) × (lost.now ≡ effect_lost names.now effect grouping (trees args.now)) }
     requires buckets { effect ≡ LabelEffect.HistogramQuantile → KnowsBuckets universe.now }
-    ensures { (D : Given) → Stands universe.now texts D → StandsFor universe.now result (effect_texts effect grouping.now (trees args.now) D) }
+    ensures { (grouping : Grouping) (D : Given) → lost.now ≡ effect_lost names.now effect grouping (trees args.now) → Stands universe.now texts D → StandsFor universe.now result (effect_texts effect grouping (trees args.now) D) }
 {
     match effect {
         LabelEffect::Maps => Some(without_name(names, texts)),
         LabelEffect::Keeps => Some(texts),
-        LabelEffect::Groups => Some(in_group(names, grouping, texts)),
-        LabelEffect::CountValues => Some(counted(names, text_at(args, 0), grouping, texts)),
+        LabelEffect::Groups => Some(without_marked(lost, texts)),
+        LabelEffect::CountValues => Some(without_marked(lost, texts)),
         LabelEffect::Date => match args {
             [] => None,
             [_, ..] => Some(without_name(names, texts)),
@@ -80,21 +85,15 @@ fn without_label(names: &[Text], name: &str, mut texts: LabelTexts) -> LabelText
     texts
 }
 
-/// Texts of the labels of a group.
-fn in_group(names: &[Text], grouping: &Grouping, mut texts: LabelTexts) -> LabelTexts
-    requires { length texts ≡ length names.now }
-    ensures { (u : Listing) (D : Given) → IsWithin u → names.now ≡ labels_in u → Stands u texts D → Stands u result (losing (λ label. not (is_grouped_by grouping.now label)) D) }
+/// Texts without the labels that are marked.
+pub fn without_marked(marks: &[bool], mut texts: LabelTexts) -> LabelTexts
+    requires { length texts ≡ length marks.now }
+    ensures { (u : Listing) (lost : Bytes → Bool) (D : Given) → IsWithin u → marks.now ≡ map lost (labels_in u) → Stands u texts D → Stands u result (losing lost D) }
 {
-    texts.lose(names, &OutsideGroup { grouping });
-    texts
-}
-
-/// Texts of the labels of a group, without the label of `count_values`.
-fn counted(names: &[Text], name: &str, grouping: &Grouping, mut texts: LabelTexts) -> LabelTexts
-    requires { length texts ≡ length names.now }
-    ensures { (u : Listing) (D : Given) → IsWithin u → names.now ≡ labels_in u → Stands u texts D → Stands u result (losing (λ label. bytes_eq label name.now || not (is_grouped_by grouping.now label)) D) }
-{
-    texts.lose(names, &OutsideCount { name, grouping });
+    for label in 0..marks.len() {
+        let lost = marks[label];
+        texts.put(label, unless_dropped(lost, texts.get(label)));
+    }
     texts
 }
 

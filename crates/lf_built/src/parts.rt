@@ -2,6 +2,8 @@
 ghost use Rattle.std.specs.Prelude.{◌≡◌, ◌∷◌, ◌+◌, [], Some, cond, not, slice_get, take, IfOk};
 ghost use Rattle.std.specs.List.{sum_by};
 ghost use Rattle.lf_ast.specs.Functions.{called_by};
+ghost use Rattle.lf_ast.specs.declared.expr.Matching.{Matching};
+ghost use Rattle.lf_ast.specs.declared.expr.Op.{Op};
 ghost use Rattle.lf_ast.specs.Tree.{Tree, list, parts_of, trees};
 ghost use Rattle.lf_semantics.specs.Grouped.{is_filter};
 ghost use Rattle.lf_semantics.specs.Parts.{is_scalar_part};
@@ -9,6 +11,7 @@ ghost use Rattle.lf_semantics.specs.RowTable.{row_of};
 ghost use Rattle.lf_trials.specs.Given.{Given, holds_texts};
 ghost use Rattle.lf_candidates.specs.views.ClassTexts.{Stands};
 ghost use Rattle.lf_built.specs.views.Indexed.{IsPrepared, env_of, trees_of, universe_of};
+ghost use Rattle.lf_built.specs.views.Marking.{arguments_of, grouping_of, operator_of};
 ghost use Rattle.lf_built.specs.views.Places.{size};
 ghost use Rattle.lf_built.specs.views.Spots.{IsPartSpot, IsSpot, tree_at};
 ghost use Rattle.lf_built.specs.views.Tasks.{binary_wanted, call_wanted, match_wanted, nameless_if, one_wanted, operator_wanted, parts_wanted, want};
@@ -20,7 +23,7 @@ use crate::sides::side_texts;
 use crate::spots::Spot;
 use crate::work::Parts;
 use lf_ast::walk::part_at;
-use lf_ast::{Expr, Function, Grouping, Matching, Op};
+use lf_ast::{Expr, Function, Matching, Op};
 use lf_base::Memory;
 use lf_candidates::LabelTexts;
 use lf_nodes::{is_filter, operand_place};
@@ -48,12 +51,8 @@ impl<'a> Prepared<'a> {
                 Ok(self.one(spot, 0, texts))
             }
             Expr::Binary { op, modifier, .. } => self.sides(spot, *op, modifier, texts),
-            Expr::Call { args, .. } => {
-                Ok(self.operand(spot, &Grouping::None, args.as_slice(), texts))
-            }
-            Expr::Aggregate { grouping, args, .. } => {
-                Ok(self.operand(spot, grouping, args.as_slice(), texts))
-            }
+            Expr::Call { args, .. } => Ok(self.operand(spot, args.as_slice(), texts)),
+            Expr::Aggregate { args, .. } => Ok(self.operand(spot, args.as_slice(), texts)),
         }
     }
 
@@ -67,6 +66,7 @@ impl<'a> Prepared<'a> {
     ) -> Result<Option<Parts<'a>>, Memory>
         requires known { IsPrepared self.now }
         requires spot { IsSpot (trees_of self.now) spot.now }
+        requires own { operator_of (tree_at spot.now) ≡ Some (op, matching.now) }
         requires sides { (l : Tree) × (r : Tree) × (parts_of (tree_at spot.now) ≡ l ∷ r ∷ []) }
         requires texts { (D : Given) × Stands (universe_of self.now) texts D }
         ensures { (l r : Tree) (D : Given) → parts_of (tree_at spot.now) ≡ l ∷ r ∷ [] → Stands (universe_of self.now) texts D → IfOk result (AreParts self.now (tree_at spot.now) (binary_wanted (universe_of self.now) (env_of self.now) op matching.now (is_scalar_part l) (is_scalar_part r) l r D)) }
@@ -77,7 +77,7 @@ impl<'a> Prepared<'a> {
             (true, true) => Ok(Some(Parts::Nothing)),
             (false, true) => Ok(self.beside_scalar(spot, 0, op, matching, texts)),
             (true, false) => Ok(self.beside_scalar(spot, 1, op, matching, texts)),
-            (false, false) => self.operator(spot, op, matching, left, right, texts),
+            (false, false) => self.operator(spot, op, left, right, texts),
         }
     }
 
@@ -105,23 +105,23 @@ impl<'a> Prepared<'a> {
         &self,
         spot: &Spot<'a>,
         op: Op,
-        matching: &Matching,
         left: Spot<'a>,
         right: Spot<'a>,
         texts: LabelTexts,
     ) -> Result<Option<Parts<'a>>, Memory>
         requires known { IsPrepared self.now }
         requires spot { IsSpot (trees_of self.now) spot.now }
+        requires own { (m : Matching) × (operator_of (tree_at spot.now) ≡ Some (op, m)) }
         requires left { IsSpot (trees_of self.now) left }
         requires right { IsSpot (trees_of self.now) right }
         requires sides { parts_of (tree_at spot.now) ≡ tree_at left ∷ tree_at right ∷ [] }
         requires texts { (D : Given) × Stands (universe_of self.now) texts D }
-        ensures { (D : Given) → Stands (universe_of self.now) texts D → IfOk result (AreParts self.now (tree_at spot.now) (operator_wanted (universe_of self.now) (env_of self.now) op matching.now (tree_at left.entry) (tree_at right.entry) D)) }
+        ensures { (m : Matching) (D : Given) → operator_of (tree_at spot.now) ≡ Some (op, m) → Stands (universe_of self.now) texts D → IfOk result (AreParts self.now (tree_at spot.now) (operator_wanted (universe_of self.now) (env_of self.now) op m (tree_at left.entry) (tree_at right.entry) D)) }
     {
         match op {
             Op::Or => Ok(self.either(spot, &left, texts)),
             Op::Unless => Ok(self.one(spot, 0, texts)),
-            _ => self.matched(spot, op, matching, left, right, texts),
+            _ => self.matched(spot, left, right, texts),
         }
     }
 
@@ -144,32 +144,23 @@ impl<'a> Prepared<'a> {
     fn matched(
         &self,
         spot: &Spot<'a>,
-        op: Op,
-        matching: &Matching,
         left: Spot<'a>,
         right: Spot<'a>,
         texts: LabelTexts,
     ) -> Result<Option<Parts<'a>>, Memory>
         requires known { IsPrepared self.now }
         requires spot { IsSpot (trees_of self.now) spot.now }
+        requires own { (op : Op) × (m : Matching) × (operator_of (tree_at spot.now) ≡ Some (op, m)) }
         requires left { IsSpot (trees_of self.now) left }
         requires right { IsSpot (trees_of self.now) right }
         requires sides { parts_of (tree_at spot.now) ≡ tree_at left ∷ tree_at right ∷ [] }
         requires texts { (D : Given) × Stands (universe_of self.now) texts D }
-        ensures { (D : Given) → Stands (universe_of self.now) texts D → IfOk result (AreParts self.now (tree_at spot.now) (match_wanted (universe_of self.now) (env_of self.now) op matching.now (tree_at left.entry) (tree_at right.entry) D)) }
+        ensures { (op : Op) (m : Matching) (D : Given) → operator_of (tree_at spot.now) ≡ Some (op, m) → Stands (universe_of self.now) texts D → IfOk result (AreParts self.now (tree_at spot.now) (match_wanted (universe_of self.now) (env_of self.now) op m (tree_at left.entry) (tree_at right.entry) D)) }
     {
-        let names = self.names.as_slice();
+        let marks = &self.marks(spot).sides;
         let left_row = self.row(&left);
         let right_row = self.row(&right);
-        match side_texts(
-            self.universe,
-            names,
-            op,
-            matching,
-            left_row,
-            right_row,
-            &texts,
-        )? {
+        match side_texts(self.universe, marks, left_row, right_row, &texts)? {
             Some(sides) => Ok(Some(Parts::Both {
                 left,
                 left_texts: sides.left,
@@ -181,22 +172,18 @@ impl<'a> Prepared<'a> {
     }
 
     /// The operand of a function or an aggregation, if it is to be built.
-    fn operand(
-        &self,
-        spot: &Spot<'a>,
-        grouping: &Grouping,
-        args: &[Expr],
-        texts: LabelTexts,
-    ) -> Option<Parts<'a>>
+    fn operand(&self, spot: &Spot<'a>, args: &[Expr], texts: LabelTexts) -> Option<Parts<'a>>
         requires known { IsPrepared self.now }
         requires spot { IsSpot (trees_of self.now) spot.now }
-        requires args { parts_of (tree_at spot.now) ≡ list (trees args.now) }
+        requires parts { parts_of (tree_at spot.now) ≡ list (trees args.now) }
+        requires args { arguments_of (tree_at spot.now) ≡ trees args.now }
         requires texts { (D : Given) × Stands (universe_of self.now) texts D }
-        ensures { (D : Given) → Stands (universe_of self.now) texts D → AreParts self.now (tree_at spot.now) (call_wanted (called_by (tree_at spot.now)) grouping.now (trees args.now) D) result }
+        ensures { (D : Given) → Stands (universe_of self.now) texts D → AreParts self.now (tree_at spot.now) (call_wanted (called_by (tree_at spot.now)) (grouping_of (tree_at spot.now)) (trees args.now) D) result }
     {
         let function = Function::called_by(spot.expr)?;
         let names = self.names.as_slice();
-        match operand_texts(self.universe, names, function.labels, grouping, args, texts) {
+        let lost = self.marks(spot).lost.as_slice();
+        match operand_texts(self.universe, names, function.labels, lost, args, texts) {
             Some(texts) => self.one(spot, operand_place(function.takes), texts),
             None => Some(Parts::Nothing),
         }

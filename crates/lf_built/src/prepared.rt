@@ -9,11 +9,14 @@ ghost use Rattle.lf_semantics.specs.Parts.{is_scalar_part};
 ghost use Rattle.lf_semantics.specs.RowTable.{row_of};
 ghost use Rattle.lf_forks.specs.views.ForkTests.{has_passing};
 ghost use Rattle.lf_forks.specs.views.Holding.{test_of};
+ghost use Rattle.lf_trials.specs.Candidates.{labels_in};
 ghost use Rattle.lf_built.specs.views.Indexed.{IsPrepared, IsPreparedFor, env_of, forks_of, trees_of, universe_of};
+ghost use Rattle.lf_built.specs.views.Marking.{marks_at, set_by};
 ghost use Rattle.lf_built.specs.views.PartRows.{part_rows as rows_of_parts};
 ghost use Rattle.lf_built.specs.views.Places.{size};
 ghost use Rattle.lf_built.specs.views.Spots.{IsSpot, tree_at};
 
+use crate::marking::{NodeMarks, marks_in_rules, set_by_rules};
 use crate::part_rows::PartRows;
 use crate::recorders::Recorders;
 use crate::spots::Spot;
@@ -33,8 +36,8 @@ const METRIC: u32 = 0;
 /// How many names of a rule are taken to be those of its rows. A row that has none of them takes a look at each in vain, and a rule may select thousands.
 const MOST_LIKELY: usize = 8;
 
-/// What the built worlds of rules share: the names of the labels, the rules of each recorded name, what is told of the parts of each rule's expression, and the rows of each
-/// rule and of what it stores.
+/// What the built worlds of rules share: the names of the labels, the rules of each recorded name, what is told of the parts of each rule's expression, what is
+/// marked of the labels for these parts and for each rule, and the rows of each rule and of what it stores.
 #[derive(Drop)]
 pub struct Prepared<'a> {
     pub(crate) universe: &'a Universe,
@@ -45,6 +48,8 @@ pub struct Prepared<'a> {
     pub(crate) names: Vec<Text>,
     pub(crate) recorders: Recorders,
     pub(crate) parts: Vec<PartRows>,
+    pub(crate) marks: Vec<Seq<NodeMarks>>,
+    pub(crate) set: Vec<Seq<bool>>,
     pub(crate) rows: Vec<Row>,
     pub(crate) recorded: Vec<Row>,
 }
@@ -82,12 +87,16 @@ impl<'a> Prepared<'a> {
     {
         let _labels = universe.labels();
         let names = label_names(alloc, universe)?;
+        let labels = names.as_slice();
+        let all = rules.as_slice();
+        let marks = marks_in_rules(alloc, labels, all)?;
+        let set = set_by_rules(alloc, labels, all)?;
         let recorders = Recorders::of(alloc, rules)?;
         let RuleRows {
             parts,
             own,
             recorded,
-        } = rule_rows(alloc, universe, env, sources, forks, rules.as_slice())?;
+        } = rule_rows(alloc, universe, env, sources, forks, all)?;
         Ok(Prepared {
             universe,
             env,
@@ -97,6 +106,8 @@ impl<'a> Prepared<'a> {
             names,
             recorders,
             parts,
+            marks,
+            set,
             rows: own,
             recorded,
         })
@@ -148,6 +159,25 @@ impl<'a> Prepared<'a> {
         ensures { result ≡ forks_of self.now (tree_at spot.now) }
     {
         self.parts[spot.rule].is_fork(spot.place)
+    }
+
+    /// What is marked of the labels for an expression.
+    pub(crate) fn marks(&self, spot: &Spot<'a>) -> &NodeMarks
+        requires known { IsPrepared self.now }
+        requires spot { IsSpot (trees_of self.now) spot.now }
+        ensures { result.now ≡ marks_at (labels_in (universe_of self.now)) (tree_at spot.now) }
+    {
+        let marks = &self.marks[spot.rule];
+        marks.get(spot.place)
+    }
+
+    /// The labels that a rule sets, marked.
+    pub(crate) fn set_by(&self, rule: usize) -> &[bool]
+        requires known { IsPrepared self.now }
+        requires rule { rule < length self.now.rules.now }
+        ensures { (r : RuleTree) → slice_get (trees_of self.now) rule ≡ Some r → result.now ≡ set_by (labels_in (universe_of self.now)) r }
+    {
+        self.set[rule].as_slice()
     }
 
     /// The row of a rule.

@@ -1,20 +1,21 @@
 //! The texts that the sides of a match get.
-ghost use Rattle.std.specs.Prelude.{◌≡◌, ◌<◌, ◌&&◌, cond, length, not, is_some, true, None, IfOk};
+ghost use Rattle.std.specs.Prelude.{◌≡◌, ◌<◌, ◌&&◌, ◌||◌, cond, length, map, not, is_some, true, None, IfOk};
+ghost use Rattle.lf_ast.specs.declared.expr.Matching.{Matching};
+ghost use Rattle.lf_ast.specs.declared.expr.Op.{Op};
 ghost use Rattle.lf_classes.specs.Limits.{IsWithin};
 ghost use Rattle.lf_semantics.specs.ClassRows.{HasShape};
-ghost use Rattle.lf_semantics.specs.Grouped.{signs};
 ghost use Rattle.lf_trials.specs.Candidates.{labels_in};
 ghost use Rattle.lf_trials.specs.Given.{Given};
 ghost use Rattle.lf_trials.specs.Matched.{has_signature, side, signature_text};
 ghost use Rattle.lf_trials.specs.Sides.{drops, left_gives, right_gives};
 ghost use Rattle.lf_candidates.specs.views.ClassTexts.{Stands, StandsAt, name_at};
+ghost use Rattle.lf_built.specs.views.Marking.{side_mark};
 ghost use Rattle.lf_built.specs.views.Sides.{AreSides};
 
-use lf_ast::{Matching, Op};
-use lf_base::{Memory, Text};
-use lf_candidates::{LabelTexts, drops, first_common_class, left_gives, right_gives};
+use crate::marking::SideMark;
+use lf_base::{Memory, Seq};
+use lf_candidates::{LabelTexts, first_common_class};
 use lf_classes::{Row, Universe};
-use lf_nodes::signs;
 
 /// The texts that the left and the right side of a match get.
 #[derive(Drop)]
@@ -23,47 +24,50 @@ pub struct Sides {
     pub right: LabelTexts,
 }
 
-/// The texts that the sides of a match get, by their rows, and none where a label of the signature has no text. The names are those of the labels, in their order.
+/// The texts that the sides of a match get, by their rows, and none where a label of the signature has no text. What the match makes of each label is marked.
 pub fn side_texts(
     universe: &Universe,
-    names: &[Text],
-    op: Op,
-    matching: &Matching,
+    marks: &Seq<SideMark>,
     left_row: &Row,
     right_row: &Row,
     texts: &LabelTexts,
 ) -> Result<Option<Sides>, Memory>
     requires universe { IsWithin universe.now }
-    requires names { names.now ≡ labels_in universe.now }
+    requires marks { (op : Op) × (m : Matching) × (marks.now ≡ map (side_mark op m) (labels_in universe.now)) }
     requires left { HasShape universe.now left_row.now }
     requires right { HasShape universe.now right_row.now }
     requires count { length texts.now ≡ length universe.now.named }
-    ensures { (D : Given) → Stands universe.now texts.now D → IfOk result (AreSides universe.now (has_signature universe.now op matching.now left_row.now right_row.now D) (side universe.now (left_gives op matching.now) op matching.now left_row.now right_row.now D) (side universe.now (right_gives op matching.now) op matching.now left_row.now right_row.now D)) }
+    ensures { (op : Op) (m : Matching) (D : Given) → marks.now ≡ map (side_mark op m) (labels_in universe.now) → Stands universe.now texts.now D → IfOk result (AreSides universe.now (has_signature universe.now op m left_row.now right_row.now D) (side universe.now (left_gives op m) op m left_row.now right_row.now D) (side universe.now (right_gives op m) op m left_row.now right_row.now D)) }
 {
     let mut left = texts.copy()?;
     let mut right = texts.copy()?;
     for label in 0..universe.labels() {
         let place = label as usize;
-        let name = names[place].as_str();
+        let mark = marks.get(place);
         let class = texts.get(place);
-        let is_signed = signs(matching, name);
-        let dropped = drops(op, matching, name);
         let signature = signature_class(
-            universe, left_row, right_row, is_signed, dropped, label, class,
+            universe,
+            left_row,
+            right_row,
+            mark.signed,
+            is_dropped(mark),
+            label,
+            class,
         );
-        if lacks_text(is_signed, signature) {
+        if lacks_text(mark.signed, signature) {
             return Ok(None);
         }
-        left.put(
-            place,
-            side_class(is_signed, signature, left_gives(op, matching, name), class),
-        );
-        right.put(
-            place,
-            side_class(is_signed, signature, right_gives(op, matching, name), class),
-        );
+        left.put(place, side_class(mark.signed, signature, mark.left, class));
+        right.put(place, side_class(mark.signed, signature, mark.right, class));
     }
     Ok(Some(Sides { left, right }))
+}
+
+/// Whether the result drops a label: neither side gives it.
+fn is_dropped(mark: &SideMark) -> bool
+    ensures { result ≡ not (mark.now.left || mark.now.right) }
+{
+    !(mark.left || mark.right)
 }
 
 /// The class of a label of the signature: what is said of the label, or, if the result drops it or nothing is said, its first candidate in the rows of both sides. Of
@@ -93,7 +97,7 @@ fn signature_class(
 }
 
 /// What is said of a label, but nothing where the result drops it.
-fn unless_dropped(dropped: bool, class: Option<u32>) -> Option<u32>
+pub fn unless_dropped(dropped: bool, class: Option<u32>) -> Option<u32>
     ensures { result ≡ cond dropped None class }
 {
     if dropped { None } else { class }

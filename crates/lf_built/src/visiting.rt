@@ -16,13 +16,14 @@ ghost use Rattle.lf_built.specs.views.Spots.{IsSelector, IsSpot, tree_at};
 ghost use Rattle.lf_built.specs.views.Tasks.{IsNoSelector, parts_wanted};
 ghost use Rattle.lf_built.specs.views.Works.{AreTasks, GoesOn, IsEntered, Leaves, LeavesBehind, all_of, by_rule_of, effort, expression_of, marks_of, outcome_of, selector_of, so_far, stack_of, weight};
 
+use crate::operands::without_marked;
 use crate::prepared::Prepared;
 use crate::series::{series_named, series_unnamed};
 use crate::spots::Spot;
 use crate::work::{Pending, Work, push_parts};
 use lf_ast::{Expr, LabelSet, Matcher, selected_name};
 use lf_base::{Memory, Text};
-use lf_candidates::{LabelTexts, SetByRule, is_recorded};
+use lf_candidates::{LabelTexts, is_recorded};
 use lf_graph::one_more;
 use std::alloc::Global;
 
@@ -206,7 +207,7 @@ impl<'a> Prepared<'a> {
     }
 
     /// Marks a rule, and puts its expression onto the stack, and its step before it. What the rule sets, the expression needn't give.
-    fn enter(&self, number: usize, mut texts: LabelTexts, work: &mut Work<'a>) -> Result<(), Memory>
+    fn enter(&self, number: usize, texts: LabelTexts, work: &mut Work<'a>) -> Result<(), Memory>
         requires known { IsPrepared self.now }
         requires number { number < length self.now.rules.now }
         requires free { is_marked (marks_of work.old) number ≡ false }
@@ -215,15 +216,11 @@ impl<'a> Prepared<'a> {
         requires texts { (D : Given) × Stands (universe_of self.now) texts D }
         ensures { (D : Given) → Stands (universe_of self.now) texts D → OnOk result (IsEntered self.now number D work.old work.new) }
     {
-        let rule = self.rules.get(number);
-        let choice = SetByRule {
-            labels: rule.labels.as_slice(),
-        };
-        texts.lose(self.names.as_slice(), &choice);
+        let texts = without_marked(self.set_by(number), texts);
         let spot = Spot {
             rule: number,
             place: 0,
-            expr: &rule.expr,
+            expr: &self.rules.get(number).expr,
         };
         work.made.add_selector();
         work.unmarked -= 1;

@@ -1,18 +1,34 @@
-use Rattle.std.proofs.Common.{◌≡◌, ◌<◌, ◌≤◌, ◌+◌, ◌&&◌, ◌||◌, ℕ, Bool, true, List, [], length, not, refl, sym, ap, subst, ◌∙◌, arith}
+use Rattle.std.proofs.Common.{◌≡◌, ◌<◌, ◌≤◌, ◌+◌, ◌&&◌, ◌||◌, ℕ, Bool, true, List, [], length, map, not, get_or, refl, sym, ap, subst, ◌∙◌, arith}
 use Rattle.std.specs.Prelude.{is_some}
 use Rattle.std.specs.List.{list_all}
-use Rattle.std.proofs.lemmas.List.{length-set, take_all}
+use Rattle.std.proofs.lemmas.List.{get_or-map, length-map, length-set, take_all}
 use Rattle.std.proofs.lemmas.List.Folds.{list_all_more}
 use Rattle.lf_ast.specs.Labels.{Bytes}
+use Rattle.lf_ast.specs.declared.expr.Matching.{Matching}
+use Rattle.lf_ast.specs.declared.expr.Op.{Op}
 use Rattle.lf_semantics.specs.Grouped.{signs}
+use Rattle.lf_semantics.specs.Listing.{Listing}
 use Rattle.lf_trials.specs.Candidates.{labels_in}
 use Rattle.lf_trials.specs.Given.{Given}
 use Rattle.lf_trials.specs.Matched.{side, signature_text}
-use Rattle.lf_trials.specs.Sides.{drops, left_gives, right_gives}
+use Rattle.lf_trials.specs.Sides.{left_gives, right_gives}
 use Rattle.lf_candidates.specs.views.ClassTexts.{StandsAt, StandsBefore, name_at}
-use Rattle.lf_candidates.proofs.Standing.{all_stand, fails_at, label_count, name_read, none_yet, one_stands}
+use Rattle.lf_candidates.proofs.Standing.{all_stand, fails_at, label_count, none_yet, one_stands}
+use Rattle.lf_built.specs.declared.marking.SideMark.{SideMark}
+use Rattle.lf_built.specs.views.Marking.{side_mark}
 use Rattle.lf_built.proofs.SideTexts.{side_now, text_told}
 use Rattle.lf_built.proofs.sides.side_texts.Goals as goal
+
+-- the mark at a label's place is that of the label
+mark_at : (u : Listing) (op : Op) (m : Matching) (marks : List SideMark) (label : ℕ) (mark : SideMark) → marks ≡ map (side_mark op m) (labels_in u) → label < length (labels_in u) → mark ≡ get_or marks label mark → mark ≡ side_mark op m (name_at u label)
+mark_at u op m marks label mark are listed is = is ∙ ap (λ (xs : List SideMark). get_or xs label mark) are ∙ get_or-map (side_mark op m) (labels_in u) label [] mark listed
+
+pub get-mark-requires : goal.get-mark-requires
+get-mark-requires c =
+    let u = c.args.universe.now in
+    let marks = c.requires.marks in
+    let many = ap length marks.2 ∙ length-map (labels_in u) (side_mark marks.0 marks.1) in
+    omega (arith, many, label_count u c.requires.universe, c.loop-label-test.true, c.labels-label-end.ensures.count)
 
 pub loop-label-init : goal.loop-label-init
 loop-label-init c =
@@ -21,17 +37,15 @@ loop-label-init c =
     record {
       left_count = ap length c.in_ok-left.ensures;
       right_count = ap length c.in_ok-right.ensures;
-      signed = λ D stands. refl;
-      left = λ D stands. subst (λ classes. StandsBefore u texts 0 classes (side u (left_gives c.args.op c.args.matching.now) c.args.op c.args.matching.now c.args.left_row.now c.args.right_row.now D)) (sym c.in_ok-left.ensures) (none_yet u (side u (left_gives c.args.op c.args.matching.now) c.args.op c.args.matching.now c.args.left_row.now c.args.right_row.now D) texts);
-      right = λ D stands. subst (λ classes. StandsBefore u texts 0 classes (side u (right_gives c.args.op c.args.matching.now) c.args.op c.args.matching.now c.args.left_row.now c.args.right_row.now D)) (sym c.in_ok-right.ensures) (none_yet u (side u (right_gives c.args.op c.args.matching.now) c.args.op c.args.matching.now c.args.left_row.now c.args.right_row.now D) texts);
+      signed = λ op m D marks stands. refl;
+      left = λ op m D marks stands. subst (λ classes. StandsBefore u texts 0 classes (side u (left_gives op m) op m c.args.left_row.now c.args.right_row.now D)) (sym c.in_ok-left.ensures) (none_yet u (side u (left_gives op m) op m c.args.left_row.now c.args.right_row.now D) texts);
+      right = λ op m D marks stands. subst (λ classes. StandsBefore u texts 0 classes (side u (right_gives op m) op m c.args.left_row.now c.args.right_row.now D)) (sym c.in_ok-right.ensures) (none_yet u (side u (right_gives op m) op m c.args.left_row.now c.args.right_row.now D) texts);
     }
 
 pub returns-then-lacks_text : goal.returns-then-lacks_text
-returns-then-lacks_text c = λ D stands.
+returns-then-lacks_text c = λ op m D marks stands.
     let u = c.args.universe.now in
     let within = c.requires.universe in
-    let op = c.args.op in
-    let m = c.args.matching.now in
     let l = c.args.left_row.now in
     let r = c.args.right_row.now in
     let label : ℕ = c.loop-label.label in
@@ -39,23 +53,21 @@ returns-then-lacks_text c = λ D stands.
     let test : Bytes → Bool = λ name. not (signs m name) || is_some (E name) in
     let less : label < length u.named = omega (arith, c.loop-label-test.true, c.labels-label-end.ensures.count) in
     let listed : label < length (labels_in u) = omega (arith, less, label_count u within) in
-    let read = name_read u c.args.names.now label c.index-names-place.result c.requires.names (let P : List Bytes → Type 0 = λ xs. label < length xs in subst P (sym c.requires.names) listed) c.index-names-place.is in
-    let name : c.as_str-name.result.now ≡ name_at u label = c.as_str-name.ensures ∙ read in
+    let mark : SideMark = c.get-mark.result.now in
+    let read : mark ≡ side_mark op m (name_at u label) = mark_at u op m c.args.marks.now label mark marks listed c.get-mark.ensures.read in
     let at : StandsAt u label c.get-class.result D = subst (λ o. StandsAt u label o D) (sym c.get-class.ensures) (stands.each label less) in
-    let is : c.signs-is_signed.result ≡ signs m (name_at u label) = c.signs-is_signed.ensures ∙ ap (signs m) name in
-    let signed : c.signs-is_signed.result ≡ true → StandsAt u label c.signature_class-signature.result E = λ e. c.signature_class-signature.ensures op m D e (c.drops-dropped.ensures ∙ ap (drops op m) name) at in
-    let told : test (name_at u label) ≡ not c.lacks_text.result = text_told u op m l r D label c.signs-is_signed.result c.signature_class-signature.result is signed ∙ ap not (sym c.lacks_text.ensures) in
+    let is : mark.signed ≡ signs m (name_at u label) = ap (λ (x : SideMark). x.signed) read in
+    let signed : mark.signed ≡ true → StandsAt u label c.signature_class-signature.result E = λ e. c.signature_class-signature.ensures op m D e (c.is_dropped.ensures ∙ ap (λ (x : SideMark). not (x.left || x.right)) read) at in
+    let told : test (name_at u label) ≡ not c.lacks_text.result = text_told u op m l r D label mark.signed c.signature_class-signature.result is signed ∙ ap not (sym c.lacks_text.ensures) in
     fails_at test (labels_in u) [] label listed (told ∙ ap not c.if-lacks_text.true)
 
 pub loop-label-preserved : goal.loop-label-preserved
 loop-label-preserved c = record {
   left_count = ap length c.put.ensures ∙ length-set c.loop-label.left c.loop-label.label c.side_class.result ∙ c.loop-label.invariant.left_count;
   right_count = ap length c.put-in-loop-label.ensures ∙ length-set c.loop-label.right c.loop-label.label c.side_class-in-loop-label.result ∙ c.loop-label.invariant.right_count;
-  signed = λ D stands.
+  signed = λ op m D marks stands.
       let u = c.args.universe.now in
       let within = c.requires.universe in
-      let op = c.args.op in
-      let m = c.args.matching.now in
       let l = c.args.left_row.now in
       let r = c.args.right_row.now in
       let label : ℕ = c.loop-label.label in
@@ -63,67 +75,62 @@ loop-label-preserved c = record {
       let test : Bytes → Bool = λ name. not (signs m name) || is_some (E name) in
       let less : label < length u.named = omega (arith, c.loop-label-test.true, c.labels-label-end.ensures.count) in
       let listed : label < length (labels_in u) = omega (arith, less, label_count u within) in
-      let read = name_read u c.args.names.now label c.index-names-place.result c.requires.names (let P : List Bytes → Type 0 = λ xs. label < length xs in subst P (sym c.requires.names) listed) c.index-names-place.is in
-      let name : c.as_str-name.result.now ≡ name_at u label = c.as_str-name.ensures ∙ read in
+      let mark : SideMark = c.get-mark.result.now in
+      let read : mark ≡ side_mark op m (name_at u label) = mark_at u op m c.args.marks.now label mark marks listed c.get-mark.ensures.read in
       let at : StandsAt u label c.get-class.result D = subst (λ o. StandsAt u label o D) (sym c.get-class.ensures) (stands.each label less) in
-      let is : c.signs-is_signed.result ≡ signs m (name_at u label) = c.signs-is_signed.ensures ∙ ap (signs m) name in
-      let signed : c.signs-is_signed.result ≡ true → StandsAt u label c.signature_class-signature.result E = λ e. c.signature_class-signature.ensures op m D e (c.drops-dropped.ensures ∙ ap (drops op m) name) at in
-      let told : test (name_at u label) ≡ not c.lacks_text.result = text_told u op m l r D label c.signs-is_signed.result c.signature_class-signature.result is signed ∙ ap not (sym c.lacks_text.ensures) in
-      list_all_more test (labels_in u) label [] listed ∙ ap (λ (b : Bool). b && test (name_at u label)) (c.loop-label.invariant.signed D stands) ∙ (told ∙ ap not c.if-lacks_text.false);
-  left = λ D stands.
+      let is : mark.signed ≡ signs m (name_at u label) = ap (λ (x : SideMark). x.signed) read in
+      let signed : mark.signed ≡ true → StandsAt u label c.signature_class-signature.result E = λ e. c.signature_class-signature.ensures op m D e (c.is_dropped.ensures ∙ ap (λ (x : SideMark). not (x.left || x.right)) read) at in
+      let told : test (name_at u label) ≡ not c.lacks_text.result = text_told u op m l r D label mark.signed c.signature_class-signature.result is signed ∙ ap not (sym c.lacks_text.ensures) in
+      list_all_more test (labels_in u) label [] listed ∙ ap (λ (b : Bool). b && test (name_at u label)) (c.loop-label.invariant.signed op m D marks stands) ∙ (told ∙ ap not c.if-lacks_text.false);
+  left = λ op m D marks stands.
       let u = c.args.universe.now in
       let within = c.requires.universe in
-      let op = c.args.op in
-      let m = c.args.matching.now in
       let l = c.args.left_row.now in
       let r = c.args.right_row.now in
       let label : ℕ = c.loop-label.label in
       let E : Given = signature_text u op m l r D in
       let less : label < length u.named = omega (arith, c.loop-label-test.true, c.labels-label-end.ensures.count) in
       let listed : label < length (labels_in u) = omega (arith, less, label_count u within) in
-      let read = name_read u c.args.names.now label c.index-names-place.result c.requires.names (let P : List Bytes → Type 0 = λ xs. label < length xs in subst P (sym c.requires.names) listed) c.index-names-place.is in
-      let name : c.as_str-name.result.now ≡ name_at u label = c.as_str-name.ensures ∙ read in
+      let mark : SideMark = c.get-mark.result.now in
+      let read : mark ≡ side_mark op m (name_at u label) = mark_at u op m c.args.marks.now label mark marks listed c.get-mark.ensures.read in
       let at : StandsAt u label c.get-class.result D = subst (λ o. StandsAt u label o D) (sym c.get-class.ensures) (stands.each label less) in
-      let is : c.signs-is_signed.result ≡ signs m (name_at u label) = c.signs-is_signed.ensures ∙ ap (signs m) name in
-      let signed : c.signs-is_signed.result ≡ true → StandsAt u label c.signature_class-signature.result E = λ e. c.signature_class-signature.ensures op m D e (c.drops-dropped.ensures ∙ ap (drops op m) name) at in
+      let is : mark.signed ≡ signs m (name_at u label) = ap (λ (x : SideMark). x.signed) read in
+      let signed : mark.signed ≡ true → StandsAt u label c.signature_class-signature.result E = λ e. c.signature_class-signature.ensures op m D e (c.is_dropped.ensures ∙ ap (λ (x : SideMark). not (x.left || x.right)) read) at in
       let S : Given = side u (left_gives op m) op m l r D in
-      let so_far = c.loop-label.invariant.left D stands in
+      let so_far = c.loop-label.invariant.left op m D marks stands in
       let room : label < length c.loop-label.left = omega (arith, less, so_far.count, stands.count) in
       subst (λ classes. StandsBefore u c.args.texts.now (label + 1) classes S) (sym c.put.ensures)
       (one_stands u S c.args.texts.now label c.loop-label.left c.side_class.result room so_far
-      (side_now u op m l r D label (left_gives op m) c.signs-is_signed.result c.left_gives.result c.get-class.result c.signature_class-signature.result c.side_class.result is (c.left_gives.ensures ∙ ap (left_gives op m) name) c.side_class.ensures at signed));
-  right = λ D stands.
+      (side_now u op m l r D label (left_gives op m) mark.signed mark.left c.get-class.result c.signature_class-signature.result c.side_class.result is (ap (λ (x : SideMark). x.left) read) c.side_class.ensures at signed));
+  right = λ op m D marks stands.
       let u = c.args.universe.now in
       let within = c.requires.universe in
-      let op = c.args.op in
-      let m = c.args.matching.now in
       let l = c.args.left_row.now in
       let r = c.args.right_row.now in
       let label : ℕ = c.loop-label.label in
       let E : Given = signature_text u op m l r D in
       let less : label < length u.named = omega (arith, c.loop-label-test.true, c.labels-label-end.ensures.count) in
       let listed : label < length (labels_in u) = omega (arith, less, label_count u within) in
-      let read = name_read u c.args.names.now label c.index-names-place.result c.requires.names (let P : List Bytes → Type 0 = λ xs. label < length xs in subst P (sym c.requires.names) listed) c.index-names-place.is in
-      let name : c.as_str-name.result.now ≡ name_at u label = c.as_str-name.ensures ∙ read in
+      let mark : SideMark = c.get-mark.result.now in
+      let read : mark ≡ side_mark op m (name_at u label) = mark_at u op m c.args.marks.now label mark marks listed c.get-mark.ensures.read in
       let at : StandsAt u label c.get-class.result D = subst (λ o. StandsAt u label o D) (sym c.get-class.ensures) (stands.each label less) in
-      let is : c.signs-is_signed.result ≡ signs m (name_at u label) = c.signs-is_signed.ensures ∙ ap (signs m) name in
-      let signed : c.signs-is_signed.result ≡ true → StandsAt u label c.signature_class-signature.result E = λ e. c.signature_class-signature.ensures op m D e (c.drops-dropped.ensures ∙ ap (drops op m) name) at in
+      let is : mark.signed ≡ signs m (name_at u label) = ap (λ (x : SideMark). x.signed) read in
+      let signed : mark.signed ≡ true → StandsAt u label c.signature_class-signature.result E = λ e. c.signature_class-signature.ensures op m D e (c.is_dropped.ensures ∙ ap (λ (x : SideMark). not (x.left || x.right)) read) at in
       let S : Given = side u (right_gives op m) op m l r D in
-      let so_far = c.loop-label.invariant.right D stands in
+      let so_far = c.loop-label.invariant.right op m D marks stands in
       let room : label < length c.loop-label.right = omega (arith, less, so_far.count, stands.count) in
       subst (λ classes. StandsBefore u c.args.texts.now (label + 1) classes S) (sym c.put-in-loop-label.ensures)
       (one_stands u S c.args.texts.now label c.loop-label.right c.side_class-in-loop-label.result room so_far
-      (side_now u op m l r D label (right_gives op m) c.signs-is_signed.result c.right_gives.result c.get-class.result c.signature_class-signature.result c.side_class-in-loop-label.result is (c.right_gives.ensures ∙ ap (right_gives op m) name) c.side_class-in-loop-label.ensures at signed));
+      (side_now u op m l r D label (right_gives op m) mark.signed mark.right c.get-class.result c.signature_class-signature.result c.side_class-in-loop-label.result is (ap (λ (x : SideMark). x.right) read) c.side_class-in-loop-label.ensures at signed));
 }
 
 pub returns : goal.returns
-returns c = λ D stands.
+returns c = λ op m D marks stands.
     let u = c.args.universe.now in
-    let m = c.args.matching.now in
-    let test : Bytes → Bool = λ name. not (signs m name) || is_some (signature_text u c.args.op m c.args.left_row.now c.args.right_row.now D name) in
+    let test : Bytes → Bool = λ name. not (signs m name) || is_some (signature_text u op m c.args.left_row.now c.args.right_row.now D name) in
     let most : length u.named ≤ c.loop-label.label = omega (arith, c.loop-label-test.false, c.labels-label-end.ensures.count) in
-    let all : list_all test (labels_in u) ≡ true = ap (list_all test) (sym (take_all c.loop-label.label (labels_in u) (omega (arith, most, label_count u c.requires.universe)))) ∙ c.loop-label.invariant.signed D stands in (
+    let all : list_all test (labels_in u) ≡ true = ap (list_all test) (sym (take_all c.loop-label.label (labels_in u) (omega (arith, most, label_count u c.requires.universe)))) ∙ c.loop-label.invariant.signed op m D marks stands in (
       all,
-      all_stand u (side u (left_gives c.args.op m) c.args.op m c.args.left_row.now c.args.right_row.now D) c.args.texts.now c.loop-label.label c.loop-label.left c.requires.count most (c.loop-label.invariant.left D stands),
-      all_stand u (side u (right_gives c.args.op m) c.args.op m c.args.left_row.now c.args.right_row.now D) c.args.texts.now c.loop-label.label c.loop-label.right c.requires.count most (c.loop-label.invariant.right D stands),
+      all_stand u (side u (left_gives op m) op m c.args.left_row.now c.args.right_row.now D) c.args.texts.now c.loop-label.label c.loop-label.left c.requires.count most (c.loop-label.invariant.left op m D marks stands),
+      all_stand u (side u (right_gives op m) op m c.args.left_row.now c.args.right_row.now D) c.args.texts.now c.loop-label.label c.loop-label.right c.requires.count most (c.loop-label.invariant.right op m D marks stands),
     )

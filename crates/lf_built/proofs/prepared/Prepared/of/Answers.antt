@@ -3,8 +3,11 @@ use Rattle.lf_ast.specs.Tree.{nodes}
 use Rattle.lf_ast.specs.Rules.{RuleTree, rule_trees}
 use Rattle.lf_ast.specs.declared.rule.Rule.{Rule}
 use Rattle.lf_semantics.specs.Environments.{recorded_row, rule_row}
+use Rattle.lf_trials.specs.Candidates.{labels_in}
 use Rattle.lf_forks.specs.views.ForkTests.{has_passing}
 use Rattle.lf_forks.specs.views.Holding.{test_of}
+use Rattle.lf_ast.specs.Labels.{Bytes}
+use Rattle.lf_built.specs.views.Marking.{marks_at, set_by}
 use Rattle.lf_built.specs.views.PartRows.{part_rows}
 use Rattle.lf_built.proofs.prepared.Prepared.of.Goals as goal
 
@@ -24,8 +27,16 @@ returns c =
         sources = c.requires.sources;
         names = c.in_ok-names.ensures;
         recorders = c.in_ok-recorders.ensures;
-        parts = c.in_ok-parts.ensures.parts ∙ ap (λ (rs : List Rule). map (λ (r : RuleTree). part_rows u env (has_passing (test_of c.args.forks.now)) (nodes r.expr)) (rule_trees rs)) c.as_slice.ensures;
-        rows = c.in_ok-parts.ensures.own ∙ ap (λ (rs : List Rule). map (rule_row u env) (rule_trees rs)) c.as_slice.ensures;
-        recorded = c.in_ok-parts.ensures.recorded ∙ ap (λ (rs : List Rule). map (recorded_row u env) (rule_trees rs)) c.as_slice.ensures;
+        parts = c.in_ok-parts.ensures.parts ∙ ap (λ (rs : List Rule). map (λ (r : RuleTree). part_rows u env (has_passing (test_of c.args.forks.now)) (nodes r.expr)) (rule_trees rs)) c.as_slice-all.ensures;
+        marks =
+            c.in_ok-marks.ensures
+            ∙ ap (λ (names : List Bytes). map (λ (r : RuleTree). map (marks_at names) (nodes r.expr)) (rule_trees c.as_slice-all.result.now)) (c.as_slice-labels.ensures.value ∙ c.in_ok-names.ensures)
+            ∙ ap (λ (rs : List Rule). map (λ (r : RuleTree). map (marks_at (labels_in u)) (nodes r.expr)) (rule_trees rs)) c.as_slice-all.ensures;
+        set =
+            c.in_ok-set.ensures
+            ∙ ap (λ (names : List Bytes). map (set_by names) (rule_trees c.as_slice-all.result.now)) (c.as_slice-labels.ensures.value ∙ c.in_ok-names.ensures)
+            ∙ ap (λ (rs : List Rule). map (set_by (labels_in u)) (rule_trees rs)) c.as_slice-all.ensures;
+        rows = c.in_ok-parts.ensures.own ∙ ap (λ (rs : List Rule). map (rule_row u env) (rule_trees rs)) c.as_slice-all.ensures;
+        recorded = c.in_ok-parts.ensures.recorded ∙ ap (λ (rs : List Rule). map (recorded_row u env) (rule_trees rs)) c.as_slice-all.ensures;
       };
     }

@@ -2,6 +2,7 @@ use Rattle.std.proofs.Common.{List, Some, sym, ◌∙◌, ap, subst}
 use Rattle.std.specs.Prelude.{slice_get}
 use Rattle.lf_ast.specs.Tree.{Tree, parts_of, tree}
 use Rattle.lf_built.specs.views.Indexed.{env_of, universe_of}
+use Rattle.lf_built.specs.views.Marking.{arguments_of, grouping_of}
 use Rattle.lf_built.specs.views.Spots.{tree_at}
 use Rattle.lf_built.specs.views.Tasks.{call_wanted, nameless_if, one_wanted, parts_wanted}
 use Rattle.lf_built.specs.views.Works.{AreParts}
@@ -15,11 +16,17 @@ use Rattle.lf_built.proofs.prepared.Prepared.parts.Goals as goal
 pub sides-requires-clause-sides : goal.sides-requires-clause-sides
 sides-requires-clause-sides c = (tree c.in-Binary.left.value, tree c.in-Binary.right.value, ap (λ (x : Expr). parts_of (tree x)) c.in-Binary.is)
 
+pub operand-requires-clause-parts : goal.operand-requires-clause-parts
+operand-requires-clause-parts c = ap parts_of (tree_call c.args.spot.now.expr.now c.in-Call.name c.in-Call.args c.in-Call.span c.in-Call.is) ∙ ap (λ (xs : List Expr). list (trees xs)) (sym c.as_slice-in-Call.ensures)
+
 pub operand-requires-clause-args : goal.operand-requires-clause-args
-operand-requires-clause-args c = ap parts_of (tree_call c.args.spot.now.expr.now c.in-Call.name c.in-Call.args c.in-Call.span c.in-Call.is) ∙ ap (λ (xs : List Expr). list (trees xs)) (sym c.as_slice-in-Call.ensures)
+operand-requires-clause-args c = ap arguments_of (tree_call c.args.spot.now.expr.now c.in-Call.name c.in-Call.args c.in-Call.span c.in-Call.is) ∙ ap trees (sym c.as_slice-in-Call.ensures)
 
 pub operand-requires-in-Aggregate-clause-args : goal.operand-requires-in-Aggregate-clause-args
-operand-requires-in-Aggregate-clause-args c = ap parts_of (tree_aggregate c.args.spot.now.expr.now c.in-Aggregate.op c.in-Aggregate.grouping c.in-Aggregate.args c.in-Aggregate.span c.in-Aggregate.is) ∙ ap (λ (xs : List Expr). list (trees xs)) (sym c.as_slice-in-Aggregate.ensures)
+operand-requires-in-Aggregate-clause-args c = ap arguments_of (tree_aggregate c.args.spot.now.expr.now c.in-Aggregate.op c.in-Aggregate.grouping c.in-Aggregate.args c.in-Aggregate.span c.in-Aggregate.is) ∙ ap trees (sym c.as_slice-in-Aggregate.ensures)
+
+pub operand-requires-in-Aggregate-clause-parts : goal.operand-requires-in-Aggregate-clause-parts
+operand-requires-in-Aggregate-clause-parts c = ap parts_of (tree_aggregate c.args.spot.now.expr.now c.in-Aggregate.op c.in-Aggregate.grouping c.in-Aggregate.args c.in-Aggregate.span c.in-Aggregate.is) ∙ ap (λ (xs : List Expr). list (trees xs)) (sym c.as_slice-in-Aggregate.ensures)
 
 pub returns-in-Subquery : goal.returns-in-Subquery
 returns-in-Subquery c D stands =
@@ -49,7 +56,7 @@ returns-in-Call c D stands =
     let is = tree_call c.args.spot.now.expr.now c.in-Call.name c.in-Call.args c.in-Call.span c.in-Call.is in
     subst (λ (t : Tree). AreParts c.args.self.now (tree_at c.args.spot.now) (parts_wanted u env t D) c.operand.result) (sym is)
     (subst (λ (xs : List Expr). AreParts c.args.self.now (tree_at c.args.spot.now) (call_wanted (function_named c.in-Call.name) Ungrouped (trees xs) D) c.operand.result) c.as_slice-in-Call.ensures
-    (subst (λ (t : Tree). AreParts c.args.self.now (tree_at c.args.spot.now) (call_wanted (called_by t) Ungrouped (trees c.as_slice-in-Call.result.now) D) c.operand.result) is (c.operand.ensures D stands)))
+    (subst (λ (t : Tree). AreParts c.args.self.now (tree_at c.args.spot.now) (call_wanted (called_by t) (grouping_of t) (trees c.as_slice-in-Call.result.now) D) c.operand.result) is (c.operand.ensures D stands)))
 
 pub returns-in-Aggregate : goal.returns-in-Aggregate
 returns-in-Aggregate c D stands =
@@ -58,4 +65,4 @@ returns-in-Aggregate c D stands =
     let is = tree_aggregate c.args.spot.now.expr.now c.in-Aggregate.op c.in-Aggregate.grouping c.in-Aggregate.args c.in-Aggregate.span c.in-Aggregate.is in
     subst (λ (t : Tree). AreParts c.args.self.now (tree_at c.args.spot.now) (parts_wanted u env t D) c.operand-in-Aggregate.result) (sym is)
     (subst (λ (xs : List Expr). AreParts c.args.self.now (tree_at c.args.spot.now) (call_wanted (Some (aggregation c.in-Aggregate.op)) c.in-Aggregate.grouping (trees xs) D) c.operand-in-Aggregate.result) c.as_slice-in-Aggregate.ensures
-    (subst (λ (t : Tree). AreParts c.args.self.now (tree_at c.args.spot.now) (call_wanted (called_by t) c.in-Aggregate.grouping (trees c.as_slice-in-Aggregate.result.now) D) c.operand-in-Aggregate.result) is (c.operand-in-Aggregate.ensures D stands)))
+    (subst (λ (t : Tree). AreParts c.args.self.now (tree_at c.args.spot.now) (call_wanted (called_by t) (grouping_of t) (trees c.as_slice-in-Aggregate.result.now) D) c.operand-in-Aggregate.result) is (c.operand-in-Aggregate.ensures D stands)))
