@@ -1,5 +1,5 @@
 -- How much the patterns of a file may count together.
-use Rattle.std.specs.Prelude.{◌≡◌, ◌+◌, ℕ, cond}
+use Rattle.std.specs.Prelude.{◌≡◌, ◌+◌, ℕ, cond, length}
 use Rattle.std.specs.List.{sum_by}
 use Rattle.lf_ast.specs.Labels.{Bytes}
 use Rattle.lf_ast.specs.Rules.{RuleTree}
@@ -13,9 +13,9 @@ use Rattle.lf_accept.specs.declared.allowance.PatternAllowance.{PatternAllowance
 abbrev pub most : ℕ
 most = 2000000
 
--- a plain pattern counts nothing, and any other 64 beside its size
+-- a plain pattern counts nothing, and any other 64 and its bytes beside its size
 abbrev pub count_of : Bytes → ℕ
-count_of pattern = cond (is_plain pattern) 0 (plus (size_of pattern) 64)
+count_of pattern = cond (is_plain pattern) 0 (plus (plus (size_of pattern) 64) (length pattern))
 
 -- what the patterns of an expression count, and those of a rule
 abbrev pub count_in : Tree → ℕ

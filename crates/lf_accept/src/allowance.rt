@@ -12,7 +12,7 @@ use std::alloc::Global;
 /// What the patterns of a file may count together.
 const MOST: u64 = 2_000_000;
 
-/// What a pattern counts beside its size.
+/// What a pattern counts beside its size and its bytes.
 const OF_EACH: u64 = 64;
 
 /// What is left of what the patterns of a file may count.
@@ -59,7 +59,8 @@ impl PatternAllowance {
     }
 }
 
-/// What a pattern counts. A plain one, which no `regex` is built of, counts nothing.
+/// What a pattern counts: its bytes too, since what takes long in some patterns, such as loops in loops, has hardly any size. A plain one, which no `regex` is built of, counts
+/// nothing.
 fn count_of(alloc: Global, pattern: &str) -> Result<u64, Memory>
     ensures { IfOk result (λ count. count ≡ count_of pattern.now) }
 {
@@ -68,5 +69,6 @@ fn count_of(alloc: Global, pattern: &str) -> Result<u64, Memory>
         return Ok(0);
     }
     let size = pattern_size(alloc, pattern)?;
-    Ok(size.saturating_add(OF_EACH))
+    let bytes = pattern.len() as u64;
+    Ok(size.saturating_add(OF_EACH).saturating_add(bytes))
 }
