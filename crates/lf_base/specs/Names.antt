@@ -51,6 +51,6 @@ is_metric_name (b ∷ bs) = begins_metric b && list_all is_in_metric bs
 abbrev pub metric : Bytes
 metric = codes "__name__"
 
--- there is a colon in a name, as recorded names have one
+-- there is a colon in a name, as recorded names have one by convention
 abbrev pub has_colon : Bytes → Bool
 has_colon name = list_any (λ b. b == 58) name

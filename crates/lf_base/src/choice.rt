@@ -1,4 +1,4 @@
-//! Of two answers.
+//! What two answers say together.
 ghost use Rattle.std.specs.Prelude.{◌≡◌, ◌||◌, ◌&&◌};
 
 /// Whether one of them is true. Both are there already, so that a loop goes on with one value and not on two ways.

@@ -5,6 +5,7 @@
 pub mod bytes;
 mod calls;
 pub mod choice;
+pub mod counts;
 mod fault;
 mod keyed;
 mod kind;

@@ -1,4 +1,5 @@
 pub mod Booleans
+pub mod Gaining
 pub mod Members
 pub mod Options
 pub mod Slices

@@ -43,7 +43,7 @@ pub trait Fold {
         ensures { IfOk result (λ made. made ≡ value self.now (tree expr.now)) };
 }
 
-/// The value of an expression. It calls no deeper for deep ones.
+/// The value of an expression. It goes by calls for 16 levels, and by frames that lie in memory below them.
 pub fn fold_up<F: Fold>(alloc: Global, fold: &F, expr: &Expr) -> Result<F::Value, Memory>
     ensures { IfOk result (λ made. made ≡ F.value fold.now (tree expr.now)) }
 {

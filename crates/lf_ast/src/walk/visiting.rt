@@ -55,7 +55,7 @@ pub trait Visitor {
     ghost steps: { (state : Self) (x : Tree) → visited state x ≡ behind (along visited between x (chosen (needed x) (parts_of x)) (before state x)) x };
 }
 
-/// Visits an expression. It calls no deeper for deep ones.
+/// Visits an expression. It goes by calls for 16 levels, and by frames that lie in memory below them.
 pub fn visit<V: Visitor>(alloc: Global, visitor: &mut V, expr: &Expr) -> Result<(), Memory>
     ensures { OnOk result (visitor.new ≡ V.visited visitor.old (tree expr.now)) }
 {
