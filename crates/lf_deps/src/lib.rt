@@ -4,6 +4,7 @@
 mod links;
 mod name_graph;
 mod number_set;
+mod numbers;
 mod ordering;
 mod queue;
 mod reaching;
@@ -13,7 +14,8 @@ mod selecting;
 mod sources;
 
 pub use name_graph::NameGraph;
+pub use numbers::{add_number, in_order};
 pub use ordering::{order, order_of, rule_number};
 pub use reading::{apart, apart_of, cyclic, cyclic_of, reach, reach_of};
 pub use selecting::{is_scalar_call, selectors};
-pub use sources::Sources;
+pub use sources::{Sources, list_rule};

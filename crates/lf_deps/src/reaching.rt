@@ -1,10 +1,11 @@
 //! The rules that record names, and names in common.
-ghost use Rattle.std.specs.Prelude.{◌≡◌, ◌<◌, ◌↔◌, ◌∷◌, [], ℕ, true, false, length, IfOk, OnOk, slice_index_or};
+ghost use Rattle.std.specs.Prelude.{◌≡◌, ◌<◌, ◌↔◌, ℕ, true, false, length, IfOk, OnOk, slice_index_or};
 ghost use Rattle.std.specs.List.{Contains};
 ghost use Rattle.lf_ast.specs.Labels.{Bytes};
 ghost use Rattle.lf_graph.specs.views.Listing.{Adds};
 ghost use Rattle.lf_deps.specs.views.Index.{makers_at};
 
+use crate::numbers::add_number;
 use crate::sources::Sources;
 use lf_base::{Memory, Seq};
 use lf_classes::TextSet;
@@ -31,29 +32,9 @@ fn add_all(found: &mut BTreeSet<u32>, numbers: &[usize]) -> Result<(), Memory>
     ensures { OnOk result (Adds numbers.now found.old.keys found.new.keys) }
 {
     for number in numbers {
-        add(found, *number)?;
+        add_number(found, *number)?;
     }
     Ok(())
-}
-
-/// Adds a number. Want of memory where it doesn't fit a `u32`.
-fn add(found: &mut BTreeSet<u32>, number: usize) -> Result<(), Memory>
-    ensures { OnOk result (Adds (number ∷ []) found.old.keys found.new.keys) }
-{
-    let Ok(number) = u32::try_from(number) else {
-        return Err(Memory);
-    };
-    let _ = found.insert(number)?;
-    Ok(())
-}
-
-/// The numbers in ascending order.
-pub(crate) fn in_order(alloc: Global, numbers: BTreeSet<u32>) -> Result<Seq<u32>, Memory>
-    ensures members { IfOk result (λ found. found ≡ numbers.keys) }
-    ensures ascending { IfOk result (λ found. (k l : ℕ) → k < l → l < length found → slice_index_or found k 0 < slice_index_or found l 0) }
-{
-    let items: Vec<u32> = numbers.into_iter().collect(alloc)?;
-    Ok(Seq::from_vec(items))
 }
 
 /// Whether no text is in both.

@@ -10,7 +10,8 @@ ghost use Rattle.lf_deps.specs.views.Sources.{IsSourcesOf};
 
 use crate::links::sources_of;
 use crate::name_graph::NameGraph;
-use crate::reaching::{have_none_common, in_order, makers_at_all};
+use crate::numbers::in_order;
+use crate::reaching::{have_none_common, makers_at_all};
 use crate::searching::names_read;
 use crate::selecting::selectors;
 use crate::sources::Sources;

@@ -97,7 +97,7 @@ impl Sources {
 }
 
 /// Puts the number of a rule behind those of the rules that record its name. An alert records none.
-fn list_rule(
+pub fn list_rule(
     alloc: Global,
     names: &mut TextSet,
     makers: &mut Buckets,

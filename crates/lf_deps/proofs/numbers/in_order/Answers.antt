@@ -1,6 +1,6 @@
 use Rattle.std.proofs.Common.{◌≡◌, ◌<◌, ℕ, List, length, get_or, sym, subst, rules}
 use Rattle.std.proofs.lemmas.Map.Keys.{below_from_sorted}
-use Rattle.lf_deps.proofs.reaching.in_order.Goals as goal
+use Rattle.lf_deps.proofs.numbers.in_order.Goals as goal
 
 pub returns-clause-ascending : goal.returns-clause-ascending
 returns-clause-ascending c =

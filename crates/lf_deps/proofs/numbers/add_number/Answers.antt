@@ -2,7 +2,7 @@ use Rattle.std.proofs.Common.{ℕ, List, ◌∙◌, ap}
 use Rattle.std.specs.BTreeSet.{insert_key}
 use Rattle.std.specs.Ordering.{nat_cmp}
 use Rattle.lf_graph.proofs.Inserting.{adds_one}
-use Rattle.lf_deps.proofs.reaching.add.Goals as goal
+use Rattle.lf_deps.proofs.numbers.add_number.Goals as goal
 
 pub returns : goal.returns
 returns c =

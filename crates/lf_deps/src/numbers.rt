@@ -1,0 +1,27 @@
+//! Numbers of rules and names, each once, in ascending order.
+ghost use Rattle.std.specs.Prelude.{◌≡◌, ◌<◌, ◌∷◌, [], ℕ, length, IfOk, OnOk, slice_index_or};
+ghost use Rattle.lf_graph.specs.views.Listing.{Adds};
+
+use lf_base::{Memory, Seq};
+use std::alloc::Global;
+use std::collections::BTreeSet;
+
+/// Adds a number. Want of memory where it doesn't fit a `u32`.
+pub fn add_number(found: &mut BTreeSet<u32>, number: usize) -> Result<(), Memory>
+    ensures { OnOk result (Adds (number ∷ []) found.old.keys found.new.keys) }
+{
+    let Ok(number) = u32::try_from(number) else {
+        return Err(Memory);
+    };
+    let _ = found.insert(number)?;
+    Ok(())
+}
+
+/// Numbers in ascending order.
+pub fn in_order(alloc: Global, numbers: BTreeSet<u32>) -> Result<Seq<u32>, Memory>
+    ensures members { IfOk result (λ found. found ≡ numbers.keys) }
+    ensures ascending { IfOk result (λ found. (k l : ℕ) → k < l → l < length found → slice_index_or found k 0 < slice_index_or found l 0) }
+{
+    let items: Vec<u32> = numbers.into_iter().collect(alloc)?;
+    Ok(Seq::from_vec(items))
+}
