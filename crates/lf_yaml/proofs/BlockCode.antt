@@ -1,5 +1,5 @@
 -- Nodes and entries, as the code reads them.
-use Rattle.std.proofs.Common.{◌≡◌, ℕ, zero, suc, ◌-◌, ◌<◌, Bool, true, false, List, [], ◌∷◌, ◌++◌, map, Some, None, Result, Ok, Err, rules, refl, ap, arith, sym, ◌∙◌, subst, inl}
+use Rattle.std.proofs.Common.{◌≡◌, ℕ, zero, suc, ◌-◌, ◌<◌, Bool, true, false, List, [], ◌∷◌, ◌++◌, map, Some, None, Result, Ok, Err, refl, ap, arith, sym, ◌∙◌, subst, inl}
 use Rattle.std.proofs.lemmas.List.{map_push}
 use Rattle.lf_base.specs.declared.kind.Kind.TheVariants.{TooDeep}
 use Rattle.lf_base.specs.declared.refusal.Refusal.{Refusal}
@@ -8,14 +8,12 @@ use Rattle.lf_base.specs.declared.fault.Fault.{Fault}
 use Rattle.lf_scalar.specs.Cells.{Value, character_fault, Fails, ◌>>=◌}
 use Rattle.lf_yaml.specs.Rows.{Row, indent}
 use Rattle.lf_yaml.specs.Heads.{is_item}
-use Rattle.lf_scalar.specs.Scalars.{value}
 use Rattle.lf_yaml.specs.Tree.{Tree, Items, Entries, pair}
 use Rattle.lf_yaml.specs.reading.Trees.{Head, Read, EntryValues, entry_of, as_sequence, as_mapping, value_on, node_at, Keys}
 use Rattle.lf_yaml.specs.views.Cursor.{rows_after}
 use Rattle.lf_yaml.specs.views.KeySets.{HasKeys}
 use Rattle.lf_yaml.specs.reading.BlockTurns.{new_key, with_key, one_entry, run_items, run_entries}
 use Rattle.lf_yaml.specs.declared.key_set.KeySet.{KeySet}
-use Rattle.lf_yaml.specs.declared.node.Node.{the_lemmas}
 use Rattle.lf_yaml.specs.declared.node.Entry.{Entry}
 use Rattle.lf_yaml.proofs.EntryRuns.{Pair, texts_of}
 use Rattle.lf_yaml.proofs.Steps.{sequence-node, mapping-node, deep-node}
@@ -77,16 +75,10 @@ entry-read read_value keys r h rs v t rest q k = ap (λ (x : Result Value Fault)
 
 -- ---- the texts of keys
 
-pub pair-key : (e : Entry) → value e.key ≡ (pair e).0
-pair-key e = search (rules, the_lemmas)
-
-key-text : (e : Entry) (text : List ℕ) → text ≡ e.key.text → text ≡ (pair e).0.text
-key-text e text h = h ∙ ap (λ (v : Value). v.text) (pair-key e)
-
 pub known-first : (set : KeySet) (e : Entry) (text : List ℕ) → text ≡ e.key.text → HasKeys set ([] ++ text ∷ []) → HasKeys set (texts_of (map pair (e ∷ [])))
-known-first set e text h k = subst (λ (x : List ℕ). HasKeys set (x ∷ [])) (key-text e text h) k
+known-first set e text h k = subst (λ (x : List ℕ). HasKeys set (x ∷ [])) h k
 
 pub known-more : (set : KeySet) (found : List Entry) (e : Entry) (text : List ℕ) → text ≡ e.key.text → HasKeys set (texts_of (map pair found) ++ text ∷ []) → HasKeys set (texts_of (map pair (found ++ e ∷ [])))
 known-more set found e text h k =
     let texts : texts_of (map pair (found ++ e ∷ [])) ≡ texts_of (map pair found) ++ (pair e).0.text ∷ [] = ap texts_of (map_push pair found e) ∙ map_push (λ (x : Pair). x.0.text) (map pair found) (pair e) in
-    subst (HasKeys set) (sym texts) (subst (λ (x : List ℕ). HasKeys set (texts_of (map pair found) ++ x ∷ [])) (key-text e text h) k)
+    subst (HasKeys set) (sym texts) (subst (λ (x : List ℕ). HasKeys set (texts_of (map pair found) ++ x ∷ [])) h k)

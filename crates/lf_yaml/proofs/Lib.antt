@@ -1,3 +1,4 @@
+pub mod TreeOf
 pub mod HeadLaws
 pub mod Ends
 pub mod FlowLines

@@ -1,12 +1,12 @@
 //! Flow collections on a row, and what may stand behind them.
-ghost use Rattle.std.specs.Prelude.{false, ◌≡◌, ℕ, suc, ◌+◌, ◌<◌, ◌≤◌, ◌^◌, [], length, get_or, map, None, Some, IfOk, MatchOption};
+ghost use Rattle.std.specs.Prelude.{false, ◌≡◌, ℕ, suc, ◌+◌, ◌<◌, ◌≤◌, ◌^◌, [], length, get_or, None, Some, IfOk, MatchOption};
 ghost use Rattle.std.specs.Str.{IsCharBoundary};
 ghost use Rattle.lf_base.specs.declared.kind.Kind.TheVariants.{NotANode};
 ghost use Rattle.lf_base.specs.Answers.{AnswersAs};
 ghost use Rattle.lf_scalar.specs.Cells.{Cell, character_fault as fault_at_of};
 ghost use Rattle.lf_scalar.specs.reading.Quoted.{wrong_behind as wrong_behind_of};
 ghost use Rattle.lf_scalar.specs.views.Built.{refused};
-ghost use Rattle.lf_yaml.specs.Tree.{tree, pair, sequence, mapping, items_of, entries_of};
+ghost use Rattle.lf_yaml.specs.Tree.{tree};
 ghost use Rattle.lf_yaml.specs.reading.Trees.{sequence_in, mapping_in, closed_list, closed_map, flow_list as flow_list_of, flow_map as flow_map_of};
 ghost use Rattle.lf_yaml.specs.views.Cursor.{rows_after, IsRowOf};
 ghost use Rattle.lf_yaml.specs.views.Shown.{shown};
@@ -14,27 +14,14 @@ ghost use Rattle.lf_yaml.specs.views.Shown.{shown};
 use crate::flow_entries::flow_entries;
 use crate::flow_items::flow_items;
 use crate::head::first_fault;
-use crate::node::{Entry, Node};
+use crate::made::{mapping_node, sequence_node};
+use crate::node::Node;
 use crate::parts::place_on;
 use crate::row::ContentLine;
 use crate::rows::lines_from;
 use crate::source::Source;
-use lf_base::{Kind, Refusal, Seq, Span};
+use lf_base::{Kind, Refusal, Span};
 use lf_scalar::lines::{fault_at, past, wrong_behind};
-
-/// A sequence.
-pub fn list_node(items: Seq<Node>, span: Span) -> Node
-    ensures { tree result ≡ sequence (items_of (map tree items)) span }
-{
-    Node::List { items, span }
-}
-
-/// A mapping.
-pub fn map_node(entries: Seq<Entry>, span: Span) -> Node
-    ensures { tree result ≡ mapping (entries_of (map pair entries)) span }
-{
-    Node::Map { entries, span }
-}
 
 /// What is told of what stands behind the bracket that closes a collection, where that isn't blanks and a comment alone.
 fn wrong_after(closing: ContentLine<'_>) -> Option<Refusal>
@@ -75,7 +62,7 @@ fn closed_sequence(
             Some(refusal) => Err(refusal),
             None => {
                 let left = lines_from(source, next, closing.at as usize + 1);
-                Ok((list_node(items, closed_span(row, closing)), left))
+                Ok((sequence_node(items, closed_span(row, closing)), left))
             }
         },
         Err(refusal) => Err(refusal),
@@ -100,7 +87,7 @@ fn closed_mapping(
             Some(refusal) => Err(refusal),
             None => {
                 let left = lines_from(source, next, closing.at as usize + 1);
-                Ok((map_node(entries, closed_span(row, closing)), left))
+                Ok((mapping_node(entries, closed_span(row, closing)), left))
             }
         },
         Err(refusal) => Err(refusal),

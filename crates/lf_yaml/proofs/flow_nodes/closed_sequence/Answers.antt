@@ -23,7 +23,7 @@ returns-in-None-clause-gives c =
     let y : c.in-Ok.closing.at + 1 ≡ suc c.in-Ok.closing.at = omega arith in
     let rest = closing-rest c.args.source.bytes.now c.in-Ok.closing _ c.in-Ok.ensures.part c.in-Ok.closing.full in
     list-none c.args.source.bytes.now (shown c.args.row) (rows_after c.args.source.bytes.now c.args.next) (shown c.in-Ok.closing).first _ _ _ _ (ap (sequence_in c.args.source.bytes.now (suc (length c.args.source.bytes.now))) (sym (c.place_on.ensures.at ∙ z)) ∙ c.in-Ok.ensures.gives)
-    (ap (wrong_behind false) (sym rest) ∙ c.in-None.ensures) (c.list_node.ensures ∙ ap (sequence (items_of (map tree c.in-Ok.items))) c.closed_span.ensures) (c.lines_from-left.ensures.rows ∙ ap (λ (n : ℕ). rows_from n (rows_after c.args.source.bytes.now c.args.next)) y)
+    (ap (wrong_behind false) (sym rest) ∙ c.in-None.ensures) (c.sequence_node.ensures ∙ ap (sequence (items_of (map tree c.in-Ok.items))) c.closed_span.ensures) (c.lines_from-left.ensures.rows ∙ ap (λ (n : ℕ). rows_from n (rows_after c.args.source.bytes.now c.args.next)) y)
 
 pub returns-in-Some-clause-gives : goal.returns-in-Some-clause-gives
 returns-in-Some-clause-gives c =
