@@ -6,7 +6,7 @@ use Rattle.lf_scalar.specs.Cells.{Cell, Value}
 use Rattle.lf_scalar.proofs.Tails.{true-false}
 use Rattle.lf_yaml.specs.Tree.{leaf, Items, no_items, item}
 use Rattle.lf_yaml.specs.Flow.{Next, at_part, broken, next_on, FlowScalar, sign_fault, SequenceIn, closes, last, more, SequenceBreaks, no_part, scalar, no_sign, sign, later}
-use Rattle.lf_yaml.specs.reading.Trees.{Part, flow_scalar, FlowRead, with_flow_item, sequence_sign, sequence_behind, sequence_part, sequence_in}
+use Rattle.lf_yaml.specs.reading.Trees.{FlowPart, flow_scalar, FlowRead, with_flow_item, sequence_sign, sequence_behind, sequence_part, sequence_in}
 use Rattle.lf_yaml.proofs.FlowParts.{part-within, part-is, part-breaks, PartTold, part-tells, part-begins, part-no-sign, scalar-within}
 
 pub differs : (x y : ℕ) → eqb x y ≡ false → x ≢ y
@@ -92,7 +92,7 @@ module _ (bytes : List ℕ) where
       by false true p q = last e h g (eqb-true d.byte 93 q)
       by false false p q = sign e h g (differs d.byte 44 p) (differs d.byte 93 q)
 
-  scalar-told : (n : ℕ) (read : Rest) (at : ℕ) (c : Cell) (cs : List Cell) → Tells n read → enough (suc n) at → next_on bytes at ≡ at_part c cs → c.byte ≢ 93 → (r : Result Part Fault) → PartTold bytes c cs r
+  scalar-told : (n : ℕ) (read : Rest) (at : ℕ) (c : Cell) (cs : List Cell) → Tells n read → enough (suc n) at → next_on bytes at ≡ at_part c cs → c.byte ≢ 93 → (r : Result FlowPart Fault) → PartTold bytes c cs r
       → SequenceTold at (sequence_behind bytes read r)
   scalar-told n read at c cs told le e ne (Ok x) h = sign-told n read at x.1 c cs x.0 told le e h (next_on bytes x.1) refl
   scalar-told n read at c cs told le e ne (Err f) h = scalar e ne h
