@@ -1,6 +1,5 @@
 -- Nodes and entries, as the code reads them.
 use Rattle.std.proofs.Common.{◌≡◌, ℕ, zero, suc, ◌-◌, ◌<◌, Bool, true, false, List, [], ◌∷◌, ◌++◌, map, Some, None, Result, Ok, Err, refl, ap, arith, sym, ◌∙◌, subst, inl}
-use Rattle.std.proofs.lemmas.List.{map_push}
 use Rattle.lf_base.specs.declared.kind.Kind.TheVariants.{TooDeep}
 use Rattle.lf_base.specs.declared.refusal.Refusal.{Refusal}
 use Rattle.lf_base.specs.declared.refusal.Refusal.TheVariants as refusal_of
@@ -15,7 +14,7 @@ use Rattle.lf_yaml.specs.views.KeySets.{HasKeys}
 use Rattle.lf_yaml.specs.reading.BlockTurns.{new_key, with_key, one_entry, run_items, run_entries}
 use Rattle.lf_yaml.specs.declared.key_set.KeySet.{KeySet}
 use Rattle.lf_yaml.specs.declared.node.Entry.{Entry}
-use Rattle.lf_yaml.proofs.EntryRuns.{Pair, texts_of}
+use Rattle.lf_yaml.proofs.Collected.{texts_of, texts-more}
 use Rattle.lf_yaml.proofs.Steps.{sequence-node, mapping-node, deep-node}
 
 module _ (bytes : List ℕ) (own : Bool) (above : ℕ) (r : ContentRow) (rs : List ContentRow) where
@@ -79,6 +78,4 @@ pub known-first : (set : KeySet) (e : Entry) (text : List ℕ) → text ≡ e.ke
 known-first set e text h k = subst (λ (x : List ℕ). HasKeys set (x ∷ [])) h k
 
 pub known-more : (set : KeySet) (found : List Entry) (e : Entry) (text : List ℕ) → text ≡ e.key.text → HasKeys set (texts_of (map pair found) ++ text ∷ []) → HasKeys set (texts_of (map pair (found ++ e ∷ [])))
-known-more set found e text h k =
-    let texts : texts_of (map pair (found ++ e ∷ [])) ≡ texts_of (map pair found) ++ (pair e).0.text ∷ [] = ap texts_of (map_push pair found e) ∙ map_push (λ (x : Pair). x.0.text) (map pair found) (pair e) in
-    subst (HasKeys set) (sym texts) (subst (λ (x : List ℕ). HasKeys set (texts_of (map pair found) ++ x ∷ [])) h k)
+known-more set found e text h k = subst (HasKeys set) (sym (texts-more found e)) (subst (λ (x : List ℕ). HasKeys set (texts_of (map pair found) ++ x ∷ [])) h k)

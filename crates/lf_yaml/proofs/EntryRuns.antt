@@ -1,6 +1,5 @@
 -- Runs of entries, as a loop reads them.
-use Rattle.std.proofs.Common.{◌≡◌, ℕ, zero, suc, ◌<◌, ◌≤◌, Bool, true, false, ltb, cond, List, [], ◌∷◌, ◌++◌, length, map, Option, Some, None, Result, Ok, Err, refl, ap, arith, sym, ◌∙◌, subst, append_assoc, inl, inr}
-use Rattle.std.proofs.lemmas.List.{map_push}
+use Rattle.std.proofs.Common.{◌≡◌, ℕ, zero, suc, ◌<◌, ◌≤◌, Bool, true, false, ltb, cond, List, [], ◌∷◌, ◌++◌, length, Option, Some, None, Result, Ok, Err, refl, ap, arith, sym, ◌∙◌, subst, append_assoc, inl, inr}
 use Rattle.std.proofs.lemmas.Bool.{ltb-true, ltb-false, cases_Bool}
 use Rattle.lf_base.specs.declared.refusal.Refusal.{Refusal}
 use Rattle.lf_base.specs.declared.refusal.Refusal.TheVariants as refusal_of
@@ -13,6 +12,7 @@ use Rattle.lf_yaml.specs.reading.Trees.{EntryHead, Read, EntryValues, entry_of, 
 use Rattle.lf_yaml.specs.reading.BlockTurns.{head_here, no_entry_fault, entry_turn, if_new, new_key, with_key, one_entry, values, run_entries}
 use Rattle.lf_yaml.proofs.BlockRows.{entry-value-rows}
 use Rattle.lf_yaml.proofs.BlockTells.{EntryValueTold, entry-value-told, node-tells, own-tells}
+use Rattle.lf_yaml.proofs.Collected.{Pair, after_entries, entries-push, entries-all, entries-err, texts_of, texts-push}
 use Rattle.lf_yaml.proofs.Ends.{end-length}
 use Rattle.lf_yaml.proofs.HeadCode.{entry-split}
 use Rattle.lf_yaml.proofs.Placed.{IsPlaced, ArePlaced}
@@ -165,28 +165,6 @@ at-entry value n m keys r h later same e =
 
 -- ---- some entries, and then what is read behind them
 
-abbrev pub Pair : Type 0
-Pair = Value × Tree
-
-abbrev pub texts_of : List Pair → Keys
-texts_of es = map (λ e. e.0.text) es
-
-abbrev pub after_entries : List Pair → Read Entries → Read Entries
-after_entries [] read = read
-after_entries (e ∷ es) read = with_entry e.0 e.1 (after_entries es read)
-
-after-push : (es : List Pair) (e : Pair) (read : Read Entries) → after_entries (es ++ e ∷ []) read ≡ after_entries es (with_entry e.0 e.1 read)
-after-push [] e read = refl
-after-push (x ∷ es) e read = ap (with_entry x.0 x.1) (after-push es e read)
-
-after-none : (es : List Pair) (rest : List ContentRow) → after_entries es (Ok (no_entries, rest)) ≡ Ok (entries_of es, rest)
-after-none [] rest = refl
-after-none (e ∷ es) rest = ap (with_entry e.0 e.1) (after-none es rest)
-
-after-err : (es : List Pair) (f : Fault) → after_entries es (Err f) ≡ Err f
-after-err [] f = refl
-after-err (e ∷ es) f = ap (with_entry e.0 e.1) (after-err es f)
-
 -- what a loop knows: the entries that it found, and then those of the rows left, are all
 pub record EntriesLeft (bytes : List ℕ) (d : ℕ) (m : ℕ) (found : List Pair) (rest : List ContentRow) (total : Read Entries) : Type 0 where
   pub turns : ℕ
@@ -231,9 +209,6 @@ module _ (bytes : List ℕ) (d : ℕ) where
   first-fails r h rs (refusal_of.At kind span) i k =
       at-entry (values bytes d (indent r)) (length (r ∷ rs)) (indent r) [] r h rs refl i ∙ ap (with_one (λ ks rows. entries (values bytes d (indent r)) (length (r ∷ rs)) (indent r) ks rows) []) k
 
-  texts-push : (found : List Pair) (x : Pair) → texts_of (found ++ x ∷ []) ≡ texts_of found ++ x.0.text ∷ []
-  texts-push found x = map_push (λ (e : Pair). e.0.text) found x
-
   one-turn : (m : ℕ) (found : List Pair) (rs : List ContentRow) (r : ContentRow) (h : EntryHead) (later : List ContentRow) (n : ℕ) (read : Read Pair) → NextEntry m rs r h later → one_entry (values bytes d m) (texts_of found) r h later ≡ read
       → entries (values bytes d m) (suc n) m (texts_of found) rs ≡ with_one (λ ks rows. entries (values bytes d m) n m ks rows) (texts_of found) read
   one-turn m found rs r h later n read next e =
@@ -252,7 +227,7 @@ module _ (bytes : List ℕ) (d : ℕ) where
             turns = n;
             enough = omega (arith, lt, ap length next.rows, entry-shorter m (texts_of found) r h later x rest here placed next.is e);
             same = ap (λ (ks : Keys). after_entries (found ++ x ∷ []) (entries (values bytes d m) n m ks rest)) (texts-push found x)
-                ∙ after-push found x (entries (values bytes d m) n m (texts_of found ++ x.0.text ∷ []) rest) ∙ ap (after_entries found) (sym one) ∙ same;
+                ∙ entries-push found x (entries (values bytes d m) n m (texts_of found ++ x.0.text ∷ []) rest) ∙ ap (after_entries found) (sym one) ∙ same;
           }
 
   pub entry-fails : (m : ℕ) (found : List Pair) (rs : List ContentRow) (r : ContentRow) (h : EntryHead) (later : List ContentRow) (total : Read Entries) (e : Refusal) → NextEntry m rs r h later → Fails e (one_entry (values bytes d m) (texts_of found) r h later)
@@ -262,7 +237,7 @@ module _ (bytes : List ℕ) (d : ℕ) where
     where
       by : (n : ℕ) → length rs < n → after_entries found (entries (values bytes d m) n m (texts_of found) rs) ≡ total → total ≡ Err (record { kind = kind; span = span })
       by zero lt same = absurd (omega (arith, lt))
-      by (suc n) lt same = sym same ∙ ap (after_entries found) (one-turn m found rs r h later n (Err (record { kind = kind; span = span })) next k) ∙ after-err found (record { kind = kind; span = span })
+      by (suc n) lt same = sym same ∙ ap (after_entries found) (one-turn m found rs r h later n (Err (record { kind = kind; span = span })) next k) ∙ entries-err found (record { kind = kind; span = span })
 
   pub turn-fails : (m : ℕ) (found : List Pair) (rs : List ContentRow) (total : Read Entries) (e : Refusal) → Fails e (entry_turn m rs) → EntriesLeft bytes d m found rs total → Fails e total
   turn-fails m found rs total refusal_of.Memory h left = tt
@@ -270,11 +245,11 @@ module _ (bytes : List ℕ) (d : ℕ) where
     where
       by : (n : ℕ) → length rs < n → after_entries found (entries (values bytes d m) n m (texts_of found) rs) ≡ total → total ≡ Err (record { kind = kind; span = span })
       by zero lt same = absurd (omega (arith, lt))
-      by (suc n) lt same = sym same ∙ ap (after_entries found) (entries-wrong (values bytes d m) n m (texts_of found) rs (record { kind = kind; span = span }) h) ∙ after-err found (record { kind = kind; span = span })
+      by (suc n) lt same = sym same ∙ ap (after_entries found) (entries-wrong (values bytes d m) n m (texts_of found) rs (record { kind = kind; span = span }) h) ∙ entries-err found (record { kind = kind; span = span })
 
   pub entries-done : (m : ℕ) (found : List Pair) (rs : List ContentRow) (total : Read Entries) → entry_turn m rs ≡ Ok None → EntriesLeft bytes d m found rs total → total ≡ Ok (entries_of found, rs)
   entries-done m found rs total e left =
-      sym left.same ∙ ap (after_entries found) (entries-end (values bytes d m) left.turns m (texts_of found) rs (omega (arith, left.enough)) (entries-over m rs e)) ∙ after-none found rs
+      sym left.same ∙ ap (after_entries found) (entries-end (values bytes d m) left.turns m (texts_of found) rs (omega (arith, left.enough)) (entries-over m rs e)) ∙ entries-all found rs
 
   -- where the code computed the indent
   pub first-entry-at : (m : ℕ) (r : ContentRow) (h : EntryHead) (rs : List ContentRow) (x : Pair) (rest : List ContentRow) → m ≡ indent r → IsPlaced bytes r → ArePlaced bytes rs → entry_of r ≡ Some h → one_entry (values bytes d m) [] r h rs ≡ Ok (x, rest)

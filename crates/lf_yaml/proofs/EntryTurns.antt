@@ -6,21 +6,18 @@ use Rattle.lf_base.specs.declared.refusal.Refusal.TheVariants as refusal_of
 use Rattle.lf_base.specs.declared.kind.Kind.TheVariants.{DoubleKey}
 use Rattle.lf_base.specs.declared.fault.Fault.{Fault}
 use Rattle.lf_scalar.specs.Cells.{Cell, Value, Fails, ◌>>=◌}
-use Rattle.lf_yaml.specs.Tree.{Tree, Entries, no_entries, entries_of, pair}
+use Rattle.lf_yaml.specs.Tree.{Tree, Entries, no_entries, pair}
 use Rattle.lf_yaml.specs.Flow.{next_on}
 use Rattle.lf_yaml.specs.reading.Trees.{FlowRead, Later, Signed, Valued, has, flow_key, flow_value, mapping_sign, value_behind, key_behind, mapping_in, Keys}
-use Rattle.lf_yaml.specs.reading.FlowTurns.{with_pair, turned_entries, entry_at, closed_entries}
+use Rattle.lf_yaml.specs.reading.FlowTurns.{turned_entries, entry_at, closed_entries}
 use Rattle.lf_yaml.specs.views.Shown.{shown}
 use Rattle.lf_yaml.specs.declared.node.Entry.{Entry}
 use Rattle.lf_yaml.specs.declared.row.ContentLine.{ContentLine}
 use Rattle.lf_yaml.specs.declared.place.FlowCursor.{FlowCursor}
 use Rattle.lf_yaml.specs.declared.turn.Turn.TheVariants as turn
+use Rattle.lf_yaml.proofs.Collected.{Pair, after_entries, entries-push, entries-all, entries-err, texts_of, texts-more}
 use Rattle.lf_yaml.proofs.Sequences.{Enough, always-enough}
 use Rattle.lf_yaml.proofs.Mappings.{mapping-is, mapping-breaks, MappingTold, mapping-tells}
-
--- the texts of the keys of some entries
-abbrev pub texts_of : List (Value × Tree) → Keys
-texts_of es = map (λ e. e.0.text) es
 
 -- ---- one entry
 
@@ -62,25 +59,6 @@ module _ (bytes : List ℕ) (later : Later) (keys : Keys) where
 
 -- ---- what is read behind some entries
 
-abbrev pub after_entries : List (Value × Tree) → FlowRead Entries → FlowRead Entries
-after_entries [] read = read
-after_entries (e ∷ es) read = with_pair e (after_entries es read)
-
-push-entries : (es : List (Value × Tree)) (e : Value × Tree) (read : FlowRead Entries) → after_entries (es ++ e ∷ []) read ≡ after_entries es (with_pair e read)
-push-entries [] e read = refl
-push-entries (u ∷ es) e read = ap (with_pair u) (push-entries es e read)
-
-all-entries : (es : List (Value × Tree)) (c : Cell) → after_entries es (Ok (no_entries, c)) ≡ Ok (entries_of es, c)
-all-entries [] c = refl
-all-entries (e ∷ es) c = ap (with_pair e) (all-entries es c)
-
-entries-err : (es : List (Value × Tree)) (f : Fault) → after_entries es (Err f) ≡ Err f
-entries-err [] f = refl
-entries-err (e ∷ es) f = ap (with_pair e) (entries-err es f)
-
-pub texts-more : (entries now : List Entry) (found : Entry) → now ≡ entries ++ found ∷ [] → texts_of (map pair now) ≡ texts_of (map pair entries) ++ (pair found).0.text ∷ []
-texts-more entries now found e = ap (λ (es : List Entry). texts_of (map pair es)) e ∙ ap texts_of (map_push pair entries found) ∙ map_push (λ (x : Value × Tree). x.0.text) (map pair entries) (pair found)
-
 module _ (bytes : List ℕ) where
   enough-entries : (n m : ℕ) (keys : Keys) (at : ℕ) → Enough (length bytes) n at → Enough (length bytes) m at → mapping_in bytes n keys at ≡ mapping_in bytes m keys at
   enough-entries n m keys at a b = by (mapping_in bytes n keys at) (mapping-tells bytes n keys at a)
@@ -106,24 +84,24 @@ module _ (bytes : List ℕ) where
     so-more = ap (after_entries (map pair entries)) (sym (one-more before at)) ∙ so_far
 
     pub entries-end : (closing : ContentLine) (next : ℕ) → more_from before at ≡ turned_entries all_from before (turn.Ends closing next) → whole ≡ Ok (closed_entries (entries, closing))
-    entries-end closing next e = sym so-more ∙ ap (after_entries (map pair entries)) e ∙ all-entries (map pair entries) (shown closing).first
+    entries-end closing next e = sym so-more ∙ ap (after_entries (map pair entries)) e ∙ entries-all (map pair entries) (shown closing).first
 
     pub entries-last : (found : Entry) (now : List Entry) (closing : ContentLine) (next : ℕ) → now ≡ entries ++ found ∷ [] → more_from before at ≡ turned_entries all_from before (turn.Last found closing next) → whole ≡ Ok (closed_entries (now, closing))
     entries-last found now closing next e t =
         let pushed : map pair now ≡ map pair entries ++ pair found ∷ [] = ap (map pair) e ∙ map_push pair entries found in
         sym so-more ∙ ap (after_entries (map pair entries)) t
-        ∙ sym (push-entries (map pair entries) (pair found) (Ok (no_entries, (shown closing).first)))
-        ∙ ap (λ (es : List (Value × Tree)). after_entries es (Ok (no_entries, (shown closing).first))) (sym pushed)
-        ∙ all-entries (map pair now) (shown closing).first
+        ∙ sym (entries-push (map pair entries) (pair found) (Ok (no_entries, (shown closing).first)))
+        ∙ ap (λ (es : List Pair). after_entries es (Ok (no_entries, (shown closing).first))) (sym pushed)
+        ∙ entries-all (map pair now) (shown closing).first
 
     pub entries-more : (found : Entry) (now : List Entry) (place : FlowCursor) → now ≡ entries ++ found ∷ [] → more_from before at ≡ turned_entries all_from before (turn.More found place)
         → after_entries (map pair now) (all_from (texts_of (map pair now)) place.at) ≡ whole
     entries-more found now place e t =
         let pushed : map pair now ≡ map pair entries ++ pair found ∷ [] = ap (map pair) e ∙ map_push pair entries found in
-        let texts : texts_of (map pair now) ≡ before ++ (pair found).0.text ∷ [] = texts-more entries now found e in
+        let texts : texts_of (map pair now) ≡ before ++ (pair found).0.text ∷ [] = ap (λ (es : List Entry). texts_of (map pair es)) e ∙ texts-more entries found in
         ap (λ (ks : Keys). after_entries (map pair now) (all_from ks place.at)) texts
-        ∙ ap (λ (es : List (Value × Tree)). after_entries es (all_from (before ++ (pair found).0.text ∷ []) place.at)) pushed
-        ∙ push-entries (map pair entries) (pair found) (all_from (before ++ (pair found).0.text ∷ []) place.at)
+        ∙ ap (λ (es : List Pair). after_entries es (all_from (before ++ (pair found).0.text ∷ []) place.at)) pushed
+        ∙ entries-push (map pair entries) (pair found) (all_from (before ++ (pair found).0.text ∷ []) place.at)
         ∙ ap (after_entries (map pair entries)) (sym t) ∙ so-more
 
     pub entries-fail : (e : Refusal) → Fails e (more_from before at) → Fails e whole

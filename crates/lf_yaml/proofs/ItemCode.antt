@@ -1,36 +1,19 @@
 -- Flow sequences, as the code reads them.
-use Rattle.std.proofs.Common.{◌≡◌, ℕ, suc, List, [], ◌∷◌, ◌++◌, length, map, Ok, Err, refl, ap, arith, sym, ◌∙◌}
+use Rattle.std.proofs.Common.{◌≡◌, ℕ, suc, List, [], ◌∷◌, ◌++◌, length, map, Ok, Err, ap, arith, sym, ◌∙◌}
 use Rattle.std.proofs.lemmas.List.{map_push}
 use Rattle.lf_base.specs.declared.refusal.Refusal.{Refusal}
 use Rattle.lf_base.specs.declared.refusal.Refusal.TheVariants as refusal_of
-use Rattle.lf_base.specs.declared.fault.Fault.{Fault}
-use Rattle.lf_scalar.specs.Cells.{Cell, Fails}
-use Rattle.lf_yaml.specs.Tree.{Tree, Items, no_items, items_of, tree}
+use Rattle.lf_scalar.specs.Cells.{Fails}
+use Rattle.lf_yaml.specs.Tree.{Tree, Items, no_items, tree}
 use Rattle.lf_yaml.specs.reading.Trees.{FlowRead, sequence_in}
-use Rattle.lf_yaml.specs.reading.FlowTurns.{with_tree, turned_items, closed_items}
+use Rattle.lf_yaml.specs.reading.FlowTurns.{turned_items, closed_items}
 use Rattle.lf_yaml.specs.views.Shown.{shown}
 use Rattle.lf_yaml.specs.declared.node.Node.{Node}
 use Rattle.lf_yaml.specs.declared.row.ContentLine.{ContentLine}
 use Rattle.lf_yaml.specs.declared.place.FlowCursor.{FlowCursor}
 use Rattle.lf_yaml.specs.declared.turn.Turn.TheVariants as turn
+use Rattle.lf_yaml.proofs.Collected.{after_items, items-push, items-all, items-err}
 use Rattle.lf_yaml.proofs.Sequences.{sequence-is, sequence-breaks, SequenceTold, sequence-tells, Enough, always-enough}
-
--- what is read behind some items
-abbrev pub after_items : List Tree → FlowRead Items → FlowRead Items
-after_items [] read = read
-after_items (t ∷ ts) read = with_tree t (after_items ts read)
-
-push-items : (ts : List Tree) (t : Tree) (read : FlowRead Items) → after_items (ts ++ t ∷ []) read ≡ after_items ts (with_tree t read)
-push-items [] t read = refl
-push-items (u ∷ ts) t read = ap (with_tree u) (push-items ts t read)
-
-all-items : (ts : List Tree) (c : Cell) → after_items ts (Ok (no_items, c)) ≡ Ok (items_of ts, c)
-all-items [] c = refl
-all-items (t ∷ ts) c = ap (with_tree t) (all-items ts c)
-
-items-err : (ts : List Tree) (f : Fault) → after_items ts (Err f) ≡ Err f
-items-err [] f = refl
-items-err (t ∷ ts) f = ap (with_tree t) (items-err ts f)
 
 module _ (bytes : List ℕ) where
   -- how many turns are granted makes no difference, where they are enough
@@ -55,20 +38,20 @@ module _ (bytes : List ℕ) where
     so-more = ap (after_items (map tree items)) (sym (one-more at)) ∙ so_far
 
     pub items-end : (closing : ContentLine) (next : ℕ) → more_from at ≡ turned_items all_from (turn.Ends closing next) → whole ≡ Ok (closed_items (items, closing))
-    items-end closing next e = sym so-more ∙ ap (after_items (map tree items)) e ∙ all-items (map tree items) (shown closing).first
+    items-end closing next e = sym so-more ∙ ap (after_items (map tree items)) e ∙ items-all (map tree items) (shown closing).first
 
     pub items-last : (found : Node) (now : List Node) (closing : ContentLine) (next : ℕ) → now ≡ items ++ found ∷ [] → more_from at ≡ turned_items all_from (turn.Last found closing next) → whole ≡ Ok (closed_items (now, closing))
     items-last found now closing next e t =
         let pushed : map tree now ≡ map tree items ++ tree found ∷ [] = ap (map tree) e ∙ map_push tree items found in
         sym so-more ∙ ap (after_items (map tree items)) t
-        ∙ sym (push-items (map tree items) (tree found) (Ok (no_items, (shown closing).first)))
+        ∙ sym (items-push (map tree items) (tree found) (Ok (no_items, (shown closing).first)))
         ∙ ap (λ (ts : List Tree). after_items ts (Ok (no_items, (shown closing).first))) (sym pushed)
-        ∙ all-items (map tree now) (shown closing).first
+        ∙ items-all (map tree now) (shown closing).first
 
     pub items-more : (found : Node) (now : List Node) (place : FlowCursor) → now ≡ items ++ found ∷ [] → more_from at ≡ turned_items all_from (turn.More found place) → after_items (map tree now) (all_from place.at) ≡ whole
     items-more found now place e t =
         let pushed : map tree now ≡ map tree items ++ tree found ∷ [] = ap (map tree) e ∙ map_push tree items found in
-        ap (λ (ts : List Tree). after_items ts (all_from place.at)) pushed ∙ push-items (map tree items) (tree found) (all_from place.at)
+        ap (λ (ts : List Tree). after_items ts (all_from place.at)) pushed ∙ items-push (map tree items) (tree found) (all_from place.at)
         ∙ ap (after_items (map tree items)) (sym t) ∙ so-more
 
     pub items-fail : (e : Refusal) → Fails e (more_from at) → Fails e whole

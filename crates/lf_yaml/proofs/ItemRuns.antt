@@ -15,6 +15,7 @@ use Rattle.lf_yaml.specs.reading.BlockTurns.{item_turn, inner, run_items}
 use Rattle.lf_yaml.proofs.BlockRows.{item-rows}
 use Rattle.lf_yaml.proofs.BlockTells.{ItemTold, item-told, node-tells}
 use Rattle.lf_yaml.proofs.Blocks.{at-item}
+use Rattle.lf_yaml.proofs.Collected.{after_items, items-push, items-all, items-err}
 use Rattle.lf_yaml.proofs.Ends.{end-length}
 use Rattle.lf_yaml.proofs.Placed.{IsPlaced, ArePlaced, file-placed}
 use Rattle.lf_yaml.proofs.Steps.{at-indent, at-deeper, items-end}
@@ -151,22 +152,6 @@ items-wrong node n own m (s ∷ ss) f e = turn-cases own m s ss (λ t. t ≡ wro
 
 -- ---- some items, and then what is read behind them
 
-abbrev pub after_items : List Tree → Read Items → Read Items
-after_items [] read = read
-after_items (t ∷ ts) read = with_item t (after_items ts read)
-
-after-push : (ts : List Tree) (t : Tree) (read : Read Items) → after_items (ts ++ t ∷ []) read ≡ after_items ts (with_item t read)
-after-push [] t read = refl
-after-push (u ∷ ts) t read = ap (with_item u) (after-push ts t read)
-
-after-none : (ts : List Tree) (rest : List ContentRow) → after_items ts (Ok (no_items, rest)) ≡ Ok (items_of ts, rest)
-after-none [] rest = refl
-after-none (t ∷ ts) rest = ap (with_item t) (after-none ts rest)
-
-after-err : (ts : List Tree) (f : Fault) → after_items ts (Err f) ≡ Err f
-after-err [] f = refl
-after-err (t ∷ ts) f = ap (with_item t) (after-err ts f)
-
 -- what a loop knows: the items that it found, and then those of the rows left, are all
 pub record ItemsLeft (bytes : List ℕ) (d : ℕ) (own : Bool) (m : ℕ) (found : List Tree) (rest : List ContentRow) (total : Read Items) : Type 0 where
   pub turns : ℕ
@@ -206,7 +191,7 @@ module _ (bytes : List ℕ) (d : ℕ) where
           record {
             turns = n;
             enough = omega (arith, lt, ap length next.rows, item-shorter m r later t rest here placed read);
-            same = after-push found t (items (inner bytes d) n own m rest) ∙ ap (after_items found) (sym one) ∙ same;
+            same = items-push found t (items (inner bytes d) n own m rest) ∙ ap (after_items found) (sym one) ∙ same;
           }
 
   pub item-fails : (own : Bool) (m : ℕ) (found : List Tree) (rs : List ContentRow) (r : ContentRow) (later : List ContentRow) (total : Read Items) (e : Refusal) → NextItem m rs r later → Fails e (item_value (inner bytes d) (indent r) r later)
@@ -220,7 +205,7 @@ module _ (bytes : List ℕ) (d : ℕ) where
           let read : item_value (inner bytes d) m r later ≡ Err (record { kind = kind; span = span }) = ap (λ (k : ℕ). item_value (inner bytes d) k r later) (sym next.column) ∙ h in
           let one : items (inner bytes d) (suc n) own m rs ≡ Err (record { kind = kind; span = span }) =
           ap (items (inner bytes d) (suc n) own m) next.rows ∙ at-item (inner bytes d) n own m r later (Err (record { kind = kind; span = span })) next.column next.is read in
-          sym same ∙ ap (after_items found) one ∙ after-err found (record { kind = kind; span = span })
+          sym same ∙ ap (after_items found) one ∙ items-err found (record { kind = kind; span = span })
 
   pub turn-fails : (own : Bool) (m : ℕ) (found : List Tree) (rs : List ContentRow) (total : Read Items) (e : Refusal) → Fails e (item_turn own m rs) → ItemsLeft bytes d own m found rs total → Fails e total
   turn-fails own m found rs total refusal_of.Memory h left = tt
@@ -228,11 +213,11 @@ module _ (bytes : List ℕ) (d : ℕ) where
     where
       by : (n : ℕ) → length rs < n → after_items found (items (inner bytes d) n own m rs) ≡ total → total ≡ Err (record { kind = kind; span = span })
       by zero lt same = absurd (omega (arith, lt))
-      by (suc n) lt same = sym same ∙ ap (after_items found) (items-wrong (inner bytes d) n own m rs (record { kind = kind; span = span }) h) ∙ after-err found (record { kind = kind; span = span })
+      by (suc n) lt same = sym same ∙ ap (after_items found) (items-wrong (inner bytes d) n own m rs (record { kind = kind; span = span }) h) ∙ items-err found (record { kind = kind; span = span })
 
   pub items-done : (own : Bool) (m : ℕ) (found : List Tree) (rs : List ContentRow) (total : Read Items) → item_turn own m rs ≡ Ok None → ItemsLeft bytes d own m found rs total → total ≡ Ok (items_of found, rs)
   items-done own m found rs total e left =
-      sym left.same ∙ ap (after_items found) (items-end (inner bytes d) left.turns own m rs (omega (arith, left.enough)) (items-over own m rs e)) ∙ after-none found rs
+      sym left.same ∙ ap (after_items found) (items-end (inner bytes d) left.turns own m rs (omega (arith, left.enough)) (items-over own m rs e)) ∙ items-all found rs
 
   -- where the code computed the indent
   pub first-item-at : (m : ℕ) (own : Bool) (r : ContentRow) (rs : List ContentRow) (t : Tree) (rest : List ContentRow) → m ≡ indent r → IsPlaced bytes r → ArePlaced bytes rs → is_item r ≡ true → item_value (inner bytes d) (indent r) r rs ≡ Ok (t, rest)

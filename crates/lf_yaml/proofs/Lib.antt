@@ -27,6 +27,7 @@ pub mod FlowText
 pub mod FlowCode
 pub mod ColonScan
 pub mod HeadCode
+pub mod Collected
 pub mod ItemRuns
 pub mod EntryRuns
 pub mod BlockCode

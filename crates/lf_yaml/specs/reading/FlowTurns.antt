@@ -8,7 +8,7 @@ use Rattle.lf_scalar.specs.Cells.{Cell, Value, Fails, ◌>>=◌}
 use Rattle.lf_yaml.specs.Tree.{Tree, Items, no_items, item, Entries, no_entries, entry, tree, pair, items_of, entries_of}
 use Rattle.lf_yaml.specs.views.Shown.{shown}
 use Rattle.lf_yaml.specs.views.Places.{IsPartIn, IsPlaceIn}
-use Rattle.lf_yaml.specs.reading.Trees.{FlowRead, Later, Signed, has, flow_key, flow_value}
+use Rattle.lf_yaml.specs.reading.Trees.{FlowRead, with_item, with_entry, Later, Signed, has, flow_key, flow_value}
 use Rattle.lf_yaml.specs.views.KeySets.{HasKeys}
 use Rattle.lf_yaml.specs.declared.key_set.KeySet.{KeySet}
 use Rattle.lf_yaml.specs.declared.row.ContentLine.{ContentLine}
@@ -26,13 +26,10 @@ IsTurnIn bytes from (turn.More found place) = IsPlaceIn bytes place × (from < p
 
 -- ---- sequences
 
-abbrev pub with_tree : Tree → FlowRead Items → FlowRead Items
-with_tree t read = read >>= λ x. Ok (item t x.0, x.1)
-
 abbrev pub turned_items : (ℕ → FlowRead Items) → Turn Node → FlowRead Items
 turned_items later (turn.Ends closing next) = Ok (no_items, (shown closing).first)
 turned_items later (turn.Last found closing next) = Ok (item (tree found) no_items, (shown closing).first)
-turned_items later (turn.More found place) = with_tree (tree found) (later place.at)
+turned_items later (turn.More found place) = with_item (tree found) (later place.at)
 
 -- a turn, or what it refused, is what is read
 abbrev pub TurnsItems : (ℕ → FlowRead Items) → Result (Turn Node) Refusal → FlowRead Items → Type 0
@@ -45,13 +42,10 @@ closed_items x = (items_of (map tree x.0), (shown x.1).first)
 
 -- ---- mappings
 
-abbrev pub with_pair : Value × Tree → FlowRead Entries → FlowRead Entries
-with_pair e read = read >>= λ x. Ok (entry e.0 e.1 x.0, x.1)
-
 abbrev pub turned_entries : Later → List (List ℕ) → Turn Entry → FlowRead Entries
 turned_entries later keys (turn.Ends closing next) = Ok (no_entries, (shown closing).first)
 turned_entries later keys (turn.Last found closing next) = Ok (entry (pair found).0 (pair found).1 no_entries, (shown closing).first)
-turned_entries later keys (turn.More found place) = with_pair (pair found) (later (keys ++ (pair found).0.text ∷ []) place.at)
+turned_entries later keys (turn.More found place) = with_entry (pair found).0 (pair found).1 (later (keys ++ (pair found).0.text ∷ []) place.at)
 
 abbrev pub TurnsEntries : Later → List (List ℕ) → Result (Turn Entry) Refusal → FlowRead Entries → Type 0
 TurnsEntries later keys (Ok turn) read = read ≡ turned_entries later keys turn

@@ -132,13 +132,13 @@ flow_scalar bytes c cs = part_by bytes c cs (quotes_of c)
 abbrev pub FlowRead : Type 0 → Type 0
 FlowRead A = Result (A × Cell) Fault
 
-abbrev pub with_flow_item : Value → FlowRead Items → FlowRead Items
-with_flow_item v read = read >>= λ x. Ok (item (leaf v) x.0, x.1)
+abbrev pub with_item : {B : Type 0} → Tree → Result (Items × B) Fault → Result (Items × B) Fault
+with_item t read = read >>= λ x. Ok (item t x.0, x.1)
 
 abbrev pub sequence_sign : (ℕ → FlowRead Items) → Value → Next → FlowRead Items
 sequence_sign later v (broken f) = Err f
 sequence_sign later v (at_part c cs) =
-    if c.byte == 44 then with_flow_item v (later (suc c.at))
+    if c.byte == 44 then with_item (leaf v) (later (suc c.at))
     else if c.byte == 93 then Ok (item (leaf v) no_items, c)
     else Err (sign_fault c)
 
@@ -214,13 +214,13 @@ value_part bytes colon (at_part c cs) = if (c.byte == 44) || (c.byte == 125) the
 unfoldable pub flow_value : List ℕ → Cell → Result Valued Fault
 flow_value bytes colon = value_part bytes colon (next_on bytes (suc colon.at))
 
-abbrev pub with_flow_entry : Value → Tree → FlowRead Entries → FlowRead Entries
-with_flow_entry v t read = read >>= λ x. Ok (entry v t x.0, x.1)
+abbrev pub with_entry : {B : Type 0} → Value → Tree → Result (Entries × B) Fault → Result (Entries × B) Fault
+with_entry v t read = read >>= λ x. Ok (entry v t x.0, x.1)
 
 abbrev pub mapping_sign : (ℕ → FlowRead Entries) → Value → Tree → Next → FlowRead Entries
 mapping_sign later v t (broken f) = Err f
 mapping_sign later v t (at_part c cs) =
-    if c.byte == 44 then with_flow_entry v t (later (suc c.at))
+    if c.byte == 44 then with_entry v t (later (suc c.at))
     else if c.byte == 125 then Ok (entry v t no_entries, c)
     else Err (sign_fault c)
 
@@ -304,9 +304,6 @@ unless_tab (Some tab) read = Err (byte_fault NotANode tab.at)
 abbrev pub item_value : Reader → ℕ → ContentRow → List ContentRow → Read Tree
 item_value node m r rs = unless_tab (tab_in r.rest) (item_at node m (suc r.first.at) rs (left_of r.begin r.rest))
 
-abbrev pub with_item : Tree → Read Items → Read Items
-with_item t read = read >>= λ x. Ok (item t x.0, x.1)
-
 abbrev pub items_behind : (List ContentRow → Read Items) → Read Tree → Read Items
 items_behind later read = read >>= λ x. with_item x.0 (later x.1)
 
@@ -342,9 +339,6 @@ entry_at bytes d node m at rs None = entry_next node m at rs
 
 abbrev pub entry_value : List ℕ → ℕ → (Bool → Reader) → ℕ → ℕ → Cell → List Cell → List ContentRow → Read Tree
 entry_value bytes d node m begin colon behind rs = entry_at bytes d node m (suc colon.at) rs (left_of begin behind)
-
-abbrev pub with_entry : Value → Tree → Read Entries → Read Entries
-with_entry v t read = read >>= λ x. Ok (entry v t x.0, x.1)
 
 abbrev pub EntryValues : Type 0
 EntryValues = ℕ → Cell → List Cell → List ContentRow → Read Tree

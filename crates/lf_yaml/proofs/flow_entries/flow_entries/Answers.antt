@@ -1,10 +1,12 @@
-use Rattle.std.proofs.Common.{◌<◌, ◌∙◌, ◌∷◌, ◌++◌, [], suc, length, map, ap, sym, subst}
+use Rattle.std.proofs.Common.{◌<◌, ◌∙◌, ◌∷◌, ◌++◌, [], List, suc, length, map, ap, sym, subst}
 use Rattle.lf_base.specs.Answers.{AnswersAs}
 use Rattle.lf_yaml.specs.Tree.{pair}
+use Rattle.lf_yaml.specs.declared.node.Entry.{Entry}
 use Rattle.lf_yaml.specs.views.KeySets.{HasKeys}
 use Rattle.lf_yaml.specs.views.Places.{IsPlaceIn}
 use Rattle.lf_yaml.specs.reading.FlowTurns.{IsTurnIn, HasTurned, turned_entries, closed_entries}
-use Rattle.lf_yaml.proofs.EntryTurns.{texts_of, texts-more, all_from, entries-end, entries-last, entries-more, entries-fail}
+use Rattle.lf_yaml.proofs.EntryTurns.{all_from, entries-end, entries-last, entries-more, entries-fail}
+use Rattle.lf_yaml.proofs.Collected.{texts_of, texts-more}
 use Rattle.lf_yaml.proofs.flow_entries.flow_entries.Goals as goal
 use Rattle.lf_yaml.proofs.flow_entries.flow_entries.Goals.{in-Ok, in-Err-push}
 
@@ -36,7 +38,7 @@ entries-preserved c =
       entries-more c.args.source.bytes.now (all_from c.args.source.bytes.now [] c.args.place.at) c.entries.entries c.entries.at.at c.entries.invariant.0 c.in-Ok-More.found _ c.in-Ok-More.place c.in-Ok-push.ensures.ok
           (c.in-Ok-More.ensures.gives (suc (length c.args.source.bytes.now)) before c.entries.invariant.2 ∙ ap (turned_entries (all_from c.args.source.bytes.now) before) c.in-Ok-More.field-0-is),
       place.0,
-      subst (HasKeys c.entry_turn.new.keys) (sym (texts-more c.entries.entries _ c.in-Ok-More.found c.in-Ok-push.ensures.ok)) keys,
+      subst (HasKeys c.entry_turn.new.keys) (sym (ap (λ (es : List Entry). texts_of (map pair es)) c.in-Ok-push.ensures.ok ∙ texts-more c.entries.entries c.in-Ok-More.found)) keys,
     )
 
 pub returns-in-Err-clause-gives : goal.returns-in-Err-clause-gives

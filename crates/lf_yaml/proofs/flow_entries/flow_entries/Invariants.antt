@@ -2,7 +2,8 @@ use Rattle.std.proofs.Common.{◌≡◌, ◌-◌, ◌^◌, [], map}
 use Rattle.lf_yaml.specs.Tree.{pair}
 use Rattle.lf_yaml.specs.views.KeySets.{HasKeys}
 use Rattle.lf_yaml.specs.views.Places.{IsPlaceIn}
-use Rattle.lf_yaml.proofs.EntryTurns.{texts_of, after_entries, all_from}
+use Rattle.lf_yaml.proofs.EntryTurns.{all_from}
+use Rattle.lf_yaml.proofs.Collected.{texts_of, after_entries}
 use Rattle.lf_yaml.proofs.flow_entries.flow_entries.Given as goal
 
 abbrev pub invariant-entries : goal.invariant-entries

@@ -1,7 +1,8 @@
 use Rattle.std.proofs.Common.{◌≡◌, ◌-◌, ◌^◌, map}
 use Rattle.lf_yaml.specs.Tree.{tree}
 use Rattle.lf_yaml.specs.views.Places.{IsPlaceIn}
-use Rattle.lf_yaml.proofs.ItemCode.{after_items, all_from}
+use Rattle.lf_yaml.proofs.ItemCode.{all_from}
+use Rattle.lf_yaml.proofs.Collected.{after_items}
 use Rattle.lf_yaml.proofs.flow_items.flow_items.Given as goal
 
 abbrev pub invariant-items : goal.invariant-items
