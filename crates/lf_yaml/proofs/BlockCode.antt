@@ -14,7 +14,8 @@ use Rattle.lf_yaml.specs.views.KeySets.{HasKeys}
 use Rattle.lf_yaml.specs.reading.BlockTurns.{new_key, with_key, one_entry, run_items, run_entries}
 use Rattle.lf_yaml.specs.declared.key_set.KeySet.{KeySet}
 use Rattle.lf_yaml.specs.declared.node.Entry.{Entry}
-use Rattle.lf_yaml.proofs.Collected.{texts_of, texts-more}
+use Rattle.lf_yaml.specs.reading.FlowTurns.{texts_of}
+use Rattle.lf_yaml.proofs.Collected.{texts-more}
 use Rattle.lf_yaml.proofs.Steps.{sequence-node, mapping-node, deep-node}
 
 module _ (bytes : List ℕ) (own : Bool) (above : ℕ) (r : ContentRow) (rs : List ContentRow) where

@@ -4,7 +4,8 @@ use Rattle.std.proofs.lemmas.List.{map_push}
 use Rattle.lf_base.specs.declared.fault.Fault.{Fault}
 use Rattle.lf_scalar.specs.Cells.{Value}
 use Rattle.lf_yaml.specs.Tree.{Tree, Items, no_items, Entries, no_entries, items_of, entries_of, pair}
-use Rattle.lf_yaml.specs.reading.Trees.{Keys, with_item, with_entry}
+use Rattle.lf_yaml.specs.reading.Trees.{with_item, with_entry}
+use Rattle.lf_yaml.specs.reading.FlowTurns.{after_items, after_entries, texts_of}
 use Rattle.lf_yaml.specs.declared.node.Entry.{Entry}
 
 -- what is read, and where the rest begins
@@ -12,10 +13,6 @@ abbrev Left : Type 0 → Type 0 → Type 0
 Left A B = Result (A × B) Fault
 
 -- ---- items
-
-abbrev pub after_items : {B : Type 0} → List Tree → Left Items B → Left Items B
-after_items [] read = read
-after_items (t ∷ ts) read = with_item t (after_items ts read)
 
 pub items-push : {B : Type 0} (ts : List Tree) (t : Tree) (read : Left Items B) → after_items (ts ++ t ∷ []) read ≡ after_items ts (with_item t read)
 items-push [] t read = refl
@@ -34,10 +31,6 @@ items-err (t ∷ ts) f = ap (with_item t) (items-err ts f)
 abbrev pub Pair : Type 0
 Pair = Value × Tree
 
-abbrev pub after_entries : {B : Type 0} → List Pair → Left Entries B → Left Entries B
-after_entries [] read = read
-after_entries (e ∷ es) read = with_entry e.0 e.1 (after_entries es read)
-
 pub entries-push : {B : Type 0} (es : List Pair) (e : Pair) (read : Left Entries B) → after_entries (es ++ e ∷ []) read ≡ after_entries es (with_entry e.0 e.1 read)
 entries-push [] e read = refl
 entries-push (x ∷ es) e read = ap (with_entry x.0 x.1) (entries-push es e read)
@@ -49,10 +42,6 @@ entries-all (e ∷ es) rest = ap (with_entry e.0 e.1) (entries-all es rest)
 pub entries-err : {B : Type 0} (es : List Pair) (f : Fault) → (let x : Left Entries B = Err f in after_entries es x) ≡ Err f
 entries-err [] f = refl
 entries-err (e ∷ es) f = ap (with_entry e.0 e.1) (entries-err es f)
-
--- the texts of the keys of some entries
-abbrev pub texts_of : List Pair → Keys
-texts_of es = map (λ e. e.0.text) es
 
 pub texts-push : (es : List Pair) (e : Pair) → texts_of (es ++ e ∷ []) ≡ texts_of es ++ e.0.text ∷ []
 texts-push es e = map_push (λ (x : Pair). x.0.text) es e

@@ -12,7 +12,8 @@ use Rattle.lf_yaml.specs.reading.Trees.{EntryHead, Read, EntryValues, entry_of, 
 use Rattle.lf_yaml.specs.reading.BlockTurns.{head_here, no_entry_fault, entry_turn, if_new, new_key, with_key, one_entry, values, run_entries}
 use Rattle.lf_yaml.proofs.BlockRows.{entry-value-rows}
 use Rattle.lf_yaml.proofs.BlockTells.{EntryValueTold, entry-value-told, node-tells, own-tells}
-use Rattle.lf_yaml.proofs.Collected.{Pair, after_entries, entries-push, entries-all, entries-err, texts_of, texts-push}
+use Rattle.lf_yaml.specs.reading.FlowTurns.{after_entries, texts_of}
+use Rattle.lf_yaml.proofs.Collected.{Pair, entries-push, entries-all, entries-err, texts-push}
 use Rattle.lf_yaml.proofs.Ends.{end-length}
 use Rattle.lf_yaml.proofs.HeadCode.{entry-split}
 use Rattle.lf_yaml.proofs.Placed.{IsPlaced, ArePlaced}

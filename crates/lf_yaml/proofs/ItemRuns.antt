@@ -15,7 +15,8 @@ use Rattle.lf_yaml.specs.reading.BlockTurns.{item_turn, inner, run_items}
 use Rattle.lf_yaml.proofs.BlockRows.{item-rows}
 use Rattle.lf_yaml.proofs.BlockTells.{ItemTold, item-told, node-tells}
 use Rattle.lf_yaml.proofs.Blocks.{at-item}
-use Rattle.lf_yaml.proofs.Collected.{after_items, items-push, items-all, items-err}
+use Rattle.lf_yaml.specs.reading.FlowTurns.{after_items}
+use Rattle.lf_yaml.proofs.Collected.{items-push, items-all, items-err}
 use Rattle.lf_yaml.proofs.Ends.{end-length}
 use Rattle.lf_yaml.proofs.Placed.{IsPlaced, ArePlaced, file-placed}
 use Rattle.lf_yaml.proofs.Steps.{at-indent, at-deeper, items-end}

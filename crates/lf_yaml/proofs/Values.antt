@@ -4,7 +4,6 @@ use Rattle.std.specs.Prelude.{nat_lt}
 use Rattle.std.proofs.lemmas.Bool.{eqb-true, cases_Bool, and_parts}
 use Rattle.lf_base.specs.declared.kind.Kind.TheVariants.{TooDeep}
 use Rattle.lf_base.specs.declared.fault.Fault.{Fault}
-use Rattle.lf_base.specs.Faults.{span}
 use Rattle.lf_scalar.specs.Cells.{Cell, cell, Value, character_fault}
 use Rattle.lf_scalar.specs.Lines.{lines, first_text}
 use Rattle.lf_scalar.specs.reading.Quoted.{wrong_behind}
@@ -19,7 +18,7 @@ use Rattle.lf_yaml.specs.Nodes.{IsScalarOn, ValueAt}
 use Rattle.lf_yaml.specs.Breaches.{ScalarBreaksOn, ValueBreaks}
 use Rattle.lf_yaml.specs.Nodes as nodes
 use Rattle.lf_yaml.specs.Breaches as breaches
-use Rattle.lf_yaml.specs.reading.Trees.{FlowRead, sequence_in, mapping_in, Read, alone, closed_list, flow_list, closed_map, flow_map, scalar_on, scalar_value, value_on}
+use Rattle.lf_yaml.specs.reading.Trees.{FlowRead, sequence_in, mapping_in, Read, as_tree, alone, closed, flow_list, flow_map, scalar_on, scalar_value, value_on}
 use Rattle.lf_yaml.proofs.Ends.{IsEnd, end-all, end-behind}
 use Rattle.lf_yaml.proofs.Sequences.{sequence-is, sequence-breaks, SequenceTold, sequence-tells, always-enough}
 use Rattle.lf_yaml.proofs.Mappings.{mapping-is, mapping-breaks, MappingTold, mapping-tells}
@@ -64,11 +63,11 @@ module _ (bytes : List ℕ) (above : ℕ) where
   unfolding value_on
   value-is d r _ _ _ (nodes.ValueAt.scalar {v = v} rs b h) = rw b (ap (scalar_value rs) (scalars.is_read (style_of r.first) above end (source_at bytes r.first.at) v h))
   value-is _ r _ _ _ (nodes.ValueAt.flow_sequence {d = d} {is = is} {closing = closing} rs e h b) =
-      list-on (suc d) r rs e ∙ ap (closed_list bytes r rs) (sequence-is bytes (suc end) (suc r.first.at) is closing (always-enough end (suc r.first.at)) h)
-      ∙ ap (alone (λ (is : Items) (closing : Cell). sequence is (span r.first.at (suc closing.at))) rs (is, closing)) (tail-told false (line_on bytes (suc closing.at)).text b)
+      list-on (suc d) r rs e ∙ ap (λ (x : FlowRead Items). closed bytes r rs (as_tree sequence x)) (sequence-is bytes (suc end) (suc r.first.at) is closing (always-enough end (suc r.first.at)) h)
+      ∙ ap (alone r rs (sequence is, closing)) (tail-told false (line_on bytes (suc closing.at)).text b)
   value-is _ r _ _ _ (nodes.ValueAt.flow_mapping {d = d} {es = es} {closing = closing} rs e h b) =
-      map-on (suc d) r rs e ∙ ap (closed_map bytes r rs) (mapping-is bytes (suc end) [] (suc r.first.at) es closing (always-enough end (suc r.first.at)) h)
-      ∙ ap (alone (λ (es : Entries) (closing : Cell). mapping es (span r.first.at (suc closing.at))) rs (es, closing)) (tail-told false (line_on bytes (suc closing.at)).text b)
+      map-on (suc d) r rs e ∙ ap (λ (x : FlowRead Entries). closed bytes r rs (as_tree mapping x)) (mapping-is bytes (suc end) [] (suc r.first.at) es closing (always-enough end (suc r.first.at)) h)
+      ∙ ap (alone r rs (mapping es, closing)) (tail-told false (line_on bytes (suc closing.at)).text b)
 
   nothing-on : (d : ℕ) (r : ContentRow) (rs : List ContentRow) → begins_scalar r ≡ false → is_bracket r.first ≡ false → value_on bytes above d r rs ≡ Err (row_fault r)
   unfolding value_on
@@ -87,16 +86,16 @@ module _ (bytes : List ℕ) (above : ℕ) where
   value-breaks d r rs _ (breaches.ValueBreaks.no_value e xs b n) = nothing-on d r rs b n
   value-breaks _ r rs _ (breaches.ValueBreaks.deep xs h) = deep-on r rs h
   value-breaks _ r _ f (breaches.ValueBreaks.flow_sequence rs d e h) =
-      list-on (suc d) r rs e ∙ ap (closed_list bytes r rs) (sequence-breaks bytes (suc end) (suc r.first.at) f (always-enough end (suc r.first.at)) h)
+      list-on (suc d) r rs e ∙ ap (λ (x : FlowRead Items). closed bytes r rs (as_tree sequence x)) (sequence-breaks bytes (suc end) (suc r.first.at) f (always-enough end (suc r.first.at)) h)
   value-breaks _ r _ _ (breaches.ValueBreaks.behind_sequence {is = is} {closing = closing} {wrong = wrong} rs d e h w) =
-      list-on (suc d) r rs e ∙ ap (closed_list bytes r rs) (sequence-is bytes (suc end) (suc r.first.at) is closing (always-enough end (suc r.first.at)) h)
-      ∙ ap (alone (λ (is : Items) (closing : Cell). sequence is (span r.first.at (suc closing.at))) rs (is, closing))
+      list-on (suc d) r rs e ∙ ap (λ (x : FlowRead Items). closed bytes r rs (as_tree sequence x)) (sequence-is bytes (suc end) (suc r.first.at) is closing (always-enough end (suc r.first.at)) h)
+      ∙ ap (alone r rs (sequence is, closing))
       (wrong-told false (line_on bytes (suc closing.at)).text wrong (from-front (line_on bytes (suc closing.at)).text wrong w))
   value-breaks _ r _ f (breaches.ValueBreaks.flow_mapping rs d e h) =
-      map-on (suc d) r rs e ∙ ap (closed_map bytes r rs) (mapping-breaks bytes (suc end) [] (suc r.first.at) f (always-enough end (suc r.first.at)) h)
+      map-on (suc d) r rs e ∙ ap (λ (x : FlowRead Entries). closed bytes r rs (as_tree mapping x)) (mapping-breaks bytes (suc end) [] (suc r.first.at) f (always-enough end (suc r.first.at)) h)
   value-breaks _ r _ _ (breaches.ValueBreaks.behind_mapping {es = es} {closing = closing} {wrong = wrong} rs d e h w) =
-      map-on (suc d) r rs e ∙ ap (closed_map bytes r rs) (mapping-is bytes (suc end) [] (suc r.first.at) es closing (always-enough end (suc r.first.at)) h)
-      ∙ ap (alone (λ (es : Entries) (closing : Cell). mapping es (span r.first.at (suc closing.at))) rs (es, closing))
+      map-on (suc d) r rs e ∙ ap (λ (x : FlowRead Entries). closed bytes r rs (as_tree mapping x)) (mapping-is bytes (suc end) [] (suc r.first.at) es closing (always-enough end (suc r.first.at)) h)
+      ∙ ap (alone r rs (mapping es, closing))
       (wrong-told false (line_on bytes (suc closing.at)).text wrong (from-front (line_on bytes (suc closing.at)).text wrong w))
 
   abbrev pub ValueTold : ℕ → ContentRow → List ContentRow → Read Tree → Type 0
@@ -113,18 +112,18 @@ module _ (bytes : List ℕ) (above : ℕ) where
       ap (begins (style_of r.first)) placed ∙ (and_parts (begins (style_of r.first) (text_of r)) (not (is_left_out r)) b).0 in
       scalar-told d r rs b (scalar_on bytes above r) (scalars.tells (style_of r.first) above end (source_at bytes r.first.at) h)
 
-  list-told : (d : ℕ) (r : ContentRow) (rs : List ContentRow) → r.first.byte ≡ 91 → (read : FlowRead Items) → SequenceTold bytes (suc r.first.at) read → ValueTold (suc d) r rs (closed_list bytes r rs read)
+  list-told : (d : ℕ) (r : ContentRow) (rs : List ContentRow) → r.first.byte ≡ 91 → (read : FlowRead Items) → SequenceTold bytes (suc r.first.at) read → ValueTold (suc d) r rs (closed bytes r rs (as_tree sequence read))
   list-told d r rs e (Ok x) h = by (wrong_behind false (line_on bytes (suc x.1.at)).text) refl
     where
-      by : (o : Option Cell) → wrong_behind false (line_on bytes (suc x.1.at)).text ≡ o → ValueTold (suc d) r rs (alone (λ (is : Items) (closing : Cell). sequence is (span r.first.at (suc closing.at))) rs x o)
+      by : (o : Option Cell) → wrong_behind false (line_on bytes (suc x.1.at)).text ≡ o → ValueTold (suc d) r rs (alone r rs (sequence x.0, x.1) o)
       by None w = nodes.ValueAt.flow_sequence rs e h (told-tail false (line_on bytes (suc x.1.at)).text w)
       by (Some wrong) w = breaches.ValueBreaks.behind_sequence rs d e h (to-front (line_on bytes (suc x.1.at)).text wrong (told-wrong false (line_on bytes (suc x.1.at)).text wrong w))
   list-told d r rs e (Err f) h = breaches.ValueBreaks.flow_sequence rs d e h
 
-  map-told : (d : ℕ) (r : ContentRow) (rs : List ContentRow) → r.first.byte ≡ 123 → (read : FlowRead Entries) → MappingTold bytes [] (suc r.first.at) read → ValueTold (suc d) r rs (closed_map bytes r rs read)
+  map-told : (d : ℕ) (r : ContentRow) (rs : List ContentRow) → r.first.byte ≡ 123 → (read : FlowRead Entries) → MappingTold bytes [] (suc r.first.at) read → ValueTold (suc d) r rs (closed bytes r rs (as_tree mapping read))
   map-told d r rs e (Ok x) h = by (wrong_behind false (line_on bytes (suc x.1.at)).text) refl
     where
-      by : (o : Option Cell) → wrong_behind false (line_on bytes (suc x.1.at)).text ≡ o → ValueTold (suc d) r rs (alone (λ (es : Entries) (closing : Cell). mapping es (span r.first.at (suc closing.at))) rs x o)
+      by : (o : Option Cell) → wrong_behind false (line_on bytes (suc x.1.at)).text ≡ o → ValueTold (suc d) r rs (alone r rs (mapping x.0, x.1) o)
       by None w = nodes.ValueAt.flow_mapping rs e h (told-tail false (line_on bytes (suc x.1.at)).text w)
       by (Some wrong) w = breaches.ValueBreaks.behind_mapping rs d e h (to-front (line_on bytes (suc x.1.at)).text wrong (told-wrong false (line_on bytes (suc x.1.at)).text wrong w))
   map-told d r rs e (Err f) h = breaches.ValueBreaks.flow_mapping rs d e h

@@ -4,6 +4,7 @@ use Rattle.std.specs.List.{list_any}
 use Rattle.lf_base.specs.declared.kind.Kind.TheVariants.{OpenQuote, LeftOut, DoubleKey, NotANode, TooDeep}
 use Rattle.lf_scalar.specs.declared.quotes.Quotes.{Quotes}
 use Rattle.lf_base.specs.declared.fault.Fault.{Fault}
+use Rattle.lf_base.specs.declared.place.Span.{Span}
 use Rattle.lf_base.specs.Faults.{span, fault}
 use Rattle.lf_scalar.specs.Cells.{Cell, Value, made, end_of, byte_fault, character_fault, ◌>>=◌}
 use Rattle.lf_scalar.specs.Lines.{Line, is_blank, after_blanks}
@@ -251,24 +252,28 @@ mapping_in bytes (suc n) keys at = mapping_part bytes (λ ks next. mapping_in by
 abbrev pub Read : Type 0 → Type 0
 Read A = Result (A × List ContentRow) Fault
 
--- Nothing but blanks and a comment stands behind a closing bracket.
-abbrev pub alone : {A : Type 0} → (A → Cell → Tree) → List ContentRow → A × Cell → Option Cell → Read Tree
-alone node rs x None = Ok (node x.0 x.1, rows_from (suc x.1.at) rs)
-alone node rs x (Some wrong) = Err (character_fault NotANode wrong)
+-- what is read of a collection: its tree but for the span, and its closing bracket
+abbrev pub FlowTree : Type 0
+FlowTree = FlowRead (Span → Tree)
 
-abbrev pub closed_list : List ℕ → ContentRow → List ContentRow → FlowRead Items → Read Tree
-closed_list bytes r rs read = read >>= λ x. alone (λ is closing. sequence is (span r.first.at (suc closing.at))) rs x (wrong_behind false (line_on bytes (suc x.1.at)).text)
+abbrev pub as_tree : {A : Type 0} → (A → Span → Tree) → FlowRead A → FlowTree
+as_tree node read = read >>= λ x. Ok (node x.0, x.1)
+
+-- Nothing but blanks and a comment stands behind a closing bracket.
+abbrev pub alone : ContentRow → List ContentRow → (Span → Tree) × Cell → Option Cell → Read Tree
+alone r rs x None = Ok (x.0 (span r.first.at (suc x.1.at)), rows_from (suc x.1.at) rs)
+alone r rs x (Some wrong) = Err (character_fault NotANode wrong)
+
+abbrev pub closed : List ℕ → ContentRow → List ContentRow → FlowTree → Read Tree
+closed bytes r rs read = read >>= λ x. alone r rs x (wrong_behind false (line_on bytes (suc x.1.at)).text)
 
 abbrev pub flow_list : List ℕ → ℕ → ContentRow → List ContentRow → Read Tree
 flow_list bytes zero r rs = Err (character_fault TooDeep r.first)
-flow_list bytes (suc d) r rs = closed_list bytes r rs (sequence_in bytes (suc (length bytes)) (suc r.first.at))
-
-abbrev pub closed_map : List ℕ → ContentRow → List ContentRow → FlowRead Entries → Read Tree
-closed_map bytes r rs read = read >>= λ x. alone (λ es closing. mapping es (span r.first.at (suc closing.at))) rs x (wrong_behind false (line_on bytes (suc x.1.at)).text)
+flow_list bytes (suc d) r rs = closed bytes r rs (as_tree sequence (sequence_in bytes (suc (length bytes)) (suc r.first.at)))
 
 abbrev pub flow_map : List ℕ → ℕ → ContentRow → List ContentRow → Read Tree
 flow_map bytes zero r rs = Err (character_fault TooDeep r.first)
-flow_map bytes (suc d) r rs = closed_map bytes r rs (mapping_in bytes (suc (length bytes)) [] (suc r.first.at))
+flow_map bytes (suc d) r rs = closed bytes r rs (as_tree mapping (mapping_in bytes (suc (length bytes)) [] (suc r.first.at)))
 
 abbrev pub scalar_on : List ℕ → ℕ → ContentRow → Result Value Fault
 scalar_on bytes above r = scalar.reading (style_of r.first) above (length bytes) (source_at bytes r.first.at)
