@@ -12,7 +12,7 @@ use Rattle.lf_yaml.specs.Flow as F
 use Rattle.lf_yaml.specs.Flow.{FlowValue, MappingIn, SequenceIn}
 use Rattle.lf_yaml.specs.Nodes as N
 use Rattle.lf_yaml.specs.Nodes.{BlockAt, EntriesAt, EntryAt, EntryValue, ItemValue, ItemsAt, NodeAt, ValueAt}
-use Rattle.lf_yaml.specs.Rows.{Row}
+use Rattle.lf_yaml.specs.Rows.{ContentRow}
 use Rattle.lf_yaml.specs.Tree.{Tree, leaf, sequence, mapping, Items, no_items, item, Entries, no_entries, entry}
 use Rattle.lf_rules.specs.Mappings.{Pairing, entry_at, given, given_entry, is_empty, pairs, trees, unless_empty}
 use Rattle.lf_base.specs.Names.{Bytes}
@@ -50,43 +50,43 @@ module _ (bytes : List ℕ) where
   flow_entries (F.last e part byte) = (e.is_new, flow_value e.value, tt)
   flow_entries (F.more e part byte later) = (e.is_new, flow_value e.value, flow_entries later)
 
-  value_differs : {above d : ℕ} {r : Row} {rs rest : List Row} {t : Tree} → ValueAt bytes above d r rs t rest → KeysDiffer t
+  value_differs : {above d : ℕ} {r : ContentRow} {rs rest : List ContentRow} {t : Tree} → ValueAt bytes above d r rs t rest → KeysDiffer t
   value_differs (N.scalar rs begins is) = tt
   value_differs (N.flow_sequence rs byte is tail) = flow_items is
   value_differs (N.flow_mapping rs byte is tail) = flow_entries is
 
   mutual
-    node_differs : {above d : ℕ} {r : Row} {rs rest : List Row} {t : Tree} → NodeAt bytes above d r rs t rest → KeysDiffer t
+    node_differs : {above d : ℕ} {r : ContentRow} {rs rest : List ContentRow} {t : Tree} → NodeAt bytes above d r rs t rest → KeysDiffer t
     node_differs (N.value begins v) = value_differs v
     node_differs (N.block above b) = block_differs b
 
-    block_differs : {d : ℕ} {own : Bool} {r : Row} {rs rest : List Row} {t : Tree} → BlockAt bytes d own r rs t rest → KeysDiffer t
+    block_differs : {d : ℕ} {own : Bool} {r : ContentRow} {rs rest : List ContentRow} {t : Tree} → BlockAt bytes d own r rs t rest → KeysDiffer t
     block_differs (N.block_sequence is) = items_differ is
     block_differs (N.block_mapping es) = entries_differ es
 
-    items_differ : {d m : ℕ} {own : Bool} {r : Row} {rs rest : List Row} {is : Items} → ItemsAt bytes d own m r rs is rest → ItemsDiffer is
+    items_differ : {d m : ℕ} {own : Bool} {r : ContentRow} {rs rest : List ContentRow} {is : Items} → ItemsAt bytes d own m r rs is rest → ItemsDiffer is
     items_differ (N.last_item at is v ends) = (item_differs v, tt)
     items_differ (N.more_items at is v later) = (item_differs v, items_differ later)
 
-    item_differs : {d m : ℕ} {r : Row} {rs rest : List Row} {t : Tree} → ItemValue bytes d m r rs t rest → KeysDiffer t
+    item_differs : {d m : ℕ} {r : ContentRow} {rs rest : List ContentRow} {t : Tree} → ItemValue bytes d m r rs t rest → KeysDiffer t
     item_differs (N.item_here tabs left n) = node_differs n
     item_differs (N.item_below tabs left below n) = node_differs n
     item_differs (N.item_empty d tabs left none) = tt
 
-    entries_differ : {d m : ℕ} {keys : List Bytes} {r : Row} {rs rest : List Row} {es : Entries} → EntriesAt bytes d m keys r rs es rest → EntriesDiffer es keys
+    entries_differ : {d m : ℕ} {keys : List Bytes} {r : ContentRow} {rs rest : List ContentRow} {es : Entries} → EntriesAt bytes d m keys r rs es rest → EntriesDiffer es keys
     entries_differ (N.last_entry e ends) = let k = entry_differs e in (k.0, k.1, tt)
     entries_differ (N.more_entries e later) = let k = entry_differs e in (k.0, k.1, entries_differ later)
 
-    entry_differs : {d m : ℕ} {keys : List Bytes} {r : Row} {rs rest : List Row} {v : Value} {t : Tree} → EntryAt bytes d m keys r rs v t rest → (Contains keys v.text → ⊥) × KeysDiffer t
+    entry_differs : {d m : ℕ} {keys : List Bytes} {r : ContentRow} {rs rest : List ContentRow} {v : Value} {t : Tree} → EntryAt bytes d m keys r rs v t rest → (Contains keys v.text → ⊥) × KeysDiffer t
     entry_differs (N.an_entry at begins is_key is_new v) = (is_new, behind_key v)
 
-    behind_key : {d m begin : ℕ} {colon : Cell} {behind : List Cell} {rs rest : List Row} {t : Tree} → EntryValue bytes d m begin colon behind rs t rest → KeysDiffer t
+    behind_key : {d m begin : ℕ} {colon : Cell} {behind : List Cell} {rs rest : List ContentRow} {t : Tree} → EntryValue bytes d m begin colon behind rs t rest → KeysDiffer t
     behind_key (N.value_here colon left begins v) = value_differs v
     behind_key (N.value_below colon left below n) = node_differs n
     behind_key (N.value_beside colon left at is b) = block_differs b
     behind_key (N.value_missing d colon left none) = tt
 
-  document_differs : {rs : List Row} {t : Tree} → D.DocumentAt bytes rs t → KeysDiffer t
+  document_differs : {rs : List ContentRow} {t : Tree} → D.DocumentAt bytes rs t → KeysDiffer t
   document_differs D.nothing = tt
   document_differs (D.a_node n) = node_differs n
 

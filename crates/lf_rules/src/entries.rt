@@ -80,7 +80,6 @@ pub fn place(node: &Node) -> Span
 }
 
 /// The entries of a mapping, and none of another node.
-#[tactic(auto, using(crate::proofs::Nodes::entries_map))]
 pub fn entries_of(node: &Node) -> &[Entry]
     ensures { map pair result.now ≡ reading.entries_of (tree node.now) }
 {
@@ -92,7 +91,6 @@ pub fn entries_of(node: &Node) -> &[Entry]
 }
 
 /// The items of a list, and none of another node.
-#[tactic(auto, using(crate::proofs::Nodes::items_list))]
 pub fn items_of(node: &Node) -> &[Node]
     ensures { map tree result.now ≡ reading.items_of (Some (tree node.now)) }
 {

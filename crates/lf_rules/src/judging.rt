@@ -188,7 +188,7 @@ pub fn judge_settings(first: &mut Option<Fault>, is_labels: bool, node: Option<&
     }
 }
 
-#[tactic(auto, unfolding(crate::specs::reading::Files::least_from), using(crate::proofs::Nodes::settings_map))]
+#[tactic(auto, unfolding(crate::specs::reading::Files::least_from))]
 fn judge_mapping(first: &mut Option<Fault>, is_labels: bool, node: &Node)
     ensures { first.new ≡ least_from first.old (reading.settings_faults is_labels (Some (tree node.now))) }
 {

@@ -44,7 +44,7 @@ fn judge_group(first: &mut Option<Fault>, span: Span, entries: &[Entry])
 }
 
 /// A group is a mapping.
-#[tactic(auto, unfolding(crate::specs::reading::Files::least_from), using(crate::proofs::Nodes::group_map))]
+#[tactic(auto, unfolding(crate::specs::reading::Files::least_from))]
 fn judge_group_node(first: &mut Option<Fault>, node: &Node)
     ensures { first.new ≡ least_from first.old (reading.group_tree_faults (tree node.now)) }
 {
@@ -118,7 +118,7 @@ fn judge_group_list(first: &mut Option<Fault>, alloc: Global, groups: &[Node]) -
 }
 
 /// The value of `groups`: a list of groups.
-#[tactic(auto, unfolding(crate::specs::reading::Files::least_from), using(crate::proofs::Nodes::groups_list))]
+#[tactic(auto, unfolding(crate::specs::reading::Files::least_from))]
 fn judge_groups_node(first: &mut Option<Fault>, alloc: Global, node: &Node) -> Result<(), Memory>
     ensures { OnOk result (first.new ≡ least_from first.old (reading.groups_faults (Some (tree node.now)))) }
 {
@@ -179,7 +179,7 @@ fn judge_file_entries(
 }
 
 /// A file: nothing, or a mapping.
-#[tactic(auto, unfolding(crate::specs::reading::Files::least_from), using(crate::proofs::Nodes::file_map))]
+#[tactic(auto, unfolding(crate::specs::reading::Files::least_from))]
 pub fn judge_file(first: &mut Option<Fault>, alloc: Global, node: &Node) -> Result<(), Memory>
     ensures { OnOk result (first.new ≡ least_from first.old (reading.faults (tree node.now))) }
 {

@@ -155,7 +155,7 @@ fn judge_rule(first: &mut Option<Fault>, span: Span, entries: &[Entry])
 }
 
 /// A rule is a mapping.
-#[tactic(auto, unfolding(crate::specs::reading::Files::least_from), using(crate::proofs::Nodes::rule_map))]
+#[tactic(auto, unfolding(crate::specs::reading::Files::least_from))]
 fn judge_rule_node(first: &mut Option<Fault>, node: &Node)
     ensures { first.new ≡ least_from first.old (reading.rule_tree_faults (tree node.now)) }
 {
@@ -178,7 +178,7 @@ fn judge_each_rule(first: &mut Option<Fault>, nodes: &[Node])
     }
 }
 
-#[tactic(auto, unfolding(crate::specs::reading::Files::least_from), using(crate::proofs::Nodes::rules_list))]
+#[tactic(auto, unfolding(crate::specs::reading::Files::least_from))]
 fn judge_rules_node(first: &mut Option<Fault>, node: &Node)
     ensures { first.new ≡ least_from first.old (reading.rules_faults (Some (tree node.now))) }
 {

@@ -7,7 +7,7 @@ use Rattle.lf_base.specs.declared.fault.Fault.{Fault}
 use Rattle.lf_scalar.specs.Cells.{Cell, Value}
 use Rattle.lf_scalar.specs.Lines.{is_blank, after_blanks}
 use Rattle.lf_scalar.specs.Quoted.{raw}
-use Rattle.lf_yaml.specs.Rows.{Row, text_of, indent, left_of, indent_fault, row_fault, tab_in}
+use Rattle.lf_yaml.specs.Rows.{ContentRow, text_of, indent, left_of, indent_fault, row_fault, tab_in}
 use Rattle.lf_yaml.specs.Heads.{is_item, Split, behind_cell, key_in, Key, IsKey, BeginsEntry, BeginsNoBlock, NoEntry}
 use Rattle.lf_yaml.specs.Heads as head
 use Rattle.lf_yaml.specs.Tree.{Tree, Items, no_items, Entries, no_entries}
@@ -16,7 +16,7 @@ use Rattle.lf_yaml.specs.Nodes.{NothingBelow, Ends, NodeAt, BlockAt, ItemsAt, It
 use Rattle.lf_yaml.specs.Nodes as nodes
 use Rattle.lf_yaml.specs.Breaches.{NodeBreaks, BlockBreaks, ItemsBreak, ItemValueBreaks, EntriesBreak, EntryValueBreaks}
 use Rattle.lf_yaml.specs.Breaches as breaks
-use Rattle.lf_yaml.specs.reading.Trees.{Read, Head, item_next, item_at, unless_tab, item_value, with_item, items_behind, items, key_of, entry_of, entry_next, entry_at, entry_value, with_entry, entries_behind, key_read, entries_on, entries, as_sequence, as_mapping, value_on, node_at, Keys}
+use Rattle.lf_yaml.specs.reading.Trees.{Read, EntryHead, item_next, item_at, unless_tab, item_value, with_item, items_behind, items, key_of, entry_of, entry_next, entry_at, entry_value, with_entry, entries_behind, key_read, entries_on, entries, as_sequence, as_mapping, value_on, node_at, Keys}
 use Rattle.lf_yaml.proofs.Ends.{end-length, end-holds}
 use Rattle.lf_yaml.proofs.HeadLaws.{entry-view, KeyTold, key-tells, has-tells, opens-view, block-view}
 use Rattle.lf_yaml.proofs.HeadLaws as heads
@@ -38,7 +38,7 @@ blanks-suffix (c ∷ cs) =
       | inr a ↦ ([], rw a refl)
     ]
 
-pub entry-suffix : (r : Row) (k : Key) (colon : Cell) (behind : List Cell) → BeginsEntry r k colon behind → (front : List Cell) × (text_of r ≡ front ++ behind)
+pub entry-suffix : (r : ContentRow) (k : Key) (colon : Cell) (behind : List Cell) → BeginsEntry r k colon behind → (front : List Cell) × (text_of r ≡ front ++ behind)
 entry-suffix r _ _ _ (head.BeginsEntry.bare {front = front} {rest = rest} {colon = colon} p l e) =
     (front ++ colon ∷ [], split-source head.never _ (text_of r) (front, colon, rest) e ∙ sym (append_assoc front (colon ∷ []) rest))
 entry-suffix r _ _ _ (head.BeginsEntry.quoted {rest = rest} {colon = colon} kind c e l s b) =
@@ -51,48 +51,48 @@ entry-suffix r _ _ _ (head.BeginsEntry.quoted {rest = rest} {colon = colon} kind
     (r.first ∷ ((raws ++ c.closing ∷ []) ++ (k.0 ++ colon ∷ [])), ap (λ (xs : List Cell). r.first ∷ xs) all)
 
 module _ (bytes : List ℕ) where
-  abbrev pub NodeTold : ℕ → ℕ → Row → List Row → Read Tree → Type 0
+  abbrev pub NodeTold : ℕ → ℕ → ContentRow → List ContentRow → Read Tree → Type 0
   NodeTold above d r rs (Ok x) = NodeAt bytes above d r rs x.0 x.1
   NodeTold above d r rs (Err f) = NodeBreaks bytes above d r rs f
 
-  abbrev pub BlockTold : ℕ → Bool → Row → List Row → Read Tree → Type 0
+  abbrev pub BlockTold : ℕ → Bool → ContentRow → List ContentRow → Read Tree → Type 0
   BlockTold d own r rs (Ok x) = BlockAt bytes d own r rs x.0 x.1
   BlockTold d own r rs (Err f) = BlockBreaks bytes d own r rs f
 
-  abbrev pub ItemsTold : ℕ → Bool → ℕ → Row → List Row → Read Items → Type 0
+  abbrev pub ItemsTold : ℕ → Bool → ℕ → ContentRow → List ContentRow → Read Items → Type 0
   ItemsTold d own m r rs (Ok x) = ItemsAt bytes d own m r rs x.0 x.1
   ItemsTold d own m r rs (Err f) = ItemsBreak bytes d own m r rs f
 
-  abbrev pub ItemTold : ℕ → ℕ → Row → List Row → Read Tree → Type 0
+  abbrev pub ItemTold : ℕ → ℕ → ContentRow → List ContentRow → Read Tree → Type 0
   ItemTold d m r rs (Ok x) = ItemValue bytes d m r rs x.0 x.1
   ItemTold d m r rs (Err f) = ItemValueBreaks bytes d m r rs f
 
-  abbrev pub EntriesTold : ℕ → ℕ → Keys → Row → List Row → Read Entries → Type 0
+  abbrev pub EntriesTold : ℕ → ℕ → Keys → ContentRow → List ContentRow → Read Entries → Type 0
   EntriesTold d m keys r rs (Ok x) = EntriesAt bytes d m keys r rs x.0 x.1
   EntriesTold d m keys r rs (Err f) = EntriesBreak bytes d m keys r rs f
 
-  abbrev pub EntryValueTold : ℕ → ℕ → ℕ → Cell → List Cell → List Row → Read Tree → Type 0
+  abbrev pub EntryValueTold : ℕ → ℕ → ℕ → Cell → List Cell → List ContentRow → Read Tree → Type 0
   EntryValueTold d m begin colon behind rs (Ok x) = EntryValue bytes d m begin colon behind rs x.0 x.1
   EntryValueTold d m begin colon behind rs (Err f) = EntryValueBreaks bytes d m begin behind rs f
 
   -- what is known of the nodes inside
   abbrev pub Tells : ℕ → Type 0
-  Tells d = (above : ℕ) (r : Row) (rs : List Row) → IsPlaced bytes r → ArePlaced bytes rs → NodeTold above d r rs (node_at bytes d false above r rs)
+  Tells d = (above : ℕ) (r : ContentRow) (rs : List ContentRow) → IsPlaced bytes r → ArePlaced bytes rs → NodeTold above d r rs (node_at bytes d false above r rs)
 
   abbrev pub OwnTells : ℕ → Type 0
-  OwnTells d = (above : ℕ) (r : Row) (rs : List Row) → IsPlaced bytes r → ArePlaced bytes rs → is_item r ≡ true → BlockTold d true r rs (node_at bytes d true above r rs)
+  OwnTells d = (above : ℕ) (r : ContentRow) (rs : List ContentRow) → IsPlaced bytes r → ArePlaced bytes rs → is_item r ≡ true → BlockTold d true r rs (node_at bytes d true above r rs)
 
   -- ---- items
 
-  here-told : (d m : ℕ) (r left : Row) (rs : List Row) → tab_in r.rest ≡ None → left_of r.begin r.rest ≡ Some left → (read : Read Tree) → NodeTold (suc m) d left rs read → ItemTold d m r rs read
+  here-told : (d m : ℕ) (r left : ContentRow) (rs : List ContentRow) → tab_in r.rest ≡ None → left_of r.begin r.rest ≡ Some left → (read : Read Tree) → NodeTold (suc m) d left rs read → ItemTold d m r rs read
   here-told d m r left rs tab e (Ok x) h = nodes.ItemValue.item_here tab e h
   here-told d m r left rs tab e (Err f) h = breaks.ItemValueBreaks.item_here tab e h
 
-  below-told : (d m : ℕ) (r next : Row) (rs : List Row) → tab_in r.rest ≡ None → left_of r.begin r.rest ≡ None → m < indent next → (read : Read Tree) → NodeTold (suc m) d next rs read → ItemTold d m r (next ∷ rs) read
+  below-told : (d m : ℕ) (r next : ContentRow) (rs : List ContentRow) → tab_in r.rest ≡ None → left_of r.begin r.rest ≡ None → m < indent next → (read : Read Tree) → NodeTold (suc m) d next rs read → ItemTold d m r (next ∷ rs) read
   below-told d m r next rs tab e lt (Ok x) h = nodes.ItemValue.item_below tab e lt h
   below-told d m r next rs tab e lt (Err f) h = breaks.ItemValueBreaks.item_below tab e lt h
 
-  next-told : (d m : ℕ) (r : Row) (rs : List Row) → Tells d → ArePlaced bytes rs → tab_in r.rest ≡ None → left_of r.begin r.rest ≡ None → ItemTold d m r rs (item_next (inner bytes d) m (suc r.first.at) rs)
+  next-told : (d m : ℕ) (r : ContentRow) (rs : List ContentRow) → Tells d → ArePlaced bytes rs → tab_in r.rest ≡ None → left_of r.begin r.rest ≡ None → ItemTold d m r rs (item_next (inner bytes d) m (suc r.first.at) rs)
   next-told d m r [] node placed tab e = nodes.ItemValue.item_empty d tab e tt
   next-told d m r (next ∷ rs) node placed tab e = by (ltb m (indent next)) refl
     where
@@ -100,10 +100,10 @@ module _ (bytes : List ℕ) where
       by true h = below-told d m r next rs tab e (ltb-true m (indent next) h) (node_at bytes d false (suc m) next rs) (node (suc m) next rs placed.0 placed.1)
       by false h = nodes.ItemValue.item_empty d tab e (ltb-false m (indent next) h)
 
-  pub item-told : (d m : ℕ) (r : Row) (rs : List Row) → Tells d → IsPlaced bytes r → ArePlaced bytes rs → ItemTold d m r rs (item_value (inner bytes d) m r rs)
+  pub item-told : (d m : ℕ) (r : ContentRow) (rs : List ContentRow) → Tells d → IsPlaced bytes r → ArePlaced bytes rs → ItemTold d m r rs (item_value (inner bytes d) m r rs)
   item-told d m r rs node here placed = tabbed (tab_in r.rest) refl
     where
-      by : tab_in r.rest ≡ None → (o : Option Row) → left_of r.begin r.rest ≡ o → ItemTold d m r rs (item_at (inner bytes d) m (suc r.first.at) rs o)
+      by : tab_in r.rest ≡ None → (o : Option ContentRow) → left_of r.begin r.rest ≡ o → ItemTold d m r rs (item_at (inner bytes d) m (suc r.first.at) rs o)
       by tab (Some left) e =
           here-told d m r left rs tab e (node_at bytes d false (suc m) left rs) (node (suc m) left rs (placed-left bytes r left (r.first ∷ []) r.rest r.begin here refl e) placed)
       by tab None e = next-told d m r rs node placed tab e
@@ -112,21 +112,21 @@ module _ (bytes : List ℕ) where
       tabbed (Some c) tab = breaks.ItemValueBreaks.item_tab d rs tab
       tabbed None tab = by tab (left_of r.begin r.rest) refl
 
-  more-told : (d : ℕ) (own : Bool) (m : ℕ) (r next : Row) (rs later : List Row) (t : Tree) → indent r ≡ m → is_item r ≡ true → ItemValue bytes d m r rs t (next ∷ later) → (read : Read Items) → ItemsTold d own m next later read
+  more-told : (d : ℕ) (own : Bool) (m : ℕ) (r next : ContentRow) (rs later : List ContentRow) (t : Tree) → indent r ≡ m → is_item r ≡ true → ItemValue bytes d m r rs t (next ∷ later) → (read : Read Items) → ItemsTold d own m next later read
       → ItemsTold d own m r rs (with_item t read)
   more-told d own m r next rs later t e i h (Ok x) told = nodes.ItemsAt.more_items e i h told
   more-told d own m r next rs later t e i h (Err f) told = breaks.ItemsBreak.later_item e i h told
 
   -- the rows behind an item, at which reading goes on
   abbrev GoesOn : ℕ → Bool → ℕ → ℕ → Type 0
-  GoesOn d own m n = (next : Row) (later : List Row) → length (next ∷ later) < n → indent next ≡ m → is_item next ≡ true → IsPlaced bytes next → ArePlaced bytes later → ItemsTold d own m next later (items (inner bytes d) n own m (next ∷ later))
+  GoesOn d own m n = (next : ContentRow) (later : List ContentRow) → length (next ∷ later) < n → indent next ≡ m → is_item next ≡ true → IsPlaced bytes next → ArePlaced bytes later → ItemsTold d own m next later (items (inner bytes d) n own m (next ∷ later))
 
-  ends-smaller : (own : Bool) (m : ℕ) (r : Row) (rs : List Row) → indent r < m → Ends own m (r ∷ rs)
+  ends-smaller : (own : Bool) (m : ℕ) (r : ContentRow) (rs : List ContentRow) → indent r < m → Ends own m (r ∷ rs)
   ends-smaller true m r rs lt = inl lt
   ends-smaller false m r rs lt = lt
 
   -- the row behind an item is no item, at the same indent
-  stop-told : (d n : ℕ) (own : Bool) (m : ℕ) (r next : Row) (rs later : List Row) (t : Tree) → indent r ≡ m → is_item r ≡ true → ItemValue bytes d m r rs t (next ∷ later) → indent next ≡ m → is_item next ≡ false
+  stop-told : (d n : ℕ) (own : Bool) (m : ℕ) (r next : ContentRow) (rs later : List ContentRow) (t : Tree) → indent r ≡ m → is_item r ≡ true → ItemValue bytes d m r rs t (next ∷ later) → indent next ≡ m → is_item next ≡ false
       → ItemsTold d own m r rs (with_item t (items (inner bytes d) (suc n) own m (next ∷ later)))
   unfolding items
   stop-told d n true m r next rs later t e i h same none =
@@ -136,7 +136,7 @@ module _ (bytes : List ℕ) where
       let read : items (inner bytes d) (suc n) false m (next ∷ later) ≡ Err (row_fault next) = at-indent m next later no_items _ same ∙ rw none refl in
       subst (λ (x : Read Items). ItemsTold d false m r rs (with_item t x)) (sym read) (breaks.ItemsBreak.later_item e i h (breaks.ItemsBreak.no_item d later same none))
 
-  behind-told : (d n : ℕ) (own : Bool) (m : ℕ) (r : Row) (rs : List Row) (t : Tree) (rest : List Row) → GoesOn d own m n → indent r ≡ m → is_item r ≡ true → ItemValue bytes d m r rs t rest → length rest < n → ArePlaced bytes rest
+  behind-told : (d n : ℕ) (own : Bool) (m : ℕ) (r : ContentRow) (rs : List ContentRow) (t : Tree) (rest : List ContentRow) → GoesOn d own m n → indent r ≡ m → is_item r ≡ true → ItemValue bytes d m r rs t rest → length rest < n → ArePlaced bytes rest
       → ItemsTold d own m r rs (with_item t (items (inner bytes d) n own m rest))
   unfolding items
   behind-told d zero own m r rs t rest go e i h lt placed = absurd (omega arith)
@@ -161,7 +161,7 @@ module _ (bytes : List ℕ) where
           let same : indent next ≡ m = omega (arith, ltb-false m (indent next) p, ltb-false (indent next) m q) in
           stop-told d n own m r next rs later t e i h same s
 
-  value-told : (d n : ℕ) (own : Bool) (m : ℕ) (r : Row) (rs : List Row) → GoesOn d own m n → indent r ≡ m → is_item r ≡ true → length rs < n → ArePlaced bytes rs → (read : Read Tree) → ItemTold d m r rs read
+  value-told : (d n : ℕ) (own : Bool) (m : ℕ) (r : ContentRow) (rs : List ContentRow) → GoesOn d own m n → indent r ≡ m → is_item r ≡ true → length rs < n → ArePlaced bytes rs → (read : Read Tree) → ItemTold d m r rs read
       → ItemsTold d own m r rs (items_behind (λ rows. items (inner bytes d) n own m rows) read)
   value-told d n own m r rs go e i lt placed (Ok x) h =
       let back = item-rows bytes d m r rs x.0 x.1 h in
@@ -177,20 +177,20 @@ module _ (bytes : List ℕ) where
 
   -- ---- entries
 
-  left-told : (d m begin : ℕ) (colon : Cell) (behind : List Cell) (left : Row) (rs : List Row) → left_of begin behind ≡ Some left → BeginsNoBlock left → (read : Read Tree) → ValueTold bytes (suc m) d left rs read → EntryValueTold d m begin colon behind rs read
+  left-told : (d m begin : ℕ) (colon : Cell) (behind : List Cell) (left : ContentRow) (rs : List ContentRow) → left_of begin behind ≡ Some left → BeginsNoBlock left → (read : Read Tree) → ValueTold bytes (suc m) d left rs read → EntryValueTold d m begin colon behind rs read
   left-told d m begin colon behind left rs e n (Ok x) h = nodes.EntryValue.value_here colon e n h
   left-told d m begin colon behind left rs e n (Err f) h = breaks.EntryValueBreaks.value_here e n h
 
-  deeper-told : (d m begin : ℕ) (colon : Cell) (behind : List Cell) (next : Row) (rs : List Row) → left_of begin behind ≡ None → m < indent next → (read : Read Tree) → NodeTold (suc m) d next rs read → EntryValueTold d m begin colon behind (next ∷ rs) read
+  deeper-told : (d m begin : ℕ) (colon : Cell) (behind : List Cell) (next : ContentRow) (rs : List ContentRow) → left_of begin behind ≡ None → m < indent next → (read : Read Tree) → NodeTold (suc m) d next rs read → EntryValueTold d m begin colon behind (next ∷ rs) read
   deeper-told d m begin colon behind next rs e lt (Ok x) h = nodes.EntryValue.value_below colon e lt h
   deeper-told d m begin colon behind next rs e lt (Err f) h = breaks.EntryValueBreaks.value_below e lt h
 
-  beside-told : (d m begin : ℕ) (colon : Cell) (behind : List Cell) (next : Row) (rs : List Row) → left_of begin behind ≡ None → indent next ≡ m → is_item next ≡ true → (read : Read Tree) → BlockTold d true next rs read
+  beside-told : (d m begin : ℕ) (colon : Cell) (behind : List Cell) (next : ContentRow) (rs : List ContentRow) → left_of begin behind ≡ None → indent next ≡ m → is_item next ≡ true → (read : Read Tree) → BlockTold d true next rs read
       → EntryValueTold d m begin colon behind (next ∷ rs) read
   beside-told d m begin colon behind next rs e same i (Ok x) h = nodes.EntryValue.value_beside colon e same i h
   beside-told d m begin colon behind next rs e same i (Err f) h = breaks.EntryValueBreaks.value_beside e same i h
 
-  rows-told : (d m begin : ℕ) (colon : Cell) (behind : List Cell) (rs : List Row) → Tells d → OwnTells d → ArePlaced bytes rs → left_of begin behind ≡ None → EntryValueTold d m begin colon behind rs (entry_next (owned bytes d) m (suc colon.at) rs)
+  rows-told : (d m begin : ℕ) (colon : Cell) (behind : List Cell) (rs : List ContentRow) → Tells d → OwnTells d → ArePlaced bytes rs → left_of begin behind ≡ None → EntryValueTold d m begin colon behind rs (entry_next (owned bytes d) m (suc colon.at) rs)
   rows-told d m begin colon behind [] node own placed e = nodes.EntryValue.value_missing d colon e tt
   rows-told d m begin colon behind (next ∷ rs) node own placed e = by (ltb m (indent next)) (eqb (indent next) m) (is_item next) refl refl refl
     where
@@ -207,11 +207,11 @@ module _ (bytes : List ℕ) where
       by false true false p q s = missing (inr (eqb-true (indent next) m q, s))
       by false false c p q s = missing (inl (smaller p q))
 
-  pub entry-value-told : (d m begin : ℕ) (colon : Cell) (front behind : List Cell) (r : Row) (rs : List Row) → Tells d → OwnTells d → IsPlaced bytes r → text_of r ≡ front ++ behind → ArePlaced bytes rs
+  pub entry-value-told : (d m begin : ℕ) (colon : Cell) (front behind : List Cell) (r : ContentRow) (rs : List ContentRow) → Tells d → OwnTells d → IsPlaced bytes r → text_of r ≡ front ++ behind → ArePlaced bytes rs
       → EntryValueTold d m begin colon behind rs (entry_value bytes d (owned bytes d) m begin colon behind rs)
   entry-value-told d m begin colon front behind r rs node own here source placed = by (left_of begin behind) refl
     where
-      by : (o : Option Row) → left_of begin behind ≡ o → EntryValueTold d m begin colon behind rs (entry_at bytes d (owned bytes d) m (suc colon.at) rs o)
+      by : (o : Option ContentRow) → left_of begin behind ≡ o → EntryValueTold d m begin colon behind rs (entry_at bytes d (owned bytes d) m (suc colon.at) rs o)
       by (Some left) e =
           elim (block-view left) [
             | inl (b, t) ↦ rw t (breaks.EntryValueBreaks.block_here d rs e b)
@@ -219,16 +219,16 @@ module _ (bytes : List ℕ) where
           ]
       by None e = rows-told d m begin colon behind rs node own placed e
 
-  entry-more-told : (d m : ℕ) (keys : Keys) (r next : Row) (rs later : List Row) (v : Value) (t : Tree) → EntryAt bytes d m keys r rs v t (next ∷ later) → (read : Read Entries) → EntriesTold d m (keys ++ v.text ∷ []) next later read
+  entry-more-told : (d m : ℕ) (keys : Keys) (r next : ContentRow) (rs later : List ContentRow) (v : Value) (t : Tree) → EntryAt bytes d m keys r rs v t (next ∷ later) → (read : Read Entries) → EntriesTold d m (keys ++ v.text ∷ []) next later read
       → EntriesTold d m keys r rs (with_entry v t read)
   entry-more-told d m keys r next rs later v t h (Ok x) told = nodes.EntriesAt.more_entries h told
   entry-more-told d m keys r next rs later v t h (Err f) told = breaks.EntriesBreak.later_entry h told
 
   -- the rows behind an entry, at which reading goes on
   abbrev EntriesGoOn : ℕ → ℕ → ℕ → Type 0
-  EntriesGoOn d m n = (keys : Keys) (next : Row) (later : List Row) → length (next ∷ later) < n → indent next ≡ m → IsPlaced bytes next → ArePlaced bytes later → EntriesTold d m keys next later (entries (values bytes d m) n m keys (next ∷ later))
+  EntriesGoOn d m n = (keys : Keys) (next : ContentRow) (later : List ContentRow) → length (next ∷ later) < n → indent next ≡ m → IsPlaced bytes next → ArePlaced bytes later → EntriesTold d m keys next later (entries (values bytes d m) n m keys (next ∷ later))
 
-  behind-entry-told : (d n m : ℕ) (keys : Keys) (r : Row) (rs : List Row) (v : Value) (t : Tree) (rest : List Row) → EntriesGoOn d m n → EntryAt bytes d m keys r rs v t rest → length rest < n → ArePlaced bytes rest
+  behind-entry-told : (d n m : ℕ) (keys : Keys) (r : ContentRow) (rs : List ContentRow) (v : Value) (t : Tree) (rest : List ContentRow) → EntriesGoOn d m n → EntryAt bytes d m keys r rs v t rest → length rest < n → ArePlaced bytes rest
       → EntriesTold d m keys r rs (with_entry v t (entries (values bytes d m) n m (keys ++ v.text ∷ []) rest))
   unfolding entries
   behind-entry-told d zero m keys r rs v t rest go h lt placed = absurd (omega arith)
@@ -246,7 +246,7 @@ module _ (bytes : List ℕ) where
           let same : indent next ≡ m = omega (arith, ltb-false m (indent next) p, ltb-false (indent next) m q) in
           entry-more-told d m keys r next rs later v t h (entries (values bytes d m) (suc n) m (keys ++ v.text ∷ []) (next ∷ later)) (go (keys ++ v.text ∷ []) next later lt same placed.0 placed.1)
 
-  entry-told : (d n m : ℕ) (keys : Keys) (r : Row) (rs : List Row) (k : Key) (colon : Cell) (behind : List Cell) (v : Value) → EntriesGoOn d m n → indent r ≡ m → BeginsEntry r k colon behind → IsKey r.first r.rest k v → (Contains keys v.text → ⊥)
+  entry-told : (d n m : ℕ) (keys : Keys) (r : ContentRow) (rs : List ContentRow) (k : Key) (colon : Cell) (behind : List Cell) (v : Value) → EntriesGoOn d m n → indent r ≡ m → BeginsEntry r k colon behind → IsKey r.first r.rest k v → (Contains keys v.text → ⊥)
       → length rs < n → ArePlaced bytes rs → (read : Read Tree) → EntryValueTold d m r.begin colon behind rs read
       → EntriesTold d m keys r rs (entries_behind v (λ rows. entries (values bytes d m) n m (keys ++ v.text ∷ []) rows) read)
   entry-told d n m keys r rs k colon behind v go e b i new lt placed (Ok x) h =
@@ -255,7 +255,7 @@ module _ (bytes : List ℕ) where
       behind-entry-told d n m keys r rs v x.0 x.1 go (nodes.EntryAt.an_entry e b i new h) (omega (arith, fewer)) (end-holds (IsPlaced bytes) rs x.1 back placed)
   entry-told d n m keys r rs k colon behind v go e b i new lt placed (Err f) h = breaks.EntriesBreak.entry_value v e b i new h
 
-  key-told : (d n m : ℕ) (keys : Keys) (r : Row) (rs : List Row) (k : Key) (colon : Cell) (behind : List Cell) → Tells d → OwnTells d → EntriesGoOn d m n → indent r ≡ m → BeginsEntry r k colon behind → IsPlaced bytes r → length rs < n → ArePlaced bytes rs
+  key-told : (d n m : ℕ) (keys : Keys) (r : ContentRow) (rs : List ContentRow) (k : Key) (colon : Cell) (behind : List Cell) → Tells d → OwnTells d → EntriesGoOn d m n → indent r ≡ m → BeginsEntry r k colon behind → IsPlaced bytes r → length rs < n → ArePlaced bytes rs
       → (read : Result Value Fault) → KeyTold r.first r.rest k read → EntriesTold d m keys r rs (key_read (values bytes d m) (λ ks rows. entries (values bytes d m) n m ks rows) keys r rs colon behind read)
   key-told d n m keys r rs k colon behind node own go e b here lt placed (Ok v) i =
       elim (has-tells keys v.text) [
@@ -268,14 +268,14 @@ module _ (bytes : List ℕ) where
       ]
   key-told d n m keys r rs k colon behind node own go e b here lt placed (Err f) i = breaks.EntriesBreak.broken_key d keys rs e b i
 
-  nothing-told : (d n m : ℕ) (keys : Keys) (r : Row) (rs : List Row) → indent r ≡ m → NoEntry r → EntriesTold d m keys r rs (entries_on (values bytes d m) (λ ks rows. entries (values bytes d m) n m ks rows) keys r rs None)
+  nothing-told : (d n m : ℕ) (keys : Keys) (r : ContentRow) (rs : List ContentRow) → indent r ≡ m → NoEntry r → EntriesTold d m keys r rs (entries_on (values bytes d m) (λ ks rows. entries (values bytes d m) n m ks rows) keys r rs None)
   nothing-told d n m keys r rs e none =
       elim (opens-view r.first r.rest) [
         | inl (h, t) ↦ rw t (breaks.EntriesBreak.open_key d keys rs e h)
         | inr (h, t) ↦ rw t (breaks.EntriesBreak.no_entry d keys rs e none h)
       ]
 
-  abbrev row_entries : ℕ → ℕ → ℕ → Keys → Row → List Row → Option Head → Read Entries
+  abbrev row_entries : ℕ → ℕ → ℕ → Keys → ContentRow → List ContentRow → Option EntryHead → Read Entries
   row_entries d n m keys r rs o = entries_on (values bytes d m) (λ ks rows. entries (values bytes d m) n m ks rows) keys r rs o
 
   pub entries-tell : (d m n : ℕ) → Tells d → OwnTells d → EntriesGoOn d m n
@@ -286,38 +286,38 @@ module _ (bytes : List ℕ) where
     where
       by : EntriesGoOn d m n → heads.EntryView r → EntriesTold d m keys r rs (row_entries d n m keys r rs (entry_of r))
       by go (inl (k, colon, behind, b, t)) =
-          subst (λ (o : Option Head). EntriesTold d m keys r rs (row_entries d n m keys r rs o)) (sym t) (key-told d n m keys r rs k colon behind node own go e b here (omega arith) placed (key_of r.first r.rest k) (key-tells r k colon behind b))
-      by go (inr (t, none)) = subst (λ (o : Option Head). EntriesTold d m keys r rs (row_entries d n m keys r rs o)) (sym t) (nothing-told d n m keys r rs e none)
+          subst (λ (o : Option EntryHead). EntriesTold d m keys r rs (row_entries d n m keys r rs o)) (sym t) (key-told d n m keys r rs k colon behind node own go e b here (omega arith) placed (key_of r.first r.rest k) (key-tells r k colon behind b))
+      by go (inr (t, none)) = subst (λ (o : Option EntryHead). EntriesTold d m keys r rs (row_entries d n m keys r rs o)) (sym t) (nothing-told d n m keys r rs e none)
 
   -- ---- nodes
 
-  sequence-told : (d : ℕ) (own : Bool) (r : Row) (rs : List Row) → is_item r ≡ true → (read : Read Items) → ItemsTold d own (indent r) r rs read → BlockTold (suc d) own r rs (as_sequence r read)
+  sequence-told : (d : ℕ) (own : Bool) (r : ContentRow) (rs : List ContentRow) → is_item r ≡ true → (read : Read Items) → ItemsTold d own (indent r) r rs read → BlockTold (suc d) own r rs (as_sequence r read)
   sequence-told d own r rs i (Ok x) h = nodes.BlockAt.block_sequence h
   sequence-told d own r rs i (Err f) h = breaks.BlockBreaks.block_sequence i h
 
-  mapping-told : (d : ℕ) (r : Row) (rs : List Row) (k : Key) (colon : Cell) (behind : List Cell) → BeginsEntry r k colon behind → (read : Read Entries) → EntriesTold d (indent r) [] r rs read → BlockTold (suc d) false r rs (as_mapping r read)
+  mapping-told : (d : ℕ) (r : ContentRow) (rs : List ContentRow) (k : Key) (colon : Cell) (behind : List Cell) → BeginsEntry r k colon behind → (read : Read Entries) → EntriesTold d (indent r) [] r rs read → BlockTold (suc d) false r rs (as_mapping r read)
   mapping-told d r rs k colon behind b (Ok x) h = nodes.BlockAt.block_mapping h
   mapping-told d r rs k colon behind b (Err f) h = breaks.BlockBreaks.block_mapping b h
 
-  block-told : (above d : ℕ) (r : Row) (rs : List Row) (read : Read Tree) → BlockTold d false r rs read → NodeTold above d r rs read
+  block-told : (above d : ℕ) (r : ContentRow) (rs : List ContentRow) (read : Read Tree) → BlockTold d false r rs read → NodeTold above d r rs read
   block-told above d r rs (Ok x) h = nodes.NodeAt.block above h
   block-told above d r rs (Err f) h = breaks.NodeBreaks.block above h
 
-  no-block-told : (above d : ℕ) (r : Row) (rs : List Row) → BeginsNoBlock r → (read : Read Tree) → ValueTold bytes above d r rs read → NodeTold above d r rs read
+  no-block-told : (above d : ℕ) (r : ContentRow) (rs : List ContentRow) → BeginsNoBlock r → (read : Read Tree) → ValueTold bytes above d r rs read → NodeTold above d r rs read
   no-block-told above d r rs n (Ok x) h = nodes.NodeAt.value n h
   no-block-told above d r rs n (Err f) h = breaks.NodeBreaks.value n h
 
-  value-node-told : (above d : ℕ) (r : Row) (rs : List Row) → BeginsNoBlock r → IsPlaced bytes r → NodeTold above d r rs (node_at bytes d false above r rs)
+  value-node-told : (above d : ℕ) (r : ContentRow) (rs : List ContentRow) → BeginsNoBlock r → IsPlaced bytes r → NodeTold above d r rs (node_at bytes d false above r rs)
   value-node-told above d r rs n here =
       subst (NodeTold above d r rs) (sym (value-node bytes d false above r rs n)) (no-block-told above d r rs n (value_on bytes above d r rs) (value-tells bytes above d r rs here))
 
-  items-node-told : (above d : ℕ) (own : Bool) (r : Row) (rs : List Row) → Tells d → is_item r ≡ true → IsPlaced bytes r → ArePlaced bytes rs → BlockTold (suc d) own r rs (node_at bytes (suc d) own above r rs)
+  items-node-told : (above d : ℕ) (own : Bool) (r : ContentRow) (rs : List ContentRow) → Tells d → is_item r ≡ true → IsPlaced bytes r → ArePlaced bytes rs → BlockTold (suc d) own r rs (node_at bytes (suc d) own above r rs)
   items-node-told above d own r rs node i here placed =
       let n = suc (length (r ∷ rs)) in
       subst (BlockTold (suc d) own r rs) (sym (sequence-node bytes d own above r rs i))
       (sequence-told d own r rs i (items (inner bytes d) n own (indent r) (r ∷ rs)) (items-tell d own (indent r) n node r rs (omega arith) refl i here placed))
 
-  entries-node-told : (above d : ℕ) (r : Row) (rs : List Row) (k : Key) (colon : Cell) (behind : List Cell) → Tells d → OwnTells d → is_item r ≡ false → BeginsEntry r k colon behind → IsPlaced bytes r → ArePlaced bytes rs
+  entries-node-told : (above d : ℕ) (r : ContentRow) (rs : List ContentRow) (k : Key) (colon : Cell) (behind : List Cell) → Tells d → OwnTells d → is_item r ≡ false → BeginsEntry r k colon behind → IsPlaced bytes r → ArePlaced bytes rs
       → BlockTold (suc d) false r rs (node_at bytes (suc d) false above r rs)
   entries-node-told above d r rs k colon behind node own i b here placed =
       let n = suc (length (r ∷ rs)) in

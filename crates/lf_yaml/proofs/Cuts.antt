@@ -15,7 +15,7 @@ use Rattle.lf_scalar.proofs.SmallBytes.{small-blank}
 use Rattle.lf_scalar.proofs.Cells.{cells-length}
 use Rattle.lf_yaml.specs.views.Shown.{shown}
 use Rattle.lf_yaml.specs.views.Cursor.{IsRowOf, rows_after}
-use Rattle.lf_yaml.specs.Rows.{Row}
+use Rattle.lf_yaml.specs.Rows.{ContentRow}
 use Rattle.lf_yaml.specs.declared.row.ContentLine.{ContentLine}
 use Rattle.lf_yaml.proofs.Placed.{FirstCell, first-cell}
 use Rattle.lf_yaml.proofs.RowCode.{text-shown}
@@ -58,7 +58,7 @@ row-utf8 bytes r utf8 full is =
     subst IsUtf8 (sym is.text) (IsUtf8-take (drop r.at bytes) (length r.text.now) (IsUtf8-drop bytes r.at utf8 is.boundary) b)
 
 -- the next row's text too
-pub next-utf8 : (bytes : List ℕ) (from : ℕ) (r : ContentLine) (rs : List Row) → IsUtf8 bytes → 0 < length r.text.now → rows_after bytes from ≡ shown r ∷ rs → IsCharBoundary bytes r.at → r.text.now ≡ take (length r.text.now) (drop r.at bytes) → IsUtf8 r.text.now
+pub next-utf8 : (bytes : List ℕ) (from : ℕ) (r : ContentLine) (rs : List ContentRow) → IsUtf8 bytes → 0 < length r.text.now → rows_after bytes from ≡ shown r ∷ rs → IsCharBoundary bytes r.at → r.text.now ≡ take (length r.text.now) (drop r.at bytes) → IsUtf8 r.text.now
 next-utf8 bytes from r rs utf8 full e b t = row-utf8 bytes r utf8 full (record { placed = placed-first bytes from (shown r) rs e; boundary = b; text = t })
 
 -- ---- behind blanks

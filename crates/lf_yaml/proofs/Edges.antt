@@ -13,7 +13,7 @@ use Rattle.lf_scalar.specs.reading.Quoted.{wrong_behind}
 use Rattle.lf_scalar.proofs.Tails.{tail-told, told-tail}
 use Rattle.lf_base.specs.declared.refusal.Refusal.{Refusal}
 use Rattle.lf_base.specs.declared.refusal.Refusal.TheVariants as refusal_of
-use Rattle.lf_yaml.specs.Rows.{Row, indent, is_opening_text, is_opening, without_opening}
+use Rattle.lf_yaml.specs.Rows.{ContentRow, indent, is_opening_text, is_opening, without_opening}
 use Rattle.lf_yaml.specs.Tree.{Tree}
 use Rattle.lf_yaml.specs.Characters.{mark_length}
 use Rattle.lf_yaml.specs.Document.{document_rows}
@@ -73,10 +73,10 @@ pub rows-from-mark : (bytes : List ℕ) (at : ℕ) → at ≡ mark_length bytes 
 unfolding rows_after
 rows-from-mark bytes at e = ap (λ (n : ℕ). without_opening (rows_after bytes n)) (sym e)
 
-pub behind-opening : (bytes : List ℕ) (at behind : ℕ) (r : Row) → at ≡ mark_length bytes → rows_after bytes at ≡ r ∷ rows_after bytes behind → is_opening r ≡ true → document_rows bytes ≡ rows_after bytes behind
+pub behind-opening : (bytes : List ℕ) (at behind : ℕ) (r : ContentRow) → at ≡ mark_length bytes → rows_after bytes at ≡ r ∷ rows_after bytes behind → is_opening r ≡ true → document_rows bytes ≡ rows_after bytes behind
 behind-opening bytes at behind r e h o = rows-from-mark bytes at e ∙ ap without_opening h ∙ rw o refl
 
-pub no-opening : (bytes : List ℕ) (at behind : ℕ) (r : Row) → at ≡ mark_length bytes → rows_after bytes at ≡ r ∷ rows_after bytes behind → is_opening r ≡ false → document_rows bytes ≡ r ∷ rows_after bytes behind
+pub no-opening : (bytes : List ℕ) (at behind : ℕ) (r : ContentRow) → at ≡ mark_length bytes → rows_after bytes at ≡ r ∷ rows_after bytes behind → is_opening r ≡ false → document_rows bytes ≡ r ∷ rows_after bytes behind
 no-opening bytes at behind r e h o = rows-from-mark bytes at e ∙ ap without_opening h ∙ rw o refl
 
 pub no-rows : (bytes : List ℕ) (at : ℕ) → at ≡ mark_length bytes → rows_after bytes at ≡ [] → document_rows bytes ≡ []
@@ -84,20 +84,20 @@ no-rows bytes at e h = rows-from-mark bytes at e ∙ ap without_opening h
 
 -- ---- the root
 
-pub root-is : (bytes : List ℕ) (r : Row) (rs : List Row) → document_rows bytes ≡ r ∷ rs → document_of bytes (document_rows bytes) ≡ (node_at bytes 16 false 0 r rs >>= λ x. behind_root r x)
+pub root-is : (bytes : List ℕ) (r : ContentRow) (rs : List ContentRow) → document_rows bytes ≡ r ∷ rs → document_of bytes (document_rows bytes) ≡ (node_at bytes 16 false 0 r rs >>= λ x. behind_root r x)
 unfolding document_of
 root-is bytes r rs e = ap (document_of bytes) e
 
-pub root-fails : (bytes : List ℕ) (r : Row) (rs : List Row) (e : Refusal) → document_rows bytes ≡ r ∷ rs → Fails e (node_at bytes 16 false 0 r rs) → Fails e (document_of bytes (document_rows bytes))
+pub root-fails : (bytes : List ℕ) (r : ContentRow) (rs : List ContentRow) (e : Refusal) → document_rows bytes ≡ r ∷ rs → Fails e (node_at bytes 16 false 0 r rs) → Fails e (document_of bytes (document_rows bytes))
 root-fails bytes r rs refusal_of.Memory h k = tt
 root-fails bytes r rs (refusal_of.At kind span) h k = root-is bytes r rs h ∙ ap (λ (x : Read Tree). x >>= λ x. behind_root r x) k
 
-pub root-alone : (bytes : List ℕ) (r : Row) (rs left : List Row) (t : Tree) → document_rows bytes ≡ r ∷ rs → node_at bytes 16 false 0 r rs ≡ Ok (t, left) → left ≡ [] → document_of bytes (document_rows bytes) ≡ Ok t
-root-alone bytes r rs left t h k e = root-is bytes r rs h ∙ ap (λ (x : Read Tree). x >>= λ x. behind_root r x) k ∙ ap (λ (xs : List Row). behind_root r (t, xs)) e
+pub root-alone : (bytes : List ℕ) (r : ContentRow) (rs left : List ContentRow) (t : Tree) → document_rows bytes ≡ r ∷ rs → node_at bytes 16 false 0 r rs ≡ Ok (t, left) → left ≡ [] → document_of bytes (document_rows bytes) ≡ Ok t
+root-alone bytes r rs left t h k e = root-is bytes r rs h ∙ ap (λ (x : Read Tree). x >>= λ x. behind_root r x) k ∙ ap (λ (xs : List ContentRow). behind_root r (t, xs)) e
 
-pub root-followed : (bytes : List ℕ) (r next : Row) (rs left later : List Row) (t : Tree) → document_rows bytes ≡ r ∷ rs → node_at bytes 16 false 0 r rs ≡ Ok (t, left) → left ≡ next ∷ later → document_of bytes (document_rows bytes) ≡ Err (behind_fault r next)
+pub root-followed : (bytes : List ℕ) (r next : ContentRow) (rs left later : List ContentRow) (t : Tree) → document_rows bytes ≡ r ∷ rs → node_at bytes 16 false 0 r rs ≡ Ok (t, left) → left ≡ next ∷ later → document_of bytes (document_rows bytes) ≡ Err (behind_fault r next)
 root-followed bytes r next rs left later t h k e =
-    root-is bytes r rs h ∙ ap (λ (x : Read Tree). x >>= λ x. behind_root r x) k ∙ ap (λ (xs : List Row). behind_root r (t, xs)) e ∙ told
+    root-is bytes r rs h ∙ ap (λ (x : Read Tree). x >>= λ x. behind_root r x) k ∙ ap (λ (xs : List ContentRow). behind_root r (t, xs)) e ∙ told
   where
     told : behind_root r (t, next ∷ later) ≡ Err (behind_fault r next)
     told =

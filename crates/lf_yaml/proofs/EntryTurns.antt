@@ -1,26 +1,23 @@
 -- Flow mappings, as the code reads them.
-use Rattle.std.proofs.Common.{◌≡◌, ℕ, suc, Bool, true, false, cond, List, [], ◌∷◌, ◌++◌, length, map, Result, Ok, Err, refl, ap, arith, sym, ◌∙◌}
+use Rattle.std.proofs.Common.{◌≡◌, ℕ, suc, Bool, true, false, cond, List, [], ◌∷◌, ◌++◌, length, map, Result, Ok, Err, IfOk, refl, ap, arith, sym, ◌∙◌}
 use Rattle.std.proofs.lemmas.List.{map_push}
 use Rattle.lf_base.specs.declared.refusal.Refusal.{Refusal}
 use Rattle.lf_base.specs.declared.refusal.Refusal.TheVariants as refusal_of
 use Rattle.lf_base.specs.declared.kind.Kind.TheVariants.{DoubleKey}
 use Rattle.lf_base.specs.declared.fault.Fault.{Fault}
 use Rattle.lf_scalar.specs.Cells.{Cell, Value, Fails, ◌>>=◌}
-use Rattle.lf_yaml.specs.Tree.{Tree, Entries, no_entries, entries_of, pair}
+use Rattle.lf_yaml.specs.Tree.{Tree, mapping, Entries, no_entries, pair}
 use Rattle.lf_yaml.specs.Flow.{next_on}
-use Rattle.lf_yaml.specs.reading.Trees.{FlowRead, Later, Signed, Valued, has, flow_key, flow_value, mapping_sign, value_behind, key_behind, mapping_in, Keys}
-use Rattle.lf_yaml.specs.reading.FlowTurns.{with_pair, turned_entries, entry_at, closed_entries}
+use Rattle.lf_yaml.specs.reading.Trees.{FlowRead, FlowTree, as_tree, with_entry, Later, Signed, Valued, has, flow_key, flow_value, mapping_sign, value_behind, key_behind, mapping_in, Keys}
+use Rattle.lf_yaml.specs.reading.FlowTurns.{TurnGives, TurnsEntries, HasTurned, after_entries, texts_of, entry_at, entries_from, entries_tree, EntriesBehind}
 use Rattle.lf_yaml.specs.views.Shown.{shown}
 use Rattle.lf_yaml.specs.declared.node.Entry.{Entry}
-use Rattle.lf_yaml.specs.declared.row.ContentLine.{ContentLine}
-use Rattle.lf_yaml.specs.declared.place.FlowCursor.{FlowCursor}
+use Rattle.lf_yaml.specs.declared.key_set.KeySet.{KeySet}
+use Rattle.lf_yaml.specs.declared.turn.Turn.{Turn}
 use Rattle.lf_yaml.specs.declared.turn.Turn.TheVariants as turn
+use Rattle.lf_yaml.proofs.Collected.{Pair, entries-push, entries-all, entries-err, texts-more}
 use Rattle.lf_yaml.proofs.Sequences.{Enough, always-enough}
 use Rattle.lf_yaml.proofs.Mappings.{mapping-is, mapping-breaks, MappingTold, mapping-tells}
-
--- the texts of the keys of some entries
-abbrev pub texts_of : List (Value × Tree) → Keys
-texts_of es = map (λ e. e.0.text) es
 
 -- ---- one entry
 
@@ -62,25 +59,6 @@ module _ (bytes : List ℕ) (later : Later) (keys : Keys) where
 
 -- ---- what is read behind some entries
 
-abbrev pub after_entries : List (Value × Tree) → FlowRead Entries → FlowRead Entries
-after_entries [] read = read
-after_entries (e ∷ es) read = with_pair e (after_entries es read)
-
-push-entries : (es : List (Value × Tree)) (e : Value × Tree) (read : FlowRead Entries) → after_entries (es ++ e ∷ []) read ≡ after_entries es (with_pair e read)
-push-entries [] e read = refl
-push-entries (u ∷ es) e read = ap (with_pair u) (push-entries es e read)
-
-all-entries : (es : List (Value × Tree)) (c : Cell) → after_entries es (Ok (no_entries, c)) ≡ Ok (entries_of es, c)
-all-entries [] c = refl
-all-entries (e ∷ es) c = ap (with_pair e) (all-entries es c)
-
-entries-err : (es : List (Value × Tree)) (f : Fault) → after_entries es (Err f) ≡ Err f
-entries-err [] f = refl
-entries-err (e ∷ es) f = ap (with_pair e) (entries-err es f)
-
-pub texts-more : (entries now : List Entry) (found : Entry) → now ≡ entries ++ found ∷ [] → texts_of (map pair now) ≡ texts_of (map pair entries) ++ (pair found).0.text ∷ []
-texts-more entries now found e = ap (λ (es : List Entry). texts_of (map pair es)) e ∙ ap texts_of (map_push pair entries found) ∙ map_push (λ (x : Value × Tree). x.0.text) (map pair entries) (pair found)
-
 module _ (bytes : List ℕ) where
   enough-entries : (n m : ℕ) (keys : Keys) (at : ℕ) → Enough (length bytes) n at → Enough (length bytes) m at → mapping_in bytes n keys at ≡ mapping_in bytes m keys at
   enough-entries n m keys at a b = by (mapping_in bytes n keys at) (mapping-tells bytes n keys at a)
@@ -89,43 +67,36 @@ module _ (bytes : List ℕ) where
       by (Ok x) h = sym (mapping-is bytes m keys at x.0 x.1 b h)
       by (Err f) h = sym (mapping-breaks bytes m keys at f b h)
 
-  abbrev pub all_from : Keys → ℕ → FlowRead Entries
-  all_from keys at = mapping_in bytes (suc (length bytes)) keys at
-
-  abbrev pub more_from : Keys → ℕ → FlowRead Entries
+  abbrev more_from : Keys → ℕ → FlowRead Entries
   more_from keys at = mapping_in bytes (suc (suc (length bytes))) keys at
 
-  one-more : (keys : Keys) (at : ℕ) → all_from keys at ≡ more_from keys at
-  one-more keys at = enough-entries (suc (length bytes)) (suc (suc (length bytes))) keys at (always-enough (length bytes) at) (omega arith, omega arith)
+  one-more : (keys : Keys) (at : ℕ) → more_from keys at ≡ entries_from bytes keys at
+  one-more keys at = enough-entries (suc (suc (length bytes))) (suc (length bytes)) keys at (omega arith, omega arith) (always-enough (length bytes) at)
 
-  module _ (whole : FlowRead Entries) (entries : List Entry) (at : ℕ) (so_far : after_entries (map pair entries) (all_from (texts_of (map pair entries)) at) ≡ whole) where
-    abbrev before : Keys
-    before = texts_of (map pair entries)
+  module _ (found : List Entry) where
+    abbrev whole : FlowRead Entries → FlowTree
+    whole read = as_tree mapping (after_entries (map pair found) read)
 
-    so-more : after_entries (map pair entries) (more_from before at) ≡ whole
-    so-more = ap (after_entries (map pair entries)) (sym (one-more before at)) ∙ so_far
+    abbrev keys : Keys
+    keys = texts_of (map pair found)
 
-    pub entries-end : (closing : ContentLine) (next : ℕ) → more_from before at ≡ turned_entries all_from before (turn.Ends closing next) → whole ≡ Ok (closed_entries (entries, closing))
-    entries-end closing next e = sym so-more ∙ ap (after_entries (map pair entries)) e ∙ all-entries (map pair entries) (shown closing).first
+    pushed : (x : Entry) (read : FlowRead Entries) → whole (with_entry (pair x).0 (pair x).1 read) ≡ as_tree mapping (after_entries (map pair (found ++ x ∷ [])) read)
+    pushed x read = ap (as_tree mapping) (sym (entries-push (map pair found) (pair x) read) ∙ ap (λ (es : List Pair). after_entries es read) (sym (map_push pair found x)))
 
-    pub entries-last : (found : Entry) (now : List Entry) (closing : ContentLine) (next : ℕ) → now ≡ entries ++ found ∷ [] → more_from before at ≡ turned_entries all_from before (turn.Last found closing next) → whole ≡ Ok (closed_entries (now, closing))
-    entries-last found now closing next e t =
-        let pushed : map pair now ≡ map pair entries ++ pair found ∷ [] = ap (map pair) e ∙ map_push pair entries found in
-        sym so-more ∙ ap (after_entries (map pair entries)) t
-        ∙ sym (push-entries (map pair entries) (pair found) (Ok (no_entries, (shown closing).first)))
-        ∙ ap (λ (es : List (Value × Tree)). after_entries es (Ok (no_entries, (shown closing).first))) (sym pushed)
-        ∙ all-entries (map pair now) (shown closing).first
+    ended : (entries : List Entry) (c : Cell) → as_tree mapping (after_entries (map pair entries) (Ok (no_entries, c))) ≡ Ok (entries_tree entries, c)
+    ended entries c = ap (as_tree mapping) (entries-all (map pair entries) c)
 
-    pub entries-more : (found : Entry) (now : List Entry) (place : FlowCursor) → now ≡ entries ++ found ∷ [] → more_from before at ≡ turned_entries all_from before (turn.More found place)
-        → after_entries (map pair now) (all_from (texts_of (map pair now)) place.at) ≡ whole
-    entries-more found now place e t =
-        let pushed : map pair now ≡ map pair entries ++ pair found ∷ [] = ap (map pair) e ∙ map_push pair entries found in
-        let texts : texts_of (map pair now) ≡ before ++ (pair found).0.text ∷ [] = texts-more entries now found e in
-        ap (λ (ks : Keys). after_entries (map pair now) (all_from ks place.at)) texts
-        ∙ ap (λ (es : List (Value × Tree)). after_entries es (all_from (before ++ (pair found).0.text ∷ []) place.at)) pushed
-        ∙ push-entries (map pair entries) (pair found) (all_from (before ++ (pair found).0.text ∷ []) place.at)
-        ∙ ap (after_entries (map pair entries)) (sym t) ∙ so-more
+    -- a turn, where one turn more is granted than is needed
+    pub entries-turned : (set : KeySet) (at : ℕ) (read : FlowTree) → whole (entries_from bytes keys at) ≡ read → (r : Result (Turn Entry) Refusal) → TurnsEntries (λ ks at. entries_from bytes ks at) keys r (more_from keys at)
+        → IfOk r (λ t. HasTurned set keys t) → TurnGives entries_tree (EntriesBehind bytes set) found read r
+    entries-turned set at read so_far r t has = by r t has
+      where
+        is : (x : FlowRead Entries) → more_from keys at ≡ x → read ≡ whole x
+        is x e = sym so_far ∙ ap whole (sym (one-more keys at) ∙ e)
 
-    pub entries-fail : (e : Refusal) → Fails e (more_from before at) → Fails e whole
-    entries-fail refusal_of.Memory h = tt
-    entries-fail (refusal_of.At kind span) h = sym so-more ∙ ap (after_entries (map pair entries)) h ∙ entries-err (map pair entries) (record { kind = kind; span = span })
+        by : (r : Result (Turn Entry) Refusal) → TurnsEntries (λ ks at. entries_from bytes ks at) keys r (more_from keys at) → IfOk r (λ t. HasTurned set keys t) → TurnGives entries_tree (EntriesBehind bytes set) found read r
+        by (Ok (turn.Ends closing next)) t has = is _ t ∙ ended found (shown closing).first
+        by (Ok (turn.Last x closing next)) t has = is _ t ∙ pushed x (Ok (no_entries, (shown closing).first)) ∙ ended (found ++ x ∷ []) (shown closing).first
+        by (Ok (turn.More x place)) t has = rw (texts-more found x) (has, sym (is _ t ∙ pushed x (entries_from bytes (keys ++ (pair x).0.text ∷ []) place.at)))
+        by (Err refusal_of.Memory) t has = tt
+        by (Err (refusal_of.At kind span)) t has = is _ t ∙ ap (as_tree mapping) (entries-err (map pair found) (record { kind = kind; span = span }))

@@ -22,7 +22,7 @@ use Rattle.lf_yaml.specs.Tree.{Tree}
 use Rattle.lf_yaml.specs.Spans.{empty_at}
 use Rattle.lf_yaml.specs.Flow.{Next, at_part, broken, next_on, is_flow_sign, begins_flow, line_on, left_on, FlowScalar, begins_part, part_fault, FlowKey, NoSign, FlowKeyBreaks, EndsValue, FlowValue, FlowValueBreaks}
 use Rattle.lf_yaml.specs.Flow as flow
-use Rattle.lf_yaml.specs.reading.Trees.{sign_behind, behind_closing, Part, flow_scalar, Signed, no_sign, signed, signed_behind, far_sign, bare_key, plain_key, quoted_key as key_between, flow_key_by, flow_key, Valued, scalar_part, value_part, flow_value}
+use Rattle.lf_yaml.specs.reading.Trees.{sign_behind, behind_closing, FlowPart, flow_scalar, Signed, no_sign, signed, signed_behind, far_sign, bare_key, plain_key, quoted_key as key_between, flow_key_by, flow_key, Valued, scalar_part, value_part, flow_value}
 use Rattle.lf_yaml.proofs.HeadLaws.{quotes-is, quotes-view, between-view, single_line, BetweenTold, between-tells, between-is, between-breaks, sign-is, sign-view}
 use Rattle.lf_yaml.proofs.FlowParts.{part-within, part-is, part-breaks, PartTold, part-tells, part-begins, quote-begins, flow-begins, part-no-sign, flow-quotes, no-part-quotes, no-part-flow, part-flow, scalar-within}
 
@@ -244,7 +244,7 @@ module _ (bytes : List ℕ) where
   FlowValueTold colon (Ok x) = FlowValue bytes colon x.0 x.1
   FlowValueTold colon (Err f) = FlowValueBreaks bytes colon f
 
-  scalar-told : (colon c : Cell) (cs : List Cell) → next_on bytes (suc colon.at) ≡ at_part c cs → (EndsValue c → ⊥) → (r : Result Part Fault) → PartTold bytes c cs r → FlowValueTold colon (scalar_part r)
+  scalar-told : (colon c : Cell) (cs : List Cell) → next_on bytes (suc colon.at) ≡ at_part c cs → (EndsValue c → ⊥) → (r : Result FlowPart Fault) → PartTold bytes c cs r → FlowValueTold colon (scalar_part r)
   scalar-told colon c cs e n (Ok x) h = flow.FlowValue.scalar e h
   scalar-told colon c cs e n (Err f) h = flow.FlowValueBreaks.scalar e n h
 

@@ -24,10 +24,10 @@ use Rattle.lf_scalar.proofs.Rising.{Rises, LinesRise, rises-le, rises-low, rises
 use Rattle.lf_scalar.proofs.Tails.{true-false}
 use Rattle.lf_scalar.proofs.Within.{rises_high}
 use Rattle.lf_scalar.specs.Lines.{start_of}
-use Rattle.lf_yaml.specs.Rows.{Row, text_of, is_mark, headed, content_row, rows_of}
+use Rattle.lf_yaml.specs.Rows.{ContentRow, text_of, is_mark, headed, content_row, rows_of}
 use Rattle.lf_yaml.specs.Heads.{OpensQuote}
 use Rattle.lf_yaml.specs.Flow.{first_line, later_lines, lines_on, line_on, lines_below, Next, at_part, broken, on_line, next_part, next_on, begins_flow, FlowScalar, quoted, plain, begins_part, part_fault, FlowScalarBreaks, no_scalar, open_quote, inside, plain_lines}
-use Rattle.lf_yaml.specs.reading.Trees.{quotes_of, Folded, plain_from, Part, plain_part, with_after, quoted_part, part_by, flow_scalar}
+use Rattle.lf_yaml.specs.reading.Trees.{quotes_of, Folded, plain_from, FlowPart, plain_part, with_after, quoted_part, part_by, flow_scalar}
 use Rattle.lf_yaml.proofs.FlowLines.{PlainTold, plain-again, plain-breaks, plain-told, plain-within, plain-boundary, InFile, source-in, lines-here, source-rises, lines-rise-here}
 use Rattle.lf_yaml.proofs.HeadLaws.{NoQuote, quotes-is, quotes-view, not-quote, between-view, single_line, BetweenTold, between-tells, between-is, between-breaks}
 use Rattle.lf_laws.proofs.Members.{all_back}
@@ -35,15 +35,15 @@ use Rattle.lf_laws.proofs.Members.{all_back}
 -- ---- the next part stands further on
 
 -- the first of some rows, if there is one, begins at an offset or later, and its cells rise
-abbrev FirstRow : ℕ → ℕ → List Row → Type 0
+abbrev FirstRow : ℕ → ℕ → List ContentRow → Type 0
 FirstRow lo hi [] = Unit {0}
 FirstRow lo hi (r ∷ rs) = (lo ≤ r.first.at) × Rises r.first.at (text_of r) hi
 
-first-low : (lo low hi : ℕ) (rs : List Row) → low ≤ lo → FirstRow lo hi rs → FirstRow low hi rs
+first-low : (lo low hi : ℕ) (rs : List ContentRow) → low ≤ lo → FirstRow lo hi rs → FirstRow low hi rs
 first-low lo low hi [] le h = tt
 first-low lo low hi (r ∷ rs) le h = (let at = h.0 in omega (arith, le, at), h.1)
 
-line-first : (lo hi : ℕ) (l : Line) (rs : List Row) → Rises lo l.text l.break → l.break ≤ hi → FirstRow (suc l.break) hi rs → FirstRow lo hi (content_row l ++ rs)
+line-first : (lo hi : ℕ) (l : Line) (rs : List ContentRow) → Rises lo l.text l.break → l.break ≤ hi → FirstRow (suc l.break) hi rs → FirstRow lo hi (content_row l ++ rs)
 line-first lo hi l rs r le below = by (begins_with 35 (after_spaces l.text)) (after_spaces l.text) (rises-part lo l.text (after_spaces l.text) l.break (after-spaces-part l.text) r)
   where
     lower : FirstRow lo hi rs
@@ -63,7 +63,7 @@ abbrev NextLow : ℕ → ℕ → Next → Type 0
 NextLow lo hi (broken f) = Unit {0}
 NextLow lo hi (at_part c cs) = (lo ≤ c.at) × Rises c.at (c ∷ cs) hi
 
-on-line-low : (end lo hi : ℕ) (rs : List Row) → FirstRow lo hi rs → NextLow lo hi (on_line end rs)
+on-line-low : (end lo hi : ℕ) (rs : List ContentRow) → FirstRow lo hi rs → NextLow lo hi (on_line end rs)
 on-line-low end lo hi [] h = tt
 on-line-low end lo hi (r ∷ rs) h =
     elim (cases_Bool (eqb r.first.byte 9)) [
@@ -74,7 +74,7 @@ on-line-low end lo hi (r ∷ rs) h =
       ]
     ]
 
-next-low : (end : ℕ) (blank : Bool) (lo hi : ℕ) (cs : List Cell) (rs : List Row) → Rises lo cs hi → FirstRow lo hi rs → NextLow lo hi (next_part end blank cs rs)
+next-low : (end : ℕ) (blank : Bool) (lo hi : ℕ) (cs : List Cell) (rs : List ContentRow) → Rises lo cs hi → FirstRow lo hi rs → NextLow lo hi (next_part end blank cs rs)
 unfolding next_part
 next-low end blank lo hi [] rs h rows = on-line-low end lo hi rs rows
 next-low end blank lo hi (c ∷ cs) rs h rows =
@@ -187,7 +187,7 @@ part-breaks bytes c cs _ (open_quote h) = open-part bytes c cs h
 part-breaks bytes c cs f (inside kind e h) = quoted-part bytes kind c cs h.0 e ∙ ap (with_after (suc h.0.closing.at)) (between-breaks kind c (source_at bytes (suc c.at)) f h)
 part-breaks bytes c cs f (plain_lines p h) = plain-lines bytes c cs p ∙ ap (plain_part c) (plain-breaks (line_on bytes c.at) (lines_below bytes c.at) f h)
 
-abbrev pub PartTold : List ℕ → Cell → List Cell → Result Part Fault → Type 0
+abbrev pub PartTold : List ℕ → Cell → List Cell → Result FlowPart Fault → Type 0
 PartTold bytes c cs (Ok x) = FlowScalar bytes c cs x.0 x.1
 PartTold bytes c cs (Err f) = FlowScalarBreaks bytes c cs f
 

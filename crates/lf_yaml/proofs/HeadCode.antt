@@ -10,16 +10,16 @@ use Rattle.lf_scalar.specs.Cells.{Cell, cell, cells, bytes_of}
 use Rattle.lf_scalar.specs.Lines.{is_blank}
 use Rattle.lf_scalar.specs.Quoted.{raw}
 use Rattle.lf_scalar.proofs.Tails.{true-false}
-use Rattle.lf_yaml.specs.Rows.{Row, row, text_of, left_of}
+use Rattle.lf_yaml.specs.Rows.{ContentRow, row, text_of, left_of}
 use Rattle.lf_yaml.specs.Heads.{Key, BeginsEntry}
 use Rattle.lf_yaml.specs.Heads as head
-use Rattle.lf_yaml.specs.reading.Trees.{Head, entry_of}
+use Rattle.lf_yaml.specs.reading.Trees.{EntryHead, entry_of}
 use Rattle.lf_yaml.specs.views.Shown.{shown}
 use Rattle.lf_yaml.specs.views.Cursor.{IsRowOf}
 use Rattle.lf_yaml.specs.views.Headed.{headed}
 use Rattle.lf_yaml.specs.reading.BlockTurns.{IsBehind}
 use Rattle.lf_yaml.specs.declared.row.ContentLine.{ContentLine}
-use Rattle.lf_yaml.specs.declared.entries.Head.{Head as CodeHead}
+use Rattle.lf_yaml.specs.declared.entries.EntryHead.{EntryHead as CodeHead}
 use Rattle.lf_scalar.proofs.Cells.{cells-bytes, no-cell}
 use Rattle.lf_yaml.proofs.HeadLaws.{entry-view}
 use Rattle.lf_yaml.proofs.Placed.{placed-left, cons-cells, none-row}
@@ -30,7 +30,7 @@ use Rattle.lf_yaml.proofs.FlowKeys.{split-source}
 
 -- ---- an entry's row is what stands before its `:`, this sign, and what stands behind it
 
-pub entry-source : (r : Row) (k : Key) (colon : Cell) (behind : List Cell) → BeginsEntry r k colon behind → (front : List Cell) × (text_of r ≡ front ++ colon ∷ behind)
+pub entry-source : (r : ContentRow) (k : Key) (colon : Cell) (behind : List Cell) → BeginsEntry r k colon behind → (front : List Cell) × (text_of r ≡ front ++ colon ∷ behind)
 entry-source r _ _ _ (head.BeginsEntry.bare {front = front} {rest = rest} {colon = colon} p l e) = (front, split-source head.never _ (text_of r) (front, colon, rest) e)
 entry-source r _ _ _ (head.BeginsEntry.quoted {rest = rest} {colon = colon} kind c e l s b) =
     let k = blanks-suffix c.rest in
@@ -41,22 +41,22 @@ entry-source r _ _ _ (head.BeginsEntry.quoted {rest = rest} {colon = colon} kind
     whole ∙ ap (λ (xs : List Cell). (raws ++ c.closing ∷ []) ++ xs) behind ∙ sym (append_assoc (raws ++ c.closing ∷ []) k.0 (colon ∷ rest)) in
     (r.first ∷ ((raws ++ c.closing ∷ []) ++ k.0), ap (λ (xs : List Cell). r.first ∷ xs) all)
 
-pub entry-split : (r : Row) (h : Head) → entry_of r ≡ Some h → (front : List Cell) × (text_of r ≡ front ++ h.1 ∷ h.2)
+pub entry-split : (r : ContentRow) (h : EntryHead) → entry_of r ≡ Some h → (front : List Cell) × (text_of r ≡ front ++ h.1 ∷ h.2)
 entry-split r h e =
     elim (entry-view r) [
       | inl (k, colon, behind, b, t) ↦
           let same : some (k, colon, behind) ≡ some h = sym t ∙ e in
-          subst (λ (x : Head). (front : List Cell) × (text_of r ≡ front ++ x.1 ∷ x.2)) (inside (k, colon, behind) h same) (entry-source r k colon behind b)
+          subst (λ (x : EntryHead). (front : List Cell) × (text_of r ≡ front ++ x.1 ∷ x.2)) (inside (k, colon, behind) h same) (entry-source r k colon behind b)
       | inr (t, none) ↦ absurd (never h (sym t ∙ e))
     ]
   where
-    some : Head → Option Head
+    some : EntryHead → Option EntryHead
     some h = Some h
 
-    inside : (x y : Head) → some x ≡ some y → x ≡ y
+    inside : (x y : EntryHead) → some x ≡ some y → x ≡ y
     inside x y e = cc
 
-    never : (h : Head) → None ≡ some h → ⊥
+    never : (h : EntryHead) → None ≡ some h → ⊥
     never h e = cc
 
 -- where some cells of a text stand in it
@@ -103,13 +103,13 @@ head-behind r h lt e =
 
 -- ---- what is left behind a sign
 
-pub record LeftAt (at : ℕ) (text : List ℕ) (left : Row) : Type 0 where
+pub record LeftAt (at : ℕ) (text : List ℕ) (left : ContentRow) : Type 0 where
   pub skipped : ℕ
   pub place : left.first.at ≡ at + skipped
   pub text_left : text_of left ≡ cells (at + skipped) (drop skipped text)
   pub behind_blank : 0 < skipped → is_blank (cell (get_or text (skipped - 1) 0) 0) ≡ true
 
-pub left-at : (begin at : ℕ) (text : List ℕ) (left : Row) → left_of begin (cells at text) ≡ Some left → LeftAt at text left
+pub left-at : (begin at : ℕ) (text : List ℕ) (left : ContentRow) → left_of begin (cells at text) ≡ Some left → LeftAt at text left
 left-at begin at [] left e = none-row left e
 left-at begin at (b ∷ text) left e =
     elim (cases_Bool (is_blank (cell b 0))) [
@@ -129,7 +129,7 @@ left-at begin at (b ∷ text) left e =
             let z : at ≡ at + 0 = omega arith in
             record {
               skipped = 0;
-              place = ap (λ (r : Row). r.first.at) (sym same) ∙ z;
+              place = ap (λ (r : ContentRow). r.first.at) (sym same) ∙ z;
               text_left = ap text_of (sym same) ∙ ap (λ (n : ℕ). cells n (b ∷ text)) z;
               behind_blank = λ lt. absurd (omega (arith, lt));
             }

@@ -21,9 +21,9 @@ use Rattle.lf_scalar.specs.reading.Quoted.{Closing, closing_of, quoted_of}
 use Rattle.lf_scalar.proofs.Closing.{closes-again, closes-or-none}
 use Rattle.lf_scalar.proofs.QuotedWhole as whole
 use Rattle.lf_scalar.proofs.Tails.{true-false}
-use Rattle.lf_yaml.specs.Rows.{Row, text_of, is_left_out}
+use Rattle.lf_yaml.specs.Rows.{ContentRow, text_of, is_left_out}
 use Rattle.lf_yaml.specs.Heads.{is_item, Split, key_in, never, Key, Bare, Between, up_to, IsBetween, BetweenBreaks, IsKey, KeyBreaks, IsSignBehind, BeginsEntry, bare, quoted, NoEntry, BeginsBlock, BeginsNoBlock, OpensQuote}
-use Rattle.lf_yaml.specs.reading.Trees.{quotes_of, Head, sign_if, sign_behind, quoted_sign, quoted_head, bare_head, entry_by, entry_of, between_of, key_of, opens_by, opens_quote, has, begins_block}
+use Rattle.lf_yaml.specs.reading.Trees.{quotes_of, EntryHead, sign_if, sign_behind, quoted_sign, quoted_head, bare_head, entry_by, entry_of, between_of, key_of, opens_by, opens_quote, has, begins_block}
 
 -- ---- quotes
 
@@ -132,33 +132,33 @@ sign-view cs = by (after_blanks cs) refl
 -- ---- entries
 
 -- a row that is left out begins no entry, and else its first cell decides
-pub left-out : (r : Row) → is_left_out r ≡ true → entry_of r ≡ None
+pub left-out : (r : ContentRow) → is_left_out r ≡ true → entry_of r ≡ None
 unfolding entry_of
 left-out r l = ap (λ (b : Bool). cond b None (entry_by r (quotes_of r.first))) l
 
-pub kept : (r : Row) → is_left_out r ≡ false → entry_of r ≡ entry_by r (quotes_of r.first)
+pub kept : (r : ContentRow) → is_left_out r ≡ false → entry_of r ≡ entry_by r (quotes_of r.first)
 unfolding entry_of
 kept r l = ap (λ (b : Bool). cond b None (entry_by r (quotes_of r.first))) l
 
-pub entry-is : (r : Row) (k : Key) (colon : Cell) (rest : List Cell) → BeginsEntry r k colon rest → entry_of r ≡ Some (k, colon, rest)
+pub entry-is : (r : ContentRow) (k : Key) (colon : Cell) (rest : List Cell) → BeginsEntry r k colon rest → entry_of r ≡ Some (k, colon, rest)
 entry-is r _ _ _ (bare {front = front} {rest = rest} {colon = colon} p l e) =
     kept r l ∙ ap (entry_by r) (plain-quotes r.first r.rest p) ∙ rw p (ap bare_head e)
 entry-is r _ _ _ (quoted {rest = rest} {colon = colon} kind c e l s b) =
     kept r l ∙ ap (entry_by r) (quotes-is r.first kind e) ∙ ap (quoted_head kind) (closes-again kind r.rest c) ∙ ap (quoted_sign kind) (sign-is c.rest colon rest s) ∙ rw b refl
 
-pub no-entry : (r : Row) → entry_of r ≡ None → NoEntry r
-no-entry r n k colon rest h = let x : Head = (k, colon, rest) in none-some x (sym n ∙ entry-is r k colon rest h)
+pub no-entry : (r : ContentRow) → entry_of r ≡ None → NoEntry r
+no-entry r n k colon rest h = let x : EntryHead = (k, colon, rest) in none-some x (sym n ∙ entry-is r k colon rest h)
 
-abbrev pub EntryView : Row → Type 0
+abbrev pub EntryView : ContentRow → Type 0
 EntryView r = ((k : Key) × (colon : Cell) × (rest : List Cell) × BeginsEntry r k colon rest × (entry_of r ≡ Some (k, colon, rest))) ⊎ ((entry_of r ≡ None) × NoEntry r)
 
-there : (r : Row) (k : Key) (colon : Cell) (rest : List Cell) → BeginsEntry r k colon rest → EntryView r
+there : (r : ContentRow) (k : Key) (colon : Cell) (rest : List Cell) → BeginsEntry r k colon rest → EntryView r
 there r k colon rest h = inl (k, colon, rest, h, entry-is r k colon rest h)
 
-missing : (r : Row) → entry_of r ≡ None → EntryView r
+missing : (r : ContentRow) → entry_of r ≡ None → EntryView r
 missing r e = inr (e, no-entry r e)
 
-bare-view : (r : Row) → quotes_of r.first ≡ None → is_left_out r ≡ false → EntryView r
+bare-view : (r : ContentRow) → quotes_of r.first ≡ None → is_left_out r ≡ false → EntryView r
 bare-view r q l =
     elim (cases_Bool (begins_plain (text_of r))) [
       | inl p ↦ by p (key_in never before_blank (text_of r)) refl
@@ -169,7 +169,7 @@ bare-view r q l =
     by p None e = missing r (kept r l ∙ ap (entry_by r) q ∙ rw p (ap bare_head e))
     by p (Some x) e = there r (Bare (trimmed is_blank x.0)) x.1 x.2 (bare p l e)
 
-quoted-view : (r : Row) (kind : Quotes) → r.first.byte ≡ quote_of kind → is_left_out r ≡ false → EntryView r
+quoted-view : (r : ContentRow) (kind : Quotes) → r.first.byte ≡ quote_of kind → is_left_out r ≡ false → EntryView r
 quoted-view r kind q l =
     elim (between-view kind r.rest) [
       | inl (c, h) ↦ elim (sign-view c.rest) [
@@ -182,7 +182,7 @@ quoted-view r kind q l =
       | inr (n, c) ↦ missing r (kept r l ∙ ap (entry_by r) (quotes-is r.first kind q) ∙ ap (quoted_head kind) n)
     ]
 
-pub entry-view : (r : Row) → EntryView r
+pub entry-view : (r : ContentRow) → EntryView r
 entry-view r =
     elim (cases_Bool (is_left_out r)) [
       | inl l ↦ missing r (left-out r l)
@@ -194,21 +194,21 @@ entry-view r =
 
 -- ---- block or not
 
-abbrev pub BlockView : Row → Type 0
+abbrev pub BlockView : ContentRow → Type 0
 BlockView r = (BeginsBlock r × (begins_block r ≡ true)) ⊎ (BeginsNoBlock r × (begins_block r ≡ false))
 
-pub begins-block : (r : Row) → BeginsBlock r → begins_block r ≡ true
+pub begins-block : (r : ContentRow) → BeginsBlock r → begins_block r ≡ true
 begins-block r (inl h) = rw h refl
 begins-block r (inr (k, colon, rest, h)) = rw (entry-is r k colon rest h) (or-true (is_item r))
 
-pub begins-no-block : (r : Row) → BeginsNoBlock r → begins_block r ≡ false
+pub begins-no-block : (r : ContentRow) → BeginsNoBlock r → begins_block r ≡ false
 begins-no-block r h =
     elim (entry-view r) [
       | inl (k, colon, rest, b, e) ↦ absurd (h.1 k colon rest b)
       | inr (e, n) ↦ rw (h.0, e) refl
     ]
 
-pub block-view : (r : Row) → BlockView r
+pub block-view : (r : ContentRow) → BlockView r
 block-view r =
     elim (cases_Bool (is_item r)) [
       | inl i ↦ inl (inl i, begins-block r (inl i))
@@ -219,10 +219,10 @@ block-view r =
     ]
 
 -- an entry is no item
-no-item : (r : Row) (b : ℕ) → r.first.byte ≡ b → eqb b 45 ≡ false → is_item r ≡ false
+no-item : (r : ContentRow) (b : ℕ) → r.first.byte ≡ b → eqb b 45 ≡ false → is_item r ≡ false
 no-item r b e h = rw (ap (λ (x : ℕ). eqb x 45) e ∙ h) refl
 
-bare-item : (r : Row) (b : Bool) → before_blank r.rest ≡ b → begins_plain (text_of r) ≡ true → is_item r ≡ false
+bare-item : (r : ContentRow) (b : Bool) → before_blank r.rest ≡ b → begins_plain (text_of r) ≡ true → is_item r ≡ false
 bare-item r false e p = rw e (and-false (eqb r.first.byte 45))
 bare-item r true e p =
     elim (eqb_tells r.first.byte 45) [
@@ -230,7 +230,7 @@ bare-item r true e p =
       | inr a ↦ rw a.0 refl
     ]
 
-pub entry-no-item : (r : Row) (k : Key) (colon : Cell) (rest : List Cell) → BeginsEntry r k colon rest → is_item r ≡ false
+pub entry-no-item : (r : ContentRow) (k : Key) (colon : Cell) (rest : List Cell) → BeginsEntry r k colon rest → is_item r ≡ false
 entry-no-item r _ _ _ (bare p l e) = bare-item r (before_blank r.rest) refl p
 entry-no-item r _ _ _ (quoted kind c e l s b) = no-item r (quote_of kind) e (by kind)
   where
@@ -254,7 +254,7 @@ abbrev pub KeyTold : Cell → List Cell → Key → Result Value Fault → Type 
 KeyTold c cs k (Ok v) = IsKey c cs k v
 KeyTold c cs k (Err f) = KeyBreaks c cs k f
 
-pub key-tells : (r : Row) (k : Key) (colon : Cell) (rest : List Cell) → BeginsEntry r k colon rest → KeyTold r.first r.rest k (key_of r.first r.rest k)
+pub key-tells : (r : ContentRow) (k : Key) (colon : Cell) (rest : List Cell) → BeginsEntry r k colon rest → KeyTold r.first r.rest k (key_of r.first r.rest k)
 unfolding key_of
 key-tells r _ _ _ (bare p l e) = refl
 key-tells r _ _ _ (quoted kind c e l s b) =

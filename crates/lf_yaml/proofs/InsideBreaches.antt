@@ -14,7 +14,7 @@ use Rattle.lf_scalar.proofs.Characters.{byte_lies}
 use Rattle.lf_scalar.proofs.Rising.{Rises, rises-le}
 use Rattle.lf_scalar.proofs.Tails.{wrong-told, from-front}
 use Rattle.lf_scalar.proofs.Within.{rises_high, wrong_lies, style_lies}
-use Rattle.lf_yaml.specs.Rows.{Row, row, indent, text_of, left_of, tab_in, is_left_out}
+use Rattle.lf_yaml.specs.Rows.{ContentRow, row, indent, text_of, left_of, tab_in, is_left_out}
 use Rattle.lf_yaml.specs.Heads.{is_item, Key, KeyBreaks, BeginsEntry, style_of, begins_scalar}
 use Rattle.lf_yaml.specs.Heads as heads
 use Rattle.lf_yaml.specs.Breaches.{ScalarBreaksOn, ValueBreaks, NodeBreaks, BlockBreaks, ItemsBreak, ItemValueBreaks, EntriesBreak, EntryValueBreaks}
@@ -37,7 +37,7 @@ use Rattle.lf_yaml.proofs.Placed.{first-cell, ArePlaced, placed-left}
 use Rattle.lf_yaml.proofs.Values.{value-rows}
 
 -- a row that lies in a file of n bytes and stands where it says, and the rows behind its line
-pub record RowsAt (bytes : List ℕ) (lo : ℕ) (r : Row) (rs : List Row) : Type 0 where
+pub record RowsAt (bytes : List ℕ) (lo : ℕ) (r : ContentRow) (rs : List ContentRow) : Type 0 where
   pub stop : ℕ
   pub row : IsRowIn lo stop r
   pub within : stop ≤ length bytes
@@ -45,16 +45,16 @@ pub record RowsAt (bytes : List ℕ) (lo : ℕ) (r : Row) (rs : List Row) : Type
   pub placed : IsPlaced bytes r
   pub are_placed : ArePlaced bytes rs
 
-rows_at : (bytes : List ℕ) (lo : ℕ) (r : Row) (rs : List Row) → AreRowsIn (length bytes) lo (r ∷ rs) → ArePlaced bytes (r ∷ rs) → RowsAt bytes lo r rs
+rows_at : (bytes : List ℕ) (lo : ℕ) (r : ContentRow) (rs : List ContentRow) → AreRowsIn (length bytes) lo (r ∷ rs) → ArePlaced bytes (r ∷ rs) → RowsAt bytes lo r rs
 rows_at bytes lo r rs h p = record { stop = h.0; row = h.1; within = h.2; rows = h.3; placed = p.0; are_placed = p.1 }
 
-module _ (bytes : List ℕ) (lo : ℕ) (r : Row) (rs : List Row) (h : RowsAt bytes lo r rs) where
+module _ (bytes : List ℕ) (lo : ℕ) (r : ContentRow) (rs : List ContentRow) (h : RowsAt bytes lo r rs) where
   -- the first of the rows that something leaves
-  last_rows : (next : Row) (later : List Row) → IsEnd rs (next ∷ later) → RowsAt bytes h.stop next later
+  last_rows : (next : ContentRow) (later : List ContentRow) → IsEnd rs (next ∷ later) → RowsAt bytes h.stop next later
   last_rows next later e = rows_at bytes h.stop next later (rows_end (length bytes) h.stop rs (next ∷ later) e h.rows) (end-holds (IsPlaced bytes) rs (next ∷ later) e h.are_placed)
 
   -- what is left of the row
-  left_at : (low : ℕ) (left : Row) (front cs : List Cell) → IsRowIn low h.stop left → text_of r ≡ front ++ cs → left_of r.begin cs ≡ Some left → RowsAt bytes low left rs
+  left_at : (low : ℕ) (left : ContentRow) (front cs : List Cell) → IsRowIn low h.stop left → text_of r ≡ front ++ cs → left_of r.begin cs ≡ Some left → RowsAt bytes low left rs
   left_at low left front cs row e l = record { stop = h.stop; row = row; within = h.within; rows = h.rows; placed = placed-left bytes r left front cs r.begin h.placed e l; are_placed = h.are_placed }
 
   below_first : LiesIn (length bytes) (character_fault TooDeep r.first).span
@@ -89,7 +89,7 @@ wrong_breach bytes at wrong utf8 b w =
     let h = line_in bytes utf8 at b in
     wrong_lies false (line_on bytes at).text wrong at (length bytes) (wrong-told false (line_on bytes at).text wrong (from-front (line_on bytes at).text wrong w)) h.1 h.0 NotANode
 
-value_breach : (bytes : List ℕ) (utf8 : IsUtf8 bytes) (above d lo : ℕ) (r : Row) (rs : List Row) (f : Fault) → ValueBreaks bytes above d r rs f → RowsAt bytes lo r rs → LiesIn (length bytes) f.span
+value_breach : (bytes : List ℕ) (utf8 : IsUtf8 bytes) (above d lo : ℕ) (r : ContentRow) (rs : List ContentRow) (f : Fault) → ValueBreaks bytes above d r rs f → RowsAt bytes lo r rs → LiesIn (length bytes) f.span
 value_breach bytes utf8 above d lo r _ f (breaks.ValueBreaks.scalar rs b s) h = scalar_breach bytes lo r rs h utf8 above f b s
 value_breach bytes utf8 above d lo r _ _ (breaks.ValueBreaks.no_value d2 rs b q) h = row_lies (length bytes) lo h.stop r h.row h.within
 value_breach bytes utf8 above _ lo r _ _ (breaks.ValueBreaks.deep rs q) h = below_first bytes lo r rs h
@@ -100,12 +100,12 @@ value_breach bytes utf8 above _ lo r _ f (breaks.ValueBreaks.flow_mapping rs d q
 value_breach bytes utf8 above _ lo r _ _ (breaks.ValueBreaks.behind_mapping {es = es} {closing = closing} {wrong = wrong} rs d q s w) h =
     wrong_breach bytes (suc closing.at) wrong utf8 (mapping_behind bytes utf8 [] (suc r.first.at) es closing s) w
 
-key_breach : (n lo stop : ℕ) (r : Row) (k : Key) (colon : Cell) (behind : List Cell) (f : Fault) → BeginsEntry r k colon behind → KeyBreaks r.first r.rest k f → IsRowIn lo stop r → stop ≤ n → LiesIn n f.span
+key_breach : (n lo stop : ℕ) (r : ContentRow) (k : Key) (colon : Cell) (behind : List Cell) (f : Fault) → BeginsEntry r k colon behind → KeyBreaks r.first r.rest k f → IsRowIn lo stop r → stop ≤ n → LiesIn n f.span
 key_breach n lo stop r _ colon behind f (heads.BeginsEntry.bare p l e) b h le = absurd b
 key_breach n lo stop r _ colon behind f (heads.BeginsEntry.quoted kind between q l s p) b h le = escape_lies n kind r.first r.rest f (rises_high r.first.at (text_of r) stop n le h.rises) h.utf8 q b
 
 -- what is left of a row behind a key's `:`
-left_entry : (lo stop : ℕ) (r left : Row) (k : Key) (colon : Cell) (behind : List Cell) → BeginsEntry r k colon behind → left_of r.begin behind ≡ Some left → IsRowIn lo stop r → IsRowIn colon.at stop left
+left_entry : (lo stop : ℕ) (r left : ContentRow) (k : Key) (colon : Cell) (behind : List Cell) → BeginsEntry r k colon behind → left_of r.begin behind ≡ Some left → IsRowIn lo stop r → IsRowIn colon.at stop left
 left_entry lo stop r left k colon behind b e row =
     let s = entry_key_in stop r k colon behind b (row.rises, row.utf8) in
     let begin = row.begin in
@@ -125,23 +125,23 @@ tab_lies lo (c ∷ cs) tab hi e r =
     ]
 
 mutual
-  node_breach : (bytes : List ℕ) (utf8 : IsUtf8 bytes) (above d lo : ℕ) (r : Row) (rs : List Row) (f : Fault) → NodeBreaks bytes above d r rs f → RowsAt bytes lo r rs → LiesIn (length bytes) f.span
+  node_breach : (bytes : List ℕ) (utf8 : IsUtf8 bytes) (above d lo : ℕ) (r : ContentRow) (rs : List ContentRow) (f : Fault) → NodeBreaks bytes above d r rs f → RowsAt bytes lo r rs → LiesIn (length bytes) f.span
   node_breach bytes utf8 above d lo r rs f (breaks.NodeBreaks.value without b) h = value_breach bytes utf8 above d lo r rs f b h
   node_breach bytes utf8 above d lo r rs f (breaks.NodeBreaks.block a b) h = block_breach bytes utf8 d false lo r rs f b h
 
-  block_breach : (bytes : List ℕ) (utf8 : IsUtf8 bytes) (d : ℕ) (own : Bool) (lo : ℕ) (r : Row) (rs : List Row) (f : Fault) → BlockBreaks bytes d own r rs f → RowsAt bytes lo r rs → LiesIn (length bytes) f.span
+  block_breach : (bytes : List ℕ) (utf8 : IsUtf8 bytes) (d : ℕ) (own : Bool) (lo : ℕ) (r : ContentRow) (rs : List ContentRow) (f : Fault) → BlockBreaks bytes d own r rs f → RowsAt bytes lo r rs → LiesIn (length bytes) f.span
   block_breach bytes utf8 _ own lo r rs _ (breaks.BlockBreaks.too_deep o xs b) h = below_first bytes lo r rs h
   block_breach bytes utf8 _ own lo r rs f (breaks.BlockBreaks.block_sequence {d = d} i b) h = items_breach bytes utf8 d own (indent r) lo r rs f b h
   block_breach bytes utf8 _ own lo r rs f (breaks.BlockBreaks.block_mapping {d = d} b e) h = entries_breach bytes utf8 d (indent r) [] lo r rs f e h
 
-  items_breach : (bytes : List ℕ) (utf8 : IsUtf8 bytes) (d : ℕ) (own : Bool) (m lo : ℕ) (r : Row) (rs : List Row) (f : Fault) → ItemsBreak bytes d own m r rs f → RowsAt bytes lo r rs → LiesIn (length bytes) f.span
+  items_breach : (bytes : List ℕ) (utf8 : IsUtf8 bytes) (d : ℕ) (own : Bool) (m lo : ℕ) (r : ContentRow) (rs : List ContentRow) (f : Fault) → ItemsBreak bytes d own m r rs f → RowsAt bytes lo r rs → LiesIn (length bytes) f.span
   items_breach bytes utf8 d own m lo r rs _ (breaks.ItemsBreak.deeper_item d2 o xs lt) h = indent_lies (length bytes) lo h.stop r h.row h.within
   items_breach bytes utf8 d _ m lo r rs _ (breaks.ItemsBreak.no_item d2 xs e i) h = row_lies (length bytes) lo h.stop r h.row h.within
   items_breach bytes utf8 d own m lo r rs f (breaks.ItemsBreak.item_value o e i b) h = item_breach bytes utf8 d m lo r rs f i b h
   items_breach bytes utf8 d own m lo r rs f (breaks.ItemsBreak.later_item {next = next} {later = later} {t = t} e i v b) h =
       items_breach bytes utf8 d own m h.stop next later f b (last_rows bytes lo r rs h next later (item-rows bytes d m r rs t (next ∷ later) v))
 
-  item_breach : (bytes : List ℕ) (utf8 : IsUtf8 bytes) (d m lo : ℕ) (r : Row) (rs : List Row) (f : Fault) → is_item r ≡ true → ItemValueBreaks bytes d m r rs f → RowsAt bytes lo r rs → LiesIn (length bytes) f.span
+  item_breach : (bytes : List ℕ) (utf8 : IsUtf8 bytes) (d m lo : ℕ) (r : ContentRow) (rs : List ContentRow) (f : Fault) → is_item r ≡ true → ItemValueBreaks bytes d m r rs f → RowsAt bytes lo r rs → LiesIn (length bytes) f.span
   item_breach bytes utf8 d m lo r rs f i (breaks.ItemValueBreaks.item_here {left = left} tab e b) h =
       node_breach bytes utf8 (suc m) d (suc r.first.at) left rs f b (left_at bytes lo r rs h (suc r.first.at) left (r.first ∷ []) r.rest (left_item lo h.stop r left i e h.row) refl e)
   item_breach bytes utf8 d m lo r _ f i (breaks.ItemValueBreaks.item_below {next = next} {rs = rs} tab e lt b) h =
@@ -150,7 +150,7 @@ mutual
       let k : suc tab.at ≤ h.stop = tab_lies (suc r.first.at) r.rest tab h.stop e h.row.rises.1 in
       byte_lies tab.at (length bytes) (omega (arith, k, h.within))
 
-  entries_breach : (bytes : List ℕ) (utf8 : IsUtf8 bytes) (d m : ℕ) (keys : List (List ℕ)) (lo : ℕ) (r : Row) (rs : List Row) (f : Fault) → EntriesBreak bytes d m keys r rs f → RowsAt bytes lo r rs → LiesIn (length bytes) f.span
+  entries_breach : (bytes : List ℕ) (utf8 : IsUtf8 bytes) (d m : ℕ) (keys : List (List ℕ)) (lo : ℕ) (r : ContentRow) (rs : List ContentRow) (f : Fault) → EntriesBreak bytes d m keys r rs f → RowsAt bytes lo r rs → LiesIn (length bytes) f.span
   entries_breach bytes utf8 d m keys lo r rs _ (breaks.EntriesBreak.deeper_entry d2 ks xs lt) h = indent_lies (length bytes) lo h.stop r h.row h.within
   entries_breach bytes utf8 d m keys lo r rs _ (breaks.EntriesBreak.open_key d2 ks xs e o) h =
       let k = row_behind lo h.stop r h.row in
@@ -165,7 +165,7 @@ mutual
   entries_breach bytes utf8 d m keys lo r rs f (breaks.EntriesBreak.later_entry {next = next} {later = later} {v = v} {t = t} e b) h =
       entries_breach bytes utf8 d m (keys ++ v.text ∷ []) h.stop next later f b (last_rows bytes lo r rs h next later (entry-rows bytes d m keys r rs v t (next ∷ later) e))
 
-  entry_breach : (bytes : List ℕ) (utf8 : IsUtf8 bytes) (d m lo : ℕ) (r : Row) (k : Key) (colon : Cell) (behind : List Cell) (rs : List Row) (f : Fault) → BeginsEntry r k colon behind → EntryValueBreaks bytes d m r.begin behind rs f → RowsAt bytes lo r rs
+  entry_breach : (bytes : List ℕ) (utf8 : IsUtf8 bytes) (d m lo : ℕ) (r : ContentRow) (k : Key) (colon : Cell) (behind : List Cell) (rs : List ContentRow) (f : Fault) → BeginsEntry r k colon behind → EntryValueBreaks bytes d m r.begin behind rs f → RowsAt bytes lo r rs
       → LiesIn (length bytes) f.span
   entry_breach bytes utf8 d m lo r k colon behind rs _ b (breaks.EntryValueBreaks.block_here {left = left} d2 xs e block) h =
       first_lies (length bytes) colon.at h.stop left (left_entry lo h.stop r left k colon behind b e h.row) h.within NotANode
@@ -177,7 +177,7 @@ mutual
   entry_breach bytes utf8 d m lo r k colon behind _ f b (breaks.EntryValueBreaks.value_beside {next = next} {rs = rs} e same i broken) h =
       block_breach bytes utf8 d true h.stop next rs f broken (rows_at bytes h.stop next rs h.rows h.are_placed)
 
-document_breach : (bytes : List ℕ) → IsUtf8 bytes → (rs : List Row) (f : Fault) → DocumentBreaks bytes rs f → AreRowsIn (length bytes) 0 rs → ArePlaced bytes rs → LiesIn (length bytes) f.span
+document_breach : (bytes : List ℕ) → IsUtf8 bytes → (rs : List ContentRow) (f : Fault) → DocumentBreaks bytes rs f → AreRowsIn (length bytes) 0 rs → ArePlaced bytes rs → LiesIn (length bytes) f.span
 unfolding rows_at
 document_breach bytes utf8 _ f (broken_node {r = r} {rs = rs} b) rows placed = node_breach bytes utf8 0 16 0 r rs f b (rows_at bytes 0 r rs rows placed)
 document_breach bytes utf8 _ _ (behind_block {r = r} {next = next} {rs = rs} {later = later} {t = t} b) rows placed =

@@ -18,7 +18,7 @@ use Rattle.lf_scalar.proofs.QuotedTexts.{quote-low}
 use Rattle.lf_scalar.proofs.Rising.{rises-le, rises-low}
 use Rattle.lf_scalar.proofs.Utf8Lines.{lines-utf8}
 use Rattle.lf_scalar.proofs.Within.{rises_high}
-use Rattle.lf_yaml.specs.Rows.{Row, text_of, is_mark, headed, content_row, rows_of}
+use Rattle.lf_yaml.specs.Rows.{ContentRow, text_of, is_mark, headed, content_row, rows_of}
 use Rattle.lf_yaml.specs.Heads.{Key}
 use Rattle.lf_yaml.specs.Tree.{Tree, Items, Entries}
 use Rattle.lf_yaml.specs.Flow.{first_line, later_lines, lines_on, line_on, lines_below, Next, at_part, broken, on_line, next_part, next_on, is_flow_sign, sign_fault, FlowScalar, FlowScalarBreaks, SequenceIn, SequenceBreaks, FlowKey, NoSign, FlowKeyBreaks, FlowValue, FlowValueBreaks, FlowEntry, MappingIn, MappingBreaks}
@@ -38,11 +38,11 @@ abbrev AreIn : List ℕ → List Cell → Type 0
 AreIn bytes cs = AllByRecursion (InFile bytes) cs
 
 -- the cells of the first of some rows are those of the file
-abbrev FirstIn : List ℕ → List Row → Type 0
+abbrev FirstIn : List ℕ → List ContentRow → Type 0
 FirstIn bytes [] = Unit {0}
 FirstIn bytes (r ∷ rs) = AreIn bytes (text_of r)
 
-row_first : (bytes : List ℕ) (l : Line) (rs : List Row) → AreIn bytes l.text → FirstIn bytes rs → FirstIn bytes (content_row l ++ rs)
+row_first : (bytes : List ℕ) (l : Line) (rs : List ContentRow) → AreIn bytes l.text → FirstIn bytes rs → FirstIn bytes (content_row l ++ rs)
 row_first bytes l rs are below = by (begins_with 35 (after_spaces l.text)) (after_spaces l.text) rest
   where
     rest : AreIn bytes (after_spaces l.text)
@@ -62,7 +62,7 @@ abbrev NextAre : List ℕ → Next → Type 0
 NextAre bytes (broken f) = Unit {0}
 NextAre bytes (at_part c cs) = AreIn bytes (c ∷ cs)
 
-on_line_are : (bytes : List ℕ) (end : ℕ) (rs : List Row) → FirstIn bytes rs → NextAre bytes (on_line end rs)
+on_line_are : (bytes : List ℕ) (end : ℕ) (rs : List ContentRow) → FirstIn bytes rs → NextAre bytes (on_line end rs)
 on_line_are bytes end [] h = tt
 on_line_are bytes end (r ∷ rs) h =
     elim (cases_Bool (eqb r.first.byte 9)) [
@@ -73,7 +73,7 @@ on_line_are bytes end (r ∷ rs) h =
       ]
     ]
 
-next_are : (bytes : List ℕ) (end : ℕ) (blank : Bool) (cs : List Cell) (rs : List Row) → AreIn bytes cs → FirstIn bytes rs → NextAre bytes (next_part end blank cs rs)
+next_are : (bytes : List ℕ) (end : ℕ) (blank : Bool) (cs : List Cell) (rs : List ContentRow) → AreIn bytes cs → FirstIn bytes rs → NextAre bytes (next_part end blank cs rs)
 unfolding next_part
 next_are bytes end blank [] rs are first = on_line_are bytes end rs first
 next_are bytes end blank (c ∷ cs) rs are first =
@@ -98,7 +98,7 @@ abbrev pub NextIn : ℕ → ℕ → Next → Type 0
 NextIn n lo (broken f) = LiesIn n f.span
 NextIn n lo (at_part c cs) = (lo ≤ c.at) × LeftIn n c.at (c ∷ cs)
 
-on_line_in : (n lo : ℕ) (rs : List Row) → AreRowsIn n lo rs → NextIn n lo (on_line n rs)
+on_line_in : (n lo : ℕ) (rs : List ContentRow) → AreRowsIn n lo rs → NextIn n lo (on_line n rs)
 on_line_in n lo [] h = (omega arith, omega arith)
 on_line_in n lo (r ∷ rs) h =
     elim (cases_Bool (eqb r.first.byte 9)) [
@@ -109,7 +109,7 @@ on_line_in n lo (r ∷ rs) h =
       ]
     ]
 
-pub next_in : (n : ℕ) (blank : Bool) (lo : ℕ) (cs : List Cell) (rs : List Row) → LeftIn n lo cs → AreRowsIn n lo rs → NextIn n lo (next_part n blank cs rs)
+pub next_in : (n : ℕ) (blank : Bool) (lo : ℕ) (cs : List Cell) (rs : List ContentRow) → LeftIn n lo cs → AreRowsIn n lo rs → NextIn n lo (next_part n blank cs rs)
 unfolding next_part
 next_in n blank lo [] rs h rows = on_line_in n lo rs rows
 next_in n blank lo (c ∷ cs) rs h rows =

@@ -17,7 +17,7 @@ use Rattle.lf_scalar.proofs.Parts.{Utf8, part-utf8, utf8-behind, blank-low, afte
 use Rattle.lf_scalar.proofs.Rising.{Rises, LinesRise, rises-le, rises-part, cells-rise, lines-rise}
 use Rattle.lf_scalar.proofs.Utf8Lines.{LinesUtf8, lines-utf8}
 use Rattle.lf_scalar.specs.Lines.{start_of}
-use Rattle.lf_yaml.specs.Rows.{Row, row, text_of, headed, content_row, rows_of, left_of, is_left_out, indent_fault, row_fault, is_opening, without_opening}
+use Rattle.lf_yaml.specs.Rows.{ContentRow, row, text_of, headed, content_row, rows_of, left_of, is_left_out, indent_fault, row_fault, is_opening, without_opening}
 use Rattle.lf_yaml.specs.Characters.{mark_length}
 use Rattle.lf_yaml.specs.Document.{document_rows}
 use Rattle.lf_yaml.proofs.Edges.{mark-start}
@@ -26,20 +26,20 @@ use Rattle.lf_yaml.proofs.Ends.{IsEnd}
 -- ---- a row of a line
 
 -- a row at an offset or later, whose line ends at another
-pub record IsRowIn (lo stop : ℕ) (r : Row) : Type 0 where
+pub record IsRowIn (lo stop : ℕ) (r : ContentRow) : Type 0 where
   pub low : lo ≤ r.first.at
   pub begin : r.begin ≤ r.first.at
   pub rises : Rises r.first.at (text_of r) stop
   pub utf8 : Utf8 (text_of r)
 
-pub row_low : (lo low stop : ℕ) (r : Row) → low ≤ lo → IsRowIn lo stop r → IsRowIn low stop r
+pub row_low : (lo low stop : ℕ) (r : ContentRow) → low ≤ lo → IsRowIn lo stop r → IsRowIn low stop r
 row_low lo low stop r le h = record { low = omega (arith, le, h.low); begin = h.begin; rises = h.rises; utf8 = h.utf8 }
 
-pub row_behind : (lo stop : ℕ) (r : Row) → IsRowIn lo stop r → suc r.first.at ≤ stop
+pub row_behind : (lo stop : ℕ) (r : ContentRow) → IsRowIn lo stop r → suc r.first.at ≤ stop
 row_behind lo stop r h = rises-le (suc r.first.at) r.rest stop h.rises.1
 
 -- what is left of a line behind a sign
-pub left_in : (begin : ℕ) (cs : List Cell) (left : Row) (lo stop : ℕ) → left_of begin cs ≡ Some left → begin ≤ lo → Utf8 cs → Rises lo cs stop → IsRowIn lo stop left
+pub left_in : (begin : ℕ) (cs : List Cell) (left : ContentRow) (lo stop : ℕ) → left_of begin cs ≡ Some left → begin ≤ lo → Utf8 cs → Rises lo cs stop → IsRowIn lo stop left
 left_in begin [] left lo stop e le u r = absurd (none-some left e)
 left_in begin (c ∷ cs) left lo stop e le u r =
     elim (cases_Bool (is_blank c)) [
@@ -54,7 +54,7 @@ left_in begin (c ∷ cs) left lo stop e le u r =
 
 -- ---- what is told of a row
 
-module _ (n lo stop : ℕ) (r : Row) (h : IsRowIn lo stop r) (le : stop ≤ n) where
+module _ (n lo stop : ℕ) (r : ContentRow) (h : IsRowIn lo stop r) (le : stop ≤ n) where
   -- its first character
   pub first_lies : (kind : Kind) → LiesIn n (character_fault kind r.first).span
   first_lies kind = lies_further stop n (character_fault kind r.first).span le (character_lies r.first.at r.first r.rest stop h.utf8 h.rises kind)
@@ -79,20 +79,20 @@ module _ (n lo stop : ℕ) (r : Row) (h : IsRowIn lo stop r) (le : stop ≤ n) w
 -- ---- some rows
 
 -- each stands behind the line of the row before it, the first at an offset or later, and all in a file of n bytes
-abbrev pub AreRowsIn : ℕ → ℕ → List Row → Type 0
+abbrev pub AreRowsIn : ℕ → ℕ → List ContentRow → Type 0
 AreRowsIn n lo [] = Unit {0}
 AreRowsIn n lo (r ∷ rs) = (stop : ℕ) × IsRowIn lo stop r × (stop ≤ n) × AreRowsIn n stop rs
 
-pub rows_low : (n lo low : ℕ) (rs : List Row) → low ≤ lo → AreRowsIn n lo rs → AreRowsIn n low rs
+pub rows_low : (n lo low : ℕ) (rs : List ContentRow) → low ≤ lo → AreRowsIn n lo rs → AreRowsIn n low rs
 rows_low n lo low [] le h = tt
 rows_low n lo low (r ∷ rs) le h = (h.0, row_low lo low h.0 r le h.1, h.2, h.3)
 
-rows_back : (n lo : ℕ) (front ss : List Row) → AreRowsIn n lo (front ++ ss) → AreRowsIn n lo ss
+rows_back : (n lo : ℕ) (front ss : List ContentRow) → AreRowsIn n lo (front ++ ss) → AreRowsIn n lo ss
 rows_back n lo [] ss h = h
 rows_back n lo (r ∷ front) ss h = let k = row_behind lo h.0 r h.1 in rows_low n h.0 lo ss (omega (arith, k, h.1.low)) (rows_back n h.0 front ss h.3)
 
 -- the last of them
-pub rows_end : (n lo : ℕ) (rs ss : List Row) → IsEnd rs ss → AreRowsIn n lo rs → AreRowsIn n lo ss
+pub rows_end : (n lo : ℕ) (rs ss : List ContentRow) → IsEnd rs ss → AreRowsIn n lo rs → AreRowsIn n lo ss
 rows_end n lo rs ss e h = rows_back n lo e.0 ss (subst (AreRowsIn n lo) e.1 h)
 
 -- ---- the rows of lines
@@ -113,7 +113,7 @@ start_before lo (x ∷ text) break c cs e r =
       | inr a ↦ let same : x ≡ c = same-cell x c text cs (rw a at e) in omega (arith, ap (λ (y : Cell). y.at) same)
     ]
 
-line_rows : (n lo : ℕ) (l : Line) (rs : List Row) → Utf8 l.text → Rises lo l.text l.break → l.break ≤ n → AreRowsIn n (suc l.break) rs → AreRowsIn n lo (content_row l ++ rs)
+line_rows : (n lo : ℕ) (l : Line) (rs : List ContentRow) → Utf8 l.text → Rises lo l.text l.break → l.break ≤ n → AreRowsIn n (suc l.break) rs → AreRowsIn n lo (content_row l ++ rs)
 line_rows n lo l rs u r le later = by (begins_with 35 (after_spaces l.text)) (after_spaces l.text) refl
   where
     lower : AreRowsIn n lo rs
@@ -156,7 +156,7 @@ module _ (bytes : List ℕ) (utf8 : IsUtf8 bytes) where
       rows_low (length bytes) m 0 (rows_of (lines (length bytes) (source_at bytes m))) (omega arith) (rows_in (length bytes) m (lines (length bytes) (source_at bytes m)) us rs) in
       opened (rows_of (lines (length bytes) (source_at bytes m))) all
     where
-      opened : (rs : List Row) → AreRowsIn (length bytes) 0 rs → AreRowsIn (length bytes) 0 (without_opening rs)
+      opened : (rs : List ContentRow) → AreRowsIn (length bytes) 0 rs → AreRowsIn (length bytes) 0 (without_opening rs)
       opened [] h = tt
       opened (r ∷ rs) h = by (is_opening r)
         where

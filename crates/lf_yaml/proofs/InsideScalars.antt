@@ -25,7 +25,7 @@ use Rattle.lf_scalar.proofs.TextLaws.{IsPlaced, made-placed, climbs-mount, end-m
 use Rattle.lf_scalar.proofs.BlockTexts.{Mounts}
 use Rattle.lf_scalar.proofs.Utf8Lines.{utf8-nil, utf8-append, utf8-low}
 use Rattle.lf_scalar.proofs.Within.{quoted_lies}
-use Rattle.lf_yaml.specs.Rows.{Row, text_of}
+use Rattle.lf_yaml.specs.Rows.{ContentRow, text_of}
 use Rattle.lf_yaml.specs.Heads.{key_in, Split, behind_cell, Key, Bare, Between, up_to, IsBetween, BetweenBreaks, IsKey, IsSignBehind, BeginsEntry}
 use Rattle.lf_yaml.specs.Heads as heads
 use Rattle.lf_yaml.specs.Flow.{line_on, lines_below, is_flow_sign, is_bracket, is_flow_property, line_text, line_left, colon_in, part_fault, sign_fault, FlowScalar, PlainBreaks, FlowScalarBreaks, FlowKey}
@@ -252,7 +252,7 @@ quoted_in n kind c cs between colon rest s h =
       rest_in = (rises-low (suc colon.at) colon.at rest n (omega arith) r.1, utf8-behind [] colon rest u (omega (arith, s.1)));
     }
 
-pub entry_key_in : (n : ℕ) (r : Row) (k : Key) (colon : Cell) (rest : List Cell) → BeginsEntry r k colon rest → LeftIn n r.first.at (text_of r) → SignedIn n r.first.at k colon rest
+pub entry_key_in : (n : ℕ) (r : ContentRow) (k : Key) (colon : Cell) (rest : List Cell) → BeginsEntry r k colon rest → LeftIn n r.first.at (text_of r) → SignedIn n r.first.at k colon rest
 entry_key_in n r _ colon rest (heads.BeginsEntry.bare {front = front} p l e) h =
     bare_in n r.first r.rest front rest colon (split-source heads.never before_blank (text_of r) (front, colon, rest) e) (split_sign heads.never before_blank (text_of r) (front, colon, rest) e) h
 entry_key_in n r _ colon rest (heads.BeginsEntry.quoted kind between q l s b) h = quoted_in n kind r.first r.rest between colon rest s h

@@ -1,36 +1,18 @@
 -- Flow sequences, as the code reads them.
-use Rattle.std.proofs.Common.{◌≡◌, ℕ, suc, List, [], ◌∷◌, ◌++◌, length, map, Ok, Err, refl, ap, arith, sym, ◌∙◌}
+use Rattle.std.proofs.Common.{◌≡◌, ℕ, suc, List, [], ◌∷◌, ◌++◌, length, map, Result, Ok, Err, ap, arith, sym, ◌∙◌}
 use Rattle.std.proofs.lemmas.List.{map_push}
 use Rattle.lf_base.specs.declared.refusal.Refusal.{Refusal}
 use Rattle.lf_base.specs.declared.refusal.Refusal.TheVariants as refusal_of
-use Rattle.lf_base.specs.declared.fault.Fault.{Fault}
-use Rattle.lf_scalar.specs.Cells.{Cell, Fails}
-use Rattle.lf_yaml.specs.Tree.{Tree, Items, no_items, items_of, tree}
-use Rattle.lf_yaml.specs.reading.Trees.{FlowRead, sequence_in}
-use Rattle.lf_yaml.specs.reading.FlowTurns.{with_tree, turned_items, closed_items}
+use Rattle.lf_scalar.specs.Cells.{Cell}
+use Rattle.lf_yaml.specs.Tree.{Tree, sequence, Items, no_items, tree}
+use Rattle.lf_yaml.specs.reading.Trees.{FlowRead, FlowTree, as_tree, with_item, sequence_in}
+use Rattle.lf_yaml.specs.reading.FlowTurns.{TurnGives, TurnsItems, after_items, items_from, items_tree, ItemsBehind}
 use Rattle.lf_yaml.specs.views.Shown.{shown}
 use Rattle.lf_yaml.specs.declared.node.Node.{Node}
-use Rattle.lf_yaml.specs.declared.row.ContentLine.{ContentLine}
-use Rattle.lf_yaml.specs.declared.place.FlowCursor.{FlowCursor}
+use Rattle.lf_yaml.specs.declared.turn.Turn.{Turn}
 use Rattle.lf_yaml.specs.declared.turn.Turn.TheVariants as turn
+use Rattle.lf_yaml.proofs.Collected.{items-push, items-all, items-err}
 use Rattle.lf_yaml.proofs.Sequences.{sequence-is, sequence-breaks, SequenceTold, sequence-tells, Enough, always-enough}
-
--- what is read behind some items
-abbrev pub after_items : List Tree → FlowRead Items → FlowRead Items
-after_items [] read = read
-after_items (t ∷ ts) read = with_tree t (after_items ts read)
-
-push-items : (ts : List Tree) (t : Tree) (read : FlowRead Items) → after_items (ts ++ t ∷ []) read ≡ after_items ts (with_tree t read)
-push-items [] t read = refl
-push-items (u ∷ ts) t read = ap (with_tree u) (push-items ts t read)
-
-all-items : (ts : List Tree) (c : Cell) → after_items ts (Ok (no_items, c)) ≡ Ok (items_of ts, c)
-all-items [] c = refl
-all-items (t ∷ ts) c = ap (with_tree t) (all-items ts c)
-
-items-err : (ts : List Tree) (f : Fault) → after_items ts (Err f) ≡ Err f
-items-err [] f = refl
-items-err (t ∷ ts) f = ap (with_tree t) (items-err ts f)
 
 module _ (bytes : List ℕ) where
   -- how many turns are granted makes no difference, where they are enough
@@ -41,36 +23,32 @@ module _ (bytes : List ℕ) where
       by (Ok x) h = sym (sequence-is bytes m at x.0 x.1 b h)
       by (Err f) h = sym (sequence-breaks bytes m at f b h)
 
-  abbrev pub all_from : ℕ → FlowRead Items
-  all_from at = sequence_in bytes (suc (length bytes)) at
-
-  abbrev pub more_from : ℕ → FlowRead Items
+  abbrev more_from : ℕ → FlowRead Items
   more_from at = sequence_in bytes (suc (suc (length bytes))) at
 
-  one-more : (at : ℕ) → all_from at ≡ more_from at
-  one-more at = enough-items (suc (length bytes)) (suc (suc (length bytes))) at (always-enough (length bytes) at) (omega arith, omega arith)
+  one-more : (at : ℕ) → more_from at ≡ items_from bytes at
+  one-more at = enough-items (suc (suc (length bytes))) (suc (length bytes)) at (omega arith, omega arith) (always-enough (length bytes) at)
 
-  module _ (whole : FlowRead Items) (items : List Node) (at : ℕ) (so_far : after_items (map tree items) (all_from at) ≡ whole) where
-    so-more : after_items (map tree items) (more_from at) ≡ whole
-    so-more = ap (after_items (map tree items)) (sym (one-more at)) ∙ so_far
+  module _ (found : List Node) where
+    abbrev whole : FlowRead Items → FlowTree
+    whole read = as_tree sequence (after_items (map tree found) read)
 
-    pub items-end : (closing : ContentLine) (next : ℕ) → more_from at ≡ turned_items all_from (turn.Ends closing next) → whole ≡ Ok (closed_items (items, closing))
-    items-end closing next e = sym so-more ∙ ap (after_items (map tree items)) e ∙ all-items (map tree items) (shown closing).first
+    pushed : (x : Node) (read : FlowRead Items) → whole (with_item (tree x) read) ≡ as_tree sequence (after_items (map tree (found ++ x ∷ [])) read)
+    pushed x read = ap (as_tree sequence) (sym (items-push (map tree found) (tree x) read) ∙ ap (λ (ts : List Tree). after_items ts read) (sym (map_push tree found x)))
 
-    pub items-last : (found : Node) (now : List Node) (closing : ContentLine) (next : ℕ) → now ≡ items ++ found ∷ [] → more_from at ≡ turned_items all_from (turn.Last found closing next) → whole ≡ Ok (closed_items (now, closing))
-    items-last found now closing next e t =
-        let pushed : map tree now ≡ map tree items ++ tree found ∷ [] = ap (map tree) e ∙ map_push tree items found in
-        sym so-more ∙ ap (after_items (map tree items)) t
-        ∙ sym (push-items (map tree items) (tree found) (Ok (no_items, (shown closing).first)))
-        ∙ ap (λ (ts : List Tree). after_items ts (Ok (no_items, (shown closing).first))) (sym pushed)
-        ∙ all-items (map tree now) (shown closing).first
+    ended : (nodes : List Node) (c : Cell) → as_tree sequence (after_items (map tree nodes) (Ok (no_items, c))) ≡ Ok (items_tree nodes, c)
+    ended nodes c = ap (as_tree sequence) (items-all (map tree nodes) c)
 
-    pub items-more : (found : Node) (now : List Node) (place : FlowCursor) → now ≡ items ++ found ∷ [] → more_from at ≡ turned_items all_from (turn.More found place) → after_items (map tree now) (all_from place.at) ≡ whole
-    items-more found now place e t =
-        let pushed : map tree now ≡ map tree items ++ tree found ∷ [] = ap (map tree) e ∙ map_push tree items found in
-        ap (λ (ts : List Tree). after_items ts (all_from place.at)) pushed ∙ push-items (map tree items) (tree found) (all_from place.at)
-        ∙ ap (after_items (map tree items)) (sym t) ∙ so-more
+    -- a turn, where one turn more is granted than is needed
+    pub items-turned : (at : ℕ) (read : FlowTree) → ItemsBehind bytes found at read → (r : Result (Turn Node) Refusal) → TurnsItems (items_from bytes) r (more_from at) → TurnGives items_tree (ItemsBehind bytes) found read r
+    items-turned at read so_far r t = by r t
+      where
+        is : (x : FlowRead Items) → more_from at ≡ x → read ≡ whole x
+        is x e = sym so_far ∙ ap whole (sym (one-more at) ∙ e)
 
-    pub items-fail : (e : Refusal) → Fails e (more_from at) → Fails e whole
-    items-fail refusal_of.Memory h = tt
-    items-fail (refusal_of.At kind span) h = sym so-more ∙ ap (after_items (map tree items)) h ∙ items-err (map tree items) (record { kind = kind; span = span })
+        by : (r : Result (Turn Node) Refusal) → TurnsItems (items_from bytes) r (more_from at) → TurnGives items_tree (ItemsBehind bytes) found read r
+        by (Ok (turn.Ends closing next)) t = is _ t ∙ ended found (shown closing).first
+        by (Ok (turn.Last x closing next)) t = is _ t ∙ pushed x (Ok (no_items, (shown closing).first)) ∙ ended (found ++ x ∷ []) (shown closing).first
+        by (Ok (turn.More x place)) t = sym (is _ t ∙ pushed x (items_from bytes place.at))
+        by (Err refusal_of.Memory) t = tt
+        by (Err (refusal_of.At kind span)) t = is _ t ∙ ap (as_tree sequence) (items-err (map tree found) (record { kind = kind; span = span }))

@@ -5,7 +5,7 @@ use Rattle.lf_base.specs.declared.refusal.Refusal.{Refusal}
 use Rattle.lf_base.specs.declared.refusal.Refusal.TheVariants as refusal_of
 use Rattle.lf_base.specs.declared.fault.Fault.{Fault}
 use Rattle.lf_scalar.specs.Cells.{Fails}
-use Rattle.lf_yaml.specs.Rows.{Row, indent, indent_fault, row_fault}
+use Rattle.lf_yaml.specs.Rows.{ContentRow, indent, indent_fault, row_fault}
 use Rattle.lf_yaml.specs.Heads.{is_item}
 use Rattle.lf_yaml.specs.Tree.{Tree, Items, no_items, items_of}
 use Rattle.lf_yaml.specs.Nodes.{Ends}
@@ -15,6 +15,8 @@ use Rattle.lf_yaml.specs.reading.BlockTurns.{item_turn, inner, run_items}
 use Rattle.lf_yaml.proofs.BlockRows.{item-rows}
 use Rattle.lf_yaml.proofs.BlockTells.{ItemTold, item-told, node-tells}
 use Rattle.lf_yaml.proofs.Blocks.{at-item}
+use Rattle.lf_yaml.specs.reading.FlowTurns.{after_items}
+use Rattle.lf_yaml.proofs.Collected.{items-push, items-all, items-err}
 use Rattle.lf_yaml.proofs.Ends.{end-length}
 use Rattle.lf_yaml.proofs.Placed.{IsPlaced, ArePlaced, file-placed}
 use Rattle.lf_yaml.proofs.Steps.{at-indent, at-deeper, items-end}
@@ -26,16 +28,16 @@ rows-placed bytes at = file-placed bytes at
 -- ---- one turn
 
 abbrev Turn : Type 0
-Turn = Result (Option (Row × List Row)) Fault
+Turn = Result (Option (ContentRow × List ContentRow)) Fault
 
 -- the next item
-pub record NextItem (m : ℕ) (rs : List Row) (r : Row) (later : List Row) : Type 0 where
+pub record NextItem (m : ℕ) (rs : List ContentRow) (r : ContentRow) (later : List ContentRow) : Type 0 where
   pub rows : rs ≡ r ∷ later
   pub column : indent r ≡ m
   pub is : is_item r ≡ true
 
 -- what a row at m is told of, by its tests
-turn-cases : (own : Bool) (m : ℕ) (r : Row) (rs : List Row) (P : Turn → Type 0) → (m < indent r → P (Err (indent_fault r))) → (indent r < m → P (Ok None)) → (indent r ≡ m → is_item r ≡ true → P (Ok (Some (r, rs))))
+turn-cases : (own : Bool) (m : ℕ) (r : ContentRow) (rs : List ContentRow) (P : Turn → Type 0) → (m < indent r → P (Err (indent_fault r))) → (indent r < m → P (Ok None)) → (indent r ≡ m → is_item r ≡ true → P (Ok (Some (r, rs))))
     → (indent r ≡ m → is_item r ≡ false → P (cond own (Ok None) (Err (row_fault r)))) → P (item_turn own m (r ∷ rs))
 unfolding item_turn
 turn-cases own m r rs P deeper smaller here none = by (ltb m (indent r)) (ltb (indent r) m) (is_item r) refl refl refl
@@ -46,7 +48,7 @@ turn-cases own m r rs P deeper smaller here none = by (ltb m (indent r)) (ltb (i
     by false false true p q s = here (omega (arith, ltb-false m (indent r) p, ltb-false (indent r) m q)) s
     by false false false p q s = none (omega (arith, ltb-false m (indent r) p, ltb-false (indent r) m q)) s
 
-abbrev some : Row → List Row → Turn
+abbrev some : ContentRow → List ContentRow → Turn
 some r rs = Ok (Some (r, rs))
 
 abbrev over : Turn
@@ -55,35 +57,35 @@ over = Ok None
 abbrev wrong : Fault → Turn
 wrong f = Err f
 
-over-some : (r : Row) (rs : List Row) → over ≡ some r rs → ⊥
+over-some : (r : ContentRow) (rs : List ContentRow) → over ≡ some r rs → ⊥
 over-some r rs e = cc
 
-wrong-some : (f : Fault) (r : Row) (rs : List Row) → wrong f ≡ some r rs → ⊥
+wrong-some : (f : Fault) (r : ContentRow) (rs : List ContentRow) → wrong f ≡ some r rs → ⊥
 wrong-some f r rs e = cc
 
 over-wrong : (f : Fault) → over ≡ wrong f → ⊥
 over-wrong f e = cc
 
-some-wrong : (f : Fault) (r : Row) (rs : List Row) → some r rs ≡ wrong f → ⊥
+some-wrong : (f : Fault) (r : ContentRow) (rs : List ContentRow) → some r rs ≡ wrong f → ⊥
 some-wrong f r rs e = cc
 
 wrong-over : (f : Fault) → wrong f ≡ over → ⊥
 wrong-over f e = cc
 
-some-over : (r : Row) (rs : List Row) → some r rs ≡ over → ⊥
+some-over : (r : ContentRow) (rs : List ContentRow) → some r rs ≡ over → ⊥
 some-over r rs e = cc
 
-row-in : Row → Turn → Row
+row-in : ContentRow → Turn → ContentRow
 row-in r (Ok (Some x)) = x.0
 row-in r (Ok None) = r
 row-in r (Err f) = r
 
-rows-in : List Row → Turn → List Row
+rows-in : List ContentRow → Turn → List ContentRow
 rows-in rs (Ok (Some x)) = x.1
 rows-in rs (Ok None) = rs
 rows-in rs (Err f) = rs
 
-same-some : (r s : Row) (rs ss : List Row) → some r rs ≡ some s ss → (r ≡ s) × (rs ≡ ss)
+same-some : (r s : ContentRow) (rs ss : List ContentRow) → some r rs ≡ some s ss → (r ≡ s) × (rs ≡ ss)
 unfolding row-in rows-in
 same-some r s rs ss e = (ap (row-in r) e, ap (rows-in rs) e)
 
@@ -94,7 +96,7 @@ choose : (P : Turn → Type 0) (own : Bool) (f : Fault) → P over → P (wrong 
 choose P true f h k = h
 choose P false f h k = k
 
-pub next-item : (own : Bool) (m : ℕ) (rs : List Row) (r : Row) (later : List Row) → item_turn own m rs ≡ Ok (Some (r, later)) → NextItem m rs r later
+pub next-item : (own : Bool) (m : ℕ) (rs : List ContentRow) (r : ContentRow) (later : List ContentRow) → item_turn own m rs ≡ Ok (Some (r, later)) → NextItem m rs r later
 unfolding item_turn
 next-item own m [] r later e = absurd (over-some r later e)
 next-item own m (s ∷ ss) r later e = turn-cases own m s ss (λ t. t ≡ some r later → NextItem m (s ∷ ss) r later) deeper smaller here none e
@@ -109,7 +111,7 @@ next-item own m (s ∷ ss) r later e = turn-cases own m s ss (λ t. t ≡ some r
     here same i e =
         let h = same-some s r ss later e in
         record {
-          rows = ap (λ (x : Row). x ∷ ss) h.0 ∙ ap (λ (xs : List Row). r ∷ xs) h.1;
+          rows = ap (λ (x : ContentRow). x ∷ ss) h.0 ∙ ap (λ (xs : List ContentRow). r ∷ xs) h.1;
           column = ap indent (sym h.0) ∙ same;
           is = ap is_item (sym h.0) ∙ i;
         }
@@ -117,7 +119,7 @@ next-item own m (s ∷ ss) r later e = turn-cases own m s ss (λ t. t ≡ some r
     none : indent s ≡ m → is_item s ≡ false → cond own over (wrong (row_fault s)) ≡ some r later → NextItem m (s ∷ ss) r later
     none same i e = absurd (choose (λ t. t ≡ some r later → ⊥) own (row_fault s) (over-some r later) (wrong-some (row_fault s) r later) e)
 
-pub items-over : (own : Bool) (m : ℕ) (rs : List Row) → item_turn own m rs ≡ Ok None → Ends own m rs
+pub items-over : (own : Bool) (m : ℕ) (rs : List ContentRow) → item_turn own m rs ≡ Ok None → Ends own m rs
 unfolding item_turn
 items-over true m [] e = tt
 items-over false m [] e = tt
@@ -134,7 +136,7 @@ items-over own m (s ∷ ss) e = turn-cases own m s ss (λ t. t ≡ over → Ends
 abbrev fails : Fault → Read Items
 fails f = Err f
 
-pub items-wrong : (node : Reader) (n : ℕ) (own : Bool) (m : ℕ) (rs : List Row) (f : Fault) → item_turn own m rs ≡ Err f → items node (suc n) own m rs ≡ Err f
+pub items-wrong : (node : Reader) (n : ℕ) (own : Bool) (m : ℕ) (rs : List ContentRow) (f : Fault) → item_turn own m rs ≡ Err f → items node (suc n) own m rs ≡ Err f
 unfolding item_turn items
 items-wrong node n own m [] f e = absurd (over-wrong f e)
 items-wrong node n own m (s ∷ ss) f e = turn-cases own m s ss (λ t. t ≡ wrong f → items node (suc n) own m (s ∷ ss) ≡ Err f) deeper (λ lt e. absurd (over-wrong f e)) (λ same i e. absurd (some-wrong f s ss e)) (λ same i e. at-indent m s ss no_items _ same ∙ rw i (no-item own e)) e
@@ -151,37 +153,21 @@ items-wrong node n own m (s ∷ ss) f e = turn-cases own m s ss (λ t. t ≡ wro
 
 -- ---- some items, and then what is read behind them
 
-abbrev pub after_items : List Tree → Read Items → Read Items
-after_items [] read = read
-after_items (t ∷ ts) read = with_item t (after_items ts read)
-
-after-push : (ts : List Tree) (t : Tree) (read : Read Items) → after_items (ts ++ t ∷ []) read ≡ after_items ts (with_item t read)
-after-push [] t read = refl
-after-push (u ∷ ts) t read = ap (with_item u) (after-push ts t read)
-
-after-none : (ts : List Tree) (rest : List Row) → after_items ts (Ok (no_items, rest)) ≡ Ok (items_of ts, rest)
-after-none [] rest = refl
-after-none (t ∷ ts) rest = ap (with_item t) (after-none ts rest)
-
-after-err : (ts : List Tree) (f : Fault) → after_items ts (Err f) ≡ Err f
-after-err [] f = refl
-after-err (t ∷ ts) f = ap (with_item t) (after-err ts f)
-
 -- what a loop knows: the items that it found, and then those of the rows left, are all
-pub record ItemsLeft (bytes : List ℕ) (d : ℕ) (own : Bool) (m : ℕ) (found : List Tree) (rest : List Row) (total : Read Items) : Type 0 where
+pub record ItemsLeft (bytes : List ℕ) (d : ℕ) (own : Bool) (m : ℕ) (found : List Tree) (rest : List ContentRow) (total : Read Items) : Type 0 where
   pub turns : ℕ
   pub enough : length rest < turns
   pub same : after_items found (items (inner bytes d) turns own m rest) ≡ total
 
 module _ (bytes : List ℕ) (d : ℕ) where
-  told-shorter : (m : ℕ) (r : Row) (rs : List Row) (t : Tree) (rest : List Row) (read : Read Tree) → read ≡ Ok (t, rest) → ItemTold bytes d m r rs read → length rest ≤ length rs
+  told-shorter : (m : ℕ) (r : ContentRow) (rs : List ContentRow) (t : Tree) (rest : List ContentRow) (read : Read Tree) → read ≡ Ok (t, rest) → ItemTold bytes d m r rs read → length rest ≤ length rs
   told-shorter m r rs t rest read e h = end-length rs rest (item-rows bytes d m r rs t rest (subst (ItemTold bytes d m r rs) e h))
 
   -- an item leaves no more rows than there were
-  pub item-shorter : (m : ℕ) (r : Row) (rs : List Row) (t : Tree) (rest : List Row) → IsPlaced bytes r → ArePlaced bytes rs → item_value (inner bytes d) m r rs ≡ Ok (t, rest) → length rest ≤ length rs
+  pub item-shorter : (m : ℕ) (r : ContentRow) (rs : List ContentRow) (t : Tree) (rest : List ContentRow) → IsPlaced bytes r → ArePlaced bytes rs → item_value (inner bytes d) m r rs ≡ Ok (t, rest) → length rest ≤ length rs
   item-shorter m r rs t rest here placed e = told-shorter m r rs t rest (item_value (inner bytes d) m r rs) e (item-told bytes d m r rs (λ a x xs. node-tells bytes d a x xs) here placed)
 
-  pub first-item : (own : Bool) (r : Row) (rs : List Row) (t : Tree) (rest : List Row) → IsPlaced bytes r → ArePlaced bytes rs → is_item r ≡ true → item_value (inner bytes d) (indent r) r rs ≡ Ok (t, rest)
+  pub first-item : (own : Bool) (r : ContentRow) (rs : List ContentRow) (t : Tree) (rest : List ContentRow) → IsPlaced bytes r → ArePlaced bytes rs → is_item r ≡ true → item_value (inner bytes d) (indent r) r rs ≡ Ok (t, rest)
       → ItemsLeft bytes d own (indent r) (t ∷ []) rest (run_items bytes d own (indent r) r rs)
   first-item own r rs t rest here placed i e = record {
     turns = length (r ∷ rs);
@@ -189,11 +175,11 @@ module _ (bytes : List ℕ) (d : ℕ) where
     same = sym (at-item (inner bytes d) (length (r ∷ rs)) own (indent r) r rs (Ok (t, rest)) refl i e);
   }
 
-  pub first-fails : (own : Bool) (r : Row) (rs : List Row) (e : Refusal) → is_item r ≡ true → Fails e (item_value (inner bytes d) (indent r) r rs) → Fails e (run_items bytes d own (indent r) r rs)
+  pub first-fails : (own : Bool) (r : ContentRow) (rs : List ContentRow) (e : Refusal) → is_item r ≡ true → Fails e (item_value (inner bytes d) (indent r) r rs) → Fails e (run_items bytes d own (indent r) r rs)
   first-fails own r rs refusal_of.Memory i h = tt
   first-fails own r rs (refusal_of.At kind span) i h = at-item (inner bytes d) (length (r ∷ rs)) own (indent r) r rs _ refl i h
 
-  pub more-items : (own : Bool) (m : ℕ) (found : List Tree) (rs : List Row) (r : Row) (later : List Row) (t : Tree) (rest : List Row) (total : Read Items) → IsPlaced bytes r → ArePlaced bytes later → NextItem m rs r later
+  pub more-items : (own : Bool) (m : ℕ) (found : List Tree) (rs : List ContentRow) (r : ContentRow) (later : List ContentRow) (t : Tree) (rest : List ContentRow) (total : Read Items) → IsPlaced bytes r → ArePlaced bytes later → NextItem m rs r later
       → item_value (inner bytes d) (indent r) r later ≡ Ok (t, rest) → ItemsLeft bytes d own m found rs total → ItemsLeft bytes d own m (found ++ t ∷ []) rest total
   more-items own m found rs r later t rest total here placed next e left = by left.turns left.enough left.same
     where
@@ -206,10 +192,10 @@ module _ (bytes : List ℕ) (d : ℕ) where
           record {
             turns = n;
             enough = omega (arith, lt, ap length next.rows, item-shorter m r later t rest here placed read);
-            same = after-push found t (items (inner bytes d) n own m rest) ∙ ap (after_items found) (sym one) ∙ same;
+            same = items-push found t (items (inner bytes d) n own m rest) ∙ ap (after_items found) (sym one) ∙ same;
           }
 
-  pub item-fails : (own : Bool) (m : ℕ) (found : List Tree) (rs : List Row) (r : Row) (later : List Row) (total : Read Items) (e : Refusal) → NextItem m rs r later → Fails e (item_value (inner bytes d) (indent r) r later)
+  pub item-fails : (own : Bool) (m : ℕ) (found : List Tree) (rs : List ContentRow) (r : ContentRow) (later : List ContentRow) (total : Read Items) (e : Refusal) → NextItem m rs r later → Fails e (item_value (inner bytes d) (indent r) r later)
       → ItemsLeft bytes d own m found rs total → Fails e total
   item-fails own m found rs r later total refusal_of.Memory next h left = tt
   item-fails own m found rs r later total (refusal_of.At kind span) next h left = by left.turns left.enough left.same
@@ -220,21 +206,21 @@ module _ (bytes : List ℕ) (d : ℕ) where
           let read : item_value (inner bytes d) m r later ≡ Err (record { kind = kind; span = span }) = ap (λ (k : ℕ). item_value (inner bytes d) k r later) (sym next.column) ∙ h in
           let one : items (inner bytes d) (suc n) own m rs ≡ Err (record { kind = kind; span = span }) =
           ap (items (inner bytes d) (suc n) own m) next.rows ∙ at-item (inner bytes d) n own m r later (Err (record { kind = kind; span = span })) next.column next.is read in
-          sym same ∙ ap (after_items found) one ∙ after-err found (record { kind = kind; span = span })
+          sym same ∙ ap (after_items found) one ∙ items-err found (record { kind = kind; span = span })
 
-  pub turn-fails : (own : Bool) (m : ℕ) (found : List Tree) (rs : List Row) (total : Read Items) (e : Refusal) → Fails e (item_turn own m rs) → ItemsLeft bytes d own m found rs total → Fails e total
+  pub turn-fails : (own : Bool) (m : ℕ) (found : List Tree) (rs : List ContentRow) (total : Read Items) (e : Refusal) → Fails e (item_turn own m rs) → ItemsLeft bytes d own m found rs total → Fails e total
   turn-fails own m found rs total refusal_of.Memory h left = tt
   turn-fails own m found rs total (refusal_of.At kind span) h left = by left.turns left.enough left.same
     where
       by : (n : ℕ) → length rs < n → after_items found (items (inner bytes d) n own m rs) ≡ total → total ≡ Err (record { kind = kind; span = span })
       by zero lt same = absurd (omega (arith, lt))
-      by (suc n) lt same = sym same ∙ ap (after_items found) (items-wrong (inner bytes d) n own m rs (record { kind = kind; span = span }) h) ∙ after-err found (record { kind = kind; span = span })
+      by (suc n) lt same = sym same ∙ ap (after_items found) (items-wrong (inner bytes d) n own m rs (record { kind = kind; span = span }) h) ∙ items-err found (record { kind = kind; span = span })
 
-  pub items-done : (own : Bool) (m : ℕ) (found : List Tree) (rs : List Row) (total : Read Items) → item_turn own m rs ≡ Ok None → ItemsLeft bytes d own m found rs total → total ≡ Ok (items_of found, rs)
+  pub items-done : (own : Bool) (m : ℕ) (found : List Tree) (rs : List ContentRow) (total : Read Items) → item_turn own m rs ≡ Ok None → ItemsLeft bytes d own m found rs total → total ≡ Ok (items_of found, rs)
   items-done own m found rs total e left =
-      sym left.same ∙ ap (after_items found) (items-end (inner bytes d) left.turns own m rs (omega (arith, left.enough)) (items-over own m rs e)) ∙ after-none found rs
+      sym left.same ∙ ap (after_items found) (items-end (inner bytes d) left.turns own m rs (omega (arith, left.enough)) (items-over own m rs e)) ∙ items-all found rs
 
   -- where the code computed the indent
-  pub first-item-at : (m : ℕ) (own : Bool) (r : Row) (rs : List Row) (t : Tree) (rest : List Row) → m ≡ indent r → IsPlaced bytes r → ArePlaced bytes rs → is_item r ≡ true → item_value (inner bytes d) (indent r) r rs ≡ Ok (t, rest)
+  pub first-item-at : (m : ℕ) (own : Bool) (r : ContentRow) (rs : List ContentRow) (t : Tree) (rest : List ContentRow) → m ≡ indent r → IsPlaced bytes r → ArePlaced bytes rs → is_item r ≡ true → item_value (inner bytes d) (indent r) r rs ≡ Ok (t, rest)
       → ItemsLeft bytes d own m (t ∷ []) rest (run_items bytes d own (indent r) r rs)
   first-item-at m own r rs t rest q here placed i e = subst (λ (k : ℕ). ItemsLeft bytes d own k (t ∷ []) rest (run_items bytes d own (indent r) r rs)) (sym q) (first-item own r rs t rest here placed i e)

@@ -13,21 +13,21 @@ use Rattle.lf_yaml.specs.Heads.{Split, key_in}
 use Rattle.lf_yaml.specs.Keys.{is_key_left_out}
 use Rattle.lf_yaml.specs.Flow.{line_on, left_on, next_on, begins_flow, is_flow_sign}
 use Rattle.lf_yaml.specs.views.Signs.{stops_of, split_at}
-use Rattle.lf_yaml.specs.reading.Trees.{Part, after_closing, with_after, quoted_part, between_of, behind_closing, sign_if, sign_behind, Signed, signed, signed_behind, far_sign, no_sign, plain_key, bare_key, flow_key_by}
+use Rattle.lf_yaml.specs.reading.Trees.{FlowPart, after_closing, with_after, quoted_part, between_of, behind_closing, sign_if, sign_behind, Signed, signed, signed_behind, far_sign, no_sign, plain_key, bare_key, flow_key_by}
 
 -- ---- between quotes
 
-with-ok : (after : ℕ) (read : Result Value Fault) (x : Part) → with_after after read ≡ Ok x → (read ≡ Ok x.0) × (after ≡ x.1)
+with-ok : (after : ℕ) (read : Result Value Fault) (x : FlowPart) → with_after after read ≡ Ok x → (read ≡ Ok x.0) × (after ≡ x.1)
 with-ok after (Ok v) x e = let h : (v ≡ x.0) × (after ≡ x.1) = ok-pair e in (ap (λ (w : Value). Ok w) h.0, h.1)
   where
-    ok-pair : (let y : Result Part Fault = Ok (v, after) in y) ≡ Ok x → (v ≡ x.0) × (after ≡ x.1)
-    ok-pair h = (ap (λ (r : Result Part Fault). fst-of r) h, ap (λ (r : Result Part Fault). snd-of r) h)
+    ok-pair : (let y : Result FlowPart Fault = Ok (v, after) in y) ≡ Ok x → (v ≡ x.0) × (after ≡ x.1)
+    ok-pair h = (ap (λ (r : Result FlowPart Fault). fst-of r) h, ap (λ (r : Result FlowPart Fault). snd-of r) h)
       where
-        fst-of : Result Part Fault → Value
+        fst-of : Result FlowPart Fault → Value
         fst-of (Ok y) = y.0
         fst-of (Err f) = v
 
-        snd-of : Result Part Fault → ℕ
+        snd-of : Result FlowPart Fault → ℕ
         snd-of (Ok y) = y.1
         snd-of (Err f) = after
 with-ok after (Err f) x e = absurd cc

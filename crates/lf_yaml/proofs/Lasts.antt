@@ -1,12 +1,10 @@
 -- Where the last of some nodes ends.
-use Rattle.std.proofs.Common.{◌≡◌, ℕ, suc, ◌-◌, List, [], ◌∷◌, length, map, Some, None, ap, arith, rules, sym, ◌∙◌}
+use Rattle.std.proofs.Common.{◌≡◌, ℕ, suc, ◌-◌, List, [], ◌∷◌, length, map, Some, None, ap, arith, sym, ◌∙◌}
 use Rattle.std.specs.Prelude.{slice_get}
 use Rattle.std.proofs.lemmas.Option.{same_Some}
 use Rattle.lf_scalar.specs.Cells.{Value}
-use Rattle.lf_yaml.specs.Tree.{Tree, items_of, entries_of, tree, pair}
+use Rattle.lf_yaml.specs.Tree.{Tree, items_of, entries_of}
 use Rattle.lf_yaml.specs.Spans.{span_of, items_end, entries_end}
-use Rattle.lf_yaml.specs.declared.node.Node.{the_lemmas}
-use Rattle.lf_yaml.specs.declared.node.Entry.{Entry}
 
 none-some : {A : Type 0} {X : Type 0} (x : A) → None ≡ Some x → X
 none-some x e = absurd cc
@@ -26,6 +24,3 @@ last-entry f none (y ∷ z ∷ xs) x e =
     let m : length (y ∷ z ∷ xs) - 1 ≡ suc (length xs) = omega arith in
     let n : length (z ∷ xs) - 1 ≡ length xs = omega arith in
     last-entry f (span_of (f y).1).end (z ∷ xs) x (e ∙ ap (slice_get (y ∷ z ∷ xs)) m ∙ ap (slice_get (z ∷ xs)) (sym n))
-
-pub pair-value : (e : Entry) → tree e.value ≡ (pair e).1
-pair-value e = search (rules, the_lemmas)

@@ -11,7 +11,7 @@ use Rattle.lf_scalar.specs.Lines.{lines}
 use Rattle.lf_scalar.specs.Scalars.{source_at}
 use Rattle.lf_scalar.proofs.Tails.{true-false}
 use Rattle.lf_yaml.specs.Characters.{mark_length, is_wrong, FirstWrong, AreCharacters, BreaksCharacters}
-use Rattle.lf_yaml.specs.Rows.{Row, rows_of, is_opening, without_opening}
+use Rattle.lf_yaml.specs.Rows.{ContentRow, rows_of, is_opening, without_opening}
 use Rattle.lf_yaml.specs.Tree.{Tree}
 use Rattle.lf_yaml.specs.Nodes.{NodeAt, BlockAt, ValueAt}
 use Rattle.lf_yaml.specs.Nodes as nodes
@@ -28,19 +28,19 @@ use Rattle.lf_yaml.proofs.BlockTells.{NodeTold, node-tells}
 
 -- ---- the document
 
-block-begins : (bytes : List ℕ) (d : ℕ) (own : Bool) (r : Row) (rs : List Row) (t : Tree) (rest : List Row) → BlockAt bytes d own r rs t rest → begins_block r ≡ true
+block-begins : (bytes : List ℕ) (d : ℕ) (own : Bool) (r : ContentRow) (rs : List ContentRow) (t : Tree) (rest : List ContentRow) → BlockAt bytes d own r rs t rest → begins_block r ≡ true
 block-begins bytes _ own r rs _ rest (nodes.BlockAt.block_sequence {d = d} {is = is} h) = heads.begins-block r (inl (items-begin bytes d own _ r rs is rest h))
 block-begins bytes _ own r rs _ rest (nodes.BlockAt.block_mapping {d = d} {es = es} h) = begins-mapping r (entries-begin bytes d _ [] r rs es rest h)
 
-abbrev root : Row → Read Tree → Result Tree Fault
+abbrev root : ContentRow → Read Tree → Result Tree Fault
 root r read = read >>= λ x. behind_root r x
 
-pub document-is : (bytes : List ℕ) (rs : List Row) (t : Tree) → DocumentAt bytes rs t → document_of bytes rs ≡ Ok t
+pub document-is : (bytes : List ℕ) (rs : List ContentRow) (t : Tree) → DocumentAt bytes rs t → document_of bytes rs ≡ Ok t
 unfolding document_of
 document-is bytes _ _ nothing = refl
 document-is bytes _ t (a_node {r = r} {rs = rs} h) = ap (root r) (node-is bytes 0 16 r rs t [] h)
 
-pub document-breaks : (bytes : List ℕ) (rs : List Row) (f : Fault) → DocumentBreaks bytes rs f → document_of bytes rs ≡ Err f
+pub document-breaks : (bytes : List ℕ) (rs : List ContentRow) (f : Fault) → DocumentBreaks bytes rs f → document_of bytes rs ≡ Err f
 unfolding document_of
 document-breaks bytes _ f (broken_node {r = r} {rs = rs} h) = ap (root r) (node-breaks bytes 0 16 r rs f h)
 document-breaks bytes _ _ (behind_block {r = r} {next = next} {rs = rs} {later = later} {t = t} h) =
@@ -48,25 +48,25 @@ document-breaks bytes _ _ (behind_block {r = r} {next = next} {rs = rs} {later =
 document-breaks bytes _ _ (behind_value {r = r} {next = next} {rs = rs} {later = later} {t = t} n h) =
     ap (root r) (value-node bytes 16 false 0 r rs n ∙ value-is bytes 0 16 r rs t (next ∷ later) h) ∙ rw (begins-no-block r n) refl
 
-abbrev pub DocumentTold : List ℕ → List Row → Result Tree Fault → Type 0
+abbrev pub DocumentTold : List ℕ → List ContentRow → Result Tree Fault → Type 0
 DocumentTold bytes rs (Ok t) = DocumentAt bytes rs t
 DocumentTold bytes rs (Err f) = DocumentBreaks bytes rs f
 
-behind-told : (bytes : List ℕ) (r next : Row) (rs later : List Row) (t : Tree) → NodeAt bytes 0 16 r rs t (next ∷ later) → DocumentTold bytes (r ∷ rs) (behind_root r (t, next ∷ later))
+behind-told : (bytes : List ℕ) (r next : ContentRow) (rs later : List ContentRow) (t : Tree) → NodeAt bytes 0 16 r rs t (next ∷ later) → DocumentTold bytes (r ∷ rs) (behind_root r (t, next ∷ later))
 behind-told bytes r next rs later t (nodes.NodeAt.value n h) = rw (begins-no-block r n) (behind_value n h)
 behind-told bytes r next rs later t (nodes.NodeAt.block above h) = rw (block-begins bytes 16 false r rs t (next ∷ later) h) (behind_block h)
 
-root-told : (bytes : List ℕ) (r : Row) (rs : List Row) (read : Read Tree) → NodeTold bytes 0 16 r rs read → DocumentTold bytes (r ∷ rs) (root r read)
+root-told : (bytes : List ℕ) (r : ContentRow) (rs : List ContentRow) (read : Read Tree) → NodeTold bytes 0 16 r rs read → DocumentTold bytes (r ∷ rs) (root r read)
 root-told bytes r rs (Ok (t, [])) h = a_node h
 root-told bytes r rs (Ok (t, next ∷ later)) h = behind-told bytes r next rs later t h
 root-told bytes r rs (Err f) h = broken_node h
 
-rows-told : (bytes : List ℕ) (rs : List Row) → ArePlaced bytes rs → DocumentTold bytes rs (document_of bytes rs)
+rows-told : (bytes : List ℕ) (rs : List ContentRow) → ArePlaced bytes rs → DocumentTold bytes rs (document_of bytes rs)
 unfolding document_of
 rows-told bytes [] placed = nothing
 rows-told bytes (r ∷ rs) placed = root-told bytes r rs (node_at bytes 16 false 0 r rs) (node-tells bytes 16 0 r rs placed.0 placed.1)
 
-opening-placed : (bytes : List ℕ) (rs : List Row) → ArePlaced bytes rs → ArePlaced bytes (without_opening rs)
+opening-placed : (bytes : List ℕ) (rs : List ContentRow) → ArePlaced bytes rs → ArePlaced bytes (without_opening rs)
 opening-placed bytes [] h = tt
 opening-placed bytes (r ∷ rs) h = by (is_opening r)
   where

@@ -1,3 +1,4 @@
+pub mod TreeOf
 pub mod HeadLaws
 pub mod Ends
 pub mod FlowLines
@@ -26,6 +27,7 @@ pub mod FlowText
 pub mod FlowCode
 pub mod ColonScan
 pub mod HeadCode
+pub mod Collected
 pub mod ItemRuns
 pub mod EntryRuns
 pub mod BlockCode

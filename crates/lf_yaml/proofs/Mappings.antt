@@ -9,7 +9,7 @@ use Rattle.lf_yaml.specs.Heads.{Key, IsKey}
 use Rattle.lf_yaml.specs.Tree.{Tree, Entries, no_entries, entry}
 use Rattle.lf_yaml.specs.Flow.{Next, at_part, broken, next_on, sign_fault, FlowKey, FlowEntry, MappingIn, MappingBreaks}
 use Rattle.lf_yaml.specs.Flow as flow
-use Rattle.lf_yaml.specs.reading.Trees.{Signed, flow_key, Valued, flow_value, FlowRead, with_flow_entry, mapping_sign, value_behind, Later, new_entry, key_behind, mapping_part, mapping_in, Keys}
+use Rattle.lf_yaml.specs.reading.Trees.{Signed, flow_key, Valued, flow_value, FlowRead, with_entry, mapping_sign, value_behind, Later, new_entry, key_behind, mapping_part, mapping_in, Keys}
 use Rattle.lf_yaml.proofs.HeadLaws.{has-tells}
 use Rattle.lf_yaml.proofs.FlowParts.{part-bounds, part-within, part-no-sign}
 use Rattle.lf_yaml.proofs.FlowKeys.{flow-key-is, flow-key-breaks, FlowKeyTold, flow-key-tells, flow-value-is, flow-value-breaks, FlowValueTold, flow-value-tells, key-within, key-begins, value-within}
@@ -73,7 +73,7 @@ module _ (bytes : List ℕ) where
       begun n keys at after v t _ h g ∙ rw (no-44 closing.byte 125 refl b, eq-eqb closing.byte 125 b) refl
   mapping-is (suc n) keys at _ closing le (flow.MappingIn.more {after = after} {comma = comma} {cs = cs} {v = v} {t = t} {es = es} h g b h2) =
       begun n keys at after v t _ h g
-      ∙ rw (eq-eqb comma.byte 44 b) (ap (with_flow_entry v t) (mapping-is n (keys ++ v.text ∷ []) (suc comma.at) es closing (goes-on n keys at after v t comma cs le h g) h2))
+      ∙ rw (eq-eqb comma.byte 44 b) (ap (with_entry v t) (mapping-is n (keys ++ v.text ∷ []) (suc comma.at) es closing (goes-on n keys at after v t comma cs le h g) h2))
 
   twice : (n : ℕ) (keys : Keys) (v : Value) (colon : Cell) → Contains keys v.text → new_entry bytes (later_on n) keys (v, colon) ≡ Err (record { kind = DoubleKey; span = v.span })
   twice n keys v colon old =
@@ -97,7 +97,7 @@ module _ (bytes : List ℕ) where
       begun n keys at after v t _ h g ∙ rw (ne_eqb wrong.byte 44 a, ne_eqb wrong.byte 125 b) refl
   mapping-breaks (suc n) keys at f le (flow.MappingBreaks.later {after = after} {comma = comma} {cs = cs} {v = v} {t = t} h g b h2) =
       begun n keys at after v t _ h g
-      ∙ rw (eq-eqb comma.byte 44 b) (ap (with_flow_entry v t) (mapping-breaks n (keys ++ v.text ∷ []) (suc comma.at) f (goes-on n keys at after v t comma cs le h g) h2))
+      ∙ rw (eq-eqb comma.byte 44 b) (ap (with_entry v t) (mapping-breaks n (keys ++ v.text ∷ []) (suc comma.at) f (goes-on n keys at after v t comma cs le h g) h2))
 
   abbrev pub MappingTold : Keys → ℕ → FlowRead Entries → Type 0
   MappingTold keys at (Ok x) = MappingIn bytes keys at x.0 x.1
@@ -108,7 +108,7 @@ module _ (bytes : List ℕ) where
   Tells n read = (ks : Keys) (at : ℕ) → enough n at → MappingTold ks at (read ks at)
 
   entry-told : (keys : Keys) (at after : ℕ) (comma : Cell) (cs : List Cell) (v : Value) (t : Tree) → FlowEntry bytes keys at v t after → part_is after (at_part comma cs) → comma.byte ≡ 44
-      → (r : FlowRead Entries) → MappingTold (keys ++ v.text ∷ []) (suc comma.at) r → MappingTold keys at (with_flow_entry v t r)
+      → (r : FlowRead Entries) → MappingTold (keys ++ v.text ∷ []) (suc comma.at) r → MappingTold keys at (with_entry v t r)
   entry-told keys at after comma cs v t h g b (Ok x) told = flow.MappingIn.more h g b told
   entry-told keys at after comma cs v t h g b (Err f) told = flow.MappingBreaks.later h g b told
 
@@ -117,7 +117,7 @@ module _ (bytes : List ℕ) where
   sign-told n read keys at after v t told le h (broken f) g = flow.MappingBreaks.no_sign h g
   sign-told n read keys at after v t told le h (at_part d ds) g = by (eqb d.byte 44) (eqb d.byte 125) refl refl
     where
-      by : (a b : Bool) → eqb d.byte 44 ≡ a → eqb d.byte 125 ≡ b → MappingTold keys at (cond a (with_flow_entry v t (read (keys ++ v.text ∷ []) (suc d.at))) (cond b (Ok (entry v t no_entries, d)) (Err (sign_fault d))))
+      by : (a b : Bool) → eqb d.byte 44 ≡ a → eqb d.byte 125 ≡ b → MappingTold keys at (cond a (with_entry v t (read (keys ++ v.text ∷ []) (suc d.at))) (cond b (Ok (entry v t no_entries, d)) (Err (sign_fault d))))
       by true b p q = entry-told keys at after d ds v t h g (eqb-true d.byte 44 p) (read (keys ++ v.text ∷ []) (suc d.at)) (told (keys ++ v.text ∷ []) (suc d.at) (goes-on n keys at after v t d ds le h g))
       by false true p q = flow.MappingIn.last h g (eqb-true d.byte 125 q)
       by false false p q = flow.MappingBreaks.sign h g (differs d.byte 44 p) (differs d.byte 125 q)

@@ -6,11 +6,11 @@ use Rattle.lf_scalar.specs.Cells.{Cell, cell, cells}
 use Rattle.lf_scalar.specs.Lines.{is_blank, after_blanks}
 use Rattle.lf_scalar.proofs.Cells.{cells-length}
 use Rattle.lf_scalar.specs.Block.{begins_blank}
-use Rattle.lf_yaml.specs.Rows.{Row}
+use Rattle.lf_yaml.specs.Rows.{ContentRow}
 use Rattle.lf_yaml.specs.Flow.{Next, at_part, on_line, next_part}
 
 -- behind the blanks, by whether there were some
-abbrev pub part_after : ℕ → Bool → List Cell → List Row → Next
+abbrev pub part_after : ℕ → Bool → List Cell → List ContentRow → Next
 part_after end blank [] rs = on_line end rs
 part_after end blank (c ∷ cs) rs = cond (blank && eqb c.byte 35) (on_line end rs) (at_part c cs)
 
@@ -18,7 +18,7 @@ or-false : (b : Bool) → b ≡ (b || false)
 or-false true = refl
 or-false false = refl
 
-pub next-is : (end : ℕ) (blank : Bool) (cs : List Cell) (rs : List Row) → next_part end blank cs rs ≡ part_after end (blank || begins_blank cs) (after_blanks cs) rs
+pub next-is : (end : ℕ) (blank : Bool) (cs : List Cell) (rs : List ContentRow) → next_part end blank cs rs ≡ part_after end (blank || begins_blank cs) (after_blanks cs) rs
 unfolding next_part
 next-is end blank [] rs = refl
 next-is end blank (c ∷ cs) rs =
@@ -51,7 +51,7 @@ skipped-blank at k (x ∷ xs) le e =
           a ∙ sym (le-ltb 0 k (omega (arith, ap length f, n, m, le)))
     ]
 
-module _ (end at k : ℕ) (text part : List ℕ) (rs : List Row) (le : k ≤ length text) (after : after_blanks (cells at text) ≡ cells (at + k) (drop k text)) (is : part ≡ drop k text) where
+module _ (end at k : ℕ) (text part : List ℕ) (rs : List ContentRow) (le : k ≤ length text) (after : after_blanks (cells at text) ≡ cells (at + k) (drop k text)) (is : part ≡ drop k text) where
   whole : next_part end false (cells at text) rs ≡ part_after end (ltb 0 k) (cells (at + k) part) rs
   whole =
       next-is end false (cells at text) rs ∙ ap (λ (b : Bool). part_after end b (after_blanks (cells at text)) rs) (skipped-blank at k text le after)

@@ -22,7 +22,7 @@ use Rattle.lf_yaml.specs.Flow.{first_line, later_lines, lines_on, line_on, lines
 use Rattle.lf_scalar.specs.Plain.{value_of}
 use Rattle.lf_base.specs.declared.refusal.Refusal.{Refusal}
 use Rattle.lf_base.specs.declared.refusal.Refusal.TheVariants as refusal_of
-use Rattle.lf_yaml.specs.reading.Trees.{between_of, Part, with_after, quoted_part, plain_part, part_by, plain_from}
+use Rattle.lf_yaml.specs.reading.Trees.{between_of, FlowPart, with_after, quoted_part, plain_part, part_by, plain_from}
 use Rattle.lf_yaml.proofs.FlowLines.{good, PlainTold, plain-told, plain-climbs, plain-within, plain-utf8, plain-boundary, lines-here, lines-rise-here}
 use Rattle.lf_yaml.proofs.ReadScalars.{small-quote}
 use Rattle.lf_yaml.proofs.RowsAfter.{get-drop}
@@ -83,7 +83,7 @@ module _ (bytes : List ℕ) (at : ℕ) (within : at < length bytes) (text : List
 pub plain-ok : (bytes : List ℕ) (c : Cell) (cs : List Cell) (text : List Cell) (after place : ℕ) (v : Value) → begins_flow c cs ≡ true → plain_from (line_on bytes c.at) (lines_below bytes c.at) ≡ good text after → value_of c text ≡ v → place ≡ after
     → part_by bytes c cs None ≡ Ok (v, place)
 plain-ok bytes c cs text after place v b read e p =
-    rw b (ap (plain_part c) read ∙ ap (λ (x : Value). let y : Part = (x, after) in Ok y) e ∙ ap (λ (n : ℕ). let y : Part = (v, n) in Ok y) (sym p))
+    rw b (ap (plain_part c) read ∙ ap (λ (x : Value). let y : FlowPart = (x, after) in Ok y) e ∙ ap (λ (n : ℕ). let y : FlowPart = (v, n) in Ok y) (sym p))
 
 abbrev value-read : Value → Result Value Fault
 value-read v = Ok v
@@ -146,7 +146,7 @@ module _ (bytes text inside : List ℕ) (at : ℕ) (quote : Quotes) (within : at
       let z : suc (at + 1 + k) ≡ place = omega (arith, p) in
       ap (quoted_part quote (cell (get_or text 0 0) at)) (closing-is (Some (split_of (at + 1) inside k)) e)
       ∙ ap (λ (b : ℕ). with_after (suc (at + 1 + k)) (between_of quote (cell b at) (Some (split_of (at + 1) inside k)))) first-byte
-      ∙ ap (with_after (suc (at + 1 + k))) read ∙ ap (λ (n : ℕ). let x : Part = (v, n) in Ok x) z
+      ∙ ap (with_after (suc (at + 1 + k))) read ∙ ap (λ (n : ℕ). let x : FlowPart = (v, n) in Ok x) z
 
   pub quoted-err : (k : ℕ) (e : Refusal) → Some (split_of (at + 1) inside k) ≡ closing_of quote 0 (cells (at + 1) inside) → Fails e (between_of quote (cell (get_or bytes at 0) at) (Some (split_of (at + 1) inside k)))
       → Fails e (quoted_part quote (cell (get_or text 0 0) at) (closing_of quote 0 (source_at bytes (suc at))))

@@ -9,11 +9,11 @@ use Rattle.lf_scalar.specs.Lines.{Line, line, lengthen, lines, first_text, begin
 use Rattle.lf_scalar.specs.Scalars.{source_at}
 use Rattle.lf_scalar.proofs.LineSteps.{line-step, lines-nil, lines-feed, lines-return, lines-other, first-lengthen}
 use Rattle.lf_scalar.specs.Lines.{start_of}
-use Rattle.lf_yaml.specs.Rows.{Row, row, text_of, headed, content_row, rows_of, left_of}
+use Rattle.lf_yaml.specs.Rows.{ContentRow, row, text_of, headed, content_row, rows_of, left_of}
 pub use Rattle.lf_yaml.specs.views.Cursor.{IsPlaced}
 use Rattle.lf_laws.proofs.Members.{all_append}
 
-abbrev pub ArePlaced : List ℕ → List Row → Type 0
+abbrev pub ArePlaced : List ℕ → List ContentRow → Type 0
 ArePlaced bytes rs = AllByRecursion (IsPlaced bytes) rs
 
 -- ---- the first line of a source, cell by cell
@@ -62,22 +62,22 @@ suffix end at bs (x ∷ front) c rest e =
 
 -- ---- what stands further on in a row
 
-pub placed-behind : (bytes : List ℕ) (r : Row) (begin : ℕ) (front : List Cell) (c : Cell) (rest : List Cell) → IsPlaced bytes r → text_of r ≡ front ++ c ∷ rest → IsPlaced bytes (row begin c rest)
+pub placed-behind : (bytes : List ℕ) (r : ContentRow) (begin : ℕ) (front : List Cell) (c : Cell) (rest : List Cell) → IsPlaced bytes r → text_of r ≡ front ++ c ∷ rest → IsPlaced bytes (row begin c rest)
 placed-behind bytes r begin front c rest h e =
     let k = suffix (length bytes) r.first.at (drop r.first.at bytes) front c rest (h ∙ e) in
     let d : source_at bytes c.at ≡ cells (r.first.at + length front) (drop (length front) (drop r.first.at bytes)) =
     ap (λ (n : ℕ). cells n (drop n bytes)) k.place ∙ ap (λ (xs : List ℕ). cells (r.first.at + length front) xs) (sym (drop-drop (length front) r.first.at bytes)) in
     ap (λ (xs : List Cell). first_text (lines (length bytes) xs)) d ∙ k.text
 
-pub record Left (begin : ℕ) (cs : List Cell) (left : Row) : Type 0 where
+pub record Left (begin : ℕ) (cs : List Cell) (left : ContentRow) : Type 0 where
   pub front : List Cell
   pub source : cs ≡ front ++ text_of left
   pub same_begin : left.begin ≡ begin
 
-pub none-row : {X : Type 0} (s : Row) → None ≡ Some s → X
+pub none-row : {X : Type 0} (s : ContentRow) → None ≡ Some s → X
 none-row s e = absurd cc
 
-pub left-suffix : (begin : ℕ) (cs : List Cell) (left : Row) → left_of begin cs ≡ Some left → Left begin cs left
+pub left-suffix : (begin : ℕ) (cs : List Cell) (left : ContentRow) → left_of begin cs ≡ Some left → Left begin cs left
 left-suffix begin [] left e = none-row left e
 left-suffix begin (c ∷ cs) left e =
     elim (cases_Bool (is_blank c)) [
@@ -88,12 +88,12 @@ left-suffix begin (c ∷ cs) left e =
         | inl b ↦ none-row left (rw (a, b) at e)
         | inr b ↦
             let same : row begin c cs ≡ left = same_Some (row begin c cs) left (rw (a, b) at e) in
-            record { front = []; source = ap text_of same; same_begin = ap (λ (x : Row). x.begin) (sym same) }
+            record { front = []; source = ap text_of same; same_begin = ap (λ (x : ContentRow). x.begin) (sym same) }
       ]
     ]
 
 -- what is left of a row behind some of its cells is a row of the file
-pub placed-left : (bytes : List ℕ) (r left : Row) (front cs : List Cell) (begin : ℕ) → IsPlaced bytes r → text_of r ≡ front ++ cs → left_of begin cs ≡ Some left → IsPlaced bytes left
+pub placed-left : (bytes : List ℕ) (r left : ContentRow) (front cs : List Cell) (begin : ℕ) → IsPlaced bytes r → text_of r ≡ front ++ cs → left_of begin cs ≡ Some left → IsPlaced bytes left
 placed-left bytes r left front cs begin h e l =
     let k = left-suffix begin cs left l in
     placed-behind bytes r left.begin (front ++ k.front) left.first left.rest h (e ∙ ap (λ (xs : List Cell). front ++ xs) k.source ∙ sym (append_assoc front k.front (text_of left)))

@@ -13,7 +13,7 @@ use Rattle.lf_scalar.specs.Folding.{fold}
 use Rattle.lf_scalar.specs.reading.Plain.{unless_key}
 use Rattle.lf_scalar.specs.reading.Quoted.{line_at}
 use Rattle.lf_scalar.proofs.PlainCode.{Read, yes, no, yes-is, yes-no}
-use Rattle.lf_yaml.specs.Rows.{Row, is_mark, content_row}
+use Rattle.lf_yaml.specs.Rows.{ContentRow, is_mark, content_row}
 use Rattle.lf_yaml.specs.Flow.{line_on, flow_text, line_text, line_left, line_colon, colon_in, is_bare, is_spaces, is_flow_sign, goes_on, left_on}
 use Rattle.lf_yaml.specs.reading.Trees.{plain_line, Folded, before_text, plain_behind, plain_from}
 use Rattle.lf_yaml.specs.reading.FlowLines.{Steps, FoldsAs}
@@ -79,13 +79,13 @@ spaces-some at k b bytes part e p lt = sym (ap is_empty_text (e ∙ ap (cells (a
     by [] lt = absurd (omega arith)
     by (x ∷ xs) lt = refl
 
-pub tab-ends : (r : Row) (rs : List Row) → r.first.byte ≡ 9 → false ≡ goes_on (r ∷ rs)
+pub tab-ends : (r : ContentRow) (rs : List ContentRow) → r.first.byte ≡ 9 → false ≡ goes_on (r ∷ rs)
 tab-ends r rs e = rw (eq-eqb r.first.byte 9 e) refl
 
-pub sign-ends : (r : Row) (rs : List Row) → r.first.byte ≢ 9 → is_flow_sign r.first ≡ true → false ≡ goes_on (r ∷ rs)
+pub sign-ends : (r : ContentRow) (rs : List ContentRow) → r.first.byte ≢ 9 → is_flow_sign r.first ≡ true → false ≡ goes_on (r ∷ rs)
 sign-ends r rs ne s = rw (ne_eqb r.first.byte 9 ne, s) refl
 
-pub mark-tells : (r : Row) (rs : List Row) (b : Bool) → r.first.byte ≢ 9 → is_flow_sign r.first ≡ false → b ≡ is_mark r → not b ≡ goes_on (r ∷ rs)
+pub mark-tells : (r : ContentRow) (rs : List ContentRow) (b : Bool) → r.first.byte ≢ 9 → is_flow_sign r.first ≡ false → b ≡ is_mark r → not b ≡ goes_on (r ∷ rs)
 mark-tells r rs b ne s m = ap not m ∙ sym (rw (ne_eqb r.first.byte 9 ne, s) refl)
 
 -- ---- cells before what is read

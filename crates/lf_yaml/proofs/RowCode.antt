@@ -3,12 +3,12 @@ use Rattle.std.proofs.Common.{◌≡◌, ℕ, suc, ◌+◌, ◌<◌, Bool, eqb, 
 use Rattle.std.proofs.lemmas.Bool.{eq-eqb}
 use Rattle.lf_scalar.specs.Cells.{Cell, cell, cells}
 use Rattle.lf_scalar.specs.Markers.{is_thrice}
-use Rattle.lf_yaml.specs.Rows.{Row, text_of, indent, is_mark, left_of}
+use Rattle.lf_yaml.specs.Rows.{ContentRow, text_of, indent, is_mark, left_of}
 use Rattle.lf_yaml.specs.views.Shown.{shown}
 use Rattle.lf_yaml.specs.declared.row.ContentLine.{ContentLine}
 
 -- what is left of a line from a place on
-abbrev pub left_from : ℕ → ℕ → List ℕ → ℕ → Option Row
+abbrev pub left_from : ℕ → ℕ → List ℕ → ℕ → Option ContentRow
 left_from begin at text i = left_of begin (cells (at + i) (drop i text))
 
 -- a row's text is the code's text

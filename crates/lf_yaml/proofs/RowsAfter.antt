@@ -8,7 +8,7 @@ use Rattle.lf_scalar.specs.Cells.{cells}
 use Rattle.lf_scalar.specs.Lines.{Line, line, lines, lines_at}
 use Rattle.lf_scalar.specs.Scalars.{source_at}
 use Rattle.lf_scalar.proofs.LineSteps.{lines-nil}
-use Rattle.lf_yaml.specs.Rows.{Row, content_row, rows_of}
+use Rattle.lf_yaml.specs.Rows.{ContentRow, content_row, rows_of}
 use Rattle.lf_yaml.specs.views.Cursor.{rows_after, IsPlaced}
 use Rattle.lf_yaml.proofs.Placed.{ArePlaced, file-placed}
 
@@ -87,7 +87,7 @@ behind-start bytes from f behind rest utf8 e (inr (within, p)) feed = subst (IsC
 
 -- ---- what is known of the next row
 
-pub placed-first : (bytes : List ℕ) (from : ℕ) (r : Row) (rs : List Row) → rows_after bytes from ≡ r ∷ rs → IsPlaced bytes r
+pub placed-first : (bytes : List ℕ) (from : ℕ) (r : ContentRow) (rs : List ContentRow) → rows_after bytes from ≡ r ∷ rs → IsPlaced bytes r
 unfolding rows_after
 placed-first bytes from r rs e =
     let all : ArePlaced bytes (r ∷ rs) = subst (ArePlaced bytes) e (file-placed bytes from) in

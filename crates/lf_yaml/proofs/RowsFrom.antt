@@ -6,7 +6,7 @@ use Rattle.lf_scalar.specs.Cells.{Cell}
 use Rattle.lf_scalar.specs.Lines.{Line, line, lines, begins_with, after_spaces}
 use Rattle.lf_scalar.specs.Scalars.{source_at}
 use Rattle.lf_scalar.specs.Lines.{start_of}
-use Rattle.lf_yaml.specs.Rows.{Row, headed, content_row, rows_of, rows_from}
+use Rattle.lf_yaml.specs.Rows.{ContentRow, headed, content_row, rows_of, rows_from}
 use Rattle.lf_yaml.specs.views.Cursor.{rows_after}
 use Rattle.lf_yaml.proofs.Placed.{Stands, AllStand, lines-stand, after-suffix}
 use Rattle.lf_yaml.proofs.RowsAfter.{rows-past}
@@ -15,14 +15,14 @@ use Rattle.lf_yaml.proofs.RowsAfter.{rows-past}
 
 -- ---- the rows of lines from an offset on begin at it or behind it
 
-abbrev Begin : ℕ → List Row → Type 0
+abbrev Begin : ℕ → List ContentRow → Type 0
 Begin at rs = AllByRecursion (λ r. at ≤ r.begin) rs
 
 headed-begins : (at begin : ℕ) (cs : List Cell) → at ≤ begin → Begin at (headed begin cs)
 headed-begins at begin [] le = tt
 headed-begins at begin (c ∷ cs) le = (le, tt)
 
-append-begins : (at : ℕ) (rs ss : List Row) → Begin at rs → Begin at ss → Begin at (rs ++ ss)
+append-begins : (at : ℕ) (rs ss : List ContentRow) → Begin at rs → Begin at ss → Begin at (rs ++ ss)
 append-begins at [] ss h k = k
 append-begins at (r ∷ rs) ss h k = (h.0, append-begins at rs ss h.1 k)
 
@@ -51,7 +51,7 @@ pub rows-begin : (bytes : List ℕ) (at : ℕ) → Begin at (rows_after bytes at
 unfolding rows_after
 rows-begin bytes at = lines-begin (length bytes) at (drop at bytes) (lines (length bytes) (source_at bytes at)) (lines-stand (length bytes) at (drop at bytes))
 
-kept : (offset at : ℕ) (rs : List Row) → offset ≤ at → Begin at rs → rows_from offset rs ≡ rs
+kept : (offset at : ℕ) (rs : List ContentRow) → offset ≤ at → Begin at rs → rows_from offset rs ≡ rs
 kept offset at [] le h = refl
 kept offset at (r ∷ rs) le h = rw (le-ltb r.begin offset (omega (arith, le, h.0))) refl
 

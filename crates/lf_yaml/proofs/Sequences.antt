@@ -6,7 +6,7 @@ use Rattle.lf_scalar.specs.Cells.{Cell, Value}
 use Rattle.lf_scalar.proofs.Tails.{true-false}
 use Rattle.lf_yaml.specs.Tree.{leaf, Items, no_items, item}
 use Rattle.lf_yaml.specs.Flow.{Next, at_part, broken, next_on, FlowScalar, sign_fault, SequenceIn, closes, last, more, SequenceBreaks, no_part, scalar, no_sign, sign, later}
-use Rattle.lf_yaml.specs.reading.Trees.{Part, flow_scalar, FlowRead, with_flow_item, sequence_sign, sequence_behind, sequence_part, sequence_in}
+use Rattle.lf_yaml.specs.reading.Trees.{FlowPart, flow_scalar, FlowRead, with_item, sequence_sign, sequence_behind, sequence_part, sequence_in}
 use Rattle.lf_yaml.proofs.FlowParts.{part-within, part-is, part-breaks, PartTold, part-tells, part-begins, part-no-sign, scalar-within}
 
 pub differs : (x y : ℕ) → eqb x y ≡ false → x ≢ y
@@ -52,7 +52,7 @@ module _ (bytes : List ℕ) where
   sequence-is (suc n) at _ closing enough (last {after = after} {c = c} {cs = cs} {v = v} e h g b) =
       begun n at after c cs v _ e h g ∙ rw (no-44 closing.byte 93 refl b, eq-eqb closing.byte 93 b) refl
   sequence-is (suc n) at _ closing enough (more {after = after} {c = c} {comma = comma} {cs = cs} {ds = ds} {v = v} {is = is} e h g b h2) =
-      begun n at after c cs v _ e h g ∙ rw (eq-eqb comma.byte 44 b) (ap (with_flow_item v) (sequence-is n (suc comma.at) is closing (goes-on n at after c comma cs ds v enough e h g) h2))
+      begun n at after c cs v _ e h g ∙ rw (eq-eqb comma.byte 44 b) (ap (with_item (leaf v)) (sequence-is n (suc comma.at) is closing (goes-on n at after c comma cs ds v enough e h g) h2))
 
   pub sequence-breaks : (n at : ℕ) (f : Fault) → enough n at → SequenceBreaks bytes at f → sequence_in bytes n at ≡ Err f
   unfolding sequence_in
@@ -64,7 +64,7 @@ module _ (bytes : List ℕ) where
   sequence-breaks (suc n) at _ enough (sign {after = after} {c = c} {wrong = wrong} {cs = cs} {v = v} e h g a b) =
       begun n at after c cs v _ e h g ∙ rw (ne_eqb wrong.byte 44 a, ne_eqb wrong.byte 93 b) refl
   sequence-breaks (suc n) at f enough (later {after = after} {c = c} {comma = comma} {cs = cs} {ds = ds} {v = v} e h g b h2) =
-      begun n at after c cs v _ e h g ∙ rw (eq-eqb comma.byte 44 b) (ap (with_flow_item v) (sequence-breaks n (suc comma.at) f (goes-on n at after c comma cs ds v enough e h g) h2))
+      begun n at after c cs v _ e h g ∙ rw (eq-eqb comma.byte 44 b) (ap (with_item (leaf v)) (sequence-breaks n (suc comma.at) f (goes-on n at after c comma cs ds v enough e h g) h2))
 
   abbrev pub SequenceTold : ℕ → FlowRead Items → Type 0
   SequenceTold at (Ok x) = SequenceIn bytes at x.0 x.1
@@ -78,7 +78,7 @@ module _ (bytes : List ℕ) where
   Tells n read = (at : ℕ) → enough n at → SequenceTold at (read at)
 
   item-told : (at after : ℕ) (c comma : Cell) (cs ds : List Cell) (v : Value) → next_on bytes at ≡ at_part c cs → FlowScalar bytes c cs v after → next_on bytes after ≡ at_part comma ds → comma.byte ≡ 44
-      → (r : FlowRead Items) → SequenceTold (suc comma.at) r → SequenceTold at (with_flow_item v r)
+      → (r : FlowRead Items) → SequenceTold (suc comma.at) r → SequenceTold at (with_item (leaf v) r)
   item-told at after c comma cs ds v e h g b (Ok x) t = more e h g b t
   item-told at after c comma cs ds v e h g b (Err f) t = later e h g b t
 
@@ -87,12 +87,12 @@ module _ (bytes : List ℕ) where
   sign-told n read at after c cs v told le e h (broken f) g = no_sign e h g
   sign-told n read at after c cs v told le e h (at_part d ds) g = by (eqb d.byte 44) (eqb d.byte 93) refl refl
     where
-      by : (a b : Bool) → eqb d.byte 44 ≡ a → eqb d.byte 93 ≡ b → SequenceTold at (cond a (with_flow_item v (read (suc d.at))) (cond b (Ok (item (leaf v) no_items, d)) (Err (sign_fault d))))
+      by : (a b : Bool) → eqb d.byte 44 ≡ a → eqb d.byte 93 ≡ b → SequenceTold at (cond a (with_item (leaf v) (read (suc d.at))) (cond b (Ok (item (leaf v) no_items, d)) (Err (sign_fault d))))
       by true b p q = item-told at after c d cs ds v e h g (eqb-true d.byte 44 p) (read (suc d.at)) (told (suc d.at) (goes-on n at after c d cs ds v le e h g))
       by false true p q = last e h g (eqb-true d.byte 93 q)
       by false false p q = sign e h g (differs d.byte 44 p) (differs d.byte 93 q)
 
-  scalar-told : (n : ℕ) (read : Rest) (at : ℕ) (c : Cell) (cs : List Cell) → Tells n read → enough (suc n) at → next_on bytes at ≡ at_part c cs → c.byte ≢ 93 → (r : Result Part Fault) → PartTold bytes c cs r
+  scalar-told : (n : ℕ) (read : Rest) (at : ℕ) (c : Cell) (cs : List Cell) → Tells n read → enough (suc n) at → next_on bytes at ≡ at_part c cs → c.byte ≢ 93 → (r : Result FlowPart Fault) → PartTold bytes c cs r
       → SequenceTold at (sequence_behind bytes read r)
   scalar-told n read at c cs told le e ne (Ok x) h = sign-told n read at x.1 c cs x.0 told le e h (next_on bytes x.1) refl
   scalar-told n read at c cs told le e ne (Err f) h = scalar e ne h

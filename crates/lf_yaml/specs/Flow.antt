@@ -13,7 +13,7 @@ use Rattle.lf_scalar.specs.Scalars.{source_at}
 use Rattle.lf_scalar.specs.declared.quotes.Quotes.{Quotes}
 use Rattle.lf_scalar.specs.Quoted.{quote_of, Closes}
 use Rattle.lf_yaml.specs.Keys.{is_too_far, before_offset, is_key_left_out}
-use Rattle.lf_yaml.specs.Rows.{Row, is_one_of, is_mark, indent_fault, content_row, rows_of}
+use Rattle.lf_yaml.specs.Rows.{ContentRow, is_one_of, is_mark, indent_fault, content_row, rows_of}
 use Rattle.lf_yaml.specs.Heads.{key_in, Key, Bare, Between, IsBetween, BetweenBreaks, IsKey, IsSignBehind, OpensQuote}
 use Rattle.lf_yaml.specs.Tree.{Tree, leaf, Items, no_items, item, Entries, no_entries, entry}
 use Rattle.lf_yaml.specs.Spans.{empty_at}
@@ -46,7 +46,7 @@ pub data Next : Type 0 where
   broken : Fault → Next
 
 -- On a later line, which may have any indent, it begins at the first character, if that is no tab and begins no mark. The file doesn't end before it.
-abbrev pub on_line : ℕ → List Row → Next
+abbrev pub on_line : ℕ → List ContentRow → Next
 on_line end [] = broken (fault NotANode (span end end))
 on_line end (r ∷ rs) =
     if r.first.byte == 9 then broken (indent_fault r)
@@ -54,7 +54,7 @@ on_line end (r ∷ rs) =
     else at_part r.first r.rest
 
 -- Behind some cells of a line: blanks are skipped, and a comment, whose `#` stands behind a blank. The flag says that a blank stands before these cells.
-unfoldable pub next_part : ℕ → Bool → List Cell → List Row → Next
+unfoldable pub next_part : ℕ → Bool → List Cell → List ContentRow → Next
 next_part end blank [] rs = on_line end rs
 next_part end blank (c ∷ cs) rs =
     if is_blank c then next_part end true cs rs
@@ -109,7 +109,7 @@ abbrev pub is_spaces : Line → Bool
 is_spaces l = is_empty_text (after_spaces l.text)
 
 -- A line goes on with a plain scalar: it is a row, and its first character is no tab, no sign of flow collections, and begins no mark.
-abbrev pub goes_on : List Row → Bool
+abbrev pub goes_on : List ContentRow → Bool
 goes_on [] = false
 goes_on (r ∷ rs) = not (r.first.byte == 9) && (not (is_flow_sign r.first) && not (is_mark r))
 

@@ -14,10 +14,10 @@ use Rattle.lf_scalar.specs.Quoted.{quote_of, raw, Closes, IsQuoted, BreaksQuoted
 use Rattle.lf_scalar.specs.Scalars.{begins}
 pub use Rattle.lf_yaml.specs.Keys.{Split, behind_cell, never}
 unfoldable pub use Rattle.lf_yaml.specs.Keys.{key_in}
-use Rattle.lf_yaml.specs.Rows.{Row, text_of, is_left_out}
+use Rattle.lf_yaml.specs.Rows.{ContentRow, text_of, is_left_out}
 
 -- a `-` before a blank or the line's end
-abbrev pub is_item : Row → Bool
+abbrev pub is_item : ContentRow → Bool
 is_item r = (r.first.byte == 45) && before_blank r.rest
 
 -- ---- keys
@@ -53,20 +53,20 @@ IsSignBehind cs colon rest = (after_blanks cs ≡ colon ∷ rest) × (colon.byte
 
 -- A row begins an entry: a key that isn't left out, blanks, a `:` and a blank or the line's end. A key without quotes begins as a plain scalar does, and one between quotes
 -- closes on the line.
-pub data BeginsEntry (r : Row) : Key → Cell → List Cell → Type 0 where
+pub data BeginsEntry (r : ContentRow) : Key → Cell → List Cell → Type 0 where
   bare : {front rest : List Cell} {colon : Cell} → begins_plain (text_of r) ≡ true → is_left_out r ≡ false → key_in never before_blank (text_of r) ≡ Some (front, colon, rest)
       → BeginsEntry r (Bare (trimmed is_blank front)) colon rest
   quoted : {rest : List Cell} {colon : Cell} (kind : Quotes) (c : Closes kind r.rest) → r.first.byte ≡ quote_of kind → is_left_out r ≡ false → IsSignBehind c.rest colon rest → before_blank rest ≡ true
       → BeginsEntry r (Between kind) colon rest
 
-abbrev pub NoEntry : Row → Type 0
+abbrev pub NoEntry : ContentRow → Type 0
 NoEntry r = (k : Key) (colon : Cell) (rest : List Cell) → BeginsEntry r k colon rest → ⊥
 
 -- a row begins a block sequence or a block mapping, or neither
-abbrev pub BeginsBlock : Row → Type 0
+abbrev pub BeginsBlock : ContentRow → Type 0
 BeginsBlock r = (is_item r ≡ true) ⊎ ((k : Key) × (colon : Cell) × (rest : List Cell) × BeginsEntry r k colon rest)
 
-abbrev pub BeginsNoBlock : Row → Type 0
+abbrev pub BeginsNoBlock : ContentRow → Type 0
 BeginsNoBlock r = (is_item r ≡ false) × NoEntry r
 
 -- a cell is a quote, and on its line nothing closes behind it
@@ -86,5 +86,5 @@ style_of c =
     else if c.byte == 34 then style.Double
     else style.Plain
 
-abbrev pub begins_scalar : Row → Bool
+abbrev pub begins_scalar : ContentRow → Bool
 begins_scalar r = begins (style_of r.first) (text_of r) && not (is_left_out r)

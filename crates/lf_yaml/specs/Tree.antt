@@ -3,9 +3,9 @@ use Rattle.std.specs.Prelude.{List, [], ◌∷◌}
 use Rattle.lf_base.specs.declared.place.Span.{Span}
 use Rattle.lf_scalar.specs.Cells.{Value}
 use Rattle.lf_scalar.specs.Scalars.{value}
-use Rattle.lf_yaml.specs.declared.node.Node.{Node, fold-Node}
-use Rattle.lf_yaml.specs.declared.node.Entry.{Entry, fold-Entry}
-use Rattle.lf_yaml.specs.declared.node.Node.TheOpen.{Node-F, Entry-F}
+use Rattle.lf_yaml.specs.declared.node.Node as N
+use Rattle.lf_yaml.specs.declared.node.Node.{Node}
+use Rattle.lf_yaml.specs.declared.node.Entry.{Entry}
 
 mutual
   -- a scalar; a sequence with its items; a mapping with its entries
@@ -22,6 +22,31 @@ mutual
     no_entries : Entries
     entry : Value → Tree → Entries → Entries
 
+-- ---- what the code's nodes stand for: the form that items and entries have in memory is left out
+
+abbrev mutual
+  -- the tree of a node
+  pub tree : Node → Tree
+  tree (N.Scalar of) = leaf (value of)
+  tree (N.List' shape items span) = sequence (item_row items) span
+  tree (N.Map' shape entries span) = mapping (entry_row entries) span
+
+  -- the trees of items as they lie in a node
+  pub item_row : {n : _} → N.Row_of-Node n → Items
+  item_row N.end_of-Node = no_items
+  item_row (N.more_of-Node of rest) = item (tree of) (item_row rest)
+
+  -- keys and the trees of their values, as entries lie in a node
+  pub entry_row : {n : _} → N.Row_of-Entry n → Entries
+  entry_row N.end_of-Entry = no_entries
+  entry_row (N.more_of-Entry key of rest) = entry (value key) (tree of) (entry_row rest)
+
+-- a key and the tree of its value
+abbrev pub pair : Entry → Value × Tree
+pair e = (value e.key, tree e.value)
+
+-- ---- items and entries of lists
+
 abbrev pub items_of : List Tree → Items
 items_of [] = no_items
 items_of (t ∷ ts) = item t (items_of ts)
@@ -29,17 +54,3 @@ items_of (t ∷ ts) = item t (items_of ts)
 abbrev pub entries_of : List (Value × Tree) → Entries
 entries_of [] = no_entries
 entries_of (e ∷ es) = entry e.0 e.1 (entries_of es)
-
-abbrev pub entry_step : Entry-F Tree (Value × Tree) → Value × Tree
-entry_step e = (value e.key, e.value)
-
-abbrev pub node_step : Node-F Tree (Value × Tree) → Tree
-node_step (Node-F.Scalar of) = leaf (value of)
-node_step (Node-F.List items span) = sequence (items_of items) span
-node_step (Node-F.Map entries span) = mapping (entries_of entries) span
-
-abbrev pub tree : Node → Tree
-tree = fold-Node Tree (Value × Tree) node_step entry_step
-
-abbrev pub pair : Entry → Value × Tree
-pair = fold-Entry Tree (Value × Tree) node_step entry_step

@@ -14,7 +14,7 @@ pub enum Key {
 
 /// An entry's key and what stands behind its `:`.
 #[derive(Clone, Copy)]
-pub struct Head<'a> {
+pub struct EntryHead<'a> {
     pub key: Key,
     /// The offset of the `:`.
     pub colon: u32,
@@ -26,7 +26,7 @@ pub struct Head<'a> {
 #[derive(Clone, Copy)]
 pub struct EntryRow<'a> {
     pub row: ContentLine<'a>,
-    pub head: Head<'a>,
+    pub head: EntryHead<'a>,
     /// Where the line behind the row begins.
     pub behind: usize,
 }

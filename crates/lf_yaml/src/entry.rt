@@ -7,7 +7,7 @@ ghost use Rattle.lf_scalar.specs.Quoted.{quote_of as quote_byte};
 ghost use Rattle.lf_yaml.specs.views.Headed.{headed, IsKeyIn};
 ghost use Rattle.lf_yaml.specs.views.Shown.{shown};
 
-use crate::entries::{Head, Key};
+use crate::entries::{EntryHead, Key};
 use crate::head::is_left_out;
 use crate::keys::find_sign;
 use crate::row::ContentLine;
@@ -40,7 +40,7 @@ pub fn quote_of(byte: u8) -> Option<Quotes>
 }
 
 /// The entry that a row begins whose key has no quotes and isn't left out.
-fn bare_entry(row: ContentLine<'_>) -> Option<Head<'_>>
+fn bare_entry(row: ContentLine<'_>) -> Option<EntryHead<'_>>
     ensures head { option_map (headed row.entry.at row.entry.text.now) result ≡ entry_by (shown row.entry) None }
     ensures room { IfSome result (λ h. h.colon + 1 + length h.behind.now ≤ 2 ^ 31) }
     ensures key { IfSome result (λ h. IsKeyIn row.entry.at row.entry.text.now h.key) }
@@ -49,7 +49,7 @@ fn bare_entry(row: ContentLine<'_>) -> Option<Head<'_>>
         return None;
     }
     match find_sign(false, row.text, row.at) {
-        Some(place) => Some(Head {
+        Some(place) => Some(EntryHead {
             key: Key::Bare {
                 len: trimmed_len(before(row.text, place)),
             },
@@ -76,7 +76,7 @@ pub fn sign_behind(text: &[u8], at: u32) -> Option<(u32, &[u8])>
 }
 
 /// The entry that a row begins whose key stands between quotes and isn't left out.
-fn quoted_entry(row: ContentLine<'_>, quote: Quotes) -> Option<Head<'_>>
+fn quoted_entry(row: ContentLine<'_>, quote: Quotes) -> Option<EntryHead<'_>>
     requires quote { get_or row.text.now 0 0 ≡ quote_byte quote }
     ensures head { option_map (headed row.entry.at row.entry.text.now) result ≡ entry_by (shown row.entry) (Some quote) }
     ensures room { IfSome result (λ h. h.colon + 1 + length h.behind.now ≤ 2 ^ 31) }
@@ -89,7 +89,7 @@ fn quoted_entry(row: ContentLine<'_>, quote: Quotes) -> Option<Head<'_>>
             match sign_behind(past(inside, closing + 1), at + (closing as u32 + 1)) {
                 Some((colon, behind)) => {
                     if is_apart(behind) {
-                        Some(Head {
+                        Some(EntryHead {
                             key: Key::Between { quote, closing },
                             colon,
                             behind,
@@ -107,7 +107,7 @@ fn quoted_entry(row: ContentLine<'_>, quote: Quotes) -> Option<Head<'_>>
 
 /// The entry that a row begins: a key that isn't left out, blanks, `:`, and a blank or the line's end.
 #[tactic(auto, unfolding(crate::specs::reading::Trees::entry_of))]
-pub fn find_entry(row: ContentLine<'_>) -> Option<Head<'_>>
+pub fn find_entry(row: ContentLine<'_>) -> Option<EntryHead<'_>>
     ensures head { option_map (headed row.entry.at row.entry.text.now) result ≡ entry_of (shown row.entry) }
     ensures room { IfSome result (λ h. h.colon + 1 + length h.behind.now ≤ 2 ^ 31) }
     ensures key { IfSome result (λ h. IsKeyIn row.entry.at row.entry.text.now h.key) }
@@ -120,7 +120,7 @@ pub fn find_entry(row: ContentLine<'_>) -> Option<Head<'_>>
 }
 
 /// The key that a row begins, left out or not, blanks, `:`, and a blank or the line's end.
-fn head_of(row: ContentLine<'_>) -> Option<Head<'_>>
+fn head_of(row: ContentLine<'_>) -> Option<EntryHead<'_>>
     ensures head { option_map (headed row.entry.at row.entry.text.now) result ≡ entry_by (shown row.entry) (quotes_of (shown row.entry).first) }
     ensures room { IfSome result (λ h. h.colon + 1 + length h.behind.now ≤ 2 ^ 31) }
     ensures key { IfSome result (λ h. IsKeyIn row.entry.at row.entry.text.now h.key) }

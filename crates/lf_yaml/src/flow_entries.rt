@@ -2,27 +2,30 @@
 ghost use Rattle.std.specs.Prelude.{◌≡◌, ℕ, suc, ◌<◌, ◌≤◌, ◌^◌, List, [], ◌∷◌, ◌++◌, length, get_or, IfOk};
 ghost use Rattle.lf_base.specs.Answers.{AnswersAs};
 ghost use Rattle.lf_scalar.specs.Scalars.{value as scalar_value};
-ghost use Rattle.lf_yaml.specs.Tree.{leaf, pair};
+ghost use Rattle.lf_yaml.specs.Tree.{leaf, pair, tree};
 ghost use Rattle.lf_yaml.specs.Flow.{next_on};
 ghost use Rattle.lf_yaml.specs.reading.Trees.{Later, flow_key as flow_key_of, mapping_sign, key_behind, mapping_in};
 ghost use Rattle.lf_yaml.specs.views.KeySets.{HasKeys};
 ghost use Rattle.lf_yaml.specs.views.Places.{IsPartIn, IsPlaceIn, signed};
-ghost use Rattle.lf_yaml.specs.reading.FlowTurns.{IsTurnIn, HasTurned, TurnsEntries, new_key as new_key_of, entry_at, left_behind, closed_entries};
+ghost use Rattle.lf_yaml.specs.reading.FlowTurns.{IsTurnIn, HasTurned, TurnsEntries, new_key as new_key_of, entry_at, left_behind, entries_tree};
 ghost use Rattle.lf_yaml.specs.views.Shown.{shown};
 
 use crate::flow_items::scalar_node;
 use crate::flow_key::flow_key;
+use crate::flow_parts::FlowParts;
 use crate::flow_scalar::sign_fault;
 use crate::flow_value::flow_value;
 use crate::key_set::KeySet;
-use crate::node::Entry;
+use crate::made::mapping_node;
+use crate::node::{Entry, Node};
 use crate::parts::{behind, next_part};
 use crate::place::FlowCursor;
 use crate::row::ContentLine;
 use crate::source::Source;
 use crate::turn::Turn;
-use lf_base::{Kind, Refusal, Seq};
+use lf_base::{Kind, Refusal, Seq, Span};
 use lf_scalar::Scalar;
+use std::alloc::Global;
 
 /// The entry of a key whose value is a scalar.
 fn scalar_entry(key: Scalar, of: Scalar) -> Entry
@@ -163,38 +166,44 @@ fn entry_turn<'a>(
     }
 }
 
-/// The entries of a flow mapping from the place behind its opening bracket on, its closing bracket, and where the lines behind that begin.
-pub fn flow_entries<'a>(
-    source: Source<'a>,
-    place: FlowCursor<'a>,
-) -> Result<(Seq<Entry>, ContentLine<'a>, usize), Refusal>
-    requires place { IsPlaceIn source.bytes.now place }
-    ensures gives { AnswersAs (λ x. closed_entries (x.0, x.1)) result (mapping_in source.entry.bytes.now (suc (length source.entry.bytes.now)) [] place.entry.at) }
-    ensures part { IfOk result (λ x. IsPartIn source.entry.bytes.now x.1 x.2) }
-{
-    let mut entries = Seq::new(source.alloc);
-    let mut keys = KeySet::new(source.alloc);
-    let mut at = place;
-    'entries: loop {
-        match entry_turn(source, &mut keys, at) {
-            Ok(Turn::Ends { closing, next }) => return Ok((entries, closing, next)),
-            Ok(
-                Turn::Last {
-                    found,
-                    closing,
-                    next,
-                },
-            ) => {
-                return match entries.push(found) {
-                    Ok(()) => Ok((entries, closing, next)),
-                    Err(_) => Err(Refusal::Memory),
-                };
-            }
-            Ok(Turn::More { found, place }) => match entries.push(found) {
-                Ok(()) => at = place,
-                Err(_) => return Err(Refusal::Memory),
-            },
-            Err(refusal) => return Err(refusal),
+/// The entries of a flow mapping.
+#[derive(Drop)]
+pub struct FlowEntries {
+    /// The texts of the keys before.
+    keys: KeySet,
+}
+
+impl FlowEntries {
+    /// Those of a mapping that begins.
+    pub fn new(alloc: Global) -> FlowEntries
+        ensures { HasKeys result.keys [] }
+    {
+        FlowEntries {
+            keys: KeySet::new(alloc),
         }
+    }
+}
+
+impl FlowParts for FlowEntries {
+    type Part = Entry;
+
+    ghost use Rattle.lf_yaml.specs.reading.FlowTurns.{entries_tree, EntriesBehind};
+
+    ghost made = { entries_tree };
+
+    ghost behind = { λ entries bytes found at read. EntriesBehind bytes entries.keys found at read };
+
+    fn turn<'a>(
+        &mut self,
+        source: Source<'a>,
+        place: FlowCursor<'a>,
+    ) -> Result<Turn<'a, Entry>, Refusal> {
+        entry_turn(source, &mut self.keys, place)
+    }
+
+    fn node(parts: Seq<Entry>, span: Span) -> Node
+        ensures { tree result ≡ entries_tree parts span }
+    {
+        mapping_node(parts, span)
     }
 }

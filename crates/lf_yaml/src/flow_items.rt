@@ -1,15 +1,16 @@
 //! Flow sequences.
-ghost use Rattle.std.specs.Prelude.{◌≡◌, ℕ, suc, ◌≤◌, ◌^◌, length, IfOk};
-ghost use Rattle.lf_base.specs.Answers.{AnswersAs};
+ghost use Rattle.std.specs.Prelude.{◌≡◌, ℕ, suc, ◌≤◌, ◌^◌, IfOk};
 ghost use Rattle.lf_scalar.specs.Scalars.{value as scalar_value};
 ghost use Rattle.lf_yaml.specs.Tree.{leaf, tree, Items};
 ghost use Rattle.lf_yaml.specs.Flow.{next_on};
 ghost use Rattle.lf_yaml.specs.reading.Trees.{FlowRead, flow_scalar, sequence_sign, sequence_behind, sequence_in};
 ghost use Rattle.lf_yaml.specs.views.Places.{IsPartIn, IsPlaceIn};
-ghost use Rattle.lf_yaml.specs.reading.FlowTurns.{IsTurnIn, TurnsItems, closed_items};
+ghost use Rattle.lf_yaml.specs.reading.FlowTurns.{IsTurnIn, TurnsItems, items_tree};
 ghost use Rattle.lf_yaml.specs.views.Shown.{shown};
 
+use crate::flow_parts::FlowParts;
 use crate::flow_scalar::sign_fault;
+use crate::made::sequence_node;
 use crate::node::Node;
 use crate::part_scalar::read_part;
 use crate::parts::{behind, next_part};
@@ -17,7 +18,7 @@ use crate::place::FlowCursor;
 use crate::row::ContentLine;
 use crate::source::Source;
 use crate::turn::Turn;
-use lf_base::{Refusal, Seq};
+use lf_base::{Refusal, Seq, Span};
 use lf_scalar::Scalar;
 
 /// The node of a scalar.
@@ -91,37 +92,30 @@ fn item_turn<'a>(source: Source<'a>, place: FlowCursor<'a>) -> Result<Turn<'a, N
     }
 }
 
-/// The items of a flow sequence from the place behind its opening bracket on, its closing bracket, and where the lines behind that begin.
-pub fn flow_items<'a>(
-    source: Source<'a>,
-    place: FlowCursor<'a>,
-) -> Result<(Seq<Node>, ContentLine<'a>, usize), Refusal>
-    requires place { IsPlaceIn source.bytes.now place }
-    ensures gives { AnswersAs (λ x. closed_items (x.0, x.1)) result (sequence_in source.entry.bytes.now (suc (length source.entry.bytes.now)) place.entry.at) }
-    ensures part { IfOk result (λ x. IsPartIn source.entry.bytes.now x.1 x.2) }
-{
-    let mut items = Seq::new(source.alloc);
-    let mut at = place;
-    'items: loop {
-        match item_turn(source, at) {
-            Ok(Turn::Ends { closing, next }) => return Ok((items, closing, next)),
-            Ok(
-                Turn::Last {
-                    found,
-                    closing,
-                    next,
-                },
-            ) => {
-                return match items.push(found) {
-                    Ok(()) => Ok((items, closing, next)),
-                    Err(_) => Err(Refusal::Memory),
-                };
-            }
-            Ok(Turn::More { found, place }) => match items.push(found) {
-                Ok(()) => at = place,
-                Err(_) => return Err(Refusal::Memory),
-            },
-            Err(refusal) => return Err(refusal),
-        }
+/// The items of a flow sequence.
+#[derive(Drop)]
+pub struct FlowItems;
+
+impl FlowParts for FlowItems {
+    type Part = Node;
+
+    ghost use Rattle.lf_yaml.specs.reading.FlowTurns.{items_tree, ItemsBehind};
+
+    ghost made = { items_tree };
+
+    ghost behind = { λ items bytes found at read. ItemsBehind bytes found at read };
+
+    fn turn<'a>(
+        &mut self,
+        source: Source<'a>,
+        place: FlowCursor<'a>,
+    ) -> Result<Turn<'a, Node>, Refusal> {
+        item_turn(source, place)
+    }
+
+    fn node(parts: Seq<Node>, span: Span) -> Node
+        ensures { tree result ≡ items_tree parts span }
+    {
+        sequence_node(parts, span)
     }
 }

@@ -1,40 +1,27 @@
 //! Flow collections on a row, and what may stand behind them.
-ghost use Rattle.std.specs.Prelude.{false, ◌≡◌, ℕ, suc, ◌+◌, ◌<◌, ◌≤◌, ◌^◌, [], length, get_or, map, None, Some, IfOk, MatchOption};
+ghost use Rattle.std.specs.Prelude.{false, ◌≡◌, ℕ, suc, ◌+◌, ◌<◌, ◌≤◌, ◌^◌, [], length, get_or, None, Some, IfOk, MatchOption};
 ghost use Rattle.std.specs.Str.{IsCharBoundary};
 ghost use Rattle.lf_base.specs.declared.kind.Kind.TheVariants.{NotANode};
 ghost use Rattle.lf_base.specs.Answers.{AnswersAs};
 ghost use Rattle.lf_scalar.specs.Cells.{Cell, character_fault as fault_at_of};
 ghost use Rattle.lf_scalar.specs.reading.Quoted.{wrong_behind as wrong_behind_of};
 ghost use Rattle.lf_scalar.specs.views.Built.{refused};
-ghost use Rattle.lf_yaml.specs.Tree.{tree, pair, sequence, mapping, items_of, entries_of};
-ghost use Rattle.lf_yaml.specs.reading.Trees.{sequence_in, mapping_in, closed_list, closed_map, flow_list as flow_list_of, flow_map as flow_map_of};
+ghost use Rattle.lf_yaml.specs.Tree.{tree};
+ghost use Rattle.lf_yaml.specs.reading.Trees.{FlowTree, closed as closed_of, flow_list as flow_list_of, flow_map as flow_map_of};
 ghost use Rattle.lf_yaml.specs.views.Cursor.{rows_after, IsRowOf};
 ghost use Rattle.lf_yaml.specs.views.Shown.{shown};
 
-use crate::flow_entries::flow_entries;
-use crate::flow_items::flow_items;
+use crate::flow_entries::FlowEntries;
+use crate::flow_items::FlowItems;
+use crate::flow_parts::{FlowParts, flow_parts};
 use crate::head::first_fault;
-use crate::node::{Entry, Node};
+use crate::node::Node;
 use crate::parts::place_on;
 use crate::row::ContentLine;
 use crate::rows::lines_from;
 use crate::source::Source;
-use lf_base::{Kind, Refusal, Seq, Span};
+use lf_base::{Kind, Refusal, Span};
 use lf_scalar::lines::{fault_at, past, wrong_behind};
-
-/// A sequence.
-pub fn list_node(items: Seq<Node>, span: Span) -> Node
-    ensures { tree result ≡ sequence (items_of (map tree items)) span }
-{
-    Node::List { items, span }
-}
-
-/// A mapping.
-pub fn map_node(entries: Seq<Entry>, span: Span) -> Node
-    ensures { tree result ≡ mapping (entries_of (map pair entries)) span }
-{
-    Node::Map { entries, span }
-}
 
 /// What is told of what stands behind the bracket that closes a collection, where that isn't blanks and a comment alone.
 fn wrong_after(closing: ContentLine<'_>) -> Option<Refusal>
@@ -57,50 +44,26 @@ fn closed_span(row: ContentLine<'_>, closing: ContentLine<'_>) -> Span
     }
 }
 
-/// The flow sequence whose opening bracket a row begins with, and where the line behind it begins.
-fn closed_sequence(
+/// The flow collection whose opening bracket a row begins with, and where the line behind it begins.
+fn closed<P: FlowParts>(
     source: Source<'_>,
+    reader: &mut P,
     row: ContentLine<'_>,
     next: usize,
 ) -> Result<(Node, usize), Refusal>
     requires row { IsRowOf source.bytes.now row }
     requires start { IsCharBoundary source.bytes.now next }
-    requires bracket { get_or row.text.now 0 0 ≡ 91 }
-    ensures gives { AnswersAs (λ x. (tree x.0, rows_after source.entry.bytes.now x.1)) result (closed_list source.entry.bytes.now (shown row.entry) (rows_after source.entry.bytes.now next) (sequence_in source.entry.bytes.now (suc (length source.entry.bytes.now)) (suc row.entry.at))) }
+    requires bracket { get_or row.text.now 0 0 < 128 }
+    ensures gives { (read : FlowTree) → P.behind reader.old source.entry.bytes.now [] (row.entry.at + 1) read → AnswersAs (λ x. (tree x.0, rows_after source.entry.bytes.now x.1)) result (closed_of source.entry.bytes.now (shown row.entry) (rows_after source.entry.bytes.now next) read) }
     ensures start { IfOk result (λ x. IsCharBoundary source.entry.bytes.now x.1) }
     ensures further { IfOk result (λ x. next ≤ x.1) }
 {
-    match flow_items(source, place_on(source, row.at + 1)) {
-        Ok((items, closing, _)) => match wrong_after(closing) {
+    match flow_parts(source, reader, place_on(source, row.at + 1)) {
+        Ok((parts, closing, _)) => match wrong_after(closing) {
             Some(refusal) => Err(refusal),
             None => {
                 let left = lines_from(source, next, closing.at as usize + 1);
-                Ok((list_node(items, closed_span(row, closing)), left))
-            }
-        },
-        Err(refusal) => Err(refusal),
-    }
-}
-
-/// The flow mapping whose opening bracket a row begins with, and where the line behind it begins.
-fn closed_mapping(
-    source: Source<'_>,
-    row: ContentLine<'_>,
-    next: usize,
-) -> Result<(Node, usize), Refusal>
-    requires row { IsRowOf source.bytes.now row }
-    requires start { IsCharBoundary source.bytes.now next }
-    requires bracket { get_or row.text.now 0 0 ≡ 123 }
-    ensures gives { AnswersAs (λ x. (tree x.0, rows_after source.entry.bytes.now x.1)) result (closed_map source.entry.bytes.now (shown row.entry) (rows_after source.entry.bytes.now next) (mapping_in source.entry.bytes.now (suc (length source.entry.bytes.now)) [] (suc row.entry.at))) }
-    ensures start { IfOk result (λ x. IsCharBoundary source.entry.bytes.now x.1) }
-    ensures further { IfOk result (λ x. next ≤ x.1) }
-{
-    match flow_entries(source, place_on(source, row.at + 1)) {
-        Ok((entries, closing, _)) => match wrong_after(closing) {
-            Some(refusal) => Err(refusal),
-            None => {
-                let left = lines_from(source, next, closing.at as usize + 1);
-                Ok((map_node(entries, closed_span(row, closing)), left))
+                Ok((P::node(parts, closed_span(row, closing)), left))
             }
         },
         Err(refusal) => Err(refusal),
@@ -124,7 +87,7 @@ pub fn flow_list(
     if depth == 0 {
         return Err(first_fault(Kind::TooDeep, row));
     }
-    closed_sequence(source, row, next)
+    closed(source, &mut FlowItems, row, next)
 }
 
 /// The flow mapping that a row begins. It is `TooDeep` where no collection may stand any more.
@@ -144,5 +107,5 @@ pub fn flow_map(
     if depth == 0 {
         return Err(first_fault(Kind::TooDeep, row));
     }
-    closed_mapping(source, row, next)
+    closed(source, &mut FlowEntries::new(source.alloc), row, next)
 }

@@ -6,7 +6,7 @@ ghost use Rattle.lf_scalar.specs.Lines.{line as line_with, lines_at};
 ghost use Rattle.lf_scalar.specs.reading.Quoted.{line_at};
 ghost use Rattle.lf_scalar.specs.views.Built.{TextAnswers};
 ghost use Rattle.lf_yaml.specs.Flow.{line_on, left_on, goes_on as goes_on_of, is_spaces as is_spaces_of};
-ghost use Rattle.lf_yaml.specs.Rows.{Row as RowOf, content_row};
+ghost use Rattle.lf_yaml.specs.Rows.{ContentRow, content_row};
 ghost use Rattle.lf_yaml.specs.views.Shown.{shown};
 ghost use Rattle.lf_yaml.specs.reading.Trees.{plain_line, plain_behind};
 ghost use Rattle.lf_yaml.specs.reading.FlowLines.{IsLeft, IsFew, Steps, FoldsAs};
@@ -69,7 +69,7 @@ fn is_spaces(line: &[u8]) -> bool
 
 /// Whether a row goes on with a plain scalar: it begins with no tab and no sign of flow collections, and is no mark.
 fn row_goes_on(row: ContentLine<'_>) -> bool
-    ensures { (rows : List RowOf) → result ≡ goes_on_of (shown row.entry ∷ rows) }
+    ensures { (rows : List ContentRow) → result ≡ goes_on_of (shown row.entry ∷ rows) }
 {
     if row.text[0] == b'\t' {
         return false;

@@ -13,6 +13,7 @@ mod flow_entries;
 mod flow_items;
 mod flow_key;
 mod flow_nodes;
+mod flow_parts;
 mod flow_plain;
 mod flow_scalar;
 mod flow_text;

@@ -1,4 +1,4 @@
-//! Nodes of block collections, made of their parts.
+//! Nodes of collections, made of their parts.
 ghost use Rattle.std.specs.Prelude.{◌≡◌, ℕ, ◌+◌, ◌≤◌, ◌^◌, length, map, Ok, IfOk};
 ghost use Rattle.lf_base.specs.Answers.{AnswersAs};
 ghost use Rattle.lf_base.specs.Faults.{span as span_at};
@@ -54,13 +54,27 @@ fn end_of_entries(none: u32, entries: &[Entry]) -> u32
     }
 }
 
+/// A sequence.
+pub fn sequence_node(items: Seq<Node>, span: Span) -> Node
+    ensures { tree result ≡ sequence (items_of (map tree items)) span }
+{
+    Node::List { items, span }
+}
+
+/// A mapping.
+pub fn mapping_node(entries: Seq<Entry>, span: Span) -> Node
+    ensures { tree result ≡ mapping (entries_of (map pair entries)) span }
+{
+    Node::Map { entries, span }
+}
+
 /// A block sequence whose first item begins at an offset.
 pub fn list_node(start: u32, items: Seq<Node>) -> Node
     ensures { tree result ≡ sequence (items_of (map tree items)) (span_at start (items_end start (items_of (map tree items)))) }
 {
     let end = end_of_items(start, items.as_slice());
     let span = Span { start, end };
-    Node::List { items, span }
+    sequence_node(items, span)
 }
 
 /// A block mapping whose first entry begins at an offset.
@@ -69,7 +83,7 @@ pub fn map_node(start: u32, entries: Seq<Entry>) -> Node
 {
     let end = end_of_entries(start, entries.as_slice());
     let span = Span { start, end };
-    Node::Map { entries, span }
+    mapping_node(entries, span)
 }
 
 /// An entry of a key and its value.

@@ -3,16 +3,16 @@ use Rattle.std.specs.Prelude.{◌≡◌, ℕ, List, length, take, drop}
 use Rattle.std.specs.Str.{IsCharBoundary}
 use Rattle.lf_scalar.specs.Lines.{lines, first_text}
 use Rattle.lf_scalar.specs.Scalars.{source_at}
-use Rattle.lf_yaml.specs.Rows.{Row, text_of, rows_of}
+use Rattle.lf_yaml.specs.Rows.{ContentRow, text_of, rows_of}
 use Rattle.lf_yaml.specs.views.Shown.{shown}
 use Rattle.lf_yaml.specs.declared.row.ContentLine.{ContentLine}
 
 -- the rows of the lines from an offset on
-unfoldable pub rows_after : List ℕ → ℕ → List Row
+unfoldable pub rows_after : List ℕ → ℕ → List ContentRow
 rows_after bytes from = rows_of (lines (length bytes) (source_at bytes from))
 
 -- from a row's first cell on, its text is the rest of a line of the file
-abbrev pub IsPlaced : List ℕ → Row → Type 0
+abbrev pub IsPlaced : List ℕ → ContentRow → Type 0
 IsPlaced bytes r = first_text (lines (length bytes) (source_at bytes r.first.at)) ≡ text_of r
 
 -- a row of a file

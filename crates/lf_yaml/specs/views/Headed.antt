@@ -5,17 +5,17 @@ use Rattle.lf_scalar.specs.Cells.{cell, cells}
 use Rattle.lf_scalar.specs.Quoted.{quote_of}
 use Rattle.lf_scalar.specs.reading.Quoted.{closing_of, split_of}
 use Rattle.lf_yaml.specs.Heads.{Key, Bare, Between}
-use Rattle.lf_yaml.specs.reading.Trees.{Head}
+use Rattle.lf_yaml.specs.reading.Trees.{EntryHead}
 use Rattle.lf_yaml.specs.declared.entries.Key.{Key as CodeKey}
 use Rattle.lf_yaml.specs.declared.entries.Key.TheVariants as code
-use Rattle.lf_yaml.specs.declared.entries.Head.{Head as CodeHead}
+use Rattle.lf_yaml.specs.declared.entries.EntryHead.{EntryHead as CodeHead}
 
 -- the key of a text that stands at an offset
 abbrev pub key_of_code : ℕ → List ℕ → CodeKey → Key
 key_of_code at text (code.Bare len) = Bare (cells at (take len text))
 key_of_code at text (code.Between quote closing) = Between quote
 
-abbrev pub headed : ℕ → List ℕ → CodeHead → Head
+abbrev pub headed : ℕ → List ℕ → CodeHead → EntryHead
 headed at text h = (key_of_code at text h.key, cell 58 h.colon, cells (suc h.colon) h.behind.now)
 
 -- what is known of a key that was found in a text

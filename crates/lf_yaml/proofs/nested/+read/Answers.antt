@@ -13,8 +13,10 @@ use Rattle.lf_yaml.specs.views.Headed.{headed}
 use Rattle.lf_yaml.specs.reading.BlockTurns.{values, run_items, run_entries}
 use Rattle.lf_yaml.proofs.ItemRuns.{NextItem, rows-placed, next-item, first-item-at, more-items, item-fails, items-done}
 use Rattle.lf_yaml.proofs.ItemRuns as items
-use Rattle.lf_yaml.proofs.EntryRuns.{Pair, NextEntry, texts_of, next-entry, first-entry-at, first-fails-at, more-entries, entry-fails, entries-done}
+use Rattle.lf_yaml.proofs.EntryRuns.{NextEntry, next-entry, first-entry-at, first-fails-at, more-entries, entry-fails, entries-done}
 use Rattle.lf_yaml.proofs.EntryRuns as entries
+use Rattle.lf_yaml.specs.reading.FlowTurns.{texts_of}
+use Rattle.lf_yaml.proofs.Collected.{Pair}
 use Rattle.lf_yaml.proofs.BlockCode.{item-node, item-deep, entry-node, entry-deep, no-block, fails-sequence, fails-mapping, same-run, key-fails, value-fails, entry-read, known-first, known-more}
 use Rattle.lf_yaml.proofs.nested.+read.Goals as goal
 

@@ -7,7 +7,8 @@ use Rattle.lf_yaml.specs.views.Cursor.{rows_after}
 use Rattle.lf_yaml.specs.views.KeySets.{HasKeys}
 use Rattle.lf_yaml.specs.reading.BlockTurns.{run_items, run_entries}
 use Rattle.lf_yaml.proofs.ItemRuns.{ItemsLeft}
-use Rattle.lf_yaml.proofs.EntryRuns.{EntriesLeft, texts_of}
+use Rattle.lf_yaml.proofs.EntryRuns.{EntriesLeft}
+use Rattle.lf_yaml.specs.reading.FlowTurns.{texts_of}
 use Rattle.lf_yaml.proofs.nested.+read.Given as goal
 
 abbrev pub decreases-node : goal.decreases-node
