@@ -18,7 +18,7 @@ use Rattle.lf_ast.specs.declared.expr.Sight.{Sight}
 use Rattle.lf_ast.specs.declared.expr.Name.{Name}
 use Rattle.lf_ast.specs.declared.functions.LabelEffect.{LabelEffect}
 use Rattle.lf_ast.specs.declared.functions.LabelEffect.TheVariants.{CountValues, LabelReplace, LabelJoin, HistogramQuantile}
-use Rattle.lf_lex.specs.Parts.{Part, Blank, Comment, Written, AreParts, IsToken, IsWord, behind_part, part_text}
+use Rattle.lf_lex.specs.Lexemes.{Lexeme, Blank, Comment, Written, AreLexemes, IsToken, IsWord, behind_lexeme, lexeme_text}
 use Rattle.lf_lex.specs.Bytes.{begins_word}
 use Rattle.lf_lex.specs.Tokens.{Tokens, tokens_of}
 use Rattle.lf_lex.specs.declared.token.Token.{Token}
@@ -214,14 +214,14 @@ token_free inside (kinds.Duration d) text rest p is = tt
 token_free inside (kinds.Str x) text rest p is = tt
 token_free inside (kinds.Sign s) text rest p is = tt
 
-parts_free : (from : Bytes) (start : ℕ) (inside : Bool) (parts : List Part) (rest : Bytes) → AreParts inside parts rest → AreFree (map shown (tokens_of from start parts))
-parts_free from start inside [] rest are = tt
-parts_free from start inside (Blank b ∷ parts) rest are = parts_free from (start + length (part_text (Blank b))) inside parts rest are.1
-parts_free from start inside (Comment line ∷ parts) rest are = parts_free from (start + length (part_text (Comment line))) inside parts rest are.1
-parts_free from start inside (Written kind text ∷ parts) rest are = (token_free inside kind text _ _ are.0, parts_free from (start + length (part_text (Written kind text))) (behind_part (Written kind text) inside) parts rest are.1)
+lexemes_free : (from : Bytes) (start : ℕ) (inside : Bool) (lexemes : List Lexeme) (rest : Bytes) → AreLexemes inside lexemes rest → AreFree (map shown (tokens_of from start lexemes))
+lexemes_free from start inside [] rest are = tt
+lexemes_free from start inside (Blank b ∷ lexemes) rest are = lexemes_free from (start + length (lexeme_text (Blank b))) inside lexemes rest are.1
+lexemes_free from start inside (Comment line ∷ lexemes) rest are = lexemes_free from (start + length (lexeme_text (Comment line))) inside lexemes rest are.1
+lexemes_free from start inside (Written kind text ∷ lexemes) rest are = (token_free inside kind text _ _ are.0, lexemes_free from (start + length (lexeme_text (Written kind text))) (behind_lexeme (Written kind text) inside) lexemes rest are.1)
 
 pub tokens_free : (from text : Bytes) (tokens : List Token) → Tokens from text tokens → AreFree (map shown tokens)
-tokens_free from text tokens is = subst (λ ts. AreFree (map shown ts)) (sym is.tokens_are) (parts_free from 0 false is.parts [] is.are_parts)
+tokens_free from text tokens is = subst (λ ts. AreFree (map shown ts)) (sym is.tokens_are) (lexemes_free from 0 false is.lexemes [] is.are_lexemes)
 
 -- ---- what expressions name
 
