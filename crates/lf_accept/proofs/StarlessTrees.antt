@@ -18,7 +18,7 @@ use Rattle.lf_ast.specs.declared.expr.Sight.{Sight}
 use Rattle.lf_ast.specs.declared.expr.Name.{Name}
 use Rattle.lf_ast.specs.declared.functions.LabelEffect.{LabelEffect}
 use Rattle.lf_ast.specs.declared.functions.LabelEffect.TheVariants.{CountValues, LabelReplace, LabelJoin, HistogramQuantile}
-use Rattle.lf_lex.specs.Parts.{Part, Blank, Comment, Written, AreParts, IsToken, IsWord, behind_part, part_text}
+use Rattle.lf_lex.specs.Lexemes.{Lexeme, Blank, Comment, Written, AreLexemes, IsToken, IsWord, behind_lexeme, lexeme_text}
 use Rattle.lf_lex.specs.Bytes.{begins_word}
 use Rattle.lf_lex.specs.Tokens.{Tokens, tokens_of}
 use Rattle.lf_lex.specs.declared.token.Token.{Token}
@@ -28,7 +28,7 @@ use Rattle.lf_parse.specs.declared.class.Clause.{Clause}
 use Rattle.lf_parse.specs.declared.class.Clause.TheVariants.{By, Without}
 use Rattle.lf_parse.specs.declared.class.Scope.{Scope}
 use Rattle.lf_parse.specs.declared.class.Scope.TheVariants.{On, Ignoring}
-use Rattle.lf_parse.specs.Tokens.{Word, Metric, Tok, ◌at◌, class_of, shown, word_mark}
+use Rattle.lf_parse.specs.Tokens.{Word, Metric, MarkedToken, ◌at◌, class_of, marked, word_mark}
 use Rattle.lf_parse.specs.Grammar as G
 use Rattle.lf_parse.specs.Grammar.{At, ArgsAt, BracesAt, LabelsAt, MatchersAt, ModAt, ModifierAt, ModsAt, NamesAt, ScopedAt, SelectAt, SomeAt, StepAt, Parses}
 use Rattle.lf_ast.specs.Arguments.{text_at, texts_of}
@@ -45,11 +45,11 @@ star = codes "*"
 -- ---- tokens
 
 -- a word that isn't `*`
-abbrev pub IsFree : Tok → Type 0
+abbrev pub IsFree : MarkedToken → Type 0
 IsFree (Word c w at p) = w ≢ star
 IsFree (m at p) = Unit {0}
 
-abbrev pub AreFree : List Tok → Type 0
+abbrev pub AreFree : List MarkedToken → Type 0
 AreFree = AllByRecursion IsFree
 
 -- ---- what the grammar makes of free tokens
@@ -84,13 +84,13 @@ last_free : (xs : Trees) (e : Tree) → TreesFree xs → TreeFree e → TreesFre
 last_free Nil e h k = (k, tt)
 last_free (Next x xs) e h k = (h.0, last_free xs e h.1 k)
 
-labels_free : {xs : List Name} {ts rest : List Tok} → LabelsAt xs ts rest → AreFree ts → NamesFree xs × AreFree rest
+labels_free : {xs : List Name} {ts rest : List MarkedToken} → LabelsAt xs ts rest → AreFree ts → NamesFree xs × AreFree rest
 labels_free G.one_label f = ((f.0, tt), f.1)
 labels_free (G.next_label {c} {w} {xs} {p} l) f =
     let k = labels_free l f in
     (all_append (λ n. n.text ≢ star) xs (G.name w p ∷ []) k.0 (k.1.1.0, tt), k.1.1.1)
 
-names_free : {xs : List Name} {p : Span} {ts rest : List Tok} → NamesAt xs p ts rest → AreFree ts → NamesFree xs × AreFree rest
+names_free : {xs : List Name} {p : Span} {ts rest : List MarkedToken} → NamesAt xs p ts rest → AreFree ts → NamesFree xs × AreFree rest
 names_free G.no_names f = (tt, f.1.1)
 names_free (G.names l) f = let k = labels_free l f.1 in (k.0, k.1.1)
 names_free (G.names_comma l) f = let k = labels_free l f.1 in (k.0, k.1.1.1)
@@ -103,7 +103,7 @@ ignoring_free : (k : Scope) (xs : List Name) → NamesFree xs → NamesFree (nam
 ignoring_free On xs f = tt
 ignoring_free Ignoring xs f = f
 
-scoped_free : {b : Bool} {f : Span} {k : Scope} {m : MatchingOf} {ts rest : List Tok} → ScopedAt b f k m ts rest → AreFree ts → MatchingFree m × AreFree rest
+scoped_free : {b : Bool} {f : Span} {k : Scope} {m : MatchingOf} {ts rest : List MarkedToken} → ScopedAt b f k m ts rest → AreFree ts → MatchingFree m × AreFree rest
 scoped_free (G.alone {k} {xs} n) f = let i = names_free n f in ((on_free k xs i.0, ignoring_free k xs i.0, tt), i.1)
 scoped_free (G.group {k} {xs} n closed) f = let i = names_free n f in ((on_free k xs i.0, ignoring_free k xs i.0, tt), i.1.1)
 scoped_free (G.group_names {k} {xs} n m) f =
@@ -111,29 +111,29 @@ scoped_free (G.group_names {k} {xs} n m) f =
     let j = names_free m i.1.1 in
     ((on_free k xs i.0, ignoring_free k xs i.0, j.0), j.1)
 
-modifier_free : {o : Span} {m : MatchingOf} {ts rest : List Tok} → ModifierAt o m ts rest → AreFree ts → MatchingFree m × AreFree rest
+modifier_free : {o : Span} {m : MatchingOf} {ts rest : List MarkedToken} → ModifierAt o m ts rest → AreFree ts → MatchingFree m × AreFree rest
 modifier_free G.no_modifier f = ((tt, tt, tt), f)
 modifier_free G.bool f = ((tt, tt, tt), f.1)
 modifier_free (G.scoped s) f = scoped_free s f.1
 modifier_free (G.bool_scoped s) f = scoped_free s f.1.1
 
-matchers_free : {xs : List Matcher} {ts rest : List Tok} → MatchersAt xs ts rest → AreFree ts → MatchersFree xs × AreFree rest
+matchers_free : {xs : List Matcher} {ts rest : List MarkedToken} → MatchersAt xs ts rest → AreFree ts → MatchersFree xs × AreFree rest
 matchers_free (G.one_matcher e) f = ((f.0, tt), f.1.1.1)
 matchers_free (G.next_matcher {c} {w} {v} {s} {o} {xs} {p} {q} {r} e l) f =
     let k = matchers_free l f in
     (all_append (λ m. m.label ≢ star) xs (G.matcher (G.name w p) o v r ∷ []) k.0 (k.1.1.0, tt), k.1.1.1.1.1)
 
-braces_free : {xs : List Matcher} {c : Span} {ts rest : List Tok} → BracesAt xs c ts rest → AreFree ts → MatchersFree xs × AreFree rest
+braces_free : {xs : List Matcher} {c : Span} {ts rest : List MarkedToken} → BracesAt xs c ts rest → AreFree ts → MatchersFree xs × AreFree rest
 braces_free G.no_matchers f = (tt, f.1)
 braces_free (G.matchers l) f = let k = matchers_free l f in (k.0, k.1.1)
 braces_free (G.matchers_comma l) f = let k = matchers_free l f in (k.0, k.1.1.1)
 
-select_free : {name : Option (List ℕ)} {xs : List Matcher} {p : Span} {ts rest : List Tok} → SelectAt name xs p ts rest → AreFree ts → MatchersFree xs × AreFree rest
+select_free : {name : Option (List ℕ)} {xs : List Matcher} {p : Span} {ts rest : List MarkedToken} → SelectAt name xs p ts rest → AreFree ts → MatchersFree xs × AreFree rest
 select_free (G.word m) f = (tt, f.1)
 select_free (G.word_braces m b) f = braces_free b f.1.1
 select_free (G.braces b) f = braces_free b f.1
 
-mod_free : {x : G.Mod} {n : ℕ} {ts rest : List Tok} → ModAt x n ts rest → AreFree ts → AreFree rest
+mod_free : {x : G.Mod} {n : ℕ} {ts rest : List MarkedToken} → ModAt x n ts rest → AreFree ts → AreFree rest
 mod_free G.offset f = f.1.1
 mod_free G.offset_minus f = f.1.1.1
 mod_free G.time f = f.1.1
@@ -141,11 +141,11 @@ mod_free G.time_plus f = f.1.1.1
 mod_free G.time_minus f = f.1.1.1
 mod_free G.time_edge f = f.1.1.1.1
 
-mods_free : {s r : Sight} {n m : ℕ} {ts rest : List Tok} → ModsAt s r n m ts rest → AreFree ts → AreFree rest
+mods_free : {s r : Sight} {n m : ℕ} {ts rest : List MarkedToken} → ModsAt s r n m ts rest → AreFree ts → AreFree rest
 mods_free G.no_mods f = f
 mods_free (G.mods room x more) f = mods_free more (mod_free x f)
 
-step_free : {x : Option (List ℕ)} {ts rest : List Tok} → StepAt x ts rest → AreFree ts → AreFree rest
+step_free : {x : Option (List ℕ)} {ts rest : List MarkedToken} → StepAt x ts rest → AreFree ts → AreFree rest
 step_free G.no_step f = f
 step_free G.step f = f.1
 
@@ -154,7 +154,7 @@ grouping_free By xs f = f
 grouping_free Without xs f = f
 
 mutual
-  at_free : {l n : ℕ} {e : Tree} {ts rest : List Tok} → At l e n ts rest → AreFree ts → TreeFree e × AreFree rest
+  at_free : {l n : ℕ} {e : Tree} {ts rest : List MarkedToken} → At l e n ts rest → AreFree ts → TreeFree e × AreFree rest
   at_free G.number f = (tt, f.1)
   at_free G.numeric f = (tt, f.1)
   at_free G.string f = (tt, f.1)
@@ -180,14 +180,14 @@ mutual
       let k = at_free b j.1 in
       ((j.0, i.0, k.0), k.1)
 
-  some_free : {xs : Trees} {ts rest : List Tok} → SomeAt xs ts rest → AreFree ts → TreesFree xs × AreFree rest
+  some_free : {xs : Trees} {ts rest : List MarkedToken} → SomeAt xs ts rest → AreFree ts → TreesFree xs × AreFree rest
   some_free (G.one a) f = let k = at_free a f in ((k.0, tt), k.1)
   some_free (G.also {xs = xs} {e = e} s a) f =
       let i = some_free s f in
       let k = at_free a i.1.1 in
       (last_free xs e i.0 k.0, k.1)
 
-  args_free : {xs : Trees} {p : Span} {ts rest : List Tok} → ArgsAt xs p ts rest → AreFree ts → TreesFree xs × AreFree rest
+  args_free : {xs : Trees} {p : Span} {ts rest : List MarkedToken} → ArgsAt xs p ts rest → AreFree ts → TreesFree xs × AreFree rest
   args_free G.no_args f = (tt, f.1.1)
   args_free (G.args s) f = let k = some_free s f.1 in (k.0, k.1.1)
 
@@ -207,21 +207,21 @@ word_free w p h = by (list_any (λ b. b == 58) w)
 is_word_free : (inside : Bool) (text w : Bytes) → text ≡ w → IsWord inside text → w ≢ star
 is_word_free inside text w e is star = let P : Bytes → Type 0 = IsWord inside in star_begins_none inside (subst P (e ∙ star) is).0
 
-token_free : (inside : Bool) (kind : TokenKind) (text rest : Bytes) (p : Span) → IsToken inside kind text rest → IsFree (shown (record { kind = kind; span = p }))
+token_free : (inside : Bool) (kind : TokenKind) (text rest : Bytes) (p : Span) → IsToken inside kind text rest → IsFree (marked (record { kind = kind; span = p }))
 token_free inside (kinds.Word w) text rest p is = word_free w p (is_word_free inside text w is.0 is.1.0)
 token_free inside (kinds.Number x) text rest p is = tt
 token_free inside (kinds.Duration d) text rest p is = tt
 token_free inside (kinds.Str x) text rest p is = tt
 token_free inside (kinds.Sign s) text rest p is = tt
 
-parts_free : (from : Bytes) (start : ℕ) (inside : Bool) (parts : List Part) (rest : Bytes) → AreParts inside parts rest → AreFree (map shown (tokens_of from start parts))
-parts_free from start inside [] rest are = tt
-parts_free from start inside (Blank b ∷ parts) rest are = parts_free from (start + length (part_text (Blank b))) inside parts rest are.1
-parts_free from start inside (Comment line ∷ parts) rest are = parts_free from (start + length (part_text (Comment line))) inside parts rest are.1
-parts_free from start inside (Written kind text ∷ parts) rest are = (token_free inside kind text _ _ are.0, parts_free from (start + length (part_text (Written kind text))) (behind_part (Written kind text) inside) parts rest are.1)
+lexemes_free : (from : Bytes) (start : ℕ) (inside : Bool) (lexemes : List Lexeme) (rest : Bytes) → AreLexemes inside lexemes rest → AreFree (map marked (tokens_of from start lexemes))
+lexemes_free from start inside [] rest are = tt
+lexemes_free from start inside (Blank b ∷ lexemes) rest are = lexemes_free from (start + length (lexeme_text (Blank b))) inside lexemes rest are.1
+lexemes_free from start inside (Comment line ∷ lexemes) rest are = lexemes_free from (start + length (lexeme_text (Comment line))) inside lexemes rest are.1
+lexemes_free from start inside (Written kind text ∷ lexemes) rest are = (token_free inside kind text _ _ are.0, lexemes_free from (start + length (lexeme_text (Written kind text))) (behind_lexeme (Written kind text) inside) lexemes rest are.1)
 
-pub tokens_free : (from text : Bytes) (tokens : List Token) → Tokens from text tokens → AreFree (map shown tokens)
-tokens_free from text tokens is = subst (λ ts. AreFree (map shown ts)) (sym is.tokens_are) (parts_free from 0 false is.parts [] is.are_parts)
+pub tokens_free : (from text : Bytes) (tokens : List Token) → Tokens from text tokens → AreFree (map marked tokens)
+tokens_free from text tokens is = subst (λ ts. AreFree (map marked ts)) (sym is.tokens_are) (lexemes_free from 0 false is.lexemes [] is.are_lexemes)
 
 -- ---- what expressions name
 

@@ -7,7 +7,7 @@ use Rattle.std.specs.List.{flat_map, AllByRecursion}
 use Rattle.std.specs.Str.{IsUtf8, IsCharBoundary}
 use lib.Utf8.{encode, encodes, scalar, scalars}
 use Rattle.lf_lex.specs.Strings.{IsQuote, byte_of_letter, octal_value, Tell, IsEscape, a_letter, the_quote, octal_byte, hexadecimal_byte, short_character, long_character, Piece, Bare, Escape, piece_text, meant, IsPiece}
-use Rattle.lf_lex.specs.Parts.{IsLongest}
+use Rattle.lf_lex.specs.Lexemes.{IsLongest}
 use Rattle.lf_lex.specs.Breaches.{BeginsNoEscape}
 use Rattle.lf_lex.proofs.Options.{none_some}
 use Rattle.lf_base.specs.Names.{hexadecimal_value}

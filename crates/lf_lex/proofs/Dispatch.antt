@@ -1,4 +1,4 @@
--- By its first byte a text is read as one sort of part.
+-- By its first byte a text is read as one sort of lexeme.
 use Rattle.std.proofs.Common.{◌≡◌, ℕ, Bool, true, false, ◌&&◌, ◌||◌, eqb, List, [], ◌∷◌, refl, arith, sym, subst, inl, inr}
 use Rattle.std.proofs.lemmas.Bool.{and_parts, or_cases, or_left, or_right}
 use Rattle.std.proofs.lemmas.Bool.Decides.{nat_tests}
@@ -80,7 +80,7 @@ module _ (from : List ℕ) (inside : Bool) (at : ℕ) (src : List ℕ) where
   unfolding next_token
   front_sign b h i w r q t = rw (h, i, w, r, q, t) refl
 
--- no sign begins as another part does
+-- no sign begins as another lexeme does
 pub record IsOther (inside : Bool) (s : Sign) : Type 0 where
   pub b : ℕ
   pub more : List ℕ

@@ -8,7 +8,7 @@ use Rattle.std.proofs.lemmas.List.Concat.{flat_map-append}
 use Rattle.lf_base.specs.declared.kind.Kind.{Kind}
 use Rattle.lf_base.specs.declared.kind.Kind.TheVariants.{BadEscape}
 use Rattle.lf_lex.specs.Strings.{IsQuote, Piece, Bare, Escape, piece_text, meant}
-use Rattle.lf_lex.specs.Parts.{IsLongest, part_text, behind_parts}
+use Rattle.lf_lex.specs.Lexemes.{IsLongest, lexeme_text, behind_lexemes}
 use Rattle.lf_lex.specs.Breaches.{BeginsNoEscape, ReadsUpTo, IsWrongAt, no_escape, no_utf8, IsBreach}
 use Rattle.lf_lex.specs.Tokens.{in_source, Breaks}
 use Rattle.lf_base.specs.declared.fault.Fault.{Fault}
@@ -78,9 +78,9 @@ utf8_up_to xs b ys low u =
 
 pub backslash : (from text : List ℕ) (fault : Fault) → IsUtf8 text → Breaks from text fault → fault.kind ≡ BadEscape → (place : ℕ) × (get_or text place 0 ≡ 92) × (fault.span ≡ in_source from place (place + 1))
 backslash from text fault u b k =
-    let written = flat_map part_text b.parts in
+    let written = flat_map lexeme_text b.lexemes in
     let at = length written in
-    let breach : IsBreach (behind_parts b.parts false) b.rest BadEscape b.start b.end = subst (λ (x : Kind). IsBreach (behind_parts b.parts false) b.rest x b.start b.end) k b.breach in
+    let breach : IsBreach (behind_lexemes b.lexemes false) b.rest BadEscape b.start b.end = subst (λ (x : Kind). IsBreach (behind_lexemes b.lexemes false) b.rest x b.start b.end) k b.breach in
     let w = breach.1 in
     let low = quote_low w.quote w.is_quote in
     let source : text ≡ written ++ w.quote ∷ (w.inner ++ w.quote ∷ w.rest) = b.source ∙ ap (λ (x : List ℕ). written ++ x) w.source in

@@ -8,7 +8,7 @@ use Rattle.lf_lex.specs.declared.token.TokenKind.TheVariants as kinds
 use Rattle.lf_lex.specs.Bytes.{is_blank, begins_word}
 use Rattle.lf_lex.specs.Runs.{begins_run}
 use Rattle.lf_lex.specs.Strings.{IsString, in_quotes, in_back_quotes}
-use Rattle.lf_lex.specs.Parts.{IsToken, Part, Blank, Comment, Written, part_text, IsPart}
+use Rattle.lf_lex.specs.Lexemes.{IsToken, Lexeme, Blank, Comment, Written, lexeme_text, IsLexeme}
 use Rattle.lf_lex.specs.Breaches.{StaysOpen, in_quotes as open_quotes, in_back_quotes as open_back_quotes, IsCharacter, HasWrongEscape, BeginsRun, HasBadNumber, HasBadDuration, IsBreach}
 use Rattle.lf_base.specs.declared.fault.Fault.{Fault}
 use Rattle.lf_lex.specs.reading.Steps.{Front, breach, token, next_token}
@@ -16,12 +16,12 @@ use Rattle.lf_lex.proofs.Dispatch.{front_run}
 use Rattle.lf_lex.proofs.RunLaws.{begins_on, some_run}
 use Rattle.lf_lex.proofs.RunFronts.{number_front, duration_front, bad_number_front, bad_duration_front, run_stands}
 use Rattle.lf_lex.proofs.SignLaws.{some_sign}
-use Rattle.lf_lex.proofs.PartFronts.{blank_reads, comment_reads, word_reads, sign_reads, raw_reads, open_raw_reads, unknown_reads, blank_stands, comment_stands, word_stands, raw_stands, sign_stands}
+use Rattle.lf_lex.proofs.LexemeFronts.{blank_reads, comment_reads, word_reads, sign_reads, raw_reads, open_raw_reads, unknown_reads, blank_stands, comment_stands, word_stands, raw_stands, sign_stands}
 use Rattle.lf_lex.proofs.StringFronts.{string_reads, wrong_reads, open_reads}
 use Rattle.lf_lex.proofs.StringStands.{quoted_stands}
 use Rattle.lf_lex.proofs.Standing.{Standing}
 
-abbrev pub found_of : Part → Option TokenKind
+abbrev pub found_of : Lexeme → Option TokenKind
 found_of (Written kind text) = Some kind
 found_of _ = None
 
@@ -45,10 +45,10 @@ module _ (from : List ℕ) (inside : Bool) (at : ℕ) where
   token_reads (kinds.Str value) text rest h = string_token text value rest h
   token_reads (kinds.Sign sign) text rest h = sign_reads from inside at sign text rest h.0 h.1
 
-  pub part_reads : (part : Part) (rest : List ℕ) → IsPart inside part rest → next_token from inside at (part_text part ++ rest) ≡ Ok (found_of part, length (part_text part))
-  part_reads (Blank b) rest h = blank_reads from inside at b rest h
-  part_reads (Comment line) rest h = comment_reads from inside at line rest h.0 h.1
-  part_reads (Written kind text) rest h = token_reads kind text rest h
+  pub lexeme_reads : (lexeme : Lexeme) (rest : List ℕ) → IsLexeme inside lexeme rest → next_token from inside at (lexeme_text lexeme ++ rest) ≡ Ok (found_of lexeme, length (lexeme_text lexeme))
+  lexeme_reads (Blank b) rest h = blank_reads from inside at b rest h
+  lexeme_reads (Comment line) rest h = comment_reads from inside at line rest h.0 h.1
+  lexeme_reads (Written kind text) rest h = token_reads kind text rest h
 
   -- ---- breaches
 
@@ -105,13 +105,13 @@ module _ (inside : Bool) (b : ℕ) (src : List ℕ) where
       by false (inr n) false false (inr x) (inr y) (inl z) e f g = moved 96 z.1 (raw_stands inside src)
       by false (inr n) false false (inr x) (inr y) (inr z) e f g = sign_stands inside b src e n.1 f g x.1 y.1 z.1
 
--- ---- no part is empty
+-- ---- no lexeme is empty
 
 string_some : (text value : List ℕ) → IsString text value → 0 < length text
 string_some text value (in_quotes quote inner q e is_inner h u) = let l = ap length e in omega arith
 string_some text value (in_back_quotes e h) = let l = ap length e in omega arith
 
-word_some : (inside : Bool) (text : List ℕ) → Rattle.lf_lex.specs.Parts.IsWord inside text → 0 < length text
+word_some : (inside : Bool) (text : List ℕ) → Rattle.lf_lex.specs.Lexemes.IsWord inside text → 0 < length text
 word_some inside [] h = absurd h
 word_some inside (b ∷ text) h = omega arith
 
@@ -122,10 +122,10 @@ token_some inside (kinds.Duration duration) text rest h = some_run text h.1.0.0
 token_some inside (kinds.Str value) text rest h = string_some text value h
 token_some inside (kinds.Sign sign) text rest h = let s = some_sign sign in let l = ap length h.0.0 in omega arith
 
-pub part_some : (inside : Bool) (part : Part) (rest : List ℕ) → IsPart inside part rest → 0 < length (part_text part)
-part_some inside (Blank b) rest h = omega arith
-part_some inside (Comment line) rest h = omega arith
-part_some inside (Written kind text) rest h = token_some inside kind text rest h
+pub lexeme_some : (inside : Bool) (lexeme : Lexeme) (rest : List ℕ) → IsLexeme inside lexeme rest → 0 < length (lexeme_text lexeme)
+lexeme_some inside (Blank b) rest h = omega arith
+lexeme_some inside (Comment line) rest h = omega arith
+lexeme_some inside (Written kind text) rest h = token_some inside kind text rest h
 
 -- ---- and no breach comes at the end
 

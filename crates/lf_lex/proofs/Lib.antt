@@ -6,7 +6,7 @@ pub mod Quotes
 pub mod ValueLaws
 pub mod PieceLaws
 pub mod Units
-pub mod Given
+pub mod PlacedBytes
 pub mod Ascii
 pub mod Fronts
 pub mod Reading
@@ -18,7 +18,7 @@ pub mod Standing
 pub mod RunFronts
 pub mod SignLaws
 pub mod Dispatch
-pub mod PartFronts
+pub mod LexemeFronts
 pub mod EscapeLaws
 pub mod Utf8Fronts
 pub mod StringFronts

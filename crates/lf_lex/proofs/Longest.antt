@@ -2,7 +2,7 @@
 use Rattle.std.proofs.Common.{◌≡◌, ℕ, ◌+◌, ◌-◌, ◌<◌, ◌≤◌, List, ◌++◌, length, take, drop, ap, arith, append_assoc, sym, ◌∙◌, subst, ◌⊎◌, inl, inr, length-append, length-take-le, take-append-drop}
 use Rattle.std.proofs.Math.Seq.{take-append-add}
 use Rattle.std.proofs.lemmas.Bool.{cases_lt}
-use Rattle.lf_lex.specs.Parts.{IsLongest}
+use Rattle.lf_lex.specs.Lexemes.{IsLongest}
 
 -- The first n bytes are of the sort, and no longer beginning is.
 pub record Greatest (sort : List ℕ → Type 0) (src : List ℕ) (n : ℕ) : Type 0 where

@@ -6,7 +6,7 @@ use Rattle.lf_base.specs.declared.kind.Kind.TheVariants.{BadNumber, BadDuration}
 use Rattle.lf_lex.specs.declared.token.TokenKind.TheVariants as kinds
 use Rattle.lf_lex.specs.Runs.{begins_run, IsRun, IsNumber}
 use Rattle.lf_lex.specs.Durations.{Amount, AreAmounts, IsDuration, IsDisordered}
-use Rattle.lf_lex.specs.Parts.{IsLongest, Written}
+use Rattle.lf_lex.specs.Lexemes.{IsLongest, Written}
 use Rattle.lf_lex.specs.Breaches.{BeginsRun}
 use Rattle.lf_lex.specs.reading.Runs.{run_len, is_number, units, duration_order}
 use Rattle.lf_lex.specs.reading.Steps.{Front, breach, token, run_is, run_front}

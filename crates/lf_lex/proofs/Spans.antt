@@ -13,7 +13,7 @@ use Rattle.lf_base.specs.Answers.{Refused, RefusedIn}
 use Rattle.lf_base.proofs.Answering.{refused_in}
 use Rattle.lf_lex.specs.declared.token.Token.{Token}
 use Rattle.lf_lex.specs.Strings.{piece_text}
-use Rattle.lf_lex.specs.Parts.{Part, Blank, Comment, Written, part_text}
+use Rattle.lf_lex.specs.Lexemes.{Lexeme, Blank, Comment, Written, lexeme_text}
 use Rattle.lf_lex.specs.Breaches.{IsWrongAt, no_escape, no_utf8, IsBreach}
 use Rattle.lf_lex.specs.Tokens.{in_source, token_of, tokens_of, Tokens, Breaks, LieIn}
 use Rattle.lf_lex.proofs.FrontLaws.{breach_some}
@@ -75,25 +75,25 @@ module _ (from text : List ℕ) (offsets : length from ≡ length text + 1) (ris
   breach_lies fault b =
       let w = breach_within _ b.rest fault.kind b.start b.end b.breach in
       let l = ap length b.source in
-      let m = length-append (flat_map part_text b.parts) b.rest in
-      let at = length (flat_map part_text b.parts) in
+      let m = length-append (flat_map lexeme_text b.lexemes) b.rest in
+      let at = length (flat_map lexeme_text b.lexemes) in
       let le = w.0 in
       let within = w.1 in
       subst (LiesIn n) (sym b.span_is) (lies (at + b.start) (at + b.end) (omega arith) (omega arith))
 
-  with_part : (part : Part) (start end : ℕ) (later : List Token) → start ≤ end → end ≤ length text → LieIn n later → LieIn n (token_of part (in_source from start end) ++ later)
-  with_part (Blank b) start end later le within h = h
-  with_part (Comment line) start end later le within h = h
-  with_part (Written kind text) start end later le within h = (lies start end le within, h)
+  with_lexeme : (lexeme : Lexeme) (start end : ℕ) (later : List Token) → start ≤ end → end ≤ length text → LieIn n later → LieIn n (token_of lexeme (in_source from start end) ++ later)
+  with_lexeme (Blank b) start end later le within h = h
+  with_lexeme (Comment line) start end later le within h = h
+  with_lexeme (Written kind text) start end later le within h = (lies start end le within, h)
 
-  parts_lie : (parts : List Part) (at : ℕ) → at + length (flat_map part_text parts) ≤ length text → LieIn n (tokens_of from at parts)
-  parts_lie [] at le = tt
-  parts_lie (part ∷ parts) at le =
-      let l = length-append (part_text part) (flat_map part_text parts) in
-      with_part part at (at + length (part_text part)) (tokens_of from (at + length (part_text part)) parts) (omega arith) (omega arith) (parts_lie parts (at + length (part_text part)) (omega arith))
+  lexemes_lie : (lexemes : List Lexeme) (at : ℕ) → at + length (flat_map lexeme_text lexemes) ≤ length text → LieIn n (tokens_of from at lexemes)
+  lexemes_lie [] at le = tt
+  lexemes_lie (lexeme ∷ lexemes) at le =
+      let l = length-append (lexeme_text lexeme) (flat_map lexeme_text lexemes) in
+      with_lexeme lexeme at (at + length (lexeme_text lexeme)) (tokens_of from (at + length (lexeme_text lexeme)) lexemes) (omega arith) (omega arith) (lexemes_lie lexemes (at + length (lexeme_text lexeme)) (omega arith))
 
   pub tokens_lie : (tokens : List Token) → Tokens from text tokens → LieIn n tokens
-  tokens_lie tokens t = let l = ap length t.source in subst (LieIn n) (sym t.tokens_are) (parts_lie t.parts 0 (omega arith))
+  tokens_lie tokens t = let l = ap length t.source in subst (LieIn n) (sym t.tokens_are) (lexemes_lie t.lexemes 0 (omega arith))
 
 module _ (from text : List ℕ) (offsets : length from ≡ length text + 1) (rises : IsNonDecreasing from) where
   -- the spans of what is answered lie in the source

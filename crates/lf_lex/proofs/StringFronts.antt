@@ -10,16 +10,16 @@ use Rattle.std.proofs.lemmas.List.Concat.{flat_map-append}
 use Rattle.lf_base.specs.declared.kind.Kind.TheVariants.{OpenString, BadEscape}
 use Rattle.lf_lex.specs.declared.token.TokenKind.TheVariants as kinds
 use Rattle.lf_lex.specs.Strings.{IsQuote, Raw, raw, IsRaw, IsInner, IsEscape, Piece, Bare, Escape, piece_text, meant, IsPiece, HasValue}
-use Rattle.lf_lex.specs.Parts.{IsLongest, EndsLine}
+use Rattle.lf_lex.specs.Lexemes.{IsLongest, EndsLine}
 use Rattle.lf_lex.specs.Breaches.{StopsString, line_ends, backslash_first, BeginsNoEscape, ReadsUpTo, IsWrongAt, no_escape, no_utf8}
-use Rattle.lf_lex.specs.reading.Strings.{closing, escape, Given, given, piece, gives, bytes_of, places_of}
+use Rattle.lf_lex.specs.reading.Strings.{closing, escape, PlacedByte, placed, piece, gives, bytes_of, places_of}
 use Rattle.lf_lex.specs.reading.Steps.{Front, token, breach, value_front, quoted_front, next_token}
 use Rattle.lf_lex.proofs.Quotes.{ahead, closing_one, closes_found}
 use Rattle.lf_lex.proofs.ValueLaws.{IsRead, escape_kept, piece_bare, piece_escape}
 use Rattle.lf_lex.proofs.PieceLaws.{escape_cut, IsReadWrong, value_of, wrong_value, nil_value, pieces_value}
 use Rattle.lf_lex.proofs.Utf8Fronts.{Tail, no_tail, wrong_tail, valid_len_is, not_utf8}
 use Rattle.lf_lex.proofs.EscapeLaws.{escape_read, escape_is}
-use Rattle.lf_lex.proofs.Given.{places-past, places-here}
+use Rattle.lf_lex.proofs.PlacedBytes.{places-past, places-here}
 use Rattle.lf_lex.proofs.Fronts.{value_utf8, value_wrong}
 use Rattle.lf_lex.proofs.Dispatch.{front_quoted}
 use Rattle.lf_lex.proofs.Options.{none_some}
@@ -95,13 +95,13 @@ module _ (quote : ℕ) (q : IsQuote quote) where
 
   -- ---- the place of what gave a byte
 
-  gives_place : (p : Piece) (place : ℕ) (src : List ℕ) → IsRead quote p → gives quote place 0 (piece_text p ++ src) ≡ map (given place) (meant p) ++ gives quote (place + length (piece_text p)) 0 src
+  gives_place : (p : Piece) (place : ℕ) (src : List ℕ) → IsRead quote p → gives quote place 0 (piece_text p ++ src) ≡ map (placed place) (meant p) ++ gives quote (place + length (piece_text p)) 0 src
   unfolding gives
   gives_place (Bare b) place src h =
       let e : suc place ≡ place + 1 = omega arith in
-      rw (piece_bare quote b src h) (ap (λ (k : ℕ). map (given place) (b ∷ []) ++ gives quote k 0 src) e)
+      rw (piece_bare quote b src h) (ap (λ (k : ℕ). map (placed place) (b ∷ []) ++ gives quote k 0 src) e)
   gives_place (Escape tail bytes) place src h =
-      rw (piece_escape quote (tail ++ src) (bytes, length tail) (escape_kept src quote tail (bytes, length tail) h)) (ap (λ (x : List Given). map (given place) bytes ++ x) (past (suc place) tail ∙ ap (λ (k : ℕ). gives quote k 0 src) (omega arith)))
+      rw (piece_escape quote (tail ++ src) (bytes, length tail) (escape_kept src quote tail (bytes, length tail) h)) (ap (λ (x : List PlacedByte). map (placed place) bytes ++ x) (past (suc place) tail ∙ ap (λ (k : ℕ). gives quote k 0 src) (omega arith)))
     where
       past : (p : ℕ) (xs : List ℕ) → gives quote p (length xs) (xs ++ src) ≡ gives quote (p + length xs) 0 src
       past p [] = let e : p ≡ p + 0 = omega arith in ap (λ (k : ℕ). gives quote k 0 src) e
@@ -117,14 +117,14 @@ module _ (quote : ℕ) (q : IsQuote quote) where
       let all = flat_map piece_text ps in
       let m = flat_map meant ps in
       let text : (piece_text p ++ all) ++ src ≡ piece_text p ++ (all ++ src) = append_assoc (piece_text p) all src in
-      let here : gives quote place 0 ((piece_text p ++ all) ++ src) ≡ map (given place) (meant p) ++ gives quote (place + length (piece_text p)) 0 (all ++ src) = ap (gives quote place 0) text ∙ gives_place p place (all ++ src) each.0 in
+      let here : gives quote place 0 ((piece_text p ++ all) ++ src) ≡ map (placed place) (meant p) ++ gives quote (place + length (piece_text p)) 0 (all ++ src) = ap (gives quote place 0) text ∙ gives_place p place (all ++ src) each.0 in
       let l = length-append (meant p) m in
       let ls = length-append (piece_text p) all in
       let n_is : length (meant p ++ m) + k ≡ length (meant p) + (length m + k) = omega arith in
       let back : length (meant p) + (length m + k) - length (meant p) ≡ length m + k = omega arith in
       let end : place + length (piece_text p) + length all ≡ place + length (piece_text p ++ all) = omega arith in
-      ap (λ (x : List Given). get_or (places_of x) (length (meant p ++ m) + k) 0) here
-      ∙ ap (λ (n : ℕ). get_or (places_of (map (given place) (meant p) ++ gives quote (place + length (piece_text p)) 0 (all ++ src))) n 0) n_is
+      ap (λ (x : List PlacedByte). get_or (places_of x) (length (meant p ++ m) + k) 0) here
+      ∙ ap (λ (n : ℕ). get_or (places_of (map (placed place) (meant p) ++ gives quote (place + length (piece_text p)) 0 (all ++ src))) n 0) n_is
       ∙ places-past place (meant p) (gives quote (place + length (piece_text p)) 0 (all ++ src)) (length (meant p) + (length m + k)) (omega arith)
       ∙ ap (λ (n : ℕ). get_or (places_of (gives quote (place + length (piece_text p)) 0 (all ++ src))) n 0) back
       ∙ place_there ps src (place + length (piece_text p)) k each.1
@@ -136,7 +136,7 @@ module _ (quote : ℕ) (q : IsQuote quote) where
       let start = length (flat_map piece_text ps) in
       let e : 0 + start ≡ start = omega arith in
       place_there ps (piece_text p ++ src) 0 k each
-      ∙ ap (λ (x : List Given). get_or (places_of x) k 0) (gives_place p (0 + start) src h)
+      ∙ ap (λ (x : List PlacedByte). get_or (places_of x) k 0) (gives_place p (0 + start) src h)
       ∙ places-here (0 + start) (meant p) _ k lt ∙ e
 
   first_wrong : (src : List ℕ) (place : ℕ) → escape quote src ≡ None → get_or (places_of (gives quote place 0 (92 ∷ src))) 0 0 ≡ place

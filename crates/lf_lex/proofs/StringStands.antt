@@ -11,7 +11,7 @@ use Rattle.std.proofs.lemmas.List.Concat.{flat_map-append}
 use Rattle.lf_base.specs.declared.kind.Kind.TheVariants.{OpenString, BadEscape}
 use Rattle.lf_lex.specs.declared.token.TokenKind.TheVariants as kinds
 use Rattle.lf_lex.specs.Strings.{IsQuote, Raw, One, Pair, raw, IsRaw, IsInner, Piece, piece_text, meant, in_quotes}
-use Rattle.lf_lex.specs.Parts.{IsLongest, Written}
+use Rattle.lf_lex.specs.Lexemes.{IsLongest, Written}
 use Rattle.lf_lex.specs.Breaches.{StopsString, line_ends, backslash_first, in_quotes as open_quotes, BeginsNoEscape, ReadsUpTo, IsWrongAt, no_escape, no_utf8}
 use Rattle.lf_lex.specs.reading.Strings.{closing}
 use Rattle.lf_lex.proofs.Longest.{greatest_longest}

@@ -8,7 +8,7 @@ use Rattle.lf_base.specs.declared.place.Span.{Span}
 use Rattle.lf_base.specs.declared.refusal.Refusal.{Refusal}
 use Rattle.lf_lex.specs.declared.token.Token.{Token}
 use Rattle.lf_lex.specs.declared.token.TokenKind.{TokenKind}
-use Rattle.lf_lex.specs.Parts.{Part, Blank, Comment, Written, part_text, IsPart, behind_part, behind_parts, AreParts}
+use Rattle.lf_lex.specs.Lexemes.{Lexeme, Blank, Comment, Written, lexeme_text, IsLexeme, behind_lexeme, behind_lexemes, AreLexemes}
 use Rattle.lf_lex.specs.Breaches.{IsBreach}
 use Rattle.lf_lex.specs.Tokens.{in_source, token_of, tokens_of, Tokens, Breaks}
 use Rattle.lf_base.specs.declared.fault.Fault.{Fault}
@@ -16,7 +16,7 @@ use Rattle.lf_base.specs.Answers.{Answers, Refused, OneAnswer}
 use Rattle.lf_base.proofs.Answering.{Decides}
 use Rattle.lf_lex.specs.reading.Steps.{next_token}
 use Rattle.lf_lex.specs.reading.Reads.{Reads, ends, goes_on, breaks, behind, tokens_at, with_front}
-use Rattle.lf_lex.proofs.FrontLaws.{found_of, part_reads, breach_reads, something_stands, part_some, breach_some}
+use Rattle.lf_lex.proofs.FrontLaws.{found_of, lexeme_reads, breach_reads, something_stands, lexeme_some, breach_some}
 use Rattle.lf_lex.proofs.Reading.{one_reading, fronts, answers_all}
 use Rattle.lf_lex.proofs.Standing.{Standing, stands, fails}
 
@@ -41,94 +41,94 @@ module _ (from : List ℕ) where
   front_breaks inside at [] fault lt e = absurd (omega arith)
   front_breaks inside at (b ∷ src) fault lt e = breaks fault e
 
-  same_behind : (part : Part) (inside : Bool) → behind (found_of part) inside ≡ behind_part part inside
+  same_behind : (lexeme : Lexeme) (inside : Bool) → behind (found_of lexeme) inside ≡ behind_lexeme lexeme inside
   same_behind (Blank b) inside = refl
   same_behind (Comment line) inside = refl
   same_behind (Written kind text) inside = refl
 
-  same_tokens : (part : Part) (span : Span) → tokens_at (found_of part) span ≡ token_of part span
+  same_tokens : (lexeme : Lexeme) (span : Span) → tokens_at (found_of lexeme) span ≡ token_of lexeme span
   same_tokens (Blank b) span = refl
   same_tokens (Comment line) span = refl
   same_tokens (Written kind text) span = refl
 
-  pub parts_read : (parts : List Part) (inside : Bool) (at : ℕ) (rest : List ℕ) (answer : Answer) → AreParts inside parts rest
-      → Reads from (behind_parts parts inside) (at + length (flat_map part_text parts)) rest answer → Reads from inside at (flat_map part_text parts ++ rest) (with_front (tokens_of from at parts) answer)
-  parts_read [] inside at rest answer are h =
+  pub lexemes_read : (lexemes : List Lexeme) (inside : Bool) (at : ℕ) (rest : List ℕ) (answer : Answer) → AreLexemes inside lexemes rest
+      → Reads from (behind_lexemes lexemes inside) (at + length (flat_map lexeme_text lexemes)) rest answer → Reads from inside at (flat_map lexeme_text lexemes ++ rest) (with_front (tokens_of from at lexemes) answer)
+  lexemes_read [] inside at rest answer are h =
       let e : at + 0 ≡ at = omega arith in
       subst (Reads from inside at rest) (sym (no_front answer)) (subst (λ (k : ℕ). Reads from inside k rest answer) e h)
     where
       no_front : (answer : Answer) → with_front [] answer ≡ answer
       no_front (Ok more) = refl
       no_front (Err fault) = refl
-  parts_read (part ∷ parts) inside at rest answer are h =
-      let text = part_text part in
-      let later = flat_map part_text parts ++ rest in
-      let whole : (text ++ flat_map part_text parts) ++ rest ≡ text ++ later = append_assoc text (flat_map part_text parts) rest in
-      let l = length-append text (flat_map part_text parts) in
-      let end : at + length (text ++ flat_map part_text parts) ≡ at + length text + length (flat_map part_text parts) = omega arith in
-      let again : Reads from (behind_part part inside) (at + length text) later (with_front (tokens_of from (at + length text) parts) answer) =
-      parts_read parts (behind_part part inside) (at + length text) rest answer are.1 (subst (λ (k : ℕ). Reads from (behind_parts parts (behind_part part inside)) k rest answer) end h) in
-      let some = part_some inside part later are.0 in
+  lexemes_read (lexeme ∷ lexemes) inside at rest answer are h =
+      let text = lexeme_text lexeme in
+      let later = flat_map lexeme_text lexemes ++ rest in
+      let whole : (text ++ flat_map lexeme_text lexemes) ++ rest ≡ text ++ later = append_assoc text (flat_map lexeme_text lexemes) rest in
+      let l = length-append text (flat_map lexeme_text lexemes) in
+      let end : at + length (text ++ flat_map lexeme_text lexemes) ≡ at + length text + length (flat_map lexeme_text lexemes) = omega arith in
+      let again : Reads from (behind_lexeme lexeme inside) (at + length text) later (with_front (tokens_of from (at + length text) lexemes) answer) =
+      lexemes_read lexemes (behind_lexeme lexeme inside) (at + length text) rest answer are.1 (subst (λ (k : ℕ). Reads from (behind_lexemes lexemes (behind_lexeme lexeme inside)) k rest answer) end h) in
+      let some = lexeme_some inside lexeme later are.0 in
       let m = length-append text later in
-      let front = part_reads from inside at part later are.0 in
-      let moved : Reads from (behind (found_of part) inside) (at + length text) (drop (length text) (text ++ later)) (with_front (tokens_of from (at + length text) parts) answer) =
-      subst (λ (i : Bool). Reads from i (at + length text) (drop (length text) (text ++ later)) (with_front (tokens_of from (at + length text) parts) answer)) (sym (same_behind part inside))
-      (subst (λ (x : List ℕ). Reads from (behind_part part inside) (at + length text) x (with_front (tokens_of from (at + length text) parts) answer)) (sym (drop_at text later (length text) refl)) again) in
-      let step = front_goes_on inside at (length text) (text ++ later) (found_of part) (with_front (tokens_of from (at + length text) parts) answer) (omega arith) front moved in
+      let front = lexeme_reads from inside at lexeme later are.0 in
+      let moved : Reads from (behind (found_of lexeme) inside) (at + length text) (drop (length text) (text ++ later)) (with_front (tokens_of from (at + length text) lexemes) answer) =
+      subst (λ (i : Bool). Reads from i (at + length text) (drop (length text) (text ++ later)) (with_front (tokens_of from (at + length text) lexemes) answer)) (sym (same_behind lexeme inside))
+      (subst (λ (x : List ℕ). Reads from (behind_lexeme lexeme inside) (at + length text) x (with_front (tokens_of from (at + length text) lexemes) answer)) (sym (drop_at text later (length text) refl)) again) in
+      let step = front_goes_on inside at (length text) (text ++ later) (found_of lexeme) (with_front (tokens_of from (at + length text) lexemes) answer) (omega arith) front moved in
       let span = in_source from at (at + length text) in
-      let joined : with_front (tokens_at (found_of part) span) (with_front (tokens_of from (at + length text) parts) answer) ≡ with_front (token_of part span ++ tokens_of from (at + length text) parts) answer =
-      ap (λ (x : List Token). with_front x (with_front (tokens_of from (at + length text) parts) answer)) (same_tokens part span) ∙ sym (fronts (token_of part span) (tokens_of from (at + length text) parts) answer) in
-      subst (λ (x : List ℕ). Reads from inside at x (with_front (token_of part span ++ tokens_of from (at + length text) parts) answer)) (sym whole)
+      let joined : with_front (tokens_at (found_of lexeme) span) (with_front (tokens_of from (at + length text) lexemes) answer) ≡ with_front (token_of lexeme span ++ tokens_of from (at + length text) lexemes) answer =
+      ap (λ (x : List Token). with_front x (with_front (tokens_of from (at + length text) lexemes) answer)) (same_tokens lexeme span) ∙ sym (fronts (token_of lexeme span) (tokens_of from (at + length text) lexemes) answer) in
+      subst (λ (x : List ℕ). Reads from inside at x (with_front (token_of lexeme span ++ tokens_of from (at + length text) lexemes) answer)) (sym whole)
       (subst (Reads from inside at (text ++ later)) joined step)
 
   pub tokens_read : (text : List ℕ) (tokens : List Token) → Tokens from text tokens → Reads from false 0 text (Ok tokens)
   tokens_read text tokens t =
-      let read = parts_read t.parts false 0 [] (Ok []) t.are_parts ends in
-      let answer : with_front (tokens_of from 0 t.parts) (Ok []) ≡ ok_tokens tokens = ap ok_tokens (append-nil (tokens_of from 0 t.parts) ∙ sym t.tokens_are) in
-      let source : flat_map part_text t.parts ++ [] ≡ text = append-nil (flat_map part_text t.parts) ∙ sym t.source in
-      subst (λ (x : List ℕ). Reads from false 0 x (Ok tokens)) source (subst (Reads from false 0 (flat_map part_text t.parts ++ [])) answer read)
+      let read = lexemes_read t.lexemes false 0 [] (Ok []) t.are_lexemes ends in
+      let answer : with_front (tokens_of from 0 t.lexemes) (Ok []) ≡ ok_tokens tokens = ap ok_tokens (append-nil (tokens_of from 0 t.lexemes) ∙ sym t.tokens_are) in
+      let source : flat_map lexeme_text t.lexemes ++ [] ≡ text = append-nil (flat_map lexeme_text t.lexemes) ∙ sym t.source in
+      subst (λ (x : List ℕ). Reads from false 0 x (Ok tokens)) source (subst (Reads from false 0 (flat_map lexeme_text t.lexemes ++ [])) answer read)
 
   pub breach_read : (text : List ℕ) (fault : Fault) → Breaks from text fault → Reads from false 0 text (Err fault)
   breach_read text fault b =
-      let at = length (flat_map part_text b.parts) in
-      let inside = behind_parts b.parts false in
+      let at = length (flat_map lexeme_text b.lexemes) in
+      let inside = behind_lexemes b.lexemes false in
       let z : 0 + at ≡ at = omega arith in
       let e : next_token from inside at b.rest ≡ Err fault = breach_reads from inside at b.rest fault.kind b.start b.end b.breach ∙ ap (λ (s : Span). Err (record { kind = fault.kind; span = s })) (sym b.span_is) in
       let here : Reads from inside at b.rest (Err fault) = front_breaks inside at b.rest fault (breach_some inside b.rest fault.kind b.start b.end b.breach) e in
-      let read = parts_read b.parts false 0 b.rest (Err fault) b.are_parts (subst (λ (k : ℕ). Reads from inside k b.rest (Err fault)) (sym z) here) in
+      let read = lexemes_read b.lexemes false 0 b.rest (Err fault) b.are_lexemes (subst (λ (k : ℕ). Reads from inside k b.rest (Err fault)) (sym z) here) in
       subst (λ (x : List ℕ). Reads from false 0 x (Err fault)) (sym b.source) read
 
 -- ---- each text has one of them
 
--- a text is parts, and then nothing or a breach
+-- a text is lexemes, and then nothing or a breach
 pub record Whole (inside : Bool) (src : List ℕ) : Type 0 where
-  pub parts : List Part
+  pub lexemes : List Lexeme
   pub rest : List ℕ
-  pub source : src ≡ flat_map part_text parts ++ rest
-  pub are_parts : AreParts inside parts rest
-  pub stops : (rest ≡ []) ⊎ ((kind : Kind) × (start : ℕ) × (end : ℕ) × IsBreach (behind_parts parts inside) rest kind start end)
+  pub source : src ≡ flat_map lexeme_text lexemes ++ rest
+  pub are_lexemes : AreLexemes inside lexemes rest
+  pub stops : (rest ≡ []) ⊎ ((kind : Kind) × (start : ℕ) × (end : ℕ) × IsBreach (behind_lexemes lexemes inside) rest kind start end)
 
-more_whole : (inside : Bool) (part : Part) (src rest : List ℕ) → src ≡ part_text part ++ rest → IsPart inside part rest → Whole (behind_part part inside) rest → Whole inside src
-more_whole inside part src rest e is w = record {
-  parts = part ∷ w.parts;
+more_whole : (inside : Bool) (lexeme : Lexeme) (src rest : List ℕ) → src ≡ lexeme_text lexeme ++ rest → IsLexeme inside lexeme rest → Whole (behind_lexeme lexeme inside) rest → Whole inside src
+more_whole inside lexeme src rest e is w = record {
+  lexemes = lexeme ∷ w.lexemes;
   rest = w.rest;
-  source = e ∙ ap (λ (x : List ℕ). part_text part ++ x) w.source ∙ sym (append_assoc (part_text part) (flat_map part_text w.parts) w.rest);
-  are_parts = (subst (IsPart inside part) w.source is, w.are_parts);
+  source = e ∙ ap (λ (x : List ℕ). lexeme_text lexeme ++ x) w.source ∙ sym (append_assoc (lexeme_text lexeme) (flat_map lexeme_text w.lexemes) w.rest);
+  are_lexemes = (subst (IsLexeme inside lexeme) w.source is, w.are_lexemes);
   stops = w.stops;
 }
 
 whole : (fuel : ℕ) (inside : Bool) (src : List ℕ) → length src < fuel → Whole inside src
 whole zero inside src lt = absurd (omega arith)
-whole (suc fuel) inside [] lt = record { parts = []; rest = []; source = refl; are_parts = tt; stops = inl refl }
+whole (suc fuel) inside [] lt = record { lexemes = []; rest = []; source = refl; are_lexemes = tt; stops = inl refl }
 whole (suc fuel) inside (b ∷ src) lt = by (λ i rest l. whole fuel i rest l) (something_stands inside b src)
   where
     by : ((i : Bool) (rest : List ℕ) → length rest < fuel → Whole i rest) → Standing inside (b ∷ src) → Whole inside (b ∷ src)
-    by again (stands part rest e is) =
-        let s = part_some inside part rest is in
+    by again (stands lexeme rest e is) =
+        let s = lexeme_some inside lexeme rest is in
         let l = ap length e in
-        let m = length-append (part_text part) rest in
-        more_whole inside part (b ∷ src) rest e is (again (behind_part part inside) rest (omega arith))
-    by again (fails kind start end is) = record { parts = []; rest = b ∷ src; source = refl; are_parts = tt; stops = inr (kind, start, end, is) }
+        let m = length-append (lexeme_text lexeme) rest in
+        more_whole inside lexeme (b ∷ src) rest e is (again (behind_lexeme lexeme inside) rest (omega arith))
+    by again (fails kind start end is) = record { lexemes = []; rest = b ∷ src; source = refl; are_lexemes = tt; stops = inr (kind, start, end, is) }
 
 module _ (from text : List ℕ) where
   tokens_or_breach : ((tokens : List Token) × Tokens from text tokens) ⊎ ((fault : Fault) × Breaks from text fault)
@@ -137,25 +137,25 @@ module _ (from text : List ℕ) where
       by : Whole false text → ((tokens : List Token) × Tokens from text tokens) ⊎ ((fault : Fault) × Breaks from text fault)
       by w = split w.stops
         where
-          split : (w.rest ≡ []) ⊎ ((kind : Kind) × (start : ℕ) × (end : ℕ) × IsBreach (behind_parts w.parts false) w.rest kind start end) → ((tokens : List Token) × Tokens from text tokens) ⊎ ((fault : Fault) × Breaks from text fault)
+          split : (w.rest ≡ []) ⊎ ((kind : Kind) × (start : ℕ) × (end : ℕ) × IsBreach (behind_lexemes w.lexemes false) w.rest kind start end) → ((tokens : List Token) × Tokens from text tokens) ⊎ ((fault : Fault) × Breaks from text fault)
           split (inl e) = inl (
-            tokens_of from 0 w.parts,
+            tokens_of from 0 w.lexemes,
             record {
-              parts = w.parts;
-              source = w.source ∙ ap (λ (x : List ℕ). flat_map part_text w.parts ++ x) e ∙ append-nil (flat_map part_text w.parts);
-              are_parts = subst (AreParts false w.parts) e w.are_parts;
+              lexemes = w.lexemes;
+              source = w.source ∙ ap (λ (x : List ℕ). flat_map lexeme_text w.lexemes ++ x) e ∙ append-nil (flat_map lexeme_text w.lexemes);
+              are_lexemes = subst (AreLexemes false w.lexemes) e w.are_lexemes;
               tokens_are = refl;
             },
           )
           split (inr (kind, start, end, is)) =
-              let at = length (flat_map part_text w.parts) in
+              let at = length (flat_map lexeme_text w.lexemes) in
               inr (
                 record { kind = kind; span = in_source from (at + start) (at + end) },
                 record {
-                  parts = w.parts;
+                  lexemes = w.lexemes;
                   rest = w.rest;
                   source = w.source;
-                  are_parts = w.are_parts;
+                  are_lexemes = w.are_lexemes;
                   start = start;
                   end = end;
                   breach = is;

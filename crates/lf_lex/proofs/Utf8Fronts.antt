@@ -5,7 +5,7 @@ use Rattle.std.proofs.lemmas.List.{take-append-le, take_all, take_at}
 use Rattle.std.proofs.lemmas.Str.{IsUtf8-nil, IsUtf8-from_is_utf8, is_utf8-from_IsUtf8, utf8_valid_len_le, utf8_valid_len-IsValidUpTo}
 use Rattle.std.specs.Str.{IsUtf8, is_utf8, IsValidUpTo}
 use Rattle.std.specs.Str.Lossy.{utf8_valid_len, valid_len_up_to}
-use Rattle.lf_lex.specs.Parts.{IsLongest}
+use Rattle.lf_lex.specs.Lexemes.{IsLongest}
 use Rattle.lf_lex.proofs.Longest.{Greatest, take_on}
 use Rattle.lf_lex.proofs.PieceLaws.{utf8_bytes}
 use Rattle.lf_laws.proofs.Members.{all_back}

@@ -3,9 +3,9 @@ use Rattle.std.proofs.Common.{◌≡◌, ◌≢◌, ℕ, zero, suc, Bool, true, 
 use Rattle.std.proofs.lemmas.Bool.{ne_eqb}
 use Rattle.lf_base.specs.Names.{is_digit}
 use Rattle.lf_lex.specs.Strings.{Piece, Bare, Escape, piece_text, meant}
-use Rattle.lf_lex.specs.reading.Strings.{both, two_digits, four_digits, eight_digits, octal_byte, as_byte, as_character, escape, piece, given, gives, bytes_of}
+use Rattle.lf_lex.specs.reading.Strings.{both, two_digits, four_digits, eight_digits, octal_byte, as_byte, as_character, escape, piece, placed, gives, bytes_of}
 use Rattle.lf_lex.specs.Strings.{byte_of_letter}
-use Rattle.lf_lex.proofs.Given.{bytes-more}
+use Rattle.lf_lex.proofs.PlacedBytes.{bytes-more}
 use Rattle.lf_lex.proofs.Options.{none_some}
 
 -- a piece, as it is read
@@ -105,7 +105,7 @@ bytes_past quote p (x ∷ xs) ys = bytes_past quote (suc p) xs ys
 
 pub bytes_first : (quote b : ℕ) (src xs : List ℕ) (k : ℕ) → piece quote (b ∷ src) ≡ (xs, k) → bytes_of (gives quote 0 0 (b ∷ src)) ≡ xs ++ bytes_of (gives quote 1 k src)
 unfolding gives
-bytes_first quote b src xs k e = ap (λ (p : List ℕ × ℕ). bytes_of (map (given 0) p.0 ++ gives quote 1 p.1 src)) e ∙ bytes-more 0 xs (gives quote 1 k src)
+bytes_first quote b src xs k e = ap (λ (p : List ℕ × ℕ). bytes_of (map (placed 0) p.0 ++ gives quote 1 p.1 src)) e ∙ bytes-more 0 xs (gives quote 1 k src)
 
 pub piece_bare : (quote b : ℕ) (src : List ℕ) → b ≢ 92 → piece quote (b ∷ src) ≡ (b ∷ [], 0)
 unfolding piece

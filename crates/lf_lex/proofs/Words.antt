@@ -3,7 +3,7 @@ use Rattle.std.proofs.Common.{◌≡◌, ℕ, suc, ◌+◌, ◌≤◌, Bool, tru
 use Rattle.std.proofs.lemmas.List.Sums.{prefix_len-le-length}
 use Rattle.std.specs.List.{prefix_len, list_all}
 use Rattle.lf_lex.specs.Bytes.{begins_word, is_in_word, is_continuation}
-use Rattle.lf_lex.specs.Parts.{IsWord}
+use Rattle.lf_lex.specs.Lexemes.{IsWord}
 use Rattle.lf_lex.specs.Breaches.{IsCharacter}
 use Rattle.lf_base.proofs.Rows.{row_all, row_bound}
 use Rattle.lf_lex.proofs.Longest.{Greatest}

@@ -19,7 +19,7 @@ use Rattle.lf_lex.specs.Signs.{spelling}
 use Rattle.lf_lex.specs.Runs.{begins_run, IsRun, IsNumber, lower_x, no_dot, one_dot, no_exponent, unsigned_exponent, signed_exponent, hexadecimal_number, decimal_number}
 use Rattle.lf_lex.specs.Durations.{Hours, Minutes, Seconds, Amount, AreAmounts, IsDuration, IsDisordered}
 use Rattle.lf_lex.specs.Strings.{IsString, in_quotes, in_back_quotes, One, Pair, IsRaw, Escape, Bare, byte_of_letter, hexadecimal_byte}
-use Rattle.lf_lex.specs.Parts.{IsLongest, IsWord, IsSomeSign, Blank, Comment, Written, IsPart}
+use Rattle.lf_lex.specs.Lexemes.{IsLongest, IsWord, IsSomeSign, Blank, Comment, Written, IsLexeme}
 use Rattle.lf_lex.specs.Breaches.{BeginsNothing, in_quotes as open_quotes, line_ends, BeginsNoEscape, no_escape, no_utf8}
 use Rattle.lf_lex.specs.Tokens.{Tokens, Breaks}
 use Rattle.lf_lex.specs.reading.Strings.{escape, octal_byte}
@@ -31,7 +31,7 @@ use Rattle.lf_lex.proofs.RunLaws.{run_greatest}
 use Rattle.lf_lex.proofs.SignLaws.{sign_is_at}
 use Rattle.lf_lex.proofs.NumberLaws.{number_read}
 use Rattle.lf_lex.proofs.DurationLaws.{no_amounts}
-use Rattle.lf_lex.proofs.PartFronts.{begins_nothing}
+use Rattle.lf_lex.proofs.LexemeFronts.{begins_nothing}
 use Rattle.lf_lex.proofs.StringFronts.{read_wrong}
 use Rattle.lf_lex.proofs.Utf8Fronts.{utf8_greatest}
 use Rattle.lf_lex.proofs.Heads.{first}
@@ -88,9 +88,9 @@ five_minutes = (record { digits = codes "5"; measure = Minutes } ∷ [], record 
 
 foo_range : Tokens (10 ∷ 11 ∷ 12 ∷ 13 ∷ 14 ∷ 15 ∷ 16 ∷ 17 ∷ []) (codes "foo[5m]") (word "foo" 10 13 ∷ sign signs.OpenBracket 13 14 ∷ duration "5m" 14 16 ∷ sign signs.CloseBracket 16 17 ∷ [])
 foo_range = record {
-  parts = Written (kinds.Word (codes "foo")) (codes "foo") ∷ Written (kinds.Sign signs.OpenBracket) (codes "[") ∷ Written (kinds.Duration (codes "5m")) (codes "5m") ∷ Written (kinds.Sign signs.CloseBracket) (codes "]") ∷ [];
+  lexemes = Written (kinds.Word (codes "foo")) (codes "foo") ∷ Written (kinds.Sign signs.OpenBracket) (codes "[") ∷ Written (kinds.Duration (codes "5m")) (codes "5m") ∷ Written (kinds.Sign signs.CloseBracket) (codes "]") ∷ [];
   source = refl;
-  are_parts = ((refl, foo_longest), (((refl, no_colon false signs.OpenBracket refl), bracket_longest), ((refl, minutes_longest, five_minutes), (((refl, no_colon true signs.CloseBracket refl), close_longest), tt))));
+  are_lexemes = ((refl, foo_longest), (((refl, no_colon false signs.OpenBracket refl), bracket_longest), ((refl, minutes_longest, five_minutes), (((refl, no_colon true signs.CloseBracket refl), close_longest), tt))));
   tokens_are = refl;
 }
 
@@ -114,9 +114,9 @@ b_inside = word_ends true 98 (codes "]") refl
 
 in_brackets : Tokens (0 ∷ 1 ∷ 2 ∷ 3 ∷ 4 ∷ 5 ∷ []) (codes "[a:b]") (sign signs.OpenBracket 0 1 ∷ word "a" 1 2 ∷ sign signs.Colon 2 3 ∷ word "b" 3 4 ∷ sign signs.CloseBracket 4 5 ∷ [])
 in_brackets = record {
-  parts = Written (kinds.Sign signs.OpenBracket) (codes "[") ∷ Written (kinds.Word (codes "a")) (codes "a") ∷ Written (kinds.Sign signs.Colon) (codes ":") ∷ Written (kinds.Word (codes "b")) (codes "b") ∷ Written (kinds.Sign signs.CloseBracket) (codes "]") ∷ [];
+  lexemes = Written (kinds.Sign signs.OpenBracket) (codes "[") ∷ Written (kinds.Word (codes "a")) (codes "a") ∷ Written (kinds.Sign signs.Colon) (codes ":") ∷ Written (kinds.Word (codes "b")) (codes "b") ∷ Written (kinds.Sign signs.CloseBracket) (codes "]") ∷ [];
   source = refl;
-  are_parts = (((refl, no_colon false signs.OpenBracket refl), open_first), ((refl, a_inside), (((refl, λ e. refl), colon_inside), ((refl, b_inside), (((refl, no_colon true signs.CloseBracket refl), close_longest), tt)))));
+  are_lexemes = (((refl, no_colon false signs.OpenBracket refl), open_first), ((refl, a_inside), (((refl, λ e. refl), colon_inside), ((refl, b_inside), (((refl, no_colon true signs.CloseBracket refl), close_longest), tt)))));
   tokens_are = refl;
 }
 
@@ -126,9 +126,9 @@ a_b_longest = word_ends false 97 (codes ":b") refl
 
 outside_brackets : Tokens (0 ∷ 1 ∷ 2 ∷ 3 ∷ []) (codes "a:b") (word "a:b" 0 3 ∷ [])
 outside_brackets = record {
-  parts = Written (kinds.Word (codes "a:b")) (codes "a:b") ∷ [];
+  lexemes = Written (kinds.Word (codes "a:b")) (codes "a:b") ∷ [];
   source = refl;
-  are_parts = ((refl, a_b_longest), tt);
+  are_lexemes = ((refl, a_b_longest), tt);
   tokens_are = refl;
 }
 
@@ -160,9 +160,9 @@ thirty_seconds = (record { digits = codes "30"; measure = Seconds } ∷ [], reco
 
 subquery : Tokens (0 ∷ 1 ∷ 2 ∷ 3 ∷ 4 ∷ 5 ∷ 6 ∷ 7 ∷ 8 ∷ 9 ∷ 10 ∷ 11 ∷ []) (codes "a:b[5m:30s]") (word "a:b" 0 3 ∷ sign signs.OpenBracket 3 4 ∷ duration "5m" 4 6 ∷ sign signs.Colon 6 7 ∷ duration "30s" 7 10 ∷ sign signs.CloseBracket 10 11 ∷ [])
 subquery = record {
-  parts = Written (kinds.Word (codes "a:b")) (codes "a:b") ∷ Written (kinds.Sign signs.OpenBracket) (codes "[") ∷ Written (kinds.Duration (codes "5m")) (codes "5m") ∷ Written (kinds.Sign signs.Colon) (codes ":") ∷ Written (kinds.Duration (codes "30s")) (codes "30s") ∷ Written (kinds.Sign signs.CloseBracket) (codes "]") ∷ [];
+  lexemes = Written (kinds.Word (codes "a:b")) (codes "a:b") ∷ Written (kinds.Sign signs.OpenBracket) (codes "[") ∷ Written (kinds.Duration (codes "5m")) (codes "5m") ∷ Written (kinds.Sign signs.Colon) (codes ":") ∷ Written (kinds.Duration (codes "30s")) (codes "30s") ∷ Written (kinds.Sign signs.CloseBracket) (codes "]") ∷ [];
   source = refl;
-  are_parts = ((refl, a_b_range), (((refl, no_colon false signs.OpenBracket refl), range_opens), ((refl, range_run, five_minutes), (((refl, λ e. refl), range_colon), ((refl, step_run, thirty_seconds), (((refl, no_colon true signs.CloseBracket refl), close_longest), tt))))));
+  are_lexemes = ((refl, a_b_range), (((refl, no_colon false signs.OpenBracket refl), range_opens), ((refl, range_run, five_minutes), (((refl, λ e. refl), range_colon), ((refl, step_run, thirty_seconds), (((refl, no_colon true signs.CloseBracket refl), close_longest), tt))))));
   tokens_are = refl;
 }
 
@@ -182,10 +182,10 @@ disordered = (record { digits = codes "5"; measure = Minutes } ∷ record { digi
 
 five_minutes_one_hour : Breaks (0 ∷ 1 ∷ 2 ∷ 3 ∷ 4 ∷ []) (codes "5m1h") (record { kind = BadDuration; span = record { start = 0; end = 4 } })
 five_minutes_one_hour = record {
-  parts = [];
+  lexemes = [];
   rest = codes "5m1h";
   source = refl;
-  are_parts = tt;
+  are_lexemes = tt;
   start = 0;
   end = 4;
   breach = (refl, (codes "5m1h", record { rest = []; source = refl; longest = disordered_run }, refl, disordered));
@@ -230,10 +230,10 @@ two_dots_no_amounts amounts a = no_amounts (codes "1..2") amounts refl a
 
 two_dots : Breaks (0 ∷ 1 ∷ 2 ∷ 3 ∷ 4 ∷ []) (codes "1..2") (record { kind = BadNumber; span = record { start = 0; end = 4 } })
 two_dots = record {
-  parts = [];
+  lexemes = [];
   rest = codes "1..2";
   source = refl;
-  are_parts = tt;
+  are_lexemes = tt;
   start = 0;
   end = 4;
   breach = (refl, (codes "1..2", record { rest = []; source = refl; longest = two_dots_run }, refl, two_dots_no_number, two_dots_no_amounts));
@@ -254,10 +254,10 @@ signed_no_amounts amounts a = no_amounts (codes "1e+5m") amounts refl a
 
 a_unit_behind_an_exponent : Breaks (0 ∷ 1 ∷ 2 ∷ 3 ∷ 4 ∷ 5 ∷ []) (codes "1e+5m") (record { kind = BadNumber; span = record { start = 0; end = 5 } })
 a_unit_behind_an_exponent = record {
-  parts = [];
+  lexemes = [];
   rest = codes "1e+5m";
   source = refl;
-  are_parts = tt;
+  are_lexemes = tt;
   start = 0;
   end = 5;
   breach = (refl, (codes "1e+5m", record { rest = []; source = refl; longest = signed_run }, refl, signed_no_number, signed_no_amounts));
@@ -289,14 +289,14 @@ c_longest = word_ends false 99 (codes " # d") refl
 two_signs : Tokens (0 ∷ 1 ∷ 2 ∷ 3 ∷ 4 ∷ 5 ∷ 6 ∷ 7 ∷ 8 ∷ 9 ∷ 10 ∷ 11 ∷ []) (codes "a=~b= c # d") (word "a" 0 1 ∷ sign signs.Matches 1 3 ∷ word "b" 3 4 ∷ sign signs.Is 4 5 ∷ word "c" 6 7 ∷ [])
 unfolding is_blank is_line_break
 two_signs = record {
-  parts = Written (kinds.Word (codes "a")) (codes "a") ∷ Written (kinds.Sign signs.Matches) (codes "=~") ∷ Written (kinds.Word (codes "b")) (codes "b") ∷ Written (kinds.Sign signs.Is) (codes "=") ∷ Blank 32 ∷ Written (kinds.Word (codes "c")) (codes "c") ∷ Blank 32 ∷ Comment (codes " d") ∷ [];
+  lexemes = Written (kinds.Word (codes "a")) (codes "a") ∷ Written (kinds.Sign signs.Matches) (codes "=~") ∷ Written (kinds.Word (codes "b")) (codes "b") ∷ Written (kinds.Sign signs.Is) (codes "=") ∷ Blank 32 ∷ Written (kinds.Word (codes "c")) (codes "c") ∷ Blank 32 ∷ Comment (codes " d") ∷ [];
   source = refl;
-  are_parts = ((refl, a_matches), (((refl, no_colon false signs.Matches refl), matches_longest), ((refl, b_longest), (((refl, no_colon false signs.Is refl), is_longest), (refl, ((refl, c_longest), (refl, ((refl, tt), tt))))))));
+  are_lexemes = ((refl, a_matches), (((refl, no_colon false signs.Matches refl), matches_longest), ((refl, b_longest), (((refl, no_colon false signs.Is refl), is_longest), (refl, ((refl, c_longest), (refl, ((refl, tt), tt))))))));
   tokens_are = refl;
 }
 
 -- a comment ends at a carriage return too
-return_ends : IsPart false (Comment (codes " b")) (13 ∷ codes "+ c")
+return_ends : IsLexeme false (Comment (codes " b")) (13 ∷ codes "+ c")
 unfolding is_line_break
 return_ends = (refl, refl)
 
@@ -328,10 +328,10 @@ two_bytes = in_quotes 34 (codes "\\xc3\\xa9") (inl refl) refl
 -- "a ends before its quote closes
 open_string : Breaks (0 ∷ 1 ∷ 2 ∷ []) (codes "\"a") (record { kind = OpenString; span = record { start = 0; end = 1 } })
 open_string = record {
-  parts = [];
+  lexemes = [];
   rest = codes "\"a";
   source = refl;
-  are_parts = tt;
+  are_lexemes = tt;
   start = 0;
   end = 1;
   breach = (refl, refl, open_quotes 34 (One 97 ∷ []) [] (inl refl) refl (bare 97 refl refl refl, tt) (line_ends tt));
@@ -346,10 +346,10 @@ no_byte = read_wrong 34 (inl refl) (codes "\\400") (codes "400", refl, refl)
 past_377 : Breaks (0 ∷ 1 ∷ 2 ∷ 3 ∷ 4 ∷ 5 ∷ 6 ∷ 7 ∷ []) (codes "\"a\\400\"") (record { kind = BadEscape; span = record { start = 2; end = 3 } })
 unfolding encode
 past_377 = record {
-  parts = [];
+  lexemes = [];
   rest = codes "\"a\\400\"";
   source = refl;
-  are_parts = tt;
+  are_lexemes = tt;
   start = 2;
   end = 3;
   breach = (
@@ -381,10 +381,10 @@ no_character = greatest_longest IsUtf8 (195 ∷ 98 ∷ []) (utf8_valid_len (195 
 ill_formed_first : Breaks (0 ∷ 1 ∷ 2 ∷ 3 ∷ 4 ∷ 5 ∷ 6 ∷ 7 ∷ 8 ∷ 9 ∷ []) (codes "\"\\xc3b\\q\"") (record { kind = BadEscape; span = record { start = 1; end = 2 } })
 unfolding hexadecimal_value
 ill_formed_first = record {
-  parts = [];
+  lexemes = [];
   rest = codes "\"\\xc3b\\q\"";
   source = refl;
-  are_parts = tt;
+  are_lexemes = tt;
   start = 1;
   end = 2;
   breach = (
@@ -419,10 +419,10 @@ lone_mark = begins_nothing false 33 [] refl (eqb-false 33 35 refl) refl refl (eq
 unknown_character : Breaks (0 ∷ 1 ∷ 2 ∷ 3 ∷ []) (codes "a !") (record { kind = BadByte; span = record { start = 2; end = 3 } })
 unfolding is_blank
 unknown_character = record {
-  parts = Written (kinds.Word (codes "a")) (codes "a") ∷ Blank 32 ∷ [];
+  lexemes = Written (kinds.Word (codes "a")) (codes "a") ∷ Blank 32 ∷ [];
   rest = codes "!";
   source = refl;
-  are_parts = ((refl, a_longest), (refl, tt));
+  are_lexemes = ((refl, a_longest), (refl, tt));
   start = 0;
   end = 1;
   breach = (refl, lone_mark);

@@ -11,11 +11,11 @@ use Rattle.lf_lex.specs.Signs.{spelling}
 use Rattle.lf_lex.specs.Runs.{IsRun, IsNumber}
 use Rattle.lf_lex.specs.Durations.{Amount, AreAmounts, IsDisordered}
 use Rattle.lf_lex.specs.Strings.{IsQuote, Raw, raw, IsRaw, IsInner, IsEscape, Piece, piece_text, meant, IsPiece}
-use Rattle.lf_lex.specs.Parts.{IsLongest, IsWord, EndsLine}
+use Rattle.lf_lex.specs.Lexemes.{IsLongest, IsWord, EndsLine}
 
 -- ---- a character that begins nothing
 
--- what parts of a text begin with
+-- what lexemes begin with
 pub data IsBeginning (inside : Bool) (text : List ℕ) : Type 0 where
   a_blank : (b : ℕ) → text ≡ b ∷ [] → is_blank b ≡ true → IsBeginning inside text
   a_comment : text ≡ 35 ∷ [] → IsBeginning inside text
@@ -30,7 +30,7 @@ abbrev pub IsCharacter : List ℕ → Type 0
 IsCharacter [] = ⊥
 IsCharacter (b ∷ more) = Each is_continuation more
 
--- The text begins with a character of `len` bytes, and with nothing that parts begin with.
+-- The text begins with a character of `len` bytes, and with nothing that a lexeme begins with.
 pub record BeginsNothing (inside : Bool) (src : List ℕ) (len : ℕ) : Type 0 where
   pub nothing : (text rest : List ℕ) → src ≡ text ++ rest → IsBeginning inside text → ⊥
   pub character : List ℕ

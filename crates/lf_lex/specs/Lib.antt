@@ -3,7 +3,7 @@ pub mod Signs
 pub mod Runs
 pub mod Durations
 pub mod Strings
-pub mod Parts
+pub mod Lexemes
 pub mod Breaches
 pub mod Tokens
 pub mod reading

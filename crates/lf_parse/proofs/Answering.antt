@@ -16,7 +16,7 @@ use Rattle.lf_base.specs.Answers.{Breach, Found, AnswersAs, OneAnswer, Only, Ref
 use Rattle.lf_base.specs.Faults.{fault}
 use Rattle.lf_base.proofs.Answering.{Decides, breach, found, one_answer, only, refused, refused_in}
 use Rattle.lf_ast.specs.Inside.{Inside}
-use Rattle.lf_parse.specs.Tokens.{Tok, shown}
+use Rattle.lf_parse.specs.Tokens.{MarkedToken, marked}
 use Rattle.lf_ast.specs.Tree.{Tree, tree}
 use Rattle.lf_parse.specs.Grammar.{Parses, IsViable}
 use Rattle.lf_parse.specs.reading.Machine.{State, step, finish, start, run, accept, at_end, reading_from, reading}
@@ -35,34 +35,34 @@ use Rattle.lf_parse.proofs.Prefix.{viable_run, stuck_run}
 record Stuck (s : State) (ts : List Token) (n : ℕ) : Type 0 where
   within : n ≤ length ts
   last : State
-  runs : run s (map shown (take n ts)) ≡ Some last
-  here : n < length ts → run s (map shown (take (suc n) ts)) ≡ None
-  none : accept s (map shown ts) ≡ None
+  runs : run s (map marked (take n ts)) ≡ Some last
+  here : n < length ts → run s (map marked (take (suc n) ts)) ≡ None
+  none : accept s (map marked ts) ≡ None
 
 abbrev Tells : ℕ → State → List Token → Result Tree ℕ → Type 0
-Tells k s ts (Ok e) = accept s (map shown ts) ≡ Some e
+Tells k s ts (Ok e) = accept s (map marked ts) ≡ Some e
 Tells k s ts (Err j) = (n : ℕ) × (j ≡ k + n) × Stuck s ts n
 
 tells_end : (k : ℕ) (s : State) (o : Option Tree) → finish s ≡ o → Tells k s [] (at_end k o)
 tells_end k s (Some e) h = h
 tells_end k s None h = (0, omega arith, record { within = omega arith; last = s; runs = refl; here = λ l. absurd (omega arith); none = h })
 
-tells_more : (k : ℕ) (s s' : State) (t : Token) (ts : List Token) (r : Result Tree ℕ) → step s (shown t) ≡ Some s' → Tells (k + 1) s' ts r → Tells k s (t ∷ ts) r
-tells_more k s s' t ts (Ok e) h i = ap (option_and_then (λ x. accept x (map shown ts))) h ∙ i
+tells_more : (k : ℕ) (s s' : State) (t : Token) (ts : List Token) (r : Result Tree ℕ) → step s (marked t) ≡ Some s' → Tells (k + 1) s' ts r → Tells k s (t ∷ ts) r
+tells_more k s s' t ts (Ok e) h i = ap (option_and_then (λ x. accept x (map marked ts))) h ∙ i
 tells_more k s s' t ts (Err j) h (n, e, stuck) = (
   suc n,
   omega arith,
   record {
     within = omega (arith, stuck.within);
     last = stuck.last;
-    runs = ap (option_and_then (λ x. run x (map shown (take n ts)))) h ∙ stuck.runs;
-    here = λ l. ap (option_and_then (λ x. run x (map shown (take (suc n) ts)))) h ∙ stuck.here (omega arith);
-    none = ap (option_and_then (λ x. accept x (map shown ts))) h ∙ stuck.none;
+    runs = ap (option_and_then (λ x. run x (map marked (take n ts)))) h ∙ stuck.runs;
+    here = λ l. ap (option_and_then (λ x. run x (map marked (take (suc n) ts)))) h ∙ stuck.here (omega arith);
+    none = ap (option_and_then (λ x. accept x (map marked ts))) h ∙ stuck.none;
   },
 )
 
-tells_step : (k : ℕ) (s : State) (t : Token) (ts : List Token) (o : Option State) → step s (shown t) ≡ o → ((s' : State) → Tells (k + 1) s' ts (reading_from (k + 1) s' (map shown ts))) → Tells k s (t ∷ ts) (elim o [ None ↦ Err k | Some s' ↦ reading_from (k + 1) s' (map shown ts) ])
-tells_step k s t ts (Some s') h i = tells_more k s s' t ts (reading_from (k + 1) s' (map shown ts)) h (i s')
+tells_step : (k : ℕ) (s : State) (t : Token) (ts : List Token) (o : Option State) → step s (marked t) ≡ o → ((s' : State) → Tells (k + 1) s' ts (reading_from (k + 1) s' (map marked ts))) → Tells k s (t ∷ ts) (elim o [ None ↦ Err k | Some s' ↦ reading_from (k + 1) s' (map marked ts) ])
+tells_step k s t ts (Some s') h i = tells_more k s s' t ts (reading_from (k + 1) s' (map marked ts)) h (i s')
 tells_step k s t ts None h i = (
   0,
   omega arith,
@@ -71,13 +71,13 @@ tells_step k s t ts None h i = (
     last = s;
     runs = refl;
     here = λ l. ap (option_and_then (λ x. run x [])) h;
-    none = ap (option_and_then (λ x. accept x (map shown ts))) h;
+    none = ap (option_and_then (λ x. accept x (map marked ts))) h;
   },
 )
 
-tells : (ts : List Token) (k : ℕ) (s : State) → Tells k s ts (reading_from k s (map shown ts))
+tells : (ts : List Token) (k : ℕ) (s : State) → Tells k s ts (reading_from k s (map marked ts))
 tells [] k s = tells_end k s (finish s) refl
-tells (t ∷ ts) k s = tells_step k s t ts (step s (shown t)) refl (λ s'. tells ts (k + 1) s')
+tells (t ∷ ts) k s = tells_step k s t ts (step s (marked t)) refl (λ s'. tells ts (k + 1) s')
 
 -- ---- places of Syntax
 
@@ -98,7 +98,7 @@ viable_parse : (ts : List Token) (e : Tree) → Parses ts e → IsViable ts
 viable_parse ts e d = ([], e, rw append-nil d)
 
 abbrev read : List Token → Result Tree ℕ
-read ts = reading (map shown ts)
+read ts = reading (map marked ts)
 
 -- a place that is told
 pub syntax_told : (ts : List Token) (k : ℕ) → read ts ≡ Err k → SyntaxAt ts k
@@ -111,11 +111,11 @@ syntax_told ts k h = go (subst (Tells 0 start ts) h (tells ts 0 start))
           within = stuck.within;
           before = viable_run (take n ts) stuck.last stuck.runs;
           here = λ l. stuck_run (take (n + 1) ts) (rw add-one (stuck.here l));
-          end = λ l x d. let e' = sym (complete (map shown ts) x d) ∙ stuck.none in cc;
+          end = λ l x d. let e' = sym (complete (map marked ts) x d) ∙ stuck.none in cc;
         })
 
 parses_told : (ts : List Token) (e : Tree) → read ts ≡ Ok e → Parses ts e
-parses_told ts e h = sound (map shown ts) e (subst (Tells 0 start ts) h (tells ts 0 start))
+parses_told ts e h = sound (map marked ts) e (subst (Tells 0 start ts) h (tells ts 0 start))
 
 -- two places are one
 syntax_before : (ts : List Token) (j k : ℕ) → SyntaxAt ts j → SyntaxAt ts k → j < k → ⊥
@@ -137,7 +137,7 @@ syntax_none ts e k d a =
 
 -- no list of tokens has two trees
 pub one_tree : (ts : List Token) (e f : Tree) → Parses ts e → Parses ts f → e ≡ f
-one_tree ts e f d g = let p = sym (complete (map shown ts) e d) ∙ complete (map shown ts) f g in cc
+one_tree ts e f d g = let p = sym (complete (map marked ts) e d) ∙ complete (map marked ts) f g in cc
 
 deep_before : (ts : List Token) (j k : ℕ) → TooDeepAt ts j → TooDeepAt ts k → j < k → ⊥
 deep_before ts j k a b l = let p = sym a.here ∙ b.before (j + 1) (omega arith) in cc
@@ -235,25 +235,25 @@ place_end (x ∷ ts) end (suc k) h = place_end ts end k (omega arith)
 
 -- what is read from token k on
 abbrev pub ReadsFrom : List Token → ℕ → State → Type 0
-ReadsFrom ts k s = reading_from k s (map shown (drop k ts)) ≡ reading (map shown ts)
+ReadsFrom ts k s = reading_from k s (map marked (drop k ts)) ≡ reading (map marked ts)
 
-abbrev stepped : ℕ → List Tok → Option State → Result Tree ℕ
+abbrev stepped : ℕ → List MarkedToken → Option State → Result Tree ℕ
 stepped k ts o = elim o [ None ↦ Err k | Some s' ↦ reading_from (k + 1) s' ts ]
 
-reads_step : (ts : List Token) (k : ℕ) (t : Token) (s : State) (o : Option State) → k < length ts → t ≡ get_or ts k t → ReadsFrom ts k s → o ≡ step s (shown t) → stepped k (map shown (drop (k + 1) ts)) o ≡ reading (map shown ts)
+reads_step : (ts : List Token) (k : ℕ) (t : Token) (s : State) (o : Option State) → k < length ts → t ≡ get_or ts k t → ReadsFrom ts k s → o ≡ step s (marked t) → stepped k (map marked (drop (k + 1) ts)) o ≡ reading (map marked ts)
 reads_step ts k t s o h i r e =
-    let here = at_drop_more (λ l. reading_from k s (map shown l)) ts k t h in
-    let same = ap (λ x. stepped k (map shown (drop (k + 1) ts)) (step s (shown x))) i in
-    ap (stepped k (map shown (drop (k + 1) ts))) e ∙ same ∙ sym here ∙ r
+    let here = at_drop_more (λ l. reading_from k s (map marked l)) ts k t h in
+    let same = ap (λ x. stepped k (map marked (drop (k + 1) ts)) (step s (marked x))) i in
+    ap (stepped k (map marked (drop (k + 1) ts))) e ∙ same ∙ sym here ∙ r
 
-pub answer_stuck : (ts : List Token) (end k : ℕ) (t : Token) (s : State) → k < length ts → t ≡ get_or ts k t → ReadsFrom ts k s → None ≡ step s (shown t) → answer ts end ≡ Err (fault Syntax t.span)
+pub answer_stuck : (ts : List Token) (end k : ℕ) (t : Token) (s : State) → k < length ts → t ≡ get_or ts k t → ReadsFrom ts k s → None ≡ step s (marked t) → answer ts end ≡ Err (fault Syntax t.span)
 answer_stuck ts end k t s h i r e =
     let here = ap (placed ts end) (reads_step ts k t s None h i r e) in
     let same = ap (λ (x : Token). x.span) i ∙ sym (place_at ts end k t h) in
     sym (ap (λ p. Err (fault Syntax p)) same ∙ here)
 
-reads_end : (ts : List Token) (k : ℕ) (s : State) (o : Option Tree) → length ts ≤ k → ReadsFrom ts k s → o ≡ finish s → at_end k o ≡ reading (map shown ts)
-reads_end ts k s o h r e = ap (at_end k) e ∙ sym (at_drop_all (λ l. reading_from k s (map shown l)) ts k h) ∙ r
+reads_end : (ts : List Token) (k : ℕ) (s : State) (o : Option Tree) → length ts ≤ k → ReadsFrom ts k s → o ≡ finish s → at_end k o ≡ reading (map marked ts)
+reads_end ts k s o h r e = ap (at_end k) e ∙ sym (at_drop_all (λ l. reading_from k s (map marked l)) ts k h) ∙ r
 
 pub answer_end : (ts : List Token) (end k : ℕ) (s : State) → length ts ≤ k → ReadsFrom ts k s → None ≡ finish s → answer ts end ≡ Err (fault Syntax (record { start = end; end = end }))
 answer_end ts end k s h r i = sym (ap (λ p. Err (fault Syntax p)) (sym (place_end ts end k h)) ∙ ap (placed ts end) (reads_end ts k s None h r i))

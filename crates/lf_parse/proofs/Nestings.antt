@@ -4,7 +4,7 @@ use Rattle.std.proofs.lemmas.Bool.Decides.{nat_tests}
 use Rattle.std.proofs.lemmas.List.Sums.{fold_more}
 use Rattle.lf_lex.specs.declared.token.Token.{Token}
 use Rattle.lf_lex.specs.declared.token.Sign.TheVariants.{OpenParen, CloseParen, OpenBrace, CloseBrace, Comma}
-use Rattle.lf_parse.specs.Tokens.{Sign, Tok, ◌at◌, shown}
+use Rattle.lf_parse.specs.Tokens.{Sign, MarkedToken, ◌at◌, marked}
 use Rattle.lf_parse.specs.Depth.{IsBounded, Nesting, TooDeepAt, closed, counted, counts, nested, surface, nesting, is_too_deep}
 
 closed_braces : (ks : List ℕ) (n : Nesting) → (closed ks n).braces ≤ n.braces + 1
@@ -12,7 +12,7 @@ closed_braces [] n = omega arith
 closed_braces (k ∷ ks) n = omega arith
 
 -- a token opens one brace at most
-pub braces_rise : (n : Nesting) (t : Tok) → (nested n t).braces ≤ n.braces + 1
+pub braces_rise : (n : Nesting) (t : MarkedToken) → (nested n t).braces ≤ n.braces + 1
 braces_rise n (Sign OpenParen at p) = omega arith
 braces_rise n (Sign CloseParen at p) = closed_braces n.around n
 braces_rise n (Sign OpenBrace at p) = omega arith
@@ -21,8 +21,8 @@ braces_rise n (Sign Comma at p) = omega arith
 braces_rise n (m at p) = omega arith
 
 -- one more token
-pub nesting_more : (ts : List Token) (k : ℕ) (t : Token) → k < length ts → nesting (take (k + 1) ts) ≡ nested (nesting (take k ts)) (shown (get_or ts k t))
-nesting_more ts k t h = fold_more (λ n t. nested n (shown t)) surface ts k t h
+pub nesting_more : (ts : List Token) (k : ℕ) (t : Token) → k < length ts → nesting (take (k + 1) ts) ≡ nested (nesting (take k ts)) (marked (get_or ts k t))
+nesting_more ts k t h = fold_more (λ n t. nested n (marked t)) surface ts k t h
 
 -- none of the first tokens passes a bound
 abbrev pub IsShallow : List Token → ℕ → Type 0
@@ -34,8 +34,8 @@ split j k h = elim (nat_lt k j) as (λ b. nat_lt k j ≡ b → (j ≤ k) ⊎ (j 
 pub shallow_more : (ts : List Token) (k : ℕ) → IsShallow ts k → is_too_deep (nesting (take (k + 1) ts)) ≡ false → IsShallow ts (k + 1)
 shallow_more ts k h i j l = elim (split j k l) [ inl a ↦ h j a | inr a ↦ ap (λ m. is_too_deep (nesting (take m ts))) a ∙ i ]
 
-pub step_more : (ts : List Token) (k : ℕ) (t : Token) (n m : Nesting) (s : Tok) → k < length ts → t ≡ get_or ts k t → n ≡ nesting (take k ts) → m ≡ nested n s → s ≡ shown t → m ≡ nesting (take (k + 1) ts)
-step_more ts k t n m s h i e f g = let more = nesting_more ts k t h in let same = ap (λ x. nested (nesting (take k ts)) (shown x)) i in f ∙ ap (λ x. nested x s) e ∙ ap (λ x. nested (nesting (take k ts)) x) g ∙ same ∙ sym more
+pub step_more : (ts : List Token) (k : ℕ) (t : Token) (n m : Nesting) (s : MarkedToken) → k < length ts → t ≡ get_or ts k t → n ≡ nesting (take k ts) → m ≡ nested n s → s ≡ marked t → m ≡ nesting (take (k + 1) ts)
+step_more ts k t n m s h i e f g = let more = nesting_more ts k t h in let same = ap (λ x. nested (nesting (take k ts)) (marked x)) i in f ∙ ap (λ x. nested x s) e ∙ ap (λ x. nested (nesting (take k ts)) x) g ∙ same ∙ sym more
 
 surface_shallow : (ts : List Token) (j : ℕ) → j ≤ 0 → is_too_deep (nesting (take j ts)) ≡ false
 surface_shallow ts zero l = refl
@@ -88,7 +88,7 @@ counted_weight one n = by (one && nat_eq n.braces 0)
     by false = one_more (weighs n.here n.around)
 
 -- a token adds one at most
-weight_rises : (n : Nesting) (t : Tok) → weight (nested n t) ≤ weight n + 1
+weight_rises : (n : Nesting) (t : MarkedToken) → weight (nested n t) ≤ weight n + 1
 weight_rises n (Sign OpenParen at p) = let x : 0 + 1 + weighs n.here n.around ≤ weighs n.here n.around + 1 = omega arith in x
 weight_rises n (Sign CloseParen at p) = no_less (weight (closed n.around n)) (weight n) (closed_weight n.around n)
 weight_rises n (Sign OpenBrace at p) = one_more (weight n)
@@ -100,7 +100,7 @@ weight_more : (ts : List Token) (k : ℕ) (t : Token) → k < length ts → weig
 weight_more ts k t h w =
     let P : Nesting → Type 0 = λ n. weight n ≤ k + 1 in
     let n = nesting (take k ts) in
-    subst P (sym (nesting_more ts k t h)) (past (weight (nested n (shown (get_or ts k t)))) (weight n) k (weight_rises n (shown (get_or ts k t))) w)
+    subst P (sym (nesting_more ts k t h)) (past (weight (nested n (marked (get_or ts k t)))) (weight n) k (weight_rises n (marked (get_or ts k t))) w)
 
 weight_within : (ts : List Token) (k : ℕ) → k ≤ length ts → weight (nesting (take k ts)) ≤ k
 weight_within ts zero h = let x : 0 ≤ 0 = omega arith in x

@@ -18,10 +18,10 @@ use Rattle.lf_lex.specs.declared.token.Token.{Token}
 use Rattle.lf_lex.specs.declared.token.TokenKind.TheVariants as kinds
 use Rattle.lf_parse.specs.declared.class.Edge.{Edge as EdgeOf}
 use Rattle.lf_parse.specs.declared.class.Clause.{Clause}
-use Rattle.lf_parse.specs.Tokens.{Sign, Tok, ◌at◌, shown}
+use Rattle.lf_parse.specs.Tokens.{Sign, MarkedToken, ◌at◌, marked}
 use Rattle.lf_ast.specs.Tree.{Tree, Number, Paren, Unary, Binary, Aggregate, Trees, Nil, span_of, with_last}
 use Rattle.lf_parse.specs.Grammar.{to, up_to, behind, unmatched, matcher, stepped, edge_text, OffsetBy, AtTime, with_mod, grouping, IsViable}
-use Rattle.lf_parse.specs.reading.Machine.{Names, Opening, NextName, AfterName, names_step, Braces, NextMatcher, AfterLabel, AfterSign, AfterMatcher, Stage, Begin, AfterBool, InLabels, AfterLabels, AfterGroup, InInclude, modifier, group_modifier, Part, AfterOffset, AfterOffsetMinus, AfterAt, AfterAtSign, AfterEdge, InEdge, Head, OfAggregate, OfGrouped, Frame, LeftOf, Signed, InParen, InArgs, Subject, OfSubquery, Operand, Whole, Selected, Seen, operand_tree, operand_end, Mode, ExpectOperand, First, ExpectOperator, Modifying, InBraces, InMod, AfterBracket, AfterRange, AfterColon, AfterStep, AfterAggregation, InGrouping, AfterGrouping, InGroupingBehind, State, Held, state, reduce, applied, close, ended, run, step, start, accept}
+use Rattle.lf_parse.specs.reading.Machine.{Names, Opening, NextName, AfterName, names_step, Braces, NextMatcher, AfterLabel, AfterSign, AfterMatcher, Stage, Begin, AfterBool, InLabels, AfterLabels, AfterGroup, InInclude, modifier, group_modifier, ModStage, AfterOffset, AfterOffsetMinus, AfterAt, AfterAtSign, AfterEdge, InEdge, Callee, OfAggregate, OfGrouped, ParserFrame, LeftOf, Signed, InParen, InArgs, Subject, OfSubquery, Operand, Whole, Selected, Sighted, operand_tree, operand_end, ParserMode, ExpectOperand, First, ExpectOperator, Modifying, InBraces, InMod, AfterBracket, AfterRange, AfterColon, AfterStep, AfterAggregation, InGrouping, AfterGrouping, InGroupingBehind, State, Held, state, reduce, applied, close, ended, run, step, start, accept}
 use Rattle.lf_parse.proofs.Levels.{level-ge}
 use Rattle.lf_parse.proofs.Complete.{complete, accept_step, reduce_left, reduce_sign, close_law, told, labels_told, include_told, grouping_told, behind_told}
 use Rattle.lf_parse.proofs.Sound.{sound}
@@ -51,7 +51,7 @@ abbrev a_string : Token
 a_string = record { kind = kinds.Str []; span = z }
 
 -- what closes the parentheses that are open
-abbrev closers : List Frame → List Token
+abbrev closers : List ParserFrame → List Token
 closers [] = []
 closers (LeftOf o p m a ∷ fs) = closers fs
 closers (Signed neg p ∷ fs) = closers fs
@@ -60,42 +60,42 @@ closers (InArgs h xs ∷ fs) = a_sign CloseParen ∷ closers fs
 
 -- some tokens lead from the state to the end
 abbrev Done : State → Type 0
-Done s = (more : List Token) × (e : Tree) × (accept s (map shown more) ≡ Some e)
+Done s = (more : List Token) × (e : Tree) × (accept s (map marked more) ≡ Some e)
 
-ends_step : (s s' : State) (t : Token) → step s (shown t) ≡ Some s' → Done s' → Done s
-ends_step s s' t h (more, e, g) = (t ∷ more, e, accept_step s s' (shown t) (map shown more) h ∙ g)
+ends_step : (s s' : State) (t : Token) → step s (marked t) ≡ Some s' → Done s' → Done s
+ends_step s s' t h (more, e, g) = (t ∷ more, e, accept_step s s' (marked t) (map marked more) h ∙ g)
 
 -- what `)` and the end do once the operators are trees
-abbrev settle : Held → List Tok → Option Tree
+abbrev settle : Held → List MarkedToken → Option Tree
 settle h [] = ended h.frames h.tree
 settle h ((m at p) ∷ ts) = option_and_then (λ s. accept s ts) (close p h.frames h.tree)
 
-accept_closers : (fs : List Frame) (x : Operand) (gs : List Frame) → accept (state fs (ExpectOperator x)) (map shown (closers gs)) ≡ settle (reduce 1 (operand_end x) fs (operand_tree x)) (map shown (closers gs))
+accept_closers : (fs : List ParserFrame) (x : Operand) (gs : List ParserFrame) → accept (state fs (ExpectOperator x)) (map marked (closers gs)) ≡ settle (reduce 1 (operand_end x) fs (operand_tree x)) (map marked (closers gs))
 accept_closers fs x [] = refl
 accept_closers fs x (LeftOf o p m a ∷ gs) = accept_closers fs x gs
 accept_closers fs x (Signed neg p ∷ gs) = accept_closers fs x gs
-accept_closers fs x (InParen p ∷ gs) = ap (option_and_then (λ s. accept s (map shown (closers gs)))) (close_law z fs x)
-accept_closers fs x (InArgs h xs ∷ gs) = ap (option_and_then (λ s. accept s (map shown (closers gs)))) (close_law z fs x)
+accept_closers fs x (InParen p ∷ gs) = ap (option_and_then (λ s. accept s (map marked (closers gs)))) (close_law z fs x)
+accept_closers fs x (InArgs h xs ∷ gs) = ap (option_and_then (λ s. accept s (map marked (closers gs)))) (close_law z fs x)
 
-ends_settle : (fs : List Frame) (n : ℕ) (e : Tree) → (x : Tree) × (settle (reduce 1 n fs e) (map shown (closers fs)) ≡ Some x)
+ends_settle : (fs : List ParserFrame) (n : ℕ) (e : Tree) → (x : Tree) × (settle (reduce 1 n fs e) (map marked (closers fs)) ≡ Some x)
 ends_settle [] n e = (e, refl)
-ends_settle (LeftOf o p m a ∷ fs) n e = let y = ends_settle fs n (Binary o m a e p) in (y.0, ap (λ h. settle h (map shown (closers fs))) (reduce_left 1 n o p m a fs e (level-ge o)) ∙ y.1)
-ends_settle (Signed neg p ∷ fs) n e = let y = ends_settle fs n (Unary neg e (up_to p n)) in (y.0, ap (λ h. settle h (map shown (closers fs))) (reduce_sign 1 n neg p fs e (omega arith)) ∙ y.1)
+ends_settle (LeftOf o p m a ∷ fs) n e = let y = ends_settle fs n (Binary o m a e p) in (y.0, ap (λ h. settle h (map marked (closers fs))) (reduce_left 1 n o p m a fs e (level-ge o)) ∙ y.1)
+ends_settle (Signed neg p ∷ fs) n e = let y = ends_settle fs n (Unary neg e (up_to p n)) in (y.0, ap (λ h. settle h (map marked (closers fs))) (reduce_sign 1 n neg p fs e (omega arith)) ∙ y.1)
 ends_settle (InParen p ∷ fs) n e = let x = Paren e (to p z) in let y = ends_settle fs 0 x in (y.0, accept_closers fs (Whole x 0) fs ∙ y.1)
 ends_settle (InArgs h xs ∷ fs) n e = let x = applied h (with_last xs e) z in let y = ends_settle fs (operand_end x) (operand_tree x) in (y.0, accept_closers fs x fs ∙ y.1)
 
-ends_have : (fs : List Frame) (x : Operand) → Done (state fs (ExpectOperator x))
+ends_have : (fs : List ParserFrame) (x : Operand) → Done (state fs (ExpectOperator x))
 ends_have fs x = let y = ends_settle fs (operand_end x) (operand_tree x) in (closers fs, y.0, accept_closers fs x fs ∙ y.1)
 
-ends_want : (fs : List Frame) → Done (state fs ExpectOperand)
+ends_want : (fs : List ParserFrame) → Done (state fs ExpectOperand)
 ends_want fs = let x = Whole (Number zero_text z) 0 in ends_step (state fs ExpectOperand) (state fs (ExpectOperator x)) a_number refl (ends_have fs x)
 
-ends_first : (fs : List Frame) (h : Head) → Done (state fs (First h))
+ends_first : (fs : List ParserFrame) (h : Callee) → Done (state fs (First h))
 ends_first fs h = ends_step (state fs (First h)) (state fs (ExpectOperator (applied h Nil z))) (a_sign CloseParen) refl (ends_have fs (applied h Nil z))
 
 -- ---- lists of labels
 
-module _ (inside : Names → State) (done : List NameOf → Span → State) (law : (n : Names) (t : Tok) → step (inside n) t ≡ told inside done (names_step n t)) (after : (xs : List NameOf) (c : Span) → Done (done xs c)) where
+module _ (inside : Names → State) (done : List NameOf → Span → State) (law : (n : Names) (t : MarkedToken) → step (inside n) t ≡ told inside done (names_step n t)) (after : (xs : List NameOf) (c : Span) → Done (done xs c)) where
   ends_next_name : (xs : List NameOf) → Done (inside (NextName xs))
   ends_next_name xs = ends_step (inside (NextName xs)) (done xs z) (a_sign CloseParen) (law (NextName xs) (Sign CloseParen at z)) (after xs z)
 
@@ -106,7 +106,7 @@ module _ (inside : Names → State) (done : List NameOf → Span → State) (law
 
 -- ---- the modifier of an operator
 
-module _ (fs : List Frame) (o : Op) (p : Span) (a : Tree) where
+module _ (fs : List ParserFrame) (o : Op) (p : Span) (a : Tree) where
   abbrev here : Stage → State
   here st = state fs (Modifying o p a st)
 
@@ -114,7 +114,7 @@ module _ (fs : List Frame) (o : Op) (p : Span) (a : Tree) where
   ends_operand m = ends_want (LeftOf o p m a ∷ fs)
 
   -- a number is an operand
-  ends_pass : (st : Stage) (m : MatchingOf) → step (here st) (shown a_number) ≡ Some (state (LeftOf o p m a ∷ fs) (ExpectOperator (Whole (Number zero_text z) 0))) → Done (here st)
+  ends_pass : (st : Stage) (m : MatchingOf) → step (here st) (marked a_number) ≡ Some (state (LeftOf o p m a ∷ fs) (ExpectOperator (Whole (Number zero_text z) 0))) → Done (here st)
   ends_pass st m h = ends_step (here st) (state (LeftOf o p m a ∷ fs) (ExpectOperator (Whole (Number zero_text z) 0))) a_number h (ends_have (LeftOf o p m a ∷ fs) (Whole (Number zero_text z) 0))
 
   ends_stage : (st : Stage) → Done (here st)
@@ -129,7 +129,7 @@ module _ (fs : List Frame) (o : Op) (p : Span) (a : Tree) where
 
 -- ---- selectors and what comes behind them
 
-module _ (fs : List Frame) (nm : Option (List ℕ)) (p : Span) where
+module _ (fs : List ParserFrame) (nm : Option (List ℕ)) (p : Span) where
   abbrev braces : Braces → State
   braces b = state fs (InBraces nm p b)
 
@@ -148,30 +148,30 @@ module _ (fs : List Frame) (nm : Option (List ℕ)) (p : Span) where
   ends_braces (AfterSign xs n o) = ends_after_sign xs n o
   ends_braces (AfterMatcher xs) = ends_after_matcher xs
 
-module _ (fs : List Frame) (x : Subject) (s : Sight) (p : Span) where
-  abbrev part_state : Part → State
-  part_state part = state fs (InMod x s p part)
+module _ (fs : List ParserFrame) (x : Subject) (s : Sight) (p : Span) where
+  abbrev mod_state : ModStage → State
+  mod_state stage = state fs (InMod x s p stage)
 
-  ends_in_edge : (e : EdgeOf) → Done (part_state (InEdge e))
-  ends_in_edge e = let y = Seen x (with_mod s (AtTime (edge_text e))) p 0 in ends_step (part_state (InEdge e)) (state fs (ExpectOperator y)) (a_sign CloseParen) refl (ends_have fs y)
+  ends_in_edge : (e : EdgeOf) → Done (mod_state (InEdge e))
+  ends_in_edge e = let y = Sighted x (with_mod s (AtTime (edge_text e))) p 0 in ends_step (mod_state (InEdge e)) (state fs (ExpectOperator y)) (a_sign CloseParen) refl (ends_have fs y)
 
-  ends_part : (part : Part) → Done (part_state part)
-  ends_part AfterOffset = let y = Seen x (with_mod s (OffsetBy no_time)) p 0 in ends_step (part_state AfterOffset) (state fs (ExpectOperator y)) a_duration refl (ends_have fs y)
-  ends_part AfterOffsetMinus = let y = Seen x (with_mod s (OffsetBy (45 ∷ no_time))) p 0 in ends_step (part_state AfterOffsetMinus) (state fs (ExpectOperator y)) a_duration refl (ends_have fs y)
-  ends_part AfterAt = let y = Seen x (with_mod s (AtTime zero_text)) p 0 in ends_step (part_state AfterAt) (state fs (ExpectOperator y)) a_number refl (ends_have fs y)
-  ends_part (AfterAtSign b) = let y = Seen x (with_mod s (AtTime (b ∷ zero_text))) p 0 in ends_step (part_state (AfterAtSign b)) (state fs (ExpectOperator y)) a_number refl (ends_have fs y)
-  ends_part (AfterEdge e) = ends_step (part_state (AfterEdge e)) (part_state (InEdge e)) (a_sign OpenParen) refl (ends_in_edge e)
-  ends_part (InEdge e) = ends_in_edge e
+  ends_mod : (stage : ModStage) → Done (mod_state stage)
+  ends_mod AfterOffset = let y = Sighted x (with_mod s (OffsetBy no_time)) p 0 in ends_step (mod_state AfterOffset) (state fs (ExpectOperator y)) a_duration refl (ends_have fs y)
+  ends_mod AfterOffsetMinus = let y = Sighted x (with_mod s (OffsetBy (45 ∷ no_time))) p 0 in ends_step (mod_state AfterOffsetMinus) (state fs (ExpectOperator y)) a_duration refl (ends_have fs y)
+  ends_mod AfterAt = let y = Sighted x (with_mod s (AtTime zero_text)) p 0 in ends_step (mod_state AfterAt) (state fs (ExpectOperator y)) a_number refl (ends_have fs y)
+  ends_mod (AfterAtSign b) = let y = Sighted x (with_mod s (AtTime (b ∷ zero_text))) p 0 in ends_step (mod_state (AfterAtSign b)) (state fs (ExpectOperator y)) a_number refl (ends_have fs y)
+  ends_mod (AfterEdge e) = ends_step (mod_state (AfterEdge e)) (mod_state (InEdge e)) (a_sign OpenParen) refl (ends_in_edge e)
+  ends_mod (InEdge e) = ends_in_edge e
 
-ends_colon : (fs : List Frame) (e : Tree) (d : List ℕ) (q : Span) → Done (state fs (AfterColon e d q))
-ends_colon fs e d q = let x = Seen (OfSubquery e) (stepped d q None) (to (span_of e) z) 0 in ends_step (state fs (AfterColon e d q)) (state fs (ExpectOperator x)) (a_sign CloseBracket) refl (ends_have fs x)
+ends_colon : (fs : List ParserFrame) (e : Tree) (d : List ℕ) (q : Span) → Done (state fs (AfterColon e d q))
+ends_colon fs e d q = let x = Sighted (OfSubquery e) (stepped d q None) (to (span_of e) z) 0 in ends_step (state fs (AfterColon e d q)) (state fs (ExpectOperator x)) (a_sign CloseBracket) refl (ends_have fs x)
 
-ends_range : (fs : List Frame) (x : Operand) (d : List ℕ) (q : Span) → Done (state fs (AfterRange x d q))
+ends_range : (fs : List ParserFrame) (x : Operand) (d : List ℕ) (q : Span) → Done (state fs (AfterRange x d q))
 ends_range fs x d q = ends_step (state fs (AfterRange x d q)) (state fs (AfterColon (operand_tree x) d q)) (a_sign Colon) refl (ends_colon fs (operand_tree x) d q)
 
 -- ---- groupings
 
-module _ (fs : List Frame) (a : Agg) (p : Span) (k : Clause) where
+module _ (fs : List ParserFrame) (a : Agg) (p : Span) (k : Clause) where
   ends_grouped : (g : GroupingOf) → Done (state fs (AfterGrouping a p g))
   ends_grouped g = ends_step (state fs (AfterGrouping a p g)) (state fs (First (OfGrouped a g p))) (a_sign OpenParen) refl (ends_first fs (OfGrouped a g p))
 
@@ -184,17 +184,17 @@ module _ (fs : List Frame) (a : Agg) (p : Span) (k : Clause) where
 -- ---- the whole
 
 -- from each state some tokens lead to the end
-ends : (fs : List Frame) (m : Mode) → Done (state fs m)
+ends : (fs : List ParserFrame) (m : ParserMode) → Done (state fs m)
 ends fs ExpectOperand = ends_want fs
 ends fs (First h) = ends_first fs h
 ends fs (ExpectOperator x) = ends_have fs x
 ends fs (Modifying o p a st) = ends_stage fs o p a st
 ends fs (InBraces nm p b) = ends_braces fs nm p b
-ends fs (InMod x s p part) = ends_part fs x s p part
+ends fs (InMod x s p stage) = ends_mod fs x s p stage
 ends fs (AfterBracket x) = ends_step (state fs (AfterBracket x)) (state fs (AfterRange x no_time z)) a_duration refl (ends_range fs x no_time z)
 ends fs (AfterRange x d q) = ends_range fs x d q
 ends fs (AfterColon e d q) = ends_colon fs e d q
-ends fs (AfterStep e d q x) = let y = Seen (OfSubquery e) (stepped d q (Some x)) (to (span_of e) z) 0 in ends_step (state fs (AfterStep e d q x)) (state fs (ExpectOperator y)) (a_sign CloseBracket) refl (ends_have fs y)
+ends fs (AfterStep e d q x) = let y = Sighted (OfSubquery e) (stepped d q (Some x)) (to (span_of e) z) 0 in ends_step (state fs (AfterStep e d q x)) (state fs (ExpectOperator y)) (a_sign CloseBracket) refl (ends_have fs y)
 ends fs (AfterAggregation a p) = ends_step (state fs (AfterAggregation a p)) (state fs (First (OfAggregate a p))) (a_sign OpenParen) refl (ends_first fs (OfAggregate a p))
 ends fs (InGrouping a p k n) = ends_grouping fs a p k n
 ends fs (AfterGrouping a p g) = ends_step (state fs (AfterGrouping a p g)) (state fs (First (OfGrouped a g p))) (a_sign OpenParen) refl (ends_first fs (OfGrouped a g p))
@@ -205,19 +205,19 @@ through f g h e None = refl
 through f g h e (Some a) = e a
 
 -- a run goes on from where a run ends
-accept_append : (xs ys : List Tok) (s : State) → accept s (xs ++ ys) ≡ option_and_then (λ s'. accept s' ys) (run s xs)
+accept_append : (xs ys : List MarkedToken) (s : State) → accept s (xs ++ ys) ≡ option_and_then (λ s'. accept s' ys) (run s xs)
 accept_append [] ys s = refl
 accept_append (x ∷ xs) ys s = through (λ s'. accept s' (xs ++ ys)) (λ s'. run s' xs) (λ s'. accept s' ys) (λ s'. accept_append xs ys s') (step s x)
 
 -- tokens that the machine takes are viable
-pub viable_run : (ts : List Token) (s : State) → run start (map shown ts) ≡ Some s → IsViable ts
+pub viable_run : (ts : List Token) (s : State) → run start (map marked ts) ≡ Some s → IsViable ts
 viable_run ts s h =
     let y = ends s.frames s.mode in
-    let taken : accept start (map shown (ts ++ y.0)) ≡ Some y.1 = ap (accept start) (map-append shown ts y.0) ∙ accept_append (map shown ts) (map shown y.0) start ∙ ap (option_and_then (λ s'. accept s' (map shown y.0))) h ∙ y.2 in
-    (y.0, y.1, sound (map shown (ts ++ y.0)) y.1 taken)
+    let taken : accept start (map marked (ts ++ y.0)) ≡ Some y.1 = ap (accept start) (map-append marked ts y.0) ∙ accept_append (map marked ts) (map marked y.0) start ∙ ap (option_and_then (λ s'. accept s' (map marked y.0))) h ∙ y.2 in
+    (y.0, y.1, sound (map marked (ts ++ y.0)) y.1 taken)
 
 -- tokens that it doesn't take are not
-pub stuck_run : (ts : List Token) → run start (map shown ts) ≡ None → IsViable ts → ⊥
+pub stuck_run : (ts : List Token) → run start (map marked ts) ≡ None → IsViable ts → ⊥
 stuck_run ts h v =
-    let e = sym (complete (map shown (ts ++ v.0)) v.1 v.2) ∙ ap (accept start) (map-append shown ts v.0) ∙ accept_append (map shown ts) (map shown v.0) start ∙ ap (option_and_then (λ s'. accept s' (map shown v.0))) h in
+    let e = sym (complete (map marked (ts ++ v.0)) v.1 v.2) ∙ ap (accept start) (map-append marked ts v.0) ∙ accept_append (map marked ts) (map marked v.0) start ∙ ap (option_and_then (λ s'. accept s' (map marked v.0))) h in
     cc

@@ -4,7 +4,7 @@ use Rattle.std.specs.Option.{is_some}
 use Rattle.lf_lex.specs.declared.token.Token.{Token}
 use Rattle.lf_lex.specs.declared.token.Sign.TheVariants.{OpenParen, CloseParen, OpenBrace, CloseBrace, OpenBracket, Comma}
 use Rattle.lf_parse.specs.declared.class.Class.TheVariants.{Operator}
-use Rattle.lf_parse.specs.Tokens.{Mark, Word, Sign, Tok, ◌at◌, op_of_sign, shown}
+use Rattle.lf_parse.specs.Tokens.{Mark, Word, Sign, MarkedToken, ◌at◌, op_of_sign, marked}
 
 -- Brackets of one kind count for themselves, and a closing one without its opening one is passed over.
 pub record Nesting : Type 0 where
@@ -35,7 +35,7 @@ abbrev pub counted : Bool → Nesting → Nesting
 counted one n = record { here = if one && nat_eq n.braces 0 then n.here + 1 else n.here; around = n.around; braces = n.braces; begun = false }
 
 -- the nesting behind one more token
-abbrev pub nested : Nesting → Tok → Nesting
+abbrev pub nested : Nesting → MarkedToken → Nesting
 nested n (Sign OpenParen at p) = opened n
 nested n (Sign CloseParen at p) = closed n.around n
 nested n (Sign OpenBrace at p) = record { here = n.here; around = n.around; braces = n.braces + 1; begun = false }
@@ -49,7 +49,7 @@ surface = record { here = 0; around = []; braces = 0; begun = false }
 
 -- the nesting behind tokens
 abbrev pub nesting : List Token → Nesting
-nesting ts = fold (λ n t. nested n (shown t)) surface ts
+nesting ts = fold (λ n t. nested n (marked t)) surface ts
 
 -- more than 100 `(` are open, or more than 100 operators have the innermost one as theirs
 abbrev pub is_too_deep : Nesting → Bool

@@ -1,9 +1,9 @@
 -- Tokens as the grammar sees them.
-use Rattle.std.specs.Prelude.{ℕ, List, [], ◌∷◌, ◌==◌, map, Option, Some, None, if◌then◌else◌, codes}
+use Rattle.std.specs.Prelude.{ℕ, List, [], ◌∷◌, map, Option, Some, None, if◌then◌else◌, codes}
 use Rattle.std.specs.Char.{to_ascii_lowercase}
-use Rattle.std.specs.List.{list_any}
 use Rattle.std.specs.Str.{bytes_eq}
 use Rattle.lf_base.specs.declared.place.Span.{Span}
+use Rattle.lf_base.specs.Names.{has_colon}
 use Rattle.lf_ast.specs.declared.expr.Agg.TheVariants as agg
 use Rattle.lf_ast.specs.declared.expr.Op.{Op}
 use Rattle.lf_ast.specs.declared.expr.Op.TheVariants as op
@@ -32,8 +32,8 @@ pub data Mark : Type 0 where
 
 -- and where it stands
 infix 20 ◌at◌
-pub data Tok : Type 0 where
-  ◌at◌ : Mark → Span → Tok
+pub data MarkedToken : Type 0 where
+  ◌at◌ : Mark → Span → MarkedToken
 
 -- ---- words
 
@@ -80,7 +80,7 @@ unfoldable pub class_of : List ℕ → Class
 class_of w = class_in (map to_ascii_lowercase w) words
 
 abbrev pub word_mark : List ℕ → Mark
-word_mark w = if list_any (λ b. b == 58) w then Metric w else Word (class_of w) w
+word_mark w = if has_colon w then Metric w else Word (class_of w) w
 
 abbrev pub mark : TokenKind → Mark
 mark (kinds.Word w) = word_mark w
@@ -90,8 +90,8 @@ mark (kinds.Str x) = Quoted x
 mark (kinds.Sign s) = Sign s
 
 -- a token, as the grammar sees it
-abbrev pub shown : Token → Tok
-shown t = mark t.kind at t.span
+abbrev pub marked : Token → MarkedToken
+marked t = mark t.kind at t.span
 
 -- ---- operators
 

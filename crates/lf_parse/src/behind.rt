@@ -2,16 +2,16 @@
 ghost use Rattle.std.specs.Prelude.{◌≡◌, [], IfOk};
 ghost use Rattle.lf_ast.specs.Tree.{tree, trees};
 ghost use Rattle.lf_parse.specs.reading.Machine as machine;
-ghost use Rattle.lf_parse.specs.views.Values.{tok, seen_frames, next, seen_operand, seen_subject};
+ghost use Rattle.lf_parse.specs.views.Values.{token_of, frames_of, next, operand_of, subject_of};
 
 use crate::braces::Braces;
 use crate::calls::aggregation;
 use crate::follower::{Follower, follower_of};
-use crate::mode::{Frame, Head, Mode, Operand, Subject, blank, subject_tree};
+use crate::mark::MarkedToken;
+use crate::mode::{Callee, Operand, ParserFrame, ParserMode, Subject, blank, subject_tree};
+use crate::mods::ModStage;
 use crate::names::Names;
-use crate::part::Part;
 use crate::reduce::after;
-use crate::seen::Seen;
 use lf_ast::{Agg, Expr, Grouping, Matcher, Sight};
 use lf_base::{Memory, Seq, Span, Text};
 use std::alloc::Global;
@@ -19,23 +19,23 @@ use std::alloc::Global;
 /// Takes the token behind an operand to which only a bracket comes.
 fn whole_step(
     alloc: Global,
-    stack: &mut Vec<Frame>,
+    stack: &mut Vec<ParserFrame>,
     operand: Box<Expr>,
     end: u32,
     follower: Follower,
-    token: Seen,
-) -> Result<Option<Mode>, Memory>
-    ensures { IfOk result (λ p. next stack.new.items p ≡ machine.whole_step (seen_frames stack.old.items) (tree operand.value) end follower (tok token.entry)) }
+    token: MarkedToken,
+) -> Result<Option<ParserMode>, Memory>
+    ensures { IfOk result (λ p. next stack.new.items p ≡ machine.whole_step (frames_of stack.old.items) (tree operand.value) end follower (token_of token.entry)) }
 {
     match follower {
-        Follower::Bracket => { Ok(Some(Mode::AfterBracket(Operand::Whole(operand, end)))) }
+        Follower::Bracket => { Ok(Some(ParserMode::AfterBracket(Operand::Whole(operand, end)))) }
         _ => after(alloc, stack, Box::into_inner(operand), end, token),
     }
 }
 
 /// A selector that is a word alone, as what modifiers come to.
 pub fn of_word(alloc: Global, name: Text) -> Subject
-    ensures { seen_subject result ≡ machine.OfSelector (Some name) [] }
+    ensures { subject_of result ≡ machine.OfSelector (Some name) [] }
 {
     Subject::Selector(Some(name), Seq::new(alloc))
 }
@@ -43,33 +43,33 @@ pub fn of_word(alloc: Global, name: Text) -> Subject
 /// Takes the token behind a word alone, which is a function where `(` follows and else names a metric.
 fn bare_step(
     alloc: Global,
-    stack: &mut Vec<Frame>,
+    stack: &mut Vec<ParserFrame>,
     name: Text,
     span: Span,
     follower: Follower,
-    token: Seen,
-) -> Result<Option<Mode>, Memory>
-    ensures { IfOk result (λ p. next stack.new.items p ≡ machine.bare_step (seen_frames stack.old.items) name span follower (tok token.entry)) }
+    token: MarkedToken,
+) -> Result<Option<ParserMode>, Memory>
+    ensures { IfOk result (λ p. next stack.new.items p ≡ machine.bare_step (frames_of stack.old.items) name span follower (token_of token.entry)) }
 {
     match follower {
-        Follower::Bracket => Ok(Some(Mode::AfterBracket(Operand::Bare(name, span)))),
-        Follower::Paren => Ok(Some(Mode::First(Head::Call(name, span)))),
-        Follower::Brace => Ok(Some(Mode::InBraces(
+        Follower::Bracket => Ok(Some(ParserMode::AfterBracket(Operand::Bare(name, span)))),
+        Follower::Paren => Ok(Some(ParserMode::First(Callee::Call(name, span)))),
+        Follower::Brace => Ok(Some(ParserMode::InBraces(
             Some(name),
             span,
             Braces::Next(Seq::new(alloc)),
         ))),
-        Follower::Offset => Ok(Some(Mode::InMod(
+        Follower::Offset => Ok(Some(ParserMode::InMod(
             of_word(alloc, name),
             Box::new(alloc, blank(span))?,
             span,
-            Part::AfterOffset,
+            ModStage::AfterOffset,
         ))),
-        Follower::At => Ok(Some(Mode::InMod(
+        Follower::At => Ok(Some(ParserMode::InMod(
             of_word(alloc, name),
             Box::new(alloc, blank(span))?,
             span,
-            Part::AfterAt,
+            ModStage::AfterAt,
         ))),
         _ => {
             let selector = Expr::Selector {
@@ -86,28 +86,30 @@ fn bare_step(
 /// Takes the token behind a selector with braces.
 fn selected_step(
     alloc: Global,
-    stack: &mut Vec<Frame>,
+    stack: &mut Vec<ParserFrame>,
     name: Option<Text>,
     matchers: Seq<Matcher>,
     span: Span,
     follower: Follower,
-    token: Seen,
-) -> Result<Option<Mode>, Memory>
-    ensures { IfOk result (λ p. next stack.new.items p ≡ machine.selected_step (seen_frames stack.old.items) name matchers span follower (tok token.entry)) }
+    token: MarkedToken,
+) -> Result<Option<ParserMode>, Memory>
+    ensures { IfOk result (λ p. next stack.new.items p ≡ machine.selected_step (frames_of stack.old.items) name matchers span follower (token_of token.entry)) }
 {
     match follower {
-        Follower::Bracket => Ok(Some(Mode::AfterBracket(Operand::Selected(name, matchers, span)))),
-        Follower::Offset => Ok(Some(Mode::InMod(
+        Follower::Bracket => Ok(Some(ParserMode::AfterBracket(Operand::Selected(
+            name, matchers, span,
+        )))),
+        Follower::Offset => Ok(Some(ParserMode::InMod(
             Subject::Selector(name, matchers),
             Box::new(alloc, blank(span))?,
             span,
-            Part::AfterOffset,
+            ModStage::AfterOffset,
         ))),
-        Follower::At => Ok(Some(Mode::InMod(
+        Follower::At => Ok(Some(ParserMode::InMod(
             Subject::Selector(name, matchers),
             Box::new(alloc, blank(span))?,
             span,
-            Part::AfterAt,
+            ModStage::AfterAt,
         ))),
         _ => {
             let selector = Expr::Selector {
@@ -124,19 +126,21 @@ fn selected_step(
 /// Takes the token behind an aggregation whose arguments are there and whose grouping may still come.
 fn aggregated_step(
     alloc: Global,
-    stack: &mut Vec<Frame>,
+    stack: &mut Vec<ParserFrame>,
     op: Agg,
     args: Seq<Expr>,
     span: Span,
     end: u32,
     follower: Follower,
-    token: Seen,
-) -> Result<Option<Mode>, Memory>
-    ensures { IfOk result (λ p. next stack.new.items p ≡ machine.aggregated_step (seen_frames stack.old.items) op (trees args) span end follower (tok token.entry)) }
+    token: MarkedToken,
+) -> Result<Option<ParserMode>, Memory>
+    ensures { IfOk result (λ p. next stack.new.items p ≡ machine.aggregated_step (frames_of stack.old.items) op (trees args) span end follower (token_of token.entry)) }
 {
     match follower {
-        Follower::Bracket => Ok(Some(Mode::AfterBracket(Operand::Aggregated(op, args, span, end)))),
-        Follower::Grouping(clause) => Ok(Some(Mode::InGroupingBehind(
+        Follower::Bracket => Ok(Some(ParserMode::AfterBracket(Operand::Aggregated(
+            op, args, span, end,
+        )))),
+        Follower::Grouping(clause) => Ok(Some(ParserMode::InGroupingBehind(
             op,
             span,
             args,
@@ -151,26 +155,28 @@ fn aggregated_step(
 }
 
 /// Takes the token behind a selector or a subquery with a range or modifiers. A second offset or a second time is no expression.
-fn seen_step(
+fn sighted_step(
     alloc: Global,
-    stack: &mut Vec<Frame>,
+    stack: &mut Vec<ParserFrame>,
     subject: Subject,
     sight: Box<Sight>,
     span: Span,
     end: u32,
     follower: Follower,
-    token: Seen,
-) -> Result<Option<Mode>, Memory>
-    ensures { IfOk result (λ p. next stack.new.items p ≡ machine.seen_step (seen_frames stack.old.items) (seen_subject subject) sight.value span end follower (tok token.entry)) }
+    token: MarkedToken,
+) -> Result<Option<ParserMode>, Memory>
+    ensures { IfOk result (λ p. next stack.new.items p ≡ machine.sighted_step (frames_of stack.old.items) (subject_of subject) sight.value span end follower (token_of token.entry)) }
 {
     match follower {
-        Follower::Bracket => Ok(Some(Mode::AfterBracket(Operand::Seen(subject, sight, span, end)))),
+        Follower::Bracket => Ok(Some(ParserMode::AfterBracket(Operand::Sighted(
+            subject, sight, span, end,
+        )))),
         Follower::Offset => match &sight.offset {
-            None => Ok(Some(Mode::InMod(subject, sight, span, Part::AfterOffset))),
+            None => Ok(Some(ParserMode::InMod(subject, sight, span, ModStage::AfterOffset))),
             Some(_) => Ok(None),
         },
         Follower::At => match &sight.at {
-            None => Ok(Some(Mode::InMod(subject, sight, span, Part::AfterAt))),
+            None => Ok(Some(ParserMode::InMod(subject, sight, span, ModStage::AfterAt))),
             Some(_) => Ok(None),
         },
         _ => {
@@ -183,11 +189,11 @@ fn seen_step(
 /// Takes the token behind an operand.
 pub fn expect_operator(
     alloc: Global,
-    stack: &mut Vec<Frame>,
+    stack: &mut Vec<ParserFrame>,
     operand: Operand,
-    token: Seen,
-) -> Result<Option<Mode>, Memory>
-    ensures { IfOk result (λ p. next stack.new.items p ≡ machine.expect_operator (seen_frames stack.old.items) (seen_operand operand) (tok token.entry)) }
+    token: MarkedToken,
+) -> Result<Option<ParserMode>, Memory>
+    ensures { IfOk result (λ p. next stack.new.items p ≡ machine.expect_operator (frames_of stack.old.items) (operand_of operand) (token_of token.entry)) }
 {
     let follower = follower_of(token);
     match operand {
@@ -199,8 +205,8 @@ pub fn expect_operator(
         Operand::Aggregated(op, args, span, end) => {
             aggregated_step(alloc, stack, op, args, span, end, follower, token)
         }
-        Operand::Seen(subject, sight, span, end) => {
-            seen_step(alloc, stack, subject, sight, span, end, follower, token)
+        Operand::Sighted(subject, sight, span, end) => {
+            sighted_step(alloc, stack, subject, sight, span, end, follower, token)
         }
     }
 }

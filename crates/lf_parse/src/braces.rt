@@ -2,10 +2,10 @@
 ghost use Rattle.std.specs.Prelude.{◌≡◌, ◌++◌, ◌∷◌, [], IfOk};
 ghost use Rattle.lf_parse.specs.Grammar as grammar;
 ghost use Rattle.lf_parse.specs.reading.Machine as machine;
-ghost use Rattle.lf_parse.specs.views.Values.{tok, seen_braces, step_of};
+ghost use Rattle.lf_parse.specs.views.Values.{token_of, braces_of, step_of};
 
+use crate::mark::{Mark, MarkedToken};
 use crate::names::name_of;
-use crate::seen::{Mark, Seen};
 use crate::step::Step;
 use lf_ast::{MatchOp, Matcher, Name};
 use lf_base::{Memory, Seq, Span, Text};
@@ -44,7 +44,7 @@ fn with_matcher(
     matchers: Seq<Matcher>,
     label: Name,
     op: MatchOp,
-    token: Seen,
+    token: MarkedToken,
 ) -> Result<Seq<Matcher>, Memory>
     ensures { IfOk result (λ all. all ≡ matchers ++ grammar.matcher label op token.entry.text.now token.entry.span ∷ []) }
 {
@@ -67,7 +67,7 @@ fn compared(
     label: Name,
     op: Option<MatchOp>,
 ) -> Step<Braces, (Seq<Matcher>, Span)>
-    ensures { step_of seen_braces (λ v. v) result ≡ machine.compared matchers label op }
+    ensures { step_of braces_of (λ v. v) result ≡ machine.compared matchers label op }
 {
     match op {
         Some(op) => Step::More(Braces::AfterSign(matchers, label, op)),
@@ -79,9 +79,9 @@ fn compared(
 pub fn braces_step(
     alloc: Global,
     braces: Braces,
-    token: Seen,
+    token: MarkedToken,
 ) -> Result<Step<Braces, (Seq<Matcher>, Span)>, Memory>
-    ensures { IfOk result (λ taken. step_of seen_braces (λ v. v) taken ≡ machine.braces_step (seen_braces braces) (tok token.entry)) }
+    ensures { IfOk result (λ taken. step_of braces_of (λ v. v) taken ≡ machine.braces_step (braces_of braces) (token_of token.entry)) }
 {
     match (braces, token.mark) {
         (Braces::Next(list), Mark::Word(_)) => {

@@ -1,10 +1,10 @@
 //! What a token begins right behind an operand.
 ghost use Rattle.std.specs.Prelude.{◌≡◌};
 ghost use Rattle.lf_parse.specs.reading.Machine.{follower_of};
-ghost use Rattle.lf_parse.specs.views.Values.{tok};
+ghost use Rattle.lf_parse.specs.views.Values.{token_of};
 
 use crate::class::{Class, Clause};
-use crate::seen::{Mark, Seen};
+use crate::mark::{Mark, MarkedToken};
 use lf_lex::Sign;
 
 /// What a token begins right behind an operand, if it may belong to one. It says what the tests on each sort of operand need, so that each is on a few cases.
@@ -27,8 +27,8 @@ pub enum Follower {
 }
 
 /// What a token begins right behind an operand.
-pub fn follower_of(token: Seen) -> Follower
-    ensures { result ≡ follower_of (tok token.entry) }
+pub fn follower_of(token: MarkedToken) -> Follower
+    ensures { result ≡ follower_of (token_of token.entry) }
 {
     match token.mark {
         Mark::Sign(Sign::OpenBracket) => Follower::Bracket,

@@ -1,21 +1,21 @@
 //! The parser as a machine that takes one token at a time.
 ghost use Rattle.std.specs.Prelude.{◌≡◌, List, IfOk};
-ghost use Rattle.lf_parse.specs.declared.mode.Frame.{Frame};
+ghost use Rattle.lf_parse.specs.declared.mode.ParserFrame.{ParserFrame};
 ghost use Rattle.lf_ast.specs.Tree.{tree};
 ghost use Rattle.lf_parse.specs.Grammar as grammar;
 ghost use Rattle.lf_parse.specs.reading.Machine as machine;
-ghost use Rattle.lf_parse.specs.views.Values.{tok, seen_frames, seen_mode, next, option_tree, option_operand, seen_subject, seen_stage, seen_braces, seen_part, seen_mod, mod_of, step_of};
+ghost use Rattle.lf_parse.specs.views.Values.{token_of, frames_of, mode_of, next, option_tree, option_operand, subject_of, stage_of, braces_of, mod_stage_of, mod_with_end, mod_of, step_of};
 
 use crate::behind::expect_operator;
 use crate::braces::{Braces, braces_step};
 use crate::grouping::{after_aggregation, after_grouping, in_grouping, in_grouping_behind};
-use crate::mode::{Frame, Mode, Operand, Subject, operand_tree};
+use crate::mark::MarkedToken;
+use crate::mode::{Operand, ParserFrame, ParserMode, Subject, operand_tree};
+use crate::mods::{Mod, ModStage, mod_step};
 use crate::names::names_step;
 use crate::operand::{expect_operand, expect_operand_in, first};
-use crate::part::{Mod, Part, part_step};
 use crate::range::{after_bracket, after_colon, after_range, after_step};
 use crate::reduce::ended;
-use crate::seen::Seen;
 use crate::span::to;
 use crate::stage::{Stage, stage_step};
 use crate::step::Step;
@@ -26,23 +26,23 @@ use std::alloc::Global;
 /// In the modifier of an operator.
 fn modified(
     alloc: Global,
-    stack: &mut Vec<Frame>,
+    stack: &mut Vec<ParserFrame>,
     op: Op,
     span: Span,
     left: Box<Expr>,
     taken: Step<Stage, Matching>,
-    token: Seen,
-) -> Result<Option<Mode>, Memory>
-    ensures { IfOk result (λ p. next stack.new.items p ≡ machine.modified (seen_frames stack.old.items) op span (tree left.value) (tok token.entry) (step_of seen_stage (λ m. m) taken)) }
+    token: MarkedToken,
+) -> Result<Option<ParserMode>, Memory>
+    ensures { IfOk result (λ p. next stack.new.items p ≡ machine.modified (frames_of stack.old.items) op span (tree left.value) (token_of token.entry) (step_of stage_of (λ m. m) taken)) }
 {
     match taken {
-        Step::More(stage) => Ok(Some(Mode::Modifying(op, span, left, stage))),
+        Step::More(stage) => Ok(Some(ParserMode::Modifying(op, span, left, stage))),
         Step::Done(modifier) => {
-            stack.push(Frame::LeftOf(op, span, modifier, left))?;
-            Ok(Some(Mode::ExpectOperand))
+            stack.push(ParserFrame::LeftOf(op, span, modifier, left))?;
+            Ok(Some(ParserMode::ExpectOperand))
         }
         Step::DoneBefore(modifier) => {
-            let begun = Frame::LeftOf(op, span, modifier, left);
+            let begun = ParserFrame::LeftOf(op, span, modifier, left);
             expect_operand_in(alloc, stack, begun, token)
         }
         Step::Reject => Ok(None),
@@ -54,12 +54,12 @@ fn in_braces(
     name: Option<Text>,
     span: Span,
     taken: Step<Braces, (Seq<Matcher>, Span)>,
-) -> Option<Mode>
-    ensures { (ps : List Frame) → next ps result ≡ machine.in_braces (seen_frames ps) name span (step_of seen_braces (λ v. v) taken) }
+) -> Option<ParserMode>
+    ensures { (ps : List ParserFrame) → next ps result ≡ machine.in_braces (frames_of ps) name span (step_of braces_of (λ v. v) taken) }
 {
     match taken {
-        Step::More(braces) => Some(Mode::InBraces(name, span, braces)),
-        Step::Done((matchers, close)) => Some(Mode::ExpectOperator(Operand::Selected(
+        Step::More(braces) => Some(ParserMode::InBraces(name, span, braces)),
+        Step::Done((matchers, close)) => Some(ParserMode::ExpectOperator(Operand::Selected(
             name,
             matchers,
             to(span, close),
@@ -83,16 +83,16 @@ fn in_mod(
     subject: Subject,
     sight: Box<Sight>,
     span: Span,
-    taken: Step<Part, (Mod, u32)>,
-) -> Option<Mode>
-    ensures { (ps : List Frame) → next ps result ≡ machine.in_mod (seen_frames ps) (seen_subject subject) sight.value span (step_of seen_part seen_mod taken) }
+    taken: Step<ModStage, (Mod, u32)>,
+) -> Option<ParserMode>
+    ensures { (ps : List ParserFrame) → next ps result ≡ machine.in_mod (frames_of ps) (subject_of subject) sight.value span (step_of mod_stage_of mod_with_end taken) }
 {
     match taken {
-        Step::More(part) => Some(Mode::InMod(subject, sight, span, part)),
+        Step::More(stage) => Some(ParserMode::InMod(subject, sight, span, stage)),
         Step::Done((modifier, end)) => {
             let mut sight = sight;
             add_mod(&mut sight, modifier);
-            Some(Mode::ExpectOperator(Operand::Seen(subject, sight, span, end)))
+            Some(ParserMode::ExpectOperator(Operand::Sighted(subject, sight, span, end)))
         }
         Step::DoneBefore(_) | Step::Reject => None,
     }
@@ -101,43 +101,45 @@ fn in_mod(
 /// Takes the next token, unless no expression goes on with it.
 pub fn advance(
     alloc: Global,
-    stack: &mut Vec<Frame>,
-    mode: Mode,
-    token: Seen,
-) -> Result<Option<Mode>, Memory>
-    ensures { IfOk result (λ p. next stack.new.items p ≡ machine.step_in (seen_frames stack.old.items) (seen_mode mode) (tok token.entry)) }
+    stack: &mut Vec<ParserFrame>,
+    mode: ParserMode,
+    token: MarkedToken,
+) -> Result<Option<ParserMode>, Memory>
+    ensures { IfOk result (λ p. next stack.new.items p ≡ machine.step_in (frames_of stack.old.items) (mode_of mode) (token_of token.entry)) }
 {
     match mode {
-        Mode::ExpectOperand => expect_operand(alloc, stack, token),
-        Mode::First(head) => first(alloc, stack, head, token),
-        Mode::ExpectOperator(operand) => expect_operator(alloc, stack, operand, token),
-        Mode::Modifying(op, span, left, stage) => {
+        ParserMode::ExpectOperand => expect_operand(alloc, stack, token),
+        ParserMode::First(callee) => first(alloc, stack, callee, token),
+        ParserMode::ExpectOperator(operand) => expect_operator(alloc, stack, operand, token),
+        ParserMode::Modifying(op, span, left, stage) => {
             let taken = stage_step(alloc, span, stage, token)?;
             modified(alloc, stack, op, span, left, taken, token)
         }
-        Mode::InBraces(name, span, braces) => {
+        ParserMode::InBraces(name, span, braces) => {
             Ok(in_braces(name, span, braces_step(alloc, braces, token)?))
         }
-        Mode::InMod(subject, sight, span, part) => {
-            Ok(in_mod(subject, sight, span, part_step(alloc, part, token)?))
+        ParserMode::InMod(subject, sight, span, stage) => {
+            Ok(in_mod(subject, sight, span, mod_step(alloc, stage, token)?))
         }
-        Mode::AfterBracket(operand) => after_bracket(alloc, operand, token),
-        Mode::AfterRange(operand, range, range_span) => {
+        ParserMode::AfterBracket(operand) => after_bracket(alloc, operand, token),
+        ParserMode::AfterRange(operand, range, range_span) => {
             after_range(alloc, operand, range, range_span, token)
         }
-        Mode::AfterColon(of, range, range_span) => {
+        ParserMode::AfterColon(of, range, range_span) => {
             after_colon(alloc, of, range, range_span, token)
         }
-        Mode::AfterStep(of, range, range_span, step) => {
+        ParserMode::AfterStep(of, range, range_span, step) => {
             after_step(alloc, of, range, range_span, step, token)
         }
-        Mode::AfterAggregation(op, span) => Ok(after_aggregation(op, span, token)),
-        Mode::InGrouping(op, span, clause, names) => {
+        ParserMode::AfterAggregation(op, span) => Ok(after_aggregation(op, span, token)),
+        ParserMode::InGrouping(op, span, clause, names) => {
             let taken = names_step(alloc, names, token)?;
             Ok(in_grouping(op, span, clause, taken))
         }
-        Mode::AfterGrouping(op, span, grouping) => Ok(after_grouping(op, span, grouping, token)),
-        Mode::InGroupingBehind(op, span, args, clause, names) => {
+        ParserMode::AfterGrouping(op, span, grouping) => Ok(after_grouping(
+            op, span, grouping, token,
+        )),
+        ParserMode::InGroupingBehind(op, span, args, clause, names) => {
             let taken = names_step(alloc, names, token)?;
             in_grouping_behind(alloc, op, span, args, clause, taken)
         }
@@ -145,11 +147,11 @@ pub fn advance(
 }
 
 /// The operand that was read last, if one was.
-fn operand_of(mode: Mode) -> Option<Operand>
-    ensures { option_operand result ≡ machine.operand_of (seen_mode mode) }
+fn last_operand(mode: ParserMode) -> Option<Operand>
+    ensures { option_operand result ≡ machine.last_operand (mode_of mode) }
 {
     match mode {
-        Mode::ExpectOperator(operand) => Some(operand),
+        ParserMode::ExpectOperator(operand) => Some(operand),
         other => {
             drop(other);
             None
@@ -158,10 +160,14 @@ fn operand_of(mode: Mode) -> Option<Operand>
 }
 
 /// The whole expression, if this is its end.
-pub fn finish(alloc: Global, stack: Vec<Frame>, mode: Mode) -> Result<Option<Expr>, Memory>
-    ensures { IfOk result (λ e. option_tree e ≡ machine.finish_in (seen_frames stack.items) (seen_mode mode)) }
+pub fn finish(
+    alloc: Global,
+    stack: Vec<ParserFrame>,
+    mode: ParserMode,
+) -> Result<Option<Expr>, Memory>
+    ensures { IfOk result (λ e. option_tree e ≡ machine.finish_in (frames_of stack.items) (mode_of mode)) }
 {
-    match operand_of(mode) {
+    match last_operand(mode) {
         Some(operand) => {
             let (operand, end) = operand_tree(alloc, operand);
             ended(alloc, stack, operand, end)

@@ -3,13 +3,13 @@ ghost use Rattle.std.specs.Prelude.{◌≡◌};
 ghost use Rattle.lf_ast.specs.Tree as trees;
 ghost use Rattle.lf_parse.specs.Grammar as grammar;
 ghost use Rattle.lf_parse.specs.reading.Machine as machine;
-ghost use Rattle.lf_parse.specs.views.Values.{seen_subject, seen_operand};
+ghost use Rattle.lf_parse.specs.views.Values.{subject_of, operand_of};
 
 use crate::braces::Braces;
 use crate::calls::aggregation;
 use crate::class::Clause;
+use crate::mods::ModStage;
 use crate::names::Names;
-use crate::part::Part;
 use crate::span::behind;
 use crate::stage::Stage;
 use lf_ast::{Agg, Expr, Grouping, Matcher, Matching, Op, Sight};
@@ -18,7 +18,7 @@ use std::alloc::Global;
 
 /// What arguments belong to.
 #[derive(Drop)]
-pub enum Head {
+pub enum Callee {
     /// A function, and its span.
     Call(Text, Span),
     /// An aggregation.
@@ -29,7 +29,7 @@ pub enum Head {
 
 /// A frame of the stack: what was begun and is not at its end.
 #[derive(Drop)]
-pub enum Frame {
+pub enum ParserFrame {
     /// An operator, its span and modifier, and its left operand.
     LeftOf(Op, Span, Matching, Box<Expr>),
     /// A sign before an operand: a minus sign, or else a plus sign.
@@ -37,7 +37,7 @@ pub enum Frame {
     /// A parenthesis.
     Paren(Span),
     /// Arguments that have a comma behind them.
-    Args(Head, Seq<Expr>),
+    Args(Callee, Seq<Expr>),
 }
 
 /// What an offset or a time comes to.
@@ -59,16 +59,16 @@ pub enum Operand {
     /// An aggregation without a grouping.
     Aggregated(Agg, Seq<Expr>, Span, u32),
     /// A selector or a subquery with a range, an offset or a time.
-    Seen(Subject, Box<Sight>, Span, u32),
+    Sighted(Subject, Box<Sight>, Span, u32),
 }
 
 /// What is expected next, by what was read last. It is kept small, as an operand is.
 #[derive(Drop)]
-pub enum Mode {
+pub enum ParserMode {
     /// An operand is expected.
     ExpectOperand,
     /// The first argument or `)` is expected.
-    First(Head),
+    First(Callee),
     /// An operand was read: an operator is expected, or what else may stand behind it.
     ExpectOperator(Operand),
     /// Behind an operator, in its modifier.
@@ -76,7 +76,7 @@ pub enum Mode {
     /// In the braces of a selector that began with a span.
     InBraces(Option<Text>, Span, Braces),
     /// In an offset or a time.
-    InMod(Subject, Box<Sight>, Span, Part),
+    InMod(Subject, Box<Sight>, Span, ModStage),
     /// Behind `[`.
     AfterBracket(Operand),
     /// Behind the duration of a range, and its span.
@@ -109,7 +109,7 @@ pub fn blank(span: Span) -> Sight
 
 /// A selector or a subquery with what stands behind it.
 pub fn subject_tree(subject: Subject, sight: Box<Sight>, span: Span) -> Expr
-    ensures { trees.tree result ≡ machine.subject_tree (seen_subject subject) sight.value span }
+    ensures { trees.tree result ≡ machine.subject_tree (subject_of subject) sight.value span }
 {
     let sight = Box::into_inner(sight);
     match subject {
@@ -125,8 +125,8 @@ pub fn subject_tree(subject: Subject, sight: Box<Sight>, span: Span) -> Expr
 
 /// The tree of an operand, with the offset of its end.
 pub fn operand_tree(alloc: Global, operand: Operand) -> (Expr, u32)
-    ensures tree { trees.tree result.0 ≡ machine.operand_tree (seen_operand operand) }
-    ensures end { result.1 ≡ machine.operand_end (seen_operand operand) }
+    ensures tree { trees.tree result.0 ≡ machine.operand_tree (operand_of operand) }
+    ensures end { result.1 ≡ machine.operand_end (operand_of operand) }
 {
     match operand {
         Operand::Whole(expr, end) => (Box::into_inner(expr), end),
@@ -151,6 +151,6 @@ pub fn operand_tree(alloc: Global, operand: Operand) -> (Expr, u32)
         Operand::Aggregated(op, args, span, end) => {
             (aggregation(op, Grouping::None, args, span), end)
         }
-        Operand::Seen(subject, sight, span, end) => (subject_tree(subject, sight, span), end),
+        Operand::Sighted(subject, sight, span, end) => (subject_tree(subject, sight, span), end),
     }
 }

@@ -2,9 +2,9 @@
 ghost use Rattle.std.specs.Prelude.{◌≡◌, ◌++◌, ◌∷◌, [], IfOk};
 ghost use Rattle.lf_parse.specs.Grammar.{name};
 ghost use Rattle.lf_parse.specs.reading.Machine as machine;
-ghost use Rattle.lf_parse.specs.views.Values.{tok, seen_names, step_of};
+ghost use Rattle.lf_parse.specs.views.Values.{token_of, names_of, step_of};
 
-use crate::seen::{Mark, Seen};
+use crate::mark::{Mark, MarkedToken};
 use crate::step::Step;
 use lf_ast::Name;
 use lf_base::{Memory, Seq, Span, Text};
@@ -23,7 +23,7 @@ pub enum Names {
 }
 
 /// The label that a word is.
-pub fn name_of(alloc: Global, token: Seen) -> Result<Name, Memory>
+pub fn name_of(alloc: Global, token: MarkedToken) -> Result<Name, Memory>
     ensures { IfOk result (λ n. n ≡ name token.entry.text.now token.entry.span) }
 {
     let text = Text::of(alloc, token.text)?;
@@ -46,9 +46,9 @@ fn with_name(names: Seq<Name>, last: Name) -> Result<Seq<Name>, Memory>
 pub fn names_step(
     alloc: Global,
     names: Names,
-    token: Seen,
+    token: MarkedToken,
 ) -> Result<Step<Names, (Seq<Name>, Span)>, Memory>
-    ensures { IfOk result (λ taken. step_of seen_names (λ v. v) taken ≡ machine.names_step (seen_names names) (tok token.entry)) }
+    ensures { IfOk result (λ taken. step_of names_of (λ v. v) taken ≡ machine.names_step (names_of names) (token_of token.entry)) }
 {
     match (names, token.mark) {
         (Names::Opening, Mark::Sign(Sign::OpenParen)) => {

@@ -1,11 +1,11 @@
 //! How deep tokens are nested.
 ghost use Rattle.std.specs.Prelude.{◌≡◌, ◌+◌, ◌<◌, ◌^◌, reverse, IfOk, MatchOption, List, ℕ};
 ghost use Rattle.lf_parse.specs.Depth as depth;
-ghost use Rattle.lf_parse.specs.views.Values.{mark_with, tok, nesting_of};
+ghost use Rattle.lf_parse.specs.views.Values.{mark_of, token_of, nesting_of};
 
 use crate::class::Class;
+use crate::mark::{Mark, MarkedToken, marked};
 use crate::operator::op_of_sign;
-use crate::seen::{Mark, Seen, see};
 use lf_base::Memory;
 use lf_lex::{Sign, Token};
 use std::alloc::Global;
@@ -41,7 +41,7 @@ pub fn first_too_deep(alloc: Global, tokens: &[Token]) -> Result<Option<usize>, 
         begun: false,
     };
     for (index, token) in tokens.iter().enumerate() {
-        nesting = nested(nesting, see(token))?;
+        nesting = nested(nesting, marked(token))?;
         if is_too_deep(&nesting) {
             return Ok(Some(index));
         }
@@ -57,10 +57,10 @@ fn is_too_deep(nesting: &Nesting) -> bool
 }
 
 /// The nesting behind one more token.
-fn nested(nesting: Nesting, token: Seen) -> Result<Nesting, Memory>
+fn nested(nesting: Nesting, token: MarkedToken) -> Result<Nesting, Memory>
     requires here { nesting.here + 1 < 2 ^ 32 }
     requires braces { nesting.braces + 1 < 2 ^ 64 }
-    ensures { IfOk result (λ n. nesting_of n ≡ depth.nested (nesting_of nesting) (tok token.entry)) }
+    ensures { IfOk result (λ n. nesting_of n ≡ depth.nested (nesting_of nesting) (token_of token.entry)) }
 {
     match token.mark {
         Mark::Sign(Sign::OpenParen) => open_paren(nesting),
@@ -147,7 +147,7 @@ fn counted(counts: bool, nesting: Nesting) -> Nesting
 
 /// Whether a token counts as an operator outside braces. `begun` says that it stands right behind a `(` or a `,`, where a word is a label.
 fn counts(begun: bool, mark: Mark) -> bool
-    ensures { (text : List ℕ) → result ≡ depth.counts begun (mark_with mark text) }
+    ensures { (text : List ℕ) → result ≡ depth.counts begun (mark_of mark text) }
 {
     match mark {
         Mark::Sign(Sign::OpenBracket) => true,

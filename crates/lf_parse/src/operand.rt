@@ -2,21 +2,21 @@
 ghost use Rattle.std.specs.Prelude.{◌≡◌, ◌∷◌, IfOk};
 ghost use Rattle.lf_ast.specs.Tree as trees_of;
 ghost use Rattle.lf_parse.specs.reading.Machine as machine;
-ghost use Rattle.lf_parse.specs.views.Values.{tok, seen_frame, seen_frames, next, seen_head, seen_operand};
+ghost use Rattle.lf_parse.specs.views.Values.{token_of, frame_of, frames_of, next, callee_of, operand_of};
 
 use crate::braces::Braces;
 use crate::class::Class;
-use crate::mode::{Frame, Head, Mode, Operand};
+use crate::mark::{Mark, MarkedToken};
+use crate::mode::{Callee, Operand, ParserFrame, ParserMode};
 use crate::reduce::applied;
-use crate::seen::{Mark, Seen};
 use lf_ast::Expr;
 use lf_base::{Memory, Seq, Text};
 use lf_lex::Sign;
 use std::alloc::Global;
 
 /// A number as it is written.
-fn number(alloc: Global, token: Seen) -> Result<Operand, Memory>
-    ensures { IfOk result (λ x. seen_operand x ≡ machine.Whole (trees_of.Number token.entry.text.now token.entry.span) token.entry.span.end) }
+fn number(alloc: Global, token: MarkedToken) -> Result<Operand, Memory>
+    ensures { IfOk result (λ x. operand_of x ≡ machine.Whole (trees_of.Number token.entry.text.now token.entry.span) token.entry.span.end) }
 {
     let number = Expr::Number {
         text: Text::of(alloc, token.text)?,
@@ -26,8 +26,8 @@ fn number(alloc: Global, token: Seen) -> Result<Operand, Memory>
 }
 
 /// A string, without its quotes and escapes.
-fn string(alloc: Global, token: Seen) -> Result<Operand, Memory>
-    ensures { IfOk result (λ x. seen_operand x ≡ machine.Whole (trees_of.Str token.entry.text.now token.entry.span) token.entry.span.end) }
+fn string(alloc: Global, token: MarkedToken) -> Result<Operand, Memory>
+    ensures { IfOk result (λ x. operand_of x ≡ machine.Whole (trees_of.Str token.entry.text.now token.entry.span) token.entry.span.end) }
 {
     let string = Expr::Str {
         text: Text::of(alloc, token.text)?,
@@ -37,8 +37,8 @@ fn string(alloc: Global, token: Seen) -> Result<Operand, Memory>
 }
 
 /// A word that names a metric or a function.
-fn bare(alloc: Global, token: Seen) -> Result<Operand, Memory>
-    ensures { IfOk result (λ x. seen_operand x ≡ machine.Bare token.entry.text.now token.entry.span) }
+fn bare(alloc: Global, token: MarkedToken) -> Result<Operand, Memory>
+    ensures { IfOk result (λ x. operand_of x ≡ machine.Bare token.entry.text.now token.entry.span) }
 {
     Ok(Operand::Bare(Text::of(alloc, token.text)?, token.span))
 }
@@ -46,36 +46,38 @@ fn bare(alloc: Global, token: Seen) -> Result<Operand, Memory>
 /// Takes the token where an operand is expected.
 pub fn expect_operand(
     alloc: Global,
-    stack: &mut Vec<Frame>,
-    token: Seen,
-) -> Result<Option<Mode>, Memory>
-    ensures { IfOk result (λ p. next stack.new.items p ≡ machine.expect_operand (seen_frames stack.old.items) (tok token.entry)) }
+    stack: &mut Vec<ParserFrame>,
+    token: MarkedToken,
+) -> Result<Option<ParserMode>, Memory>
+    ensures { IfOk result (λ p. next stack.new.items p ≡ machine.expect_operand (frames_of stack.old.items) (token_of token.entry)) }
 {
     match token.mark {
         Mark::Number | Mark::Word(Class::Numeric) => {
-            Ok(Some(Mode::ExpectOperator(number(alloc, token)?)))
+            Ok(Some(ParserMode::ExpectOperator(number(alloc, token)?)))
         }
-        Mark::Str => Ok(Some(Mode::ExpectOperator(string(alloc, token)?))),
+        Mark::Str => Ok(Some(ParserMode::ExpectOperator(string(alloc, token)?))),
         Mark::Word(Class::Plain) | Mark::Word(Class::Edge(_)) | Mark::Metric => {
-            Ok(Some(Mode::ExpectOperator(bare(alloc, token)?)))
+            Ok(Some(ParserMode::ExpectOperator(bare(alloc, token)?)))
         }
-        Mark::Word(Class::Aggregation(op)) => Ok(Some(Mode::AfterAggregation(op, token.span))),
-        Mark::Sign(Sign::OpenBrace) => Ok(Some(Mode::InBraces(
+        Mark::Word(Class::Aggregation(op)) => Ok(Some(ParserMode::AfterAggregation(
+            op, token.span,
+        ))),
+        Mark::Sign(Sign::OpenBrace) => Ok(Some(ParserMode::InBraces(
             None,
             token.span,
             Braces::Next(Seq::new(alloc)),
         ))),
         Mark::Sign(Sign::OpenParen) => {
-            stack.push(Frame::Paren(token.span))?;
-            Ok(Some(Mode::ExpectOperand))
+            stack.push(ParserFrame::Paren(token.span))?;
+            Ok(Some(ParserMode::ExpectOperand))
         }
         Mark::Sign(Sign::Plus) => {
-            stack.push(Frame::Signed(false, token.span))?;
-            Ok(Some(Mode::ExpectOperand))
+            stack.push(ParserFrame::Signed(false, token.span))?;
+            Ok(Some(ParserMode::ExpectOperand))
         }
         Mark::Sign(Sign::Minus) => {
-            stack.push(Frame::Signed(true, token.span))?;
-            Ok(Some(Mode::ExpectOperand))
+            stack.push(ParserFrame::Signed(true, token.span))?;
+            Ok(Some(ParserMode::ExpectOperand))
         }
         _ => Ok(None),
     }
@@ -84,11 +86,11 @@ pub fn expect_operand(
 /// Puts a frame on the stack, inside which an operand is expected, and takes the token.
 pub fn expect_operand_in(
     alloc: Global,
-    stack: &mut Vec<Frame>,
-    begun: Frame,
-    token: Seen,
-) -> Result<Option<Mode>, Memory>
-    ensures { IfOk result (λ p. next stack.new.items p ≡ machine.expect_operand (seen_frame begun ∷ seen_frames stack.old.items) (tok token.entry)) }
+    stack: &mut Vec<ParserFrame>,
+    begun: ParserFrame,
+    token: MarkedToken,
+) -> Result<Option<ParserMode>, Memory>
+    ensures { IfOk result (λ p. next stack.new.items p ≡ machine.expect_operand (frame_of begun ∷ frames_of stack.old.items) (token_of token.entry)) }
 {
     stack.push(begun)?;
     expect_operand(alloc, stack, token)
@@ -97,17 +99,22 @@ pub fn expect_operand_in(
 /// Takes the token where the first argument or `)` is expected.
 pub fn first(
     alloc: Global,
-    stack: &mut Vec<Frame>,
-    head: Head,
-    token: Seen,
-) -> Result<Option<Mode>, Memory>
-    ensures { IfOk result (λ p. next stack.new.items p ≡ machine.first (seen_frames stack.old.items) (seen_head head) (tok token.entry)) }
+    stack: &mut Vec<ParserFrame>,
+    callee: Callee,
+    token: MarkedToken,
+) -> Result<Option<ParserMode>, Memory>
+    ensures { IfOk result (λ p. next stack.new.items p ≡ machine.first (frames_of stack.old.items) (callee_of callee) (token_of token.entry)) }
 {
     match token.mark {
         Mark::Sign(Sign::CloseParen) => {
-            let operand = applied(alloc, head, Seq::new(alloc), token.span)?;
-            Ok(Some(Mode::ExpectOperator(operand)))
+            let operand = applied(alloc, callee, Seq::new(alloc), token.span)?;
+            Ok(Some(ParserMode::ExpectOperator(operand)))
         }
-        _ => expect_operand_in(alloc, stack, Frame::Args(head, Seq::new(alloc)), token),
+        _ => expect_operand_in(
+            alloc,
+            stack,
+            ParserFrame::Args(callee, Seq::new(alloc)),
+            token,
+        ),
     }
 }

@@ -2,11 +2,11 @@
 ghost use Rattle.std.specs.Prelude.{◌≡◌, ◌≤◌};
 ghost use Rattle.lf_parse.specs.Tokens as tokens;
 ghost use Rattle.lf_parse.specs.Grammar as grammar;
-ghost use Rattle.lf_parse.specs.views.Values.{mark_with};
+ghost use Rattle.lf_parse.specs.views.Values.{mark_of};
 ghost use Rattle.std.specs.Prelude.{List, ℕ};
 
 use crate::class::Class;
-use crate::seen::Mark;
+use crate::mark::Mark;
 use lf_ast::Op;
 use lf_lex::Sign;
 
@@ -36,7 +36,7 @@ pub fn op_of_sign(sign: Sign) -> Option<Op>
 
 /// The binary operator that a token is.
 pub fn op_of(mark: Mark) -> Option<Op>
-    ensures { (text : List ℕ) → result ≡ tokens.op_of (mark_with mark text) }
+    ensures { (text : List ℕ) → result ≡ tokens.op_of (mark_of mark text) }
 {
     match mark {
         Mark::Sign(sign) => op_of_sign(sign),

@@ -11,9 +11,9 @@ ghost use Rattle.lf_parse.specs.Answer.{IsExpression, Refuses};
 ghost use Rattle.lf_parse.specs.reading.Answers.{answer};
 
 use crate::machine::{advance, finish};
-use crate::mode::Mode;
+use crate::mark::marked;
+use crate::mode::ParserMode;
 use crate::nesting::first_too_deep;
-use crate::seen::see;
 use lf_ast::Expr;
 use lf_base::{Kind, Refusal, Seq, Span};
 use lf_lex::Token;
@@ -53,9 +53,9 @@ fn read(alloc: Global, tokens: &[Token], end: u32) -> Result<Expr, Refusal>
     ensures { AnswersAs tree result (answer tokens.now end) }
 {
     let mut stack = Vec::new(alloc);
-    let mut mode = Mode::ExpectOperand;
+    let mut mode = ParserMode::ExpectOperand;
     for token in tokens {
-        match advance(alloc, &mut stack, mode, see(token))? {
+        match advance(alloc, &mut stack, mode, marked(token))? {
             Some(next) => mode = next,
             None => return Err(syntax(token.span)),
         }

@@ -1,15 +1,15 @@
 //! The brackets of ranges and subqueries.
 ghost use Rattle.std.specs.Prelude.{◌≡◌, List, IfOk};
-ghost use Rattle.lf_parse.specs.declared.mode.Frame.{Frame};
+ghost use Rattle.lf_parse.specs.declared.mode.ParserFrame.{ParserFrame};
 ghost use Rattle.lf_ast.specs.Tree as trees_of;
 ghost use Rattle.lf_ast.specs.Tree.{tree};
 ghost use Rattle.lf_parse.specs.Grammar as grammar;
 ghost use Rattle.lf_parse.specs.reading.Machine as machine;
-ghost use Rattle.lf_parse.specs.views.Values.{tok, seen_frames, seen_mode, next, seen_operand};
+ghost use Rattle.lf_parse.specs.views.Values.{token_of, frames_of, mode_of, next, operand_of};
 
 use crate::behind::of_word;
-use crate::mode::{Mode, Operand, Subject, operand_tree};
-use crate::seen::{Mark, Seen};
+use crate::mark::{Mark, MarkedToken};
+use crate::mode::{Operand, ParserMode, Subject, operand_tree};
 use crate::span::to;
 use lf_ast::{Expr, Sight, span_of};
 use lf_base::{Memory, Span, Text};
@@ -17,13 +17,17 @@ use lf_lex::Sign;
 use std::alloc::Global;
 
 /// Takes the token behind the `[` that follows an operand: the duration of a range. Any other token gives no place.
-pub fn after_bracket(alloc: Global, operand: Operand, token: Seen) -> Result<Option<Mode>, Memory>
-    ensures { IfOk result (λ p. (ps : List Frame) → next ps p ≡ machine.after_bracket (seen_frames ps) (seen_operand operand) (tok token.entry)) }
+pub fn after_bracket(
+    alloc: Global,
+    operand: Operand,
+    token: MarkedToken,
+) -> Result<Option<ParserMode>, Memory>
+    ensures { IfOk result (λ p. (ps : List ParserFrame) → next ps p ≡ machine.after_bracket (frames_of ps) (operand_of operand) (token_of token.entry)) }
 {
     match token.mark {
         Mark::Duration => {
             let range = Text::of(alloc, token.text)?;
-            Ok(Some(Mode::AfterRange(operand, range, token.span)))
+            Ok(Some(ParserMode::AfterRange(operand, range, token.span)))
         }
         _ => Ok(None),
     }
@@ -49,22 +53,24 @@ fn range_of(
     range: Text,
     range_span: Span,
     close: Span,
-) -> Result<Option<Mode>, Memory>
-    ensures { IfOk result (λ p. (ps : List Frame) → next ps p ≡ machine.range_of (seen_frames ps) (seen_operand operand) range range_span close) }
+) -> Result<Option<ParserMode>, Memory>
+    ensures { IfOk result (λ p. (ps : List ParserFrame) → next ps p ≡ machine.range_of (frames_of ps) (operand_of operand) range range_span close) }
 {
     match operand {
-        Operand::Bare(name, span) => Ok(Some(Mode::ExpectOperator(Operand::Seen(
+        Operand::Bare(name, span) => Ok(Some(ParserMode::ExpectOperator(Operand::Sighted(
             of_word(alloc, name),
             Box::new(alloc, ranged(range, None, range_span))?,
             to(span, close),
             close.end,
         )))),
-        Operand::Selected(name, matchers, span) => Ok(Some(Mode::ExpectOperator(Operand::Seen(
-            Subject::Selector(name, matchers),
-            Box::new(alloc, ranged(range, None, range_span))?,
-            to(span, close),
-            close.end,
-        )))),
+        Operand::Selected(name, matchers, span) => Ok(Some(ParserMode::ExpectOperator(
+            Operand::Sighted(
+                Subject::Selector(name, matchers),
+                Box::new(alloc, ranged(range, None, range_span))?,
+                to(span, close),
+                close.end,
+            ),
+        ))),
         _ => Ok(None),
     }
 }
@@ -75,15 +81,15 @@ pub fn after_range(
     operand: Operand,
     range: Text,
     range_span: Span,
-    token: Seen,
-) -> Result<Option<Mode>, Memory>
-    ensures { IfOk result (λ p. (ps : List Frame) → next ps p ≡ machine.after_range (seen_frames ps) (seen_operand operand) range range_span (tok token.entry)) }
+    token: MarkedToken,
+) -> Result<Option<ParserMode>, Memory>
+    ensures { IfOk result (λ p. (ps : List ParserFrame) → next ps p ≡ machine.after_range (frames_of ps) (operand_of operand) range range_span (token_of token.entry)) }
 {
     match token.mark {
         Mark::Sign(Sign::CloseBracket) => range_of(alloc, operand, range, range_span, token.span),
         Mark::Sign(Sign::Colon) => {
             let (of, _) = operand_tree(alloc, operand);
-            Ok(Some(Mode::AfterColon(Box::new(alloc, of)?, range, range_span)))
+            Ok(Some(ParserMode::AfterColon(Box::new(alloc, of)?, range, range_span)))
         }
         _ => Ok(None),
     }
@@ -97,11 +103,11 @@ fn subquery(
     range_span: Span,
     step: Option<Text>,
     close: Span,
-) -> Result<Mode, Memory>
-    ensures { IfOk result (λ m. seen_mode m ≡ machine.ExpectOperator (machine.Seen (machine.OfSubquery (tree of.value)) (grammar.stepped range range_span step) (grammar.to (trees_of.span_of (tree of.value)) close) close.end)) }
+) -> Result<ParserMode, Memory>
+    ensures { IfOk result (λ m. mode_of m ≡ machine.ExpectOperator (machine.Sighted (machine.OfSubquery (tree of.value)) (grammar.stepped range range_span step) (grammar.to (trees_of.span_of (tree of.value)) close) close.end)) }
 {
     let span = to(span_of(&of), close);
-    Ok(Mode::ExpectOperator(Operand::Seen(
+    Ok(ParserMode::ExpectOperator(Operand::Sighted(
         Subject::Subquery(of),
         Box::new(alloc, ranged(range, step, range_span))?,
         span,
@@ -115,14 +121,14 @@ pub fn after_colon(
     of: Box<Expr>,
     range: Text,
     range_span: Span,
-    token: Seen,
-) -> Result<Option<Mode>, Memory>
-    ensures { IfOk result (λ p. (ps : List Frame) → next ps p ≡ machine.after_colon (seen_frames ps) (tree of.value) range range_span (tok token.entry)) }
+    token: MarkedToken,
+) -> Result<Option<ParserMode>, Memory>
+    ensures { IfOk result (λ p. (ps : List ParserFrame) → next ps p ≡ machine.after_colon (frames_of ps) (tree of.value) range range_span (token_of token.entry)) }
 {
     match token.mark {
         Mark::Duration => {
             let step = Text::of(alloc, token.text)?;
-            Ok(Some(Mode::AfterStep(of, range, range_span, step)))
+            Ok(Some(ParserMode::AfterStep(of, range, range_span, step)))
         }
         Mark::Sign(Sign::CloseBracket) => {
             let mode = subquery(alloc, of, range, range_span, None, token.span)?;
@@ -139,9 +145,9 @@ pub fn after_step(
     range: Text,
     range_span: Span,
     step: Text,
-    token: Seen,
-) -> Result<Option<Mode>, Memory>
-    ensures { IfOk result (λ p. (ps : List Frame) → next ps p ≡ machine.after_step (seen_frames ps) (tree of.value) range range_span step (tok token.entry)) }
+    token: MarkedToken,
+) -> Result<Option<ParserMode>, Memory>
+    ensures { IfOk result (λ p. (ps : List ParserFrame) → next ps p ≡ machine.after_step (frames_of ps) (tree of.value) range range_span step (token_of token.entry)) }
 {
     match token.mark {
         Mark::Sign(Sign::CloseBracket) => {

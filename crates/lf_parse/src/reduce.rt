@@ -3,12 +3,12 @@ ghost use Rattle.std.specs.Prelude.{◌≡◌, IfOk};
 ghost use Rattle.lf_ast.specs.Tree as trees_of;
 ghost use Rattle.lf_ast.specs.Tree.{tree, trees, with_last};
 ghost use Rattle.lf_parse.specs.reading.Machine as machine;
-ghost use Rattle.lf_parse.specs.views.Values.{tok, seen_frames, next, seen_head, seen_operand, option_tree};
+ghost use Rattle.lf_parse.specs.views.Values.{token_of, frames_of, next, callee_of, operand_of, option_tree};
 
 use crate::calls::{aggregation, call};
-use crate::mode::{Frame, Head, Mode, Operand};
+use crate::mark::{Mark, MarkedToken};
+use crate::mode::{Callee, Operand, ParserFrame, ParserMode};
 use crate::operator::{UNARY, left_level, level, op_of};
-use crate::seen::{Mark, Seen};
 use crate::span::{to, up_to};
 use crate::stage::Stage;
 use lf_ast::{Expr, Matching, Op};
@@ -21,19 +21,19 @@ pub fn reduce(
     alloc: Global,
     least: u32,
     end: u32,
-    stack: &mut Vec<Frame>,
+    stack: &mut Vec<ParserFrame>,
     operand: Expr,
 ) -> Result<Expr, Memory>
-    ensures { IfOk result (λ e. machine.held (seen_frames stack.new.items) (tree e) ≡ machine.reduce least end (seen_frames stack.old.items) (tree operand)) }
+    ensures { IfOk result (λ e. machine.held (frames_of stack.new.items) (tree e) ≡ machine.reduce least end (frames_of stack.old.items) (tree operand)) }
 {
     let mut operand = operand;
     loop {
         match stack.pop() {
             None => return Ok(operand),
-            Some(Frame::LeftOf(op, span, modifier, left)) if level(op) >= least => {
+            Some(ParserFrame::LeftOf(op, span, modifier, left)) if level(op) >= least => {
                 operand = binary(alloc, op, span, modifier, left, operand)?;
             }
-            Some(Frame::Signed(minus, sign)) if least <= UNARY => {
+            Some(ParserFrame::Signed(minus, sign)) if least <= UNARY => {
                 operand = unary(alloc, minus, up_to(sign, end), operand)?;
             }
             Some(other) => {
@@ -96,16 +96,21 @@ fn with_last(args: Seq<Expr>, last: Expr) -> Result<Seq<Expr>, Memory>
 }
 
 /// A call or an aggregation with its arguments, whose `)` has a span.
-pub fn applied(alloc: Global, head: Head, args: Seq<Expr>, close: Span) -> Result<Operand, Memory>
-    ensures { IfOk result (λ x. seen_operand x ≡ machine.applied (seen_head head) (trees args) close) }
+pub fn applied(
+    alloc: Global,
+    callee: Callee,
+    args: Seq<Expr>,
+    close: Span,
+) -> Result<Operand, Memory>
+    ensures { IfOk result (λ x. operand_of x ≡ machine.applied (callee_of callee) (trees args) close) }
 {
-    match head {
-        Head::Call(name, span) => {
+    match callee {
+        Callee::Call(name, span) => {
             let whole = Box::new(alloc, call(name, args, span))?;
             Ok(Operand::Whole(whole, close.end))
         }
-        Head::Aggregate(op, span) => Ok(Operand::Aggregated(op, args, span, close.end)),
-        Head::Grouped(op, grouping, span) => {
+        Callee::Aggregate(op, span) => Ok(Operand::Aggregated(op, args, span, close.end)),
+        Callee::Grouped(op, grouping, span) => {
             let whole = Box::new(alloc, aggregation(op, grouping, args, span))?;
             Ok(Operand::Whole(whole, close.end))
         }
@@ -115,23 +120,23 @@ pub fn applied(alloc: Global, head: Head, args: Seq<Expr>, close: Span) -> Resul
 /// Takes a `)` behind an operand, which ends at an offset: it closes a parenthesis or arguments.
 fn close(
     alloc: Global,
-    stack: &mut Vec<Frame>,
+    stack: &mut Vec<ParserFrame>,
     operand: Expr,
     end: u32,
     close: Span,
-) -> Result<Option<Mode>, Memory>
-    ensures { IfOk result (λ p. let h = machine.reduce 1 end (seen_frames stack.old.items) (tree operand) in next stack.new.items p ≡ machine.close close h.frames h.tree) }
+) -> Result<Option<ParserMode>, Memory>
+    ensures { IfOk result (λ p. let h = machine.reduce 1 end (frames_of stack.old.items) (tree operand) in next stack.new.items p ≡ machine.close close h.frames h.tree) }
 {
     let inner = reduce(alloc, 1, end, stack, operand)?;
     match stack.pop() {
-        Some(Frame::Paren(open)) => {
+        Some(ParserFrame::Paren(open)) => {
             let whole = paren(alloc, to(open, close), inner)?;
             let whole = Box::new(alloc, whole)?;
-            Ok(Some(Mode::ExpectOperator(Operand::Whole(whole, close.end))))
+            Ok(Some(ParserMode::ExpectOperator(Operand::Whole(whole, close.end))))
         }
-        Some(Frame::Args(head, args)) => {
+        Some(ParserFrame::Args(callee, args)) => {
             let args = with_last(args, inner)?;
-            Ok(Some(Mode::ExpectOperator(applied(alloc, head, args, close)?)))
+            Ok(Some(ParserMode::ExpectOperator(applied(alloc, callee, args, close)?)))
         }
         _ => Ok(None),
     }
@@ -140,18 +145,18 @@ fn close(
 /// Takes a `,` behind an operand, which ends at an offset: the next argument comes.
 fn comma(
     alloc: Global,
-    stack: &mut Vec<Frame>,
+    stack: &mut Vec<ParserFrame>,
     operand: Expr,
     end: u32,
-) -> Result<Option<Mode>, Memory>
-    ensures { IfOk result (λ p. let h = machine.reduce 1 end (seen_frames stack.old.items) (tree operand) in next stack.new.items p ≡ machine.comma h.frames h.tree) }
+) -> Result<Option<ParserMode>, Memory>
+    ensures { IfOk result (λ p. let h = machine.reduce 1 end (frames_of stack.old.items) (tree operand) in next stack.new.items p ≡ machine.comma h.frames h.tree) }
 {
     let inner = reduce(alloc, 1, end, stack, operand)?;
     match stack.pop() {
-        Some(Frame::Args(head, args)) => {
+        Some(ParserFrame::Args(callee, args)) => {
             let args = with_last(args, inner)?;
-            stack.push(Frame::Args(head, args))?;
-            Ok(Some(Mode::ExpectOperand))
+            stack.push(ParserFrame::Args(callee, args))?;
+            Ok(Some(ParserMode::ExpectOperand))
         }
         _ => Ok(None),
     }
@@ -160,20 +165,20 @@ fn comma(
 /// Takes an operator behind an operand, which ends at an offset. What binds tighter to the left of it is one tree from here on.
 fn joined(
     alloc: Global,
-    stack: &mut Vec<Frame>,
+    stack: &mut Vec<ParserFrame>,
     operand: Expr,
     end: u32,
     span: Span,
     op: Option<Op>,
-) -> Result<Option<Mode>, Memory>
-    ensures { IfOk result (λ p. next stack.new.items p ≡ machine.joined (seen_frames stack.old.items) (tree operand) end span op) }
+) -> Result<Option<ParserMode>, Memory>
+    ensures { IfOk result (λ p. next stack.new.items p ≡ machine.joined (frames_of stack.old.items) (tree operand) end span op) }
 {
     match op {
         None => Ok(None),
         Some(op) => {
             let left = reduce(alloc, left_level(op), end, stack, operand)?;
             let left = Box::new(alloc, left)?;
-            Ok(Some(Mode::Modifying(op, span, left, Stage::Begin)))
+            Ok(Some(ParserMode::Modifying(op, span, left, Stage::Begin)))
         }
     }
 }
@@ -181,12 +186,12 @@ fn joined(
 /// Takes the token behind an operand, which ends at an offset in the source.
 pub fn after(
     alloc: Global,
-    stack: &mut Vec<Frame>,
+    stack: &mut Vec<ParserFrame>,
     operand: Expr,
     end: u32,
-    token: Seen,
-) -> Result<Option<Mode>, Memory>
-    ensures { IfOk result (λ p. next stack.new.items p ≡ machine.after (seen_frames stack.old.items) (tree operand) end (tok token.entry)) }
+    token: MarkedToken,
+) -> Result<Option<ParserMode>, Memory>
+    ensures { IfOk result (λ p. next stack.new.items p ≡ machine.after (frames_of stack.old.items) (tree operand) end (token_of token.entry)) }
 {
     match token.mark {
         Mark::Sign(Sign::CloseParen) => close(alloc, stack, operand, end, token.span),
@@ -198,11 +203,11 @@ pub fn after(
 /// The whole expression, if this is its end.
 pub fn ended(
     alloc: Global,
-    stack: Vec<Frame>,
+    stack: Vec<ParserFrame>,
     operand: Expr,
     end: u32,
 ) -> Result<Option<Expr>, Memory>
-    ensures { IfOk result (λ e. let h = machine.reduce 1 end (seen_frames stack.items) (tree operand) in option_tree e ≡ machine.ended h.frames h.tree) }
+    ensures { IfOk result (λ e. let h = machine.reduce 1 end (frames_of stack.items) (tree operand) in option_tree e ≡ machine.ended h.frames h.tree) }
 {
     let mut stack = stack;
     let whole = reduce(alloc, 1, end, &mut stack, operand)?;

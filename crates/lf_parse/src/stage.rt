@@ -2,11 +2,11 @@
 ghost use Rattle.std.specs.Prelude.{◌≡◌, IfOk};
 ghost use Rattle.lf_parse.specs.Grammar as grammar;
 ghost use Rattle.lf_parse.specs.reading.Machine as machine;
-ghost use Rattle.lf_parse.specs.views.Values.{tok, seen_names, seen_front, seen_stage, step_of};
+ghost use Rattle.lf_parse.specs.views.Values.{token_of, names_of, front_of, stage_of, step_of};
 
 use crate::class::{Class, Scope, Side};
+use crate::mark::{Mark, MarkedToken};
 use crate::names::{Names, names_step};
-use crate::seen::{Mark, Seen};
 use crate::span::{behind, to};
 use crate::step::Step;
 use lf_ast::{Group, Matching, Name};
@@ -98,8 +98,8 @@ fn many_of(side: Side) -> Group
 }
 
 /// Takes the token right behind an operator.
-fn begin(alloc: Global, operator: Span, token: Seen) -> Step<Stage, Matching>
-    ensures { step_of seen_stage (λ m. m) result ≡ machine.stage_step operator machine.Begin (tok token.entry) }
+fn begin(alloc: Global, operator: Span, token: MarkedToken) -> Step<Stage, Matching>
+    ensures { step_of stage_of (λ m. m) result ≡ machine.stage_step operator machine.Begin (token_of token.entry) }
 {
     match token.mark {
         Mark::Word(Class::Bool) => Step::More(Stage::AfterBool(token.span)),
@@ -116,8 +116,13 @@ fn begin(alloc: Global, operator: Span, token: Seen) -> Step<Stage, Matching>
 }
 
 /// Takes the token behind `bool`.
-fn after_bool(alloc: Global, operator: Span, first: Span, token: Seen) -> Step<Stage, Matching>
-    ensures { step_of seen_stage (λ m. m) result ≡ machine.stage_step operator (machine.AfterBool first) (tok token.entry) }
+fn after_bool(
+    alloc: Global,
+    operator: Span,
+    first: Span,
+    token: MarkedToken,
+) -> Step<Stage, Matching>
+    ensures { step_of stage_of (λ m. m) result ≡ machine.stage_step operator (machine.AfterBool first) (token_of token.entry) }
 {
     match token.mark {
         Mark::Word(Class::Matching(scope)) => {
@@ -134,7 +139,7 @@ fn after_bool(alloc: Global, operator: Span, first: Span, token: Seen) -> Step<S
 
 /// Goes on inside the labels of `on` or `ignoring`, by what they did with a token.
 fn in_labels(front: Front, taken: Step<Names, (Seq<Name>, Span)>) -> Step<Stage, Matching>
-    ensures { step_of seen_stage (λ m. m) result ≡ machine.in_labels (seen_front front) (step_of seen_names (λ v. v) taken) }
+    ensures { step_of stage_of (λ m. m) result ≡ machine.in_labels (front_of front) (step_of names_of (λ v. v) taken) }
 {
     match taken {
         Step::More(names) => Step::More(Stage::InLabels(front, names)),
@@ -150,9 +155,9 @@ fn after_labels(
     front: Front,
     labels: Seq<Name>,
     close: Span,
-    token: Seen,
+    token: MarkedToken,
 ) -> Step<Stage, Matching>
-    ensures { step_of seen_stage (λ m. m) result ≡ machine.stage_step operator (machine.AfterLabels (seen_front front) labels close) (tok token.entry) }
+    ensures { step_of stage_of (λ m. m) result ≡ machine.stage_step operator (machine.AfterLabels (front_of front) labels close) (token_of token.entry) }
 {
     match token.mark {
         Mark::Word(Class::Group(side)) => {
@@ -170,9 +175,9 @@ fn after_group(
     labels: Seq<Name>,
     side: Side,
     word: Span,
-    token: Seen,
+    token: MarkedToken,
 ) -> Step<Stage, Matching>
-    ensures { step_of seen_stage (λ m. m) result ≡ machine.stage_step operator (machine.AfterGroup (seen_front front) labels side word) (tok token.entry) }
+    ensures { step_of stage_of (λ m. m) result ≡ machine.stage_step operator (machine.AfterGroup (front_of front) labels side word) (token_of token.entry) }
 {
     match token.mark {
         Mark::Sign(Sign::OpenParen) => Step::More(Stage::InInclude(
@@ -192,7 +197,7 @@ fn in_include(
     side: Side,
     taken: Step<Names, (Seq<Name>, Span)>,
 ) -> Step<Stage, Matching>
-    ensures { step_of seen_stage (λ m. m) result ≡ machine.in_include (seen_front front) labels side (step_of seen_names (λ v. v) taken) }
+    ensures { step_of stage_of (λ m. m) result ≡ machine.in_include (front_of front) labels side (step_of names_of (λ v. v) taken) }
 {
     match taken {
         Step::More(names) => Step::More(Stage::InInclude(front, labels, side, names)),
@@ -208,9 +213,9 @@ pub fn stage_step(
     alloc: Global,
     operator: Span,
     stage: Stage,
-    token: Seen,
+    token: MarkedToken,
 ) -> Result<Step<Stage, Matching>, Memory>
-    ensures { IfOk result (λ taken. step_of seen_stage (λ m. m) taken ≡ machine.stage_step operator (seen_stage stage) (tok token.entry)) }
+    ensures { IfOk result (λ taken. step_of stage_of (λ m. m) taken ≡ machine.stage_step operator (stage_of stage) (token_of token.entry)) }
 {
     match stage {
         Stage::Begin => Ok(begin(alloc, operator, token)),

@@ -6,8 +6,8 @@ use Rattle.std.proofs.lemmas.Bool.Decides.{nat_tests}
 use Rattle.std.proofs.lemmas.Bool.{cond-true, cond-false}
 use Rattle.lf_pattern.specs.declared.replacement.Piece.{Piece}
 use Rattle.lf_pattern.specs.declared.replacement.Piece.TheVariants.{Char, Group}
-use Rattle.lf_pattern.specs.declared.replacement.Mode.{Mode}
-use Rattle.lf_pattern.specs.declared.replacement.Mode.TheVariants.{Text, Dollar, Number, Braced}
+use Rattle.lf_pattern.specs.declared.replacement.ReplacementMode.{ReplacementMode}
+use Rattle.lf_pattern.specs.declared.replacement.ReplacementMode.TheVariants.{Text, Dollar, Number, Braced}
 use Rattle.lf_pattern.specs.Replacement.{IsNumber, is_word, BeginsApart, Reads, end, other, dollar, number, braced}
 use Rattle.lf_pattern.specs.reading.Replacement.{greatest, with_digit, pieces_of, bounded}
 
@@ -25,7 +25,7 @@ unfolding pieces_of
 number-end n = refl
 
 -- at the end nothing but a number gives a piece
-pub end-apart : (m : Mode) → ((n : ℕ) → m ≡ Number n → ⊥) → pieces_of m [] ≡ []
+pub end-apart : (m : ReplacementMode) → ((n : ℕ) → m ≡ Number n → ⊥) → pieces_of m [] ≡ []
 unfolding pieces_of
 end-apart Text h = refl
 end-apart Dollar h = refl

@@ -9,45 +9,45 @@ use Rattle.std.proofs.lemmas.Str.{length-encode}
 use Rattle.std.specs.Char.{digit_value}
 use Rattle.std.specs.Str.Parse.{AllDigits, IsNumeral, digits_value_after}
 use Rattle.lf_pattern.specs.Plain.{is_special, is_escapable}
-use Rattle.lf_pattern.specs.Shape.{Samples, counted, last_of, is_opaque, unknown, class_samples, IsLeast, Count, star, plus, optional, exactly, at_least, between, Lazily, greedy, lazy, Alternatives, one, more, Row, nothing, next, Piece, once, often, Atom, ordinary, any, begin, end, digit, word, space, escaped, class, negated, group, quiet, HasShape}
+use Rattle.lf_pattern.specs.Shape.{Samples, counted, last_of, is_opaque, unknown, class_samples, IsLeast, Count, star, plus, optional, exactly, at_least, between, Lazily, greedy, lazy, Alternatives, one, more, Branch, nothing, next, QuantifiedAtom, once, often, Atom, ordinary, any, begin, end, digit, word, space, escaped, class, negated, group, quiet, HasShape}
 use Rattle.lf_pattern.specs.declared.sample.Both.{Both}
-use Rattle.lf_pattern.specs.declared.shape.Frame.{Frame}
-use Rattle.lf_pattern.specs.declared.shape.Mode.{Mode}
-use Rattle.lf_pattern.specs.declared.shape.Mode.TheVariants as mode
-use Rattle.lf_pattern.specs.declared.shape.Part.{Part}
-use Rattle.lf_pattern.specs.declared.shape.Part.TheVariants as part
-use Rattle.lf_pattern.specs.ShapeScan.{State, nothing_read, pair, followed_by, counted_by, value_of, with_row, flushed, part_of, begun_with, begun, is_hidden, class_pair, is_digit, stepped, start, may_end, ended, read_from}
+use Rattle.lf_pattern.specs.declared.shape.GroupFrame.{GroupFrame}
+use Rattle.lf_pattern.specs.declared.shape.ShapeMode.{ShapeMode}
+use Rattle.lf_pattern.specs.declared.shape.ShapeMode.TheVariants as mode
+use Rattle.lf_pattern.specs.declared.shape.CharacterKind.{CharacterKind}
+use Rattle.lf_pattern.specs.declared.shape.CharacterKind.TheVariants as kind
+use Rattle.lf_pattern.specs.ShapeScan.{State, nothing_read, pair, followed_by, counted_by, value_of, with_branch, flushed, kind_of, begun_with, begun, is_hidden, class_pair, is_digit, stepped, start, may_end, ended, read_from}
 use Rattle.lf_pattern.proofs.Capping.{fits, cut, both_of, capped-fits, followed-cut, counted-cut, followed-followed, followed-nothing, nothing-cut}
 use Rattle.lf_pattern.proofs.Digits.{digit-is}
 
-abbrev pub st : Mode → Both → Frame → List Frame → State
+abbrev pub st : ShapeMode → Both → GroupFrame → List GroupFrame → State
 st m P F S = record { mode = m; piece = P; frame = F; stack = S }
 
 -- a character with which a count begins
 abbrev pub is_count : ℕ → Bool
 is_count c = ((c == 42) || (c == 43)) || ((c == 63) || (c == 123))
 
-pub begun-mode : (k : Part) (m : Mode) (P : Both) (F : Frame) (S : List Frame) (c : ℕ) → begun_with k (flushed (st m P F S)) c ≡ begun_with k (flushed (st mode.Ready P F S)) c
-begun-mode part.Bar m P F S c = refl
-begun-mode part.Open m P F S c = refl
-begun-mode part.Close m P F [] c = refl
-begun-mode part.Close m P F (G ∷ S) c = refl
-begun-mode part.Bracket m P F S c = refl
-begun-mode part.Backslash m P F S c = refl
-begun-mode part.Dot m P F S c = refl
-begun-mode part.Anchor m P F S c = refl
-begun-mode part.Odd m P F S c = refl
-begun-mode part.Ordinary m P F S c = refl
+pub begun-mode : (k : CharacterKind) (m : ShapeMode) (P : Both) (F : GroupFrame) (S : List GroupFrame) (c : ℕ) → begun_with k (flushed (st m P F S)) c ≡ begun_with k (flushed (st mode.Ready P F S)) c
+begun-mode kind.Bar m P F S c = refl
+begun-mode kind.Open m P F S c = refl
+begun-mode kind.Close m P F [] c = refl
+begun-mode kind.Close m P F (G ∷ S) c = refl
+begun-mode kind.Bracket m P F S c = refl
+begun-mode kind.Backslash m P F S c = refl
+begun-mode kind.Dot m P F S c = refl
+begun-mode kind.Anchor m P F S c = refl
+begun-mode kind.Odd m P F S c = refl
+begun-mode kind.Ordinary m P F S c = refl
 
 -- where the pattern may end, what begins no count begins something new
-pub idle : (m : Mode) (P : Both) (F : Frame) (S : List Frame) (c : ℕ) → may_end m ≡ true → is_count c ≡ false → stepped (st m P F S) c ≡ begun (st mode.Ready P F S) c
+pub idle : (m : ShapeMode) (P : Both) (F : GroupFrame) (S : List GroupFrame) (c : ℕ) → may_end m ≡ true → is_count c ≡ false → stepped (st m P F S) c ≡ begun (st mode.Ready P F S) c
 unfolding stepped
 idle mode.Ready P F S c h apart = refl
 idle mode.Atom P F S c h apart =
     cond-false (c == 42) _ _ (grind (arith, nat_tests)) ∙ cond-false (c == 43) _ _ (grind (arith, nat_tests)) ∙ cond-false (c == 63) _ _ (grind (arith, nat_tests)) ∙ cond-false (c == 123) _ _ (grind (arith, nat_tests))
-    ∙ begun-mode (part_of c) mode.Atom P F S c
-idle mode.Lazy P F S c h apart = cond-false (c == 63) _ _ (grind (arith, nat_tests)) ∙ begun-mode (part_of c) mode.Lazy P F S c
-idle mode.Open P F S c h apart = cond-false (c == 63) _ _ (grind (arith, nat_tests)) ∙ begun-mode (part_of c) mode.Open P F S c
+    ∙ begun-mode (kind_of c) mode.Atom P F S c
+idle mode.Lazy P F S c h apart = cond-false (c == 63) _ _ (grind (arith, nat_tests)) ∙ begun-mode (kind_of c) mode.Lazy P F S c
+idle mode.Open P F S c h apart = cond-false (c == 63) _ _ (grind (arith, nat_tests)) ∙ begun-mode (kind_of c) mode.Open P F S c
 idle mode.Escape P F S c h apart = absurd (true≢false (sym h))
 idle mode.Quiet P F S c h apart = absurd (true≢false (sym h))
 idle mode.ClassStart P F S c h apart = absurd (true≢false (sym h))
@@ -61,13 +61,13 @@ idle (mode.Most n) P F S c h apart = absurd (true≢false (sym h))
 idle mode.Outside P F S c h apart = absurd (true≢false (sym h))
 
 -- the same of all that is left
-pub idle_from : (m : Mode) (P : Both) (F : Frame) (S : List Frame) (c : ℕ) (rest : List ℕ) → may_end m ≡ true → is_count c ≡ false →
+pub idle_from : (m : ShapeMode) (P : Both) (F : GroupFrame) (S : List GroupFrame) (c : ℕ) (rest : List ℕ) → may_end m ≡ true → is_count c ≡ false →
     read_from (st m P F S) (c ∷ rest) ≡ read_from (begun (st mode.Ready P F S) c) rest
 idle_from m P F S c rest h apart = ap (λ (s : State). read_from s rest) (idle m P F S c h apart)
 
-part-ordinary : (c : ℕ) → is_special c ≡ false → part_of c ≡ part.Ordinary
+kind-ordinary : (c : ℕ) → is_special c ≡ false → kind_of c ≡ kind.Ordinary
 unfolding is_special
-part-ordinary c h =
+kind-ordinary c h =
     cond-false (c == 124) _ _ (grind (arith, nat_tests)) ∙ cond-false (c == 40) _ _ (grind (arith, nat_tests)) ∙ cond-false (c == 41) _ _ (grind (arith, nat_tests))
     ∙ cond-false (c == 91) _ _ (grind (arith, nat_tests)) ∙ cond-false (c == 92) _ _ (grind (arith, nat_tests)) ∙ cond-false (c == 46) _ _ (grind (arith, nat_tests))
     ∙ cond-false ((c == 94) || (c == 36)) _ _ (grind (arith, nat_tests)) ∙ cond-false (is_special c) _ _ h
@@ -103,7 +103,7 @@ value-grows : (n : ℕ) (ds : List ℕ) → n ≤ digits_value_after 10 n ds
 value-grows n [] = omega arith
 value-grows n (d ∷ ds) = omega (arith, value-grows (n * 10 + digit_value d) ds)
 
-module _ (P : Both) (F : Frame) (S : List Frame) where
+module _ (P : Both) (F : GroupFrame) (S : List GroupFrame) where
   least-digit : (n d : ℕ) → digit_value d < 10 → n * 10 + digit_value d ≤ 64 → stepped (st (mode.Least n) P F S) d ≡ st (mode.Least (n * 10 + digit_value d)) P F S
   unfolding stepped
   least-digit n d h le = cond-true (is_digit d) _ _ (digit-is d h) ∙ cond-true (nat_le (n * 10 + digit_value d) 64) _ _ (digit-fits (n * 10 + digit_value d) le)
@@ -202,64 +202,64 @@ module _ (P : Both) (F : Frame) (S : List Frame) where
   unfolding stepped
   negated-whole first members rest h = negated-members members rest h
 
--- ---- atoms, pieces, rows and alternatives
+-- ---- atoms, pieces, branches and alternatives
 
-escape-step : (P : Both) (F : Frame) (S : List Frame) (c : ℕ) → is_escapable c ≡ true → stepped (st mode.Escape P F S) c ≡ st mode.Atom (pair (encode_utf8 c) (encode_utf8 c)) F S
+escape-step : (P : Both) (F : GroupFrame) (S : List GroupFrame) (c : ℕ) → is_escapable c ≡ true → stepped (st mode.Escape P F S) c ≡ st mode.Atom (pair (encode_utf8 c) (encode_utf8 c)) F S
 unfolding stepped is_escapable
 escape-step P F S c h =
     cond-false (c == 100) _ _ (grind (arith, nat_tests)) ∙ cond-false (c == 119) _ _ (grind (arith, nat_tests)) ∙ cond-false (c == 115) _ _ (grind (arith, nat_tests)) ∙ cond-true (is_escapable c) _ _ h
 
-closes : (m : Mode) (P : Both) (f F : Frame) (S : List Frame) (rest : List ℕ) (p : Samples) → may_end m ≡ true → value_of (with_row f P) ≡ cut p →
+closes : (m : ShapeMode) (P : Both) (f F : GroupFrame) (S : List GroupFrame) (rest : List ℕ) (p : Samples) → may_end m ≡ true → value_of (with_branch f P) ≡ cut p →
     read_from (st m P f (F ∷ S)) (41 ∷ rest) ≡ read_from (st mode.Atom (cut p) F S) rest
 closes m P f F S rest p i v =
     idle_from m P f (F ∷ S) 41 rest i refl ∙ ap (λ (q : Both). read_from (st mode.Atom q F S) rest) v
 
-ends : (m : Mode) (P : Both) (F : Frame) → may_end m ≡ true → ended (st m P F []) ≡ Some (value_of (with_row F P))
-ends m P F i = ap (λ (b : Bool). cond (not b) None (Some (value_of (with_row F P)))) i
+ends : (m : ShapeMode) (P : Both) (F : GroupFrame) → may_end m ≡ true → ended (st m P F []) ≡ Some (value_of (with_branch F P))
+ends m P F i = ap (λ (b : Bool). cond (not b) None (Some (value_of (with_branch F P)))) i
 
--- from `s` over `cs` a row is read to `rest`, and its samples are then `R`
-record ReadsRow (s : State) (cs : List ℕ) (R : Both) (x : Option (Option (List ℕ))) (S : List Frame) (rest : List ℕ) : Type 0 where
-  mode_then : Mode
+-- from `s` over `cs` a branch is read to `rest`, and its samples are then `R`
+record ReadsBranch (s : State) (cs : List ℕ) (R : Both) (x : Option (Option (List ℕ))) (S : List GroupFrame) (rest : List ℕ) : Type 0 where
+  mode_then : ShapeMode
   piece_then : Both
-  frame_then : Frame
+  frame_then : GroupFrame
   idle_then : may_end mode_then ≡ true
   runs : read_from s cs ≡ read_from (st mode_then piece_then frame_then S) rest
-  row : followed_by frame_then.row piece_then ≡ R
+  branch : followed_by frame_then.branch piece_then ≡ R
   first : frame_then.first ≡ x
 
 -- the same of alternatives, whose samples are then `V`
-record ReadsAll (s : State) (cs : List ℕ) (V : Both) (S : List Frame) (rest : List ℕ) : Type 0 where
-  mode_then : Mode
+record ReadsAll (s : State) (cs : List ℕ) (V : Both) (S : List GroupFrame) (rest : List ℕ) : Type 0 where
+  mode_then : ShapeMode
   piece_then : Both
-  frame_then : Frame
+  frame_then : GroupFrame
   idle_then : may_end mode_then ≡ true
   runs : read_from s cs ≡ read_from (st mode_then piece_then frame_then S) rest
-  value : value_of (with_row frame_then piece_then) ≡ V
+  value : value_of (with_branch frame_then piece_then) ≡ V
 
 abbrev pub value_with : Option (Option (List ℕ)) → Both → Both
 value_with x R = record { low = unwrap_or x R.low; high = R.high }
 
-abbrev pub fresh : Option (Option (List ℕ)) → Frame
-fresh x = record { first = x; row = nothing_read }
+abbrev pub fresh : Option (Option (List ℕ)) → GroupFrame
+fresh x = record { first = x; branch = nothing_read }
 
-row_value : (f : Frame) (P : Both) (x : Option (Option (List ℕ))) (R : Both) → followed_by f.row P ≡ R → f.first ≡ x → value_of (with_row f P) ≡ value_with x R
-row_value f P x R r h = ap₂ (λ (y : Option (Option (List ℕ))) (q : Both). value_with y q) h r
+branch_value : (f : GroupFrame) (P : Both) (x : Option (Option (List ℕ))) (R : Both) → followed_by f.branch P ≡ R → f.first ≡ x → value_of (with_branch f P) ≡ value_with x R
+branch_value f P x R r h = ap₂ (λ (y : Option (Option (List ℕ))) (q : Both). value_with y q) h r
 
-by_laziness : {vs rest : List ℕ} → Lazily vs rest → (s : State) (cs : List ℕ) (P R : Both) (F : Frame) (S : List Frame) →
-    read_from s cs ≡ read_from (st mode.Lazy P F S) vs → followed_by F.row P ≡ R → ReadsRow s cs R F.first S rest
+by_laziness : {vs rest : List ℕ} → Lazily vs rest → (s : State) (cs : List ℕ) (P R : Both) (F : GroupFrame) (S : List GroupFrame) →
+    read_from s cs ≡ read_from (st mode.Lazy P F S) vs → followed_by F.branch P ≡ R → ReadsBranch s cs R F.first S rest
 unfolding stepped
-by_laziness greedy s cs P R F S e r = record { mode_then = mode.Lazy; piece_then = P; frame_then = F; idle_then = refl; runs = e; row = r; first = refl }
-by_laziness lazy s cs P R F S e r = record { mode_then = mode.Ready; piece_then = P; frame_then = F; idle_then = refl; runs = e; row = r; first = refl }
+by_laziness greedy s cs P R F S e r = record { mode_then = mode.Lazy; piece_then = P; frame_then = F; idle_then = refl; runs = e; branch = r; first = refl }
+by_laziness lazy s cs P R F S e r = record { mode_then = mode.Ready; piece_then = P; frame_then = F; idle_then = refl; runs = e; branch = r; first = refl }
 
 mutual
   unfolding stepped
 
-  found_atom : {cs rest : List ℕ} {p : Samples} → Atom cs p rest → (m : Mode) (P : Both) (F : Frame) (S : List Frame) → may_end m ≡ true →
-      read_from (st m P F S) cs ≡ read_from (st mode.Atom (cut p) (with_row F P) S) rest
+  found_atom : {cs rest : List ℕ} {p : Samples} → Atom cs p rest → (m : ShapeMode) (P : Both) (F : GroupFrame) (S : List GroupFrame) → may_end m ≡ true →
+      read_from (st m P F S) cs ≡ read_from (st mode.Atom (cut p) (with_branch F P) S) rest
   found_atom (ordinary {c} {rest} h) m P F S i =
       idle_from m P F S c rest i (special-count c h)
-      ∙ ap (λ (k : Part). read_from (begun_with k (flushed (st mode.Ready P F S)) c) rest) (part-ordinary c h)
-      ∙ ap (λ (q : Both). read_from (st mode.Atom q (with_row F P) S) rest) (encoded-cut c c)
+      ∙ ap (λ (k : CharacterKind). read_from (begun_with k (flushed (st mode.Ready P F S)) c) rest) (kind-ordinary c h)
+      ∙ ap (λ (q : Both). read_from (st mode.Atom q (with_branch F P) S) rest) (encoded-cut c c)
   found_atom (any {rest}) m P F S i = idle_from m P F S 46 rest i refl
   found_atom (begin {rest}) m P F S i = idle_from m P F S 94 rest i refl
   found_atom (end {rest}) m P F S i = idle_from m P F S 36 rest i refl
@@ -268,66 +268,66 @@ mutual
   found_atom (space {rest}) m P F S i = idle_from m P F S 92 (115 ∷ rest) i refl
   found_atom (escaped {c} {rest} h) m P F S i =
       idle_from m P F S 92 (c ∷ rest) i refl
-      ∙ at_step nothing_read (with_row F P) S (st mode.Escape nothing_read (with_row F P) S) _ c rest (escape-step nothing_read (with_row F P) S c h)
-      ∙ ap (λ (q : Both). read_from (st mode.Atom q (with_row F P) S) rest) (encoded-cut c c)
+      ∙ at_step nothing_read (with_branch F P) S (st mode.Escape nothing_read (with_branch F P) S) _ c rest (escape-step nothing_read (with_branch F P) S c h)
+      ∙ ap (λ (q : Both). read_from (st mode.Atom q (with_branch F P) S) rest) (encoded-cut c c)
   found_atom (class first members {rest} apart h) m P F S i =
       idle_from m P F S 91 (first ∷ members ++ 93 ∷ rest) i refl
-      ∙ class-whole nothing_read (with_row F P) S first members rest apart h
+      ∙ class-whole nothing_read (with_branch F P) S first members rest apart h
   found_atom (negated first members {rest} h) m P F S i =
       idle_from m P F S 91 (94 ∷ first ∷ members ++ 93 ∷ rest) i refl
-      ∙ negated-whole nothing_read (with_row F P) S first members rest h
+      ∙ negated-whole nothing_read (with_branch F P) S first members rest h
   found_atom (group {cs} {rest} {p} a) m P F S i =
       idle_from m P F S 40 cs i refl
-      ∙ (let r = found_all a mode.Open None (with_row F P ∷ S) refl in
-      r.runs ∙ closes r.mode_then r.piece_then r.frame_then (with_row F P) S rest p r.idle_then r.value)
+      ∙ (let r = found_all a mode.Open None (with_branch F P ∷ S) refl in
+      r.runs ∙ closes r.mode_then r.piece_then r.frame_then (with_branch F P) S rest p r.idle_then r.value)
   found_atom (quiet {cs} {rest} {p} a) m P F S i =
       idle_from m P F S 40 (63 ∷ 58 ∷ cs) i refl
-      ∙ (let r = found_all a mode.Ready None (with_row F P ∷ S) refl in
-      r.runs ∙ closes r.mode_then r.piece_then r.frame_then (with_row F P) S rest p r.idle_then r.value)
+      ∙ (let r = found_all a mode.Ready None (with_branch F P ∷ S) refl in
+      r.runs ∙ closes r.mode_then r.piece_then r.frame_then (with_branch F P) S rest p r.idle_then r.value)
 
-  found_piece : {cs rest : List ℕ} {p : Samples} → Piece cs p rest → (m : Mode) (P : Both) (F : Frame) (S : List Frame) → may_end m ≡ true →
-      ReadsRow (st m P F S) cs (followed_by (followed_by F.row P) (cut p)) F.first S rest
+  found_piece : {cs rest : List ℕ} {p : Samples} → QuantifiedAtom cs p rest → (m : ShapeMode) (P : Both) (F : GroupFrame) (S : List GroupFrame) → may_end m ≡ true →
+      ReadsBranch (st m P F S) cs (followed_by (followed_by F.branch P) (cut p)) F.first S rest
   found_piece (once {cs} {rest} {p} a) m P F S i =
-      record { mode_then = mode.Atom; piece_then = cut p; frame_then = with_row F P; idle_then = refl; runs = found_atom a m P F S i; row = refl; first = refl }
+      record { mode_then = mode.Atom; piece_then = cut p; frame_then = with_branch F P; idle_then = refl; runs = found_atom a m P F S i; branch = refl; first = refl }
   found_piece (often {cs} {us} {vs} {rest} {p} {least} a count l) m P F S i =
-      let e = found_atom a m P F S i ∙ found_count (cut p) (with_row F P) S count in
-      by_laziness l (st m P F S) cs (counted_by least (cut p)) (followed_by (followed_by F.row P) (cut (counted least p))) (with_row F P) S e
-      (ap (followed_by (followed_by F.row P)) (counted-cut least p))
+      let e = found_atom a m P F S i ∙ found_count (cut p) (with_branch F P) S count in
+      by_laziness l (st m P F S) cs (counted_by least (cut p)) (followed_by (followed_by F.branch P) (cut (counted least p))) (with_branch F P) S e
+      (ap (followed_by (followed_by F.branch P)) (counted-cut least p))
 
-  found_row : {cs rest : List ℕ} {p : Samples} → Row cs p rest → (m : Mode) (P : Both) (F : Frame) (S : List Frame) → may_end m ≡ true →
-      ReadsRow (st m P F S) cs (followed_by (followed_by F.row P) (cut p)) F.first S rest
-  found_row nothing m P F S i =
-      record { mode_then = m; piece_then = P; frame_then = F; idle_then = i; runs = refl; row = sym (followed-nothing F.row P); first = refl }
-  found_row (next {cs} {us} {rest} {p} {q} a b) m P F S i =
+  found_branch : {cs rest : List ℕ} {p : Samples} → Branch cs p rest → (m : ShapeMode) (P : Both) (F : GroupFrame) (S : List GroupFrame) → may_end m ≡ true →
+      ReadsBranch (st m P F S) cs (followed_by (followed_by F.branch P) (cut p)) F.first S rest
+  found_branch nothing m P F S i =
+      record { mode_then = m; piece_then = P; frame_then = F; idle_then = i; runs = refl; branch = sym (followed-nothing F.branch P); first = refl }
+  found_branch (next {cs} {us} {rest} {p} {q} a b) m P F S i =
       let r = found_piece a m P F S i in
-      let t = found_row b r.mode_then r.piece_then r.frame_then S r.idle_then in
+      let t = found_branch b r.mode_then r.piece_then r.frame_then S r.idle_then in
       record {
         mode_then = t.mode_then;
         piece_then = t.piece_then;
         frame_then = t.frame_then;
         idle_then = t.idle_then;
         runs = r.runs ∙ t.runs;
-        row = t.row ∙ ap (λ (x : Both). followed_by x (cut q)) r.row ∙ followed-followed (followed_by F.row P) (cut p) (cut q) ∙ ap (followed_by (followed_by F.row P)) (followed-cut p q);
+        branch = t.branch ∙ ap (λ (x : Both). followed_by x (cut q)) r.branch ∙ followed-followed (followed_by F.branch P) (cut p) (cut q) ∙ ap (followed_by (followed_by F.branch P)) (followed-cut p q);
         first = t.first ∙ r.first;
       }
 
-  found_all : {cs rest : List ℕ} {p : Samples} → Alternatives cs p rest → (m : Mode) (x : Option (Option (List ℕ))) (S : List Frame) → may_end m ≡ true →
+  found_all : {cs rest : List ℕ} {p : Samples} → Alternatives cs p rest → (m : ShapeMode) (x : Option (Option (List ℕ))) (S : List GroupFrame) → may_end m ≡ true →
       ReadsAll (st m nothing_read (fresh x) S) cs (value_with x (cut p)) S rest
   found_all (one {cs} {rest} {p} a) m x S i =
-      let r = found_row a m nothing_read (fresh x) S i in
+      let r = found_branch a m nothing_read (fresh x) S i in
       record {
         mode_then = r.mode_then;
         piece_then = r.piece_then;
         frame_then = r.frame_then;
         idle_then = r.idle_then;
         runs = r.runs;
-        value = row_value r.frame_then r.piece_then x (cut p) (r.row ∙ nothing-cut p) r.first;
+        value = branch_value r.frame_then r.piece_then x (cut p) (r.branch ∙ nothing-cut p) r.first;
       }
   found_all (more {cs} {us} {rest} {p} {q} a b) m x S i =
-      let r = found_row a m nothing_read (fresh x) S i in
+      let r = found_branch a m nothing_read (fresh x) S i in
       let y = unwrap_or x (cut p).low in
-      let low : unwrap_or r.frame_then.first (followed_by r.frame_then.row r.piece_then).low ≡ y =
-      ap₂ (λ (f : Option (Option (List ℕ))) (b : Both). unwrap_or f b.low) r.first (r.row ∙ nothing-cut p) in
+      let low : unwrap_or r.frame_then.first (followed_by r.frame_then.branch r.piece_then).low ≡ y =
+      ap₂ (λ (f : Option (Option (List ℕ))) (b : Both). unwrap_or f b.low) r.first (r.branch ∙ nothing-cut p) in
       let t = found_all b mode.Ready (Some y) S refl in
       record {
         mode_then = t.mode_then;

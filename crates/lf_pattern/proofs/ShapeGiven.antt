@@ -12,29 +12,29 @@ use Rattle.std.specs.List.{list_any}
 use Rattle.std.specs.Char.{digit_value}
 use Rattle.std.specs.Str.Parse.{IsNumeral}
 use Rattle.lf_pattern.specs.Plain.{is_special, is_escapable}
-use Rattle.lf_pattern.specs.Shape.{Samples, same, followed, counted, chosen, last_of, is_opaque, unknown, class_samples, IsLeast, Count, star, plus, optional, exactly, at_least, between, Lazily, greedy, lazy, Alternatives, one, more, Row, nothing, next, once, often, Atom, ordinary, any, begin, end, digit, word, space, escaped, class, negated, group, quiet, HasShape}
+use Rattle.lf_pattern.specs.Shape.{Samples, same, followed, counted, chosen, last_of, is_opaque, unknown, class_samples, IsLeast, Count, star, plus, optional, exactly, at_least, between, Lazily, greedy, lazy, Alternatives, one, more, Branch, nothing, next, once, often, Atom, ordinary, any, begin, end, digit, word, space, escaped, class, negated, group, quiet, HasShape}
 use Rattle.lf_pattern.specs.declared.sample.Both.{Both}
-use Rattle.lf_pattern.specs.declared.shape.Frame.{Frame}
-use Rattle.lf_pattern.specs.declared.shape.Mode.{Mode}
-use Rattle.lf_pattern.specs.declared.shape.Mode.TheVariants as mode
-use Rattle.lf_pattern.specs.declared.shape.Part.{Part}
-use Rattle.lf_pattern.specs.declared.shape.Part.TheVariants as part
-use Rattle.lf_pattern.specs.ShapeScan.{State, nothing_read, pair, followed_by, counted_by, value_of, with_row, flushed, part_of, begun_with, begun, behind_atom, escaped_by, in_class, in_least, in_most, is_hidden, class_pair, is_digit, stepped, start, may_end, ended, read_from}
+use Rattle.lf_pattern.specs.declared.shape.GroupFrame.{GroupFrame}
+use Rattle.lf_pattern.specs.declared.shape.ShapeMode.{ShapeMode}
+use Rattle.lf_pattern.specs.declared.shape.ShapeMode.TheVariants as mode
+use Rattle.lf_pattern.specs.declared.shape.CharacterKind.{CharacterKind}
+use Rattle.lf_pattern.specs.declared.shape.CharacterKind.TheVariants as kind
+use Rattle.lf_pattern.specs.ShapeScan.{State, nothing_read, pair, followed_by, counted_by, value_of, with_branch, flushed, kind_of, begun_with, begun, behind_atom, escaped_by, in_class, in_least, in_most, is_hidden, class_pair, is_digit, stepped, start, may_end, ended, read_from}
 use Rattle.lf_pattern.proofs.Capping.{cut, followed-cut, counted-cut, followed-followed, followed-nothing, nothing-cut}
 use Rattle.lf_pattern.proofs.Digits.{digit-below}
 use Rattle.lf_pattern.proofs.ShapeFound.{st, begun-mode, encoded-cut, class-cut, fresh, value_with}
 
 -- what a character is, by its part
-abbrev IsPart : Part → ℕ → Type 0
-IsPart part.Bar c = c ≡ 124
-IsPart part.Open c = c ≡ 40
-IsPart part.Close c = c ≡ 41
-IsPart part.Bracket c = c ≡ 91
-IsPart part.Backslash c = c ≡ 92
-IsPart part.Dot c = c ≡ 46
-IsPart part.Anchor c = (c ≡ 94) ⊎ (c ≡ 36)
-IsPart part.Odd c = Unit {0}
-IsPart part.Ordinary c = is_special c ≡ false
+abbrev IsOfKind : CharacterKind → ℕ → Type 0
+IsOfKind kind.Bar c = c ≡ 124
+IsOfKind kind.Open c = c ≡ 40
+IsOfKind kind.Close c = c ≡ 41
+IsOfKind kind.Bracket c = c ≡ 91
+IsOfKind kind.Backslash c = c ≡ 92
+IsOfKind kind.Dot c = c ≡ 46
+IsOfKind kind.Anchor c = (c ≡ 94) ⊎ (c ≡ 36)
+IsOfKind kind.Odd c = Unit {0}
+IsOfKind kind.Ordinary c = is_special c ≡ false
 
 anchor-is : (c : ℕ) → ((c == 94) || (c == 36)) ≡ true → (c ≡ 94) ⊎ (c ≡ 36)
 anchor-is c h = elim (cases_Bool (c == 94)) [
@@ -42,9 +42,9 @@ anchor-is c h = elim (cases_Bool (c == 94)) [
   | inr p ↦ inr (eqb-true c 36 (sym (ap (λ (b : Bool). b || (c == 36)) p) ∙ h))
 ]
 
-part-sorted : (c : ℕ) → IsPart (part_of c) c
-part-sorted c =
-    let P : Part → Type 0 = λ k. IsPart k c in
+kind-sorted : (c : ℕ) → IsOfKind (kind_of c) c
+kind-sorted c =
+    let P : CharacterKind → Type 0 = λ k. IsOfKind k c in
     cond_both (c == 124) _ _ P (λ e. eqb-true c 124 e) (λ _.
     cond_both (c == 40) _ _ P (λ e. eqb-true c 40 e) (λ _.
     cond_both (c == 41) _ _ P (λ e. eqb-true c 41 e) (λ _.
@@ -84,68 +84,68 @@ least-push ds n c h e f =
 -- ---- what may follow. `E samples cs` says that cs goes on behind the end of the innermost group, whose samples these are.
 
 module _ (E : Both → List ℕ → Type 0) where
-  -- behind a row
-  abbrev pub After : Frame → List ℕ → Type 0
+  -- behind a branch
+  abbrev pub After : GroupFrame → List ℕ → Type 0
   After X ws =
       E (value_of X) ws
-      ⊎ ((us : List ℕ) × (q : Samples) × (vs : List ℕ) × (ws ≡ 124 ∷ us) × Alternatives us q vs × E (record { low = unwrap_or X.first X.row.low; high = (cut q).high }) vs)
+      ⊎ ((us : List ℕ) × (q : Samples) × (vs : List ℕ) × (ws ≡ 124 ∷ us) × Alternatives us q vs × E (record { low = unwrap_or X.first X.branch.low; high = (cut q).high }) vs)
 
-  -- behind the pieces of a row so far
-  abbrev pub Tail : Frame → List ℕ → Type 0
-  Tail X cs = (p : Samples) × (ws : List ℕ) × Row cs p ws × After (with_row X (cut p)) ws
+  -- behind the pieces of a branch so far
+  abbrev pub Tail : GroupFrame → List ℕ → Type 0
+  Tail X cs = (p : Samples) × (ws : List ℕ) × Branch cs p ws × After (with_branch X (cut p)) ws
 
   -- behind an atom that has a count
-  abbrev pub CountThen : Both → Frame → List ℕ → Type 0
-  CountThen P F cs = (n : ℕ) × (vs : List ℕ) × (ws : List ℕ) × Count cs n vs × Lazily vs ws × Tail (with_row F (counted_by n P)) ws
+  abbrev pub CountThen : Both → GroupFrame → List ℕ → Type 0
+  CountThen P F cs = (n : ℕ) × (vs : List ℕ) × (ws : List ℕ) × Count cs n vs × Lazily vs ws × Tail (with_branch F (counted_by n P)) ws
 
   -- behind an atom
-  abbrev pub AfterAtom : Both → Frame → List ℕ → Type 0
-  AfterAtom P F cs = Tail (with_row F P) cs ⊎ CountThen P F cs
+  abbrev pub AfterAtom : Both → GroupFrame → List ℕ → Type 0
+  AfterAtom P F cs = Tail (with_branch F P) cs ⊎ CountThen P F cs
 
   -- an atom, and what is behind it
-  abbrev pub AtomThen : Frame → List ℕ → Type 0
+  abbrev pub AtomThen : GroupFrame → List ℕ → Type 0
   AtomThen F cs = (p : Samples) × (us : List ℕ) × Atom cs p us × AfterAtom (cut p) F us
 
-  same_frame : (X : Frame) (R Q : Both) → R ≡ Q → (ws : List ℕ) → After (record { first = X.first; row = R }) ws → After (record { first = X.first; row = Q }) ws
-  same_frame X R Q e ws a = let P : Both → Type 0 = λ r. After (record { first = X.first; row = r }) ws in subst P e a
+  same_frame : (X : GroupFrame) (R Q : Both) → R ≡ Q → (ws : List ℕ) → After (record { first = X.first; branch = R }) ws → After (record { first = X.first; branch = Q }) ws
+  same_frame X R Q e ws a = let P : Both → Type 0 = λ r. After (record { first = X.first; branch = r }) ws in subst P e a
 
-  with_atom : (X : Frame) (cs : List ℕ) → AtomThen X cs → Tail X cs
-  with_atom X cs (p, us, a, inl (q, ws, row, after)) =
-      (followed p q, ws, next (once a) row, same_frame X _ _ (followed-followed X.row (cut p) (cut q) ∙ ap (followed_by X.row) (followed-cut p q)) ws after)
-  with_atom X cs (p, us, a, inr (n, vs, xs, count, lazily, (q, ws, row, after))) = (
+  with_atom : (X : GroupFrame) (cs : List ℕ) → AtomThen X cs → Tail X cs
+  with_atom X cs (p, us, a, inl (q, ws, branch, after)) =
+      (followed p q, ws, next (once a) branch, same_frame X _ _ (followed-followed X.branch (cut p) (cut q) ∙ ap (followed_by X.branch) (followed-cut p q)) ws after)
+  with_atom X cs (p, us, a, inr (n, vs, xs, count, lazily, (q, ws, branch, after))) = (
     followed (counted n p) q,
     ws,
-    next (often a count lazily) row,
-    same_frame X _ _ (followed-followed X.row (counted_by n (cut p)) (cut q) ∙ ap (λ (c : Both). followed_by X.row (followed_by c (cut q))) (counted-cut n p) ∙ ap (followed_by X.row) (followed-cut (counted n p) q)) ws after,
+    next (often a count lazily) branch,
+    same_frame X _ _ (followed-followed X.branch (counted_by n (cut p)) (cut q) ∙ ap (λ (c : Both). followed_by X.branch (followed_by c (cut q))) (counted-cut n p) ∙ ap (followed_by X.branch) (followed-cut (counted n p) q)) ws after,
   )
 
-  -- a row that has ended
-  at_end : (F : Frame) (P : Both) (ws : List ℕ) → After (with_row F P) ws → Tail (with_row F P) ws
-  at_end F P ws a = (same [], ws, nothing, same_frame F _ _ (sym (followed-nothing F.row P)) ws a)
+  -- a branch that has ended
+  at_end : (F : GroupFrame) (P : Both) (ws : List ℕ) → After (with_branch F P) ws → Tail (with_branch F P) ws
+  at_end F P ws a = (same [], ws, nothing, same_frame F _ _ (sym (followed-nothing F.branch P)) ws a)
 
   all_of : (x : Option (Option (List ℕ))) (cs : List ℕ) → Tail (fresh x) cs → (q : Samples) × (vs : List ℕ) × Alternatives cs q vs × E (value_with x (cut q)) vs
-  all_of x cs (p, ws, row, inl e) =
+  all_of x cs (p, ws, branch, inl e) =
       let P : Both → Type 0 = λ r. E (value_with x r) ws in
-      (p, ws, one row, subst P (nothing-cut p) e)
-  all_of x cs (p, ws, row, inr (us, q, vs, is, alternatives, e)) =
+      (p, ws, one branch, subst P (nothing-cut p) e)
+  all_of x cs (p, ws, branch, inr (us, q, vs, is, alternatives, e)) =
       let P : Both → Type 0 = λ r. E (record { low = unwrap_or x r.low; high = (cut q).high }) vs in
-      let R : List ℕ → Type 0 = λ l. Row cs p l in
-      (chosen p q, vs, more (subst R is row) alternatives, subst P (nothing-cut p) e)
+      let R : List ℕ → Type 0 = λ l. Branch cs p l in
+      (chosen p q, vs, more (subst R is branch) alternatives, subst P (nothing-cut p) e)
 
 module _ (v : Both) where
   -- behind the end of a group in these frames, to the end of the pattern, whose samples are v
-  abbrev pub Ends : List Frame → Both → List ℕ → Type 0
+  abbrev pub Ends : List GroupFrame → Both → List ℕ → Type 0
   Ends [] x ws = (ws ≡ []) × (v ≡ x)
   Ends (G ∷ S) x ws = (us : List ℕ) × (ws ≡ 41 ∷ us) × AfterAtom (Ends S) x G us
 
   -- what is left in a mode
-  abbrev pub Left : Mode → Both → Frame → List Frame → List ℕ → Type 0
-  Left mode.Ready P F S cs = Tail (Ends S) (with_row F P) cs
+  abbrev pub Left : ShapeMode → Both → GroupFrame → List GroupFrame → List ℕ → Type 0
+  Left mode.Ready P F S cs = Tail (Ends S) (with_branch F P) cs
   Left mode.Atom P F S cs = AfterAtom (Ends S) P F cs
-  Left mode.Lazy P F S cs = (ws : List ℕ) × Lazily cs ws × Tail (Ends S) (with_row F P) ws
+  Left mode.Lazy P F S cs = (ws : List ℕ) × Lazily cs ws × Tail (Ends S) (with_branch F P) ws
   Left mode.Escape P F S cs = AtomThen (Ends S) F (92 ∷ cs)
-  Left mode.Open P F S cs = Tail (Ends S) (with_row F P) cs ⊎ ((us : List ℕ) × (cs ≡ 63 ∷ 58 ∷ us) × Tail (Ends S) (with_row F P) us)
-  Left mode.Quiet P F S cs = (us : List ℕ) × (cs ≡ 58 ∷ us) × Tail (Ends S) (with_row F P) us
+  Left mode.Open P F S cs = Tail (Ends S) (with_branch F P) cs ⊎ ((us : List ℕ) × (cs ≡ 63 ∷ 58 ∷ us) × Tail (Ends S) (with_branch F P) us)
+  Left mode.Quiet P F S cs = (us : List ℕ) × (cs ≡ 58 ∷ us) × Tail (Ends S) (with_branch F P) us
   Left mode.ClassStart P F S cs = AtomThen (Ends S) F (91 ∷ cs)
   Left (mode.Class first last opaque) P F S cs =
       first ≢ 94 → (members : List ℕ) → All (λ m. m ≢ 93) members → last ≡ last_of first members → opaque ≡ is_opaque first members → AtomThen (Ends S) F (91 ∷ first ∷ members ++ cs)
@@ -160,19 +160,19 @@ module _ (v : Both) where
 
   -- ---- at the end
 
-  row_end : (P : Both) (F : Frame) → Some (value_of (with_row F P)) ≡ Some v → Tail (Ends []) (with_row F P) []
-  row_end P F h = at_end (Ends []) F P [] (inl (refl, sym (same_Some _ _ h)))
+  branch_end : (P : Both) (F : GroupFrame) → Some (value_of (with_branch F P)) ≡ Some v → Tail (Ends []) (with_branch F P) []
+  branch_end P F h = at_end (Ends []) F P [] (inl (refl, sym (same_Some _ _ h)))
 
-  open_end : (m : Mode) (P : Both) (F G : Frame) (S : List Frame) → ended (st m P F (G ∷ S)) ≡ None
+  open_end : (m : ShapeMode) (P : Both) (F G : GroupFrame) (S : List GroupFrame) → ended (st m P F (G ∷ S)) ≡ None
   open_end m P F G S =
       let e : nat_lt 0 (length (G ∷ S)) ≡ true = grind (arith, nat_tests) in
-      ap (λ (b : Bool). cond (b || not (may_end m)) None (Some (value_of (with_row F P)))) e
+      ap (λ (b : Bool). cond (b || not (may_end m)) None (Some (value_of (with_branch F P)))) e
 
-  left_end : (m : Mode) (P : Both) (F : Frame) (S : List Frame) → ended (st m P F S) ≡ Some v → Left m P F S []
-  left_end mode.Ready P F [] h = row_end P F h
-  left_end mode.Atom P F [] h = inl (row_end P F h)
-  left_end mode.Lazy P F [] h = ([], greedy, row_end P F h)
-  left_end mode.Open P F [] h = inl (row_end P F h)
+  left_end : (m : ShapeMode) (P : Both) (F : GroupFrame) (S : List GroupFrame) → ended (st m P F S) ≡ Some v → Left m P F S []
+  left_end mode.Ready P F [] h = branch_end P F h
+  left_end mode.Atom P F [] h = inl (branch_end P F h)
+  left_end mode.Lazy P F [] h = ([], greedy, branch_end P F h)
+  left_end mode.Open P F [] h = inl (branch_end P F h)
   left_end mode.Escape P F [] h = absurd (none-some _ h)
   left_end mode.Quiet P F [] h = absurd (none-some _ h)
   left_end mode.ClassStart P F [] h = absurd (none-some _ h)
@@ -188,29 +188,29 @@ module _ (v : Both) where
 
   -- ---- a character
 
-  module _ (cs : List ℕ) (given_later : (m : Mode) (P : Both) (F : Frame) (S : List Frame) → read_from (st m P F S) cs ≡ Some v → Left m P F S cs) where
+  module _ (cs : List ℕ) (given_later : (m : ShapeMode) (P : Both) (F : GroupFrame) (S : List GroupFrame) → read_from (st m P F S) cs ≡ Some v → Left m P F S cs) where
     -- a test that the next state rests on
     split : (T : Type 0) (b : Bool) (x y : State) → (b ≡ true → read_from x cs ≡ Some v → T) → (b ≡ false → read_from y cs ≡ Some v → T) → read_from (cond b x y) cs ≡ Some v → T
     split T true x y f g h = f refl h
     split T false x y f g h = g refl h
 
-    group_of : (F : Frame) (S : List Frame) (us : List ℕ) → Tail (Ends (F ∷ S)) (fresh None) us →
+    group_of : (F : GroupFrame) (S : List GroupFrame) (us : List ℕ) → Tail (Ends (F ∷ S)) (fresh None) us →
         (p : Samples) × (rest : List ℕ) × Alternatives us p (41 ∷ rest) × AfterAtom (Ends S) (cut p) F rest
     group_of F S us t =
         let (q, vs, alternatives, (rest, is, after)) = all_of (Ends (F ∷ S)) None us t in
         let A : List ℕ → Type 0 = λ l. Alternatives us q l in
         (q, rest, subst A is alternatives, after)
 
-    by_part : (c : ℕ) (P : Both) (F : Frame) (S : List Frame) (k : Part) → IsPart k c → read_from (begun_with k (flushed (st mode.Ready P F S)) c) cs ≡ Some v →
-        Tail (Ends S) (with_row F P) (c ∷ cs)
-    by_part c P F S part.Bar is h =
-        let X = with_row F P in
-        let t : Tail (Ends S) (fresh (Some (unwrap_or X.first X.row.low))) cs = given_later mode.Ready nothing_read (fresh (Some (unwrap_or X.first X.row.low))) S h in
-        let (q, vs, alternatives, e) = all_of (Ends S) (Some (unwrap_or X.first X.row.low)) cs t in
+    by_kind : (c : ℕ) (P : Both) (F : GroupFrame) (S : List GroupFrame) (k : CharacterKind) → IsOfKind k c → read_from (begun_with k (flushed (st mode.Ready P F S)) c) cs ≡ Some v →
+        Tail (Ends S) (with_branch F P) (c ∷ cs)
+    by_kind c P F S kind.Bar is h =
+        let X = with_branch F P in
+        let t : Tail (Ends S) (fresh (Some (unwrap_or X.first X.branch.low))) cs = given_later mode.Ready nothing_read (fresh (Some (unwrap_or X.first X.branch.low))) S h in
+        let (q, vs, alternatives, e) = all_of (Ends S) (Some (unwrap_or X.first X.branch.low)) cs t in
         let T : ℕ → Type 0 = λ d. Tail (Ends S) X (d ∷ cs) in
         subst T (sym is) (at_end (Ends S) F P (124 ∷ cs) (inr (cs, q, vs, refl, alternatives, e)))
-    by_part c P F S part.Open is h =
-        let X = with_row F P in
+    by_kind c P F S kind.Open is h =
+        let X = with_branch F P in
         let T : ℕ → Type 0 = λ d. Tail (Ends S) X (d ∷ cs) in
         subst T (sym is) (elim (given_later mode.Open nothing_read (fresh None) (X ∷ S) h) [
           | inl t ↦ let (p, rest, alternatives, after) = group_of X S cs t in with_atom (Ends S) X (40 ∷ cs) (p, rest, group alternatives, after)
@@ -219,47 +219,47 @@ module _ (v : Both) where
               let U : List ℕ → Type 0 = λ l. Tail (Ends S) X (40 ∷ l) in
               subst U (sym e) (with_atom (Ends S) X (40 ∷ 63 ∷ 58 ∷ us) (p, rest, quiet alternatives, after))
         ])
-    by_part c P F [] part.Close is h = absurd (given_later mode.Outside nothing_read (with_row F P) [] h)
-    by_part c P F (G ∷ S) part.Close is h =
-        let X = with_row F P in
+    by_kind c P F [] kind.Close is h = absurd (given_later mode.Outside nothing_read (with_branch F P) [] h)
+    by_kind c P F (G ∷ S) kind.Close is h =
+        let X = with_branch F P in
         let T : ℕ → Type 0 = λ d. Tail (Ends (G ∷ S)) X (d ∷ cs) in
         subst T (sym is) (at_end (Ends (G ∷ S)) F P (41 ∷ cs) (inl (cs, refl, given_later mode.Atom (value_of X) G S h)))
-    by_part c P F S part.Bracket is h =
-        let X = with_row F P in
+    by_kind c P F S kind.Bracket is h =
+        let X = with_branch F P in
         let T : ℕ → Type 0 = λ d. Tail (Ends S) X (d ∷ cs) in
         subst T (sym is) (with_atom (Ends S) X (91 ∷ cs) (given_later mode.ClassStart nothing_read X S h))
-    by_part c P F S part.Backslash is h =
-        let X = with_row F P in
+    by_kind c P F S kind.Backslash is h =
+        let X = with_branch F P in
         let T : ℕ → Type 0 = λ d. Tail (Ends S) X (d ∷ cs) in
         subst T (sym is) (with_atom (Ends S) X (92 ∷ cs) (given_later mode.Escape nothing_read X S h))
-    by_part c P F S part.Dot is h =
-        let X = with_row F P in
+    by_kind c P F S kind.Dot is h =
+        let X = with_branch F P in
         let T : ℕ → Type 0 = λ d. Tail (Ends S) X (d ∷ cs) in
         subst T (sym is) (with_atom (Ends S) X (46 ∷ cs) (record { low = 48 ∷ []; high = 97 ∷ [] }, cs, any, given_later mode.Atom (pair (48 ∷ []) (97 ∷ [])) X S h))
-    by_part c P F S part.Anchor is h =
-        let X = with_row F P in
+    by_kind c P F S kind.Anchor is h =
+        let X = with_branch F P in
         let T : ℕ → Type 0 = λ d. Tail (Ends S) X (d ∷ cs) in
         let after = given_later mode.Atom nothing_read X S h in
         elim is [
           | inl e ↦ subst T (sym e) (with_atom (Ends S) X (94 ∷ cs) (same [], cs, begin, after))
           | inr e ↦ subst T (sym e) (with_atom (Ends S) X (36 ∷ cs) (same [], cs, end, after))
         ]
-    by_part c P F S part.Odd is h = absurd (given_later mode.Outside nothing_read (with_row F P) S h)
-    by_part c P F S part.Ordinary is h =
-        let X = with_row F P in
+    by_kind c P F S kind.Odd is h = absurd (given_later mode.Outside nothing_read (with_branch F P) S h)
+    by_kind c P F S kind.Ordinary is h =
+        let X = with_branch F P in
         let A : Both → Type 0 = λ q. AfterAtom (Ends S) q X cs in
         with_atom (Ends S) X (c ∷ cs) (same (encode_utf8 c), cs, ordinary is, subst A (encoded-cut c c) (given_later mode.Atom (pair (encode_utf8 c) (encode_utf8 c)) X S h))
 
-    by_begin : (c : ℕ) (m : Mode) (P : Both) (F : Frame) (S : List Frame) → read_from (begun (st m P F S) c) cs ≡ Some v → Tail (Ends S) (with_row F P) (c ∷ cs)
-    by_begin c m P F S h = by_part c P F S (part_of c) (part-sorted c) (ap (λ (s : State). read_from s cs) (sym (begun-mode (part_of c) m P F S c)) ∙ h)
+    by_begin : (c : ℕ) (m : ShapeMode) (P : Both) (F : GroupFrame) (S : List GroupFrame) → read_from (begun (st m P F S) c) cs ≡ Some v → Tail (Ends S) (with_branch F P) (c ∷ cs)
+    by_begin c m P F S h = by_kind c P F S (kind_of c) (kind-sorted c) (ap (λ (s : State). read_from s cs) (sym (begun-mode (kind_of c) m P F S c)) ∙ h)
 
-    counted_then : (c : ℕ) (P : Both) (F : Frame) (S : List Frame) (n : ℕ) (us : List ℕ) → Count us n cs → read_from (st mode.Lazy (counted_by n P) F S) cs ≡ Some v → CountThen (Ends S) P F us
+    counted_then : (c : ℕ) (P : Both) (F : GroupFrame) (S : List GroupFrame) (n : ℕ) (us : List ℕ) → Count us n cs → read_from (st mode.Lazy (counted_by n P) F S) cs ≡ Some v → CountThen (Ends S) P F us
     counted_then c P F S n us count h = let (ws, lazily, tail) = given_later mode.Lazy (counted_by n P) F S h in (n, cs, ws, count, lazily, tail)
 
-    same_begin : (c d : ℕ) (P : Both) (F : Frame) (S : List Frame) → (c == d) ≡ true → CountThen (Ends S) P F (d ∷ cs) → CountThen (Ends S) P F (c ∷ cs)
+    same_begin : (c d : ℕ) (P : Both) (F : GroupFrame) (S : List GroupFrame) → (c == d) ≡ true → CountThen (Ends S) P F (d ∷ cs) → CountThen (Ends S) P F (c ∷ cs)
     same_begin c d P F S e t = let T : ℕ → Type 0 = λ b. CountThen (Ends S) P F (b ∷ cs) in subst T (sym (eqb-true c d e)) t
 
-    left_atom : (c : ℕ) (P : Both) (F : Frame) (S : List Frame) → read_from (behind_atom (st mode.Atom P F S) c) cs ≡ Some v → AfterAtom (Ends S) P F (c ∷ cs)
+    left_atom : (c : ℕ) (P : Both) (F : GroupFrame) (S : List GroupFrame) → read_from (behind_atom (st mode.Atom P F S) c) cs ≡ Some v → AfterAtom (Ends S) P F (c ∷ cs)
     left_atom c P F S h =
         let T = AfterAtom (Ends S) P F (c ∷ cs) in
         split T (c == 42) _ _ (λ e h. inr (same_begin c 42 P F S e (counted_then c P F S 0 (42 ∷ cs) star h)))
@@ -268,7 +268,7 @@ module _ (v : Both) where
         (λ _ h. split T (c == 123) _ _ (λ e h. inr (same_begin c 123 P F S e (given_later mode.Brace P F S h)))
         (λ _ h. inl (by_begin c mode.Atom P F S h)) h) h) h) h
 
-    left_escape : (c : ℕ) (P : Both) (F : Frame) (S : List Frame) → read_from (escaped_by (st mode.Escape P F S) c) cs ≡ Some v → AtomThen (Ends S) F (92 ∷ c ∷ cs)
+    left_escape : (c : ℕ) (P : Both) (F : GroupFrame) (S : List GroupFrame) → read_from (escaped_by (st mode.Escape P F S) c) cs ≡ Some v → AtomThen (Ends S) F (92 ∷ c ∷ cs)
     left_escape c P F S h =
         let T = AtomThen (Ends S) F (92 ∷ c ∷ cs) in
         let D : ℕ → Type 0 = λ d. AtomThen (Ends S) F (92 ∷ d ∷ cs) in
@@ -279,7 +279,7 @@ module _ (v : Both) where
         (λ e h. let A : Both → Type 0 = λ q. AfterAtom (Ends S) q F cs in (same (encode_utf8 c), cs, escaped e, subst A (encoded-cut c c) (given_later mode.Atom (pair (encode_utf8 c) (encode_utf8 c)) F S h)))
         (λ _ h. absurd (given_later mode.Outside P F S h)) h) h) h) h
 
-    left_class : (first last : ℕ) (opaque : Bool) (c : ℕ) (P : Both) (F : Frame) (S : List Frame) → read_from (in_class first last opaque (st (mode.Class first last opaque) P F S) c) cs ≡ Some v →
+    left_class : (first last : ℕ) (opaque : Bool) (c : ℕ) (P : Both) (F : GroupFrame) (S : List GroupFrame) → read_from (in_class first last opaque (st (mode.Class first last opaque) P F S) c) cs ≡ Some v →
         first ≢ 94 → (members : List ℕ) → All (λ m. m ≢ 93) members → last ≡ last_of first members → opaque ≡ is_opaque first members → AtomThen (Ends S) F (91 ∷ first ∷ members ++ (c ∷ cs))
     left_class first last opaque c P F S h apart members all is_last is_hid =
         let T = AtomThen (Ends S) F (91 ∷ first ∷ members ++ (c ∷ cs)) in
@@ -298,7 +298,7 @@ module _ (v : Both) where
         (last-push first members c)
         (ap (λ (b : Bool). b || is_hidden c) is_hid ∙ opaque-push first members c))) h
 
-    left_start : (c : ℕ) (P : Both) (F : Frame) (S : List Frame) → read_from (cond (c == 94) (st mode.NegatedStart P F S) (st (mode.Class c c (is_hidden c)) P F S)) cs ≡ Some v → AtomThen (Ends S) F (91 ∷ c ∷ cs)
+    left_start : (c : ℕ) (P : Both) (F : GroupFrame) (S : List GroupFrame) → read_from (cond (c == 94) (st mode.NegatedStart P F S) (st (mode.Class c c (is_hidden c)) P F S)) cs ≡ Some v → AtomThen (Ends S) F (91 ∷ c ∷ cs)
     left_start c P F S h =
         split (AtomThen (Ends S) F (91 ∷ c ∷ cs)) (c == 94) _ _
         (λ e h. let D : ℕ → Type 0 = λ d. AtomThen (Ends S) F (91 ∷ d ∷ cs) in subst D (sym (eqb-true c 94 e)) (given_later mode.NegatedStart P F S h))
@@ -306,7 +306,7 @@ module _ (v : Both) where
         let apart : c ≢ 94 = λ (f : c ≡ 94). absurd (grind (arith, nat_tests)) in
         given_later (mode.Class c c (is_hidden c)) P F S h apart [] (λ k d lt. absurd (omega (arith, lt))) refl (sym (or-false (is_hidden c)))) h
 
-    left_negated : (c : ℕ) (P : Both) (F : Frame) (S : List Frame) → read_from (cond (c == 93) (st mode.Atom (pair (48 ∷ []) (97 ∷ [])) F S) (st mode.Negated P F S)) cs ≡ Some v →
+    left_negated : (c : ℕ) (P : Both) (F : GroupFrame) (S : List GroupFrame) → read_from (cond (c == 93) (st mode.Atom (pair (48 ∷ []) (97 ∷ [])) F S) (st mode.Negated P F S)) cs ≡ Some v →
         (first : ℕ) (members : List ℕ) → All (λ m. m ≢ 93) members → AtomThen (Ends S) F (91 ∷ 94 ∷ first ∷ members ++ (c ∷ cs))
     left_negated c P F S h first members all =
         split (AtomThen (Ends S) F (91 ∷ 94 ∷ first ∷ members ++ (c ∷ cs))) (c == 93) _ _
@@ -317,13 +317,13 @@ module _ (v : Both) where
         let L : List ℕ → Type 0 = λ l. AtomThen (Ends S) F (91 ∷ 94 ∷ first ∷ l) in
         subst L (append_assoc members (c ∷ []) cs) (given_later mode.Negated P F S h first (members ++ c ∷ []) (All-push (λ m. m ≢ 93) members c all (grind (arith, nat_tests))))) h
 
-    left_brace : (c : ℕ) (P : Both) (F : Frame) (S : List Frame) → read_from (cond (is_digit c) (st (mode.Least (digit_value c)) P F S) (st mode.Outside P F S)) cs ≡ Some v → CountThen (Ends S) P F (123 ∷ c ∷ cs)
+    left_brace : (c : ℕ) (P : Both) (F : GroupFrame) (S : List GroupFrame) → read_from (cond (is_digit c) (st (mode.Least (digit_value c)) P F S) (st mode.Outside P F S)) cs ≡ Some v → CountThen (Ends S) P F (123 ∷ c ∷ cs)
     left_brace c P F S h =
         split (CountThen (Ends S) P F (123 ∷ c ∷ cs)) (is_digit c) _ _
         (λ e h. given_later (mode.Least (digit_value c)) P F S h (c ∷ []) (least-one c e))
         (λ _ h. absurd (given_later mode.Outside P F S h)) h
 
-    left_least : (n c : ℕ) (P : Both) (F : Frame) (S : List Frame) → read_from (in_least n (st (mode.Least n) P F S) c) cs ≡ Some v →
+    left_least : (n c : ℕ) (P : Both) (F : GroupFrame) (S : List GroupFrame) → read_from (in_least n (st (mode.Least n) P F S) c) cs ≡ Some v →
         (digits : List ℕ) → IsLeast digits n → CountThen (Ends S) P F (123 ∷ digits ++ (c ∷ cs))
     left_least n c P F S h digits is =
         let T = CountThen (Ends S) P F (123 ∷ digits ++ (c ∷ cs)) in
@@ -340,7 +340,7 @@ module _ (v : Both) where
         (λ e h. subst D (sym (eqb-true c 44 e)) (given_later (mode.Comma n) P F S h digits is))
         (λ _ h. absurd (given_later mode.Outside P F S h)) h) h) h
 
-    left_comma : (n c : ℕ) (P : Both) (F : Frame) (S : List Frame) → read_from (in_most n (st (mode.Comma n) P F S) c) cs ≡ Some v →
+    left_comma : (n c : ℕ) (P : Both) (F : GroupFrame) (S : List GroupFrame) → read_from (in_most n (st (mode.Comma n) P F S) c) cs ≡ Some v →
         (digits : List ℕ) → IsLeast digits n → CountThen (Ends S) P F (123 ∷ digits ++ (44 ∷ c ∷ cs))
     left_comma n c P F S h digits is =
         let T = CountThen (Ends S) P F (123 ∷ digits ++ (44 ∷ c ∷ cs)) in
@@ -351,7 +351,7 @@ module _ (v : Both) where
         (λ e h. subst D (sym (eqb-true c 125 e)) (counted_then c P F S n (123 ∷ digits ++ (44 ∷ 125 ∷ cs)) (at_least digits is) h))
         (λ _ h. absurd (given_later mode.Outside P F S h)) h) h
 
-    left_most : (n c : ℕ) (P : Both) (F : Frame) (S : List Frame) → read_from (in_most n (st (mode.Most n) P F S) c) cs ≡ Some v →
+    left_most : (n c : ℕ) (P : Both) (F : GroupFrame) (S : List GroupFrame) → read_from (in_most n (st (mode.Most n) P F S) c) cs ≡ Some v →
         (digits most : List ℕ) → IsLeast digits n → IsNumeral 10 most → CountThen (Ends S) P F (123 ∷ digits ++ (44 ∷ most ++ (c ∷ cs)))
     left_most n c P F S h digits most is numeral =
         let T = CountThen (Ends S) P F (123 ∷ digits ++ (44 ∷ most ++ (c ∷ cs))) in
@@ -364,7 +364,7 @@ module _ (v : Both) where
         (λ e h. subst D (sym (eqb-true c 125 e)) (counted_then c P F S n (123 ∷ digits ++ (44 ∷ most ++ (125 ∷ cs))) (between digits most is numeral) h))
         (λ _ h. absurd (given_later mode.Outside P F S h)) h) h
 
-    left_step : (c : ℕ) (m : Mode) (P : Both) (F : Frame) (S : List Frame) → read_from (stepped (st m P F S) c) cs ≡ Some v → Left m P F S (c ∷ cs)
+    left_step : (c : ℕ) (m : ShapeMode) (P : Both) (F : GroupFrame) (S : List GroupFrame) → read_from (stepped (st m P F S) c) cs ≡ Some v → Left m P F S (c ∷ cs)
     unfolding stepped
     left_step c mode.Ready P F S h = by_begin c mode.Ready P F S h
     left_step c mode.Atom P F S h = left_atom c P F S h
@@ -395,7 +395,7 @@ module _ (v : Both) where
     left_step c (mode.Most n) P F S h = left_most n c P F S h
     left_step c mode.Outside P F S h = given_later mode.Outside P F S h
 
-  left : (cs : List ℕ) (m : Mode) (P : Both) (F : Frame) (S : List Frame) → read_from (st m P F S) cs ≡ Some v → Left m P F S cs
+  left : (cs : List ℕ) (m : ShapeMode) (P : Both) (F : GroupFrame) (S : List GroupFrame) → read_from (st m P F S) cs ≡ Some v → Left m P F S cs
   left [] m P F S h = left_end m P F S h
   left (c ∷ cs) m P F S h = left_step cs (λ m P F S. left cs m P F S) c m P F S h
 

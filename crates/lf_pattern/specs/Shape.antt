@@ -70,18 +70,18 @@ pub data Lazily : List ℕ → List ℕ → Type 0 where
 mutual
   -- alternatives joined by `|`
   pub data Alternatives : List ℕ → Samples → List ℕ → Type 0 where
-    one : {cs rest : List ℕ} {p : Samples} → Row cs p rest → Alternatives cs p rest
-    more : {cs us rest : List ℕ} {p q : Samples} → Row cs p (124 ∷ us) → Alternatives us q rest → Alternatives cs (chosen p q) rest
+    one : {cs rest : List ℕ} {p : Samples} → Branch cs p rest → Alternatives cs p rest
+    more : {cs us rest : List ℕ} {p q : Samples} → Branch cs p (124 ∷ us) → Alternatives us q rest → Alternatives cs (chosen p q) rest
 
-  -- an alternative: a row of pieces
-  pub data Row : List ℕ → Samples → List ℕ → Type 0 where
-    nothing : {rest : List ℕ} → Row rest (same []) rest
-    next : {cs us rest : List ℕ} {p q : Samples} → Piece cs p us → Row us q rest → Row cs (followed p q) rest
+  -- an alternative: pieces, one behind the other
+  pub data Branch : List ℕ → Samples → List ℕ → Type 0 where
+    nothing : {rest : List ℕ} → Branch rest (same []) rest
+    next : {cs us rest : List ℕ} {p q : Samples} → QuantifiedAtom cs p us → Branch us q rest → Branch cs (followed p q) rest
 
   -- an atom with at most one count
-  pub data Piece : List ℕ → Samples → List ℕ → Type 0 where
-    once : {cs rest : List ℕ} {p : Samples} → Atom cs p rest → Piece cs p rest
-    often : {cs us vs rest : List ℕ} {p : Samples} {least : ℕ} → Atom cs p us → Count us least vs → Lazily vs rest → Piece cs (counted least p) rest
+  pub data QuantifiedAtom : List ℕ → Samples → List ℕ → Type 0 where
+    once : {cs rest : List ℕ} {p : Samples} → Atom cs p rest → QuantifiedAtom cs p rest
+    often : {cs us vs rest : List ℕ} {p : Samples} {least : ℕ} → Atom cs p us → Count us least vs → Lazily vs rest → QuantifiedAtom cs (counted least p) rest
 
   pub data Atom : List ℕ → Samples → List ℕ → Type 0 where
     ordinary : {c : ℕ} {rest : List ℕ} → is_special c ≡ false → Atom (c ∷ rest) (same (encode_utf8 c)) rest

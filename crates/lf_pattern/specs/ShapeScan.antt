@@ -5,11 +5,11 @@ use Rattle.std.specs.Prelude.{ℕ, zero, suc, ◌+◌, ◌*◌, max, Bool, true,
 use Rattle.std.specs.Char.{digit_value}
 use Rattle.lf_pattern.specs.Plain.{is_special, is_escapable}
 use Rattle.lf_pattern.specs.declared.sample.Both.{Both}
-use Rattle.lf_pattern.specs.declared.shape.Frame.{Frame}
-use Rattle.lf_pattern.specs.declared.shape.Mode.{Mode}
-use Rattle.lf_pattern.specs.declared.shape.Mode.TheVariants.{Ready, Atom, Lazy, Escape, Open, Quiet, ClassStart, Class, NegatedStart, Negated, Brace, Least, Comma, Most, Outside}
-use Rattle.lf_pattern.specs.declared.shape.Part.{Part}
-use Rattle.lf_pattern.specs.declared.shape.Part.TheVariants as part
+use Rattle.lf_pattern.specs.declared.shape.GroupFrame.{GroupFrame}
+use Rattle.lf_pattern.specs.declared.shape.ShapeMode.{ShapeMode}
+use Rattle.lf_pattern.specs.declared.shape.ShapeMode.TheVariants.{Ready, Atom, Lazy, Escape, Open, Quiet, ClassStart, Class, NegatedStart, Negated, Brace, Least, Comma, Most, Outside}
+use Rattle.lf_pattern.specs.declared.shape.CharacterKind.{CharacterKind}
+use Rattle.lf_pattern.specs.declared.shape.CharacterKind.TheVariants as kind
 use Rattle.lf_pattern.specs.declared.shape.Reader.{Reader}
 
 -- ---- samples of at most 256 bytes
@@ -40,24 +40,24 @@ counted_by least p = record { low = times_of least p.low; high = times_of (max 1
 
 -- ---- frames and states
 
--- a frame's samples as if its last row ended here
-abbrev pub value_of : Frame → Both
-value_of f = record { low = unwrap_or f.first f.row.low; high = f.row.high }
+-- a frame's samples as if its last branch ended here
+abbrev pub value_of : GroupFrame → Both
+value_of f = record { low = unwrap_or f.first f.branch.low; high = f.branch.high }
 
-abbrev pub with_row : Frame → Both → Frame
-with_row f p = record { first = f.first; row = followed_by f.row p }
+abbrev pub with_branch : GroupFrame → Both → GroupFrame
+with_branch f p = record { first = f.first; branch = followed_by f.branch p }
 
--- what was read: in which part, the samples of the last piece, which isn't in its row yet, the frame of the row, and the frames round it, the innermost first
+-- what was read: in which mode, the samples of the last piece, which isn't in its branch yet, the frame of the branch, and the frames round it, the innermost first
 pub record State : Type 0 where
-  pub mode : Mode
+  pub mode : ShapeMode
   pub piece : Both
-  pub frame : Frame
-  pub stack : List Frame
+  pub frame : GroupFrame
+  pub stack : List GroupFrame
 
 abbrev pub state_of : Reader → State
 state_of r = record { mode = r.mode; piece = r.piece; frame = r.frame; stack = reverse r.stack }
 
-abbrev pub in_mode : Mode → State → State
+abbrev pub in_mode : ShapeMode → State → State
 in_mode m s = record { mode = m; piece = s.piece; frame = s.frame; stack = s.stack }
 
 -- an atom was read, with these samples
@@ -68,47 +68,47 @@ with_atom p s = record { mode = Atom; piece = p; frame = s.frame; stack = s.stac
 abbrev pub with_count : ℕ → State → State
 with_count least s = record { mode = Lazy; piece = counted_by least s.piece; frame = s.frame; stack = s.stack }
 
--- the last piece is put into its row
+-- the last piece is put into its branch
 abbrev pub flushed : State → State
-flushed s = record { mode = s.mode; piece = nothing_read; frame = with_row s.frame s.piece; stack = s.stack }
+flushed s = record { mode = s.mode; piece = nothing_read; frame = with_branch s.frame s.piece; stack = s.stack }
 
 abbrev pub barred : State → State
-barred s = record { mode = Ready; piece = s.piece; frame = record { first = Some (unwrap_or s.frame.first s.frame.row.low); row = nothing_read }; stack = s.stack }
+barred s = record { mode = Ready; piece = s.piece; frame = record { first = Some (unwrap_or s.frame.first s.frame.branch.low); branch = nothing_read }; stack = s.stack }
 
 abbrev pub opened : State → State
-opened s = record { mode = Open; piece = s.piece; frame = record { first = None; row = nothing_read }; stack = s.frame ∷ s.stack }
+opened s = record { mode = Open; piece = s.piece; frame = record { first = None; branch = nothing_read }; stack = s.frame ∷ s.stack }
 
-abbrev pub closed_onto : List Frame → State → State
+abbrev pub closed_onto : List GroupFrame → State → State
 closed_onto [] s = in_mode Outside s
 closed_onto (f ∷ fs) s = record { mode = Atom; piece = value_of s.frame; frame = f; stack = fs }
 
 -- what a character can be that begins something
-abbrev pub part_of : ℕ → Part
-part_of c =
-    if c == 124 then part.Bar
-    else if c == 40 then part.Open
-    else if c == 41 then part.Close
-    else if c == 91 then part.Bracket
-    else if c == 92 then part.Backslash
-    else if c == 46 then part.Dot
-    else if (c == 94) || (c == 36) then part.Anchor
-    else if is_special c then part.Odd
-    else part.Ordinary
+abbrev pub kind_of : ℕ → CharacterKind
+kind_of c =
+    if c == 124 then kind.Bar
+    else if c == 40 then kind.Open
+    else if c == 41 then kind.Close
+    else if c == 91 then kind.Bracket
+    else if c == 92 then kind.Backslash
+    else if c == 46 then kind.Dot
+    else if (c == 94) || (c == 36) then kind.Anchor
+    else if is_special c then kind.Odd
+    else kind.Ordinary
 
--- a character that begins something, behind a row that is flushed
-abbrev pub begun_with : Part → State → ℕ → State
-begun_with part.Bar s c = barred s
-begun_with part.Open s c = opened s
-begun_with part.Close s c = closed_onto s.stack s
-begun_with part.Bracket s c = in_mode ClassStart s
-begun_with part.Backslash s c = in_mode Escape s
-begun_with part.Dot s c = with_atom (pair (48 ∷ []) (97 ∷ [])) s
-begun_with part.Anchor s c = with_atom nothing_read s
-begun_with part.Odd s c = in_mode Outside s
-begun_with part.Ordinary s c = with_atom (pair (encode_utf8 c) (encode_utf8 c)) s
+-- a character that begins something, behind a branch that is flushed
+abbrev pub begun_with : CharacterKind → State → ℕ → State
+begun_with kind.Bar s c = barred s
+begun_with kind.Open s c = opened s
+begun_with kind.Close s c = closed_onto s.stack s
+begun_with kind.Bracket s c = in_mode ClassStart s
+begun_with kind.Backslash s c = in_mode Escape s
+begun_with kind.Dot s c = with_atom (pair (48 ∷ []) (97 ∷ [])) s
+begun_with kind.Anchor s c = with_atom nothing_read s
+begun_with kind.Odd s c = in_mode Outside s
+begun_with kind.Ordinary s c = with_atom (pair (encode_utf8 c) (encode_utf8 c)) s
 
 abbrev pub begun : State → ℕ → State
-begun s c = begun_with (part_of c) (flushed s) c
+begun s c = begun_with (kind_of c) (flushed s) c
 
 abbrev pub is_hidden : ℕ → Bool
 is_hidden c = (c == 92) || (c == 91)
@@ -153,7 +153,7 @@ in_most n s c =
     else if c == 125 then with_count n s
     else in_mode Outside s
 
-abbrev pub stepped_in : Mode → State → ℕ → State
+abbrev pub stepped_in : ShapeMode → State → ℕ → State
 stepped_in Ready s c = begun s c
 stepped_in Atom s c = behind_atom s c
 stepped_in Lazy s c = if c == 63 then in_mode Ready s else begun s c
@@ -175,10 +175,10 @@ stepped s c = stepped_in s.mode s c
 
 -- the state before the first character
 abbrev pub start : State
-start = record { mode = Ready; piece = nothing_read; frame = record { first = None; row = nothing_read }; stack = [] }
+start = record { mode = Ready; piece = nothing_read; frame = record { first = None; branch = nothing_read }; stack = [] }
 
 -- the pattern may end in this mode
-abbrev pub may_end : Mode → Bool
+abbrev pub may_end : ShapeMode → Bool
 may_end Ready = true
 may_end Atom = true
 may_end Lazy = true

@@ -18,7 +18,7 @@ pub enum Piece {
 
 /// What was read of the piece that is open.
 #[derive(Clone, Copy)]
-enum Mode {
+enum ReplacementMode {
     /// Nothing: no piece is open.
     Text,
     /// A `$`.
@@ -39,79 +39,79 @@ pub fn pieces(alloc: Global, replacement: &Text) -> Result<Seq<Piece>, Memory>
 
 /// The pieces of the characters.
 fn scan(alloc: Global, characters: &[char]) -> Result<Seq<Piece>, Memory>
-    ensures { IfOk result (λ found. found ≡ pieces_of Mode.Text characters.now) }
+    ensures { IfOk result (λ found. found ≡ pieces_of ReplacementMode.Text characters.now) }
 {
     let mut pieces = Seq::new(alloc);
-    let mut mode = Mode::Text;
+    let mut mode = ReplacementMode::Text;
     for c in characters {
         mode = step(&mut pieces, mode, *c)?;
     }
-    if let Mode::Number(n) = mode {
+    if let ReplacementMode::Number(n) = mode {
         pieces.push(Piece::Group(n))?;
     }
     Ok(pieces)
 }
 
 /// Reads a character, and says what is open behind it.
-fn step(pieces: &mut Seq<Piece>, mode: Mode, c: char) -> Result<Mode, Memory>
+fn step(pieces: &mut Seq<Piece>, mode: ReplacementMode, c: char) -> Result<ReplacementMode, Memory>
     ensures { (cs : List ℕ) → IfOk result (λ m. pieces.old ++ pieces_of mode (c ∷ cs) ≡ pieces.new ++ pieces_of m cs) }
 {
     match mode {
-        Mode::Text => text(pieces, c),
-        Mode::Dollar => dollar(pieces, c),
-        Mode::Number(n) => match c.to_digit(10) {
-            Some(digit) => Ok(Mode::Number(with_digit(n, digit))),
+        ReplacementMode::Text => text(pieces, c),
+        ReplacementMode::Dollar => dollar(pieces, c),
+        ReplacementMode::Number(n) => match c.to_digit(10) {
+            Some(digit) => Ok(ReplacementMode::Number(with_digit(n, digit))),
             None => {
                 pieces.push(Piece::Group(n))?;
                 text(pieces, c)
             }
         },
-        Mode::Braced(n) => braced(pieces, n, c),
+        ReplacementMode::Braced(n) => braced(pieces, n, c),
     }
 }
 
 /// Reads a character that no piece is open before.
 #[tactic(auto, unfolding(crate::specs::reading::Replacement::pieces_of))]
-fn text(pieces: &mut Seq<Piece>, c: char) -> Result<Mode, Memory>
-    ensures { (cs : List ℕ) → IfOk result (λ m. pieces.old ++ pieces_of Mode.Text (c ∷ cs) ≡ pieces.new ++ pieces_of m cs) }
+fn text(pieces: &mut Seq<Piece>, c: char) -> Result<ReplacementMode, Memory>
+    ensures { (cs : List ℕ) → IfOk result (λ m. pieces.old ++ pieces_of ReplacementMode.Text (c ∷ cs) ≡ pieces.new ++ pieces_of m cs) }
 {
     if c == '$' {
-        return Ok(Mode::Dollar);
+        return Ok(ReplacementMode::Dollar);
     }
     pieces.push(Piece::Char(c))?;
-    Ok(Mode::Text)
+    Ok(ReplacementMode::Text)
 }
 
 /// Reads a character behind a `$`.
 #[tactic(auto, unfolding(crate::specs::reading::Replacement::pieces_of))]
-fn dollar(pieces: &mut Seq<Piece>, c: char) -> Result<Mode, Memory>
-    ensures { (cs : List ℕ) → IfOk result (λ m. pieces.old ++ pieces_of Mode.Dollar (c ∷ cs) ≡ pieces.new ++ pieces_of m cs) }
+fn dollar(pieces: &mut Seq<Piece>, c: char) -> Result<ReplacementMode, Memory>
+    ensures { (cs : List ℕ) → IfOk result (λ m. pieces.old ++ pieces_of ReplacementMode.Dollar (c ∷ cs) ≡ pieces.new ++ pieces_of m cs) }
 {
     if c == '$' {
         pieces.push(Piece::Char(c))?;
-        return Ok(Mode::Text);
+        return Ok(ReplacementMode::Text);
     }
     if c == '{' {
-        return Ok(Mode::Braced(0));
+        return Ok(ReplacementMode::Braced(0));
     }
     match c.to_digit(10) {
-        Some(digit) => Ok(Mode::Number(digit as usize)),
-        None => Ok(Mode::Text),
+        Some(digit) => Ok(ReplacementMode::Number(digit as usize)),
+        None => Ok(ReplacementMode::Text),
     }
 }
 
 /// Reads a character behind a `${` and the digits of a number.
 #[tactic(auto, unfolding(crate::specs::reading::Replacement::pieces_of))]
-fn braced(pieces: &mut Seq<Piece>, n: usize, c: char) -> Result<Mode, Memory>
-    ensures { (cs : List ℕ) → IfOk result (λ m. pieces.old ++ pieces_of (Mode.Braced n) (c ∷ cs) ≡ pieces.new ++ pieces_of m cs) }
+fn braced(pieces: &mut Seq<Piece>, n: usize, c: char) -> Result<ReplacementMode, Memory>
+    ensures { (cs : List ℕ) → IfOk result (λ m. pieces.old ++ pieces_of (ReplacementMode.Braced n) (c ∷ cs) ≡ pieces.new ++ pieces_of m cs) }
 {
     if let Some(digit) = c.to_digit(10) {
-        return Ok(Mode::Braced(with_digit(n, digit)));
+        return Ok(ReplacementMode::Braced(with_digit(n, digit)));
     }
     if c == '}' {
         pieces.push(Piece::Group(n))?;
     }
-    Ok(Mode::Text)
+    Ok(ReplacementMode::Text)
 }
 
 /// A number with one more digit, or the greatest number.

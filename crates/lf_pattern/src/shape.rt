@@ -1,7 +1,7 @@
 //! The shape of a pattern, read from left to right for its low and its high sample.
 ghost use Rattle.std.specs.Prelude.{◌≡◌, IfOk, reverse};
 ghost use Rattle.std.specs.Str.{chars};
-ghost use Rattle.lf_pattern.specs.ShapeScan.{barred, begun, begun_with, behind_atom, class_pair, closed_onto, ended, escaped_by, flushed, in_class, in_least, in_mode, in_most, is_hidden, may_end, opened, part_of, read_from, start, state_of, stepped, value_of, with_atom, with_count};
+ghost use Rattle.lf_pattern.specs.ShapeScan.{barred, begun, begun_with, behind_atom, class_pair, closed_onto, ended, escaped_by, flushed, in_class, in_least, in_mode, in_most, is_hidden, may_end, opened, kind_of, read_from, start, state_of, stepped, value_of, with_atom, with_count};
 
 use crate::plain::{is_escapable, is_special};
 use crate::sample::{Both, Sample};
@@ -10,7 +10,7 @@ use std::alloc::Global;
 
 /// What was read last, as far as the next character depends on it.
 #[derive(Clone, Copy)]
-enum Mode {
+enum ShapeMode {
     /// Nothing that a count may follow.
     Ready,
     /// An atom.
@@ -49,7 +49,7 @@ enum Mode {
 
 /// What a character can be that begins something.
 #[derive(Clone, Copy)]
-enum Part {
+enum CharacterKind {
     Bar,
     Open,
     Close,
@@ -63,23 +63,23 @@ enum Part {
     Ordinary,
 }
 
-/// An open group, or the whole pattern: the low sample of its first alternative where that has ended, and the samples of the row that is being read, but for its last
+/// An open group, or the whole pattern: the low sample of its first alternative where that has ended, and the samples of the branch that is being read, but for its last
 /// piece.
 #[derive(Drop)]
-struct Frame {
+struct GroupFrame {
     first: Option<Sample>,
-    row: Both,
+    branch: Both,
 }
 
 /// What was read of a pattern.
 #[derive(Drop)]
 struct Reader {
-    mode: Mode,
-    /// The samples of the last piece of the row.
+    mode: ShapeMode,
+    /// The samples of the last piece of the branch.
     piece: Both,
-    frame: Frame,
+    frame: GroupFrame,
     /// The frames round this one, the innermost last.
-    stack: Seq<Frame>,
+    stack: Seq<GroupFrame>,
 }
 
 /// The low and the high sample of a pattern, or None where it isn't of the shape.
@@ -100,17 +100,17 @@ fn read(alloc: Global, characters: &[char]) -> Result<Option<Both>, Memory>
     reader.end(alloc)
 }
 
-impl Frame {
-    /// The samples of the group, if its last row ends here.
+impl GroupFrame {
+    /// The samples of the group, if its last branch ends here.
     fn value(self) -> Both
         ensures { result ≡ value_of self }
     {
-        let Frame { first, row } = self;
+        let GroupFrame { first, branch } = self;
         match first {
-            None => row,
+            None => branch,
             Some(low) => Both {
                 low,
-                high: row.high,
+                high: branch.high,
             },
         }
     }
@@ -121,11 +121,11 @@ impl Reader {
         ensures { state_of result ≡ start }
     {
         Reader {
-            mode: Mode::Ready,
+            mode: ShapeMode::Ready,
             piece: Both::nothing(alloc),
-            frame: Frame {
+            frame: GroupFrame {
                 first: None,
-                row: Both::nothing(alloc),
+                branch: Both::nothing(alloc),
             },
             stack: Seq::new(alloc),
         }
@@ -148,43 +148,43 @@ impl Reader {
         ensures { IfOk result (λ r. state_of r ≡ stepped (state_of self) c) }
     {
         match self.mode {
-            Mode::Ready => self.begin(alloc, c),
-            Mode::Atom => self.behind_atom(alloc, c),
-            Mode::Lazy if c == '?' => Ok(self.in_mode(Mode::Ready)),
-            Mode::Lazy => self.begin(alloc, c),
-            Mode::Escape => self.escaped(alloc, c),
-            Mode::Open if c == '?' => Ok(self.in_mode(Mode::Quiet)),
-            Mode::Open => self.begin(alloc, c),
-            Mode::Quiet if c == ':' => Ok(self.in_mode(Mode::Ready)),
-            Mode::Quiet => Ok(self.in_mode(Mode::Outside)),
-            Mode::ClassStart if c == '^' => Ok(self.in_mode(Mode::NegatedStart)),
-            Mode::ClassStart => Ok(self.in_mode(Mode::Class {
+            ShapeMode::Ready => self.begin(alloc, c),
+            ShapeMode::Atom => self.behind_atom(alloc, c),
+            ShapeMode::Lazy if c == '?' => Ok(self.in_mode(ShapeMode::Ready)),
+            ShapeMode::Lazy => self.begin(alloc, c),
+            ShapeMode::Escape => self.escaped(alloc, c),
+            ShapeMode::Open if c == '?' => Ok(self.in_mode(ShapeMode::Quiet)),
+            ShapeMode::Open => self.begin(alloc, c),
+            ShapeMode::Quiet if c == ':' => Ok(self.in_mode(ShapeMode::Ready)),
+            ShapeMode::Quiet => Ok(self.in_mode(ShapeMode::Outside)),
+            ShapeMode::ClassStart if c == '^' => Ok(self.in_mode(ShapeMode::NegatedStart)),
+            ShapeMode::ClassStart => Ok(self.in_mode(ShapeMode::Class {
                 first: c,
                 last: c,
                 opaque: is_hidden(c),
             })),
-            Mode::Class {
+            ShapeMode::Class {
                 first,
                 last,
                 opaque,
             } => self.in_class(alloc, first, last, opaque, c),
-            Mode::NegatedStart => Ok(self.in_mode(Mode::Negated)),
-            Mode::Negated if c == ']' => {
+            ShapeMode::NegatedStart => Ok(self.in_mode(ShapeMode::Negated)),
+            ShapeMode::Negated if c == ']' => {
                 let piece = Both::of(alloc, '0', 'a')?;
                 Ok(self.with_atom(piece))
             }
-            Mode::Negated => Ok(self.in_mode(Mode::Negated)),
-            Mode::Brace => match c.to_digit(10) {
-                Some(digit) => Ok(self.in_mode(Mode::Least(digit))),
-                None => Ok(self.in_mode(Mode::Outside)),
+            ShapeMode::Negated => Ok(self.in_mode(ShapeMode::Negated)),
+            ShapeMode::Brace => match c.to_digit(10) {
+                Some(digit) => Ok(self.in_mode(ShapeMode::Least(digit))),
+                None => Ok(self.in_mode(ShapeMode::Outside)),
             },
-            Mode::Least(n) => self.in_least(alloc, n, c),
-            Mode::Comma(n) | Mode::Most(n) => self.in_most(alloc, n, c),
-            Mode::Outside => Ok(self),
+            ShapeMode::Least(n) => self.in_least(alloc, n, c),
+            ShapeMode::Comma(n) | ShapeMode::Most(n) => self.in_most(alloc, n, c),
+            ShapeMode::Outside => Ok(self),
         }
     }
 
-    fn in_mode(self, mode: Mode) -> Reader
+    fn in_mode(self, mode: ShapeMode) -> Reader
         ensures { state_of result ≡ in_mode mode (state_of self) }
     {
         Reader { mode, ..self }
@@ -195,7 +195,7 @@ impl Reader {
         ensures { state_of result ≡ with_atom piece (state_of self) }
     {
         Reader {
-            mode: Mode::Atom,
+            mode: ShapeMode::Atom,
             piece,
             ..self
         }
@@ -207,13 +207,13 @@ impl Reader {
     {
         let piece = self.piece.counted(alloc, least)?;
         Ok(Reader {
-            mode: Mode::Lazy,
+            mode: ShapeMode::Lazy,
             piece,
             ..self
         })
     }
 
-    /// Puts the last piece into its row.
+    /// Puts the last piece into its branch.
     fn flush(self, alloc: Global) -> Result<Reader, Memory>
         ensures { IfOk result (λ r. state_of r ≡ flushed (state_of self)) }
     {
@@ -223,13 +223,13 @@ impl Reader {
             frame,
             stack,
         } = self;
-        let row = frame.row.followed(&piece)?;
+        let branch = frame.branch.followed(&piece)?;
         Ok(Reader {
             mode,
             piece: Both::nothing(alloc),
-            frame: Frame {
+            frame: GroupFrame {
                 first: frame.first,
-                row,
+                branch,
             },
             stack,
         })
@@ -240,19 +240,19 @@ impl Reader {
         ensures { IfOk result (λ r. state_of r ≡ begun (state_of self) c) }
     {
         let reader = self.flush(alloc)?;
-        match part_of(c) {
-            Part::Bar => Ok(reader.bar(alloc)),
-            Part::Open => reader.open(alloc),
-            Part::Close => Ok(reader.close()),
-            Part::Bracket => Ok(reader.in_mode(Mode::ClassStart)),
-            Part::Backslash => Ok(reader.in_mode(Mode::Escape)),
-            Part::Dot => {
+        match kind_of(c) {
+            CharacterKind::Bar => Ok(reader.bar(alloc)),
+            CharacterKind::Open => reader.open(alloc),
+            CharacterKind::Close => Ok(reader.close()),
+            CharacterKind::Bracket => Ok(reader.in_mode(ShapeMode::ClassStart)),
+            CharacterKind::Backslash => Ok(reader.in_mode(ShapeMode::Escape)),
+            CharacterKind::Dot => {
                 let piece = Both::of(alloc, '0', 'a')?;
                 Ok(reader.with_atom(piece))
             }
-            Part::Anchor => Ok(reader.with_atom(Both::nothing(alloc))),
-            Part::Odd => Ok(reader.in_mode(Mode::Outside)),
-            Part::Ordinary => {
+            CharacterKind::Anchor => Ok(reader.with_atom(Both::nothing(alloc))),
+            CharacterKind::Odd => Ok(reader.in_mode(ShapeMode::Outside)),
+            CharacterKind::Ordinary => {
                 let piece = Both::of(alloc, c, c)?;
                 Ok(reader.with_atom(piece))
             }
@@ -271,11 +271,11 @@ impl Reader {
         } = self;
         let first = frame.value().low;
         Reader {
-            mode: Mode::Ready,
+            mode: ShapeMode::Ready,
             piece,
-            frame: Frame {
+            frame: GroupFrame {
                 first: Some(first),
-                row: Both::nothing(alloc),
+                branch: Both::nothing(alloc),
             },
             stack,
         }
@@ -293,11 +293,11 @@ impl Reader {
         } = self;
         stack.push(frame)?;
         Ok(Reader {
-            mode: Mode::Open,
+            mode: ShapeMode::Open,
             piece,
-            frame: Frame {
+            frame: GroupFrame {
                 first: None,
-                row: Both::nothing(alloc),
+                branch: Both::nothing(alloc),
             },
             stack,
         })
@@ -315,13 +315,13 @@ impl Reader {
         } = self;
         match stack.pop() {
             None => Reader {
-                mode: Mode::Outside,
+                mode: ShapeMode::Outside,
                 piece,
                 frame,
                 stack,
             },
             Some(outer) => Reader {
-                mode: Mode::Atom,
+                mode: ShapeMode::Atom,
                 piece: frame.value(),
                 frame: outer,
                 stack,
@@ -336,7 +336,7 @@ impl Reader {
         match c {
             '*' | '?' => self.with_count(alloc, 0),
             '+' => self.with_count(alloc, 1),
-            '{' => Ok(self.in_mode(Mode::Brace)),
+            '{' => Ok(self.in_mode(ShapeMode::Brace)),
             _ => self.begin(alloc, c),
         }
     }
@@ -350,7 +350,7 @@ impl Reader {
             'w' => 'a',
             's' => ' ',
             _ if is_escapable(c) => c,
-            _ => return Ok(self.in_mode(Mode::Outside)),
+            _ => return Ok(self.in_mode(ShapeMode::Outside)),
         };
         let piece = Both::of(alloc, stands_for, stands_for)?;
         Ok(self.with_atom(piece))
@@ -369,7 +369,7 @@ impl Reader {
     {
         if c != ']' {
             let opaque = opaque || is_hidden(c);
-            return Ok(self.in_mode(Mode::Class {
+            return Ok(self.in_mode(ShapeMode::Class {
                 first,
                 last: c,
                 opaque,
@@ -386,16 +386,16 @@ impl Reader {
         if let Some(digit) = c.to_digit(10) {
             let longer = n.saturating_mul(10).saturating_add(digit);
             let mode = if longer <= 64 {
-                Mode::Least(longer)
+                ShapeMode::Least(longer)
             } else {
-                Mode::Outside
+                ShapeMode::Outside
             };
             return Ok(self.in_mode(mode));
         }
         match c {
             '}' => self.with_count(alloc, n),
-            ',' => Ok(self.in_mode(Mode::Comma(n))),
-            _ => Ok(self.in_mode(Mode::Outside)),
+            ',' => Ok(self.in_mode(ShapeMode::Comma(n))),
+            _ => Ok(self.in_mode(ShapeMode::Outside)),
         }
     }
 
@@ -404,20 +404,23 @@ impl Reader {
         ensures { IfOk result (λ r. state_of r ≡ in_most n (state_of self) c) }
     {
         if c.is_ascii_digit() {
-            return Ok(self.in_mode(Mode::Most(n)));
+            return Ok(self.in_mode(ShapeMode::Most(n)));
         }
         match c {
             '}' => self.with_count(alloc, n),
-            _ => Ok(self.in_mode(Mode::Outside)),
+            _ => Ok(self.in_mode(ShapeMode::Outside)),
         }
     }
 }
 
 /// Whether the pattern may end in this mode.
-fn may_end(mode: Mode) -> bool
+fn may_end(mode: ShapeMode) -> bool
     ensures { result ≡ may_end mode }
 {
-    matches!(mode, Mode::Ready | Mode::Atom | Mode::Lazy | Mode::Open)
+    matches!(
+        mode,
+        ShapeMode::Ready | ShapeMode::Atom | ShapeMode::Lazy | ShapeMode::Open
+    )
 }
 
 /// The samples of a class, by its first and its last member.
@@ -439,18 +442,18 @@ fn is_hidden(c: char) -> bool
 }
 
 /// What a character is that begins something.
-fn part_of(c: char) -> Part
-    ensures { result ≡ part_of c }
+fn kind_of(c: char) -> CharacterKind
+    ensures { result ≡ kind_of c }
 {
     match c {
-        '|' => Part::Bar,
-        '(' => Part::Open,
-        ')' => Part::Close,
-        '[' => Part::Bracket,
-        '\\' => Part::Backslash,
-        '.' => Part::Dot,
-        '^' | '$' => Part::Anchor,
-        _ if is_special(c) => Part::Odd,
-        _ => Part::Ordinary,
+        '|' => CharacterKind::Bar,
+        '(' => CharacterKind::Open,
+        ')' => CharacterKind::Close,
+        '[' => CharacterKind::Bracket,
+        '\\' => CharacterKind::Backslash,
+        '.' => CharacterKind::Dot,
+        '^' | '$' => CharacterKind::Anchor,
+        _ if is_special(c) => CharacterKind::Odd,
+        _ => CharacterKind::Ordinary,
     }
 }

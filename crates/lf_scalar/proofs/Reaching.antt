@@ -7,12 +7,12 @@ use Rattle.std.proofs.lemmas.List.Concat.{flat_map-cons}
 use Rattle.std.proofs.lemmas.Grind.{flat_map-append}
 use Rattle.std.proofs.Math.Seq.{drop-append_seam}
 use Rattle.std.proofs.Math.Bool.{and-false}
-use Rattle.lf_scalar.specs.declared.escapes.Given.{Given}
-use Rattle.lf_scalar.specs.declared.escapes.Given.TheVariants as given_of
+use Rattle.lf_scalar.specs.declared.escapes.PieceValue.{PieceValue}
+use Rattle.lf_scalar.specs.declared.escapes.PieceValue.TheVariants as values
 use Rattle.lf_scalar.specs.Cells.{Cell, cell, cells}
 use Rattle.lf_scalar.specs.Folding.{trimmed}
 use Rattle.lf_scalar.specs.Quoted.{Quotes, Piece, spelled, given, IsPiece, is_bare_blank}
-use Rattle.lf_scalar.specs.reading.Quoted.{piece_of, piece_at, as_piece, shown, is_blank_given, scan, Reaches}
+use Rattle.lf_scalar.specs.reading.Quoted.{piece_of, piece_at, as_piece, as_value, is_blank_value, scan, Reaches}
 use Rattle.lf_scalar.proofs.Pieces.{Starts, starts, head_of, tail_of, spelled-is, piece-one, NoPiece, scan-again}
 use Rattle.lf_laws.proofs.Members.{all_append}
 
@@ -37,22 +37,22 @@ drop-cells (suc n) at (x ∷ xs) = drop-cells n (suc at) xs ∙ ap (λ (k : ℕ)
     suc-more k n = omega arith
 
 -- the piece that the code found at the front of some bytes
-pub record Front (kind : Quotes) (at : ℕ) (rest : List ℕ) (g : Given) (k : ℕ) : Type 0 where
+pub record Front (kind : Quotes) (at : ℕ) (rest : List ℕ) (g : PieceValue) (k : ℕ) : Type 0 where
   pub piece : Piece
   pub is_piece : IsPiece kind piece
-  pub gives : given piece ≡ (shown at (g, 0)).0
-  pub blank : is_bare_blank piece ≡ is_blank_given g
+  pub gives : given piece ≡ (as_value at (g, 0)).0
+  pub blank : is_bare_blank piece ≡ is_blank_value g
   pub source : cells at rest ≡ spelled piece ++ cells (at + (1 + k)) (drop (1 + k) rest)
 
-shown-cells : (at : ℕ) (g : Given) (k : ℕ) → ((shown at (g, k)).0 ≡ (shown at (g, 0)).0) × ((shown at (g, k)).1.0 ≡ is_blank_given g) × ((shown at (g, k)).1.1 ≡ k)
-shown-cells at (given_of.Byte b) k = (refl, refl, refl)
-shown-cells at (given_of.Char n) k = (refl, refl, refl)
+value-cells : (at : ℕ) (g : PieceValue) (k : ℕ) → ((as_value at (g, k)).0 ≡ (as_value at (g, 0)).0) × ((as_value at (g, k)).1.0 ≡ is_blank_value g) × ((as_value at (g, k)).1.1 ≡ k)
+value-cells at (values.Byte b) k = (refl, refl, refl)
+value-cells at (values.Char n) k = (refl, refl, refl)
 
-pub front : (kind : Quotes) (at : ℕ) (rest : List ℕ) (g : Given) (k : ℕ) → seen (shown at (g, k)) ≡ option_map as_piece (piece_at kind at rest) → Front kind at rest g k
-front kind at [] g k e = none-seen (shown at (g, k)) (sym e)
+pub front : (kind : Quotes) (at : ℕ) (rest : List ℕ) (g : PieceValue) (k : ℕ) → seen (as_value at (g, k)) ≡ option_map as_piece (piece_at kind at rest) → Front kind at rest g k
+front kind at [] g k e = none-seen (as_value at (g, k)) (sym e)
 front kind at (b ∷ bytes) g k e =
     elim (starts kind (cell b at) (cells (suc at) bytes)) [
-      | inr n ↦ none-seen (shown at (g, k)) (sym (e ∙ rw n refl))
+      | inr n ↦ none-seen (as_value at (g, k)) (sym (e ∙ rw n refl))
       | inl s ↦ found s
     ]
   where
@@ -62,8 +62,8 @@ front kind at (b ∷ bytes) g k e =
         let i : cell b at ≡ head_of s.piece = cc in
         let j : cells (suc at) bytes ≡ tail_of s.piece ++ s.rest = cc in
         let one : piece_of kind (cell b at) (cells (suc at) bytes) ≡ Some (s.piece, length (tail_of s.piece)) = rw (i, j) (piece-one kind s.piece s.rest s.is_piece) in
-        let same : shown at (g, k) ≡ (given s.piece, (is_bare_blank s.piece, length (tail_of s.piece))) = seen-is (shown at (g, k)) (given s.piece, (is_bare_blank s.piece, length (tail_of s.piece))) (e ∙ rw one refl) in
-        let parts = shown-cells at g k in
+        let same : as_value at (g, k) ≡ (given s.piece, (is_bare_blank s.piece, length (tail_of s.piece))) = seen-is (as_value at (g, k)) (given s.piece, (is_bare_blank s.piece, length (tail_of s.piece))) (e ∙ rw one refl) in
+        let parts = value-cells at g k in
         let size : length (tail_of s.piece) ≡ k = sym (ap (λ (x : List Cell × (Bool × ℕ)). x.1.1) same) ∙ parts.2 in
         let long : length (spelled s.piece ++ []) ≡ suc (length (tail_of s.piece ++ [])) = ap length (spelled-is s.piece []) in
         let n : length (spelled s.piece) ≡ 1 + k = omega (arith, long, ap length (append-nil (spelled s.piece)), ap length (append-nil (tail_of s.piece)), size) in
@@ -123,11 +123,11 @@ nothing-left kind at stop line le = rw (drop_all stop line le) tt
 flat-push : (f : Piece → List Cell) (ps : List Piece) (p : Piece) → flat_map f (ps ++ p ∷ []) ≡ flat_map f ps ++ f p
 flat-push f ps p = flat_map-append f ps (p ∷ []) ∙ ap (λ (x : List Cell). flat_map f ps ++ x) (flat_map-cons f p [] ∙ append-nil (f p))
 
-pub one-more : (kind : Quotes) (at : ℕ) (line : List ℕ) (old now after : List Cell) (kept new stop : ℕ) (g : Given) (k : ℕ) → SoFar kind at line old now kept stop → Front kind (at + stop) (drop stop line) g k
-    → after ≡ now ++ (shown (at + stop) (g, 0)).0 → new ≡ cond (is_blank_given g) kept (length after) → SoFar kind at line old after new (stop + (1 + k))
+pub one-more : (kind : Quotes) (at : ℕ) (line : List ℕ) (old now after : List Cell) (kept new stop : ℕ) (g : PieceValue) (k : ℕ) → SoFar kind at line old now kept stop → Front kind (at + stop) (drop stop line) g k
+    → after ≡ now ++ (as_value (at + stop) (g, 0)).0 → new ≡ cond (is_blank_value g) kept (length after) → SoFar kind at line old after new (stop + (1 + k))
 one-more kind at line old now after kept new stop g k r f a n =
     let text : after ≡ old ++ flat_map given (r.pieces ++ f.piece ∷ []) =
-    a ∙ ap (λ (x : List Cell). x ++ (shown (at + stop) (g, 0)).0) r.text ∙ append_assoc old (flat_map given r.pieces) (shown (at + stop) (g, 0)).0
+    a ∙ ap (λ (x : List Cell). x ++ (as_value (at + stop) (g, 0)).0) r.text ∙ append_assoc old (flat_map given r.pieces) (as_value (at + stop) (g, 0)).0
     ∙ ap (λ (x : List Cell). old ++ (flat_map given r.pieces ++ x)) (sym f.gives) ∙ ap (λ (x : List Cell). old ++ x) (sym (flat-push given r.pieces f.piece)) in
     let p : at + stop + (1 + k) ≡ at + (stop + (1 + k)) = omega arith in
     let left : cells (at + stop + (1 + k)) (drop (1 + k) (drop stop line)) ≡ cells (at + (stop + (1 + k))) (drop (stop + (1 + k)) line) =
@@ -139,13 +139,13 @@ one-more kind at line old now after kept new stop g k r f a n =
           ∙ sym (append_assoc (flat_map spelled r.pieces) (spelled f.piece) (cells (at + (stop + (1 + k))) (drop (stop + (1 + k)) line)))
           ∙ ap (λ (x : List Cell). x ++ cells (at + (stop + (1 + k))) (drop (stop + (1 + k)) line)) (sym (flat-push spelled r.pieces f.piece));
       text = text;
-      kept_is = n ∙ by (is_blank_given g) f.blank text;
+      kept_is = n ∙ by (is_blank_value g) f.blank text;
     }
   where
     by : (b : Bool) → is_bare_blank f.piece ≡ b → after ≡ old ++ flat_map given (r.pieces ++ f.piece ∷ []) → cond b kept (length after) ≡ length old + length (flat_map given (trimmed is_bare_blank (r.pieces ++ f.piece ∷ [])))
     by true e t = rw (trimmed-blank is_bare_blank r.pieces f.piece e) r.kept_is
     by false e t = rw (trimmed-full is_bare_blank r.pieces f.piece e) (ap length t ∙ length-append old (flat_map given (r.pieces ++ f.piece ∷ [])))
 
-pub none-given : (at : ℕ) (o : Option (Given × ℕ)) → ((x : Given × ℕ) → o ≡ Some x → ⊥) → None ≡ option_map (shown at) o
+pub none-given : (at : ℕ) (o : Option (PieceValue × ℕ)) → ((x : PieceValue × ℕ) → o ≡ Some x → ⊥) → None ≡ option_map (as_value at) o
 none-given at None h = refl
 none-given at (Some x) h = absurd (h x refl)

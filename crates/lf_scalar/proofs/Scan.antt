@@ -2,11 +2,11 @@
 use Rattle.std.proofs.Common.{◌≡◌, ◌≢◌, ℕ, zero, suc, ◌+◌, ◌<◌, ◌≤◌, eqb, List, [], ◌∷◌, ◌++◌, Option, Some, None, length, get_or, take, drop, refl, ap, arith, append_assoc, sym, ◌∙◌, eq-eqb}
 use Rattle.std.proofs.lemmas.List.{append-nil, drop_all}
 use Rattle.std.proofs.lemmas.Bool.{ne_eqb}
-use Rattle.lf_scalar.specs.declared.quotes.Step.TheVariants as step
+use Rattle.lf_scalar.specs.declared.quotes.ByteEffect.TheVariants as effect
 use Rattle.lf_scalar.specs.Cells.{Cell, cell, cells}
 use Rattle.lf_scalar.specs.Lines.{begins_with}
 use Rattle.lf_scalar.specs.Quoted.{Quotes, Single, Double}
-use Rattle.lf_scalar.specs.reading.Quoted.{Closing, behind, closing_of, split_of, IsStep}
+use Rattle.lf_scalar.specs.reading.Quoted.{Closing, behind, closing_of, split_of, IsEffect}
 use Rattle.lf_scalar.proofs.Cells.{cells-drop, cells-take}
 use Rattle.lf_scalar.proofs.Closing.{ahead, no-quote}
 
@@ -36,17 +36,17 @@ module _ (kind : Quotes) (at : ℕ) (line : List ℕ) (i : ℕ) (lt : i < length
       → scanned kind at line i 0 ≡ scanned kind at line (i + 1) j
   moved j e = rw (cells-drop at line i lt, cells-take at line i lt) (ap (ahead (cells at (take i line))) e ∙ ahead-behind (cells at (take i line)) _ _)
 
-takes-next : (kind : Quotes) (c : Cell) (src : List Cell) (next : ℕ) → begins_with 39 src ≡ eqb next 39 → IsStep kind c.byte next step.TakesNext → closing_of kind 0 (c ∷ src) ≡ behind c (closing_of kind 1 src)
+takes-next : (kind : Quotes) (c : Cell) (src : List Cell) (next : ℕ) → begins_with 39 src ≡ eqb next 39 → IsEffect kind c.byte next effect.TakesNext → closing_of kind 0 (c ∷ src) ≡ behind c (closing_of kind 1 src)
 unfolding closing_of
 takes-next Single c src next b h = rw (eq-eqb c.byte 39 h.0, b, eq-eqb next 39 h.1) refl
 takes-next Double c src next b h = rw (no-quote c.byte h, eq-eqb c.byte 92 h) refl
 
-passes : (kind : Quotes) (c : Cell) (src : List Cell) (next : ℕ) → IsStep kind c.byte next step.Passes → closing_of kind 0 (c ∷ src) ≡ behind c (closing_of kind 0 src)
+passes : (kind : Quotes) (c : Cell) (src : List Cell) (next : ℕ) → IsEffect kind c.byte next effect.Passes → closing_of kind 0 (c ∷ src) ≡ behind c (closing_of kind 0 src)
 unfolding closing_of
 passes Single c src next h = rw (ne_eqb c.byte 39 h) refl
 passes Double c src next h = rw (ne_eqb c.byte 34 h.0, ne_eqb c.byte 92 h.1) refl
 
-closes : (kind : Quotes) (c : Cell) (src : List Cell) (next : ℕ) → begins_with 39 src ≡ eqb next 39 → IsStep kind c.byte next step.Closes → closing_of kind 0 (c ∷ src) ≡ Some ([], (c, src))
+closes : (kind : Quotes) (c : Cell) (src : List Cell) (next : ℕ) → begins_with 39 src ≡ eqb next 39 → IsEffect kind c.byte next effect.Closes → closing_of kind 0 (c ∷ src) ≡ Some ([], (c, src))
 unfolding closing_of
 closes Single c src next b h = rw (eq-eqb c.byte 39 h.0, b, ne_eqb next 39 h.1) refl
 closes Double c src next b h = rw (eq-eqb c.byte 34 h) refl
@@ -55,13 +55,13 @@ module _ (kind : Quotes) (at : ℕ) (line : List ℕ) (i : ℕ) (lt : i < length
   next-begins : begins_with 39 (cells (at + (i + 1)) (drop (i + 1) line)) ≡ eqb (get_or line (i + 1) 0) 39
   next-begins = begins-drop 39 (at + (i + 1)) (i + 1) line not-zero
 
-  pub scanned-takes : IsStep kind (get_or line i 0) (get_or line (i + 1) 0) step.TakesNext → scanned kind at line i 0 ≡ scanned kind at line (i + 1) 1
+  pub scanned-takes : IsEffect kind (get_or line i 0) (get_or line (i + 1) 0) effect.TakesNext → scanned kind at line i 0 ≡ scanned kind at line (i + 1) 1
   scanned-takes h = moved kind at line i lt 1 (takes-next kind (cell (get_or line i 0) (at + i)) _ (get_or line (i + 1) 0) next-begins h)
 
-  pub scanned-passes : IsStep kind (get_or line i 0) (get_or line (i + 1) 0) step.Passes → scanned kind at line i 0 ≡ scanned kind at line (i + 1) 0
+  pub scanned-passes : IsEffect kind (get_or line i 0) (get_or line (i + 1) 0) effect.Passes → scanned kind at line i 0 ≡ scanned kind at line (i + 1) 0
   scanned-passes h = moved kind at line i lt 0 (passes kind (cell (get_or line i 0) (at + i)) _ (get_or line (i + 1) 0) h)
 
-  pub scanned-closes : IsStep kind (get_or line i 0) (get_or line (i + 1) 0) step.Closes → scanned kind at line i 0 ≡ Some (split_of at line i)
+  pub scanned-closes : IsEffect kind (get_or line i 0) (get_or line (i + 1) 0) effect.Closes → scanned kind at line i 0 ≡ Some (split_of at line i)
   scanned-closes h =
       rw (cells-drop at line i lt) (ap (ahead (cells at (take i line))) (closes kind (cell (get_or line i 0) (at + i)) _ (get_or line (i + 1) 0) next-begins h)
       ∙ ap (λ (cs : List Cell). Some (cs, (cell (get_or line i 0) (at + i), cells (at + (i + 1)) (drop (i + 1) line)))) (append-nil (cells at (take i line))))

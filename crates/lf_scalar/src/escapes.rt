@@ -2,7 +2,7 @@
 ghost use Rattle.std.specs.Prelude.{◌≡◌, ℕ, ◌+◌, ◌<◌, ◌≤◌, ◌^◌, ◌++◌, take, length, drop, IfSome, IfOk, OnOk, option_map};
 ghost use Rattle.lf_scalar.specs.Cells.{Cell, cell, cells};
 ghost use Rattle.lf_scalar.specs.Quoted.{Single, Double, letter_of, width_of};
-ghost use Rattle.lf_scalar.specs.reading.Quoted.{told, number_of, escape_of, as_character, as_escape, as_piece, shown, piece_at};
+ghost use Rattle.lf_scalar.specs.reading.Quoted.{told, number_of, escape_of, as_character, as_escape, as_piece, as_value, piece_at};
 
 use crate::builder::{ScalarBuilder, push_char};
 use crate::lines::past;
@@ -108,7 +108,7 @@ fn counted(c: Option<char>, count: usize) -> Option<(char, usize)>
 
 /// What a piece between quotes gives.
 #[derive(Clone, Copy, PartialEq, Eq, Debug)]
-pub enum Given {
+pub enum PieceValue {
     /// A byte for itself.
     Byte(u8),
     /// The character of an escape.
@@ -116,44 +116,44 @@ pub enum Given {
 }
 
 /// What the piece at the front of a line between single quotes gives, and how many bytes behind its first it takes.
-pub fn single_piece(rest: &[u8], at: u32) -> Option<(Given, usize)>
+pub fn single_piece(rest: &[u8], at: u32) -> Option<(PieceValue, usize)>
     requires { 0 < length rest.now }
-    ensures value { option_map (shown at) result ≡ option_map as_piece (piece_at Single at rest.now) }
+    ensures value { option_map (as_value at) result ≡ option_map as_piece (piece_at Single at rest.now) }
     ensures within { IfSome result (λ x. x.1 < length rest.now) }
 {
     if rest[0] != b'\'' {
-        return Some((Given::Byte(rest[0]), 0));
+        return Some((PieceValue::Byte(rest[0]), 0));
     }
     if rest.len() > 1 && rest[1] == b'\'' {
-        return Some((Given::Byte(b'\''), 1));
+        return Some((PieceValue::Byte(b'\''), 1));
     }
     None
 }
 
 /// What the piece at the front of a line between double quotes gives, and how many bytes behind its first it takes.
-pub fn double_piece(rest: &[u8], at: u32) -> Option<(Given, usize)>
+pub fn double_piece(rest: &[u8], at: u32) -> Option<(PieceValue, usize)>
     requires some { 0 < length rest.now }
     requires room { at + length rest.now < 2 ^ 32 }
-    ensures value { option_map (shown at) result ≡ option_map as_piece (piece_at Double at rest.now) }
+    ensures value { option_map (as_value at) result ≡ option_map as_piece (piece_at Double at rest.now) }
     ensures within { IfSome result (λ x. x.1 < length rest.now) }
 {
     if rest[0] != b'\\' {
         if rest[0] == b'"' {
             return None;
         }
-        return Some((Given::Byte(rest[0]), 0));
+        return Some((PieceValue::Byte(rest[0]), 0));
     }
     match escape(past(rest, 1), at + 1) {
-        Some((c, count)) => Some((Given::Char(c), count)),
+        Some((c, count)) => Some((PieceValue::Char(c), count)),
         None => None,
     }
 }
 
 /// What the piece at the front of a line between quotes gives, and how many bytes behind its first it takes.
-pub fn piece(kind: Quotes, rest: &[u8], at: u32) -> Option<(Given, usize)>
+pub fn piece(kind: Quotes, rest: &[u8], at: u32) -> Option<(PieceValue, usize)>
     requires some { 0 < length rest.now }
     requires room { at + length rest.now < 2 ^ 32 }
-    ensures value { option_map (shown at) result ≡ option_map as_piece (piece_at kind at rest.now) }
+    ensures value { option_map (as_value at) result ≡ option_map as_piece (piece_at kind at rest.now) }
     ensures within { IfSome result (λ x. x.1 < length rest.now) }
 {
     match kind {
@@ -163,11 +163,15 @@ pub fn piece(kind: Quotes, rest: &[u8], at: u32) -> Option<(Given, usize)>
 }
 
 /// Appends what a piece at an offset gave.
-pub fn push_given(builder: &mut ScalarBuilder, given: Given, at: u32) -> Result<(), Memory>
-    ensures { OnOk result (builder.new ≡ builder.old ++ (shown at (given, 0)).0) }
+pub fn push_piece_value(
+    builder: &mut ScalarBuilder,
+    given: PieceValue,
+    at: u32,
+) -> Result<(), Memory>
+    ensures { OnOk result (builder.new ≡ builder.old ++ (as_value at (given, 0)).0) }
 {
     match given {
-        Given::Byte(byte) => builder.push(byte, at),
-        Given::Char(c) => push_char(builder, c, at),
+        PieceValue::Byte(byte) => builder.push(byte, at),
+        PieceValue::Char(c) => push_char(builder, c, at),
     }
 }

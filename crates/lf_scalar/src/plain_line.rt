@@ -37,7 +37,7 @@ pub fn find_key_sign(text: &[u8]) -> Option<usize>
 
 /// What a line of a plain scalar gives, behind its first blanks.
 #[derive(Clone, Copy, PartialEq, Eq, Debug)]
-pub struct Part {
+pub struct PlainPart {
     /// How many bytes, without a comment and the blanks at the end.
     pub len: usize,
     /// Whether the line ends in a comment.
@@ -45,17 +45,17 @@ pub struct Part {
 }
 
 /// What a line gives that begins with no blank.
-pub fn part_of(text: &[u8]) -> Part
+pub fn plain_part(text: &[u8]) -> PlainPart
     ensures within { result.len ≤ length text.now }
     ensures text { (at : ℕ) → trimmed is_blank (before_comment (cells at text.now)) ≡ cells at (take result.len text.now) }
     ensures comment { (at : ℕ) → has_comment (cells at text.now) ≡ result.commented }
 {
     match find_comment(text) {
-        Some(place) => Part {
+        Some(place) => PlainPart {
             len: trimmed_len(before(text, place)),
             commented: true,
         },
-        None => Part {
+        None => PlainPart {
             len: trimmed_len(text),
             commented: false,
         },
@@ -91,7 +91,7 @@ pub fn push_plain_line(builder: &mut ScalarBuilder, line: &[u8], at: u32) -> Res
 {
     let skipped = blanks(line);
     let text = past(line, skipped);
-    let part = part_of(text);
+    let part = plain_part(text);
     match push_bare(builder, before(text, part.len), at + skipped as u32) {
         Ok(()) => Ok(part.commented),
         Err(refusal) => Err(refusal),

@@ -1,13 +1,13 @@
 //! Scalars between quotes.
 ghost use Rattle.std.specs.Prelude.{false, ◌≡◌, ℕ, ◌+◌, ◌<◌, ◌≤◌, ◌^◌, length, drop, cond, ◌++◌, IfOk, OnOk};
 ghost use Rattle.lf_scalar.specs.Cells.{Fails, cells};
-ghost use Rattle.lf_scalar.specs.reading.Quoted.{Reaches, is_blank_given, LineAnswers, broken, line_at, line_of, next_line};
+ghost use Rattle.lf_scalar.specs.reading.Quoted.{Reaches, is_blank_value, LineAnswers, broken, line_at, line_of, next_line};
 ghost use Rattle.lf_scalar.specs.Quoted.{filled};
 ghost use Rattle.lf_scalar.specs.Lines.{is_blank};
 ghost use Rattle.std.specs.List.{list_all};
 
 use crate::builder::{ScalarBuilder, feed, fold_break};
-use crate::escapes::{Given, piece, push_given};
+use crate::escapes::{PieceValue, piece, push_piece_value};
 use crate::lines::{blanks, past};
 use crate::markers::is_marker;
 use crate::quotes::Quotes;
@@ -40,7 +40,7 @@ pub fn push_pieces(
         let Some((given, behind)) = piece(kind, past(line, stop), place) else {
             break;
         };
-        push_given(builder, given, place)?;
+        push_piece_value(builder, given, place)?;
         kept = kept_behind(builder.len(), given, kept);
         stop += 1 + behind;
     }
@@ -48,14 +48,14 @@ pub fn push_pieces(
 }
 
 /// How long the text is without blanks at its end, once a piece made it so long.
-fn kept_behind(len: usize, given: Given, kept: usize) -> usize
-    ensures { result ≡ cond (is_blank_given given) kept len }
+fn kept_behind(len: usize, given: PieceValue, kept: usize) -> usize
+    ensures { result ≡ cond (is_blank_value given) kept len }
 {
     match given {
-        Given::Byte(b' ') => kept,
-        Given::Byte(b'\t') => kept,
-        Given::Byte(_) => len,
-        Given::Char(_) => len,
+        PieceValue::Byte(b' ') => kept,
+        PieceValue::Byte(b'\t') => kept,
+        PieceValue::Byte(_) => len,
+        PieceValue::Char(_) => len,
     }
 }
 
@@ -120,7 +120,7 @@ pub fn fill(
 
 /// A line break that waits for what follows it: what becomes of it, where it stands, and how many blank lines stand behind it.
 #[derive(Clone, Copy, PartialEq, Eq, Debug)]
-pub struct Pending {
+pub struct PendingBreak {
     pub at_break: AtBreak,
     pub at: u32,
     pub blank: usize,
@@ -130,7 +130,7 @@ pub struct Pending {
 pub fn push_next(
     builder: &mut ScalarBuilder,
     kind: Quotes,
-    pending: Pending,
+    pending: PendingBreak,
     line: &[u8],
     at: u32,
 ) -> Result<AtBreak, Refusal>

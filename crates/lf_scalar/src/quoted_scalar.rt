@@ -10,7 +10,7 @@ ghost use Rattle.lf_scalar.specs.reading.Styles.{quoted_at};
 
 use crate::builder::ScalarBuilder;
 use crate::lines::{blanks, fault_at, line_end, past, wrong_behind};
-use crate::quoted::{Pending, push_line, push_next};
+use crate::quoted::{PendingBreak, push_line, push_next};
 use crate::quotes::{Quotes, find_closing};
 use crate::raw_scalar::RawScalar;
 use lf_base::bytes::before;
@@ -86,7 +86,7 @@ fn push_lines(
         Ok(at_break) => push_behind(
             builder,
             kind,
-            Pending {
+            PendingBreak {
                 at_break,
                 at: break_at,
                 blank: 0,
@@ -102,7 +102,7 @@ fn push_lines(
 fn push_behind(
     builder: &mut ScalarBuilder,
     kind: Quotes,
-    first: Pending,
+    first: PendingBreak,
     rest: &[u8],
     at: u32,
 ) -> Result<(), Refusal>
@@ -121,7 +121,7 @@ fn push_behind(
         } else {
             match push_next(builder, kind, pending, line, place) {
                 Ok(at_break) => {
-                    pending = Pending {
+                    pending = PendingBreak {
                         at_break,
                         at: place + end.feed as u32,
                         blank: 0,

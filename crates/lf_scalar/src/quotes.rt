@@ -3,7 +3,7 @@
 ghost use Rattle.std.specs.Prelude.{◌≡◌, ℕ, ◌+◌, ◌<◌, length, get_or, IfSome, option_map};
 ghost use Rattle.lf_scalar.specs.Cells.{cells};
 ghost use Rattle.lf_scalar.specs.Quoted.{quote_of};
-ghost use Rattle.lf_scalar.specs.reading.Quoted.{closing_of, split_of, IsStep};
+ghost use Rattle.lf_scalar.specs.reading.Quoted.{closing_of, split_of, IsEffect};
 
 /// The quotes round a scalar or a key.
 #[derive(Clone, Copy, PartialEq, Eq, Debug)]
@@ -26,10 +26,10 @@ pub fn find_closing(kind: Quotes, line: &[u8], at: u32) -> Option<usize>
         if skip {
             skip = false;
         } else {
-            match step_of(kind, line, i, *byte) {
-                Step::Closes => return Some(i),
-                Step::TakesNext => skip = true,
-                Step::Passes => {}
+            match effect_of(kind, line, i, *byte) {
+                ByteEffect::Closes => return Some(i),
+                ByteEffect::TakesNext => skip = true,
+                ByteEffect::Passes => {}
             }
         }
     }
@@ -38,7 +38,7 @@ pub fn find_closing(kind: Quotes, line: &[u8], at: u32) -> Option<usize>
 
 /// What a byte between quotes does.
 #[derive(Clone, Copy, PartialEq, Eq, Debug)]
-enum Step {
+enum ByteEffect {
     /// It is the quote that closes.
     Closes,
     /// It takes the byte behind it.
@@ -48,24 +48,24 @@ enum Step {
 }
 
 /// What the byte at a place between quotes does.
-fn step_of(kind: Quotes, line: &[u8], i: usize, byte: u8) -> Step
+fn effect_of(kind: Quotes, line: &[u8], i: usize, byte: u8) -> ByteEffect
     requires { i < length line.now }
-    ensures { IsStep kind byte (get_or line.now (i + 1) 0) result }
+    ensures { IsEffect kind byte (get_or line.now (i + 1) 0) result }
 {
     match kind {
         Quotes::Single => {
             if byte != b'\'' {
-                Step::Passes
+                ByteEffect::Passes
             } else if i + 1 < line.len() && line[i + 1] == b'\'' {
-                Step::TakesNext
+                ByteEffect::TakesNext
             } else {
-                Step::Closes
+                ByteEffect::Closes
             }
         }
         Quotes::Double => match byte {
-            b'"' => Step::Closes,
-            b'\\' => Step::TakesNext,
-            _ => Step::Passes,
+            b'"' => ByteEffect::Closes,
+            b'\\' => ByteEffect::TakesNext,
+            _ => ByteEffect::Passes,
         },
     }
 }

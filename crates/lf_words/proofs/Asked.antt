@@ -3,7 +3,7 @@ use Rattle.std.proofs.Common.{◌≡◌, ◌≢◌, ℕ, Bool, true, false, List
 use Rattle.std.proofs.lemmas.Option.{same_Some}
 use Rattle.std.proofs.lemmas.Str.{IsUtf8-had}
 use Rattle.clap.specs.Words.{fault_of}
-use Rattle.lf_words.specs.Lint.{Word, Given}
+use Rattle.lf_words.specs.Lint.{Word, LintArguments}
 use Rattle.lf_words.specs.Grammar.{IsNumber, IsWorkers, IsFormat, Asks, lint, gen}
 use Rattle.lf_words.specs.declared.options.Options.{Options}
 use Rattle.lf_words.specs.declared.options.Options.TheVariants.{Lint, Gen}
@@ -43,7 +43,7 @@ found_lint (lint {words} {given} {workers} {json} gives some are is) first =
 found_lint (gen i) first = absurd cc
 
 -- words that clap takes, with values that are a number and a format
-pub made_lint : {Z : Type 0} (ss : List (String Z)) → FirstIs (codes "lint") (texts_of ss) → fault_of lint_app (texts_of ss) ≡ [] → (given : Given) →
+pub made_lint : {Z : Type 0} (ss : List (String Z)) → FirstIs (codes "lint") (texts_of ss) → fault_of lint_app (texts_of ss) ≡ [] → (given : LintArguments) →
     given.workers ≡ first_value lint_app (codes "workers") (texts_of ss) → given.format ≡ first_value lint_app (codes "format") (texts_of ss) →
     given.labels ≡ says_true (first_value lint_app (codes "labels") (texts_of ss)) → given.files ≡ unwrap_or (all_values lint_app (codes "files") (texts_of ss)) [] →
     {workers : ℕ} {json : Bool} → IsWorkers given.workers workers → IsFormat given.format json → Asks (texts_of ss) (Lint workers json given.labels given.files)

@@ -4,14 +4,14 @@ use Rattle.std.specs.Bool.{nat_eq, MatchBool}
 use Rattle.std.specs.Str.{bytes_eq}
 use Rattle.std.specs.List.{starts_with}
 use Rattle.std.proofs.lemmas.Bool.{cases_Bool, eqb-true}
-use Rattle.lf_words.specs.Lint.{Word, Given, Gives, Valued, Workers, Format, option_word, value_of, with_value, with_labels, with_files, IsOperand, no_more, dashes, file, value_next, value_joined}
+use Rattle.lf_words.specs.Lint.{Word, LintArguments, Gives, Valued, Workers, Format, option_word, value_of, with_value, with_labels, with_files, IsOperand, no_more, dashes, file, value_next, value_joined}
 use Rattle.lf_words.specs.Lint as grammar
 
-abbrev pub After : Valued → Given → List Word → Given → Type 0
+abbrev pub After : Valued → LintArguments → List Word → LintArguments → Type 0
 After option given [] last = ⊥
 After option given (value ∷ words) last = (value_of option given ≡ None) × IsOperand value × Gives (with_value option value given) words last
 
-abbrev pub Joined : Valued → Given → Word → List Word → Given → Type 0
+abbrev pub Joined : Valued → LintArguments → Word → List Word → LintArguments → Type 0
 Joined option given value words last = (value_of option given ≡ None) × Gives (with_value option value given) words last
 
 abbrev pub joins : Valued → Word → Bool
@@ -20,7 +20,7 @@ joins option word = starts_with nat_eq word (option_word option ++ codes "=")
 abbrev pub joined : Valued → Word → Word
 joined option word = drop (length (option_word option ++ codes "=")) word
 
-abbrev pub ByFirst : Given → Word → List Word → Given → Type 0
+abbrev pub ByFirst : LintArguments → Word → List Word → LintArguments → Type 0
 ByFirst given word words last =
     MatchBool (bytes_eq word (codes "--")) (last ≡ with_files words given)
     (MatchBool (bytes_eq word (codes "--labels")) ((given.labels ≡ false) × Gives (with_labels given) words last)
@@ -30,11 +30,11 @@ ByFirst given word words last =
     (MatchBool (joins Format word) (Joined Format given (joined Format word) words last)
     (IsOperand word × Gives (with_files (word ∷ []) given) words last))))))
 
-abbrev pub Split : Given → List Word → Given → Type 0
+abbrev pub Split : LintArguments → List Word → LintArguments → Type 0
 Split given [] last = last ≡ given
 Split given (word ∷ words) last = ByFirst given word words last
 
-operand_first : (given last : Given) (word : Word) (words : List Word) → IsOperand word → Gives (with_files (word ∷ []) given) words last → ByFirst given word words last
+operand_first : (given last : LintArguments) (word : Word) (words : List Word) → IsOperand word → Gives (with_files (word ∷ []) given) words last → ByFirst given word words last
 operand_first given last word words (inr e) d =
     let P : Word → Type 0 = λ w. Gives (with_files (w ∷ []) given) words last in
     let Q : Word → Type 0 = λ w. ByFirst given w words last in
@@ -51,7 +51,7 @@ operand_first given last (x ∷ xs) words (inl e) d = elim (cases_Bool (45 == x)
       | inr g ↦ g
     ]
 
-pub split : {given last : Given} {words : List Word} → Gives given words last → Split given words last
+pub split : {given last : LintArguments} {words : List Word} → Gives given words last → Split given words last
 split no_more = refl
 split dashes = refl
 split (grammar.labels n d) = (n, d)

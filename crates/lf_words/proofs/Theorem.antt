@@ -12,7 +12,7 @@ use Rattle.clap.specs.Walk.{Walk, Waiting, idle, positional, option, walked, set
 use Rattle.clap.specs.Faults.{turn_fault, settle_fault, use_fault, walk_fault, defaults_fault, default_fault, check_fault, fault_of}
 use Rattle.clap.specs.Kinds.{or_else}
 use Rattle.clap.specs.declared.parser.matches.ValueSource.TheVariants.{CommandLine, DefaultValue}
-use Rattle.lf_words.specs.Lint.{Given, Gives, nothing, Word, Valued, Workers, Format, option_word, value_of, with_value, with_labels, with_files, IsOperand, no_more, dashes, file, value_next, value_joined}
+use Rattle.lf_words.specs.Lint.{LintArguments, Gives, nothing, Word, Valued, Workers, Format, option_word, value_of, with_value, with_labels, with_files, IsOperand, no_more, dashes, file, value_next, value_joined}
 use Rattle.lf_words.specs.Lint as grammar
 use Rattle.lf_words.proofs.Steps.{name_of, lint, rules, rule, labels, files, Pending, state, pending_fault, after, Turns, or_parts, Open, is_idle, is_positional, turn_after, turn_dashes, turn_labels, turn_next, turn_with, turn_file, turn_value, bad_fails, wants, waits, wants_labels, wants_next, wants_with}
 use Rattle.lf_words.proofs.Forms.{Kind, k_dashes, k_labels, k_next, k_with, k_value, k_bad, classify, plain_of}
@@ -76,12 +76,12 @@ abbrev files_row : List Text → Option Row
 files_row [] = None
 files_row (f ∷ fs) = Some (record { id = codes "files"; values = f ∷ fs; count = None; source = Some CommandLine; reading = reading_by files })
 
-pub record Shows (R : List Row) (a : Given) : Type 0 where
+pub record Shows (R : List Row) (a : LintArguments) : Type 0 where
   pub options : (k : Valued) → row_at (name_of k) R ≡ option_map (option_row k) (value_of k a)
   pub flag : row_at (codes "labels") R ≡ labels_row a.labels
   pub files_are : row_at (codes "files") R ≡ files_row a.files
 
-show_option : (R : List Row) (a : Given) (k : Valued) (v : Text) → Shows R a → value_of k a ≡ None → Shows (used (rule k) (v ∷ []) R) (with_value k v a)
+show_option : (R : List Row) (a : LintArguments) (k : Valued) (v : Text) → Shows R a → value_of k a ≡ None → Shows (used (rule k) (v ∷ []) R) (with_value k v a)
 show_option R a Workers v s n =
     let none : row_at (codes "workers") R ≡ None = s.options Workers ∙ ap (option_map (option_row Workers)) n in
     let eq = ap (with_values (codes "workers") (reading_by (rule Workers)) CommandLine (v ∷ [])) (without-none (codes "workers") R none) in
@@ -107,7 +107,7 @@ show_option R a Format v s n =
       files_are = with-other (codes "format") (reading_by (rule Format)) CommandLine (v ∷ []) (codes "files") R refl ∙ s.files_are;
     })
 
-show_labels : (R : List Row) (a : Given) → Shows R a → a.labels ≡ false → Shows (used labels [] R) (with_labels a)
+show_labels : (R : List Row) (a : LintArguments) → Shows R a → a.labels ≡ false → Shows (used labels [] R) (with_labels a)
 show_labels R a s n =
     let none : row_at (codes "labels") R ≡ None = s.flag ∙ ap labels_row n in
     let eq = ap (with_values (codes "labels") (reading_by labels) CommandLine (codes "true" ∷ [])) (without-none (codes "labels") R none) in
@@ -121,7 +121,7 @@ show_labels R a s n =
       files_are = with-other (codes "labels") (reading_by labels) CommandLine (codes "true" ∷ []) (codes "files") R refl ∙ s.files_are;
     })
 
-show_file : (R : List Row) (a : Given) (w : Text) → Shows R a → Shows (used files (w ∷ []) R) (with_files (w ∷ []) a)
+show_file : (R : List Row) (a : LintArguments) (w : Text) → Shows R a → Shows (used files (w ∷ []) R) (with_files (w ∷ []) a)
 show_file R a w s = record {
   options = λ k. elim k as (λ j. row_at (name_of j) (with_values (codes "files") (reading_by files) CommandLine (w ∷ []) R) ≡ option_map (option_row j) (value_of j (with_files (w ∷ []) a))) [
     | Workers ↦ with-other (codes "files") (reading_by files) CommandLine (w ∷ []) (codes "workers") R refl ∙ s.options Workers
@@ -169,14 +169,14 @@ labels_faultless R e = rw (has_row-is (codes "labels") R, e) refl
 
 -- ---- what the words give is read
 
-no_value : (k : Valued) (R : List Row) (a : Given) → Shows R a → row_at (name_of k) R ≡ None → value_of k a ≡ None
+no_value : (k : Valued) (R : List Row) (a : LintArguments) → Shows R a → row_at (name_of k) R ≡ None → value_of k a ≡ None
 no_value k R a s h = go (value_of k a) (sym (s.options k) ∙ h)
   where
     go : (o : Option Text) → option_map (option_row k) o ≡ None → o ≡ None
     go None e = refl
     go (Some v) e = absurd cc
 
-no_labels : (R : List Row) (a : Given) → Shows R a → row_at (codes "labels") R ≡ None → a.labels ≡ false
+no_labels : (R : List Row) (a : LintArguments) → Shows R a → row_at (codes "labels") R ≡ None → a.labels ≡ false
 no_labels R a s h = go a.labels (sym s.flag ∙ h)
   where
     go : (b : Bool) → labels_row b ≡ None → b ≡ false
@@ -191,26 +191,26 @@ after_option : (R : List Row) (k : Valued) (v : Text) → after R (Some (name_of
 after_option R Workers v = refl
 after_option R Format v = refl
 
-pub data Mode : Type 0 where
-  opened : Mode
-  waiting_for : Valued → Mode
+pub data LintMode : Type 0 where
+  opened : LintMode
+  waiting_for : Valued → LintMode
 
-abbrev Premise : Mode → Given → List Row → Pending → Waiting → Type 0
+abbrev Premise : LintMode → LintArguments → List Row → Pending → Waiting → Type 0
 Premise opened a r p wt = Open wt × Shows (after r p) a
 Premise (waiting_for k) a r p wt = (p ≡ Some (name_of k, [])) × (wt ≡ option (name_of k)) × Shows r a
 
-abbrev Conclusion : Mode → Given → List Text → Type 0
-Conclusion opened a ws = (c : Given) × Gives a ws c
-Conclusion (waiting_for k) a ws = (c : Given) × Gives a ((option_word k) ∷ ws) c
+abbrev Conclusion : LintMode → LintArguments → List Text → Type 0
+Conclusion opened a ws = (c : LintArguments) × Gives a ws c
+Conclusion (waiting_for k) a ws = (c : LintArguments) × Gives a ((option_word k) ∷ ws) c
 
-reads : {ws : List Text} → Texts ws → (m : Mode) (a : Given) (r : List Row) (p : Pending) (wt : Waiting) → Premise m a r p wt → body (state r p wt false) ws ≡ [] → Conclusion m a ws
+reads : {ws : List Text} → Texts ws → (m : LintMode) (a : LintArguments) (r : List Row) (p : Pending) (wt : Waiting) → Premise m a r p wt → body (state r p wt false) ws ≡ [] → Conclusion m a ws
 reads none opened a r p wt h e = (a, no_more)
 reads none (waiting_for k) a r p wt h e =
     let P : Pending → Type 0 = λ q. pending_fault r q ≡ [] in
     absurd (wants r k (subst P h.0 (sym (body_end r p wt false) ∙ e)))
 reads (more {w} {ws} u us) opened a r p wt (o, s) e = go (λ m a r p wt h e. reads us m a r p wt h e) w (classify w u) e
   where
-    go : ((m : Mode) (a : Given) (r : List Row) (p : Pending) (wt : Waiting) → Premise m a r p wt → body (state r p wt false) ws ≡ [] → Conclusion m a ws) → (x : Text) → Kind x → body (state r p wt false) (x ∷ ws) ≡ [] → (c : Given) × Gives a (x ∷ ws) c
+    go : ((m : LintMode) (a : LintArguments) (r : List Row) (p : Pending) (wt : Waiting) → Premise m a r p wt → body (state r p wt false) ws ≡ [] → Conclusion m a ws) → (x : Text) → Kind x → body (state r p wt false) (x ∷ ws) ≡ [] → (c : LintArguments) × Gives a (x ∷ ws) c
     go ih _ k_dashes h = (with_files ws a, dashes)
     go ih _ k_labels h =
         let parts = or_parts _ _ (sym (body_turn (state r p wt false) _ (codes "--labels") _ ws (turn_labels r p o)) ∙ h) in
@@ -235,7 +235,7 @@ reads (more {w} {ws} u us) (waiting_for k) a r p wt (is_p, is_wt, s) e =
     let Q : Waiting → Type 0 = λ q. body (state r (Some (name_of k, [])) q false) (w ∷ ws) ≡ [] in
     go (λ m a r p wt h e. reads us m a r p wt h e) w (classify w u) (subst Q is_wt (subst P is_p e))
   where
-    go : ((m : Mode) (a : Given) (r : List Row) (p : Pending) (wt : Waiting) → Premise m a r p wt → body (state r p wt false) ws ≡ [] → Conclusion m a ws) → (x : Text) → Kind x → body (waits r k) (x ∷ ws) ≡ [] → (c : Given) × Gives a ((option_word k) ∷ x ∷ ws) c
+    go : ((m : LintMode) (a : LintArguments) (r : List Row) (p : Pending) (wt : Waiting) → Premise m a r p wt → body (state r p wt false) ws ≡ [] → Conclusion m a ws) → (x : Text) → Kind x → body (waits r k) (x ∷ ws) ≡ [] → (c : LintArguments) × Gives a ((option_word k) ∷ x ∷ ws) c
     go ih _ k_dashes h = absurd (wants r k (settles_after ws r (Some (name_of k, [])) (option (name_of k))
         (sym (body_turn (waits r k) _ (codes "--") _ ws (turn_dashes r (Some (name_of k, [])) (option (name_of k)))) ∙ h)))
     go ih _ k_labels h = absurd (wants_labels r k (body_first (waits r k) _ ws h))
@@ -254,20 +254,20 @@ reads (more {w} {ws} u us) (waiting_for k) a r p wt (is_p, is_wt, s) e =
 abbrev rows_end : Walk → List Text → List Row
 rows_end w ws = (settled rules (end_of w ws).held).rows
 
-abbrev Accepted : Walk → List Text → Given → Type 0
+abbrev Accepted : Walk → List Text → LintArguments → Type 0
 Accepted w ws c = (body w ws ≡ []) × Shows (rows_end w ws) c
 
-go_on : (w next : Walk) (x : Text) (f : Kinds) (ws : List Text) (c : Given) → Turns w x f next → f ≡ [] → Accepted next ws c → Accepted w (x ∷ ws) c
+go_on : (w next : Walk) (x : Text) (f : Kinds) (ws : List Text) (c : LintArguments) → Turns w x f next → f ≡ [] → Accepted next ws c → Accepted w (x ∷ ws) c
 go_on w next x f ws c t e ih =
     let S : Walk → Type 0 = λ n. Shows (rows_end n ws) c in (
       body_turn w next x f ws t ∙ ap (λ (k : Kinds). or_else k (body next ws)) e ∙ ih.0,
       subst S (sym t.1) ih.1,
     )
 
-value_row : (R : List Row) (a : Given) (k : Valued) → Shows R a → value_of k a ≡ None → row_at (name_of k) R ≡ None
+value_row : (R : List Row) (a : LintArguments) (k : Valued) → Shows R a → value_of k a ≡ None → row_at (name_of k) R ≡ None
 value_row R a k s n = s.options k ∙ ap (option_map (option_row k)) n
 
-accepts_files : (ws : List Text) (a : Given) (r : List Row) (p : Pending) (wt : Waiting) → pending_fault r p ≡ [] → Shows (after r p) a →
+accepts_files : (ws : List Text) (a : LintArguments) (r : List Row) (p : Pending) (wt : Waiting) → pending_fault r p ≡ [] → Shows (after r p) a →
     Accepted (state r p wt true) ws (with_files ws a)
 accepts_files [] a r p wt e s =
     let S : List Text → Type 0 = λ l. Shows (after r p) (record a { files = l }) in
@@ -277,7 +277,7 @@ accepts_files (w ∷ ws) a r p wt e s =
     go_on _ _ w _ ws (with_files (w ∷ ws) a) (turn_after r p wt w) e
     (subst S (append_assoc a.files (w ∷ []) ws) (accepts_files ws (with_files (w ∷ []) a) (after r p) (Some (codes "files", w ∷ [])) positional refl (show_file (after r p) a w s)))
 
-accepts : {a c : Given} {ws : List Text} → Gives a ws c → (r : List Row) (p : Pending) (wt : Waiting) → Open wt → pending_fault r p ≡ [] → Shows (after r p) a →
+accepts : {a c : LintArguments} {ws : List Text} → Gives a ws c → (r : List Row) (p : Pending) (wt : Waiting) → Open wt → pending_fault r p ≡ [] → Shows (after r p) a →
     Accepted (state r p wt false) ws c
 accepts no_more r p wt o e s = (body_end r p wt _ ∙ e, s)
 accepts (dashes {given = a} {files = ws}) r p wt o e s = go_on _ _ (codes "--") _ ws (with_files ws a) (turn_dashes r p wt) refl (accepts_files ws a r p wt e s)
@@ -377,23 +377,23 @@ shows_nothing : Shows [] nothing
 shows_nothing = record { options = λ k. elim k as (λ j. row_at (name_of j) [] ≡ option_map (option_row j) (value_of j nothing)) [ Workers ↦ refl | Format ↦ refl ]; flag = refl; files_are = refl }
 
 -- the words give this, and a file is among it
-abbrev pub Whole : List Word → Given → Type 0
+abbrev pub Whole : List Word → LintArguments → Type 0
 Whole words c = Gives nothing words c × (c.files ≢ [])
 
 -- words of the grammar have no fault
-pub taken : (l : Text) (ws : List Text) (c : Given) → Whole ws c → fault_of lint_app (l ∷ ws) ≡ []
+pub taken : (l : Text) (ws : List Text) (c : LintArguments) → Whole ws c → fault_of lint_app (l ∷ ws) ≡ []
 taken l ws c g =
     let ok = accepts g.0 [] None idle is_idle refl shows_nothing in
     fault_is l ws ∙ ap₂ or_else ok.0 ((check_is (last_rows ws) c.files (ends_keep (codes "files") (rows_end start ws) refl ∙ ok.1.files_are)).1 g.1)
 
 -- and give what clap's definition says
-pub record Means (words : List Text) (c : Given) : Type 0 where
+pub record Means (words : List Text) (c : LintArguments) : Type 0 where
   pub workers : first_value lint_app (codes "workers") words ≡ c.workers
   pub format : first_value lint_app (codes "format") words ≡ c.format
   pub labels : says_true (first_value lint_app (codes "labels") words) ≡ c.labels
   pub files : all_values lint_app (codes "files") words ≡ Some c.files
 
-pub means : (words : List Text) (c : Given) → Whole (drop 1 words) c → Means words c
+pub means : (words : List Text) (c : LintArguments) → Whole (drop 1 words) c → Means words c
 means words c g =
     let ws = drop 1 words in
     let ok = accepts g.0 [] None idle is_idle refl shows_nothing in
@@ -414,7 +414,7 @@ means words c g =
     files_back (f ∷ fs) n = refl
 
 -- words without fault are of the grammar
-pub given_by : (l : Text) (ws : List Text) → Texts ws → fault_of lint_app (l ∷ ws) ≡ [] → (c : Given) × Whole ws c
+pub given_by : (l : Text) (ws : List Text) → Texts ws → fault_of lint_app (l ∷ ws) ≡ [] → (c : LintArguments) × Whole ws c
 given_by l ws u e =
     let parts = or_parts _ _ (sym (fault_is l ws) ∙ e) in
     let (c, read) = reads u opened nothing [] None idle (is_idle, shows_nothing) parts.0 in
@@ -431,6 +431,6 @@ rest_is : {Z : Type 0} (ss : List (String Z)) → Texts (drop 1 (texts_of ss))
 rest_is [] = none
 rest_is (s ∷ ss) = texts_are ss
 
-pub taken_gives : {Z : Type 0} (ss : List (String Z)) → fault_of lint_app (texts_of ss) ≡ [] → (c : Given) × Whole (drop 1 (texts_of ss)) c × Means (texts_of ss) c
+pub taken_gives : {Z : Type 0} (ss : List (String Z)) → fault_of lint_app (texts_of ss) ≡ [] → (c : LintArguments) × Whole (drop 1 (texts_of ss)) c × Means (texts_of ss) c
 taken_gives [] e = let (c, g) = given_by [] [] none e in (c, g, means [] c g)
 taken_gives (s ∷ ss) e = let (c, g) = given_by (string_bytes s) (texts_of ss) (texts_are ss) e in (c, g, means (string_bytes s ∷ texts_of ss) c g)

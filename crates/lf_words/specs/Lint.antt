@@ -8,14 +8,14 @@ abbrev pub Word : Type 0
 Word = List ℕ
 
 -- What words gave: the value of each option that was among them, as it was written, whether `--labels` was, and the files in order.
-pub record Given : Type 0 where
+pub record LintArguments : Type 0 where
   pub workers : Option Word
   pub format : Option Word
   pub labels : Bool
   pub files : List Word
 
 -- What no word gives.
-abbrev pub nothing : Given
+abbrev pub nothing : LintArguments
 nothing = record { workers = None; format = None; labels = false; files = [] }
 
 -- The options that take a value.
@@ -29,21 +29,21 @@ option_word Workers = codes "--workers"
 option_word Format = codes "--format"
 
 -- The value of such an option, where it was given.
-abbrev pub value_of : Valued → Given → Option Word
+abbrev pub value_of : Valued → LintArguments → Option Word
 value_of Workers given = given.workers
 value_of Format given = given.format
 
 -- What is given with such an option's value too.
-abbrev pub with_value : Valued → Word → Given → Given
+abbrev pub with_value : Valued → Word → LintArguments → LintArguments
 with_value Workers value given = record given { workers = Some value }
 with_value Format value given = record given { format = Some value }
 
 -- What is given with `--labels` too.
-abbrev pub with_labels : Given → Given
+abbrev pub with_labels : LintArguments → LintArguments
 with_labels given = record given { labels = true }
 
 -- What is given with files too.
-abbrev pub with_files : List Word → Given → Given
+abbrev pub with_files : List Word → LintArguments → LintArguments
 with_files files given = record given { files = given.files ++ files }
 
 -- The word can be a file or a value: it doesn't begin with `-`, or it is `-` alone.
@@ -51,18 +51,18 @@ abbrev pub IsOperand : Word → Type 0
 IsOperand word = (starts_with nat_eq word (codes "-") ≡ false) ⊎ (word ≡ codes "-")
 
 -- The first words gave something; together with the words behind them they give this.
-pub data Gives : Given → List Word → Given → Type 0 where
+pub data Gives : LintArguments → List Word → LintArguments → Type 0 where
   -- No word more: it stays.
-  no_more : {given : Given} → Gives given [] given
+  no_more : {given : LintArguments} → Gives given [] given
   -- All words behind `--` are files.
-  dashes : {given : Given} {files : List Word} → Gives given (codes "--" ∷ files) (with_files files given)
+  dashes : {given : LintArguments} {files : List Word} → Gives given (codes "--" ∷ files) (with_files files given)
   -- `--labels`, where it wasn't given before.
-  labels : {given last : Given} {words : List Word} → given.labels ≡ false → Gives (with_labels given) words last → Gives given (codes "--labels" ∷ words) last
+  labels : {given last : LintArguments} {words : List Word} → given.labels ≡ false → Gives (with_labels given) words last → Gives given (codes "--labels" ∷ words) last
   -- An option and its value as the next word, where the option wasn't given before.
-  value_next : {given last : Given} {words : List Word} (option : Valued) {value : Word} → value_of option given ≡ None → IsOperand value →
+  value_next : {given last : LintArguments} {words : List Word} (option : Valued) {value : Word} → value_of option given ≡ None → IsOperand value →
       Gives (with_value option value given) words last → Gives given (option_word option ∷ value ∷ words) last
   -- An option, `=` and its value as one word, where the option wasn't given before.
-  value_joined : {given last : Given} {words : List Word} (option : Valued) (value : Word) → value_of option given ≡ None →
+  value_joined : {given last : LintArguments} {words : List Word} (option : Valued) (value : Word) → value_of option given ≡ None →
       Gives (with_value option value given) words last → Gives given ((option_word option ++ codes "=" ++ value) ∷ words) last
   -- A file.
-  file : {given last : Given} {file : Word} {words : List Word} → IsOperand file → Gives (with_files (file ∷ []) given) words last → Gives given (file ∷ words) last
+  file : {given last : LintArguments} {file : Word} {words : List Word} → IsOperand file → Gives (with_files (file ∷ []) given) words last → Gives given (file ∷ words) last

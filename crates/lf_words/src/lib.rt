@@ -8,8 +8,8 @@ mod laws;
 mod lint;
 mod number;
 mod options;
-mod part;
 mod seen;
+mod word_kind;
 mod words;
 
 pub use fault::WordFault;

@@ -2,7 +2,7 @@
 ghost use Rattle.std.specs.Prelude.{◌≡◌, ◌≢◌, ℕ, Bool, List, [], map, Option, IfOk, IfErr, IfSome, IfNone, codes, option_map, slice_get, unwrap_or, Some};
 ghost use Rattle.clap.specs.Words.{app_of, fault_of};
 ghost use Rattle.lf_words.specs.Grammar.{Asks, IsFormat, IsWorkers};
-ghost use Rattle.lf_words.specs.views.Given.{given_by};
+ghost use Rattle.lf_words.specs.views.Arguments.{arguments_of};
 ghost use Rattle.lf_words.specs.views.Commands.{lint_app, says_true, texts_of, first_value, all_values};
 ghost use Rattle.lf_words.specs.declared.options.Options.{Options};
 
@@ -63,8 +63,8 @@ pub fn read_lint(alloc: Global, words: &[String]) -> Result<Options, WordFault>
 /// What `clap` finds in the words, of which the first is `lint`.
 fn find<'a>(alloc: Global, words: &'a [String]) -> Result<Found<'a>, WordFault>
     ensures taken { IfOk result (λ _. fault_of lint_app (texts_of words.now) ≡ []) }
-    ensures workers { IfOk result (λ found. (given_by found).workers ≡ first_value lint_app (codes "workers") (texts_of words.now)) }
-    ensures format { IfOk result (λ found. (given_by found).format ≡ first_value lint_app (codes "format") (texts_of words.now)) }
+    ensures workers { IfOk result (λ found. (arguments_of found).workers ≡ first_value lint_app (codes "workers") (texts_of words.now)) }
+    ensures format { IfOk result (λ found. (arguments_of found).format ≡ first_value lint_app (codes "format") (texts_of words.now)) }
     ensures labels { IfOk result (λ found. found.labels ≡ says_true (first_value lint_app (codes "labels") (texts_of words.now))) }
     ensures files { IfOk result (λ found. found.files ≡ unwrap_or (all_values lint_app (codes "files") (texts_of words.now)) []) }
     ensures refused { IfErr result (λ e. e ≡ WordFault.Refused → fault_of lint_app (texts_of words.now) ≢ []) }

@@ -3,7 +3,7 @@ use Rattle.std.specs.Prelude.{◌≡◌, ℕ, ◌+◌, List, [], ◌∷◌, ◌+
 use Rattle.lf_base.specs.declared.place.Span.{Span}
 use Rattle.lf_lex.specs.declared.token.Token.{Token}
 use Rattle.lf_lex.specs.declared.token.TokenKind.{TokenKind}
-use Rattle.lf_lex.specs.Parts.{behind_token}
+use Rattle.lf_lex.specs.Lexemes.{behind_token}
 use Rattle.lf_lex.specs.Tokens.{in_source}
 use Rattle.lf_base.specs.declared.fault.Fault.{Fault}
 use Rattle.lf_lex.specs.reading.Steps.{next_token}

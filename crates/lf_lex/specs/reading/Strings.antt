@@ -60,12 +60,12 @@ escape quote (e ∷ src) =
 -- ---- what stands between the quotes
 
 -- a byte of the string's value, and the place of what gave it between the quotes: its own, or that of the backslash
-pub record Given : Type 0 where
+pub record PlacedByte : Type 0 where
   pub byte : ℕ
   pub place : ℕ
 
-abbrev pub given : ℕ → ℕ → Given
-given place byte = record { byte = byte; place = place }
+abbrev pub placed : ℕ → ℕ → PlacedByte
+placed place byte = record { byte = byte; place = place }
 
 -- What the front gives, and how many bytes behind the first belong to it: a byte gives itself, and an escape what it stands for. A backslash with which no
 -- escape begins gives the byte 255, which stands in no UTF-8, so that no string has it.
@@ -77,13 +77,13 @@ unfoldable pub piece : ℕ → List ℕ → List ℕ × ℕ
 piece quote src = if slice_index src 0 == 92 then or_no_utf8 (escape quote (drop 1 src)) else (slice_index src 0 ∷ [], 0)
 
 -- What the bytes between the quotes give, the first of them at a place. `skipped` bytes at the front belong to an escape.
-unfoldable pub gives : ℕ → ℕ → ℕ → List ℕ → List Given
+unfoldable pub gives : ℕ → ℕ → ℕ → List ℕ → List PlacedByte
 gives quote place skipped [] = []
 gives quote place (suc skipped) (b ∷ src) = gives quote (suc place) skipped src
-gives quote place zero (b ∷ src) = let p = piece quote (b ∷ src) in map (given place) p.0 ++ gives quote (suc place) p.1 src
+gives quote place zero (b ∷ src) = let p = piece quote (b ∷ src) in map (placed place) p.0 ++ gives quote (suc place) p.1 src
 
-abbrev pub bytes_of : List Given → List ℕ
+abbrev pub bytes_of : List PlacedByte → List ℕ
 bytes_of gs = map (λ g. g.byte) gs
 
-abbrev pub places_of : List Given → List ℕ
+abbrev pub places_of : List PlacedByte → List ℕ
 places_of gs = map (λ g. g.place) gs

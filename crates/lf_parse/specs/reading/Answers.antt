@@ -4,7 +4,7 @@ use Rattle.lf_base.specs.declared.kind.Kind.TheVariants.{Syntax}
 use Rattle.lf_base.specs.Faults.{fault}
 use Rattle.lf_lex.specs.declared.token.Token.{Token}
 use Rattle.lf_base.specs.declared.fault.Fault.{Fault}
-use Rattle.lf_parse.specs.Tokens.{shown}
+use Rattle.lf_parse.specs.Tokens.{marked}
 use Rattle.lf_ast.specs.Tree.{Tree}
 use Rattle.lf_parse.specs.reading.Machine.{reading}
 use Rattle.lf_parse.specs.Answer.{place}
@@ -14,4 +14,4 @@ placed ts end (Ok e) = Ok e
 placed ts end (Err k) = Err (fault Syntax (place ts end k))
 
 abbrev pub answer : List Token → ℕ → Result Tree Fault
-answer ts end = placed ts end (reading (map shown ts))
+answer ts end = placed ts end (reading (map marked ts))

@@ -4,8 +4,8 @@ use Rattle.std.specs.Prelude.{ℕ, ◌+◌, ◌*◌, ◌-◌, ◌^◌, min, ◌=
 use Rattle.std.specs.Char.{digit_value}
 use Rattle.lf_pattern.specs.declared.replacement.Piece.{Piece}
 use Rattle.lf_pattern.specs.declared.replacement.Piece.TheVariants.{Char, Group}
-use Rattle.lf_pattern.specs.declared.replacement.Mode.{Mode}
-use Rattle.lf_pattern.specs.declared.replacement.Mode.TheVariants.{Text, Dollar, Number, Braced}
+use Rattle.lf_pattern.specs.declared.replacement.ReplacementMode.{ReplacementMode}
+use Rattle.lf_pattern.specs.declared.replacement.ReplacementMode.TheVariants.{Text, Dollar, Number, Braced}
 
 abbrev pub greatest : ℕ
 greatest = 2 ^ 64 - 1
@@ -15,7 +15,7 @@ abbrev pub with_digit : ℕ → ℕ → ℕ
 with_digit n c = min (n * 10 + digit_value c) greatest
 
 -- the pieces of what is left, by what was read of the piece that is open
-unfoldable pub pieces_of : Mode → List ℕ → List Piece
+unfoldable pub pieces_of : ReplacementMode → List ℕ → List Piece
 pieces_of Text [] = []
 pieces_of Dollar [] = []
 pieces_of (Number n) [] = Group n ∷ []

@@ -3,13 +3,13 @@ use Rattle.std.specs.Prelude.{◌≡◌, ◌≢◌, ℕ, zero, suc, ◌+◌, ◌
 use Rattle.std.specs.List.{flat_map}
 use lib.Utf8.{scalar}
 use Rattle.lf_base.specs.declared.kind.Kind.TheVariants.{BadEscape, OpenQuote, LeftOut, NotANode}
-use Rattle.lf_scalar.specs.declared.escapes.Given.{Given}
-use Rattle.lf_scalar.specs.declared.escapes.Given.TheVariants as given_of
+use Rattle.lf_scalar.specs.declared.escapes.PieceValue.{PieceValue}
+use Rattle.lf_scalar.specs.declared.escapes.PieceValue.TheVariants as values
 use Rattle.lf_base.specs.declared.refusal.Refusal.{Refusal}
 use Rattle.lf_scalar.specs.declared.quoted.AtBreak.{AtBreak}
 use Rattle.lf_scalar.specs.declared.quoted.AtBreak.TheVariants as at_break
-use Rattle.lf_scalar.specs.declared.quotes.Step.{Step}
-use Rattle.lf_scalar.specs.declared.quotes.Step.TheVariants as step
+use Rattle.lf_scalar.specs.declared.quotes.ByteEffect.{ByteEffect}
+use Rattle.lf_scalar.specs.declared.quotes.ByteEffect.TheVariants as effect
 use Rattle.lf_base.specs.declared.fault.Fault.{Fault}
 use Rattle.lf_base.specs.Faults.{span}
 use Rattle.lf_scalar.specs.Cells.{Cell, cell, cells, Value, made, byte_fault, character_fault, front, Fails, ◌>>=◌}
@@ -69,9 +69,9 @@ abbrev pub as_escape : Cell → ℕ × ℕ → List Cell × (Bool × ℕ)
 as_escape backslash x = (char_cells backslash.at x.0, (false, x.1))
 
 -- the same of what the code tells of a piece at an offset
-abbrev pub shown : ℕ → Given × ℕ → List Cell × (Bool × ℕ)
-shown at (given_of.Byte byte, k) = (cell byte at ∷ [], (is_blank (cell byte at), k))
-shown at (given_of.Char n, k) = (char_cells at n, (false, k))
+abbrev pub as_value : ℕ → PieceValue × ℕ → List Cell × (Bool × ℕ)
+as_value at (values.Byte byte, k) = (cell byte at ∷ [], (is_blank (cell byte at), k))
+as_value at (values.Char n, k) = (char_cells at n, (false, k))
 
 -- the piece at the front of some bytes
 abbrev pub piece_at : Quotes → ℕ → List ℕ → Option (Piece × ℕ)
@@ -89,9 +89,9 @@ scan kind (suc k) (c ∷ src) = scan kind k src
 scan kind zero (c ∷ src) = scanned c src (piece_of kind c src) (λ k. scan kind k src)
 
 -- a byte for itself that is a blank
-abbrev pub is_blank_given : Given → Bool
-is_blank_given (given_of.Byte byte) = is_blank (cell byte 0)
-is_blank_given (given_of.Char n) = false
+abbrev pub is_blank_value : PieceValue → Bool
+is_blank_value (values.Byte byte) = is_blank (cell byte 0)
+is_blank_value (values.Char n) = false
 
 -- a text grew by what the pieces of some cells give, these cells are left, and so much of it is kept without the bare blanks at its end
 pub record Reaches (kind : Quotes) (cs old now : List Cell) (kept : ℕ) (left : List Cell) : Type 0 where
@@ -124,13 +124,13 @@ abbrev pub split_of : ℕ → List ℕ → ℕ → Closing
 split_of at bytes k = (cells at (take k bytes), (cell (get_or bytes k 0) (at + k), cells (at + (k + 1)) (drop (k + 1) bytes)))
 
 -- what a byte between quotes does, by the byte behind it
-abbrev pub IsStep : Quotes → ℕ → ℕ → Step → Type 0
-IsStep Single byte next step.Closes = (byte ≡ 39) × (next ≢ 39)
-IsStep Single byte next step.TakesNext = (byte ≡ 39) × (next ≡ 39)
-IsStep Single byte next step.Passes = byte ≢ 39
-IsStep Double byte next step.Closes = byte ≡ 34
-IsStep Double byte next step.TakesNext = byte ≡ 92
-IsStep Double byte next step.Passes = (byte ≢ 34) × (byte ≢ 92)
+abbrev pub IsEffect : Quotes → ℕ → ℕ → ByteEffect → Type 0
+IsEffect Single byte next effect.Closes = (byte ≡ 39) × (next ≢ 39)
+IsEffect Single byte next effect.TakesNext = (byte ≡ 39) × (next ≡ 39)
+IsEffect Single byte next effect.Passes = byte ≢ 39
+IsEffect Double byte next effect.Closes = byte ≡ 34
+IsEffect Double byte next effect.TakesNext = byte ≡ 92
+IsEffect Double byte next effect.Passes = (byte ≢ 34) × (byte ≢ 92)
 
 -- ---- the lines
 

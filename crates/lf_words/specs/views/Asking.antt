@@ -1,16 +1,16 @@
 -- How contracts see words that are read one by one, without memory.
 use Rattle.std.specs.Prelude.{◌≡◌, ◌≢◌, ◌↔◌, ℕ, Bool, List, [], ◌∷◌, ◌++◌, option_map, codes}
 use Rattle.std.specs.Bool.{MatchBool}
-use Rattle.lf_words.specs.Lint.{Word, Given, Gives, nothing, IsOperand, Workers, Format, option_word}
+use Rattle.lf_words.specs.Lint.{Word, LintArguments, Gives, nothing, IsOperand, Workers, Format, option_word}
 use Rattle.lf_words.specs.Lint as grammar
 use Rattle.lf_words.specs.Grammar.{IsWorkers, IsFormat}
-use Rattle.lf_words.specs.declared.part.Valued.{Valued}
-use Rattle.lf_words.specs.declared.part.Valued.TheVariants as valued
-use Rattle.lf_words.specs.declared.part.Part.{Part}
-use Rattle.lf_words.specs.declared.part.Part.TheVariants as part
+use Rattle.lf_words.specs.declared.word_kind.Valued.{Valued}
+use Rattle.lf_words.specs.declared.word_kind.Valued.TheVariants as valued
+use Rattle.lf_words.specs.declared.word_kind.WordKind.{WordKind}
+use Rattle.lf_words.specs.declared.word_kind.WordKind.TheVariants as kind
 use Rattle.lf_words.specs.declared.seen.Next.{Next}
 use Rattle.lf_words.specs.declared.seen.Next.TheVariants as next
-use Rattle.lf_words.specs.declared.seen.Seen.{Seen}
+use Rattle.lf_words.specs.declared.seen.SeenWords.{SeenWords}
 
 -- The option, as the grammar names it.
 abbrev pub named : Valued → grammar.Valued
@@ -25,14 +25,14 @@ pub record IsUnknown (word : Word) : Type 0 where
   pub joined : (option : grammar.Valued) (value : Word) → word ≢ option_word option ++ codes "=" ++ value
   pub operand : IsOperand word → ⊥
 
--- The word is this part.
-abbrev pub IsPart : Word → Part → Type 0
-IsPart word part.Dashes = word ≡ codes "--"
-IsPart word part.Labels = word ≡ codes "--labels"
-IsPart word (part.Option option) = word ≡ option_word (named option)
-IsPart word (part.Joined option value) = word ≡ option_word (named option) ++ codes "=" ++ value.now
-IsPart word part.File = IsOperand word
-IsPart word part.Unknown = IsUnknown word
+-- The word is of this kind.
+abbrev pub IsOfKind : Word → WordKind → Type 0
+IsOfKind word kind.Dashes = word ≡ codes "--"
+IsOfKind word kind.Labels = word ≡ codes "--labels"
+IsOfKind word (kind.Option option) = word ≡ option_word (named option)
+IsOfKind word (kind.Joined option value) = word ≡ option_word (named option) ++ codes "=" ++ value.now
+IsOfKind word kind.File = IsOperand word
+IsOfKind word kind.Unknown = IsUnknown word
 
 -- The words with the one before them that decides what the next one is: an option that waits for its value, or `--`.
 abbrev pub begun : Next → List Word → List Word
@@ -41,24 +41,24 @@ begun (next.Value option) words = option_word (named option) ∷ words
 begun next.File words = codes "--" ∷ words
 
 -- What is kept of what was given: all of it but which files they were.
-pub record Keeps (seen : Seen) (given : Given) : Type 0 where
+pub record Keeps (seen : SeenWords) (given : LintArguments) : Type 0 where
   pub workers : option_map (λ w. w.now) seen.workers ≡ given.workers
   pub format : option_map (λ w. w.now) seen.format ≡ given.format
   pub labels : seen.labels ≡ given.labels
   pub file : MatchBool seen.file (given.files ≢ []) (given.files ≡ [])
 
 -- What was seen leads from words to what is seen later and to others, which then give the same.
-abbrev pub Leads : Seen → List Word → Seen → List Word → Type 0
+abbrev pub Leads : SeenWords → List Word → SeenWords → List Word → Type 0
 Leads seen words later others =
-    (given : Given) → Keeps seen given → (more : Given) × Keeps later more × ((last : Given) → Gives given (begun seen.next words) last ↔ Gives more (begun later.next others) last)
+    (given : LintArguments) → Keeps seen given → (more : LintArguments) × Keeps later more × ((last : LintArguments) → Gives given (begun seen.next words) last ↔ Gives more (begun later.next others) last)
 
 -- All words give what those that are left give behind what was seen.
-abbrev pub Stands : List Word → Seen → List Word → Type 0
-Stands words seen left = (given : Given) × Keeps seen given × ((last : Given) → Gives nothing words last ↔ Gives given (begun seen.next left) last)
+abbrev pub Stands : List Word → SeenWords → List Word → Type 0
+Stands words seen left = (given : LintArguments) × Keeps seen given × ((last : LintArguments) → Gives nothing words last ↔ Gives given (begun seen.next left) last)
 
 -- Behind what was given the words ask for a report: together they give a file, and values that are a number of workers and a format.
-pub record Lints (given : Given) (words : List Word) : Type 0 where
-  pub last : Given
+pub record Lints (given : LintArguments) (words : List Word) : Type 0 where
+  pub last : LintArguments
   pub gives : Gives given words last
   pub some : last.files ≢ []
   pub workers : ℕ

@@ -1,6 +1,6 @@
 use Rattle.std.proofs.Common.{sym, ◌∙◌, arith}
 use Rattle.lf_lex.specs.reading.Escapes.{given_by}
-use Rattle.lf_lex.proofs.Given.{place-skip, within-skip, place-here, place-past, within-past, gives-end}
+use Rattle.lf_lex.proofs.PlacedBytes.{place-skip, within-skip, place-here, place-past, within-past, gives-end}
 use Rattle.lf_lex.proofs.string.place_of_byte.Goals as goal
 use Rattle.lf_lex.proofs.string.place_of_byte.Goals.{then-skip-gt0, else-skip-gt0+else-left-len}
 

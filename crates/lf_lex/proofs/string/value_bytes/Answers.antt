@@ -1,7 +1,7 @@
 use Rattle.std.proofs.Common.{sym, ◌∙◌}
 use Rattle.std.proofs.lemmas.List.{append-nil}
 use Rattle.lf_lex.specs.reading.Escapes.{given_by}
-use Rattle.lf_lex.proofs.Given.{bytes-skip, bytes-piece, gives-end}
+use Rattle.lf_lex.proofs.PlacedBytes.{bytes-skip, bytes-piece, gives-end}
 use Rattle.lf_lex.proofs.string.value_bytes.Goals as goal
 use Rattle.lf_lex.proofs.string.value_bytes.Goals.{then-skip-gt0, else-skip-gt0+in_ok-push}
 

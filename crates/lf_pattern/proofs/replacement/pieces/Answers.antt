@@ -2,7 +2,7 @@ use Rattle.std.proofs.Common.{rules, ◌≡◌, ◌∙◌, List, IfOk, subst, ap
 use Rattle.std.specs.Str.{chars}
 use Rattle.std.proofs.lemmas.Str.{chars_from_encodes}
 use Rattle.lf_pattern.specs.declared.replacement.Piece.{Piece}
-use Rattle.lf_pattern.specs.declared.replacement.Mode.TheVariants.{Text}
+use Rattle.lf_pattern.specs.declared.replacement.ReplacementMode.TheVariants.{Text}
 use Rattle.lf_pattern.specs.reading.Replacement.{pieces_of}
 use Rattle.lf_pattern.proofs.PieceLaws.{found_pieces}
 use Rattle.lf_pattern.proofs.replacement.pieces.Goals as goal

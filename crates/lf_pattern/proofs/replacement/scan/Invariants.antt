@@ -1,5 +1,5 @@
 use Rattle.std.proofs.Common.{◌≡◌, ◌++◌, drop}
-use Rattle.lf_pattern.specs.declared.replacement.Mode.TheVariants.{Text}
+use Rattle.lf_pattern.specs.declared.replacement.ReplacementMode.TheVariants.{Text}
 use Rattle.lf_pattern.specs.reading.Replacement.{pieces_of}
 use Rattle.lf_pattern.proofs.replacement.scan.Given as goal
 

@@ -7,7 +7,7 @@ pub loop-stop-preserved : goal.loop-stop-preserved
 loop-stop-preserved c =
     let r = c.loop-stop.invariant in
     let f = front c.args.kind (c.args.at + c.loop-stop.stop) (drop c.loop-stop.stop c.args.line.now) c.in-Some.given c.in-Some.behind (rw c.past.ensures at c.in-Some.ensures.value) in (
-      one-more c.args.kind c.args.at c.args.line.now c.args.builder.now c.loop-stop.builder c.push_given.new.builder c.loop-stop.kept c.kept_behind-kept.result c.loop-stop.stop c.in-Some.given c.in-Some.behind r.0 f c.in_ok-push_given.ensures
+      one-more c.args.kind c.args.at c.args.line.now c.args.builder.now c.loop-stop.builder c.push_piece_value.new.builder c.loop-stop.kept c.kept_behind-kept.result c.loop-stop.stop c.in-Some.given c.in-Some.behind r.0 f c.in_ok-push_piece_value.ensures
           (rw c.len.ensures at c.kept_behind-kept.ensures),
       omega (arith, c.in-Some.ensures.within, ap length c.past.ensures, length-drop c.loop-stop.stop c.args.line.now, c.loop-stop-test.true),
     )

@@ -2,10 +2,10 @@
 ghost use Rattle.std.specs.Prelude.{◌≡◌, ◌∷◌, ◌++◌, [], IfOk};
 ghost use Rattle.lf_parse.specs.Grammar as grammar;
 ghost use Rattle.lf_parse.specs.reading.Machine as machine;
-ghost use Rattle.lf_parse.specs.views.Values.{tok, sign_byte, seen_mod, seen_part, step_of};
+ghost use Rattle.lf_parse.specs.views.Values.{token_of, sign_byte, mod_with_end, mod_stage_of, step_of};
 
 use crate::class::{Class, Edge};
-use crate::seen::{Mark, Seen};
+use crate::mark::{Mark, MarkedToken};
 use crate::step::Step;
 use lf_base::{Memory, Text};
 use lf_lex::Sign;
@@ -27,7 +27,7 @@ pub enum TimeSign {
 
 /// Where an offset or a time is.
 #[derive(Clone, Copy, Drop)]
-pub enum Part {
+pub enum ModStage {
     AfterOffset,
     AfterOffsetMinus,
     AfterAt,
@@ -68,39 +68,47 @@ fn sign_text(sign: TimeSign) -> &'static str
 }
 
 /// Takes the next token of an offset or a time. At the end this gives its text and the offset in the source where it ends.
-pub fn part_step(alloc: Global, part: Part, token: Seen) -> Result<Step<Part, (Mod, u32)>, Memory>
-    ensures { IfOk result (λ taken. step_of seen_part seen_mod taken ≡ machine.part_step (seen_part part) (tok token.entry)) }
+pub fn mod_step(
+    alloc: Global,
+    stage: ModStage,
+    token: MarkedToken,
+) -> Result<Step<ModStage, (Mod, u32)>, Memory>
+    ensures { IfOk result (λ taken. step_of mod_stage_of mod_with_end taken ≡ machine.mod_step (mod_stage_of stage) (token_of token.entry)) }
 {
     let end = token.span.end;
-    match (part, token.mark) {
-        (Part::AfterOffset, Mark::Duration) => {
+    match (stage, token.mark) {
+        (ModStage::AfterOffset, Mark::Duration) => {
             let text = Text::of(alloc, token.text)?;
             Ok(Step::Done((Mod::Offset(text), end)))
         }
-        (Part::AfterOffset, Mark::Sign(Sign::Minus)) => Ok(Step::More(Part::AfterOffsetMinus)),
-        (Part::AfterOffsetMinus, Mark::Duration) => {
+        (ModStage::AfterOffset, Mark::Sign(Sign::Minus)) => Ok(Step::More(
+            ModStage::AfterOffsetMinus,
+        )),
+        (ModStage::AfterOffsetMinus, Mark::Duration) => {
             let text = signed(alloc, "-", token.text)?;
             Ok(Step::Done((Mod::Offset(text), end)))
         }
-        (Part::AfterAt, Mark::Number) => {
+        (ModStage::AfterAt, Mark::Number) => {
             let text = Text::of(alloc, token.text)?;
             Ok(Step::Done((Mod::At(text), end)))
         }
-        (Part::AfterAt, Mark::Sign(Sign::Plus)) => {
-            Ok(Step::More(Part::AfterAtSign(TimeSign::Plus)))
+        (ModStage::AfterAt, Mark::Sign(Sign::Plus)) => {
+            Ok(Step::More(ModStage::AfterAtSign(TimeSign::Plus)))
         }
-        (Part::AfterAt, Mark::Sign(Sign::Minus)) => {
-            Ok(Step::More(Part::AfterAtSign(TimeSign::Minus)))
+        (ModStage::AfterAt, Mark::Sign(Sign::Minus)) => {
+            Ok(Step::More(ModStage::AfterAtSign(TimeSign::Minus)))
         }
-        (Part::AfterAt, Mark::Word(Class::Edge(edge))) => Ok(Step::More(Part::AfterEdge(edge))),
-        (Part::AfterAtSign(sign), Mark::Number) => {
+        (ModStage::AfterAt, Mark::Word(Class::Edge(edge))) => Ok(Step::More(ModStage::AfterEdge(
+            edge,
+        ))),
+        (ModStage::AfterAtSign(sign), Mark::Number) => {
             let text = signed(alloc, sign_text(sign), token.text)?;
             Ok(Step::Done((Mod::At(text), end)))
         }
-        (Part::AfterEdge(edge), Mark::Sign(Sign::OpenParen)) => {
-            Ok(Step::More(Part::InEdge(edge)))
+        (ModStage::AfterEdge(edge), Mark::Sign(Sign::OpenParen)) => {
+            Ok(Step::More(ModStage::InEdge(edge)))
         }
-        (Part::InEdge(edge), Mark::Sign(Sign::CloseParen)) => {
+        (ModStage::InEdge(edge), Mark::Sign(Sign::CloseParen)) => {
             let text = Text::of(alloc, edge_text(edge))?;
             Ok(Step::Done((Mod::At(text), end)))
         }

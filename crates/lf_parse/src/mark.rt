@@ -1,7 +1,7 @@
 //! Tokens as the grammar sees them.
 ghost use Rattle.std.specs.Prelude.{◌≡◌};
-ghost use Rattle.lf_parse.specs.Tokens.{word_mark, shown};
-ghost use Rattle.lf_parse.specs.views.Values.{mark_with, tok};
+ghost use Rattle.lf_parse.specs.Tokens.{word_mark, marked};
+ghost use Rattle.lf_parse.specs.views.Values.{mark_of, token_of};
 
 use crate::class::{Class, class_of};
 use lf_base::Span;
@@ -23,7 +23,7 @@ pub enum Mark {
 
 /// A token as the grammar sees it.
 #[derive(Clone, Copy, Drop)]
-pub struct Seen<'a> {
+pub struct MarkedToken<'a> {
     /// What it is.
     pub mark: Mark,
     /// Its text, which is empty for a sign.
@@ -32,9 +32,9 @@ pub struct Seen<'a> {
     pub span: Span,
 }
 
-/// Sees a token as the grammar does.
-pub fn see(token: &Token) -> Seen<'_>
-    ensures { tok result ≡ shown token.now }
+/// The token with its mark.
+pub fn marked(token: &Token) -> MarkedToken<'_>
+    ensures { token_of result ≡ marked token.now }
 {
     let (mark, text) = match &token.kind {
         TokenKind::Word { text } => (word_mark(text.as_str()), text.as_str()),
@@ -43,7 +43,7 @@ pub fn see(token: &Token) -> Seen<'_>
         TokenKind::Str { text } => (Mark::Str, text.as_str()),
         TokenKind::Sign { sign } => (Mark::Sign(*sign), ""),
     };
-    Seen {
+    MarkedToken {
         mark,
         text,
         span: token.span,
@@ -52,7 +52,7 @@ pub fn see(token: &Token) -> Seen<'_>
 
 /// What a word is.
 fn word_mark(text: &str) -> Mark
-    ensures { mark_with result text.now ≡ word_mark text.now }
+    ensures { mark_of result text.now ≡ word_mark text.now }
 {
     if has_colon(text) {
         Mark::Metric

@@ -1,7 +1,7 @@
 //! What a single word of `lint` is.
 ghost use Rattle.std.specs.Prelude.{◌≡◌, ◌≢◌, ◌++◌, codes, true, false, IfSome, IfNone};
 ghost use Rattle.lf_words.specs.Lint.{Word, IsOperand, option_word};
-ghost use Rattle.lf_words.specs.views.Asking.{named, IsPart};
+ghost use Rattle.lf_words.specs.views.Asking.{named, IsOfKind};
 
 use crate::number::begins_with;
 
@@ -14,7 +14,7 @@ pub enum Valued {
 
 /// What a word is where an option or a file may stand.
 #[derive(Clone, Copy)]
-pub enum Part<'a> {
+pub enum WordKind<'a> {
     /// `--`, behind which all words are files.
     Dashes,
     /// `--labels`.
@@ -30,19 +30,19 @@ pub enum Part<'a> {
 }
 
 /// What the word is where an option or a file may stand.
-pub fn part_of(word: &str) -> Part<'_>
-    ensures { IsPart word.now result }
+pub fn kind_of(word: &str) -> WordKind<'_>
+    ensures { IsOfKind word.now result }
 {
     match word {
-        "--" => Part::Dashes,
-        "--labels" => Part::Labels,
-        "--workers" => Part::Option(Valued::Workers),
-        "--format" => Part::Option(Valued::Format),
+        "--" => WordKind::Dashes,
+        "--labels" => WordKind::Labels,
+        "--workers" => WordKind::Option(Valued::Workers),
+        "--format" => WordKind::Option(Valued::Format),
         _ => match (joined(word, Valued::Workers), joined(word, Valued::Format)) {
-            (Some(value), _) => Part::Joined(Valued::Workers, value),
-            (None, Some(value)) => Part::Joined(Valued::Format, value),
-            (None, None) if is_operand(word) => Part::File,
-            (None, None) => Part::Unknown,
+            (Some(value), _) => WordKind::Joined(Valued::Workers, value),
+            (None, Some(value)) => WordKind::Joined(Valued::Format, value),
+            (None, None) if is_operand(word) => WordKind::File,
+            (None, None) => WordKind::Unknown,
         },
     }
 }

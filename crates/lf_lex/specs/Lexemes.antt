@@ -36,18 +36,18 @@ IsToken inside (kinds.Duration duration) text rest = (text ≡ duration) × IsLo
 IsToken inside (kinds.Str value) text rest = IsString text value
 IsToken inside (kinds.Sign sign) text rest = IsSign inside sign text × IsLongest (IsSomeSign inside) text rest
 
--- ---- parts
+-- ---- lexemes
 
 -- a blank, a comment with what stands behind its #, or a token as it is written
-pub data Part : Type 0 where
-  Blank : ℕ → Part
-  Comment : List ℕ → Part
-  Written : TokenKind → List ℕ → Part
+pub data Lexeme : Type 0 where
+  Blank : ℕ → Lexeme
+  Comment : List ℕ → Lexeme
+  Written : TokenKind → List ℕ → Lexeme
 
-abbrev pub part_text : Part → List ℕ
-part_text (Blank b) = b ∷ []
-part_text (Comment line) = 35 ∷ line
-part_text (Written kind text) = text
+abbrev pub lexeme_text : Lexeme → List ℕ
+lexeme_text (Blank b) = b ∷ []
+lexeme_text (Comment line) = 35 ∷ line
+lexeme_text (Written kind text) = text
 
 -- the end, or a line feed, at which a string in quotes has to be closed
 abbrev pub EndsLine : List ℕ → Type 0
@@ -59,12 +59,12 @@ abbrev pub EndsComment : List ℕ → Type 0
 EndsComment [] = Unit {0}
 EndsComment (b ∷ rest) = is_line_break b ≡ true
 
-abbrev pub IsPart : Bool → Part → List ℕ → Type 0
-IsPart inside (Blank b) rest = is_blank b ≡ true
-IsPart inside (Comment line) rest = Each is_no_line_break line × EndsComment rest
-IsPart inside (Written kind text) rest = IsToken inside kind text rest
+abbrev pub IsLexeme : Bool → Lexeme → List ℕ → Type 0
+IsLexeme inside (Blank b) rest = is_blank b ≡ true
+IsLexeme inside (Comment line) rest = Each is_no_line_break line × EndsComment rest
+IsLexeme inside (Written kind text) rest = IsToken inside kind text rest
 
--- whether the last bracket is open behind a sign, a token, a part
+-- whether the last bracket is open behind a sign, a token, a lexeme
 abbrev pub behind_sign : Sign → Bool → Bool
 behind_sign OpenBracket inside = true
 behind_sign CloseBracket inside = false
@@ -74,15 +74,15 @@ abbrev pub behind_token : TokenKind → Bool → Bool
 behind_token (kinds.Sign sign) inside = behind_sign sign inside
 behind_token _ inside = inside
 
-abbrev pub behind_part : Part → Bool → Bool
-behind_part (Written kind text) inside = behind_token kind inside
-behind_part _ inside = inside
+abbrev pub behind_lexeme : Lexeme → Bool → Bool
+behind_lexeme (Written kind text) inside = behind_token kind inside
+behind_lexeme _ inside = inside
 
-abbrev pub behind_parts : List Part → Bool → Bool
-behind_parts [] inside = inside
-behind_parts (part ∷ parts) inside = behind_parts parts (behind_part part inside)
+abbrev pub behind_lexemes : List Lexeme → Bool → Bool
+behind_lexemes [] inside = inside
+behind_lexemes (lexeme ∷ lexemes) inside = behind_lexemes lexemes (behind_lexeme lexeme inside)
 
 -- Each is what it says, before the rest of the text.
-abbrev pub AreParts : Bool → List Part → List ℕ → Type 0
-AreParts inside [] rest = Unit {0}
-AreParts inside (part ∷ parts) rest = IsPart inside part (flat_map part_text parts ++ rest) × AreParts (behind_part part inside) parts rest
+abbrev pub AreLexemes : Bool → List Lexeme → List ℕ → Type 0
+AreLexemes inside [] rest = Unit {0}
+AreLexemes inside (lexeme ∷ lexemes) rest = IsLexeme inside lexeme (flat_map lexeme_text lexemes ++ rest) × AreLexemes (behind_lexeme lexeme inside) lexemes rest

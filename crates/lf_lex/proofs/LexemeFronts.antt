@@ -12,7 +12,7 @@ use Rattle.lf_base.specs.Names.{is_letter, begins_label}
 use Rattle.lf_lex.specs.Signs.{spelling}
 use Rattle.lf_lex.specs.Runs.{begins_run}
 use Rattle.lf_lex.specs.Strings.{IsQuote, in_back_quotes}
-use Rattle.lf_lex.specs.Parts.{IsLongest, IsWord, IsSign, IsSomeSign, Blank, Comment, Written, EndsComment}
+use Rattle.lf_lex.specs.Lexemes.{IsLongest, IsWord, IsSign, IsSomeSign, Blank, Comment, Written, EndsComment}
 use Rattle.lf_lex.specs.Breaches.{IsBeginning, a_blank, a_comment, a_word, a_run, a_quote, a_back_quote, a_sign, IsCharacter, BeginsNothing, in_back_quotes as open_back_quotes}
 use Rattle.lf_lex.specs.reading.Signs.{sign_at}
 use Rattle.lf_lex.specs.reading.Steps.{Front, gap, token, breach, comment_front, word_front, raw_front, sign_front, next_token}
