@@ -3,6 +3,7 @@ use Rattle.std.proofs.Common.{◌≡◌, ◌<◌, ◌≤◌, ◌+◌, ◌⊎◌,
 use Rattle.std.proofs.lemmas.List.{map-append, take_all, take_more}
 use Rattle.std.proofs.lemmas.List.Elements.{All-append, All-cons, All-nil, Contains-append_cases, Contains-append_left, Contains-append_right}
 use Rattle.std.specs.List.{All, Contains}
+use Rattle.lf_laws.specs.Gaining.{OfSome}
 use Rattle.lf_laws.proofs.Members.{here, none_in, only_one}
 use Rattle.lf_base.specs.declared.place.Span.{Span}
 use Rattle.lf_ast.specs.Labels.{Bytes}
@@ -13,7 +14,7 @@ use Rattle.lf_checks.specs.Finding.{Finding, finding}
 use Rattle.lf_checks.specs.Numbers.{HasNumbers}
 use Rattle.lf_checks.specs.declared.case.Case.{Case}
 use Rattle.lf_checks.specs.views.Cases.{IsAbout, check_of, row_of, says_of}
-use Rattle.lf_checks.specs.views.Shown.{Along, AreNumbered, Lists, ListsAlone, NumberedAlone, all_shown, shown}
+use Rattle.lf_checks.specs.views.Shown.{AreNumbered, Lists, ListsAlone, NumberedAlone, all_shown, shown}
 
 module _ (files : List File) (rules : List RuleTree) (is : Finding → Type 0) (found : List Row) where
   -- none
@@ -84,8 +85,8 @@ numbered_both one other found a b e files rules i =
 
 -- ---- what is found along a list, of each of its elements
 
-lists_more : {X : Type 0} (P : X → Finding → Type 0) (xs : List X) (x : X) (found more : List Row) → ((files : List File) (rules : List RuleTree) → Lists files rules (Along P xs) found) → ((files : List File) (rules : List RuleTree) → Lists files rules (P x) more)
-    → (files : List File) (rules : List RuleTree) → Lists files rules (Along P (xs ++ x ∷ [])) (found ++ more)
+lists_more : {X : Type 0} (P : X → Finding → Type 0) (xs : List X) (x : X) (found more : List Row) → ((files : List File) (rules : List RuleTree) → Lists files rules (OfSome P xs) found) → ((files : List File) (rules : List RuleTree) → Lists files rules (P x) more)
+    → (files : List File) (rules : List RuleTree) → Lists files rules (OfSome P (xs ++ x ∷ [])) (found ++ more)
 lists_more {X} P xs x found more before here_now files rules =
     let old = before files rules in
     let new = here_now files rules in
@@ -104,23 +105,23 @@ lists_more {X} P xs x found more before here_now files rules =
       ]);
     }
 
-pub along_more : {X : Type 0} (P : X → Finding → Type 0) (xs : List X) (x : X) (found more : List Row) → ListsAlone (Along P xs) found → ListsAlone (P x) more → ListsAlone (Along P (xs ++ x ∷ [])) (found ++ more)
+pub along_more : {X : Type 0} (P : X → Finding → Type 0) (xs : List X) (x : X) (found more : List Row) → ListsAlone (OfSome P xs) found → ListsAlone (P x) more → ListsAlone (OfSome P (xs ++ x ∷ [])) (found ++ more)
 along_more {X} P xs x found more before here_now = record {
   lists = lists_more P xs x found more before.lists here_now.lists;
   numbers = numbered_both found more (found ++ more) before.numbers here_now.numbers refl;
 }
 
 -- a loop over the list: one element more, and the end
-pub along_next : {X : Type 0} (P : X → Finding → Type 0) (xs : List X) (i : ℕ) (x : X) → i < length xs → x ≡ get_or xs i x → (found more after : List Row) → after ≡ found ++ more → ListsAlone (Along P (take i xs)) found → ListsAlone (P x) more
-    → ListsAlone (Along P (take (i + 1) xs)) after
+pub along_next : {X : Type 0} (P : X → Finding → Type 0) (xs : List X) (i : ℕ) (x : X) → i < length xs → x ≡ get_or xs i x → (found more after : List Row) → after ≡ found ++ more → ListsAlone (OfSome P (take i xs)) found → ListsAlone (P x) more
+    → ListsAlone (OfSome P (take (i + 1) xs)) after
 along_next {X} P xs i x inside is found more after e before here_now =
     let next : take i xs ++ x ∷ [] ≡ take (i + 1) xs = ap (λ (y : X). take i xs ++ y ∷ []) is ∙ sym (take_more xs i x inside) in
-    let Q : List X → Type 0 = λ ys. ListsAlone (Along P ys) after in
-    let R : List Row → Type 0 = λ l. ListsAlone (Along P (take i xs ++ x ∷ [])) l in
+    let Q : List X → Type 0 = λ ys. ListsAlone (OfSome P ys) after in
+    let R : List Row → Type 0 = λ l. ListsAlone (OfSome P (take i xs ++ x ∷ [])) l in
     subst Q next (subst R (sym e) (along_more P (take i xs) x found more before here_now))
 
-pub along_end : {X : Type 0} (P : X → Finding → Type 0) (xs : List X) (i : ℕ) → length xs ≤ i → (found : List Row) → ListsAlone (Along P (take i xs)) found → ListsAlone (Along P xs) found
-along_end {X} P xs i ends found h = let Q : List X → Type 0 = λ ys. ListsAlone (Along P ys) found in subst Q (take_all i xs ends) h
+pub along_end : {X : Type 0} (P : X → Finding → Type 0) (xs : List X) (i : ℕ) → length xs ≤ i → (found : List Row) → ListsAlone (OfSome P (take i xs)) found → ListsAlone (OfSome P xs) found
+along_end {X} P xs i ends found h = let Q : List X → Type 0 = λ ys. ListsAlone (OfSome P ys) found in subst Q (take_all i xs ends) h
 
 -- what holds of the same findings has the same lists
 pub lists_same : (files : List File) (rules : List RuleTree) (is also : Finding → Type 0) (found : List Row) → ((f : Finding) → is f → also f) → ((f : Finding) → also f → is f) → Lists files rules is found → Lists files rules also found

@@ -3,13 +3,14 @@ use Rattle.std.proofs.Common.{◌≡◌, ◌≤◌, ℕ, List, length, take, sym
 use Rattle.std.proofs.lemmas.List.{take_all}
 use Rattle.std.specs.Borrow.{Bor}
 use Rattle.std.specs.List.{Contains}
+use Rattle.lf_laws.specs.Gaining.{OfSome}
 use Rattle.lf_ast.specs.Tree.{Tree, nodes, tree}
 use Rattle.lf_ast.specs.declared.expr.Expr.{Expr}
 use Rattle.lf_ast.specs.declared.verdict.Finding.{Finding as Row}
 use Rattle.lf_ast.specs.views.Walks.{trees_at}
 use Rattle.lf_laws.proofs.Members.{in_map, map_member}
 use Rattle.lf_checks.specs.Finding.{Finding}
-use Rattle.lf_checks.specs.views.Adding.{Adds, OfSome}
+use Rattle.lf_checks.specs.views.Adding.{Adds}
 use Rattle.lf_checks.proofs.Added.{adds_as}
 
 -- a loop over all nodes has told of each part

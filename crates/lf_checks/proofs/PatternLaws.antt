@@ -3,6 +3,7 @@ use Rattle.std.proofs.Common.{◌≡◌, ◌≢◌, ◌↔◌, ◌+◌, ◌-◌,
 use Rattle.std.proofs.Math.Seq.{take-length}
 use Rattle.std.proofs.lemmas.List.{take_more, get_or-take, get_or_append_left, length-take-le}
 use Rattle.std.specs.List.{Contains}
+use Rattle.lf_laws.specs.Gaining.{OfSome}
 use Rattle.lf_ast.specs.Labels.{Bytes}
 use Rattle.lf_ast.specs.Rules.{RuleTree}
 use Rattle.lf_ast.specs.Tree.{Aggregate, Binary, Call, Number, Paren, Selector, Str, Subquery, Tree, Unary, nodes}
@@ -12,7 +13,7 @@ use Rattle.lf_pattern.specs.Plain.{HasAlternatives}
 use Rattle.lf_semantics.specs.PatternBreaches.{takes_pattern}
 use Rattle.lf_checks.specs.Finding.{Finding, PromqlRegexp, finding}
 use Rattle.lf_checks.specs.PromqlRegexp.{BeginsAnchored, EndsAnchored, IsFound, IsOneText, says_anchored, says_plain}
-use Rattle.lf_checks.specs.views.Adding.{Adds, OfSome}
+use Rattle.lf_checks.specs.views.Adding.{Adds}
 use Rattle.lf_checks.specs.views.Patterns.{IsOfMatcher, IsOfPart}
 use Rattle.lf_checks.proofs.Added.{adds_as, adds_both}
 

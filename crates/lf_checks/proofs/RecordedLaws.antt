@@ -4,6 +4,7 @@ use Rattle.std.proofs.Math.Nat.{eq-or-lt_of_le}
 use Rattle.std.proofs.lemmas.Bool.{eq-eqb, eqb-true}
 use Rattle.std.proofs.lemmas.List.Elements.{Contains-get_or}
 use Rattle.std.specs.List.{Contains}
+use Rattle.lf_laws.specs.Gaining.{OfSome}
 use Rattle.lf_base.specs.declared.place.Span.{Span}
 use Rattle.lf_ast.specs.Labels.{Bytes}
 use Rattle.lf_ast.specs.Rules.{RuleTree}
@@ -20,7 +21,7 @@ use Rattle.lf_semantics.proofs.Places.{at_place}
 use Rattle.lf_checks.specs.Finding.{Finding, RuleDependency, finding}
 use Rattle.lf_base.specs.Names.{has_colon}
 use Rattle.lf_checks.specs.RuleDependency.{IsFound, says_cyclic, says_unrecorded}
-use Rattle.lf_checks.specs.views.Adding.{Adds, OfSome}
+use Rattle.lf_checks.specs.views.Adding.{Adds}
 use Rattle.lf_checks.specs.views.Recorded.{IsLacking, IsOfName, IsOfSelector}
 use Rattle.lf_checks.proofs.Added.{adds_as, adds_both, adds_none}
 

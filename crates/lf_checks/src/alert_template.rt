@@ -2,11 +2,12 @@
 ghost use Rattle.std.specs.Prelude.{◌≡◌, ◌+◌, List, length, IfOk};
 ghost use Rattle.std.specs.List.{Contains};
 ghost use Rattle.std.specs.List.Sorted.{IsNonDecreasing};
+ghost use Rattle.lf_laws.specs.Gaining.{OfSome};
 ghost use Rattle.lf_ast.specs.Rules.{rule_tree};
 ghost use Rattle.lf_ast.specs.declared.rule.Template.{Template};
 ghost use Rattle.lf_semantics.specs.ClassRows.{HasShape};
 ghost use Rattle.lf_checks.specs.AlertTemplate.{IsFound};
-ghost use Rattle.lf_checks.specs.views.Shown.{Along, ListsAlone};
+ghost use Rattle.lf_checks.specs.views.Shown.{ListsAlone};
 ghost use Rattle.lf_checks.specs.views.TemplateCases.{IsOfReference, IsOfTemplate};
 
 use crate::case::{Case, found_if};
@@ -66,7 +67,7 @@ fn of_references(
     references: &[Reference],
 ) -> Result<Vec<Finding>, Memory>
     requires { HasShape universe.now row.now }
-    ensures { IfOk result (λ found. ListsAlone (Along (IsOfReference universe.now row.now) references.now) found.items) }
+    ensures { IfOk result (λ found. ListsAlone (OfSome (IsOfReference universe.now row.now) references.now) found.items) }
 {
     let mut found = Vec::new(alloc);
     for reference in references {

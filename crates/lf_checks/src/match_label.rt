@@ -4,6 +4,7 @@
 //! seeks a label, and the row of the rule is taken from them.
 ghost use Rattle.std.specs.Prelude.{◌≡◌, ◌<◌, ◌∷◌, ◌&&◌, [], List, Some, None, false, length, map, slice_get, IfOk, IfSome, IfNone, OnOk};
 ghost use Rattle.std.specs.List.{list_any};
+ghost use Rattle.lf_laws.specs.Gaining.{OfSome};
 ghost use Rattle.lf_ast.specs.Functions.{aggregation};
 ghost use Rattle.lf_ast.specs.Rules.{rule_tree};
 ghost use Rattle.lf_ast.specs.Tree.{Tree, parts_of, tree, nodes};
@@ -15,7 +16,7 @@ ghost use Rattle.lf_semantics.specs.Listing.{IsListing};
 ghost use Rattle.lf_semantics.specs.Parts.{operand_place, type_by_form};
 ghost use Rattle.lf_semantics.specs.RowTable.{Environment, row_of};
 ghost use Rattle.lf_checks.specs.MatchLabel.{IsFound};
-ghost use Rattle.lf_checks.specs.views.Adding.{Adds, OfSome};
+ghost use Rattle.lf_checks.specs.views.Adding.{Adds};
 ghost use Rattle.lf_checks.specs.views.Conditions.{condition_of};
 ghost use Rattle.lf_checks.specs.views.Shown.{ListsAlone};
 ghost use Rattle.lf_checks.specs.views.Sought.{IsNever, IsOfMatch, IsOfPart, IsOfRow, IsOfSides, for_left, for_right, labels_by, seeks_labels};

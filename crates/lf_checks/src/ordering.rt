@@ -37,7 +37,7 @@ fn with_keys(alloc: Global, found: Vec<Finding>) -> Result<Vec<Keyed<Finding>>, 
     Ok(all)
 }
 
-/// What a finding is ordered by.
+/// What a finding is ordered by: the number of its check, the start and the end of its span, and the bytes of its text, in which the place of a rule that it names is left out.
 fn key_of(alloc: Global, finding: &Finding) -> Result<Seq<u32>, Memory>
     ensures { IfOk result (λ key. key ≡ row_key finding.now) }
 {

@@ -1,10 +1,11 @@
 //! promql/regexp: patterns of matchers that are one plain text, or that anchor themselves.
 ghost use Rattle.std.specs.Prelude.{◌≡◌, ◌⊎◌, ◌↔◌, IsTrue, IfOk, OnOk};
+ghost use Rattle.lf_laws.specs.Gaining.{OfSome};
 ghost use Rattle.lf_ast.specs.Rules.{rule_tree};
 ghost use Rattle.lf_ast.specs.Tree.{nodes, tree};
 ghost use Rattle.lf_ast.specs.views.Walks.{trees_at};
 ghost use Rattle.lf_checks.specs.PromqlRegexp.{BeginsAnchored, EndsAnchored, IsFound, IsOneText};
-ghost use Rattle.lf_checks.specs.views.Adding.{Adds, OfSome};
+ghost use Rattle.lf_checks.specs.views.Adding.{Adds};
 ghost use Rattle.lf_checks.specs.views.Patterns.{IsOfMatcher, IsOfPart};
 ghost use Rattle.lf_checks.specs.views.Shown.{ListsAlone};
 

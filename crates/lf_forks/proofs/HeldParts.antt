@@ -18,7 +18,8 @@ use Rattle.lf_semantics.specs.Parts.{given_by, is_scalar_part}
 use Rattle.lf_trials.specs.Forks.{is_or}
 use Rattle.lf_forks.specs.declared.holding.Held.{Held}
 use Rattle.lf_forks.specs.views.ForkTests.{has_passing, passes_in, passes_in_arguments}
-use Rattle.lf_forks.specs.views.Holding.{Forks, beside, called, holds, test_of}
+use Rattle.lf_forks.specs.views.Holding.{beside, called, holds}
+use Rattle.lf_forks.specs.views.NameMarks.{NameMarks, has_mark}
 
 abbrev told : Bool → Bool → Held
 told scalar found = record { scalar = scalar; found = found }
@@ -27,25 +28,25 @@ twice : (b p : Bool) → (not b && (not b && p)) ≡ (not b && p)
 twice true p = refl
 twice false p = refl
 
-module _ (s : Forks) where
-  pub of_selector : (name : Option Bytes) (matchers : List Matcher) (sight : Sight) (span : Span) → told false (test_of s (selected_name name matchers)) ≡ holds s (Selector name matchers sight span)
+module _ (marks : NameMarks) where
+  pub of_selector : (name : Option Bytes) (matchers : List Matcher) (sight : Sight) (span : Span) → told false (has_mark marks (selected_name name matchers)) ≡ holds marks (Selector name matchers sight span)
   of_selector name matchers sight span = by sight.range
     where
-      by : (range : Option Bytes) → told false (test_of s (selected_name name matchers)) ≡ told (is_scalar (selected range)) (not (is_scalar (selected range)) && test_of s (selected_name name matchers))
+      by : (range : Option Bytes) → told false (has_mark marks (selected_name name matchers)) ≡ told (is_scalar (selected range)) (not (is_scalar (selected range)) && has_mark marks (selected_name name matchers))
       by None = refl
       by (Some duration) = refl
 
-  pub of_paren : (of : Tree) (span : Span) → holds s of ≡ holds s (Paren of span)
-  of_paren of span = ap (told (is_scalar_part of)) (sym (twice (is_scalar_part of) (passes_in (test_of s) of)))
+  pub of_paren : (of : Tree) (span : Span) → holds marks of ≡ holds marks (Paren of span)
+  of_paren of span = ap (told (is_scalar_part of)) (sym (twice (is_scalar_part of) (passes_in (has_mark marks) of)))
 
-  pub of_operator : (op : Op) (m : Matching) (left right : Tree) (span : Span) → beside op (holds s left) (holds s right) ≡ holds s (Binary op m left right span)
+  pub of_operator : (op : Op) (m : Matching) (left right : Tree) (span : Span) → beside op (holds marks left) (holds marks right) ≡ holds marks (Binary op m left right span)
   of_operator op m left right span = by (is_scalar_part left) (is_scalar_part right)
     where
       x : Bool
-      x = has_passing (test_of s) left
+      x = has_passing (has_mark marks) left
 
       y : Bool
-      y = has_passing (test_of s) right
+      y = has_passing (has_mark marks) right
 
       by : (p q : Bool) → told (p && q) (not (p && q) && (is_or op || (x || y))) ≡ told (is_scalar (cond (p && q) Scalar Vector)) (not (is_scalar (cond (p && q) Scalar Vector)) && (is_or op || (x || y)))
       by true true = refl
@@ -53,17 +54,17 @@ module _ (s : Forks) where
       by false true = refl
       by false false = refl
 
-  of_arguments : (args : Trees) → list_any (λ (h : Held). h.found) (map (holds s) (list args)) ≡ passes_in_arguments (test_of s) args
+  of_arguments : (args : Trees) → list_any (λ (h : Held). h.found) (map (holds marks) (list args)) ≡ passes_in_arguments (has_mark marks) args
   of_arguments Nil = refl
-  of_arguments (Next x xs) = ap (λ (b : Bool). has_passing (test_of s) x || b) (of_arguments xs)
+  of_arguments (Next x xs) = ap (λ (b : Bool). has_passing (has_mark marks) x || b) (of_arguments xs)
 
-  pub of_call : (name : Bytes) (args : Trees) (span : Span) → called (is_scalar (given_by (function_named name))) (map (holds s) (list args)) ≡ holds s (Call name args span)
+  pub of_call : (name : Bytes) (args : Trees) (span : Span) → called (is_scalar (given_by (function_named name))) (map (holds marks) (list args)) ≡ holds marks (Call name args span)
   of_call name args span = ap (λ (b : Bool). told (is_scalar (given_by (function_named name))) (not (is_scalar (given_by (function_named name))) && b)) (of_arguments args)
 
-  pub of_aggregation : (op : Agg) (grouping : Grouping) (args : Trees) (span : Span) → called false (map (holds s) (list args)) ≡ holds s (Aggregate op grouping args span)
+  pub of_aggregation : (op : Agg) (grouping : Grouping) (args : Trees) (span : Span) → called false (map (holds marks) (list args)) ≡ holds marks (Aggregate op grouping args span)
   of_aggregation op grouping args span = ap (told false) (of_arguments args)
 
   -- of several expressions
-  pub found_in_each : (es : List Tree) → map (λ (h : Held). h.found) (map (holds s) es) ≡ map (has_passing (test_of s)) es
+  pub found_in_each : (es : List Tree) → map (λ (h : Held). h.found) (map (holds marks) es) ≡ map (has_passing (has_mark marks)) es
   found_in_each [] = refl
-  found_in_each (e ∷ es) = ap (λ (found : List Bool). has_passing (test_of s) e ∷ found) (found_in_each es)
+  found_in_each (e ∷ es) = ap (λ (found : List Bool). has_passing (has_mark marks) e ∷ found) (found_in_each es)

@@ -1,6 +1,6 @@
--- Numbers that are put into lists, and places that are marked.
-use Rattle.std.proofs.Common.{◌≡◌, ◌<◌, ◌≤◌, ◌+◌, ◌⊎◌, ◌↔◌, ℕ, Bool, true, false, not, List, [], ◌∷◌, ◌++◌, take, length, get_or, replicate, Some, inl, inr, refl, sym, ◌∙◌, ap, subst, arith, true≢false}
-use Rattle.std.specs.Prelude.{slice_get, slice_set}
+-- Numbers that are put into lists, and names that are marked.
+use Rattle.std.proofs.Common.{◌≡◌, ◌<◌, ◌+◌, ◌⊎◌, ◌↔◌, ℕ, true, not, List, [], ◌∷◌, ◌++◌, take, length, get_or, replicate, Some, inl, inr, refl, sym, ◌∙◌, ap, subst, arith}
+use Rattle.std.specs.Prelude.{slice_get}
 use Rattle.std.specs.List.{Contains, flat_map}
 use Rattle.std.proofs.lemmas.Bool.{cases_eq, cases_lt, not-true}
 use Rattle.std.proofs.lemmas.Grind.{flat_map-append}
@@ -15,7 +15,8 @@ use Rattle.lf_deps.specs.views.Links.{source_of}
 use Rattle.lf_graph.specs.Paths.{after}
 use Rattle.lf_graph.specs.views.Buckets.{put_at}
 use Rattle.lf_semantics.specs.Listing.{place}
-use Rattle.lf_forks.specs.views.Uses.{AreUses, IsUse, Marks, Puts}
+use Rattle.lf_forks.specs.views.NameMarks.{Marks, NameMarks}
+use Rattle.lf_forks.specs.views.Uses.{AreUses, IsUse, Puts}
 
 -- numbers that are put into lists
 
@@ -124,12 +125,13 @@ uses_next rules names i r a b at is puts =
     let P : List RuleTree → Type 0 = λ l. AreUses l names b in
     subst P (sym more) (uses_then (take i rules) names r a b is puts)
 
--- places that are marked
+-- names that are marked, by their places
 
-pub marks_then : (xs ys : List ℕ) (a b c : List Bool) → Marks xs a b → Marks ys b c → Marks (xs ++ ys) a c
+pub marks_then : (xs ys : List ℕ) (a b c : NameMarks) → Marks xs a b → Marks ys b c → Marks (xs ++ ys) a c
 marks_then xs ys a b c g h = record {
+  names = h.names ∙ g.names;
   count = h.count ∙ g.count;
-  marked = λ k w. let v : k < length b = omega (arith, w, g.count) in (
+  marked = λ k w. let v : k < length b.marked = omega (arith, w, g.count) in (
     λ t. elim ((h.marked k v).0 t) [
       | inl u ↦ elim ((g.marked k w).0 u) [ inl o ↦ inl o | inr o ↦ inr (Contains-append_left xs ys k o) ]
       | inr o ↦ inr (Contains-append_right xs ys k o)
@@ -139,9 +141,19 @@ marks_then xs ys a b c g h = record {
       | inr o ↦ elim (Contains-append_cases xs ys k o) [ inl p ↦ (h.marked k v).1 (inl ((g.marked k w).1 (inr p))) | inr p ↦ (h.marked k v).1 (inr p) ]
     ],
   );
+  without_name = (
+    λ t. elim (h.without_name.0 t) [
+      | inl u ↦ elim (g.without_name.0 u) [ inl o ↦ inl o | inr o ↦ inr (o.0, Contains-append_left xs ys o.0 o.1) ]
+      | inr o ↦ inr (o.0, Contains-append_right xs ys o.0 o.1)
+    ],
+    λ s. elim s [
+      | inl t ↦ h.without_name.1 (inl (g.without_name.1 (inl t)))
+      | inr o ↦ elim (Contains-append_cases xs ys o.0 o.1) [ inl p ↦ h.without_name.1 (inl (g.without_name.1 (inr (o.0, p)))) | inr p ↦ h.without_name.1 (inr (o.0, p)) ]
+    ],
+  );
 }
 
-pub marks_next : (nodes : List ℕ) (i : ℕ) (a b c : List Bool) → i < length nodes → Marks (take i nodes) a b → Marks (get_or nodes i 0 ∷ []) b c → Marks (take (i + 1) nodes) a c
+pub marks_next : (nodes : List ℕ) (i : ℕ) (a b c : NameMarks) → i < length nodes → Marks (take i nodes) a b → Marks (get_or nodes i 0 ∷ []) b c → Marks (take (i + 1) nodes) a c
 marks_next nodes i a b c h g s =
     let P : List ℕ → Type 0 = λ l. Marks l a c in
     subst P (sym (take_more nodes i 0 h)) (marks_then (take i nodes) (get_or nodes i 0 ∷ []) a b c g s)

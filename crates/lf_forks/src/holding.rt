@@ -5,9 +5,10 @@ ghost use Rattle.lf_ast.specs.Tree.{parts_of, tree, nodes};
 ghost use Rattle.lf_ast.specs.Types.{is_scalar};
 ghost use Rattle.lf_trials.specs.Forks.{is_or};
 ghost use Rattle.lf_forks.specs.views.ForkTests.{has_passing};
-ghost use Rattle.lf_forks.specs.views.Holding.{beside, called, holds, test_of};
+ghost use Rattle.lf_forks.specs.views.Holding.{beside, called, holds};
+ghost use Rattle.lf_forks.specs.views.NameMarks.{has_mark};
 
-use crate::forks::Forks;
+use crate::name_marks::NameMarks;
 use lf_ast::walk::{Fold, Parts, fold_up};
 use lf_ast::{Expr, Op, is_scalar, selected_name};
 use lf_base::Memory;
@@ -16,19 +17,19 @@ use lf_parts::{Copied, fold_parts};
 use std::alloc::Global;
 use std::marker::Model;
 
-/// Whether an `or` or a selector that is to be found stands in an expression.
-pub(crate) fn holds(alloc: Global, forks: &Forks, expr: &Expr) -> Result<bool, Memory>
-    ensures { IfOk result (λ found. found ≡ has_passing (test_of forks.now) (tree expr.now)) }
+/// Whether an `or` or a selector that is marked stands in an expression.
+pub(crate) fn holds(alloc: Global, marks: &NameMarks, expr: &Expr) -> Result<bool, Memory>
+    ensures { IfOk result (λ found. found ≡ has_passing (has_mark marks.now) (tree expr.now)) }
 {
-    let held = fold_up(alloc, &Holding { forks }, expr)?;
+    let held = fold_up(alloc, &Holding { marks }, expr)?;
     Ok(held.found)
 }
 
-/// For an expression and all parts in it, each before those of its own parts, whether an `or` or a selector that is to be found stands in it.
-pub(crate) fn hold_each(alloc: Global, forks: &Forks, expr: &Expr) -> Result<Vec<bool>, Memory>
-    ensures { IfOk result (λ found. found.items ≡ map (has_passing (test_of forks.now)) (nodes (tree expr.now))) }
+/// For an expression and all parts in it, each before those of its own parts, whether an `or` or a selector that is marked stands in it.
+pub(crate) fn hold_each(alloc: Global, marks: &NameMarks, expr: &Expr) -> Result<Vec<bool>, Memory>
+    ensures { IfOk result (λ found. found.items ≡ map (has_passing (has_mark marks.now)) (nodes (tree expr.now))) }
 {
-    let held = fold_parts(alloc, &Holding { forks }, expr)?;
+    let held = fold_parts(alloc, &Holding { marks }, expr)?;
     are_found(alloc, held.as_slice())
 }
 
@@ -59,15 +60,15 @@ impl Copied for Held {
 /// Tells of an expression what is told of its parts.
 #[derive(Drop)]
 struct Holding<'a> {
-    forks: &'a Forks,
+    marks: &'a NameMarks,
 }
 
 impl<'a> Model for Holding<'a> {
-    ghost use Rattle.lf_forks.specs.views.Holding.{Forks};
+    ghost use Rattle.lf_forks.specs.views.NameMarks.{NameMarks};
 
-    ghost Value = { Forks };
+    ghost Value = { NameMarks };
 
-    ghost view = { λ h. h.forks.now };
+    ghost view = { λ h. h.marks.now };
 }
 
 impl<'a> Fold for Holding<'a> {
@@ -98,14 +99,14 @@ impl<'a> Fold for Holding<'a> {
         requires { values.items ≡ map (holds self.now) (parts_of (tree expr.now)) }
         ensures { IfOk result (λ made. made ≡ holds self.now (tree expr.now)) }
     {
-        Ok(told_of(self.forks, expr, values))
+        Ok(told_of(self.marks, expr, values))
     }
 }
 
 /// What is told of an expression, by what is told of its parts.
-fn told_of(forks: &Forks, expr: &Expr, parts: Vec<Held>) -> Held
-    requires { parts.items ≡ map (holds forks.now) (parts_of (tree expr.now)) }
-    ensures { result ≡ holds forks.now (tree expr.now) }
+fn told_of(marks: &NameMarks, expr: &Expr, parts: Vec<Held>) -> Held
+    requires { parts.items ≡ map (holds marks.now) (parts_of (tree expr.now)) }
+    ensures { result ≡ holds marks.now (tree expr.now) }
 {
     match expr {
         Expr::Number { .. } => Held {
@@ -118,7 +119,7 @@ fn told_of(forks: &Forks, expr: &Expr, parts: Vec<Held>) -> Held
         },
         Expr::Selector { name, matchers, .. } => Held {
             scalar: false,
-            found: forks.has(selected_name(name, matchers.as_slice())),
+            found: marks.has(selected_name(name, matchers.as_slice())),
         },
         Expr::Subquery { .. } => Held {
             scalar: false,

@@ -4,10 +4,12 @@
 mod counting;
 mod forks;
 mod holding;
+mod name_marks;
 mod own;
 mod selectors;
 mod uses;
 
 pub use forks::Forks;
 pub use holding::is_or;
+pub use name_marks::NameMarks;
 pub use selectors::all_selectors;

@@ -17,9 +17,10 @@ use Rattle.lf_deps.specs.Reading.{Reads, SelectsBy, arguments_selectors, selecto
 use Rattle.lf_deps.specs.Reading.Reads.{selected, through}
 use Rattle.lf_deps.specs.views.Search.{ReadsBy}
 use Rattle.lf_deps.specs.views.Selecting.{own_selectors}
+use Rattle.lf_forks.specs.views.NameMarks.{NameMarks, has_mark}
 use Rattle.lf_open.specs.Holding.{Holds, has_no_argument, is_source, matches_le}
 use Rattle.lf_open.specs.Standing.{arguments_standing, standing, standing_in}
-use Rattle.lf_open.specs.views.Marks.{Marks, TellsReading, has_mark, marks_tree}
+use Rattle.lf_open.specs.views.Marks.{TellsReading, marks_tree}
 use Rattle.lf_open.specs.views.Speaking.{AreSpeaking, speaks}
 
 -- the selectors of an expression are those that stand in it
@@ -111,7 +112,7 @@ pub by_selector : (rules : List RuleTree) (e : Tree) (name : Bytes) → Reads ru
 by_selector rules e name (selected s) = let w = of_selector rules e name s in (w.0, w.1, inl w.2)
 by_selector rules e name (through r there recording s reads) = let w = of_selector rules e r.name s in (w.0, w.1, inr (r, there, recording, w.2, reads))
 
-own_marks : (m : Marks) (x : Tree) (o : Option Bytes) → Contains (own_selectors x) o → has_mark m o ≡ true → marks_tree m x ≡ true
+own_marks : (m : NameMarks) (x : Tree) (o : Option Bytes) → Contains (own_selectors x) o → has_mark m o ≡ true → marks_tree m x ≡ true
 own_marks m (Selector name matchers sight span) o c e = ap (has_mark m) (only_one (selected_name name matchers) o c) ∙ e
 own_marks m (Number text span) o c e = absurd (none_in o c)
 own_marks m (Str text span) o c e = absurd (none_in o c)
@@ -122,7 +123,7 @@ own_marks m (Binary op n left right span) o c e = absurd (none_in o c)
 own_marks m (Call name args span) o c e = absurd (none_in o c)
 own_marks m (Aggregate op grouping args span) o c e = absurd (none_in o c)
 
-marks_own : (m : Marks) (x : Tree) → marks_tree m x ≡ true → (o : Option Bytes) × Contains (own_selectors x) o × (has_mark m o ≡ true)
+marks_own : (m : NameMarks) (x : Tree) → marks_tree m x ≡ true → (o : Option Bytes) × Contains (own_selectors x) o × (has_mark m o ≡ true)
 marks_own m (Selector name matchers sight span) e = (selected_name name matchers, here (selected_name name matchers) [], e)
 marks_own m (Number text span) e = absurd (true≢false (sym e))
 marks_own m (Str text span) e = absurd (true≢false (sym e))
@@ -133,7 +134,7 @@ marks_own m (Binary op n left right span) e = absurd (true≢false (sym e))
 marks_own m (Call name args span) e = absurd (true≢false (sym e))
 marks_own m (Aggregate op grouping args span) e = absurd (true≢false (sym e))
 
-module _ (rules : List RuleTree) (own : Tree → Bool) (of_rule : RuleTree → Bool) (m : Marks) (tells : TellsReading rules of_rule m) (e : Tree) where
+module _ (rules : List RuleTree) (own : Tree → Bool) (of_rule : RuleTree → Bool) (m : NameMarks) (tells : TellsReading rules of_rule m) (e : Tree) where
   abbrev HoldsSome : Type 0
   HoldsSome = Holds rules (λ x. list_any own (standing x)) of_rule e
 

@@ -1,4 +1,3 @@
-pub mod Added
 pub mod AllParts
 pub mod Beneath
 pub mod ByOperator

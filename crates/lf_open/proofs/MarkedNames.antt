@@ -1,11 +1,11 @@
 -- Marks, rule by rule; and that those of chosen rules tell which selectors read a rule that passes a test.
-use Rattle.std.proofs.Common.{◌≡◌, ◌<◌, ◌≤◌, ◌+◌, ◌⊎◌, inl, inr, ℕ, zero, suc, Bool, true, false, true≢false, not, ◌&&◌, ◌||◌, List, [], ◌∷◌, length, replicate, get_or, Option, Some, None, refl, sym, ap, ◌∙◌, subst, arith, slice_get}
-use Rattle.std.proofs.lemmas.Bool.{and_from, cases_lt, not-true, not_from_false, or_right}
-use Rattle.std.proofs.lemmas.List.{get_or_past, length-replicate}
+use Rattle.std.proofs.Common.{◌≡◌, ◌<◌, ◌≤◌, ◌+◌, ◌⊎◌, inl, inr, ℕ, Bool, true, false, true≢false, not, ◌&&◌, List, [], ◌∷◌, length, get_or, Option, Some, None, refl, sym, ap, ◌∙◌, subst, arith, slice_get}
+use Rattle.std.proofs.lemmas.Bool.{and_from, cases_lt, not-true, not_from_false}
+use Rattle.std.proofs.lemmas.List.{get_or_past}
 use Rattle.std.proofs.lemmas.Option.{same_Some}
 use Rattle.std.specs.List.{Contains}
 use Rattle.lf_laws.proofs.Booleans.{and_left, and_right}
-use Rattle.lf_laws.proofs.Members.{here, only_one}
+use Rattle.lf_laws.proofs.Members.{here, none_in, only_one}
 use Rattle.lf_laws.proofs.Slices.{member_at, number_of}
 use Rattle.lf_ast.specs.Labels.{Bytes}
 use Rattle.lf_ast.specs.Rules.{RuleTree}
@@ -14,13 +14,14 @@ use Rattle.lf_deps.specs.views.Search.{ReadsBy}
 use Rattle.lf_semantics.specs.Environments.{recorded_names}
 use Rattle.lf_semantics.specs.Listing.{place}
 use Rattle.lf_semantics.proofs.Places.{at_place}
-use Rattle.lf_forks.proofs.Recorded.{placed}
 use Rattle.lf_semantics.proofs.Recorded.{recorded}
-use Rattle.lf_open.specs.views.Marks.{AreChosenBy, AreMarks, AreMarksUpTo, IsChosen, Marked, Marks, TellsReading}
+use Rattle.lf_forks.proofs.Recorded.{placed}
+use Rattle.lf_forks.specs.views.NameMarks.{Marks, NameMarks}
+use Rattle.lf_open.specs.views.Marks.{AreChosenBy, AreMarks, AreMarksUpTo, IsChosen, TellsReading, place_if}
 
 module _ (rules : List RuleTree) (chosen : List Bool) where
   -- a chosen rule among the first j records the name at the place
-  abbrev Placed : ℕ → Marks → ℕ → Type 0
+  abbrev Placed : ℕ → NameMarks → ℕ → Type 0
   Placed j m p = (k : ℕ) × (s : RuleTree) × IsChosen rules chosen j k s × (place m.names s.name ≡ p)
 
   -- a rule among the first i + 1 is one among the first i, or the one behind them
@@ -42,7 +43,7 @@ module _ (rules : List RuleTree) (chosen : List Bool) where
             let it : r ≡ s = same_Some r s (sym at ∙ ap (slice_get rules) (sym same) ∙ is.at) in
             inr (and_from on (not r.alert) (on_is ∙ ap (λ (n : ℕ). get_or chosen n false) (sym same) ∙ is.picked) (not_from_false r.alert (ap (λ (z : RuleTree). z.alert) it ∙ is.recording)), it)
 
-    pub one_more : (old new : Marks) → AreMarksUpTo rules chosen i old → Marked (on && not r.alert) r.name old new → AreMarksUpTo rules chosen (i + 1) new
+    pub one_more : (old new : NameMarks) → AreMarksUpTo rules chosen i old → Marks (place_if (on && not r.alert) old.names r.name) old new → AreMarksUpTo rules chosen (i + 1) new
     one_more old new are m = record {
       names = m.names ∙ are.names;
       count = m.count ∙ are.count ∙ sym (ap length m.names);
@@ -50,53 +51,49 @@ module _ (rules : List RuleTree) (chosen : List Bool) where
       without_name = (to_without, from_without);
     }
       where
+        -- the rule is chosen where its name is to be marked
+        picked : (p : ℕ) → Contains (place_if (on && not r.alert) old.names r.name) p → ((on && not r.alert) ≡ true) × (place old.names r.name ≡ p)
+        picked p c = by (on && not r.alert) c
+          where
+            by : (b : Bool) → Contains (place_if b old.names r.name) p → (b ≡ true) × (place old.names r.name ≡ p)
+            by true d = (refl, only_one (place old.names r.name) p d)
+            by false d = absurd (none_in p d)
+
+        pick : (on && not r.alert) ≡ true → Contains (place_if (on && not r.alert) old.names r.name) (place old.names r.name)
+        pick e = subst (λ (b : Bool). Contains (place_if b old.names r.name) (place old.names r.name)) (sym e) (here (place old.names r.name) [])
+
         to : (p : ℕ) → p < length old.marked → get_or new.marked p false ≡ true → Placed (i + 1) new p
         to p less e = by ((m.marked p less).0 e)
           where
-            by : (get_or old.marked p false ≡ true) ⊎ (((on && not r.alert) ≡ true) × (place old.names r.name ≡ p)) → Placed (i + 1) new p
+            by : (get_or old.marked p false ≡ true) ⊎ Contains (place_if (on && not r.alert) old.names r.name) p → Placed (i + 1) new p
             by (inl was) = let w = (are.marked p less).0 was in (w.0, w.1, later i w.0 w.1 w.2, ap (λ (l : List Bytes). place l w.1.name) m.names ∙ w.3)
-            by (inr it) = (i, r, this it.0, ap (λ (l : List Bytes). place l r.name) m.names ∙ it.1)
+            by (inr c) = let it = picked p c in (i, r, this it.0, ap (λ (l : List Bytes). place l r.name) m.names ∙ it.1)
 
         from : (p : ℕ) → p < length old.marked → Placed (i + 1) new p → get_or new.marked p false ≡ true
         from p less (k, s, is, e) = (m.marked p less).1 (by (earlier k s is))
           where
-            by : IsChosen rules chosen i k s ⊎ (((on && not r.alert) ≡ true) × (r ≡ s)) → (get_or old.marked p false ≡ true) ⊎ (((on && not r.alert) ≡ true) × (place old.names r.name ≡ p))
+            by : IsChosen rules chosen i k s ⊎ (((on && not r.alert) ≡ true) × (r ≡ s)) → (get_or old.marked p false ≡ true) ⊎ Contains (place_if (on && not r.alert) old.names r.name) p
             by (inl was) = inl ((are.marked p less).1 (k, s, was, ap (λ (l : List Bytes). place l s.name) (sym m.names) ∙ e))
-            by (inr it) = inr (it.0, ap (λ (z : RuleTree). place old.names z.name) it.1 ∙ ap (λ (l : List Bytes). place l s.name) (sym m.names) ∙ e)
+            by (inr it) =
+                let at : place old.names r.name ≡ p = ap (λ (z : RuleTree). place old.names z.name) it.1 ∙ ap (λ (l : List Bytes). place l s.name) (sym m.names) ∙ e in
+                inr (subst (Contains (place_if (on && not r.alert) old.names r.name)) at (pick it.0))
 
         to_without : new.without_name ≡ true → (k : ℕ) × (s : RuleTree) × IsChosen rules chosen (i + 1) k s
-        to_without e = by old.without_name refl
-          where
-            by : (b : Bool) → old.without_name ≡ b → (k : ℕ) × (s : RuleTree) × IsChosen rules chosen (i + 1) k s
-            by true was = let w = are.without_name.0 was in (w.0, w.1, later i w.0 w.1 w.2)
-            by false was = (i, r, this (sym (ap (λ (b : Bool). b || (on && not r.alert)) was) ∙ sym m.without_name ∙ e))
+        to_without e = elim (m.without_name.0 e) [
+          | inl was ↦ let w = are.without_name.0 was in (w.0, w.1, later i w.0 w.1 w.2)
+          | inr c ↦ (i, r, this (picked c.0 c.1).0)
+        ]
 
         from_without : ((k : ℕ) × (s : RuleTree) × IsChosen rules chosen (i + 1) k s) → new.without_name ≡ true
-        from_without (k, s, is) = m.without_name ∙ by (earlier k s is)
+        from_without (k, s, is) = m.without_name.1 (by (earlier k s is))
           where
-            by : IsChosen rules chosen i k s ⊎ (((on && not r.alert) ≡ true) × (r ≡ s)) → (old.without_name || (on && not r.alert)) ≡ true
-            by (inl was) = ap (λ (b : Bool). b || (on && not r.alert)) (are.without_name.1 (k, s, was))
-            by (inr it) = or_right old.without_name (on && not r.alert) it.0
+            by : IsChosen rules chosen i k s ⊎ (((on && not r.alert) ≡ true) × (r ≡ s)) → (old.without_name ≡ true) ⊎ ((p : ℕ) × Contains (place_if (on && not r.alert) old.names r.name) p)
+            by (inl was) = inl (are.without_name.1 (k, s, was))
+            by (inr it) = inr (place old.names r.name, pick it.0)
 
 -- ---- what they tell
 
-pub begins : (rules : List RuleTree) (chosen : List Bool) (m : Marks) → m.names ≡ recorded_names rules → m.marked ≡ replicate (length m.names) false → m.without_name ≡ false → AreMarksUpTo rules chosen 0 m
-begins rules chosen m names marked without = record {
-  names = names;
-  count = ap length marked ∙ length-replicate (length m.names) false;
-  marked = λ p less. (λ e. absurd (true≢false (sym e ∙ none p)), λ (k, r, is, e). absurd (let b = is.before in omega (arith, b)));
-  without_name = (λ e. absurd (true≢false (sym e ∙ without)), λ (k, r, is). absurd (let b = is.before in omega (arith, b)));
-}
-  where
-    all_false : (n p : ℕ) → get_or (replicate n false) p false ≡ false
-    all_false zero p = refl
-    all_false (suc n) zero = refl
-    all_false (suc n) (suc p) = all_false n p
-
-    none : (p : ℕ) → get_or m.marked p false ≡ false
-    none p = ap (λ (l : List Bool). get_or l p false) marked ∙ all_false (length m.names) p
-
-module _ (rules : List RuleTree) (of_rule : RuleTree → Bool) (chosen : List Bool) (by_test : AreChosenBy rules of_rule chosen) (m : Marks) (are : AreMarks rules chosen m) where
+module _ (rules : List RuleTree) (of_rule : RuleTree → Bool) (chosen : List Bool) (by_test : AreChosenBy rules of_rule chosen) (m : NameMarks) (are : AreMarks rules chosen m) where
   abbrev Passing : RuleTree → Type 0
   Passing r = (of_rule r ≡ true) ⊎ ((s : RuleTree) × Contains rules s × Reaches rules r.expr s × (of_rule s ≡ true))
 

@@ -3,6 +3,8 @@ use Rattle.std.proofs.Common.{◌≡◌, ◌⊎◌, ◌↔◌, inl, inr, ℕ, Bo
 use Rattle.std.proofs.lemmas.List.Elements.{Contains-append_cases, Contains-append_left, Contains-append_right}
 use Rattle.std.specs.Borrow.{Bor}
 use Rattle.std.specs.List.{Contains}
+use Rattle.lf_laws.specs.Gaining.{OfSome}
+use Rattle.lf_laws.proofs.Gaining.{gains_as}
 use Rattle.lf_laws.proofs.Members.{in_map, map_member, none_in}
 use Rattle.lf_base.specs.declared.place.Span.{Span}
 use Rattle.lf_ast.specs.Labels.{Bytes}
@@ -20,10 +22,9 @@ use Rattle.lf_open.specs.Standing.{standing}
 use Rattle.lf_open.specs.declared.construct.Construct.{Construct}
 use Rattle.lf_open.specs.declared.construct.Construct.TheVariants.{SharedMetric, UnnamedSelector, ComplexPattern, MadeLabel, Forked, LoudUnless, CyclicName, NamedBucket, OpenAbsent}
 use Rattle.lf_open.specs.declared.open_at.OpenAt.{OpenAt}
-use Rattle.lf_open.specs.views.Adding.{Adds, AreFound, IsAt, IsByItself, IsComplexAt, IsOf, IsOpenByItself, IsOpenNode, OfSome}
+use Rattle.lf_open.specs.views.Adding.{Adds, AreFound, IsAt, IsByItself, IsComplexAt, IsOf, IsOpenByItself, IsOpenNode}
 use Rattle.lf_open.specs.views.InOrder.{IsInOrder}
 use Rattle.lf_open.specs.views.Speaking.{AreSpeaking, speaks}
-use Rattle.lf_open.proofs.Added.{adds_as}
 use Rattle.lf_open.proofs.ByParts.{IsByParts}
 
 -- an open construct by what it is, whose rule it is, and where it stands
@@ -37,7 +38,7 @@ module _ (rules : List RuleTree) (k : ℕ) where
   -- one that stands at the operator, the word or the selector
   pub one_of : (of : Construct) (e : Tree) (P : Type 0) (holds : Bool) (old new : List OpenAt) → ((s : Span) → IsOpenAt rules of e s → P × (s ≡ span_of e)) → (P → IsOpenAt rules of e (span_of e)) → IsTrue holds ↔ P
       → Adds (λ o. IsTrue holds × (o ≡ record { construct = of; rule = k; span = span_of e })) old new → Adds (IsOf rules of k e) old new
-  one_of of e P holds old new out stands tells added = adds_as (λ o. IsTrue holds × (o ≡ record { construct = of; rule = k; span = span_of e })) (IsOf rules of k e) old new added to from
+  one_of of e P holds old new out stands tells added = gains_as _ (λ o. IsTrue holds × (o ≡ record { construct = of; rule = k; span = span_of e })) (IsOf rules of k e) old new added to from
     where
       to : (o : OpenAt) → IsTrue holds × (o ≡ record { construct = of; rule = k; span = span_of e }) → IsOf rules of k e o
       to o h = record {
@@ -51,7 +52,7 @@ module _ (rules : List RuleTree) (k : ℕ) where
 
   -- the patterns of a selector
   pub patterns_of : (name : Option Bytes) (matchers : List Matcher) (sight : Sight) (span : Span) (old new : List OpenAt) → Adds (OfSome (IsComplexAt k) matchers) old new → Adds (IsOf rules ComplexPattern k (Selector name matchers sight span)) old new
-  patterns_of name matchers sight span old new added = adds_as (OfSome (IsComplexAt k) matchers) (IsOf rules ComplexPattern k (Selector name matchers sight span)) old new added to from
+  patterns_of name matchers sight span old new added = gains_as _ (OfSome (IsComplexAt k) matchers) (IsOf rules ComplexPattern k (Selector name matchers sight span)) old new added to from
     where
       to : (o : OpenAt) → OfSome (IsComplexAt k) matchers o → IsOf rules ComplexPattern k (Selector name matchers sight span) o
       to o (m, c, (h, is)) = record {
@@ -66,7 +67,7 @@ module _ (rules : List RuleTree) (k : ℕ) where
   -- one that stands there where something else is told
   pub one_at : (of : Construct) (e : Tree) (P : Type 0) (holds : Bool) (old new : List OpenAt) → IsTrue holds ↔ P → Adds (λ o. IsTrue holds × (o ≡ record { construct = of; rule = k; span = span_of e })) old new → Adds (IsAt rules k e P of) old new
   one_at of e P holds old new tells added =
-      adds_as (λ o. IsTrue holds × (o ≡ record { construct = of; rule = k; span = span_of e })) (IsAt rules k e P of) old new added (λ o h. (tells.0 h.0, h.1)) (λ o h. (tells.1 h.0, h.1))
+      gains_as _ (λ o. IsTrue holds × (o ≡ record { construct = of; rule = k; span = span_of e })) (IsAt rules k e P of) old new added (λ o h. (tells.0 h.0, h.1)) (λ o h. (tells.1 h.0, h.1))
 
   -- an expression at which something is open by itself is a selector, a call or an aggregation
 

@@ -1,5 +1,6 @@
 //! What is open at an expression by its own form.
 ghost use Rattle.std.specs.Prelude.{◌≡◌, ◌↔◌, false, List, true, IfOk, IsTrue, OnOk};
+ghost use Rattle.lf_laws.specs.Gaining.{OfSome};
 ghost use Rattle.lf_ast.specs.Rules.{RuleTree};
 ghost use Rattle.lf_ast.specs.Tree.{tree, trees};
 ghost use Rattle.lf_semantics.specs.Passing.{is_plain};
@@ -7,7 +8,7 @@ ghost use Rattle.lf_semantics.specs.PatternBreaches.{takes_pattern};
 ghost use Rattle.lf_open.specs.Constructs.{MakesLabel, SaysNoName, effect_of};
 ghost use Rattle.lf_open.specs.Holding.{arguments_of};
 ghost use Rattle.lf_open.specs.declared.construct.Construct.TheVariants.{ComplexPattern};
-ghost use Rattle.lf_open.specs.views.Adding.{Adds, IsComplexAt, IsOf, OfSome};
+ghost use Rattle.lf_open.specs.views.Adding.{Adds, IsComplexAt, IsOf};
 
 use crate::adding::add_if;
 use crate::construct::Construct;

@@ -8,10 +8,10 @@ ghost use Rattle.lf_open.specs.Holding.{arguments_of, has_no_argument, has_own_l
 ghost use Rattle.lf_open.specs.views.Holding.{gives_alone};
 ghost use Rattle.lf_open.specs.views.Marks.{marks_tree};
 
-use crate::marks::Marks;
 use crate::speaking::speaking;
 use lf_ast::{Expr, Function, LabelEffect, Matcher, Rule, selected_name};
 use lf_base::Memory;
+use lf_forks::NameMarks;
 use std::alloc::Global;
 
 /// Whether a call that gives a sample without being given one stands in an expression.
@@ -63,7 +63,7 @@ fn sets_le(rule: &Rule) -> bool
 }
 
 /// Whether an expression is a selector that is marked.
-pub(crate) fn is_marked(marks: &Marks, expr: &Expr) -> bool
+pub(crate) fn is_marked(marks: &NameMarks, expr: &Expr) -> bool
     ensures { result ≡ marks_tree marks.now (tree expr.now) }
 {
     match expr {

@@ -1,11 +1,10 @@
 //! What is known of rules when an expression is looked at.
 
-use crate::marks::Marks;
 use crate::read_graph::ReadGraph;
 use lf_ast::Rule;
 use lf_base::Seq;
 use lf_deps::{NameGraph, Sources};
-use lf_forks::Forks;
+use lf_forks::{Forks, NameMarks};
 
 /// What is known of rules: what they read, and which selectors read a fork, what can't be silent and what names `le`.
 #[derive(Drop)]
@@ -15,6 +14,6 @@ pub(crate) struct Known<'a> {
     pub(crate) graph: &'a NameGraph,
     pub(crate) reading: &'a ReadGraph,
     pub(crate) forks: &'a Forks,
-    pub(crate) loud: &'a Marks,
-    pub(crate) on_le: &'a Marks,
+    pub(crate) loud: &'a NameMarks,
+    pub(crate) on_le: &'a NameMarks,
 }

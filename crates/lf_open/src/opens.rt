@@ -9,7 +9,6 @@ ghost use Rattle.lf_open.specs.views.Opens.{AreMarked, AreOpens, AreReads, AreRe
 
 use crate::adding::push_all;
 use crate::known::Known;
-use crate::marks::Marks;
 use crate::nodes::open_in;
 use crate::open_at::OpenAt;
 use crate::ordering::in_order;
@@ -18,7 +17,7 @@ use crate::reading::{le_marks, loud_marks};
 use lf_ast::Rule;
 use lf_base::{Memory, Seq};
 use lf_deps::{NameGraph, Sources, reach_of, rule_number};
-use lf_forks::Forks;
+use lf_forks::{Forks, NameMarks};
 use std::alloc::Global;
 
 /// The open constructs of the rule of number `i`: those of its own expression, and then those of each rule whose name it reads, directly or through others, in ascending
@@ -52,8 +51,8 @@ struct Reads {
 #[derive(Drop)]
 struct Marked {
     forks: Forks,
-    loud: Marks,
-    on_le: Marks,
+    loud: NameMarks,
+    on_le: NameMarks,
 }
 
 impl<'a> Opens<'a> {

@@ -29,7 +29,7 @@ fn with_keys(alloc: Global, found: Vec<OpenAt>) -> Result<Vec<Keyed<OpenAt>>, Me
     Ok(all)
 }
 
-/// What an open construct is ordered by.
+/// What an open construct is ordered by: the start of its span, the number of its construct, and the end of its span.
 fn key_of(alloc: Global, item: &OpenAt) -> Result<Seq<u32>, Memory>
     ensures { IfOk result (λ key. key ≡ key_of item.now) }
 {

@@ -10,10 +10,11 @@ ghost use Rattle.lf_open.specs.views.Marks.{TellsReading};
 
 use crate::choosing::chosen;
 use crate::holding::{has_own_source, rule_names_le};
-use crate::marks::Marks;
+use crate::marks::marks_of;
 use lf_ast::Rule;
 use lf_base::{Memory, Seq};
 use lf_deps::{NameGraph, Sources};
+use lf_forks::NameMarks;
 use std::alloc::Global;
 
 /// Which selectors read a rule that can't be silent by itself.
@@ -22,14 +23,14 @@ pub(crate) fn loud_marks(
     rules: &Seq<Rule>,
     sources: &Sources,
     graph: &NameGraph,
-) -> Result<Marks, Memory>
+) -> Result<NameMarks, Memory>
     requires sources { IsSourcesOf (rule_trees rules.now) sources.now }
     requires graph { IsNameGraphOf sources.now graph.now }
     ensures { IfOk result (TellsReading (rule_trees rules.now) (λ r. has_own_source r.expr)) }
 {
     let passing = loud_rules(alloc, rules)?;
     let found = chosen(alloc, sources, graph, passing.as_slice())?;
-    Marks::of(alloc, rules, found.as_slice())
+    marks_of(alloc, rules, found.as_slice())
 }
 
 /// Which selectors read a rule that names `le`.
@@ -38,14 +39,14 @@ pub(crate) fn le_marks(
     rules: &Seq<Rule>,
     sources: &Sources,
     graph: &NameGraph,
-) -> Result<Marks, Memory>
+) -> Result<NameMarks, Memory>
     requires sources { IsSourcesOf (rule_trees rules.now) sources.now }
     requires graph { IsNameGraphOf sources.now graph.now }
     ensures { IfOk result (TellsReading (rule_trees rules.now) names_le) }
 {
     let passing = rules_on_le(alloc, rules)?;
     let found = chosen(alloc, sources, graph, passing.as_slice())?;
-    Marks::of(alloc, rules, found.as_slice())
+    marks_of(alloc, rules, found.as_slice())
 }
 
 /// For each rule whether its expression has a call that gives a sample by itself.

@@ -1,11 +1,11 @@
 -- What promql/regexp tells of one matcher, and of one part of an expression.
 use Rattle.std.specs.Prelude.{◌≡◌, ◌⊎◌, true}
+use Rattle.lf_laws.specs.Gaining.{OfSome}
 use Rattle.lf_ast.specs.Tree.{Tree, Selector}
 use Rattle.lf_ast.specs.declared.expr.Matcher.{Matcher}
 use Rattle.lf_semantics.specs.PatternBreaches.{takes_pattern}
 use Rattle.lf_checks.specs.Finding.{Finding, PromqlRegexp, finding}
 use Rattle.lf_checks.specs.PromqlRegexp.{BeginsAnchored, EndsAnchored, IsOneText, says_anchored, says_plain}
-use Rattle.lf_checks.specs.views.Adding.{OfSome}
 
 -- its pattern is one plain text
 abbrev pub IsPlainAt : Matcher → Finding → Type 0

@@ -45,7 +45,3 @@ NumberedAlone found = (files : List File) (rules : List RuleTree) (i : ℕ) → 
 pub record ListsAlone (is : Finding → Type 0) (found : List Row) : Type 0 where
   pub lists : (files : List File) (rules : List RuleTree) → Lists files rules is found
   pub numbers : NumberedAlone found
-
--- what is found of some element of a list
-abbrev pub Along : {X : Type 0} → (X → Finding → Type 0) → List X → Finding → Type 0
-Along {X} P xs f = (x : X) × Contains xs x × P x f

@@ -1,5 +1,6 @@
 -- What match/label tells of labels that are sought on an operand, by its row, of a match, and of one part of an expression.
 use Rattle.std.specs.Prelude.{◌≡◌, ◌⊎◌, ◌==◌, ◌||◌, Bool, true, false, not, List, [], length}
+use Rattle.lf_laws.specs.Gaining.{OfSome}
 use Rattle.lf_ast.specs.Tree.{Aggregate, Binary, Tree}
 use Rattle.lf_ast.specs.Types.{names_at}
 use Rattle.lf_ast.specs.declared.expr.Group.{Group}
@@ -14,7 +15,6 @@ use Rattle.lf_semantics.specs.RowTable.{Environment, row_of}
 use Rattle.lf_checks.specs.Finding.{Finding, MatchLabel, finding}
 use Rattle.lf_checks.specs.Judged.{IsImpossible}
 use Rattle.lf_checks.specs.MatchLabel.{Seeks, says_never}
-use Rattle.lf_checks.specs.views.Adding.{OfSome}
 
 -- the labels of `by`
 abbrev pub labels_by : Grouping → List Name

@@ -11,7 +11,7 @@ use Rattle.lf_semantics.specs.Listing.{place}
 use Rattle.lf_trials.specs.Reached.{has_several_rules}
 use Rattle.lf_semantics.specs.Environments.{recorded_names}
 use Rattle.lf_forks.specs.views.ForkTests.{has_passing}
-use Rattle.lf_forks.specs.views.Holding.{Forks, test_of}
+use Rattle.lf_forks.specs.views.NameMarks.{NameMarks, has_mark}
 
 -- the rule records the name of node u, and selects node v
 abbrev pub IsUse : List Bytes → RuleTree → ℕ → ℕ → Type 0
@@ -27,18 +27,13 @@ pub record Puts (put : Bool) (nodes : List ℕ) (number : ℕ) (old new : List (
   pub count : length new ≡ length old
   pub members : (v u : ℕ) → Contains (after new v) u ↔ (Contains (after old v) u ⊎ ((put ≡ true) × Contains nodes v × (number ≡ u)))
 
--- what is found are the recorded names that several rules record, and no selector without a name
-pub record AreOwn (rules : List RuleTree) (s : Forks) : Type 0 where
-  pub names : s.names ≡ recorded_names rules
-  pub count : length s.found ≡ length s.names
-  pub found : (k : ℕ) → k < length s.names → slice_index_or s.found k false ≡ has_several_rules rules (slice_index_or s.names k [])
-  pub without_name : s.without_name ≡ false
+-- what is marked are the recorded names that several rules record, and no selector without a name
+pub record AreOwn (rules : List RuleTree) (m : NameMarks) : Type 0 where
+  pub names : m.names ≡ recorded_names rules
+  pub count : length m.marked ≡ length m.names
+  pub marked : (k : ℕ) → k < length m.names → slice_index_or m.marked k false ≡ has_several_rules rules (slice_index_or m.names k [])
+  pub without_name : m.without_name ≡ false
 
 -- the nodes of a rule that records a name and has a fork in its expression: its name, and selectors that say none
-abbrev pub fork_nodes : Forks → RuleTree → List ℕ
-fork_nodes s r = cond r.alert [] (cond (has_passing (test_of s) r.expr) (place s.names r.name ∷ length s.names ∷ []) [])
-
--- the places of these nodes are marked beside those that were
-pub record Marks (nodes : List ℕ) (old new : List Bool) : Type 0 where
-  pub count : length new ≡ length old
-  pub marked : (k : ℕ) → k < length old → (slice_index_or new k false ≡ true) ↔ ((slice_index_or old k false ≡ true) ⊎ Contains nodes k)
+abbrev pub fork_nodes : NameMarks → RuleTree → List ℕ
+fork_nodes m r = cond r.alert [] (cond (has_passing (has_mark m) r.expr) (place m.names r.name ∷ length m.names ∷ []) [])

@@ -1,6 +1,7 @@
 -- Lists that grow by the open constructs that meet a condition. It defines nothing.
 use Rattle.std.specs.Prelude.{◌≡◌, ◌⊎◌, ◌↔◌, ℕ, true, false, List, Some}
 use Rattle.std.specs.List.{Contains}
+use Rattle.lf_laws.specs.Gaining.{Gains}
 use Rattle.lf_ast.specs.Rules.{RuleTree}
 use Rattle.lf_ast.specs.Tree.{Tree, span_of}
 use Rattle.lf_ast.specs.declared.expr.Matcher.{Matcher}
@@ -17,15 +18,9 @@ use Rattle.lf_open.specs.declared.construct.Construct.{Construct}
 use Rattle.lf_open.specs.declared.construct.Construct.TheVariants.{ComplexPattern, CyclicName, Forked, MadeLabel, OpenAbsent, UnnamedSelector}
 use Rattle.lf_open.specs.declared.open_at.OpenAt.{OpenAt}
 
--- the new list has what the old one has, each that meets the condition, and nothing else
-pub record Adds (is : OpenAt → Type 0) (old new : List OpenAt) : Type 0 where
-  pub kept : (o : OpenAt) → Contains old o → Contains new o
-  pub all : (o : OpenAt) → is o → Contains new o
-  pub only : (o : OpenAt) → Contains new o → Contains old o ⊎ is o
-
--- it meets the condition of one of these
-abbrev pub OfSome : {X : Type 0} → (X → OpenAt → Type 0) → List X → OpenAt → Type 0
-OfSome {X} is xs o = (x : X) × Contains xs x × is x o
+-- the list gains those that meet the condition
+abbrev pub Adds : (OpenAt → Type 0) → List OpenAt → List OpenAt → Type 0
+Adds = Gains (λ (l : List OpenAt). l)
 
 -- it is this construct, open at the expression, of the rule of this number
 pub record IsOf (rules : List RuleTree) (of : Construct) (number : ℕ) (e : Tree) (o : OpenAt) : Type 0 where

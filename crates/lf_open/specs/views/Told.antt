@@ -15,6 +15,7 @@ use Rattle.lf_ast.specs.declared.functions.LabelEffect.{LabelEffect}
 use Rattle.lf_ast.specs.declared.functions.LabelEffect.TheVariants.{Absent, HistogramQuantile}
 use Rattle.lf_forks.specs.views.ForkTests.{has_passing}
 use Rattle.lf_forks.specs.views.Holding.{Forks, test_of}
+use Rattle.lf_forks.specs.views.NameMarks.{NameMarks}
 use Rattle.lf_semantics.specs.Listing.{place}
 use Rattle.lf_semantics.specs.Parts.{given_by}
 use Rattle.lf_trials.specs.Forks.{is_or}
@@ -25,7 +26,7 @@ use Rattle.lf_open.specs.declared.construct.Construct.TheVariants.{SharedMetric,
 use Rattle.lf_open.specs.declared.open_at.OpenAt.{OpenAt}
 use Rattle.lf_open.specs.declared.read_table.ReadTable.{ReadTable}
 use Rattle.lf_open.specs.declared.told.Told.{Told}
-use Rattle.lf_open.specs.views.Marks.{Marks, marks_tree}
+use Rattle.lf_open.specs.views.Marks.{marks_tree}
 use Rattle.lf_open.specs.views.Sides.{is_unless}
 
 -- sets of numbers, in ascending order
@@ -113,8 +114,8 @@ scalar_by (Aggregate op grouping args span) parts = false
 -- what is known where an expression of a rule is gone over
 pub record Facts : Type 0 where
   pub forks : Forks
-  pub loud : Marks
-  pub on_le : Marks
+  pub loud : NameMarks
+  pub on_le : NameMarks
   pub table : ReadTable
   pub all : List ℕ
   pub rule : ℕ

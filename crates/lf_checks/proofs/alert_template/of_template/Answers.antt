@@ -1,5 +1,6 @@
 use Rattle.std.proofs.Common.{◌≡◌, Err, List, [], ◌∷◌, subst}
 use Rattle.std.proofs.lemmas.Result.{IfOk-weaker}
+use Rattle.lf_laws.specs.Gaining.{OfSome}
 use Rattle.lf_base.specs.Answers.{Breach, IfAt, Only}
 use Rattle.lf_base.specs.declared.refusal.Refusal.{Refusal}
 use Rattle.lf_ast.specs.declared.rule.Template.{Template}
@@ -8,7 +9,7 @@ use Rattle.lf_templates.specs.Templates.{Breaks, References}
 use Rattle.lf_templates.specs.declared.reference.Reference.{Reference}
 use Rattle.lf_checks.specs.declared.case.Case.{Case}
 use Rattle.lf_checks.specs.views.Cases.{row_of}
-use Rattle.lf_checks.specs.views.Shown.{Along, ListsAlone}
+use Rattle.lf_checks.specs.views.Shown.{ListsAlone}
 use Rattle.lf_checks.specs.views.TemplateCases.{IsOfReference, IsOfTemplate}
 use Rattle.lf_checks.proofs.TemplateCases.{of_broken, of_sound}
 use Rattle.lf_checks.proofs.alert_template.of_template.Goals as goal
@@ -19,7 +20,7 @@ returns-in-Ok c =
     let row = c.args.row.now in
     let t : Template = c.args.template.now in
     let references : List Reference = c.in-Ok.found in
-    let P : List Reference → List Row → Type 0 = λ rs found. ListsAlone (Along (IsOfReference u row) rs) found in
+    let P : List Reference → List Row → Type 0 = λ rs found. ListsAlone (OfSome (IsOfReference u row) rs) found in
     let Q : List Row → Type 0 = λ found. ListsAlone (IsOfTemplate u row t) found in
     IfOk-weaker c.of_references.result (λ found. P c.as_slice.result.now found.items) (λ found. Q found.items)
     (λ found h. of_sound u row t references c.in-Ok.ensures.found c.in-Ok.ensures.only c.in-Ok.ensures.breach found.items

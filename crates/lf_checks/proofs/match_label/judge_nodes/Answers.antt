@@ -1,10 +1,11 @@
 use Rattle.std.proofs.Common.{◌∙◌, List, [], map, ap, sym, subst}
 use Rattle.lf_ast.specs.Tree.{Tree, parts_of}
 use Rattle.lf_semantics.specs.RowTable.{row_of}
-use Rattle.lf_checks.specs.views.Adding.{Adds, OfSome}
+use Rattle.lf_checks.specs.views.Adding.{Adds}
 use Rattle.lf_checks.specs.views.Conditions.{condition_of}
 use Rattle.lf_checks.specs.views.Sought.{IsOfPart}
 use Rattle.std.proofs.lemmas.Result.{IfOk-weaker}
+use Rattle.lf_laws.specs.Gaining.{OfSome}
 use Rattle.lf_checks.proofs.match_label.judge_nodes.Goals as goal
 
 pub by_parts-requires : goal.by_parts-requires

@@ -2,14 +2,15 @@ use Rattle.std.proofs.Common.{◌≤◌, List, [], length, map, sym, subst, arit
 use Rattle.std.specs.Borrow.{Bor}
 use Rattle.std.proofs.lemmas.List.{length-map, take_all}
 use Rattle.std.proofs.lemmas.Option.{get_or_from_slice_get, slice_get_within}
+use Rattle.lf_laws.specs.Gaining.{OfSome}
 use Rattle.lf_ast.specs.Tree.{Tree, parts_of, tree}
 use Rattle.lf_ast.specs.declared.expr.Expr.{Expr}
 use Rattle.lf_ast.specs.views.Walks.{trees_at}
 use Rattle.lf_semantics.specs.RowTable.{row_of}
-use Rattle.lf_checks.specs.views.Adding.{Adds, OfSome}
+use Rattle.lf_checks.specs.views.Adding.{Adds}
 use Rattle.lf_checks.specs.views.Conditions.{condition_of}
 use Rattle.lf_checks.specs.views.Sought.{IsOfPart}
-use Rattle.lf_checks.proofs.Added.{some_more}
+use Rattle.lf_checks.proofs.Added.{adds_of_more}
 use Rattle.lf_checks.proofs.SoughtLaws.{told_at}
 use Rattle.lf_checks.proofs.match_label.judge_parts.Goals as goal
 
@@ -37,7 +38,7 @@ loop-k-preserved c = λ env are.
     let rows = told_at of all c.args.rows.now k x c.group_at-own_rows.result.now are at c.group_at-own_rows.ensures in
     let old = c.loop-k.found.items in
     let new = c.judge_part.new.found.items in
-    some_more (IsOfPart u env) all k x [] old new (slice_get_within all k x at) (c.loop-k.invariant env are)
+    adds_of_more (IsOfPart u env) all k x [] old new (slice_get_within all k x at) (c.loop-k.invariant env are)
     (subst (λ (t : Tree). Adds (IsOfPart u env t) old new) (sym (get_or_from_slice_get all k x x at)) (c.in_ok-judge_part.ensures env rows))
 
 pub returns : goal.returns

@@ -1,8 +1,9 @@
 use Rattle.std.proofs.Common.{◌≡◌, [], map, take}
+use Rattle.lf_laws.specs.Gaining.{OfSome}
 use Rattle.lf_ast.specs.Tree.{Tree, parts_of}
 use Rattle.lf_ast.specs.views.Walks.{trees_at}
 use Rattle.lf_semantics.specs.RowTable.{Environment, row_of}
-use Rattle.lf_checks.specs.views.Adding.{Adds, OfSome}
+use Rattle.lf_checks.specs.views.Adding.{Adds}
 use Rattle.lf_checks.specs.views.Sought.{IsOfPart}
 use Rattle.lf_checks.proofs.match_label.judge_parts.Given as goal
 

@@ -1,5 +1,6 @@
 use Rattle.std.proofs.Common.{take}
-use Rattle.lf_checks.specs.views.Adding.{Adds, OfSome}
+use Rattle.lf_laws.specs.Gaining.{OfSome}
+use Rattle.lf_checks.specs.views.Adding.{Adds}
 use Rattle.lf_checks.specs.views.Patterns.{IsOfMatcher}
 use Rattle.lf_checks.proofs.promql_regexp.judge_matchers.Given as goal
 

@@ -4,14 +4,14 @@ use Rattle.lf_ast.specs.Tree.{tree}
 use Rattle.lf_checks.specs.PromqlRegexp.{IsFound}
 use Rattle.lf_checks.specs.views.Adding.{Adds}
 use Rattle.lf_checks.specs.views.Patterns.{IsOfPart}
-use Rattle.lf_checks.proofs.Added.{adds_all, some_more}
+use Rattle.lf_checks.proofs.Added.{adds_all, adds_of_more}
 use Rattle.lf_checks.proofs.Nodes.{of_each}
 use Rattle.lf_checks.proofs.PatternLaws.{of_parts}
 use Rattle.lf_checks.proofs.promql_regexp.promql_regexp.Goals as goal
 
 pub loop-part-preserved : goal.loop-part-preserved
 loop-part-preserved c =
-    some_more (λ x. IsOfPart (tree x.now)) c.args.parts.now c.loop-part.part-index c.part-item.result [] c.loop-part.found.items c.judge_part.new.found.items c.loop-part-test.true c.loop-part.invariant
+    adds_of_more (λ x. IsOfPart (tree x.now)) c.args.parts.now c.loop-part.part-index c.part-item.result [] c.loop-part.found.items c.judge_part.new.found.items c.loop-part-test.true c.loop-part.invariant
     (subst (λ x. Adds (IsOfPart (tree x.now)) c.loop-part.found.items c.judge_part.new.found.items) c.part-item.is c.in_ok-judge_part.ensures)
 
 pub returns : goal.returns

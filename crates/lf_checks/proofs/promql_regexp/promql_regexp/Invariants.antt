@@ -1,6 +1,7 @@
 use Rattle.std.proofs.Common.{[], take}
+use Rattle.lf_laws.specs.Gaining.{OfSome}
 use Rattle.lf_ast.specs.Tree.{tree}
-use Rattle.lf_checks.specs.views.Adding.{Adds, OfSome}
+use Rattle.lf_checks.specs.views.Adding.{Adds}
 use Rattle.lf_checks.specs.views.Patterns.{IsOfPart}
 use Rattle.lf_checks.proofs.promql_regexp.promql_regexp.Given as goal
 

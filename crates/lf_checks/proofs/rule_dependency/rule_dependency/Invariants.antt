@@ -1,7 +1,8 @@
 use Rattle.std.proofs.Common.{List, [], take}
+use Rattle.lf_laws.specs.Gaining.{OfSome}
 use Rattle.lf_ast.specs.Rules.{RuleTree}
 use Rattle.lf_ast.specs.Tree.{tree}
-use Rattle.lf_checks.specs.views.Adding.{Adds, OfSome}
+use Rattle.lf_checks.specs.views.Adding.{Adds}
 use Rattle.lf_checks.specs.views.Recorded.{AreOf, IsOfSelector}
 use Rattle.lf_checks.proofs.rule_dependency.rule_dependency.Given as goal
 

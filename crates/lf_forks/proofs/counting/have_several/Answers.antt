@@ -1,5 +1,4 @@
 use Rattle.std.proofs.Common.{◌≡◌, List, nat_lt, map, ◌∙◌, ap}
-use Rattle.std.specs.Prelude.{IfOk, Result, Ok, Err}
 use Rattle.std.proofs.lemmas.Result.{IfOk-weaker}
 use Rattle.lf_ast.specs.Rules.{RuleTree, rule_trees}
 use Rattle.lf_trials.specs.Reached.{has_several_rules}

@@ -1,10 +1,11 @@
 use Rattle.std.proofs.Common.{◌≡◌, List, OnOk, sym, ap, subst}
 use Rattle.std.proofs.lemmas.Result.{on_ok_weaker}
+use Rattle.lf_laws.specs.Gaining.{OfSome}
 use Rattle.lf_ast.specs.Tree.{Tree, Selector, tree}
 use Rattle.lf_ast.specs.declared.expr.Matcher.{Matcher}
 use Rattle.lf_open.specs.declared.construct.Construct.TheVariants.{ComplexPattern}
 use Rattle.lf_open.specs.declared.open_at.OpenAt.{OpenAt}
-use Rattle.lf_open.specs.views.Adding.{Adds, IsComplexAt, IsOf, OfSome}
+use Rattle.lf_open.specs.views.Adding.{Adds, IsComplexAt, IsOf}
 use Rattle.lf_open.proofs.NodeLaws.{patterns_of}
 use Rattle.lf_open.proofs.forms.add_patterns.Goals as goal
 

@@ -1,12 +1,12 @@
 use Rattle.std.proofs.Common.{◌≡◌, ◌⊎◌, IsTrue, List, refl, subst}
 use Rattle.std.proofs.lemmas.Result.{on_ok_weaker}
+use Rattle.lf_laws.proofs.Gaining.{gains_both}
 use Rattle.lf_base.specs.declared.place.Span.{Span}
 use Rattle.lf_ast.specs.Tree.{Tree, tree}
 use Rattle.lf_open.specs.Constructs.{MakesLabel, SaysNoName}
 use Rattle.lf_open.specs.declared.construct.Construct.TheVariants.{ComplexPattern, MadeLabel, UnnamedSelector}
 use Rattle.lf_open.specs.declared.open_at.OpenAt.{OpenAt}
 use Rattle.lf_open.specs.views.Adding.{Adds, IsByForm, IsOf}
-use Rattle.lf_open.proofs.Added.{adds_both}
 use Rattle.lf_open.proofs.NodeLaws.{one_of}
 use Rattle.lf_open.proofs.nodes.add_by_form.Goals as goal
 
@@ -25,4 +25,4 @@ returns c = λ rules.
     one_of rules k MadeLabel e (MakesLabel rules e) c.makes_label-made.result first second (λ s h. h) (λ p. (p, refl)) (c.makes_label-made.ensures rules)
     (subst (λ (s : Span). Adds (λ o. IsTrue c.makes_label-made.result × (o ≡ record { construct = MadeLabel; rule = k; span = s })) first second) c.span_of-span.ensures c.in_ok-add_if-2.ensures) in
     on_ok_weaker {P = Adds (IsOf rules ComplexPattern k e) second new} {Q = Adds (IsByForm rules k e) old new} c.add_patterns.result
-    (λ a. adds_both (IsOf rules UnnamedSelector k e) (λ o. IsOf rules MadeLabel k e o ⊎ IsOf rules ComplexPattern k e o) old first new unnamed (adds_both (IsOf rules MadeLabel k e) (IsOf rules ComplexPattern k e) first second new made a)) (c.add_patterns.ensures rules)
+    (λ a. gains_both _ (IsOf rules UnnamedSelector k e) (λ o. IsOf rules MadeLabel k e o ⊎ IsOf rules ComplexPattern k e o) old first new unnamed (gains_both _ (IsOf rules MadeLabel k e) (IsOf rules ComplexPattern k e) first second new made a)) (c.add_patterns.ensures rules)

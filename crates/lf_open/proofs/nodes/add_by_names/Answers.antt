@@ -1,5 +1,6 @@
 use Rattle.std.proofs.Common.{◌≡◌, ◌⊎◌, IsTrue, List, Some, subst}
 use Rattle.std.proofs.lemmas.Result.{on_ok_weaker}
+use Rattle.lf_laws.proofs.Gaining.{gains_both}
 use Rattle.lf_base.specs.declared.place.Span.{Span}
 use Rattle.lf_ast.specs.Rules.{RuleTree}
 use Rattle.lf_ast.specs.Tree.{Tree, tree}
@@ -12,7 +13,6 @@ use Rattle.lf_open.specs.declared.construct.Construct.TheVariants.{CyclicName, F
 use Rattle.lf_open.specs.declared.open_at.OpenAt.{OpenAt}
 use Rattle.lf_open.specs.views.Adding.{Adds, IsAt, IsByNames}
 use Rattle.lf_open.specs.views.Known.{rules_of}
-use Rattle.lf_open.proofs.Added.{adds_both}
 use Rattle.lf_open.proofs.NodeLaws.{one_at}
 use Rattle.lf_open.proofs.nodes.add_by_names.Goals as goal
 
@@ -37,5 +37,5 @@ returns c =
     let d : Adds (IsAt rules k e Leaves OpenAbsent) second new =
     one_at rules k OpenAbsent e Leaves c.is_open_absent-absent.result second new c.is_open_absent-absent.ensures
     (subst (λ (s : Span). Adds (λ o. IsTrue c.is_open_absent-absent.result × (o ≡ record { construct = OpenAbsent; rule = k; span = s })) second new) c.span_of-span.ensures added) in
-    adds_both (IsAt rules k e (SaysCyclicName rules e) CyclicName) (λ o. IsAt rules k e (NarrowsFork rules e) Forked o ⊎ IsAt rules k e Leaves OpenAbsent o) old first new a
-    (adds_both (IsAt rules k e (NarrowsFork rules e) Forked) (IsAt rules k e Leaves OpenAbsent) first second new b d)) c.add_if-3.ensures
+    gains_both _ (IsAt rules k e (SaysCyclicName rules e) CyclicName) (λ o. IsAt rules k e (NarrowsFork rules e) Forked o ⊎ IsAt rules k e Leaves OpenAbsent o) old first new a
+    (gains_both _ (IsAt rules k e (NarrowsFork rules e) Forked) (IsAt rules k e Leaves OpenAbsent) first second new b d)) c.add_if-3.ensures

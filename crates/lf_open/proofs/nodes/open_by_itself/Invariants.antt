@@ -1,6 +1,7 @@
 use Rattle.std.proofs.Common.{[], take}
+use Rattle.lf_laws.specs.Gaining.{OfSome}
 use Rattle.lf_ast.specs.Tree.{tree}
-use Rattle.lf_open.specs.views.Adding.{Adds, IsByItself, OfSome}
+use Rattle.lf_open.specs.views.Adding.{Adds, IsByItself}
 use Rattle.lf_open.specs.views.Known.{rules_of}
 use Rattle.lf_open.proofs.nodes.open_by_itself.Given as goal
 

@@ -13,4 +13,4 @@ returns c =
     let test : RuleTree → Bool = λ r. has_own_source r.expr in
     let are = passing_by c.args.rules.now test c.in_ok-passing.passing.items c.as_slice.result.now c.as_slice.ensures.value c.in_ok-passing.ensures in
     let chosen = subst (AreChosenBy rules test) (sym c.as_slice-2.ensures.value) (c.in_ok-found.ensures.chosen rules test c.requires.sources are) in
-    IfOk-weaker c.of.result (AreMarks rules c.as_slice-2.result.now) (TellsReading rules test) (λ m marks. tells_reading rules test c.as_slice-2.result.now chosen m marks) c.of.ensures
+    IfOk-weaker c.marks_of.result (AreMarks rules c.as_slice-2.result.now) (TellsReading rules test) (λ m marks. tells_reading rules test c.as_slice-2.result.now chosen m marks) c.marks_of.ensures
