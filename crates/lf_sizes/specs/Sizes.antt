@@ -69,15 +69,16 @@ times m n = min (m * n) most
 -- ---- what classes count
 
 -- In `Weights`: `letters` is what `\w`, `\p` and their opposites count, a class in brackets where letters match their other cases too, and what may be anything; `digits` is what `\d` and its opposite
--- count; `few` what `\s`, its opposite, a dot, and any other class in brackets, beside each byte in it; `folded` what a character counts where letters match their other cases too.
+-- count; `few` what `\s`, its opposite, a dot, and any other class in brackets, beside each byte in it; `folded` what a character counts where letters match their other cases too;
+-- `optional` what a comma in braces counts, by which some of what is counted may be left out, as a `?` says it elsewhere.
 
 -- in a size: the ranges of the characters, each of up to four bytes
 abbrev pub in_size : Weights
-in_size = record { letters = 512; digits = 64; few = 16; folded = 8 }
+in_size = record { letters = 512; digits = 64; few = 16; folded = 8; optional = 0 }
 
 -- in a width: the ranges of the first bytes of these, which are gone through to find the next state
 abbrev pub in_width : Weights
-in_width = record { letters = 8; digits = 4; few = 2; folded = 2 }
+in_width = record { letters = 8; digits = 4; few = 2; folded = 2; optional = 1 }
 
 -- ---- what a byte says
 
@@ -134,10 +135,11 @@ abbrev pub said_first_in_brackets : Weights → ℕ → ℕ → ℕ → Said
 said_first_in_brackets w depth k c = if c == 93 then mark (more 1) (Class depth) k else said_in_brackets w depth k c
 
 -- a byte in braces
-abbrev pub said_in_braces : ℕ → ℕ → ℕ → ℕ → Said
-said_in_braces greatest number k c =
+abbrev pub said_in_braces : Weights → ℕ → ℕ → ℕ → ℕ → Said
+said_in_braces w greatest number k c =
     if nat_le 48 c && nat_le c 57 then no_mark (Count greatest (plus (times number 10) (c - 48))) k
     else if c == 125 then mark (count (max greatest number)) Ready k
+    else if c == 44 then mark (more w.optional) (Count (max greatest number) 0) k
     else no_mark (Count (max greatest number) 0) k
 
 abbrev pub says : Weights → Mode → ℕ → ℕ → Said
@@ -149,7 +151,7 @@ says w (Bracket depth) k c = if c == 94 then no_mark (Negated depth) k else said
 says w (Negated depth) k c = said_first_in_brackets w depth k c
 says w (Class depth) k c = said_in_brackets w depth k c
 says w (ClassEscape depth) k c = mark (more (escaped w c)) (Class depth) k
-says w (Count greatest number) k c = said_in_braces greatest number k c
+says w (Count greatest number) k c = said_in_braces w greatest number k c
 says w Verbose k c = if c == 123 then mark (count most) Verbose k else mark (more w.letters) Verbose k
 
 -- ---- the size of a pattern, and its width

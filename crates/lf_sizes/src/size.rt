@@ -17,6 +17,8 @@ struct Weights {
     few: u64,
     /// What a character counts where letters match their other cases too.
     folded: u64,
+    /// What a comma in braces counts, by which some of what is counted may be left out.
+    optional: u64,
 }
 
 /// Where the next byte stands.
@@ -69,7 +71,7 @@ pub fn pattern_size(alloc: Global, pattern: &str) -> Result<u64, Memory>
 }
 
 /// The width of a pattern: about in how many states at once a program may be that tries it. It is counted as the size is, but for classes: one of Unicode's characters counts 2 to 8, a dot and a character
-/// behind a flag `i` 2, and a class in brackets 2, or 8 behind that flag, and a 1 for each byte in it.
+/// behind a flag `i` 2, and a class in brackets 2, or 8 behind that flag, and a 1 for each byte in it; and a comma in braces counts 1, as a `?` does.
 pub fn pattern_width(alloc: Global, pattern: &str) -> Result<u64, Memory>
     ensures { IfOk result (λ width. width ≡ width_of pattern.now) }
 {
@@ -105,6 +107,7 @@ impl Weights {
             digits: 64,
             few: 16,
             folded: 8,
+            optional: 0,
         }
     }
 
@@ -117,6 +120,7 @@ impl Weights {
             digits: 4,
             few: 2,
             folded: 2,
+            optional: 1,
         }
     }
 
@@ -339,7 +343,7 @@ impl Reader {
 
     /// Reads a byte in braces.
     fn in_count(self, greatest: u64, number: u64, byte: u8) -> Reader
-        ensures { state_of result ≡ reads (said_in_braces greatest number self.character byte) (state_of self) }
+        ensures { state_of result ≡ reads (said_in_braces self.weights greatest number self.character byte) (state_of self) }
     {
         match byte {
             b'0'..=b'9' => self.in_mode(Mode::Count {
@@ -349,6 +353,17 @@ impl Reader {
                     .saturating_add(u64::from(byte - b'0')),
             }),
             b'}' => self.counted(greatest.max(number), Mode::Ready),
+            b',' => {
+                let size = self.weights.optional;
+                let greatest = greatest.max(number);
+                self.larger(
+                    size,
+                    Mode::Count {
+                        greatest,
+                        number: 0,
+                    },
+                )
+            }
             _ => self.in_mode(Mode::Count {
                 greatest: greatest.max(number),
                 number: 0,
