@@ -19,7 +19,7 @@ const TRIES_OF_READING: u64 = 1_000;
 const TRIES_OF_SIZE: u64 = 8;
 
 /// How many states that are followed over a byte count as one try: a pattern's width times the bytes that it is tried on, divided by this. Mostly that takes far less time, since
-/// what is learned of the pattern at one byte is kept for the next; but a pattern can be made so that there is something to learn at each, and then a state takes up to 25 nanoseconds.
+/// what is learned of the pattern at one byte is kept for the next; but a pattern can be made so that there is something to learn at each, and then a state takes up to 14 nanoseconds.
 const STEPS_OF_TRY: u64 = 8;
 
 /// The most words that the cached rows of plain patterns may have together: 32 MiB.

@@ -1,5 +1,5 @@
 //! Which recorded rows an expression reads.
-ghost use Rattle.std.specs.Prelude.{◌≡◌, ◌↔◌, ℕ, [], ◌∷◌, Some, IfOk, OnOk};
+ghost use Rattle.std.specs.Prelude.{◌≡◌, ◌↔◌, ℕ, [], Some, IfOk, OnOk};
 ghost use Rattle.std.specs.List.{Contains, flat_map, range_with_len};
 ghost use Rattle.lf_ast.specs.Tree.{tree};
 ghost use Rattle.lf_graph.specs.views.Listing.{Adds};
