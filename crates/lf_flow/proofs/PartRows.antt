@@ -5,8 +5,8 @@ use Rattle.lf_ast.specs.Tree.{Tree}
 use Rattle.lf_semantics.specs.ClassRows.{Sets}
 use Rattle.lf_semantics.specs.Listing.{Listing}
 use Rattle.lf_semantics.specs.RowTable.{Environment, row_of}
-use Rattle.lf_flow.specs.declared.given.Given.{Given}
-use Rattle.lf_flow.specs.views.Kept.{given_of, made_row}
+use Rattle.lf_flow.specs.declared.typed_row.TypedRow.{TypedRow}
+use Rattle.lf_flow.specs.views.Kept.{made_row, typed_row_of}
 use Rattle.lf_flow.proofs.KeptRows.{made_is}
 
 -- what is taken off the end of one list is made to stand first in the other
@@ -20,6 +20,6 @@ one_back {Y = Y} f old front x rows more y taken is pushed =
     ∙ ap (λ (ys : List Y). map f front ++ reverse ys) (sym pushed)
 
 module _ (u : Listing) (env : Environment) where
-  pub rows_are : (es : List Tree) → map (λ (given : Given). made_row u given.row) (map (given_of u env) es) ≡ map (row_of u env) es
+  pub rows_are : (es : List Tree) → map (λ (typed : TypedRow). made_row u typed.row) (map (typed_row_of u env) es) ≡ map (row_of u env) es
   rows_are [] = refl
-  rows_are (e ∷ es) = ap (λ (row : Sets). row ∷ map (λ (given : Given). made_row u given.row) (map (given_of u env) es)) (made_is u env e) ∙ ap (λ (rows : List Sets). row_of u env e ∷ rows) (rows_are es)
+  rows_are (e ∷ es) = ap (λ (row : Sets). row ∷ map (λ (typed : TypedRow). made_row u typed.row) (map (typed_row_of u env) es)) (made_is u env e) ∙ ap (λ (rows : List Sets). row_of u env e ∷ rows) (rows_are es)

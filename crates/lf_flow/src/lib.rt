@@ -6,7 +6,6 @@ mod budget;
 mod counting;
 mod effects;
 mod env;
-mod given;
 mod grouping;
 mod joining;
 mod labels;
@@ -19,6 +18,7 @@ mod reading;
 mod replacing;
 mod rows;
 mod selecting;
+mod typed_row;
 
 pub use env::Env;
 pub use parts::part_rows;

@@ -7,8 +7,8 @@ ghost use Rattle.lf_semantics.specs.RowTable.{beside_scalar_row, binary_row};
 ghost use Rattle.lf_flow.specs.views.Kept.{made_row};
 
 use crate::effects::{bare, nameless};
-use crate::given::Given;
 use crate::matching::combine;
+use crate::typed_row::TypedRow;
 use lf_ast::{Matching, Op, is_scalar};
 use lf_base::Memory;
 use lf_classes::{Row, Universe};
@@ -21,8 +21,8 @@ pub fn operate(
     universe: &Universe,
     op: Op,
     matching: &Matching,
-    left: Given,
-    right: Given,
+    left: TypedRow,
+    right: TypedRow,
 ) -> Result<Row, Memory>
     requires left { HasShape universe.now (made_row universe.now left.row) }
     requires right { HasShape universe.now (made_row universe.now right.row) }

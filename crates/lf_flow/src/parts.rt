@@ -4,11 +4,11 @@ ghost use Rattle.lf_ast.specs.Tree.{tree, nodes};
 ghost use Rattle.lf_semantics.specs.Environments.{IsEnvironment};
 ghost use Rattle.lf_semantics.specs.Listing.{IsListing};
 ghost use Rattle.lf_semantics.specs.RowTable.{row_of};
-ghost use Rattle.lf_flow.specs.views.Kept.{given_of, made_row};
+ghost use Rattle.lf_flow.specs.views.Kept.{made_row, typed_row_of};
 
 use crate::Env;
-use crate::given::Given;
 use crate::rows::Rows;
+use crate::typed_row::TypedRow;
 use lf_ast::Expr;
 use lf_base::Memory;
 use lf_classes::{Row, Universe};
@@ -37,17 +37,21 @@ fn given_parts(
     universe: &Universe,
     env: &Env,
     expr: &Expr,
-) -> Result<Vec<Given>, Memory>
+) -> Result<Vec<TypedRow>, Memory>
     requires listing { IsListing universe.now }
     requires env { IsEnvironment universe.now env.now }
-    ensures { IfOk result (λ parts. parts.items ≡ map (given_of universe.now env.now) (nodes (tree expr.now))) }
+    ensures { IfOk result (λ parts. parts.items ≡ map (typed_row_of universe.now env.now) (nodes (tree expr.now))) }
 {
     fold_parts(alloc, &Rows { universe, env }, expr)
 }
 
 /// The rows of these.
-fn into_rows(alloc: Global, universe: &Universe, mut parts: Vec<Given>) -> Result<Vec<Row>, Memory>
-    ensures { IfOk result (λ rows. rows.items ≡ map (λ (given : Given). made_row universe.now given.row) parts.items) }
+fn into_rows(
+    alloc: Global,
+    universe: &Universe,
+    mut parts: Vec<TypedRow>,
+) -> Result<Vec<Row>, Memory>
+    ensures { IfOk result (λ rows. rows.items ≡ map (λ (typed : TypedRow). made_row universe.now typed.row) parts.items) }
 {
     let mut rows = Vec::new(alloc);
     while let Some(part) = parts.pop() {

@@ -5,7 +5,7 @@ ghost use Rattle.lf_semantics.specs.Listing.{class_count, named_at};
 ghost use Rattle.lf_semantics.specs.Passing.{is_plain};
 ghost use Rattle.lf_classes.specs.views.PatternCache.{passing_row};
 ghost use Rattle.lf_semantics.specs.RowTable.{text_of};
-ghost use Rattle.lf_sizes.specs.Sizes.{size_of};
+ghost use Rattle.lf_sizes.specs.Sizes.{size_of, width_of};
 ghost use Rattle.lf_flow.specs.views.Budget.{TakesTries, TakesWords, bytes_of, tries_of};
 
 use crate::budget::PatternBudget;
@@ -16,7 +16,7 @@ use lf_base::{Memory, Seq, Text};
 use lf_classes::{Row, Universe};
 use lf_nodes::takes_pattern;
 use lf_pattern::plain_alternatives;
-use lf_sizes::pattern_size;
+use lf_sizes::{pattern_size, pattern_width};
 use std::alloc::Global;
 
 /// Finds which classes match each pattern of rules, and has the universe cache them, so that `flow` tries none again: the patterns behind `=~` and `!~`, and those of
@@ -139,13 +139,15 @@ fn reserve_row(
     requires { label < length universe.now.named }
     ensures plain { is_plain pattern.now ≡ true → IfOk result (λ made. TakesWords (div_ceil (class_count universe.now) 64) made budget.old budget.new) }
     ensures other { is_plain pattern.now ≡ false → IfOk result (λ made. made ≡ true) }
-    ensures tries { is_plain pattern.now ≡ false → OnOk result (TakesTries (tries_of (size_of pattern.now) (length (named_at universe.now label) + 2) (bytes_of universe.now label)) budget.old budget.new) }
+    ensures tries { is_plain pattern.now ≡ false → OnOk result (TakesTries (tries_of (size_of pattern.now) (width_of pattern.now) (length (named_at universe.now label) + 2) (bytes_of universe.now label)) budget.old budget.new) }
 {
     if plain_alternatives(alloc, pattern)?.is_some() {
         return Ok(budget.take_words(universe.class_count().div_ceil(64)));
     }
     let size = pattern_size(alloc, pattern.as_str())?;
-    budget.take_tries(size, universe.classes(label), text_bytes(universe, label))?;
+    let width = pattern_width(alloc, pattern.as_str())?;
+    let bytes = text_bytes(universe, label);
+    budget.take_tries(size, width, universe.classes(label), bytes)?;
     Ok(true)
 }
 

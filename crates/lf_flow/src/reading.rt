@@ -1,5 +1,5 @@
 //! Which recorded rows an expression reads.
-ghost use Rattle.std.specs.Prelude.{◌≡◌, ◌↔◌, ℕ, [], ◌∷◌, Some, IfOk, OnOk};
+ghost use Rattle.std.specs.Prelude.{◌≡◌, ◌↔◌, ℕ, [], Some, IfOk, OnOk};
 ghost use Rattle.std.specs.List.{Contains, flat_map, range_with_len};
 ghost use Rattle.lf_ast.specs.Tree.{tree};
 ghost use Rattle.lf_graph.specs.views.Listing.{Adds};
@@ -11,7 +11,7 @@ ghost use Rattle.lf_flow.specs.views.Reading.{numbers_of};
 use crate::Env;
 use lf_ast::Expr;
 use lf_base::{Memory, Seq, Text};
-use lf_deps::selectors;
+use lf_deps::{add_number, in_order, selectors};
 use std::alloc::Global;
 use std::collections::BTreeSet;
 
@@ -61,7 +61,7 @@ fn add_name(env: &Env, name: &str, numbers: &mut BTreeSet<u32>) -> Result<(), Me
 {
     let number = env.number(name);
     if number < env.count() {
-        add(number, numbers)
+        add_number(numbers, number)
     } else {
         Ok(())
     }
@@ -72,27 +72,7 @@ fn add_all(count: usize, numbers: &mut BTreeSet<u32>) -> Result<(), Memory>
     ensures { OnOk result (Adds (range_with_len 0 count) numbers.old.keys numbers.new.keys) }
 {
     for number in 0..count {
-        add(number, numbers)?;
+        add_number(numbers, number)?;
     }
     Ok(())
-}
-
-/// Adds a number. Want of memory where it doesn't fit a `u32`.
-fn add(number: usize, numbers: &mut BTreeSet<u32>) -> Result<(), Memory>
-    ensures { OnOk result (Adds (number ∷ []) numbers.old.keys numbers.new.keys) }
-{
-    let Ok(number) = u32::try_from(number) else {
-        return Err(Memory);
-    };
-    let _ = numbers.insert(number)?;
-    Ok(())
-}
-
-/// The numbers in ascending order.
-fn in_order(alloc: Global, numbers: BTreeSet<u32>) -> Result<Seq<u32>, Memory>
-    ensures members { IfOk result (λ found. found ≡ numbers.keys) }
-    ensures ascending { IfOk result Ascend }
-{
-    let items: Vec<u32> = numbers.into_iter().collect(alloc)?;
-    Ok(Seq::from_vec(items))
 }

@@ -13,11 +13,11 @@ ghost use Rattle.lf_semantics.specs.Laws.{GrowsFrom};
 ghost use Rattle.lf_semantics.specs.Listing.{IsListing};
 ghost use Rattle.lf_semantics.specs.Parts.{given_by, type_by_form};
 ghost use Rattle.lf_semantics.specs.RowTable.{Environment, call_row, row_at, row_of};
-ghost use Rattle.lf_flow.specs.views.Kept.{given_of, kept_row, operand_given};
+ghost use Rattle.lf_flow.specs.views.Kept.{kept_row, typed_operand, typed_row_of};
 ghost use Rattle.lf_nodes.specs.views.Needed.{parts_needed};
 
 use crate::Env;
-use crate::given::{Given, binary, called, empty, number, ranged, selector, signed, whole};
+use crate::typed_row::{TypedRow, binary, called, empty, number, ranged, selector, signed, whole};
 use lf_ast::walk::{Fold, Parts, fold_up};
 use lf_ast::{Expr, ExprType, Function, Grouping};
 use lf_base::{Memory, Seq};
@@ -72,17 +72,17 @@ impl<'a> Model for Rows<'a> {
 }
 
 impl<'a> Fold for Rows<'a> {
-    type Value = Given;
+    type Value = TypedRow;
 
     type Note = Option<Function>;
 
     ghost use Rattle.std.specs.Prelude.{◌≡◌};
     ghost use Rattle.std.specs.Option.{option_map};
     ghost use Rattle.lf_ast.specs.Functions.{called_by, signature_of};
-    ghost use Rattle.lf_flow.specs.views.Kept.{given_of};
+    ghost use Rattle.lf_flow.specs.views.Kept.{typed_row_of};
     ghost use Rattle.lf_nodes.specs.views.Needed.{parts_needed};
 
-    ghost value = { λ rows e. given_of rows.0 rows.1 e };
+    ghost value = { λ rows e. typed_row_of rows.0 rows.1 e };
 
     ghost needed = { λ rows e. parts_needed e };
 
@@ -98,31 +98,31 @@ impl<'a> Fold for Rows<'a> {
         alloc: Global,
         expr: &Expr,
         function: Option<Function>,
-        values: Vec<Given>,
-    ) -> Result<Given, Memory>
+        values: Vec<TypedRow>,
+    ) -> Result<TypedRow, Memory>
         requires function { option_map signature_of function ≡ called_by (tree expr.now) }
-        requires values { values.items ≡ map (given_of self.now.0 self.now.1) (chosen (parts_needed (tree expr.now)) (parts_of (tree expr.now))) }
-        ensures { IfOk result (λ made. made ≡ given_of self.now.0 self.now.1 (tree expr.now)) }
+        requires values { values.items ≡ map (typed_row_of self.now.0 self.now.1) (chosen (parts_needed (tree expr.now)) (parts_of (tree expr.now))) }
+        ensures { IfOk result (λ made. made ≡ typed_row_of self.now.0 self.now.1 (tree expr.now)) }
     {
-        given(alloc, self.universe, self.env, expr, function, values)
+        typed_row(alloc, self.universe, self.env, expr, function, values)
     }
 }
 
 /// What is told of an expression, from what it calls and what is told of its parts.
-fn given(
+fn typed_row(
     alloc: Global,
     universe: &Universe,
     env: &Env,
     expr: &Expr,
     function: Option<Function>,
-    parts: Vec<Given>,
-) -> Result<Given, Memory>
+    parts: Vec<TypedRow>,
+) -> Result<TypedRow, Memory>
     requires listing { IsListing universe.now }
     requires env { IsEnvironment universe.now env.now }
     requires function { option_map signature_of function ≡ called_by (tree expr.now) }
-    requires parts { parts.items ≡ map (given_of universe.now env.now) (chosen (parts_needed (tree expr.now)) (parts_of (tree expr.now))) }
-    ensures row { IfOk result (λ given. given.row ≡ kept_row universe.now env.now (tree expr.now)) }
-    ensures form { IfOk result (λ given. given.form ≡ type_by_form (tree expr.now)) }
+    requires parts { parts.items ≡ map (typed_row_of universe.now env.now) (chosen (parts_needed (tree expr.now)) (parts_of (tree expr.now))) }
+    ensures row { IfOk result (λ typed. typed.row ≡ kept_row universe.now env.now (tree expr.now)) }
+    ensures form { IfOk result (λ typed. typed.form ≡ type_by_form (tree expr.now)) }
 {
     match expr {
         Expr::Number { .. } => Ok(number()),
@@ -164,12 +164,12 @@ fn call(
     function: Option<Function>,
     grouping: &Grouping,
     args: &Seq<Expr>,
-    parts: Vec<Given>,
-) -> Result<Given, Memory>
+    parts: Vec<TypedRow>,
+) -> Result<TypedRow, Memory>
     requires listing { IsListing universe.now }
-    requires parts { (env : Environment) × IsEnvironment universe.now env × (parts.items ≡ operand_given universe.now env (option_map signature_of function) (trees args.now)) }
-    ensures row { (env : Environment) → parts.items ≡ operand_given universe.now env (option_map signature_of function) (trees args.now) → IfOk result (λ given. given.row ≡ Some (call_row universe.now (option_map signature_of function) grouping.now (trees args.now) (row_at universe.now env (trees args.now)))) }
-    ensures form { IfOk result (λ given. given.form ≡ given_by (option_map signature_of function)) }
+    requires parts { (env : Environment) × IsEnvironment universe.now env × (parts.items ≡ typed_operand universe.now env (option_map signature_of function) (trees args.now)) }
+    ensures row { (env : Environment) → parts.items ≡ typed_operand universe.now env (option_map signature_of function) (trees args.now) → IfOk result (λ typed. typed.row ≡ Some (call_row universe.now (option_map signature_of function) grouping.now (trees args.now) (row_at universe.now env (trees args.now)))) }
+    ensures form { IfOk result (λ typed. typed.form ≡ given_by (option_map signature_of function)) }
 {
     let operand = at_most_one(parts);
     called(

@@ -1,6 +1,6 @@
--- The sizes of some texts, by the definition.
+-- The sizes and widths of some texts, by the definition.
 use Rattle.std.proofs.Common.{◌≡◌, ◌+◌, ◌-◌, ◌*◌, ◌^◌, codes, refl}
-use Rattle.lf_sizes.specs.Sizes.{size_of}
+use Rattle.lf_sizes.specs.Sizes.{size_of, width_of}
 
 -- 4 characters, a class with 2 bytes in it, and a dot with a sign
 class_and_dot : size_of (codes "api-[12].*") ≡ 4 + (16 + 2) + (16 + 1)
@@ -32,3 +32,21 @@ unmatched = refl
 -- no size is greater than this
 greatest : size_of (codes "((a{99999999}){99999999}){99999999}") ≡ 2 ^ 64 - 1
 greatest = refl
+
+-- in a width classes count 2 to 8, and what else stands there as in a size
+width_of_classes : width_of (codes "api-[12].*") ≡ 4 + (2 + 2) + (2 + 1)
+width_of_classes = refl
+
+width_of_letters : width_of (codes "(\\w+\\.){3}[\\w-]{1,5}") ≡ ((8 + 1) + 1 + 1) * 3 + (2 + 8 + 1 + 1) * 5
+width_of_letters = refl
+
+width_of_groups : width_of (codes "(a|b)*a(a|b){200}") ≡ (3 + 1 + 1) + 1 + (3 + 1) * 200
+width_of_groups = refl
+
+-- and a comma in braces counts 1, each time that what stands before it counts
+width_of_optional_parts : width_of (codes "(a{0,30}){0,30}b{3}") ≡ ((1 + 1) * 30 + 1 + 1) * 30 + 3
+width_of_optional_parts = refl
+
+-- behind the flag `i` a character counts 2 there
+width_of_other_cases : width_of (codes "a(?i)b[a-z]") ≡ 1 + 1 + 2 + (8 + 3)
+width_of_other_cases = refl

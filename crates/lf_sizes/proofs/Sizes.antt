@@ -1,6 +1,7 @@
--- What is counted from left to right is the size.
+-- What is counted from left to right is the measure.
 use Rattle.std.proofs.Common.{◌≡◌, ◌∙◌, ℕ, zero, suc, ◌+◌, ◌*◌, ◌<◌, ◌≤◌, max, min, Bool, true, false, leb, List, [], ◌∷◌, ◌++◌, refl, sym, ap, ap₂, add-mul, mul_assoc, mul-pos, le-mul_of_pos_right, leb-true, leb-false, arith}
-use Rattle.lf_sizes.specs.Sizes.{Mark, atom, more, opens, closes, count, often, outside, size, most, marks_in, says, size_of}
+use Rattle.lf_sizes.specs.Sizes.{Mark, atom, more, opens, closes, count, often, outside, size, most, marks_in, measured, says}
+use Rattle.lf_sizes.specs.declared.size.Weights.{Weights}
 use Rattle.lf_sizes.specs.views.Size.{State, closed, marked, marked_all, plus_each, size_from, start, stepped}
 
 -- ---- numbers
@@ -129,12 +130,12 @@ total_is n d (b ∷ bs) =
     let is : min (min n most + b) most ≡ min (n + b) most = omega arith in
     ap (λ k. plus_each k bs) is ∙ total_is (n + b) (suc d) bs ∙ ap (λ k. min k most) (omega arith)
 
-counted : (s : State) (cs : List ℕ) → size_from s cs ≡ min (whole s (marks_in s.mode s.character cs)) most
+counted : (s : State) (cs : List ℕ) → size_from s cs ≡ min (whole s (marks_in s.weights s.mode s.character cs)) most
 unfolding stepped
 counted s [] = total_is (s.sum + s.last) 1 s.outer ∙ ap (λ n. min n most) (omega arith)
 counted s (c ∷ cs) =
-    let w = says s.mode s.character c in
-    counted (stepped s c) cs ∙ whole_all w.marks s (marks_in w.next w.character cs)
+    let w = says s.weights s.mode s.character c in
+    counted (stepped s c) cs ∙ whole_all w.marks s (marks_in s.weights w.next w.character cs)
 
-pub law : (pattern : List ℕ) → size_from start pattern ≡ size_of pattern
-law pattern = counted start pattern ∙ ap (λ n. min n most) (omega arith)
+pub law : (weights : Weights) (pattern : List ℕ) → size_from (start weights) pattern ≡ measured weights pattern
+law weights pattern = counted (start weights) pattern ∙ ap (λ n. min n most) (omega arith)

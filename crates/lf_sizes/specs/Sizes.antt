@@ -1,9 +1,12 @@
--- The size of a pattern: about how many states a program has that tries it. It is no measure of what the pattern matches, and goes by the text alone, so that what is bounded by it is
--- bounded before the pattern is read. Every text has a size, also one that is no pattern.
+-- Two measures of patterns. The size of a pattern is about how many states a program has that tries it, by which goes how long it takes to read it. The width is about in how many of these it may be at
+-- once, by which goes how long it takes to try it on a byte of a text: of all the characters of a class it waits for one. They are no measures of what the pattern matches, and go by the text alone, so
+-- that what is bounded by them is bounded before the pattern is read. Every text has both, also one that is no pattern.
 --
--- A text is a list of marks. Each counts by itself, and that as often as the numbers in braces say that stand behind it and behind each group that it stands in.
+-- A text is a list of marks. Each counts by itself, and that as often as the numbers in braces say that stand behind it and behind each group that it stands in. What a class counts is all that the two
+-- differ in.
 use Rattle.std.specs.Prelude.{ℕ, zero, suc, ◌+◌, ◌-◌, ◌*◌, ◌^◌, max, min, Bool, ◌==◌, ◌||◌, ◌&&◌, nat_le, List, [], ◌∷◌, ◌++◌, if◌then◌else◌}
 use Rattle.lf_sizes.specs.declared.size.Mode.{Mode}
+use Rattle.lf_sizes.specs.declared.size.Weights.{Weights}
 use Rattle.lf_sizes.specs.declared.size.Mode.TheVariants.{Ready, Escape, Open, Flags, Bracket, Negated, Class, ClassEscape, Count, Verbose}
 
 -- ---- marks, and the size of a list of them
@@ -63,23 +66,21 @@ plus m n = min (m + n) most
 abbrev pub times : ℕ → ℕ → ℕ
 times m n = min (m * n) most
 
+-- ---- what classes count
+
+-- In `Weights`: `letters` is what `\w`, `\p` and their opposites count, a class in brackets where letters match their other cases too, and what may be anything; `digits` is what `\d` and its opposite
+-- count; `few` what `\s`, its opposite, a dot, and any other class in brackets, beside each byte in it; `folded` what a character counts where letters match their other cases too;
+-- `optional` what a comma in braces counts, by which some of what is counted may be left out, as a `?` says it elsewhere.
+
+-- in a size: the ranges of the characters, each of up to four bytes
+abbrev pub in_size : Weights
+in_size = record { letters = 512; digits = 64; few = 16; folded = 8; optional = 0 }
+
+-- in a width: the ranges of the first bytes of these, which are gone through to find the next state
+abbrev pub in_width : Weights
+in_width = record { letters = 8; digits = 4; few = 2; folded = 2; optional = 1 }
+
 -- ---- what a byte says
-
--- `\w`, `\p` and their opposites, and what may be anything
-abbrev pub letters : ℕ
-letters = 512
-
--- `\d` and its opposite
-abbrev pub digits : ℕ
-digits = 64
-
--- `\s` and its opposite, and a dot
-abbrev pub few : ℕ
-few = 16
-
--- a character where letters match their other cases too
-abbrev pub folded : ℕ
-folded = 8
 
 -- its mark, if it has one, where the next byte stands, and what a character counts there
 pub record Said : Type 0 where
@@ -97,70 +98,74 @@ abbrev pub is_flag : ℕ → Bool
 is_flag c = (c == 45) || (nat_le 65 c && nat_le c 90) || (nat_le 97 c && nat_le c 122)
 
 -- a byte behind a backslash: one of `p P w W`, of `d D`, of `s S`, or another
-abbrev pub escaped_size : ℕ → ℕ
-escaped_size c =
-    if (c == 112) || (c == 80) || (c == 119) || (c == 87) then letters
-    else if (c == 100) || (c == 68) then digits
-    else if (c == 115) || (c == 83) then few
+abbrev pub escaped : Weights → ℕ → ℕ
+escaped w c =
+    if (c == 112) || (c == 80) || (c == 119) || (c == 87) then w.letters
+    else if (c == 100) || (c == 68) then w.digits
+    else if (c == 115) || (c == 83) then w.few
     else 1
 
 -- a class in brackets, beside each byte in it: where letters match their other cases too, these are looked for in all of it
-abbrev pub class_size : ℕ → ℕ
-class_size k = if k == folded then letters else few
+abbrev pub class : Weights → ℕ → ℕ
+class w k = if k == w.folded then w.letters else w.few
 
 -- a byte that stands nowhere in particular: one of `( ) [ { \ . * + ?`, one that goes on with a character, or another
-abbrev pub said : ℕ → ℕ → Said
-said k c =
+abbrev pub said : Weights → ℕ → ℕ → Said
+said w k c =
     if c == 40 then mark opens Open k
     else if c == 41 then mark closes Ready k
-    else if c == 91 then mark (atom (class_size k)) (Bracket 1) k
+    else if c == 91 then mark (atom (class w k)) (Bracket 1) k
     else if c == 123 then no_mark (Count 0 0) k
     else if c == 92 then no_mark Escape k
-    else if c == 46 then mark (atom few) Ready k
+    else if c == 46 then mark (atom w.few) Ready k
     else if (c == 42) || (c == 43) || (c == 63) then mark (more 1) Ready k
     else if nat_le 128 c && nat_le c 191 then mark (more 1) Ready k
     else mark (atom k) Ready k
 
 -- a byte in so many brackets
-abbrev pub said_in_brackets : ℕ → ℕ → ℕ → Said
-said_in_brackets depth k c =
-    if c == 91 then mark (more (class_size k)) (Bracket (plus depth 1)) k
+abbrev pub said_in_brackets : Weights → ℕ → ℕ → ℕ → Said
+said_in_brackets w depth k c =
+    if c == 91 then mark (more (class w k)) (Bracket (plus depth 1)) k
     else if c == 93 then (if nat_le depth 1 then no_mark Ready k else no_mark (Class (depth - 1)) k)
     else if c == 92 then no_mark (ClassEscape depth) k
     else mark (more 1) (Class depth) k
 
 -- a byte behind the `[` or the `[^`: a `]` stands for itself there
-abbrev pub said_first_in_brackets : ℕ → ℕ → ℕ → Said
-said_first_in_brackets depth k c = if c == 93 then mark (more 1) (Class depth) k else said_in_brackets depth k c
+abbrev pub said_first_in_brackets : Weights → ℕ → ℕ → ℕ → Said
+said_first_in_brackets w depth k c = if c == 93 then mark (more 1) (Class depth) k else said_in_brackets w depth k c
 
 -- a byte in braces
-abbrev pub said_in_braces : ℕ → ℕ → ℕ → ℕ → Said
-said_in_braces greatest number k c =
+abbrev pub said_in_braces : Weights → ℕ → ℕ → ℕ → ℕ → Said
+said_in_braces w greatest number k c =
     if nat_le 48 c && nat_le c 57 then no_mark (Count greatest (plus (times number 10) (c - 48))) k
     else if c == 125 then mark (count (max greatest number)) Ready k
+    else if c == 44 then mark (more w.optional) (Count (max greatest number) 0) k
     else no_mark (Count (max greatest number) 0) k
 
-abbrev pub says : Mode → ℕ → ℕ → Said
-says Ready k c = said k c
-says Escape k c = mark (atom (escaped_size c)) Ready k
-says Open k c = if c == 63 then no_mark Flags k else said k c
-says Flags k c = if c == 120 then no_mark Verbose k else if c == 105 then no_mark Flags folded else if is_flag c then no_mark Flags k else said k c
-says (Bracket depth) k c = if c == 94 then no_mark (Negated depth) k else said_first_in_brackets depth k c
-says (Negated depth) k c = said_first_in_brackets depth k c
-says (Class depth) k c = said_in_brackets depth k c
-says (ClassEscape depth) k c = mark (more (escaped_size c)) (Class depth) k
-says (Count greatest number) k c = said_in_braces greatest number k c
-says Verbose k c = if c == 123 then mark (count most) Verbose k else mark (more letters) Verbose k
+abbrev pub says : Weights → Mode → ℕ → ℕ → Said
+says w Ready k c = said w k c
+says w Escape k c = mark (atom (escaped w c)) Ready k
+says w Open k c = if c == 63 then no_mark Flags k else said w k c
+says w Flags k c = if c == 120 then no_mark Verbose k else if c == 105 then no_mark Flags w.folded else if is_flag c then no_mark Flags k else said w k c
+says w (Bracket depth) k c = if c == 94 then no_mark (Negated depth) k else said_first_in_brackets w depth k c
+says w (Negated depth) k c = said_first_in_brackets w depth k c
+says w (Class depth) k c = said_in_brackets w depth k c
+says w (ClassEscape depth) k c = mark (more (escaped w c)) (Class depth) k
+says w (Count greatest number) k c = said_in_braces w greatest number k c
+says w Verbose k c = if c == 123 then mark (count most) Verbose k else mark (more w.letters) Verbose k
 
--- ---- the size of a pattern
+-- ---- the size of a pattern, and its width
 
 -- the marks of what stands so
-abbrev pub marks_in : Mode → ℕ → List ℕ → List Mark
-marks_in mode k [] = []
-marks_in mode k (c ∷ cs) = (says mode k c).marks ++ marks_in (says mode k c).next (says mode k c).character cs
+abbrev pub marks_in : Weights → Mode → ℕ → List ℕ → List Mark
+marks_in w mode k [] = []
+marks_in w mode k (c ∷ cs) = (says w mode k c).marks ++ marks_in w (says w mode k c).next (says w mode k c).character cs
 
-abbrev pub marks_of : List ℕ → List Mark
-marks_of pattern = marks_in Ready 1 pattern
+abbrev pub measured : Weights → List ℕ → ℕ
+measured w pattern = min (size (marks_in w Ready 1 pattern)) most
 
 abbrev pub size_of : List ℕ → ℕ
-size_of pattern = min (size (marks_of pattern)) most
+size_of pattern = measured in_size pattern
+
+abbrev pub width_of : List ℕ → ℕ
+width_of pattern = measured in_width pattern

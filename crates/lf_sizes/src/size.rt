@@ -1,22 +1,25 @@
-//! The size of a pattern, which is read from left to right.
+//! The size of a pattern and its width, which are read from left to right.
 ghost use Rattle.std.specs.Prelude.{◌≡◌, IfOk, reverse};
-ghost use Rattle.lf_sizes.specs.Sizes.{atom, class_size, closes, count, escaped_size, folded, is_flag, mark, more, no_mark, opens, said, said_in_braces, said_in_brackets, size_of};
+ghost use Rattle.lf_sizes.specs.Sizes.{atom, class, closes, count, escaped, in_size, in_width, is_flag, mark, measured, more, no_mark, opens, said, said_in_braces, said_in_brackets, size_of, width_of};
 ghost use Rattle.lf_sizes.specs.views.Size.{plus_each, reads, size_from, start, state_of, stepped, total};
 
 use lf_base::{Memory, Seq};
 use std::alloc::Global;
 
-/// What `\w`, `\p` and their opposites count, a class in brackets where letters match their other cases too, and what may be anything: the letters of Unicode are some hundred ranges of characters, of up to four bytes each.
-const LETTERS: u64 = 512;
-
-/// What `\d` and `\D` count.
-const DIGITS: u64 = 64;
-
-/// What `\s` and `\S` count, a dot, and mostly a class in brackets.
-const FEW: u64 = 16;
-
-/// What a character counts where letters match their other cases too.
-const FOLDED: u64 = 8;
+/// What classes count.
+#[derive(Clone, Copy)]
+struct Weights {
+    /// What `\w`, `\p` and their opposites count, a class in brackets where letters match their other cases too, and what may be anything.
+    letters: u64,
+    /// What `\d` and `\D` count.
+    digits: u64,
+    /// What `\s` and `\S` count, a dot, and mostly a class in brackets, beside each byte in it.
+    few: u64,
+    /// What a character counts where letters match their other cases too.
+    folded: u64,
+    /// What a comma in braces counts, by which some of what is counted may be left out.
+    optional: u64,
+}
 
 /// Where the next byte stands.
 #[derive(Clone, Copy)]
@@ -46,6 +49,7 @@ enum Mode {
 /// What was read of a pattern.
 #[derive(Drop)]
 struct Reader {
+    weights: Weights,
     mode: Mode,
     /// The size of a character.
     character: u64,
@@ -60,29 +64,96 @@ struct Reader {
 /// The size of a pattern, counted byte by byte: a character counts 1, one beyond ASCII a 1 more for each further byte, and a character behind a flag `i` 8; a dot 16, a class of
 /// Unicode's characters 16 to 512, and a class in brackets 16, or 512 behind that flag, and a 1 for each byte in it. What stands before a number in braces counts as often as the number says, and once at
 /// least; so does the `x` of `\x{41}`. No size is greater than 2^64 - 1, which that of a pattern with a number in braces behind the flag `x` is.
-#[tactic(auto, using(crate::proofs::Sizes::law))]
 pub fn pattern_size(alloc: Global, pattern: &str) -> Result<u64, Memory>
     ensures { IfOk result (λ size. size ≡ size_of pattern.now) }
 {
-    read(alloc, pattern.as_bytes())
+    measure(alloc, Weights::in_size(), pattern)
 }
 
-/// The size of a pattern of these bytes.
-fn read(alloc: Global, bytes: &[u8]) -> Result<u64, Memory>
-    ensures { IfOk result (λ size. size ≡ size_from start bytes.now) }
+/// The width of a pattern: about in how many states at once a program may be that tries it. It is counted as the size is, but for classes: one of Unicode's characters counts 2 to 8, a dot and a character
+/// behind a flag `i` 2, and a class in brackets 2, or 8 behind that flag, and a 1 for each byte in it; and a comma in braces counts 1, as a `?` does.
+pub fn pattern_width(alloc: Global, pattern: &str) -> Result<u64, Memory>
+    ensures { IfOk result (λ width. width ≡ width_of pattern.now) }
 {
-    let mut reader = Reader::new(alloc);
+    measure(alloc, Weights::in_width(), pattern)
+}
+
+/// What a pattern counts where classes count so much.
+#[tactic(auto, using(crate::proofs::Sizes::law))]
+fn measure(alloc: Global, weights: Weights, pattern: &str) -> Result<u64, Memory>
+    ensures { IfOk result (λ n. n ≡ measured weights pattern.now) }
+{
+    read(alloc, weights, pattern.as_bytes())
+}
+
+/// What a pattern of these bytes counts.
+fn read(alloc: Global, weights: Weights, bytes: &[u8]) -> Result<u64, Memory>
+    ensures { IfOk result (λ n. n ≡ size_from (start weights) bytes.now) }
+{
+    let mut reader = Reader::new(alloc, weights);
     for byte in bytes {
         reader = reader.step(*byte)?;
     }
     Ok(reader.total())
 }
 
+impl Weights {
+    /// In a size: about as many as a class has ranges of characters, of up to four bytes each. The letters of Unicode are some hundred.
+    fn in_size() -> Weights
+        ensures { result ≡ in_size }
+    {
+        Weights {
+            letters: 512,
+            digits: 64,
+            few: 16,
+            folded: 8,
+            optional: 0,
+        }
+    }
+
+    /// In a width: about as many as a class has ranges of first bytes, which are gone through to find the next state.
+    fn in_width() -> Weights
+        ensures { result ≡ in_width }
+    {
+        Weights {
+            letters: 8,
+            digits: 4,
+            few: 2,
+            folded: 2,
+            optional: 1,
+        }
+    }
+
+    /// What a byte behind a backslash counts: a class of Unicode's characters, or a character.
+    fn escaped(self, byte: u8) -> u64
+        ensures { result ≡ escaped self byte }
+    {
+        match byte {
+            b'p' | b'P' | b'w' | b'W' => self.letters,
+            b'd' | b'D' => self.digits,
+            b's' | b'S' => self.few,
+            _ => 1,
+        }
+    }
+
+    /// What a class in brackets counts where a character counts so much. Where letters match their other cases too, these are looked for in all of it.
+    fn class(self, character: u64) -> u64
+        ensures { result ≡ class self character }
+    {
+        if character == self.folded {
+            self.letters
+        } else {
+            self.few
+        }
+    }
+}
+
 impl Reader {
-    fn new(alloc: Global) -> Reader
-        ensures { state_of result ≡ start }
+    fn new(alloc: Global, weights: Weights) -> Reader
+        ensures { state_of result ≡ start weights }
     {
         Reader {
+            weights,
             mode: Mode::Ready,
             character: 1,
             last: 0,
@@ -91,7 +162,7 @@ impl Reader {
         }
     }
 
-    /// The size of all that was read.
+    /// What all that was read counts.
     fn total(self) -> u64
         ensures { result ≡ total (state_of self) }
     {
@@ -110,7 +181,10 @@ impl Reader {
     {
         match self.mode {
             Mode::Ready => self.begin(byte),
-            Mode::Escape => Ok(self.with_atom(escaped_size(byte))),
+            Mode::Escape => {
+                let size = self.weights.escaped(byte);
+                Ok(self.with_atom(size))
+            }
             Mode::Open if byte == b'?' => Ok(self.in_mode(Mode::Flags)),
             Mode::Open => self.begin(byte),
             Mode::Flags if byte == b'x' => Ok(self.in_mode(Mode::Verbose)),
@@ -124,10 +198,16 @@ impl Reader {
             Mode::Bracket(depth) | Mode::Negated(depth) | Mode::Class(depth) => {
                 Ok(self.in_brackets(depth, byte))
             }
-            Mode::ClassEscape(depth) => Ok(self.larger(escaped_size(byte), Mode::Class(depth))),
+            Mode::ClassEscape(depth) => {
+                let size = self.weights.escaped(byte);
+                Ok(self.larger(size, Mode::Class(depth)))
+            }
             Mode::Count { greatest, number } => Ok(self.in_count(greatest, number, byte)),
             Mode::Verbose if byte == b'{' => Ok(self.counted(u64::MAX, Mode::Verbose)),
-            Mode::Verbose => Ok(self.larger(LETTERS, Mode::Verbose)),
+            Mode::Verbose => {
+                let size = self.weights.letters;
+                Ok(self.larger(size, Mode::Verbose))
+            }
         }
     }
 
@@ -139,10 +219,10 @@ impl Reader {
 
     /// Letters match their other cases from here on.
     fn folding(self) -> Reader
-        ensures { state_of result ≡ reads (no_mark self.mode folded) (state_of self) }
+        ensures { state_of result ≡ reads (no_mark self.mode self.weights.folded) (state_of self) }
     {
         Reader {
-            character: FOLDED,
+            character: self.weights.folded,
             ..self
         }
     }
@@ -153,10 +233,9 @@ impl Reader {
     {
         Reader {
             mode: Mode::Ready,
-            character: self.character,
             last: size,
             sum: self.sum.saturating_add(self.last),
-            outer: self.outer,
+            ..self
         }
     }
 
@@ -184,13 +263,13 @@ impl Reader {
 
     /// Reads a byte that stands nowhere in particular.
     fn begin(self, byte: u8) -> Result<Reader, Memory>
-        ensures { IfOk result (λ r. state_of r ≡ reads (said self.character byte) (state_of self)) }
+        ensures { IfOk result (λ r. state_of r ≡ reads (said self.weights self.character byte) (state_of self)) }
     {
         match byte {
             b'(' => self.open(),
             b')' => Ok(self.close()),
             b'[' => {
-                let size = class_size(self.character);
+                let size = self.weights.class(self.character);
                 Ok(self.with_atom(size).in_mode(Mode::Bracket(1)))
             }
             b'{' => Ok(self.in_mode(Mode::Count {
@@ -198,7 +277,10 @@ impl Reader {
                 number: 0,
             })),
             b'\\' => Ok(self.in_mode(Mode::Escape)),
-            b'.' => Ok(self.with_atom(FEW)),
+            b'.' => {
+                let size = self.weights.few;
+                Ok(self.with_atom(size))
+            }
             b'*' | b'+' | b'?' => Ok(self.larger(1, Mode::Ready)),
             // A byte of a character behind its first.
             0x80..=0xBF => Ok(self.larger(1, Mode::Ready)),
@@ -217,6 +299,7 @@ impl Reader {
         let mut outer = self.outer;
         outer.push(before)?;
         Ok(Reader {
+            weights: self.weights,
             mode: Mode::Open,
             character: self.character,
             last: 0,
@@ -233,6 +316,7 @@ impl Reader {
         let mut outer = self.outer;
         let sum = outer.pop().unwrap_or(0);
         Reader {
+            weights: self.weights,
             mode: Mode::Ready,
             character: self.character,
             last,
@@ -243,11 +327,11 @@ impl Reader {
 
     /// Reads a byte in so many brackets.
     fn in_brackets(self, depth: u64, byte: u8) -> Reader
-        ensures { state_of result ≡ reads (said_in_brackets depth self.character byte) (state_of self) }
+        ensures { state_of result ≡ reads (said_in_brackets self.weights depth self.character byte) (state_of self) }
     {
         match byte {
             b'[' => {
-                let size = class_size(self.character);
+                let size = self.weights.class(self.character);
                 self.larger(size, Mode::Bracket(depth.saturating_add(1)))
             }
             b']' if depth <= 1 => self.in_mode(Mode::Ready),
@@ -259,7 +343,7 @@ impl Reader {
 
     /// Reads a byte in braces.
     fn in_count(self, greatest: u64, number: u64, byte: u8) -> Reader
-        ensures { state_of result ≡ reads (said_in_braces greatest number self.character byte) (state_of self) }
+        ensures { state_of result ≡ reads (said_in_braces self.weights greatest number self.character byte) (state_of self) }
     {
         match byte {
             b'0'..=b'9' => self.in_mode(Mode::Count {
@@ -269,31 +353,23 @@ impl Reader {
                     .saturating_add(u64::from(byte - b'0')),
             }),
             b'}' => self.counted(greatest.max(number), Mode::Ready),
+            b',' => {
+                let size = self.weights.optional;
+                let greatest = greatest.max(number);
+                self.larger(
+                    size,
+                    Mode::Count {
+                        greatest,
+                        number: 0,
+                    },
+                )
+            }
             _ => self.in_mode(Mode::Count {
                 greatest: greatest.max(number),
                 number: 0,
             }),
         }
     }
-}
-
-/// What a byte behind a backslash counts: a class of Unicode's characters, or a character.
-fn escaped_size(byte: u8) -> u64
-    ensures { result ≡ escaped_size byte }
-{
-    match byte {
-        b'p' | b'P' | b'w' | b'W' => LETTERS,
-        b'd' | b'D' => DIGITS,
-        b's' | b'S' => FEW,
-        _ => 1,
-    }
-}
-
-/// What a class in brackets counts, beside each byte in it. Where letters match their other cases too, these are looked for in all of it.
-fn class_size(character: u64) -> u64
-    ensures { result ≡ class_size character }
-{
-    if character == FOLDED { LETTERS } else { FEW }
 }
 
 /// Whether a byte behind a `(?` may be one of several flags.

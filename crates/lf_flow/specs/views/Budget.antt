@@ -13,9 +13,9 @@ most_tries = 16000000
 abbrev pub most_cached_words : ℕ
 most_cached_words = 4194304
 
--- the tries that reading a pattern of a size counts, and trying it on so many classes, whose texts have so many bytes
-abbrev pub tries_of : ℕ → ℕ → ℕ → ℕ
-tries_of size classes bytes = plus (plus (times size 8) 1000) (plus (times size bytes / 128) classes)
+-- the tries that reading a pattern of a size counts, and trying it, of a width, on so many classes, whose texts have so many bytes
+abbrev pub tries_of : ℕ → ℕ → ℕ → ℕ → ℕ
+tries_of size width classes bytes = plus (plus (times size 8) 1000) (plus (times width bytes / 8) classes)
 
 module _ (u : Listing) (label : ℕ) where
   -- the bytes of the texts of so many classes of a label; 'any other text', the last class, has none

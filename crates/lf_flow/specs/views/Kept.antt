@@ -8,7 +8,7 @@ use Rattle.lf_semantics.specs.ClassRows.{Sets, bottom}
 use Rattle.lf_semantics.specs.Listing.{Listing}
 use Rattle.lf_semantics.specs.Parts.{type_by_form}
 use Rattle.lf_semantics.specs.RowTable.{Environment, bare_row, row_of}
-use Rattle.lf_flow.specs.declared.given.Given.{Given}
+use Rattle.lf_flow.specs.declared.typed_row.TypedRow.{TypedRow}
 
 module _ (u : Listing) where
   -- a row that isn't made yet is that of the one sample without labels
@@ -17,9 +17,9 @@ module _ (u : Listing) where
   made_row (Some row) = row
 
   -- the row of an operand, and the empty row where there is none
-  abbrev pub operand_row : Option Given → Sets
+  abbrev pub operand_row : Option TypedRow → Sets
   operand_row None = bottom u
-  operand_row (Some given) = made_row given.row
+  operand_row (Some typed) = made_row typed.row
 
   module _ (env : Environment) where
     -- the row of a number isn't made
@@ -28,9 +28,9 @@ module _ (u : Listing) where
     kept_row e = Some (row_of u env e)
 
     -- what is told of an expression: its row, and the type that its form tells
-    abbrev pub given_of : Tree → Given
-    given_of e = record { row = kept_row e; form = type_by_form e }
+    abbrev pub typed_row_of : Tree → TypedRow
+    typed_row_of e = record { row = kept_row e; form = type_by_form e }
 
     -- what is told of the operand among the arguments of a call, if it has one
-    abbrev pub operand_given : Option Signature → Trees → List Given
-    operand_given called args = map given_of (chosen (operand_part called) (list args))
+    abbrev pub typed_operand : Option Signature → Trees → List TypedRow
+    typed_operand called args = map typed_row_of (chosen (operand_part called) (list args))

@@ -1,12 +1,14 @@
--- How the code counts the size of a pattern, from left to right: with a sum for each open group.
+-- How the code measures a pattern, from left to right: with a sum for each open group.
 use Rattle.std.specs.Prelude.{ℕ, max, List, [], ◌∷◌, reverse}
 use Rattle.lf_sizes.specs.Sizes.{Mark, Said, atom, closes, count, more, opens, plus, says, times}
 use Rattle.lf_sizes.specs.declared.size.Mode.{Mode}
 use Rattle.lf_sizes.specs.declared.size.Mode.TheVariants.{Ready}
 use Rattle.lf_sizes.specs.declared.size.Reader.{Reader}
+use Rattle.lf_sizes.specs.declared.size.Weights.{Weights}
 
--- where the next byte stands, the size of a character, the size of what a count would count, that of what stands before it in its group, and of what stands before each open group, the innermost first
+-- what classes count, where the next byte stands, the size of a character, the size of what a count would count, that of what stands before it in its group, and of what stands before each open group, the innermost first
 pub record State : Type 0 where
+  pub weights : Weights
   pub mode : Mode
   pub character : ℕ
   pub last : ℕ
@@ -14,10 +16,10 @@ pub record State : Type 0 where
   pub outer : List ℕ
 
 abbrev pub state_of : Reader → State
-state_of r = record { mode = r.mode; character = r.character; last = r.last; sum = r.sum; outer = reverse r.outer }
+state_of r = record { weights = r.weights; mode = r.mode; character = r.character; last = r.last; sum = r.sum; outer = reverse r.outer }
 
-abbrev pub start : State
-start = record { mode = Ready; character = 1; last = 0; sum = 0; outer = [] }
+abbrev pub start : Weights → State
+start w = record { weights = w; mode = Ready; character = 1; last = 0; sum = 0; outer = [] }
 
 -- ---- a mark is read
 
@@ -40,10 +42,10 @@ marked_all (m ∷ ms) s = marked_all ms (marked m s)
 -- ---- a byte is read
 
 abbrev pub reads : Said → State → State
-reads w s = record (marked_all w.marks s) { mode = w.next; character = w.character }
+reads w s = record (marked_all w.marks s) { weights = s.weights; mode = w.next; character = w.character }
 
 unfoldable pub stepped : State → ℕ → State
-stepped s c = reads (says s.mode s.character c) s
+stepped s c = reads (says s.weights s.mode s.character c) s
 
 -- ---- all is read
 

@@ -9,9 +9,9 @@ pub loop-number-preserved : goal.loop-number-preserved
 loop-number-preserved c =
     let n : ℕ = c.loop-number.number in
     let old : List ℕ = c.args.numbers.now.keys in
-    let new : List ℕ = c.add.new.numbers.keys in
+    let new : List ℕ = c.add_number.new.found.keys in
     let P : List ℕ → Type 0 = λ l. Adds l old new in
-    subst P (sym (range_more n)) (adds_then (range_with_len 0 n) (n ∷ []) old c.loop-number.numbers.keys new c.loop-number.invariant c.in_ok-add.ensures)
+    subst P (sym (range_more n)) (adds_then (range_with_len 0 n) (n ∷ []) old c.loop-number.numbers.keys new c.loop-number.invariant c.in_ok-add_number.ensures)
 
 pub returns : goal.returns
 returns c =

@@ -12,11 +12,11 @@ use Rattle.lf_semantics.specs.ClassRows.{Sets}
 use Rattle.lf_semantics.specs.Parts.{is_scalar_part}
 use Rattle.lf_semantics.specs.RowTable.{binary_row, call_row, row_at, row_of, selector_row}
 use Rattle.lf_nodes.proofs.Parts.{first_of_two, second_of_two, the_one}
-use Rattle.lf_flow.specs.declared.given.Given.{Given}
-use Rattle.lf_flow.specs.views.Kept.{given_of, kept_row, made_row, operand_given}
+use Rattle.lf_flow.specs.declared.typed_row.TypedRow.{TypedRow}
+use Rattle.lf_flow.specs.views.Kept.{kept_row, made_row, typed_operand, typed_row_of}
 use Rattle.lf_nodes.specs.views.Needed.{parts_needed}
 use Rattle.lf_flow.proofs.KeptRows.{made_is, made_shape}
-use Rattle.lf_flow.proofs.rows.given.Goals as goal
+use Rattle.lf_flow.proofs.rows.typed_row.Goals as goal
 
 -- selectors
 
@@ -24,7 +24,7 @@ pub returns-in-Selector-clause-row : goal.returns-in-Selector-clause-row
 returns-in-Selector-clause-row c =
     let u = c.args.universe.now in
     let env = c.args.env.now in
-    let P : Option Sets → Type 0 = λ row. IfOk c.selector.result (λ given. given.row ≡ row) in
+    let P : Option Sets → Type 0 = λ row. IfOk c.selector.result (λ typed. typed.row ≡ row) in
     subst P (ap (λ ms. Some (selector_row u env c.in-Selector.name ms)) c.as_slice.ensures ∙ sym (ap (λ (e : Expr). kept_row u env (tree e)) c.in-Selector.is)) c.selector.ensures.row
 
 -- signs and operators
@@ -34,8 +34,8 @@ signed-requires c =
     let u = c.args.universe.now in
     let env = c.args.env.now in
     let of : Tree = tree c.in-Unary.of.value in
-    let own : c.args.parts.items ≡ given_of u env of ∷ [] =
-    c.requires.parts ∙ ap (λ (e : Expr). map (given_of u env) (chosen (parts_needed (tree e)) (parts_of (tree e)))) c.in-Unary.is in
+    let own : c.args.parts.items ≡ typed_row_of u env of ∷ [] =
+    c.requires.parts ∙ ap (λ (e : Expr). map (typed_row_of u env) (chosen (parts_needed (tree e)) (parts_of (tree e)))) c.in-Unary.is in
     record { shape = made_shape u env c.requires.listing c.requires.env of _ (the_one c.the_only-in-Unary.ensures own) }
 
 pub binary-requires-clause-left : goal.binary-requires-clause-left
@@ -44,8 +44,8 @@ binary-requires-clause-left c =
     let env = c.args.env.now in
     let left : Tree = tree c.in-Binary.left.value in
     let right : Tree = tree c.in-Binary.right.value in
-    let own : c.args.parts.items ≡ given_of u env left ∷ given_of u env right ∷ [] =
-    c.requires.parts ∙ ap (λ (e : Expr). map (given_of u env) (chosen (parts_needed (tree e)) (parts_of (tree e)))) c.in-Binary.is in
+    let own : c.args.parts.items ≡ typed_row_of u env left ∷ typed_row_of u env right ∷ [] =
+    c.requires.parts ∙ ap (λ (e : Expr). map (typed_row_of u env) (chosen (parts_needed (tree e)) (parts_of (tree e)))) c.in-Binary.is in
     made_shape u env c.requires.listing c.requires.env left _ (first_of_two c.both-left.ensures own)
 
 pub binary-requires-clause-right : goal.binary-requires-clause-right
@@ -54,8 +54,8 @@ binary-requires-clause-right c =
     let env = c.args.env.now in
     let left : Tree = tree c.in-Binary.left.value in
     let right : Tree = tree c.in-Binary.right.value in
-    let own : c.args.parts.items ≡ given_of u env left ∷ given_of u env right ∷ [] =
-    c.requires.parts ∙ ap (λ (e : Expr). map (given_of u env) (chosen (parts_needed (tree e)) (parts_of (tree e)))) c.in-Binary.is in
+    let own : c.args.parts.items ≡ typed_row_of u env left ∷ typed_row_of u env right ∷ [] =
+    c.requires.parts ∙ ap (λ (e : Expr). map (typed_row_of u env) (chosen (parts_needed (tree e)) (parts_of (tree e)))) c.in-Binary.is in
     made_shape u env c.requires.listing c.requires.env right _ (second_of_two c.both-left.ensures own)
 
 pub returns-in-Binary-clause-row : goal.returns-in-Binary-clause-row
@@ -65,13 +65,13 @@ returns-in-Binary-clause-row c =
     let s = c.in-Binary in
     let left : Tree = tree s.left.value in
     let right : Tree = tree s.right.value in
-    let own : c.args.parts.items ≡ given_of u env left ∷ given_of u env right ∷ [] =
-    c.requires.parts ∙ ap (λ (e : Expr). map (given_of u env) (chosen (parts_needed (tree e)) (parts_of (tree e)))) s.is in
-    let row : Given → Given → Option Sets = λ l r. Some (binary_row u s.op s.modifier (is_scalar l.form) (is_scalar r.form) (made_row u l.row) (made_row u r.row)) in
-    let P : Option Sets → Type 0 = λ x. IfOk c.binary.result (λ given. given.row ≡ x) in
+    let own : c.args.parts.items ≡ typed_row_of u env left ∷ typed_row_of u env right ∷ [] =
+    c.requires.parts ∙ ap (λ (e : Expr). map (typed_row_of u env) (chosen (parts_needed (tree e)) (parts_of (tree e)))) s.is in
+    let row : TypedRow → TypedRow → Option Sets = λ l r. Some (binary_row u s.op s.modifier (is_scalar l.form) (is_scalar r.form) (made_row u l.row) (made_row u r.row)) in
+    let P : Option Sets → Type 0 = λ x. IfOk c.binary.result (λ typed. typed.row ≡ x) in
     subst P
     (ap (λ l. row l c.both-left.result.1) (first_of_two c.both-left.ensures own)
-    ∙ ap (row (given_of u env left)) (second_of_two c.both-left.ensures own)
+    ∙ ap (row (typed_row_of u env left)) (second_of_two c.both-left.ensures own)
     ∙ ap (λ x. Some (binary_row u s.op s.modifier (is_scalar_part left) (is_scalar_part right) x (made_row u (kept_row u env right)))) (made_is u env left)
     ∙ ap (λ x. Some (binary_row u s.op s.modifier (is_scalar_part left) (is_scalar_part right) (row_of u env left) x)) (made_is u env right)
     ∙ sym (ap (λ (e : Expr). kept_row u env (tree e)) s.is))
@@ -86,7 +86,7 @@ call-requires-clause-parts c =
     let s = c.in-Call in
     let o = option_map signature_of c.args.function in
     let is = tree_call c.args.expr.now s.name s.args s.span s.is in
-    (env, c.requires.env, c.requires.parts ∙ ap (λ (e : Tree). map (given_of u env) (chosen (parts_needed e) (parts_of e))) is ∙ ap (λ (o : Option Signature). operand_given u env o (trees s.args)) (sym (c.requires.function ∙ ap called_by is)))
+    (env, c.requires.env, c.requires.parts ∙ ap (λ (e : Tree). map (typed_row_of u env) (chosen (parts_needed e) (parts_of e))) is ∙ ap (λ (o : Option Signature). typed_operand u env o (trees s.args)) (sym (c.requires.function ∙ ap called_by is)))
 
 pub returns-in-Call-clause-row : goal.returns-in-Call-clause-row
 returns-in-Call-clause-row c =
@@ -95,8 +95,8 @@ returns-in-Call-clause-row c =
     let s = c.in-Call in
     let is = tree_call c.args.expr.now s.name s.args s.span s.is in
     let named : option_map signature_of c.args.function ≡ function_named s.name = c.requires.function ∙ ap called_by is in
-    let own = c.requires.parts ∙ ap (λ (e : Tree). map (given_of u env) (chosen (parts_needed e) (parts_of e))) is ∙ ap (λ (o : Option Signature). operand_given u env o (trees s.args)) (sym named) in
-    let P : Option Sets → Type 0 = λ x. IfOk c.call.result (λ given. given.row ≡ x) in
+    let own = c.requires.parts ∙ ap (λ (e : Tree). map (typed_row_of u env) (chosen (parts_needed e) (parts_of e))) is ∙ ap (λ (o : Option Signature). typed_operand u env o (trees s.args)) (sym named) in
+    let P : Option Sets → Type 0 = λ x. IfOk c.call.result (λ typed. typed.row ≡ x) in
     subst P (ap (λ (o : Option Signature). Some (call_row u o Ungrouped (trees s.args) (row_at u env (trees s.args)))) named ∙ sym (ap (kept_row u env) is)) (c.call.ensures.row env own)
 
 pub call-requires-in-Aggregate-clause-parts : goal.call-requires-in-Aggregate-clause-parts
@@ -106,7 +106,7 @@ call-requires-in-Aggregate-clause-parts c =
     let s = c.in-Aggregate in
     let o = option_map signature_of c.args.function in
     let is = tree_aggregate c.args.expr.now s.op s.grouping s.args s.span s.is in
-    (env, c.requires.env, c.requires.parts ∙ ap (λ (e : Tree). map (given_of u env) (chosen (parts_needed e) (parts_of e))) is ∙ ap (λ (o : Option Signature). operand_given u env o (trees s.args)) (sym (c.requires.function ∙ ap called_by is)))
+    (env, c.requires.env, c.requires.parts ∙ ap (λ (e : Tree). map (typed_row_of u env) (chosen (parts_needed e) (parts_of e))) is ∙ ap (λ (o : Option Signature). typed_operand u env o (trees s.args)) (sym (c.requires.function ∙ ap called_by is)))
 
 pub returns-in-Aggregate-clause-row : goal.returns-in-Aggregate-clause-row
 returns-in-Aggregate-clause-row c =
@@ -115,6 +115,6 @@ returns-in-Aggregate-clause-row c =
     let s = c.in-Aggregate in
     let is = tree_aggregate c.args.expr.now s.op s.grouping s.args s.span s.is in
     let named : option_map signature_of c.args.function ≡ Some (aggregation s.op) = c.requires.function ∙ ap called_by is in
-    let own = c.requires.parts ∙ ap (λ (e : Tree). map (given_of u env) (chosen (parts_needed e) (parts_of e))) is ∙ ap (λ (o : Option Signature). operand_given u env o (trees s.args)) (sym named) in
-    let P : Option Sets → Type 0 = λ x. IfOk c.call-in-Aggregate.result (λ given. given.row ≡ x) in
+    let own = c.requires.parts ∙ ap (λ (e : Tree). map (typed_row_of u env) (chosen (parts_needed e) (parts_of e))) is ∙ ap (λ (o : Option Signature). typed_operand u env o (trees s.args)) (sym named) in
+    let P : Option Sets → Type 0 = λ x. IfOk c.call-in-Aggregate.result (λ typed. typed.row ≡ x) in
     subst P (ap (λ (o : Option Signature). Some (call_row u o s.grouping (trees s.args) (row_at u env (trees s.args)))) named ∙ sym (ap (kept_row u env) is)) (c.call-in-Aggregate.ensures.row env own)

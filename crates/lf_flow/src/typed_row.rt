@@ -25,12 +25,12 @@ use std::alloc::Global;
 
 /// The row of an expression, and the type that its form tells. With no row it is that of the one sample without labels, which is made only where it is looked at.
 #[derive(Drop)]
-pub struct Given {
+pub struct TypedRow {
     pub row: Option<Row>,
     pub form: ExprType,
 }
 
-impl Given {
+impl TypedRow {
     /// The row.
     pub fn into_row(self, alloc: Global, universe: &Universe) -> Result<Row, Memory>
         ensures { IfOk result (λ row. row ≡ made_row universe.now self.row) }
@@ -42,13 +42,13 @@ impl Given {
     }
 }
 
-impl Copied for Given {
-    fn copied(&self, _alloc: Global) -> Result<Given, Memory> {
+impl Copied for TypedRow {
+    fn copied(&self, _alloc: Global) -> Result<TypedRow, Memory> {
         let row = match &self.row {
             Some(row) => Some(row.copy()?),
             None => None,
         };
-        Ok(Given {
+        Ok(TypedRow {
             row,
             form: self.form,
         })
@@ -56,11 +56,11 @@ impl Copied for Given {
 }
 
 /// A number.
-pub fn number() -> Given
+pub fn number() -> TypedRow
     ensures row { result.row ≡ None }
     ensures form { result.form ≡ ExprType.Scalar }
 {
-    Given {
+    TypedRow {
         row: None,
         form: ExprType::Scalar,
     }
@@ -68,12 +68,12 @@ pub fn number() -> Given
 
 /// What gives no sample, and is of this type.
 #[inline(never)]
-pub fn empty(alloc: Global, universe: &Universe, form: ExprType) -> Result<Given, Memory>
-    ensures row { IfOk result (λ given. given.row ≡ Some (bottom universe.now)) }
-    ensures form { IfOk result (λ given. given.form ≡ form) }
+pub fn empty(alloc: Global, universe: &Universe, form: ExprType) -> Result<TypedRow, Memory>
+    ensures row { IfOk result (λ typed. typed.row ≡ Some (bottom universe.now)) }
+    ensures form { IfOk result (λ typed. typed.form ≡ form) }
 {
     let row = Row::empty(alloc, universe)?;
-    Ok(Given {
+    Ok(TypedRow {
         row: Some(row),
         form,
     })
@@ -87,38 +87,38 @@ pub fn selector(
     name: &Option<Text>,
     matchers: &[Matcher],
     range: &Option<Text>,
-) -> Result<Given, Memory>
+) -> Result<TypedRow, Memory>
     requires env { IsEnvironment universe.now env.now }
-    ensures row { IfOk result (λ given. given.row ≡ Some (selector_row universe.now env.now name.now matchers.now)) }
-    ensures form { IfOk result (λ given. given.form ≡ selected range.now) }
+    ensures row { IfOk result (λ typed. typed.row ≡ Some (selector_row universe.now env.now name.now matchers.now)) }
+    ensures form { IfOk result (λ typed. typed.form ≡ selected range.now) }
 {
     let row = select(alloc, universe, env, name, matchers)?;
-    Ok(Given {
+    Ok(TypedRow {
         row: Some(row),
         form: selected(range),
     })
 }
 
 /// An operand in parentheses.
-pub fn whole(alloc: Global, universe: &Universe, operand: Given) -> Result<Given, Memory>
-    ensures row { IfOk result (λ given. given.row ≡ Some (made_row universe.now operand.row)) }
-    ensures form { IfOk result (λ given. given.form ≡ operand.form) }
+pub fn whole(alloc: Global, universe: &Universe, operand: TypedRow) -> Result<TypedRow, Memory>
+    ensures row { IfOk result (λ typed. typed.row ≡ Some (made_row universe.now operand.row)) }
+    ensures form { IfOk result (λ typed. typed.form ≡ operand.form) }
 {
     let form = operand.form;
     let row = operand.into_row(alloc, universe)?;
-    Ok(Given {
+    Ok(TypedRow {
         row: Some(row),
         form,
     })
 }
 
 /// A subquery of this operand.
-pub fn ranged(alloc: Global, universe: &Universe, operand: Given) -> Result<Given, Memory>
-    ensures row { IfOk result (λ given. given.row ≡ Some (made_row universe.now operand.row)) }
-    ensures form { IfOk result (λ given. given.form ≡ ExprType.Range) }
+pub fn ranged(alloc: Global, universe: &Universe, operand: TypedRow) -> Result<TypedRow, Memory>
+    ensures row { IfOk result (λ typed. typed.row ≡ Some (made_row universe.now operand.row)) }
+    ensures form { IfOk result (λ typed. typed.form ≡ ExprType.Range) }
 {
     let row = operand.into_row(alloc, universe)?;
-    Ok(Given {
+    Ok(TypedRow {
         row: Some(row),
         form: ExprType::Range,
     })
@@ -129,16 +129,16 @@ pub fn signed(
     alloc: Global,
     universe: &Universe,
     minus: bool,
-    operand: Given,
-) -> Result<Given, Memory>
+    operand: TypedRow,
+) -> Result<TypedRow, Memory>
     requires shape { HasShape universe.now (made_row universe.now operand.row) }
-    ensures row { IfOk result (λ given. given.row ≡ Some (sign_row universe.now minus (made_row universe.now operand.row))) }
-    ensures form { IfOk result (λ given. given.form ≡ operand.form) }
+    ensures row { IfOk result (λ typed. typed.row ≡ Some (sign_row universe.now minus (made_row universe.now operand.row))) }
+    ensures form { IfOk result (λ typed. typed.form ≡ operand.form) }
 {
     let form = operand.form;
     let row = operand.into_row(alloc, universe)?;
     let row = if minus { nameless(universe, row) } else { row };
-    Ok(Given {
+    Ok(TypedRow {
         row: Some(row),
         form,
     })
@@ -150,17 +150,17 @@ pub fn binary(
     universe: &Universe,
     op: Op,
     matching: &Matching,
-    left: Given,
-    right: Given,
-) -> Result<Given, Memory>
+    left: TypedRow,
+    right: TypedRow,
+) -> Result<TypedRow, Memory>
     requires left { HasShape universe.now (made_row universe.now left.row) }
     requires right { HasShape universe.now (made_row universe.now right.row) }
-    ensures row { IfOk result (λ given. given.row ≡ Some (binary_row universe.now op matching.now (is_scalar left.form) (is_scalar right.form) (made_row universe.now left.row) (made_row universe.now right.row))) }
-    ensures form { IfOk result (λ given. given.form ≡ joined left.form right.form) }
+    ensures row { IfOk result (λ typed. typed.row ≡ Some (binary_row universe.now op matching.now (is_scalar left.form) (is_scalar right.form) (made_row universe.now left.row) (made_row universe.now right.row))) }
+    ensures form { IfOk result (λ typed. typed.form ≡ joined left.form right.form) }
 {
     let form = joined(left.form, right.form);
     let row = operate(alloc, universe, op, matching, left, right)?;
-    Ok(Given {
+    Ok(TypedRow {
         row: Some(row),
         form,
     })
@@ -173,30 +173,34 @@ pub fn called(
     function: Option<Function>,
     grouping: &Grouping,
     args: &[Expr],
-    operand: Option<Given>,
-) -> Result<Given, Memory>
+    operand: Option<TypedRow>,
+) -> Result<TypedRow, Memory>
     requires listing { IsListing universe.now }
     requires shape { HasShape universe.now (operand_row universe.now operand) }
-    ensures row { IfOk result (λ given. given.row ≡ Some (call_row universe.now (option_map signature_of function) grouping.now (trees args.now) (λ place. operand_row universe.now operand))) }
-    ensures form { IfOk result (λ given. given.form ≡ given_by (option_map signature_of function)) }
+    ensures row { IfOk result (λ typed. typed.row ≡ Some (call_row universe.now (option_map signature_of function) grouping.now (trees args.now) (λ place. operand_row universe.now operand))) }
+    ensures form { IfOk result (λ typed. typed.form ≡ given_by (option_map signature_of function)) }
 {
     let Some(function) = function else {
         return empty(alloc, universe, ExprType::Vector);
     };
     let operand = row_or_empty(alloc, universe, operand)?;
     let row = effect(alloc, universe, function.labels, grouping, args, operand)?;
-    Ok(Given {
+    Ok(TypedRow {
         row: Some(row),
         form: function.gives,
     })
 }
 
 /// The row of an operand, and the empty row where there is none.
-fn row_or_empty(alloc: Global, universe: &Universe, operand: Option<Given>) -> Result<Row, Memory>
+fn row_or_empty(
+    alloc: Global,
+    universe: &Universe,
+    operand: Option<TypedRow>,
+) -> Result<Row, Memory>
     ensures { IfOk result (λ row. row ≡ operand_row universe.now operand) }
 {
     match operand {
-        Some(given) => given.into_row(alloc, universe),
+        Some(typed) => typed.into_row(alloc, universe),
         None => Row::empty(alloc, universe),
     }
 }
