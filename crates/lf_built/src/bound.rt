@@ -1,11 +1,12 @@
 //! How many selectors may be built.
-ghost use Rattle.std.specs.Prelude.{◌≡◌, ◌+◌, ◌*◌, eqb, cond, length, List, IfOk};
+ghost use Rattle.std.specs.Prelude.{◌≡◌, ◌*◌, eqb, cond, length, List, IfOk};
 ghost use Rattle.lf_ast.specs.Rules.{RuleTree};
 ghost use Rattle.lf_deps.specs.views.Sources.{IsSourcesOf};
 ghost use Rattle.lf_trials.specs.Built.{selector_count};
 ghost use Rattle.lf_trials.specs.Reached.{with_reach};
 ghost use Rattle.lf_built.specs.views.Counts.{others, selected};
 
+use lf_base::counts::sum;
 use lf_base::{Memory, Seq};
 use lf_deps::Sources;
 
@@ -15,7 +16,7 @@ pub fn most_selectors(sources: &Sources, reach: &Seq<u32>, i: u32) -> Result<usi
 {
     let mut count = selected(sources, i);
     for k in reach.as_slice() {
-        count = add(count, unless_same(i, *k, selected(sources, *k)))?;
+        count = sum(count, unless_same(i, *k, selected(sources, *k)))?;
     }
     four_times(count)
 }
@@ -37,16 +38,6 @@ fn unless_same(i: u32, k: u32, count: usize) -> usize
     ensures { result ≡ cond (eqb i k) 0 count }
 {
     if i == k { 0 } else { count }
-}
-
-/// The sum. Want of memory where it doesn't fit.
-pub fn add(count: usize, more: usize) -> Result<usize, Memory>
-    ensures { IfOk result (λ sum. sum ≡ count + more) }
-{
-    match count.checked_add(more) {
-        Some(sum) => Ok(sum),
-        None => Err(Memory),
-    }
 }
 
 /// Four times a count. Want of memory where it doesn't fit.

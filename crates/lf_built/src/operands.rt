@@ -13,10 +13,9 @@ ghost use Rattle.lf_candidates.specs.views.ClassTexts.{KnowsBuckets, Stands, Sta
 ghost use Rattle.lf_built.specs.views.Marking.{effect_lost};
 ghost use Rattle.lf_built.specs.views.Tasks.{effect_texts, nameless_if};
 
-use crate::sides::unless_dropped;
 use lf_ast::{Expr, LabelEffect, text_at};
 use lf_base::Text;
-use lf_candidates::{LabelTexts, MetricName, OneLabel};
+use lf_candidates::{LabelTexts, MetricName, OneLabel, unless_lost};
 use lf_classes::Universe;
 
 /// The texts that the operand of a function or an aggregation with this effect gets, and none where nothing is built. The names are those of the labels, in their order.
@@ -92,7 +91,7 @@ pub fn without_marked(marks: &[bool], mut texts: LabelTexts) -> LabelTexts
 {
     for label in 0..marks.len() {
         let lost = marks[label];
-        texts.put(label, unless_dropped(lost, texts.get(label)));
+        texts.put(label, unless_lost(lost, texts.get(label)));
     }
     texts
 }

@@ -1,8 +1,6 @@
 //! The rules of each recorded name.
-ghost use Rattle.std.specs.Prelude.{◌≡◌, ◌∷◌, ◌++◌, [], List, cond, length, IfOk, OnOk};
+ghost use Rattle.std.specs.Prelude.{◌≡◌, ◌∷◌, ◌++◌, [], List, length, IfOk, OnOk};
 ghost use Rattle.lf_ast.specs.Rules.{RuleTree, rule_tree, rule_trees};
-ghost use Rattle.lf_classes.specs.views.TextSets.{with_text};
-ghost use Rattle.lf_deps.specs.views.Makers.{with_maker};
 ghost use Rattle.lf_deps.specs.views.Search.{numbers_of};
 ghost use Rattle.lf_semantics.specs.Environments.{records};
 ghost use Rattle.lf_built.specs.views.Recorders.{AreRecordersOf};
@@ -10,6 +8,7 @@ ghost use Rattle.lf_built.specs.views.Recorders.{AreRecordersOf};
 use lf_ast::Rule;
 use lf_base::{Memory, Seq};
 use lf_classes::TextSet;
+use lf_deps::list_rule;
 use lf_graph::Buckets;
 use std::alloc::Global;
 use std::marker::Model;
@@ -65,39 +64,4 @@ impl Recorders {
     {
         list_rule(alloc, &mut self.names, &mut self.numbers, rule, count)
     }
-}
-
-/// Puts the number of a rule behind those of the rules that record its name. An alert records none.
-fn list_rule(
-    alloc: Global,
-    names: &mut TextSet,
-    numbers: &mut Buckets,
-    rule: &Rule,
-    number: usize,
-) -> Result<(), Memory>
-    requires { length numbers.old ≡ length names.old }
-    ensures names { OnOk result (names.new ≡ cond rule.now.alert names.old (with_text names.old rule.now.name)) }
-    ensures numbers { OnOk result (numbers.new ≡ cond rule.now.alert numbers.old (with_maker names.old numbers.old rule.now.name number)) }
-{
-    if rule.alert {
-        return Ok(());
-    }
-    list(alloc, names, numbers, rule.name.as_str(), number)
-}
-
-/// Puts the number of a rule behind those of a name.
-fn list(
-    alloc: Global,
-    names: &mut TextSet,
-    numbers: &mut Buckets,
-    name: &str,
-    number: usize,
-) -> Result<(), Memory>
-    requires { length numbers.old ≡ length names.old }
-    ensures names { OnOk result (names.new ≡ with_text names.old name.now) }
-    ensures numbers { OnOk result (numbers.new ≡ with_maker names.old numbers.old name.now number) }
-{
-    let place = names.add(alloc, name)?;
-    numbers.make_room(alloc, place)?;
-    numbers.push(place, number)
 }

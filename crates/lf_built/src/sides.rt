@@ -14,7 +14,7 @@ ghost use Rattle.lf_built.specs.views.Sides.{AreSides};
 
 use crate::marking::SideMark;
 use lf_base::{Memory, Seq};
-use lf_candidates::{LabelTexts, first_common_class};
+use lf_candidates::{LabelTexts, first_common_class, unless_lost};
 use lf_classes::{Row, Universe};
 
 /// The texts that the left and the right side of a match get.
@@ -90,17 +90,10 @@ fn signature_class(
     if !is_signed {
         return None;
     }
-    match unless_dropped(dropped, class) {
+    match unless_lost(dropped, class) {
         Some(class) => Some(class),
         None => first_common_class(universe, left, right, label),
     }
-}
-
-/// What is said of a label, but nothing where the result drops it.
-pub fn unless_dropped(dropped: bool, class: Option<u32>) -> Option<u32>
-    ensures { result ≡ cond dropped None class }
-{
-    if dropped { None } else { class }
 }
 
 /// Whether a label of the signature is left without a text.

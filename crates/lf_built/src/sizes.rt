@@ -3,10 +3,10 @@ ghost use Rattle.std.specs.Prelude.{◌≡◌, ◌+◌, map, sum, IfOk};
 ghost use Rattle.lf_ast.specs.Tree.{parts_of, tree, nodes};
 ghost use Rattle.lf_built.specs.views.Places.{size};
 
-use crate::bound::add;
 use lf_ast::Expr;
 use lf_ast::walk::{Fold, Parts};
 use lf_base::Memory;
+use lf_base::counts::sum;
 use lf_parts::fold_parts;
 use std::alloc::Global;
 
@@ -59,7 +59,7 @@ fn one_and(sizes: &[usize]) -> Result<usize, Memory>
 {
     let mut count: usize = 1;
     for size in sizes {
-        count = add(count, *size)?;
+        count = sum(count, *size)?;
     }
     Ok(count)
 }

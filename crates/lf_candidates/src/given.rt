@@ -171,8 +171,8 @@ impl LabelTexts {
     }
 }
 
-/// Nothing where it is lost.
-fn unless_lost(lost: bool, class: Option<u32>) -> Option<u32>
+/// What is said of a label, but nothing where it is lost.
+pub fn unless_lost(lost: bool, class: Option<u32>) -> Option<u32>
     ensures { result ≡ cond lost None class }
 {
     if lost { None } else { class }

@@ -13,7 +13,7 @@ pub use candidates::{first_class, first_class_with, first_common_class, other_na
 pub use choosing::{
     MetricName, OneLabel, OutsideCount, OutsideGroup, SetByRule, drops, left_gives, right_gives,
 };
-pub use given::LabelTexts;
+pub use given::{LabelTexts, unless_lost};
 pub use labels::label_names;
 pub use named_row::NamedRow;
 pub use names::{is_recorded, is_scraped_name, name_for, passes_as_name};

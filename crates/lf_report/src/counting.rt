@@ -8,6 +8,7 @@ ghost use Rattle.lf_report.specs.views.Totals.{AreTotals, IsWith, is_of};
 use crate::{Finding, Report, RuleReport, Severity};
 use lf_ast::{RuleVerdicts, Verdict};
 use lf_base::Memory;
+use lf_base::counts::sum;
 
 impl Report {
     /// How many files are refused.
@@ -120,16 +121,6 @@ impl Totals {
             )?,
             empty: sum(self.empty, empty_in(rule))?,
         })
-    }
-}
-
-/// The sum of two numbers.
-fn sum(a: usize, b: usize) -> Result<usize, Memory>
-    ensures { IfOk result (λ n. n ≡ a + b) }
-{
-    match a.checked_add(b) {
-        Some(n) => Ok(n),
-        None => Err(Memory),
     }
 }
 

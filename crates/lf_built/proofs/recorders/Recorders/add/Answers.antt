@@ -17,13 +17,13 @@ returns c =
     let names : List Bytes = c.self.inside.names in
     let numbers : List (List ℕ) = c.self.inside.numbers in
     let A : Type 0 = c.list_rule.new.names ≡ cond r.alert names (with_text names r.name) in
-    let B : Type 0 = c.list_rule.new.numbers ≡ cond r.alert numbers (with_maker names numbers r.name c.args.count) in
+    let B : Type 0 = c.list_rule.new.makers ≡ cond r.alert numbers (with_maker names numbers r.name c.args.count) in
     let R : Type 0 = (rules : List RuleTree) → length rules ≡ c.args.count → AreRecordersOf rules c.args.self.now
-    → AreRecordersOf (rules ++ r ∷ []) (record { names = c.list_rule.new.names; numbers = c.list_rule.new.numbers }) in
+    → AreRecordersOf (rules ++ r ∷ []) (record { names = c.list_rule.new.names; numbers = c.list_rule.new.makers }) in
     on_both A B R c.list_rule.result
     (λ a b rules count are.
     let P : Recorders → Type 0 = λ s. AreRecordersOf rules s in
     let Q : Recorders → Type 0 = λ s. AreRecordersOf (rules ++ r ∷ []) s in
     let put = b ∙ ap (λ n. cond r.alert numbers (with_maker names numbers r.name n)) (sym count) in
     subst Q (sym (recorders_as a put)) (one_rule_more rules names numbers r (subst P (sym c.self.view_is) are)))
-    c.list_rule.ensures.names c.list_rule.ensures.numbers
+    c.list_rule.ensures.names c.list_rule.ensures.makers
