@@ -1,10 +1,11 @@
 //! Candidates: the texts that stand for classes, and the name that stands for `*`.
-ghost use Rattle.std.specs.Prelude.{◌≡◌, ◌<◌, ◌++◌, ◌&&◌, [], ℕ, cond, codes, decimal, eqb, false, length, not, slice_index_or, IfOk};
+ghost use Rattle.std.specs.Prelude.{◌≡◌, ◌<◌, ◌++◌, cond, codes, decimal, eqb, length, not, IfOk};
 ghost use Rattle.std.specs.List.{find};
 ghost use Rattle.std.specs.Option.{option_map};
-ghost use Rattle.lf_semantics.specs.ClassRows.{HasShape, Sets, holds};
+ghost use Rattle.lf_semantics.specs.ClassRows.{HasShape, Sets};
 ghost use Rattle.lf_classes.specs.Limits.{IsWithin};
 ghost use Rattle.lf_trials.specs.Candidates.{candidates_in, candidates_in_both, first, has_presence, other_name};
+ghost use Rattle.lf_trials.specs.Verdicts.{leaves};
 ghost use Rattle.lf_candidates.specs.views.ClassTexts.{IsClass, first_held, name_at, text_at};
 
 use lf_base::{Memory, Text};
@@ -99,18 +100,19 @@ pub fn first_class_with(universe: &Universe, row: &Row, label: u32, presence: bo
     ensures class { IsClass universe.now label result }
     ensures candidate { option_map (text_at universe.now label) result ≡ find (has_presence presence) (candidates_in universe.now row.now (name_at universe.now label)) }
 {
-    if may_have(row, label, presence) {
+    if leaves(universe, row, label, presence) {
         first_found(universe, row, label, presence)
     } else {
         None
     }
 }
 
-/// Whether a row leaves a label a presence, told of all classes at once: many labels have thousands.
-fn may_have(row: &Row, label: u32, presence: bool) -> bool
-    requires label { label < length row.now }
-    requires classes { 0 < length (slice_index_or row.now label []) }
-    ensures { result ≡ false → (class : ℕ) → (holds row.now label class && cond presence (not (eqb class 0)) (eqb class 0)) ≡ false }
+/// Whether a row leaves a presence of a label, told of all classes at once: many labels have thousands.
+pub fn leaves(universe: &Universe, row: &Row, label: u32, presence: bool) -> bool
+    requires universe { IsWithin universe.now }
+    requires label { label < length universe.now.named }
+    requires shape { HasShape universe.now row.now }
+    ensures { result ≡ leaves universe.now row.now (name_at universe.now label) presence }
 {
     if presence {
         row.has_text(label)

@@ -9,7 +9,7 @@ mod named_row;
 mod names;
 mod trial;
 
-pub use candidates::{first_class, first_class_with, first_common_class, other_name};
+pub use candidates::{first_class, first_class_with, first_common_class, leaves, other_name};
 pub use choosing::{
     MetricName, OneLabel, OutsideCount, OutsideGroup, SetByRule, drops, left_gives, right_gives,
 };

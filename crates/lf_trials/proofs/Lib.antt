@@ -5,6 +5,7 @@ pub mod WorkedVerdict
 pub mod OneVerdict
 pub mod FirstFree
 pub mod MadeSeries
+pub mod BuildingInvariants
 pub mod BuiltSeries
 pub mod ShownInWorlds
 pub mod WorkedReport

@@ -1,24 +1,38 @@
 -- The series of trials are scraped ones: their texts aren't empty, and their names are neither empty nor recorded.
-use Rattle.std.proofs.Common.{◌≡◌, ◌≢◌, ◌<◌, inl, inr, ℕ, Bool, true, false, not, ◌&&◌, ◌||◌, cond, List, [], ◌∷◌, ◌++◌, length, Option, Some, None, refl, sym, ap, ◌∙◌, subst, true≢false, arith}
+use Rattle.std.proofs.Common.{◌≡◌, ◌≢◌, ◌<◌, inl, inr, ℕ, Bool, true, false, not, ◌&&◌, ◌||◌, cond, List, [], ◌∷◌, ◌++◌, length, Option, Some, None, is_some, option_and_then, refl, sym, ap, ◌∙◌, subst, true≢false, arith}
 use Rattle.std.specs.Prelude.{slice_index_or}
-use Rattle.std.specs.List.{Contains}
-use Rattle.std.specs.Option.{option_map_or}
+use Rattle.std.specs.List.{Contains, find}
+use Rattle.std.specs.Option.{option_map_or, option_or}
 use Rattle.std.specs.Str.{bytes_eq}
-use Rattle.lf_laws.proofs.Booleans.{clash}
-use Rattle.lf_laws.proofs.Members.{any_has, first_or_behind, here, none_in, same_true, true_same}
+use Rattle.std.proofs.lemmas.Option.{same_Some}
+use Rattle.lf_laws.proofs.Booleans.{and_left, clash}
+use Rattle.lf_laws.proofs.Members.{any_has, behind, first_or_behind, here, none_in, same_true, true_same}
 use Rattle.lf_ast.specs.Labels.{Bytes, Labels}
 use Rattle.lf_ast.specs.Rules.{RuleTree}
 use Rattle.lf_ast.specs.Selectors.{metric}
+use Rattle.lf_ast.specs.declared.expr.Matcher.{Matcher}
 use Rattle.lf_semantics.specs.Listing.{IsListing, Listing}
 use Rattle.lf_semantics.specs.Texts.{HasTexts, value_of}
 use Rattle.lf_semantics.proofs.GivenTexts.{bare_has_texts}
 use Rattle.lf_semantics.proofs.Kept.{with_label_has_texts}
 use Rattle.lf_semantics.proofs.LabelTexts.{value-with_label}
-use Rattle.lf_trials.specs.Candidates.{labels_in, other_name}
+use Rattle.lf_trials.specs.Candidates.{candidates, labels_in, other_name}
 use Rattle.lf_trials.specs.Given.{Given, giving, label_set, with_text}
-use Rattle.lf_trials.specs.Names.{is_scraped_name}
+use Rattle.lf_trials.specs.Names.{is_scraped_name, name_for, passes_as_name}
 use Rattle.lf_semantics.specs.Environments.{records}
 use Rattle.lf_trials.specs.Reached.{is_recorded}
+
+-- what is found is there, and passes
+abbrev pub IsIn : {X : Type 0} → (X → Bool) → List X → X → Type 0
+IsIn test xs x = Contains xs x × (test x ≡ true)
+
+pub found_in : {X : Type 0} (test : X → Bool) (xs : List X) (x : X) → find test xs ≡ Some x → IsIn test xs x
+found_in test [] x e = absurd (true≢false (sym (ap is_some e)))
+found_in {X = X} test (y ∷ xs) x e = by (test y) refl (found_in test xs x) e
+  where
+    by : (b : Bool) → test y ≡ b → (find test xs ≡ Some x → IsIn test xs x) → cond b (Some y) (find test xs) ≡ Some x → IsIn test (y ∷ xs) x
+    by true is later same = (subst (Contains (y ∷ xs)) (same_Some y x same) (here y xs), ap test (sym (same_Some y x same)) ∙ is)
+    by false is later same = let rest = later same in (behind y xs x rest.0, rest.1)
 
 -- label sets by texts
 
@@ -74,6 +88,27 @@ scraped_by_test rules name passes = by (bytes_eq name []) (is_recorded rules nam
     by true b of_a of_b e = absurd (true≢false (sym e))
     by false true of_a of_b e = absurd (true≢false (sym e))
     by false false of_a of_b e = scraped_name rules name of_a of_b
+
+-- the name that is said, where scraped series may have it
+pub said_is_scraped : (rules : List RuleTree) (said : Option Bytes) (name : Bytes) → option_and_then (λ n. cond (is_scraped_name rules n) (Some n) None) said ≡ Some name → IsScrapedName rules name
+said_is_scraped rules None name e = absurd (true≢false (sym (ap is_some e)))
+said_is_scraped rules (Some n) name e = by (is_scraped_name rules n) refl e
+  where
+    by : (b : Bool) → is_scraped_name rules n ≡ b → cond b (Some n) None ≡ Some name → IsScrapedName rules name
+    by true is same = subst (IsScrapedName rules) (same_Some n name same) (scraped_by_test rules n is)
+    by false is same = absurd (true≢false (sym (ap is_some same)))
+
+-- the name for a selector that says none
+pub named_for : (u : Listing) (rules : List RuleTree) (matchers : List Matcher) (name : Bytes) → name_for u rules matchers ≡ Some name → IsScrapedName rules name
+named_for u rules matchers name found = scraped_by_test rules name (and_left (is_scraped_name rules name) (passes_as_name matchers name) (found_in (λ text. is_scraped_name rules text && passes_as_name matchers text) (candidates u metric) name found).1)
+
+-- and the one that is taken of the two
+pub taken_name : (u : Listing) (rules : List RuleTree) (matchers : List Matcher) (said : Option Bytes) (name : Bytes) → option_or (option_and_then (λ n. cond (is_scraped_name rules n) (Some n) None) said) (name_for u rules matchers) ≡ Some name → IsScrapedName rules name
+taken_name u rules matchers said name = by (option_and_then (λ n. cond (is_scraped_name rules n) (Some n) None) said) refl
+  where
+    by : (o : Option Bytes) → option_and_then (λ n. cond (is_scraped_name rules n) (Some n) None) said ≡ o → option_or o (name_for u rules matchers) ≡ Some name → IsScrapedName rules name
+    by None is same = named_for u rules matchers name same
+    by (Some n) is same = said_is_scraped rules said name (is ∙ same)
 
 -- series
 

@@ -1,13 +1,15 @@
 -- Which rules an expression reads can be found: there is a test of which expressions hold a fork, and a reach of each.
-use Rattle.std.proofs.Common.{◌≡◌, ◌≢◌, ◌<◌, ◌≤◌, ◌↔◌, ◌⊎◌, inl, inr, ℕ, zero, suc, ◌+◌, Bool, true, false, not, ◌&&◌, ◌||◌, cond, eqb, List, [], ◌∷◌, length, get_or, Option, Some, None, refl, sym, ap, ◌∙◌, subst, true≢false, slice_get, arith}
+use Rattle.std.proofs.Common.{◌≡◌, ◌≢◌, ◌<◌, ◌≤◌, ◌↔◌, ◌⊎◌, inl, inr, ℕ, zero, suc, ◌+◌, Bool, true, false, not, ◌&&◌, ◌||◌, eqb, List, [], ◌∷◌, length, get_or, Option, Some, None, refl, sym, ap, ◌∙◌, subst, true≢false, slice_get, arith}
 use Rattle.std.specs.List.{Contains, filter, list_any, range_with_len}
 use Rattle.std.specs.Option.{option_map_or}
 use Rattle.std.specs.Str.{bytes_eq}
 use Rattle.std.proofs.lemmas.Bool.{cases_eq, eq-eqb, eqb-true, not-true, or_left, or_right}
+use Rattle.std.proofs.lemmas.List.Filters.{length-filter_both}
 use Rattle.std.proofs.lemmas.List.FromFn.{length-range_with_len}
+use Rattle.std.proofs.lemmas.List.Sums.{count_by-le-length, length-filter}
 use Rattle.std.proofs.lemmas.Option.{slice_get_within}
-use Rattle.lf_laws.proofs.Booleans.{and_left, and_right, clash}
-use Rattle.lf_laws.proofs.Members.{any_has, behind, first_or_behind, none_in, same_true, some_has, true_same}
+use Rattle.lf_laws.proofs.Booleans.{and_left, and_right}
+use Rattle.lf_laws.proofs.Members.{any_has, behind, same_true, some_has, true_same}
 use Rattle.lf_laws.proofs.Options.{same_option}
 use Rattle.lf_laws.proofs.Slices.{member_at, number_of}
 use Rattle.lf_ast.specs.Labels.{Bytes}
@@ -24,21 +26,13 @@ use Rattle.lf_trials.specs.Reached.{IsReach}
 -- lists
 
 pub shorter : {X : Type 0} (test : X → Bool) (xs : List X) → length (filter test xs) ≤ length xs
-shorter test [] = omega arith
-shorter test (x ∷ xs) = by (test x) (shorter test xs)
-  where
-    by : (b : Bool) → length (filter test xs) ≤ length xs → length (cond b (x ∷ filter test xs) (filter test xs)) ≤ suc (length xs)
-    by true h = omega (arith, h)
-    by false h = omega (arith, h)
+shorter test xs = omega (arith, length-filter test xs, count_by-le-length test xs)
 
 fewer : (k : ℕ) (xs : List ℕ) → Contains xs k → length (without k xs) < length xs
-fewer k [] c = absurd (none_in k c)
-fewer k (x ∷ xs) c = by (eqb x k) refl (fewer k xs) (shorter (λ j. not (eqb j k)) xs) (first_or_behind x xs k c)
-  where
-    by : (b : Bool) → eqb x k ≡ b → (Contains xs k → length (without k xs) < length xs) → length (without k xs) ≤ length xs → (x ≡ k) ⊎ Contains xs k → length (cond (not b) (x ∷ without k xs) (without k xs)) < suc (length xs)
-    by true is later most there = omega (arith, most)
-    by false is later most (inl e) = absurd (clash (eqb x k) (eq-eqb x k e) is)
-    by false is later most (inr rest) = let less = later rest in omega (arith, less)
+fewer k xs c =
+    let own = in_filter (λ j. eqb j k) xs k c (eq-eqb k k refl) in
+    let some = own.1 in
+    omega (arith, some, length-filter_both (λ j. eqb j k) (λ j. not (eqb j k)) (λ j. refl) xs)
 
 -- a rule that an expression selects
 record Steps (rules : List RuleTree) (e : Tree) (k : ℕ) (r : RuleTree) : Type 0 where

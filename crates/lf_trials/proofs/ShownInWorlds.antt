@@ -1,10 +1,10 @@
 -- What a trial shows is so in a world of the relational evaluation: a label that is called possible has two of them, one with a sample that has it and one with a sample
 -- that lacks it.
-use Rattle.std.proofs.Common.{◌≡◌, ◌≢◌, inl, inr, ℕ, Bool, true, false, cond, List, [], ◌∷◌, Option, Some, None, is_some, refl, sym, ap, ◌∙◌, subst, true≢false, option_and_then, slice_get}
-use Rattle.std.specs.List.{Contains, find, flat_map}
+use Rattle.std.proofs.Common.{◌≡◌, ◌≢◌, inl, inr, ℕ, Bool, true, false, cond, List, [], ◌∷◌, Option, Some, None, is_some, sym, ap, subst, true≢false, slice_get}
+use Rattle.std.specs.Prelude.{IfSome}
+use Rattle.std.specs.List.{Contains, flat_map}
 use Rattle.std.proofs.lemmas.List.Elements.{Contains-append_cases}
-use Rattle.lf_laws.proofs.Members.{behind, here, map_member, none_in, of_flat_map, only_one, true_same, same_true}
-use Rattle.std.proofs.lemmas.Option.{same_Some}
+use Rattle.lf_laws.proofs.Members.{map_member, none_in, of_flat_map, only_one, true_same, same_true}
 use Rattle.lf_laws.proofs.Slices.{member_at}
 use Rattle.lf_ast.specs.Labels.{Bytes}
 use Rattle.lf_ast.specs.Rules.{RuleTree}
@@ -15,17 +15,19 @@ use Rattle.lf_semantics.specs.RowTable.{Environment}
 use Rattle.lf_semantics.specs.Texts.{Has, value_of}
 use Rattle.lf_semantics.specs.Worlds.{AreScraped, IsSample, World}
 use Rattle.lf_semantics.proofs.ListingLaws.{of_first_seen}
+use Rattle.lf_trials.specs.Building.{Building}
 use Rattle.lf_trials.specs.Built.{IsBuilt}
 use Rattle.lf_trials.specs.Candidates.{has_presence, labels_in}
 use Rattle.lf_trials.specs.Given.{Given, giving, label_set}
-use Rattle.lf_trials.specs.Names.{is_scraped_name, name_for}
+use Rattle.lf_trials.specs.Names.{name_for}
 use Rattle.lf_trials.specs.Reached.{Trial, listed, rules_at, with_reach}
 use Rattle.lf_trials.specs.Trials.{IsFirstShown, Shown, Shows}
 use Rattle.lf_trials.specs.Selected.{Selected, selected_by}
 use Rattle.lf_trials.specs.Uniform.{IsUniform, name_said, name_unsaid, series_names, uniform_series, uniform_texts}
 use Rattle.lf_trials.specs.Verdicts.{IsLabelVerdict, Possible}
-use Rattle.lf_trials.proofs.BuiltSeries.{AreScrapedIn, building_scraped, named_for, once_there}
-use Rattle.lf_trials.proofs.MadeSeries.{IsScraped, IsScrapedName, made_is_scraped, scraped_by_test}
+use Rattle.lf_trials.proofs.BuiltSeries.{HasScraped, building_scraped, once_there}
+use Rattle.lf_trials.proofs.MadeSeries.{IsScraped, IsScrapedName, made_is_scraped, named_for, said_is_scraped}
+pub use Rattle.lf_trials.proofs.MadeSeries.{found_in}
 use Rattle.lf_witness.proofs.StrictRunIsRun.{samples_behind}
 
 pub of_listed : {X : Type 0} (o : Option X) (x : X) → Contains (listed o) x → o ≡ Some x
@@ -36,40 +38,20 @@ of_listed (Some y) x there = ap Some (only_one y x there)
 pub steps_among : (rules : List RuleTree) (numbers : List ℕ) (r : RuleTree) → Contains (rules_at rules numbers) r → Contains rules r
 steps_among rules numbers r there = let from = of_flat_map (λ k. listed (slice_get rules k)) numbers r there in member_at rules from.0 r (of_listed (slice_get rules from.0) r from.2)
 
--- what is found is there, and passes
-abbrev pub IsIn : {X : Type 0} → (X → Bool) → List X → X → Type 0
-IsIn test xs x = Contains xs x × (test x ≡ true)
-
-pub found_in : {X : Type 0} (test : X → Bool) (xs : List X) (x : X) → find test xs ≡ Some x → IsIn test xs x
-found_in test [] x e = absurd (true≢false (sym (ap is_some e)))
-found_in {X = X} test (y ∷ xs) x e = by (test y) refl (found_in test xs x) e
-  where
-    by : (b : Bool) → test y ≡ b → (find test xs ≡ Some x → IsIn test xs x) → cond b (Some y) (find test xs) ≡ Some x → IsIn test (y ∷ xs) x
-    by true is later same = (subst (Contains (y ∷ xs)) (same_Some y x same) (here y xs), ap test (sym (same_Some y x same)) ∙ is)
-    by false is later same = let rest = later same in (behind y xs x rest.0, rest.1)
-
 module _ (u : Listing) (env : Environment) (rules : List RuleTree) (listing : IsListing u) where
   -- the series of trials are scraped
-
-  said_is_scraped : (said : Option Bytes) (name : Bytes) → option_and_then (λ n. cond (is_scraped_name rules n) (Some n) None) said ≡ Some name → IsScrapedName rules name
-  said_is_scraped None name e = absurd (true≢false (sym (ap is_some e)))
-  said_is_scraped (Some n) name e = by (is_scraped_name rules n) refl e
-    where
-      by : (b : Bool) → is_scraped_name rules n ≡ b → cond b (Some n) None ≡ Some name → IsScrapedName rules name
-      by true is same = subst (IsScrapedName rules) (same_Some n name same) (scraped_by_test rules n is)
-      by false is same = absurd (true≢false (sym (ap is_some same)))
 
   unsaid_is_scraped : (s : Selected) (name : Bytes) → name_unsaid u rules s ≡ Some name → IsScrapedName rules name
   unsaid_is_scraped s name e = by (is_some s.name) e
     where
       by : (b : Bool) → cond b None (name_for u rules s.matchers) ≡ Some name → IsScrapedName rules name
       by true same = absurd (true≢false (sym (ap is_some same)))
-      by false same = named_for u env rules listing s.matchers name same
+      by false same = named_for u rules s.matchers name same
 
   name_is_scraped : (selected : List Selected) (name : Bytes) → Contains (series_names u rules selected) name → IsScrapedName rules name
   name_is_scraped selected name there =
       elim (Contains-append_cases (flat_map (λ s. listed (name_said rules s)) selected) (flat_map (λ s. listed (name_unsaid u rules s)) selected) name (of_first_seen _ name there)) [
-        | inl said ↦ let from = of_flat_map (λ s. listed (name_said rules s)) selected name said in said_is_scraped from.0.name name (of_listed (name_said rules from.0) name from.2)
+        | inl said ↦ let from = of_flat_map (λ s. listed (name_said rules s)) selected name said in said_is_scraped rules from.0.name name (of_listed (name_said rules from.0) name from.2)
         | inr unsaid ↦ let from = of_flat_map (λ s. listed (name_unsaid u rules s)) selected name unsaid in unsaid_is_scraped from.0 name (of_listed (name_unsaid u rules from.0) name from.2)
       ]
 
@@ -81,7 +63,7 @@ module _ (u : Listing) (env : Environment) (rules : List RuleTree) (listing : Is
   module _ (i : ℕ) (label : Bytes) (presence : Bool) where
     pub built_is_scraped : (t : Trial) → IsBuilt u env rules i label presence t → AreScraped rules t.series
     built_is_scraped t is s there =
-        let all : AreScrapedIn u env rules listing (Some is.built) = subst (AreScrapedIn u env rules listing) is.is_built (building_scraped u env rules listing is.holds_fork i is.rule label presence) in
+        let all : AreScraped rules is.built.series = subst (λ (o : Option Building). IfSome o (HasScraped rules)) is.is_built (building_scraped u env rules listing is.holds_fork i is.rule label presence) in
         all s (once_there u env rules listing is.built.series s (subst (λ (v : Trial). Contains v.series s) is.is_trial there))
 
     pub uniform_is_scraped : (t : Trial) → IsUniform u rules i label presence t → AreScraped rules t.series

@@ -1,6 +1,5 @@
 pub mod FirstSamples
 pub mod LabelVerdicts
-pub mod LeftPresences
 pub mod Measured
 pub mod OneMeasure
 pub mod OpenLabels

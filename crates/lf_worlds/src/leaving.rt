@@ -6,13 +6,14 @@ ghost use Rattle.lf_classes.specs.Limits.{IsWithin};
 ghost use Rattle.lf_semantics.specs.ClassRows.{HasShape};
 ghost use Rattle.lf_semantics.specs.RowTable.{Environment};
 ghost use Rattle.lf_trials.specs.Candidates.{labels_in};
-ghost use Rattle.lf_trials.specs.Verdicts.{AreLabelVerdicts, IsLabelVerdict, leaves};
+ghost use Rattle.lf_trials.specs.Verdicts.{AreLabelVerdicts, IsLabelVerdict};
 ghost use Rattle.lf_candidates.specs.views.ClassTexts.{name_at};
 ghost use Rattle.lf_worlds.specs.views.Told.{label_verdict};
 ghost use Rattle.lf_worlds.specs.views.Tried.{leaves_both};
 
 use crate::verdict::Verdict;
 use lf_base::{Memory, Seq};
+use lf_candidates::leaves;
 use lf_classes::{Row, Universe};
 use std::alloc::Global;
 
@@ -64,19 +65,5 @@ pub fn by_row(universe: &Universe, row: &Row, label: u32) -> Verdict
         Verdict::Impossible
     } else {
         Verdict::Guaranteed
-    }
-}
-
-/// Whether a row leaves a presence of a label, told of all classes at once: `__name__` has thousands.
-fn leaves(universe: &Universe, row: &Row, label: u32, presence: bool) -> bool
-    requires within { IsWithin universe.now }
-    requires label { label < length universe.now.named }
-    requires shape { HasShape universe.now row.now }
-    ensures { result ≡ leaves universe.now row.now (name_at universe.now label) presence }
-{
-    if presence {
-        row.has_text(label)
-    } else {
-        row.has(label, 0)
     }
 }

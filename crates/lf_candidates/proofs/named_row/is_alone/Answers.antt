@@ -1,4 +1,4 @@
-use Rattle.std.proofs.Common.{◌≡◌, true, length, map, ◌∙◌, ap, subst}
+use Rattle.std.proofs.Common.{length, map, ◌∙◌, ap, subst}
 use Rattle.lf_semantics.specs.ClassRows.{Sets, narrowed}
 use Rattle.lf_semantics.specs.Environments.{Leq}
 use Rattle.lf_semantics.proofs.RowLaws.{shape_narrowed}
