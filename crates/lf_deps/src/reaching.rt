@@ -7,7 +7,7 @@ ghost use Rattle.lf_deps.specs.views.Index.{makers_at};
 
 use crate::numbers::add_number;
 use crate::sources::Sources;
-use lf_base::{Memory, Seq};
+use lf_base::Memory;
 use lf_classes::TextSet;
 use std::alloc::Global;
 use std::collections::BTreeSet;

@@ -27,12 +27,12 @@ pub fn part_rows(
     ensures { IfOk result (λ rows. rows.items ≡ map (row_of universe.now env.now) (nodes (tree expr.now))) }
 {
     let _labels = universe.labels();
-    let parts = given_parts(alloc, universe, env, expr)?;
+    let parts = typed_parts(alloc, universe, env, expr)?;
     into_rows(alloc, universe, parts)
 }
 
 /// What is told of an expression and of all parts in it, of a universe that is known to be one.
-fn given_parts(
+fn typed_parts(
     alloc: Global,
     universe: &Universe,
     env: &Env,

@@ -2,7 +2,6 @@
 ghost use Rattle.std.specs.Prelude.{◌≡◌, ◌∷◌, [], length, map, IfOk};
 ghost use Rattle.std.specs.List.{list_any};
 ghost use Rattle.lf_ast.specs.Tree.{parts_of, tree, nodes};
-ghost use Rattle.lf_ast.specs.Types.{is_scalar};
 ghost use Rattle.lf_trials.specs.Forks.{is_or};
 ghost use Rattle.lf_forks.specs.views.ForkTests.{has_passing};
 ghost use Rattle.lf_forks.specs.views.Holding.{beside, called, holds};
@@ -10,7 +9,7 @@ ghost use Rattle.lf_forks.specs.views.NameMarks.{has_mark};
 
 use crate::name_marks::NameMarks;
 use lf_ast::walk::{Fold, Parts, fold_up};
-use lf_ast::{Expr, Op, is_scalar, selected_name};
+use lf_ast::{Expr, Op, selected_name};
 use lf_base::Memory;
 use lf_nodes::{both, gives_scalar, the_only};
 use lf_parts::{Copied, fold_parts};

@@ -27,7 +27,7 @@ pub(crate) fn own_forks(alloc: Global, rules: &Seq<Rule>) -> Result<NameMarks, M
 }
 
 impl NameMarks {
-    /// The nodes of the rules that record a name and have one of these forks in their expression.
+    /// The nodes of the rules that record a name and have an `or` or a marked selector in their expression.
     pub(crate) fn nodes_of_rules(
         &self,
         alloc: Global,
@@ -56,7 +56,7 @@ impl NameMarks {
         Ok(())
     }
 
-    /// These forks with those of some nodes.
+    /// With the names at these nodes marked too; and selectors that say none, if there is such a node.
     pub(crate) fn with(mut self, nodes: &[usize]) -> NameMarks
         ensures { Marks nodes.now self result }
     {

@@ -11,7 +11,6 @@ use Rattle.lf_ast.specs.Labels.{Bytes}
 use Rattle.lf_ast.specs.Rules.{RuleTree}
 use Rattle.lf_deps.specs.Reading.{Reaches, SelectsBy}
 use Rattle.lf_deps.specs.views.Search.{ReadsBy}
-use Rattle.lf_semantics.specs.Environments.{recorded_names}
 use Rattle.lf_semantics.specs.Listing.{place}
 use Rattle.lf_semantics.proofs.Places.{at_place}
 use Rattle.lf_semantics.proofs.Recorded.{recorded}
