@@ -24,7 +24,7 @@ use Rattle.lf_pattern.proofs.Capping.{cut, followed-cut, counted-cut, followed-f
 use Rattle.lf_pattern.proofs.Digits.{digit-below}
 use Rattle.lf_pattern.proofs.ShapeFound.{st, begun-mode, encoded-cut, class-cut, fresh, value_with}
 
--- what a character is, by its part
+-- what a character is, by its kind
 abbrev IsOfKind : CharacterKind → ℕ → Type 0
 IsOfKind kind.Bar c = c ≡ 124
 IsOfKind kind.Open c = c ≡ 40

@@ -73,7 +73,7 @@ mutual
     one : {cs rest : List ℕ} {p : Samples} → Branch cs p rest → Alternatives cs p rest
     more : {cs us rest : List ℕ} {p q : Samples} → Branch cs p (124 ∷ us) → Alternatives us q rest → Alternatives cs (chosen p q) rest
 
-  -- an alternative: pieces, one behind the other
+  -- a branch: quantified atoms, one behind the other
   pub data Branch : List ℕ → Samples → List ℕ → Type 0 where
     nothing : {rest : List ℕ} → Branch rest (same []) rest
     next : {cs us rest : List ℕ} {p q : Samples} → QuantifiedAtom cs p us → Branch us q rest → Branch cs (followed p q) rest

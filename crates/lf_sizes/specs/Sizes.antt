@@ -2,8 +2,8 @@
 -- once, by which goes how long it takes to try it on a byte of a text: of all the characters of a class it waits for one. They are no measures of what the pattern matches, and go by the text alone, so
 -- that what is bounded by them is bounded before the pattern is read. Every text has both, also one that is no pattern.
 --
--- A text is a list of marks. Each counts by itself, and that as often as the numbers in braces say that stand behind it and behind each group that it stands in. What a class counts is all that the two
--- differ in.
+-- A text is a list of marks. Each counts by itself, and that as often as the numbers in braces say that stand behind it and behind each group that it stands in. What classes,
+-- characters behind a flag `i` and commas in braces count is all that the two differ in.
 use Rattle.std.specs.Prelude.{ℕ, zero, suc, ◌+◌, ◌-◌, ◌*◌, ◌^◌, max, min, Bool, ◌==◌, ◌||◌, ◌&&◌, nat_le, List, [], ◌∷◌, ◌++◌, if◌then◌else◌}
 use Rattle.lf_sizes.specs.declared.size.Mode.{Mode}
 use Rattle.lf_sizes.specs.declared.size.Weights.{Weights}
@@ -14,7 +14,7 @@ use Rattle.lf_sizes.specs.declared.size.Mode.TheVariants.{Ready, Escape, Open, F
 pub data Mark : Type 0 where
   -- something of its own: a character, a dot, a class. It counts so much
   atom : ℕ → Mark
-  -- a part of what stands before it: a `*`, a `+`, a `?`, what stands in brackets, a further byte of a character
+  -- a part of what stands before it: a `*`, a `+`, a `?`, a comma in braces, what stands in brackets, a further byte of a character
   more : ℕ → Mark
   -- a `(` and a `)`
   opens : Mark
@@ -66,7 +66,7 @@ plus m n = min (m + n) most
 abbrev pub times : ℕ → ℕ → ℕ
 times m n = min (m * n) most
 
--- ---- what classes count
+-- ---- what classes and commas in braces count
 
 -- In `Weights`: `letters` is what `\w`, `\p` and their opposites count, a class in brackets where letters match their other cases too, and what may be anything; `digits` is what `\d` and its opposite
 -- count; `few` what `\s`, its opposite, a dot, and any other class in brackets, beside each byte in it; `folded` what a character counts where letters match their other cases too;

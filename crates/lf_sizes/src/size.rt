@@ -6,7 +6,7 @@ ghost use Rattle.lf_sizes.specs.views.Size.{plus_each, reads, size_from, start, 
 use lf_base::{Memory, Seq};
 use std::alloc::Global;
 
-/// What classes count.
+/// What classes and commas in braces count.
 #[derive(Clone, Copy)]
 struct Weights {
     /// What `\w`, `\p` and their opposites count, a class in brackets where letters match their other cases too, and what may be anything.

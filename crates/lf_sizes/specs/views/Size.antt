@@ -6,7 +6,7 @@ use Rattle.lf_sizes.specs.declared.size.Mode.TheVariants.{Ready}
 use Rattle.lf_sizes.specs.declared.size.Reader.{Reader}
 use Rattle.lf_sizes.specs.declared.size.Weights.{Weights}
 
--- what classes count, where the next byte stands, the size of a character, the size of what a count would count, that of what stands before it in its group, and of what stands before each open group, the innermost first
+-- what classes and commas count, where the next byte stands, the size of a character, the size of what a count would count, that of what stands before it in its group, and of what stands before each open group, the innermost first
 pub record State : Type 0 where
   pub weights : Weights
   pub mode : Mode

@@ -1,4 +1,4 @@
--- What the rows behind a part of a block collection are: its next part, its end, or what breaks it. It defines nothing of trees: the steps of specs/Reading, one at a time.
+-- What the rows behind a part of a block collection are: its next part, its end, or what breaks it. It defines nothing of trees: the steps of specs/reading/Trees, one at a time.
 use Rattle.std.specs.Prelude.{◌≡◌, ℕ, suc, ◌-◌, ◌≤◌, ◌<◌, List, [], ◌∷◌, length, drop, get_or, Bool, true, false, Option, Some, None, Result, Ok, Err, nat_lt, if◌then◌else◌}
 use Rattle.std.specs.Str.{IsCharBoundary}
 use Rattle.lf_base.specs.declared.kind.Kind.TheVariants.{OpenQuote, DoubleKey}
