@@ -12,6 +12,7 @@ pub mod OneMore
 pub mod PartSizes
 pub mod PartSpots
 pub mod Places
+pub mod RowsApart
 pub mod SeriesNames
 pub mod SideTexts
 pub mod StandingParts

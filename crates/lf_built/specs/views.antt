@@ -9,6 +9,7 @@ pub mod Marking
 pub mod PartRows
 pub mod Places
 pub mod Recorders
+pub mod RuleRows
 pub mod Sides
 pub mod Spots
 pub mod Tasks

@@ -15,6 +15,7 @@ mod part_rows;
 mod parts;
 mod prepared;
 mod recorders;
+mod row_making;
 mod scalars;
 mod series;
 mod sides;
@@ -25,3 +26,4 @@ mod work;
 
 pub use built::Built;
 pub use prepared::Prepared;
+pub use row_making::{RuleRow, rule_rows};

@@ -1,40 +1,31 @@
 //! What the built worlds of rules share.
-ghost use Rattle.std.specs.Prelude.{◌≡◌, ◌+◌, ◌<◌, ◌≤◌, ◌^◌, Some, length, map, slice_get, IfOk};
-ghost use Rattle.lf_ast.specs.Tree.{nodes};
-ghost use Rattle.lf_ast.specs.Rules.{RuleTree, rule_tree, rule_trees};
+ghost use Rattle.std.specs.Prelude.{◌≡◌, ◌+◌, ◌<◌, ◌≤◌, ◌^◌, List, Some, length, map, slice_get, IfOk};
+ghost use Rattle.lf_ast.specs.Rules.{RuleTree, rule_trees};
 ghost use Rattle.lf_deps.specs.views.Sources.{IsSourcesOf};
 ghost use Rattle.lf_semantics.specs.Environments.{CoversRules, IsEnvironment, recorded_row as row_recorded, rule_row as row_of_rule};
-ghost use Rattle.lf_semantics.specs.Listing.{IsListing};
 ghost use Rattle.lf_semantics.specs.Parts.{is_scalar_part};
 ghost use Rattle.lf_semantics.specs.RowTable.{row_of};
-ghost use Rattle.lf_forks.specs.views.ForkTests.{has_passing};
-ghost use Rattle.lf_forks.specs.views.Holding.{test_of};
 ghost use Rattle.lf_trials.specs.Candidates.{labels_in};
 ghost use Rattle.lf_built.specs.views.Indexed.{IsPrepared, IsPreparedFor, env_of, forks_of, trees_of, universe_of};
+ghost use Rattle.lf_built.specs.declared.row_making.RuleRow.{RuleRow};
 ghost use Rattle.lf_built.specs.views.Marking.{marks_at, set_by};
-ghost use Rattle.lf_built.specs.views.PartRows.{part_rows as rows_of_parts};
 ghost use Rattle.lf_built.specs.views.Places.{size};
+ghost use Rattle.lf_built.specs.views.RuleRows.{AreRowsOf};
 ghost use Rattle.lf_built.specs.views.Spots.{IsSpot, tree_at};
 
 use crate::marking::{NodeMarks, marks_in_rules, set_by_rules};
 use crate::part_rows::PartRows;
 use crate::recorders::Recorders;
+use crate::row_making::{RuleRow, rule_rows};
 use crate::spots::Spot;
 use lf_ast::Rule;
 use lf_base::{Memory, Seq, Text};
 use lf_candidates::{NamedRow, label_names};
 use lf_classes::{Row, Universe};
 use lf_deps::Sources;
-use lf_fix::{make_recorded, rule_row_by};
 use lf_flow::Env;
 use lf_forks::Forks;
 use std::alloc::Global;
-
-/// The number of the label `__name__`.
-const METRIC: u32 = 0;
-
-/// How many names of a rule are taken to be those of its rows. A row that has none of them takes a look at each in vain, and a rule may select thousands.
-const MOST_LIKELY: usize = 8;
 
 /// What the built worlds of rules share: the names of the labels, the rules of each recorded name, what is told of the parts of each rule's expression, what is
 /// marked of the labels for these parts and for each rule, and the rows of each rule and of what it stores.
@@ -54,20 +45,12 @@ pub struct Prepared<'a> {
     pub(crate) recorded: Vec<Row>,
 }
 
-/// What is told of the parts of rules' expressions, and the rows of the rules and of what they store.
+/// What is told of the parts of rules' expressions, and the rows of the rules and of what they store, each in a list of its own.
 #[derive(Drop)]
-struct RuleRows {
+struct RowLists {
     parts: Vec<PartRows>,
     own: Vec<Row>,
     recorded: Vec<Row>,
-}
-
-/// The same of one rule.
-#[derive(Drop)]
-struct RuleRow {
-    parts: PartRows,
-    own: Row,
-    recorded: Row,
 }
 
 impl<'a> Prepared<'a> {
@@ -85,6 +68,26 @@ impl<'a> Prepared<'a> {
         requires sources { IsSourcesOf (rule_trees rules.now) sources.now }
         ensures { IfOk result (IsPreparedFor universe.now env.now rules.now forks.now) }
     {
+        let rows = rule_rows(alloc, universe, env, rules, sources, forks)?;
+        Prepared::by(alloc, universe, env, rules, sources, forks, rows)
+    }
+
+    /// The same, by what is told of each rule.
+    pub fn by(
+        alloc: Global,
+        universe: &'a Universe,
+        env: &'a Env,
+        rules: &'a Seq<Rule>,
+        sources: &'a Sources,
+        forks: &'a Forks,
+        rows: Seq<RuleRow>,
+    ) -> Result<Prepared<'a>, Memory>
+        requires environment { IsEnvironment universe.now env.now }
+        requires covers { CoversRules universe.now (rule_trees rules.now) }
+        requires sources { IsSourcesOf (rule_trees rules.now) sources.now }
+        requires rows { AreRowsOf universe.now env.now forks.now (rule_trees rules.now) rows }
+        ensures { IfOk result (IsPreparedFor universe.now env.now rules.now forks.now) }
+    {
         let _labels = universe.labels();
         let names = label_names(alloc, universe)?;
         let labels = names.as_slice();
@@ -92,11 +95,11 @@ impl<'a> Prepared<'a> {
         let marks = marks_in_rules(alloc, labels, all)?;
         let set = set_by_rules(alloc, labels, all)?;
         let recorders = Recorders::of(alloc, rules)?;
-        let RuleRows {
+        let RowLists {
             parts,
             own,
             recorded,
-        } = rule_rows(alloc, universe, env, sources, forks, all)?;
+        } = apart(alloc, rows)?;
         Ok(Prepared {
             universe,
             env,
@@ -199,89 +202,29 @@ impl<'a> Prepared<'a> {
     }
 }
 
-/// What is told of the parts of each rule's expression, the row of each rule, and of what each stores.
-fn rule_rows(
-    alloc: Global,
-    universe: &Universe,
-    env: &Env,
-    sources: &Sources,
-    forks: &Forks,
-    rules: &[Rule],
-) -> Result<RuleRows, Memory>
-    requires listing { IsListing universe.now }
-    requires env { IsEnvironment universe.now env.now }
-    requires sources { IsSourcesOf (rule_trees rules.now) sources.now }
-    ensures parts { IfOk result (λ rows. rows.parts.items ≡ map (λ (r : RuleTree). rows_of_parts universe.now env.now (has_passing (test_of forks.now)) (nodes r.expr)) (rule_trees rules.now)) }
-    ensures own { IfOk result (λ rows. rows.own.items ≡ map (row_of_rule universe.now env.now) (rule_trees rules.now)) }
-    ensures recorded { IfOk result (λ rows. rows.recorded.items ≡ map (row_recorded universe.now env.now) (rule_trees rules.now)) }
+/// What is told of the parts of rules' expressions, and the rows of the rules and of what they store, each in a list of its own.
+fn apart(alloc: Global, mut rows: Seq<RuleRow>) -> Result<RowLists, Memory>
+    ensures parts { IfOk result (λ apart. apart.parts.items ≡ map (λ (row : RuleRow). row.parts) rows) }
+    ensures own { IfOk result (λ apart. apart.own.items ≡ map (λ (row : RuleRow). row.own) rows) }
+    ensures recorded { IfOk result (λ apart. apart.recorded.items ≡ map (λ (row : RuleRow). row.recorded) rows) }
 {
-    let mut rows = RuleRows {
+    let mut apart = RowLists {
         parts: Vec::new(alloc),
         own: Vec::new(alloc),
         recorded: Vec::new(alloc),
     };
-    for k in 0..rules.len() {
-        let likely = likely_names(alloc, universe, sources.selected_by(k))?;
-        let row = rows_of_rule(alloc, universe, env, forks, &rules[k], likely.as_slice())?;
+    while let Some(row) = rows.pop() {
         let RuleRow {
             parts,
             own,
             recorded,
         } = row;
-        rows.parts.push(parts)?;
-        rows.own.push(own)?;
-        rows.recorded.push(recorded)?;
+        apart.parts.push(parts)?;
+        apart.own.push(own)?;
+        apart.recorded.push(recorded)?;
     }
-    Ok(rows)
-}
-
-/// The same of one rule. Its own row is that of its whole expression, which stands first among those of the parts.
-fn rows_of_rule(
-    alloc: Global,
-    universe: &Universe,
-    env: &Env,
-    forks: &Forks,
-    rule: &Rule,
-    likely: &[u32],
-) -> Result<RuleRow, Memory>
-    requires listing { IsListing universe.now }
-    requires env { IsEnvironment universe.now env.now }
-    ensures parts { IfOk result (λ row. row.parts ≡ rows_of_parts universe.now env.now (has_passing (test_of forks.now)) (nodes (rule_tree rule.now).expr)) }
-    ensures own { IfOk result (λ row. row.own ≡ row_of_rule universe.now env.now (rule_tree rule.now)) }
-    ensures recorded { IfOk result (λ row. row.recorded ≡ row_recorded universe.now env.now (rule_tree rule.now)) }
-{
-    let parts = PartRows::of(alloc, universe, env, forks, &rule.expr, likely)?;
-    let own = rule_row_by(alloc, universe, rule, parts.row(0))?;
-    let mut recorded = own.copy()?;
-    make_recorded(universe, &mut recorded, rule);
-    Ok(RuleRow {
-        parts,
-        own,
-        recorded,
-    })
-}
-
-/// The classes of the first few names that a rule selects, each once. Rows of its parts are likely to have them, and which these are changes only how long it takes.
-fn likely_names(
-    alloc: Global,
-    universe: &Universe,
-    selected: &[Option<Text>],
-) -> Result<Vec<u32>, Memory>
-    ensures { IfOk result (λ likely. length likely.items ≤ 8) }
-{
-    // For what its contract says of the universe.
-    let _labels = universe.labels();
-    let mut likely: Vec<u32> = Vec::new(alloc);
-    for name in selected {
-        if likely.len() == MOST_LIKELY {
-            break;
-        }
-        if let Some(name) = name {
-            let class = universe.class_of(METRIC, name.as_str());
-            if !likely.as_slice().contains(&class) {
-                likely.push(class)?;
-            }
-        }
-    }
-    Ok(likely)
+    apart.parts.reverse();
+    apart.own.reverse();
+    apart.recorded.reverse();
+    Ok(apart)
 }

@@ -1,9 +1,11 @@
 -- What is told of recorded names: of one name, of a selector and of a whole rule.
-use Rattle.std.proofs.Common.{◌≡◌, ◌↔◌, ◌<◌, ◌≤◌, ◌⊎◌, inl, inr, ℕ, Bool, true, eqb, List, [], length, Some, None, sym, subst, ap, ◌∙◌, IsTrue, arith}
+use Rattle.std.proofs.Common.{◌≡◌, ◌↔◌, ◌<◌, ◌≤◌, ◌⊎◌, ◌+◌, inl, inr, ℕ, Bool, true, false, cond, eqb, not, List, [], ◌∷◌, length, Some, None, refl, sym, subst, ap, ◌∙◌, IsTrue, arith}
 use Rattle.std.proofs.Math.Nat.{eq-or-lt_of_le}
 use Rattle.std.proofs.lemmas.Bool.{eq-eqb, eqb-true}
 use Rattle.std.proofs.lemmas.List.Elements.{Contains-get_or}
+use Rattle.std.proofs.lemmas.List.Filters.{length-filter_both}
 use Rattle.std.specs.List.{Contains}
+use Rattle.std.specs.Str.{bytes_eq}
 use Rattle.lf_laws.specs.Gaining.{OfSome}
 use Rattle.lf_base.specs.declared.place.Span.{Span}
 use Rattle.lf_ast.specs.Labels.{Bytes}
@@ -15,7 +17,7 @@ use Rattle.lf_ast.specs.declared.expr.Sight.{Sight}
 use Rattle.lf_ast.specs.declared.verdict.Finding.{Finding as Row}
 use Rattle.lf_deps.specs.Reading.{IsCyclic}
 use Rattle.lf_semantics.specs.Environments.{names_recorded, recorded_names}
-use Rattle.lf_semantics.specs.Listing.{place}
+use Rattle.lf_semantics.specs.Listing.{first_seen, place}
 use Rattle.lf_semantics.proofs.ListingLaws.{in_first_seen, of_first_seen, place_within}
 use Rattle.lf_semantics.proofs.Places.{at_place}
 use Rattle.lf_checks.specs.Finding.{Finding, RuleDependency, finding}
@@ -24,6 +26,24 @@ use Rattle.lf_checks.specs.RuleDependency.{IsFound, says_cyclic, says_unrecorded
 use Rattle.lf_checks.specs.views.Adding.{Adds}
 use Rattle.lf_checks.specs.views.Recorded.{IsLacking, IsOfName, IsOfSelector}
 use Rattle.lf_checks.proofs.Added.{adds_as, adds_both, adds_none}
+
+-- ---- how many there are
+
+named_one : (alert : Bool) (name : Bytes) (names : List Bytes) (n : ℕ) → length names ≤ n → length (cond alert names (name ∷ names)) ≤ n + 1
+named_one true name names n few = omega (arith, few)
+named_one false name names n few = omega (arith, few)
+
+named_few : (rules : List RuleTree) → length (names_recorded rules) ≤ length rules
+named_few [] = omega arith
+named_few (r ∷ rules) = omega (arith, named_one r.alert r.name (names_recorded rules) (length rules) (named_few rules))
+
+seen_few : (xs : List Bytes) → length (first_seen xs) ≤ length xs
+seen_few [] = omega arith
+seen_few (x ∷ xs) = omega (arith, length-filter_both (λ y. not (bytes_eq y x)) (λ y. not (not (bytes_eq y x))) (λ y. refl) (first_seen xs), seen_few xs)
+
+-- no more names are recorded than there are rules
+pub few_recorded : (rules : List RuleTree) → length (recorded_names rules) ≤ length rules
+few_recorded rules = omega (arith, seen_few (names_recorded rules), named_few rules)
 
 module _ (rules : List RuleTree) where
   -- ---- one name

@@ -75,9 +75,23 @@ impl<'a> Checker<'a> {
     ) -> Result<Checker<'a>, Memory>
         ensures { IfOk result (λ checker. checker ≡ record { universe = universe.now; env = env.now; rules = rules.now }) }
     {
+        let recorded = RecordedNames::of(alloc, rules)?;
+        Checker::by(alloc, universe, env, rules, recorded)
+    }
+
+    /// The same, by the names that the rules record and what they read.
+    pub fn by(
+        alloc: Global,
+        universe: &'a Universe,
+        env: &'a Env,
+        rules: &'a Seq<Rule>,
+        recorded: RecordedNames,
+    ) -> Result<Checker<'a>, Memory>
+        requires { AreOf (rule_trees rules.now) recorded }
+        ensures { IfOk result (λ checker. checker ≡ record { universe = universe.now; env = env.now; rules = rules.now }) }
+    {
         // For what its contract says of the universe.
         let _labels = universe.labels();
-        let recorded = RecordedNames::of(alloc, rules)?;
         let firsts = first_rules(alloc, rules)?;
         Ok(Checker {
             universe,
@@ -86,6 +100,13 @@ impl<'a> Checker<'a> {
             recorded,
             firsts,
         })
+    }
+
+    /// The names that the rules record, and what they read.
+    pub fn recorded(&self) -> &RecordedNames
+        ensures { AreOf (rule_trees self.now.rules) result.now }
+    {
+        &self.recorded
     }
 
     /// The findings of the rule with this number, counted from 0, in their order and each once.

@@ -21,4 +21,5 @@ mod telling;
 mod texts;
 
 pub use checker::{Checker, check_rule};
+pub use rule_dependency::RecordedNames;
 pub use texts::text_of;

@@ -1,5 +1,5 @@
 //! rule/dependency: selectors of names with a colon that no rule records, and of names that are read in their own making.
-ghost use Rattle.std.specs.Prelude.{◌≡◌, ◌↔◌, ◌==◌, List, IsTrue, IfOk, OnOk};
+ghost use Rattle.std.specs.Prelude.{◌≡◌, ◌↔◌, ◌==◌, List, length, IsTrue, IfOk, OnOk};
 ghost use Rattle.lf_ast.specs.Rules.{RuleTree, rule_tree, rule_trees};
 ghost use Rattle.lf_ast.specs.Tree.{nodes, tree};
 ghost use Rattle.lf_ast.specs.views.Walks.{trees_at};
@@ -20,7 +20,7 @@ use std::alloc::Global;
 
 /// The names that rules record, and what their rules read. Who asks of many rules makes them once.
 #[derive(Drop)]
-pub(crate) struct RecordedNames {
+pub struct RecordedNames {
     names: TextSet,
     sources: Sources,
     graph: NameGraph,
@@ -28,7 +28,7 @@ pub(crate) struct RecordedNames {
 
 impl RecordedNames {
     /// Those of rules. It takes about as long as the rules and their selectors are many.
-    pub(crate) fn of(alloc: Global, rules: &Seq<Rule>) -> Result<RecordedNames, Memory>
+    pub fn of(alloc: Global, rules: &Seq<Rule>) -> Result<RecordedNames, Memory>
         ensures { IfOk result (AreOf (rule_trees rules.now)) }
     {
         let names = recorded_names(alloc, rules.as_slice())?;
@@ -39,6 +39,27 @@ impl RecordedNames {
             sources,
             graph,
         })
+    }
+
+    /// How many names there are, each once.
+    pub fn count(&self) -> usize
+        ensures { result ≡ length self.now.names }
+    {
+        self.names.len()
+    }
+
+    /// What each rule selects, and which rules record each name.
+    pub fn sources(&self) -> &Sources
+        ensures { result.now ≡ self.now.sources }
+    {
+        &self.sources
+    }
+
+    /// The graph of the names.
+    pub fn graph(&self) -> &NameGraph
+        ensures { result.now ≡ self.now.graph }
+    {
+        &self.graph
     }
 
     /// Whether a name has a colon, and no rule records it.

@@ -6,4 +6,4 @@ mod recording;
 mod solving;
 
 pub use recording::{make_recorded, recorded_row, rule_row, rule_row_by};
-pub use solving::solve;
+pub use solving::{solve, solve_by};

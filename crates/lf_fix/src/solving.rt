@@ -4,6 +4,7 @@ ghost use Rattle.lf_ast.specs.Rules.{rule_trees};
 ghost use Rattle.lf_semantics.specs.Environments.{CoversRules, IsEnvironmentOf, IsLeast};
 ghost use Rattle.lf_semantics.specs.Listing.{IsListing};
 ghost use Rattle.lf_deps.specs.Ordering.{IsOrder};
+ghost use Rattle.lf_deps.specs.views.Sources.{IsSourcesOf};
 ghost use Rattle.lf_fix.specs.views.Dependents.{IsIndexOf};
 ghost use Rattle.lf_fix.specs.views.Rounds.{OthersHold, Rises, StepTells, Tells, TellsOf, start};
 
@@ -26,8 +27,22 @@ pub fn solve(alloc: Global, universe: &Universe, rules: &Seq<Rule>) -> Result<En
     ensures { IfOk result (IsLeast universe.now (rule_trees rules.now)) }
 {
     let sources = Sources::of(alloc, rules)?;
-    let dependents = Dependents::of(alloc, &sources)?;
-    let order = order_of(alloc, &sources, rules)?;
+    solve_by(alloc, universe, rules, &sources)
+}
+
+/// As `solve`, by the index of the same rules.
+pub fn solve_by(
+    alloc: Global,
+    universe: &Universe,
+    rules: &Seq<Rule>,
+    sources: &Sources,
+) -> Result<Env, Memory>
+    requires covers { CoversRules universe.now (rule_trees rules.now) }
+    requires sources { IsSourcesOf (rule_trees rules.now) sources.now }
+    ensures { IfOk result (IsLeast universe.now (rule_trees rules.now)) }
+{
+    let dependents = Dependents::of(alloc, sources)?;
+    let order = order_of(alloc, sources, rules)?;
     from_bottom(alloc, universe, rules, &dependents, &order)
 }
 

@@ -2,6 +2,7 @@
 ghost use Rattle.std.specs.Prelude.{◌≡◌, ◌≤◌, ◌<◌, ◌^◌, ℕ, Bool, List, Some, length, map, slice_get, slice_index_or, IfOk, IfErr};
 ghost use Rattle.lf_ast.specs.Rules.{rule_trees};
 ghost use Rattle.lf_checks.specs.Files.{File};
+ghost use Rattle.lf_checks.specs.views.Recorded.{AreOf};
 ghost use Rattle.lf_report.specs.declared.report.Report.{Report};
 ghost use Rattle.lf_semantics.specs.Environments.{IsLeast};
 ghost use Rattle.lf_semantics.specs.Listing.{universe_of};
@@ -13,12 +14,13 @@ ghost use Rattle.lf_judge.specs.views.Accepting.{IsOfFiles, refusal_in};
 ghost use Rattle.lf_judge.specs.views.Checking.{IsPutTogether};
 
 use crate::accepting::{Accepted, accept_all};
-use crate::measuring::measure;
+use crate::measuring::{Measured, measure_with_names};
 use crate::telling::tell_rules;
 use crate::{JudgeEnd, Source};
 use lf_base::{Gate, Memory, Seq, Text};
+use lf_checks::RecordedNames;
 use lf_classes::Universe;
-use lf_fix::solve;
+use lf_fix::solve_by;
 use lf_flow::{Env, match_patterns};
 use lf_report::{FileReport, Refused, Report, RuleReport};
 use std::alloc::Global;
@@ -63,13 +65,18 @@ fn judge_accepted<R: Threads + Sync, G: Gate + Sync>(
     ensures fits { IfOk result (λ _. Fit labels (files_of files.now)) }
     ensures refused { IfErr result (EndsIn labels (files_of files.now)) }
 {
-    let mut universe = measure(alloc, &accepted.rules, labels)?;
+    let measured = measure_with_names(alloc, &accepted.rules, labels)?;
+    let Measured {
+        mut universe,
+        recorded,
+    } = measured;
     let report = judge_within(
         rt,
         alloc,
         files,
         accepted,
         &mut universe,
+        recorded,
         labels,
         workers,
         gate,
@@ -84,18 +91,22 @@ fn judge_within<R: Threads + Sync, G: Gate + Sync>(
     files: &Seq<Source>,
     accepted: &Accepted,
     universe: &mut Universe,
+    recorded: RecordedNames,
     labels: bool,
     workers: u32,
     gate: &G,
 ) -> Result<Report, Memory>
     requires accepted { IsOfFiles (files_of files.now) accepted.now }
     requires universe { universe.old ≡ universe_of (rule_trees accepted.now.rules) }
+    requires recorded { AreOf (rule_trees accepted.now.rules) recorded }
     requires few { length accepted.now.rules ≤ most_rules }
     requires workers { (0 < workers) × (workers ≤ 64) }
     ensures { IfOk result (IsReportOn (files_of files.now) labels) }
 {
     match_patterns(alloc, universe, &accepted.rules)?;
-    judge_prepared(rt, alloc, files, accepted, universe, labels, workers, gate)
+    judge_prepared(
+        rt, alloc, files, accepted, universe, recorded, labels, workers, gate,
+    )
 }
 
 /// The same, with the environment still to be solved.
@@ -105,19 +116,21 @@ fn judge_prepared<R: Threads + Sync, G: Gate + Sync>(
     files: &Seq<Source>,
     accepted: &Accepted,
     universe: &Universe,
+    recorded: RecordedNames,
     labels: bool,
     workers: u32,
     gate: &G,
 ) -> Result<Report, Memory>
     requires accepted { IsOfFiles (files_of files.now) accepted.now }
     requires universe { universe.now ≡ universe_of (rule_trees accepted.now.rules) }
+    requires recorded { AreOf (rule_trees accepted.now.rules) recorded }
     requires few { length accepted.now.rules ≤ most_rules }
     requires workers { (0 < workers) × (workers ≤ 64) }
     ensures { IfOk result (IsReportOn (files_of files.now) labels) }
 {
-    let env = solve(alloc, universe, &accepted.rules)?;
+    let env = solve_by(alloc, universe, &accepted.rules, recorded.sources())?;
     let report = judge_solved(
-        rt, alloc, files, accepted, universe, &env, labels, workers, gate,
+        rt, alloc, files, accepted, universe, &env, recorded, labels, workers, gate,
     )?;
     Ok(report)
 }
@@ -130,12 +143,14 @@ fn judge_solved<R: Threads + Sync, G: Gate + Sync>(
     accepted: &Accepted,
     universe: &Universe,
     env: &Env,
+    recorded: RecordedNames,
     labels: bool,
     workers: u32,
     gate: &G,
 ) -> Result<Report, Memory>
     requires accepted { IsOfFiles (files_of files.now) accepted.now }
     requires universe { universe.now ≡ universe_of (rule_trees accepted.now.rules) }
+    requires recorded { AreOf (rule_trees accepted.now.rules) recorded }
     requires few { length accepted.now.rules ≤ most_rules }
     requires least { IsLeast universe.now (rule_trees accepted.now.rules) env.now }
     requires workers { (0 < workers) × (workers ≤ 64) }
@@ -148,6 +163,7 @@ fn judge_solved<R: Threads + Sync, G: Gate + Sync>(
         &accepted.rules,
         universe,
         env,
+        recorded,
         labels,
         workers,
         gate,

@@ -1,15 +1,18 @@
 //! The limits on rules.
 ghost use Rattle.std.specs.Prelude.{◌≡◌, ◌≤◌, Bool, true, length, IfOk, IfErr};
 ghost use Rattle.lf_ast.specs.Rules.{rule_trees};
+ghost use Rattle.lf_checks.specs.views.Recorded.{AreOf};
+ghost use Rattle.lf_semantics.specs.Environments.{recorded_names};
 ghost use Rattle.lf_semantics.specs.Listing.{class_count as class_count_of, label_count, universe_of};
 ghost use Rattle.lf_classes.specs.Limits.{most_classes, most_labels};
 ghost use Rattle.lf_judge.specs.Limits.{AreWithin, Ends, most_rules, most_words, word_count as word_count_of};
 
 use crate::JudgeEnd;
 use lf_ast::Rule;
-use lf_base::{Memory, Seq};
-use lf_classes::{ClassError, Universe, recorded_names};
-use lf_worlds::label_selectors;
+use lf_base::Seq;
+use lf_checks::RecordedNames;
+use lf_classes::{ClassError, Universe};
+use lf_worlds::label_selectors_by;
 use std::alloc::Global;
 
 /// The most rules that may be accepted.
@@ -43,6 +46,28 @@ pub fn measure(alloc: Global, rules: &Seq<Rule>, labels: bool) -> Result<Univers
     ensures within { IfOk result (λ _. AreWithin labels (rule_trees rules.now)) }
     ensures refused { IfErr result (Ends labels (rule_trees rules.now)) }
 {
+    let measured = measure_with_names(alloc, rules, labels)?;
+    Ok(measured.universe)
+}
+
+/// The universe of rules that pass no limit, and what was made to measure them.
+#[derive(Drop)]
+pub(crate) struct Measured {
+    pub(crate) universe: Universe,
+    pub(crate) recorded: RecordedNames,
+}
+
+/// As `measure`, with the names that the rules record and what they read.
+pub(crate) fn measure_with_names(
+    alloc: Global,
+    rules: &Seq<Rule>,
+    labels: bool,
+) -> Result<Measured, JudgeEnd>
+    ensures found { IfOk result (λ measured. measured.universe ≡ universe_of (rule_trees rules.now)) }
+    ensures recorded { IfOk result (λ measured. AreOf (rule_trees rules.now) measured.recorded) }
+    ensures within { IfOk result (λ _. AreWithin labels (rule_trees rules.now)) }
+    ensures refused { IfErr result (Ends labels (rule_trees rules.now)) }
+{
     if rules.len() > MOST_RULES {
         return Err(JudgeEnd::Limit {
             quantity: ACCEPTED_RULES,
@@ -50,8 +75,9 @@ pub fn measure(alloc: Global, rules: &Seq<Rule>, labels: bool) -> Result<Univers
         });
     }
     let universe = build(alloc, rules)?;
-    limit(alloc, &universe, rules, labels)?;
-    Ok(universe)
+    let recorded = RecordedNames::of(alloc, rules)?;
+    limit(alloc, &universe, rules, &recorded, labels)?;
+    Ok(Measured { universe, recorded })
 }
 
 /// Refuses rules that pass the limit on words or the one on trials, where they pass none of those before.
@@ -59,32 +85,39 @@ fn limit(
     alloc: Global,
     universe: &Universe,
     rules: &Seq<Rule>,
+    recorded: &RecordedNames,
     labels: bool,
 ) -> Result<(), JudgeEnd>
     requires universe { universe.now ≡ universe_of (rule_trees rules.now) }
+    requires recorded { AreOf (rule_trees rules.now) recorded.now }
     requires few { length rules.now ≤ most_rules }
     requires labels { label_count (universe_of (rule_trees rules.now)) ≤ most_labels }
     requires classes { class_count_of (universe_of (rule_trees rules.now)) ≤ most_classes }
     ensures within { IfOk result (λ _. AreWithin labels (rule_trees rules.now)) }
     ensures refused { IfErr result (Ends labels (rule_trees rules.now)) }
 {
-    limit_words(alloc, universe, rules)?;
+    limit_words(universe, rules, recorded)?;
     if labels {
-        return limit_trials(alloc, universe, rules);
+        return limit_trials(alloc, universe, rules, recorded);
     }
     Ok(())
 }
 
 /// Refuses rules that pass the limit on words, where they pass none of those before.
-fn limit_words(alloc: Global, universe: &Universe, rules: &Seq<Rule>) -> Result<(), JudgeEnd>
+fn limit_words(
+    universe: &Universe,
+    rules: &Seq<Rule>,
+    recorded: &RecordedNames,
+) -> Result<(), JudgeEnd>
     requires universe { universe.now ≡ universe_of (rule_trees rules.now) }
+    requires recorded { AreOf (rule_trees rules.now) recorded.now }
     requires few { length rules.now ≤ most_rules }
     requires labels { label_count (universe_of (rule_trees rules.now)) ≤ most_labels }
     requires classes { class_count_of (universe_of (rule_trees rules.now)) ≤ most_classes }
     ensures within { IfOk result (λ _. word_count_of (rule_trees rules.now) ≤ most_words) }
     ensures refused { (labels : Bool) → IfErr result (Ends labels (rule_trees rules.now)) }
 {
-    let words = word_count(alloc, universe, rules)?;
+    let words = word_count(universe, rules, recorded);
     if words > MOST_WORDS {
         return Err(JudgeEnd::Limit {
             quantity: WORDS,
@@ -95,8 +128,14 @@ fn limit_words(alloc: Global, universe: &Universe, rules: &Seq<Rule>) -> Result<
 }
 
 /// Refuses rules that pass the limit on trials, where they pass none of those before and verdicts on labels are asked for.
-fn limit_trials(alloc: Global, universe: &Universe, rules: &Seq<Rule>) -> Result<(), JudgeEnd>
+fn limit_trials(
+    alloc: Global,
+    universe: &Universe,
+    rules: &Seq<Rule>,
+    recorded: &RecordedNames,
+) -> Result<(), JudgeEnd>
     requires universe { universe.now ≡ universe_of (rule_trees rules.now) }
+    requires recorded { AreOf (rule_trees rules.now) recorded.now }
     requires few { length rules.now ≤ most_rules }
     requires labels { label_count (universe_of (rule_trees rules.now)) ≤ most_labels }
     requires classes { class_count_of (universe_of (rule_trees rules.now)) ≤ most_classes }
@@ -104,7 +143,8 @@ fn limit_trials(alloc: Global, universe: &Universe, rules: &Seq<Rule>) -> Result
     ensures within { IfOk result (λ _. AreWithin true (rule_trees rules.now)) }
     ensures refused { IfErr result (Ends true (rule_trees rules.now)) }
 {
-    let selected = label_selectors(alloc, universe, rules)?;
+    let (sources, graph) = (recorded.sources(), recorded.graph());
+    let selected = label_selectors_by(alloc, universe, rules, sources, graph)?;
     if selected > MOST_SELECTED {
         return Err(JudgeEnd::Limit {
             quantity: SELECTED,
@@ -137,12 +177,21 @@ fn build(alloc: Global, rules: &Seq<Rule>) -> Result<Universe, JudgeEnd>
 }
 
 /// The words that the rows of all recorded names have.
-fn word_count(alloc: Global, universe: &Universe, rules: &Seq<Rule>) -> Result<u64, Memory>
+fn word_count(universe: &Universe, rules: &Seq<Rule>, recorded: &RecordedNames) -> u64
     requires universe { universe.now ≡ universe_of (rule_trees rules.now) }
+    requires recorded { AreOf (rule_trees rules.now) recorded.now }
     requires few { length rules.now ≤ most_rules }
-    ensures { IfOk result (λ words. words ≡ word_count_of (rule_trees rules.now)) }
+    ensures { result ≡ word_count_of (rule_trees rules.now) }
 {
-    let names = recorded_names(alloc, rules.as_slice())?;
     let classes = u64::from(universe.class_count());
-    Ok(names.len() as u64 * ((classes + 63) / 64))
+    name_count(rules, recorded) as u64 * ((classes + 63) / 64)
+}
+
+/// How many names the rules record: no more than there are rules.
+fn name_count(rules: &Seq<Rule>, recorded: &RecordedNames) -> usize
+    requires { AreOf (rule_trees rules.now) recorded.now }
+    ensures count { result ≡ length (recorded_names (rule_trees rules.now)) }
+    ensures few { result ≤ length rules.now }
+{
+    recorded.count()
 }

@@ -1,15 +1,18 @@
 //! What workers find of rules whose labels are asked about, each of a rule.
 ghost use Rattle.std.specs.Prelude.{◌≤◌, ◌<◌, length, IfOk};
-ghost use Rattle.lf_worlds.specs.views.Readings.{AreReadingsOf};
+ghost use Rattle.lf_built.specs.views.RuleRows.{AreRowsOf};
+ghost use Rattle.lf_worlds.specs.views.Readings.{AreReadingsBy};
 ghost use Rattle.lf_judge.specs.views.AtHand.{AreTrialsAt, IsReady, rules_at};
-ghost use Rattle.lf_judge.specs.views.RulesFound.{AreFoundAt, IsFoundAt};
+ghost use Rattle.lf_judge.specs.views.RulesFound.{AreFoundAt, IsFoundAt, IsRowAt};
 
 use crate::at_hand::{AtHand, TELLING};
 use crate::findings::findings_of;
-use lf_base::{Gate, Memory, Seq};
+use lf_base::{Gate, Memory, OpenGate, Seq};
 use lf_board::map_pieces;
+use lf_built::RuleRow;
+use lf_checks::RecordedNames;
 use lf_report::Finding;
-use lf_worlds::{Readings, RuleVerdicts, Trials};
+use lf_worlds::{NameFacts, RuleVerdicts, Trials};
 use std::alloc::Global;
 use std::thread::Threads;
 
@@ -34,26 +37,96 @@ pub fn find_rules<R: Threads + Sync, G: Gate + Sync>(
     requires workers { (0 < workers) × (workers ≤ 64) }
     ensures { IfOk result (AreFoundAt hand.now) }
 {
-    let readings = Readings::of(alloc, hand.rules)?;
-    let found = find_read(rt, alloc, hand, &readings, workers, gate)?;
+    let recorded = hand.checker.recorded();
+    let facts = NameFacts::of(alloc, hand.rules, recorded.sources())?;
+    let rows = make_rows(rt, alloc, hand, recorded, &facts, workers)?;
+    let found = find_read(rt, alloc, hand, recorded, &facts, rows, workers, gate)?;
     Ok(found)
 }
 
-/// The same, with what the rules read.
+/// The rows of each rule, by the workers. No gate is passed: what is found of the rules begins behind it.
+fn make_rows<R: Threads + Sync>(
+    rt: &R,
+    alloc: Global,
+    hand: &AtHand,
+    recorded: &RecordedNames,
+    facts: &NameFacts,
+    workers: u32,
+) -> Result<Seq<RuleRow>, Memory>
+    requires ready { IsReady hand.now }
+    requires readings { AreReadingsBy (rules_at hand.now) recorded.now.sources recorded.now.graph facts.now }
+    requires workers { (0 < workers) × (workers ≤ 64) }
+    ensures { IfOk result (AreRowsOf hand.now.universe.now hand.now.env.now facts.now.forks (rules_at hand.now)) }
+{
+    let make_one = |number: u32| -> Result<RuleRow, Memory>
+        requires ready { IsReady hand.now }
+        requires readings { AreReadingsBy (rules_at hand.now) recorded.now.sources recorded.now.graph facts.now }
+        requires rule { number < length hand.now.rules.now }
+        ensures { IfOk result (IsRowAt hand.entry.now facts.entry.now number) }
+    { make_row(alloc, hand, recorded, facts, number) };
+    map_pieces(
+        rt,
+        alloc,
+        hand.rules.len() as u32,
+        workers,
+        &OpenGate,
+        TELLING,
+        &make_one,
+    )
+}
+
+/// The rows of the rule with this number.
+fn make_row(
+    alloc: Global,
+    hand: &AtHand,
+    recorded: &RecordedNames,
+    facts: &NameFacts,
+    number: u32,
+) -> Result<RuleRow, Memory>
+    requires ready { IsReady hand.now }
+    requires readings { AreReadingsBy (rules_at hand.now) recorded.now.sources recorded.now.graph facts.now }
+    requires rule { number < length hand.now.rules.now }
+    ensures { IfOk result (IsRowAt hand.now facts.now number) }
+{
+    let row = RuleRow::of(
+        alloc,
+        hand.universe,
+        hand.env,
+        hand.rules,
+        recorded.sources(),
+        facts.forks(),
+        number as usize,
+    )?;
+    Ok(row)
+}
+
+/// The same, with what the rules read, and with the rows of each.
 fn find_read<R: Threads + Sync, G: Gate + Sync>(
     rt: &R,
     alloc: Global,
     hand: &AtHand,
-    readings: &Readings,
+    recorded: &RecordedNames,
+    facts: &NameFacts,
+    rows: Seq<RuleRow>,
     workers: u32,
     gate: &G,
 ) -> Result<Seq<RuleFound>, Memory>
     requires ready { IsReady hand.now }
-    requires readings { AreReadingsOf (rules_at hand.now) readings.now }
+    requires readings { AreReadingsBy (rules_at hand.now) recorded.now.sources recorded.now.graph facts.now }
+    requires rows { AreRowsOf hand.now.universe.now hand.now.env.now facts.now.forks (rules_at hand.now) rows }
     requires workers { (0 < workers) × (workers ≤ 64) }
     ensures { IfOk result (AreFoundAt hand.now) }
 {
-    let trials = Trials::new(alloc, hand.universe, hand.env, hand.rules, readings)?;
+    let trials = Trials::by(
+        alloc,
+        hand.universe,
+        hand.env,
+        hand.rules,
+        recorded.sources(),
+        recorded.graph(),
+        facts,
+        rows,
+    )?;
     let found = find_each(rt, alloc, hand, &trials, workers, gate)?;
     Ok(found)
 }

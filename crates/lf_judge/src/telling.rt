@@ -3,6 +3,7 @@ ghost use Rattle.std.specs.Prelude.{◌≡◌, ◌≤◌, ◌<◌, ℕ, Bool, tr
 ghost use Rattle.lf_ast.specs.Rules.{rule_tree, rule_trees};
 ghost use Rattle.lf_checks.specs.AlertTemplate.{HaveSources};
 ghost use Rattle.lf_checks.specs.Files.{StandIn};
+ghost use Rattle.lf_checks.specs.views.Recorded.{AreOf};
 ghost use Rattle.lf_semantics.specs.Environments.{IsLeast};
 ghost use Rattle.lf_semantics.specs.Listing.{universe_of};
 ghost use Rattle.lf_worlds.specs.views.Told.{rule_verdict};
@@ -24,7 +25,7 @@ use crate::verdicts::{is_empty, rule_told};
 use lf_ast::{Rule, RuleVerdicts};
 use lf_base::{Gate, Memory, Seq};
 use lf_board::map_pieces;
-use lf_checks::Checker;
+use lf_checks::{Checker, RecordedNames};
 use lf_classes::Universe;
 use lf_flow::Env;
 use lf_open::OpenAt;
@@ -40,12 +41,14 @@ pub fn tell_rules<R: Threads + Sync, G: Gate + Sync>(
     rules: &Seq<Rule>,
     universe: &Universe,
     env: &Env,
+    recorded: RecordedNames,
     labels: bool,
     workers: u32,
     gate: &G,
 ) -> Result<Seq<RuleReport>, Memory>
     requires universe { universe.now ≡ universe_of (rule_trees rules.now) }
     requires least { IsLeast universe.now (rule_trees rules.now) env.now }
+    requires recorded { AreOf (rule_trees rules.now) recorded }
     requires sources { HaveSources (rule_trees rules.now) }
     requires stand { StandIn (files_of files.now) (rule_trees rules.now) }
     requires few { length rules.now ≤ most_rules }
@@ -55,7 +58,7 @@ pub fn tell_rules<R: Threads + Sync, G: Gate + Sync>(
     let names = name_positions(alloc, files, rules)?;
     let names = names.as_slice();
     tell_named(
-        rt, alloc, files, rules, names, universe, env, labels, workers, gate,
+        rt, alloc, files, rules, names, universe, env, recorded, labels, workers, gate,
     )
 }
 
@@ -68,12 +71,14 @@ fn tell_named<R: Threads + Sync, G: Gate + Sync>(
     names: &[Position],
     universe: &Universe,
     env: &Env,
+    recorded: RecordedNames,
     labels: bool,
     workers: u32,
     gate: &G,
 ) -> Result<Seq<RuleReport>, Memory>
     requires universe { universe.now ≡ universe_of (rule_trees rules.now) }
     requires least { IsLeast universe.now (rule_trees rules.now) env.now }
+    requires recorded { AreOf (rule_trees rules.now) recorded }
     requires sources { HaveSources (rule_trees rules.now) }
     requires stand { StandIn (files_of files.now) (rule_trees rules.now) }
     requires few { length rules.now ≤ most_rules }
@@ -81,7 +86,7 @@ fn tell_named<R: Threads + Sync, G: Gate + Sync>(
     requires workers { (0 < workers) × (workers ≤ 64) }
     ensures { IfOk result (TellsRules (files_of files.now) (rule_trees rules.now) env.now labels) }
 {
-    let checker = Checker::new(alloc, universe, env, rules)?;
+    let checker = Checker::by(alloc, universe, env, rules, recorded)?;
     let hand = AtHand {
         files,
         rules,

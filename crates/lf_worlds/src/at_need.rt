@@ -5,14 +5,15 @@ ghost use Rattle.lf_trials.specs.Reached.{IsReach};
 ghost use Rattle.lf_trials.specs.Uniform.{IsUniform};
 ghost use Rattle.lf_candidates.specs.views.ClassTexts.{name_at};
 ghost use Rattle.lf_candidates.specs.views.Told.{AnswersFor};
-ghost use Rattle.lf_worlds.specs.views.Readings.{AreReadingsOf};
+ghost use Rattle.lf_worlds.specs.views.Readings.{AreReadingsBy};
 ghost use Rattle.lf_worlds.specs.views.Tried.{IsReachAt};
 
-use crate::readings::Readings;
+use crate::readings::NameFacts;
 use lf_ast::Rule;
 use lf_base::{Memory, Seq};
 use lf_candidates::Trial;
 use lf_classes::Universe;
+use lf_deps::{NameGraph, Sources};
 use lf_uniform::Uniform;
 use std::alloc::Global;
 use std::marker::Model;
@@ -22,7 +23,9 @@ use std::marker::Model;
 pub struct UniformAtNeed<'a> {
     universe: &'a Universe,
     rules: &'a Seq<Rule>,
-    readings: &'a Readings,
+    sources: &'a Sources,
+    graph: &'a NameGraph,
+    facts: &'a NameFacts,
     reach: &'a Seq<u32>,
     number: u32,
     made: Option<Uniform<'a>>,
@@ -33,7 +36,7 @@ impl<'a> Model for UniformAtNeed<'a> {
     ghost use Rattle.std.specs.Coded.{codes};
     ghost use Rattle.lf_ast.specs.Rules.{rule_trees};
     ghost use Rattle.lf_ast.specs.contracts.rule.Rule as rule;
-    ghost use Rattle.lf_worlds.specs.views.Readings.{AreReadingsOf};
+    ghost use Rattle.lf_worlds.specs.views.Readings.{AreReadingsBy};
     ghost use Rattle.lf_worlds.specs.views.Tried.{IsReachAt, TriedUniform};
 
     ghost Value = { TriedUniform };
@@ -42,7 +45,7 @@ impl<'a> Model for UniformAtNeed<'a> {
 
     ghost view = { λ t. record { universe = t.universe.now; rules = t.rules.now; number = t.number } };
 
-    ghost invariant = { λ t. AreReadingsOf (rule_trees t.rules.now) t.readings.now × IsReachAt (rule_trees t.rules.now) t.number t.reach.now × (t.number < length t.rules.now) × IfSome t.made (λ uniform. uniform ≡ record { universe = t.universe.now; rules = t.rules.now; number = t.number }) };
+    ghost invariant = { λ t. AreReadingsBy (rule_trees t.rules.now) t.sources.now t.graph.now t.facts.now × IsReachAt (rule_trees t.rules.now) t.number t.reach.now × (t.number < length t.rules.now) × IfSome t.made (λ uniform. uniform ≡ record { universe = t.universe.now; rules = t.rules.now; number = t.number }) };
 }
 
 impl<'a> UniformAtNeed<'a> {
@@ -50,11 +53,13 @@ impl<'a> UniformAtNeed<'a> {
     pub fn new(
         universe: &'a Universe,
         rules: &'a Seq<Rule>,
-        readings: &'a Readings,
+        sources: &'a Sources,
+        graph: &'a NameGraph,
+        facts: &'a NameFacts,
         reach: &'a Seq<u32>,
         i: u32,
     ) -> UniformAtNeed<'a>
-        requires readings { AreReadingsOf (rule_trees rules.now) readings.now }
+        requires readings { AreReadingsBy (rule_trees rules.now) sources.now graph.now facts.now }
         requires reach { IsReachAt (rule_trees rules.now) i reach.now }
         requires rule { i < length rules.now }
         ensures { result ≡ record { universe = universe.now; rules = rules.now; number = i } }
@@ -62,7 +67,9 @@ impl<'a> UniformAtNeed<'a> {
         UniformAtNeed {
             universe,
             rules,
-            readings,
+            sources,
+            graph,
+            facts,
             reach,
             number: i,
             made: None,
@@ -97,9 +104,9 @@ impl<'a> UniformAtNeed<'a> {
                 alloc,
                 self.universe,
                 self.rules,
-                &self.readings.firsts,
-                &self.readings.sources,
-                &self.readings.graph,
+                &self.facts.firsts,
+                self.sources,
+                self.graph,
                 self.reach,
                 self.number,
             ),

@@ -8,22 +8,23 @@ ghost use Rattle.lf_semantics.specs.Laws.{SetNoNames};
 ghost use Rattle.lf_semantics.specs.Listing.{IsListing};
 ghost use Rattle.lf_trials.specs.Candidates.{labels_in};
 ghost use Rattle.lf_trials.specs.Verdicts.{AreLabelVerdicts, IsRuleVerdict};
+ghost use Rattle.lf_built.specs.views.RuleRows.{AreRowsOf};
 ghost use Rattle.lf_worlds.specs.Unresolved.{AreTyped, IsOpenIfUnresolved};
-ghost use Rattle.lf_worlds.specs.views.Readings.{AreReadingsOf};
+ghost use Rattle.lf_worlds.specs.views.Readings.{AreReadingsBy, AreReadingsOf};
 ghost use Rattle.lf_worlds.specs.views.Told.{label_verdict, rule_verdict};
 ghost use Rattle.lf_worlds.specs.views.Tried.{IsEvaluatedAt};
 
 use crate::at_need::UniformAtNeed;
 use crate::leaving::{has_open_label, settled};
 use crate::of_rule::RuleTrials;
-use crate::readings::Readings;
+use crate::readings::{NameFacts, Readings};
 use crate::verdict::{RuleVerdicts, Verdict};
 use lf_ast::Rule;
 use lf_base::{Memory, Seq, Text};
-use lf_built::{Built, Prepared};
+use lf_built::{Built, Prepared, RuleRow, rule_rows};
 use lf_candidates::label_names;
 use lf_classes::{Row, Universe};
-use lf_deps::reach_of;
+use lf_deps::{NameGraph, Sources, reach_of};
 use lf_flow::Env;
 use std::alloc::Global;
 use std::marker::Model;
@@ -34,7 +35,9 @@ pub struct Trials<'a> {
     universe: &'a Universe,
     env: &'a Env,
     rules: &'a Seq<Rule>,
-    readings: &'a Readings,
+    sources: &'a Sources,
+    graph: &'a NameGraph,
+    facts: &'a NameFacts,
     prepared: Prepared<'a>,
     names: Vec<Text>,
 }
@@ -48,7 +51,7 @@ impl<'a> Model for Trials<'a> {
     ghost use Rattle.lf_semantics.specs.Environments.{CoversRules, IsEnvironment, IsLeast};
     ghost use Rattle.lf_trials.specs.Candidates.{labels_in};
     ghost use Rattle.lf_built.specs.views.Indexed.{IsPreparedFor};
-    ghost use Rattle.lf_worlds.specs.views.Readings.{AreReadingsOf};
+    ghost use Rattle.lf_worlds.specs.views.Readings.{AreReadingsBy};
     ghost use Rattle.lf_worlds.specs.views.Tried.{Tried};
 
     ghost Value = { Tried };
@@ -57,7 +60,7 @@ impl<'a> Model for Trials<'a> {
 
     ghost view = { λ t. record { universe = t.universe.now; env = t.env.now; rules = t.rules.now } };
 
-    ghost invariant = { λ t. CoversRules t.universe.now (rule_trees t.rules.now) × IsEnvironment t.universe.now t.env.now × AreReadingsOf (rule_trees t.rules.now) t.readings.now × IsPreparedFor t.universe.now t.env.now t.rules.now t.readings.now.forks t.prepared × (t.names.items ≡ labels_in t.universe.now) × IsWithin t.universe.now × IsLeast t.universe.now (rule_trees t.rules.now) t.env.now };
+    ghost invariant = { λ t. CoversRules t.universe.now (rule_trees t.rules.now) × IsEnvironment t.universe.now t.env.now × AreReadingsBy (rule_trees t.rules.now) t.sources.now t.graph.now t.facts.now × IsPreparedFor t.universe.now t.env.now t.rules.now t.facts.now.forks t.prepared × (t.names.items ≡ labels_in t.universe.now) × IsWithin t.universe.now × IsLeast t.universe.now (rule_trees t.rules.now) t.env.now };
 }
 
 impl<'a> Trials<'a> {
@@ -74,22 +77,40 @@ impl<'a> Trials<'a> {
         requires readings { AreReadingsOf (rule_trees rules.now) readings.now }
         ensures { IfOk result (λ trials. trials ≡ record { universe = universe.now; env = env.now; rules = rules.now }) }
     {
+        let (sources, graph, facts) = (&readings.sources, &readings.graph, &readings.facts);
+        let rows = rule_rows(alloc, universe, env, rules, sources, &facts.forks)?;
+        Trials::by(alloc, universe, env, rules, sources, graph, facts, rows)
+    }
+
+    /// The same, by the index of the rules, the graph of its names, what is known of these, and the rows of each rule.
+    pub fn by(
+        alloc: Global,
+        universe: &'a Universe,
+        env: &'a Env,
+        rules: &'a Seq<Rule>,
+        sources: &'a Sources,
+        graph: &'a NameGraph,
+        facts: &'a NameFacts,
+        rows: Seq<RuleRow>,
+    ) -> Result<Trials<'a>, Memory>
+        requires covers { CoversRules universe.now (rule_trees rules.now) }
+        requires least { IsLeast universe.now (rule_trees rules.now) env.now }
+        requires readings { AreReadingsBy (rule_trees rules.now) sources.now graph.now facts.now }
+        requires rows { AreRowsOf universe.now env.now facts.now.forks (rule_trees rules.now) rows }
+        ensures { IfOk result (λ trials. trials ≡ record { universe = universe.now; env = env.now; rules = rules.now }) }
+    {
         // For what its contract says of the universe.
         let _labels = universe.labels();
         let names = label_names(alloc, universe)?;
-        let prepared = Prepared::of(
-            alloc,
-            universe,
-            env,
-            rules,
-            &readings.sources,
-            &readings.forks,
-        )?;
+        let forks = &facts.forks;
+        let prepared = Prepared::by(alloc, universe, env, rules, sources, forks, rows)?;
         Ok(Trials {
             universe,
             env,
             rules,
-            readings,
+            sources,
+            graph,
+            facts,
             prepared,
             names,
         })
@@ -146,9 +167,17 @@ impl<'a> Trials<'a> {
         requires shape { HasShape self.now.universe row.now }
         ensures { IfOk result (λ of. AreLabelVerdicts self.now.universe self.now.env (rule_trees self.now.rules) i row.now (labels_in self.now.universe) (map label_verdict of)) }
     {
-        let reach = reach_of(alloc, &self.readings.sources, &self.readings.graph, i)?;
+        let reach = reach_of(alloc, self.sources, self.graph, i)?;
         let built = Built::new(alloc, &self.prepared, &reach, i)?;
-        let uniform = UniformAtNeed::new(self.universe, self.rules, self.readings, &reach, i);
+        let uniform = UniformAtNeed::new(
+            self.universe,
+            self.rules,
+            self.sources,
+            self.graph,
+            self.facts,
+            &reach,
+            i,
+        );
         let names = self.names.as_slice();
         let mut trials = RuleTrials::new(
             self.universe,

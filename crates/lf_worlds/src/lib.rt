@@ -12,7 +12,7 @@ mod showing;
 mod verdict;
 
 pub use each_rule::Trials;
-pub use measure::label_selectors;
+pub use measure::{label_selectors, label_selectors_by};
 pub use one_call::trials;
-pub use readings::Readings;
+pub use readings::{NameFacts, Readings};
 pub use verdict::{RuleVerdicts, Verdict, World};

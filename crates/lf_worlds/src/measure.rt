@@ -22,8 +22,23 @@ pub fn label_selectors(alloc: Global, universe: &Universe, rules: &Seq<Rule>) ->
 {
     let sources = Sources::of(alloc, rules)?;
     let graph = NameGraph::of(alloc, &sources)?;
+    label_selectors_by(alloc, universe, rules, &sources, &graph)
+}
+
+/// As `label_selectors`, by the index of the same rules and the graph of its names.
+pub fn label_selectors_by(
+    alloc: Global,
+    universe: &Universe,
+    rules: &Seq<Rule>,
+    sources: &Sources,
+    graph: &NameGraph,
+) -> Result<u64, Memory>
+    requires sources { IsSourcesOf (rule_trees rules.now) sources.now }
+    requires graph { IsNameGraphOf sources.now graph.now }
+    ensures { IfOk result (λ found. (n : ℕ) × IsLabelSelectors universe.now (rule_trees rules.now) n × (found ≡ min n (2 ^ 64 - 1))) }
+{
     let counts = selector_counts(alloc, rules)?;
-    let tried = selectors_tried(alloc, rules, &sources, &graph, counts.as_slice())?;
+    let tried = selectors_tried(alloc, rules, sources, graph, counts.as_slice())?;
     let labels = universe.labels();
     Ok((labels as u64).saturating_mul(tried))
 }

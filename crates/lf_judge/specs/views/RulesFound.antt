@@ -3,12 +3,21 @@ use Rattle.std.specs.Prelude.{◌≡◌, ℕ, true, List, length, Option, Some, 
 use Rattle.lf_ast.specs.Rules.{RuleTree}
 use Rattle.lf_open.specs.declared.open_at.OpenAt.{OpenAt}
 use Rattle.lf_semantics.specs.Listing.{universe_of}
+use Rattle.lf_built.specs.declared.row_making.RuleRow.{RuleRow}
+use Rattle.lf_built.specs.views.RuleRows.{IsRowOf}
 use Rattle.lf_trials.specs.Verdicts.{IsRuleVerdict}
+use Rattle.lf_worlds.specs.declared.readings.NameFacts.{NameFacts}
 use Rattle.lf_worlds.specs.views.Told.{rule_verdict}
 use Rattle.lf_judge.specs.Judged.{IsFirstOpen, has_unresolved}
 use Rattle.lf_judge.specs.declared.at_hand.AtHand.{AtHand}
 use Rattle.lf_judge.specs.declared.rule_found.RuleFound.{RuleFound}
 use Rattle.lf_judge.specs.views.AtHand.{TellsFindingsAt, rules_at}
+
+-- these are the rows of the rule with a number
+pub record IsRowAt (h : AtHand) (facts : NameFacts) (number : ℕ) (row : RuleRow) : Type 0 where
+  pub rule : RuleTree
+  pub stands : slice_get (rules_at h) number ≡ Some rule
+  pub told : IsRowOf h.universe.now h.env.now facts.forks rule row
 
 -- this is found of the rule with a number: the verdict on it, and its findings
 pub record IsFoundAt (h : AtHand) (number : ℕ) (found : RuleFound) : Type 0 where

@@ -11,7 +11,7 @@ use Rattle.lf_semantics.specs.RowTable.{Environment, row_of}
 use Rattle.lf_semantics.proofs.NormalizedRows.{rule_row_is}
 use Rattle.lf_built.specs.views.PartRows.{PartRows}
 use Rattle.lf_built.proofs.Places.{of_parts}
-use Rattle.lf_built.proofs.prepared.rows_of_rule.Goals as goal
+use Rattle.lf_built.proofs.row_making.row_of.Goals as goal
 
 -- the rows of an expression and its parts begin with its own
 begins : (u : Listing) (e : Environment) (t : Tree) (rows : List Sets) → rows ≡ map (row_of u e) (nodes t) → rows ≡ row_of u e t ∷ map (row_of u e) (flat_map nodes (parts_of t))
@@ -32,7 +32,7 @@ make_recorded-requires-clause-shape c =
     let rows = c.in_ok-parts.parts.rows in
     let first = begins u e r.expr rows (ap (λ (p : PartRows). p.rows) c.in_ok-parts.ensures) in
     let own = c.in_ok-own.ensures e (c.row.ensures ∙ ap (λ (all : List Sets). slice_index_or all 0 []) first) in
-    subst (λ (row : Sets). HasShape u row) (sym (c.in_ok-recorded.ensures ∙ own)) (rule_row_is u c.requires.listing e c.requires.env r).0
+    subst (λ (row : Sets). HasShape u row) (sym (c.in_ok-recorded.ensures ∙ own)) (rule_row_is u c.labels-labels.ensures.within.listing e c.requires.env r).0
 
 pub returns-clause-own : goal.returns-clause-own
 returns-clause-own c =

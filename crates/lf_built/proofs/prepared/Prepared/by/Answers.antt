@@ -1,4 +1,5 @@
 use Rattle.std.proofs.Common.{List, map, refl, ap, ◌∙◌}
+use Rattle.lf_ast.specs.Labels.{Bytes}
 use Rattle.lf_ast.specs.Tree.{nodes}
 use Rattle.lf_ast.specs.Rules.{RuleTree, rule_trees}
 use Rattle.lf_ast.specs.declared.rule.Rule.{Rule}
@@ -6,15 +7,18 @@ use Rattle.lf_semantics.specs.Environments.{recorded_row, rule_row}
 use Rattle.lf_trials.specs.Candidates.{labels_in}
 use Rattle.lf_forks.specs.views.ForkTests.{has_passing}
 use Rattle.lf_forks.specs.views.Holding.{test_of}
-use Rattle.lf_ast.specs.Labels.{Bytes}
+use Rattle.lf_built.specs.declared.row_making.RuleRow.{RuleRow}
 use Rattle.lf_built.specs.views.Marking.{marks_at, set_by}
 use Rattle.lf_built.specs.views.PartRows.{part_rows}
-use Rattle.lf_built.proofs.prepared.Prepared.of.Goals as goal
+use Rattle.lf_built.proofs.RowsApart.{along}
+use Rattle.lf_built.proofs.prepared.Prepared.by.Goals as goal
 
 pub returns : goal.returns
 returns c =
     let u = c.args.universe.now in
     let env = c.args.env.now in
+    let forks = c.args.forks.now in
+    let trees : List RuleTree = rule_trees c.args.rules.now in
     record {
       universe = refl;
       env = refl;
@@ -27,7 +31,7 @@ returns c =
         sources = c.requires.sources;
         names = c.in_ok-names.ensures;
         recorders = c.in_ok-recorders.ensures;
-        parts = c.in_ok-parts.ensures.parts ∙ ap (λ (rs : List Rule). map (λ (r : RuleTree). part_rows u env (has_passing (test_of c.args.forks.now)) (nodes r.expr)) (rule_trees rs)) c.as_slice-all.ensures;
+        parts = c.in_ok-parts.ensures.parts ∙ along (λ (row : RuleRow). row.parts) (λ (r : RuleTree). part_rows u env (has_passing (test_of forks)) (nodes r.expr)) trees c.args.rows c.requires.rows (λ r row is. is.parts);
         marks =
             c.in_ok-marks.ensures
             ∙ ap (λ (names : List Bytes). map (λ (r : RuleTree). map (marks_at names) (nodes r.expr)) (rule_trees c.as_slice-all.result.now)) (c.as_slice-labels.ensures.value ∙ c.in_ok-names.ensures)
@@ -36,7 +40,7 @@ returns c =
             c.in_ok-set.ensures
             ∙ ap (λ (names : List Bytes). map (set_by names) (rule_trees c.as_slice-all.result.now)) (c.as_slice-labels.ensures.value ∙ c.in_ok-names.ensures)
             ∙ ap (λ (rs : List Rule). map (set_by (labels_in u)) (rule_trees rs)) c.as_slice-all.ensures;
-        rows = c.in_ok-parts.ensures.own ∙ ap (λ (rs : List Rule). map (rule_row u env) (rule_trees rs)) c.as_slice-all.ensures;
-        recorded = c.in_ok-parts.ensures.recorded ∙ ap (λ (rs : List Rule). map (recorded_row u env) (rule_trees rs)) c.as_slice-all.ensures;
+        rows = c.in_ok-parts.ensures.own ∙ along (λ (row : RuleRow). row.own) (rule_row u env) trees c.args.rows c.requires.rows (λ r row is. is.own);
+        recorded = c.in_ok-parts.ensures.recorded ∙ along (λ (row : RuleRow). row.recorded) (recorded_row u env) trees c.args.rows c.requires.rows (λ r row is. is.recorded);
       };
     }

@@ -5,7 +5,7 @@ use Rattle.lf_candidates.proofs.Standing.{label_count}
 use Rattle.lf_worlds.specs.Measure.{selectors_tried}
 use Rattle.lf_worlds.proofs.Measured.{product_up_to}
 use Rattle.lf_worlds.proofs.OneMeasure.{are_reaches, reach_at}
-use Rattle.lf_worlds.proofs.measure.label_selectors.Goals as goal
+use Rattle.lf_worlds.proofs.measure.label_selectors_by.Goals as goal
 
 pub returns : goal.returns
 returns c =

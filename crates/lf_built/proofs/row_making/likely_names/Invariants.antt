@@ -1,5 +1,5 @@
 use Rattle.std.proofs.Common.{◌≤◌, length}
-use Rattle.lf_built.proofs.prepared.likely_names.Given as goal
+use Rattle.lf_built.proofs.row_making.likely_names.Given as goal
 
 abbrev pub invariant-loop-name : goal.invariant-loop-name
 invariant-loop-name l = length l.likely.items ≤ 8

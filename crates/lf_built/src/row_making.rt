@@ -1,0 +1,131 @@
+//! The rows of rules.
+ghost use Rattle.std.specs.Prelude.{◌≡◌, ◌<◌, ◌≤◌, List, Some, length, slice_get, IfOk};
+ghost use Rattle.lf_ast.specs.Tree.{nodes};
+ghost use Rattle.lf_ast.specs.Rules.{RuleTree, rule_tree, rule_trees};
+ghost use Rattle.lf_deps.specs.views.Sources.{IsSourcesOf};
+ghost use Rattle.lf_semantics.specs.Environments.{IsEnvironment, recorded_row as row_recorded, rule_row as row_of_rule};
+ghost use Rattle.lf_semantics.specs.Listing.{IsListing};
+ghost use Rattle.lf_forks.specs.views.ForkTests.{has_passing};
+ghost use Rattle.lf_forks.specs.views.Holding.{test_of};
+ghost use Rattle.lf_built.specs.views.PartRows.{part_rows as rows_of_parts};
+ghost use Rattle.lf_built.specs.views.RuleRows.{AreRowsOf, IsRowOf};
+
+use crate::part_rows::PartRows;
+use lf_ast::Rule;
+use lf_base::{Memory, Seq, Text};
+use lf_classes::{Row, Universe};
+use lf_deps::Sources;
+use lf_fix::{make_recorded, rule_row_by};
+use lf_flow::Env;
+use lf_forks::Forks;
+use std::alloc::Global;
+
+/// The number of the label `__name__`.
+const METRIC: u32 = 0;
+
+/// How many names of a rule are taken to be those of its rows. A row that has none of them takes a look at each in vain, and a rule may select thousands.
+const MOST_LIKELY: usize = 8;
+
+/// What is told of the parts of a rule's expression, and the rows of the rule and of what it stores.
+#[derive(Drop)]
+pub struct RuleRow {
+    pub(crate) parts: PartRows,
+    pub(crate) own: Row,
+    pub(crate) recorded: Row,
+}
+
+impl RuleRow {
+    /// That of the rule with a number, counted from 0. Rules are told of one by one, in any order.
+    pub fn of(
+        alloc: Global,
+        universe: &Universe,
+        env: &Env,
+        rules: &Seq<Rule>,
+        sources: &Sources,
+        forks: &Forks,
+        number: usize,
+    ) -> Result<RuleRow, Memory>
+        requires env { IsEnvironment universe.now env.now }
+        requires sources { IsSourcesOf (rule_trees rules.now) sources.now }
+        requires rule { number < length rules.now }
+        ensures { (r : RuleTree) → slice_get (rule_trees rules.now) number ≡ Some r → IfOk result (IsRowOf universe.now env.now forks.now r) }
+    {
+        let likely = likely_names(alloc, universe, sources.selected_by(number))?;
+        let rule = rules.get(number);
+        let row = row_of(alloc, universe, env, forks, rule, likely.as_slice())?;
+        Ok(row)
+    }
+}
+
+/// What is told of each rule.
+pub fn rule_rows(
+    alloc: Global,
+    universe: &Universe,
+    env: &Env,
+    rules: &Seq<Rule>,
+    sources: &Sources,
+    forks: &Forks,
+) -> Result<Seq<RuleRow>, Memory>
+    requires env { IsEnvironment universe.now env.now }
+    requires sources { IsSourcesOf (rule_trees rules.now) sources.now }
+    ensures { IfOk result (AreRowsOf universe.now env.now forks.now (rule_trees rules.now)) }
+{
+    let mut rows = Seq::new(alloc);
+    for k in 0..rules.len() {
+        let row = RuleRow::of(alloc, universe, env, rules, sources, forks, k)?;
+        rows.push(row)?;
+    }
+    Ok(rows)
+}
+
+/// What is told of a rule. Its own row is that of its whole expression, which stands first among those of the parts.
+fn row_of(
+    alloc: Global,
+    universe: &Universe,
+    env: &Env,
+    forks: &Forks,
+    rule: &Rule,
+    likely: &[u32],
+) -> Result<RuleRow, Memory>
+    requires env { IsEnvironment universe.now env.now }
+    ensures parts { IfOk result (λ row. row.parts ≡ rows_of_parts universe.now env.now (has_passing (test_of forks.now)) (nodes (rule_tree rule.now).expr)) }
+    ensures own { IfOk result (λ row. row.own ≡ row_of_rule universe.now env.now (rule_tree rule.now)) }
+    ensures recorded { IfOk result (λ row. row.recorded ≡ row_recorded universe.now env.now (rule_tree rule.now)) }
+{
+    // For what its contract says of the universe.
+    let _labels = universe.labels();
+    let parts = PartRows::of(alloc, universe, env, forks, &rule.expr, likely)?;
+    let own = rule_row_by(alloc, universe, rule, parts.row(0))?;
+    let mut recorded = own.copy()?;
+    make_recorded(universe, &mut recorded, rule);
+    Ok(RuleRow {
+        parts,
+        own,
+        recorded,
+    })
+}
+
+/// The classes of the first few names that a rule selects, each once. Rows of its parts are likely to have them, and which these are changes only how long it takes.
+fn likely_names(
+    alloc: Global,
+    universe: &Universe,
+    selected: &[Option<Text>],
+) -> Result<Vec<u32>, Memory>
+    ensures { IfOk result (λ likely. length likely.items ≤ 8) }
+{
+    // For what its contract says of the universe.
+    let _labels = universe.labels();
+    let mut likely: Vec<u32> = Vec::new(alloc);
+    for name in selected {
+        if likely.len() == MOST_LIKELY {
+            break;
+        }
+        if let Some(name) = name {
+            let class = universe.class_of(METRIC, name.as_str());
+            if !likely.as_slice().contains(&class) {
+                likely.push(class)?;
+            }
+        }
+    }
+    Ok(likely)
+}
