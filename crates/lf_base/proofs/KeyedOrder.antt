@@ -1,5 +1,5 @@
 -- Values that are put in the order of their keys, each key once, are in their own order as they are shown, where their keys tell it.
-use Rattle.std.proofs.Common.{◌≡◌, ◌<◌, ℕ, true, List, map, Some, get_or, refl, sym, ap, ◌∙◌, subst}
+use Rattle.std.proofs.Common.{◌≡◌, ℕ, true, List, map, Some, get_or, refl, sym, ap, ◌∙◌, subst}
 use Rattle.std.proofs.lemmas.List.Kept.{Any-dedup, Contains-from_dedup, IsStrictlySortedBy-dedup}
 use Rattle.std.proofs.lemmas.List.Sorted.{Contains-permutation, IsPermutation-sym}
 use Rattle.std.proofs.lemmas.Map.Keys.{Less-from_sorted}

@@ -2,7 +2,7 @@
 //!
 //! The rows of all parts of an expression are made in one walk, and so are their types: the time is linear in the number of parts. They are made only where some part
 //! seeks a label, and the row of the rule is taken from them.
-ghost use Rattle.std.specs.Prelude.{◌≡◌, ◌<◌, ◌∷◌, ◌&&◌, [], List, Some, None, false, length, map, slice_get, IfOk, IfSome, IfNone, OnOk};
+ghost use Rattle.std.specs.Prelude.{◌≡◌, ◌<◌, ◌∷◌, ◌&&◌, [], Some, None, false, length, map, slice_get, IfOk, IfSome, IfNone, OnOk};
 ghost use Rattle.std.specs.List.{list_any};
 ghost use Rattle.lf_laws.specs.Gaining.{OfSome};
 ghost use Rattle.lf_ast.specs.Functions.{aggregation};

@@ -1,5 +1,5 @@
 //! Numbers of rules and names, each once, in ascending order.
-ghost use Rattle.std.specs.Prelude.{◌≡◌, ◌<◌, ◌∷◌, [], ℕ, length, IfOk, OnOk, slice_index_or};
+ghost use Rattle.std.specs.Prelude.{◌≡◌, ◌<◌, ◌∷◌, [], IfOk, OnOk};
 ghost use Rattle.lf_laws.specs.Ascending.{AreAscending};
 ghost use Rattle.lf_graph.specs.views.Listing.{Adds};
 

@@ -1,5 +1,5 @@
 //! Which rules and names are read.
-ghost use Rattle.std.specs.Prelude.{◌≡◌, ◌<◌, ◌↔◌, ℕ, List, length, IfOk, IsTrue, Some, slice_get, slice_index_or};
+ghost use Rattle.std.specs.Prelude.{◌≡◌, ◌<◌, ◌↔◌, ℕ, List, length, IfOk, IsTrue, Some, slice_get};
 ghost use Rattle.std.specs.List.{Contains};
 ghost use Rattle.lf_laws.specs.Ascending.{AreAscending};
 ghost use Rattle.lf_ast.specs.Rules.{RuleTree, rule_trees};

@@ -1,5 +1,5 @@
 -- What is built for an expression without open constructs gives one sample: the induction over expressions, and over the rules that aren't marked.
-use Rattle.std.proofs.Common.{◌≡◌, ◌<◌, inl, inr, ℕ, zero, suc, ◌+◌, Bool, true, false, not, ◌&&◌, ◌||◌, cond, List, [], ◌∷◌, ◌++◌, length, Option, Some, None, refl, sym, ◌∙◌, ap, subst, arith, option_map, codes, length-append}
+use Rattle.std.proofs.Common.{◌≡◌, ◌<◌, inl, inr, ℕ, zero, suc, ◌+◌, Bool, true, false, not, ◌&&◌, ◌||◌, cond, List, [], ◌∷◌, ◌++◌, length, Option, Some, None, refl, sym, ◌∙◌, ap, subst, arith, codes, length-append}
 use Rattle.std.proofs.lemmas.Bool.{or_right}
 use Rattle.std.proofs.lemmas.Bool.{or_left}
 use Rattle.std.specs.List.{Contains, filter}
@@ -27,7 +27,7 @@ use Rattle.lf_semantics.specs.Environments.{Covers, CoversRules, IsEnvironmentOf
 use Rattle.lf_semantics.specs.Grouped.{is_filter}
 use Rattle.lf_semantics.specs.Listing.{IsListing, Listing}
 use Rattle.lf_semantics.specs.Mentions.{arguments_mentions, call_mentions, effect_mentions, group_names, matchers_mentions, mentions, modifier_mentions, name_mentions, names_mentions, stands_first}
-use Rattle.lf_semantics.specs.Parts.{Sought, argument_at, is_scalar_part, operand_place, sought_by, sought_in}
+use Rattle.lf_semantics.specs.Parts.{argument_at, is_scalar_part, operand_place}
 use Rattle.lf_semantics.specs.RowTable.{Environment, binary_row, call_row, may_be_present, row_at, row_of, selector_row}
 use Rattle.lf_semantics.specs.Worlds.{SetsNoName}
 use Rattle.lf_semantics.proofs.Constructs.{AllKnown, ignoring_known, include_known, on_known, operands_known}

@@ -8,13 +8,11 @@ use Rattle.std.specs.declared.cmp.Ordering.TheVariants.{Less, Equal, Greater}
 use Rattle.std.specs.Ordering.{eq_by_cmp, is_eq, is_lt, ordering_reverse}
 use Rattle.std.proofs.lemmas.List.Sorted.{Contains-permutation, IsPermutation-sym, sum_by-IsPermutation}
 use Rattle.std.proofs.lemmas.List.Sums.{sum_by-cons}
-use Rattle.std.proofs.lemmas.Cmp.{on_total}
 use Rattle.std.proofs.lemmas.Option.{get_or_from_slice_get, slice_get-get_or, slice_get_within}
-use Rattle.std.specs.Cmp.{IsTotalOrder}
 use Rattle.lf_laws.proofs.Members.{behind, each_member, first_or_behind, here, none_in}
 use Rattle.lf_laws.proofs.Slices.{member_at}
 use Rattle.lf_ast.specs.Labels.{Labels}
-use Rattle.lf_witness.specs.Ascending.{IsAscending, labels_cmp, pairs_of}
+use Rattle.lf_witness.specs.Ascending.{IsAscending, labels_cmp}
 use Rattle.lf_witness.specs.Strict.{AreSame}
 use Rattle.lf_witness.proofs.AscendingLists.{alone_ascends, ascends_behind, head_less, less_itself, none_ascends, tail_ascends, labels_total}
 use Rattle.lf_witness.proofs.Decided.{same_told, told_same}

@@ -1,10 +1,9 @@
 -- A rule has one verdict at most: one built world, one uniform world, and one sample that each of them shows.
-use Rattle.std.proofs.Common.{◌≡◌, ◌<◌, ◌↔◌, inl, inr, ℕ, suc, Bool, true, false, List, [], ◌∷◌, length, get_or, Some, refl, sym, ap, ap₂, ◌∙◌, subst, slice_get, arith}
-use Rattle.std.specs.List.{Contains, find}
-use Rattle.std.proofs.lemmas.Option.{get_or_from_slice_get, slice_get_read, same_Some}
+use Rattle.std.proofs.Common.{◌≡◌, ◌↔◌, inl, inr, ℕ, Bool, true, false, List, [], ◌∷◌, Some, refl, sym, ap, ap₂, ◌∙◌, subst, slice_get}
+use Rattle.std.specs.List.{find}
+use Rattle.std.proofs.lemmas.Option.{same_Some}
 use Rattle.lf_laws.proofs.Ascending.{same_numbers}
 use Rattle.lf_laws.proofs.Booleans.{clash}
-use Rattle.lf_laws.proofs.Members.{behind, first_or_behind, here, none_in}
 use Rattle.lf_laws.proofs.Options.{same_option}
 use Rattle.lf_ast.specs.Labels.{Bytes, Labels}
 use Rattle.lf_ast.specs.Rules.{RuleTree}

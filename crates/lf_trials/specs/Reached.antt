@@ -1,5 +1,5 @@
 -- Rules by their numbers: which record a name, and which are read; and what is tried with them.
-use Rattle.std.specs.Prelude.{◌≡◌, ◌<◌, ◌↔◌, ℕ, suc, Bool, cond, eqb, nat_lt, List, [], ◌∷◌, ◌++◌, length, Option, Some, None, slice_get, slice_index_or}
+use Rattle.std.specs.Prelude.{◌≡◌, ◌↔◌, ℕ, suc, Bool, cond, eqb, nat_lt, List, [], ◌∷◌, ◌++◌, length, Option, Some, None, slice_get}
 use Rattle.std.specs.List.{Contains, filter, flat_map, list_any}
 use Rattle.lf_laws.specs.Ascending.{AreAscending}
 use Rattle.lf_ast.specs.Labels.{Bytes, Labels}

@@ -1,5 +1,5 @@
 -- What is listed for each component, and numbers that are added to a list: how contracts see the code. It defines nothing.
-use Rattle.std.specs.Prelude.{◌≡◌, ◌↔◌, ◌⊎◌, ◌<◌, ℕ, List, [], length, map, slice_index_or}
+use Rattle.std.specs.Prelude.{◌≡◌, ◌↔◌, ◌<◌, ℕ, List, [], length, map, slice_index_or}
 use Rattle.std.specs.List.{Contains}
 use Rattle.lf_laws.specs.Gaining.{Gains}
 use Rattle.lf_graph.specs.Components.{number_of}
