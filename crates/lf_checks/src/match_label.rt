@@ -25,7 +25,7 @@ use crate::alert_comparison::{Condition, part_conditions};
 use crate::case::Case;
 use crate::judged::is_impossible;
 use crate::telling::tell_if;
-use lf_ast::{Agg, Expr, Finding, Group, Grouping, Matching, Name, Rule, is_vector};
+use lf_ast::{Agg, Expr, Finding, Function, Group, Grouping, Matching, Name, Rule, is_vector};
 use lf_base::{Memory, Seq};
 use lf_classes::{Row, Universe};
 use lf_flow::{Env, part_rows};
@@ -211,17 +211,7 @@ fn labels_by(grouping: &Grouping) -> &[Name]
 fn operand_place(op: Agg) -> usize
     ensures { result ≡ operand_place (aggregation op) }
 {
-    match op {
-        Agg::Quantile | Agg::CountValues | Agg::Topk | Agg::Bottomk => 1,
-        Agg::Sum
-        | Agg::Min
-        | Agg::Max
-        | Agg::Avg
-        | Agg::Group
-        | Agg::Stddev
-        | Agg::Stdvar
-        | Agg::Count => 0,
-    }
+    lf_nodes::operand_place(Function::of_aggregation(op).takes)
 }
 
 /// Whether both sides of an operator are vectors, by what they are.

@@ -1,5 +1,5 @@
 -- The list of the open constructs of a rule.
-use Rattle.std.specs.Prelude.{◌≡◌, ℕ, List, [], ◌∷◌, ◌++◌, Some, slice_get}
+use Rattle.std.specs.Prelude.{◌≡◌, ℕ, List, [], ◌∷◌, ◌++◌, Option, None, Some, slice_get}
 use Rattle.std.specs.Cmp.Lexicographic.{slice_cmp}
 use Rattle.std.specs.List.{Contains}
 use Rattle.std.specs.Ordering.{nat_cmp}
@@ -46,6 +46,11 @@ module _ (rules : List RuleTree) where
   -- the open constructs of rule i: those of its own expression, and then those of each other rule of its reach, in ascending order of the rules' numbers
   abbrev pub AreOpen : ℕ → List OpenAt → Type 0
   AreOpen i found = (r : RuleTree) × (slice_get rules i ≡ Some r) × (reach : List ℕ) × IsReach rules r.expr reach × AreOpenOfEach (i ∷ without i reach) found
+
+  -- the first construct that stands open for rule i, or none where nothing does
+  abbrev pub IsFirstOpen : ℕ → Option OpenAt → Type 0
+  IsFirstOpen i None = AreOpen i []
+  IsFirstOpen i (Some first) = (later : List OpenAt) × AreOpen i (first ∷ later)
 
   -- nothing stands open in an expression or in a rule that it reads
   pub record IsSettled (e : Tree) : Type 0 where
