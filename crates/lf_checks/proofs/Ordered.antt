@@ -134,4 +134,4 @@ module _ (files : List File) (rules : List RuleTree) where
 pub given : (found : List Row) (sorted rs : List (Keyed Row)) → IsPermutation (map keyed found) sorted → rs ≡ dedup (eq_by_cmp keyed_cmp) sorted → All (Contains found) (map (λ (k : Keyed Row). k.item) rs)
 given found sorted rs moved is =
     let listed : List Row = map (λ (k : Keyed Row). k.item) rs in
-    All-weaker (Contains listed) (Contains found) (each_given row_key found sorted moved rs is) listed (All-contains_itself listed)
+    All-weaker (Contains listed) (Contains found) (each_given row_key (shown [] []) finding_cmp found sorted moved rs is) listed (All-contains_itself listed)
