@@ -14,6 +14,7 @@ pub mod RowWordOrder
 pub mod RowWords
 pub mod Seen
 pub mod TextClasses
+pub mod TextSlots
 pub mod Unread
 pub mod Walks
 pub mod WordBits

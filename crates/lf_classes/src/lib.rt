@@ -16,6 +16,7 @@ mod recorded;
 mod row;
 mod shape;
 mod strings;
+mod text_places;
 mod text_set;
 mod universe;
 mod walking;

@@ -1,19 +1,22 @@
 //! Texts, each once.
-ghost use Rattle.std.specs.Prelude.{◌≡◌, ◌<◌, ◌≤◌, ◌^◌, [], length, slice_index_or, IfOk, OnOk, OnErr};
+ghost use Rattle.std.specs.Prelude.{◌≡◌, ◌<◌, ◌≤◌, ◌^◌, ◌∷◌, ◌++◌, [], None, length, position, slice_index_or, IfOk, OnOk, OnErr};
+ghost use Rattle.std.specs.Str.{bytes_eq};
 ghost use Rattle.lf_semantics.specs.Listing.{place};
 ghost use Rattle.lf_classes.specs.views.TextSets.{with_text};
 
+use crate::text_places::TextPlaces;
 use lf_base::{Memory, Text};
 use std::alloc::Global;
-use std::collections::BTreeMap;
 use std::marker::Model;
 
-/// Texts, each once, in the order in which they came first. Where one stands is looked up in a map in the order of their bytes, since files may have a million texts, and texts can be
-/// chosen so that a table of hashes finds all of them in one place.
+/// The most texts that a set has.
+const MOST_TEXTS: usize = 1 << 32;
+
+/// Texts, each once, in the order in which they came first. Files may have a million texts.
 #[derive(Drop)]
 pub struct TextSet {
     texts: Vec<Text>,
-    places: BTreeMap<String, usize>,
+    places: TextPlaces,
 }
 
 impl Model for TextSet {
@@ -34,7 +37,7 @@ impl TextSet {
     {
         TextSet {
             texts: Vec::new(alloc),
-            places: BTreeMap::new(alloc),
+            places: TextPlaces::new(alloc),
         }
     }
 
@@ -43,7 +46,7 @@ impl TextSet {
         ensures count { result ≡ length self.now }
         ensures small { result < 2 ^ 63 }
     {
-        self.places.len()
+        self.texts.len()
     }
 
     /// The text at a place.
@@ -59,9 +62,9 @@ impl TextSet {
         ensures place { result ≡ place self.now text.now }
         ensures within { result ≤ length self.now }
     {
-        match self.places.get(text) {
-            Some(place) => *place,
-            None => self.places.len(),
+        match self.find(text) {
+            Some(place) => place as usize,
+            None => self.texts.len(),
         }
     }
 
@@ -72,14 +75,35 @@ impl TextSet {
         ensures place { IfOk result (λ at. at ≡ place self.old text.now) }
         ensures within { IfOk result (λ at. at < length self.new) }
     {
-        let place = self.place(text);
-        if place == self.places.len() {
-            let key = String::from_str(alloc, text)?;
-            let text = Text::of(alloc, text)?;
-            self.texts.reserve(1)?;
-            let _ = self.places.insert(key, place)?;
-            self.texts.push(text).unwrap();
+        match self.find(text) {
+            Some(place) => Ok(place as usize),
+            None => self.push(alloc, text),
         }
+    }
+
+    /// The place of a text, if it is there.
+    fn find(&self, text: &str) -> Option<u32>
+        ensures { result ≡ position (λ other. bytes_eq other text.now) self.now }
+    {
+        self.places.find(self.texts.as_slice(), text)
+    }
+
+    /// Puts a text behind the others, among which it isn't, and says where it stands.
+    fn push(&mut self, alloc: Global, text: &str) -> Result<usize, Memory>
+        requires { position (λ other. bytes_eq other text.now) self.old ≡ None }
+        ensures ok { OnOk result (self.new ≡ self.old ++ text.now ∷ []) }
+        ensures err { OnErr result (self.new ≡ self.old) }
+        ensures place { IfOk result (λ at. at ≡ place self.old text.now) }
+        ensures within { IfOk result (λ at. at < length self.new) }
+    {
+        let place = self.texts.len();
+        if place == MOST_TEXTS {
+            return Err(Memory);
+        }
+        let own = Text::of(alloc, text)?;
+        self.texts.reserve(1)?;
+        self.places.add(alloc, self.texts.as_slice(), text)?;
+        self.texts.push(own).unwrap();
         Ok(place)
     }
 }
