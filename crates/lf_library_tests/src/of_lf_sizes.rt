@@ -13,3 +13,21 @@ fn sizes_of_patterns(rt: HostRuntime) -> Result<(), Fail> {
     assert!(rt; counted == 160_018);
     Ok(())
 }
+
+#[test]
+fn a_bracket_that_ends_no_group_counts_as_a_character(rt: HostRuntime) -> Result<(), Fail> {
+    let round = pattern_size(rt.alloc(), "ab){3}c")?;
+    let none = pattern_size(rt.alloc(), "ab){3}c){5}")?;
+    assert!(rt; round == 10);
+    assert!(rt; none == 15);
+    Ok(())
+}
+
+#[test]
+fn names_of_groups_have_no_classes(rt: HostRuntime) -> Result<(), Fail> {
+    let named = pattern_size(rt.alloc(), "(?P<a[>(b){2}){3}")?;
+    let unnamed = pattern_size(rt.alloc(), "(?:[a](b){2}){3}")?;
+    assert!(rt; named == 27);
+    assert!(rt; unnamed == 69);
+    Ok(())
+}

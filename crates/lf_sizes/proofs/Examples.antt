@@ -29,6 +29,14 @@ other_cases = refl
 unmatched : size_of (codes "ab){2}(c(d") ≡ (2 + 1) * 2 + 1 + 1
 unmatched = refl
 
+-- a second one ends nothing, and what stands before it counts no more often
+no_group : size_of (codes "ab){2}c){2}d)") ≡ (2 + 1) * 2 + 1 + 1 * 2 + 1 + 1
+no_group = refl
+
+-- a name may have brackets
+named_group : size_of (codes "(?P<a[>(b){2}){3}") ≡ (4 + (1 + 1) * 2 + 1) * 3
+named_group = refl
+
 -- no size is greater than this
 greatest : size_of (codes "((a{99999999}){99999999}){99999999}") ≡ 2 ^ 64 - 1
 greatest = refl

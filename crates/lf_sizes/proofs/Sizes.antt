@@ -1,6 +1,6 @@
 -- What is counted from left to right is the measure.
-use Rattle.std.proofs.Common.{◌≡◌, ◌∙◌, ℕ, zero, suc, ◌+◌, ◌*◌, ◌<◌, ◌≤◌, max, min, Bool, true, false, leb, List, [], ◌∷◌, ◌++◌, refl, sym, ap, ap₂, add-mul, mul_assoc, mul-pos, le-mul_of_pos_right, leb-true, leb-false, arith}
-use Rattle.lf_sizes.specs.Sizes.{Mark, atom, more, opens, closes, count, often, outside, size, most, marks_in, measured, says}
+use Rattle.std.proofs.Common.{◌≡◌, ◌∙◌, ℕ, zero, suc, ◌+◌, ◌*◌, ◌<◌, ◌≤◌, max, min, Bool, true, false, leb, List, [], ◌∷◌, ◌++◌, length, refl, sym, ap, ap₂, add-mul, mul_assoc, mul-pos, le-mul_of_pos_right, leb-true, leb-false, arith}
+use Rattle.lf_sizes.specs.Sizes.{Mark, atom, more, opens, closes, count, often, outside, in_groups, size, most, marks_in, measured, says}
 use Rattle.lf_sizes.specs.declared.size.Weights.{Weights}
 use Rattle.lf_sizes.specs.views.Size.{State, closed, marked, marked_all, plus_each, size_from, start, stepped}
 
@@ -97,30 +97,39 @@ by_close a b o y z some =
     let last : (x k l : ℕ) → x + (k + l) + (y + z) ≡ k + (x + y + (l + z)) = λ x k l. omega arith in
     ap (λ n. min (n * o + (y + z)) most) is ∙ joined a (b + 1) o (y + z) some ∙ ap (λ n. min (a * o + n + (y + z)) most) apart ∙ ap (λ n. min n most) (last (a * o) (b * o) (1 * o))
 
-whole_closed : (outer : List ℕ) (s : State) (ms : List Mark) → min (whole (closed outer s) ms) most ≡ min (s.last * often ms + (s.sum * often ms + before 1 outer (closes ∷ ms) + (1 * often ms + size ms))) most
-whole_closed [] s ms =
-    let none : 0 * outside 0 ms + 0 ≡ 0 = omega arith in
-    by_close s.sum s.last (often ms) (0 * outside 0 ms + 0) (size ms) (some ms) ∙ ap (λ y. min (s.last * often ms + (s.sum * often ms + y + (1 * often ms + size ms))) most) none
-whole_closed (b ∷ bs) s ms =
+-- what is left, where the groups are open that are open in the state
+abbrev rest : State → List Mark → List Mark
+rest s ms = in_groups (length s.outer) ms
+
+whole_closed : (outer : List ℕ) (s : State) (ms : List Mark) → let left = in_groups (length outer) (closes ∷ ms) in min (whole (closed outer s) (rest (closed outer s) ms)) most ≡ min (s.last * often left + (s.sum * outside 0 left + before 1 outer left + size left)) most
+whole_closed [] s all =
+    let ms = in_groups 0 all in
+    by_atom (1 * often ms) s.sum s.last (outside 0 ms) 0 (size ms) (some_outside 0 ms)
+whole_closed (b ∷ bs) s all =
+    let ms = in_groups (length bs) all in
     by_close s.sum s.last (often ms) (b * outside 0 ms + before 1 bs ms) (size ms) (some ms)
     ∙ ap (λ w. min (s.last * often ms + (s.sum * often ms + (b * outside 0 ms + w) + (1 * often ms + size ms))) most) (sym (before_closed ms 1 bs))
 
-whole_marked : (m : Mark) (s : State) (ms : List Mark) → min (whole (marked m s) ms) most ≡ min (whole s (m ∷ ms)) most
-whole_marked (atom n) s ms =
+whole_marked : (m : Mark) (s : State) (ms : List Mark) → min (whole (marked m s) (rest (marked m s) ms)) most ≡ min (whole s (rest s (m ∷ ms))) most
+whole_marked (atom n) s all =
+    let ms = in_groups (length s.outer) all in
     by_atom (n * often ms) s.sum s.last (outside 0 ms) (before 1 s.outer ms) (size ms) (some_outside 0 ms)
     ∙ ap (λ w. min (s.last * outside 0 ms + (s.sum * outside 0 ms + w + (n * often ms + size ms))) most) (sym (before_same (atom n) ms (λ d. refl) 1 s.outer))
-whole_marked (more n) s ms =
+whole_marked (more n) s all =
+    let ms = in_groups (length s.outer) all in
     by_more s.last n (often ms) (s.sum * outside 0 ms) (before 1 s.outer ms) (size ms) (some ms)
     ∙ ap (λ w. min (s.last * often ms + (s.sum * outside 0 ms + w + (n * often ms + size ms))) most) (sym (before_same (more n) ms (λ d. refl) 1 s.outer))
-whole_marked opens s ms =
+whole_marked opens s all =
+    let ms = in_groups (suc (length s.outer)) all in
     by_open (often ms) (outside 0 ms) s.sum s.last (outside 1 ms) (before 2 s.outer ms) (size ms) (some_outside 1 ms)
     ∙ ap (λ w. min (s.last * outside 1 ms + (s.sum * outside 1 ms + w + (0 * often ms + size ms))) most) (sym (before_open ms 1 s.outer))
 whole_marked closes s ms = whole_closed s.outer s ms
-whole_marked (count n) s ms =
+whole_marked (count n) s all =
+    let ms = in_groups (length s.outer) all in
     by_count s.last (max n 1) (often ms) (often ms) (s.sum * outside 0 ms) (before 1 s.outer ms) (size ms) (some ms)
     ∙ ap (λ w. min (s.last * (max n 1 * often ms) + (s.sum * outside 0 ms + w + (0 * often ms + size ms))) most) (sym (before_same (count n) ms (λ d. refl) 1 s.outer))
 
-whole_all : (ws : List Mark) (s : State) (ms : List Mark) → min (whole (marked_all ws s) ms) most ≡ min (whole s (ws ++ ms)) most
+whole_all : (ws : List Mark) (s : State) (ms : List Mark) → min (whole (marked_all ws s) (rest (marked_all ws s) ms)) most ≡ min (whole s (rest s (ws ++ ms))) most
 whole_all [] s ms = refl
 whole_all (w ∷ ws) s ms = whole_all ws (marked w s) ms ∙ whole_marked w s (ws ++ ms)
 
@@ -130,7 +139,7 @@ total_is n d (b ∷ bs) =
     let is : min (min n most + b) most ≡ min (n + b) most = omega arith in
     ap (λ k. plus_each k bs) is ∙ total_is (n + b) (suc d) bs ∙ ap (λ k. min k most) (omega arith)
 
-counted : (s : State) (cs : List ℕ) → size_from s cs ≡ min (whole s (marks_in s.weights s.mode s.character cs)) most
+counted : (s : State) (cs : List ℕ) → size_from s cs ≡ min (whole s (rest s (marks_in s.weights s.mode s.character cs))) most
 unfolding stepped
 counted s [] = total_is (s.sum + s.last) 1 s.outer ∙ ap (λ n. min n most) (omega arith)
 counted s (c ∷ cs) =

@@ -7,7 +7,7 @@
 use Rattle.std.specs.Prelude.{ℕ, zero, suc, ◌+◌, ◌-◌, ◌*◌, ◌^◌, max, min, Bool, ◌==◌, ◌||◌, ◌&&◌, nat_le, List, [], ◌∷◌, ◌++◌, if◌then◌else◌}
 use Rattle.lf_sizes.specs.declared.size.Mode.{Mode}
 use Rattle.lf_sizes.specs.declared.size.Weights.{Weights}
-use Rattle.lf_sizes.specs.declared.size.Mode.TheVariants.{Ready, Escape, Open, Flags, Bracket, Negated, Class, ClassEscape, Count, Verbose}
+use Rattle.lf_sizes.specs.declared.size.Mode.TheVariants.{Ready, Escape, Open, Flags, Name, Bracket, Negated, Class, ClassEscape, Count, Verbose}
 
 -- ---- marks, and the size of a list of them
 
@@ -49,6 +49,16 @@ abbrev mutual
   outside open_groups (opens ∷ ms) = outside (suc open_groups) ms
   outside zero (closes ∷ ms) = often ms
   outside (suc open_groups) (closes ∷ ms) = outside open_groups ms
+
+-- the marks where so many groups are open: a `)` that ends none of them counts as a character does. It is in no pattern, so that what stands before it doesn't count more often by what stands behind it
+abbrev pub in_groups : ℕ → List Mark → List Mark
+in_groups open_groups [] = []
+in_groups open_groups (atom n ∷ ms) = atom n ∷ in_groups open_groups ms
+in_groups open_groups (more n ∷ ms) = more n ∷ in_groups open_groups ms
+in_groups open_groups (count n ∷ ms) = count n ∷ in_groups open_groups ms
+in_groups open_groups (opens ∷ ms) = opens ∷ in_groups (suc open_groups) ms
+in_groups zero (closes ∷ ms) = atom 1 ∷ in_groups zero ms
+in_groups (suc open_groups) (closes ∷ ms) = closes ∷ in_groups open_groups ms
 
 -- each mark counts by itself as often as what stands there counts
 abbrev pub size : List Mark → ℕ
@@ -146,7 +156,8 @@ abbrev pub says : Weights → Mode → ℕ → ℕ → Said
 says w Ready k c = said w k c
 says w Escape k c = mark (atom (escaped w c)) Ready k
 says w Open k c = if c == 63 then no_mark Flags k else said w k c
-says w Flags k c = if c == 120 then no_mark Verbose k else if c == 105 then no_mark Flags w.folded else if is_flag c then no_mark Flags k else said w k c
+says w Flags k c = if c == 120 then no_mark Verbose k else if c == 105 then no_mark Flags w.folded else if is_flag c then no_mark Flags k else if c == 60 then mark (atom k) Name k else said w k c
+says w Name k c = mark (atom k) (if c == 62 then Ready else Name) k
 says w (Bracket depth) k c = if c == 94 then no_mark (Negated depth) k else said_first_in_brackets w depth k c
 says w (Negated depth) k c = said_first_in_brackets w depth k c
 says w (Class depth) k c = said_in_brackets w depth k c
@@ -161,8 +172,9 @@ abbrev pub marks_in : Weights → Mode → ℕ → List ℕ → List Mark
 marks_in w mode k [] = []
 marks_in w mode k (c ∷ cs) = (says w mode k c).marks ++ marks_in w (says w mode k c).next (says w mode k c).character cs
 
+-- first of all the group is open that is put round the pattern
 abbrev pub measured : Weights → List ℕ → ℕ
-measured w pattern = min (size (marks_in w Ready 1 pattern)) most
+measured w pattern = min (size (in_groups 1 (marks_in w Ready 1 pattern))) most
 
 abbrev pub size_of : List ℕ → ℕ
 size_of pattern = measured in_size pattern

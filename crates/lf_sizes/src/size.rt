@@ -32,6 +32,8 @@ enum Mode {
     Open,
     /// Behind a `(?` and perhaps letters.
     Flags,
+    /// In the name of a group, in which brackets may stand too.
+    Name,
     /// In so many brackets, behind the `[` of the innermost.
     Bracket(u64),
     /// In so many brackets, behind the `[^` of the innermost.
@@ -57,7 +59,7 @@ struct Reader {
     last: u64,
     /// The size of what stands before that in its group.
     sum: u64,
-    /// The sizes of what stands before each open group, in the group round it.
+    /// The sizes of what stands before each open group, in the group round it. The first is the group that is put round the pattern.
     outer: Seq<u64>,
 }
 
@@ -90,7 +92,7 @@ fn measure(alloc: Global, weights: Weights, pattern: &str) -> Result<u64, Memory
 fn read(alloc: Global, weights: Weights, bytes: &[u8]) -> Result<u64, Memory>
     ensures { IfOk result (λ n. n ≡ size_from (start weights) bytes.now) }
 {
-    let mut reader = Reader::new(alloc, weights);
+    let mut reader = Reader::new(alloc, weights)?;
     for byte in bytes {
         reader = reader.step(*byte)?;
     }
@@ -149,17 +151,19 @@ impl Weights {
 }
 
 impl Reader {
-    fn new(alloc: Global, weights: Weights) -> Reader
-        ensures { state_of result ≡ start weights }
+    fn new(alloc: Global, weights: Weights) -> Result<Reader, Memory>
+        ensures { IfOk result (λ r. state_of r ≡ start weights) }
     {
-        Reader {
+        let mut outer = Seq::new(alloc);
+        outer.push(0)?;
+        Ok(Reader {
             weights,
             mode: Mode::Ready,
             character: 1,
             last: 0,
             sum: 0,
-            outer: Seq::new(alloc),
-        }
+            outer,
+        })
     }
 
     /// What all that was read counts.
@@ -190,7 +194,10 @@ impl Reader {
             Mode::Flags if byte == b'x' => Ok(self.in_mode(Mode::Verbose)),
             Mode::Flags if byte == b'i' => Ok(self.folding()),
             Mode::Flags if is_flag(byte) => Ok(self),
+            Mode::Flags if byte == b'<' => Ok(self.in_name(Mode::Name)),
             Mode::Flags => self.begin(byte),
+            Mode::Name if byte == b'>' => Ok(self.in_name(Mode::Ready)),
+            Mode::Name => Ok(self.in_name(Mode::Name)),
             Mode::Bracket(depth) if byte == b'^' => Ok(self.in_mode(Mode::Negated(depth))),
             Mode::Bracket(depth) | Mode::Negated(depth) if byte == b']' => {
                 Ok(self.larger(1, Mode::Class(depth)))
@@ -237,6 +244,14 @@ impl Reader {
             sum: self.sum.saturating_add(self.last),
             ..self
         }
+    }
+
+    /// A byte of a group's name was read.
+    fn in_name(self, mode: Mode) -> Reader
+        ensures { state_of result ≡ reads (mark (atom self.character) mode self.character) (state_of self) }
+    {
+        let size = self.character;
+        self.with_atom(size).in_mode(mode)
     }
 
     /// What was read last is so much larger.
@@ -308,13 +323,16 @@ impl Reader {
         })
     }
 
-    /// Reads a `)`. Where no group is open, it closes the one that is put round the pattern.
+    /// Reads a `)`. Where no group is open, not even the one that is put round the pattern, it counts as a character does.
     fn close(self) -> Reader
         ensures { state_of result ≡ reads (mark closes Mode.Ready self.character) (state_of self) }
     {
-        let last = self.sum.saturating_add(self.last).saturating_add(1);
+        let size = self.sum.saturating_add(self.last);
         let mut outer = self.outer;
-        let sum = outer.pop().unwrap_or(0);
+        let (last, sum) = match outer.pop() {
+            Some(before) => (size.saturating_add(1), before),
+            None => (1, size),
+        };
         Reader {
             weights: self.weights,
             mode: Mode::Ready,

@@ -6,7 +6,7 @@ use Rattle.lf_sizes.specs.declared.size.Mode.TheVariants.{Ready}
 use Rattle.lf_sizes.specs.declared.size.Reader.{Reader}
 use Rattle.lf_sizes.specs.declared.size.Weights.{Weights}
 
--- what classes and commas count, where the next byte stands, the size of a character, the size of what a count would count, that of what stands before it in its group, and of what stands before each open group, the innermost first
+-- what classes and commas count, where the next byte stands, the size of a character, the size of what a count would count, that of what stands before it in its group, and of what stands before each open group, the innermost first and the one that is put round the pattern last
 pub record State : Type 0 where
   pub weights : Weights
   pub mode : Mode
@@ -19,13 +19,13 @@ abbrev pub state_of : Reader → State
 state_of r = record { weights = r.weights; mode = r.mode; character = r.character; last = r.last; sum = r.sum; outer = reverse r.outer }
 
 abbrev pub start : Weights → State
-start w = record { weights = w; mode = Ready; character = 1; last = 0; sum = 0; outer = [] }
+start w = record { weights = w; mode = Ready; character = 1; last = 0; sum = 0; outer = 0 ∷ [] }
 
 -- ---- a mark is read
 
--- a `)` closes the innermost group; where none is open, the one that is put round the pattern
+-- a `)` closes the innermost group; where none is open, it counts as a character does
 abbrev pub closed : List ℕ → State → State
-closed [] s = record s { last = plus (plus s.sum s.last) 1; sum = 0; outer = [] }
+closed [] s = record s { last = 1; sum = plus s.sum s.last; outer = [] }
 closed (before ∷ outer) s = record s { last = plus (plus s.sum s.last) 1; sum = before; outer = outer }
 
 abbrev pub marked : Mark → State → State
