@@ -67,11 +67,11 @@ in_set slots s slot v h = by (cases_eq slot s)
 pub put_free : {A : Type 0} (slots : List (Option ℕ)) (others : BTreeMap (String A) ℕ) (texts : List Bytes) (t : Bytes) (s : ℕ) → HasSlots slots others texts → length texts < 2 ^ 32 → at texts t ≡ None
     → s ≡ slot_of t (length slots) → s < length slots → in_slot slots s ≡ None → HasSlots (set slots s (Some (length texts))) others (texts ++ t ∷ [])
 put_free slots others texts t s h few absent is inside free = record {
-    few = omega (arith, length-append texts (t ∷ []), few);
-    within = λ slot k e. within_by slot k (in_set slots s slot v inside) e;
-    free = λ q e. free_by q (in_set slots s (own q) v inside) (ap (in_slot new) (sym (same_slot q)) ∙ e);
-    each = λ q. each_by (bytes_eq t q) texts t q _ refl absent (λ e. here q e) (λ e. there q e (in_set slots s (own q) v inside));
-  }
+  few = omega (arith, length-append texts (t ∷ []), few);
+  within = λ slot k e. within_by slot k (in_set slots s slot v inside) e;
+  free = λ q e. free_by q (in_set slots s (own q) v inside) (ap (in_slot new) (sym (same_slot q)) ∙ e);
+  each = λ q. each_by (bytes_eq t q) texts t q _ refl absent (λ e. here q e) (λ e. there q e (in_set slots s (own q) v inside));
+}
   where
     v : Option ℕ
     v = Some (length texts)
@@ -121,11 +121,11 @@ put_free slots others texts t s h few absent is inside free = record {
 pub put_other : {A : Type 0} (slots : List (Option ℕ)) (others new : BTreeMap (String A) ℕ) (texts : List Bytes) (t : Bytes) (k : ℕ) → HasSlots slots others texts → length texts < 2 ^ 32 → at texts t ≡ None
     → in_slot slots (slot_of t (length slots)) ≡ Some k → ((q : Bytes) → get_by_text new q ≡ cond (bytes_eq t q) (Some (length texts)) (get_by_text others q)) → HasSlots slots new (texts ++ t ∷ [])
 put_other slots others new texts t k h few absent taken puts = record {
-    few = omega (arith, length-append texts (t ∷ []), few);
-    within = λ slot j e. let before = h.within slot j e in omega (arith, before, length-append texts (t ∷ []));
-    free = λ q e. free_by q (bytes_eq t q) refl e;
-    each = λ q. each_by (bytes_eq t q) texts t q _ refl absent (λ e. subst (λ r. seen new (texts ++ t ∷ []) r (in_slot slots (slot_of r (length slots))) ≡ Some (length texts)) e here) (λ e. there q e);
-  }
+  few = omega (arith, length-append texts (t ∷ []), few);
+  within = λ slot j e. let before = h.within slot j e in omega (arith, before, length-append texts (t ∷ []));
+  free = λ q e. free_by q (bytes_eq t q) refl e;
+  each = λ q. each_by (bytes_eq t q) texts t q _ refl absent (λ e. subst (λ r. seen new (texts ++ t ∷ []) r (in_slot slots (slot_of r (length slots))) ≡ Some (length texts)) e here) (λ e. there q e);
+}
   where
     free_by : (q : Bytes) (b : Bool) → bytes_eq t q ≡ b → in_slot slots (slot_of q (length slots)) ≡ None → get_by_text new q ≡ None
     free_by q true e none =
@@ -155,15 +155,15 @@ put_other slots others new texts t k h few absent taken puts = record {
 pub put_again : {A : Type 0} (slots : List (Option ℕ)) (others : BTreeMap (String A) ℕ) (texts : List Bytes) (t : Bytes) (k : ℕ) → HasSlots slots others texts → length texts < 2 ^ 32 → at texts t ≡ Some k
     → HasSlots slots others (texts ++ t ∷ [])
 put_again slots others texts t k h few found = record {
-    few = omega (arith, length-append texts (t ∷ []), few);
-    within = λ slot j e. let before = h.within slot j e in omega (arith, before, length-append texts (t ∷ []));
-    free = h.free;
-    each = λ q.
-        seen_more others others texts t q (in_slot slots (slot_of q (length slots))) (h.within (slot_of q (length slots))) refl
-        ∙ h.each q
-        ∙ stays q (bytes_eq t q) refl
-        ∙ position_pushed texts t q;
-  }
+  few = omega (arith, length-append texts (t ∷ []), few);
+  within = λ slot j e. let before = h.within slot j e in omega (arith, before, length-append texts (t ∷ []));
+  free = h.free;
+  each = λ q.
+      seen_more others others texts t q (in_slot slots (slot_of q (length slots))) (h.within (slot_of q (length slots))) refl
+      ∙ h.each q
+      ∙ stays q (bytes_eq t q) refl
+      ∙ position_pushed texts t q;
+}
   where
     stays : (q : Bytes) (b : Bool) → bytes_eq t q ≡ b → at texts q ≡ or_last (at texts q) (cond (bytes_eq t q) (Some (length texts)) None)
     stays q true e =

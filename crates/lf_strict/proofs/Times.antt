@@ -116,7 +116,6 @@ unfolding IsStrictlySortedBy
 strictly_ascends [] sorted = none_ascends
 strictly_ascends (x ∷ R) sorted = ascends_behind x R (strictly_ascends R sorted.1) (λ t c. each_member (λ y. labels_cmp x y ≡ Less) R t sorted.0 c)
 
-
 -- neighbours that were compared
 
 -- no two neighbours before a place are equal

@@ -1,6 +1,6 @@
-use Rattle.std.proofs.Common.{◌≡◌, ◌≤◌, length, None, sym, ap, ◌∙◌, arith}
+use Rattle.std.proofs.Common.{◌≤◌, length, None, sym, ap, ◌∙◌, arith}
 use Rattle.std.proofs.lemmas.List.{get_or_past}
-use Rattle.lf_classes.specs.views.TextSets.{in_slot, seen, slot_of}
+use Rattle.lf_classes.specs.views.TextSets.{seen, slot_of}
 use Rattle.lf_classes.proofs.text_places.TextPlaces.find.Goals as goal
 
 pub returns-then-count-eq0 : goal.returns-then-count-eq0

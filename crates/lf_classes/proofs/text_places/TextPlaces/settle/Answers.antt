@@ -1,4 +1,4 @@
-use Rattle.std.proofs.Common.{sym, ◌∙◌}
+use Rattle.std.proofs.Common.{sym}
 use Rattle.lf_classes.proofs.TextSlots.{put_again}
 use Rattle.lf_classes.proofs.text_places.TextPlaces.settle.Goals as goal
 
