@@ -1,5 +1,5 @@
 -- A set of label sets has one list in ascending order.
-use Rattle.std.proofs.Common.{◌≡◌, List, [], ◌∷◌, ◌×◌}
+use Rattle.std.proofs.Common.{◌≡◌, List, [], ◌∷◌}
 use Rattle.std.proofs.lemmas.Cmp.{lists_total, nat_list_cmp_total}
 use Rattle.std.specs.Cmp.{IsTotalOrder, on_total}
 use Rattle.std.specs.List.{Contains}
