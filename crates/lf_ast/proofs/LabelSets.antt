@@ -44,25 +44,25 @@ truth false t = absurd t
 test : (b : Bool) → IsTrue b → T b
 test b e = subst T (sym e) tt
 
-abbrev pub IsInOrder : List (Bytes × Bytes) → Type 0
-IsInOrder es = IsTrue (is_sorted (slice_cmp nat_cmp) es)
+abbrev pub AreSortedByName : List (Bytes × Bytes) → Type 0
+AreSortedByName es = IsTrue (is_sorted (slice_cmp nat_cmp) es)
 
-pub entries_are : (es : List (Bytes × Bytes)) → IsInOrder es → entries (from_sorted {R = slice_cmp nat_cmp} es) ≡ es
+pub entries_are : (es : List (Bytes × Bytes)) → AreSortedByName es → entries (from_sorted {R = slice_cmp nat_cmp} es) ≡ es
 entries_are es h = entries-from_sorted (slice_cmp nat_cmp) es (test _ h)
 
 pub none_is_empty : from_sorted {X = Bytes} {R = slice_cmp nat_cmp} [] ≡ empty
 none_is_empty = empty_of_len (from_sorted []) (len-entries (from_sorted []) ∙ ap length (entries_are [] refl))
 
 -- what a look-up finds in them
-pub found_there : (q : Bytes) (es : List (Bytes × Bytes)) → IsInOrder es → get (from_sorted {R = slice_cmp nat_cmp} es) q ≡ find (slice_cmp nat_cmp) q es
+pub found_there : (q : Bytes) (es : List (Bytes × Bytes)) → AreSortedByName es → get (from_sorted {R = slice_cmp nat_cmp} es) q ≡ find (slice_cmp nat_cmp) q es
 found_there q es h = get-from_sorted (slice_cmp nat_cmp) es q (test _ h)
 
 -- an entry that is put in
 
-pub put_in_order : (n t : Bytes) (es : List (Bytes × Bytes)) → IsInOrder es → IsInOrder (put (slice_cmp nat_cmp) n t es)
+pub put_in_order : (n t : Bytes) (es : List (Bytes × Bytes)) → AreSortedByName es → AreSortedByName (put (slice_cmp nat_cmp) n t es)
 put_in_order n t es h = truth _ (is_sorted-put (slice_cmp nat_cmp) nat_list_cmp_total n t es (test _ h))
 
-pub put_inserts : (n t : Bytes) (es : List (Bytes × Bytes)) → IsInOrder es → from_sorted {R = slice_cmp nat_cmp} (put (slice_cmp nat_cmp) n t es) ≡ insert (from_sorted es) n t
+pub put_inserts : (n t : Bytes) (es : List (Bytes × Bytes)) → AreSortedByName es → from_sorted {R = slice_cmp nat_cmp} (put (slice_cmp nat_cmp) n t es) ≡ insert (from_sorted es) n t
 put_inserts n t es h = same_entries_map _ _ (entries_are (put (slice_cmp nat_cmp) n t es) (put_in_order n t es h)
     ∙ sym (entries-insert nat_list_cmp_total (from_sorted es) n t ∙ ap (put (slice_cmp nat_cmp) n t) (entries_are es h)))
 
@@ -80,13 +80,13 @@ put_has_texts n t (e ∷ es) full h = by (slice_cmp nat_cmp n e.0) (put_has_text
 abbrev pub differs : Bytes → Bytes × Bytes → Bool
 differs n e = not (eq_by_cmp (slice_cmp nat_cmp) n e.0)
 
-pub rest_in_order : (n : Bytes) (es : List (Bytes × Bytes)) → IsInOrder es → IsInOrder (filter (differs n) es)
+pub rest_in_order : (n : Bytes) (es : List (Bytes × Bytes)) → AreSortedByName es → AreSortedByName (filter (differs n) es)
 rest_in_order n es h = truth _ (is_sorted-where_key (slice_cmp nat_cmp) (λ x. not (eq_by_cmp (slice_cmp nat_cmp) n x)) es (test _ h))
 
-pub chosen_in_order : (p : Bytes → Bool) (es : List (Bytes × Bytes)) → IsInOrder es → IsInOrder (filter (λ entry. p entry.0) es)
+pub chosen_in_order : (p : Bytes → Bool) (es : List (Bytes × Bytes)) → AreSortedByName es → AreSortedByName (filter (λ entry. p entry.0) es)
 chosen_in_order p es h = truth _ (is_sorted-where_key (slice_cmp nat_cmp) p es (test _ h))
 
-pub chosen_retains : (p : Bytes → Bool) (es : List (Bytes × Bytes)) → IsInOrder es → from_sorted {R = slice_cmp nat_cmp} (filter (λ entry. p entry.0) es) ≡ retain_keys (from_sorted es) p
+pub chosen_retains : (p : Bytes → Bool) (es : List (Bytes × Bytes)) → AreSortedByName es → from_sorted {R = slice_cmp nat_cmp} (filter (λ entry. p entry.0) es) ≡ retain_keys (from_sorted es) p
 chosen_retains p es h = same_map nat_list_cmp_total (slice_cmp-IsAntisymmetric nat_cmp-IsAntisymmetric) _ _ (λ q.
     get-from_sorted (slice_cmp nat_cmp) (filter (λ entry. p entry.0) es) q (test _ (chosen_in_order p es h))
     ∙ find-where_key (slice_cmp nat_cmp) p q (λ x tied. ap p (sym (slice_cmp-IsAntisymmetric nat_cmp-IsAntisymmetric q x tied))) es
@@ -96,7 +96,7 @@ turned : {A : Type 0} (b : Bool) (x y : A) → cond (not b) x y ≡ cond b y x
 turned true x y = refl
 turned false x y = refl
 
-pub rest_removes : (n : Bytes) (es : List (Bytes × Bytes)) → IsInOrder es → from_sorted {R = slice_cmp nat_cmp} (filter (differs n) es) ≡ remove (from_sorted es) n
+pub rest_removes : (n : Bytes) (es : List (Bytes × Bytes)) → AreSortedByName es → from_sorted {R = slice_cmp nat_cmp} (filter (differs n) es) ≡ remove (from_sorted es) n
 rest_removes n es h = same_map nat_list_cmp_total (slice_cmp-IsAntisymmetric nat_cmp-IsAntisymmetric) _ _ (λ q.
     get-from_sorted (slice_cmp nat_cmp) (filter (differs n) es) q (test _ (rest_in_order n es h))
     ∙ find-where_key (slice_cmp nat_cmp) (λ x. not (eq_by_cmp (slice_cmp nat_cmp) n x)) q (λ x tied. ap (λ (z : Bytes). not (eq_by_cmp (slice_cmp nat_cmp) n z)) (sym (slice_cmp-IsAntisymmetric nat_cmp-IsAntisymmetric q x tied))) es

@@ -1,6 +1,6 @@
 pub mod Answering
 pub mod FileList
 pub mod Least
-pub mod OneOrder
+pub mod KeyedOrder
 pub mod Rows
 pub mod Digits

@@ -1,6 +1,6 @@
 //! The count of calls by which the stand-ins of the outside fail where a test wants them to.
-ghost use Rattle.std.specs.Prelude.{◌≡◌, ◌+◌, ◌-◌, ◌^◌, ◌⊎◌, ◌↔◌, List, ℕ, min, Contains, IsTrue, IsErr, OnOk, OnErr, false};
-ghost use Rattle.lf_base.specs.Calls.{Calls, no_calls, next_number, IsListed, answered, failed};
+ghost use Rattle.std.specs.Prelude.{◌≡◌, ◌+◌, ◌-◌, ◌⊎◌, ◌↔◌, Contains, IsTrue, IsErr, OnOk, OnErr, false};
+ghost use Rattle.lf_base.specs.Calls.{Calls, no_calls, IsListed, answered, failed};
 
 use crate::{Failed, Memory};
 use std::alloc::Global;

@@ -1,5 +1,5 @@
 //! Where something stands in a text.
-ghost use Rattle.std.specs.Prelude.{◌≡◌, ◌≤◌, ◌^◌, length, take, count_by};
+ghost use Rattle.std.specs.Prelude.{◌≡◌, ◌≤◌, ◌^◌, length, count_by};
 ghost use Rattle.std.specs.List.{after_last};
 ghost use Rattle.lf_base.specs.Places.{is_line_feed, line_at, column_at};
 

@@ -1,10 +1,10 @@
 //! How many selectors may be built.
-ghost use Rattle.std.specs.Prelude.{◌≡◌, ◌*◌, eqb, cond, length, List, IfOk};
+ghost use Rattle.std.specs.Prelude.{◌≡◌, ◌*◌, eqb, cond, List, IfOk};
 ghost use Rattle.lf_ast.specs.Rules.{RuleTree};
 ghost use Rattle.lf_deps.specs.views.Sources.{IsSourcesOf};
 ghost use Rattle.lf_trials.specs.Built.{selector_count};
 ghost use Rattle.lf_trials.specs.Reached.{with_reach};
-ghost use Rattle.lf_built.specs.views.Counts.{others, selected};
+ghost use Rattle.lf_built.specs.views.Counts.{selected};
 
 use lf_base::counts::sum;
 use lf_base::{Memory, Seq};

@@ -1,6 +1,5 @@
 //! Which rule makes a recorded name.
-ghost use Rattle.std.specs.Prelude.{◌≡◌, ℕ, List, None, Option, Some, false, reverse, slice_get, IfSome};
-ghost use Rattle.lf_ast.specs.Rules.{RuleTree};
+ghost use Rattle.std.specs.Prelude.{◌≡◌, None, Option, Some, false, reverse, IfSome};
 ghost use Rattle.lf_trials.specs.Built.{fits};
 ghost use Rattle.lf_trials.specs.Given.{Given};
 ghost use Rattle.lf_trials.specs.Reached.{first_rule, is_marked};

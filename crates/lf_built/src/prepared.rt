@@ -1,5 +1,5 @@
 //! What the built worlds of rules share.
-ghost use Rattle.std.specs.Prelude.{◌≡◌, ◌+◌, ◌<◌, ◌≤◌, ◌^◌, List, Some, length, map, slice_get, IfOk};
+ghost use Rattle.std.specs.Prelude.{◌≡◌, ◌+◌, ◌<◌, ◌^◌, Some, length, map, slice_get, IfOk};
 ghost use Rattle.lf_ast.specs.Rules.{RuleTree, rule_trees};
 ghost use Rattle.lf_deps.specs.views.Sources.{IsSourcesOf};
 ghost use Rattle.lf_semantics.specs.Environments.{CoversRules, IsEnvironment, recorded_row as row_recorded, rule_row as row_of_rule};

@@ -1,7 +1,6 @@
 //! Which expressions are scalars.
 ghost use Rattle.std.specs.Prelude.{◌≡◌, ◌&&◌, ◌∷◌, [], Bool, length, map, IfOk};
 ghost use Rattle.lf_ast.specs.Tree.{parts_of, tree, nodes};
-ghost use Rattle.lf_ast.specs.Types.{is_scalar};
 ghost use Rattle.lf_semantics.specs.Parts.{is_scalar_part};
 
 use lf_ast::walk::{Fold, Parts};

@@ -1,12 +1,11 @@
 //! The series for selectors.
-ghost use Rattle.std.specs.Prelude.{◌≡◌, ◌<◌, ◌+◌, Bool, cond, false, List, Some, None, length, option_and_then, IfOk, IfSome};
-ghost use Rattle.std.specs.Option.{option_copied, option_map};
+ghost use Rattle.std.specs.Prelude.{◌≡◌, ◌<◌, cond, false, List, Some, None, option_and_then, IfOk};
+ghost use Rattle.std.specs.Option.{option_map};
 ghost use Rattle.lf_ast.specs.Labels.{Bytes};
 ghost use Rattle.lf_ast.specs.Rules.{RuleTree};
 ghost use Rattle.lf_ast.specs.Selectors.{metric};
 ghost use Rattle.lf_classes.specs.Limits.{IsWithin};
 ghost use Rattle.lf_semantics.specs.Environments.{recorded_names};
-ghost use Rattle.lf_semantics.specs.Listing.{named_at};
 ghost use Rattle.lf_trials.specs.Building.{Builder, with_series};
 ghost use Rattle.lf_trials.specs.Built.{build_selector, name_of_series};
 ghost use Rattle.lf_trials.specs.Candidates.{labels_in};

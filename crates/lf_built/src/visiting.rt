@@ -14,7 +14,7 @@ ghost use Rattle.lf_built.specs.views.Indexed.{IsPrepared, env_of, trees_of, uni
 ghost use Rattle.lf_built.specs.views.Places.{size};
 ghost use Rattle.lf_built.specs.views.Spots.{IsSelector, IsSpot, tree_at};
 ghost use Rattle.lf_built.specs.views.Tasks.{IsNoSelector, parts_wanted};
-ghost use Rattle.lf_built.specs.views.Works.{AreTasks, GoesOn, IsEntered, Leaves, LeavesBehind, all_of, by_rule_of, effort, expression_of, marks_of, outcome_of, selector_of, so_far, stack_of, weight};
+ghost use Rattle.lf_built.specs.views.Works.{GoesOn, IsEntered, Leaves, LeavesBehind, all_of, by_rule_of, effort, expression_of, marks_of, selector_of, stack_of, weight};
 
 use crate::operands::without_marked;
 use crate::prepared::Prepared;

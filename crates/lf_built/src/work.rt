@@ -1,6 +1,6 @@
 //! A building under way.
-ghost use Rattle.std.specs.Prelude.{◌≡◌, ◌++◌, reverse, IfOk, OnOk};
-ghost use Rattle.lf_built.specs.views.Works.{stack_of, tasks_of};
+ghost use Rattle.std.specs.Prelude.{◌≡◌, ◌++◌, reverse, OnOk};
+ghost use Rattle.lf_built.specs.views.Works.{tasks_of};
 
 use crate::made::Made;
 use crate::marks::Marks;

@@ -4,6 +4,7 @@ use Rattle.std.proofs.lemmas.Bool.{cases_lt}
 use Rattle.std.proofs.lemmas.List.Elements.{All-append, All-contains, All-weaker}
 use Rattle.std.specs.List.{All, Contains}
 use Rattle.std.specs.Prelude.{slice_get}
+use Rattle.lf_laws.specs.Ascending.{IsInOrder}
 use Rattle.lf_ast.specs.Labels.{Bytes}
 use Rattle.lf_ast.specs.Rules.{RuleTree}
 use Rattle.lf_ast.specs.declared.verdict.Finding.{Finding as Row}
@@ -12,11 +13,11 @@ use Rattle.lf_semantics.specs.Environments.{rule_row}
 use Rattle.lf_semantics.specs.Listing.{Listing}
 use Rattle.lf_semantics.specs.RowTable.{Environment}
 use Rattle.lf_checks.specs.Files.{File, IsNamedAt, place_in}
-use Rattle.lf_checks.specs.Finding.{Check, AlertComparison, AlertTemplate, RuleDuplicate, RuleDependency, PromqlRegexp, MatchLabel, ExprEmpty, ExprType, RuleLabel, Finding, finding}
+use Rattle.lf_checks.specs.Finding.{Check, AlertComparison, AlertTemplate, RuleDuplicate, RuleDependency, PromqlRegexp, MatchLabel, ExprEmpty, ExprType, RuleLabel, Finding, finding, finding_cmp}
 use Rattle.lf_checks.specs.Findings.{AreFindingsIn, FindsIn, IsFindingIn}
 use Rattle.lf_checks.specs.RuleDuplicate as rule_duplicate
 use Rattle.lf_checks.specs.views.Checked.{IsOfParts, IsOfRule}
-use Rattle.lf_checks.specs.views.InOrder.{IsInOrder, OneDuplicate}
+use Rattle.lf_checks.specs.views.InOrder.{OneDuplicate}
 use Rattle.lf_checks.specs.Numbers.{HasNumbers}
 use Rattle.lf_checks.specs.views.Shown.{AreNumbered, Lists, ListsAlone, NumberedAlone, all_shown, shown}
 use Rattle.lf_checks.proofs.Lists.{lists_both, lists_same, numbered_both}
@@ -116,7 +117,7 @@ module _ (files : List File) (u : Listing) (rules : List RuleTree) (env : Enviro
       one_found files rules i h.0 f g (duplicate_by h.0 f h.2 h.3 ef) (duplicate_by h.0 g k.2 (subst (λ (x : RuleTree). FindsIn files u rules env k.2 i x g) (sym same) k.3) eg)
 
   -- the list of the findings is what was found, in order
-  pub are_findings : (found sorted : List Row) → Lists files rules (IsFindingIn files u rules env i) found → (OneDuplicate (all_shown files rules found) → IsInOrder (all_shown files rules found) (all_shown files rules sorted))
+  pub are_findings : (found sorted : List Row) → Lists files rules (IsFindingIn files u rules env i) found → (OneDuplicate (all_shown files rules found) → IsInOrder finding_cmp (all_shown files rules found) (all_shown files rules sorted))
       → AreFindingsIn files u rules env i (all_shown files rules sorted)
   are_findings found sorted lists order =
       let put = order (one_duplicate found lists) in

@@ -1,22 +1,17 @@
 -- Findings that are in the order of their keys, each key once, are in their own order.
-use Rattle.std.proofs.Common.{◌≡◌, ◌≢◌, ◌<◌, ℕ, zero, suc, Bool, true, false, true≢false, List, [], ◌∷◌, map, Option, Some, None, get_or, refl, sym, ap, ◌∙◌, subst}
+use Rattle.std.proofs.Common.{◌≡◌, ◌≢◌, ℕ, zero, suc, Bool, true, false, true≢false, List, [], ◌∷◌, map, Option, Some, None, refl, sym, ap, ◌∙◌, subst}
 use Rattle.std.proofs.lemmas.Cmp.{tied_itself}
-use Rattle.std.proofs.lemmas.List.Elements.{All-contains_itself, All-map, All-weaker}
-use Rattle.std.proofs.lemmas.List.Kept.{Any-dedup, Contains-from_dedup, IsStrictlySortedBy-dedup}
-use Rattle.std.proofs.lemmas.List.Sorted.{Contains-permutation, IsPermutation-sym}
-use Rattle.std.proofs.lemmas.Map.Keys.{Less-from_sorted}
-use Rattle.std.proofs.lemmas.Option.{get_or_from_slice_get, slice_get-map, slice_get_within}
-use Rattle.std.specs.Cmp.{IsTotalOrder, eq_by_cmp_equiv, on_total}
+use Rattle.std.proofs.lemmas.List.Elements.{All-contains_itself, All-weaker}
 use Rattle.std.specs.Cmp.Lexicographic.{nat_list_cmp_total, slice_cmp}
 use Rattle.std.specs.FinMap.{nat_cmp-IsAntisymmetric}
-use Rattle.std.specs.List.{All, Any, Contains, dedup}
-use Rattle.std.specs.List.Sorted.{IsPermutation, IsSorted, IsStrictlySortedBy}
-use Rattle.std.specs.Option.{option_map}
+use Rattle.std.specs.List.{All, Contains, dedup}
+use Rattle.std.specs.List.Sorted.{IsPermutation, IsSorted}
 use Rattle.std.specs.Ordering.{eq_by_cmp, nat_cmp}
-use Rattle.std.specs.Prelude.{slice_get}
 use Rattle.std.specs.declared.cmp.Ordering.{Ordering}
 use Rattle.std.specs.declared.cmp.Ordering.TheVariants.{Less, Greater, Equal}
-use Rattle.lf_laws.proofs.Members.{in_map, map_member}
+use Rattle.lf_laws.specs.Ascending.{IsInOrder}
+use Rattle.lf_laws.proofs.Members.{in_map}
+use Rattle.lf_base.proofs.KeyedOrder.{given as each_given, in_order as all_in_order}
 use Rattle.lf_base.specs.declared.place.Span.{Span}
 use Rattle.lf_ast.specs.Labels.{Bytes}
 use Rattle.lf_ast.specs.Rules.{RuleTree}
@@ -26,8 +21,8 @@ use Rattle.lf_checks.specs.Finding.{Check, AlertComparison, AlertTemplate, RuleD
 use Rattle.lf_checks.specs.RuleDuplicate.{says_where}
 use Rattle.lf_base.specs.declared.keyed.Keyed.{Keyed}
 use Rattle.lf_checks.specs.views.Cases.{check_at, said}
-use Rattle.lf_base.specs.views.Keyed.{keyed_cmp, items_of}
-use Rattle.lf_checks.specs.views.InOrder.{IsInOrder, OneDuplicate, keyed, row_key}
+use Rattle.lf_base.specs.views.Keyed.{keyed_cmp}
+use Rattle.lf_checks.specs.views.InOrder.{OneDuplicate, keyed, row_key}
 use Rattle.lf_checks.specs.views.Shown.{all_shown, place_of, shown}
 use Rattle.lf_checks.proofs.SomeList.{at_rank, equal_same}
 
@@ -127,120 +122,16 @@ module _ (files : List File) (rules : List RuleTree) where
 
   -- ---- lists
 
-  at_map : {X Y : Type 0} (h : X → Y) (xs : List X) (k : ℕ) (y : Y) → slice_get (map h xs) k ≡ Some y → (x : X) × (slice_get xs k ≡ Some x) × (y ≡ h x)
-  at_map {X} {Y} h xs k y e = by (slice_get xs k) refl
-    where
-      is : option_map h (slice_get xs k) ≡ Some y
-      is = sym (slice_get-map h xs k) ∙ e
-
-      by : (o : Option X) → slice_get xs k ≡ o → (x : X) × (slice_get xs k ≡ Some x) × (y ≡ h x)
-      by None en = let P : Option X → Type 0 = λ o. option_map h o ≡ Some y in let clash : None ≡ Some y = subst P en is in absurd (let no_way : None ≡ Some y = clash in cc)
-      by (Some x) es = let P : Option X → Type 0 = λ o. option_map h o ≡ Some y in let found : Some (h x) ≡ Some y = subst P es is in (x, es, (let back : Some (h x) ≡ Some y = found in cc))
-
-  total : IsTotalOrder (keyed_cmp {T = Row})
-  total = on_total items_of nat_list_cmp_total
-
   module _ (found : List Row) (sorted : List (Keyed Row)) (moved : IsPermutation (map keyed found) sorted) (up : IsSorted keyed_cmp sorted) (one : OneDuplicate (all_shown files rules found)) where
-    left : List (Keyed Row)
-    left = dedup (eq_by_cmp keyed_cmp) sorted
-
-    -- what is left was found
-    from : (k : Keyed Row) → Contains left k → (a : Row) × Contains found a × (k ≡ keyed a)
-    unfolding left
-    from k c = map_member keyed found k (Contains-permutation sorted (map keyed found) k (IsPermutation-sym (map keyed found) sorted moved) (Contains-from_dedup (eq_by_cmp keyed_cmp) sorted k c))
-
     only_one_names : (a b : Row) → Contains found a → Contains found b → is_duplicate (check_at a.check) ≡ true → is_duplicate (check_at b.check) ≡ true → shown files rules a ≡ shown files rules b
     only_one_names a b ca cb ea eb =
         one (shown files rules a) (shown files rules b) (in_map (shown files rules) found a ca) (in_map (shown files rules) found b cb) (duplicate_is (check_at a.check) ea) (duplicate_is (check_at b.check) eb)
 
-    strictly : IsStrictlySortedBy keyed_cmp left
-    unfolding left
-    strictly = IsStrictlySortedBy-dedup total (λ x y. refl) sorted up
-
-    findings : List Row
-    findings = map (λ (k : Keyed Row). k.item) left
-
-    -- what stands at a place
-    at_place : (j : ℕ) (f : Finding) → slice_get (all_shown files rules findings) j ≡ Some f → (a : Row) × Contains found a × (f ≡ shown files rules a) × (slice_get left j ≡ Some (keyed a))
-    unfolding findings
-    at_place j f e = by (at_map (shown files rules) findings j f e)
-      where
-        named : (x : Row) → f ≡ shown files rules x → (k : Keyed Row) → slice_get left j ≡ Some k → x ≡ k.item → (a : Row) × Contains found a × (k ≡ keyed a) → (a : Row) × Contains found a × (f ≡ shown files rules a) × (slice_get left j ≡ Some (keyed a))
-        named x is k there own (a, c, same) = (a, c, is ∙ ap (shown files rules) {x = x} {y = a} (own ∙ ap (λ (l : Keyed Row). l.item) {x = k} {y = keyed a} same), there ∙ ap (λ (l : Keyed Row). Some l) same)
-
-        by : (x : Row) × (slice_get findings j ≡ Some x) × (f ≡ shown files rules x) → (a : Row) × Contains found a × (f ≡ shown files rules a) × (slice_get left j ≡ Some (keyed a))
-        by (x, here_now, is) = further (at_map (λ (k : Keyed Row). k.item) left j x here_now)
-          where
-            further : (k : Keyed Row) × (slice_get left j ≡ Some k) × (x ≡ k.item) → (a : Row) × Contains found a × (f ≡ shown files rules a) × (slice_get left j ≡ Some (keyed a))
-            further (k, there, own) = named x is k there own (from k (j, slice_get_within left j k there, get_or_from_slice_get left j k k there))
-
-    ascending : (j k : ℕ) (f g : Finding) → j < k → slice_get (all_shown files rules findings) j ≡ Some f → slice_get (all_shown files rules findings) k ≡ Some g → finding_cmp f g ≡ Less
-    ascending j k f g lt ef eg = by (at_place j f ef) (at_place k g eg)
-      where
-        by : (a : Row) × Contains found a × (f ≡ shown files rules a) × (slice_get left j ≡ Some (keyed a)) → (b : Row) × Contains found b × (g ≡ shown files rules b) × (slice_get left k ≡ Some (keyed b)) → finding_cmp f g ≡ Less
-        by (a, ca, first, ja) (b, cb, second, kb) =
-            let one_key = get_or_from_slice_get left j (keyed a) (keyed a) ja in
-            let other_key = get_or_from_slice_get left k (keyed b) (keyed a) kb in
-            let less : keyed_cmp (get_or left j (keyed a)) (get_or left k (keyed a)) ≡ Less = Less-from_sorted keyed_cmp left j k (keyed a) strictly lt (slice_get_within left k (keyed b) kb) in
-            let at_rows : keyed_cmp (keyed a) (keyed b) ≡ Less =
-            subst (λ (q : Keyed Row). keyed_cmp (keyed a) q ≡ Less) {x = get_or left k (keyed a)} {y = keyed b} other_key
-            (subst (λ (p : Keyed Row). keyed_cmp p (get_or left k (keyed a)) ≡ Less) {x = get_or left j (keyed a)} {y = keyed a} one_key less) in
-            less_as f g (shown files rules a) (shown files rules b) first second (less_shown a b (only_one_names a b ca cb) at_rows)
-
-    tie : (p q : Keyed Row) → eq_by_cmp keyed_cmp p q ≡ true → keyed_cmp p q ≡ Equal
-    tie p q e = by (keyed_cmp p q) refl
-      where
-        by : (o : Ordering) → keyed_cmp p q ≡ o → keyed_cmp p q ≡ Equal
-        by Equal is = is
-        by Less is = absurd (true≢false (sym e ∙ rw is refl))
-        by Greater is = absurd (true≢false (sym e ∙ rw is refl))
-
-    -- one that has the key of another, which is left
-    tied : (a b : Row) → Contains found a → Contains found b → (y : Keyed Row) → Contains left y → keyed_cmp (keyed a) y ≡ Equal → y ≡ keyed b → Contains (all_shown files rules findings) (shown files rules a)
-    unfolding findings
-    tied a b ca cb y inside equal is =
-        let P : Keyed Row → Type 0 = λ q. keyed_cmp (keyed a) q ≡ Equal in
-        let same : shown files rules a ≡ shown files rules b = same_shown a b (only_one_names a b ca cb) (subst P {x = y} {y = keyed b} is equal) in
-        let own : y.item ≡ b = ap (λ (l : Keyed Row). l.item) {x = y} {y = keyed b} is in
-        let there : shown files rules y.item ≡ shown files rules a = ap (shown files rules) {x = y.item} {y = b} own ∙ sym same in
-        subst (Contains (all_shown files rules (map (λ (l : Keyed Row). l.item) left))) there
-        (in_map (shown files rules) (map (λ (l : Keyed Row). l.item) left) y.item (in_map (λ (l : Keyed Row). l.item) left y inside))
-
-    kept_row : (a : Row) → Contains found a → Contains (all_shown files rules findings) (shown files rules a)
-    unfolding left
-    kept_row a ca = by (Any-dedup (eq_by_cmp_equiv total) sorted (keyed a) (Contains-permutation (map keyed found) sorted (keyed a) moved (in_map keyed found a ca)))
-      where
-        by : Any (λ y. eq_by_cmp keyed_cmp (keyed a) y ≡ true) (dedup (eq_by_cmp keyed_cmp) sorted) → Contains (all_shown files rules findings) (shown files rules a)
-        by (k, y, below, at, e) = further (from y (k, below, at))
-          where
-            further : (b : Row) × Contains found b × (y ≡ keyed b) → Contains (all_shown files rules findings) (shown files rules a)
-            further (b, cb, is) = tied a b ca cb y (k, below, at) (tie (keyed a) y e) is
-
-    kept : (f : Finding) → Contains (all_shown files rules found) f → Contains (all_shown files rules findings) f
-    kept f c = by (map_member (shown files rules) found f c)
-      where
-        by : (a : Row) × Contains found a × (f ≡ shown files rules a) → Contains (all_shown files rules findings) f
-        by (a, ca, is) = subst (Contains (all_shown files rules findings)) (sym is) (kept_row a ca)
-
-    only : (f : Finding) → Contains (all_shown files rules findings) f → Contains (all_shown files rules found) f
-    unfolding findings
-    only f c =
-        let row = map_member (shown files rules) findings f c in
-        let k = map_member (λ (k : Keyed Row). k.item) left row.0 row.1 in
-        let a = from k.0 k.1 in
-        let is : shown files rules a.0 ≡ f = sym (row.2 ∙ ap (shown files rules) (k.2 ∙ ap (λ (k : Keyed Row). k.item) a.2)) in
-        subst (Contains (all_shown files rules found)) is (in_map (shown files rules) found a.0 a.1)
-
-    pub in_order : (rs : List (Keyed Row)) → rs ≡ dedup (eq_by_cmp keyed_cmp) sorted → IsInOrder (all_shown files rules found) (all_shown files rules (map (λ (k : Keyed Row). k.item) rs))
-    unfolding left findings
-    in_order rs is = subst (λ (ks : List (Keyed Row)). IsInOrder (all_shown files rules found) (all_shown files rules (map (λ (k : Keyed Row). k.item) ks))) (sym is) (record { ascending = ascending; kept = kept; only = only })
+    pub in_order : (rs : List (Keyed Row)) → rs ≡ dedup (eq_by_cmp keyed_cmp) sorted → IsInOrder finding_cmp (all_shown files rules found) (all_shown files rules (map (λ (k : Keyed Row). k.item) rs))
+    in_order = all_in_order row_key (shown files rules) finding_cmp found sorted moved up (λ a b ca cb. less_shown a b (only_one_names a b ca cb)) (λ a b ca cb. same_shown a b (only_one_names a b ca cb))
 
 -- each that is left was found
 pub given : (found : List Row) (sorted rs : List (Keyed Row)) → IsPermutation (map keyed found) sorted → rs ≡ dedup (eq_by_cmp keyed_cmp) sorted → All (Contains found) (map (λ (k : Keyed Row). k.item) rs)
-given found sorted rs moved is = All-map (Contains found) (λ (k : Keyed Row). k.item) rs (All-weaker (Contains rs) (λ (k : Keyed Row). Contains found k.item) from rs (All-contains_itself rs))
-  where
-    from : (k : Keyed Row) → Contains rs k → Contains found k.item
-    from k c =
-        let kept : Contains sorted k = Contains-from_dedup (eq_by_cmp keyed_cmp) sorted k (subst (λ (l : List (Keyed Row)). Contains l k) is c) in
-        let a = map_member keyed found k (Contains-permutation sorted (map keyed found) k (IsPermutation-sym (map keyed found) sorted moved) kept) in
-        subst (Contains found) (sym (ap (λ (l : Keyed Row). l.item) {x = k} {y = keyed a.0} a.2)) a.1
+given found sorted rs moved is =
+    let listed : List Row = map (λ (k : Keyed Row). k.item) rs in
+    All-weaker (Contains listed) (Contains found) (each_given row_key (shown [] []) finding_cmp found sorted moved rs is) listed (All-contains_itself listed)

@@ -1,7 +1,7 @@
 -- The findings of a rule: what the checks find of it, and their list.
-use Rattle.std.specs.Prelude.{◌≡◌, ◌<◌, ℕ, List, Some, slice_get}
+use Rattle.std.specs.Prelude.{◌≡◌, ℕ, List, Some, slice_get}
 use Rattle.std.specs.List.{Contains}
-use Rattle.std.specs.declared.cmp.Ordering.TheVariants.{Less}
+use Rattle.lf_laws.specs.Ascending.{IsAscending}
 use Rattle.lf_ast.specs.Rules.{RuleTree}
 use Rattle.lf_semantics.specs.Environments.{rule_row}
 use Rattle.lf_semantics.specs.Listing.{Listing, universe_of}
@@ -53,7 +53,7 @@ module _ (files : List File) (u : Listing) (rules : List RuleTree) (env : Enviro
   pub record AreFindingsIn (i : ℕ) (found : List Finding) : Type 0 where
     pub each : (f : Finding) → Contains found f → IsFindingIn i f
     pub all : (f : Finding) → IsFindingIn i f → Contains found f
-    pub ascending : (j k : ℕ) (f g : Finding) → j < k → slice_get found j ≡ Some f → slice_get found k ≡ Some g → finding_cmp f g ≡ Less
+    pub ascending : IsAscending finding_cmp found
 
 -- the same in the universe of exactly these rules
 abbrev pub AreFindings : List File → List RuleTree → Environment → ℕ → List Finding → Type 0

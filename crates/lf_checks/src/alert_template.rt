@@ -1,5 +1,5 @@
 //! alert/template: a template of an alert that names a label which none of its samples has, or that can't be read.
-ghost use Rattle.std.specs.Prelude.{◌≡◌, ◌+◌, List, length, IfOk};
+ghost use Rattle.std.specs.Prelude.{◌≡◌, ◌+◌, length, IfOk};
 ghost use Rattle.std.specs.List.{Contains};
 ghost use Rattle.std.specs.List.Sorted.{IsNonDecreasing};
 ghost use Rattle.lf_laws.specs.Gaining.{OfSome};

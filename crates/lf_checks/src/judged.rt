@@ -1,5 +1,5 @@
 //! What a row says of a label.
-ghost use Rattle.std.specs.Prelude.{◌≡◌, ◌↔◌, IsTrue};
+ghost use Rattle.std.specs.Prelude.{◌↔◌, IsTrue};
 ghost use Rattle.lf_semantics.specs.ClassRows.{HasShape};
 ghost use Rattle.lf_checks.specs.Judged.{IsGuaranteed, IsImpossible};
 

@@ -2,7 +2,7 @@
 //!
 //! The rows of all parts of an expression are made in one walk, and so are their types: the time is linear in the number of parts. They are made only where some part
 //! seeks a label, and the row of the rule is taken from them.
-ghost use Rattle.std.specs.Prelude.{◌≡◌, ◌<◌, ◌∷◌, ◌&&◌, [], List, Some, None, false, length, map, slice_get, IfOk, IfSome, IfNone, OnOk};
+ghost use Rattle.std.specs.Prelude.{◌≡◌, ◌<◌, ◌∷◌, ◌&&◌, [], Some, None, false, length, map, slice_get, IfOk, IfSome, IfNone, OnOk};
 ghost use Rattle.std.specs.List.{list_any};
 ghost use Rattle.lf_laws.specs.Gaining.{OfSome};
 ghost use Rattle.lf_ast.specs.Functions.{aggregation};
@@ -25,7 +25,7 @@ use crate::alert_comparison::{Condition, part_conditions};
 use crate::case::Case;
 use crate::judged::is_impossible;
 use crate::telling::tell_if;
-use lf_ast::{Agg, Expr, Finding, Group, Grouping, Matching, Name, Rule, is_vector};
+use lf_ast::{Agg, Expr, Finding, Function, Group, Grouping, Matching, Name, Rule, is_vector};
 use lf_base::{Memory, Seq};
 use lf_classes::{Row, Universe};
 use lf_flow::{Env, part_rows};
@@ -211,17 +211,7 @@ fn labels_by(grouping: &Grouping) -> &[Name]
 fn operand_place(op: Agg) -> usize
     ensures { result ≡ operand_place (aggregation op) }
 {
-    match op {
-        Agg::Quantile | Agg::CountValues | Agg::Topk | Agg::Bottomk => 1,
-        Agg::Sum
-        | Agg::Min
-        | Agg::Max
-        | Agg::Avg
-        | Agg::Group
-        | Agg::Stddev
-        | Agg::Stdvar
-        | Agg::Count => 0,
-    }
+    lf_nodes::operand_place(Function::of_aggregation(op).takes)
 }
 
 /// Whether both sides of an operator are vectors, by what they are.

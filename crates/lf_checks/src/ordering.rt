@@ -1,11 +1,12 @@
 //! The order of findings.
 ghost use Rattle.std.specs.Prelude.{◌≡◌, ◌++◌, List, map, IfOk, OnOk};
 ghost use Rattle.std.specs.List.{All, Contains};
+ghost use Rattle.lf_laws.specs.Ascending.{IsInOrder};
 ghost use Rattle.lf_ast.specs.Rules.{RuleTree};
 ghost use Rattle.lf_checks.specs.Files.{File};
-ghost use Rattle.lf_checks.specs.Finding.{rank};
+ghost use Rattle.lf_checks.specs.Finding.{finding_cmp, rank};
 ghost use Rattle.lf_checks.specs.views.Cases.{check_at};
-ghost use Rattle.lf_checks.specs.views.InOrder.{IsInOrder, OneDuplicate, keyed, row_key};
+ghost use Rattle.lf_checks.specs.views.InOrder.{OneDuplicate, keyed, row_key};
 ghost use Rattle.lf_checks.specs.views.Shown.{all_shown};
 
 use crate::texts::text_of;
@@ -15,7 +16,7 @@ use std::alloc::Global;
 
 /// The findings in their order, each once. Of one that names another rule the place of that rule isn't looked at: there is one at most.
 pub(crate) fn in_order(alloc: Global, found: Vec<Finding>) -> Result<Seq<Finding>, Memory>
-    ensures order { IfOk result (λ sorted. (files : List File) (rules : List RuleTree) → OneDuplicate (all_shown files rules found.items) → IsInOrder (all_shown files rules found.items) (all_shown files rules sorted)) }
+    ensures order { IfOk result (λ sorted. (files : List File) (rules : List RuleTree) → OneDuplicate (all_shown files rules found.items) → IsInOrder finding_cmp (all_shown files rules found.items) (all_shown files rules sorted)) }
     ensures given { IfOk result (All (Contains found.items)) }
 {
     let mut keyed = with_keys(alloc, found)?;

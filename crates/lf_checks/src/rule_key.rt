@@ -1,9 +1,8 @@
 //! Recording rules written out without spans, so that two are written alike exactly where they are the same.
 ghost use Rattle.std.specs.Prelude.{◌≡◌, ◌<◌, ◌++◌, ◌∷◌, [], string_bytes, IfOk, OnOk};
-ghost use Rattle.std.specs.List.{flat_map};
 ghost use Rattle.lf_ast.specs.Rules.{rule_tree};
 ghost use Rattle.lf_ast.specs.Tree.{tree};
-ghost use Rattle.lf_checks.specs.views.Keys.{agg_mark, count_code, expr_code, flag_code, group_mark, grouping_code, key_of, label_code, list_code, match_mark, matcher_code, matching_code, name_code, names_code, node_code, op_mark, option_code, sight_code, text_code};
+ghost use Rattle.lf_checks.specs.views.Keys.{agg_mark, count_code, expr_code, flag_code, group_mark, grouping_code, key_of, label_code, list_code, match_mark, matcher_code, matching_code, names_code, node_code, op_mark, option_code, sight_code, text_code};
 
 use lf_ast::walk::nodes_of;
 use lf_ast::{

@@ -1,5 +1,5 @@
 //! rule/label: a label of a recording rule that replaces one which each sample has, or that removes one which no sample has.
-ghost use Rattle.std.specs.Prelude.{◌≡◌, IfOk};
+ghost use Rattle.std.specs.Prelude.{IfOk};
 ghost use Rattle.lf_ast.specs.Rules.{rule_tree};
 ghost use Rattle.lf_semantics.specs.ClassRows.{HasShape};
 ghost use Rattle.lf_checks.specs.RuleLabel.{IsFound};

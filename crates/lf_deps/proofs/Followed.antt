@@ -98,7 +98,7 @@ making_from rules name n r c a e (inr d) = inr (in_flat_map (made_by name) rules
 
 -- what is read
 
-reads_more : (rules : List RuleTree) (e : Tree) (m : Bytes) → Reads rules e m → (r : RuleTree) → Contains rules r → r.alert ≡ false → r.name ≡ m → (n : Bytes) → Selects rules r.expr n → Reads rules e n
+pub reads_more : (rules : List RuleTree) (e : Tree) (m : Bytes) → Reads rules e m → (r : RuleTree) → Contains rules r → r.alert ≡ false → r.name ≡ m → (n : Bytes) → Selects rules r.expr n → Reads rules e n
 reads_more rules e m (selected s) r c a is n sel = through r c a (let P : Bytes → Type 0 = λ z. Selects rules e z in subst P (sym is) s) (selected sel)
 reads_more rules e m (through q d b t rest) r c a is n sel = through q d b t (reads_more rules q.expr m rest r c a is n sel)
 

@@ -1,5 +1,5 @@
 //! Numbers, of which the least is taken out first.
-ghost use Rattle.std.specs.Prelude.{◌≡◌, ◌⊎◌, ◌<◌, ℕ, [], ◌∷◌, IfOk, IfNone, IfSome, OnOk};
+ghost use Rattle.std.specs.Prelude.{◌≡◌, ◌⊎◌, ◌<◌, ℕ, [], ◌∷◌, IfNone, IfSome, OnOk};
 ghost use Rattle.std.specs.List.{Contains};
 
 use lf_base::Memory;

@@ -1,5 +1,6 @@
 //! Numbers of rules and names, each once, in ascending order.
-ghost use Rattle.std.specs.Prelude.{◌≡◌, ◌<◌, ◌∷◌, [], ℕ, length, IfOk, OnOk, slice_index_or};
+ghost use Rattle.std.specs.Prelude.{◌≡◌, ◌<◌, ◌∷◌, [], IfOk, OnOk};
+ghost use Rattle.lf_laws.specs.Ascending.{AreAscending};
 ghost use Rattle.lf_graph.specs.views.Listing.{Adds};
 
 use lf_base::{Memory, Seq};
@@ -20,7 +21,7 @@ pub fn add_number(found: &mut BTreeSet<u32>, number: usize) -> Result<(), Memory
 /// Numbers in ascending order.
 pub fn in_order(alloc: Global, numbers: BTreeSet<u32>) -> Result<Seq<u32>, Memory>
     ensures members { IfOk result (λ found. found ≡ numbers.keys) }
-    ensures ascending { IfOk result (λ found. (k l : ℕ) → k < l → l < length found → slice_index_or found k 0 < slice_index_or found l 0) }
+    ensures ascending { IfOk result AreAscending }
 {
     let items: Vec<u32> = numbers.into_iter().collect(alloc)?;
     Ok(Seq::from_vec(items))

@@ -1,5 +1,5 @@
 //! The rules left to be ordered, and which of them wait.
-ghost use Rattle.std.specs.Prelude.{◌≡◌, ◌≤◌, ◌<◌, ◌+◌, ◌++◌, ℕ, true, [], ◌∷◌, length, replicate, slice_index_or, slice_set, IfOk, OnOk};
+ghost use Rattle.std.specs.Prelude.{◌≡◌, ◌≤◌, ◌<◌, ◌+◌, ◌++◌, ℕ, true, [], ◌∷◌, length, slice_index_or, slice_set, IfOk, OnOk};
 ghost use Rattle.std.specs.List.{Contains, range_with_len};
 ghost use Rattle.lf_deps.specs.views.Queue.{Chooses, CountsDown, IsLeft, IsQueue, IsReady, IsStart, IsWhole, Settles, TakesNext, occurs, occurs_in};
 

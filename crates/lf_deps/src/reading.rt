@@ -1,6 +1,7 @@
 //! Which rules and names are read.
-ghost use Rattle.std.specs.Prelude.{◌≡◌, ◌<◌, ◌↔◌, ℕ, List, length, IfOk, IsTrue, Some, slice_get, slice_index_or};
+ghost use Rattle.std.specs.Prelude.{◌≡◌, ◌<◌, ◌↔◌, ℕ, List, length, IfOk, IsTrue, Some, slice_get};
 ghost use Rattle.std.specs.List.{Contains};
+ghost use Rattle.lf_laws.specs.Ascending.{AreAscending};
 ghost use Rattle.lf_ast.specs.Rules.{RuleTree, rule_trees};
 ghost use Rattle.lf_ast.specs.Tree.{tree};
 ghost use Rattle.lf_deps.specs.views.Index.{IsIndex};
@@ -25,7 +26,7 @@ use std::alloc::Global;
 pub fn reach(alloc: Global, rules: &Seq<Rule>, i: u32) -> Result<Seq<u32>, Memory>
     requires { i < length rules.now }
     ensures members { (of : RuleTree) → slice_get (rule_trees rules.now) i ≡ Some of → (k : ℕ) → IfOk result (λ found. Contains found k ↔ ((r : RuleTree) × (slice_get (rule_trees rules.now) k ≡ Some r) × Reaches (rule_trees rules.now) of.expr r)) }
-    ensures ascending { IfOk result (λ found. (k l : ℕ) → k < l → l < length found → slice_index_or found k 0 < slice_index_or found l 0) }
+    ensures ascending { IfOk result AreAscending }
 {
     let sources = Sources::of(alloc, rules)?;
     let graph = NameGraph::of(alloc, &sources)?;
@@ -43,7 +44,7 @@ pub fn reach_of(
     requires graph { IsNameGraphOf sources.now graph.now }
     requires rule { i < length sources.now.selected }
     ensures members { (rules : List RuleTree) → IsSourcesOf rules sources.now → (of : RuleTree) → slice_get rules i ≡ Some of → (k : ℕ) → IfOk result (λ found. Contains found k ↔ ((r : RuleTree) × (slice_get rules k ≡ Some r) × Reaches rules of.expr r)) }
-    ensures ascending { IfOk result (λ found. (k l : ℕ) → k < l → l < length found → slice_index_or found k 0 < slice_index_or found l 0) }
+    ensures ascending { IfOk result AreAscending }
 {
     let start = sources_of(alloc, sources.recorded(), sources.selected_by(i as usize))?;
     let reached = graph.components().reached(alloc, start.as_slice())?;

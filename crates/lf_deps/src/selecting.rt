@@ -2,7 +2,6 @@
 ghost use Rattle.std.specs.Prelude.{◌≡◌, ◌∷◌, ◌++◌, [], IfOk, OnOk};
 ghost use Rattle.lf_ast.specs.Selectors.{selected_name};
 ghost use Rattle.lf_ast.specs.Tree.{tree};
-ghost use Rattle.lf_ast.specs.Types.{is_scalar};
 ghost use Rattle.lf_deps.specs.Reading.{selectors};
 ghost use Rattle.lf_deps.specs.views.Selecting.{is_scalar_call, own_selectors, parts_read};
 

@@ -53,7 +53,7 @@ put_within : (n k : ℕ) → k < n → Contains (cond (nat_lt k n) (k ∷ []) []
 put_within n k h = let P : Bool → Type 0 = λ b. Contains (cond b (k ∷ []) []) k in subst P (sym (lt-ltb k n h)) (here k [])
 
 pub read_numbers : (env : Environment) (e : Tree) (keys : List ℕ) → Adds (flat_map (numbers_of env) (selectors e)) [] keys → (k : ℕ) → (Contains keys k → ReadsNumber env e k) × (ReadsNumber env e k → Contains keys k)
-read_numbers env e keys adds k = (λ c. elim ((adds k).0 c) [ inl d ↦ absurd (none_in k d) | inr d ↦ out (of_flat_map (numbers_of env) (selectors e) k d) ], λ r. (adds k).1 (inr (back r)))
+read_numbers env e keys adds k = (λ c. elim (adds.only k c) [ inl d ↦ absurd (none_in k d) | inr d ↦ out (of_flat_map (numbers_of env) (selectors e) k d) ], λ r. adds.all k (back r))
   where
     found : (o : Option Bytes) → Contains (selectors e) o → Contains (numbers_of env o) k → ReadsNumber env e k
     found None s c = (of_range (length env) k c, inr s)

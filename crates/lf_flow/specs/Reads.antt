@@ -1,5 +1,5 @@
 -- Which rows of an environment the row of an expression depends on.
-use Rattle.std.specs.Prelude.{◌≡◌, ◌⊎◌, ◌<◌, ℕ, List, [], map, length, Some, None, slice_index, slice_index_or, slice_set}
+use Rattle.std.specs.Prelude.{◌≡◌, ◌⊎◌, ◌<◌, ℕ, List, [], map, length, Some, None, slice_index_or, slice_set}
 use Rattle.std.specs.List.{Contains}
 use Rattle.lf_ast.specs.Labels.{Bytes}
 use Rattle.lf_ast.specs.Tree.{Tree}
@@ -25,10 +25,6 @@ number_of env name = place (names_of env) name
 -- a selector of the expression selects the name with the number, or one selects all. Nothing within a scalar is looked at
 abbrev pub ReadsNumber : Environment → Tree → ℕ → Type 0
 ReadsNumber env e k = (k < length env) × (((name : Bytes) × Contains (selectors e) (Some name) × (number_of env name ≡ k)) ⊎ Contains (selectors e) None)
-
--- in ascending order, each once
-abbrev pub Ascend : List ℕ → Type 0
-Ascend numbers = (k l : ℕ) → k < l → l < length numbers → slice_index numbers k < slice_index numbers l
 
 -- environments of the same names, with the same rows of the names with these numbers
 abbrev pub AreEqualAt : List ℕ → Environment → Environment → Type 0

@@ -5,7 +5,8 @@ ghost use Rattle.lf_ast.specs.Tree.{tree};
 ghost use Rattle.lf_graph.specs.views.Listing.{Adds};
 ghost use Rattle.lf_semantics.specs.Listing.{Listing};
 ghost use Rattle.lf_semantics.specs.RowTable.{Environment, row_of};
-ghost use Rattle.lf_flow.specs.Reads.{AreEqualAt, Ascend, ReadsNumber};
+ghost use Rattle.lf_laws.specs.Ascending.{AreAscending};
+ghost use Rattle.lf_flow.specs.Reads.{AreEqualAt, ReadsNumber};
 ghost use Rattle.lf_flow.specs.views.Reading.{numbers_of};
 
 use crate::Env;
@@ -21,7 +22,7 @@ use std::collections::BTreeSet;
 /// The row of the expression depends on the rows of these names alone. Want of memory where one of the numbers doesn't fit a `u32`.
 pub fn reads(alloc: Global, env: &Env, expr: &Expr) -> Result<Seq<u32>, Memory>
     ensures numbers { IfOk result (λ numbers. (k : ℕ) → Contains numbers k ↔ ReadsNumber env.now (tree expr.now) k) }
-    ensures ascending { IfOk result Ascend }
+    ensures ascending { IfOk result AreAscending }
     // In environments that are equal at these numbers the expression has equal rows.
     ensures same { IfOk result (λ numbers. (universe : Listing) (other : Environment) → AreEqualAt numbers env.now other → row_of universe env.now (tree expr.now) ≡ row_of universe other (tree expr.now)) }
 {

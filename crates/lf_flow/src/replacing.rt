@@ -1,13 +1,12 @@
 //! The row of `label_replace`.
-ghost use Rattle.std.specs.Prelude.{◌≡◌, ◌+◌, ◌<◌, ◌&&◌, ◌||◌, ◌==◌, [], cond, eqb, false, length, nat_lt, not, true, slice_index_or, IfNone, IfOk, IfSome, OnOk};
-ghost use Rattle.std.specs.List.{list_any};
+ghost use Rattle.std.specs.Prelude.{◌≡◌, ◌+◌, ◌<◌, ◌&&◌, ◌||◌, ◌==◌, eqb, false, length, not, true, slice_index_or, IfNone, IfOk, IfSome, OnOk};
 ghost use Rattle.lf_pattern.specs.Matching.{IsRead, matches};
 ghost use Rattle.lf_semantics.specs.ClassRows.{HasShape, holds};
 ghost use Rattle.lf_semantics.specs.Listing.{IsListing, label_of, named_at};
 ghost use Rattle.lf_ast.specs.Tree.{trees};
 ghost use Rattle.lf_ast.specs.Arguments.{texts_of};
 ghost use Rattle.lf_semantics.specs.Passing.{is_plain};
-ghost use Rattle.lf_semantics.specs.RowTable.{has_class, is_expansion, is_other, may_fail, may_match, replacing_row, set_at, source_set};
+ghost use Rattle.lf_semantics.specs.RowTable.{has_class, is_expansion, may_fail, may_match, replacing_row, set_at, source_set};
 ghost use Rattle.lf_semantics.specs.Strings.{replacing};
 ghost use Rattle.lf_flow.specs.views.ClassSets.{IsSet, is_listed};
 

@@ -7,6 +7,7 @@ use Rattle.std.specs.declared.cmp.Ordering.{Ordering}
 use Rattle.std.specs.declared.cmp.Ordering.TheVariants.{Equal, Greater, Less}
 use Rattle.std.proofs.lemmas.List.Elements.{Contains-append_cases, Contains-append_left, Contains-append_right, Contains-push, Contains-push_cases}
 use Rattle.std.proofs.lemmas.Map.Lookups.{exact_unsigned}
+use Rattle.lf_laws.proofs.Gaining.{gains_as, gains_both, gains_none}
 use Rattle.lf_graph.specs.views.Listing.{Adds, AddsBelow}
 use Rattle.lf_graph.proofs.Prefixes.{flat_map_next, prefix_next}
 use Rattle.lf_laws.proofs.Members.{behind, first_or_behind, here, none_in, only_one}
@@ -59,25 +60,19 @@ comes_in old new x k e same =
 
 -- one more number is added
 pub adds_one : (old new : List ℕ) (x : ℕ) → new ≡ insert_key nat_cmp old x → Adds (x ∷ []) old new
-adds_one old new x e k = (
-  λ c. elim (put_in old new x k e c) [ inl d ↦ inl d | inr f ↦ let P : ℕ → Type 0 = λ z. Contains (x ∷ []) z in inr (subst P f (here x [])) ],
-  λ c. elim c [ inl d ↦ stays_in old new x k e d | inr d ↦ comes_in old new x k e (only_one x k d) ],
-)
+adds_one old new x e = record {
+  kept = λ k c. stays_in old new x k e c;
+  all = λ k c. comes_in old new x k e (only_one x k c);
+  only = λ k c. elim (put_in old new x k e c) [ inl d ↦ inl d | inr f ↦ inr (subst (Contains (x ∷ [])) f (here x [])) ];
+}
 
 pub adds_none : (xs : List ℕ) → Adds [] xs xs
-adds_none xs k = (λ c. inl c, λ h. elim h [ inl c ↦ c | inr d ↦ absurd (none_in k d) ])
+adds_none xs = gains_none (λ (l : List ℕ). l) (Contains []) xs none_in
 
 pub adds_then : (a b x y z : List ℕ) → Adds a x y → Adds b y z → Adds (a ++ b) x z
-adds_then a b x y z g h k = (
-  λ c. elim ((h k).0 c) [
-    | inl d ↦ elim ((g k).0 d) [ inl e ↦ inl e | inr e ↦ inr (Contains-append_left a b k e) ]
-    | inr d ↦ inr (Contains-append_right a b k d)
-  ],
-  λ c. elim c [
-    | inl d ↦ (h k).1 (inl ((g k).1 (inl d)))
-    | inr d ↦ elim (Contains-append_cases a b k d) [ inl e ↦ (h k).1 (inl ((g k).1 (inr e))) | inr e ↦ (h k).1 (inr e) ]
-  ],
-)
+adds_then a b x y z g h =
+    gains_as (λ (l : List ℕ). l) (λ k. Contains a k ⊎ Contains b k) (Contains (a ++ b)) x z (gains_both (λ (l : List ℕ). l) (Contains a) (Contains b) x y z g h)
+    (λ k s. elim s [ inl c ↦ Contains-append_left a b k c | inr c ↦ Contains-append_right a b k c ]) (Contains-append_cases a b)
 
 -- the numbers of one more element
 pub adds_more : {X : Type 0} (f : X → List ℕ) (xs : List X) (k : ℕ) (d x : X) (a b c : List ℕ) → k < length xs → x ≡ get_or xs k d → Adds (flat_map f (take k xs)) a b → Adds (f x) b c
@@ -94,25 +89,20 @@ adds_next numbers k x a b c h is g s =
 -- numbers below one
 
 pub below_none : (number : ℕ) (xs : List ℕ) → AddsBelow [] number xs xs
-below_none number xs k = (λ c. inl c, λ h. elim h [ inl c ↦ c | inr d ↦ absurd (none_in k d.0) ])
+below_none number xs = gains_none (λ (l : List ℕ). l) (λ k. Contains [] k × (k < number)) xs (λ k h. none_in k h.0)
 
 pub below_one : (number : ℕ) (xs a b c : List ℕ) (x : ℕ) → x < number → AddsBelow xs number a b → c ≡ insert_key nat_cmp b x → AddsBelow (xs ++ x ∷ []) number a c
-below_one number xs a b c x less g e k = (
-  λ d. elim (put_in b c x k e d) [
-    | inl f ↦ elim ((g k).0 f) [ inl h ↦ inl h | inr h ↦ inr (Contains-append_left xs (x ∷ []) k h.0, h.1) ]
+below_one number xs a b c x less g e = record {
+  kept = λ k d. stays_in b c x k e (g.kept k d);
+  all = λ k d. elim (Contains-push_cases xs x k d.0) [ inl h ↦ stays_in b c x k e (g.all k (h, d.1)) | inr h ↦ comes_in b c x k e h ];
+  only = λ k d. elim (put_in b c x k e d) [
+    | inl f ↦ elim (g.only k f) [ inl h ↦ inl h | inr h ↦ inr (Contains-append_left xs (x ∷ []) k h.0, h.1) ]
     | inr f ↦ let P : ℕ → Type 0 = λ z. Contains (xs ++ x ∷ []) z × (z < number) in inr (subst P f (Contains-push xs x, less))
-  ],
-  λ d. elim d [
-    | inl f ↦ stays_in b c x k e ((g k).1 (inl f))
-    | inr f ↦ elim (Contains-push_cases xs x k f.0) [ inl h ↦ stays_in b c x k e ((g k).1 (inr (h, f.1))) | inr h ↦ comes_in b c x k e h ]
-  ],
-)
+  ];
+}
 
 pub below_other : (number : ℕ) (xs a b : List ℕ) (x : ℕ) → number ≤ x → AddsBelow xs number a b → AddsBelow (xs ++ x ∷ []) number a b
-below_other number xs a b x more g k = (
-  λ d. elim ((g k).0 d) [ inl h ↦ inl h | inr h ↦ inr (Contains-append_left xs (x ∷ []) k h.0, h.1) ],
-  λ d. elim d [
-    | inl f ↦ (g k).1 (inl f)
-    | inr f ↦ elim (Contains-push_cases xs x k f.0) [ inl h ↦ (g k).1 (inr (h, f.1)) | inr h ↦ absurd (omega (arith, h, more, f.1)) ]
-  ],
-)
+below_other number xs a b x more g =
+    gains_as (λ (l : List ℕ). l) (λ k. Contains xs k × (k < number)) (λ k. Contains (xs ++ x ∷ []) k × (k < number)) a b g
+    (λ k h. (Contains-append_left xs (x ∷ []) k h.0, h.1))
+    (λ k h. elim (Contains-push_cases xs x k h.0) [ inl c ↦ (c, h.1) | inr e ↦ absurd (omega (arith, e, more, h.1)) ])

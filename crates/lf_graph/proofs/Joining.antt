@@ -2,8 +2,9 @@
 use Rattle.std.proofs.Common.{◌≡◌, ℕ, ◌<◌, ◌≤◌, ◌↔◌, List, [], ◌∷◌, length, inl, inr, sym, ◌∙◌, ap, subst, arith}
 use Rattle.std.specs.List.{Contains}
 use Rattle.std.proofs.lemmas.Bool.{cases_lt}
+use Rattle.lf_laws.specs.Ascending.{AreAscending}
 use Rattle.lf_graph.specs.Paths.{Leads}
-use Rattle.lf_graph.specs.views.Search.{AllLead, IsLater, IsSearch, Rise, open_at, state_of}
+use Rattle.lf_graph.specs.views.Search.{AllLead, IsLater, IsSearch, open_at, state_of}
 use Rattle.lf_graph.specs.declared.search.Node.TheVariants.{Open, Closed}
 use Rattle.lf_graph.specs.declared.search.Search.{Search}
 use Rattle.lf_laws.proofs.Members.{only_one}
@@ -26,7 +27,7 @@ at_closed edges s node c a e = record {
 }
 
 module _ (edges : List (List ℕ)) (s later : Search) (node place : ℕ) (a : IsSearch edges s (node ∷ [])) (lead : AllLead edges s node) (at : state_of s node ≡ Open place)
-    (same : later ≡ record s { parts = later.parts }) (rise : Rise later.parts.items) (kept : (b : ℕ) → Contains later.parts.items b ↔ (Contains s.parts.items b × (b ≤ place))) where
+    (same : later ≡ record s { parts = later.parts }) (rise : AreAscending later.parts.items) (kept : (b : ℕ) → Contains later.parts.items b ↔ (Contains s.parts.items b × (b ≤ place))) where
   abbrev joined : Search
   joined = record s { parts = later.parts }
 

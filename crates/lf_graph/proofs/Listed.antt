@@ -106,14 +106,14 @@ one_more_next edges numbers n count lists later list h are adds e =
             let N : ℕ → Type 0 = λ i. IsNext edges numbers (n + 1) i l in
             let is : get_or (set lists number list) k [] ≡ list = ap (λ (i : ℕ). get_or (set lists number list) i []) same ∙ get_or-set_same lists number list [] within in
             let was : get_or lists number [] ≡ get_or lists k [] = ap (λ (i : ℕ). get_or lists i []) (sym same) in (
-              λ c. elim ((adds l).0 (subst C is c)) [
+              λ c. elim (adds.only l (subst C is c)) [
                 | inl d ↦ next_to edges numbers n k l ((are.nexts k l).0 (subst C was d))
                 | inr d ↦ subst N (sym same) (next_by_last edges numbers n l d)
               ],
-              λ m. subst C (sym is) ((adds l).1 (elim (next_from edges numbers n k l m) [
-                | inl d ↦ inl (subst C (sym was) ((are.nexts k l).1 d))
-                | inr f ↦ inr f.1
-              ])),
+              λ m. subst C (sym is) (elim (next_from edges numbers n k l m) [
+                | inl d ↦ adds.kept l (subst C (sym was) ((are.nexts k l).1 d))
+                | inr f ↦ adds.all l f.1
+              ]),
             )
         | inr other ↦
             let C : List ℕ → Type 0 = λ xs. Contains xs l in

@@ -3,7 +3,7 @@ use Rattle.std.proofs.Common.{◌≡◌, ◌≢◌, ℕ, ◌<◌, ◌≤◌, ◌
 use Rattle.std.specs.List.{Contains}
 use Rattle.std.proofs.lemmas.Bool.{cases_eq, cases_lt}
 use Rattle.std.proofs.lemmas.List.{get_or-drop, get_or-take, get_or_append_left, get_or_default, get_or_push, length-append, length-drop, length-take}
-use Rattle.lf_graph.specs.views.Search.{Rise}
+use Rattle.lf_laws.specs.Ascending.{AreAscending}
 
 -- a member stands at a place, also where a list is read with another default
 pub place_of : (xs : List ℕ) (x : ℕ) → Contains xs x → (k : ℕ) × (k < length xs) × (get_or xs k 0 ≡ x)
@@ -13,7 +13,7 @@ pub there : (xs : List ℕ) (k x : ℕ) → k < length xs → get_or xs k 0 ≡ 
 there xs k x h e = (k, h, get_or_default xs k x 0 h ∙ e)
 
 -- up to a place the numbers of a list that rises rise too
-pub fewer_rise : (xs : List ℕ) (n : ℕ) → n ≤ length xs → Rise xs → Rise (take n xs)
+pub fewer_rise : (xs : List ℕ) (n : ℕ) → n ≤ length xs → AreAscending xs → AreAscending (take n xs)
 fewer_rise xs n m rise i j h k =
     let size = length-take n xs in
     let b : j < n = omega (arith, k, size, m) in
@@ -23,7 +23,7 @@ fewer_rise xs n m rise i j h k =
     omega (arith, r, e, f)
 
 -- a greater number can stand behind them
-pub more_rise : (xs : List ℕ) (y : ℕ) → Rise xs → ((x : ℕ) → Contains xs x → x < y) → Rise (xs ++ y ∷ [])
+pub more_rise : (xs : List ℕ) (y : ℕ) → AreAscending xs → ((x : ℕ) → Contains xs x → x < y) → AreAscending (xs ++ y ∷ [])
 more_rise xs y rise less i j h k =
     let size = length-append xs (y ∷ []) in
     let front = get_or_append_left xs (y ∷ []) 0 i (omega (arith, h, k, size)) in
@@ -39,7 +39,7 @@ more_rise xs y rise less i j h k =
     ]
 
 -- none is greater than the last
-pub up_to_last : (xs : List ℕ) (x : ℕ) → Rise xs → Contains xs x → x ≤ get_or xs (length xs - 1) 0
+pub up_to_last : (xs : List ℕ) (x : ℕ) → AreAscending xs → Contains xs x → x ≤ get_or xs (length xs - 1) 0
 up_to_last xs x rise c =
     let at = place_of xs x c in
     elim (cases_eq at.0 (length xs - 1)) [
@@ -48,7 +48,7 @@ up_to_last xs x rise c =
     ]
 
 -- each but the last is less than it
-pub before_last : (xs : List ℕ) (x : ℕ) → Rise xs → Contains (take (length xs - 1) xs) x → x < get_or xs (length xs - 1) 0
+pub before_last : (xs : List ℕ) (x : ℕ) → AreAscending xs → Contains (take (length xs - 1) xs) x → x < get_or xs (length xs - 1) 0
 before_last xs x rise c =
     let at = place_of (take (length xs - 1) xs) x c in
     let size = length-take (length xs - 1) xs in

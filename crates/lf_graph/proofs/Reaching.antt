@@ -53,7 +53,7 @@ module _ (due rest : List ℕ) (k : ℕ) (taken : due ≡ rest ++ k ∷ []) wher
 -- what is put in comes before it
 module _ (due rest later nexts : List ℕ) (k : ℕ) (taken : due ≡ rest ++ k ∷ []) (below : All (λ q. IsLtBy nat_cmp q k) rest) (puts : AddsBelow nexts k rest later) where
   later_below : (j : ℕ) → Contains later j → j < k
-  later_below j c = elim ((puts j).0 c) [
+  later_below j c = elim (puts.only j c) [
     | inl d ↦ ranked j k Less (sym (All-contains (λ q. IsLtBy nat_cmp q k) rest j below d))
     | inr d ↦ d.1
   ]
@@ -79,7 +79,7 @@ module _ (edges : List (List ℕ)) (c : Components) (are : AreComponents edges c
   is_node u there = let h = within u there in omega (arith, h, are.numbered.nodes)
 
   from_start : (k : ℕ) → Contains due k → (u : ℕ) × Contains start u × (number c u ≡ k)
-  from_start k there = elim ((adds k).0 there) [ inl d ↦ absurd (none_in k d) | inr d ↦ let u = map_member (number_of c.numbers) start k d in (u.0, u.1, sym u.2) ]
+  from_start k there = elim (adds.only k there) [ inl d ↦ absurd (none_in k d) | inr d ↦ let u = map_member (number_of c.numbers) start k d in (u.0, u.1, sym u.2) ]
 
   pub starts_within : (k : ℕ) → Contains due k → k < length c.members
   starts_within k there =
@@ -89,7 +89,7 @@ module _ (edges : List (List ℕ)) (c : Components) (are : AreComponents edges c
 
   pub starts : IsFoundOrDue edges c.numbers start [] due
   starts v = (
-    λ r. inr (r.0, is_node r.0 r.1, (adds (number c r.0)).1 (inr (in_map (number_of c.numbers) start r.0 r.1)), r.2),
+    λ r. inr (r.0, is_node r.0 r.1, adds.all (number c r.0) (in_map (number_of c.numbers) start r.0 r.1), r.2),
     λ s. elim s [
       | inl d ↦ absurd (none_in v d)
       | inr d ↦
@@ -109,21 +109,21 @@ module _ (edges : List (List ℕ)) (c : Components) (are : AreComponents edges c
   pub goes_on : due ≡ rest ++ k ∷ [] → Adds members found more → AddsBelow nexts k rest later → IsFoundOrDue edges c.numbers start found due → IsFoundOrDue edges c.numbers start more later
   goes_on taken adds puts was v = (
     λ r. elim ((was v).0 r) [
-      | inl f ↦ inl ((adds v).1 (inl f))
+      | inl f ↦ inl (adds.kept v f)
       | inr d ↦ elim (due_cases due rest k taken (number c d.0) d.2) [
-        | inl e ↦ inr (d.0, d.1, (puts (number c d.0)).1 (inl e), d.3)
+        | inl e ↦ inr (d.0, d.1, puts.kept (number c d.0) e, d.3)
         | inr e ↦ elim (walk edges c are k d.0 v d.1 (sym e) d.3) [
-          | inl m ↦ inl ((adds v).1 (inr m))
-          | inr w ↦ inr (w.0, w.1, (puts (number c w.0)).1 (inr (w.2, w.3)), w.4)
+          | inl m ↦ inl (adds.all v m)
+          | inr w ↦ inr (w.0, w.1, puts.all (number c w.0) (w.2, w.3), w.4)
         ]
       ]
     ],
     λ s. (was v).1 (elim s [
-      | inl f ↦ elim ((adds v).0 f) [
+      | inl f ↦ elim (adds.only v f) [
         | inl g ↦ inl g
         | inr m ↦ let is = (are.members k v).0 m in inr (v, is.0, there (number c v) (sym is.1), nowhere)
       ]
-      | inr d ↦ elim ((puts (number c d.0)).0 d.2) [
+      | inr d ↦ elim (puts.only (number c d.0) d.2) [
         | inl e ↦ inr (d.0, d.1, stays_due due rest k taken (number c d.0) e, d.3)
         | inr e ↦
             let next = (are.nexts k (number c d.0)).0 e.0 in

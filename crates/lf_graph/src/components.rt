@@ -1,6 +1,7 @@
 //! The strongly connected components of a graph.
-ghost use Rattle.std.specs.Prelude.{◌≡◌, ◌<◌, ◌↔◌, ◌++◌, [], ◌∷◌, ℕ, List, length, map, replicate, IfOk, IsTrue, OnOk, slice_index_or, slice_set};
+ghost use Rattle.std.specs.Prelude.{◌≡◌, ◌<◌, ◌↔◌, [], ℕ, List, length, map, replicate, IfOk, IsTrue, OnOk};
 ghost use Rattle.std.specs.List.{Contains};
+ghost use Rattle.lf_laws.specs.Ascending.{AreAscending};
 ghost use Rattle.lf_graph.specs.Components.{AreComponents, AreNumbers, number_of};
 ghost use Rattle.lf_graph.specs.views.Listing.{Adds, AddsBelow, AreMembers, AreNexts, numbers_of};
 ghost use Rattle.lf_graph.specs.Paths.{IsGraph, IsOnCircle, IsReached};
@@ -64,7 +65,7 @@ impl Components {
         requires graph { (edges : List (List ℕ)) × AreComponents edges self.now }
         requires start { (u : ℕ) → Contains start.now u → u < length self.now.numbers }
         ensures members { IfOk result (λ found. (edges : List (List ℕ)) → AreComponents edges self.now → (v : ℕ) → Contains found v ↔ IsReached edges start.now v) }
-        ensures ascending { IfOk result (λ found. (k l : ℕ) → k < l → l < length found → slice_index_or found k 0 < slice_index_or found l 0) }
+        ensures ascending { IfOk result AreAscending }
     {
         let mut found = BTreeSet::new(alloc);
         let mut due = self.components_of(alloc, start)?;

@@ -2,7 +2,8 @@
 ghost use Rattle.std.specs.Prelude.{◌≡◌, ◌≤◌, ◌<◌, ◌+◌, ◌-◌, ◌++◌, ◌↔◌, ℕ, true, false, [], ◌∷◌, length, slice_index_or, slice_set, drop, take, IfOk, IfNone, IfSome, OnOk};
 ghost use Rattle.std.specs.List.{Contains};
 ghost use Rattle.lf_graph.specs.Paths.{IsGraph};
-ghost use Rattle.lf_graph.specs.views.Search.{AllLead, IsClosing, IsMet, IsSearch, NoneDue, Rise, TakesDue, edges_from, from_at, state_of, work};
+ghost use Rattle.lf_laws.specs.Ascending.{AreAscending};
+ghost use Rattle.lf_graph.specs.views.Search.{AllLead, IsClosing, IsMet, IsSearch, NoneDue, TakesDue, edges_from, from_at, state_of, work};
 ghost use Rattle.lf_graph.specs.declared.search.Node.TheVariants.{Unmet};
 
 use crate::counting::one_more;
@@ -204,8 +205,8 @@ fn is_none_from(due: &[Edge], begin: usize) -> bool
 
 /// Makes one part of all from that of a place on.
 fn join(parts: &mut Vec<usize>, place: usize)
-    requires { Rise parts.old.items }
-    ensures rise { Rise parts.new.items }
+    requires { AreAscending parts.old.items }
+    ensures rise { AreAscending parts.new.items }
     ensures kept { (b : ℕ) → Contains parts.new.items b ↔ (Contains parts.old.items b × (b ≤ place)) }
     ensures fewer { length parts.new.items ≤ length parts.old.items }
 {

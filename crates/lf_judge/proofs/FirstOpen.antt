@@ -1,26 +1,16 @@
 -- What stands open first: it is one, and where no label stays unresolved the same is told of the verdicts whatever it is.
-use Rattle.std.proofs.Common.{◌≡◌, ℕ, Bool, true, List, [], ◌∷◌, map, Option, Some, None, Result, Ok, Err, refl, sym, ap, subst}
-use Rattle.std.specs.Prelude.{◌||◌, IfOk}
+use Rattle.std.proofs.Common.{◌≡◌, ℕ, Bool, true, List, [], ◌∷◌, map, Option, Some, None, refl, ap}
+use Rattle.std.specs.Prelude.{◌||◌}
 use Rattle.std.specs.List.{list_any}
 use Rattle.lf_ast.specs.Rules.{RuleTree}
 use Rattle.lf_ast.specs.declared.verdict.RuleVerdicts.TheVariants as told_rule
 use Rattle.lf_ast.specs.declared.verdict.Verdict.TheVariants as told
 use Rattle.lf_open.specs.declared.open_at.OpenAt.{OpenAt}
-use Rattle.lf_open.specs.views.Opens.{IsFirst}
+use Rattle.lf_open.specs.OpenList.{IsFirstOpen}
 use Rattle.lf_open.proofs.OneList.{one_list}
 use Rattle.lf_trials.specs.Verdicts.{Empty, Labels, LabelVerdict, RuleVerdict}
 use Rattle.lf_trials.specs.Verdicts as verdict
-use Rattle.lf_judge.specs.Judged.{IsFirstOpen, has_unresolved, is_unresolved, verdict_told, verdicts_told, world_told}
-
--- the first of a list of what stands open
-first_open : (rules : List RuleTree) (i : ℕ) (first : Option OpenAt) → IsFirst rules i first → IsFirstOpen rules i first
-first_open rules i first ([], are, is) = subst (IsFirstOpen rules i) (sym is) are
-first_open rules i first (o ∷ later, are, is) = subst (IsFirstOpen rules i) (sym is) (later, are)
-
--- the answer that there is of it
-pub first_answered : {E : Type 0} (Q : Type 0) (rules : List RuleTree) (i : ℕ) (r : Result (Option OpenAt) E) → IfOk r (IsFirst rules i) → IfOk r (λ first. Q → IsFirstOpen rules i first)
-first_answered Q rules i (Ok first) h = λ some. first_open rules i first h
-first_answered Q rules i (Err e) h = tt
+use Rattle.lf_judge.specs.Judged.{has_unresolved, is_unresolved, verdict_told, verdicts_told, world_told}
 
 -- what stands open first is one
 pub one_first : (rules : List RuleTree) (i : ℕ) (o p : Option OpenAt) → IsFirstOpen rules i o → IsFirstOpen rules i p → o ≡ p

@@ -8,7 +8,8 @@ use Rattle.lf_laws.proofs.Slices.{at_end}
 use Rattle.lf_ast.specs.Rules.{RuleTree}
 use Rattle.lf_open.specs.declared.open_at.OpenAt.{OpenAt}
 use Rattle.lf_worlds.specs.views.Told.{rule_verdict}
-use Rattle.lf_judge.specs.Judged.{IsFirstOpen, has_unresolved}
+use Rattle.lf_open.specs.OpenList.{IsFirstOpen}
+use Rattle.lf_judge.specs.Judged.{has_unresolved}
 use Rattle.lf_judge.specs.declared.rule_found.RuleFound.{RuleFound}
 use Rattle.lf_judge.specs.views.RulesFound.{NameFirsts, first_at}
 

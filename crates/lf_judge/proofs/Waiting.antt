@@ -3,7 +3,8 @@ use Rattle.std.proofs.Common.{◌≡◌, ℕ, true, List, Option, reverse, rever
 use Rattle.std.proofs.lemmas.List.{reverse-reverse}
 use Rattle.lf_open.specs.declared.open_at.OpenAt.{OpenAt}
 use Rattle.lf_worlds.specs.views.Told.{rule_verdict}
-use Rattle.lf_judge.specs.Judged.{IsFirstOpen, has_unresolved}
+use Rattle.lf_open.specs.OpenList.{IsFirstOpen}
+use Rattle.lf_judge.specs.Judged.{has_unresolved}
 use Rattle.lf_judge.specs.declared.at_hand.AtHand.{AtHand}
 use Rattle.lf_judge.specs.declared.rule_found.RuleFound.{RuleFound}
 use Rattle.lf_judge.specs.views.AtHand.{rules_at}

@@ -13,7 +13,7 @@ use Rattle.lf_checks.specs.Files.{File}
 use Rattle.lf_checks.specs.Finding.{Finding, Severity, Problem, Note, name_of}
 use Rattle.lf_checks.specs.Findings.{AreFindings, severity_of}
 use Rattle.lf_open.specs.Constructs.{number_of}
-use Rattle.lf_open.specs.OpenList.{AreOpen}
+use Rattle.lf_open.specs.OpenList.{IsFirstOpen}
 use Rattle.lf_open.specs.declared.open_at.OpenAt.{OpenAt}
 use Rattle.lf_report.specs.declared.report.FileReport.{FileReport}
 use Rattle.lf_report.specs.declared.report.Finding.{Finding as ReportFinding}
@@ -36,11 +36,6 @@ file_of source = record { name = source.name; bytes = source.bytes }
 
 abbrev pub files_of : List Source → List File
 files_of sources = map file_of sources
-
--- the first construct that stands open for the rule with a number, or none where nothing does
-abbrev pub IsFirstOpen : List RuleTree → ℕ → Option OpenAt → Type 0
-IsFirstOpen rules i None = AreOpen rules i []
-IsFirstOpen rules i (Some first) = (later : List OpenAt) × AreOpen rules i (first ∷ later)
 
 abbrev pub is_unresolved : LabelVerdict → Bool
 is_unresolved verdict.Unresolved = true

@@ -4,7 +4,8 @@ ghost use Rattle.std.specs.Prelude.{◌≡◌, ◌≤◌, ◌<◌, true, length,
 ghost use Rattle.lf_ast.specs.Rules.{rule_trees};
 ghost use Rattle.lf_open.specs.views.Firsts.{AreFirstsReady, rules_in};
 ghost use Rattle.lf_worlds.specs.views.Told.{rule_verdict};
-ghost use Rattle.lf_judge.specs.Judged.{IsFirstOpen, has_unresolved};
+ghost use Rattle.lf_open.specs.OpenList.{IsFirstOpen};
+ghost use Rattle.lf_judge.specs.Judged.{has_unresolved};
 ghost use Rattle.lf_judge.specs.Limits.{most_rules};
 ghost use Rattle.lf_judge.specs.views.RulesFound.{NameFirsts, first_at};
 

@@ -1,3 +1,4 @@
+pub mod Ascending
 pub mod Booleans
 pub mod Gaining
 pub mod Members

@@ -1,8 +1,9 @@
--- Members of lists, and texts that are told apart.
+-- Members of lists, what is made of them, and texts that are told apart.
 use Rattle.std.proofs.Common.{◌≡◌, ◌≢◌, ℕ, zero, suc, ◌<◌, Bool, true, false, List, [], ◌∷◌, ◌++◌, map, length, get_or, ◌⊎◌, inl, inr, refl, sym, ap, ◌∙◌, subst, true≢false, arith}
-use Rattle.std.specs.List.{Contains, flat_map, list_any, AllByRecursion}
+use Rattle.std.specs.List.{Contains, flat_map, list_any, sum_by, AllByRecursion}
 use Rattle.std.specs.Str.{bytes_eq}
 use Rattle.std.proofs.lemmas.Slice.Eq.{bytes_eq-Decides}
+use Rattle.std.proofs.lemmas.List.Sums.{sum_by-cons}
 use Rattle.std.proofs.lemmas.List.Elements.{Contains-append_left, Contains-append_right, Contains-append_cases}
 use Rattle.std.proofs.lemmas.Bool.{or_cases, or_left, or_right, false_from_ne_true}
 
@@ -105,6 +106,13 @@ of_flat_map {X = X} {Y = Y} f (z ∷ xs) y c = by (Contains-append_cases (f z) (
     by : Contains (f z) y ⊎ Contains (flat_map f xs) y → (Contains (flat_map f xs) y → (x : X) × Contains xs x × Contains (f x) y) → (x : X) × Contains (z ∷ xs) x × Contains (f x) y
     by (inl d) later = (z, here z xs, d)
     by (inr m) later = past (later m)
+
+-- ---- sums
+
+-- what is the same of each member has the same sum
+pub same_sums : {X : Type 0} (f g : X → ℕ) (xs : List X) → ((x : X) → Contains xs x → f x ≡ g x) → sum_by f xs ≡ sum_by g xs
+same_sums f g [] same = refl
+same_sums f g (x ∷ xs) same = omega (arith, sum_by-cons f x xs, sum_by-cons g x xs, same x (here x xs), same_sums f g xs (λ y c. same y (behind x xs y c)))
 
 -- ---- texts
 

@@ -1,11 +1,10 @@
 //! Laws of tokens, for readers and for the crates above. The functions do nothing; what they ensure is the law.
-ghost use Rattle.std.specs.Prelude.{◌≡◌, ◌⊎◌, ◌+◌, ℕ, List, slice_index};
+ghost use Rattle.std.specs.Prelude.{◌≡◌, ◌+◌, ℕ, List, slice_index};
 ghost use Rattle.std.specs.Str.{IsUtf8};
 ghost use Rattle.lf_base.specs.declared.kind.Kind.TheVariants.{BadEscape};
 ghost use Rattle.lf_base.specs.Answers.{OneAnswer};
 ghost use Rattle.lf_lex.specs.Tokens.{Tokens, Breaks, in_source};
 ghost use Rattle.lf_base.specs.declared.fault.Fault.{Fault};
-ghost use Rattle.lf_lex.specs.declared.token.Token.{Token};
 
 /// A text has one list of tokens or one breach, never two and never both.
 pub fn one_reading()

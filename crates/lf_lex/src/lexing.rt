@@ -1,5 +1,5 @@
 //! From a text to its tokens.
-ghost use Rattle.std.specs.Prelude.{◌≡◌, ◌+◌, ◌++◌, ◌≤◌, List, ℕ, length, slice_index, false, Ok, Err, IfOk, OnOk};
+ghost use Rattle.std.specs.Prelude.{◌≡◌, ◌+◌, ◌++◌, ◌≤◌, ℕ, length, slice_index, false, Ok, Err, IfOk, OnOk};
 ghost use Rattle.std.specs.List.Sorted.{IsNonDecreasing, IsNonDecreasingBy};
 ghost use Rattle.lf_base.specs.Answers.{Found, Only, Refused, Breach, RefusedIn};
 ghost use Rattle.lf_lex.specs.Tokens.{Tokens, Breaks, LieIn};

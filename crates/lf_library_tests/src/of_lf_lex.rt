@@ -1,5 +1,5 @@
 //! That calls of lf_lex succeed. Each sort of token and of refusal stands among the cases of tests/vectors/.
-ghost use Rattle.std.specs.Prelude.{◌≡◌, IsTrue};
+ghost use Rattle.std.specs.Prelude.{IsTrue};
 ghost use Rattle.std.specs.List.Sorted.{IsNonDecreasing};
 
 use lf_base::{Kind, Memory, Refusal, Seq, Span, Text};

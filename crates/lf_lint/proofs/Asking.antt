@@ -1,5 +1,5 @@
 -- Words ask for 1 to 64 workers.
-use Rattle.std.proofs.Common.{◌≡◌, ℕ, ◌<◌, ◌≤◌, List, Option, Some, None, arith}
+use Rattle.std.proofs.Common.{ℕ, ◌<◌, ◌≤◌, List, Option, Some, None, arith}
 use Rattle.lf_words.specs.Grammar.{Asks, IsWorkers, lint, gen}
 use Rattle.lf_words.specs.Lint.{Word}
 use Rattle.lf_words.specs.declared.options.Options.{Options}

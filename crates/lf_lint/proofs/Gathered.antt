@@ -16,6 +16,7 @@ use Rattle.lf_gen.specs.Generated.{generated}
 use Rattle.lf_words.specs.Grammar.{Asks}
 use Rattle.lf_words.specs.declared.options.Options.{Options}
 use Rattle.lf_words.specs.declared.options.Options.TheVariants.{Lint, Gen}
+use Rattle.lf_judge.proofs.Places.{read_at}
 use Rattle.lf_lint.specs.declared.reading.ReadEnd.{ReadEnd}
 use Rattle.lf_lint.specs.declared.reading.ReadEnd.TheVariants.{Failed, TooLong, Memory}
 use Rattle.lf_lint.specs.declared.unreported.Unreported.{Unreported}
@@ -24,12 +25,6 @@ use Rattle.lf_lint.specs.Asked.{names_of}
 use Rattle.lf_lint.specs.Read.{AreAsTold, AreShort, IsPassedBehind, IsReached, IsRead, byte_count, most_bytes, most_bytes_in_all, most_files, room_behind}
 use Rattle.lf_lint.specs.views.Making.{AreGathered, IsWhyUnread, IsWhyUnreported, unread_by}
 use Rattle.lf_lint.proofs.GeneratedSize.{gen_short, gen_within}
-
--- what stands at a place of a list
-pub at_place : {X : Type 0} (xs : List X) (k : ℕ) (x : X) → k < length xs → x ≡ slice_index_or xs k x → slice_get xs k ≡ Some x
-at_place [] k x less is = absurd (omega (arith, less))
-at_place (y ∷ xs) zero x less is = ap Some (sym is)
-at_place (y ∷ xs) (suc k) x less is = at_place xs k x (omega (arith, less)) is
 
 all_more : (P : File → Type 0) (xs : List File) (x : File) → AllByRecursion P xs → P x → AllByRecursion P (xs ++ x ∷ [])
 all_more P [] x are is = (is, tt)
@@ -77,7 +72,7 @@ module _ (held : Bytes → Option Bytes) (names : List Bytes) where
       added (y ∷ xs) x = omega (arith, added xs x)
 
   pub reached : (k : ℕ) (name : Bytes) (sources : List Source) (before : ℕ) → k < length names → name ≡ slice_index_or names k name → AreGatheredSoFar held names k sources before → IsReached held names k
-  reached k name sources before less is so_far = record { name = name; is_named = at_place names k name less is; before = files_of sources; are_read = so_far.read; are_short = so_far.short }
+  reached k name sources before less is so_far = record { name = name; is_named = read_at names k name less is; before = files_of sources; are_read = so_far.read; are_short = so_far.short }
 
   -- which limit is passed behind files of so many bytes
   passed : (file before : ℕ) (P : Unreported → Type 0) → ((quantity count : ℕ) → IsPassedBehind before quantity count → P (Limit quantity count)) → P (unread_by file before TooLong)

@@ -16,10 +16,10 @@ use Rattle.lf_semantics.specs.RowTable.{may_be_absent, may_be_present}
 use Rattle.lf_semantics.proofs.ListingLaws.{place_within}
 use Rattle.lf_semantics.proofs.Places.{at_place, eqb-other, place_le}
 use Rattle.lf_classes.specs.Limits.{most_classes}
+use Rattle.lf_flow.proofs.ClassSets.{set_length}
 use Rattle.lf_trials.specs.Candidates.{candidates, chosen_from, first_free, has_presence, in_row, is_one_of, labels_in, other_name}
 use Rattle.lf_trials.specs.Verdicts.{leaves}
 use Rattle.lf_trials.proofs.FirstFree.{candidate_is, other_name_is}
-use Rattle.lf_lint.proofs.Shapes.{set_length}
 use Rattle.lf_lint.specs.Headline.{label_for}
 
 -- some text is chosen and passes, where each class has a text that passes as the class does

@@ -16,8 +16,8 @@ use Rattle.lf_checks.specs.Files.{File}
 use Rattle.lf_deps.specs.Ordering.{without}
 use Rattle.lf_trials.specs.Verdicts.{LabelVerdict, RuleVerdict, Empty, Labels, Guaranteed, Impossible, Possible, Unresolved}
 use Rattle.lf_judge.specs.Founds.{Content, accepted}
-use Rattle.lf_judge.specs.Judged.{Checked, IsFirstOpen, IsReportOn, ToldRule, files_told, has_unresolved, is_unresolved, rule_in, rule_told, unresolved_told, verdict_told, verdicts_told}
-use Rattle.lf_open.specs.OpenList.{AreOpenOfEach}
+use Rattle.lf_judge.specs.Judged.{Checked, IsReportOn, ToldRule, files_told, has_unresolved, is_unresolved, rule_in, rule_told, unresolved_told, verdict_told, verdicts_told}
+use Rattle.lf_open.specs.OpenList.{AreOpenOfEach, IsFirstOpen}
 use Rattle.lf_open.specs.declared.open_at.OpenAt.{OpenAt}
 use Rattle.lf_report.specs.Numbers.{NameRules, StandInFiles, labels_of}
 use Rattle.lf_report.specs.declared.report.Report.{Report}

@@ -34,9 +34,9 @@ use Rattle.lf_trials.proofs.ShownInWorlds.{built_is_scraped, found_in, is_lackin
 use Rattle.lf_witness.specs.StrictRuns.{RuleStrictlyGives}
 use Rattle.lf_witness.proofs.StrictRunIsRun.{step_of, world_behind}
 use Rattle.lf_judge.specs.Founds.{accepted}
-use Rattle.lf_judge.specs.Judged.{AreChecked, Checked, IsFirstOpen, IsReportOn, ToldRule, finding_in, finding_told, has_unresolved, is_empty, is_unresolved, labels_of, rule_in, rule_told, rules_told, unresolved_told, verdict_told, verdicts_told, world_told}
+use Rattle.lf_judge.specs.Judged.{AreChecked, Checked, IsReportOn, ToldRule, finding_in, finding_told, has_unresolved, is_empty, is_unresolved, labels_of, rule_in, rule_told, rules_told, unresolved_told, verdict_told, verdicts_told, world_told}
 use Rattle.lf_judge.specs.Limits.{AreWithin}
-use Rattle.lf_open.specs.OpenList.{AreOpen}
+use Rattle.lf_open.specs.OpenList.{AreOpen, IsFirstOpen}
 use Rattle.lf_open.specs.declared.open_at.OpenAt.{OpenAt}
 use Rattle.lf_report.specs.declared.report.Finding.{Finding as ReportFinding}
 use Rattle.lf_report.specs.declared.report.Report.{Report}

@@ -81,13 +81,17 @@ pub record HasTooManyRules (held : Bytes → Option Bytes) (options : Options) (
   pub ends : EndsIn (tells_labels options) files (judge_end.Limit quantity count)
   pub is_opened : opened ≡ length (names_of options)
 
--- Which limit is passed by what the words ask for, with which count, once so many files were opened. 1 is the files named, 2 the bytes of a file, 3 those of all files; the others
--- are of the rules of all files that are accepted
+-- Which limit the files and rules that these options ask for pass, with which count, once so many files were opened. 1 is the files named, 2 the bytes of a file, 3 those of all
+-- files; the others are of the rules of all files that are accepted
+abbrev pub PassesLimit : (Bytes → Option Bytes) → Option Bytes → Options → ℕ → ℕ → ℕ → Type 0
+PassesLimit held left options opened quantity count =
+    HasTooManyFiles (names_of options) opened quantity count
+    ⊎ (HasTooManyBytes held left (names_of options) opened quantity count ⊎ HasTooManyRules held options opened quantity count)
+
+-- the same of what the words ask for
 abbrev pub Passes : List Bytes → (Bytes → Option Bytes) → Option Bytes → ℕ → ℕ → ℕ → Type 0
 Passes words held left opened quantity count =
-    (options : Options) × Asks words options
-    × (HasTooManyFiles (names_of options) opened quantity count
-    ⊎ (HasTooManyBytes held left (names_of options) opened quantity count ⊎ HasTooManyRules held options opened quantity count))
+    (options : Options) × Asks words options × PassesLimit held left options opened quantity count
 
 -- the ends after which nothing was written
 abbrev pub IsSilent : Status → Type 0

@@ -1,5 +1,5 @@
 //! The reading of a whole file.
-ghost use Rattle.std.specs.Prelude.{◌≡◌, ◌≢◌, ℕ, List, ◌+◌, ◌-◌, ◌<◌, ◌≤◌, ◌^◌, Err, length, take, drop, vec_len, IfOk, OnOk, OnErr};
+ghost use Rattle.std.specs.Prelude.{◌≡◌, ◌≢◌, ℕ, List, ◌+◌, ◌-◌, ◌<◌, ◌≤◌, ◌^◌, Err, length, take, drop, vec_len, IfOk, OnOk};
 ghost use Rattle.lf_base.specs.Outside.{Faults, Reads};
 ghost use Rattle.lf_lint.specs.Read.{AreAsTold};
 

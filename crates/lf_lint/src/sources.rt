@@ -6,8 +6,8 @@ ghost use Rattle.lf_judge.specs.Judged.{file_of, files_of};
 ghost use Rattle.lf_words.specs.Grammar.{Asks};
 ghost use Rattle.lf_lint.specs.declared.reading.ReadEnd.TheVariants as read_end;
 ghost use Rattle.lf_lint.specs.Asked.{names_of};
-ghost use Rattle.lf_lint.specs.Read.{AreAsTold, AreShort, IsRead, byte_count, most_bytes_in_all, most_files, room_behind};
-ghost use Rattle.lf_lint.specs.views.Making.{AreGathered, IsWhyUnread, IsWhyUnreported, unread_by};
+ghost use Rattle.lf_lint.specs.Read.{AreAsTold, AreShort, IsRead, most_bytes_in_all, most_files, room_behind};
+ghost use Rattle.lf_lint.specs.views.Making.{AreGathered, IsWhyUnread, unread_by};
 
 use crate::reading::{ReadEnd, read_whole};
 use crate::unreported::Unreported;

@@ -1,5 +1,5 @@
 -- What is open in the expression of a rule by what is told of parts.
-use Rattle.std.proofs.Common.{◌≡◌, ◌↔◌, ℕ, List, [], ◌∷◌, Option, Some, None, sym, subst}
+use Rattle.std.proofs.Common.{◌≡◌, ◌↔◌, List, [], ◌∷◌, Option, Some, None, sym, subst}
 use Rattle.std.specs.List.{Contains}
 use Rattle.lf_laws.proofs.Members.{behind, here}
 use Rattle.lf_ast.specs.Labels.{Bytes}

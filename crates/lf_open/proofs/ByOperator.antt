@@ -1,5 +1,5 @@
 -- What is open at an operator, by which operator it is.
-use Rattle.std.proofs.Common.{◌≡◌, ◌⊎◌, ◌↔◌, Bool, true, false, true≢false, not, IsTrue, List, refl, sym}
+use Rattle.std.proofs.Common.{◌⊎◌, ◌↔◌, true, false, true≢false, not, IsTrue, List, refl, sym}
 use Rattle.std.proofs.lemmas.Bool.{not-true, not_from_false}
 use Rattle.lf_base.specs.declared.place.Span.{Span}
 use Rattle.lf_ast.specs.Rules.{RuleTree}

@@ -2,11 +2,11 @@
 use Rattle.std.proofs.Common.{◌≡◌, ◌⊎◌, ◌↔◌, inl, inr, ℕ, Bool, true, false, true≢false, cond, ◌&&◌, ◌||◌, IsTrue, List, [], ◌∷◌, ◌++◌, map, Option, Some, None, refl, sym, ap, ◌∙◌, subst}
 use Rattle.std.proofs.lemmas.List.Elements.{Contains-append_cases, Contains-append_left, Contains-append_right}
 use Rattle.std.specs.List.{Contains, list_any}
-use Rattle.lf_laws.proofs.Members.{any_has, behind, here, in_map, map_member, none_in, only_one, some_has}
+use Rattle.lf_laws.proofs.Members.{any_has, here, in_map, map_member, none_in, only_one, some_has}
 use Rattle.lf_base.specs.declared.place.Span.{Span}
 use Rattle.lf_ast.specs.Labels.{Bytes}
 use Rattle.lf_ast.specs.Rules.{RuleTree}
-use Rattle.lf_ast.specs.Tree.{Tree, Trees, Number, Str, Selector, Subquery, Paren, Unary, Binary, Call, Aggregate, list, parts_of, span_of}
+use Rattle.lf_ast.specs.Tree.{Tree, Trees, Number, Str, Selector, Subquery, Paren, Unary, Binary, Call, Aggregate, list}
 use Rattle.lf_ast.specs.declared.expr.Agg.{Agg}
 use Rattle.lf_ast.specs.declared.expr.Grouping.{Grouping}
 use Rattle.lf_ast.specs.declared.expr.Matching.{Matching}
@@ -17,8 +17,7 @@ use Rattle.lf_forks.specs.views.ForkTests.{TellsSelectors}
 use Rattle.lf_forks.specs.views.Holding.{test_of}
 use Rattle.lf_trials.specs.Forks.{HoldsFork, is_or}
 use Rattle.lf_open.specs.Constructs.{AreVectors, IsArgument, IsLoudOr, IsLoudUnless, IsQuantileOfFork, IsQuantileOfNamed, JoinsFork, ReadInCommon, SharesMetric, effect_of}
-use Rattle.lf_open.specs.Holding.{CannotBeSilent, NamesLe, arguments_of, has_own_source, names_le}
-use Rattle.lf_open.specs.Standing.{standing}
+use Rattle.lf_open.specs.Holding.{CannotBeSilent, NamesLe, has_own_source, names_le}
 use Rattle.lf_open.specs.declared.construct.Construct.{Construct}
 use Rattle.lf_open.specs.declared.construct.Construct.TheVariants.{SharedMetric, Forked, LoudUnless, NamedBucket, OpenAbsent}
 use Rattle.lf_open.specs.declared.open_at.OpenAt.{OpenAt}
@@ -28,7 +27,7 @@ use Rattle.lf_open.specs.views.Marks.{TellsReading}
 use Rattle.lf_open.specs.views.Sides.{is_unless}
 use Rattle.lf_open.specs.views.Told.{Facts, are_vectors, call_opens, joins, opened, own_opens, shares, told}
 use Rattle.lf_open.proofs.Beneath.{either_tells}
-use Rattle.lf_open.proofs.ByOperator.{joins_by, or_by, unless_by}
+use Rattle.lf_open.proofs.ByOperator.{or_by, unless_by}
 use Rattle.lf_open.proofs.OwnOpens.{bucket_is, fork_is, loud_is, vectors_are}
 use Rattle.lf_open.proofs.ToldLaws.{parts_told}
 

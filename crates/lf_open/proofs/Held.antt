@@ -1,8 +1,8 @@
 -- Marks tell what expressions hold, in themselves or in the rules that they read.
-use Rattle.std.proofs.Common.{◌≡◌, ◌⊎◌, ◌↔◌, inl, inr, Bool, true, false, true≢false, cond, ◌||◌, List, [], ◌∷◌, ◌++◌, Option, Some, None, length, nat_eq, refl, sym, ap, ap₂, ◌∙◌, subst}
+use Rattle.std.proofs.Common.{◌≡◌, ◌↔◌, inl, inr, Bool, true, false, true≢false, cond, ◌||◌, List, [], ◌∷◌, ◌++◌, Option, Some, None, length, nat_eq, refl, sym, ap, ap₂, ◌∙◌, subst}
 use Rattle.std.proofs.Math.Dec.{eqb-suc-zero}
 use Rattle.std.specs.List.{Contains, flat_map, list_any}
-use Rattle.lf_laws.proofs.Members.{any_has, behind, here, in_flat_map, none_in, of_flat_map, only_one, some_has}
+use Rattle.lf_laws.proofs.Members.{any_has, here, in_flat_map, none_in, of_flat_map, only_one, some_has}
 use Rattle.lf_ast.specs.Labels.{Bytes}
 use Rattle.lf_ast.specs.Rules.{RuleTree}
 use Rattle.lf_ast.specs.Selectors.{selected_name}

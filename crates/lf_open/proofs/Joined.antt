@@ -1,10 +1,10 @@
 -- What stands open in a rule and in those that it reads, from what stands open in each.
-use Rattle.std.proofs.Common.{◌≡◌, ◌+◌, ◌<◌, ◌↔◌, ℕ, zero, suc, Bool, true, false, not, cond, eqb, List, [], ◌∷◌, ◌++◌, Some, length, take, get_or, refl, sym, ap, ◌∙◌, subst, arith, slice_get}
+use Rattle.std.proofs.Common.{◌≡◌, ◌+◌, ◌<◌, ◌↔◌, ℕ, Bool, true, false, not, cond, eqb, List, [], ◌∷◌, ◌++◌, Some, length, take, get_or, refl, sym, ap, ◌∙◌, subst, slice_get}
 use Rattle.std.proofs.lemmas.List.{append-nil, append_assoc, take_more}
 use Rattle.std.proofs.lemmas.Option.{slice_get_within}
 use Rattle.std.specs.List.{Contains}
-use Rattle.std.specs.Prelude.{slice_index_or}
 use Rattle.std.proofs.lemmas.List.Elements.{filter-append}
+use Rattle.lf_laws.specs.Ascending.{AreAscending}
 use Rattle.lf_laws.proofs.Slices.{some_at}
 use Rattle.lf_ast.specs.Rules.{RuleTree}
 use Rattle.lf_deps.specs.Ordering.{without}
@@ -43,11 +43,8 @@ module _ (rules : List RuleTree) where
   abbrev Members : ℕ → List ℕ → Type 0
   Members i reach = (of : RuleTree) → slice_get rules i ≡ Some of → (k : ℕ) → Contains reach k ↔ ((r : RuleTree) × (slice_get rules k ≡ Some r) × Reaches rules of.expr r)
 
-  abbrev Ascends : List ℕ → Type 0
-  Ascends reach = (k l : ℕ) → k < l → l < length reach → slice_index_or reach k 0 < slice_index_or reach l 0
-
   -- what stands open in rule i, and then what does in the others of its reach
-  pub whole : (i : ℕ) (reach : List ℕ) (own found : List OpenAt) → i < length rules → Members i reach → Ascends reach → AreOpenOf rules i own → IsListOf rules (without i reach) own found → AreOpen rules i found
+  pub whole : (i : ℕ) (reach : List ℕ) (own found : List OpenAt) → i < length rules → Members i reach → AreAscending reach → AreOpenOf rules i own → IsListOf rules (without i reach) own found → AreOpen rules i found
   whole i reach own found lt members ascends are (more, each, is) =
       let r = some_at rules i lt in
       (r.0, r.1, reach, record { ascending = ascends; members = members r.0 r.1 }, (own, more, is, are, each))

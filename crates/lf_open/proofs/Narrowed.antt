@@ -8,7 +8,6 @@ use Rattle.lf_ast.specs.Labels.{Bytes}
 use Rattle.lf_ast.specs.Rules.{RuleTree}
 use Rattle.lf_ast.specs.Selectors.{selected_name}
 use Rattle.lf_ast.specs.Tree.{Tree, Number, Str, Selector, Subquery, Paren, Unary, Binary, Call, Aggregate}
-use Rattle.lf_ast.specs.Types.{is_scalar, selected}
 use Rattle.lf_semantics.specs.Grouped.{is_metric}
 use Rattle.lf_semantics.proofs.ScalarCalls.{selector_is_no_scalar}
 use Rattle.lf_trials.specs.Reached.{has_several_rules}

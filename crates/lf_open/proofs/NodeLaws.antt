@@ -1,5 +1,5 @@
 -- What is open at one expression, construct by construct.
-use Rattle.std.proofs.Common.{◌≡◌, ◌⊎◌, ◌↔◌, inl, inr, ℕ, Bool, true, false, true≢false, IsTrue, List, [], ◌∷◌, ◌++◌, Option, Some, None, refl, sym, ap, ◌∙◌, subst, slice_get}
+use Rattle.std.proofs.Common.{◌≡◌, ◌⊎◌, ◌↔◌, inl, inr, ℕ, Bool, true, false, true≢false, IsTrue, List, [], ◌++◌, Option, Some, None, refl, sym, ap, ◌∙◌, subst, slice_get}
 use Rattle.std.proofs.lemmas.List.Elements.{Contains-append_cases, Contains-append_left, Contains-append_right}
 use Rattle.std.specs.Borrow.{Bor}
 use Rattle.std.specs.List.{Contains}
@@ -17,13 +17,13 @@ use Rattle.lf_ast.specs.declared.functions.LabelEffect.{LabelEffect}
 use Rattle.lf_ast.specs.declared.functions.LabelEffect.TheVariants.{Absent, CountValues, LabelJoin, LabelReplace}
 use Rattle.lf_ast.specs.views.Walks.{trees_at}
 use Rattle.lf_open.specs.Constructs.{IsForked, IsMatcher, IsOpenAt, SaysName, SaysNoName, effect_of}
-use Rattle.lf_open.specs.OpenList.{AreOpenOf, IsOpenIn, IsOpenOf}
+use Rattle.lf_open.specs.OpenList.{AreOpenOf, IsOpenIn, IsOpenOf, open_cmp}
 use Rattle.lf_open.specs.Standing.{standing}
 use Rattle.lf_open.specs.declared.construct.Construct.{Construct}
 use Rattle.lf_open.specs.declared.construct.Construct.TheVariants.{SharedMetric, UnnamedSelector, ComplexPattern, MadeLabel, Forked, LoudUnless, CyclicName, NamedBucket, OpenAbsent}
 use Rattle.lf_open.specs.declared.open_at.OpenAt.{OpenAt}
 use Rattle.lf_open.specs.views.Adding.{Adds, AreFound, IsAt, IsByItself, IsComplexAt, IsOf, IsOpenByItself, IsOpenNode}
-use Rattle.lf_open.specs.views.InOrder.{IsInOrder}
+use Rattle.lf_laws.specs.Ascending.{IsInOrder}
 use Rattle.lf_open.specs.views.Speaking.{AreSpeaking, speaks}
 use Rattle.lf_open.proofs.ByParts.{IsByParts}
 
@@ -187,7 +187,7 @@ module _ (rules : List RuleTree) (k : ℕ) where
       ])
 
   -- in order they are the rule's list
-  pub own_list : (r : RuleTree) → slice_get rules k ≡ Some r → (found sorted : List OpenAt) → AreFound rules k r.expr found → IsInOrder found sorted → AreOpenOf rules k sorted
+  pub own_list : (r : RuleTree) → slice_get rules k ≡ Some r → (found sorted : List OpenAt) → AreFound rules k r.expr found → IsInOrder open_cmp found sorted → AreOpenOf rules k sorted
   own_list r at found sorted are order = record { each = each; all = all; ascending = order.ascending }
     where
       each : (o : OpenAt) → Contains sorted o → IsOpenOf rules k o

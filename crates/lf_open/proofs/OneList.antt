@@ -1,6 +1,8 @@
 -- A rule has one list of open constructs.
 use Rattle.std.proofs.Common.{◌≡◌, ℕ, List, [], ◌∷◌, ◌++◌, Some, sym, ap, ap₂, ◌∙◌, subst, Option, None}
-use Rattle.lf_base.proofs.OneOrder.{same_lists}
+use Rattle.std.specs.Cmp.{on_total}
+use Rattle.std.specs.Cmp.Lexicographic.{nat_list_cmp_total}
+use Rattle.lf_laws.proofs.Ascending.{same_lists}
 use Rattle.lf_ast.specs.Rules.{RuleTree}
 use Rattle.lf_deps.specs.Ordering.{without}
 use Rattle.lf_trials.specs.Reached.{IsReach}
@@ -11,7 +13,7 @@ use Rattle.lf_open.specs.declared.open_at.OpenAt.{OpenAt}
 module _ (rules : List RuleTree) where
   -- two lists of what stands open in one rule are one
   pub one_own : (k : ℕ) (found other : List OpenAt) → AreOpenOf rules k found → AreOpenOf rules k other → found ≡ other
-  one_own k found other one another = same_lists key_of found other one.ascending another.ascending (λ o c. another.all o (one.each o c)) (λ o c. one.all o (another.each o c))
+  one_own k found other one another = same_lists (on_total key_of nat_list_cmp_total) found other one.ascending another.ascending (λ o c. another.all o (one.each o c)) (λ o c. one.all o (another.each o c))
 
   -- and so are two of what stands open in some rules
   pub one_of_each : (numbers : List ℕ) (found other : List OpenAt) → AreOpenOfEach rules numbers found → AreOpenOfEach rules numbers other → found ≡ other

@@ -1,22 +1,20 @@
 -- What is open at an expression by what is told of its parts.
-use Rattle.std.proofs.Common.{◌≡◌, ◌<◌, ◌⊎◌, ◌↔◌, inl, inr, ℕ, Bool, true, false, true≢false, cond, not, nat_lt, ◌&&◌, ◌||◌, IsTrue, List, [], ◌∷◌, ◌++◌, length, map, Option, Some, None, refl, sym, ap, ◌∙◌, subst, arith}
+use Rattle.std.proofs.Common.{◌≡◌, ◌<◌, ◌↔◌, inl, inr, ℕ, Bool, true, false, true≢false, cond, not, nat_lt, ◌&&◌, IsTrue, List, [], ◌∷◌, length, Option, Some, refl, sym, ◌∙◌, subst, arith}
 use Rattle.std.specs.BTreeMap.{is_at}
 use Rattle.std.specs.List.{Contains, flat_map, list_any}
 use Rattle.std.specs.Ordering.{nat_cmp}
-use Rattle.lf_laws.proofs.Members.{any_has, behind, first_or_behind, here, in_flat_map, in_map, map_member, none_in, of_flat_map, only_one, some_has}
+use Rattle.lf_laws.proofs.Members.{any_has, behind, first_or_behind, here, in_flat_map, none_in, of_flat_map, only_one, some_has}
 use Rattle.lf_ast.specs.Labels.{Bytes}
 use Rattle.lf_ast.specs.Rules.{RuleTree}
 use Rattle.lf_ast.specs.Selectors.{selected_name}
 use Rattle.lf_ast.specs.Tree.{Tree, Trees, Number, Str, Selector, Subquery, Paren, Unary, Binary, Call, Aggregate, Nil, Next, list, parts_of}
-use Rattle.lf_deps.specs.Reading.{AreApart, Reads, SelectsBy, selectors}
+use Rattle.lf_deps.specs.Reading.{Reads, SelectsBy, selectors}
 use Rattle.lf_deps.specs.Reading.Reads.{selected, through}
 use Rattle.lf_deps.specs.views.Names.{IsPlaced}
-use Rattle.lf_deps.specs.views.Search.{ReadsBy}
 use Rattle.lf_deps.specs.views.Selecting.{own_selectors}
 use Rattle.lf_forks.proofs.ForkTests.{tells_forks}
 use Rattle.lf_forks.specs.views.ForkTests.{TellsSelectors}
 use Rattle.lf_forks.specs.views.Holding.{test_of}
-use Rattle.lf_semantics.specs.Environments.{names_recorded}
 use Rattle.lf_semantics.specs.Listing.{place}
 use Rattle.lf_semantics.specs.Parts.{is_scalar_part}
 use Rattle.lf_semantics.proofs.Places.{same_text}

@@ -1,5 +1,5 @@
 -- Numbers that are put into the lists of nodes.
-use Rattle.std.proofs.Common.{◌≡◌, ◌<◌, ◌≤◌, ◌+◌, ◌⊎◌, ◌↔◌, inl, inr, ℕ, Bool, true, false, List, [], ◌∷◌, ◌++◌, take, length, get_or, map, replicate, Option, Some, refl, sym, ◌∙◌, ap, subst, arith, true≢false}
+use Rattle.std.proofs.Common.{◌≡◌, ◌<◌, ◌+◌, ◌⊎◌, ◌↔◌, inl, inr, ℕ, true, false, List, [], ◌∷◌, ◌++◌, take, length, get_or, map, replicate, Option, Some, refl, sym, ◌∙◌, ap, subst, arith, true≢false}
 use Rattle.std.specs.Prelude.{slice_get}
 use Rattle.std.specs.List.{Contains}
 use Rattle.std.proofs.lemmas.Bool.{cases_eq, cases_lt}
@@ -10,7 +10,6 @@ use Rattle.lf_laws.proofs.Members.{here, none_in, only_one}
 use Rattle.lf_ast.specs.Labels.{Bytes}
 use Rattle.lf_ast.specs.Rules.{RuleTree}
 use Rattle.lf_deps.specs.Reading.{selectors}
-use Rattle.lf_graph.specs.Paths.{after}
 use Rattle.lf_graph.specs.views.Buckets.{put_at}
 use Rattle.lf_semantics.specs.Listing.{place}
 use Rattle.lf_open.specs.views.ReadNames.{AreEdges, Links, PutsInto, PutsRule, node_of}

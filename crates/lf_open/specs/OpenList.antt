@@ -1,10 +1,10 @@
 -- The list of the open constructs of a rule.
-use Rattle.std.specs.Prelude.{◌≡◌, ◌<◌, ℕ, List, [], ◌∷◌, ◌++◌, Some, slice_get}
+use Rattle.std.specs.Prelude.{◌≡◌, ℕ, List, [], ◌∷◌, ◌++◌, Option, None, Some, slice_get}
 use Rattle.std.specs.Cmp.Lexicographic.{slice_cmp}
 use Rattle.std.specs.List.{Contains}
 use Rattle.std.specs.Ordering.{nat_cmp}
 use Rattle.std.specs.declared.cmp.Ordering.{Ordering}
-use Rattle.std.specs.declared.cmp.Ordering.TheVariants.{Less}
+use Rattle.lf_laws.specs.Ascending.{IsAscending}
 use Rattle.lf_base.specs.declared.place.Span.{Span}
 use Rattle.lf_ast.specs.Rules.{RuleTree}
 use Rattle.lf_ast.specs.Tree.{Tree}
@@ -36,7 +36,7 @@ module _ (rules : List RuleTree) where
   pub record AreOpenOf (k : ℕ) (found : List OpenAt) : Type 0 where
     pub each : (o : OpenAt) → Contains found o → IsOpenOf k o
     pub all : (o : OpenAt) → IsOpenOf k o → Contains found o
-    pub ascending : (j l : ℕ) (o p : OpenAt) → j < l → slice_get found j ≡ Some o → slice_get found l ≡ Some p → open_cmp o p ≡ Less
+    pub ascending : IsAscending open_cmp found
 
   -- what stands open in some rules, one rule after the other
   abbrev pub AreOpenOfEach : List ℕ → List OpenAt → Type 0
@@ -46,6 +46,11 @@ module _ (rules : List RuleTree) where
   -- the open constructs of rule i: those of its own expression, and then those of each other rule of its reach, in ascending order of the rules' numbers
   abbrev pub AreOpen : ℕ → List OpenAt → Type 0
   AreOpen i found = (r : RuleTree) × (slice_get rules i ≡ Some r) × (reach : List ℕ) × IsReach rules r.expr reach × AreOpenOfEach (i ∷ without i reach) found
+
+  -- the first construct that stands open for rule i, or none where nothing does
+  abbrev pub IsFirstOpen : ℕ → Option OpenAt → Type 0
+  IsFirstOpen i None = AreOpen i []
+  IsFirstOpen i (Some first) = (later : List OpenAt) × AreOpen i (first ∷ later)
 
   -- nothing stands open in an expression or in a rule that it reads
   pub record IsSettled (e : Tree) : Type 0 where

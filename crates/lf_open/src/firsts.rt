@@ -2,9 +2,10 @@
 ghost use Rattle.std.specs.Prelude.{◌≡◌, ◌<◌, ◌∷◌, [], ℕ, Some, length, IfOk, slice_get, slice_index_or, slice_set};
 ghost use Rattle.std.specs.List.{Contains};
 ghost use Rattle.lf_deps.specs.Ordering.{without};
+ghost use Rattle.lf_open.specs.OpenList.{IsFirstOpen};
 ghost use Rattle.lf_open.specs.views.Firsts.{AreFirstsReady, AreKept, IsFirstOfEach, IsOwnFirst, earlier, rules_in};
 ghost use Rattle.lf_open.specs.views.Known.{IsKnown, rules_of};
-ghost use Rattle.lf_open.specs.views.Opens.{AreReady, IsFirst, rules_at};
+ghost use Rattle.lf_open.specs.views.Opens.{AreReady, rules_at};
 
 use crate::known::Known;
 use crate::open_at::OpenAt;
@@ -36,7 +37,7 @@ impl<'a> OpenFirsts<'a> {
     pub fn first(&mut self, alloc: Global, i: u32) -> Result<Option<OpenAt>, Memory>
         requires ready { AreFirstsReady self.old }
         requires rule { i < length (rules_in self.old) }
-        ensures first { IfOk result (IsFirst (rules_in self.old) i) }
+        ensures first { IfOk result (IsFirstOpen (rules_in self.old) i) }
         ensures ready { AreFirstsReady self.new }
         ensures same { rules_in self.new ≡ rules_in self.old }
     {

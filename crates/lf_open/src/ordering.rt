@@ -1,7 +1,8 @@
 //! The order of open constructs.
 ghost use Rattle.std.specs.Prelude.{◌≡◌, map, ℕ, IfOk};
-ghost use Rattle.lf_open.specs.OpenList.{key_of};
-ghost use Rattle.lf_open.specs.views.InOrder.{AreOfRule, IsInOrder, keyed};
+ghost use Rattle.lf_laws.specs.Ascending.{IsInOrder};
+ghost use Rattle.lf_open.specs.OpenList.{key_of, open_cmp};
+ghost use Rattle.lf_open.specs.views.InOrder.{AreOfRule, keyed};
 
 use crate::open_at::OpenAt;
 use lf_base::{Keyed, Memory, Seq};
@@ -9,7 +10,7 @@ use std::alloc::Global;
 
 /// The open constructs of a rule in their order, each once.
 pub(crate) fn in_order(alloc: Global, found: Vec<OpenAt>) -> Result<Vec<OpenAt>, Memory>
-    ensures { (rule : ℕ) → AreOfRule rule found.items → IfOk result (λ sorted. IsInOrder found.items sorted.items) }
+    ensures { (rule : ℕ) → AreOfRule rule found.items → IfOk result (λ sorted. IsInOrder open_cmp found.items sorted.items) }
 {
     let mut keyed = with_keys(alloc, found)?;
     keyed.sort_unstable();

@@ -2,7 +2,6 @@
 ghost use Rattle.std.specs.Prelude.{◌≡◌, map, IfOk};
 ghost use Rattle.lf_ast.specs.Rules.{rule_tree, rule_trees};
 ghost use Rattle.lf_ast.specs.Tree.{tree};
-ghost use Rattle.lf_deps.specs.views.Index.{IsIndex};
 ghost use Rattle.lf_deps.specs.views.Names.{IsNameGraphOf};
 ghost use Rattle.lf_deps.specs.views.Sources.{IsSourcesOf};
 ghost use Rattle.lf_open.specs.Holding.{has_own_source, names_le};

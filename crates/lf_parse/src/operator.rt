@@ -1,5 +1,5 @@
 //! The operators: which tokens they are, and how they bind.
-ghost use Rattle.std.specs.Prelude.{◌≡◌, ◌≤◌};
+ghost use Rattle.std.specs.Prelude.{◌≡◌};
 ghost use Rattle.lf_parse.specs.Tokens as tokens;
 ghost use Rattle.lf_parse.specs.Grammar as grammar;
 ghost use Rattle.lf_parse.specs.views.Values.{mark_of};

@@ -5,7 +5,7 @@ ghost use Rattle.regex.specs.Strings.{regex_source, regex_config, IsReadFromSour
 ghost use Rattle.std.specs.List.{flat_map};
 ghost use Rattle.regex.specs.Strings.{captures_span};
 ghost use Rattle.lf_pattern.specs.views.Form.{FindsAs};
-ghost use Rattle.lf_pattern.specs.views.Groups.{IsFew, captured_text, group_of_match};
+ghost use Rattle.lf_pattern.specs.views.Groups.{IsFew, group_of_match};
 ghost use Rattle.lf_pattern.specs.Read.{anchored, finds, found_group, reading};
 ghost use Rattle.lf_pattern.specs.reading.Expansion.{expanded, piece_text};
 ghost use Rattle.lf_pattern.specs.reading.Replacement.{greatest};

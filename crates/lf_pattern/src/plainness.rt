@@ -1,6 +1,6 @@
 //! Whether a replacement is plain.
 ghost use Rattle.std.specs.Prelude.{◌≡◌, ◌↔◌, IfOk, IsTrue};
-ghost use Rattle.lf_pattern.specs.reading.Plainness.{checked, is_word, may_end, passes};
+ghost use Rattle.lf_pattern.specs.reading.Plainness.{checked, is_word, passes};
 ghost use Rattle.lf_pattern.specs.Replacement.{IsPlainReplacement};
 
 use lf_base::{Memory, Text};

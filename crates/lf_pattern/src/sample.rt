@@ -1,6 +1,6 @@
 //! Samples that are being made.
-ghost use Rattle.std.specs.Prelude.{◌≡◌, [], Some, IfOk, OnOk, encode_utf8, MatchOption, option_map};
-ghost use Rattle.lf_pattern.specs.ShapeScan.{capped, counted_by, followed_by, joined, nothing_read, pair, times_of};
+ghost use Rattle.std.specs.Prelude.{◌≡◌, [], Some, IfOk, encode_utf8, option_map};
+ghost use Rattle.lf_pattern.specs.ShapeScan.{counted_by, followed_by, joined, nothing_read, pair, times_of};
 
 use lf_base::{Memory, Text};
 use std::alloc::Global;

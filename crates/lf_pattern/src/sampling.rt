@@ -1,5 +1,5 @@
 //! The samples of a pattern.
-ghost use Rattle.std.specs.Prelude.{◌≡◌, ◌≢◌, ◌≤◌, [], true, All, IfOk, IfErr, OnOk, length};
+ghost use Rattle.std.specs.Prelude.{◌≡◌, ◌≢◌, ◌≤◌, [], All, IfOk, IfErr, OnOk, length};
 ghost use Rattle.lf_pattern.specs.Matching.{IsRead, Matches};
 ghost use Rattle.lf_pattern.specs.Samples.{AreSamples};
 ghost use Rattle.lf_pattern.specs.SampleScan.{added, both_added};

@@ -1,7 +1,7 @@
 //! The shape of a pattern, read from left to right for its low and its high sample.
 ghost use Rattle.std.specs.Prelude.{◌≡◌, IfOk, reverse};
 ghost use Rattle.std.specs.Str.{chars};
-ghost use Rattle.lf_pattern.specs.ShapeScan.{barred, begun, begun_with, behind_atom, class_pair, closed_onto, ended, escaped_by, flushed, in_class, in_least, in_mode, in_most, is_hidden, may_end, opened, kind_of, read_from, start, state_of, stepped, value_of, with_atom, with_count};
+ghost use Rattle.lf_pattern.specs.ShapeScan.{barred, begun, behind_atom, class_pair, closed_onto, ended, escaped_by, flushed, in_class, in_least, in_mode, in_most, is_hidden, may_end, opened, kind_of, read_from, start, state_of, stepped, value_of, with_atom, with_count};
 
 use crate::plain::{is_escapable, is_special};
 use crate::sample::{Both, Sample};

@@ -1,5 +1,5 @@
 //! How many of what a report has.
-ghost use Rattle.std.specs.Prelude.{◌≡◌, ◌↔◌, ◌<◌, ◌≤◌, ◌+◌, ◌-◌, ◌^◌, ℕ, cond, min, count_by, IfOk};
+ghost use Rattle.std.specs.Prelude.{◌≡◌, ◌↔◌, ◌<◌, ◌≤◌, ◌+◌, ◌-◌, ◌^◌, cond, min, count_by, IfOk};
 ghost use Rattle.lf_report.specs.Counts.{is_empty, is_grave, is_guaranteed, is_impossible, is_note, is_possible, is_problem, is_unresolved, problem_count, refused_count};
 ghost use Rattle.lf_report.specs.Numbers.{labels_of};
 ghost use Rattle.lf_report.specs.Text.{severity_name};

@@ -1,5 +1,5 @@
 //! The JSON of a report, which is written label set by label set and finding by finding, so that no value of more than one of them is made.
-ghost use Rattle.std.specs.Prelude.{◌≡◌, ◌<◌, ◌++◌, ◌∷◌, [], false, ℕ, List, length, map, slice_get, Some, IfOk, OnOk};
+ghost use Rattle.std.specs.Prelude.{◌≡◌, ◌<◌, ◌++◌, false, length, map, slice_get, Some, IfOk, OnOk};
 ghost use Rattle.serde_json.specs.Written.{compact_text};
 ghost use Rattle.lf_report.specs.Json.{file_data, files_items, report_json, rule_data, told_rules};
 ghost use Rattle.lf_report.specs.Numbers.{NameRules, StandInFiles, rules_of};

@@ -1,5 +1,5 @@
 //! Places in the files of a report, and the rules of each file.
-ghost use Rattle.std.specs.Prelude.{◌≡◌, ◌<◌, ◌++◌, ◌∷◌, [], ℕ, length, slice_get, slice_index_or, slice_set, Some, IfOk, OnOk};
+ghost use Rattle.std.specs.Prelude.{◌≡◌, ◌<◌, ◌++◌, ◌∷◌, [], length, slice_index_or, slice_set, IfOk, OnOk};
 ghost use Rattle.lf_report.specs.Numbers.{StandInFiles};
 ghost use Rattle.lf_report.specs.Places.{place_in, place_in_rule};
 ghost use Rattle.lf_report.specs.views.Lookups.{AreGroups, IsLookup, told_by};

@@ -9,7 +9,8 @@ use Rattle.std.proofs.lemmas.Option.{slice_get_within}
 use Rattle.lf_ast.specs.Labels.{Bytes}
 use Rattle.lf_ast.specs.Rules.{RuleTree}
 use Rattle.lf_ast.specs.Tree.{Tree}
-use Rattle.lf_flow.specs.Reads.{Ascend, ReadsNumber, names_of}
+use Rattle.lf_laws.specs.Ascending.{AreAscending}
+use Rattle.lf_flow.specs.Reads.{ReadsNumber, names_of}
 use Rattle.lf_laws.proofs.Slices.{one_at}
 use Rattle.lf_semantics.specs.ClassRows.{Sets}
 use Rattle.lf_semantics.specs.Environments.{recorded_names}
@@ -27,7 +28,7 @@ reads_by_names env other e k same r = (
   ],
 )
 
-pub are_read : (rules : List RuleTree) (r : RuleTree) (env : Environment) (numbers : List ℕ) → names_of env ≡ recorded_names rules → Ascend numbers → ((k : ℕ) → Contains numbers k ↔ ReadsNumber env r.expr k) → AreReadBy rules r numbers
+pub are_read : (rules : List RuleTree) (r : RuleTree) (env : Environment) (numbers : List ℕ) → names_of env ≡ recorded_names rules → AreAscending numbers → ((k : ℕ) → Contains numbers k ↔ ReadsNumber env r.expr k) → AreReadBy rules r numbers
 are_read rules r env numbers named ascend listed = record {
   ascend = ascend;
   within = λ k c. omega (arith, ((listed k).0 c).0, ap length named, length-map env (λ (entry : Bytes × Sets). entry.0));

@@ -1,9 +1,9 @@
 -- Rows that are loaded one after the other.
-use Rattle.std.proofs.Common.{◌≡◌, ◌≢◌, ◌⊎◌, ℕ, zero, suc, ◌+◌, ◌*◌, ◌<◌, ◌≤◌, List, [], ◌∷◌, length, get_or, set, take, drop, inl, inr, refl, sym, ◌∙◌, ap, subst, arith, get_or-set_same, get_or-set_other, length-drop}
+use Rattle.std.proofs.Common.{◌≡◌, ◌≢◌, ◌⊎◌, ℕ, zero, suc, ◌+◌, ◌*◌, ◌<◌, ◌≤◌, List, [], ◌∷◌, length, get_or, set, take, drop, inl, inr, sym, ◌∙◌, ap, subst, arith, get_or-set_same, get_or-set_other, length-drop}
 use Rattle.std.proofs.Math.Nat.{zero-mul, suc-mul}
 use lib.Seq.{map-set}
-use Rattle.std.specs.List.{AllByRecursion, Contains, sum, sum_by}
-use Rattle.std.proofs.lemmas.List.Sums.{sum_by-cons, sum_by_more}
+use Rattle.std.specs.List.{AllByRecursion, Contains, sum}
+use Rattle.std.proofs.lemmas.List.Sums.{sum_by_more}
 use Rattle.std.proofs.lemmas.Bool.{cases_lt}
 use Rattle.std.proofs.lemmas.List.{drop-drop, ext_get_or, get_or-map, get_or-take, length-map, length-take-le, set-get_or}
 use Rattle.std.proofs.lemmas.List.Elements.{Contains-get_or}
@@ -12,8 +12,9 @@ use Rattle.lf_ast.specs.Labels.{Bytes}
 use Rattle.lf_ast.specs.Rules.{RuleTree}
 use Rattle.lf_ast.specs.Selectors.{metric}
 use Rattle.lf_classes.specs.RowWords.{row_of_words, word_count}
-use Rattle.lf_laws.proofs.Members.{behind, each_member, here}
-use Rattle.lf_flow.specs.Reads.{Ascend, name_at, names_of, rows_of, with_row}
+use Rattle.lf_laws.proofs.Members.{each_member, same_sums}
+use Rattle.lf_laws.specs.Ascending.{AreAscending}
+use Rattle.lf_flow.specs.Reads.{name_at, names_of, rows_of, with_row}
 use Rattle.lf_semantics.specs.ClassRows.{Sets}
 use Rattle.lf_semantics.specs.Environments.{IsEnvironmentOf, IsRow}
 use Rattle.lf_semantics.specs.Listing.{Listing, class_of, label_of, other_class}
@@ -101,7 +102,7 @@ in_all : (numbers : List ℕ) (i m : ℕ) → i ≤ length numbers → Contains 
 in_all numbers i m h c = let r = taken_in numbers i m h c in (r.0, omega (arith, r.1, h), get_or_default_zero numbers r.0 m (omega (arith, r.1, h)) ∙ r.2)
 
 -- of ascending numbers those before a place are others than the one there
-others_before : (numbers : List ℕ) (i m : ℕ) → Ascend numbers → i < length numbers → Contains (take i numbers) m → m ≢ get_or numbers i 0
+others_before : (numbers : List ℕ) (i m : ℕ) → AreAscending numbers → i < length numbers → Contains (take i numbers) m → m ≢ get_or numbers i 0
 others_before numbers i m ascend h c e =
     let r = taken_in numbers i m (omega (arith, h)) c in
     absurd (omega (arith, ascend r.0 i r.1 h, r.2, e))
@@ -114,13 +115,8 @@ one_more numbers i m h c =
       | inr b ↦ inr (let e : i ≡ r.0 = omega (arith, b, r.1) in ap (λ j. get_or numbers j 0) e ∙ r.2)
     ]
 
--- equal summands
-sum_same : (f g : ℕ → ℕ) (xs : List ℕ) → ((x : ℕ) → Contains xs x → f x ≡ g x) → sum_by f xs ≡ sum_by g xs
-sum_same f g [] h = refl
-sum_same f g (x ∷ xs) h = omega (arith, sum_by-cons f x xs, sum_by-cons g x xs, h x (here x xs), sum_same f g xs (λ y c. h y (behind x xs y c)))
-
 -- a row more is read
-module _ (t : Task) (old new numbers : List ℕ) (i : ℕ) (env : Environment) (row : Sets) (ascend : Ascend numbers) (h : i < length numbers) (count : length env ≡ length (names t)) (len : length new ≡ length old)
+module _ (t : Task) (old new numbers : List ℕ) (i : ℕ) (env : Environment) (row : Sets) (ascend : AreAscending numbers) (h : i < length numbers) (count : length env ≡ length (names t)) (len : length new ≡ length old)
     (all : length (names t) * width t ≤ length old) (within : (k : ℕ) → Contains numbers k → k < length env) where
   abbrev pub number : ℕ
   number = get_or numbers i 0
@@ -143,6 +139,6 @@ module _ (t : Task) (old new numbers : List ℕ) (i : ℕ) (env : Environment) (
   pub sum_one : ChangedAt (number * width t) (width t) old new → sum_of_rows (width t) new (take (i + 1) numbers) ≡ sum_of_rows (width t) old (take i numbers) + sum_of_row (width t) new number
   sum_one changed =
       let same : sum_of_rows (width t) new (take i numbers) ≡ sum_of_rows (width t) old (take i numbers) =
-      sum_same (sum_of_row (width t) new) (sum_of_row (width t) old) (take i numbers)
+      same_sums (sum_of_row (width t) new) (sum_of_row (width t) old) (take i numbers)
       (λ m c. ap sum (same_part old new number m (width t) (length (names t)) len all changed (omega (arith, within m (in_all numbers i m (omega (arith, h)) c), count)) (others_before numbers i m ascend h c))) in
       omega (arith, same, sum_by_more (sum_of_row (width t) new) numbers i 0 h)

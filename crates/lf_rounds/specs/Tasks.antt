@@ -6,7 +6,8 @@ use Rattle.lf_ast.specs.Labels.{Bytes}
 use Rattle.lf_ast.specs.Rules.{RuleTree}
 use Rattle.lf_classes.specs.RowWords.{WordLeq, WordsLeq, row_word, word_count}
 use Rattle.lf_deps.specs.Ordering.{IsOrder}
-use Rattle.lf_flow.specs.Reads.{Ascend, ReadsNumber, names_of}
+use Rattle.lf_laws.specs.Ascending.{AreAscending}
+use Rattle.lf_flow.specs.Reads.{ReadsNumber, names_of}
 use Rattle.lf_semantics.specs.Environments.{CoversRules, IsEnvironmentOf, IsPostFixedPoint, recorded_names, recorded_row}
 use Rattle.lf_semantics.specs.Listing.{IsListing, Listing, place}
 use Rattle.lf_semantics.specs.RowTable.{Environment}
@@ -77,7 +78,7 @@ ArePieces rules pieces = (order : List ℕ) × IsOrder rules order × (pieces �
 
 -- These numbers of recorded names, in ascending order, are all whose rows the rule reads.
 pub record AreReadBy (rules : List RuleTree) (r : RuleTree) (numbers : List ℕ) : Type 0 where
-  pub ascend : Ascend numbers
+  pub ascend : AreAscending numbers
   pub within : (k : ℕ) → Contains numbers k → k < length (recorded_names rules)
   pub all : (env : Environment) → names_of env ≡ recorded_names rules → (k : ℕ) → ReadsNumber env r.expr k → Contains numbers k
 

@@ -1,14 +1,9 @@
 //! What rounds leave to those behind them.
 ghost use Rattle.std.specs.Prelude.{◌≡◌, ℕ, List, length, replicate, None, IfOk};
-ghost use Rattle.std.specs.List.{Contains};
-ghost use Rattle.lf_ast.specs.Rules.{RuleTree, rule_trees};
-ghost use Rattle.lf_classes.specs.RowWords.{word_count};
+ghost use Rattle.lf_ast.specs.Rules.{rule_trees};
 ghost use Rattle.lf_flow.specs.Reads.{names_of};
-ghost use Rattle.lf_semantics.specs.Environments.{CoversRules, recorded_names};
-ghost use Rattle.lf_semantics.specs.Listing.{Listing};
-ghost use Rattle.lf_rounds.specs.Facts.{RoundFacts, task};
+ghost use Rattle.lf_semantics.specs.Environments.{recorded_names};
 ghost use Rattle.lf_rounds.specs.Tasks.{ArePieces, Task};
-ghost use Rattle.lf_rounds.specs.views.Ending.{EndsRound};
 ghost use Rattle.lf_rounds.specs.views.Noting.{AreMadeBy, AreRemembered, IsMadeBy};
 ghost use Rattle.lf_rounds.specs.views.Standings.{IsSettledOf, IsStanding};
 

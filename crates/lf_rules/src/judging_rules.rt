@@ -1,5 +1,5 @@
 //! The faults of rules.
-ghost use Rattle.std.specs.Prelude.{◌≡◌, [], ◌∷◌, ◌++◌, Some, map, option_map, codes};
+ghost use Rattle.std.specs.Prelude.{◌≡◌, ◌++◌, Some, map, option_map, codes};
 ghost use Rattle.std.specs.List.{flat_map};
 ghost use Rattle.lf_yaml.specs.Tree.{tree, pair};
 ghost use Rattle.lf_rules.specs.Mappings.{given_entry as given_at};

@@ -11,7 +11,7 @@ use Rattle.lf_base.specs.Faults.{span, fault}
 use Rattle.lf_scalar.specs.Cells.{Cell, cell, byte_fault}
 use Rattle.lf_scalar.specs.Lines.{line, lines, is_tail}
 use Rattle.lf_scalar.specs.Plain.{last, more}
-use Rattle.lf_scalar.specs.Quoted.{Quotes, Single, Double, Piece, Bare, Twice, Letter, Number, IsPiece, spelled, letter_of, width_of, Raw, One, Pair, raw, Closes, Break, Folds, Drops, IsBadEscape, HasBadEscape, open_quote, inside, outside}
+use Rattle.lf_scalar.specs.Quoted.{Single, Double, Piece, Bare, Twice, Letter, Number, IsPiece, spelled, letter_of, width_of, One, Pair, raw, Folds, Drops, IsBadEscape, open_quote, inside, outside}
 use Rattle.lf_scalar.specs.Quoted as quoted
 use Rattle.lf_scalar.specs.Block.{AreMarks, IsChomp, body_fault, header, body}
 use Rattle.lf_scalar.specs.Scalars.{IsScalarAt, BreaksAt}

@@ -10,7 +10,7 @@ use Rattle.lf_scalar.specs.Cells.{Cell, byte_fault, front, ◌>>=◌}
 use Rattle.lf_scalar.specs.Lines.{Line, start_of, is_blank, after_blanks, is_blank_line, AreBlank}
 use Rattle.lf_scalar.specs.Markers.{is_marker}
 use Rattle.lf_scalar.specs.Quoted.{Quotes, Single, Double, quote_of, Piece, Bare, Twice, spelled, given, IsPiece, Break, Folds, Drops, filled, IsBroken, Follows, unindented, QuotedFrom, last, more, HasBadEscape, QuotedBreaks, escape, marker, later}
-use Rattle.lf_scalar.specs.reading.Quoted.{piece_of, scan, Closing, closing_of, stopped, ended, line_of, lines_behind, lines_from, lines_of, wrong_behind, alone, closed, quoted_of}
+use Rattle.lf_scalar.specs.reading.Quoted.{piece_of, scan, Closing, closing_of, ended, line_of, lines_behind, lines_from}
 use Rattle.lf_scalar.specs.reading.Quoted as reading
 use Rattle.lf_scalar.proofs.Pieces.{none-stands, none-found, scan-again, IsScan, scan-sound}
 use Rattle.lf_scalar.proofs.Closing.{ahead, closing-pieces}

@@ -9,7 +9,7 @@ use Rattle.lf_base.specs.Faults.{span}
 use Rattle.lf_scalar.specs.Cells.{Cell, cell, Value, byte_fault}
 use Rattle.lf_scalar.specs.Lines.{line, lines}
 use Rattle.lf_scalar.specs.Plain.{last, more, key, tab, later}
-use Rattle.lf_scalar.specs.Quoted.{Quotes, Single, Double, Piece, Bare, Twice, Letter, Raw, One, Pair, letter_of, Closes, QuotedFrom, Break, Folds, Drops, IsQuoted, IsClosed, BreaksQuoted}
+use Rattle.lf_scalar.specs.Quoted.{Single, Double, Bare, Twice, One, Pair, Drops}
 use Rattle.lf_scalar.specs.Quoted as quoted
 use Rattle.lf_scalar.specs.Block.{body_fault}
 use Rattle.lf_scalar.specs.Scalars.{IsScalarAt, BreaksAt}

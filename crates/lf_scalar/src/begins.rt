@@ -1,5 +1,5 @@
 //! Whether a scalar begins somewhere.
-ghost use Rattle.std.specs.Prelude.{◌≡◌, ℕ, length, get_or, eqb, IsTrue, ◌↔◌};
+ghost use Rattle.std.specs.Prelude.{◌≡◌, ℕ, get_or, eqb, IsTrue, ◌↔◌};
 ghost use Rattle.std.specs.Str.{IsCharBoundary};
 ghost use Rattle.lf_scalar.specs.Cells.{cells};
 ghost use Rattle.lf_scalar.specs.Lines.{lines, first_text};

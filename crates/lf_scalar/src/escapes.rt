@@ -1,6 +1,6 @@
 //! Escapes of double-quoted scalars.
-ghost use Rattle.std.specs.Prelude.{◌≡◌, ℕ, ◌+◌, ◌<◌, ◌≤◌, ◌^◌, ◌++◌, take, length, drop, IfSome, IfOk, OnOk, option_map};
-ghost use Rattle.lf_scalar.specs.Cells.{Cell, cell, cells};
+ghost use Rattle.std.specs.Prelude.{◌≡◌, ◌+◌, ◌<◌, ◌≤◌, ◌^◌, ◌++◌, length, IfSome, OnOk, option_map};
+ghost use Rattle.lf_scalar.specs.Cells.{Cell, cells};
 ghost use Rattle.lf_scalar.specs.Quoted.{Single, Double, letter_of, width_of};
 ghost use Rattle.lf_scalar.specs.reading.Quoted.{told, number_of, escape_of, as_character, as_escape, as_piece, as_value, piece_at};
 

@@ -1,6 +1,6 @@
 //! The lines of a block scalar, joined by their line breaks or folded.
-ghost use Rattle.std.specs.Prelude.{◌≡◌, ℕ, ◌+◌, ◌<◌, ◌≤◌, ◌^◌, ◌∷◌, ◌++◌, List, length, take, drop, OnOk, IfOk, IfSome};
-ghost use Rattle.lf_scalar.specs.Cells.{Cell, cells};
+ghost use Rattle.std.specs.Prelude.{◌≡◌, ℕ, ◌+◌, ◌<◌, ◌≤◌, ◌^◌, ◌∷◌, ◌++◌, List, length, take, OnOk, IfOk, IfSome};
+ghost use Rattle.lf_scalar.specs.Cells.{cells};
 ghost use Rattle.lf_scalar.specs.Lines.{Line, line as line_with, lines_at};
 ghost use Rattle.lf_scalar.specs.reading.Body.{contents, joins_of, between_last, literal_behind, folded_behind, joined_behind, FewBehind};
 

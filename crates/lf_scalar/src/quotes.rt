@@ -1,6 +1,6 @@
 //! Scalars between quotes: which quotes stand round them, and what closes them on a line. It is public for the crates of this repository that find where
 //! such a scalar ends.
-ghost use Rattle.std.specs.Prelude.{◌≡◌, ℕ, ◌+◌, ◌<◌, length, get_or, IfSome, option_map};
+ghost use Rattle.std.specs.Prelude.{◌≡◌, ◌+◌, ◌<◌, length, get_or, IfSome, option_map};
 ghost use Rattle.lf_scalar.specs.Cells.{cells};
 ghost use Rattle.lf_scalar.specs.Quoted.{quote_of};
 ghost use Rattle.lf_scalar.specs.reading.Quoted.{closing_of, split_of, IsEffect};

@@ -27,35 +27,32 @@ pub grouped_known : (u : Listing) (b : Bool) (grouping arguments : List Mention)
 grouped_known u true grouping arguments known = (all_front (IsKnown u) grouping arguments known, all_back (IsKnown u) grouping arguments known)
 grouped_known u false grouping arguments known = (all_back (IsKnown u) arguments grouping known, all_front (IsKnown u) arguments grouping known)
 
+-- the matchers of the selector that `absent` looks for are named in its argument
 module _ (u : Listing) where
-  -- the matchers of the selector that `absent` looks for are named in its argument
+  abbrev SoughtKnown : Option Sought → Type 0
+  SoughtKnown o = (s : Sought) → o ≡ Some s → AllKnown u (matchers_mentions s.matchers)
 
-  sought_through : (o : Option Sought) (s : Sought) → option_map (λ sought. record { matchers = sought.matchers; may_be_bare = true }) o ≡ Some s
-      → ((t : Sought) → o ≡ Some t → AllKnown u (matchers_mentions t.matchers)) → AllKnown u (matchers_mentions s.matchers)
-  sought_through None s e h = absurd (cc)
-  sought_through (Some t) s e h =
-      let P : Sought → Type 0 = λ x. AllKnown u (matchers_mentions x.matchers) in
-      subst P (same_Some (record { matchers = t.matchers; may_be_bare = true }) s e) (h t refl)
+  none_known : SoughtKnown None
+  none_known s e = absurd (cc)
 
-  none_sought : (s : Sought) → None ≡ Some s → ⊥
-  none_sought s e = cc
+  within_parentheses : (o : Option Sought) → SoughtKnown o → SoughtKnown (option_map (λ sought. record { matchers = sought.matchers; may_be_bare = true }) o)
+  within_parentheses None known = none_known
+  within_parentheses (Some t) known = λ s e. subst (λ (x : Sought). AllKnown u (matchers_mentions x.matchers)) (same_Some _ s e) (known t refl)
 
-  sought_known : (e : Tree) → Covers u e → (s : Sought) → sought_by e ≡ Some s → AllKnown u (matchers_mentions s.matchers)
-  sought_known (Selector name matchers sight span) known s e =
-      let P : Sought → Type 0 = λ x. AllKnown u (matchers_mentions x.matchers) in
-      subst P (same_Some _ s e) (all_back (IsKnown u) (name_mentions name) (matchers_mentions matchers) known)
-  sought_known (Paren of span) known s e = sought_through (sought_by of) s e (λ t f. sought_known of known t f)
-  sought_known (Number text span) known s e = absurd (none_sought s e)
-  sought_known (Str text span) known s e = absurd (none_sought s e)
-  sought_known (Subquery of sight span) known s e = absurd (none_sought s e)
-  sought_known (Unary minus of span) known s e = absurd (none_sought s e)
-  sought_known (Binary op m left right span) known s e = absurd (none_sought s e)
-  sought_known (Call name args span) known s e = absurd (none_sought s e)
-  sought_known (Aggregate op grouping args span) known s e = absurd (none_sought s e)
+  sought_known : (e : Tree) → Covers u e → SoughtKnown (sought_by e)
+  sought_known (Selector name matchers sight span) known = λ s e. subst (λ (x : Sought). AllKnown u (matchers_mentions x.matchers)) (same_Some _ s e) (all_back (IsKnown u) (name_mentions name) (matchers_mentions matchers) known)
+  sought_known (Paren of span) known = within_parentheses (sought_by of) (sought_known of known)
+  sought_known (Number text span) known = none_known
+  sought_known (Str text span) known = none_known
+  sought_known (Subquery of sight span) known = none_known
+  sought_known (Unary minus of span) known = none_known
+  sought_known (Binary op m left right span) known = none_known
+  sought_known (Call name args span) known = none_known
+  sought_known (Aggregate op grouping args span) known = none_known
 
-  first_sought : (args : Trees) → AllKnown u (arguments_mentions args) → (s : Sought) → sought_in args ≡ Some s → AllKnown u (matchers_mentions s.matchers)
-  first_sought Nil known s e = absurd (none_sought s e)
-  first_sought (Next x xs) known s e = sought_known x (all_front (IsKnown u) (mentions x) (arguments_mentions xs) known) s e
+  pub first_sought : (args : Trees) → AllKnown u (arguments_mentions args) → (s : Sought) → sought_in args ≡ Some s → AllKnown u (matchers_mentions s.matchers)
+  first_sought Nil known = none_known
+  first_sought (Next x xs) known = sought_known x (all_front (IsKnown u) (mentions x) (arguments_mentions xs) known)
 
 module _ (u : Listing) (p : IsListing u) (env : Environment) (ok : IsEnvironment u env) (S N : List Labels) (admits : Admits u env S N) where
   abbrev Good : Tree → Type 0

@@ -35,7 +35,7 @@ use Rattle.lf_semantics.proofs.Places.{at_place, label_test, same_text}
 use Rattle.lf_ast.proofs.LabelOrders.{symmetric}
 use Rattle.lf_semantics.proofs.Restricted.{value-restricted}
 use Rattle.lf_semantics.proofs.GivenTexts.{absent_has_texts}
-use Rattle.lf_witness.specs.Strict.{From, IsOpenAbsent, IsSet, MadeApart, MadeTogether, Outcomes, StrictEffect, last_buckets}
+use Rattle.lf_witness.specs.Strict.{From, IsOpenAbsent, IsSet, MadeApart, MadeTogether, Outcomes, last_buckets}
 use Rattle.lf_witness.proofs.SomeSample.{absent_some}
 use Rattle.lf_witness.proofs.OneSample.{one_text}
 use Rattle.lf_trials.specs.Building.{Builder, nothing}

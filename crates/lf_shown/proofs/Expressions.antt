@@ -22,7 +22,7 @@ use Rattle.lf_semantics.specs.ClassRows.{Sets}
 use Rattle.lf_semantics.specs.Environments.{IsKnown}
 use Rattle.lf_semantics.specs.Evaluation.{IsBare, bare}
 use Rattle.lf_semantics.specs.Listing.{IsListing, Listing, class_of, label_of, other_class}
-use Rattle.lf_semantics.specs.Mentions.{matchers_mentions, mention, mentions, name_mentions}
+use Rattle.lf_semantics.specs.Mentions.{matchers_mentions, name_mentions}
 use Rattle.lf_semantics.specs.Parts.{given_by, operand_place}
 use Rattle.lf_semantics.specs.RowTable.{bare_row, binary_row, call_row, effect_row}
 use Rattle.lf_semantics.proofs.EffectsRepresent.{shape_bare}

@@ -1,5 +1,5 @@
 -- What is built for an expression without open constructs gives one sample: the induction over expressions, and over the rules that aren't marked.
-use Rattle.std.proofs.Common.{◌≡◌, ◌<◌, inl, inr, ℕ, zero, suc, ◌+◌, Bool, true, false, not, ◌&&◌, ◌||◌, cond, List, [], ◌∷◌, ◌++◌, length, Option, Some, None, refl, sym, ◌∙◌, ap, subst, arith, option_map, codes, length-append}
+use Rattle.std.proofs.Common.{◌≡◌, ◌<◌, inl, inr, ℕ, zero, suc, ◌+◌, Bool, true, false, not, ◌&&◌, ◌||◌, cond, List, [], ◌∷◌, ◌++◌, length, Option, Some, None, refl, sym, ◌∙◌, ap, subst, arith, codes, length-append}
 use Rattle.std.proofs.lemmas.Bool.{or_right}
 use Rattle.std.proofs.lemmas.Bool.{or_left}
 use Rattle.std.specs.List.{Contains, filter}
@@ -27,7 +27,7 @@ use Rattle.lf_semantics.specs.Environments.{Covers, CoversRules, IsEnvironmentOf
 use Rattle.lf_semantics.specs.Grouped.{is_filter}
 use Rattle.lf_semantics.specs.Listing.{IsListing, Listing}
 use Rattle.lf_semantics.specs.Mentions.{arguments_mentions, call_mentions, effect_mentions, group_names, matchers_mentions, mentions, modifier_mentions, name_mentions, names_mentions, stands_first}
-use Rattle.lf_semantics.specs.Parts.{Sought, argument_at, is_scalar_part, operand_place, sought_by, sought_in}
+use Rattle.lf_semantics.specs.Parts.{argument_at, is_scalar_part, operand_place}
 use Rattle.lf_semantics.specs.RowTable.{Environment, binary_row, call_row, may_be_present, row_at, row_of, selector_row}
 use Rattle.lf_semantics.specs.Worlds.{SetsNoName}
 use Rattle.lf_semantics.proofs.Constructs.{AllKnown, ignoring_known, include_known, on_known, operands_known}
@@ -36,7 +36,7 @@ use Rattle.lf_semantics.proofs.Members.{all_back, all_front}
 use Rattle.lf_semantics.proofs.Numbered.{AreKnown}
 use Rattle.lf_semantics.proofs.PartsCovered.{call_operands}
 use Rattle.lf_semantics.proofs.RowLaws.{shape_bottom}
-use Rattle.lf_semantics.proofs.Soundness.{grouped_known, shape_of_row}
+use Rattle.lf_semantics.proofs.Soundness.{first_sought, grouped_known, shape_of_row}
 use Rattle.lf_semantics.proofs.ScalarCalls.{named_is_bare, selector_is_no_scalar}
 use Rattle.lf_witness.specs.Strict.{ArgumentStrictlyEvaluates, Outcomes, StrictBinary, StrictCall, StrictlyEvaluates}
 use Rattle.lf_deps.specs.Reading.{IsCyclic, Reaches, Reads, arguments_selectors, selectors, selectors_in}
@@ -60,34 +60,6 @@ use Rattle.lf_shown.proofs.Reached.{none_unrecorded, row_of_recorded}
 use Rattle.lf_shown.proofs.Reading.{IsArgument, IsPart, argument_part, no_fork, part_forks, part_of, reads_more, same_part}
 use Rattle.lf_shown.proofs.Recorded.{IsUnion, name_class, named_row}
 use Rattle.lf_shown.proofs.Selectors.{NameForks, NameReads, RuleBuilds, raw_recorded, raw_scraped}
-
--- ---- the selector that `absent` looks for is known
-
-module _ (u : Listing) where
-  abbrev SoughtKnown : Option Sought → Type 0
-  SoughtKnown o = (s : Sought) → o ≡ Some s → AllKnown u (matchers_mentions s.matchers)
-
-  none_known : SoughtKnown None
-  none_known s e = absurd (cc)
-
-  within_parentheses : (o : Option Sought) → SoughtKnown o → SoughtKnown (option_map (λ sought. record { matchers = sought.matchers; may_be_bare = true }) o)
-  within_parentheses None known = none_known
-  within_parentheses (Some t) known = λ s e. subst (λ (x : Sought). AllKnown u (matchers_mentions x.matchers)) (same_Some _ s e) (known t refl)
-
-  sought_known : (e : Tree) → Covers u e → SoughtKnown (sought_by e)
-  sought_known (Selector name matchers sight span) known = λ s e. subst (λ (x : Sought). AllKnown u (matchers_mentions x.matchers)) (same_Some _ s e) (all_back (IsKnown u) (name_mentions name) (matchers_mentions matchers) known)
-  sought_known (Paren of span) known = within_parentheses (sought_by of) (sought_known of known)
-  sought_known (Number text span) known = none_known
-  sought_known (Str text span) known = none_known
-  sought_known (Subquery of sight span) known = none_known
-  sought_known (Unary minus of span) known = none_known
-  sought_known (Binary op m left right span) known = none_known
-  sought_known (Call name args span) known = none_known
-  sought_known (Aggregate op grouping args span) known = none_known
-
-  pub first_sought : (args : Trees) → AllKnown u (arguments_mentions args) → SoughtKnown (sought_in args)
-  first_sought Nil known = none_known
-  first_sought (Next x xs) known = sought_known x (all_front (IsKnown u) (mentions x) (arguments_mentions xs) known)
 
 -- ---- selectors with their matchers
 

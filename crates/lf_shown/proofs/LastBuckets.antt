@@ -43,7 +43,7 @@ use Rattle.lf_semantics.proofs.Places.{label_test, metric_listed}
 use Rattle.lf_semantics.proofs.PairsRepresent.{shape_matched, shape_nameless_if}
 use Rattle.lf_semantics.proofs.PartsCovered.{call_operands}
 use Rattle.lf_semantics.proofs.RowLaws.{in_range, holds-remade, top_holds}
-use Rattle.lf_semantics.proofs.Soundness.{grouped_known, shape_of_row}
+use Rattle.lf_semantics.proofs.Soundness.{first_sought, grouped_known, shape_of_row}
 use Rattle.lf_semantics.proofs.ScalarCalls.{IsBareIfScalar, named_is_bare, selector_is_no_scalar}
 use Rattle.lf_deps.specs.Reading.{selectors, selectors_in}
 use Rattle.lf_trials.specs.Built.{sets_label}
@@ -368,7 +368,7 @@ module _ (u : Listing) where
       last_call : (o : Option Signature) (grouping : Grouping) (args : Trees) → AllByRecursion (IsKnown u) (arguments_mentions args) → call_leaves o ≡ true → are_clean args ≡ true → ((k : ℕ) → HasLast (row_at u env args k)) → HasLast (call_row u o grouping args (row_at u env args))
       last_call None grouping args known leaves clean each = last_bottom
       last_call (Some s) grouping args known leaves clean each =
-          last_effect s.labels grouping args (row_at u env args (operand_place s)) leaves (λ t e. (Rattle.lf_shown.proofs.Induction.first_sought u args known t e, first_seeks args clean t e)) (each (operand_place s))
+          last_effect s.labels grouping args (row_at u env args (operand_place s)) leaves (λ t e. (first_sought u args known t e, first_seeks args clean t e)) (each (operand_place s))
 
       last_binary : (op : Op) (m : Matching) (x y : Bool) (left right : Sets) → HasShape u left → HasShape u right → HasLast left → HasLast right → HasLast (binary_row u op m x y left right)
       last_binary op m true true left right s t a b = last_bare

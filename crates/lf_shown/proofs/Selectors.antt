@@ -26,7 +26,7 @@ use Rattle.lf_semantics.proofs.LeqLaws.{bottom_dead}
 use Rattle.lf_semantics.proofs.Numbered.{metric_label}
 use Rattle.lf_semantics.proofs.PatternTexts.{passes_is}
 use Rattle.lf_semantics.proofs.Places.{eqb-other, metric_listed, place_le, same_text, text_at_class}
-use Rattle.lf_semantics.proofs.SelectorsRepresent.{plain_not_other, selected_name_is}
+use Rattle.lf_semantics.proofs.SelectorsRepresent.{AreOwn, plain_not_other, selected_name_is}
 use Rattle.lf_semantics.proofs.RowLaws.{represents_narrowed}
 use Rattle.lf_witness.specs.Strict.{AreSelected, IsSet, Outcomes}
 use Rattle.lf_witness.proofs.SameSets.{same_itself}
@@ -59,11 +59,8 @@ module _ (u : Listing) where
   not_own : (l : ℕ) (text : Bytes) → nat_lt (class_of u l text) (other_class u l) ≡ false → class_of u l text < other_class u l → ⊥
   not_own l text other own = absurd (grind (arith, nat_tests))
 
-  abbrev AreOwn : ℕ → List Bytes → Type 0
-  AreOwn l texts = AllByRecursion (λ text. class_of u l text < other_class u l) texts
-
   -- a text whose class passes a plain matcher passes it
-  class_means : (op : MatchOp) (l : ℕ) (value text : Bytes) → AreOwn l (matcher_texts op value) → (op ≡ Equal) ⊎ ((op ≡ NotEqual) ⊎ (is_plain value ≡ true)) → passes_class u op value l (class_of u l text) ≡ true → passes op value text ≡ true
+  class_means : (op : MatchOp) (l : ℕ) (value text : Bytes) → AreOwn u l (matcher_texts op value) → (op ≡ Equal) ⊎ ((op ≡ NotEqual) ⊎ (is_plain value ≡ true)) → passes_class u op value l (class_of u l text) ≡ true → passes op value text ≡ true
   class_means op l value text own plain h = elim (own_or_other l text) [
     | inl less ↦ same op less h
     | inr other ↦ beyond op own plain other (sym (ap (λ b. cond (not b) (passes_other op value) (passes op value (Rattle.lf_semantics.specs.RowTable.text_of u l (class_of u l text)))) other) ∙ h)
@@ -77,10 +74,10 @@ module _ (u : Listing) where
       differs : class_of u l value < other_class u l → nat_lt (class_of u l text) (other_class u l) ≡ false → bytes_eq text value ≡ false
       differs less other = other_false text value (λ e. not_own l text other (subst (λ x. class_of u l x < other_class u l) (sym e) less))
 
-      unmatched : AreOwn l (Rattle.lf_semantics.specs.Mentions.pattern_texts value) → nat_lt (class_of u l text) (other_class u l) ≡ false → is_plain value ≡ true → Rattle.lf_pattern.specs.Matching.matches value text ≡ false
+      unmatched : AreOwn u l (Rattle.lf_semantics.specs.Mentions.pattern_texts value) → nat_lt (class_of u l text) (other_class u l) ≡ false → is_plain value ≡ true → Rattle.lf_pattern.specs.Matching.matches value text ≡ false
       unmatched own other plain = Rattle.std.proofs.lemmas.Bool.false_from_ne_true (Rattle.lf_pattern.specs.Matching.matches value text) (λ is. clash _ (plain_not_other u l value text own other is) (ap not plain))
 
-      beyond : (op : MatchOp) → AreOwn l (matcher_texts op value) → (op ≡ Equal) ⊎ ((op ≡ NotEqual) ⊎ (is_plain value ≡ true)) → nat_lt (class_of u l text) (other_class u l) ≡ false → passes_other op value ≡ true → passes op value text ≡ true
+      beyond : (op : MatchOp) → AreOwn u l (matcher_texts op value) → (op ≡ Equal) ⊎ ((op ≡ NotEqual) ⊎ (is_plain value ≡ true)) → nat_lt (class_of u l text) (other_class u l) ≡ false → passes_other op value ≡ true → passes op value text ≡ true
       beyond Equal own plain other h = absurd (cc)
       beyond NotEqual own plain other h = ap not (differs own.0 other)
       beyond Matches own (inl e) other h = absurd (cc)

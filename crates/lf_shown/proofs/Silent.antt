@@ -11,7 +11,7 @@ use Rattle.lf_laws.proofs.Booleans.{clash}
 use Rattle.lf_ast.specs.Functions.{Row, Signature, aggregation, function_named, functions}
 use Rattle.lf_ast.specs.Labels.{Bytes}
 use Rattle.lf_ast.specs.Tree.{Tree, Trees, Number, Str as Text, Selector, Subquery, Paren, Unary, Binary, Call, Aggregate, Nil, Next, count}
-use Rattle.lf_ast.specs.Types.{CallHasType, Fit, HasType, is_number, is_scalar, is_vector, joined, takes, takes_count, takes_further, takes_side, wanted}
+use Rattle.lf_ast.specs.Types.{Fit, HasType, is_number, is_scalar, joined, takes, takes_count, takes_further, takes_side, wanted}
 use Rattle.lf_ast.specs.declared.expr.Agg.{Agg}
 use Rattle.lf_ast.specs.declared.expr.Agg.TheVariants.{Sum, Min, Max, Avg, Group, Stddev, Stdvar, Count, Quantile, CountValues as CountingValues, Topk, Bottomk}
 use Rattle.lf_ast.specs.declared.expr.ExprType.{ExprType}

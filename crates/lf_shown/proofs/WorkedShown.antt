@@ -1,7 +1,7 @@
 -- The law of what is shown, at a worked rule: its premises are met, so the built world shows both presences of a label.
 use Rattle.std.proofs.Common.{◌≡◌, ◌<◌, ◌^◌, inl, inr, true, false, List, [], ◌∷◌, length, codes, refl, arith}
 use Rattle.std.specs.Fmt.{digits}
-use Rattle.std.specs.List.{AllByRecursion, Contains}
+use Rattle.std.specs.List.{Contains}
 use Rattle.lf_laws.proofs.Booleans.{clash}
 use Rattle.lf_laws.proofs.Members.{each_member}
 use Rattle.lf_ast.specs.Labels.{Bytes}

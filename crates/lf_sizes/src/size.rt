@@ -1,7 +1,7 @@
 //! The size of a pattern and its width, which are read from left to right.
-ghost use Rattle.std.specs.Prelude.{◌≡◌, IfOk, reverse};
+ghost use Rattle.std.specs.Prelude.{◌≡◌, IfOk};
 ghost use Rattle.lf_sizes.specs.Sizes.{atom, class, closes, count, escaped, in_size, in_width, is_flag, mark, measured, more, no_mark, opens, said, said_in_braces, said_in_brackets, size_of, width_of};
-ghost use Rattle.lf_sizes.specs.views.Size.{plus_each, reads, size_from, start, state_of, stepped, total};
+ghost use Rattle.lf_sizes.specs.views.Size.{reads, size_from, start, state_of, stepped, total};
 
 use lf_base::{Memory, Seq};
 use std::alloc::Global;

@@ -19,11 +19,10 @@ use Rattle.lf_semantics.specs.Texts.{HasTexts, restricted}
 use Rattle.lf_semantics.proofs.Members.{in_filter, of_filter}
 use Rattle.lf_witness.specs.Ascending.{IsAscending, labels_cmp}
 use Rattle.lf_witness.specs.Strict.{AreSame}
-use Rattle.lf_witness.proofs.AscendingLists.{ascends_behind, head_less, less_itself, tail_ascends}
+use Rattle.lf_witness.proofs.AscendingLists.{ascends_behind, head_less, labels_total, less_itself, tail_ascends}
 use Rattle.lf_witness.proofs.Decided.{equal_itself, equal_same, same_told, told_same}
 use Rattle.lf_strict.specs.views.Signed.{is_one_of, is_signed}
 use Rattle.lf_strict.proofs.Signatures.{one_signature, same_signature}
-use Rattle.lf_strict.proofs.Times.{labels_total}
 
 -- filters
 

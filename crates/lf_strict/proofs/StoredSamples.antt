@@ -23,7 +23,7 @@ use Rattle.lf_semantics.specs.Passing.{HasName, PassesEach}
 use Rattle.lf_semantics.specs.Texts.{value_of}
 use Rattle.lf_strict.specs.views.Stored.{AreUnderNames, samples_of}
 use Rattle.lf_witness.specs.Strict.{AreSame, AreSelected}
-use Rattle.lf_witness.proofs.Decided.{tied}
+use Rattle.lf_laws.proofs.Ascending.{tied}
 use Rattle.lf_strict.proofs.SampleSets.{IsWith, pushed_with, with_pushed}
 
 -- the name of a key is the one that is sought

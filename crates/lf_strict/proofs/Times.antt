@@ -8,15 +8,13 @@ use Rattle.std.specs.declared.cmp.Ordering.TheVariants.{Less, Equal, Greater}
 use Rattle.std.specs.Ordering.{eq_by_cmp, is_eq, is_lt, ordering_reverse}
 use Rattle.std.proofs.lemmas.List.Sorted.{Contains-permutation, IsPermutation-sym, sum_by-IsPermutation}
 use Rattle.std.proofs.lemmas.List.Sums.{sum_by-cons}
-use Rattle.std.proofs.lemmas.Cmp.{on_total}
 use Rattle.std.proofs.lemmas.Option.{get_or_from_slice_get, slice_get-get_or, slice_get_within}
-use Rattle.std.specs.Cmp.{IsTotalOrder}
 use Rattle.lf_laws.proofs.Members.{behind, each_member, first_or_behind, here, none_in}
 use Rattle.lf_laws.proofs.Slices.{member_at}
 use Rattle.lf_ast.specs.Labels.{Labels}
-use Rattle.lf_witness.specs.Ascending.{IsAscending, labels_cmp, pairs_of}
+use Rattle.lf_witness.specs.Ascending.{IsAscending, labels_cmp}
 use Rattle.lf_witness.specs.Strict.{AreSame}
-use Rattle.lf_witness.proofs.AscendingLists.{alone_ascends, ascends_behind, head_less, less_itself, none_ascends, tail_ascends, total}
+use Rattle.lf_witness.proofs.AscendingLists.{alone_ascends, ascends_behind, head_less, less_itself, none_ascends, tail_ascends, labels_total}
 use Rattle.lf_witness.proofs.Decided.{same_told, told_same}
 use Rattle.lf_strict.specs.views.Apart.{IsRepeated, times}
 
@@ -89,7 +87,7 @@ less_from s t other sorted = by (labels_cmp s t) refl other sorted
     by : (o : Ordering) → labels_cmp s t ≡ o → is_eq o ≡ false → is_lt (labels_cmp t s) ≡ false → labels_cmp s t ≡ Less
     by Less e _ _ = e
     by Equal e other _ = cc
-    by Greater e _ upward = let back : labels_cmp t s ≡ Less = total.antisymm (pairs_of t) (pairs_of s) ∙ ap ordering_reverse e in let yes : is_lt (labels_cmp t s) ≡ true = ap is_lt back in cc
+    by Greater e _ upward = let back : labels_cmp t s ≡ Less = labels_total.antisymm t s ∙ ap ordering_reverse e in let yes : is_lt (labels_cmp t s) ≡ true = ap is_lt back in cc
 
 -- each is less than the next
 abbrev pub AreRising : List Labels → Type 0
@@ -103,7 +101,7 @@ rising_ascends (x ∷ y ∷ R) rises =
     let first = rises zero x y refl refl in
     ascends_behind x (y ∷ R) rest (λ t c. elim (first_or_behind y R t c) [
       | inl e ↦ subst (λ z. labels_cmp x z ≡ Less) e first
-      | inr later ↦ total.trans (pairs_of x) (pairs_of y) (pairs_of t) first (head_less y t R rest later)
+      | inr later ↦ labels_total.trans x y t first (head_less y t R rest later)
     ])
 
 pub sorted_rises : (R : List Labels) → IsSorted labels_cmp R → ((k : ℕ) (s t : Labels) → slice_get R k ≡ Some s → slice_get R (k + 1) ≡ Some t → eq_by_cmp labels_cmp s t ≡ false) → AreRising R
@@ -118,8 +116,6 @@ unfolding IsStrictlySortedBy
 strictly_ascends [] sorted = none_ascends
 strictly_ascends (x ∷ R) sorted = ascends_behind x R (strictly_ascends R sorted.1) (λ t c. each_member (λ y. labels_cmp x y ≡ Less) R t sorted.0 c)
 
-pub labels_total : IsTotalOrder labels_cmp
-labels_total = on_total pairs_of total
 
 -- neighbours that were compared
 

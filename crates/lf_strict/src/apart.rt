@@ -1,5 +1,5 @@
 //! Lists of label sets in ascending order, each once.
-ghost use Rattle.std.specs.Prelude.{◌≡◌, ◌+◌, ◌<◌, ℕ, length, slice_get, slice_index_or, true, false, Some};
+ghost use Rattle.std.specs.Prelude.{◌≡◌, ◌+◌, ◌<◌, ℕ, slice_get, true, false, Some};
 ghost use Rattle.std.specs.Ordering.{eq_by_cmp};
 ghost use Rattle.lf_ast.specs.Labels.{Labels};
 ghost use Rattle.lf_ast.specs.LabelOrder.{labels_cmp};

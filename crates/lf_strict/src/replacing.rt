@@ -1,5 +1,5 @@
 //! What `label_replace` gives.
-ghost use Rattle.std.specs.Prelude.{◌≡◌, cond, IfOk, IfSome, List};
+ghost use Rattle.std.specs.Prelude.{◌≡◌, IfOk, IfSome, List};
 ghost use Rattle.std.specs.List.{AllZip};
 ghost use Rattle.lf_ast.specs.Arguments.{texts_of};
 ghost use Rattle.lf_ast.specs.Labels.{Labels};
@@ -7,7 +7,6 @@ ghost use Rattle.lf_ast.specs.Tree.{Tree, trees};
 ghost use Rattle.lf_pattern.specs.Replacement.{IsPlainReplacement};
 ghost use Rattle.lf_semantics.specs.Evaluation.{IsReplaced, source_value};
 ghost use Rattle.lf_semantics.specs.Strings.{replacing};
-ghost use Rattle.lf_semantics.specs.Texts.{with_label};
 ghost use Rattle.lf_witness.specs.Ascending.{IsAscending};
 ghost use Rattle.lf_witness.specs.Strict.{MadeApart, Replaced, StrictlyEvaluates};
 ghost use Rattle.lf_witness.specs.StrictRuns.{InOrder, IsStrictAnswer};

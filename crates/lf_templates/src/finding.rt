@@ -1,6 +1,5 @@
 //! From the rows in an action to references.
-ghost use Rattle.std.specs.Prelude.{◌≡◌, ◌+◌, ◌++◌, ◌≤◌, ◌<◌, ◌^◌, length, drop, map, false, IfOk, OnOk, if◌then◌else◌};
-ghost use Rattle.lf_templates.specs.Actions.{rows};
+ghost use Rattle.std.specs.Prelude.{◌≡◌, ◌+◌, ◌++◌, ◌≤◌, ◌<◌, ◌^◌, length, drop, false, IfOk, OnOk};
 ghost use Rattle.lf_templates.specs.Templates as templates;
 ghost use Rattle.lf_templates.specs.reading.Templates.{total, Named, IsRowIn};
 

@@ -1,5 +1,5 @@
 //! The token at the front of a text between braces.
-ghost use Rattle.std.specs.Prelude.{◌≡◌, ◌≤◌, ◌<◌, length, IfSome};
+ghost use Rattle.std.specs.Prelude.{◌≡◌, ◌<◌};
 ghost use Rattle.lf_base.specs.Rows.{starts};
 ghost use Rattle.lf_templates.specs.Tokens as tokens;
 ghost use Rattle.lf_templates.specs.reading.Templates as reading;

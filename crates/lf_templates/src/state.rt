@@ -1,5 +1,5 @@
 //! What is known between two actions of a template.
-ghost use Rattle.std.specs.Prelude.{◌≡◌, [], ◌+◌, ◌≤◌, ◌<◌, ◌^◌, length, reverse, None, false, ◌||◌, OnOk, IfSome, Some, Err, List, ℕ};
+ghost use Rattle.std.specs.Prelude.{◌≡◌, [], ◌+◌, ◌≤◌, ◌<◌, ◌^◌, length, reverse, None, false, ◌||◌, OnOk, Some, Err, List, ℕ};
 ghost use Rattle.lf_templates.specs.Actions as actions;
 ghost use Rattle.lf_templates.specs.Actions.{tokens_of, head_of, first};
 ghost use Rattle.lf_base.specs.Answers.{Answers, IfAt};

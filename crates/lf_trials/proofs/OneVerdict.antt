@@ -1,9 +1,9 @@
 -- A rule has one verdict at most: one built world, one uniform world, and one sample that each of them shows.
-use Rattle.std.proofs.Common.{◌≡◌, ◌<◌, ◌↔◌, inl, inr, ℕ, suc, Bool, true, false, List, [], ◌∷◌, length, get_or, Some, refl, sym, ap, ap₂, ◌∙◌, subst, slice_get, arith}
-use Rattle.std.specs.List.{Contains, find}
-use Rattle.std.proofs.lemmas.Option.{get_or_from_slice_get, slice_get_read, same_Some}
+use Rattle.std.proofs.Common.{◌≡◌, ◌↔◌, inl, inr, ℕ, Bool, true, false, List, [], ◌∷◌, Some, refl, sym, ap, ap₂, ◌∙◌, subst, slice_get}
+use Rattle.std.specs.List.{find}
+use Rattle.std.proofs.lemmas.Option.{same_Some}
+use Rattle.lf_laws.proofs.Ascending.{same_numbers}
 use Rattle.lf_laws.proofs.Booleans.{clash}
-use Rattle.lf_laws.proofs.Members.{behind, first_or_behind, here, none_in}
 use Rattle.lf_laws.proofs.Options.{same_option}
 use Rattle.lf_ast.specs.Labels.{Bytes, Labels}
 use Rattle.lf_ast.specs.Rules.{RuleTree}
@@ -35,50 +35,8 @@ one_bool P false true one other = one.1 (other.0 refl)
 pub one_test : (rules : List RuleTree) (f g : Tree → Bool) → TellsForks rules f → TellsForks rules g → f ≡ g
 one_test rules f g one other = λ i e. one_bool _ (f e) (g e) (one e) (other e) i
 
--- numbers in ascending order
-
-abbrev Ascends : List ℕ → Type 0
-Ascends js = (k l : ℕ) → k < l → l < length js → get_or js k 0 < get_or js l 0
-
-rest_ascends : (j : ℕ) (js : List ℕ) → Ascends (j ∷ js) → Ascends js
-rest_ascends j js ascends k l less within = ascends (suc k) (suc l) (omega (arith, less)) (omega (arith, within))
-
-less_than_rest : (j : ℕ) (js : List ℕ) (k : ℕ) → Ascends (j ∷ js) → Contains js k → j < k
-less_than_rest j js k ascends c =
-    let at : get_or js c.0 0 ≡ k = get_or_from_slice_get js c.0 k 0 (slice_get_read js (length js) c.0 k refl c.1 (sym c.2)) in
-    let less : j < get_or js c.0 0 = ascends 0 (suc c.0) (omega arith) (omega (arith, c.1)) in
-    omega (arith, at, less)
-
-abbrev Into : List ℕ → List ℕ → Type 0
-Into js ks = (k : ℕ) → Contains js k → Contains ks k
-
--- the first ones are equal, and so the rest of the one lies in the rest of the other
-first_is_first : (j k : ℕ) (js ks : List ℕ) → Ascends (j ∷ js) → Ascends (k ∷ ks) → Contains (k ∷ ks) j → Contains (j ∷ js) k → j ≡ k
-first_is_first j k js ks one other into back = elim (first_or_behind k ks j into) [
-  | inl e ↦ sym e
-  | inr later ↦ elim (first_or_behind j js k back) [
-    | inl e ↦ e
-    | inr too ↦ let a = less_than_rest k ks j other later in let b = less_than_rest j js k one too in absurd (omega (arith, a, b))
-  ]
-]
-
-rest_into : (j k : ℕ) (js ks : List ℕ) → Ascends (j ∷ js) → j ≡ k → Into (j ∷ js) (k ∷ ks) → Into js ks
-rest_into j k js ks one same into n c = elim (first_or_behind k ks n (into n (behind j js n c))) [
-  | inl e ↦ let less = less_than_rest j js n one c in absurd (omega (arith, less, e, same))
-  | inr later ↦ later
-]
-
-one_ascending : (js ks : List ℕ) → Ascends js → Ascends ks → Into js ks → Into ks js → js ≡ ks
-one_ascending [] [] one other into back = refl
-one_ascending [] (k ∷ ks) one other into back = absurd (none_in k (back k (here k ks)))
-one_ascending (j ∷ js) [] one other into back = absurd (none_in j (into j (here j js)))
-one_ascending (j ∷ js) (k ∷ ks) one other into back =
-    let same = first_is_first j k js ks one other (into j (here j js)) (back k (here k ks)) in
-    ap₂ (λ (n : ℕ) (l : List ℕ). n ∷ l) same
-    (one_ascending js ks (rest_ascends j js one) (rest_ascends k ks other) (rest_into j k js ks one same into) (rest_into k j ks js other (sym same) back))
-
 pub one_reach : (rules : List RuleTree) (e : Tree) (js ks : List ℕ) → IsReach rules e js → IsReach rules e ks → js ≡ ks
-one_reach rules e js ks one other = one_ascending js ks one.ascending other.ascending (λ k c. (other.members k).1 ((one.members k).0 c)) (λ k c. (one.members k).1 ((other.members k).0 c))
+one_reach rules e js ks one other = same_numbers js ks one.ascending other.ascending (λ k c. (other.members k).1 ((one.members k).0 c)) (λ k c. (one.members k).1 ((other.members k).0 c))
 
 -- worlds
 

@@ -22,7 +22,7 @@ use Rattle.lf_trials.specs.Candidates.{has_presence}
 use Rattle.lf_trials.specs.Forks.{HoldsFork, TellsForks, has_own_fork}
 use Rattle.lf_trials.specs.Reached.{IsReach}
 use Rattle.lf_trials.specs.Trials.{Shown, Shows}
-use Rattle.lf_trials.specs.Verdicts.{Guaranteed, Impossible, IsRuleVerdict, Possible, RuleVerdict}
+use Rattle.lf_trials.specs.Verdicts.{Impossible, IsRuleVerdict, Possible}
 use Rattle.lf_trials.specs.Verdicts as verdict
 use Rattle.lf_trials.proofs.WorkedBuilt.{labelled, sum, sum_u}
 use Rattle.lf_witness.specs.StrictRuns.{IsRuleAnswer, IsRunAnswer}

@@ -1,6 +1,7 @@
 -- Rules by their numbers: which record a name, and which are read; and what is tried with them.
-use Rattle.std.specs.Prelude.{◌≡◌, ◌<◌, ◌↔◌, ℕ, suc, Bool, cond, eqb, nat_lt, List, [], ◌∷◌, ◌++◌, length, Option, Some, None, slice_get, slice_index_or}
+use Rattle.std.specs.Prelude.{◌≡◌, ◌↔◌, ℕ, suc, Bool, cond, eqb, nat_lt, List, [], ◌∷◌, ◌++◌, length, Option, Some, None, slice_get}
 use Rattle.std.specs.List.{Contains, filter, flat_map, list_any}
+use Rattle.lf_laws.specs.Ascending.{AreAscending}
 use Rattle.lf_ast.specs.Labels.{Bytes, Labels}
 use Rattle.lf_ast.specs.Rules.{RuleTree}
 use Rattle.lf_ast.specs.Tree.{Tree}
@@ -21,7 +22,7 @@ is_marked marked k = list_any (eqb k) marked
 
 -- the reach of an expression: in ascending order the numbers of the rules that record a name which it reads
 pub record IsReach (rules : List RuleTree) (e : Tree) (reach : List ℕ) : Type 0 where
-  pub ascending : (k l : ℕ) → k < l → l < length reach → slice_index_or reach k 0 < slice_index_or reach l 0
+  pub ascending : AreAscending reach
   pub members : (k : ℕ) → Contains reach k ↔ ((r : RuleTree) × (slice_get rules k ≡ Some r) × Reaches rules e r)
 
 -- rule i and its reach, in ascending order, rule i once

@@ -11,8 +11,9 @@ use Rattle.lf_laws.proofs.Slices.{member_at}
 use Rattle.lf_ast.specs.Labels.{Bytes}
 use Rattle.lf_ast.specs.Rules.{RuleTree}
 use Rattle.lf_ast.specs.Tree.{Tree}
-use Rattle.lf_deps.specs.Reading.{IsCyclic, Reads, Selects, selectors}
-use Rattle.lf_deps.specs.Reading.Reads.{selected, through}
+use Rattle.lf_deps.proofs.Followed.{reads_more}
+use Rattle.lf_deps.specs.Reading.{IsCyclic, Reads, selectors}
+use Rattle.lf_deps.specs.Reading.Reads.{selected}
 use Rattle.lf_deps.specs.views.Names.{IsPlaced}
 use Rattle.lf_semantics.specs.Listing.{Listing, place}
 use Rattle.lf_semantics.proofs.Places.{at_place}
@@ -80,12 +81,6 @@ unmarked_passes false e = refl
 and_true_right : (a b : Bool) → (a ≡ true → b ≡ false) → (a && not b) ≡ a
 and_true_right true b none = unmarked_passes b (none refl)
 and_true_right false b none = refl
-
--- what is read
-
-reads_on : (rules : List RuleTree) (e : Tree) (name : Bytes) → Reads rules e name → (r : RuleTree) → Contains rules r → r.alert ≡ false → r.name ≡ name → (next : Bytes) → Selects rules r.expr next → Reads rules e next
-reads_on rules e name (selected s) r there not_alert is next sel = through r there not_alert (subst (λ n. Selects rules e n) (sym is) s) (selected sel)
-reads_on rules e name (through q there_q not_q s rest) r there not_alert is next sel = through q there_q not_q s (reads_on rules q.expr name rest r there not_alert is next sel)
 
 module _ (u : Listing) (rules : List RuleTree) (label given : Bytes) (line : Line) (values : List Followed) (i : ℕ) (own : RuleTree) (at : slice_get rules i ≡ Some own) (reach : List ℕ) (is_reach : IsReach rules own.expr reach)
     (is_line : IsLineOf rules reach line) (are_values : AreValues u rules label given line values)
@@ -163,7 +158,7 @@ module _ (u : Listing) (rules : List RuleTree) (label given : Bytes) (line : Lin
         next_is next c recorded = record {
           marks = one_mark_more (length rules) k marked (slice_get_within rules k r there) fresh is.marks;
           read = λ j m q at_j. by j (eqb j k) refl m q at_j;
-          own_reads = reads_on rules own.expr name is.own_reads r (member_at rules k r there) does.0 same_name next (inl c);
+          own_reads = reads_more rules own.expr name is.own_reads r (member_at rules k r there) does.0 same_name next (inl c);
           uncircled = uncyclic k (in_reach k reached) r there next c;
           recorded = recorded;
         }
@@ -176,7 +171,7 @@ module _ (u : Listing) (rules : List RuleTree) (label given : Bytes) (line : Lin
                 let one : Some r ≡ Some q = sym there ∙ ap (slice_get rules) (sym (equal_numbers j k e)) ∙ at_j in
                 let same : r ≡ q = cc in
                 subst (λ (z : RuleTree). Reads rules z.expr next) same (selected (inl c))
-            by j false e m q at_j = reads_on rules q.expr name (is.read j m q at_j) r (member_at rules k r there) does.0 same_name next (inl c)
+            by j false e m q at_j = reads_more rules q.expr name (is.read j m q at_j) r (member_at rules k r there) does.0 same_name next (inl c)
 
         ready_in : (unmarked : ℕ) → ((next : Bytes) → Contains (selectors r.expr) (Some next) → is_recorded rules next ≡ true → IsSame unmarked (k ∷ marked) next) → IsPlaced line.names name
         ready_in unmarked later = elim (is_line.closed k reached) [

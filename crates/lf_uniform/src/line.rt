@@ -1,7 +1,7 @@
 //! The line of rules in which each comes behind those that it reads.
-ghost use Rattle.std.specs.Prelude.{◌≡◌, ◌<◌, ◌∷◌, false, ◌++◌, [], ℕ, List, cond, length, IfOk, OnOk, Option};
+ghost use Rattle.std.specs.Prelude.{◌≡◌, ◌<◌, ◌∷◌, false, ◌++◌, [], ℕ, cond, length, IfOk, OnOk, Option};
 ghost use Rattle.std.specs.List.{Contains};
-ghost use Rattle.lf_ast.specs.Rules.{RuleTree, rule_trees};
+ghost use Rattle.lf_ast.specs.Rules.{rule_trees};
 ghost use Rattle.lf_deps.specs.views.Sources.{IsSourcesOf};
 ghost use Rattle.lf_uniform.specs.views.Lines.{AreFirstsOf, IsLineOf, IsRound, is_in, is_no_wait, is_ready};
 

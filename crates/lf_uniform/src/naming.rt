@@ -2,7 +2,6 @@
 ghost use Rattle.std.specs.Prelude.{◌≡◌, ◌<◌, [], ℕ, IfOk, OnOk, length};
 ghost use Rattle.std.specs.List.{Contains};
 ghost use Rattle.lf_ast.specs.Rules.{rule_trees};
-ghost use Rattle.lf_ast.specs.Types.{is_scalar};
 ghost use Rattle.lf_deps.specs.views.Selecting.{is_scalar_call};
 ghost use Rattle.lf_deps.specs.views.Sources.{IsSourcesOf};
 ghost use Rattle.lf_trials.specs.Selected.{selected_by};

@@ -1,6 +1,5 @@
 //! The series of a uniform world.
-ghost use Rattle.std.specs.Prelude.{◌≡◌, List, IfOk, map};
-ghost use Rattle.lf_ast.specs.Labels.{Labels};
+ghost use Rattle.std.specs.Prelude.{◌≡◌, IfOk, map};
 ghost use Rattle.lf_ast.specs.Selectors.{metric};
 ghost use Rattle.lf_classes.specs.Limits.{IsWithin};
 ghost use Rattle.lf_trials.specs.Candidates.{labels_in};

@@ -11,6 +11,7 @@ use Rattle.std.specs.FinMap.{entries, find, get, get-entries, nat_cmp-IsAntisymm
 use Rattle.std.specs.List.{AllByRecursion, Contains}
 use Rattle.std.specs.Option.{unwrap_or}
 use Rattle.std.specs.Str.{bytes_eq}
+use Rattle.lf_laws.proofs.Ascending.{tied}
 use Rattle.lf_laws.proofs.Members.{behind, first_or_behind, here, none_in, same_true, true_same}
 use Rattle.lf_ast.specs.Labels.{Bytes, Labels}
 use Rattle.lf_ast.specs.declared.expr.Matching.{Matching}
@@ -112,11 +113,6 @@ equal_same s t e =
 
 pub equal_itself : (s : Labels) → labels_cmp s s ≡ Equal
 equal_itself s = tied_itself (lists_total (lists_total nat_list_cmp_total)) (pairs_of s)
-
-pub tied : (o : Ordering) → is_eq o ≡ true → o ≡ Equal
-tied Less e = cc
-tied Equal e = refl
-tied Greater e = cc
 
 -- so the test of the order tells which label sets are one
 pub told_same : (s t : Labels) → eq_by_cmp labels_cmp s t ≡ true → s ≡ t

@@ -9,7 +9,7 @@ use Rattle.clap.proofs.OnLiterals.{clap_on_literals}
 use Rattle.lf_words.specs.views.Commands.{gen_app, first_value}
 use Rattle.lf_words.specs.Lint.{IsOperand}
 use Rattle.lf_words.proofs.Steps.{Plain, or_parts}
-use Rattle.lf_words.proofs.Forms.{plain_of, some_char, shape, s_operand, s_dashes, s_long, s_short}
+use Rattle.lf_words.proofs.Forms.{some_char, shape, s_operand, s_dashes, s_long, s_short}
 use Rattle.lf_words.proofs.Forms as forms
 
 -- the word is taken, and is the value

@@ -12,7 +12,7 @@ use Rattle.clap.specs.Walk.{Walk, Waiting, idle, positional, option, walked, set
 use Rattle.clap.specs.Faults.{turn_fault, settle_fault, use_fault, walk_fault, defaults_fault, default_fault, check_fault, fault_of}
 use Rattle.clap.specs.Kinds.{or_else}
 use Rattle.clap.specs.declared.parser.matches.ValueSource.TheVariants.{CommandLine, DefaultValue}
-use Rattle.lf_words.specs.Lint.{LintArguments, Gives, nothing, Word, Valued, Workers, Format, option_word, value_of, with_value, with_labels, with_files, IsOperand, no_more, dashes, file, value_next, value_joined}
+use Rattle.lf_words.specs.Lint.{LintArguments, Gives, nothing, Word, Valued, Workers, Format, option_word, value_of, with_value, with_labels, with_files, no_more, dashes, file, value_next, value_joined}
 use Rattle.lf_words.specs.Lint as grammar
 use Rattle.lf_words.proofs.Steps.{name_of, lint, rules, rule, labels, files, Pending, state, pending_fault, after, Turns, or_parts, Open, is_idle, is_positional, turn_after, turn_dashes, turn_labels, turn_next, turn_with, turn_file, turn_value, bad_fails, wants, waits, wants_labels, wants_next, wants_with}
 use Rattle.lf_words.proofs.Forms.{Kind, k_dashes, k_labels, k_next, k_with, k_value, k_bad, classify, plain_of}

@@ -1,5 +1,5 @@
 //! The words of `gen`.
-ghost use Rattle.std.specs.Prelude.{◌≡◌, ◌≢◌, List, [], ◌∷◌, IfOk, IfErr, codes, option_map, slice_get, Some};
+ghost use Rattle.std.specs.Prelude.{◌≡◌, ◌≢◌, [], IfOk, IfErr, codes, option_map, slice_get, Some};
 ghost use Rattle.clap.specs.Words.{app_of, fault_of};
 ghost use Rattle.lf_words.specs.Grammar.{Asks};
 ghost use Rattle.lf_words.specs.views.Commands.{gen_app, texts_of, first_value};

@@ -1,5 +1,5 @@
 //! The words of `lint`.
-ghost use Rattle.std.specs.Prelude.{◌≡◌, ◌≢◌, ℕ, Bool, List, [], map, Option, IfOk, IfErr, IfSome, IfNone, codes, option_map, slice_get, unwrap_or, Some};
+ghost use Rattle.std.specs.Prelude.{◌≡◌, ◌≢◌, ℕ, Bool, [], map, Option, IfOk, IfErr, IfSome, IfNone, codes, option_map, slice_get, unwrap_or, Some};
 ghost use Rattle.clap.specs.Words.{app_of, fault_of};
 ghost use Rattle.lf_words.specs.Grammar.{Asks, IsFormat, IsWorkers};
 ghost use Rattle.lf_words.specs.views.Arguments.{arguments_of};

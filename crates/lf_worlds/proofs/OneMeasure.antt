@@ -1,10 +1,9 @@
 -- Rules have one measure: each rule has a reach, and no two.
-use Rattle.std.proofs.Common.{◌≡◌, ◌<◌, ◌+◌, ◌*◌, ℕ, List, [], ◌∷◌, length, Option, refl, sym, ap, ap₂, ◌∙◌, subst, slice_get}
-use Rattle.std.specs.List.{Contains, range_with_len, sum_by}
+use Rattle.std.proofs.Common.{◌≡◌, ◌<◌, ◌*◌, ℕ, List, [], length, Option, sym, ap, ◌∙◌, subst, slice_get}
+use Rattle.std.specs.List.{range_with_len}
 use Rattle.std.specs.Option.{option_map_or}
-use Rattle.std.proofs.lemmas.List.Sums.{sum_by-cons}
 use Rattle.lf_laws.proofs.Slices.{some_at}
-use Rattle.lf_laws.proofs.Members.{behind, here}
+use Rattle.lf_laws.proofs.Members.{same_sums}
 use Rattle.lf_ast.specs.Rules.{RuleTree}
 use Rattle.lf_semantics.specs.Listing.{Listing}
 use Rattle.lf_deps.proofs.Ascending.{of_range}
@@ -23,10 +22,6 @@ pub are_reaches : (rules : List RuleTree) → AreReaches rules (reach_at rules)
 are_reaches rules i r at = subst (IsReach rules r.expr) (sym (ap (λ (o : Option RuleTree). option_map_or (λ (q : RuleTree). reach_of rules q.expr) o []) at)) (is_reach_of rules r.expr)
 
 -- and no two
-
-same_sums : {X : Type 0} (f g : X → ℕ) (xs : List X) → ((x : X) → Contains xs x → f x ≡ g x) → sum_by f xs ≡ sum_by g xs
-same_sums f g [] same = refl
-same_sums f g (x ∷ xs) same = sum_by-cons f x xs ∙ ap₂ (λ (m n : ℕ). m + n) (same x (here x xs)) (same_sums f g xs (λ y there. same y (behind x xs y there))) ∙ sym (sum_by-cons g x xs)
 
 pub same_tried : (rules : List RuleTree) (f g : ℕ → List ℕ) → AreReaches rules f → AreReaches rules g → selectors_tried rules f ≡ selectors_tried rules g
 same_tried rules f g one other = same_sums _ _ (range_with_len 0 (length rules)) (λ i there. ap (λ (js : List ℕ). selectors_at rules (with_reach i js)) (same i (of_range (length rules) i there)))

@@ -1,9 +1,9 @@
 -- The reach of a rule as it is found, and the selectors of a rule and its reach.
 use Rattle.std.proofs.Common.{◌≡◌, ◌<◌, ◌↔◌, ℕ, ◌+◌, ◌-◌, ◌^◌, List, length, map, get_or, min, Some, sym, ap, ap₂, ◌∙◌, slice_get}
-use Rattle.std.specs.Prelude.{slice_index_or}
 use Rattle.std.specs.List.{Contains, range_with_len, sum_by}
 use Rattle.std.proofs.lemmas.List.Sums.{sum_by_push}
 use Rattle.std.proofs.lemmas.Option.{slice_get_within}
+use Rattle.lf_laws.specs.Ascending.{AreAscending}
 use Rattle.lf_laws.proofs.Slices.{some_at}
 use Rattle.lf_ast.specs.Rules.{RuleTree}
 use Rattle.lf_deps.proofs.Ascending.{range_more}
@@ -22,10 +22,7 @@ module _ (rules : List RuleTree) (i : ℕ) (found : List ℕ) where
   abbrev pub AreMembers : Type 0
   AreMembers = (of : RuleTree) → slice_get rules i ≡ Some of → (k : ℕ) → Contains found k ↔ ((r : RuleTree) × (slice_get rules k ≡ Some r) × Reaches rules of.expr r)
 
-  abbrev pub Ascend : Type 0
-  Ascend = (k l : ℕ) → k < l → l < length found → slice_index_or found k 0 < slice_index_or found l 0
-
-  pub is_reach : AreMembers → Ascend → (r : RuleTree) → slice_get rules i ≡ Some r → IsReach rules r.expr found
+  pub is_reach : AreMembers → AreAscending found → (r : RuleTree) → slice_get rules i ≡ Some r → IsReach rules r.expr found
   is_reach members ascending r at = record { ascending = ascending; members = members r at }
 
   -- its members are numbers of rules
@@ -33,7 +30,7 @@ module _ (rules : List RuleTree) (i : ℕ) (found : List ℕ) where
   reach_within less members k there = let r = some_at rules i less in let member = (members r.0 r.1 k).0 there in slice_get_within rules k member.0 member.1
 
   -- and it is the reach
-  pub same_reach : i < length rules → AreMembers → Ascend → (reach : ℕ → List ℕ) → AreReaches rules reach → found ≡ reach i
+  pub same_reach : i < length rules → AreMembers → AreAscending found → (reach : ℕ → List ℕ) → AreReaches rules reach → found ≡ reach i
   same_reach less members ascending reach are = let r = some_at rules i less in one_reach rules r.0.expr found (reach i) (is_reach members ascending r.0 r.1) (are i r.0 r.1)
 
 module _ (rules : List RuleTree) (reach : ℕ → List ℕ) where

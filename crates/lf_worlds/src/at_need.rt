@@ -1,7 +1,6 @@
 //! Uniform worlds, of which what they share is made at first need.
-ghost use Rattle.std.specs.Prelude.{◌≡◌, ◌<◌, length, slice_get, IfOk, IfSome, Some};
-ghost use Rattle.lf_ast.specs.Rules.{RuleTree, rule_trees};
-ghost use Rattle.lf_trials.specs.Reached.{IsReach};
+ghost use Rattle.std.specs.Prelude.{◌≡◌, ◌<◌, length, IfOk, IfSome, Some};
+ghost use Rattle.lf_ast.specs.Rules.{rule_trees};
 ghost use Rattle.lf_trials.specs.Uniform.{IsUniform};
 ghost use Rattle.lf_candidates.specs.views.ClassTexts.{name_at};
 ghost use Rattle.lf_candidates.specs.views.Told.{AnswersFor};

@@ -1,5 +1,5 @@
 //! What is known of the labels of rules, by their rows and by trials.
-ghost use Rattle.std.specs.Prelude.{◌≡◌, ◌<◌, List, length, map, slice_get, IfOk, Some};
+ghost use Rattle.std.specs.Prelude.{◌≡◌, ◌<◌, length, map, slice_get, IfOk, Some};
 ghost use Rattle.lf_ast.specs.Rules.{RuleTree, rule_trees};
 ghost use Rattle.lf_classes.specs.Limits.{IsWithin};
 ghost use Rattle.lf_semantics.specs.ClassRows.{HasShape};

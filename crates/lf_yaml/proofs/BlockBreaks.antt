@@ -11,7 +11,7 @@ use Rattle.lf_yaml.specs.Breaches.{NodeBreaks, BlockBreaks, ItemsBreak, ItemValu
 use Rattle.lf_yaml.specs.Breaches as breaks
 use Rattle.lf_yaml.specs.reading.Trees.{quotes_of, EntryHead, entry_by, quoted_head, opens_quote, item_at, item_value, with_item, items, entry_of, entry_at, entry_value, with_entry, entries_behind, keyed, key_read, entries_on, entries, as_sequence, as_mapping, node_at, Keys}
 use Rattle.lf_yaml.proofs.Ends.{end-length}
-use Rattle.lf_yaml.proofs.HeadLaws.{entry-is, key-is, key-breaks, has-tells, begins-block, begins-no-block, entry-view, opens-is, opens-view}
+use Rattle.lf_yaml.proofs.HeadLaws.{key-is, key-breaks, has-tells, begins-block, begins-no-block, entry-view, opens-is, opens-view}
 use Rattle.lf_yaml.proofs.HeadLaws as heads
 use Rattle.lf_yaml.proofs.Values.{value-breaks}
 use Rattle.lf_yaml.proofs.BlockRows.{item-rows, entry-rows}

@@ -8,7 +8,7 @@ use Rattle.lf_scalar.specs.Cells.{Cell, Value}
 use Rattle.lf_scalar.specs.Lines.{is_blank, after_blanks}
 use Rattle.lf_scalar.specs.Quoted.{raw}
 use Rattle.lf_yaml.specs.Rows.{ContentRow, text_of, indent, left_of, indent_fault, row_fault, tab_in}
-use Rattle.lf_yaml.specs.Heads.{is_item, Split, behind_cell, key_in, Key, IsKey, BeginsEntry, BeginsNoBlock, NoEntry}
+use Rattle.lf_yaml.specs.Heads.{is_item, Key, IsKey, BeginsEntry, BeginsNoBlock, NoEntry}
 use Rattle.lf_yaml.specs.Heads as head
 use Rattle.lf_yaml.specs.Tree.{Tree, Items, no_items, Entries, no_entries}
 use Rattle.lf_yaml.specs.Spans.{empty_at}

@@ -21,7 +21,7 @@ use Rattle.lf_scalar.proofs.Within.{rises_high}
 use Rattle.lf_yaml.specs.Rows.{ContentRow, text_of, is_mark, headed, content_row, rows_of}
 use Rattle.lf_yaml.specs.Heads.{Key}
 use Rattle.lf_yaml.specs.Tree.{Tree, Items, Entries}
-use Rattle.lf_yaml.specs.Flow.{first_line, later_lines, lines_on, line_on, lines_below, Next, at_part, broken, on_line, next_part, next_on, is_flow_sign, sign_fault, FlowScalar, FlowScalarBreaks, SequenceIn, SequenceBreaks, FlowKey, NoSign, FlowKeyBreaks, FlowValue, FlowValueBreaks, FlowEntry, MappingIn, MappingBreaks}
+use Rattle.lf_yaml.specs.Flow.{lines_on, line_on, lines_below, Next, at_part, broken, on_line, next_part, next_on, is_flow_sign, sign_fault, FlowScalar, FlowScalarBreaks, SequenceIn, SequenceBreaks, FlowKey, NoSign, FlowKeyBreaks, FlowValue, FlowValueBreaks, FlowEntry, MappingIn, MappingBreaks}
 use Rattle.lf_yaml.specs.Flow as flow
 use Rattle.lf_yaml.specs.Insides.{ScalarInside, Inside, ItemsInside, EntriesInside}
 use Rattle.lf_yaml.proofs.FlowLines.{InFile, LinesInFile, left-boundary, lines-here, lines-rise-here}

@@ -13,7 +13,7 @@ use Rattle.lf_scalar.proofs.Tails.{true-false}
 use Rattle.lf_yaml.specs.Characters.{mark_length, is_wrong, FirstWrong, AreCharacters, BreaksCharacters}
 use Rattle.lf_yaml.specs.Rows.{ContentRow, rows_of, is_opening, without_opening}
 use Rattle.lf_yaml.specs.Tree.{Tree}
-use Rattle.lf_yaml.specs.Nodes.{NodeAt, BlockAt, ValueAt}
+use Rattle.lf_yaml.specs.Nodes.{NodeAt, BlockAt}
 use Rattle.lf_yaml.specs.Nodes as nodes
 use Rattle.lf_yaml.specs.Document.{document_rows, DocumentAt, nothing, a_node, DocumentBreaks, broken_node, behind_block, behind_value}
 use Rattle.lf_yaml.specs.reading.Trees.{Read, begins_block, node_at, behind_root, document_of}

@@ -14,8 +14,8 @@ use Rattle.lf_yaml.specs.Rows.{ContentRow, row, text_of, rows_from, row_fault, i
 use Rattle.lf_yaml.specs.Heads.{style_of, begins_scalar}
 use Rattle.lf_yaml.specs.Tree.{Tree, sequence, mapping, Items, Entries}
 use Rattle.lf_yaml.specs.Flow.{is_bracket, line_on}
-use Rattle.lf_yaml.specs.Nodes.{IsScalarOn, ValueAt}
-use Rattle.lf_yaml.specs.Breaches.{ScalarBreaksOn, ValueBreaks}
+use Rattle.lf_yaml.specs.Nodes.{ValueAt}
+use Rattle.lf_yaml.specs.Breaches.{ValueBreaks}
 use Rattle.lf_yaml.specs.Nodes as nodes
 use Rattle.lf_yaml.specs.Breaches as breaches
 use Rattle.lf_yaml.specs.reading.Trees.{FlowRead, sequence_in, mapping_in, Read, as_tree, alone, closed, flow_list, flow_map, scalar_on, scalar_value, value_on}

@@ -1,5 +1,5 @@
 //! What stands behind a sign: the rest of its row, and the rows below.
-ghost use Rattle.std.specs.Prelude.{◌≡◌, eqb, ℕ, suc, ◌+◌, ◌<◌, ◌≤◌, ◌^◌, ◌∷◌, [], List, None, Some, length, get_or, drop, MatchOption, IfSome, option_map};
+ghost use Rattle.std.specs.Prelude.{◌≡◌, eqb, ℕ, suc, ◌+◌, ◌<◌, ◌∷◌, [], List, None, Some, length, get_or, drop, MatchOption, IfSome, option_map};
 ghost use Rattle.std.specs.Str.{IsCharBoundary, IsUtf8};
 ghost use Rattle.lf_base.specs.declared.kind.Kind.TheVariants.{NotANode};
 ghost use Rattle.lf_scalar.specs.Cells.{Cell, cells, byte_fault as fault_of};

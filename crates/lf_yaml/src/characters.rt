@@ -1,5 +1,5 @@
 //! Which characters a rule file may hold.
-ghost use Rattle.std.specs.Prelude.{◌≡◌, ◌<◌, ◌≤◌, ◌^◌, ◌+◌, ◌-◌, ℕ, length, drop, Ok, Err, IfOk, IfErr, IfSome, MatchOption};
+ghost use Rattle.std.specs.Prelude.{◌≡◌, ◌<◌, ◌≤◌, ◌^◌, ◌+◌, ◌-◌, length, drop, Ok, Err, IfOk, IfErr, IfSome, MatchOption};
 ghost use Rattle.lf_base.specs.declared.refusal.Refusal.{Refusal};
 ghost use Rattle.lf_base.specs.declared.refusal.Refusal.TheVariants as refusal_of;
 ghost use Rattle.lf_base.specs.declared.fault.Fault.{Fault};

@@ -1,7 +1,6 @@
 //! Keys between quotes whose `:` stands too far behind the quote that opens.
-ghost use Rattle.std.specs.Prelude.{◌≡◌, ℕ, suc, ◌+◌, ◌<◌, ◌≤◌, ◌^◌, length, get_or, drop, option_map, IfSome};
+ghost use Rattle.std.specs.Prelude.{◌≡◌, suc, ◌+◌, ◌<◌, ◌≤◌, ◌^◌, length, drop, option_map, IfSome};
 ghost use Rattle.lf_scalar.specs.Cells.{cell, cells};
-ghost use Rattle.lf_scalar.specs.Quoted.{quote_of as quote_byte};
 ghost use Rattle.lf_scalar.specs.reading.Quoted.{closing_of};
 ghost use Rattle.lf_yaml.specs.Keys.{is_too_far as is_too_far_of, before_offset, has_far_key as has_far_key_of};
 ghost use Rattle.lf_yaml.specs.Rows.{text_of};

@@ -1,5 +1,5 @@
 //! Flow sequences.
-ghost use Rattle.std.specs.Prelude.{◌≡◌, ℕ, suc, ◌≤◌, ◌^◌, IfOk};
+ghost use Rattle.std.specs.Prelude.{◌≡◌, ℕ, suc, IfOk};
 ghost use Rattle.lf_scalar.specs.Scalars.{value as scalar_value};
 ghost use Rattle.lf_yaml.specs.Tree.{leaf, tree, Items};
 ghost use Rattle.lf_yaml.specs.Flow.{next_on};

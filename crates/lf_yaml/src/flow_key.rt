@@ -1,8 +1,8 @@
 //! Keys of flow mappings.
-ghost use Rattle.std.specs.Prelude.{◌≡◌, eqb, ℕ, suc, ◌+◌, ◌<◌, ◌≤◌, ◌^◌, length, get_or, take, drop, Ok, IfOk, Some, None};
+ghost use Rattle.std.specs.Prelude.{◌≡◌, eqb, ◌+◌, ◌<◌, length, get_or, take, drop, Ok, IfOk, Some, None};
 ghost use Rattle.std.specs.Str.{IsCharBoundary, IsUtf8};
 ghost use Rattle.lf_base.specs.Answers.{AnswersAs};
-ghost use Rattle.lf_scalar.specs.Cells.{cell, cells, Fails};
+ghost use Rattle.lf_scalar.specs.Cells.{cells, Fails};
 ghost use Rattle.lf_scalar.specs.Lines.{is_blank};
 ghost use Rattle.lf_scalar.specs.Folding.{trimmed as trimmed_of};
 ghost use Rattle.lf_scalar.specs.Scalars.{value as scalar_value};

@@ -1,5 +1,5 @@
 //! Flow collections on a row, and what may stand behind them.
-ghost use Rattle.std.specs.Prelude.{false, ◌≡◌, ℕ, suc, ◌+◌, ◌<◌, ◌≤◌, ◌^◌, [], length, get_or, None, Some, IfOk, MatchOption};
+ghost use Rattle.std.specs.Prelude.{false, ◌≡◌, suc, ◌+◌, ◌<◌, ◌≤◌, [], get_or, None, Some, IfOk, MatchOption};
 ghost use Rattle.std.specs.Str.{IsCharBoundary};
 ghost use Rattle.lf_base.specs.declared.kind.Kind.TheVariants.{NotANode};
 ghost use Rattle.lf_base.specs.Answers.{AnswersAs};

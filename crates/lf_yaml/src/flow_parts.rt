@@ -1,5 +1,5 @@
 //! The parts of a flow collection, one by one: the items of a sequence, or the entries of a mapping.
-ghost use Rattle.std.specs.Prelude.{◌≡◌, ℕ, ◌^◌, List, [], IfOk};
+ghost use Rattle.std.specs.Prelude.{◌≡◌, ℕ, List, [], IfOk};
 ghost use Rattle.lf_base.specs.Answers.{AnswersAs};
 ghost use Rattle.lf_base.specs.declared.place.Span.{Span};
 ghost use Rattle.lf_yaml.specs.Tree.{Tree, tree};

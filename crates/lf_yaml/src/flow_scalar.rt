@@ -1,7 +1,7 @@
 //! How a part of a flow collection begins, and what is told of one that can't stand where it does.
-ghost use Rattle.std.specs.Prelude.{◌≡◌, ◌||◌, cond, ℕ, suc, ◌+◌, ◌<◌, ◌≤◌, ◌^◌, length, get_or, drop};
+ghost use Rattle.std.specs.Prelude.{◌≡◌, ◌||◌, cond, ℕ, suc, ◌<◌, length, get_or, drop};
 ghost use Rattle.lf_scalar.specs.Block.{begins_blank as begins_blank_of};
-ghost use Rattle.lf_scalar.specs.Cells.{cell, cells, character_fault};
+ghost use Rattle.lf_scalar.specs.Cells.{cell, cells};
 ghost use Rattle.lf_scalar.specs.views.Built.{refused};
 ghost use Rattle.lf_yaml.specs.Flow.{is_bracket as is_bracket_of, begins_flow as begins_flow_of, is_flow_property as is_flow_property_of, part_fault as part_fault_of, sign_fault as sign_fault_of};
 ghost use Rattle.lf_base.specs.declared.kind.Kind.TheVariants.{LeftOut, NotANode};

@@ -1,5 +1,5 @@
 //! Values of flow mappings, and the places behind them.
-ghost use Rattle.std.specs.Prelude.{◌≡◌, ◌||◌, eqb, suc, ◌<◌, ◌≤◌, ◌^◌, length, Ok, IfOk};
+ghost use Rattle.std.specs.Prelude.{◌≡◌, ◌||◌, eqb, suc, ◌<◌, ◌≤◌, ◌^◌, Ok, IfOk};
 ghost use Rattle.lf_base.specs.Answers.{AnswersAs};
 ghost use Rattle.lf_scalar.specs.Cells.{cell};
 ghost use Rattle.lf_scalar.specs.Scalars.{value as scalar_value};

@@ -1,5 +1,5 @@
 //! Plain scalars that are folded from several lines.
-ghost use Rattle.std.specs.Prelude.{◌≡◌, ℕ, ◌≤◌, ◌^◌, ◌∷◌, ◌++◌, [], Ok};
+ghost use Rattle.std.specs.Prelude.{ℕ, ◌≤◌, ◌^◌, ◌∷◌, ◌++◌, [], Ok};
 ghost use Rattle.std.specs.Str.{IsUtf8};
 ghost use Rattle.lf_base.specs.Answers.{AnswersAs};
 ghost use Rattle.lf_scalar.specs.Cells.{cell, bytes_of, offsets_of, end_of};

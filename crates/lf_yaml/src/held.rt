@@ -1,5 +1,5 @@
 //! The scalars of keys.
-ghost use Rattle.std.specs.Prelude.{◌≡◌, ℕ, ◌+◌, ◌≤◌, ◌^◌, length};
+ghost use Rattle.std.specs.Prelude.{◌+◌};
 ghost use Rattle.lf_base.specs.Answers.{AnswersAs};
 ghost use Rattle.lf_scalar.specs.Scalars.{value as scalar_value};
 ghost use Rattle.lf_yaml.specs.reading.Trees.{key_of};

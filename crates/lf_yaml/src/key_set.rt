@@ -1,5 +1,5 @@
 //! Sets of the texts of keys.
-ghost use Rattle.std.specs.Prelude.{◌≡◌, ℕ, List, [], ◌∷◌, ◌++◌, not, IfOk, OnOk};
+ghost use Rattle.std.specs.Prelude.{◌≡◌, ℕ, List, [], ◌∷◌, ◌++◌, OnOk};
 ghost use Rattle.lf_yaml.specs.reading.Trees.{has};
 ghost use Rattle.lf_yaml.specs.views.KeySets.{HasKeys};
 

@@ -1,5 +1,5 @@
 //! Keys without quotes: where their `:` stands; and which keys are left out.
-ghost use Rattle.std.specs.Prelude.{true, ◌≡◌, ◌&&◌, eqb, cond, ℕ, ◌+◌, ◌<◌, ◌≤◌, ◌^◌, length, get_or, drop, IfSome, option_map};
+ghost use Rattle.std.specs.Prelude.{true, ◌≡◌, ◌&&◌, eqb, cond, ℕ, ◌+◌, ◌<◌, ◌≤◌, ◌^◌, length, get_or, IfSome, option_map};
 ghost use Rattle.lf_scalar.specs.Cells.{cell, cells};
 ghost use Rattle.lf_scalar.specs.Lines.{is_blank, begins_with};
 ghost use Rattle.lf_scalar.specs.Plain.{before_blank};

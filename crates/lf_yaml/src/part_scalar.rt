@@ -1,5 +1,5 @@
 //! Scalars that are parts of flow collections.
-ghost use Rattle.std.specs.Prelude.{◌≡◌, ◌+◌, ◌<◌, ◌≤◌, ◌^◌, length, get_or, Some, None, IfOk};
+ghost use Rattle.std.specs.Prelude.{◌≡◌, ◌+◌, ◌<◌, ◌≤◌, length, get_or, Some, None, IfOk};
 ghost use Rattle.lf_base.specs.Answers.{AnswersAs};
 ghost use Rattle.lf_scalar.specs.Cells.{cells};
 ghost use Rattle.lf_scalar.specs.Scalars.{value as scalar_value};

@@ -1,5 +1,5 @@
 //! The parts of flow collections: where the next one begins.
-ghost use Rattle.std.specs.Prelude.{◌≡◌, ℕ, List, ◌+◌, ◌<◌, ◌≤◌, ◌^◌, length, drop, IfOk};
+ghost use Rattle.std.specs.Prelude.{◌≡◌, ℕ, List, ◌+◌, ◌<◌, ◌≤◌, length, IfOk};
 ghost use Rattle.std.specs.Str.{IsCharBoundary, IsUtf8};
 ghost use Rattle.lf_yaml.specs.Flow.{on_line as on_line_of, next_on};
 ghost use Rattle.lf_yaml.specs.views.Cursor.{rows_after};

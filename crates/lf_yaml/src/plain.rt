@@ -1,8 +1,7 @@
 //! Scalars that are a part of one line as it stands.
-ghost use Rattle.std.specs.Prelude.{◌≡◌, ℕ, ◌+◌, ◌<◌, ◌≤◌, ◌^◌, ◌∷◌, [], ◌++◌, length, map, take, Ok, IfOk, IfErr};
+ghost use Rattle.std.specs.Prelude.{◌≡◌, ◌+◌, ◌<◌, ◌≤◌, ◌^◌, length, Ok, IfOk, IfErr};
 ghost use Rattle.std.specs.Str.{IsUtf8};
 ghost use Rattle.lf_base.specs.Answers.{AnswersAs};
-ghost use Rattle.lf_base.specs.Faults.{span as span_of};
 ghost use Rattle.lf_scalar.specs.Cells.{cells, made};
 ghost use Rattle.lf_scalar.specs.Scalars.{value as scalar_value};
 ghost use Rattle.lf_base.specs.declared.refusal.Refusal.TheVariants as refusal_of;

@@ -6,7 +6,7 @@ ghost use Rattle.lf_scalar.specs.Lines.{line};
 ghost use Rattle.lf_yaml.specs.Flow.{line_on, lines_below};
 ghost use Rattle.lf_yaml.specs.Rows.{content_row, rows_from, rows_of};
 ghost use Rattle.lf_yaml.specs.views.Shown.{shown};
-ghost use Rattle.lf_yaml.specs.views.Cursor.{rows_after, IsRowOf};
+ghost use Rattle.lf_yaml.specs.views.Cursor.{rows_after};
 
 use crate::row::ContentLine;
 use crate::source::Source;

@@ -1,9 +1,8 @@
 -- Findings with what they are ordered by.
-use Rattle.std.specs.Prelude.{◌≡◌, ◌<◌, ℕ, List, [], Some, slice_get}
+use Rattle.std.specs.Prelude.{◌≡◌, ℕ, List, []}
 use Rattle.std.specs.List.{Contains}
-use Rattle.std.specs.declared.cmp.Ordering.TheVariants.{Less}
 use Rattle.lf_ast.specs.declared.verdict.Finding.{Finding as Row}
-use Rattle.lf_checks.specs.Finding.{Finding, RuleDuplicate, finding_cmp, key_of}
+use Rattle.lf_checks.specs.Finding.{Finding, RuleDuplicate, key_of}
 use Rattle.lf_base.specs.declared.keyed.Keyed.{Keyed}
 use Rattle.lf_checks.specs.views.Shown.{shown}
 
@@ -17,9 +16,3 @@ keyed f = record { key = row_key f; item = f }
 -- of the findings there is one at most that says where the same rule stands
 abbrev pub OneDuplicate : List Finding → Type 0
 OneDuplicate found = (f g : Finding) → Contains found f → Contains found g → f.check ≡ RuleDuplicate → g.check ≡ RuleDuplicate → f ≡ g
-
--- the same findings, each less than those behind it
-pub record IsInOrder (listed found : List Finding) : Type 0 where
-  pub ascending : (j k : ℕ) (f g : Finding) → j < k → slice_get found j ≡ Some f → slice_get found k ≡ Some g → finding_cmp f g ≡ Less
-  pub kept : (f : Finding) → Contains listed f → Contains found f
-  pub only : (f : Finding) → Contains found f → Contains listed f

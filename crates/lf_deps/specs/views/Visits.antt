@@ -7,7 +7,7 @@ use Rattle.lf_ast.specs.Tree.{Tree, Trees, Number, Str, Selector, Subquery, Pare
 use Rattle.lf_ast.specs.Types.{is_scalar, joined, selected}
 use Rattle.lf_ast.specs.declared.expr.ExprType.{ExprType}
 use Rattle.lf_ast.specs.declared.expr.ExprType.TheVariants.{Scalar, Vector}
-use Rattle.lf_semantics.specs.Parts.{given_by, is_scalar_part, type_by_form}
+use Rattle.lf_semantics.specs.Parts.{is_scalar_part, type_by_form}
 use Rattle.lf_deps.specs.Reading.{arguments_selectors, selectors, selectors_in}
 use Rattle.lf_ast.specs.views.Walks.{along, chosen, further}
 use Rattle.lf_ast.specs.declared.walk.choosing.Parts.TheVariants.{All, Nothing}

@@ -1,6 +1,7 @@
 -- What is listed for each component, and numbers that are added to a list: how contracts see the code. It defines nothing.
-use Rattle.std.specs.Prelude.{◌≡◌, ◌↔◌, ◌⊎◌, ◌<◌, ℕ, List, [], length, map, slice_index_or}
+use Rattle.std.specs.Prelude.{◌≡◌, ◌↔◌, ◌<◌, ℕ, List, [], length, map, slice_index_or}
 use Rattle.std.specs.List.{Contains}
+use Rattle.lf_laws.specs.Gaining.{Gains}
 use Rattle.lf_graph.specs.Components.{number_of}
 use Rattle.lf_graph.specs.Paths.{after}
 
@@ -28,8 +29,8 @@ numbers_of numbers nodes = map (number_of numbers) nodes
 
 -- a list gets these numbers, beside those that it has
 abbrev pub Adds : List ℕ → List ℕ → List ℕ → Type 0
-Adds added old new = (k : ℕ) → Contains new k ↔ (Contains old k ⊎ Contains added k)
+Adds added = Gains (λ (l : List ℕ). l) (Contains added)
 
 -- a list gets those of these numbers that are below one, beside those that it has
 abbrev pub AddsBelow : List ℕ → ℕ → List ℕ → List ℕ → Type 0
-AddsBelow added number old new = (k : ℕ) → Contains new k ↔ (Contains old k ⊎ (Contains added k × (k < number)))
+AddsBelow added number = Gains (λ (l : List ℕ). l) (λ k. Contains added k × (k < number))

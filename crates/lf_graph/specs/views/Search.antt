@@ -1,6 +1,7 @@
 -- What a search along edges has met, and which edges it has to follow yet: how contracts see the code. It defines nothing.
 use Rattle.std.specs.Prelude.{◌≡◌, ◌⊎◌, ℕ, ◌<◌, ◌≤◌, ◌+◌, ◌-◌, List, [], ◌∷◌, length, map, slice_index_or, take}
 use Rattle.std.specs.List.{Contains}
+use Rattle.lf_laws.specs.Ascending.{AreAscending}
 use Rattle.lf_graph.specs.Paths.{Leads, after}
 use Rattle.lf_graph.specs.declared.search.Edge.{Edge}
 use Rattle.lf_graph.specs.declared.search.Node.{Node}
@@ -27,10 +28,6 @@ IsLater parts p q = (b : ℕ) → Contains parts b → b ≤ p → b ≤ q
 abbrev pub IsFollowed : Search → ℕ → ℕ → Type 0
 IsFollowed s p v = ((c : ℕ) × (state_of s v ≡ Closed c)) ⊎ ((q : ℕ) × (state_of s v ≡ Open q) × IsLater s.parts.items p q)
 
--- numbers rise from one place to the next
-abbrev pub Rise : List ℕ → Type 0
-Rise xs = (i j : ℕ) → i < j → j < length xs → slice_index_or xs i 0 < slice_index_or xs j 0
-
 -- the edges from a place
 abbrev pub edges_from : ℕ → List ℕ → List Edge
 edges_from p nodes = map (λ (v : ℕ). record { «from» = p; to = v }) nodes
@@ -45,7 +42,7 @@ pub record AreOpen (edges : List (List ℕ)) (s : Search) : Type 0 where
 pub record AreParts (edges : List (List ℕ)) (s : Search) : Type 0 where
   pub first : 0 < length s.open.items → Contains s.parts.items 0
   pub within : (b : ℕ) → Contains s.parts.items b → b < length s.open.items
-  pub rise : Rise s.parts.items
+  pub rise : AreAscending s.parts.items
   pub leads : (p q : ℕ) → p < length s.open.items → q < length s.open.items → IsLater s.parts.items p q → Leads edges (open_at s p) (open_at s q)
 
 -- the place from which an edge of a list comes, and the node to which it leads

@@ -11,7 +11,8 @@ use Rattle.lf_semantics.specs.Listing.{Listing, universe_of}
 use Rattle.lf_semantics.specs.RowTable.{Environment}
 use Rattle.lf_trials.specs.Verdicts.{IsRuleVerdict, RuleVerdict}
 use Rattle.lf_judge.specs.Founds.{Content}
-use Rattle.lf_judge.specs.Judged.{AreChecked, Checked, IsFirstOpen, files_told, finding_in, finding_told, has_unresolved, is_empty, labels_of, rule_in, rule_told, rules_told}
+use Rattle.lf_open.specs.OpenList.{IsFirstOpen}
+use Rattle.lf_judge.specs.Judged.{AreChecked, Checked, files_told, finding_in, finding_told, has_unresolved, is_empty, labels_of, rule_in, rule_told, rules_told}
 
 module _ (files : List File) (rules : List RuleTree) (env : Environment) where
   -- these are findings of the rule with a number

@@ -8,7 +8,8 @@ use Rattle.lf_built.specs.views.RuleRows.{IsRowOf}
 use Rattle.lf_trials.specs.Verdicts.{IsRuleVerdict}
 use Rattle.lf_worlds.specs.declared.readings.NameFacts.{NameFacts}
 use Rattle.lf_worlds.specs.views.Told.{rule_verdict}
-use Rattle.lf_judge.specs.Judged.{IsFirstOpen, has_unresolved}
+use Rattle.lf_open.specs.OpenList.{IsFirstOpen}
+use Rattle.lf_judge.specs.Judged.{has_unresolved}
 use Rattle.lf_judge.specs.declared.at_hand.AtHand.{AtHand}
 use Rattle.lf_judge.specs.declared.rule_found.RuleFound.{RuleFound}
 use Rattle.lf_judge.specs.views.AtHand.{TellsFindingsAt, rules_at}

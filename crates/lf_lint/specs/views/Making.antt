@@ -16,7 +16,7 @@ use Rattle.lf_lint.specs.declared.status.Status.TheVariants as status
 use Rattle.lf_lint.specs.declared.unreported.Unreported.{Unreported}
 use Rattle.lf_lint.specs.declared.unreported.Unreported.TheVariants.{Read, Memory, Limit}
 use Rattle.lf_lint.specs.Asked.{AreFiles, names_of, output_of, tells_labels, written}
-use Rattle.lf_lint.specs.Ends.{HasTooManyBytes, HasTooManyFiles, HasTooManyRules, end_of}
+use Rattle.lf_lint.specs.Ends.{HasTooManyBytes, HasTooManyFiles, PassesLimit, end_of}
 use Rattle.lf_lint.specs.Read.{AreShort, IsReached, most_bytes, most_bytes_in_all, most_files}
 
 -- how a run ends without a report
@@ -53,9 +53,7 @@ abbrev pub IsWhyUnreported : (Bytes → Option Bytes) → Option Bytes → Optio
 IsWhyUnreported held left options faults later opened (Read file) = IsWhyUnread held left (names_of options) faults later opened (Read file)
 IsWhyUnreported held left options faults later opened Memory = IsWhyUnread held left (names_of options) faults later opened Memory
 IsWhyUnreported held left options faults later opened (Limit quantity count) =
-    (later ≡ faults)
-    × (HasTooManyFiles (names_of options) opened quantity count
-    ⊎ (HasTooManyBytes held left (names_of options) opened quantity count ⊎ HasTooManyRules held options opened quantity count))
+    (later ≡ faults) × PassesLimit held left options opened quantity count
 
 -- the files that these options ask for
 pub record AreGathered (held : Bytes → Option Bytes) (options : Options) (files : List File) : Type 0 where

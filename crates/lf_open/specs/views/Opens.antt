@@ -1,12 +1,12 @@
 -- What is known of rules to find what stands open in them: how contracts see the code. It defines nothing.
-use Rattle.std.specs.Prelude.{◌≡◌, ℕ, List, ◌++◌, Option, slice_get}
+use Rattle.std.specs.Prelude.{◌≡◌, ℕ, List, ◌++◌}
 use Rattle.lf_ast.specs.Rules.{RuleTree, rule_trees}
 use Rattle.lf_deps.specs.views.Names.{IsNameGraphOf}
 use Rattle.lf_deps.specs.views.Sources.{IsSourcesOf}
 use Rattle.lf_forks.specs.views.ForkTests.{TellsSelectors}
 use Rattle.lf_forks.specs.views.Holding.{test_of}
 use Rattle.lf_open.specs.Holding.{has_own_source, names_le}
-use Rattle.lf_open.specs.OpenList.{AreOpen, AreOpenOfEach}
+use Rattle.lf_open.specs.OpenList.{AreOpenOfEach}
 use Rattle.lf_open.specs.declared.open_at.OpenAt.{OpenAt}
 use Rattle.lf_open.specs.declared.opens.Marked.{Marked}
 use Rattle.lf_open.specs.declared.opens.Opens.{Opens}
@@ -42,7 +42,3 @@ AreOpens rules o = (rules ≡ rules_at o) × AreReady o
 -- what stands open in some rules, one rule after the other, is put behind a list
 abbrev pub IsListOf : List RuleTree → List ℕ → List OpenAt → List OpenAt → Type 0
 IsListOf rules numbers before after = (more : List OpenAt) × AreOpenOfEach rules numbers more × (after ≡ before ++ more)
-
--- it is the first of the open constructs of rule i, and none exactly where there are none
-abbrev pub IsFirst : List RuleTree → ℕ → Option OpenAt → Type 0
-IsFirst rules i first = (found : List OpenAt) × AreOpen rules i found × (first ≡ slice_get found 0)

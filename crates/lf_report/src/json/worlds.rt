@@ -1,5 +1,5 @@
 //! The worlds that show labels, as JSON. They are most of a report, so they are written label set by label set.
-ghost use Rattle.std.specs.Prelude.{◌≡◌, ◌++◌, List, false, length, map, IfOk, OnOk};
+ghost use Rattle.std.specs.Prelude.{◌≡◌, ◌++◌, false, map, IfOk, OnOk};
 ghost use Rattle.serde_json.specs.Data.{object};
 ghost use Rattle.serde_json.specs.View.{members_view, view};
 ghost use Rattle.serde_json.specs.Written.{compact_text};

@@ -2,7 +2,7 @@
 ghost use Rattle.std.specs.Prelude.{◌≡◌, ℕ, true, false, ◌+◌, ◌*◌, ◌<◌, ◌++◌, List, [], ◌∷◌, length, sum, IfErr, IfOk, Some, take, drop};
 ghost use Rattle.std.specs.List.{Contains};
 ghost use Rattle.lf_ast.specs.Rules.{rule_tree, rule_trees};
-ghost use Rattle.lf_flow.specs.Reads.{Ascend};
+ghost use Rattle.lf_laws.specs.Ascending.{AreAscending};
 ghost use Rattle.lf_semantics.specs.ClassRows.{HasShape};
 ghost use Rattle.lf_semantics.specs.Environments.{IsEnvironmentOf, recorded_row};
 ghost use Rattle.lf_semantics.specs.Listing.{place};
@@ -300,7 +300,7 @@ impl Round {
         requires work { (seat.old.me.0.busy ≡ true) × (seat.old.me.0.raised ≡ 0) }
         requires over { universe.now ≡ self.now.universe }
         requires env { IsEnvironmentOf self.now.universe (rule_trees self.now.rules) env.old }
-        requires ascend { Ascend numbers.now }
+        requires ascend { AreAscending numbers.now }
         requires within { (k : ℕ) → Contains numbers.now k → k < length env.old }
         ensures used { IsUsed self.now seat.new.table_id seat.new.me }
         ensures same { IsAsBefore seat.old.me.0 seat.new.me.0 }

@@ -4,8 +4,6 @@ use Rattle.std.specs.Cmp.Lexicographic.{slice_cmp}
 use Rattle.std.specs.FinMap.{find}
 use Rattle.std.specs.Str.{bytes_eq}
 use Rattle.std.proofs.lemmas.Map.Text.{is_eq-slice_cmp}
-use Rattle.std.proofs.lemmas.Slice.Eq.{bytes_eq-Decides}
-use Rattle.std.proofs.lemmas.Bool.Decides.{same_from_decides}
 use Rattle.lf_ast.specs.Labels.{Bytes}
 use Rattle.lf_ast.proofs.LabelOrders.{symmetric}
 use Rattle.lf_ast.proofs.label_set.find_in.Goals as goal

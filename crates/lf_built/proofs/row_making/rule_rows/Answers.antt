@@ -1,5 +1,4 @@
-use Rattle.std.proofs.Common.{◌≡◌, ◌∷◌, ◌++◌, [], ℕ, List, Some, get_or, length, take, sym, subst, arith}
-use Rattle.std.specs.Prelude.{slice_get}
+use Rattle.std.proofs.Common.{◌∷◌, ◌++◌, [], ℕ, List, take, sym, subst, arith}
 use Rattle.std.proofs.lemmas.List.{take_all}
 use Rattle.lf_laws.proofs.Slices.{some_at, zip_push}
 use Rattle.std.proofs.lemmas.Option.{get_or_from_slice_get}

@@ -3,10 +3,12 @@ use Rattle.std.proofs.lemmas.List.Filters.{dedup_is}
 use Rattle.std.specs.List.{All, Contains}
 use Rattle.std.specs.List.Sorted.{IsPermutation}
 use Rattle.std.specs.Ordering.{eq_by_cmp}
+use Rattle.lf_laws.specs.Ascending.{IsInOrder}
 use Rattle.lf_ast.specs.declared.verdict.Finding.{Finding as Row}
 use Rattle.lf_base.specs.declared.keyed.Keyed.{Keyed}
 use Rattle.lf_base.specs.views.Keyed.{keyed_cmp}
-use Rattle.lf_checks.specs.views.InOrder.{IsInOrder, keyed}
+use Rattle.lf_checks.specs.Finding.{finding_cmp}
+use Rattle.lf_checks.specs.views.InOrder.{keyed}
 use Rattle.lf_checks.specs.views.Shown.{all_shown}
 use Rattle.lf_checks.proofs.Ordered.{given, in_order}
 use Rattle.lf_checks.proofs.ordering.in_order.Goals as goal
@@ -19,7 +21,7 @@ returns-clause-order c files rules one =
     let P : List (Keyed Row) → Type 0 = λ ks. IsPermutation ks sorted in
     let moved : IsPermutation (map keyed found) sorted = subst P c.in_ok-keyed.ensures c.sort_unstable.ensures.permutation in
     let is = c.from_vec.ensures ∙ c.in_ok-sorted.ensures in
-    subst (λ (l : List Row). IsInOrder (all_shown files rules found) (all_shown files rules l)) (sym is)
+    subst (λ (l : List Row). IsInOrder finding_cmp (all_shown files rules found) (all_shown files rules l)) (sym is)
     (in_order files rules found sorted moved c.sort_unstable.ensures.sorted one left (dedup_is (eq_by_cmp keyed_cmp) sorted left c.dedup.ensures.filtered))
 
 pub returns-clause-given : goal.returns-clause-given

@@ -28,6 +28,6 @@ returns c k =
     let places : List ℕ = c.args.places.now in
     let P : List ℕ → Type 0 = λ l. Adds (flat_map (makers_at s) l) [] c.loop-place.found.keys in
     let all = subst P (take_all c.loop-place.place-index places c.loop-place-test.false) c.loop-place.invariant in (
-      λ h. elim ((all k).0 h) [ inl d ↦ absurd (none_in k d) | inr d ↦ of_flat_map (makers_at s) places k d ],
-      λ m. (all k).1 (inr (in_flat_map (makers_at s) places m.0 k m.1 m.2)),
+      λ h. elim (all.only k h) [ inl d ↦ absurd (none_in k d) | inr d ↦ of_flat_map (makers_at s) places k d ],
+      λ m. all.all k (in_flat_map (makers_at s) places m.0 k m.1 m.2),
     )

@@ -1,7 +1,7 @@
 use Rattle.std.proofs.Common.{◌≡◌, ◌-◌, ℕ, List, length, take, get_or, refl, sym, ◌∙◌, ap, subst, arith}
 use Rattle.std.specs.List.{Contains}
 use Rattle.std.proofs.lemmas.List.{length-take}
-use Rattle.lf_graph.specs.views.Search.{Rise}
+use Rattle.lf_laws.specs.Ascending.{AreAscending}
 use Rattle.lf_graph.proofs.Lists.{fewer_rise, in_front, not_last, up_to_last}
 use Rattle.lf_graph.proofs.search.join.Goals as goal
 
@@ -14,7 +14,7 @@ loop-parts-preserved c =
     let behind = c.loop-parts-test.ensures.behind refl in
     let size = length-take n parts in
     let P : ℕ → List ℕ → Type 0 = λ b l. Contains l b in
-    let Q : List ℕ → Type 0 = λ l. Rise l in
+    let Q : List ℕ → Type 0 = λ l. AreAscending l in
     let fewer = c.loop-parts.invariant.3 in
     let f = ap length e in (
       subst Q (sym e) (fewer_rise parts n (omega arith) c.loop-parts.invariant.0),

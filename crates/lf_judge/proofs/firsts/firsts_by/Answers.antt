@@ -1,4 +1,4 @@
-use Rattle.std.proofs.Common.{◌≡◌, ◌∙◌, List, length, true, ap, refl, subst, arith}
+use Rattle.std.proofs.Common.{◌∙◌, List, length, true, ap, refl, subst, arith}
 use Rattle.lf_ast.specs.Rules.{RuleTree}
 use Rattle.lf_open.specs.views.Firsts.{rules_in}
 use Rattle.lf_judge.proofs.Named.{IsNamed, all_named, names_more, names_none}

@@ -1,7 +1,7 @@
 use Rattle.std.proofs.Common.{◌≡◌, ℕ, [], length, reverse, true, sym, ap, subst, arith}
 use Rattle.std.proofs.lemmas.List.{length-map, length-reverse}
 use Rattle.lf_ast.specs.Rules.{rule_tree}
-use Rattle.lf_judge.specs.Judged.{IsFirstOpen}
+use Rattle.lf_open.specs.OpenList.{IsFirstOpen}
 use Rattle.lf_judge.specs.views.AtHand.{TellsRuleAt, files_at, rules_at}
 use Rattle.lf_judge.specs.views.RulesFound.{IsFoundAt, first_at}
 use Rattle.lf_judge.proofs.Numbered.{EachFrom, count_more, length_more, next_left, none_yet, one_more, still_left}

@@ -7,7 +7,7 @@ use Rattle.lf_deps.specs.Reading.{selectors}
 use Rattle.lf_open.specs.declared.open_at.OpenAt.{OpenAt}
 use Rattle.lf_open.specs.declared.told.Told.{Told}
 use Rattle.lf_open.specs.views.Known.{rules_of}
-use Rattle.lf_open.specs.views.ReadNames.{IsTableOf, ReadGraph}
+use Rattle.lf_open.specs.views.ReadNames.{IsTableOf}
 use Rattle.lf_open.specs.views.Told.{Facts, told}
 use Rattle.lf_open.proofs.AllParts.{told_opens}
 use Rattle.lf_open.proofs.NodeLaws.{found_by}

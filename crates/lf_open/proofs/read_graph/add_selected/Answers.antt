@@ -1,4 +1,3 @@
-use Rattle.std.proofs.Common.{List, Option}
 use Rattle.lf_open.specs.views.ReadNames.{said_name}
 use Rattle.lf_deps.proofs.Followed.{grows_more, grows_none, grows_whole}
 use Rattle.lf_open.proofs.read_graph.add_selected.Goals as goal

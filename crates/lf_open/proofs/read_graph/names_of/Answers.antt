@@ -1,6 +1,4 @@
-use Rattle.std.proofs.Common.{[], List, Option, refl, sym, ◌∙◌, ap, subst, arith}
-use Rattle.std.specs.List.{flat_map}
-use Rattle.lf_ast.specs.Labels.{Bytes}
+use Rattle.std.proofs.Common.{[], refl, sym, ◌∙◌, ap, subst, arith}
 use Rattle.lf_ast.specs.Rules.{rule_trees}
 use Rattle.lf_deps.specs.views.Search.{Grows}
 use Rattle.lf_deps.proofs.Followed.{grows_more, grows_none, grows_whole}

@@ -1,4 +1,4 @@
-use Rattle.std.proofs.Common.{List, map, subst, ap}
+use Rattle.std.proofs.Common.{map, subst}
 use Rattle.std.proofs.lemmas.List.{take_all}
 use Rattle.lf_open.specs.views.ReadNames.{PutsInto, node_of}
 use Rattle.lf_open.proofs.ReadEdges.{into_next, into_none}

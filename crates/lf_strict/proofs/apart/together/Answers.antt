@@ -7,7 +7,8 @@ use Rattle.std.proofs.lemmas.List.Kept.{Contains-dedup, Contains-from_dedup, IsS
 use Rattle.lf_ast.specs.Labels.{Labels}
 use Rattle.lf_ast.specs.LabelOrder.{labels_cmp}
 use Rattle.lf_witness.specs.Ascending.{IsAscending}
-use Rattle.lf_strict.proofs.Times.{labels_total, same_moved, strictly_ascends}
+use Rattle.lf_witness.proofs.AscendingLists.{labels_total}
+use Rattle.lf_strict.proofs.Times.{same_moved, strictly_ascends}
 use Rattle.lf_witness.proofs.Decided.{told_same}
 use Rattle.lf_strict.proofs.apart.together.Goals as goal
 

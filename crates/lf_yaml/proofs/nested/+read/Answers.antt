@@ -11,9 +11,9 @@ use Rattle.lf_yaml.specs.views.Shown.{shown}
 use Rattle.lf_yaml.specs.views.Cursor.{rows_after}
 use Rattle.lf_yaml.specs.views.Headed.{headed}
 use Rattle.lf_yaml.specs.reading.BlockTurns.{values, run_items, run_entries}
-use Rattle.lf_yaml.proofs.ItemRuns.{NextItem, rows-placed, next-item, first-item-at, more-items, item-fails, items-done}
+use Rattle.lf_yaml.proofs.ItemRuns.{rows-placed, next-item, first-item-at, more-items, item-fails, items-done}
 use Rattle.lf_yaml.proofs.ItemRuns as items
-use Rattle.lf_yaml.proofs.EntryRuns.{NextEntry, next-entry, first-entry-at, first-fails-at, more-entries, entry-fails, entries-done}
+use Rattle.lf_yaml.proofs.EntryRuns.{next-entry, first-entry-at, first-fails-at, more-entries, entry-fails, entries-done}
 use Rattle.lf_yaml.proofs.EntryRuns as entries
 use Rattle.lf_yaml.specs.reading.FlowTurns.{texts_of}
 use Rattle.lf_yaml.proofs.Collected.{Pair}

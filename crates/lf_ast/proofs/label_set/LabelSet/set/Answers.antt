@@ -8,7 +8,7 @@ use Rattle.std.specs.FinMap.{from_sorted, insert, put, remove}
 use Rattle.std.proofs.lemmas.List.{nil_from_length}
 use Rattle.std.proofs.lemmas.Result.{on_ok_weaker}
 use Rattle.lf_ast.specs.Labels.{Bytes, HasNoEmptyText, Labels}
-use Rattle.lf_ast.proofs.LabelSets.{IsInOrder, differs, full_text, put_has_texts, put_in_order, put_inserts, rest_has_texts, rest_in_order, rest_removes, tells_full}
+use Rattle.lf_ast.proofs.LabelSets.{AreSortedByName, differs, full_text, put_has_texts, put_in_order, put_inserts, rest_has_texts, rest_in_order, rest_removes, tells_full}
 use Rattle.lf_ast.proofs.label_set.LabelSet.set.Goals as goal
 
 pub invariant_of-self : goal.invariant_of-self
@@ -16,7 +16,7 @@ invariant_of-self c =
     let es = c.self.inside.entries.items in
     let n = c.args.name.now in
     let is = c.take_out.ensures ∙ ap (λ (t : Bytes). filter (differs t) es) c.as_str.ensures in
-    (subst IsInOrder (sym is) (rest_in_order n es c.self.invariant.0), subst HasNoEmptyText (sym is) (rest_has_texts (differs n) es c.self.invariant.1))
+    (subst AreSortedByName (sym is) (rest_in_order n es c.self.invariant.0), subst HasNoEmptyText (sym is) (rest_has_texts (differs n) es c.self.invariant.1))
 
 pub returns-then-len-eq0-clause-ok : goal.returns-then-len-eq0-clause-ok
 returns-then-len-eq0-clause-ok c =
@@ -37,7 +37,7 @@ invariant_of-self-else-len-eq0 c =
     let n = c.args.name.now in
     let t = c.args.text.now in
     let full : t ≢ [] = full_text t (λ e. c.if-len-eq0.false (c.len.ensures ∙ e)) in
-    either (λ new. IsInOrder new × HasNoEmptyText new) c.put.new.entries.items es (put (slice_cmp nat_cmp) n t es) c.put.result c.put.ensures.ok c.put.ensures.err
+    either (λ new. AreSortedByName new × HasNoEmptyText new) c.put.new.entries.items es (put (slice_cmp nat_cmp) n t es) c.put.result c.put.ensures.ok c.put.ensures.err
     (put_in_order n t es c.self.invariant.0, put_has_texts n t es full c.self.invariant.1) c.self.invariant
 
 pub returns-else-len-eq0-clause-ok : goal.returns-else-len-eq0-clause-ok

@@ -1,5 +1,4 @@
-use Rattle.std.proofs.Common.{◌≡◌, ℕ, ◌<◌, ◌==◌, Bool, false, List, ap, ◌∙◌, subst, arith}
-use Rattle.std.proofs.lemmas.Grind.{common_steps}
+use Rattle.std.proofs.Common.{ℕ, List, ap, ◌∙◌, subst, arith}
 use Rattle.lf_board.specs.Numbers.{AreNumbersBelow}
 use Rattle.lf_board.specs.Seats.{BoardFacts, SeatFacts}
 use Rattle.lf_board.proofs.Steps.{ends}

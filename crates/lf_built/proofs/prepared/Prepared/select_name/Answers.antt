@@ -3,7 +3,6 @@ use Rattle.std.specs.Prelude.{option_map}
 use Rattle.std.specs.Str.{bytes_eq}
 use Rattle.lf_ast.specs.Labels.{Bytes}
 use Rattle.lf_trials.specs.Building.{Building, one_more}
-use Rattle.lf_trials.specs.Built.{fits}
 use Rattle.lf_trials.specs.Reached.{is_recorded}
 use Rattle.lf_built.specs.views.Indexed.{trees_of, universe_of}
 use Rattle.lf_built.specs.views.Works.{LeavesBehind, by_rule_of, selector_of}

@@ -1,11 +1,13 @@
 use Rattle.std.proofs.Common.{List}
 use Rattle.std.proofs.lemmas.Result.{IfOk-weaker}
 use Rattle.std.specs.List.{All, Contains}
+use Rattle.lf_laws.specs.Ascending.{IsInOrder}
 use Rattle.lf_ast.specs.Rules.{RuleTree, rule_trees}
 use Rattle.lf_ast.specs.declared.verdict.Finding.{Finding as Row}
+use Rattle.lf_checks.specs.Finding.{finding_cmp}
 use Rattle.lf_checks.specs.Files.{File}
 use Rattle.lf_checks.specs.Findings.{AreFindingsIn}
-use Rattle.lf_checks.specs.views.InOrder.{IsInOrder, OneDuplicate}
+use Rattle.lf_checks.specs.views.InOrder.{OneDuplicate}
 use Rattle.lf_checks.specs.views.Shown.{AreNumbered, all_shown}
 use Rattle.lf_checks.proofs.Checking.{are_findings, given_numbered}
 use Rattle.lf_checks.proofs.checker.Checker.rule.Goals as goal
@@ -17,7 +19,7 @@ returns-clause-findings c files stand =
     let env = c.args.self.now.env in
     let found : List Row = c.in_ok-found.found.items in
     IfOk-weaker c.in_order.result
-    (λ sorted. (files : List File) (rules : List RuleTree) → OneDuplicate (all_shown files rules found) → IsInOrder (all_shown files rules found) (all_shown files rules sorted))
+    (λ sorted. (files : List File) (rules : List RuleTree) → OneDuplicate (all_shown files rules found) → IsInOrder finding_cmp (all_shown files rules found) (all_shown files rules sorted))
     (λ sorted. AreFindingsIn files u rules env c.args.i (all_shown files rules sorted))
     (λ sorted order. are_findings files u rules env c.args.i found sorted (c.in_ok-found.ensures.findings files stand) (order files rules))
     c.in_order.ensures.order

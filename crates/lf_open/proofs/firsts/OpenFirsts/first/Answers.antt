@@ -6,7 +6,7 @@ use Rattle.lf_deps.specs.Ordering.{without}
 use Rattle.lf_deps.specs.views.Sources.{IsSourcesOf}
 use Rattle.lf_open.specs.views.Firsts.{IsFirstOfEach, IsOwnFirst, earlier, rules_in}
 use Rattle.lf_open.specs.views.Known.{rules_of}
-use Rattle.lf_open.proofs.FirstOfEach.{first_of_both}
+use Rattle.lf_open.proofs.FirstOfEach.{first_of_both, first_open}
 use Rattle.lf_open.proofs.Joined.{are_rules, whole}
 use Rattle.lf_open.proofs.firsts.OpenFirsts.first.Goals as goal
 
@@ -29,8 +29,7 @@ returns-clause-first c =
     let sources : IsSourcesOf rules known.sources.now = subst (λ (rs : List RuleTree). IsSourcesOf rs known.sources.now) c.known-known.ensures.1 c.known-known.ensures.0.sources in
     let own : IsOwnFirst rules i c.in_ok-own.own = subst (λ (rs : List RuleTree). IsOwnFirst rs i c.in_ok-own.own) c.known-known.ensures.1 c.in_ok-own.ensures.first in
     let of_known : IsFirstOfEach (rules_of known) (without i reach) c.in_ok-others.others = subst (λ (l : List ℕ). IsFirstOfEach (rules_of known) (without i l) c.in_ok-others.others) c.as_slice.ensures c.in_ok-others.ensures.first in
-    let others : IsFirstOfEach rules (without i reach) c.in_ok-others.others = subst (λ (rs : List RuleTree). IsFirstOfEach rs (without i reach) c.in_ok-others.others) c.known-known.ensures.1 of_known in (
-      own.0 ++ others.0,
-      whole rules i reach own.0 (own.0 ++ others.0) c.requires.rule (λ of at k. c.in_ok-reach.ensures.members rules sources of at k) c.in_ok-reach.ensures.ascending own.1 (others.0, others.1, refl),
-      c.earlier.ensures ∙ ap₂ earlier own.2 others.2 ∙ sym (first_of_both own.0 others.0),
-    )
+    let others : IsFirstOfEach rules (without i reach) c.in_ok-others.others = subst (λ (rs : List RuleTree). IsFirstOfEach rs (without i reach) c.in_ok-others.others) c.known-known.ensures.1 of_known in
+    first_open rules i (c.earlier.result) (own.0 ++ others.0)
+    (whole rules i reach own.0 (own.0 ++ others.0) c.requires.rule (λ of at k. c.in_ok-reach.ensures.members rules sources of at k) c.in_ok-reach.ensures.ascending own.1 (others.0, others.1, refl))
+    (c.earlier.ensures ∙ ap₂ earlier own.2 others.2 ∙ sym (first_of_both own.0 others.0))

@@ -1,9 +1,9 @@
-use Rattle.std.proofs.Common.{◌≡◌, ◌<◌, ◌+◌, ◌↔◌, ◌∷◌, [], ℕ, List, Option, Some, None, length, refl, sym, ◌∙◌, ap, subst, arith}
+use Rattle.std.proofs.Common.{◌≡◌, ◌<◌, ◌↔◌, ◌∷◌, [], ℕ, List, Option, Some, None, sym, ap, subst, arith}
 use Rattle.std.specs.List.{Contains}
 use Rattle.std.proofs.lemmas.Result.{IfOk-weaker}
 use Rattle.lf_ast.specs.Labels.{Bytes}
 use Rattle.lf_ast.specs.Rules.{RuleTree}
-use Rattle.lf_graph.specs.Components.{AreComponents, Components}
+use Rattle.lf_graph.specs.Components.{AreComponents}
 use Rattle.lf_graph.specs.Paths.{IsReached}
 use Rattle.lf_semantics.specs.Listing.{place}
 use Rattle.lf_deps.specs.views.Names.{IsPlaced}

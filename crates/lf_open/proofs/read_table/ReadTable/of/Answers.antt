@@ -1,9 +1,9 @@
-use Rattle.std.proofs.Common.{◌≡◌, [], List, Option, Some, refl, sym, ◌∙◌, ap, subst}
+use Rattle.std.proofs.Common.{[], Option, sym, subst}
 use Rattle.std.specs.List.{Contains}
 use Rattle.lf_ast.specs.Labels.{Bytes}
 use Rattle.lf_deps.specs.views.Search.{Grows}
-use Rattle.lf_deps.proofs.Followed.{grows_more, grows_none, grows_whole}
-use Rattle.lf_open.specs.views.ReadNames.{said_name, with_said}
+use Rattle.lf_deps.proofs.Followed.{grows_more, grows_whole}
+use Rattle.lf_open.specs.views.ReadNames.{said_name}
 use Rattle.lf_open.proofs.ReadTables.{grows_said, table_of}
 use Rattle.lf_open.proofs.read_table.ReadTable.of.Goals as goal
 

@@ -4,7 +4,8 @@ use Rattle.std.proofs.lemmas.List.{length-map}
 use Rattle.lf_ast.specs.Labels.{Bytes}
 use Rattle.lf_ast.specs.Rules.{rule_tree}
 use Rattle.lf_ast.specs.Tree.{tree}
-use Rattle.lf_flow.specs.Reads.{Ascend, ReadsNumber}
+use Rattle.lf_laws.specs.Ascending.{AreAscending}
+use Rattle.lf_flow.specs.Reads.{ReadsNumber}
 use Rattle.lf_semantics.specs.ClassRows.{Sets}
 use Rattle.lf_rounds.specs.Facts.{RoundFacts, task}
 use Rattle.lf_rounds.specs.Sums.{sum_of_rows}
@@ -20,7 +21,7 @@ load_rows-requires-clause-ascend c =
     let T : RoundFacts → Type 0 = λ f. IsTask (task f) in
     let is : IsTask (task round) = subst T c.self.view_is c.self.invariant.task in
     let read = reads_of_piece (task round) is c.args.piece (rule_tree c.args.rule.now) c.requires.rule in
-    subst Ascend (sym (c.as_slice.ensures ∙ c.read_by-numbers.ensures)) read.ascend
+    subst AreAscending (sym (c.as_slice.ensures ∙ c.read_by-numbers.ensures)) read.ascend
 
 pub load_rows-requires-clause-within : goal.load_rows-requires-clause-within
 load_rows-requires-clause-within c k h =
