@@ -7,3 +7,4 @@ pub mod OneFile
 pub mod Starless
 pub mod StarlessTrees
 pub mod Steps
+pub mod Takings

@@ -24,7 +24,7 @@ use Rattle.lf_accept.proofs.Chained.{Both, BreaksEither, chained, in_other_words
 
 -- ---- an expression stands as judged, or breaks something
 
-one_type : (e : Tree) → OneAnswer (HasType e) (Tells e)
+pub one_type : (e : Tree) → OneAnswer (HasType e) (Tells e)
 one_type e = one_answer (HasType e) (Tells e) (judged e) (decides e)
 
 -- it is this one, and it stands

@@ -73,10 +73,10 @@ module _ (file : ℕ) where
 -- ---- files
 
 module _ (bytes : Bytes) where
-  abbrev BreaksSays : Fault → Type 0
+  abbrev pub BreaksSays : Fault → Type 0
   BreaksSays = BreaksEither (IsTree bytes) (TreeBreaks bytes) IsRules FirstBreak
 
-  one_says : OneAnswer (Says bytes) BreaksSays
+  pub one_says : OneAnswer (Says bytes) BreaksSays
   one_says = chained (IsTree bytes) (TreeBreaks bytes) IsRules FirstBreak (one-answer bytes) one_list
 
   module _ (file : ℕ) where

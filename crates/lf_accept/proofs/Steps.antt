@@ -30,7 +30,9 @@ use Rattle.lf_semantics.specs.PatternBreaches.{TellsPattern}
 use Rattle.lf_yaml.specs.Document.{IsTree, TreeBreaks}
 use Rattle.lf_yaml.specs.Tree.{Tree as FileTree}
 use Rattle.lf_accept.specs.Accepted.{BreaksExpr, IsAccepted, IsExpr, IsRule, RefusesFile, Says, bad_expression, bad_pattern, bad_tokens, end_of, no_expression, no_rules, no_tree, no_type}
-use Rattle.lf_accept.specs.Allowance.{count_of_rule, most}
+use Rattle.lf_accept.specs.Allowance.{count_of_rule}
+use Rattle.lf_accept.specs.Taken.{FileTakes}
+use Rattle.lf_accept.specs.Taken as takes
 use Rattle.lf_accept.specs.views.Checked.{AreJudged, BreakJudged, BreaksJudged, HasBreach}
 use Rattle.lf_accept.proofs.OneFile.{all_have}
 
@@ -88,7 +90,7 @@ module _ (file : ℕ) (sources : List RuleSource) (i : ℕ) (s : RuleSource) (in
       subst P (sym (map-append rule_tree rules (r ∷ [])))
       (subst (λ ss. AllZip (IsRule file) ss (rule_trees rules ++ rule_tree r ∷ [])) (sym more) (zip_push (IsRule file) (map source (take i sources)) (rule_trees rules) (source s) (rule_tree r) h k))
 
-  cut : map source sources ≡ map source (take i sources) ++ source s ∷ map source (drop (suc i) sources)
+  pub cut : map source sources ≡ map source (take i sources) ++ source s ∷ map source (drop (suc i) sources)
   cut = ap (map source) (split_at sources i s inside) ∙ map-append source (take i sources) (get_or sources i s ∷ drop (suc i) sources)
       ∙ ap (λ (x : RuleSource). map source (take i sources) ++ source x ∷ map source (drop (suc i) sources)) (sym is)
 
@@ -105,8 +107,8 @@ module _ (file : ℕ) (sources : List RuleSource) (i : ℕ) (s : RuleSource) (in
   ))
 
 -- what the patterns of rules count, and what is left of the allowance, where a rule is read
-pub counted_more : (rules : List Rule) (r : Rule) (left now : ℕ) → sum_by count_of_rule (rule_trees rules) + left ≡ most → left ≡ count_of_rule (rule_tree r) + now → sum_by count_of_rule (rule_trees (rules ++ r ∷ [])) + now ≡ most
-counted_more rules r left now h k =
+pub counted_more : (rules : List Rule) (r : Rule) (start left now : ℕ) → start ≡ sum_by count_of_rule (rule_trees rules) + left → left ≡ count_of_rule (rule_tree r) + now → start ≡ sum_by count_of_rule (rule_trees (rules ++ r ∷ [])) + now
+counted_more rules r start left now h k =
     let more = ap (sum_by count_of_rule) (map-append rule_tree rules (r ∷ [])) ∙ sum_by_push count_of_rule (rule_trees rules) (rule_tree r) in
     omega (arith, more, h, k)
 
@@ -118,6 +120,9 @@ ends_inside n sources i s h is all = (each_member (SourceInside n) (map source s
 
 pub at_tree : (bytes : Bytes) (e : Refusal) → IfAt e (TreeBreaks bytes) → IfAt e (RefusesFile bytes)
 at_tree bytes = at_by (TreeBreaks bytes) (RefusesFile bytes) (λ f h. no_tree h)
+
+pub none_at_tree : (bytes : Bytes) (e : Refusal) → IfAt e (TreeBreaks bytes) → IfAt e (λ f. FileTakes bytes 0)
+none_at_tree bytes = at_by (TreeBreaks bytes) (λ f. FileTakes bytes 0) (λ f h. takes.no_tree h)
 
 pub accepts : (file : ℕ) (bytes : Bytes) (ss : List Source) → Says bytes ss → {X : Type 0} (view : X → List RuleTree) (r : Result X Refusal) → Found view (AllZip (IsRule file) ss) r → Found view (IsAccepted bytes file) r
 accepts file bytes ss says view (Ok rules) h = record { sources = ss; says = says; are_rules = h }
@@ -133,3 +138,6 @@ module _ (bytes : Bytes) (t : FileTree) (is : IsTree bytes t) where
 
   pub refuses_rules : {X : Type 0} (r : Result X Refusal) → Refused (FirstBreak t) r → Refused (RefusesFile bytes) r
   refuses_rules = refused_by (FirstBreak t) (RefusesFile bytes) (λ f h. no_rules is h)
+
+  pub none_at_rules : {X : Type 0} (r : Result X Refusal) → Refused (FirstBreak t) r → Refused (λ f. FileTakes bytes 0) r
+  none_at_rules = refused_by (FirstBreak t) (λ f. FileTakes bytes 0) (λ f h. takes.no_rules is h)

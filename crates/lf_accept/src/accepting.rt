@@ -1,10 +1,14 @@
 //! The rules of a file, or its refusal.
-ghost use Rattle.std.specs.Prelude.{◌≤◌, ◌^◌, ℕ, length, map, List, IfOk};
+ghost use Rattle.std.specs.Prelude.{◌≡◌, ◌≤◌, ◌^◌, ℕ, length, map, List, IfOk};
+ghost use Rattle.std.specs.List.{sum_by};
 ghost use Rattle.lf_base.specs.Answers.{Breach, Found, OneAnswer, Only, Refused, RefusedIn};
 ghost use Rattle.lf_ast.specs.Rules.{rule_trees};
 ghost use Rattle.lf_rules.specs.Sources.{SourcesInside, source};
 ghost use Rattle.lf_accept.specs.Accepted.{IsAccepted, RefusesFile, Says};
+ghost use Rattle.lf_accept.specs.Allowance.{Takes, count_of_rule, most};
+ghost use Rattle.lf_accept.specs.Taken.{FileTakes, IfTold};
 
+use crate::allowance::PatternAllowance;
 use crate::rules::rules_of;
 use lf_ast::Rule;
 use lf_base::{Refusal, Seq};
@@ -29,18 +33,54 @@ pub fn accept(alloc: Global, bytes: &[u8], file: u32) -> Result<Seq<Rule>, Refus
     // The span of a refusal lies in the file.
     ensures refused_inside { RefusedIn (length bytes.now) result }
 {
-    read(alloc, bytes, file)
+    let Acceptance { answer, taken: _ } = accept_counted(alloc, bytes, file);
+    answer
 }
 
-/// The same, as it is read.
-fn read(alloc: Global, bytes: &[u8], file: u32) -> Result<Seq<Rule>, Refusal>
+/// What a file was answered, and what was taken of its allowance for that.
+#[derive(Drop)]
+pub struct Acceptance {
+    /// The rules of the file, or its refusal.
+    pub answer: Result<Seq<Rule>, Refusal>,
+    /// What the patterns count that were read.
+    pub taken: u64,
+}
+
+/// The same as `accept`, and what the patterns count that are read for it.
+pub fn accept_counted(alloc: Global, bytes: &[u8], file: u32) -> Acceptance
+    requires room { length bytes.now ≤ 2 ^ 31 }
+    ensures found { Found rule_trees (IsAccepted bytes.now file) result.answer }
+    ensures refused { Refused (RefusesFile bytes.now) result.answer }
+    ensures refused_inside { RefusedIn (length bytes.now) result.answer }
+    // What is taken goes by the file alone.
+    ensures taken { IfTold result.answer (FileTakes bytes.now result.taken) }
+    // Of an accepted file it is what its patterns count.
+    ensures counted { IfOk result.answer (λ rules. result.taken ≡ sum_by count_of_rule (rule_trees rules)) }
+    // It is no more than those of a file may count.
+    ensures allowed { result.taken ≤ most }
+{
+    let mut allowance = PatternAllowance::of_file();
+    let answer = read(alloc, &mut allowance, bytes, file);
+    let taken = allowance.taken();
+    Acceptance { answer, taken }
+}
+
+/// The rules of a file, for which is taken of this allowance.
+fn read(
+    alloc: Global,
+    allowance: &mut PatternAllowance,
+    bytes: &[u8],
+    file: u32,
+) -> Result<Seq<Rule>, Refusal>
     requires room { length bytes.now ≤ 2 ^ 31 }
     ensures found { Found rule_trees (IsAccepted bytes.now file) result }
     ensures refused { Refused (RefusesFile bytes.now) result }
     ensures refused_inside { RefusedIn (length bytes.now) result }
+    ensures taken { IfTold result ((n : ℕ) × FileTakes bytes.now n × Takes n allowance.old allowance.new) }
+    ensures counted { IfOk result (λ rules. Takes (sum_by count_of_rule (rule_trees rules)) allowance.old allowance.new) }
 {
     let sources = sources_of(alloc, bytes)?;
-    rules_of(alloc, sources.as_slice(), file)
+    rules_of(alloc, allowance, sources.as_slice(), file)
 }
 
 /// The rules as they stand in a file, their expressions unread.
@@ -50,10 +90,17 @@ fn sources_of(alloc: Global, bytes: &[u8]) -> Result<Seq<RuleSource>, Refusal>
     ensures inside { IfOk result (λ sources. SourcesInside (length bytes.now) (map source sources)) }
     ensures refused { Refused (RefusesFile bytes.now) result }
     ensures refused_inside { RefusedIn (length bytes.now) result }
+    // Of a file that says no rules nothing is taken.
+    ensures none_taken { Refused (λ f. FileTakes bytes.now 0) result }
 {
     let tree = read_tree(alloc, bytes)?;
     read_rules(alloc, &tree)
 }
+
+/// What is taken of a file of any bytes is one count.
+pub fn one_count()
+    ensures { (bytes : List ℕ) → (n : ℕ) × FileTakes bytes n × ((m : ℕ) → FileTakes bytes m → m ≡ n) }
+{}
 
 /// A file of any bytes has one list of rules or one refusal, and never both.
 pub fn one_file()

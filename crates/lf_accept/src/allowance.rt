@@ -1,5 +1,5 @@
 //! How much the patterns of a file may count, so that reading them takes some two seconds at most.
-ghost use Rattle.std.specs.Prelude.{◌≡◌, ◌<◌, IfOk, OnErr, OnOk};
+ghost use Rattle.std.specs.Prelude.{◌≡◌, ◌<◌, ◌-◌, IfOk, OnErr, OnOk};
 ghost use Rattle.std.specs.List.{sum_by};
 ghost use Rattle.lf_accept.specs.Allowance.{Takes, count_of, most};
 ghost use Rattle.lf_accept.specs.Patterns.{texts_at};
@@ -30,6 +30,13 @@ impl PatternAllowance {
         ensures { result ≡ record { left = most } }
     {
         PatternAllowance { left: MOST }
+    }
+
+    /// How much was taken.
+    pub fn taken(&self) -> u64
+        ensures { result ≡ most - self.now.left }
+    {
+        MOST.saturating_sub(self.left)
     }
 
     /// Takes what patterns count. `Memory` where less is left.

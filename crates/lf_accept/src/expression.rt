@@ -9,7 +9,8 @@ ghost use Rattle.lf_scalar.specs.Scalars.{value};
 ghost use Rattle.lf_accept.specs.Accepted.{BreaksExpr, IsExpr};
 ghost use Rattle.lf_accept.specs.Allowance.{Takes, count_in};
 ghost use Rattle.lf_accept.specs.Sizes.{has_large_pattern};
-ghost use Rattle.lf_accept.specs.views.Checked.{AreJudged, BreakJudged, BreaksJudged, IsJudged};
+ghost use Rattle.lf_accept.specs.Taken.{taken_at};
+ghost use Rattle.lf_accept.specs.views.Checked.{AreJudged, BreakJudged, BreaksJudged, IsJudged, judged_taken, read_taken};
 
 use crate::allowance::PatternAllowance;
 use crate::patterns::patterns_of;
@@ -35,6 +36,8 @@ pub fn read_expr(
     // Where the scalar ends in a file of n bytes, what is refused lies there.
     ensures refused_inside { (n : ℕ) → scalar.now.span.end ≤ n → RefusedIn n result }
     ensures taken { IfOk result (λ expr. Takes (count_in (tree expr)) allowance.old allowance.new) }
+    // So too where it is refused.
+    ensures spent { Refused (λ f. (breach : BreaksExpr (value scalar.now) f) × Takes (taken_at breach) allowance.old allowance.new) result }
 {
     let tokens = lex(alloc, &scalar.text, &scalar.from)?;
     let end = scalar.from.as_slice()[scalar.text.len()];
@@ -52,6 +55,7 @@ fn read_tokens(
     ensures refused { Refused (BreakJudged tokens.now end) result }
     ensures refused_inside { (n : ℕ) → LieIn n tokens.now → IsNonDecreasingBy (λ token. token.span.start) tokens.now → end ≤ n → RefusedIn n result }
     ensures taken { IfOk result (λ expr. Takes (count_in (tree expr)) allowance.old allowance.new) }
+    ensures spent { Refused (λ f. (breach : BreakJudged tokens.now end f) × Takes (read_taken tokens.now end f breach) allowance.old allowance.new) result }
 {
     let expr = parse(alloc, tokens, end)?;
     match judge(alloc, allowance, &expr) {
@@ -70,6 +74,7 @@ fn judge(alloc: Global, allowance: &mut PatternAllowance, expr: &Expr) -> Result
     ensures readable { OnOk result (has_large_pattern (tree expr.now) ≡ false) }
     // What the patterns count was left, and is taken.
     ensures taken { OnOk result (Takes (count_in (tree expr.now)) allowance.old allowance.new) }
+    ensures spent { Refused (λ f. (breach : BreaksJudged (tree expr.now) f) × Takes (judged_taken (tree expr.now) f breach) allowance.old allowance.new) result }
 {
     let _ = type_of(alloc, expr)?;
     let patterns = patterns_of(alloc, expr)?;

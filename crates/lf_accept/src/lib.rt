@@ -9,4 +9,4 @@ mod patterns;
 mod rules;
 mod sizes;
 
-pub use accepting::{accept, one_file};
+pub use accepting::{Acceptance, accept, accept_counted, one_count, one_file};

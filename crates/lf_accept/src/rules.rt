@@ -6,7 +6,8 @@ ghost use Rattle.lf_rules.specs.Sources.{SourcesInside, setting, source as sourc
 ghost use Rattle.lf_base.specs.Answers.{Found, Refused, RefusedIn};
 ghost use Rattle.lf_ast.specs.Rules.{rule_tree, rule_trees};
 ghost use Rattle.lf_accept.specs.Accepted.{BreaksExpr, IsRule, label_of, template_of, templates_of as templates_in};
-ghost use Rattle.lf_accept.specs.Allowance.{Takes, count_of_rule, most};
+ghost use Rattle.lf_accept.specs.Allowance.{Takes, count_of_rule};
+ghost use Rattle.lf_accept.specs.Taken.{RulesTake, taken_at};
 ghost use Rattle.lf_accept.specs.views.Checked.{HasBreach};
 ghost use Rattle.lf_scalar.specs.Scalars.{value};
 
@@ -17,18 +18,23 @@ use lf_base::{Memory, Refusal, Seq};
 use lf_rules::{Pair, RuleSource};
 use std::alloc::Global;
 
-/// The rules as they stand in a file, each with its expression. Where their patterns count more than those of a file may, memory is wanting.
-pub fn rules_of(alloc: Global, sources: &[RuleSource], file: u32) -> Result<Seq<Rule>, Refusal>
+/// The rules as they stand in a file, each with its expression. Where their patterns count more than is left of its allowance, memory is wanting.
+pub fn rules_of(
+    alloc: Global,
+    allowance: &mut PatternAllowance,
+    sources: &[RuleSource],
+    file: u32,
+) -> Result<Seq<Rule>, Refusal>
     ensures found { Found rule_trees (AllZip (IsRule file) (map source_of sources.now)) result }
     ensures refused { Refused (HasBreach (map source_of sources.now)) result }
     ensures refused_inside { (n : ℕ) → SourcesInside n (map source_of sources.now) → RefusedIn n result }
-    // The patterns of the rules count no more than those of a file may.
-    ensures allowed { IfOk result (λ rules. sum_by count_of_rule (rule_trees rules) ≤ most) }
+    // What the patterns of the rules count was left, and is taken.
+    ensures taken { IfOk result (λ rules. Takes (sum_by count_of_rule (rule_trees rules)) allowance.old allowance.new) }
+    ensures spent { Refused (λ f. (n : ℕ) × RulesTake (map source_of sources.now) n × Takes n allowance.old allowance.new) result }
 {
-    let mut allowance = PatternAllowance::of_file();
     let mut rules = Seq::new(alloc);
     for source in sources {
-        let rule = rule_of(alloc, &mut allowance, source, file)?;
+        let rule = rule_of(alloc, allowance, source, file)?;
         rules.push(rule)?;
     }
     Ok(rules)
@@ -45,6 +51,7 @@ fn rule_of(
     ensures refused { Refused (BreaksExpr (value source.now.expr)) result }
     ensures refused_inside { (n : ℕ) → source.now.expr.span.end ≤ n → RefusedIn n result }
     ensures taken { IfOk result (λ rule. Takes (count_of_rule (rule_tree rule)) allowance.old allowance.new) }
+    ensures spent { Refused (λ f. (breach : BreaksExpr (value source.now.expr) f) × Takes (taken_at breach) allowance.old allowance.new) result }
 {
     let name = source.name.text.copy()?;
     let labels = labels_of(alloc, source.labels.as_slice())?;

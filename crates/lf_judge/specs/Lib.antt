@@ -1,3 +1,4 @@
+pub mod Allowance
 pub mod Founds
 pub mod Judged
 pub mod Limits

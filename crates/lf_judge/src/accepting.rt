@@ -2,14 +2,17 @@
 ghost use Rattle.std.specs.Prelude.{◌≡◌, ◌≤◌, ◌<◌, ◌^◌, ◌++◌, ℕ, Some, length, map, slice_get, IfOk, OnOk};
 ghost use Rattle.lf_ast.specs.Rules.{rule_trees};
 ghost use Rattle.lf_base.specs.declared.refusal.Refusal.TheVariants as refusal_of;
+ghost use Rattle.lf_accept.specs.Taken.{FileTakes};
+ghost use Rattle.lf_judge.specs.Allowance.{AreAllowed, AreTaken};
 ghost use Rattle.lf_judge.specs.Founds.{AreContents, Holds, rules_in};
 ghost use Rattle.lf_judge.specs.Judged.{file_of, files_of};
 ghost use Rattle.lf_judge.specs.declared.source.Source.{Source};
-ghost use Rattle.lf_judge.specs.views.Accepting.{IsFoundIn, IsOfContents, IsOfFiles, content_of, refusal_in};
+ghost use Rattle.lf_judge.specs.views.Accepting.{IsFoundIn, IsOfContents, IsOfFiles, content_in, content_of, refusal_in, taken_in};
 
 use crate::Source;
+use crate::allowance::{TakenSoFar, allow};
 use crate::moving::taken_out;
-use lf_accept::accept;
+use lf_accept::{Acceptance, accept_counted};
 use lf_ast::Rule;
 use lf_base::{Gate, Memory, Refusal, Seq};
 use lf_board::map_pieces;
@@ -29,6 +32,13 @@ pub enum Found {
     Refused { why: Refused },
 }
 
+/// What stands in a file, and what was taken of allowances for its patterns.
+#[derive(Drop)]
+pub struct Counted {
+    pub found: Found,
+    pub taken: u64,
+}
+
 /// What stands in files.
 #[derive(Drop)]
 pub struct Accepted {
@@ -38,7 +48,7 @@ pub struct Accepted {
     pub rules: Seq<Rule>,
 }
 
-/// What stands in these files, which are numbered from 0.
+/// What stands in these files, which are numbered from 0. Where their patterns count more in all than those of a run may, memory is wanting.
 pub fn accept_all<R: Threads + Sync, G: Gate + Sync>(
     rt: &R,
     alloc: Global,
@@ -49,30 +59,34 @@ pub fn accept_all<R: Threads + Sync, G: Gate + Sync>(
     requires room { (k : ℕ) (file : Source) → slice_get files.now k ≡ Some file → length file.bytes ≤ 2 ^ 31 }
     requires few { length files.now < 2 ^ 32 }
     requires workers { (0 < workers) × (workers ≤ 64) }
-    ensures { IfOk result (IsOfFiles (files_of files.now)) }
+    ensures found { IfOk result (IsOfFiles (files_of files.now)) }
+    ensures allowed { IfOk result (λ accepted. AreAllowed (files_of files.now)) }
 {
     let found = accept_each(rt, alloc, files, workers, gate)?;
+    allow(found.as_slice())?;
     put_together(alloc, found)
 }
 
-/// What stands in each of these files.
+/// What stands in each of these files, and what was taken for it.
 fn accept_each<R: Threads + Sync, G: Gate + Sync>(
     rt: &R,
     alloc: Global,
     files: &Seq<Source>,
     workers: u32,
     gate: &G,
-) -> Result<Seq<Found>, Memory>
+) -> Result<Seq<Counted>, Memory>
     requires room { (k : ℕ) (file : Source) → slice_get files.now k ≡ Some file → length file.bytes ≤ 2 ^ 31 }
     requires few { length files.now < 2 ^ 32 }
     requires workers { (0 < workers) × (workers ≤ 64) }
-    ensures { IfOk result (λ found. AreContents (files_of files.now) (map content_of found)) }
+    ensures found { IfOk result (λ found. AreContents (files_of files.now) (map content_in found)) }
+    ensures taken { IfOk result (λ found. AreTaken (files_of files.now) (map taken_in found)) }
 {
-    let accept_one = |number: u32| -> Result<Found, Memory>
+    let so_far = TakenSoFar::nothing();
+    let accept_one = |number: u32| -> Result<Counted, Memory>
         requires room { (k : ℕ) (file : Source) → slice_get files.now k ≡ Some file → length file.bytes ≤ 2 ^ 31 }
         requires within { number < length files.now }
         ensures { IfOk result (IsFoundIn (files_of files.entry.now) number) }
-    { accept_file(alloc, files.get(number as usize), number) };
+    { accept_file(alloc, &so_far, files.get(number as usize), number) };
     map_pieces(
         rt,
         alloc,
@@ -84,16 +98,31 @@ fn accept_each<R: Threads + Sync, G: Gate + Sync>(
     )
 }
 
-/// What stands in the file with this number.
-fn accept_file(alloc: Global, file: &Source, number: u32) -> Result<Found, Memory>
+/// What stands in the file with this number, and what was taken for it. It isn't read where more than may be was taken already.
+fn accept_file(
+    alloc: Global,
+    so_far: &TakenSoFar,
+    file: &Source,
+    number: u32,
+) -> Result<Counted, Memory>
     requires { length file.now.bytes ≤ 2 ^ 31 }
-    ensures { IfOk result (λ found. Holds number (file_of file.now) (content_of found)) }
+    ensures found { IfOk result (λ counted. Holds number (file_of file.now) (content_in counted)) }
+    ensures taken { IfOk result (λ counted. FileTakes file.now.bytes counted.taken) }
 {
-    match accept(alloc, file.bytes.as_slice(), number) {
-        Ok(of) => Ok(Found::Rules { of }),
+    if so_far.is_over() {
+        return Err(Memory);
+    }
+    let Acceptance { answer, taken } = accept_counted(alloc, file.bytes.as_slice(), number);
+    so_far.add(taken);
+    match answer {
+        Ok(of) => {
+            let found = Found::Rules { of };
+            Ok(Counted { found, taken })
+        }
         Err(refusal) => {
             let why = refused(refusal)?;
-            Ok(Found::Refused { why })
+            let found = Found::Refused { why };
+            Ok(Counted { found, taken })
         }
     }
 }
@@ -109,14 +138,14 @@ fn refused(refusal: Refusal) -> Result<Refused, Memory>
 }
 
 /// What stands in all files, by what stands in each.
-fn put_together(alloc: Global, found: Seq<Found>) -> Result<Accepted, Memory>
-    ensures { IfOk result (IsOfContents (map content_of found)) }
+fn put_together(alloc: Global, found: Seq<Counted>) -> Result<Accepted, Memory>
+    ensures { IfOk result (IsOfContents (map content_in found)) }
 {
     let mut taken = taken_out(alloc, found)?;
     let mut refusals = Seq::new(alloc);
     let mut rules = Seq::new(alloc);
     while let Some(next) = taken.pop() {
-        let refusal = move_found(alloc, &mut rules, next)?;
+        let refusal = move_found(alloc, &mut rules, next.found)?;
         refusals.push(refusal)?;
     }
     Ok(Accepted { refusals, rules })

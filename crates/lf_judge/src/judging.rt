@@ -1,11 +1,12 @@
 //! The report on files.
-ghost use Rattle.std.specs.Prelude.{◌≡◌, ◌≤◌, ◌<◌, ◌^◌, ℕ, Bool, List, Some, length, map, slice_get, slice_index_or, IfOk, IfErr};
+ghost use Rattle.std.specs.Prelude.{◌≡◌, ◌≢◌, ◌≤◌, ◌<◌, ◌^◌, ℕ, Bool, Err, List, Some, length, map, slice_get, slice_index_or, IfOk, IfErr};
 ghost use Rattle.lf_ast.specs.Rules.{rule_trees};
 ghost use Rattle.lf_checks.specs.Files.{File};
 ghost use Rattle.lf_checks.specs.views.Recorded.{AreOf};
 ghost use Rattle.lf_report.specs.declared.report.Report.{Report};
 ghost use Rattle.lf_semantics.specs.Environments.{IsLeast};
 ghost use Rattle.lf_semantics.specs.Listing.{universe_of};
+ghost use Rattle.lf_judge.specs.Allowance.{AreAllowed};
 ghost use Rattle.lf_judge.specs.Founds.{Content};
 ghost use Rattle.lf_judge.specs.Judged.{IsReportOn, TellTheSame, files_of, files_told, labels_of};
 ghost use Rattle.lf_judge.specs.Limits.{EndsIn, Fit, most_rules};
@@ -28,7 +29,8 @@ use std::thread::Threads;
 
 /// The report on files, with the verdicts on labels where `labels` asks for them. It is the same for any number of workers, who accept the files, and tell of the rules.
 ///
-/// Files whose rules pass a limit have none. One limit is on the verdicts that are asked for, and the others don't depend on them.
+/// Files whose rules pass a limit have none. One limit is on the verdicts that are asked for, and the others don't depend on them. Nor have those whose patterns count more than
+/// the patterns of a run may: memory is wanting for it.
 pub fn judge<R: Threads + Sync, G: Gate + Sync>(
     rt: &R,
     alloc: Global,
@@ -43,6 +45,8 @@ pub fn judge<R: Threads + Sync, G: Gate + Sync>(
     ensures report { IfOk result (IsReportOn (files_of files.now) labels) }
     ensures fits { IfOk result (λ _. Fit labels (files_of files.now)) }
     ensures refused { IfErr result (EndsIn labels (files_of files.now)) }
+    // Where the patterns of the files count more than those of a run may, memory is wanting.
+    ensures allowed { result ≢ Err JudgeEnd.Memory → AreAllowed (files_of files.now) }
 {
     let accepted = accept_all(rt, alloc, files, workers, gate)?;
     let report = judge_accepted(rt, alloc, files, &accepted, labels, workers, gate)?;

@@ -2,6 +2,7 @@
 #![tactic(auto)]
 
 mod accepting;
+mod allowance;
 mod at_hand;
 mod findings;
 mod firsts;

@@ -10,6 +10,7 @@ use Rattle.lf_parse.specs.Answer.{IsExpression, Refuses}
 use Rattle.lf_rules.specs.Sources.{Source}
 use Rattle.lf_semantics.specs.PatternBreaches.{BreaksPatterns, TellsPattern}
 use Rattle.lf_accept.specs.Accepted.{BreaksExpr, HasExpr, IsFirst}
+use Rattle.lf_accept.specs.Allowance.{count_in}
 
 -- the expression has a type, and breaks nothing by its patterns and its selectors
 pub record IsJudged (e : Tree) : Type 0 where
@@ -28,6 +29,15 @@ AreJudged tokens e = IsExpression tokens e × IsJudged e
 -- the tokens aren't an expression within the bounds, or it breaks something as judged
 abbrev pub BreakJudged : List Token → ℕ → Fault → Type 0
 BreakJudged tokens end f = Refuses tokens end f ⊎ ((e : Tree) × IsExpression tokens e × BreaksJudged e f)
+
+-- what is taken of the patterns before such a breach is told
+abbrev pub judged_taken : (e : Tree) (f : Fault) → BreaksJudged e f → ℕ
+judged_taken e f (inl told) = 0
+judged_taken e f (inr told) = count_in e
+
+abbrev pub read_taken : (tokens : List Token) (end : ℕ) (f : Fault) → BreakJudged tokens end f → ℕ
+read_taken tokens end f (inl refused) = 0
+read_taken tokens end f (inr told) = judged_taken told.0 f told.2
 
 -- the breach is one of the first expression that has any
 abbrev pub HasBreach : List Source → Fault → Type 0

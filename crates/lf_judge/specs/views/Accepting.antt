@@ -1,10 +1,12 @@
 -- What the code finds in files, and what it keeps of them.
 use Rattle.std.specs.Prelude.{◌≡◌, ℕ, List, Option, Some, None, map, slice_get}
 use Rattle.lf_ast.specs.Rules.{rule_trees}
+use Rattle.lf_accept.specs.Taken.{FileTakes}
 use Rattle.lf_checks.specs.Files.{File}
 use Rattle.lf_report.specs.declared.report.Refused.{Refused as Refusal}
 use Rattle.lf_judge.specs.Founds.{AreContents, Content, Holds, Rules, Refused, accepted}
 use Rattle.lf_judge.specs.declared.accepting.Accepted.{Accepted}
+use Rattle.lf_judge.specs.declared.accepting.Counted.{Counted}
 use Rattle.lf_judge.specs.declared.accepting.Found.{Found}
 use Rattle.lf_judge.specs.declared.accepting.Found.TheVariants as kept
 
@@ -13,9 +15,16 @@ abbrev pub content_of : Found → Content
 content_of (kept.Rules rules) = Rules (rule_trees rules)
 content_of (kept.Refused why) = Refused why.kind why.span
 
--- this was found in the file with a number
-abbrev pub IsFoundIn : List File → ℕ → Found → Type 0
-IsFoundIn files k found = (file : File) → slice_get files k ≡ Some file → Holds k file (content_of found)
+abbrev pub content_in : Counted → Content
+content_in counted = content_of counted.found
+
+-- what was taken for it
+abbrev pub taken_in : Counted → ℕ
+taken_in counted = counted.taken
+
+-- this was found in the file with a number, and so much was taken for it
+abbrev pub IsFoundIn : List File → ℕ → Counted → Type 0
+IsFoundIn files k counted = (file : File) → slice_get files k ≡ Some file → Holds k file (content_in counted) × FileTakes file.bytes counted.taken
 
 -- why a file is refused, if it is
 abbrev pub refusal_in : Content → Option Refusal

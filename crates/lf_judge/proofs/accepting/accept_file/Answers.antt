@@ -7,11 +7,11 @@ use Rattle.lf_base.specs.Faults.{fault}
 use Rattle.lf_base.specs.declared.refusal.Refusal.{Refusal}
 use Rattle.lf_judge.proofs.accepting.accept_file.Goals as goal
 
-pub returns-in-Ok : goal.returns-in-Ok
-returns-in-Ok c = let P : Bytes → Type 0 = λ bytes. IsAccepted bytes c.args.number (rule_trees c.in-Ok.of) in subst P c.as_slice.ensures c.in-Ok.ensures.found
+pub returns-in-Ok-clause-found : goal.returns-in-Ok-clause-found
+returns-in-Ok-clause-found c = let P : Bytes → Type 0 = λ bytes. IsAccepted bytes c.args.number (rule_trees c.in-Ok.of) in subst P c.as_slice.ensures c.in-Ok.ensures.found
 
-pub returns-in_ok-why-in-Err : goal.returns-in_ok-why-in-Err
-returns-in_ok-why-in-Err c =
+pub returns-in_ok-why-in-Err-clause-found : goal.returns-in_ok-why-in-Err-clause-found
+returns-in_ok-why-in-Err-clause-found c =
     let why = c.in_ok-why-in-Err.why in
     let P : Refusal → Type 0 = λ refusal. IfAt refusal (RefusesFile c.as_slice.result.now) in
     let Q : Bytes → Type 0 = λ bytes. RefusesFile bytes (fault why.kind why.span) in
