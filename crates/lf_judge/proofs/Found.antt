@@ -1,10 +1,10 @@
 -- What was found in each of the files is what stands in them, and it is put together in their order.
-use Rattle.std.proofs.Common.{◌≡◌, ◌≤◌, ℕ, List, [], ◌∷◌, ◌++◌, length, map, Option, Some, reverse, sym, ap, subst, ◌∙◌}
+use Rattle.std.proofs.Common.{◌≡◌, ◌≤◌, ◌<◌, ◌+◌, ℕ, List, [], ◌∷◌, ◌++◌, length, map, take, get_or, arith, Option, Some, reverse, sym, ap, subst, ◌∙◌}
 use Rattle.std.specs.List.{flat_map, sum_by}
 use Rattle.std.specs.Prelude.{slice_get}
 use Rattle.std.proofs.lemmas.List.{append-nil, append_assoc, length-map, reverse-append, reverse-reverse}
 use Rattle.std.proofs.lemmas.List.Folds.{flat_map-map}
-use Rattle.std.proofs.lemmas.List.Sums.{sum-map}
+use Rattle.std.proofs.lemmas.List.Sums.{sum-map, sum_by_more, sum_by-take-le}
 use Rattle.lf_laws.proofs.Slices.{of_map_at}
 use Rattle.lf_accept.specs.Taken.{FileTakes}
 use Rattle.lf_checks.specs.Files.{File}
@@ -27,6 +27,22 @@ pub all_taken : (files : List File) (found : List Counted) → length found ≡ 
 all_taken files found n each =
     side_by_side (λ file n. FileTakes file.bytes n) files (map taken_in found) (length-map found taken_in ∙ n)
     (λ k file taken there at. (let x = of_map_at taken_in found k taken at in subst (FileTakes file.bytes) x.2 (each k x.0 x.1 file there).1))
+
+-- what was taken for one more file, and what is left then
+module _ (found : List Counted) (i : ℕ) (x : Counted) (left : ℕ) where
+  pub taken_more : (less : ℕ) → i < length found → x ≡ get_or found i x → most_in_all ≡ sum_by taken_in (take i found) + left → left ≡ less + x.taken → most_in_all ≡ sum_by taken_in (take (i + 1) found) + less
+  taken_more less inside is before e =
+      let more = sum_by_more taken_in found i x inside in
+      let one : x.taken ≡ taken_in (get_or found i x) = ap taken_in is in
+      omega (arith, more, one, before, e)
+
+  -- more than is left
+  pub over_so : i < length found → x ≡ get_or found i x → most_in_all ≡ sum_by taken_in (take i found) + left → left < x.taken → most_in_all < sum_by taken_in found
+  over_so inside is before e =
+      let more = sum_by_more taken_in found i x inside in
+      let all = sum_by-take-le taken_in found (i + 1) in
+      let one : x.taken ≡ taken_in (get_or found i x) = ap taken_in is in
+      omega (arith, more, all, one, before, e)
 
 -- what was taken for all files is no more than may be
 pub all_allowed : (files : List File) (found : List Counted) → AreTaken files (map taken_in found) → sum_by taken_in found ≤ most_in_all → AreAllowed files

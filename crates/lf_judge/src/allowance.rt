@@ -12,6 +12,7 @@ use std::sync::atomic::{AtomicU64, Ordering};
 const MOST: u64 = 8_000_000;
 
 /// `Memory` where more was taken for these files than for those of a run may be.
+#[tactic(auto, using(crate::proofs::Found::taken_more, crate::proofs::Found::over_so))]
 pub fn allow(files: &[Counted]) -> Result<(), Memory>
     ensures allowed { OnOk result (sum_by taken_in files.now ≤ most_in_all) }
     ensures refused { OnErr result (most_in_all < sum_by taken_in files.now) }
