@@ -4,5 +4,6 @@ pub mod Labelled
 pub mod LeftPresences
 pub mod Marks
 pub mod OnlyClass
+pub mod PassingTexts
 pub mod Recorded
 pub mod Standing

@@ -7,6 +7,7 @@ mod given;
 mod labels;
 mod named_row;
 mod names;
+mod passing;
 mod trial;
 
 pub use candidates::{first_class, first_class_with, first_common_class, leaves, other_name};
@@ -17,4 +18,5 @@ pub use given::{LabelTexts, unless_lost};
 pub use labels::label_names;
 pub use named_row::NamedRow;
 pub use names::{is_recorded, is_scraped_name, name_for, passes_as_name};
+pub use passing::passes_in;
 pub use trial::Trial;

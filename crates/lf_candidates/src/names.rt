@@ -8,9 +8,10 @@ ghost use Rattle.lf_trials.specs.Names.{is_scraped_name, name_for, passes_as_nam
 ghost use Rattle.lf_trials.specs.Reached.{is_recorded};
 ghost use Rattle.lf_candidates.specs.views.ClassTexts.{IsClass, text_at};
 
+use crate::passing::passes_in;
 use lf_ast::Matcher;
 use lf_base::{Memory, Text};
-use lf_classes::{TextSet, Universe, passes};
+use lf_classes::{TextSet, Universe};
 use lf_nodes::is_metric;
 use std::alloc::Global;
 
@@ -32,11 +33,16 @@ pub fn is_scraped_name(recorded: &TextSet, name: &str) -> bool
 }
 
 /// Whether a name passes the matchers on the metric name.
-pub fn passes_as_name(alloc: Global, matchers: &[Matcher], name: &Text) -> Result<bool, Memory>
+pub fn passes_as_name(
+    alloc: Global,
+    universe: &Universe,
+    matchers: &[Matcher],
+    name: &Text,
+) -> Result<bool, Memory>
     ensures { IfOk result (λ found. found ≡ passes_as_name matchers.now name.now) }
 {
     for matcher in matchers {
-        if is_metric(matcher.label.as_str()) && !passes(alloc, matcher, name)? {
+        if is_metric(matcher.label.as_str()) && !passes_in(alloc, universe, matcher, name)? {
             return Ok(false);
         }
     }
@@ -46,6 +52,7 @@ pub fn passes_as_name(alloc: Global, matchers: &[Matcher], name: &Text) -> Resul
 /// Whether scraped series may have a name, and it passes the matchers on the metric name.
 fn may_be_name(
     alloc: Global,
+    universe: &Universe,
     recorded: &TextSet,
     matchers: &[Matcher],
     name: &Text,
@@ -55,7 +62,7 @@ fn may_be_name(
     if !is_scraped_name(recorded, name.as_str()) {
         return Ok(false);
     }
-    passes_as_name(alloc, matchers, name)
+    passes_as_name(alloc, universe, matchers, name)
 }
 
 /// The class of the name of the series for a selector with these matchers, which says no name: the first candidate that scraped series may have as a name and that passes
@@ -71,7 +78,13 @@ pub fn name_for(
     ensures name { (rules : List RuleTree) → recorded.now ≡ recorded_names rules → IfOk result (λ class. option_map (text_at universe.now 0) class ≡ name_for universe.now rules matchers.now) }
 {
     for class in 0..universe.classes(METRIC) {
-        let fits = may_be_name(alloc, recorded, matchers, universe.candidate(METRIC, class))?;
+        let fits = may_be_name(
+            alloc,
+            universe,
+            recorded,
+            matchers,
+            universe.candidate(METRIC, class),
+        )?;
         if fits {
             return Ok(Some(class));
         }

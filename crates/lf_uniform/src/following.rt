@@ -24,7 +24,8 @@ use lf_ast::{
     selected_name,
 };
 use lf_base::{Memory, Text};
-use lf_classes::{TextSet, passes};
+use lf_candidates::passes_in;
+use lf_classes::{TextSet, Universe};
 use lf_nodes::{both, is_metric, parts_needed, the_only};
 use std::alloc::Global;
 
@@ -57,7 +58,8 @@ impl<'a> Following<'a> {
         ensures { IfOk result (λ text. text ≡ if_it_passes self.now.label.now matchers.now (follow_name self.now.setting.now.universe (rule_trees self.now.setting.now.rules) self.now.label.now self.now.given.now (known_by self.now.names.now self.now.values.now) (selected_name name.now matchers.now) matchers.now)) }
     {
         let text = self.selected(alloc, name, matchers)?;
-        if_it_passes(alloc, self.label.as_str(), matchers, text)
+        let universe = self.setting.universe();
+        if_it_passes(alloc, universe, self.label.as_str(), matchers, text)
     }
 
     /// The text on what a selector selects, whatever its matchers on the label.
@@ -263,6 +265,7 @@ fn called(
 /// The text, if it is there and passes the matchers on the label.
 fn if_it_passes(
     alloc: Global,
+    universe: &Universe,
     label: &str,
     matchers: &[Matcher],
     text: Option<Text>,
@@ -271,7 +274,7 @@ fn if_it_passes(
 {
     match text {
         Some(text) => {
-            if passes_on_label(alloc, label, matchers, &text)? {
+            if passes_on_label(alloc, universe, label, matchers, &text)? {
                 Ok(Some(text))
             } else {
                 Ok(None)
@@ -284,6 +287,7 @@ fn if_it_passes(
 /// Whether a text passes the matchers on a label.
 fn passes_on_label(
     alloc: Global,
+    universe: &Universe,
     label: &str,
     matchers: &[Matcher],
     text: &Text,
@@ -291,7 +295,7 @@ fn passes_on_label(
     ensures { IfOk result (λ found. found ≡ passes_on_label label.now matchers.now text.now) }
 {
     for matcher in matchers {
-        if matcher.label.as_str() == label && !passes(alloc, matcher, text)? {
+        if matcher.label.as_str() == label && !passes_in(alloc, universe, matcher, text)? {
             return Ok(false);
         }
     }
