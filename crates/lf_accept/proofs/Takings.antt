@@ -1,12 +1,10 @@
 -- What is taken of an allowance for the patterns of a file: what the code takes is that, and there is one such count.
-use Rattle.std.proofs.Common.{◌≡◌, ◌⊎◌, inl, inr, ◌∙◌, ◌+◌, ◌-◌, ◌<◌, ℕ, suc, List, [], ◌∷◌, ◌++◌, Result, Ok, Err, IfOk, map, length, take, drop, get_or, arith, refl, sym, ap, ap₂, subst, zero-add}
+use Rattle.std.proofs.Common.{◌≡◌, ◌⊎◌, inl, inr, ◌+◌, ◌-◌, ◌<◌, ℕ, suc, List, [], ◌∷◌, ◌++◌, Result, Ok, Err, IfOk, map, length, take, drop, get_or, arith, refl, sym, ap, ap₂, subst, zero-add}
 use Rattle.std.specs.List.{AllZip, sum_by}
 use Rattle.std.proofs.lemmas.List.Sums.{sum_by-cons}
 use Rattle.lf_base.specs.declared.fault.Fault.{Fault}
 use Rattle.lf_base.specs.declared.refusal.Refusal.{Refusal}
-use Rattle.lf_base.specs.declared.refusal.Refusal.TheVariants.{At, Memory}
 use Rattle.lf_base.specs.Answers.{Found, IfAt, Refused}
-use Rattle.lf_base.specs.Faults.{fault}
 use Rattle.lf_ast.specs.Breaches.{Tells}
 use Rattle.lf_ast.specs.Labels.{Bytes}
 use Rattle.lf_ast.specs.Rules.{RuleTree, rule_trees}
@@ -19,13 +17,10 @@ use Rattle.lf_lex.specs.declared.token.Token.{Token}
 use Rattle.lf_lex.proofs.TokenLaws.{one_answer as one_lexing}
 use Rattle.lf_parse.specs.Answer.{IsExpression, Refuses}
 use Rattle.lf_parse.proofs.Answering.{one_reading as one_parsing}
-use Rattle.lf_rules.specs.Breaches.{FirstBreak}
 use Rattle.lf_rules.specs.Sources.{Source, source}
 use Rattle.lf_rules.specs.declared.source.RuleSource.{RuleSource}
 use Rattle.lf_scalar.specs.Cells.{Value}
 use Rattle.lf_semantics.specs.PatternBreaches.{TellsPattern}
-use Rattle.lf_yaml.specs.Document.{IsTree, TreeBreaks}
-use Rattle.lf_yaml.specs.Tree.{Tree as FileTree}
 use Rattle.lf_accept.specs.Accepted.{BreaksExpr, IsExpr, IsRule, Says, bad_pattern, bad_tokens, end_of, no_expression, no_type}
 use Rattle.lf_accept.specs.Allowance.{count_in, count_of_rule}
 use Rattle.lf_accept.specs.Taken.{FileTakes, IfTold, RulesTake, accepted, all_read, no_rules, no_tree, of_rules, refused, taken_at}
@@ -116,13 +111,13 @@ pub file_taken : (file : ℕ) (bytes : Bytes) (ss : List Source) → Says bytes 
     → Found view (AllZip (IsRule file) ss) r → IfOk r (λ rules. start ≡ sum_by count_of_rule (view rules) + now) → Refused (λ f. TakenOf (RulesTake ss) start now) r → IfTold r (TakenOf (FileTakes bytes) start now)
 file_taken file bytes ss says start now view (Ok rules) h is k = (sum_by count_of_rule (view rules), of_rules says (all_taken file ss (view rules) h), is)
 file_taken file bytes ss says start now view (Err r) h is k =
-    at_by (λ f. TakenOf (RulesTake ss) start now) (λ f. TakenOf (FileTakes bytes) start now) (λ f t. (t.0, of_rules says t.1.0, t.1.1)) r k
+    at_by (λ f. TakenOf (RulesTake ss) start now) (λ f. TakenOf (FileTakes bytes) start now) (λ f t. (t.0, of_rules says t.1, t.2)) r k
 
 pub told_taken : (bytes : Bytes) (start now taken : ℕ) → taken ≡ start - now → {X : Type 0} (r : Result X Refusal) → IfTold r (TakenOf (FileTakes bytes) start now) → IfTold r (FileTakes bytes taken)
 told_taken bytes start now taken is r = by r
   where
     so : TakenOf (FileTakes bytes) start now → FileTakes bytes taken
-    so t = let e = t.1.1 in let same : t.0 ≡ taken = omega (arith, e, is) in subst (FileTakes bytes) same t.1.0
+    so t = let e = t.2 in let same : t.0 ≡ taken = omega (arith, e, is) in subst (FileTakes bytes) same t.1
 
     by : {X : Type 0} (r : Result X Refusal) → IfTold r (TakenOf (FileTakes bytes) start now) → IfTold r (FileTakes bytes taken)
     by (Ok x) t = so t

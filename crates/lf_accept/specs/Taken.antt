@@ -1,7 +1,7 @@
 -- What is taken of an allowance for the patterns of a file. It goes by the text of the file alone.
 --
 -- The expressions are judged one after another up to the first that is refused. What the patterns of one count is taken once it has a type, right before they are read.
-use Rattle.std.specs.Prelude.{◌≡◌, ◌+◌, ℕ, List, [], ◌∷◌, Result, Ok, Err}
+use Rattle.std.specs.Prelude.{◌+◌, ℕ, List, [], ◌∷◌, Result, Ok, Err}
 use Rattle.lf_base.specs.Answers.{IfAt}
 use Rattle.lf_base.specs.declared.fault.Fault.{Fault}
 use Rattle.lf_base.specs.declared.refusal.Refusal.{Refusal}

@@ -1,4 +1,5 @@
 -- What the steps of the code have found of rules. It defines nothing of files.
+use mathlib.Core.Logic.{inl, inr}
 use Rattle.std.specs.Prelude.{◌⊎◌, ℕ, List}
 use Rattle.lf_base.specs.declared.fault.Fault.{Fault}
 use Rattle.lf_ast.specs.Breaches.{Tells}

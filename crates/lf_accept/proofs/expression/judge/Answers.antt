@@ -1,5 +1,9 @@
+use Rattle.std.proofs.Common.{◌≡◌, ◌∙◌, ap, arith}
 use Rattle.std.proofs.lemmas.Result.{err_from_is_err_and}
+use Rattle.std.specs.List.{sum_by}
 use Rattle.lf_ast.specs.Tree.{tree}
+use Rattle.lf_accept.specs.Allowance.{count_in, count_of}
+use Rattle.lf_accept.specs.Patterns.{texts_at}
 use Rattle.lf_accept.proofs.Steps.{judged_at}
 use Rattle.lf_accept.proofs.Takings.{no_type_taken, patterns_taken}
 use Rattle.lf_accept.proofs.expression.judge.Goals as goal
@@ -14,4 +18,6 @@ returns-in_err-type_of-clause-spent c =
 
 pub returns-clause-spent : goal.returns-clause-spent
 returns-clause-spent c =
-    patterns_taken (tree c.args.expr.now) c.in_ok-type_of.field-0 c.in_ok-type_of.ensures.found c.args.allowance.now.left c.take_each.new.self.left c.in_ok-take_each.ensures c.check_patterns.result c.check_patterns.ensures.refused
+    let e = tree c.args.expr.now in
+    let same : sum_by count_of (texts_at c.as_slice-2.result.now) ≡ count_in e = ap (λ texts. sum_by count_of (texts_at texts)) c.as_slice-2.ensures.value ∙ ap (sum_by count_of) c.in_ok-patterns.ensures in
+    patterns_taken e c.in_ok-type_of.field-0 c.in_ok-type_of.ensures.found c.args.allowance.now.left c.take_each.new.self.left (omega (arith, same, c.in_ok-take_each.ensures)) c.check_patterns.result c.check_patterns.ensures.refused
