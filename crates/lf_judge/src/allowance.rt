@@ -1,4 +1,4 @@
-//! How much the patterns of all files of a run may count, so that reading them takes some two seconds at most.
+//! How much the patterns of all files of a run may count, so that reading them takes seconds and no minutes.
 ghost use Rattle.std.specs.Prelude.{◌≤◌, ◌<◌, OnErr, OnOk};
 ghost use Rattle.std.specs.List.{sum_by};
 ghost use Rattle.lf_judge.specs.Allowance.{most_in_all};
@@ -29,8 +29,8 @@ pub fn allow(files: &[Counted]) -> Result<(), Memory>
 
 /// What workers have taken so far for the files of a run.
 ///
-/// It ends their work early, and decides nothing: where more was taken already than may be, so it is of all files, and `allow` refuses them whoever accepted which. So the run ends in
-/// the same way for every number of workers and every order of their work.
+/// It ends their work early, and decides nothing: where more was taken already than may be, so it is of all files, and `allow`
+/// refuses them whoever accepted which. So the run ends in the same way for every number of workers and every order of their work.
 #[derive(Drop)]
 pub struct TakenSoFar {
     sum: AtomicU64,

@@ -29,8 +29,8 @@ use std::thread::Threads;
 
 /// The report on files, with the verdicts on labels where `labels` asks for them. It is the same for any number of workers, who accept the files, and tell of the rules.
 ///
-/// Files whose rules pass a limit have none. One limit is on the verdicts that are asked for, and the others don't depend on them. Nor have those whose patterns count more than
-/// the patterns of a run may: memory is wanting for it.
+/// Files whose rules pass a limit have none. One limit is on the verdicts that are asked for, and the others don't depend on them.
+/// Nor have those whose patterns count more than the patterns of a run may: memory is wanting for it.
 pub fn judge<R: Threads + Sync, G: Gate + Sync>(
     rt: &R,
     alloc: Global,
