@@ -4,6 +4,7 @@
 
 mod board;
 mod pieces;
+mod room;
 pub mod rule;
 mod workers;
 

@@ -7,6 +7,7 @@ ghost use Rattle.lf_board.specs.views.Workers.{IsFresh, HasRoomFor, IsDone};
 
 use crate::board::{Board, BoardSeat};
 use crate::pieces::{Piece, in_order};
+use crate::room::make_room;
 use lf_base::{Gate, Memory, Seq};
 use std::alloc::Global;
 use std::thread::{Threads, join};
@@ -103,6 +104,7 @@ fn claim_all<T: Drop, F: Fn(u32) -> Result<T, Memory>>(
     requires work { MayWork F.Fn work.now board.now.pieces }
     ensures { IfOk result (λ done. IsDone F.Fn work.now seat done) }
 {
+    make_room(alloc);
     let mut pieces = Vec::new(alloc);
     while let Some(number) = board.claim(&mut seat) {
         let value = work(number)?;
