@@ -2,7 +2,6 @@
 use Rattle.std.proofs.Common.{◌≡◌, inl, inr, ℕ, ◌+◌, true, false, Bool, cond, List, [], ◌∷◌, ◌++◌, map, length, sym, ap, subst}
 use Rattle.std.specs.List.{AllByRecursion, AllZip, Contains}
 use Rattle.std.specs.List.Sorted.{IsNonDecreasing}
-use Rattle.std.proofs.lemmas.List.Sorted.{IsNonDecreasingBy-from_default}
 use Rattle.lf_ast.specs.Labels.{Bytes}
 use Rattle.lf_ast.specs.Rules.{RuleTree}
 use Rattle.lf_ast.specs.declared.rule.Template.{Template}
@@ -21,7 +20,7 @@ both_inside n [] others h k = k
 both_inside n (s ∷ ss) others h k = (h.0, both_inside n ss others h.1 k)
 
 of_setting : (n : ℕ) (s : Setting) → SettingInside n s → HasSource (template_of s)
-of_setting n s h = (h.1.1.0, IsNonDecreasingBy-from_default (λ (x : ℕ). x) s.1.from 0 h.1.1.1)
+of_setting n s h = (h.1.1.0, h.1.1.1)
 
 of_settings : (n : ℕ) (ss : List Setting) → AllByRecursion (SettingInside n) ss → (t : Template) → Contains (map template_of ss) t → HasSource t
 of_settings n ss h t c =

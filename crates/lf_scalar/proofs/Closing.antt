@@ -7,22 +7,23 @@ use Rattle.std.proofs.lemmas.Bool.{ne_eqb}
 use Rattle.std.proofs.lemmas.Bool.Decides.{eqb_tells}
 use Rattle.lf_scalar.specs.Cells.{Cell}
 use Rattle.lf_scalar.specs.Quoted.{Quotes, Single, Double, quote_of, Tells, Piece, Bare, Twice, Letter, Number, spelled, IsPiece, Raw, One, Pair, raw, IsRaw, ClosesBefore, Closes}
-use Rattle.lf_scalar.specs.reading.Quoted.{Closing, behind, closing_of}
+use Rattle.lf_scalar.specs.reading.Quoted.{closing_of}
+use Rattle.lf_scalar.specs.Splits.{Split, behind_cell}
 use Rattle.lf_base.specs.Names.{hexadecimal_value}
 
-abbrev pub ahead : List Cell → Option Closing → Option Closing
+abbrev pub ahead : List Cell → Option Split → Option Split
 ahead cs None = None
 ahead cs (Some x) = Some (cs ++ x.0, x.1)
 
-pub ahead-ahead : (a b : List Cell) (o : Option Closing) → ahead a (ahead b o) ≡ ahead (a ++ b) o
+pub ahead-ahead : (a b : List Cell) (o : Option Split) → ahead a (ahead b o) ≡ ahead (a ++ b) o
 ahead-ahead a b None = refl
 ahead-ahead a b (Some x) = ap (λ (cs : List Cell). Some (cs, x.1)) (sym (append_assoc a b x.0))
 
-behind-is : (c : Cell) (o : Option Closing) → behind c o ≡ ahead (c ∷ []) o
+behind-is : (c : Cell) (o : Option Split) → behind_cell c o ≡ ahead (c ∷ []) o
 behind-is c None = refl
 behind-is c (Some x) = refl
 
-behind-are : (b e : Cell) (o : Option Closing) → behind b (behind e o) ≡ ahead (b ∷ e ∷ []) o
+behind-are : (b e : Cell) (o : Option Split) → behind_cell b (behind_cell e o) ≡ ahead (b ∷ e ∷ []) o
 behind-are b e None = refl
 behind-are b e (Some x) = refl
 
@@ -40,7 +41,7 @@ closing-one Double (Pair b e) src h = rw (no-quote b.byte h, eq-eqb b.byte 92 h)
 closing-ones : (cs src : List Cell) → AllByRecursion (λ c. (c.byte ≢ 34) × (c.byte ≢ 92)) cs → closing_of Double 0 (cs ++ src) ≡ ahead cs (closing_of Double 0 src)
 closing-ones [] src each = nothing (closing_of Double 0 src)
   where
-    nothing : (o : Option Closing) → o ≡ ahead [] o
+    nothing : (o : Option Split) → o ≡ ahead [] o
     nothing None = refl
     nothing (Some x) = refl
 closing-ones (c ∷ cs) src each = closing-one Double (One c) (cs ++ src) each.0 ∙ ap (ahead (c ∷ [])) (closing-ones cs src each.1) ∙ ahead-ahead (c ∷ []) cs (closing_of Double 0 src)
@@ -69,7 +70,7 @@ closing-piece Double (Number b e digits n) src h = closing-one Double (Pair b e)
 pub closing-pieces : (kind : Quotes) (ps : List Piece) (src : List Cell) → AllByRecursion (IsPiece kind) ps → closing_of kind 0 (flat_map spelled ps ++ src) ≡ ahead (flat_map spelled ps) (closing_of kind 0 src)
 closing-pieces kind [] src each = nothing (closing_of kind 0 src)
   where
-    nothing : (o : Option Closing) → o ≡ ahead [] o
+    nothing : (o : Option Split) → o ≡ ahead [] o
     nothing None = refl
     nothing (Some x) = refl
 closing-pieces kind (p ∷ ps) src each =
@@ -80,7 +81,7 @@ closing-pieces kind (p ∷ ps) src each =
 closing-raws : (kind : Quotes) (rs : List Raw) (src : List Cell) → AllByRecursion (IsRaw kind) rs → closing_of kind 0 (flat_map raw rs ++ src) ≡ ahead (flat_map raw rs) (closing_of kind 0 src)
 closing-raws kind [] src each = nothing (closing_of kind 0 src)
   where
-    nothing : (o : Option Closing) → o ≡ ahead [] o
+    nothing : (o : Option Split) → o ≡ ahead [] o
     nothing None = refl
     nothing (Some x) = refl
 closing-raws kind (p ∷ ps) src each =

@@ -6,7 +6,8 @@ use Rattle.lf_scalar.specs.Cells.{Cell}
 use Rattle.lf_scalar.specs.Lines.{Line, line, begins_with, lengthen, lines}
 use Rattle.lf_scalar.proofs.LineSteps.{IsOther, line-step, lines-nil, lines-feed, lines-return, lines-other}
 use Rattle.lf_scalar.specs.Quoted.{Quotes, Single, Double}
-use Rattle.lf_scalar.specs.reading.Quoted.{Closing, behind, closing_of}
+use Rattle.lf_scalar.specs.reading.Quoted.{closing_of}
+use Rattle.lf_scalar.specs.Splits.{Split, behind_cell}
 
 -- in these lines, the first of them read behind so many skipped cells, only the last has a quote that closes, and it ends with it
 abbrev pub LinesOk : Quotes → ℕ → Cell → List Line → Type 0
@@ -15,31 +16,31 @@ LinesOk kind k closing (l ∷ []) = (inside : List Cell) × (closing_of kind k l
 LinesOk kind k closing (l ∷ m ∷ ls) = (closing_of kind k l.text ≡ None) × LinesOk kind 0 closing (m ∷ ls)
 
 -- a typed Some
-abbrev found : Closing → Option Closing
+abbrev found : Split → Option Split
 found x = Some x
 
-found-is : (x y : Closing) → found x ≡ found y → x ≡ y
+found-is : (x y : Split) → found x ≡ found y → x ≡ y
 found-is x y e = cc
 
-pub behind-none : (c : Cell) (o : Option Closing) → o ≡ None → behind c o ≡ None
+pub behind-none : (c : Cell) (o : Option Split) → o ≡ None → behind_cell c o ≡ None
 behind-none c o e = rw e refl
 
-behind-some : (c : Cell) (o : Option Closing) (inside : List Cell) (x : Cell × List Cell) → o ≡ Some (inside, x) → behind c o ≡ Some (c ∷ inside, x)
+behind-some : (c : Cell) (o : Option Split) (inside : List Cell) (x : Cell × List Cell) → o ≡ Some (inside, x) → behind_cell c o ≡ Some (c ∷ inside, x)
 behind-some c o inside x e = rw e refl
 
 -- what is found behind a cell is found
-pub behind-was : (c : Cell) (o : Option Closing) (inside : List Cell) (x : Cell × List Cell) → behind c o ≡ Some (inside, x) → (more : List Cell) × (o ≡ Some (more, x))
+pub behind-was : (c : Cell) (o : Option Split) (inside : List Cell) (x : Cell × List Cell) → behind_cell c o ≡ Some (inside, x) → (more : List Cell) × (o ≡ Some (more, x))
 behind-was c None inside x e = absurd (none e)
   where
     none : None ≡ found (inside, x) → ⊥
     none e = cc
 behind-was c (Some y) inside x e =
-    let j : y.1 ≡ x = ap (λ (z : Closing). z.1) (found-is (c ∷ y.0, y.1) (inside, x) e) in
+    let j : y.1 ≡ x = ap (λ (z : Split). z.1) (found-is (c ∷ y.0, y.1) (inside, x) e) in
     (y.0, ap (λ (z : Cell × List Cell). found (y.0, z)) j)
 
 -- a cell more at the front of the first line: how the step from it skips
 abbrev Steps : Quotes → ℕ → ℕ → Cell → List Cell → Type 0
-Steps kind k j c src = (t : List Cell) → begins_with 39 t ≡ begins_with 39 src → closing_of kind k (c ∷ t) ≡ behind c (closing_of kind j t)
+Steps kind k j c src = (t : List Cell) → begins_with 39 t ≡ begins_with 39 src → closing_of kind k (c ∷ t) ≡ behind_cell c (closing_of kind j t)
 
 lengthened : (kind : Quotes) (k j end : ℕ) (c closing : Cell) (src : List Cell) (ls : List Line) → ((l : Line) (ms : List Line) → ls ≡ l ∷ ms → begins_with 39 l.text ≡ begins_with 39 src) → Steps kind k j c src → LinesOk kind j closing ls → LinesOk kind k closing (lengthen end c ls)
 lengthened kind k j end c closing src [] same steps ok = absurd ok
@@ -76,7 +77,7 @@ empty-first kind k at closing [] ok = absurd ok
 empty-first kind k at closing (l ∷ ls) ok = (refl, ok)
 
 -- a cell that is neither a quote nor a backslash is passed
-pub passed : (kind : Quotes) (k : ℕ) (c : Cell) (src : List Cell) → k < 2 → c.byte ≢ 39 → c.byte ≢ 34 → c.byte ≢ 92 → closing_of kind k (c ∷ src) ≡ behind c (closing_of kind 0 src)
+pub passed : (kind : Quotes) (k : ℕ) (c : Cell) (src : List Cell) → k < 2 → c.byte ≢ 39 → c.byte ≢ 34 → c.byte ≢ 92 → closing_of kind k (c ∷ src) ≡ behind_cell c (closing_of kind 0 src)
 unfolding closing_of
 passed kind (suc zero) c src lt a b d = refl
 passed kind (suc (suc k)) c src lt a b d = absurd (omega arith)
@@ -87,7 +88,7 @@ one-of : (b : ℕ) → (b ≡ 10) ⊎ (b ≡ 13) → (b ≢ 39) × (b ≢ 34) ×
 one-of b (inl h) = (λ e. omega arith, λ e. omega arith, λ e. omega arith)
 one-of b (inr h) = (λ e. omega arith, λ e. omega arith, λ e. omega arith)
 
-passed-end : (kind : Quotes) (k : ℕ) (c : Cell) (src : List Cell) → k < 2 → (c.byte ≡ 10) ⊎ (c.byte ≡ 13) → closing_of kind k (c ∷ src) ≡ behind c (closing_of kind 0 src)
+passed-end : (kind : Quotes) (k : ℕ) (c : Cell) (src : List Cell) → k < 2 → (c.byte ≡ 10) ⊎ (c.byte ≡ 13) → closing_of kind k (c ∷ src) ≡ behind_cell c (closing_of kind 0 src)
 passed-end kind k c src lt h = let n = one-of c.byte h in passed kind k c src lt n.0 n.1 n.2
 
 abbrev Inner : Quotes → ℕ → ℕ → Cell → List Cell → Type 0
@@ -103,7 +104,7 @@ longer kind end k j c closing src inside o steps e later =
 ends-here : (kind : Quotes) (end : ℕ) (c closing : Cell) (src inside : List Cell) → IsOther c src → closing_of kind 0 (c ∷ src) ≡ Some ([], (c, src)) → closing_of kind 0 (c ∷ src) ≡ Some (inside, (closing, [])) → LinesOk kind 0 closing (lines end (c ∷ src))
 ends-here kind end c closing src inside o f e =
     let h = found-is ([], (c, src)) (inside, (closing, [])) (sym f ∙ e) in
-    let i : src ≡ [] = ap (λ (x : Closing). x.1.1) h in
+    let i : src ≡ [] = ap (λ (x : Split). x.1.1) h in
     subst (LinesOk kind 0 closing) (sym (lines-other end c src o ∙ ap (lengthen end c) (ap (lines end) i ∙ lines-nil end))) (inside, sym (ap (λ (x : List Cell). closing_of kind 0 (c ∷ x)) i) ∙ e)
 
 steps-skip : (kind : Quotes) (c : Cell) (src : List Cell) → Steps kind 1 0 c src

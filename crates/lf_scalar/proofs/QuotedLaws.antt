@@ -10,8 +10,8 @@ use Rattle.lf_scalar.specs.Cells.{Cell, byte_fault, front, ◌>>=◌}
 use Rattle.lf_scalar.specs.Lines.{Line, start_of, is_blank, after_blanks, is_blank_line, AreBlank}
 use Rattle.lf_scalar.specs.Markers.{is_marker}
 use Rattle.lf_scalar.specs.Quoted.{Quotes, Single, Double, quote_of, Piece, Bare, Twice, spelled, given, IsPiece, Break, Folds, Drops, filled, IsBroken, Follows, unindented, QuotedFrom, last, more, HasBadEscape, QuotedBreaks, escape, marker, later}
-use Rattle.lf_scalar.specs.reading.Quoted.{piece_of, scan, Closing, closing_of, ended, line_of, lines_behind, lines_from}
-use Rattle.lf_scalar.specs.reading.Quoted as reading
+use Rattle.lf_scalar.specs.reading.Quoted.{piece_of, scan, closing_of, ended, line_of, lines_behind, lines_from}
+use Rattle.lf_scalar.specs.Splits.{Split, behind_cell}
 use Rattle.lf_scalar.proofs.Pieces.{none-stands, none-found, scan-again, IsScan, scan-sound}
 use Rattle.lf_scalar.proofs.Closing.{ahead, closing-pieces}
 use Rattle.lf_scalar.proofs.InnerLines.{LinesOk, behind-was, behind-none, passed}
@@ -103,13 +103,13 @@ breaks-again kind l _ _ (later {next = next} {ls = ls} {f = f} part break blank 
 
 -- ---- what is read is told by the definition: one line
 
-abbrev pub some-closing : Closing → Option Closing
+abbrev pub some-closing : Split → Option Split
 some-closing x = Some x
 
 abbrev bad : Fault → Result Read Fault
 bad f = Err f
 
-pub no-some : (x : Closing) → None ≡ some-closing x → ⊥
+pub no-some : (x : Split) → None ≡ some-closing x → ⊥
 no-some x e = cc
 
 -- where no piece stands: a backslash, or a quote that closes
@@ -195,7 +195,7 @@ abbrev Last : Quotes → Line → Result Read Fault → Type 0
 Last kind l (Ok x) = QuotedFrom kind l [] x.0
 Last kind l (Err f) = (b : Cell) × HasBadEscape kind l.text b × (f ≡ byte_fault BadEscape b.at)
 
-closing-is : (x y : Closing) → some-closing x ≡ some-closing y → x ≡ y
+closing-is : (x y : Split) → some-closing x ≡ some-closing y → x ≡ y
 closing-is x y e = cc
 
 none-closes : (kind : Quotes) (c : Cell) → kind ≡ Double → c.byte ≡ 92 → (closing_of kind 0 [] ≡ None) × (closing_of kind 0 (c ∷ []) ≡ None)
@@ -218,7 +218,7 @@ last-by kind l ps rest within end r found = by rest r (ap (closing_of kind 0) (s
     stopping c (d ∷ left) r f (backslash k e) = subst (Last kind l) (sym (ended-bad l.break ps c d left e)) (c, bad-escape kind l.text ps c d left r e, refl)
     stopping c src r f (closing e g) =
         let i = closing-is (flat_map spelled ps ++ [], (c, src)) (within, (end, [])) (sym (closing-pieces kind ps (c ∷ src) r.each ∙ ap (ahead (flat_map spelled ps)) g) ∙ f) in
-        let j : src ≡ [] = ap (λ (x : Closing). x.1.1) i in
+        let j : src ≡ [] = ap (λ (x : Split). x.1.1) i in
         subst (Last kind l) (sym (ended-closes kind l.break ps c src e)) (last ps c r.each e (r.source ∙ ap (λ (x : List Cell). flat_map spelled ps ++ c ∷ x) j))
 
     by : (rest : List Cell) → IsScan kind l.text (ps, rest) → closing_of kind 0 (flat_map spelled ps ++ rest) ≡ some-closing (within, (end, [])) → Last kind l (ended l.break (ps, rest))
@@ -254,7 +254,7 @@ blank-bare : (b : ℕ) → (b ≡ 32) ⊎ (b ≡ 9) → (b ≢ 39) × (b ≢ 34)
 blank-bare b (inl h) = (λ e. omega arith, λ e. omega arith, λ e. omega arith)
 blank-bare b (inr h) = (λ e. omega arith, λ e. omega arith, λ e. omega arith)
 
-blank-passed : (kind : Quotes) (c : Cell) (src : List Cell) → is_blank c ≡ true → closing_of kind 0 (c ∷ src) ≡ reading.behind c (closing_of kind 0 src)
+blank-passed : (kind : Quotes) (c : Cell) (src : List Cell) → is_blank c ≡ true → closing_of kind 0 (c ∷ src) ≡ behind_cell c (closing_of kind 0 src)
 blank-passed kind c src h = let n = blank-bare c.byte (blank-is c h) in passed kind 0 c src (omega arith) n.0 n.1 n.2
 
 blank-closes : (kind : Quotes) (cs : List Cell) → list_all is_blank cs ≡ true → closing_of kind 0 cs ≡ None
@@ -275,7 +275,7 @@ blanks-behind kind end l (m ∷ ms) ok =
       | inr a ↦ record { blank = []; next = l; rest = m ∷ ms; source = refl; follows = record { are_blank = tt; is_full = a }; ok = ok }
     ]
 
-none-was : (c : Cell) (o : Option Closing) → reading.behind c o ≡ None → o ≡ None
+none-was : (c : Cell) (o : Option Split) → behind_cell c o ≡ None → o ≡ None
 none-was c None e = refl
 none-was c (Some x) e = absurd (no-some (c ∷ x.0, x.1) (sym e))
 

@@ -9,7 +9,8 @@ use Rattle.lf_base.specs.Faults.{span}
 use Rattle.lf_scalar.specs.Cells.{Cell, cell, cells, Value, made, byte_fault, character_fault, Fails, ◌>>=◌}
 use Rattle.lf_scalar.specs.Lines.{Line, line as one_line, lines, lines_at, first_text}
 use Rattle.lf_scalar.specs.Quoted.{Quotes}
-use Rattle.lf_scalar.specs.reading.Quoted.{closing_of, split_of, lines_of, wrong_behind, alone, closed, quoted_of}
+use Rattle.lf_scalar.specs.Splits.{split_of}
+use Rattle.lf_scalar.specs.reading.Quoted.{closing_of, lines_of, wrong_behind, alone, closed, quoted_of}
 use Rattle.lf_scalar.specs.views.Built.{refused}
 use Rattle.lf_scalar.specs.reading.Styles.{quoted_at}
 use Rattle.lf_scalar.proofs.Cells.{cells-take}

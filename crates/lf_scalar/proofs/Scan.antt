@@ -6,11 +6,12 @@ use Rattle.lf_scalar.specs.declared.quotes.ByteEffect.TheVariants as effect
 use Rattle.lf_scalar.specs.Cells.{Cell, cell, cells}
 use Rattle.lf_scalar.specs.Lines.{begins_with}
 use Rattle.lf_scalar.specs.Quoted.{Quotes, Single, Double}
-use Rattle.lf_scalar.specs.reading.Quoted.{Closing, behind, closing_of, split_of, IsEffect}
+use Rattle.lf_scalar.specs.reading.Quoted.{closing_of, IsEffect}
+use Rattle.lf_scalar.specs.Splits.{Split, behind_cell, split_of}
 use Rattle.lf_scalar.proofs.Cells.{cells-drop, cells-take}
 use Rattle.lf_scalar.proofs.Closing.{ahead, no-quote}
 
-ahead-behind : (cs : List Cell) (c : Cell) (o : Option Closing) → ahead cs (behind c o) ≡ ahead (cs ++ c ∷ []) o
+pub ahead-behind : (cs : List Cell) (c : Cell) (o : Option Split) → ahead cs (behind_cell c o) ≡ ahead (cs ++ c ∷ []) o
 ahead-behind cs c None = refl
 ahead-behind cs c (Some x) = ap (λ (xs : List Cell). Some (xs, x.1)) (sym (append_assoc cs (c ∷ []) x.0))
 
@@ -21,7 +22,7 @@ begins-drop byte at (suc n) [] h = sym (ne_eqb 0 byte (λ e. h (sym e)))
 begins-drop byte at (suc n) (x ∷ xs) h = begins-drop byte at n xs h
 
 -- what closes, where the first bytes are passed
-abbrev pub scanned : Quotes → ℕ → List ℕ → ℕ → ℕ → Option Closing
+abbrev pub scanned : Quotes → ℕ → List ℕ → ℕ → ℕ → Option Split
 scanned kind at line i k = ahead (cells at (take i line)) (closing_of kind k (cells (at + i) (drop i line)))
 
 not-zero : ◌≢◌ {A = ℕ} 39 0
@@ -32,16 +33,16 @@ module _ (kind : Quotes) (at : ℕ) (line : List ℕ) (i : ℕ) (lt : i < length
   unfolding closing_of
   scanned-skip = rw (cells-drop at line i lt, cells-take at line i lt) (ahead-behind (cells at (take i line)) _ _)
 
-  moved : (j : ℕ) → closing_of kind 0 (cell (get_or line i 0) (at + i) ∷ cells (at + (i + 1)) (drop (i + 1) line)) ≡ behind (cell (get_or line i 0) (at + i)) (closing_of kind j (cells (at + (i + 1)) (drop (i + 1) line)))
+  moved : (j : ℕ) → closing_of kind 0 (cell (get_or line i 0) (at + i) ∷ cells (at + (i + 1)) (drop (i + 1) line)) ≡ behind_cell (cell (get_or line i 0) (at + i)) (closing_of kind j (cells (at + (i + 1)) (drop (i + 1) line)))
       → scanned kind at line i 0 ≡ scanned kind at line (i + 1) j
   moved j e = rw (cells-drop at line i lt, cells-take at line i lt) (ap (ahead (cells at (take i line))) e ∙ ahead-behind (cells at (take i line)) _ _)
 
-takes-next : (kind : Quotes) (c : Cell) (src : List Cell) (next : ℕ) → begins_with 39 src ≡ eqb next 39 → IsEffect kind c.byte next effect.TakesNext → closing_of kind 0 (c ∷ src) ≡ behind c (closing_of kind 1 src)
+takes-next : (kind : Quotes) (c : Cell) (src : List Cell) (next : ℕ) → begins_with 39 src ≡ eqb next 39 → IsEffect kind c.byte next effect.TakesNext → closing_of kind 0 (c ∷ src) ≡ behind_cell c (closing_of kind 1 src)
 unfolding closing_of
 takes-next Single c src next b h = rw (eq-eqb c.byte 39 h.0, b, eq-eqb next 39 h.1) refl
 takes-next Double c src next b h = rw (no-quote c.byte h, eq-eqb c.byte 92 h) refl
 
-passes : (kind : Quotes) (c : Cell) (src : List Cell) (next : ℕ) → IsEffect kind c.byte next effect.Passes → closing_of kind 0 (c ∷ src) ≡ behind c (closing_of kind 0 src)
+passes : (kind : Quotes) (c : Cell) (src : List Cell) (next : ℕ) → IsEffect kind c.byte next effect.Passes → closing_of kind 0 (c ∷ src) ≡ behind_cell c (closing_of kind 0 src)
 unfolding closing_of
 passes Single c src next h = rw (ne_eqb c.byte 39 h) refl
 passes Double c src next h = rw (ne_eqb c.byte 34 h.0, ne_eqb c.byte 92 h.1) refl

@@ -1,4 +1,5 @@
 pub mod Cells
+pub mod Splits
 pub mod Lines
 pub mod Folding
 pub mod Plain

@@ -3,7 +3,8 @@
 ghost use Rattle.std.specs.Prelude.{◌≡◌, ◌+◌, ◌<◌, length, get_or, IfSome, option_map};
 ghost use Rattle.lf_scalar.specs.Cells.{cells};
 ghost use Rattle.lf_scalar.specs.Quoted.{quote_of};
-ghost use Rattle.lf_scalar.specs.reading.Quoted.{closing_of, split_of, IsEffect};
+ghost use Rattle.lf_scalar.specs.reading.Quoted.{closing_of, IsEffect};
+ghost use Rattle.lf_scalar.specs.Splits.{split_of};
 
 /// The quotes round a scalar or a key.
 #[derive(Clone, Copy, PartialEq, Eq, Debug)]

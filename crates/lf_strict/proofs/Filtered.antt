@@ -13,7 +13,7 @@ use Rattle.std.proofs.lemmas.Option.{slice_get-get_or}
 use Rattle.lf_laws.proofs.Members.{behind, first_or_behind, here, none_in}
 use Rattle.lf_ast.specs.Labels.{Labels}
 use Rattle.lf_ast.specs.declared.expr.Matching.{Matching}
-use Rattle.lf_semantics.specs.Evaluation.{AreEither, AreMade, AreMatched, AreUnmatched, HasPartner}
+use Rattle.lf_semantics.specs.Evaluation.{AreEither, AreMade, AreUnmatched, HasPartner}
 use Rattle.lf_semantics.specs.Grouped.{signs}
 use Rattle.lf_semantics.specs.Texts.{HasTexts, restricted}
 use Rattle.lf_semantics.proofs.Members.{in_filter, of_filter}
@@ -21,7 +21,7 @@ use Rattle.lf_witness.specs.Ascending.{IsAscending, labels_cmp}
 use Rattle.lf_witness.specs.Strict.{AreSame}
 use Rattle.lf_witness.proofs.AscendingLists.{ascends_behind, head_less, labels_total, less_itself, tail_ascends}
 use Rattle.lf_witness.proofs.Decided.{equal_itself, equal_same, same_told, told_same}
-use Rattle.lf_strict.specs.views.Signed.{is_one_of, is_signed}
+use Rattle.lf_strict.specs.views.Signed.{ArePartnered, is_one_of, is_signed}
 use Rattle.lf_strict.proofs.Signatures.{one_signature, same_signature}
 
 -- filters
@@ -95,12 +95,6 @@ module _ (m : Matching) (P Q signatures : List Labels) where
       let from = made.1 (restricted (signs m) s) (any_member (restricted (signs m) s) signatures e) in
       (from.0, from.1, same_signature m s from.0 from.2.0)
 
-  pub are_matched : AreSignatures → ((s : Labels) → Contains P s → HasTexts s) → AreMatched m P Q (filter (is_signed m signatures true) P)
-  are_matched made full = (
-    λ s c partner. in_filter (is_signed m signatures true) P s c (partner_signed made s (full s c) partner),
-    λ r c. let old = of_filter (is_signed m signatures true) P r c in (old.0, signed_partner made r old.1),
-  )
-
   turned : (b : Bool) → (b ≡ true → ⊥) → not b ≡ true
   turned true none = absurd (none refl)
   turned false none = refl
@@ -109,8 +103,12 @@ module _ (m : Matching) (P Q signatures : List Labels) where
   back true e _ = true≢false (sym e)
   back false _ e = true≢false (sym e)
 
-  pub are_unmatched : AreSignatures → ((s : Labels) → Contains P s → HasTexts s) → AreUnmatched m P Q (filter (is_signed m signatures false) P)
-  are_unmatched made full = (
+  pub are_partnered : (wanted : Bool) → AreSignatures → ((s : Labels) → Contains P s → HasTexts s) → ArePartnered wanted m P Q (filter (is_signed m signatures wanted) P)
+  are_partnered true made full = (
+    λ s c partner. in_filter (is_signed m signatures true) P s c (partner_signed made s (full s c) partner),
+    λ r c. let old = of_filter (is_signed m signatures true) P r c in (old.0, signed_partner made r old.1),
+  )
+  are_partnered false made full = (
     λ s c none. in_filter (is_signed m signatures false) P s c (turned (is_one_of signatures (restricted (signs m) s)) (λ e. none (signed_partner made s e))),
     λ r c. let old = of_filter (is_signed m signatures false) P r c in
         (old.0, λ partner. back (is_one_of signatures (restricted (signs m) r)) old.1 (partner_signed made r (full r old.0) partner)),

@@ -6,6 +6,8 @@ use Rattle.std.specs.List.{Contains}
 use Rattle.std.specs.Map.{lookup}
 use Rattle.std.specs.Ordering.{is_eq}
 use Rattle.std.specs.declared.cmp.Ordering.TheVariants as ordering
+use Rattle.std.proofs.Math.Logic.{⊎_swap}
+use Rattle.std.proofs.lemmas.Option.{none-some}
 use Rattle.std.proofs.lemmas.List.{take_more}
 use Rattle.std.proofs.lemmas.List.Elements.{Contains-append_left, Contains-push, Contains-push_cases}
 use Rattle.std.proofs.lemmas.Bool.{false_from_ne_true}
@@ -20,7 +22,7 @@ use Rattle.lf_semantics.specs.Evaluation.{AreMatched}
 use Rattle.lf_semantics.specs.Grouped.{out, paired}
 use Rattle.lf_semantics.specs.Texts.{HasTexts}
 use Rattle.lf_witness.specs.Ascending.{IsAscending, labels_cmp}
-use Rattle.lf_witness.specs.Strict.{From, HasTwoAlike, IsAmbiguous, IsPair, MadeApart, Outcomes, StrictCombines, StrictPairs}
+use Rattle.lf_witness.specs.Strict.{HasTwoAlike, IsAmbiguous, IsPair, MadeApart, StrictCombines, StrictPairs}
 use Rattle.lf_witness.specs.StrictRuns.{InOrder}
 use Rattle.lf_witness.proofs.AscendingLists.{head_less, less_itself, tail_ascends}
 use Rattle.lf_strict.specs.views.Paired.{IsIndex, ManyPairs, result_of, signature_of, with_partner}
@@ -40,12 +42,9 @@ taken_less (y ∷ xs) (suc k) x ascends lt is t c = elim (first_or_behind y (tak
 some_same : (x t : Labels) → Some x ≡ Some t → x ≡ t
 some_same x t e = cc
 
-none_some : (t : Labels) → None ≡ Some t → ⊥
-none_some t e = cc
-
 pub no_ones : (m : Matching) (ones : BTreeMap Labels Labels) → ones.entries ≡ [] → IsIndex m [] ones
 no_ones m ones e = (
-  λ k t found. absurd (none_some t (sym (ap (λ (l : List (Labels × Labels)). lookup (λ q. is_eq (labels_cmp k q)) l) e) ∙ found)),
+  λ k t found. absurd (none-some t (sym (ap (λ (l : List (Labels × Labels)). lookup (λ q. is_eq (labels_cmp k q)) l) e) ∙ found)),
   λ t c. absurd (none_in t c),
 )
 
@@ -66,7 +65,7 @@ module _ (m : Matching) (xs : List Labels) (k : ℕ) (x : Labels) (lt : k < leng
     λ t c. elim (Contains-push_cases (take k xs) x t (subst (λ (l : List Labels). Contains l t) took c)) [
       | inl old ↦ (
           let before = index.1 t old in
-          let other = false_from_ne_true (is_eq (labels_cmp (signature_of m x) (signature_of m t))) (λ e. none_some t (sym none ∙ subst (λ z. get labels_cmp ones z ≡ Some t) (sym (told_same (signature_of m x) (signature_of m t) e)) before.1)) in
+          let other = false_from_ne_true (is_eq (labels_cmp (signature_of m x) (signature_of m t))) (λ e. none-some t (sym none ∙ subst (λ z. get labels_cmp ones z ≡ Some t) (sym (told_same (signature_of m x) (signature_of m t) e)) before.1)) in
           (before.0, updates.0 (signature_of m t) ∙ ap (λ b. cond b (Some x) (get labels_cmp ones (signature_of m t))) other ∙ before.1)
           )
       | inr new ↦ subst (λ z. HasTexts z × (get labels_cmp more (signature_of m z) ≡ Some z)) new (full, updates.1)
@@ -161,10 +160,6 @@ module _ (op : Op) (m : Matching) (P Q : List Labels) where
   turned_back : (s t : Labels) → IsPair m P Q s t → IsPair m Q P t s
   turned_back s t pair = (pair.1, pair.0, λ label signed. sym (pair.2 label signed))
 
-  either_way : {A B : Type 0} → A ⊎ B → B ⊎ A
-  either_way (inl a) = inr a
-  either_way (inr b) = inl b
-
   pub from_right : m.group ≡ Right → (o : Option (List Labels)) → InOrder (ManyPairs op m Q P) o → InOrder (StrictPairs op m P Q) o
   from_right e o is = by outs o is
     where
@@ -173,7 +168,7 @@ module _ (op : Op) (m : Matching) (P Q : List Labels) where
 
       by : ((s t : Labels) → out op m s t ≡ result_of m.group op m t s) → (o : Option (List Labels)) → InOrder (ManyPairs op m Q P) o → InOrder (StrictPairs op m P Q) o
       by outs None (inl two) = inl (subst (λ g. IsAmbiguous g m P Q) (sym e) two)
-      by outs None (inr (s, t, u, v, p, q, differ, same)) = inr (t, s, v, u, turned t s p, turned v u q, either_way differ, outs t s ∙ same ∙ sym (outs v u))
+      by outs None (inr (s, t, u, v, p, q, differ, same)) = inr (t, s, v, u, turned t s p, turned v u q, ⊎_swap differ, outs t s ∙ same ∙ sym (outs v u))
       by outs (Some R) given = (
         (
           (
@@ -181,13 +176,13 @@ module _ (op : Op) (m : Matching) (P Q : List Labels) where
             λ s t a b same. subst (Contains R) (sym (outs s t)) (given.0.0.1 t s (turned_back s t (a, b, same))),
           ),
           λ two. given.0.1 (subst (λ g. IsAmbiguous g m P Q) e two),
-          λ two. given.0.2 (two.1, two.0, two.3, two.2, turned_back two.0 two.1 two.4, turned_back two.2 two.3 two.5, either_way two.6, sym (outs two.0 two.1) ∙ two.7 ∙ outs two.2 two.3),
+          λ two. given.0.2 (two.1, two.0, two.3, two.2, turned_back two.0 two.1 two.4, turned_back two.2 two.3 two.5, ⊎_swap two.6, sym (outs two.0 two.1) ∙ two.7 ∙ outs two.2 two.3),
         ),
         given.1,
       )
 
 -- all operators but those of sets give pairs
-pub pairs_combine : (op : Op) (m : Matching) (P Q : List Labels) → (op ≡ And → ⊥) → (op ≡ Or → ⊥) → (op ≡ Unless → ⊥) → (o : Option (List Labels)) → StrictPairs op m P Q o → StrictCombines op m P Q o
+pub pairs_combine : (op : Op) (m : Matching) (P Q : List Labels) → (op ≡ And → ⊥) → (op ≡ Or → ⊥) → (op ≡ Unless → ⊥) → (o : Option (List Labels)) → InOrder (StrictPairs op m P Q) o → InOrder (StrictCombines op m P Q) o
 pairs_combine Add m P Q a b c o is = is
 pairs_combine Subtract m P Q a b c o is = is
 pairs_combine Multiply m P Q a b c o is = is
@@ -204,22 +199,6 @@ pairs_combine Greater m P Q a b c o is = is
 pairs_combine And m P Q a b c o is = absurd (a refl)
 pairs_combine Or m P Q a b c o is = absurd (b refl)
 pairs_combine Unless m P Q a b c o is = absurd (c refl)
-
-pub from_more : (f g : Outcomes) (by other : List Labels → List Labels → Outcomes) → ((P Q : List Labels) (o : Option (List Labels)) → by P Q o → other P Q o) → (o : Option (List Labels))
-    → InOrder (From f (λ P. From g (by P))) o → InOrder (From f (λ P. From g (other P))) o
-from_more f g by other more o is = in_order o is
-  where
-    inner : (P : List Labels) (o : Option (List Labels)) → From g (by P) o → From g (other P) o
-    inner P o (inl none) = inl none
-    inner P o (inr (Q, a, b)) = inr (Q, a, more P Q o b)
-
-    outer : (o : Option (List Labels)) → From f (λ P. From g (by P)) o → From f (λ P. From g (other P)) o
-    outer o (inl none) = inl none
-    outer o (inr (P, a, b)) = inr (P, a, inner P o b)
-
-    in_order : (o : Option (List Labels)) → InOrder (From f (λ P. From g (by P))) o → InOrder (From f (λ P. From g (other P))) o
-    in_order None is = outer None is
-    in_order (Some R) is = (outer (Some R) is.0, is.1)
 
 pub is_there : (o : Option Labels) → is_some o ≡ true → (t : Labels) × (o ≡ Some t)
 is_there None e = cc

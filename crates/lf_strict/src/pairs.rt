@@ -10,8 +10,7 @@ ghost use Rattle.lf_strict.specs.views.Paired.{ManyPairs};
 
 use crate::becoming::made_apart;
 use crate::partners::{Paired, indexed};
-use crate::sets::{difference, intersection, union};
-use crate::signature::{are_apart, matched};
+use crate::signature::{are_apart, by_partner, either};
 use lf_ast::{Group, LabelSet, Matching, Op};
 use lf_base::{Memory, Seq};
 use std::alloc::Global;
@@ -28,32 +27,32 @@ pub fn combine(
     requires right { IfSome right.now IsAscending }
     ensures { (W : List Labels) (d e : Tree) → IsStrictAnswer W d left.now → IsStrictAnswer W e right.now → IfOk result (InOrder (From (StrictlyEvaluates W d) (λ P. From (StrictlyEvaluates W e) (StrictCombines op matching.now P)))) }
 {
-    match op {
-        Op::And => intersection(alloc, matching, left, right),
-        Op::Or => union(alloc, matching, left, right),
-        Op::Unless => difference(alloc, matching, left, right),
-        _ => joined(alloc, op, matching, left, right),
-    }
-}
-
-/// What the pairs of two sides give, and None where a side is None.
-fn joined(
-    alloc: Global,
-    op: Op,
-    matching: &Matching,
-    left: &Option<Seq<LabelSet>>,
-    right: &Option<Seq<LabelSet>>,
-) -> Result<Option<Seq<LabelSet>>, Memory>
-    requires left { IfSome left.now IsAscending }
-    requires right { IfSome right.now IsAscending }
-    ensures { (W : List Labels) (d e : Tree) → IsStrictAnswer W d left.now → IsStrictAnswer W e right.now → IfOk result (InOrder (From (StrictlyEvaluates W d) (λ P. From (StrictlyEvaluates W e) (StrictPairs op matching.now P)))) }
-{
     match left {
         None => Ok(None),
         Some(left) => match right {
             None => Ok(None),
-            Some(right) => paired(alloc, op, matching, left, right),
+            Some(right) => between(alloc, op, matching, left, right),
         },
+    }
+}
+
+/// What an operator gives between the left and the right samples, in ascending order.
+fn between(
+    alloc: Global,
+    op: Op,
+    matching: &Matching,
+    left: &Seq<LabelSet>,
+    right: &Seq<LabelSet>,
+) -> Result<Option<Seq<LabelSet>>, Memory>
+    requires left { IsAscending left.now }
+    requires right { IsAscending right.now }
+    ensures { IfOk result (InOrder (StrictCombines op matching.now left.now right.now)) }
+{
+    match op {
+        Op::And => Ok(Some(by_partner(alloc, matching, left, right, true)?)),
+        Op::Or => Ok(Some(either(alloc, matching, left, right)?)),
+        Op::Unless => Ok(Some(by_partner(alloc, matching, left, right, false)?)),
+        _ => paired(alloc, op, matching, left, right),
     }
 }
 
@@ -113,7 +112,7 @@ fn many_to_one(
         None => Ok(None),
         Some(ones) => {
             let ones = &ones;
-            let partnered = matched(alloc, matching, many, one)?;
+            let partnered = by_partner(alloc, matching, many, one, true)?;
             made_apart(alloc, &Paired { op, matching, ones }, &partnered)
         }
     }

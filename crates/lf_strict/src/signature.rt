@@ -4,13 +4,13 @@ ghost use Rattle.std.specs.FinMap.{entries};
 ghost use Rattle.std.specs.List.{Contains, filter};
 ghost use Rattle.std.proofs.Common.{sym, ◌∙◌};
 ghost use Rattle.lf_ast.specs.Labels.{HasNoEmptyText, Labels};
-ghost use Rattle.lf_semantics.specs.Evaluation.{AreEither, AreMatched, AreUnmatched};
+ghost use Rattle.lf_semantics.specs.Evaluation.{AreEither};
 ghost use Rattle.lf_semantics.specs.Grouped.{signs};
 ghost use Rattle.lf_semantics.specs.Texts.{HasTexts, restricted};
 ghost use Rattle.lf_witness.specs.Ascending.{IsAscending};
 ghost use Rattle.lf_witness.specs.Strict.{IsSet};
 ghost use Rattle.lf_witness.specs.StrictRuns.{InOrder};
-ghost use Rattle.lf_strict.specs.views.Signed.{TellsApart, is_one_of, is_signed};
+ghost use Rattle.lf_strict.specs.views.Signed.{ArePartnered, TellsApart, is_one_of, is_signed};
 
 use crate::apart::together;
 use crate::becoming::{Becoming, made_apart, made_together};
@@ -50,15 +50,16 @@ pub fn are_apart(
     Ok(made.is_some())
 }
 
-/// The left samples that have a partner on the right, in ascending order.
-pub fn matched(
+/// The left samples that have a partner on the right, or those that have none where that is wanted, in ascending order.
+pub fn by_partner(
     alloc: Global,
     matching: &Matching,
     left: &Seq<LabelSet>,
     right: &Seq<LabelSet>,
+    wanted: bool,
 ) -> Result<Seq<LabelSet>, Memory>
     requires { IsAscending left.now }
-    ensures { IfOk result (λ set. InOrder (IsSet (AreMatched matching.now left.now right.now)) (Some set)) }
+    ensures { IfOk result (λ set. InOrder (IsSet (ArePartnered wanted matching.now left.now right.now)) (Some set)) }
 {
     let signatures = made_together(alloc, &Signed { matching }, right)?;
     with_signature(
@@ -66,27 +67,7 @@ pub fn matched(
         matching,
         left.as_slice(),
         signatures.as_slice(),
-        true,
-    )
-}
-
-/// The left samples that have no partner on the right, in ascending order.
-pub fn unmatched(
-    alloc: Global,
-    matching: &Matching,
-    left: &Seq<LabelSet>,
-    right: &Seq<LabelSet>,
-) -> Result<Seq<LabelSet>, Memory>
-    requires { IsAscending left.now }
-    ensures { IfOk result (λ set. InOrder (IsSet (AreUnmatched matching.now left.now right.now)) (Some set)) }
-{
-    let signatures = made_together(alloc, &Signed { matching }, right)?;
-    with_signature(
-        alloc,
-        matching,
-        left.as_slice(),
-        signatures.as_slice(),
-        false,
+        wanted,
     )
 }
 
@@ -100,7 +81,7 @@ pub fn either(
     requires { IsAscending right.now }
     ensures { IfOk result (λ set. InOrder (IsSet (AreEither matching.now left.now right.now)) (Some set)) }
 {
-    let others = unmatched(alloc, matching, right, left)?;
+    let others = by_partner(alloc, matching, right, left, false)?;
     let mut samples = Vec::new(alloc);
     push_each(&mut samples, left.as_slice())?;
     push_each(&mut samples, others.as_slice())?;

@@ -1,5 +1,6 @@
 -- The scalar that is a part of one line as it stands.
 use Rattle.std.proofs.Common.{◌≡◌, ℕ, zero, suc, ◌+◌, ◌<◌, ◌≤◌, List, [], ◌∷◌, ◌++◌, length, get_or, take, length-take, Result, Ok, refl, ap, arith, sym, ◌∙◌}
+use Rattle.std.proofs.lemmas.List.Sorted.{IsNonDecreasingBy-from_default}
 use Rattle.lf_base.specs.declared.place.Span.{Span}
 use Rattle.lf_base.specs.Faults.{span}
 use Rattle.lf_scalar.specs.Cells.{Cell, cells, Value, made, bytes_of, offsets_of}
@@ -33,7 +34,7 @@ made-is at xs place =
 pub ascending : (at : ℕ) (xs : List ℕ) (place : Span) → place.start ≤ at → at + length xs ≤ place.end → AreOffsets xs (offsets_from at (length xs + 1)) place
 ascending at xs place start end = (
   offsets-length at (length xs + 1),
-  (λ i j le lt.
+  IsNonDecreasingBy-from_default (λ x. x) (offsets_from at (length xs + 1)) 0 (λ i j le lt.
       let n : length (offsets_from at (length xs + 1)) ≡ length xs + 1 = offsets-length at (length xs + 1) in
       omega (arith, offsets-get at (length xs + 1) i (omega (arith, n, lt, le)), offsets-get at (length xs + 1) j (omega (arith, n, lt)), le)),
   omega (arith, start, offsets-get at (length xs + 1) 0 (omega arith)),

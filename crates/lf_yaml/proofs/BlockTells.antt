@@ -40,7 +40,7 @@ blanks-suffix (c ∷ cs) =
 
 pub entry-suffix : (r : ContentRow) (k : Key) (colon : Cell) (behind : List Cell) → BeginsEntry r k colon behind → (front : List Cell) × (text_of r ≡ front ++ behind)
 entry-suffix r _ _ _ (head.BeginsEntry.bare {front = front} {rest = rest} {colon = colon} p l e) =
-    (front ++ colon ∷ [], split-source head.never _ (text_of r) (front, colon, rest) e ∙ sym (append_assoc front (colon ∷ []) rest))
+    (front ++ colon ∷ [], split-source head.never _ (text_of r) (front, (colon, rest)) e ∙ sym (append_assoc front (colon ∷ []) rest))
 entry-suffix r _ _ _ (head.BeginsEntry.quoted {rest = rest} {colon = colon} kind c e l s b) =
     let k = blanks-suffix c.rest in
     let behind : c.rest ≡ (k.0 ++ colon ∷ []) ++ rest = k.1 ∙ ap (λ (xs : List Cell). k.0 ++ xs) s.0 ∙ sym (append_assoc k.0 (colon ∷ []) rest) in

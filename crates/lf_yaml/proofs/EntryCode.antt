@@ -4,9 +4,10 @@ use Rattle.lf_scalar.specs.Cells.{Cell, cell, cells}
 use Rattle.lf_scalar.specs.Lines.{is_blank}
 use Rattle.lf_scalar.specs.Folding.{trimmed}
 use Rattle.lf_scalar.specs.Plain.{before_blank, begins_plain, is_plain_byte, is_sign}
-use Rattle.lf_yaml.specs.Heads.{Split, key_in, never, Bare}
+use Rattle.lf_scalar.specs.Splits.{Split, split_of}
+use Rattle.lf_yaml.specs.Heads.{key_in, never, Bare}
 use Rattle.lf_yaml.specs.reading.Trees.{bare_head, entry_by}
-use Rattle.lf_yaml.specs.views.Signs.{stops_of, split_at}
+use Rattle.lf_yaml.specs.views.Signs.{stops_of}
 use Rattle.lf_yaml.specs.views.Shown.{shown}
 use Rattle.lf_yaml.specs.declared.row.ContentLine.{ContentLine}
 use Rattle.lf_yaml.proofs.RowCode.{text-shown}
@@ -26,7 +27,7 @@ entry-bare r b o lt e g =
 
 -- the entry that a split makes
 pub head-of-split : (at k len : ℕ) (text : List ℕ) → get_or text k 0 ≡ 58 → trimmed is_blank (cells at (take k text)) ≡ cells at (take len text)
-    → bare_head (Some (split_at at text k)) ≡ Some (Bare (cells at (take len text)), cell 58 (at + k), cells (suc (at + k)) (drop (k + 1) text))
+    → bare_head (Some (split_of at text k)) ≡ Some (Bare (cells at (take len text)), cell 58 (at + k), cells (suc (at + k)) (drop (k + 1) text))
 head-of-split at k len text e t =
     let z : at + (k + 1) ≡ suc (at + k) = omega arith in
     ap (λ (cs : List Cell). Some (Bare cs, cell (get_or text k 0) (at + k), cells (at + (k + 1)) (drop (k + 1) text))) t

@@ -17,12 +17,13 @@ use Rattle.lf_yaml.proofs.Collected.{Pair, entries-push, entries-all, entries-er
 use Rattle.lf_yaml.proofs.Ends.{end-length}
 use Rattle.lf_yaml.proofs.HeadCode.{entry-split}
 use Rattle.lf_yaml.proofs.Placed.{IsPlaced, ArePlaced}
+use Rattle.lf_yaml.proofs.Turns.{Turn, some, over, wrong, over-some, wrong-some, over-wrong, some-wrong, wrong-over, some-over, same-some, same-wrong}
 use Rattle.lf_yaml.proofs.Steps.{at-indent, at-deeper, entries-end}
 
 -- ---- one turn
 
-abbrev Turn : Type 0
-Turn = Result (Option (ContentRow × EntryHead × List ContentRow)) Fault
+abbrev Found : Type 0
+Found = ContentRow × EntryHead × List ContentRow
 
 -- the next entry
 pub record NextEntry (m : ℕ) (rs : List ContentRow) (r : ContentRow) (h : EntryHead) (later : List ContentRow) : Type 0 where
@@ -30,51 +31,7 @@ pub record NextEntry (m : ℕ) (rs : List ContentRow) (r : ContentRow) (h : Entr
   pub column : indent r ≡ m
   pub is : entry_of r ≡ Some h
 
-abbrev some : ContentRow → EntryHead → List ContentRow → Turn
-some r h rs = Ok (Some (r, h, rs))
-
-abbrev over : Turn
-over = Ok None
-
-abbrev wrong : Fault → Turn
-wrong f = Err f
-
-over-some : (r : ContentRow) (h : EntryHead) (rs : List ContentRow) → over ≡ some r h rs → ⊥
-over-some r h rs e = cc
-
-wrong-some : (f : Fault) (r : ContentRow) (h : EntryHead) (rs : List ContentRow) → wrong f ≡ some r h rs → ⊥
-wrong-some f r h rs e = cc
-
-over-wrong : (f : Fault) → over ≡ wrong f → ⊥
-over-wrong f e = cc
-
-some-wrong : (f : Fault) (r : ContentRow) (h : EntryHead) (rs : List ContentRow) → some r h rs ≡ wrong f → ⊥
-some-wrong f r h rs e = cc
-
-wrong-over : (f : Fault) → wrong f ≡ over → ⊥
-wrong-over f e = cc
-
-some-over : (r : ContentRow) (h : EntryHead) (rs : List ContentRow) → some r h rs ≡ over → ⊥
-some-over r h rs e = cc
-
-abbrev Found : Type 0
-Found = ContentRow × EntryHead × List ContentRow
-
-found-in : Found → Turn → Found
-found-in x (Ok (Some y)) = y
-found-in x (Ok None) = x
-found-in x (Err f) = x
-
-same-some : (r s : ContentRow) (h k : EntryHead) (rs ss : List ContentRow) → some r h rs ≡ some s k ss → (r ≡ s) × (h ≡ k) × (rs ≡ ss)
-unfolding found-in
-same-some r s h k rs ss e =
-    let x = ap (found-in (r, h, rs)) e in
-    (ap (λ (x : Found). x.0) x, ap (λ (x : Found). x.1) x, ap (λ (x : Found). x.2) x)
-
-same-wrong : (f g : Fault) → wrong f ≡ wrong g → f ≡ g
-same-wrong f g e = cc
-
-turn-cases : (m : ℕ) (r : ContentRow) (rs : List ContentRow) (P : Turn → Type 0) → (m < indent r → P (Err (indent_fault r))) → (indent r < m → P (Ok None)) → (indent r ≡ m → P (head_here r rs (entry_of r))) → P (entry_turn m (r ∷ rs))
+turn-cases : (m : ℕ) (r : ContentRow) (rs : List ContentRow) (P : Turn Found → Type 0) → (m < indent r → P (Err (indent_fault r))) → (indent r < m → P (Ok None)) → (indent r ≡ m → P (head_here r rs (entry_of r))) → P (entry_turn m (r ∷ rs))
 unfolding entry_turn
 turn-cases m r rs P deeper smaller here = by (ltb m (indent r)) (ltb (indent r) m) refl refl
   where
@@ -85,14 +42,15 @@ turn-cases m r rs P deeper smaller here = by (ltb m (indent r)) (ltb (indent r) 
 
 pub next-entry : (m : ℕ) (rs : List ContentRow) (r : ContentRow) (h : EntryHead) (later : List ContentRow) → entry_turn m rs ≡ Ok (Some (r, h, later)) → NextEntry m rs r h later
 unfolding entry_turn
-next-entry m [] r h later e = absurd (over-some r h later e)
+next-entry m [] r h later e = absurd (over-some (r, h, later) e)
 next-entry m (s ∷ ss) r h later e =
-    turn-cases m s ss (λ t. t ≡ some r h later → NextEntry m (s ∷ ss) r h later) (λ lt e. absurd (wrong-some (indent_fault s) r h later e)) (λ lt e. absurd (over-some r h later e)) (λ same e. here same (entry_of s) refl e) e
+    turn-cases m s ss (λ t. t ≡ some (r, h, later) → NextEntry m (s ∷ ss) r h later) (λ lt e. absurd (wrong-some (indent_fault s) (r, h, later) e)) (λ lt e. absurd (over-some (r, h, later) e)) (λ same e. here same (entry_of s) refl e) e
   where
-    here : indent s ≡ m → (o : Option EntryHead) → entry_of s ≡ o → head_here s ss o ≡ some r h later → NextEntry m (s ∷ ss) r h later
-    here same None q e = absurd (wrong-some (no_entry_fault s) r h later e)
+    here : indent s ≡ m → (o : Option EntryHead) → entry_of s ≡ o → head_here s ss o ≡ some (r, h, later) → NextEntry m (s ∷ ss) r h later
+    here same None q e = absurd (wrong-some (no_entry_fault s) (r, h, later) e)
     here same (Some k) q e =
-        let x = same-some s r k h ss later e in
+        let same-found = same-some (s, k, ss) (r, h, later) e in
+        let x : (s ≡ r) × (k ≡ h) × (ss ≡ later) = (ap (λ (z : Found). z.0) same-found, ap (λ (z : Found). z.1) same-found, ap (λ (z : Found). z.2) same-found) in
         record {
           rows = ap (λ (y : ContentRow). y ∷ ss) x.0 ∙ ap (λ (xs : List ContentRow). r ∷ xs) x.2;
           column = ap indent (sym x.0) ∙ same;
@@ -106,7 +64,7 @@ entries-over m (s ∷ ss) e = turn-cases m s ss (λ t. t ≡ over → Ends false
   where
     here : (o : Option EntryHead) → head_here s ss o ≡ over → ⊥
     here None e = wrong-over (no_entry_fault s) e
-    here (Some k) e = some-over s k ss e
+    here (Some k) e = some-over (s, k, ss) e
 
 abbrev fails : Fault → Read Entries
 fails f = Err f
@@ -126,12 +84,12 @@ entries-wrong value n m keys (s ∷ ss) f e =
     turn-cases m s ss (λ t. t ≡ wrong f → entries value (suc n) m keys (s ∷ ss) ≡ Err f) (λ lt e. at-deeper m s ss no_entries _ lt ∙ to (indent_fault s) e) (λ lt e. absurd (over-wrong f e))
     (λ same e. at-indent m s ss no_entries _ same ∙ here (entry_of s) e) e
   where
-    to : (g : Fault) → wrong g ≡ wrong f → fails g ≡ fails f
+    to : (g : Fault) → ◌≡◌ {A = Turn Found} (wrong g) (wrong f) → fails g ≡ fails f
     to g e = ap fails (same-wrong g f e)
 
     here : (o : Option EntryHead) → head_here s ss o ≡ wrong f → entries_on value (λ ks rows. entries value n m ks rows) keys s ss o ≡ Err f
     here None e = none-on value (λ ks rows. entries value n m ks rows) keys s ss ∙ to (no_entry_fault s) e
-    here (Some k) e = absurd (some-wrong f s k ss e)
+    here (Some k) e = absurd (some-wrong f (s, k, ss) e)
 
 -- ---- one entry, and then what is read behind it
 

@@ -12,28 +12,15 @@ use Rattle.lf_scalar.specs.Cells.{Cell, cell, cells}
 use Rattle.lf_scalar.specs.Lines.{after_blanks}
 use Rattle.lf_scalar.specs.Plain.{before_blank}
 use Rattle.lf_scalar.specs.Quoted.{raw, Closes}
-use Rattle.lf_scalar.specs.reading.Quoted.{Closing, behind, closing_of}
+use Rattle.lf_scalar.specs.reading.Quoted.{closing_of}
+use Rattle.lf_scalar.specs.Splits.{Split, behind_cell}
 use Rattle.lf_scalar.proofs.Closing.{closes-again}
-use Rattle.lf_yaml.specs.Keys.{Split, behind_cell, closed_in, quotes_of, is_too_far, before_offset, has_far_sign, is_far_behind, is_far_between, has_far_key}
+use Rattle.lf_yaml.specs.Keys.{closed_in, quotes_of, is_too_far, before_offset, has_far_sign, is_far_behind, is_far_between, has_far_key}
 use Rattle.lf_yaml.specs.reading.Trees.{sign_if, sign_behind, behind_closing}
 
 -- ---- what closes
 
-abbrev pub as_split : Option Closing → Option Split
-as_split None = None
-as_split (Some x) = Some (x.0, x.1.0, x.1.1)
-
-behind-split : (c : Cell) (o : Option Closing) → behind_cell c (as_split o) ≡ as_split (behind c o)
-behind-split c None = refl
-behind-split c (Some x) = refl
-
-one-more : (c : Cell) (o : Option Split) (p : Option Closing) → o ≡ as_split p → behind_cell c o ≡ as_split (behind c p)
-one-more c o p e = ap (behind_cell c) e ∙ behind-split c p
-
-two-more : (c d : Cell) (o : Option Split) (p : Option Closing) → o ≡ as_split p → behind_cell c (behind_cell d o) ≡ as_split (behind c (behind d p))
-two-more c d o p e = one-more c (behind_cell d o) (behind d p) (one-more d o p e)
-
-pub closed-is : (kind : Quotes) (cs : List Cell) → closed_in kind cs ≡ as_split (closing_of kind 0 cs)
+pub closed-is : (kind : Quotes) (cs : List Cell) → closed_in kind cs ≡ closing_of kind 0 cs
 unfolding closed_in closing_of
 closed-is kind [] = refl
 closed-is Single (c ∷ []) =
@@ -44,10 +31,10 @@ closed-is Single (c ∷ []) =
 closed-is Single (c ∷ d ∷ cs) =
     elim (eqb_tells c.byte 39) [
       | inl a ↦ elim (eqb_tells d.byte 39) [
-        | inl b ↦ rw (a.0, b.0) (two-more c d (closed_in Single cs) (closing_of Single 0 cs) (closed-is Single cs))
+        | inl b ↦ rw (a.0, b.0) (ap (λ (o : Option Split). behind_cell c (behind_cell d o)) (closed-is Single cs))
         | inr b ↦ rw (a.0, b.0) refl
       ]
-      | inr a ↦ rw a.0 (one-more c (closed_in Single (d ∷ cs)) (closing_of Single 0 (d ∷ cs)) (closed-is Single (d ∷ cs)))
+      | inr a ↦ rw a.0 (ap (behind_cell c) (closed-is Single (d ∷ cs)))
     ]
 closed-is Double (c ∷ []) =
     elim (eqb_tells c.byte 34) [
@@ -58,17 +45,17 @@ closed-is Double (c ∷ d ∷ cs) =
     elim (eqb_tells c.byte 34) [
       | inl a ↦ rw a.0 refl
       | inr a ↦ elim (eqb_tells c.byte 92) [
-        | inl b ↦ rw (a.0, b.0) (two-more c d (closed_in Double cs) (closing_of Double 0 cs) (closed-is Double cs))
-        | inr b ↦ rw (a.0, b.0) (one-more c (closed_in Double (d ∷ cs)) (closing_of Double 0 (d ∷ cs)) (closed-is Double (d ∷ cs)))
+        | inl b ↦ rw (a.0, b.0) (ap (λ (o : Option Split). behind_cell c (behind_cell d o)) (closed-is Double cs))
+        | inr b ↦ rw (a.0, b.0) (ap (behind_cell c) (closed-is Double (d ∷ cs)))
       ]
     ]
 
 -- it is what `Closes` says
-pub closes-in : (kind : Quotes) (cs : List Cell) (c : Closes kind cs) → closed_in kind cs ≡ Some (flat_map raw c.raws, c.closing, c.rest)
-closes-in kind cs c = closed-is kind cs ∙ ap as_split (closes-again kind cs c)
+pub closes-in : (kind : Quotes) (cs : List Cell) (c : Closes kind cs) → closed_in kind cs ≡ Some (flat_map raw c.raws, (c.closing, c.rest))
+closes-in kind cs c = closed-is kind cs ∙ closes-again kind cs c
 
 pub none-in : (kind : Quotes) (cs : List Cell) → closed_in kind cs ≡ None → Closes kind cs → ⊥
-none-in kind cs n c = let x : Split = (flat_map raw c.raws, c.closing, c.rest) in none-some x (sym n ∙ closes-in kind cs c)
+none-in kind cs n c = let x : Split = (flat_map raw c.raws, (c.closing, c.rest)) in none-some x (sym n ∙ closes-in kind cs c)
 
 -- ---- the sign behind it
 
@@ -85,7 +72,7 @@ far-sign text (c ∷ cs) =
       | inr a ↦ rw a.0 refl
     ]
 
-far-closing : (text : List Cell) (o : Option Closing) → is_far_behind text (as_split o) ≡ far_apart text (sign_behind (behind_closing o))
+far-closing : (text : List Cell) (o : Option Split) → is_far_behind text o ≡ far_apart text (sign_behind (behind_closing o))
 far-closing text None = refl
 far-closing text (Some x) = far-sign text (after_blanks x.1.1)
 

@@ -17,7 +17,8 @@ use Rattle.lf_scalar.proofs.Parts.{after-blanks-part}
 use Rattle.lf_scalar.proofs.Rising.{Rises, rises-le, rises-back, rises-part, rises-before, rises-behind}
 use Rattle.lf_scalar.proofs.Tails.{true-false}
 use Rattle.lf_yaml.specs.Keys.{is_too_far, before_offset, is_key_left_out}
-use Rattle.lf_yaml.specs.Heads.{Split, behind_cell, key_in, Key, Bare, Between, IsKey, IsSignBehind, OpensQuote}
+use Rattle.lf_scalar.specs.Splits.{Split, behind_cell}
+use Rattle.lf_yaml.specs.Heads.{key_in, Key, Bare, Between, IsKey, IsSignBehind, OpensQuote}
 use Rattle.lf_yaml.specs.Tree.{Tree}
 use Rattle.lf_yaml.specs.Spans.{empty_at}
 use Rattle.lf_yaml.specs.Flow.{Next, at_part, broken, next_on, is_flow_sign, begins_flow, line_on, left_on, FlowScalar, begins_part, part_fault, FlowKey, NoSign, FlowKeyBreaks, EndsValue, FlowValue, FlowValueBreaks}
@@ -45,22 +46,22 @@ key-front c cs x p e = by (is_flow_sign c) (is_blank c && begins_with 35 cs) (ke
     by true b o h = absurd cc
     by false true o h = absurd cc
     by false false None h = absurd cc
-    by false false (Some y) h = (y.0, ap (λ (z : Split). z.0) (sym (same_Some (c ∷ y.0, y.1, y.2) x h)))
+    by false false (Some y) h = (y.0, ap (λ (z : Split). z.0) (sym (same_Some (c ∷ y.0, y.1) x h)))
 
 -- what stands behind a key's sign ends its line
 abbrev joined : Option Split → List Cell
 joined None = []
-joined (Some y) = y.0 ++ y.1 ∷ y.2
+joined (Some y) = y.0 ++ y.1.0 ∷ y.1.1
 
-split-step : (c : Cell) (cs : List Cell) (x : Split) (a b d : Bool) (o : Option Split) → ((y : Split) → o ≡ Some y → cs ≡ y.0 ++ y.1 ∷ y.2) → cond a (Some ([], c, cs)) (cond b None (cond d None (behind_cell c o))) ≡ Some x
-    → c ∷ cs ≡ x.0 ++ x.1 ∷ x.2
+split-step : (c : Cell) (cs : List Cell) (x : Split) (a b d : Bool) (o : Option Split) → ((y : Split) → o ≡ Some y → cs ≡ y.0 ++ y.1.0 ∷ y.1.1) → cond a (Some ([], (c, cs))) (cond b None (cond d None (behind_cell c o))) ≡ Some x
+    → c ∷ cs ≡ x.0 ++ x.1.0 ∷ x.1.1
 split-step c cs x true b d o source h = ap joined h
 split-step c cs x false true d o source h = absurd cc
 split-step c cs x false false true o source h = absurd cc
 split-step c cs x false false false None source h = absurd cc
 split-step c cs x false false false (Some y) source h = ap (λ (xs : List Cell). c ∷ xs) (source y refl) ∙ ap joined h
 
-pub split-source : (stops : Cell → Bool) (ends : List Cell → Bool) (cs : List Cell) (x : Split) → key_in stops ends cs ≡ Some x → cs ≡ x.0 ++ x.1 ∷ x.2
+pub split-source : (stops : Cell → Bool) (ends : List Cell → Bool) (cs : List Cell) (x : Split) → key_in stops ends cs ≡ Some x → cs ≡ x.0 ++ x.1.0 ∷ x.1.1
 unfolding key_in
 split-source stops ends [] x e = absurd cc
 split-source stops ends (c ∷ cs) x e =
@@ -183,11 +184,11 @@ module _ (bytes : List ℕ) where
   plain-told c cs p None e = nosign-told c cs (left_on (line_on bytes c.at)) (flow.NoSign.bare p e) (next_on bytes (left_on (line_on bytes c.at))) refl
   plain-told c cs p (Some x) e =
       let f = key-front c cs x p e in
-      let again : key_in is_flow_sign before_blank (c ∷ cs) ≡ Some (c ∷ f.0, x.1, x.2) = e ∙ ap (λ (front : List Cell). Some (front, x.1, x.2)) f.1 in
+      let again : key_in is_flow_sign before_blank (c ∷ cs) ≡ Some (c ∷ f.0, (x.1.0, x.1.1)) = e ∙ ap (λ (front : List Cell). Some (front, x.1)) f.1 in
       rw f.1 (by f.0 again (is_key_left_out (c ∷ f.0)) refl)
     where
-      by : (front : List Cell) → key_in is_flow_sign before_blank (c ∷ cs) ≡ Some (c ∷ front, x.1, x.2) → (b : Bool) → is_key_left_out (c ∷ front) ≡ b
-          → FlowKeyTold c cs (cond b (Err (character_fault LeftOut c)) (Ok (bare_key c (trimmed is_blank (c ∷ front)), x.1)))
+      by : (front : List Cell) → key_in is_flow_sign before_blank (c ∷ cs) ≡ Some (c ∷ front, (x.1.0, x.1.1)) → (b : Bool) → is_key_left_out (c ∷ front) ≡ b
+          → FlowKeyTold c cs (cond b (Err (character_fault LeftOut c)) (Ok (bare_key c (trimmed is_blank (c ∷ front)), x.1.0)))
       by front again true n = flow.FlowKeyBreaks.key_left_out p again n
       by front again false n = (Bare (trimmed is_blank (c ∷ front)), flow.FlowKey.bare p again n, refl)
 
@@ -270,7 +271,7 @@ key-within hi c cs _ _ (flow.FlowKey.quoted {rest = rest} {colon = colon} kind b
     let low = sign.0 in
     (omega (arith, low), rises-le (suc colon.at) rest hi sign.1)
 key-within hi c cs _ _ (flow.FlowKey.bare {front = front} {rest = rest} {colon = colon} p e n) r =
-    let s : Rises c.at ((c ∷ front) ++ colon ∷ rest) hi = subst (λ (xs : List Cell). Rises c.at xs hi) (split-source is_flow_sign before_blank (c ∷ cs) (c ∷ front, colon, rest) e) r in
+    let s : Rises c.at ((c ∷ front) ++ colon ∷ rest) hi = subst (λ (xs : List Cell). Rises c.at xs hi) (split-source is_flow_sign before_blank (c ∷ cs) (c ∷ front, (colon, rest)) e) r in
     (rises-le c.at (c ∷ front) colon.at (rises-before c.at (c ∷ front) colon rest hi s), rises-le (suc colon.at) rest hi (rises-behind c.at (c ∷ front) colon rest hi s))
 
 pub key-begins : (c : Cell) (cs : List Cell) (k : Key) (colon : Cell) → FlowKey c cs k colon → begins_part c cs ≡ true

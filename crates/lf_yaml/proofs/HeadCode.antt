@@ -31,7 +31,7 @@ use Rattle.lf_yaml.proofs.FlowKeys.{split-source}
 -- ---- an entry's row is what stands before its `:`, this sign, and what stands behind it
 
 pub entry-source : (r : ContentRow) (k : Key) (colon : Cell) (behind : List Cell) → BeginsEntry r k colon behind → (front : List Cell) × (text_of r ≡ front ++ colon ∷ behind)
-entry-source r _ _ _ (head.BeginsEntry.bare {front = front} {rest = rest} {colon = colon} p l e) = (front, split-source head.never _ (text_of r) (front, colon, rest) e)
+entry-source r _ _ _ (head.BeginsEntry.bare {front = front} {rest = rest} {colon = colon} p l e) = (front, split-source head.never _ (text_of r) (front, (colon, rest)) e)
 entry-source r _ _ _ (head.BeginsEntry.quoted {rest = rest} {colon = colon} kind c e l s b) =
     let k = blanks-suffix c.rest in
     let raws = flat_map raw c.raws in

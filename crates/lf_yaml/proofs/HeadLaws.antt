@@ -17,12 +17,13 @@ use Rattle.lf_scalar.specs.Lines.{is_blank, after_blanks}
 use Rattle.lf_scalar.specs.Folding.{trimmed}
 use Rattle.lf_scalar.specs.Plain.{before_blank, begins_plain}
 use Rattle.lf_scalar.specs.Quoted.{quote_of, raw, Closes}
-use Rattle.lf_scalar.specs.reading.Quoted.{Closing, closing_of, quoted_of}
+use Rattle.lf_scalar.specs.reading.Quoted.{closing_of, quoted_of}
+use Rattle.lf_scalar.specs.Splits.{Split}
 use Rattle.lf_scalar.proofs.Closing.{closes-again, closes-or-none}
 use Rattle.lf_scalar.proofs.QuotedWhole as whole
 use Rattle.lf_scalar.proofs.Tails.{true-false}
 use Rattle.lf_yaml.specs.Rows.{ContentRow, text_of, is_left_out}
-use Rattle.lf_yaml.specs.Heads.{is_item, Split, key_in, never, Key, Bare, Between, up_to, IsBetween, BetweenBreaks, IsKey, KeyBreaks, IsSignBehind, BeginsEntry, bare, quoted, NoEntry, BeginsBlock, BeginsNoBlock, OpensQuote}
+use Rattle.lf_yaml.specs.Heads.{is_item, key_in, never, Key, Bare, Between, up_to, IsBetween, BetweenBreaks, IsKey, KeyBreaks, IsSignBehind, BeginsEntry, bare, quoted, NoEntry, BeginsBlock, BeginsNoBlock, OpensQuote}
 use Rattle.lf_yaml.specs.reading.Trees.{quotes_of, EntryHead, sign_if, sign_behind, quoted_sign, quoted_head, bare_head, entry_by, entry_of, between_of, key_of, opens_by, opens_quote, has, begins_block}
 
 -- ---- quotes
@@ -73,7 +74,7 @@ plain-quotes c cs h = not-quote (λ b. begins_plain (cell b c.at ∷ cs)) c refl
 abbrev pub BetweenView : Quotes → List Cell → Type 0
 BetweenView kind cs = ((between : Closes kind cs) × (closing_of kind 0 cs ≡ Some (flat_map raw between.raws, (between.closing, between.rest)))) ⊎ ((closing_of kind 0 cs ≡ None) × (Closes kind cs → ⊥))
 
-abbrev pub found : {kind : Quotes} {cs : List Cell} → Closes kind cs → Closing
+abbrev pub found : {kind : Quotes} {cs : List Cell} → Closes kind cs → Split
 found between = (flat_map raw between.raws, (between.closing, between.rest))
 
 pub between-view : (kind : Quotes) (cs : List Cell) → BetweenView kind cs
@@ -167,7 +168,7 @@ bare-view r q l =
   where
     by : begins_plain (text_of r) ≡ true → (o : Option Split) → key_in never before_blank (text_of r) ≡ o → EntryView r
     by p None e = missing r (kept r l ∙ ap (entry_by r) q ∙ rw p (ap bare_head e))
-    by p (Some x) e = there r (Bare (trimmed is_blank x.0)) x.1 x.2 (bare p l e)
+    by p (Some x) e = there r (Bare (trimmed is_blank x.0)) x.1.0 x.1.1 (bare p l e)
 
 quoted-view : (r : ContentRow) (kind : Quotes) → r.first.byte ≡ quote_of kind → is_left_out r ≡ false → EntryView r
 quoted-view r kind q l =

@@ -132,7 +132,7 @@ key-cell bytes c cs _ _ (flow.FlowKey.quoted {rest = rest} {colon = colon} kind 
     let cut : AreIn bytes (colon ∷ rest) = subst (AreIn bytes) s.0 sign in
     (cut.0, s.1)
 key-cell bytes c cs _ _ (flow.FlowKey.bare {front = front} {rest = rest} {colon = colon} p e n) are =
-    ((all_back (InFile bytes) (c ∷ front) (colon ∷ rest) (subst (AreIn bytes) (split-source is_flow_sign before_blank (c ∷ cs) (c ∷ front, colon, rest) e) are)).0, split_sign is_flow_sign before_blank (c ∷ cs) (c ∷ front, colon, rest) e)
+    ((all_back (InFile bytes) (c ∷ front) (colon ∷ rest) (subst (AreIn bytes) (split-source is_flow_sign before_blank (c ∷ cs) (c ∷ front, (colon, rest)) e) are)).0, split_sign is_flow_sign before_blank (c ∷ cs) (c ∷ front, (colon, rest)) e)
 
 -- so is the quote that closes
 closing-cell : (bytes : List ℕ) (kind : Quotes) (c : Cell) (cs : List Cell) (between : Closes kind cs) → AreIn bytes (c ∷ cs) → InFile bytes between.closing

@@ -13,6 +13,7 @@ use Rattle.lf_scalar.specs.Lines.{Line, is_blank, begins_with, after_blanks}
 use Rattle.lf_scalar.specs.Scalars.{source_at}
 use Rattle.lf_scalar.specs.Folding.{trimmed}
 use Rattle.lf_scalar.specs.Offsets.{AreOffsets}
+use Rattle.lf_scalar.specs.Splits.{Split, behind_cell}
 use Rattle.lf_scalar.specs.Plain.{before_blank, is_null, value_of}
 use Rattle.lf_scalar.specs.declared.quotes.Quotes.{Quotes}
 use Rattle.lf_scalar.specs.Quoted.{quote_of, raw, Closes, BreaksQuoted}
@@ -26,7 +27,7 @@ use Rattle.lf_scalar.proofs.BlockTexts.{Mounts}
 use Rattle.lf_scalar.proofs.Utf8Lines.{utf8-nil, utf8-append, utf8-low}
 use Rattle.lf_scalar.proofs.Within.{quoted_lies}
 use Rattle.lf_yaml.specs.Rows.{ContentRow, text_of}
-use Rattle.lf_yaml.specs.Heads.{key_in, Split, behind_cell, Key, Bare, Between, up_to, IsBetween, BetweenBreaks, IsKey, IsSignBehind, BeginsEntry}
+use Rattle.lf_yaml.specs.Heads.{key_in, Key, Bare, Between, up_to, IsBetween, BetweenBreaks, IsKey, IsSignBehind, BeginsEntry}
 use Rattle.lf_yaml.specs.Heads as heads
 use Rattle.lf_yaml.specs.Flow.{line_on, lines_below, is_flow_sign, is_bracket, is_flow_property, line_text, line_left, colon_in, part_fault, sign_fault, FlowScalar, PlainBreaks, FlowScalarBreaks, FlowKey}
 use Rattle.lf_yaml.specs.Flow as flow
@@ -44,7 +45,7 @@ ScalarFrom n at v = ScalarInside n v × (v.span.start ≡ at)
 
 in_order : (text from : List ℕ) (place : Span) → AreOffsets text from place → place.start ≤ place.end
 in_order text from place h =
-    let up = h.1 0 (length text) (omega arith) (omega (arith, h.0)) in
+    let up = h.1 0 (length text) 0 (omega arith) (omega (arith, h.0)) in
     omega (arith, h.2, h.3, up)
 
 pub placed_from : (n at hi : ℕ) (v : Value) → IsPlaced v at hi → hi ≤ n → ScalarFrom n at v
@@ -196,22 +197,22 @@ flow_scalar_lies bytes c cs f utf8 (flow.FlowScalarBreaks.plain_lines p b) h is 
 
 abbrev sign_of : Option Split → Cell
 sign_of None = cell 0 0
-sign_of (Some x) = x.1
+sign_of (Some x) = x.1.0
 
-sign_step : (c : Cell) (cs : List Cell) (x : Split) (a z b d : Bool) (o : Option Split) → eqb c.byte 58 ≡ a → ((y : Split) → o ≡ Some y → y.1.byte ≡ 58)
-    → cond (a && z) (Some ([], c, cs)) (cond b None (cond d None (behind_cell c o))) ≡ Some x → x.1.byte ≡ 58
-sign_step c cs x true true b d o a more h = let same : c ≡ x.1 = ap sign_of h in subst (λ (y : Cell). y.byte ≡ 58) same (eqb-true c.byte 58 a)
+sign_step : (c : Cell) (cs : List Cell) (x : Split) (a z b d : Bool) (o : Option Split) → eqb c.byte 58 ≡ a → ((y : Split) → o ≡ Some y → y.1.0.byte ≡ 58)
+    → cond (a && z) (Some ([], (c, cs))) (cond b None (cond d None (behind_cell c o))) ≡ Some x → x.1.0.byte ≡ 58
+sign_step c cs x true true b d o a more h = let same : c ≡ x.1.0 = ap sign_of h in subst (λ (y : Cell). y.byte ≡ 58) same (eqb-true c.byte 58 a)
 sign_step c cs x true false true d o a more h = absurd cc
 sign_step c cs x true false false true o a more h = absurd cc
 sign_step c cs x true false false false None a more h = absurd cc
-sign_step c cs x true false false false (Some y) a more h = let same : y.1 ≡ x.1 = ap sign_of h in subst (λ (z : Cell). z.byte ≡ 58) same (more y refl)
+sign_step c cs x true false false false (Some y) a more h = let same : y.1.0 ≡ x.1.0 = ap sign_of h in subst (λ (z : Cell). z.byte ≡ 58) same (more y refl)
 sign_step c cs x false z true d o a more h = absurd cc
 sign_step c cs x false z false true o a more h = absurd cc
 sign_step c cs x false z false false None a more h = absurd cc
-sign_step c cs x false z false false (Some y) a more h = let same : y.1 ≡ x.1 = ap sign_of h in subst (λ (z : Cell). z.byte ≡ 58) same (more y refl)
+sign_step c cs x false z false false (Some y) a more h = let same : y.1.0 ≡ x.1.0 = ap sign_of h in subst (λ (z : Cell). z.byte ≡ 58) same (more y refl)
 
 -- the sign of a key is a `:`
-pub split_sign : (stops : Cell → Bool) (ends : List Cell → Bool) (cs : List Cell) (x : Split) → key_in stops ends cs ≡ Some x → x.1.byte ≡ 58
+pub split_sign : (stops : Cell → Bool) (ends : List Cell → Bool) (cs : List Cell) (x : Split) → key_in stops ends cs ≡ Some x → x.1.0.byte ≡ 58
 unfolding key_in
 split_sign stops ends [] x e = absurd cc
 split_sign stops ends (c ∷ cs) x e =
@@ -254,7 +255,7 @@ quoted_in n kind c cs between colon rest s h =
 
 pub entry_key_in : (n : ℕ) (r : ContentRow) (k : Key) (colon : Cell) (rest : List Cell) → BeginsEntry r k colon rest → LeftIn n r.first.at (text_of r) → SignedIn n r.first.at k colon rest
 entry_key_in n r _ colon rest (heads.BeginsEntry.bare {front = front} p l e) h =
-    bare_in n r.first r.rest front rest colon (split-source heads.never before_blank (text_of r) (front, colon, rest) e) (split_sign heads.never before_blank (text_of r) (front, colon, rest) e) h
+    bare_in n r.first r.rest front rest colon (split-source heads.never before_blank (text_of r) (front, (colon, rest)) e) (split_sign heads.never before_blank (text_of r) (front, (colon, rest)) e) h
 entry_key_in n r _ colon rest (heads.BeginsEntry.quoted kind between q l s b) h = quoted_in n kind r.first r.rest between colon rest s h
 
 -- what the key is
@@ -266,6 +267,6 @@ key_from n c cs (Between kind) colon rest v s r (between, b) = between_from n ki
 pub flow_key_from : (n : ℕ) (c : Cell) (cs : List Cell) (k : Key) (colon : Cell) (v : Value) → FlowKey c cs k colon → Rises c.at (c ∷ cs) n → IsKey c cs k v → ScalarFrom n c.at v
 flow_key_from n c cs _ colon v (flow.FlowKey.quoted kind between q s near) r (other, b) = between_from n kind c cs other r v b
 flow_key_from n c cs _ colon v (flow.FlowKey.bare {front = front} {rest = rest} p e nn) r h =
-    let whole : Rises c.at ((c ∷ front) ++ colon ∷ rest) n = subst (λ (xs : List Cell). Rises c.at xs n) (split-source is_flow_sign before_blank (c ∷ cs) (c ∷ front, colon, rest) e) r in
+    let whole : Rises c.at ((c ∷ front) ++ colon ∷ rest) n = subst (λ (xs : List Cell). Rises c.at xs n) (split-source is_flow_sign before_blank (c ∷ cs) (c ∷ front, (colon, rest)) e) r in
     let text : Rises c.at (trimmed is_blank (c ∷ front)) n = front_rises c.at n (c ∷ front) (trimmed is_blank (c ∷ front)) (trimmed-front (c ∷ front)) (rises-front c.at (c ∷ front) (colon ∷ rest) n whole) in
     made_from n c.at (trimmed is_blank (c ∷ front)) text v (trimmed is_blank (c ∷ front)) (cells_mount n c.at (trimmed is_blank (c ∷ front)) text) h

@@ -1,5 +1,5 @@
 -- Runs of items, as a loop reads them.
-use Rattle.std.proofs.Common.{◌≡◌, ℕ, zero, suc, ◌<◌, ◌≤◌, Bool, true, false, ltb, cond, List, [], ◌∷◌, ◌++◌, length, Option, Some, None, Result, Ok, Err, refl, ap, arith, sym, ◌∙◌, subst, inl, inr}
+use Rattle.std.proofs.Common.{◌≡◌, ℕ, zero, suc, ◌<◌, ◌≤◌, Bool, true, false, ltb, cond, List, [], ◌∷◌, ◌++◌, length, Some, None, Ok, Err, refl, ap, arith, sym, ◌∙◌, subst, inl, inr}
 use Rattle.std.proofs.lemmas.Bool.{ltb-true, ltb-false}
 use Rattle.lf_base.specs.declared.refusal.Refusal.{Refusal}
 use Rattle.lf_base.specs.declared.refusal.Refusal.TheVariants as refusal_of
@@ -19,6 +19,7 @@ use Rattle.lf_yaml.specs.reading.FlowTurns.{after_items}
 use Rattle.lf_yaml.proofs.Collected.{items-push, items-all, items-err}
 use Rattle.lf_yaml.proofs.Ends.{end-length}
 use Rattle.lf_yaml.proofs.Placed.{IsPlaced, ArePlaced, file-placed}
+use Rattle.lf_yaml.proofs.Turns.{Turn, some, over, wrong, over-some, wrong-some, over-wrong, some-wrong, wrong-over, some-over, same-some, same-wrong}
 use Rattle.lf_yaml.proofs.Steps.{at-indent, at-deeper, items-end}
 
 pub rows-placed : (bytes : List ℕ) (at : ℕ) → ArePlaced bytes (rows_after bytes at)
@@ -27,8 +28,8 @@ rows-placed bytes at = file-placed bytes at
 
 -- ---- one turn
 
-abbrev Turn : Type 0
-Turn = Result (Option (ContentRow × List ContentRow)) Fault
+abbrev Found : Type 0
+Found = ContentRow × List ContentRow
 
 -- the next item
 pub record NextItem (m : ℕ) (rs : List ContentRow) (r : ContentRow) (later : List ContentRow) : Type 0 where
@@ -37,7 +38,7 @@ pub record NextItem (m : ℕ) (rs : List ContentRow) (r : ContentRow) (later : L
   pub is : is_item r ≡ true
 
 -- what a row at m is told of, by its tests
-turn-cases : (own : Bool) (m : ℕ) (r : ContentRow) (rs : List ContentRow) (P : Turn → Type 0) → (m < indent r → P (Err (indent_fault r))) → (indent r < m → P (Ok None)) → (indent r ≡ m → is_item r ≡ true → P (Ok (Some (r, rs))))
+turn-cases : (own : Bool) (m : ℕ) (r : ContentRow) (rs : List ContentRow) (P : Turn Found → Type 0) → (m < indent r → P (Err (indent_fault r))) → (indent r < m → P (Ok None)) → (indent r ≡ m → is_item r ≡ true → P (Ok (Some (r, rs))))
     → (indent r ≡ m → is_item r ≡ false → P (cond own (Ok None) (Err (row_fault r)))) → P (item_turn own m (r ∷ rs))
 unfolding item_turn
 turn-cases own m r rs P deeper smaller here none = by (ltb m (indent r)) (ltb (indent r) m) (is_item r) refl refl refl
@@ -48,88 +49,45 @@ turn-cases own m r rs P deeper smaller here none = by (ltb m (indent r)) (ltb (i
     by false false true p q s = here (omega (arith, ltb-false m (indent r) p, ltb-false (indent r) m q)) s
     by false false false p q s = none (omega (arith, ltb-false m (indent r) p, ltb-false (indent r) m q)) s
 
-abbrev some : ContentRow → List ContentRow → Turn
-some r rs = Ok (Some (r, rs))
-
-abbrev over : Turn
-over = Ok None
-
-abbrev wrong : Fault → Turn
-wrong f = Err f
-
-over-some : (r : ContentRow) (rs : List ContentRow) → over ≡ some r rs → ⊥
-over-some r rs e = cc
-
-wrong-some : (f : Fault) (r : ContentRow) (rs : List ContentRow) → wrong f ≡ some r rs → ⊥
-wrong-some f r rs e = cc
-
-over-wrong : (f : Fault) → over ≡ wrong f → ⊥
-over-wrong f e = cc
-
-some-wrong : (f : Fault) (r : ContentRow) (rs : List ContentRow) → some r rs ≡ wrong f → ⊥
-some-wrong f r rs e = cc
-
-wrong-over : (f : Fault) → wrong f ≡ over → ⊥
-wrong-over f e = cc
-
-some-over : (r : ContentRow) (rs : List ContentRow) → some r rs ≡ over → ⊥
-some-over r rs e = cc
-
-row-in : ContentRow → Turn → ContentRow
-row-in r (Ok (Some x)) = x.0
-row-in r (Ok None) = r
-row-in r (Err f) = r
-
-rows-in : List ContentRow → Turn → List ContentRow
-rows-in rs (Ok (Some x)) = x.1
-rows-in rs (Ok None) = rs
-rows-in rs (Err f) = rs
-
-same-some : (r s : ContentRow) (rs ss : List ContentRow) → some r rs ≡ some s ss → (r ≡ s) × (rs ≡ ss)
-unfolding row-in rows-in
-same-some r s rs ss e = (ap (row-in r) e, ap (rows-in rs) e)
-
-same-wrong : (f g : Fault) → wrong f ≡ wrong g → f ≡ g
-same-wrong f g e = cc
-
-choose : (P : Turn → Type 0) (own : Bool) (f : Fault) → P over → P (wrong f) → P (cond own over (wrong f))
+choose : (P : Turn Found → Type 0) (own : Bool) (f : Fault) → P over → P (wrong f) → P (cond own over (wrong f))
 choose P true f h k = h
 choose P false f h k = k
 
 pub next-item : (own : Bool) (m : ℕ) (rs : List ContentRow) (r : ContentRow) (later : List ContentRow) → item_turn own m rs ≡ Ok (Some (r, later)) → NextItem m rs r later
 unfolding item_turn
-next-item own m [] r later e = absurd (over-some r later e)
-next-item own m (s ∷ ss) r later e = turn-cases own m s ss (λ t. t ≡ some r later → NextItem m (s ∷ ss) r later) deeper smaller here none e
+next-item own m [] r later e = absurd (over-some (r, later) e)
+next-item own m (s ∷ ss) r later e = turn-cases own m s ss (λ t. t ≡ some (r, later) → NextItem m (s ∷ ss) r later) deeper smaller here none e
   where
-    deeper : m < indent s → wrong (indent_fault s) ≡ some r later → NextItem m (s ∷ ss) r later
-    deeper lt e = absurd (wrong-some (indent_fault s) r later e)
+    deeper : m < indent s → ◌≡◌ {A = Turn Found} (wrong (indent_fault s)) (some (r, later)) → NextItem m (s ∷ ss) r later
+    deeper lt e = absurd (wrong-some (indent_fault s) (r, later) e)
 
-    smaller : indent s < m → over ≡ some r later → NextItem m (s ∷ ss) r later
-    smaller lt e = absurd (over-some r later e)
+    smaller : indent s < m → ◌≡◌ {A = Turn Found} over (some (r, later)) → NextItem m (s ∷ ss) r later
+    smaller lt e = absurd (over-some (r, later) e)
 
-    here : indent s ≡ m → is_item s ≡ true → some s ss ≡ some r later → NextItem m (s ∷ ss) r later
+    here : indent s ≡ m → is_item s ≡ true → ◌≡◌ {A = Turn Found} (some (s, ss)) (some (r, later)) → NextItem m (s ∷ ss) r later
     here same i e =
-        let h = same-some s r ss later e in
+        let same-found = same-some (s, ss) (r, later) e in
+        let h : (s ≡ r) × (ss ≡ later) = (ap (λ (z : Found). z.0) same-found, ap (λ (z : Found). z.1) same-found) in
         record {
           rows = ap (λ (x : ContentRow). x ∷ ss) h.0 ∙ ap (λ (xs : List ContentRow). r ∷ xs) h.1;
           column = ap indent (sym h.0) ∙ same;
           is = ap is_item (sym h.0) ∙ i;
         }
 
-    none : indent s ≡ m → is_item s ≡ false → cond own over (wrong (row_fault s)) ≡ some r later → NextItem m (s ∷ ss) r later
-    none same i e = absurd (choose (λ t. t ≡ some r later → ⊥) own (row_fault s) (over-some r later) (wrong-some (row_fault s) r later) e)
+    none : indent s ≡ m → is_item s ≡ false → ◌≡◌ {A = Turn Found} (cond own over (wrong (row_fault s))) (some (r, later)) → NextItem m (s ∷ ss) r later
+    none same i e = absurd (choose (λ t. t ≡ some (r, later) → ⊥) own (row_fault s) (over-some (r, later)) (wrong-some (row_fault s) (r, later)) e)
 
 pub items-over : (own : Bool) (m : ℕ) (rs : List ContentRow) → item_turn own m rs ≡ Ok None → Ends own m rs
 unfolding item_turn
 items-over true m [] e = tt
 items-over false m [] e = tt
-items-over own m (s ∷ ss) e = turn-cases own m s ss (λ t. t ≡ over → Ends own m (s ∷ ss)) (λ lt e. absurd (wrong-over (indent_fault s) e)) (λ lt e. smaller own lt) (λ same i e. absurd (some-over s ss e)) (λ same i e. stops own same i e) e
+items-over own m (s ∷ ss) e = turn-cases own m s ss (λ t. t ≡ over → Ends own m (s ∷ ss)) (λ lt e. absurd (wrong-over (indent_fault s) e)) (λ lt e. smaller own lt) (λ same i e. absurd (some-over (s, ss) e)) (λ same i e. stops own same i e) e
   where
     smaller : (own : Bool) → indent s < m → Ends own m (s ∷ ss)
     smaller true lt = inl lt
     smaller false lt = lt
 
-    stops : (own : Bool) → indent s ≡ m → is_item s ≡ false → cond own over (wrong (row_fault s)) ≡ over → Ends own m (s ∷ ss)
+    stops : (own : Bool) → indent s ≡ m → is_item s ≡ false → ◌≡◌ {A = Turn Found} (cond own over (wrong (row_fault s))) over → Ends own m (s ∷ ss)
     stops true same i e = inr (same, i)
     stops false same i e = absurd (wrong-over (row_fault s) e)
 
@@ -139,15 +97,15 @@ fails f = Err f
 pub items-wrong : (node : Reader) (n : ℕ) (own : Bool) (m : ℕ) (rs : List ContentRow) (f : Fault) → item_turn own m rs ≡ Err f → items node (suc n) own m rs ≡ Err f
 unfolding item_turn items
 items-wrong node n own m [] f e = absurd (over-wrong f e)
-items-wrong node n own m (s ∷ ss) f e = turn-cases own m s ss (λ t. t ≡ wrong f → items node (suc n) own m (s ∷ ss) ≡ Err f) deeper (λ lt e. absurd (over-wrong f e)) (λ same i e. absurd (some-wrong f s ss e)) (λ same i e. at-indent m s ss no_items _ same ∙ rw i (no-item own e)) e
+items-wrong node n own m (s ∷ ss) f e = turn-cases own m s ss (λ t. t ≡ wrong f → items node (suc n) own m (s ∷ ss) ≡ Err f) deeper (λ lt e. absurd (over-wrong f e)) (λ same i e. absurd (some-wrong f (s, ss) e)) (λ same i e. at-indent m s ss no_items _ same ∙ rw i (no-item own e)) e
   where
-    to : (g : Fault) → wrong g ≡ wrong f → fails g ≡ fails f
+    to : (g : Fault) → ◌≡◌ {A = Turn Found} (wrong g) (wrong f) → fails g ≡ fails f
     to g e = ap fails (same-wrong g f e)
 
-    deeper : m < indent s → wrong (indent_fault s) ≡ wrong f → items node (suc n) own m (s ∷ ss) ≡ Err f
+    deeper : m < indent s → ◌≡◌ {A = Turn Found} (wrong (indent_fault s)) (wrong f) → items node (suc n) own m (s ∷ ss) ≡ Err f
     deeper lt e = at-deeper m s ss no_items _ lt ∙ to (indent_fault s) e
 
-    no-item : (own : Bool) → cond own over (wrong (row_fault s)) ≡ wrong f → (let x : Read Items = cond own (Ok (no_items, s ∷ ss)) (Err (row_fault s)) in x) ≡ Err f
+    no-item : (own : Bool) → ◌≡◌ {A = Turn Found} (cond own over (wrong (row_fault s))) (wrong f) → (let x : Read Items = cond own (Ok (no_items, s ∷ ss)) (Err (row_fault s)) in x) ≡ Err f
     no-item true e = absurd (over-wrong f e)
     no-item false e = to (row_fault s) e
 

@@ -9,10 +9,11 @@ use Rattle.lf_scalar.specs.Lines.{is_blank, after_blanks}
 use Rattle.lf_scalar.specs.Folding.{trimmed}
 use Rattle.lf_scalar.specs.declared.quotes.Quotes.{Quotes}
 use Rattle.lf_scalar.specs.reading.Quoted.{closing_of}
-use Rattle.lf_yaml.specs.Heads.{Split, key_in}
+use Rattle.lf_scalar.specs.Splits.{Split, split_of}
+use Rattle.lf_yaml.specs.Heads.{key_in}
 use Rattle.lf_yaml.specs.Keys.{is_key_left_out}
 use Rattle.lf_yaml.specs.Flow.{line_on, left_on, next_on, begins_flow, is_flow_sign}
-use Rattle.lf_yaml.specs.views.Signs.{stops_of, split_at}
+use Rattle.lf_yaml.specs.views.Signs.{stops_of}
 use Rattle.lf_yaml.specs.reading.Trees.{FlowPart, after_closing, with_after, quoted_part, between_of, behind_closing, sign_if, sign_behind, Signed, signed, signed_behind, far_sign, no_sign, plain_key, bare_key, flow_key_by}
 
 -- ---- between quotes
@@ -90,13 +91,13 @@ module _ (bytes : List ℕ) (c : Cell) (cs : List Cell) (at : ℕ) (text : List 
   bare-by : (o : Option Split) → o ≡ key_in (stops_of true) before_blank (cells at text) → flow_key_by bytes c cs None ≡ plain_key bytes c cs o
   bare-by o e = rw begins (ap (plain_key bytes c cs) (ap (λ (xs : List Cell). key_in is_flow_sign before_blank xs) is ∙ sym e))
 
-  pub bare-left-out : (k : ℕ) → Some (split_at at text k) ≡ key_in (stops_of true) before_blank (cells at text) → is_key_left_out (cells at (take k text)) ≡ true → flow_key_by bytes c cs None ≡ Err (character_fault LeftOut c)
-  bare-left-out k e n = bare-by (Some (split_at at text k)) e ∙ rw n refl
+  pub bare-left-out : (k : ℕ) → Some (split_of at text k) ≡ key_in (stops_of true) before_blank (cells at text) → is_key_left_out (cells at (take k text)) ≡ true → flow_key_by bytes c cs None ≡ Err (character_fault LeftOut c)
+  bare-left-out k e n = bare-by (Some (split_of at text k)) e ∙ rw n refl
 
-  pub bare-found : (k : ℕ) → Some (split_at at text k) ≡ key_in (stops_of true) before_blank (cells at text) → is_key_left_out (cells at (take k text)) ≡ false → get_or text k 0 ≡ 58
+  pub bare-found : (k : ℕ) → Some (split_of at text k) ≡ key_in (stops_of true) before_blank (cells at text) → is_key_left_out (cells at (take k text)) ≡ false → get_or text k 0 ≡ 58
       → flow_key_by bytes c cs None ≡ Ok (bare_key c (trimmed is_blank (cells at (take k text))), cell 58 (at + k))
   bare-found k e n sign =
-      bare-by (Some (split_at at text k)) e
+      bare-by (Some (split_of at text k)) e
       ∙ rw n (ap (λ (b : ℕ). let x : Signed = (bare_key c (trimmed is_blank (cells at (take k text))), cell b (at + k)) in Ok x) sign)
 
   pub bare-missing : None ≡ key_in (stops_of true) before_blank (cells at text) → flow_key_by bytes c cs None ≡ no_sign (next_on bytes (left_on (line_on bytes c.at)))

@@ -5,8 +5,9 @@ use Rattle.std.proofs.lemmas.Bool.{cases_Bool}
 use Rattle.lf_scalar.specs.Cells.{Cell, cell, cells}
 use Rattle.lf_scalar.specs.Plain.{before_blank, begins_plain}
 use Rattle.lf_scalar.proofs.Cells.{cells-drop}
-use Rattle.lf_yaml.specs.Keys.{Split, key_in, never, begins_character, characters, is_key_left_out, has_bare_left_out}
-use Rattle.lf_yaml.specs.views.Signs.{stops_of, split_at}
+use Rattle.lf_scalar.specs.Splits.{Split, split_of}
+use Rattle.lf_yaml.specs.Keys.{key_in, never, begins_character, characters, is_key_left_out, has_bare_left_out}
+use Rattle.lf_yaml.specs.views.Signs.{stops_of}
 
 -- ---- how many characters
 
@@ -44,9 +45,9 @@ tested : (cs : List Cell) (o : Option Split) → begins_plain cs ≡ true → o 
 tested cs None p e = rw (p, ← e) refl
 tested cs (Some x) p e = rw (p, ← e) refl
 
-pub key-found : (at k : ℕ) (front whole : List ℕ) → Some (split_at at whole k) ≡ key_in (stops_of false) before_blank (cells at whole) → front ≡ take k whole → begins_plain (cells at whole) ≡ true
+pub key-found : (at k : ℕ) (front whole : List ℕ) → Some (split_of at whole k) ≡ key_in (stops_of false) before_blank (cells at whole) → front ≡ take k whole → begins_plain (cells at whole) ≡ true
     → (result : Bool) → result ≡ is_key_left_out (cells at front) → result ≡ has_bare_left_out (cells at whole)
-key-found at k front whole e f p result r = r ∙ ap (λ (xs : List ℕ). is_key_left_out (cells at xs)) f ∙ sym (tested (cells at whole) (Some (split_at at whole k)) p e)
+key-found at k front whole e f p result r = r ∙ ap (λ (xs : List ℕ). is_key_left_out (cells at xs)) f ∙ sym (tested (cells at whole) (Some (split_of at whole k)) p e)
 
 pub key-missing : (at : ℕ) (whole : List ℕ) → None ≡ key_in (stops_of false) before_blank (cells at whole) → begins_plain (cells at whole) ≡ true → false ≡ has_bare_left_out (cells at whole)
 key-missing at whole e p = sym (tested (cells at whole) None p e)

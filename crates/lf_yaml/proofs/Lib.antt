@@ -28,6 +28,7 @@ pub mod FlowCode
 pub mod ColonScan
 pub mod HeadCode
 pub mod Collected
+pub mod Turns
 pub mod ItemRuns
 pub mod EntryRuns
 pub mod BlockCode

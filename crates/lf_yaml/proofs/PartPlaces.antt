@@ -11,7 +11,8 @@ use Rattle.lf_scalar.specs.Offsets.{AreOffsets}
 use Rattle.lf_scalar.specs.Scalars.{source_at}
 use Rattle.lf_scalar.specs.declared.quotes.Quotes.{Quotes}
 use Rattle.lf_scalar.specs.Quoted.{quote_of}
-use Rattle.lf_scalar.specs.reading.Quoted.{Closing, closing_of, split_of}
+use Rattle.lf_scalar.specs.reading.Quoted.{closing_of}
+use Rattle.lf_scalar.specs.Splits.{Split, split_of}
 use Rattle.lf_scalar.proofs.BlockTexts.{Mounts, mounts-le}
 use Rattle.lf_scalar.proofs.Cells.{cells-bytes}
 use Rattle.lf_scalar.proofs.Parts.{Utf8}
@@ -130,7 +131,7 @@ module _ (bytes text inside : List ℕ) (at : ℕ) (quote : Quotes) (within : at
   pub source-is : source_at bytes (suc at) ≡ cells (at + 1) inside
   source-is = let z : suc at ≡ at + 1 = omega arith in ap (λ (n : ℕ). cells n (drop n bytes)) z ∙ ap (cells (at + 1)) (sym rest)
 
-  pub closing-is : (o : Option Closing) → o ≡ closing_of quote 0 (cells (at + 1) inside) → closing_of quote 0 (source_at bytes (suc at)) ≡ o
+  pub closing-is : (o : Option Split) → o ≡ closing_of quote 0 (cells (at + 1) inside) → closing_of quote 0 (source_at bytes (suc at)) ≡ o
   closing-is o e = ap (closing_of quote 0) source-is ∙ sym e
 
   pub closing-boundary : (k : ℕ) → IsUtf8 bytes → k < length inside → get_or inside k 0 ≡ quote_of quote → IsCharBoundary bytes (at + (k + 2))

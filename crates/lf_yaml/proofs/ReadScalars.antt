@@ -11,7 +11,8 @@ use Rattle.lf_base.specs.Answers.{AnswersAs}
 use Rattle.lf_scalar.specs.Cells.{Cell, cell, cells, Value}
 use Rattle.lf_scalar.specs.Lines.{Line, lines, first_text, lengthen}
 use Rattle.lf_scalar.specs.Quoted.{quote_of}
-use Rattle.lf_scalar.specs.reading.Quoted.{split_of, quoted_of}
+use Rattle.lf_scalar.specs.reading.Quoted.{quoted_of}
+use Rattle.lf_scalar.specs.Splits.{split_of}
 use Rattle.lf_scalar.specs.Scalars.{begins, source_at, IsOfStyle, BreaksStyle, BeginsAt}
 use Rattle.lf_scalar.specs.reading.Styles.{reading}
 use Rattle.lf_scalar.proofs.Laws as scalars

@@ -1,20 +1,15 @@
 -- Going over a key byte by byte, to the `:` that ends it.
-use Rattle.std.proofs.Common.{◌≡◌, ℕ, ◌+◌, ◌<◌, ◌≤◌, Bool, true, false, eqb, List, [], ◌∷◌, ◌++◌, Option, Some, None, length, get_or, take, drop, refl, ap, append_assoc, sym, ◌∙◌, ◌&&◌, subst}
+use Rattle.std.proofs.Common.{◌≡◌, ℕ, ◌+◌, ◌<◌, ◌≤◌, Bool, true, false, eqb, List, ◌∷◌, Option, Some, None, length, get_or, take, drop, refl, ap, sym, ◌∙◌, ◌&&◌, subst}
 use Rattle.std.proofs.lemmas.List.{append-nil, drop_all}
 use Rattle.lf_scalar.specs.Cells.{Cell, cell, cells}
 use Rattle.lf_scalar.specs.Lines.{is_blank, begins_with}
 use Rattle.lf_scalar.specs.Plain.{before_blank}
+use Rattle.lf_scalar.specs.Splits.{Split, split_of}
 use Rattle.lf_scalar.proofs.Cells.{cells-drop, cells-take}
-use Rattle.lf_yaml.specs.Heads.{Split, behind_cell, key_in}
-use Rattle.lf_yaml.specs.views.Signs.{stops_of, split_at}
-
-abbrev pub ahead : List Cell → Option Split → Option Split
-ahead cs None = None
-ahead cs (Some x) = Some (cs ++ x.0, x.1, x.2)
-
-ahead-behind : (cs : List Cell) (c : Cell) (o : Option Split) → ahead cs (behind_cell c o) ≡ ahead (cs ++ c ∷ []) o
-ahead-behind cs c None = refl
-ahead-behind cs c (Some x) = ap (λ (xs : List Cell). Some (xs, x.1, x.2)) (sym (append_assoc cs (c ∷ []) x.0))
+use Rattle.lf_scalar.proofs.Closing.{ahead}
+use Rattle.lf_scalar.proofs.Scan.{ahead-behind}
+use Rattle.lf_yaml.specs.Heads.{key_in}
+use Rattle.lf_yaml.specs.views.Signs.{stops_of}
 
 -- what ends a key, where the first bytes are passed
 abbrev pub key_from : Bool → ℕ → List ℕ → ℕ → Option Split
@@ -30,9 +25,9 @@ module _ (flow : Bool) (at : ℕ) (text : List ℕ) (i : ℕ) (lt : i < length t
   first : key_from flow at text i ≡ ahead (cells at (take i text)) (key_in (stops_of flow) before_blank (here ∷ following))
   first = ap (λ (cs : List Cell). ahead (cells at (take i text)) (key_in (stops_of flow) before_blank cs)) (cells-drop at text i lt)
 
-  pub key-found : (eqb (get_or text i 0) 58 && before_blank following) ≡ true → key_from flow at text i ≡ Some (split_at at text i)
+  pub key-found : (eqb (get_or text i 0) 58 && before_blank following) ≡ true → key_from flow at text i ≡ Some (split_of at text i)
   unfolding key_in
-  key-found e = first ∙ rw e (ap (λ (cs : List Cell). Some (cs, here, following)) (append-nil (cells at (take i text))))
+  key-found e = first ∙ rw e (ap (λ (cs : List Cell). Some (cs, (here, following))) (append-nil (cells at (take i text))))
 
   pub key-stopped : (eqb (get_or text i 0) 58 && before_blank following) ≡ false → stops_of flow here ≡ true → key_from flow at text i ≡ None
   unfolding key_in

@@ -1,16 +1,16 @@
 -- Worked files: the tree of one, and the breach of another, with offsets and spans written out by hand.
-use Rattle.std.proofs.Common.{◌<◌, ℕ, zero, suc, List, [], ◌∷◌, ap, arith, refl}
+use Rattle.std.proofs.Common.{◌<◌, zero, suc, List, [], ◌∷◌, ap, arith, refl}
 use Rattle.std.specs.Prelude.{codes}
 use Rattle.std.specs.List.{AllByRecursion}
 use Rattle.std.proofs.lemmas.List.{drop_all}
 use Rattle.lf_base.specs.declared.kind.Kind.TheVariants.{DoubleKey}
-use Rattle.lf_base.specs.declared.place.Span.{Span}
 use Rattle.lf_base.specs.Faults.{span, fault}
-use Rattle.lf_scalar.specs.Cells.{Cell, cells, Value}
+use Rattle.lf_scalar.specs.Cells.{Cell, cells}
 use Rattle.lf_scalar.specs.Lines.{lines}
 use Rattle.lf_scalar.specs.reading.Plain.{plain_behind, plain_of}
 use Rattle.lf_scalar.proofs.Parts.{Utf8}
 use Rattle.lf_scalar.proofs.Utf8Lines.{utf8-nil, utf8-low}
+use Rattle.lf_scalar.proofs.Worked.{value}
 use Rattle.lf_yaml.specs.Characters.{is_wrong, NoneWrong, AreCharacters}
 use Rattle.lf_yaml.specs.Tree.{Tree, leaf, mapping, no_entries, entry}
 use Rattle.lf_yaml.specs.Rows.{rows_of}
@@ -18,9 +18,6 @@ use Rattle.lf_yaml.specs.Keys.{key_in}
 use Rattle.lf_yaml.specs.Document.{IsTree, TreeBreaks}
 use Rattle.lf_yaml.specs.reading.Trees.{entry_of, key_of, opens_quote, value_on, items, entries, node_at, document_of}
 use Rattle.lf_yaml.proofs.Whole.{document-decides}
-
-abbrev value : List ℕ → List ℕ → Span → Value
-value text from place = record { text = text; from = from; span = place }
 
 -- a mapping of one key
 abbrev one_entry_tree : Tree

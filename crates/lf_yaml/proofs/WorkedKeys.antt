@@ -6,7 +6,7 @@ use Rattle.std.proofs.lemmas.List.{drop_all}
 use Rattle.lf_base.specs.declared.kind.Kind.TheVariants.{BadEscape, LeftOut}
 use Rattle.lf_base.specs.declared.place.Span.{Span}
 use Rattle.lf_base.specs.Faults.{span, fault}
-use Rattle.lf_scalar.specs.Cells.{Cell, cells, Value}
+use Rattle.lf_scalar.specs.Cells.{Cell, cells}
 use Rattle.lf_scalar.specs.Lines.{lines}
 use Rattle.lf_scalar.specs.Quoted.{letter_of}
 use Rattle.lf_scalar.specs.reading.Quoted.{piece_of, scan, closing_of, lines_behind, quoted_of}
@@ -19,6 +19,7 @@ use Rattle.lf_yaml.specs.Flow.{next_part, next_on, onward}
 use Rattle.lf_yaml.specs.Document.{IsTree, TreeBreaks}
 use Rattle.lf_yaml.specs.reading.Trees.{entry_of, key_of, opens_quote, plain_behind, flow_scalar, flow_key, flow_value, mapping_in, value_on, items, entries, node_at, document_of}
 use Rattle.lf_scalar.proofs.Cells.{cells-bytes}
+use Rattle.lf_scalar.proofs.Worked.{value}
 use Rattle.lf_yaml.proofs.Whole.{document-decides}
 use Rattle.lf_yaml.proofs.Worked.{low_utf8}
 
@@ -107,9 +108,6 @@ in-escaped-flow n =
     clean = clean-cons 123 _ refl (clean-cons 34 _ refl (clean-cons 92 _ refl (clean-cons 113 (xs (suc n) (34 ∷ 58 ∷ 125 ∷ [])) refl (clean-xs (suc n) 34 (58 ∷ 125 ∷ []) flow-end))))
 
 -- ---- their trees and breaches
-
-abbrev value : List ℕ → List ℕ → Span → Value
-value text from place = record { text = text; from = from; span = place }
 
 -- so many offsets from one on
 abbrev offsets : ℕ → ℕ → List ℕ

@@ -198,7 +198,7 @@ pub data SequenceBreaks (bytes : List ℕ) : ℕ → Fault → Type 0 where
 -- `FlowKey c cs k colon`: the key k begins with the cell c, which the cells cs follow on its line, and there its `:` stands, and not too far.
 pub data FlowKey (c : Cell) (cs : List Cell) : Key → Cell → Type 0 where
   quoted : {rest : List Cell} {colon : Cell} (kind : Quotes) (between : Closes kind cs) → c.byte ≡ quote_of kind → IsSignBehind between.rest colon rest → is_too_far (before_offset colon.at (c ∷ cs)) ≡ false → FlowKey c cs (Between kind) colon
-  bare : {front rest : List Cell} {colon : Cell} → begins_flow c cs ≡ true → key_in is_flow_sign before_blank (c ∷ cs) ≡ Some (c ∷ front, colon, rest) → is_key_left_out (c ∷ front) ≡ false → FlowKey c cs (Bare (trimmed is_blank (c ∷ front))) colon
+  bare : {front rest : List Cell} {colon : Cell} → begins_flow c cs ≡ true → key_in is_flow_sign before_blank (c ∷ cs) ≡ Some (c ∷ front, (colon, rest)) → is_key_left_out (c ∷ front) ≡ false → FlowKey c cs (Bare (trimmed is_blank (c ∷ front))) colon
 
 -- `NoSign bytes c cs after`: a text where a key is wanted, behind which no `:` stands on its line that ends one; the mapping is read on at the offset `after`.
 pub data NoSign (bytes : List ℕ) (c : Cell) (cs : List Cell) : ℕ → Type 0 where
@@ -213,7 +213,7 @@ NoneFar c cs between = (colon : Cell) (rest : List Cell) → IsSignBehind betwee
 -- stands between them. Where no `:` follows, that is told at the next part.
 pub data FlowKeyBreaks (bytes : List ℕ) (c : Cell) (cs : List Cell) : Fault → Type 0 where
   no_key : begins_part c cs ≡ false → FlowKeyBreaks bytes c cs (part_fault c cs)
-  key_left_out : {front rest : List Cell} {colon : Cell} → begins_flow c cs ≡ true → key_in is_flow_sign before_blank (c ∷ cs) ≡ Some (c ∷ front, colon, rest) → is_key_left_out (c ∷ front) ≡ true
+  key_left_out : {front rest : List Cell} {colon : Cell} → begins_flow c cs ≡ true → key_in is_flow_sign before_blank (c ∷ cs) ≡ Some (c ∷ front, (colon, rest)) → is_key_left_out (c ∷ front) ≡ true
       → FlowKeyBreaks bytes c cs (character_fault LeftOut c)
   open_quote : OpensQuote c cs → FlowKeyBreaks bytes c cs (byte_fault OpenQuote c.at)
   quoted_left_out : {rest : List Cell} {colon : Cell} (kind : Quotes) (between : Closes kind cs) → c.byte ≡ quote_of kind → IsSignBehind between.rest colon rest → is_too_far (before_offset colon.at (c ∷ cs)) ≡ true

@@ -12,7 +12,7 @@ use Rattle.lf_scalar.specs.Plain.{before_blank, begins_plain}
 use Rattle.lf_scalar.specs.declared.quotes.Quotes.{Quotes}
 use Rattle.lf_scalar.specs.Quoted.{quote_of, raw, Closes, IsQuoted, BreaksQuoted}
 use Rattle.lf_scalar.specs.Scalars.{begins}
-pub use Rattle.lf_yaml.specs.Keys.{Split, behind_cell, never}
+pub use Rattle.lf_yaml.specs.Keys.{never}
 unfoldable pub use Rattle.lf_yaml.specs.Keys.{key_in}
 use Rattle.lf_yaml.specs.Rows.{ContentRow, text_of, is_left_out}
 
@@ -54,7 +54,7 @@ IsSignBehind cs colon rest = (after_blanks cs ≡ colon ∷ rest) × (colon.byte
 -- A row begins an entry: a key that isn't left out, blanks, a `:` and a blank or the line's end. A key without quotes begins as a plain scalar does, and one between quotes
 -- closes on the line.
 pub data BeginsEntry (r : ContentRow) : Key → Cell → List Cell → Type 0 where
-  bare : {front rest : List Cell} {colon : Cell} → begins_plain (text_of r) ≡ true → is_left_out r ≡ false → key_in never before_blank (text_of r) ≡ Some (front, colon, rest)
+  bare : {front rest : List Cell} {colon : Cell} → begins_plain (text_of r) ≡ true → is_left_out r ≡ false → key_in never before_blank (text_of r) ≡ Some (front, (colon, rest))
       → BeginsEntry r (Bare (trimmed is_blank front)) colon rest
   quoted : {rest : List Cell} {colon : Cell} (kind : Quotes) (c : Closes kind r.rest) → r.first.byte ≡ quote_of kind → is_left_out r ≡ false → IsSignBehind c.rest colon rest → before_blank rest ≡ true
       → BeginsEntry r (Between kind) colon rest

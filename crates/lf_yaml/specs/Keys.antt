@@ -5,23 +5,17 @@ use Rattle.lf_scalar.specs.declared.quotes.Quotes.TheVariants.{Single, Double}
 use Rattle.lf_scalar.specs.Cells.{Cell}
 use Rattle.lf_scalar.specs.Lines.{is_blank, after_blanks, begins_with}
 use Rattle.lf_scalar.specs.Folding.{trimmed}
+use Rattle.lf_scalar.specs.Splits.{Split, behind_cell}
 use Rattle.lf_scalar.specs.Plain.{before_blank, begins_plain, is_null}
 
 -- ---- keys without quotes
 
--- What stands before the first `:` that ends a key, this `:`, and what stands behind it. None where one of some signs or a comment, whose `#` stands behind a blank,
--- comes before such a `:`, or the line's end does.
-abbrev pub Split : Type 0
-Split = List Cell × Cell × List Cell
-
-abbrev pub behind_cell : Cell → Option Split → Option Split
-behind_cell c None = None
-behind_cell c (Some x) = Some (c ∷ x.0, x.1, x.2)
-
+-- The split at the first `:` that ends a key. None where one of some signs or a comment, whose `#` stands behind a blank, comes before such a `:`, or the line's end
+-- does.
 unfoldable pub key_in : (Cell → Bool) → (List Cell → Bool) → List Cell → Option Split
 key_in stops ends [] = None
 key_in stops ends (c ∷ cs) =
-    if (c.byte == 58) && ends cs then Some ([], c, cs)
+    if (c.byte == 58) && ends cs then Some ([], (c, cs))
     else if stops c then None
     else if is_blank c && begins_with 35 cs then None
     else behind_cell c (key_in stops ends cs)
@@ -63,18 +57,18 @@ has_bare_left_out cs = begins_plain cs && by (key_in never before_blank cs)
     by None = false
     by (Some x) = is_key_left_out x.0
 
--- Behind a quote that opens: what stands before the quote that closes, this quote, and what stands behind it. A single quote between single quotes stands twice, and a
+-- Behind a quote that opens: the split at the quote that closes. A single quote between single quotes stands twice, and a
 -- backslash between double quotes takes the byte behind it, whether an escape begins there or not. None where nothing closes. (It is what `Closes` says:
 -- proofs/FarKeys, closes-in and none-in.)
 unfoldable pub closed_in : Quotes → List Cell → Option Split
 closed_in kind [] = None
-closed_in Single (c ∷ []) = if c.byte == 39 then Some ([], c, []) else None
+closed_in Single (c ∷ []) = if c.byte == 39 then Some ([], (c, [])) else None
 closed_in Single (c ∷ d ∷ cs) =
-    if c.byte == 39 then (if d.byte == 39 then behind_cell c (behind_cell d (closed_in Single cs)) else Some ([], c, d ∷ cs))
+    if c.byte == 39 then (if d.byte == 39 then behind_cell c (behind_cell d (closed_in Single cs)) else Some ([], (c, d ∷ cs)))
     else behind_cell c (closed_in Single (d ∷ cs))
-closed_in Double (c ∷ []) = if c.byte == 34 then Some ([], c, []) else None
+closed_in Double (c ∷ []) = if c.byte == 34 then Some ([], (c, [])) else None
 closed_in Double (c ∷ d ∷ cs) =
-    if c.byte == 34 then Some ([], c, d ∷ cs)
+    if c.byte == 34 then Some ([], (c, d ∷ cs))
     else if c.byte == 92 then behind_cell c (behind_cell d (closed_in Double cs))
     else behind_cell c (closed_in Double (d ∷ cs))
 
@@ -89,7 +83,7 @@ has_far_sign text (c ∷ cs) = (c.byte == 58) && (before_blank cs && is_too_far 
 
 abbrev pub is_far_behind : List Cell → Option Split → Bool
 is_far_behind text None = false
-is_far_behind text (Some x) = has_far_sign text (after_blanks x.2)
+is_far_behind text (Some x) = has_far_sign text (after_blanks x.1.1)
 
 abbrev pub is_far_between : List Cell → List Cell → Option Quotes → Bool
 is_far_between text inside None = false

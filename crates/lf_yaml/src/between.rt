@@ -3,7 +3,7 @@ ghost use Rattle.std.specs.Prelude.{◌≡◌, ◌+◌, ◌<◌, ◌≤◌, ◌�
 ghost use Rattle.lf_base.specs.Answers.{AnswersAs};
 ghost use Rattle.lf_scalar.specs.Cells.{cell};
 ghost use Rattle.lf_scalar.specs.Quoted.{quote_of};
-ghost use Rattle.lf_scalar.specs.reading.Quoted.{split_of};
+ghost use Rattle.lf_scalar.specs.Splits.{split_of};
 ghost use Rattle.lf_scalar.specs.Scalars.{value as scalar_value};
 ghost use Rattle.lf_yaml.specs.reading.Trees.{between_of};
 ghost use Rattle.lf_yaml.specs.views.Quoting.{style_of_quotes};

@@ -5,7 +5,8 @@ ghost use Rattle.lf_scalar.specs.Lines.{is_blank, begins_with};
 ghost use Rattle.lf_scalar.specs.Plain.{before_blank};
 ghost use Rattle.lf_scalar.specs.Folding.{trimmed as trimmed_of};
 ghost use Rattle.lf_yaml.specs.Keys.{key_in, begins_character, characters, is_too_far as is_too_far_of, is_key_left_out as is_key_left_out_of, has_bare_left_out as has_bare_left_out_of, has_key_left_out as has_key_left_out_of};
-ghost use Rattle.lf_yaml.specs.views.Signs.{stops_of, split_at};
+ghost use Rattle.lf_scalar.specs.Splits.{split_of};
+ghost use Rattle.lf_yaml.specs.views.Signs.{stops_of};
 
 use crate::entry::begins_plain;
 use crate::far_keys::has_far_key;
@@ -58,7 +59,7 @@ fn comments_here(byte: u8, rest: &[u8]) -> bool
 pub fn find_sign(flow: bool, text: &[u8], at: u32) -> Option<usize>
     ensures within { IfSome result (λ k. k < length text.now) }
     ensures sign { IfSome result (λ k. get_or text.now k 0 ≡ 58) }
-    ensures value { option_map (split_at at text.now) result ≡ key_in (stops_of flow) before_blank (cells at text.now) }
+    ensures value { option_map (split_of at text.now) result ≡ key_in (stops_of flow) before_blank (cells at text.now) }
 {
     for (i, byte) in text.iter().enumerate() {
         let rest = past(text, i + 1);

@@ -1,5 +1,5 @@
 -- Reading what stands between quotes, piece by piece. A way of reading, which defines nothing: it is proved equal to what specs/Quoted defines.
-use Rattle.std.specs.Prelude.{◌≡◌, ◌≢◌, ℕ, zero, suc, ◌+◌, ◌*◌, List, [], ◌∷◌, ◌++◌, length, take, drop, get_or, Bool, true, false, Option, Some, None, Result, Ok, Err, ◌==◌, ◌&&◌, if◌then◌else◌}
+use Rattle.std.specs.Prelude.{◌≡◌, ◌≢◌, ℕ, zero, suc, ◌+◌, ◌*◌, List, [], ◌∷◌, ◌++◌, length, take, Bool, true, false, Option, Some, None, Result, Ok, Err, ◌==◌, ◌&&◌, if◌then◌else◌}
 use Rattle.std.specs.List.{flat_map}
 use lib.Utf8.{scalar}
 use Rattle.lf_base.specs.declared.kind.Kind.TheVariants.{BadEscape, OpenQuote, LeftOut, NotANode}
@@ -15,6 +15,7 @@ use Rattle.lf_base.specs.Faults.{span}
 use Rattle.lf_scalar.specs.Cells.{Cell, cell, cells, Value, made, byte_fault, character_fault, front, Fails, ◌>>=◌}
 use Rattle.lf_scalar.specs.Lines.{Line, line, lines, start_of, first_text, begins_with, is_blank, is_blank_line}
 use Rattle.lf_scalar.specs.Markers.{is_marker}
+use Rattle.lf_scalar.specs.Splits.{Split, behind_cell}
 use Rattle.lf_scalar.specs.Folding.{trimmed}
 use Rattle.lf_scalar.specs.Quoted.{Quotes, Single, Double, Piece, Bare, Twice, Letter, Number, given, char_cells, letter_of, width_of, is_bare_blank, Break, Folds, Drops, filled, unindented}
 use Rattle.lf_base.specs.Names.{hexadecimal_value}
@@ -101,27 +102,15 @@ pub record Reaches (kind : Quotes) (cs old now : List Cell) (kept : ℕ) (left :
 
 -- ---- what closes
 
--- what stands before the quote that closes, this quote, and what stands behind it
-abbrev pub Closing : Type 0
-Closing = List Cell × (Cell × List Cell)
+abbrev pub closing_step : Quotes → Cell → List Cell → (ℕ → Option Split) → Option Split
+closing_step Single c src later = if c.byte == 39 then (if begins_with 39 src then behind_cell c (later 1) else Some ([], (c, src))) else behind_cell c (later 0)
+closing_step Double c src later = if c.byte == 34 then Some ([], (c, src)) else behind_cell c (later (if c.byte == 92 then 1 else 0))
 
-abbrev pub behind : Cell → Option Closing → Option Closing
-behind c None = None
-behind c (Some x) = Some (c ∷ x.0, x.1)
-
-abbrev pub closing_step : Quotes → Cell → List Cell → (ℕ → Option Closing) → Option Closing
-closing_step Single c src later = if c.byte == 39 then (if begins_with 39 src then behind c (later 1) else Some ([], (c, src))) else behind c (later 0)
-closing_step Double c src later = if c.byte == 34 then Some ([], (c, src)) else behind c (later (if c.byte == 92 then 1 else 0))
-
--- the first cells, as many as the number says, are skipped
-unfoldable pub closing_of : Quotes → ℕ → List Cell → Option Closing
+-- the split at the quote that closes, where the first cells, as many as the number says, are skipped
+unfoldable pub closing_of : Quotes → ℕ → List Cell → Option Split
 closing_of kind k [] = None
-closing_of kind (suc k) (c ∷ src) = behind c (closing_of kind k src)
+closing_of kind (suc k) (c ∷ src) = behind_cell c (closing_of kind k src)
 closing_of kind zero (c ∷ src) = closing_step kind c src (λ k. closing_of kind k src)
-
--- what stands before a place of a line, the cell there, and what stands behind it
-abbrev pub split_of : ℕ → List ℕ → ℕ → Closing
-split_of at bytes k = (cells at (take k bytes), (cell (get_or bytes k 0) (at + k), cells (at + (k + 1)) (drop (k + 1) bytes)))
 
 -- what a byte between quotes does, by the byte behind it
 abbrev pub IsEffect : Quotes → ℕ → ℕ → ByteEffect → Type 0
@@ -194,7 +183,7 @@ abbrev pub alone : Value → Option Cell → Result Value Fault
 alone v None = Ok v
 alone v (Some c) = Err (character_fault NotANode c)
 
-abbrev pub closed : Quotes → ℕ → Cell → Option Closing → Result Value Fault
+abbrev pub closed : Quotes → ℕ → Cell → Option Split → Result Value Fault
 closed kind end opening None = Err (byte_fault OpenQuote opening.at)
 closed kind end opening (Some x) =
     lines_of kind (lines (x.1.0.at + 1) (x.0 ++ x.1.0 ∷ [])) >>= λ text. alone (made text x.1.0.at (span opening.at (x.1.0.at + 1))) (wrong_behind false (first_text (lines end x.1.1)))

@@ -4,6 +4,7 @@ use Rattle.std.specs.List.{list_any}
 use Rattle.std.specs.Ordering.{eq_by_cmp}
 use Rattle.lf_ast.specs.Labels.{Labels}
 use Rattle.lf_ast.specs.declared.expr.Matching.{Matching}
+use Rattle.lf_semantics.specs.Evaluation.{AreMatched, AreUnmatched}
 use Rattle.lf_semantics.specs.Grouped.{signs}
 use Rattle.lf_semantics.specs.Texts.{restricted}
 use Rattle.lf_witness.specs.Ascending.{labels_cmp}
@@ -16,6 +17,11 @@ is_one_of R s = list_any (λ t. eq_by_cmp labels_cmp t s) R
 -- the signature of a sample is one of these, or isn't where that is wanted
 abbrev pub is_signed : Matching → List Labels → Bool → Labels → Bool
 is_signed m signatures wanted s = cond wanted (is_one_of signatures (restricted (signs m) s)) (not (is_one_of signatures (restricted (signs m) s)))
+
+-- the left samples that have a partner on the right, or those that have none where that is wanted
+abbrev pub ArePartnered : Bool → Matching → List Labels → List Labels → List Labels → Type 0
+ArePartnered true = AreMatched
+ArePartnered false = AreUnmatched
 
 -- whether no two samples of P have equal signatures
 abbrev pub TellsApart : Matching → List Labels → Bool → Type 0

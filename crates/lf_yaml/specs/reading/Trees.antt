@@ -11,7 +11,8 @@ use Rattle.lf_scalar.specs.Lines.{Line, is_blank, after_blanks}
 use Rattle.lf_scalar.specs.Folding.{fold, trimmed}
 use Rattle.lf_scalar.specs.Plain.{before_blank, begins_plain, value_of}
 use Rattle.lf_scalar.specs.Scalars.{source_at}
-use Rattle.lf_scalar.specs.reading.Quoted.{Closing, closing_of, wrong_behind, quoted_of}
+use Rattle.lf_scalar.specs.Splits.{Split}
+use Rattle.lf_scalar.specs.reading.Quoted.{closing_of, wrong_behind, quoted_of}
 use Rattle.lf_scalar.specs.reading.Plain.{unless_key}
 use Rattle.lf_scalar.specs.reading.Styles as scalar
 use Rattle.lf_yaml.specs.Tree.{Tree, leaf, sequence, mapping, Items, no_items, item, Entries, no_entries, entry}
@@ -19,7 +20,7 @@ use Rattle.lf_yaml.specs.Spans.{items_end, entries_end, empty_at}
 use Rattle.lf_yaml.specs.Keys.{is_too_far, before_offset, is_key_left_out}
 pub use Rattle.lf_yaml.specs.Keys.{quotes_of}
 use Rattle.lf_yaml.specs.Rows.{ContentRow, text_of, indent, content_row, rows_from, left_of, tab_in, is_left_out, indent_fault, row_fault}
-use Rattle.lf_yaml.specs.Heads.{is_item, Split, key_in, never, Key, Bare, Between, style_of, begins_scalar}
+use Rattle.lf_yaml.specs.Heads.{is_item, key_in, never, Key, Bare, Between, style_of, begins_scalar}
 use Rattle.lf_yaml.specs.Flow.{line_on, lines_below, Next, at_part, broken, next_on, is_flow_sign, begins_flow, line_text, line_colon, is_bare, is_spaces, goes_on, left_on, part_fault, sign_fault}
 
 -- ---- keys
@@ -39,13 +40,13 @@ abbrev pub quoted_sign : Quotes → Option (Cell × List Cell) → Option EntryH
 quoted_sign kind None = None
 quoted_sign kind (Some x) = if before_blank x.1 then Some (Between kind, x.0, x.1) else None
 
-abbrev pub quoted_head : Quotes → Option Closing → Option EntryHead
+abbrev pub quoted_head : Quotes → Option Split → Option EntryHead
 quoted_head kind None = None
 quoted_head kind (Some x) = quoted_sign kind (sign_behind x.1.1)
 
 abbrev pub bare_head : Option Split → Option EntryHead
 bare_head None = None
-bare_head (Some x) = Some (Bare (trimmed is_blank x.0), x.1, x.2)
+bare_head (Some x) = Some (Bare (trimmed is_blank x.0), x.1.0, x.1.1)
 
 abbrev pub entry_by : ContentRow → Option Quotes → Option EntryHead
 entry_by r None = if begins_plain (text_of r) then bare_head (key_in never before_blank (text_of r)) else None
@@ -56,7 +57,7 @@ unfoldable pub entry_of : ContentRow → Option EntryHead
 entry_of r = if is_left_out r then None else entry_by r (quotes_of r.first)
 
 -- a scalar between quotes that closes on its line
-abbrev pub between_of : Quotes → Cell → Option Closing → Result Value Fault
+abbrev pub between_of : Quotes → Cell → Option Split → Result Value Fault
 between_of kind c None = Err (byte_fault OpenQuote c.at)
 between_of kind c (Some x) = quoted_of kind (x.1.0.at + 1) c (x.0 ++ x.1.0 ∷ [])
 
@@ -112,14 +113,14 @@ abbrev pub plain_part : Cell → Folded → Result FlowPart Fault
 plain_part c read = read >>= λ x. Ok (value_of c x.0, x.1)
 
 -- behind a quote that closes
-abbrev pub after_closing : Option Closing → ℕ
+abbrev pub after_closing : Option Split → ℕ
 after_closing None = 0
 after_closing (Some x) = suc x.1.0.at
 
 abbrev pub with_after : ℕ → Result Value Fault → Result FlowPart Fault
 with_after after read = read >>= λ v. Ok (v, after)
 
-abbrev pub quoted_part : Quotes → Cell → Option Closing → Result FlowPart Fault
+abbrev pub quoted_part : Quotes → Cell → Option Split → Result FlowPart Fault
 quoted_part kind c closing = with_after (after_closing closing) (between_of kind c closing)
 
 abbrev pub part_by : List ℕ → Cell → List Cell → Option Quotes → Result FlowPart Fault
@@ -171,7 +172,7 @@ abbrev pub signed_behind : List ℕ → ℕ → List Cell → Result Value Fault
 signed_behind bytes after behind read = read >>= λ v. signed bytes v after (sign_behind behind)
 
 -- what stands behind a quote that closes
-abbrev pub behind_closing : Option Closing → List Cell
+abbrev pub behind_closing : Option Split → List Cell
 behind_closing None = []
 behind_closing (Some x) = x.1.1
 
@@ -180,14 +181,14 @@ bare_key c text = made text (end_of c.at text) (span c.at (end_of c.at text))
 
 abbrev pub plain_key : List ℕ → Cell → List Cell → Option Split → Result Signed Fault
 plain_key bytes c cs None = no_sign (next_on bytes (left_on (line_on bytes c.at)))
-plain_key bytes c cs (Some x) = if is_key_left_out x.0 then Err (character_fault LeftOut c) else Ok (bare_key c (trimmed is_blank x.0), x.1)
+plain_key bytes c cs (Some x) = if is_key_left_out x.0 then Err (character_fault LeftOut c) else Ok (bare_key c (trimmed is_blank x.0), x.1.0)
 
 -- a `:` stands too far behind the start of a text
 abbrev pub far_sign : List Cell → Option (Cell × List Cell) → Bool
 far_sign text None = false
 far_sign text (Some x) = is_too_far (before_offset x.0.at text)
 
-abbrev pub quoted_key : List ℕ → Quotes → Cell → List Cell → Option Closing → Result Signed Fault
+abbrev pub quoted_key : List ℕ → Quotes → Cell → List Cell → Option Split → Result Signed Fault
 quoted_key bytes kind c cs closing =
     if far_sign (c ∷ cs) (sign_behind (behind_closing closing)) then Err (character_fault LeftOut c)
     else signed_behind bytes (after_closing closing) (behind_closing closing) (between_of kind c closing)

@@ -3,7 +3,8 @@ use Rattle.std.specs.Prelude.{◌≡◌, ℕ, suc, ◌+◌, ◌<◌, List, take,
 use Rattle.std.specs.Str.{IsCharBoundary}
 use Rattle.lf_scalar.specs.Cells.{cell, cells}
 use Rattle.lf_scalar.specs.Quoted.{quote_of}
-use Rattle.lf_scalar.specs.reading.Quoted.{closing_of, split_of}
+use Rattle.lf_scalar.specs.reading.Quoted.{closing_of}
+use Rattle.lf_scalar.specs.Splits.{split_of}
 use Rattle.lf_yaml.specs.Heads.{Key, Bare, Between}
 use Rattle.lf_yaml.specs.reading.Trees.{EntryHead}
 use Rattle.lf_yaml.specs.declared.entries.Key.{Key as CodeKey}

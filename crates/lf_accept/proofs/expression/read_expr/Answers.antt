@@ -1,6 +1,5 @@
 use Rattle.std.proofs.Common.{ℕ, List, ◌∙◌, ap}
 use Rattle.std.specs.Prelude.{slice_index}
-use Rattle.std.proofs.lemmas.List.Sorted.{IsNonDecreasingBy-from_default}
 use Rattle.std.proofs.lemmas.Result.{err_from_is_err_and}
 use Rattle.lf_scalar.specs.Scalars.{value}
 use Rattle.lf_accept.proofs.Steps.{at_tokens, is_expr, refuses_expr}
@@ -8,7 +7,7 @@ use Rattle.lf_accept.proofs.Takings.{no_tokens_taken, read_so}
 use Rattle.lf_accept.proofs.expression.read_expr.Goals as goal
 
 pub lex-requires-clause-rises : goal.lex-requires-clause-rises
-lex-requires-clause-rises c = let s = c.args.scalar.now in IsNonDecreasingBy-from_default (λ x. x) s.from 0 s.offsets.1
+lex-requires-clause-rises c = c.args.scalar.now.offsets.1
 
 pub returns-in_err-tokens-clause-refused : goal.returns-in_err-tokens-clause-refused
 returns-in_err-tokens-clause-refused c =
