@@ -7,7 +7,7 @@ use Rattle.lf_ast.specs.Selectors.{selected_name}
 use Rattle.lf_ast.specs.Tree.{Tree, Trees, Number, Str, Selector, Subquery, Paren, Unary, Binary, Call, Aggregate, Nil, Next}
 use Rattle.lf_ast.specs.declared.expr.Matcher.{Matcher}
 use Rattle.lf_semantics.specs.Parts.{outside_scalars}
-use Rattle.lf_trials.specs.Reached.{rules_at}
+use Rattle.lf_witness.specs.StrictRuns.{rules_at}
 
 -- the name that a selector says, and its matchers
 pub record Selected : Type 0 where
