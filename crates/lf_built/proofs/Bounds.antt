@@ -1,5 +1,5 @@
 -- How many selectors stand in a rule and its reach.
-use Rattle.std.proofs.Common.{◌≡◌, ◌+◌, ℕ, Bool, true, false, cond, eqb, nat_lt, List, [], ◌∷◌, ◌++◌, map, length, refl, ◌∙◌, ap, arith}
+use Rattle.std.proofs.Common.{◌≡◌, ◌+◌, ℕ, Bool, true, false, cond, eqb, nat_lt, List, [], ◌∷◌, ◌++◌, map, length, refl, ◌∙◌, ap, arith, option_to_list}
 use Rattle.std.specs.Prelude.{slice_get, sum}
 use Rattle.std.specs.List.{filter}
 use Rattle.std.proofs.lemmas.Bool.Decides.{nat_tests}
@@ -8,7 +8,8 @@ use Rattle.std.proofs.lemmas.List.Sums.{sum_by-append}
 use Rattle.lf_ast.specs.Rules.{RuleTree}
 use Rattle.lf_deps.specs.Reading.{selectors}
 use Rattle.lf_trials.specs.Built.{selector_count}
-use Rattle.lf_trials.specs.Reached.{listed, rules_at, with_reach}
+use Rattle.lf_witness.specs.StrictRuns.{rules_at}
+use Rattle.lf_trials.specs.Reached.{with_reach}
 use Rattle.lf_built.specs.views.Counts.{others, selected}
 
 module _ (rules : List RuleTree) where
@@ -19,7 +20,7 @@ module _ (rules : List RuleTree) where
   sum_both xs ys = ap sum (map-append counted xs ys) ∙ sum_by-append (λ (n : ℕ). n) (map counted xs) (map counted ys)
 
   count_first : (k : ℕ) (ks : List ℕ) → selector_count rules (k ∷ ks) ≡ selected rules k + selector_count rules ks
-  count_first k ks = sum_both (listed (slice_get rules k)) (rules_at rules ks)
+  count_first k ks = sum_both (option_to_list (slice_get rules k)) (rules_at rules ks)
 
   count_both : (js ks : List ℕ) → selector_count rules (js ++ ks) ≡ selector_count rules js + selector_count rules ks
   count_both [] ks = omega arith

@@ -1,5 +1,6 @@
 -- Going down an expression task by task builds what its definition builds.
 use Rattle.std.proofs.Common.{◌≡◌, ℕ, zero, suc, ◌+◌, Bool, true, false, not, cond, List, [], ◌∷◌, ◌++◌, map, Option, Some, None, refl, sym, ◌∙◌, ap, append_assoc, add_assoc, arith}
+use Rattle.std.specs.Option.{option_map_or}
 use Rattle.std.specs.Prelude.{option_and_then, option_map}
 use Rattle.std.proofs.lemmas.List.{append-nil}
 use Rattle.lf_ast.specs.Functions.{Signature, aggregation, function_named}
@@ -12,7 +13,6 @@ use Rattle.lf_ast.specs.declared.expr.Matching.{Matching}
 use Rattle.lf_ast.specs.declared.expr.Op.{Op}
 use Rattle.lf_ast.specs.declared.expr.Op.TheVariants as O
 use Rattle.lf_ast.specs.declared.functions.LabelEffect.{LabelEffect}
-use Rattle.lf_ast.specs.declared.functions.LabelEffect.TheVariants.{Maps, Keeps, Groups, CountValues, Date, Absent, LabelReplace, LabelJoin, HistogramQuantile, Bare}
 use Rattle.lf_semantics.specs.Grouped.{is_filter}
 use Rattle.lf_semantics.specs.Listing.{Listing}
 use Rattle.lf_semantics.specs.Parts.{argument_at, is_scalar_part, operand_place}
@@ -21,10 +21,10 @@ use Rattle.lf_trials.specs.Building.{Builder, Building, and_then, both, nothing,
 use Rattle.lf_trials.specs.Built.{before_recording, build, build_by_rule, builder, argument_builder, fits, handed}
 use Rattle.lf_trials.specs.Given.{Given, holds_texts}
 use Rattle.lf_trials.specs.Matched.{build_binary, build_match, build_operator, has_signature, side}
-use Rattle.lf_trials.specs.Operands.{build_call, build_effect, build_nameless_if, losing_name}
+use Rattle.lf_trials.specs.Operands.{build_call, build_effect, build_nameless_if, effect_texts, losing_name}
 use Rattle.lf_trials.specs.Sides.{left_gives, right_gives}
 use Rattle.lf_trials.specs.Reached.{first_rule}
-use Rattle.lf_built.specs.views.Tasks.{Finish, IsNoSelector, Task, Visit, Wanted, binary_wanted, built_for, call_wanted, effect_wanted, match_wanted, nameless_if, one_wanted, operator_wanted, outcome, parts_wanted, selector_only, step_only, want}
+use Rattle.lf_built.specs.views.Tasks.{Finish, IsNoSelector, Task, Visit, Wanted, binary_wanted, built_for, call_wanted, effect_wanted, match_wanted, nameless_if, one_wanted, operand_wanted, operator_wanted, outcome, parts_wanted, selector_only, step_only, want}
 
 -- buildings one behind the other
 
@@ -93,19 +93,13 @@ module _ (u : Listing) (env : Environment) (rules : List RuleTree) (holds_fork :
   one_nameless true e D = one e (losing_name D)
   one_nameless false e D = one e D
 
+  one_operand : (args : Trees) (k : ℕ) (texts : Option Given) → option_map_or (argument_builder u env rules holds_fork build_rule args k) texts nothing ≡ all (operand_wanted (argument_at args k) texts)
+  one_operand args k None = refl
+  one_operand args k (Some D) = one_argument args k D
+
   of_effect : (effect : LabelEffect) (grouping : Grouping) (args : Trees) (k : ℕ) (D : Given)
       → build_effect effect grouping args (argument_builder u env rules holds_fork build_rule args k) D ≡ all (effect_wanted effect grouping args (argument_at args k) D)
-  of_effect Maps grouping args k D = one_argument args k (losing_name D)
-  of_effect Keeps grouping args k D = one_argument args k D
-  of_effect Groups grouping args k D = one_argument args k _
-  of_effect CountValues grouping args k D = one_argument args k _
-  of_effect Date grouping Nil k D = refl
-  of_effect Date grouping (Next x xs) k D = one_argument (Next x xs) k _
-  of_effect Absent grouping args k D = refl
-  of_effect LabelReplace grouping args k D = one_argument args k _
-  of_effect LabelJoin grouping args k D = one_argument args k _
-  of_effect HistogramQuantile grouping args k D = one_argument args k _
-  of_effect Bare grouping args k D = refl
+  of_effect effect grouping args k D = one_operand args k (effect_texts effect grouping args D)
 
   of_call : (s : Option Signature) (grouping : Grouping) (args : Trees) (D : Given) → build_call s grouping args (argument_builder u env rules holds_fork build_rule args) D ≡ all (call_wanted s grouping args D)
   of_call None grouping args D = refl

@@ -8,10 +8,10 @@ ghost use Rattle.lf_classes.specs.Limits.{IsWithin};
 ghost use Rattle.lf_semantics.specs.Listing.{Listing};
 ghost use Rattle.lf_trials.specs.Candidates.{labels_in};
 ghost use Rattle.lf_trials.specs.Given.{Given, giving, losing};
-ghost use Rattle.lf_trials.specs.Operands.{losing_name};
+ghost use Rattle.lf_trials.specs.Operands.{effect_texts, losing_name};
 ghost use Rattle.lf_candidates.specs.views.ClassTexts.{KnowsBuckets, Stands, StandsFor};
 ghost use Rattle.lf_built.specs.views.Marking.{effect_lost};
-ghost use Rattle.lf_built.specs.views.Tasks.{effect_texts, nameless_if};
+ghost use Rattle.lf_built.specs.views.Tasks.{nameless_if};
 
 use lf_ast::{Expr, LabelEffect, text_at};
 use lf_base::Text;

@@ -5,7 +5,7 @@ ghost use Rattle.lf_ast.specs.Tree.{tree, nodes};
 ghost use Rattle.lf_classes.specs.Limits.{IsWithin};
 ghost use Rattle.lf_semantics.specs.ClassRows.{HasShape};
 ghost use Rattle.lf_semantics.specs.Environments.{IsEnvironment};
-ghost use Rattle.lf_forks.specs.views.ForkTests.{has_passing};
+ghost use Rattle.lf_trials.specs.Forks.{has_passing};
 ghost use Rattle.lf_forks.specs.views.Holding.{test_of};
 ghost use Rattle.lf_built.specs.views.PartRows.{part_rows};
 

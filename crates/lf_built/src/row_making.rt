@@ -4,7 +4,7 @@ ghost use Rattle.lf_ast.specs.Tree.{nodes};
 ghost use Rattle.lf_ast.specs.Rules.{RuleTree, rule_tree, rule_trees};
 ghost use Rattle.lf_deps.specs.views.Sources.{IsSourcesOf};
 ghost use Rattle.lf_semantics.specs.Environments.{IsEnvironment, recorded_row as row_recorded, rule_row as row_of_rule};
-ghost use Rattle.lf_forks.specs.views.ForkTests.{has_passing};
+ghost use Rattle.lf_trials.specs.Forks.{has_passing};
 ghost use Rattle.lf_forks.specs.views.Holding.{test_of};
 ghost use Rattle.lf_built.specs.views.PartRows.{part_rows as rows_of_parts};
 ghost use Rattle.lf_built.specs.views.RuleRows.{AreRowsOf, IsRowOf};

@@ -9,7 +9,7 @@ use Rattle.lf_ast.specs.Tree.{Tree, Trees, Number, Str, Selector, Subquery, Pare
 use Rattle.lf_semantics.specs.Parts.{is_scalar_part}
 use Rattle.lf_deps.specs.Reading.{selectors, selectors_in, arguments_selectors}
 use Rattle.lf_open.specs.Constructs.{SaysNoName}
-use Rattle.lf_open.specs.Standing.{standing, standing_in, arguments_standing}
+use Rattle.lf_semantics.specs.Standing.{standing, standing_in, arguments_standing}
 use Rattle.lf_dependence.specs.Dependence.{EachSaysName}
 
 module _ (rules : List RuleTree) where

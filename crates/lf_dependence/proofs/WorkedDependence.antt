@@ -21,7 +21,7 @@ use Rattle.lf_witness.specs.StrictRuns.{IsStrictAnswer}
 use Rattle.lf_witness.proofs.AscendingLists.{alone_ascends}
 use Rattle.lf_deps.specs.Reading.{Reads}
 use Rattle.lf_open.specs.Constructs.{SaysNoName}
-use Rattle.lf_open.specs.Standing.{standing}
+use Rattle.lf_semantics.specs.Standing.{standing}
 use Rattle.lf_shown.specs.Agreement.{AgreeOn}
 use Rattle.lf_dependence.specs.Dependence.{DependsOnlyOn, EachSaysName, OwnNames}
 use Rattle.lf_dependence.proofs.Dependence.{depends_on_own}

@@ -7,7 +7,7 @@ use Rattle.lf_ast.specs.Tree.{Tree}
 use Rattle.lf_witness.specs.StrictRuns.{IsStrictAnswer}
 use Rattle.lf_deps.specs.Reading.{Reads, selectors}
 use Rattle.lf_open.specs.Constructs.{SaysNoName}
-use Rattle.lf_open.specs.Standing.{standing}
+use Rattle.lf_semantics.specs.Standing.{standing}
 use Rattle.lf_shown.specs.Agreement.{AgreeOn, Names}
 
 -- each selector that stands in the expression says a name: none leaves the metric name open

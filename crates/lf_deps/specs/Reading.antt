@@ -1,32 +1,28 @@
 -- Which names an expression reads, directly and through recorded names.
-use Rattle.std.specs.Prelude.{◌≡◌, ◌⊎◌, false, List, [], ◌∷◌, ◌++◌, Option, Some, None}
+use Rattle.std.specs.Prelude.{◌≡◌, ◌⊎◌, false, List, [], ◌∷◌, Option, Some, None}
 use Rattle.std.specs.List.{Contains}
 use Rattle.lf_ast.specs.Labels.{Bytes}
 use Rattle.lf_ast.specs.Rules.{RuleTree}
 use Rattle.lf_ast.specs.Selectors.{selected_name}
-use Rattle.lf_ast.specs.Tree.{Tree, Trees, Number, Str, Selector, Subquery, Paren, Unary, Binary, Call, Aggregate, Nil, Next}
+use Rattle.lf_ast.specs.Tree.{Tree, Trees, Selector}
 use Rattle.lf_semantics.specs.Environments.{names_recorded}
 use Rattle.lf_semantics.specs.Parts.{outside_scalars}
+use Rattle.lf_semantics.specs.Standing.{found_in, found_in_arguments}
 
 -- Selectors. Each says the name that it selects, by a name before the braces or by its first `=` on the metric name, or it says none. Nothing within a scalar is looked
 -- at.
 
-abbrev mutual
-  -- the selectors of the parts of an expression, and a selector itself
-  pub selectors_in : Tree → List (Option Bytes)
-  selectors_in (Number text span) = []
-  selectors_in (Str text span) = []
-  selectors_in (Selector name matchers sight span) = selected_name name matchers ∷ []
-  selectors_in (Subquery of sight span) = outside_scalars of (selectors_in of)
-  selectors_in (Paren of span) = outside_scalars of (selectors_in of)
-  selectors_in (Unary minus of span) = outside_scalars of (selectors_in of)
-  selectors_in (Binary op m left right span) = outside_scalars left (selectors_in left) ++ outside_scalars right (selectors_in right)
-  selectors_in (Call name args span) = arguments_selectors args
-  selectors_in (Aggregate op grouping args span) = arguments_selectors args
+-- what an expression selects by itself, and not by a part
+abbrev pub own_selectors : Tree → List (Option Bytes)
+own_selectors (Selector name matchers sight span) = selected_name name matchers ∷ []
+own_selectors _ = []
 
-  pub arguments_selectors : Trees → List (Option Bytes)
-  arguments_selectors Nil = []
-  arguments_selectors (Next x xs) = outside_scalars x (selectors_in x) ++ arguments_selectors xs
+-- the selectors of the parts of an expression, and a selector itself
+abbrev pub selectors_in : Tree → List (Option Bytes)
+selectors_in e = found_in own_selectors e
+
+abbrev pub arguments_selectors : Trees → List (Option Bytes)
+arguments_selectors args = found_in_arguments own_selectors args
 
 -- the selectors of an expression: what each selects
 abbrev pub selectors : Tree → List (Option Bytes)

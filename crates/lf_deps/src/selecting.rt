@@ -2,8 +2,8 @@
 ghost use Rattle.std.specs.Prelude.{◌≡◌, ◌∷◌, ◌++◌, [], IfOk, OnOk};
 ghost use Rattle.lf_ast.specs.Selectors.{selected_name};
 ghost use Rattle.lf_ast.specs.Tree.{tree};
-ghost use Rattle.lf_deps.specs.Reading.{selectors};
-ghost use Rattle.lf_deps.specs.views.Selecting.{is_scalar_call, own_selectors, parts_read};
+ghost use Rattle.lf_deps.specs.Reading.{own_selectors, selectors};
+ghost use Rattle.lf_deps.specs.views.Selecting.{is_scalar_call, parts_read};
 
 use lf_ast::walk::{Parts, Visitor, visit};
 use lf_ast::{Expr, Matcher, is_scalar, selected_name};

@@ -7,43 +7,13 @@ use Rattle.std.proofs.lemmas.List.Folds.{list_any-append}
 use Rattle.lf_laws.proofs.Members.{any_has, some_has}
 use Rattle.lf_ast.specs.Labels.{Bytes}
 use Rattle.lf_ast.specs.Rules.{RuleTree}
-use Rattle.lf_ast.specs.Selectors.{selected_name}
 use Rattle.lf_ast.specs.Tree.{Tree, Trees, Number, Str, Selector, Subquery, Paren, Unary, Binary, Call, Aggregate, Nil, Next}
 use Rattle.lf_semantics.specs.Parts.{is_scalar_part, outside_scalars}
 use Rattle.lf_semantics.proofs.Recorded.{recorded}
 use Rattle.lf_deps.specs.Reading.{Reads, arguments_selectors, selectors, selectors_in}
 use Rattle.lf_deps.specs.Reading.Reads.{selected, through}
-use Rattle.lf_trials.specs.Forks.{HoldsFork, TellsForks, fork_in, fork_in_arguments, has_own_fork, is_forked_selector, is_or, unless_scalar}
-use Rattle.lf_forks.specs.views.ForkTests.{IsForkRule, SelectsFork, TellsSelectors, has_passing, passes_in, passes_in_arguments}
-
--- a fork of its own is a selector that passes that test, or one that tells the same
-
-module _ (rules : List RuleTree) (test : Option Bytes → Bool) (same : (o : Option Bytes) → is_forked_selector rules o ≡ test o) where
-  mutual
-    own_in : (e : Tree) → fork_in rules e ≡ passes_in test e
-    own_in (Number text span) = refl
-    own_in (Str text span) = refl
-    own_in (Selector name matchers sight span) = same (selected_name name matchers)
-    own_in (Subquery of sight span) = ap (unless_scalar of) (own_in of)
-    own_in (Paren of span) = ap (unless_scalar of) (own_in of)
-    own_in (Unary minus of span) = ap (unless_scalar of) (own_in of)
-    own_in (Binary op m left right span) =
-        ap (λ (b : Bool). is_or op || (unless_scalar left b || unless_scalar right (fork_in rules right))) (own_in left)
-        ∙ ap (λ (b : Bool). is_or op || (unless_scalar left (passes_in test left) || unless_scalar right b)) (own_in right)
-    own_in (Call name args span) = own_in_arguments args
-    own_in (Aggregate op grouping args span) = own_in_arguments args
-
-    own_in_arguments : (args : Trees) → fork_in_arguments rules args ≡ passes_in_arguments test args
-    own_in_arguments Nil = refl
-    own_in_arguments (Next x xs) =
-        ap (λ (b : Bool). unless_scalar x b || fork_in_arguments rules xs) (own_in x)
-        ∙ ap (λ (b : Bool). unless_scalar x (passes_in test x) || b) (own_in_arguments xs)
-
-  pub own_fork_by : (e : Tree) → has_own_fork rules e ≡ has_passing test e
-  own_fork_by e = ap (unless_scalar e) (own_in e)
-
-pub own_fork : (rules : List RuleTree) (e : Tree) → has_own_fork rules e ≡ has_passing (is_forked_selector rules) e
-own_fork rules e = own_fork_by rules (is_forked_selector rules) (λ o. refl) e
+use Rattle.lf_trials.specs.Forks.{HoldsFork, TellsForks, has_own_fork, has_passing, is_forked_selector, is_or, passes_in, passes_in_arguments, unless_scalar}
+use Rattle.lf_forks.specs.views.ForkTests.{IsForkRule, SelectsFork, TellsSelectors}
 
 -- what passes: an `or`, whatever the test, or a selector
 
@@ -125,7 +95,7 @@ module _ (rules : List RuleTree) (test : Option Bytes → Bool) (tells : TellsSe
   of_own (Some name) e = inl e
 
   own_passes : (e : Tree) → has_own_fork rules e ≡ true → has_passing test e ≡ true
-  own_passes e h = by (has_passing none e) refl (sym (split own e) ∙ sym (own_fork rules e) ∙ h)
+  own_passes e h = by (has_passing none e) refl (sym (split own e) ∙ h)
     where
       by : (b : Bool) → has_passing none e ≡ b → (has_passing none e || list_any own (selectors e)) ≡ true → has_passing test e ≡ true
       by true is either = has e (ap (λ (z : Bool). z || list_any test (selectors e)) is)
@@ -141,7 +111,7 @@ module _ (rules : List RuleTree) (test : Option Bytes → Bool) (tells : TellsSe
 
   selected_fork : (e : Tree) (o : Option Bytes) → Contains (selectors e) o → SelectsFork rules o → HoldsFork rules e
   selected_fork e None c (r, fork) = inr (r, fork.rule, (fork.recording, selected (inr (c, recorded rules r fork.rule fork.recording))), fork.fork)
-  selected_fork e (Some name) c (inl several) = inl (own_fork rules e ∙ split own e ∙ or_right (has_passing none e) (list_any own (selectors e)) (any_has own (selectors e) (Some name) c several))
+  selected_fork e (Some name) c (inl several) = inl (split own e ∙ or_right (has_passing none e) (list_any own (selectors e)) (any_has own (selectors e) (Some name) c several))
   selected_fork e (Some name) c (inr (r, fork, inl same)) = inr (r, fork.rule, (fork.recording, selected (inl (subst (λ n. Contains (selectors e) (Some n)) (sym same) c))), fork.fork)
   selected_fork e (Some name) c (inr (r, fork, inr (s, there, (recording, same), reads))) =
       inr (r, fork.rule, (fork.recording, through s there recording (inl (subst (λ n. Contains (selectors e) (Some n)) (sym same) c)) reads), fork.fork)
@@ -150,7 +120,7 @@ module _ (rules : List RuleTree) (test : Option Bytes → Bool) (tells : TellsSe
   passes_hold e h = by (has_passing none e) refl (sym (split test e) ∙ h)
     where
       by : (b : Bool) → has_passing none e ≡ b → (has_passing none e || list_any test (selectors e)) ≡ true → HoldsFork rules e
-      by true is either = inl (own_fork rules e ∙ split own e ∙ ap (λ (z : Bool). z || list_any own (selectors e)) is)
+      by true is either = inl (split own e ∙ ap (λ (z : Bool). z || list_any own (selectors e)) is)
       by false is either = let found = some_has test (selectors e) (sym (ap (λ (z : Bool). z || list_any test (selectors e)) is) ∙ either) in selected_fork e found.0 found.1 ((tells found.0).0 found.2)
 
   pub tells_forks : TellsForks rules (has_passing test)

@@ -15,9 +15,8 @@ use Rattle.lf_ast.specs.declared.expr.Matching.{Matching}
 use Rattle.lf_ast.specs.declared.expr.Op.{Op}
 use Rattle.lf_ast.specs.declared.expr.Sight.{Sight}
 use Rattle.lf_semantics.specs.Parts.{given_by, is_scalar_part}
-use Rattle.lf_trials.specs.Forks.{is_or}
+use Rattle.lf_trials.specs.Forks.{has_passing, is_or, passes_in, passes_in_arguments}
 use Rattle.lf_forks.specs.declared.holding.Held.{Held}
-use Rattle.lf_forks.specs.views.ForkTests.{has_passing, passes_in, passes_in_arguments}
 use Rattle.lf_forks.specs.views.Holding.{beside, called, holds}
 use Rattle.lf_forks.specs.views.NameMarks.{NameMarks, has_mark}
 

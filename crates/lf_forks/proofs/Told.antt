@@ -1,6 +1,7 @@
 -- What is marked tells which selectors are forks, or are made by one.
 use Rattle.std.proofs.Common.{◌≡◌, ◌<◌, ◌+◌, ◌⊎◌, ◌↔◌, ℕ, Bool, true, false, cond, List, [], ◌∷◌, length, get_or, Option, Some, None, inl, inr, refl, sym, ◌∙◌, ap, subst, arith, true≢false}
 use Rattle.std.specs.List.{Contains, flat_map}
+use Rattle.std.proofs.Math.Path.{fun_ext}
 use Rattle.std.proofs.lemmas.Bool.{cases_lt, false_from_ne_true}
 use Rattle.std.proofs.lemmas.List.{get_or_past}
 use Rattle.lf_laws.proofs.Members.{behind, first_or_behind, here, in_flat_map, none_in, of_flat_map, only_one}
@@ -10,12 +11,11 @@ use Rattle.lf_ast.specs.Tree.{Tree}
 use Rattle.lf_graph.specs.Paths.{IsReached}
 use Rattle.lf_semantics.specs.Listing.{place}
 use Rattle.lf_semantics.proofs.Places.{at_place}
-use Rattle.lf_trials.specs.Forks.{has_own_fork, is_forked_selector}
+use Rattle.lf_trials.specs.Forks.{has_own_fork, has_passing, is_forked_selector}
 use Rattle.lf_trials.specs.Reached.{has_several_rules}
-use Rattle.lf_forks.specs.views.ForkTests.{IsForkRule, SelectsFork, TellsSelectors, has_passing}
+use Rattle.lf_forks.specs.views.ForkTests.{IsForkRule, SelectsFork, TellsSelectors}
 use Rattle.lf_forks.specs.views.NameMarks.{Marks, NameMarks, has_mark}
 use Rattle.lf_forks.specs.views.Uses.{AreOwn, AreUses, fork_nodes}
-use Rattle.lf_forks.proofs.ForkTests.{own_fork_by}
 use Rattle.lf_forks.proofs.MadeByForks.{IsStart, all_reached, made_reached, reached_made}
 use Rattle.lf_forks.proofs.Recorded.{placed, several_placed}
 use Rattle.lf_deps.proofs.Ordered.{named_source}
@@ -33,7 +33,7 @@ module _ (rules : List RuleTree) (own : NameMarks) (is : AreOwn rules own) where
   ]
 
   own_is : (e : Tree) → has_own_fork rules e ≡ has_passing (has_mark own) e
-  own_is e = own_fork_by rules (has_mark own) own_test e
+  own_is e = ap (λ (test : Option Bytes → Bool). has_passing test e) (fun_ext own_test)
 
   abbrev nodes : List ℕ
   nodes = flat_map (fork_nodes own) rules

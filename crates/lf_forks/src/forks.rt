@@ -3,7 +3,8 @@ ghost use Rattle.std.specs.Prelude.{◌≡◌, map, IfOk};
 ghost use Rattle.lf_ast.specs.Rules.{rule_trees};
 ghost use Rattle.lf_ast.specs.Tree.{tree, nodes};
 ghost use Rattle.lf_deps.specs.views.Sources.{IsSourcesOf};
-ghost use Rattle.lf_forks.specs.views.ForkTests.{TellsSelectors, has_passing};
+ghost use Rattle.lf_trials.specs.Forks.{has_passing};
+ghost use Rattle.lf_forks.specs.views.ForkTests.{TellsSelectors};
 ghost use Rattle.lf_forks.specs.views.Holding.{test_of};
 
 use crate::holding::{hold_each, holds};

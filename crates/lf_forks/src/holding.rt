@@ -2,8 +2,7 @@
 ghost use Rattle.std.specs.Prelude.{◌≡◌, ◌∷◌, [], length, map, IfOk};
 ghost use Rattle.std.specs.List.{list_any};
 ghost use Rattle.lf_ast.specs.Tree.{parts_of, tree, nodes};
-ghost use Rattle.lf_trials.specs.Forks.{is_or};
-ghost use Rattle.lf_forks.specs.views.ForkTests.{has_passing};
+ghost use Rattle.lf_trials.specs.Forks.{has_passing, is_or};
 ghost use Rattle.lf_forks.specs.views.Holding.{beside, called, holds};
 ghost use Rattle.lf_forks.specs.views.NameMarks.{has_mark};
 

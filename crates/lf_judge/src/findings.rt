@@ -4,7 +4,7 @@ ghost use Rattle.lf_ast.specs.Rules.{RuleTree};
 ghost use Rattle.lf_checks.specs.Files.{File};
 ghost use Rattle.lf_checks.specs.views.Shown.{all_shown, place_of, shown};
 ghost use Rattle.lf_judge.specs.Judged.{finding_in, finding_told};
-ghost use Rattle.lf_judge.specs.views.AtHand.{IsReady, TellsFindingsAt, files_at, rules_at};
+ghost use Rattle.lf_judge.specs.views.AtHand.{IsReady, TellsFindingsAt, files_at, rules_of_hand};
 
 use crate::at_hand::AtHand;
 use crate::wording::{check_name, severity};
@@ -27,7 +27,7 @@ pub fn findings_of(alloc: Global, hand: &AtHand, number: u32) -> Result<Seq<Find
 /// Findings as a report tells them.
 fn each_told(alloc: Global, hand: &AtHand, found: &[Found]) -> Result<Seq<Finding>, Memory>
     requires { IsReady hand.now }
-    ensures { IfOk result (λ told. map finding_in told ≡ map finding_told (all_shown (files_at hand.now) (rules_at hand.now) found.now)) }
+    ensures { IfOk result (λ told. map finding_in told ≡ map finding_told (all_shown (files_at hand.now) (rules_of_hand hand.now) found.now)) }
 {
     let mut told = Seq::new(alloc);
     for finding in found {
@@ -53,7 +53,7 @@ fn finding_told(alloc: Global, finding: &Found, place: &str) -> Result<Finding, 
 /// Where the name of the rule with a number stands, if there is such a rule: `FILE:LINE:COLUMN`, with the file's name as it is.
 fn other_place(alloc: Global, hand: &AtHand, other: Option<u32>) -> Result<Text, Memory>
     requires { IsReady hand.now }
-    ensures { IfOk result (λ place. place ≡ place_of (files_at hand.now) (rules_at hand.now) other) }
+    ensures { IfOk result (λ place. place ≡ place_of (files_at hand.now) (rules_of_hand hand.now) other) }
 {
     let Some(number) = other else {
         return Text::of(alloc, "");

@@ -2,7 +2,7 @@
 ghost use Rattle.std.specs.Prelude.{◌≤◌, ◌<◌, length, IfOk};
 ghost use Rattle.lf_built.specs.views.RuleRows.{AreRowsOf};
 ghost use Rattle.lf_worlds.specs.views.Readings.{AreReadingsBy};
-ghost use Rattle.lf_judge.specs.views.AtHand.{AreTrialsAt, IsReady, rules_at};
+ghost use Rattle.lf_judge.specs.views.AtHand.{AreTrialsAt, IsReady, rules_of_hand};
 ghost use Rattle.lf_judge.specs.views.RulesFound.{AreFoundAt, IsFoundAt, IsRowAt};
 
 use crate::at_hand::{AtHand, TELLING};
@@ -54,13 +54,13 @@ fn make_rows<R: Threads + Sync>(
     workers: u32,
 ) -> Result<Seq<RuleRow>, Memory>
     requires ready { IsReady hand.now }
-    requires readings { AreReadingsBy (rules_at hand.now) recorded.now.sources recorded.now.graph facts.now }
+    requires readings { AreReadingsBy (rules_of_hand hand.now) recorded.now.sources recorded.now.graph facts.now }
     requires workers { (0 < workers) × (workers ≤ 64) }
-    ensures { IfOk result (AreRowsOf hand.now.universe.now hand.now.env.now facts.now.forks (rules_at hand.now)) }
+    ensures { IfOk result (AreRowsOf hand.now.universe.now hand.now.env.now facts.now.forks (rules_of_hand hand.now)) }
 {
     let make_one = |number: u32| -> Result<RuleRow, Memory>
         requires ready { IsReady hand.now }
-        requires readings { AreReadingsBy (rules_at hand.now) recorded.now.sources recorded.now.graph facts.now }
+        requires readings { AreReadingsBy (rules_of_hand hand.now) recorded.now.sources recorded.now.graph facts.now }
         requires rule { number < length hand.now.rules.now }
         ensures { IfOk result (IsRowAt hand.entry.now facts.entry.now number) }
     { make_row(alloc, hand, recorded, facts, number) };
@@ -84,7 +84,7 @@ fn make_row(
     number: u32,
 ) -> Result<RuleRow, Memory>
     requires ready { IsReady hand.now }
-    requires readings { AreReadingsBy (rules_at hand.now) recorded.now.sources recorded.now.graph facts.now }
+    requires readings { AreReadingsBy (rules_of_hand hand.now) recorded.now.sources recorded.now.graph facts.now }
     requires rule { number < length hand.now.rules.now }
     ensures { IfOk result (IsRowAt hand.now facts.now number) }
 {
@@ -112,8 +112,8 @@ fn find_read<R: Threads + Sync, G: Gate + Sync>(
     gate: &G,
 ) -> Result<Seq<RuleFound>, Memory>
     requires ready { IsReady hand.now }
-    requires readings { AreReadingsBy (rules_at hand.now) recorded.now.sources recorded.now.graph facts.now }
-    requires rows { AreRowsOf hand.now.universe.now hand.now.env.now facts.now.forks (rules_at hand.now) rows }
+    requires readings { AreReadingsBy (rules_of_hand hand.now) recorded.now.sources recorded.now.graph facts.now }
+    requires rows { AreRowsOf hand.now.universe.now hand.now.env.now facts.now.forks (rules_of_hand hand.now) rows }
     requires workers { (0 < workers) × (workers ≤ 64) }
     ensures { IfOk result (AreFoundAt hand.now) }
 {

@@ -10,7 +10,7 @@ ghost use Rattle.lf_worlds.specs.views.Told.{rule_verdict};
 ghost use Rattle.lf_open.specs.OpenList.{IsFirstOpen};
 ghost use Rattle.lf_judge.specs.Judged.{Checked, files_of, finding_in, finding_told, has_unresolved, is_empty, rule_in, rule_told, verdicts_told};
 ghost use Rattle.lf_judge.specs.Limits.{most_rules};
-ghost use Rattle.lf_judge.specs.views.AtHand.{IsReady, TellsRuleAt, TellsRulesAt, rules_at};
+ghost use Rattle.lf_judge.specs.views.AtHand.{IsReady, TellsRuleAt, TellsRulesAt, rules_of_hand};
 ghost use Rattle.lf_judge.specs.views.Checking.{TellsRules};
 ghost use Rattle.lf_judge.specs.views.RulesFound.{AreFoundAt, IsFoundAt, NameFirsts};
 ghost use Rattle.lf_judge.specs.views.NamePositions.{AreNamePositions};
@@ -144,7 +144,7 @@ fn reports_of(
 ) -> Result<Seq<RuleReport>, Memory>
     requires few { length hand.now.rules.now ≤ most_rules }
     requires found { AreFoundAt hand.now found }
-    requires firsts { NameFirsts (rules_at hand.now) found firsts.now }
+    requires firsts { NameFirsts (rules_of_hand hand.now) found firsts.now }
     ensures { IfOk result (TellsRulesAt hand.now true) }
 {
     let mut taken = taken_out(alloc, found)?;
@@ -168,7 +168,7 @@ fn rule_with_labels(
 ) -> Result<RuleReport, Memory>
     requires rule { number < length hand.now.rules.now }
     requires found { IsFoundAt hand.now number found }
-    requires first { has_unresolved (rule_verdict found.known) ≡ true → IsFirstOpen (rules_at hand.now) number first }
+    requires first { has_unresolved (rule_verdict found.known) ≡ true → IsFirstOpen (rules_of_hand hand.now) number first }
     ensures { IfOk result (TellsRuleAt hand.now true number) }
 {
     let RuleFound { known, findings } = found;

@@ -27,11 +27,11 @@ use Rattle.lf_checks.proofs.TrueFindings.{finding_is_true}
 use Rattle.lf_laws.proofs.Booleans.{clash}
 use Rattle.lf_laws.proofs.Members.{any_has, here}
 use Rattle.lf_trials.specs.Candidates.{has_presence, labels_in, other_name}
-use Rattle.lf_trials.specs.Reached.{listed, rules_at}
 use Rattle.lf_trials.specs.Trials.{IsFirstShown, Shown, Shows}
 use Rattle.lf_trials.specs.Verdicts.{AreLabelVerdicts, IsLabelVerdict, IsRuleVerdict, LabelVerdict, RuleVerdict, Empty, Labels, Guaranteed, Impossible, Possible, Unresolved, leaves}
-use Rattle.lf_trials.proofs.ShownInWorlds.{built_is_scraped, found_in, is_lacking, is_there, steps_among, uniform_is_scraped}
-use Rattle.lf_witness.specs.StrictRuns.{RuleStrictlyGives}
+use Rattle.lf_trials.proofs.ShownInWorlds.{built_is_scraped, found_in, is_lacking, is_there, uniform_is_scraped}
+use Rattle.lf_witness.specs.StrictRuns.{RuleStrictlyGives, rules_at}
+use Rattle.lf_witness.proofs.RulesAt.{rules_among}
 use Rattle.lf_witness.proofs.StrictRunIsRun.{step_of, world_behind}
 use Rattle.lf_judge.specs.Founds.{accepted}
 use Rattle.lf_judge.specs.Judged.{AreChecked, Checked, IsReportOn, ToldRule, finding_in, finding_told, has_unresolved, is_empty, is_unresolved, labels_of, rule_in, rule_told, rules_told, unresolved_told, verdict_told, verdicts_told, world_told}
@@ -68,7 +68,7 @@ module _ (rules : List RuleTree) (env : Environment) (i : ℕ) (r : RuleTree) (a
       let gives : RuleStrictlyGives is.stored r (Some is.samples) = subst (λ (x : RuleTree). RuleStrictlyGives is.stored x (Some is.samples)) same is.are_samples.0 in
       let found = found_in (λ s. has_presence presence (value_of s label)) is.samples shown.sample is.is_sample in
       let trial = shown.trial in
-      let made = world_behind rules trial.series (is_scraped shown first) (rules_at rules trial.steps) (steps_among rules trial.steps) is.stored is.is_stored.0 r is.samples (member_at rules i r at) gives in
+      let made = world_behind rules trial.series (is_scraped shown first) (rules_at rules trial.steps) (rules_among rules trial.steps) is.stored is.is_stored.0 r is.samples (member_at rules i r at) gives in
       let last : Contains made.0.steps (step_of r is.samples) =
       subst (λ (l : List Step). Contains l (step_of r is.samples)) (sym made.3) (Contains-append_right made.1 (step_of r is.samples ∷ []) (step_of r is.samples) (here (step_of r is.samples) [])) in (
         record {

@@ -27,9 +27,8 @@ use Rattle.lf_semantics.specs.RowTable.{Environment, may_be_absent, may_be_prese
 use Rattle.lf_semantics.specs.Texts.{Has}
 use Rattle.lf_semantics.specs.Worlds.{World, IsSample, Step}
 use Rattle.lf_trials.specs.Candidates.{is_one_of, other_name}
-use Rattle.lf_trials.specs.Reached.{rules_at}
 use Rattle.lf_trials.specs.Trials.{IsNotShown, Shown, Shows}
-use Rattle.lf_witness.specs.StrictRuns.{IsStrictRun, RuleStrictlyGives}
+use Rattle.lf_witness.specs.StrictRuns.{IsStrictRun, RuleStrictlyGives, rules_at}
 use Rattle.lf_words.specs.declared.options.Options.{Options}
 use Rattle.lf_lint.specs.Asked.{output_of, written}
 use Rattle.lf_lint.specs.Ends.{Judged, Wrote}

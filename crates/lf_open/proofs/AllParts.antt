@@ -10,7 +10,7 @@ use Rattle.lf_deps.specs.views.Names.{IsPlaced}
 use Rattle.lf_forks.specs.views.ForkTests.{TellsSelectors}
 use Rattle.lf_forks.specs.views.Holding.{test_of}
 use Rattle.lf_open.specs.Holding.{has_own_source, names_le}
-use Rattle.lf_open.specs.Standing.{standing}
+use Rattle.lf_semantics.specs.Standing.{standing}
 use Rattle.lf_open.specs.declared.open_at.OpenAt.{OpenAt}
 use Rattle.lf_open.specs.views.Known.{IsOfRule}
 use Rattle.lf_open.specs.views.Marks.{TellsReading}

@@ -13,13 +13,12 @@ use Rattle.std.proofs.lemmas.Bool.{or_cases, or_left, or_right}
 use Rattle.lf_ast.specs.declared.expr.Expr.{Expr}
 use Rattle.lf_ast.specs.views.Walks.{trees_at}
 use Rattle.lf_semantics.specs.Parts.{is_scalar_part, outside_scalars}
-use Rattle.lf_deps.specs.Reading.{Reads, SelectsBy, arguments_selectors, selectors, selectors_in}
+use Rattle.lf_deps.specs.Reading.{Reads, SelectsBy, arguments_selectors, own_selectors, selectors, selectors_in}
 use Rattle.lf_deps.specs.Reading.Reads.{selected, through}
 use Rattle.lf_deps.specs.views.Search.{ReadsBy}
-use Rattle.lf_deps.specs.views.Selecting.{own_selectors}
 use Rattle.lf_forks.specs.views.NameMarks.{NameMarks, has_mark}
 use Rattle.lf_open.specs.Holding.{Holds, has_no_argument, is_source, matches_le}
-use Rattle.lf_open.specs.Standing.{arguments_standing, standing, standing_in}
+use Rattle.lf_semantics.specs.Standing.{arguments_standing, standing, standing_in}
 use Rattle.lf_open.specs.views.Marks.{TellsReading, marks_tree}
 use Rattle.lf_open.specs.views.Speaking.{AreSpeaking, speaks}
 

@@ -11,7 +11,8 @@ use Rattle.lf_ast.specs.Tree.{Tree, Number, Str, Selector, Subquery, Paren, Unar
 use Rattle.lf_semantics.specs.Grouped.{is_metric}
 use Rattle.lf_semantics.proofs.ScalarCalls.{selector_is_no_scalar}
 use Rattle.lf_trials.specs.Reached.{has_several_rules}
-use Rattle.lf_forks.specs.views.ForkTests.{SelectsFork, TellsSelectors, has_passing}
+use Rattle.lf_trials.specs.Forks.{has_passing}
+use Rattle.lf_forks.specs.views.ForkTests.{SelectsFork, TellsSelectors}
 use Rattle.lf_open.specs.Constructs.{HasForkInMaking, NarrowsFork}
 use Rattle.lf_open.specs.views.Names.{narrows}
 use Rattle.lf_open.proofs.ByOperator.{never}

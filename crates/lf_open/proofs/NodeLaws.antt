@@ -18,7 +18,7 @@ use Rattle.lf_ast.specs.declared.functions.LabelEffect.TheVariants.{Absent, Coun
 use Rattle.lf_ast.specs.views.Walks.{trees_at}
 use Rattle.lf_open.specs.Constructs.{IsForked, IsMatcher, IsOpenAt, SaysName, SaysNoName, effect_of}
 use Rattle.lf_open.specs.OpenList.{AreOpenOf, IsOpenIn, IsOpenOf, open_cmp}
-use Rattle.lf_open.specs.Standing.{standing}
+use Rattle.lf_semantics.specs.Standing.{standing}
 use Rattle.lf_open.specs.declared.construct.Construct.{Construct}
 use Rattle.lf_open.specs.declared.construct.Construct.TheVariants.{SharedMetric, UnnamedSelector, ComplexPattern, MadeLabel, Forked, LoudUnless, CyclicName, NamedBucket, OpenAbsent}
 use Rattle.lf_open.specs.declared.open_at.OpenAt.{OpenAt}

@@ -16,7 +16,7 @@ use Rattle.lf_deps.specs.views.Selecting.{is_scalar_call}
 use Rattle.lf_laws.proofs.Members.{none_in}
 use Rattle.lf_semantics.proofs.Members.{in_filter, of_filter}
 use Rattle.lf_semantics.specs.Parts.{is_scalar_part}
-use Rattle.lf_open.specs.Standing.{arguments_standing, standing, standing_in}
+use Rattle.lf_semantics.specs.Standing.{arguments_standing, standing, standing_in}
 use Rattle.lf_open.specs.views.Speaking.{AreSpeaking, own_speaking, speaks}
 
 -- what stands in an expression

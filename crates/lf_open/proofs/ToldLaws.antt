@@ -12,11 +12,10 @@ use Rattle.lf_ast.specs.Labels.{Bytes}
 use Rattle.lf_ast.specs.Tree.{Tree, Trees, Number, Str, Selector, Subquery, Paren, Unary, Binary, Call, Aggregate, Nil, Next, list, parts_of}
 use Rattle.lf_ast.specs.Types.{is_scalar, selected}
 use Rattle.lf_ast.specs.declared.expr.ExprType.TheVariants.{Scalar, Vector}
-use Rattle.lf_forks.specs.views.ForkTests.{has_passing, passes_in, passes_in_arguments}
 use Rattle.lf_forks.specs.views.Holding.{test_of}
 use Rattle.lf_semantics.specs.Parts.{is_scalar_part}
-use Rattle.lf_trials.specs.Forks.{is_or}
-use Rattle.lf_open.specs.Standing.{standing}
+use Rattle.lf_trials.specs.Forks.{has_passing, is_or, passes_in, passes_in_arguments}
+use Rattle.lf_semantics.specs.Standing.{standing}
 use Rattle.lf_open.specs.declared.open_at.OpenAt.{OpenAt}
 use Rattle.lf_open.specs.declared.told.Told.{Told}
 use Rattle.lf_open.specs.views.Told.{Facts, appended, beside, gathered, joined, made, nothing, own, own_bucket, own_fork, own_loud, own_numbers, own_opens, put_all, scalar_by, told, told_each}

@@ -25,7 +25,7 @@ use Rattle.lf_semantics.proofs.Written.{asks, between, call, number, paren, plac
 use Rattle.lf_open.specs.Constructs.{IsOpenAt}
 use Rattle.lf_open.specs.Holding.{CannotBeSilent, NamesLe, has_own_le, has_own_source}
 use Rattle.lf_open.specs.OpenList.{IsOpenIn}
-use Rattle.lf_open.specs.Standing.{standing}
+use Rattle.lf_semantics.specs.Standing.{standing}
 use Rattle.lf_open.specs.declared.construct.Construct.{Construct}
 use Rattle.lf_open.specs.declared.construct.Construct.TheVariants.{SharedMetric, UnnamedSelector, ComplexPattern, MadeLabel, Forked, LoudUnless, CyclicName, NamedBucket, OpenAbsent}
 use Rattle.lf_open.proofs.Unread.{SelectsScraped, reads_selected}

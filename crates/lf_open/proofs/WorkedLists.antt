@@ -23,7 +23,7 @@ use Rattle.lf_open.proofs.WorkedConstructs.{is_no_effect}
 use Rattle.lf_open.specs.Constructs.{IsOpenAt}
 use Rattle.lf_open.specs.Holding.{CannotBeSilent, has_own_source}
 use Rattle.lf_open.specs.OpenList.{AreOpen, AreOpenOf, IsOpenIn, IsOpenOf, open_cmp}
-use Rattle.lf_open.specs.Standing.{standing}
+use Rattle.lf_semantics.specs.Standing.{standing}
 use Rattle.lf_open.specs.declared.construct.Construct.{Construct}
 use Rattle.lf_open.specs.declared.construct.Construct.TheVariants.{SharedMetric, UnnamedSelector, ComplexPattern, MadeLabel, Forked, LoudUnless, CyclicName, NamedBucket, OpenAbsent}
 use Rattle.lf_open.specs.declared.open_at.OpenAt.{OpenAt}

@@ -8,7 +8,7 @@ use Rattle.lf_ast.specs.Tree.{Tree, Trees, Selector, Call, Nil, Next}
 use Rattle.lf_ast.specs.declared.functions.LabelEffect.{LabelEffect}
 use Rattle.lf_ast.specs.declared.functions.LabelEffect.TheVariants.{Absent, Bare, Date}
 use Rattle.lf_deps.specs.Reading.{Reaches}
-use Rattle.lf_open.specs.Standing.{standing}
+use Rattle.lf_semantics.specs.Standing.{standing}
 
 -- the arguments of a call, and none of any other expression
 abbrev pub arguments_of : Tree → Trees

@@ -1,4 +1,3 @@
-pub mod Standing
 pub mod Holding
 pub mod Constructs
 pub mod OpenList

@@ -12,7 +12,7 @@ use Rattle.lf_deps.specs.Ordering.{without}
 use Rattle.lf_deps.specs.Reading.{Reaches}
 use Rattle.lf_trials.specs.Reached.{IsReach}
 use Rattle.lf_open.specs.Constructs.{IsOpenAt, number_of}
-use Rattle.lf_open.specs.Standing.{standing}
+use Rattle.lf_semantics.specs.Standing.{standing}
 use Rattle.lf_open.specs.declared.construct.Construct.{Construct}
 use Rattle.lf_open.specs.declared.open_at.OpenAt.{OpenAt}
 

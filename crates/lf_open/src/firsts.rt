@@ -5,7 +5,7 @@ ghost use Rattle.lf_deps.specs.Ordering.{without};
 ghost use Rattle.lf_open.specs.OpenList.{IsFirstOpen};
 ghost use Rattle.lf_open.specs.views.Firsts.{AreFirstsReady, AreKept, IsFirstOfEach, IsOwnFirst, earlier, rules_in};
 ghost use Rattle.lf_open.specs.views.Known.{IsKnown, rules_of};
-ghost use Rattle.lf_open.specs.views.Opens.{AreReady, rules_at};
+ghost use Rattle.lf_open.specs.views.Opens.{AreReady, rules_of_opens};
 
 use crate::known::Known;
 use crate::open_at::OpenAt;
@@ -27,7 +27,7 @@ impl<'a> OpenFirsts<'a> {
     /// Those of rules of which none was looked at.
     pub fn of(alloc: Global, opens: &'a Opens<'a>) -> Result<OpenFirsts<'a>, Memory>
         requires { AreReady opens.now }
-        ensures { IfOk result (λ firsts. AreFirstsReady firsts × (rules_in firsts ≡ rules_at opens.now)) }
+        ensures { IfOk result (λ firsts. AreFirstsReady firsts × (rules_in firsts ≡ rules_of_opens opens.now)) }
     {
         let own = vec![in alloc; None; opens.rules.len()]?;
         Ok(OpenFirsts { opens, own })

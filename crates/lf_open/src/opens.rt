@@ -5,7 +5,7 @@ ghost use Rattle.lf_ast.specs.Rules.{RuleTree, rule_trees};
 ghost use Rattle.lf_deps.specs.Ordering.{without};
 ghost use Rattle.lf_open.specs.OpenList.{AreOpen, AreOpenOf};
 ghost use Rattle.lf_open.specs.views.Known.{IsKnown, rules_of};
-ghost use Rattle.lf_open.specs.views.Opens.{AreMarked, AreOpens, AreReads, AreReady, IsListOf, rules_at};
+ghost use Rattle.lf_open.specs.views.Opens.{AreMarked, AreOpens, AreReads, AreReady, IsListOf, rules_of_opens};
 
 use crate::adding::push_all;
 use crate::known::Known;
@@ -72,7 +72,7 @@ impl<'a> Opens<'a> {
     /// The open constructs of the rule of number `i`.
     pub fn list(&self, alloc: Global, i: u32) -> Result<Seq<OpenAt>, Memory>
         requires opens { AreReady self.now }
-        requires rule { i < length (rules_at self.now) }
+        requires rule { i < length (rules_of_opens self.now) }
         ensures { (rules : List RuleTree) → AreOpens rules self.now → IfOk result (AreOpen rules i) }
     {
         let known = self.known();
@@ -85,7 +85,7 @@ impl<'a> Opens<'a> {
     /// What is known of the rules.
     pub(crate) fn known(&self) -> Known<'_>
         requires { AreReady self.now }
-        ensures { IsKnown result × (rules_of result ≡ rules_at self.now) }
+        ensures { IsKnown result × (rules_of result ≡ rules_of_opens self.now) }
     {
         Known {
             rules: self.rules,

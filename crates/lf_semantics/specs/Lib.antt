@@ -8,6 +8,7 @@ pub mod Parts
 pub mod Passing
 pub mod PatternBreaches
 pub mod RowTable
+pub mod Standing
 pub mod Strings
 pub mod Texts
 pub mod Mentions

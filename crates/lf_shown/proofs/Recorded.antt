@@ -1,5 +1,5 @@
 -- What is built for a recorded name: by the first rule that fits.
-use Rattle.std.proofs.Common.{◌≡◌, ◌≢◌, ◌<◌, ◌⊎◌, inl, inr, ℕ, zero, suc, ◌+◌, Bool, true, false, not, ◌||◌, cond, eqb, List, [], ◌∷◌, ◌++◌, map, length, Option, Some, None, refl, sym, ◌∙◌, ap, subst, arith, option_and_then, option_map, slice_get}
+use Rattle.std.proofs.Common.{◌≡◌, ◌≢◌, ◌<◌, ◌⊎◌, inl, inr, ℕ, zero, suc, ◌+◌, Bool, true, false, not, ◌||◌, cond, eqb, List, [], ◌∷◌, ◌++◌, map, length, Option, Some, None, refl, sym, ◌∙◌, ap, subst, arith, option_and_then, option_map, slice_get, option_to_list}
 use Rattle.std.proofs.lemmas.Bool.{not-true}
 use Rattle.std.proofs.lemmas.Bool.{or_parts}
 use Rattle.std.proofs.lemmas.Bool.{eqb-true}
@@ -33,7 +33,8 @@ use Rattle.lf_semantics.proofs.Places.{label_test, metric_listed, same_text}
 use Rattle.lf_semantics.proofs.SamplesRepresented.{name_of_stored, represents_leq, represents_stored, stored_texts}
 use Rattle.lf_semantics.proofs.Soundness.{shape_of_row}
 use Rattle.lf_witness.specs.Strict.{AreSelected, IsSet, StrictlyEvaluates}
-use Rattle.lf_witness.specs.StrictRuns.{IsStored, StepAdds, StoredOf, StrictlyStored}
+use Rattle.lf_witness.specs.StrictRuns.{IsStored, StepAdds, StoredOf, StrictlyStored, rules_at}
+use Rattle.lf_witness.proofs.RulesAt.{rules_both}
 use Rattle.lf_witness.proofs.SameSets.{same_itself}
 use Rattle.lf_deps.specs.Reading.{IsCyclic, Reads, Records, selectors}
 use Rattle.lf_trials.specs.Building.{Builder, Building, with_step}
@@ -41,7 +42,7 @@ use Rattle.lf_trials.specs.Built.{before_recording, build, build_by_rule, builde
 use Rattle.lf_trials.specs.Candidates.{is_one_of, labels_in}
 use Rattle.lf_trials.specs.Forks.{TellsForks}
 use Rattle.lf_trials.specs.Given.{Given, holds_texts, losing}
-use Rattle.lf_trials.specs.Reached.{first_rule, has_several_rules, is_marked, listed, rules_at}
+use Rattle.lf_trials.specs.Reached.{first_rule, has_several_rules, is_marked}
 use Rattle.lf_shown.specs.Agreement.{AgreeOn, Gives, Names}
 use Rattle.lf_shown.proofs.Rows.{Held, replaced_held, replaced_passes, replaced_was_live}
 use Rattle.lf_shown.proofs.Choices.{AtMostOne, Gave, HoldsGiven, In, IsSmall, few_lost, holds_by_test, of_losing, test_by_holds}
@@ -50,7 +51,7 @@ use Rattle.lf_shown.proofs.Made.{Answers, IsMade, one_apart}
 use Rattle.lf_shown.proofs.Reading.{no_fork}
 use Rattle.lf_shown.proofs.Selectors.{IsHanded, NameReads}
 use Rattle.lf_classes.proofs.Cutting.{sum_cons}
-use Rattle.lf_shown.proofs.Worlds.{agree_less, count_both, once_both, rules_both, stored_then}
+use Rattle.lf_shown.proofs.Worlds.{agree_less, count_both, once_both, stored_then}
 
 -- ---- the labels of a rule
 
@@ -213,7 +214,7 @@ module _ (u : Listing) (rules : List RuleTree) (p : IsListing u) (small : IsSmal
 
       one_count : selector_count rules (k ∷ []) ≡ length (selectors r.expr)
       one_count =
-          let e : rules_at rules (k ∷ []) ≡ r ∷ [] = ap (λ (o : Option RuleTree). listed o ++ []) at in
+          let e : rules_at rules (k ∷ []) ≡ r ∷ [] = ap (λ (o : Option RuleTree). option_to_list o ++ []) at in
           ap (λ rs. sum (map (λ r. length (selectors r.expr)) rs)) e ∙ (let f = sum_cons (length (selectors r.expr)) [] in omega (arith, f))
 
       adds : (V : List Labels) → StrictlyEvaluates V r.expr (Some (one ∷ [])) → StepAdds V r (Some (kept ∷ []))
@@ -240,7 +241,7 @@ module _ (u : Listing) (rules : List RuleTree) (p : IsListing u) (small : IsSmal
             let V : List Labels = run.0 in
             let given : StrictlyEvaluates V r.expr (Some (one ∷ [])) = run.3 V (agrees_itself (Reads rules r.expr) V) in (
               V ++ (kept ∷ []),
-              subst (λ rs. StrictlyStored W rs (Some (V ++ (kept ∷ [])))) (sym (rules_both rules b.steps (k ∷ []) ∙ ap (λ (o : Option RuleTree). rules_at rules b.steps ++ (listed o ++ [])) at))
+              subst (λ rs. StrictlyStored W rs (Some (V ++ (kept ∷ [])))) (sym (rules_both rules b.steps (k ∷ []) ∙ ap (λ (o : Option RuleTree). rules_at rules b.steps ++ (option_to_list o ++ [])) at))
                   (stored_then (rules_at rules b.steps) (r ∷ []) W V (V ++ (kept ∷ [])) run.1 (inr (kept ∷ [], adds V given, same_itself (V ++ (kept ∷ []))))),
               record {
                 kept = λ s c. Contains-append_left V (kept ∷ []) s (run.2.kept s c);

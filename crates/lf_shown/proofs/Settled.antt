@@ -38,7 +38,7 @@ use Rattle.lf_trials.specs.Selected.{Selected, selected_in, selected_in_argument
 use Rattle.lf_open.specs.Constructs.{IsOpenAt}
 use Rattle.lf_open.specs.Holding.{CannotBeSilent, NamesLe, has_own_le, has_own_source, is_source, matches_le}
 use Rattle.lf_open.specs.OpenList.{IsSettled}
-use Rattle.lf_open.specs.Standing.{arguments_standing, standing, standing_in}
+use Rattle.lf_semantics.specs.Standing.{arguments_standing, standing, standing_in}
 use Rattle.lf_open.specs.declared.construct.Construct.{Construct}
 use Rattle.lf_open.specs.declared.construct.Construct.TheVariants.{SharedMetric, UnnamedSelector, ComplexPattern, MadeLabel, Forked, LoudUnless, CyclicName, NamedBucket, OpenAbsent}
 use Rattle.lf_open.proofs.Settled.{settled}

@@ -1,6 +1,6 @@
 -- In the least environment: where no construct is open, each choice of texts that the row of an expression without forks holds is given alone by the world that is built for it, and the
 -- built world of a rule shows each presence that the row leaves to a label.
-use Rattle.std.proofs.Common.{◌≡◌, ◌≤◌, inl, inr, ℕ, ◌+◌, ◌*◌, Bool, true, false, not, cond, List, [], ◌∷◌, ◌++◌, map, length, Option, Some, None, refl, sym, ◌∙◌, ap, subst, arith, option_and_then, slice_get}
+use Rattle.std.proofs.Common.{◌≡◌, ◌≤◌, inl, inr, ℕ, ◌+◌, ◌*◌, Bool, true, false, not, cond, List, [], ◌∷◌, ◌++◌, map, length, Option, Some, None, refl, sym, ◌∙◌, ap, subst, arith, option_and_then, slice_get, option_to_list}
 use Rattle.std.specs.Prelude.{is_some, nat_lt, unwrap_or}
 use Rattle.std.specs.List.{Contains, filter, sum}
 use Rattle.std.specs.Ordering.{is_eq}
@@ -35,7 +35,8 @@ use Rattle.lf_trials.specs.Built.{build, build_by_rule, builder, built_trial, se
 use Rattle.lf_trials.specs.Candidates.{candidates_in, has_presence, in_row, labels_in}
 use Rattle.lf_trials.specs.Forks.{HoldsFork, TellsForks}
 use Rattle.lf_trials.specs.Given.{Given, giving, label_set, nothing_given}
-use Rattle.lf_trials.specs.Reached.{Trial, rules_at, with_reach}
+use Rattle.lf_witness.specs.StrictRuns.{rules_at}
+use Rattle.lf_trials.specs.Reached.{Trial, with_reach}
 use Rattle.lf_trials.specs.Trials.{Shown, ShowsBuilt}
 use Rattle.lf_trials.specs.Verdicts.{leaves}
 use Rattle.lf_trials.proofs.BuiltSeries.{once_there}
@@ -233,7 +234,7 @@ module _ (u : Listing) (p : IsListing u) (small : IsSmall u) (rules : List RuleT
             let most = count_most rules (i ∷ b.steps) (with_reach i (reach_of rules r.expr)) (not_itself b one gives, gives.steps_once) (λ k c. inside k c) in
             let front = count_front rules i b.steps in
             let own : selector_count rules (i ∷ []) ≡ length (selectors r.expr) =
-            ap (λ (o : Option RuleTree). sum (map (λ r. length (selectors r.expr)) (Rattle.lf_trials.specs.Reached.listed o ++ []))) at ∙ (let f = sum_cons (length (selectors r.expr)) [] in omega (arith, f)) in
+            ap (λ (o : Option RuleTree). sum (map (λ r. length (selectors r.expr)) (option_to_list o ++ []))) at ∙ (let f = sum_cons (length (selectors r.expr)) [] in omega (arith, f)) in
             let few = gives.few in
             omega (arith, most, front, own, few)
           where

@@ -27,7 +27,7 @@ use Rattle.lf_semantics.specs.Parts.{is_scalar_part, operand_place, outside_scal
 use Rattle.lf_semantics.proofs.TypeForms.{type_is_form}
 use Rattle.lf_semantics.proofs.ScalarCalls.{found_passes}
 use Rattle.lf_open.specs.Holding.{gives_by_itself, has_no_argument, is_source}
-use Rattle.lf_open.specs.Standing.{arguments_standing, standing_in}
+use Rattle.lf_semantics.specs.Standing.{arguments_standing, standing_in}
 use Rattle.lf_shown.specs.Silence.{argument_can_be_silent, can_be_silent, effect_can_be_silent}
 
 -- ---- lists in which nothing passes

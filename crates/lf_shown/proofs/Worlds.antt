@@ -2,7 +2,6 @@
 use Rattle.std.proofs.Common.{◌≡◌, inl, inr, ◌≤◌, ◌+◌, ℕ, List, [], ◌∷◌, ◌++◌, length, map, Option, Some, None, sym, ◌∙◌, ap, subst, arith, slice_get}
 use Rattle.std.specs.List.{Contains, sum}
 use Rattle.std.proofs.lemmas.List.Elements.{Contains-append_left, Contains-append_right, Contains-append_cases}
-use Rattle.std.proofs.lemmas.Grind.{flat_map-append}
 use Rattle.std.proofs.lemmas.List.Sums.{sum_by-append}
 use Rattle.lf_laws.proofs.Members.{behind, here}
 use Rattle.lf_ast.specs.Labels.{Bytes, Labels}
@@ -12,12 +11,12 @@ use Rattle.lf_semantics.specs.Listing.{AreDistinct}
 use Rattle.lf_semantics.specs.Texts.{value_of}
 use Rattle.lf_deps.specs.Reading.{selectors}
 use Rattle.lf_witness.specs.Strict.{Outcomes}
-use Rattle.lf_witness.specs.StrictRuns.{StrictlyStored}
+use Rattle.lf_witness.specs.StrictRuns.{StrictlyStored, rules_at}
 use Rattle.lf_witness.proofs.SameSets.{turned}
 use Rattle.lf_witness.proofs.Answers.{stored_into}
+use Rattle.lf_witness.proofs.RulesAt.{rules_both}
 use Rattle.lf_trials.specs.Building.{Building, both}
 use Rattle.lf_trials.specs.Built.{selector_count}
-use Rattle.lf_trials.specs.Reached.{listed, rules_at}
 use Rattle.lf_shown.specs.Agreement.{AgreeOn, Extends, Gives, Names}
 
 -- ---- stored samples
@@ -28,9 +27,6 @@ stored_then (r ∷ rules) later W V T (inl none) then = absurd none.1
 stored_then (r ∷ rules) later W V T (inr some) then = inr (some.0, some.1, stored_then rules later (W ++ some.0) V T some.2 then)
 
 -- ---- numbers
-
-pub rules_both : (rules : List RuleTree) (ks js : List ℕ) → rules_at rules (ks ++ js) ≡ rules_at rules ks ++ rules_at rules js
-rules_both rules ks js = flat_map-append (λ k. listed (slice_get rules k)) ks js
 
 pub count_both : (rules : List RuleTree) (ks js : List ℕ) → selector_count rules (ks ++ js) ≡ selector_count rules ks + selector_count rules js
 count_both rules ks js =

@@ -7,10 +7,9 @@ use Rattle.lf_ast.specs.Selectors.{metric}
 use Rattle.lf_semantics.specs.Listing.{AreDistinct}
 use Rattle.lf_semantics.specs.Texts.{value_of}
 use Rattle.lf_witness.specs.Strict.{Outcomes}
-use Rattle.lf_witness.specs.StrictRuns.{StrictlyStored}
+use Rattle.lf_witness.specs.StrictRuns.{StrictlyStored, rules_at}
 use Rattle.lf_trials.specs.Building.{Building}
 use Rattle.lf_trials.specs.Built.{selector_count}
-use Rattle.lf_trials.specs.Reached.{rules_at}
 
 -- some metric names
 abbrev pub Names : Type 1

@@ -4,9 +4,9 @@ use Rattle.lf_ast.specs.Labels.{Labels}
 use Rattle.lf_ast.specs.Rules.{RuleTree}
 use Rattle.lf_ast.specs.Tree.{Tree}
 use Rattle.lf_deps.specs.Reading.{Reads}
-use Rattle.lf_witness.specs.StrictRuns.{IsRunAnswer, IsStrictAnswer}
+use Rattle.lf_witness.specs.StrictRuns.{IsRunAnswer, IsStrictAnswer, rules_at}
 use Rattle.lf_trials.specs.Building.{Building, each_once}
-use Rattle.lf_trials.specs.Reached.{is_marked, rules_at}
+use Rattle.lf_trials.specs.Reached.{is_marked}
 use Rattle.lf_shown.specs.Agreement.{AgreeOn}
 
 -- The steps evaluate strictly over the series, each taken once, and the answer for the expression is the one label set alone: over what is stored after the steps, and over all

@@ -5,9 +5,9 @@ use Rattle.lf_ast.specs.Rules.{RuleTree, rule_trees}
 use Rattle.lf_ast.specs.Tree.{Tree}
 use Rattle.lf_ast.specs.declared.rule.Rule.{Rule}
 use Rattle.lf_witness.specs.Strict.{AreSame}
-use Rattle.lf_witness.specs.StrictRuns.{IsStrictAnswer}
+use Rattle.lf_witness.specs.StrictRuns.{IsStrictAnswer, rules_at}
 use Rattle.lf_witness.proofs.AscendingLists.{in_order}
-use Rattle.lf_strict.specs.Steps.{IsAnswerAfter, rules_at}
+use Rattle.lf_strict.specs.Steps.{IsAnswerAfter}
 use Rattle.lf_strict.specs.views.Running.{IsStretch}
 use Rattle.lf_strict.proofs.Answered.{over_same}
 use Rattle.lf_strict.proofs.Runs.{run_answer, run_none}

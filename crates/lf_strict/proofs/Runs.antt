@@ -1,21 +1,18 @@
 -- Steps of rules and stretches of them, and runs over series.
-use Rattle.std.proofs.Common.{◌≡◌, inl, inr, ◌+◌, ◌<◌, ◌++◌, ℕ, zero, suc, true, false, List, [], ◌∷◌, Option, Some, None, drop, get_or, length, take, append-nil, append_assoc, refl, sym, ap, ◌∙◌, subst, arith}
-use Rattle.std.specs.List.{Contains}
+use Rattle.std.proofs.Common.{◌≡◌, inl, inr, ◌+◌, ◌<◌, ◌++◌, ℕ, zero, suc, true, false, List, [], ◌∷◌, Option, Some, None, drop, get_or, length, take, append-nil, append_assoc, option_to_list, sym, ap, ◌∙◌, subst, arith}
 use Rattle.std.specs.Prelude.{slice_get, IfSome}
 use Rattle.std.proofs.lemmas.List.{take_more}
-use Rattle.lf_laws.proofs.Members.{first_or_behind, none_in}
-use Rattle.lf_laws.proofs.Slices.{member_at}
 use Rattle.lf_ast.specs.Labels.{Labels}
 use Rattle.lf_ast.specs.Rules.{RuleTree}
 use Rattle.lf_semantics.specs.Parts.{is_evaluated, type_by_form}
 use Rattle.lf_semantics.specs.Worlds.{AreScraped, World}
 use Rattle.lf_witness.specs.Ascending.{IsAscending}
 use Rattle.lf_witness.specs.Strict.{AreSame}
-use Rattle.lf_witness.specs.StrictRuns.{IsRuleAnswer, IsRunAnswer, IsStrictRun, StrictlyStored}
+use Rattle.lf_witness.specs.StrictRuns.{IsRuleAnswer, IsRunAnswer, IsStrictRun, StrictlyStored, rules_at}
 use Rattle.lf_witness.proofs.Answers.{stored_into}
+use Rattle.lf_witness.proofs.RulesAt.{rules_among, rules_both}
 use Rattle.lf_witness.proofs.SameSets.{turned}
 use Rattle.lf_witness.proofs.StrictRunIsRun.{world_of}
-use Rattle.lf_strict.specs.Steps.{rules_at, with_rule}
 use Rattle.lf_strict.specs.views.Running.{IsStep, IsStretch}
 
 -- a rule
@@ -37,40 +34,25 @@ step_none W V U rules later r before none = before (r ∷ later) None (inl (none
 
 -- the rules of the steps
 
-with_rule_append : (o : Option RuleTree) (A B : List RuleTree) → with_rule o A ++ B ≡ with_rule o (A ++ B)
-with_rule_append None A B = refl
-with_rule_append (Some r) A B = refl
-
 module _ (rules : List RuleTree) where
   pub rules_at_push : (steps : List ℕ) (x : ℕ) (r : RuleTree) → slice_get rules x ≡ Some r → rules_at rules (steps ++ x ∷ []) ≡ rules_at rules steps ++ r ∷ []
-  rules_at_push [] x r e = ap (λ o. with_rule o []) e
-  rules_at_push (y ∷ steps) x r e = ap (with_rule (slice_get rules y)) (rules_at_push steps x r e) ∙ sym (with_rule_append (slice_get rules y) (rules_at rules steps) (r ∷ []))
+  rules_at_push steps x r e = rules_both rules steps (x ∷ []) ∙ ap (λ (o : Option RuleTree). rules_at rules steps ++ (option_to_list o ++ [])) e
 
   pub rules_at_more : (steps : List ℕ) (k x : ℕ) (r : RuleTree) → k < length steps → x ≡ get_or steps k x → slice_get rules x ≡ Some r → rules_at rules (take (k + 1) steps) ≡ rules_at rules (take k steps) ++ r ∷ []
   rules_at_more steps k x r lt is e = ap (rules_at rules) (take_more steps k x lt ∙ ap (λ (y : ℕ). take k steps ++ y ∷ []) (sym is)) ∙ rules_at_push (take k steps) x r e
 
   pub rules_at_whole : (steps : List ℕ) (k x : ℕ) (r : RuleTree) → k < length steps → x ≡ get_or steps k x → slice_get rules x ≡ Some r → rules_at rules (take k steps) ++ r ∷ rules_at rules (drop (suc k) steps) ≡ rules_at rules steps
   rules_at_whole [] k x r lt is e = absurd (omega (arith, lt))
-  rules_at_whole (y ∷ steps) zero x r lt is e = ap (λ o. with_rule o (rules_at rules steps)) (sym e ∙ ap (slice_get rules) is)
+  rules_at_whole (y ∷ steps) zero x r lt is e = ap (λ (o : Option RuleTree). option_to_list o ++ rules_at rules steps) (sym e ∙ ap (slice_get rules) is)
   rules_at_whole (y ∷ steps) (suc k) x r lt is e =
-      with_rule_append (slice_get rules y) (rules_at rules (take k steps)) (r ∷ rules_at rules (drop (suc k) steps)) ∙ ap (with_rule (slice_get rules y)) (rules_at_whole steps k x r (omega (arith, lt)) is e)
-
-  pub rules_at_among : (steps : List ℕ) (r : RuleTree) → Contains (rules_at rules steps) r → Contains rules r
-  rules_at_among [] r c = absurd (none_in r c)
-  rules_at_among (y ∷ steps) r c = by (slice_get rules y) refl c (rules_at_among steps r)
-    where
-      by : (o : Option RuleTree) → slice_get rules y ≡ o → Contains (with_rule o (rules_at rules steps)) r → (Contains (rules_at rules steps) r → Contains rules r) → Contains rules r
-      by None e c rest = rest c
-      by (Some q) e c rest = elim (first_or_behind q (rules_at rules steps) r c) [
-        | inl same ↦ subst (Contains rules) same (member_at rules y q e)
-        | inr later ↦ rest later
-      ]
+      append_assoc (option_to_list (slice_get rules y)) (rules_at rules (take k steps)) (r ∷ rules_at rules (drop (suc k) steps))
+      ∙ ap (λ (l : List RuleTree). option_to_list (slice_get rules y) ++ l) (rules_at_whole steps k x r (omega (arith, lt)) is e)
 
   -- a run that isn't None is a world's
   pub world_run : (series : List Labels) (steps : List ℕ) → AreScraped rules series → (o : Option (List Labels)) → IsRunAnswer series (rules_at rules steps) o
       → IfSome o (λ V. (world : World rules) × (world.series ≡ series) × IsStrictRun series (rules_at rules steps) V world.steps)
   world_run series steps scraped None is = tt
-  world_run series steps scraped (Some V) is = world_of rules series scraped (rules_at rules steps) (rules_at_among steps) V is.0
+  world_run series steps scraped (Some V) is = world_of rules series scraped (rules_at rules steps) (rules_among rules steps) V is.0
 
 -- the whole run
 

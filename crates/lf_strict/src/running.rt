@@ -5,8 +5,8 @@ ghost use Rattle.lf_ast.specs.Labels.{Labels};
 ghost use Rattle.lf_ast.specs.Rules.{rule_trees};
 ghost use Rattle.lf_ast.specs.Tree.{tree};
 ghost use Rattle.lf_semantics.specs.Worlds.{AreScraped, World};
-ghost use Rattle.lf_witness.specs.StrictRuns.{IsRunAnswer, IsStrictRun};
-ghost use Rattle.lf_strict.specs.Steps.{IsAnswerAfter, rules_at};
+ghost use Rattle.lf_witness.specs.StrictRuns.{IsRunAnswer, IsStrictRun, rules_at};
+ghost use Rattle.lf_strict.specs.Steps.{IsAnswerAfter};
 ghost use Rattle.lf_strict.specs.views.Running.{IsStretch};
 
 use crate::evaluating::evaluate;

@@ -16,13 +16,13 @@ use Rattle.lf_semantics.specs.Texts.{value_of}
 use Rattle.lf_trials.specs.Built.{IsBuilt, building_of, built_trial}
 use Rattle.lf_trials.specs.Candidates.{has_presence, labels_in}
 use Rattle.lf_trials.specs.Forks.{TellsForks}
-use Rattle.lf_trials.specs.Reached.{IsReach, Trial, rules_at, with_reach}
+use Rattle.lf_trials.specs.Reached.{IsReach, Trial, with_reach}
 use Rattle.lf_trials.specs.Trials.{IsFirstShown, Shown, Shows}
 use Rattle.lf_trials.specs.Selected.{selected_by}
 use Rattle.lf_trials.specs.Uniform.{IsUniform, passes_over, uniform_series, uniform_texts}
 use Rattle.lf_trials.specs.Verdicts.{Empty, Guaranteed, Impossible, IsLabelVerdict, IsRuleVerdict, AreLabelVerdicts, LabelVerdict, Possible, RuleVerdict, Unresolved}
 use Rattle.lf_trials.specs.Verdicts as verdict
-use Rattle.lf_witness.specs.StrictRuns.{IsRuleAnswer}
+use Rattle.lf_witness.specs.StrictRuns.{IsRuleAnswer, rules_at}
 use Rattle.lf_witness.proofs.Answers.{one_rule_answer, one_run_answer}
 
 -- tests of one thing

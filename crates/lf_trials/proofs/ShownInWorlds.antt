@@ -1,10 +1,10 @@
 -- What a trial shows is so in a world of the relational evaluation: a label that is called possible has two of them, one with a sample that has it and one with a sample
 -- that lacks it.
-use Rattle.std.proofs.Common.{◌≡◌, ◌≢◌, inl, inr, ℕ, Bool, true, false, cond, List, [], ◌∷◌, Option, Some, None, is_some, sym, ap, subst, true≢false, slice_get}
+use Rattle.std.proofs.Common.{◌≡◌, ◌≢◌, inl, inr, ℕ, Bool, true, false, cond, List, [], ◌∷◌, Option, Some, None, is_some, sym, ap, subst, true≢false, slice_get, option_to_list}
 use Rattle.std.specs.Prelude.{IfSome}
 use Rattle.std.specs.List.{Contains, flat_map}
 use Rattle.std.proofs.lemmas.List.Elements.{Contains-append_cases}
-use Rattle.lf_laws.proofs.Members.{map_member, none_in, of_flat_map, only_one, true_same, same_true}
+use Rattle.lf_laws.proofs.Members.{map_member, of_flat_map, true_same, same_true}
 use Rattle.lf_laws.proofs.Slices.{member_at}
 use Rattle.lf_ast.specs.Labels.{Bytes}
 use Rattle.lf_ast.specs.Rules.{RuleTree}
@@ -20,7 +20,8 @@ use Rattle.lf_trials.specs.Built.{IsBuilt}
 use Rattle.lf_trials.specs.Candidates.{has_presence, labels_in}
 use Rattle.lf_trials.specs.Given.{Given, giving, label_set}
 use Rattle.lf_trials.specs.Names.{name_for}
-use Rattle.lf_trials.specs.Reached.{Trial, listed, rules_at, with_reach}
+use Rattle.lf_witness.specs.StrictRuns.{rules_at}
+use Rattle.lf_trials.specs.Reached.{Trial, with_reach}
 use Rattle.lf_trials.specs.Trials.{IsFirstShown, Shown, Shows}
 use Rattle.lf_trials.specs.Selected.{Selected, selected_by}
 use Rattle.lf_trials.specs.Uniform.{IsUniform, name_said, name_unsaid, series_names, uniform_series, uniform_texts}
@@ -28,15 +29,8 @@ use Rattle.lf_trials.specs.Verdicts.{IsLabelVerdict, Possible}
 use Rattle.lf_trials.proofs.BuiltSeries.{HasScraped, building_scraped, once_there}
 use Rattle.lf_trials.proofs.MadeSeries.{IsScraped, IsScrapedName, made_is_scraped, named_for, said_is_scraped}
 pub use Rattle.lf_trials.proofs.MadeSeries.{found_in}
+use Rattle.lf_witness.proofs.RulesAt.{of_listed, rules_among}
 use Rattle.lf_witness.proofs.StrictRunIsRun.{samples_behind}
-
-pub of_listed : {X : Type 0} (o : Option X) (x : X) → Contains (listed o) x → o ≡ Some x
-of_listed None x there = absurd (none_in x there)
-of_listed (Some y) x there = ap Some (only_one y x there)
-
--- the steps of a trial are of the rules
-pub steps_among : (rules : List RuleTree) (numbers : List ℕ) (r : RuleTree) → Contains (rules_at rules numbers) r → Contains rules r
-steps_among rules numbers r there = let from = of_flat_map (λ k. listed (slice_get rules k)) numbers r there in member_at rules from.0 r (of_listed (slice_get rules from.0) r from.2)
 
 module _ (u : Listing) (env : Environment) (rules : List RuleTree) (listing : IsListing u) where
   -- the series of trials are scraped
@@ -50,9 +44,9 @@ module _ (u : Listing) (env : Environment) (rules : List RuleTree) (listing : Is
 
   name_is_scraped : (selected : List Selected) (name : Bytes) → Contains (series_names u rules selected) name → IsScrapedName rules name
   name_is_scraped selected name there =
-      elim (Contains-append_cases (flat_map (λ s. listed (name_said rules s)) selected) (flat_map (λ s. listed (name_unsaid u rules s)) selected) name (of_first_seen _ name there)) [
-        | inl said ↦ let from = of_flat_map (λ s. listed (name_said rules s)) selected name said in said_is_scraped rules from.0.name name (of_listed (name_said rules from.0) name from.2)
-        | inr unsaid ↦ let from = of_flat_map (λ s. listed (name_unsaid u rules s)) selected name unsaid in unsaid_is_scraped from.0 name (of_listed (name_unsaid u rules from.0) name from.2)
+      elim (Contains-append_cases (flat_map (λ s. option_to_list (name_said rules s)) selected) (flat_map (λ s. option_to_list (name_unsaid u rules s)) selected) name (of_first_seen _ name there)) [
+        | inl said ↦ let from = of_flat_map (λ s. option_to_list (name_said rules s)) selected name said in said_is_scraped rules from.0.name name (of_listed (name_said rules from.0) name from.2)
+        | inr unsaid ↦ let from = of_flat_map (λ s. option_to_list (name_unsaid u rules s)) selected name unsaid in unsaid_is_scraped from.0 name (of_listed (name_unsaid u rules from.0) name from.2)
       ]
 
   uniform_scraped : (selected : List Selected) (D : Given) → AreScraped rules (uniform_series u rules selected D)
@@ -92,7 +86,7 @@ module _ (u : Listing) (env : Environment) (rules : List RuleTree) (listing : Is
         let is = shows shown first in
         let trial = shown.trial in
         let found = found_in (λ s. has_presence presence (value_of s label)) is.samples shown.sample is.is_sample in
-        let made = samples_behind rules trial.series (trial_is_scraped shown first) (rules_at rules trial.steps) (steps_among rules trial.steps) is.stored is.is_stored.0 is.rule is.samples (member_at rules i is.rule is.is_rule) is.are_samples.0 in
+        let made = samples_behind rules trial.series (trial_is_scraped shown first) (rules_at rules trial.steps) (rules_among rules trial.steps) is.stored is.is_stored.0 is.rule is.samples (member_at rules i is.rule is.is_rule) is.are_samples.0 in
         record { world = made.0; series = made.1; rule = is.rule; is_rule = is.is_rule; sample = made.2 shown.sample found.0; present = found.1 }
 
 -- presence and absence

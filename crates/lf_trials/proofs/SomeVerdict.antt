@@ -20,7 +20,7 @@ use Rattle.lf_semantics.specs.Texts.{value_of}
 use Rattle.lf_trials.specs.Building.{Building}
 use Rattle.lf_trials.specs.Built.{IsBuilt, building_of, built_trial, selector_count}
 use Rattle.lf_trials.specs.Candidates.{has_presence, labels_in}
-use Rattle.lf_trials.specs.Reached.{IsReach, Trial, rules_at, with_reach}
+use Rattle.lf_trials.specs.Reached.{IsReach, Trial, with_reach}
 use Rattle.lf_trials.specs.Trials.{IsFirstShown, IsNotShown, Shown, Shows, ShowsBuilt, ShowsUniform}
 use Rattle.lf_trials.specs.Selected.{Selected, selected_by}
 use Rattle.lf_trials.specs.Uniform.{IsUniform, SelectsCyclic, has_texts, uniform_texts}
@@ -30,7 +30,7 @@ use Rattle.lf_trials.proofs.OneVerdict.{one_built, one_reach, one_test, one_unif
 use Rattle.lf_trials.proofs.Reachable.{fork_test, is_reach_of, reach_of, reaches, reaches_is, tells_forks}
 use Rattle.lf_witness.proofs.Answers.{one_rule_answer, one_run_answer, some_rule_answer, some_run_answer}
 use Rattle.lf_witness.proofs.Decided.{Decided, by_test, decided_both, decided_map, some_member}
-use Rattle.lf_witness.specs.StrictRuns.{IsRuleAnswer, IsRunAnswer}
+use Rattle.lf_witness.specs.StrictRuns.{IsRuleAnswer, IsRunAnswer, rules_at}
 
 at_most : (m n : ℕ) → Decided (m ≤ n)
 at_most m n = elim (cases_lt n m) [ inl more ↦ inr (λ h. omega (arith, h, more)) | inr most ↦ inl most ]

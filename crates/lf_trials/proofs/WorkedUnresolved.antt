@@ -24,7 +24,7 @@ use Rattle.lf_semantics.proofs.Written.{paren}
 use Rattle.lf_trials.specs.Built.{building_of}
 use Rattle.lf_trials.specs.Candidates.{has_presence}
 use Rattle.lf_trials.specs.Forks.{HoldsFork, TellsForks, has_own_fork}
-use Rattle.lf_trials.specs.Reached.{IsReach, Trial, rules_at}
+use Rattle.lf_trials.specs.Reached.{IsReach, Trial}
 use Rattle.lf_trials.specs.Trials.{IsNotShown, Shown, ShowsBuilt, ShowsUniform}
 use Rattle.lf_trials.specs.Uniform.{IsUniform}
 use Rattle.lf_trials.specs.Verdicts.{IsLabelVerdict, Unresolved}
@@ -33,7 +33,7 @@ use Rattle.lf_trials.proofs.ShownInWorlds.{found_in}
 use Rattle.lf_trials.proofs.WorkedBuilt.{labelled}
 use Rattle.lf_trials.proofs.WorkedEmptyRow.{conjoined, either, left, never, rule, u}
 use Rattle.lf_witness.specs.Strict.{AreSame}
-use Rattle.lf_witness.specs.StrictRuns.{IsRuleAnswer, IsRunAnswer, RuleStrictlyGives}
+use Rattle.lf_witness.specs.StrictRuns.{IsRuleAnswer, IsRunAnswer, RuleStrictlyGives, rules_at}
 
 abbrev rules : List RuleTree
 rules = rule ∷ []

@@ -23,7 +23,8 @@ use Rattle.lf_trials.specs.Given.{Given, completed, giving, holds_texts, label_s
 use Rattle.lf_trials.specs.Matched.{build_binary}
 use Rattle.lf_trials.specs.Names.{is_scraped_name, name_for}
 use Rattle.lf_trials.specs.Operands.{build_call, build_nameless_if}
-use Rattle.lf_trials.specs.Reached.{IsReach, Trial, first_rule, is_marked, is_recorded, rules_at, with_reach}
+use Rattle.lf_witness.specs.StrictRuns.{rules_at}
+use Rattle.lf_trials.specs.Reached.{IsReach, Trial, first_rule, is_marked, is_recorded, with_reach}
 
 -- selectors
 

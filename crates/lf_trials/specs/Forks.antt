@@ -24,27 +24,40 @@ is_forked_selector rules None = false
 abbrev pub unless_scalar : Tree → Bool → Bool
 unless_scalar e found = not (is_scalar_part e) && found
 
-module _ (rules : List RuleTree) where
+-- where a test tells of a selector, by the name that it says, whether it passes
+module _ (test : Option Bytes → Bool) where
   abbrev mutual
-    -- a fork stands in a part of the expression, or the expression is one
-    pub fork_in : Tree → Bool
-    fork_in (Number text span) = false
-    fork_in (Str text span) = false
-    fork_in (Selector name matchers sight span) = is_forked_selector rules (selected_name name matchers)
-    fork_in (Subquery of sight span) = unless_scalar of (fork_in of)
-    fork_in (Paren of span) = unless_scalar of (fork_in of)
-    fork_in (Unary minus of span) = unless_scalar of (fork_in of)
-    fork_in (Binary op m left right span) = is_or op || (unless_scalar left (fork_in left) || unless_scalar right (fork_in right))
-    fork_in (Call name args span) = fork_in_arguments args
-    fork_in (Aggregate op grouping args span) = fork_in_arguments args
+    -- an `or` stands in a part of the expression or a selector that passes, or the expression is one
+    pub passes_in : Tree → Bool
+    passes_in (Number text span) = false
+    passes_in (Str text span) = false
+    passes_in (Selector name matchers sight span) = test (selected_name name matchers)
+    passes_in (Subquery of sight span) = unless_scalar of (passes_in of)
+    passes_in (Paren of span) = unless_scalar of (passes_in of)
+    passes_in (Unary minus of span) = unless_scalar of (passes_in of)
+    passes_in (Binary op m left right span) = is_or op || (unless_scalar left (passes_in left) || unless_scalar right (passes_in right))
+    passes_in (Call name args span) = passes_in_arguments args
+    passes_in (Aggregate op grouping args span) = passes_in_arguments args
 
-    pub fork_in_arguments : Trees → Bool
-    fork_in_arguments Nil = false
-    fork_in_arguments (Next x xs) = unless_scalar x (fork_in x) || fork_in_arguments xs
+    pub passes_in_arguments : Trees → Bool
+    passes_in_arguments Nil = false
+    passes_in_arguments (Next x xs) = unless_scalar x (passes_in x) || passes_in_arguments xs
+
+  -- an `or` or a selector that passes stands in the expression
+  abbrev pub has_passing : Tree → Bool
+  has_passing e = unless_scalar e (passes_in e)
+
+module _ (rules : List RuleTree) where
+  -- a fork stands in a part of the expression, or the expression is one
+  abbrev pub fork_in : Tree → Bool
+  fork_in e = passes_in (is_forked_selector rules) e
+
+  abbrev pub fork_in_arguments : Trees → Bool
+  fork_in_arguments args = passes_in_arguments (is_forked_selector rules) args
 
   -- a fork stands in the expression
   abbrev pub has_own_fork : Tree → Bool
-  has_own_fork e = unless_scalar e (fork_in e)
+  has_own_fork e = has_passing (is_forked_selector rules) e
 
   -- an expression holds a fork: in itself, or in a rule that it reads, directly or through others
   abbrev pub HoldsFork : Tree → Type 0

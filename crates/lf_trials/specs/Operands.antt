@@ -1,5 +1,6 @@
 -- What the operand of a function, an aggregation, a sign or an operator with a scalar is built from. What the result doesn't take from the operand is lost.
 use Rattle.std.specs.Prelude.{ℕ, Bool, true, false, not, ◌||◌, Option, Some, None, codes}
+use Rattle.std.specs.Option.{option_map_or}
 use Rattle.std.specs.Str.{bytes_eq}
 use Rattle.lf_ast.specs.Arguments.{text_at, texts_of}
 use Rattle.lf_ast.specs.Functions.{Signature}
@@ -16,19 +17,23 @@ use Rattle.lf_trials.specs.Given.{Given, giving, losing}
 abbrev pub losing_name : Given → Given
 losing_name D = losing is_metric D
 
--- by the effect on labels. The operand of an `absent` isn't built
+-- the texts that the operand of a function or an aggregation gets, by the effect on labels, and none where it isn't built. That of an `absent` isn't
+abbrev pub effect_texts : LabelEffect → Grouping → Trees → Given → Option Given
+effect_texts Maps grouping args D = Some (losing_name D)
+effect_texts Keeps grouping args D = Some D
+effect_texts Groups grouping args D = Some (losing (λ name. not (is_grouped_by grouping name)) D)
+effect_texts CountValues grouping args D = Some (losing (λ name. bytes_eq name (text_at (texts_of args) 0) || not (is_grouped_by grouping name)) D)
+effect_texts Date grouping Nil D = None
+effect_texts Date grouping (Next x xs) D = Some (losing_name D)
+effect_texts Absent grouping args D = None
+effect_texts LabelReplace grouping args D = Some (losing (bytes_eq (replacing (texts_of args)).target) D)
+effect_texts LabelJoin grouping args D = Some (losing (bytes_eq (joining (texts_of args)).target) D)
+effect_texts HistogramQuantile grouping args D = Some (giving (codes "le") (codes "+Inf") (losing_name D))
+effect_texts Bare grouping args D = None
+
+-- its operand built from these texts, and nothing where it isn't built
 abbrev pub build_effect : LabelEffect → Grouping → Trees → Builder → Builder
-build_effect Maps grouping args operand D = operand (losing_name D)
-build_effect Keeps grouping args operand D = operand D
-build_effect Groups grouping args operand D = operand (losing (λ name. not (is_grouped_by grouping name)) D)
-build_effect CountValues grouping args operand D = operand (losing (λ name. bytes_eq name (text_at (texts_of args) 0) || not (is_grouped_by grouping name)) D)
-build_effect Date grouping Nil operand D = nothing
-build_effect Date grouping (Next x xs) operand D = operand (losing_name D)
-build_effect Absent grouping args operand D = nothing
-build_effect LabelReplace grouping args operand D = operand (losing (bytes_eq (replacing (texts_of args)).target) D)
-build_effect LabelJoin grouping args operand D = operand (losing (bytes_eq (joining (texts_of args)).target) D)
-build_effect HistogramQuantile grouping args operand D = operand (giving (codes "le") (codes "+Inf") (losing_name D))
-build_effect Bare grouping args operand D = nothing
+build_effect effect grouping args operand D = option_map_or operand (effect_texts effect grouping args D) nothing
 
 abbrev pub build_call : Option Signature → Grouping → Trees → (ℕ → Builder) → Builder
 build_call None grouping args argument D = None

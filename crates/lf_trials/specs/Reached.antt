@@ -1,6 +1,6 @@
 -- Rules by their numbers: which record a name, and which are read; and what is tried with them.
 use Rattle.std.specs.Prelude.{◌≡◌, ◌↔◌, ℕ, suc, Bool, cond, eqb, nat_lt, List, [], ◌∷◌, ◌++◌, length, Option, Some, None, slice_get}
-use Rattle.std.specs.List.{Contains, filter, flat_map, list_any}
+use Rattle.std.specs.List.{Contains, filter, list_any}
 use Rattle.lf_laws.specs.Ascending.{AreAscending}
 use Rattle.lf_ast.specs.Labels.{Bytes, Labels}
 use Rattle.lf_ast.specs.Rules.{RuleTree}
@@ -33,15 +33,6 @@ with_reach i reach = filter (λ k. nat_lt k i) reach ++ (i ∷ filter (λ k. nat
 abbrev pub first_rule : (ℕ → RuleTree → Bool) → ℕ → List RuleTree → Option (ℕ × RuleTree)
 first_rule test k [] = None
 first_rule test k (r ∷ rules) = cond (test k r) (Some (k, r)) (first_rule test (suc k) rules)
-
--- nothing, or the one
-abbrev pub listed : {A : Type 0} → Option A → List A
-listed None = []
-listed (Some a) = a ∷ []
-
--- the rules of some numbers
-abbrev pub rules_at : List RuleTree → List ℕ → List RuleTree
-rules_at rules numbers = flat_map (λ k. listed (slice_get rules k)) numbers
 
 -- a trial: scraped series, and the numbers of the rules that are evaluated over them, in their order
 pub record Trial : Type 0 where

@@ -8,9 +8,9 @@ use Rattle.lf_semantics.specs.RowTable.{Environment}
 use Rattle.lf_semantics.specs.Texts.{value_of}
 use Rattle.lf_trials.specs.Built.{IsBuilt}
 use Rattle.lf_trials.specs.Candidates.{has_presence}
-use Rattle.lf_trials.specs.Reached.{Trial, rules_at}
+use Rattle.lf_trials.specs.Reached.{Trial}
 use Rattle.lf_trials.specs.Uniform.{IsUniform}
-use Rattle.lf_witness.specs.StrictRuns.{IsRuleAnswer, IsRunAnswer}
+use Rattle.lf_witness.specs.StrictRuns.{IsRuleAnswer, IsRunAnswer, rules_at}
 
 -- a trial and the sample that it shows
 pub record Shown : Type 0 where

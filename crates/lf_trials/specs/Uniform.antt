@@ -1,5 +1,5 @@
 -- The uniform world: all scraped series have the same labels but for their names, and the rules that are read are evaluated over and over.
-use Rattle.std.specs.Prelude.{◌≡◌, ◌≤◌, ℕ, Bool, true, false, not, ◌||◌, cond, min, List, ◌++◌, map, length, Option, Some, None, is_some, option_and_then, slice_get}
+use Rattle.std.specs.Prelude.{◌≡◌, ◌≤◌, ℕ, Bool, true, false, not, ◌||◌, cond, min, List, ◌++◌, map, length, Option, Some, None, is_some, option_and_then, slice_get, option_to_list}
 use Rattle.std.specs.List.{Contains, find, flat_map, list_all, range_with_len}
 use Rattle.std.specs.Option.{option_map_or}
 use Rattle.std.specs.Str.{bytes_eq}
@@ -12,7 +12,7 @@ use Rattle.lf_trials.specs.Candidates.{candidates, has_presence, labels_in}
 use Rattle.lf_trials.specs.Follow.{follow_from}
 use Rattle.lf_trials.specs.Given.{Given, giving, label_set}
 use Rattle.lf_trials.specs.Names.{is_scraped_name, name_for}
-use Rattle.lf_trials.specs.Reached.{IsReach, Trial, listed, with_reach}
+use Rattle.lf_trials.specs.Reached.{IsReach, Trial, with_reach}
 use Rattle.lf_trials.specs.Selected.{Selected, selected_by}
 
 -- a selector of one of the rules selects a recorded name that is read in its own making
@@ -50,7 +50,7 @@ module _ (u : Listing) (rules : List RuleTree) where
 
   -- the names of the series, each once: those that are said, and then those for selectors that say none
   abbrev pub series_names : List Selected → List Bytes
-  series_names selected = first_seen (flat_map (λ s. listed (name_said rules s)) selected ++ flat_map (λ s. listed (name_unsaid s)) selected)
+  series_names selected = first_seen (flat_map (λ s. option_to_list (name_said rules s)) selected ++ flat_map (λ s. option_to_list (name_unsaid s)) selected)
 
   abbrev pub uniform_series : List Selected → Given → List Labels
   uniform_series selected D = map (λ name. label_set (labels_in u) (giving metric name D)) (series_names selected)

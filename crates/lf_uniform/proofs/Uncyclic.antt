@@ -1,14 +1,15 @@
 -- Rules that select, by its name, a name that is read in its own making.
-use Rattle.std.proofs.Common.{◌≡◌, ◌<◌, ◌+◌, ◌⊎◌, inl, inr, ℕ, List, [], ◌∷◌, get_or, length, take, Option, Some, None, refl, sym, ◌∙◌, ap, subst}
+use Rattle.std.proofs.Common.{◌≡◌, ◌<◌, ◌+◌, ◌⊎◌, inl, inr, ℕ, List, [], ◌∷◌, get_or, length, take, Option, Some, None, sym, subst, option_to_list}
 use Rattle.std.specs.Prelude.{slice_get}
 use Rattle.std.specs.List.{Contains}
 use Rattle.std.proofs.lemmas.List.{take_more}
 use Rattle.std.proofs.lemmas.List.Elements.{Contains-append_cases}
-use Rattle.lf_laws.proofs.Members.{here, in_flat_map, in_map, map_member, none_in, of_flat_map, only_one}
+use Rattle.lf_laws.proofs.Members.{here, in_flat_map, in_map, map_member, of_flat_map, only_one}
 use Rattle.lf_ast.specs.Labels.{Bytes}
 use Rattle.lf_ast.specs.Rules.{RuleTree}
 use Rattle.lf_deps.specs.Reading.{IsCyclic, selectors}
-use Rattle.lf_trials.specs.Reached.{listed, rules_at}
+use Rattle.lf_witness.specs.StrictRuns.{rules_at}
+use Rattle.lf_witness.proofs.RulesAt.{of_listed}
 use Rattle.lf_trials.specs.Selected.{Selected, selectors_of}
 use Rattle.lf_trials.specs.Uniform.{SelectsCyclic}
 use Rattle.lf_trials.proofs.SelectedNames.{same_selectors}
@@ -16,7 +17,7 @@ use Rattle.lf_uniform.specs.views.Ways.{IsCyclicIn, IsCyclicName, IsUncyclic}
 
 module _ (rules : List RuleTree) where
   rule_in : (numbers : List ℕ) (k : ℕ) (r : RuleTree) → Contains numbers k → slice_get rules k ≡ Some r → Contains (rules_at rules numbers) r
-  rule_in numbers k r c at = in_flat_map (λ j. listed (slice_get rules j)) numbers k r c (subst (λ (o : Option RuleTree). Contains (listed o) r) (sym at) (here r []))
+  rule_in numbers k r c at = in_flat_map (λ j. option_to_list (slice_get rules j)) numbers k r c (subst (λ (o : Option RuleTree). Contains (option_to_list o) r) (sym at) (here r []))
 
   -- a name that a selector says
   selector_in : (e : _) (name : Bytes) → Contains (selectors e) (Some name) → (s : Selected) × Contains (selectors_of e) s × (s.name ≡ Some name)
@@ -32,10 +33,6 @@ module _ (rules : List RuleTree) where
   selects_some numbers k r c at (Some name, says, circle) = selects_cyclic numbers k r c at name says circle
 
   -- and back
-  the_rule : (k : ℕ) (r : RuleTree) (o : Option RuleTree) → slice_get rules k ≡ o → Contains (listed o) r → slice_get rules k ≡ Some r
-  the_rule k r None is c = absurd (none_in r c)
-  the_rule k r (Some q) is c = is ∙ ap (λ (z : RuleTree). Some z) (only_one q r c)
-
   of_name : (o : Option Bytes) (name : Bytes) → o ≡ Some name → IsCyclic rules name → IsCyclicName rules o
   of_name None name e circle = absurd (cc)
   of_name (Some other) name e circle = let same : other ≡ name = cc in subst (IsCyclic rules) (sym same) circle
@@ -43,9 +40,9 @@ module _ (rules : List RuleTree) where
   pub none_selected : (numbers : List ℕ) → IsUncyclic rules numbers → SelectsCyclic rules numbers → ⊥
   none_selected numbers none (s, there, name, says, circle) =
       let r = of_flat_map (λ (q : RuleTree). selectors_of q.expr) (rules_at rules numbers) s there in
-      let k = of_flat_map (λ j. listed (slice_get rules j)) numbers r.0 r.1 in
+      let k = of_flat_map (λ j. option_to_list (slice_get rules j)) numbers r.0 r.1 in
       let said : Contains (selectors r.0.expr) s.name = subst (λ (xs : List (Option Bytes)). Contains xs s.name) (same_selectors r.0.expr) (in_map (λ (t : Selected). t.name) (selectors_of r.0.expr) s r.2) in
-      none k.0 k.1 r.0 (the_rule k.0 r.0 (slice_get rules k.0) refl k.2) name (subst (Contains (selectors r.0.expr)) says said) circle
+      none k.0 k.1 r.0 (of_listed (slice_get rules k.0) r.0 k.2) name (subst (Contains (selectors r.0.expr)) says said) circle
 
 -- one more selector, and one more rule
 

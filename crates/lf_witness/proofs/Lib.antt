@@ -3,6 +3,7 @@ pub mod SameSamples
 pub mod SameResults
 pub mod StrictIsRelational
 pub mod StrictRunIsRun
+pub mod RulesAt
 pub mod OnePieces
 pub mod OneSample
 pub mod OneOutcome

@@ -1,5 +1,6 @@
 -- Steps and runs by the strict evaluation: what a rule stores, and the samples that are stored after some steps.
-use Rattle.std.specs.Prelude.{◌≡◌, ◌⊎◌, Bool, true, false, List, [], ◌∷◌, ◌++◌, map, Some, None}
+use Rattle.std.specs.Prelude.{◌≡◌, ◌⊎◌, ℕ, Bool, true, false, List, [], ◌∷◌, ◌++◌, map, Some, None, option_to_list, slice_get}
+use Rattle.std.specs.List.{flat_map}
 use Rattle.lf_ast.specs.Labels.{Labels}
 use Rattle.lf_ast.specs.Rules.{RuleTree}
 use Rattle.lf_ast.specs.Tree.{Tree}
@@ -31,6 +32,10 @@ StepAdds W r = From (RuleStrictlyGives W r) (StoredOf r r.alert)
 abbrev pub StrictlyStored : List Labels → List RuleTree → Outcomes
 StrictlyStored W [] = IsSet (AreSame W)
 StrictlyStored W (r ∷ later) = From (StepAdds W r) (λ A. StrictlyStored (W ++ A) later)
+
+-- the rules with these numbers, in the order of the numbers
+abbrev pub rules_at : List RuleTree → List ℕ → List RuleTree
+rules_at rules numbers = flat_map (λ k. option_to_list (slice_get rules k)) numbers
 
 -- runs as steps with what they give
 

@@ -6,7 +6,6 @@ pub mod OpenLabels
 pub mod PreparedFor
 pub mod Reaches
 pub mod RuleRows
-pub mod RulesAt
 pub mod ShownWorlds
 pub mod StandsOpen
 pub mod Steps

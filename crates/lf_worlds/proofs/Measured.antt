@@ -1,15 +1,16 @@
 -- Counts of selectors, summed up to a greatest number.
-use Rattle.std.proofs.Common.{◌≡◌, ◌<◌, ◌≤◌, ◌⊎◌, inl, inr, ℕ, zero, suc, ◌+◌, ◌*◌, Bool, true, false, cond, eqb, nat_lt, min, List, [], ◌∷◌, map, get_or, refl, sym, ap, ◌∙◌, arith, slice_get}
+use Rattle.std.proofs.Common.{◌≡◌, ◌<◌, ◌≤◌, ◌⊎◌, inl, inr, ℕ, zero, suc, ◌+◌, ◌*◌, Bool, true, false, cond, eqb, nat_lt, min, List, [], ◌∷◌, map, get_or, refl, sym, ap, ◌∙◌, arith, slice_get, option_to_list}
 use Rattle.std.specs.List.{filter, sum_by}
 use Rattle.std.proofs.lemmas.Bool.{cases_lt}
 use Rattle.std.proofs.lemmas.Bool.Decides.{nat_tests}
 use Rattle.std.proofs.lemmas.List.Sums.{sum_by-append, sum_by-cons}
 use Rattle.lf_ast.specs.Rules.{RuleTree}
-use Rattle.lf_trials.specs.Reached.{listed, rules_at, with_reach}
+use Rattle.lf_witness.specs.StrictRuns.{rules_at}
+use Rattle.lf_trials.specs.Reached.{with_reach}
 
 -- the rules of numbers, counted one by one
 module _ (total : RuleTree → ℕ) where
-  count_at : (rules : List RuleTree) (k : ℕ) → sum_by total (listed (slice_get rules k)) ≡ get_or (map total rules) k 0
+  count_at : (rules : List RuleTree) (k : ℕ) → sum_by total (option_to_list (slice_get rules k)) ≡ get_or (map total rules) k 0
   count_at [] k = refl
   count_at (r ∷ rules) zero = omega arith
   count_at (r ∷ rules) (suc k) = count_at rules k
@@ -17,7 +18,7 @@ module _ (total : RuleTree → ℕ) where
   pub counts_at : (rules : List RuleTree) (numbers : List ℕ) → sum_by total (rules_at rules numbers) ≡ sum_by (λ k. get_or (map total rules) k 0) numbers
   counts_at rules [] = refl
   counts_at rules (k ∷ numbers) =
-      let first = sum_by-append total (listed (slice_get rules k)) (rules_at rules numbers) in
+      let first = sum_by-append total (option_to_list (slice_get rules k)) (rules_at rules numbers) in
       let one = count_at rules k in
       let rest = counts_at rules numbers in
       let all = sum_by-cons (λ (j : ℕ). get_or (map total rules) j 0) k numbers in

@@ -7,11 +7,11 @@ use Rattle.lf_ast.specs.Rules.{RuleTree}
 use Rattle.lf_semantics.specs.Listing.{Listing}
 use Rattle.lf_semantics.specs.RowTable.{Environment}
 use Rattle.lf_semantics.specs.Parts.{is_evaluated, type_by_form}
-use Rattle.lf_witness.specs.StrictRuns.{IsRuleAnswer, IsRunAnswer, IsStrictAnswer}
+use Rattle.lf_witness.specs.StrictRuns.{IsRuleAnswer, IsRunAnswer, IsStrictAnswer, rules_at}
 use Rattle.lf_witness.proofs.Answers.{one_rule_answer, one_run_answer}
 use Rattle.lf_strict.specs.Steps.{IsAnswerAfter}
 use Rattle.lf_trials.specs.Built.{IsBuilt}
-use Rattle.lf_trials.specs.Reached.{Trial, rules_at}
+use Rattle.lf_trials.specs.Reached.{Trial}
 use Rattle.lf_trials.specs.Trials.{IsFirstShown, Shown, Shows, ShowsBuilt, ShowsUniform}
 use Rattle.lf_trials.specs.Uniform.{IsUniform}
 use Rattle.lf_trials.proofs.OneVerdict.{one_built, one_uniform}

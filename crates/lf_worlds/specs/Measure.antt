@@ -4,7 +4,8 @@ use Rattle.std.specs.List.{range_with_len, sum_by}
 use Rattle.lf_ast.specs.Rules.{RuleTree}
 use Rattle.lf_semantics.specs.Listing.{Listing}
 use Rattle.lf_trials.specs.Candidates.{labels_in}
-use Rattle.lf_trials.specs.Reached.{IsReach, rules_at, with_reach}
+use Rattle.lf_witness.specs.StrictRuns.{rules_at}
+use Rattle.lf_trials.specs.Reached.{IsReach, with_reach}
 use Rattle.lf_forks.specs.Selectors.{selector_total}
 
 -- the reach of each rule, by its number

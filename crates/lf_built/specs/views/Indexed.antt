@@ -9,7 +9,7 @@ use Rattle.lf_semantics.specs.Environments.{CoversRules, IsEnvironment, recorded
 use Rattle.lf_semantics.specs.Listing.{Listing}
 use Rattle.lf_semantics.specs.RowTable.{Environment}
 use Rattle.lf_trials.specs.Candidates.{labels_in}
-use Rattle.lf_forks.specs.views.ForkTests.{has_passing}
+use Rattle.lf_trials.specs.Forks.{has_passing}
 use Rattle.lf_forks.specs.views.Holding.{Forks, test_of}
 use Rattle.lf_built.specs.declared.prepared.Prepared.{Prepared}
 use Rattle.lf_built.specs.views.Marking.{marks_at, set_by}

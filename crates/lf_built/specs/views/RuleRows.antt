@@ -3,7 +3,7 @@ use Rattle.std.specs.Prelude.{◌≡◌, List}
 use Rattle.std.specs.List.{AllZip}
 use Rattle.lf_ast.specs.Rules.{RuleTree}
 use Rattle.lf_ast.specs.Tree.{nodes}
-use Rattle.lf_forks.specs.views.ForkTests.{has_passing}
+use Rattle.lf_trials.specs.Forks.{has_passing}
 use Rattle.lf_forks.specs.views.Holding.{Forks, test_of}
 use Rattle.lf_semantics.specs.Environments.{recorded_row, rule_row}
 use Rattle.lf_semantics.specs.Listing.{Listing}

@@ -1,27 +1,23 @@
 -- What is left to be built, as the code goes down an expression by a list of tasks: how contracts see the code. It defines nothing.
-use Rattle.std.specs.Prelude.{ℕ, suc, Bool, true, false, not, ◌||◌, cond, List, [], ◌∷◌, Option, Some, None, codes}
-use Rattle.std.specs.Str.{bytes_eq}
-use Rattle.lf_ast.specs.Arguments.{text_at, texts_of}
+use Rattle.std.specs.Prelude.{ℕ, suc, Bool, true, false, not, cond, List, [], ◌∷◌, Option, Some, None}
 use Rattle.lf_ast.specs.Functions.{Signature, aggregation, function_named}
 use Rattle.lf_ast.specs.Labels.{Bytes}
 use Rattle.lf_ast.specs.Rules.{RuleTree}
-use Rattle.lf_ast.specs.Tree.{Tree, Trees, Number, Str, Selector, Subquery, Paren, Unary, Binary, Call, Aggregate, Nil, Next}
+use Rattle.lf_ast.specs.Tree.{Tree, Trees, Number, Str, Selector, Subquery, Paren, Unary, Binary, Call, Aggregate}
 use Rattle.lf_ast.specs.declared.expr.Grouping.{Grouping}
 use Rattle.lf_ast.specs.declared.expr.Grouping.TheVariants.{None as Ungrouped}
 use Rattle.lf_ast.specs.declared.expr.Matching.{Matching}
 use Rattle.lf_ast.specs.declared.expr.Op.{Op}
 use Rattle.lf_ast.specs.declared.expr.Op.TheVariants.{Or, Unless}
 use Rattle.lf_ast.specs.declared.functions.LabelEffect.{LabelEffect}
-use Rattle.lf_ast.specs.declared.functions.LabelEffect.TheVariants.{Maps, Keeps, Groups, CountValues, Date, Absent, LabelReplace, LabelJoin, HistogramQuantile, Bare}
 use Rattle.lf_semantics.specs.ClassRows.{Sets}
-use Rattle.lf_semantics.specs.Grouped.{is_filter, is_grouped_by}
+use Rattle.lf_semantics.specs.Grouped.{is_filter}
 use Rattle.lf_semantics.specs.Listing.{Listing}
 use Rattle.lf_semantics.specs.Parts.{argument_at, is_scalar_part, operand_place}
 use Rattle.lf_semantics.specs.RowTable.{Environment, row_of}
-use Rattle.lf_semantics.specs.Strings.{joining, replacing}
 use Rattle.lf_trials.specs.Building.{Building, and_then, nothing}
 use Rattle.lf_trials.specs.Built.{build, build_by_rule, builder}
-use Rattle.lf_trials.specs.Given.{Given, giving, holds_texts, losing}
+use Rattle.lf_trials.specs.Given.{Given, holds_texts}
 use Rattle.lf_trials.specs.Matched.{has_signature, side}
 use Rattle.lf_trials.specs.Operands.{losing_name}
 use Rattle.lf_trials.specs.Sides.{left_gives, right_gives}
@@ -44,20 +40,6 @@ one_wanted D (Some e) = Some (want e D ∷ [])
 
 abbrev pub nameless_if : Bool → Given → Given
 nameless_if drops D = cond drops (losing_name D) D
-
--- the texts that the operand of a function or an aggregation gets, and none where nothing is built
-abbrev pub effect_texts : LabelEffect → Grouping → Trees → Given → Option Given
-effect_texts Maps grouping args D = Some (losing_name D)
-effect_texts Keeps grouping args D = Some D
-effect_texts Groups grouping args D = Some (losing (λ name. not (is_grouped_by grouping name)) D)
-effect_texts CountValues grouping args D = Some (losing (λ name. bytes_eq name (text_at (texts_of args) 0) || not (is_grouped_by grouping name)) D)
-effect_texts Date grouping Nil D = None
-effect_texts Date grouping (Next x xs) D = Some (losing_name D)
-effect_texts Absent grouping args D = None
-effect_texts LabelReplace grouping args D = Some (losing (bytes_eq (replacing (texts_of args)).target) D)
-effect_texts LabelJoin grouping args D = Some (losing (bytes_eq (joining (texts_of args)).target) D)
-effect_texts HistogramQuantile grouping args D = Some (giving (codes "le") (codes "+Inf") (losing_name D))
-effect_texts Bare grouping args D = None
 
 -- what a function or an aggregation wants of its operand
 abbrev pub operand_wanted : Option Tree → Option Given → Option (List Wanted)

@@ -8,11 +8,11 @@ use Rattle.lf_ast.specs.Types.{is_scalar, joined, selected}
 use Rattle.lf_ast.specs.declared.expr.ExprType.{ExprType}
 use Rattle.lf_ast.specs.declared.expr.ExprType.TheVariants.{Scalar, Vector}
 use Rattle.lf_semantics.specs.Parts.{is_scalar_part, type_by_form}
-use Rattle.lf_deps.specs.Reading.{arguments_selectors, selectors, selectors_in}
+use Rattle.lf_deps.specs.Reading.{arguments_selectors, own_selectors, selectors, selectors_in}
 use Rattle.lf_ast.specs.views.Walks.{along, chosen, further}
 use Rattle.lf_ast.specs.declared.walk.choosing.Parts.TheVariants.{All, Nothing}
 use Rattle.lf_deps.specs.declared.selecting.Selecting.{Selecting}
-use Rattle.lf_deps.specs.views.Selecting.{is_scalar_call, own_selectors, parts_read}
+use Rattle.lf_deps.specs.views.Selecting.{is_scalar_call, parts_read}
 
 abbrev Found : Type 0
 Found = List (Option Bytes)

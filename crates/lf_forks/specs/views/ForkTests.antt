@@ -1,34 +1,11 @@
--- Forks by a test of selectors: how contracts see the code, which goes over an expression once. It defines nothing.
-use Rattle.std.specs.Prelude.{◌≡◌, ◌⊎◌, ◌↔◌, Bool, true, false, ◌||◌, List, Option, Some, None}
+-- Which selectors are forks or are made by one: how contracts see the code, which asks a test of selectors. It defines nothing.
+use Rattle.std.specs.Prelude.{◌≡◌, ◌⊎◌, ◌↔◌, Bool, true, false, List, Option, Some, None}
 use Rattle.std.specs.List.{Contains}
 use Rattle.lf_ast.specs.Labels.{Bytes}
 use Rattle.lf_ast.specs.Rules.{RuleTree}
-use Rattle.lf_ast.specs.Selectors.{selected_name}
-use Rattle.lf_ast.specs.Tree.{Tree, Trees, Number, Str, Selector, Subquery, Paren, Unary, Binary, Call, Aggregate, Nil, Next}
 use Rattle.lf_deps.specs.Reading.{Reads, Records}
-use Rattle.lf_trials.specs.Forks.{has_own_fork, is_or, unless_scalar}
+use Rattle.lf_trials.specs.Forks.{has_own_fork}
 use Rattle.lf_trials.specs.Reached.{has_several_rules}
-
--- an `or` stands in a part of the expression, or a selector that passes
-module _ (test : Option Bytes → Bool) where
-  abbrev mutual
-    pub passes_in : Tree → Bool
-    passes_in (Number text span) = false
-    passes_in (Str text span) = false
-    passes_in (Selector name matchers sight span) = test (selected_name name matchers)
-    passes_in (Subquery of sight span) = unless_scalar of (passes_in of)
-    passes_in (Paren of span) = unless_scalar of (passes_in of)
-    passes_in (Unary minus of span) = unless_scalar of (passes_in of)
-    passes_in (Binary op m left right span) = is_or op || (unless_scalar left (passes_in left) || unless_scalar right (passes_in right))
-    passes_in (Call name args span) = passes_in_arguments args
-    passes_in (Aggregate op grouping args span) = passes_in_arguments args
-
-    pub passes_in_arguments : Trees → Bool
-    passes_in_arguments Nil = false
-    passes_in_arguments (Next x xs) = unless_scalar x (passes_in x) || passes_in_arguments xs
-
-  abbrev pub has_passing : Tree → Bool
-  has_passing e = unless_scalar e (passes_in e)
 
 module _ (rules : List RuleTree) where
   -- a rule that records a name, and has a fork in its expression

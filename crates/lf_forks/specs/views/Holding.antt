@@ -5,8 +5,7 @@ use Rattle.lf_ast.specs.Labels.{Bytes}
 use Rattle.lf_ast.specs.Tree.{Tree}
 use Rattle.lf_ast.specs.declared.expr.Op.{Op}
 use Rattle.lf_semantics.specs.Parts.{is_scalar_part}
-use Rattle.lf_trials.specs.Forks.{is_or}
-use Rattle.lf_forks.specs.views.ForkTests.{has_passing}
+use Rattle.lf_trials.specs.Forks.{has_passing, is_or}
 use Rattle.lf_forks.specs.views.NameMarks.{NameMarks, has_mark}
 use Rattle.lf_forks.specs.declared.holding.Held.{Held}
 

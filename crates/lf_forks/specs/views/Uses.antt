@@ -10,7 +10,7 @@ use Rattle.lf_graph.specs.Paths.{after}
 use Rattle.lf_semantics.specs.Listing.{place}
 use Rattle.lf_trials.specs.Reached.{has_several_rules}
 use Rattle.lf_semantics.specs.Environments.{recorded_names}
-use Rattle.lf_forks.specs.views.ForkTests.{has_passing}
+use Rattle.lf_trials.specs.Forks.{has_passing}
 use Rattle.lf_forks.specs.views.NameMarks.{NameMarks, has_mark}
 
 -- the rule records the name of node u, and selects node v

@@ -18,31 +18,31 @@ use Rattle.lf_judge.specs.views.NamePositions.{AreNamePositions}
 abbrev pub files_at : AtHand → List File
 files_at h = files_of h.files.now
 
-abbrev pub rules_at : AtHand → List RuleTree
-rules_at h = rule_trees h.rules.now
+abbrev pub rules_of_hand : AtHand → List RuleTree
+rules_of_hand h = rule_trees h.rules.now
 
 -- All is as it is to be: the rules are few and stand in the files, and the positions of their names, the universe, the environment and the checker are theirs
 pub record IsReady (h : AtHand) : Type 0 where
   pub few : length h.rules.now ≤ most_rules
-  pub stand : StandIn (files_at h) (rules_at h)
-  pub sources : HaveSources (rules_at h)
-  pub names : AreNamePositions (files_at h) (rules_at h) h.names.now
-  pub universe : h.universe.now ≡ universe_of (rules_at h)
-  pub least : IsLeast (universe_of (rules_at h)) (rules_at h) h.env.now
-  pub checker : h.checker.now ≡ record { universe = universe_of (rules_at h); env = h.env.now; rules = h.rules.now }
+  pub stand : StandIn (files_at h) (rules_of_hand h)
+  pub sources : HaveSources (rules_of_hand h)
+  pub names : AreNamePositions (files_at h) (rules_of_hand h) h.names.now
+  pub universe : h.universe.now ≡ universe_of (rules_of_hand h)
+  pub least : IsLeast (universe_of (rules_of_hand h)) (rules_of_hand h) h.env.now
+  pub checker : h.checker.now ≡ record { universe = universe_of (rules_of_hand h); env = h.env.now; rules = h.rules.now }
 
 -- the trials are those of the rules
 abbrev pub AreTrialsAt : AtHand → Tried → Type 0
-AreTrialsAt h trials = trials ≡ record { universe = universe_of (rules_at h); env = h.env.now; rules = h.rules.now }
+AreTrialsAt h trials = trials ≡ record { universe = universe_of (rules_of_hand h); env = h.env.now; rules = h.rules.now }
 
 -- these are findings of the rule with a number
 abbrev pub TellsFindingsAt : AtHand → ℕ → List Finding → Type 0
-TellsFindingsAt h number told = TellsFindings (files_at h) (rules_at h) h.env.now number told
+TellsFindingsAt h number told = TellsFindings (files_at h) (rules_of_hand h) h.env.now number told
 
 -- this is told of the rule with a number
 abbrev pub TellsRuleAt : AtHand → Bool → ℕ → RuleReport → Type 0
-TellsRuleAt h labels number told = TellsRule (files_at h) (rules_at h) h.env.now labels number told
+TellsRuleAt h labels number told = TellsRule (files_at h) (rules_of_hand h) h.env.now labels number told
 
 -- this is told of the rules
 abbrev pub TellsRulesAt : AtHand → Bool → List RuleReport → Type 0
-TellsRulesAt h labels told = TellsRules (files_at h) (rules_at h) h.env.now labels told
+TellsRulesAt h labels told = TellsRules (files_at h) (rules_of_hand h) h.env.now labels told

@@ -12,17 +12,17 @@ use Rattle.lf_open.specs.OpenList.{IsFirstOpen}
 use Rattle.lf_judge.specs.Judged.{has_unresolved}
 use Rattle.lf_judge.specs.declared.at_hand.AtHand.{AtHand}
 use Rattle.lf_judge.specs.declared.rule_found.RuleFound.{RuleFound}
-use Rattle.lf_judge.specs.views.AtHand.{TellsFindingsAt, rules_at}
+use Rattle.lf_judge.specs.views.AtHand.{TellsFindingsAt, rules_of_hand}
 
 -- these are the rows of the rule with a number
 pub record IsRowAt (h : AtHand) (facts : NameFacts) (number : ℕ) (row : RuleRow) : Type 0 where
   pub rule : RuleTree
-  pub stands : slice_get (rules_at h) number ≡ Some rule
+  pub stands : slice_get (rules_of_hand h) number ≡ Some rule
   pub told : IsRowOf h.universe.now h.env.now facts.forks rule row
 
 -- this is found of the rule with a number: the verdict on it, and its findings
 pub record IsFoundAt (h : AtHand) (number : ℕ) (found : RuleFound) : Type 0 where
-  pub verdict : (r : RuleTree) → slice_get (rules_at h) number ≡ Some r → IsRuleVerdict (universe_of (rules_at h)) h.env.now (rules_at h) number r (rule_verdict found.known)
+  pub verdict : (r : RuleTree) → slice_get (rules_of_hand h) number ≡ Some r → IsRuleVerdict (universe_of (rules_of_hand h)) h.env.now (rules_of_hand h) number r (rule_verdict found.known)
   pub list : TellsFindingsAt h number found.findings
 
 -- these are found of the rules, in their order

@@ -13,7 +13,7 @@ use Rattle.lf_witness.specs.Strict.{IsOpenAbsent}
 use Rattle.lf_open.specs.Constructs.{IsOpenAt, NarrowsFork, SaysCyclicName, effect_of}
 use Rattle.lf_open.specs.Holding.{arguments_of}
 use Rattle.lf_open.specs.OpenList.{IsOpenIn}
-use Rattle.lf_open.specs.Standing.{standing}
+use Rattle.lf_semantics.specs.Standing.{standing}
 use Rattle.lf_open.specs.declared.construct.Construct.{Construct}
 use Rattle.lf_open.specs.declared.construct.Construct.TheVariants.{ComplexPattern, CyclicName, Forked, MadeLabel, OpenAbsent, UnnamedSelector}
 use Rattle.lf_open.specs.declared.open_at.OpenAt.{OpenAt}

@@ -4,7 +4,7 @@ use Rattle.lf_ast.specs.Rules.{RuleTree}
 use Rattle.lf_open.specs.OpenList.{AreOpenOf, AreOpenOfEach}
 use Rattle.lf_open.specs.declared.firsts.OpenFirsts.{OpenFirsts}
 use Rattle.lf_open.specs.declared.open_at.OpenAt.{OpenAt}
-use Rattle.lf_open.specs.views.Opens.{AreReady, rules_at}
+use Rattle.lf_open.specs.views.Opens.{AreReady, rules_of_opens}
 
 module _ (rules : List RuleTree) where
   -- it is the first of what stands open in the expression of rule k, and none exactly where nothing does
@@ -22,7 +22,7 @@ module _ (rules : List RuleTree) where
 
 -- the rules
 abbrev pub rules_in : OpenFirsts → List RuleTree
-rules_in f = rules_at f.opens.now
+rules_in f = rules_of_opens f.opens.now
 
 -- all is as it is to be
 pub record AreFirstsReady (f : OpenFirsts) : Type 0 where

@@ -15,8 +15,8 @@ use Rattle.lf_open.specs.views.Marks.{TellsReading}
 use Rattle.lf_open.specs.views.ReadNames.{IsReadGraph}
 
 -- the rules
-abbrev pub rules_at : Opens → List RuleTree
-rules_at o = rule_trees o.rules.now
+abbrev pub rules_of_opens : Opens → List RuleTree
+rules_of_opens o = rule_trees o.rules.now
 
 -- what rules read is as it is to be
 pub record AreReads (rules : List RuleTree) (x : Reads) : Type 0 where
@@ -32,12 +32,12 @@ pub record AreMarked (rules : List RuleTree) (x : Marked) : Type 0 where
 
 -- all is as it is to be
 pub record AreReady (o : Opens) : Type 0 where
-  pub reads : AreReads (rules_at o) o.reads
-  pub marked : AreMarked (rules_at o) o.marked
+  pub reads : AreReads (rules_of_opens o) o.reads
+  pub marked : AreMarked (rules_of_opens o) o.marked
 
 -- it is of these rules
 abbrev pub AreOpens : List RuleTree → Opens → Type 0
-AreOpens rules o = (rules ≡ rules_at o) × AreReady o
+AreOpens rules o = (rules ≡ rules_of_opens o) × AreReady o
 
 -- what stands open in some rules, one rule after the other, is put behind a list
 abbrev pub IsListOf : List RuleTree → List ℕ → List OpenAt → List OpenAt → Type 0

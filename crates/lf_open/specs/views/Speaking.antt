@@ -2,7 +2,7 @@
 use Rattle.std.specs.Prelude.{◌≡◌, ◌↔◌, Bool, true, false, cond, List, [], ◌∷◌}
 use Rattle.std.specs.List.{Contains}
 use Rattle.lf_ast.specs.Tree.{Tree, Selector, Call, Aggregate}
-use Rattle.lf_open.specs.Standing.{standing}
+use Rattle.lf_semantics.specs.Standing.{standing}
 
 -- it is a selector, a call or an aggregation
 abbrev pub speaks : Tree → Bool

@@ -13,12 +13,11 @@ use Rattle.lf_ast.specs.Types.{is_scalar}
 use Rattle.lf_ast.specs.declared.expr.Op.{Op}
 use Rattle.lf_ast.specs.declared.functions.LabelEffect.{LabelEffect}
 use Rattle.lf_ast.specs.declared.functions.LabelEffect.TheVariants.{Absent, HistogramQuantile}
-use Rattle.lf_forks.specs.views.ForkTests.{has_passing}
 use Rattle.lf_forks.specs.views.Holding.{Forks, test_of}
 use Rattle.lf_forks.specs.views.NameMarks.{NameMarks}
 use Rattle.lf_semantics.specs.Listing.{place}
 use Rattle.lf_semantics.specs.Parts.{given_by}
-use Rattle.lf_trials.specs.Forks.{is_or}
+use Rattle.lf_trials.specs.Forks.{has_passing, is_or}
 use Rattle.lf_open.specs.Constructs.{effect_of}
 use Rattle.lf_open.specs.Holding.{is_source, matches_le}
 use Rattle.lf_open.specs.declared.construct.Construct.{Construct}

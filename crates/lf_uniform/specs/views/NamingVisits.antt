@@ -1,5 +1,5 @@
 -- The law of the visit that names series: an expression has its own name, and those of its parts. It defines nothing.
-use Rattle.std.proofs.Common.{◌≡◌, Bool, true, false, ◌&&◌, cond, List, [], ◌∷◌, ◌++◌, Option, Some, None, refl, sym, ◌∙◌, ap, true≢false}
+use Rattle.std.proofs.Common.{◌≡◌, Bool, true, false, ◌&&◌, cond, List, [], ◌∷◌, ◌++◌, Option, Some, None, refl, sym, ◌∙◌, ap, true≢false, option_to_list}
 use Rattle.std.specs.List.{flat_map}
 use Rattle.std.proofs.lemmas.List.{append-nil, append_assoc}
 use Rattle.lf_ast.specs.Labels.{Bytes}
@@ -14,7 +14,6 @@ use Rattle.lf_classes.specs.views.TextSets.{with_text}
 use Rattle.lf_deps.specs.views.Selecting.{is_scalar_call, parts_read}
 use Rattle.lf_semantics.specs.Listing.{Listing}
 use Rattle.lf_semantics.specs.Parts.{is_scalar_part, type_by_form}
-use Rattle.lf_trials.specs.Reached.{listed}
 use Rattle.lf_trials.specs.Selected.{Selected, selected_in, selected_in_arguments, selectors_of}
 use Rattle.lf_trials.specs.Uniform.{name_unsaid}
 use Rattle.lf_uniform.specs.declared.naming.Naming.{Naming}
@@ -27,7 +26,7 @@ each_append (x ∷ xs) names ys = each_append xs (with_text names x) ys
 
 module _ (u : Listing) (rules : List RuleTree) where
   abbrev named : Selected → List Bytes
-  named s = listed (name_unsaid u rules s)
+  named s = option_to_list (name_unsaid u rules s)
 
   abbrev unsaid : Tree → List Bytes
   unsaid e = unsaid_in u rules e

@@ -12,10 +12,9 @@ use Rattle.lf_semantics.specs.Grouped.{is_grouped_by}
 use Rattle.lf_semantics.specs.Listing.{Listing}
 use Rattle.lf_trials.specs.Candidates.{labels_in}
 use Rattle.lf_trials.specs.Given.{Given}
-use Rattle.lf_trials.specs.Operands.{losing_name}
+use Rattle.lf_trials.specs.Operands.{effect_texts, losing_name}
 use Rattle.lf_candidates.specs.views.ClassTexts.{Stands, StandsFor}
 use Rattle.lf_built.specs.views.Marking.{effect_lost}
-use Rattle.lf_built.specs.views.Tasks.{effect_texts}
 use Rattle.lf_built.proofs.operands.operand_texts.Goals as goal
 
 dated : (u : Listing) (args : List Expr) (texts : List (Option ℕ)) (grouping : Grouping) (D : Given) → 1 ≤ length args → Stands u texts (losing_name D) → StandsFor u (Some texts) (effect_texts Date grouping (trees args) D)

@@ -9,12 +9,12 @@ use Rattle.lf_checks.specs.views.Checked.{Checked}
 use Rattle.lf_checks.specs.views.Shown.{all_shown}
 use Rattle.lf_semantics.specs.Environments.{IsLeast}
 use Rattle.lf_judge.specs.Judged.{finding_told}
-use Rattle.lf_judge.specs.views.AtHand.{files_at, rules_at}
+use Rattle.lf_judge.specs.views.AtHand.{files_at, rules_of_hand}
 use Rattle.lf_judge.proofs.findings.findings_of.Goals as goal
 
 pub rule-requires-clause-sources : goal.rule-requires-clause-sources
 rule-requires-clause-sources c =
-    let same : rule_trees c.args.hand.now.checker.now.rules ≡ rules_at c.args.hand.now = ap (λ (k : Checked). rule_trees k.rules) c.requires.ready.checker in
+    let same : rule_trees c.args.hand.now.checker.now.rules ≡ rules_of_hand c.args.hand.now = ap (λ (k : Checked). rule_trees k.rules) c.requires.ready.checker in
     subst HaveSources (sym same) c.requires.ready.sources
 
 pub rule-requires-clause-least : goal.rule-requires-clause-least
@@ -27,7 +27,7 @@ pub returns : goal.returns
 returns c =
     let hand = c.args.hand.now in
     let files = files_at hand in
-    let rules = rules_at hand in
+    let rules = rules_of_hand hand in
     let env = hand.env.now in
     let found = c.in_ok-found.found in
     let same : rule_trees hand.checker.now.rules ≡ rules = ap (λ (k : Checked). rule_trees k.rules) c.requires.ready.checker in

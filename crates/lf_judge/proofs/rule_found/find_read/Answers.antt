@@ -6,18 +6,18 @@ use Rattle.lf_semantics.specs.Environments.{CoversRules, IsLeast}
 use Rattle.lf_semantics.specs.Listing.{Listing}
 use Rattle.lf_semantics.proofs.ListingLaws.{universe_covers}
 use Rattle.lf_worlds.specs.views.Tried.{Tried}
-use Rattle.lf_judge.specs.views.AtHand.{rules_at}
+use Rattle.lf_judge.specs.views.AtHand.{rules_of_hand}
 use Rattle.lf_judge.proofs.rule_found.find_read.Goals as goal
 
 pub by-requires-clause-covers : goal.by-requires-clause-covers
 by-requires-clause-covers g c =
-    let rules = rules_at c.args.hand.now in
+    let rules = rules_of_hand c.args.hand.now in
     let P : Listing → Type 0 = λ u. CoversRules u rules in subst P (sym c.requires.ready.universe) (universe_covers rules)
 
 pub by-requires-clause-least : goal.by-requires-clause-least
 by-requires-clause-least g c =
     let hand = c.args.hand.now in
-    let P : Listing → Type 0 = λ u. IsLeast u (rules_at hand) hand.env.now in subst P (sym c.requires.ready.universe) c.requires.ready.least
+    let P : Listing → Type 0 = λ u. IsLeast u (rules_of_hand hand) hand.env.now in subst P (sym c.requires.ready.universe) c.requires.ready.least
 
 pub find_each-requires-clause-trials : goal.find_each-requires-clause-trials
 find_each-requires-clause-trials g c κs within =
@@ -26,7 +26,7 @@ find_each-requires-clause-trials g c κs within =
 
 pub by-requires-clause-readings : goal.by-requires-clause-readings
 by-requires-clause-readings g c =
-    let rules = rules_at c.args.hand.now in
+    let rules = rules_of_hand c.args.hand.now in
     let r = c.requires.readings in
     let S : Sources → Type 0 = λ s. IsSourcesOf rules s in
     let N : Sources → Type 0 = λ s. IsNameGraphOf s c.args.recorded.now.graph in

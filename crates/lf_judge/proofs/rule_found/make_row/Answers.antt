@@ -5,11 +5,11 @@ use Rattle.lf_deps.proofs.RuleTrees.{tree_at}
 use Rattle.lf_deps.specs.views.Sources.{IsSourcesOf, Sources}
 use Rattle.lf_forks.specs.views.Holding.{Forks}
 use Rattle.lf_built.specs.views.RuleRows.{IsRowOf}
-use Rattle.lf_judge.specs.views.AtHand.{rules_at}
+use Rattle.lf_judge.specs.views.AtHand.{rules_of_hand}
 use Rattle.lf_judge.proofs.rule_found.make_row.Goals as goal
 
 pub of-requires-clause-sources : goal.of-requires-clause-sources
-of-requires-clause-sources c = subst (λ (s : Sources). IsSourcesOf (rules_at c.args.hand.now) s) (sym c.sources.ensures) c.requires.readings.sources
+of-requires-clause-sources c = subst (λ (s : Sources). IsSourcesOf (rules_of_hand c.args.hand.now) s) (sym c.sources.ensures) c.requires.readings.sources
 
 pub of-requires-clause-env : goal.of-requires-clause-env
 of-requires-clause-env c = subst (λ (u : Rattle.lf_semantics.specs.Listing.Listing). Rattle.lf_semantics.specs.Environments.IsEnvironment u c.args.hand.now.env.now) (sym c.requires.ready.universe) c.requires.ready.least.of_rules.environment

@@ -9,7 +9,7 @@ use Rattle.std.proofs.lemmas.Result.{IfOk-weaker}
 use Rattle.lf_laws.proofs.Slices.{one_at}
 use Rattle.lf_ast.specs.Rules.{RuleTree, rule_tree}
 use Rattle.lf_built.specs.views.RuleRows.{IsRowOf}
-use Rattle.lf_judge.specs.views.AtHand.{rules_at}
+use Rattle.lf_judge.specs.views.AtHand.{rules_of_hand}
 use Rattle.lf_judge.specs.views.RulesFound.{IsRowAt}
 use Rattle.lf_judge.proofs.Pieces.{each_value, side_by_side}
 use Rattle.lf_judge.proofs.rule_found.make_rows.Goals as goal
@@ -19,10 +19,10 @@ returns g c =
     let hand = c.args.hand.now in
     let facts = c.args.facts.now in
     IfOk-weaker c.map_pieces.result _ _
-    (λ rows is. side_by_side (IsRowOf hand.universe.now hand.env.now facts.forks) (rules_at hand) rows (is.count ∙ c.len.ensures ∙ sym (length-map hand.rules.now rule_tree))
+    (λ rows is. side_by_side (IsRowOf hand.universe.now hand.env.now facts.forks) (rules_of_hand hand) rows (is.count ∙ c.len.ensures ∙ sym (length-map hand.rules.now rule_tree))
     (λ i r row at there.
     let own = each_value _ _ _ (IsRowAt hand facts) (λ k x h gave. search rules) rows is i row there in
-    subst (λ (t : RuleTree). IsRowOf hand.universe.now hand.env.now facts.forks t row) (one_at (rules_at hand) i own.rule r own.stands at) own.told))
+    subst (λ (t : RuleTree). IsRowOf hand.universe.now hand.env.now facts.forks t row) (one_at (rules_of_hand hand) i own.rule r own.stands at) own.told))
     c.map_pieces.ensures.each
 
 pub map_pieces-requires-sync-F : goal.map_pieces-requires-sync-F

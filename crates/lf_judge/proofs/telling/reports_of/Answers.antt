@@ -2,7 +2,7 @@ use Rattle.std.proofs.Common.{◌≡◌, ℕ, [], length, reverse, true, sym, ap
 use Rattle.std.proofs.lemmas.List.{length-map, length-reverse}
 use Rattle.lf_ast.specs.Rules.{rule_tree}
 use Rattle.lf_open.specs.OpenList.{IsFirstOpen}
-use Rattle.lf_judge.specs.views.AtHand.{TellsRuleAt, files_at, rules_at}
+use Rattle.lf_judge.specs.views.AtHand.{TellsRuleAt, files_at, rules_of_hand}
 use Rattle.lf_judge.specs.views.RulesFound.{IsFoundAt, first_at}
 use Rattle.lf_judge.proofs.Numbered.{EachFrom, count_more, length_more, next_left, none_yet, one_more, still_left}
 use Rattle.lf_judge.proofs.Told.{all_told}
@@ -28,9 +28,9 @@ rule_with_labels-requires-clause-first c = λ some.
     let firsts = c.args.firsts.now in
     let waits : Waits hand firsts (length c.loop-next.told) c.in-Some.next =
     next_left (Waits hand firsts) (length c.loop-next.told) c.loop-next.taken c.pop.new.self c.in-Some.next c.in-Some.ensures.some c.loop-next.invariant.left in
-    let is : IsFirstOpen (rules_at hand) c.len-number.result (first_at firsts c.len-number.result) =
-    subst (λ (n : ℕ). IsFirstOpen (rules_at hand) n (first_at firsts n)) (sym c.len-number.ensures) (waits.first some) in
-    subst (IsFirstOpen (rules_at hand) c.len-number.result) (sym c.first_at-first.ensures) is
+    let is : IsFirstOpen (rules_of_hand hand) c.len-number.result (first_at firsts c.len-number.result) =
+    subst (λ (n : ℕ). IsFirstOpen (rules_of_hand hand) n (first_at firsts n)) (sym c.len-number.ensures) (waits.first some) in
+    subst (IsFirstOpen (rules_of_hand hand) c.len-number.result) (sym c.first_at-first.ensures) is
 
 pub loop-next-init : goal.loop-next-init
 loop-next-init c =
@@ -65,5 +65,5 @@ pub returns : goal.returns
 returns c =
     let hand = c.args.hand.now in
     let none = ap length c.in_default.ensures.none.0 in
-    all_told (files_at hand) (rules_at hand) hand.env.now true c.loop-next.told (omega (arith, none, c.loop-next.invariant.count, length-map hand.rules.now rule_tree))
+    all_told (files_at hand) (rules_of_hand hand) hand.env.now true c.loop-next.told (omega (arith, none, c.loop-next.invariant.count, length-map hand.rules.now rule_tree))
     (λ i x at. c.loop-next.invariant.told i i x (omega arith) at)

@@ -5,13 +5,13 @@ use Rattle.lf_ast.specs.Rules.{rule_tree}
 use Rattle.lf_semantics.specs.Environments.{IsLeast}
 use Rattle.lf_semantics.specs.Listing.{Listing}
 use Rattle.lf_judge.specs.Judged.{Checked}
-use Rattle.lf_judge.specs.views.AtHand.{rules_at}
+use Rattle.lf_judge.specs.views.AtHand.{rules_of_hand}
 use Rattle.lf_judge.proofs.telling.rule_without_labels.Goals as goal
 
 pub is_empty-requires-clause-least : goal.is_empty-requires-clause-least
 is_empty-requires-clause-least c =
     let hand = c.args.hand.now in
-    let P : Listing → Type 0 = λ u. IsLeast u (rules_at hand) hand.env.now in subst P (sym c.requires.ready.universe) c.requires.ready.least
+    let P : Listing → Type 0 = λ u. IsLeast u (rules_of_hand hand) hand.env.now in subst P (sym c.requires.ready.universe) c.requires.ready.least
 
 pub returns : goal.returns
 returns c =

@@ -6,8 +6,7 @@ use Rattle.std.proofs.lemmas.Option.{get_or_from_slice_get, slice_get-get_or, sl
 use Rattle.lf_ast.specs.Labels.{Labels}
 use Rattle.lf_ast.specs.Rules.{RuleTree, rule_tree, rule_trees}
 use Rattle.lf_ast.specs.declared.rule.Rule.{Rule}
-use Rattle.lf_witness.specs.StrictRuns.{StrictlyStored}
-use Rattle.lf_strict.specs.Steps.{rules_at}
+use Rattle.lf_witness.specs.StrictRuns.{StrictlyStored, rules_at}
 use Rattle.lf_strict.specs.views.Running.{IsStep, IsStretch}
 use Rattle.lf_strict.proofs.Runs.{rules_at_more, rules_at_whole, step_more, step_none}
 use Rattle.lf_strict.proofs.running.run_steps.Goals as goal

@@ -1,6 +1,6 @@
 use Rattle.std.proofs.Common.{true, take}
 use Rattle.lf_ast.specs.Rules.{rule_trees}
-use Rattle.lf_strict.specs.Steps.{rules_at}
+use Rattle.lf_witness.specs.StrictRuns.{rules_at}
 use Rattle.lf_strict.specs.views.Running.{IsStretch}
 use Rattle.lf_strict.proofs.running.run_steps.Given as goal
 

@@ -5,7 +5,7 @@ use Rattle.lf_ast.specs.Labels.{Labels}
 use Rattle.lf_ast.specs.Rules.{rule_trees}
 use Rattle.lf_ast.specs.Tree.{tree}
 use Rattle.lf_ast.specs.declared.rule.Rule.{Rule}
-use Rattle.lf_strict.specs.Steps.{rules_at}
+use Rattle.lf_witness.specs.StrictRuns.{rules_at}
 use Rattle.lf_strict.proofs.AfterRuns.{answer_after, none_after, stretch}
 use Rattle.lf_strict.proofs.running.strict_after.Goals as goal
 

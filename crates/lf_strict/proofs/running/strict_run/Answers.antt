@@ -4,7 +4,7 @@ use Rattle.lf_ast.specs.Labels.{Labels}
 use Rattle.lf_ast.specs.Rules.{rule_trees}
 use Rattle.lf_ast.specs.declared.rule.Rule.{Rule}
 use Rattle.lf_witness.proofs.Answers.{one_run_answer}
-use Rattle.lf_strict.specs.Steps.{rules_at}
+use Rattle.lf_witness.specs.StrictRuns.{rules_at}
 use Rattle.lf_strict.proofs.AfterRuns.{stretch}
 use Rattle.lf_strict.proofs.Runs.{run_answer, run_none, world_run}
 use Rattle.lf_strict.proofs.running.strict_run.Goals as goal

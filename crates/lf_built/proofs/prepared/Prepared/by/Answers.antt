@@ -5,7 +5,7 @@ use Rattle.lf_ast.specs.Rules.{RuleTree, rule_trees}
 use Rattle.lf_ast.specs.declared.rule.Rule.{Rule}
 use Rattle.lf_semantics.specs.Environments.{recorded_row, rule_row}
 use Rattle.lf_trials.specs.Candidates.{labels_in}
-use Rattle.lf_forks.specs.views.ForkTests.{has_passing}
+use Rattle.lf_trials.specs.Forks.{has_passing}
 use Rattle.lf_forks.specs.views.Holding.{test_of}
 use Rattle.lf_built.specs.declared.row_making.RuleRow.{RuleRow}
 use Rattle.lf_built.specs.views.Marking.{marks_at, set_by}

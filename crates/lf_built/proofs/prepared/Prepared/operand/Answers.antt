@@ -12,7 +12,8 @@ use Rattle.lf_built.specs.declared.work.Parts.TheVariants.{Nothing}
 use Rattle.lf_built.specs.views.Indexed.{universe_of}
 use Rattle.lf_built.specs.views.Marking.{arguments_of, call_lost, effect_lost, grouping_of, lost_at}
 use Rattle.lf_built.specs.views.Spots.{tree_at}
-use Rattle.lf_built.specs.views.Tasks.{call_wanted, effect_texts, one_wanted, operand_wanted}
+use Rattle.lf_trials.specs.Operands.{effect_texts}
+use Rattle.lf_built.specs.views.Tasks.{call_wanted, one_wanted, operand_wanted}
 use Rattle.lf_built.specs.views.Works.{AreParts}
 use Rattle.lf_built.proofs.PartSpots.{argument_is, buckets_of}
 use Rattle.lf_built.proofs.Places.{size_is}

@@ -1,6 +1,6 @@
 use Rattle.std.proofs.Common.{◌≡◌, IfOk, map, subst}
 use Rattle.lf_ast.specs.Tree.{nodes, tree}
-use Rattle.lf_forks.specs.views.ForkTests.{has_passing}
+use Rattle.lf_trials.specs.Forks.{has_passing}
 use Rattle.lf_forks.specs.views.Holding.{Forks, test_of}
 use Rattle.lf_forks.proofs.forks.Forks.are_in.Goals as goal
 

@@ -6,13 +6,13 @@ use Rattle.lf_deps.specs.Ordering.{without}
 use Rattle.lf_open.specs.OpenList.{AreOpen, AreOpenOf}
 use Rattle.lf_open.specs.declared.open_at.OpenAt.{OpenAt}
 use Rattle.lf_open.specs.views.Known.{rules_of}
-use Rattle.lf_open.specs.views.Opens.{IsListOf, rules_at}
+use Rattle.lf_open.specs.views.Opens.{IsListOf, rules_of_opens}
 use Rattle.lf_open.proofs.Joined.{are_rules, whole}
 use Rattle.lf_open.proofs.opens.Opens.list.Goals as goal
 
 pub push_others-requires-clause-rules : goal.push_others-requires-clause-rules
 push_others-requires-clause-rules c = λ k there.
-    let rules : List RuleTree = rules_at c.args.self.now in
+    let rules : List RuleTree = rules_of_opens c.args.self.now in
     let reach : List ℕ = c.in_ok-reach.reach in
     let in_reach : Contains reach k = subst (λ (l : List ℕ). Contains l k) c.as_slice.ensures there in
     let lt : k < length rules = are_rules rules c.args.i reach c.requires.rule (λ of at j. c.in_ok-reach.ensures.members rules c.requires.opens.reads.sources of at j) k in_reach in
@@ -20,7 +20,7 @@ push_others-requires-clause-rules c = λ k there.
 
 pub returns : goal.returns
 returns c = λ rules are.
-    let mine : List RuleTree = rules_at c.args.self.now in
+    let mine : List RuleTree = rules_of_opens c.args.self.now in
     let i : ℕ = c.args.i in
     let reach : List ℕ = c.in_ok-reach.reach in
     let own : List OpenAt = c.in_ok-found.found in
