@@ -28,7 +28,7 @@ module _ (rules : List RuleTree) (s : Sources) (is : IsSourcesOf rules s) where
       let w : place s.names name < length s.names = subst P (sym is.names) (place_within (recorded_names rules) name (in_first_seen (names_recorded rules) name c)) in
       omega (arith, w, h)
 
-  makers_is : (name : Bytes) → makers_of s name ≡ numbers_of (records name) 0 rules
+  pub makers_is : (name : Bytes) → makers_of s name ≡ numbers_of (records name) 0 rules
   makers_is name = elim (cases_lt (place s.names name) (length s.names)) [
     | inl h ↦ ap (λ (l : List (List ℕ)). get_or l (place s.names name) []) is.makers ∙ numbers_at (λ n. numbers_of (records n) 0 rules) s.names name h
     | inr h ↦ let n = sources_full rules s is in get_or_past s.makers (place s.names name) [] (omega (arith, h, n)) ∙ sym (none_record name rules 0 (no_place name h))

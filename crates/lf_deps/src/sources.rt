@@ -65,14 +65,14 @@ impl Sources {
     }
 
     /// The recorded names, each once.
-    pub(crate) fn recorded(&self) -> &TextSet
+    pub fn recorded(&self) -> &TextSet
         ensures { result.now ≡ self.now.names }
     {
         &self.names
     }
 
-    /// The numbers of the rules that record a name.
-    pub(crate) fn makers_of(&self, name: &str) -> &[usize]
+    /// The numbers of the rules that record a name, in ascending order.
+    pub fn makers_of(&self, name: &str) -> &[usize]
         ensures { result.now ≡ makers_of self.now name.now }
     {
         self.makers_at(self.names.place(name))

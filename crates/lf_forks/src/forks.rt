@@ -41,7 +41,7 @@ impl Forks {
         requires { IsSourcesOf (rule_trees rules.now) sources.now }
         ensures { IfOk result (λ forks. TellsSelectors (rule_trees rules.now) (test_of forks)) }
     {
-        let own = own_forks(alloc, rules)?;
+        let own = own_forks(alloc, rules, sources)?;
         let start = own.nodes_of_rules(alloc, rules)?;
         let uses = uses_of(alloc, rules, sources, &own.names)?;
         let graph = Components::of(alloc, &uses)?;

@@ -1,7 +1,6 @@
 //! Forks: where samples may come from one place or from another. Which expressions have one in them, in themselves or in what they read.
 #![tactic(auto)]
 
-mod counting;
 mod forks;
 mod holding;
 mod name_marks;

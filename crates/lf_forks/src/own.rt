@@ -1,29 +1,48 @@
 //! Forks in the rules' own expressions, and the names that are made by them. A recorded name is a node, by its place, and selectors that say no name are the node behind these.
-ghost use Rattle.std.specs.Prelude.{◌≡◌, ◌++◌, IfOk, OnOk};
+ghost use Rattle.std.specs.Prelude.{◌≡◌, ◌++◌, List, map, IfOk, OnOk};
 ghost use Rattle.std.specs.List.{flat_map};
-ghost use Rattle.lf_ast.specs.Rules.{rule_tree, rule_trees};
+ghost use Rattle.lf_ast.specs.Rules.{RuleTree, rule_tree, rule_trees};
+ghost use Rattle.lf_deps.specs.views.Sources.{IsSourcesOf};
+ghost use Rattle.lf_trials.specs.Reached.{has_several_rules};
 ghost use Rattle.lf_forks.specs.views.NameMarks.{Marks};
 ghost use Rattle.lf_forks.specs.views.Uses.{AreOwn, fork_nodes};
 
-use crate::counting::have_several;
 use crate::holding::holds;
 use crate::name_marks::NameMarks;
 use lf_ast::Rule;
 use lf_base::{Memory, Seq};
-use lf_classes::recorded_names;
+use lf_classes::{TextSet, recorded_names};
+use lf_deps::Sources;
 use std::alloc::Global;
 
-/// The names that several rules record.
-pub(crate) fn own_forks(alloc: Global, rules: &Seq<Rule>) -> Result<NameMarks, Memory>
+/// The names that several rules record, by the index of the rules.
+pub(crate) fn own_forks(
+    alloc: Global,
+    rules: &Seq<Rule>,
+    sources: &Sources,
+) -> Result<NameMarks, Memory>
+    requires { IsSourcesOf (rule_trees rules.now) sources.now }
     ensures { IfOk result (AreOwn (rule_trees rules.now)) }
 {
     let names = recorded_names(alloc, rules.as_slice())?;
-    let marked = have_several(alloc, rules, &names)?;
+    let marked = have_several(alloc, sources, &names)?;
     Ok(NameMarks {
         names,
         marked,
         without_name: false,
     })
+}
+
+/// For each of these names whether several rules record it.
+fn have_several(alloc: Global, sources: &Sources, names: &TextSet) -> Result<Vec<bool>, Memory>
+    ensures { (rules : List RuleTree) → IsSourcesOf rules sources.now → IfOk result (λ several. several.items ≡ map (has_several_rules rules) names.now) }
+{
+    let mut several = Vec::new(alloc);
+    for k in 0..names.len() {
+        let makers = sources.makers_of(names.get(k).as_str());
+        several.push(makers.len() > 1)?;
+    }
+    Ok(several)
 }
 
 impl NameMarks {
