@@ -1,5 +1,5 @@
 //! Sets of names.
-ghost use Rattle.std.specs.Prelude.{◌≡◌, ℕ, List, false, not, ◌||◌, IfOk, OnOk};
+ghost use Rattle.std.specs.Prelude.{◌≡◌, ℕ, List, false, not, ◌||◌, IfOk, OnErr, OnOk};
 ghost use Rattle.std.specs.Str.{bytes_eq};
 ghost use Rattle.lf_base.specs.views.NameSets.{has};
 
@@ -35,6 +35,7 @@ impl<'a> NameSet<'a> {
     pub fn add(&mut self, name: &'a str) -> Result<bool, Memory>
         ensures new { IfOk result (λ new. new ≡ not (has self.old name.now)) }
         ensures members { OnOk result ((other : List ℕ) → has self.new other ≡ (bytes_eq other name.now || has self.old other)) }
+        ensures err { OnErr result ((other : List ℕ) → has self.new other ≡ has self.old other) }
     {
         let new = self.names.insert(name)?;
         Ok(new)

@@ -3,7 +3,7 @@
 -- that what is bounded by them is bounded before the pattern is read. Every text has both, also one that is no pattern.
 --
 -- A text is a list of marks. Each counts by itself, and that as often as the numbers in braces say that stand behind it and behind each group that it stands in. What classes,
--- characters behind a flag `i` and commas in braces count is all that the two differ in.
+-- characters behind a flag `i`, loops, alternatives, ends of groups and commas in braces count is all that the two differ in.
 use Rattle.std.specs.Prelude.{ℕ, zero, suc, ◌+◌, ◌-◌, ◌*◌, ◌^◌, max, min, Bool, ◌==◌, ◌||◌, ◌&&◌, nat_le, List, [], ◌∷◌, ◌++◌, if◌then◌else◌}
 use Rattle.lf_sizes.specs.declared.size.Mode.{Mode}
 use Rattle.lf_sizes.specs.declared.size.Weights.{Weights}
@@ -14,7 +14,7 @@ use Rattle.lf_sizes.specs.declared.size.Mode.TheVariants.{Ready, Escape, Open, F
 pub data Mark : Type 0 where
   -- something of its own: a character, a dot, a class. It counts so much
   atom : ℕ → Mark
-  -- a part of what stands before it: a `*`, a `+`, a `?`, a comma in braces, what stands in brackets, a further byte of a character
+  -- a part of what stands before it: a `*`, a `+`, a `?`, a comma in braces, what stands in brackets, a further byte of a character, what the end of a group counts beside 1
   more : ℕ → Mark
   -- a `(` and a `)`
   opens : Mark
@@ -50,7 +50,7 @@ abbrev mutual
   outside zero (closes ∷ ms) = often ms
   outside (suc open_groups) (closes ∷ ms) = outside open_groups ms
 
--- the marks where so many groups are open: a `)` that ends none of them counts as a character does. It is in no pattern, so that what stands before it doesn't count more often by what stands behind it
+-- the marks where so many groups are open: a `)` that ends none of them is something of its own, which counts as much. It is in no pattern, so that what stands before it doesn't count more often by what stands behind it
 abbrev pub in_groups : ℕ → List Mark → List Mark
 in_groups open_groups [] = []
 in_groups open_groups (atom n ∷ ms) = atom n ∷ in_groups open_groups ms
@@ -76,19 +76,20 @@ plus m n = min (m + n) most
 abbrev pub times : ℕ → ℕ → ℕ
 times m n = min (m * n) most
 
--- ---- what classes and commas in braces count
+-- ---- what classes, loops, alternatives, groups and commas in braces count
 
 -- In `Weights`: `letters` is what `\w`, `\p` and their opposites count, a class in brackets where letters match their other cases too, and what may be anything; `digits` is what `\d` and its opposite
 -- count; `few` what `\s`, its opposite, a dot, and any other class in brackets, beside each byte in it; `folded` what a character counts where letters match their other cases too;
--- `optional` what a comma in braces counts, by which some of what is counted may be left out, as a `?` says it elsewhere.
+-- `optional` what a comma in braces counts, by which some of what is counted may be left out, as a `?` says it elsewhere; `repeated` what a `*`, a `+` and a `?` count; `either` what a `|` counts;
+-- `ended` what the end of a group counts beside 1.
 
--- in a size: the ranges of the characters, each of up to four bytes
+-- in a size: the ranges of the characters, each of up to four bytes; and of loops, alternatives and groups how much longer than a character they take to be read
 abbrev pub in_size : Weights
-in_size = record { letters = 512; digits = 64; few = 16; folded = 8; optional = 0 }
+in_size = record { letters = 512; digits = 64; few = 16; folded = 8; optional = 0; repeated = 4; either = 6; ended = 2 }
 
 -- in a width: the ranges of the first bytes of these, which are gone through to find the next state
 abbrev pub in_width : Weights
-in_width = record { letters = 8; digits = 4; few = 2; folded = 2; optional = 1 }
+in_width = record { letters = 8; digits = 4; few = 2; folded = 2; optional = 1; repeated = 1; either = 1; ended = 0 }
 
 -- ---- what a byte says
 
@@ -119,16 +120,21 @@ escaped w c =
 abbrev pub class : Weights → ℕ → ℕ
 class w k = if k == w.folded then w.letters else w.few
 
--- a byte that stands nowhere in particular: one of `( ) [ { \ . * + ?`, one that goes on with a character, or another
+-- a `)`
+abbrev pub ending : Weights → ℕ → Said
+ending w k = record { marks = closes ∷ more w.ended ∷ []; next = Ready; character = k }
+
+-- a byte that stands nowhere in particular: one of `( ) [ { \ . * + ? |`, one that goes on with a character, or another
 abbrev pub said : Weights → ℕ → ℕ → Said
 said w k c =
     if c == 40 then mark opens Open k
-    else if c == 41 then mark closes Ready k
+    else if c == 41 then ending w k
     else if c == 91 then mark (atom (class w k)) (Bracket 1) k
     else if c == 123 then no_mark (Count 0 0) k
     else if c == 92 then no_mark Escape k
     else if c == 46 then mark (atom w.few) Ready k
-    else if (c == 42) || (c == 43) || (c == 63) then mark (more 1) Ready k
+    else if (c == 42) || (c == 43) || (c == 63) then mark (more w.repeated) Ready k
+    else if c == 124 then mark (atom w.either) Ready k
     else if nat_le 128 c && nat_le c 191 then mark (more 1) Ready k
     else mark (atom k) Ready k
 

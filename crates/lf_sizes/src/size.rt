@@ -1,12 +1,12 @@
 //! The size of a pattern and its width, which are read from left to right.
 ghost use Rattle.std.specs.Prelude.{◌≡◌, IfOk};
-ghost use Rattle.lf_sizes.specs.Sizes.{atom, class, closes, count, escaped, in_size, in_width, is_flag, mark, measured, more, no_mark, opens, said, said_in_braces, said_in_brackets, size_of, width_of};
+ghost use Rattle.lf_sizes.specs.Sizes.{atom, class, count, ending, escaped, in_size, in_width, is_flag, mark, measured, more, no_mark, opens, said, said_in_braces, said_in_brackets, size_of, width_of};
 ghost use Rattle.lf_sizes.specs.views.Size.{reads, size_from, start, state_of, stepped, total};
 
 use lf_base::{Memory, Seq};
 use std::alloc::Global;
 
-/// What classes and commas in braces count.
+/// What classes, loops, alternatives, groups and commas in braces count.
 #[derive(Clone, Copy)]
 struct Weights {
     /// What `\w`, `\p` and their opposites count, a class in brackets where letters match their other cases too, and what may be anything.
@@ -19,6 +19,12 @@ struct Weights {
     folded: u64,
     /// What a comma in braces counts, by which some of what is counted may be left out.
     optional: u64,
+    /// What a `*`, a `+` and a `?` count.
+    repeated: u64,
+    /// What a `|` counts.
+    either: u64,
+    /// What the end of a group counts beside 1.
+    ended: u64,
 }
 
 /// Where the next byte stands.
@@ -64,7 +70,7 @@ struct Reader {
 }
 
 /// The size of a pattern, counted byte by byte: a character counts 1, one beyond ASCII a 1 more for each further byte, and a character behind a flag `i` 8; a dot 16, a class of
-/// Unicode's characters 16 to 512, and a class in brackets 16, or 512 behind that flag, and a 1 for each byte in it. What stands before a number in braces counts as often as the number says, and once at
+/// Unicode's characters 16 to 512, and a class in brackets 16, or 512 behind that flag, and a 1 for each byte in it; a `|` 6, a `*`, a `+` and a `?` 4, and the end of a group 3. What stands before a number in braces counts as often as the number says, and once at
 /// least; so does the `x` of `\x{41}`. No size is greater than 2^64 - 1, which that of a pattern with a number in braces behind the flag `x` is.
 pub fn pattern_size(alloc: Global, pattern: &str) -> Result<u64, Memory>
     ensures { IfOk result (λ size. size ≡ size_of pattern.now) }
@@ -110,6 +116,9 @@ impl Weights {
             few: 16,
             folded: 8,
             optional: 0,
+            repeated: 4,
+            either: 6,
+            ended: 2,
         }
     }
 
@@ -123,6 +132,9 @@ impl Weights {
             few: 2,
             folded: 2,
             optional: 1,
+            repeated: 1,
+            either: 1,
+            ended: 0,
         }
     }
 
@@ -296,7 +308,14 @@ impl Reader {
                 let size = self.weights.few;
                 Ok(self.with_atom(size))
             }
-            b'*' | b'+' | b'?' => Ok(self.larger(1, Mode::Ready)),
+            b'*' | b'+' | b'?' => {
+                let size = self.weights.repeated;
+                Ok(self.larger(size, Mode::Ready))
+            }
+            b'|' => {
+                let size = self.weights.either;
+                Ok(self.with_atom(size))
+            }
             // A byte of a character behind its first.
             0x80..=0xBF => Ok(self.larger(1, Mode::Ready)),
             _ => {
@@ -323,9 +342,9 @@ impl Reader {
         })
     }
 
-    /// Reads a `)`. Where no group is open, not even the one that is put round the pattern, it counts as a character does.
+    /// Reads a `)`. Where no group is open, not even the one that is put round the pattern, it counts as much, by itself.
     fn close(self) -> Reader
-        ensures { state_of result ≡ reads (mark closes Mode.Ready self.character) (state_of self) }
+        ensures { state_of result ≡ reads (ending self.weights self.character) (state_of self) }
     {
         let size = self.sum.saturating_add(self.last);
         let mut outer = self.outer;
@@ -337,7 +356,7 @@ impl Reader {
             weights: self.weights,
             mode: Mode::Ready,
             character: self.character,
-            last,
+            last: last.saturating_add(self.weights.ended),
             sum,
             outer,
         }

@@ -6,7 +6,7 @@ use Rattle.lf_sizes.specs.declared.size.Mode.TheVariants.{Ready}
 use Rattle.lf_sizes.specs.declared.size.Reader.{Reader}
 use Rattle.lf_sizes.specs.declared.size.Weights.{Weights}
 
--- what classes and commas count, where the next byte stands, the size of a character, the size of what a count would count, that of what stands before it in its group, and of what stands before each open group, the innermost first and the one that is put round the pattern last
+-- what classes, loops, alternatives, groups and commas count, where the next byte stands, the size of a character, the size of what a count would count, that of what stands before it in its group, and of what stands before each open group, the innermost first and the one that is put round the pattern last
 pub record State : Type 0 where
   pub weights : Weights
   pub mode : Mode
@@ -23,7 +23,7 @@ start w = record { weights = w; mode = Ready; character = 1; last = 0; sum = 0; 
 
 -- ---- a mark is read
 
--- a `)` closes the innermost group; where none is open, it counts as a character does
+-- a `)` closes the innermost group; where none is open, it is something of its own
 abbrev pub closed : List ℕ → State → State
 closed [] s = record s { last = 1; sum = plus s.sum s.last; outer = [] }
 closed (before ∷ outer) s = record s { last = plus (plus s.sum s.last) 1; sum = before; outer = outer }
