@@ -94,6 +94,21 @@ pub fn mask(number: usize, from: usize, to: usize) -> u64
     ensures below { (i : ℕ) → i < 64 → 64 * number + i < from → bit result i ≡ false }
     ensures above { (i : ℕ) → i < 64 → to ≤ 64 * number + i → bit result i ≡ false }
 {
+    // Most words of a long range lie in it whole.
+    let first = 64 * number;
+    if from <= first && first + 64 <= to {
+        return whole(true);
+    }
+    mask_at_edge(number, from, to)
+}
+
+/// The same, where the word may lie in the range in part.
+fn mask_at_edge(number: usize, from: usize, to: usize) -> u64
+    requires { number < 2 ^ 32 }
+    ensures inside { (i : ℕ) → i < 64 → from ≤ 64 * number + i → 64 * number + i < to → bit result i ≡ true }
+    ensures below { (i : ℕ) → i < 64 → 64 * number + i < from → bit result i ≡ false }
+    ensures above { (i : ℕ) → i < 64 → to ≤ 64 * number + i → bit result i ≡ false }
+{
     let low = from_place(place_in(number, from));
     let high = from_place(place_in(number, to));
     without(low, high)

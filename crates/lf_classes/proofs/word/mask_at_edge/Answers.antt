@@ -1,6 +1,6 @@
 use Rattle.std.proofs.Common.{◌≡◌, ℕ, Bool, true, false, refl, ◌∙◌}
 use Rattle.lf_classes.specs.views.Bits.{bit}
-use Rattle.lf_classes.proofs.word.mask.Goals as goal
+use Rattle.lf_classes.proofs.word.mask_at_edge.Goals as goal
 
 -- a bit that is clear stays clear
 clear : (b : Bool) (word i high : ℕ) → bit high i ≡ b → (bit high i ≡ false → bit word i ≡ false) → (bit high i ≡ true → bit word i ≡ false) → bit word i ≡ false
