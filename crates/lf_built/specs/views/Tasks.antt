@@ -19,7 +19,7 @@ use Rattle.lf_trials.specs.Building.{Building, and_then, nothing}
 use Rattle.lf_trials.specs.Built.{build, build_by_rule, builder}
 use Rattle.lf_trials.specs.Given.{Given, holds_texts}
 use Rattle.lf_trials.specs.Matched.{has_signature, side}
-use Rattle.lf_trials.specs.Operands.{losing_name}
+use Rattle.lf_trials.specs.Operands.{effect_texts, losing_name}
 use Rattle.lf_trials.specs.Sides.{left_gives, right_gives}
 
 -- an expression that is to be built, with the texts that it gets
