@@ -65,7 +65,7 @@ impl Sources {
     }
 
     /// The recorded names, each once.
-    pub fn recorded(&self) -> &TextSet
+    pub(crate) fn recorded(&self) -> &TextSet
         ensures { result.now ≡ self.now.names }
     {
         &self.names

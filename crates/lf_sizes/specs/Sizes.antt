@@ -83,7 +83,7 @@ times m n = min (m * n) most
 -- `optional` what a comma in braces counts, by which some of what is counted may be left out, as a `?` says it elsewhere; `repeated` what a `*`, a `+` and a `?` count; `either` what a `|` counts;
 -- `ended` what the end of a group counts beside 1.
 
--- in a size: the ranges of the characters, each of up to four bytes; and of loops, alternatives and groups how much longer than a character they take to be read
+-- in a size: the ranges of the characters, each of up to four bytes; and of loops, alternatives and groups about how long they take to be read beside a character
 abbrev pub in_size : Weights
 in_size = record { letters = 512; digits = 64; few = 16; folded = 8; optional = 0; repeated = 4; either = 6; ended = 2 }
 
@@ -93,7 +93,7 @@ in_width = record { letters = 8; digits = 4; few = 2; folded = 2; optional = 1; 
 
 -- ---- what a byte says
 
--- its mark, if it has one, where the next byte stands, and what a character counts there
+-- its marks, if it has some, where the next byte stands, and what a character counts there
 pub record Said : Type 0 where
   pub marks : List Mark
   pub next : Mode

@@ -70,23 +70,25 @@ struct Reader {
 }
 
 /// The size of a pattern, counted byte by byte: a character counts 1, one beyond ASCII a 1 more for each further byte, and a character behind a flag `i` 8; a dot 16, a class of
-/// Unicode's characters 16 to 512, and a class in brackets 16, or 512 behind that flag, and a 1 for each byte in it; a `|` 6, a `*`, a `+` and a `?` 4, and the end of a group 3. What stands before a number in braces counts as often as the number says, and once at
-/// least; so does the `x` of `\x{41}`. No size is greater than 2^64 - 1, which that of a pattern with a number in braces behind the flag `x` is.
+/// Unicode's characters 16 to 512, and a class in brackets 16, or 512 behind that flag, and a 1 for each byte in it; a `|` 6, a `*`, a `+` and a `?` 4, and the end of a
+/// group 3. What stands before a number in braces counts as often as the number says, and once at least; so does the `x` of `\x{41}`. No size is greater than 2^64 - 1, which
+/// that of a pattern with a number in braces behind the flag `x` is.
 pub fn pattern_size(alloc: Global, pattern: &str) -> Result<u64, Memory>
     ensures { IfOk result (λ size. size ≡ size_of pattern.now) }
 {
     measure(alloc, Weights::in_size(), pattern)
 }
 
-/// The width of a pattern: about in how many states at once a program may be that tries it. It is counted as the size is, but for classes: one of Unicode's characters counts 2 to 8, a dot and a character
-/// behind a flag `i` 2, and a class in brackets 2, or 8 behind that flag, and a 1 for each byte in it; and a comma in braces counts 1, as a `?` does.
+/// The width of a pattern: about in how many states at once a program may be that tries it. It is counted as the size is, but that a `|`, a `*`, a `+`, a `?`, the end of a group
+/// and a comma in braces count 1, a class of Unicode's characters 2 to 8, a dot and a character behind a flag `i` 2, and a class in brackets 2, or 8 behind that flag, and a 1
+/// for each byte in it.
 pub fn pattern_width(alloc: Global, pattern: &str) -> Result<u64, Memory>
     ensures { IfOk result (λ width. width ≡ width_of pattern.now) }
 {
     measure(alloc, Weights::in_width(), pattern)
 }
 
-/// What a pattern counts where classes count so much.
+/// What a pattern counts by these weights.
 #[tactic(auto, using(crate::proofs::Sizes::law))]
 fn measure(alloc: Global, weights: Weights, pattern: &str) -> Result<u64, Memory>
     ensures { IfOk result (λ n. n ≡ measured weights pattern.now) }
