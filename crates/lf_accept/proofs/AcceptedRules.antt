@@ -10,14 +10,14 @@ use Rattle.lf_base.specs.declared.fault.Fault.{Fault}
 use Rattle.lf_ast.specs.Rules.{RuleTree}
 use Rattle.lf_ast.specs.declared.rule.RuleLabel.{RuleLabel}
 use Rattle.lf_rules.specs.Mappings.{Pairing, pairs, trees}
-use Rattle.lf_rules.specs.Rules.{AreFileGroups, AreGroups, AreRules, AreSettings, IsAlert, IsGroupTree, IsRecord, IsRule as IsSource, IsRuleTree, IsRules, Sets}
+use Rattle.lf_rules.specs.Rules.{AreFileGroups, AreGroups, AreRules, AreSettings, IsAlert, IsGroupTree, IsRecord, IsRule, IsRuleTree, IsRules, SetsText}
 use Rattle.lf_rules.specs.Sources.{Setting, Source}
 use Rattle.lf_base.specs.Names.{is_label_name, is_metric_name, metric}
 use Rattle.lf_semantics.specs.PatternBreaches.{BreaksPatterns}
 use Rattle.lf_semantics.specs.Worlds.{SetsNoName}
 use Rattle.lf_semantics.proofs.Members.{all_of, first_or_behind, none_in}
 use Rattle.lf_yaml.specs.Tree.{Tree, leaf, sequence, mapping, Entries}
-use Rattle.lf_accept.specs.Accepted.{IsAccepted, IsRule, label_of}
+use Rattle.lf_accept.specs.Accepted.{IsAccepted, IsAcceptedRule, label_of}
 use Rattle.lf_accept.proofs.DistinctKeys.{EntriesDiffer, GivenDiffers, KeysDiffer, given_differs, key_of, keys_differ, keys_distinct, trees_differ}
 use Rattle.lf_laws.proofs.Members.{all_append}
 
@@ -38,7 +38,7 @@ name_of : (es : List Pairing) (s : Source) → IsRecord es s ⊎ IsAlert es s �
 name_of es s (inl record_is) h = record_is.name
 name_of es s (inr alert) h = absurd (false≢true (sym h ∙ alert.kind))
 
-all_set : (es : List Pairing) (ss : List Setting) → AllZip Sets es ss → AllByRecursion (λ (l : Setting). is_label_name l.0.text ≡ true) ss
+all_set : (es : List Pairing) (ss : List Setting) → AllZip SetsText es ss → AllByRecursion (λ (l : Setting). is_label_name l.0.text ≡ true) ss
 all_set [] [] h = tt
 all_set [] (s ∷ ss) h = absurd h
 all_set (e ∷ es) [] h = absurd h
@@ -52,7 +52,7 @@ labels_of (Some (leaf v)) ss h = absurd h
 labels_of (Some (sequence items span)) ss h = absurd h
 labels_of (Some (mapping es span)) ss h = all_set (pairs es) ss h
 
-same_keys : (es : List Pairing) (ss : List Setting) → AllZip Sets es ss → map key_of es ≡ map set_by ss
+same_keys : (es : List Pairing) (ss : List Setting) → AllZip SetsText es ss → map key_of es ≡ map set_by ss
 same_keys [] [] h = refl
 same_keys [] (s ∷ ss) h = absurd h
 same_keys (e ∷ es) [] h = absurd h
@@ -71,7 +71,7 @@ set_once (Some (leaf v)) ss d h = absurd h
 set_once (Some (sequence items span)) ss d h = absurd h
 set_once (Some (mapping es span)) ss d h = subst (IsDistinct bytes_eq) (same_keys (pairs es) ss h) (keys_distinct es [] d)
 
-is_named : (group : ℕ) (es : Entries) (s : Source) → EntriesDiffer es [] → IsSource group (pairs es) s → IsNamed s
+is_named : (group : ℕ) (es : Entries) (s : Source) → EntriesDiffer es [] → IsRule group (pairs es) s → IsNamed s
 is_named group es s d is = record {
   name = name_of (pairs es) s is.kind;
   labels = labels_of _ s.labels is.labels;
@@ -142,7 +142,7 @@ same_set [] = refl
 same_set (s ∷ ss) = ap (λ xs. set_by s ∷ xs) (same_set ss)
 
 module _ (file : ℕ) where
-  judged_rule : (s : Source) (r : RuleTree) → IsNamed s → IsRule file s r → IsJudgedRule r
+  judged_rule : (s : Source) (r : RuleTree) → IsNamed s → IsAcceptedRule file s r → IsJudgedRule r
   judged_rule s r named is =
       let labels : r.labels ≡ map label_of s.labels = ap (λ x. x.labels) is.1 in
       let alert : r.alert ≡ s.alert = ap (λ x. x.alert) is.1 in
@@ -157,7 +157,7 @@ module _ (file : ℕ) where
         distinct = subst (λ (ls : List RuleLabel). IsDistinct bytes_eq (map (λ l. l.key) ls)) (sym labels) (subst (IsDistinct bytes_eq) (same_set s.labels) named.distinct);
       }
 
-  judged_rules : (ss : List Source) (rs : List RuleTree) → AllByRecursion IsNamed ss → AllZip (IsRule file) ss rs → (r : RuleTree) → Contains rs r → IsJudgedRule r
+  judged_rules : (ss : List Source) (rs : List RuleTree) → AllByRecursion IsNamed ss → AllZip (IsAcceptedRule file) ss rs → (r : RuleTree) → Contains rs r → IsJudgedRule r
   judged_rules [] [] named are r c = absurd (none_in r c)
   judged_rules [] (x ∷ rs) named are r c = absurd are
   judged_rules (s ∷ ss) [] named are r c = absurd are

@@ -12,7 +12,7 @@ use Rattle.lf_ast.specs.Selectors.{metric}
 use Rattle.lf_semantics.specs.Mentions.{Mention, mention, rule_mentions, rules_mentions, mentions}
 use Rattle.lf_semantics.proofs.ListingLaws.{of_first_seen}
 use Rattle.lf_semantics.proofs.Members.{one_of, here, behind}
-use Rattle.lf_accept.specs.Accepted.{IsAccepted, IsRule}
+use Rattle.lf_accept.specs.Accepted.{IsAccepted, IsAcceptedRule}
 use Rattle.lf_accept.proofs.AcceptedRules.{accepted_rule}
 use Rattle.lf_accept.proofs.StarlessTrees.{NoneStar, none_star_append, metric_differs, star, starless, star_is_none}
 
@@ -30,7 +30,7 @@ abbrev IsWalkedFree : RuleTree → Type 0
 IsWalkedFree r = NoneStar (mentions r.expr)
 
 module _ (file : ℕ) where
-  each_expr_free : (sources : List Source) (rules : List RuleTree) → AllZip (IsRule file) sources rules → AllByRecursion IsWalkedFree rules
+  each_expr_free : (sources : List Source) (rules : List RuleTree) → AllZip (IsAcceptedRule file) sources rules → AllByRecursion IsWalkedFree rules
   each_expr_free [] [] all = tt
   each_expr_free [] (r ∷ rules) all = absurd all
   each_expr_free (s ∷ sources) [] all = absurd all

@@ -29,7 +29,7 @@ use Rattle.lf_scalar.specs.Cells.{Value}
 use Rattle.lf_semantics.specs.PatternBreaches.{TellsPattern}
 use Rattle.lf_yaml.specs.Document.{IsTree, TreeBreaks}
 use Rattle.lf_yaml.specs.Tree.{Tree as FileTree}
-use Rattle.lf_accept.specs.Accepted.{BreaksExpr, IsAccepted, IsExpr, IsRule, RefusesFile, Says, bad_expression, bad_pattern, bad_tokens, end_of, no_expression, no_rules, no_tree, no_type}
+use Rattle.lf_accept.specs.Accepted.{BreaksExpr, IsAccepted, IsExpr, IsAcceptedRule, RefusesFile, Says, bad_expression, bad_pattern, bad_tokens, end_of, no_expression, no_rules, no_tree, no_type}
 use Rattle.lf_accept.specs.Allowance.{count_of_rule}
 use Rattle.lf_accept.specs.Taken.{FileTakes}
 use Rattle.lf_accept.specs.Taken as takes
@@ -80,15 +80,15 @@ module _ (v : Value) (ts : List Token) (end : ℕ) (is : end ≡ end_of v) (h : 
 -- ---- rules
 
 module _ (file : ℕ) (sources : List RuleSource) (i : ℕ) (s : RuleSource) (inside : i < length sources) (is : s ≡ get_or sources i s) (rules : List Rule)
-    (h : AllZip (IsRule file) (map source (take i sources)) (rule_trees rules)) where
+    (h : AllZip (IsAcceptedRule file) (map source (take i sources)) (rule_trees rules)) where
   more : map source (take (i + 1) sources) ≡ map source (take i sources) ++ source s ∷ []
   more = ap (map source) (take_more sources i s inside) ∙ map-append source (take i sources) (get_or sources i s ∷ []) ∙ ap (λ (x : RuleSource). map source (take i sources) ++ source x ∷ []) (sym is)
 
-  pub rules_more : (r : Rule) → IsRule file (source s) (rule_tree r) → AllZip (IsRule file) (map source (take (i + 1) sources)) (rule_trees (rules ++ r ∷ []))
+  pub rules_more : (r : Rule) → IsAcceptedRule file (source s) (rule_tree r) → AllZip (IsAcceptedRule file) (map source (take (i + 1) sources)) (rule_trees (rules ++ r ∷ []))
   rules_more r k =
-      let P : List RuleTree → Type 0 = λ rs. AllZip (IsRule file) (map source (take (i + 1) sources)) rs in
+      let P : List RuleTree → Type 0 = λ rs. AllZip (IsAcceptedRule file) (map source (take (i + 1) sources)) rs in
       subst P (sym (map-append rule_tree rules (r ∷ [])))
-      (subst (λ ss. AllZip (IsRule file) ss (rule_trees rules ++ rule_tree r ∷ [])) (sym more) (zip_push (IsRule file) (map source (take i sources)) (rule_trees rules) (source s) (rule_tree r) h k))
+      (subst (λ ss. AllZip (IsAcceptedRule file) ss (rule_trees rules ++ rule_tree r ∷ [])) (sym more) (zip_push (IsAcceptedRule file) (map source (take i sources)) (rule_trees rules) (source s) (rule_tree r) h k))
 
   pub cut : map source sources ≡ map source (take i sources) ++ source s ∷ map source (drop (suc i) sources)
   cut = ap (map source) (split_at sources i s inside) ∙ map-append source (take i sources) (get_or sources i s ∷ drop (suc i) sources)
@@ -124,7 +124,7 @@ at_tree bytes = at_by (TreeBreaks bytes) (RefusesFile bytes) (λ f h. no_tree h)
 pub none_at_tree : (bytes : Bytes) (e : Refusal) → IfAt e (TreeBreaks bytes) → IfAt e (λ f. FileTakes bytes 0)
 none_at_tree bytes = at_by (TreeBreaks bytes) (λ f. FileTakes bytes 0) (λ f h. takes.no_tree h)
 
-pub accepts : (file : ℕ) (bytes : Bytes) (ss : List Source) → Says bytes ss → {X : Type 0} (view : X → List RuleTree) (r : Result X Refusal) → Found view (AllZip (IsRule file) ss) r → Found view (IsAccepted bytes file) r
+pub accepts : (file : ℕ) (bytes : Bytes) (ss : List Source) → Says bytes ss → {X : Type 0} (view : X → List RuleTree) (r : Result X Refusal) → Found view (AllZip (IsAcceptedRule file) ss) r → Found view (IsAccepted bytes file) r
 accepts file bytes ss says view (Ok rules) h = record { sources = ss; says = says; are_rules = h }
 accepts file bytes ss says view (Err e) h = tt
 

@@ -21,7 +21,7 @@ use Rattle.lf_rules.specs.Sources.{Source, source}
 use Rattle.lf_rules.specs.declared.source.RuleSource.{RuleSource}
 use Rattle.lf_scalar.specs.Cells.{Value}
 use Rattle.lf_semantics.specs.PatternBreaches.{TellsPattern}
-use Rattle.lf_accept.specs.Accepted.{BreaksExpr, IsExpr, IsRule, Says, bad_pattern, bad_tokens, end_of, no_expression, no_type}
+use Rattle.lf_accept.specs.Accepted.{BreaksExpr, IsExpr, IsAcceptedRule, Says, bad_pattern, bad_tokens, end_of, no_expression, no_type}
 use Rattle.lf_accept.specs.Allowance.{count_in, count_of_rule}
 use Rattle.lf_accept.specs.Taken.{FileTakes, IfTold, RulesTake, accepted, all_read, no_rules, no_tree, of_rules, refused, taken_at}
 use Rattle.lf_accept.specs.views.Checked.{BreakJudged, BreaksJudged, judged_taken, read_taken}
@@ -72,13 +72,13 @@ abbrev pub TakenOf : (ℕ → Type 0) → ℕ → ℕ → Type 0
 TakenOf P start now = (n : ℕ) × P n × (start ≡ n + now)
 
 module _ (file : ℕ) where
-  pub all_taken : (ss : List Source) (rs : List RuleTree) → AllZip (IsRule file) ss rs → RulesTake ss (sum_by count_of_rule rs)
+  pub all_taken : (ss : List Source) (rs : List RuleTree) → AllZip (IsAcceptedRule file) ss rs → RulesTake ss (sum_by count_of_rule rs)
   all_taken [] [] h = all_read
   all_taken [] (r ∷ rs) h = absurd h
   all_taken (s ∷ ss) [] h = absurd h
   all_taken (s ∷ ss) (r ∷ rs) h = subst (RulesTake (s ∷ ss)) (sym (sum_by-cons count_of_rule r rs)) (accepted r.expr h.0.0 (all_taken ss rs h.1))
 
-  pub taken_before : (ss rest : List Source) (rs : List RuleTree) (n : ℕ) → AllZip (IsRule file) ss rs → RulesTake rest n → RulesTake (ss ++ rest) (sum_by count_of_rule rs + n)
+  pub taken_before : (ss rest : List Source) (rs : List RuleTree) (n : ℕ) → AllZip (IsAcceptedRule file) ss rs → RulesTake rest n → RulesTake (ss ++ rest) (sum_by count_of_rule rs + n)
   taken_before [] rest [] n h k = subst (RulesTake rest) (sym (zero-add n)) k
   taken_before [] rest (r ∷ rs) n h k = absurd h
   taken_before (s ∷ ss) rest [] n h k = absurd h
@@ -89,7 +89,7 @@ module _ (file : ℕ) where
 
 -- where a rule is refused
 module _ (file : ℕ) (sources : List RuleSource) (i : ℕ) (s : RuleSource) (inside : i < length sources) (is : s ≡ get_or sources i s) (rules : List Rule)
-    (h : AllZip (IsRule file) (map source (take i sources)) (rule_trees rules)) (start left now : ℕ) (before : start ≡ sum_by count_of_rule (rule_trees rules) + left) where
+    (h : AllZip (IsAcceptedRule file) (map source (take i sources)) (rule_trees rules)) (start left now : ℕ) (before : start ≡ sum_by count_of_rule (rule_trees rules) + left) where
   rules_for : (f : Fault) → RefusedFor (source s).expr left now f → TakenOf (RulesTake (map source sources)) start now
   rules_for f b =
       let n : ℕ = sum_by count_of_rule (rule_trees rules) + taken_at b.0 in
@@ -108,7 +108,7 @@ pub none_taken : (bytes : Bytes) (start : ℕ) (r : Refusal) → IfAt r (λ f. F
 none_taken bytes start = at_by (λ f. FileTakes bytes 0) (λ f. TakenOf (FileTakes bytes) start start) (λ f h. (0, h, sym (zero-add start)))
 
 pub file_taken : (file : ℕ) (bytes : Bytes) (ss : List Source) → Says bytes ss → (start now : ℕ) → {X : Type 0} (view : X → List RuleTree) (r : Result X Refusal)
-    → Found view (AllZip (IsRule file) ss) r → IfOk r (λ rules. start ≡ sum_by count_of_rule (view rules) + now) → Refused (λ f. TakenOf (RulesTake ss) start now) r → IfTold r (TakenOf (FileTakes bytes) start now)
+    → Found view (AllZip (IsAcceptedRule file) ss) r → IfOk r (λ rules. start ≡ sum_by count_of_rule (view rules) + now) → Refused (λ f. TakenOf (RulesTake ss) start now) r → IfTold r (TakenOf (FileTakes bytes) start now)
 file_taken file bytes ss says start now view (Ok rules) h is k = (sum_by count_of_rule (view rules), of_rules says (all_taken file ss (view rules) h), is)
 file_taken file bytes ss says start now view (Err r) h is k =
     at_by (λ f. TakenOf (RulesTake ss) start now) (λ f. TakenOf (FileTakes bytes) start now) (λ f t. (t.0, of_rules says t.1, t.2)) r k

@@ -63,8 +63,8 @@ templates_of s = cond s.alert (map template_of (s.labels ++ s.annotations)) []
 abbrev pub rule_of : ℕ → Source → Tree → RuleTree
 rule_of file s e = record { file = file; alert = s.alert; name = s.name.text; name_span = s.name.span; expr = e; expr_span = s.expr.span; labels = map label_of s.labels; templates = templates_of s }
 
-abbrev pub IsRule : ℕ → Source → RuleTree → Type 0
-IsRule file s r = IsExpr s.expr r.expr × (r ≡ rule_of file s r.expr)
+abbrev pub IsAcceptedRule : ℕ → Source → RuleTree → Type 0
+IsAcceptedRule file s r = IsExpr s.expr r.expr × (r ≡ rule_of file s r.expr)
 
 -- ---- files
 
@@ -76,7 +76,7 @@ Says bytes sources = (t : FileTree) × IsTree bytes t × IsRules t sources
 pub record IsAccepted (bytes : Bytes) (file : ℕ) (rules : List RuleTree) : Type 0 where
   pub sources : List Source
   pub says : Says bytes sources
-  pub are_rules : AllZip (IsRule file) sources rules
+  pub are_rules : AllZip (IsAcceptedRule file) sources rules
 
 -- the first thing of a list of which one fact holds: another holds of each before it
 pub record IsFirst {X : Type 0} (before here : X → Type 0) (xs : List X) (x : X) : Type 0 where

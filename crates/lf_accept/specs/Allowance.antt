@@ -13,9 +13,9 @@ use Rattle.lf_accept.specs.declared.allowance.PatternAllowance.{PatternAllowance
 abbrev pub most : ℕ
 most = 2000000
 
--- a plain pattern counts nothing, and any other 64 and its bytes beside its size
+-- a plain pattern counts nothing, and any other 32 and its bytes beside its size
 abbrev pub count_of : Bytes → ℕ
-count_of pattern = cond (is_plain pattern) 0 (plus (plus (size_of pattern) 64) (length pattern))
+count_of pattern = cond (is_plain pattern) 0 (plus (plus (size_of pattern) 32) (length pattern))
 
 -- what the patterns of an expression count, and those of a rule
 abbrev pub count_in : Tree → ℕ
@@ -25,5 +25,5 @@ abbrev pub count_of_rule : RuleTree → ℕ
 count_of_rule r = count_in r.expr
 
 -- so much was left, and is taken
-abbrev pub Takes : ℕ → PatternAllowance → PatternAllowance → Type 0
-Takes count old new = old.left ≡ count + new.left
+abbrev pub TakesAllowance : ℕ → PatternAllowance → PatternAllowance → Type 0
+TakesAllowance count old new = old.left ≡ count + new.left

@@ -5,7 +5,7 @@ ghost use Rattle.lf_base.specs.Answers.{Breach, Found, OneAnswer, Only, Refused,
 ghost use Rattle.lf_ast.specs.Rules.{rule_trees};
 ghost use Rattle.lf_rules.specs.Sources.{SourcesInside, source};
 ghost use Rattle.lf_accept.specs.Accepted.{IsAccepted, RefusesFile, Says};
-ghost use Rattle.lf_accept.specs.Allowance.{Takes, count_of_rule, most};
+ghost use Rattle.lf_accept.specs.Allowance.{TakesAllowance, count_of_rule, most};
 ghost use Rattle.lf_accept.specs.Taken.{FileTakes, IfTold};
 
 use crate::allowance::PatternAllowance;
@@ -76,8 +76,8 @@ fn read(
     ensures found { Found rule_trees (IsAccepted bytes.now file) result }
     ensures refused { Refused (RefusesFile bytes.now) result }
     ensures refused_inside { RefusedIn (length bytes.now) result }
-    ensures taken { IfTold result ((n : ℕ) × FileTakes bytes.now n × Takes n allowance.old allowance.new) }
-    ensures counted { IfOk result (λ rules. Takes (sum_by count_of_rule (rule_trees rules)) allowance.old allowance.new) }
+    ensures taken { IfTold result ((n : ℕ) × FileTakes bytes.now n × TakesAllowance n allowance.old allowance.new) }
+    ensures counted { IfOk result (λ rules. TakesAllowance (sum_by count_of_rule (rule_trees rules)) allowance.old allowance.new) }
 {
     let sources = sources_of(alloc, bytes)?;
     rules_of(alloc, allowance, sources.as_slice(), file)

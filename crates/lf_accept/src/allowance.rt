@@ -1,7 +1,7 @@
 //! How much the patterns of a file may count, so that reading them takes some two seconds at most.
 ghost use Rattle.std.specs.Prelude.{◌≡◌, ◌<◌, ◌-◌, IfOk, OnErr, OnOk};
 ghost use Rattle.std.specs.List.{sum_by};
-ghost use Rattle.lf_accept.specs.Allowance.{Takes, count_of, most};
+ghost use Rattle.lf_accept.specs.Allowance.{TakesAllowance, count_of, most};
 ghost use Rattle.lf_accept.specs.Patterns.{texts_at};
 
 use lf_base::{Memory, Text};
@@ -13,7 +13,7 @@ use std::alloc::Global;
 const MOST: u64 = 2_000_000;
 
 /// What a pattern counts beside its size and its bytes.
-const OF_EACH: u64 = 64;
+const OF_EACH: u64 = 32;
 
 /// What is left of what the patterns of a file may count.
 ///
@@ -41,7 +41,7 @@ impl PatternAllowance {
 
     /// Takes what patterns count. `Memory` where less is left.
     pub fn take_each(&mut self, alloc: Global, patterns: &[&str]) -> Result<(), Memory>
-        ensures { OnOk result (Takes (sum_by count_of (texts_at patterns.now)) self.old self.new) }
+        ensures { OnOk result (TakesAllowance (sum_by count_of (texts_at patterns.now)) self.old self.new) }
     {
         for pattern in patterns {
             let count = count_of(alloc, pattern)?;
@@ -52,7 +52,7 @@ impl PatternAllowance {
 
     /// Takes so much. `Memory` where less is left; then nothing is taken.
     fn take(&mut self, count: u64) -> Result<(), Memory>
-        ensures taken { OnOk result (Takes count self.old self.new) }
+        ensures taken { OnOk result (TakesAllowance count self.old self.new) }
         ensures refused { OnErr result (self.old.left < count) }
         ensures kept { OnErr result (self.new ≡ self.old) }
     {

@@ -7,7 +7,7 @@ ghost use Rattle.lf_ast.specs.Tree.{tree};
 ghost use Rattle.lf_lex.specs.Tokens.{LieIn};
 ghost use Rattle.lf_scalar.specs.Scalars.{value};
 ghost use Rattle.lf_accept.specs.Accepted.{BreaksExpr, IsExpr};
-ghost use Rattle.lf_accept.specs.Allowance.{Takes, count_in};
+ghost use Rattle.lf_accept.specs.Allowance.{TakesAllowance, count_in};
 ghost use Rattle.lf_accept.specs.Sizes.{has_large_pattern};
 ghost use Rattle.lf_accept.specs.Taken.{taken_at};
 ghost use Rattle.lf_accept.specs.views.Checked.{AreJudged, BreakJudged, BreaksJudged, IsJudged, judged_taken, read_taken};
@@ -35,9 +35,9 @@ pub fn read_expr(
     ensures refused { Refused (BreaksExpr (value scalar.now)) result }
     // Where the scalar ends in a file of n bytes, what is refused lies there.
     ensures refused_inside { (n : ℕ) → scalar.now.span.end ≤ n → RefusedIn n result }
-    ensures taken { IfOk result (λ expr. Takes (count_in (tree expr)) allowance.old allowance.new) }
+    ensures taken { IfOk result (λ expr. TakesAllowance (count_in (tree expr)) allowance.old allowance.new) }
     // So too where it is refused.
-    ensures spent { Refused (λ f. (breach : BreaksExpr (value scalar.now) f) × Takes (taken_at breach) allowance.old allowance.new) result }
+    ensures spent { Refused (λ f. (breach : BreaksExpr (value scalar.now) f) × TakesAllowance (taken_at breach) allowance.old allowance.new) result }
 {
     let tokens = lex(alloc, &scalar.text, &scalar.from)?;
     let end = scalar.from.as_slice()[scalar.text.len()];
@@ -54,8 +54,8 @@ fn read_tokens(
     ensures found { Found tree (AreJudged tokens.now) result }
     ensures refused { Refused (BreakJudged tokens.now end) result }
     ensures refused_inside { (n : ℕ) → LieIn n tokens.now → IsNonDecreasingBy (λ token. token.span.start) tokens.now → end ≤ n → RefusedIn n result }
-    ensures taken { IfOk result (λ expr. Takes (count_in (tree expr)) allowance.old allowance.new) }
-    ensures spent { Refused (λ f. (breach : BreakJudged tokens.now end f) × Takes (read_taken tokens.now end f breach) allowance.old allowance.new) result }
+    ensures taken { IfOk result (λ expr. TakesAllowance (count_in (tree expr)) allowance.old allowance.new) }
+    ensures spent { Refused (λ f. (breach : BreakJudged tokens.now end f) × TakesAllowance (read_taken tokens.now end f breach) allowance.old allowance.new) result }
 {
     let expr = parse(alloc, tokens, end)?;
     match judge(alloc, allowance, &expr) {
@@ -73,8 +73,8 @@ fn judge(alloc: Global, allowance: &mut PatternAllowance, expr: &Expr) -> Result
     // No pattern is too large to be read.
     ensures readable { OnOk result (has_large_pattern (tree expr.now) ≡ false) }
     // What the patterns count was left, and is taken.
-    ensures taken { OnOk result (Takes (count_in (tree expr.now)) allowance.old allowance.new) }
-    ensures spent { Refused (λ f. (breach : BreaksJudged (tree expr.now) f) × Takes (judged_taken (tree expr.now) f breach) allowance.old allowance.new) result }
+    ensures taken { OnOk result (TakesAllowance (count_in (tree expr.now)) allowance.old allowance.new) }
+    ensures spent { Refused (λ f. (breach : BreaksJudged (tree expr.now) f) × TakesAllowance (judged_taken (tree expr.now) f breach) allowance.old allowance.new) result }
 {
     let _ = type_of(alloc, expr)?;
     let patterns = patterns_of(alloc, expr)?;

@@ -1,12 +1,12 @@
 //! The rules of a file, each with its expression.
-ghost use Rattle.std.specs.Prelude.{◌≡◌, ◌++◌, ◌≤◌, ℕ, map, IfOk, OnOk};
+ghost use Rattle.std.specs.Prelude.{◌≡◌, ◌++◌, ◌≤◌, ℕ, [], map, IfOk, OnOk};
 ghost use Rattle.std.specs.List.{AllZip, sum_by};
 ghost use Rattle.lf_ast.specs.declared.rule.RuleLabel.{RuleLabel};
 ghost use Rattle.lf_rules.specs.Sources.{SourcesInside, setting, source as source_of};
 ghost use Rattle.lf_base.specs.Answers.{Found, Refused, RefusedIn};
 ghost use Rattle.lf_ast.specs.Rules.{rule_tree, rule_trees};
-ghost use Rattle.lf_accept.specs.Accepted.{BreaksExpr, IsRule, label_of, template_of, templates_of as templates_in};
-ghost use Rattle.lf_accept.specs.Allowance.{Takes, count_of_rule};
+ghost use Rattle.lf_accept.specs.Accepted.{BreaksExpr, IsAcceptedRule, label_of, template_of, templates_of as templates_in};
+ghost use Rattle.lf_accept.specs.Allowance.{TakesAllowance, count_of_rule};
 ghost use Rattle.lf_accept.specs.Taken.{RulesTake, taken_at};
 ghost use Rattle.lf_accept.specs.views.Checked.{HasBreach};
 ghost use Rattle.lf_scalar.specs.Scalars.{value};
@@ -25,19 +25,27 @@ pub fn rules_of(
     sources: &[RuleSource],
     file: u32,
 ) -> Result<Seq<Rule>, Refusal>
-    ensures found { Found rule_trees (AllZip (IsRule file) (map source_of sources.now)) result }
+    ensures found { Found rule_trees (AllZip (IsAcceptedRule file) (map source_of sources.now)) result }
     ensures refused { Refused (HasBreach (map source_of sources.now)) result }
     ensures refused_inside { (n : ℕ) → SourcesInside n (map source_of sources.now) → RefusedIn n result }
     // What the patterns of the rules count was left, and is taken.
-    ensures taken { IfOk result (λ rules. Takes (sum_by count_of_rule (rule_trees rules)) allowance.old allowance.new) }
-    ensures spent { Refused (λ f. (n : ℕ) × RulesTake (map source_of sources.now) n × Takes n allowance.old allowance.new) result }
+    ensures taken { IfOk result (λ rules. TakesAllowance (sum_by count_of_rule (rule_trees rules)) allowance.old allowance.new) }
+    ensures spent { Refused (λ f. (n : ℕ) × RulesTake (map source_of sources.now) n × TakesAllowance n allowance.old allowance.new) result }
 {
-    let mut rules = Seq::new(alloc);
+    let mut rules = no_rules(alloc, sources.len())?;
     for source in sources {
         let rule = rule_of(alloc, allowance, source, file)?;
         rules.push(rule)?;
     }
     Ok(rules)
+}
+
+/// No rules, with room for so many.
+fn no_rules(alloc: Global, count: usize) -> Result<Seq<Rule>, Memory>
+    ensures { IfOk result (λ rules. rules ≡ []) }
+{
+    let room = Vec::with_capacity(alloc, count)?;
+    Ok(Seq::from_vec(room))
 }
 
 /// A rule as it stands in a file, with its expression.
@@ -47,11 +55,11 @@ fn rule_of(
     source: &RuleSource,
     file: u32,
 ) -> Result<Rule, Refusal>
-    ensures found { Found rule_tree (IsRule file (source_of source.now)) result }
+    ensures found { Found rule_tree (IsAcceptedRule file (source_of source.now)) result }
     ensures refused { Refused (BreaksExpr (value source.now.expr)) result }
     ensures refused_inside { (n : ℕ) → source.now.expr.span.end ≤ n → RefusedIn n result }
-    ensures taken { IfOk result (λ rule. Takes (count_of_rule (rule_tree rule)) allowance.old allowance.new) }
-    ensures spent { Refused (λ f. (breach : BreaksExpr (value source.now.expr) f) × Takes (taken_at breach) allowance.old allowance.new) result }
+    ensures taken { IfOk result (λ rule. TakesAllowance (count_of_rule (rule_tree rule)) allowance.old allowance.new) }
+    ensures spent { Refused (λ f. (breach : BreaksExpr (value source.now.expr) f) × TakesAllowance (taken_at breach) allowance.old allowance.new) result }
 {
     let name = source.name.text.copy()?;
     let labels = labels_of(alloc, source.labels.as_slice())?;

@@ -7,9 +7,9 @@ pub record Faults {T E : Type 0} (before now : ℕ) (result : Result T E) : Type
   pub kept : OnOk result (now ≡ before)
 
 -- where the bytes left are told, a read of n bytes gives the next n of them; it gives none exactly at the end
-abbrev pub Reads : Option (List ℕ) → Option (List ℕ) → List ℕ → ℕ → Type 0
-Reads None now buffer n = Unit {0}
-Reads (Some rest) now buffer n = (take n buffer ≡ take n rest) × (now ≡ Some (drop n rest)) × ((n ≡ 0) ↔ (rest ≡ []))
+abbrev pub ReadsBytes : Option (List ℕ) → Option (List ℕ) → List ℕ → ℕ → Type 0
+ReadsBytes None now buffer n = Unit {0}
+ReadsBytes (Some rest) now buffer n = (take n buffer ≡ take n rest) × (now ≡ Some (drop n rest)) × ((n ≡ 0) ↔ (rest ≡ []))
 
 -- where the bytes taken are told, a write adds a front of the piece, and none where it failed
 abbrev pub Takes : {E : Type 0} → Option (List ℕ) → Option (List ℕ) → List ℕ → Result ℕ E → Type 0

@@ -5,7 +5,7 @@ ghost use Rattle.std.specs.Ordering.{nat_cmp};
 ghost use Rattle.std.specs.Cmp.Lexicographic.{slice_cmp};
 ghost use Rattle.lf_base.specs.Calls.{no_calls, IsListed, failed};
 ghost use Rattle.lf_base.specs.MemFiles.{held, with_file, opened, not_opened, read_on, rest};
-ghost use Rattle.lf_base.specs.Outside.{Reads};
+ghost use Rattle.lf_base.specs.Outside.{ReadsBytes};
 ghost use Rattle.lf_base.specs.views.FileList.{bytes_at, IsPlaceOf};
 ghost use Rattle.std.specs.Option.{option_map};
 
@@ -123,7 +123,7 @@ impl Files for MemFiles {
         requires room { 0 < length buf.old }
         ensures fails { IsErr result ↔ IsListed self.old.calls }
         ensures ready { OnOk result (IsSome self.new.left) }
-        ensures next { IfOk result (λ n. Reads self.old.left self.new.left buf.new n) }
+        ensures next { IfOk result (λ n. ReadsBytes self.old.left self.new.left buf.new n) }
         ensures number { IfOk result (λ n. n ≡ min (length buf.old) (length (rest self.old))) }
         ensures filled { IfOk result (λ n. buf.new ≡ take n (rest self.old) ++ drop n buf.old) }
         ensures ok { IfOk result (λ n. self.new ≡ read_on self.old n) }

@@ -3,7 +3,7 @@
 //! Each object keeps a count of its faults, which never falls. A call may answer [`Failed`] only where that count rose, and no call may be made once it
 //! isn't 0; so whoever holds the object after a run can tell a fault of the outside from a mistake of the program.
 ghost use Rattle.std.specs.Prelude.{◌≡◌, ℕ, List, Option, ◌+◌, ◌<◌, ◌≤◌, ◌^◌, length, IfOk, OnOk};
-ghost use Rattle.lf_base.specs.Outside.{Faults, Reads, Takes};
+ghost use Rattle.lf_base.specs.Outside.{Faults, ReadsBytes, Takes};
 
 /// A call of the outside failed.
 #[derive(Clone, Copy, PartialEq, Eq, Debug)]
@@ -45,7 +45,7 @@ pub trait Files {
         ensures counted { opens self.new ≡ opens self.old }
         ensures ready { OnOk result (is_open self.new) }
         ensures within { IfOk result (λ n. n ≤ length buf.old) }
-        ensures next { IfOk result (λ n. Reads (left self.old) (left self.new) buf.new n) }
+        ensures next { IfOk result (λ n. ReadsBytes (left self.old) (left self.new) buf.new n) }
         ensures kept { (other : List ℕ) → held self.new other ≡ held self.old other };
 }
 

@@ -48,7 +48,7 @@ pub fn map_pieces<
 
 /// The seat of workers that found nothing more to claim, and the pieces that they claimed.
 #[derive(Drop)]
-struct Done<T> {
+struct DonePieces<T> {
     seat: BoardSeat,
     pieces: Vec<Piece<T>>,
 }
@@ -62,7 +62,7 @@ fn run<R: Threads + Sync, T: Drop + Send, F: Fn(u32) -> Result<T, Memory> + Sync
     mut seat: BoardSeat,
     workers: u32,
     work: &F,
-) -> Result<Done<T>, Memory>
+) -> Result<DonePieces<T>, Memory>
     requires fresh { IsFresh board.now seat }
     requires workers { HasRoomFor workers seat.room }
     requires work { MayWork F.Fn work.now board.now.pieces }
@@ -74,12 +74,12 @@ fn run<R: Threads + Sync, T: Drop + Send, F: Fn(u32) -> Result<T, Memory> + Sync
     let low = workers / 2;
     let high = workers - low;
     let theirs = board.split(&mut seat, low - 1);
-    let front = move || -> Result<Done<T>, Memory>
+    let front = move || -> Result<DonePieces<T>, Memory>
         requires threads { IsSync R.row × IsSync F.row × IsSend T.row }
         requires run { IsFresh board.now theirs × HasRoomFor low theirs.room × MayWork F.Fn work.now board.now.pieces }
         ensures { IfOk result (λ done. IsDone F.Fn work.entry.now theirs done) }
     { run(rt, alloc, board, theirs, low, work) };
-    let back = move || -> Result<Done<T>, Memory>
+    let back = move || -> Result<DonePieces<T>, Memory>
         requires threads { IsSync R.row × IsSync F.row × IsSend T.row }
         requires run { IsFresh board.now seat × HasRoomFor high seat.room × MayWork F.Fn work.now board.now.pieces }
         ensures { IfOk result (λ done. IsDone F.Fn work.entry.now seat done) }
@@ -87,7 +87,7 @@ fn run<R: Threads + Sync, T: Drop + Send, F: Fn(u32) -> Result<T, Memory> + Sync
     let (front, back) = join(rt, front, back);
     let other = front?;
     let mut done = back?;
-    let Done { seat, mut pieces } = other;
+    let DonePieces { seat, mut pieces } = other;
     board.join(&mut done.seat, seat);
     done.pieces.append(&mut pieces)?;
     Ok(done)
@@ -99,7 +99,7 @@ fn claim_all<T: Drop, F: Fn(u32) -> Result<T, Memory>>(
     board: &Board,
     mut seat: BoardSeat,
     work: &F,
-) -> Result<Done<T>, Memory>
+) -> Result<DonePieces<T>, Memory>
     requires fresh { IsFresh board.now seat }
     requires work { MayWork F.Fn work.now board.now.pieces }
     ensures { IfOk result (λ done. IsDone F.Fn work.now seat done) }
@@ -110,5 +110,5 @@ fn claim_all<T: Drop, F: Fn(u32) -> Result<T, Memory>>(
         let value = work(number)?;
         pieces.push(Piece { number, value })?;
     }
-    Ok(Done { seat, pieces })
+    Ok(DonePieces { seat, pieces })
 }

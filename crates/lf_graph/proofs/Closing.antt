@@ -5,7 +5,7 @@ use Rattle.std.proofs.lemmas.Bool.{cases_eq, cases_lt}
 use Rattle.std.proofs.lemmas.List.{get_or-take, get_or_past, length-take}
 use Rattle.lf_graph.specs.Paths.{Leads, after}
 use Rattle.lf_graph.specs.views.Search.{AreClosed, AreDue, AreOpen, AreParts, IsClosing, IsFollowed, IsMet, IsSearch, NoneDue, from_at, last_part, open_at, state_of, to_at, weight, work}
-use Rattle.lf_graph.specs.declared.search.Node.TheVariants.{Unmet, Open, Closed}
+use Rattle.lf_graph.specs.declared.search.NodeState.TheVariants.{Unmet, Open, Closed}
 use Rattle.lf_graph.specs.declared.search.Search.{Search}
 use Rattle.lf_laws.proofs.Members.{none_in}
 use Rattle.lf_graph.proofs.Lists.{before_last, fewer_rise, from_place, in_front, not_last, there, to_place, up_to_last}

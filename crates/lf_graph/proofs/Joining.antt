@@ -5,7 +5,7 @@ use Rattle.std.proofs.lemmas.Bool.{cases_lt}
 use Rattle.lf_laws.specs.Ascending.{AreAscending}
 use Rattle.lf_graph.specs.Paths.{Leads}
 use Rattle.lf_graph.specs.views.Search.{AllLead, IsLater, IsSearch, open_at, state_of}
-use Rattle.lf_graph.specs.declared.search.Node.TheVariants.{Open, Closed}
+use Rattle.lf_graph.specs.declared.search.NodeState.TheVariants.{Open, Closed}
 use Rattle.lf_graph.specs.declared.search.Search.{Search}
 use Rattle.lf_laws.proofs.Members.{only_one}
 use Rattle.lf_graph.proofs.Paths.{onwards}

@@ -6,10 +6,10 @@ use Rattle.std.proofs.lemmas.Bool.{cases_eq}
 use Rattle.std.proofs.lemmas.List.{get_or-set_other, get_or-set_same, length-set, take_more}
 use Rattle.std.proofs.lemmas.List.Elements.{Contains-append_left, Contains-push, Contains-push_cases}
 use Rattle.lf_graph.specs.views.Search.{IsClosing}
-use Rattle.lf_graph.specs.declared.search.Node.{Node}
-use Rattle.lf_graph.specs.declared.search.Node.TheVariants.{Unmet, Closed}
+use Rattle.lf_graph.specs.declared.search.NodeState.{NodeState}
+use Rattle.lf_graph.specs.declared.search.NodeState.TheVariants.{Unmet, Closed}
 
-pub one_more : (number : ℕ) (members : List ℕ) (nodes known later : List Node) (i : ℕ) → i < length members → get_or members i 0 < length nodes →
+pub one_more : (number : ℕ) (members : List ℕ) (nodes known later : List NodeState) (i : ℕ) → i < length members → get_or members i 0 < length nodes →
     IsClosing number (take i members) nodes known → later ≡ slice_set known (get_or members i 0) (Closed number) → IsClosing number (take (i + 1) members) nodes later
 one_more number members nodes known later i h within a e =
     let m : ℕ = get_or members i 0 in

@@ -8,7 +8,7 @@ use Rattle.std.proofs.lemmas.List.Elements.{Contains-append_left, Contains-push,
 use Rattle.lf_graph.specs.Paths.{Leads, after, nowhere}
 use Rattle.lf_graph.specs.views.Search.{AllLead, AreClosed, AreDue, AreOpen, AreParts, IsFollowed, IsLater, IsMet, IsSearch, edges_from, from_at, open_at, state_of, to_at, to_come, work}
 use Rattle.lf_graph.specs.declared.search.Edge.{Edge}
-use Rattle.lf_graph.specs.declared.search.Node.TheVariants.{Unmet, Open, Closed}
+use Rattle.lf_graph.specs.declared.search.NodeState.TheVariants.{Unmet, Open, Closed}
 use Rattle.lf_graph.specs.declared.search.Search.{Search}
 use Rattle.lf_laws.proofs.Members.{only_one}
 use Rattle.lf_graph.proofs.Lists.{more_rise, place_of, there}

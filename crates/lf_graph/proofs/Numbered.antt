@@ -6,7 +6,7 @@ use Rattle.std.proofs.lemmas.List.{get_or-map, get_or_past, length-map}
 use Rattle.lf_graph.specs.Components.{AreNumbers, number_of}
 use Rattle.lf_graph.specs.Paths.{IsGraph, after}
 use Rattle.lf_graph.specs.views.Search.{IsMet, IsSearch, number_in, state_of}
-use Rattle.lf_graph.specs.declared.search.Node.TheVariants.{Unmet, Closed}
+use Rattle.lf_graph.specs.declared.search.NodeState.TheVariants.{Unmet, Closed}
 use Rattle.lf_graph.specs.declared.search.Search.{Search}
 use Rattle.lf_laws.proofs.Members.{none_in}
 use Rattle.lf_graph.proofs.Nodes.{states, unmet_not}

@@ -1,5 +1,5 @@
 //! Lists of numbers, by number.
-ghost use Rattle.std.specs.Prelude.{◌≡◌, ◌<◌, ◌++◌, ◌∷◌, [], length, replicate, slice_index_or, IfOk, OnOk};
+ghost use Rattle.std.specs.Prelude.{◌≡◌, ◌<◌, ◌++◌, ◌∷◌, [], length, replicate, slice_index_or, IfOk, OnErr, OnOk};
 ghost use Rattle.lf_graph.specs.views.Buckets.{put_at};
 
 use lf_base::{Memory, Seq};
@@ -70,7 +70,8 @@ impl Buckets {
     /// Puts an element behind those in the bucket of a number.
     pub fn push(&mut self, number: usize, element: usize) -> Result<(), Memory>
         requires { number < length self.old }
-        ensures { OnOk result (self.new ≡ put_at self.old number element) }
+        ensures ok { OnOk result (self.new ≡ put_at self.old number element) }
+        ensures err { OnErr result (self.new ≡ self.old) }
     {
         let list = &mut self.lists[number];
         list.push(element)
@@ -80,6 +81,7 @@ impl Buckets {
     pub fn make_room(&mut self, alloc: Global, number: usize) -> Result<(), Memory>
         ensures there { number < length self.old → OnOk result (self.new ≡ self.old) }
         ensures made { number ≡ length self.old → OnOk result (self.new ≡ self.old ++ [] ∷ []) }
+        ensures err { OnErr result (self.new ≡ self.old) }
     {
         if number == self.lists.len() {
             self.lists.push(Seq::new(alloc))?;

@@ -4,7 +4,7 @@ ghost use Rattle.lf_graph.specs.Components.{AreNumbers};
 ghost use Rattle.lf_graph.specs.Paths.{IsGraph};
 ghost use Rattle.lf_graph.specs.views.Search.{number_in};
 
-use crate::search::{Node, Search};
+use crate::search::{NodeState, Search};
 use lf_base::{Memory, Seq};
 use std::alloc::Global;
 
@@ -32,7 +32,7 @@ pub(crate) fn number_all(alloc: Global, edges: &Seq<Seq<usize>>) -> Result<Numbe
 }
 
 /// The numbers of closed nodes.
-fn numbers_in(alloc: Global, nodes: &[Node]) -> Result<Vec<usize>, Memory>
+fn numbers_in(alloc: Global, nodes: &[NodeState]) -> Result<Vec<usize>, Memory>
     ensures { IfOk result (λ numbers. numbers.items ≡ map number_in nodes.now) }
 {
     let mut numbers = Vec::new(alloc);
@@ -43,12 +43,12 @@ fn numbers_in(alloc: Global, nodes: &[Node]) -> Result<Vec<usize>, Memory>
 }
 
 /// The number of a closed node.
-fn number_in(node: &Node) -> usize
+fn number_in(node: &NodeState) -> usize
     ensures { result ≡ number_in node.now }
 {
     match node {
-        Node::Closed(number) => *number,
-        Node::Unmet => 0,
-        Node::Open(_) => 0,
+        NodeState::Closed(number) => *number,
+        NodeState::Unmet => 0,
+        NodeState::Open(_) => 0,
     }
 }

@@ -4,7 +4,7 @@ ghost use Rattle.std.specs.List.{Contains};
 ghost use Rattle.lf_graph.specs.Paths.{IsGraph};
 ghost use Rattle.lf_laws.specs.Ascending.{AreAscending};
 ghost use Rattle.lf_graph.specs.views.Search.{AllLead, IsClosing, IsMet, IsSearch, NoneDue, TakesDue, edges_from, from_at, state_of, work};
-ghost use Rattle.lf_graph.specs.declared.search.Node.TheVariants.{Unmet};
+ghost use Rattle.lf_graph.specs.declared.search.NodeState.TheVariants.{Unmet};
 
 use crate::counting::one_more;
 use lf_base::{Memory, Seq};
@@ -12,7 +12,7 @@ use std::alloc::Global;
 
 /// What is known of a node.
 #[derive(Clone, Copy)]
-pub(crate) enum Node {
+pub(crate) enum NodeState {
     /// It isn't met yet.
     Unmet,
     /// It stands at this place among the open nodes.
@@ -38,7 +38,7 @@ pub(crate) struct Edge {
 #[derive(Drop)]
 pub(crate) struct Search {
     /// What is known of each node.
-    pub(crate) nodes: Vec<Node>,
+    pub(crate) nodes: Vec<NodeState>,
     /// The open nodes.
     pub(crate) open: Vec<usize>,
     /// The place at which each part begins.
@@ -55,7 +55,7 @@ impl Search {
         ensures search { IfOk result (λ search. IsSearch edges.now search []) }
         ensures parts { IfOk result (λ search. search.parts.items ≡ []) }
     {
-        let nodes = vec![in alloc; Node::Unmet; edges.len()]?;
+        let nodes = vec![in alloc; NodeState::Unmet; edges.len()]?;
         Ok(Search {
             nodes,
             open: Vec::new(alloc),
@@ -93,9 +93,9 @@ impl Search {
         ensures unmet { result ≡ false → state_of self.now node ≡ Unmet }
     {
         match self.nodes[node] {
-            Node::Unmet => false,
-            Node::Open(_) => true,
-            Node::Closed(_) => true,
+            NodeState::Unmet => false,
+            NodeState::Open(_) => true,
+            NodeState::Closed(_) => true,
         }
     }
 
@@ -141,12 +141,12 @@ impl Search {
         ensures kept { OnOk result ((u : ℕ) → IsMet self.old u → IsMet self.new u) }
     {
         match self.nodes[node] {
-            Node::Unmet => self.meet(edges, node),
-            Node::Open(place) => {
+            NodeState::Unmet => self.meet(edges, node),
+            NodeState::Open(place) => {
                 join(&mut self.parts, place);
                 Ok(())
             }
-            Node::Closed(_) => Ok(()),
+            NodeState::Closed(_) => Ok(()),
         }
     }
 
@@ -162,7 +162,7 @@ impl Search {
         ensures kept { OnOk result ((u : ℕ) → IsMet self.old u → IsMet self.new u) }
     {
         let place = self.open.as_slice().len();
-        put(&mut self.nodes, node, Node::Open(place));
+        put(&mut self.nodes, node, NodeState::Open(place));
         self.open.push(node)?;
         self.parts.push(place)?;
         push_edges(&mut self.due, place, edges.get(node).as_slice())?;
@@ -253,17 +253,17 @@ fn from_place(nodes: &[usize], place: usize) -> &[usize]
 }
 
 /// Closes nodes as a component of a number.
-fn close_all(nodes: &mut Vec<Node>, members: &[usize], number: usize)
+fn close_all(nodes: &mut Vec<NodeState>, members: &[usize], number: usize)
     requires { (u : ℕ) → Contains members.now u → u < length nodes.old.items }
     ensures { IsClosing number members.now nodes.old.items nodes.new.items }
 {
     for member in members {
-        put(nodes, *member, Node::Closed(number));
+        put(nodes, *member, NodeState::Closed(number));
     }
 }
 
 /// Writes what is known of a node.
-fn put(nodes: &mut Vec<Node>, node: usize, known: Node)
+fn put(nodes: &mut Vec<NodeState>, node: usize, known: NodeState)
     requires { node < length nodes.old.items }
     ensures { nodes.new.items ≡ slice_set nodes.old.items node known }
 {

@@ -6,7 +6,7 @@ use Rattle.std.proofs.lemmas.Str.{IsUtf8-append, IsUtf8-encode, IsUtf8-drop, enc
 use Rattle.std.specs.List.{flat_map, AllByRecursion}
 use Rattle.std.specs.Str.{IsUtf8, IsCharBoundary}
 use lib.Utf8.{encode, encodes, scalar, scalars}
-use Rattle.lf_lex.specs.Strings.{IsQuote, byte_of_letter, octal_value, Tell, IsEscape, a_letter, the_quote, octal_byte, hexadecimal_byte, short_character, long_character, Piece, Bare, Escape, piece_text, meant, IsPiece}
+use Rattle.lf_lex.specs.Strings.{IsQuote, byte_of_letter, octal_value, Tell, IsEscape, a_letter, the_quote, octal_byte, hexadecimal_byte, short_character, long_character, StringPiece, Bare, Escape, piece_text, meant, IsStringPiece}
 use Rattle.lf_lex.specs.Lexemes.{IsLongest}
 use Rattle.lf_lex.specs.Breaches.{BeginsNoEscape}
 use Rattle.lf_lex.proofs.Options.{none_some}
@@ -167,7 +167,7 @@ module _ (quote : ℕ) (rest : List ℕ) (stops : (rest ≡ []) ⊎ BeginsNoEsca
       by [] (inr w) e = w
       by (b ∷ src) (inr w) e = let f = ap first e in let g = w.0 in omega arith
 
-  high_values : (ys : List ℕ) (ps : List Piece) (more : List ℕ) → AreHigh ys → ys ++ more ≡ flat_map piece_text ps ++ rest → (left : List ℕ) × (flat_map meant ps ≡ ys ++ left)
+  high_values : (ys : List ℕ) (ps : List StringPiece) (more : List ℕ) → AreHigh ys → ys ++ more ≡ flat_map piece_text ps ++ rest → (left : List ℕ) × (flat_map meant ps ≡ ys ++ left)
   high_values [] ps more high e = (flat_map meant ps, refl)
   high_values (y ∷ ys) [] more high e = absurd (no_high y (ys ++ more) high.0 e)
   high_values (y ∷ ys) (Bare x ∷ ps) more high e =
@@ -177,14 +177,14 @@ module _ (quote : ℕ) (rest : List ℕ) (stops : (rest ≡ []) ⊎ BeginsNoEsca
 
 -- ---- a byte for itself ends no value
 
-module _ (quote : ℕ) (q : IsQuote quote) (b : ℕ) (later : List Piece) (rest : List ℕ) (stops : (rest ≡ []) ⊎ BeginsNoEscape quote rest) where
+module _ (quote : ℕ) (q : IsQuote quote) (b : ℕ) (later : List StringPiece) (rest : List ℕ) (stops : (rest ≡ []) ⊎ BeginsNoEscape quote rest) where
   abbrev Ends : List ℕ → Type 0
   Ends good = IsLongest IsUtf8 good (b ∷ flat_map meant later)
 
-  abbrev text_from : List Piece → List ℕ
+  abbrev text_from : List StringPiece → List ℕ
   text_from before = flat_map piece_text (before ++ Bare b ∷ later) ++ rest
 
-  text_some : (before : List Piece) → 0 < length (text_from before)
+  text_some : (before : List StringPiece) → 0 < length (text_from before)
   text_some [] = omega arith
   text_some (Bare x ∷ before) = omega arith
   text_some (Escape tail bytes ∷ before) = omega arith
@@ -207,16 +207,16 @@ module _ (quote : ℕ) (q : IsQuote quote) (b : ℕ) (later : List Piece) (rest 
           let more : b ∷ flat_map meant later ≡ encode c ++ values.0 = ap (λ (x : List ℕ). b ∷ x) values.1 ∙ ap (λ (x : ℕ). x ∷ (ys ++ values.0)) (sym y_is) ∙ ap (λ (x : List ℕ). x ++ values.0) (sym f) in
           longest.1 (encode c) values.0 more (char_some c) (IsUtf8-append v (encode c) longest.0 (IsUtf8-encode c s))
 
-  Mid : List Piece → Type 0
+  Mid : List StringPiece → Type 0
   Mid before = (v : List ℕ) (c : ℕ) (cs : List ℕ) (k : ℕ) → k < length (encode c) → scalars (c ∷ cs) ≡ true → drop k (encode c) ++ encodes cs ≡ text_from before → Ends ((v ++ take k (encode c)) ++ flat_map meant before) → ⊥
 
   -- at the next character
-  at_next : (before : List Piece) → Mid before → (v cs : List ℕ) → scalars cs ≡ true → encodes cs ≡ text_from before → Ends (v ++ flat_map meant before) → ⊥
+  at_next : (before : List StringPiece) → Mid before → (v cs : List ℕ) → scalars cs ≡ true → encodes cs ≡ text_from before → Ends (v ++ flat_map meant before) → ⊥
   unfolding Mid
   at_next before mid v [] s e longest = let l = ap length e in let k = text_some before in omega arith
   at_next before mid v (c ∷ cs) s e longest = mid v c cs 0 (char_some c) s e (subst (λ (x : List ℕ). Ends (x ++ flat_map meant before)) (sym (append-nil v)) longest)
 
-  mid : (before : List Piece) → AllByRecursion (IsPiece quote) (before ++ Bare b ∷ later) → Mid before
+  mid : (before : List StringPiece) → AllByRecursion (IsStringPiece quote) (before ++ Bare b ∷ later) → Mid before
   unfolding Mid
   mid [] each v c cs zero lt s e longest = at_character v c cs (and_parts (scalar c) (scalars cs) s).0 e (subst Ends (append-nil (v ++ []) ∙ append-nil v) longest)
   mid [] each v c cs (suc k) lt s e longest = elim (cases_lt c 128) [
@@ -256,5 +256,5 @@ module _ (quote : ℕ) (q : IsQuote quote) (b : ℕ) (later : List Piece) (rest 
       ap (λ (n : ℕ). (v ++ take n (encode c)) ++ (bytes ++ flat_map meant before)) k_is ∙ ap (λ (y : List ℕ). y ++ (bytes ++ flat_map meant before)) (append-nil v) ∙ sym (append_assoc v bytes (flat_map meant before)) in
       at_next before (mid before each.1) (v ++ bytes) left.ds left.are_scalars left.text (subst Ends value longest)
 
-  pub no_bare : (inner : List ℕ) (before : List Piece) → AllByRecursion (IsPiece quote) (before ++ Bare b ∷ later) → IsUtf8 inner → inner ≡ text_from before → Ends (flat_map meant before) → ⊥
+  pub no_bare : (inner : List ℕ) (before : List StringPiece) → AllByRecursion (IsStringPiece quote) (before ++ Bare b ∷ later) → IsUtf8 inner → inner ≡ text_from before → Ends (flat_map meant before) → ⊥
   no_bare inner before each (cs, u) e longest = at_next before (mid before each) [] cs u.0 (u.1 ∙ e) longest

@@ -7,7 +7,7 @@ use Rattle.std.specs.Str.{IsUtf8}
 use Rattle.std.proofs.lemmas.List.Concat.{flat_map-append}
 use Rattle.lf_base.specs.declared.kind.Kind.{Kind}
 use Rattle.lf_base.specs.declared.kind.Kind.TheVariants.{BadEscape}
-use Rattle.lf_lex.specs.Strings.{IsQuote, Piece, Bare, Escape, piece_text, meant}
+use Rattle.lf_lex.specs.Strings.{IsQuote, StringPiece, Bare, Escape, piece_text, meant}
 use Rattle.lf_lex.specs.Lexemes.{IsLongest, lexeme_text, behind_lexemes}
 use Rattle.lf_lex.specs.Breaches.{BeginsNoEscape, ReadsUpTo, IsWrongAt, no_escape, no_utf8, IsBreach}
 use Rattle.lf_lex.specs.Tokens.{in_source, Breaks}
@@ -40,7 +40,7 @@ wrong_slash quote inner xs [] e w = absurd w
 wrong_slash quote inner xs (b ∷ rest) e w = slash_behind inner xs rest (e ∙ ap (λ (x : ℕ). xs ++ x ∷ rest) w.0)
 
 module _ (quote : ℕ) (q : IsQuote quote) (inner : List ℕ) (u : IsUtf8 inner) where
-  piece_slash : (before : List Piece) (p : Piece) (later : List Piece) (rest front : List ℕ) (byte : ℕ) (back : List ℕ) →
+  piece_slash : (before : List StringPiece) (p : StringPiece) (later : List StringPiece) (rest front : List ℕ) (byte : ℕ) (back : List ℕ) →
       ReadsUpTo quote inner (before ++ p ∷ later) rest → meant p ≡ front ++ byte ∷ back →
       IsLongest IsUtf8 (flat_map meant before ++ front) (byte ∷ (back ++ flat_map meant later)) → IsSlash inner (length (flat_map piece_text before))
   piece_slash before (Escape tail bytes) later rest front byte back r m longest =

@@ -9,7 +9,7 @@ use Rattle.std.proofs.lemmas.List.Folds.{list_all-append}
 use Rattle.std.specs.List.{prefix_len, list_all, list_any}
 use Rattle.lf_lex.specs.Bytes.{are_some, is_dot, is_exponent, is_plus_minus, is_in_mantissa}
 use Rattle.lf_base.specs.Names.{is_digit, is_hexadecimal}
-use Rattle.lf_lex.specs.Runs.{IsHexadecimal, lower_x, upper_x, IsMantissa, no_dot, one_dot, IsExponent, no_exponent, unsigned_exponent, signed_exponent, IsNumber, hexadecimal_number, decimal_number}
+use Rattle.lf_lex.specs.Runs.{IsHexadecimal, lower_x, upper_x, IsMantissa, no_dot, one_dot, IsExponent, no_exponent, unsigned_exponent, signed_exponent, IsNumberRun, hexadecimal_number, decimal_number}
 use Rattle.lf_lex.specs.reading.Runs.{is_hexadecimal_number, is_mantissa, are_signed, is_exponent_part, is_decimal_number, is_number, place_of_letter, before, with_unit, units}
 use Rattle.lf_base.proofs.Rows.{row_all, row_is}
 use Rattle.lf_base.specs.Rows.{Stops}
@@ -180,7 +180,7 @@ unfolding is_hexadecimal_number
 hexadecimal_read run (lower_x digits e h) = rw e h
 hexadecimal_read run (upper_x digits e h) = rw e h
 
-pub number_read : (run : List ℕ) → IsNumber run → is_number run ≡ true
+pub number_read : (run : List ℕ) → IsNumberRun run → is_number run ≡ true
 unfolding is_number
 number_read run (hexadecimal_number h) = or_left (is_hexadecimal_number run) (is_decimal_number run) (hexadecimal_read run h)
 number_read run (decimal_number front back e m x) = or_right (is_hexadecimal_number run) (is_decimal_number run) (rw e (decimal_read front back m x))
@@ -198,7 +198,7 @@ hexadecimal_is (z ∷ x ∷ digits) h =
       | inr u ↦ upper_x digits (rw (zero_is, eqb-true x 88 u) refl) a.1
     ]
 
-pub number_is : (run : List ℕ) → is_number run ≡ true → IsNumber run
+pub number_is : (run : List ℕ) → is_number run ≡ true → IsNumberRun run
 unfolding is_number is_decimal_number
 number_is run h = elim (or_cases (is_hexadecimal_number run) (is_decimal_number run) h) [
   | inl x ↦ hexadecimal_number (hexadecimal_is run x)
@@ -286,7 +286,7 @@ unfolding units is_digit place_of_letter
 no_upper_x [] = refl
 no_upper_x (d ∷ digits) = refl
 
-pub number_no_units : (run : List ℕ) → IsNumber run → 0 < length run → units false run ≡ None
+pub number_no_units : (run : List ℕ) → IsNumberRun run → 0 < length run → units false run ≡ None
 number_no_units run (hexadecimal_number (lower_x digits e h)) lt = rw e (no_x digits)
 number_no_units run (hexadecimal_number (upper_x digits e h)) lt = rw e (no_upper_x digits)
 number_no_units run (decimal_number front back e m x) lt =

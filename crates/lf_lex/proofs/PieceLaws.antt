@@ -9,7 +9,7 @@ use Rattle.std.specs.List.{flat_map, AllByRecursion}
 use Rattle.std.specs.Str.{IsUtf8}
 use lib.Utf8.{encode, encodes, scalar, scalars, scalar_cases}
 use Rattle.lf_base.specs.Names.{is_digit}
-use Rattle.lf_lex.specs.Strings.{Piece, Bare, Escape, piece_text, meant}
+use Rattle.lf_lex.specs.Strings.{StringPiece, Bare, Escape, piece_text, meant}
 use Rattle.lf_lex.specs.reading.Strings.{both, two_digits, four_digits, eight_digits, octal_byte, as_byte, as_character, escape, piece, is_scalar, gives, bytes_of}
 use Rattle.lf_lex.specs.Strings.{byte_of_letter}
 use Rattle.lf_lex.proofs.ValueLaws.{IsRead, bytes_first, value_one}
@@ -169,7 +169,7 @@ IsReadWrong quote rest = (tail : List ℕ) × (rest ≡ 92 ∷ tail) × (escape 
 
 -- pieces, as far as escapes are right
 pub record ReadTo (quote : ℕ) (src : List ℕ) : Type 0 where
-  pub pieces : List Piece
+  pub pieces : List StringPiece
   pub rest : List ℕ
   pub each : AllByRecursion (IsRead quote) pieces
   pub source : src ≡ flat_map piece_text pieces ++ rest
@@ -187,12 +187,12 @@ module _ (quote : ℕ) where
   unfolding gives
   nil_value = refl
 
-  pub pieces_value : (ps : List Piece) (rest : List ℕ) → AllByRecursion (IsRead quote) ps → value_of (flat_map piece_text ps ++ rest) ≡ flat_map meant ps ++ value_of rest
+  pub pieces_value : (ps : List StringPiece) (rest : List ℕ) → AllByRecursion (IsRead quote) ps → value_of (flat_map piece_text ps ++ rest) ≡ flat_map meant ps ++ value_of rest
   pieces_value [] rest each = refl
   pieces_value (p ∷ ps) rest each =
       ap value_of (append_assoc (piece_text p) (flat_map piece_text ps) rest) ∙ value_one quote p (flat_map piece_text ps ++ rest) each.0 ∙ ap (λ (x : List ℕ). meant p ++ x) (pieces_value ps rest each.1) ∙ sym (append_assoc (meant p) (flat_map meant ps) (value_of rest))
 
-  more_pieces : (p : Piece) (src rest : List ℕ) → IsRead quote p → src ≡ piece_text p ++ rest → ReadTo quote rest → ReadTo quote src
+  more_pieces : (p : StringPiece) (src rest : List ℕ) → IsRead quote p → src ≡ piece_text p ++ rest → ReadTo quote rest → ReadTo quote src
   more_pieces p src rest h e a = record {
     pieces = p ∷ a.pieces;
     rest = a.rest;

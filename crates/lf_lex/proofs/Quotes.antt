@@ -7,14 +7,14 @@ use Rattle.std.proofs.lemmas.Bool.Decides.{eqb_tells}
 use Rattle.std.proofs.lemmas.List.{length-append}
 use Rattle.std.proofs.lemmas.List.Concat.{flat_map-cons}
 use Rattle.std.specs.List.{flat_map, AllByRecursion}
-use Rattle.lf_lex.specs.Strings.{Raw, One, Pair, raw, IsRaw}
+use Rattle.lf_lex.specs.Strings.{StringRaw, One, Pair, raw, IsStringRaw}
 use Rattle.lf_lex.specs.reading.Strings.{closing}
 use Rattle.lf_lex.proofs.Options.{none_some}
 
 -- Behind an opening quote stands `inner`, the quote that closes, and perhaps more.
 pub record Closes (quote : ℕ) (src inner : List ℕ) : Type 0 where
-  pub raws : List Raw
-  pub each : AllByRecursion (IsRaw quote) raws
+  pub raws : List StringRaw
+  pub each : AllByRecursion (IsStringRaw quote) raws
   pub rest : List ℕ
   pub inner_is : inner ≡ flat_map raw raws
   pub source : src ≡ inner ++ quote ∷ rest
@@ -25,7 +25,7 @@ abbrev pub ahead : ℕ → Option ℕ → Option ℕ
 ahead n o = option_map (λ k. n + k) o
 
 module _ (quote : ℕ) (not_slash : quote ≢ 92) where
-  pub closing_one : (r : Raw) (src : List ℕ) → IsRaw quote r → closing quote 0 (raw r ++ src) ≡ ahead (length (raw r)) (closing quote 0 src)
+  pub closing_one : (r : StringRaw) (src : List ℕ) → IsStringRaw quote r → closing quote 0 (raw r ++ src) ≡ ahead (length (raw r)) (closing quote 0 src)
   unfolding closing
   closing_one (One b) src h = rw (ne_eqb b quote h.0, ne_eqb b 10 h.1, ne_eqb b 92 h.2) (one (closing quote 0 src))
     where
@@ -38,7 +38,7 @@ module _ (quote : ℕ) (not_slash : quote ≢ 92) where
       two None = refl
       two (Some n) = ap (λ (k : ℕ). Some k) (omega arith)
 
-  closing_all : (rs : List Raw) (rest : List ℕ) → AllByRecursion (IsRaw quote) rs → closing quote 0 (flat_map raw rs ++ quote ∷ rest) ≡ Some (length (flat_map raw rs))
+  closing_all : (rs : List StringRaw) (rest : List ℕ) → AllByRecursion (IsStringRaw quote) rs → closing quote 0 (flat_map raw rs ++ quote ∷ rest) ≡ Some (length (flat_map raw rs))
   unfolding closing
   closing_all [] rest each = rw (eq-eqb quote quote refl) refl
   closing_all (r ∷ rs) rest each =
@@ -61,7 +61,7 @@ pub record Closed (quote : ℕ) (src : List ℕ) (n : ℕ) : Type 0 where
   pub len : n ≡ length inner
 
 module _ (quote : ℕ) (not_slash : quote ≢ 92) where
-  more_raw : (r : Raw) (src : List ℕ) (n m : ℕ) → IsRaw quote r → length (raw r) + m ≡ n → Closed quote src m → Closed quote (raw r ++ src) n
+  more_raw : (r : StringRaw) (src : List ℕ) (n m : ℕ) → IsStringRaw quote r → length (raw r) + m ≡ n → Closed quote src m → Closed quote (raw r ++ src) n
   more_raw r src n m h e c = record {
     inner = raw r ++ c.inner;
     is = record {
@@ -74,7 +74,7 @@ module _ (quote : ℕ) (not_slash : quote ≢ 92) where
     len = sym e ∙ ap (λ (k : ℕ). length (raw r) + k) c.len ∙ sym (length-append (raw r) c.inner);
   }
 
-  next_raw : (r : Raw) (src : List ℕ) (n : ℕ) → IsRaw quote r → ((m : ℕ) → closing quote 0 src ≡ Some m → Closed quote src m) → closing quote 0 (raw r ++ src) ≡ Some n → Closed quote (raw r ++ src) n
+  next_raw : (r : StringRaw) (src : List ℕ) (n : ℕ) → IsStringRaw quote r → ((m : ℕ) → closing quote 0 src ≡ Some m → Closed quote src m) → closing quote 0 (raw r ++ src) ≡ Some n → Closed quote (raw r ++ src) n
   next_raw r src n h again e = by (closing quote 0 src) refl (sym (closing_one quote not_slash r src h) ∙ e)
     where
       by : (o : Option ℕ) → closing quote 0 src ≡ o → option_map (λ k. length (raw r) + k) o ≡ Some n → Closed quote (raw r ++ src) n

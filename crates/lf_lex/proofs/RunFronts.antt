@@ -4,7 +4,7 @@ use Rattle.std.proofs.lemmas.List.{take_at}
 use Rattle.std.proofs.lemmas.Bool.{false≢true, false_from_ne_true}
 use Rattle.lf_base.specs.declared.kind.Kind.TheVariants.{BadNumber, BadDuration}
 use Rattle.lf_lex.specs.declared.token.TokenKind.TheVariants as kinds
-use Rattle.lf_lex.specs.Runs.{begins_run, IsRun, IsNumber}
+use Rattle.lf_lex.specs.Runs.{begins_run, IsRun, IsNumberRun}
 use Rattle.lf_lex.specs.Durations.{Amount, AreAmounts, IsDuration, IsDisordered}
 use Rattle.lf_lex.specs.Lexemes.{IsLongest, Written}
 use Rattle.lf_lex.specs.Breaches.{BeginsRun}
@@ -32,7 +32,7 @@ module _ (from : List ℕ) (at : ℕ) where
     unfolding run_front
     run_front_is = rw (run_len_is, take_at run rest (length run) refl) refl
 
-    pub number_front : IsNumber run → run_front from at (run ++ rest) ≡ token (kinds.Number run) (length run)
+    pub number_front : IsNumberRun run → run_front from at (run ++ rest) ≡ token (kinds.Number run) (length run)
     number_front h = run_front_is ∙ rw (number_read run h) refl
 
     pub duration_front : IsDuration run → run_front from at (run ++ rest) ≡ token (kinds.Duration run) (length run)
@@ -41,7 +41,7 @@ module _ (from : List ℕ) (at : ℕ) where
     pub bad_duration_front : IsDisordered run → run_front from at (run ++ rest) ≡ breach {X = Front} from BadDuration at (at + length run)
     bad_duration_front h = run_front_is ∙ rw (no_number run h.0 h.1 run_some, disordered run h) refl
 
-    pub bad_number_front : (IsNumber run → ⊥) → ((amounts : List Amount) → AreAmounts run amounts → ⊥) → run_front from at (run ++ rest) ≡ breach {X = Front} from BadNumber at (at + length run)
+    pub bad_number_front : (IsNumberRun run → ⊥) → ((amounts : List Amount) → AreAmounts run amounts → ⊥) → run_front from at (run ++ rest) ≡ breach {X = Front} from BadNumber at (at + length run)
     bad_number_front n a = run_front_is ∙ rw (false_from_ne_true (is_number run) (λ h. n (number_is run h)), not_amounts run a run_some) refl
 
 -- every run is a number, a duration or a breach
@@ -61,7 +61,7 @@ module _ (inside : Bool) (src : List ℕ) (begins : begins_run src ≡ true) whe
   no_amount : duration_order (take (run_len src) src) ≡ None → (amounts : List Amount) → AreAmounts (take (run_len src) src) amounts → ⊥
   no_amount e amounts a = no_amounts (take (run_len src) src) amounts e a
 
-  no_num : is_number (take (run_len src) src) ≡ false → IsNumber (take (run_len src) src) → ⊥
+  no_num : is_number (take (run_len src) src) ≡ false → IsNumberRun (take (run_len src) src) → ⊥
   no_num e h = let k = number_read (take (run_len src) src) h in let f : false ≡ true = sym e ∙ k in false≢true f
 
   pub run_stands : Standing inside src

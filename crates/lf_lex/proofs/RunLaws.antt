@@ -7,7 +7,7 @@ use Rattle.std.proofs.lemmas.Bool.Decides.{nat_tests}
 use Rattle.std.specs.List.{prefix_len, list_all}
 use Rattle.lf_lex.specs.Bytes.{is_dot, is_exponent, is_plus_minus, is_in_run, is_in_mantissa}
 use Rattle.lf_base.specs.Names.{is_digit, is_letter}
-use Rattle.lf_lex.specs.Runs.{begins_run, IsRow, plain_row, signed_row, IsRun}
+use Rattle.lf_lex.specs.Runs.{begins_run, IsRunRow, plain_row, signed_row, IsRun}
 use Rattle.lf_lex.specs.reading.Runs.{begins_signed, run_len}
 use Rattle.lf_base.proofs.Rows.{row_all, row_past, row_is, row_bound}
 use Rattle.lf_lex.proofs.Longest.{Greatest}
@@ -113,13 +113,13 @@ module _ (src : List ℕ) where
   pub run_within : run_len src ≤ length src
   run_within = by_sign (λ n. n ≤ length src) (λ d. let e = signed_src d in subst (λ (x : List ℕ). run_len x ≤ length x) (sym e) (signed_within (take (prefix_len is_in_mantissa src) src) d.e d.s d.more (row_all is_in_mantissa src) d.is_e d.is_s)) (prefix_len-le-length is_in_run src)
 
-  pub run_row : IsRow (take (run_len src) src)
-  run_row = by_sign (λ n. IsRow (take n src)) (λ d. subst (λ (x : List ℕ). IsRow (take (run_len x) x)) (sym (signed_src d)) (signed_row (take (prefix_len is_in_mantissa src) src) d.e d.s (take (prefix_len is_in_run d.more) d.more) (signed_take (take (prefix_len is_in_mantissa src) src) d.e d.s d.more (row_all is_in_mantissa src) d.is_e d.is_s) (row_all is_in_mantissa src) d.is_e d.is_s (row_all is_in_run d.more))) (plain_row (row_all is_in_run src))
+  pub run_row : IsRunRow (take (run_len src) src)
+  run_row = by_sign (λ n. IsRunRow (take n src)) (λ d. subst (λ (x : List ℕ). IsRunRow (take (run_len x) x)) (sym (signed_src d)) (signed_row (take (prefix_len is_in_mantissa src) src) d.e d.s (take (prefix_len is_in_run d.more) d.more) (signed_take (take (prefix_len is_in_mantissa src) src) d.e d.s d.more (row_all is_in_mantissa src) d.is_e d.is_s) (row_all is_in_mantissa src) d.is_e d.is_s (row_all is_in_run d.more))) (plain_row (row_all is_in_run src))
 
   plain_le : prefix_len is_in_run src ≤ run_len src
   plain_le = by_sign (λ n. prefix_len is_in_run src ≤ n) (λ d. subst (λ (x : List ℕ). prefix_len is_in_run x ≤ run_len x) (sym (signed_src d)) (signed_more (take (prefix_len is_in_mantissa src) src) d.e d.s d.more (row_all is_in_mantissa src) d.is_e d.is_s)) (omega arith)
 
-  pub row_len_bound : (text left : List ℕ) → src ≡ text ++ left → IsRow text → length text ≤ run_len src
+  pub row_len_bound : (text left : List ℕ) → src ≡ text ++ left → IsRunRow text → length text ≤ run_len src
   row_len_bound text left e (plain_row h) = let a = row_bound is_in_run src text left e h in let b = plain_le in omega arith
   row_len_bound text left e (signed_row front x s more t m is_e is_s h) =
       let whole : src ≡ front ++ x ∷ s ∷ (more ++ left) = e ∙ ap (λ (y : List ℕ). y ++ left) t ∙ append_assoc front (x ∷ s ∷ more) left in
@@ -130,7 +130,7 @@ module _ (src : List ℕ) where
 
 -- ---- the longest run
 
-one_row : (b : ℕ) → is_in_run b ≡ true → IsRow (b ∷ [])
+one_row : (b : ℕ) → is_in_run b ≡ true → IsRunRow (b ∷ [])
 one_row b h = plain_row (rw h refl)
 
 run_begins : (src : List ℕ) (n : ℕ) → n ≡ run_len src → begins_run src ≡ true → begins_run (take n src) ≡ true

@@ -9,7 +9,7 @@ use Rattle.std.specs.Str.Lossy.{utf8_valid_len}
 use Rattle.std.proofs.lemmas.List.Concat.{flat_map-append}
 use Rattle.lf_base.specs.declared.kind.Kind.TheVariants.{OpenString, BadEscape}
 use Rattle.lf_lex.specs.declared.token.TokenKind.TheVariants as kinds
-use Rattle.lf_lex.specs.Strings.{IsQuote, Raw, raw, IsRaw, IsInner, IsEscape, Piece, Bare, Escape, piece_text, meant, IsPiece, HasValue}
+use Rattle.lf_lex.specs.Strings.{IsQuote, StringRaw, raw, IsStringRaw, IsStringInner, IsEscape, StringPiece, Bare, Escape, piece_text, meant, IsStringPiece, HasValue}
 use Rattle.lf_lex.specs.Lexemes.{IsLongest, EndsLine}
 use Rattle.lf_lex.specs.Breaches.{StopsString, line_ends, backslash_first, BeginsNoEscape, ReadsUpTo, IsWrongAt, no_escape, no_utf8}
 use Rattle.lf_lex.specs.reading.Strings.{closing, escape, PlacedByte, placed, piece, gives, bytes_of, places_of}
@@ -36,19 +36,19 @@ quote_no_feed q (inr e) f = absurd (omega (arith, e, f))
 -- ---- pieces are what is read
 
 module _ (quote : ℕ) (q : IsQuote quote) where
-  piece_read : (p : Piece) → IsPiece quote p → IsRead quote p
+  piece_read : (p : StringPiece) → IsStringPiece quote p → IsRead quote p
   piece_read (Bare b) h = h
   piece_read (Escape tail bytes) h = escape_read quote q tail bytes h
 
-  read_piece : (p : Piece) → IsRead quote p → IsPiece quote p
+  read_piece : (p : StringPiece) → IsRead quote p → IsStringPiece quote p
   read_piece (Bare b) h = h
   read_piece (Escape tail bytes) h = escape_is quote q bytes tail h
 
-  all_read : (ps : List Piece) → AllByRecursion (IsPiece quote) ps → AllByRecursion (IsRead quote) ps
+  all_read : (ps : List StringPiece) → AllByRecursion (IsStringPiece quote) ps → AllByRecursion (IsRead quote) ps
   all_read [] h = tt
   all_read (p ∷ ps) h = (piece_read p h.0, all_read ps h.1)
 
-  pub read_all : (ps : List Piece) → AllByRecursion (IsRead quote) ps → AllByRecursion (IsPiece quote) ps
+  pub read_all : (ps : List StringPiece) → AllByRecursion (IsRead quote) ps → AllByRecursion (IsStringPiece quote) ps
   read_all [] h = tt
   read_all (p ∷ ps) h = (read_piece p h.0, read_all ps h.1)
 
@@ -82,7 +82,7 @@ module _ (quote : ℕ) (q : IsQuote quote) where
       let v = pieces_value quote h.pieces [] (all_read h.pieces h.each) in
       h.value_is ∙ sym (append-nil (flat_map meant h.pieces)) ∙ ap (λ (x : List ℕ). flat_map meant h.pieces ++ x) (sym (nil_value quote)) ∙ sym v ∙ ap (value_of quote) (sym split)
 
-  module _ (from : List ℕ) (inside : Bool) (at : ℕ) (inner rest : List ℕ) (is_inner : IsInner quote inner) where
+  module _ (from : List ℕ) (inside : Bool) (at : ℕ) (inner rest : List ℕ) (is_inner : IsStringInner quote inner) where
     closes_there : closing quote 0 (inner ++ quote ∷ rest) ≡ Some (length inner)
     closes_there = closes_found quote (quote_no_slash quote q) (inner ++ quote ∷ rest) inner (record { raws = is_inner.raws; each = is_inner.each; rest = rest; inner_is = is_inner.source; source = refl })
 
@@ -95,7 +95,7 @@ module _ (quote : ℕ) (q : IsQuote quote) where
 
   -- ---- the place of what gave a byte
 
-  gives_place : (p : Piece) (place : ℕ) (src : List ℕ) → IsRead quote p → gives quote place 0 (piece_text p ++ src) ≡ map (placed place) (meant p) ++ gives quote (place + length (piece_text p)) 0 src
+  gives_place : (p : StringPiece) (place : ℕ) (src : List ℕ) → IsRead quote p → gives quote place 0 (piece_text p ++ src) ≡ map (placed place) (meant p) ++ gives quote (place + length (piece_text p)) 0 src
   unfolding gives
   gives_place (Bare b) place src h =
       let e : suc place ≡ place + 1 = omega arith in
@@ -107,7 +107,7 @@ module _ (quote : ℕ) (q : IsQuote quote) where
       past p [] = let e : p ≡ p + 0 = omega arith in ap (λ (k : ℕ). gives quote k 0 src) e
       past p (x ∷ xs) = past (suc p) xs ∙ ap (λ (k : ℕ). gives quote k 0 src) (omega arith)
 
-  place_there : (ps : List Piece) (src : List ℕ) (place k : ℕ) → AllByRecursion (IsRead quote) ps
+  place_there : (ps : List StringPiece) (src : List ℕ) (place k : ℕ) → AllByRecursion (IsRead quote) ps
       → get_or (places_of (gives quote place 0 (flat_map piece_text ps ++ src))) (length (flat_map meant ps) + k) 0 ≡ get_or (places_of (gives quote (place + length (flat_map piece_text ps)) 0 src)) k 0
   place_there [] src place k each =
       let e : place ≡ place + 0 = omega arith in
@@ -130,7 +130,7 @@ module _ (quote : ℕ) (q : IsQuote quote) where
       ∙ place_there ps src (place + length (piece_text p)) k each.1
       ∙ ap (λ (n : ℕ). get_or (places_of (gives quote n 0 src)) k 0) end
 
-  place_in : (ps : List Piece) (p : Piece) (src : List ℕ) (k : ℕ) → AllByRecursion (IsRead quote) ps → IsRead quote p → k < length (meant p)
+  place_in : (ps : List StringPiece) (p : StringPiece) (src : List ℕ) (k : ℕ) → AllByRecursion (IsRead quote) ps → IsRead quote p → k < length (meant p)
       → get_or (places_of (gives quote 0 0 (flat_map piece_text ps ++ (piece_text p ++ src)))) (length (flat_map meant ps) + k) 0 ≡ length (flat_map piece_text ps)
   place_in ps p src k each h lt =
       let start = length (flat_map piece_text ps) in
@@ -143,7 +143,7 @@ module _ (quote : ℕ) (q : IsQuote quote) where
   unfolding gives piece
   first_wrong src place e = rw e refl
 
-  place_wrong : (ps : List Piece) (src : List ℕ) → AllByRecursion (IsRead quote) ps → escape quote src ≡ None
+  place_wrong : (ps : List StringPiece) (src : List ℕ) → AllByRecursion (IsRead quote) ps → escape quote src ≡ None
       → get_or (places_of (gives quote 0 0 (flat_map piece_text ps ++ 92 ∷ src))) (length (flat_map meant ps) + 0) 0 ≡ length (flat_map piece_text ps)
   place_wrong ps src each e =
       let start = length (flat_map piece_text ps) in
@@ -163,7 +163,7 @@ module _ (quote : ℕ) (q : IsQuote quote) where
     place_is = place_is ∙ ap (λ (k : ℕ). get_or (places_of (gives quote 0 0 inner)) k 0) (n_is ∙ sym (ap utf8_valid_len e ∙ valid_len_is good rest tail longest is_tail some));
   }
 
-  wrong_escape : (inner : List ℕ) (pieces : List Piece) (rest : List ℕ) → ReadsUpTo quote inner pieces rest → BeginsNoEscape quote rest → IsUtf8 (flat_map meant pieces) → WrongValue inner (length (flat_map piece_text pieces))
+  wrong_escape : (inner : List ℕ) (pieces : List StringPiece) (rest : List ℕ) → ReadsUpTo quote inner pieces rest → BeginsNoEscape quote rest → IsUtf8 (flat_map meant pieces) → WrongValue inner (length (flat_map piece_text pieces))
   wrong_escape inner pieces rest r wrong u =
       let w = wrong_read rest wrong in
       let each = all_read pieces r.each in
@@ -179,7 +179,7 @@ module _ (quote : ℕ) (q : IsQuote quote) where
       nothing_more : (more left : List ℕ) → [] ≡ more ++ left → 0 < length more → ⊥
       nothing_more more left e lt = let l = ap length e in let m = length-append more left in omega arith
 
-  wrong_byte : (inner : List ℕ) (before : List Piece) (p : Piece) (later : List Piece) (rest front : List ℕ) (byte : ℕ) (back : List ℕ) →
+  wrong_byte : (inner : List ℕ) (before : List StringPiece) (p : StringPiece) (later : List StringPiece) (rest front : List ℕ) (byte : ℕ) (back : List ℕ) →
       ReadsUpTo quote inner (before ++ p ∷ later) rest → meant p ≡ front ++ byte ∷ back →
       IsLongest IsUtf8 (flat_map meant before ++ front) (byte ∷ (back ++ flat_map meant later)) → WrongValue inner (length (flat_map piece_text before))
   wrong_byte inner before p later rest front byte back r m longest =
@@ -205,7 +205,7 @@ module _ (quote : ℕ) (q : IsQuote quote) where
   wrong_at inner place (no_utf8 before p later rest front byte back r m longest e) = subst (WrongValue inner) (sym e) (wrong_byte inner before p later rest front byte back r m longest)
 
   module _ (from : List ℕ) (inside : Bool) (at : ℕ) where
-    pub wrong_reads : (inner rest : List ℕ) (place : ℕ) → IsInner quote inner → IsWrongAt quote inner place → next_token from inside at (quote ∷ (inner ++ quote ∷ rest)) ≡ breach {X = Front} from BadEscape (at + 1 + place) (at + 1 + place + 1)
+    pub wrong_reads : (inner rest : List ℕ) (place : ℕ) → IsStringInner quote inner → IsWrongAt quote inner place → next_token from inside at (quote ∷ (inner ++ quote ∷ rest)) ≡ breach {X = Front} from BadEscape (at + 1 + place) (at + 1 + place + 1)
     wrong_reads inner rest place is_inner w =
         let v = wrong_at inner place w in
         front_value from inside at inner rest is_inner ∙ value_wrong from at quote inner (value_of quote inner) place refl v.not_utf v.place_is
@@ -222,11 +222,11 @@ module _ (quote : ℕ) (q : IsQuote quote) where
         behind [] h = refl
         behind (b ∷ more) h = rw (eq-eqb b 10 h) refl
 
-    raws_open : (rs : List Raw) (rest : List ℕ) → AllByRecursion (IsRaw quote) rs → closing quote 0 rest ≡ None → closing quote 0 (flat_map raw rs ++ rest) ≡ None
+    raws_open : (rs : List StringRaw) (rest : List ℕ) → AllByRecursion (IsStringRaw quote) rs → closing quote 0 rest ≡ None → closing quote 0 (flat_map raw rs ++ rest) ≡ None
     raws_open [] rest each h = h
     raws_open (r ∷ rs) rest each h =
         ap (closing quote 0) (append_assoc (raw r) (flat_map raw rs) rest) ∙ closing_one quote (quote_no_slash quote q) r (flat_map raw rs ++ rest) each.0 ∙ ap (ahead (length (raw r))) (raws_open rs rest each.1 h)
 
-    pub open_reads : (raws : List Raw) (rest : List ℕ) → AllByRecursion (IsRaw quote) raws → StopsString rest → next_token from inside at (quote ∷ (flat_map raw raws ++ rest)) ≡ breach {X = Front} from OpenString at (at + 1)
+    pub open_reads : (raws : List StringRaw) (rest : List ℕ) → AllByRecursion (IsStringRaw quote) raws → StopsString rest → next_token from inside at (quote ∷ (flat_map raw raws ++ rest)) ≡ breach {X = Front} from OpenString at (at + 1)
     unfolding quoted_front
     open_reads raws rest each stops = front_quoted from inside at (flat_map raw raws ++ rest) quote q ∙ rw (raws_open raws rest each (stops_there rest stops)) refl

@@ -10,7 +10,7 @@ use Rattle.std.specs.Str.Lossy.{utf8_valid_len}
 use Rattle.std.proofs.lemmas.List.Concat.{flat_map-append}
 use Rattle.lf_base.specs.declared.kind.Kind.TheVariants.{OpenString, BadEscape}
 use Rattle.lf_lex.specs.declared.token.TokenKind.TheVariants as kinds
-use Rattle.lf_lex.specs.Strings.{IsQuote, Raw, One, Pair, raw, IsRaw, IsInner, Piece, piece_text, meant, in_quotes}
+use Rattle.lf_lex.specs.Strings.{IsQuote, StringRaw, One, Pair, raw, IsStringRaw, IsStringInner, StringPiece, piece_text, meant, in_quotes}
 use Rattle.lf_lex.specs.Lexemes.{IsLongest, Written}
 use Rattle.lf_lex.specs.Breaches.{StopsString, line_ends, backslash_first, in_quotes as open_quotes, BeginsNoEscape, ReadsUpTo, IsWrongAt, no_escape, no_utf8}
 use Rattle.lf_lex.specs.reading.Strings.{closing}
@@ -25,13 +25,13 @@ use Rattle.lf_lex.proofs.Options.{none_some}
 -- ---- a string that stays open
 
 pub record Open (quote : ℕ) (src : List ℕ) : Type 0 where
-  pub raws : List Raw
+  pub raws : List StringRaw
   pub rest : List ℕ
-  pub each : AllByRecursion (IsRaw quote) raws
+  pub each : AllByRecursion (IsStringRaw quote) raws
   pub source : src ≡ flat_map raw raws ++ rest
   pub stops : StopsString rest
 
-more_open : (quote : ℕ) (r : Raw) (src rest : List ℕ) → IsRaw quote r → src ≡ raw r ++ rest → Open quote rest → Open quote src
+more_open : (quote : ℕ) (r : StringRaw) (src rest : List ℕ) → IsStringRaw quote r → src ≡ raw r ++ rest → Open quote rest → Open quote src
 more_open quote r src rest h e o = record {
   raws = r ∷ o.raws;
   rest = o.rest;
@@ -80,10 +80,10 @@ module _ (quote : ℕ) (q : IsQuote quote) where
 
 -- ---- the piece that gave a byte
 
-pub record Found (pieces : List Piece) (n : ℕ) : Type 0 where
-  pub before : List Piece
-  pub piece : Piece
-  pub later : List Piece
+pub record Found (pieces : List StringPiece) (n : ℕ) : Type 0 where
+  pub before : List StringPiece
+  pub piece : StringPiece
+  pub later : List StringPiece
   pub front : List ℕ
   pub byte : ℕ
   pub back : List ℕ
@@ -91,7 +91,7 @@ pub record Found (pieces : List Piece) (n : ℕ) : Type 0 where
   pub gave : meant piece ≡ front ++ byte ∷ back
   pub n_is : n ≡ length (flat_map meant before) + length front
 
-find : (pieces : List Piece) (n : ℕ) → n < length (flat_map meant pieces) → Found pieces n
+find : (pieces : List StringPiece) (n : ℕ) → n < length (flat_map meant pieces) → Found pieces n
 find [] n lt = absurd (omega arith)
 find (p ∷ ps) n lt = by (λ k l. find ps k l) (cases_lt n (length (meant p)))
   where
@@ -121,14 +121,14 @@ find (p ∷ ps) n lt = by (λ k l. find ps k l) (cases_lt n (length (meant p)))
           front = f.front;
           byte = f.byte;
           back = f.back;
-          split = ap (λ (x : List Piece). p ∷ x) f.split;
+          split = ap (λ (x : List StringPiece). p ∷ x) f.split;
           gave = f.gave;
           n_is = omega arith;
         }
 
 -- ---- a string that closes
 
-module _ (quote : ℕ) (q : IsQuote quote) (inside : Bool) (src inner rest : List ℕ) (source : src ≡ inner ++ quote ∷ rest) (is_inner : IsInner quote inner) where
+module _ (quote : ℕ) (q : IsQuote quote) (inside : Bool) (src inner rest : List ℕ) (source : src ≡ inner ++ quote ∷ rest) (is_inner : IsStringInner quote inner) where
   whole : quote ∷ src ≡ (quote ∷ (inner ++ quote ∷ [])) ++ rest
   whole = ap (λ (x : List ℕ). quote ∷ x) (source ∙ sym (append_assoc inner (quote ∷ []) rest))
 
@@ -179,7 +179,7 @@ module _ (quote : ℕ) (q : IsQuote quote) (inside : Bool) (src inner rest : Lis
         let front : take n v ≡ good = ap (take n) all ∙ take_at good more n len in
         let back : drop n v ≡ more = ap (drop n) all ∙ drop_at good more n len in
         let longest : IsLongest IsUtf8 good more = subst (λ (x : List ℕ). IsLongest IsUtf8 good x) back (subst (λ (x : List ℕ). IsLongest IsUtf8 x (drop n v)) front (greatest_longest IsUtf8 v n (utf8_greatest v))) in
-        bad_at (length (flat_map piece_text f.before)) (no_utf8 f.before f.piece f.later r.rest f.front f.byte f.back (subst (λ (x : List Piece). ReadsUpTo quote inner x r.rest) f.split up_to) f.gave longest refl)
+        bad_at (length (flat_map piece_text f.before)) (no_utf8 f.before f.piece f.later r.rest f.front f.byte f.back (subst (λ (x : List StringPiece). ReadsUpTo quote inner x r.rest) f.split up_to) f.gave longest refl)
 
     value_stands : Standing inside (quote ∷ src)
     value_stands = by (cases_lt (utf8_valid_len (flat_map meant r.pieces)) (length (flat_map meant r.pieces)))

@@ -2,14 +2,14 @@
 use Rattle.std.proofs.Common.{◌≡◌, ◌≢◌, ℕ, zero, suc, Bool, true, false, cond, eqb, List, [], ◌∷◌, ◌++◌, map, drop, Option, Some, None, length, refl, ap, sym, ◌∙◌}
 use Rattle.std.proofs.lemmas.Bool.{ne_eqb}
 use Rattle.lf_base.specs.Names.{is_digit}
-use Rattle.lf_lex.specs.Strings.{Piece, Bare, Escape, piece_text, meant}
+use Rattle.lf_lex.specs.Strings.{StringPiece, Bare, Escape, piece_text, meant}
 use Rattle.lf_lex.specs.reading.Strings.{both, two_digits, four_digits, eight_digits, octal_byte, as_byte, as_character, escape, piece, placed, gives, bytes_of}
 use Rattle.lf_lex.specs.Strings.{byte_of_letter}
 use Rattle.lf_lex.proofs.PlacedBytes.{bytes-more}
 use Rattle.lf_lex.proofs.Options.{none_some}
 
 -- a piece, as it is read
-abbrev pub IsRead : ℕ → Piece → Type 0
+abbrev pub IsRead : ℕ → StringPiece → Type 0
 IsRead quote (Bare b) = b ≢ 92
 IsRead quote (Escape tail bytes) = escape quote tail ≡ Some (bytes, length tail)
 
@@ -115,6 +115,6 @@ pub piece_escape : (quote : ℕ) (src : List ℕ) (r : List ℕ × ℕ) → esca
 unfolding piece
 piece_escape quote src r e = rw e refl
 
-pub value_one : (quote : ℕ) (p : Piece) (src : List ℕ) → IsRead quote p → bytes_of (gives quote 0 0 (piece_text p ++ src)) ≡ meant p ++ bytes_of (gives quote 0 0 src)
+pub value_one : (quote : ℕ) (p : StringPiece) (src : List ℕ) → IsRead quote p → bytes_of (gives quote 0 0 (piece_text p ++ src)) ≡ meant p ++ bytes_of (gives quote 0 0 src)
 value_one quote (Bare b) src h = bytes_first quote b src (b ∷ []) 0 (piece_bare quote b src h) ∙ ap (λ (x : List ℕ). b ∷ x) (bytes_place quote 1 0 0 src)
 value_one quote (Escape tail bytes) src h = bytes_first quote 92 (tail ++ src) bytes (length tail) (piece_escape quote (tail ++ src) (bytes, length tail) (escape_kept src quote tail (bytes, length tail) h)) ∙ ap (λ (x : List ℕ). bytes ++ x) (bytes_past quote 1 tail src)

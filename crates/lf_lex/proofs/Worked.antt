@@ -16,9 +16,9 @@ use Rattle.lf_lex.specs.declared.token.TokenKind.TheVariants as kinds
 use Rattle.lf_lex.specs.Bytes.{is_dot, is_exponent, is_plus_minus, is_in_run, is_in_mantissa, is_blank, is_octal, begins_word, is_in_word, is_line_break}
 use Rattle.lf_base.specs.Names.{is_letter, is_digit, is_hexadecimal, begins_label, hexadecimal_value}
 use Rattle.lf_lex.specs.Signs.{spelling}
-use Rattle.lf_lex.specs.Runs.{begins_run, IsRun, IsNumber, lower_x, no_dot, one_dot, no_exponent, unsigned_exponent, signed_exponent, hexadecimal_number, decimal_number}
+use Rattle.lf_lex.specs.Runs.{begins_run, IsRun, IsNumberRun, lower_x, no_dot, one_dot, no_exponent, unsigned_exponent, signed_exponent, hexadecimal_number, decimal_number}
 use Rattle.lf_lex.specs.Durations.{Hours, Minutes, Seconds, Amount, AreAmounts, IsDuration, IsDisordered}
-use Rattle.lf_lex.specs.Strings.{IsString, in_quotes, in_back_quotes, One, Pair, IsRaw, Escape, Bare, byte_of_letter, hexadecimal_byte}
+use Rattle.lf_lex.specs.Strings.{IsString, in_quotes, in_back_quotes, One, Pair, IsStringRaw, Escape, Bare, byte_of_letter, hexadecimal_byte}
 use Rattle.lf_lex.specs.Lexemes.{IsLongest, IsWord, IsSomeSign, Blank, Comment, Written, IsLexeme}
 use Rattle.lf_lex.specs.Breaches.{BeginsNothing, in_quotes as open_quotes, line_ends, BeginsNoEscape, no_escape, no_utf8}
 use Rattle.lf_lex.specs.Tokens.{Tokens, Breaks}
@@ -194,23 +194,23 @@ five_minutes_one_hour = record {
 
 -- ---- numbers: 1e5, 1e+5, 0x1F, .5, 5.
 
-number_1e5 : IsNumber (codes "1e5")
+number_1e5 : IsNumberRun (codes "1e5")
 unfolding is_digit is_exponent
 number_1e5 = decimal_number (codes "1") (codes "e5") refl (no_dot refl) (unsigned_exponent 101 (codes "5") refl refl refl)
 
-number_1e_plus_5 : IsNumber (codes "1e+5")
+number_1e_plus_5 : IsNumberRun (codes "1e+5")
 unfolding is_digit is_exponent is_plus_minus
 number_1e_plus_5 = decimal_number (codes "1") (codes "e+5") refl (no_dot refl) (signed_exponent 101 43 (codes "5") refl refl refl refl)
 
-number_hexadecimal : IsNumber (codes "0x1F")
+number_hexadecimal : IsNumberRun (codes "0x1F")
 unfolding is_hexadecimal is_digit
 number_hexadecimal = hexadecimal_number (lower_x (codes "1F") refl refl)
 
-number_point_5 : IsNumber (codes ".5")
+number_point_5 : IsNumberRun (codes ".5")
 unfolding is_digit
 number_point_5 = decimal_number (codes ".5") [] refl (one_dot [] (codes "5") refl refl refl (omega arith)) (no_exponent refl)
 
-number_5_point : IsNumber (codes "5.")
+number_5_point : IsNumberRun (codes "5.")
 unfolding is_digit
 number_5_point = decimal_number (codes "5.") [] refl (one_dot (codes "5") [] refl refl refl (omega arith)) (no_exponent refl)
 
@@ -220,7 +220,7 @@ two_dots_run : IsLongest IsRun (codes "1..2") []
 unfolding run_len is_in_mantissa is_digit is_dot is_in_run is_letter is_exponent
 two_dots_run = run_ends (codes "1..2") refl
 
-two_dots_no_number : IsNumber (codes "1..2") → ⊥
+two_dots_no_number : IsNumberRun (codes "1..2") → ⊥
 unfolding is_number is_hexadecimal_number is_decimal_number is_mantissa is_exponent_part is_in_mantissa is_digit is_dot is_exponent
 two_dots_no_number h = false≢true (number_read (codes "1..2") h)
 
@@ -244,7 +244,7 @@ signed_run : IsLongest IsRun (codes "1e+5m") []
 unfolding run_len is_in_mantissa is_digit is_dot is_in_run is_letter is_exponent is_plus_minus
 signed_run = run_ends (codes "1e+5m") refl
 
-signed_no_number : IsNumber (codes "1e+5m") → ⊥
+signed_no_number : IsNumberRun (codes "1e+5m") → ⊥
 unfolding is_number is_hexadecimal_number is_decimal_number is_mantissa is_exponent_part is_in_mantissa is_digit is_dot is_exponent is_plus_minus
 signed_no_number h = false≢true (number_read (codes "1e+5m") h)
 
@@ -306,10 +306,10 @@ return_ends = (refl, refl)
 back_quotes : IsString (codes "`a\\n`") (codes "a\\n")
 back_quotes = in_back_quotes refl refl
 
-not_feed : (b : ℕ) → eqb b 10 ≡ false → IsRaw 34 (Pair b)
+not_feed : (b : ℕ) → eqb b 10 ≡ false → IsStringRaw 34 (Pair b)
 not_feed b e = eqb-false b 10 e
 
-bare : (b : ℕ) → eqb b 34 ≡ false → eqb b 10 ≡ false → eqb b 92 ≡ false → IsRaw 34 (One b)
+bare : (b : ℕ) → eqb b 34 ≡ false → eqb b 10 ≡ false → eqb b 92 ≡ false → IsStringRaw 34 (One b)
 bare b e f g = (eqb-false b 34 e, eqb-false b 10 f, eqb-false b 92 g)
 
 -- "\xc3\xa9" is the character U+00E9

@@ -8,9 +8,9 @@ use Rattle.lf_lex.specs.declared.token.Sign.{Sign}
 use Rattle.lf_base.specs.Rows.{is_no_back_quote, Each}
 use Rattle.lf_lex.specs.Bytes.{is_blank, is_continuation}
 use Rattle.lf_lex.specs.Signs.{spelling}
-use Rattle.lf_lex.specs.Runs.{IsRun, IsNumber}
+use Rattle.lf_lex.specs.Runs.{IsRun, IsNumberRun}
 use Rattle.lf_lex.specs.Durations.{Amount, AreAmounts, IsDisordered}
-use Rattle.lf_lex.specs.Strings.{IsQuote, Raw, raw, IsRaw, IsInner, IsEscape, Piece, piece_text, meant, IsPiece}
+use Rattle.lf_lex.specs.Strings.{IsQuote, StringRaw, raw, IsStringRaw, IsStringInner, IsEscape, StringPiece, piece_text, meant, IsStringPiece}
 use Rattle.lf_lex.specs.Lexemes.{IsLongest, IsWord, EndsLine}
 
 -- ---- a character that begins nothing
@@ -48,8 +48,8 @@ pub data StopsString (rest : List ℕ) : Type 0 where
 
 -- The text begins with a quote, and its string meets the line's end or, in back quotes, the text's.
 pub data StaysOpen (src : List ℕ) : Type 0 where
-  in_quotes : (quote : ℕ) (raws : List Raw) (rest : List ℕ) →
-      IsQuote quote → src ≡ quote ∷ (flat_map raw raws ++ rest) → AllByRecursion (IsRaw quote) raws → StopsString rest →
+  in_quotes : (quote : ℕ) (raws : List StringRaw) (rest : List ℕ) →
+      IsQuote quote → src ≡ quote ∷ (flat_map raw raws ++ rest) → AllByRecursion (IsStringRaw quote) raws → StopsString rest →
       StaysOpen src
   in_back_quotes : (rest : List ℕ) → src ≡ 96 ∷ rest → Each is_no_back_quote rest → StaysOpen src
 
@@ -61,20 +61,20 @@ BeginsNoEscape quote [] = ⊥
 BeginsNoEscape quote (b ∷ src) = (b ≡ 92) × ((tail bytes rest : List ℕ) → src ≡ tail ++ rest → IsEscape quote tail bytes → ⊥)
 
 -- Between the quotes stand pieces up to `rest`: the end, or a backslash with which no escape begins.
-pub record ReadsUpTo (quote : ℕ) (inner : List ℕ) (pieces : List Piece) (rest : List ℕ) : Type 0 where
-  pub each : AllByRecursion (IsPiece quote) pieces
+pub record ReadsUpTo (quote : ℕ) (inner : List ℕ) (pieces : List StringPiece) (rest : List ℕ) : Type 0 where
+  pub each : AllByRecursion (IsStringPiece quote) pieces
   pub source : inner ≡ flat_map piece_text pieces ++ rest
   pub stops : (rest ≡ []) ⊎ BeginsNoEscape quote rest
 
 -- The place of the first thing between the quotes that is wrong.
 pub data IsWrongAt (quote : ℕ) (inner : List ℕ) (place : ℕ) : Type 0 where
   -- A backslash with which no escape begins, where what stands before it stands for UTF-8.
-  no_escape : (pieces : List Piece) (rest : List ℕ) →
+  no_escape : (pieces : List StringPiece) (rest : List ℕ) →
       ReadsUpTo quote inner pieces rest → BeginsNoEscape quote rest → IsUtf8 (flat_map meant pieces) → place ≡ length (flat_map piece_text pieces) →
       IsWrongAt quote inner place
   -- The piece that gives the byte with which the value ceases to be UTF-8: up to `byte` it is UTF-8, and no longer beginning of it is. (In a text that is UTF-8
   -- this piece is an escape, as the law `wrong_escapes` says.)
-  no_utf8 : (before : List Piece) (piece : Piece) (later : List Piece) (rest front : List ℕ) (byte : ℕ) (back : List ℕ) →
+  no_utf8 : (before : List StringPiece) (piece : StringPiece) (later : List StringPiece) (rest front : List ℕ) (byte : ℕ) (back : List ℕ) →
       ReadsUpTo quote inner (before ++ piece ∷ later) rest → meant piece ≡ front ++ byte ∷ back →
       IsLongest IsUtf8 (flat_map meant before ++ front) (byte ∷ (back ++ flat_map meant later)) → place ≡ length (flat_map piece_text before) →
       IsWrongAt quote inner place
@@ -86,7 +86,7 @@ pub record HasWrongEscape (src : List ℕ) (place : ℕ) : Type 0 where
   pub rest : List ℕ
   pub is_quote : IsQuote quote
   pub source : src ≡ quote ∷ (inner ++ quote ∷ rest)
-  pub closes : IsInner quote inner
+  pub closes : IsStringInner quote inner
   pub between : ℕ
   pub wrong : IsWrongAt quote inner between
   pub place_is : place ≡ 1 + between
@@ -100,7 +100,7 @@ pub record BeginsRun (src run : List ℕ) : Type 0 where
 
 abbrev pub HasBadNumber : List ℕ → ℕ → Type 0
 HasBadNumber src len =
-    (run : List ℕ) × BeginsRun src run × (len ≡ length run) × (IsNumber run → ⊥) × ((amounts : List Amount) → AreAmounts run amounts → ⊥)
+    (run : List ℕ) × BeginsRun src run × (len ≡ length run) × (IsNumberRun run → ⊥) × ((amounts : List Amount) → AreAmounts run amounts → ⊥)
 
 abbrev pub HasBadDuration : List ℕ → ℕ → Type 0
 HasBadDuration src len = (run : List ℕ) × BeginsRun src run × (len ≡ length run) × IsDisordered run

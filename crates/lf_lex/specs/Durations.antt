@@ -55,12 +55,12 @@ Climb (p ∷ []) = Unit {0}
 Climb (p ∷ q ∷ places) = (p < q) × Climb (q ∷ places)
 
 -- The units stand in their order, each at most once.
-abbrev pub InOrder : List Amount → Type 0
-InOrder amounts = Climb (map (λ a. place a.measure) amounts)
+abbrev pub AreInOrder : List Amount → Type 0
+AreInOrder amounts = Climb (map (λ a. place a.measure) amounts)
 
 abbrev pub IsDuration : List ℕ → Type 0
-IsDuration run = (amounts : List Amount) × AreAmounts run amounts × InOrder amounts
+IsDuration run = (amounts : List Amount) × AreAmounts run amounts × AreInOrder amounts
 
 -- amounts whose units stand in another order, or repeat
 abbrev pub IsDisordered : List ℕ → Type 0
-IsDisordered run = (amounts : List Amount) × AreAmounts run amounts × (InOrder amounts → ⊥)
+IsDisordered run = (amounts : List Amount) × AreAmounts run amounts × (AreInOrder amounts → ⊥)

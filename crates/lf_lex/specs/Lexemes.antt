@@ -8,7 +8,7 @@ use Rattle.lf_lex.specs.declared.token.TokenKind.TheVariants as kinds
 use Rattle.lf_base.specs.Rows.{Each}
 use Rattle.lf_lex.specs.Bytes.{is_blank, is_line_break, is_no_line_break, begins_word, is_in_word}
 use Rattle.lf_lex.specs.Signs.{spelling}
-use Rattle.lf_lex.specs.Runs.{IsRun, IsNumber}
+use Rattle.lf_lex.specs.Runs.{IsRun, IsNumberRun}
 use Rattle.lf_lex.specs.Durations.{IsDuration}
 use Rattle.lf_lex.specs.Strings.{IsString}
 
@@ -31,7 +31,7 @@ IsSomeSign inside text = (sign : Sign) × IsSign inside sign text
 -- `text`, before `rest`, is a token of this kind. `inside` says that the last bracket before it is open.
 abbrev pub IsToken : Bool → TokenKind → List ℕ → List ℕ → Type 0
 IsToken inside (kinds.Word word) text rest = (text ≡ word) × IsLongest (IsWord inside) text rest
-IsToken inside (kinds.Number number) text rest = (text ≡ number) × IsLongest IsRun text rest × IsNumber text
+IsToken inside (kinds.Number number) text rest = (text ≡ number) × IsLongest IsRun text rest × IsNumberRun text
 IsToken inside (kinds.Duration duration) text rest = (text ≡ duration) × IsLongest IsRun text rest × IsDuration text
 IsToken inside (kinds.Str value) text rest = IsString text value
 IsToken inside (kinds.Sign sign) text rest = IsSign inside sign text × IsLongest (IsSomeSign inside) text rest

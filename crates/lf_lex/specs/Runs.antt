@@ -13,16 +13,16 @@ begins_run (b ∷ []) = is_digit b
 begins_run (b ∷ c ∷ more) = is_digit b || (is_dot b && is_digit c)
 
 -- A row of digits, letters, underscores and dots. One + or - may stand in it, right behind an e or E that only digits and dots precede.
-pub data IsRow (row : List ℕ) : Type 0 where
-  plain_row : Each is_in_run row → IsRow row
+pub data IsRunRow (row : List ℕ) : Type 0 where
+  plain_row : Each is_in_run row → IsRunRow row
   signed_row : (front : List ℕ) (e sign : ℕ) (more : List ℕ) →
       row ≡ front ++ e ∷ sign ∷ more →
       Each is_in_mantissa front → is_exponent e ≡ true → is_plus_minus sign ≡ true → Each is_in_run more →
-      IsRow row
+      IsRunRow row
 
 -- A run is such a row that begins with a digit, or with a dot before a digit.
 abbrev pub IsRun : List ℕ → Type 0
-IsRun run = (begins_run run ≡ true) × IsRow run
+IsRun run = (begins_run run ≡ true) × IsRunRow run
 
 -- ---- numbers
 
@@ -46,6 +46,6 @@ pub data IsExponent (back : List ℕ) : Type 0 where
       back ≡ e ∷ sign ∷ digits → is_exponent e ≡ true → is_plus_minus sign ≡ true → AreSome is_digit digits →
       IsExponent back
 
-pub data IsNumber (run : List ℕ) : Type 0 where
-  hexadecimal_number : IsHexadecimal run → IsNumber run
-  decimal_number : (front back : List ℕ) → run ≡ front ++ back → IsMantissa front → IsExponent back → IsNumber run
+pub data IsNumberRun (run : List ℕ) : Type 0 where
+  hexadecimal_number : IsHexadecimal run → IsNumberRun run
+  decimal_number : (front back : List ℕ) → run ≡ front ++ back → IsMantissa front → IsExponent back → IsNumberRun run

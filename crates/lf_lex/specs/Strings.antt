@@ -13,23 +13,23 @@ IsQuote quote = (quote ≡ 34) ⊎ (quote ≡ 39)
 -- ---- where a string in quotes closes
 
 -- what stands between the quotes: a byte for itself, or a backslash and the byte behind it
-pub data Raw : Type 0 where
-  One : ℕ → Raw
-  Pair : ℕ → Raw
+pub data StringRaw : Type 0 where
+  One : ℕ → StringRaw
+  Pair : ℕ → StringRaw
 
-abbrev pub raw : Raw → List ℕ
+abbrev pub raw : StringRaw → List ℕ
 raw (One b) = b ∷ []
 raw (Pair b) = 92 ∷ b ∷ []
 
 -- no line feed stands there, and neither a quote nor a backslash for itself
-abbrev pub IsRaw : ℕ → Raw → Type 0
-IsRaw quote (One b) = (b ≢ quote) × (b ≢ 10) × (b ≢ 92)
-IsRaw quote (Pair b) = b ≢ 10
+abbrev pub IsStringRaw : ℕ → StringRaw → Type 0
+IsStringRaw quote (One b) = (b ≢ quote) × (b ≢ 10) × (b ≢ 92)
+IsStringRaw quote (Pair b) = b ≢ 10
 
 -- `inner` can stand between quotes.
-pub record IsInner (quote : ℕ) (inner : List ℕ) : Type 0 where
-  pub raws : List Raw
-  pub each : AllByRecursion (IsRaw quote) raws
+pub record IsStringInner (quote : ℕ) (inner : List ℕ) : Type 0 where
+  pub raws : List StringRaw
+  pub each : AllByRecursion (IsStringRaw quote) raws
   pub source : inner ≡ flat_map raw raws
 
 -- ---- escapes
@@ -69,26 +69,26 @@ pub data IsEscape (quote : ℕ) (tail bytes : List ℕ) : Type 0 where
 -- ---- what a string in quotes stands for
 
 -- a byte for itself, or an escape: what stands behind the backslash, and the bytes that it stands for
-pub data Piece : Type 0 where
-  Bare : ℕ → Piece
-  Escape : List ℕ → List ℕ → Piece
+pub data StringPiece : Type 0 where
+  Bare : ℕ → StringPiece
+  Escape : List ℕ → List ℕ → StringPiece
 
-abbrev pub piece_text : Piece → List ℕ
+abbrev pub piece_text : StringPiece → List ℕ
 piece_text (Bare b) = b ∷ []
 piece_text (Escape tail bytes) = 92 ∷ tail
 
-abbrev pub meant : Piece → List ℕ
+abbrev pub meant : StringPiece → List ℕ
 meant (Bare b) = b ∷ []
 meant (Escape tail bytes) = bytes
 
-abbrev pub IsPiece : ℕ → Piece → Type 0
-IsPiece quote (Bare b) = b ≢ 92
-IsPiece quote (Escape tail bytes) = IsEscape quote tail bytes
+abbrev pub IsStringPiece : ℕ → StringPiece → Type 0
+IsStringPiece quote (Bare b) = b ≢ 92
+IsStringPiece quote (Escape tail bytes) = IsEscape quote tail bytes
 
 -- What stands between the quotes is pieces, and these stand for the value.
 pub record HasValue (quote : ℕ) (inner value : List ℕ) : Type 0 where
-  pub pieces : List Piece
-  pub each : AllByRecursion (IsPiece quote) pieces
+  pub pieces : List StringPiece
+  pub each : AllByRecursion (IsStringPiece quote) pieces
   pub source : inner ≡ flat_map piece_text pieces
   pub value_is : value ≡ flat_map meant pieces
 
@@ -97,7 +97,7 @@ pub record HasValue (quote : ℕ) (inner value : List ℕ) : Type 0 where
 pub data IsString (text value : List ℕ) : Type 0 where
   -- in quotes, on one line, with escapes; its value is UTF-8
   in_quotes : (quote : ℕ) (inner : List ℕ) →
-      IsQuote quote → text ≡ quote ∷ (inner ++ quote ∷ []) → IsInner quote inner → HasValue quote inner value → IsUtf8 value →
+      IsQuote quote → text ≡ quote ∷ (inner ++ quote ∷ []) → IsStringInner quote inner → HasValue quote inner value → IsUtf8 value →
       IsString text value
   -- in back quotes, taken as it stands
   in_back_quotes : text ≡ 96 ∷ (value ++ 96 ∷ []) → Each is_no_back_quote value → IsString text value

@@ -8,7 +8,7 @@ use lf_base::names::is_digit;
 
 /// A class of bytes.
 #[derive(Clone, Copy, PartialEq, Eq, Debug)]
-pub enum Class {
+pub enum ByteClass {
     /// All but a line feed and a carriage return.
     NoLineBreak,
     /// All but a back quote.
@@ -27,22 +27,22 @@ pub enum Class {
 
 /// Whether a byte is of a class.
 #[tactic(auto, unfolding(crate::specs::Bytes::is_line_break))]
-fn is_in_class(class: Class, byte: u8) -> bool
+fn is_in_class(class: ByteClass, byte: u8) -> bool
     ensures { result ≡ is_in_class class byte }
 {
     match class {
-        Class::NoLineBreak => byte != b'\n' && byte != b'\r',
-        Class::NoBackQuote => byte != b'`',
-        Class::Word { inside } => is_in_word(inside, byte),
-        Class::Mantissa => is_in_mantissa(byte),
-        Class::Run => is_in_run(byte),
-        Class::Digit => is_digit(byte),
-        Class::Continuation => is_continuation(byte),
+        ByteClass::NoLineBreak => byte != b'\n' && byte != b'\r',
+        ByteClass::NoBackQuote => byte != b'`',
+        ByteClass::Word { inside } => is_in_word(inside, byte),
+        ByteClass::Mantissa => is_in_mantissa(byte),
+        ByteClass::Run => is_in_run(byte),
+        ByteClass::Digit => is_digit(byte),
+        ByteClass::Continuation => is_continuation(byte),
     }
 }
 
 /// How many bytes at the front are of a class, before the first that isn't.
-pub fn prefix_len(bytes: &[u8], class: Class) -> usize
+pub fn prefix_len(bytes: &[u8], class: ByteClass) -> usize
     ensures within { result ≤ length bytes.now }
     ensures value { result ≡ prefix_len (is_in_class class) bytes.now }
 {

@@ -7,7 +7,7 @@ ghost use Rattle.lf_lex.specs.Runs.{begins_run};
 ghost use Rattle.lf_lex.specs.reading.Runs as runs;
 
 use crate::bytes::{is_dot, is_exponent, is_plus_minus};
-use crate::class::{Class, prefix_len};
+use crate::class::{ByteClass, prefix_len};
 use lf_base::bytes::{after, before};
 use lf_base::names::{are_digits, is_digit, is_hexadecimal};
 
@@ -40,11 +40,11 @@ pub fn run_len(rest: &[u8]) -> usize
     ensures value { result ≡ runs.run_len rest.now }
     ensures within { result ≤ length rest.now }
 {
-    let front = prefix_len(rest, Class::Mantissa);
+    let front = prefix_len(rest, ByteClass::Mantissa);
     if begins_signed(after(rest, front)) {
-        front + 2 + prefix_len(after(rest, front + 2), Class::Run)
+        front + 2 + prefix_len(after(rest, front + 2), ByteClass::Run)
     } else {
-        prefix_len(rest, Class::Run)
+        prefix_len(rest, ByteClass::Run)
     }
 }
 
@@ -137,7 +137,7 @@ fn is_exponent_part(rest: &[u8]) -> bool
 fn is_decimal_number(run: &[u8]) -> bool
     ensures { result ≡ runs.is_decimal_number run.now }
 {
-    let front = prefix_len(run, Class::Mantissa);
+    let front = prefix_len(run, ByteClass::Mantissa);
     is_mantissa(before(run, front)) && is_exponent_part(after(run, front))
 }
 
@@ -211,7 +211,7 @@ pub fn duration_order(run: &[u8]) -> Option<bool>
     let mut least = 0;
     let mut rest = run;
     while !rest.is_empty() {
-        let digits = prefix_len(rest, Class::Digit);
+        let digits = prefix_len(rest, ByteClass::Digit);
         if digits == 0 {
             return None;
         }

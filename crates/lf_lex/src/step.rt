@@ -9,7 +9,7 @@ ghost use Rattle.lf_base.specs.Answers.{Answers};
 ghost use Rattle.lf_lex.specs.reading.Steps as steps;
 
 use crate::bytes;
-use crate::class::{Class, prefix_len};
+use crate::class::{ByteClass, prefix_len};
 use crate::run::{self, duration_order, is_number, run_len};
 use crate::sign::sign_at;
 use crate::string::{closing, place_of_byte, value_bytes};
@@ -63,7 +63,7 @@ fn word(
     ensures told { Answers result (steps.word_front inside (drop at text.now)) }
     ensures within { IfOk result (λ x. (0 < x.1) × (at + x.1 ≤ length text.now)) }
 {
-    let len = prefix_len(here(text, at), Class::Word { inside });
+    let len = prefix_len(here(text, at), ByteClass::Word { inside });
     let text = part(alloc, text, at, len)?;
     Ok((Some(TokenKind::Word { text }), len))
 }
@@ -162,7 +162,7 @@ fn raw(
     ensures within { IfOk result (λ x. (0 < x.1) × (at + x.1 ≤ length text.now)) }
 {
     let rest = after(here(text, at), 1);
-    let len = prefix_len(rest, Class::NoBackQuote);
+    let len = prefix_len(rest, ByteClass::NoBackQuote);
     if len < rest.len() {
         let text = part(alloc, text, at + 1, len)?;
         Ok((Some(TokenKind::Str { text }), len + 2))
@@ -183,7 +183,7 @@ fn sign(text: &str, from: &[u32], at: usize) -> Result<(Option<TokenKind>, usize
     match sign_at(rest) {
         Some((sign, len)) => Ok((Some(TokenKind::Sign { sign }), len)),
         None => {
-            let more = prefix_len(after(rest, 1), Class::Continuation);
+            let more = prefix_len(after(rest, 1), ByteClass::Continuation);
             Err(breach(from, Kind::BadByte, at, at + 1 + more))
         }
     }
@@ -209,7 +209,7 @@ pub fn next_token(
     if bytes::is_blank(first) {
         Ok((None, 1))
     } else if first == b'#' {
-        Ok((None, prefix_len(rest, Class::NoLineBreak)))
+        Ok((None, prefix_len(rest, ByteClass::NoLineBreak)))
     } else if bytes::begins_word(inside, first) {
         word(alloc, text, inside, at)
     } else if run::begins_run(rest) {

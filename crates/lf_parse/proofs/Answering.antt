@@ -19,7 +19,7 @@ use Rattle.lf_ast.specs.Inside.{Inside}
 use Rattle.lf_parse.specs.Tokens.{MarkedToken, marked}
 use Rattle.lf_ast.specs.Tree.{Tree, tree}
 use Rattle.lf_parse.specs.Grammar.{Parses, IsViable}
-use Rattle.lf_parse.specs.reading.Machine.{State, step, finish, start, run, accept, at_end, reading_from, reading}
+use Rattle.lf_parse.specs.reading.Machine.{ParserState, step, finish, start, run, accept, at_end, reading_from, reading}
 use Rattle.lf_parse.specs.Depth.{TooDeepAt, IsBounded}
 use Rattle.lf_parse.specs.Answer.{IsExpression, SyntaxAt, place, Refuses, too_deep, syntax}
 use Rattle.lf_parse.specs.reading.Answers.{placed, answer}
@@ -32,22 +32,22 @@ use Rattle.lf_parse.proofs.Prefix.{viable_run, stuck_run}
 -- ---- the machine's answer
 
 -- the machine takes n tokens, and no more
-record Stuck (s : State) (ts : List Token) (n : ℕ) : Type 0 where
+record Stuck (s : ParserState) (ts : List Token) (n : ℕ) : Type 0 where
   within : n ≤ length ts
-  last : State
+  last : ParserState
   runs : run s (map marked (take n ts)) ≡ Some last
   here : n < length ts → run s (map marked (take (suc n) ts)) ≡ None
   none : accept s (map marked ts) ≡ None
 
-abbrev Tells : ℕ → State → List Token → Result Tree ℕ → Type 0
+abbrev Tells : ℕ → ParserState → List Token → Result Tree ℕ → Type 0
 Tells k s ts (Ok e) = accept s (map marked ts) ≡ Some e
 Tells k s ts (Err j) = (n : ℕ) × (j ≡ k + n) × Stuck s ts n
 
-tells_end : (k : ℕ) (s : State) (o : Option Tree) → finish s ≡ o → Tells k s [] (at_end k o)
+tells_end : (k : ℕ) (s : ParserState) (o : Option Tree) → finish s ≡ o → Tells k s [] (at_end k o)
 tells_end k s (Some e) h = h
 tells_end k s None h = (0, omega arith, record { within = omega arith; last = s; runs = refl; here = λ l. absurd (omega arith); none = h })
 
-tells_more : (k : ℕ) (s s' : State) (t : Token) (ts : List Token) (r : Result Tree ℕ) → step s (marked t) ≡ Some s' → Tells (k + 1) s' ts r → Tells k s (t ∷ ts) r
+tells_more : (k : ℕ) (s s' : ParserState) (t : Token) (ts : List Token) (r : Result Tree ℕ) → step s (marked t) ≡ Some s' → Tells (k + 1) s' ts r → Tells k s (t ∷ ts) r
 tells_more k s s' t ts (Ok e) h i = ap (option_and_then (λ x. accept x (map marked ts))) h ∙ i
 tells_more k s s' t ts (Err j) h (n, e, stuck) = (
   suc n,
@@ -61,7 +61,7 @@ tells_more k s s' t ts (Err j) h (n, e, stuck) = (
   },
 )
 
-tells_step : (k : ℕ) (s : State) (t : Token) (ts : List Token) (o : Option State) → step s (marked t) ≡ o → ((s' : State) → Tells (k + 1) s' ts (reading_from (k + 1) s' (map marked ts))) → Tells k s (t ∷ ts) (elim o [ None ↦ Err k | Some s' ↦ reading_from (k + 1) s' (map marked ts) ])
+tells_step : (k : ℕ) (s : ParserState) (t : Token) (ts : List Token) (o : Option ParserState) → step s (marked t) ≡ o → ((s' : ParserState) → Tells (k + 1) s' ts (reading_from (k + 1) s' (map marked ts))) → Tells k s (t ∷ ts) (elim o [ None ↦ Err k | Some s' ↦ reading_from (k + 1) s' (map marked ts) ])
 tells_step k s t ts (Some s') h i = tells_more k s s' t ts (reading_from (k + 1) s' (map marked ts)) h (i s')
 tells_step k s t ts None h i = (
   0,
@@ -75,7 +75,7 @@ tells_step k s t ts None h i = (
   },
 )
 
-tells : (ts : List Token) (k : ℕ) (s : State) → Tells k s ts (reading_from k s (map marked ts))
+tells : (ts : List Token) (k : ℕ) (s : ParserState) → Tells k s ts (reading_from k s (map marked ts))
 tells [] k s = tells_end k s (finish s) refl
 tells (t ∷ ts) k s = tells_step k s t ts (step s (marked t)) refl (λ s'. tells ts (k + 1) s')
 
@@ -234,28 +234,28 @@ place_end (x ∷ ts) end zero h = absurd (omega arith)
 place_end (x ∷ ts) end (suc k) h = place_end ts end k (omega arith)
 
 -- what is read from token k on
-abbrev pub ReadsFrom : List Token → ℕ → State → Type 0
+abbrev pub ReadsFrom : List Token → ℕ → ParserState → Type 0
 ReadsFrom ts k s = reading_from k s (map marked (drop k ts)) ≡ reading (map marked ts)
 
-abbrev stepped : ℕ → List MarkedToken → Option State → Result Tree ℕ
+abbrev stepped : ℕ → List MarkedToken → Option ParserState → Result Tree ℕ
 stepped k ts o = elim o [ None ↦ Err k | Some s' ↦ reading_from (k + 1) s' ts ]
 
-reads_step : (ts : List Token) (k : ℕ) (t : Token) (s : State) (o : Option State) → k < length ts → t ≡ get_or ts k t → ReadsFrom ts k s → o ≡ step s (marked t) → stepped k (map marked (drop (k + 1) ts)) o ≡ reading (map marked ts)
+reads_step : (ts : List Token) (k : ℕ) (t : Token) (s : ParserState) (o : Option ParserState) → k < length ts → t ≡ get_or ts k t → ReadsFrom ts k s → o ≡ step s (marked t) → stepped k (map marked (drop (k + 1) ts)) o ≡ reading (map marked ts)
 reads_step ts k t s o h i r e =
     let here = at_drop_more (λ l. reading_from k s (map marked l)) ts k t h in
     let same = ap (λ x. stepped k (map marked (drop (k + 1) ts)) (step s (marked x))) i in
     ap (stepped k (map marked (drop (k + 1) ts))) e ∙ same ∙ sym here ∙ r
 
-pub answer_stuck : (ts : List Token) (end k : ℕ) (t : Token) (s : State) → k < length ts → t ≡ get_or ts k t → ReadsFrom ts k s → None ≡ step s (marked t) → answer ts end ≡ Err (fault Syntax t.span)
+pub answer_stuck : (ts : List Token) (end k : ℕ) (t : Token) (s : ParserState) → k < length ts → t ≡ get_or ts k t → ReadsFrom ts k s → None ≡ step s (marked t) → answer ts end ≡ Err (fault Syntax t.span)
 answer_stuck ts end k t s h i r e =
     let here = ap (placed ts end) (reads_step ts k t s None h i r e) in
     let same = ap (λ (x : Token). x.span) i ∙ sym (place_at ts end k t h) in
     sym (ap (λ p. Err (fault Syntax p)) same ∙ here)
 
-reads_end : (ts : List Token) (k : ℕ) (s : State) (o : Option Tree) → length ts ≤ k → ReadsFrom ts k s → o ≡ finish s → at_end k o ≡ reading (map marked ts)
+reads_end : (ts : List Token) (k : ℕ) (s : ParserState) (o : Option Tree) → length ts ≤ k → ReadsFrom ts k s → o ≡ finish s → at_end k o ≡ reading (map marked ts)
 reads_end ts k s o h r e = ap (at_end k) e ∙ sym (at_drop_all (λ l. reading_from k s (map marked l)) ts k h) ∙ r
 
-pub answer_end : (ts : List Token) (end k : ℕ) (s : State) → length ts ≤ k → ReadsFrom ts k s → None ≡ finish s → answer ts end ≡ Err (fault Syntax (record { start = end; end = end }))
+pub answer_end : (ts : List Token) (end k : ℕ) (s : ParserState) → length ts ≤ k → ReadsFrom ts k s → None ≡ finish s → answer ts end ≡ Err (fault Syntax (record { start = end; end = end }))
 answer_end ts end k s h r i = sym (ap (λ p. Err (fault Syntax p)) (sym (place_end ts end k h)) ∙ ap (placed ts end) (reads_end ts k s None h r i))
 
 -- ---- the two answers of the parser

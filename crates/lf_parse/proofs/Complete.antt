@@ -14,19 +14,19 @@ use Rattle.lf_ast.specs.declared.expr.Op.{Op}
 use Rattle.lf_ast.specs.declared.expr.Sight.{Sight}
 use Rattle.lf_lex.specs.declared.token.Sign.{Sign as SignOf}
 use Rattle.lf_lex.specs.declared.token.Sign.TheVariants.{OpenParen, CloseParen, OpenBrace, OpenBracket, CloseBracket, Comma, Colon, Plus, Minus, At as AtSign}
-use Rattle.lf_parse.specs.declared.class.Class.TheVariants.{Plain, Edge, Numeric, Aggregation, Grouping, Offset}
-use Rattle.lf_parse.specs.declared.class.Edge.{Edge as EdgeOf}
+use Rattle.lf_parse.specs.declared.class.WordClass.TheVariants.{Plain, Edge, Numeric, Aggregation, Grouping, Offset}
+use Rattle.lf_parse.specs.declared.class.RangeEnd.{RangeEnd}
 use Rattle.lf_parse.specs.declared.class.Clause.{Clause}
 use Rattle.lf_parse.specs.declared.class.Scope.{Scope}
 use Rattle.lf_parse.specs.declared.class.Side.{Side}
 use Rattle.lf_parse.specs.Tokens.{Mark, Word, Metric, Num, Dur, Quoted, Sign, MarkedToken, ◌at◌, op_of}
 use Rattle.lf_ast.specs.Tree.{Tree, Number, Str, Selector, Paren, Unary, Binary, Call, Aggregate, Trees, Nil, span_of}
 use Rattle.lf_parse.specs.Grammar.{to, up_to, behind, name, LabelsAt, one_label, next_label, NamesAt, no_names, names, names_comma, unmatched, NotOpen, ScopedAt, alone, group, group_names, ModifierAt, no_modifier, bool, scoped, bool_scoped, match_of, MatchersAt, one_matcher, next_matcher, BracesAt, no_matchers, matchers, matchers_comma, IsMetric, plain, edge, with_colon, SelectAt, word, word_braces, braces, blank, ranged, stepped, Mod, ModAt, offset, offset_minus, time, time_plus, time_minus, time_edge, HasRoom, with_mod, ModsAt, no_mods, mods, StepAt, no_step, step as step_dur, grouping, level, left_level, right_level, At, number, numeric, string, paren, selector, range, subquery, call, aggregate, aggregate_by, aggregate_args_by, plus, minus, binary, SomeAt, one, also, ArgsAt, no_args, args, Derives}
-use Rattle.lf_parse.specs.reading.Machine.{Step, More, Done, DoneBefore, Reject, Names, Opening, NextName, AfterName, names_step, Braces, NextMatcher, AfterLabel, AfterSign, AfterMatcher, compared, Front, front, Stage, Begin, AfterBool, InLabels, AfterLabels, AfterGroup, InInclude, modifier, group_modifier, in_labels, in_include, AfterOffset, AfterAt, Callee, OfCall, OfAggregate, OfGrouped, ParserFrame, LeftOf, Signed, InParen, InArgs, Subject, OfSelector, OfSubquery, Operand, Whole, Bare, Selected, Aggregated, Sighted, operand_tree, operand_end, ExpectOperand, First, ExpectOperator, Modifying, InBraces, InMod, AfterBracket, AfterColon, AfterAggregation, InGrouping, AfterGrouping, InGroupingBehind, State, Held, state, held, reduce, applied, close, comma, ended, operator, joined, after, room, expect_operator, modified, in_braces, in_grouping, in_grouping_behind, step, finish, start, accept}
+use Rattle.lf_parse.specs.reading.Machine.{ParserStep, More, Done, DoneBefore, Reject, Names, Opening, NextName, AfterName, names_step, Braces, NextMatcher, AfterLabel, AfterSign, AfterMatcher, compared, Front, front, Stage, Begin, AfterBool, InLabels, AfterLabels, AfterGroup, InInclude, modifier, group_modifier, in_labels, in_include, AfterOffset, AfterAt, Callee, OfCall, OfAggregate, OfGrouped, ParserFrame, LeftOf, Signed, InParen, InArgs, Subject, OfSelector, OfSubquery, Operand, Whole, Bare, Selected, Aggregated, Sighted, operand_tree, operand_end, ExpectOperand, First, ExpectOperator, Modifying, InBraces, InMod, AfterBracket, AfterColon, AfterAggregation, InGrouping, AfterGrouping, InGroupingBehind, ParserState, Held, state, held, reduce, applied, close, comma, ended, operator, joined, after, room, expect_operator, modified, in_braces, in_grouping, in_grouping_behind, step, finish, start, accept}
 use Rattle.lf_parse.proofs.Levels.{level-le, level-le_right, level-le_left, right_tighter, sign_tighter}
 
 -- going on from where a step leads
-pub accept_step : (s s' : State) (t : MarkedToken) (ts : List MarkedToken) → step s t ≡ Some s' → accept s (t ∷ ts) ≡ accept s' ts
+pub accept_step : (s s' : ParserState) (t : MarkedToken) (ts : List MarkedToken) → step s t ≡ Some s' → accept s (t ∷ ts) ≡ accept s' ts
 accept_step s s' t ts h = ap (option_and_then (λ x. accept x ts)) h
 
 -- ---- lists of labels, wherever they stand
@@ -34,12 +34,12 @@ accept_step s s' t ts h = ap (option_and_then (λ x. accept x ts)) h
 abbrev pub Listed : Type 0
 Listed = List NameOf × Span
 
-abbrev pub told : (Names → State) → (List NameOf → Span → State) → Step Names Listed → Option State
+abbrev pub told : (Names → ParserState) → (List NameOf → Span → ParserState) → ParserStep Names Listed → Option ParserState
 told inside done (More n) = Some (inside n)
 told inside done (Done (xs, c)) = Some (done xs c)
 told inside done _ = None
 
-module _ (inside : Names → State) (done : List NameOf → Span → State) (law : (n : Names) (t : MarkedToken) → step (inside n) t ≡ told inside done (names_step n t)) where
+module _ (inside : Names → ParserState) (done : List NameOf → Span → ParserState) (law : (n : Names) (t : MarkedToken) → step (inside n) t ≡ told inside done (names_step n t)) where
   complete_labels : {xs : List NameOf} {ts rest : List MarkedToken} → LabelsAt xs ts rest → accept (inside (NextName [])) ts ≡ accept (inside (AfterName xs)) rest
   complete_labels (one_label {c = c} {w = w} {p = p} {rest = rest}) = accept_step (inside (NextName [])) (inside (AfterName (name w p ∷ []))) (Word c w at p) rest (law (NextName []) (Word c w at p))
   complete_labels (next_label {c = c} {w = w} {xs = xs} {p = p} {q = q} {rest = rest} l) =
@@ -68,7 +68,7 @@ data Starts : List MarkedToken → Type 0 where
   at_numeric : {w : List ℕ} {p : Span} {ts : List MarkedToken} → Starts ((Word Numeric w at p) ∷ ts)
   at_string : {x : List ℕ} {p : Span} {ts : List MarkedToken} → Starts ((Quoted x at p) ∷ ts)
   at_plain : {w : List ℕ} {p : Span} {ts : List MarkedToken} → Starts ((Word Plain w at p) ∷ ts)
-  at_edge : {e : EdgeOf} {w : List ℕ} {p : Span} {ts : List MarkedToken} → Starts ((Word (Edge e) w at p) ∷ ts)
+  at_edge : {e : RangeEnd} {w : List ℕ} {p : Span} {ts : List MarkedToken} → Starts ((Word (Edge e) w at p) ∷ ts)
   at_metric : {w : List ℕ} {p : Span} {ts : List MarkedToken} → Starts ((Metric w at p) ∷ ts)
   at_aggregation : {a : Agg} {w : List ℕ} {p : Span} {ts : List MarkedToken} → Starts ((Word (Aggregation a) w at p) ∷ ts)
   at_brace : {p : Span} {ts : List MarkedToken} → Starts ((Sign OpenBrace at p) ∷ ts)
@@ -105,19 +105,19 @@ starts (binary h i p m q) = starts p
 -- ---- the modifier of an operator
 
 module _ (fs : List ParserFrame) (o : Op) (p : Span) (a : Tree) where
-  abbrev pub at_stage : Stage → State
+  abbrev pub at_stage : Stage → ParserState
   at_stage st = state fs (Modifying o p a st)
 
-  abbrev pub at_operand : MatchingOf → State
+  abbrev pub at_operand : MatchingOf → ParserState
   at_operand m = state (LeftOf o p m a ∷ fs) ExpectOperand
 
-  pub labels_told : (f : Front) (t : MarkedToken) (r : Step Names Listed) → modified fs o p a t (in_labels f r) ≡ told (λ n. at_stage (InLabels f n)) (λ xs c. at_stage (AfterLabels f xs c)) r
+  pub labels_told : (f : Front) (t : MarkedToken) (r : ParserStep Names Listed) → modified fs o p a t (in_labels f r) ≡ told (λ n. at_stage (InLabels f n)) (λ xs c. at_stage (AfterLabels f xs c)) r
   labels_told f t (More n) = refl
   labels_told f t (Done (xs, c)) = refl
   labels_told f t (DoneBefore v) = refl
   labels_told f t Reject = refl
 
-  pub include_told : (f : Front) (xs : List NameOf) (s : Side) (t : MarkedToken) (r : Step Names Listed) → modified fs o p a t (in_include f xs s r) ≡ told (λ n. at_stage (InInclude f xs s n)) (λ ys c. at_operand (group_modifier f xs s ys c)) r
+  pub include_told : (f : Front) (xs : List NameOf) (s : Side) (t : MarkedToken) (r : ParserStep Names Listed) → modified fs o p a t (in_include f xs s r) ≡ told (λ n. at_stage (InInclude f xs s n)) (λ ys c. at_operand (group_modifier f xs s ys c)) r
   include_told f xs s t (More n) = refl
   include_told f xs s t (Done (ys, c)) = refl
   include_told f xs s t (DoneBefore v) = refl
@@ -200,7 +200,7 @@ module _ (fs : List ParserFrame) (o : Op) (p : Span) (a : Tree) where
 -- ---- selectors
 
 module _ (fs : List ParserFrame) (nm : Option (List ℕ)) (p : Span) where
-  abbrev at_braces : Braces → State
+  abbrev at_braces : Braces → ParserState
   at_braces b = state fs (InBraces nm p b)
 
   complete_sign : (s : SignOf) {o : MatchOp} (xs : List Matcher) (n : NameOf) (q : Span) (ts : List MarkedToken) → match_of s ≡ Some o → accept (at_braces (AfterLabel xs n)) ((Sign s at q) ∷ ts) ≡ accept (at_braces (AfterSign xs n o)) ts
@@ -307,7 +307,7 @@ select_range (braces b) fs d o q c ts = refl
 -- ---- expressions
 
 -- where the machine is once it has taken an expression on these frames
-abbrev spine : {l n : ℕ} {e : Tree} {ts rest : List MarkedToken} → At l e n ts rest → List ParserFrame → State
+abbrev spine : {l n : ℕ} {e : Tree} {ts rest : List MarkedToken} → At l e n ts rest → List ParserFrame → ParserState
 spine (number {x = x} {p = p}) fs = state fs (ExpectOperator (Whole (Number x p) p.end))
 spine (numeric {w = w} {p = p}) fs = state fs (ExpectOperator (Whole (Number w p) p.end))
 spine (string {x = x} {p = p}) fs = state fs (ExpectOperator (Whole (Str x p) p.end))
@@ -330,7 +330,7 @@ pub reduce_sign : (l n : ℕ) (neg : Bool) (p : Span) (fs : List ParserFrame) (e
 reduce_sign l n neg p fs e h = rw (le-leb l 6 h) refl
 
 -- what looks at an operand, after the operators of level l, sees an expression of that level whole
-module _ (A : Type 0) (look : State → A) (f : Held → A) (l : ℕ) (law : (fs : List ParserFrame) (x : Operand) → look (state fs (ExpectOperator x)) ≡ f (reduce l (operand_end x) fs (operand_tree x))) where
+module _ (A : Type 0) (look : ParserState → A) (f : Held → A) (l : ℕ) (law : (fs : List ParserFrame) (x : Operand) → look (state fs (ExpectOperator x)) ≡ f (reduce l (operand_end x) fs (operand_tree x))) where
   look_operand : (fs : List ParserFrame) (x : Operand) (e : Tree) (n : ℕ) → operand_tree x ≡ e → operand_end x ≡ n → look (state fs (ExpectOperator x)) ≡ f (reduce l n fs e)
   look_operand fs x e n t k = law fs x ∙ ap (λ y. f (reduce l (operand_end x) fs y)) t ∙ ap (λ y. f (reduce l y fs e)) k
 
@@ -404,16 +404,16 @@ low_sign neg q fs p h n x = let k : 6 < left_level p = sign_tighter p h in grind
 
 step_operator : {ts rest : List MarkedToken} {n : ℕ} (o : Op) (m : Mark) (i : op_of m ≡ Some o) (p : Span) (a : Tree) (fs : List ParserFrame) (d : At (left_level o) a n ts rest) → reduce (left_level o) n fs a ≡ held fs a → step (spine d fs) (m at p) ≡ Some (state fs (Modifying o p a Begin))
 step_operator o m i p a fs d h =
-    look_spine (Option State) (λ s. step s (m at p)) (operator o p) (left_level o) (operator_law m i p) d fs (omega arith) ∙ ap (operator o p) h
+    look_spine (Option ParserState) (λ s. step s (m at p)) (operator o p) (left_level o) (operator_law m i p) d fs (omega arith) ∙ ap (operator o p) h
 
 step_close : {e : Tree} {n : ℕ} {ts rest : List MarkedToken} (p : Span) (fs : List ParserFrame) (d : At 1 e n ts rest) → step (spine d fs) (Sign CloseParen at p) ≡ close p (reduce 1 n fs e).frames (reduce 1 n fs e).tree
-step_close p fs d = look_spine (Option State) (λ s. step s (Sign CloseParen at p)) (λ h. close p h.frames h.tree) 1 (close_law p) d fs (omega arith)
+step_close p fs d = look_spine (Option ParserState) (λ s. step s (Sign CloseParen at p)) (λ h. close p h.frames h.tree) 1 (close_law p) d fs (omega arith)
 
 step_comma : {e : Tree} {n : ℕ} {ts rest : List MarkedToken} (p : Span) (fs : List ParserFrame) (d : At 1 e n ts rest) → step (spine d fs) (Sign Comma at p) ≡ comma (reduce 1 n fs e).frames (reduce 1 n fs e).tree
-step_comma p fs d = look_spine (Option State) (λ s. step s (Sign Comma at p)) (λ h. comma h.frames h.tree) 1 (comma_law p) d fs (omega arith)
+step_comma p fs d = look_spine (Option ParserState) (λ s. step s (Sign Comma at p)) (λ h. comma h.frames h.tree) 1 (comma_law p) d fs (omega arith)
 
 -- an operand
-record Alone (e : Tree) (s : State) (fs : List ParserFrame) : Type 0 where
+record Alone (e : Tree) (s : ParserState) (fs : List ParserFrame) : Type 0 where
   operand : Operand
   tree : operand_tree operand ≡ e
   here : s ≡ state fs (ExpectOperator operand)
@@ -447,7 +447,7 @@ complete_step step_dur fs e d q = refl
 
 -- ---- arguments
 
-abbrev args_spine : {xs : Trees} {ts rest : List MarkedToken} → SomeAt xs ts rest → Callee → List ParserFrame → State
+abbrev args_spine : {xs : Trees} {ts rest : List MarkedToken} → SomeAt xs ts rest → Callee → List ParserFrame → ParserState
 args_spine (one d) h fs = spine d (InArgs h Nil ∷ fs)
 args_spine (also {xs = xs} s d) h fs = spine d (InArgs h xs ∷ fs)
 
@@ -480,7 +480,7 @@ starts_some (also s d) = starts_some s
 -- ---- the labels of a grouping
 
 module _ (fs : List ParserFrame) (a : Agg) (p : Span) (k : Clause) where
-  pub grouping_told : (r : Step Names Listed) → in_grouping fs a p k r ≡ told (λ n. state fs (InGrouping a p k n)) (λ xs c. state fs (AfterGrouping a p (grouping k xs))) r
+  pub grouping_told : (r : ParserStep Names Listed) → in_grouping fs a p k r ≡ told (λ n. state fs (InGrouping a p k n)) (λ xs c. state fs (AfterGrouping a p (grouping k xs))) r
   grouping_told (More n) = refl
   grouping_told (Done (xs, c)) = refl
   grouping_told (DoneBefore v) = refl
@@ -489,7 +489,7 @@ module _ (fs : List ParserFrame) (a : Agg) (p : Span) (k : Clause) where
   complete_grouping : {ys : List NameOf} {c : Span} {ts rest : List MarkedToken} → NamesAt ys c ts rest → accept (state fs (InGrouping a p k Opening)) ts ≡ accept (state fs (AfterGrouping a p (grouping k ys))) rest
   complete_grouping d = complete_names (λ n. state fs (InGrouping a p k n)) (λ xs c. state fs (AfterGrouping a p (grouping k xs))) (λ n t. grouping_told (names_step n t)) d
 
-  pub behind_told : (xs : Trees) (r : Step Names Listed) → in_grouping_behind fs a p xs k r ≡ told (λ n. state fs (InGroupingBehind a p xs k n)) (λ ys c. state fs (ExpectOperator (Whole (Aggregate a (grouping k ys) xs p) c.end))) r
+  pub behind_told : (xs : Trees) (r : ParserStep Names Listed) → in_grouping_behind fs a p xs k r ≡ told (λ n. state fs (InGroupingBehind a p xs k n)) (λ ys c. state fs (ExpectOperator (Whole (Aggregate a (grouping k ys) xs p) c.end))) r
   behind_told xs (More n) = refl
   behind_told xs (Done (ys, c)) = refl
   behind_told xs (DoneBefore v) = refl
@@ -532,7 +532,7 @@ mutual
   complete_some (also {xs = xs} {q = q} {us = us} s d) h fs =
       complete_some s h fs ∙ accept_step (args_spine s h fs) (state (InArgs h xs ∷ fs) ExpectOperand) (Sign Comma at q) us (step_comma_args h q fs s) ∙ complete_at d (InArgs h xs ∷ fs) (λ o i n x. refl)
 
-  complete_args : {xs : Trees} {c : Span} {ts rest : List MarkedToken} (a : ArgsAt xs c ts rest) (s : State) (fs : List ParserFrame) (h : Callee) → ((o : Span) → step s (Sign OpenParen at o) ≡ Some (state fs (First h))) → accept s ts ≡ accept (state fs (ExpectOperator (applied h xs c))) rest
+  complete_args : {xs : Trees} {c : Span} {ts rest : List MarkedToken} (a : ArgsAt xs c ts rest) (s : ParserState) (fs : List ParserFrame) (h : Callee) → ((o : Span) → step s (Sign OpenParen at o) ≡ Some (state fs (First h))) → accept s ts ≡ accept (state fs (ExpectOperator (applied h xs c))) rest
   complete_args (no_args {o = o} {c = c} {rest = rest}) s fs h f = accept_step s (state fs (First h)) (Sign OpenParen at o) ((Sign CloseParen at c) ∷ rest) (f o)
   complete_args (args {xs = xs} {o = o} {c = c} {ts = ts} {rest = rest} d) s fs h f =
       accept_step s (state fs (First h)) (Sign OpenParen at o) ts (f o)

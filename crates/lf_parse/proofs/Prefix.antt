@@ -16,12 +16,12 @@ use Rattle.lf_lex.specs.declared.token.Sign.{Sign as SignOf}
 use Rattle.lf_lex.specs.declared.token.Sign.TheVariants.{OpenParen, CloseParen, CloseBrace, CloseBracket, Colon, Is}
 use Rattle.lf_lex.specs.declared.token.Token.{Token}
 use Rattle.lf_lex.specs.declared.token.TokenKind.TheVariants as kinds
-use Rattle.lf_parse.specs.declared.class.Edge.{Edge as EdgeOf}
+use Rattle.lf_parse.specs.declared.class.RangeEnd.{RangeEnd}
 use Rattle.lf_parse.specs.declared.class.Clause.{Clause}
 use Rattle.lf_parse.specs.Tokens.{Sign, MarkedToken, ◌at◌, marked}
 use Rattle.lf_ast.specs.Tree.{Tree, Number, Paren, Unary, Binary, Aggregate, Trees, Nil, span_of, with_last}
 use Rattle.lf_parse.specs.Grammar.{to, up_to, behind, unmatched, matcher, stepped, edge_text, OffsetBy, AtTime, with_mod, grouping, IsViable}
-use Rattle.lf_parse.specs.reading.Machine.{Names, Opening, NextName, AfterName, names_step, Braces, NextMatcher, AfterLabel, AfterSign, AfterMatcher, Stage, Begin, AfterBool, InLabels, AfterLabels, AfterGroup, InInclude, modifier, group_modifier, ModStage, AfterOffset, AfterOffsetMinus, AfterAt, AfterAtSign, AfterEdge, InEdge, Callee, OfAggregate, OfGrouped, ParserFrame, LeftOf, Signed, InParen, InArgs, Subject, OfSubquery, Operand, Whole, Selected, Sighted, operand_tree, operand_end, ParserMode, ExpectOperand, First, ExpectOperator, Modifying, InBraces, InMod, AfterBracket, AfterRange, AfterColon, AfterStep, AfterAggregation, InGrouping, AfterGrouping, InGroupingBehind, State, Held, state, reduce, applied, close, ended, run, step, start, accept}
+use Rattle.lf_parse.specs.reading.Machine.{Names, Opening, NextName, AfterName, names_step, Braces, NextMatcher, AfterLabel, AfterSign, AfterMatcher, Stage, Begin, AfterBool, InLabels, AfterLabels, AfterGroup, InInclude, modifier, group_modifier, ModStage, AfterOffset, AfterOffsetMinus, AfterAt, AfterAtSign, AfterEdge, InEdge, Callee, OfAggregate, OfGrouped, ParserFrame, LeftOf, Signed, InParen, InArgs, Subject, OfSubquery, Operand, Whole, Selected, Sighted, operand_tree, operand_end, ParserMode, ExpectOperand, First, ExpectOperator, Modifying, InBraces, InMod, AfterBracket, AfterRange, AfterColon, AfterStep, AfterAggregation, InGrouping, AfterGrouping, InGroupingBehind, ParserState, Held, state, reduce, applied, close, ended, run, step, start, accept}
 use Rattle.lf_parse.proofs.Levels.{level-ge}
 use Rattle.lf_parse.proofs.Complete.{complete, accept_step, reduce_left, reduce_sign, close_law, told, labels_told, include_told, grouping_told, behind_told}
 use Rattle.lf_parse.proofs.Sound.{sound}
@@ -59,10 +59,10 @@ closers (InParen p ∷ fs) = a_sign CloseParen ∷ closers fs
 closers (InArgs h xs ∷ fs) = a_sign CloseParen ∷ closers fs
 
 -- some tokens lead from the state to the end
-abbrev Done : State → Type 0
+abbrev Done : ParserState → Type 0
 Done s = (more : List Token) × (e : Tree) × (accept s (map marked more) ≡ Some e)
 
-ends_step : (s s' : State) (t : Token) → step s (marked t) ≡ Some s' → Done s' → Done s
+ends_step : (s s' : ParserState) (t : Token) → step s (marked t) ≡ Some s' → Done s' → Done s
 ends_step s s' t h (more, e, g) = (t ∷ more, e, accept_step s s' (marked t) (map marked more) h ∙ g)
 
 -- what `)` and the end do once the operators are trees
@@ -95,7 +95,7 @@ ends_first fs h = ends_step (state fs (First h)) (state fs (ExpectOperator (appl
 
 -- ---- lists of labels
 
-module _ (inside : Names → State) (done : List NameOf → Span → State) (law : (n : Names) (t : MarkedToken) → step (inside n) t ≡ told inside done (names_step n t)) (after : (xs : List NameOf) (c : Span) → Done (done xs c)) where
+module _ (inside : Names → ParserState) (done : List NameOf → Span → ParserState) (law : (n : Names) (t : MarkedToken) → step (inside n) t ≡ told inside done (names_step n t)) (after : (xs : List NameOf) (c : Span) → Done (done xs c)) where
   ends_next_name : (xs : List NameOf) → Done (inside (NextName xs))
   ends_next_name xs = ends_step (inside (NextName xs)) (done xs z) (a_sign CloseParen) (law (NextName xs) (Sign CloseParen at z)) (after xs z)
 
@@ -107,7 +107,7 @@ module _ (inside : Names → State) (done : List NameOf → Span → State) (law
 -- ---- the modifier of an operator
 
 module _ (fs : List ParserFrame) (o : Op) (p : Span) (a : Tree) where
-  abbrev here : Stage → State
+  abbrev here : Stage → ParserState
   here st = state fs (Modifying o p a st)
 
   ends_operand : (m : MatchingOf) → Done (state (LeftOf o p m a ∷ fs) ExpectOperand)
@@ -130,7 +130,7 @@ module _ (fs : List ParserFrame) (o : Op) (p : Span) (a : Tree) where
 -- ---- selectors and what comes behind them
 
 module _ (fs : List ParserFrame) (nm : Option (List ℕ)) (p : Span) where
-  abbrev braces : Braces → State
+  abbrev braces : Braces → ParserState
   braces b = state fs (InBraces nm p b)
 
   ends_selected : (xs : List Matcher) → Done (state fs (ExpectOperator (Selected nm xs (to p z))))
@@ -149,10 +149,10 @@ module _ (fs : List ParserFrame) (nm : Option (List ℕ)) (p : Span) where
   ends_braces (AfterMatcher xs) = ends_after_matcher xs
 
 module _ (fs : List ParserFrame) (x : Subject) (s : Sight) (p : Span) where
-  abbrev mod_state : ModStage → State
+  abbrev mod_state : ModStage → ParserState
   mod_state stage = state fs (InMod x s p stage)
 
-  ends_in_edge : (e : EdgeOf) → Done (mod_state (InEdge e))
+  ends_in_edge : (e : RangeEnd) → Done (mod_state (InEdge e))
   ends_in_edge e = let y = Sighted x (with_mod s (AtTime (edge_text e))) p 0 in ends_step (mod_state (InEdge e)) (state fs (ExpectOperator y)) (a_sign CloseParen) refl (ends_have fs y)
 
   ends_mod : (stage : ModStage) → Done (mod_state stage)
@@ -205,12 +205,12 @@ through f g h e None = refl
 through f g h e (Some a) = e a
 
 -- a run goes on from where a run ends
-accept_append : (xs ys : List MarkedToken) (s : State) → accept s (xs ++ ys) ≡ option_and_then (λ s'. accept s' ys) (run s xs)
+accept_append : (xs ys : List MarkedToken) (s : ParserState) → accept s (xs ++ ys) ≡ option_and_then (λ s'. accept s' ys) (run s xs)
 accept_append [] ys s = refl
 accept_append (x ∷ xs) ys s = through (λ s'. accept s' (xs ++ ys)) (λ s'. run s' xs) (λ s'. accept s' ys) (λ s'. accept_append xs ys s') (step s x)
 
 -- tokens that the machine takes are viable
-pub viable_run : (ts : List Token) (s : State) → run start (map marked ts) ≡ Some s → IsViable ts
+pub viable_run : (ts : List Token) (s : ParserState) → run start (map marked ts) ≡ Some s → IsViable ts
 viable_run ts s h =
     let y = ends s.frames s.mode in
     let taken : accept start (map marked (ts ++ y.0)) ≡ Some y.1 = ap (accept start) (map-append marked ts y.0) ∙ accept_append (map marked ts) (map marked y.0) start ∙ ap (option_and_then (λ s'. accept s' (map marked y.0))) h ∙ y.2 in

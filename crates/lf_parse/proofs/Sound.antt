@@ -14,16 +14,16 @@ use Rattle.lf_ast.specs.declared.expr.Op.{Op}
 use Rattle.lf_ast.specs.declared.expr.Sight.{Sight}
 use Rattle.lf_lex.specs.declared.token.Sign.{Sign as SignOf}
 use Rattle.lf_lex.specs.declared.token.Sign.TheVariants.{OpenParen, CloseParen, OpenBrace, CloseBrace, OpenBracket, CloseBracket, Comma, Colon, Plus, Minus, At as AtSign}
-use Rattle.lf_parse.specs.declared.class.Class.{Class}
-use Rattle.lf_parse.specs.declared.class.Class.TheVariants.{Plain, Edge, Numeric, Aggregation, Grouping, Matching, Group, Offset, Bool as BoolWord}
-use Rattle.lf_parse.specs.declared.class.Edge.{Edge as EdgeOf}
+use Rattle.lf_parse.specs.declared.class.WordClass.{WordClass}
+use Rattle.lf_parse.specs.declared.class.WordClass.TheVariants.{Plain, Edge, Numeric, Aggregation, Grouping, Matching, Group, Offset, Bool as BoolWord}
+use Rattle.lf_parse.specs.declared.class.RangeEnd.{RangeEnd}
 use Rattle.lf_parse.specs.declared.class.Clause.{Clause}
 use Rattle.lf_parse.specs.declared.class.Scope.{Scope}
 use Rattle.lf_parse.specs.declared.class.Side.{Side}
 use Rattle.lf_parse.specs.Tokens.{Mark, Word, Metric, Num, Dur, Quoted, Sign, MarkedToken, ◌at◌, op_of}
 use Rattle.lf_ast.specs.Tree.{Tree, Selector, Unary, Binary, Aggregate, Trees, Nil, with_last}
 use Rattle.lf_parse.specs.Grammar.{to, up_to, name, LabelsAt, one_label, next_label, NamesAt, no_names, names, names_comma, ScopedAt, alone, group, group_names, ModifierAt, no_modifier, bool, scoped, bool_scoped, match_of, MatchersAt, one_matcher, next_matcher, BracesAt, no_matchers, matchers, matchers_comma, IsMetric, plain, edge, with_colon, SelectAt, word, word_braces, braces, blank, Mod, AtTime, ModAt, offset, offset_minus, time, time_plus, time_minus, time_edge, HasRoom, with_mod, ModsAt, no_mods, mods, no_step, step as step_dur, grouping, level, left_level, right_level, At, number, numeric, string, paren, selector, range, subquery, call, aggregate, aggregate_by, aggregate_args_by, plus, minus, binary, SomeAt, one, also, ArgsAt, no_args, args, Derives}
-use Rattle.lf_parse.specs.reading.Machine.{Step, More, Done, DoneBefore, Reject, Names, Opening, NextName, AfterName, names_step, Braces, NextMatcher, AfterLabel, AfterSign, AfterMatcher, compared, braces_step, Front, front, Stage, Begin, AfterBool, InLabels, AfterLabels, AfterGroup, InInclude, in_labels, in_include, stage_step, ModStage, AfterOffset, AfterOffsetMinus, AfterAt, AfterAtSign, AfterEdge, InEdge, mod_step, Callee, OfCall, OfAggregate, OfGrouped, ParserFrame, LeftOf, Signed, InParen, InArgs, Subject, OfSelector, Operand, Whole, Bare, Selected, Aggregated, Sighted, subject_tree, operand_tree, operand_end, ParserMode, ExpectOperand, First, ExpectOperator, Modifying, InBraces, InMod, AfterBracket, AfterRange, AfterColon, AfterStep, AfterAggregation, InGrouping, AfterGrouping, InGroupingBehind, State, Held, state, reduce, applied, close, comma, ended, operator, joined, after, expect_operand, room, expect_operator, first, modified, in_braces, in_mod, range_of, in_grouping, in_grouping_behind, step_in, finish_in, start, accept}
+use Rattle.lf_parse.specs.reading.Machine.{ParserStep, More, Done, DoneBefore, Reject, Names, Opening, NextName, AfterName, names_step, Braces, NextMatcher, AfterLabel, AfterSign, AfterMatcher, compared, braces_step, Front, front, Stage, Begin, AfterBool, InLabels, AfterLabels, AfterGroup, InInclude, in_labels, in_include, stage_step, ModStage, AfterOffset, AfterOffsetMinus, AfterAt, AfterAtSign, AfterEdge, InEdge, mod_step, Callee, OfCall, OfAggregate, OfGrouped, ParserFrame, LeftOf, Signed, InParen, InArgs, Subject, OfSelector, Operand, Whole, Bare, Selected, Aggregated, Sighted, subject_tree, operand_tree, operand_end, ParserMode, ExpectOperand, First, ExpectOperator, Modifying, InBraces, InMod, AfterBracket, AfterRange, AfterColon, AfterStep, AfterAggregation, InGrouping, AfterGrouping, InGroupingBehind, ParserState, Held, state, reduce, applied, close, comma, ended, operator, joined, after, expect_operand, room, expect_operator, first, modified, in_braces, in_mod, range_of, in_grouping, in_grouping_behind, step_in, finish_in, start, accept}
 use Rattle.lf_parse.proofs.Levels.{level-ge, left-le, right-le, left_cases, sign_under}
 
 abbrev Listed : Type 0
@@ -38,12 +38,12 @@ data NamesIn : Names → List MarkedToken → List MarkedToken → Type 0 where
   in_comma : {xs : List NameOf} {p q : Span} {ts rest : List MarkedToken} → LabelsAt xs ts ((Sign Comma at q) ∷ rest) → NamesIn (NextName xs) ((Sign OpenParen at p) ∷ ts) rest
   in_name : {xs : List NameOf} {p : Span} {ts rest : List MarkedToken} → LabelsAt xs ts rest → NamesIn (AfterName xs) ((Sign OpenParen at p) ∷ ts) rest
 
-abbrev NamesTold : Step Names Listed → List MarkedToken → List MarkedToken → Type 0
+abbrev NamesTold : ParserStep Names Listed → List MarkedToken → List MarkedToken → Type 0
 NamesTold (More n) ts rest = NamesIn n ts rest
 NamesTold (Done (xs, c)) ts rest = NamesAt xs c ts rest
 NamesTold _ ts rest = Unit {0}
 
-next_name_sound : {xs : List NameOf} {c : Class} {w : List ℕ} {p : Span} {ts rest : List MarkedToken} → NamesIn (NextName xs) ts ((Word c w at p) ∷ rest) → NamesIn (AfterName (xs ++ name w p ∷ [])) ts rest
+next_name_sound : {xs : List NameOf} {c : WordClass} {w : List ℕ} {p : Span} {ts rest : List MarkedToken} → NamesIn (NextName xs) ts ((Word c w at p) ∷ rest) → NamesIn (AfterName (xs ++ name w p ∷ [])) ts rest
 next_name_sound opened = in_name one_label
 next_name_sound (in_comma l) = in_name (next_label l)
 
@@ -69,11 +69,11 @@ data NextIn : List Matcher → List MarkedToken → List MarkedToken → Type 0 
 
 data BracesIn : Braces → List MarkedToken → List MarkedToken → Type 0 where
   in_next : {xs : List Matcher} {ts rest : List MarkedToken} → NextIn xs ts rest → BracesIn (NextMatcher xs) ts rest
-  in_label : {xs : List Matcher} {c : Class} {w : List ℕ} {p : Span} {ts rest : List MarkedToken} → NextIn xs ts ((Word c w at p) ∷ rest) → BracesIn (AfterLabel xs (name w p)) ts rest
-  in_sign : {xs : List Matcher} {c : Class} {w : List ℕ} {s : SignOf} {o : MatchOp} {p q : Span} {ts rest : List MarkedToken} → match_of s ≡ Some o → NextIn xs ts ((Word c w at p) ∷ (Sign s at q) ∷ rest) → BracesIn (AfterSign xs (name w p) o) ts rest
+  in_label : {xs : List Matcher} {c : WordClass} {w : List ℕ} {p : Span} {ts rest : List MarkedToken} → NextIn xs ts ((Word c w at p) ∷ rest) → BracesIn (AfterLabel xs (name w p)) ts rest
+  in_sign : {xs : List Matcher} {c : WordClass} {w : List ℕ} {s : SignOf} {o : MatchOp} {p q : Span} {ts rest : List MarkedToken} → match_of s ≡ Some o → NextIn xs ts ((Word c w at p) ∷ (Sign s at q) ∷ rest) → BracesIn (AfterSign xs (name w p) o) ts rest
   in_matcher : {xs : List Matcher} {ts rest : List MarkedToken} → MatchersAt xs ts rest → BracesIn (AfterMatcher xs) ts rest
 
-abbrev BracesTold : Step Braces (List Matcher × Span) → List MarkedToken → List MarkedToken → Type 0
+abbrev BracesTold : ParserStep Braces (List Matcher × Span) → List MarkedToken → List MarkedToken → Type 0
 BracesTold (More b) ts rest = BracesIn b ts rest
 BracesTold (Done (xs, c)) ts rest = BracesAt xs c ts rest
 BracesTold _ ts rest = Unit {0}
@@ -86,7 +86,7 @@ close_brace_sound : {xs : List Matcher} {p : Span} {ts rest : List MarkedToken} 
 close_brace_sound begun = no_matchers
 close_brace_sound (behind_comma l) = matchers_comma l
 
-value_sound : {xs : List Matcher} {c : Class} {w v : List ℕ} {s : SignOf} {o : MatchOp} {p q r : Span} {ts rest : List MarkedToken} → match_of s ≡ Some o → NextIn xs ts ((Word c w at p) ∷ (Sign s at q) ∷ (Quoted v at r) ∷ rest) → BracesTold (braces_step (AfterSign xs (name w p) o) (Quoted v at r)) ts rest
+value_sound : {xs : List Matcher} {c : WordClass} {w v : List ℕ} {s : SignOf} {o : MatchOp} {p q r : Span} {ts rest : List MarkedToken} → match_of s ≡ Some o → NextIn xs ts ((Word c w at p) ∷ (Sign s at q) ∷ (Quoted v at r) ∷ rest) → BracesTold (braces_step (AfterSign xs (name w p) o) (Quoted v at r)) ts rest
 value_sound h begun = in_matcher (one_matcher h)
 value_sound h (behind_comma l) = in_matcher (next_matcher h l)
 
@@ -120,19 +120,19 @@ data StageIn : Stage → List MarkedToken → List MarkedToken → Type 0 where
   after_group : {f : Front} {xs : List NameOf} {c : Span} {s : Side} {w : List ℕ} {q : Span} {ts us rest : List MarkedToken} → FrontIn f ts us → NamesAt xs c us ((Word (Group s) w at q) ∷ rest) → StageIn (AfterGroup f xs s q) ts rest
   include_in : {f : Front} {xs : List NameOf} {c : Span} {s : Side} {n : Names} {w : List ℕ} {q : Span} {ts us vs rest : List MarkedToken} → FrontIn f ts us → NamesAt xs c us ((Word (Group s) w at q) ∷ vs) → NamesIn n vs rest → StageIn (InInclude f xs s n) ts rest
 
-abbrev StageTold : Span → Step Stage MatchingOf → MarkedToken → List MarkedToken → List MarkedToken → Type 0
+abbrev StageTold : Span → ParserStep Stage MatchingOf → MarkedToken → List MarkedToken → List MarkedToken → Type 0
 StageTold o (More st) t ts rest = StageIn st ts rest
 StageTold o (Done m) t ts rest = ModifierAt o m ts rest
 StageTold o (DoneBefore m) t ts rest = ModifierAt o m ts (t ∷ rest)
 StageTold o Reject t ts rest = Unit {0}
 
-labels_sound : {f : Front} {ts us : List MarkedToken} (o : Span) (rest : List MarkedToken) (t : MarkedToken) (r : Step Names Listed) → FrontIn f ts us → NamesTold r us rest → StageTold o (in_labels f r) t ts rest
+labels_sound : {f : Front} {ts us : List MarkedToken} (o : Span) (rest : List MarkedToken) (t : MarkedToken) (r : ParserStep Names Listed) → FrontIn f ts us → NamesTold r us rest → StageTold o (in_labels f r) t ts rest
 labels_sound o rest t (More n) i d = labels_in i d
 labels_sound o rest t (Done (xs, c)) i d = after_labels i d
 labels_sound o rest t (DoneBefore v) i d = tt
 labels_sound o rest t Reject i d = tt
 
-include_sound : {f : Front} {xs : List NameOf} {c : Span} {s : Side} {w : List ℕ} {q : Span} {ts us vs : List MarkedToken} (o : Span) (rest : List MarkedToken) (t : MarkedToken) (r : Step Names Listed) → FrontIn f ts us → NamesAt xs c us ((Word (Group s) w at q) ∷ vs) → NamesTold r vs rest → StageTold o (in_include f xs s r) t ts rest
+include_sound : {f : Front} {xs : List NameOf} {c : Span} {s : Side} {w : List ℕ} {q : Span} {ts us vs : List MarkedToken} (o : Span) (rest : List MarkedToken) (t : MarkedToken) (r : ParserStep Names Listed) → FrontIn f ts us → NamesAt xs c us ((Word (Group s) w at q) ∷ vs) → NamesTold r vs rest → StageTold o (in_include f xs s r) t ts rest
 include_sound o rest t (More n) i e d = include_in i e d
 include_sound o rest t (Done (ys, c)) i e d = modifier_at i (group_names e d)
 include_sound o rest t (DoneBefore v) i e d = tt
@@ -159,8 +159,8 @@ data ModStageIn : ModStage → List MarkedToken → List MarkedToken → Type 0 
   after_at : {p : Span} {ts : List MarkedToken} → ModStageIn AfterAt ((Sign AtSign at p) ∷ ts) ts
   after_at_plus : {p q : Span} {ts : List MarkedToken} → ModStageIn (AfterAtSign 43) ((Sign AtSign at p) ∷ (Sign Plus at q) ∷ ts) ts
   after_at_minus : {p q : Span} {ts : List MarkedToken} → ModStageIn (AfterAtSign 45) ((Sign AtSign at p) ∷ (Sign Minus at q) ∷ ts) ts
-  after_edge : {e : EdgeOf} {w : List ℕ} {p q : Span} {ts : List MarkedToken} → ModStageIn (AfterEdge e) ((Sign AtSign at p) ∷ (Word (Edge e) w at q) ∷ ts) ts
-  in_edge : {e : EdgeOf} {w : List ℕ} {p q o : Span} {ts : List MarkedToken} → ModStageIn (InEdge e) ((Sign AtSign at p) ∷ (Word (Edge e) w at q) ∷ (Sign OpenParen at o) ∷ ts) ts
+  after_edge : {e : RangeEnd} {w : List ℕ} {p q : Span} {ts : List MarkedToken} → ModStageIn (AfterEdge e) ((Sign AtSign at p) ∷ (Word (Edge e) w at q) ∷ ts) ts
+  in_edge : {e : RangeEnd} {w : List ℕ} {p q o : Span} {ts : List MarkedToken} → ModStageIn (InEdge e) ((Sign AtSign at p) ∷ (Word (Edge e) w at q) ∷ (Sign OpenParen at o) ∷ ts) ts
 
 abbrev RoomFor : Sight → ModStage → Type 0
 RoomFor s AfterOffset = s.offset ≡ None
@@ -170,7 +170,7 @@ RoomFor s (AfterAtSign b) = s.at ≡ None
 RoomFor s (AfterEdge e) = s.at ≡ None
 RoomFor s (InEdge e) = s.at ≡ None
 
-abbrev ModStageTold : Sight → Step ModStage (Mod × ℕ) → List MarkedToken → List MarkedToken → Type 0
+abbrev ModStageTold : Sight → ParserStep ModStage (Mod × ℕ) → List MarkedToken → List MarkedToken → Type 0
 ModStageTold s (More stage) ts rest = RoomFor s stage × ModStageIn stage ts rest
 ModStageTold s (Done (m, n)) ts rest = HasRoom s m × ModAt m n ts rest
 ModStageTold s _ ts rest = Unit {0}
@@ -354,7 +354,7 @@ go_on P Q f None h g = tt
 go_on P Q f (Some a) h g = g a h
 
 module _ (ts rest : List MarkedToken) where
-  abbrev Then_stands : State → Type 0
+  abbrev Then_stands : ParserState → Type 0
   Then_stands s = Stands s.frames s.mode ts rest
 
   operator_sound : (o : Op) (m : Mark) (i : op_of m ≡ Some o) (n : ℕ) (p : Span) (h : Held) → Holds (left_level o) n h ts ((m at p) ∷ rest) → IfSome (operator o p h) Then_stands
@@ -397,7 +397,7 @@ module _ (ts rest : List MarkedToken) where
   operand_sound fs (Sign Minus at p) o = s_operand (sign_minus o)
   operand_sound fs _ o = tt
 
-  room_sound : {A : Type 0} (y z : Option A) (s : State) → y ≡ z → (y ≡ None → Then_stands s) → IfSome (room z s) Then_stands
+  room_sound : {A : Type 0} (y z : Option A) (s : ParserState) → y ≡ z → (y ≡ None → Then_stands s) → IfSome (room z s) Then_stands
   room_sound y None s h f = f h
   room_sound y (Some a) s h f = tt
 
@@ -435,13 +435,13 @@ module _ (ts rest : List MarkedToken) where
   first_sound fs h (Sign CloseParen at c) o i = s_operator o (applied_in i no_args)
   first_sound fs h t o i = operand_sound (InArgs h Nil ∷ fs) t (in_args o i nothing)
 
-  modified_sound : {us vs : List MarkedToken} {k : ℕ} (fs : List ParserFrame) (o : Op) (m : Mark) (p : Span) (a : Tree) (t : MarkedToken) (r : Step Stage MatchingOf) → need fs ≤ level o → op_of m ≡ Some o → Opens fs ts us → At (left_level o) a k us ((m at p) ∷ vs) → StageTold p r t vs rest → IfSome (modified fs o p a t r) Then_stands
+  modified_sound : {us vs : List MarkedToken} {k : ℕ} (fs : List ParserFrame) (o : Op) (m : Mark) (p : Span) (a : Tree) (t : MarkedToken) (r : ParserStep Stage MatchingOf) → need fs ≤ level o → op_of m ≡ Some o → Opens fs ts us → At (left_level o) a k us ((m at p) ∷ vs) → StageTold p r t vs rest → IfSome (modified fs o p a t r) Then_stands
   modified_sound fs o m p a t (More st) b i y d k = s_modifying b i y d k
   modified_sound fs o m p a t (Done x) b i y d k = s_operand (left b i y d k)
   modified_sound fs o m p a t (DoneBefore x) b i y d k = operand_sound (LeftOf o p x a ∷ fs) t (left b i y d k)
   modified_sound fs o m p a t Reject b i y d k = tt
 
-  in_braces_sound : {us vs : List MarkedToken} (fs : List ParserFrame) (nm : Option (List ℕ)) (p : Span) (r : Step Braces (List Matcher × Span)) → Opens fs ts us → SelectIn nm p us vs → BracesTold r vs rest → IfSome (in_braces fs nm p r) Then_stands
+  in_braces_sound : {us vs : List MarkedToken} (fs : List ParserFrame) (nm : Option (List ℕ)) (p : Span) (r : ParserStep Braces (List Matcher × Span)) → Opens fs ts us → SelectIn nm p us vs → BracesTold r vs rest → IfSome (in_braces fs nm p r) Then_stands
   in_braces_sound fs nm p (More b) o i d = s_braces o i d
   in_braces_sound fs nm p (Done (ms, c)) o i d = s_operator o (is_selected (select_at i d))
   in_braces_sound fs nm p (DoneBefore v) o i d = tt
@@ -451,7 +451,7 @@ module _ (ts rest : List MarkedToken) where
   more_mod : {x : Subject} {s : Sight} {p : Span} {n k : ℕ} {m : Mod} {us vs : List MarkedToken} → OperandIn (Sighted x s p n) us vs → HasRoom s m → ModAt m k vs rest → OperandIn (Sighted x (with_mod s m) p k) us rest
   more_mod (is_sighted f) h d = is_sighted (λ r m more y. f r m more (mods h d y))
 
-  in_mod_sound : {us vs : List MarkedToken} {n : ℕ} (fs : List ParserFrame) (x : Subject) (s : Sight) (p : Span) (r : Step ModStage (Mod × ℕ)) → Opens fs ts us → OperandIn (Sighted x s p n) us vs → ModStageTold s r vs rest → IfSome (in_mod fs x s p r) Then_stands
+  in_mod_sound : {us vs : List MarkedToken} {n : ℕ} (fs : List ParserFrame) (x : Subject) (s : Sight) (p : Span) (r : ParserStep ModStage (Mod × ℕ)) → Opens fs ts us → OperandIn (Sighted x s p n) us vs → ModStageTold s r vs rest → IfSome (in_mod fs x s p r) Then_stands
   in_mod_sound fs x s p (More stage) o i d = s_mod o i d.0 d.1
   in_mod_sound fs x s p (Done (m, k)) o i d = s_operator o (more_mod i d.0 d.1)
   in_mod_sound fs x s p (DoneBefore v) o i d = tt
@@ -464,13 +464,13 @@ module _ (ts rest : List MarkedToken) where
   range_sound fs (Aggregated a xs p n) d c o i = tt
   range_sound fs (Sighted x s p n) d c o i = tt
 
-  in_grouping_sound : {us : List MarkedToken} {w v : List ℕ} {q : Span} (fs : List ParserFrame) (a : Agg) (p : Span) (k : Clause) (r : Step Names Listed) → Opens fs ts ((Word (Aggregation a) w at p) ∷ (Word (Grouping k) v at q) ∷ us) → NamesTold r us rest → IfSome (in_grouping fs a p k r) Then_stands
+  in_grouping_sound : {us : List MarkedToken} {w v : List ℕ} {q : Span} (fs : List ParserFrame) (a : Agg) (p : Span) (k : Clause) (r : ParserStep Names Listed) → Opens fs ts ((Word (Aggregation a) w at p) ∷ (Word (Grouping k) v at q) ∷ us) → NamesTold r us rest → IfSome (in_grouping fs a p k r) Then_stands
   in_grouping_sound fs a p k (More n) o d = s_grouping o d
   in_grouping_sound fs a p k (Done (xs, c)) o d = s_grouped o (of_grouped d)
   in_grouping_sound fs a p k (DoneBefore y) o d = tt
   in_grouping_sound fs a p k Reject o d = tt
 
-  behind_sound : {us vs : List MarkedToken} {w v : List ℕ} {c q : Span} (fs : List ParserFrame) (a : Agg) (p : Span) (xs : Trees) (k : Clause) (r : Step Names Listed) → Opens fs ts ((Word (Aggregation a) w at p) ∷ us) → ArgsAt xs c us ((Word (Grouping k) v at q) ∷ vs) → NamesTold r vs rest → IfSome (in_grouping_behind fs a p xs k r) Then_stands
+  behind_sound : {us vs : List MarkedToken} {w v : List ℕ} {c q : Span} (fs : List ParserFrame) (a : Agg) (p : Span) (xs : Trees) (k : Clause) (r : ParserStep Names Listed) → Opens fs ts ((Word (Aggregation a) w at p) ∷ us) → ArgsAt xs c us ((Word (Grouping k) v at q) ∷ vs) → NamesTold r vs rest → IfSome (in_grouping_behind fs a p xs k r) Then_stands
   behind_sound fs a p xs k (More n) o y d = s_behind o y d
   behind_sound fs a p xs k (Done (ys, c)) o y d = s_operator o (is_whole (aggregate_args_by y d))
   behind_sound fs a p xs k (DoneBefore z) o y d = tt

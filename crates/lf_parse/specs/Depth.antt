@@ -3,7 +3,7 @@ use Rattle.std.specs.Prelude.{◌≡◌, ℕ, ◌+◌, ◌-◌, ◌<◌, ◌≤�
 use Rattle.std.specs.Option.{is_some}
 use Rattle.lf_lex.specs.declared.token.Token.{Token}
 use Rattle.lf_lex.specs.declared.token.Sign.TheVariants.{OpenParen, CloseParen, OpenBrace, CloseBrace, OpenBracket, Comma}
-use Rattle.lf_parse.specs.declared.class.Class.TheVariants.{Operator}
+use Rattle.lf_parse.specs.declared.class.WordClass.TheVariants.{Operator}
 use Rattle.lf_parse.specs.Tokens.{Mark, Word, Sign, MarkedToken, ◌at◌, op_of_sign, marked}
 
 -- Brackets of one kind count for themselves, and a closing one without its opening one is passed over.

@@ -19,10 +19,10 @@ use Rattle.lf_ast.specs.declared.expr.Sight.{Sight}
 use Rattle.lf_lex.specs.declared.token.Token.{Token}
 use Rattle.lf_lex.specs.declared.token.Sign.{Sign as SignOf}
 use Rattle.lf_lex.specs.declared.token.Sign.TheVariants.{OpenParen, CloseParen, OpenBrace, CloseBrace, OpenBracket, CloseBracket, Comma, Colon, Plus, Minus, Is, NotEqual, Matches, MatchesNot, At as AtSign}
-use Rattle.lf_parse.specs.declared.class.Class.{Class}
-use Rattle.lf_parse.specs.declared.class.Class.TheVariants.{Plain, Edge, Numeric, Aggregation, Grouping, Matching, Group, Offset, Bool as BoolWord}
-use Rattle.lf_parse.specs.declared.class.Edge.{Edge as EdgeOf}
-use Rattle.lf_parse.specs.declared.class.Edge.TheVariants.{Start, End}
+use Rattle.lf_parse.specs.declared.class.WordClass.{WordClass}
+use Rattle.lf_parse.specs.declared.class.WordClass.TheVariants.{Plain, Edge, Numeric, Aggregation, Grouping, Matching, Group, Offset, Bool as BoolWord}
+use Rattle.lf_parse.specs.declared.class.RangeEnd.{RangeEnd}
+use Rattle.lf_parse.specs.declared.class.RangeEnd.TheVariants.{Start, End}
 use Rattle.lf_parse.specs.declared.class.Clause.{Clause}
 use Rattle.lf_parse.specs.declared.class.Clause.TheVariants.{By, Without}
 use Rattle.lf_parse.specs.declared.class.Scope.{Scope}
@@ -53,9 +53,9 @@ name w p = record { text = w; span = p }
 
 -- a label {',' a label}, where a label is any word without a colon
 pub data LabelsAt : List Name → List MarkedToken → List MarkedToken → Type 0 where
-  one_label : {c : Class} {w : List ℕ} {p : Span} {rest : List MarkedToken} →
+  one_label : {c : WordClass} {w : List ℕ} {p : Span} {rest : List MarkedToken} →
       LabelsAt (name w p ∷ []) ((Word c w at p) ∷ rest) rest
-  next_label : {c : Class} {w : List ℕ} {xs : List Name} {p q : Span} {ts rest : List MarkedToken} →
+  next_label : {c : WordClass} {w : List ℕ} {xs : List Name} {p q : Span} {ts rest : List MarkedToken} →
       LabelsAt xs ts ((Sign Comma at q) ∷ (Word c w at p) ∷ rest) → LabelsAt (xs ++ name w p ∷ []) ts rest
 
 -- Names = '(' [labels [',']] ')'. The span is that of the `)`.
@@ -127,9 +127,9 @@ match_of _ = None
 
 -- a matcher {',' a matcher}, a matcher being a label, a sign and a string
 pub data MatchersAt : List Matcher → List MarkedToken → List MarkedToken → Type 0 where
-  one_matcher : {c : Class} {w v : List ℕ} {s : SignOf} {o : MatchOp} {p q r : Span} {rest : List MarkedToken} →
+  one_matcher : {c : WordClass} {w v : List ℕ} {s : SignOf} {o : MatchOp} {p q r : Span} {rest : List MarkedToken} →
       match_of s ≡ Some o → MatchersAt (matcher (name w p) o v r ∷ []) ((Word c w at p) ∷ (Sign s at q) ∷ (Quoted v at r) ∷ rest) rest
-  next_matcher : {c : Class} {w v : List ℕ} {s : SignOf} {o : MatchOp} {xs : List Matcher} {p q r k : Span} {ts rest : List MarkedToken} →
+  next_matcher : {c : WordClass} {w v : List ℕ} {s : SignOf} {o : MatchOp} {xs : List Matcher} {p q r k : Span} {ts rest : List MarkedToken} →
       match_of s ≡ Some o → MatchersAt xs ts ((Sign Comma at k) ∷ (Word c w at p) ∷ (Sign s at q) ∷ (Quoted v at r) ∷ rest) → MatchersAt (xs ++ matcher (name w p) o v r ∷ []) ts rest
 
 -- What stands behind a `{`: [matchers [',']] '}'. The span is that of the `}`.
@@ -144,7 +144,7 @@ pub data BracesAt : List Matcher → Span → List MarkedToken → List MarkedTo
 -- a word that names a metric or a function: no keyword and no name of an aggregation
 pub data IsMetric : List ℕ → Mark → Type 0 where
   plain : {w : List ℕ} → IsMetric w (Word Plain w)
-  edge : {e : EdgeOf} {w : List ℕ} → IsMetric w (Word (Edge e) w)
+  edge : {e : RangeEnd} {w : List ℕ} → IsMetric w (Word (Edge e) w)
   with_colon : {w : List ℕ} → IsMetric w (Metric w)
 
 -- Select = word ['{' matchers '}'] | '{' matchers '}', and its span
@@ -169,7 +169,7 @@ abbrev pub stepped : List ℕ → Span → Option (List ℕ) → Sight
 stepped d q step = record { range = Some d; step = step; offset = None; at = None; range_span = q }
 
 -- `start()` and `end()`, as the tree has them
-abbrev pub edge_text : EdgeOf → List ℕ
+abbrev pub edge_text : RangeEnd → List ℕ
 edge_text Start = codes "start()"
 edge_text End = codes "end()"
 
@@ -190,7 +190,7 @@ pub data ModAt : Mod → ℕ → List MarkedToken → List MarkedToken → Type 
       ModAt (AtTime (43 ∷ x)) q.end ((Sign AtSign at p) ∷ (Sign Plus at o) ∷ (Num x at q) ∷ rest) rest
   time_minus : {x : List ℕ} {p o q : Span} {rest : List MarkedToken} →
       ModAt (AtTime (45 ∷ x)) q.end ((Sign AtSign at p) ∷ (Sign Minus at o) ∷ (Num x at q) ∷ rest) rest
-  time_edge : {e : EdgeOf} {w : List ℕ} {p q o c : Span} {rest : List MarkedToken} →
+  time_edge : {e : RangeEnd} {w : List ℕ} {p q o c : Span} {rest : List MarkedToken} →
       ModAt (AtTime (edge_text e)) c.end ((Sign AtSign at p) ∷ (Word (Edge e) w at q) ∷ (Sign OpenParen at o) ∷ (Sign CloseParen at c) ∷ rest) rest
 
 -- there is no modifier of this kind yet

@@ -12,9 +12,9 @@ use Rattle.lf_lex.specs.declared.token.TokenKind.{TokenKind}
 use Rattle.lf_lex.specs.declared.token.TokenKind.TheVariants as kinds
 use Rattle.lf_lex.specs.declared.token.Sign.{Sign as SignOf}
 use Rattle.lf_lex.specs.declared.token.Sign.TheVariants as signs
-use Rattle.lf_parse.specs.declared.class.Class.{Class}
-use Rattle.lf_parse.specs.declared.class.Class.TheVariants.{Plain, Edge, Numeric, Operator, Aggregation, Grouping, Matching, Group, Offset, Bool as BoolWord}
-use Rattle.lf_parse.specs.declared.class.Edge.TheVariants.{Start, End}
+use Rattle.lf_parse.specs.declared.class.WordClass.{WordClass}
+use Rattle.lf_parse.specs.declared.class.WordClass.TheVariants.{Plain, Edge, Numeric, Operator, Aggregation, Grouping, Matching, Group, Offset, Bool as BoolWord}
+use Rattle.lf_parse.specs.declared.class.RangeEnd.TheVariants.{Start, End}
 use Rattle.lf_parse.specs.declared.class.Clause.TheVariants.{By, Without}
 use Rattle.lf_parse.specs.declared.class.Scope.TheVariants.{On, Ignoring}
 use Rattle.lf_parse.specs.declared.class.Side.TheVariants.{Left, Right}
@@ -22,7 +22,7 @@ use Rattle.lf_parse.specs.declared.class.Side.TheVariants.{Left, Right}
 -- what a token is
 pub data Mark : Type 0 where
   -- a word without a colon, and its class
-  Word : Class → List ℕ → Mark
+  Word : WordClass → List ℕ → Mark
   -- a word with a colon: no keyword, and no label
   Metric : List ℕ → Mark
   Num : List ℕ → Mark
@@ -38,7 +38,7 @@ pub data MarkedToken : Type 0 where
 -- ---- words
 
 -- the words that are more than names
-abbrev pub words : List (List ℕ × Class)
+abbrev pub words : List (List ℕ × WordClass)
 words =
     (codes "and", Operator op.And)
     ∷ (codes "or", Operator op.Or)
@@ -71,12 +71,12 @@ words =
     ∷ []
 
 -- the class that a list of words gives to a word in lower case, or else `Plain`
-abbrev pub class_in : List ℕ → List (List ℕ × Class) → Class
+abbrev pub class_in : List ℕ → List (List ℕ × WordClass) → WordClass
 class_in w [] = Plain
 class_in w (entry ∷ rest) = if bytes_eq w entry.0 then entry.1 else class_in w rest
 
 -- the class of a word without a colon, in any case of letters
-unfoldable pub class_of : List ℕ → Class
+unfoldable pub class_of : List ℕ → WordClass
 class_of w = class_in (map to_ascii_lowercase w) words
 
 abbrev pub word_mark : List ℕ → Mark

@@ -6,7 +6,7 @@ ghost use Rattle.lf_parse.specs.views.Values.{token_of, braces_of, step_of};
 
 use crate::mark::{Mark, MarkedToken};
 use crate::names::name_of;
-use crate::step::Step;
+use crate::step::ParserStep;
 use lf_ast::{MatchOp, Matcher, Name};
 use lf_base::{Memory, Seq, Span, Text};
 use lf_lex::Sign;
@@ -66,12 +66,12 @@ fn compared(
     matchers: Seq<Matcher>,
     label: Name,
     op: Option<MatchOp>,
-) -> Step<Braces, (Seq<Matcher>, Span)>
+) -> ParserStep<Braces, (Seq<Matcher>, Span)>
     ensures { step_of braces_of (λ v. v) result ≡ machine.compared matchers label op }
 {
     match op {
-        Some(op) => Step::More(Braces::AfterSign(matchers, label, op)),
-        None => Step::Reject,
+        Some(op) => ParserStep::More(Braces::AfterSign(matchers, label, op)),
+        None => ParserStep::Reject,
     }
 }
 
@@ -80,28 +80,30 @@ pub fn braces_step(
     alloc: Global,
     braces: Braces,
     token: MarkedToken,
-) -> Result<Step<Braces, (Seq<Matcher>, Span)>, Memory>
+) -> Result<ParserStep<Braces, (Seq<Matcher>, Span)>, Memory>
     ensures { IfOk result (λ taken. step_of braces_of (λ v. v) taken ≡ machine.braces_step (braces_of braces) (token_of token.entry)) }
 {
     match (braces, token.mark) {
         (Braces::Next(list), Mark::Word(_)) => {
             let label = name_of(alloc, token)?;
-            Ok(Step::More(Braces::AfterLabel(list, label)))
+            Ok(ParserStep::More(Braces::AfterLabel(list, label)))
         }
-        (Braces::Next(list), Mark::Sign(Sign::CloseBrace)) => { Ok(Step::Done((list, token.span))) }
+        (Braces::Next(list), Mark::Sign(Sign::CloseBrace)) => {
+            Ok(ParserStep::Done((list, token.span)))
+        }
         (Braces::AfterLabel(list, label), Mark::Sign(sign)) => {
             Ok(compared(list, label, match_of(sign)))
         }
         (Braces::AfterSign(list, label, op), Mark::Str) => {
             let list = with_matcher(alloc, list, label, op, token)?;
-            Ok(Step::More(Braces::AfterMatcher(list)))
+            Ok(ParserStep::More(Braces::AfterMatcher(list)))
         }
         (Braces::AfterMatcher(list), Mark::Sign(Sign::Comma)) => {
-            Ok(Step::More(Braces::Next(list)))
+            Ok(ParserStep::More(Braces::Next(list)))
         }
         (Braces::AfterMatcher(list), Mark::Sign(Sign::CloseBrace)) => {
-            Ok(Step::Done((list, token.span)))
+            Ok(ParserStep::Done((list, token.span)))
         }
-        _ => Ok(Step::Reject),
+        _ => Ok(ParserStep::Reject),
     }
 }

@@ -30,18 +30,18 @@ pub enum Side {
 
 /// The two ends of the range of a query.
 #[derive(Clone, Copy, Drop)]
-pub enum Edge {
+pub enum RangeEnd {
     Start,
     End,
 }
 
 /// The class of a word without a colon.
 #[derive(Clone, Copy, Drop)]
-pub enum Class {
+pub enum WordClass {
     /// A metric, a function or a label.
     Plain,
     /// `start` and `end`: ordinary words but behind an `@`.
-    Edge(Edge),
+    Edge(RangeEnd),
     /// `inf` and `nan`
     Numeric,
     /// `and`, `or`, `unless` and `atan2`
@@ -61,47 +61,47 @@ pub enum Class {
 }
 
 /// The words that are more than names, in lower case.
-const WORDS: [(&str, Class); 28] = [
-    ("and", Class::Operator(Op::And)),
-    ("or", Class::Operator(Op::Or)),
-    ("unless", Class::Operator(Op::Unless)),
-    ("atan2", Class::Operator(Op::Atan2)),
-    ("by", Class::Grouping(Clause::By)),
-    ("without", Class::Grouping(Clause::Without)),
-    ("on", Class::Matching(Scope::On)),
-    ("ignoring", Class::Matching(Scope::Ignoring)),
-    ("group_left", Class::Group(Side::Left)),
-    ("group_right", Class::Group(Side::Right)),
-    ("offset", Class::Offset),
-    ("bool", Class::Bool),
-    ("inf", Class::Numeric),
-    ("nan", Class::Numeric),
-    ("start", Class::Edge(Edge::Start)),
-    ("end", Class::Edge(Edge::End)),
-    ("sum", Class::Aggregation(Agg::Sum)),
-    ("min", Class::Aggregation(Agg::Min)),
-    ("max", Class::Aggregation(Agg::Max)),
-    ("avg", Class::Aggregation(Agg::Avg)),
-    ("group", Class::Aggregation(Agg::Group)),
-    ("stddev", Class::Aggregation(Agg::Stddev)),
-    ("stdvar", Class::Aggregation(Agg::Stdvar)),
-    ("count", Class::Aggregation(Agg::Count)),
-    ("quantile", Class::Aggregation(Agg::Quantile)),
-    ("count_values", Class::Aggregation(Agg::CountValues)),
-    ("topk", Class::Aggregation(Agg::Topk)),
-    ("bottomk", Class::Aggregation(Agg::Bottomk)),
+const WORDS: [(&str, WordClass); 28] = [
+    ("and", WordClass::Operator(Op::And)),
+    ("or", WordClass::Operator(Op::Or)),
+    ("unless", WordClass::Operator(Op::Unless)),
+    ("atan2", WordClass::Operator(Op::Atan2)),
+    ("by", WordClass::Grouping(Clause::By)),
+    ("without", WordClass::Grouping(Clause::Without)),
+    ("on", WordClass::Matching(Scope::On)),
+    ("ignoring", WordClass::Matching(Scope::Ignoring)),
+    ("group_left", WordClass::Group(Side::Left)),
+    ("group_right", WordClass::Group(Side::Right)),
+    ("offset", WordClass::Offset),
+    ("bool", WordClass::Bool),
+    ("inf", WordClass::Numeric),
+    ("nan", WordClass::Numeric),
+    ("start", WordClass::Edge(RangeEnd::Start)),
+    ("end", WordClass::Edge(RangeEnd::End)),
+    ("sum", WordClass::Aggregation(Agg::Sum)),
+    ("min", WordClass::Aggregation(Agg::Min)),
+    ("max", WordClass::Aggregation(Agg::Max)),
+    ("avg", WordClass::Aggregation(Agg::Avg)),
+    ("group", WordClass::Aggregation(Agg::Group)),
+    ("stddev", WordClass::Aggregation(Agg::Stddev)),
+    ("stdvar", WordClass::Aggregation(Agg::Stdvar)),
+    ("count", WordClass::Aggregation(Agg::Count)),
+    ("quantile", WordClass::Aggregation(Agg::Quantile)),
+    ("count_values", WordClass::Aggregation(Agg::CountValues)),
+    ("topk", WordClass::Aggregation(Agg::Topk)),
+    ("bottomk", WordClass::Aggregation(Agg::Bottomk)),
 ];
 
 /// The class of a word without a colon, in any case of letters.
 #[tactic(auto, unfolding(crate::specs::Tokens::class_of))]
-pub fn class_of(text: &str) -> Class
+pub fn class_of(text: &str) -> WordClass
     ensures { result ≡ tokens.class_of text.now }
 {
     class_in(text, &WORDS)
 }
 
 /// The class that a table gives to a word, in any case of letters, or else `Plain`.
-fn class_in(text: &str, words: &[(&str, Class)]) -> Class
+fn class_in(text: &str, words: &[(&str, WordClass)]) -> WordClass
     ensures { result ≡ tokens.class_in (map to_ascii_lowercase text.now) (entries words.now) }
 {
     for (word, class) in words {
@@ -109,7 +109,7 @@ fn class_in(text: &str, words: &[(&str, Class)]) -> Class
             return *class;
         }
     }
-    Class::Plain
+    WordClass::Plain
 }
 
 /// Whether a text is a word, in any case of letters.

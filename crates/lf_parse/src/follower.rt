@@ -3,7 +3,7 @@ ghost use Rattle.std.specs.Prelude.{◌≡◌};
 ghost use Rattle.lf_parse.specs.reading.Machine.{follower_of};
 ghost use Rattle.lf_parse.specs.views.Values.{token_of};
 
-use crate::class::{Class, Clause};
+use crate::class::{Clause, WordClass};
 use crate::mark::{Mark, MarkedToken};
 use lf_lex::Sign;
 
@@ -35,8 +35,8 @@ pub fn follower_of(token: MarkedToken) -> Follower
         Mark::Sign(Sign::OpenParen) => Follower::Paren,
         Mark::Sign(Sign::OpenBrace) => Follower::Brace,
         Mark::Sign(Sign::At) => Follower::At,
-        Mark::Word(Class::Offset) => Follower::Offset,
-        Mark::Word(Class::Grouping(clause)) => Follower::Grouping(clause),
+        Mark::Word(WordClass::Offset) => Follower::Offset,
+        Mark::Word(WordClass::Grouping(clause)) => Follower::Grouping(clause),
         _ => Follower::Other,
     }
 }

@@ -7,11 +7,11 @@ ghost use Rattle.lf_parse.specs.reading.Machine as machine;
 ghost use Rattle.lf_parse.specs.views.Values.{token_of, frames_of, next, names_of, step_of};
 
 use crate::calls::aggregation;
-use crate::class::{Class, Clause};
+use crate::class::{Clause, WordClass};
 use crate::mark::{Mark, MarkedToken};
 use crate::mode::{Callee, Operand, ParserMode};
 use crate::names::Names;
-use crate::step::Step;
+use crate::step::ParserStep;
 use lf_ast::{Agg, Expr, Grouping, Name};
 use lf_base::{Memory, Seq, Span};
 use lf_lex::Sign;
@@ -23,7 +23,7 @@ pub fn after_aggregation(op: Agg, span: Span, token: MarkedToken) -> Option<Pars
 {
     match token.mark {
         Mark::Sign(Sign::OpenParen) => Some(ParserMode::First(Callee::Aggregate(op, span))),
-        Mark::Word(Class::Grouping(clause)) => {
+        Mark::Word(WordClass::Grouping(clause)) => {
             Some(ParserMode::InGrouping(op, span, clause, Names::Opening))
         }
         _ => None,
@@ -45,18 +45,18 @@ pub fn in_grouping(
     op: Agg,
     span: Span,
     clause: Clause,
-    taken: Step<Names, (Seq<Name>, Span)>,
+    taken: ParserStep<Names, (Seq<Name>, Span)>,
 ) -> Option<ParserMode>
     ensures { (ps : List ParserFrame) → next ps result ≡ machine.in_grouping (frames_of ps) op span clause (step_of names_of (λ v. v) taken) }
 {
     match taken {
-        Step::More(names) => Some(ParserMode::InGrouping(op, span, clause, names)),
-        Step::Done((labels, _)) => Some(ParserMode::AfterGrouping(
+        ParserStep::More(names) => Some(ParserMode::InGrouping(op, span, clause, names)),
+        ParserStep::Done((labels, _)) => Some(ParserMode::AfterGrouping(
             op,
             span,
             grouping(clause, labels),
         )),
-        Step::DoneBefore(_) | Step::Reject => None,
+        ParserStep::DoneBefore(_) | ParserStep::Reject => None,
     }
 }
 
@@ -82,17 +82,19 @@ pub fn in_grouping_behind(
     span: Span,
     args: Seq<Expr>,
     clause: Clause,
-    taken: Step<Names, (Seq<Name>, Span)>,
+    taken: ParserStep<Names, (Seq<Name>, Span)>,
 ) -> Result<Option<ParserMode>, Memory>
     ensures { IfOk result (λ p. (ps : List ParserFrame) → next ps p ≡ machine.in_grouping_behind (frames_of ps) op span (trees args) clause (step_of names_of (λ v. v) taken)) }
 {
     match taken {
-        Step::More(names) => Ok(Some(ParserMode::InGroupingBehind(op, span, args, clause, names))),
-        Step::Done((labels, close)) => {
+        ParserStep::More(names) => Ok(Some(ParserMode::InGroupingBehind(
+            op, span, args, clause, names,
+        ))),
+        ParserStep::Done((labels, close)) => {
             let whole = aggregation(op, grouping(clause, labels), args, span);
             let whole = Box::new(alloc, whole)?;
             Ok(Some(ParserMode::ExpectOperator(Operand::Whole(whole, close.end))))
         }
-        Step::DoneBefore(_) | Step::Reject => Ok(None),
+        ParserStep::DoneBefore(_) | ParserStep::Reject => Ok(None),
     }
 }

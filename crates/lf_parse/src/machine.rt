@@ -18,7 +18,7 @@ use crate::range::{after_bracket, after_colon, after_range, after_step};
 use crate::reduce::ended;
 use crate::span::to;
 use crate::stage::{Stage, stage_step};
-use crate::step::Step;
+use crate::step::ParserStep;
 use lf_ast::{Expr, Matcher, Matching, Op, Sight};
 use lf_base::{Memory, Seq, Span, Text};
 use std::alloc::Global;
@@ -30,22 +30,22 @@ fn modified(
     op: Op,
     span: Span,
     left: Box<Expr>,
-    taken: Step<Stage, Matching>,
+    taken: ParserStep<Stage, Matching>,
     token: MarkedToken,
 ) -> Result<Option<ParserMode>, Memory>
     ensures { IfOk result (λ p. next stack.new.items p ≡ machine.modified (frames_of stack.old.items) op span (tree left.value) (token_of token.entry) (step_of stage_of (λ m. m) taken)) }
 {
     match taken {
-        Step::More(stage) => Ok(Some(ParserMode::Modifying(op, span, left, stage))),
-        Step::Done(modifier) => {
+        ParserStep::More(stage) => Ok(Some(ParserMode::Modifying(op, span, left, stage))),
+        ParserStep::Done(modifier) => {
             stack.push(ParserFrame::LeftOf(op, span, modifier, left))?;
             Ok(Some(ParserMode::ExpectOperand))
         }
-        Step::DoneBefore(modifier) => {
+        ParserStep::DoneBefore(modifier) => {
             let begun = ParserFrame::LeftOf(op, span, modifier, left);
             expect_operand_in(alloc, stack, begun, token)
         }
-        Step::Reject => Ok(None),
+        ParserStep::Reject => Ok(None),
     }
 }
 
@@ -53,18 +53,18 @@ fn modified(
 fn in_braces(
     name: Option<Text>,
     span: Span,
-    taken: Step<Braces, (Seq<Matcher>, Span)>,
+    taken: ParserStep<Braces, (Seq<Matcher>, Span)>,
 ) -> Option<ParserMode>
     ensures { (ps : List ParserFrame) → next ps result ≡ machine.in_braces (frames_of ps) name span (step_of braces_of (λ v. v) taken) }
 {
     match taken {
-        Step::More(braces) => Some(ParserMode::InBraces(name, span, braces)),
-        Step::Done((matchers, close)) => Some(ParserMode::ExpectOperator(Operand::Selected(
+        ParserStep::More(braces) => Some(ParserMode::InBraces(name, span, braces)),
+        ParserStep::Done((matchers, close)) => Some(ParserMode::ExpectOperator(Operand::Selected(
             name,
             matchers,
             to(span, close),
         ))),
-        Step::DoneBefore(_) | Step::Reject => None,
+        ParserStep::DoneBefore(_) | ParserStep::Reject => None,
     }
 }
 
@@ -83,18 +83,18 @@ fn in_mod(
     subject: Subject,
     sight: Box<Sight>,
     span: Span,
-    taken: Step<ModStage, (Mod, u32)>,
+    taken: ParserStep<ModStage, (Mod, u32)>,
 ) -> Option<ParserMode>
     ensures { (ps : List ParserFrame) → next ps result ≡ machine.in_mod (frames_of ps) (subject_of subject) sight.value span (step_of mod_stage_of mod_with_end taken) }
 {
     match taken {
-        Step::More(stage) => Some(ParserMode::InMod(subject, sight, span, stage)),
-        Step::Done((modifier, end)) => {
+        ParserStep::More(stage) => Some(ParserMode::InMod(subject, sight, span, stage)),
+        ParserStep::Done((modifier, end)) => {
             let mut sight = sight;
             add_mod(&mut sight, modifier);
             Some(ParserMode::ExpectOperator(Operand::Sighted(subject, sight, span, end)))
         }
-        Step::DoneBefore(_) | Step::Reject => None,
+        ParserStep::DoneBefore(_) | ParserStep::Reject => None,
     }
 }
 

@@ -3,7 +3,7 @@ ghost use Rattle.std.specs.Prelude.{◌≡◌};
 ghost use Rattle.lf_parse.specs.Tokens.{word_mark, marked};
 ghost use Rattle.lf_parse.specs.views.Values.{mark_of, token_of};
 
-use crate::class::{Class, class_of};
+use crate::class::{WordClass, class_of};
 use lf_base::Span;
 use lf_base::names::has_colon;
 use lf_lex::{Sign, Token, TokenKind};
@@ -12,7 +12,7 @@ use lf_lex::{Sign, Token, TokenKind};
 #[derive(Clone, Copy, Drop)]
 pub enum Mark {
     /// A word without a colon.
-    Word(Class),
+    Word(WordClass),
     /// A word with a colon: no keyword, and no label.
     Metric,
     Number,

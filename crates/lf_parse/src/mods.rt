@@ -4,9 +4,9 @@ ghost use Rattle.lf_parse.specs.Grammar as grammar;
 ghost use Rattle.lf_parse.specs.reading.Machine as machine;
 ghost use Rattle.lf_parse.specs.views.Values.{token_of, sign_byte, mod_with_end, mod_stage_of, step_of};
 
-use crate::class::{Class, Edge};
+use crate::class::{RangeEnd, WordClass};
 use crate::mark::{Mark, MarkedToken};
-use crate::step::Step;
+use crate::step::ParserStep;
 use lf_base::{Memory, Text};
 use lf_lex::Sign;
 use std::alloc::Global;
@@ -34,8 +34,8 @@ pub enum ModStage {
     /// Behind the sign of a time.
     AfterAtSign(TimeSign),
     /// Behind `start` or `end`, and behind the `(` there.
-    AfterEdge(Edge),
-    InEdge(Edge),
+    AfterEdge(RangeEnd),
+    InEdge(RangeEnd),
 }
 
 /// A text behind a sign.
@@ -48,12 +48,12 @@ fn signed(alloc: Global, sign: &str, text: &str) -> Result<Text, Memory>
 }
 
 /// `start()` or `end()`, as the tree has them.
-fn edge_text(edge: Edge) -> &'static str
+fn edge_text(edge: RangeEnd) -> &'static str
     ensures { result.now ≡ grammar.edge_text edge }
 {
     match edge {
-        Edge::Start => "start()",
-        Edge::End => "end()",
+        RangeEnd::Start => "start()",
+        RangeEnd::End => "end()",
     }
 }
 
@@ -72,46 +72,46 @@ pub fn mod_step(
     alloc: Global,
     stage: ModStage,
     token: MarkedToken,
-) -> Result<Step<ModStage, (Mod, u32)>, Memory>
+) -> Result<ParserStep<ModStage, (Mod, u32)>, Memory>
     ensures { IfOk result (λ taken. step_of mod_stage_of mod_with_end taken ≡ machine.mod_step (mod_stage_of stage) (token_of token.entry)) }
 {
     let end = token.span.end;
     match (stage, token.mark) {
         (ModStage::AfterOffset, Mark::Duration) => {
             let text = Text::of(alloc, token.text)?;
-            Ok(Step::Done((Mod::Offset(text), end)))
+            Ok(ParserStep::Done((Mod::Offset(text), end)))
         }
-        (ModStage::AfterOffset, Mark::Sign(Sign::Minus)) => Ok(Step::More(
+        (ModStage::AfterOffset, Mark::Sign(Sign::Minus)) => Ok(ParserStep::More(
             ModStage::AfterOffsetMinus,
         )),
         (ModStage::AfterOffsetMinus, Mark::Duration) => {
             let text = signed(alloc, "-", token.text)?;
-            Ok(Step::Done((Mod::Offset(text), end)))
+            Ok(ParserStep::Done((Mod::Offset(text), end)))
         }
         (ModStage::AfterAt, Mark::Number) => {
             let text = Text::of(alloc, token.text)?;
-            Ok(Step::Done((Mod::At(text), end)))
+            Ok(ParserStep::Done((Mod::At(text), end)))
         }
         (ModStage::AfterAt, Mark::Sign(Sign::Plus)) => {
-            Ok(Step::More(ModStage::AfterAtSign(TimeSign::Plus)))
+            Ok(ParserStep::More(ModStage::AfterAtSign(TimeSign::Plus)))
         }
         (ModStage::AfterAt, Mark::Sign(Sign::Minus)) => {
-            Ok(Step::More(ModStage::AfterAtSign(TimeSign::Minus)))
+            Ok(ParserStep::More(ModStage::AfterAtSign(TimeSign::Minus)))
         }
-        (ModStage::AfterAt, Mark::Word(Class::Edge(edge))) => Ok(Step::More(ModStage::AfterEdge(
-            edge,
-        ))),
+        (ModStage::AfterAt, Mark::Word(WordClass::Edge(edge))) => Ok(ParserStep::More(
+            ModStage::AfterEdge(edge),
+        )),
         (ModStage::AfterAtSign(sign), Mark::Number) => {
             let text = signed(alloc, sign_text(sign), token.text)?;
-            Ok(Step::Done((Mod::At(text), end)))
+            Ok(ParserStep::Done((Mod::At(text), end)))
         }
         (ModStage::AfterEdge(edge), Mark::Sign(Sign::OpenParen)) => {
-            Ok(Step::More(ModStage::InEdge(edge)))
+            Ok(ParserStep::More(ModStage::InEdge(edge)))
         }
         (ModStage::InEdge(edge), Mark::Sign(Sign::CloseParen)) => {
             let text = Text::of(alloc, edge_text(edge))?;
-            Ok(Step::Done((Mod::At(text), end)))
+            Ok(ParserStep::Done((Mod::At(text), end)))
         }
-        _ => Ok(Step::Reject),
+        _ => Ok(ParserStep::Reject),
     }
 }

@@ -5,7 +5,7 @@ ghost use Rattle.lf_parse.specs.reading.Machine as machine;
 ghost use Rattle.lf_parse.specs.views.Values.{token_of, names_of, step_of};
 
 use crate::mark::{Mark, MarkedToken};
-use crate::step::Step;
+use crate::step::ParserStep;
 use lf_ast::Name;
 use lf_base::{Memory, Seq, Span, Text};
 use lf_lex::Sign;
@@ -47,20 +47,24 @@ pub fn names_step(
     alloc: Global,
     names: Names,
     token: MarkedToken,
-) -> Result<Step<Names, (Seq<Name>, Span)>, Memory>
+) -> Result<ParserStep<Names, (Seq<Name>, Span)>, Memory>
     ensures { IfOk result (λ taken. step_of names_of (λ v. v) taken ≡ machine.names_step (names_of names) (token_of token.entry)) }
 {
     match (names, token.mark) {
         (Names::Opening, Mark::Sign(Sign::OpenParen)) => {
-            Ok(Step::More(Names::Next(Seq::new(alloc))))
+            Ok(ParserStep::More(Names::Next(Seq::new(alloc))))
         }
         (Names::Next(list), Mark::Word(_)) => {
             let label = name_of(alloc, token)?;
-            Ok(Step::More(Names::After(with_name(list, label)?)))
+            Ok(ParserStep::More(Names::After(with_name(list, label)?)))
         }
-        (Names::Next(list), Mark::Sign(Sign::CloseParen)) => Ok(Step::Done((list, token.span))),
-        (Names::After(list), Mark::Sign(Sign::Comma)) => Ok(Step::More(Names::Next(list))),
-        (Names::After(list), Mark::Sign(Sign::CloseParen)) => Ok(Step::Done((list, token.span))),
-        _ => Ok(Step::Reject),
+        (Names::Next(list), Mark::Sign(Sign::CloseParen)) => Ok(ParserStep::Done((
+            list, token.span,
+        ))),
+        (Names::After(list), Mark::Sign(Sign::Comma)) => Ok(ParserStep::More(Names::Next(list))),
+        (Names::After(list), Mark::Sign(Sign::CloseParen)) => Ok(ParserStep::Done((
+            list, token.span,
+        ))),
+        _ => Ok(ParserStep::Reject),
     }
 }

@@ -3,7 +3,7 @@ ghost use Rattle.std.specs.Prelude.{◌≡◌, ◌+◌, ◌<◌, ◌^◌, revers
 ghost use Rattle.lf_parse.specs.Depth as depth;
 ghost use Rattle.lf_parse.specs.views.Values.{mark_of, token_of, nesting_of};
 
-use crate::class::Class;
+use crate::class::WordClass;
 use crate::mark::{Mark, MarkedToken, marked};
 use crate::operator::op_of_sign;
 use lf_base::Memory;
@@ -152,7 +152,7 @@ fn counts(begun: bool, mark: Mark) -> bool
     match mark {
         Mark::Sign(Sign::OpenBracket) => true,
         Mark::Sign(sign) => op_of_sign(sign).is_some(),
-        Mark::Word(Class::Operator(_)) => !begun,
+        Mark::Word(WordClass::Operator(_)) => !begun,
         _ => false,
     }
 }

@@ -5,7 +5,7 @@ ghost use Rattle.lf_parse.specs.reading.Machine as machine;
 ghost use Rattle.lf_parse.specs.views.Values.{token_of, frame_of, frames_of, next, callee_of, operand_of};
 
 use crate::braces::Braces;
-use crate::class::Class;
+use crate::class::WordClass;
 use crate::mark::{Mark, MarkedToken};
 use crate::mode::{Callee, Operand, ParserFrame, ParserMode};
 use crate::reduce::applied;
@@ -52,14 +52,14 @@ pub fn expect_operand(
     ensures { IfOk result (λ p. next stack.new.items p ≡ machine.expect_operand (frames_of stack.old.items) (token_of token.entry)) }
 {
     match token.mark {
-        Mark::Number | Mark::Word(Class::Numeric) => {
+        Mark::Number | Mark::Word(WordClass::Numeric) => {
             Ok(Some(ParserMode::ExpectOperator(number(alloc, token)?)))
         }
         Mark::Str => Ok(Some(ParserMode::ExpectOperator(string(alloc, token)?))),
-        Mark::Word(Class::Plain) | Mark::Word(Class::Edge(_)) | Mark::Metric => {
+        Mark::Word(WordClass::Plain) | Mark::Word(WordClass::Edge(_)) | Mark::Metric => {
             Ok(Some(ParserMode::ExpectOperator(bare(alloc, token)?)))
         }
-        Mark::Word(Class::Aggregation(op)) => Ok(Some(ParserMode::AfterAggregation(
+        Mark::Word(WordClass::Aggregation(op)) => Ok(Some(ParserMode::AfterAggregation(
             op, token.span,
         ))),
         Mark::Sign(Sign::OpenBrace) => Ok(Some(ParserMode::InBraces(
@@ -110,11 +110,11 @@ pub fn first(
             let operand = applied(alloc, callee, Seq::new(alloc), token.span)?;
             Ok(Some(ParserMode::ExpectOperator(operand)))
         }
-        _ => expect_operand_in(
-            alloc,
-            stack,
-            ParserFrame::Args(callee, Seq::new(alloc)),
-            token,
-        ),
+        _ => {
+            // Most have one argument.
+            let args = Vec::with_capacity(alloc, 1)?;
+            let begun = ParserFrame::Args(callee, Seq::from_vec(args));
+            expect_operand_in(alloc, stack, begun, token)
+        }
     }
 }

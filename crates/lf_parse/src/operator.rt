@@ -5,7 +5,7 @@ ghost use Rattle.lf_parse.specs.Grammar as grammar;
 ghost use Rattle.lf_parse.specs.views.Values.{mark_of};
 ghost use Rattle.std.specs.Prelude.{List, ℕ};
 
-use crate::class::Class;
+use crate::class::WordClass;
 use crate::mark::Mark;
 use lf_ast::Op;
 use lf_lex::Sign;
@@ -40,7 +40,7 @@ pub fn op_of(mark: Mark) -> Option<Op>
 {
     match mark {
         Mark::Sign(sign) => op_of_sign(sign),
-        Mark::Word(Class::Operator(op)) => Some(op),
+        Mark::Word(WordClass::Operator(op)) => Some(op),
         _ => None,
     }
 }

@@ -4,11 +4,11 @@ ghost use Rattle.lf_parse.specs.Grammar as grammar;
 ghost use Rattle.lf_parse.specs.reading.Machine as machine;
 ghost use Rattle.lf_parse.specs.views.Values.{token_of, names_of, front_of, stage_of, step_of};
 
-use crate::class::{Class, Scope, Side};
+use crate::class::{Scope, Side, WordClass};
 use crate::mark::{Mark, MarkedToken};
 use crate::names::{Names, names_step};
 use crate::span::{behind, to};
-use crate::step::Step;
+use crate::step::ParserStep;
 use lf_ast::{Group, Matching, Name};
 use lf_base::{Memory, Seq, Span};
 use lf_lex::Sign;
@@ -98,20 +98,20 @@ fn many_of(side: Side) -> Group
 }
 
 /// Takes the token right behind an operator.
-fn begin(alloc: Global, operator: Span, token: MarkedToken) -> Step<Stage, Matching>
+fn begin(alloc: Global, operator: Span, token: MarkedToken) -> ParserStep<Stage, Matching>
     ensures { step_of stage_of (λ m. m) result ≡ machine.stage_step operator machine.Begin (token_of token.entry) }
 {
     match token.mark {
-        Mark::Word(Class::Bool) => Step::More(Stage::AfterBool(token.span)),
-        Mark::Word(Class::Matching(scope)) => {
+        Mark::Word(WordClass::Bool) => ParserStep::More(Stage::AfterBool(token.span)),
+        Mark::Word(WordClass::Matching(scope)) => {
             let front = Front {
                 with_bool: false,
                 first: token.span,
                 scope,
             };
-            Step::More(Stage::InLabels(front, Names::Opening))
+            ParserStep::More(Stage::InLabels(front, Names::Opening))
         }
-        _ => Step::DoneBefore(unmatched(alloc, false, behind(operator))),
+        _ => ParserStep::DoneBefore(unmatched(alloc, false, behind(operator))),
     }
 }
 
@@ -121,30 +121,35 @@ fn after_bool(
     operator: Span,
     first: Span,
     token: MarkedToken,
-) -> Step<Stage, Matching>
+) -> ParserStep<Stage, Matching>
     ensures { step_of stage_of (λ m. m) result ≡ machine.stage_step operator (machine.AfterBool first) (token_of token.entry) }
 {
     match token.mark {
-        Mark::Word(Class::Matching(scope)) => {
+        Mark::Word(WordClass::Matching(scope)) => {
             let front = Front {
                 with_bool: true,
                 first,
                 scope,
             };
-            Step::More(Stage::InLabels(front, Names::Opening))
+            ParserStep::More(Stage::InLabels(front, Names::Opening))
         }
-        _ => Step::DoneBefore(unmatched(alloc, true, first)),
+        _ => ParserStep::DoneBefore(unmatched(alloc, true, first)),
     }
 }
 
 /// Goes on inside the labels of `on` or `ignoring`, by what they did with a token.
-fn in_labels(front: Front, taken: Step<Names, (Seq<Name>, Span)>) -> Step<Stage, Matching>
+fn in_labels(
+    front: Front,
+    taken: ParserStep<Names, (Seq<Name>, Span)>,
+) -> ParserStep<Stage, Matching>
     ensures { step_of stage_of (λ m. m) result ≡ machine.in_labels (front_of front) (step_of names_of (λ v. v) taken) }
 {
     match taken {
-        Step::More(names) => Step::More(Stage::InLabels(front, names)),
-        Step::Done((labels, close)) => Step::More(Stage::AfterLabels(front, labels, close)),
-        Step::DoneBefore(_) | Step::Reject => Step::Reject,
+        ParserStep::More(names) => ParserStep::More(Stage::InLabels(front, names)),
+        ParserStep::Done((labels, close)) => ParserStep::More(Stage::AfterLabels(
+            front, labels, close,
+        )),
+        ParserStep::DoneBefore(_) | ParserStep::Reject => ParserStep::Reject,
     }
 }
 
@@ -156,14 +161,14 @@ fn after_labels(
     labels: Seq<Name>,
     close: Span,
     token: MarkedToken,
-) -> Step<Stage, Matching>
+) -> ParserStep<Stage, Matching>
     ensures { step_of stage_of (λ m. m) result ≡ machine.stage_step operator (machine.AfterLabels (front_of front) labels close) (token_of token.entry) }
 {
     match token.mark {
-        Mark::Word(Class::Group(side)) => {
-            Step::More(Stage::AfterGroup(front, labels, side, token.span))
+        Mark::Word(WordClass::Group(side)) => {
+            ParserStep::More(Stage::AfterGroup(front, labels, side, token.span))
         }
-        _ => Step::DoneBefore(matched(front, labels, Group::One, Seq::new(alloc), close)),
+        _ => ParserStep::DoneBefore(matched(front, labels, Group::One, Seq::new(alloc), close)),
     }
 }
 
@@ -176,17 +181,17 @@ fn after_group(
     side: Side,
     word: Span,
     token: MarkedToken,
-) -> Step<Stage, Matching>
+) -> ParserStep<Stage, Matching>
     ensures { step_of stage_of (λ m. m) result ≡ machine.stage_step operator (machine.AfterGroup (front_of front) labels side word) (token_of token.entry) }
 {
     match token.mark {
-        Mark::Sign(Sign::OpenParen) => Step::More(Stage::InInclude(
+        Mark::Sign(Sign::OpenParen) => ParserStep::More(Stage::InInclude(
             front,
             labels,
             side,
             Names::Next(Seq::new(alloc)),
         )),
-        _ => Step::DoneBefore(matched(front, labels, many_of(side), Seq::new(alloc), word)),
+        _ => ParserStep::DoneBefore(matched(front, labels, many_of(side), Seq::new(alloc), word)),
     }
 }
 
@@ -195,16 +200,16 @@ fn in_include(
     front: Front,
     labels: Seq<Name>,
     side: Side,
-    taken: Step<Names, (Seq<Name>, Span)>,
-) -> Step<Stage, Matching>
+    taken: ParserStep<Names, (Seq<Name>, Span)>,
+) -> ParserStep<Stage, Matching>
     ensures { step_of stage_of (λ m. m) result ≡ machine.in_include (front_of front) labels side (step_of names_of (λ v. v) taken) }
 {
     match taken {
-        Step::More(names) => Step::More(Stage::InInclude(front, labels, side, names)),
-        Step::Done((include, close)) => {
-            Step::Done(matched(front, labels, many_of(side), include, close))
+        ParserStep::More(names) => ParserStep::More(Stage::InInclude(front, labels, side, names)),
+        ParserStep::Done((include, close)) => {
+            ParserStep::Done(matched(front, labels, many_of(side), include, close))
         }
-        Step::DoneBefore(_) | Step::Reject => Step::Reject,
+        ParserStep::DoneBefore(_) | ParserStep::Reject => ParserStep::Reject,
     }
 }
 
@@ -214,7 +219,7 @@ pub fn stage_step(
     operator: Span,
     stage: Stage,
     token: MarkedToken,
-) -> Result<Step<Stage, Matching>, Memory>
+) -> Result<ParserStep<Stage, Matching>, Memory>
     ensures { IfOk result (λ taken. step_of stage_of (λ m. m) taken ≡ machine.stage_step operator (stage_of stage) (token_of token.entry)) }
 {
     match stage {

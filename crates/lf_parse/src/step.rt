@@ -2,7 +2,7 @@
 
 /// What a part inside which no expression stands does with a token.
 #[derive(Drop)]
-pub enum Step<S, V> {
+pub enum ParserStep<S, V> {
     /// The part goes on.
     More(S),
     /// The token ends it.

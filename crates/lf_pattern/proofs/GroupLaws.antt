@@ -9,15 +9,15 @@ use Rattle.std.proofs.lemmas.Bool.{cases_Bool, eqb-true}
 use Rattle.std.proofs.lemmas.Bool.Decides.{nat_tests}
 use Rattle.std.proofs.lemmas.Option.{none-some, same_Some}
 use Rattle.regex.specs.Patterns.{Re}
-use Rattle.lf_pattern.specs.Plain.{IsInPair, IsPlain, IsPlainPattern, HasGroup, is_special}
+use Rattle.lf_pattern.specs.Plain.{IsInPair, IsPlainList, IsPlainPattern, HasGroup, is_special}
 use Rattle.lf_pattern.specs.Read.{reading, found_group}
 use Rattle.lf_pattern.specs.Scan.{alternatives_of, has_pair, inside, is_quiet}
 use Rattle.lf_pattern.specs.Plain.{Joins}
 use Rattle.lf_pattern.specs.Matching.{IsGroupText, IsPlainGroup, IsRead, IsWhole, Matches, is_read, matches}
 use Rattle.lf_pattern.specs.reading.Expansion.{captures, expansion, group_text, is_capture, piece_text, plain_group}
 use Rattle.lf_pattern.specs.Replacement.{IsExpansion, IsPieceText, IsTextOf}
-use Rattle.lf_pattern.specs.declared.replacement.Piece.{Piece}
-use Rattle.lf_pattern.specs.declared.replacement.Piece.TheVariants.{Char, Group}
+use Rattle.lf_pattern.specs.declared.replacement.ReplacementPiece.{ReplacementPiece}
+use Rattle.lf_pattern.specs.declared.replacement.ReplacementPiece.TheVariants.{Char, Group}
 use Rattle.lf_pattern.proofs.MatchLaws.{matches_is}
 use Rattle.lf_pattern.proofs.PlainLaws.{found, is_found, Joins-head, Joins-inside, not_zero, wrapped}
 
@@ -38,7 +38,7 @@ inside_by_pair true false cs p q = refl
 inside_by_pair true true cs p q = absurd (true≢false q)
 inside_by_pair false quiet cs p q = absurd (true≢false (sym p))
 
-capture_found : (cs : List ℕ) (vs : List (List ℕ)) → IsPlain cs vs → is_capture cs ≡ true → IsInPair cs vs
+capture_found : (cs : List ℕ) (vs : List (List ℕ)) → IsPlainList cs vs → is_capture cs ≡ true → IsInPair cs vs
 capture_found cs vs plain t =
     let within = drop 1 (take (length cs - 1) cs) in
     let pair : has_pair cs ≡ true = grind (arith, nat_tests) in
@@ -91,18 +91,18 @@ group_is p value n text = group_by p value n text (alternatives_of p) refl
 
 -- ---- expansions
 
-piece_is : (p value : List ℕ) (piece : Piece) (text : List ℕ) → (text ≡ piece_text (group_text p value) piece) ↔ IsPieceText p value piece text
+piece_is : (p value : List ℕ) (piece : ReplacementPiece) (text : List ℕ) → (text ≡ piece_text (group_text p value) piece) ↔ IsPieceText p value piece text
 piece_is p value (Char c) text = (λ t. t, λ t. t)
 piece_is p value (Group n) text = group_is p value n text
 
-pub text_is : (p value : List ℕ) (ps : List Piece) (text : List ℕ) → (text ≡ flat_map (piece_text (group_text p value)) ps) ↔ IsTextOf p value ps text
+pub text_is : (p value : List ℕ) (ps : List ReplacementPiece) (text : List ℕ) → (text ≡ flat_map (piece_text (group_text p value)) ps) ↔ IsTextOf p value ps text
 text_is p value [] text = (λ t. t, λ t. t)
 text_is p value (piece ∷ ps) text = (
   λ t. (piece_text (group_text p value) piece, flat_map (piece_text (group_text p value)) ps, (piece_is p value piece _).0 refl, (text_is p value ps _).0 refl, t),
   λ (first, rest, a, b, e). e ∙ ap₂ (λ (x y : List ℕ). x ++ y) ((piece_is p value piece first).1 a) ((text_is p value ps rest).1 b),
 )
 
-expansion_by : (p value : List ℕ) (ps : List Piece) (r : Option (List ℕ)) (b : Bool) → matches p value ≡ b →
+expansion_by : (p value : List ℕ) (ps : List ReplacementPiece) (r : Option (List ℕ)) (b : Bool) → matches p value ≡ b →
     (r ≡ cond b (Some (flat_map (piece_text (group_text p value)) ps)) None) ↔ IsExpansion p value ps r
 expansion_by p value ps None true e = (λ h. absurd (none-some _ h), λ apart. absurd (apart ((matches_is p value).0 e)))
 expansion_by p value ps None false e = (λ h m. true≢false (sym ((matches_is p value).1 m) ∙ e), λ apart. refl)
@@ -112,7 +112,7 @@ expansion_by p value ps (Some text) true e = (
 )
 expansion_by p value ps (Some text) false e = (λ h. absurd (none-some _ (sym h)), λ (m, h). absurd (true≢false (sym ((matches_is p value).1 m) ∙ e)))
 
-pub expansion_is : (p value : List ℕ) (ps : List Piece) (r : Option (List ℕ)) → (r ≡ expansion p value ps) ↔ IsExpansion p value ps r
+pub expansion_is : (p value : List ℕ) (ps : List ReplacementPiece) (r : Option (List ℕ)) → (r ≡ expansion p value ps) ↔ IsExpansion p value ps r
 expansion_is p value ps r = expansion_by p value ps r (matches p value) refl
 
 -- ---- what clauses say
@@ -121,15 +121,15 @@ pub unread_of : {A E : Type 0} (r : Result A E) (bad : E) (p : List ℕ) → IfE
 unread_of (Ok x) bad p h = tt
 unread_of (Err e) bad p h = λ is read. true≢false (sym ((read_is p).1 read) ∙ h is)
 
-pub meaning_of : {E : Type 0} (r : Result (Option (List ℕ)) E) (p value : List ℕ) (ps : List Piece) → IfOk r (λ o. o ≡ expansion p value ps) → IfOk r (IsExpansion p value ps)
+pub meaning_of : {E : Type 0} (r : Result (Option (List ℕ)) E) (p value : List ℕ) (ps : List ReplacementPiece) → IfOk r (λ o. o ≡ expansion p value ps) → IfOk r (IsExpansion p value ps)
 meaning_of (Ok o) p value ps h = (expansion_is p value ps o).0 h
 meaning_of (Err e) p value ps h = tt
 
-pub none_of : {E : Type 0} (r : Result (Option (List ℕ)) E) (p value : List ℕ) (ps : List Piece) → IfOk r (IsExpansion p value ps) → IfOk r (λ o. (o ≡ None) ↔ (Matches p value → ⊥))
+pub none_of : {E : Type 0} (r : Result (Option (List ℕ)) E) (p value : List ℕ) (ps : List ReplacementPiece) → IfOk r (IsExpansion p value ps) → IfOk r (λ o. (o ≡ None) ↔ (Matches p value → ⊥))
 none_of (Ok None) p value ps h = (λ e. h, λ unmatched. refl)
 none_of (Ok (Some t)) p value ps h = (λ e. absurd (none-some _ (sym e)), λ unmatched. absurd (unmatched h.0))
 none_of (Err e) p value ps h = tt
 
-pub only_of : {E : Type 0} (r : Result (Option (List ℕ)) E) (p value : List ℕ) (ps : List Piece) (o : Option (List ℕ)) → IfOk r (λ o. o ≡ expansion p value ps) → IsExpansion p value ps o → IfOk r (λ x. x ≡ o)
+pub only_of : {E : Type 0} (r : Result (Option (List ℕ)) E) (p value : List ℕ) (ps : List ReplacementPiece) (o : Option (List ℕ)) → IfOk r (λ o. o ≡ expansion p value ps) → IsExpansion p value ps o → IfOk r (λ x. x ≡ o)
 only_of (Ok x) p value ps o h is = h ∙ sym ((expansion_is p value ps o).1 is)
 only_of (Err e) p value ps o h is = tt

@@ -4,11 +4,11 @@ use Rattle.std.specs.Char.{digit_value}
 use Rattle.std.specs.Str.Parse.{AllDigits, digits_value_after}
 use Rattle.std.proofs.lemmas.Bool.Decides.{nat_tests}
 use Rattle.std.proofs.lemmas.Bool.{cond-true, cond-false}
-use Rattle.lf_pattern.specs.declared.replacement.Piece.{Piece}
-use Rattle.lf_pattern.specs.declared.replacement.Piece.TheVariants.{Char, Group}
+use Rattle.lf_pattern.specs.declared.replacement.ReplacementPiece.{ReplacementPiece}
+use Rattle.lf_pattern.specs.declared.replacement.ReplacementPiece.TheVariants.{Char, Group}
 use Rattle.lf_pattern.specs.declared.replacement.ReplacementMode.{ReplacementMode}
 use Rattle.lf_pattern.specs.declared.replacement.ReplacementMode.TheVariants.{Text, Dollar, Number, Braced}
-use Rattle.lf_pattern.specs.Replacement.{IsNumber, is_word, BeginsApart, Reads, end, other, dollar, number, braced}
+use Rattle.lf_pattern.specs.Replacement.{IsGroupNumber, is_word, BeginsApart, ReadsReplacement, end, other, dollar, number, braced}
 use Rattle.lf_pattern.specs.reading.Replacement.{greatest, with_digit, pieces_of, bounded}
 
 -- a number ends at what is no digit
@@ -71,7 +71,7 @@ number-over n (c ∷ cs) h = number-apart n c cs (not-digit c h)
 small : (v : ℕ) → v < 10 → v ≡ min v greatest
 small v h = omega arith
 
-number-read : (digits cs : List ℕ) (n : ℕ) → IsNumber digits n → BeginsApart cs → pieces_of Dollar (digits ++ cs) ≡ Group (min n greatest) ∷ pieces_of Text cs
+number-read : (digits cs : List ℕ) (n : ℕ) → IsGroupNumber digits n → BeginsApart cs → pieces_of Dollar (digits ++ cs) ≡ Group (min n greatest) ∷ pieces_of Text cs
 number-read [] cs n h apart = absurd (omega (arith, h.0.0))
 number-read (d ∷ ds) cs n h apart =
     let all = h.0.1 in
@@ -82,13 +82,13 @@ number-read (d ∷ ds) cs n h apart =
     ∙ number-over _ cs apart
     ∙ ap (λ (k : ℕ). Group (min k greatest) ∷ pieces_of Text cs) (ap (λ (k : ℕ). digits_value_after 10 k ds) (let e : v ≡ 0 * 10 + v = omega arith in e) ∙ sym h.2)
 
-pub found_pieces : {cs : List ℕ} {ps : List Piece} → Reads cs ps → pieces_of Text cs ≡ map bounded ps
+pub found_pieces : {cs : List ℕ} {ps : List ReplacementPiece} → ReadsReplacement cs ps → pieces_of Text cs ≡ map bounded ps
 unfolding pieces_of
 found_pieces end = refl
-found_pieces (other {c} {cs} {ps} ne r) = cond-false (c == 36) _ _ (grind (arith, nat_tests)) ∙ ap (λ (l : List Piece). Char c ∷ l) (found_pieces r)
-found_pieces (dollar r) = ap (λ (l : List Piece). Char 36 ∷ l) (found_pieces r)
-found_pieces (number digits {cs} {n} {ps} is apart r) = number-read digits cs n is apart ∙ ap (λ (l : List Piece). Group (min n greatest) ∷ l) (found_pieces r)
+found_pieces (other {c} {cs} {ps} ne r) = cond-false (c == 36) _ _ (grind (arith, nat_tests)) ∙ ap (λ (l : List ReplacementPiece). Char c ∷ l) (found_pieces r)
+found_pieces (dollar r) = ap (λ (l : List ReplacementPiece). Char 36 ∷ l) (found_pieces r)
+found_pieces (number digits {cs} {n} {ps} is apart r) = number-read digits cs n is apart ∙ ap (λ (l : List ReplacementPiece). Group (min n greatest) ∷ l) (found_pieces r)
 found_pieces (braced digits {cs} {n} {ps} is r) =
     braced-digits 0 digits cs is.0.1
     ∙ ap (λ (k : ℕ). Group (min k greatest) ∷ pieces_of Text cs) (sym is.2)
-    ∙ ap (λ (l : List Piece). Group (min n greatest) ∷ l) (found_pieces r)
+    ∙ ap (λ (l : List ReplacementPiece). Group (min n greatest) ∷ l) (found_pieces r)

@@ -5,7 +5,7 @@ use Rattle.std.proofs.lemmas.Option.{none-some, same_Some}
 use Rattle.std.specs.Str.{chars}
 use Rattle.std.proofs.lemmas.Bool.Decides.{nat_tests}
 use Rattle.std.proofs.lemmas.Bool.{cond-true, cond-false, cond_both, cases_Bool, eqb-true}
-use Rattle.lf_pattern.specs.Plain.{Joins, end, bar, ordinary, escaped, is_escapable, is_special, IsPlain, HasAlternatives}
+use Rattle.lf_pattern.specs.Plain.{Joins, end, bar, ordinary, escaped, is_escapable, is_special, IsPlainList, HasAlternatives}
 use Rattle.lf_pattern.specs.Scan.{scanned, inside, has_pair, is_quiet, alternatives_of}
 
 -- the values of the list, when `now` was read of the first one and `done` before it
@@ -125,7 +125,7 @@ inside-Joins {cs} r = elim (inside_cases cs) [
   ]
 ]
 
-pub Joins-inside : (cs : List ℕ) (vs : List (List ℕ)) → IsPlain cs vs → Joins (inside cs) vs
+pub Joins-inside : (cs : List ℕ) (vs : List (List ℕ)) → IsPlainList cs vs → Joins (inside cs) vs
 unfolding is_special
 Joins-inside cs vs (inl r) = let P : List ℕ → Type 0 = λ l. Joins l vs in subst P (sym (inside-Joins r)) r
 Joins-inside cs vs (inr (inl (inner, e, r))) =
@@ -135,8 +135,8 @@ Joins-inside cs vs (inr (inr (inner, e, r))) =
     let P : List ℕ → Type 0 = λ l. Joins l vs in
     subst P (sym (ap inside e ∙ inside-quiet inner)) r
 
-IsPlain-inside : (cs : List ℕ) (vs : List (List ℕ)) → Joins (inside cs) vs → IsPlain cs vs
-IsPlain-inside cs vs r = elim (inside_cases cs) [
+IsPlainList-inside : (cs : List ℕ) (vs : List (List ℕ)) → Joins (inside cs) vs → IsPlainList cs vs
+IsPlainList-inside cs vs r = elim (inside_cases cs) [
   | inl e ↦ inl (let P : List ℕ → Type 0 = λ l. Joins l vs in subst P e r)
   | inr w ↦ elim w [ inl e ↦ inr (inl (inside cs, e, r)) | inr e ↦ inr (inr (inside cs, e, r)) ]
 ]
@@ -155,4 +155,4 @@ found text alternatives (vs, plain, e) = Joins-values (Joins-inside (chars text)
 pub is_found : (text : List ℕ) (alternatives : List (List ℕ)) → alternatives_of text ≡ Some alternatives → HasAlternatives text alternatives
 is_found text alternatives h =
     let (v, vs, r, e) = Joins-scanned false (inside (chars text)) [] [] alternatives h in
-    (v ∷ vs, IsPlain-inside (chars text) (v ∷ vs) r, e)
+    (v ∷ vs, IsPlainList-inside (chars text) (v ∷ vs) r, e)

@@ -6,11 +6,11 @@ use Rattle.std.specs.Str.Parse.{AllDigits, IsNumeral, digits_value}
 use Rattle.std.proofs.lemmas.Bool.Decides.{nat_tests}
 use Rattle.std.proofs.lemmas.Bool.{cond-true, cond-false, eqb-true}
 use Rattle.std.proofs.lemmas.Int.Digits.{digits_push}
-use Rattle.lf_pattern.specs.declared.replacement.Piece.{Piece}
-use Rattle.lf_pattern.specs.declared.replacement.Piece.TheVariants.{Char, Group}
+use Rattle.lf_pattern.specs.declared.replacement.ReplacementPiece.{ReplacementPiece}
+use Rattle.lf_pattern.specs.declared.replacement.ReplacementPiece.TheVariants.{Char, Group}
 use Rattle.lf_pattern.specs.declared.plainness.Check.{Check}
 use Rattle.lf_pattern.specs.declared.plainness.Check.TheVariants.{Text, Dollar, Zero, Number, Brace, BracedZero, Braced, Wrong}
-use Rattle.lf_pattern.specs.Replacement.{IsNumber, BeginsApart, Reads, end, other, dollar, number, braced}
+use Rattle.lf_pattern.specs.Replacement.{IsGroupNumber, BeginsApart, ReadsReplacement, end, other, dollar, number, braced}
 use Rattle.lf_pattern.specs.reading.Plainness.{is_word, checked, may_end, passes}
 use Rattle.lf_pattern.specs.ShapeScan.{is_digit}
 use Rattle.lf_pattern.proofs.Digits.{digit-is, digit-below}
@@ -73,7 +73,7 @@ zero-alone : (d : ℕ) (ds : List ℕ) → (slice_index (d ∷ ds) 0 ≢ 48) ⊎
 zero-alone d ds (inl h) = inr (let ne : d ≢ 48 = h in grind (arith, nat_tests))
 zero-alone d ds (inr h) = inl cc
 
-number-passes : (digits cs : List ℕ) (n : ℕ) → IsNumber digits n → BeginsApart cs → passes Text cs ≡ true → passes Dollar (digits ++ cs) ≡ true
+number-passes : (digits cs : List ℕ) (n : ℕ) → IsGroupNumber digits n → BeginsApart cs → passes Text cs ≡ true → passes Dollar (digits ++ cs) ≡ true
 number-passes [] cs n is apart h = absurd (omega (arith, is.0.0))
 number-passes (d ∷ ds) cs n is apart h = elim (zero-alone d ds is.1) [
   | inl e ↦
@@ -83,7 +83,7 @@ number-passes (d ∷ ds) cs n is apart h = elim (zero-alone d ds is.1) [
       at_step Dollar Number d (ds ++ cs) (dollar-digit d is.0.1.0 ∙ ap (λ (b : Bool). cond b Zero Number) e) (number-digits ds cs is.0.1.1 (number-over false cs apart h))
 ]
 
-braced-passes : (digits cs : List ℕ) (n : ℕ) → IsNumber digits n → passes Text cs ≡ true → passes Brace (digits ++ 125 ∷ cs) ≡ true
+braced-passes : (digits cs : List ℕ) (n : ℕ) → IsGroupNumber digits n → passes Text cs ≡ true → passes Brace (digits ++ 125 ∷ cs) ≡ true
 braced-passes [] cs n is h = absurd (omega (arith, is.0.0))
 braced-passes (d ∷ ds) cs n is h = elim (zero-alone d ds is.1) [
   | inl e ↦
@@ -93,7 +93,7 @@ braced-passes (d ∷ ds) cs n is h = elim (zero-alone d ds is.1) [
       at_step Brace Braced d (ds ++ 125 ∷ cs) (brace-digit d is.0.1.0 ∙ ap (λ (b : Bool). cond b BracedZero Braced) e) (braced-digits ds cs is.0.1.1 h)
 ]
 
-pub plain-passes : {cs : List ℕ} {ps : List Piece} → Reads cs ps → passes Text cs ≡ true
+pub plain-passes : {cs : List ℕ} {ps : List ReplacementPiece} → ReadsReplacement cs ps → passes Text cs ≡ true
 unfolding checked
 plain-passes end = refl
 plain-passes (other {c} {cs} ne r) = at_step Text Text c cs (text-other c ne) (plain-passes r)
@@ -104,7 +104,7 @@ plain-passes (braced digits {cs} {n} is r) = braced-passes digits cs n is (plain
 -- ---- what passes is plain
 
 abbrev IsPlainText : List ℕ → Type 0
-IsPlainText cs = (ps : List Piece) × Reads cs ps
+IsPlainText cs = (ps : List ReplacementPiece) × ReadsReplacement cs ps
 
 -- the digits of a number that doesn't begin with 0
 abbrev IsLong : List ℕ → Type 0
@@ -121,10 +121,10 @@ Left BracedZero cs = IsPlainText (36 ∷ 123 ∷ 48 ∷ cs)
 Left Braced cs = (digits : List ℕ) → IsLong digits → IsPlainText (36 ∷ 123 ∷ digits ++ cs)
 Left Wrong cs = ⊥
 
-is_zero : IsNumber (48 ∷ []) 0
+is_zero : IsGroupNumber (48 ∷ []) 0
 is_zero = ((omega arith, (omega arith, tt)), inr refl, refl)
 
-long-number : (digits : List ℕ) → IsLong digits → IsNumber digits (digits_value 10 digits)
+long-number : (digits : List ℕ) → IsLong digits → IsGroupNumber digits (digits_value 10 digits)
 long-number digits h = (h.0, inl h.1, refl)
 
 long-one : (c : ℕ) → is_digit c ≡ true → (c == 48) ≡ false → IsLong (c ∷ [])
@@ -147,7 +147,7 @@ module _ (cs : List ℕ) (later : (m : Check) → passes m cs ≡ true → Left 
       (λ e h. let (ps, r) = later Text h in let ne : c ≢ 36 = λ (f : c ≡ 36). absurd (grind (arith, nat_tests)) in (Char c ∷ ps, other ne r)) h
 
   -- a number, and behind it what isn't of a word
-  behind_number : (digits : List ℕ) (n c : ℕ) → IsNumber digits n → is_word c ≡ false → passes (checked Text c) cs ≡ true → IsPlainText (36 ∷ digits ++ (c ∷ cs))
+  behind_number : (digits : List ℕ) (n c : ℕ) → IsGroupNumber digits n → is_word c ≡ false → passes (checked Text c) cs ≡ true → IsPlainText (36 ∷ digits ++ (c ∷ cs))
   behind_number digits n c is apart h = let (ps, r) = left_text c h in (Group n ∷ ps, number digits is apart r)
 
   left_dollar : (c : ℕ) → passes (checked Dollar c) cs ≡ true → IsPlainText (36 ∷ c ∷ cs)
@@ -237,5 +237,5 @@ left : (cs : List ℕ) (m : Check) → passes m cs ≡ true → Left m cs
 left [] m h = left_end m h
 left (c ∷ cs) m h = left_step cs (λ m. left cs m) c m h
 
-pub passes-plain : (cs : List ℕ) → passes Text cs ≡ true → (ps : List Piece) × Reads cs ps
+pub passes-plain : (cs : List ℕ) → passes Text cs ≡ true → (ps : List ReplacementPiece) × ReadsReplacement cs ps
 passes-plain cs h = left cs Text h

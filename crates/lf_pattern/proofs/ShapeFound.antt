@@ -9,18 +9,18 @@ use Rattle.std.proofs.lemmas.Str.{length-encode}
 use Rattle.std.specs.Char.{digit_value}
 use Rattle.std.specs.Str.Parse.{AllDigits, IsNumeral, digits_value_after}
 use Rattle.lf_pattern.specs.Plain.{is_special, is_escapable}
-use Rattle.lf_pattern.specs.Shape.{Samples, counted, last_of, is_opaque, unknown, class_samples, IsLeast, Count, star, plus, optional, exactly, at_least, between, Lazily, greedy, lazy, Alternatives, one, more, Branch, nothing, next, QuantifiedAtom, once, often, Atom, ordinary, any, begin, end, digit, word, space, escaped, class, negated, group, quiet, HasShape}
+use Rattle.lf_pattern.specs.Shape.{Samples, counted, last_of, is_opaque, unknown, class_samples, IsLeastCount, Count, star, plus, optional, exactly, at_least, between, Lazily, greedy, lazy, Alternatives, one, more, Branch, nothing, next, QuantifiedAtom, once, often, Atom, ordinary, any, begin, end, digit, word, space, escaped, class, negated, group, quiet, HasSamples}
 use Rattle.lf_pattern.specs.declared.sample.Both.{Both}
 use Rattle.lf_pattern.specs.declared.shape.GroupFrame.{GroupFrame}
-use Rattle.lf_pattern.specs.declared.shape.ShapeMode.{ShapeMode}
-use Rattle.lf_pattern.specs.declared.shape.ShapeMode.TheVariants as mode
-use Rattle.lf_pattern.specs.declared.shape.CharacterKind.{CharacterKind}
-use Rattle.lf_pattern.specs.declared.shape.CharacterKind.TheVariants as kind
-use Rattle.lf_pattern.specs.ShapeScan.{State, nothing_read, pair, followed_by, counted_by, value_of, with_branch, flushed, kind_of, begun_with, begun, is_hidden, class_pair, is_digit, stepped, start, may_end, ended, read_from}
+use Rattle.lf_pattern.specs.declared.shape_mode.ShapeMode.{ShapeMode}
+use Rattle.lf_pattern.specs.declared.shape_mode.ShapeMode.TheVariants as mode
+use Rattle.lf_pattern.specs.declared.shape_mode.CharacterKind.{CharacterKind}
+use Rattle.lf_pattern.specs.declared.shape_mode.CharacterKind.TheVariants as kind
+use Rattle.lf_pattern.specs.ShapeScan.{ShapeState, nothing_read, pair, followed_by, counted_by, value_of, with_branch, flushed, kind_of, begun_with, begun, is_hidden, class_pair, is_digit, stepped, start, may_end, ended, read_from}
 use Rattle.lf_pattern.proofs.Capping.{fits, cut, both_of, capped-fits, followed-cut, counted-cut, followed-followed, followed-nothing, nothing-cut}
 use Rattle.lf_pattern.proofs.Digits.{digit-is}
 
-abbrev pub st : ShapeMode → Both → GroupFrame → List GroupFrame → State
+abbrev pub st : ShapeMode → Both → GroupFrame → List GroupFrame → ShapeState
 st m P F S = record { mode = m; piece = P; frame = F; stack = S }
 
 -- a character with which a count begins
@@ -63,7 +63,7 @@ idle mode.Outside P F S c h apart = absurd (true≢false (sym h))
 -- the same of all that is left
 pub idle_from : (m : ShapeMode) (P : Both) (F : GroupFrame) (S : List GroupFrame) (c : ℕ) (rest : List ℕ) → may_end m ≡ true → is_count c ≡ false →
     read_from (st m P F S) (c ∷ rest) ≡ read_from (begun (st mode.Ready P F S) c) rest
-idle_from m P F S c rest h apart = ap (λ (s : State). read_from s rest) (idle m P F S c h apart)
+idle_from m P F S c rest h apart = ap (λ (s : ShapeState). read_from s rest) (idle m P F S c h apart)
 
 kind-ordinary : (c : ℕ) → is_special c ≡ false → kind_of c ≡ kind.Ordinary
 unfolding is_special
@@ -120,8 +120,8 @@ module _ (P : Both) (F : GroupFrame) (S : List GroupFrame) where
   unfolding stepped
   most-digit n d h = cond-true (is_digit d) _ _ (digit-is d h)
 
-  at_step : (s t : State) (c : ℕ) (cs : List ℕ) → stepped s c ≡ t → read_from s (c ∷ cs) ≡ read_from t cs
-  at_step s t c cs e = ap (λ (u : State). read_from u cs) e
+  at_step : (s t : ShapeState) (c : ℕ) (cs : List ℕ) → stepped s c ≡ t → read_from s (c ∷ cs) ≡ read_from t cs
+  at_step s t c cs e = ap (λ (u : ShapeState). read_from u cs) e
 
   least-digits : (n : ℕ) (ds rest : List ℕ) → AllDigits 10 ds → digits_value_after 10 n ds ≤ 64 →
       read_from (st (mode.Least n) P F S) (ds ++ rest) ≡ read_from (st (mode.Least (digits_value_after 10 n ds)) P F S) rest
@@ -131,7 +131,7 @@ module _ (P : Both) (F : GroupFrame) (S : List GroupFrame) where
       at_step (st (mode.Least n) P F S) _ d (ds ++ rest) (least-digit n d h.0 (omega (arith, le, grows)))
       ∙ least-digits (n * 10 + digit_value d) ds rest h.1 le
 
-  brace-digits : (digits rest : List ℕ) (n : ℕ) → IsLeast digits n → read_from (st mode.Brace P F S) (digits ++ rest) ≡ read_from (st (mode.Least n) P F S) rest
+  brace-digits : (digits rest : List ℕ) (n : ℕ) → IsLeastCount digits n → read_from (st mode.Brace P F S) (digits ++ rest) ≡ read_from (st (mode.Least n) P F S) rest
   brace-digits [] rest n h = absurd (omega (arith, h.0.0))
   brace-digits (d ∷ ds) rest n h =
       let all = h.0.1 in
@@ -218,7 +218,7 @@ ends : (m : ShapeMode) (P : Both) (F : GroupFrame) → may_end m ≡ true → en
 ends m P F i = ap (λ (b : Bool). cond (not b) None (Some (value_of (with_branch F P)))) i
 
 -- from `s` over `cs` a branch is read to `rest`, and its samples are then `R`
-record ReadsBranch (s : State) (cs : List ℕ) (R : Both) (x : Option (Option (List ℕ))) (S : List GroupFrame) (rest : List ℕ) : Type 0 where
+record ReadsBranch (s : ShapeState) (cs : List ℕ) (R : Both) (x : Option (Option (List ℕ))) (S : List GroupFrame) (rest : List ℕ) : Type 0 where
   mode_then : ShapeMode
   piece_then : Both
   frame_then : GroupFrame
@@ -228,7 +228,7 @@ record ReadsBranch (s : State) (cs : List ℕ) (R : Both) (x : Option (Option (L
   first : frame_then.first ≡ x
 
 -- the same of alternatives, whose samples are then `V`
-record ReadsAll (s : State) (cs : List ℕ) (V : Both) (S : List GroupFrame) (rest : List ℕ) : Type 0 where
+record ReadsAll (s : ShapeState) (cs : List ℕ) (V : Both) (S : List GroupFrame) (rest : List ℕ) : Type 0 where
   mode_then : ShapeMode
   piece_then : Both
   frame_then : GroupFrame
@@ -245,7 +245,7 @@ fresh x = record { first = x; branch = nothing_read }
 branch_value : (f : GroupFrame) (P : Both) (x : Option (Option (List ℕ))) (R : Both) → followed_by f.branch P ≡ R → f.first ≡ x → value_of (with_branch f P) ≡ value_with x R
 branch_value f P x R r h = ap₂ (λ (y : Option (Option (List ℕ))) (q : Both). value_with y q) h r
 
-by_laziness : {vs rest : List ℕ} → Lazily vs rest → (s : State) (cs : List ℕ) (P R : Both) (F : GroupFrame) (S : List GroupFrame) →
+by_laziness : {vs rest : List ℕ} → Lazily vs rest → (s : ShapeState) (cs : List ℕ) (P R : Both) (F : GroupFrame) (S : List GroupFrame) →
     read_from s cs ≡ read_from (st mode.Lazy P F S) vs → followed_by F.branch P ≡ R → ReadsBranch s cs R F.first S rest
 unfolding stepped
 by_laziness greedy s cs P R F S e r = record { mode_then = mode.Lazy; piece_then = P; frame_then = F; idle_then = refl; runs = e; branch = r; first = refl }
@@ -342,7 +342,7 @@ mutual
       }
 
 -- a pattern of the shape is read with its samples
-pub found_shape : (cs : List ℕ) (p : Samples) → HasShape cs p → read_from start cs ≡ Some (cut p)
+pub found_shape : (cs : List ℕ) (p : Samples) → HasSamples cs p → read_from start cs ≡ Some (cut p)
 found_shape cs p a =
     let r = found_all a mode.Ready None [] refl in
     r.runs ∙ ends r.mode_then r.piece_then r.frame_then r.idle_then ∙ ap Some r.value

@@ -12,14 +12,14 @@ use Rattle.std.specs.List.{list_any}
 use Rattle.std.specs.Char.{digit_value}
 use Rattle.std.specs.Str.Parse.{IsNumeral}
 use Rattle.lf_pattern.specs.Plain.{is_special, is_escapable}
-use Rattle.lf_pattern.specs.Shape.{Samples, same, followed, counted, chosen, last_of, is_opaque, unknown, class_samples, IsLeast, Count, star, plus, optional, exactly, at_least, between, Lazily, greedy, lazy, Alternatives, one, more, Branch, nothing, next, once, often, Atom, ordinary, any, begin, end, digit, word, space, escaped, class, negated, group, quiet, HasShape}
+use Rattle.lf_pattern.specs.Shape.{Samples, same, followed, counted, chosen, last_of, is_opaque, unknown, class_samples, IsLeastCount, Count, star, plus, optional, exactly, at_least, between, Lazily, greedy, lazy, Alternatives, one, more, Branch, nothing, next, once, often, Atom, ordinary, any, begin, end, digit, word, space, escaped, class, negated, group, quiet, HasSamples}
 use Rattle.lf_pattern.specs.declared.sample.Both.{Both}
 use Rattle.lf_pattern.specs.declared.shape.GroupFrame.{GroupFrame}
-use Rattle.lf_pattern.specs.declared.shape.ShapeMode.{ShapeMode}
-use Rattle.lf_pattern.specs.declared.shape.ShapeMode.TheVariants as mode
-use Rattle.lf_pattern.specs.declared.shape.CharacterKind.{CharacterKind}
-use Rattle.lf_pattern.specs.declared.shape.CharacterKind.TheVariants as kind
-use Rattle.lf_pattern.specs.ShapeScan.{State, nothing_read, pair, followed_by, counted_by, value_of, with_branch, flushed, kind_of, begun_with, begun, behind_atom, escaped_by, in_class, in_least, in_most, is_hidden, class_pair, is_digit, stepped, start, may_end, ended, read_from}
+use Rattle.lf_pattern.specs.declared.shape_mode.ShapeMode.{ShapeMode}
+use Rattle.lf_pattern.specs.declared.shape_mode.ShapeMode.TheVariants as mode
+use Rattle.lf_pattern.specs.declared.shape_mode.CharacterKind.{CharacterKind}
+use Rattle.lf_pattern.specs.declared.shape_mode.CharacterKind.TheVariants as kind
+use Rattle.lf_pattern.specs.ShapeScan.{ShapeState, nothing_read, pair, followed_by, counted_by, value_of, with_branch, flushed, kind_of, begun_with, begun, behind_atom, escaped_by, in_class, in_least, in_most, is_hidden, class_pair, is_digit, stepped, start, may_end, ended, read_from}
 use Rattle.lf_pattern.proofs.Capping.{cut, followed-cut, counted-cut, followed-followed, followed-nothing, nothing-cut}
 use Rattle.lf_pattern.proofs.Digits.{digit-below}
 use Rattle.lf_pattern.proofs.ShapeFound.{st, begun-mode, encoded-cut, class-cut, fresh, value_with}
@@ -71,13 +71,13 @@ numeral-one c h = (omega arith, (digit-below c h, tt))
 numeral-push : (ds : List ℕ) (c : ℕ) → IsNumeral 10 ds → is_digit c ≡ true → IsNumeral 10 (ds ++ c ∷ [])
 numeral-push ds c h e = (omega (arith, length-append ds (c ∷ [])), digits_push 10 ds c h.1 (digit-below c e))
 
-least-one : (c : ℕ) → is_digit c ≡ true → IsLeast (c ∷ []) (digit_value c)
+least-one : (c : ℕ) → is_digit c ≡ true → IsLeastCount (c ∷ []) (digit_value c)
 least-one c h = let lt = digit-below c h in (numeral-one c h, omega arith, omega arith)
 
 small : (v : ℕ) → nat_le v 64 ≡ true → v ≤ 64
 small v h = grind (arith, nat_tests)
 
-least-push : (ds : List ℕ) (n c : ℕ) → IsLeast ds n → is_digit c ≡ true → nat_le (n * 10 + digit_value c) 64 ≡ true → IsLeast (ds ++ c ∷ []) (n * 10 + digit_value c)
+least-push : (ds : List ℕ) (n c : ℕ) → IsLeastCount ds n → is_digit c ≡ true → nat_le (n * 10 + digit_value c) 64 ≡ true → IsLeastCount (ds ++ c ∷ []) (n * 10 + digit_value c)
 least-push ds n c h e f =
     (numeral-push ds c h.0 e, ap (λ (k : ℕ). k * 10 + digit_value c) h.1 ∙ sym (digits_value_push 10 ds c), small (n * 10 + digit_value c) f)
 
@@ -152,10 +152,10 @@ module _ (v : Both) where
   Left mode.NegatedStart P F S cs = AtomThen (Ends S) F (91 ∷ 94 ∷ cs)
   Left mode.Negated P F S cs = (first : ℕ) (members : List ℕ) → All (λ m. m ≢ 93) members → AtomThen (Ends S) F (91 ∷ 94 ∷ first ∷ members ++ cs)
   Left mode.Brace P F S cs = CountThen (Ends S) P F (123 ∷ cs)
-  Left (mode.Least n) P F S cs = (digits : List ℕ) → IsLeast digits n → CountThen (Ends S) P F (123 ∷ digits ++ cs)
-  Left (mode.Comma n) P F S cs = (digits : List ℕ) → IsLeast digits n → CountThen (Ends S) P F (123 ∷ digits ++ (44 ∷ cs))
+  Left (mode.Least n) P F S cs = (digits : List ℕ) → IsLeastCount digits n → CountThen (Ends S) P F (123 ∷ digits ++ cs)
+  Left (mode.Comma n) P F S cs = (digits : List ℕ) → IsLeastCount digits n → CountThen (Ends S) P F (123 ∷ digits ++ (44 ∷ cs))
   Left (mode.Most n) P F S cs =
-      (digits most : List ℕ) → IsLeast digits n → IsNumeral 10 most → CountThen (Ends S) P F (123 ∷ digits ++ (44 ∷ most ++ cs))
+      (digits most : List ℕ) → IsLeastCount digits n → IsNumeral 10 most → CountThen (Ends S) P F (123 ∷ digits ++ (44 ∷ most ++ cs))
   Left mode.Outside P F S cs = ⊥
 
   -- ---- at the end
@@ -190,7 +190,7 @@ module _ (v : Both) where
 
   module _ (cs : List ℕ) (given_later : (m : ShapeMode) (P : Both) (F : GroupFrame) (S : List GroupFrame) → read_from (st m P F S) cs ≡ Some v → Left m P F S cs) where
     -- a test that the next state rests on
-    split : (T : Type 0) (b : Bool) (x y : State) → (b ≡ true → read_from x cs ≡ Some v → T) → (b ≡ false → read_from y cs ≡ Some v → T) → read_from (cond b x y) cs ≡ Some v → T
+    split : (T : Type 0) (b : Bool) (x y : ShapeState) → (b ≡ true → read_from x cs ≡ Some v → T) → (b ≡ false → read_from y cs ≡ Some v → T) → read_from (cond b x y) cs ≡ Some v → T
     split T true x y f g h = f refl h
     split T false x y f g h = g refl h
 
@@ -251,7 +251,7 @@ module _ (v : Both) where
         with_atom (Ends S) X (c ∷ cs) (same (encode_utf8 c), cs, ordinary is, subst A (encoded-cut c c) (given_later mode.Atom (pair (encode_utf8 c) (encode_utf8 c)) X S h))
 
     by_begin : (c : ℕ) (m : ShapeMode) (P : Both) (F : GroupFrame) (S : List GroupFrame) → read_from (begun (st m P F S) c) cs ≡ Some v → Tail (Ends S) (with_branch F P) (c ∷ cs)
-    by_begin c m P F S h = by_kind c P F S (kind_of c) (kind-sorted c) (ap (λ (s : State). read_from s cs) (sym (begun-mode (kind_of c) m P F S c)) ∙ h)
+    by_begin c m P F S h = by_kind c P F S (kind_of c) (kind-sorted c) (ap (λ (s : ShapeState). read_from s cs) (sym (begun-mode (kind_of c) m P F S c)) ∙ h)
 
     counted_then : (c : ℕ) (P : Both) (F : GroupFrame) (S : List GroupFrame) (n : ℕ) (us : List ℕ) → Count us n cs → read_from (st mode.Lazy (counted_by n P) F S) cs ≡ Some v → CountThen (Ends S) P F us
     counted_then c P F S n us count h = let (ws, lazily, tail) = given_later mode.Lazy (counted_by n P) F S h in (n, cs, ws, count, lazily, tail)
@@ -324,7 +324,7 @@ module _ (v : Both) where
         (λ _ h. absurd (given_later mode.Outside P F S h)) h
 
     left_least : (n c : ℕ) (P : Both) (F : GroupFrame) (S : List GroupFrame) → read_from (in_least n (st (mode.Least n) P F S) c) cs ≡ Some v →
-        (digits : List ℕ) → IsLeast digits n → CountThen (Ends S) P F (123 ∷ digits ++ (c ∷ cs))
+        (digits : List ℕ) → IsLeastCount digits n → CountThen (Ends S) P F (123 ∷ digits ++ (c ∷ cs))
     left_least n c P F S h digits is =
         let T = CountThen (Ends S) P F (123 ∷ digits ++ (c ∷ cs)) in
         let D : ℕ → Type 0 = λ d. CountThen (Ends S) P F (123 ∷ digits ++ (d ∷ cs)) in
@@ -341,7 +341,7 @@ module _ (v : Both) where
         (λ _ h. absurd (given_later mode.Outside P F S h)) h) h) h
 
     left_comma : (n c : ℕ) (P : Both) (F : GroupFrame) (S : List GroupFrame) → read_from (in_most n (st (mode.Comma n) P F S) c) cs ≡ Some v →
-        (digits : List ℕ) → IsLeast digits n → CountThen (Ends S) P F (123 ∷ digits ++ (44 ∷ c ∷ cs))
+        (digits : List ℕ) → IsLeastCount digits n → CountThen (Ends S) P F (123 ∷ digits ++ (44 ∷ c ∷ cs))
     left_comma n c P F S h digits is =
         let T = CountThen (Ends S) P F (123 ∷ digits ++ (44 ∷ c ∷ cs)) in
         let D : ℕ → Type 0 = λ d. CountThen (Ends S) P F (123 ∷ digits ++ (44 ∷ d ∷ cs)) in
@@ -352,7 +352,7 @@ module _ (v : Both) where
         (λ _ h. absurd (given_later mode.Outside P F S h)) h) h
 
     left_most : (n c : ℕ) (P : Both) (F : GroupFrame) (S : List GroupFrame) → read_from (in_most n (st (mode.Most n) P F S) c) cs ≡ Some v →
-        (digits most : List ℕ) → IsLeast digits n → IsNumeral 10 most → CountThen (Ends S) P F (123 ∷ digits ++ (44 ∷ most ++ (c ∷ cs)))
+        (digits most : List ℕ) → IsLeastCount digits n → IsNumeral 10 most → CountThen (Ends S) P F (123 ∷ digits ++ (44 ∷ most ++ (c ∷ cs)))
     left_most n c P F S h digits most is numeral =
         let T = CountThen (Ends S) P F (123 ∷ digits ++ (44 ∷ most ++ (c ∷ cs))) in
         let D : ℕ → Type 0 = λ d. CountThen (Ends S) P F (123 ∷ digits ++ (44 ∷ most ++ (d ∷ cs))) in
@@ -400,7 +400,7 @@ module _ (v : Both) where
   left (c ∷ cs) m P F S h = left_step cs (λ m P F S. left cs m P F S) c m P F S h
 
 -- what is read has the shape, with samples that are these where they aren't too long
-pub given_shape : (cs : List ℕ) (v : Both) → read_from start cs ≡ Some v → (p : Samples) × HasShape cs p × (v ≡ cut p)
+pub given_shape : (cs : List ℕ) (v : Both) → read_from start cs ≡ Some v → (p : Samples) × HasSamples cs p × (v ≡ cut p)
 given_shape cs v h =
     let (q, vs, alternatives, e) = all_of (Ends v []) None cs (left v cs mode.Ready nothing_read (fresh None) [] h) in
     let A : List ℕ → Type 0 = λ l. Alternatives cs q l in

@@ -1,18 +1,18 @@
 -- The definitions on examples.
 use Rattle.std.proofs.Common.{◌≡◌, ◌≢◌, ℕ, zero, suc, List, [], ◌∷◌, None, refl, sym, arith, inl, inr, All, false, true≢false}
 use Rattle.std.specs.Char.{encode_utf8}
-use Rattle.lf_pattern.specs.Plain.{HasGroup, IsInPair, IsPlain, is_special, is_escapable}
+use Rattle.lf_pattern.specs.Plain.{HasGroup, IsInPair, IsPlainList, is_special, is_escapable}
 use Rattle.lf_pattern.specs.Matching.{IsPlainGroup}
 use Rattle.lf_pattern.proofs.GroupLaws.{capture_given}
 use Rattle.lf_pattern.specs.Plain as joins
 use Rattle.lf_pattern.specs.Scan.{scanned, inside}
-use Rattle.lf_pattern.specs.Shape.{Samples, same, followed, counted, unknown, class_samples, HasShape, one, next, nothing, once, often, ordinary, any, class, negated, star, optional, greedy}
-use Rattle.lf_pattern.specs.Replacement.{Reads, IsNumber}
+use Rattle.lf_pattern.specs.Shape.{Samples, same, followed, counted, unknown, class_samples, HasSamples, one, next, nothing, once, often, ordinary, any, class, negated, star, optional, greedy}
+use Rattle.lf_pattern.specs.Replacement.{ReadsReplacement, IsGroupNumber}
 use Rattle.lf_pattern.specs.Replacement as pieces
-use Rattle.lf_pattern.specs.declared.replacement.Piece.TheVariants.{Group}
+use Rattle.lf_pattern.specs.declared.replacement.ReplacementPiece.TheVariants.{Group}
 
 -- `(a|b\.c)` has the alternatives `a` and `b.c`
-two_alternatives : IsPlain (40 ∷ 97 ∷ 124 ∷ 98 ∷ 92 ∷ 46 ∷ 99 ∷ 41 ∷ []) ((97 ∷ []) ∷ (98 ∷ 46 ∷ 99 ∷ []) ∷ [])
+two_alternatives : IsPlainList (40 ∷ 97 ∷ 124 ∷ 98 ∷ 92 ∷ 46 ∷ 99 ∷ 41 ∷ []) ((97 ∷ []) ∷ (98 ∷ 46 ∷ 99 ∷ []) ∷ [])
 unfolding is_special is_escapable
 two_alternatives =
     inr (inl (97 ∷ 124 ∷ 98 ∷ 92 ∷ 46 ∷ 99 ∷ [], refl, joins.ordinary refl (joins.bar (joins.ordinary refl (joins.escaped refl (joins.ordinary refl joins.end))))))
@@ -44,7 +44,7 @@ any_samples = record { low = 48 ∷ []; high = 97 ∷ [] }
 abbrev dots_samples : Samples
 dots_samples = followed (same (encode_utf8 53)) (followed any_samples (followed any_samples (same [])))
 
-dots : HasShape (53 ∷ 46 ∷ 46 ∷ []) dots_samples
+dots : HasSamples (53 ∷ 46 ∷ 46 ∷ []) dots_samples
 unfolding is_special
 dots = one (next (once (ordinary refl)) (next (once any) (next (once any) nothing)))
 
@@ -56,7 +56,7 @@ dots_are = refl
 abbrev star_samples : Samples
 star_samples = followed (counted 0 any_samples) (same [])
 
-any_star : HasShape (46 ∷ 42 ∷ []) star_samples
+any_star : HasSamples (46 ∷ 42 ∷ []) star_samples
 any_star = one (next (often any star greedy) nothing)
 
 any_star_is : star_samples ≡ record { low = []; high = 97 ∷ [] }
@@ -71,7 +71,7 @@ no_brackets zero d lt = λ (e : 45 ≡ 93). absurd (omega arith)
 no_brackets (suc zero) d lt = λ (e : 99 ≡ 93). absurd (omega arith)
 no_brackets (suc (suc k)) d lt = absurd (omega arith)
 
-class_x : HasShape (91 ∷ 97 ∷ 45 ∷ 99 ∷ 93 ∷ 120 ∷ 63 ∷ []) class_x_samples
+class_x : HasSamples (91 ∷ 97 ∷ 45 ∷ 99 ∷ 93 ∷ 120 ∷ 63 ∷ []) class_x_samples
 unfolding is_special
 class_x = one (next (once (class 97 (45 ∷ 99 ∷ []) (λ (e : 97 ≡ 94). absurd (omega arith)) no_brackets)) (next (often (ordinary refl) optional greedy) nothing))
 
@@ -84,12 +84,12 @@ only_a : All (λ (m : ℕ). m ≢ 93) (97 ∷ [])
 only_a zero d lt = λ (e : 97 ≡ 93). absurd (omega arith)
 only_a (suc k) d lt = absurd (omega arith)
 
-not_bracket : HasShape (91 ∷ 94 ∷ 93 ∷ 97 ∷ 93 ∷ []) (followed unknown (same []))
+not_bracket : HasSamples (91 ∷ 94 ∷ 93 ∷ 97 ∷ 93 ∷ []) (followed unknown (same []))
 not_bracket = one (next (once (negated 93 (97 ∷ []) only_a)) nothing)
 
 -- `$1` is group 1
-one_is : IsNumber (49 ∷ []) 1
+one_is : IsGroupNumber (49 ∷ []) 1
 one_is = ((omega arith, (omega arith, tt)), inl (λ (e : 49 ≡ 48). absurd (omega arith)), refl)
 
-group_one : Reads (36 ∷ 49 ∷ []) (Group 1 ∷ [])
+group_one : ReadsReplacement (36 ∷ 49 ∷ []) (Group 1 ∷ [])
 group_one = pieces.number (49 ∷ []) one_is tt pieces.end

@@ -25,8 +25,8 @@ abbrev pub IsInPair : List ℕ → List (List ℕ) → Type 0
 IsInPair cs vs = (inner : List ℕ) × (cs ≡ 40 ∷ inner ++ 41 ∷ []) × Joins inner vs
 
 -- such a list alone, or in one pair `( )` or `(?: )`
-abbrev pub IsPlain : List ℕ → List (List ℕ) → Type 0
-IsPlain cs vs =
+abbrev pub IsPlainList : List ℕ → List (List ℕ) → Type 0
+IsPlainList cs vs =
     Joins cs vs
     ⊎ (IsInPair cs vs
     ⊎ ((inner : List ℕ) × (cs ≡ 40 ∷ 63 ∷ 58 ∷ inner ++ 41 ∷ []) × Joins inner vs))
@@ -34,7 +34,7 @@ IsPlain cs vs =
 -- a text is a plain pattern of these alternatives, as UTF-8
 abbrev pub HasAlternatives : List ℕ → List (List ℕ) → Type 0
 HasAlternatives text alternatives =
-    (vs : List (List ℕ)) × IsPlain (chars text) vs × (alternatives ≡ map encode_utf8_all vs)
+    (vs : List (List ℕ)) × IsPlainList (chars text) vs × (alternatives ≡ map encode_utf8_all vs)
 
 -- a text is a plain pattern
 abbrev pub IsPlainPattern : List ℕ → Type 0

@@ -2,7 +2,7 @@
 use Rattle.std.specs.Prelude.{◌≡◌, ◌≢◌, ◌≤◌, ◌⊎◌, ℕ, List, [], ◌∷◌, length, if◌then◌else◌}
 use Rattle.std.specs.Str.{chars, bytes_eq}
 use Rattle.lf_pattern.specs.Matching.{Matches}
-use Rattle.lf_pattern.specs.Shape.{Samples, HasShape}
+use Rattle.lf_pattern.specs.Shape.{Samples, HasSamples}
 
 -- A sample is kept if it isn't empty, has at most 256 bytes and the pattern matches it.
 abbrev pub IsKept : List ℕ → List ℕ → Type 0
@@ -21,5 +21,5 @@ candidates s = if bytes_eq s.low s.high then s.low ∷ [] else s.low ∷ s.high 
 -- A pattern of the shape has those of its low and its high sample that are kept, and a pattern outside the shape has none.
 abbrev pub AreSamples : List ℕ → List (List ℕ) → Type 0
 AreSamples p samples =
-    ((s : Samples) × HasShape (chars p) s × AreKept p (candidates s) samples)
-    ⊎ (((s : Samples) → HasShape (chars p) s → ⊥) × (samples ≡ []))
+    ((s : Samples) × HasSamples (chars p) s × AreKept p (candidates s) samples)
+    ⊎ (((s : Samples) → HasSamples (chars p) s → ⊥) × (samples ≡ []))

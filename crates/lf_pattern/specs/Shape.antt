@@ -50,17 +50,17 @@ class_samples first more =
     else record { low = encode_utf8 first; high = encode_utf8 (last_of first more) }
 
 -- the digits of a count's least number
-abbrev pub IsLeast : List ℕ → ℕ → Type 0
-IsLeast digits n = IsNumeral 10 digits × (n ≡ digits_value 10 digits) × (n ≤ 64)
+abbrev pub IsLeastCount : List ℕ → ℕ → Type 0
+IsLeastCount digits n = IsNumeral 10 digits × (n ≡ digits_value 10 digits) × (n ≤ 64)
 
 -- `Count cs least rest`: one of `*`, `+`, `?`, `{n}`, `{n,}` and `{n,m}`
 pub data Count : List ℕ → ℕ → List ℕ → Type 0 where
   star : {rest : List ℕ} → Count (42 ∷ rest) 0 rest
   plus : {rest : List ℕ} → Count (43 ∷ rest) 1 rest
   optional : {rest : List ℕ} → Count (63 ∷ rest) 0 rest
-  exactly : (digits : List ℕ) {rest : List ℕ} {n : ℕ} → IsLeast digits n → Count (123 ∷ digits ++ 125 ∷ rest) n rest
-  at_least : (digits : List ℕ) {rest : List ℕ} {n : ℕ} → IsLeast digits n → Count (123 ∷ digits ++ 44 ∷ 125 ∷ rest) n rest
-  between : (digits most : List ℕ) {rest : List ℕ} {n : ℕ} → IsLeast digits n → IsNumeral 10 most → Count (123 ∷ digits ++ (44 ∷ most ++ 125 ∷ rest)) n rest
+  exactly : (digits : List ℕ) {rest : List ℕ} {n : ℕ} → IsLeastCount digits n → Count (123 ∷ digits ++ 125 ∷ rest) n rest
+  at_least : (digits : List ℕ) {rest : List ℕ} {n : ℕ} → IsLeastCount digits n → Count (123 ∷ digits ++ 44 ∷ 125 ∷ rest) n rest
+  between : (digits most : List ℕ) {rest : List ℕ} {n : ℕ} → IsLeastCount digits n → IsNumeral 10 most → Count (123 ∷ digits ++ (44 ∷ most ++ 125 ∷ rest)) n rest
 
 -- `Lazily cs rest`: perhaps a `?`
 pub data Lazily : List ℕ → List ℕ → Type 0 where
@@ -102,5 +102,5 @@ mutual
     quiet : {cs rest : List ℕ} {p : Samples} → Alternatives cs p (41 ∷ rest) → Atom (40 ∷ 63 ∷ 58 ∷ cs) p rest
 
 -- the whole of the characters has the shape, with these samples
-abbrev pub HasShape : List ℕ → Samples → Type 0
-HasShape cs p = Alternatives cs p []
+abbrev pub HasSamples : List ℕ → Samples → Type 0
+HasSamples cs p = Alternatives cs p []

@@ -1,15 +1,15 @@
 -- The samples of a pattern's shape as a function, character by character, with a frame for each open group. The universe of lf_semantics is a value that is computed of rules, and
--- goes by it; so it is a definition. `HasShape` of Shape.antt says the same as a relation, and laws in proofs/ say that it finds exactly the samples that `HasShape` gives, each cut to
+-- goes by it; so it is a definition. `HasSamples` of Shape.antt says the same as a relation, and laws in proofs/ say that it finds exactly the samples that `HasSamples` gives, each cut to
 -- None where it has more than 256 bytes.
 use Rattle.std.specs.Prelude.{ℕ, zero, suc, ◌+◌, ◌*◌, max, Bool, true, false, ◌==◌, ◌||◌, not, nat_lt, nat_le, List, [], ◌∷◌, ◌++◌, length, reverse, Option, Some, None, unwrap_or, encode_utf8, if◌then◌else◌}
 use Rattle.std.specs.Char.{digit_value}
 use Rattle.lf_pattern.specs.Plain.{is_special, is_escapable}
 use Rattle.lf_pattern.specs.declared.sample.Both.{Both}
 use Rattle.lf_pattern.specs.declared.shape.GroupFrame.{GroupFrame}
-use Rattle.lf_pattern.specs.declared.shape.ShapeMode.{ShapeMode}
-use Rattle.lf_pattern.specs.declared.shape.ShapeMode.TheVariants.{Ready, Atom, Lazy, Escape, Open, Quiet, ClassStart, Class, NegatedStart, Negated, Brace, Least, Comma, Most, Outside}
-use Rattle.lf_pattern.specs.declared.shape.CharacterKind.{CharacterKind}
-use Rattle.lf_pattern.specs.declared.shape.CharacterKind.TheVariants as kind
+use Rattle.lf_pattern.specs.declared.shape_mode.ShapeMode.{ShapeMode}
+use Rattle.lf_pattern.specs.declared.shape_mode.ShapeMode.TheVariants.{Ready, Atom, Lazy, Escape, Open, Quiet, ClassStart, Class, NegatedStart, Negated, Brace, Least, Comma, Most, Outside}
+use Rattle.lf_pattern.specs.declared.shape_mode.CharacterKind.{CharacterKind}
+use Rattle.lf_pattern.specs.declared.shape_mode.CharacterKind.TheVariants as kind
 use Rattle.lf_pattern.specs.declared.shape.Reader.{Reader}
 
 -- ---- samples of at most 256 bytes
@@ -48,37 +48,37 @@ abbrev pub with_branch : GroupFrame → Both → GroupFrame
 with_branch f p = record { first = f.first; branch = followed_by f.branch p }
 
 -- what was read: in which mode, the samples of the last piece, which isn't in its branch yet, the frame of the branch, and the frames round it, the innermost first
-pub record State : Type 0 where
+pub record ShapeState : Type 0 where
   pub mode : ShapeMode
   pub piece : Both
   pub frame : GroupFrame
   pub stack : List GroupFrame
 
-abbrev pub state_of : Reader → State
+abbrev pub state_of : Reader → ShapeState
 state_of r = record { mode = r.mode; piece = r.piece; frame = r.frame; stack = reverse r.stack }
 
-abbrev pub in_mode : ShapeMode → State → State
+abbrev pub in_mode : ShapeMode → ShapeState → ShapeState
 in_mode m s = record { mode = m; piece = s.piece; frame = s.frame; stack = s.stack }
 
 -- an atom was read, with these samples
-abbrev pub with_atom : Both → State → State
+abbrev pub with_atom : Both → ShapeState → ShapeState
 with_atom p s = record { mode = Atom; piece = p; frame = s.frame; stack = s.stack }
 
 -- a count was read
-abbrev pub with_count : ℕ → State → State
+abbrev pub with_count : ℕ → ShapeState → ShapeState
 with_count least s = record { mode = Lazy; piece = counted_by least s.piece; frame = s.frame; stack = s.stack }
 
 -- the last piece is put into its branch
-abbrev pub flushed : State → State
+abbrev pub flushed : ShapeState → ShapeState
 flushed s = record { mode = s.mode; piece = nothing_read; frame = with_branch s.frame s.piece; stack = s.stack }
 
-abbrev pub barred : State → State
+abbrev pub barred : ShapeState → ShapeState
 barred s = record { mode = Ready; piece = s.piece; frame = record { first = Some (unwrap_or s.frame.first s.frame.branch.low); branch = nothing_read }; stack = s.stack }
 
-abbrev pub opened : State → State
+abbrev pub opened : ShapeState → ShapeState
 opened s = record { mode = Open; piece = s.piece; frame = record { first = None; branch = nothing_read }; stack = s.frame ∷ s.stack }
 
-abbrev pub closed_onto : List GroupFrame → State → State
+abbrev pub closed_onto : List GroupFrame → ShapeState → ShapeState
 closed_onto [] s = in_mode Outside s
 closed_onto (f ∷ fs) s = record { mode = Atom; piece = value_of s.frame; frame = f; stack = fs }
 
@@ -96,7 +96,7 @@ kind_of c =
     else kind.Ordinary
 
 -- a character that begins something, behind a branch that is flushed
-abbrev pub begun_with : CharacterKind → State → ℕ → State
+abbrev pub begun_with : CharacterKind → ShapeState → ℕ → ShapeState
 begun_with kind.Bar s c = barred s
 begun_with kind.Open s c = opened s
 begun_with kind.Close s c = closed_onto s.stack s
@@ -107,13 +107,13 @@ begun_with kind.Anchor s c = with_atom nothing_read s
 begun_with kind.Odd s c = in_mode Outside s
 begun_with kind.Ordinary s c = with_atom (pair (encode_utf8 c) (encode_utf8 c)) s
 
-abbrev pub begun : State → ℕ → State
+abbrev pub begun : ShapeState → ℕ → ShapeState
 begun s c = begun_with (kind_of c) (flushed s) c
 
 abbrev pub is_hidden : ℕ → Bool
 is_hidden c = (c == 92) || (c == 91)
 
-abbrev pub escaped_by : State → ℕ → State
+abbrev pub escaped_by : ShapeState → ℕ → ShapeState
 escaped_by s c =
     if c == 100 then with_atom (pair (48 ∷ []) (48 ∷ [])) s
     else if c == 119 then with_atom (pair (97 ∷ []) (97 ∷ [])) s
@@ -124,11 +124,11 @@ escaped_by s c =
 abbrev pub class_pair : ℕ → ℕ → Bool → Both
 class_pair first last opaque = if opaque then pair (48 ∷ []) (97 ∷ []) else pair (encode_utf8 first) (encode_utf8 last)
 
-abbrev pub in_class : ℕ → ℕ → Bool → State → ℕ → State
+abbrev pub in_class : ℕ → ℕ → Bool → ShapeState → ℕ → ShapeState
 in_class first last opaque s c = if c == 93 then with_atom (class_pair first last opaque) s else in_mode (Class first c (opaque || is_hidden c)) s
 
 -- a character behind an atom
-abbrev pub behind_atom : State → ℕ → State
+abbrev pub behind_atom : ShapeState → ℕ → ShapeState
 behind_atom s c =
     if c == 42 then with_count 0 s
     else if c == 43 then with_count 1 s
@@ -140,20 +140,20 @@ abbrev pub is_digit : ℕ → Bool
 is_digit c = nat_lt (digit_value c) 10
 
 -- a character behind the digits of a count's least number
-abbrev pub in_least : ℕ → State → ℕ → State
+abbrev pub in_least : ℕ → ShapeState → ℕ → ShapeState
 in_least n s c =
     if is_digit c then (if nat_le (n * 10 + digit_value c) 64 then in_mode (Least (n * 10 + digit_value c)) s else in_mode Outside s)
     else if c == 125 then with_count n s
     else if c == 44 then in_mode (Comma n) s
     else in_mode Outside s
 
-abbrev pub in_most : ℕ → State → ℕ → State
+abbrev pub in_most : ℕ → ShapeState → ℕ → ShapeState
 in_most n s c =
     if is_digit c then in_mode (Most n) s
     else if c == 125 then with_count n s
     else in_mode Outside s
 
-abbrev pub stepped_in : ShapeMode → State → ℕ → State
+abbrev pub stepped_in : ShapeMode → ShapeState → ℕ → ShapeState
 stepped_in Ready s c = begun s c
 stepped_in Atom s c = behind_atom s c
 stepped_in Lazy s c = if c == 63 then in_mode Ready s else begun s c
@@ -170,11 +170,11 @@ stepped_in (Comma n) s c = in_most n s c
 stepped_in (Most n) s c = in_most n s c
 stepped_in Outside s c = s
 
-unfoldable pub stepped : State → ℕ → State
+unfoldable pub stepped : ShapeState → ℕ → ShapeState
 stepped s c = stepped_in s.mode s c
 
 -- the state before the first character
-abbrev pub start : State
+abbrev pub start : ShapeState
 start = record { mode = Ready; piece = nothing_read; frame = record { first = None; branch = nothing_read }; stack = [] }
 
 -- the pattern may end in this mode
@@ -186,10 +186,10 @@ may_end Open = true
 may_end _ = false
 
 -- the samples, where the pattern may end here
-abbrev pub ended : State → Option Both
+abbrev pub ended : ShapeState → Option Both
 ended s = if nat_lt 0 (length s.stack) || not (may_end s.mode) then None else Some (value_of (flushed s).frame)
 
 -- the samples of what is left
-abbrev pub read_from : State → List ℕ → Option Both
+abbrev pub read_from : ShapeState → List ℕ → Option Both
 read_from s [] = ended s
 read_from s (c ∷ cs) = read_from (stepped s c) cs

@@ -11,7 +11,7 @@ ghost use Rattle.lf_pattern.specs.reading.Expansion.{expanded, piece_text};
 ghost use Rattle.lf_pattern.specs.reading.Replacement.{greatest};
 
 use crate::error::PatternError;
-use crate::replacement::Piece;
+use crate::replacement::ReplacementPiece;
 use lf_base::{Memory, Text};
 use regex::{Captures, Error, Matcher, Regex, RegexBuilder};
 use std::alloc::{AllocError, Global};
@@ -69,7 +69,7 @@ pub fn expand(
     alloc: Global,
     regex: &Regex,
     value: &str,
-    pieces: &[Piece],
+    pieces: &[ReplacementPiece],
 ) -> Result<Option<Text>, Memory>
     ensures value { (p : List ℕ) → regex_source regex.now ≡ anchored p → regex_config regex.now ≡ default_config → IsReadFromSource regex.now → IfOk result (λ r. r ≡ expanded (finds p value.now) (found_group p value.now) pieces.now) }
     // No group has the greatest number or a greater one.
@@ -90,7 +90,7 @@ fn write_match<'h>(
     alloc: Global,
     value: &'h str,
     captures: &Captures<'_, 'h>,
-    pieces: &[Piece],
+    pieces: &[ReplacementPiece],
 ) -> Result<Text, Memory>
     ensures text { IfOk result (λ t. t ≡ flat_map (piece_text (group_of_match value.now captures.now)) pieces.now) }
     ensures few { IfOk result (λ _. (n : ℕ) → greatest ≤ n → captures_span captures.now n ≡ None) }
@@ -99,8 +99,8 @@ fn write_match<'h>(
     let mut text = String::new(alloc);
     for piece in pieces {
         match piece {
-            Piece::Char(c) => text.push(*c)?,
-            Piece::Group(n) => text.push_str(group(value, captures, *n, count))?,
+            ReplacementPiece::Char(c) => text.push(*c)?,
+            ReplacementPiece::Group(n) => text.push_str(group(value, captures, *n, count))?,
         }
     }
     Ok(Text::from_string(text))

@@ -12,6 +12,7 @@ mod replacement;
 mod sample;
 mod sampling;
 mod shape;
+mod shape_mode;
 mod writing;
 
 pub use error::PatternError;

@@ -10,7 +10,7 @@ use crate::compiled::{compile, expand};
 use crate::error::PatternError;
 use crate::plain::{in_pair, plain_alternatives};
 use crate::probe::Probe;
-use crate::replacement::{Piece, pieces};
+use crate::replacement::{ReplacementPiece, pieces};
 use crate::writing::write_plain;
 use lf_base::{Memory, Seq, Text};
 use regex::Regex;
@@ -93,10 +93,10 @@ impl Pattern {
         replacement: &Text,
     ) -> Result<Option<Text>, Memory>
         requires plain { IsPlainReplacement replacement.now }
-        ensures value { (ps : List Piece) → HasPieces replacement.now ps → IfOk result (λ r. r ≡ expansion self.old value.now ps) }
-        ensures meaning { (ps : List Piece) → HasPieces replacement.now ps → IfOk result (IsExpansion self.old value.now ps) }
+        ensures value { (ps : List ReplacementPiece) → HasPieces replacement.now ps → IfOk result (λ r. r ≡ expansion self.old value.now ps) }
+        ensures meaning { (ps : List ReplacementPiece) → HasPieces replacement.now ps → IfOk result (IsExpansion self.old value.now ps) }
         // No other answer is an expansion.
-        ensures only { (ps : List Piece) (answer : Option (List ℕ)) → HasPieces replacement.now ps → IsExpansion self.old value.now ps answer → IfOk result (λ r. r ≡ answer) }
+        ensures only { (ps : List ReplacementPiece) (answer : Option (List ℕ)) → HasPieces replacement.now ps → IsExpansion self.old value.now ps answer → IfOk result (λ r. r ≡ answer) }
         ensures none { IfOk result (λ r. (r ≡ None) ↔ (Matches self.old value.now → ⊥)) }
         ensures same { self.new ≡ self.old }
     {
@@ -116,7 +116,7 @@ fn expand_plain(
     alternatives: &Seq<Text>,
     pair: bool,
     value: &Text,
-    pieces: &[Piece],
+    pieces: &[ReplacementPiece],
 ) -> Result<Option<Text>, Memory>
     ensures { IfOk result (λ r. r ≡ expanded (list_any (λ a. bytes_eq a value.now) alternatives.now) (plain_group pair value.now) pieces.now) }
 {

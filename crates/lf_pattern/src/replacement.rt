@@ -9,7 +9,7 @@ use std::alloc::Global;
 
 /// A piece of a replacement.
 #[derive(Clone, Copy, PartialEq, Eq, Debug)]
-pub enum Piece {
+pub enum ReplacementPiece {
     /// This character.
     Char(char),
     /// The text of the group with this number.
@@ -30,15 +30,15 @@ enum ReplacementMode {
 }
 
 /// The pieces of a plain replacement. A number that the machine's numbers don't reach is told as the greatest of them.
-pub fn pieces(alloc: Global, replacement: &Text) -> Result<Seq<Piece>, Memory>
-    ensures { (ps : List Piece) → HasPieces replacement.now ps → IfOk result (λ found. found ≡ map bounded ps) }
+pub fn pieces(alloc: Global, replacement: &Text) -> Result<Seq<ReplacementPiece>, Memory>
+    ensures { (ps : List ReplacementPiece) → HasPieces replacement.now ps → IfOk result (λ found. found ≡ map bounded ps) }
 {
     let characters: Vec<char> = replacement.as_str().chars().collect(alloc)?;
     scan(alloc, &characters)
 }
 
 /// The pieces of the characters.
-fn scan(alloc: Global, characters: &[char]) -> Result<Seq<Piece>, Memory>
+fn scan(alloc: Global, characters: &[char]) -> Result<Seq<ReplacementPiece>, Memory>
     ensures { IfOk result (λ found. found ≡ pieces_of ReplacementMode.Text characters.now) }
 {
     let mut pieces = Seq::new(alloc);
@@ -47,13 +47,17 @@ fn scan(alloc: Global, characters: &[char]) -> Result<Seq<Piece>, Memory>
         mode = step(&mut pieces, mode, *c)?;
     }
     if let ReplacementMode::Number(n) = mode {
-        pieces.push(Piece::Group(n))?;
+        pieces.push(ReplacementPiece::Group(n))?;
     }
     Ok(pieces)
 }
 
 /// Reads a character, and says what is open behind it.
-fn step(pieces: &mut Seq<Piece>, mode: ReplacementMode, c: char) -> Result<ReplacementMode, Memory>
+fn step(
+    pieces: &mut Seq<ReplacementPiece>,
+    mode: ReplacementMode,
+    c: char,
+) -> Result<ReplacementMode, Memory>
     ensures { (cs : List ℕ) → IfOk result (λ m. pieces.old ++ pieces_of mode (c ∷ cs) ≡ pieces.new ++ pieces_of m cs) }
 {
     match mode {
@@ -62,7 +66,7 @@ fn step(pieces: &mut Seq<Piece>, mode: ReplacementMode, c: char) -> Result<Repla
         ReplacementMode::Number(n) => match c.to_digit(10) {
             Some(digit) => Ok(ReplacementMode::Number(with_digit(n, digit))),
             None => {
-                pieces.push(Piece::Group(n))?;
+                pieces.push(ReplacementPiece::Group(n))?;
                 text(pieces, c)
             }
         },
@@ -72,23 +76,23 @@ fn step(pieces: &mut Seq<Piece>, mode: ReplacementMode, c: char) -> Result<Repla
 
 /// Reads a character that no piece is open before.
 #[tactic(auto, unfolding(crate::specs::reading::Replacement::pieces_of))]
-fn text(pieces: &mut Seq<Piece>, c: char) -> Result<ReplacementMode, Memory>
+fn text(pieces: &mut Seq<ReplacementPiece>, c: char) -> Result<ReplacementMode, Memory>
     ensures { (cs : List ℕ) → IfOk result (λ m. pieces.old ++ pieces_of ReplacementMode.Text (c ∷ cs) ≡ pieces.new ++ pieces_of m cs) }
 {
     if c == '$' {
         return Ok(ReplacementMode::Dollar);
     }
-    pieces.push(Piece::Char(c))?;
+    pieces.push(ReplacementPiece::Char(c))?;
     Ok(ReplacementMode::Text)
 }
 
 /// Reads a character behind a `$`.
 #[tactic(auto, unfolding(crate::specs::reading::Replacement::pieces_of))]
-fn dollar(pieces: &mut Seq<Piece>, c: char) -> Result<ReplacementMode, Memory>
+fn dollar(pieces: &mut Seq<ReplacementPiece>, c: char) -> Result<ReplacementMode, Memory>
     ensures { (cs : List ℕ) → IfOk result (λ m. pieces.old ++ pieces_of ReplacementMode.Dollar (c ∷ cs) ≡ pieces.new ++ pieces_of m cs) }
 {
     if c == '$' {
-        pieces.push(Piece::Char(c))?;
+        pieces.push(ReplacementPiece::Char(c))?;
         return Ok(ReplacementMode::Text);
     }
     if c == '{' {
@@ -102,14 +106,14 @@ fn dollar(pieces: &mut Seq<Piece>, c: char) -> Result<ReplacementMode, Memory>
 
 /// Reads a character behind a `${` and the digits of a number.
 #[tactic(auto, unfolding(crate::specs::reading::Replacement::pieces_of))]
-fn braced(pieces: &mut Seq<Piece>, n: usize, c: char) -> Result<ReplacementMode, Memory>
+fn braced(pieces: &mut Seq<ReplacementPiece>, n: usize, c: char) -> Result<ReplacementMode, Memory>
     ensures { (cs : List ℕ) → IfOk result (λ m. pieces.old ++ pieces_of (ReplacementMode.Braced n) (c ∷ cs) ≡ pieces.new ++ pieces_of m cs) }
 {
     if let Some(digit) = c.to_digit(10) {
         return Ok(ReplacementMode::Braced(with_digit(n, digit)));
     }
     if c == '}' {
-        pieces.push(Piece::Group(n))?;
+        pieces.push(ReplacementPiece::Group(n))?;
     }
     Ok(ReplacementMode::Text)
 }

@@ -1,67 +1,13 @@
 //! The shape of a pattern, read from left to right for its low and its high sample.
 ghost use Rattle.std.specs.Prelude.{◌≡◌, IfOk, reverse};
 ghost use Rattle.std.specs.Str.{chars};
-ghost use Rattle.lf_pattern.specs.ShapeScan.{barred, begun, behind_atom, class_pair, closed_onto, ended, escaped_by, flushed, in_class, in_least, in_mode, in_most, is_hidden, may_end, opened, kind_of, read_from, start, state_of, stepped, value_of, with_atom, with_count};
+ghost use Rattle.lf_pattern.specs.ShapeScan.{barred, begun, behind_atom, class_pair, closed_onto, ended, escaped_by, flushed, in_class, in_least, in_mode, in_most, is_hidden, opened, read_from, start, state_of, stepped, value_of, with_atom, with_count};
 
-use crate::plain::{is_escapable, is_special};
+use crate::plain::is_escapable;
 use crate::sample::{Both, Sample};
+use crate::shape_mode::{CharacterKind, ShapeMode, kind_of, may_end};
 use lf_base::{Memory, Seq, Text};
 use std::alloc::Global;
-
-/// What was read last, as far as the next character depends on it.
-#[derive(Clone, Copy)]
-enum ShapeMode {
-    /// Nothing that a count may follow.
-    Ready,
-    /// An atom.
-    Atom,
-    /// A count.
-    Lazy,
-    /// A backslash.
-    Escape,
-    /// A `(`.
-    Open,
-    /// A `(?`.
-    Quiet,
-    /// A `[`.
-    ClassStart,
-    /// A `[` and at least one member. `opaque` says that it holds a backslash or a `[`.
-    Class {
-        first: char,
-        last: char,
-        opaque: bool,
-    },
-    /// A `[^`.
-    NegatedStart,
-    /// A `[^` and at least one member.
-    Negated,
-    /// A `{`.
-    Brace,
-    /// A `{` and the digits of a least count.
-    Least(u32),
-    /// The same and a comma.
-    Comma(u32),
-    /// The same and digits behind it.
-    Most(u32),
-    /// What isn't of the shape.
-    Outside,
-}
-
-/// What a character can be that begins something.
-#[derive(Clone, Copy)]
-enum CharacterKind {
-    Bar,
-    Open,
-    Close,
-    Bracket,
-    Backslash,
-    Dot,
-    /// `^` or `$`.
-    Anchor,
-    /// A character that begins nothing.
-    Odd,
-    Ordinary,
-}
 
 /// An open group, or the whole pattern: the low sample of its first alternative where that has ended, and the samples of the branch that is being read, but for its last
 /// piece.
@@ -413,16 +359,6 @@ impl Reader {
     }
 }
 
-/// Whether the pattern may end in this mode.
-fn may_end(mode: ShapeMode) -> bool
-    ensures { result ≡ may_end mode }
-{
-    matches!(
-        mode,
-        ShapeMode::Ready | ShapeMode::Atom | ShapeMode::Lazy | ShapeMode::Open
-    )
-}
-
 /// The samples of a class, by its first and its last member.
 fn class_samples(alloc: Global, first: char, last: char, opaque: bool) -> Result<Both, Memory>
     ensures { IfOk result (λ b. b ≡ class_pair first last opaque) }
@@ -439,21 +375,4 @@ fn is_hidden(c: char) -> bool
     ensures { result ≡ is_hidden c }
 {
     c == '\\' || c == '['
-}
-
-/// What a character is that begins something.
-fn kind_of(c: char) -> CharacterKind
-    ensures { result ≡ kind_of c }
-{
-    match c {
-        '|' => CharacterKind::Bar,
-        '(' => CharacterKind::Open,
-        ')' => CharacterKind::Close,
-        '[' => CharacterKind::Bracket,
-        '\\' => CharacterKind::Backslash,
-        '.' => CharacterKind::Dot,
-        '^' | '$' => CharacterKind::Anchor,
-        _ if is_special(c) => CharacterKind::Odd,
-        _ => CharacterKind::Ordinary,
-    }
 }

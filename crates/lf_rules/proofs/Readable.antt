@@ -6,7 +6,7 @@ use Rattle.lf_yaml.specs.Tree.{Tree, leaf, sequence, mapping}
 use Rattle.lf_base.specs.Names.{Bytes}
 use Rattle.lf_rules.specs.Mappings.{Pairing, pairs, trees, given, entry_at}
 use Rattle.lf_rules.specs.Sources.{Source, Setting}
-use Rattle.lf_rules.specs.Rules.{Sets, AreSettings, IsRecord, IsAlert, IsRule, IsRuleTree, AreRules, IsGroupTree, AreGroups, AreFileGroups, IsRules}
+use Rattle.lf_rules.specs.Rules.{SetsText, AreSettings, IsRecord, IsAlert, IsRule, IsRuleTree, AreRules, IsGroupTree, AreGroups, AreFileGroups, IsRules}
 use Rattle.lf_rules.specs.reading.Files.{faults, sources, entries_of, items_of, rules_of, IsLeaf, IsFilled, IsNamed, AreLeaves, SetsLeaves, IsReadable, AreReadable, AreReadableGroups}
 use Rattle.lf_rules.proofs.FileReadings.{file_stands}
 use Rattle.lf_rules.proofs.Times.{time_decides, limit_decides}
@@ -14,7 +14,7 @@ use Rattle.lf_rules.proofs.Times.{time_decides, limit_decides}
 filled : (g : Option Tree) (v : Value) → g ≡ Some (leaf v) → IsFilled g
 filled g v e = subst IsFilled (sym e) tt
 
-zip_leaves : (es : List Pairing) (ss : List Setting) → AllZip Sets es ss → AreLeaves es
+zip_leaves : (es : List Pairing) (ss : List Setting) → AllZip SetsText es ss → AreLeaves es
 zip_leaves [] ss z = tt
 zip_leaves (e ∷ es) [] z = absurd z
 zip_leaves (e ∷ es) (s ∷ ss) z = (subst IsLeaf (sym z.0.1) tt, zip_leaves es ss z.1)

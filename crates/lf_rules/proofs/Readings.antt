@@ -10,7 +10,7 @@ use Rattle.lf_rules.specs.Texts.{IsTime}
 use Rattle.lf_base.specs.Names.{Bytes, is_metric_name}
 use Rattle.lf_rules.specs.Mappings.{Pairing, given, given_entry}
 use Rattle.lf_rules.specs.Sources.{Source, Setting}
-use Rattle.lf_rules.specs.Rules.{IsText, AreSettings, SetsNoName, IsRecord, IsAlert, IsRule, rule_keys}
+use Rattle.lf_rules.specs.Rules.{IsText, AreSettings, NoneSetsName, IsRecord, IsAlert, IsRule, rule_keys}
 use Rattle.lf_rules.specs.reading.Files.{is_time, text_faults, scalar_faults, unknown_faults, missing_faults, settings_faults, records_first, kind_faults, misplaced, alert_faults, rule_parts, rule_faults, text_of, settings_of, name_text, is_alert, rule_source}
 use Rattle.lf_rules.proofs.Parts.{Decides}
 use Rattle.lf_rules.proofs.RuleParts.{record_key, alert_key, not_given, none_given, some_given, is_given}
@@ -87,7 +87,7 @@ module _ (time : Decides is_time IsTime) where
   pub rule_stands : (s : Span) (es : List Pairing) (group : ℕ) → rule_faults s es ≡ [] → IsRule group es (rule_source group es)
   rule_stands s es group h =
       let part : (p : List Fault) → Contains (rule_parts s es) p → p ≡ [] = λ p c. part_is_empty (rule_parts s es) p h c in
-      let labels : AreSettings (given (codes "labels") es) (settings_of (given (codes "labels") es)) × (true ≡ true → SetsNoName (settings_of (given (codes "labels") es))) = settings_stand true (given (codes "labels") es) (part (settings_faults true (given (codes "labels") es)) (9, omega arith, refl)) in
+      let labels : AreSettings (given (codes "labels") es) (settings_of (given (codes "labels") es)) × (true ≡ true → NoneSetsName (settings_of (given (codes "labels") es))) = settings_stand true (given (codes "labels") es) (part (settings_faults true (given (codes "labels") es)) (9, omega arith, refl)) in
       record {
         keys = keys_stand rule_keys es (part (flat_map (unknown_faults rule_keys) es) (0, omega arith, refl));
         kind = by (kind_stands s (records_first es) es (given_entry record_key es) (given_entry alert_key es) refl refl (part (kind_faults s (records_first es) (given_entry record_key es) (given_entry alert_key es)) (1, omega arith, refl)));

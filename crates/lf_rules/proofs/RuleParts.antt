@@ -11,7 +11,7 @@ use Rattle.lf_base.specs.Names.{Bytes, is_metric_name}
 use Rattle.lf_rules.specs.Mappings.{Pairing, pairs, place, given, given_entry, entry_at, unless_empty, is_empty}
 use Rattle.lf_rules.specs.Rules.{rule_keys, alert_keys}
 use Rattle.lf_rules.specs.Breaches as breach
-use Rattle.lf_rules.specs.Breaches.{at_start, scalar_keys, time_keys, StandsBefore, RuleBreaks, RuleTreeBreaks, Records}
+use Rattle.lf_rules.specs.Breaches.{at_start, scalar_keys, time_keys, StandsBefore, RuleBreaks, RuleTreeBreaks, HasRecordAlone}
 use Rattle.lf_base.specs.Faults.{fault}
 use Rattle.lf_rules.specs.reading.Files.{is_time, records_first, kind_faults, misplaced, alert_faults, rule_parts, rule_faults, rule_tree_faults, text_faults, scalar_faults, missing_faults, unknown_faults, settings_faults}
 use Rattle.lf_laws.proofs.Members.{here, behind, none_in, only_one, first_or_behind, true_same, same_true, other_false, any_out, in_flat_map, of_flat_map, each_member}
@@ -119,7 +119,7 @@ kind_out s es f (Some e) (Some a) true r g h c =
 kind_out s es f (Some e) (Some a) false r g h c =
     subst (RuleBreaks s es) (only_one (fault BothKinds e.0.span) f c) (breach.record_behind_alert g h (alert_stands_first es a (given_is_there (entry_at alert_key es) a h) r))
 
-misplaced_out : (s : Span) (es : List Pairing) (f : Fault) (key : Bytes) (found : Option Pairing) → Records es → Contains alert_keys key → given_entry key es ≡ found → Contains (misplaced found) f → RuleBreaks s es f
+misplaced_out : (s : Span) (es : List Pairing) (f : Fault) (key : Bytes) (found : Option Pairing) → HasRecordAlone es → Contains alert_keys key → given_entry key es ≡ found → Contains (misplaced found) f → RuleBreaks s es f
 misplaced_out s es f key None r k g c = absurd (none_in f c)
 misplaced_out s es f key (Some e) r k g c = subst (RuleBreaks s es) (only_one (fault NotForRecord e.0.span) f c) (breach.only_for_alerts r k g)
 
@@ -136,7 +136,7 @@ alert_out : (s : Span) (es : List Pairing) (f : Fault) (recorded alerted : Optio
 alert_out s es f None alerted g h c = absurd (none_in f c)
 alert_out s es f (Some e) (Some a) g h c = absurd (none_in f c)
 alert_out s es f (Some e) None g h c =
-    let records : Records es = (is_given record_key es e g, not_given alert_key es h) in
+    let records : HasRecordAlone es = (is_given record_key es e g, not_given alert_key es h) in
     either (RuleBreaks s es f) _ _ f (misplaced_out s es f (codes "for") _ records for_key refl)
     (either (RuleBreaks s es f) _ _ f (misplaced_out s es f (codes "keep_firing_for") _ records keep_key refl) (misplaced_out s es f (codes "annotations") _ records annotations_key refl)) c
 
@@ -272,7 +272,7 @@ module _ (time : Decides is_time IsTime) where
         ),
       ) k c
 
-  alert_keys_in : (es : List Pairing) (key : Bytes) (e : Pairing) → Records es → Contains alert_keys key → given_entry key es ≡ Some e → Contains (alert_faults (given_entry record_key es) (given_entry alert_key es) es) (fault NotForRecord e.0.span)
+  alert_keys_in : (es : List Pairing) (key : Bytes) (e : Pairing) → HasRecordAlone es → Contains alert_keys key → given_entry key es ≡ Some e → Contains (alert_faults (given_entry record_key es) (given_entry alert_key es) es) (fault NotForRecord e.0.span)
   alert_keys_in es key e r k g =
       let recorded : (x : Pairing) × (given_entry record_key es ≡ Some x) = some_given (given_entry record_key es) r.0 in
       rw (recorded.1, none_given (given_entry alert_key es) r.1) (alert_key_place es (fault NotForRecord e.0.span) key k (misplaced_in es key e g))

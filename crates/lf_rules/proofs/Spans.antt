@@ -19,7 +19,7 @@ use Rattle.lf_rules.specs.Mappings.{Pairing, pairs, trees, place, entry_at, give
 use Rattle.lf_rules.specs.Breaches as breach
 use Rattle.lf_rules.specs.Breaches.{at_start, NoScalarAt, WrongTextAt, UnknownIn, SettingsBreak, settings_are_no_mapping, key_is_no_label, label_sets_the_name, setting_is_no_scalar, RuleBreaks, RuleTreeBreaks, GroupBreaks, GroupTreeBreaks, SecondName, Breaks, FirstBreak}
 use Rattle.lf_rules.specs.Texts.{IsTime, IsLimit}
-use Rattle.lf_rules.specs.Rules.{rule_keys, group_keys, file_keys, Sets, AreSettings, IsRecord, IsAlert, IsRule, IsRuleTree, AreRules, IsGroupTree, AreGroups, AreFileGroups, IsRules}
+use Rattle.lf_rules.specs.Rules.{rule_keys, group_keys, file_keys, SetsText, AreSettings, IsRecord, IsAlert, IsRule, IsRuleTree, AreRules, IsGroupTree, AreGroups, AreFileGroups, IsRules}
 use Rattle.lf_rules.specs.Sources.{Setting, Source, SettingInside, SourceInside, SourcesInside}
 use Rattle.lf_rules.proofs.RuleParts.{given_is_there}
 
@@ -154,7 +154,7 @@ module _ (n : ℕ) where
 
   -- ---- rules
 
-  each_setting : (es : List Pairing) (ss : List Setting) → AreInside es → AllZip Sets es ss → AllByRecursion (SettingInside n) ss
+  each_setting : (es : List Pairing) (ss : List Setting) → AreInside es → AllZip SetsText es ss → AllByRecursion (SettingInside n) ss
   each_setting [] [] inside z = tt
   each_setting [] (s ∷ ss) inside z = absurd z
   each_setting (e ∷ es) [] inside z = tt

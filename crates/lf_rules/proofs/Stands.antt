@@ -10,7 +10,7 @@ use Rattle.lf_yaml.specs.Tree.{Tree, leaf, sequence, mapping}
 use Rattle.lf_base.specs.Names.{Bytes, is_label_name, metric}
 use Rattle.lf_rules.specs.Mappings.{Pairing, pairs}
 use Rattle.lf_rules.specs.Sources.{Setting}
-use Rattle.lf_rules.specs.Rules.{HasOnly, IsText, Sets, AreSettings, SetsNoName}
+use Rattle.lf_rules.specs.Rules.{HasOnly, IsText, SetsText, AreSettings, NoneSetsName}
 use Rattle.lf_base.specs.Faults.{fault}
 use Rattle.lf_rules.specs.reading.Files.{joined, text_faults, scalar_faults, unknown_faults, value_faults, is_setting_name, setting_faults, settings_faults, settings_of, leaf_of, text_of}
 use Rattle.lf_laws.proofs.Members.{here, behind, none_in, first_or_behind, any_in, any_out, same_true, true_same}
@@ -104,7 +104,7 @@ name_stands : (e : Pairing) (b : Bool) → cond b [] (fault BadName e.0.span ∷
 name_stands e true h = refl
 name_stands e false h = absurd (cc)
 
-one_stands : (is_labels : Bool) (e : Pairing) → setting_faults is_labels e ≡ [] → Sets e (e.0, leaf_of e.1) × (is_labels ≡ true → e.0.text ≢ metric)
+one_stands : (is_labels : Bool) (e : Pairing) → setting_faults is_labels e ≡ [] → SetsText e (e.0, leaf_of e.1) × (is_labels ≡ true → e.0.text ≢ metric)
 one_stands is_labels e h =
     let parts : (cond (is_setting_name is_labels e.0.text) [] (fault BadName e.0.span ∷ []) ≡ []) × (value_faults e.1 ≡ []) = both_empty (cond (is_setting_name is_labels e.0.text) [] (fault BadName e.0.span ∷ [])) (value_faults e.1) h in
     let named : is_setting_name is_labels e.0.text ≡ true = name_stands e (is_setting_name is_labels e.0.text) parts.0 in (
@@ -117,19 +117,19 @@ one_stands is_labels e h =
     by true false l m n = true≢false (sym m)
     by false b l m n = true≢false (sym l)
 
-pub list_stands : (is_labels : Bool) (es : List Pairing) → flat_map (setting_faults is_labels) es ≡ [] → AllZip Sets es (map (λ e. (e.0, leaf_of e.1)) es) × (is_labels ≡ true → SetsNoName (map (λ e. (e.0, leaf_of e.1)) es))
+pub list_stands : (is_labels : Bool) (es : List Pairing) → flat_map (setting_faults is_labels) es ≡ [] → AllZip SetsText es (map (λ e. (e.0, leaf_of e.1)) es) × (is_labels ≡ true → NoneSetsName (map (λ e. (e.0, leaf_of e.1)) es))
 list_stands is_labels [] h = (tt, (λ l s c. absurd (none_in s c)))
 list_stands is_labels (e ∷ es) h =
     let parts : (setting_faults is_labels e ≡ []) × (flat_map (setting_faults is_labels) es ≡ []) = both_empty (setting_faults is_labels e) (flat_map (setting_faults is_labels) es) h in
-    let first : Sets e (e.0, leaf_of e.1) × (is_labels ≡ true → e.0.text ≢ metric) = one_stands is_labels e parts.0 in
-    let later : AllZip Sets es (map (λ e. (e.0, leaf_of e.1)) es) × (is_labels ≡ true → SetsNoName (map (λ e. (e.0, leaf_of e.1)) es)) = list_stands is_labels es parts.1 in
+    let first : SetsText e (e.0, leaf_of e.1) × (is_labels ≡ true → e.0.text ≢ metric) = one_stands is_labels e parts.0 in
+    let later : AllZip SetsText es (map (λ e. (e.0, leaf_of e.1)) es) × (is_labels ≡ true → NoneSetsName (map (λ e. (e.0, leaf_of e.1)) es)) = list_stands is_labels es parts.1 in
     ((first.0, later.0), (λ l s c. by l s (first_or_behind (e.0, leaf_of e.1) (map (λ e. (e.0, leaf_of e.1)) es) s c) first.1 later.1))
   where
-    by : is_labels ≡ true → (s : Setting) → ((e.0, leaf_of e.1) ≡ s) ⊎ Contains (map (λ e. (e.0, leaf_of e.1)) es) s → (is_labels ≡ true → e.0.text ≢ metric) → (is_labels ≡ true → SetsNoName (map (λ e. (e.0, leaf_of e.1)) es)) → s.0.text ≢ metric
+    by : is_labels ≡ true → (s : Setting) → ((e.0, leaf_of e.1) ≡ s) ⊎ Contains (map (λ e. (e.0, leaf_of e.1)) es) s → (is_labels ≡ true → e.0.text ≢ metric) → (is_labels ≡ true → NoneSetsName (map (λ e. (e.0, leaf_of e.1)) es)) → s.0.text ≢ metric
     by l s (inl h) first later = subst (λ x. x.0.text ≢ metric) h (first l)
     by l s (inr m) first later = later l s m
 
-one_clean : (is_labels : Bool) (e : Pairing) (s : Setting) → Sets e s → (is_labels ≡ true → s.0.text ≢ metric) → (setting_faults is_labels e ≡ []) × (s ≡ (e.0, leaf_of e.1))
+one_clean : (is_labels : Bool) (e : Pairing) (s : Setting) → SetsText e s → (is_labels ≡ true → s.0.text ≢ metric) → (setting_faults is_labels e ≡ []) × (s ≡ (e.0, leaf_of e.1))
 one_clean is_labels e s sets n = (
   empty_both (cond (is_setting_name is_labels e.0.text) [] (fault BadName e.0.span ∷ [])) (value_faults e.1) (rw (name is_labels (bytes_eq e.0.text metric) refl (λ l m. n l (ap (λ v. v.text) sets.0 ∙ true_same e.0.text metric m)) sets.2) refl) (subst (λ t. value_faults t ≡ []) (sym sets.1) refl),
   by s sets.0 (sym (ap leaf_of sets.1)),
@@ -143,7 +143,7 @@ one_clean is_labels e s sets n = (
     by : (s : Setting) → s.0 ≡ e.0 → s.1 ≡ leaf_of e.1 → s ≡ (e.0, leaf_of e.1)
     by (k, v) h i = rw (h, i) refl
 
-pub list_clean : (is_labels : Bool) (es : List Pairing) (ss : List Setting) → AllZip Sets es ss → (is_labels ≡ true → SetsNoName ss) → (flat_map (setting_faults is_labels) es ≡ []) × (ss ≡ map (λ e. (e.0, leaf_of e.1)) es)
+pub list_clean : (is_labels : Bool) (es : List Pairing) (ss : List Setting) → AllZip SetsText es ss → (is_labels ≡ true → NoneSetsName ss) → (flat_map (setting_faults is_labels) es ≡ []) × (ss ≡ map (λ e. (e.0, leaf_of e.1)) es)
 list_clean is_labels [] [] z n = (refl, refl)
 list_clean is_labels [] (s ∷ ss) z n = absurd z
 list_clean is_labels (e ∷ es) [] z n = absurd z
@@ -152,13 +152,13 @@ list_clean is_labels (e ∷ es) (s ∷ ss) z n =
     let later : (flat_map (setting_faults is_labels) es ≡ []) × (ss ≡ map (λ e. (e.0, leaf_of e.1)) es) = list_clean is_labels es ss z.1 (λ l x c. n l x (behind s ss x c)) in
     (empty_both (setting_faults is_labels e) (flat_map (setting_faults is_labels) es) first.0 later.0, rw (first.1, later.1) refl)
 
-pub settings_stand : (is_labels : Bool) (g : Option Tree) → settings_faults is_labels g ≡ [] → AreSettings g (settings_of g) × (is_labels ≡ true → SetsNoName (settings_of g))
+pub settings_stand : (is_labels : Bool) (g : Option Tree) → settings_faults is_labels g ≡ [] → AreSettings g (settings_of g) × (is_labels ≡ true → NoneSetsName (settings_of g))
 settings_stand is_labels None h = (refl, (λ l s c. absurd (none_in s c)))
 settings_stand is_labels (Some (leaf v)) h = absurd (cc)
 settings_stand is_labels (Some (sequence items s)) h = absurd (cc)
 settings_stand is_labels (Some (mapping es s)) h = list_stands is_labels (pairs es) h
 
-pub settings_clean : (is_labels : Bool) (g : Option Tree) (ss : List Setting) → AreSettings g ss → (is_labels ≡ true → SetsNoName ss) → (settings_faults is_labels g ≡ []) × (ss ≡ settings_of g)
+pub settings_clean : (is_labels : Bool) (g : Option Tree) (ss : List Setting) → AreSettings g ss → (is_labels ≡ true → NoneSetsName ss) → (settings_faults is_labels g ≡ []) × (ss ≡ settings_of g)
 settings_clean is_labels None ss a n = (refl, a)
 settings_clean is_labels (Some (leaf v)) ss a n = absurd a
 settings_clean is_labels (Some (sequence items s)) ss a n = absurd a

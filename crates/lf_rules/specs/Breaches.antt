@@ -54,8 +54,8 @@ abbrev pub UnknownIn : List Bytes → List Pairing → Fault → Type 0
 UnknownIn keys es f = (k : Value) × (t : Tree) × Contains es (k, t) × (Contains keys k.text → ⊥) × (f ≡ fault UnknownKey k.span)
 
 -- a rule that records, and isn't an alert too
-abbrev pub Records : List Pairing → Type 0
-Records es = (given (codes "record") es ≢ None) × (given (codes "alert") es ≡ None)
+abbrev pub HasRecordAlone : List Pairing → Type 0
+HasRecordAlone es = (given (codes "record") es ≢ None) × (given (codes "alert") es ≡ None)
 
 -- the keys of a rule that take a scalar, and those of them that take a length of time
 abbrev pub scalar_keys : List Bytes
@@ -72,7 +72,7 @@ pub data RuleBreaks : Span → List Pairing → Fault → Type 0 where
   alert_behind_record : {s : Span} {es : List Pairing} {recorded alerted : Pairing} → given_entry (codes "record") es ≡ Some recorded → given_entry (codes "alert") es ≡ Some alerted → StandsBefore (codes "record") (codes "alert") es → RuleBreaks s es (fault BothKinds alerted.0.span)
   record_behind_alert : {s : Span} {es : List Pairing} {recorded alerted : Pairing} → given_entry (codes "record") es ≡ Some recorded → given_entry (codes "alert") es ≡ Some alerted → StandsBefore (codes "alert") (codes "record") es → RuleBreaks s es (fault BothKinds recorded.0.span)
   record_is_no_metric : {s : Span} {es : List Pairing} {f : Fault} → WrongTextAt (codes "record") (λ t. is_metric_name t ≡ true) BadName es f → RuleBreaks s es f
-  only_for_alerts : {s : Span} {es : List Pairing} {key : Bytes} {e : Pairing} → Records es → Contains alert_keys key → given_entry key es ≡ Some e → RuleBreaks s es (fault NotForRecord e.0.span)
+  only_for_alerts : {s : Span} {es : List Pairing} {key : Bytes} {e : Pairing} → HasRecordAlone es → Contains alert_keys key → given_entry key es ≡ Some e → RuleBreaks s es (fault NotForRecord e.0.span)
   rule_wants_a_scalar : {s : Span} {es : List Pairing} {key : Bytes} {f : Fault} → Contains scalar_keys key → NoScalarAt key es f → RuleBreaks s es f
   rule_wants_a_time : {s : Span} {es : List Pairing} {key : Bytes} {f : Fault} → Contains time_keys key → WrongTextAt key IsTime BadDuration es f → RuleBreaks s es f
   labels_break : {s : Span} {es : List Pairing} {t : Tree} {f : Fault} → given (codes "labels") es ≡ Some t → SettingsBreak true t f → RuleBreaks s es f

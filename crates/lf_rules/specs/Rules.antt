@@ -35,19 +35,19 @@ IsText is (Some (sequence items span)) = ⊥
 IsText is (Some (mapping es span)) = ⊥
 
 -- an entry sets a label or an annotation to a text
-abbrev pub Sets : Pairing → Setting → Type 0
-Sets e s = (s.0 ≡ e.0) × (e.1 ≡ leaf s.1) × (is_label_name e.0.text ≡ true)
+abbrev pub SetsText : Pairing → Setting → Type 0
+SetsText e s = (s.0 ≡ e.0) × (e.1 ≡ leaf s.1) × (is_label_name e.0.text ≡ true)
 
 -- a missing value sets nothing; a mapping sets what its entries set, in their order
 abbrev pub AreSettings : Option Tree → List Setting → Type 0
 AreSettings None ss = ss ≡ []
 AreSettings (Some (leaf v)) ss = ⊥
 AreSettings (Some (sequence items span)) ss = ⊥
-AreSettings (Some (mapping es span)) ss = AllZip Sets (pairs es) ss
+AreSettings (Some (mapping es span)) ss = AllZip SetsText (pairs es) ss
 
 -- the labels of a rule don't set the metric name
-abbrev pub SetsNoName : List Setting → Type 0
-SetsNoName ss = (s : Setting) → Contains ss s → s.0.text ≢ metric
+abbrev pub NoneSetsName : List Setting → Type 0
+NoneSetsName ss = (s : Setting) → Contains ss s → s.0.text ≢ metric
 
 -- a recording rule has none of an alert's keys, and its name is a metric name
 pub record IsRecord (es : List Pairing) (r : Source) : Type 0 where
@@ -72,7 +72,7 @@ pub record IsRule (group : ℕ) (es : List Pairing) (r : Source) : Type 0 where
   pub for_is : IsText IsTime (given (codes "for") es)
   pub keep_is : IsText IsTime (given (codes "keep_firing_for") es)
   pub labels : AreSettings (given (codes "labels") es) r.labels
-  pub no_name : SetsNoName r.labels
+  pub no_name : NoneSetsName r.labels
   pub annotations : AreSettings (given (codes "annotations") es) r.annotations
   pub group_is : r.group ≡ group
 

@@ -15,7 +15,7 @@ use lf_yaml::{Entry, Node};
 
 /// What a text has to be.
 #[derive(Clone, Copy)]
-pub enum Wanted {
+pub enum TextKind {
     /// A metric name.
     Metric,
     /// A length of time.
@@ -24,15 +24,15 @@ pub enum Wanted {
     Limit,
 }
 
-impl Wanted {
+impl TextKind {
     fn is(self, text: &Text) -> bool
         ensures { result ≡ reading.test_of self text.now }
     {
         let bytes = text.as_str().as_bytes();
         match self {
-            Wanted::Metric => is_metric_name(bytes),
-            Wanted::Time => is_time(bytes),
-            Wanted::Limit => is_limit(bytes),
+            TextKind::Metric => is_metric_name(bytes),
+            TextKind::Time => is_time(bytes),
+            TextKind::Limit => is_limit(bytes),
         }
     }
 
@@ -40,9 +40,9 @@ impl Wanted {
         ensures { result ≡ reading.kind_of self }
     {
         match self {
-            Wanted::Metric => Kind::BadName,
-            Wanted::Time => Kind::BadDuration,
-            Wanted::Limit => Kind::BadLimit,
+            TextKind::Metric => Kind::BadName,
+            TextKind::Time => Kind::BadDuration,
+            TextKind::Limit => Kind::BadLimit,
         }
     }
 }
@@ -84,7 +84,7 @@ pub fn judge_scalar(first: &mut Option<Fault>, node: Option<&Node>)
 
 /// A value that is there has to be a scalar with such a text.
 #[tactic(auto, unfolding(crate::specs::reading::Files::least_from))]
-pub fn judge_text(first: &mut Option<Fault>, wanted: Wanted, node: Option<&Node>)
+pub fn judge_text(first: &mut Option<Fault>, wanted: TextKind, node: Option<&Node>)
     ensures { first.new ≡ least_from first.old (reading.text_faults (reading.test_of wanted) (reading.kind_of wanted) (option_map (λ t. tree t.now) node.entry)) }
 {
     match node {

@@ -9,7 +9,7 @@ ghost use Rattle.lf_rules.specs.reading.Files as reading;
 ghost use Rattle.lf_rules.specs.reading.Files.{least_from, least_each};
 
 use crate::entries::{entries_of, entry_at, given, given_entry, scalar_of};
-use crate::judging::{Level, Wanted, judge_keys, judge_missing, judge_scalar, judge_text, note};
+use crate::judging::{Level, TextKind, judge_keys, judge_missing, judge_scalar, judge_text, note};
 use crate::judging_rules::judge_rules;
 use lf_base::{Fault, Kind, Memory, NameSet, Span};
 use lf_scalar::Scalar;
@@ -29,9 +29,9 @@ fn judge_group_name(first: &mut Option<Fault>, span: Span, entries: &[Entry])
 fn judge_group_values(first: &mut Option<Fault>, entries: &[Entry])
     ensures { first.new ≡ least_each first.old (reading.group_value_parts (map pair entries.now)) }
 {
-    judge_text(first, Wanted::Time, given(entries, "interval"));
-    judge_text(first, Wanted::Limit, given(entries, "limit"));
-    judge_text(first, Wanted::Time, given(entries, "query_offset"));
+    judge_text(first, TextKind::Time, given(entries, "interval"));
+    judge_text(first, TextKind::Limit, given(entries, "limit"));
+    judge_text(first, TextKind::Time, given(entries, "query_offset"));
     judge_rules(first, given(entries, "rules"));
 }
 

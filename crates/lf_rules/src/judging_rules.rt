@@ -8,7 +8,7 @@ ghost use Rattle.lf_rules.specs.reading.Files.{least_from, least_each};
 
 use crate::entries::{given, given_entry, value_of};
 use crate::judging::{
-    Level, Wanted, judge_keys, judge_missing, judge_scalar, judge_settings, judge_text, note,
+    Level, TextKind, judge_keys, judge_missing, judge_scalar, judge_settings, judge_text, note,
     note_at_start,
 };
 use lf_base::{Fault, Kind, Span};
@@ -127,7 +127,7 @@ fn judge_rule_texts(
     ensures { first.new ≡ least_each first.old (reading.rule_text_parts span (map pair entries.now)) }
 {
     let expr = given_entry(entries, "expr");
-    judge_text(first, Wanted::Metric, value_of(recorded));
+    judge_text(first, TextKind::Metric, value_of(recorded));
     judge_scalar(first, value_of(alerted));
     judge_missing(first, span, expr);
     judge_scalar(first, value_of(expr));
@@ -137,8 +137,8 @@ fn judge_rule_texts(
 fn judge_rule_settings(first: &mut Option<Fault>, entries: &[Entry])
     ensures { first.new ≡ least_each first.old (reading.rule_setting_parts (map pair entries.now)) }
 {
-    judge_text(first, Wanted::Time, given(entries, "for"));
-    judge_text(first, Wanted::Time, given(entries, "keep_firing_for"));
+    judge_text(first, TextKind::Time, given(entries, "for"));
+    judge_text(first, TextKind::Time, given(entries, "keep_firing_for"));
     judge_settings(first, true, given(entries, "labels"));
     judge_settings(first, false, given(entries, "annotations"));
 }

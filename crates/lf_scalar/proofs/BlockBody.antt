@@ -7,7 +7,7 @@ use Rattle.lf_scalar.specs.declared.block.Chomp.{Chomp}
 use Rattle.lf_scalar.specs.Cells.{Cell, cell}
 use Rattle.lf_scalar.specs.Lines.{Line, is_empty_text}
 use Rattle.lf_scalar.specs.Folding.{trimmed}
-use Rattle.lf_scalar.specs.Block.{EndsFull, AreEmpty, breaks, chomped, joined, Stretch, IsStretch, whole, folded, IsFolded, IsJoined, IsBlockText}
+use Rattle.lf_scalar.specs.Block.{EndsFull, AreEmpty, breaks, chomped, joined, Stretch, IsStretch, whole, folded, IsFolded, AreJoinedLines, IsBlockText}
 use Rattle.lf_scalar.specs.reading.Block.{is_empty, empties, between_of, stretch_of, folded_of, block_text}
 use Rattle.lf_scalar.proofs.Tails.{true-false}
 
@@ -182,7 +182,7 @@ pub record Joining (Joins : List Line → List Cell → Type 0) (joins : List Li
   pub again : (ls : List Line) (text : List Cell) → Joins ls text → text ≡ joins ls
   pub told : (ls : List Line) → Joins ls (joins ls)
 
-pub joining : Joining IsJoined joined
+pub joining : Joining AreJoinedLines joined
 joining = record { again = λ ls text h. h; told = λ ls. refl }
 
 pub folding : Joining IsFolded folded_of

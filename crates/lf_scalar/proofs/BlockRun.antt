@@ -13,7 +13,7 @@ use Rattle.lf_scalar.specs.declared.block.Chomp.{Chomp}
 use Rattle.lf_scalar.specs.declared.block.Chomp.TheVariants.{Strip, Clip, Keep}
 use Rattle.lf_scalar.specs.declared.joined.Joining.{Joining}
 use Rattle.lf_scalar.specs.declared.joined.Joining.TheVariants as joining_of
-use Rattle.lf_scalar.specs.declared.body.Body.{Body}
+use Rattle.lf_scalar.specs.declared.body.BlockBody.{BlockBody}
 use Rattle.lf_scalar.specs.declared.header.Header.{Header}
 use Rattle.lf_base.specs.Faults.{span}
 use Rattle.lf_scalar.specs.Cells.{Cell, cell, cells, Value, Fails, made, end_of, character_fault, ◌>>=◌}
@@ -42,7 +42,7 @@ no-lines : (xs ys : List Line) → [] ≡ xs ++ ys → xs ≡ []
 no-lines [] ys e = refl
 no-lines (x ∷ xs) ys e = absurd cc
 
-module _ (k at : ℕ) (bytes : List ℕ) (b : Body) (s : IsBody k at bytes b) where
+module _ (k at : ℕ) (bytes : List ℕ) (b : BlockBody) (s : IsBody k at bytes b) where
   full-is : contents k (take b.full (lines_at at bytes)) ≡ trimmed is_empty (body_of k (lines_at at bytes))
   full-is = rw (s.source, s.full_is) (ap (contents k) (take-append_seam s.full (s.empty ++ s.left))) ∙ sym s.texts
 

@@ -9,7 +9,7 @@ use Rattle.lf_scalar.specs.declared.block.Chomp.TheVariants.{Strip, Clip, Keep}
 use Rattle.lf_scalar.specs.Cells.{Cell, cell}
 use Rattle.lf_scalar.specs.Lines.{Line, indent_of, is_spaces}
 use Rattle.lf_scalar.specs.Folding.{fold, feeds}
-use Rattle.lf_scalar.specs.Block.{in_body, content, body_of, breaks, line_end, line_ends, last_end, chomped, joined, Stretch, whole, begins_blank, between, folded, IsFolded, IsJoined, IsBlockText}
+use Rattle.lf_scalar.specs.Block.{in_body, content, body_of, breaks, line_end, line_ends, last_end, chomped, joined, Stretch, whole, begins_blank, between, folded, IsFolded, AreJoinedLines, IsBlockText}
 use Rattle.lf_scalar.proofs.Parts.{Utf8, Part, whole-part, low-part, part-utf8}
 use Rattle.lf_scalar.proofs.Utf8Lines.{utf8-nil, utf8-append, utf8-low, feeds-utf8, fold-utf8, LinesUtf8, lines-utf8-behind, lines-utf8-front}
 use Rattle.lf_scalar.proofs.Rising.{Rises, LinesRise, rises-le, rises-low, rises-back, lines-low, lines-behind}
@@ -113,7 +113,7 @@ folded-utf8 (s ∷ t ∷ ss) u =
 abbrev pub KeepsUtf8 : (List Line → List Cell → Type 0) → Type 0
 KeepsUtf8 Joins = (ls : List Line) (text : List Cell) → Joins ls text → LinesUtf8 ls → Utf8 text
 
-pub joins-utf8 : KeepsUtf8 IsJoined
+pub joins-utf8 : KeepsUtf8 AreJoinedLines
 joins-utf8 ls text e u = subst Utf8 (sym e) (joined-utf8 ls u)
 
 pub folds-utf8 : KeepsUtf8 IsFolded
@@ -252,7 +252,7 @@ folded-mounts lo hi (s ∷ t ∷ ss) r =
 abbrev pub KeepsOrder : (List Line → List Cell → Type 0) → Type 0
 KeepsOrder Joins = (ls : List Line) (text : List Cell) → Joins ls text → (lo hi : ℕ) → LinesRise lo ls hi → Mounts lo text (reach lo ls)
 
-pub joins-order : KeepsOrder IsJoined
+pub joins-order : KeepsOrder AreJoinedLines
 joins-order ls text e lo hi r = subst (λ (cs : List Cell). Mounts lo cs (reach lo ls)) (sym e) (joined-mounts lo hi ls r)
 
 pub folds-order : KeepsOrder IsFolded

@@ -10,7 +10,7 @@ use Rattle.std.proofs.lemmas.List.Folds.{list_all-append}
 use Rattle.lf_base.specs.declared.refusal.Refusal.{Refusal}
 use Rattle.lf_base.specs.declared.refusal.Refusal.TheVariants as refusal_of
 use Rattle.lf_base.specs.Answers.{IfAt}
-use Rattle.lf_scalar.specs.declared.body.Body.{Body}
+use Rattle.lf_scalar.specs.declared.body.BlockBody.{BlockBody}
 use Rattle.lf_scalar.specs.Cells.{Cell, cells}
 use Rattle.lf_scalar.specs.Lines.{Line, line, lines, lines_at}
 use Rattle.lf_scalar.specs.Folding.{trimmed}
@@ -41,7 +41,7 @@ empty-push k (x ∷ xs) l h e = (h.0, empty-push k xs l h.1 e)
 
 -- ---- the lines before a place
 
-pub record Seen (k at : ℕ) (bytes : List ℕ) (b : Body) (place : ℕ) : Type 0 where
+pub record Seen (k at : ℕ) (bytes : List ℕ) (b : BlockBody) (place : ℕ) : Type 0 where
   pub full : List Line
   pub empty : List Line
   pub source : lines_at at bytes ≡ (full ++ empty) ++ lines_at (at + place) (drop place bytes)
@@ -56,7 +56,7 @@ pub record Seen (k at : ℕ) (bytes : List ℕ) (b : Body) (place : ℕ) : Type 
   pub behind_within : b.behind ≤ place
   pub few : b.full + b.empty ≤ place
 
-abbrev pub no_lines : Body
+abbrev pub no_lines : BlockBody
 no_lines = record { full = 0; last = None; behind = 0; empty = 0 }
 
 pub seen-none : (k at : ℕ) (bytes : List ℕ) → Seen k at bytes no_lines 0
@@ -78,7 +78,7 @@ seen-none k at bytes =
       few = omega arith;
     }
 
-module _ (k at : ℕ) (bytes : List ℕ) (b : Body) (place feed : ℕ) (break : Option ℕ) (l : Line) (s : Seen k at bytes b place)
+module _ (k at : ℕ) (bytes : List ℕ) (b : BlockBody) (place feed : ℕ) (break : Option ℕ) (l : Line) (s : Seen k at bytes b place)
     (first : lines_at (at + place) (drop place bytes) ≡ l ∷ lines_at (at + (feed + 1)) (drop (feed + 1) bytes)) (is_break : break_of break ≡ line_end (at + length bytes) l) (inside : in_body k l ≡ true) (le : place ≤ feed)
     (lt : feed ≤ length bytes) where
   source-push : lines_at at bytes ≡ ((s.full ++ s.empty) ++ l ∷ []) ++ lines_at (at + (feed + 1)) (drop (feed + 1) bytes)
@@ -136,7 +136,7 @@ length-there : (at : ℕ) (bytes : List ℕ) (place text : ℕ) → place + text
 length-there at bytes place text h = cells-length (at + place) (take text (drop place bytes)) ∙ omega (arith, length-take text (drop place bytes), length-drop place bytes)
 
 -- the same with the places as the code counts them
-module _ (k at : ℕ) (bytes : List ℕ) (b : Body) (place text feed : ℕ) (break : Option ℕ) (s : Seen k at bytes b place)
+module _ (k at : ℕ) (bytes : List ℕ) (b : BlockBody) (place text feed : ℕ) (break : Option ℕ) (s : Seen k at bytes b place)
     (first : lines_at (at + place) (drop place bytes) ≡ line_there at bytes place text (place + feed) ∷ lines_at (at + (place + (feed + 1))) (drop (place + (feed + 1)) bytes))
     (is_break : break_of break ≡ line_end (at + length bytes) (line_there at bytes place text (place + feed))) (le : text ≤ feed) (lt : place + feed ≤ length bytes) where
   next-is : (place + feed) + 1 ≡ place + (feed + 1)
@@ -165,7 +165,7 @@ takes k [] (l ∷ ls) h e = rw e refl
 takes k (x ∷ xs) left h e =
     take_while-cons (in_body k) x (xs ++ left) ∙ rw (and_parts (in_body k x) (list_all (in_body k) xs) h).0 (ap (λ (t : List Line). x ∷ t) (takes k xs left (and_parts (in_body k x) (list_all (in_body k) xs) h).1 e))
 
-pub found : (k at : ℕ) (bytes : List ℕ) (b : Body) (place : ℕ) → Seen k at bytes b place → Ends k (lines_at (at + place) (drop place bytes)) → IsBody k at bytes b
+pub found : (k at : ℕ) (bytes : List ℕ) (b : BlockBody) (place : ℕ) → Seen k at bytes b place → Ends k (lines_at (at + place) (drop place bytes)) → IsBody k at bytes b
 found k at bytes b place s ends =
     let taken : take_while (in_body k) (lines_at at bytes) ≡ s.full ++ s.empty = ap (take_while (in_body k)) s.source ∙ takes k (s.full ++ s.empty) (lines_at (at + place) (drop place bytes)) s.are_in_body ends in
     let body : body_of k (lines_at at bytes) ≡ contents k s.full ++ contents k s.empty = ap (map (content k)) taken ∙ map-append (content k) s.full s.empty in

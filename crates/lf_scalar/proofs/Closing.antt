@@ -6,7 +6,7 @@ use Rattle.std.proofs.lemmas.List.Concat.{flat_map-cons}
 use Rattle.std.proofs.lemmas.Bool.{ne_eqb}
 use Rattle.std.proofs.lemmas.Bool.Decides.{eqb_tells}
 use Rattle.lf_scalar.specs.Cells.{Cell}
-use Rattle.lf_scalar.specs.Quoted.{Quotes, Single, Double, quote_of, Tells, Piece, Bare, Twice, Letter, Number, spelled, IsPiece, Raw, One, Pair, raw, IsRaw, ClosesBefore, Closes}
+use Rattle.lf_scalar.specs.Quoted.{Quotes, Single, Double, quote_of, TellsNumber, QuotedPiece, Bare, Twice, Letter, Number, spelled, IsQuotedPiece, QuotedRaw, One, Pair, raw, IsQuotedRaw, ClosesBefore, Closes}
 use Rattle.lf_scalar.specs.reading.Quoted.{closing_of}
 use Rattle.lf_scalar.specs.Splits.{Split, behind_cell}
 use Rattle.lf_base.specs.Names.{hexadecimal_value}
@@ -30,7 +30,7 @@ behind-are b e (Some x) = refl
 pub no-quote : (b : ℕ) → b ≡ 92 → eqb b 34 ≡ false
 no-quote b h = rw h refl
 
-pub closing-one : (kind : Quotes) (r : Raw) (src : List Cell) → IsRaw kind r → closing_of kind 0 (raw r ++ src) ≡ ahead (raw r) (closing_of kind 0 src)
+pub closing-one : (kind : Quotes) (r : QuotedRaw) (src : List Cell) → IsQuotedRaw kind r → closing_of kind 0 (raw r ++ src) ≡ ahead (raw r) (closing_of kind 0 src)
 unfolding closing_of
 closing-one Single (One c) src h = rw (ne_eqb c.byte 39 h) (behind-is c (closing_of Single 0 src))
 closing-one Single (Pair b e) src h = rw (eq-eqb b.byte 39 h.0, eq-eqb e.byte 39 h.1) (behind-are b e (closing_of Single 0 src))
@@ -53,11 +53,11 @@ digit-bare b d h = (λ e. none (subst (λ (k : ℕ). hexadecimal_value k ≡ Som
     none : None ≡ Some d → ⊥
     none e = cc
 
-digits-bare : (before : ℕ) (cs : List Cell) (n : ℕ) → Tells before cs n → AllByRecursion (λ c. (c.byte ≢ 34) × (c.byte ≢ 92)) cs
+digits-bare : (before : ℕ) (cs : List Cell) (n : ℕ) → TellsNumber before cs n → AllByRecursion (λ c. (c.byte ≢ 34) × (c.byte ≢ 92)) cs
 digits-bare before [] n t = tt
 digits-bare before (c ∷ cs) n (d, p, t) = (digit-bare c.byte d p, digits-bare (16 * before + d) cs n t)
 
-pub closing-piece : (kind : Quotes) (p : Piece) (src : List Cell) → IsPiece kind p → closing_of kind 0 (spelled p ++ src) ≡ ahead (spelled p) (closing_of kind 0 src)
+pub closing-piece : (kind : Quotes) (p : QuotedPiece) (src : List Cell) → IsQuotedPiece kind p → closing_of kind 0 (spelled p ++ src) ≡ ahead (spelled p) (closing_of kind 0 src)
 closing-piece Single (Bare c) src h = closing-one Single (One c) src h
 closing-piece Single (Twice c d) src h = closing-one Single (Pair c d) src h
 closing-piece Single (Letter b e n) src h = absurd h
@@ -67,7 +67,7 @@ closing-piece Double (Twice c d) src h = absurd h
 closing-piece Double (Letter b e n) src h = closing-one Double (Pair b e) src h.0
 closing-piece Double (Number b e digits n) src h = closing-one Double (Pair b e) (digits ++ src) h.0 ∙ ap (ahead (b ∷ e ∷ [])) (closing-ones digits src (digits-bare 0 digits n h.2)) ∙ ahead-ahead (b ∷ e ∷ []) digits (closing_of Double 0 src)
 
-pub closing-pieces : (kind : Quotes) (ps : List Piece) (src : List Cell) → AllByRecursion (IsPiece kind) ps → closing_of kind 0 (flat_map spelled ps ++ src) ≡ ahead (flat_map spelled ps) (closing_of kind 0 src)
+pub closing-pieces : (kind : Quotes) (ps : List QuotedPiece) (src : List Cell) → AllByRecursion (IsQuotedPiece kind) ps → closing_of kind 0 (flat_map spelled ps ++ src) ≡ ahead (flat_map spelled ps) (closing_of kind 0 src)
 closing-pieces kind [] src each = nothing (closing_of kind 0 src)
   where
     nothing : (o : Option Split) → o ≡ ahead [] o
@@ -78,7 +78,7 @@ closing-pieces kind (p ∷ ps) src each =
     ap (closing_of kind 0) regrouped ∙ closing-piece kind p (flat_map spelled ps ++ src) each.0 ∙ ap (ahead (spelled p)) (closing-pieces kind ps src each.1) ∙ ahead-ahead (spelled p) (flat_map spelled ps) (closing_of kind 0 src)
     ∙ ap (λ (x : List Cell). ahead x (closing_of kind 0 src)) (sym (flat_map-cons spelled p ps))
 
-closing-raws : (kind : Quotes) (rs : List Raw) (src : List Cell) → AllByRecursion (IsRaw kind) rs → closing_of kind 0 (flat_map raw rs ++ src) ≡ ahead (flat_map raw rs) (closing_of kind 0 src)
+closing-raws : (kind : Quotes) (rs : List QuotedRaw) (src : List Cell) → AllByRecursion (IsQuotedRaw kind) rs → closing_of kind 0 (flat_map raw rs ++ src) ≡ ahead (flat_map raw rs) (closing_of kind 0 src)
 closing-raws kind [] src each = nothing (closing_of kind 0 src)
   where
     nothing : (o : Option Split) → o ≡ ahead [] o
@@ -109,7 +109,7 @@ inner-again kind src c =
 
 -- ---- where nothing closes nothing is found
 
-more-raw : (kind : Quotes) (r : Raw) (src : List Cell) → IsRaw kind r → Closes kind src → Closes kind (raw r ++ src)
+more-raw : (kind : Quotes) (r : QuotedRaw) (src : List Cell) → IsQuotedRaw kind r → Closes kind src → Closes kind (raw r ++ src)
 more-raw kind r src h c = record {
   raws = r ∷ c.raws;
   each = (h, c.each);
@@ -126,7 +126,7 @@ closes-here kind c src e h = record { raws = []; each = tt; closing = c; rest = 
 abbrev Found : Quotes → List Cell → Type 0
 Found kind src = Closes kind src ⊎ (closing_of kind 0 src ≡ None)
 
-found-raw : (kind : Quotes) (r : Raw) (src : List Cell) → IsRaw kind r → Found kind src → Found kind (raw r ++ src)
+found-raw : (kind : Quotes) (r : QuotedRaw) (src : List Cell) → IsQuotedRaw kind r → Found kind src → Found kind (raw r ++ src)
 found-raw kind r src h (inl c) = inl (more-raw kind r src h c)
 found-raw kind r src h (inr n) = inr (closing-one kind r src h ∙ ap (ahead (raw r)) n)
 

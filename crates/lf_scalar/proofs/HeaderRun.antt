@@ -3,7 +3,7 @@ use Rattle.std.proofs.Common.{◌≡◌, ℕ, ◌+◌, ◌<◌, ◌≤◌, false
 use Rattle.std.specs.Prelude.{option_map}
 use Rattle.std.proofs.lemmas.List.{drop_all}
 use Rattle.lf_scalar.specs.declared.block.Chomp.{Chomp}
-use Rattle.lf_scalar.specs.declared.header.Mark.TheVariants as mark
+use Rattle.lf_scalar.specs.declared.header.HeaderByte.TheVariants as mark
 use Rattle.lf_scalar.specs.Cells.{Cell, cell, cells}
 use Rattle.lf_scalar.specs.reading.Quoted.{wrong_behind}
 use Rattle.lf_scalar.specs.reading.Block.{Header as HeaderRead, chomp_of, mark_digit, ends_header, once, header_from}

@@ -8,7 +8,7 @@ use Rattle.lf_scalar.specs.Cells.{Cell, Value}
 use Rattle.lf_scalar.specs.Lines.{Line, lines, first_text}
 use Rattle.lf_scalar.specs.Plain.{Begun}
 use Rattle.lf_scalar.specs.Quoted.{Quotes, Single, Double}
-use Rattle.lf_scalar.specs.Block.{Headed, IsJoined, IsFolded, joined}
+use Rattle.lf_scalar.specs.Block.{Headed, AreJoinedLines, IsFolded, joined}
 use Rattle.lf_scalar.specs.reading.Block.{folded_of}
 use Rattle.lf_scalar.specs.Scalars.{begins, IsQuotedAt, BreaksQuotedAt, IsOfStyle, BreaksStyle}
 use Rattle.lf_scalar.specs.reading.Styles.{quoted_at, reading}
@@ -32,7 +32,7 @@ pub is_read : (s : Style) (above end : ℕ) (src : List Cell) (v : Value) → Is
 is_read style.Plain above end src v h = plain.plain-read above end src v h
 is_read style.Single above end src v h = quoted-read Single end src v h
 is_read style.Double above end src v h = quoted-read Double end src v h
-is_read style.Literal above end src v h = block.block-read IsJoined joined joining above end src v h
+is_read style.Literal above end src v h = block.block-read AreJoinedLines joined joining above end src v h
 is_read style.Folded above end src v h = block.block-read IsFolded folded_of folding above end src v h
 
 -- a breach is answered
@@ -40,7 +40,7 @@ pub is_refused : (s : Style) (above end : ℕ) (src : List Cell) (f : Fault) →
 is_refused style.Plain above end src f h = plain.plain-refused above end src f h
 is_refused style.Single above end src f h = quoted-refused Single end src f h
 is_refused style.Double above end src f h = quoted-refused Double end src f h
-is_refused style.Literal above end src f h = block.block-refused IsJoined joined joining above end src f h
+is_refused style.Literal above end src f h = block.block-refused AreJoinedLines joined joining above end src f h
 is_refused style.Folded above end src f h = block.block-refused IsFolded folded_of folding above end src f h
 
 abbrev pub Told : Style → ℕ → ℕ → List Cell → Result Value Fault → Type 0
@@ -79,7 +79,7 @@ quoted-told : (kind : Quotes) (s : Style) (above end : ℕ) (c : Cell) (src : Li
 quoted-told kind s above end c src (Ok v) is breaks h = is v h
 quoted-told kind s above end c src (Err f) is breaks h = breaks f h
 
-joined-told : (above end : ℕ) (src : List Cell) (r : Result Value Fault) → block.Told IsJoined joined joining above end src r → Told style.Literal above end src r
+joined-told : (above end : ℕ) (src : List Cell) (r : Result Value Fault) → block.Told AreJoinedLines joined joining above end src r → Told style.Literal above end src r
 joined-told above end src (Ok v) h = h
 joined-told above end src (Err f) h = h
 
@@ -97,7 +97,7 @@ tells style.Single above end [] h = true-false _ h (nothing-begins style.Single 
 tells style.Single above end (c ∷ src) h = quoted-told Single style.Single above end c src (reading style.Single above end (c ∷ src)) (λ v i. i) (λ f i. i) (quoted.quoted-tells Single end c src)
 tells style.Double above end [] h = true-false _ h (nothing-begins style.Double end)
 tells style.Double above end (c ∷ src) h = quoted-told Double style.Double above end c src (reading style.Double above end (c ∷ src)) (λ v i. i) (λ f i. i) (quoted.quoted-tells Double end c src)
-tells style.Literal above end src h = joined-told above end src (reading style.Literal above end src) (block.block-told IsJoined joined joining above end src (headed end src (begun style.Literal end src h)))
+tells style.Literal above end src h = joined-told above end src (reading style.Literal above end src) (block.block-told AreJoinedLines joined joining above end src (headed end src (begun style.Literal end src h)))
 tells style.Folded above end src h = folded-told above end src (reading style.Folded above end src) (block.block-told IsFolded folded_of folding above end src (headed end src (begun style.Folded end src h)))
 
 -- so it decides what stands where a scalar begins

@@ -11,7 +11,7 @@ use Rattle.lf_base.specs.Faults.{span, fault}
 use Rattle.lf_scalar.specs.Cells.{Cell, cell, byte_fault}
 use Rattle.lf_scalar.specs.Lines.{line, lines, is_tail}
 use Rattle.lf_scalar.specs.Plain.{last, more}
-use Rattle.lf_scalar.specs.Quoted.{Single, Double, Piece, Bare, Twice, Letter, Number, IsPiece, spelled, letter_of, width_of, One, Pair, raw, Folds, Drops, IsBadEscape, open_quote, inside, outside}
+use Rattle.lf_scalar.specs.Quoted.{Single, Double, QuotedPiece, Bare, Twice, Letter, Number, IsQuotedPiece, spelled, letter_of, width_of, One, Pair, raw, Folds, Drops, IsBadEscape, open_quote, inside, outside}
 use Rattle.lf_scalar.specs.Quoted as quoted
 use Rattle.lf_scalar.specs.Block.{AreMarks, IsChomp, body_fault, header, body}
 use Rattle.lf_scalar.specs.Scalars.{IsScalarAt, BreaksAt}
@@ -94,7 +94,7 @@ second-byte : (c d e f : Cell) (cs ds : List Cell) → c ∷ d ∷ cs ≡ e ∷ 
 second-byte c d e f cs ds h = cc
 
 -- no piece begins with a backslash and q
-no-piece : (at : ℕ) (p : Piece) (behind rest : List Cell) → IsPiece Double p → cell 92 at ∷ cell 113 (at + 1) ∷ behind ≡ spelled p ++ rest → ⊥
+no-piece : (at : ℕ) (p : QuotedPiece) (behind rest : List Cell) → IsQuotedPiece Double p → cell 92 at ∷ cell 113 (at + 1) ∷ behind ≡ spelled p ++ rest → ⊥
 no-piece at (Bare d) behind rest h e = h.1 (sym (first-byte (cell 92 at) d (cell 113 (at + 1) ∷ behind) rest e))
 no-piece at (Twice d g) behind rest h e = h
 no-piece at (Letter d g n) behind rest h e = no-letter n (ap letter_of (second-byte (cell 92 at) (cell 113 (at + 1)) d g behind rest e) ∙ h.1)

@@ -9,19 +9,19 @@ use Rattle.std.proofs.Math.Seq.{take-append_seam}
 use Rattle.std.proofs.lemmas.Option.{none-some}
 use lib.Utf8.{scalar}
 use Rattle.lf_scalar.specs.Cells.{Cell}
-use Rattle.lf_scalar.specs.Quoted.{Quotes, Single, Double, letter_of, width_of, Tells, Piece, Bare, Twice, Letter, Number, spelled, IsPiece}
+use Rattle.lf_scalar.specs.Quoted.{Quotes, Single, Double, letter_of, width_of, TellsNumber, QuotedPiece, Bare, Twice, Letter, Number, spelled, IsQuotedPiece}
 use Rattle.lf_scalar.specs.reading.Quoted.{told_on, told, piece_of, scan}
 use Rattle.lf_base.specs.Names.{hexadecimal_value}
 
-pub told-tells : (before : ℕ) (cs : List Cell) (n : ℕ) → told before cs ≡ Some n → Tells before cs n
+pub told-tells : (before : ℕ) (cs : List Cell) (n : ℕ) → told before cs ≡ Some n → TellsNumber before cs n
 told-tells before [] n e = let h : before ≡ n = cc in sym h
 told-tells before (c ∷ cs) n e = by (hexadecimal_value c.byte) refl e (λ d. told-tells (16 * before + d) cs n)
   where
-    by : (o : Option ℕ) → hexadecimal_value c.byte ≡ o → told_on before o (λ n. told n cs) ≡ Some n → ((d : ℕ) → told (16 * before + d) cs ≡ Some n → Tells (16 * before + d) cs n) → Tells before (c ∷ cs) n
+    by : (o : Option ℕ) → hexadecimal_value c.byte ≡ o → told_on before o (λ n. told n cs) ≡ Some n → ((d : ℕ) → told (16 * before + d) cs ≡ Some n → TellsNumber (16 * before + d) cs n) → TellsNumber before (c ∷ cs) n
     by None p e later = absurd (none-some n e)
     by (Some d) p e later = (d, p, later d e)
 
-pub tells-told : (before : ℕ) (cs : List Cell) (n : ℕ) → Tells before cs n → told before cs ≡ Some n
+pub tells-told : (before : ℕ) (cs : List Cell) (n : ℕ) → TellsNumber before cs n → told before cs ≡ Some n
 tells-told before [] n e = ap (λ (x : ℕ). Some x) (sym e)
 tells-told before (c ∷ cs) n (d, p, t) = rw p (tells-told (16 * before + d) cs n t)
 
@@ -41,26 +41,26 @@ no-width b n h =
 
 -- ---- one piece
 
-abbrev pub head_of : Piece → Cell
+abbrev pub head_of : QuotedPiece → Cell
 head_of (Bare c) = c
 head_of (Twice c d) = c
 head_of (Letter b e n) = b
 head_of (Number b e digits n) = b
 
-abbrev pub tail_of : Piece → List Cell
+abbrev pub tail_of : QuotedPiece → List Cell
 tail_of (Bare c) = []
 tail_of (Twice c d) = d ∷ []
 tail_of (Letter b e n) = e ∷ []
 tail_of (Number b e digits n) = e ∷ digits
 
-pub spelled-is : (p : Piece) (rest : List Cell) → spelled p ++ rest ≡ head_of p ∷ (tail_of p ++ rest)
+pub spelled-is : (p : QuotedPiece) (rest : List Cell) → spelled p ++ rest ≡ head_of p ∷ (tail_of p ++ rest)
 spelled-is (Bare c) rest = refl
 spelled-is (Twice c d) rest = refl
 spelled-is (Letter b e n) rest = refl
 spelled-is (Number b e digits n) rest = refl
 
 -- a piece that stands there is found
-pub piece-one : (kind : Quotes) (p : Piece) (rest : List Cell) → IsPiece kind p → piece_of kind (head_of p) (tail_of p ++ rest) ≡ Some (p, length (tail_of p))
+pub piece-one : (kind : Quotes) (p : QuotedPiece) (rest : List Cell) → IsQuotedPiece kind p → piece_of kind (head_of p) (tail_of p ++ rest) ≡ Some (p, length (tail_of p))
 unfolding piece_of
 piece-one Single (Bare c) rest h = rw (ne_eqb c.byte 39 h) refl
 piece-one Single (Twice c d) rest h = rw (eq-eqb c.byte 39 h.0, eq-eqb d.byte 39 h.1) refl
@@ -74,8 +74,8 @@ piece-one Double (Number b e digits n) rest h =
 
 -- a piece, and what follows it
 pub record Starts (kind : Quotes) (src : List Cell) : Type 0 where
-  pub piece : Piece
-  pub is_piece : IsPiece kind piece
+  pub piece : QuotedPiece
+  pub is_piece : IsQuotedPiece kind piece
   pub rest : List Cell
   pub source : src ≡ spelled piece ++ rest
 
@@ -132,7 +132,7 @@ starts Double c src =
     escapes (e ∷ src) a = escape e src (width_of e.byte) (letter_of e.byte) a refl refl
 
 -- where none is found none stands
-pub none-stands : (kind : Quotes) (c : Cell) (src : List Cell) → piece_of kind c src ≡ None → (p : Piece) (rest : List Cell) → IsPiece kind p → c ∷ src ≡ spelled p ++ rest → ⊥
+pub none-stands : (kind : Quotes) (c : Cell) (src : List Cell) → piece_of kind c src ≡ None → (p : QuotedPiece) (rest : List Cell) → IsQuotedPiece kind p → c ∷ src ≡ spelled p ++ rest → ⊥
 none-stands kind c src none p rest h e =
     let k : c ∷ src ≡ head_of p ∷ (tail_of p ++ rest) = e ∙ spelled-is p rest in
     let i : c ≡ head_of p = cc in
@@ -140,7 +140,7 @@ none-stands kind c src none p rest h e =
     let found : piece_of kind c src ≡ Some (p, length (tail_of p)) = rw (i, j) (piece-one kind p rest h) in
     none-some (p, length (tail_of p)) (sym none ∙ found)
 
-pub none-found : (kind : Quotes) (c : Cell) (src : List Cell) → ((p : Piece) (rest : List Cell) → IsPiece kind p → c ∷ src ≡ spelled p ++ rest → ⊥) → piece_of kind c src ≡ None
+pub none-found : (kind : Quotes) (c : Cell) (src : List Cell) → ((p : QuotedPiece) (rest : List Cell) → IsQuotedPiece kind p → c ∷ src ≡ spelled p ++ rest → ⊥) → piece_of kind c src ≡ None
 none-found kind c src none = elim (starts kind c src) [ inl s ↦ absurd (none s.piece s.rest s.is_piece s.source) | inr k ↦ k ]
 
 -- ---- many pieces
@@ -154,7 +154,7 @@ unfolding scan
 scan-skip kind [] rest = refl
 scan-skip kind (c ∷ cs) rest = scan-skip kind cs rest
 
-scanned-some : (kind : Quotes) (c : Cell) (src : List Cell) (p : Piece) (k : ℕ) → piece_of kind c src ≡ Some (p, k) → scan kind 0 (c ∷ src) ≡ (p ∷ (scan kind k src).0, (scan kind k src).1)
+scanned-some : (kind : Quotes) (c : Cell) (src : List Cell) (p : QuotedPiece) (k : ℕ) → piece_of kind c src ≡ Some (p, k) → scan kind 0 (c ∷ src) ≡ (p ∷ (scan kind k src).0, (scan kind k src).1)
 unfolding scan
 scanned-some kind c src p k e = rw e refl
 
@@ -163,26 +163,26 @@ unfolding scan
 scanned-none kind [] e = refl
 scanned-none kind (c ∷ src) e = rw e refl
 
-pub scan-one : (kind : Quotes) (p : Piece) (rest : List Cell) → IsPiece kind p → scan kind 0 (spelled p ++ rest) ≡ (p ∷ (scan kind 0 rest).0, (scan kind 0 rest).1)
+pub scan-one : (kind : Quotes) (p : QuotedPiece) (rest : List Cell) → IsQuotedPiece kind p → scan kind 0 (spelled p ++ rest) ≡ (p ∷ (scan kind 0 rest).0, (scan kind 0 rest).1)
 scan-one kind p rest h =
     let e : scan kind 0 (head_of p ∷ (tail_of p ++ rest)) ≡ (p ∷ (scan kind 0 rest).0, (scan kind 0 rest).1) =
     scanned-some kind (head_of p) (tail_of p ++ rest) p (length (tail_of p)) (piece-one kind p rest h) ∙ rw (scan-skip kind (tail_of p) rest) refl in
     ap (scan kind 0) (spelled-is p rest) ∙ e
 
 -- pieces with which the cells begin, and behind which no piece stands, are those that are read
-pub scan-again : (kind : Quotes) (ps : List Piece) (rest : List Cell) → AllByRecursion (IsPiece kind) ps → NoPiece kind rest → scan kind 0 (flat_map spelled ps ++ rest) ≡ (ps, rest)
+pub scan-again : (kind : Quotes) (ps : List QuotedPiece) (rest : List Cell) → AllByRecursion (IsQuotedPiece kind) ps → NoPiece kind rest → scan kind 0 (flat_map spelled ps ++ rest) ≡ (ps, rest)
 scan-again kind [] rest each none = scanned-none kind rest none
 scan-again kind (p ∷ ps) rest each none =
     let regrouped : flat_map spelled (p ∷ ps) ++ rest ≡ spelled p ++ (flat_map spelled ps ++ rest) = ap (λ (x : List Cell). x ++ rest) (flat_map-cons spelled p ps) ∙ append_assoc (spelled p) (flat_map spelled ps) rest in
-    ap (scan kind 0) regrouped ∙ scan-one kind p (flat_map spelled ps ++ rest) each.0 ∙ ap (λ (x : List Piece × List Cell). (p ∷ x.0, x.1)) (scan-again kind ps rest each.1 none)
+    ap (scan kind 0) regrouped ∙ scan-one kind p (flat_map spelled ps ++ rest) each.0 ∙ ap (λ (x : List QuotedPiece × List Cell). (p ∷ x.0, x.1)) (scan-again kind ps rest each.1 none)
 
 -- what is read are pieces, and behind them none stands
-pub record IsScan (kind : Quotes) (cs : List Cell) (read : List Piece × List Cell) : Type 0 where
-  pub each : AllByRecursion (IsPiece kind) read.0
+pub record IsScan (kind : Quotes) (cs : List Cell) (read : List QuotedPiece × List Cell) : Type 0 where
+  pub each : AllByRecursion (IsQuotedPiece kind) read.0
   pub source : cs ≡ flat_map spelled read.0 ++ read.1
   pub none : NoPiece kind read.1
 
-length-spelled : (src : List Cell) (p : Piece) (rest : List Cell) → src ≡ spelled p ++ rest → length rest < length src
+length-spelled : (src : List Cell) (p : QuotedPiece) (rest : List Cell) → src ≡ spelled p ++ rest → length rest < length src
 length-spelled src p rest e = let k = ap length (e ∙ spelled-is p rest) in omega (arith, length-append (tail_of p) rest)
 
 pub scan-sound : (kind : Quotes) (n : ℕ) (cs : List Cell) → length cs < n → IsScan kind cs (scan kind 0 cs)

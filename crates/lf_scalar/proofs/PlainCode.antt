@@ -4,7 +4,7 @@ use Rattle.std.proofs.lemmas.List.{append-nil, drop_all}
 use Rattle.lf_base.specs.declared.kind.Kind.TheVariants.{BadIndent}
 use Rattle.lf_base.specs.declared.refusal.Refusal.{Refusal}
 use Rattle.lf_base.specs.declared.refusal.Refusal.TheVariants as refusal_of
-use Rattle.lf_scalar.specs.declared.plain.Folded.{Folded}
+use Rattle.lf_scalar.specs.declared.plain.PendingPlainBreak.{PendingPlainBreak}
 use Rattle.lf_base.specs.declared.fault.Fault.{Fault}
 use Rattle.lf_scalar.specs.Cells.{Cell, cells, byte_fault, Fails, front, ◌>>=◌}
 use Rattle.lf_scalar.specs.Lines.{Line, line, lines_at, start_of, is_blank_line}
@@ -96,17 +96,17 @@ tab-begun at (b ∷ bytes) break h = refl
 -- ---- the lines behind a line break
 
 -- what has been read of the lines behind a line break, and what is left
-pub record Onto (above feed : ℕ) (all : List Line) (old now : List Cell) (folded : Folded) (left : List Line) : Type 0 where
+pub record Onto (above feed : ℕ) (all : List Line) (old now : List Cell) (folded : PendingPlainBreak) (left : List Line) : Type 0 where
   pub part : List Cell
   pub grown : now ≡ old ++ part
   pub same : plain_behind above feed 0 None all ≡ front part (plain_behind above folded.at folded.blank folded.tab left)
 
-module _ (above feed : ℕ) (all : List Line) (old now : List Cell) (folded : Folded) (l : Line) (left : List Line) (h : Onto above feed all old now folded (l ∷ left)) where
+module _ (above feed : ℕ) (all : List Line) (old now : List Cell) (folded : PendingPlainBreak) (l : Line) (left : List Line) (h : Onto above feed all old now folded (l ∷ left)) where
   pub onto-wrong : (e : Refusal) (new : List Cell) → Steps above folded l (Err e) now new → Fails e (plain_behind above feed 0 None all)
   onto-wrong refusal_of.Memory new s = tt
   onto-wrong (refusal_of.At kind span) new s = h.same ∙ ap (front h.part) (s left)
 
-pub onto-end : (above feed : ℕ) (all : List Line) (old now : List Cell) (folded : Folded) → Onto above feed all old now folded [] → (part : List Cell) × (plain_behind above feed 0 None all ≡ Ok part) × (now ≡ old ++ part)
+pub onto-end : (above feed : ℕ) (all : List Line) (old now : List Cell) (folded : PendingPlainBreak) → Onto above feed all old now folded [] → (part : List Cell) × (plain_behind above feed 0 None all ≡ Ok part) × (now ≡ old ++ part)
 unfolding plain_behind
 onto-end above feed all old now folded h = (h.part, h.same ∙ ap yes (append-nil h.part), h.grown)
 

@@ -7,7 +7,7 @@ use Rattle.lf_base.specs.declared.fault.Fault.{Fault}
 use Rattle.lf_scalar.specs.Cells.{Cell, Value, byte_fault, front, ◌>>=◌}
 use Rattle.lf_scalar.specs.Lines.{Line, start_of, is_blank_line, AreBlank}
 use Rattle.lf_scalar.specs.Folding.{fold}
-use Rattle.lf_scalar.specs.Plain.{plain_text, is_commented, key_sign, continues, has_tab, first_tab, StopsAt, IsLast, GoesOn, PlainFrom, last, more, PlainBreaks, key, tab, later, value_of, Begun, IsPlain, BreaksPlain}
+use Rattle.lf_scalar.specs.Plain.{plain_text, is_commented, key_sign, continues, has_tab, first_tab, StopsAt, IsLast, GoesOn, PlainFrom, last, more, PlainBreaks, key, tab, later, value_of, Begun, IsPlainScalar, BreaksPlain}
 use Rattle.lf_scalar.specs.reading.Plain.{plain_line, tab_with, plain_behind, plain_from, begun_with, plain_lines, plain_of}
 use Rattle.lf_scalar.proofs.Tails.{true-false}
 
@@ -198,7 +198,7 @@ begun-is : (above end : ℕ) (src : List Cell) (b : Begun end src) → plain_of 
 unfolding plain_of
 begun-is above end src b = ap (plain_lines above end) b.source ∙ ap (λ (x : List Cell). begun_with b.first x (plain_from above b.first b.following)) b.text
 
-pub plain-read : (above end : ℕ) (src : List Cell) (v : Value) → IsPlain above end src v → plain_of above end src ≡ Ok v
+pub plain-read : (above end : ℕ) (src : List Cell) (v : Value) → IsPlainScalar above end src v → plain_of above end src ≡ Ok v
 plain-read above end src v h =
     begun-is above end src h.begun ∙ ap (λ (r : Result (List Cell) Fault). r >>= λ text. Ok (value_of h.begun.opening text)) (plain-again above h.begun.first h.begun.following h.text h.from) ∙ ap (λ (x : Value). Ok x) (sym h.value)
 
@@ -206,7 +206,7 @@ pub plain-refused : (above end : ℕ) (src : List Cell) (f : Fault) → BreaksPl
 plain-refused above end src f (b, h) = begun-is above end src b ∙ ap (λ (r : Result (List Cell) Fault). r >>= λ text. Ok (value_of b.opening text)) (plain-breaks above b.first b.following f h)
 
 abbrev pub Told : ℕ → ℕ → List Cell → Result Value Fault → Type 0
-Told above end src (Ok v) = IsPlain above end src v
+Told above end src (Ok v) = IsPlainScalar above end src v
 Told above end src (Err f) = BreaksPlain above end src f
 
 pub plain-told : (above end : ℕ) (src : List Cell) → Begun end src → Told above end src (plain_of above end src)

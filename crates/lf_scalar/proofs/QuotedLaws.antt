@@ -9,7 +9,7 @@ use Rattle.lf_base.specs.declared.fault.Fault.{Fault}
 use Rattle.lf_scalar.specs.Cells.{Cell, byte_fault, front, ◌>>=◌}
 use Rattle.lf_scalar.specs.Lines.{Line, start_of, is_blank, after_blanks, is_blank_line, AreBlank}
 use Rattle.lf_scalar.specs.Markers.{is_marker}
-use Rattle.lf_scalar.specs.Quoted.{Quotes, Single, Double, quote_of, Piece, Bare, Twice, spelled, given, IsPiece, Break, Folds, Drops, filled, IsBroken, Follows, unindented, QuotedFrom, last, more, HasBadEscape, QuotedBreaks, escape, marker, later}
+use Rattle.lf_scalar.specs.Quoted.{Quotes, Single, Double, quote_of, QuotedPiece, Bare, Twice, spelled, given, IsQuotedPiece, Break, Folds, Drops, filled, IsBroken, Follows, unindented, QuotedFrom, last, more, HasBadEscape, QuotedBreaks, escape, marker, later}
 use Rattle.lf_scalar.specs.reading.Quoted.{piece_of, scan, closing_of, ended, line_of, lines_behind, lines_from}
 use Rattle.lf_scalar.specs.Splits.{Split, behind_cell}
 use Rattle.lf_scalar.proofs.Pieces.{none-stands, none-found, scan-again, IsScan, scan-sound}
@@ -30,7 +30,7 @@ unfolding piece_of
 no-piece-closing Single c e = (rw (eq-eqb c.byte 39 e) refl, rw e refl)
 no-piece-closing Double c e = (rw (e) refl, rw e refl)
 
-line-last : (kind : Quotes) (l : Line) (ps : List Piece) (closing : Cell) → AllByRecursion (IsPiece kind) ps → closing.byte ≡ quote_of kind → l.text ≡ flat_map spelled ps ++ closing ∷ [] → line_of kind l ≡ good (flat_map given ps) (Folds l.break)
+line-last : (kind : Quotes) (l : Line) (ps : List QuotedPiece) (closing : Cell) → AllByRecursion (IsQuotedPiece kind) ps → closing.byte ≡ quote_of kind → l.text ≡ flat_map spelled ps ++ closing ∷ [] → line_of kind l ≡ good (flat_map given ps) (Folds l.break)
 line-last kind l ps closing each e source =
     let n = no-piece-closing kind closing e in
     ap (λ (x : List Cell). ended l.break (scan kind 0 x)) source ∙ ap (ended l.break) (scan-again kind ps (closing ∷ []) each n.0) ∙ rw n.1 refl
@@ -148,11 +148,11 @@ not-single e = absurd (subst Is e tt)
     Is Single = Unit {0}
     Is Double = ⊥
 
-drops : (kind : Quotes) (l : Line) (ps : List Piece) (c : Cell) → kind ≡ Double → AllByRecursion (IsPiece kind) ps → c.byte ≡ 92 → l.text ≡ flat_map spelled ps ++ c ∷ [] → IsBroken kind l (flat_map given ps) (Drops l.break)
+drops : (kind : Quotes) (l : Line) (ps : List QuotedPiece) (c : Cell) → kind ≡ Double → AllByRecursion (IsQuotedPiece kind) ps → c.byte ≡ 92 → l.text ≡ flat_map spelled ps ++ c ∷ [] → IsBroken kind l (flat_map given ps) (Drops l.break)
 drops Single l ps c k each e source = not-single k
 drops Double l ps c k each e source = (ps, c, each, e, source, refl, refl)
 
-bad-escape : (kind : Quotes) (text : List Cell) (ps : List Piece) (c d : Cell) (left : List Cell) → IsScan kind text (ps, c ∷ d ∷ left) → c.byte ≡ 92 → HasBadEscape kind text c
+bad-escape : (kind : Quotes) (text : List Cell) (ps : List QuotedPiece) (c d : Cell) (left : List Cell) → IsScan kind text (ps, c ∷ d ∷ left) → c.byte ≡ 92 → HasBadEscape kind text c
 bad-escape kind text ps c d left r e = record { pieces = ps; each = r.each; more = d ∷ left; source = r.source; is_bad = record { is_backslash = e; inside = some-left; none = none-stands kind c (d ∷ left) r.none } }
   where
     some-left : d ∷ left ≢ []
@@ -167,16 +167,16 @@ abbrev Middle : Quotes → Line → Result Read Fault → Type 0
 Middle kind l (Ok x) = IsBroken kind l x.0 x.1
 Middle kind l (Err f) = (b : Cell) × HasBadEscape kind l.text b × (f ≡ byte_fault BadEscape b.at)
 
-ended-drops : (break : ℕ) (ps : List Piece) (c : Cell) → c.byte ≡ 92 → ended break (ps, c ∷ []) ≡ good (flat_map given ps) (Drops break)
+ended-drops : (break : ℕ) (ps : List QuotedPiece) (c : Cell) → c.byte ≡ 92 → ended break (ps, c ∷ []) ≡ good (flat_map given ps) (Drops break)
 ended-drops break ps c e = rw (eq-eqb c.byte 92 e) refl
 
-ended-bad : (break : ℕ) (ps : List Piece) (c d : Cell) (left : List Cell) → c.byte ≡ 92 → ended break (ps, c ∷ d ∷ left) ≡ bad (byte_fault BadEscape c.at)
+ended-bad : (break : ℕ) (ps : List QuotedPiece) (c d : Cell) (left : List Cell) → c.byte ≡ 92 → ended break (ps, c ∷ d ∷ left) ≡ bad (byte_fault BadEscape c.at)
 ended-bad break ps c d left e = rw (eq-eqb c.byte 92 e) refl
 
-ended-closes : (kind : Quotes) (break : ℕ) (ps : List Piece) (c : Cell) (src : List Cell) → c.byte ≡ quote_of kind → ended break (ps, c ∷ src) ≡ good (flat_map given ps) (Folds break)
+ended-closes : (kind : Quotes) (break : ℕ) (ps : List QuotedPiece) (c : Cell) (src : List Cell) → c.byte ≡ quote_of kind → ended break (ps, c ∷ src) ≡ good (flat_map given ps) (Folds break)
 ended-closes kind break ps c src e = rw (quote-is kind c.byte e) refl
 
-middle-by : (kind : Quotes) (l : Line) (ps : List Piece) (rest : List Cell) → IsScan kind l.text (ps, rest) → closing_of kind 0 l.text ≡ None → Middle kind l (ended l.break (ps, rest))
+middle-by : (kind : Quotes) (l : Line) (ps : List QuotedPiece) (rest : List Cell) → IsScan kind l.text (ps, rest) → closing_of kind 0 l.text ≡ None → Middle kind l (ended l.break (ps, rest))
 middle-by kind l ps [] r none = (ps, r.each, r.source ∙ append-nil (flat_map spelled ps), refl, refl)
 middle-by kind l ps (c ∷ src) r none = by src r (stuck kind c src r.none)
   where
@@ -207,10 +207,10 @@ nothing-closes : (kind : Quotes) → closing_of kind 0 [] ≡ None
 unfolding closing_of
 nothing-closes kind = refl
 
-last-by : (kind : Quotes) (l : Line) (ps : List Piece) (rest within : List Cell) (end : Cell) → IsScan kind l.text (ps, rest) → closing_of kind 0 l.text ≡ Some (within, (end, [])) → Last kind l (ended l.break (ps, rest))
+last-by : (kind : Quotes) (l : Line) (ps : List QuotedPiece) (rest within : List Cell) (end : Cell) → IsScan kind l.text (ps, rest) → closing_of kind 0 l.text ≡ Some (within, (end, [])) → Last kind l (ended l.break (ps, rest))
 last-by kind l ps rest within end r found = by rest r (ap (closing_of kind 0) (sym r.source) ∙ found)
   where
-    unfound : (rest : List Cell) → AllByRecursion (IsPiece kind) ps → closing_of kind 0 rest ≡ None → closing_of kind 0 (flat_map spelled ps ++ rest) ≡ some-closing (within, (end, [])) → ⊥
+    unfound : (rest : List Cell) → AllByRecursion (IsQuotedPiece kind) ps → closing_of kind 0 rest ≡ None → closing_of kind 0 (flat_map spelled ps ++ rest) ≡ some-closing (within, (end, [])) → ⊥
     unfound rest each none f = no-some (within, (end, [])) (sym (closing-pieces kind ps rest each ∙ ap (ahead (flat_map spelled ps)) none) ∙ f)
 
     stopping : (c : Cell) (src : List Cell) → IsScan kind l.text (ps, c ∷ src) → closing_of kind 0 (flat_map spelled ps ++ c ∷ src) ≡ some-closing (within, (end, [])) → Stuck kind c src → Last kind l (ended l.break (ps, c ∷ src))

@@ -9,7 +9,7 @@ use Rattle.lf_base.specs.declared.kind.Kind.TheVariants.{BadEscape}
 use Rattle.lf_base.specs.declared.fault.Fault.{Fault}
 use Rattle.lf_scalar.specs.Cells.{Cell, cell, cells, byte_fault}
 use Rattle.lf_scalar.specs.Folding.{trimmed}
-use Rattle.lf_scalar.specs.Quoted.{Quotes, Piece, given, is_bare_blank, Break, Folds, Drops}
+use Rattle.lf_scalar.specs.Quoted.{Quotes, QuotedPiece, given, is_bare_blank, Break, Folds, Drops}
 use Rattle.lf_scalar.specs.reading.Quoted.{scan, Reaches, ended, line_of, line_at}
 use Rattle.lf_scalar.proofs.Cells.{cells-drop}
 
@@ -25,12 +25,12 @@ trimmed-front {X = X} t (x ∷ xs) = by (t x && list_all t xs) (trimmed-front t 
     by false r = (r.0, ap (λ ys. x ∷ ys) r.1)
 
 -- what is kept of a line whose break is folded
-kept-front : (old now : List Cell) (kept : ℕ) (ps : List Piece) → now ≡ old ++ flat_map given ps → kept ≡ length old + length (flat_map given (trimmed is_bare_blank ps)) → take kept now ≡ old ++ flat_map given (trimmed is_bare_blank ps)
+kept-front : (old now : List Cell) (kept : ℕ) (ps : List QuotedPiece) → now ≡ old ++ flat_map given ps → kept ≡ length old + length (flat_map given (trimmed is_bare_blank ps)) → take kept now ≡ old ++ flat_map given (trimmed is_bare_blank ps)
 kept-front old now kept ps e k =
     let f = trimmed-front is_bare_blank ps in
     let x : List Cell = flat_map given (trimmed is_bare_blank ps) in
     let whole : now ≡ (old ++ x) ++ flat_map given f.0 =
-    e ∙ ap (λ (qs : List Piece). old ++ flat_map given qs) f.1 ∙ ap (λ (cs : List Cell). old ++ cs) (flat_map-append given (trimmed is_bare_blank ps) f.0) ∙ sym (append_assoc old x (flat_map given f.0)) in
+    e ∙ ap (λ (qs : List QuotedPiece). old ++ flat_map given qs) f.1 ∙ ap (λ (cs : List Cell). old ++ cs) (flat_map-append given (trimmed is_bare_blank ps) f.0) ∙ sym (append_assoc old x (flat_map given f.0)) in
     let size : kept ≡ length (old ++ x) = k ∙ sym (length-append old x) in
     ap (λ (n : ℕ). take n now) size ∙ ap (take (length (old ++ x))) whole ∙ take-append_seam (old ++ x) (flat_map given f.0)
 

@@ -11,7 +11,7 @@ use Rattle.std.proofs.lemmas.Option.{same_Some}
 use Rattle.lf_scalar.specs.Cells.{Cell, cell, bytes_of}
 use Rattle.lf_scalar.specs.Lines.{Line, after_blanks}
 use Rattle.lf_scalar.specs.Folding.{trimmed}
-use Rattle.lf_scalar.specs.Quoted.{Quotes, Single, Double, quote_of, letters, looked_up, letter_of, width_of, Tells, Piece, Bare, Twice, Letter, Number, spelled, char_cells, given, IsPiece, is_bare_blank, Break, Folds, Drops, filled, IsBroken, unindented, QuotedFrom, last, more}
+use Rattle.lf_scalar.specs.Quoted.{Quotes, Single, Double, quote_of, letters, looked_up, letter_of, width_of, TellsNumber, QuotedPiece, Bare, Twice, Letter, Number, spelled, char_cells, given, IsQuotedPiece, is_bare_blank, Break, Folds, Drops, filled, IsBroken, unindented, QuotedFrom, last, more}
 use Rattle.lf_scalar.proofs.Parts.{Utf8, utf8-before, utf8-behind, part-utf8, after-blanks-part, blank-low, BeginsLow}
 use Rattle.lf_scalar.proofs.Utf8Lines.{utf8-nil, utf8-append, utf8-low, feeds-utf8, fold-utf8, LinesUtf8, lines-utf8-behind}
 use Rattle.lf_scalar.proofs.Rising.{Rises, Climbs, LinesRise, rises-le, rises-front, rises-back, rises-before, rises-behind, rises-part, climbs-low, climbs-high, climbs-append, feeds-climb, fold-climbs, lines-behind}
@@ -88,7 +88,7 @@ width-low byte n e =
 abbrev pub AreLow : List Cell → Type 0
 AreLow cs = AllByRecursion (λ c. c.byte < 128) cs
 
-digits-low : (before : ℕ) (cs : List Cell) (n : ℕ) → Tells before cs n → AreLow cs
+digits-low : (before : ℕ) (cs : List Cell) (n : ℕ) → TellsNumber before cs n → AreLow cs
 digits-low before [] n h = tt
 digits-low before (c ∷ cs) n (d, e, h) = (digit_low c.byte d e, digits-low (16 * before + d) cs n h)
 
@@ -109,7 +109,7 @@ char-utf8 at n s = subst IsUtf8 (sym (char-bytes at (encode_utf8 n))) (IsUtf8-en
 replaced : (xs : List Cell) (c : Cell) (behind text now : List Cell) → c.byte < 128 → Utf8 (xs ++ c ∷ behind) → Utf8 text → Utf8 now → Utf8 (xs ++ (text ++ now))
 replaced xs c behind text now lt u t v = utf8-append xs (text ++ now) (utf8-before xs c behind u lt) (utf8-append text now t v)
 
-pieces-utf8-from : (kind : Quotes) (xs : List Cell) (ps : List Piece) → AllByRecursion (IsPiece kind) ps → Utf8 (xs ++ flat_map spelled ps) → Utf8 (xs ++ flat_map given ps)
+pieces-utf8-from : (kind : Quotes) (xs : List Cell) (ps : List QuotedPiece) → AllByRecursion (IsQuotedPiece kind) ps → Utf8 (xs ++ flat_map spelled ps) → Utf8 (xs ++ flat_map given ps)
 pieces-utf8-from kind xs [] h u = u
 pieces-utf8-from kind xs (Bare c ∷ ps) h u =
     subst Utf8 (append_assoc xs (c ∷ []) (flat_map given ps)) (pieces-utf8-from kind (xs ++ c ∷ []) ps h.1 (subst Utf8 (sym (append_assoc xs (c ∷ []) (flat_map spelled ps))) u))
@@ -133,14 +133,14 @@ pieces-utf8-from Double xs (Number b e digits n ∷ ps) h u =
     let rest : Utf8 (flat_map spelled ps) = behind-low digits (flat_map spelled ps) (digits-low 0 digits n h.0.2) tail in
     replaced xs b (e ∷ (digits ++ flat_map spelled ps)) (char_cells b.at n) (flat_map given ps) lb u (char-utf8 b.at n h.0.3) (pieces-utf8-from Double [] ps h.1 rest)
 
-pub pieces-utf8 : (kind : Quotes) (ps : List Piece) → AllByRecursion (IsPiece kind) ps → Utf8 (flat_map spelled ps) → Utf8 (flat_map given ps)
+pub pieces-utf8 : (kind : Quotes) (ps : List QuotedPiece) → AllByRecursion (IsQuotedPiece kind) ps → Utf8 (flat_map spelled ps) → Utf8 (flat_map given ps)
 pieces-utf8 kind ps h u = pieces-utf8-from kind [] ps h u
 
 chars-climb : (lo at hi : ℕ) (bytes : List ℕ) (rest : List Cell) → lo ≤ at → at < hi → Climbs at rest hi → Climbs lo (map (λ (b : ℕ). cell b at) bytes ++ rest) hi
 chars-climb lo at hi [] rest le lt h = climbs-low at lo rest hi le h
 chars-climb lo at hi (b ∷ bytes) rest le lt h = (le, lt, chars-climb at at hi bytes rest (omega arith) lt h)
 
-pub pieces-climb : (lo : ℕ) (ps : List Piece) (hi : ℕ) → Rises lo (flat_map spelled ps) hi → Climbs lo (flat_map given ps) hi
+pub pieces-climb : (lo : ℕ) (ps : List QuotedPiece) (hi : ℕ) → Rises lo (flat_map spelled ps) hi → Climbs lo (flat_map given ps) hi
 pieces-climb lo [] hi h = h
 pieces-climb lo (Bare c ∷ ps) hi h =
     let le = rises-le (suc c.at) (flat_map spelled ps) hi h.1 in
@@ -158,18 +158,18 @@ pieces-climb lo (Number b e digits n ∷ ps) hi h =
 
 -- ---- without the blanks at the end
 
-pub record FrontPieces (ps front : List Piece) : Type 0 where
-  pub back : List Piece
+pub record FrontPieces (ps front : List QuotedPiece) : Type 0 where
+  pub back : List QuotedPiece
   pub source : ps ≡ front ++ back
   pub begins_low : BeginsLow (flat_map spelled back)
 
-bare-low : (p : Piece) (ps : List Piece) → is_bare_blank p ≡ true → BeginsLow (flat_map spelled (p ∷ ps))
+bare-low : (p : QuotedPiece) (ps : List QuotedPiece) → is_bare_blank p ≡ true → BeginsLow (flat_map spelled (p ∷ ps))
 bare-low (Bare c) ps h = blank-low c h
 bare-low (Twice c d) ps h = absurd (true≢false (sym h))
 bare-low (Letter b e n) ps h = absurd (true≢false (sym h))
 bare-low (Number b e digits n) ps h = absurd (true≢false (sym h))
 
-trimmed-pieces : (ps : List Piece) → FrontPieces ps (trimmed is_bare_blank ps)
+trimmed-pieces : (ps : List QuotedPiece) → FrontPieces ps (trimmed is_bare_blank ps)
 trimmed-pieces [] = record { back = []; source = refl; begins_low = tt }
 trimmed-pieces (p ∷ ps) =
     elim (cases_Bool (is_bare_blank p && list_all is_bare_blank ps)) [
@@ -178,9 +178,9 @@ trimmed-pieces (p ∷ ps) =
     ]
   where
     longer : FrontPieces ps (trimmed is_bare_blank ps) → FrontPieces (p ∷ ps) (p ∷ trimmed is_bare_blank ps)
-    longer f = record { back = f.back; source = ap (λ (qs : List Piece). p ∷ qs) f.source; begins_low = f.begins_low }
+    longer f = record { back = f.back; source = ap (λ (qs : List QuotedPiece). p ∷ qs) f.source; begins_low = f.begins_low }
 
-module _ (ps : List Piece) where
+module _ (ps : List QuotedPiece) where
   spelled-parts : flat_map spelled ps ≡ flat_map spelled (trimmed is_bare_blank ps) ++ flat_map spelled (trimmed-pieces ps).back
   spelled-parts = ap (flat_map spelled) (trimmed-pieces ps).source ∙ flat_map-append spelled (trimmed is_bare_blank ps) (trimmed-pieces ps).back
 
@@ -188,9 +188,9 @@ module _ (ps : List Piece) where
   cut-utf8 text [] h u = subst Utf8 (append-nil text) u
   cut-utf8 text (c ∷ cs) h u = utf8-before text c cs u h
 
-  pub trimmed-utf8 : (kind : Quotes) → AllByRecursion (IsPiece kind) ps → Utf8 (flat_map spelled ps) → Utf8 (flat_map given (trimmed is_bare_blank ps))
+  pub trimmed-utf8 : (kind : Quotes) → AllByRecursion (IsQuotedPiece kind) ps → Utf8 (flat_map spelled ps) → Utf8 (flat_map given (trimmed is_bare_blank ps))
   trimmed-utf8 kind h u =
-      pieces-utf8 kind (trimmed is_bare_blank ps) (all_front (IsPiece kind) (trimmed is_bare_blank ps) (trimmed-pieces ps).back (subst (AllByRecursion (IsPiece kind)) (trimmed-pieces ps).source h))
+      pieces-utf8 kind (trimmed is_bare_blank ps) (all_front (IsQuotedPiece kind) (trimmed is_bare_blank ps) (trimmed-pieces ps).back (subst (AllByRecursion (IsQuotedPiece kind)) (trimmed-pieces ps).source h))
       (cut-utf8 (flat_map spelled (trimmed is_bare_blank ps)) (flat_map spelled (trimmed-pieces ps).back) (trimmed-pieces ps).begins_low (subst Utf8 spelled-parts u))
 
   pub trimmed-climbs : (lo hi : ℕ) → Rises lo (flat_map spelled ps) hi → Climbs lo (flat_map given (trimmed is_bare_blank ps)) hi

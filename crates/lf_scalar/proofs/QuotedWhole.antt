@@ -5,7 +5,7 @@ use Rattle.lf_base.specs.declared.fault.Fault.{Fault}
 use Rattle.lf_base.specs.Faults.{span}
 use Rattle.lf_scalar.specs.Cells.{Cell, Value, made, ◌>>=◌}
 use Rattle.lf_scalar.specs.Lines.{Line}
-use Rattle.lf_scalar.specs.Quoted.{Quotes, raw, Closes, inner_lines, IsClosed, behind, IsQuoted, BreaksQuoted, open_quote, inside, outside}
+use Rattle.lf_scalar.specs.Quoted.{Quotes, raw, Closes, inner_lines, IsClosedScalar, behind, IsQuoted, BreaksQuoted, open_quote, inside, outside}
 use Rattle.lf_scalar.specs.reading.Quoted.{lines_of, lines_from, wrong_behind, alone, closed, quoted_of}
 use Rattle.lf_scalar.proofs.Closing.{closes-again, inner-again, closes-or-none}
 use Rattle.lf_scalar.proofs.InnerLines.{LinesOk, inner-lines}
@@ -23,7 +23,7 @@ module _ (kind : Quotes) (end : ℕ) (opening : Cell) (src : List Cell) where
   unfolding quoted_of
   read-is c = ap (closed kind end opening) (closes-again kind src c)
 
-  closed-is : (v : Value) (h : IsClosed kind opening src v) → quoted_of kind end opening src ≡ alone v (wrong_behind false (behind end h.between))
+  closed-is : (v : Value) (h : IsClosedScalar kind opening src v) → quoted_of kind end opening src ≡ alone v (wrong_behind false (behind end h.between))
   closed-is v h =
       let text : lines_of kind (inner_lines h.between) ≡ Ok h.text = ap (lines_of kind) h.source ∙ from-again kind h.first h.following h.text h.from in
       read-is h.between ∙ ap (judged h.between) text ∙ ap (λ (x : Value). alone x (wrong_behind false (behind end h.between))) (sym h.value)
@@ -49,7 +49,7 @@ module _ (kind : Quotes) (end : ℕ) (opening : Cell) (src : List Cell) where
   Told (Ok v) = IsQuoted kind end opening src v
   Told (Err f) = BreaksQuoted kind end opening src f
 
-  judged-tells : (v : Value) (h : IsClosed kind opening src v) (o : Option Cell) → wrong_behind false (behind end h.between) ≡ o → Told (alone v o)
+  judged-tells : (v : Value) (h : IsClosedScalar kind opening src v) (o : Option Cell) → wrong_behind false (behind end h.between) ≡ o → Told (alone v o)
   judged-tells v h None e = record { closed = h; alone = told-tail false (behind end h.between) e }
   judged-tells v h (Some w) e = outside h (to-front (behind end h.between) w (told-wrong false (behind end h.between) w e))
 

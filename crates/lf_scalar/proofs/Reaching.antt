@@ -11,7 +11,7 @@ use Rattle.lf_scalar.specs.declared.escapes.PieceValue.{PieceValue}
 use Rattle.lf_scalar.specs.declared.escapes.PieceValue.TheVariants as values
 use Rattle.lf_scalar.specs.Cells.{Cell, cell, cells}
 use Rattle.lf_scalar.specs.Folding.{trimmed}
-use Rattle.lf_scalar.specs.Quoted.{Quotes, Piece, spelled, given, IsPiece, is_bare_blank}
+use Rattle.lf_scalar.specs.Quoted.{Quotes, QuotedPiece, spelled, given, IsQuotedPiece, is_bare_blank}
 use Rattle.lf_scalar.specs.reading.Quoted.{piece_of, piece_at, as_piece, as_value, is_blank_value, scan, Reaches}
 use Rattle.lf_scalar.proofs.Pieces.{Starts, starts, head_of, tail_of, spelled-is, piece-one, NoPiece, scan-again}
 use Rattle.lf_laws.proofs.Members.{all_append}
@@ -38,8 +38,8 @@ drop-cells (suc n) at (x ∷ xs) = drop-cells n (suc at) xs ∙ ap (λ (k : ℕ)
 
 -- the piece that the code found at the front of some bytes
 pub record Front (kind : Quotes) (at : ℕ) (rest : List ℕ) (g : PieceValue) (k : ℕ) : Type 0 where
-  pub piece : Piece
-  pub is_piece : IsPiece kind piece
+  pub piece : QuotedPiece
+  pub is_piece : IsQuotedPiece kind piece
   pub gives : given piece ≡ (as_value at (g, 0)).0
   pub blank : is_bare_blank piece ≡ is_blank_value g
   pub source : cells at rest ≡ spelled piece ++ cells (at + (1 + k)) (drop (1 + k) rest)
@@ -81,7 +81,7 @@ pub none-front : (kind : Quotes) (at : ℕ) (rest : List ℕ) → None ≡ optio
 none-front kind at [] e = tt
 none-front kind at (b ∷ bytes) e = by (piece_of kind (cell b at) (cells (suc at) bytes)) e
   where
-    by : (o : Option (Piece × ℕ)) → None ≡ option_map as_piece o → o ≡ None
+    by : (o : Option (QuotedPiece × ℕ)) → None ≡ option_map as_piece o → o ≡ None
     by None e = refl
     by (Some x) e = none-seen (as_piece x) e
 
@@ -106,8 +106,8 @@ trimmed-full t (y ∷ ys) x h = rw (all-full t ys x h, trimmed-full t ys x h, an
 -- ---- so far
 
 pub record SoFar (kind : Quotes) (at : ℕ) (line : List ℕ) (old now : List Cell) (kept stop : ℕ) : Type 0 where
-  pub pieces : List Piece
-  pub each : AllByRecursion (IsPiece kind) pieces
+  pub pieces : List QuotedPiece
+  pub each : AllByRecursion (IsQuotedPiece kind) pieces
   pub source : cells at line ≡ flat_map spelled pieces ++ cells (at + stop) (drop stop line)
   pub text : now ≡ old ++ flat_map given pieces
   pub kept_is : kept ≡ length old + length (flat_map given (trimmed is_bare_blank pieces))
@@ -120,7 +120,7 @@ all-of kind at line old now kept stop r none =
 pub nothing-left : (kind : Quotes) (at stop : ℕ) (line : List ℕ) → length line ≤ stop → NoPiece kind (cells (at + stop) (drop stop line))
 nothing-left kind at stop line le = rw (drop_all stop line le) tt
 
-flat-push : (f : Piece → List Cell) (ps : List Piece) (p : Piece) → flat_map f (ps ++ p ∷ []) ≡ flat_map f ps ++ f p
+flat-push : (f : QuotedPiece → List Cell) (ps : List QuotedPiece) (p : QuotedPiece) → flat_map f (ps ++ p ∷ []) ≡ flat_map f ps ++ f p
 flat-push f ps p = flat_map-append f ps (p ∷ []) ∙ ap (λ (x : List Cell). flat_map f ps ++ x) (flat_map-cons f p [] ∙ append-nil (f p))
 
 pub one-more : (kind : Quotes) (at : ℕ) (line : List ℕ) (old now after : List Cell) (kept new stop : ℕ) (g : PieceValue) (k : ℕ) → SoFar kind at line old now kept stop → Front kind (at + stop) (drop stop line) g k
@@ -134,7 +134,7 @@ one-more kind at line old now after kept new stop g k r f a n =
     ap (λ (m : ℕ). cells m (drop (1 + k) (drop stop line))) p ∙ ap (cells (at + (stop + (1 + k)))) (drop-drop (1 + k) stop line) in
     record {
       pieces = r.pieces ++ f.piece ∷ [];
-      each = all_append (IsPiece kind) r.pieces (f.piece ∷ []) r.each (f.is_piece, tt);
+      each = all_append (IsQuotedPiece kind) r.pieces (f.piece ∷ []) r.each (f.is_piece, tt);
       source = r.source ∙ ap (λ (x : List Cell). flat_map spelled r.pieces ++ x) (f.source ∙ ap (λ (x : List Cell). spelled f.piece ++ x) left)
           ∙ sym (append_assoc (flat_map spelled r.pieces) (spelled f.piece) (cells (at + (stop + (1 + k))) (drop (stop + (1 + k)) line)))
           ∙ ap (λ (x : List Cell). x ++ cells (at + (stop + (1 + k))) (drop (stop + (1 + k)) line)) (sym (flat-push spelled r.pieces f.piece));

@@ -11,9 +11,9 @@ use Rattle.lf_scalar.specs.declared.scalar.Style.TheVariants as style
 use Rattle.lf_base.specs.Faults.{span}
 use Rattle.lf_scalar.specs.Cells.{Cell, cell, cells, bytes_of, offsets_of, Value, made, end_of}
 use Rattle.lf_scalar.specs.Lines.{Line, lines, first_text, begins_with}
-use Rattle.lf_scalar.specs.Plain.{is_null, IsPlain}
+use Rattle.lf_scalar.specs.Plain.{is_null, IsPlainScalar}
 use Rattle.lf_scalar.specs.Quoted.{Quotes, Single, Double, quote_of, raw, IsQuoted}
-use Rattle.lf_scalar.specs.Block.{IsJoined, IsFolded, IsBlock, content_indent, body_of}
+use Rattle.lf_scalar.specs.Block.{AreJoinedLines, IsFolded, IsBlock, content_indent, body_of}
 use Rattle.std.specs.List.{flat_map}
 use Rattle.lf_scalar.specs.Scalars.{least_above, begins, source_at, BeginsAt, IsOfStyle, IsQuotedAt, IsScalarAt}
 use Rattle.lf_scalar.specs.Offsets.{AreOffsets}
@@ -50,7 +50,7 @@ unless-null : (b : Bool) (text : List Cell) → Utf8 text → Utf8 (cond b [] te
 unless-null true text u = utf8-nil
 unless-null false text u = u
 
-plain-text-utf8 : (above end : ℕ) (src : List Cell) (v : Value) → Utf8 src → IsPlain above end src v → IsUtf8 v.text
+plain-text-utf8 : (above end : ℕ) (src : List Cell) (v : Value) → Utf8 src → IsPlainScalar above end src v → IsUtf8 v.text
 plain-text-utf8 above end src v u p =
     let ls : LinesUtf8 (p.begun.first ∷ p.begun.following) = subst LinesUtf8 p.begun.source (lines-utf8 (suc (length src)) end src (omega arith) u) in
     let t : Utf8 p.text = plain-utf8 above p.begun.first p.begun.following p.text p.from ls in
@@ -78,7 +78,7 @@ style-utf8 style.Single above end [] v u b h = absurd h
 style-utf8 style.Single above end (c ∷ src) v u b h = quoted-text-utf8 Single end c src v (first-byte end 39 c src b) u h
 style-utf8 style.Double above end [] v u b h = absurd h
 style-utf8 style.Double above end (c ∷ src) v u b h = quoted-text-utf8 Double end c src v (first-byte end 34 c src b) u h
-style-utf8 style.Literal above end src v u b h = block-text-utf8 IsJoined joins-utf8 above end src v u h
+style-utf8 style.Literal above end src v u b h = block-text-utf8 AreJoinedLines joins-utf8 above end src v u h
 style-utf8 style.Folded above end src v u b h = block-text-utf8 IsFolded folds-utf8 above end src v u h
 
 -- the text of a scalar of a UTF-8 file is UTF-8
@@ -135,7 +135,7 @@ module _ (at end : ℕ) (rest : List ℕ) (rises : Rises at (cells at rest) end)
   lines-rising : LinesRise at (lines end (cells at rest)) end
   lines-rising = lines-rise (suc (length (cells at rest))) end at (cells at rest) (omega arith) rises
 
-  plain-placed : (above : ℕ) (v : Value) → IsPlain above end (cells at rest) v → IsPlaced v at end
+  plain-placed : (above : ℕ) (v : Value) → IsPlainScalar above end (cells at rest) v → IsPlaced v at end
   plain-placed above v p =
       let b = p.begun in
       let r : LinesRise at (b.first ∷ b.following) end = subst (λ (ls : List Line). LinesRise at ls end) b.source lines-rising in
@@ -185,7 +185,7 @@ pub style-placed : (s : Style) (above at end : ℕ) (rest : List ℕ) (v : Value
 style-placed style.Plain above at end rest v r h = plain-placed at end rest r above v h
 style-placed style.Single above at end rest v r h = quoted-at-placed Single at end rest v r h
 style-placed style.Double above at end rest v r h = quoted-at-placed Double at end rest v r h
-style-placed style.Literal above at end rest v r h = block-placed at end rest r IsJoined joins-order above v h
+style-placed style.Literal above at end rest v r h = block-placed at end rest r AreJoinedLines joins-order above v h
 style-placed style.Folded above at end rest v r h = block-placed at end rest r IsFolded folds-order above v h
 
 -- a scalar's offsets never fall and lie in its place, which begins where the scalar was asked for and lies in the file

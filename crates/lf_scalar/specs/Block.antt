@@ -172,8 +172,8 @@ pub record IsFolded (ls : List Line) (text : List Cell) : Type 0 where
   pub are_stretches : AllByRecursion IsStretch stretches
   pub text_is : text ≡ breaks empty ++ folded stretches
 
-abbrev pub IsJoined : List Line → List Cell → Type 0
-IsJoined ls text = text ≡ joined ls
+abbrev pub AreJoinedLines : List Line → List Cell → Type 0
+AreJoinedLines ls text = text ≡ joined ls
 
 -- The body is lines up to the last that isn't empty, and then empty ones. The first are joined or folded.
 pub record IsBlockText (Joins : List Line → List Cell → Type 0) (end : ℕ) (chomp : Chomp) (body : List Line) (text : List Cell) : Type 0 where

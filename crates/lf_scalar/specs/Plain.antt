@@ -113,7 +113,7 @@ pub record Begun (end : ℕ) (src : List Cell) : Type 0 where
   pub source : lines end src ≡ first ∷ following
   pub text : first.text ≡ opening ∷ rest
 
-pub record IsPlain (above end : ℕ) (src : List Cell) (v : Value) : Type 0 where
+pub record IsPlainScalar (above end : ℕ) (src : List Cell) (v : Value) : Type 0 where
   pub begun : Begun end src
   pub text : List Cell
   pub from : PlainFrom above begun.first begun.following text

@@ -37,20 +37,20 @@ abbrev pub width_of : ℕ → Option ℕ
 width_of byte = if byte == 120 then Some 2 else if byte == 117 then Some 4 else if byte == 85 then Some 8 else None
 
 -- the number that digits tell, behind those that told a number before
-abbrev pub Tells : ℕ → List Cell → ℕ → Type 0
-Tells before [] n = n ≡ before
-Tells before (c ∷ cs) n = (d : ℕ) × (hexadecimal_value c.byte ≡ Some d) × Tells (16 * before + d) cs n
+abbrev pub TellsNumber : ℕ → List Cell → ℕ → Type 0
+TellsNumber before [] n = n ≡ before
+TellsNumber before (c ∷ cs) n = (d : ℕ) × (hexadecimal_value c.byte ≡ Some d) × TellsNumber (16 * before + d) cs n
 
 -- ---- what stands between quotes
 
 -- a byte for itself; two single quotes; a backslash and a letter; a backslash, x, u or U, and hexadecimal digits
-pub data Piece : Type 0 where
-  Bare : Cell → Piece
-  Twice : Cell → Cell → Piece
-  Letter : Cell → Cell → ℕ → Piece
-  Number : Cell → Cell → List Cell → ℕ → Piece
+pub data QuotedPiece : Type 0 where
+  Bare : Cell → QuotedPiece
+  Twice : Cell → Cell → QuotedPiece
+  Letter : Cell → Cell → ℕ → QuotedPiece
+  Number : Cell → Cell → List Cell → ℕ → QuotedPiece
 
-abbrev pub spelled : Piece → List Cell
+abbrev pub spelled : QuotedPiece → List Cell
 spelled (Bare c) = c ∷ []
 spelled (Twice c d) = c ∷ d ∷ []
 spelled (Letter b e n) = b ∷ e ∷ []
@@ -61,41 +61,41 @@ abbrev pub char_cells : ℕ → ℕ → List Cell
 char_cells at n = map (λ byte. cell byte at) (encode_utf8 n)
 
 -- two quotes give the first of them, and each byte of an escape's character has the offset of the backslash
-abbrev pub given : Piece → List Cell
+abbrev pub given : QuotedPiece → List Cell
 given (Bare c) = c ∷ []
 given (Twice c d) = c ∷ []
 given (Letter b e n) = char_cells b.at n
 given (Number b e digits n) = char_cells b.at n
 
-abbrev pub IsPiece : Quotes → Piece → Type 0
-IsPiece Single (Bare c) = c.byte ≢ 39
-IsPiece Single (Twice c d) = (c.byte ≡ 39) × (d.byte ≡ 39)
-IsPiece Double (Bare c) = (c.byte ≢ 34) × (c.byte ≢ 92)
-IsPiece Double (Letter b e n) = (b.byte ≡ 92) × (letter_of e.byte ≡ Some n)
-IsPiece Double (Number b e digits n) = (b.byte ≡ 92) × (width_of e.byte ≡ Some (length digits)) × Tells 0 digits n × IsScalar n
-IsPiece kind piece = ⊥
+abbrev pub IsQuotedPiece : Quotes → QuotedPiece → Type 0
+IsQuotedPiece Single (Bare c) = c.byte ≢ 39
+IsQuotedPiece Single (Twice c d) = (c.byte ≡ 39) × (d.byte ≡ 39)
+IsQuotedPiece Double (Bare c) = (c.byte ≢ 34) × (c.byte ≢ 92)
+IsQuotedPiece Double (Letter b e n) = (b.byte ≡ 92) × (letter_of e.byte ≡ Some n)
+IsQuotedPiece Double (Number b e digits n) = (b.byte ≡ 92) × (width_of e.byte ≡ Some (length digits)) × TellsNumber 0 digits n × IsScalar n
+IsQuotedPiece kind piece = ⊥
 
 -- a byte for itself that is a blank
-abbrev pub is_bare_blank : Piece → Bool
+abbrev pub is_bare_blank : QuotedPiece → Bool
 is_bare_blank (Bare c) = is_blank c
 is_bare_blank piece = false
 
 -- ---- what closes
 
 -- Between the quotes a single quote stands only twice, and a backslash takes the byte behind it.
-pub data Raw : Type 0 where
-  One : Cell → Raw
-  Pair : Cell → Cell → Raw
+pub data QuotedRaw : Type 0 where
+  One : Cell → QuotedRaw
+  Pair : Cell → Cell → QuotedRaw
 
-abbrev pub raw : Raw → List Cell
+abbrev pub raw : QuotedRaw → List Cell
 raw (One c) = c ∷ []
 raw (Pair c d) = c ∷ d ∷ []
 
-abbrev pub IsRaw : Quotes → Raw → Type 0
-IsRaw Single (One c) = c.byte ≢ 39
-IsRaw Single (Pair c d) = (c.byte ≡ 39) × (d.byte ≡ 39)
-IsRaw Double (One c) = (c.byte ≢ 34) × (c.byte ≢ 92)
-IsRaw Double (Pair c d) = c.byte ≡ 92
+abbrev pub IsQuotedRaw : Quotes → QuotedRaw → Type 0
+IsQuotedRaw Single (One c) = c.byte ≢ 39
+IsQuotedRaw Single (Pair c d) = (c.byte ≡ 39) × (d.byte ≡ 39)
+IsQuotedRaw Double (One c) = (c.byte ≢ 34) × (c.byte ≢ 92)
+IsQuotedRaw Double (Pair c d) = c.byte ≡ 92
 
 -- the quote that closes isn't one of two single quotes
 abbrev pub ClosesBefore : Quotes → List Cell → Type 0
@@ -103,8 +103,8 @@ ClosesBefore Single rest = begins_with 39 rest ≡ false
 ClosesBefore Double rest = Unit {0}
 
 pub record Closes (kind : Quotes) (src : List Cell) : Type 0 where
-  pub raws : List Raw
-  pub each : AllByRecursion (IsRaw kind) raws
+  pub raws : List QuotedRaw
+  pub each : AllByRecursion (IsQuotedRaw kind) raws
   pub closing : Cell
   pub rest : List Cell
   pub source : src ≡ flat_map raw raws ++ closing ∷ rest
@@ -131,9 +131,9 @@ filled (Drops at) k = feeds k at
 -- folded. A backslash at its end drops the line break and keeps the blanks before it. So where a line behind the first has only blanks and a backslash, these blanks are
 -- dropped, since they stand at the line's start, and the line gives nothing (proofs/MoreWorked, blanks_and_backslash).
 abbrev pub IsBroken : Quotes → Line → List Cell → Break → Type 0
-IsBroken kind l text (Folds at) = (pieces : List Piece) × AllByRecursion (IsPiece kind) pieces × (l.text ≡ flat_map spelled pieces) × (text ≡ flat_map given (trimmed is_bare_blank pieces)) × (at ≡ l.break)
+IsBroken kind l text (Folds at) = (pieces : List QuotedPiece) × AllByRecursion (IsQuotedPiece kind) pieces × (l.text ≡ flat_map spelled pieces) × (text ≡ flat_map given (trimmed is_bare_blank pieces)) × (at ≡ l.break)
 IsBroken Double l text (Drops at) =
-    (pieces : List Piece) × (backslash : Cell) × AllByRecursion (IsPiece Double) pieces × (backslash.byte ≡ 92) × (l.text ≡ flat_map spelled pieces ++ backslash ∷ []) × (text ≡ flat_map given pieces) × (at ≡ l.break)
+    (pieces : List QuotedPiece) × (backslash : Cell) × AllByRecursion (IsQuotedPiece Double) pieces × (backslash.byte ≡ 92) × (l.text ≡ flat_map spelled pieces ++ backslash ∷ []) × (text ≡ flat_map given pieces) × (at ≡ l.break)
 IsBroken Single l text (Drops at) = ⊥
 
 -- behind a line stand blank lines, and then one that isn't
@@ -148,7 +148,7 @@ unindented l = line (after_blanks l.text) l.break
 -- `QuotedFrom kind l ls text`: the line l and the lines ls behind it, the last of which ends with the closing quote, give this text. `last` is the line with the quote,
 -- `more` one before it.
 pub data QuotedFrom (kind : Quotes) : Line → List Line → List Cell → Type 0 where
-  last : {l : Line} (pieces : List Piece) (closing : Cell) → AllByRecursion (IsPiece kind) pieces → closing.byte ≡ quote_of kind → l.text ≡ flat_map spelled pieces ++ closing ∷ [] → QuotedFrom kind l [] (flat_map given pieces)
+  last : {l : Line} (pieces : List QuotedPiece) (closing : Cell) → AllByRecursion (IsQuotedPiece kind) pieces → closing.byte ≡ quote_of kind → l.text ≡ flat_map spelled pieces ++ closing ∷ [] → QuotedFrom kind l [] (flat_map given pieces)
   more : {l next : Line} {ls : List Line} {text : List Cell} (part : List Cell) (break : Break) (blank : List Line) → IsBroken kind l part break → Follows blank next → is_marker next ≡ false
       → QuotedFrom kind (unindented next) ls text → QuotedFrom kind l (blank ++ next ∷ ls) (part ++ (filled break (length blank) ++ text))
 
@@ -156,12 +156,12 @@ pub data QuotedFrom (kind : Quotes) : Line → List Line → List Cell → Type 
 pub record IsBadEscape (kind : Quotes) (backslash : Cell) (more : List Cell) : Type 0 where
   pub is_backslash : backslash.byte ≡ 92
   pub inside : more ≢ []
-  pub none : (p : Piece) (rest : List Cell) → IsPiece kind p → backslash ∷ more ≡ spelled p ++ rest → ⊥
+  pub none : (p : QuotedPiece) (rest : List Cell) → IsQuotedPiece kind p → backslash ∷ more ≡ spelled p ++ rest → ⊥
 
 -- a line's text is pieces, and then a wrong escape's backslash and more
 pub record HasBadEscape (kind : Quotes) (text : List Cell) (backslash : Cell) : Type 0 where
-  pub pieces : List Piece
-  pub each : AllByRecursion (IsPiece kind) pieces
+  pub pieces : List QuotedPiece
+  pub each : AllByRecursion (IsQuotedPiece kind) pieces
   pub more : List Cell
   pub source : text ≡ flat_map spelled pieces ++ backslash ∷ more
   pub is_bad : IsBadEscape kind backslash more
@@ -177,7 +177,7 @@ pub data QuotedBreaks (kind : Quotes) : Line → List Line → Fault → Type 0 
 -- ---- the scalar
 
 -- a scalar between quotes, whatever stands behind it
-pub record IsClosed (kind : Quotes) (opening : Cell) (src : List Cell) (v : Value) : Type 0 where
+pub record IsClosedScalar (kind : Quotes) (opening : Cell) (src : List Cell) (v : Value) : Type 0 where
   pub between : Closes kind src
   pub first : Line
   pub following : List Line
@@ -191,7 +191,7 @@ abbrev pub behind : {kind : Quotes} {src : List Cell} → ℕ → Closes kind sr
 behind end c = first_text (lines end c.rest)
 
 pub record IsQuoted (kind : Quotes) (end : ℕ) (opening : Cell) (src : List Cell) (v : Value) : Type 0 where
-  pub closed : IsClosed kind opening src v
+  pub closed : IsClosedScalar kind opening src v
   pub alone : is_tail false (behind end closed.between) ≡ true
 
 -- the first character of some cells that no blanks and no comment have there
@@ -206,4 +206,4 @@ pub record WrongBehind (cs : List Cell) (wrong : Cell) : Type 0 where
 pub data BreaksQuoted (kind : Quotes) (end : ℕ) (opening : Cell) (src : List Cell) : Fault → Type 0 where
   open_quote : (Closes kind src → ⊥) → BreaksQuoted kind end opening src (byte_fault OpenQuote opening.at)
   inside : {first : Line} {following : List Line} {f : Fault} (c : Closes kind src) → inner_lines c ≡ first ∷ following → QuotedBreaks kind first following f → BreaksQuoted kind end opening src f
-  outside : {v : Value} {wrong : Cell} (closed : IsClosed kind opening src v) → WrongBehind (behind end closed.between) wrong → BreaksQuoted kind end opening src (character_fault NotANode wrong)
+  outside : {v : Value} {wrong : Cell} (closed : IsClosedScalar kind opening src v) → WrongBehind (behind end closed.between) wrong → BreaksQuoted kind end opening src (character_fault NotANode wrong)

@@ -7,9 +7,9 @@ use Rattle.lf_scalar.specs.declared.scalar.Style.TheVariants as style
 use Rattle.lf_base.specs.declared.fault.Fault.{Fault}
 use Rattle.lf_scalar.specs.Cells.{Cell, cells, Value}
 use Rattle.lf_scalar.specs.Lines.{lines, first_text, begins_with}
-use Rattle.lf_scalar.specs.Plain.{IsPlain, BreaksPlain, begins_plain}
+use Rattle.lf_scalar.specs.Plain.{IsPlainScalar, BreaksPlain, begins_plain}
 use Rattle.lf_scalar.specs.Quoted.{Quotes, Single, Double, IsQuoted, BreaksQuoted}
-use Rattle.lf_scalar.specs.Block.{IsBlock, BreaksBlock, IsJoined, IsFolded}
+use Rattle.lf_scalar.specs.Block.{IsBlock, BreaksBlock, AreJoinedLines, IsFolded}
 
 -- a scalar without where it lies in memory
 abbrev pub value : Scalar → Value
@@ -39,10 +39,10 @@ BreaksQuotedAt kind end (opening ∷ src) f = BreaksQuoted kind end opening src 
 
 -- a source that ends at an offset begins with this scalar
 abbrev pub IsOfStyle : Style → ℕ → ℕ → List Cell → Value → Type 0
-IsOfStyle style.Plain above end src v = IsPlain above end src v
+IsOfStyle style.Plain above end src v = IsPlainScalar above end src v
 IsOfStyle style.Single above end src v = IsQuotedAt Single end src v
 IsOfStyle style.Double above end src v = IsQuotedAt Double end src v
-IsOfStyle style.Literal above end src v = IsBlock IsJoined above end src v
+IsOfStyle style.Literal above end src v = IsBlock AreJoinedLines above end src v
 IsOfStyle style.Folded above end src v = IsBlock IsFolded above end src v
 
 abbrev pub BreaksStyle : Style → ℕ → ℕ → List Cell → Fault → Type 0

@@ -10,7 +10,7 @@ ghost use Rattle.lf_scalar.specs.reading.Block.{block_text, body_read, block_of}
 ghost use Rattle.lf_scalar.specs.reading.Body.{joins_of, style_of, IsBody, chomped_behind};
 ghost use Rattle.lf_scalar.specs.views.Built.{built, TextAnswers};
 
-use crate::body::{Body, content_indent, find_body};
+use crate::body::{BlockBody, content_indent, find_body};
 use crate::breaks::{push_break, push_breaks};
 use crate::builder::ScalarBuilder;
 use crate::header::{Header, read_header};
@@ -92,7 +92,7 @@ fn push_found(
     joining: Joining,
     chomp: Chomp,
     indent: usize,
-    found: Body,
+    found: BlockBody,
     body: &[u8],
     at: u32,
 ) -> Result<(), Memory>
@@ -108,7 +108,7 @@ fn push_found(
 fn push_chomped(
     builder: &mut ScalarBuilder,
     chomp: Chomp,
-    found: Body,
+    found: BlockBody,
     body: &[u8],
     at: u32,
 ) -> Result<(), Memory>

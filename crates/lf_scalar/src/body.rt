@@ -132,7 +132,7 @@ fn bad_indent(start: u32, end: u32) -> Refusal
 
 /// What is found of the lines of a body.
 #[derive(Clone, Copy, PartialEq, Eq, Debug)]
-pub struct Body {
+pub struct BlockBody {
     /// How many lines there are up to the last that isn't empty.
     pub full: usize,
     /// The offset of the last one's line break, if there is one.
@@ -150,11 +150,11 @@ pub fn find_body(
     leads: bool,
     above: usize,
     indent: usize,
-) -> Result<Body, Refusal>
+) -> Result<BlockBody, Refusal>
     requires { at + length bytes.now + 2 < 2 ^ 32 }
     ensures { FindsBody leads above indent at bytes.now result }
 {
-    let mut found = Body {
+    let mut found = BlockBody {
         full: 0,
         last: None,
         behind: 0,
@@ -194,20 +194,20 @@ pub fn break_at(bytes: &[u8], at: u32, feed: usize) -> Option<u32>
 }
 
 /// What is found with a line more, whose line break stands at a place, if it has one.
-fn with_line(found: Body, is_full: bool, feed: usize, last: Option<u32>) -> Body
+fn with_line(found: BlockBody, is_full: bool, feed: usize, last: Option<u32>) -> BlockBody
     requires room { feed < 2 ^ 32 }
     requires few { found.full + found.empty < 2 ^ 32 }
     ensures { result ≡ body_with found is_full feed last }
 {
     if is_full {
-        Body {
+        BlockBody {
             full: found.full + found.empty + 1,
             last,
             behind: feed + 1,
             empty: 0,
         }
     } else {
-        Body {
+        BlockBody {
             empty: found.empty + 1,
             ..found
         }

@@ -1,5 +1,5 @@
 //! A text that is being made, with the source offset of each of its bytes. It is public for the crates of this repository that fold scalars of their own.
-ghost use Rattle.std.specs.Prelude.{◌≡◌, ◌+◌, ◌<◌, ◌^◌, ◌∷◌, ◌++◌, [], length, take, min, Ok, OnOk, OnErr};
+ghost use Rattle.std.specs.Prelude.{◌≡◌, ◌+◌, ◌<◌, ◌^◌, ◌∷◌, ◌++◌, [], length, string_bytes, take, min, IfOk, Ok, OnOk, OnErr};
 ghost use Rattle.std.specs.Str.{IsUtf8};
 ghost use Rattle.lf_base.specs.Answers.{AnswersAs};
 ghost use Rattle.lf_scalar.specs.Cells.{cell, cells, bytes_of, offsets_of, end_of, made};
@@ -13,6 +13,9 @@ use crate::scalar::Scalar;
 use lf_base::{Memory, Refusal, Seq, Span, Text};
 use std::alloc::Global;
 use std::marker::Model;
+
+/// How many bytes a text has at most that is copied once it is read, so that it and its copies take no memory of their own.
+const SHORT: usize = 24;
 
 /// Bytes, and for each the source offset of what gave it. Contracts see it as a list of cells.
 #[derive(Debug, Drop)]
@@ -43,6 +46,17 @@ impl ScalarBuilder {
         }
     }
 
+    /// No byte yet, with room for so many.
+    pub fn with_room(alloc: Global, count: usize) -> Result<ScalarBuilder, Memory>
+        requires { count < 2 ^ 32 }
+        ensures { IfOk result (λ builder. builder ≡ []) }
+    {
+        let text = Vec::with_capacity(alloc, count)?;
+        // The offset of the text's end stands behind those of its bytes.
+        let from = Vec::with_capacity(alloc, count + 1)?;
+        Ok(ScalarBuilder { text, from })
+    }
+
     /// How many bytes there are.
     pub fn len(&self) -> usize
         ensures { result ≡ length self.now }
@@ -69,7 +83,8 @@ impl ScalarBuilder {
 
     /// Appends a byte that something at an offset gave.
     pub fn push(&mut self, byte: u8, at: u32) -> Result<(), Memory>
-        ensures { OnOk result (self.new ≡ self.old ++ cell byte at ∷ []) }
+        ensures ok { OnOk result (self.new ≡ self.old ++ cell byte at ∷ []) }
+        ensures err { OnErr result (self.new ≡ self.old) }
     {
         self.from.push(at)?;
         match self.text.push(byte) {
@@ -84,7 +99,8 @@ impl ScalarBuilder {
     /// Appends bytes of the source, the first of them at an offset.
     pub fn copy(&mut self, bytes: &[u8], at: u32) -> Result<(), Memory>
         requires { at + length bytes.now < 2 ^ 32 }
-        ensures { OnOk result (self.new ≡ self.old ++ cells at bytes.now) }
+        ensures ok { OnOk result (self.new ≡ self.old ++ cells at bytes.now) }
+        ensures err { OnErr result (self.new ≡ self.old) }
     {
         push_offsets(&mut self.from, at, bytes.len())?;
         match self.text.extend_from_slice(bytes) {
@@ -103,13 +119,14 @@ impl ScalarBuilder {
         ensures { AnswersAs value result (Ok (made self end span)) }
     {
         let (text, mut from) = self.into_parts();
+        let alloc = *from.allocator();
         match from.push(end) {
             Ok(()) => {}
             Err(_) => return Err(Refusal::Memory),
         }
         match String::from_utf8(text) {
             Ok(text) => Ok(Scalar {
-                text: Text::from_string(text),
+                text: short_or_held(alloc, text)?,
                 from: Seq::from_vec(from),
                 span,
             }),
@@ -130,6 +147,17 @@ impl ScalarBuilder {
     {
         self.text.truncate(len);
         self.from.truncate(len);
+    }
+}
+
+/// A text, which takes no memory of its own where it is short.
+fn short_or_held(alloc: Global, string: String) -> Result<Text, Memory>
+    ensures { IfOk result (λ text. text ≡ string_bytes string) }
+{
+    if string.len() <= SHORT {
+        Text::of(alloc, string.as_str())
+    } else {
+        Ok(Text::from_string(string))
     }
 }
 

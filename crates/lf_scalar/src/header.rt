@@ -18,7 +18,7 @@ pub struct Header {
 
 /// What a byte of a header is.
 #[derive(Clone, Copy, PartialEq, Eq, Debug)]
-pub enum Mark {
+pub enum HeaderByte {
     /// `-` or `+`.
     Sign(Chomp),
     /// 1 to 9.
@@ -28,14 +28,14 @@ pub enum Mark {
 }
 
 /// What a byte of a header is.
-pub fn mark_of(byte: u8) -> Mark
+pub fn mark_of(byte: u8) -> HeaderByte
     ensures value { IsMark byte result }
 {
     match byte {
-        b'-' => Mark::Sign(Chomp::Strip),
-        b'+' => Mark::Sign(Chomp::Keep),
-        b'1'..=b'9' => Mark::Digit(byte - 48),
-        _ => Mark::Neither,
+        b'-' => HeaderByte::Sign(Chomp::Strip),
+        b'+' => HeaderByte::Sign(Chomp::Keep),
+        b'1'..=b'9' => HeaderByte::Digit(byte - 48),
+        _ => HeaderByte::Neither,
     }
 }
 
@@ -48,15 +48,15 @@ pub fn read_header(header: &[u8]) -> Result<Header, usize>
     let mut digit: Option<u8> = None;
     for (i, byte) in header.iter().enumerate() {
         match mark_of(*byte) {
-            Mark::Sign(sign) => match chomp {
+            HeaderByte::Sign(sign) => match chomp {
                 None => chomp = Some(sign),
                 Some(_) => return Err(i),
             },
-            Mark::Digit(value) => match digit {
+            HeaderByte::Digit(value) => match digit {
                 None => digit = Some(value),
                 Some(_) => return Err(i),
             },
-            Mark::Neither => return ended(chomp, digit, header, i),
+            HeaderByte::Neither => return ended(chomp, digit, header, i),
         }
     }
     Ok(header_of(chomp, digit))

@@ -51,7 +51,7 @@ pub fn onward_of(line: &[u8], above: usize) -> Onward
 
 /// A line break that waits for the line that goes on.
 #[derive(Clone, Copy, PartialEq, Eq, Debug)]
-pub struct Folded {
+pub struct PendingPlainBreak {
     /// Where it stands.
     pub at: u32,
     /// How many blank lines stand behind it.
@@ -76,7 +76,7 @@ fn tab_with(tab: Option<u32>, line: &[u8], at: u32) -> Option<u32>
 /// Appends what a line break becomes and what the line behind it gives, and tells whether that line ends in a comment.
 pub fn push_continuation(
     builder: &mut ScalarBuilder,
-    folded: Folded,
+    folded: PendingPlainBreak,
     line: &[u8],
     at: u32,
 ) -> Result<bool, Refusal>
@@ -94,11 +94,11 @@ pub fn push_continuation(
 pub fn push_step(
     builder: &mut ScalarBuilder,
     above: usize,
-    folded: Folded,
+    folded: PendingPlainBreak,
     line: &[u8],
     at: u32,
     feed: u32,
-) -> Result<Option<Folded>, Refusal>
+) -> Result<Option<PendingPlainBreak>, Refusal>
     requires room { at + length line.now + 1 < 2 ^ 32 }
     requires few { folded.blank < 2 ^ 32 }
     requires tab { HasRoom folded.tab }
@@ -108,7 +108,7 @@ pub fn push_step(
 {
     let tab = tab_with(folded.tab, line, at);
     match onward_of(line, above) {
-        Onward::Blank => Ok(Some(Folded {
+        Onward::Blank => Ok(Some(PendingPlainBreak {
             at: folded.at,
             blank: folded.blank + 1,
             tab,
@@ -123,7 +123,7 @@ pub fn push_step(
             }),
             None => match push_continuation(builder, folded, line, at) {
                 Ok(true) => Ok(None),
-                Ok(false) => Ok(Some(Folded {
+                Ok(false) => Ok(Some(PendingPlainBreak {
                     at: feed,
                     blank: 0,
                     tab: None,
@@ -146,7 +146,7 @@ pub fn push_behind(
     requires { at + length rest.now ≤ 2 ^ 31 + 1 }
     ensures { TextAnswers result builder.old builder.new (plain_behind above feed 0 None (lines_at at rest.now)) }
 {
-    let mut folded = Folded {
+    let mut folded = PendingPlainBreak {
         at: feed,
         blank: 0,
         tab: None,

@@ -27,7 +27,7 @@ pub fn read_quoted(alloc: Global, kind: Quotes, rest: &[u8], at: u32) -> Result<
     let Some(closing) = find_closing(kind, inner, at + 1) else {
         return Err(open_quote(at));
     };
-    let mut builder = ScalarBuilder::new(alloc);
+    let mut builder = ScalarBuilder::with_room(alloc, closing)?;
     match push_lines(&mut builder, kind, before(inner, closing + 1), at + 1) {
         Ok(()) => {}
         Err(refusal) => return Err(refusal),

@@ -3,17 +3,17 @@ use Rattle.std.proofs.Common.{◌≡◌, Bool, true, false, not, ◌||◌, cond,
 use Rattle.std.specs.List.{list_all, list_any}
 use Rattle.std.specs.Str.{bytes_eq}
 use Rattle.std.proofs.lemmas.Bool.{and_parts}
-use Rattle.lf_ast.specs.Functions.{Row, Signature, function_named, functions, looked_up}
+use Rattle.lf_ast.specs.Functions.{SignatureRow, Signature, function_named, functions, looked_up}
 use Rattle.lf_ast.specs.Labels.{Bytes}
 use Rattle.lf_ast.specs.Types.{is_scalar, selected}
 use Rattle.lf_ast.specs.declared.functions.LabelEffect.{LabelEffect}
 use Rattle.lf_ast.specs.declared.functions.LabelEffect.TheVariants.{Maps, Keeps, Groups, CountValues, Date, Absent, LabelReplace, LabelJoin, HistogramQuantile, Bare}
 
 -- what is looked up in a table passes the test that each row passes
-pub found_passes : (test : Signature → Bool) (name : Bytes) (rows : List Row) → list_all (λ (row : Row). test row.signature) rows ≡ true → (s : Signature) → looked_up name rows ≡ Some s → test s ≡ true
+pub found_passes : (test : Signature → Bool) (name : Bytes) (rows : List SignatureRow) → list_all (λ (row : SignatureRow). test row.signature) rows ≡ true → (s : Signature) → looked_up name rows ≡ Some s → test s ≡ true
 found_passes test name [] all s found = absurd (cc)
 found_passes test name (row ∷ rows) all s found =
-    let b = and_parts (test row.signature) (list_all (λ (row : Row). test row.signature) rows) all in
+    let b = and_parts (test row.signature) (list_all (λ (row : SignatureRow). test row.signature) rows) all in
     by (list_any (bytes_eq name) row.names) found b.0 (found_passes test name rows b.1 s)
   where
     by : (here : Bool) → cond here (Some row.signature) (looked_up name rows) ≡ Some s → test row.signature ≡ true → (looked_up name rows ≡ Some s → test s ≡ true) → test s ≡ true
@@ -27,7 +27,7 @@ is_bare _ = false
 abbrev is_bare_if_scalar : Signature → Bool
 is_bare_if_scalar s = not (is_scalar s.gives) || is_bare s.labels
 
-each_function : list_all (λ (row : Row). is_bare_if_scalar row.signature) functions ≡ true
+each_function : list_all (λ (row : SignatureRow). is_bare_if_scalar row.signature) functions ≡ true
 unfolding functions
 each_function = refl
 

@@ -7,7 +7,7 @@ use Rattle.lf_ast.specs.declared.expr.Matcher.{Matcher}
 use Rattle.lf_ast.specs.Arguments.{has_dollar, text_at}
 use Rattle.lf_ast.specs.Selectors.{is_equal}
 use Rattle.lf_pattern.specs.Replacement.{HasPieces, IsPlainReplacement, IsTextOf}
-use Rattle.lf_pattern.specs.declared.replacement.Piece.{Piece}
+use Rattle.lf_pattern.specs.declared.replacement.ReplacementPiece.{ReplacementPiece}
 
 -- `absent`
 
@@ -37,7 +37,7 @@ abbrev pub Expands : Replacing → Bytes → Bytes → Type 0
 Expands r value text =
     ((has_dollar r.replacement ≡ false) × (text ≡ r.replacement))
     ⊎ ((has_dollar r.replacement ≡ true)
-    × (((pieces : List Piece) × HasPieces r.replacement pieces × IsTextOf r.pattern value pieces text)
+    × (((pieces : List ReplacementPiece) × HasPieces r.replacement pieces × IsTextOf r.pattern value pieces text)
     ⊎ (IsPlainReplacement r.replacement → ⊥)))
 
 -- `label_join(v, TARGET, SEPARATOR, SOURCE, ..)`

@@ -1,8 +1,8 @@
 -- What is counted from left to right is the measure.
 use Rattle.std.proofs.Common.{◌≡◌, ◌∙◌, ℕ, zero, suc, ◌+◌, ◌*◌, ◌<◌, ◌≤◌, max, min, Bool, true, false, leb, List, [], ◌∷◌, ◌++◌, length, refl, sym, ap, ap₂, add-mul, mul_assoc, mul-pos, le-mul_of_pos_right, leb-true, leb-false, arith}
-use Rattle.lf_sizes.specs.Sizes.{Mark, atom, more, opens, closes, count, often, outside, in_groups, size, most, marks_in, measured, says}
+use Rattle.lf_sizes.specs.Sizes.{SizeMark, atom, more, opens, closes, count, often, outside, in_groups, size, most, marks_in, measured, says}
 use Rattle.lf_sizes.specs.declared.size.Weights.{Weights}
-use Rattle.lf_sizes.specs.views.Size.{State, closed, marked, marked_all, plus_each, size_from, start, stepped}
+use Rattle.lf_sizes.specs.views.Size.{SizeState, closed, marked, marked_all, plus_each, size_from, start, stepped}
 
 -- ---- numbers
 
@@ -23,7 +23,7 @@ joined a b k y some = cut (a + b) k y some ∙ ap (λ n. min (n + y) most) (add-
 -- ---- each mark counts once at least
 
 mutual
-  some : (ms : List Mark) → 0 < often ms
+  some : (ms : List SizeMark) → 0 < often ms
   some [] = omega arith
   some (count n ∷ ms) = let h : 0 < max n 1 = omega arith in mul-pos h (some ms)
   some (more n ∷ ms) = some ms
@@ -31,7 +31,7 @@ mutual
   some (atom n ∷ ms) = some_outside 0 ms
   some (opens ∷ ms) = some_outside 1 ms
 
-  some_outside : (d : ℕ) (ms : List Mark) → 0 < outside d ms
+  some_outside : (d : ℕ) (ms : List SizeMark) → 0 < outside d ms
   some_outside d [] = omega arith
   some_outside d (count n ∷ ms) = some_outside d ms
   some_outside d (more n ∷ ms) = some_outside d ms
@@ -42,25 +42,25 @@ mutual
 
 -- ---- what stands before the open groups counts as often as these groups
 
-abbrev before : ℕ → List ℕ → List Mark → ℕ
+abbrev before : ℕ → List ℕ → List SizeMark → ℕ
 before d [] ms = 0
 before d (b ∷ bs) ms = b * outside d ms + before (suc d) bs ms
 
-before_same : (m : Mark) (ms : List Mark) → ((d : ℕ) → outside d (m ∷ ms) ≡ outside d ms) → (d : ℕ) (bs : List ℕ) → before d bs (m ∷ ms) ≡ before d bs ms
+before_same : (m : SizeMark) (ms : List SizeMark) → ((d : ℕ) → outside d (m ∷ ms) ≡ outside d ms) → (d : ℕ) (bs : List ℕ) → before d bs (m ∷ ms) ≡ before d bs ms
 before_same m ms same d [] = refl
 before_same m ms same d (b ∷ bs) = ap₂ (λ x y. b * x + y) (same d) (before_same m ms same (suc d) bs)
 
-before_open : (ms : List Mark) (d : ℕ) (bs : List ℕ) → before d bs (opens ∷ ms) ≡ before (suc d) bs ms
+before_open : (ms : List SizeMark) (d : ℕ) (bs : List ℕ) → before d bs (opens ∷ ms) ≡ before (suc d) bs ms
 before_open ms d [] = refl
 before_open ms d (b ∷ bs) = ap (λ y. b * outside (suc d) ms + y) (before_open ms (suc d) bs)
 
-before_closed : (ms : List Mark) (d : ℕ) (bs : List ℕ) → before (suc d) bs (closes ∷ ms) ≡ before d bs ms
+before_closed : (ms : List SizeMark) (d : ℕ) (bs : List ℕ) → before (suc d) bs (closes ∷ ms) ≡ before d bs ms
 before_closed ms d [] = refl
 before_closed ms d (b ∷ bs) = ap (λ y. b * outside d ms + y) (before_closed ms (suc d) bs)
 
 -- ---- the size of all, where this was read, and these marks are left
 
-abbrev whole : State → List Mark → ℕ
+abbrev whole : SizeState → List SizeMark → ℕ
 whole s ms = s.last * often ms + (s.sum * outside 0 ms + before 1 s.outer ms + size ms)
 
 -- an atom
@@ -98,10 +98,10 @@ by_close a b o y z some =
     ap (λ n. min (n * o + (y + z)) most) is ∙ joined a (b + 1) o (y + z) some ∙ ap (λ n. min (a * o + n + (y + z)) most) apart ∙ ap (λ n. min n most) (last (a * o) (b * o) (1 * o))
 
 -- what is left, where the groups are open that are open in the state
-abbrev rest : State → List Mark → List Mark
+abbrev rest : SizeState → List SizeMark → List SizeMark
 rest s ms = in_groups (length s.outer) ms
 
-whole_closed : (outer : List ℕ) (s : State) (ms : List Mark) → let left = in_groups (length outer) (closes ∷ ms) in min (whole (closed outer s) (rest (closed outer s) ms)) most ≡ min (s.last * often left + (s.sum * outside 0 left + before 1 outer left + size left)) most
+whole_closed : (outer : List ℕ) (s : SizeState) (ms : List SizeMark) → let left = in_groups (length outer) (closes ∷ ms) in min (whole (closed outer s) (rest (closed outer s) ms)) most ≡ min (s.last * often left + (s.sum * outside 0 left + before 1 outer left + size left)) most
 whole_closed [] s all =
     let ms = in_groups 0 all in
     by_atom (1 * often ms) s.sum s.last (outside 0 ms) 0 (size ms) (some_outside 0 ms)
@@ -110,7 +110,7 @@ whole_closed (b ∷ bs) s all =
     by_close s.sum s.last (often ms) (b * outside 0 ms + before 1 bs ms) (size ms) (some ms)
     ∙ ap (λ w. min (s.last * often ms + (s.sum * often ms + (b * outside 0 ms + w) + (1 * often ms + size ms))) most) (sym (before_closed ms 1 bs))
 
-whole_marked : (m : Mark) (s : State) (ms : List Mark) → min (whole (marked m s) (rest (marked m s) ms)) most ≡ min (whole s (rest s (m ∷ ms))) most
+whole_marked : (m : SizeMark) (s : SizeState) (ms : List SizeMark) → min (whole (marked m s) (rest (marked m s) ms)) most ≡ min (whole s (rest s (m ∷ ms))) most
 whole_marked (atom n) s all =
     let ms = in_groups (length s.outer) all in
     by_atom (n * often ms) s.sum s.last (outside 0 ms) (before 1 s.outer ms) (size ms) (some_outside 0 ms)
@@ -129,7 +129,7 @@ whole_marked (count n) s all =
     by_count s.last (max n 1) (often ms) (often ms) (s.sum * outside 0 ms) (before 1 s.outer ms) (size ms) (some ms)
     ∙ ap (λ w. min (s.last * (max n 1 * often ms) + (s.sum * outside 0 ms + w + (0 * often ms + size ms))) most) (sym (before_same (count n) ms (λ d. refl) 1 s.outer))
 
-whole_all : (ws : List Mark) (s : State) (ms : List Mark) → min (whole (marked_all ws s) (rest (marked_all ws s) ms)) most ≡ min (whole s (rest s (ws ++ ms))) most
+whole_all : (ws : List SizeMark) (s : SizeState) (ms : List SizeMark) → min (whole (marked_all ws s) (rest (marked_all ws s) ms)) most ≡ min (whole s (rest s (ws ++ ms))) most
 whole_all [] s ms = refl
 whole_all (w ∷ ws) s ms = whole_all ws (marked w s) ms ∙ whole_marked w s (ws ++ ms)
 
@@ -139,7 +139,7 @@ total_is n d (b ∷ bs) =
     let is : min (min n most + b) most ≡ min (n + b) most = omega arith in
     ap (λ k. plus_each k bs) is ∙ total_is (n + b) (suc d) bs ∙ ap (λ k. min k most) (omega arith)
 
-counted : (s : State) (cs : List ℕ) → size_from s cs ≡ min (whole s (rest s (marks_in s.weights s.mode s.character cs))) most
+counted : (s : SizeState) (cs : List ℕ) → size_from s cs ≡ min (whole s (rest s (marks_in s.weights s.mode s.character cs))) most
 unfolding stepped
 counted s [] = total_is (s.sum + s.last) 1 s.outer ∙ ap (λ n. min n most) (omega arith)
 counted s (c ∷ cs) =

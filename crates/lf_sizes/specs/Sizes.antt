@@ -11,19 +11,19 @@ use Rattle.lf_sizes.specs.declared.size.Mode.TheVariants.{Ready, Escape, Open, F
 
 -- ---- marks, and the size of a list of them
 
-pub data Mark : Type 0 where
+pub data SizeMark : Type 0 where
   -- something of its own: a character, a dot, a class. It counts so much
-  atom : ℕ → Mark
+  atom : ℕ → SizeMark
   -- a part of what stands before it: a `*`, a `+`, a `?`, a comma in braces, what stands in brackets, a further byte of a character, what the end of a group counts beside 1
-  more : ℕ → Mark
+  more : ℕ → SizeMark
   -- a `(` and a `)`
-  opens : Mark
-  closes : Mark
+  opens : SizeMark
+  closes : SizeMark
   -- a number in braces
-  count : ℕ → Mark
+  count : ℕ → SizeMark
 
 -- what a mark counts by itself
-abbrev pub own : Mark → ℕ
+abbrev pub own : SizeMark → ℕ
 own (atom n) = n
 own (more n) = n
 own opens = 0
@@ -32,7 +32,7 @@ own (count n) = 0
 
 abbrev mutual
   -- how often that counts which stands right before these marks: as often as each number says that follows it, and once at least, before anything else begins; and so on where its group ends
-  pub often : List Mark → ℕ
+  pub often : List SizeMark → ℕ
   often [] = 1
   often (count n ∷ ms) = max n 1 * often ms
   often (more n ∷ ms) = often ms
@@ -41,7 +41,7 @@ abbrev mutual
   often (opens ∷ ms) = outside 1 ms
 
   -- how often the group counts that all this stands in, where so many more groups are open in it: what ends it is the first `)` that ends none of these
-  pub outside : ℕ → List Mark → ℕ
+  pub outside : ℕ → List SizeMark → ℕ
   outside open_groups [] = 1
   outside open_groups (count n ∷ ms) = outside open_groups ms
   outside open_groups (more n ∷ ms) = outside open_groups ms
@@ -51,7 +51,7 @@ abbrev mutual
   outside (suc open_groups) (closes ∷ ms) = outside open_groups ms
 
 -- the marks where so many groups are open: a `)` that ends none of them is something of its own, which counts as much. It is in no pattern, so that what stands before it doesn't count more often by what stands behind it
-abbrev pub in_groups : ℕ → List Mark → List Mark
+abbrev pub in_groups : ℕ → List SizeMark → List SizeMark
 in_groups open_groups [] = []
 in_groups open_groups (atom n ∷ ms) = atom n ∷ in_groups open_groups ms
 in_groups open_groups (more n ∷ ms) = more n ∷ in_groups open_groups ms
@@ -61,7 +61,7 @@ in_groups zero (closes ∷ ms) = atom 1 ∷ in_groups zero ms
 in_groups (suc open_groups) (closes ∷ ms) = closes ∷ in_groups open_groups ms
 
 -- each mark counts by itself as often as what stands there counts
-abbrev pub size : List Mark → ℕ
+abbrev pub size : List SizeMark → ℕ
 size [] = 0
 size (m ∷ ms) = own m * often ms + size ms
 
@@ -95,11 +95,11 @@ in_width = record { letters = 8; digits = 4; few = 2; folded = 2; optional = 1; 
 
 -- its marks, if it has some, where the next byte stands, and what a character counts there
 pub record Said : Type 0 where
-  pub marks : List Mark
+  pub marks : List SizeMark
   pub next : Mode
   pub character : ℕ
 
-abbrev pub mark : Mark → Mode → ℕ → Said
+abbrev pub mark : SizeMark → Mode → ℕ → Said
 mark m next character = record { marks = m ∷ []; next = next; character = character }
 
 abbrev pub no_mark : Mode → ℕ → Said
@@ -174,7 +174,7 @@ says w Verbose k c = if c == 123 then mark (count most) Verbose k else mark (mor
 -- ---- the size of a pattern, and its width
 
 -- the marks of what stands so
-abbrev pub marks_in : Weights → Mode → ℕ → List ℕ → List Mark
+abbrev pub marks_in : Weights → Mode → ℕ → List ℕ → List SizeMark
 marks_in w mode k [] = []
 marks_in w mode k (c ∷ cs) = (says w mode k c).marks ++ marks_in w (says w mode k c).next (says w mode k c).character cs
 

@@ -7,7 +7,7 @@ use Rattle.lf_base.specs.declared.refusal.Refusal.TheVariants.{At, Memory}
 use Rattle.lf_templates.specs.declared.token.TokenContext.TheVariants as places
 use Rattle.lf_templates.specs.declared.token.Lexeme.{Lexeme}
 use Rattle.lf_templates.specs.declared.reference.Reference.{Reference}
-use Rattle.lf_templates.specs.declared.state.State.{State}
+use Rattle.lf_templates.specs.declared.state.TemplateState.{TemplateState}
 use Rattle.lf_base.specs.Answers.{IfAt, Answers}
 use Rattle.lf_base.specs.declared.fault.Fault.{Fault}
 use Rattle.lf_templates.specs.Templates.{opens, Action}
@@ -16,10 +16,10 @@ use Rattle.lf_templates.specs.views.Steps.{outcome_of, Steps, answer_at, Advance
 use Rattle.lf_templates.proofs.Outcomes.{outcome_judged}
 use Rattle.lf_templates.proofs.Acts.{acts_end, acts_byte, acts_open, acts_action}
 
-abbrev pub of_acts : List ℕ → List ℕ → State → Acts → Result (List Reference) Fault
+abbrev pub of_acts : List ℕ → List ℕ → TemplateState → Acts → Result (List Reference) Fault
 of_acts from text state acts = outcome_of from text state acts.actions acts.endless
 
-module _ (from text : List ℕ) (state : State) (at : ℕ) (lt : at < length text) where
+module _ (from text : List ℕ) (state : TemplateState) (at : ℕ) (lt : at < length text) where
   pub byte_advances : opens (drop at text) ≡ false → answer_at from text state at ≡ answer_at from text state (at + 1)
   byte_advances e =
       let split : drop at text ≡ get_or text at 0 ∷ drop (at + 1) text = rw (add-one, drop-cons text at 0) refl in
@@ -35,7 +35,7 @@ module _ (from text : List ℕ) (state : State) (at : ℕ) (lt : at < length tex
         let l = length-drop at text in
         rw ends (acts_action at (drop at text) ls begins (ap (lexed places.Start 0) (drop-drop 2 at text) ∙ sym found) (omega arith) ∙ ap (λ (x : List ℕ). before (action_at at ls) (acts_of (at + (total ls + 4)) 0 x)) (drop-drop (total ls + 4) at text))
 
-    pub action_advances : (next : State) → Steps from text state (action_at at ls) (Ok next) → answer_at from text state at ≡ answer_at from text next end
+    pub action_advances : (next : TemplateState) → Steps from text state (action_at at ls) (Ok next) → answer_at from text state at ≡ answer_at from text next end
     action_advances next h = ap (of_acts from text state) here ∙ h (acts_of end 0 (drop end text)).actions (acts_of end 0 (drop end text)).endless
 
     pub action_stops : (refusal : Refusal) → Steps from text state (action_at at ls) (Err refusal) → IfAt refusal (λ f. answer_at from text state at ≡ Err f)
@@ -49,12 +49,12 @@ carried x y e (At kind span) h = e ∙ h
 pub after_is : (at : ℕ) (text bytes rest : List ℕ) → bytes ≡ text → rest ≡ drop at bytes → (t : Bool) → t ≡ opens rest → (u : Bool) → t ≡ u → opens (drop at text) ≡ u
 after_is at text bytes rest e f t g u h = ap (λ (x : List ℕ). opens (drop at x)) (sym e) ∙ ap opens (sym f) ∙ sym g ∙ h
 
-pub steps_as : (from text : List ℕ) (old : State) (a : Action) (r s : Result State Refusal) → r ≡ s → Steps from text old a r → Steps from text old a s
+pub steps_as : (from text : List ℕ) (old : TemplateState) (a : Action) (r s : Result TemplateState Refusal) → r ≡ s → Steps from text old a r → Steps from text old a s
 steps_as from text old a r s e h = subst (Steps from text old a) e h
 
 -- ---- the whole
 
-module _ (from text : List ℕ) (start state : State) (at : ℕ)
+module _ (from text : List ℕ) (start state : TemplateState) (at : ℕ)
     (bodies : start.bodies ≡ []) (flaw : start.flaw ≡ None) (renamed : start.renamed ≡ false) (found : start.found ≡ [])
     (same : answer_at from text start 0 ≡ answer_at from text state at) where
   begins : answer_at from text start 0 ≡ reading from text
@@ -73,5 +73,5 @@ module _ (from text : List ℕ) (start state : State) (at : ℕ)
       let end : answer_at from text state at ≡ ending from (reverse state.bodies) state.flaw state.found None = ap (of_acts from text state) (acts_end at at text le) in
       subst (Answers r) (sym (sym begins ∙ same ∙ end)) h
 
-pub advances_as : (from text : List ℕ) (state : State) (at : ℕ) (r s : Result (State × ℕ) Refusal) → r ≡ s → Advances from text state at r → Advances from text state at s
+pub advances_as : (from text : List ℕ) (state : TemplateState) (at : ℕ) (r s : Result (TemplateState × ℕ) Refusal) → r ≡ s → Advances from text state at r → Advances from text state at s
 advances_as from text state at r s e h = subst (Advances from text state at) e h

@@ -6,8 +6,8 @@ use Rattle.std.specs.Str.{IsAscii}
 use Rattle.std.proofs.lemmas.Bool.{and_parts}
 use Rattle.std.proofs.lemmas.Bool.Decides.{nat_tests}
 use Rattle.std.proofs.lemmas.List.{drop-drop}
-use Rattle.lf_templates.specs.declared.token.Token.{Token}
-use Rattle.lf_templates.specs.declared.token.Token.TheVariants as tokens
+use Rattle.lf_templates.specs.declared.token.ActionToken.{ActionToken}
+use Rattle.lf_templates.specs.declared.token.ActionToken.TheVariants as tokens
 use Rattle.lf_templates.specs.declared.token.TokenContext.{TokenContext}
 use Rattle.lf_templates.specs.declared.token.Lexeme.{Lexeme}
 use Rattle.lf_templates.specs.declared.token.Beginning.{Beginning}
@@ -15,7 +15,7 @@ use Rattle.lf_templates.specs.declared.token.Beginning.TheVariants as begins
 use Rattle.lf_base.specs.Names.{is_letter, begins_label, is_digit, is_in_label}
 use Rattle.lf_base.specs.Rows.{Each}
 use Rattle.lf_templates.specs.Bytes.{beginning, sign_begins, alone}
-use Rattle.lf_templates.specs.Tokens.{IsName, IsToken, one_byte, in_quotes, in_back_quotes, a_word, a_variable, a_field, a_number, declares, a_colon, a_comment, a_slash, a_minus, is_trim, closes, behind}
+use Rattle.lf_templates.specs.Tokens.{IsName, IsActionToken, one_byte, in_quotes, in_back_quotes, a_word, a_variable, a_field, a_number, declares, a_colon, a_comment, a_slash, a_minus, is_trim, closes, behind}
 use Rattle.lf_templates.specs.Actions.{is_field}
 use Rattle.lf_templates.specs.reading.Templates.{front, lexed, total, Named}
 use Rattle.lf_templates.proofs.Lists.{take_same}
@@ -130,14 +130,14 @@ no_field b =
     choose IsNoField (eqb b 47) _ _ (λ _. tt) (λ _.
     choose IsNoField (eqb b 45) _ _ (λ _. tt) (λ _. no_field_alone b))))))))))
 
-clash : {P : Type 0} (t u : Token) → t ≡ u → is_field u ≡ false → is_field t ≡ true → P
+clash : {P : Type 0} (t u : ActionToken) → t ≡ u → is_field u ≡ false → is_field t ≡ true → P
 clash t u e f h = let g : is_field t ≡ is_field u = ap is_field e in cc
 
 no_field_minus : (t : Bool) → is_field (cond t tokens.Trim tokens.Plain) ≡ false
 no_field_minus true = refl
 no_field_minus false = refl
 
-pub field_ascii : (place : TokenContext) (t : Token) (text rest : List ℕ) → IsToken place t text rest → is_field t ≡ true → IsAscii (drop 1 text)
+pub field_ascii : (place : TokenContext) (t : ActionToken) (text rest : List ℕ) → IsActionToken place t text rest → is_field t ≡ true → IsAscii (drop 1 text)
 field_ascii place t text rest (one_byte b e k) h = let f : is_field t ≡ false = subst IsNoField k (no_field b) in cc
 field_ascii place t text rest (in_quotes quote inner e k i u) h = clash t tokens.Plain u refl h
 field_ascii place t text rest (in_back_quotes inner e i u) h = clash t tokens.Plain u refl h

@@ -4,7 +4,7 @@ use Rattle.lf_templates.specs.declared.reference.Reference.{Reference}
 use Rattle.lf_base.specs.Answers.{OneAnswer}
 use Rattle.lf_base.proofs.Answering.{Decides, one_answer}
 use Rattle.lf_base.specs.declared.fault.Fault.{Fault}
-use Rattle.lf_templates.specs.Templates.{Piece, piece_texts, ArePieces, IsOpen, Action, actions_of, first_flawed, IsBreach, flawed, unended, Breaks, References}
+use Rattle.lf_templates.specs.Templates.{TemplatePiece, piece_texts, ArePieces, IsOpen, Action, actions_of, first_flawed, IsTemplateBreach, flawed, unended, Breaks, References}
 use Rattle.lf_templates.specs.reading.Templates.{Acts, acts_of, judged, judged_by, reading}
 use Rattle.lf_templates.proofs.Acts.{no_acts, acts_open, acts_end}
 use Rattle.lf_templates.proofs.Pieces.{Cut, after, pieces_read, pieces_stand, open_lexed}
@@ -17,7 +17,7 @@ abbrev end_of : {rest : List ℕ} → ℕ → (rest ≡ []) ⊎ IsOpen rest → 
 end_of at (inl e) = None
 end_of at (inr o) = Some at
 
-module _ (from text : List ℕ) (pieces : List Piece) (rest : List ℕ) (source : text ≡ piece_texts pieces ++ rest) (are : ArePieces pieces rest) where
+module _ (from text : List ℕ) (pieces : List TemplatePiece) (rest : List ℕ) (source : text ≡ piece_texts pieces ++ rest) (are : ArePieces pieces rest) where
   rest_acts : (stops : (rest ≡ []) ⊎ IsOpen rest) (at : ℕ) → acts_of at 0 rest ≡ no_acts (end_of at stops)
   rest_acts (inl e) at = ap (acts_of at 0) e ∙ acts_end at 0 [] (omega arith)
   rest_acts (inr o) at = ap (acts_of at 0) o.source ∙ acts_open at (123 ∷ 123 ∷ o.inner) refl (open_lexed o.inner o.endless)
@@ -49,7 +49,7 @@ breach_read from text fault b = reading_is from text b.pieces b.rest b.source b.
     actions : List Action
     actions = actions_of 0 b.pieces
 
-    by : (stops : (b.rest ≡ []) ⊎ IsOpen b.rest) → IsBreach from (length (piece_texts b.pieces)) b.rest (actions_of 0 b.pieces) fault →
+    by : (stops : (b.rest ≡ []) ⊎ IsOpen b.rest) → IsTemplateBreach from (length (piece_texts b.pieces)) b.rest (actions_of 0 b.pieces) fault →
         judged from text (record { actions = actions_of 0 b.pieces; endless = end_of (length (piece_texts b.pieces)) stops }) ≡ Err fault
     by stops (flawed a e f) = ap (judged_by from text (record { actions = actions_of 0 b.pieces; endless = end_of (length (piece_texts b.pieces)) stops })) e ∙ ap (λ (x : Fault). Err x) (sym f)
     by (inl none) (unended e o f) = let g : 123 ∷ 123 ∷ o.inner ≡ [] = sym o.source ∙ none in cc

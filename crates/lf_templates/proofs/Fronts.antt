@@ -2,15 +2,15 @@
 use Rattle.std.proofs.Common.{◌≡◌, ◌≢◌, ℕ, suc, ◌+◌, ◌<◌, ◌≤◌, Bool, true, false, cond, List, [], ◌∷◌, ◌++◌, Some, length, take, drop, refl, ap, arith, sym, ◌∙◌, append_assoc, length-append, lt-ltb}
 use Rattle.std.specs.List.{prefix_len}
 use Rattle.std.proofs.lemmas.List.Sums.{prefix_len-le-length}
-use Rattle.lf_templates.specs.declared.token.Token.{Token}
-use Rattle.lf_templates.specs.declared.token.Token.TheVariants as tokens
+use Rattle.lf_templates.specs.declared.token.ActionToken.{ActionToken}
+use Rattle.lf_templates.specs.declared.token.ActionToken.TheVariants as tokens
 use Rattle.lf_templates.specs.declared.token.TokenContext.{TokenContext}
 use Rattle.lf_templates.specs.declared.token.Lexeme.{Lexeme}
 use Rattle.lf_templates.specs.declared.token.Beginning.TheVariants as begins
 use Rattle.lf_base.specs.Names.{is_letter, begins_label, is_digit, is_in_label}
 use Rattle.lf_base.specs.Rows.{is_no_back_quote, Each, Stops}
 use Rattle.lf_templates.specs.Bytes.{beginning, sign_begins, is_in_number}
-use Rattle.lf_templates.specs.Tokens.{IsName, IsInner, IsToken, one_byte, in_quotes, in_back_quotes, a_word, a_variable, a_field, a_number, declares, a_colon, a_comment, a_slash, a_minus, takes_comment, ends_comment, FreeOf, word_of, variable_of, field_of}
+use Rattle.lf_templates.specs.Tokens.{IsName, IsActionStringInner, IsActionToken, one_byte, in_quotes, in_back_quotes, a_word, a_variable, a_field, a_number, declares, a_colon, a_comment, a_slash, a_minus, takes_comment, ends_comment, FreeOf, word_of, variable_of, field_of}
 use Rattle.lf_templates.specs.reading.Templates.{token, name_len, string_front, raw_front, word_front, variable_front, field_front, number_front, colon_front, slash_front, minus_front, front}
 use Rattle.lf_base.proofs.Rows.{row_all, row_is, row_then}
 use Rattle.lf_templates.proofs.Lists.{take_same}
@@ -45,7 +45,7 @@ name_stands (b ∷ src) = by (begins_label b) refl
 -- ---- what the definitions have is read
 
 -- with another length
-same_len : (t : Token) (m n : ℕ) → m ≡ n → Some (token t m) ≡ Some (token t n)
+same_len : (t : ActionToken) (m n : ℕ) → m ≡ n → Some (token t m) ≡ Some (token t n)
 same_len t m n e = ap (λ (k : ℕ). Some (token t k)) e
 
 quoted_len : (quote : ℕ) (inner : List ℕ) → length inner + 2 ≡ length (quote ∷ (inner ++ quote ∷ []))
@@ -62,7 +62,7 @@ letter_begins : (b : ℕ) → begins_label b ≡ true → beginning b ≡ begins
 unfolding beginning
 letter_begins b h = rw h refl
 
-string_is : (quote : ℕ) (inner rest : List ℕ) → quote ≢ 92 → IsInner quote inner → string_front quote ((inner ++ quote ∷ []) ++ rest) ≡ Some (token tokens.Plain (length (quote ∷ (inner ++ quote ∷ []))))
+string_is : (quote : ℕ) (inner rest : List ℕ) → quote ≢ 92 → IsActionStringInner quote inner → string_front quote ((inner ++ quote ∷ []) ++ rest) ≡ Some (token tokens.Plain (length (quote ∷ (inner ++ quote ∷ []))))
 unfolding string_front
 string_is quote inner rest n h = rw (append_assoc inner (quote ∷ []) rest, string_read quote inner rest n h) (same_len tokens.Plain _ _ (quoted_len quote inner))
 
@@ -94,7 +94,7 @@ comment_is : (place : TokenContext) (inner rest : List ℕ) → takes_comment pl
 unfolding slash_front
 comment_is place inner rest t h = rw (t, append_assoc inner (42 ∷ 47 ∷ []) rest, comment_read inner rest h) (same_len tokens.Comment _ _ (comment_length inner))
 
-pub token_read : (place : TokenContext) (t : Token) (text rest : List ℕ) → IsToken place t text rest → front place (text ++ rest) ≡ Some (token t (length text))
+pub token_read : (place : TokenContext) (t : ActionToken) (text rest : List ℕ) → IsActionToken place t text rest → front place (text ++ rest) ≡ Some (token t (length text))
 unfolding beginning sign_begins begins_label is_letter is_digit colon_front slash_front minus_front
 token_read place t text rest (one_byte b e k) = rw (e, k) refl
 token_read place t text rest (in_quotes quote inner e k h u) = rw (e, k, u) (string_is quote inner rest (no_backslash quote k) h)

@@ -13,7 +13,7 @@ use Rattle.lf_base.specs.Answers.{IfAt}
 use Rattle.lf_base.specs.declared.fault.Fault.{Fault}
 use Rattle.lf_templates.specs.Source.{LiesInSource, in_source}
 use Rattle.lf_templates.specs.Actions.{tokens_of, goes_on, is_root, is_labels_field, is_field, begins_row, row_to, row_of_two, row_here, as_list, rows, sets_labels}
-use Rattle.lf_templates.specs.Templates.{Piece, Byte, Braced, piece_text, piece_texts, Action, actions_of, word_of_action, is_flawed, first_flawed, bodies_behind, bodies_round, hides, IsBreach, flawed, unended, Breaks, References, reference, references_in, references_of}
+use Rattle.lf_templates.specs.Templates.{TemplatePiece, Byte, Braced, piece_text, piece_texts, Action, actions_of, word_of_action, is_flawed, first_flawed, bodies_behind, bodies_round, hides, IsTemplateBreach, flawed, unended, Breaks, References, reference, references_in, references_of}
 use Rattle.lf_templates.specs.reading.Templates.{total}
 use Rattle.lf_templates.proofs.Pieces.{braced_length}
 use Rattle.lf_laws.proofs.Members.{all_append}
@@ -52,7 +52,7 @@ pub record EndsBy (n : ℕ) (a : Action) : Type 0 where
   pub within : a.end ≤ n
   pub tokens : a.start + 2 + total a.lexemes ≤ n
 
-actions_end : (pieces : List Piece) (at n : ℕ) → at + length (piece_texts pieces) ≤ n → AllByRecursion (EndsBy n) (actions_of at pieces)
+actions_end : (pieces : List TemplatePiece) (at n : ℕ) → at + length (piece_texts pieces) ≤ n → AllByRecursion (EndsBy n) (actions_of at pieces)
 actions_end [] at n le = tt
 actions_end ((Byte b) ∷ pieces) at n le = actions_end pieces (at + 1) n (omega arith)
 actions_end ((Braced parts) ∷ pieces) at n le =
@@ -103,7 +103,7 @@ module _ (from text : List ℕ) (count : length from ≡ length text + 1) (rises
       size : length text ≡ length (piece_texts b.pieces) + length b.rest
       size = ap length b.source ∙ length-append (piece_texts b.pieces) b.rest
 
-      by : IsBreach from (length (piece_texts b.pieces)) b.rest (actions_of 0 b.pieces) fault → LiesInSource from fault.span
+      by : IsTemplateBreach from (length (piece_texts b.pieces)) b.rest (actions_of 0 b.pieces) fault → LiesInSource from fault.span
       by (flawed a e f) =
           let s : length text ≡ length (piece_texts b.pieces) + length b.rest = ap length b.source ∙ length-append (piece_texts b.pieces) b.rest in
           let ends = flawed_ends (actions_of 0 b.pieces) [] a (length text) (actions_end b.pieces 0 (length text) (omega arith)) e in

@@ -7,7 +7,7 @@ use Rattle.lf_templates.specs.declared.token.TokenContext.{TokenContext}
 use Rattle.lf_templates.specs.declared.token.TokenContext.TheVariants as places
 use Rattle.lf_templates.specs.declared.token.Lexeme.{Lexeme}
 use Rattle.lf_templates.specs.Tokens.{Part, texts, lexeme, AreParts, closes, behind}
-use Rattle.lf_templates.specs.Templates.{Piece, Byte, Braced, piece_text, piece_texts, opens, ArePieces, IsOpen, Action, actions_of}
+use Rattle.lf_templates.specs.Templates.{TemplatePiece, Byte, Braced, piece_text, piece_texts, opens, ArePieces, IsOpen, Action, actions_of}
 use Rattle.lf_templates.specs.reading.Templates.{token, front, lexed, total, Acts, acts_of, before, action_at}
 use Rattle.lf_templates.proofs.Lists.{drop_same}
 use Rattle.lf_templates.proofs.Quotes.{two}
@@ -58,7 +58,7 @@ one_more place b src l ms ls c e f again =
       parts = part ∷ again.parts;
       rest = again.rest;
       source = source ∙ sym (append_assoc s.text (texts again.parts) (125 ∷ 125 ∷ again.rest));
-      are = (ap closes (sym source) ∙ c, subst (λ (x : List ℕ). Rattle.lf_templates.specs.Tokens.IsToken place l.token s.text x) rest_is s.is, again.are);
+      are = (ap closes (sym source) ∙ c, subst (λ (x : List ℕ). Rattle.lf_templates.specs.Tokens.IsActionToken place l.token s.text x) rest_is s.is, again.are);
       lexemes = f ∙ ap (λ (x : List Lexeme). l ∷ x) again.lexemes ∙ ap (λ (x : Lexeme). x ∷ map lexeme again.parts) same;
     }
 
@@ -112,7 +112,7 @@ braced_read parts at more h =
     ∙ ap (λ (x : List ℕ). before (action_at at ls) (acts_of (at + (total ls + 4)) 0 x)) d
     ∙ ap (λ (k : ℕ). before (record { lexemes = ls; start = at; end = at + k }) (acts_of (at + k) 0 more)) n
 
-pub pieces_read : (pieces : List Piece) (at : ℕ) (rest : List ℕ) → ArePieces pieces rest → acts_of at 0 (piece_texts pieces ++ rest) ≡ after (actions_of at pieces) (acts_of (at + length (piece_texts pieces)) 0 rest)
+pub pieces_read : (pieces : List TemplatePiece) (at : ℕ) (rest : List ℕ) → ArePieces pieces rest → acts_of at 0 (piece_texts pieces ++ rest) ≡ after (actions_of at pieces) (acts_of (at + length (piece_texts pieces)) 0 rest)
 pieces_read [] at rest h = let e : at ≡ at + 0 = omega arith in ap (λ (k : ℕ). acts_of k 0 rest) e
 pieces_read ((Byte b) ∷ pieces) at rest h =
     let e : at + 1 + length (piece_texts pieces) ≡ at + length (piece_texts ((Byte b) ∷ pieces)) = omega arith in
@@ -132,7 +132,7 @@ pieces_read ((Braced parts) ∷ pieces) at rest h =
 -- ---- and each text is some
 
 pub record Cut (src : List ℕ) : Type 0 where
-  pub pieces : List Piece
+  pub pieces : List TemplatePiece
   pub rest : List ℕ
   pub source : src ≡ piece_texts pieces ++ rest
   pub are : ArePieces pieces rest

@@ -3,12 +3,12 @@ use Rattle.std.proofs.Common.{◌≡◌, ◌≢◌, ℕ, suc, Bool, true, false,
 use Rattle.std.specs.Prelude.{option_map}
 use Rattle.std.proofs.lemmas.Bool.{ne_eqb, eqb-false, eqb-true, and_parts}
 use Rattle.lf_templates.specs.Bytes.{starts_with}
-use Rattle.lf_templates.specs.Tokens.{IsInner, nothing, itself, pair, ends_comment, FreeOf}
+use Rattle.lf_templates.specs.Tokens.{IsActionStringInner, nothing, itself, pair, ends_comment, FreeOf}
 use Rattle.lf_templates.specs.reading.Templates.{closing, comment_len}
 
 -- ---- strings
 
-pub string_read : (quote : ℕ) (inner rest : List ℕ) → quote ≢ 92 → IsInner quote inner → closing quote false (inner ++ quote ∷ rest) ≡ Some (length inner)
+pub string_read : (quote : ℕ) (inner rest : List ℕ) → quote ≢ 92 → IsActionStringInner quote inner → closing quote false (inner ++ quote ∷ rest) ≡ Some (length inner)
 unfolding closing
 string_read quote [] rest n nothing = rw (eq-eqb quote quote refl) refl
 string_read quote (b ∷ inner) rest n (itself x y more) = rw (ne_eqb b quote x, ne_eqb b 92 y, string_read quote inner rest n more) refl
@@ -16,8 +16,8 @@ string_read quote (_ ∷ b ∷ inner) rest n (pair more) = rw (ne_eqb 92 quote (
 
 -- what stands before the quote, behind a backslash or not
 abbrev IsInnerBehind : Bool → ℕ → List ℕ → Type 0
-IsInnerBehind true quote inner = IsInner quote (92 ∷ inner)
-IsInnerBehind false quote inner = IsInner quote inner
+IsInnerBehind true quote inner = IsActionStringInner quote (92 ∷ inner)
+IsInnerBehind false quote inner = IsActionStringInner quote inner
 
 pub record ClosesAt (skip : Bool) (quote : ℕ) (src : List ℕ) (n : ℕ) : Type 0 where
   pub inner : List ℕ
@@ -47,7 +47,7 @@ string_stands quote false (b ∷ src) n e = by (λ m f. string_stands quote (eqb
       rest = again.rest;
       source = ap (λ (xs : List ℕ). b ∷ xs) again.source;
       len = f ∙ ap suc again.len;
-      is = subst (λ (k : ℕ). IsInner quote (k ∷ again.inner)) (sym (eqb-true b 92 is)) again.is;
+      is = subst (λ (k : ℕ). IsActionStringInner quote (k ∷ again.inner)) (sym (eqb-true b 92 is)) again.is;
     }
     step false is x m f again = record {
       inner = b ∷ again.inner;

@@ -5,8 +5,8 @@ use Rattle.std.specs.List.{prefix_len}
 use Rattle.std.proofs.lemmas.Bool.{eqb-true}
 use Rattle.std.proofs.lemmas.Bool.Decides.{nat_tests}
 use Rattle.std.proofs.lemmas.List.Sums.{prefix_len-le-length}
-use Rattle.lf_templates.specs.declared.token.Token.{Token}
-use Rattle.lf_templates.specs.declared.token.Token.TheVariants as tokens
+use Rattle.lf_templates.specs.declared.token.ActionToken.{ActionToken}
+use Rattle.lf_templates.specs.declared.token.ActionToken.TheVariants as tokens
 use Rattle.lf_templates.specs.declared.token.TokenContext.{TokenContext}
 use Rattle.lf_templates.specs.declared.token.Lexeme.{Lexeme}
 use Rattle.lf_templates.specs.declared.token.Beginning.{Beginning}
@@ -14,7 +14,7 @@ use Rattle.lf_templates.specs.declared.token.Beginning.TheVariants as begins
 use Rattle.lf_base.specs.Names.{begins_label, is_digit, is_in_label}
 use Rattle.lf_base.specs.Rows.{is_no_back_quote, starts, Stops}
 use Rattle.lf_templates.specs.Bytes.{beginning, sign_begins, is_in_number}
-use Rattle.lf_templates.specs.Tokens.{IsToken, one_byte, in_quotes, in_back_quotes, a_word, a_variable, a_field, a_number, declares, a_colon, a_comment, a_slash, a_minus, takes_comment}
+use Rattle.lf_templates.specs.Tokens.{IsActionToken, one_byte, in_quotes, in_back_quotes, a_word, a_variable, a_field, a_number, declares, a_colon, a_comment, a_slash, a_minus, takes_comment}
 use Rattle.lf_templates.specs.reading.Templates.{token, name_len, closing, comment_len, string_front, raw_front, word_front, variable_front, field_front, number_front, colon_front, slash_front, minus_front, front_by, front}
 use Rattle.lf_base.proofs.Rows.{row_all, row_then}
 use Rattle.lf_templates.proofs.Quotes.{string_stands, comment_stands}
@@ -27,7 +27,7 @@ pub record Stands (place : TokenContext) (src : List ℕ) (l : Lexeme) : Type 0 
   pub source : src ≡ text ++ rest
   pub len : l.len ≡ length text
   pub some : 0 < length text
-  pub is : IsToken place l.token text rest
+  pub is : IsActionToken place l.token text rest
 
 made : {place : TokenContext} {src : List ℕ} (x l : Lexeme) → Some x ≡ Some l → Stands place src x → Stands place src l
 made {place} {src} x l e h = let f : x ≡ l = cc in subst (Stands place src) f h
@@ -72,7 +72,7 @@ told b k e = subst (Tells b) e (tells b)
 -- ---- each sort of token
 
 module _ (place : TokenContext) (b : ℕ) (src : List ℕ) where
-  alone_stands : (t : Token) → beginning b ≡ begins.Alone t → Stands place (b ∷ src) (token t 1)
+  alone_stands : (t : ActionToken) → beginning b ≡ begins.Alone t → Stands place (b ∷ src) (token t 1)
   alone_stands t k = record { text = b ∷ []; rest = src; source = refl; len = refl; some = omega arith; is = one_byte b refl k }
 
   string_at : (l : Lexeme) → beginning b ≡ begins.Quote → string_front b src ≡ Some l → Stands place (b ∷ src) l

@@ -3,14 +3,14 @@ use Rattle.std.proofs.Common.{◌≡◌, ℕ, ◌+◌, Bool, ◌||◌, List, ◌
 use Rattle.lf_base.specs.declared.place.Span.{Span}
 use Rattle.lf_templates.specs.declared.token.Word.{Word}
 use Rattle.lf_templates.specs.declared.token.Lexeme.{Lexeme}
-use Rattle.lf_templates.specs.declared.body.Body.{Body}
+use Rattle.lf_templates.specs.declared.body.OpenBody.{OpenBody}
 use Rattle.lf_templates.specs.declared.reference.Reference.{Reference}
 use Rattle.lf_templates.specs.Source.{in_source}
 use Rattle.lf_templates.specs.Actions.{tokens_of, first, sets_labels}
 use Rattle.lf_templates.specs.Templates.{Action, word_of_action, references_at}
 use Rattle.lf_templates.specs.reading.Templates.{outcome, closed_by, opened_by, is_hidden, is_bad_by, or_else, settled, or_settled, bad_action}
 
-module _ (from text : List ℕ) (a : Action) (ts : List Lexeme) (word : Word) (span : Span) (bodies closed opened : List Body) (flaw worst : Option Span) (renamed gone bad hidden : Bool) (found more : List Reference)
+module _ (from text : List ℕ) (a : Action) (ts : List Lexeme) (word : Word) (span : Span) (bodies closed opened : List OpenBody) (flaw worst : Option Span) (renamed gone bad hidden : Bool) (found more : List Reference)
     (lexemes : ts ≡ a.lexemes)
     (head : word ≡ word_of_action a)
     (place : span ≡ in_source from a.start a.end)

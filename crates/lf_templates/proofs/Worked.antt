@@ -1,8 +1,8 @@
 -- Worked templates: what the definitions say of the tokens of their actions.
 use Rattle.std.proofs.Common.{◌≡◌, ℕ, ◌+◌, true, false, List, [], ◌∷◌, Some, None, refl}
 use Rattle.std.specs.Prelude.{codes}
-use Rattle.lf_templates.specs.declared.token.Token.{Token}
-use Rattle.lf_templates.specs.declared.token.Token.TheVariants as tokens
+use Rattle.lf_templates.specs.declared.token.ActionToken.{ActionToken}
+use Rattle.lf_templates.specs.declared.token.ActionToken.TheVariants as tokens
 use Rattle.lf_templates.specs.declared.token.Word.TheVariants as words
 use Rattle.lf_templates.specs.declared.token.Variable.TheVariants as variables
 use Rattle.lf_templates.specs.declared.token.Lexeme.{Lexeme}
@@ -11,16 +11,16 @@ use Rattle.lf_templates.specs.declared.reference.Reference.{Reference}
 use Rattle.lf_templates.specs.Actions.{is_sound, head_word, sets_labels, rows}
 use Rattle.lf_templates.specs.Templates.{Action, first_flawed, references_of}
 
-abbrev token : Token → ℕ → Lexeme
+abbrev token : ActionToken → ℕ → Lexeme
 token t len = record { token = t; len = len }
 
-abbrev blank : Token
+abbrev blank : ActionToken
 blank = tokens.Blank true
 
-abbrev labels : Token
+abbrev labels : ActionToken
 labels = tokens.Variable variables.Labels
 
-abbrev field : Token
+abbrev field : ActionToken
 field = tokens.Field false
 
 abbrev row : ℕ → ℕ → ℕ → ReferenceSpan

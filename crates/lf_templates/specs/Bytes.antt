@@ -1,8 +1,8 @@
 -- The bytes that the tokens of an action are made of. Letters and digits are those of ASCII.
 use Rattle.std.specs.Prelude.{ℕ, List, [], ◌∷◌, Bool, true, false, ◌==◌, ◌||◌, ◌&&◌, if◌then◌else◌}
 use Rattle.lf_base.specs.Names.{begins_label, is_in_label, is_digit}
-use Rattle.lf_templates.specs.declared.token.Token.{Token}
-use Rattle.lf_templates.specs.declared.token.Token.TheVariants as tokens
+use Rattle.lf_templates.specs.declared.token.ActionToken.{ActionToken}
+use Rattle.lf_templates.specs.declared.token.ActionToken.TheVariants as tokens
 use Rattle.lf_templates.specs.declared.token.Beginning.{Beginning}
 use Rattle.lf_templates.specs.declared.token.Beginning.TheVariants as begins
 
@@ -11,7 +11,7 @@ unfoldable pub is_in_number : ℕ → Bool
 is_in_number b = is_in_label b || b == 46
 
 -- a space and a tab, the bytes of a line break, ( and ) and , and = and | and +; any other byte begins no token
-abbrev pub alone : ℕ → Token
+abbrev pub alone : ℕ → ActionToken
 alone b =
     if b == 32 then tokens.Blank true else if b == 9 then tokens.Blank true else if b == 10 then tokens.Blank false else if b == 13 then tokens.Blank false else if b == 40 then tokens.Open else if b == 41 then tokens.Close else if b == 44 then tokens.Setting else if b == 61 then tokens.Setting else if b == 124 then tokens.Plain else if b == 43 then tokens.Plain else tokens.Wrong
 

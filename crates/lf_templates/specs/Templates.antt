@@ -19,29 +19,29 @@ use Rattle.lf_templates.specs.Actions.{tokens_of, first, is_sound, head_word, se
 -- ---- pieces
 
 -- a byte of text, or an action with what stands between its braces
-pub data Piece : Type 0 where
-  Byte : ℕ → Piece
-  Braced : List Part → Piece
+pub data TemplatePiece : Type 0 where
+  Byte : ℕ → TemplatePiece
+  Braced : List Part → TemplatePiece
 
-abbrev pub piece_text : Piece → List ℕ
+abbrev pub piece_text : TemplatePiece → List ℕ
 piece_text (Byte b) = b ∷ []
 piece_text (Braced parts) = 123 ∷ 123 ∷ (texts parts ++ 125 ∷ 125 ∷ [])
 
-abbrev pub piece_texts : List Piece → List ℕ
+abbrev pub piece_texts : List TemplatePiece → List ℕ
 piece_texts pieces = flat_map piece_text pieces
 
 -- {{
 abbrev pub opens : List ℕ → Bool
 opens src = starts_with 123 123 src
 
-abbrev pub IsPiece : Piece → List ℕ → Type 0
-IsPiece (Byte b) rest = opens (b ∷ rest) ≡ false
-IsPiece (Braced parts) rest = AreParts places.Start parts (125 ∷ 125 ∷ rest)
+abbrev pub IsTemplatePiece : TemplatePiece → List ℕ → Type 0
+IsTemplatePiece (Byte b) rest = opens (b ∷ rest) ≡ false
+IsTemplatePiece (Braced parts) rest = AreParts places.Start parts (125 ∷ 125 ∷ rest)
 
 -- The text is these pieces, before the rest.
-abbrev pub ArePieces : List Piece → List ℕ → Type 0
+abbrev pub ArePieces : List TemplatePiece → List ℕ → Type 0
 ArePieces [] rest = Unit {0}
-ArePieces (piece ∷ pieces) rest = IsPiece piece (piece_texts pieces ++ rest) × ArePieces pieces rest
+ArePieces (piece ∷ pieces) rest = IsTemplatePiece piece (piece_texts pieces ++ rest) × ArePieces pieces rest
 
 -- {{ behind which no action closes
 pub record IsOpen (src : List ℕ) : Type 0 where
@@ -58,7 +58,7 @@ pub record Action : Type 0 where
   pub end : ℕ
 
 -- those of the pieces, the first of which stands at an offset
-abbrev pub actions_of : ℕ → List Piece → List Action
+abbrev pub actions_of : ℕ → List TemplatePiece → List Action
 actions_of at [] = []
 actions_of at (Byte b ∷ pieces) = actions_of (at + 1) pieces
 actions_of at (Braced parts ∷ pieces) =
@@ -123,19 +123,19 @@ first_flawed bodies (a ∷ later) = if is_flawed bodies a later then Some a else
 abbrev pub fault_at : List ℕ → Kind → ℕ → ℕ → Fault
 fault_at from kind start end = record { kind = kind; span = in_source from start end }
 
--- `IsBreach from at rest actions fault`: the first breach of a template with these actions, and with an action that doesn't end at offset `at`, where one stands there.
-pub data IsBreach (from : List ℕ) (at : ℕ) (rest : List ℕ) (actions : List Action) (fault : Fault) : Type 0 where
-  flawed : (a : Action) → first_flawed [] actions ≡ Some a → fault ≡ fault_at from BadAction a.start a.end → IsBreach from at rest actions fault
-  unended : first_flawed [] actions ≡ None → IsOpen rest → fault ≡ fault_at from OpenAction at (at + 2) → IsBreach from at rest actions fault
+-- `IsTemplateBreach from at rest actions fault`: the first breach of a template with these actions, and with an action that doesn't end at offset `at`, where one stands there.
+pub data IsTemplateBreach (from : List ℕ) (at : ℕ) (rest : List ℕ) (actions : List Action) (fault : Fault) : Type 0 where
+  flawed : (a : Action) → first_flawed [] actions ≡ Some a → fault ≡ fault_at from BadAction a.start a.end → IsTemplateBreach from at rest actions fault
+  unended : first_flawed [] actions ≡ None → IsOpen rest → fault ≡ fault_at from OpenAction at (at + 2) → IsTemplateBreach from at rest actions fault
 
 -- The text is pieces, up to its end or to an action that doesn't end, and this is its first breach.
 pub record Breaks (from text : List ℕ) (fault : Fault) : Type 0 where
-  pub pieces : List Piece
+  pub pieces : List TemplatePiece
   pub rest : List ℕ
   pub source : text ≡ piece_texts pieces ++ rest
   pub are_pieces : ArePieces pieces rest
   pub stops : (rest ≡ []) ⊎ IsOpen rest
-  pub breach : IsBreach from (length (piece_texts pieces)) rest (actions_of 0 pieces) fault
+  pub breach : IsTemplateBreach from (length (piece_texts pieces)) rest (actions_of 0 pieces) fault
 
 -- ---- the references
 
@@ -169,7 +169,7 @@ references_of from text bodies renamed (a ∷ later) =
 
 -- The text is pieces without a flaw, and these are its references.
 pub record References (from text : List ℕ) (found : List Reference) : Type 0 where
-  pub pieces : List Piece
+  pub pieces : List TemplatePiece
   pub source : text ≡ piece_texts pieces
   pub are_pieces : ArePieces pieces []
   pub sound : first_flawed [] (actions_of 0 pieces) ≡ None

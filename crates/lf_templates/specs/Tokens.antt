@@ -1,8 +1,8 @@
 -- The tokens of an action.
 use Rattle.std.specs.Prelude.{◌≡◌, ◌≢◌, ℕ, List, [], ◌∷◌, ◌++◌, length, Bool, true, false, ◌==◌, ◌&&◌, ◌||◌, codes, bytes_eq, if◌then◌else◌}
 use Rattle.std.specs.List.{flat_map}
-use Rattle.lf_templates.specs.declared.token.Token.{Token}
-use Rattle.lf_templates.specs.declared.token.Token.TheVariants as tokens
+use Rattle.lf_templates.specs.declared.token.ActionToken.{ActionToken}
+use Rattle.lf_templates.specs.declared.token.ActionToken.TheVariants as tokens
 use Rattle.lf_templates.specs.declared.token.Word.{Word}
 use Rattle.lf_templates.specs.declared.token.Word.TheVariants as words
 use Rattle.lf_templates.specs.declared.token.Variable.{Variable}
@@ -35,7 +35,7 @@ variable_of name =
     else variables.Other
 
 -- a dot before a name: a field, or a lone dot where there is none
-unfoldable pub field_of : List ℕ → Token
+unfoldable pub field_of : List ℕ → ActionToken
 field_of name = if bytes_eq name [] then tokens.Plain else tokens.Field (bytes_eq name (codes "Labels"))
 
 -- `name` is the word that stands before the rest, or empty where none begins.
@@ -47,10 +47,10 @@ IsName (b ∷ more) rest = (begins_label b ≡ true) × Each is_in_label more ×
 
 -- What can stand between quotes: bytes other than the quote and the backslash, and a backslash and the character behind it. (Only the first byte of this character
 -- needs to be looked at: those that continue one are no quotes and no backslashes.)
-pub data IsInner (quote : ℕ) : List ℕ → Type 0 where
-  nothing : IsInner quote []
-  itself : {b : ℕ} {inner : List ℕ} → b ≢ quote → b ≢ 92 → IsInner quote inner → IsInner quote (b ∷ inner)
-  pair : {b : ℕ} {inner : List ℕ} → IsInner quote inner → IsInner quote (92 ∷ b ∷ inner)
+pub data IsActionStringInner (quote : ℕ) : List ℕ → Type 0 where
+  nothing : IsActionStringInner quote []
+  itself : {b : ℕ} {inner : List ℕ} → b ≢ quote → b ≢ 92 → IsActionStringInner quote inner → IsActionStringInner quote (b ∷ inner)
+  pair : {b : ℕ} {inner : List ℕ} → IsActionStringInner quote inner → IsActionStringInner quote (92 ∷ b ∷ inner)
 
 -- ---- comments and trim marks
 
@@ -89,40 +89,40 @@ abbrev pub behind_blank : TokenContext → TokenContext
 behind_blank places.Trimmed = places.Ready
 behind_blank _ = places.Blanked
 
-abbrev pub behind : TokenContext → Token → TokenContext
+abbrev pub behind : TokenContext → ActionToken → TokenContext
 behind place (tokens.Blank inline) = if inline then behind_blank place else places.Inside
 behind place tokens.Trim = places.Trimmed
 behind place _ = places.Inside
 
 -- ---- tokens
 
--- `IsToken place token text rest`: at this place of an action, `text` is this token, where `rest` stands behind it.
-pub data IsToken (place : TokenContext) (token : Token) (text rest : List ℕ) : Type 0 where
+-- `IsActionToken place token text rest`: at this place of an action, `text` is this token, where `rest` stands behind it.
+pub data IsActionToken (place : TokenContext) (token : ActionToken) (text rest : List ℕ) : Type 0 where
   -- a blank, a sign of one byte, or a byte that begins nothing
-  one_byte : (b : ℕ) → text ≡ b ∷ [] → beginning b ≡ begins.Alone token → IsToken place token text rest
+  one_byte : (b : ℕ) → text ≡ b ∷ [] → beginning b ≡ begins.Alone token → IsActionToken place token text rest
   in_quotes : (quote : ℕ) (inner : List ℕ) →
-      text ≡ quote ∷ (inner ++ quote ∷ []) → beginning quote ≡ begins.Quote → IsInner quote inner → token ≡ tokens.Plain →
-      IsToken place token text rest
-  in_back_quotes : (inner : List ℕ) → text ≡ 96 ∷ (inner ++ 96 ∷ []) → Each is_no_back_quote inner → token ≡ tokens.Plain → IsToken place token text rest
-  a_word : (b : ℕ) (more : List ℕ) → text ≡ b ∷ more → IsName (b ∷ more) rest → token ≡ tokens.Word (word_of (b ∷ more)) → IsToken place token text rest
-  a_variable : (name : List ℕ) → text ≡ 36 ∷ name → IsName name rest → token ≡ tokens.Variable (variable_of name) → IsToken place token text rest
-  a_field : (name : List ℕ) → text ≡ 46 ∷ name → IsName name rest → token ≡ field_of name → IsToken place token text rest
+      text ≡ quote ∷ (inner ++ quote ∷ []) → beginning quote ≡ begins.Quote → IsActionStringInner quote inner → token ≡ tokens.Plain →
+      IsActionToken place token text rest
+  in_back_quotes : (inner : List ℕ) → text ≡ 96 ∷ (inner ++ 96 ∷ []) → Each is_no_back_quote inner → token ≡ tokens.Plain → IsActionToken place token text rest
+  a_word : (b : ℕ) (more : List ℕ) → text ≡ b ∷ more → IsName (b ∷ more) rest → token ≡ tokens.Word (word_of (b ∷ more)) → IsActionToken place token text rest
+  a_variable : (name : List ℕ) → text ≡ 36 ∷ name → IsName name rest → token ≡ tokens.Variable (variable_of name) → IsActionToken place token text rest
+  a_field : (name : List ℕ) → text ≡ 46 ∷ name → IsName name rest → token ≡ field_of name → IsActionToken place token text rest
   a_number : (digit : ℕ) (more : List ℕ) →
       text ≡ digit ∷ more → beginning digit ≡ begins.Digit → Each is_in_number more → Stops is_in_number rest → token ≡ tokens.Plain →
-      IsToken place token text rest
+      IsActionToken place token text rest
   -- := is a sign, and a colon before anything else is wrong
-  declares : text ≡ 58 ∷ 61 ∷ [] → token ≡ tokens.Setting → IsToken place token text rest
-  a_colon : text ≡ 58 ∷ [] → starts (λ b. b == 61) rest ≡ false → token ≡ tokens.Wrong → IsToken place token text rest
+  declares : text ≡ 58 ∷ 61 ∷ [] → token ≡ tokens.Setting → IsActionToken place token text rest
+  a_colon : text ≡ 58 ∷ [] → starts (λ b. b == 61) rest ≡ false → token ≡ tokens.Wrong → IsActionToken place token text rest
   -- a comment goes up to the first */
   a_comment : (inner : List ℕ) →
       text ≡ 47 ∷ 42 ∷ (inner ++ 42 ∷ 47 ∷ []) → takes_comment place ≡ true → FreeOf ends_comment inner (42 ∷ 47 ∷ rest) → token ≡ tokens.Comment →
-      IsToken place token text rest
-  a_slash : text ≡ 47 ∷ [] → (takes_comment place && starts (λ b. b == 42) rest) ≡ false → token ≡ tokens.Wrong → IsToken place token text rest
-  a_minus : text ≡ 45 ∷ [] → token ≡ (if is_trim place rest then tokens.Trim else tokens.Plain) → IsToken place token text rest
+      IsActionToken place token text rest
+  a_slash : text ≡ 47 ∷ [] → (takes_comment place && starts (λ b. b == 42) rest) ≡ false → token ≡ tokens.Wrong → IsActionToken place token text rest
+  a_minus : text ≡ 45 ∷ [] → token ≡ (if is_trim place rest then tokens.Trim else tokens.Plain) → IsActionToken place token text rest
 
 -- a token as it is written
 pub record Part : Type 0 where
-  pub token : Token
+  pub token : ActionToken
   pub text : List ℕ
 
 abbrev pub texts : List Part → List ℕ
@@ -135,4 +135,4 @@ lexeme part = record { token = part.token; len = length part.text }
 abbrev pub AreParts : TokenContext → List Part → List ℕ → Type 0
 AreParts place [] rest = Unit {0}
 AreParts place (part ∷ parts) rest =
-    (closes (part.text ++ (texts parts ++ rest)) ≡ false) × IsToken place part.token part.text (texts parts ++ rest) × AreParts (behind place part.token) parts rest
+    (closes (part.text ++ (texts parts ++ rest)) ≡ false) × IsActionToken place part.token part.text (texts parts ++ rest) × AreParts (behind place part.token) parts rest

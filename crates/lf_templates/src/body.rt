@@ -5,7 +5,7 @@ use lf_base::Span;
 
 /// A body that is open.
 #[derive(Clone, Copy, PartialEq, Eq, Debug)]
-pub struct Body {
+pub struct OpenBody {
     /// The word that opened it.
     pub word: Word,
     /// Whether references in it are hidden, by it or by one round it.

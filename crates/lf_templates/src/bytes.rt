@@ -5,12 +5,12 @@ ghost use Rattle.lf_base.specs.Rows.{starts as starts_of};
 ghost use Rattle.lf_templates.specs.Bytes as class_of;
 ghost use Rattle.lf_templates.specs.reading.Templates.{is_in_class};
 
-use crate::token::{Beginning, Token};
+use crate::token::{ActionToken, Beginning};
 use lf_base::names::{begins_label, is_digit, is_in_label};
 
 /// What a row is made of.
 #[derive(Clone, Copy, PartialEq, Eq, Debug)]
-pub enum Class {
+pub enum ActionByteClass {
     /// What a word goes on with.
     Word,
     /// What a number goes on with.
@@ -28,13 +28,13 @@ fn is_in_number(byte: u8) -> bool
 }
 
 /// Whether a byte is of a class.
-fn is_in_class(class: Class, byte: u8) -> bool
+fn is_in_class(class: ActionByteClass, byte: u8) -> bool
     ensures { result ≡ is_in_class class byte }
 {
     match class {
-        Class::Word => is_in_label(byte),
-        Class::Number => is_in_number(byte),
-        Class::NoBackQuote => byte != b'`',
+        ActionByteClass::Word => is_in_label(byte),
+        ActionByteClass::Number => is_in_number(byte),
+        ActionByteClass::NoBackQuote => byte != b'`',
     }
 }
 
@@ -66,17 +66,17 @@ fn sign(byte: u8) -> Beginning
         b':' => return Beginning::Colon,
         b'/' => return Beginning::Slash,
         b'-' => return Beginning::Minus,
-        b' ' => Token::Blank { inline: true },
-        b'\t' => Token::Blank { inline: true },
-        b'\n' => Token::Blank { inline: false },
-        b'\r' => Token::Blank { inline: false },
-        b'(' => Token::Open,
-        b')' => Token::Close,
-        b',' => Token::Setting,
-        b'=' => Token::Setting,
-        b'|' => Token::Plain,
-        b'+' => Token::Plain,
-        _ => Token::Wrong,
+        b' ' => ActionToken::Blank { inline: true },
+        b'\t' => ActionToken::Blank { inline: true },
+        b'\n' => ActionToken::Blank { inline: false },
+        b'\r' => ActionToken::Blank { inline: false },
+        b'(' => ActionToken::Open,
+        b')' => ActionToken::Close,
+        b',' => ActionToken::Setting,
+        b'=' => ActionToken::Setting,
+        b'|' => ActionToken::Plain,
+        b'+' => ActionToken::Plain,
+        _ => ActionToken::Wrong,
     };
     Beginning::Alone { token }
 }
@@ -103,7 +103,7 @@ pub fn starts(first: u8, text: &[u8]) -> bool
 }
 
 /// How many bytes the longest row of a class at the front has.
-pub fn row_len(bytes: &[u8], class: Class) -> usize
+pub fn row_len(bytes: &[u8], class: ActionByteClass) -> usize
     ensures within { result ≤ length bytes.now }
     ensures row { result ≡ prefix_len (is_in_class class) bytes.now }
 {

@@ -4,10 +4,10 @@ ghost use Rattle.lf_base.specs.Rows.{starts};
 ghost use Rattle.lf_templates.specs.Tokens as tokens;
 ghost use Rattle.lf_templates.specs.reading.Templates as reading;
 
-use crate::bytes::{Class, beginning, row_len, starts, starts_with};
+use crate::bytes::{ActionByteClass, beginning, row_len, starts, starts_with};
 use crate::names::{field_of, name_len, variable_of, word_of};
 use crate::strings::{closing, comment_len};
-use crate::token::{Beginning, Lexeme, Token, TokenContext};
+use crate::token::{ActionToken, Beginning, Lexeme, TokenContext};
 use lf_base::bytes::{after, before};
 
 /// Whether the action ends here.
@@ -54,18 +54,18 @@ fn starts_inline(rest: &[u8]) -> bool
 }
 
 /// The place behind a token.
-pub fn behind(place: TokenContext, token: Token) -> TokenContext
+pub fn behind(place: TokenContext, token: ActionToken) -> TokenContext
     ensures { result ≡ tokens.behind place token }
 {
     match token {
-        Token::Blank { inline } => {
+        ActionToken::Blank { inline } => {
             if inline {
                 behind_blank(place)
             } else {
                 TokenContext::Inside
             }
         }
-        Token::Trim => TokenContext::Trimmed,
+        ActionToken::Trim => TokenContext::Trimmed,
         _ => TokenContext::Inside,
     }
 }
@@ -87,7 +87,7 @@ fn string(quote: u8, rest: &[u8]) -> Option<Lexeme>
 {
     let len = closing(quote, rest)? + 2;
     Some(Lexeme {
-        token: Token::Plain,
+        token: ActionToken::Plain,
         len,
     })
 }
@@ -97,10 +97,10 @@ fn string(quote: u8, rest: &[u8]) -> Option<Lexeme>
 fn raw_string(rest: &[u8]) -> Option<Lexeme>
     ensures { result ≡ reading.raw_front rest.now }
 {
-    let len = row_len(rest, Class::NoBackQuote);
+    let len = row_len(rest, ActionByteClass::NoBackQuote);
     if len < rest.len() {
         Some(Lexeme {
-            token: Token::Plain,
+            token: ActionToken::Plain,
             len: len + 2,
         })
     } else {
@@ -115,7 +115,7 @@ fn word(rest: &[u8]) -> Lexeme
     let len = name_len(rest);
     let word = word_of(before(rest, len));
     Lexeme {
-        token: Token::Word { word },
+        token: ActionToken::Word { word },
         len,
     }
 }
@@ -128,7 +128,7 @@ fn variable(rest: &[u8]) -> Lexeme
     let len = name_len(rest);
     let variable = variable_of(before(rest, len));
     Lexeme {
-        token: Token::Variable { variable },
+        token: ActionToken::Variable { variable },
         len: len + 1,
     }
 }
@@ -151,8 +151,8 @@ fn number(rest: &[u8]) -> Lexeme
     ensures { result ≡ reading.number_front rest.now }
 {
     Lexeme {
-        token: Token::Plain,
-        len: row_len(rest, Class::Number) + 1,
+        token: ActionToken::Plain,
+        len: row_len(rest, ActionByteClass::Number) + 1,
     }
 }
 
@@ -163,12 +163,12 @@ fn colon(rest: &[u8]) -> Lexeme
 {
     if starts(b'=', rest) {
         Lexeme {
-            token: Token::Setting,
+            token: ActionToken::Setting,
             len: 2,
         }
     } else {
         Lexeme {
-            token: Token::Wrong,
+            token: ActionToken::Wrong,
             len: 1,
         }
     }
@@ -182,12 +182,12 @@ fn slash(place: TokenContext, rest: &[u8]) -> Option<Lexeme>
     if takes_comment(place) && starts(b'*', rest) {
         let len = comment_len(after(rest, 1))? + 4;
         Some(Lexeme {
-            token: Token::Comment,
+            token: ActionToken::Comment,
             len,
         })
     } else {
         Some(Lexeme {
-            token: Token::Wrong,
+            token: ActionToken::Wrong,
             len: 1,
         })
     }
@@ -199,9 +199,9 @@ fn minus(place: TokenContext, rest: &[u8]) -> Lexeme
     ensures { result ≡ reading.minus_front place rest.now }
 {
     let token = if is_trim(place, rest) {
-        Token::Trim
+        ActionToken::Trim
     } else {
-        Token::Plain
+        ActionToken::Plain
     };
     Lexeme { token, len: 1 }
 }

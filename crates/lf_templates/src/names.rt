@@ -3,8 +3,8 @@ ghost use Rattle.std.specs.Prelude.{◌≡◌, ◌≤◌, length};
 ghost use Rattle.lf_templates.specs.Tokens as tokens;
 ghost use Rattle.lf_templates.specs.reading.Templates as reading;
 
-use crate::bytes::{Class, row_len};
-use crate::token::{Token, Variable, Word};
+use crate::bytes::{ActionByteClass, row_len};
+use crate::token::{ActionToken, Variable, Word};
 use lf_base::names::begins_label;
 
 /// How many bytes the word at the front has, 0 where none begins.
@@ -17,7 +17,7 @@ pub fn name_len(rest: &[u8]) -> usize
         [] => 0,
         [first, more @ ..] => {
             if begins_label(*first) {
-                1 + row_len(more, Class::Word)
+                1 + row_len(more, ActionByteClass::Word)
             } else {
                 0
             }
@@ -65,13 +65,13 @@ pub fn variable_of(name: &[u8]) -> Variable
 
 /// What a dot and a name behind it are: a field, or a lone dot where there is no name.
 #[tactic(auto, unfolding(crate::specs::Tokens::field_of))]
-pub fn field_of(name: &[u8]) -> Token
+pub fn field_of(name: &[u8]) -> ActionToken
     ensures { result ≡ tokens.field_of name.now }
 {
     if name == b"".as_slice() {
-        Token::Plain
+        ActionToken::Plain
     } else {
-        Token::Field {
+        ActionToken::Field {
             labels: name == b"Labels".as_slice(),
         }
     }

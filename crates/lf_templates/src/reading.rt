@@ -11,7 +11,7 @@ ghost use Rattle.lf_templates.specs.views.Steps.{Advances};
 use crate::action::read_action;
 use crate::bytes::starts_with;
 use crate::reference::Reference;
-use crate::state::{State, begin, endless, finish, step};
+use crate::state::{TemplateState, begin, endless, finish, step};
 use lf_ast::Template;
 use lf_base::bytes::after;
 use lf_base::{Refusal, Seq};
@@ -26,12 +26,12 @@ fn opens(rest: &[u8]) -> bool
 
 /// The state behind the byte or the action that begins at an offset, and where what follows it begins.
 fn advance(
-    state: State,
+    state: TemplateState,
     alloc: Global,
     text: &str,
     from: &[u32],
     at: usize,
-) -> Result<(State, usize), Refusal>
+) -> Result<(TemplateState, usize), Refusal>
     requires from { length from.now ≡ length text.now + 1 }
     requires within { at < length text.now }
     ensures { Advances from.now text.now state at result }

@@ -4,43 +4,43 @@ ghost use Rattle.lf_templates.specs.Actions as actions;
 ghost use Rattle.lf_templates.specs.reading.Templates.{total};
 
 use crate::saying::is_labels;
-use crate::token::{Lexeme, ReferenceSpan, Token, Variable};
+use crate::token::{ActionToken, Lexeme, ReferenceSpan, Variable};
 
 /// Whether a field that stands right behind a token goes on what the token begins or ends.
-pub fn goes_on(token: Token) -> bool
+pub fn goes_on(token: ActionToken) -> bool
     ensures { result ≡ actions.goes_on token }
 {
     match token {
-        Token::Variable { .. } => true,
-        Token::Field { .. } => true,
-        Token::Close => true,
+        ActionToken::Variable { .. } => true,
+        ActionToken::Field { .. } => true,
+        ActionToken::Close => true,
         _ => false,
     }
 }
 
-fn is_field(token: Token) -> bool
+fn is_field(token: ActionToken) -> bool
     ensures { result ≡ actions.is_field token }
 {
     match token {
-        Token::Field { .. } => true,
+        ActionToken::Field { .. } => true,
         _ => false,
     }
 }
 
-fn is_labels_field(token: Token) -> bool
+fn is_labels_field(token: ActionToken) -> bool
     ensures { result ≡ actions.is_labels_field token }
 {
     match token {
-        Token::Field { labels } => labels,
+        ActionToken::Field { labels } => labels,
         _ => false,
     }
 }
 
-fn is_root(token: Token) -> bool
+fn is_root(token: ActionToken) -> bool
     ensures { result ≡ actions.is_root token }
 {
     match token {
-        Token::Variable { variable } => match variable {
+        ActionToken::Variable { variable } => match variable {
             Variable::Root => true,
             _ => false,
         },

@@ -3,61 +3,61 @@ ghost use Rattle.std.specs.Prelude.{◌≡◌, ◌≤◌, ◌<◌, ◌+◌, ◌^
 ghost use Rattle.std.specs.List.{list_any};
 ghost use Rattle.lf_templates.specs.Actions as actions;
 
-use crate::token::{Lexeme, Token, Variable, Word};
+use crate::token::{ActionToken, Lexeme, Variable, Word};
 
-fn says_something(token: Token) -> bool
+fn says_something(token: ActionToken) -> bool
     ensures { result ≡ actions.says_something token }
 {
     match token {
-        Token::Blank { .. } => false,
-        Token::Trim => false,
+        ActionToken::Blank { .. } => false,
+        ActionToken::Trim => false,
         _ => true,
     }
 }
 
-fn is_wrong(token: Token) -> bool
+fn is_wrong(token: ActionToken) -> bool
     ensures { result ≡ actions.is_wrong token }
 {
     match token {
-        Token::Wrong => true,
-        Token::Comment => true,
+        ActionToken::Wrong => true,
+        ActionToken::Comment => true,
         _ => false,
     }
 }
 
-fn is_trim_mark(token: Token) -> bool
+fn is_trim_mark(token: ActionToken) -> bool
     ensures { result ≡ actions.is_trim_mark token }
 {
     match token {
-        Token::Trim => true,
+        ActionToken::Trim => true,
         _ => false,
     }
 }
 
-fn is_blank(token: Token) -> bool
+fn is_blank(token: ActionToken) -> bool
     ensures { result ≡ actions.is_blank token }
 {
     match token {
-        Token::Blank { .. } => true,
+        ActionToken::Blank { .. } => true,
         _ => false,
     }
 }
 
-fn is_comment_token(token: Token) -> bool
+fn is_comment_token(token: ActionToken) -> bool
     ensures { result ≡ actions.is_comment_token token }
 {
     match token {
-        Token::Comment => true,
+        ActionToken::Comment => true,
         _ => false,
     }
 }
 
 /// Whether a token is `$labels`.
-pub fn is_labels(token: Token) -> bool
+pub fn is_labels(token: ActionToken) -> bool
     ensures { result ≡ actions.is_labels token }
 {
     match token {
-        Token::Variable { variable } => match variable {
+        ActionToken::Variable { variable } => match variable {
             Variable::Labels => true,
             _ => false,
         },
@@ -65,11 +65,11 @@ pub fn is_labels(token: Token) -> bool
     }
 }
 
-fn is_setting(token: Token) -> bool
+fn is_setting(token: ActionToken) -> bool
     ensures { result ≡ actions.is_setting token }
 {
     match token {
-        Token::Setting => true,
+        ActionToken::Setting => true,
         _ => false,
     }
 }
@@ -107,7 +107,7 @@ fn is_comment(tokens: &[Lexeme]) -> bool
 }
 
 /// The first token that is no blank and no trim mark.
-pub fn head(tokens: &[Lexeme]) -> Option<Token>
+pub fn head(tokens: &[Lexeme]) -> Option<ActionToken>
     ensures { result ≡ actions.head_of (actions.tokens_of tokens.now) }
 {
     for lexeme in tokens {
@@ -119,7 +119,7 @@ pub fn head(tokens: &[Lexeme]) -> Option<Token>
 }
 
 /// The word at the head of an action.
-pub fn word_at(head: Option<Token>) -> Word
+pub fn word_at(head: Option<ActionToken>) -> Word
     ensures { result ≡ actions.word_at head }
 {
     match head {
@@ -128,11 +128,11 @@ pub fn word_at(head: Option<Token>) -> Word
     }
 }
 
-fn word_in(token: Token) -> Word
+fn word_in(token: ActionToken) -> Word
     ensures { result ≡ actions.word_in token }
 {
     match token {
-        Token::Word { word } => word,
+        ActionToken::Word { word } => word,
         _ => Word::Other,
     }
 }
@@ -164,20 +164,20 @@ fn is_balanced(tokens: &[Lexeme]) -> bool
 }
 
 /// How many parentheses are open behind a token, or none where one closes that isn't open.
-fn behind(depth: usize, token: Token) -> Option<usize>
+fn behind(depth: usize, token: ActionToken) -> Option<usize>
     requires { depth < 2 ^ 63 }
     ensures value { result ≡ actions.depth_behind depth token }
     ensures grows { IfSome result (λ next. next ≤ depth + 1) }
 {
     match token {
-        Token::Open => Some(depth + 1),
-        Token::Close => { if depth == 0 { None } else { Some(depth - 1) } }
+        ActionToken::Open => Some(depth + 1),
+        ActionToken::Close => { if depth == 0 { None } else { Some(depth - 1) } }
         _ => Some(depth),
     }
 }
 
 /// Whether an action with this head is well formed: a comment, or tokens that say something, of which none is wrong and whose parentheses are balanced.
-pub fn is_sound(tokens: &[Lexeme], head: Option<Token>) -> bool
+pub fn is_sound(tokens: &[Lexeme], head: Option<ActionToken>) -> bool
     requires { head ≡ actions.head_of (actions.tokens_of tokens.now) }
     ensures { result ≡ actions.is_sound (actions.tokens_of tokens.now) }
 {

@@ -8,19 +8,19 @@ ghost use Rattle.lf_templates.specs.reading.Templates as reading;
 ghost use Rattle.lf_templates.specs.views.Steps.{Steps};
 
 use crate::action::Braced;
-use crate::body::Body;
+use crate::body::OpenBody;
 use crate::finding::push_references;
 use crate::reference::Reference;
 use crate::saying::{head, is_sound, sets_labels, word_at};
-use crate::token::{Lexeme, Token, Word};
+use crate::token::{ActionToken, Lexeme, Word};
 use lf_base::{Kind, Memory, Refusal, Seq, Span};
 use std::alloc::Global;
 
 /// What the actions so far leave behind.
 #[derive(Debug, Drop)]
-pub struct State {
+pub struct TemplateState {
     /// The bodies that are open, the outermost first.
-    pub bodies: Seq<Body>,
+    pub bodies: Seq<OpenBody>,
     /// The first action that is wrong in itself.
     pub flaw: Option<Span>,
     /// Some action set `$labels` anew.
@@ -30,13 +30,13 @@ pub struct State {
 }
 
 /// The state before the first action.
-pub fn begin(alloc: Global) -> State
+pub fn begin(alloc: Global) -> TemplateState
     ensures bodies { result.bodies ≡ [] }
     ensures flaw { result.flaw ≡ None }
     ensures renamed { result.renamed ≡ false }
     ensures found { result.found ≡ [] }
 {
-    State {
+    TemplateState {
         bodies: Seq::new(alloc),
         flaw: None,
         renamed: false,
@@ -78,7 +78,7 @@ fn hides(word: Word) -> bool
 }
 
 /// The innermost of the bodies.
-fn innermost(bodies: &[Body]) -> Option<Body>
+fn innermost(bodies: &[OpenBody]) -> Option<OpenBody>
     ensures { result ≡ first (reverse bodies.now) }
 {
     match bodies.last() {
@@ -88,7 +88,7 @@ fn innermost(bodies: &[Body]) -> Option<Body>
 }
 
 /// The place of the outermost of the bodies.
-fn outermost(bodies: &[Body]) -> Option<Span>
+fn outermost(bodies: &[OpenBody]) -> Option<Span>
     ensures { result ≡ reading.outermost (reverse bodies.now) }
 {
     match bodies.first() {
@@ -98,7 +98,7 @@ fn outermost(bodies: &[Body]) -> Option<Span>
 }
 
 /// Whether an action with this word at its head has no body that it belongs to.
-fn is_stray(word: Word, innermost: Option<Body>) -> bool
+fn is_stray(word: Word, innermost: Option<OpenBody>) -> bool
     ensures { result ≡ templates.is_stray word (reading.word_of_body innermost) }
 {
     match word {
@@ -112,7 +112,7 @@ fn is_stray(word: Word, innermost: Option<Body>) -> bool
 }
 
 /// Whether an action is wrong in itself: it isn't well formed, or it is stray.
-fn is_bad(bodies: &[Body], tokens: &[Lexeme], head: Option<Token>, word: Word) -> bool
+fn is_bad(bodies: &[OpenBody], tokens: &[Lexeme], head: Option<ActionToken>, word: Word) -> bool
     requires head { head ≡ head_of (tokens_of tokens.now) }
     ensures { result ≡ reading.is_bad_by (first (reverse bodies.now)) (tokens_of tokens.now) word }
 {
@@ -127,7 +127,7 @@ fn sets_anew(renamed: bool, tokens: &[Lexeme]) -> bool
 }
 
 /// Whether references are hidden in a body.
-fn hides_references(body: Option<Body>) -> bool
+fn hides_references(body: Option<OpenBody>) -> bool
     ensures { result ≡ reading.hidden_in body }
 {
     match body {
@@ -137,14 +137,14 @@ fn hides_references(body: Option<Body>) -> bool
 }
 
 /// Whether references are hidden, by an action that set `$labels` anew or by the innermost of the bodies.
-fn is_hidden(renamed: bool, bodies: &[Body]) -> bool
+fn is_hidden(renamed: bool, bodies: &[OpenBody]) -> bool
     ensures { result ≡ (renamed || reading.is_hidden (reverse bodies.now)) }
 {
     renamed || hides_references(innermost(bodies))
 }
 
 /// Closes the innermost body, if an action with this word at its head does.
-fn close_by(bodies: &mut Seq<Body>, word: Word)
+fn close_by(bodies: &mut Seq<OpenBody>, word: Word)
     ensures { reverse bodies.new ≡ reading.closed_by word (reverse bodies.old) }
 {
     match word {
@@ -156,14 +156,14 @@ fn close_by(bodies: &mut Seq<Body>, word: Word)
 }
 
 /// Opens the body of an action, if one with this word at its head does.
-fn open_by(bodies: &mut Seq<Body>, word: Word, span: Span) -> Result<(), Memory>
+fn open_by(bodies: &mut Seq<OpenBody>, word: Word, span: Span) -> Result<(), Memory>
     ensures { OnOk result (reverse bodies.new ≡ reading.opened_by word span (reverse bodies.old)) }
 {
     if !opens_body(word) {
         return Ok(());
     }
     let hides = hides(word) || hides_references(innermost(bodies.as_slice()));
-    bodies.push(Body { word, hides, span })
+    bodies.push(OpenBody { word, hides, span })
 }
 
 /// The first flaw, where an action stands at a span and is perhaps wrong.
@@ -177,7 +177,7 @@ fn or_else(flaw: Option<Span>, wrong: bool, span: Span) -> Option<Span>
 }
 
 /// The flaw that is told whatever comes: one with no body open before it.
-fn settled(bodies: &[Body], flaw: Option<Span>) -> Option<Span>
+fn settled(bodies: &[OpenBody], flaw: Option<Span>) -> Option<Span>
     ensures { result ≡ reading.settled (reverse bodies.now) flaw }
 {
     if bodies.is_empty() { flaw } else { None }
@@ -185,13 +185,13 @@ fn settled(bodies: &[Body], flaw: Option<Span>) -> Option<Span>
 
 /// The state behind an action that begins at an offset, or a refusal that is told whatever comes.
 pub fn step(
-    state: State,
+    state: TemplateState,
     alloc: Global,
     text: &str,
     from: &[u32],
     action: &Braced,
     start: usize,
-) -> Result<State, Refusal>
+) -> Result<TemplateState, Refusal>
     requires from { length from.now ≡ length text.now + 1 }
     requires small { length text.now < 2 ^ 63 }
     requires end { action.now.end ≡ start + (reading.total action.now.tokens.items + 4) }
@@ -199,7 +199,7 @@ pub fn step(
     requires named { reading.Named text.now (start + 2) action.now.tokens.items }
     ensures { Steps from.now text.now state (reading.action_at start action.now.tokens.items) result }
 {
-    let State {
+    let TemplateState {
         mut bodies,
         flaw,
         renamed,
@@ -224,7 +224,7 @@ pub fn step(
             kind: Kind::BadAction,
             span,
         }),
-        None => Ok(State {
+        None => Ok(TemplateState {
             bodies,
             flaw,
             renamed,
@@ -234,7 +234,7 @@ pub fn step(
 }
 
 /// The action that is told at the end, if one is: that of the outermost body that is open, or else the first that is wrong.
-fn flaw_at_end(bodies: &[Body], flaw: Option<Span>) -> Option<Span>
+fn flaw_at_end(bodies: &[OpenBody], flaw: Option<Span>) -> Option<Span>
     ensures { result ≡ reading.flaw_at_end (reverse bodies.now) flaw }
 {
     match outermost(bodies) {
@@ -244,7 +244,7 @@ fn flaw_at_end(bodies: &[Body], flaw: Option<Span>) -> Option<Span>
 }
 
 /// The refusal before an action that begins at an offset and doesn't end.
-pub fn endless(state: State, from: &[u32], at: usize) -> Refusal
+pub fn endless(state: TemplateState, from: &[u32], at: usize) -> Refusal
     requires { at + 2 < length from.now }
     ensures { IfAt result (λ f. reading.ending from.now (reverse state.bodies) state.flaw state.found (Some at) ≡ Err f) }
 {
@@ -264,10 +264,10 @@ pub fn endless(state: State, from: &[u32], at: usize) -> Refusal
 }
 
 /// The answer at the end of the text.
-pub fn finish(state: State) -> Result<Seq<Reference>, Refusal>
+pub fn finish(state: TemplateState) -> Result<Seq<Reference>, Refusal>
     ensures { (from : List ℕ) → Answers result (reading.ending from (reverse state.bodies) state.flaw state.found None) }
 {
-    let State {
+    let TemplateState {
         bodies,
         flaw,
         renamed: _,

@@ -27,7 +27,7 @@ pub enum Variable {
 
 /// What stands between the braces of an action.
 #[derive(Clone, Copy, PartialEq, Eq, Debug)]
-pub enum Token {
+pub enum ActionToken {
     /// A space or a tab (`inline`), or a byte of a line break.
     Blank { inline: bool },
     /// The `-` of `{{-` or `-}}`.
@@ -54,7 +54,7 @@ pub enum Token {
 #[derive(Clone, Copy, PartialEq, Eq, Debug)]
 pub struct Lexeme {
     /// What it is.
-    pub token: Token,
+    pub token: ActionToken,
     /// How many bytes it has.
     pub len: usize,
 }
@@ -89,7 +89,7 @@ pub enum TokenContext {
 #[derive(Clone, Copy, PartialEq, Eq, Debug)]
 pub enum Beginning {
     /// A token of this one byte.
-    Alone { token: Token },
+    Alone { token: ActionToken },
     /// A string with backslashes.
     Quote,
     /// A string in back quotes.

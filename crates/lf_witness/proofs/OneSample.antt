@@ -8,7 +8,7 @@ use Rattle.std.specs.FinMap.{get, same_map, nat_cmp-IsAntisymmetric, slice_cmp-I
 use Rattle.lf_laws.proofs.Members.{only_one}
 use Rattle.lf_ast.specs.Labels.{Bytes, Labels}
 use Rattle.lf_ast.specs.declared.expr.Matcher.{Matcher}
-use Rattle.lf_pattern.specs.declared.replacement.Piece.{Piece}
+use Rattle.lf_pattern.specs.declared.replacement.ReplacementPiece.{ReplacementPiece}
 use Rattle.lf_pattern.specs.Replacement.{HasPieces, IsPlainReplacement, IsTextOf}
 use Rattle.lf_pattern.proofs.GroupLaws.{text_is}
 use Rattle.lf_semantics.specs.Evaluation.{HasSoughtTexts, IsAbsent, IsReplaced, source_value}
@@ -25,13 +25,13 @@ BecomesOne becomes = (s r t : Labels) → becomes s r → becomes s t → r ≡ 
 
 -- replacements
 
-pieces_stand_for : (pattern value : Bytes) (ps qs : List Piece) (x y : Bytes) → ps ≡ qs → IsTextOf pattern value ps x → IsTextOf pattern value qs y → x ≡ y
+pieces_stand_for : (pattern value : Bytes) (ps qs : List ReplacementPiece) (x y : Bytes) → ps ≡ qs → IsTextOf pattern value ps x → IsTextOf pattern value qs y → x ≡ y
 pieces_stand_for pattern value ps qs x y same one another =
-    (text_is pattern value qs x).1 (subst (λ (l : List Piece). IsTextOf pattern value l x) same one) ∙ sym ((text_is pattern value qs y).1 another)
+    (text_is pattern value qs x).1 (subst (λ (l : List ReplacementPiece). IsTextOf pattern value l x) same one) ∙ sym ((text_is pattern value qs y).1 another)
 
 -- what a plain replacement with a `$` stands for
 abbrev StandsFor : Replacing → Bytes → Bytes → Type 0
-StandsFor p value text = ((pieces : List Piece) × HasPieces p.replacement pieces × IsTextOf p.pattern value pieces text) ⊎ (IsPlainReplacement p.replacement → ⊥)
+StandsFor p value text = ((pieces : List ReplacementPiece) × HasPieces p.replacement pieces × IsTextOf p.pattern value pieces text) ⊎ (IsPlainReplacement p.replacement → ⊥)
 
 pieces_one : (p : Replacing) (value x y : Bytes) → IsPlainReplacement p.replacement → StandsFor p value x → StandsFor p value y → x ≡ y
 pieces_one p value x y plain (inl one) (inl another) = pieces_stand_for p.pattern value one.0 another.0 x y (one_list_of_pieces p.replacement one.0 another.0 one.1 another.1) one.2 another.2

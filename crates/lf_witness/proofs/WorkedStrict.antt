@@ -20,7 +20,7 @@ use Rattle.lf_ast.specs.declared.expr.Matcher.{Matcher}
 use Rattle.lf_pattern.specs.Matching.{Matches}
 use Rattle.lf_pattern.specs.Replacement.{IsPlainReplacement, end as no_more_read, other as one_read}
 use Rattle.lf_pattern.specs.reading.Plainness.{checked}
-use Rattle.lf_pattern.specs.declared.replacement.Piece.TheVariants.{Char}
+use Rattle.lf_pattern.specs.declared.replacement.ReplacementPiece.TheVariants.{Char}
 use Rattle.lf_pattern.proofs.PlainnessLaws.{plain-passes}
 use Rattle.lf_semantics.specs.Passing.{PassesEach}
 use Rattle.lf_semantics.specs.Evaluation.{AreMade, IsQuantile, IsReplaced, bare}

@@ -4,7 +4,7 @@ use Rattle.std.proofs.lemmas.Option.{same_Some}
 use Rattle.std.proofs.lemmas.Str.{IsUtf8-had}
 use Rattle.clap.specs.Words.{fault_of}
 use Rattle.lf_words.specs.Lint.{Word, LintArguments}
-use Rattle.lf_words.specs.Grammar.{IsNumber, IsWorkers, IsFormat, Asks, lint, gen}
+use Rattle.lf_words.specs.Grammar.{IsDecimal, IsWorkers, IsFormat, Asks, lint, gen}
 use Rattle.lf_words.specs.declared.options.Options.{Options}
 use Rattle.lf_words.specs.declared.options.Options.TheVariants.{Lint, Gen}
 use Rattle.lf_words.specs.views.Commands.{lint_app, gen_app, first_value, all_values, says_true, texts_of}
@@ -67,7 +67,7 @@ pub record FoundGen (words : List Word) : Type 0 where
   pub word : Word
   pub found : first_value gen_app (codes "n") words ≡ Some word
   pub n : ℕ
-  pub is_number : IsNumber 4000 word n
+  pub is_number : IsDecimal 4000 word n
 
 pub found_gen : {words : List Word} {options : Options} → Asks words options → FirstIs (codes "gen") words → FoundGen words
 found_gen (lint gives some are is) first = absurd cc
@@ -77,14 +77,14 @@ found_gen (gen {word} {n} i) first =
 
 -- two words that clap takes, of which the value is a number
 pub made_gen : {Z : Type 0} (ss : List (String Z)) → FirstIs (codes "gen") (texts_of ss) → length ss ≡ 2 → fault_of gen_app (texts_of ss) ≡ [] →
-    {word : Word} {n : ℕ} → Some word ≡ first_value gen_app (codes "n") (texts_of ss) → IsNumber 4000 word n → Asks (texts_of ss) (Gen n)
+    {word : Word} {n : ℕ} → Some word ≡ first_value gen_app (codes "n") (texts_of ss) → IsDecimal 4000 word n → Asks (texts_of ss) (Gen n)
 made_gen [] first two e found i = absurd (omega (arith, two))
 made_gen (s ∷ []) first two e found i = absurd (omega (arith, two))
 made_gen (s ∷ t ∷ []) first two e {word} {n} found i =
     let plain = plain_of (string_bytes t) (taken_operand (string_bytes s) (string_bytes t) (IsUtf8-had _ t.ok) e) in
     let is : word ≡ string_bytes t = same_Some _ _ (found ∙ operand_found (string_bytes s) (string_bytes t) plain) in
     let A : Word → Type 0 = λ w. Asks (w ∷ string_bytes t ∷ []) (Gen n) in
-    let B : Word → Type 0 = λ w. IsNumber 4000 w n in
+    let B : Word → Type 0 = λ w. IsDecimal 4000 w n in
     subst A (sym (same_Some _ _ first)) (gen (subst B is i))
 made_gen (s ∷ t ∷ v ∷ more) first two e found i = absurd (omega (arith, two))
 
@@ -126,5 +126,5 @@ one_reading (lint gives some are is) (gen i) e = absurd cc
 one_reading (gen i) (lint gives some are is) e = absurd cc
 one_reading (gen {word} {n} i) (gen {word = word'} {n = n'} i') e =
     let same : word ≡ word' = same_Some _ _ (ap (λ (ws : List Word). slice_get ws 1) e) in
-    let B : Word → Type 0 = λ w. IsNumber 4000 w n' in
+    let B : Word → Type 0 = λ w. IsDecimal 4000 w n' in
     ap Gen (one_number (omega arith) i (subst B (sym same) i'))

@@ -4,15 +4,15 @@ use Rattle.std.specs.Bool.{nat_eq, MatchBool}
 use Rattle.std.specs.Str.{bytes_eq}
 use Rattle.std.specs.List.{starts_with}
 use Rattle.std.proofs.lemmas.Bool.{cases_Bool, eqb-true}
-use Rattle.lf_words.specs.Lint.{Word, LintArguments, Gives, Valued, Workers, Format, option_word, value_of, with_value, with_labels, with_files, IsOperand, no_more, dashes, file, value_next, value_joined}
+use Rattle.lf_words.specs.Lint.{Word, LintArguments, GivesArguments, Valued, Workers, Format, option_word, value_of, with_value, with_labels, with_files, IsOperand, no_more, dashes, file, value_next, value_joined}
 use Rattle.lf_words.specs.Lint as grammar
 
 abbrev pub After : Valued → LintArguments → List Word → LintArguments → Type 0
 After option given [] last = ⊥
-After option given (value ∷ words) last = (value_of option given ≡ None) × IsOperand value × Gives (with_value option value given) words last
+After option given (value ∷ words) last = (value_of option given ≡ None) × IsOperand value × GivesArguments (with_value option value given) words last
 
 abbrev pub Joined : Valued → LintArguments → Word → List Word → LintArguments → Type 0
-Joined option given value words last = (value_of option given ≡ None) × Gives (with_value option value given) words last
+Joined option given value words last = (value_of option given ≡ None) × GivesArguments (with_value option value given) words last
 
 abbrev pub joins : Valued → Word → Bool
 joins option word = starts_with nat_eq word (option_word option ++ codes "=")
@@ -23,20 +23,20 @@ joined option word = drop (length (option_word option ++ codes "=")) word
 abbrev pub ByFirst : LintArguments → Word → List Word → LintArguments → Type 0
 ByFirst given word words last =
     MatchBool (bytes_eq word (codes "--")) (last ≡ with_files words given)
-    (MatchBool (bytes_eq word (codes "--labels")) ((given.labels ≡ false) × Gives (with_labels given) words last)
+    (MatchBool (bytes_eq word (codes "--labels")) ((given.labels ≡ false) × GivesArguments (with_labels given) words last)
     (MatchBool (bytes_eq word (codes "--workers")) (After Workers given words last)
     (MatchBool (bytes_eq word (codes "--format")) (After Format given words last)
     (MatchBool (joins Workers word) (Joined Workers given (joined Workers word) words last)
     (MatchBool (joins Format word) (Joined Format given (joined Format word) words last)
-    (IsOperand word × Gives (with_files (word ∷ []) given) words last))))))
+    (IsOperand word × GivesArguments (with_files (word ∷ []) given) words last))))))
 
 abbrev pub Split : LintArguments → List Word → LintArguments → Type 0
 Split given [] last = last ≡ given
 Split given (word ∷ words) last = ByFirst given word words last
 
-operand_first : (given last : LintArguments) (word : Word) (words : List Word) → IsOperand word → Gives (with_files (word ∷ []) given) words last → ByFirst given word words last
+operand_first : (given last : LintArguments) (word : Word) (words : List Word) → IsOperand word → GivesArguments (with_files (word ∷ []) given) words last → ByFirst given word words last
 operand_first given last word words (inr e) d =
-    let P : Word → Type 0 = λ w. Gives (with_files (w ∷ []) given) words last in
+    let P : Word → Type 0 = λ w. GivesArguments (with_files (w ∷ []) given) words last in
     let Q : Word → Type 0 = λ w. ByFirst given w words last in
     subst Q (sym e) (inr refl, subst P e d)
 operand_first given last [] words (inl e) d = (inl refl, d)
@@ -51,7 +51,7 @@ operand_first given last (x ∷ xs) words (inl e) d = elim (cases_Bool (45 == x)
       | inr g ↦ g
     ]
 
-pub split : {given last : LintArguments} {words : List Word} → Gives given words last → Split given words last
+pub split : {given last : LintArguments} {words : List Word} → GivesArguments given words last → Split given words last
 split no_more = refl
 split dashes = refl
 split (grammar.labels n d) = (n, d)

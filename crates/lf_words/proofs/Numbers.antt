@@ -8,7 +8,7 @@ use Rattle.std.proofs.lemmas.Fmt.{decimal_digit, decimal-digits_value, decimal_i
 use Rattle.std.proofs.lemmas.Str.Parse.{IsNumeralModel, numerals_by_value, tells_digits, parse_plain}
 use Rattle.std.proofs.lemmas.Bool.{and_left, cases_Bool, eqb-true}
 use Rattle.lf_words.specs.Lint.{IsOperand}
-use Rattle.lf_words.specs.Grammar.{IsNumber}
+use Rattle.lf_words.specs.Grammar.{IsDecimal}
 
 own : IsNumeralModel (AllDigits 10) (digits_value 10)
 own = numerals_by_value (AllDigits 10) tells_digits
@@ -34,7 +34,7 @@ begins_not (x ∷ xs) byte n = elim (cases_Bool (byte == x)) [
 
 -- what is parsed is written so
 pub parsed_number : (highest : ℕ) (w : List ℕ) (n : ℕ) {E : Type 0} (r : Result ℕ E) → Begins w 43 ≡ false → Begins w 48 ≡ false → ParsesUnsigned 32 10 w r → r ≡ Ok n → n ≤ highest →
-    IsNumber highest w n
+    IsDecimal highest w n
 parsed_number highest w n {E} r plus lead_zero p ok le =
     let R : Result ℕ E → Type 0 = λ s. ParsesUnsigned 32 10 w s in
     let read = parse_plain own {E = E} 32 w (Ok n) (subst R ok p) (first_other w 43 (omega arith) plus) in
@@ -48,32 +48,32 @@ parsed_number highest w n {E} r plus lead_zero p ok le =
     positive (suc n) e = omega arith
 
 -- a number in decimal begins with a digit other than 0
-pub first_digit : {highest : ℕ} {w : List ℕ} {n : ℕ} → highest < 2 ^ 32 → IsNumber highest w n → 48 < get_or w 0 0
+pub first_digit : {highest : ℕ} {w : List ℕ} {n : ℕ} → highest < 2 ^ 32 → IsDecimal highest w n → 48 < get_or w 0 0
 first_digit {w} {n} fits i = let P : List ℕ → Type 0 = λ l. 48 < get_or l 0 0 in subst P (sym i.written) (first_decimal n i.least (omega (arith, i.most)))
 
-pub number_begins : {highest : ℕ} {w : List ℕ} {n : ℕ} → highest < 2 ^ 32 → IsNumber highest w n → (byte : ℕ) → byte ≤ 48 → Begins w byte ≡ false
+pub number_begins : {highest : ℕ} {w : List ℕ} {n : ℕ} → highest < 2 ^ 32 → IsDecimal highest w n → (byte : ℕ) → byte ≤ 48 → Begins w byte ≡ false
 number_begins {w} fits i byte low = begins_not w byte (λ e. absurd (omega (arith, first_digit fits i)))
 
 -- so it is no option
-pub number_operand : {highest : ℕ} {w : List ℕ} {n : ℕ} → highest < 2 ^ 32 → IsNumber highest w n → IsOperand w
+pub number_operand : {highest : ℕ} {w : List ℕ} {n : ℕ} → highest < 2 ^ 32 → IsDecimal highest w n → IsOperand w
 number_operand fits i = inl (number_begins fits i 45 (omega arith))
 
 -- what is written so is parsed
-pub number_parsed : (highest : ℕ) (w : List ℕ) (n : ℕ) {E : Type 0} (r : Result ℕ E) → highest < 2 ^ 32 → IsNumber highest w n → ParsesUnsigned 32 10 w r → r ≡ Ok n
+pub number_parsed : (highest : ℕ) (w : List ℕ) (n : ℕ) {E : Type 0} (r : Result ℕ E) → highest < 2 ^ 32 → IsDecimal highest w n → ParsesUnsigned 32 10 w r → r ≡ Ok n
 number_parsed highest w n r fits i p = parse-decimal 32 n w r (omega (arith, i.most)) (omega (arith, i.most)) i.written p
 
 -- and is one number
-pub one_number : {highest : ℕ} {w : List ℕ} {m n : ℕ} → highest < 2 ^ 32 → IsNumber highest w m → IsNumber highest w n → m ≡ n
+pub one_number : {highest : ℕ} {w : List ℕ} {m n : ℕ} → highest < 2 ^ 32 → IsDecimal highest w m → IsDecimal highest w n → m ≡ n
 one_number {m} {n} fits i j = decimal_injective m n (omega (arith, i.most)) (omega (arith, j.most)) (sym i.written ∙ j.written)
 
 abbrev value_or_zero : {E : Type 0} → Result ℕ E → ℕ
 value_or_zero (Ok n) = n
 value_or_zero (Err e) = 0
 
-pub parsed_one : {highest : ℕ} {w : List ℕ} {n : ℕ} {E : Type 0} (r : Result ℕ E) (m : ℕ) → highest < 2 ^ 32 → IsNumber highest w n → ParsesUnsigned 32 10 w r → r ≡ Ok m → m ≡ n
+pub parsed_one : {highest : ℕ} {w : List ℕ} {n : ℕ} {E : Type 0} (r : Result ℕ E) (m : ℕ) → highest < 2 ^ 32 → IsDecimal highest w n → ParsesUnsigned 32 10 w r → r ≡ Ok m → m ≡ n
 parsed_one {highest} {w} {n} r m fits i p ok = ap value_or_zero (sym ok ∙ number_parsed highest w n r fits i p)
 
-pub parsed_none : {highest : ℕ} {w : List ℕ} {n : ℕ} {E : Type 0} (r : Result ℕ E) (e : E) → highest < 2 ^ 32 → IsNumber highest w n → ParsesUnsigned 32 10 w r → r ≡ Err e → ⊥
+pub parsed_none : {highest : ℕ} {w : List ℕ} {n : ℕ} {E : Type 0} (r : Result ℕ E) (e : E) → highest < 2 ^ 32 → IsDecimal highest w n → ParsesUnsigned 32 10 w r → r ≡ Err e → ⊥
 parsed_none {highest} {w} {n} r e fits i p q = absurd (other (sym q ∙ number_parsed highest w n r fits i p))
   where
     other : Err e ≡ Ok n → ⊥

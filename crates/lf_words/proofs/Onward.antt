@@ -1,6 +1,6 @@
 -- What words give, word by word.
 use Rattle.std.proofs.Common.{◌≡◌, ◌≢◌, ◌↔◌, ℕ, Bool, true, false, List, [], ◌∷◌, ◌++◌, Option, None, Some, is_some, length, get_or, drop, String, string_bytes, codes, IfSome, refl, sym, ◌∙◌, ap, subst, inl, inr, arith, true≢false}
-use Rattle.lf_words.specs.Lint.{Word, LintArguments, Gives, Workers, Format, Valued, nothing, option_word, value_of, with_value, with_labels, with_files, IsOperand, no_more, dashes, file, value_next, value_joined}
+use Rattle.lf_words.specs.Lint.{Word, LintArguments, GivesArguments, Workers, Format, Valued, nothing, option_word, value_of, with_value, with_labels, with_files, IsOperand, no_more, dashes, file, value_next, value_joined}
 use Rattle.lf_words.specs.Lint as grammar
 use Rattle.lf_words.specs.views.Asking.{begun, Keeps, Leads, Stands, Lints}
 use Rattle.lf_words.specs.declared.seen.SeenWords.{SeenWords}
@@ -8,7 +8,7 @@ use Rattle.lf_words.specs.declared.seen.Next.{Next}
 use Rattle.lf_words.specs.declared.seen.Next.TheVariants.{Any, Value, File}
 use Rattle.lf_words.specs.declared.word_kind.Valued.{Valued as Awaited}
 use Rattle.lf_words.specs.declared.word_kind.Valued.TheVariants as awaited
-use Rattle.lf_words.specs.Grammar.{IsNumber, IsWorkers, IsFormat, Asks, lint, gen}
+use Rattle.lf_words.specs.Grammar.{IsDecimal, IsWorkers, IsFormat, Asks, lint, gen}
 use Rattle.lf_words.specs.views.Commands.{texts_of}
 use Rattle.lf_words.specs.declared.options.Options.{Options}
 use Rattle.lf_words.specs.declared.options.Options.TheVariants.{Lint, Gen}
@@ -16,7 +16,7 @@ use Rattle.lf_words.proofs.Inversion.{split}
 
 -- two lists of words give the same
 abbrev pub Same : LintArguments → List Word → LintArguments → List Word → Type 0
-Same given words more others = (last : LintArguments) → Gives given words last ↔ Gives more others last
+Same given words more others = (last : LintArguments) → GivesArguments given words last ↔ GivesArguments more others last
 
 pub same_labels : (given : LintArguments) (word : Word) (words : List Word) → word ≡ codes "--labels" → given.labels ≡ false → Same given (word ∷ words) (with_labels given) words
 same_labels given word words e n = let P : Word → Type 0 = λ w. Same given (w ∷ words) (with_labels given) words in
@@ -39,7 +39,7 @@ hyphens : {word : Word} → IsOperand (45 ∷ 45 ∷ word) → ⊥
 hyphens (inl e) = absurd (true≢false e)
 hyphens (inr e) = absurd cc
 
-given_file : {given last : LintArguments} {word : Word} {words : List Word} → IsOperand word → Gives given (word ∷ words) last → Gives (with_files (word ∷ []) given) words last
+given_file : {given last : LintArguments} {word : Word} {words : List Word} → IsOperand word → GivesArguments given (word ∷ words) last → GivesArguments (with_files (word ∷ []) given) words last
 given_file o dashes = absurd (hyphens o)
 given_file o (grammar.labels n d) = absurd (hyphens o)
 given_file o (value_next Workers n v d) = absurd (hyphens o)
@@ -58,8 +58,8 @@ append_more (f ∷ files) word words = ap (λ (l : List Word). f ∷ l) (append_
 pub same_dashes : (given : LintArguments) (word : Word) (words : List Word) → Same given (codes "--" ∷ word ∷ words) (with_files (word ∷ []) given) (codes "--" ∷ words)
 same_dashes given word words =
     let e : with_files (word ∷ words) given ≡ with_files words (with_files (word ∷ []) given) = ap (λ (l : List Word). record given { files = l }) (append_more given.files word words) in
-    let P : LintArguments → Type 0 = λ l. Gives (with_files (word ∷ []) given) (codes "--" ∷ words) l in
-    let Q : LintArguments → Type 0 = λ l. Gives given (codes "--" ∷ word ∷ words) l in
+    let P : LintArguments → Type 0 = λ l. GivesArguments (with_files (word ∷ []) given) (codes "--" ∷ words) l in
+    let Q : LintArguments → Type 0 = λ l. GivesArguments given (codes "--" ∷ word ∷ words) l in
     λ last. ((λ d. subst P (sym (split d ∙ e)) dashes), (λ d. subst Q (sym (split d ∙ sym e)) dashes))
 
 nil_append : (files : List Word) → files ++ [] ≡ [] → files ≡ []
@@ -97,7 +97,7 @@ stands_on {words} {seen} e (given, k, same) lead =
     (more, kept, λ last. ((λ d. (next last).0 ((now last).0 d)), (λ d. (now last).1 ((next last).1 d))))
 
 pub stops : {words left others : List Word} {seen : SeenWords} {word : Word} → left ≡ word ∷ others → Stands words seen left →
-    ((given last : LintArguments) → Keeps seen given → Gives given (begun seen.next (word ∷ others)) last → ⊥) → (last : LintArguments) → Gives nothing words last → ⊥
+    ((given last : LintArguments) → Keeps seen given → GivesArguments given (begun seen.next (word ∷ others)) last → ⊥) → (last : LintArguments) → GivesArguments nothing words last → ⊥
 stops {words} {seen} e (given, k, same) none last d =
     let P : List Word → Type 0 = λ ws. Same nothing words given (begun seen.next ws) in
     none given last k ((subst P e same last).0 d)
@@ -134,7 +134,7 @@ asks_lint (given, k, same) asks =
 
 of_lint : {words all : List Word} {options : Options} → all ≡ codes "lint" ∷ words → Asks all options → Lints nothing words
 of_lint {words} e (lint {given} {workers} {json} gives some are is) =
-    let P : List Word → Type 0 = λ ws. Gives nothing ws given in
+    let P : List Word → Type 0 = λ ws. GivesArguments nothing ws given in
     record { last = given; gives = subst P (ap (drop 1) e) gives; some = some; workers = workers; are_workers = are; json = json; is_format = is }
 of_lint e (gen i) = absurd cc
 
@@ -144,11 +144,11 @@ not_lint (given, k, same) none options asks =
     let l = of_lint refl asks in
     none given k (record { last = l.last; gives = (same l.last).0 l.gives; some = l.some; workers = l.workers; are_workers = l.are_workers; json = l.json; is_format = l.is_format })
 
-pub asks_gen : {Z : Type 0} (words : List (String Z)) (size : String Z) (r : Option ℕ) → length words ≡ 1 → get_or words 0 size ≡ size → IfSome r (IsNumber 4000 (string_bytes size)) → is_some r ≡ true →
+pub asks_gen : {Z : Type 0} (words : List (String Z)) (size : String Z) (r : Option ℕ) → length words ≡ 1 → get_or words 0 size ≡ size → IfSome r (IsDecimal 4000 (string_bytes size)) → is_some r ≡ true →
     (options : Options) × Asks (codes "gen" ∷ texts_of words) options
 asks_gen [] size r one is number some = absurd cc
 asks_gen (s ∷ []) size None one is number some = absurd cc
 asks_gen (s ∷ []) size (Some n) one is number some =
-    let P : Word → Type 0 = λ w. IsNumber 4000 w n in
+    let P : Word → Type 0 = λ w. IsDecimal 4000 w n in
     (Gen n, gen (subst P (ap string_bytes (sym is)) number))
 asks_gen (s ∷ t ∷ more) size r one is number some = absurd (omega (arith, one))

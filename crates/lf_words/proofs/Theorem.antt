@@ -12,7 +12,7 @@ use Rattle.clap.specs.Walk.{Walk, Waiting, idle, positional, option, walked, set
 use Rattle.clap.specs.Faults.{turn_fault, settle_fault, use_fault, walk_fault, defaults_fault, default_fault, check_fault, fault_of}
 use Rattle.clap.specs.Kinds.{or_else}
 use Rattle.clap.specs.declared.parser.matches.ValueSource.TheVariants.{CommandLine, DefaultValue}
-use Rattle.lf_words.specs.Lint.{LintArguments, Gives, nothing, Word, Valued, Workers, Format, option_word, value_of, with_value, with_labels, with_files, no_more, dashes, file, value_next, value_joined}
+use Rattle.lf_words.specs.Lint.{LintArguments, GivesArguments, nothing, Word, Valued, Workers, Format, option_word, value_of, with_value, with_labels, with_files, no_more, dashes, file, value_next, value_joined}
 use Rattle.lf_words.specs.Lint as grammar
 use Rattle.lf_words.proofs.Steps.{name_of, lint, rules, rule, labels, files, Pending, state, pending_fault, after, Turns, or_parts, Open, is_idle, is_positional, turn_after, turn_dashes, turn_labels, turn_next, turn_with, turn_file, turn_value, bad_fails, wants, waits, wants_labels, wants_next, wants_with}
 use Rattle.lf_words.proofs.Forms.{Kind, k_dashes, k_labels, k_next, k_with, k_value, k_bad, classify, plain_of}
@@ -200,8 +200,8 @@ Premise opened a r p wt = Open wt × Shows (after r p) a
 Premise (waiting_for k) a r p wt = (p ≡ Some (name_of k, [])) × (wt ≡ option (name_of k)) × Shows r a
 
 abbrev Conclusion : LintMode → LintArguments → List Text → Type 0
-Conclusion opened a ws = (c : LintArguments) × Gives a ws c
-Conclusion (waiting_for k) a ws = (c : LintArguments) × Gives a ((option_word k) ∷ ws) c
+Conclusion opened a ws = (c : LintArguments) × GivesArguments a ws c
+Conclusion (waiting_for k) a ws = (c : LintArguments) × GivesArguments a ((option_word k) ∷ ws) c
 
 reads : {ws : List Text} → Texts ws → (m : LintMode) (a : LintArguments) (r : List Row) (p : Pending) (wt : Waiting) → Premise m a r p wt → body (state r p wt false) ws ≡ [] → Conclusion m a ws
 reads none opened a r p wt h e = (a, no_more)
@@ -210,7 +210,7 @@ reads none (waiting_for k) a r p wt h e =
     absurd (wants r k (subst P h.0 (sym (body_end r p wt false) ∙ e)))
 reads (more {w} {ws} u us) opened a r p wt (o, s) e = go (λ m a r p wt h e. reads us m a r p wt h e) w (classify w u) e
   where
-    go : ((m : LintMode) (a : LintArguments) (r : List Row) (p : Pending) (wt : Waiting) → Premise m a r p wt → body (state r p wt false) ws ≡ [] → Conclusion m a ws) → (x : Text) → Kind x → body (state r p wt false) (x ∷ ws) ≡ [] → (c : LintArguments) × Gives a (x ∷ ws) c
+    go : ((m : LintMode) (a : LintArguments) (r : List Row) (p : Pending) (wt : Waiting) → Premise m a r p wt → body (state r p wt false) ws ≡ [] → Conclusion m a ws) → (x : Text) → Kind x → body (state r p wt false) (x ∷ ws) ≡ [] → (c : LintArguments) × GivesArguments a (x ∷ ws) c
     go ih _ k_dashes h = (with_files ws a, dashes)
     go ih _ k_labels h =
         let parts = or_parts _ _ (sym (body_turn (state r p wt false) _ (codes "--labels") _ ws (turn_labels r p o)) ∙ h) in
@@ -235,7 +235,7 @@ reads (more {w} {ws} u us) (waiting_for k) a r p wt (is_p, is_wt, s) e =
     let Q : Waiting → Type 0 = λ q. body (state r (Some (name_of k, [])) q false) (w ∷ ws) ≡ [] in
     go (λ m a r p wt h e. reads us m a r p wt h e) w (classify w u) (subst Q is_wt (subst P is_p e))
   where
-    go : ((m : LintMode) (a : LintArguments) (r : List Row) (p : Pending) (wt : Waiting) → Premise m a r p wt → body (state r p wt false) ws ≡ [] → Conclusion m a ws) → (x : Text) → Kind x → body (waits r k) (x ∷ ws) ≡ [] → (c : LintArguments) × Gives a ((option_word k) ∷ x ∷ ws) c
+    go : ((m : LintMode) (a : LintArguments) (r : List Row) (p : Pending) (wt : Waiting) → Premise m a r p wt → body (state r p wt false) ws ≡ [] → Conclusion m a ws) → (x : Text) → Kind x → body (waits r k) (x ∷ ws) ≡ [] → (c : LintArguments) × GivesArguments a ((option_word k) ∷ x ∷ ws) c
     go ih _ k_dashes h = absurd (wants r k (settles_after ws r (Some (name_of k, [])) (option (name_of k))
         (sym (body_turn (waits r k) _ (codes "--") _ ws (turn_dashes r (Some (name_of k, [])) (option (name_of k)))) ∙ h)))
     go ih _ k_labels h = absurd (wants_labels r k (body_first (waits r k) _ ws h))
@@ -277,7 +277,7 @@ accepts_files (w ∷ ws) a r p wt e s =
     go_on _ _ w _ ws (with_files (w ∷ ws) a) (turn_after r p wt w) e
     (subst S (append_assoc a.files (w ∷ []) ws) (accepts_files ws (with_files (w ∷ []) a) (after r p) (Some (codes "files", w ∷ [])) positional refl (show_file (after r p) a w s)))
 
-accepts : {a c : LintArguments} {ws : List Text} → Gives a ws c → (r : List Row) (p : Pending) (wt : Waiting) → Open wt → pending_fault r p ≡ [] → Shows (after r p) a →
+accepts : {a c : LintArguments} {ws : List Text} → GivesArguments a ws c → (r : List Row) (p : Pending) (wt : Waiting) → Open wt → pending_fault r p ≡ [] → Shows (after r p) a →
     Accepted (state r p wt false) ws c
 accepts no_more r p wt o e s = (body_end r p wt _ ∙ e, s)
 accepts (dashes {given = a} {files = ws}) r p wt o e s = go_on _ _ (codes "--") _ ws (with_files ws a) (turn_dashes r p wt) refl (accepts_files ws a r p wt e s)
@@ -378,7 +378,7 @@ shows_nothing = record { options = λ k. elim k as (λ j. row_at (name_of j) [] 
 
 -- the words give this, and a file is among it
 abbrev pub Whole : List Word → LintArguments → Type 0
-Whole words c = Gives nothing words c × (c.files ≢ [])
+Whole words c = GivesArguments nothing words c × (c.files ≢ [])
 
 -- words of the grammar have no fault
 pub taken : (l : Text) (ws : List Text) (c : LintArguments) → Whole ws c → fault_of lint_app (l ∷ ws) ≡ []

@@ -9,7 +9,7 @@ use Rattle.std.proofs.lemmas.Fmt.{decimal_injective}
 use Rattle.clap.specs.Words.{fault_of}
 use Rattle.clap.proofs.OnLiterals.{clap_on_literals}
 use Rattle.lf_words.specs.Lint.{Word, Workers, Format, no_more, dashes, labels, value_next, value_joined, file}
-use Rattle.lf_words.specs.Grammar.{IsNumber, IsWorkers, Asks, lint, gen}
+use Rattle.lf_words.specs.Grammar.{IsDecimal, IsWorkers, Asks, lint, gen}
 use Rattle.lf_words.specs.declared.options.Options.{Options}
 use Rattle.lf_words.specs.declared.options.Options.TheVariants.{Lint, Gen}
 use Rattle.lf_words.specs.views.Commands.{lint_app, first_value}
@@ -115,10 +115,10 @@ unfolding clap_on_literals
 no_value = outside (codes "f" ∷ codes "--workers" ∷ []) refl
 
 -- a number doesn't begin with a sign or with 0
-begins : (byte : ℕ) → byte ≤ 48 → {highest : ℕ} → highest < 2 ^ 32 → (word : Word) → starts_with nat_eq word (byte ∷ []) ≡ true → (n : ℕ) → IsNumber highest word n → ⊥
+begins : (byte : ℕ) → byte ≤ 48 → {highest : ℕ} → highest < 2 ^ 32 → (word : Word) → starts_with nat_eq word (byte ∷ []) ≡ true → (n : ℕ) → IsDecimal highest word n → ⊥
 begins byte low fits word t n i = absurd (true≢false (sym t ∙ number_begins fits i byte low))
 
-no_workers : (words : List Word) (word : Word) → first_value lint_app (codes "workers") (codes "lint" ∷ words) ≡ Some word → ((n : ℕ) → IsNumber 64 word n → ⊥) → Nothing (codes "lint" ∷ words)
+no_workers : (words : List Word) (word : Word) → first_value lint_app (codes "workers") (codes "lint" ∷ words) ≡ Some word → ((n : ℕ) → IsDecimal 64 word n → ⊥) → Nothing (codes "lint" ∷ words)
 no_workers words word is none options asks =
     let found = found_lint asks refl in
     let P : Option Word → Type 0 = λ o. IsWorkers o found.workers in none found.workers (subst P is found.are_workers)
@@ -144,7 +144,7 @@ unfolding clap_on_literals
 dash_is_no_number = no_workers (codes "--workers" ∷ codes "-" ∷ codes "f" ∷ []) (codes "-") refl (begins 45 (omega arith) (omega arith) (codes "-") refl)
 
 -- the word is this number, which is too high
-too_high : {highest number : ℕ} → highest < number → number < 2 ^ 64 → (word : Word) → word ≡ decimal number → (n : ℕ) → IsNumber highest word n → ⊥
+too_high : {highest number : ℕ} → highest < number → number < 2 ^ 64 → (word : Word) → word ≡ decimal number → (n : ℕ) → IsDecimal highest word n → ⊥
 too_high {highest} {number} above fits word is n i =
     let same : number ≡ n = decimal_injective number n fits (omega (arith, i.most)) (sym is ∙ i.written) in absurd (omega (arith, same, i.most))
 
@@ -160,14 +160,14 @@ written_4001 : codes "4001" ≡ decimal 4001
 unfolding digits
 written_4001 = refl
 
-no_size : (word : Word) → ((n : ℕ) → IsNumber 4000 word n → ⊥) → Nothing (codes "gen" ∷ word ∷ [])
+no_size : (word : Word) → ((n : ℕ) → IsDecimal 4000 word n → ⊥) → Nothing (codes "gen" ∷ word ∷ [])
 no_size word none options asks = go asks refl
   where
     go : {words : List Word} {any : Options} → Asks words any → words ≡ codes "gen" ∷ word ∷ [] → ⊥
     go (lint gives some are is) e = absurd cc
     go (gen {word = w} {n} i) e =
         let same : w ≡ word = same_Some _ _ (ap (λ (ws : List Word). slice_get ws 1) e) in
-        let P : Word → Type 0 = λ x. IsNumber 4000 x n in none n (subst P same i)
+        let P : Word → Type 0 = λ x. IsDecimal 4000 x n in none n (subst P same i)
 
 gen_0 : Nothing (codes "gen" ∷ codes "0" ∷ [])
 gen_0 = no_size (codes "0") (begins 48 (omega arith) (omega arith) (codes "0") refl)

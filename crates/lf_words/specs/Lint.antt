@@ -51,18 +51,18 @@ abbrev pub IsOperand : Word → Type 0
 IsOperand word = (starts_with nat_eq word (codes "-") ≡ false) ⊎ (word ≡ codes "-")
 
 -- The first words gave something; together with the words behind them they give this.
-pub data Gives : LintArguments → List Word → LintArguments → Type 0 where
+pub data GivesArguments : LintArguments → List Word → LintArguments → Type 0 where
   -- No word more: it stays.
-  no_more : {given : LintArguments} → Gives given [] given
+  no_more : {given : LintArguments} → GivesArguments given [] given
   -- All words behind `--` are files.
-  dashes : {given : LintArguments} {files : List Word} → Gives given (codes "--" ∷ files) (with_files files given)
+  dashes : {given : LintArguments} {files : List Word} → GivesArguments given (codes "--" ∷ files) (with_files files given)
   -- `--labels`, where it wasn't given before.
-  labels : {given last : LintArguments} {words : List Word} → given.labels ≡ false → Gives (with_labels given) words last → Gives given (codes "--labels" ∷ words) last
+  labels : {given last : LintArguments} {words : List Word} → given.labels ≡ false → GivesArguments (with_labels given) words last → GivesArguments given (codes "--labels" ∷ words) last
   -- An option and its value as the next word, where the option wasn't given before.
   value_next : {given last : LintArguments} {words : List Word} (option : Valued) {value : Word} → value_of option given ≡ None → IsOperand value →
-      Gives (with_value option value given) words last → Gives given (option_word option ∷ value ∷ words) last
+      GivesArguments (with_value option value given) words last → GivesArguments given (option_word option ∷ value ∷ words) last
   -- An option, `=` and its value as one word, where the option wasn't given before.
   value_joined : {given last : LintArguments} {words : List Word} (option : Valued) (value : Word) → value_of option given ≡ None →
-      Gives (with_value option value given) words last → Gives given ((option_word option ++ codes "=" ++ value) ∷ words) last
+      GivesArguments (with_value option value given) words last → GivesArguments given ((option_word option ++ codes "=" ++ value) ∷ words) last
   -- A file.
-  file : {given last : LintArguments} {file : Word} {words : List Word} → IsOperand file → Gives (with_files (file ∷ []) given) words last → Gives given (file ∷ words) last
+  file : {given last : LintArguments} {file : Word} {words : List Word} → IsOperand file → GivesArguments (with_files (file ∷ []) given) words last → GivesArguments given (file ∷ words) last

@@ -15,7 +15,7 @@ use std::alloc::{AllocError, Global};
 
 /// What `clap` finds in words.
 #[derive(Drop)]
-pub struct Found<'a> {
+pub struct FoundArguments<'a> {
     pub workers: Option<&'a str>,
     pub format: Option<&'a str>,
     pub labels: bool,
@@ -61,7 +61,7 @@ pub fn read_lint(alloc: Global, words: &[String]) -> Result<Options, WordFault>
 }
 
 /// What `clap` finds in the words, of which the first is `lint`.
-fn find<'a>(alloc: Global, words: &'a [String]) -> Result<Found<'a>, WordFault>
+fn find<'a>(alloc: Global, words: &'a [String]) -> Result<FoundArguments<'a>, WordFault>
     ensures taken { IfOk result (λ _. fault_of lint_app (texts_of words.now) ≡ []) }
     ensures workers { IfOk result (λ found. (arguments_of found).workers ≡ first_value lint_app (codes "workers") (texts_of words.now)) }
     ensures format { IfOk result (λ found. (arguments_of found).format ≡ first_value lint_app (codes "format") (texts_of words.now)) }
@@ -75,7 +75,7 @@ fn find<'a>(alloc: Global, words: &'a [String]) -> Result<Found<'a>, WordFault>
             let format = matches.get_str("format");
             let labels = is_true(matches.get_str("labels"));
             let files = matches.get_raw("files").unwrap_or(&[]);
-            Ok(Found {
+            Ok(FoundArguments {
                 workers,
                 format,
                 labels,

@@ -1,6 +1,6 @@
 //! What was seen of the words of `lint`, from left to right.
 ghost use Rattle.std.specs.Prelude.{◌≡◌, ◌∷◌, List, [], true, false, None, IfSome, IfNone};
-ghost use Rattle.lf_words.specs.Lint.{Word, LintArguments, Gives, nothing, value_of, with_value};
+ghost use Rattle.lf_words.specs.Lint.{Word, LintArguments, GivesArguments, nothing, value_of, with_value};
 ghost use Rattle.lf_words.specs.views.Commands.{texts_of};
 ghost use Rattle.lf_words.specs.views.Asking.{named, begun, Keeps, Leads, Stands, Lints};
 ghost use Rattle.lf_words.specs.declared.seen.Next.TheVariants.{Any};
@@ -36,7 +36,7 @@ pub struct SeenWords<'a> {
 /// What is seen in all of the words behind `lint`, unless nothing can be asked for by words that begin so.
 pub fn seen_in(words: &[String]) -> Option<SeenWords<'_>>
     ensures some { IfSome result (λ seen. Stands (texts_of words.now) seen []) }
-    ensures none { IfNone result ((last : LintArguments) → Gives nothing (texts_of words.now) last → ⊥) }
+    ensures none { IfNone result ((last : LintArguments) → GivesArguments nothing (texts_of words.now) last → ⊥) }
 {
     let mut seen = SeenWords {
         workers: None,
@@ -66,7 +66,7 @@ pub fn is_whole(seen: SeenWords<'_>) -> bool
 /// What is seen with one word more, unless nothing can be asked for then.
 fn step<'a>(seen: SeenWords<'a>, word: &'a str) -> Option<SeenWords<'a>>
     ensures some { IfSome result (λ later. (words : List Word) → Leads seen.entry (word.now ∷ words) later words) }
-    ensures none { IfNone result ((words : List Word) (given last : LintArguments) → Keeps seen.entry given → Gives given (begun seen.entry.next (word.now ∷ words)) last → ⊥) }
+    ensures none { IfNone result ((words : List Word) (given last : LintArguments) → Keeps seen.entry given → GivesArguments given (begun seen.entry.next (word.now ∷ words)) last → ⊥) }
 {
     match seen.next {
         Next::Any => any_step(seen, word),
@@ -80,7 +80,7 @@ fn step<'a>(seen: SeenWords<'a>, word: &'a str) -> Option<SeenWords<'a>>
 fn any_step<'a>(seen: SeenWords<'a>, word: &'a str) -> Option<SeenWords<'a>>
     requires { seen.next ≡ Any }
     ensures some { IfSome result (λ later. (words : List Word) → Leads seen.entry (word.now ∷ words) later words) }
-    ensures none { IfNone result ((words : List Word) (given last : LintArguments) → Keeps seen.entry given → Gives given (word.now ∷ words) last → ⊥) }
+    ensures none { IfNone result ((words : List Word) (given last : LintArguments) → Keeps seen.entry given → GivesArguments given (word.now ∷ words) last → ⊥) }
 {
     match kind_of(word) {
         WordKind::Dashes => Some(SeenWords {

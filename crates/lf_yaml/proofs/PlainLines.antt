@@ -17,7 +17,7 @@ use Rattle.lf_yaml.specs.Rows.{ContentRow, is_mark, content_row}
 use Rattle.lf_yaml.specs.Flow.{line_on, flow_text, line_text, line_left, line_colon, colon_in, is_bare, is_spaces, is_flow_sign, goes_on, left_on}
 use Rattle.lf_yaml.specs.reading.Trees.{plain_line, Folded, before_text, plain_behind, plain_from}
 use Rattle.lf_yaml.specs.reading.FlowLines.{Steps, FoldsAs}
-use Rattle.lf_yaml.specs.declared.flow_plain.Folded.{Folded as Waiting}
+use Rattle.lf_yaml.specs.declared.flow_plain.PendingFlowBreak.{PendingFlowBreak}
 use Rattle.lf_yaml.proofs.FlowLines.{good}
 use Rattle.lf_yaml.proofs.PartCode.{behind-is}
 
@@ -148,17 +148,17 @@ module _ (break k : ℕ) (l : Line) where
 -- ---- the lines behind a line break
 
 -- what has been read of the lines behind a line break, and what is left
-pub record Onto (feed : ℕ) (all : List Line) (old now : List Cell) (folded : Waiting) (left : List Line) : Type 0 where
+pub record Onto (feed : ℕ) (all : List Line) (old now : List Cell) (folded : PendingFlowBreak) (left : List Line) : Type 0 where
   pub part : List Cell
   pub grown : now ≡ old ++ part
   pub same : plain_behind feed 0 all ≡ before_text part (plain_behind folded.at folded.blank left)
 
-module _ (feed : ℕ) (all : List Line) (old now : List Cell) (folded : Waiting) (l : Line) (left : List Line) (h : Onto feed all old now folded (l ∷ left)) where
+module _ (feed : ℕ) (all : List Line) (old now : List Cell) (folded : PendingFlowBreak) (l : Line) (left : List Line) (h : Onto feed all old now folded (l ∷ left)) where
   pub onto-wrong : (e : Refusal) (new : List Cell) → Steps folded l (Err e) now new → Fails e (plain_behind feed 0 all)
   onto-wrong refusal_of.Memory new s = tt
   onto-wrong (refusal_of.At kind place) new s = h.same ∙ ap (before_text h.part) (s left)
 
-pub onto-end : (feed : ℕ) (all : List Line) (old now : List Cell) (folded : Waiting) → Onto feed all old now folded [] → (part : List Cell) × (plain_behind feed 0 all ≡ good part folded.at) × (now ≡ old ++ part)
+pub onto-end : (feed : ℕ) (all : List Line) (old now : List Cell) (folded : PendingFlowBreak) → Onto feed all old now folded [] → (part : List Cell) × (plain_behind feed 0 all ≡ good part folded.at) × (now ≡ old ++ part)
 unfolding plain_behind
 onto-end feed all old now folded h = (h.part, h.same ∙ ap (λ (x : List Cell). good x folded.at) (append-nil h.part), h.grown)
 

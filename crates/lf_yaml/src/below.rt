@@ -14,7 +14,7 @@ use crate::entries::{Below, EntryRow};
 use crate::head::{byte_fault, indent, is_item, left};
 use crate::row::ContentLine;
 use crate::rows::next_row;
-use crate::source::Source;
+use crate::source::YamlSource;
 use lf_base::{Kind, Refusal};
 use lf_scalar::lines::{past, spaces};
 
@@ -52,7 +52,7 @@ fn is_tab(text: &[u8], place: usize) -> bool
 }
 
 /// The next row of a file from the start of a line on, and where the line behind it begins.
-pub fn first_row(source: Source<'_>, next: usize) -> Option<(ContentLine<'_>, usize)>
+pub fn first_row(source: YamlSource<'_>, next: usize) -> Option<(ContentLine<'_>, usize)>
     requires start { IsCharBoundary source.bytes.now next }
     ensures rows { MatchOption result (rows_after source.entry.bytes.now next ≡ []) (λ x. rows_after source.entry.bytes.now next ≡ shown x.0 ∷ rows_after source.entry.bytes.now x.1) }
     ensures row { IfSome result (λ x. IsRowOf source.entry.bytes.now x.0) }
@@ -63,7 +63,11 @@ pub fn first_row(source: Source<'_>, next: usize) -> Option<(ContentLine<'_>, us
 }
 
 /// The row on which the value of an item at an indent begins, where it stands below the item.
-pub fn row_below(source: Source<'_>, column: u32, next: usize) -> Option<(ContentLine<'_>, usize)>
+pub fn row_below(
+    source: YamlSource<'_>,
+    column: u32,
+    next: usize,
+) -> Option<(ContentLine<'_>, usize)>
     requires start { IsCharBoundary source.bytes.now next }
     ensures rows { MatchOption result (NoneBelow column (rows_after source.entry.bytes.now next)) (λ x. (column < indent_of (shown x.0)) × (rows_after source.entry.bytes.now next ≡ shown x.0 ∷ rows_after source.entry.bytes.now x.1)) }
     ensures row { IfSome result (λ x. IsRowOf source.entry.bytes.now x.0) }
@@ -83,7 +87,7 @@ pub fn row_below(source: Source<'_>, column: u32, next: usize) -> Option<(Conten
 }
 
 /// The row on which the value of an entry begins below the entry, where one does: with a larger indent, or an item at the same.
-pub fn row_beside(source: Source<'_>, column: u32, next: usize) -> Option<Below<'_>>
+pub fn row_beside(source: YamlSource<'_>, column: u32, next: usize) -> Option<Below<'_>>
     requires start { IsCharBoundary source.bytes.now next }
     ensures rows { MatchOption result (NothingBelow column (rows_after source.entry.bytes.now next)) (λ b. IsBelow b.own column (shown b.row) × (rows_after source.entry.bytes.now next ≡ shown b.row ∷ rows_after source.entry.bytes.now b.behind)) }
     ensures row { IfSome result (λ b. IsRowOf source.entry.bytes.now b.row) }

@@ -8,7 +8,7 @@ ghost use Rattle.lf_scalar.specs.Scalars.{value as scalar_value};
 ghost use Rattle.lf_yaml.specs.reading.Trees.{between_of};
 ghost use Rattle.lf_yaml.specs.views.Quoting.{style_of_quotes};
 
-use crate::source::Source;
+use crate::source::YamlSource;
 use lf_base::Refusal;
 use lf_base::bytes::before;
 use lf_scalar::quotes::Quotes;
@@ -26,7 +26,7 @@ fn style_of(quote: Quotes) -> Style
 
 /// The scalar between quotes that begins at an offset of a file. `inside` is what stands behind its quote on the line, where the closing quote is at a place.
 pub fn quoted_scalar(
-    source: Source<'_>,
+    source: YamlSource<'_>,
     at: u32,
     inside: &[u8],
     quote: Quotes,

@@ -14,7 +14,7 @@ use crate::entries::EntryRow;
 use crate::entry::{find_entry, opens_quote};
 use crate::head::{byte_fault, indent, indent_fault, is_item, row_fault};
 use crate::row::ContentLine;
-use crate::source::Source;
+use crate::source::YamlSource;
 use lf_base::{Kind, Refusal};
 
 /// Whether a row begins a block sequence or a block mapping.
@@ -28,7 +28,7 @@ pub fn begins_block(row: ContentLine<'_>) -> bool
 /// around it, its own, ends before a row there that is no item.
 #[tactic(auto, unfolding(crate::specs::reading::BlockTurns::item_turn))]
 pub fn next_item(
-    source: Source<'_>,
+    source: YamlSource<'_>,
     own: bool,
     column: u32,
     next: usize,
@@ -82,7 +82,7 @@ fn no_entry(row: ContentLine<'_>) -> Refusal
 /// The next entry of a mapping at an indent; none where the mapping ends.
 #[tactic(auto, unfolding(crate::specs::reading::BlockTurns::entry_turn))]
 pub fn next_entry(
-    source: Source<'_>,
+    source: YamlSource<'_>,
     column: u32,
     next: usize,
 ) -> Result<Option<EntryRow<'_>>, Refusal>

@@ -22,7 +22,7 @@ use crate::made::empty;
 use crate::nested::node;
 use crate::node::Node;
 use crate::row::ContentLine;
-use crate::source::Source;
+use crate::source::YamlSource;
 use lf_base::Refusal;
 use lf_scalar::lines::wrong_behind;
 use std::alloc::Global;
@@ -47,13 +47,13 @@ pub fn read_tree(alloc: Global, bytes: &[u8]) -> Result<Node, Refusal>
     ensures inside { IfOk result (λ n. Inside (length bytes.now) (tree n)) }
 {
     match check_characters(bytes) {
-        Ok(_) => document(Source { alloc, bytes }),
+        Ok(_) => document(YamlSource { alloc, bytes }),
         Err(refusal) => Err(refusal),
     }
 }
 
 /// The tree of a file whose characters are allowed.
-fn document(source: Source<'_>) -> Result<Node, Refusal>
+fn document(source: YamlSource<'_>) -> Result<Node, Refusal>
     ensures { AnswersAs tree result (document_of source.entry.bytes.now (document_rows source.entry.bytes.now)) }
 {
     match root_row(source) {
@@ -69,7 +69,7 @@ fn document(source: Source<'_>) -> Result<Node, Refusal>
 }
 
 /// The row on which the root begins, and where the line behind it begins.
-fn root_row(source: Source<'_>) -> Option<(ContentLine<'_>, usize)>
+fn root_row(source: YamlSource<'_>) -> Option<(ContentLine<'_>, usize)>
     ensures rows { MatchOption result (document_rows source.entry.bytes.now ≡ []) (λ x. document_rows source.entry.bytes.now ≡ shown x.0 ∷ rows_after source.entry.bytes.now x.1) }
     ensures row { IfSome result (λ x. IsRowOf source.entry.bytes.now x.0) }
     ensures start { IfSome result (λ x. IsCharBoundary source.entry.bytes.now x.1) }

@@ -21,7 +21,7 @@ use crate::node::{Entry, Node};
 use crate::parts::{behind, next_part};
 use crate::place::FlowCursor;
 use crate::row::ContentLine;
-use crate::source::Source;
+use crate::source::YamlSource;
 use crate::turn::Turn;
 use lf_base::{Kind, Refusal, Seq, Span};
 use lf_scalar::Scalar;
@@ -39,7 +39,7 @@ fn scalar_entry(key: Scalar, of: Scalar) -> Entry
 
 /// The key that a part begins, and the place of its `:` in the part. It is put into the set of the keys before it, to which it is new.
 fn new_key(
-    source: Source<'_>,
+    source: YamlSource<'_>,
     keys: &mut KeySet,
     part: ContentLine<'_>,
     next: usize,
@@ -69,7 +69,7 @@ fn new_key(
 
 /// The entry that a part begins, and the place behind it.
 fn entry_from<'a>(
-    source: Source<'a>,
+    source: YamlSource<'a>,
     keys: &mut KeySet,
     part: ContentLine<'a>,
     next: usize,
@@ -94,7 +94,7 @@ fn entry_from<'a>(
 
 /// What stands behind an entry: a comma, or the bracket that closes.
 fn entry_sign<'a>(
-    source: Source<'a>,
+    source: YamlSource<'a>,
     found: Entry,
     place: FlowCursor<'a>,
 ) -> Result<Turn<'a, Entry>, Refusal>
@@ -123,7 +123,7 @@ fn entry_sign<'a>(
 
 /// The entry that a part begins, and what stands behind it. The lines behind the part's own begin at `next`.
 fn entry_on<'a>(
-    source: Source<'a>,
+    source: YamlSource<'a>,
     keys: &mut KeySet,
     part: ContentLine<'a>,
     next: usize,
@@ -143,7 +143,7 @@ fn entry_on<'a>(
 /// What stands at a place of a flow mapping where an entry may begin.
 #[tactic(auto, unfolding(crate::specs::reading::Trees::mapping_in))]
 fn entry_turn<'a>(
-    source: Source<'a>,
+    source: YamlSource<'a>,
     keys: &mut KeySet,
     place: FlowCursor<'a>,
 ) -> Result<Turn<'a, Entry>, Refusal>
@@ -195,7 +195,7 @@ impl FlowParts for FlowEntries {
 
     fn turn<'a>(
         &mut self,
-        source: Source<'a>,
+        source: YamlSource<'a>,
         place: FlowCursor<'a>,
     ) -> Result<Turn<'a, Entry>, Refusal> {
         entry_turn(source, &mut self.keys, place)

@@ -16,7 +16,7 @@ use crate::part_scalar::read_part;
 use crate::parts::{behind, next_part};
 use crate::place::FlowCursor;
 use crate::row::ContentLine;
-use crate::source::Source;
+use crate::source::YamlSource;
 use crate::turn::Turn;
 use lf_base::{Refusal, Seq, Span};
 use lf_scalar::Scalar;
@@ -30,7 +30,7 @@ pub fn scalar_node(of: Scalar) -> Node
 
 /// What stands behind an item: a comma, or the bracket that closes.
 fn item_sign<'a>(
-    source: Source<'a>,
+    source: YamlSource<'a>,
     item: Scalar,
     place: FlowCursor<'a>,
 ) -> Result<Turn<'a, Node>, Refusal>
@@ -57,7 +57,7 @@ fn item_sign<'a>(
 
 /// The item that a part begins, and what stands behind it. The lines behind the part's own begin at `next`.
 fn item_on<'a>(
-    source: Source<'a>,
+    source: YamlSource<'a>,
     part: ContentLine<'a>,
     next: usize,
 ) -> Result<Turn<'a, Node>, Refusal>
@@ -73,7 +73,7 @@ fn item_on<'a>(
 
 /// What stands at a place of a flow sequence where an item may begin.
 #[tactic(auto, unfolding(crate::specs::reading::Trees::sequence_in))]
-fn item_turn<'a>(source: Source<'a>, place: FlowCursor<'a>) -> Result<Turn<'a, Node>, Refusal>
+fn item_turn<'a>(source: YamlSource<'a>, place: FlowCursor<'a>) -> Result<Turn<'a, Node>, Refusal>
     requires place { IsPlaceIn source.bytes.now place }
     ensures gives { (m : ℕ) → TurnsItems (λ at. sequence_in source.entry.bytes.now m at) result (sequence_in source.entry.bytes.now (suc m) place.entry.at) }
     ensures turn { IfOk result (λ t. IsTurnIn source.entry.bytes.now place.entry.at t) }
@@ -107,7 +107,7 @@ impl FlowParts for FlowItems {
 
     fn turn<'a>(
         &mut self,
-        source: Source<'a>,
+        source: YamlSource<'a>,
         place: FlowCursor<'a>,
     ) -> Result<Turn<'a, Node>, Refusal> {
         item_turn(source, place)

@@ -25,7 +25,7 @@ use crate::parts::{behind, next_part, place_from};
 use crate::place::FlowCursor;
 use crate::plain::slice_scalar;
 use crate::row::ContentLine;
-use crate::source::Source;
+use crate::source::YamlSource;
 use lf_base::bytes::before;
 use lf_base::{Kind, Refusal, Span};
 use lf_scalar::Scalar;
@@ -34,7 +34,7 @@ use lf_scalar::quotes::{Quotes, find_closing};
 use std::alloc::Global;
 
 /// What is told where no `:` stands behind a key: what is broken before the next part, or this part.
-fn no_sign(source: Source<'_>, place: FlowCursor<'_>) -> Refusal
+fn no_sign(source: YamlSource<'_>, place: FlowCursor<'_>) -> Refusal
     requires place { IsPlaceIn source.bytes.now place }
     ensures { Fails result (no_sign_of (next_on source.entry.bytes.now place.entry.at)) }
 {
@@ -66,7 +66,7 @@ fn bare_scalar(alloc: Global, part: ContentLine<'_>, place: usize) -> Result<Sca
 
 /// The key without quotes that a part begins, and the place of its `:` in the part. Some are left out. The lines behind the part's own begin at `next`.
 fn bare_key(
-    source: Source<'_>,
+    source: YamlSource<'_>,
     part: ContentLine<'_>,
     next: usize,
 ) -> Result<(Scalar, usize), Refusal>
@@ -97,7 +97,7 @@ fn bare_key(
 
 /// The scalar between quotes that a part begins and that closes on its line, and how many bytes of the part it takes.
 fn quoted_scalar_on(
-    source: Source<'_>,
+    source: YamlSource<'_>,
     part: ContentLine<'_>,
     quote: Quotes,
 ) -> Result<(Scalar, usize), Refusal>
@@ -119,7 +119,7 @@ fn quoted_scalar_on(
 
 /// The key between quotes that a part begins, and the place of its `:` in the part. It is left out where the `:` stands too far behind, whatever is between the quotes.
 fn quoted_key(
-    source: Source<'_>,
+    source: YamlSource<'_>,
     part: ContentLine<'_>,
     next: usize,
     quote: Quotes,
@@ -156,7 +156,7 @@ fn is_colon(text: &[u8], place: usize) -> bool
 /// The key that a part of a flow mapping begins, and the place of its `:` in the part. The lines behind the part's own begin at `next`.
 #[tactic(auto, unfolding(crate::specs::reading::Trees::flow_key))]
 pub fn flow_key(
-    source: Source<'_>,
+    source: YamlSource<'_>,
     part: ContentLine<'_>,
     next: usize,
 ) -> Result<(Scalar, usize), Refusal>

@@ -19,7 +19,7 @@ use crate::node::Node;
 use crate::parts::place_on;
 use crate::row::ContentLine;
 use crate::rows::lines_from;
-use crate::source::Source;
+use crate::source::YamlSource;
 use lf_base::{Kind, Refusal, Span};
 use lf_scalar::lines::{fault_at, past, wrong_behind};
 
@@ -46,7 +46,7 @@ fn closed_span(row: ContentLine<'_>, closing: ContentLine<'_>) -> Span
 
 /// The flow collection whose opening bracket a row begins with, and where the line behind it begins.
 fn closed<P: FlowParts>(
-    source: Source<'_>,
+    source: YamlSource<'_>,
     reader: &mut P,
     row: ContentLine<'_>,
     next: usize,
@@ -72,7 +72,7 @@ fn closed<P: FlowParts>(
 
 /// The flow sequence that a row begins. It is `TooDeep` where no collection may stand any more.
 pub fn flow_list(
-    source: Source<'_>,
+    source: YamlSource<'_>,
     depth: u32,
     row: ContentLine<'_>,
     next: usize,
@@ -92,7 +92,7 @@ pub fn flow_list(
 
 /// The flow mapping that a row begins. It is `TooDeep` where no collection may stand any more.
 pub fn flow_map(
-    source: Source<'_>,
+    source: YamlSource<'_>,
     depth: u32,
     row: ContentLine<'_>,
     next: usize,

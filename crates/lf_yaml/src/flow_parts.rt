@@ -11,7 +11,7 @@ ghost use Rattle.lf_yaml.specs.views.Shown.{shown};
 use crate::node::Node;
 use crate::place::FlowCursor;
 use crate::row::ContentLine;
-use crate::source::Source;
+use crate::source::YamlSource;
 use crate::turn::Turn;
 use lf_base::{Refusal, Seq, Span};
 
@@ -29,7 +29,7 @@ pub trait FlowParts {
     /// What stands at a place where a part may begin.
     fn turn<'a>(
         &mut self,
-        source: Source<'a>,
+        source: YamlSource<'a>,
         place: FlowCursor<'a>,
     ) -> Result<Turn<'a, Self::Part>, Refusal>
         requires place { IsPlaceIn source.bytes.now place }
@@ -43,7 +43,7 @@ pub trait FlowParts {
 
 /// The parts of a flow collection from the place behind its opening bracket on, its closing bracket, and where the lines behind that begin.
 pub fn flow_parts<'a, P: FlowParts>(
-    source: Source<'a>,
+    source: YamlSource<'a>,
     reader: &mut P,
     place: FlowCursor<'a>,
 ) -> Result<(Seq<P::Part>, ContentLine<'a>, usize), Refusal>

@@ -93,7 +93,7 @@ fn goes_on(line: &[u8], at: u32) -> bool
 
 /// A line break that waits for the line that goes on.
 #[derive(Clone, Copy)]
-pub struct Folded {
+pub struct PendingFlowBreak {
     /// Where it stands.
     pub at: u32,
     /// How many lines of spaces stand behind it.
@@ -101,9 +101,9 @@ pub struct Folded {
 }
 
 /// What a line behind a line break does.
-pub enum Step {
+pub enum LineStep {
     /// A line break waits behind it.
-    On { folded: Folded },
+    On { folded: PendingFlowBreak },
     /// The scalar ends, and the collection is read on at an offset.
     Ends { after: u32 },
 }
@@ -111,7 +111,7 @@ pub enum Step {
 /// Appends what a line break becomes and what the line behind it gives.
 fn push_next(
     builder: &mut ScalarBuilder,
-    folded: Folded,
+    folded: PendingFlowBreak,
     line: &[u8],
     at: u32,
 ) -> Result<Option<u32>, Refusal>
@@ -128,31 +128,31 @@ fn push_next(
 /// Takes the line behind a line break. `feed` is where the line's own line break stands.
 pub fn push_step(
     builder: &mut ScalarBuilder,
-    folded: Folded,
+    folded: PendingFlowBreak,
     line: &[u8],
     at: u32,
     feed: u32,
-) -> Result<Step, Refusal>
+) -> Result<LineStep, Refusal>
     requires room { at + length line.now ≤ 2 ^ 31 }
     requires few { folded.blank < 2 ^ 32 }
     ensures steps { Steps folded (line_at at line.now feed) result builder.old builder.new }
     ensures few { IfOk result (λ step. IsFew folded.blank step) }
 {
     if is_spaces(line) {
-        return Ok(Step::On {
-            folded: Folded {
+        return Ok(LineStep::On {
+            folded: PendingFlowBreak {
                 at: folded.at,
                 blank: folded.blank + 1,
             },
         });
     }
     if !goes_on(line, at) {
-        return Ok(Step::Ends { after: folded.at });
+        return Ok(LineStep::Ends { after: folded.at });
     }
     match push_next(builder, folded, line, at) {
-        Ok(Some(after)) => Ok(Step::Ends { after }),
-        Ok(None) => Ok(Step::On {
-            folded: Folded { at: feed, blank: 0 },
+        Ok(Some(after)) => Ok(LineStep::Ends { after }),
+        Ok(None) => Ok(LineStep::On {
+            folded: PendingFlowBreak { at: feed, blank: 0 },
         }),
         Err(refusal) => Err(refusal),
     }
@@ -170,7 +170,7 @@ pub fn push_behind(
     requires lines { 0 < length rest.now → at + length rest.now ≤ 2 ^ 31 }
     ensures { FoldsAs result builder.old builder.new (plain_behind feed 0 (lines_at at rest.now)) }
 {
-    let mut folded = Folded { at: feed, blank: 0 };
+    let mut folded = PendingFlowBreak { at: feed, blank: 0 };
     let mut place: usize = 0;
     while place < rest.len() {
         let left = past(rest, place);
@@ -178,8 +178,8 @@ pub fn push_behind(
         let start = at + place as u32;
         let text = before(left, end.text);
         match push_step(builder, folded, text, start, start + end.feed as u32) {
-            Ok(Step::On { folded: next }) => folded = next,
-            Ok(Step::Ends { after }) => return Ok(after),
+            Ok(LineStep::On { folded: next }) => folded = next,
+            Ok(LineStep::Ends { after }) => return Ok(after),
             Err(refusal) => return Err(refusal),
         }
         place += end.feed + 1;

@@ -12,7 +12,7 @@ use crate::part_scalar::read_part;
 use crate::parts::next_part;
 use crate::place::FlowCursor;
 use crate::plain::slice_scalar;
-use crate::source::Source;
+use crate::source::YamlSource;
 use lf_base::{Refusal, Span};
 use lf_scalar::Scalar;
 use std::alloc::Global;
@@ -35,7 +35,7 @@ pub fn missing_value(alloc: Global, at: u32) -> Result<Scalar, Refusal>
 /// The value of an entry of a flow mapping whose `:` stands at an offset, and the place behind it. A value that is missing, before a `,` or a `}`, is the empty text.
 #[tactic(auto, unfolding(crate::specs::reading::Trees::flow_value))]
 pub fn flow_value<'a>(
-    source: Source<'a>,
+    source: YamlSource<'a>,
     colon: u32,
     place: FlowCursor<'a>,
 ) -> Result<(Scalar, FlowCursor<'a>), Refusal>

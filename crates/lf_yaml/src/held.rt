@@ -11,7 +11,7 @@ use crate::between::quoted_scalar;
 use crate::entries::Key;
 use crate::plain::slice_scalar;
 use crate::row::ContentLine;
-use crate::source::Source;
+use crate::source::YamlSource;
 use lf_base::bytes::before;
 use lf_base::{Refusal, Span};
 use lf_scalar::Scalar;
@@ -19,7 +19,7 @@ use lf_scalar::lines::past;
 
 /// The scalar of a key that a row of a file begins with. A key without quotes is its text, `null` and `~` too.
 #[tactic(auto, unfolding(crate::specs::reading::Trees::key_of))]
-pub fn key_scalar(source: Source<'_>, row: ContentLine<'_>, key: Key) -> Result<Scalar, Refusal>
+pub fn key_scalar(source: YamlSource<'_>, row: ContentLine<'_>, key: Key) -> Result<Scalar, Refusal>
     requires row { IsRowOf source.bytes.now row }
     requires key { IsKeyIn row.at row.text.now key }
     ensures { AnswersAs scalar_value result (key_of (shown row.entry).first (shown row.entry).rest (key_of_code row.entry.at row.entry.text.now key)) }

@@ -23,7 +23,7 @@ use crate::new_keys::new_key;
 use crate::node::{Entry, Node};
 use crate::row::ContentLine;
 use crate::row_value::value;
-use crate::source::Source;
+use crate::source::YamlSource;
 use lf_base::{Kind, Refusal, Seq};
 
 /// The node that begins on a row of a file, and where the line behind it begins. The lines behind the row's own begin at `next`.
@@ -32,7 +32,7 @@ use lf_base::{Kind, Refusal, Seq};
 /// sequence at the indent of the mapping around it.
 #[cycle(read)]
 pub fn node(
-    source: Source<'_>,
+    source: YamlSource<'_>,
     depth: u32,
     own: bool,
     above: u32,
@@ -68,7 +68,7 @@ pub fn node(
 /// The value of an item at an indent. What stands behind its sign on the row may itself be an item or an entry; else the next row decides.
 #[cycle(read)]
 fn item_value(
-    source: Source<'_>,
+    source: YamlSource<'_>,
     depth: u32,
     row: ContentLine<'_>,
     next: usize,
@@ -96,7 +96,7 @@ fn item_value(
 /// The items of a sequence from a row on, and where the line behind them begins.
 #[cycle(read)]
 fn items(
-    source: Source<'_>,
+    source: YamlSource<'_>,
     depth: u32,
     own: bool,
     row: ContentLine<'_>,
@@ -123,7 +123,7 @@ fn items(
 
 /// A scalar or a flow collection on the row of its key. An item or an entry may not begin there.
 fn value_here(
-    source: Source<'_>,
+    source: YamlSource<'_>,
     depth: u32,
     column: u32,
     left: ContentLine<'_>,
@@ -146,7 +146,7 @@ fn value_here(
 /// The value of an entry of a mapping at an indent. What stands behind its `:` on the row is a scalar or a flow collection; else the next row decides.
 #[cycle(read)]
 fn entry_value(
-    source: Source<'_>,
+    source: YamlSource<'_>,
     depth: u32,
     column: u32,
     entry: EntryRow<'_>,
@@ -177,7 +177,7 @@ fn entry_value(
 /// An entry of a mapping at an indent, whose key is none of those before.
 #[cycle(read)]
 fn one_entry(
-    source: Source<'_>,
+    source: YamlSource<'_>,
     depth: u32,
     column: u32,
     keys: &KeySet,
@@ -197,7 +197,7 @@ fn one_entry(
 /// The entries of a mapping from one on, and where the line behind them begins.
 #[cycle(read)]
 fn entries(
-    source: Source<'_>,
+    source: YamlSource<'_>,
     depth: u32,
     entry: EntryRow<'_>,
 ) -> Result<(Seq<Entry>, usize), Refusal>

@@ -10,13 +10,17 @@ ghost use Rattle.lf_yaml.specs.reading.BlockTurns.{new_key as new_key_of, IsEntr
 use crate::entries::EntryRow;
 use crate::held::key_scalar;
 use crate::key_set::KeySet;
-use crate::source::Source;
+use crate::source::YamlSource;
 use lf_base::{Kind, Refusal};
 use lf_scalar::Scalar;
 
 /// The key of an entry, whose text is none of those before. A text that is one of them is a `DoubleKey` at the key.
 #[tactic(auto, unfolding(crate::specs::reading::BlockTurns::new_key))]
-pub fn new_key(source: Source<'_>, keys: &KeySet, entry: EntryRow<'_>) -> Result<Scalar, Refusal>
+pub fn new_key(
+    source: YamlSource<'_>,
+    keys: &KeySet,
+    entry: EntryRow<'_>,
+) -> Result<Scalar, Refusal>
     requires entry { IsEntryRow source.bytes.now entry }
     ensures { (texts : List (List ℕ)) → HasKeys keys.now texts → AnswersAs scalar_value result (new_key_of texts (shown entry.entry.row) (headed entry.entry.row.at entry.entry.row.text.now entry.entry.head)) }
 {

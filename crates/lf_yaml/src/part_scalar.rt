@@ -19,7 +19,7 @@ use crate::head::byte_fault;
 use crate::parts::place_from;
 use crate::place::FlowCursor;
 use crate::row::ContentLine;
-use crate::source::Source;
+use crate::source::YamlSource;
 use lf_base::{Kind, Refusal};
 use lf_scalar::Scalar;
 use lf_scalar::builder::ScalarBuilder;
@@ -28,7 +28,7 @@ use lf_scalar::quotes::{Quotes, find_closing};
 
 /// The scalar between quotes that a part begins, and the place behind it. It may close on a later line.
 fn quoted_part<'a>(
-    source: Source<'a>,
+    source: YamlSource<'a>,
     part: ContentLine<'a>,
     next: usize,
     quote: Quotes,
@@ -55,7 +55,7 @@ fn quoted_part<'a>(
 /// Appends what the lines of a plain scalar give that a part begins, and tells where the collection is read on.
 fn push_plain(
     builder: &mut ScalarBuilder,
-    source: Source<'_>,
+    source: YamlSource<'_>,
     part: ContentLine<'_>,
 ) -> Result<u32, Refusal>
     requires within { part.at < length source.bytes.now }
@@ -76,7 +76,7 @@ fn push_plain(
 
 /// The plain scalar that a part begins, and the place behind it. It may go on over later lines.
 fn plain_part<'a>(
-    source: Source<'a>,
+    source: YamlSource<'a>,
     part: ContentLine<'a>,
     next: usize,
 ) -> Result<(Scalar, FlowCursor<'a>), Refusal>
@@ -101,7 +101,7 @@ fn plain_part<'a>(
 /// The scalar that a part of a flow collection begins, and the place behind it. The lines behind the part's own begin at `next`.
 #[tactic(auto, unfolding(crate::specs::reading::Trees::flow_scalar))]
 pub fn read_part<'a>(
-    source: Source<'a>,
+    source: YamlSource<'a>,
     part: ContentLine<'a>,
     next: usize,
 ) -> Result<(Scalar, FlowCursor<'a>), Refusal>

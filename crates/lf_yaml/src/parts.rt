@@ -10,12 +10,12 @@ use crate::head::{first_fault, indent_fault, is_mark};
 use crate::place::FlowCursor;
 use crate::row::ContentLine;
 use crate::rows::{line_of, next_row};
-use crate::source::Source;
+use crate::source::YamlSource;
 use lf_base::{Kind, Refusal, Span};
 use lf_scalar::lines::{blanks, past};
 
 /// The part that begins on a later line, at its first character. The line may have any indent, but no tab behind it, and is no mark. The file doesn't end before it.
-pub fn on_line(source: Source<'_>, next: usize) -> Result<(ContentLine<'_>, usize), Refusal>
+pub fn on_line(source: YamlSource<'_>, next: usize) -> Result<(ContentLine<'_>, usize), Refusal>
     requires start { IsCharBoundary source.bytes.now next }
     ensures next { IsNext result (on_line_of (length source.entry.bytes.now) (rows_after source.entry.bytes.now next)) }
     ensures part { IfOk result (λ x. IsPartIn source.entry.bytes.now x.0 x.1) }
@@ -43,7 +43,7 @@ pub fn on_line(source: Source<'_>, next: usize) -> Result<(ContentLine<'_>, usiz
 /// The next part from a place on, and where the lines behind its own begin: blanks are skipped, and a comment, whose `#` stands behind a blank.
 #[tactic(auto, unfolding(crate::specs::Flow::next_on))]
 pub fn next_part<'a>(
-    source: Source<'a>,
+    source: YamlSource<'a>,
     place: FlowCursor<'a>,
 ) -> Result<(ContentLine<'a>, usize), Refusal>
     requires place { IsPlaceIn source.bytes.now place }
@@ -84,7 +84,7 @@ pub fn behind(part: ContentLine<'_>, len: usize, next: usize) -> FlowCursor<'_>
 }
 
 /// The place at an offset of a file where a character begins.
-pub fn place_on(source: Source<'_>, at: u32) -> FlowCursor<'_>
+pub fn place_on(source: YamlSource<'_>, at: u32) -> FlowCursor<'_>
     requires start { IsCharBoundary source.bytes.now at }
     ensures at { result.at ≡ at }
     ensures place { IsPlaceIn source.entry.bytes.now result }
@@ -108,7 +108,7 @@ pub fn place_on(source: Source<'_>, at: u32) -> FlowCursor<'_>
 
 /// The place at an offset behind a part's first byte, on the part's line or on a later one. The lines behind the part's own begin at `next`.
 pub fn place_from<'a>(
-    source: Source<'a>,
+    source: YamlSource<'a>,
     part: ContentLine<'a>,
     next: usize,
     at: u32,

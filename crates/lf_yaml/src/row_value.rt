@@ -16,7 +16,7 @@ use crate::node::Node;
 use crate::row::ContentLine;
 use crate::rows::lines_from;
 use crate::scalars::{begins_scalar, scalar};
-use crate::source::Source;
+use crate::source::YamlSource;
 use lf_base::Refusal;
 
 /// The indent of a parent whose values have at least so many spaces on their later lines, -1 where they need none.
@@ -29,7 +29,7 @@ fn parent_of(above: u32) -> i32
 
 /// The scalar that a row begins, and where the line begins behind it.
 fn scalar_value(
-    source: Source<'_>,
+    source: YamlSource<'_>,
     row: ContentLine<'_>,
     next: usize,
     above: u32,
@@ -56,7 +56,7 @@ fn scalar_value(
 /// The later lines of a plain or block scalar have at least `above` spaces, and `depth` is how many collections may stand one in another from here on: a flow collection is `TooDeep` where that is 0.
 #[tactic(auto, unfolding(crate::specs::reading::Trees::value_on))]
 pub fn value(
-    source: Source<'_>,
+    source: YamlSource<'_>,
     row: ContentLine<'_>,
     next: usize,
     above: u32,

@@ -9,7 +9,7 @@ ghost use Rattle.lf_yaml.specs.views.Shown.{shown};
 ghost use Rattle.lf_yaml.specs.views.Cursor.{rows_after};
 
 use crate::row::ContentLine;
-use crate::source::Source;
+use crate::source::YamlSource;
 use lf_base::bytes::before;
 use lf_scalar::lines::{line_end, past, spaces};
 
@@ -43,7 +43,7 @@ pub struct LineOf<'a> {
 }
 
 /// The line that begins at an offset of a file.
-pub fn line_of(source: Source<'_>, from: usize) -> LineOf<'_>
+pub fn line_of(source: YamlSource<'_>, from: usize) -> LineOf<'_>
     requires within { from < length source.bytes.now }
     ensures rows { (feed : ℕ) × (rows_after source.entry.bytes.now from ≡ content_row (line (cells from result.text.now) feed) ++ rows_after source.entry.bytes.now result.behind) }
     ensures rest { cells from result.text.now ≡ (line_on source.entry.bytes.now from).text }
@@ -67,7 +67,7 @@ pub fn line_of(source: Source<'_>, from: usize) -> LineOf<'_>
 }
 
 /// The next row from an offset on, at which a line begins, and where the line behind it begins. None where no row is left.
-pub fn next_row(source: Source<'_>, from: usize) -> Option<(ContentLine<'_>, usize)>
+pub fn next_row(source: YamlSource<'_>, from: usize) -> Option<(ContentLine<'_>, usize)>
     requires start { IsCharBoundary source.bytes.now from }
     ensures rows { MatchOption result (rows_after source.entry.bytes.now from ≡ []) (λ x. rows_after source.entry.bytes.now from ≡ shown x.0 ∷ rows_after source.entry.bytes.now x.1) }
     ensures boundary { IfSome result (λ x. IsCharBoundary source.entry.bytes.now x.0.at) }
@@ -89,7 +89,7 @@ pub fn next_row(source: Source<'_>, from: usize) -> Option<(ContentLine<'_>, usi
 }
 
 /// Where the first line begins at an offset or behind it, from the start of a line on.
-pub fn lines_from(source: Source<'_>, from: usize, offset: usize) -> usize
+pub fn lines_from(source: YamlSource<'_>, from: usize, offset: usize) -> usize
     requires start { IsCharBoundary source.bytes.now from }
     ensures rows { rows_after source.entry.bytes.now result ≡ rows_from offset (rows_after source.entry.bytes.now from) }
     ensures start { IsCharBoundary source.entry.bytes.now result }

@@ -12,7 +12,7 @@ ghost use Rattle.lf_yaml.specs.views.Cursor.{IsRowOf};
 use crate::entry::begins_plain;
 use crate::head::is_left_out;
 use crate::row::ContentLine;
-use crate::source::Source;
+use crate::source::YamlSource;
 use lf_base::Refusal;
 use lf_scalar::{Scalar, Style, read_scalar};
 
@@ -50,7 +50,7 @@ pub fn begins_scalar(row: ContentLine<'_>) -> bool
 }
 
 /// The scalar that a row begins, as a value whose parent has an indent, -1 at the root.
-pub fn scalar(source: Source<'_>, row: ContentLine<'_>, parent: i32) -> Result<Scalar, Refusal>
+pub fn scalar(source: YamlSource<'_>, row: ContentLine<'_>, parent: i32) -> Result<Scalar, Refusal>
     requires row { IsRowOf source.bytes.now row }
     requires begins { begins_scalar_of (shown row) ≡ true }
     ensures { AnswersAs scalar_value result (scalar_on source.entry.bytes.now (least_above parent) (shown row.entry)) }

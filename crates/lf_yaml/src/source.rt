@@ -6,7 +6,7 @@ use std::alloc::Global;
 
 /// A file whose text is read, and where its nodes are put.
 #[derive(Clone, Copy)]
-pub struct Source<'a> {
+pub struct YamlSource<'a> {
     /// Where the nodes are put.
     pub alloc: Global,
     /// The file's bytes.

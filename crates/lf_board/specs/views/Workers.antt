@@ -1,7 +1,7 @@
 -- What workers are given, and what they have done.
 use Rattle.std.specs.Prelude.{◌≡◌, ℕ, ◌+◌, ◌<◌, ◌≤◌, true, false, List, [], Ok, All}
 use Rattle.lf_board.specs.declared.pieces.Piece.{Piece}
-use Rattle.lf_board.specs.declared.workers.Done.{Done}
+use Rattle.lf_board.specs.declared.workers.DonePieces.{DonePieces}
 use Rattle.lf_board.specs.Pieces.{Work, numbers_of}
 use Rattle.lf_board.specs.Seats.{BoardFacts, SeatFacts}
 
@@ -22,5 +22,5 @@ abbrev pub IsWorkOf : {F T : Type 0} → Work F T → F → List (Piece T) → T
 IsWorkOf g work pieces = All (λ p. g.post work (p.number, tt) (Ok p.value)) pieces
 
 -- The seat of workers was this one, its claims are now the pieces, and the work gives the value of each.
-abbrev pub IsDone : {F T : Type 0} → Work F T → F → SeatFacts → Done T → Type 0
+abbrev pub IsDone : {F T : Type 0} → Work F T → F → SeatFacts → DonePieces T → Type 0
 IsDone g work seat done = (done.seat ≡ closed_with seat (numbers_of done.pieces.items)) × IsWorkOf g work done.pieces.items

@@ -4,12 +4,12 @@ use Rattle.std.specs.List.{Contains}
 use Rattle.lf_laws.specs.Ascending.{AreAscending}
 use Rattle.lf_graph.specs.Paths.{Leads, after}
 use Rattle.lf_graph.specs.declared.search.Edge.{Edge}
-use Rattle.lf_graph.specs.declared.search.Node.{Node}
-use Rattle.lf_graph.specs.declared.search.Node.TheVariants.{Unmet, Open, Closed}
+use Rattle.lf_graph.specs.declared.search.NodeState.{NodeState}
+use Rattle.lf_graph.specs.declared.search.NodeState.TheVariants.{Unmet, Open, Closed}
 use Rattle.lf_graph.specs.declared.search.Search.{Search}
 
 -- what is known of a node
-abbrev pub state_of : Search → ℕ → Node
+abbrev pub state_of : Search → ℕ → NodeState
 state_of s u = slice_index_or s.nodes.items u Unmet
 
 -- the open node at a place
@@ -89,13 +89,13 @@ pub record TakesDue (s later : Search) (node : ℕ) : Type 0 where
   pub to : to_at s.due.items (length s.due.items - 1) ≡ node
 
 -- these nodes are closed, and nothing else is changed
-pub record IsClosing (number : ℕ) (members : List ℕ) (nodes later : List Node) : Type 0 where
+pub record IsClosing (number : ℕ) (members : List ℕ) (nodes later : List NodeState) : Type 0 where
   pub count : length later ≡ length nodes
   pub closed : (u : ℕ) → Contains members u → slice_index_or later u Unmet ≡ Closed number
   pub kept : (u : ℕ) → (Contains members u → ⊥) → slice_index_or later u Unmet ≡ slice_index_or nodes u Unmet
 
 -- the node is met
-abbrev pub weight : Node → ℕ
+abbrev pub weight : NodeState → ℕ
 weight Unmet = 1
 weight (Open p) = 0
 weight (Closed c) = 0
@@ -104,13 +104,13 @@ abbrev pub IsMet : Search → ℕ → Type 0
 IsMet s u = weight (state_of s u) ≡ 0
 
 -- the number of a closed node
-abbrev pub number_in : Node → ℕ
+abbrev pub number_in : NodeState → ℕ
 number_in (Closed c) = c
 number_in (Open p) = 0
 number_in Unmet = 0
 
 -- how many edges and parts there are yet to come of nodes that aren't met
-abbrev pub to_come : List Node → List (List ℕ) → ℕ
+abbrev pub to_come : List NodeState → List (List ℕ) → ℕ
 to_come [] lists = 0
 to_come (node ∷ nodes) [] = 0
 to_come (Unmet ∷ nodes) (xs ∷ lists) = length xs + 2 + to_come nodes lists

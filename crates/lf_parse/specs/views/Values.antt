@@ -2,13 +2,13 @@
 use Rattle.std.specs.Prelude.{ℕ, List, map, reverse, Option, Some, None}
 use Rattle.std.specs.Borrow.{Bor}
 use Rattle.std.specs.Char.{to_ascii_lowercase}
-use Rattle.lf_parse.specs.declared.class.Class.{Class}
+use Rattle.lf_parse.specs.declared.class.WordClass.{WordClass}
 use Rattle.lf_parse.specs.declared.mark.Mark.{Mark as MarkOf}
 use Rattle.lf_parse.specs.declared.mark.Mark.TheVariants as marks
 use Rattle.lf_parse.specs.declared.mark.MarkedToken.{MarkedToken as MarkedTokenOf}
 use Rattle.lf_parse.specs.declared.nesting.Nesting.{Nesting as NestingOf}
-use Rattle.lf_parse.specs.declared.step.Step.{Step as StepOf}
-use Rattle.lf_parse.specs.declared.step.Step.TheVariants as steps
+use Rattle.lf_parse.specs.declared.step.ParserStep.{ParserStep as StepOf}
+use Rattle.lf_parse.specs.declared.step.ParserStep.TheVariants as steps
 use Rattle.lf_parse.specs.declared.names.Names.{Names as NamesOf}
 use Rattle.lf_parse.specs.declared.names.Names.TheVariants as names
 use Rattle.lf_parse.specs.declared.braces.Braces.{Braces as BracesOf}
@@ -36,11 +36,11 @@ use Rattle.lf_ast.specs.declared.expr.Expr.{Expr}
 use Rattle.lf_ast.specs.Tree.{Tree, tree, trees}
 use Rattle.lf_parse.specs.Depth.{Nesting}
 use Rattle.lf_parse.specs.Grammar.{Mod, OffsetBy, AtTime}
-use Rattle.lf_parse.specs.reading.Machine.{Step, More, Done, DoneBefore, Reject, Names, Opening, NextName, AfterName, Braces, NextMatcher, AfterLabel, AfterSign, AfterMatcher, Front, front, Stage, Begin, AfterBool, InLabels, AfterLabels, AfterGroup, InInclude, ModStage, AfterOffset, AfterOffsetMinus, AfterAt, AfterAtSign, AfterEdge, InEdge, Callee, OfCall, OfAggregate, OfGrouped, ParserFrame, LeftOf, Signed, InParen, InArgs, Subject, OfSelector, OfSubquery, Operand, Whole, Bare, Selected, Aggregated, Sighted, ParserMode, ExpectOperand, First, ExpectOperator, Modifying, InBraces, InMod, AfterBracket, AfterRange, AfterColon, AfterStep, AfterAggregation, InGrouping, AfterGrouping, InGroupingBehind, State, state}
+use Rattle.lf_parse.specs.reading.Machine.{ParserStep, More, Done, DoneBefore, Reject, Names, Opening, NextName, AfterName, Braces, NextMatcher, AfterLabel, AfterSign, AfterMatcher, Front, front, Stage, Begin, AfterBool, InLabels, AfterLabels, AfterGroup, InInclude, ModStage, AfterOffset, AfterOffsetMinus, AfterAt, AfterAtSign, AfterEdge, InEdge, Callee, OfCall, OfAggregate, OfGrouped, ParserFrame, LeftOf, Signed, InParen, InArgs, Subject, OfSelector, OfSubquery, Operand, Whole, Bare, Selected, Aggregated, Sighted, ParserMode, ExpectOperand, First, ExpectOperator, Modifying, InBraces, InMod, AfterBracket, AfterRange, AfterColon, AfterStep, AfterAggregation, InGrouping, AfterGrouping, InGroupingBehind, ParserState, state}
 use Rattle.lf_parse.specs.Tokens.{Mark, Word, Metric, Num, Dur, Quoted, Sign, MarkedToken, ◌at◌}
 
 -- a table of words, each in lower case
-abbrev pub entries : List (Bor (List ℕ) × Class) → List (List ℕ × Class)
+abbrev pub entries : List (Bor (List ℕ) × WordClass) → List (List ℕ × WordClass)
 entries es = map (λ e. (map to_ascii_lowercase e.0.now, e.1)) es
 
 -- ---- tokens
@@ -64,7 +64,7 @@ nesting_of n = record { here = n.here; around = reverse n.around.items; braces =
 
 -- ---- parts inside which no expression stands
 
-abbrev pub step_of : {S V X Y : Type 0} → (S → X) → (V → Y) → StepOf S V → Step X Y
+abbrev pub step_of : {S V X Y : Type 0} → (S → X) → (V → Y) → StepOf S V → ParserStep X Y
 step_of f g (steps.More s) = More (f s)
 step_of f g (steps.Done v) = Done (g v)
 step_of f g (steps.DoneBefore v) = DoneBefore (g v)
@@ -156,7 +156,7 @@ mode_of (modes.AfterGrouping a p g) = AfterGrouping a p g
 mode_of (modes.InGroupingBehind a p es k n) = InGroupingBehind a p (trees es) k (names_of n)
 
 -- the state, or none where the token can't stand there
-abbrev pub next : List ParserFrameOf → Option ParserModeOf → Option State
+abbrev pub next : List ParserFrameOf → Option ParserModeOf → Option ParserState
 next fs None = None
 next fs (Some m) = Some (state (frames_of fs) (mode_of m))
 

@@ -7,8 +7,8 @@ use Rattle.std.specs.Str.{chars}
 use Rattle.lf_pattern.specs.Matching.{matches}
 use Rattle.lf_pattern.specs.Read.{found_group}
 use Rattle.lf_pattern.specs.Scan.{alternatives_of, has_pair, is_quiet}
-use Rattle.lf_pattern.specs.declared.replacement.Piece.{Piece}
-use Rattle.lf_pattern.specs.declared.replacement.Piece.TheVariants.{Char, Group}
+use Rattle.lf_pattern.specs.declared.replacement.ReplacementPiece.{ReplacementPiece}
+use Rattle.lf_pattern.specs.declared.replacement.ReplacementPiece.TheVariants.{Char, Group}
 
 -- whether a plain pattern stands in a pair `( )`, which is a group; of any other pattern it says nothing
 abbrev pub is_capture : List ℕ → Bool
@@ -28,14 +28,14 @@ group_text p value n =
     option_map_or (λ _. plain_group (captures p) value n) (alternatives_of p) (found_group p value n)
 
 -- what a piece stands for, by the texts of the groups
-abbrev pub piece_text : (ℕ → List ℕ) → Piece → List ℕ
+abbrev pub piece_text : (ℕ → List ℕ) → ReplacementPiece → List ℕ
 piece_text group (Char c) = encode_utf8 c
 piece_text group (Group n) = group n
 
 -- what pieces stand for where there is a match
-abbrev pub expanded : Bool → (ℕ → List ℕ) → List Piece → Option (List ℕ)
+abbrev pub expanded : Bool → (ℕ → List ℕ) → List ReplacementPiece → Option (List ℕ)
 expanded matched group ps = if matched then Some (flat_map (piece_text group) ps) else None
 
 -- the expansion of a replacement's pieces
-abbrev pub expansion : List ℕ → List ℕ → List Piece → Option (List ℕ)
+abbrev pub expansion : List ℕ → List ℕ → List ReplacementPiece → Option (List ℕ)
 expansion p value ps = expanded (matches p value) (group_text p value) ps

@@ -1,9 +1,9 @@
--- A way of reading plain replacements, from left to right. It defines nothing: a law says that it finds the pieces of `Reads`, each number of a group as large as
+-- A way of reading plain replacements, from left to right. It defines nothing: a law says that it finds the pieces of `ReadsReplacement`, each number of a group as large as
 -- the machine's numbers go.
 use Rattle.std.specs.Prelude.{ℕ, ◌+◌, ◌*◌, ◌-◌, ◌^◌, min, ◌==◌, nat_lt, List, [], ◌∷◌, if◌then◌else◌}
 use Rattle.std.specs.Char.{digit_value}
-use Rattle.lf_pattern.specs.declared.replacement.Piece.{Piece}
-use Rattle.lf_pattern.specs.declared.replacement.Piece.TheVariants.{Char, Group}
+use Rattle.lf_pattern.specs.declared.replacement.ReplacementPiece.{ReplacementPiece}
+use Rattle.lf_pattern.specs.declared.replacement.ReplacementPiece.TheVariants.{Char, Group}
 use Rattle.lf_pattern.specs.declared.replacement.ReplacementMode.{ReplacementMode}
 use Rattle.lf_pattern.specs.declared.replacement.ReplacementMode.TheVariants.{Text, Dollar, Number, Braced}
 
@@ -15,7 +15,7 @@ abbrev pub with_digit : ℕ → ℕ → ℕ
 with_digit n c = min (n * 10 + digit_value c) greatest
 
 -- the pieces of what is left, by what was read of the piece that is open
-unfoldable pub pieces_of : ReplacementMode → List ℕ → List Piece
+unfoldable pub pieces_of : ReplacementMode → List ℕ → List ReplacementPiece
 pieces_of Text [] = []
 pieces_of Dollar [] = []
 pieces_of (Number n) [] = Group n ∷ []
@@ -35,6 +35,6 @@ pieces_of (Braced n) (c ∷ cs) =
     else pieces_of Text cs
 
 -- a piece whose number of a group is at most the greatest
-abbrev pub bounded : Piece → Piece
+abbrev pub bounded : ReplacementPiece → ReplacementPiece
 bounded (Char c) = Char c
 bounded (Group n) = Group (min n greatest)

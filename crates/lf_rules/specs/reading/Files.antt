@@ -11,8 +11,8 @@ use Rattle.lf_base.specs.declared.fault.Fault.{Fault}
 use Rattle.lf_yaml.specs.Tree.{Tree, leaf, sequence, mapping}
 use Rattle.lf_rules.specs.declared.judging.Level.{Level}
 use Rattle.lf_rules.specs.declared.judging.Level.TheVariants.{File, Group, Rule}
-use Rattle.lf_rules.specs.declared.judging.Wanted.{Wanted}
-use Rattle.lf_rules.specs.declared.judging.Wanted.TheVariants.{Metric, Time, Limit}
+use Rattle.lf_rules.specs.declared.judging.TextKind.{TextKind}
+use Rattle.lf_rules.specs.declared.judging.TextKind.TheVariants.{Metric, Time, Limit}
 use Rattle.lf_lex.specs.reading.Runs.{duration_order}
 use Rattle.lf_base.specs.Names.{Bytes, is_digit, is_label_name, is_metric_name, metric}
 use Rattle.lf_rules.specs.Mappings.{Pairing, pairs, trees, entry_at, given_entry, given}
@@ -75,12 +75,12 @@ settings_faults is_labels (Some (sequence items s)) = fault WrongKind s ∷ []
 settings_faults is_labels (Some (mapping es s)) = flat_map (setting_faults is_labels) (pairs es)
 
 -- the texts that are tested, and the kinds of their faults
-abbrev pub test_of : Wanted → Bytes → Bool
+abbrev pub test_of : TextKind → Bytes → Bool
 test_of Metric = is_metric_name
 test_of Time = is_time
 test_of Limit = is_limit
 
-abbrev pub kind_of : Wanted → Kind
+abbrev pub kind_of : TextKind → Kind
 kind_of Metric = BadName
 kind_of Time = BadDuration
 kind_of Limit = BadLimit

@@ -2,13 +2,13 @@
 use Rattle.std.specs.Prelude.{◌≡◌, ℕ, suc, ◌+◌, ◌≤◌, List, [], ◌∷◌, ◌++◌, length, map, take, drop, Bool, true, false, Option, Some, None, Result, Ok, Err, get_or, ◌||◌, if◌then◌else◌}
 use Rattle.lf_base.specs.declared.refusal.Refusal.{Refusal}
 use Rattle.lf_base.specs.Answers.{IfAt}
-use Rattle.lf_scalar.specs.declared.body.Body.{Body}
+use Rattle.lf_scalar.specs.declared.body.BlockBody.{BlockBody}
 use Rattle.lf_scalar.specs.declared.body.Role.{Role}
 use Rattle.lf_scalar.specs.declared.body.Role.TheVariants as role
 use Rattle.lf_scalar.specs.declared.joined.LastLine.{LastLine}
 use Rattle.lf_scalar.specs.declared.header.Header.{Header}
-use Rattle.lf_scalar.specs.declared.header.Mark.{Mark}
-use Rattle.lf_scalar.specs.declared.header.Mark.TheVariants as mark
+use Rattle.lf_scalar.specs.declared.header.HeaderByte.{HeaderByte}
+use Rattle.lf_scalar.specs.declared.header.HeaderByte.TheVariants as mark
 use Rattle.lf_scalar.specs.declared.block.Chomp.{Chomp}
 use Rattle.lf_scalar.specs.declared.joined.Joining.{Joining}
 use Rattle.lf_scalar.specs.declared.joined.Joining.TheVariants as joining_of
@@ -24,7 +24,7 @@ use Rattle.lf_scalar.specs.reading.Block.{chomp_of, mark_digit, chomp_or, Header
 -- ---- the header
 
 -- what a byte of a header is
-abbrev pub IsMark : ℕ → Mark → Type 0
+abbrev pub IsMark : ℕ → HeaderByte → Type 0
 IsMark byte (mark.Sign chomp) = chomp_of byte ≡ Some chomp
 IsMark byte (mark.Digit d) = (chomp_of byte ≡ None) × (mark_digit byte ≡ Some d)
 IsMark byte mark.Neither = (chomp_of byte ≡ None) × (mark_digit byte ≡ None)
@@ -102,12 +102,12 @@ TellsRole leads above k l (Ok role) = IsRole leads above k l role
 TellsRole leads above k l (Err e) = IfAt e (λ f. (ls : List Line) → body_fault leads above k (l ∷ ls) ≡ Some f)
 
 -- what is found with a line more, whose line break stands at a place, if it has one
-abbrev pub body_with : Body → Bool → ℕ → Option ℕ → Body
+abbrev pub body_with : BlockBody → Bool → ℕ → Option ℕ → BlockBody
 body_with b true feed break = record { full = b.full + b.empty + 1; last = break; behind = feed + 1; empty = 0 }
 body_with b false feed break = record { full = b.full; last = b.last; behind = b.behind; empty = b.empty + 1 }
 
 -- What the code finds of the lines of a body, whose first bytes are the lines up to the last that isn't empty.
-pub record IsBody (k at : ℕ) (bytes : List ℕ) (b : Body) : Type 0 where
+pub record IsBody (k at : ℕ) (bytes : List ℕ) (b : BlockBody) : Type 0 where
   pub full : List Line
   pub empty : List Line
   pub left : List Line
@@ -121,12 +121,12 @@ pub record IsBody (k at : ℕ) (bytes : List ℕ) (b : Body) : Type 0 where
   pub empties_are : empties (body_of k (lines_at at bytes)) ≡ contents k empty
 
 -- the same, or what breaks the body
-abbrev pub FindsBody : Bool → ℕ → ℕ → ℕ → List ℕ → Result Body Refusal → Type 0
+abbrev pub FindsBody : Bool → ℕ → ℕ → ℕ → List ℕ → Result BlockBody Refusal → Type 0
 FindsBody leads above k at bytes (Ok b) = IsBody k at bytes b × (body_fault leads above k (lines_at at bytes) ≡ None)
 FindsBody leads above k at bytes (Err e) = IfAt e (λ f. body_fault leads above k (lines_at at bytes) ≡ Some f)
 
 -- what stands at the end of a body, whose last empty lines begin these bytes
-abbrev pub chomped_behind : Chomp → Body → ℕ → List ℕ → List Cell
+abbrev pub chomped_behind : Chomp → BlockBody → ℕ → List ℕ → List Cell
 chomped_behind Strip b at bytes = []
 chomped_behind Clip b at bytes = break_of b.last
 chomped_behind Keep b at bytes = break_of b.last ++ line_ends (at + length bytes) (take b.empty (lines_at at bytes))

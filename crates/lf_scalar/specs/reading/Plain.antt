@@ -2,7 +2,7 @@
 use Rattle.std.specs.Prelude.{◌≡◌, ℕ, zero, suc, ◌+◌, ◌<◌, ◌^◌, IfSome, Bool, true, false, get_or, ◌==◌, ◌&&◌, List, [], ◌∷◌, ◌++◌, Option, Some, None, Result, Ok, Err, if◌then◌else◌}
 use Rattle.lf_base.specs.declared.kind.Kind.TheVariants.{BadIndent, NotANode}
 use Rattle.lf_base.specs.declared.refusal.Refusal.{Refusal}
-use Rattle.lf_scalar.specs.declared.plain.Folded.{Folded}
+use Rattle.lf_scalar.specs.declared.plain.PendingPlainBreak.{PendingPlainBreak}
 use Rattle.lf_scalar.specs.declared.plain.Onward.{Onward}
 use Rattle.lf_scalar.specs.declared.plain.Onward.TheVariants as onward
 use Rattle.lf_base.specs.declared.fault.Fault.{Fault}
@@ -81,7 +81,7 @@ HasRoom tab = IfSome tab (λ at. at + 1 < 2 ^ 32)
 
 -- What a step over the line behind a line break returned, and what it did to a text: another line break waits, the scalar has ended, or the line breaks it. What follows
 -- that line doesn't matter.
-abbrev pub Steps : ℕ → Folded → Line → Result (Option Folded) Refusal → List Cell → List Cell → Type 0
+abbrev pub Steps : ℕ → PendingPlainBreak → Line → Result (Option PendingPlainBreak) Refusal → List Cell → List Cell → Type 0
 Steps above folded l (Ok (Some next)) old now =
     (part : List Cell) × (now ≡ old ++ part) × ((ls : List Line) → plain_behind above folded.at folded.blank folded.tab (l ∷ ls) ≡ front part (plain_behind above next.at next.blank next.tab ls))
 Steps above folded l (Ok None) old now = (part : List Cell) × (now ≡ old ++ part) × ((ls : List Line) → plain_behind above folded.at folded.blank folded.tab (l ∷ ls) ≡ Ok part)

@@ -17,7 +17,7 @@ use Rattle.lf_scalar.specs.Lines.{Line, line, lines, start_of, first_text, begin
 use Rattle.lf_scalar.specs.Markers.{is_marker}
 use Rattle.lf_scalar.specs.Splits.{Split, behind_cell}
 use Rattle.lf_scalar.specs.Folding.{trimmed}
-use Rattle.lf_scalar.specs.Quoted.{Quotes, Single, Double, Piece, Bare, Twice, Letter, Number, given, char_cells, letter_of, width_of, is_bare_blank, Break, Folds, Drops, filled, unindented}
+use Rattle.lf_scalar.specs.Quoted.{Quotes, Single, Double, QuotedPiece, Bare, Twice, Letter, Number, given, char_cells, letter_of, width_of, is_bare_blank, Break, Folds, Drops, filled, unindented}
 use Rattle.lf_base.specs.Names.{hexadecimal_value}
 
 -- the number that digits tell behind those that told a number before, where all are digits
@@ -30,35 +30,35 @@ told before [] = Some before
 told before (c ∷ cs) = told_on before (hexadecimal_value c.byte) (λ n. told n cs)
 
 -- a piece and how many cells behind its first it takes
-abbrev pub number_if : Cell → Cell → List Cell → Option ℕ → Option (Piece × ℕ)
+abbrev pub number_if : Cell → Cell → List Cell → Option ℕ → Option (QuotedPiece × ℕ)
 number_if c e digits None = None
 number_if c e digits (Some n) = if scalar n then Some (Number c e digits n, suc (length digits)) else None
 
-abbrev pub number_of : Cell → Cell → ℕ → List Cell → Option (Piece × ℕ)
+abbrev pub number_of : Cell → Cell → ℕ → List Cell → Option (QuotedPiece × ℕ)
 number_of c e width src = if length (take width src) == width then number_if c e (take width src) (told 0 (take width src)) else None
 
-abbrev pub letter_if : Cell → Cell → Option ℕ → Option (Piece × ℕ)
+abbrev pub letter_if : Cell → Cell → Option ℕ → Option (QuotedPiece × ℕ)
 letter_if c e None = None
 letter_if c e (Some n) = Some (Letter c e n, 1)
 
-abbrev pub escape_if : Cell → Cell → List Cell → Option ℕ → Option (Piece × ℕ)
+abbrev pub escape_if : Cell → Cell → List Cell → Option ℕ → Option (QuotedPiece × ℕ)
 escape_if c e src None = letter_if c e (letter_of e.byte)
 escape_if c e src (Some width) = number_of c e width src
 
-abbrev pub escape_of : Cell → List Cell → Option (Piece × ℕ)
+abbrev pub escape_of : Cell → List Cell → Option (QuotedPiece × ℕ)
 escape_of c [] = None
 escape_of c (e ∷ src) = escape_if c e src (width_of e.byte)
 
-abbrev pub twice_of : Cell → List Cell → Option (Piece × ℕ)
+abbrev pub twice_of : Cell → List Cell → Option (QuotedPiece × ℕ)
 twice_of c [] = None
 twice_of c (d ∷ src) = if d.byte == 39 then Some (Twice c d, 1) else None
 
-unfoldable pub piece_of : Quotes → Cell → List Cell → Option (Piece × ℕ)
+unfoldable pub piece_of : Quotes → Cell → List Cell → Option (QuotedPiece × ℕ)
 piece_of Single c src = if c.byte == 39 then twice_of c src else Some (Bare c, 0)
 piece_of Double c src = if c.byte == 92 then escape_of c src else if c.byte == 34 then None else Some (Bare c, 0)
 
 -- what a piece gives, whether it is a blank that stands for itself, and how many cells behind its first it takes
-abbrev pub as_piece : Piece × ℕ → List Cell × (Bool × ℕ)
+abbrev pub as_piece : QuotedPiece × ℕ → List Cell × (Bool × ℕ)
 as_piece x = (given x.0, (is_bare_blank x.0, x.1))
 
 -- the same of a character that an escape gives
@@ -75,16 +75,16 @@ as_value at (values.Byte byte, k) = (cell byte at ∷ [], (is_blank (cell byte a
 as_value at (values.Char n, k) = (char_cells at n, (false, k))
 
 -- the piece at the front of some bytes
-abbrev pub piece_at : Quotes → ℕ → List ℕ → Option (Piece × ℕ)
+abbrev pub piece_at : Quotes → ℕ → List ℕ → Option (QuotedPiece × ℕ)
 piece_at kind at [] = None
 piece_at kind at (b ∷ bytes) = piece_of kind (cell b at) (cells (suc at) bytes)
 
 -- pieces, as many as stand there, and what is left; the first cells, as many as the number says, are skipped
-abbrev pub scanned : Cell → List Cell → Option (Piece × ℕ) → (ℕ → List Piece × List Cell) → List Piece × List Cell
+abbrev pub scanned : Cell → List Cell → Option (QuotedPiece × ℕ) → (ℕ → List QuotedPiece × List Cell) → List QuotedPiece × List Cell
 scanned c src None later = ([], c ∷ src)
 scanned c src (Some x) later = (x.0 ∷ (later x.1).0, (later x.1).1)
 
-unfoldable pub scan : Quotes → ℕ → List Cell → List Piece × List Cell
+unfoldable pub scan : Quotes → ℕ → List Cell → List QuotedPiece × List Cell
 scan kind k [] = ([], [])
 scan kind (suc k) (c ∷ src) = scan kind k src
 scan kind zero (c ∷ src) = scanned c src (piece_of kind c src) (λ k. scan kind k src)
@@ -124,11 +124,11 @@ IsEffect Double byte next effect.Passes = (byte ≢ 34) × (byte ≢ 92)
 -- ---- the lines
 
 -- what the pieces of a line and the cells left of it make: its text and its line break
-abbrev pub stopped : ℕ → List Piece → Cell → List Cell → Result (List Cell × Break) Fault
+abbrev pub stopped : ℕ → List QuotedPiece → Cell → List Cell → Result (List Cell × Break) Fault
 stopped break pieces c [] = Ok (flat_map given pieces, Drops break)
 stopped break pieces c (d ∷ more) = Err (byte_fault BadEscape c.at)
 
-abbrev pub ended : ℕ → List Piece × List Cell → Result (List Cell × Break) Fault
+abbrev pub ended : ℕ → List QuotedPiece × List Cell → Result (List Cell × Break) Fault
 ended break (pieces, []) = Ok (flat_map given (trimmed is_bare_blank pieces), Folds break)
 ended break (pieces, c ∷ more) = if c.byte == 92 then stopped break pieces c more else Ok (flat_map given pieces, Folds break)
 

@@ -6,8 +6,8 @@ use Rattle.std.specs.Option.{option_and_then}
 use Rattle.std.specs.Str.{IsAscii}
 use Rattle.lf_base.specs.declared.kind.Kind.TheVariants.{OpenAction, BadAction}
 use Rattle.lf_base.specs.declared.place.Span.{Span}
-use Rattle.lf_templates.specs.declared.token.Token.{Token}
-use Rattle.lf_templates.specs.declared.token.Token.TheVariants as tokens
+use Rattle.lf_templates.specs.declared.token.ActionToken.{ActionToken}
+use Rattle.lf_templates.specs.declared.token.ActionToken.TheVariants as tokens
 use Rattle.lf_templates.specs.declared.token.Word.{Word}
 use Rattle.lf_templates.specs.declared.token.Word.TheVariants as words
 use Rattle.lf_templates.specs.declared.token.TokenContext.{TokenContext}
@@ -16,9 +16,9 @@ use Rattle.lf_templates.specs.declared.token.Lexeme.{Lexeme}
 use Rattle.lf_templates.specs.declared.token.ReferenceSpan.{ReferenceSpan}
 use Rattle.lf_templates.specs.declared.token.Beginning.{Beginning}
 use Rattle.lf_templates.specs.declared.token.Beginning.TheVariants as begins
-use Rattle.lf_templates.specs.declared.bytes.Class.{Class}
-use Rattle.lf_templates.specs.declared.bytes.Class.TheVariants as classes
-use Rattle.lf_templates.specs.declared.body.Body.{Body}
+use Rattle.lf_templates.specs.declared.bytes.ActionByteClass.{ActionByteClass}
+use Rattle.lf_templates.specs.declared.bytes.ActionByteClass.TheVariants as classes
+use Rattle.lf_templates.specs.declared.body.OpenBody.{OpenBody}
 use Rattle.lf_templates.specs.declared.reference.Reference.{Reference}
 use Rattle.lf_base.specs.declared.fault.Fault.{Fault}
 use Rattle.lf_templates.specs.Source.{in_source}
@@ -32,12 +32,12 @@ use Rattle.lf_templates.specs.Templates.{opens, Action, word_of_action, opens_bo
 -- ---- tokens
 
 -- the classes that the code goes over in rows
-abbrev pub is_in_class : Class → ℕ → Bool
+abbrev pub is_in_class : ActionByteClass → ℕ → Bool
 is_in_class classes.Word b = is_in_label b
 is_in_class classes.Number b = is_in_number b
 is_in_class classes.NoBackQuote b = is_no_back_quote b
 
-abbrev pub token : Token → ℕ → Lexeme
+abbrev pub token : ActionToken → ℕ → Lexeme
 token t len = record { token = t; len = len }
 
 -- how many bytes the word at the front has
@@ -158,20 +158,20 @@ abbrev pub bad_action : Span → Fault
 bad_action span = record { kind = BadAction; span = span }
 
 -- the outermost of the bodies
-abbrev pub outermost : List Body → Option Span
+abbrev pub outermost : List OpenBody → Option Span
 outermost [] = None
 outermost (body ∷ []) = Some body.span
 outermost (body ∷ next ∷ bodies) = outermost (next ∷ bodies)
 
-abbrev pub word_of_body : Option Body → Option Word
+abbrev pub word_of_body : Option OpenBody → Option Word
 word_of_body None = None
 word_of_body (Some body) = Some body.word
 
 -- whether an action with these tokens and this word at its head is wrong in itself, where this body is the innermost
-abbrev pub is_bad_by : Option Body → List Token → Word → Bool
+abbrev pub is_bad_by : Option OpenBody → List ActionToken → Word → Bool
 is_bad_by innermost ts word = not (is_sound ts) || is_stray word (word_of_body innermost)
 
-abbrev pub hidden_in : Option Body → Bool
+abbrev pub hidden_in : Option OpenBody → Bool
 hidden_in None = false
 hidden_in (Some body) = body.hides
 
@@ -179,29 +179,29 @@ abbrev pub some_or : Option Span → Option Span → Option Span
 some_or (Some span) other = Some span
 some_or None other = other
 
-abbrev pub is_hidden : List Body → Bool
+abbrev pub is_hidden : List OpenBody → Bool
 is_hidden bodies = hidden_in (first bodies)
 
-abbrev pub body : Word → Bool → Span → Body
+abbrev pub body : Word → Bool → Span → OpenBody
 body word hidden span = record { word = word; hides = hidden; span = span }
 
 -- the bodies that are left where an action begins: an end closes one
-abbrev pub closed_by : Word → List Body → List Body
+abbrev pub closed_by : Word → List OpenBody → List OpenBody
 closed_by words.End bodies = drop 1 bodies
 closed_by _ bodies = bodies
 
-abbrev pub opened_by : Word → Span → List Body → List Body
+abbrev pub opened_by : Word → Span → List OpenBody → List OpenBody
 opened_by word span bodies = if opens_body word then body word (hides word || is_hidden bodies) span ∷ bodies else bodies
 
 abbrev pub or_else : Option Span → Bool → Span → Option Span
 or_else (Some flaw) bad span = Some flaw
 or_else None bad span = if bad then Some span else None
 
-abbrev pub words_of : List Body → List Word
+abbrev pub words_of : List OpenBody → List Word
 words_of bodies = map (λ b. b.word) bodies
 
 -- the action that is told at the end: that of the outermost body that is open, or else the first that is wrong
-abbrev pub flaw_at_end : List Body → Option Span → Option Span
+abbrev pub flaw_at_end : List OpenBody → Option Span → Option Span
 flaw_at_end bodies flaw = some_or (outermost bodies) flaw
 
 abbrev pub ending_open : List ℕ → List Reference → Option ℕ → Result (List Reference) Fault
@@ -213,11 +213,11 @@ abbrev pub ending_by : List ℕ → List Reference → Option ℕ → Option Spa
 ending_by from found endless (Some span) = Err (bad_action span)
 ending_by from found endless None = ending_open from found endless
 
-abbrev pub ending : List ℕ → List Body → Option Span → List Reference → Option ℕ → Result (List Reference) Fault
+abbrev pub ending : List ℕ → List OpenBody → Option Span → List Reference → Option ℕ → Result (List Reference) Fault
 ending from bodies flaw found endless = ending_by from found endless (flaw_at_end bodies flaw)
 
 -- a flaw with no body open before it, behind which nothing counts
-abbrev pub settled : List Body → Option Span → Option Span
+abbrev pub settled : List OpenBody → Option Span → Option Span
 settled [] flaw = flaw
 settled (body ∷ bodies) flaw = None
 
@@ -226,7 +226,7 @@ or_settled (Some span) later = Err (bad_action span)
 or_settled None later = later
 
 -- The answer behind actions that left these bodies open, gave this first flaw and these references, and perhaps set $labels anew.
-unfoldable pub outcome : List ℕ → List ℕ → List Body → Option Span → Bool → List Reference → List Action → Option ℕ → Result (List Reference) Fault
+unfoldable pub outcome : List ℕ → List ℕ → List OpenBody → Option Span → Bool → List Reference → List Action → Option ℕ → Result (List Reference) Fault
 outcome from text bodies flaw renamed found [] endless = ending from bodies flaw found endless
 outcome from text bodies flaw renamed found (a ∷ later) endless =
     let span = in_source from a.start a.end in

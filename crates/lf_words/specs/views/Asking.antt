@@ -1,7 +1,7 @@
 -- How contracts see words that are read one by one, without memory.
 use Rattle.std.specs.Prelude.{◌≡◌, ◌≢◌, ◌↔◌, ℕ, Bool, List, [], ◌∷◌, ◌++◌, option_map, codes}
 use Rattle.std.specs.Bool.{MatchBool}
-use Rattle.lf_words.specs.Lint.{Word, LintArguments, Gives, nothing, IsOperand, Workers, Format, option_word}
+use Rattle.lf_words.specs.Lint.{Word, LintArguments, GivesArguments, nothing, IsOperand, Workers, Format, option_word}
 use Rattle.lf_words.specs.Lint as grammar
 use Rattle.lf_words.specs.Grammar.{IsWorkers, IsFormat}
 use Rattle.lf_words.specs.declared.word_kind.Valued.{Valued}
@@ -50,16 +50,16 @@ pub record Keeps (seen : SeenWords) (given : LintArguments) : Type 0 where
 -- What was seen leads from words to what is seen later and to others, which then give the same.
 abbrev pub Leads : SeenWords → List Word → SeenWords → List Word → Type 0
 Leads seen words later others =
-    (given : LintArguments) → Keeps seen given → (more : LintArguments) × Keeps later more × ((last : LintArguments) → Gives given (begun seen.next words) last ↔ Gives more (begun later.next others) last)
+    (given : LintArguments) → Keeps seen given → (more : LintArguments) × Keeps later more × ((last : LintArguments) → GivesArguments given (begun seen.next words) last ↔ GivesArguments more (begun later.next others) last)
 
 -- All words give what those that are left give behind what was seen.
 abbrev pub Stands : List Word → SeenWords → List Word → Type 0
-Stands words seen left = (given : LintArguments) × Keeps seen given × ((last : LintArguments) → Gives nothing words last ↔ Gives given (begun seen.next left) last)
+Stands words seen left = (given : LintArguments) × Keeps seen given × ((last : LintArguments) → GivesArguments nothing words last ↔ GivesArguments given (begun seen.next left) last)
 
 -- Behind what was given the words ask for a report: together they give a file, and values that are a number of workers and a format.
 pub record Lints (given : LintArguments) (words : List Word) : Type 0 where
   pub last : LintArguments
-  pub gives : Gives given words last
+  pub gives : GivesArguments given words last
   pub some : last.files ≢ []
   pub workers : ℕ
   pub are_workers : IsWorkers last.workers workers

@@ -6,9 +6,9 @@ use Rattle.lf_scalar.specs.Lines.{Line}
 use Rattle.lf_yaml.specs.Flow.{is_bare, left_on}
 use Rattle.lf_yaml.specs.reading.Trees.{before_text, plain_behind}
 use Rattle.lf_yaml.specs.reading.Trees as trees
-use Rattle.lf_yaml.specs.declared.flow_plain.Folded.{Folded}
-use Rattle.lf_yaml.specs.declared.flow_plain.Step.{Step}
-use Rattle.lf_yaml.specs.declared.flow_plain.Step.TheVariants as step
+use Rattle.lf_yaml.specs.declared.flow_plain.PendingFlowBreak.{PendingFlowBreak}
+use Rattle.lf_yaml.specs.declared.flow_plain.LineStep.{LineStep}
+use Rattle.lf_yaml.specs.declared.flow_plain.LineStep.TheVariants as step
 
 -- where something other than blanks is left of a line behind its text, if something is
 abbrev pub IsLeft : Line → Option ℕ → Type 0
@@ -17,14 +17,14 @@ IsLeft l (Some after) = (is_bare l ≡ false) × (left_on l ≡ after)
 
 -- What a step over the line behind a line break returned, and what it did to a text: another line break waits, the scalar has ended, or the line breaks it. What follows
 -- that line doesn't matter.
-abbrev pub Steps : Folded → Line → Result Step Refusal → List Cell → List Cell → Type 0
+abbrev pub Steps : PendingFlowBreak → Line → Result LineStep Refusal → List Cell → List Cell → Type 0
 Steps folded l (Ok (step.On next)) old now =
     (part : List Cell) × (now ≡ old ++ part) × ((ls : List Line) → plain_behind folded.at folded.blank (l ∷ ls) ≡ before_text part (plain_behind next.at next.blank ls))
 Steps folded l (Ok (step.Ends after)) old now = (part : List Cell) × (now ≡ old ++ part) × ((ls : List Line) → plain_behind folded.at folded.blank (l ∷ ls) ≡ Ok (part, after))
 Steps folded l (Err e) old now = (ls : List Line) → Fails e (plain_behind folded.at folded.blank (l ∷ ls))
 
 -- at most one line of spaces more waits
-abbrev pub IsFew : ℕ → Step → Type 0
+abbrev pub IsFew : ℕ → LineStep → Type 0
 IsFew blank (step.On next) = next.blank ≤ blank + 1
 IsFew blank (step.Ends after) = Unit {0}
 

@@ -5,7 +5,7 @@ use Rattle.lf_accept.proofs.rules.rules_of.Goals as goal
 
 pub returns-in_err-rule-clause-refused : goal.returns-in_err-rule-clause-refused
 returns-in_err-rule-clause-refused c =
-    let p = err_from_is_err_and c.from_residual.result c.from_residual.ensures.1 in
+    let p = err_from_is_err_and c.from_residual-in_err-rule.result c.from_residual-in_err-rule.ensures.1 in
     rw (p.1, p.2) (first_breach c.args.file c.args.sources.now c.loop-source.source-index c.source-item.result c.loop-source-test.true c.source-item.is c.loop-source.rules c.loop-source.invariant.are_rules c.in_err-rule.field-0.0 c.in_err-rule.ensures.refused)
 
 pub loop-source-preserved : goal.loop-source-preserved
@@ -18,11 +18,11 @@ loop-source-preserved c = record {
 
 pub returns-in_err-rule-clause-refused_inside : goal.returns-in_err-rule-clause-refused_inside
 returns-in_err-rule-clause-refused_inside c = λ n inside.
-    let p = err_from_is_err_and c.from_residual.result c.from_residual.ensures.1 in
+    let p = err_from_is_err_and c.from_residual-in_err-rule.result c.from_residual-in_err-rule.ensures.1 in
     rw (p.1, p.2) (c.in_err-rule.ensures.refused_inside n (ends_inside n c.args.sources.now c.loop-source.source-index c.source-item.result c.loop-source-test.true c.source-item.is inside))
 
 pub returns-in_err-rule-clause-spent : goal.returns-in_err-rule-clause-spent
 returns-in_err-rule-clause-spent c =
-    let p = err_from_is_err_and c.from_residual.result c.from_residual.ensures.1 in
+    let p = err_from_is_err_and c.from_residual-in_err-rule.result c.from_residual-in_err-rule.ensures.1 in
     rw (p.1, p.2) (rules_so c.args.file c.args.sources.now c.loop-source.source-index c.source-item.result c.loop-source-test.true c.source-item.is c.loop-source.rules c.loop-source.invariant.are_rules
     c.args.allowance.now.left c.loop-source.allowance.left c.rule_of.new.allowance.left c.loop-source.invariant.counted c.in_err-rule.field-0.0 c.in_err-rule.ensures.spent)

@@ -15,7 +15,7 @@ push-requires c =
 
 pub loop-node-preserved : goal.loop-node-preserved
 loop-node-preserved c =
-    one_more_member c.args.numbers.now c.loop-node.node c.args.count c.loop-node.members c.push.new.self (c.requires c.loop-node.node c.loop-node-test.true) c.loop-node.invariant c.in_ok-push.ensures
+    one_more_member c.args.numbers.now c.loop-node.node c.args.count c.loop-node.members c.push.new.self (c.requires c.loop-node.node c.loop-node-test.true) c.loop-node.invariant c.in_ok-push.ensures.ok
 
 pub returns : goal.returns
 returns c =

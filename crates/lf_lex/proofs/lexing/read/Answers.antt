@@ -4,7 +4,7 @@ use Rattle.lf_lex.proofs.Reading.{so_far_none, so_far_more, refusal_breaks, so_f
 use Rattle.lf_lex.proofs.lexing.read.Goals as goal
 
 pub loop-at-init : goal.loop-at-init
-loop-at-init c = rw c.new-tokens.ensures (record {
+loop-at-init c = rw c.in_ok-tokens.ensures (record {
   so_far = so_far_none c.args.from.now c.args.text.now;
   within = omega arith;
   ordered = λ i j d le lt. absurd (omega arith);
@@ -23,7 +23,7 @@ loop-at-preserved c =
 
 pub returns-in_err-found-clause-refused : goal.returns-in_err-found-clause-refused
 returns-in_err-found-clause-refused c =
-    let p = err_from_is_err_and c.from_residual.result c.from_residual.ensures.1 in
+    let p = err_from_is_err_and c.from_residual-in_err-found.result c.from_residual-in_err-found.ensures.1 in
     rw (p.1, p.2) (refusal_breaks c.args.from.now c.args.text.now c.loop-at.inside c.loop-at.at c.loop-at.tokens c.loop-at.invariant.so_far c.loop-at-test.true c.in_err-found.field-0.0 c.in_err-found.ensures.told)
 
 pub returns : goal.returns

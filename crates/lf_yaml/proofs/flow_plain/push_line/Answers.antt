@@ -18,5 +18,5 @@ returns-in-Ok-clause-text c = λ b. (
   _,
   line-read c.args.at c.blanks-skipped.result c.flow_text_len-len.result b c.args.line.now c.past-text.result.now (c.blanks-skipped.ensures.after c.args.at) c.past-text.ensures c.flow_text_len-len.ensures.within
       (c.flow_text_len-len.ensures.text (c.args.at + c.blanks-skipped.result)) (c.in-None.ensures.value (c.args.at + c.blanks-skipped.result)) ∙ ap (λ (xs : List ℕ). yes (cells (c.args.at + c.blanks-skipped.result) xs)) (sym c.before-in-None.ensures),
-  c.in-Ok.ensures,
+  c.in-Ok.ensures.ok,
 )

@@ -1,6 +1,6 @@
 use Rattle.std.proofs.Common.{sym, ◌∙◌, refl, arith}
 use Rattle.std.proofs.lemmas.List.{get_or_read}
-use Rattle.lf_graph.specs.declared.search.Node.TheVariants.{Unmet}
+use Rattle.lf_graph.specs.declared.search.NodeState.TheVariants.{Unmet}
 use Rattle.lf_graph.proofs.Joining.{at_closed, joins_later}
 use Rattle.lf_graph.proofs.search.Search.follow.Goals as goal
 

@@ -3,7 +3,7 @@ use Rattle.std.specs.Prelude.{slice_set}
 use Rattle.std.proofs.lemmas.List.{get_or_read}
 use Rattle.lf_graph.specs.Paths.{after}
 use Rattle.lf_graph.specs.views.Search.{edges_from}
-use Rattle.lf_graph.specs.declared.search.Node.TheVariants.{Open}
+use Rattle.lf_graph.specs.declared.search.NodeState.TheVariants.{Open}
 use Rattle.lf_graph.specs.declared.search.Search.{Search}
 use Rattle.lf_graph.proofs.Meeting.{less, meets}
 use Rattle.lf_graph.proofs.search.Search.meet.Goals as goal
