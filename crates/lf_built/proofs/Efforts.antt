@@ -1,11 +1,12 @@
 -- Each step leaves less to be done.
-use Rattle.std.proofs.Common.{◌≡◌, ◌≤◌, ◌<◌, ◌+◌, ◌-◌, ◌*◌, ℕ, zero, suc, List, [], ◌∷◌, ◌++◌, Some, ◌∙◌, ap, arith}
+use Rattle.std.proofs.Common.{◌≡◌, ◌≤◌, ◌<◌, ◌+◌, ◌-◌, ◌*◌, ℕ, List, ◌∷◌, ◌++◌, Some, ◌∙◌, ap, subst, arith}
 use Rattle.std.specs.Prelude.{slice_get}
 use Rattle.std.specs.List.{sum_by}
-use Rattle.std.proofs.lemmas.List.Sums.{sum_by-append, sum_by-cons}
+use Rattle.std.proofs.lemmas.List.Sums.{get_or-le-sum_by, sum_by-append, sum_by-cons}
+use Rattle.std.proofs.lemmas.Option.{get_or_from_slice_get, slice_get_within}
 use Rattle.lf_ast.specs.Rules.{RuleTree}
 use Rattle.lf_built.specs.declared.prepared.Prepared.{Prepared}
-use Rattle.lf_built.specs.declared.work.Parts.{Parts}
+use Rattle.lf_built.specs.declared.work.WantedParts.{WantedParts}
 use Rattle.lf_built.specs.declared.work.Pending.{Pending}
 use Rattle.lf_built.specs.declared.work.Work.{Work}
 use Rattle.lf_built.specs.views.Indexed.{trees_of}
@@ -13,9 +14,7 @@ use Rattle.lf_built.specs.views.Places.{size}
 use Rattle.lf_built.specs.views.Works.{effort, largest, stack_of, tasks_of, weight}
 
 pub one_of_sum : {X : Type 0} (f : X → ℕ) (xs : List X) (k : ℕ) (x : X) → slice_get xs k ≡ Some x → f x ≤ sum_by f xs
-one_of_sum f [] k x e = absurd (cc)
-one_of_sum f (y ∷ ys) zero x e = let same : f y ≡ f x = let g : y ≡ x = cc in ap f g in omega (arith, same, sum_by-cons f y ys)
-one_of_sum f (y ∷ ys) (suc k) x e = omega (arith, one_of_sum f ys k x e, sum_by-cons f y ys)
+one_of_sum {X} f xs k x e = subst (λ (y : X). f y ≤ sum_by f xs) (get_or_from_slice_get xs k x x e) (get_or-le-sum_by f xs k x (slice_get_within xs k x e))
 
 -- one selector more
 one_less : (most s t large : ℕ) → t ≡ s + 1 → s < most → (most - t) * large + large ≡ (most - s) * large
@@ -25,7 +24,7 @@ one_less most s t large e less =
     let times : (most - s) * large ≡ (k + 1) * large = ap (λ n. n * large) up in
     omega (arith, times)
 
-pub parts_less : (p : Prepared) (most n : ℕ) (parts : Parts) (before after : Work) → sum_by weight (tasks_of parts) + 1 ≤ n → after.made.selectors ≡ before.made.selectors → stack_of after ≡ tasks_of parts ++ stack_of before
+pub parts_less : (p : Prepared) (most n : ℕ) (parts : WantedParts) (before after : Work) → sum_by weight (tasks_of parts) + 1 ≤ n → after.made.selectors ≡ before.made.selectors → stack_of after ≡ tasks_of parts ++ stack_of before
     → effort p most after + 1 ≤ effort p most before + n
 parts_less p most n parts before after less made stack =
     let a : (most - after.made.selectors) * largest (trees_of p) ≡ (most - before.made.selectors) * largest (trees_of p) = ap (λ k. (most - k) * largest (trees_of p)) made in

@@ -7,10 +7,10 @@ pub mod FirstRules
 pub mod Fits
 pub mod KnownNames
 pub mod Marked
-pub mod NamesRecorded
 pub mod OneMore
 pub mod PartSizes
 pub mod PartSpots
+pub mod PartsTold
 pub mod Places
 pub mod RowsApart
 pub mod SeriesNames

@@ -22,8 +22,8 @@ use Rattle.lf_candidates.specs.views.ClassTexts.{KnowsBuckets, Stands}
 use Rattle.lf_built.specs.declared.prepared.Prepared.{Prepared}
 use Rattle.lf_built.specs.declared.sides.Sides.{Sides}
 use Rattle.lf_built.specs.declared.spots.Spot.{Spot}
-use Rattle.lf_built.specs.declared.work.Parts.{Parts}
-use Rattle.lf_built.specs.declared.work.Parts.TheVariants as P
+use Rattle.lf_built.specs.declared.work.WantedParts.{WantedParts}
+use Rattle.lf_built.specs.declared.work.WantedParts.TheVariants as P
 use Rattle.lf_built.specs.views.Indexed.{env_of, trees_of, universe_of}
 use Rattle.lf_built.specs.views.Places.{size}
 use Rattle.lf_built.specs.views.Sides.{AreSides}
@@ -116,6 +116,6 @@ module _ (p : Prepared) (e : Tree) where
     no_sides are = subst (λ (h : Bool). AreParts p e (cond h wants None) None) (sym (own None are)) tt
 
   -- what is wanted where parts are
-  pub some_parts : (wanted : Option (List Wanted)) (parts : Parts) → AreParts p e wanted (Some parts) → (ws : List Wanted) × (wanted ≡ Some ws) × AreTasks p (tasks_of parts) (map Visit ws) × (sum_by weight (tasks_of parts) + 1 ≤ size e)
+  pub some_parts : (wanted : Option (List Wanted)) (parts : WantedParts) → AreParts p e wanted (Some parts) → (ws : List Wanted) × (wanted ≡ Some ws) × AreTasks p (tasks_of parts) (map Visit ws) × (sum_by weight (tasks_of parts) + 1 ≤ size e)
   some_parts None parts are = absurd are
   some_parts (Some ws) parts are = (ws, refl, are.0, are.1)

@@ -17,7 +17,7 @@ use Rattle.lf_trials.specs.Reached.{first_rule, is_recorded}
 use Rattle.lf_candidates.specs.views.ClassTexts.{Stands, StandsFor}
 use Rattle.lf_built.specs.declared.prepared.Prepared.{Prepared}
 use Rattle.lf_built.specs.declared.spots.Spot.{Spot}
-use Rattle.lf_built.specs.declared.work.Parts.{Parts}
+use Rattle.lf_built.specs.declared.work.WantedParts.{WantedParts}
 use Rattle.lf_built.specs.declared.work.Pending.{Pending}
 use Rattle.lf_built.specs.declared.work.Pending.TheVariants as T
 use Rattle.lf_built.specs.declared.work.Work.{Work}
@@ -107,7 +107,7 @@ module _ (p : Prepared) where
   both_tasks (T.Finish ∷ xs) ys (Finish ∷ ts) us a b = both_tasks xs ys ts us a b
 
   -- expressions that are wanted are put before the tasks
-  pub expanded : (whole : Option Building) (wanted : List Wanted) (parts : Parts) (before after : Work) → AreTasks p (tasks_of parts) (map Visit wanted) → stack_of after ≡ tasks_of parts ++ stack_of before
+  pub expanded : (whole : Option Building) (wanted : List Wanted) (parts : WantedParts) (before after : Work) → AreTasks p (tasks_of parts) (map Visit wanted) → stack_of after ≡ tasks_of parts ++ stack_of before
       → marks_of after ≡ marks_of before → after.unmarked ≡ before.unmarked → so_far after.made ≡ so_far before.made → LeavesBehind p whole (all_of p before (Some wanted)) before → Builds p whole after
   expanded whole wanted parts before after are stack marks unmarked made left = record {
     tasks = map Visit wanted ++ left.tasks;

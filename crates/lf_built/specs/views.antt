@@ -8,7 +8,6 @@ pub mod Marked
 pub mod Marking
 pub mod PartRows
 pub mod Places
-pub mod Recorders
 pub mod RuleRows
 pub mod Sides
 pub mod Spots

@@ -4,7 +4,7 @@ ghost use Rattle.lf_trials.specs.Building.{Building};
 ghost use Rattle.lf_built.specs.views.Indexed.{IsPrepared};
 ghost use Rattle.lf_built.specs.views.Works.{Builds, IsOutcome};
 
-use crate::made::Made;
+use crate::made::BuiltSeries;
 use crate::prepared::Prepared;
 use crate::work::Work;
 use lf_base::Memory;
@@ -17,7 +17,7 @@ impl<'a> Prepared<'a> {
         alloc: Global,
         most: usize,
         mut work: Work<'a>,
-    ) -> Result<Option<Made>, Memory>
+    ) -> Result<Option<BuiltSeries>, Memory>
         requires known { IsPrepared self.now }
         requires few { work.made.selectors ≤ most }
         requires builds { (whole : Option Building) × Builds self.now whole work }

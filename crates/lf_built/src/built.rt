@@ -14,7 +14,7 @@ ghost use Rattle.lf_built.specs.views.Indexed.{IsPrepared, env_of, trees_of, uni
 ghost use Rattle.lf_built.specs.views.Works.{Builds, so_far};
 
 use crate::bound::most_selectors;
-use crate::made::Made;
+use crate::made::BuiltSeries;
 use crate::marks::Marks;
 use crate::once::each_once;
 use crate::prepared::Prepared;
@@ -25,6 +25,9 @@ use lf_candidates::{LabelTexts, Trial, first_class_with};
 use lf_classes::Row;
 use std::alloc::Global;
 use std::marker::Model;
+
+/// How many tasks there is room for from the start: most expressions have no more at a time.
+const FEW_TASKS: usize = 8;
 
 /// What the built worlds of one rule share.
 #[derive(Drop)]
@@ -130,18 +133,19 @@ fn begin<'a>(
         place: 0,
         expr: &prepared.rules.get(number).expr,
     };
-    let stack = vec![in alloc; Pending::Visit { spot, texts }]?;
+    let mut stack = Vec::with_capacity(alloc, FEW_TASKS)?;
+    stack.push(Pending::Visit { spot, texts })?;
     let marked = Marks::of(alloc, number)?;
     Ok(Work {
         stack,
         marked,
         unmarked: prepared.rules.len(),
-        made: Made::nothing(alloc),
+        made: BuiltSeries::nothing(alloc),
     })
 }
 
 /// What was built as a trial: each series once.
-fn trial_of(alloc: Global, made: Made) -> Result<Trial, Memory>
+fn trial_of(alloc: Global, made: BuiltSeries) -> Result<Trial, Memory>
     ensures { IfOk result (λ trial. trial ≡ built_trial (so_far made)) }
 {
     let series = each_once(alloc, made.series)?;

@@ -24,7 +24,7 @@ impl<'a> Prepared<'a> {
         ensures first { (D : Given) → Stands (universe_of self.now) texts.now D → IsFirstRule (trees_of self.now) (first_rule (fits (universe_of self.now) (env_of self.now) (trees_of self.now) (forks_of self.now) (reverse marked.now) name.now D) 0 (trees_of self.now)) result }
         ensures free { IfSome result (λ number. is_marked (reverse marked.now) number ≡ false) }
     {
-        for number in self.recorders.of_name(name) {
+        for number in self.sources.makers_of(name) {
             if !marked.has(*number) && texts.is_held_by(self.universe, self.recorded_row(*number)) {
                 return Some(*number);
             }

@@ -10,18 +10,18 @@ use std::alloc::Global;
 
 /// Series and steps in the order in which they were added, and how many selectors were built.
 #[derive(Drop)]
-pub struct Made {
+pub struct BuiltSeries {
     pub series: Vec<LabelSet>,
     pub steps: Vec<u32>,
     pub selectors: usize,
 }
 
-impl Made {
+impl BuiltSeries {
     /// Nothing.
-    pub fn nothing(alloc: Global) -> Made
+    pub fn nothing(alloc: Global) -> BuiltSeries
         ensures { so_far result ≡ record { series = []; steps = []; selectors = 0 } }
     {
-        Made {
+        BuiltSeries {
             series: Vec::new(alloc),
             steps: Vec::new(alloc),
             selectors: 0,

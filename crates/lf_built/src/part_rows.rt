@@ -9,14 +9,13 @@ ghost use Rattle.lf_trials.specs.Forks.{has_passing};
 ghost use Rattle.lf_forks.specs.views.Holding.{test_of};
 ghost use Rattle.lf_built.specs.views.PartRows.{part_rows};
 
-use crate::scalars::scalar_parts;
 use crate::sizes::part_sizes;
 use lf_ast::Expr;
 use lf_base::Memory;
 use lf_candidates::NamedRow;
 use lf_classes::{Row, Universe};
 use lf_flow::Env;
-use lf_forks::Forks;
+use lf_forks::{Forks, Held};
 use std::alloc::Global;
 use std::marker::Model;
 
@@ -26,16 +25,17 @@ use std::marker::Model;
 pub struct PartRows {
     rows: Vec<NamedRow>,
     sizes: Vec<usize>,
-    scalars: Vec<bool>,
-    forks: Vec<bool>,
+    held: Vec<Held>,
 }
 
 impl Model for PartRows {
+    ghost use Rattle.std.specs.Prelude.{map};
+    ghost use Rattle.lf_forks.specs.declared.holding.Held.{Held};
     ghost use Rattle.lf_built.specs.views.PartRows.{PartRows};
 
     ghost Value = { PartRows };
 
-    ghost view = { λ parts. record { rows = parts.rows.items; sizes = parts.sizes.items; scalars = parts.scalars.items; forks = parts.forks.items } };
+    ghost view = { λ parts. record { rows = parts.rows.items; sizes = parts.sizes.items; scalars = map (λ (h : Held). h.scalar) parts.held.items; forks = map (λ (h : Held). h.found) parts.held.items } };
 }
 
 impl PartRows {
@@ -56,14 +56,8 @@ impl PartRows {
         let rows = lf_flow::part_rows(alloc, universe, env, expr)?;
         let rows = named_rows(alloc, universe, rows, likely)?;
         let sizes = part_sizes(alloc, expr)?;
-        let scalars = scalar_parts(alloc, expr)?;
-        let forks = forks.are_in(alloc, expr)?;
-        Ok(PartRows {
-            rows,
-            sizes,
-            scalars,
-            forks,
-        })
+        let held = forks.are_in(alloc, expr)?;
+        Ok(PartRows { rows, sizes, held })
     }
 
     /// How many parts there are, with the expression itself.
@@ -103,7 +97,7 @@ impl PartRows {
         requires { place < length self.now.scalars }
         ensures { result ≡ slice_index_or self.now.scalars place false }
     {
-        self.scalars[place]
+        self.held[place].scalar
     }
 
     /// Whether the part at a place holds a fork.
@@ -111,7 +105,7 @@ impl PartRows {
         requires { place < length self.now.forks }
         ensures { result ≡ slice_index_or self.now.forks place false }
     {
-        self.forks[place]
+        self.held[place].found
     }
 }
 
@@ -126,7 +120,7 @@ fn named_rows(
     requires shapes { All (HasShape universe.now) rows.items }
     ensures { IfOk result (λ named. named.items ≡ rows.items) }
 {
-    let mut named = Vec::new(alloc);
+    let mut named = Vec::with_capacity(alloc, rows.len())?;
     while let Some(row) = rows.pop() {
         named.push(NamedRow::of(universe, row, likely)?)?;
     }

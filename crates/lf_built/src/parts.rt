@@ -21,7 +21,7 @@ use crate::operands::{nameless_if, operand_texts};
 use crate::prepared::Prepared;
 use crate::sides::side_texts;
 use crate::spots::Spot;
-use crate::work::Parts;
+use crate::work::WantedParts;
 use lf_ast::walk::part_at;
 use lf_ast::{Expr, Function, Matching, Op};
 use lf_base::Memory;
@@ -34,14 +34,14 @@ impl<'a> Prepared<'a> {
         &self,
         spot: &Spot<'a>,
         texts: LabelTexts,
-    ) -> Result<Option<Parts<'a>>, Memory>
+    ) -> Result<Option<WantedParts<'a>>, Memory>
         requires known { IsPrepared self.now }
         requires spot { IsSpot (trees_of self.now) spot.now }
         requires texts { (D : Given) × Stands (universe_of self.now) texts D }
         ensures { (D : Given) → Stands (universe_of self.now) texts D → IfOk result (AreParts self.now (tree_at spot.now) (parts_wanted (universe_of self.now) (env_of self.now) (tree_at spot.now) D)) }
     {
         match spot.expr {
-            Expr::Number { .. } => Ok(Some(Parts::Nothing)),
+            Expr::Number { .. } => Ok(Some(WantedParts::Nothing)),
             Expr::Str { .. } => Ok(None),
             Expr::Selector { .. } => Ok(None),
             Expr::Subquery { .. } => Ok(self.one(spot, 0, texts)),
@@ -63,7 +63,7 @@ impl<'a> Prepared<'a> {
         op: Op,
         matching: &Matching,
         texts: LabelTexts,
-    ) -> Result<Option<Parts<'a>>, Memory>
+    ) -> Result<Option<WantedParts<'a>>, Memory>
         requires known { IsPrepared self.now }
         requires spot { IsSpot (trees_of self.now) spot.now }
         requires own { operator_of (tree_at spot.now) ≡ Some (op, matching.now) }
@@ -74,7 +74,7 @@ impl<'a> Prepared<'a> {
         let left = self.part(spot, 0).unwrap();
         let right = self.part(spot, 1).unwrap();
         match (self.is_scalar(&left), self.is_scalar(&right)) {
-            (true, true) => Ok(Some(Parts::Nothing)),
+            (true, true) => Ok(Some(WantedParts::Nothing)),
             (false, true) => Ok(self.beside_scalar(spot, 0, op, matching, texts)),
             (true, false) => Ok(self.beside_scalar(spot, 1, op, matching, texts)),
             (false, false) => self.operator(spot, op, left, right, texts),
@@ -89,7 +89,7 @@ impl<'a> Prepared<'a> {
         op: Op,
         matching: &Matching,
         texts: LabelTexts,
-    ) -> Option<Parts<'a>>
+    ) -> Option<WantedParts<'a>>
         requires known { IsPrepared self.now }
         requires spot { IsSpot (trees_of self.now) spot.now }
         requires texts { (D : Given) × Stands (universe_of self.now) texts D }
@@ -108,7 +108,7 @@ impl<'a> Prepared<'a> {
         left: Spot<'a>,
         right: Spot<'a>,
         texts: LabelTexts,
-    ) -> Result<Option<Parts<'a>>, Memory>
+    ) -> Result<Option<WantedParts<'a>>, Memory>
         requires known { IsPrepared self.now }
         requires spot { IsSpot (trees_of self.now) spot.now }
         requires own { (m : Matching) × (operator_of (tree_at spot.now) ≡ Some (op, m)) }
@@ -126,7 +126,7 @@ impl<'a> Prepared<'a> {
     }
 
     /// The left side of an `or` where its row holds the texts, and else the right side.
-    fn either(&self, spot: &Spot<'a>, left: &Spot<'a>, texts: LabelTexts) -> Option<Parts<'a>>
+    fn either(&self, spot: &Spot<'a>, left: &Spot<'a>, texts: LabelTexts) -> Option<WantedParts<'a>>
         requires known { IsPrepared self.now }
         requires spot { IsSpot (trees_of self.now) spot.now }
         requires left { IsSpot (trees_of self.now) left.now }
@@ -147,7 +147,7 @@ impl<'a> Prepared<'a> {
         left: Spot<'a>,
         right: Spot<'a>,
         texts: LabelTexts,
-    ) -> Result<Option<Parts<'a>>, Memory>
+    ) -> Result<Option<WantedParts<'a>>, Memory>
         requires known { IsPrepared self.now }
         requires spot { IsSpot (trees_of self.now) spot.now }
         requires own { (op : Op) × (m : Matching) × (operator_of (tree_at spot.now) ≡ Some (op, m)) }
@@ -161,7 +161,7 @@ impl<'a> Prepared<'a> {
         let left_row = self.row(&left);
         let right_row = self.row(&right);
         match side_texts(self.universe, marks, left_row, right_row, &texts)? {
-            Some(sides) => Ok(Some(Parts::Both {
+            Some(sides) => Ok(Some(WantedParts::Both {
                 left,
                 left_texts: sides.left,
                 right,
@@ -172,7 +172,7 @@ impl<'a> Prepared<'a> {
     }
 
     /// The operand of a function or an aggregation, if it is to be built.
-    fn operand(&self, spot: &Spot<'a>, args: &[Expr], texts: LabelTexts) -> Option<Parts<'a>>
+    fn operand(&self, spot: &Spot<'a>, args: &[Expr], texts: LabelTexts) -> Option<WantedParts<'a>>
         requires known { IsPrepared self.now }
         requires spot { IsSpot (trees_of self.now) spot.now }
         requires parts { parts_of (tree_at spot.now) ≡ list (trees args.now) }
@@ -185,18 +185,18 @@ impl<'a> Prepared<'a> {
         let lost = self.marks(spot).lost.as_slice();
         match operand_texts(self.universe, names, function.labels, lost, args, texts) {
             Some(texts) => self.one(spot, operand_place(function.takes), texts),
-            None => Some(Parts::Nothing),
+            None => Some(WantedParts::Nothing),
         }
     }
 
     /// The part of an expression at a place among its parts, counted from 0, if there is one.
-    fn one(&self, spot: &Spot<'a>, at: usize, texts: LabelTexts) -> Option<Parts<'a>>
+    fn one(&self, spot: &Spot<'a>, at: usize, texts: LabelTexts) -> Option<WantedParts<'a>>
         requires known { IsPrepared self.now }
         requires spot { IsSpot (trees_of self.now) spot.now }
         ensures { (D : Given) → Stands (universe_of self.now) texts D → AreParts self.now (tree_at spot.now) (one_wanted D (slice_get (parts_of (tree_at spot.now)) at)) result }
     {
         match self.part(spot, at) {
-            Some(spot) => Some(Parts::One { spot, texts }),
+            Some(spot) => Some(WantedParts::One { spot, texts }),
             None => None,
         }
     }

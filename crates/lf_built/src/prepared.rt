@@ -15,7 +15,6 @@ ghost use Rattle.lf_built.specs.views.Spots.{IsSpot, tree_at};
 
 use crate::marking::{NodeMarks, marks_in_rules, set_by_rules};
 use crate::part_rows::PartRows;
-use crate::recorders::Recorders;
 use crate::row_making::{RuleRow, rule_rows};
 use crate::spots::Spot;
 use lf_ast::Rule;
@@ -27,7 +26,7 @@ use lf_flow::Env;
 use lf_forks::Forks;
 use std::alloc::Global;
 
-/// What the built worlds of rules share: the names of the labels, the rules of each recorded name, what is told of the parts of each rule's expression, what is
+/// What the built worlds of rules share: the index of the rules, the names of the labels, what is told of the parts of each rule's expression, what is
 /// marked of the labels for these parts and for each rule, and the rows of each rule and of what it stores.
 #[derive(Drop)]
 pub struct Prepared<'a> {
@@ -37,7 +36,6 @@ pub struct Prepared<'a> {
     pub(crate) sources: &'a Sources,
     pub(crate) forks: &'a Forks,
     pub(crate) names: Vec<Text>,
-    pub(crate) recorders: Recorders,
     pub(crate) parts: Vec<PartRows>,
     pub(crate) marks: Vec<Seq<NodeMarks>>,
     pub(crate) set: Vec<Seq<bool>>,
@@ -94,7 +92,6 @@ impl<'a> Prepared<'a> {
         let all = rules.as_slice();
         let marks = marks_in_rules(alloc, labels, all)?;
         let set = set_by_rules(alloc, labels, all)?;
-        let recorders = Recorders::of(alloc, rules)?;
         let RowLists {
             parts,
             own,
@@ -107,7 +104,6 @@ impl<'a> Prepared<'a> {
             sources,
             forks,
             names,
-            recorders,
             parts,
             marks,
             set,
@@ -209,9 +205,9 @@ fn apart(alloc: Global, mut rows: Seq<RuleRow>) -> Result<RowLists, Memory>
     ensures recorded { IfOk result (λ apart. apart.recorded.items ≡ map (λ (row : RuleRow). row.recorded) rows) }
 {
     let mut apart = RowLists {
-        parts: Vec::new(alloc),
-        own: Vec::new(alloc),
-        recorded: Vec::new(alloc),
+        parts: Vec::with_capacity(alloc, rows.len())?,
+        own: Vec::with_capacity(alloc, rows.len())?,
+        recorded: Vec::with_capacity(alloc, rows.len())?,
     };
     while let Some(row) = rows.pop() {
         let RuleRow {

@@ -141,7 +141,7 @@ impl<'a> Prepared<'a> {
             Some(name) => self.select_name(alloc, most, name, texts, work),
             None => {
                 let names = self.names.as_slice();
-                let recorded = self.recorders.names();
+                let recorded = self.sources.recorded();
                 let series = series_unnamed(
                     alloc,
                     self.universe,
@@ -172,7 +172,7 @@ impl<'a> Prepared<'a> {
         ensures less { IfOk result (λ goes. goes ≡ true → effort self.now most work.new ≤ effort self.now most work.old) }
     {
         let name = name.as_str();
-        if is_recorded(self.recorders.names(), name) {
+        if is_recorded(self.sources.recorded(), name) {
             return self.pick(most, name, texts, work);
         }
         let names = self.names.as_slice();

@@ -2,7 +2,7 @@
 ghost use Rattle.std.specs.Prelude.{◌≡◌, ◌++◌, reverse, OnOk};
 ghost use Rattle.lf_built.specs.views.Works.{tasks_of};
 
-use crate::made::Made;
+use crate::made::BuiltSeries;
 use crate::marks::Marks;
 use crate::spots::Spot;
 use lf_base::Memory;
@@ -18,7 +18,7 @@ pub enum Pending<'a> {
 
 /// The parts of an expression that are to be built, with their texts: none, one, or both sides of an operator.
 #[derive(Drop)]
-pub enum Parts<'a> {
+pub enum WantedParts<'a> {
     Nothing,
     One {
         spot: Spot<'a>,
@@ -40,20 +40,20 @@ pub struct Work<'a> {
     pub marked: Marks,
     /// How many rules aren't marked.
     pub unmarked: usize,
-    pub made: Made,
+    pub made: BuiltSeries,
 }
 
 /// Puts parts onto a stack, the first one last.
-pub fn push_parts<'a>(stack: &mut Vec<Pending<'a>>, parts: Parts<'a>) -> Result<(), Memory>
+pub fn push_parts<'a>(stack: &mut Vec<Pending<'a>>, parts: WantedParts<'a>) -> Result<(), Memory>
     ensures { OnOk result (reverse stack.new.items ≡ tasks_of parts.entry ++ reverse stack.old.items) }
 {
     match parts {
-        Parts::Nothing => Ok(()),
-        Parts::One { spot, texts } => {
+        WantedParts::Nothing => Ok(()),
+        WantedParts::One { spot, texts } => {
             stack.push(Pending::Visit { spot, texts })?;
             Ok(())
         }
-        Parts::Both {
+        WantedParts::Both {
             left,
             left_texts,
             right,

@@ -3,6 +3,7 @@ pub mod FirstClass
 pub mod Labelled
 pub mod LeftPresences
 pub mod Marks
+pub mod NamesLeft
 pub mod OnlyClass
 pub mod PassingTexts
 pub mod Recorded

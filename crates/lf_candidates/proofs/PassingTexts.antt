@@ -1,5 +1,5 @@
 -- What is cached of a matcher tells of each class whether its text passes.
-use Rattle.std.proofs.Common.{◌≡◌, ℕ, ◌+◌, ◌<◌, Bool, true, false, not, ◌&&◌, ◌||◌, cond, eqb, List, [], map, length, get_or, nat_lt, refl, sym, ◌∙◌, ap, subst, arith}
+use Rattle.std.proofs.Common.{◌≡◌, ℕ, ◌+◌, ◌<◌, Bool, true, false, not, ◌&&◌, ◌||◌, cond, eqb, [], map, length, get_or, nat_lt, refl, sym, ◌∙◌, ap, subst, arith}
 use Rattle.std.specs.Prelude.{replicate}
 use Rattle.std.proofs.lemmas.Bool.{false_from_ne_true}
 use Rattle.std.proofs.lemmas.Bool.Decides.{Decides-eqb, nat_tests}
@@ -17,6 +17,14 @@ use Rattle.lf_semantics.proofs.RowSets.{emptied_holds}
 use Rattle.lf_classes.specs.views.PatternCache.{passing_row}
 use Rattle.lf_candidates.proofs.FirstClass.{row_length, set_length}
 
+-- every class is in the full row
+pub full_at : (u : Listing) (l c : ℕ) → l < length u.named → c < length (named_at u l) + 2 → holds (top u) l c ≡ true
+full_at u l c h k =
+    let counts = class_counts u in
+    let count = get_or-map (λ named. length named + 2) u.named l [] 0 h in
+    ap (λ set. get_or set c false) (get_or-map (λ count. replicate count true) counts l 0 [] (omega (arith, h, length-map u.named (λ named. length named + 2))))
+    ∙ get_or-replicate (get_or counts l 0) c true false (omega (arith, k, count))
+
 module _ (u : Listing) (label : ℕ) (op : MatchOp) (value : Bytes) (within : label < length u.named) where
   abbrev pass : ℕ → ℕ → Bool
   pass l c = passes_class u op value l c
@@ -30,18 +38,10 @@ module _ (u : Listing) (label : ℕ) (op : MatchOp) (value : Bytes) (within : la
   shape_made : HasShape u made
   shape_made = shape_remade (λ l c on. on && test l c) 0 (top u) ∙ shape_top u
 
-  -- every class is in the full row
-  full_at : (l c : ℕ) → l < length u.named → c < length (named_at u l) + 2 → holds (top u) l c ≡ true
-  full_at l c h k =
-      let counts = class_counts u in
-      let count = get_or-map (λ named. length named + 2) u.named l [] 0 h in
-      ap (λ set. get_or set c false) (get_or-map (λ count. replicate count true) counts l 0 [] (omega (arith, h, length-map u.named (λ named. length named + 2))))
-      ∙ get_or-replicate (get_or counts l 0) c true false (omega (arith, k, count))
-
   at : (l c : ℕ) → l < length u.named → c < length (named_at u l) + 2 → holds made l c ≡ test l c
   at l c h k =
       holds-remade (λ l c on. on && test l c) (top u) l c (omega (arith, h, row_length u (top u) (shape_top u))) (omega (arith, k, set_length u (top u) (shape_top u) l h))
-      ∙ ap (λ on. on && test l c) (full_at l c h k)
+      ∙ ap (λ on. on && test l c) (full_at u l c h k)
 
   own : (c : ℕ) → c < length (named_at u label) + 2 → holds made label c ≡ pass label c
   own c k = at label c within k ∙ ap (λ b. not b || pass label c) ((Decides-eqb label label).1 refl)
@@ -61,15 +61,16 @@ module _ (u : Listing) (label : ℕ) (op : MatchOp) (value : Bytes) (within : la
       by true e = own c k
       by false e = emptied_holds made label c ∙ sym (false_from_ne_true (pass label c) (λ p. clash (is_live made) (live_when made (each c k p)) e))
 
-  -- the row tells of a text that is a class whether it passes
+  -- the row tells of a class, but 'any other text', whether its text passes
+  pub cached_class : (row : Sets) (c : ℕ) → row ≡ passing_row u label op value → c < other_class u label → holds row label c ≡ passes op value (text_of u label c)
+  cached_class row c is less =
+      let mine : nat_lt c (other_class u label) ≡ true = grind (arith, nat_tests, less) in
+      ap (λ r. holds r label c) is ∙ holds_own c (omega (arith, less)) ∙ ap (λ (b : Bool). cond (not b) (passes_other op value) (passes op value (text_of u label c))) mine
+
+  -- and of a text that is a class whether it passes
   pub cached_passes : (row : Sets) (text : Bytes) → row ≡ passing_row u label op value → class_of u label text < other_class u label → holds row label (class_of u label text) ≡ passes op value text
   cached_passes row text is less =
-      let c : ℕ = class_of u label text in
-      let mine : nat_lt c (other_class u label) ≡ true = grind (arith, nat_tests, less) in
-      ap (λ r. holds r label c) is
-      ∙ holds_own c (omega (arith, less))
-      ∙ ap (λ (b : Bool). cond (not b) (passes_other op value) (passes op value (text_of u label c))) mine
-      ∙ ap (passes op value) (at_place (class_texts u label) text (omega (arith, less)))
+      cached_class row (class_of u label text) is less ∙ ap (passes op value) (at_place (class_texts u label) text (omega (arith, less)))
 
   -- it has a place for each class
   pub cached_shape : (row : Sets) → row ≡ passing_row u label op value → HasShape u row

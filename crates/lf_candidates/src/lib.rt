@@ -7,6 +7,7 @@ mod given;
 mod labels;
 mod named_row;
 mod names;
+mod names_left;
 mod passing;
 mod trial;
 

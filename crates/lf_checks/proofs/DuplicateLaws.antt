@@ -1,6 +1,7 @@
 -- The first rule that is the same, by what rules are written as.
-use Rattle.std.proofs.Common.{◌≡◌, ◌+◌, ◌<◌, ◌≤◌, ◌⊎◌, inl, inr, ℕ, zero, suc, true, false, cond, List, [], ◌∷◌, ◌++◌, length, take, get_or, Option, Some, None, refl, sym, subst, ap, ◌∙◌, arith, length-append}
-use Rattle.std.specs.Prelude.{slice_get}
+use Rattle.std.proofs.Common.{◌≡◌, ◌+◌, ◌<◌, ◌≤◌, ◌⊎◌, inl, inr, ℕ, Bool, zero, suc, true, false, cond, List, [], ◌∷◌, ◌++◌, length, take, get_or, Option, Some, None, refl, sym, subst, ap, ◌∙◌, arith, length-append}
+use Rattle.std.specs.List.{Contains}
+use Rattle.std.specs.Prelude.{nat_lt, slice_get}
 use Rattle.std.specs.Str.{bytes_eq}
 use Rattle.std.proofs.Math.Seq.{get_or-append_seam, take-append_seam}
 use Rattle.std.proofs.lemmas.List.{get_or_append_left, length-map, length-take-le, take-append-le}
@@ -17,16 +18,19 @@ use Rattle.lf_ast.specs.Rules.{rule_tree, rule_trees}
 use Rattle.lf_ast.specs.declared.rule.Rule.{Rule}
 use Rattle.lf_ast.specs.declared.verdict.Finding.{Finding as Row}
 use Rattle.std.proofs.lemmas.Option.{get_or_from_slice_get}
-use Rattle.std.proofs.lemmas.Bool.{le-ltb, lt-ltb}
+use Rattle.std.proofs.lemmas.Bool.{cases_lt, le-ltb, lt-ltb}
 use Rattle.lf_classes.specs.views.TextSets.{with_text}
+use Rattle.lf_deps.specs.views.Index.{makers_of}
+use Rattle.lf_deps.specs.views.Sources.{IsSourcesOf, Sources}
+use Rattle.lf_deps.proofs.LookedUp.{recorded_from}
 use Rattle.lf_checks.specs.Files.{File, StandIn, place_in}
 use Rattle.lf_checks.specs.Finding.{Finding, RuleDuplicate, finding}
 use Rattle.lf_checks.specs.Numbers.{HasNumbers}
-use Rattle.lf_checks.specs.RuleDuplicate.{AreSame, IsFirstAt, IsFound, says_where}
+use Rattle.lf_checks.specs.RuleDuplicate.{AreSameRule, IsFirstAt, IsFound, says_where}
 use Rattle.lf_checks.specs.views.Cases.{same_row}
 use Rattle.lf_checks.specs.views.Shown.{AreNumbered, Lists, place_of, shown}
 use Rattle.lf_checks.proofs.Lists.{lists_none, lists_one}
-use Rattle.lf_checks.specs.views.Duplicates.{AreFirsts, AreKept, HaveNone, IsFirst, IsFirstOf}
+use Rattle.lf_checks.specs.views.Duplicates.{AreFirsts, AreKept, HaveNone, IsFirst, IsFirstOf, is_shared}
 use Rattle.lf_checks.specs.views.Keys.{key_of}
 use Rattle.lf_checks.proofs.KeyLaws.{key_same, same_key}
 
@@ -61,19 +65,33 @@ new_text texts t le = ap (λ b. cond b texts (texts ++ t ∷ [])) (le-ltb (place
 
 -- ---- what is kept
 
-module _ (rules : List RuleTree) (keys : List Bytes) (numbers : List ℕ) (kept : AreKept rules keys numbers) (r : RuleTree) where
-  pub alert_kept : r.alert ≡ true → AreKept (rules ++ r ∷ []) keys numbers
+module _ (among : Bytes → Bool) (rules : List RuleTree) (keys : List Bytes) (numbers : List ℕ) (kept : AreKept among rules keys numbers) (r : RuleTree) where
+  pub alert_kept : r.alert ≡ true → AreKept among (rules ++ r ∷ []) keys numbers
   alert_kept alert = record {
     count = kept.count;
     each = λ p lt. let h = kept.each p lt in (h.0, get_left rules r h.0 (get_or numbers p 0) h.1, h.2, h.3);
-    all = λ j s e recorded. elim (get_cases rules r s j e) [
-      | inl h ↦ kept.all j s h recorded
+    all = λ j s e recorded named. elim (get_cases rules r s j e) [
+      | inl h ↦ kept.all j s h recorded named
       | inr h ↦ let no_way : true ≡ false = sym alert ∙ ap (λ (x : RuleTree). x.alert) h.1 ∙ recorded in absurd (cc)
     ];
   }
 
+  -- a rule with another name
+  pub alone_kept : among r.name ≡ false → AreKept among (rules ++ r ∷ []) keys numbers
+  alone_kept alone = record {
+    count = kept.count;
+    each = λ p lt. let h = kept.each p lt in (h.0, get_left rules r h.0 (get_or numbers p 0) h.1, h.2, h.3);
+    all = λ j s e recorded named. elim (get_cases rules r s j e) [
+      | inl h ↦ kept.all j s h recorded named
+      | inr h ↦ let no_way : false ≡ true = sym alone ∙ ap (λ (x : RuleTree). among x.name) h.1 ∙ named in absurd (cc)
+    ];
+  }
+
   -- a rule that is written as one that is kept
-  module _ (recorded : r.alert ≡ false) where
+  module _ (recorded : r.alert ≡ false) (is_among : among r.name ≡ true) where
+    as_named : (t : RuleTree) → r.name ≡ t.name → among t.name ≡ true
+    as_named t e = ap among (sym e) ∙ is_among
+
     pub known_first : place keys (key_of r) < length keys → IsFirst rules r (get_or numbers (place keys (key_of r)) 0)
     known_first lt =
         let h = kept.each (place keys (key_of r)) lt in
@@ -83,18 +101,18 @@ module _ (rules : List RuleTree) (keys : List Bytes) (numbers : List ℕ) (kept 
           h.1,
           (recorded, h.2, say.0, say.1, say.2),
           λ k t less e same.
-              let there = kept.all k t e same.1 in
+              let there = kept.all k t e same.1 (as_named t same.2) in
               let as_t : key_of t ≡ key_of r = sym (same_key r t (same.2, same.3, same.4)) in
               let at_most : get_or numbers (place keys (key_of r)) 0 ≤ k = subst (λ (x : Bytes). get_or numbers (place keys x) 0 ≤ k) as_t there.1 in
               omega (arith, at_most, less),
         )
 
-    pub known_kept : place keys (key_of r) < length keys → AreKept (rules ++ r ∷ []) keys numbers
+    pub known_kept : place keys (key_of r) < length keys → AreKept among (rules ++ r ∷ []) keys numbers
     known_kept lt = record {
       count = kept.count;
       each = λ p less. let h = kept.each p less in (h.0, get_left rules r h.0 (get_or numbers p 0) h.1, h.2, h.3);
-      all = λ j s e alert. elim (get_cases rules r s j e) [
-        | inl h ↦ kept.all j s h alert
+      all = λ j s e alert named. elim (get_cases rules r s j e) [
+        | inl h ↦ kept.all j s h alert named
         | inr h ↦
             let one = kept.each (place keys (key_of r)) lt in
             let below : get_or numbers (place keys (key_of r)) 0 < length rules = slice_get_within rules (get_or numbers (place keys (key_of r)) 0) one.0 one.1 in
@@ -106,12 +124,12 @@ module _ (rules : List RuleTree) (keys : List Bytes) (numbers : List ℕ) (kept 
     -- a rule that is written as none that is kept
     pub new_first : length keys ≤ place keys (key_of r) → HaveNone rules r
     new_first behind j s e same =
-        let there = (kept.all j s e same.1).0 in
+        let there = (kept.all j s e same.1 (as_named s same.2)).0 in
         let as_s : key_of s ≡ key_of r = sym (same_key r s (same.2, same.3, same.4)) in
         let within : place keys (key_of r) < length keys = subst (λ (x : Bytes). place keys x < length keys) as_s there in
         omega (arith, within, behind)
 
-    pub new_kept : length keys ≤ place keys (key_of r) → AreKept (rules ++ r ∷ []) (keys ++ key_of r ∷ []) (numbers ++ length rules ∷ [])
+    pub new_kept : length keys ≤ place keys (key_of r) → AreKept among (rules ++ r ∷ []) (keys ++ key_of r ∷ []) (numbers ++ length rules ∷ [])
     new_kept behind = record {
       count = length-append numbers (length rules ∷ []) ∙ ap (λ n. n + 1) kept.count ∙ sym (length-append keys (key_of r ∷ []));
       each = λ p lt. elim (eq-or-lt_of_le (at_most p lt)) [
@@ -122,9 +140,9 @@ module _ (rules : List RuleTree) (keys : List Bytes) (numbers : List ℕ) (kept 
             let number : get_or (numbers ++ length rules ∷ []) p 0 ≡ get_or numbers p 0 = get_or_append_left numbers (length rules ∷ []) 0 p (omega (arith, less, count)) in
             (h.0, subst (λ (n : ℕ). slice_get (rules ++ r ∷ []) n ≡ Some h.0) (sym number) (get_left rules r h.0 (get_or numbers p 0) h.1), h.2, get_or_append_left keys (key_of r ∷ []) [] p less ∙ h.3)
       ];
-      all = λ j s e alert. elim (get_cases rules r s j e) [
+      all = λ j s e alert named. elim (get_cases rules r s j e) [
         | inl h ↦
-            let old = kept.all j s h alert in
+            let old = kept.all j s h alert named in
             let count = kept.count in
             let same = place_kept keys (key_of r) (key_of s) old.0 in
             let long = length-append keys (key_of r ∷ []) in
@@ -156,7 +174,7 @@ module _ (rules : List RuleTree) (keys : List Bytes) (numbers : List ℕ) (kept 
 
 -- ---- one more rule, written as this text, which has this place among those that are kept
 
-module _ (rules : List RuleTree) (keys : List Bytes) (numbers : List ℕ) (kept : AreKept rules keys numbers) (r : RuleTree) (recorded : r.alert ≡ false) (key : Bytes) (written : key ≡ key_of r) (at : ℕ) (is : at ≡ place keys key) where
+module _ (among : Bytes → Bool) (rules : List RuleTree) (keys : List Bytes) (numbers : List ℕ) (kept : AreKept among rules keys numbers) (r : RuleTree) (recorded : r.alert ≡ false) (is_among : among r.name ≡ true) (key : Bytes) (written : key ≡ key_of r) (at : ℕ) (is : at ≡ place keys key) where
   there : at ≡ place keys (key_of r)
   there = is ∙ ap (place keys) written
 
@@ -164,27 +182,73 @@ module _ (rules : List RuleTree) (keys : List Bytes) (numbers : List ℕ) (kept 
   found_first number lt e =
       let count = kept.count in
       let within : place keys (key_of r) < length keys = subst (λ (n : ℕ). n < length keys) there (omega (arith, lt, count)) in
-      subst (IsFirst rules r) (ap (λ n. get_or numbers n 0) (sym there) ∙ e) (known_first rules keys numbers kept r recorded within)
+      subst (IsFirst rules r) (ap (λ n. get_or numbers n 0) (sym there) ∙ e) (known_first among rules keys numbers kept r recorded is_among within)
 
-  pub found_kept : (after : List Bytes) → at < length numbers → after ≡ with_text keys key → AreKept (rules ++ r ∷ []) after numbers
+  pub found_kept : (after : List Bytes) → at < length numbers → after ≡ with_text keys key → AreKept among (rules ++ r ∷ []) after numbers
   found_kept after lt e =
       let count = kept.count in
       let within : place keys key < length keys = subst (λ (n : ℕ). n < length keys) is (omega (arith, lt, count)) in
       let too : place keys (key_of r) < length keys = subst (λ (t : Bytes). place keys t < length keys) written within in
-      subst (λ (l : List Bytes). AreKept (rules ++ r ∷ []) l numbers) (sym (e ∙ known_text keys key within)) (known_kept rules keys numbers kept r recorded too)
+      subst (λ (l : List Bytes). AreKept among (rules ++ r ∷ []) l numbers) (sym (e ∙ known_text keys key within)) (known_kept among rules keys numbers kept r recorded is_among too)
 
   pub unfound_first : length numbers ≤ at → HaveNone rules r
   unfound_first le =
       let count = kept.count in
-      new_first rules keys numbers kept r recorded (subst (λ (n : ℕ). length keys ≤ n) there (omega (arith, le, count)))
+      new_first among rules keys numbers kept r recorded is_among (subst (λ (n : ℕ). length keys ≤ n) there (omega (arith, le, count)))
 
-  pub unfound_kept : (after : List Bytes) (more : List ℕ) (number : ℕ) → length numbers ≤ at → after ≡ with_text keys key → more ≡ numbers ++ number ∷ [] → number ≡ length rules → AreKept (rules ++ r ∷ []) after more
+  pub unfound_kept : (after : List Bytes) (more : List ℕ) (number : ℕ) → length numbers ≤ at → after ≡ with_text keys key → more ≡ numbers ++ number ∷ [] → number ≡ length rules → AreKept among (rules ++ r ∷ []) after more
   unfound_kept after more number le e m n =
       let count = kept.count in
       let behind : length keys ≤ place keys (key_of r) = subst (λ (k : ℕ). length keys ≤ k) there (omega (arith, le, count)) in
       let past : length keys ≤ place keys key = subst (λ (t : Bytes). length keys ≤ place keys t) (sym written) behind in
-      subst (λ (l : List Bytes). AreKept (rules ++ r ∷ []) l more) (sym (e ∙ new_text keys key past ∙ ap (λ (t : Bytes). keys ++ t ∷ []) written))
-      (subst (λ (l : List ℕ). AreKept (rules ++ r ∷ []) (keys ++ key_of r ∷ []) l) (sym (m ∙ ap (λ (k : ℕ). numbers ++ k ∷ []) n)) (new_kept rules keys numbers kept r recorded behind))
+      subst (λ (l : List Bytes). AreKept among (rules ++ r ∷ []) l more) (sym (e ∙ new_text keys key past ∙ ap (λ (t : Bytes). keys ++ t ∷ []) written))
+      (subst (λ (l : List ℕ). AreKept among (rules ++ r ∷ []) (keys ++ key_of r ∷ []) l) (sym (m ∙ ap (λ (k : ℕ). numbers ++ k ∷ []) n)) (new_kept among rules keys numbers kept r recorded is_among behind))
+
+-- ---- the first of a list
+
+get_taken : {X : Type 0} (xs : List X) (i j : ℕ) (x : X) → slice_get (take i xs) j ≡ Some x → (j < i) × (slice_get xs j ≡ Some x)
+get_taken {X} [] zero j x e = let no_way : None ≡ Some x = e in absurd (cc)
+get_taken {X} [] (suc i) j x e = let no_way : None ≡ Some x = e in absurd (cc)
+get_taken {X} (y ∷ xs) zero j x e = let no_way : None ≡ Some x = e in absurd (cc)
+get_taken {X} (y ∷ xs) (suc i) zero x e = (omega arith, e)
+get_taken {X} (y ∷ xs) (suc i) (suc j) x e = let h = get_taken xs i j x e in (let lt = h.0 in omega (arith, lt), h.1)
+
+-- ---- a rule whose name no other rule records
+
+one_number : (xs : List ℕ) (i j : ℕ) → length xs ≤ 1 → Contains xs i → Contains xs j → i ≡ j
+one_number [] i j le (k, lt, e) b = absurd (omega (arith, lt))
+one_number (x ∷ []) i j le (zero, lt, e) (zero, less, f) = sym e ∙ f
+one_number (x ∷ []) i j le (zero, lt, e) (suc k, less, f) = absurd (omega (arith, less))
+one_number (x ∷ []) i j le (suc k, lt, e) b = absurd (omega (arith, lt))
+one_number (x ∷ y ∷ xs) i j le a b = absurd (omega (arith, le))
+
+few_by : (n : ℕ) → nat_lt 1 n ≡ false → n ≤ 1
+few_by n e = elim (cases_lt 1 n) [
+  | inl lt ↦ let no_way : true ≡ false = sym (lt-ltb 1 n lt) ∙ e in absurd (cc)
+  | inr le ↦ le
+]
+
+pub alone_none : (rules : List RuleTree) (s : Sources) → IsSourcesOf rules s → (i : ℕ) (r : RuleTree) → slice_get rules i ≡ Some r → r.alert ≡ false → is_shared s r.name ≡ false
+    → (j : ℕ) (t : RuleTree) → j < i → slice_get rules j ≡ Some t → AreSameRule r t → ⊥
+alone_none rules s is i r at recorded alone j t less e same =
+    let own = recorded_from rules s is r i at recorded in
+    let P : Bytes → Type 0 = λ n. Contains (makers_of s n) j in
+    let other = subst P (sym same.2) (recorded_from rules s is t j e same.1) in
+    let one = one_number (makers_of s r.name) i j (few_by (length (makers_of s r.name)) alone) own other in
+    omega (arith, one, less)
+
+-- the trees of the first rules
+trees_taken : (rules : List Rule) (k : ℕ) → rule_trees (take k rules) ≡ take k (rule_trees rules)
+trees_taken [] zero = refl
+trees_taken [] (suc k) = refl
+trees_taken (r ∷ rules) zero = refl
+trees_taken (r ∷ rules) (suc k) = ap (λ l. rule_tree r ∷ l) (trees_taken rules k)
+
+pub none_before : (rules : List Rule) (s : Sources) → IsSourcesOf (rule_trees rules) s → (i : ℕ) (r : RuleTree) → slice_get (rule_trees rules) i ≡ Some r → is_shared s r.name ≡ false → r.alert ≡ false → HaveNone (rule_trees (take i rules)) r
+none_before rules s is i r at alone recorded j t e same =
+    let P : List RuleTree → Type 0 = λ l. slice_get l j ≡ Some t in
+    let there = get_taken (rule_trees rules) i j t (subst P (trees_taken rules i) e) in
+    alone_none (rule_trees rules) s is i r at recorded alone j t there.0 there.1 same
 
 -- ---- the first rules of all
 
@@ -210,13 +274,6 @@ as_many rules k le = length-map (take k rules) rule_tree ∙ length-take-le k ru
 
 -- ---- what is told of a rule
 
-get_taken : {X : Type 0} (xs : List X) (i j : ℕ) (x : X) → slice_get (take i xs) j ≡ Some x → (j < i) × (slice_get xs j ≡ Some x)
-get_taken {X} [] zero j x e = let no_way : None ≡ Some x = e in absurd (cc)
-get_taken {X} [] (suc i) j x e = let no_way : None ≡ Some x = e in absurd (cc)
-get_taken {X} (y ∷ xs) zero j x e = let no_way : None ≡ Some x = e in absurd (cc)
-get_taken {X} (y ∷ xs) (suc i) zero x e = (omega arith, e)
-get_taken {X} (y ∷ xs) (suc i) (suc j) x e = let h = get_taken xs i j x e in (let lt = h.0 in omega (arith, lt), h.1)
-
 taken_get : {X : Type 0} (xs : List X) (i j : ℕ) (x : X) → j < i → slice_get xs j ≡ Some x → slice_get (take i xs) j ≡ Some x
 taken_get {X} [] zero j x lt e = absurd (omega (arith, lt))
 taken_get {X} [] (suc i) j x lt e = e
@@ -228,8 +285,8 @@ pub not_apart : (k j : ℕ) → (k < j → ⊥) → (j < k → ⊥) → k ≡ j
 not_apart k j a b = omega (arith, a, b)
 
 -- the first of those before a rule is the first of all
-first_at : (rules : List RuleTree) (i : ℕ) (r : RuleTree) (j : ℕ) (s : RuleTree) → slice_get (take i rules) j ≡ Some s → AreSame r s
-    → ((k : ℕ) (t : RuleTree) → k < j → slice_get (take i rules) k ≡ Some t → AreSame r t → ⊥) → IsFirstAt rules i r j s
+first_at : (rules : List RuleTree) (i : ℕ) (r : RuleTree) (j : ℕ) (s : RuleTree) → slice_get (take i rules) j ≡ Some s → AreSameRule r s
+    → ((k : ℕ) (t : RuleTree) → k < j → slice_get (take i rules) k ≡ Some t → AreSameRule r t → ⊥) → IsFirstAt rules i r j s
 first_at rules i r j s taken same least =
     let at = get_taken rules i j s taken in
     (at.0, at.1, same, λ k t lt e. least k t lt (taken_get rules i k t (let less = at.0 in omega (arith, lt, less)) e))

@@ -11,7 +11,7 @@ use Rattle.lf_semantics.specs.RowTable.{Environment}
 use Rattle.lf_checks.specs.Files.{File}
 use Rattle.lf_checks.specs.Finding.{Check, AlertComparison, AlertTemplate, RuleDuplicate, RuleDependency, PromqlRegexp, MatchLabel, ExprEmpty, ExprType, RuleLabel, Finding}
 use Rattle.lf_checks.specs.Findings.{AreFindingsIn}
-use Rattle.lf_checks.specs.Numbers.{HasNumbers, Names, Says}
+use Rattle.lf_checks.specs.Numbers.{HasNumbers, NamesOther, CaseSays}
 use Rattle.lf_checks.specs.PromqlRegexp.{says_anchored, says_plain}
 use Rattle.lf_checks.specs.RuleDependency.{says_cyclic, says_unrecorded}
 use Rattle.lf_checks.specs.RuleDuplicate.{IsFirstAt}
@@ -35,7 +35,7 @@ plain_is_not_anchored : says_plain ≡ says_anchored → ⊥
 plain_is_not_anchored e = let clash : 111 ≡ 97 = ap (λ (t : Bytes). slice_index_or t 15 0) e in omega (arith, clash)
 
 -- the text of a check tells the case and what it is about
-pub same_case : (c : Check) (k m : ℕ) (l n text : Bytes) → Says c k l text → Says c m n text → (k ≡ m) × (l ≡ n)
+pub same_case : (c : Check) (k m : ℕ) (l n text : Bytes) → CaseSays c k l text → CaseSays c m n text → (k ≡ m) × (l ≡ n)
 same_case AlertComparison zero zero l n text h g = (refl, h.0 ∙ sym g.0)
 same_case AlertComparison zero (suc m) l n text h g = absurd g
 same_case AlertComparison (suc k) m l n text h g = absurd h
@@ -89,7 +89,7 @@ module _ (rules : List RuleTree) (i : ℕ) where
       let also = subst P (sym e) h in
       not_apart j k (λ less. also.3 j s less at same) (λ less. none k z less also.1 also.2)
 
-  same_named : (c : Check) (o p : Option ℕ) → Names rules i c o → Names rules i c p → o ≡ p
+  same_named : (c : Check) (o p : Option ℕ) → NamesOther rules i c o → NamesOther rules i c p → o ≡ p
   same_named RuleDuplicate o p (r, s, j, at, first, e) (q, z, k, there, second, d) =
       let both : Some r ≡ Some q = sym at ∙ there in
       let rule : r ≡ q = cc in

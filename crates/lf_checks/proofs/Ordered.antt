@@ -1,6 +1,7 @@
 -- Findings that are in the order of their keys, each key once, are in their own order.
-use Rattle.std.proofs.Common.{◌≡◌, ◌≢◌, ℕ, zero, suc, Bool, true, false, true≢false, List, [], ◌∷◌, map, Option, Some, None, refl, sym, ap, ◌∙◌, subst}
+use Rattle.std.proofs.Common.{◌≡◌, ◌≢◌, ◌≤◌, ℕ, zero, suc, length, arith, Bool, true, false, true≢false, List, [], ◌∷◌, map, Option, Some, None, refl, sym, ap, ◌∙◌, subst}
 use Rattle.std.proofs.lemmas.Cmp.{tied_itself}
+use Rattle.std.proofs.lemmas.Option.{slice_get_within}
 use Rattle.std.proofs.lemmas.List.Elements.{All-contains_itself, All-weaker}
 use Rattle.std.specs.Cmp.Lexicographic.{nat_list_cmp_total, slice_cmp}
 use Rattle.std.specs.FinMap.{nat_cmp-IsAntisymmetric}
@@ -129,6 +130,14 @@ module _ (files : List File) (rules : List RuleTree) where
 
     pub in_order : (rs : List (Keyed Row)) → rs ≡ dedup (eq_by_cmp keyed_cmp) sorted → IsInOrder finding_cmp (all_shown files rules found) (all_shown files rules (map (λ (k : Keyed Row). k.item) rs))
     in_order = all_in_order row_key (shown files rules) finding_cmp found sorted moved up (λ a b ca cb. less_shown a b (only_one_names a b ca cb)) (λ a b ca cb. same_shown a b (only_one_names a b ca cb))
+
+-- one value at most is in order
+pub few_in_order : {X : Type 0} (cmp : X → X → Ordering) (xs : List X) → length xs ≤ 1 → IsInOrder cmp xs xs
+few_in_order {X} cmp xs few = record {
+  ascending = λ i j x y less at there. absurd (omega (arith, few, less, slice_get_within xs j y there));
+  kept = λ x h. h;
+  only = λ x h. h;
+}
 
 -- each that is left was found
 pub given : (found : List Row) (sorted rs : List (Keyed Row)) → IsPermutation (map keyed found) sorted → rs ≡ dedup (eq_by_cmp keyed_cmp) sorted → All (Contains found) (map (λ (k : Keyed Row). k.item) rs)

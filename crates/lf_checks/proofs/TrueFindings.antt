@@ -28,7 +28,7 @@ use Rattle.lf_checks.specs.Findings.{FindsIn, IsFindingIn}
 use Rattle.lf_checks.specs.Judged.{IsGuaranteed, IsImpossible}
 use Rattle.lf_checks.specs.MatchLabel as match_label
 use Rattle.lf_checks.specs.RuleLabel as rule_label
-use Rattle.lf_checks.specs.Truths.{HasNoSample, IsNeverGiven, IsOnEach, IsOnNone, IsTrue, recorded}
+use Rattle.lf_checks.specs.Truths.{HasNoSample, IsNeverGiven, IsOnEach, IsOnNone, IsTrueFinding, recorded}
 use Rattle.lf_semantics.proofs.PartsCovered.{part_covered}
 use Rattle.lf_checks.proofs.SoughtCovered.{sought_covered}
 use Rattle.lf_checks.proofs.RunsAdmitted.{world_admitted}
@@ -84,20 +84,20 @@ module _ (u : Listing) (listing : IsListing u) (rules : List RuleTree) (covers :
   empty_by_type : (r : RuleTree) → is_evaluated (type_by_form r.expr) ≡ false → is_live (row r) ≡ false
   empty_by_type r e = ap (λ (b : Bool). is_live (cond b (row_of u env r.expr) (bottom u))) e ∙ bottom_dead u listing
 
-  template_is_true : (r : RuleTree) (f : Finding) → alert_template.IsFound u (row r) r f → IsTrue rules r f
+  template_is_true : (r : RuleTree) (f : Finding) → alert_template.IsFound u (row r) r f → IsTrueFinding rules r f
   template_is_true r f (inl (t, reference, has, refers, impossible, e)) =
-      subst (IsTrue rules r) (sym e)
+      subst (IsTrueFinding rules r) (sym e)
       (λ label text. subst (IsOnNone rules r) (same_label (codes " is never on the alert's sample") reference.label label text) (on_none r reference.label impossible))
-  template_is_true r f (inr (t, breach, has, breaks, e)) = subst (IsTrue rules r) (sym e) (λ label text. absurd (unreadable_names_none label text))
+  template_is_true r f (inr (t, breach, has, breaks, e)) = subst (IsTrueFinding rules r) (sym e) (λ label text. absurd (unreadable_names_none label text))
 
-  label_is_true : (r : RuleTree) (f : Finding) → rule_label.IsFound u (row r) r f → IsTrue rules r f
+  label_is_true : (r : RuleTree) (f : Finding) → rule_label.IsFound u (row r) r f → IsTrueFinding rules r f
   label_is_true r f (inl (l, has, some, guaranteed, e)) =
-      subst (IsTrue rules r) (sym e) (
+      subst (IsTrueFinding rules r) (sym e) (
         λ label text. subst (IsOnEach rules r) (same_label (codes " replaces one that each sample has") l.key label text) (on_each r l.key guaranteed),
         λ label text. absurd (replaced_is_not_removed l.key label text),
       )
   label_is_true r f (inr (l, has, none, impossible, e)) =
-      subst (IsTrue rules r) (sym e) (
+      subst (IsTrueFinding rules r) (sym e) (
         λ label text. absurd (replaced_is_not_removed label l.key (sym text)),
         λ label text. subst (IsOnNone rules r) (same_label (codes " is removed but on no sample") l.key label text) (on_none r l.key impossible),
       )
@@ -110,11 +110,11 @@ module _ (u : Listing) (listing : IsListing u) (rules : List RuleTree) (covers :
       let represented = sound u listing env least.of_rules.environment world.series (recorded before) admitted e known R s w inside in
       has (is_absent u (row_of u env e) s represented label impossible.1)
 
-  match_is_true : (r : RuleTree) (f : Finding) → Contains rules r → match_label.IsFound u env r f → IsTrue rules r f
+  match_is_true : (r : RuleTree) (f : Finding) → Contains rules r → match_label.IsFound u env r f → IsTrueFinding rules r f
   match_is_true r f c (e, sought, operand, within, seeks, impossible, is) =
       let whole : Covers u r.expr = all_front (IsKnown u) (mentions r.expr) _ (covers r c) in
       let known : Covers u operand = sought_covered u e sought operand (part_covered u r.expr e whole within) seeks in
-      subst (IsTrue rules r) (sym is) (
+      subst (IsTrueFinding rules r) (sym is) (
       λ label text.
       let same : sought.text ≡ label = same_label (codes " is never on the operand") sought.text label text in (
         e,
@@ -130,24 +130,24 @@ module _ (u : Listing) (listing : IsListing u) (rules : List RuleTree) (covers :
   -- ---- all checks
 
   -- what a check finds of a rule is true
-  pub found_is_true : (files : List File) (check : Check) (i : ℕ) (r : RuleTree) (f : Finding) → Contains rules r → FindsIn files u rules env check i r f → IsTrue rules r f
-  found_is_true files AlertComparison i r f c h = subst (IsTrue rules r) (sym h.2) tt
+  pub found_is_true : (files : List File) (check : Check) (i : ℕ) (r : RuleTree) (f : Finding) → Contains rules r → FindsIn files u rules env check i r f → IsTrueFinding rules r f
+  found_is_true files AlertComparison i r f c h = subst (IsTrueFinding rules r) (sym h.2) tt
   found_is_true files AlertTemplate i r f c h = template_is_true r f h
-  found_is_true files RuleDuplicate i r f c (s, place, first, at, e) = subst (IsTrue rules r) (sym e) tt
-  found_is_true files RuleDependency i r f c (inl (name, span, at, colon, none, e)) = subst (IsTrue rules r) (sym e) tt
-  found_is_true files RuleDependency i r f c (inr (name, span, at, cyclic, e)) = subst (IsTrue rules r) (sym e) tt
-  found_is_true files PromqlRegexp i r f c (inl (m, by, one, e)) = subst (IsTrue rules r) (sym e) tt
-  found_is_true files PromqlRegexp i r f c (inr (m, by, anchored, e)) = subst (IsTrue rules r) (sym e) tt
+  found_is_true files RuleDuplicate i r f c (s, place, first, at, e) = subst (IsTrueFinding rules r) (sym e) tt
+  found_is_true files RuleDependency i r f c (inl (name, span, at, colon, none, e)) = subst (IsTrueFinding rules r) (sym e) tt
+  found_is_true files RuleDependency i r f c (inr (name, span, at, cyclic, e)) = subst (IsTrueFinding rules r) (sym e) tt
+  found_is_true files PromqlRegexp i r f c (inl (m, by, one, e)) = subst (IsTrueFinding rules r) (sym e) tt
+  found_is_true files PromqlRegexp i r f c (inr (m, by, anchored, e)) = subst (IsTrueFinding rules r) (sym e) tt
   found_is_true files MatchLabel i r f c h = match_is_true r f c h
-  found_is_true files ExprEmpty i r f c h = subst (IsTrue rules r) (sym h.2) (no_sample r h.1)
-  found_is_true files ExprType i r f c h = subst (IsTrue rules r) (sym h.1) (no_sample r (empty_by_type r h.0))
+  found_is_true files ExprEmpty i r f c h = subst (IsTrueFinding rules r) (sym h.2) (no_sample r h.1)
+  found_is_true files ExprType i r f c h = subst (IsTrueFinding rules r) (sym h.1) (no_sample r (empty_by_type r h.0))
   found_is_true files RuleLabel i r f c h = label_is_true r f h
 
   -- so is each of its findings
-  pub finding_is_true_in : (files : List File) (i : ℕ) (f : Finding) → IsFindingIn files u rules env i f → (r : RuleTree) × (slice_get rules i ≡ Some r) × IsTrue rules r f
+  pub finding_is_true_in : (files : List File) (i : ℕ) (f : Finding) → IsFindingIn files u rules env i f → (r : RuleTree) × (slice_get rules i ≡ Some r) × IsTrueFinding rules r f
   finding_is_true_in files i f (r, at, check, found) = (r, at, found_is_true files check i r f (i, slice_get_within rules i r at, get_or_from_slice_get rules i r r at) found)
 
 -- in the universe of exactly these rules
 pub finding_is_true : (rules : List RuleTree) → SetNoNames rules → (env : Environment) → IsLeast (universe_of rules) rules env → (files : List File) (i : ℕ) (f : Finding) → IsFindingIn files (universe_of rules) rules env i f
-    → (r : RuleTree) × (slice_get rules i ≡ Some r) × IsTrue rules r f
+    → (r : RuleTree) × (slice_get rules i ≡ Some r) × IsTrueFinding rules r f
 finding_is_true rules = finding_is_true_in (universe_of rules) (universe_is_listing rules) rules (universe_covers rules)

@@ -18,10 +18,10 @@ use Rattle.lf_semantics.specs.Environments.{rule_row}
 use Rattle.lf_semantics.specs.Listing.{Listing, label_of, universe_of}
 use Rattle.lf_semantics.specs.RowTable.{may_be_present}
 use Rattle.lf_semantics.proofs.Written.{aggregate, asks, between, call, matching, number, over_time, paren, place_at, record_rule, selector, sight, sum_by, unmodified}
-use Rattle.lf_templates.specs.Templates.{Braced, Breaks, Piece, References, flawed}
+use Rattle.lf_templates.specs.Templates.{Braced, Breaks, TemplatePiece, References, flawed}
 use Rattle.lf_templates.specs.Tokens.{a_field, a_variable, a_word, field_of, variable_of, word_of}
 use Rattle.lf_templates.specs.declared.reference.Reference.{Reference}
-use Rattle.lf_templates.specs.declared.token.Token.TheVariants as tokens
+use Rattle.lf_templates.specs.declared.token.ActionToken.TheVariants as tokens
 use Rattle.lf_templates.specs.declared.token.Variable.TheVariants as variables
 use Rattle.lf_templates.specs.declared.token.Word.TheVariants as words
 use Rattle.lf_templates.proofs.Deciding.{one_list}
@@ -135,7 +135,7 @@ tells text = record { text = text; from = offsets }
 abbrev refers : Bytes → Reference
 refers label = record { label = label; span = span 2 13 }
 
-abbrev pieces : Bytes → List Piece
+abbrev pieces : Bytes → List TemplatePiece
 pieces field = Braced (record { token = tokens.Variable variables.Labels; text = codes "$labels" } ∷ record { token = tokens.Field false; text = field } ∷ []) ∷ []
 
 env_is_named : References offsets (codes "{{$labels.env}}") (refers (codes "env") ∷ [])
@@ -205,7 +205,7 @@ nothing_of_never f (inr (t, breach, has, breaks, e)) =
     (one_list offsets (codes "{{$labels.job}}")).one (refers (codes "job") ∷ []) breach job_is_named (subst (λ (z : Template). Breaks z.from z.text breach) (sym one) breaks)
 
 -- but `{{end}}`, which ends no body, is told of it too
-abbrev end_alone : List Piece
+abbrev end_alone : List TemplatePiece
 end_alone = Braced (record { token = tokens.Word words.End; text = codes "end" } ∷ []) ∷ []
 
 ends_nothing : Breaks offsets (codes "{{end}}") (fault BadAction (span 0 7))

@@ -37,7 +37,7 @@ use Rattle.lf_checks.specs.Findings.{AreFindingsIn, FindsIn}
 use Rattle.lf_checks.specs.Judged.{IsImpossible}
 use Rattle.lf_checks.specs.MatchLabel as match_label
 use Rattle.lf_checks.specs.MatchLabel.{Seeks}
-use Rattle.lf_checks.specs.Numbers.{HasNumbers, Says}
+use Rattle.lf_checks.specs.Numbers.{HasNumbers, CaseSays}
 use Rattle.lf_checks.specs.PromqlRegexp as promql_regexp
 use Rattle.lf_checks.specs.PromqlRegexp.{IsAnchored, MatchesBy}
 use Rattle.lf_checks.specs.RuleDependency as rule_dependency
@@ -390,10 +390,10 @@ in_numbers = record {
 }
 
 -- there is no other case of the check, and rule/label has two
-one_case : (case : ℕ) (label text : Bytes) → Says RuleDuplicate (suc case) label text → ⊥
+one_case : (case : ℕ) (label text : Bytes) → CaseSays RuleDuplicate (suc case) label text → ⊥
 one_case case label text h = h
 
-two_cases : (label text : Bytes) → Says RuleLabel 9 label text → ⊥
+two_cases : (label text : Bytes) → CaseSays RuleLabel 9 label text → ⊥
 two_cases label text h = h
 
 -- and the first one has none before it

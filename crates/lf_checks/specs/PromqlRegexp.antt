@@ -42,8 +42,8 @@ abbrev pub EndsAnchored : Bytes → Type 0
 EndsAnchored pattern = (front : Bytes) × (pattern ≡ front ++ 36 ∷ []) × ((more : Bytes) → front ≢ more ++ 92 ∷ [])
 
 -- a matcher by one plain text, at the string
-abbrev pub IsPlain : RuleTree → Finding → Type 0
-IsPlain r f = (m : Matcher) × MatchesBy r.expr m × IsOneText m.value × (f ≡ finding PromqlRegexp m.value_span says_plain)
+abbrev pub FindsPlain : RuleTree → Finding → Type 0
+FindsPlain r f = (m : Matcher) × MatchesBy r.expr m × IsOneText m.value × (f ≡ finding PromqlRegexp m.value_span says_plain)
 
 -- a matcher by a pattern that anchors itself, at the string
 abbrev pub IsAnchored : RuleTree → Finding → Type 0
@@ -51,4 +51,4 @@ IsAnchored r f = (m : Matcher) × MatchesBy r.expr m × (BeginsAnchored m.value 
 
 -- what the check finds: either of these
 abbrev pub IsFound : RuleTree → Finding → Type 0
-IsFound r f = IsPlain r f ⊎ IsAnchored r f
+IsFound r f = FindsPlain r f ⊎ IsAnchored r f

@@ -20,12 +20,12 @@ abbrev pub pairs_of : List RuleLabel → List (Bytes × Bytes)
 pairs_of labels = map (λ l. (l.key, l.value)) labels
 
 -- two recording rules with the same name, the same labels in the same order, and the same expression but for its spans
-abbrev pub AreSame : RuleTree → RuleTree → Type 0
-AreSame r s = (r.alert ≡ false) × (s.alert ≡ false) × (r.name ≡ s.name) × (pairs_of r.labels ≡ pairs_of s.labels) × (spanless r.expr ≡ spanless s.expr)
+abbrev pub AreSameRule : RuleTree → RuleTree → Type 0
+AreSameRule r s = (r.alert ≡ false) × (s.alert ≡ false) × (r.name ≡ s.name) × (pairs_of r.labels ≡ pairs_of s.labels) × (spanless r.expr ≡ spanless s.expr)
 
 -- rule j, which is s, is the first of the rules that is the same as rule i, which is r, and it stands before rule i
 abbrev pub IsFirstAt : List RuleTree → ℕ → RuleTree → ℕ → RuleTree → Type 0
-IsFirstAt rules i r j s = (j < i) × (slice_get rules j ≡ Some s) × AreSame r s × ((k : ℕ) (t : RuleTree) → k < j → slice_get rules k ≡ Some t → AreSame r t → ⊥)
+IsFirstAt rules i r j s = (j < i) × (slice_get rules j ≡ Some s) × AreSameRule r s × ((k : ℕ) (t : RuleTree) → k < j → slice_get rules k ≡ Some t → AreSameRule r t → ⊥)
 
 -- s is this first rule
 abbrev pub IsFirstSame : List RuleTree → ℕ → RuleTree → RuleTree → Type 0

@@ -51,5 +51,5 @@ Claims rules r RuleLabel text =
 Claims rules r _ text = Unit {0}
 
 -- the finding of the rule is true
-abbrev pub IsTrue : List RuleTree → RuleTree → Finding → Type 0
-IsTrue rules r f = Claims rules r f.check f.text
+abbrev pub IsTrueFinding : List RuleTree → RuleTree → Finding → Type 0
+IsTrueFinding rules r f = Claims rules r f.check f.text

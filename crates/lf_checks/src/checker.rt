@@ -1,12 +1,12 @@
 //! What is found of a rule.
-ghost use Rattle.std.specs.Prelude.{◌≡◌, ◌<◌, ◌+◌, ◌++◌, List, Some, false, length, map, IfNone, IfOk, IfSome};
+ghost use Rattle.std.specs.Prelude.{◌≡◌, ◌<◌, ◌+◌, ◌++◌, List, Some, false, not, length, map, slice_get, IfNone, IfOk, IfSome};
 ghost use Rattle.std.specs.List.{Contains, list_any};
 ghost use Rattle.std.specs.List.Sorted.{IsNonDecreasing};
 ghost use Rattle.lf_ast.specs.Rules.{RuleTree, rule_tree, rule_trees};
 ghost use Rattle.lf_ast.specs.Tree.{nodes, tree};
 ghost use Rattle.lf_ast.specs.declared.rule.Template.{Template};
 ghost use Rattle.lf_ast.specs.views.Walks.{trees_at};
-ghost use Rattle.lf_semantics.specs.ClassRows.{HasShape};
+ghost use Rattle.lf_semantics.specs.ClassRows.{HasShape, is_live};
 ghost use Rattle.lf_semantics.specs.Environments.{IsEnvironment, IsLeast, rule_row as row_of_rule};
 ghost use Rattle.lf_semantics.specs.Listing.{IsListing};
 ghost use Rattle.lf_checks.specs.AlertTemplate.{HaveSources};
@@ -92,7 +92,7 @@ impl<'a> Checker<'a> {
     {
         // For what its contract says of the universe.
         let _labels = universe.labels();
-        let firsts = first_rules(alloc, rules)?;
+        let firsts = first_rules(alloc, rules, recorded.sources())?;
         Ok(Checker {
             universe,
             env,
@@ -117,17 +117,32 @@ impl<'a> Checker<'a> {
         ensures findings { (files : List File) → StandIn files (rule_trees self.now.rules) → IfOk result (λ found. AreFindingsIn files self.now.universe (rule_trees self.now.rules) self.now.env i (all_shown files (rule_trees self.now.rules) found)) }
         ensures numbers { (files : List File) → IfOk result (AreNumbered files (rule_trees self.now.rules) i) }
     {
-        let found = self.found(alloc, i)?;
-        in_order(alloc, found)
+        let (found, _empty) = self.rule_and_emptiness(alloc, i)?;
+        Ok(found)
     }
 
-    /// What is found of a rule, check by check.
-    fn found(&self, alloc: Global, i: u32) -> Result<Vec<Finding>, Memory>
+    /// The same, and whether the row of the rule is empty, which is made for them.
+    pub fn rule_and_emptiness(&self, alloc: Global, i: u32) -> Result<(Seq<Finding>, bool), Memory>
+        requires least { IsLeast self.now.universe (rule_trees self.now.rules) self.now.env }
+        requires sources { HaveSources (rule_trees self.now.rules) }
+        requires rule { i < length self.now.rules }
+        ensures findings { (files : List File) → StandIn files (rule_trees self.now.rules) → IfOk result (λ told. AreFindingsIn files self.now.universe (rule_trees self.now.rules) self.now.env i (all_shown files (rule_trees self.now.rules) told.0)) }
+        ensures numbers { (files : List File) → IfOk result (λ told. AreNumbered files (rule_trees self.now.rules) i told.0) }
+        ensures empty { (r : RuleTree) → slice_get (rule_trees self.now.rules) i ≡ Some r → IfOk result (λ told. told.1 ≡ not (is_live (row_of_rule self.now.universe self.now.env r))) }
+    {
+        let (found, empty) = self.found(alloc, i)?;
+        let sorted = in_order(alloc, found)?;
+        Ok((sorted, empty))
+    }
+
+    /// What is found of a rule, check by check, and whether its row is empty.
+    fn found(&self, alloc: Global, i: u32) -> Result<(Vec<Finding>, bool), Memory>
         requires env { IsEnvironment self.now.universe self.now.env }
         requires sources { HaveSources (rule_trees self.now.rules) }
         requires rule { i < length self.now.rules }
-        ensures findings { IfOk result (λ found. (files : List File) → StandIn files (rule_trees self.now.rules) → Lists files (rule_trees self.now.rules) (IsFindingIn files self.now.universe (rule_trees self.now.rules) self.now.env i) found.items) }
-        ensures numbers { (files : List File) → IfOk result (λ found. AreNumbered files (rule_trees self.now.rules) i found.items) }
+        ensures findings { IfOk result (λ found. (files : List File) → StandIn files (rule_trees self.now.rules) → Lists files (rule_trees self.now.rules) (IsFindingIn files self.now.universe (rule_trees self.now.rules) self.now.env i) found.0.items) }
+        ensures numbers { (files : List File) → IfOk result (λ found. AreNumbered files (rule_trees self.now.rules) i found.0.items) }
+        ensures empty { (r : RuleTree) → slice_get (rule_trees self.now.rules) i ≡ Some r → IfOk result (λ found. found.1 ≡ not (is_live (row_of_rule self.now.universe self.now.env r))) }
     {
         let rule = self.rules.get(i as usize);
         let nodes = nodes_of(alloc, &rule.expr)?;
@@ -137,8 +152,9 @@ impl<'a> Checker<'a> {
         let own = of_rule(alloc, self.universe, &row, rule)?;
         let parts = of_parts(alloc, self.universe, &self.recorded, rule, exprs, rows)?;
         let same = rule_duplicate(alloc, self.firsts[i as usize], rule)?;
-        let found = both(own, parts)?;
-        both(found, same)
+        let two = both(own, parts)?;
+        let all = both(two, same)?;
+        Ok((all, row.is_empty()))
     }
 }
 

@@ -14,14 +14,12 @@ use crate::telling::tell_if;
 use lf_ast::{Expr, Finding, Rule, selected_name};
 use lf_base::names::has_colon;
 use lf_base::{Memory, Seq, Span, Text};
-use lf_classes::{TextSet, recorded_names};
 use lf_deps::{NameGraph, Sources, cyclic_of};
 use std::alloc::Global;
 
 /// The names that rules record, and what their rules read. Who asks of many rules makes them once.
 #[derive(Drop)]
 pub struct RecordedNames {
-    names: TextSet,
     sources: Sources,
     graph: NameGraph,
 }
@@ -31,21 +29,16 @@ impl RecordedNames {
     pub fn of(alloc: Global, rules: &Seq<Rule>) -> Result<RecordedNames, Memory>
         ensures { IfOk result (AreOf (rule_trees rules.now)) }
     {
-        let names = recorded_names(alloc, rules.as_slice())?;
         let sources = Sources::of(alloc, rules)?;
         let graph = NameGraph::of(alloc, &sources)?;
-        Ok(RecordedNames {
-            names,
-            sources,
-            graph,
-        })
+        Ok(RecordedNames { sources, graph })
     }
 
     /// How many names there are, each once.
     pub fn count(&self) -> usize
-        ensures { result ≡ length self.now.names }
+        ensures { result ≡ length self.now.sources.names }
     {
-        self.names.len()
+        self.sources.recorded().len()
     }
 
     /// What each rule selects, and which rules record each name.
@@ -66,7 +59,8 @@ impl RecordedNames {
     fn lack(&self, name: &Text) -> bool
         ensures { (rules : List RuleTree) → AreOf rules self.now → IsTrue result ↔ IsLacking rules name.now }
     {
-        has_colon(name.as_str()) && self.names.place(name.as_str()) == self.names.len()
+        let names = self.sources.recorded();
+        has_colon(name.as_str()) && names.place(name.as_str()) == names.len()
     }
 
     /// Whether a name is read in its own making.

@@ -1,9 +1,10 @@
 //! rule/duplicate: recording rules that stand before.
-ghost use Rattle.std.specs.Prelude.{◌≡◌, ◌++◌, ◌∷◌, ℕ, [], List, Some, length, slice_get, take, IfOk, OnOk};
+ghost use Rattle.std.specs.Prelude.{◌≡◌, ◌++◌, ◌∷◌, ℕ, [], Bool, List, Some, false, length, slice_get, take, IfOk, OnOk};
 ghost use Rattle.lf_ast.specs.Rules.{RuleTree, rule_tree, rule_trees};
 ghost use Rattle.lf_checks.specs.Files.{File, StandIn};
+ghost use Rattle.lf_deps.specs.views.Sources.{IsSourcesOf};
 ghost use Rattle.lf_checks.specs.RuleDuplicate.{IsFound};
-ghost use Rattle.lf_checks.specs.views.Duplicates.{AreFirsts, AreKept, IsFirstOf};
+ghost use Rattle.lf_checks.specs.views.Duplicates.{AreFirsts, AreKept, HaveNone, IsFirstOf, is_shared};
 ghost use Rattle.lf_checks.specs.views.Shown.{AreNumbered, Lists};
 
 use crate::case::same_rule;
@@ -11,12 +12,17 @@ use crate::rule_key::key_of;
 use lf_ast::{Finding, Rule};
 use lf_base::{Memory, Seq};
 use lf_classes::TextSet;
-use lf_deps::rule_number;
+use lf_deps::{Sources, rule_number};
 use std::alloc::Global;
 
-/// For each rule the number of the first one before it that is the same, if there is one. Each rule is written out once, and
+/// For each rule the number of the first one before it that is the same, if there is one. Each rule whose name several record is written out once, and
 /// looked up in a map, so it takes about as long as the rules are long, times the logarithm of their number. A number that doesn't fit is answered like want of memory.
-pub(crate) fn first_rules(alloc: Global, rules: &Seq<Rule>) -> Result<Vec<Option<u32>>, Memory>
+pub(crate) fn first_rules(
+    alloc: Global,
+    rules: &Seq<Rule>,
+    sources: &Sources,
+) -> Result<Vec<Option<u32>>, Memory>
+    requires { IsSourcesOf (rule_trees rules.now) sources.now }
     ensures { IfOk result (λ firsts. AreFirsts (rule_trees rules.now) firsts.items) }
 {
     let mut first_rules = FirstRules {
@@ -25,13 +31,22 @@ pub(crate) fn first_rules(alloc: Global, rules: &Seq<Rule>) -> Result<Vec<Option
     };
     let mut firsts = Vec::new(alloc);
     for place in 0..rules.len() {
-        let first = first_rules.first(alloc, place, rules.get(place))?;
+        let rule = rules.get(place);
+        let shared = is_shared(sources, rule.name.as_str());
+        let first = first_rules.first(alloc, place, rule, shared)?;
         firsts.push(first)?;
     }
     Ok(firsts)
 }
 
-/// What recording rules are written as, each text once, and the number of the first rule that is written so.
+/// Whether several rules record the name.
+fn is_shared(sources: &Sources, name: &str) -> bool
+    ensures { result ≡ is_shared sources.now name.now }
+{
+    sources.makers_of(name).len() > 1
+}
+
+/// What recording rules whose name several record are written as, each text once, and the number of the first rule that is written so.
 #[derive(Drop)]
 struct FirstRules {
     keys: TextSet,
@@ -39,12 +54,22 @@ struct FirstRules {
 }
 
 impl FirstRules {
-    /// The first of the rules so far that is the same as another one, which comes behind them and is kept if it is the first.
-    fn first(&mut self, alloc: Global, place: usize, rule: &Rule) -> Result<Option<u32>, Memory>
-        ensures first { (rules : List RuleTree) → length rules ≡ place → AreKept rules self.old.keys self.old.numbers.items → IfOk result (IsFirstOf rules (rule_tree rule.now)) }
-        ensures kept { (rules : List RuleTree) → length rules ≡ place → AreKept rules self.old.keys self.old.numbers.items → OnOk result (AreKept (rules ++ rule_tree rule.now ∷ []) self.new.keys self.new.numbers.items) }
+    /// The first of the rules so far that is the same as another one, which comes behind them and is kept if it is the first. `shared` says that several rules
+    /// record its name: where that stands once, no rule is the same.
+    fn first(
+        &mut self,
+        alloc: Global,
+        place: usize,
+        rule: &Rule,
+        shared: bool,
+    ) -> Result<Option<u32>, Memory>
+        ensures first { (rules : List RuleTree) (among : List ℕ → Bool) → length rules ≡ place → AreKept among rules self.old.keys self.old.numbers.items → among rule.now.name ≡ shared → (shared ≡ false → rule.now.alert ≡ false → HaveNone rules (rule_tree rule.now)) → IfOk result (IsFirstOf rules (rule_tree rule.now)) }
+        ensures kept { (rules : List RuleTree) (among : List ℕ → Bool) → length rules ≡ place → AreKept among rules self.old.keys self.old.numbers.items → among rule.now.name ≡ shared → OnOk result (AreKept among (rules ++ rule_tree rule.now ∷ []) self.new.keys self.new.numbers.items) }
     {
         if rule.alert {
+            return Ok(None);
+        }
+        if !shared {
             return Ok(None);
         }
         let key = key_of(alloc, rule)?;

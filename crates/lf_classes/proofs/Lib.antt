@@ -17,5 +17,6 @@ pub mod TextClasses
 pub mod TextSlots
 pub mod Unread
 pub mod Walks
+pub mod WholeWords
 pub mod WordBits
 pub mod WordLists

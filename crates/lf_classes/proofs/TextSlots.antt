@@ -117,6 +117,10 @@ put_free slots others texts t s h few absent is inside free = record {
         ∙ seen_more others others texts t q (in_slot slots (own q)) (h.within (own q)) refl
         ∙ h.each q
 
+-- a text whose slot is free is none of the texts
+pub free_absent : {A : Type 0} (slots : List (Option ℕ)) (others : BTreeMap (String A) ℕ) (texts : List Bytes) (t : Bytes) → HasSlots slots others texts → in_slot slots (slot_of t (length slots)) ≡ None → at texts t ≡ None
+free_absent slots others texts t h free = sym (h.each t) ∙ ap (seen others texts t) free
+
 -- a text whose slot another has
 pub put_other : {A : Type 0} (slots : List (Option ℕ)) (others new : BTreeMap (String A) ℕ) (texts : List Bytes) (t : Bytes) (k : ℕ) → HasSlots slots others texts → length texts < 2 ^ 32 → at texts t ≡ None
     → in_slot slots (slot_of t (length slots)) ≡ Some k → ((q : Bytes) → get_by_text new q ≡ cond (bytes_eq t q) (Some (length texts)) (get_by_text others q)) → HasSlots slots new (texts ++ t ∷ [])

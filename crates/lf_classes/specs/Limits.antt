@@ -20,11 +20,11 @@ pub record IsWithin (u : Listing) : Type 0 where
   pub classes : class_count u ≤ most_classes
 
 -- why a universe isn't built: it has too many labels; or no more labels than may be, and too many classes. Memory has no cause in it
-abbrev pub Exceeds : Listing → ClassError → Type 0
-Exceeds u Memory = Unit {0}
-Exceeds u (TooManyLabels found) = (found ≡ label_count u) × (most_labels < found)
-Exceeds u (TooManyClasses found) = (label_count u ≤ most_labels) × (found ≡ class_count u) × (most_classes < found)
+abbrev pub ExceedsUniverseLimit : Listing → ClassError → Type 0
+ExceedsUniverseLimit u Memory = Unit {0}
+ExceedsUniverseLimit u (TooManyLabels found) = (found ≡ label_count u) × (most_labels < found)
+ExceedsUniverseLimit u (TooManyClasses found) = (label_count u ≤ most_labels) × (found ≡ class_count u) × (most_classes < found)
 
 -- why rules have no universe
-abbrev pub Passes : List RuleTree → ClassError → Type 0
-Passes rules = Exceeds (universe_of rules)
+abbrev pub PassesUniverseLimit : List RuleTree → ClassError → Type 0
+PassesUniverseLimit rules = ExceedsUniverseLimit (universe_of rules)

@@ -1,5 +1,5 @@
 //! The names that rules record.
-ghost use Rattle.std.specs.Prelude.{◌≡◌, ◌≤◌, cond, length, IfOk, OnOk};
+ghost use Rattle.std.specs.Prelude.{◌≡◌, ◌≤◌, cond, length, IfOk, OnErr, OnOk};
 ghost use Rattle.lf_ast.specs.Rules.{rule_trees};
 ghost use Rattle.lf_semantics.specs.Environments.{recorded_names};
 ghost use Rattle.lf_classes.specs.views.TextSets.{with_text};
@@ -24,7 +24,8 @@ pub fn recorded_names(alloc: Global, rules: &[Rule]) -> Result<TextSet, Memory>
 impl TextSet {
     /// Puts the name that a rule records behind the others, unless it is there.
     pub fn add_recorded(&mut self, alloc: Global, rule: &Rule) -> Result<(), Memory>
-        ensures { OnOk result (self.new ≡ cond rule.now.alert self.old (with_text self.old rule.now.name)) }
+        ensures ok { OnOk result (self.new ≡ cond rule.now.alert self.old (with_text self.old rule.now.name)) }
+        ensures err { OnErr result (self.new ≡ self.old) }
     {
         if rule.alert {
             return Ok(());

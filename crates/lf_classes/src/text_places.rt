@@ -95,6 +95,22 @@ impl TextPlaces {
         ensures slots { length self.new.slots.items ≡ length self.old.slots.items }
         ensures places { OnOk result (HasPlaces self.new (texts.now ++ text.now ∷ [])) }
     {
+        let slot = slot_of(text, self.slots.len());
+        if self.slots[slot].is_some() {
+            return self.settle_beside(alloc, texts, text);
+        }
+        self.slots[slot] = Some(texts.len() as u32);
+        Ok(())
+    }
+
+    /// The same, where a text has the slot.
+    fn settle_beside(&mut self, alloc: Global, texts: &[Text], text: &str) -> Result<(), Memory>
+        requires slots { 0 < length self.old.slots.items }
+        requires few { length texts.now < 2 ^ 32 }
+        requires places { HasPlaces self.old texts.now }
+        ensures slots { length self.new.slots.items ≡ length self.old.slots.items }
+        ensures places { OnOk result (HasPlaces self.new (texts.now ++ text.now ∷ [])) }
+    {
         match self.find(texts, text) {
             Some(_) => Ok(()),
             None => self.put(alloc, texts, text),

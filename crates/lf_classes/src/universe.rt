@@ -2,7 +2,7 @@
 ghost use Rattle.std.specs.Prelude.{◌≡◌, ◌<◌, ◌≤◌, ◌+◌, ◌++◌, ◌∷◌, [], length, map, codes, slice_index_or, Some, IfOk, IfErr, IfSome, IfNone, OnOk};
 ghost use Rattle.lf_ast.specs.Rules.{rule_trees};
 ghost use Rattle.lf_semantics.specs.Listing.{IsCandidate, class_count, class_counts, class_of, class_texts, label_count, label_of, named_at, other_class, universe_of};
-ghost use Rattle.lf_classes.specs.Limits.{Exceeds, IsWithin, Passes, most_classes, most_labels};
+ghost use Rattle.lf_classes.specs.Limits.{ExceedsUniverseLimit, IsWithin, PassesUniverseLimit, most_classes, most_labels};
 ghost use Rattle.lf_classes.specs.views.Mentioned.{with_star};
 ghost use Rattle.lf_classes.specs.views.PatternCache.{passing_row};
 ghost use Rattle.lf_classes.specs.declared.class_error.ClassError.TheVariants as ClassError;
@@ -62,7 +62,7 @@ impl Universe {
         // It is within the limits.
         ensures within { IfOk result IsWithin }
         // What is refused passes a limit, and the count is that of the rules.
-        ensures refused { IfErr result (Passes (rule_trees rules.now)) }
+        ensures refused { IfErr result (PassesUniverseLimit (rule_trees rules.now)) }
     {
         let mut mentions = Mentions::new(alloc)?;
         mentions.mention_rules(alloc, rules.as_slice())?;
@@ -213,7 +213,7 @@ impl Universe {
 fn check_limits(mentions: &Mentions) -> Result<(), ClassError>
     ensures labels { OnOk result (label_count mentions.now ≤ most_labels) }
     ensures classes { OnOk result (class_count (with_star mentions.now) ≤ most_classes) }
-    ensures refused { IfErr result (Exceeds (with_star mentions.now)) }
+    ensures refused { IfErr result (ExceedsUniverseLimit (with_star mentions.now)) }
 {
     let labels = mentions.labels();
     if labels > MOST_LABELS {

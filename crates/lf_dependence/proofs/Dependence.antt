@@ -16,7 +16,7 @@ use Rattle.lf_witness.specs.Strict.{AreSelected, ArgumentStrictlyEvaluates, IsSe
 use Rattle.lf_witness.specs.StrictRuns.{IsStrictAnswer}
 use Rattle.lf_witness.proofs.SameSamples.{Into, binary_into, call_into, sign_into}
 use Rattle.lf_deps.specs.Reading.{selectors, selectors_in, arguments_selectors, Reads}
-use Rattle.lf_shown.specs.Agreement.{AgreeOn, Names}
+use Rattle.lf_shown.specs.Agreement.{AgreeOn, MetricNames}
 use Rattle.lf_dependence.specs.Dependence.{DependsOnRead, DependsOnOwn, EachSaysName, OwnNames}
 use Rattle.lf_dependence.proofs.NamesSaid.{each_says}
 use Rattle.lf_dependence.proofs.Scalars.{of_scalar}
@@ -87,7 +87,7 @@ module _ (W V : List Labels) where
     answer_carries None is = outcome_carries None is
     answer_carries (Some R) is = (outcome_carries (Some R) is.0, is.1)
 
-turned : (these : Names) (W V : List Labels) → AgreeOn these W V → AgreeOn these V W
+turned : (these : MetricNames) (W V : List Labels) → AgreeOn these W V → AgreeOn these V W
 turned these W V agree s read = let both = agree s read in (both.1, both.0)
 
 pub depends_on_own : DependsOnOwn

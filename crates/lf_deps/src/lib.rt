@@ -18,4 +18,4 @@ pub use numbers::{add_number, in_order};
 pub use ordering::{order, order_of, rule_number};
 pub use reading::{apart, apart_of, cyclic, cyclic_of, reach, reach_of};
 pub use selecting::{is_scalar_call, selectors};
-pub use sources::{Sources, list_rule};
+pub use sources::Sources;

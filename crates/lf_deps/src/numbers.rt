@@ -1,5 +1,5 @@
 //! Numbers of rules and names, each once, in ascending order.
-ghost use Rattle.std.specs.Prelude.{◌≡◌, ◌<◌, ◌∷◌, [], IfOk, OnOk};
+ghost use Rattle.std.specs.Prelude.{◌≡◌, ◌<◌, ◌∷◌, [], IfOk, OnErr, OnOk};
 ghost use Rattle.lf_laws.specs.Ascending.{AreAscending};
 ghost use Rattle.lf_graph.specs.views.Listing.{Adds};
 
@@ -9,7 +9,8 @@ use std::collections::BTreeSet;
 
 /// Adds a number. Want of memory where it doesn't fit a `u32`.
 pub fn add_number(found: &mut BTreeSet<u32>, number: usize) -> Result<(), Memory>
-    ensures { OnOk result (Adds (number ∷ []) found.old.keys found.new.keys) }
+    ensures ok { OnOk result (Adds (number ∷ []) found.old.keys found.new.keys) }
+    ensures err { OnErr result (found.new.keys ≡ found.old.keys) }
 {
     let Ok(number) = u32::try_from(number) else {
         return Err(Memory);

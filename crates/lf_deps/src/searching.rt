@@ -14,7 +14,7 @@ use std::alloc::Global;
 
 /// The names that a search has met, each once, and whether all recorded names were added.
 #[derive(Drop)]
-struct Names {
+struct FoundNames {
     texts: TextSet,
     all: bool,
 }
@@ -28,19 +28,19 @@ pub(crate) fn names_read(
     requires { IsIndex sources.now }
     ensures { IfOk result (λ names. (rules : List RuleTree) → IsSourcesOf rules sources.now → AreRead rules start.now names) }
 {
-    let mut names = Names::new(alloc);
+    let mut names = FoundNames::new(alloc);
     names.add_all(alloc, sources, start)?;
     names.follow_all(alloc, sources)?;
     Ok(names.texts)
 }
 
-impl Names {
+impl FoundNames {
     /// No name.
-    fn new(alloc: Global) -> Names
+    fn new(alloc: Global) -> FoundNames
         ensures texts { result.texts ≡ [] }
         ensures all { result.all ≡ false }
     {
-        Names {
+        FoundNames {
             texts: TextSet::new(alloc),
             all: false,
         }

@@ -65,7 +65,7 @@ impl Sources {
     }
 
     /// The recorded names, each once.
-    pub(crate) fn recorded(&self) -> &TextSet
+    pub fn recorded(&self) -> &TextSet
         ensures { result.now ≡ self.now.names }
     {
         &self.names
@@ -97,7 +97,7 @@ impl Sources {
 }
 
 /// Puts the number of a rule behind those of the rules that record its name. An alert records none.
-pub fn list_rule(
+fn list_rule(
     alloc: Global,
     names: &mut TextSet,
     makers: &mut Buckets,

@@ -1,6 +1,7 @@
 -- The classes of texts that are looked up, and what is no pattern.
-use Rattle.std.proofs.Common.{◌≡◌, ◌≢◌, ℕ, ◌+◌, ◌<◌, Bool, true, false, not, ◌&&◌, ◌||◌, eqb, nat_lt, List, [], ◌∷◌, length, get_or, take, is_some, ◌⊎◌, inl, inr, refl, sym, ◌∙◌, ap, ap₂, arith, length-set, true≢false}
+use Rattle.std.proofs.Common.{◌≡◌, ◌≢◌, ℕ, ◌+◌, ◌<◌, Bool, true, false, not, ◌&&◌, ◌||◌, eqb, nat_lt, List, length, get_or, take, is_some, ◌⊎◌, inl, inr, refl, sym, ◌∙◌, ap, arith, length-set, true≢false}
 use Rattle.std.proofs.Math.ListN.{set}
+use Rattle.std.proofs.Math.Path.{fun_ext}
 use Rattle.std.specs.Prelude.{replicate}
 use Rattle.std.specs.List.{list_any}
 use Rattle.std.specs.Str.{bytes_eq}
@@ -55,10 +56,6 @@ module _ (u : Listing) (label : ℕ) where
       ∙ sym (list_any_more (is_class c) texts i text h))
       (put_on n k _ on b s)
 
-  any_same : (p q : Bytes → Bool) (texts : List Bytes) → ((text : Bytes) → p text ≡ q text) → list_any p texts ≡ list_any q texts
-  any_same p q [] e = refl
-  any_same p q (text ∷ texts) e = ap₂ (λ (a b : Bool). a || b) (e text) (any_same p q texts e)
-
   -- 'any other text' is taken out at the end
   pub listed_set : IsListing u → (n k : ℕ) (texts : List Bytes) (on : List Bool) → n ≡ length (named_at u label) + 2 → k + 1 ≡ n
       → IsSet n (λ c. list_any (is_class c) texts) on → IsSet n (is_listed u label texts) (set on k false)
@@ -72,8 +69,8 @@ module _ (u : Listing) (label : ℕ) where
           let q : eqb k c ≡ false = grind (arith, nat_tests, own, last, count) in
           rw q
           (and-true (list_any (is_class c) texts)
-          ∙ any_same (is_class c) (λ text. bytes_eq text (text_of u label c)) texts
-          (λ text. eqb-turn (class_of u label text) c ∙ sym (test_own u p label text c own) ∙ symmetric (text_of u label c) text))
+          ∙ ap (λ (test : Bytes → Bool). list_any test texts) (fun_ext
+          (λ text. eqb-turn (class_of u label text) c ∙ sym (test_own u p label text c own) ∙ symmetric (text_of u label c) text)))
       by c h false e = let q : eqb k c ≡ true = grind (arith, nat_tests, e, h, last, count) in rw q (and-false (list_any (is_class c) texts))
 
 -- ---- what is said of a pattern

@@ -8,7 +8,7 @@ use Rattle.std.proofs.lemmas.Bool.{cases_eq}
 use Rattle.std.proofs.lemmas.Bool.Decides.{Decides-eqb, nat_tests}
 use Rattle.std.proofs.lemmas.List.{get_or-set_other, get_or-set_same, length-replicate}
 use Rattle.std.proofs.lemmas.List.Folds.{list_all_more, list_any_more}
-use Rattle.std.proofs.lemmas.Option.{same_Some}
+use Rattle.std.proofs.lemmas.Option.{none-some, same_Some}
 use Rattle.lf_ast.specs.Labels.{Bytes}
 use Rattle.lf_ast.specs.declared.expr.Matcher.{Matcher}
 use Rattle.std.proofs.Math.Bool.{and-true, and-false}
@@ -124,12 +124,9 @@ module _ (u : Listing) (p : IsListing u) (env : Environment) (ok : IsEnvironment
     | false ↦ normalized_replaced (is_metric_label u) (λ label class. eqb class (class_of u label name)) (top u) (normalized_top u p)
   ]
 
-  none_is : (a : Sets) → None ≡ Some a → ⊥
-  none_is a e = cc
-
   normalized_named : (later : Environment) (n : Bytes) (o : Option Sets) → row_named later n ≡ o → AllByRecursion (λ entry. IsRow u entry.1) later → IsNormalized (row_or_series u o n)
   normalized_named later n None e rows = normalized_series n
-  normalized_named [] n (Some row) e rows = absurd (none_is row e)
+  normalized_named [] n (Some row) e rows = absurd (none-some row e)
   normalized_named (entry ∷ later) n (Some row) e rows = by (bytes_eq entry.0 n) e (λ f. normalized_named later n (Some row) f rows.1)
     where
       by : (b : Bool) → cond b (Some entry.1) (row_named later n) ≡ Some row → (row_named later n ≡ Some row → IsNormalized row) → IsNormalized row

@@ -67,3 +67,7 @@ module _ (marks : NameMarks) where
   pub found_in_each : (es : List Tree) → map (λ (h : Held). h.found) (map (holds marks) es) ≡ map (has_passing (has_mark marks)) es
   found_in_each [] = refl
   found_in_each (e ∷ es) = ap (λ (found : List Bool). has_passing (has_mark marks) e ∷ found) (found_in_each es)
+
+  pub scalar_in_each : (es : List Tree) → map (λ (h : Held). h.scalar) (map (holds marks) es) ≡ map is_scalar_part es
+  scalar_in_each [] = refl
+  scalar_in_each (e ∷ es) = ap (λ (scalars : List Bool). is_scalar_part e ∷ scalars) (scalar_in_each es)

@@ -5,9 +5,9 @@ ghost use Rattle.lf_ast.specs.Tree.{tree, nodes};
 ghost use Rattle.lf_deps.specs.views.Sources.{IsSourcesOf};
 ghost use Rattle.lf_trials.specs.Forks.{has_passing};
 ghost use Rattle.lf_forks.specs.views.ForkTests.{TellsSelectors};
-ghost use Rattle.lf_forks.specs.views.Holding.{test_of};
+ghost use Rattle.lf_forks.specs.views.Holding.{holds, test_of};
 
-use crate::holding::{hold_each, holds};
+use crate::holding::{Held, hold_each, holds};
 use crate::name_marks::NameMarks;
 use crate::own::own_forks;
 use crate::uses::uses_of;
@@ -58,9 +58,9 @@ impl Forks {
         holds(alloc, &self.marks, expr)
     }
 
-    /// The same of an expression and of all parts in it, in the order of the text, each before those of its own parts. Each part is looked at once.
-    pub fn are_in(&self, alloc: Global, expr: &Expr) -> Result<Vec<bool>, Memory>
-        ensures { IfOk result (λ found. found.items ≡ map (has_passing (test_of self.now)) (nodes (tree expr.now))) }
+    /// The same of an expression and of all parts in it, in the order of the text, each before those of its own parts, and whether each is a scalar. Each part is looked at once.
+    pub fn are_in(&self, alloc: Global, expr: &Expr) -> Result<Vec<Held>, Memory>
+        ensures { IfOk result (λ held. held.items ≡ map (holds self.now.marks) (nodes (tree expr.now))) }
     {
         hold_each(alloc, &self.marks, expr)
     }

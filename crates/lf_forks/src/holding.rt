@@ -23,27 +23,18 @@ pub(crate) fn holds(alloc: Global, marks: &NameMarks, expr: &Expr) -> Result<boo
     Ok(held.found)
 }
 
-/// For an expression and all parts in it, each before those of its own parts, whether an `or` or a selector that is marked stands in it.
-pub(crate) fn hold_each(alloc: Global, marks: &NameMarks, expr: &Expr) -> Result<Vec<bool>, Memory>
-    ensures { IfOk result (λ found. found.items ≡ map (has_passing (has_mark marks.now)) (nodes (tree expr.now))) }
+/// For an expression and all parts in it, each before those of its own parts, whether it is a scalar, and whether an `or` or a selector that is marked stands in it.
+pub(crate) fn hold_each(alloc: Global, marks: &NameMarks, expr: &Expr) -> Result<Vec<Held>, Memory>
+    ensures { IfOk result (λ held. held.items ≡ map (holds marks.now) (nodes (tree expr.now))) }
 {
-    let held = fold_parts(alloc, &Holding { marks }, expr)?;
-    are_found(alloc, held.as_slice())
+    fold_parts(alloc, &Holding { marks }, expr)
 }
 
-/// Whether something is found, of each of these.
-fn are_found(alloc: Global, held: &[Held]) -> Result<Vec<bool>, Memory>
-    ensures { IfOk result (λ found. found.items ≡ map (λ h. h.found) held.now) }
-{
-    let found: Vec<bool> = held.iter().map(|held| held.found).collect(alloc)?;
-    Ok(found)
-}
-
-/// What is told of an expression: whether it is a scalar, and whether something is found.
+/// What is told of an expression: whether it is a scalar, and whether something is found in it.
 #[derive(Drop)]
-pub(crate) struct Held {
-    pub(crate) scalar: bool,
-    pub(crate) found: bool,
+pub struct Held {
+    pub scalar: bool,
+    pub found: bool,
 }
 
 impl Copied for Held {

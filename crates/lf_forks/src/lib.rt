@@ -9,6 +9,6 @@ mod selectors;
 mod uses;
 
 pub use forks::Forks;
-pub use holding::is_or;
+pub use holding::{Held, is_or};
 pub use name_marks::NameMarks;
 pub use selectors::all_selectors;

@@ -1,5 +1,6 @@
 -- What is open at an expression by what is told of its parts, construct by construct.
 use Rattle.std.proofs.Common.{◌≡◌, ◌⊎◌, ◌↔◌, inl, inr, ℕ, Bool, true, false, true≢false, cond, ◌&&◌, ◌||◌, IsTrue, List, [], ◌∷◌, ◌++◌, map, Option, Some, None, refl, sym, ap, ◌∙◌, subst}
+use Rattle.std.proofs.lemmas.Option.{none-some}
 use Rattle.std.proofs.lemmas.List.Elements.{Contains-append_cases, Contains-append_left, Contains-append_right}
 use Rattle.std.specs.List.{Contains, list_any}
 use Rattle.lf_laws.proofs.Members.{any_has, here, in_map, map_member, none_in, only_one, some_has}
@@ -21,7 +22,7 @@ use Rattle.lf_open.specs.Holding.{CannotBeSilent, NamesLe, has_own_source, names
 use Rattle.lf_open.specs.declared.construct.Construct.{Construct}
 use Rattle.lf_open.specs.declared.construct.Construct.TheVariants.{SharedMetric, Forked, LoudUnless, NamedBucket, OpenAbsent}
 use Rattle.lf_open.specs.declared.open_at.OpenAt.{OpenAt}
-use Rattle.lf_open.specs.declared.told.Told.{Told}
+use Rattle.lf_open.specs.declared.told.ExpressionFacts.{ExpressionFacts}
 use Rattle.lf_open.specs.views.Adding.{IsAt}
 use Rattle.lf_open.specs.views.Marks.{TellsReading}
 use Rattle.lf_open.specs.views.Sides.{is_unless}
@@ -68,9 +69,9 @@ abbrev is_silent : Facts → Op → Tree → Tree → Bool
 is_silent f op l r = are_vectors (told f l) (told f r) && (is_unless op && (told f r).loud)
 
 -- one of the arguments
-any_is : (value : Tree → Told) (field : Told → Bool) (P : Tree → Type 0) → ((x : Tree) → IsTrue (field (value x)) ↔ P x) → (args : List Tree) → IsTrue (list_any field (map value args)) ↔ ((x : Tree) × Contains args x × P x)
+any_is : (value : Tree → ExpressionFacts) (field : ExpressionFacts → Bool) (P : Tree → Type 0) → ((x : Tree) → IsTrue (field (value x)) ↔ P x) → (args : List Tree) → IsTrue (list_any field (map value args)) ↔ ((x : Tree) × Contains args x × P x)
 any_is value field P is args = (
-  λ e. let t = some_has field (map value args) e in let x = map_member value args t.0 t.1 in (x.0, x.1, (is x.0).0 (subst (λ (z : Told). field z ≡ true) x.2 t.2)),
+  λ e. let t = some_has field (map value args) e in let x = map_member value args t.0 t.1 in (x.0, x.1, (is x.0).0 (subst (λ (z : ExpressionFacts). field z ≡ true) x.2 t.2)),
   λ h. any_has field (map value args) (value h.0) (in_map value args h.0 h.1) ((is h.0).1 h.2),
 )
 
@@ -121,9 +122,6 @@ module _ (rules : List RuleTree) (f : Facts) (forks : TellsSelectors rules (test
       let h = unless_by rules m l r span op in
       (λ t. let w = both.0 t in h.0 (w.1.0, w.0, w.1.1), λ s. let w = h.1 s in both.1 (w.1, (w.0, w.2)))
 
-  none_some : (effect : LabelEffect) → ◌≡◌ {A = Option LabelEffect} None (Some effect) → ⊥
-  none_some effect e = true≢false (ap (λ (o : Option LabelEffect). elim o [ None ↦ true | Some x ↦ false ]) e)
-
   abbrev IsShared : Op → Matching → Tree → Tree → Span → OpenAt → Type 0
   IsShared op m l r span o = SharesMetric rules (Binary op m l r span) × (o ≡ record { construct = SharedMetric; rule = f.rule; span = span })
 
@@ -158,11 +156,11 @@ module _ (rules : List RuleTree) (f : Facts) (forks : TellsSelectors rules (test
       back : IsByParts rules f.rule (Binary op m l r span) o → ((IsShared op m l r span o) ⊎ (IsJoined op m l r span o)) ⊎ (IsSilent op m l r span o)
       back (inl h) = inl (inl h)
       back (inr (inl (inl j, is))) = inl (inr (inl j, is))
-      back (inr (inl (inr (inl q), is))) = absurd (none_some HistogramQuantile q.0)
+      back (inr (inl (inr (inl q), is))) = absurd (none-some HistogramQuantile q.0)
       back (inr (inl (inr (inr j), is))) = inl (inr (inr j, is))
       back (inr (inr (inl h))) = inr h
-      back (inr (inr (inr (inl h)))) = absurd (none_some HistogramQuantile h.0.0)
-      back (inr (inr (inr (inr h)))) = absurd (none_some Absent h.0.0)
+      back (inr (inr (inr (inl h)))) = absurd (none-some HistogramQuantile h.0.0)
+      back (inr (inr (inr (inr h)))) = absurd (none-some Absent h.0.0)
 
       to : Contains (own_opens f (Binary op m l r span) (parts_told f (Binary op m l r span))) o → IsByParts rules f.rule (Binary op m l r span) o
       to c = out (all.0 c)
@@ -261,11 +259,11 @@ module _ (rules : List RuleTree) (f : Facts) (forks : TellsSelectors rules (test
       from : IsByParts rules f.rule e o → Contains [] o
       from (inl h) = absurd (shares_not h.0)
       from (inr (inl (inl j, is))) = absurd (joins_not j)
-      from (inr (inl (inr (inl q), is))) = absurd (none_some HistogramQuantile (sym differs ∙ q.0))
+      from (inr (inl (inr (inl q), is))) = absurd (none-some HistogramQuantile (sym differs ∙ q.0))
       from (inr (inl (inr (inr j), is))) = absurd (or_not j)
       from (inr (inr (inl h))) = absurd (unless_not h.0)
-      from (inr (inr (inr (inl h)))) = absurd (none_some HistogramQuantile (sym differs ∙ h.0.0))
-      from (inr (inr (inr (inr h)))) = absurd (none_some Absent (sym differs ∙ h.0.0))
+      from (inr (inr (inr (inl h)))) = absurd (none-some HistogramQuantile (sym differs ∙ h.0.0))
+      from (inr (inr (inr (inr h)))) = absurd (none-some Absent (sym differs ∙ h.0.0))
 
   -- an aggregation has no argument
   no_argument : (op : Agg) (grouping : Grouping) (args : Trees) (span : Span) (o : OpenAt) → Contains [] o ↔ IsByParts rules f.rule (Aggregate op grouping args span) o

@@ -17,7 +17,7 @@ use Rattle.lf_deps.specs.Reading.{Reads, SelectsBy, arguments_selectors, own_sel
 use Rattle.lf_deps.specs.Reading.Reads.{selected, through}
 use Rattle.lf_deps.specs.views.Search.{ReadsBy}
 use Rattle.lf_forks.specs.views.NameMarks.{NameMarks, has_mark}
-use Rattle.lf_open.specs.Holding.{Holds, has_no_argument, is_source, matches_le}
+use Rattle.lf_open.specs.Holding.{HoldsThroughReads, has_no_argument, is_source, matches_le}
 use Rattle.lf_semantics.specs.Standing.{arguments_standing, standing, standing_in}
 use Rattle.lf_open.specs.views.Marks.{TellsReading, marks_tree}
 use Rattle.lf_open.specs.views.Speaking.{AreSpeaking, speaks}
@@ -135,7 +135,7 @@ marks_own m (Aggregate op grouping args span) e = absurd (true≢false (sym e))
 
 module _ (rules : List RuleTree) (own : Tree → Bool) (of_rule : RuleTree → Bool) (m : NameMarks) (tells : TellsReading rules of_rule m) (e : Tree) where
   abbrev HoldsSome : Type 0
-  HoldsSome = Holds rules (λ x. list_any own (standing x)) of_rule e
+  HoldsSome = HoldsThroughReads rules (λ x. list_any own (standing x)) of_rule e
 
   pub holds_by : (list_any (λ x. own x || marks_tree m x) (standing e) ≡ true) ↔ HoldsSome
   holds_by = (to, from)

@@ -1,5 +1,6 @@
 -- What is open at one expression, construct by construct.
-use Rattle.std.proofs.Common.{◌≡◌, ◌⊎◌, ◌↔◌, inl, inr, ℕ, Bool, true, false, true≢false, IsTrue, List, [], ◌++◌, Option, Some, None, refl, sym, ap, ◌∙◌, subst, slice_get}
+use Rattle.std.proofs.Common.{◌≡◌, ◌⊎◌, ◌↔◌, inl, inr, ℕ, Bool, true, IsTrue, List, [], ◌++◌, Option, Some, None, refl, sym, ap, ◌∙◌, subst, slice_get}
+use Rattle.std.proofs.lemmas.Option.{none-some}
 use Rattle.std.proofs.lemmas.List.Elements.{Contains-append_cases, Contains-append_left, Contains-append_right}
 use Rattle.std.specs.Borrow.{Bor}
 use Rattle.std.specs.List.{Contains}
@@ -13,7 +14,6 @@ use Rattle.lf_ast.specs.Tree.{Tree, Number, Str, Selector, Subquery, Paren, Unar
 use Rattle.lf_ast.specs.declared.expr.Expr.{Expr}
 use Rattle.lf_ast.specs.declared.expr.Matcher.{Matcher}
 use Rattle.lf_ast.specs.declared.expr.Sight.{Sight}
-use Rattle.lf_ast.specs.declared.functions.LabelEffect.{LabelEffect}
 use Rattle.lf_ast.specs.declared.functions.LabelEffect.TheVariants.{Absent, CountValues, LabelJoin, LabelReplace}
 use Rattle.lf_ast.specs.views.Walks.{trees_at}
 use Rattle.lf_open.specs.Constructs.{IsForked, IsMatcher, IsOpenAt, SaysName, SaysNoName, effect_of}
@@ -71,22 +71,19 @@ module _ (rules : List RuleTree) (k : ℕ) where
 
   -- an expression at which something is open by itself is a selector, a call or an aggregation
 
-  none_some : (effect : LabelEffect) → ◌≡◌ {A = Option LabelEffect} None (Some effect) → ⊥
-  none_some effect e = true≢false (ap (λ (o : Option LabelEffect). elim o [ None ↦ true | Some x ↦ false ]) e)
-
   quiet : (x : Tree) → effect_of x ≡ None → ((name : Bytes) → SaysName x name → ⊥) → ((m : Matcher) → IsMatcher x m → ⊥) → (SaysNoName rules x → ⊥) → (o : OpenAt) → IsByItself rules k x o → ⊥
   quiet x none says matches unnamed o h = by h
     where
       by : IsByItself rules k x o → ⊥
       by (inl (inl is)) = unnamed is.stands.0
       by (inl (inr (inl is))) = elim is.stands.0 [
-        | inl e ↦ none_some LabelReplace (sym none ∙ e)
-        | inr f ↦ elim f [ inl e ↦ none_some LabelJoin (sym none ∙ e) | inr e ↦ none_some CountValues (sym none ∙ e) ]
+        | inl e ↦ none-some LabelReplace (sym none ∙ e)
+        | inr f ↦ elim f [ inl e ↦ none-some LabelJoin (sym none ∙ e) | inr e ↦ none-some CountValues (sym none ∙ e) ]
       ]
       by (inl (inr (inr is))) = matches is.stands.0 is.stands.1.0
       by (inr (inl is)) = says is.0.0 is.0.1
       by (inr (inr (inl is))) = matches is.0.0.0 is.0.0.1
-      by (inr (inr (inr is))) = none_some Absent (sym none ∙ is.0.0)
+      by (inr (inr (inr is))) = none-some Absent (sym none ∙ is.0.0)
 
   itself_speaks : (x : Tree) (o : OpenAt) → IsByItself rules k x o → speaks x ≡ true
   itself_speaks (Selector name matchers sight span) o h = refl

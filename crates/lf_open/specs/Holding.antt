@@ -54,13 +54,13 @@ names_le r = has_own_le r.expr || list_any (λ l. bytes_eq l.key (codes "le")) r
 
 module _ (rules : List RuleTree) where
   -- the expression passes a test, or a rule that it reads passes another
-  abbrev pub Holds : (Tree → Bool) → (RuleTree → Bool) → Tree → Type 0
-  Holds own of_rule e = (own e ≡ true) ⊎ ((r : RuleTree) × Contains rules r × Reaches rules e r × (of_rule r ≡ true))
+  abbrev pub HoldsThroughReads : (Tree → Bool) → (RuleTree → Bool) → Tree → Type 0
+  HoldsThroughReads own of_rule e = (own e ≡ true) ⊎ ((r : RuleTree) × Contains rules r × Reaches rules e r × (of_rule r ≡ true))
 
   -- the expression can't be silent: it holds a call that gives a sample by itself
   abbrev pub CannotBeSilent : Tree → Type 0
-  CannotBeSilent e = Holds has_own_source (λ r. has_own_source r.expr) e
+  CannotBeSilent e = HoldsThroughReads has_own_source (λ r. has_own_source r.expr) e
 
   -- `le` is named beneath the expression: by a matcher, or by a recording rule
   abbrev pub NamesLe : Tree → Type 0
-  NamesLe e = Holds has_own_le names_le e
+  NamesLe e = HoldsThroughReads has_own_le names_le e

@@ -14,7 +14,7 @@ use crate::adding::push_if;
 use crate::construct::Construct;
 use crate::forms::{arguments_of, effect_of};
 use crate::open_at::OpenAt;
-use crate::told::Told;
+use crate::told::ExpressionFacts;
 use lf_ast::{Expr, LabelEffect};
 use lf_base::{Memory, Seq, Span};
 use std::alloc::Global;
@@ -26,7 +26,7 @@ pub(crate) fn open_at_call(
     rule: u32,
     effect: Option<LabelEffect>,
     span: Span,
-    args: &[Told],
+    args: &[ExpressionFacts],
 ) -> Result<Seq<OpenAt>, Memory>
     ensures { IfOk result (λ found. found ≡ call_opens rule effect span args.now) }
 {
@@ -58,21 +58,21 @@ pub(crate) fn open_at_call(
 }
 
 /// Whether one of these holds a fork.
-fn any_fork(parts: &[Told]) -> bool
+fn any_fork(parts: &[ExpressionFacts]) -> bool
     ensures { result ≡ list_any (λ t. t.fork) parts.now }
 {
     parts.iter().any(|part| part.fork)
 }
 
 /// Whether one of these can't be silent.
-fn any_loud(parts: &[Told]) -> bool
+fn any_loud(parts: &[ExpressionFacts]) -> bool
     ensures { result ≡ list_any (λ t. t.loud) parts.now }
 {
     parts.iter().any(|part| part.loud)
 }
 
 /// Whether `le` is named beneath one of these.
-fn any_bucket(parts: &[Told]) -> bool
+fn any_bucket(parts: &[ExpressionFacts]) -> bool
     ensures { result ≡ list_any (λ t. t.bucket) parts.now }
 {
     parts.iter().any(|part| part.bucket)

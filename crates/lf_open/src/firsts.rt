@@ -7,7 +7,7 @@ ghost use Rattle.lf_open.specs.views.Firsts.{AreFirstsReady, AreKept, IsFirstOfE
 ghost use Rattle.lf_open.specs.views.Known.{IsKnown, rules_of};
 ghost use Rattle.lf_open.specs.views.Opens.{AreReady, rules_of_opens};
 
-use crate::known::Known;
+use crate::known::RuleReadings;
 use crate::open_at::OpenAt;
 use crate::opens::{Opens, own_list};
 use lf_base::Memory;
@@ -52,7 +52,7 @@ impl<'a> OpenFirsts<'a> {
 
 /// What stands open first in the expressions of the rules of some numbers, one after the other, but for one of these rules.
 fn first_of_others(
-    known: &Known<'_>,
+    known: &RuleReadings<'_>,
     alloc: Global,
     kept: &mut Vec<Option<Option<OpenAt>>>,
     numbers: &[u32],
@@ -74,7 +74,7 @@ fn first_of_others(
 
 /// What stands open first in the expression of the rule of a number, but for one number.
 fn other_first(
-    known: &Known<'_>,
+    known: &RuleReadings<'_>,
     alloc: Global,
     kept: &mut Vec<Option<Option<OpenAt>>>,
     number: u32,
@@ -94,7 +94,7 @@ fn other_first(
 
 /// What stands open first in the expression of the rule of a number. It is looked for where it isn't kept.
 fn own_first(
-    known: &Known<'_>,
+    known: &RuleReadings<'_>,
     alloc: Global,
     kept: &mut Vec<Option<Option<OpenAt>>>,
     k: usize,

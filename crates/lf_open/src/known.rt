@@ -8,7 +8,7 @@ use lf_forks::{Forks, NameMarks};
 
 /// What is known of rules: what they read, and which selectors read a fork, what can't be silent and what names `le`.
 #[derive(Drop)]
-pub(crate) struct Known<'a> {
+pub(crate) struct RuleReadings<'a> {
     pub(crate) rules: &'a Seq<Rule>,
     pub(crate) sources: &'a Sources,
     pub(crate) graph: &'a NameGraph,

@@ -7,14 +7,14 @@ ghost use Rattle.lf_open.specs.Constructs.{NarrowsFork, SaysCyclicName};
 ghost use Rattle.lf_open.specs.views.Known.{IsKnown, rules_of};
 ghost use Rattle.lf_open.specs.views.Names.{narrows};
 
-use crate::known::Known;
+use crate::known::RuleReadings;
 use lf_ast::{Expr, Matcher, selected_name};
 use lf_base::Memory;
 use lf_deps::cyclic_of;
 use std::alloc::Global;
 
 /// Whether an expression is a selector of a name that is read in its own making.
-pub(crate) fn says_cyclic_name(known: &Known<'_>, expr: &Expr) -> bool
+pub(crate) fn says_cyclic_name(known: &RuleReadings<'_>, expr: &Expr) -> bool
     requires { IsKnown known.now }
     ensures { IsTrue result ↔ SaysCyclicName (rules_of known.now) (tree expr.now) }
 {
@@ -28,7 +28,11 @@ pub(crate) fn says_cyclic_name(known: &Known<'_>, expr: &Expr) -> bool
 }
 
 /// Whether an expression is a selector with a matcher on another label than the metric name, of a name that several rules record or that has a fork in its making.
-pub(crate) fn narrows_fork(known: &Known<'_>, alloc: Global, expr: &Expr) -> Result<bool, Memory>
+pub(crate) fn narrows_fork(
+    known: &RuleReadings<'_>,
+    alloc: Global,
+    expr: &Expr,
+) -> Result<bool, Memory>
     requires { IsKnown known.now }
     ensures { IfOk result (λ found. IsTrue found ↔ NarrowsFork (rules_of known.now) (tree expr.now)) }
 {

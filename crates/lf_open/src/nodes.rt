@@ -10,7 +10,7 @@ use crate::adding::{add_if, append_all};
 use crate::calls::is_open_absent;
 use crate::construct::Construct;
 use crate::forms::{add_patterns, makes_label, says_no_name};
-use crate::known::Known;
+use crate::known::RuleReadings;
 use crate::names::{narrows_fork, says_cyclic_name};
 use crate::open_at::OpenAt;
 use crate::read_table::ReadTable;
@@ -22,7 +22,7 @@ use std::alloc::Global;
 
 /// What is open in the expression of the rule of a number, by what it selects, in no order.
 pub(crate) fn open_in(
-    known: &Known<'_>,
+    known: &RuleReadings<'_>,
     alloc: Global,
     rule: u32,
     selected: &[Option<Text>],
@@ -42,7 +42,7 @@ pub(crate) fn open_in(
 
 /// What is open in an expression without regard to what is told of parts.
 fn open_by_itself(
-    known: &Known<'_>,
+    known: &RuleReadings<'_>,
     alloc: Global,
     rule: u32,
     expr: &Expr,
@@ -60,7 +60,7 @@ fn open_by_itself(
 
 /// Puts what is open at an expression without regard to what is told of its parts behind others.
 fn add_by_itself(
-    known: &Known<'_>,
+    known: &RuleReadings<'_>,
     alloc: Global,
     rule: u32,
     expr: &Expr,
@@ -87,7 +87,7 @@ fn add_by_form(alloc: Global, rule: u32, expr: &Expr, found: &mut Vec<OpenAt>) -
 
 /// Puts behind others what is open at a selector by the name that it says, or at an `absent` by its selector.
 fn add_by_names(
-    known: &Known<'_>,
+    known: &RuleReadings<'_>,
     alloc: Global,
     rule: u32,
     expr: &Expr,

@@ -8,7 +8,7 @@ ghost use Rattle.lf_open.specs.views.Known.{IsKnown, rules_of};
 ghost use Rattle.lf_open.specs.views.Opens.{AreMarked, AreOpens, AreReads, AreReady, IsListOf, rules_of_opens};
 
 use crate::adding::push_all;
-use crate::known::Known;
+use crate::known::RuleReadings;
 use crate::nodes::open_in;
 use crate::open_at::OpenAt;
 use crate::ordering::in_order;
@@ -83,11 +83,11 @@ impl<'a> Opens<'a> {
     }
 
     /// What is known of the rules.
-    pub(crate) fn known(&self) -> Known<'_>
+    pub(crate) fn known(&self) -> RuleReadings<'_>
         requires { AreReady self.now }
         ensures { IsKnown result × (rules_of result ≡ rules_of_opens self.now) }
     {
-        Known {
+        RuleReadings {
             rules: self.rules,
             sources: &self.reads.sources,
             graph: &self.reads.graph,
@@ -130,7 +130,7 @@ impl Marked {
 
 /// Puts what stands open in the expressions of the rules of some numbers behind others, but for one of these rules.
 fn push_others(
-    known: &Known<'_>,
+    known: &RuleReadings<'_>,
     alloc: Global,
     numbers: &[u32],
     i: u32,
@@ -148,7 +148,12 @@ fn push_others(
 }
 
 /// What stands open in the expression of the rule of a number, but for one number.
-fn other_list(known: &Known<'_>, alloc: Global, number: u32, i: u32) -> Result<Seq<OpenAt>, Memory>
+fn other_list(
+    known: &RuleReadings<'_>,
+    alloc: Global,
+    number: u32,
+    i: u32,
+) -> Result<Seq<OpenAt>, Memory>
     requires known { IsKnown known.now }
     requires rule { number < length known.now.rules.now }
     ensures { IfOk result (λ own. IsListOf (rules_of known.now) (without i (number ∷ [])) [] own) }
@@ -160,7 +165,11 @@ fn other_list(known: &Known<'_>, alloc: Global, number: u32, i: u32) -> Result<S
 }
 
 /// What stands open in the expression of the rule of a number.
-pub(crate) fn own_list(known: &Known<'_>, alloc: Global, k: usize) -> Result<Seq<OpenAt>, Memory>
+pub(crate) fn own_list(
+    known: &RuleReadings<'_>,
+    alloc: Global,
+    k: usize,
+) -> Result<Seq<OpenAt>, Memory>
     requires known { IsKnown known.now }
     requires rule { k < length known.now.rules.now }
     ensures { IfOk result (AreOpenOf (rules_of known.now) k) }

@@ -7,7 +7,7 @@ ghost use Rattle.lf_open.specs.views.Told.{are_vectors, joins, operator_opens};
 use crate::adding::push_if;
 use crate::construct::Construct;
 use crate::open_at::OpenAt;
-use crate::told::Told;
+use crate::told::ExpressionFacts;
 use lf_ast::Op;
 use lf_base::{Memory, Seq, Span};
 use lf_forks::is_or;
@@ -20,8 +20,8 @@ pub(crate) fn open_at_operator(
     rule: u32,
     op: Op,
     span: Span,
-    left: &Told,
-    right: &Told,
+    left: &ExpressionFacts,
+    right: &ExpressionFacts,
 ) -> Result<Seq<OpenAt>, Memory>
     ensures { IfOk result (λ found. found ≡ operator_opens rule op span left.now right.now) }
 {
@@ -49,14 +49,14 @@ pub(crate) fn open_at_operator(
 }
 
 /// Whether neither side is a scalar.
-fn are_vectors(left: &Told, right: &Told) -> bool
+fn are_vectors(left: &ExpressionFacts, right: &ExpressionFacts) -> bool
     ensures { result ≡ are_vectors left.now right.now }
 {
     !left.scalar && !right.scalar
 }
 
 /// Whether a side of an `or` can't be silent, and of another operator whether a side holds a fork.
-fn joins(op: Op, left: &Told, right: &Told) -> bool
+fn joins(op: Op, left: &ExpressionFacts, right: &ExpressionFacts) -> bool
     ensures { result ≡ joins op left.now right.now }
 {
     if is_or(op) {

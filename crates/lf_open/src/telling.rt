@@ -8,13 +8,13 @@ ghost use Rattle.lf_open.specs.views.Told.{made, numbers_by, own, own_fork, own_
 use crate::calls::open_at_call;
 use crate::forms::effect_of;
 use crate::holding::{is_marked, is_source, matches_le};
-use crate::known::Known;
+use crate::known::RuleReadings;
 use crate::number_set::NumberSet;
 use crate::open_at::OpenAt;
 use crate::read_table::ReadTable;
 use crate::scalars::is_scalar_by;
 use crate::sides::open_at_operator;
-use crate::told::Told;
+use crate::told::ExpressionFacts;
 use lf_ast::walk::{Fold, Parts, fold_up};
 use lf_ast::{Expr, selected_name};
 use lf_base::{Memory, Seq, Text};
@@ -24,11 +24,11 @@ use std::alloc::Global;
 /// What is told of an expression of the rule of a number. Each part is looked at once.
 pub(crate) fn tell(
     alloc: Global,
-    known: &Known<'_>,
+    known: &RuleReadings<'_>,
     table: &ReadTable,
     rule: u32,
     expr: &Expr,
-) -> Result<Told, Memory>
+) -> Result<ExpressionFacts, Memory>
     ensures { IfOk result (λ made. made ≡ told (record { forks = known.now.forks.now; loud = known.now.loud.now; on_le = known.now.on_le.now; table = table.now; all = known.now.reading.now.all; rule = rule }) (tree expr.now)) }
 {
     fold_up(alloc, &Telling { known, table, rule }, expr)
@@ -37,13 +37,13 @@ pub(crate) fn tell(
 /// Tells of an expression of a rule by what is told of its parts.
 #[derive(Drop)]
 struct Telling<'a> {
-    known: &'a Known<'a>,
+    known: &'a RuleReadings<'a>,
     table: &'a ReadTable,
     rule: u32,
 }
 
 impl<'a> Fold for Telling<'a> {
-    type Value = Told;
+    type Value = ExpressionFacts;
 
     type Note = ();
 
@@ -61,7 +61,13 @@ impl<'a> Fold for Telling<'a> {
         (Parts::All, ())
     }
 
-    fn step(&self, alloc: Global, expr: &Expr, _note: (), values: Vec<Told>) -> Result<Told, Memory>
+    fn step(
+        &self,
+        alloc: Global,
+        expr: &Expr,
+        _note: (),
+        values: Vec<ExpressionFacts>,
+    ) -> Result<ExpressionFacts, Memory>
         requires { values.items ≡ map (told (facts_of self.now)) (parts_of (tree expr.now)) }
         ensures { IfOk result (λ made. made ≡ told (facts_of self.now) (tree expr.now)) }
     {
@@ -71,26 +77,36 @@ impl<'a> Fold for Telling<'a> {
 
 impl<'a> Telling<'a> {
     /// What is told of an expression, by what is told of its parts. A scalar has nothing in it.
-    fn made(&self, alloc: Global, expr: &Expr, parts: Vec<Told>) -> Result<Told, Memory>
+    fn made(
+        &self,
+        alloc: Global,
+        expr: &Expr,
+        parts: Vec<ExpressionFacts>,
+    ) -> Result<ExpressionFacts, Memory>
         requires { length parts.items ≡ length (parts_of (tree expr.now)) }
         ensures { IfOk result (λ told. told ≡ made (facts_of self.now) (tree expr.now) parts.items) }
     {
         if is_scalar_by(expr, parts.as_slice()) {
-            return Ok(Told::nothing(alloc, true));
+            return Ok(ExpressionFacts::nothing(alloc, true));
         }
         let own = self.own(alloc, expr, parts.as_slice())?;
         own.gather(alloc, parts)
     }
 
     /// What is told of an expression for itself, and not for what its parts hold.
-    fn own(&self, alloc: Global, expr: &Expr, parts: &[Told]) -> Result<Told, Memory>
+    fn own(
+        &self,
+        alloc: Global,
+        expr: &Expr,
+        parts: &[ExpressionFacts],
+    ) -> Result<ExpressionFacts, Memory>
         requires { length parts.now ≡ length (parts_of (tree expr.now)) }
         ensures { IfOk result (λ told. told ≡ own (facts_of self.now) (tree expr.now) parts.now) }
     {
         let fork = self.is_fork(alloc, expr)?;
         let reads = self.own_reads(alloc, expr)?;
         let found = self.own_opens(alloc, expr, parts)?;
-        Ok(Told {
+        Ok(ExpressionFacts {
             scalar: false,
             fork,
             loud: is_source(expr) || is_marked(self.known.loud, expr),
@@ -135,7 +151,12 @@ impl<'a> Telling<'a> {
     }
 
     /// What is open at an expression by what is told of its parts.
-    fn own_opens(&self, alloc: Global, expr: &Expr, parts: &[Told]) -> Result<Seq<OpenAt>, Memory>
+    fn own_opens(
+        &self,
+        alloc: Global,
+        expr: &Expr,
+        parts: &[ExpressionFacts],
+    ) -> Result<Seq<OpenAt>, Memory>
         requires { length parts.now ≡ length (parts_of (tree expr.now)) }
         ensures { IfOk result (λ found. found ≡ own_opens (facts_of self.now) (tree expr.now) parts.now) }
     {

@@ -10,7 +10,7 @@ use std::alloc::Global;
 
 /// What is told of an expression. Nothing within a scalar is looked at.
 #[derive(Drop)]
-pub(crate) struct Told {
+pub(crate) struct ExpressionFacts {
     /// Whether it is a scalar.
     pub(crate) scalar: bool,
     /// Whether it holds a fork, in itself or in what it reads.
@@ -25,12 +25,12 @@ pub(crate) struct Told {
     pub(crate) found: Seq<OpenAt>,
 }
 
-impl Told {
+impl ExpressionFacts {
     /// Nothing, but perhaps that it is a scalar.
-    pub(crate) fn nothing(alloc: Global, scalar: bool) -> Told
+    pub(crate) fn nothing(alloc: Global, scalar: bool) -> ExpressionFacts
         ensures { result ≡ nothing scalar }
     {
-        Told {
+        ExpressionFacts {
             scalar,
             fork: false,
             loud: false,
@@ -41,7 +41,11 @@ impl Told {
     }
 
     /// What is told of an expression at once with what is told of its parts.
-    pub(crate) fn gather(self, alloc: Global, parts: Vec<Told>) -> Result<Told, Memory>
+    pub(crate) fn gather(
+        self,
+        alloc: Global,
+        parts: Vec<ExpressionFacts>,
+    ) -> Result<ExpressionFacts, Memory>
         ensures { IfOk result (λ all. all ≡ gathered self parts.items) }
     {
         let mut all = self;
@@ -52,12 +56,12 @@ impl Told {
     }
 
     /// What is told of two at once.
-    fn beside(self, alloc: Global, other: Told) -> Result<Told, Memory>
+    fn beside(self, alloc: Global, other: ExpressionFacts) -> Result<ExpressionFacts, Memory>
         ensures { IfOk result (λ made. made ≡ beside self other) }
     {
         let reads = self.reads.join(alloc, other.reads)?;
         let found = append(self.found, other.found)?;
-        Ok(Told {
+        Ok(ExpressionFacts {
             scalar: self.scalar,
             fork: self.fork || other.fork,
             loud: self.loud || other.loud,

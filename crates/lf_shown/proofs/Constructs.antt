@@ -19,13 +19,13 @@ use Rattle.lf_semantics.proofs.Numbered.{AreKnown}
 use Rattle.lf_witness.specs.Strict.{IsOpenAbsent, Outcomes, StrictBesideScalar, StrictEffect, StrictSign}
 use Rattle.lf_trials.specs.Building.{Builder}
 use Rattle.lf_trials.specs.Operands.{build_effect, build_nameless_if}
-use Rattle.lf_shown.specs.Agreement.{Names}
+use Rattle.lf_shown.specs.Agreement.{MetricNames}
 use Rattle.lf_shown.specs.Silence.{effect_can_be_silent}
 use Rattle.lf_shown.proofs.Choices.{IsSmall}
 use Rattle.lf_shown.proofs.Effects.{LeavesLast, raw_absent, raw_bare, raw_grouped, raw_nameless, raw_quantile, raw_same}
 use Rattle.lf_shown.proofs.Made.{IsMade, IsRaw}
 
-module _ (u : Listing) (rules : List RuleTree) (p : IsListing u) (small : IsSmall u) (Read : Names) (count : ℕ) (row : Sets) (f : List Labels → Outcomes) (b : Builder) (fork silent : Bool) (made : IsMade u rules row Read count f b fork silent) where
+module _ (u : Listing) (rules : List RuleTree) (p : IsListing u) (small : IsSmall u) (Read : MetricNames) (count : ℕ) (row : Sets) (f : List Labels → Outcomes) (b : Builder) (fork silent : Bool) (made : IsMade u rules row Read count f b fork silent) where
   -- what an effect asks of its operand
   abbrev pub EffectFits : LabelEffect → Trees → Type 0
   EffectFits CountValues args = ⊥

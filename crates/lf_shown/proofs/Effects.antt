@@ -41,7 +41,7 @@ use Rattle.lf_witness.proofs.OneSample.{one_text}
 use Rattle.lf_trials.specs.Building.{Builder, nothing}
 use Rattle.lf_trials.specs.Given.{Given, giving, losing}
 use Rattle.lf_trials.specs.Operands.{losing_name}
-use Rattle.lf_shown.specs.Agreement.{Names}
+use Rattle.lf_shown.specs.Agreement.{MetricNames}
 use Rattle.lf_shown.proofs.Rows.{replaced_held, replaced_passes, replaced_was_live}
 use Rattle.lf_shown.proofs.Choices.{AtMostOne, Gave, HoldsGiven, In, IsSmall, IsTotal, few_lost}
 use Rattle.lf_shown.proofs.Texts.{held_at}
@@ -53,7 +53,7 @@ pub listed_in : (u : Listing) (name : Bytes) → label_of u name < length u.name
 listed_in u name listed =
     Contains-append_left u.names _ name (label_of u name, listed, held_at u.names (label_of u name) name listed (at_place u.names name listed))
 
-module _ (u : Listing) (rules : List RuleTree) (p : IsListing u) (small : IsSmall u) (Read : Names) (count : ℕ) (row : Sets) (f : List Labels → Outcomes) (b : Builder) (fork silent : Bool) (made : IsMade u rules row Read count f b fork silent) where
+module _ (u : Listing) (rules : List RuleTree) (p : IsListing u) (small : IsSmall u) (Read : MetricNames) (count : ℕ) (row : Sets) (f : List Labels → Outcomes) (b : Builder) (fork silent : Bool) (made : IsMade u rules row Read count f b fork silent) where
   -- what is handed to a construct may be handed to its operand
   pub handed_down : (lost : Bytes → Bool) (D : Given) → ((fork ≡ false) × IsTotal u D) ⊎ ((fork ≡ true) × AtMostOne u D) → (fork ≡ false) ⊎ AtMostOne u (losing lost D)
   handed_down lost D (inl (none, total)) = inl none

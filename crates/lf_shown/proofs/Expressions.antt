@@ -32,7 +32,7 @@ use Rattle.lf_trials.specs.Building.{Builder, nothing}
 use Rattle.lf_trials.specs.Given.{Given}
 use Rattle.lf_trials.specs.Matched.{build_binary}
 use Rattle.lf_trials.specs.Operands.{build_call, build_effect}
-use Rattle.lf_shown.specs.Agreement.{Names}
+use Rattle.lf_shown.specs.Agreement.{MetricNames}
 use Rattle.lf_shown.specs.Silence.{binary_can_be_silent, call_can_be_silent, effect_can_be_silent}
 use Rattle.lf_shown.proofs.Choices.{IsSmall}
 use Rattle.lf_shown.proofs.Made.{Answers, IsMade, IsRaw, answers_bare}
@@ -41,7 +41,7 @@ use Rattle.lf_shown.proofs.Worlds.{gives_more}
 -- ---- what is made more loosely
 
 module _ (u : Listing) (rules : List RuleTree) where
-  pub answers_more : (row : Sets) (Read More : Names) (count most : ℕ) (f : List Labels → Outcomes) (made : Option _) (D : Given) → ((n : Bytes) → Read n → More n) → count ≤ most → Answers u rules row Read count f made D → Answers u rules row More most f made D
+  pub answers_more : (row : Sets) (Read More : MetricNames) (count most : ℕ) (f : List Labels → Outcomes) (made : Option _) (D : Given) → ((n : Bytes) → Read n → More n) → count ≤ most → Answers u rules row Read count f made D → Answers u rules row More most f made D
   answers_more row Read More count most f made D into less a = record {
     building = a.building;
     is_built = a.is_built;
@@ -53,7 +53,7 @@ module _ (u : Listing) (rules : List RuleTree) where
     gives = gives_more rules Read More count most a.building f a.one into less a.gives;
   }
 
-  pub made_more : (row : Sets) (Read More : Names) (count most : ℕ) (f : List Labels → Outcomes) (b : Builder) (fork other silent : Bool) → ((n : Bytes) → Read n → More n) → count ≤ most → (other ≡ false → fork ≡ false)
+  pub made_more : (row : Sets) (Read More : MetricNames) (count most : ℕ) (f : List Labels → Outcomes) (b : Builder) (fork other silent : Bool) → ((n : Bytes) → Read n → More n) → count ≤ most → (other ≡ false → fork ≡ false)
       → IsMade u rules row Read count f b fork silent → IsMade u rules row More most f b other silent
   made_more row Read More count most f b fork other silent into less forks made = record {
     shape = made.shape;
@@ -65,14 +65,14 @@ module _ (u : Listing) (rules : List RuleTree) where
 
 module _ (u : Listing) (rules : List RuleTree) (p : IsListing u) (small : IsSmall u) where
   -- no label
-  pub bare_raw : (Read : Names) (count : ℕ) (fork : Bool) → IsRaw u rules (bare_row u) Read count (λ X. IsSet IsBare) (λ D. nothing) fork false
+  pub bare_raw : (Read : MetricNames) (count : ℕ) (fork : Bool) → IsRaw u rules (bare_row u) Read count (λ X. IsSet IsBare) (λ D. nothing) fork false
   bare_raw Read count fork = record {
     shape = shape_bare u p;
     answers = λ D h either. answers_bare u rules p small Read count (λ X. IsSet IsBare) D h (λ X. (here bare [], λ r c. sym (only_one bare r c)));
     is_silent = λ e W lacks. absurd (clash _ e refl);
   }
 
-  pub bare_call : (Read : Names) (count : ℕ) (fork : Bool) (o : Option Signature) → ((s : Signature) → o ≡ Some s → IsBareIfScalar s) → is_scalar (given_by o) ≡ true → (grouping : Grouping) (args : Trees) (rows : ℕ → Sets) (outcomes : List Labels → ℕ → Outcomes)
+  pub bare_call : (Read : MetricNames) (count : ℕ) (fork : Bool) (o : Option Signature) → ((s : Signature) → o ≡ Some s → IsBareIfScalar s) → is_scalar (given_by o) ≡ true → (grouping : Grouping) (args : Trees) (rows : ℕ → Sets) (outcomes : List Labels → ℕ → Outcomes)
       (b : ℕ → Builder) (silent : ℕ → Bool) → IsRaw u rules (call_row u o grouping args rows) Read count (λ X. StrictCall o grouping args (outcomes X)) (build_call o grouping args b) fork (call_can_be_silent o args silent)
   bare_call Read count fork None bare e grouping args rows outcomes b silent = absurd (cc)
   bare_call Read count fork (Some s) bare e grouping args rows outcomes b silent =
@@ -80,7 +80,7 @@ module _ (u : Listing) (rules : List RuleTree) (p : IsListing u) (small : IsSmal
       subst (λ (effect : LabelEffect). IsRaw u rules (effect_row u effect grouping args (rows k)) Read count (λ X. StrictEffect effect grouping args (outcomes X k)) (build_effect effect grouping args (b k)) fork (effect_can_be_silent effect args (silent k)))
       (sym (bare s refl e)) (bare_raw Read count fork)
 
-  pub bare_binary : (Read : Names) (count : ℕ) (fork : Bool) (op : Op) (m : Matching) (x y : Bool) → is_scalar (cond (x && y) Scalar Vector) ≡ true → (left right : Sets) (f g : List Labels → Outcomes) (bl br : Builder) (a b : Bool)
+  pub bare_binary : (Read : MetricNames) (count : ℕ) (fork : Bool) (op : Op) (m : Matching) (x y : Bool) → is_scalar (cond (x && y) Scalar Vector) ≡ true → (left right : Sets) (f g : List Labels → Outcomes) (bl br : Builder) (a b : Bool)
       → IsRaw u rules (binary_row u op m x y left right) Read count (λ X. StrictBinary op m x y (f X) (g X)) (build_binary u op m x y left right bl br) fork (binary_can_be_silent x y a b)
   bare_binary Read count fork op m true true e left right f g bl br a b = bare_raw Read count fork
   bare_binary Read count fork op m true false e left right f g bl br a b = absurd (cc)

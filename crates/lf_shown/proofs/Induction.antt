@@ -47,7 +47,7 @@ use Rattle.lf_trials.specs.Matched.{build_binary}
 use Rattle.lf_trials.specs.Operands.{build_call}
 use Rattle.lf_trials.specs.Reached.{has_several_rules, is_recorded}
 use Rattle.lf_trials.specs.Selected.{Selected, selected_in, selected_in_arguments, selectors_of}
-use Rattle.lf_shown.specs.Agreement.{Names}
+use Rattle.lf_shown.specs.Agreement.{MetricNames}
 use Rattle.lf_shown.specs.NoneOpen.{ArgumentsAreClosed, CallIsClosed, EffectIsClosed, HasNoneOpen, HoldsNoFork, IsClosed, IsClosedIn, NamesBucket, OperatorIsClosed, SidesAreClosed, UnlessScalar}
 use Rattle.lf_shown.specs.Silence.{argument_can_be_silent, binary_can_be_silent, call_can_be_silent, can_be_silent}
 use Rattle.lf_shown.proofs.Choices.{IsSmall}
@@ -137,14 +137,14 @@ module _ (u : Listing) (rules : List RuleTree) (p : IsListing u) (small : IsSmal
 
     -- ---- where there is no argument
 
-    dead : (Read : Names) (count : ℕ) (f : List Labels → Outcomes) (b : Builder) (fork : Bool) → IsMade u rules (bottom u) Read count f b fork false
+    dead : (Read : MetricNames) (count : ℕ) (f : List Labels → Outcomes) (b : Builder) (fork : Bool) → IsMade u rules (bottom u) Read count f b fork false
     dead Read count f b fork = record {
       shape = shape_bottom u;
       answers = λ D h either. absurd (clash _ h.live (bottom_dead u p));
       is_silent = λ e W lacks. absurd (clash _ e refl);
     }
 
-    dead_raw : (Read : Names) (count : ℕ) (f : List Labels → Outcomes) (b : Builder) (fork : Bool) → IsRaw u rules (bottom u) Read count f b fork false
+    dead_raw : (Read : MetricNames) (count : ℕ) (f : List Labels → Outcomes) (b : Builder) (fork : Bool) → IsRaw u rules (bottom u) Read count f b fork false
     dead_raw Read count f b fork = record {
       shape = shape_bottom u;
       answers = λ D h either. absurd (clash _ h.live (bottom_dead u p));
@@ -243,7 +243,7 @@ module _ (u : Listing) (rules : List RuleTree) (p : IsListing u) (small : IsSmal
 
     -- ---- operators
 
-    raw_less : (row : Sets) (Read : Names) (count most : ℕ) (f : List Labels → Outcomes) (b : Builder) (fork silent : Bool) → count ≡ most → IsRaw u rules row Read count f b fork silent → IsRaw u rules row Read most f b fork silent
+    raw_less : (row : Sets) (Read : MetricNames) (count most : ℕ) (f : List Labels → Outcomes) (b : Builder) (fork silent : Bool) → count ≡ most → IsRaw u rules row Read count f b fork silent → IsRaw u rules row Read most f b fork silent
     raw_less row Read count most f b fork silent e raw = subst (λ k. IsRaw u rules row Read k f b fork silent) e raw
 
     module _ (op : Op) (m : Matching) (left right : Tree) (span : Span) (known : AllKnown u (modifier_mentions m)) where

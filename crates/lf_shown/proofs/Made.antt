@@ -21,7 +21,7 @@ use Rattle.lf_witness.specs.Strict.{MadeApart, Outcomes}
 use Rattle.lf_witness.proofs.SameSets.{same_itself}
 use Rattle.lf_trials.specs.Building.{Builder, Building, nothing}
 use Rattle.lf_trials.specs.Given.{Given, completed, completed_by, losing}
-use Rattle.lf_shown.specs.Agreement.{Gives, Names}
+use Rattle.lf_shown.specs.Agreement.{Gives, MetricNames}
 use Rattle.lf_shown.proofs.Rows.{replaced_held, replaced_passes, replaced_was_live}
 use Rattle.lf_shown.proofs.Choices.{AtMostOne, Gave, HoldsGiven, In, IsSmall, IsTotal, completed_holds, completed_is, completed_keeps, completed_total, kept_given, of_losing}
 use Rattle.lf_shown.proofs.Worlds.{gives_mapped}
@@ -45,7 +45,7 @@ pub none_apart : (becomes : Labels → Labels → Type 0) → MadeApart becomes 
 none_apart becomes = (none_made becomes, λ two. none_in two.0 two.3)
 
 -- no sample has a name that is read
-abbrev pub Lacks : Names → List Labels → Type 0
+abbrev pub Lacks : MetricNames → List Labels → Type 0
 Lacks Read W = (s : Labels) → Contains W s → Read (value_of s metric) → ⊥
 
 -- the empty text alone is of class 0
@@ -58,7 +58,7 @@ empty_text u l text e = by (bytes_eq text []) refl
 
 module _ (u : Listing) (rules : List RuleTree) where
   -- what is built gives one sample: the row represents it, and it has the texts that are given
-  pub record Answers (row : Sets) (Read : Names) (count : ℕ) (f : List Labels → Outcomes) (made : Option Building) (D : Given) : Type 0 where
+  pub record Answers (row : Sets) (Read : MetricNames) (count : ℕ) (f : List Labels → Outcomes) (made : Option Building) (D : Given) : Type 0 where
     pub building : Building
     pub is_built : made ≡ Some building
     pub one : Labels
@@ -70,20 +70,20 @@ module _ (u : Listing) (rules : List RuleTree) where
 
   -- Of what the row holds, a builder makes what gives one sample, where there is no fork or at most one text is given. If it can be silent, nothing is given where nothing is
   -- stored under the names that are read.
-  pub record IsMade (row : Sets) (Read : Names) (count : ℕ) (f : List Labels → Outcomes) (b : Builder) (fork silent : Bool) : Type 0 where
+  pub record IsMade (row : Sets) (Read : MetricNames) (count : ℕ) (f : List Labels → Outcomes) (b : Builder) (fork silent : Bool) : Type 0 where
     pub shape : HasShape u row
     pub answers : (D : Given) → HoldsGiven u row D → (fork ≡ false) ⊎ AtMostOne u D → Answers row Read count f (b D) D
     pub is_silent : silent ≡ true → (W : List Labels) → Lacks Read W → f W (Some [])
 
   -- the same of what is handed to the construct itself: where there is no fork each label has a text
-  pub record IsRaw (row : Sets) (Read : Names) (count : ℕ) (f : List Labels → Outcomes) (b : Builder) (fork silent : Bool) : Type 0 where
+  pub record IsRaw (row : Sets) (Read : MetricNames) (count : ℕ) (f : List Labels → Outcomes) (b : Builder) (fork silent : Bool) : Type 0 where
     pub shape : HasShape u row
     pub answers : (D : Given) → HoldsGiven u row D → ((fork ≡ false) × IsTotal u D) ⊎ ((fork ≡ true) × AtMostOne u D) → Answers row Read count f (b D) D
     pub is_silent : silent ≡ true → (W : List Labels) → Lacks Read W → f W (Some [])
 
   module _ (p : IsListing u) (small : IsSmall u) where
     -- what is handed is completed where there is no fork
-    pub made_of_raw : (row : Sets) (Read : Names) (count : ℕ) (f : List Labels → Outcomes) (b : Builder) (fork silent : Bool) → IsRaw row Read count f b fork silent
+    pub made_of_raw : (row : Sets) (Read : MetricNames) (count : ℕ) (f : List Labels → Outcomes) (b : Builder) (fork silent : Bool) → IsRaw row Read count f b fork silent
         → IsMade row Read count f (λ D. option_and_then b (cond fork (Some D) (completed u row D))) fork silent
     made_of_raw row Read count f b true silent raw = record {
       shape = raw.shape;
@@ -119,7 +119,7 @@ module _ (u : Listing) (rules : List RuleTree) where
       }
 
       module _ (becomes : Labels → Labels) (values : (s : Labels) (name : Bytes) → value_of (becomes s) name ≡ cond (lost name) [] (value_of s name)) (fulls : (s : Labels) → HasTexts s → HasTexts (becomes s)) where
-        pub answers_lost : (Read : Names) (count : ℕ) (f g : List Labels → Outcomes) (made : Option Building) (D : Given) → HoldsGiven u (only_empty chosen row) D
+        pub answers_lost : (Read : MetricNames) (count : ℕ) (f g : List Labels → Outcomes) (made : Option Building) (D : Given) → HoldsGiven u (only_empty chosen row) D
             → ((X : List Labels) (s : Labels) → f X (Some (s ∷ [])) → g X (Some (becomes s ∷ []))) → Answers row Read count f made (losing lost D) → Answers (only_empty chosen row) Read count g made D
         answers_lost Read count f g made D h into a = record {
           building = a.building;
@@ -148,7 +148,7 @@ module _ (u : Listing) (rules : List RuleTree) where
     abbrev pub nothing_built : Building
     nothing_built = record { series = []; steps = []; selectors = 0 }
 
-    pub gives_nothing : (Read : Names) (count : ℕ) (f : List Labels → Outcomes) (one : Labels) → ((X : List Labels) → Lacks Read X → f X (Some (one ∷ []))) → Gives rules Read count nothing_built f one
+    pub gives_nothing : (Read : MetricNames) (count : ℕ) (f : List Labels → Outcomes) (one : Labels) → ((X : List Labels) → Lacks Read X → f X (Some (one ∷ []))) → Gives rules Read count nothing_built f one
     gives_nothing Read count f one is = record {
       series_read = λ s c. absurd (none_in s c);
       steps_read = λ k c. absurd (none_in k c);
@@ -162,7 +162,7 @@ module _ (u : Listing) (rules : List RuleTree) where
       );
     }
 
-    pub answers_bare : (Read : Names) (count : ℕ) (f : List Labels → Outcomes) (D : Given) → HoldsGiven u (bare_row u) D → ((X : List Labels) → f X (Some (bare ∷ []))) → Answers (bare_row u) Read count f nothing D
+    pub answers_bare : (Read : MetricNames) (count : ℕ) (f : List Labels → Outcomes) (D : Given) → HoldsGiven u (bare_row u) D → ((X : List Labels) → f X (Some (bare ∷ []))) → Answers (bare_row u) Read count f nothing D
     answers_bare Read count f D h is = record {
       building = nothing_built;
       is_built = refl;

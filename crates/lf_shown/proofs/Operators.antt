@@ -36,7 +36,7 @@ use Rattle.lf_trials.specs.Candidates.{candidates_in_both, first, in_row, is_one
 use Rattle.lf_trials.specs.Given.{Given, holds_texts}
 use Rattle.lf_trials.specs.Matched.{build_match, build_operator, has_signature, side, signature_text}
 use Rattle.lf_trials.specs.Sides.{drops, left_gives, left_of_match, many_side_gives, one_side_gives, right_gives, right_of_match}
-use Rattle.lf_shown.specs.Agreement.{Gives, Names}
+use Rattle.lf_shown.specs.Agreement.{Gives, MetricNames}
 use Rattle.lf_shown.proofs.Rows.{Held, join_held, join_was_live, narrowed_held, narrowed_passes, narrowed_was_live, replaced_held, replaced_passes, replaced_was_live}
 use Rattle.lf_shown.proofs.Choices.{AtMostOne, Gave, HoldsGiven, In, IsSmall, all_true, class_at, holds_by_test, test_by_holds}
 use Rattle.lf_shown.proofs.Texts.{first_member, of_candidates, some_candidate}
@@ -45,7 +45,7 @@ use Rattle.lf_shown.proofs.Made.{Answers, IsMade, IsRaw, Lacks, empty_text}
 
 -- ---- a side alone, where the other one is silent
 
-module _ (rules : List RuleTree) (Mine Other Read : Names) (into : (n : Bytes) → Mine n → Read n) (into_other : (n : Bytes) → Other n → Read n) (apart : (n : Bytes) → Mine n → Other n → ⊥) where
+module _ (rules : List RuleTree) (Mine Other Read : MetricNames) (into : (n : Bytes) → Mine n → Read n) (into_other : (n : Bytes) → Other n → Read n) (apart : (n : Bytes) → Mine n → Other n → ⊥) where
   pub gives_beside : (count most : ℕ) (b : Building) (f g : List Labels → Outcomes) (one : Labels) → count ≤ most → ((X : List Labels) → f X (Some (one ∷ [])) → Lacks Other X → g X (Some (one ∷ [])))
       → Gives rules Mine count b f one → Gives rules Read most b g one
   gives_beside count most b f g one less pair of = record {
@@ -340,7 +340,7 @@ module _ (u : Listing) (p : IsListing u) where
 
   -- ---- what is built
 
-  module _ (rules : List RuleTree) (small : IsSmall u) (Lefts Rights Read : Names) (into_left : (n : Bytes) → Lefts n → Read n) (into_right : (n : Bytes) → Rights n → Read n) (apart : (n : Bytes) → Lefts n → Rights n → ⊥)
+  module _ (rules : List RuleTree) (small : IsSmall u) (Lefts Rights Read : MetricNames) (into_left : (n : Bytes) → Lefts n → Read n) (into_right : (n : Bytes) → Rights n → Read n) (apart : (n : Bytes) → Lefts n → Rights n → ⊥)
       (left right : Sets) (count most : ℕ) (f g : List Labels → Outcomes) (bl br : Builder) (fork_left fork_right silent_left silent_right : Bool)
       (of_left : IsMade u rules left Lefts count f bl fork_left silent_left) (of_right : IsMade u rules right Rights most g br fork_right silent_right) where
     abbrev combined : Op → Matching → List Labels → Outcomes

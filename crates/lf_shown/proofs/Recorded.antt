@@ -43,7 +43,7 @@ use Rattle.lf_trials.specs.Candidates.{is_one_of, labels_in}
 use Rattle.lf_trials.specs.Forks.{TellsForks}
 use Rattle.lf_trials.specs.Given.{Given, holds_texts, losing}
 use Rattle.lf_trials.specs.Reached.{first_rule, has_several_rules, is_marked}
-use Rattle.lf_shown.specs.Agreement.{AgreeOn, Gives, Names}
+use Rattle.lf_shown.specs.Agreement.{AgreeOn, Gives, MetricNames}
 use Rattle.lf_shown.proofs.Rows.{Held, replaced_held, replaced_passes, replaced_was_live}
 use Rattle.lf_shown.proofs.Choices.{AtMostOne, Gave, HoldsGiven, In, IsSmall, few_lost, holds_by_test, of_losing, test_by_holds}
 use Rattle.lf_shown.proofs.Effects.{listed_in}
@@ -200,7 +200,7 @@ module _ (u : Listing) (rules : List RuleTree) (p : IsListing u) (small : IsSmal
 
     module _ (k : ℕ) (at : slice_get rules k ≡ Some r) (acyclic : Reads rules r.expr r.name → ⊥) (evaluates : is_evaluated (type_by_form r.expr) ≡ true) (count : ℕ) (b : Building) (one : Labels)
         (counts : count ≡ length (selectors r.expr)) (gives : Gives rules (Reads rules r.expr) count b (λ X. StrictlyEvaluates X r.expr) one) where
-      abbrev Within : Names
+      abbrev Within : MetricNames
       Within = NameReads rules r.name
 
       abbrev kept : Labels
@@ -221,7 +221,7 @@ module _ (u : Listing) (rules : List RuleTree) (p : IsListing u) (small : IsSmal
       adds V given =
           inr (one ∷ [], inr (evaluates, given), subst (λ alert. StoredOf r alert (one ∷ []) (Some (kept ∷ []))) (sym recording) (one_apart (IsStored r) one kept refl))
 
-      agrees_itself : (Read : Names) (V : List Labels) → AgreeOn Read V V
+      agrees_itself : (Read : MetricNames) (V : List Labels) → AgreeOn Read V V
       agrees_itself Read V s read = ((λ c. c), λ c. c)
 
       pub gives_step : Gives rules Within 0 (with_step k b) (λ X. IsSet (AreSelected X (Some r.name) [])) kept

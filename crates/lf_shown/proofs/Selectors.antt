@@ -38,7 +38,7 @@ use Rattle.lf_trials.specs.Forks.{HoldsFork}
 use Rattle.lf_trials.specs.Given.{Given, giving, label_set}
 use Rattle.lf_trials.specs.Reached.{has_several_rules, is_recorded}
 use Rattle.lf_trials.proofs.MadeSeries.{full_set}
-use Rattle.lf_shown.specs.Agreement.{Gives, Names}
+use Rattle.lf_shown.specs.Agreement.{Gives, MetricNames}
 use Rattle.lf_shown.specs.NoneOpen.{IsPlainMatcher}
 use Rattle.lf_shown.proofs.Rows.{HasOthers, Held, narrowed_held, narrowed_passes, narrowed_was_live, others_narrowed, others_replaced, others_top, replaced_passes}
 use Rattle.lf_shown.proofs.Choices.{AtMostOne, Gave, HoldsGiven, In, IsSmall, IsTotal}
@@ -123,7 +123,7 @@ module _ (u : Listing) where
 
 module _ (rules : List RuleTree) where
   -- the name, and what its rules read
-  abbrev pub NameReads : Bytes → Names
+  abbrev pub NameReads : Bytes → MetricNames
   NameReads n m = (m ≡ n) ⊎ ((r : RuleTree) × Contains rules r × Records r n × Reads rules r.expr m)
 
   -- several rules record the name, or one with a fork
@@ -141,7 +141,7 @@ module _ (rules : List RuleTree) where
 
   module _ (u : Listing) (p : IsListing u) (small : IsSmall u) (env : Environment) (name : Option Bytes) (matchers : List Matcher) (n : Bytes) (says : selected_name name matchers ≡ Some n)
       (known : AllByRecursion (IsKnown u) (matchers_mentions matchers)) (plain : AllByRecursion IsPlainMatcher matchers) (own : class_of u (label_of u metric) n < other_class u (label_of u metric))
-      (shape : HasShape u (selector_row u env name matchers)) (Read : Names) (reads : Read n) (build_rule : Bytes → Builder) (fork : Bool) where
+      (shape : HasShape u (selector_row u env name matchers)) (Read : MetricNames) (reads : Read n) (build_rule : Bytes → Builder) (fork : Bool) where
     abbrev passing : ℕ → ℕ → Bool
     passing = passes_matchers u matchers
 

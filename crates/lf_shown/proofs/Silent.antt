@@ -8,7 +8,7 @@ use Rattle.std.specs.Option.{option_map_or}
 use Rattle.std.proofs.lemmas.Bool.{and_parts}
 use Rattle.std.proofs.lemmas.Bool.Decides.{nat_tests}
 use Rattle.lf_laws.proofs.Booleans.{clash}
-use Rattle.lf_ast.specs.Functions.{Row, Signature, aggregation, function_named, functions}
+use Rattle.lf_ast.specs.Functions.{SignatureRow, Signature, aggregation, function_named, functions}
 use Rattle.lf_ast.specs.Labels.{Bytes}
 use Rattle.lf_ast.specs.Tree.{Tree, Trees, Number, Str as Text, Selector, Subquery, Paren, Unary, Binary, Call, Aggregate, Nil, Next, count}
 use Rattle.lf_ast.specs.Types.{Fit, HasType, is_number, is_scalar, joined, takes, takes_count, takes_further, takes_side, wanted}
@@ -60,7 +60,7 @@ operand_taken s = needs_none s.labels || cond (is_date s.labels) (eqb (operand_p
 abbrev fits_table : Signature → Bool
 fits_table s = operand_fits s && operand_taken s
 
-each_function : list_all (λ (row : Row). fits_table row.signature) functions ≡ true
+each_function : list_all (λ (row : SignatureRow). fits_table row.signature) functions ≡ true
 unfolding functions
 each_function = refl
 

@@ -17,7 +17,7 @@ use Rattle.lf_witness.proofs.Answers.{stored_into}
 use Rattle.lf_witness.proofs.RulesAt.{rules_both}
 use Rattle.lf_trials.specs.Building.{Building, both}
 use Rattle.lf_trials.specs.Built.{selector_count}
-use Rattle.lf_shown.specs.Agreement.{AgreeOn, Extends, Gives, Names}
+use Rattle.lf_shown.specs.Agreement.{AgreeOn, Extends, Gives, MetricNames}
 
 -- ---- stored samples
 
@@ -43,12 +43,12 @@ once_both (k ∷ ks) js a b apart = (
 
 -- ---- agreement
 
-pub agree_less : (Read Less : Names) (W V : List Labels) → ((n : Bytes) → Less n → Read n) → AgreeOn Read W V → AgreeOn Less W V
+pub agree_less : (Read Less : MetricNames) (W V : List Labels) → ((n : Bytes) → Less n → Read n) → AgreeOn Read W V → AgreeOn Less W V
 agree_less Read Less W V into agree s less = agree s (into (value_of s metric) less)
 
 module _ (rules : List RuleTree) where
   -- more names, more selectors
-  pub gives_more : (Read More : Names) (count most : ℕ) (b : Building) (f : List Labels → Outcomes) (one : Labels) → ((n : Bytes) → Read n → More n) → count ≤ most → Gives rules Read count b f one → Gives rules More most b f one
+  pub gives_more : (Read More : MetricNames) (count most : ℕ) (b : Building) (f : List Labels → Outcomes) (one : Labels) → ((n : Bytes) → Read n → More n) → count ≤ most → Gives rules Read count b f one → Gives rules More most b f one
   gives_more Read More count most b f one into less g = record {
     series_read = λ s c. into (value_of s metric) (g.series_read s c);
     steps_read = λ k c. let r = g.steps_read k c in (r.0, r.1, r.2, into r.0.name r.3);
@@ -64,7 +64,7 @@ module _ (rules : List RuleTree) where
   }
 
   -- what is made of the one sample
-  pub gives_mapped : (Read : Names) (count : ℕ) (b : Building) (f g : List Labels → Outcomes) (one other : Labels) → ((X : List Labels) → f X (Some (one ∷ [])) → g X (Some (other ∷ []))) → Gives rules Read count b f one
+  pub gives_mapped : (Read : MetricNames) (count : ℕ) (b : Building) (f g : List Labels → Outcomes) (one other : Labels) → ((X : List Labels) → f X (Some (one ∷ [])) → g X (Some (other ∷ []))) → Gives rules Read count b f one
       → Gives rules Read count b g other
   gives_mapped Read count b f g one other into is = record {
     series_read = is.series_read;
@@ -78,7 +78,7 @@ module _ (rules : List RuleTree) where
   same_rule k r q a b = ap (λ (o : Option RuleTree). elim o [ None ↦ r | Some z ↦ z ]) (sym a ∙ b)
 
   -- two sides whose names are apart
-  module _ (Left Right Read : Names) (into_left : (n : Bytes) → Left n → Read n) (into_right : (n : Bytes) → Right n → Read n) (apart : (n : Bytes) → Left n → Right n → ⊥) where
+  module _ (Left Right Read : MetricNames) (into_left : (n : Bytes) → Left n → Read n) (into_right : (n : Bytes) → Right n → Read n) (apart : (n : Bytes) → Left n → Right n → ⊥) where
     module _ (count most : ℕ) (b c : Building) (f g h : List Labels → Outcomes) (one other third : Labels) (of_left : Gives rules Left count b f one) (of_right : Gives rules Right most c g other)
         (pair : (X : List Labels) → f X (Some (one ∷ [])) → g X (Some (other ∷ [])) → h X (Some (third ∷ []))) where
       left_agrees : (W : List Labels) → AgreeOn Read W (b.series ++ c.series) → AgreeOn Left W b.series

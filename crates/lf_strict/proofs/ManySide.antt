@@ -2,7 +2,8 @@
 use Rattle.std.proofs.Common.{◌≡◌, ◌≢◌, ◌⊎◌, inl, inr, ◌+◌, ◌<◌, ◌++◌, ℕ, zero, suc, Bool, true, false, cond, List, [], ◌∷◌, Option, Some, None, get_or, length, take, refl, sym, ap, ◌∙◌, subst, arith}
 use Rattle.std.specs.Prelude.{is_some}
 use Rattle.std.specs.BTreeMap.{BTreeMap, Updates, get}
-use Rattle.std.specs.List.{Contains}
+use Rattle.std.specs.List.{AllZip, Contains, filter, flat_map}
+use Rattle.std.specs.Option.{option_map, option_to_list}
 use Rattle.std.specs.Map.{lookup}
 use Rattle.std.specs.Ordering.{is_eq}
 use Rattle.std.specs.declared.cmp.Ordering.TheVariants as ordering
@@ -21,13 +22,25 @@ use Rattle.lf_ast.specs.declared.expr.Op.TheVariants.{Add, Subtract, Multiply, D
 use Rattle.lf_semantics.specs.Evaluation.{AreMatched}
 use Rattle.lf_semantics.specs.Grouped.{out, paired}
 use Rattle.lf_semantics.specs.Texts.{HasTexts}
+use Rattle.lf_semantics.proofs.Members.{in_filter, of_filter}
 use Rattle.lf_witness.specs.Ascending.{IsAscending, labels_cmp}
 use Rattle.lf_witness.specs.Strict.{HasTwoAlike, IsAmbiguous, IsPair, MadeApart, StrictCombines, StrictPairs}
 use Rattle.lf_witness.specs.StrictRuns.{InOrder}
 use Rattle.lf_witness.proofs.AscendingLists.{head_less, less_itself, tail_ascends}
-use Rattle.lf_strict.specs.views.Paired.{IsIndex, ManyPairs, result_of, signature_of, with_partner}
+use Rattle.lf_strict.specs.views.Apart.{AreApart}
+use Rattle.lf_strict.specs.views.Paired.{IsIndex, ManyPairs, result_of, signature_of, with_one, with_partner}
+use Rattle.lf_strict.proofs.Filtered.{ascending_filter}
+use Rattle.lf_strict.proofs.MadeApart.{made_apart}
 use Rattle.lf_strict.proofs.Signatures.{one_signature, same_signature}
 use Rattle.lf_witness.proofs.Decided.{told_same}
+
+pub is_there : (o : Option Labels) → is_some o ≡ true → (t : Labels) × (o ≡ Some t)
+is_there None e = cc
+is_there (Some t) e = (t, refl)
+
+pub is_not_there : (o : Option Labels) → is_some o ≡ false → o ≡ None
+is_not_there None e = refl
+is_not_there (Some t) e = cc
 
 -- the one side, a sample more
 
@@ -132,6 +145,41 @@ module _ (op : Op) (m : Matching) (P Q partnered : List Labels) (ones : BTreeMap
           ] in
           given.0.1 (s, u, one.0, a, b, apart, one.1, subst (Becomes u) (sym equal) other.1)
 
+-- the same of a list of the results, which may have one of them twice
+
+module _ (op : Op) (m : Matching) (P Q made : List Labels) (ones : BTreeMap Labels Labels) (index : IsIndex m Q ones) (texts : (s : Labels) → Contains P s → HasTexts s) where
+  abbrev has_one : Labels → Bool
+  has_one s = is_some (get labels_cmp ones (signature_of m s))
+
+  are_matched : AreMatched m P Q (filter has_one P)
+  are_matched = (
+    λ s c partner.
+        let there = index.1 partner.0 partner.1 in
+        let full = texts s c in
+        let got : get labels_cmp ones (signature_of m s) ≡ Some partner.0 = subst (λ z. get labels_cmp ones z ≡ Some partner.0) (sym (one_signature m s partner.0 full there.0 partner.2)) there.1 in
+        in_filter has_one P s c (ap is_some got),
+    λ s c.
+        let own = of_filter has_one P s c in
+        let there = is_there (get labels_cmp ones (signature_of m s)) own.1 in
+        let from = index.0 (signature_of m s) there.0 there.1 in
+        (own.0, (there.0, from.0, same_signature m s there.0 from.1)),
+  )
+
+  gives_each : (xs : List Labels) → ((s : Labels) → Contains xs s → HasTexts s) → AllZip (Becomes op m P Q (filter has_one P) ones index are_matched) (filter has_one xs) (flat_map (with_one op m ones) xs)
+  gives_each [] full = tt
+  gives_each (x ∷ xs) full = by (get labels_cmp ones (signature_of m x)) refl (gives_each xs (λ s c. full s (behind x xs s c)))
+    where
+      by : (o : Option Labels) → get labels_cmp ones (signature_of m x) ≡ o → AllZip (Becomes op m P Q (filter has_one P) ones index are_matched) (filter has_one xs) (flat_map (with_one op m ones) xs)
+          → AllZip (Becomes op m P Q (filter has_one P) ones index are_matched) (cond (is_some o) (x ∷ filter has_one xs) (filter has_one xs)) (option_to_list (option_map (result_of m.group op m x) o) ++ flat_map (with_one op m ones) xs)
+      by (Some t) e rest = ((ap (with_partner op m x) (sym e), full x (here x xs)), rest)
+      by None e rest = rest
+
+  pub listed_pairs : IsAscending P → made ≡ flat_map (with_one op m ones) P → (o : Option (List Labels)) → AreApart made o → InOrder (ManyPairs op m P Q) o
+  listed_pairs ascends is o apart =
+      many_pairs op m P Q (filter has_one P) ones index are_matched o
+      (made_apart (Becomes op m P Q (filter has_one P) ones index are_matched) (λ s t u a b. a.0 ∙ sym b.0) (filter has_one P) made (ascending_filter has_one P ascends)
+      (subst (AllZip (Becomes op m P Q (filter has_one P) ones index are_matched) (filter has_one P)) (sym is) (gives_each P texts)) o apart)
+
 -- by the side that is the many side
 
 module _ (op : Op) (m : Matching) (P Q : List Labels) where
@@ -199,11 +247,3 @@ pairs_combine Greater m P Q a b c o is = is
 pairs_combine And m P Q a b c o is = absurd (a refl)
 pairs_combine Or m P Q a b c o is = absurd (b refl)
 pairs_combine Unless m P Q a b c o is = absurd (c refl)
-
-pub is_there : (o : Option Labels) → is_some o ≡ true → (t : Labels) × (o ≡ Some t)
-is_there None e = cc
-is_there (Some t) e = (t, refl)
-
-pub is_not_there : (o : Option Labels) → is_some o ≡ false → o ≡ None
-is_not_there None e = refl
-is_not_there (Some t) e = cc

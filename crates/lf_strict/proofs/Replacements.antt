@@ -5,7 +5,7 @@ use Rattle.std.specs.Option.{option_map_or}
 use Rattle.std.specs.List.{AllZip}
 use Rattle.lf_ast.specs.Labels.{Bytes, Labels}
 use Rattle.lf_ast.specs.Arguments.{has_dollar}
-use Rattle.lf_pattern.specs.declared.replacement.Piece.{Piece}
+use Rattle.lf_pattern.specs.declared.replacement.ReplacementPiece.{ReplacementPiece}
 use Rattle.lf_pattern.specs.Matching.{IsRead, Matches}
 use Rattle.lf_pattern.specs.Read.{reading}
 use Rattle.lf_pattern.specs.Replacement.{HasPieces, IsExpansion, IsPlainReplacement}
@@ -67,7 +67,7 @@ stay_apart p none P ascends = (
 -- the same by the strings that a call has
 
 pub expanded_by : {E : Type 0} (p : Replacing) (value pattern replacement : Bytes) (r : Result (Option Bytes) E) → pattern ≡ p.pattern → replacement ≡ p.replacement → IsPlainReplacement p.replacement → has_dollar replacement ≡ true
-    → ((pieces : List Piece) → HasPieces replacement pieces → IfOk r (IsExpansion pattern value pieces)) → IfOk r (IsExpanded p value)
+    → ((pieces : List ReplacementPiece) → HasPieces replacement pieces → IfOk r (IsExpansion pattern value pieces)) → IfOk r (IsExpanded p value)
 expanded_by p value pattern replacement r same is plain dollar gives =
     when r (gives plain.0 (subst (λ x. HasPieces x plain.0) (sym is) plain.1)) (λ o found.
     expanded p value plain (sym (ap has_dollar is) ∙ dollar) o (subst (λ x. IsExpansion x value plain.0 o) same found))

@@ -11,6 +11,7 @@ use Rattle.lf_ast.specs.Labels.{Labels}
 use Rattle.lf_witness.specs.Ascending.{labels_cmp}
 use Rattle.lf_witness.specs.Strict.{AreSame}
 use Rattle.lf_witness.proofs.Decided.{equal_same}
+use Rattle.lf_witness.proofs.SameSets.{same_itself}
 
 -- R has the members of P, and s
 abbrev pub IsWith : Labels → List Labels → List Labels → Type 0
@@ -38,6 +39,54 @@ pushed_with s P R is = (
   ],
 )
 
+-- with a list before or behind
+
+pub with_left : (s : Labels) (P R S : List Labels) → IsWith s P R → IsWith s (P ++ S) (R ++ S)
+with_left s P R S is = (
+  λ t c. elim (Contains-append_cases R S t c) [
+    | inl left ↦ elim (is.0 t left) [
+      | inl new ↦ inl new
+      | inr old ↦ inr (Contains-append_left P S t old)
+    ]
+    | inr right ↦ inr (Contains-append_right P S t right)
+  ],
+  λ t c. elim (Contains-append_cases P S t c) [
+    | inl left ↦ Contains-append_left R S t (is.1 t left)
+    | inr right ↦ Contains-append_right R S t right
+  ],
+  Contains-append_left R S s is.2,
+)
+
+pub with_right : (s : Labels) (P R S : List Labels) → IsWith s P R → IsWith s (S ++ P) (S ++ R)
+with_right s P R S is = (
+  λ t c. elim (Contains-append_cases S R t c) [
+    | inl left ↦ inr (Contains-append_left S P t left)
+    | inr right ↦ elim (is.0 t right) [
+      | inl new ↦ inl new
+      | inr old ↦ inr (Contains-append_right S P t old)
+    ]
+  ],
+  λ t c. elim (Contains-append_cases S P t c) [
+    | inl left ↦ Contains-append_left S R t left
+    | inr right ↦ Contains-append_right S R t (is.1 t right)
+  ],
+  Contains-append_right S R s is.2,
+)
+
+-- in front of the samples S
+pub with_front : (s : Labels) (w S : List Labels) → IsWith s [] w → IsWith s S (w ++ S)
+with_front s w S is = (
+  λ t c. elim (Contains-append_cases w S t c) [
+    | inl left ↦ elim (is.0 t left) [
+      | inl new ↦ inl new
+      | inr old ↦ absurd (none_in t old)
+    ]
+    | inr right ↦ inr right
+  ],
+  λ t c. Contains-append_right w S t c,
+  Contains-append_left w S s is.2,
+)
+
 -- put at its place, unless it is there
 pub with_key : (s : Labels) (R : List Labels) → IsWith s R (insert_key labels_cmp R s)
 with_key s [] = (λ t c. first_or_behind s [] t c, λ t c. absurd (none_in t c), here s [])
@@ -60,6 +109,14 @@ with_key s (x ∷ R) = by (labels_cmp s x) refl (with_key s R)
       ],
       behind x (insert_key labels_cmp R s) s rest.2,
     )
+
+-- a sample more among those that are looked through, or among the others
+pub few_more : (s : Labels) (few others : List Labels) → AreSame ((few ++ others) ++ s ∷ []) ((few ++ s ∷ []) ++ others)
+few_more s few others =
+    pushed_with s (few ++ others) ((few ++ s ∷ []) ++ others) (with_left s few (few ++ s ∷ []) others (with_pushed s few (few ++ s ∷ []) (same_itself (few ++ s ∷ []))))
+
+pub others_more : (s : Labels) (few old new : List Labels) → AreSame (old ++ s ∷ []) new → AreSame ((few ++ old) ++ s ∷ []) (few ++ new)
+others_more s few old new same = pushed_with s (few ++ old) (few ++ new) (with_right s old new few (with_pushed s old new same))
 
 -- the last of some samples is put among others, and the rest is still to be put
 pub taken_over : (old new samples front : List Labels) (x : Labels) → samples ≡ front ++ x ∷ [] → AreSame (old ++ x ∷ []) new → AreSame (old ++ samples) (new ++ front)

@@ -1,7 +1,8 @@
 -- What a selector gives, matcher by matcher.
-use Rattle.std.proofs.Common.{◌≡◌, ◌<◌, ◌+◌, ◌++◌, ℕ, Bool, true, false, cond, List, [], ◌∷◌, Option, Some, None, get_or, length, take, refl, sym, ap, ◌∙◌}
+use Rattle.std.proofs.Common.{◌≡◌, inl, inr, ◌<◌, ◌+◌, ◌++◌, ℕ, Bool, true, false, cond, List, [], ◌∷◌, Option, Some, None, get_or, length, take, refl, sym, ap, ◌∙◌}
 use Rattle.std.specs.List.{Contains, filter}
 use Rattle.std.proofs.lemmas.List.{take_more}
+use Rattle.std.proofs.lemmas.List.Elements.{Contains-append_cases, Contains-append_left, Contains-append_right}
 use Rattle.lf_ast.specs.Labels.{Bytes, Labels}
 use Rattle.lf_ast.specs.Selectors.{metric}
 use Rattle.lf_ast.specs.declared.expr.Matcher.{Matcher}
@@ -12,7 +13,7 @@ use Rattle.lf_semantics.specs.Texts.{value_of}
 use Rattle.lf_semantics.proofs.Members.{in_filter, of_filter, same_true, true_same}
 use Rattle.lf_semantics.proofs.PatternTexts.{passes_is}
 use Rattle.lf_witness.specs.Ascending.{IsAscending}
-use Rattle.lf_witness.specs.Strict.{AreSelected}
+use Rattle.lf_witness.specs.Strict.{AreSame, AreSelected}
 use Rattle.lf_strict.specs.views.Selected.{has_name, passes_by, passing}
 use Rattle.lf_strict.proofs.Filtered.{ascending_filter}
 
@@ -57,11 +58,28 @@ name_told : (name : Option Bytes) (s : Labels) → HasName name s → has_name n
 name_told None s e = refl
 name_told (Some name) s e = same_true (value_of s metric) name e
 
+pub chosen_selected : (W : List Labels) (name : Option Bytes) (ms : List Matcher) → AreSelected W name ms (passing ms (filter (has_name name) W))
+chosen_selected W name ms = (
+  λ s c named each. in_passing ms (filter (has_name name) W) s (in_filter (has_name name) W s c (name_told name s named)) each,
+  λ s c. let later = of_passing ms (filter (has_name name) W) s c in let own = of_filter (has_name name) W s later.0 in (own.0, told_name name s own.1, later.1),
+)
+
 pub are_selected : (W : List Labels) (name : Option Bytes) (ms : List Matcher) → IsAscending W → AreSelected W name ms (passing ms (filter (has_name name) W)) × IsAscending (passing ms (filter (has_name name) W))
-are_selected W name ms ascends = (
-  (
-    λ s c named each. in_passing ms (filter (has_name name) W) s (in_filter (has_name name) W s c (name_told name s named)) each,
-    λ s c. let later = of_passing ms (filter (has_name name) W) s c in let own = of_filter (has_name name) W s later.0 in (own.0, told_name name s own.1, later.1),
-  ),
-  ascending_passing ms (filter (has_name name) W) (ascending_filter (has_name name) W ascends),
+are_selected W name ms ascends = (chosen_selected W name ms, ascending_passing ms (filter (has_name name) W) (ascending_filter (has_name name) W ascends))
+
+-- so are those of another list with the same
+pub moved_selected : (W : List Labels) (name : Option Bytes) (ms : List Matcher) (P R : List Labels) → AreSelected W name ms P → AreSame P R → AreSelected W name ms R
+moved_selected W name ms P R are same = (λ s c named each. same.0 s (are.0 s c named each), λ s c. are.1 s (same.1 s c))
+
+-- of two lists
+pub joined_selected : (V W : List Labels) (name : Option Bytes) (ms : List Matcher) (P R : List Labels) → AreSelected V name ms P → AreSelected W name ms R → AreSelected (V ++ W) name ms (P ++ R)
+joined_selected V W name ms P R first second = (
+  λ s c named each. elim (Contains-append_cases V W s c) [
+    | inl left ↦ Contains-append_left P R s (first.0 s left named each)
+    | inr right ↦ Contains-append_right P R s (second.0 s right named each)
+  ],
+  λ s c. elim (Contains-append_cases P R s c) [
+    | inl left ↦ (let from = first.1 s left in (Contains-append_left V W s from.0, from.1, from.2))
+    | inr right ↦ (let from = second.1 s right in (Contains-append_right V W s from.0, from.1, from.2))
+  ],
 )

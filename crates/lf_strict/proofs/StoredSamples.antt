@@ -24,7 +24,7 @@ use Rattle.lf_semantics.specs.Texts.{value_of}
 use Rattle.lf_strict.specs.views.Stored.{AreUnderNames, samples_of}
 use Rattle.lf_witness.specs.Strict.{AreSame, AreSelected}
 use Rattle.lf_laws.proofs.Ascending.{tied}
-use Rattle.lf_strict.proofs.SampleSets.{IsWith, pushed_with, with_pushed}
+use Rattle.lf_strict.proofs.SampleSets.{IsWith, pushed_with, with_front, with_left, with_pushed, with_right}
 
 -- the name of a key is the one that is sought
 
@@ -33,54 +33,6 @@ names_same n m e = slice_cmp-IsAntisymmetric nat_cmp-IsAntisymmetric n m e
 
 not_there : (v : List Labels) → None ≡ Some v → ⊥
 not_there v e = cc
-
--- with a list before or behind
-
-with_left : (s : Labels) (P R S : List Labels) → IsWith s P R → IsWith s (P ++ S) (R ++ S)
-with_left s P R S is = (
-  λ t c. elim (Contains-append_cases R S t c) [
-    | inl left ↦ elim (is.0 t left) [
-      | inl new ↦ inl new
-      | inr old ↦ inr (Contains-append_left P S t old)
-    ]
-    | inr right ↦ inr (Contains-append_right P S t right)
-  ],
-  λ t c. elim (Contains-append_cases P S t c) [
-    | inl left ↦ Contains-append_left R S t (is.1 t left)
-    | inr right ↦ Contains-append_right R S t right
-  ],
-  Contains-append_left R S s is.2,
-)
-
-with_right : (s : Labels) (P R S : List Labels) → IsWith s P R → IsWith s (S ++ P) (S ++ R)
-with_right s P R S is = (
-  λ t c. elim (Contains-append_cases S R t c) [
-    | inl left ↦ inr (Contains-append_left S P t left)
-    | inr right ↦ elim (is.0 t right) [
-      | inl new ↦ inl new
-      | inr old ↦ inr (Contains-append_right S P t old)
-    ]
-  ],
-  λ t c. elim (Contains-append_cases S P t c) [
-    | inl left ↦ Contains-append_left S R t left
-    | inr right ↦ Contains-append_right S R t (is.1 t right)
-  ],
-  Contains-append_right S R s is.2,
-)
-
--- in front of the samples S
-with_front : (s : Labels) (w S : List Labels) → IsWith s [] w → IsWith s S (w ++ S)
-with_front s w S is = (
-  λ t c. elim (Contains-append_cases w S t c) [
-    | inl left ↦ elim (is.0 t left) [
-      | inl new ↦ inl new
-      | inr old ↦ absurd (none_in t old)
-    ]
-    | inr right ↦ inr right
-  ],
-  λ t c. Contains-append_right w S t c,
-  Contains-append_left w S s is.2,
-)
 
 -- what was lent has the sample more, or is as it was
 written : {E : Type 0} (r : Result (Unit {0}) E) (s : Labels) (v w : List Labels) → OnOk r (AreSame (v ++ s ∷ []) w) → OnErr r (w ≡ v) → (t : Labels) → Contains w t → (s ≡ t) ⊎ Contains v t

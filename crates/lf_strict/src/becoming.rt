@@ -57,7 +57,7 @@ fn each_made<B: Becoming>(
 ) -> Result<Vec<LabelSet>, Memory>
     ensures { IfOk result (λ made. AllZip (B.becomes how.now) samples.now made.items) }
 {
-    let mut made = Vec::new(alloc);
+    let mut made = Vec::with_capacity(alloc, samples.len())?;
     for sample in samples {
         made.push(how.of(alloc, sample)?)?;
     }

@@ -8,8 +8,8 @@ ghost use Rattle.lf_witness.specs.Strict.{From, StrictCombines, StrictPairs, Str
 ghost use Rattle.lf_witness.specs.StrictRuns.{InOrder, IsStrictAnswer};
 ghost use Rattle.lf_strict.specs.views.Paired.{ManyPairs};
 
-use crate::becoming::made_apart;
-use crate::partners::{Paired, indexed};
+use crate::apart::apart;
+use crate::partners::{each_paired, indexed};
 use crate::signature::{are_apart, by_partner, either};
 use lf_ast::{Group, LabelSet, Matching, Op};
 use lf_base::{Memory, Seq};
@@ -111,9 +111,8 @@ fn many_to_one(
     match indexed(alloc, matching, one.as_slice())? {
         None => Ok(None),
         Some(ones) => {
-            let ones = &ones;
-            let partnered = by_partner(alloc, matching, many, one, true)?;
-            made_apart(alloc, &Paired { op, matching, ones }, &partnered)
+            let made = each_paired(alloc, op, matching, many.as_slice(), &ones)?;
+            Ok(apart(made))
         }
     }
 }

@@ -1,12 +1,11 @@
 //! The one side of a match, under its signatures.
-ghost use Rattle.std.specs.Prelude.{◌≡◌, IfOk};
-ghost use Rattle.std.specs.BTreeMap.{get};
-ghost use Rattle.std.proofs.Common.{sym, ◌∙◌};
+ghost use Rattle.std.specs.Prelude.{◌≡◌, ◌++◌, IfOk, OnOk};
+ghost use Rattle.std.specs.List.{Contains, flat_map};
+ghost use Rattle.lf_ast.specs.Labels.{Labels};
 ghost use Rattle.lf_semantics.specs.Texts.{HasTexts};
-ghost use Rattle.lf_witness.specs.Ascending.{IsAscending, labels_cmp};
-ghost use Rattle.lf_strict.specs.views.Paired.{AreIndexed, signature_of, with_partner};
+ghost use Rattle.lf_witness.specs.Ascending.{IsAscending};
+ghost use Rattle.lf_strict.specs.views.Paired.{AreIndexed, with_one};
 
-use crate::becoming::Becoming;
 use crate::choosing::SignatureLabels;
 use crate::pair_labels::pair_result;
 use lf_ast::{LabelSet, Matching, Op};
@@ -34,26 +33,40 @@ pub fn indexed(
     Ok(Some(ones))
 }
 
-/// A sample of the many side becomes what it gives with its partner. One that has none stays as it is.
-#[derive(Drop)]
-pub struct Paired<'a> {
-    pub op: Op,
-    pub matching: &'a Matching,
-    pub ones: &'a BTreeMap<LabelSet, LabelSet>,
+/// What the samples of the many side give with their partners. One that has none gives nothing.
+pub fn each_paired(
+    alloc: Global,
+    op: Op,
+    matching: &Matching,
+    many: &[LabelSet],
+    ones: &BTreeMap<LabelSet, LabelSet>,
+) -> Result<Vec<LabelSet>, Memory>
+    ensures made { IfOk result (λ made. made.items ≡ flat_map (with_one op matching.now ones.now) many.now) }
+    ensures texts { IfOk result (λ made. (s : Labels) → Contains many.now s → HasTexts s) }
+{
+    let mut made = Vec::with_capacity(alloc, many.len())?;
+    for sample in many {
+        push_paired(op, matching, sample, ones, alloc, &mut made)?;
+    }
+    Ok(made)
 }
 
-impl<'a> Becoming for Paired<'a> {
-    ghost becomes = { λ how s r. (r ≡ with_partner how.op how.matching.now s (get labels_cmp how.ones.now (signature_of how.matching.now s))) × HasTexts s };
-
-    ghost one = { λ how s t u a b. a.0 ∙ sym b.0 };
-
-    fn of(&self, alloc: Global, sample: &LabelSet) -> Result<LabelSet, Memory> {
-        let _count = sample.len();
-        let matching = self.matching;
-        let signature = sample.kept(&SignatureLabels { matching })?;
-        match self.ones.get(&signature) {
-            Some(one) => pair_result(alloc, self.op, matching, sample, one),
-            None => sample.copy(),
-        }
+/// Appends what a sample of the many side gives with its partner, if it has one.
+fn push_paired(
+    op: Op,
+    matching: &Matching,
+    sample: &LabelSet,
+    ones: &BTreeMap<LabelSet, LabelSet>,
+    alloc: Global,
+    made: &mut Vec<LabelSet>,
+) -> Result<(), Memory>
+    ensures made { OnOk result (made.new.items ≡ made.old.items ++ with_one op matching.now ones.now sample.now) }
+    ensures texts { OnOk result (HasTexts sample.now) }
+{
+    let _count = sample.len();
+    let signature = sample.kept(&SignatureLabels { matching })?;
+    if let Some(one) = ones.get(&signature) {
+        made.push(pair_result(alloc, op, matching, sample, one)?)?;
     }
+    Ok(())
 }

@@ -59,7 +59,11 @@ fn passing(
 }
 
 /// The samples of this name, or all of them.
-fn named(alloc: Global, samples: &[LabelSet], name: &Option<Text>) -> Result<Vec<LabelSet>, Memory>
+pub fn named(
+    alloc: Global,
+    samples: &[LabelSet],
+    name: &Option<Text>,
+) -> Result<Vec<LabelSet>, Memory>
     ensures { IfOk result (λ kept. kept.items ≡ filter (has_name name.now) samples.now) }
 {
     let mut kept = Vec::new(alloc);

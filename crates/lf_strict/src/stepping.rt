@@ -5,10 +5,10 @@ ghost use Rattle.lf_witness.specs.Ascending.{IsAscending};
 ghost use Rattle.lf_witness.specs.StrictRuns.{InOrder, IsRuleAnswer, StepAdds, StoredOf};
 ghost use Rattle.lf_strict.specs.views.Running.{IsStep};
 
-use crate::becoming::made_apart;
+use crate::apart::apart;
 use crate::evaluating::evaluated;
 use crate::store::Store;
-use crate::storing::Stored;
+use crate::storing::each_stored;
 use lf_ast::{LabelSet, Rule};
 use lf_base::{Memory, Seq};
 use lf_nodes::is_rule_type;
@@ -32,7 +32,7 @@ fn added(alloc: Global, store: &Store, rule: &Rule) -> Result<Option<Seq<LabelSe
     ensures { IfOk result (InOrder (StepAdds store.now (rule_tree rule.now))) }
 {
     match rule_answer(alloc, store, rule)? {
-        Some(samples) => stored(alloc, rule, &samples),
+        Some(samples) => stored(alloc, rule, samples),
         None => Ok(None),
     }
 }
@@ -41,15 +41,15 @@ fn added(alloc: Global, store: &Store, rule: &Rule) -> Result<Option<Seq<LabelSe
 fn stored(
     alloc: Global,
     rule: &Rule,
-    samples: &Seq<LabelSet>,
+    samples: Seq<LabelSet>,
 ) -> Result<Option<Seq<LabelSet>>, Memory>
-    requires { IsAscending samples.now }
-    ensures { IfOk result (InOrder (StoredOf (rule_tree rule.now) rule.now.alert samples.now)) }
+    requires { IsAscending samples }
+    ensures { IfOk result (InOrder (StoredOf (rule_tree rule.now) rule.now.alert samples)) }
 {
     if rule.alert {
         Ok(Some(Seq::new(alloc)))
     } else {
-        made_apart(alloc, &Stored { rule }, samples)
+        Ok(apart(each_stored(alloc, rule, samples)?))
     }
 }
 

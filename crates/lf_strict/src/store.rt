@@ -1,4 +1,4 @@
-//! The stored samples, by their metric names.
+//! The stored samples.
 ghost use Rattle.std.specs.Prelude.{◌≡◌, ◌++◌, ◌∷◌, [], IfOk, IfSome, OnOk, Some};
 ghost use Rattle.lf_ast.specs.Labels.{Labels};
 ghost use Rattle.lf_ast.specs.Selectors.{metric};
@@ -9,34 +9,35 @@ ghost use Rattle.lf_witness.specs.Strict.{AreSame, AreSelected, IsSet};
 ghost use Rattle.lf_witness.specs.StrictRuns.{InOrder};
 
 use crate::apart::together;
-use crate::sample_set::SampleSet;
-use crate::selecting::{select, text_of};
+use crate::named_samples::NamedSamples;
+use crate::selecting::{named, passing_each, select};
+use crate::signature::push_each;
 use lf_ast::{LabelSet, Matcher, selected_name};
 use lf_base::{Memory, Seq, Text};
 use std::alloc::Global;
-use std::collections::BTreeMap;
 use std::marker::Model;
 
-/// The stored samples, each once, under the text of the metric name, which is empty where a sample has none.
+/// How many samples are gone through one by one, before the others are kept by their names.
+const FEW: usize = 8;
+
+/// The stored samples, of which equal ones count once. Most worlds have a few, which are looked through, and no more. Any others are found by their metric names.
 #[derive(Drop)]
 pub struct Store {
-    by_name: BTreeMap<String, SampleSet>,
+    few: Vec<LabelSet>,
+    others: NamedSamples,
 }
 
 impl Model for Store {
-    ghost use Rattle.std.specs.Prelude.{List};
+    ghost use Rattle.std.specs.Prelude.{List, ◌++◌};
     ghost use Rattle.std.specs.Coded.{coded_ℕ, coded_list};
     ghost use Rattle.std.specs.FinMap as map;
     ghost use Rattle.lf_ast.specs.Labels.{Labels};
-    ghost use Rattle.lf_strict.specs.views.Stored.{AreUnderNames, samples_of};
 
     ghost Value = { List Labels };
 
     ghost coded = { coded_list (map.code (coded_list coded_ℕ) (coded_list coded_ℕ)) };
 
-    ghost view = { λ store. samples_of store.by_name.entries };
-
-    ghost invariant = { λ store. AreUnderNames store.by_name.entries };
+    ghost view = { λ store. store.few.items ++ store.others };
 }
 
 impl Store {
@@ -45,7 +46,8 @@ impl Store {
         ensures { result ≡ [] }
     {
         Store {
-            by_name: BTreeMap::new(alloc),
+            few: Vec::new(alloc),
+            others: NamedSamples::new(alloc),
         }
     }
 
@@ -78,18 +80,15 @@ impl Store {
         Ok(())
     }
 
-    /// Puts a sample among those of its name, unless it is there.
+    /// Puts a sample among the others. Beside those that are looked through it is put under its name, unless it is there.
     fn put(&mut self, alloc: Global, sample: LabelSet) -> Result<(), Memory>
         ensures { OnOk result (AreSame (self.old ++ sample ∷ []) self.new) }
     {
-        let name = String::from_str(alloc, text_of(&sample, "__name__"))?;
-        if let Some(samples) = self.by_name.get_mut(name.as_str()) {
-            return samples.add(sample);
+        if self.few.len() < FEW {
+            self.few.push(sample)?;
+            return Ok(());
         }
-        let mut samples = SampleSet::new(alloc);
-        samples.add(sample)?;
-        self.by_name.insert(name, samples)?;
-        Ok(())
+        self.others.put(alloc, sample)
     }
 
     /// All samples, in ascending order.
@@ -98,13 +97,12 @@ impl Store {
         ensures ascends { IfOk result IsAscending }
     {
         let mut all = Vec::new(alloc);
-        for samples in self.by_name.values() {
-            samples.push_to(&mut all)?;
-        }
+        push_each(&mut all, self.few.as_slice())?;
+        self.others.push_to(&mut all)?;
         Ok(together(all))
     }
 
-    /// The samples that have the name and pass the matchers, in ascending order. Where the metric name is given, only the samples of that name are looked at.
+    /// The samples that have the name and pass the matchers, in ascending order. Where the metric name is given, of those that are kept by their names only the samples of that name are looked at.
     pub fn select(
         &self,
         alloc: Global,
@@ -133,12 +131,22 @@ impl Store {
         requires { (s : Labels) → HasName name.now s → PassesEach matchers.now s → value_of s metric ≡ sought.now }
         ensures { IfOk result (λ set. InOrder (IsSet (AreSelected self.now name.now matchers.now)) (Some set)) }
     {
-        let _count = self.by_name.len();
-        match self.by_name.get(sought.as_str()) {
-            Some(samples) => samples.select(alloc, name, matchers),
-            None => Ok(Seq::new(alloc)),
-        }
+        let kept = named(alloc, self.few.as_slice(), name)?;
+        let mut found = passing_each(alloc, kept, matchers)?;
+        let others = self.others.select_named(alloc, sought, name, matchers)?;
+        take_each(&mut found, others)?;
+        Ok(together(found))
     }
+}
+
+/// Puts samples behind others, the last one first, without copying them. It may have put some where it fails.
+fn take_each(all: &mut Vec<LabelSet>, mut samples: Seq<LabelSet>) -> Result<(), Memory>
+    ensures { OnOk result (AreSame (all.old.items ++ samples) all.new.items) }
+{
+    while let Some(sample) = samples.pop() {
+        all.push(sample)?;
+    }
+    Ok(())
 }
 
 /// The metric name of all samples that have the name and pass the matchers, where the name or a matcher says it.

@@ -1,6 +1,7 @@
 pub mod Absences
 pub mod Agreeing
 pub mod FirstNumbers
+pub mod MetricNames
 pub mod NamedSeries
 pub mod Operands
 pub mod Preparing

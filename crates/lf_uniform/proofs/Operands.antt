@@ -9,7 +9,7 @@ use Rattle.lf_ast.specs.views.Walks.{chosen}
 use Rattle.lf_semantics.specs.Listing.{Listing}
 use Rattle.lf_semantics.specs.Parts.{operand_place}
 use Rattle.lf_trials.specs.Follow.{Followed, follow_argument, follow_call, follow_effect}
-use Rattle.lf_uniform.specs.declared.told.Told.{Told}
+use Rattle.lf_uniform.specs.declared.told.FollowedText.{FollowedText}
 use Rattle.lf_uniform.specs.views.Following.{followed_call, operand_of, told_of}
 use Rattle.lf_nodes.specs.views.Needed.{operand_part}
 
@@ -21,7 +21,7 @@ module _ (u : Listing) (rules : List RuleTree) (label given : Bytes) (known : By
   operand_is (Next x xs) (suc k) = operand_is xs k
 
   -- what is told of the arguments that are looked at
-  abbrev pub of_call : Option Signature → Trees → List Told
+  abbrev pub of_call : Option Signature → Trees → List FollowedText
   of_call o args = map (told_of u rules label given known) (chosen (operand_part o) (list args))
 
   pub call_is : (o : Option Signature) (grouping : Grouping) (args : Trees) → followed_call label o grouping args (operand_of (of_call o args)) ≡ follow_call label o grouping args (follow_argument u rules label given known args)

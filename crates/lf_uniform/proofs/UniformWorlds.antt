@@ -1,6 +1,7 @@
 -- What is shared, and the texts with the presence, make the uniform world, or show that there is none.
-use Rattle.std.proofs.Common.{◌≡◌, ◌≢◌, ◌<◌, ◌≤◌, inl, inr, ℕ, Bool, true, false, not, ◌||◌, cond, List, [], ◌∷◌, length, Option, Some, None, refl, sym, ◌∙◌, ap, subst, true≢false, arith, get_or-set_other, get_or-set_same}
+use Rattle.std.proofs.Common.{◌≡◌, ◌≢◌, ◌<◌, ◌≤◌, inl, inr, ℕ, Bool, true, false, not, ◌||◌, List, length, Option, Some, None, refl, sym, ◌∙◌, ap, subst, true≢false, arith, get_or-set_other, get_or-set_same}
 use Rattle.std.proofs.Math.ListN.{length-set, set}
+use Rattle.std.proofs.Math.Path.{fun_ext}
 use Rattle.std.specs.Prelude.{slice_get, option_map}
 use Rattle.std.specs.List.{find}
 use Rattle.std.specs.Option.{option_map_or}
@@ -19,15 +20,11 @@ use Rattle.lf_trials.specs.Follow.{Followed, follow_from}
 use Rattle.lf_trials.specs.Given.{Given}
 use Rattle.lf_trials.specs.Reached.{IsReach, Trial, with_reach}
 use Rattle.lf_trials.specs.Selected.{selected_by}
-use Rattle.lf_trials.specs.Uniform.{IsUniform, SelectsCyclic, has_texts, is_taken, passes_over, uniform_series, uniform_texts}
+use Rattle.lf_trials.specs.Uniform.{IsUniform, SelectsCyclic, has_texts, passes_over, uniform_series, uniform_texts}
 use Rattle.lf_trials.proofs.OneVerdict.{one_reach}
-use Rattle.lf_uniform.specs.declared.texts.Wanted.TheVariants.{Anything}
+use Rattle.lf_uniform.specs.declared.texts.WantedPresence.TheVariants.{Anything}
 use Rattle.lf_uniform.specs.views.Texts.{comes_out, first_texts, is_followed, wanted_for}
 use Rattle.lf_uniform.specs.views.Worlds.{IsSharedBy}
-
-same_find : (p q : Bytes → Bool) (xs : List Bytes) → ((x : Bytes) → p x ≡ q x) → find p xs ≡ find q xs
-same_find p q [] same = refl
-same_find p q (x ∷ xs) same = ap (λ (b : Bool). cond b (Some x) (find p xs)) (same x) ∙ ap (λ (o : Option Bytes). cond (q x) (Some x) o) (same_find p q xs same)
 
 -- the texts
 
@@ -38,7 +35,7 @@ module _ (u : Listing) (rules : List RuleTree) (i : ℕ) (own : RuleTree) (label
   other_taken false (Some text) e = refl
 
   pub text_of_other : (name : Bytes) → bytes_eq name label ≡ false → first_texts u rules i own name ≡ uniform_texts u rules i own label presence name
-  text_of_other name differs = same_find (is_followed u rules i own Anything name) (is_taken u rules i own label presence name) (candidates u name) (λ text. other_taken (bytes_eq name label) (follow_from u rules name text i own) differs)
+  text_of_other name differs = ap (λ (test : Bytes → Bool). find test (candidates u name)) (fun_ext (λ text. other_taken (bytes_eq name label) (follow_from u rules name text i own) differs))
 
   wanted_is : (p : Bool) (text : Bytes) → comes_out (wanted_for p) (Some text) ≡ has_presence p text
   wanted_is true text = refl
@@ -50,7 +47,7 @@ module _ (u : Listing) (rules : List RuleTree) (i : ℕ) (own : RuleTree) (label
   own_taken true (Some text) e = wanted_is presence text
 
   pub text_of_own : find (is_followed u rules i own (wanted_for presence) label) (candidates u label) ≡ uniform_texts u rules i own label presence label
-  text_of_own = same_find (is_followed u rules i own (wanted_for presence) label) (is_taken u rules i own label presence label) (candidates u label) (λ text. own_taken (bytes_eq label label) (follow_from u rules label text i own) (same_true label label refl))
+  text_of_own = ap (λ (test : Bytes → Bool). find test (candidates u label)) (fun_ext (λ text. own_taken (bytes_eq label label) (follow_from u rules label text i own) (same_true label label refl)))
 
 -- with the one of the label in question
 pub stands_with : (u : Listing) (within : IsWithin u) (rules : List RuleTree) (i : ℕ) (own : RuleTree) (presence : Bool) (l : ℕ) (class : Option ℕ) (classes : List (Option ℕ)) → l < length u.named → Stands u classes (first_texts u rules i own) → IsClass u l class

@@ -17,7 +17,7 @@ ghost use Rattle.lf_nodes.specs.views.Needed.{parts_needed};
 use crate::effects::effect;
 use crate::operators::{self, nameless_if};
 use crate::setting::Setting;
-use crate::told::{Told, lost, operand};
+use crate::told::{FollowedText, lost, operand};
 use lf_ast::walk::{Fold, Parts, fold_up};
 use lf_ast::{
     Expr, ExprType, Function, Grouping, Matcher, Matching, Op, is_scalar, joined, selected,
@@ -115,7 +115,7 @@ impl<'a> Following<'a> {
 }
 
 impl<'a> Fold for Following<'a> {
-    type Value = Told;
+    type Value = FollowedText;
 
     type Note = Option<Function>;
 
@@ -142,8 +142,8 @@ impl<'a> Fold for Following<'a> {
         alloc: Global,
         expr: &Expr,
         function: Option<Function>,
-        values: Vec<Told>,
-    ) -> Result<Told, Memory>
+        values: Vec<FollowedText>,
+    ) -> Result<FollowedText, Memory>
         requires function { option_map signature_of function ≡ called_by (tree expr.now) }
         requires values { values.items ≡ map (told_of self.now.setting.now.universe (rule_trees self.now.setting.now.rules) self.now.label.now self.now.given.now (known_by self.now.names.now self.now.values.now)) (chosen (parts_needed (tree expr.now)) (parts_of (tree expr.now))) }
         ensures { IfOk result (λ made. made ≡ told_of self.now.setting.now.universe (rule_trees self.now.setting.now.rules) self.now.label.now self.now.given.now (known_by self.now.names.now self.now.values.now) (tree expr.now)) }
@@ -158,8 +158,8 @@ fn from_parts(
     following: &Following,
     expr: &Expr,
     function: Option<Function>,
-    parts: Vec<Told>,
-) -> Result<Told, Memory>
+    parts: Vec<FollowedText>,
+) -> Result<FollowedText, Memory>
     requires function { option_map signature_of function ≡ called_by (tree expr.now) }
     requires parts { parts.items ≡ map (told_of following.now.setting.now.universe (rule_trees following.now.setting.now.rules) following.now.label.now following.now.given.now (known_by following.now.names.now following.now.values.now)) (chosen (parts_needed (tree expr.now)) (parts_of (tree expr.now))) }
     ensures text { IfOk result (λ made. made.text ≡ follow following.now.setting.now.universe (rule_trees following.now.setting.now.rules) following.now.label.now following.now.given.now (known_by following.now.names.now following.now.values.now) (tree expr.now)) }
@@ -167,11 +167,11 @@ fn from_parts(
 {
     let label = following.label.as_str();
     match expr {
-        Expr::Number { .. } => Ok(Told {
+        Expr::Number { .. } => Ok(FollowedText {
             text: lost(alloc),
             form: ExprType::Scalar,
         }),
-        Expr::Str { .. } => Ok(Told {
+        Expr::Str { .. } => Ok(FollowedText {
             text: None,
             form: ExprType::Str,
         }),
@@ -180,11 +180,11 @@ fn from_parts(
             matchers,
             sight,
             ..
-        } => Ok(Told {
+        } => Ok(FollowedText {
             text: following.selector(alloc, name, matchers.as_slice())?,
             form: selected(&sight.range),
         }),
-        Expr::Subquery { .. } => Ok(Told {
+        Expr::Subquery { .. } => Ok(FollowedText {
             text: the_only(parts).text,
             form: ExprType::Range,
         }),
@@ -214,25 +214,32 @@ fn from_parts(
 }
 
 /// A sign before an operand.
-fn signed(alloc: Global, label: &str, minus: bool, operand: Told) -> Told
+fn signed(alloc: Global, label: &str, minus: bool, operand: FollowedText) -> FollowedText
     ensures text { result.text ≡ nameless_if label.now minus operand.text }
     ensures form { result.form ≡ operand.form }
 {
     let form = operand.form;
-    Told {
+    FollowedText {
         text: nameless_if(alloc, label, minus, operand.text),
         form,
     }
 }
 
 /// An operator between two sides.
-fn binary(alloc: Global, label: &str, op: Op, matching: &Matching, left: Told, right: Told) -> Told
+fn binary(
+    alloc: Global,
+    label: &str,
+    op: Op,
+    matching: &Matching,
+    left: FollowedText,
+    right: FollowedText,
+) -> FollowedText
     ensures text { result.text ≡ follow_binary label.now op matching.now (is_scalar left.form) (is_scalar right.form) left.text right.text }
     ensures form { result.form ≡ joined left.form right.form }
 {
     let form = joined(left.form, right.form);
     let scalars = (is_scalar(left.form), is_scalar(right.form));
-    Told {
+    FollowedText {
         text: operators::binary(alloc, label, op, matching, scalars, left.text, right.text),
         form,
     }
@@ -246,16 +253,16 @@ fn called(
     grouping: &Grouping,
     args: &[Expr],
     operand: Option<Text>,
-) -> Result<Told, Memory>
+) -> Result<FollowedText, Memory>
     ensures text { IfOk result (λ made. made.text ≡ followed_call label.now (option_map signature_of function) grouping.now (trees args.now) operand) }
     ensures form { IfOk result (λ made. made.form ≡ given_by (option_map signature_of function)) }
 {
     match function {
-        Some(function) => Ok(Told {
+        Some(function) => Ok(FollowedText {
             text: effect(alloc, label, function.labels, grouping, args, operand)?,
             form: function.gives,
         }),
-        None => Ok(Told {
+        None => Ok(FollowedText {
             text: None,
             form: ExprType::Vector,
         }),

@@ -3,7 +3,6 @@
 
 mod absence;
 mod effects;
-mod firsts;
 mod following;
 mod line;
 mod naming;
@@ -16,5 +15,4 @@ mod texts;
 mod told;
 mod uniform;
 
-pub use firsts::FirstRules;
 pub use uniform::Uniform;

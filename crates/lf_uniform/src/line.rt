@@ -1,11 +1,10 @@
 //! The line of rules in which each comes behind those that it reads.
-ghost use Rattle.std.specs.Prelude.{◌≡◌, ◌<◌, ◌∷◌, false, ◌++◌, [], ℕ, cond, length, IfOk, OnOk, Option};
+ghost use Rattle.std.specs.Prelude.{◌≡◌, ◌<◌, ◌↔◌, ◌∷◌, false, ◌++◌, [], ℕ, List, cond, length, slice_get, IfOk, IsTrue, OnOk, Option, Some};
 ghost use Rattle.std.specs.List.{Contains};
-ghost use Rattle.lf_ast.specs.Rules.{rule_trees};
+ghost use Rattle.lf_ast.specs.Rules.{RuleTree, rule_trees};
 ghost use Rattle.lf_deps.specs.views.Sources.{IsSourcesOf};
-ghost use Rattle.lf_uniform.specs.views.Lines.{AreFirstsOf, IsLineOf, IsRound, is_in, is_no_wait, is_ready};
+ghost use Rattle.lf_uniform.specs.views.Lines.{IsLineOf, IsRound, first_of, is_in, is_no_wait, is_ready};
 
-use crate::firsts::FirstRules;
 use lf_ast::Rule;
 use lf_base::{Memory, Seq, Text};
 use lf_classes::TextSet;
@@ -36,11 +35,9 @@ impl Line {
     pub fn of(
         alloc: Global,
         rules: &Seq<Rule>,
-        firsts: &FirstRules,
         sources: &Sources,
         numbers: &[u32],
     ) -> Result<Line, Memory>
-        requires firsts { AreFirstsOf (rule_trees rules.now) firsts.now }
         requires sources { IsSourcesOf (rule_trees rules.now) sources.now }
         requires numbers { (k : ℕ) → Contains numbers.now k → k < length rules.now }
         ensures { IfOk result (IsLineOf (rule_trees rules.now) numbers.now) }
@@ -51,7 +48,7 @@ impl Line {
         };
         let mut left = Vec::from_slice(alloc, numbers)?;
         loop {
-            let mut later = line.round(alloc, rules, firsts, sources, left.as_slice())?;
+            let mut later = line.round(alloc, rules, sources, left.as_slice())?;
             if later.len() == left.len() {
                 return Ok(line);
             }
@@ -79,18 +76,16 @@ impl Line {
         &mut self,
         alloc: Global,
         rules: &Seq<Rule>,
-        firsts: &FirstRules,
         sources: &Sources,
         numbers: &[u32],
     ) -> Result<Vec<u32>, Memory>
-        requires firsts { AreFirstsOf (rule_trees rules.now) firsts.now }
         requires sources { IsSourcesOf (rule_trees rules.now) sources.now }
         requires numbers { (k : ℕ) → Contains numbers.now k → k < length rules.now }
         ensures { IfOk result (λ later. IsRound (rule_trees rules.now) self.old numbers.now self.new later.items) }
     {
         let mut later = Vec::new(alloc);
         for number in numbers {
-            let waits = self.put(alloc, rules, firsts, sources, *number)?;
+            let waits = self.put(alloc, rules, sources, *number)?;
             keep_if(waits, *number, &mut later)?;
         }
         Ok(later)
@@ -101,21 +96,19 @@ impl Line {
         &mut self,
         alloc: Global,
         rules: &Seq<Rule>,
-        firsts: &FirstRules,
         sources: &Sources,
         number: u32,
     ) -> Result<bool, Memory>
-        requires firsts { AreFirstsOf (rule_trees rules.now) firsts.now }
         requires sources { IsSourcesOf (rule_trees rules.now) sources.now }
         requires number { number < length rules.now }
         ensures { IfOk result (λ waits. IsRound (rule_trees rules.now) self.old (number ∷ []) self.new (cond waits (number ∷ []) [])) }
     {
         let place = number as usize;
         let name = &rules.get(place).name;
-        if self.has(name) || !firsts.is_first(place, name.as_str()) {
+        if self.has(name) || !is_first(sources, place, name.as_str()) {
             return Ok(false);
         }
-        if !self.is_ready(firsts.names(), sources.selected_by(place)) {
+        if !self.is_ready(sources.recorded(), sources.selected_by(place)) {
             return Ok(true);
         }
         self.push(alloc, number, name)?;
@@ -155,6 +148,13 @@ impl Line {
         self.numbers.push(number)?;
         Ok(())
     }
+}
+
+/// Whether the rule of a number, which has this name, is the first that records it.
+fn is_first(sources: &Sources, number: usize, name: &str) -> bool
+    ensures { (rules : List RuleTree) → IsSourcesOf rules sources.now → (r : RuleTree) → slice_get rules number ≡ Some r → r.name ≡ name.now → IsTrue result ↔ (first_of rules r.name ≡ Some (number, r)) }
+{
+    sources.makers_of(name).first() == Some(&number)
 }
 
 /// Puts a number behind others, if it is kept.

@@ -17,17 +17,11 @@ use lf_deps::{Sources, is_scalar_call};
 use std::alloc::Global;
 
 /// The names of the series for the selectors of some rules, each once: the scraped names that are said, and then those for selectors that say none.
-pub fn series_names(
-    alloc: Global,
-    setting: &Setting,
-    sources: &Sources,
-    numbers: &[u32],
-) -> Result<TextSet, Memory>
-    requires sources { IsSourcesOf (rule_trees setting.now.rules) sources.now }
-    requires numbers { (k : ℕ) → Contains numbers.now k → k < length setting.now.rules }
+pub fn series_names(alloc: Global, setting: &Setting, numbers: &[u32]) -> Result<TextSet, Memory>
+    requires { (k : ℕ) → Contains numbers.now k → k < length setting.now.rules }
     ensures { IfOk result (λ names. names ≡ series_names setting.now.universe (rule_trees setting.now.rules) (selected_by (rule_trees setting.now.rules) numbers.now)) }
 {
-    let naming = said(alloc, setting, sources, numbers)?;
+    let naming = said(alloc, setting, setting.sources(), numbers)?;
     with_unsaid(alloc, naming, numbers)
 }
 
@@ -37,13 +31,13 @@ fn said<'a>(
     setting: &'a Setting<'a>,
     sources: &Sources,
     numbers: &[u32],
-) -> Result<Naming<'a>, Memory>
+) -> Result<NameCollector<'a>, Memory>
     requires sources { IsSourcesOf (rule_trees setting.now.rules) sources.now }
     requires numbers { (k : ℕ) → Contains numbers.now k → k < length setting.now.rules }
     ensures names { IfOk result (λ naming. naming.names ≡ with_each [] (said_all (rule_trees setting.now.rules) (selected_by (rule_trees setting.now.rules) numbers.now))) }
     ensures setting { IfOk result (λ naming. naming.setting.now ≡ setting.now) }
 {
-    let mut naming = Naming {
+    let mut naming = NameCollector {
         setting,
         names: TextSet::new(alloc),
     };
@@ -54,7 +48,7 @@ fn said<'a>(
 }
 
 /// Names, and behind them those for the selectors of some rules that say none.
-fn with_unsaid(alloc: Global, mut naming: Naming, numbers: &[u32]) -> Result<TextSet, Memory>
+fn with_unsaid(alloc: Global, mut naming: NameCollector, numbers: &[u32]) -> Result<TextSet, Memory>
     requires { (k : ℕ) → Contains numbers.now k → k < length naming.setting.now.rules }
     ensures { IfOk result (λ names. names ≡ with_each naming.entry.names (unsaid_by naming.entry.setting.now.universe (rule_trees naming.entry.setting.now.rules) (selected_by (rule_trees naming.entry.setting.now.rules) numbers.now))) }
 {
@@ -67,12 +61,12 @@ fn with_unsaid(alloc: Global, mut naming: Naming, numbers: &[u32]) -> Result<Tex
 
 /// Puts the names of series behind each other, each once.
 #[derive(Drop)]
-struct Naming<'a> {
+struct NameCollector<'a> {
     setting: &'a Setting<'a>,
     names: TextSet,
 }
 
-impl<'a> Naming<'a> {
+impl<'a> NameCollector<'a> {
     /// Puts the scraped names that selectors say.
     fn say(&mut self, alloc: Global, selected: &[Option<Text>]) -> Result<(), Memory>
         ensures names { OnOk result (self.new.names ≡ with_each self.old.names (said_by (rule_trees self.old.setting.now.rules) selected.now)) }
@@ -123,7 +117,7 @@ impl<'a> Naming<'a> {
     }
 }
 
-impl<'a> Visitor for Naming<'a> {
+impl<'a> Visitor for NameCollector<'a> {
     type Note = ();
 
     ghost use Rattle.lf_ast.specs.Rules.{rule_trees};

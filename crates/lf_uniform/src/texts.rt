@@ -1,8 +1,10 @@
 //! The texts of the labels on scraped series.
-ghost use Rattle.std.specs.Prelude.{◌≡◌, ◌<◌, IfOk, Some, length, slice_get};
+ghost use Rattle.std.specs.Prelude.{◌≡◌, ◌<◌, ◌≤◌, ◌+◌, IfOk, Some, false, length, slice_get, true};
 ghost use Rattle.std.specs.List.{find};
 ghost use Rattle.std.specs.Option.{option_map};
 ghost use Rattle.lf_ast.specs.Rules.{RuleTree, rule_trees};
+ghost use Rattle.lf_semantics.specs.Grouped.{is_metric};
+ghost use Rattle.lf_semantics.specs.Listing.{named_at};
 ghost use Rattle.lf_trials.specs.Candidates.{candidates, labels_in};
 ghost use Rattle.lf_candidates.specs.views.ClassTexts.{IsClass, Stands, name_at, text_at};
 ghost use Rattle.lf_uniform.specs.views.Texts.{comes_out, first_texts, is_followed, passes_as};
@@ -13,11 +15,13 @@ use crate::setting::Setting;
 use crate::table::follow_from;
 use lf_base::{Memory, Text};
 use lf_candidates::LabelTexts;
+use lf_classes::Universe;
+use lf_nodes::is_metric;
 use std::alloc::Global;
 
 /// How a label is to come out on what the rule's expression gives.
 #[derive(Clone, Copy, Drop)]
-pub enum Wanted {
+pub enum WantedPresence {
     /// With whatever text.
     Anything,
     /// It is there.
@@ -49,7 +53,7 @@ pub fn first_texts(
             number,
             label,
             &names[place],
-            Wanted::Anything,
+            WantedPresence::Anything,
         )?;
         texts.put(place, class);
     }
@@ -64,7 +68,7 @@ pub fn first_followed(
     number: u32,
     label: u32,
     name: &Text,
-    wanted: Wanted,
+    wanted: WantedPresence,
 ) -> Result<Option<u32>, Memory>
     requires way { IsWay (rule_trees setting.now.rules) number line.now }
     requires label { label < length setting.now.universe.named }
@@ -73,7 +77,7 @@ pub fn first_followed(
     ensures text { (own : RuleTree) → slice_get (rule_trees setting.now.rules) number ≡ Some own → IfOk result (λ class. option_map (text_at setting.now.universe label) class ≡ find (is_followed setting.now.universe (rule_trees setting.now.rules) number own wanted (name_at setting.now.universe label)) (candidates setting.now.universe (name_at setting.now.universe label))) }
 {
     let universe = setting.universe();
-    for class in 0..universe.classes(label) {
+    for class in 0..telling_classes(universe, label, name) {
         let text = universe.candidate(label, class);
         let fits = is_followed(alloc, setting, line, number, name, text, wanted)?;
         if fits {
@@ -81,6 +85,21 @@ pub fn first_followed(
         }
     }
     Ok(None)
+}
+
+/// How many candidates of a label have to be asked: each, but of the metric name one tells of all. Each series has a name of its own, so that what is followed of it never
+/// goes by the text that all have, and it would be asked of thousands.
+fn telling_classes(universe: &Universe, label: u32, name: &Text) -> u32
+    requires { label < length universe.now.named }
+    ensures within { result ≤ length (named_at universe.now label) + 2 }
+    ensures each { is_metric name.now ≡ false → result ≡ length (named_at universe.now label) + 2 }
+    ensures one { is_metric name.now ≡ true → result ≡ 1 }
+{
+    if is_metric(name.as_str()) {
+        1
+    } else {
+        universe.classes(label)
+    }
 }
 
 /// Whether a label with this text can be followed and comes out as it is wanted.
@@ -91,7 +110,7 @@ fn is_followed(
     number: u32,
     name: &Text,
     text: &Text,
-    wanted: Wanted,
+    wanted: WantedPresence,
 ) -> Result<bool, Memory>
     requires { IsWay (rule_trees setting.now.rules) number line.now }
     ensures { (own : RuleTree) → slice_get (rule_trees setting.now.rules) number ≡ Some own → IfOk result (λ found. found ≡ is_followed setting.now.universe (rule_trees setting.now.rules) number own wanted name.now text.now) }
@@ -101,7 +120,7 @@ fn is_followed(
 }
 
 /// Whether what is told of a label is as it is wanted.
-fn comes_out(wanted: Wanted, followed: &Option<Text>) -> bool
+fn comes_out(wanted: WantedPresence, followed: &Option<Text>) -> bool
     ensures { result ≡ comes_out wanted followed.now }
 {
     match followed {
@@ -111,12 +130,12 @@ fn comes_out(wanted: Wanted, followed: &Option<Text>) -> bool
 }
 
 /// Whether a text is as it is wanted.
-fn passes_as(wanted: Wanted, text: &str) -> bool
+fn passes_as(wanted: WantedPresence, text: &str) -> bool
     ensures { result ≡ passes_as wanted text.now }
 {
     match wanted {
-        Wanted::Anything => true,
-        Wanted::Present => text != "",
-        Wanted::Absent => text == "",
+        WantedPresence::Anything => true,
+        WantedPresence::Present => text != "",
+        WantedPresence::Absent => text == "",
     }
 }

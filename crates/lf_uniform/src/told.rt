@@ -10,7 +10,7 @@ use std::alloc::Global;
 
 /// The text that a label has on what an expression gives, or that it can't be followed, and the type that the expression's form tells.
 #[derive(Drop)]
-pub struct Told {
+pub struct FollowedText {
     pub text: Option<Text>,
     pub form: ExprType,
 }
@@ -30,7 +30,7 @@ pub fn lost(alloc: Global) -> Option<Text>
 }
 
 /// The text on the only one of these, and none where there is none.
-pub fn operand(parts: Vec<Told>) -> Option<Text>
+pub fn operand(parts: Vec<FollowedText>) -> Option<Text>
     requires { length parts.items ≤ 1 }
     ensures { result ≡ operand_of parts.items }
 {

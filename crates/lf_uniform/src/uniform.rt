@@ -7,18 +7,16 @@ ghost use Rattle.lf_trials.specs.Reached.{IsReach, with_reach};
 ghost use Rattle.lf_trials.specs.Uniform.{IsUniform, uniform_texts};
 ghost use Rattle.lf_candidates.specs.views.ClassTexts.{Stands, name_at};
 ghost use Rattle.lf_candidates.specs.views.Told.{AnswersFor};
-ghost use Rattle.lf_uniform.specs.views.Lines.{AreFirstsOf};
 ghost use Rattle.lf_uniform.specs.views.Texts.{wanted_for};
 ghost use Rattle.lf_uniform.specs.views.Ways.{IsUncyclic};
 ghost use Rattle.lf_uniform.specs.views.Worlds.{ArePrepared, IsPrepared};
 
-use crate::firsts::FirstRules;
 use crate::line::Line;
 use crate::naming::series_names;
 use crate::reaching::{passes_over, selects_cyclic, with_reach};
 use crate::series::series;
 use crate::setting::Setting;
-use crate::texts::{Wanted, first_followed, first_texts};
+use crate::texts::{WantedPresence, first_followed, first_texts};
 use lf_ast::Rule;
 use lf_base::{Memory, Seq, Text};
 use lf_candidates::{LabelTexts, Trial, label_names};
@@ -65,25 +63,23 @@ impl<'a> Model for Uniform<'a> {
 }
 
 impl<'a> Uniform<'a> {
-    /// Those of the rule of a number, by its reach. `firsts`, `sources` and `graph` are made once for all rules.
+    /// Those of the rule of a number, by its reach. `sources` and `graph` are made once for all rules.
     pub fn new(
         alloc: Global,
         universe: &'a Universe,
         rules: &'a Seq<Rule>,
-        firsts: &'a FirstRules,
-        sources: &Sources,
+        sources: &'a Sources,
         graph: &NameGraph,
         reach: &'a Seq<u32>,
         number: u32,
     ) -> Result<Uniform<'a>, Memory>
         requires rule { number < length rules.now }
-        requires firsts { AreFirstsOf (rule_trees rules.now) firsts.now }
         requires sources { IsSourcesOf (rule_trees rules.now) sources.now }
         requires graph { IsNameGraphOf sources.now graph.now }
         requires reach { (own : RuleTree) → slice_get (rule_trees rules.now) number ≡ Some own → IsReach (rule_trees rules.now) own.expr reach.now }
         ensures { IfOk result (λ uniform. uniform ≡ record { universe = universe.now; rules = rules.now; number = number }) }
     {
-        let setting = Setting::new(universe, rules, firsts);
+        let setting = Setting::new(universe, rules, sources);
         let shared = shared_by(alloc, &setting, sources, graph, reach.as_slice(), number)?;
         Ok(Uniform {
             setting,
@@ -136,7 +132,7 @@ fn shared_by(
     if selects_cyclic(sources, graph, numbers.as_slice()) {
         return Ok(None);
     }
-    let shared = prepared(alloc, setting, sources, reach, numbers.as_slice(), number)?;
+    let shared = prepared(alloc, setting, reach, numbers.as_slice(), number)?;
     Ok(Some(shared))
 }
 
@@ -144,22 +140,20 @@ fn shared_by(
 fn prepared(
     alloc: Global,
     setting: &Setting,
-    sources: &Sources,
     reach: &[u32],
     numbers: &[u32],
     number: u32,
 ) -> Result<Shared, Memory>
     requires rule { number < length setting.now.rules }
-    requires sources { IsSourcesOf (rule_trees setting.now.rules) sources.now }
     requires numbers { numbers.now ≡ with_reach number reach.now }
     requires reach { (own : RuleTree) → slice_get (rule_trees setting.now.rules) number ≡ Some own → IsReach (rule_trees setting.now.rules) own.expr reach.now }
     requires uncyclic { IsUncyclic (rule_trees setting.now.rules) numbers.now }
     ensures { (own : RuleTree) → slice_get (rule_trees setting.now.rules) number ≡ Some own → IfOk result (IsPrepared setting.now.universe (rule_trees setting.now.rules) number reach.now own) }
 {
-    let line = Line::of(alloc, setting.rules(), setting.firsts(), sources, reach)?;
+    let line = Line::of(alloc, setting.rules(), setting.sources(), reach)?;
     let labels = label_names(alloc, setting.universe())?;
     let texts = first_texts(alloc, setting, &line, number, labels.as_slice())?;
-    let names = series_names(alloc, setting, sources, numbers)?;
+    let names = series_names(alloc, setting, numbers)?;
     Ok(Shared {
         line,
         labels,
@@ -221,12 +215,12 @@ fn texts_with(
 }
 
 /// How a label is to come out for a presence.
-fn wanted_for(presence: bool) -> Wanted
+fn wanted_for(presence: bool) -> WantedPresence
     ensures { result ≡ wanted_for presence }
 {
     if presence {
-        Wanted::Present
+        WantedPresence::Present
     } else {
-        Wanted::Absent
+        WantedPresence::Absent
     }
 }

@@ -12,7 +12,7 @@ use Rattle.lf_trials.specs.Candidates.{labels_in}
 use Rattle.lf_trials.specs.Verdicts.{AreLabelVerdicts, IsLabelVerdict, LabelVerdict}
 use Rattle.lf_candidates.specs.views.ClassTexts.{name_at}
 use Rattle.lf_candidates.proofs.Standing.{label_count}
-use Rattle.lf_worlds.specs.declared.verdict.Verdict.{Verdict}
+use Rattle.lf_worlds.specs.declared.verdict.LabelKnowledge.{LabelKnowledge}
 use Rattle.lf_worlds.specs.views.Told.{label_verdict}
 
 module _ (u : Listing) (env : Environment) (rules : List RuleTree) (i : ℕ) (row : Sets) where
@@ -24,11 +24,11 @@ module _ (u : Listing) (env : Environment) (rules : List RuleTree) (i : ℕ) (ro
   behind (l ∷ labels) (w ∷ verdicts) label v are is = (are.0, behind labels verdicts label v are.1 is)
 
   -- the verdicts that are told on the labels before one
-  abbrev pub AreTold : ℕ → List Verdict → Type 0
+  abbrev pub AreTold : ℕ → List LabelKnowledge → Type 0
   AreTold label told = AreLabelVerdicts u env rules i row (take label (labels_in u)) (map label_verdict told)
 
   module _ (within : IsWithin u) where
-    pub one_told : (label : ℕ) (told : List Verdict) (v : Verdict) → label < length u.named → AreTold label told → IsLabelVerdict u env rules i row (name_at u label) (label_verdict v) → AreTold (label + 1) (told ++ v ∷ [])
+    pub one_told : (label : ℕ) (told : List LabelKnowledge) (v : LabelKnowledge) → label < length u.named → AreTold label told → IsLabelVerdict u env rules i row (name_at u label) (label_verdict v) → AreTold (label + 1) (told ++ v ∷ [])
     one_told label told v less are is =
         let count = label_count u within in
         let inside : label < length (labels_in u) = omega (arith, count, less) in
@@ -36,6 +36,6 @@ module _ (u : Listing) (env : Environment) (rules : List RuleTree) (i : ℕ) (ro
         (subst (AreLabelVerdicts u env rules i row (take label (labels_in u) ++ name_at u label ∷ [])) (sym (map-append label_verdict told (v ∷ [])))
         (behind (take label (labels_in u)) (map label_verdict told) (name_at u label) (label_verdict v) are is))
 
-    pub all_told : (label : ℕ) (told : List Verdict) → label ≡ length u.named → AreTold label told → AreLabelVerdicts u env rules i row (labels_in u) (map label_verdict told)
+    pub all_told : (label : ℕ) (told : List LabelKnowledge) → label ≡ length u.named → AreTold label told → AreLabelVerdicts u env rules i row (labels_in u) (map label_verdict told)
     all_told label told end are =
         subst (λ (l : List Bytes). AreLabelVerdicts u env rules i row l (map label_verdict told)) (ap (λ (n : ℕ). take n (labels_in u)) (end ∙ sym (label_count u within)) ∙ take-length (labels_in u)) are

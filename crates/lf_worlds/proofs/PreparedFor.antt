@@ -1,7 +1,9 @@
 -- What is prepared for rules is so for the same rules.
-use Rattle.std.proofs.Common.{◌≡◌, ◌<◌, ℕ, List, Some, length, sym, ap, ◌∙◌, subst, slice_get}
+use Rattle.std.proofs.Common.{◌≡◌, ◌<◌, ℕ, List, Some, length, refl, sym, ap, ◌∙◌, subst, slice_get}
 use Rattle.lf_ast.specs.Rules.{RuleTree, rule_trees}
 use Rattle.lf_ast.specs.declared.rule.Rule.{Rule}
+use Rattle.lf_deps.specs.views.Sources.{Sources}
+use Rattle.lf_graph.specs.Components.{Components}
 use Rattle.lf_semantics.specs.ClassRows.{Sets}
 use Rattle.lf_semantics.specs.Environments.{rule_row}
 use Rattle.lf_semantics.specs.Listing.{Listing}
@@ -11,6 +13,7 @@ use Rattle.lf_forks.specs.views.Holding.{Forks, test_of}
 use Rattle.lf_built.specs.declared.prepared.Prepared.{Prepared}
 use Rattle.lf_built.specs.views.Built.{OfRule}
 use Rattle.lf_built.specs.views.Indexed.{IsPreparedFor, env_of, trees_of, universe_of}
+use Rattle.lf_worlds.specs.views.Readings.{AreReadingsBy}
 use Rattle.lf_worlds.specs.views.Tried.{IsReachAt}
 
 abbrev of_rule : Listing → Environment → List Rule → ℕ → OfRule
@@ -20,6 +23,14 @@ module _ (u : Listing) (env : Environment) (rules : List Rule) (forks : Forks) (
   pub tells_selectors : TellsSelectors (rule_trees rules) (test_of forks) → TellsSelectors (trees_of p) (test_of p.forks.now)
   tells_selectors tells =
       subst (λ (rs : List Rule). TellsSelectors (rule_trees rs) (test_of p.forks.now)) (sym is.rules) (subst (λ (f : Forks). TellsSelectors (rule_trees rules) (test_of f)) (sym is.forks) tells)
+
+  -- the forks are those that it was prepared with
+
+  pub own_forks : IsPreparedFor u env rules p.forks.now p
+  own_forks = record { universe = is.universe; env = is.env; rules = is.rules; forks = refl; prepared = is.prepared }
+
+  pub own_readings : (s : Sources) (g : Components) → AreReadingsBy (rule_trees rules) s g forks → AreReadingsBy (rule_trees rules) s g p.forks.now
+  own_readings s g are = subst (λ (f : Forks). AreReadingsBy (rule_trees rules) s g f) (sym is.forks) are
 
   pub own_row : (r : RuleTree) (row : Sets) → row ≡ rule_row (universe_of p) (env_of p) r → row ≡ rule_row u env r
   own_row r row same = same ∙ ap (λ (x : Listing). rule_row x (env_of p) r) is.universe ∙ ap (λ (x : Environment). rule_row u x r) is.env

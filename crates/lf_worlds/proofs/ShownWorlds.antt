@@ -4,6 +4,7 @@ use Rattle.std.proofs.lemmas.Option.{same_Some}
 use Rattle.lf_laws.proofs.Options.{same_option}
 use Rattle.lf_ast.specs.Labels.{Bytes, Labels}
 use Rattle.lf_ast.specs.Rules.{RuleTree}
+use Rattle.lf_ast.specs.declared.verdict.World.{World}
 use Rattle.lf_semantics.specs.Listing.{Listing}
 use Rattle.lf_semantics.specs.RowTable.{Environment}
 use Rattle.lf_semantics.specs.Parts.{is_evaluated, type_by_form}
@@ -12,7 +13,7 @@ use Rattle.lf_witness.proofs.Answers.{one_rule_answer, one_run_answer}
 use Rattle.lf_strict.specs.Steps.{IsAnswerAfter}
 use Rattle.lf_trials.specs.Built.{IsBuilt}
 use Rattle.lf_trials.specs.Reached.{Trial}
-use Rattle.lf_trials.specs.Trials.{IsFirstShown, Shown, Shows, ShowsBuilt, ShowsUniform}
+use Rattle.lf_trials.specs.Trials.{IsFirstShown, Shows, ShowsBuilt, ShowsUniform}
 use Rattle.lf_trials.specs.Uniform.{IsUniform}
 use Rattle.lf_trials.proofs.OneVerdict.{one_built, one_uniform}
 use Rattle.lf_candidates.specs.views.Told.{AnswersFor}
@@ -65,15 +66,15 @@ module _ (rules : List RuleTree) (i : ℕ) (r : RuleTree) (at : slice_get rules 
 module _ (u : Listing) (env : Environment) (rules : List RuleTree) (i : ℕ) (label : Bytes) (presence : Bool) where
   -- the built world shows what its trial shows
 
-  built_shows : (trial : Trial) → IsBuilt u env rules i label presence trial → (o : Option Shown) → IsWorldShown rules i label presence trial o → ShownFor (ShowsBuilt u env rules i label presence) o
-  built_shows trial made (Some shown) is = (subst (IsBuilt u env rules i label presence) (sym is.0) made, is.1)
+  built_shows : (trial : Trial) → IsBuilt u env rules i label presence trial → (o : Option World) → IsWorldShown rules i label presence trial o → ShownFor (ShowsBuilt u env rules i label presence) o
+  built_shows trial made (Some world) is = (subst (IsBuilt u env rules i label presence) (sym is.0) made, is.1)
   built_shows trial made None none = λ other shows.
       none other.sample (subst (λ (v : Trial). Shows rules i label presence (record { trial = v; sample = other.sample })) (one_built u env rules i label presence other.trial trial shows.0 made) shows.1)
 
   none_built : ((trial : Trial) → IsBuilt u env rules i label presence trial → ⊥) → ShownFor (ShowsBuilt u env rules i label presence) None
   none_built none = λ other shows. none other.trial shows.0
 
-  pub built_if_shown : (made : Option Trial) → AnswersFor (IsBuilt u env rules i label presence) made → (o : Option Shown) → IsWorldIfShown rules i label presence made o → ShownFor (ShowsBuilt u env rules i label presence) o
+  pub built_if_shown : (made : Option Trial) → AnswersFor (IsBuilt u env rules i label presence) made → (o : Option World) → IsWorldIfShown rules i label presence made o → ShownFor (ShowsBuilt u env rules i label presence) o
   built_if_shown (Some trial) made o is = built_shows trial made o is
   built_if_shown None none o is = subst (ShownFor (ShowsBuilt u env rules i label presence)) (sym is) (none_built none)
 
@@ -83,15 +84,15 @@ module _ (u : Listing) (env : Environment) (rules : List RuleTree) (i : ℕ) (la
 
   -- and so does the uniform one
 
-  uniform_shows : (trial : Trial) → IsUniform u rules i label presence trial → (o : Option Shown) → IsWorldShown rules i label presence trial o → ShownFor (ShowsUniform u env rules i label presence) o
-  uniform_shows trial made (Some shown) is = (subst (IsUniform u rules i label presence) (sym is.0) made, is.1)
+  uniform_shows : (trial : Trial) → IsUniform u rules i label presence trial → (o : Option World) → IsWorldShown rules i label presence trial o → ShownFor (ShowsUniform u env rules i label presence) o
+  uniform_shows trial made (Some world) is = (subst (IsUniform u rules i label presence) (sym is.0) made, is.1)
   uniform_shows trial made None none = λ other shows.
       none other.sample (subst (λ (v : Trial). Shows rules i label presence (record { trial = v; sample = other.sample })) (one_uniform u env rules i label presence other.trial trial shows.0 made) shows.1)
 
   none_uniform : ((trial : Trial) → IsUniform u rules i label presence trial → ⊥) → ShownFor (ShowsUniform u env rules i label presence) None
   none_uniform none = λ other shows. none other.trial shows.0
 
-  pub uniform_if_shown : (made : Option Trial) → AnswersFor (IsUniform u rules i label presence) made → (o : Option Shown) → IsWorldIfShown rules i label presence made o → ShownFor (ShowsUniform u env rules i label presence) o
+  pub uniform_if_shown : (made : Option Trial) → AnswersFor (IsUniform u rules i label presence) made → (o : Option World) → IsWorldIfShown rules i label presence made o → ShownFor (ShowsUniform u env rules i label presence) o
   uniform_if_shown (Some trial) made o is = uniform_shows trial made o is
   uniform_if_shown None none o is = subst (ShownFor (ShowsUniform u env rules i label presence)) (sym is) (none_uniform none)
 
@@ -101,6 +102,6 @@ module _ (u : Listing) (env : Environment) (rules : List RuleTree) (i : ℕ) (la
 
   -- the first of them
 
-  pub first_shows : ShownFor (ShowsBuilt u env rules i label presence) None → (o : Option Shown) → ShownFor (ShowsUniform u env rules i label presence) o → ShownFor (IsFirstShown u env rules i label presence) o
-  first_shows none (Some shown) shows = inr (none, shows)
+  pub first_shows : ShownFor (ShowsBuilt u env rules i label presence) None → (o : Option World) → ShownFor (ShowsUniform u env rules i label presence) o → ShownFor (IsFirstShown u env rules i label presence) o
+  first_shows none (Some world) shows = inr (none, shows)
   first_shows none None nor = λ s first. elim first [ inl shows ↦ none s shows | inr shows ↦ nor s shows.1 ]

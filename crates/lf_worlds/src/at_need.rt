@@ -1,13 +1,13 @@
 //! Uniform worlds, of which what they share is made at first need.
 ghost use Rattle.std.specs.Prelude.{◌≡◌, ◌<◌, length, IfOk, IfSome, Some};
 ghost use Rattle.lf_ast.specs.Rules.{rule_trees};
+ghost use Rattle.lf_deps.specs.views.Names.{IsNameGraphOf};
+ghost use Rattle.lf_deps.specs.views.Sources.{IsSourcesOf};
 ghost use Rattle.lf_trials.specs.Uniform.{IsUniform};
 ghost use Rattle.lf_candidates.specs.views.ClassTexts.{name_at};
 ghost use Rattle.lf_candidates.specs.views.Told.{AnswersFor};
-ghost use Rattle.lf_worlds.specs.views.Readings.{AreReadingsBy};
 ghost use Rattle.lf_worlds.specs.views.Tried.{IsReachAt};
 
-use crate::readings::NameFacts;
 use lf_ast::Rule;
 use lf_base::{Memory, Seq};
 use lf_candidates::Trial;
@@ -24,7 +24,6 @@ pub struct UniformAtNeed<'a> {
     rules: &'a Seq<Rule>,
     sources: &'a Sources,
     graph: &'a NameGraph,
-    facts: &'a NameFacts,
     reach: &'a Seq<u32>,
     number: u32,
     made: Option<Uniform<'a>>,
@@ -35,16 +34,18 @@ impl<'a> Model for UniformAtNeed<'a> {
     ghost use Rattle.std.specs.Coded.{codes};
     ghost use Rattle.lf_ast.specs.Rules.{rule_trees};
     ghost use Rattle.lf_ast.specs.contracts.rule.Rule as rule;
-    ghost use Rattle.lf_worlds.specs.views.Readings.{AreReadingsBy};
-    ghost use Rattle.lf_worlds.specs.views.Tried.{IsReachAt, TriedUniform};
+    ghost use Rattle.lf_deps.specs.views.Names.{IsNameGraphOf};
+    ghost use Rattle.lf_deps.specs.views.Sources.{IsSourcesOf};
+    ghost use Rattle.lf_uniform.specs.views.Worlds.{Uniform};
+    ghost use Rattle.lf_worlds.specs.views.Tried.{IsReachAt};
 
-    ghost Value = { TriedUniform };
+    ghost Value = { Uniform };
 
     ghost coded = { Prim.hlevel (codes, rule.the_row.coded) };
 
     ghost view = { λ t. record { universe = t.universe.now; rules = t.rules.now; number = t.number } };
 
-    ghost invariant = { λ t. AreReadingsBy (rule_trees t.rules.now) t.sources.now t.graph.now t.facts.now × IsReachAt (rule_trees t.rules.now) t.number t.reach.now × (t.number < length t.rules.now) × IfSome t.made (λ uniform. uniform ≡ record { universe = t.universe.now; rules = t.rules.now; number = t.number }) };
+    ghost invariant = { λ t. IsSourcesOf (rule_trees t.rules.now) t.sources.now × IsNameGraphOf t.sources.now t.graph.now × IsReachAt (rule_trees t.rules.now) t.number t.reach.now × (t.number < length t.rules.now) × IfSome t.made (λ uniform. uniform ≡ record { universe = t.universe.now; rules = t.rules.now; number = t.number }) };
 }
 
 impl<'a> UniformAtNeed<'a> {
@@ -54,11 +55,11 @@ impl<'a> UniformAtNeed<'a> {
         rules: &'a Seq<Rule>,
         sources: &'a Sources,
         graph: &'a NameGraph,
-        facts: &'a NameFacts,
         reach: &'a Seq<u32>,
         i: u32,
     ) -> UniformAtNeed<'a>
-        requires readings { AreReadingsBy (rule_trees rules.now) sources.now graph.now facts.now }
+        requires sources { IsSourcesOf (rule_trees rules.now) sources.now }
+        requires graph { IsNameGraphOf sources.now graph.now }
         requires reach { IsReachAt (rule_trees rules.now) i reach.now }
         requires rule { i < length rules.now }
         ensures { result ≡ record { universe = universe.now; rules = rules.now; number = i } }
@@ -68,7 +69,6 @@ impl<'a> UniformAtNeed<'a> {
             rules,
             sources,
             graph,
-            facts,
             reach,
             number: i,
             made: None,
@@ -103,7 +103,6 @@ impl<'a> UniformAtNeed<'a> {
                 alloc,
                 self.universe,
                 self.rules,
-                &self.facts.firsts,
                 self.sources,
                 self.graph,
                 self.reach,

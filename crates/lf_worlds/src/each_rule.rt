@@ -17,8 +17,8 @@ ghost use Rattle.lf_worlds.specs.views.Tried.{IsEvaluatedAt};
 use crate::at_need::UniformAtNeed;
 use crate::leaving::{has_open_label, settled};
 use crate::of_rule::RuleTrials;
-use crate::readings::{NameFacts, Readings};
-use crate::verdict::{RuleVerdicts, Verdict};
+use crate::readings::Readings;
+use crate::verdict::{LabelKnowledge, RuleKnowledge};
 use lf_ast::Rule;
 use lf_base::{Memory, Seq, Text};
 use lf_built::{Built, Prepared, RuleRow, rule_rows};
@@ -26,6 +26,7 @@ use lf_candidates::label_names;
 use lf_classes::{Row, Universe};
 use lf_deps::{NameGraph, Sources, reach_of};
 use lf_flow::Env;
+use lf_forks::Forks;
 use std::alloc::Global;
 use std::marker::Model;
 
@@ -37,7 +38,6 @@ pub struct Trials<'a> {
     rules: &'a Seq<Rule>,
     sources: &'a Sources,
     graph: &'a NameGraph,
-    facts: &'a NameFacts,
     prepared: Prepared<'a>,
     names: Vec<Text>,
 }
@@ -60,7 +60,7 @@ impl<'a> Model for Trials<'a> {
 
     ghost view = { λ t. record { universe = t.universe.now; env = t.env.now; rules = t.rules.now } };
 
-    ghost invariant = { λ t. CoversRules t.universe.now (rule_trees t.rules.now) × IsEnvironment t.universe.now t.env.now × AreReadingsBy (rule_trees t.rules.now) t.sources.now t.graph.now t.facts.now × IsPreparedFor t.universe.now t.env.now t.rules.now t.facts.now.forks t.prepared × (t.names.items ≡ labels_in t.universe.now) × IsWithin t.universe.now × IsLeast t.universe.now (rule_trees t.rules.now) t.env.now };
+    ghost invariant = { λ t. CoversRules t.universe.now (rule_trees t.rules.now) × IsEnvironment t.universe.now t.env.now × AreReadingsBy (rule_trees t.rules.now) t.sources.now t.graph.now t.prepared.forks.now × IsPreparedFor t.universe.now t.env.now t.rules.now t.prepared.forks.now t.prepared × (t.names.items ≡ labels_in t.universe.now) × IsWithin t.universe.now × IsLeast t.universe.now (rule_trees t.rules.now) t.env.now };
 }
 
 impl<'a> Trials<'a> {
@@ -77,12 +77,12 @@ impl<'a> Trials<'a> {
         requires readings { AreReadingsOf (rule_trees rules.now) readings.now }
         ensures { IfOk result (λ trials. trials ≡ record { universe = universe.now; env = env.now; rules = rules.now }) }
     {
-        let (sources, graph, facts) = (&readings.sources, &readings.graph, &readings.facts);
-        let rows = rule_rows(alloc, universe, env, rules, sources, &facts.forks)?;
-        Trials::by(alloc, universe, env, rules, sources, graph, facts, rows)
+        let (sources, graph, forks) = (&readings.sources, &readings.graph, &readings.forks);
+        let rows = rule_rows(alloc, universe, env, rules, sources, forks)?;
+        Trials::by(alloc, universe, env, rules, sources, graph, forks, rows)
     }
 
-    /// The same, by the index of the rules, the graph of its names, what is known of these, and the rows of each rule.
+    /// The same, by the index of the rules, the graph of its names, which selectors are forks or are made by one, and the rows of each rule.
     pub fn by(
         alloc: Global,
         universe: &'a Universe,
@@ -90,19 +90,18 @@ impl<'a> Trials<'a> {
         rules: &'a Seq<Rule>,
         sources: &'a Sources,
         graph: &'a NameGraph,
-        facts: &'a NameFacts,
+        forks: &'a Forks,
         rows: Seq<RuleRow>,
     ) -> Result<Trials<'a>, Memory>
         requires covers { CoversRules universe.now (rule_trees rules.now) }
         requires least { IsLeast universe.now (rule_trees rules.now) env.now }
-        requires readings { AreReadingsBy (rule_trees rules.now) sources.now graph.now facts.now }
-        requires rows { AreRowsOf universe.now env.now facts.now.forks (rule_trees rules.now) rows }
+        requires readings { AreReadingsBy (rule_trees rules.now) sources.now graph.now forks.now }
+        requires rows { AreRowsOf universe.now env.now forks.now (rule_trees rules.now) rows }
         ensures { IfOk result (λ trials. trials ≡ record { universe = universe.now; env = env.now; rules = rules.now }) }
     {
         // For what its contract says of the universe.
         let _labels = universe.labels();
         let names = label_names(alloc, universe)?;
-        let forks = &facts.forks;
         let prepared = Prepared::by(alloc, universe, env, rules, sources, forks, rows)?;
         Ok(Trials {
             universe,
@@ -110,7 +109,6 @@ impl<'a> Trials<'a> {
             rules,
             sources,
             graph,
-            facts,
             prepared,
             names,
         })
@@ -119,17 +117,17 @@ impl<'a> Trials<'a> {
     /// What is known of the labels of the rule with this number, counted from 0: that it is empty where its row is, and else a verdict for each label. A label of which
     /// the row leaves both presences is possible, with the first worlds that show its presence and its absence, where both are shown. Of rules as accepted files have
     /// them a label is unresolved only where a construct stands open, in the rule's expression or in a rule that it reads.
-    pub fn rule(&self, alloc: Global, i: u32) -> Result<RuleVerdicts, Memory>
+    pub fn rule(&self, alloc: Global, i: u32) -> Result<RuleKnowledge, Memory>
         requires { i < length self.now.rules }
         ensures verdict { (r : RuleTree) → slice_get (rule_trees self.now.rules) i ≡ Some r → IfOk result (λ told. IsRuleVerdict self.now.universe self.now.env (rule_trees self.now.rules) i r (rule_verdict told)) }
         ensures unresolved { AreTyped (rule_trees self.now.rules) → SetNoNames (rule_trees self.now.rules) → IfOk result (λ told. IsOpenIfUnresolved (rule_trees self.now.rules) i (rule_verdict told)) }
     {
         let row = self.row(i);
         if row.is_empty() {
-            Ok(RuleVerdicts::Empty)
+            Ok(RuleKnowledge::Empty)
         } else {
             let of = self.labels(alloc, row, i)?;
-            Ok(RuleVerdicts::Labels { of })
+            Ok(RuleKnowledge::Labels { of })
         }
     }
 
@@ -147,7 +145,7 @@ impl<'a> Trials<'a> {
     }
 
     /// The verdicts on the labels by a row of a rule that isn't empty. Trials are made only where the row leaves both presences of some label.
-    fn labels(&self, alloc: Global, row: &Row, i: u32) -> Result<Seq<Verdict>, Memory>
+    fn labels(&self, alloc: Global, row: &Row, i: u32) -> Result<Seq<LabelKnowledge>, Memory>
         requires rule { i < length self.now.rules }
         requires evaluated { IsEvaluatedAt (rule_trees self.now.rules) i }
         requires shape { HasShape self.now.universe row.now }
@@ -161,7 +159,7 @@ impl<'a> Trials<'a> {
     }
 
     /// The verdicts on the labels by a row of a rule that isn't empty, by trials.
-    fn tried(&self, alloc: Global, row: &Row, i: u32) -> Result<Seq<Verdict>, Memory>
+    fn tried(&self, alloc: Global, row: &Row, i: u32) -> Result<Seq<LabelKnowledge>, Memory>
         requires rule { i < length self.now.rules }
         requires evaluated { IsEvaluatedAt (rule_trees self.now.rules) i }
         requires shape { HasShape self.now.universe row.now }
@@ -174,7 +172,6 @@ impl<'a> Trials<'a> {
             self.rules,
             self.sources,
             self.graph,
-            self.facts,
             &reach,
             i,
         );

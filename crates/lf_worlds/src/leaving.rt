@@ -11,7 +11,7 @@ ghost use Rattle.lf_candidates.specs.views.ClassTexts.{name_at};
 ghost use Rattle.lf_worlds.specs.views.Told.{label_verdict};
 ghost use Rattle.lf_worlds.specs.views.Tried.{leaves_both};
 
-use crate::verdict::Verdict;
+use crate::verdict::LabelKnowledge;
 use lf_base::{Memory, Seq};
 use lf_candidates::leaves;
 use lf_classes::{Row, Universe};
@@ -31,12 +31,13 @@ pub fn has_open_label(universe: &Universe, row: &Row) -> bool
 }
 
 /// The verdicts on the labels by a row that leaves both presences of none.
-pub fn settled(alloc: Global, universe: &Universe, row: &Row) -> Result<Seq<Verdict>, Memory>
+pub fn settled(alloc: Global, universe: &Universe, row: &Row) -> Result<Seq<LabelKnowledge>, Memory>
     requires shape { HasShape universe.now row.now }
     requires settled { list_any (leaves_both universe.now row.now) (labels_in universe.now) ≡ false }
     ensures { (env : Environment) (rules : List RuleTree) (i : ℕ) → IfOk result (λ of. AreLabelVerdicts universe.now env rules i row.now (labels_in universe.now) (map label_verdict of)) }
 {
-    let mut verdicts = Seq::new(alloc);
+    let count = universe.labels() as usize;
+    let mut verdicts = Seq::from_vec(Vec::with_capacity(alloc, count)?);
     for label in 0..universe.labels() {
         verdicts.push(by_row(universe, row, label))?;
     }
@@ -54,7 +55,7 @@ pub fn leaves_both(universe: &Universe, row: &Row, label: u32) -> bool
 }
 
 /// The verdict on a label of which a row doesn't leave both presences.
-pub fn by_row(universe: &Universe, row: &Row, label: u32) -> Verdict
+pub fn by_row(universe: &Universe, row: &Row, label: u32) -> LabelKnowledge
     requires within { IsWithin universe.now }
     requires label { label < length universe.now.named }
     requires shape { HasShape universe.now row.now }
@@ -62,8 +63,8 @@ pub fn by_row(universe: &Universe, row: &Row, label: u32) -> Verdict
     ensures { (env : Environment) (rules : List RuleTree) (i : ℕ) → IsLabelVerdict universe.now env rules i row.now (name_at universe.now label) (label_verdict result) }
 {
     if leaves(universe, row, label, false) {
-        Verdict::Impossible
+        LabelKnowledge::Impossible
     } else {
-        Verdict::Guaranteed
+        LabelKnowledge::Guaranteed
     }
 }

@@ -14,5 +14,5 @@ mod verdict;
 pub use each_rule::Trials;
 pub use measure::{label_selectors, label_selectors_by};
 pub use one_call::trials;
-pub use readings::{NameFacts, Readings};
-pub use verdict::{RuleVerdicts, Verdict, World};
+pub use readings::Readings;
+pub use verdict::{LabelKnowledge, RuleKnowledge};

@@ -7,14 +7,14 @@ ghost use Rattle.lf_trials.specs.Candidates.{labels_in};
 ghost use Rattle.lf_trials.specs.Trials.{IsFirstShown, ShowsBuilt, ShowsUniform};
 ghost use Rattle.lf_trials.specs.Verdicts.{AreLabelVerdicts, IsLabelVerdict, LeavesBoth};
 ghost use Rattle.lf_candidates.specs.views.ClassTexts.{name_at};
-ghost use Rattle.lf_worlds.specs.views.Told.{label_verdict};
+ghost use Rattle.lf_worlds.specs.views.Told.{label_verdict, shown_by};
 ghost use Rattle.lf_worlds.specs.views.Tried.{IsEvaluatedAt, ShownFor};
 
 use crate::at_need::UniformAtNeed;
 use crate::leaving::{by_row, leaves_both};
 use crate::showing::world_if_shown;
-use crate::verdict::{Verdict, World};
-use lf_ast::Rule;
+use crate::verdict::LabelKnowledge;
+use lf_ast::{Rule, World};
 use lf_base::{Memory, Seq, Text};
 use lf_built::Built;
 use lf_classes::{Row, Universe};
@@ -37,9 +37,9 @@ pub struct RuleTrials<'a> {
 impl<'a> Model for RuleTrials<'a> {
     ghost use Rattle.std.specs.Coded.{codes};
     ghost use Rattle.lf_ast.specs.contracts.rule.Rule as rule;
-    ghost use Rattle.lf_worlds.specs.views.Tried.{TriedRule};
+    ghost use Rattle.lf_built.specs.views.Built.{OfRule};
 
-    ghost Value = { TriedRule };
+    ghost Value = { OfRule };
 
     ghost coded = { Prim.hlevel (codes, rule.the_row.coded) };
 
@@ -85,11 +85,12 @@ impl<'a> RuleTrials<'a> {
     }
 
     /// The verdicts on the labels by a row of the rule that isn't empty.
-    pub fn verdicts(&mut self, alloc: Global, row: &Row) -> Result<Seq<Verdict>, Memory>
+    pub fn verdicts(&mut self, alloc: Global, row: &Row) -> Result<Seq<LabelKnowledge>, Memory>
         requires { HasShape self.old.universe row.now }
         ensures { IfOk result (λ of. AreLabelVerdicts self.old.universe self.old.env (rule_trees self.old.rules) self.old.number row.now (labels_in self.old.universe) (map label_verdict of)) }
     {
-        let mut verdicts = Seq::new(alloc);
+        let count = self.universe.labels() as usize;
+        let mut verdicts = Seq::from_vec(Vec::with_capacity(alloc, count)?);
         for label in 0..self.universe.labels() {
             verdicts.push(self.verdict(alloc, row, label)?)?;
         }
@@ -97,7 +98,7 @@ impl<'a> RuleTrials<'a> {
     }
 
     /// The verdict on a label by a row.
-    fn verdict(&mut self, alloc: Global, row: &Row, label: u32) -> Result<Verdict, Memory>
+    fn verdict(&mut self, alloc: Global, row: &Row, label: u32) -> Result<LabelKnowledge, Memory>
         requires label { label < length self.old.universe.named }
         requires shape { HasShape self.old.universe row.now }
         ensures same { self.new ≡ self.old }
@@ -111,27 +112,27 @@ impl<'a> RuleTrials<'a> {
     }
 
     /// The verdict on a label of which both presences are left.
-    fn tried(&mut self, alloc: Global, label: u32) -> Result<Verdict, Memory>
+    fn tried(&mut self, alloc: Global, label: u32) -> Result<LabelKnowledge, Memory>
         requires { label < length self.old.universe.named }
         ensures same { self.new ≡ self.old }
         ensures verdict { (row : Sets) → LeavesBoth self.old.universe self.old.env (rule_trees self.old.rules) self.old.number row (name_at self.old.universe label) → IfOk result (λ v. IsLabelVerdict self.old.universe self.old.env (rule_trees self.old.rules) self.old.number row (name_at self.old.universe label) (label_verdict v)) }
     {
         match self.first_shown(alloc, label, true)? {
             Some(with) => self.beside(alloc, label, with),
-            None => Ok(Verdict::Unresolved),
+            None => Ok(LabelKnowledge::Unresolved),
         }
     }
 
     /// The verdict on a label of which both presences are left, and that is shown to be present.
-    fn beside(&mut self, alloc: Global, label: u32, with: World) -> Result<Verdict, Memory>
+    fn beside(&mut self, alloc: Global, label: u32, with: World) -> Result<LabelKnowledge, Memory>
         requires label { label < length self.old.universe.named }
-        requires with { IsFirstShown self.old.universe self.old.env (rule_trees self.old.rules) self.old.number (name_at self.old.universe label) true with }
+        requires with { IsFirstShown self.old.universe self.old.env (rule_trees self.old.rules) self.old.number (name_at self.old.universe label) true (shown_by with) }
         ensures same { self.new ≡ self.old }
         ensures verdict { (row : Sets) → LeavesBoth self.old.universe self.old.env (rule_trees self.old.rules) self.old.number row (name_at self.old.universe label) → IfOk result (λ v. IsLabelVerdict self.old.universe self.old.env (rule_trees self.old.rules) self.old.number row (name_at self.old.universe label) (label_verdict v)) }
     {
         match self.first_shown(alloc, label, false)? {
-            Some(without) => Ok(Verdict::Possible { with, without }),
-            None => Ok(Verdict::Unresolved),
+            Some(without) => Ok(LabelKnowledge::Possible { with, without }),
+            None => Ok(LabelKnowledge::Unresolved),
         }
     }
 

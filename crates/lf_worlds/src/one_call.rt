@@ -10,7 +10,7 @@ ghost use Rattle.lf_worlds.specs.views.Told.{rule_verdict};
 
 use crate::each_rule::Trials;
 use crate::readings::Readings;
-use crate::verdict::RuleVerdicts;
+use crate::verdict::RuleKnowledge;
 use lf_ast::Rule;
 use lf_base::{Memory, Seq};
 use lf_classes::Universe;
@@ -25,7 +25,7 @@ pub fn trials(
     env: &Env,
     rules: &Seq<Rule>,
     i: u32,
-) -> Result<RuleVerdicts, Memory>
+) -> Result<RuleKnowledge, Memory>
     requires covers { CoversRules universe.now (rule_trees rules.now) }
     requires least { IsLeast universe.now (rule_trees rules.now) env.now }
     requires rule { i < length rules.now }
@@ -44,7 +44,7 @@ fn tried(
     rules: &Seq<Rule>,
     readings: &Readings,
     i: u32,
-) -> Result<RuleVerdicts, Memory>
+) -> Result<RuleKnowledge, Memory>
     requires covers { CoversRules universe.now (rule_trees rules.now) }
     requires least { IsLeast universe.now (rule_trees rules.now) env.now }
     requires readings { AreReadingsOf (rule_trees rules.now) readings.now }

@@ -6,8 +6,7 @@ ghost use Rattle.lf_semantics.specs.Texts.{value_of};
 ghost use Rattle.lf_trials.specs.Candidates.{has_presence};
 ghost use Rattle.lf_worlds.specs.views.Tried.{AreBelow, IsEvaluatedAt, IsSampleShown, IsWorldIfShown, IsWorldShown, first_with};
 
-use crate::verdict::World;
-use lf_ast::{LabelSet, Rule};
+use lf_ast::{LabelSet, Rule, World};
 use lf_base::{Memory, Seq, Text};
 use lf_candidates::Trial;
 use lf_strict::strict_after;

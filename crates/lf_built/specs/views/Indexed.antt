@@ -14,7 +14,6 @@ use Rattle.lf_forks.specs.views.Holding.{Forks, test_of}
 use Rattle.lf_built.specs.declared.prepared.Prepared.{Prepared}
 use Rattle.lf_built.specs.views.Marking.{marks_at, set_by}
 use Rattle.lf_built.specs.views.PartRows.{part_rows}
-use Rattle.lf_built.specs.views.Recorders.{AreRecordersOf}
 
 -- what it is of
 
@@ -38,7 +37,6 @@ pub record IsPrepared (p : Prepared) : Type 0 where
   pub covers : CoversRules (universe_of p) (trees_of p)
   pub sources : IsSourcesOf (trees_of p) p.sources.now
   pub names : p.names.items ≡ labels_in (universe_of p)
-  pub recorders : AreRecordersOf (trees_of p) p.recorders
   pub parts : p.parts.items ≡ map (λ (r : RuleTree). part_rows (universe_of p) (env_of p) (forks_of p) (nodes r.expr)) (trees_of p)
   pub marks : p.marks.items ≡ map (λ (r : RuleTree). map (marks_at (labels_in (universe_of p))) (nodes r.expr)) (trees_of p)
   pub set : p.set.items ≡ map (set_by (labels_in (universe_of p))) (trees_of p)

@@ -10,11 +10,11 @@ use Rattle.lf_trials.specs.Building.{Builder, Building, and_then, both}
 use Rattle.lf_trials.specs.Built.{build_by_rule, build_selector, builder, sets_label}
 use Rattle.lf_trials.specs.Given.{Given, losing}
 use Rattle.lf_candidates.specs.views.ClassTexts.{Stands}
-use Rattle.lf_built.specs.declared.made.Made.{Made}
+use Rattle.lf_built.specs.declared.made.BuiltSeries.{BuiltSeries}
 use Rattle.lf_built.specs.declared.prepared.Prepared.{Prepared}
 use Rattle.lf_built.specs.declared.spots.Spot.{Spot}
-use Rattle.lf_built.specs.declared.work.Parts.{Parts}
-use Rattle.lf_built.specs.declared.work.Parts.TheVariants as P
+use Rattle.lf_built.specs.declared.work.WantedParts.{WantedParts}
+use Rattle.lf_built.specs.declared.work.WantedParts.TheVariants as P
 use Rattle.lf_built.specs.declared.work.Pending.{Pending}
 use Rattle.lf_built.specs.declared.work.Pending.TheVariants as T
 use Rattle.lf_built.specs.declared.work.Work.{Work}
@@ -24,7 +24,7 @@ use Rattle.lf_built.specs.views.Spots.{IsSpot, tree_at}
 use Rattle.lf_built.specs.views.Tasks.{Finish, Task, Visit, Wanted, built_for, outcome}
 
 -- what was made so far
-abbrev pub so_far : Made → Building
+abbrev pub so_far : BuiltSeries → Building
 so_far m = record { series = m.series.items; steps = m.steps.items; selectors = m.selectors }
 
 -- the code's tasks, the next one first
@@ -101,13 +101,13 @@ GoesOn p most whole w true = Builds p whole w × (w.made.selectors ≤ most)
 GoesOn p most whole w false = NoWorld most whole
 
 -- what was built is the whole; or there is no world
-abbrev pub IsOutcome : ℕ → Option Building → Option Made → Type 0
+abbrev pub IsOutcome : ℕ → Option Building → Option BuiltSeries → Type 0
 IsOutcome most whole (Some m) = (whole ≡ Some (so_far m)) × (m.selectors ≤ most)
 IsOutcome most whole None = NoWorld most whole
 
 -- parts that are to be built
 
-abbrev pub tasks_of : Parts → List Pending
+abbrev pub tasks_of : WantedParts → List Pending
 tasks_of P.Nothing = []
 tasks_of (P.One spot texts) = T.Visit spot texts ∷ []
 tasks_of (P.Both left left_texts right right_texts) = T.Visit left left_texts ∷ T.Visit right right_texts ∷ []
@@ -119,7 +119,7 @@ weight (T.Visit spot texts) = size (tree_at spot)
 weight T.Finish = 1
 
 -- the parts are those that are wanted, and have less in them than their expression
-abbrev pub AreParts : Prepared → Tree → Option (List Wanted) → Option Parts → Type 0
+abbrev pub AreParts : Prepared → Tree → Option (List Wanted) → Option WantedParts → Type 0
 AreParts p e (Some wanted) (Some parts) = AreTasks p (tasks_of parts) (map Visit wanted) × (sum_by weight (tasks_of parts) + 1 ≤ size e)
 AreParts p e None None = Unit {0}
 AreParts p e _ _ = ⊥

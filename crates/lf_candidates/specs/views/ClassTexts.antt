@@ -1,12 +1,15 @@
 -- Texts of labels as the code has them: a class, or nothing, for each label of the universe. The text of a class is the candidate that stands for it.
-use Rattle.std.specs.Prelude.{◌≡◌, ◌<◌, ◌≤◌, ◌+◌, ℕ, Bool, List, [], ◌∷◌, codes, Option, Some, None, length, option_map, slice_index_or}
+use Rattle.std.specs.Prelude.{◌≡◌, ◌<◌, ◌≤◌, ◌+◌, ℕ, Bool, true, List, [], ◌∷◌, codes, Option, Some, None, length, option_map, slice_index_or}
 use Rattle.std.specs.List.{position_or_len}
 use Rattle.lf_ast.specs.Labels.{Bytes}
-use Rattle.lf_semantics.specs.ClassRows.{Sets}
+use Rattle.lf_ast.specs.declared.expr.Matcher.{Matcher}
+use Rattle.lf_semantics.specs.ClassRows.{Sets, holds}
 use Rattle.lf_semantics.specs.Environments.{IsKnown}
 use Rattle.lf_semantics.specs.Listing.{Listing, class_of, named_at, other_class}
+use Rattle.lf_semantics.specs.RowTable.{text_of}
 use Rattle.lf_trials.specs.Candidates.{candidates, labels_in}
 use Rattle.lf_trials.specs.Given.{Given}
+use Rattle.lf_trials.specs.Names.{passes_as_name}
 
 -- the name of the label of a number
 abbrev pub name_at : Listing → ℕ → Bytes
@@ -48,6 +51,10 @@ abbrev pub StandsFor : Listing → Option (List (Option ℕ)) → Option Given �
 StandsFor u (Some classes) (Some D) = Stands u classes D
 StandsFor u None None = Unit {0}
 StandsFor u _ _ = ⊥
+
+-- the row has each class of `__name__` but 'any other text' whose text passes matchers on it
+abbrev pub HasPassing : Listing → List Matcher → Sets → Type 0
+HasPassing u matchers row = (class : ℕ) → class < other_class u 0 → passes_as_name matchers (text_of u 0 class) ≡ true → holds row 0 class ≡ true
 
 -- the universe has the label `le` and its text `+Inf`
 abbrev pub KnowsBuckets : Listing → Type 0

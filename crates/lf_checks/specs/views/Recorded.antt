@@ -9,7 +9,7 @@ use Rattle.lf_ast.specs.Tree.{Tree, Selector}
 use Rattle.lf_deps.specs.Reading.{IsCyclic}
 use Rattle.lf_deps.specs.views.Names.{IsNameGraphOf}
 use Rattle.lf_deps.specs.views.Sources.{IsSourcesOf}
-use Rattle.lf_semantics.specs.Environments.{names_recorded, recorded_names}
+use Rattle.lf_semantics.specs.Environments.{names_recorded}
 use Rattle.lf_checks.specs.Finding.{Finding, RuleDependency, finding}
 use Rattle.lf_base.specs.Names.{has_colon}
 use Rattle.lf_checks.specs.RuleDependency.{says_cyclic, says_unrecorded}
@@ -17,7 +17,6 @@ use Rattle.lf_checks.specs.declared.rule_dependency.RecordedNames.{RecordedNames
 
 -- they are those of the rules, with what the rules read
 pub record AreOf (rules : List RuleTree) (recorded : RecordedNames) : Type 0 where
-  pub names : recorded.names ≡ recorded_names rules
   pub sources : IsSourcesOf rules recorded.sources
   pub graph : IsNameGraphOf recorded.sources recorded.graph
 

@@ -26,6 +26,20 @@ impl Bits {
     {
         picked(0, self.words[number], mask(number, 0, self.len))
     }
+
+    /// Puts the words into a list of as many. Behind the last bit they have no bits.
+    pub fn write_words(&self, into: &mut Vec<u64>)
+        requires { length into.old.items ≡ words_for (length self.now) }
+        ensures len { length into.new.items ≡ length into.old.items }
+        ensures words { (k : ℕ) → k < length into.old.items → slice_index into.new.items k ≡ number_of (take 64 (drop (64 * k) self.now)) }
+    {
+        let count = into.len();
+        into.copy_from_slice(&self.words.as_slice()[..count]);
+        let whole = self.len / 64;
+        if whole < count {
+            into[whole] = self.word(whole);
+        }
+    }
 }
 
 /// The words, and behind them clear ones until there are as many.

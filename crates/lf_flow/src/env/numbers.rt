@@ -1,6 +1,6 @@
 //! Recorded names by their numbers.
-ghost use Rattle.std.specs.Prelude.{◌≡◌, ◌<◌, length};
-ghost use Rattle.lf_flow.specs.Reads.{name_at, number_of, with_row};
+ghost use Rattle.std.specs.Prelude.{◌≡◌, ◌<◌, [], length, slice_index_or};
+ghost use Rattle.lf_flow.specs.Reads.{name_at, number_of, rows_of, with_row};
 
 use super::Env;
 use lf_base::Text;
@@ -34,6 +34,14 @@ impl Env {
         ensures { result ≡ length self.now }
     {
         self.names.len()
+    }
+
+    /// The row of the recorded name with the number `k`.
+    pub fn row_at(&self, k: u32) -> &Row
+        requires { k < length self.now }
+        ensures { result.now ≡ slice_index_or (rows_of self.now) k [] }
+    {
+        &self.rows[k as usize]
     }
 
     /// Gives the recorded name with the number `k` another row, in place of its own.

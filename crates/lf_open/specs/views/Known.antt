@@ -8,16 +8,16 @@ use Rattle.lf_deps.specs.views.Sources.{IsSourcesOf}
 use Rattle.lf_forks.specs.views.ForkTests.{TellsSelectors}
 use Rattle.lf_forks.specs.views.Holding.{test_of}
 use Rattle.lf_open.specs.Holding.{has_own_source, names_le}
-use Rattle.lf_open.specs.declared.known.Known.{Known}
+use Rattle.lf_open.specs.declared.known.RuleReadings.{RuleReadings}
 use Rattle.lf_open.specs.views.Marks.{TellsReading}
 use Rattle.lf_open.specs.views.ReadNames.{IsReadGraph}
 
 -- the rules
-abbrev pub rules_of : Known → List RuleTree
+abbrev pub rules_of : RuleReadings → List RuleTree
 rules_of k = rule_trees k.rules.now
 
 -- all is as it is to be
-pub record IsKnown (k : Known) : Type 0 where
+pub record IsKnown (k : RuleReadings) : Type 0 where
   pub sources : IsSourcesOf (rules_of k) k.sources.now
   pub graph : IsNameGraphOf k.sources.now k.graph.now
   pub reading : IsReadGraph (rules_of k) k.reading.now

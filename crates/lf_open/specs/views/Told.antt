@@ -24,7 +24,7 @@ use Rattle.lf_open.specs.declared.construct.Construct.{Construct}
 use Rattle.lf_open.specs.declared.construct.Construct.TheVariants.{SharedMetric, Forked, LoudUnless, NamedBucket, OpenAbsent}
 use Rattle.lf_open.specs.declared.open_at.OpenAt.{OpenAt}
 use Rattle.lf_open.specs.declared.read_table.ReadTable.{ReadTable}
-use Rattle.lf_open.specs.declared.told.Told.{Told}
+use Rattle.lf_open.specs.declared.told.ExpressionFacts.{ExpressionFacts}
 use Rattle.lf_open.specs.views.Marks.{marks_tree}
 use Rattle.lf_open.specs.views.Sides.{is_unless}
 
@@ -53,7 +53,7 @@ shares a b = cond (nat_lt (length a) (length b)) (has_any b a) (has_any a b)
 abbrev pub appended : List OpenAt → List OpenAt → List OpenAt
 appended a b = cond (nat_lt (length a) (length b)) (b ++ a) (a ++ b)
 
-abbrev pub beside : Told → Told → Told
+abbrev pub beside : ExpressionFacts → ExpressionFacts → ExpressionFacts
 beside a b = record {
   scalar = a.scalar;
   fork = a.fork || b.fork;
@@ -63,16 +63,16 @@ beside a b = record {
   found = appended a.found b.found;
 }
 
-abbrev pub gathered : Told → List Told → Told
+abbrev pub gathered : ExpressionFacts → List ExpressionFacts → ExpressionFacts
 gathered a [] = a
 gathered a (t ∷ ts) = gathered (beside a t) ts
 
 -- nothing is told, but perhaps that it is a scalar
-abbrev pub nothing : Bool → Told
+abbrev pub nothing : Bool → ExpressionFacts
 nothing scalar = record { scalar = scalar; fork = false; loud = false; bucket = false; reads = []; found = [] }
 
 -- what is told of the part at a place
-abbrev pub told_at : List Told → ℕ → Told
+abbrev pub told_at : List ExpressionFacts → ℕ → ExpressionFacts
 told_at parts k = slice_index_or parts k (nothing false)
 
 -- an open construct, if it is one
@@ -80,26 +80,26 @@ abbrev pub opened : Bool → Construct → ℕ → Span → List OpenAt
 opened holds construct rule span = cond holds (record { construct = construct; rule = rule; span = span } ∷ []) []
 
 -- what is open at an operator, by what is told of its sides
-abbrev pub are_vectors : Told → Told → Bool
+abbrev pub are_vectors : ExpressionFacts → ExpressionFacts → Bool
 are_vectors l r = not l.scalar && not r.scalar
 
-abbrev pub joins : Op → Told → Told → Bool
+abbrev pub joins : Op → ExpressionFacts → ExpressionFacts → Bool
 joins op l r = cond (is_or op) (l.loud || r.loud) (l.fork || r.fork)
 
-abbrev pub operator_opens : ℕ → Op → Span → Told → Told → List OpenAt
+abbrev pub operator_opens : ℕ → Op → Span → ExpressionFacts → ExpressionFacts → List OpenAt
 operator_opens rule op span l r =
     (opened (are_vectors l r && shares l.reads r.reads) SharedMetric rule span
     ++ opened (are_vectors l r && joins op l r) Forked rule span)
     ++ opened (are_vectors l r && (is_unless op && r.loud)) LoudUnless rule span
 
 -- what is open at a call, by what is told of its arguments
-abbrev pub call_opens : ℕ → Option LabelEffect → Span → List Told → List OpenAt
+abbrev pub call_opens : ℕ → Option LabelEffect → Span → List ExpressionFacts → List OpenAt
 call_opens rule (Some HistogramQuantile) span parts = opened (list_any (λ t. t.fork) parts) Forked rule span ++ opened (list_any (λ t. t.bucket) parts) NamedBucket rule span
 call_opens rule (Some Absent) span parts = opened (list_any (λ t. t.loud) parts) OpenAbsent rule span
 call_opens rule _ span parts = []
 
 -- whether an expression is a scalar, by whether its parts are
-abbrev pub scalar_by : Tree → List Told → Bool
+abbrev pub scalar_by : Tree → List ExpressionFacts → Bool
 scalar_by (Number text span) parts = true
 scalar_by (Str text span) parts = false
 scalar_by (Selector name matchers sight span) parts = false
@@ -142,20 +142,20 @@ module _ (f : Facts) where
   abbrev pub own_bucket : Tree → Bool
   own_bucket e = matches_le e || marks_tree f.on_le e
 
-  abbrev pub own_opens : Tree → List Told → List OpenAt
+  abbrev pub own_opens : Tree → List ExpressionFacts → List OpenAt
   own_opens (Binary op m left right span) parts = operator_opens f.rule op span (told_at parts 0) (told_at parts 1)
   own_opens (Call name args span) parts = call_opens f.rule (effect_of (Call name args span)) span parts
   own_opens _ parts = []
 
-  abbrev pub own : Tree → List Told → Told
+  abbrev pub own : Tree → List ExpressionFacts → ExpressionFacts
   own e parts = record { scalar = false; fork = own_fork e; loud = own_loud e; bucket = own_bucket e; reads = put_all (own_numbers e) []; found = own_opens e parts }
 
   -- what is told of an expression, from what is told of its parts
-  abbrev pub made : Tree → List Told → Told
+  abbrev pub made : Tree → List ExpressionFacts → ExpressionFacts
   made e parts = cond (scalar_by e parts) (nothing true) (gathered (own e parts) parts)
 
   abbrev mutual
-    pub told : Tree → Told
+    pub told : Tree → ExpressionFacts
     told (Number text span) = made (Number text span) []
     told (Str text span) = made (Str text span) []
     told (Selector name matchers sight span) = made (Selector name matchers sight span) []
@@ -166,6 +166,6 @@ module _ (f : Facts) where
     told (Call name args span) = made (Call name args span) (told_each args)
     told (Aggregate op grouping args span) = made (Aggregate op grouping args span) (told_each args)
 
-    pub told_each : Trees → List Told
+    pub told_each : Trees → List ExpressionFacts
     told_each Nil = []
     told_each (Next x xs) = told x ∷ told_each xs

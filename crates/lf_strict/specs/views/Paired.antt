@@ -2,6 +2,7 @@
 use Rattle.std.specs.Prelude.{◌≡◌, ◌≢◌, ◌⊎◌, List, Option, Some, None}
 use Rattle.std.specs.BTreeMap.{BTreeMap, get}
 use Rattle.std.specs.List.{Contains}
+use Rattle.std.specs.Option.{option_map, option_to_list}
 use Rattle.lf_ast.specs.Labels.{Labels}
 use Rattle.lf_ast.specs.declared.expr.Group.{Group}
 use Rattle.lf_ast.specs.declared.expr.Group.TheVariants.{One, Left, Right}
@@ -36,6 +37,10 @@ result_of Right op m many one = many_to_one op m many one
 abbrev pub with_partner : Op → Matching → Labels → Option Labels → Labels
 with_partner op m many None = many
 with_partner op m many (Some one) = result_of m.group op m many one
+
+-- the result of a sample of the many side, if it has a partner
+abbrev pub with_one : Op → Matching → BTreeMap Labels Labels → Labels → List Labels
+with_one op m ones s = option_to_list (option_map (result_of m.group op m s) (get labels_cmp ones (signature_of m s)))
 
 -- two pairs have one result
 abbrev pub ManyCoincide : Op → Matching → List Labels → List Labels → Type 0

@@ -11,18 +11,18 @@ use Rattle.lf_ast.specs.declared.expr.Matcher.{Matcher}
 use Rattle.lf_semantics.specs.Listing.{Listing, place}
 use Rattle.lf_semantics.specs.Parts.{type_by_form}
 use Rattle.lf_trials.specs.Follow.{Followed, follow, follow_call}
-use Rattle.lf_uniform.specs.declared.told.Told.{Told}
+use Rattle.lf_uniform.specs.declared.told.FollowedText.{FollowedText}
 
 -- the text on what the rules of a recorded name give, by the names and what is told of each. Of a name that isn't there nothing is told
 abbrev pub known_by : List Bytes → List Followed → Bytes → Followed
 known_by names values name = slice_index_or values (place names name) None
 
 -- what is told of an expression: the text that the label has on what it gives, and the type that its form tells
-abbrev pub told_of : Listing → List RuleTree → Bytes → Bytes → (Bytes → Followed) → Tree → Told
+abbrev pub told_of : Listing → List RuleTree → Bytes → Bytes → (Bytes → Followed) → Tree → FollowedText
 told_of u rules label given known e = record { text = follow u rules label given known e; form = type_by_form e }
 
 -- what is told of the operand of a call, which fails where there is no such argument
-abbrev pub operand_of : List Told → Followed
+abbrev pub operand_of : List FollowedText → Followed
 operand_of [] = None
 operand_of (operand ∷ others) = operand.text
 

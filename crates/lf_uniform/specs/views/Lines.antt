@@ -1,4 +1,4 @@
--- Which rule is the first of each recorded name, and the line of rules in which each comes behind those that it reads.
+-- Which rule is the first of a recorded name, and the line of rules in which each comes behind those that it reads.
 use Rattle.std.specs.Prelude.{◌≡◌, ◌⊎◌, ◌<◌, ◌≤◌, ℕ, Bool, true, not, ◌||◌, nat_lt, List, [], length, Option, Some, None, slice_get, slice_index_or, take}
 use Rattle.std.specs.List.{Contains, list_all}
 use Rattle.std.specs.Option.{option_map}
@@ -15,16 +15,6 @@ use Rattle.lf_uniform.specs.views.Following.{known_by}
 -- the first rule that records a name, with its number
 abbrev pub first_of : List RuleTree → Bytes → Option (ℕ × RuleTree)
 first_of rules name = first_rule (λ k r. records name r) 0 rules
-
--- the recorded names, and for each the number of the first rule that records it
-pub record Firsts : Type 0 where
-  pub names : List Bytes
-  pub numbers : List ℕ
-
-pub record AreFirstsOf (rules : List RuleTree) (firsts : Firsts) : Type 0 where
-  pub names : firsts.names ≡ recorded_names rules
-  pub count : length firsts.numbers ≡ length firsts.names
-  pub each : (k : ℕ) → k < length firsts.names → option_map (λ found. found.0) (first_of rules (slice_index_or firsts.names k [])) ≡ Some (slice_index_or firsts.numbers k 0)
 
 -- rules in line, and the names that they record
 pub record Line : Type 0 where

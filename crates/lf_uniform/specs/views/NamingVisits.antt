@@ -16,7 +16,7 @@ use Rattle.lf_semantics.specs.Listing.{Listing}
 use Rattle.lf_semantics.specs.Parts.{is_scalar_part, type_by_form}
 use Rattle.lf_trials.specs.Selected.{Selected, selected_in, selected_in_arguments, selectors_of}
 use Rattle.lf_trials.specs.Uniform.{name_unsaid}
-use Rattle.lf_uniform.specs.declared.naming.Naming.{Naming}
+use Rattle.lf_uniform.specs.declared.naming.NameCollector.{NameCollector}
 use Rattle.lf_uniform.specs.views.Naming.{own_unsaid, unsaid_by, unsaid_in, with_each}
 
 -- texts one behind the other
@@ -89,30 +89,30 @@ module _ (u : Listing) (rules : List RuleTree) where
 
 -- a visit of an expression puts its names behind the others
 
-abbrev after : Naming → List Bytes → Naming
+abbrev after : NameCollector → List Bytes → NameCollector
 after s found = record s { names = with_each s.names found }
 
-abbrev unsaid_of : Naming → Tree → List Bytes
+abbrev unsaid_of : NameCollector → Tree → List Bytes
 unsaid_of s e = unsaid_in s.setting.now.universe (rule_trees s.setting.now.rules) e
 
-abbrev Visited : Naming → Tree → Naming
+abbrev Visited : NameCollector → Tree → NameCollector
 Visited s e = after s (unsaid_of s e)
 
-abbrev Stays : Naming → Tree → Naming
+abbrev Stays : NameCollector → Tree → NameCollector
 Stays s e = s
 
-after_both : (s : Naming) (xs ys : List Bytes) → after (after s xs) ys ≡ after s (xs ++ ys)
+after_both : (s : NameCollector) (xs ys : List Bytes) → after (after s xs) ys ≡ after s (xs ++ ys)
 after_both s xs ys = ap (λ (l : List Bytes). record s { names = l }) (sym (each_append xs s.names ys))
 
-further_parts : (x : Tree) (parts : List Tree) (s : Naming) → further Visited Stays x parts s ≡ after s (flat_map (unsaid_of s) parts)
+further_parts : (x : Tree) (parts : List Tree) (s : NameCollector) → further Visited Stays x parts s ≡ after s (flat_map (unsaid_of s) parts)
 further_parts x [] s = refl
 further_parts x (p ∷ parts) s = further_parts x parts (Visited s p) ∙ after_both s (unsaid_of s p) (flat_map (unsaid_of s) parts)
 
-along_parts : (x : Tree) (parts : List Tree) (s : Naming) → along Visited Stays x parts s ≡ after s (flat_map (unsaid_of s) parts)
+along_parts : (x : Tree) (parts : List Tree) (s : NameCollector) → along Visited Stays x parts s ≡ after s (flat_map (unsaid_of s) parts)
 along_parts x [] s = refl
 along_parts x (p ∷ parts) s = further_parts x (p ∷ parts) s
 
-pub visits : (s : Naming) (x : Tree) → after s (unsaid_of s x) ≡ along Visited Stays x (chosen (parts_read x) (parts_of x)) (after s (own_unsaid s.setting.now.universe (rule_trees s.setting.now.rules) x))
+pub visits : (s : NameCollector) (x : Tree) → after s (unsaid_of s x) ≡ along Visited Stays x (chosen (parts_read x) (parts_of x)) (after s (own_unsaid s.setting.now.universe (rule_trees s.setting.now.rules) x))
 visits s x = by (is_scalar_call x) refl
   where
     own : List Bytes

@@ -9,23 +9,23 @@ use Rattle.lf_semantics.specs.Listing.{Listing}
 use Rattle.lf_trials.specs.Candidates.{candidates}
 use Rattle.lf_trials.specs.Follow.{Followed, follow_from}
 use Rattle.lf_trials.specs.Given.{Given}
-use Rattle.lf_uniform.specs.declared.texts.Wanted.{Wanted}
-use Rattle.lf_uniform.specs.declared.texts.Wanted.TheVariants.{Anything, Present, Absent}
+use Rattle.lf_uniform.specs.declared.texts.WantedPresence.{WantedPresence}
+use Rattle.lf_uniform.specs.declared.texts.WantedPresence.TheVariants.{Anything, Present, Absent}
 
-abbrev pub wanted_for : Bool → Wanted
+abbrev pub wanted_for : Bool → WantedPresence
 wanted_for true = Present
 wanted_for false = Absent
 
-abbrev pub passes_as : Wanted → Bytes → Bool
+abbrev pub passes_as : WantedPresence → Bytes → Bool
 passes_as Anything text = true
 passes_as Present text = not (bytes_eq text [])
 passes_as Absent text = bytes_eq text []
 
-abbrev pub comes_out : Wanted → Followed → Bool
+abbrev pub comes_out : WantedPresence → Followed → Bool
 comes_out wanted followed = option_map_or (passes_as wanted) followed false
 
 module _ (u : Listing) (rules : List RuleTree) (i : ℕ) (own : RuleTree) where
-  abbrev pub is_followed : Wanted → Bytes → Bytes → Bool
+  abbrev pub is_followed : WantedPresence → Bytes → Bytes → Bool
   is_followed wanted name text = comes_out wanted (follow_from u rules name text i own)
 
   -- the first candidate of each label with which it can be followed

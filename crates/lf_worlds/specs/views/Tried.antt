@@ -1,11 +1,10 @@
 -- What is tried with rules, and what a search for a sample tells: how contracts see the code. It defines nothing.
-use Rattle.std.specs.Prelude.{◌≡◌, ◌<◌, ◌&&◌, ℕ, Bool, true, false, List, Option, Some, None, slice_get, refl}
-use Rattle.std.specs.Coded.{Coded, code_by, coded×, coded_ℕ, coded_list}
-use Rattle.std.specs.FinMap as map
+use Rattle.std.specs.Prelude.{◌≡◌, ◌<◌, ◌&&◌, ℕ, Bool, true, false, List, Option, Some, None, slice_get}
 use Rattle.std.specs.List.{Contains, find}
 use Rattle.lf_ast.specs.Labels.{Bytes, Labels}
 use Rattle.lf_ast.specs.Rules.{RuleTree}
 use Rattle.lf_ast.specs.declared.rule.Rule.{Rule}
+use Rattle.lf_ast.specs.declared.verdict.World.{World}
 use Rattle.lf_semantics.specs.ClassRows.{Sets}
 use Rattle.lf_semantics.specs.Listing.{Listing}
 use Rattle.lf_semantics.specs.Parts.{is_evaluated, type_by_form}
@@ -15,31 +14,14 @@ use Rattle.lf_trials.specs.Candidates.{has_presence}
 use Rattle.lf_trials.specs.Reached.{IsReach, Trial}
 use Rattle.lf_trials.specs.Trials.{Shown, Shows}
 use Rattle.lf_trials.specs.Verdicts.{leaves}
-use Rattle.lf_candidates.specs.views.Told.{trial_code}
 use Rattle.lf_witness.specs.StrictRuns.{IsRuleAnswer}
-
--- a trial and its sample are stored as a pair
-abbrev pub shown_code : Coded Shown
-shown_code = code_by (Trial × Labels) (coded× trial_code (map.code (coded_list coded_ℕ) (coded_list coded_ℕ))) (λ s. (s.trial, s.sample)) (λ p. record { trial = p.0; sample = p.1 }) (λ _. refl)
+use Rattle.lf_worlds.specs.views.Told.{shown_by}
 
 -- what the trials of all rules share
 pub record Tried : Type 0 where
   pub universe : Listing
   pub env : Environment
   pub rules : List Rule
-
--- what the trials of one rule share
-pub record TriedRule : Type 0 where
-  pub universe : Listing
-  pub env : Environment
-  pub rules : List Rule
-  pub number : ℕ
-
--- what the uniform worlds of one rule share
-pub record TriedUniform : Type 0 where
-  pub universe : Listing
-  pub rules : List Rule
-  pub number : ℕ
 
 -- the reach of the rule of a number
 abbrev pub IsReachAt : List RuleTree → ℕ → List ℕ → Type 0
@@ -50,8 +32,8 @@ abbrev pub leaves_both : Listing → Sets → Bytes → Bool
 leaves_both u row label = leaves u row label true && leaves u row label false
 
 -- one of these, or none where there is none
-abbrev pub ShownFor : (Shown → Type 0) → Option Shown → Type 0
-ShownFor Is (Some shown) = Is shown
+abbrev pub ShownFor : (Shown → Type 0) → Option World → Type 0
+ShownFor Is (Some world) = Is (shown_by world)
 ShownFor Is None = (shown : Shown) → Is shown → ⊥
 
 -- the rule of a number is a scalar or a vector
@@ -78,12 +60,12 @@ module _ (rules : List RuleTree) (i : ℕ) (label : Bytes) (presence : Bool) (tr
   IsSampleShown None = (s : Labels) → ShowsSample s → ⊥
 
   -- the trial with the sample that it shows
-  abbrev pub IsWorldShown : Option Shown → Type 0
-  IsWorldShown (Some shown) = (shown.trial ≡ trial) × Shows rules i label presence shown
+  abbrev pub IsWorldShown : Option World → Type 0
+  IsWorldShown (Some world) = ((shown_by world).trial ≡ trial) × Shows rules i label presence (shown_by world)
   IsWorldShown None = (s : Labels) → ShowsSample s → ⊥
 
 -- the same of a trial that there may be
-abbrev pub IsWorldIfShown : List RuleTree → ℕ → Bytes → Bool → Option Trial → Option Shown → Type 0
+abbrev pub IsWorldIfShown : List RuleTree → ℕ → Bytes → Bool → Option Trial → Option World → Type 0
 IsWorldIfShown rules i label presence (Some trial) o = IsWorldShown rules i label presence trial o
 IsWorldIfShown rules i label presence None o = o ≡ None
 

@@ -4,7 +4,7 @@ use Rattle.lf_laws.proofs.Slices.{some_at}
 use Rattle.lf_ast.specs.Rules.{rule_tree}
 use Rattle.lf_trials.specs.Given.{Given, giving, nothing_given}
 use Rattle.lf_candidates.specs.views.ClassTexts.{name_at, text_at}
-use Rattle.lf_built.specs.declared.made.Made.{Made}
+use Rattle.lf_built.specs.declared.made.BuiltSeries.{BuiltSeries}
 use Rattle.lf_built.specs.views.Begun.{begun_of}
 use Rattle.lf_built.specs.views.Indexed.{trees_of, universe_of}
 use Rattle.lf_built.specs.views.Works.{IsOutcome, so_far}
@@ -38,7 +38,7 @@ returns-in_ok-trial-in-Some c r is =
     let stands = c.give.ensures u nothing_given c.requires.known.within c.requires.class c.in_ok-texts.ensures in
     let h = c.in_ok-work.ensures D r stands is in
     let whole = begun_of p c.args.number r D in
-    let out = subst (λ (o : Option Made). IsOutcome c.args.most whole o) c.in-Some.is (c.in_ok-made.ensures whole h.0) in
+    let out = subst (λ (o : Option BuiltSeries). IsOutcome c.args.most whole o) c.in-Some.is (c.in_ok-made.ensures whole h.0) in
     (so_far c.in-Some.made, out.0, out.1, c.in_ok-trial-in-Some.ensures)
 
 pub returns-in-None : goal.returns-in-None
@@ -49,4 +49,4 @@ returns-in-None c r is =
     let stands = c.give.ensures u nothing_given c.requires.known.within c.requires.class c.in_ok-texts.ensures in
     let h = c.in_ok-work.ensures D r stands is in
     let whole = begun_of p c.args.number r D in
-    subst (λ (o : Option Made). IsOutcome c.args.most whole o) c.in-None.is (c.in_ok-made.ensures whole h.0)
+    subst (λ (o : Option BuiltSeries). IsOutcome c.args.most whole o) c.in-None.is (c.in_ok-made.ensures whole h.0)

@@ -6,7 +6,6 @@ use Rattle.lf_trials.specs.Names.{is_scraped_name, passes_as_name}
 use Rattle.lf_candidates.specs.views.ClassTexts.{text_at}
 use Rattle.lf_candidates.proofs.FirstClass.{first_passing, none_passing}
 use Rattle.lf_candidates.proofs.Labelled.{metric_first, some_label}
-use Rattle.lf_candidates.proofs.Standing.{candidate_text}
 use Rattle.lf_candidates.proofs.names.name_for.Goals as goal
 
 pub loop-class-preserved : goal.loop-class-preserved
@@ -15,8 +14,7 @@ loop-class-preserved c = λ rules are.
     let within = c.requires in
     let class = c.loop-class.class in
     let names : Bytes → Bool = λ name. is_scraped_name rules name && passes_as_name c.args.matchers.now name in
-    let text = candidate_text u within 0 (some_label u within) class c.candidate.result.now (omega (arith, c.loop-class-test.true, c.classes-class-end.ensures)) c.candidate.ensures in
-    let here : names (text_at u 0 class) ≡ false = ap names (sym text) ∙ sym (c.in_ok-fits.ensures rules are) ∙ c.if-fits.false in
+    let here : names (text_at u 0 class) ≡ false = sym (c.in_ok-fits.ensures rules are) ∙ c.if-fits.false in
     below_more (λ j. names (text_at u 0 j) ≡ false) class (c.loop-class.invariant rules are) here
 
 pub returns-then-fits-clause-name : goal.returns-then-fits-clause-name
@@ -26,8 +24,7 @@ returns-then-fits-clause-name c = λ rules are.
     let class = c.loop-class.class in
     let names : Bytes → Bool = λ name. is_scraped_name rules name && passes_as_name c.args.matchers.now name in
     let less : class < c.classes-class-end.result = c.loop-class-test.true in
-    let text = candidate_text u within 0 (some_label u within) class c.candidate.result.now (omega (arith, less, c.classes-class-end.ensures)) c.candidate.ensures in
-    let here : names (text_at u 0 class) ≡ true = ap names (sym text) ∙ sym (c.in_ok-fits.ensures rules are) ∙ c.if-fits.true in
+    let here : names (text_at u 0 class) ≡ true = sym (c.in_ok-fits.ensures rules are) ∙ c.if-fits.true in
     first_passing u within 0 (some_label u within) names class (omega (arith, less, c.classes-class-end.ensures)) here (c.loop-class.invariant rules are) ∙ ap (λ n. find names (candidates u n)) (metric_first u within)
 
 pub returns-clause-name : goal.returns-clause-name

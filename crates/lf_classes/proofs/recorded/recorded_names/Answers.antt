@@ -11,7 +11,7 @@ loop-rule-init c = record { are = c.new-names.ensures; few = omega (arith, ap le
 
 pub loop-rule-preserved : goal.loop-rule-preserved
 loop-rule-preserved c =
-    recorded_next c.loop-rule.names c.add_recorded.new.self c.args.rules.now c.loop-rule.rule-index c.rule-item.result c.loop-rule-test.true c.rule-item.is c.in_ok-add_recorded.ensures c.loop-rule.invariant
+    recorded_next c.loop-rule.names c.add_recorded.new.self c.args.rules.now c.loop-rule.rule-index c.rule-item.result c.loop-rule-test.true c.rule-item.is c.in_ok-add_recorded.ensures.ok c.loop-rule.invariant
 
 pub returns-clause-names : goal.returns-clause-names
 returns-clause-names c = c.loop-rule.invariant.are ∙ ap (λ (rs : List Rule). recorded_names (rule_trees rs)) (take_all c.loop-rule.rule-index c.args.rules.now (omega (arith, c.loop-rule-test.false)))

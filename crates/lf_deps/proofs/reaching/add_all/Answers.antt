@@ -11,7 +11,7 @@ pub loop-number-preserved : goal.loop-number-preserved
 loop-number-preserved c =
     let numbers : List ℕ = c.args.numbers.now in
     let i : ℕ = c.loop-number.number-index in
-    adds_next numbers i (get_or numbers i 0) c.args.found.now.keys c.loop-number.found.keys c.add_number.new.found.keys c.loop-number-test.true refl c.loop-number.invariant c.in_ok-add_number.ensures
+    adds_next numbers i (get_or numbers i 0) c.args.found.now.keys c.loop-number.found.keys c.add_number.new.found.keys c.loop-number-test.true refl c.loop-number.invariant c.in_ok-add_number.ensures.ok
 
 pub returns : goal.returns
 returns c =

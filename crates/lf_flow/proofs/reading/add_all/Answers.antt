@@ -11,7 +11,7 @@ loop-number-preserved c =
     let old : List ℕ = c.args.numbers.now.keys in
     let new : List ℕ = c.add_number.new.found.keys in
     let P : List ℕ → Type 0 = λ l. Adds l old new in
-    subst P (sym (range_more n)) (adds_then (range_with_len 0 n) (n ∷ []) old c.loop-number.numbers.keys new c.loop-number.invariant c.in_ok-add_number.ensures)
+    subst P (sym (range_more n)) (adds_then (range_with_len 0 n) (n ∷ []) old c.loop-number.numbers.keys new c.loop-number.invariant c.in_ok-add_number.ensures.ok)
 
 pub returns : goal.returns
 returns c =

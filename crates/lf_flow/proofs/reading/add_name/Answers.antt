@@ -11,4 +11,4 @@ returns-then-number-count c =
     let env = c.args.env.now in
     let name = c.args.name.now in
     let P : List ℕ → Type 0 = λ l. OnOk c.add_number.result (Adds l c.args.numbers.now.keys c.add_number.new.found.keys) in
-    subst P (ap (λ (k : ℕ). k ∷ []) c.number-number.ensures ∙ one_number env name true (lt-ltb (number_of env name) _ (omega (arith, c.number-number.ensures, c.count.ensures, c.if-number-count.true)))) c.add_number.ensures
+    subst P (ap (λ (k : ℕ). k ∷ []) c.number-number.ensures ∙ one_number env name true (lt-ltb (number_of env name) _ (omega (arith, c.number-number.ensures, c.count.ensures, c.if-number-count.true)))) c.add_number.ensures.ok

@@ -16,4 +16,4 @@ returns-in-None c =
     let Q : Option Bytes → Type 0 = λ o. Puts true (source_of names o) c.args.place uses later in
     let put : later ≡ put_at uses c.len.result c.args.place → Q c.args.selector.now = λ is.
     subst Q (sym c.in-None.is) (subst P c.len.ensures.count (puts_one c.len.result c.args.place uses later (omega (arith, c.len.ensures.count, c.requires)) is)) in
-    on_ok_weaker c.push.result put c.push.ensures
+    on_ok_weaker c.push.result put c.push.ensures.ok

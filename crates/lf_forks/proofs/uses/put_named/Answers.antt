@@ -20,4 +20,4 @@ returns-then-node-len c =
     let Q : Bool → Type 0 = λ b. Puts true (cond b (place names c.args.name.now ∷ []) []) c.args.place uses later in
     let put : later ≡ put_at uses node c.args.place → Q (nat_lt (place names c.args.name.now) (length names)) = λ is.
     subst Q (sym (lt-ltb (place names c.args.name.now) (length names) within)) (subst P at (puts_one node c.args.place uses later (omega (arith, at, within, c.requires)) is)) in
-    on_ok_weaker c.push.result put c.push.ensures
+    on_ok_weaker c.push.result put c.push.ensures.ok

@@ -5,7 +5,7 @@ use Rattle.lf_ast.specs.Rules.{RuleTree}
 use Rattle.lf_ast.specs.Tree.{Tree, tree}
 use Rattle.lf_deps.specs.Reading.{selectors}
 use Rattle.lf_open.specs.declared.open_at.OpenAt.{OpenAt}
-use Rattle.lf_open.specs.declared.told.Told.{Told}
+use Rattle.lf_open.specs.declared.told.ExpressionFacts.{ExpressionFacts}
 use Rattle.lf_open.specs.views.Known.{rules_of}
 use Rattle.lf_open.specs.views.ReadNames.{IsTableOf}
 use Rattle.lf_open.specs.views.Told.{Facts, told}
@@ -27,7 +27,7 @@ returns c =
     let k : ℕ = c.args.rule in
     let f : Facts = record { forks = known.forks.now; loud = known.loud.now; on_le = known.on_le.now; table = c.in_ok-table.table; all = known.reading.now.all; rule = k } in
     let table = subst (λ found. IsTableOf rules known.reading.now.names found c.in_ok-table.table) c.requires.selected (c.in_ok-table.ensures rules c.requires.known.reading) in
-    let same : c.as_slice.result.now ≡ (told f e).found = c.as_slice.ensures ∙ ap (λ (t : Told). t.found) c.in_ok-told.ensures in
+    let same : c.as_slice.result.now ≡ (told f e).found = c.as_slice.ensures ∙ ap (λ (t : ExpressionFacts). t.found) c.in_ok-told.ensures in
     found_by rules k e c.in_ok-found.found.items (told f e).found c.append_all.new.found.items c.in_ok-found.ensures
     (told_opens rules f known.reading.now c.requires.known.reading refl e c.requires.rule table c.requires.known.forks c.requires.known.loud c.requires.known.on_le)
     (c.in_ok-append_all.ensures ∙ ap (λ (l : List OpenAt). c.in_ok-found.found.items ++ l) same)

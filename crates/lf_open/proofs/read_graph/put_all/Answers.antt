@@ -9,7 +9,7 @@ loop-selector-init c = into_none c.args.node c.args.edges.now
 
 pub loop-selector-preserved : goal.loop-selector-preserved
 loop-selector-preserved c =
-    into_next c.args.names.now c.args.node c.args.selected.now c.loop-selector.selector-index c.selector-item.result c.selector-item.result c.node_of.result c.args.edges.now c.loop-selector.edges c.push.new.self c.loop-selector-test.true c.selector-item.is c.node_of.ensures c.requires c.loop-selector.invariant c.in_ok-push.ensures
+    into_next c.args.names.now c.args.node c.args.selected.now c.loop-selector.selector-index c.selector-item.result c.selector-item.result c.node_of.result c.args.edges.now c.loop-selector.edges c.push.new.self c.loop-selector-test.true c.selector-item.is c.node_of.ensures c.requires c.loop-selector.invariant c.in_ok-push.ensures.ok
 
 pub returns : goal.returns
 returns c =

@@ -19,4 +19,4 @@ returns c =
     let new : List (List ℕ) = c.push.new.self in
     on_ok_weaker {P = new ≡ put_at mid all node} {Q = PutsRule names r c.args.selected.now old new} c.push.result
     (λ put. rule_both names r c.args.selected.now node all old mid new c.if-rule.false (c.place-node.ensures.place ∙ ap (place names) c.as_str.ensures) c.len.ensures.count c.in_ok-put_all.ensures (omega (arith, c.len.ensures.count, c.requires)) put)
-    c.push.ensures
+    c.push.ensures.ok

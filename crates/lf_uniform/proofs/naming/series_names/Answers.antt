@@ -10,7 +10,7 @@ use Rattle.lf_uniform.proofs.SeriesNames.{names_are}
 use Rattle.lf_uniform.proofs.naming.series_names.Goals as goal
 
 pub with_unsaid-requires : goal.with_unsaid-requires
-with_unsaid-requires c = λ k there. subst (λ (s : Setting). k < length s.rules) (sym c.in_ok-naming.ensures.setting) (c.requires.numbers k there)
+with_unsaid-requires c = λ k there. subst (λ (s : Setting). k < length s.rules) (sym c.in_ok-naming.ensures.setting) (c.requires k there)
 
 pub returns : goal.returns
 returns c =

@@ -38,8 +38,8 @@ first_texts-requires-clause-way c =
       uncyclic = subst (IsUncyclic rules) c.requires.numbers c.requires.uncyclic;
     }
 
-pub series_names-requires-clause-numbers : goal.series_names-requires-clause-numbers
-series_names-requires-clause-numbers c = λ k there.
+pub series_names-requires : goal.series_names-requires
+series_names-requires c = λ k there.
     let rules : List RuleTree = rule_trees c.args.setting.now.rules in
     let small : c.args.number < length rules = let m = trees_count c.args.setting.now.rules in omega (arith, m, c.requires.rule) in
     let own = some_at rules c.args.number small in

@@ -30,7 +30,6 @@ returns c =
         covers = c.requires.covers;
         sources = c.requires.sources;
         names = c.in_ok-names.ensures;
-        recorders = c.in_ok-recorders.ensures;
         parts = c.in_ok-parts.ensures.parts ∙ along (λ (row : RuleRow). row.parts) (λ (r : RuleTree). part_rows u env (has_passing (test_of forks)) (nodes r.expr)) trees c.args.rows c.requires.rows (λ r row is. is.parts);
         marks =
             c.in_ok-marks.ensures

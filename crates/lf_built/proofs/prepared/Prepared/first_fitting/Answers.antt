@@ -10,6 +10,7 @@ use Rattle.lf_trials.specs.Reached.{first_rule}
 use Rattle.lf_built.specs.views.Indexed.{env_of, forks_of, trees_of, universe_of}
 use Rattle.std.specs.List.{Contains}
 use Rattle.lf_deps.specs.views.Search.{numbers_of}
+use Rattle.lf_deps.proofs.LookedUp.{makers_is}
 use Rattle.lf_semantics.specs.ClassRows.{Sets}
 use Rattle.lf_semantics.specs.Environments.{records}
 use Rattle.lf_trials.specs.Reached.{is_marked}
@@ -28,26 +29,26 @@ module _ (p : Rattle.lf_built.specs.declared.prepared.Prepared.Prepared) (known 
 pub recorded_row-requires-clause-rule : goal.recorded_row-requires-clause-rule
 recorded_row-requires-clause-rule c =
     let p = c.args.self.now in
-    let items = c.of_name-number-items.result.now in
+    let items = c.makers_of-number-items.result.now in
     let i : ℕ = c.loop-number.number-index in
-    let f = rule_at p c.requires.known c.args.name.now items (c.of_name-number-items.ensures (trees_of p) c.requires.known.recorders) i (omega (arith, c.loop-number-test.true)) in
+    let f = rule_at p c.requires.known c.args.name.now items (c.makers_of-number-items.ensures ∙ makers_is (trees_of p) p.sources.now c.requires.known.sources c.args.name.now) i (omega (arith, c.loop-number-test.true)) in
     subst (λ (n : ℕ). get_or items i 0 < n) (length-map p.rules.now rule_tree) (slice_get_within (trees_of p) (get_or items i 0) f.0 f.1)
 
 pub is_held_by-requires-clause-shape : goal.is_held_by-requires-clause-shape
 is_held_by-requires-clause-shape c =
     let p = c.args.self.now in
-    let items = c.of_name-number-items.result.now in
+    let items = c.makers_of-number-items.result.now in
     let i : ℕ = c.loop-number.number-index in
-    let f = rule_at p c.requires.known c.args.name.now items (c.of_name-number-items.ensures (trees_of p) c.requires.known.recorders) i (omega (arith, c.loop-number-test.true)) in
+    let f = rule_at p c.requires.known c.args.name.now items (c.makers_of-number-items.ensures ∙ makers_is (trees_of p) p.sources.now c.requires.known.sources c.args.name.now) i (omega (arith, c.loop-number-test.true)) in
     recorded_shape p c.requires.known f.0 c.recorded_row.result.now (c.recorded_row.ensures f.0 f.1)
 
 pub returns-then-is_held_by-clause-first : goal.returns-then-is_held_by-clause-first
 returns-then-is_held_by-clause-first c D stands =
     let p = c.args.self.now in
     let name : Bytes = c.args.name.now in
-    let items : List ℕ = c.of_name-number-items.result.now in
+    let items : List ℕ = c.makers_of-number-items.result.now in
     let i : ℕ = c.loop-number.number-index in
-    let is = c.of_name-number-items.ensures (trees_of p) c.requires.known.recorders in
+    let is = c.makers_of-number-items.ensures ∙ makers_is (trees_of p) p.sources.now c.requires.known.sources c.args.name.now in
     let less : i < length items = omega (arith, c.loop-number-test.true) in
     let f = rule_at p c.requires.known name items is i less in
     let k : ℕ = get_or items i 0 in
@@ -64,8 +65,8 @@ returns-then-is_held_by-clause-first c D stands =
 pub returns-clause-first : goal.returns-clause-first
 returns-clause-first c D stands =
     let p = c.args.self.now in
-    let items : List ℕ = c.of_name-number-items.result.now in
-    let is = c.of_name-number-items.ensures (trees_of p) c.requires.known.recorders in
+    let items : List ℕ = c.makers_of-number-items.result.now in
+    let is = c.makers_of-number-items.ensures ∙ makers_is (trees_of p) p.sources.now c.requires.known.sources c.args.name.now in
     let P : List ℕ → Type 0 = λ l. (j : ℕ) → j < length l → fits_by p c.args.marked.now D (get_or l j 0) ≡ false in
     none_fit p c.requires.known c.args.marked.now c.args.name.now D (subst P is (λ j less. c.loop-number.invariant D stands j (omega (arith, less, c.loop-number-test.false))))
 
@@ -79,9 +80,9 @@ held_no false rest e = refl
 pub loop-number-preserved : goal.loop-number-preserved
 loop-number-preserved c D stands =
     let p = c.args.self.now in
-    let items : List ℕ = c.of_name-number-items.result.now in
+    let items : List ℕ = c.makers_of-number-items.result.now in
     let i : ℕ = c.loop-number.number-index in
-    let is = c.of_name-number-items.ensures (trees_of p) c.requires.known.recorders in
+    let is = c.makers_of-number-items.ensures ∙ makers_is (trees_of p) p.sources.now c.requires.known.sources c.args.name.now in
     let f = rule_at p c.requires.known c.args.name.now items is i (omega (arith, c.loop-number-test.true)) in
     let k : ℕ = get_or items i 0 in
     below_more _ _ (c.loop-number.invariant D stands)

@@ -8,7 +8,7 @@ use Rattle.lf_semantics.specs.Parts.{argument_at, operand_place}
 use Rattle.lf_trials.specs.Candidates.{labels_in}
 use Rattle.lf_trials.specs.Given.{Given}
 use Rattle.lf_built.specs.declared.marking.NodeMarks.{NodeMarks}
-use Rattle.lf_built.specs.declared.work.Parts.TheVariants.{Nothing}
+use Rattle.lf_built.specs.declared.work.WantedParts.TheVariants.{Nothing}
 use Rattle.lf_built.specs.views.Indexed.{universe_of}
 use Rattle.lf_built.specs.views.Marking.{arguments_of, call_lost, effect_lost, grouping_of, lost_at}
 use Rattle.lf_built.specs.views.Spots.{tree_at}

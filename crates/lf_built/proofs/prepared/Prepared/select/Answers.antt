@@ -18,7 +18,7 @@ returns-in_ok-series-in-None-clause-goes c whole D stands left =
     let p = c.args.self.now in
     let w = c.args.work.now in
     let own = subst (λ (o : Option (Bor Bytes)). LeavesBehind p whole (selector_of p w (option_copied o) c.args.matchers.now D) w) c.in-None.is left in
-    let made = c.in_ok-series-in-None.ensures (trees_of p) (by_rule_of p w) D (c.names-recorded.ensures ∙ c.requires.known.recorders.names) stands in
+    let made = c.in_ok-series-in-None.ensures (trees_of p) (by_rule_of p w) D (c.recorded-recorded.ensures ∙ c.requires.known.sources.names) stands in
     c.add_found.ensures.goes p whole (subst (λ (o : Option Building). LeavesBehind p whole o w) (sym made) own)
 
 pub returns-in_ok-series-in-None-clause-less : goal.returns-in_ok-series-in-None-clause-less

@@ -13,7 +13,7 @@ returns-then-is_recorded-clause-goes c whole matchers D stands left =
     let p = c.args.self.now in
     let w = c.args.work.now in
     let name : Bytes = c.as_str-name.result.now in
-    let told = c.is_recorded.ensures (trees_of p) (c.names.ensures ∙ c.requires.known.recorders.names) in
+    let told = c.is_recorded.ensures (trees_of p) (c.recorded.ensures ∙ c.requires.known.sources.names) in
     let is : is_recorded (trees_of p) name ≡ true = sym told ∙ c.if-is_recorded.true in
     let own = subst (λ (n : Bytes). LeavesBehind p whole (selector_of p w (Some n) matchers D) w) (sym c.as_str-name.ensures) left in
     c.pick.ensures.goes whole D stands (subst (λ (b : Bool). LeavesBehind p whole (cond b (option_map one_more (by_rule_of p w name D)) (cond (bytes_eq name []) None (Rattle.lf_trials.specs.Built.series_named (universe_of p) (trees_of p) (Some name) D))) w) is own)
@@ -23,7 +23,7 @@ returns-clause-goes c whole matchers D stands left =
     let p = c.args.self.now in
     let w = c.args.work.now in
     let name : Bytes = c.as_str-name.result.now in
-    let told = c.is_recorded.ensures (trees_of p) (c.names.ensures ∙ c.requires.known.recorders.names) in
+    let told = c.is_recorded.ensures (trees_of p) (c.recorded.ensures ∙ c.requires.known.sources.names) in
     let is : is_recorded (trees_of p) name ≡ false = sym told ∙ c.if-is_recorded.false in
     let own = subst (λ (n : Bytes). LeavesBehind p whole (selector_of p w (Some n) matchers D) w) (sym c.as_str-name.ensures) left in
     let made = c.in_ok-series.ensures (trees_of p) (by_rule_of p w) matchers D is stands in

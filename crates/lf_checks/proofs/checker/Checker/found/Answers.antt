@@ -1,6 +1,5 @@
-use Rattle.std.proofs.Common.{◌≡◌, ◌<◌, ◌++◌, ℕ, List, Option, None, Some, length, take, get_or, sym, ap, ◌∙◌, subst}
+use Rattle.std.proofs.Common.{◌≡◌, ◌<◌, ℕ, List, Option, None, Some, not, length, take, get_or, sym, ap, ◌∙◌, subst}
 use Rattle.std.proofs.lemmas.Option.{get_or_from_slice_get, slice_get-get_or, slice_get-map, slice_get_within}
-use Rattle.std.proofs.lemmas.Result.{IfOk-weaker}
 use Rattle.std.specs.List.{Contains}
 use Rattle.std.specs.Option.{option_map}
 use Rattle.std.specs.Prelude.{slice_get}
@@ -8,12 +7,12 @@ use Rattle.lf_laws.proofs.Members.{in_map}
 use Rattle.lf_ast.specs.Rules.{RuleTree, rule_tree, rule_trees}
 use Rattle.lf_ast.specs.declared.rule.Rule.{Rule}
 use Rattle.lf_ast.specs.declared.verdict.Finding.{Finding as Row}
-use Rattle.lf_semantics.specs.ClassRows.{HasShape, Sets}
-use Rattle.lf_semantics.specs.Environments.{IsEnvironment}
+use Rattle.lf_semantics.specs.ClassRows.{HasShape, Sets, is_live}
+use Rattle.lf_semantics.specs.Environments.{IsEnvironment, rule_row}
 use Rattle.lf_semantics.specs.Listing.{IsListing, Listing}
 use Rattle.lf_semantics.proofs.NormalizedRows.{rule_row_is}
 use Rattle.lf_checks.specs.AlertTemplate.{HaveSources}
-use Rattle.lf_checks.specs.Files.{File, StandIn}
+use Rattle.lf_checks.specs.Files.{StandIn}
 use Rattle.lf_checks.specs.Findings.{IsFindingIn}
 use Rattle.lf_checks.specs.views.Checked.{Checked}
 use Rattle.lf_checks.specs.views.Duplicates.{AreFirsts, IsFirstOf}
@@ -59,16 +58,14 @@ returns-clause-findings c =
     let value : slice_get rules i ≡ Some rule = c.get-rule.ensures.value in
     let at : slice_get trees i ≡ Some r = slice_get-map rule_tree rules i ∙ ap (option_map rule_tree) value in
     let first = first_of trees c.self.inside.firsts.items i r c.index.result.now at c.self.invariant.2 c.index.ensures in
-    let two : List Row = c.in_ok-found.found.items in
+    let two : List Row = c.in_ok-two.two.items in
+    let all : List Row = c.in_ok-all.all.items in
     let same : List Row = c.in_ok-same.same.items in
-    IfOk-weaker c.both-2.result (λ all. all.items ≡ two ++ same)
-    (λ all. (files : List File) → StandIn files (rule_trees c.args.self.now.rules) → Lists files (rule_trees c.args.self.now.rules) (IsFindingIn files c.args.self.now.universe (rule_trees c.args.self.now.rules) c.args.self.now.env i) all.items)
-    (λ all e files stand.
+    λ files stand.
     let here = subst (λ (v : Checked). StandIn files (rule_trees v.rules)) (sym c.self.view_is) stand in
-    subst (λ (v : Checked). Lists files (rule_trees v.rules) (IsFindingIn files v.universe (rule_trees v.rules) v.env i) all.items) c.self.view_is
-    (of_three files u trees env i r at c.in_ok-row.row c.in_ok-row.ensures c.in_ok-own.own.items c.in_ok-parts.parts.items same two all.items c.in_ok-own.ensures
-    (c.in_ok-parts.ensures env c.in_ok-rows.ensures.some trees c.self.invariant.1) (c.in_ok-same.ensures.findings files trees i here at first) c.in_ok-found.ensures e))
-    c.both-2.ensures
+    subst (λ (v : Checked). Lists files (rule_trees v.rules) (IsFindingIn files v.universe (rule_trees v.rules) v.env i) all) c.self.view_is
+    (of_three files u trees env i r at c.in_ok-row.row c.in_ok-row.ensures c.in_ok-own.own.items c.in_ok-parts.parts.items same two all c.in_ok-own.ensures
+    (c.in_ok-parts.ensures env c.in_ok-rows.ensures.some trees c.self.invariant.1) (c.in_ok-same.ensures.findings files trees i here at first) c.in_ok-two.ensures c.in_ok-all.ensures)
 
 pub returns-clause-numbers : goal.returns-clause-numbers
 returns-clause-numbers c files =
@@ -80,11 +77,23 @@ returns-clause-numbers c files =
     let r : RuleTree = rule_tree rule in
     let at : slice_get trees i ≡ Some r = slice_get-map rule_tree rules i ∙ ap (option_map rule_tree) c.get-rule.ensures.value in
     let first = first_of trees c.self.inside.firsts.items i r c.index.result.now at c.self.invariant.2 c.index.ensures in
-    let two : List Row = c.in_ok-found.found.items in
+    let two : List Row = c.in_ok-two.two.items in
+    let all : List Row = c.in_ok-all.all.items in
     let same : List Row = c.in_ok-same.same.items in
-    IfOk-weaker c.both-2.result (λ all. all.items ≡ two ++ same) (λ all. AreNumbered files (rule_trees c.args.self.now.rules) i all.items)
-    (λ all e.
-    subst (λ (v : Checked). AreNumbered files (rule_trees v.rules) i all.items) c.self.view_is
-    (numbered_three files trees i c.in_ok-own.own.items c.in_ok-parts.parts.items same two all.items c.in_ok-own.ensures.numbers (c.in_ok-parts.ensures env c.in_ok-rows.ensures.some trees c.self.invariant.1).numbers
-    (c.in_ok-same.ensures.numbers files trees i at first) c.in_ok-found.ensures e))
-    c.both-2.ensures
+    subst (λ (v : Checked). AreNumbered files (rule_trees v.rules) i all) c.self.view_is
+    (numbered_three files trees i c.in_ok-own.own.items c.in_ok-parts.parts.items same two all c.in_ok-own.ensures.numbers (c.in_ok-parts.ensures env c.in_ok-rows.ensures.some trees c.self.invariant.1).numbers
+    (c.in_ok-same.ensures.numbers files trees i at first) c.in_ok-two.ensures c.in_ok-all.ensures)
+
+pub returns-clause-empty : goal.returns-clause-empty
+returns-clause-empty c =
+    let u : Listing = c.self.inside.universe.now in
+    let env = c.self.inside.env.now in
+    let i = c.args.i in
+    let rules : List Rule = c.self.inside.rules.now in
+    let rule : Rule = c.get-rule.result.now in
+    let here : slice_get (rule_trees rules) i ≡ Some (rule_tree rule) = slice_get-map rule_tree rules i ∙ ap (option_map rule_tree) c.get-rule.ensures.value in
+    subst (λ (v : Checked). (r : RuleTree) → slice_get (rule_trees v.rules) i ≡ Some r → c.is_empty.result ≡ not (is_live (rule_row v.universe v.env r))) c.self.view_is
+    (λ r at.
+    let both : Some (rule_tree rule) ≡ Some r = sym here ∙ at in
+    let same : rule_tree rule ≡ r = cc in
+    c.is_empty.ensures.empty ∙ ap (λ row. not (is_live row)) c.in_ok-row.ensures ∙ ap (λ t. not (is_live (rule_row u env t))) same)

@@ -6,7 +6,7 @@ use Rattle.lf_ast.specs.declared.rule.Rule.{Rule}
 use Rattle.lf_semantics.specs.Listing.{IsListing, Listing, universe_of}
 use Rattle.lf_semantics.specs.Mentions.{rules_mentions}
 use Rattle.lf_semantics.proofs.ListingLaws.{universe_is_listing}
-use Rattle.lf_classes.specs.Limits.{Exceeds}
+use Rattle.lf_classes.specs.Limits.{ExceedsUniverseLimit}
 use Rattle.lf_classes.specs.views.Mentioned.{mentioned_all, nothing_mentioned, with_star}
 use Rattle.lf_classes.proofs.Listed.{met_listing}
 use Rattle.lf_classes.proofs.universe.Universe.build.Goals as goal
@@ -20,7 +20,7 @@ pub returns-in_err-check_limits-clause-refused : goal.returns-in_err-check_limit
 returns-in_err-check_limits-clause-refused c =
     let p = err_from_is_err_and c.from_residual-in_err-check_limits.result c.from_residual-in_err-check_limits.ensures.1 in
     let same = is_universe c.args.rules.now c.as_slice.result.now c.in_ok-mentions.mentions c.mention_rules.new.self c.in_ok-mentions.ensures c.as_slice.ensures c.in_ok-mention_rules.ensures in
-    rw (p.1, p.2) (subst (λ u. Exceeds u c.in_err-check_limits.field-0.0) same c.in_err-check_limits.ensures.refused)
+    rw (p.1, p.2) (subst (λ u. ExceedsUniverseLimit u c.in_err-check_limits.field-0.0) same c.in_err-check_limits.ensures.refused)
 
 pub of-requires : goal.of-requires
 of-requires c =

@@ -35,7 +35,7 @@ returns-then-place-sources-clause-settled c =
     listed_on c.args.links.now c.requires.whole q k c.requires.queue c.requires.rule (sym taken ∙ c.if-index.false) at none later c.put.ensures
     (subst L source h)
     (subst B source (subst A c.as_slice.ensures.value (c.first_recorded-place.ensures.some h)))
-    (subst C source c.in_ok-push.ensures)
+    (subst C source c.in_ok-push.ensures.ok)
     refl
 
 pub returns-clause-settled : goal.returns-clause-settled

@@ -14,14 +14,14 @@ returns-clause-listed c =
     let F : Index → Type 0 = λ i. IsFull i in
     let full = subst F (sym c.self.view_is) c.requires.full in
     (put_listed c.self.inside.names c.self.inside.of_name full c.args.name.now c.args.rule c.in_ok-place.place c.add.new.self c.make_room.new.self c.push.new.self c.in_ok-place.ensures.ok
-    c.in_ok-place.ensures.place c.in_ok-make_room.ensures.there c.in_ok-make_room.ensures.made c.in_ok-push.ensures).0
+    c.in_ok-place.ensures.place c.in_ok-make_room.ensures.there c.in_ok-make_room.ensures.made c.in_ok-push.ensures.ok).0
 
 pub returns-clause-kept : goal.returns-clause-kept
 returns-clause-kept c k o l =
     let F : Index → Type 0 = λ i. IsFull i in
     let full = subst F (sym c.self.view_is) c.requires.full in
     let put = put_listed c.self.inside.names c.self.inside.of_name full c.args.name.now c.args.rule c.in_ok-place.place c.add.new.self c.make_room.new.self c.push.new.self c.in_ok-place.ensures.ok
-    c.in_ok-place.ensures.place c.in_ok-make_room.ensures.there c.in_ok-make_room.ensures.made c.in_ok-push.ensures in
+    c.in_ok-place.ensures.place c.in_ok-make_room.ensures.there c.in_ok-make_room.ensures.made c.in_ok-push.ensures.ok in
     let before : Index = record { names = c.self.inside.names; of_name = c.self.inside.of_name; of_all = c.self.inside.of_all } in
     let after : Index = record { names = c.add.new.self; of_name = c.push.new.self; of_all = c.self.inside.of_all } in
     let P : Index → Type 0 = λ i. IsListed i k o in
@@ -37,7 +37,7 @@ returns-clause-only c k o l =
     let F : Index → Type 0 = λ i. IsFull i in
     let full = subst F (sym c.self.view_is) c.requires.full in
     let put = put_listed c.self.inside.names c.self.inside.of_name full c.args.name.now c.args.rule c.in_ok-place.place c.add.new.self c.make_room.new.self c.push.new.self c.in_ok-place.ensures.ok
-    c.in_ok-place.ensures.place c.in_ok-make_room.ensures.there c.in_ok-make_room.ensures.made c.in_ok-push.ensures in
+    c.in_ok-place.ensures.place c.in_ok-make_room.ensures.there c.in_ok-make_room.ensures.made c.in_ok-push.ensures.ok in
     let before : Index = record { names = c.self.inside.names; of_name = c.self.inside.of_name; of_all = c.self.inside.of_all } in
     let after : Index = record { names = c.add.new.self; of_name = c.push.new.self; of_all = c.self.inside.of_all } in
     let P : Index → Type 0 = λ i. IsListed i k o in

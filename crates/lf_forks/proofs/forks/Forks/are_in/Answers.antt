@@ -1,10 +1,9 @@
 use Rattle.std.proofs.Common.{◌≡◌, IfOk, map, subst}
 use Rattle.lf_ast.specs.Tree.{nodes, tree}
-use Rattle.lf_trials.specs.Forks.{has_passing}
-use Rattle.lf_forks.specs.views.Holding.{Forks, test_of}
+use Rattle.lf_forks.specs.views.Holding.{Forks, holds}
 use Rattle.lf_forks.proofs.forks.Forks.are_in.Goals as goal
 
 pub returns : goal.returns
 returns c =
-    let P : Forks → Type 0 = λ forks. IfOk c.hold_each.result (λ found. found.items ≡ map (has_passing (test_of forks)) (nodes (tree c.args.expr.now))) in
+    let P : Forks → Type 0 = λ forks. IfOk c.hold_each.result (λ held. held.items ≡ map (holds forks.marks) (nodes (tree c.args.expr.now))) in
     subst P c.self.view_is c.hold_each.ensures

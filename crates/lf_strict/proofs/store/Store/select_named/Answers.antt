@@ -1,37 +1,23 @@
-use Rattle.std.proofs.Common.{◌≡◌, [], List, Some, None, sym, ◌∙◌, subst}
-use Rattle.std.specs.List.{Contains}
-use Rattle.std.specs.Map.{lookup}
-use Rattle.std.proofs.lemmas.Result.{IfOk-weaker}
-use Rattle.lf_laws.proofs.Members.{none_in}
+use Rattle.std.proofs.Common.{◌≡◌, ◌++◌, List, ap, ◌∙◌, sym, subst}
+use Rattle.std.specs.List.{filter}
 use Rattle.lf_ast.specs.Labels.{Labels}
-use Rattle.lf_witness.specs.Ascending.{IsAscending}
 use Rattle.lf_witness.specs.Strict.{AreSelected}
-use Rattle.lf_witness.proofs.AscendingLists.{none_ascends}
-use Rattle.lf_strict.proofs.StoredSamples.{found_all, found_none, found_some, is_named, selected_of}
+use Rattle.lf_witness.proofs.SameSets.{chained}
+use Rattle.lf_strict.specs.views.Selected.{has_name, passing}
+use Rattle.lf_strict.proofs.Selected.{chosen_selected, joined_selected, moved_selected}
 use Rattle.lf_strict.proofs.store.Store.select_named.Goals as goal
 
-pub returns-in-Some : goal.returns-in-Some
-returns-in-Some c =
-    let es = c.self.inside.by_name.entries in
-    let W : List Labels = c.args.self.now in
-    let V : List Labels = c.in-Some.samples.now in
+pub returns : goal.returns
+returns c =
     let name = c.args.name.now in
     let ms = c.args.matchers.now in
-    let n = c.as_str.result.now in
-    let found : lookup (is_named n) es ≡ Some V = sym c.in-Some.ensures.value in
-    let inside : (s : Labels) → Contains V s → Contains W s = λ s d. subst (λ (l : List Labels). Contains l s) c.self.view_is (found_some n es c.self.invariant V found s d).0 in
-    let all : (s : Labels) → Contains W s → _ → _ → Contains V s = λ s d named each.
-    found_all n es c.len-count.ensures.ordered c.self.invariant V found s (subst (λ (l : List Labels). Contains l s) (sym c.self.view_is) d) (c.requires s named each ∙ sym c.as_str.ensures) in
-    IfOk-weaker c.select.result _ _ (λ R is. (selected_of W V name ms R inside all is.0, is.1)) c.select.ensures
-
-pub returns-in-None : goal.returns-in-None
-returns-in-None c =
-    let es = c.self.inside.by_name.entries in
-    let W : List Labels = c.args.self.now in
-    let n = c.as_str.result.now in
-    let found : lookup (is_named n) es ≡ None = sym c.in-None.ensures.value in
-    let none : AreSelected W c.args.name.now c.args.matchers.now [] = (
-      λ s d named each. absurd (found_none n es c.self.invariant found s (subst (λ (l : List Labels). Contains l s) (sym c.self.view_is) d) (c.requires s named each ∙ sym c.as_str.ensures)),
-      λ s d. absurd (none_in s d),
-    ) in
-    subst (λ (l : List Labels). AreSelected W c.args.name.now c.args.matchers.now l × IsAscending l) (sym c.new.ensures) (none, none_ascends)
+    let few : List Labels = c.self.inside.few.items in
+    let others : List Labels = c.self.inside.others in
+    let found : List Labels = c.in_ok-found.found.items in
+    let more : List Labels = c.in_ok-others.others in
+    let all : List Labels = c.take_each.new.all.items in
+    let chosen : found ≡ passing ms (filter (has_name name) few) = c.in_ok-found.ensures ∙ ap (passing ms) (c.in_ok-kept.ensures ∙ ap (filter (has_name name)) c.as_slice.ensures.value) in
+    let first = subst (λ (l : List Labels). AreSelected few name ms l) (sym chosen) (chosen_selected few name ms) in
+    let both = joined_selected few others name ms found more first c.in_ok-others.ensures.0 in
+    let same = chained (found ++ more) all c.together.result c.in_ok-take_each.ensures c.together.ensures.same in
+    (subst (λ (l : List Labels). AreSelected l name ms c.together.result) c.self.view_is (moved_selected (few ++ others) name ms (found ++ more) c.together.result both same), c.together.ensures.ascends)

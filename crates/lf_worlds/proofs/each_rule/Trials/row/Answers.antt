@@ -12,7 +12,7 @@ rule_row-requires-clause-known c = c.self.invariant.3.prepared
 
 pub rule_row-requires-clause-rule : goal.rule_row-requires-clause-rule
 rule_row-requires-clause-rule c =
-    is_within c.self.inside.universe.now c.self.inside.env.now c.self.inside.rules.now c.self.inside.facts.now.forks c.self.inside.prepared c.self.invariant.3 c.args.i
+    is_within c.self.inside.universe.now c.self.inside.env.now c.self.inside.rules.now c.self.inside.prepared.forks.now c.self.inside.prepared c.self.invariant.3 c.args.i
     (subst (λ (w : Tried). c.args.i < length w.rules) (sym c.self.view_is) c.requires)
 
 pub returns-clause-within : goal.returns-clause-within
@@ -33,6 +33,6 @@ returns-clause-least c = subst (λ (w : Tried). IsLeast w.universe (rule_trees w
 pub returns-clause-row : goal.returns-clause-row
 returns-clause-row c = λ r at.
     let s = c.self.inside in
-    let there = own_tree s.universe.now s.env.now s.rules.now s.facts.now.forks s.prepared c.self.invariant.3 c.args.i r (subst (λ (w : Tried). slice_get (rule_trees w.rules) c.args.i ≡ Some r) (sym c.self.view_is) at) in
-    let own = own_row s.universe.now s.env.now s.rules.now s.facts.now.forks s.prepared c.self.invariant.3 r c.rule_row.result.now (c.rule_row.ensures r there) in
+    let there = own_tree s.universe.now s.env.now s.rules.now s.prepared.forks.now s.prepared c.self.invariant.3 c.args.i r (subst (λ (w : Tried). slice_get (rule_trees w.rules) c.args.i ≡ Some r) (sym c.self.view_is) at) in
+    let own = own_row s.universe.now s.env.now s.rules.now s.prepared.forks.now s.prepared c.self.invariant.3 r c.rule_row.result.now (c.rule_row.ensures r there) in
     subst (λ (w : Tried). c.rule_row.result.now ≡ rule_row w.universe w.env r) c.self.view_is own

@@ -10,18 +10,18 @@ new-requires-clause-prepared c = c.self.invariant.3.prepared
 
 pub new-requires-clause-forks : goal.new-requires-clause-forks
 new-requires-clause-forks c =
-    tells_selectors c.self.inside.universe.now c.self.inside.env.now c.self.inside.rules.now c.self.inside.facts.now.forks c.self.inside.prepared c.self.invariant.3 c.self.invariant.2.facts.forks
+    tells_selectors c.self.inside.universe.now c.self.inside.env.now c.self.inside.rules.now c.self.inside.prepared.forks.now c.self.inside.prepared c.self.invariant.3 c.self.invariant.2.forks
 
 pub new-requires-clause-rule : goal.new-requires-clause-rule
 new-requires-clause-rule c =
-    is_within c.self.inside.universe.now c.self.inside.env.now c.self.inside.rules.now c.self.inside.facts.now.forks c.self.inside.prepared c.self.invariant.3 c.args.i
+    is_within c.self.inside.universe.now c.self.inside.env.now c.self.inside.rules.now c.self.inside.prepared.forks.now c.self.inside.prepared c.self.invariant.3 c.args.i
     (subst (λ (w : Tried). c.args.i < length w.rules) (sym c.self.view_is) c.requires.rule)
 
 pub new-requires-clause-reach : goal.new-requires-clause-reach
 new-requires-clause-reach c =
     let trees : List RuleTree = rule_trees c.self.inside.rules.now in
     let of : IsReachAt trees c.args.i c.in_ok-reach.reach = is_reach trees c.args.i c.in_ok-reach.reach (c.in_ok-reach.ensures.members trees c.self.invariant.2.sources) c.in_ok-reach.ensures.ascending in
-    has_reach c.self.inside.universe.now c.self.inside.env.now c.self.inside.rules.now c.self.inside.facts.now.forks c.self.inside.prepared c.self.invariant.3 c.args.i c.in_ok-reach.reach of
+    has_reach c.self.inside.universe.now c.self.inside.env.now c.self.inside.rules.now c.self.inside.prepared.forks.now c.self.inside.prepared c.self.invariant.3 c.args.i c.in_ok-reach.reach of
 
 pub new-uniform-requires-clause-reach : goal.new-uniform-requires-clause-reach
 new-uniform-requires-clause-reach c =
@@ -30,4 +30,4 @@ new-uniform-requires-clause-reach c =
 
 pub new-trials-requires-clause-built : goal.new-trials-requires-clause-built
 new-trials-requires-clause-built c =
-    is_built_of c.self.inside.universe.now c.self.inside.env.now c.self.inside.rules.now c.self.inside.facts.now.forks c.self.inside.prepared c.self.invariant.3 c.args.i c.in_ok-built.built c.in_ok-built.ensures
+    is_built_of c.self.inside.universe.now c.self.inside.env.now c.self.inside.rules.now c.self.inside.prepared.forks.now c.self.inside.prepared c.self.invariant.3 c.args.i c.in_ok-built.built c.in_ok-built.ensures

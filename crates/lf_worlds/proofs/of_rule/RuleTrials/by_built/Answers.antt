@@ -9,7 +9,7 @@ use Rattle.lf_trials.specs.Trials.{ShowsBuilt}
 use Rattle.lf_candidates.specs.views.ClassTexts.{name_at}
 use Rattle.lf_candidates.specs.views.Told.{AnswersFor}
 use Rattle.lf_built.specs.views.Built.{OfRule}
-use Rattle.lf_worlds.specs.views.Tried.{AreBelow, IsWorldIfShown, ShownFor, TriedRule}
+use Rattle.lf_worlds.specs.views.Tried.{AreBelow, IsWorldIfShown, ShownFor}
 use Rattle.lf_worlds.proofs.ShownWorlds.{built_below, built_if_shown}
 use Rattle.lf_worlds.proofs.of_rule.RuleTrials.by_built.Goals as goal
 
@@ -27,7 +27,7 @@ returns c =
     let presence = c.args.presence in
     let told = subst (λ (b : OfRule). AnswersFor (IsBuilt b.universe b.env (rule_trees b.rules) b.number (name_at b.universe label) presence) c.in_ok-trial.trial) c.self.invariant.3 c.in_ok-trial.ensures in
     let named = subst (λ (n : Bytes). IfOk c.world_if_shown.result (IsWorldIfShown (rule_trees c.self.inside.rules.now) c.self.inside.number n presence c.in_ok-trial.trial)) c.name_of.ensures c.world_if_shown.ensures in
-    subst (λ (v : TriedRule). IfOk c.world_if_shown.result (ShownFor (ShowsBuilt v.universe v.env (rule_trees v.rules) v.number (name_at v.universe label) presence))) c.self.view_is
+    subst (λ (v : OfRule). IfOk c.world_if_shown.result (ShownFor (ShowsBuilt v.universe v.env (rule_trees v.rules) v.number (name_at v.universe label) presence))) c.self.view_is
     (IfOk-weaker c.world_if_shown.result (IsWorldIfShown (rule_trees c.self.inside.rules.now) c.self.inside.number (name_at c.self.inside.universe.now label) presence c.in_ok-trial.trial)
     (ShownFor (ShowsBuilt c.self.inside.universe.now c.self.inside.env.now (rule_trees c.self.inside.rules.now) c.self.inside.number (name_at c.self.inside.universe.now label) presence))
     (λ o is. built_if_shown c.self.inside.universe.now c.self.inside.env.now (rule_trees c.self.inside.rules.now) c.self.inside.number (name_at c.self.inside.universe.now label) presence c.in_ok-trial.trial told o is) named)

@@ -8,7 +8,9 @@ use Rattle.lf_trials.specs.Trials.{ShowsUniform}
 use Rattle.lf_trials.specs.Uniform.{IsUniform}
 use Rattle.lf_candidates.specs.views.ClassTexts.{name_at}
 use Rattle.lf_candidates.specs.views.Told.{AnswersFor}
-use Rattle.lf_worlds.specs.views.Tried.{AreBelow, IsWorldIfShown, ShownFor, TriedRule, TriedUniform}
+use Rattle.lf_built.specs.views.Built.{OfRule}
+use Rattle.lf_uniform.specs.views.Worlds.{Uniform}
+use Rattle.lf_worlds.specs.views.Tried.{AreBelow, IsWorldIfShown, ShownFor}
 use Rattle.lf_worlds.proofs.ShownWorlds.{uniform_below, uniform_if_shown}
 use Rattle.lf_worlds.proofs.of_rule.RuleTrials.by_uniform.Goals as goal
 
@@ -16,7 +18,7 @@ pub world_if_shown-requires-clause-steps : goal.world_if_shown-requires-clause-s
 world_if_shown-requires-clause-steps c =
     let label = c.args.label in
     let presence = c.args.presence in
-    let told = subst (λ (t : TriedUniform). AnswersFor (IsUniform t.universe (rule_trees t.rules) t.number (name_at t.universe label) presence) c.in_ok-trial.trial) c.self.invariant.4 c.in_ok-trial.ensures.answer in
+    let told = subst (λ (t : Uniform). AnswersFor (IsUniform t.universe (rule_trees t.rules) t.number (name_at t.universe label) presence) c.in_ok-trial.trial) c.self.invariant.4 c.in_ok-trial.ensures.answer in
     let below = uniform_below c.self.inside.universe.now c.self.inside.env.now (rule_trees c.self.inside.rules.now) c.self.inside.number (name_at c.self.inside.universe.now label) presence c.in_ok-trial.trial told in
     subst (λ (n : ℕ). AreBelow n c.in_ok-trial.trial) (trees_count c.self.inside.rules.now) below
 
@@ -24,9 +26,9 @@ pub returns-clause-shown : goal.returns-clause-shown
 returns-clause-shown c =
     let label = c.args.label in
     let presence = c.args.presence in
-    let told = subst (λ (t : TriedUniform). AnswersFor (IsUniform t.universe (rule_trees t.rules) t.number (name_at t.universe label) presence) c.in_ok-trial.trial) c.self.invariant.4 c.in_ok-trial.ensures.answer in
+    let told = subst (λ (t : Uniform). AnswersFor (IsUniform t.universe (rule_trees t.rules) t.number (name_at t.universe label) presence) c.in_ok-trial.trial) c.self.invariant.4 c.in_ok-trial.ensures.answer in
     let named = subst (λ (n : Bytes). IfOk c.world_if_shown.result (IsWorldIfShown (rule_trees c.self.inside.rules.now) c.self.inside.number n presence c.in_ok-trial.trial)) c.name_of.ensures c.world_if_shown.ensures in
-    subst (λ (v : TriedRule). IfOk c.world_if_shown.result (ShownFor (ShowsUniform v.universe v.env (rule_trees v.rules) v.number (name_at v.universe label) presence))) c.self.view_is
+    subst (λ (v : OfRule). IfOk c.world_if_shown.result (ShownFor (ShowsUniform v.universe v.env (rule_trees v.rules) v.number (name_at v.universe label) presence))) c.self.view_is
     (IfOk-weaker c.world_if_shown.result (IsWorldIfShown (rule_trees c.self.inside.rules.now) c.self.inside.number (name_at c.self.inside.universe.now label) presence c.in_ok-trial.trial)
     (ShownFor (ShowsUniform c.self.inside.universe.now c.self.inside.env.now (rule_trees c.self.inside.rules.now) c.self.inside.number (name_at c.self.inside.universe.now label) presence))
     (λ o is. uniform_if_shown c.self.inside.universe.now c.self.inside.env.now (rule_trees c.self.inside.rules.now) c.self.inside.number (name_at c.self.inside.universe.now label) presence c.in_ok-trial.trial told o is) named)
